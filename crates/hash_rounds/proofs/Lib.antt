@@ -1,0 +1,11 @@
+pub mod WordLemmas
+pub mod XorLemmas
+pub mod XorshiftLemmas
+pub mod StepLemmas
+pub mod RoundLemmas
+pub mod ShuffleLemmas
+pub mod BlockLemmas
+pub mod SumLemmas
+pub mod ByteStepLemmas
+pub mod FxStepLemmas
+pub mod Chunks

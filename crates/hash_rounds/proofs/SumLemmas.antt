@@ -1,0 +1,177 @@
+-- Laws of the sums of bytes: of no bytes, of joined texts, and byte by byte.
+use Rattle.std.proofs.Common.{◌≡◌, ℕ, suc, ◌+◌, ◌-◌, ◌*◌, ◌%◌, ◌^◌, ◌<◌, ◌≤◌, List, [], ◌∷◌, ◌++◌, length, All, take, drop, sum, map, fold, sym, ap, ◌∙◌, arith, add-zero, length-append, length-drop, take-append-drop, pow-add, lit<}
+use Rattle.std.specs.Int.{w64, from_be_bytes}
+use Rattle.std.specs.Simd.Lanes.{fold_l, zip2}
+use Rattle.std.proofs.Math.Nat.{mod-add-mod, add-mod-mod, add-mul-mod_self_left, mod-lt, mod-eq_of_lt, pow-suc, pow-zero, mul-one, mul_comm}
+use Rattle.std.proofs.lemmas.List.Elements.{All-drop}
+use Rattle.std.proofs.lemmas.List.Sums.{sum_by-append, sum_by-cons}
+use Rattle.std.proofs.lemmas.Nat.{mul-mod_first, mul-add-lt}
+use Rattle.hash_rounds.specs.Sums.{digit_sum, sdbm, loselose, passthrough}
+use Rattle.hash_rounds.proofs.ByteStepLemmas.{sdbm_step, loselose_step, passthrough_step}
+
+-- ---- digits
+
+pub digit_sum-append : (x : ℕ) (s t : List ℕ) → digit_sum x (s ++ t) ≡ digit_sum x s * x ^ length t + digit_sum x t
+digit_sum-append x [] t = omega arith
+digit_sum-append x (b ∷ s) t = rw (digit_sum-append x s t, length-append s t, pow-add x (length s) (length t)) (omega arith)
+
+-- n digits make a number below the n-th power of their base
+pub digit_sum-lt : (x : ℕ) (t : List ℕ) → All (λ b. b < x) t → digit_sum x t < x ^ length t
+digit_sum-lt x [] digits = simp pow-zero (lit< tt)
+digit_sum-lt x (b ∷ t) digits =
+    let rest = digit_sum-lt x t (λ i d i_in. digits (suc i) d (omega arith)) in
+    rw (pow-suc x (length t)) (mul-add-lt b (x ^ length t) (digit_sum x t) x (digits 0 0 (omega arith)) rest)
+
+-- the big-endian value of eight bytes
+pub from_be_bytes-8 : (t : List ℕ) → length t ≡ 8 → from_be_bytes w64 t ≡ digit_sum 256 t
+from_be_bytes-8 [] n = absurd (omega arith)
+from_be_bytes-8 (a ∷ []) n = absurd (omega arith)
+from_be_bytes-8 (a ∷ b ∷ []) n = absurd (omega arith)
+from_be_bytes-8 (a ∷ b ∷ c ∷ []) n = absurd (omega arith)
+from_be_bytes-8 (a ∷ b ∷ c ∷ d ∷ []) n = absurd (omega arith)
+from_be_bytes-8 (a ∷ b ∷ c ∷ d ∷ e ∷ []) n = absurd (omega arith)
+from_be_bytes-8 (a ∷ b ∷ c ∷ d ∷ e ∷ f ∷ []) n = absurd (omega arith)
+from_be_bytes-8 (a ∷ b ∷ c ∷ d ∷ e ∷ f ∷ g ∷ []) n = absurd (omega arith)
+from_be_bytes-8 (a ∷ b ∷ c ∷ d ∷ e ∷ f ∷ g ∷ h ∷ []) n = omega arith
+from_be_bytes-8 (a ∷ b ∷ c ∷ d ∷ e ∷ f ∷ g ∷ h ∷ i ∷ t) n = absurd (omega arith)
+
+-- ---- a state and then digits, modulo m
+
+mod_step : (a b k m : ℕ) → (a % m * b + k) % m ≡ (a * b + k) % m
+mod_step a b k m = sym (mod-add-mod (a % m * b) m k) ∙ ap (λ n. (n + k) % m) (mul-mod_first a b m) ∙ mod-add-mod (a * b) m k
+
+module _ (x m : ℕ) where
+  -- the state s and then the digits t
+  abbrev number : ℕ → List ℕ → ℕ
+  number s t = (s * x ^ length t + digit_sum x t) % m
+
+  number-nil : (s : ℕ) → s < m → number s [] ≡ s
+  number-nil s s_in = simp (pow-zero, mul-one, add-zero) (mod-eq_of_lt s_in)
+
+  number-append : (s : ℕ) (t u : List ℕ) → number (number s t) u ≡ number s (t ++ u)
+  number-append s t u =
+      mod_step (s * x ^ length t + digit_sum x t) (x ^ length u) (digit_sum x u) m
+      ∙ ap (λ n. n % m) (rw (digit_sum-append x t u, length-append t u, pow-add x (length t) (length u)) (omega arith))
+
+  number-one : (s b : ℕ) → number s (b ∷ []) ≡ (x * s + b) % m
+  number-one s b = rw (pow-suc x 0, pow-zero x) (ap (λ n. n % m) (omega arith))
+
+  number_push : (s : ℕ) (t : List ℕ) (b : ℕ) → (number s t * x % m + b) % m ≡ number s (t ++ b ∷ [])
+  number_push s t b =
+      mod-add-mod (number s t * x) m b ∙ ap (λ n. (n + b) % m) (mul_comm (number s t) x) ∙ sym (number-one (number s t) b) ∙ number-append s t (b ∷ [])
+
+  number-fold : (s : ℕ) (t : List ℕ) → s < m → number s t ≡ fold (λ h b. (x * h + b) % m) s t
+  number-fold s [] s_in = number-nil s s_in
+  number-fold s (b ∷ t) s_in =
+      sym (number-append s (b ∷ []) t) ∙ ap (λ h. number h t) (number-one s b)
+      ∙ number-fold ((x * s + b) % m) t (mod-lt (x * s + b) (omega arith))
+
+-- ---- sdbm
+
+pub sdbm-lt : (s : ℕ) (t : List ℕ) → sdbm s t < 2 ^ 32
+unfolding sdbm
+sdbm-lt s t = mod-lt _ (lit< tt)
+
+pub sdbm-nil : (s : ℕ) → s < 2 ^ 32 → sdbm s [] ≡ s
+unfolding sdbm
+sdbm-nil = number-nil 65599 (2 ^ 32)
+
+pub sdbm-append : (s : ℕ) (t u : List ℕ) → sdbm (sdbm s t) u ≡ sdbm s (t ++ u)
+unfolding sdbm
+sdbm-append = number-append 65599 (2 ^ 32)
+
+pub sdbm-one : (s b : ℕ) → sdbm s (b ∷ []) ≡ sdbm_step s b
+unfolding sdbm
+sdbm-one = number-one 65599 (2 ^ 32)
+
+-- one byte more
+pub sdbm_push : (s : ℕ) (t : List ℕ) (b : ℕ) → (sdbm s t * 65599 % 2 ^ 32 + b) % 2 ^ 32 ≡ sdbm s (t ++ b ∷ [])
+unfolding sdbm
+sdbm_push = number_push 65599 (2 ^ 32)
+
+pub sdbm-fold : (s : ℕ) (t : List ℕ) → s < 2 ^ 32 → sdbm s t ≡ fold sdbm_step s t
+unfolding sdbm
+sdbm-fold = number-fold 65599 (2 ^ 32)
+
+-- four bytes at once, in lanes, the powers of 65599 taken mod 2^32
+pub sdbm_of_four : (h : ℕ) (t : List ℕ) → length t ≡ 4 →
+    (h * 1139564289 % 2 ^ 32 + fold_l (λ a x. (a + x) % 2 ^ 32) 0 (zip2 (λ x y. x * y % 2 ^ 32) (map (λ x. x) t) (780587199 ∷ 8261505 ∷ 65599 ∷ 1 ∷ []))) % 2 ^ 32
+    ≡ sdbm h t
+unfolding sdbm
+sdbm_of_four h [] n = absurd (omega arith)
+sdbm_of_four h (a ∷ []) n = absurd (omega arith)
+sdbm_of_four h (a ∷ b ∷ []) n = absurd (omega arith)
+sdbm_of_four h (a ∷ b ∷ c ∷ []) n = absurd (omega arith)
+sdbm_of_four h (a ∷ b ∷ c ∷ d ∷ []) n =
+    let whole : h * 65599 ^ 4 + digit_sum 65599 (a ∷ b ∷ c ∷ d ∷ []) ≡ (h * 1139564289 + (0 + a * 780587199 + b * 8261505 + c * 65599 + d * 1)) + 2 ^ 32 * (h * 4311506197 + a * 65725 + b) = omega arith in
+    simp (mod-add-mod, add-mod-mod) (sym (ap (λ n. n % 2 ^ 32) whole ∙ add-mul-mod_self_left _ _ _))
+sdbm_of_four h (a ∷ b ∷ c ∷ d ∷ e ∷ xs) n = absurd (omega arith)
+
+-- ---- lose lose
+
+pub loselose-lt : (s : ℕ) (t : List ℕ) → loselose s t < 2 ^ 64
+loselose-lt s t = mod-lt _ (lit< tt)
+
+pub loselose-nil : (s : ℕ) → s < 2 ^ 64 → loselose s [] ≡ s
+loselose-nil s s_in = let e : s + 0 ≡ s = omega arith in ap (λ n. n % 2 ^ 64) e ∙ mod-eq_of_lt s_in
+
+pub loselose-append : (s : ℕ) (t u : List ℕ) → loselose (loselose s t) u ≡ loselose s (t ++ u)
+loselose-append s t u =
+    mod-add-mod (s + sum t) (2 ^ 64) (sum u) ∙ ap (λ n. n % 2 ^ 64) (rw (sum_by-append (λ b. b) t u) (omega arith))
+
+pub loselose-one : (s b : ℕ) → loselose s (b ∷ []) ≡ loselose_step s b
+loselose-one s b = ap (λ n. n % 2 ^ 64) (rw (sum_by-cons (λ v. v) b []) (omega arith))
+
+-- one byte more
+pub loselose_push : (s : ℕ) (t : List ℕ) (b : ℕ) → (loselose s t + b) % 2 ^ 64 ≡ loselose s (t ++ b ∷ [])
+loselose_push s t b = sym (loselose-one (loselose s t) b) ∙ loselose-append s t (b ∷ [])
+
+pub loselose-fold : (s : ℕ) (t : List ℕ) → s < 2 ^ 64 → loselose s t ≡ fold loselose_step s t
+loselose-fold s [] s_in = loselose-nil s s_in
+loselose-fold s (b ∷ t) s_in =
+    sym (loselose-append s (b ∷ []) t) ∙ ap (λ h. loselose h t) (loselose-one s b)
+    ∙ loselose-fold ((s + b) % 2 ^ 64) t (mod-lt (s + b) (lit< tt))
+
+-- ---- bytes behind a word
+
+pub passthrough-lt : (s : ℕ) (t : List ℕ) → passthrough s t < 2 ^ 64
+unfolding passthrough
+passthrough-lt s t = mod-lt _ (lit< tt)
+
+pub passthrough-nil : (s : ℕ) → s < 2 ^ 64 → passthrough s [] ≡ s
+unfolding passthrough
+passthrough-nil = number-nil 256 (2 ^ 64)
+
+pub passthrough-append : (s : ℕ) (t u : List ℕ) → passthrough (passthrough s t) u ≡ passthrough s (t ++ u)
+unfolding passthrough
+passthrough-append = number-append 256 (2 ^ 64)
+
+pub passthrough-one : (s b : ℕ) → passthrough s (b ∷ []) ≡ passthrough_step s b
+unfolding passthrough
+passthrough-one = number-one 256 (2 ^ 64)
+
+-- one byte more
+pub passthrough_push : (s : ℕ) (t : List ℕ) (b : ℕ) → (passthrough s t * 256 % 2 ^ 64 + b) % 2 ^ 64 ≡ passthrough s (t ++ b ∷ [])
+unfolding passthrough
+passthrough_push = number_push 256 (2 ^ 64)
+
+pub passthrough-fold : (s : ℕ) (t : List ℕ) → s < 2 ^ 64 → passthrough s t ≡ fold passthrough_step s t
+unfolding passthrough
+passthrough-fold = number-fold 256 (2 ^ 64)
+
+-- eight bytes fill the word
+pub passthrough_of_eight : (s : ℕ) (t : List ℕ) → length t ≡ 8 → All (λ b. b < 256) t → passthrough s t ≡ digit_sum 256 t
+unfolding passthrough
+passthrough_of_eight s t n bytes =
+    let number_in = rw n at (digit_sum-lt 256 t bytes) in
+    let d = digit_sum 256 t in
+    let left : (s * 2 ^ 64 + d) % 2 ^ 64 ≡ d = omega arith in
+    rw n left
+
+-- only the last eight bytes are kept
+pub passthrough_of_last : (s : ℕ) (t : List ℕ) → 8 ≤ length t → All (λ b. b < 256) t → passthrough s t ≡ digit_sum 256 (drop (length t - 8) t)
+passthrough_of_last s t n bytes =
+    let front = length t - 8 in
+    let last = drop front t in
+    sym (ap (passthrough s) (take-append-drop front t)) ∙ sym (passthrough-append s (take front t) last)
+    ∙ passthrough_of_eight (passthrough s (take front t)) last (omega (arith, length-drop front t)) (All-drop (λ b. b < 256) front t bytes)

@@ -1,0 +1,9 @@
+pub mod Words
+pub mod Steps
+pub mod Rounds
+pub mod Shuffle
+pub mod Blocks
+pub mod Spooky
+pub mod Link
+pub mod Sums
+pub mod ByteSteps

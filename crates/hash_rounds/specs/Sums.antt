@@ -1,0 +1,19 @@
+-- The hashes that are sums of bytes.
+use Rattle.std.specs.Prelude.{ℕ, ◌+◌, ◌*◌, ◌%◌, ◌^◌, List, [], ◌∷◌, length, sum}
+
+-- the bytes as digits in base x, the first byte the highest: the sum of t_i * x ^ (n - 1 - i)
+abbrev pub digit_sum : ℕ → List ℕ → ℕ
+digit_sum x [] = 0
+digit_sum x (b ∷ t) = b * x ^ length t + digit_sum x t
+
+-- sdbm (Oz' page of hash functions): the state after the bytes t, from the state s
+unfoldable pub sdbm : ℕ → List ℕ → ℕ
+sdbm s t = (s * 65599 ^ length t + digit_sum 65599 t) % 2 ^ 32
+
+-- lose lose (Oz' page of hash functions): the state after the bytes t, from the state s
+abbrev pub loselose : ℕ → List ℕ → ℕ
+loselose s t = (s + sum t) % 2 ^ 64
+
+-- the bytes t behind the word s, as one number in base 256, of which a word is kept
+unfoldable pub passthrough : ℕ → List ℕ → ℕ
+passthrough s t = (s * 256 ^ length t + digit_sum 256 t) % 2 ^ 64
