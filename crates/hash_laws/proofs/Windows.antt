@@ -1,0 +1,88 @@
+-- Two texts whose bytes differ within a few neighbouring places lead to different states, where the step keeps
+-- different states different and separates two states place by place.
+use Rattle.std.proofs.Common.{◌≡◌, ◌≢◌, ℕ, zero, suc, ◌+◌, ◌-◌, ◌<◌, ◌≤◌, List, [], ◌∷◌, length, get_or, fold, arith, refl, ap, sym, ◌∙◌, inl, inr, ⊎_elim}
+use Rattle.std.proofs.Math.Path.{ap₂}
+use Rattle.std.proofs.lemmas.Bool.{cases_eq, cases_lt}
+use Rattle.std.proofs.lemmas.List.{ext_get_or}
+use Rattle.std.proofs.lemmas.List.Elements.{All-head, All-tail}
+use Rattle.std.specs.Int.Bits.{bit_and}
+use Rattle.hash_laws.specs.Text.{IsText}
+use Rattle.hash_laws.specs.Window.{Window, AgreeOutside, AgreeUnder}
+use Rattle.hash_laws.proofs.FoldLemmas.{fold_cancels}
+use Rattle.hash_laws.proofs.TextLemmas.{IsByte}
+
+-- a step on states that separates two of them by `places` neighbouring bytes that agree under the mask: `Apart n`
+-- relates the states that the first place at which the bytes differ and n further places have led to
+pub record Separates {S : Type 0} (step : S → ℕ → S) (is_state : S → Type 0) (places mask : ℕ) (Apart : ℕ → S → S → Type 0) : Type 0 where
+  pub in_range : (s : S) (b : ℕ) → is_state s → b < 256 → is_state (step s b)
+  pub same_state : (s t : S) (b : ℕ) → is_state s → is_state t → b < 256 → step s b ≡ step t b → s ≡ t
+  pub first : (s : S) (a b : ℕ) → is_state s → a < 256 → b < 256 → bit_and a mask ≡ bit_and b mask → a ≢ b → Apart 0 (step s a) (step s b)
+  pub next : (n : ℕ) (s t : S) (a b : ℕ) → suc n < places → is_state s → is_state t → a < 256 → b < 256 → bit_and a mask ≡ bit_and b mask
+      → Apart n s t → Apart (suc n) (step s a) (step t b)
+  pub apart : (n : ℕ) (s t : S) → Apart n s t → s ≢ t
+
+module _ {S : Type 0} (step : S → ℕ → S) (is_state : S → Type 0) (places mask : ℕ) (Apart : ℕ → S → S → Type 0) (laws : Separates step is_state places mask Apart) where
+  -- equal bytes keep different states different
+  fold_differs : (s t : S) (text : List ℕ) → is_state s → is_state t → IsText text → s ≢ t → fold step s text ≢ fold step t text
+  fold_differs s t text ks kt bytes differ same = differ (fold_cancels step is_state IsByte laws.in_range laws.same_state s t text ks kt bytes same)
+
+  -- one place and n further places of the window have passed, and r are left
+  rest_differs : (n r : ℕ) (s t : S) (x y : List ℕ) → suc n + r ≡ places → is_state s → is_state t → IsText x → IsText y
+      → length x ≡ length y → AgreeUnder mask x y → ((i : ℕ) → r ≤ i → get_or x i 0 ≡ get_or y i 0)
+      → Apart n s t → fold step s x ≢ fold step t y
+  rest_differs n r s t [] [] left ks kt xs ys len under after far = laws.apart n s t far
+  rest_differs n r s t [] (b ∷ y) left ks kt xs ys len under after far = λ _. omega (arith, len)
+  rest_differs n r s t (a ∷ x) [] left ks kt xs ys len under after far = λ _. omega (arith, len)
+  rest_differs n zero s t (a ∷ x) (b ∷ y) left ks kt xs ys len under after far =
+      let same : ◌≡◌ {A = List ℕ} (a ∷ x) (b ∷ y) = ext_get_or 0 (a ∷ x) (b ∷ y) len (λ i _. after i (omega arith)) in
+      λ e. fold_differs s t (a ∷ x) ks kt xs (laws.apart n s t far) (e ∙ ap (fold step t) (sym same))
+  rest_differs n (suc r) s t (a ∷ x) (b ∷ y) left ks kt xs ys len under after far =
+      let a_byte = All-head IsByte a x xs in
+      let b_byte = All-head IsByte b y ys in
+      rest_differs (suc n) r (step s a) (step t b) x y (omega arith) (laws.in_range s a ks a_byte) (laws.in_range t b kt b_byte)
+      (All-tail IsByte a x xs) (All-tail IsByte b y ys) (omega (arith, len)) (λ i. under (suc i)) (λ i p. after (suc i) (omega arith))
+      (laws.next n s t a b (omega arith) ks kt a_byte b_byte (under 0) far)
+
+  -- from one state, before the first place at which the texts differ
+  window_differs : (from : ℕ) (s : S) (x y : List ℕ) → is_state s → IsText x → IsText y → length x ≡ length y → AgreeUnder mask x y
+      → AgreeOutside from places x y → x ≢ y → fold step s x ≢ fold step s y
+  window_differs from s [] [] ks xs ys len under outside ne = λ _. ne refl
+  window_differs from s [] (b ∷ y) ks xs ys len under outside ne = λ _. omega (arith, len)
+  window_differs from s (a ∷ x) [] ks xs ys len under outside ne = λ _. omega (arith, len)
+  window_differs from s (a ∷ x) (b ∷ y) ks xs ys len under outside ne =
+      let a_byte = All-head IsByte a x xs in
+      let b_byte = All-head IsByte b y ys in
+      elim (cases_eq a b) [
+        | inl same ↦
+            λ e. window_differs (from - 1) (step s a) x y (laws.in_range s a ks a_byte) (All-tail IsByte a x xs) (All-tail IsByte b y ys)
+            (omega (arith, len)) (λ i. under (suc i))
+            (λ i p. outside (suc i) (⊎_elim (λ q. inl (omega arith)) (λ q. inr (omega arith)) p))
+            (λ tails. ne (ap₂ (λ c t. c ∷ t) same tails))
+            (e ∙ ap (λ c. fold step (step s c) y) (sym same))
+        | inr differ ↦
+            let here : from < 1 = ⊎_elim (λ q. q) (λ q. absurd (differ (outside 0 (inl (omega arith))))) (cases_lt from 1) in
+            let room : 0 < places = ⊎_elim (λ q. q) (λ q. absurd (differ (outside 0 (inr (omega arith))))) (cases_lt 0 places) in
+            rest_differs 0 (places - 1) (step s a) (step s b) x y (omega arith) (laws.in_range s a ks a_byte) (laws.in_range s b ks b_byte)
+            (All-tail IsByte a x xs) (All-tail IsByte b y ys) (omega (arith, len)) (λ i. under (suc i))
+            (λ i p. outside (suc i) (inr (omega arith)))
+            (laws.first s a b ks a_byte b_byte (under 0) differ)
+      ]
+
+  -- texts that a window separates lead to different states
+  pub Window-fold : (start : S) (x y : List ℕ) → is_state start → IsText x → IsText y → Window places mask x y → fold step start x ≢ fold step start y
+  Window-fold start x y known xs ys window =
+      window_differs window.within.0 start x y known xs ys window.same_length window.under_mask window.within.1 window.different
+
+-- a step that loses nothing separates two states by one byte
+pub Separates-one : {S : Type 0} (step : S → ℕ → S) (is_state : S → Type 0)
+    → ((s : S) (b : ℕ) → is_state s → b < 256 → is_state (step s b))
+    → ((s t : S) (b : ℕ) → is_state s → is_state t → b < 256 → step s b ≡ step t b → s ≡ t)
+    → ((s : S) (a b : ℕ) → is_state s → a < 256 → b < 256 → step s a ≡ step s b → a ≡ b)
+    → Separates step is_state 1 0 (λ _ s t. s ≢ t)
+Separates-one step is_state in_range same_state same_byte = record {
+  in_range = in_range;
+  same_state = same_state;
+  first = λ s a b known sa sb mask ne e. ne (same_byte s a b known sa sb e);
+  next = λ n s t a b fits ks kt sa sb mask far. absurd (omega arith);
+  apart = λ n s t far. far;
+}

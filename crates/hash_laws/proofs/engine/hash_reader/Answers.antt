@@ -1,0 +1,37 @@
+use Rattle.std.proofs.Common.{◌≡◌, ◌≤◌, arith, rules, min, ◌-◌}
+use Rattle.std.proofs.Math.Nat.{zero-mod}
+use Rattle.hash_laws.proofs.ReadingLemmas.{feeds_none, feeds_front, whole_more}
+use Rattle.hash_laws.proofs.engine.hash_reader.Goals as goal
+
+pub loop-bytes-init : goal.loop-bytes-init
+loop-bytes-init g c = record {
+  so_far = feeds_none _ _ _ _ c.requires.not_empty;
+  within = search rules;
+  whole = λ _. zero-mod _;
+}
+
+pub returns-in-Err-clause-fault : goal.returns-in-Err-clause-fault
+returns-in-Err-clause-fault g c =
+    let before = c.loop-bytes.invariant in
+    let filled = c.fill-filled.ensures in
+    let few : c.fill-filled.result.0 ≤ g.row.N = omega (arith, c.fill-filled.auto.buf, c.min-room.ensures) in
+    feeds_front _ _ _ _ _ _ _ _ _ _ _ _ c.requires.not_empty before.so_far (before.whole c.loop-bytes-test.true) filled.read filled.within few c.feed_unless_empty.ensures.text c.feed_unless_empty.ensures.empty c.feed_unless_empty.ensures.fed
+
+pub returns-then-filled-room-clause-taken : goal.returns-then-filled-room-clause-taken
+returns-then-filled-room-clause-taken g c =
+    let before = c.loop-bytes.invariant in
+    let filled = c.fill-filled.ensures in
+    let few : c.fill-filled.result.0 ≤ g.row.N = omega (arith, c.fill-filled.auto.buf, c.min-room.ensures) in
+    feeds_front _ _ _ _ _ _ _ _ _ _ _ _ c.requires.not_empty before.so_far (before.whole c.loop-bytes-test.true) filled.read filled.within few c.feed_unless_empty.ensures.text c.feed_unless_empty.ensures.empty c.feed_unless_empty.ensures.fed
+
+pub loop-bytes-preserved : goal.loop-bytes-preserved
+loop-bytes-preserved g c =
+    let before = c.loop-bytes.invariant in
+    let filled = c.fill-filled.ensures in
+    let few : c.fill-filled.result.0 ≤ g.row.N = omega (arith, c.fill-filled.auto.buf, c.min-room.ensures) in
+    let full : c.fill-filled.result.0 ≡ min (c.args.limit - c.loop-bytes.bytes) g.row.N = omega (arith, c.fill-filled.auto.buf, c.min-room.ensures, c.if-filled-room.false) in
+    record {
+      so_far = feeds_front _ _ _ _ _ _ _ _ _ _ _ _ c.requires.not_empty before.so_far (before.whole c.loop-bytes-test.true) filled.read filled.within few c.feed_unless_empty.ensures.text c.feed_unless_empty.ensures.empty c.feed_unless_empty.ensures.fed;
+      within = omega arith;
+      whole = whole_more _ _ _ _ c.requires.not_empty full (before.whole c.loop-bytes-test.true);
+    }

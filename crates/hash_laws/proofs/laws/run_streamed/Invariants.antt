@@ -1,0 +1,14 @@
+use Rattle.std.proofs.Common.{ℕ, ◌≡◌, List, ◌++◌, take}
+use Rattle.hash_laws.specs.Text.{IsText, joined}
+use Rattle.hash_laws.proofs.laws.run_streamed.Given as goal
+
+-- the pieces so far count as one
+abbrev pub invariant-loop-more : goal.invariant-loop-more
+invariant-loop-more g l =
+    let H = g.H.Piecewise in
+    let so_far = joined (take l.more-index l.pieces) in
+    record {
+      stands : (from text : List ℕ) → g.H.Streamed.stands_at l.initial.h from text → g.H.Streamed.stands_at l.h from (text ++ so_far);
+      one : H.is_state (H.state l.initial.h) → H.state l.h ≡ H.after (H.state l.initial.h) so_far;
+      text : IsText so_far;
+    }

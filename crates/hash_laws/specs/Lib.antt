@@ -1,0 +1,5 @@
+pub mod Reading
+pub mod Recurrence
+pub mod Standing
+pub mod Text
+pub mod Window

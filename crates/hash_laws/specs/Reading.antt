@@ -1,0 +1,17 @@
+-- What a reader's bytes do to a hasher.
+use Rattle.std.specs.Prelude.{ℕ, ◌≡◌, ◌+◌, ◌-◌, ◌*◌, ◌/◌, List, Option, map, take, drop, length, fold}
+use Rattle.std.specs.List.{range_with_len}
+use Rattle.std.specs.Io.KnownBytes.{Consumes}
+use Rattle.hash_laws.specs.Text.{IsText}
+
+-- the text in pieces of n bytes each, the last shorter and not empty
+abbrev pub cut : ℕ → List ℕ → List (List ℕ)
+cut n text = map (λ i. take n (drop (i * n) text)) (range_with_len 0 ((length text + (n - 1)) / n))
+
+-- so many of the bytes that were left were read, and led from one state to another, cut into pieces of n
+pub record FeedsRead {S : Type 0} (after : S → List ℕ → S) (n : ℕ) (left left' : Option (List ℕ)) (s s' : S) (bytes : ℕ) : Type 0 where
+  pub text : List ℕ
+  pub is_text : IsText text
+  pub read : Consumes left left' text
+  pub count : length text ≡ bytes
+  pub fed : s' ≡ fold after s (cut n text)

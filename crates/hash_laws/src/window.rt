@@ -1,0 +1,41 @@
+//! Whether two texts differ within a few neighbouring places only.
+ghost use Rattle.std.specs.Prelude.{◌≡◌, ◌↔◌, IsTrue, IfNone, IfSome, length};
+ghost use Rattle.hash_laws.specs.Window.{Window, AgreeUnder, DifferAtOnePlace, IsFirstDifference};
+
+/// Whether the texts have one length and differ, but only within `places` neighbouring places, and at every place
+/// only in bits that are 0 in `mask`. A text shorter than `places` is one window.
+pub fn is_window(x: &[u8], y: &[u8], places: usize, mask: u8) -> bool
+    ensures { IsTrue result ↔ Window places mask x.now y.now }
+{
+    if x.len() != y.len() || !agree_under(mask, x, y) {
+        return false;
+    }
+    match first_difference(x, y) {
+        None => false,
+        Some(from) => x.len() - from <= places || x[from + places..] == y[from + places..],
+    }
+}
+
+/// Whether the texts have one length and exactly one place differs.
+pub fn differ_at_one_place(x: &[u8], y: &[u8]) -> bool
+    ensures { IsTrue result ↔ DifferAtOnePlace x.now y.now }
+{
+    is_window(x, y, 1, 0)
+}
+
+/// Whether the bytes of two texts of one length agree, at every place, in the bits of the mask.
+fn agree_under(mask: u8, x: &[u8], y: &[u8]) -> bool
+    requires { length x.now ≡ length y.now }
+    ensures { IsTrue result ↔ AgreeUnder mask x.now y.now }
+{
+    x.iter().zip(y).all(|(a, b)| a & mask == b & mask)
+}
+
+/// The first place at which two texts of one length differ.
+fn first_difference(x: &[u8], y: &[u8]) -> Option<usize>
+    requires { length x.now ≡ length y.now }
+    ensures none { IfNone result (x.now ≡ y.now) }
+    ensures some { IfSome result (λ i. IsFirstDifference i x.now y.now) }
+{
+    x.iter().zip(y).position(|(a, b)| a != b)
+}
