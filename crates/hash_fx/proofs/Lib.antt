@@ -1,0 +1,6 @@
+pub mod CutsLemmas
+pub mod OneApart
+pub mod PiecesLemmas
+pub mod TestLemmas
+pub mod WholeWords
+pub mod WordsApart

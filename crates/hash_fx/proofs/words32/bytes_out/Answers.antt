@@ -1,0 +1,19 @@
+use Rattle.std.proofs.Common.{◌≡◌, ◌∙◌, ◌^◌, ap, sym, refl, rules, fold}
+use Rattle.std.specs.Iterator.Adapters.{rev_source}
+use Rattle.std.specs.Slice.Iter.{iter_rest}
+use Rattle.hash_rounds.specs.ByteSteps.{fx32_step}
+use Rattle.hash_laws.proofs.ByteLemmas.{undoing_none, undoing_more, undoing_all}
+use Rattle.hash_fx.proofs.words32.bytes_out.Goals as goal
+
+pub loop-byte-init : goal.loop-byte-init
+loop-byte-init c =
+    let whole : iter_rest (rev_source c.into_iter-byte-iterator.result) ≡ c.args.bytes.now = cc in
+    undoing_none fx32_step (2 ^ 32) (fold fx32_step) (λ s words known. refl) _ _ _ (whole) (search rules)
+
+pub loop-byte-preserved : goal.loop-byte-preserved
+loop-byte-preserved c =
+    undoing_more fx32_step (2 ^ 32) (fold fx32_step) (λ s words known. refl) _ _ _ _ _ _ _ (c.in-Some.ensures.steps) (search rules)
+    (ap (fx32_step c.word_out-h.result) (sym c.from.ensures) ∙ c.word_out-h.ensures) c.loop-byte.invariant
+
+pub returns : goal.returns
+returns c = undoing_all (fold fx32_step) (2 ^ 32) _ _ _ _ (c.in-None.ensures.steps.0) c.loop-byte.invariant

@@ -1,0 +1,21 @@
+-- The hash of the Firefox and rustc hash tables: a piece as words, and the words one after the other.
+use Rattle.std.specs.Prelude.{ℕ, ◌*◌, ◌/◌, List, ◌++◌, length, drop, map}
+use Rattle.hash_rounds.specs.Words.{le}
+use Rattle.hash_rounds.specs.Blocks.{pieces}
+use Rattle.hash_rounds.specs.ByteSteps.{fx32_step, fx64_step}
+use Rattle.hash_laws.specs.Recurrence.{recurrence}
+
+-- by 32 bits: a little-endian word for each four bytes, and then a word for each byte that is left
+abbrev pub words32 : List ℕ → List ℕ
+words32 piece = map le (pieces 4 piece) ++ drop (length piece / 4 * 4) piece
+
+-- by 64 bits: a word for each eight bytes, then one of four bytes if at least four are left, and then one for each byte
+abbrev pub words64 : List ℕ → List ℕ
+words64 piece = map le (pieces 8 piece) ++ words32 (drop (length piece / 8 * 8) piece)
+
+-- the state after words, from a start
+abbrev pub fx32 : ℕ → List ℕ → ℕ
+fx32 = recurrence fx32_step
+
+abbrev pub fx64 : ℕ → List ℕ → ℕ
+fx64 = recurrence fx64_step

@@ -1,0 +1,3 @@
+pub mod Fx
+pub mod FxLaws
+pub mod Pieces

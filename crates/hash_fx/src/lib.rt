@@ -1,0 +1,16 @@
+//! The fx hash of the hash tables of Firefox and rustc, in three types: a piece is split into words, and each word takes
+//! the state one step. The split and the key of 32 bits are this project's own choice.
+#![tactic(auto)]
+
+mod fx;
+mod fx32;
+mod fx64;
+pub mod laws;
+#[cfg(test)]
+mod tests;
+mod words32;
+mod words64;
+
+pub use fx::{FxHasher, fxhash};
+pub use fx32::{FxHasher32, fxhash32};
+pub use fx64::{FxHasher64, fxhash64};
