@@ -1,0 +1,4 @@
+pub mod MixLemmas
+pub mod Lookup3Lemmas
+pub mod PutLemmas
+pub mod Zeros

@@ -1,0 +1,91 @@
+-- Words of blocks, whole and filled with zeros.
+use Rattle.std.proofs.Common.{◌≡◌, ℕ, zero, suc, ◌+◌, ◌-◌, ◌*◌, List, [], ◌∷◌, ◌++◌, ◌<◌, length, slice_index, take, drop, replicate, refl, ap, sym, ◌∙◌, arith}
+use Rattle.std.proofs.lemmas.List.{drop-drop, take_all, drop_all}
+use Rattle.std.proofs.Math.Path.{ap₂}
+use Rattle.hash_rounds.specs.Words.{le}
+use Rattle.hash_jenkins.specs.Filled.{zero_filled}
+use Rattle.hash_jenkins.specs.Lookup3.{block_words, lookup3, lookup3_answer, AreTwoWords}
+
+pub drop_eight : (xs : List ℕ) → drop 4 (drop 4 xs) ≡ drop 8 xs
+drop_eight xs = drop-drop 4 4 xs
+
+pub ruleset places = (drop_eight)
+
+le-zeros : (n m : ℕ) → le (take n (replicate m 0)) ≡ 0
+unfolding le
+le-zeros zero m = refl
+le-zeros (suc n) zero = refl
+le-zeros (suc n) (suc m) = let e = le-zeros n m in omega arith
+
+le-drop_zeros : (n k m : ℕ) → le (take n (drop k (replicate m 0))) ≡ 0
+unfolding le
+le-drop_zeros n zero m = le-zeros n m
+le-drop_zeros zero (suc k) zero = refl
+le-drop_zeros (suc n) (suc k) zero = refl
+le-drop_zeros n (suc k) (suc m) = le-drop_zeros n k m
+
+le-take_filled : (n m : ℕ) (t : List ℕ) → le (take n (t ++ replicate m 0)) ≡ le (take n t)
+unfolding le
+le-take_filled zero m t = refl
+le-take_filled (suc n) m [] = le-zeros (suc n) m
+le-take_filled (suc n) m (b ∷ t) = ap (λ v. b + 256 * v) (le-take_filled n m t)
+
+-- zeros after a text change none of its words
+le-filled : (n k m : ℕ) (t : List ℕ) → le (take n (drop k (t ++ replicate m 0))) ≡ le (take n (drop k t))
+unfolding le
+le-filled n zero m t = le-take_filled n m t
+le-filled zero (suc k) m [] = le-drop_zeros zero (suc k) m
+le-filled (suc n) (suc k) m [] = le-drop_zeros (suc n) (suc k) m
+le-filled n (suc k) m (b ∷ t) = le-filled n k m t
+
+-- the values of one, two and three bytes
+pub le_none : (t : List ℕ) → length t ≡ 0 → 0 ≡ le t
+unfolding le
+le_none [] e = refl
+le_none (a ∷ t) e = absurd (omega arith)
+
+pub le_one : (t : List ℕ) → length t ≡ 1 → slice_index t 0 ≡ le t
+unfolding le
+le_one [] e = absurd (omega arith)
+le_one (a ∷ []) e = omega arith
+le_one (a ∷ b ∷ t) e = absurd (omega arith)
+
+pub le_two : (t : List ℕ) → length t ≡ 2 → slice_index t 0 + slice_index t 1 * 256 ≡ le t
+unfolding le
+le_two [] e = absurd (omega arith)
+le_two (a ∷ []) e = absurd (omega arith)
+le_two (a ∷ b ∷ []) e = omega arith
+le_two (a ∷ b ∷ c ∷ t) e = absurd (omega arith)
+
+pub le_three : (t : List ℕ) → length t ≡ 3 → slice_index t 0 + slice_index t 1 * 256 + slice_index t 2 * 65536 ≡ le t
+unfolding le
+le_three [] e = absurd (omega arith)
+le_three (a ∷ []) e = absurd (omega arith)
+le_three (a ∷ b ∷ []) e = absurd (omega arith)
+le_three (a ∷ b ∷ c ∷ []) e = omega arith
+le_three (a ∷ b ∷ c ∷ d ∷ t) e = absurd (omega arith)
+
+-- the words of fewer than four bytes
+pub words_of_few : (t : List ℕ) → length t < 4 → (le (take 4 t) ≡ le t) × (le (take 4 (drop 4 t)) ≡ 0) × (le (take 4 (drop 8 t)) ≡ 0)
+unfolding le
+words_of_few t few =
+    (rw (take_all 4 t (omega arith)) refl, rw (drop_all 4 t (omega arith)) refl, rw (drop_all 8 t (omega arith)) refl)
+
+-- the words of a text, and those of the text with zeros behind it
+pub words_of_filled : (n : ℕ) (t : List ℕ) → block_words t ≡ block_words (zero_filled n t)
+words_of_filled n t =
+    let m = n - length t in
+    rw (le-take_filled 4 m t, le-filled 4 4 m t, le-filled 4 8 m t) refl
+
+-- the answer tells all of two words
+pub lookup3_answer-same : (s t : ℕ × ℕ) → AreTwoWords s → AreTwoWords t → lookup3_answer s ≡ lookup3_answer t → s ≡ t
+lookup3_answer-same s t ks kt same =
+    let low : s.0 ≡ t.0 = omega (arith, same, ks.0, ks.1, kt.0, kt.1) in
+    let high : s.1 ≡ t.1 = omega (arith, same, ks.0, ks.1, kt.0, kt.1) in
+    ap₂ (λ (x y : ℕ). (x, y)) low high
+
+-- hashers that answer alike do so after a piece fed to both
+pub lookup3_alike : (s t u v : ℕ × ℕ) (piece : List ℕ) → AreTwoWords s → AreTwoWords t → lookup3_answer s ≡ lookup3_answer t
+    → u ≡ lookup3 s piece → v ≡ lookup3 t piece → lookup3_answer u ≡ lookup3_answer v
+lookup3_alike s t u v piece ks kt same us vt =
+    ap lookup3_answer (us ∙ ap (λ (r : ℕ × ℕ). lookup3 r piece) (lookup3_answer-same s t ks kt same) ∙ sym vt)

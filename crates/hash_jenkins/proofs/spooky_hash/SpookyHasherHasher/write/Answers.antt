@@ -1,0 +1,7 @@
+use Rattle.std.proofs.Common.{arith}
+use Rattle.std.proofs.lemmas.Grind.{common_steps}
+use Rattle.hash_jenkins.specs.SpookyLaws.{after_from}
+use Rattle.hash_jenkins.proofs.spooky_hash.SpookyHasherHasher.write.Goals as goal
+
+pub returns-else-self-lt-LONG-clause-stands : goal.returns-else-self-lt-LONG-clause-stands
+returns-else-self-lt-LONG-clause-stands c = after_from c.args.self.now.at _ c.args.bytes.now (grind (arith, common_steps))

@@ -1,0 +1,11 @@
+pub mod Counted
+pub mod Filled
+pub mod Lookup3
+pub mod Lookup3Laws
+pub mod Oaat
+pub mod Put
+pub mod Spooky
+pub mod SpookyHasher
+pub mod SpookyLaws
+pub mod SpookyStanding
+pub mod Zeros

@@ -1,0 +1,23 @@
+-- Where a SpookyHasher stands in a text, from its two seeds.
+use Rattle.std.specs.Prelude.{◌≡◌, ◌<◌, ◌^◌, ℕ, List, [], ◌∷◌, length, slice_index}
+use Rattle.hash_laws.specs.Text.{IsText}
+use Rattle.hash_jenkins.specs.Spooky.{Position, Short, Long, position, spooky}
+
+-- a short text is below 192 bytes, and a tail below a block
+abbrev pub IsPosition : Position → Type 0
+IsPosition (Short seed1 seed2 text) = length text < 192
+IsPosition (Long words t) = length t < 96
+
+-- the start is two seeds below 2^64, and the position is that of the text under them
+pub record SpookyStandsAt (at : Position) (from text : List ℕ) : Type 0 where
+  pub seed1 : ℕ
+  pub seed2 : ℕ
+  pub only : from ≡ seed1 ∷ seed2 ∷ []
+  pub seed1_in : seed1 < 2 ^ 64
+  pub seed2_in : seed2 < 2 ^ 64
+  pub is_text : IsText text
+  pub there : at ≡ position seed1 seed2 text
+
+-- the answer to a text, from a start of two seeds
+abbrev pub spooky_from : List ℕ → List ℕ → ℕ
+spooky_from seeds text = (spooky (slice_index seeds 0) (slice_index seeds 1) text).0

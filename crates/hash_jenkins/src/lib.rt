@@ -1,0 +1,16 @@
+//! Bob Jenkins' hash functions: one-at-a-time, lookup3 and SpookyHash. None of them is cryptographic.
+#![tactic(auto)]
+
+pub mod laws;
+mod lookup;
+mod one_at_a_time;
+mod put;
+pub mod spooky_hash;
+mod spooky_long;
+mod spooky_short;
+
+pub use lookup::{Lookup3Hasher, lookup3};
+pub use one_at_a_time::{OAATHasher, oaat};
+
+#[cfg(test)]
+mod tests;

@@ -1,0 +1,208 @@
+//! lookup3, by Bob Jenkins (his lookup3.c): two words of 32 bits of a piece, from two words before it.
+ghost use Rattle.std.specs.Prelude.{◌≡◌, ◌<◌, ℕ, length, refl};
+ghost use Rattle.std.proofs.Common.{lit<};
+ghost use Rattle.hash_rounds.specs.Words.{le};
+ghost use Rattle.hash_jenkins.specs.Filled.{zero_filled};
+ghost use Rattle.hash_jenkins.specs.Lookup3.{add_words, add_block, block_words, start};
+ghost use Rattle.hash_jenkins.specs.Lookup3.{lookup3_piece, lookup3, lookup3_answer, AreTwoWords};
+ghost use Rattle.hash_jenkins.specs.Lookup3Laws.{lookup3-AreTwoWords};
+
+use hash_laws::laws::Piecewise;
+use hash_rounds::{le_four, lookup3_final, lookup3_mix};
+use std::hash::Hasher;
+use std::marker::Model;
+
+// Adds three words.
+#[inline(always)]
+fn add_words(s: &mut [u32; 3], words: (u32, u32, u32))
+    ensures { s.new ≡ add_words s.old words }
+{
+    s[0] = s[0].wrapping_add(words.0);
+    s[1] = s[1].wrapping_add(words.1);
+    s[2] = s[2].wrapping_add(words.2);
+}
+
+// The words of a block.
+#[inline(always)]
+#[tactic(auto, using(crate::proofs::Lookup3Lemmas::places))]
+fn block_words(block: &[u8; 12]) -> (u32, u32, u32)
+    ensures { result ≡ block_words block.now }
+{
+    let (words, _) = block.as_chunks::<4>();
+    (le_four(&words[0]), le_four(&words[1]), le_four(&words[2]))
+}
+
+// The little-endian value of fewer than four bytes.
+#[inline(always)]
+fn le_few(bytes: &[u8]) -> u32
+    requires { length bytes.now < 4 }
+    ensures { result ≡ le bytes.now }
+{
+    match bytes {
+        [] => 0,
+        [a] => u32::from(*a),
+        [a, b] => u32::from(*a) + u32::from(*b) * 256,
+        [a, b, c, ..] => u32::from(*a) + u32::from(*b) * 256 + u32::from(*c) * 65536,
+    }
+}
+
+// The words of what is left after the whole blocks.
+#[inline(always)]
+fn rest_words(rest: &[u8]) -> (u32, u32, u32)
+    requires { length rest.now < 12 }
+    ensures { result ≡ block_words rest.now }
+{
+    match rest.split_first_chunk::<4>() {
+        None => (le_few(rest), 0, 0),
+        Some((a, more)) => match more.split_first_chunk::<4>() {
+            None => (le_four(a), le_few(more), 0),
+            Some((b, last)) => (le_four(a), le_four(b), le_few(last)),
+        },
+    }
+}
+
+// The words before a piece of this length.
+#[inline(always)]
+fn start(pc: u32, pb: u32, len: usize) -> [u32; 3]
+    ensures { result ≡ start pc pb len }
+{
+    let low = (len % 4294967296) as u32;
+    let first = 0xdeadbeefu32.wrapping_add(low).wrapping_add(pc);
+    [first, first, first.wrapping_add(pb)]
+}
+
+// Adds the words of the rest, and zeros behind it.
+#[inline(always)]
+fn add_rest(s: &mut [u32; 3], rest: &[u8])
+    requires { length rest.now < 12 }
+    ensures { s.new ≡ add_block s.old (zero_filled 12 rest.now) }
+{
+    add_words(s, rest_words(rest));
+}
+
+// The two words after a piece that has some bytes.
+#[inline(always)]
+#[tactic(auto, unfolding(crate::specs::Lookup3::last_block, hash_rounds::specs::Blocks::pieces))]
+fn lookup3_piece(pc: u32, pb: u32, piece: &[u8]) -> (u32, u32)
+    ensures { result ≡ lookup3_piece pc pb piece.now }
+{
+    let mut s = start(pc, pb, piece.len());
+    let (blocks, rest) = piece.as_chunks::<12>();
+    for block in blocks {
+        add_words(&mut s, block_words(block));
+        lookup3_mix(&mut s);
+    }
+    add_rest(&mut s, rest);
+    lookup3_final(&mut s);
+    (s[2], s[1])
+}
+
+/// lookup3 of pieces. Each write of some bytes is one run, which the two words of the run before seed, so that cutting a
+/// text can change its hash. Contracts see the hasher as these two words, (pc, pb), each below 2^32.
+pub struct Lookup3Hasher {
+    pc: u32,
+    pb: u32,
+}
+
+impl Model for Lookup3Hasher {
+    ghost Value = { ℕ × ℕ };
+
+    ghost view = { λ h. (h.pc, h.pb) };
+}
+
+impl Drop for Lookup3Hasher {
+    fn drop(self) {
+        let Self { pc: _, pb: _ } = self;
+    }
+}
+
+impl Default for Lookup3Hasher {
+    ghost is_default = { λ h. h ≡ (0, 0) };
+
+    /// The hasher of no pieces: both words are 0.
+    fn default() -> Lookup3Hasher {
+        Lookup3Hasher { pc: 0, pb: 0 }
+    }
+}
+
+impl Hasher for Lookup3Hasher {
+    ghost write = { lookup3 };
+
+    ghost finish = { lookup3_answer };
+
+    /// Both words: pc + 2^32 * pb.
+    #[inline(always)]
+    fn finish(&self) -> u64
+        ensures value { result ≡ lookup3_answer self.now }
+        ensures known { AreTwoWords self.now }
+    {
+        u64::from(self.pc) + u64::from(self.pb) * 4294967296
+    }
+
+    /// One run over the bytes; no bytes change nothing. The three words of the run begin with the length and the two words
+    /// so far, take each whole block of twelve bytes in and mix, take what is left in, filled with zeros, and mix for the
+    /// last time; two of them are kept.
+    #[inline(always)]
+    fn write(&mut self, bytes: &[u8])
+        ensures state { self.new ≡ lookup3 self.old bytes.now }
+        ensures known_before { AreTwoWords self.old }
+        ensures known_after { AreTwoWords self.new }
+    {
+        let pc = self.pc;
+        let pb = self.pb;
+        if !bytes.is_empty() {
+            let words = lookup3_piece(pc, pb, bytes);
+            self.pc = words.0;
+            self.pb = words.1;
+        }
+    }
+}
+
+impl Piecewise for Lookup3Hasher {
+    ghost State = { ℕ × ℕ };
+
+    ghost state = { λ h. h };
+
+    ghost is_state = { AreTwoWords };
+
+    ghost fresh = { (0, 0) };
+
+    ghost after = { lookup3 };
+
+    ghost answer = { lookup3_answer };
+
+    fn fresh() -> Lookup3Hasher {
+        Lookup3Hasher::default()
+    }
+
+    #[inline(always)]
+    fn feed(&mut self, piece: &[u8]) {
+        self.write(piece);
+    }
+
+    #[inline(always)]
+    fn answer(&self) -> u64 {
+        self.finish()
+    }
+
+    ghost default_is_fresh = { λ h same. same };
+
+    ghost write_feeds = { λ h piece. refl };
+
+    ghost finish_answers = { λ h. refl };
+
+    ghost fresh_is_state = { (lit< tt, lit< tt) };
+
+    ghost after_is_state = { lookup3-AreTwoWords };
+
+    ghost after_nothing = { λ s known. refl };
+}
+
+/// lookup3 of the bytes in one piece, from the words 0 and 0.
+pub fn lookup3(bytes: &[u8]) -> u64
+    ensures { result ≡ lookup3_answer (lookup3 (0, 0) bytes.now) }
+{
+    let mut hasher = Lookup3Hasher::default();
+    hasher.write(bytes);
+    hasher.finish()
+}

@@ -1,0 +1,247 @@
+//! SpookyHash, by Bob Jenkins (his SpookyV2.cpp): a hash of 128 bits of all the bytes that were written, under two seeds
+//! of 64 bits. How the bytes were cut into pieces doesn't show.
+//!
+//! A text below 192 bytes is hashed on four words by chunks of 32 bytes, and its length is mixed in. From 192 bytes on
+//! twelve words take blocks of 96 bytes, and the tail of 0 to 95 bytes ends in its own length. Version 1 is an older form,
+//! kept for values that were stored: it leaves the length of a text below 192 bytes out, so that zeros at its end don't
+//! show.
+ghost use Rattle.std.specs.Prelude.{◌≡◌, ℕ, ◌+◌, ◌<◌, ◌≤◌, ◌^◌, List, [], ◌∷◌, ◌++◌, refl};
+ghost use Rattle.std.proofs.Common.{lit<};
+ghost use Rattle.hash_jenkins.specs.Spooky.{Position, position, after, hash, hash_v1, short_words_at, short_words_of, spooky, spooky_v1};
+ghost use Rattle.hash_jenkins.specs.Counted.{Counted, after_write, MixesBlock};
+ghost use Rattle.hash_jenkins.specs.SpookyStanding.{IsPosition, SpookyStandsAt, spooky_from};
+ghost use Rattle.hash_jenkins.specs.SpookyLaws.{IsPosition-after, after-nil, after-append, stands_at_seeds, stands_after, hash_from_seeds, answer_where_stands};
+
+use crate::put::put;
+use crate::spooky_long::{long_words, mix_blocks};
+use crate::spooky_short::{FILL, LONG, short_words, short_words_v1};
+use hash_laws::laws::{Piecewise, Streamed};
+use hash_rounds::Turns;
+use std::hash::Hasher;
+use std::marker::Model;
+
+/// SpookyHash of a text that comes piece by piece.
+///
+/// Contracts see where the hasher stands, its `Position`, and how many calls have mixed blocks on the way there, its
+/// `turns`. The position is the two seeds and the text so far below 192 bytes, and from then on the twelve words after
+/// all whole blocks and the tail behind them. At most 191 bytes are kept. The count of bytes stays at its greatest value
+/// once it is there, so no length is refused.
+pub struct SpookyHasher {
+    buffer: [u8; 192],
+    words: [u64; 12],
+    kept: usize,
+    length: usize,
+    turns: Turns,
+}
+
+impl Model for SpookyHasher {
+    ghost use Rattle.hash_jenkins.specs.Counted.{Counted};
+
+    ghost Value = { Counted };
+
+    ghost use Rattle.hash_jenkins.specs.SpookyHasher.{counted_of, IsSettled};
+
+    ghost view = { counted_of };
+
+    ghost invariant = { IsSettled };
+}
+
+impl Drop for SpookyHasher {
+    fn drop(self) {
+        let Self {
+            buffer: _,
+            words: _,
+            kept: _,
+            length: _,
+            turns: _,
+        } = self;
+    }
+}
+
+impl SpookyHasher {
+    /// A hasher of no bytes, under two seeds: it stands at ((seed1, seed2), no bytes).
+    pub fn new(seed1: u64, seed2: u64) -> SpookyHasher
+        ensures position { result.at ≡ position seed1 seed2 [] }
+        ensures stands { SpookyStandsAt result.at (seed1 ∷ seed2 ∷ []) [] }
+        ensures turns { result.turns ≡ 0 }
+    {
+        SpookyHasher {
+            buffer: [0; LONG],
+            words: [
+                seed1, seed2, FILL, seed1, seed2, FILL, seed1, seed2, FILL, seed1, seed2, FILL,
+            ],
+            kept: 0,
+            length: 0,
+            turns: Turns::new(),
+        }
+    }
+
+    /// The hash of the bytes so far, as two words. More bytes may be written afterwards.
+    pub fn finish128(&self) -> (u64, u64)
+        ensures here { result ≡ hash self.now.at }
+        ensures of_text { (seed1 seed2 : ℕ) (text : List ℕ) → self.now.at ≡ position seed1 seed2 text
+            → result ≡ spooky seed1 seed2 text }
+        ensures known { IsPosition self.now.at }
+    {
+        if self.length < LONG {
+            let h = short_words(self.words[0], self.words[1], &self.buffer, self.kept);
+            (h[0], h[1])
+        } else {
+            let words = long_words(&self.words, &self.buffer[..self.kept]);
+            (words[0], words[1])
+        }
+    }
+
+    /// The hash of the bytes so far by version 1, for values that were stored before the length was mixed in: it leaves
+    /// the length of a text below 192 bytes out, and from 192 bytes on it is `finish128`.
+    pub fn finish128_v1(&self) -> (u64, u64)
+        ensures here { result ≡ hash_v1 self.now.at }
+        ensures of_text { (seed1 seed2 : ℕ) (text : List ℕ) → self.now.at ≡ position seed1 seed2 text
+            → result ≡ spooky_v1 seed1 seed2 text }
+    {
+        if self.length < LONG {
+            let h = short_words_v1(self.words[0], self.words[1], &self.buffer, self.kept);
+            (h[0], h[1])
+        } else {
+            let words = long_words(&self.words, &self.buffer[..self.kept]);
+            (words[0], words[1])
+        }
+    }
+
+    /// The four words that a text below 192 bytes ends in, the first two of which are its hash; `None` exactly from 192
+    /// bytes on.
+    pub fn short_words(&self) -> Option<[u64; 4]>
+        ensures here { result ≡ short_words_at self.now.at }
+        ensures of_text { (seed1 seed2 : ℕ) (text : List ℕ) → self.now.at ≡ position seed1 seed2 text
+            → result ≡ short_words_of seed1 seed2 text }
+    {
+        if self.length < LONG {
+            Some(short_words(self.words[0], self.words[1], &self.buffer, self.kept))
+        } else {
+            None
+        }
+    }
+}
+
+impl Default for SpookyHasher {
+    ghost is_default = { λ s. (s.at ≡ position 0 0 []) × (s.turns ≡ 0) };
+
+    /// The hasher of no bytes under the seeds 0 and 0.
+    fn default() -> SpookyHasher {
+        SpookyHasher::new(0, 0)
+    }
+}
+
+impl Hasher for SpookyHasher {
+    ghost write = { after_write };
+
+    ghost finish = { λ s. (hash s.at).0 };
+
+    /// The first word of `finish128`.
+    fn finish(&self) -> u64
+        ensures value { result ≡ (hash self.now.at).0 }
+        ensures known { IsPosition self.now.at }
+    {
+        self.finish128().0
+    }
+
+    /// Goes on over the bytes. Where they complete blocks, these are mixed in by one call where nothing was kept, and by
+    /// two else; the whole blocks of `bytes` are read where they stand.
+    #[inline(always)]
+    fn write(&mut self, bytes: &[u8])
+        ensures written { self.new ≡ after_write self.old bytes.now }
+        ensures few { self.new.turns ≤ self.old.turns + 3 }
+        ensures counted { MixesBlock self.old.at bytes.now → self.old.turns < self.new.turns }
+        ensures stands { (seed1 seed2 : ℕ) (text : List ℕ) → self.old.at ≡ position seed1 seed2 text
+            → self.new.at ≡ position seed1 seed2 (text ++ bytes.now) }
+        ensures known_before { IsPosition self.old.at }
+        ensures known_after { IsPosition self.new.at }
+    {
+        self.length = self.length.saturating_add(bytes.len());
+        if self.length < LONG {
+            let end = self.kept + bytes.len();
+            put(&mut self.buffer, self.kept, bytes);
+            self.kept = end;
+        } else {
+            let words = &mut self.words;
+            let buffer = &mut self.buffer;
+            self.kept = mix_blocks(words, buffer, self.kept, bytes, &mut self.turns);
+        }
+    }
+}
+
+impl Piecewise for SpookyHasher {
+    ghost State = { Position };
+
+    ghost state = { λ h. h.at };
+
+    ghost is_state = { IsPosition };
+
+    ghost fresh = { position 0 0 [] };
+
+    ghost after = { after };
+
+    ghost answer = { λ at. (hash at).0 };
+
+    fn fresh() -> SpookyHasher {
+        SpookyHasher::default()
+    }
+
+    #[inline(always)]
+    fn feed(&mut self, piece: &[u8]) {
+        self.write(piece);
+    }
+
+    #[inline(always)]
+    fn answer(&self) -> u64 {
+        self.finish()
+    }
+
+    ghost default_is_fresh = { λ h same. same.0 };
+
+    ghost write_feeds = { λ h piece. refl };
+
+    ghost finish_answers = { λ h. refl };
+
+    ghost fresh_is_state = { lit< tt };
+
+    ghost after_is_state = { IsPosition-after };
+
+    ghost after_nothing = { after-nil };
+}
+
+impl Streamed for SpookyHasher {
+    ghost start = { 0 ∷ 0 ∷ [] };
+
+    ghost stands_at = { λ h. SpookyStandsAt h.at };
+
+    ghost hash = { spooky_from };
+
+    ghost stands_at_start = { λ h same. stands_at_seeds h.at 0 0 (lit< tt) (lit< tt) same };
+
+    ghost stands_after = { λ h k. stands_after h.at k.at };
+
+    ghost after_joined = { after-append };
+
+    ghost hash_from_start = { hash_from_seeds };
+
+    ghost stands_answers = { λ h. answer_where_stands h.at };
+}
+
+/// SpookyHash of the bytes under the seeds 0 and 0: the first of its two words.
+pub fn spooky(bytes: &[u8]) -> u64
+    ensures { result ≡ (spooky 0 0 bytes.now).0 }
+{
+    let mut hasher = SpookyHasher::default();
+    hasher.write(bytes);
+    hasher.finish()
+}
+
+/// The same by version 1, which leaves the length of a text below 192 bytes out.
+pub fn spooky_v1(bytes: &[u8]) -> u64
+    ensures { result ≡ (spooky_v1 0 0 bytes.now).0 }
+{
+    let mut hasher = SpookyHasher::default();
+    hasher.write(bytes);
+    hasher.finish128_v1().0
+}
