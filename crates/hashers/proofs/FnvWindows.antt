@@ -1,0 +1,108 @@
+-- Why two texts that differ within three places (fnv1a64) or two (fnv1a32) have different hashes.
+use Rattle.std.proofs.Common.{◌≡◌, ℕ, zero, suc, ◌+◌, ◌*◌, ◌/◌, ◌%◌, ◌^◌, ◌<◌, ◌≢◌, arith}
+use Rattle.std.specs.Int.Bits.{bit_xor}
+use Rattle.std.proofs.lemmas.Nat.{xor_lt}
+use Rattle.hash_rounds.specs.ByteSteps.{fnv1a32_step, fnv1a64_step}
+use Rattle.hash_rounds.proofs.ByteStepLemmas.{fnv1a32_loses_nothing, fnv1a64_loses_nothing}
+use Rattle.hashers.proofs.WindowSpreads.{IsState32, IsState64, OneByte, TwoBytes}
+use Rattle.hash_laws.proofs.Windows.{Separates}
+use Rattle.hash_rounds.proofs.XorLemmas.{xor_cancel_left, xor_block_kept}
+
+-- a byte moves a state within its block of 256
+kept : (h b : ℕ) → b < 256 → bit_xor h b / 256 ≡ h / 256
+kept h b small = xor_block_kept 8 h b small
+
+abbrev pub Fnv32Apart : ℕ → ℕ → ℕ → Type 0
+Fnv32Apart zero = OneByte (2 ^ 32) 16777619
+Fnv32Apart (suc n) = λ h k. h ≢ k
+
+-- in plain numbers: y and z are the states after the bytes' `^`
+first_32 : (h y z : ℕ) → y / 256 ≡ h / 256 → z / 256 ≡ h / 256 → y ≢ z → OneByte (2 ^ 32) 16777619 (y * 16777619 % 2 ^ 32) (z * 16777619 % 2 ^ 32)
+first_32 h y z yh zh ne = record { c = y % 256; d = z % 256; c_byte = omega arith; d_byte = omega arith; differ = omega arith; apart = omega arith }
+
+second_32 : (h k y z : ℕ) → y / 256 ≡ h / 256 → z / 256 ≡ k / 256 → OneByte (2 ^ 32) 16777619 h k → y ≢ z
+second_32 h k y z yh zk far = λ e. far.differ (omega (arith, far.apart))
+
+abbrev pub Fnv64Apart : ℕ → ℕ → ℕ → Type 0
+Fnv64Apart zero = OneByte (2 ^ 64) 1099511628211
+Fnv64Apart (suc zero) = TwoBytes (2 ^ 64) (870 * 2 ^ 40 + 189225) 1099511628211 511
+Fnv64Apart (suc (suc n)) = λ h k. h ≢ k
+
+first_64 : (h y z : ℕ) → y / 256 ≡ h / 256 → z / 256 ≡ h / 256 → y ≢ z → OneByte (2 ^ 64) 1099511628211 (y * 1099511628211 % 2 ^ 64) (z * 1099511628211 % 2 ^ 64)
+first_64 h y z yh zh ne = record { c = y % 256; d = z % 256; c_byte = omega arith; d_byte = omega arith; differ = omega arith; apart = omega arith }
+
+second_64 : (h k y z : ℕ) → y / 256 ≡ h / 256 → z / 256 ≡ k / 256 → OneByte (2 ^ 64) 1099511628211 h k
+    → TwoBytes (2 ^ 64) (870 * 2 ^ 40 + 189225) 1099511628211 511 (y * 1099511628211 % 2 ^ 64) (z * 1099511628211 % 2 ^ 64)
+second_64 h k y z yh zk far = record {
+  c = far.c;
+  d = far.d;
+  e = y % 256 + k % 256;
+  f = z % 256 + h % 256;
+  c_byte = far.c_byte;
+  d_byte = far.d_byte;
+  e_small = omega arith;
+  f_small = omega arith;
+  differ = far.differ;
+  apart = omega (arith, far.apart);
+}
+
+third_64 : (h k y z : ℕ) → y / 256 ≡ h / 256 → z / 256 ≡ k / 256 → TwoBytes (2 ^ 64) (870 * 2 ^ 40 + 189225) 1099511628211 511 h k → y ≢ z
+third_64 h k y z yh zk far = λ e. far.differ (omega (arith, far.apart))
+
+-- ---- the steps
+
+below_32 : (h b : ℕ) → h < 2 ^ 32 → b < 256 → bit_xor h b < 2 ^ 32
+below_32 h b hs sb = xor_lt 32 h b (omega arith) (omega arith)
+
+same_product_32 : (y z : ℕ) → y < 2 ^ 32 → z < 2 ^ 32 → y * 16777619 % 2 ^ 32 ≡ z * 16777619 % 2 ^ 32 → y ≡ z
+same_product_32 y z ys zs e = omega arith
+
+next_32 : (n h k a b : ℕ) → suc n < 2 → h < 2 ^ 32 → k < 2 ^ 32 → a < 256 → b < 256 → Fnv32Apart n h k
+    → Fnv32Apart (suc n) (fnv1a32_step h a) (fnv1a32_step k b)
+next_32 zero h k a b fits hs ks sa sb far = λ same.
+    second_32 h k (bit_xor h a) (bit_xor k b) (kept h a sa) (kept k b sb) far
+    (same_product_32 (bit_xor h a) (bit_xor k b) (below_32 h a hs sa) (below_32 k b ks sb) same)
+next_32 (suc n) h k a b fits hs ks sa sb far = absurd (omega arith)
+
+different_32 : (n h k : ℕ) → Fnv32Apart n h k → h ≢ k
+different_32 zero h k far = λ e. far.differ (omega (arith, far.apart))
+different_32 (suc n) h k far = far
+
+pub fnv1a32_separates : Separates fnv1a32_step IsState32 2 0 Fnv32Apart
+fnv1a32_separates = record {
+  in_range = fnv1a32_loses_nothing.in_range;
+  same_state = fnv1a32_loses_nothing.same_state;
+  first = λ h a b hs sa sb mask ne.
+      first_32 h (bit_xor h a) (bit_xor h b) (kept h a sa) (kept h b sb) (λ e. ne (xor_cancel_left h a b e));
+  next = λ n h k a b fits hs ks sa sb mask far. next_32 n h k a b fits hs ks sa sb far;
+  apart = different_32;
+}
+
+below_64 : (h b : ℕ) → h < 2 ^ 64 → b < 256 → bit_xor h b < 2 ^ 64
+below_64 h b hs sb = xor_lt 64 h b (omega arith) (omega arith)
+
+same_product_64 : (y z : ℕ) → y < 2 ^ 64 → z < 2 ^ 64 → y * 1099511628211 % 2 ^ 64 ≡ z * 1099511628211 % 2 ^ 64 → y ≡ z
+same_product_64 y z ys zs e = omega arith
+
+next_64 : (n h k a b : ℕ) → suc n < 3 → h < 2 ^ 64 → k < 2 ^ 64 → a < 256 → b < 256 → Fnv64Apart n h k
+    → Fnv64Apart (suc n) (fnv1a64_step h a) (fnv1a64_step k b)
+next_64 zero h k a b fits hs ks sa sb far = second_64 h k (bit_xor h a) (bit_xor k b) (kept h a sa) (kept k b sb) far
+next_64 (suc zero) h k a b fits hs ks sa sb far = λ same.
+    third_64 h k (bit_xor h a) (bit_xor k b) (kept h a sa) (kept k b sb) far
+    (same_product_64 (bit_xor h a) (bit_xor k b) (below_64 h a hs sa) (below_64 k b ks sb) same)
+next_64 (suc (suc n)) h k a b fits hs ks sa sb far = absurd (omega arith)
+
+different_64 : (n h k : ℕ) → Fnv64Apart n h k → h ≢ k
+different_64 zero h k far = λ e. far.differ (omega (arith, far.apart))
+different_64 (suc zero) h k far = λ e. far.differ (omega (arith, far.apart))
+different_64 (suc (suc n)) h k far = far
+
+pub fnv1a64_separates : Separates fnv1a64_step IsState64 3 0 Fnv64Apart
+fnv1a64_separates = record {
+  in_range = fnv1a64_loses_nothing.in_range;
+  same_state = fnv1a64_loses_nothing.same_state;
+  first = λ h a b hs sa sb mask ne.
+      first_64 h (bit_xor h a) (bit_xor h b) (kept h a sa) (kept h b sb) (λ e. ne (xor_cancel_left h a b e));
+  next = λ n h k a b fits hs ks sa sb mask far. next_64 n h k a b fits hs ks sa sb far;
+  apart = different_64;
+}

@@ -1,0 +1,20 @@
+-- passthrough from 0 is the number of the last eight bytes.
+use Rattle.std.proofs.Common.{ℕ, ◌≡◌, ◌+◌, ◌*◌, ◌-◌, ◌%◌, ◌^◌, ◌<◌, ◌≤◌, List, length, drop, ap, sym, ◌∙◌, arith, lit<, ⊎_elim}
+use Rattle.std.proofs.lemmas.Bool.{cases_lt}
+use Rattle.std.proofs.Math.Nat.{mod-eq_of_lt}
+use Rattle.std.proofs.Math.Nat.{pow-le-pow_right}
+use Rattle.hash_laws.specs.Text.{IsText}
+use Rattle.hash_rounds.specs.Sums.{digit_sum, passthrough}
+use Rattle.hash_rounds.proofs.SumLemmas.{digit_sum-lt, passthrough_of_last}
+
+few : (t : List ℕ) → IsText t → length t < 8 → passthrough 0 t ≡ digit_sum 256 (drop (length t - 8) t)
+unfolding passthrough
+few t bytes small =
+    let none : length t - 8 ≡ 0 = omega arith in
+    let shorter : length t ≤ 8 = omega arith in
+    let below : digit_sum 256 t < 2 ^ 64 = omega (arith, digit_sum-lt 256 t bytes, pow-le-pow_right {n = 256} (lit< tt) shorter) in
+    let start : 0 * 256 ^ length t + digit_sum 256 t ≡ digit_sum 256 t = omega arith in
+    ap (λ n. n % 2 ^ 64) start ∙ mod-eq_of_lt below ∙ ap (λ n. digit_sum 256 (drop n t)) (sym none)
+
+pub passthrough-last : (t : List ℕ) → IsText t → passthrough 0 t ≡ digit_sum 256 (drop (length t - 8) t)
+passthrough-last t bytes = ⊎_elim (few t bytes) (λ more. passthrough_of_last 0 t (omega (arith, more)) bytes) (cases_lt (length t) 8)

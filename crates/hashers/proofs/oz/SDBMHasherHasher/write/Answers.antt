@@ -1,0 +1,52 @@
+use Rattle.std.proofs.Common.{◌≡◌, ◌+◌, ◌*◌, ◌<◌, ◌/◌, ◌∙◌, [], ap, sym, arith, length, get_or, take, take-append-drop, take_all, lit<, ◌%◌, ◌^◌}
+use Rattle.std.proofs.Math.Nat.{mod-lt}
+use Rattle.std.proofs.lemmas.List.{take_more}
+use Rattle.hash_rounds.specs.Sums.{sdbm}
+use Rattle.hash_rounds.proofs.SumLemmas.{sdbm-nil, sdbm-append, sdbm_push}
+use Rattle.hash_rounds.proofs.Chunks.{take_chunk}
+use Rattle.hashers.proofs.oz.SDBMHasherHasher.write.Goals as goal
+
+pub loop-four-init : goal.loop-four-init
+loop-four-init c = (c.self.invariant, sym (sdbm-nil _ c.self.invariant), omega arith)
+
+pub loop-four-preserved : goal.loop-four-preserved
+loop-four-preserved c =
+    let inv = c.loop-four.invariant in
+    let four = get_or c.as_chunks.result.0.now c.loop-four.four-index [] in
+    let here : c.loop-four.four-index < length c.args.bytes.now / 4 = omega arith in (
+      c.sdbm4-self-inside.type_inv,
+      c.sdbm4-self-inside.ensures.value ∙ ap (λ s. sdbm s four) inv.1 ∙ sdbm-append _ _ four
+          ∙ ap (λ t. sdbm c.self.inside.state t) (rw c.as_chunks.ensures.front (take_chunk 4 (length c.args.bytes.now / 4) _ c.args.bytes.now [] here)),
+      omega arith,
+    )
+
+pub loop-byte-init : goal.loop-byte-init
+loop-byte-init c = (c.loop-four.invariant.0, sym (sdbm-nil _ c.loop-four.invariant.0), omega arith)
+
+pub loop-byte-preserved : goal.loop-byte-preserved
+loop-byte-preserved c =
+    let inv = c.loop-byte.invariant in
+    let s = c.loop-four.self-inside.state in
+    let rest = c.as_chunks.result.1.now in
+    let j = c.loop-byte.byte-index in
+    let value : (c.loop-byte.self-inside.state * 65599 % 2 ^ 32 + c.from.result) % 2 ^ 32 ≡ sdbm s (take (j + 1) rest) =
+    rw (inv.1, c.from.ensures, take_more rest j 0 c.loop-byte-test.true) (sdbm_push s (take j rest) (get_or rest j 0)) in
+    (mod-lt _ (lit< tt), value, inv.2)
+
+pub returns-clause-state : goal.returns-clause-state
+returns-clause-state c =
+    let bytes = c.args.bytes.now in
+    let rest = c.as_chunks.result.1.now in
+    let s = c.self.inside.state in
+    let fours : c.loop-four.four-index ≡ length bytes / 4 = omega arith in
+    c.loop-byte.invariant.1
+    ∙ rw (take_all c.loop-byte.byte-index rest c.loop-byte-test.false, c.loop-four.invariant.1, sdbm-append s (take (c.loop-four.four-index * 4) bytes) rest, c.as_chunks.ensures.back, fours, take-append-drop (length bytes / 4 * 4) bytes)
+    (ap (λ v. sdbm v.state bytes) c.self.view_is)
+
+pub returns-clause-turns : goal.returns-clause-turns
+returns-clause-turns c =
+    let fours : c.loop-four.four-index ≡ length c.args.bytes.now / 4 = omega arith in
+    c.loop-byte.invariant.2 ∙ c.loop-four.invariant.2 ∙ rw fours (ap (λ v. v.turns + length c.args.bytes.now / 4) c.self.view_is)
+
+pub returns-clause-value : goal.returns-clause-value
+returns-clause-value c = λ i. record { state = returns-clause-state c i; turns = returns-clause-turns c i }

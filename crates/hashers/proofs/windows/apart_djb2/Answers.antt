@@ -1,0 +1,8 @@
+use Rattle.std.proofs.lemmas.Bool.{OnTrue_from}
+use Rattle.hash_laws.proofs.TextLemmas.{IsText-from_slice}
+use Rattle.hashers.proofs.Collisions.{djb2_apart}
+use Rattle.hashers.proofs.windows.apart_djb2.Goals as goal
+
+pub returns-clause-differ : goal.returns-clause-differ
+returns-clause-differ c =
+    OnTrue_from _ _ (λ yes. djb2_apart c.args.x.now c.args.y.now (IsText-from_slice _ c.type_inv.x) (IsText-from_slice _ c.type_inv.y) (c.is_window.ensures.0 yes))

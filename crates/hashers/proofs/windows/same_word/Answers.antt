@@ -1,0 +1,15 @@
+use Rattle.std.proofs.Common.{sym, ◌∙◌, ap, eq-eqb}
+use Rattle.std.proofs.lemmas.Bool.{eqb-true}
+use Rattle.hash_laws.proofs.TextLemmas.{IsText-from_slice}
+use Rattle.hashers.specs.Oz.{djb2}
+use Rattle.hashers.proofs.ShortWords.{djb2_same_word}
+use Rattle.hashers.proofs.windows.same_word.Goals as goal
+
+pub returns : goal.returns
+returns c =
+    let x = c.djb2.ensures in
+    let y = c.djb2-2.ensures in (
+      (λ t. djb2_same_word c.args.x.now c.args.y.now (IsText-from_slice _ c.type_inv.x) (IsText-from_slice _ c.type_inv.y)
+          c.requires.same_length c.requires.first c.requires.second (sym x ∙ eqb-true c.djb2.result c.djb2-2.result t ∙ y)),
+      (λ e. eq-eqb c.djb2.result c.djb2-2.result (x ∙ ap (djb2 5381) e ∙ sym y)),
+    )

@@ -1,0 +1,22 @@
+-- The hash of Fowler, Noll and Vo in the variant 1a (the FNV authors' page).
+use Rattle.std.specs.Prelude.{ℕ, ◌*◌, ◌%◌, ◌^◌, List, bit_xor}
+use Rattle.hash_laws.specs.Recurrence.{recurrence}
+use Rattle.hash_rounds.specs.ByteSteps.{fnv1a32_step, fnv1a64_step}
+
+-- the starts, which the authors call offset bases
+abbrev pub fnv1a32_basis : ℕ
+fnv1a32_basis = 2166136261
+
+abbrev pub fnv1a64_basis : ℕ
+fnv1a64_basis = 14695981039346656037
+
+-- the state after a text, from a start
+abbrev pub fnv1a32 : ℕ → List ℕ → ℕ
+fnv1a32 = recurrence fnv1a32_step
+
+abbrev pub fnv1a64 : ℕ → List ℕ → ℕ
+fnv1a64 = recurrence fnv1a64_step
+
+-- the oldest variant, FNV-0, by its width and prime: from 0, for each byte a product, and then an exclusive or
+abbrev pub fnv0 : ℕ → ℕ → List ℕ → ℕ
+fnv0 width prime = recurrence (λ h byte. bit_xor (h * prime % 2 ^ width) byte) 0

@@ -1,0 +1,15 @@
+//! Non-cryptographic hash functions, with inverses and laws: a port of the Rust crate hashers 1.0.1.
+#![tactic(auto)]
+
+pub mod fnv;
+pub mod laws;
+pub mod null;
+pub mod oz;
+pub mod pigeon;
+#[cfg(test)]
+mod tests;
+mod windows;
+
+pub use hash_fx as fx_hash;
+pub use hash_jenkins as jenkins;
+pub use hash_laws::engine as engine;

@@ -1,0 +1,218 @@
+//! Vectors and worked examples of the hash functions of this crate.
+use crate::fnv::{FNV1aHasher32, FNV1aHasher64, fnv1a32, fnv1a64};
+use crate::laws::{
+    ByteStep, Piecewise, Streamed, Undo, answer_of_pieces, apart_by_one, apart_djb2, apart_fnv32,
+    apart_fnv64, apart_sdbm, bucket_of, run_pair, run_pieces, run_streamed, same_word,
+};
+use crate::null::{NullHasher, PassThroughHasher, null, passthrough};
+use crate::oz::{DJB2Hasher, LoseLoseHasher, SDBMHasher, djb2, loselose, sdbm};
+use crate::pigeon::{Bricolage, bricolage};
+use std::hash::Hasher;
+use std::process::Abort;
+use std::test::Fail;
+
+#[test]
+fn vectors(rt: HostRuntime) {
+    let texts: [&[u8]; 6] = [b"", b"a", b"b", b"ab", b"abcd", b"abcdefg"];
+    let fnv = [
+        14695981039346656037,
+        12638187200555641996,
+        12638190499090526629,
+        620445648566982762,
+        18165163011005162717,
+        4642726675185563447,
+    ];
+    for (text, hash) in texts.iter().zip(fnv.iter()) {
+        assert_eq!(rt; fnv1a64(text), *hash);
+    }
+    let short = [
+        (0u64, 5381u64, 0u64, 0u64),
+        (17926483712435944715, 177604, 97, 97),
+        (12457347154332739726, 177607, 98, 98),
+        (16461606921607156355, 5860902, 6363201, 195),
+    ];
+    for (text, (pigeon, bernstein, database, sum)) in texts.iter().zip(short.iter()) {
+        assert_eq!(rt; bricolage(text), *pigeon);
+        assert_eq!(rt; djb2(text), *bernstein);
+        assert_eq!(rt; sdbm(text), *database);
+        assert_eq!(rt; loselose(text), *sum);
+    }
+    assert_eq!(rt; fnv1a32(b""), 2166136261);
+    assert_eq!(rt; fnv1a32(b"a"), 3826002220);
+}
+
+#[test]
+fn worked_examples(rt: HostRuntime) {
+    assert_eq!(rt; djb2(&[0x00, 0x21]), 5859940);
+    assert_eq!(rt; djb2(&[0x01, 0x00]), 5859876);
+    assert_eq!(rt; djb2(b"bC"), 5861092);
+    assert_eq!(rt; djb2(b"cb"), 5861092);
+    assert_eq!(rt; djb2(b"bc"), 5861060);
+    assert_eq!(rt; sdbm(&[0]), 0);
+    assert_eq!(rt; loselose(b"ba"), 195);
+    assert_eq!(rt; passthrough(b"abcdefghi"), 0x6263646566676869);
+    assert_eq!(rt; passthrough(b"a"), 97);
+    assert_eq!(rt; null(b"a"), 0);
+    assert_eq!(rt; NullHasher.answer(), 0);
+    let mut hasher = DJB2Hasher::default();
+    hasher.write_u16(25185);
+    assert_eq!(rt; hasher.finish(), 5860902);
+}
+
+#[test]
+fn faster_sums(rt: HostRuntime) {
+    assert_eq!(rt; sdbm(b"abc"), 807794786);
+    assert_eq!(rt; sdbm(b"abcd"), 3518636162);
+    assert_eq!(rt; sdbm(b"abcde"), 3176136803);
+    let mut all = [0u8; 256];
+    for (i, byte) in all.iter_mut().enumerate() {
+        *byte = (i & 0xff) as u8;
+    }
+    assert_eq!(rt; loselose(&all), 32640);
+    assert_eq!(rt; loselose(&[0xff; 1000]), 255000);
+}
+
+/// A hasher fed in two pieces, and one that takes a step for each byte.
+fn agree<H: ByteStep>(rt: &impl Abort, text: &[u8], cut: usize) {
+    let cut = cut.min(text.len());
+    let mut fed = H::fresh();
+    fed.feed(&text[..cut]);
+    fed.feed(&text[cut..]);
+    let mut stepped = H::fresh();
+    for byte in text {
+        stepped.step(*byte);
+    }
+    assert_eq!(rt; fed.answer(), stepped.answer());
+    stepped.unwrite(text);
+    assert_eq!(rt; stepped.answer(), H::fresh().answer());
+}
+
+#[test]
+fn pieces_are_steps(rt: HostRuntime) {
+    let mut text = [0u8; 130];
+    for (i, byte) in text.iter_mut().enumerate() {
+        *byte = ((i * 37 + 11) & 0xff) as u8;
+    }
+    for n in 0..=130usize {
+        for cut in 0..=n {
+            agree::<SDBMHasher>(&rt, &text[..n], cut);
+            agree::<LoseLoseHasher>(&rt, &text[..n], cut);
+        }
+        agree::<FNV1aHasher32>(&rt, &text[..n], n / 2);
+        agree::<FNV1aHasher64>(&rt, &text[..n], n / 2);
+        agree::<DJB2Hasher>(&rt, &text[..n], n / 2);
+        agree::<Bricolage>(&rt, &text[..n], n / 2);
+    }
+}
+
+/// What a hasher with this answer answers after a piece is taken out.
+fn before<H: Undo>(rt: &impl Abort, answer: u64, piece: &[u8]) -> u64 {
+    let mut hasher = H::unfinish(answer).expect(rt, "a state with this answer");
+    hasher.unwrite(piece);
+    hasher.answer()
+}
+
+#[test]
+fn undoing(rt: HostRuntime) {
+    assert_eq!(rt; before::<DJB2Hasher>(&rt, 177604, b"a"), 5381);
+    assert_eq!(rt; before::<FNV1aHasher32>(&rt, 3826002220, b"a"), 2166136261);
+    assert_eq!(rt;
+        before::<FNV1aHasher64>(&rt, 12638187200555641996, b"a"),
+        14695981039346656037
+    );
+    assert_eq!(rt;
+        before::<Bricolage>(&rt, 16461606921607156355, b"b"),
+        17926483712435944715
+    );
+    assert_eq!(rt; before::<SDBMHasher>(&rt, 6363201, b"b"), 97);
+    assert!(rt; DJB2Hasher::unfinish(4294967296).is_none());
+    assert!(rt; SDBMHasher::unfinish(4294967296).is_none());
+    assert!(rt; FNV1aHasher32::unfinish(u64::MAX).is_none());
+    let mut hasher = LoseLoseHasher::default();
+    hasher.unwrite(b"ab");
+    assert_eq!(rt; hasher.finish(), 18446744073709551421);
+    hasher.write(b"ab");
+    assert_eq!(rt; hasher.finish(), 0);
+    let mut last = LoseLoseHasher::unfinish(18446744073709551615).expect(&rt, "a state");
+    last.write(&[2]);
+    assert_eq!(rt; last.finish(), 1);
+    last.step(7);
+    last.unstep(7);
+    assert_eq!(rt; last.finish(), 1);
+}
+
+#[test]
+fn generic_laws(rt: HostRuntime) -> Result<(), Fail> {
+    let mut a = DJB2Hasher::unfinish(1).ok_or("a state")?;
+    let mut b = DJB2Hasher::unfinish(2).ok_or("a state")?;
+    run_pair(&mut a, &mut b, &[b"ab", b"", b"c"]);
+    assert!(rt; a.answer() != b.answer());
+    let mut whole = PassThroughHasher::fresh();
+    run_streamed(&mut whole, &[b"abc", b"", b"defghi"]);
+    assert_eq!(rt; whole.answer(), 0x6263646566676869);
+    let mut pieces = FNV1aHasher64::fresh();
+    run_pieces(&mut pieces, &[b"a", b"b"]);
+    assert_eq!(rt; pieces.answer(), 620445648566982762);
+    assert_eq!(rt;
+        answer_of_pieces::<FNV1aHasher64>(&[b"a", b"", b"b"]),
+        620445648566982762
+    );
+    assert_eq!(rt; bucket_of::<DJB2Hasher>(b"a", 1000), 604);
+    Ok(())
+}
+
+#[test]
+fn windows(rt: HostRuntime) {
+    for (x, y, apart) in [
+        (b"ab", b"cb", true),
+        (b"ab", b"ba", false),
+        (b"aa", b"aa", false),
+    ] {
+        assert_eq!(rt; apart_by_one::<FNV1aHasher64>(x, y), apart);
+    }
+    assert!(rt; !apart_by_one::<FNV1aHasher64>(b"a", b"ab"));
+    assert!(rt; apart_djb2(b"aaaaaa", b"zzzzzz"));
+    assert!(rt; apart_djb2(b"a1", b"b2"));
+    assert!(rt; apart_djb2(b"bc", b"cb"));
+    assert!(rt; apart_djb2(b"aaaaaa", b"baaaab"));
+    assert!(rt; !apart_djb2(b"bC", b"cb"));
+    assert!(rt; !apart_djb2(b"a", b"A"));
+    assert!(rt; !apart_djb2(b"", b""));
+    assert!(rt; !apart_djb2(b"a", b"ab"));
+    assert!(rt; !apart_djb2(b"aaaaaaa", b"baaaaab"));
+    assert!(rt; !apart_djb2(&[0x00, 0x21], &[0x01, 0x00]));
+    assert!(rt; apart_sdbm(b"abc", b"cba"));
+    assert!(rt; !apart_sdbm(b"abcd", b"dbca"));
+    assert!(rt; !apart_sdbm(b"abcd", b"xbcx"));
+    assert!(rt; apart_fnv64(b"abc", b"cba"));
+    assert!(rt; !apart_fnv64(b"abcd", b"dbca"));
+    assert!(rt; apart_fnv32(b"ab", b"ba"));
+    assert!(rt; apart_fnv32(b"abc", b"bac"));
+    assert!(rt; !apart_fnv32(b"abc", b"cba"));
+}
+
+/// One place wider, or one bit looser, the hashes collide: pairs that a search over random texts found.
+#[test]
+fn windows_can_be_no_wider(rt: HostRuntime) {
+    assert_eq!(rt; djb2(b"ogwmava"), djb2(b"vxbavgx"));
+    assert!(rt; !apart_djb2(b"ogwmava", b"vxbavgx"));
+    assert_eq!(rt; djb2(b"bC"), djb2(b"cb"));
+    assert_eq!(rt; sdbm(b"N5<k"), sdbm(b"o6],"));
+    assert!(rt; !apart_sdbm(b"N5<k", b"o6],"));
+}
+
+#[test]
+fn words_of_two_letters(rt: HostRuntime) {
+    for a in b'a'..=b'z' {
+        for b in b'a'..=b'z' {
+            for c in b'a'..=b'z' {
+                for d in b'a'..=b'z' {
+                    let same = djb2(&[a, b]) == djb2(&[c, d]);
+                    assert_eq!(rt; same, a == c && b == d);
+                }
+            }
+        }
+    }
+    assert!(rt; same_word(b"abc", b"abc"));
+    assert!(rt; !same_word(b"abc", b"abd"));
+}

@@ -1,0 +1,59 @@
+//! Tests on two texts that differ within a few neighbouring places: where one answers true, a hash tells the texts apart.
+//! None of them computes a hash.
+ghost use Rattle.std.specs.Prelude.{◌≡◌, ◌≢◌, ◌↔◌, IsTrue, length};
+ghost use Rattle.std.specs.Bool.{OnTrue};
+ghost use Rattle.hash_rounds.specs.Sums.{sdbm};
+ghost use Rattle.hash_laws.specs.Window.{Window};
+ghost use Rattle.hashers.specs.Fnv.{fnv1a32, fnv1a32_basis, fnv1a64, fnv1a64_basis};
+ghost use Rattle.hashers.specs.Oz.{djb2};
+ghost use Rattle.hashers.specs.Words.{IsShortWord};
+
+use crate::oz;
+use hash_laws::window::is_window;
+
+/// Whether the texts have one length and differ, but only within six neighbouring places, and everywhere only in the low
+/// five bits of a byte. Their `djb2` hashes then differ.
+pub fn apart_djb2(x: &[u8], y: &[u8]) -> bool
+    ensures exactly { IsTrue result ↔ Window 6 0xE0 x.now y.now }
+    ensures differ { OnTrue result (djb2 5381 x.now ≢ djb2 5381 y.now) }
+{
+    is_window(x, y, 6, 0xE0)
+}
+
+/// Whether the texts have one length and differ, but only within three neighbouring places. Their `sdbm` hashes then
+/// differ.
+pub fn apart_sdbm(x: &[u8], y: &[u8]) -> bool
+    ensures exactly { IsTrue result ↔ Window 3 0 x.now y.now }
+    ensures differ { OnTrue result (sdbm 0 x.now ≢ sdbm 0 y.now) }
+{
+    is_window(x, y, 3, 0) // of sdbm
+}
+
+/// Whether the texts have one length and differ, but only within three neighbouring places. Their `fnv1a64` hashes then
+/// differ.
+pub fn apart_fnv64(x: &[u8], y: &[u8]) -> bool
+    ensures exactly { IsTrue result ↔ Window 3 0 x.now y.now }
+    ensures differ { OnTrue result (fnv1a64 fnv1a64_basis x.now ≢ fnv1a64 fnv1a64_basis y.now) }
+{
+    is_window(x, y, 3, 0) // of FNV at 64 bits
+}
+
+/// Whether the texts have one length and differ, but only within two neighbouring places. Their `fnv1a32` hashes then
+/// differ.
+pub fn apart_fnv32(x: &[u8], y: &[u8]) -> bool
+    ensures exactly { IsTrue result ↔ Window 2 0 x.now y.now }
+    ensures differ { OnTrue result (fnv1a32 fnv1a32_basis x.now ≢ fnv1a32 fnv1a32_basis y.now) }
+{
+    is_window(x, y, 2, 0)
+}
+
+/// Whether two words of a to z of one length, of at most six letters, are the same: by their `djb2` hashes alone, which
+/// never collide there.
+pub fn same_word(x: &[u8], y: &[u8]) -> bool
+    requires same_length { length x.now ≡ length y.now }
+    requires first { IsShortWord x.now }
+    requires second { IsShortWord y.now }
+    ensures { IsTrue result ↔ (x.now ≡ y.now) }
+{
+    oz::djb2(x) == oz::djb2(y)
+}
