@@ -1,0 +1,4 @@
+pub mod Lines
+pub mod Tellings
+pub mod Versions
+pub mod Words

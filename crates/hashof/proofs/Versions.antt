@@ -1,0 +1,13 @@
+-- Version 1 of Spooky over a text in pieces of 4096 bytes.
+use Rattle.std.proofs.Common.{◌≡◌, List, ℕ, [], fold, lit<, ◌∙◌}
+use Rattle.hash_laws.specs.Reading.{cut}
+use Rattle.hash_laws.specs.Text.{IsText}
+use Rattle.hash_laws.proofs.ReadingLemmas.{fold-cut}
+use Rattle.hash_jenkins.specs.Spooky.{position, after}
+use Rattle.hash_jenkins.specs.SpookyStanding.{IsPosition}
+use Rattle.hash_jenkins.specs.SpookyLaws.{IsPosition-after, after-nil, after-append, after-position}
+
+-- the pieces lead to where the text leads
+pub position_of_pieces : (text : List ℕ) → IsText text → fold after (position 0 0 []) (cut 4096 text) ≡ position 0 0 text
+position_of_pieces text bytes =
+    fold-cut IsPosition after IsPosition-after after-nil after-append 4096 (position 0 0 []) text (lit< tt) (lit< tt) bytes ∙ after-position 0 0 [] text

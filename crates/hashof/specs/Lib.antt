@@ -1,0 +1,4 @@
+pub mod Named
+pub mod Refusals
+pub mod Status
+pub mod Telling

@@ -1,0 +1,54 @@
+//! How a run of the program ends.
+ghost use Rattle.std.specs.Prelude.{◌≡◌};
+
+use crate::run::RunFault;
+use hashers::engine::Fault;
+
+/// What came of a run of the program.
+pub enum Outcome {
+    /// The hash was told.
+    Done,
+    /// There was not exactly one argument.
+    Usage,
+    /// There was no memory for the arguments.
+    NoMemory,
+    /// No hash was told.
+    Failed(RunFault),
+}
+
+impl Drop for Outcome {
+    fn drop(self) {
+        match self {
+            Outcome::Failed(RunFault::ReadFault(Fault { bytes: _, error: _ })) => {}
+            Outcome::Failed(RunFault::WriteFault(_)) => {}
+            Outcome::Failed(RunFault::UnknownName | RunFault::TooLong) => {}
+            Outcome::Done | Outcome::Usage | Outcome::NoMemory => {}
+        }
+    }
+}
+
+/// What the program writes on standard error, with its newline; nothing where the hash was told.
+pub fn outcome_line(outcome: &Outcome) -> &'static str {
+    match outcome {
+        Outcome::Done => "",
+        Outcome::Usage => "usage: hashof NAME\n",
+        Outcome::NoMemory => "hashof: out of memory\n",
+        Outcome::Failed(RunFault::UnknownName) => "hashof: unknown name\n",
+        Outcome::Failed(RunFault::ReadFault(_)) => "hashof: read fault\n",
+        Outcome::Failed(RunFault::TooLong) => "hashof: input too long\n",
+        Outcome::Failed(RunFault::WriteFault(_)) => "hashof: write fault\n",
+    }
+}
+
+ghost use Rattle.hashof.specs.Status.{status_of};
+
+/// The status that the program ends with: 0 where the hash was told, 2 where the call was wrong, 1 where it failed.
+pub fn outcome_status(outcome: &Outcome) -> u8
+    ensures { result ≡ status_of outcome.now }
+{
+    match outcome {
+        Outcome::Done => 0,
+        Outcome::Usage | Outcome::Failed(RunFault::UnknownName) => 2,
+        _ => 1,
+    }
+}
