@@ -1,0 +1,4 @@
+pub mod Pairs
+pub mod Changes
+pub mod Tables
+pub mod Runs
