@@ -1,0 +1,2 @@
+pub mod Times31
+pub mod Times31Laws

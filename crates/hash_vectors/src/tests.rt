@@ -1,0 +1,7 @@
+//! Tests that cross the crates.
+
+mod laws;
+mod original;
+mod readers;
+mod sample;
+mod tables;

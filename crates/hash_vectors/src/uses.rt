@@ -1,0 +1,71 @@
+//! How a caller uses the library: five proved examples.
+ghost use Rattle.std.specs.Prelude.{◌≡◌, ◌≢◌, ◌<◌, ◌^◌, ℕ, IfSome, IfOk, OnErr};
+ghost use Rattle.std.specs.Bool.{OnFalse};
+ghost use Rattle.std.specs.FinMap as map;
+ghost use Rattle.hashers.specs.ByteSteps.{oaat_finish};
+ghost use Rattle.hashers.specs.Fnv.{fnv1a64, fnv1a64_basis};
+ghost use Rattle.hashers.specs.Oaat.{oaat};
+ghost use Rattle.hashers.specs.Oz.{djb2};
+ghost use Rattle.hashers.specs.Reading.{FeedsRead};
+
+use hash_buckets::{Buckets, NoRoom};
+use hashers::engine::{Fault, hash_reader};
+use hashers::fnv::{FNV1aHasher64, fnv1a64};
+use hashers::jenkins::oaat;
+use hashers::laws::{Piecewise, Undo, apart_djb2};
+use hashers::oz::DJB2Hasher;
+use std::hash::Hasher;
+use std::io::Read;
+
+/// A stream's fingerprint, if it ends within the limit and no read fails: the hash of just what was read.
+pub fn fingerprint<R: Read>(r: &mut R, limit: u64) -> Option<u64>
+    ensures { IfSome result (λ hash. (bytes : ℕ) × FeedsRead fnv1a64 4096 (R.remaining r.old) (R.remaining r.new)
+        fnv1a64_basis hash bytes) }
+{
+    let mut hasher = FNV1aHasher64::fresh();
+    match hash_reader::<FNV1aHasher64, R, 4096>(&mut hasher, r, limit) {
+        Ok(taken) => {
+            if taken.ended {
+                Some(hasher.answer())
+            } else {
+                None
+            }
+        }
+        Err(Fault { bytes: _, error: _ }) => None,
+    }
+}
+
+/// Takes a text's last piece out and another in, without the text before it.
+pub fn replace_last(h: &mut DJB2Hasher, old: &[u8], new: &[u8])
+    ensures { (s : ℕ) → s < 2 ^ 32 → djb2 s old.now ≡ h.old → h.new ≡ djb2 s new.now }
+{
+    h.unwrite(old);
+    h.write(new);
+}
+
+/// The two hashes of a key from which a Bloom filter makes all others.
+pub fn bloom_hashes(key: &[u8]) -> (u64, u64)
+    ensures first { result.0 ≡ fnv1a64 fnv1a64_basis key.now }
+    ensures second { result.1 ≡ oaat_finish (oaat 0 key.now) }
+{
+    (fnv1a64(key), oaat(key))
+}
+
+/// Whether a checked pair of short keys may share a slot of a `djb2` table: `false` promises that their hashes differ.
+pub fn may_collide(x: &[u8], y: &[u8]) -> bool
+    ensures { OnFalse result (djb2 5381 x.now ≢ djb2 5381 y.now) }
+{
+    !apart_djb2(x, y)
+}
+
+/// Remembers a value under a key, and answers the value that was there.
+pub fn remember<H: Piecewise>(
+    table: &mut Buckets<H, 64>,
+    key: Vec<u8>,
+    value: u64,
+) -> Result<Option<u64>, NoRoom>
+    ensures before { IfOk result (λ old. old ≡ map.get table.old key.items) }
+    ensures unchanged { OnErr result (table.new ≡ table.old) }
+{
+    table.insert(key, value)
+}
