@@ -1,0 +1,350 @@
+//! Measures the exported calls of `hash_speed` beside the original crate, and prints tables. `run` builds and runs it.
+//!
+//! With the words `hash NAME` it prints the original's hash of standard input instead.
+//!
+//! Answers are compared first. A cell is the original's median time, ours, and the first divided by the second.
+mod measure;
+mod original;
+mod ours;
+
+use hashers::fnv::{FNV1aHasher32, FNV1aHasher64};
+use hashers::fx_hash::{FxHasher, FxHasher32, FxHasher64};
+use hashers::jenkins::spooky_hash::SpookyHasher;
+use hashers::jenkins::{Lookup3Hasher, OAATHasher};
+use hashers::null::{NullHasher, PassThroughHasher};
+use hashers::oz::{DJB2Hasher, LoseLoseHasher, SDBMHasher};
+use hashers::pigeon::Bricolage;
+use measure::{gigahertz, Pair, Sheet};
+use std::hint::black_box;
+
+/// A call over a text.
+type Call = unsafe extern "C" fn(*const u8, usize) -> u64;
+
+/// A call over a text that is cut into parts of one size.
+type CallOfSize = unsafe extern "C" fn(*const u8, usize, usize) -> u64;
+
+/// A call over keys of one size, and how often they are asked for.
+type CallOfTable = unsafe extern "C" fn(*const u8, usize, usize, usize) -> u64;
+
+fn call(f: Call, text: &[u8]) -> u64 {
+    unsafe { f(text.as_ptr(), text.len()) }
+}
+
+fn call_of_size(f: CallOfSize, text: &[u8], size: usize) -> u64 {
+    unsafe { f(text.as_ptr(), text.len(), size) }
+}
+
+fn call_of_table(f: CallOfTable, text: &[u8], size: usize, rounds: usize) -> u64 {
+    unsafe { f(text.as_ptr(), text.len(), size, rounds) }
+}
+
+/// A name with its calls, the original's and ours.
+struct Name {
+    name: &'static str,
+    /// From how many bytes on the answers are the original's.
+    alike_from: usize,
+    whole: [Call; 2],
+    keys: [CallOfSize; 2],
+    pieces: [CallOfSize; 2],
+}
+
+macro_rules! names {
+    ($($name:ident $hasher:ident $alike_from:literal)*) => {
+        vec![$(Name {
+            name: stringify!($name),
+            alike_from: $alike_from,
+            whole: [original::whole::<$hasher>, ours::whole::$name],
+            keys: [original::keys::<$hasher>, ours::keys::$name],
+            pieces: [original::pieces::<$hasher>, ours::pieces::$name],
+        }),*]
+    };
+}
+
+fn names() -> Vec<Name> {
+    names! {
+        fnv1a32 FNV1aHasher32 0
+        fnv1a64 FNV1aHasher64 0
+        djb2 DJB2Hasher 0
+        sdbm SDBMHasher 0
+        loselose LoseLoseHasher 0
+        bricolage Bricolage 0
+        oaat OAATHasher 0
+        lookup3 Lookup3Hasher 0
+        spooky SpookyHasher 192
+        spooky_v1 SpookyHasher 0
+        null NullHasher 0
+        passthrough PassThroughHasher 0
+        fxhash FxHasher 0
+        fxhash32 FxHasher32 0
+        fxhash64 FxHasher64 0
+    }
+}
+
+/// Bytes that look like nothing, the same in each run.
+fn bytes(count: usize) -> Vec<u8> {
+    let mut state: u64 = 0x9e37_79b9_7f4a_7c15;
+    (0..count)
+        .map(|_| {
+            state ^= state << 13;
+            state ^= state >> 7;
+            state ^= state << 17;
+            (state >> 32) as u8
+        })
+        .collect()
+}
+
+fn same(what: &str, original: u64, ours: u64) {
+    assert!(original == ours, "{what}: the original answers {original}, ours {ours}");
+}
+
+/// A time with three figures.
+fn figures(x: f64) -> String {
+    if x >= 100.0 {
+        format!("{x:.0}")
+    } else if x >= 10.0 {
+        format!("{x:.1}")
+    } else {
+        format!("{x:.2}")
+    }
+}
+
+/// A cell, whose times are divided by `unit`.
+fn cell(pair: Pair, unit: f64) -> String {
+    format!(
+        "{} / {} = **{:.2}**",
+        figures(pair.original / unit),
+        figures(pair.ours / unit),
+        pair.ratio()
+    )
+}
+
+fn row(sheet: &Sheet, name: &str, cells: &[String]) {
+    sheet.line(&format!("| {name} | {} |", cells.join(" | ")));
+}
+
+fn head(sheet: &Sheet, title: &str, first: &str, columns: &[String]) {
+    sheet.line(&format!(
+        "
+{title}
+"
+    ));
+    row(sheet, first, columns);
+    sheet.line(&format!("|---|{}", "---:|".repeat(columns.len())));
+}
+
+/// How many keys a call takes.
+const KEYS: usize = 512;
+
+/// The bytes of a text in pieces.
+const LONG: usize = 24 * 1024;
+
+/// The bytes of the longest text.
+const LONGEST: usize = 1 << 20;
+
+fn keys(sheet: &mut Sheet, names: &[Name], text: &[u8], only: &str) {
+    let sizes = [5, 8, 16, 32];
+    head(
+        sheet,
+        "Keys, nanoseconds a key:",
+        "name",
+        &sizes.map(|size| format!("{size} bytes")),
+    );
+    for n in names.iter().filter(|n| n.name.contains(only)) {
+        let cells = sizes.map(|size| {
+            let text = &text[..KEYS * size];
+            let size_now = black_box(size);
+            if size >= n.alike_from {
+                same(
+                    n.name,
+                    call_of_size(n.keys[0], text, size_now),
+                    call_of_size(n.keys[1], text, size_now),
+                );
+            }
+            let pair = sheet.pair(&|| call_of_size(n.keys[0], text, size_now), &|| {
+                call_of_size(n.keys[1], text, size_now)
+            });
+            cell(pair, KEYS as f64)
+        });
+        row(sheet, n.name, &cells);
+    }
+}
+
+fn pieces(sheet: &mut Sheet, names: &[Name], text: &[u8], only: &str) {
+    let sizes = [1, 7, 16, 61, 192];
+    head(
+        sheet,
+        "Pieces of a text of 24 KiB, nanoseconds a piece:",
+        "name",
+        &sizes.map(|size| format!("{size} bytes")),
+    );
+    for n in names.iter().filter(|n| n.name.contains(only)) {
+        let cells = sizes.map(|size| {
+            let text = &text[..LONG];
+            let size_now = black_box(size);
+            same(
+                n.name,
+                call_of_size(n.pieces[0], text, size_now),
+                call_of_size(n.pieces[1], text, size_now),
+            );
+            let pair = sheet.pair(&|| call_of_size(n.pieces[0], text, size_now), &|| {
+                call_of_size(n.pieces[1], text, size_now)
+            });
+            cell(pair, LONG.div_ceil(size) as f64)
+        });
+        row(sheet, n.name, &cells);
+    }
+}
+
+fn texts(sheet: &mut Sheet, names: &[Name], text: &[u8], only: &str, gigahertz: f64) {
+    let lengths = [300, 4096, LONGEST];
+    let mut columns = ["300 bytes, ns", "4 KiB, ns", "1 MiB, µs"].map(String::from).to_vec();
+    columns.push("cycles a byte, ours at 4 KiB".into());
+    head(sheet, "One call over a text:", "name", &columns);
+    for n in names.iter().filter(|n| n.name.contains(only)) {
+        let pairs = lengths.map(|length| {
+            let text = &text[..length];
+            same(n.name, call(n.whole[0], text), call(n.whole[1], text));
+            sheet.pair(&|| call(n.whole[0], text), &|| call(n.whole[1], text))
+        });
+        row(
+            sheet,
+            n.name,
+            &[
+                cell(pairs[0], 1.0),
+                cell(pairs[1], 1.0),
+                cell(pairs[2], 1000.0),
+                format!("{:.2}", pairs[1].ours * gigahertz / 4096.0),
+            ],
+        );
+    }
+}
+
+fn readers(sheet: &mut Sheet, text: &[u8]) {
+    head(
+        sheet,
+        "A reader of 1 MiB in memory, through an array of 4096 bytes, µs:",
+        "name",
+        &["hash_reader".to_string()],
+    );
+    let calls: [(&str, [Call; 2]); 6] = [
+        ("fnv1a64", [original::reader::<FNV1aHasher64>, ours::reader::fnv1a64]),
+        ("sdbm", [original::reader::<SDBMHasher>, ours::reader::sdbm]),
+        ("loselose", [original::reader::<LoseLoseHasher>, ours::reader::loselose]),
+        ("lookup3", [original::reader::<Lookup3Hasher>, ours::reader::lookup3]),
+        ("spooky", [original::reader::<SpookyHasher>, ours::reader::spooky]),
+        ("fxhash", [original::reader::<FxHasher>, ours::reader::fxhash]),
+    ];
+    for (name, [theirs, own]) in calls {
+        same(name, call(theirs, text), call(own, text));
+        let pair = sheet.pair(&|| call(theirs, text), &|| call(own, text));
+        row(sheet, name, &[cell(pair, 1000.0)]);
+    }
+}
+
+fn unwrites(sheet: &mut Sheet, text: &[u8]) {
+    head(
+        sheet,
+        "Ours alone, `write` / `unwrite` of a text of 4 KiB, ns:",
+        "name",
+        &["write / unwrite".to_string()],
+    );
+    let calls: [(&str, [Call; 2]); 10] = [
+        ("fnv1a32", [ours::whole::fnv1a32, ours::unwrite::fnv1a32]),
+        ("fnv1a64", [ours::whole::fnv1a64, ours::unwrite::fnv1a64]),
+        ("djb2", [ours::whole::djb2, ours::unwrite::djb2]),
+        ("sdbm", [ours::whole::sdbm, ours::unwrite::sdbm]),
+        ("loselose", [ours::whole::loselose, ours::unwrite::loselose]),
+        ("bricolage", [ours::whole::bricolage, ours::unwrite::bricolage]),
+        ("oaat", [ours::whole::oaat, ours::unwrite::oaat]),
+        ("fxhash", [ours::whole::fxhash, ours::unwrite::fxhash]),
+        ("fxhash32", [ours::whole::fxhash32, ours::unwrite::fxhash32]),
+        ("fxhash64", [ours::whole::fxhash64, ours::unwrite::fxhash64]),
+    ];
+    let text = &text[..4096];
+    for (name, [write, unwrite]) in calls {
+        let pair = sheet.pair(&|| call(write, text), &|| call(unwrite, text));
+        row(sheet, name, &[cell(pair, 1.0)]);
+    }
+}
+
+fn tables(sheet: &mut Sheet, text: &[u8]) {
+    head(sheet,
+        "Rust's `HashMap` with the original's hasher / `Buckets` with ours and 2048 buckets, 1000 keys of 16 bytes, ns a key:",
+        "name",
+        &["insert into a new table".to_string(), "get".to_string()],
+    );
+    let calls: [(&str, [CallOfTable; 2]); 3] = [
+        ("fnv1a64", [original::table::<FNV1aHasher64>, ours::buckets::fnv1a64]),
+        ("lookup3", [original::table::<Lookup3Hasher>, ours::buckets::lookup3]),
+        ("fxhash", [original::table::<FxHasher>, ours::buckets::fxhash]),
+    ];
+    let (size, rounds, count) = (black_box(16), 32, 1000);
+    let text = &text[..size * count];
+    for (name, [theirs, own]) in calls {
+        same(
+            name,
+            call_of_table(theirs, text, size, 2),
+            call_of_table(own, text, size, 2),
+        );
+        let insert = sheet.pair(&|| call_of_table(theirs, text, size, 0), &|| {
+            call_of_table(own, text, size, 0)
+        });
+        let both = sheet.pair(&|| call_of_table(theirs, text, size, rounds), &|| {
+            call_of_table(own, text, size, rounds)
+        });
+        let get = Pair {
+            original: (both.original - insert.original) / rounds as f64,
+            ours: (both.ours - insert.ours) / rounds as f64,
+        };
+        row(sheet, name, &[cell(insert, count as f64), cell(get, count as f64)]);
+    }
+}
+
+/// The hash of that name of standard input, by the original, through an array of 4096 bytes and one read a piece.
+fn hash_input(name: &str) -> u64 {
+    match name {
+        "fnv1a32" => original::input::<FNV1aHasher32>(),
+        "fnv1a64" => original::input::<FNV1aHasher64>(),
+        "djb2" => original::input::<DJB2Hasher>(),
+        "sdbm" => original::input::<SDBMHasher>(),
+        "loselose" => original::input::<LoseLoseHasher>(),
+        "bricolage" => original::input::<Bricolage>(),
+        "oaat" => original::input::<OAATHasher>(),
+        "lookup3" => original::input::<Lookup3Hasher>(),
+        "spooky" | "spooky_v1" => original::input::<SpookyHasher>(),
+        "null" => original::input::<NullHasher>(),
+        "passthrough" => original::input::<PassThroughHasher>(),
+        "fxhash" => original::input::<FxHasher>(),
+        "fxhash32" => original::input::<FxHasher32>(),
+        "fxhash64" => original::input::<FxHasher64>(),
+        _ => panic!("no such name: {name}"),
+    }
+}
+
+fn main() {
+    if let (Some("hash"), Some(name)) = (std::env::args().nth(1).as_deref(), std::env::args().nth(2)) {
+        println!("{}", hash_input(&name));
+        return;
+    }
+    let only = std::env::args().nth(1).unwrap_or_default();
+    let names = names();
+    let text = bytes(LONGEST);
+    let gigahertz = gigahertz();
+    println!(
+        "{gigahertz:.2} GHz; a cell is the original's median / ours = **the ratio**, each of {} runs by turns; of {} passes the one with the middle ratio",
+        measure::RUNS,
+        measure::PASSES
+    );
+    let mut sheet = Sheet::default();
+    for _ in 0..measure::PASSES {
+        sheet.begin_pass();
+        keys(&mut sheet, &names, &text, &only);
+        pieces(&mut sheet, &names, &text, &only);
+        texts(&mut sheet, &names, &text, &only, gigahertz);
+        if only.is_empty() {
+            readers(&mut sheet, &text);
+            unwrites(&mut sheet, &text);
+            tables(&mut sheet, &text);
+        }
+    }
+}

@@ -1,0 +1,108 @@
+//! Times of two ways to one answer, by turns.
+use std::hint::black_box;
+use std::time::Instant;
+
+/// How many runs each side has.
+pub const RUNS: usize = 31;
+
+/// How long a run takes, about, in nanoseconds.
+const RUN_NANOSECONDS: f64 = 0.3e6;
+
+/// The medians of two sides, in nanoseconds a call.
+#[derive(Clone, Copy)]
+pub struct Pair {
+    pub original: f64,
+    pub ours: f64,
+}
+
+impl Pair {
+    pub fn ratio(&self) -> f64 {
+        self.original / self.ours
+    }
+}
+
+fn time(calls: usize, call: &dyn Fn() -> u64) -> f64 {
+    let start = Instant::now();
+    for _ in 0..calls {
+        black_box(call());
+    }
+    start.elapsed().as_nanos() as f64 / calls as f64
+}
+
+fn median(times: &mut [f64]) -> f64 {
+    times.sort_by(f64::total_cmp);
+    times[times.len() / 2]
+}
+
+/// The median times of both, of runs by turns; which side begins a turn changes with each.
+fn side_by_side(original: &dyn Fn() -> u64, ours: &dyn Fn() -> u64) -> Pair {
+    let first = time(1, original)
+        .max(time(1, ours))
+        .min(time(3, original).max(time(3, ours)));
+    let calls = (RUN_NANOSECONDS / first).ceil().max(1.0) as usize;
+    let (mut theirs, mut own) = (Vec::new(), Vec::new());
+    for turn in 0..RUNS {
+        if turn % 2 == 0 {
+            theirs.push(time(calls, original));
+            own.push(time(calls, ours));
+        } else {
+            own.push(time(calls, ours));
+            theirs.push(time(calls, original));
+        }
+    }
+    Pair {
+        original: median(&mut theirs),
+        ours: median(&mut own),
+    }
+}
+
+/// How often all is measured.
+pub const PASSES: usize = 3;
+
+/// All pairs of each pass, in one order. The last pass prints, of each pair the one with the middle ratio.
+#[derive(Default)]
+pub struct Sheet {
+    passes: Vec<Vec<Pair>>,
+}
+
+impl Sheet {
+    pub fn begin_pass(&mut self) {
+        self.passes.push(Vec::new());
+    }
+
+    pub fn line(&self, text: &str) {
+        if self.passes.len() == PASSES {
+            println!("{text}");
+        }
+    }
+
+    /// Measures both, and answers the pass with the middle ratio of those so far.
+    pub fn pair(&mut self, original: &dyn Fn() -> u64, ours: &dyn Fn() -> u64) -> Pair {
+        let now = side_by_side(original, ours);
+        let mut place = 0;
+        if let Some(pass) = self.passes.last_mut() {
+            place = pass.len();
+            pass.push(now);
+        }
+        let mut pairs: Vec<Pair> = self.passes.iter().map(|pass| pass[place]).collect();
+        pairs.sort_by(|a, b| a.ratio().total_cmp(&b.ratio()));
+        pairs[pairs.len() / 2]
+    }
+}
+
+/// The processor's cycles in a nanosecond: the greatest of a few short counts of sums that wait for one another.
+#[cfg(target_arch = "x86_64")]
+pub fn gigahertz() -> f64 {
+    let mut best: f64 = 0.0;
+    for _ in 0..50 {
+        let start = Instant::now();
+        let mut x: u64 = 1;
+        for _ in 0..1000 {
+            // A hundred sums, each of the one before, take a hundred cycles.
+            unsafe { std::arch::asm!(".rept 100", "add {x}, {x}", ".endr", x = inout(reg) x) };
+        }
+        black_box(x);
+        best = best.max(100_000.0 / start.elapsed().as_nanos() as f64);
+    }
+    best
+}
