@@ -132,6 +132,18 @@ fn head(sheet: &Sheet, title: &str, first: &str, columns: &[String]) {
     sheet.line(&format!("|---|{}", "---:|".repeat(columns.len())));
 }
 
+/// A table with one column, of calls over a text, times divided by `unit`; a row for each name.
+fn column(sheet: &mut Sheet, title: &str, what: &str, rows: &[(&str, [Call; 2])], text: &[u8], unit: f64, alike: bool) {
+    head(sheet, title, "name", &[what.to_string()]);
+    for (name, [first, second]) in rows {
+        if alike {
+            same(name, call(*first, text), call(*second, text));
+        }
+        let pair = sheet.pair(&|| call(*first, text), &|| call(*second, text));
+        row(sheet, name, &[cell(pair, unit)]);
+    }
+}
+
 /// How many keys a call takes.
 const KEYS: usize = 512;
 
@@ -141,66 +153,84 @@ const LONG: usize = 24 * 1024;
 /// The bytes of the longest text.
 const LONGEST: usize = 1 << 20;
 
-fn keys(sheet: &mut Sheet, names: &[Name], text: &[u8], only: &str) {
-    let sizes = [5, 8, 16, 32];
-    head(
-        sheet,
-        "Keys, nanoseconds a key:",
-        "name",
-        &sizes.map(|size| format!("{size} bytes")),
-    );
-    for n in names.iter().filter(|n| n.name.contains(only)) {
-        let cells = sizes.map(|size| {
-            let text = &text[..KEYS * size];
-            let size_now = black_box(size);
-            if size >= n.alike_from {
-                same(
-                    n.name,
-                    call_of_size(n.keys[0], text, size_now),
-                    call_of_size(n.keys[1], text, size_now),
-                );
+/// A table of calls over the parts of a text, a row for each name. `text` is the text for a size, `count` the number of
+/// its parts, and `alike` says whether the original answers the same.
+struct Cut<'a> {
+    title: &'a str,
+    sizes: &'a [usize],
+    text: &'a dyn Fn(usize) -> &'a [u8],
+    count: fn(usize) -> usize,
+}
+
+impl Cut<'_> {
+    fn table(&self, sheet: &mut Sheet, rows: &[(&str, [CallOfSize; 2])], alike: &dyn Fn(&str, usize) -> bool) {
+        let columns: Vec<String> = self.sizes.iter().map(|size| format!("{size} bytes")).collect();
+        head(sheet, self.title, "name", &columns);
+        for (name, [theirs, own]) in rows {
+            let mut cells = Vec::new();
+            for &size in self.sizes {
+                let text = (self.text)(size);
+                let size_now = black_box(size);
+                let original = || call_of_size(*theirs, text, size_now);
+                let ours = || call_of_size(*own, text, size_now);
+                if alike(name, size) {
+                    same(name, original(), ours());
+                }
+                cells.push(cell(sheet.pair(&original, &ours), (self.count)(size) as f64));
             }
-            let pair = sheet.pair(&|| call_of_size(n.keys[0], text, size_now), &|| {
-                call_of_size(n.keys[1], text, size_now)
-            });
-            cell(pair, KEYS as f64)
-        });
-        row(sheet, n.name, &cells);
+            row(sheet, name, &cells);
+        }
     }
 }
 
-fn pieces(sheet: &mut Sheet, names: &[Name], text: &[u8], only: &str) {
-    let sizes = [1, 7, 16, 61, 192];
-    head(
-        sheet,
-        "Pieces of a text of 24 KiB, nanoseconds a piece:",
-        "name",
-        &sizes.map(|size| format!("{size} bytes")),
-    );
-    for n in names.iter().filter(|n| n.name.contains(only)) {
-        let cells = sizes.map(|size| {
-            let text = &text[..LONG];
-            let size_now = black_box(size);
-            same(
-                n.name,
-                call_of_size(n.pieces[0], text, size_now),
-                call_of_size(n.pieces[1], text, size_now),
-            );
-            let pair = sheet.pair(&|| call_of_size(n.pieces[0], text, size_now), &|| {
-                call_of_size(n.pieces[1], text, size_now)
-            });
-            cell(pair, LONG.div_ceil(size) as f64)
-        });
-        row(sheet, n.name, &cells);
+fn keys(sheet: &mut Sheet, names: &[Name], text: &[u8]) {
+    let rows: Vec<(&str, [CallOfSize; 2])> = names.iter().map(|n| (n.name, n.keys)).collect();
+    let alike = |name: &str, size: usize| names.iter().all(|n| n.name != name || size >= n.alike_from);
+    Cut {
+        title: "Keys, nanoseconds a key:",
+        sizes: &[4, 5, 8, 16, 24, 32],
+        text: &|size| &text[..KEYS * size],
+        count: |_| KEYS,
     }
+    .table(sheet, &rows, &alike);
 }
 
-fn texts(sheet: &mut Sheet, names: &[Name], text: &[u8], only: &str, gigahertz: f64) {
+fn pieces(sheet: &mut Sheet, names: &[Name], text: &[u8]) {
+    let rows: Vec<(&str, [CallOfSize; 2])> = names.iter().map(|n| (n.name, n.pieces)).collect();
+    Cut {
+        title: "Pieces of a text of 24 KiB, nanoseconds a piece:",
+        sizes: &[1, 7, 16, 61, 192],
+        text: &|_| &text[..LONG],
+        count: |size| LONG.div_ceil(size),
+    }
+    .table(sheet, &rows, &|_, _| true);
+}
+
+fn numbers(sheet: &mut Sheet, text: &[u8]) {
+    let rows: [(&str, [CallOfSize; 2]); 6] = [
+        ("fnv1a64", [original::numbers::<FNV1aHasher64>, ours::numbers::fnv1a64]),
+        ("djb2", [original::numbers::<DJB2Hasher>, ours::numbers::djb2]),
+        ("lookup3", [original::numbers::<Lookup3Hasher>, ours::numbers::lookup3]),
+        ("fxhash", [original::numbers::<FxHasher>, ours::numbers::fxhash]),
+        ("fxhash32", [original::numbers::<FxHasher32>, ours::numbers::fxhash32]),
+        ("fxhash64", [original::numbers::<FxHasher64>, ours::numbers::fxhash64]),
+    ];
+    Cut {
+        title: "A number as a key, by `write_u8`, `write_u16`, `write_u32` and `write_u64`, nanoseconds a key:",
+        sizes: &[1, 2, 4, 8],
+        text: &|size| &text[..KEYS * size],
+        count: |_| KEYS,
+    }
+    // the original's fx takes 16 bits as one word, ours as the two words of its bytes
+    .table(sheet, &rows, &|name, size| size != 2 || !name.starts_with("fx"));
+}
+
+fn texts(sheet: &mut Sheet, names: &[Name], text: &[u8], gigahertz: f64) {
     let lengths = [300, 4096, LONGEST];
     let mut columns = ["300 bytes, ns", "4 KiB, ns", "1 MiB, µs"].map(String::from).to_vec();
     columns.push("cycles a byte, ours at 4 KiB".into());
     head(sheet, "One call over a text:", "name", &columns);
-    for n in names.iter().filter(|n| n.name.contains(only)) {
+    for n in names {
         let pairs = lengths.map(|length| {
             let text = &text[..length];
             same(n.name, call(n.whole[0], text), call(n.whole[1], text));
@@ -220,13 +250,7 @@ fn texts(sheet: &mut Sheet, names: &[Name], text: &[u8], only: &str, gigahertz: 
 }
 
 fn readers(sheet: &mut Sheet, text: &[u8]) {
-    head(
-        sheet,
-        "A reader of 1 MiB in memory, through an array of 4096 bytes, µs:",
-        "name",
-        &["hash_reader".to_string()],
-    );
-    let calls: [(&str, [Call; 2]); 6] = [
+    let rows: [(&str, [Call; 2]); 6] = [
         ("fnv1a64", [original::reader::<FNV1aHasher64>, ours::reader::fnv1a64]),
         ("sdbm", [original::reader::<SDBMHasher>, ours::reader::sdbm]),
         ("loselose", [original::reader::<LoseLoseHasher>, ours::reader::loselose]),
@@ -234,21 +258,22 @@ fn readers(sheet: &mut Sheet, text: &[u8]) {
         ("spooky", [original::reader::<SpookyHasher>, ours::reader::spooky]),
         ("fxhash", [original::reader::<FxHasher>, ours::reader::fxhash]),
     ];
-    for (name, [theirs, own]) in calls {
-        same(name, call(theirs, text), call(own, text));
-        let pair = sheet.pair(&|| call(theirs, text), &|| call(own, text));
-        row(sheet, name, &[cell(pair, 1000.0)]);
-    }
+    let title = "A reader of 1 MiB in memory, through an array of 4096 bytes, µs:";
+    column(sheet, title, "hash_reader", &rows, text, 1000.0, true);
+}
+
+fn behind(sheet: &mut Sheet, text: &[u8]) {
+    let rows: [(&str, [Call; 2]); 3] = [
+        ("fxhash", [original::behind::<FxHasher>, ours::behind::fxhash]),
+        ("fxhash32", [original::behind::<FxHasher32>, ours::behind::fxhash32]),
+        ("fxhash64", [original::behind::<FxHasher64>, ours::behind::fxhash64]),
+    ];
+    let title = "512 numbers written to one hasher, nanoseconds a number:";
+    column(sheet, title, "write_u64", &rows, &text[..8 * KEYS], KEYS as f64, true);
 }
 
 fn unwrites(sheet: &mut Sheet, text: &[u8]) {
-    head(
-        sheet,
-        "Ours alone, `write` / `unwrite` of a text of 4 KiB, ns:",
-        "name",
-        &["write / unwrite".to_string()],
-    );
-    let calls: [(&str, [Call; 2]); 10] = [
+    let rows: [(&str, [Call; 2]); 10] = [
         ("fnv1a32", [ours::whole::fnv1a32, ours::unwrite::fnv1a32]),
         ("fnv1a64", [ours::whole::fnv1a64, ours::unwrite::fnv1a64]),
         ("djb2", [ours::whole::djb2, ours::unwrite::djb2]),
@@ -260,43 +285,48 @@ fn unwrites(sheet: &mut Sheet, text: &[u8]) {
         ("fxhash32", [ours::whole::fxhash32, ours::unwrite::fxhash32]),
         ("fxhash64", [ours::whole::fxhash64, ours::unwrite::fxhash64]),
     ];
-    let text = &text[..4096];
-    for (name, [write, unwrite]) in calls {
-        let pair = sheet.pair(&|| call(write, text), &|| call(unwrite, text));
-        row(sheet, name, &[cell(pair, 1.0)]);
-    }
+    let title = "Ours alone, `write` / `unwrite` of a text of 4 KiB, ns:";
+    column(sheet, title, "write / unwrite", &rows, &text[..4096], 1.0, false);
 }
 
 fn tables(sheet: &mut Sheet, text: &[u8]) {
     head(sheet,
         "Rust's `HashMap` with the original's hasher / `Buckets` with ours and 2048 buckets, 1000 keys of 16 bytes, ns a key:",
         "name",
-        &["insert into a new table".to_string(), "get".to_string()],
+        &["insert into a new table, and free it", "get", "insert, remove, and free it"].map(String::from),
     );
-    let calls: [(&str, [CallOfTable; 2]); 3] = [
-        ("fnv1a64", [original::table::<FNV1aHasher64>, ours::buckets::fnv1a64]),
-        ("lookup3", [original::table::<Lookup3Hasher>, ours::buckets::lookup3]),
-        ("fxhash", [original::table::<FxHasher>, ours::buckets::fxhash]),
+    let calls: [(&str, [CallOfTable; 2], [CallOfSize; 2]); 3] = [
+        (
+            "fnv1a64",
+            [original::table::<FNV1aHasher64>, ours::buckets::fnv1a64],
+            [original::emptied::<FNV1aHasher64>, ours::emptied::fnv1a64],
+        ),
+        (
+            "lookup3",
+            [original::table::<Lookup3Hasher>, ours::buckets::lookup3],
+            [original::emptied::<Lookup3Hasher>, ours::emptied::lookup3],
+        ),
+        (
+            "fxhash",
+            [original::table::<FxHasher>, ours::buckets::fxhash],
+            [original::emptied::<FxHasher>, ours::emptied::fxhash],
+        ),
     ];
     let (size, rounds, count) = (black_box(16), 32, 1000);
     let text = &text[..size * count];
-    for (name, [theirs, own]) in calls {
-        same(
-            name,
-            call_of_table(theirs, text, size, 2),
-            call_of_table(own, text, size, 2),
-        );
-        let insert = sheet.pair(&|| call_of_table(theirs, text, size, 0), &|| {
-            call_of_table(own, text, size, 0)
-        });
-        let both = sheet.pair(&|| call_of_table(theirs, text, size, rounds), &|| {
-            call_of_table(own, text, size, rounds)
-        });
+    for (name, tables, emptied) in calls {
+        let asked = |side: usize, rounds: usize| call_of_table(tables[side], text, size, rounds);
+        let taken = |side: usize| call_of_size(emptied[side], text, size);
+        same(name, asked(0, 2), asked(1, 2));
+        same(name, taken(0), taken(1));
+        let insert = sheet.pair(&|| asked(0, 0), &|| asked(1, 0));
+        let both = sheet.pair(&|| asked(0, rounds), &|| asked(1, rounds));
+        let remove = sheet.pair(&|| taken(0), &|| taken(1));
         let get = Pair {
             original: (both.original - insert.original) / rounds as f64,
             ours: (both.ours - insert.ours) / rounds as f64,
         };
-        row(sheet, name, &[cell(insert, count as f64), cell(get, count as f64)]);
+        row(sheet, name, &[insert, get, remove].map(|pair| cell(pair, count as f64)));
     }
 }
 
@@ -327,7 +357,8 @@ fn main() {
         return;
     }
     let only = std::env::args().nth(1).unwrap_or_default();
-    let names = names();
+    let mut names = names();
+    names.retain(|n| n.name.contains(&only));
     let text = bytes(LONGEST);
     let gigahertz = gigahertz();
     println!(
@@ -338,10 +369,12 @@ fn main() {
     let mut sheet = Sheet::default();
     for _ in 0..measure::PASSES {
         sheet.begin_pass();
-        keys(&mut sheet, &names, &text, &only);
-        pieces(&mut sheet, &names, &text, &only);
-        texts(&mut sheet, &names, &text, &only, gigahertz);
+        keys(&mut sheet, &names, &text);
+        pieces(&mut sheet, &names, &text);
+        texts(&mut sheet, &names, &text, gigahertz);
         if only.is_empty() {
+            numbers(&mut sheet, &text);
+            behind(&mut sheet, &text);
             readers(&mut sheet, &text);
             unwrites(&mut sheet, &text);
             tables(&mut sheet, &text);

@@ -15,16 +15,48 @@ pub unsafe extern "C" fn whole<H: Default + Hasher>(at: *const u8, len: usize) -
     hasher.finish()
 }
 
-/// The xor of the keys' hashes.
+/// The keys' hashes, folded into one number in order.
 pub unsafe extern "C" fn keys<H: Default + Hasher>(at: *const u8, len: usize, size: usize) -> u64 {
     let keys = from_raw_parts(at, len);
-    let mut all = 0;
+    let mut all: u64 = 0;
     for key in keys.chunks_exact(size) {
         let mut hasher = H::default();
         hasher.write(key);
-        all ^= hasher.finish();
+        all = all.rotate_left(1) ^ hasher.finish();
     }
     all
+}
+
+/// The hash of each number of `width` bytes by the write of that width, folded into one number.
+pub unsafe extern "C" fn numbers<H: Default + Hasher>(at: *const u8, len: usize, width: usize) -> u64 {
+    let text = from_raw_parts(at, len);
+    match width {
+        1 => all_numbers::<H, 1>(text, |h, number| h.write_u8(number[0])),
+        2 => all_numbers::<H, 2>(text, |h, number| h.write_u16(u16::from_le_bytes(number))),
+        4 => all_numbers::<H, 4>(text, |h, number| h.write_u32(u32::from_le_bytes(number))),
+        _ => all_numbers::<H, 8>(text, |h, number| h.write_u64(u64::from_le_bytes(number))),
+    }
+}
+
+#[inline(always)]
+fn all_numbers<H: Default + Hasher, const W: usize>(text: &[u8], write: impl Fn(&mut H, [u8; W])) -> u64 {
+    let mut all: u64 = 0;
+    for number in text.as_chunks::<W>().0 {
+        let mut hasher = H::default();
+        write(&mut hasher, *number);
+        all = all.rotate_left(1) ^ hasher.finish();
+    }
+    all
+}
+
+/// One hasher over all numbers of eight bytes.
+pub unsafe extern "C" fn behind<H: Default + Hasher>(at: *const u8, len: usize) -> u64 {
+    let text = from_raw_parts(at, len);
+    let mut hasher = H::default();
+    for number in text.as_chunks::<8>().0 {
+        hasher.write_u64(u64::from_le_bytes(*number));
+    }
+    hasher.finish()
 }
 
 /// One hasher over the pieces of a text.
@@ -59,18 +91,36 @@ pub fn input<H: Default + Hasher>() -> u64 {
     read_through::<H, File>(&mut ManuallyDrop::new(unsafe { File::from_raw_fd(0) }))
 }
 
-/// Rust's map under this hasher: each key is put in with its number, and then asked for `rounds` times.
-pub unsafe extern "C" fn table<H: Default + Hasher>(at: *const u8, len: usize, size: usize, rounds: usize) -> u64 {
-    let keys = from_raw_parts(at, len);
-    let mut table: HashMap<Vec<u8>, u64, BuildHasherDefault<H>> = HashMap::default();
+/// Rust's map under this hasher, with each key and its number.
+#[inline(always)]
+fn filled<H: Default + Hasher>(keys: &[u8], size: usize) -> HashMap<Vec<u8>, u64, BuildHasherDefault<H>> {
+    let mut table = HashMap::default();
     for (number, key) in keys.chunks_exact(size).enumerate() {
         table.insert(key.to_vec(), number as u64);
     }
+    table
+}
+
+/// Each key is put in with its number, and then asked for `rounds` times.
+pub unsafe extern "C" fn table<H: Default + Hasher>(at: *const u8, len: usize, size: usize, rounds: usize) -> u64 {
+    let keys = from_raw_parts(at, len);
+    let table = filled::<H>(keys, size);
     let mut sum: u64 = 0;
     for _ in 0..rounds {
         for key in keys.chunks_exact(size) {
             sum = sum.wrapping_add(table.get(key).copied().unwrap_or(0));
         }
+    }
+    sum
+}
+
+/// Each key is put in with its number, and then taken out.
+pub unsafe extern "C" fn emptied<H: Default + Hasher>(at: *const u8, len: usize, size: usize) -> u64 {
+    let keys = from_raw_parts(at, len);
+    let mut table = filled::<H>(keys, size);
+    let mut sum: u64 = 0;
+    for key in keys.chunks_exact(size) {
+        sum = sum.wrapping_add(table.remove(key).unwrap_or(0));
     }
     sum
 }

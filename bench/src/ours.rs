@@ -24,7 +24,10 @@ calls! {
     unwrite (at: *const u8, len: usize): fnv1a32 fnv1a64 djb2 sdbm loselose bricolage oaat fxhash fxhash32 fxhash64;
     keys (at: *const u8, len: usize, size: usize): fnv1a32 fnv1a64 djb2 sdbm loselose bricolage oaat lookup3 spooky spooky_v1 null passthrough fxhash fxhash32 fxhash64;
     pieces (at: *const u8, len: usize, size: usize): fnv1a32 fnv1a64 djb2 sdbm loselose bricolage oaat lookup3 spooky spooky_v1 null passthrough fxhash fxhash32 fxhash64;
+    numbers (at: *const u8, len: usize, width: usize): fnv1a64 djb2 lookup3 fxhash fxhash32 fxhash64;
+    behind (at: *const u8, len: usize): fxhash fxhash32 fxhash64;
     buckets (at: *const u8, len: usize, size: usize, rounds: usize): fnv1a64 lookup3 fxhash;
+    emptied (at: *const u8, len: usize, size: usize): fnv1a64 lookup3 fxhash;
 }
 
 /// What the heap answers: whether there is memory, and where.

@@ -1,6 +1,8 @@
 -- Recurrences by the last byte, from the front too.
-use Rattle.std.proofs.Common.{ℕ, ◌≡◌, ◌+◌, ◌-◌, ◌<◌, ◌≤◌, arith, List, [], ◌∷◌, ◌++◌, length, take, drop, get_or, fold, reverse, refl, ap, sym, ◌∙◌}
-use Rattle.std.proofs.lemmas.List.{reverse-append, append-nil, append_assoc, take_more, drop_more, take_all}
+use Rattle.std.proofs.Common.{ℕ, zero, suc, ◌≡◌, ◌+◌, ◌-◌, ◌*◌, ◌/◌, ◌%◌, ◌<◌, ◌≤◌, arith, List, [], ◌∷◌, ◌++◌, length, take, drop, get_or, fold, reverse, refl, ap, sym, ◌∙◌}
+use Rattle.std.proofs.lemmas.List.{reverse-append, append-nil, append_assoc, take_more, drop_more, take_all, take-append-drop, length-drop, nil_from_length}
+use Rattle.std.proofs.lemmas.List.Sums.{fold_more}
+use Rattle.std.specs.Simd.{first_chunks}
 use Rattle.hash_laws.specs.Recurrence.{from_last, recurrence}
 
 module _ {S : Type 0} (step : S → ℕ → S) where
@@ -31,9 +33,35 @@ module _ {S : Type 0} (step : S → ℕ → S) where
   pub recurrence_more : (s : S) (text : List ℕ) (i : ℕ) → i < length text → recurrence step s (take (i + 1) text) ≡ step (recurrence step s (take i text)) (get_or text i 0)
   recurrence_more s text i below = ap (recurrence step s) (take_more text i 0 below) ∙ recurrence-push s (take i text) (get_or text i 0)
 
+  -- a text of one byte
+  pub recurrence_one : (s : S) (text : List ℕ) → 1 ≤ length text → length text < 2 → recurrence step s text ≡ step s (get_or text 0 0)
+  unfolding recurrence
+  recurrence_one s [] some few = absurd (omega arith)
+  recurrence_one s (byte ∷ []) some few = refl
+  recurrence_one s (byte ∷ more ∷ rest) some few = absurd (omega arith)
+
+  -- a text of k chunks, chunk by chunk
+  chunked : (n k : ℕ) (s : S) (text : List ℕ) → length text ≡ k * n → fold (recurrence step) s (first_chunks n k text) ≡ recurrence step s text
+  chunked n zero s text whole = rw (nil_from_length text (omega arith)) (sym (recurrence-nil s))
+  chunked n (suc k) s text whole =
+      chunked n k (recurrence step s (take n text)) (drop n text) (omega (arith, length-drop n text))
+      ∙ sym (recurrence-append s (take n text) (drop n text)) ∙ ap (recurrence step s) (take-append-drop n text)
+
+  -- the few bytes that come before the whole eights, and then eight by eight
+  pub recurrence_by_eights : (s : S) (text : List ℕ)
+      → fold (recurrence step) (recurrence step s (take (length text % 8) text)) (first_chunks 8 (length text / 8) (drop (length text % 8) text))
+        ≡ recurrence step s text
+  recurrence_by_eights s text =
+      let few = length text % 8 in
+      chunked 8 (length text / 8) (recurrence step s (take few text)) (drop few text) (omega (arith, length-drop few text))
+      ∙ sym (recurrence-append s (take few text) (drop few text)) ∙ ap (recurrence step s) (take-append-drop few text)
+
 -- the form in which laws take it
 pub recurrence_is_fold : (step : ℕ → ℕ → ℕ) (bound s : ℕ) (text : List ℕ) → s < bound → recurrence step s text ≡ fold step s text
 recurrence_is_fold step bound s text known = recurrence-fold step s text
 
 -- the turns of a loop over the bytes of a text, from the front
 pub ruleset turns = (recurrence-nil, recurrence_more, take_all)
+
+-- the turns of a loop over the eights of a text, behind its few first bytes
+pub ruleset turns_of_eight = (fold_more, take_all, recurrence_one, recurrence_by_eights)

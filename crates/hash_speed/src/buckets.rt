@@ -10,20 +10,13 @@ use std::alloc::Global;
 /// How many buckets a table has.
 const BUCKETS: usize = 2048;
 
-/// Puts each key in with its number, and then asks for each key `rounds` times: the sum of the values, or `None` where
-/// memory is short.
+/// A table with each key and its number, or `None` where memory is short.
 #[inline(always)]
-fn put_and_asked<H: Piecewise>(
-    alloc: Global,
-    keys: &[u8],
-    size: usize,
-    rounds: usize,
-) -> Option<u64> {
+fn filled<H: Piecewise>(alloc: Global, keys: &[u8], size: usize) -> Option<Buckets<H, BUCKETS>> {
     let mut table: Buckets<H, BUCKETS> = match Buckets::new(alloc) {
         Ok(table) => table,
         Err(NoTable) => return None,
     };
-    let mut sum: u64 = 0;
     if size > 0 {
         let mut number: u64 = 0;
         for key in keys.chunks_exact(size) {
@@ -34,10 +27,39 @@ fn put_and_asked<H: Piecewise>(
             }
             number = number.wrapping_add(1);
         }
+    }
+    Some(table)
+}
+
+/// Puts each key in with its number, and then asks for each key `rounds` times: the sum of the values, or `None` where
+/// memory is short.
+#[inline(always)]
+fn put_and_asked<H: Piecewise>(
+    alloc: Global,
+    keys: &[u8],
+    size: usize,
+    rounds: usize,
+) -> Option<u64> {
+    let table = filled::<H>(alloc, keys, size)?;
+    let mut sum: u64 = 0;
+    if size > 0 {
         for _ in 0..rounds {
             for key in keys.chunks_exact(size) {
                 sum = sum.wrapping_add(table.get(key).unwrap_or(0));
             }
+        }
+    }
+    Some(sum)
+}
+
+/// Puts each key in with its number, and then takes each out: the sum of the values, or `None` where memory is short.
+#[inline(always)]
+fn put_and_taken<H: Piecewise>(alloc: Global, keys: &[u8], size: usize) -> Option<u64> {
+    let mut table = filled::<H>(alloc, keys, size)?;
+    let mut sum: u64 = 0;
+    if size > 0 {
+        for key in keys.chunks_exact(size) {
+            sum = sum.wrapping_add(table.remove(key).unwrap_or(0));
         }
     }
     Some(sum)
@@ -74,4 +96,22 @@ pub extern "C" fn hash_speed_buckets_fxhash(
     rounds: usize,
 ) -> u64 {
     put_and_asked::<FxHasher>(alloc, keys, size, rounds).unwrap_or(u64::MAX)
+}
+
+/// A table over FNV-1a at 64 bits that is filled and emptied.
+#[unsafe(no_mangle)]
+pub extern "C" fn hash_speed_emptied_fnv1a64(alloc: Global, keys: &[u8], size: usize) -> u64 {
+    put_and_taken::<FNV1aHasher64>(alloc, keys, size).unwrap_or(u64::MAX)
+}
+
+/// A table over lookup3 that is filled and emptied.
+#[unsafe(no_mangle)]
+pub extern "C" fn hash_speed_emptied_lookup3(alloc: Global, keys: &[u8], size: usize) -> u64 {
+    put_and_taken::<Lookup3Hasher>(alloc, keys, size).unwrap_or(u64::MAX)
+}
+
+/// A table over fx that is filled and emptied.
+#[unsafe(no_mangle)]
+pub extern "C" fn hash_speed_emptied_fxhash(alloc: Global, keys: &[u8], size: usize) -> u64 {
+    put_and_taken::<FxHasher>(alloc, keys, size).unwrap_or(u64::MAX)
 }

@@ -1,4 +1,5 @@
-//! Many keys of one length, which lie one behind another, in one call: the xor of their hashes.
+//! Many keys of one length, which lie one behind another, in one call: their hashes, folded into one number in order, so
+//! that no compiler hashes several keys at once in lanes, which no caller with one key can do.
 
 use hash_fx::{FxHasher, FxHasher32, FxHasher64};
 use hashers::fnv::{FNV1aHasher32, FNV1aHasher64};
@@ -10,15 +11,15 @@ use hashers::oz::{DJB2Hasher, LoseLoseHasher, SDBMHasher};
 use hashers::pigeon::Bricolage;
 use std::hash::Hasher;
 
-/// The hash of each key, xored.
+/// The hash of each key, folded into one number.
 #[inline(always)]
 fn all_keys<H: Piecewise>(keys: &[u8], size: usize) -> u64 {
-    let mut all = 0;
+    let mut all: u64 = 0;
     if size > 0 {
         for key in keys.chunks_exact(size) {
             let mut hasher = H::fresh();
             hasher.feed(key);
-            all ^= hasher.answer();
+            all = all.rotate_left(1) ^ hasher.answer();
         }
     }
     all
@@ -81,12 +82,12 @@ pub extern "C" fn hash_speed_keys_spooky(keys: &[u8], size: usize) -> u64 {
 /// Version 1 of SpookyHash of the keys.
 #[unsafe(no_mangle)]
 pub extern "C" fn hash_speed_keys_spooky_v1(keys: &[u8], size: usize) -> u64 {
-    let mut all = 0;
+    let mut all: u64 = 0;
     if size > 0 {
         for key in keys.chunks_exact(size) {
             let mut hasher = SpookyHasher::default();
             hasher.write(key);
-            all ^= hasher.finish128_v1().0;
+            all = all.rotate_left(1) ^ hasher.finish128_v1().0;
         }
     }
     all

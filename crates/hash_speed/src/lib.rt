@@ -7,6 +7,7 @@
 
 mod buckets;
 mod keys;
+mod numbers;
 mod pieces;
 mod reader;
 mod unwrite;

@@ -1,5 +1,5 @@
 //! How a caller uses the library: five proved examples.
-ghost use Rattle.std.specs.Prelude.{◌≡◌, ◌≢◌, ◌<◌, ◌^◌, ℕ, IfSome, IfOk, OnErr};
+ghost use Rattle.std.specs.Prelude.{◌≡◌, ◌≢◌, ◌<◌, ◌^◌, ℕ, IfSome, IfOk, OnErr, OnOk};
 ghost use Rattle.std.specs.Bool.{OnFalse};
 ghost use Rattle.std.specs.FinMap as map;
 ghost use Rattle.hashers.specs.ByteSteps.{oaat_finish};
@@ -65,6 +65,7 @@ pub fn remember<H: Piecewise>(
     value: u64,
 ) -> Result<Option<u64>, NoRoom>
     ensures before { IfOk result (λ old. old ≡ map.get table.old key.items) }
+    ensures after { OnOk result (table.new ≡ map.insert table.old key.items value) }
     ensures unchanged { OnErr result (table.new ≡ table.old) }
 {
     table.insert(key, value)

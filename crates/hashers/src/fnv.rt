@@ -54,6 +54,19 @@ fn stepped_32(state: u32, byte: u8) -> u32
     (state ^ u32::from(byte)).wrapping_mul(PRIME_32)
 }
 
+/// The bytes in, one step for each, at 32 bits.
+#[inline(always)]
+#[tactic(auto, using(hash_laws::proofs::RecurrenceLemmas::turns))]
+fn bytes_in_32(state: u32, bytes: &[u8]) -> u32
+    ensures { result ≡ fnv1a32 state bytes.now }
+{
+    let mut h = state;
+    for byte in bytes {
+        h = stepped_32(h, *byte);
+    }
+    h
+}
+
 /// One byte back, at 32 bits.
 #[inline(always)]
 #[tactic(auto, using(hash_rounds::proofs::ByteStepLemmas::fnv1a32_back))]
@@ -69,6 +82,19 @@ fn stepped_64(state: u64, byte: u8) -> u64
     ensures { result ≡ fnv1a64_step state byte }
 {
     (state ^ u64::from(byte)).wrapping_mul(PRIME_64)
+}
+
+/// The bytes in, one step for each, at 64 bits.
+#[inline(always)]
+#[tactic(auto, using(hash_laws::proofs::RecurrenceLemmas::turns))]
+fn bytes_in_64(state: u64, bytes: &[u8]) -> u64
+    ensures { result ≡ fnv1a64 state bytes.now }
+{
+    let mut h = state;
+    for byte in bytes {
+        h = stepped_64(h, *byte);
+    }
+    h
 }
 
 /// One byte back, at 64 bits.
@@ -120,17 +146,22 @@ impl Hasher for FNV1aHasher32 {
         u64::from(self.state)
     }
 
-    /// Takes the bytes in, one step for each.
+    /// Takes the bytes in, one step for each. Eight steps at a time are straight code, and so is a single one.
     #[inline(always)]
-    #[tactic(auto, using(hash_laws::proofs::RecurrenceLemmas::turns))]
+    #[tactic(auto, using(hash_laws::proofs::RecurrenceLemmas::turns_of_eight))]
     fn write(&mut self, bytes: &[u8])
         ensures state { self.new ≡ fnv1a32 self.old bytes.now }
         ensures known_before { self.old < 2 ^ 32 }
         ensures known_after { self.new < 2 ^ 32 }
     {
-        let mut state = self.state;
-        for byte in bytes {
-            state = stepped_32(state, *byte);
+        if let [byte] = bytes {
+            self.state = stepped_32(self.state, *byte);
+            return;
+        }
+        let (few, eights) = bytes.as_rchunks::<8>();
+        let mut state = bytes_in_32(self.state, few);
+        for eight in eights {
+            state = bytes_in_32(state, eight);
         }
         self.state = state;
     }
@@ -298,17 +329,22 @@ impl Hasher for FNV1aHasher64 {
         self.state // as it is, at 64 bits
     }
 
-    /// Takes the bytes in, one step for each.
+    /// Takes the bytes in, one step for each. Eight steps at a time are straight code, and so is a single one.
     #[inline(always)]
-    #[tactic(auto, using(hash_laws::proofs::RecurrenceLemmas::turns))]
+    #[tactic(auto, using(hash_laws::proofs::RecurrenceLemmas::turns_of_eight))]
     fn write(&mut self, bytes: &[u8])
         ensures state { self.new ≡ fnv1a64 self.old bytes.now }
         ensures known_before { self.old < 2 ^ 64 }
         ensures known_after { self.new < 2 ^ 64 }
     {
-        let mut state = self.state;
-        for byte in bytes {
-            state = stepped_64(state, *byte);
+        if let [byte] = bytes {
+            self.state = stepped_64(self.state, *byte);
+            return;
+        }
+        let (few, eights) = bytes.as_rchunks::<8>();
+        let mut state = bytes_in_64(self.state, few);
+        for eight in eights {
+            state = bytes_in_64(state, eight);
         }
         self.state = state;
     }

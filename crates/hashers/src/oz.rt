@@ -49,6 +49,19 @@ fn djb2_stepped(state: u32, byte: u8) -> u32
     (state << 5).wrapping_add(state) ^ u32::from(byte)
 }
 
+/// The bytes of djb2 in, one step for each.
+#[inline(always)]
+#[tactic(auto, using(hash_laws::proofs::RecurrenceLemmas::turns))]
+fn djb2_bytes_in(state: u32, bytes: &[u8]) -> u32
+    ensures { result ≡ djb2 state bytes.now }
+{
+    let mut h = state;
+    for byte in bytes {
+        h = djb2_stepped(h, *byte);
+    }
+    h
+}
+
 /// One byte of djb2 back.
 #[inline(always)]
 #[tactic(auto, using(hash_rounds::proofs::ByteStepLemmas::djb2_back))]
@@ -146,17 +159,18 @@ impl Hasher for DJB2Hasher {
         u64::from(self.state) // of djb2
     }
 
-    /// Takes the bytes in, one step for each.
+    /// Takes the bytes in, one step for each. Eight steps at a time are straight code.
     #[inline(always)]
-    #[tactic(auto, using(hash_laws::proofs::RecurrenceLemmas::turns))]
+    #[tactic(auto, using(hash_laws::proofs::RecurrenceLemmas::turns_of_eight))]
     fn write(&mut self, bytes: &[u8])
         ensures state { self.new ≡ djb2 self.old bytes.now }
         ensures known_before { self.old < 2 ^ 32 }
         ensures known_after { self.new < 2 ^ 32 }
     {
-        let mut state = self.state;
-        for byte in bytes {
-            state = djb2_stepped(state, *byte);
+        let (few, eights) = bytes.as_rchunks::<8>();
+        let mut state = djb2_bytes_in(self.state, few);
+        for eight in eights {
+            state = djb2_bytes_in(state, eight);
         }
         self.state = state;
     }
@@ -334,7 +348,7 @@ impl Hasher for SDBMHasher {
         u64::from(self.state) // of sdbm
     }
 
-    /// Takes the bytes in, four in each turn of `sdbm4` and the last up to three alone.
+    /// Takes the bytes in, four in each turn of `sdbm4` and the last up to three alone. A single byte has no loop.
     #[inline(always)]
     fn write(&mut self, bytes: &[u8])
         ensures value { self.new ≡ sdbm_write self.old bytes.now }
@@ -343,6 +357,10 @@ impl Hasher for SDBMHasher {
         ensures known_before { self.old.state < 2 ^ 32 }
         ensures known_after { self.new.state < 2 ^ 32 }
     {
+        if let [byte] = bytes {
+            self.state = sdbm_stepped(self.state, *byte);
+            return;
+        }
         let (fours, rest) = bytes.as_chunks::<4>();
         for four in fours {
             self.state = sdbm4(self.state, four, &mut self.turns);
@@ -531,7 +549,8 @@ impl Hasher for LoseLoseHasher {
         self.state // as it is, of lose lose
     }
 
-    /// Sums the bytes, eight in each turn of `lose8` and the last up to seven alone, and adds the sum.
+    /// Sums the bytes, eight in each turn of `lose8` and the last up to seven alone, and adds the sum. A single byte has
+    /// no loop.
     #[inline(always)]
     fn write(&mut self, bytes: &[u8])
         ensures value { self.new ≡ loselose_write self.old bytes.now }
@@ -540,6 +559,10 @@ impl Hasher for LoseLoseHasher {
         ensures known_before { self.old.state < 2 ^ 64 }
         ensures known_after { self.new.state < 2 ^ 64 }
     {
+        if let [byte] = bytes {
+            self.state = loselose_stepped(self.state, *byte);
+            return;
+        }
         let (eights, rest) = bytes.as_chunks::<8>();
         let mut sum: u64 = 0;
         for eight in eights {

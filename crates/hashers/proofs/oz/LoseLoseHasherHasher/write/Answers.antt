@@ -3,6 +3,7 @@ use Rattle.std.proofs.Math.Nat.{mod-add-mod, add-mod-mod}
 use Rattle.std.proofs.lemmas.List.Sums.{sum_by-append}
 use Rattle.hash_rounds.specs.Sums.{loselose}
 use Rattle.hash_rounds.proofs.Chunks.{take_chunk}
+use Rattle.hash_rounds.proofs.SumLemmas.{loselose_of_one}
 use Rattle.hashers.proofs.oz.LoseLoseHasherHasher.write.Goals as goal
 
 -- the sum of a part and then of the rest is that of the whole
@@ -53,3 +54,16 @@ returns-clause-turns c =
 
 pub returns-clause-value : goal.returns-clause-value
 returns-clause-value c = λ i. record { state = returns-clause-state c i; turns = returns-clause-turns c i }
+
+pub returns-in-len1-clause-state : goal.returns-in-len1-clause-state
+returns-in-len1-clause-state c =
+    c.loselose_stepped-self-inside.ensures ∙ sym (loselose_of_one c.self.inside.state c.args.bytes.now c.in-len1.len_at_least c.in-len1.len_below)
+    ∙ ap (λ v. loselose v.state c.args.bytes.now) c.self.view_is
+
+pub returns-in-len1-clause-turns : goal.returns-in-len1-clause-turns
+returns-in-len1-clause-turns c =
+    let none : c.args.self.now.turns ≡ c.args.self.now.turns + length c.args.bytes.now / 8 = omega (arith, c.in-len1.len_below) in
+    ap (λ v. v.turns) c.self.view_is ∙ none
+
+pub returns-in-len1-clause-value : goal.returns-in-len1-clause-value
+returns-in-len1-clause-value c = λ i. record { state = returns-in-len1-clause-state c i; turns = returns-in-len1-clause-turns c i }

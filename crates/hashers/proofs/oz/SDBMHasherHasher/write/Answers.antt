@@ -2,7 +2,7 @@ use Rattle.std.proofs.Common.{◌≡◌, ◌+◌, ◌*◌, ◌<◌, ◌/◌, ◌
 use Rattle.std.proofs.Math.Nat.{mod-lt}
 use Rattle.std.proofs.lemmas.List.{take_more}
 use Rattle.hash_rounds.specs.Sums.{sdbm}
-use Rattle.hash_rounds.proofs.SumLemmas.{sdbm-nil, sdbm-append, sdbm_push}
+use Rattle.hash_rounds.proofs.SumLemmas.{sdbm-nil, sdbm-append, sdbm_of_one, sdbm_push}
 use Rattle.hash_rounds.proofs.Chunks.{take_chunk}
 use Rattle.hashers.proofs.oz.SDBMHasherHasher.write.Goals as goal
 
@@ -50,3 +50,16 @@ returns-clause-turns c =
 
 pub returns-clause-value : goal.returns-clause-value
 returns-clause-value c = λ i. record { state = returns-clause-state c i; turns = returns-clause-turns c i }
+
+pub returns-in-len1-clause-state : goal.returns-in-len1-clause-state
+returns-in-len1-clause-state c =
+    c.sdbm_stepped-self-inside.ensures ∙ sym (sdbm_of_one c.self.inside.state c.args.bytes.now c.in-len1.len_at_least c.in-len1.len_below)
+    ∙ ap (λ v. sdbm v.state c.args.bytes.now) c.self.view_is
+
+pub returns-in-len1-clause-turns : goal.returns-in-len1-clause-turns
+returns-in-len1-clause-turns c =
+    let none : c.args.self.now.turns ≡ c.args.self.now.turns + length c.args.bytes.now / 4 = omega (arith, c.in-len1.len_below) in
+    ap (λ v. v.turns) c.self.view_is ∙ none
+
+pub returns-in-len1-clause-value : goal.returns-in-len1-clause-value
+returns-in-len1-clause-value c = λ i. record { state = returns-in-len1-clause-state c i; turns = returns-in-len1-clause-turns c i }
