@@ -77,3 +77,28 @@ fn forty_commands(rt: HostRuntime) -> Result<(), Fail> {
     }
     Ok(())
 }
+
+/// A list of commands, whose replies are those of a map.
+#[test]
+fn commands_in_order(rt: HostRuntime) -> Result<(), Fail> {
+    let alloc = rt.alloc();
+    let mut table = match Buckets::<FNV1aHasher64, 3>::new(alloc) {
+        Ok(table) => table,
+        Err(NoTable) => return Ok(()),
+    };
+    let mut commands = Vec::new(alloc);
+    commands.push(Command::Insert(Vec::from_slice(alloc, b"a")?, 1))?;
+    commands.push(Command::Insert(Vec::from_slice(alloc, b"a")?, 2))?;
+    commands.push(Command::Get(Vec::from_slice(alloc, b"a")?))?;
+    commands.push(Command::Remove(Vec::from_slice(alloc, b"a")?))?;
+    commands.push(Command::Get(Vec::from_slice(alloc, b"a")?))?;
+    let Ok(replies) = obey_all(alloc, &mut table, commands) else {
+        return Ok(());
+    };
+    assert_eq!(rt;
+        replies.as_slice(),
+        [None, Some(1), Some(2), Some(2), None].as_slice()
+    );
+    assert_eq!(rt; table.len(), 0);
+    Ok(())
+}

@@ -2,6 +2,7 @@
 
 mod laws;
 mod original;
+mod promises;
 mod readers;
 mod sample;
 mod tables;

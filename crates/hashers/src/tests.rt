@@ -216,3 +216,12 @@ fn words_of_two_letters(rt: HostRuntime) {
     assert!(rt; same_word(b"abc", b"abc"));
     assert!(rt; !same_word(b"abc", b"abd"));
 }
+
+/// Laws are calls that do nothing.
+#[test]
+fn laws_are_calls() {
+    crate::fnv::origin_of_constants();
+    crate::oz::origin_of_constants();
+    crate::oz::sdbm_of_joined_texts();
+    crate::oz::loselose_ignores_order();
+}
