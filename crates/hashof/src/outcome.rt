@@ -1,5 +1,6 @@
 //! How a run of the program ends.
 ghost use Rattle.std.specs.Prelude.{◌≡◌};
+ghost use Rattle.hashof.specs.Status.{complaint_of, status_of};
 
 use crate::run::RunFault;
 use hashers::engine::Fault;
@@ -28,7 +29,9 @@ impl Drop for Outcome {
 }
 
 /// What the program writes on standard error, with its newline; nothing where the hash was told.
-pub fn outcome_line(outcome: &Outcome) -> &'static str {
+pub fn outcome_line(outcome: &Outcome) -> &'static str
+    ensures { result.now ≡ complaint_of outcome.now }
+{
     match outcome {
         Outcome::Done => "",
         Outcome::Usage => "usage: hashof NAME\n",
@@ -39,8 +42,6 @@ pub fn outcome_line(outcome: &Outcome) -> &'static str {
         Outcome::Failed(RunFault::WriteFault(_)) => "hashof: write fault\n",
     }
 }
-
-ghost use Rattle.hashof.specs.Status.{status_of};
 
 /// The status that the program ends with: 0 where the hash was told, 2 where the call was wrong, 1 where it failed.
 pub fn outcome_status(outcome: &Outcome) -> u8
