@@ -1,7 +1,9 @@
 //! How a caller uses the library: five proved examples.
-ghost use Rattle.std.specs.Prelude.{◌≡◌, ◌≢◌, ◌<◌, ◌^◌, ℕ, IfSome, IfOk, OnErr, OnOk};
+ghost use Rattle.std.specs.Prelude.{false, ◌≡◌, ◌≢◌, ◌<◌, ◌^◌, ◌↔◌, ℕ, IfSome, IfNone, IfOk, IfErr, OnErr, OnOk};
 ghost use Rattle.std.specs.Bool.{OnFalse};
 ghost use Rattle.std.specs.FinMap as map;
+ghost use Rattle.std.specs.Io.KnownBytes.{IsAtEnd};
+ghost use Rattle.hash_laws.specs.Window.{Window};
 ghost use Rattle.hashers.specs.ByteSteps.{oaat_finish};
 ghost use Rattle.hashers.specs.Fnv.{fnv1a64, fnv1a64_basis};
 ghost use Rattle.hashers.specs.Oaat.{oaat};
@@ -17,22 +19,23 @@ use hashers::oz::DJB2Hasher;
 use std::hash::Hasher;
 use std::io::Read;
 
-/// A stream's fingerprint, if it ends within the limit and no read fails: the hash of just what was read.
-pub fn fingerprint<R: Read>(r: &mut R, limit: u64) -> Option<u64>
-    ensures { IfSome result (λ hash. (bytes : ℕ) × FeedsRead fnv1a64 4096 (R.remaining r.old) (R.remaining r.new)
-        fnv1a64_basis hash bytes) }
+/// A stream's fingerprint: the hash of just what was read, if it ends within the limit, and `None` where the limit was met.
+/// A failed read is handed on; what was read before it is gone with the hasher.
+pub fn fingerprint<R: Read>(r: &mut R, limit: u64) -> Result<Option<u64>, Fault>
+    ensures hash { IfOk result (λ told. IfSome told (λ hash. (bytes : ℕ) × (bytes < limit)
+        × FeedsRead fnv1a64 4096 (R.remaining r.old) (R.remaining r.new) fnv1a64_basis hash bytes)) }
+    ensures ended { IfOk result (λ told. IfSome told (λ _. IsAtEnd (R.remaining r.new))) }
+    ensures limit_met { IfOk result (λ told. IfNone told ((hash : ℕ)
+        × FeedsRead fnv1a64 4096 (R.remaining r.old) (R.remaining r.new) fnv1a64_basis hash limit)) }
+    ensures fault { IfErr result (λ fault. fault.bytes < limit) }
 {
     let mut hasher = FNV1aHasher64::fresh();
-    match hash_reader::<FNV1aHasher64, R, 4096>(&mut hasher, r, limit) {
-        Ok(taken) => {
-            if taken.ended {
-                Some(hasher.answer())
-            } else {
-                None
-            }
-        }
-        Err(Fault { bytes: _, error: _ }) => None,
-    }
+    let taken = hash_reader::<FNV1aHasher64, R, 4096>(&mut hasher, r, limit)?;
+    Ok(if taken.ended {
+        Some(hasher.answer())
+    } else {
+        None
+    })
 }
 
 /// Takes a text's last piece out and another in, without the text before it.
@@ -51,9 +54,11 @@ pub fn bloom_hashes(key: &[u8]) -> (u64, u64)
     (fnv1a64(key), oaat(key))
 }
 
-/// Whether a checked pair of short keys may share a slot of a `djb2` table: `false` promises that their hashes differ.
+/// Whether two keys may share a slot of a `djb2` table: `false` promises that their hashes differ, and is answered for
+/// keys of one length that differ within six neighbouring places, and nowhere in the three high bits of a byte.
 pub fn may_collide(x: &[u8], y: &[u8]) -> bool
-    ensures { OnFalse result (djb2 5381 x.now ≢ djb2 5381 y.now) }
+    ensures differ { OnFalse result (djb2 5381 x.now ≢ djb2 5381 y.now) }
+    ensures exactly { (result ≡ false) ↔ Window 6 0xE0 x.now y.now }
 {
     !apart_djb2(x, y)
 }
