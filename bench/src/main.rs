@@ -94,7 +94,10 @@ fn bytes(count: usize) -> Vec<u8> {
 }
 
 fn same(what: &str, original: u64, ours: u64) {
-    assert!(original == ours, "{what}: the original answers {original}, ours {ours}");
+    assert!(
+        original == ours,
+        "{what}: the original answers {original}, ours {ours}"
+    );
 }
 
 /// A time with three figures.
@@ -133,7 +136,15 @@ fn head(sheet: &Sheet, title: &str, first: &str, columns: &[String]) {
 }
 
 /// A table with one column, of calls over a text, times divided by `unit`; a row for each name.
-fn column(sheet: &mut Sheet, title: &str, what: &str, rows: &[(&str, [Call; 2])], text: &[u8], unit: f64, alike: bool) {
+fn column(
+    sheet: &mut Sheet,
+    title: &str,
+    what: &str,
+    rows: &[(&str, [Call; 2])],
+    text: &[u8],
+    unit: f64,
+    alike: bool,
+) {
     head(sheet, title, "name", &[what.to_string()]);
     for (name, [first, second]) in rows {
         if alike {
@@ -163,8 +174,17 @@ struct Cut<'a> {
 }
 
 impl Cut<'_> {
-    fn table(&self, sheet: &mut Sheet, rows: &[(&str, [CallOfSize; 2])], alike: &dyn Fn(&str, usize) -> bool) {
-        let columns: Vec<String> = self.sizes.iter().map(|size| format!("{size} bytes")).collect();
+    fn table(
+        &self,
+        sheet: &mut Sheet,
+        rows: &[(&str, [CallOfSize; 2])],
+        alike: &dyn Fn(&str, usize) -> bool,
+    ) {
+        let columns: Vec<String> = self
+            .sizes
+            .iter()
+            .map(|size| format!("{size} bytes"))
+            .collect();
         head(sheet, self.title, "name", &columns);
         for (name, [theirs, own]) in rows {
             let mut cells = Vec::new();
@@ -176,7 +196,10 @@ impl Cut<'_> {
                 if alike(name, size) {
                     same(name, original(), ours());
                 }
-                cells.push(cell(sheet.pair(&original, &ours), (self.count)(size) as f64));
+                cells.push(cell(
+                    sheet.pair(&original, &ours),
+                    (self.count)(size) as f64,
+                ));
             }
             row(sheet, name, &cells);
         }
@@ -185,7 +208,8 @@ impl Cut<'_> {
 
 fn keys(sheet: &mut Sheet, names: &[Name], text: &[u8]) {
     let rows: Vec<(&str, [CallOfSize; 2])> = names.iter().map(|n| (n.name, n.keys)).collect();
-    let alike = |name: &str, size: usize| names.iter().all(|n| n.name != name || size >= n.alike_from);
+    let alike =
+        |name: &str, size: usize| names.iter().all(|n| n.name != name || size >= n.alike_from);
     Cut {
         title: "Keys, nanoseconds a key:",
         sizes: &[4, 5, 8, 16, 24, 32],
@@ -208,12 +232,30 @@ fn pieces(sheet: &mut Sheet, names: &[Name], text: &[u8]) {
 
 fn numbers(sheet: &mut Sheet, text: &[u8]) {
     let rows: [(&str, [CallOfSize; 2]); 6] = [
-        ("fnv1a64", [original::numbers::<FNV1aHasher64>, ours::numbers::fnv1a64]),
-        ("djb2", [original::numbers::<DJB2Hasher>, ours::numbers::djb2]),
-        ("lookup3", [original::numbers::<Lookup3Hasher>, ours::numbers::lookup3]),
-        ("fxhash", [original::numbers::<FxHasher>, ours::numbers::fxhash]),
-        ("fxhash32", [original::numbers::<FxHasher32>, ours::numbers::fxhash32]),
-        ("fxhash64", [original::numbers::<FxHasher64>, ours::numbers::fxhash64]),
+        (
+            "fnv1a64",
+            [original::numbers::<FNV1aHasher64>, ours::numbers::fnv1a64],
+        ),
+        (
+            "djb2",
+            [original::numbers::<DJB2Hasher>, ours::numbers::djb2],
+        ),
+        (
+            "lookup3",
+            [original::numbers::<Lookup3Hasher>, ours::numbers::lookup3],
+        ),
+        (
+            "fxhash",
+            [original::numbers::<FxHasher>, ours::numbers::fxhash],
+        ),
+        (
+            "fxhash32",
+            [original::numbers::<FxHasher32>, ours::numbers::fxhash32],
+        ),
+        (
+            "fxhash64",
+            [original::numbers::<FxHasher64>, ours::numbers::fxhash64],
+        ),
     ];
     Cut {
         title: "A number as a key, by `write_u8`, `write_u16`, `write_u32` and `write_u64`, nanoseconds a key:",
@@ -227,7 +269,9 @@ fn numbers(sheet: &mut Sheet, text: &[u8]) {
 
 fn texts(sheet: &mut Sheet, names: &[Name], text: &[u8], gigahertz: f64) {
     let lengths = [300, 4096, LONGEST];
-    let mut columns = ["300 bytes, ns", "4 KiB, ns", "1 MiB, µs"].map(String::from).to_vec();
+    let mut columns = ["300 bytes, ns", "4 KiB, ns", "1 MiB, µs"]
+        .map(String::from)
+        .to_vec();
     columns.push("cycles a byte, ours at 4 KiB".into());
     head(sheet, "One call over a text:", "name", &columns);
     for n in names {
@@ -251,12 +295,27 @@ fn texts(sheet: &mut Sheet, names: &[Name], text: &[u8], gigahertz: f64) {
 
 fn readers(sheet: &mut Sheet, text: &[u8]) {
     let rows: [(&str, [Call; 2]); 6] = [
-        ("fnv1a64", [original::reader::<FNV1aHasher64>, ours::reader::fnv1a64]),
+        (
+            "fnv1a64",
+            [original::reader::<FNV1aHasher64>, ours::reader::fnv1a64],
+        ),
         ("sdbm", [original::reader::<SDBMHasher>, ours::reader::sdbm]),
-        ("loselose", [original::reader::<LoseLoseHasher>, ours::reader::loselose]),
-        ("lookup3", [original::reader::<Lookup3Hasher>, ours::reader::lookup3]),
-        ("spooky", [original::reader::<SpookyHasher>, ours::reader::spooky]),
-        ("fxhash", [original::reader::<FxHasher>, ours::reader::fxhash]),
+        (
+            "loselose",
+            [original::reader::<LoseLoseHasher>, ours::reader::loselose],
+        ),
+        (
+            "lookup3",
+            [original::reader::<Lookup3Hasher>, ours::reader::lookup3],
+        ),
+        (
+            "spooky",
+            [original::reader::<SpookyHasher>, ours::reader::spooky],
+        ),
+        (
+            "fxhash",
+            [original::reader::<FxHasher>, ours::reader::fxhash],
+        ),
     ];
     let title = "A reader of 1 MiB in memory, through an array of 4096 bytes, µs:";
     column(sheet, title, "hash_reader", &rows, text, 1000.0, true);
@@ -264,12 +323,29 @@ fn readers(sheet: &mut Sheet, text: &[u8]) {
 
 fn behind(sheet: &mut Sheet, text: &[u8]) {
     let rows: [(&str, [Call; 2]); 3] = [
-        ("fxhash", [original::behind::<FxHasher>, ours::behind::fxhash]),
-        ("fxhash32", [original::behind::<FxHasher32>, ours::behind::fxhash32]),
-        ("fxhash64", [original::behind::<FxHasher64>, ours::behind::fxhash64]),
+        (
+            "fxhash",
+            [original::behind::<FxHasher>, ours::behind::fxhash],
+        ),
+        (
+            "fxhash32",
+            [original::behind::<FxHasher32>, ours::behind::fxhash32],
+        ),
+        (
+            "fxhash64",
+            [original::behind::<FxHasher64>, ours::behind::fxhash64],
+        ),
     ];
     let title = "512 numbers written to one hasher, nanoseconds a number:";
-    column(sheet, title, "write_u64", &rows, &text[..8 * KEYS], KEYS as f64, true);
+    column(
+        sheet,
+        title,
+        "write_u64",
+        &rows,
+        &text[..8 * KEYS],
+        KEYS as f64,
+        true,
+    );
 }
 
 fn unwrites(sheet: &mut Sheet, text: &[u8]) {
@@ -279,14 +355,25 @@ fn unwrites(sheet: &mut Sheet, text: &[u8]) {
         ("djb2", [ours::whole::djb2, ours::unwrite::djb2]),
         ("sdbm", [ours::whole::sdbm, ours::unwrite::sdbm]),
         ("loselose", [ours::whole::loselose, ours::unwrite::loselose]),
-        ("bricolage", [ours::whole::bricolage, ours::unwrite::bricolage]),
+        (
+            "bricolage",
+            [ours::whole::bricolage, ours::unwrite::bricolage],
+        ),
         ("oaat", [ours::whole::oaat, ours::unwrite::oaat]),
         ("fxhash", [ours::whole::fxhash, ours::unwrite::fxhash]),
         ("fxhash32", [ours::whole::fxhash32, ours::unwrite::fxhash32]),
         ("fxhash64", [ours::whole::fxhash64, ours::unwrite::fxhash64]),
     ];
     let title = "Ours alone, `write` / `unwrite` of a text of 4 KiB, ns:";
-    column(sheet, title, "write / unwrite", &rows, &text[..4096], 1.0, false);
+    column(
+        sheet,
+        title,
+        "write / unwrite",
+        &rows,
+        &text[..4096],
+        1.0,
+        false,
+    );
 }
 
 fn tables(sheet: &mut Sheet, text: &[u8]) {
@@ -326,7 +413,11 @@ fn tables(sheet: &mut Sheet, text: &[u8]) {
             original: (both.original - insert.original) / rounds as f64,
             ours: (both.ours - insert.ours) / rounds as f64,
         };
-        row(sheet, name, &[insert, get, remove].map(|pair| cell(pair, count as f64)));
+        row(
+            sheet,
+            name,
+            &[insert, get, remove].map(|pair| cell(pair, count as f64)),
+        );
     }
 }
 
@@ -352,7 +443,9 @@ fn hash_input(name: &str) -> u64 {
 }
 
 fn main() {
-    if let (Some("hash"), Some(name)) = (std::env::args().nth(1).as_deref(), std::env::args().nth(2)) {
+    if let (Some("hash"), Some(name)) =
+        (std::env::args().nth(1).as_deref(), std::env::args().nth(2))
+    {
         println!("{}", hash_input(&name));
         return;
     }

@@ -28,7 +28,11 @@ pub unsafe extern "C" fn keys<H: Default + Hasher>(at: *const u8, len: usize, si
 }
 
 /// The hash of each number of `width` bytes by the write of that width, folded into one number.
-pub unsafe extern "C" fn numbers<H: Default + Hasher>(at: *const u8, len: usize, width: usize) -> u64 {
+pub unsafe extern "C" fn numbers<H: Default + Hasher>(
+    at: *const u8,
+    len: usize,
+    width: usize,
+) -> u64 {
     let text = from_raw_parts(at, len);
     match width {
         1 => all_numbers::<H, 1>(text, |h, number| h.write_u8(number[0])),
@@ -39,7 +43,10 @@ pub unsafe extern "C" fn numbers<H: Default + Hasher>(at: *const u8, len: usize,
 }
 
 #[inline(always)]
-fn all_numbers<H: Default + Hasher, const W: usize>(text: &[u8], write: impl Fn(&mut H, [u8; W])) -> u64 {
+fn all_numbers<H: Default + Hasher, const W: usize>(
+    text: &[u8],
+    write: impl Fn(&mut H, [u8; W]),
+) -> u64 {
     let mut all: u64 = 0;
     for number in text.as_chunks::<W>().0 {
         let mut hasher = H::default();
@@ -60,7 +67,11 @@ pub unsafe extern "C" fn behind<H: Default + Hasher>(at: *const u8, len: usize) 
 }
 
 /// One hasher over the pieces of a text.
-pub unsafe extern "C" fn pieces<H: Default + Hasher>(at: *const u8, len: usize, size: usize) -> u64 {
+pub unsafe extern "C" fn pieces<H: Default + Hasher>(
+    at: *const u8,
+    len: usize,
+    size: usize,
+) -> u64 {
     let text = from_raw_parts(at, len);
     let mut hasher = H::default();
     for piece in text.chunks(size) {
@@ -93,7 +104,10 @@ pub fn input<H: Default + Hasher>() -> u64 {
 
 /// Rust's map under this hasher, with each key and its number.
 #[inline(always)]
-fn filled<H: Default + Hasher>(keys: &[u8], size: usize) -> HashMap<Vec<u8>, u64, BuildHasherDefault<H>> {
+fn filled<H: Default + Hasher>(
+    keys: &[u8],
+    size: usize,
+) -> HashMap<Vec<u8>, u64, BuildHasherDefault<H>> {
     let mut table = HashMap::default();
     for (number, key) in keys.chunks_exact(size).enumerate() {
         table.insert(key.to_vec(), number as u64);
@@ -102,7 +116,12 @@ fn filled<H: Default + Hasher>(keys: &[u8], size: usize) -> HashMap<Vec<u8>, u64
 }
 
 /// Each key is put in with its number, and then asked for `rounds` times.
-pub unsafe extern "C" fn table<H: Default + Hasher>(at: *const u8, len: usize, size: usize, rounds: usize) -> u64 {
+pub unsafe extern "C" fn table<H: Default + Hasher>(
+    at: *const u8,
+    len: usize,
+    size: usize,
+    rounds: usize,
+) -> u64 {
     let keys = from_raw_parts(at, len);
     let table = filled::<H>(keys, size);
     let mut sum: u64 = 0;
@@ -115,7 +134,11 @@ pub unsafe extern "C" fn table<H: Default + Hasher>(at: *const u8, len: usize, s
 }
 
 /// Each key is put in with its number, and then taken out.
-pub unsafe extern "C" fn emptied<H: Default + Hasher>(at: *const u8, len: usize, size: usize) -> u64 {
+pub unsafe extern "C" fn emptied<H: Default + Hasher>(
+    at: *const u8,
+    len: usize,
+    size: usize,
+) -> u64 {
     let keys = from_raw_parts(at, len);
     let mut table = filled::<H>(keys, size);
     let mut sum: u64 = 0;

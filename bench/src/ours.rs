@@ -62,7 +62,12 @@ pub unsafe extern "C" fn rattle_alloc(size: usize, align: usize) -> Tried {
 
 /// The block with another size.
 #[no_mangle]
-pub unsafe extern "C" fn rattle_realloc(at: *mut u8, _kept: usize, size: usize, align: usize) -> Tried {
+pub unsafe extern "C" fn rattle_realloc(
+    at: *mut u8,
+    _kept: usize,
+    size: usize,
+    align: usize,
+) -> Tried {
     tried(realloc(at, if size == 0 { align } else { size }))
 }
 

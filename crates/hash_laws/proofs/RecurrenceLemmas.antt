@@ -50,7 +50,7 @@ module _ {S : Type 0} (step : S → ℕ → S) where
   -- the few bytes that come before the whole eights, and then eight by eight
   pub recurrence_by_eights : (s : S) (text : List ℕ)
       → fold (recurrence step) (recurrence step s (take (length text % 8) text)) (first_chunks 8 (length text / 8) (drop (length text % 8) text))
-        ≡ recurrence step s text
+      ≡ recurrence step s text
   recurrence_by_eights s text =
       let few = length text % 8 in
       chunked 8 (length text / 8) (recurrence step s (take few text)) (drop few text) (omega (arith, length-drop few text))
