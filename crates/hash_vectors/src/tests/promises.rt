@@ -62,14 +62,26 @@ macro_rules! undone {
 }
 
 #[test]
-fn undone(rt: HostRuntime) {
+fn undone_fnv(rt: HostRuntime) {
     undone!(rt, FNV1aHasher32, fnv1a32_undone);
     undone!(rt, FNV1aHasher64, fnv1a64_undone);
+}
+
+#[test]
+fn undone_sums(rt: HostRuntime) {
     undone!(rt, DJB2Hasher, djb2_undone);
     undone!(rt, SDBMHasher, sdbm_undone);
     undone!(rt, LoseLoseHasher, loselose_undone);
+}
+
+#[test]
+fn undone_mixers(rt: HostRuntime) {
     undone!(rt, Bricolage, bricolage_undone);
     undone!(rt, OAATHasher, oaat_undone);
+}
+
+#[test]
+fn undone_fx(rt: HostRuntime) {
     undone!(rt, FxHasher, fxhash_undone);
     undone!(rt, FxHasher32, fxhash32_undone);
     undone!(rt, FxHasher64, fxhash64_undone);
