@@ -26,15 +26,39 @@ type CallOfSize = unsafe extern "C" fn(*const u8, usize, usize) -> u64;
 /// A call over keys of one size, and how often they are asked for.
 type CallOfTable = unsafe extern "C" fn(*const u8, usize, usize, usize) -> u64;
 
+/// Clears the registers that a call may leave something in. Our exported calls test their pointer for null by an
+/// instruction that keeps a part of its register, and would wait for what the call before left there, mostly its answer. A
+/// caller in Rattle makes no such call.
+#[inline(always)]
+fn clear_registers() {
+    #[cfg(target_arch = "x86_64")]
+    unsafe {
+        std::arch::asm!(
+            "xor eax, eax",
+            "xor ecx, ecx",
+            "xor edx, edx",
+            "xor r8d, r8d",
+            "xor r9d, r9d",
+            "xor r10d, r10d",
+            "xor r11d, r11d",
+            out("eax") _, out("ecx") _, out("edx") _, out("r8") _, out("r9") _, out("r10") _, out("r11") _,
+            options(nostack)
+        );
+    }
+}
+
 fn call(f: Call, text: &[u8]) -> u64 {
+    clear_registers();
     unsafe { f(text.as_ptr(), text.len()) }
 }
 
 fn call_of_size(f: CallOfSize, text: &[u8], size: usize) -> u64 {
+    clear_registers();
     unsafe { f(text.as_ptr(), text.len(), size) }
 }
 
 fn call_of_table(f: CallOfTable, text: &[u8], size: usize, rounds: usize) -> u64 {
+    clear_registers();
     unsafe { f(text.as_ptr(), text.len(), size, rounds) }
 }
 
