@@ -188,8 +188,7 @@ const LONG: usize = 24 * 1024;
 /// The bytes of the longest text.
 const LONGEST: usize = 1 << 20;
 
-/// A table of calls over the parts of a text, a row for each name. `text` is the text for a size, `count` the number of
-/// its parts, and `alike` says whether the original answers the same.
+/// A table of calls over the parts of a text. `text` is the text for a size, and `count` the number of its parts.
 struct Cut<'a> {
     title: &'a str,
     sizes: &'a [usize],
@@ -198,6 +197,7 @@ struct Cut<'a> {
 }
 
 impl Cut<'_> {
+    /// A row for each name; `alike` says for which sizes the original answers the same.
     fn table(
         &self,
         sheet: &mut Sheet,
