@@ -27,10 +27,10 @@ pub record LosesNothing (step : ℕ → ℕ → ℕ) (bound items : ℕ) : Type 
 
 -- ---- FNV-1a
 
-xored_32 : (h b : ℕ) → h < 2 ^ 32 → b < 256 → bit_xor h b < 2 ^ 32
+pub xored_32 : (h b : ℕ) → h < 2 ^ 32 → b < 256 → bit_xor h b < 2 ^ 32
 xored_32 h b hs sb = xor_lt 32 h b hs (omega arith)
 
-fnv1a32_same : (y z : ℕ) → y < 2 ^ 32 → z < 2 ^ 32 → y * 16777619 % 2 ^ 32 ≡ z * 16777619 % 2 ^ 32 → y ≡ z
+pub fnv1a32_same : (y z : ℕ) → y < 2 ^ 32 → z < 2 ^ 32 → y * 16777619 % 2 ^ 32 ≡ z * 16777619 % 2 ^ 32 → y ≡ z
 fnv1a32_same y z ys zs e = omega arith
 
 pub fnv1a32_loses_nothing : LosesNothing fnv1a32_step (2 ^ 32) 256
@@ -46,10 +46,10 @@ fnv1a32_back h b hs =
     let undone : x * 16777619 % 2 ^ 32 ≡ h = omega arith in
     ap (λ y. y * 16777619 % 2 ^ 32) (xor_twice x b) ∙ undone
 
-xored_64 : (h b : ℕ) → h < 2 ^ 64 → b < 256 → bit_xor h b < 2 ^ 64
+pub xored_64 : (h b : ℕ) → h < 2 ^ 64 → b < 256 → bit_xor h b < 2 ^ 64
 xored_64 h b hs sb = xor_lt 64 h b hs (omega arith)
 
-fnv1a64_same : (y z : ℕ) → y < 2 ^ 64 → z < 2 ^ 64 → y * 1099511628211 % 2 ^ 64 ≡ z * 1099511628211 % 2 ^ 64 → y ≡ z
+pub fnv1a64_same : (y z : ℕ) → y < 2 ^ 64 → z < 2 ^ 64 → y * 1099511628211 % 2 ^ 64 ≡ z * 1099511628211 % 2 ^ 64 → y ≡ z
 fnv1a64_same y z ys zs e = omega arith
 
 pub fnv1a64_loses_nothing : LosesNothing fnv1a64_step (2 ^ 64) 256

@@ -1,5 +1,5 @@
 -- Laws of the sums of bytes: of no bytes, of joined texts, and byte by byte.
-use Rattle.std.proofs.Common.{◌≡◌, ℕ, suc, ◌+◌, ◌-◌, ◌*◌, ◌%◌, ◌^◌, ◌<◌, ◌≤◌, List, [], ◌∷◌, ◌++◌, length, get_or, All, take, drop, sum, map, fold, sym, ap, ◌∙◌, arith, add-zero, length-append, length-drop, take-append-drop, pow-add, lit<}
+use Rattle.std.proofs.Common.{◌≡◌, ℕ, suc, ◌+◌, ◌-◌, ◌*◌, ◌%◌, ◌^◌, ◌<◌, ◌≤◌, List, [], ◌∷◌, ◌++◌, length, get_or, All, take, drop, sum, map, fold, refl, sym, ap, ◌∙◌, arith, add-zero, length-append, length-drop, take-append-drop, pow-add, lit<}
 use Rattle.std.specs.Int.{w64, from_be_bytes}
 use Rattle.std.specs.Simd.Lanes.{fold_l, zip2}
 use Rattle.std.proofs.Math.Nat.{mod-add-mod, add-mod-mod, add-mul-mod_self_left, mod-lt, mod-eq_of_lt, pow-suc, pow-zero, mul-one, mul_comm}
@@ -66,6 +66,12 @@ module _ (x m : ℕ) where
       sym (number-append s (b ∷ []) t) ∙ ap (λ h. number h t) (number-one s b)
       ∙ number-fold ((x * s + b) % m) t (mod-lt (x * s + b) (omega arith))
 
+-- a text of one byte is that byte
+only_byte : (t : List ℕ) → 1 ≤ length t → length t < 2 → t ≡ get_or t 0 0 ∷ []
+only_byte [] some few = absurd (omega arith)
+only_byte (b ∷ []) some few = refl
+only_byte (b ∷ more ∷ rest) some few = absurd (omega arith)
+
 -- ---- sdbm
 
 pub sdbm-lt : (s : ℕ) (t : List ℕ) → sdbm s t < 2 ^ 32
@@ -86,9 +92,7 @@ sdbm-one = number-one 65599 (2 ^ 32)
 
 -- a text of one byte
 pub sdbm_of_one : (s : ℕ) (t : List ℕ) → 1 ≤ length t → length t < 2 → sdbm s t ≡ (65599 * s + get_or t 0 0) % 2 ^ 32
-sdbm_of_one s [] some few = absurd (omega arith)
-sdbm_of_one s (b ∷ []) some few = sdbm-one s b
-sdbm_of_one s (b ∷ more ∷ rest) some few = absurd (omega arith)
+sdbm_of_one s t some few = ap (sdbm s) (only_byte t some few) ∙ sdbm-one s (get_or t 0 0)
 
 -- one byte more
 pub sdbm_push : (s : ℕ) (t : List ℕ) (b : ℕ) → (sdbm s t * 65599 % 2 ^ 32 + b) % 2 ^ 32 ≡ sdbm s (t ++ b ∷ [])
@@ -130,9 +134,7 @@ loselose-one s b = ap (λ n. n % 2 ^ 64) (rw (sum_by-cons (λ v. v) b []) (omega
 
 -- a text of one byte
 pub loselose_of_one : (s : ℕ) (t : List ℕ) → 1 ≤ length t → length t < 2 → loselose s t ≡ (s + get_or t 0 0) % 2 ^ 64
-loselose_of_one s [] some few = absurd (omega arith)
-loselose_of_one s (b ∷ []) some few = loselose-one s b
-loselose_of_one s (b ∷ more ∷ rest) some few = absurd (omega arith)
+loselose_of_one s t some few = ap (loselose s) (only_byte t some few) ∙ loselose-one s (get_or t 0 0)
 
 -- one byte more
 pub loselose_push : (s : ℕ) (t : List ℕ) (b : ℕ) → (loselose s t + b) % 2 ^ 64 ≡ loselose s (t ++ b ∷ [])

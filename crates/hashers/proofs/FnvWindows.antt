@@ -1,9 +1,8 @@
 -- Why two texts that differ within three places (fnv1a64) or two (fnv1a32) have different hashes.
 use Rattle.std.proofs.Common.{◌≡◌, ℕ, zero, suc, ◌+◌, ◌*◌, ◌/◌, ◌%◌, ◌^◌, ◌<◌, ◌≢◌, arith}
 use Rattle.std.specs.Int.Bits.{bit_xor}
-use Rattle.std.proofs.lemmas.Nat.{xor_lt}
 use Rattle.hash_rounds.specs.ByteSteps.{fnv1a32_step, fnv1a64_step}
-use Rattle.hash_rounds.proofs.ByteStepLemmas.{fnv1a32_loses_nothing, fnv1a64_loses_nothing}
+use Rattle.hash_rounds.proofs.ByteStepLemmas.{xored_32, xored_64, fnv1a32_same, fnv1a64_same, fnv1a32_loses_nothing, fnv1a64_loses_nothing}
 use Rattle.hashers.proofs.WindowSpreads.{IsState32, IsState64, OneByte, TwoBytes}
 use Rattle.hash_laws.proofs.Windows.{Separates}
 use Rattle.hash_rounds.proofs.XorLemmas.{xor_cancel_left, xor_block_kept}
@@ -51,17 +50,11 @@ third_64 h k y z yh zk far = λ e. far.differ (omega (arith, far.apart))
 
 -- ---- the steps
 
-below_32 : (h b : ℕ) → h < 2 ^ 32 → b < 256 → bit_xor h b < 2 ^ 32
-below_32 h b hs sb = xor_lt 32 h b (omega arith) (omega arith)
-
-same_product_32 : (y z : ℕ) → y < 2 ^ 32 → z < 2 ^ 32 → y * 16777619 % 2 ^ 32 ≡ z * 16777619 % 2 ^ 32 → y ≡ z
-same_product_32 y z ys zs e = omega arith
-
 next_32 : (n h k a b : ℕ) → suc n < 2 → h < 2 ^ 32 → k < 2 ^ 32 → a < 256 → b < 256 → Fnv32Apart n h k
     → Fnv32Apart (suc n) (fnv1a32_step h a) (fnv1a32_step k b)
 next_32 zero h k a b fits hs ks sa sb far = λ same.
     second_32 h k (bit_xor h a) (bit_xor k b) (kept h a sa) (kept k b sb) far
-    (same_product_32 (bit_xor h a) (bit_xor k b) (below_32 h a hs sa) (below_32 k b ks sb) same)
+    (fnv1a32_same (bit_xor h a) (bit_xor k b) (xored_32 h a hs sa) (xored_32 k b ks sb) same)
 next_32 (suc n) h k a b fits hs ks sa sb far = absurd (omega arith)
 
 different_32 : (n h k : ℕ) → Fnv32Apart n h k → h ≢ k
@@ -78,18 +71,12 @@ fnv1a32_separates = record {
   apart = different_32;
 }
 
-below_64 : (h b : ℕ) → h < 2 ^ 64 → b < 256 → bit_xor h b < 2 ^ 64
-below_64 h b hs sb = xor_lt 64 h b (omega arith) (omega arith)
-
-same_product_64 : (y z : ℕ) → y < 2 ^ 64 → z < 2 ^ 64 → y * 1099511628211 % 2 ^ 64 ≡ z * 1099511628211 % 2 ^ 64 → y ≡ z
-same_product_64 y z ys zs e = omega arith
-
 next_64 : (n h k a b : ℕ) → suc n < 3 → h < 2 ^ 64 → k < 2 ^ 64 → a < 256 → b < 256 → Fnv64Apart n h k
     → Fnv64Apart (suc n) (fnv1a64_step h a) (fnv1a64_step k b)
 next_64 zero h k a b fits hs ks sa sb far = second_64 h k (bit_xor h a) (bit_xor k b) (kept h a sa) (kept k b sb) far
 next_64 (suc zero) h k a b fits hs ks sa sb far = λ same.
     third_64 h k (bit_xor h a) (bit_xor k b) (kept h a sa) (kept k b sb) far
-    (same_product_64 (bit_xor h a) (bit_xor k b) (below_64 h a hs sa) (below_64 k b ks sb) same)
+    (fnv1a64_same (bit_xor h a) (bit_xor k b) (xored_64 h a hs sa) (xored_64 k b ks sb) same)
 next_64 (suc (suc n)) h k a b fits hs ks sa sb far = absurd (omega arith)
 
 different_64 : (n h k : ℕ) → Fnv64Apart n h k → h ≢ k
