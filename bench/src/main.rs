@@ -402,7 +402,7 @@ fn unwrites(sheet: &mut Sheet, text: &[u8]) {
 
 fn tables(sheet: &mut Sheet, text: &[u8]) {
     head(sheet,
-        "Rust's `HashMap` with the original's hasher / `Buckets` with ours and 2048 buckets, 1000 keys of 16 bytes, ns a key:",
+        "Rust's `HashMap` with the original's hasher / `Buckets` with ours and 4096 buckets, 1000 keys of 16 bytes, ns a key:",
         "name",
         &["insert into a new table, and free it", "get", "insert, remove, and free it"].map(String::from),
     );

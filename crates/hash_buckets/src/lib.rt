@@ -1,15 +1,18 @@
 //! A table of buckets over any hasher.
 #![tactic(auto)]
 
-ghost use Rattle.std.specs.Prelude.{◌≡◌, ◌<◌, ◌≤◌, ◌%◌, ℕ, IfOk, IfErr, OnOk, OnErr, None, Some, fold, length, take};
+ghost use Rattle.std.specs.Prelude.{◌≡◌, ◌↔◌, IsTrue, ◌<◌, ◌≤◌, ◌%◌, ℕ, IfOk, IfErr, OnOk, OnErr, None, Some, fold, length, take};
 ghost use Rattle.std.specs.Coded.{coded_list, coded_ℕ};
 ghost use Rattle.std.specs.FinMap as map;
 ghost use Rattle.std.specs.List.{position, sum_by};
 ghost use Rattle.std.specs.Str.{bytes_eq};
 ghost use Rattle.std.specs.List.Sorted.{IsPermutation};
-ghost use Rattle.hash_buckets.specs.Table.{Table, table_of, pairs, pairs_of_each, IsPlaced, IsChange, HasEachKeyOnce, HasKeyAt, value_at, bucket_content};
+ghost use Rattle.hash_buckets.specs.Table.{Table, table_of, items, pairs, pairs_of_each, IsPlaced, IsChange, HasEachKeyOnce, HasKeyAt, value_at, bucket_content};
 ghost use Rattle.hash_buckets.specs.Commands.{reply_to, replies_to, content_after};
 
+mod list;
+
+use crate::list::Bucket;
 use hashers::laws::{Piecewise, bucket_of};
 use std::alloc::{AllocError, Global};
 use std::marker::{Model, PhantomData};
@@ -17,7 +20,7 @@ use std::marker::{Model, PhantomData};
 /// A finite map from texts to numbers. A key stands in the bucket that the hasher names.
 #[derive(Drop)]
 pub struct Buckets<H: Piecewise, const N: usize> {
-    buckets: Vec<Vec<(Vec<u8>, u64)>>,
+    buckets: Vec<Bucket>,
     hasher: PhantomData<H>,
     alloc: Global,
 }
@@ -41,11 +44,45 @@ pub struct NoRoom {
     pub value: u64,
 }
 
+/// Whether the groups are the same: std's `==` in a form that stays short where it is inlined.
+#[inline(always)]
+fn same_eights(eights: &[[u8; 8]], others: &[[u8; 8]]) -> bool
+    requires { length eights.now ≡ length others.now }
+    ensures { IsTrue result ↔ eights.now ≡ others.now }
+{
+    eights
+        .iter()
+        .zip(others)
+        .all(|(eight, other)| eight == other)
+}
+
+/// The same of bytes.
+#[inline(always)]
+fn same_bytes(bytes: &[u8], others: &[u8]) -> bool
+    requires { length bytes.now ≡ length others.now }
+    ensures { IsTrue result ↔ bytes.now ≡ others.now }
+{
+    bytes.iter().zip(others).all(|(byte, other)| byte == other)
+}
+
+/// Whether two texts are the same, eight bytes at a time.
+#[inline(always)]
+fn is_same(text: &[u8], other: &[u8]) -> bool
+    ensures { result ≡ bytes_eq text.now other.now }
+{
+    if text.len() != other.len() {
+        return false;
+    }
+    let (eights, few) = text.as_chunks::<8>();
+    let (other_eights, other_few) = other.as_chunks::<8>();
+    same_eights(eights, other_eights) && same_bytes(few, other_few)
+}
+
 /// Where the key stands.
 fn place_of(bucket: &[(Vec<u8>, u64)], key: &[u8]) -> Option<usize>
     ensures { result ≡ position (λ pair. bytes_eq pair.0.items key.now) bucket.now }
 {
-    bucket.iter().position(|pair| pair.0.as_slice() == key)
+    bucket.iter().position(|pair| is_same(&pair.0, key))
 }
 
 /// The value of the key.
@@ -60,37 +97,35 @@ fn value_in(bucket: &[(Vec<u8>, u64)], key: &[u8]) -> Option<u64>
 }
 
 /// Gives the key the value, and answers its old one.
-fn put_in(bucket: &mut Vec<(Vec<u8>, u64)>, key: Vec<u8>, value: u64) -> Result<Option<u64>, NoRoom>
-    requires { HasEachKeyOnce (pairs bucket.old.items) }
-    ensures ok { IfOk result (λ old. old ≡ value_at key.items (pairs bucket.old.items)) }
-    ensures put { OnOk result (IsChange (pairs bucket.old.items) (pairs bucket.new.items) key.items (Some value)) }
+fn put_in(
+    bucket: &mut Bucket,
+    alloc: Global,
+    key: Vec<u8>,
+    value: u64,
+) -> Result<Option<u64>, NoRoom>
+    requires { HasEachKeyOnce (pairs (items bucket.old)) }
+    ensures ok { IfOk result (λ old. old ≡ value_at key.items (pairs (items bucket.old))) }
+    ensures put { OnOk result (IsChange (pairs (items bucket.old)) (pairs (items bucket.new)) key.items (Some value)) }
     ensures err { IfErr result (λ refused. refused ≡ record { key = key; value = value }) }
-    ensures unchanged { OnErr result (bucket.new.items ≡ bucket.old.items) }
-    ensures new_key { OnErr result (value_at key.items (pairs bucket.old.items) ≡ None) }
+    ensures unchanged { OnErr result (items bucket.new ≡ items bucket.old) }
+    ensures new_key { OnErr result (value_at key.items (pairs (items bucket.old)) ≡ None) }
 {
-    match place_of(bucket, &key) {
-        Some(at) => {
-            let old = bucket[at].1;
-            bucket[at].1 = value;
-            Ok(Some(old))
-        }
-        None => match bucket.push((key, value)) {
+    match place_of(bucket.as_slice(), &key) {
+        Some(at) => Ok(Some(bucket.set_value(at, value))),
+        None => match bucket.push(alloc, (key, value)) {
             Ok(()) => Ok(None),
-            Err(refused) => {
-                let (key, value) = refused.value;
-                Err(NoRoom { key, value })
-            }
+            Err((key, value)) => Err(NoRoom { key, value }),
         },
     }
 }
 
 /// Takes the key out, and answers its value.
-fn take_out(bucket: &mut Vec<(Vec<u8>, u64)>, key: &[u8]) -> Option<u64>
-    requires { HasEachKeyOnce (pairs bucket.old.items) }
-    ensures value { result ≡ value_at key.now (pairs bucket.old.items) }
-    ensures taken { IsChange (pairs bucket.old.items) (pairs bucket.new.items) key.now None }
+fn take_out(bucket: &mut Bucket, key: &[u8]) -> Option<u64>
+    requires { HasEachKeyOnce (pairs (items bucket.old)) }
+    ensures value { result ≡ value_at key.now (pairs (items bucket.old)) }
+    ensures taken { IsChange (pairs (items bucket.old)) (pairs (items bucket.new)) key.now None }
 {
-    match place_of(bucket, key) {
+    match place_of(bucket.as_slice(), key) {
         Some(at) => {
             let (_, value) = bucket.remove(at);
             Some(value)
@@ -100,10 +135,13 @@ fn take_out(bucket: &mut Vec<(Vec<u8>, u64)>, key: &[u8]) -> Option<u64>
 }
 
 /// How many pairs the buckets have together.
-fn pairs_in(buckets: &[Vec<(Vec<u8>, u64)>]) -> u128
-    ensures { result ≡ sum_by (λ bucket. length bucket.items) buckets.now }
+fn pairs_in(buckets: &[Bucket]) -> u128
+    ensures { result ≡ sum_by (λ bucket. length (items bucket)) buckets.now }
 {
-    buckets.iter().map(|bucket| bucket.len() as u128).sum()
+    buckets
+        .iter()
+        .map(|bucket| bucket.as_slice().len() as u128)
+        .sum()
 }
 
 impl<H: Piecewise, const N: usize> Buckets<H, N> {
@@ -116,7 +154,7 @@ impl<H: Piecewise, const N: usize> Buckets<H, N> {
             return Err(NoTable);
         };
         for _ in 0..N {
-            if buckets.push(Vec::new(alloc)).is_err() {
+            if buckets.push(Bucket::Empty).is_err() {
                 return Err(NoTable);
             }
         }
@@ -140,7 +178,7 @@ impl<H: Piecewise, const N: usize> Buckets<H, N> {
     pub fn get(&self, key: &[u8]) -> Option<u64>
         ensures { result ≡ map.get self.now key.now }
     {
-        value_in(&self.buckets[self.number(key)], key)
+        value_in(self.buckets[self.number(key)].as_slice(), key)
     }
 
     /// Gives the key the value, and answers its old one.
@@ -152,7 +190,7 @@ impl<H: Piecewise, const N: usize> Buckets<H, N> {
         ensures new_key { OnErr result (map.get self.old key.items ≡ None) }
     {
         let number = self.number(&key);
-        put_in(&mut self.buckets[number], key, value)
+        put_in(&mut self.buckets[number], self.alloc, key, value)
     }
 
     /// Takes the key out, and answers its value.
@@ -176,7 +214,7 @@ impl<H: Piecewise, const N: usize> Buckets<H, N> {
         requires { i < N }
         ensures { IsPermutation (bucket_content (λ key. H.answer (H.after H.fresh key) % N) i self.now) (pairs result.now) }
     {
-        &self.buckets[i]
+        self.buckets[i].as_slice()
     }
 }
 
@@ -228,6 +266,3 @@ pub fn obey_all<H: Piecewise, const N: usize>(
     }
     Ok(replies)
 }
-
-#[cfg(test)]
-mod tests;

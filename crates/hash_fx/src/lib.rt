@@ -6,8 +6,6 @@ mod fx;
 mod fx32;
 mod fx64;
 pub mod laws;
-#[cfg(test)]
-mod tests;
 mod words32;
 mod words64;
 

@@ -11,6 +11,3 @@ mod spooky_short;
 
 pub use lookup::{Lookup3Hasher, lookup3};
 pub use one_at_a_time::{OAATHasher, oaat};
-
-#[cfg(test)]
-mod tests;

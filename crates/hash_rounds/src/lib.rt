@@ -11,8 +11,6 @@ mod shuffle;
 mod spooky;
 mod steps;
 mod sums;
-#[cfg(test)]
-mod tests;
 mod turns;
 mod words;
 

@@ -6,8 +6,6 @@ pub mod laws;
 pub mod null;
 pub mod oz;
 pub mod pigeon;
-#[cfg(test)]
-mod tests;
 mod windows;
 
 pub use hash_fx as fx_hash;

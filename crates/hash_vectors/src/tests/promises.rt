@@ -19,30 +19,59 @@ use std::test::Fail;
 #[test]
 fn answers_of_pieces(rt: HostRuntime) {
     let pieces: [&[u8]; 3] = [b"ab", b"", b"c"];
-    assert_eq!(rt; fnv1a32_of_pieces(&pieces), fnv1a32(b"abc"));
-    assert_eq!(rt; fnv1a64_of_pieces(&pieces), fnv1a64(b"abc"));
-    assert_eq!(rt; djb2_of_pieces(&pieces), djb2(b"abc"));
-    assert_eq!(rt; sdbm_of_pieces(&pieces), sdbm(b"abc"));
-    assert_eq!(rt; loselose_of_pieces(&pieces), loselose(b"abc"));
-    assert_eq!(rt; bricolage_of_pieces(&pieces), bricolage(b"abc"));
-    assert_eq!(rt; oaat_of_pieces(&pieces), oaat(b"abc"));
-    assert_eq!(rt; null_of_pieces(&pieces), 0);
-    assert_eq!(rt; passthrough_of_pieces(&pieces), passthrough(b"abc"));
-    assert_eq!(rt; spooky_of_pieces(0, 0, &pieces).0, spooky(b"abc"));
-    assert_eq!(rt; spooky_v1_of_pieces(0, 0, &pieces).0, spooky_v1(b"abc"));
+    let text = b"abc";
+    assert_eq!(rt;
+        [
+            fnv1a32_of_pieces(&pieces),
+            fnv1a64_of_pieces(&pieces),
+            djb2_of_pieces(&pieces),
+            sdbm_of_pieces(&pieces),
+            loselose_of_pieces(&pieces),
+            bricolage_of_pieces(&pieces),
+            oaat_of_pieces(&pieces),
+            null_of_pieces(&pieces),
+            passthrough_of_pieces(&pieces),
+            spooky_of_pieces(0, 0, &pieces).0,
+            spooky_v1_of_pieces(0, 0, &pieces).0
+        ],
+        [
+            fnv1a32(text),
+            fnv1a64(text),
+            djb2(text),
+            sdbm(text),
+            loselose(text),
+            bricolage(text),
+            oaat(text),
+            0,
+            passthrough(text),
+            spooky(text),
+            spooky_v1(text)
+        ]
+    );
 }
 
 #[test]
 fn answers_that_see_the_cuts(rt: HostRuntime) {
     let pieces: [&[u8]; 3] = [b"abcdefgh", b"", b"ij"];
-    assert_eq!(rt; fxhash_of_pieces(&pieces), fxhash(b"abcdefghij"));
-    assert_eq!(rt; fxhash32_of_pieces(&pieces), fxhash32(b"abcdefghij"));
-    assert_eq!(rt; fxhash64_of_pieces(&pieces), fxhash64(b"abcdefghij"));
+    let text = b"abcdefghij";
     let mut hasher = Lookup3Hasher::default();
     hasher.write(b"abcdefgh");
     hasher.write(b"ij");
-    assert_eq!(rt; lookup3_of_pieces(&pieces), hasher.finish());
-    assert!(rt; lookup3_of_pieces(&pieces) != lookup3(b"abcdefghij"));
+    assert_eq!(rt;
+        [
+            fxhash_of_pieces(&pieces),
+            fxhash32_of_pieces(&pieces),
+            fxhash64_of_pieces(&pieces),
+            lookup3_of_pieces(&pieces)
+        ],
+        [
+            fxhash(text),
+            fxhash32(text),
+            fxhash64(text),
+            hasher.finish()
+        ]
+    );
+    assert!(rt; lookup3_of_pieces(&pieces) != lookup3(text));
 }
 
 /// That a fresh hasher and one that was fed `abc` are as they were, and what they answer in between.
@@ -54,10 +83,7 @@ macro_rules! undone {
         b.write(b"abc");
         let fed = b.finish();
         let (there, back) = $undone(&mut a, &mut b, b"abc");
-        assert_eq!($rt; there, fed);
-        assert_eq!($rt; back, fresh);
-        assert_eq!($rt; a.finish(), fresh);
-        assert_eq!($rt; b.finish(), fed);
+        assert_eq!($rt; [there, back, a.finish(), b.finish()], [fed, fresh, fresh, fed]);
     };
 }
 
@@ -124,12 +150,18 @@ fn examples(rt: HostRuntime) -> Result<(), Fail> {
 
 #[test]
 fn windows(rt: HostRuntime) {
-    assert!(rt; is_window(b"abcd", b"axyd", 2, 0));
-    assert!(rt; !is_window(b"abcd", b"axyd", 1, 0));
-    assert!(rt; !is_window(b"abcd", b"abcd", 4, 0));
-    assert!(rt; !is_window(b"ab", b"abc", 4, 0));
-    assert!(rt; is_window(b"abcd", b"axyd", 2, 0xe0));
-    assert!(rt; !is_window(b"abcd", b"aXyd", 2, 0xe0));
-    assert!(rt; differ_at_one_place(b"abc", b"abd"));
-    assert!(rt; !differ_at_one_place(b"abc", b"acb"));
+    let windows = [
+        is_window(b"abcd", b"axyd", 2, 0),
+        is_window(b"abcd", b"axyd", 2, 0xe0),
+        differ_at_one_place(b"abc", b"abd"),
+    ];
+    let others = [
+        is_window(b"abcd", b"axyd", 1, 0),
+        is_window(b"abcd", b"abcd", 4, 0),
+        is_window(b"ab", b"abc", 4, 0),
+        is_window(b"abcd", b"aXyd", 2, 0xe0),
+        differ_at_one_place(b"abc", b"acb"),
+    ];
+    assert_eq!(rt; windows, [true; 3]);
+    assert_eq!(rt; others, [false; 5]);
 }

@@ -1,12 +1,12 @@
-//! Vectors and worked examples of the hash functions of this crate.
-use crate::fnv::{FNV1aHasher32, FNV1aHasher64, fnv1a32, fnv1a64};
-use crate::laws::{
+//! Vectors and worked examples of the byte hashers.
+use hashers::fnv::{FNV1aHasher32, FNV1aHasher64, fnv1a32, fnv1a64};
+use hashers::laws::{
     ByteStep, Piecewise, Streamed, Undo, answer_of_pieces, apart_by_one, apart_djb2, apart_fnv32,
     apart_fnv64, apart_sdbm, bucket_of, run_pair, run_pieces, run_streamed, same_word,
 };
-use crate::null::{NullHasher, PassThroughHasher, null, passthrough};
-use crate::oz::{DJB2Hasher, LoseLoseHasher, SDBMHasher, djb2, loselose, sdbm};
-use crate::pigeon::{Bricolage, bricolage};
+use hashers::null::{NullHasher, PassThroughHasher, null, passthrough};
+use hashers::oz::{DJB2Hasher, LoseLoseHasher, SDBMHasher, djb2, loselose, sdbm};
+use hashers::pigeon::{Bricolage, bricolage};
 use std::hash::Hasher;
 use std::process::Abort;
 use std::test::Fail;
@@ -32,44 +32,52 @@ fn vectors(rt: HostRuntime) {
         (16461606921607156355, 5860902, 6363201, 195),
     ];
     for (text, (pigeon, bernstein, database, sum)) in texts.iter().zip(short.iter()) {
-        assert_eq!(rt; bricolage(text), *pigeon);
-        assert_eq!(rt; djb2(text), *bernstein);
-        assert_eq!(rt; sdbm(text), *database);
-        assert_eq!(rt; loselose(text), *sum);
+        assert_eq!(rt;
+            [bricolage(text), djb2(text), sdbm(text), loselose(text)],
+            [*pigeon, *bernstein, *database, *sum]
+        );
     }
-    assert_eq!(rt; fnv1a32(b""), 2166136261);
-    assert_eq!(rt; fnv1a32(b"a"), 3826002220);
+    assert_eq!(rt; [fnv1a32(b""), fnv1a32(b"a")], [2166136261, 3826002220]);
 }
 
 #[test]
 fn worked_examples(rt: HostRuntime) {
-    assert_eq!(rt; djb2(&[0x00, 0x21]), 5859940);
-    assert_eq!(rt; djb2(&[0x01, 0x00]), 5859876);
-    assert_eq!(rt; djb2(b"bC"), 5861092);
-    assert_eq!(rt; djb2(b"cb"), 5861092);
-    assert_eq!(rt; djb2(b"bc"), 5861060);
-    assert_eq!(rt; sdbm(&[0]), 0);
-    assert_eq!(rt; loselose(b"ba"), 195);
-    assert_eq!(rt; passthrough(b"abcdefghi"), 0x6263646566676869);
-    assert_eq!(rt; passthrough(b"a"), 97);
-    assert_eq!(rt; null(b"a"), 0);
-    assert_eq!(rt; NullHasher.answer(), 0);
     let mut hasher = DJB2Hasher::default();
     hasher.write_u16(25185);
-    assert_eq!(rt; hasher.finish(), 5860902);
+    assert_eq!(rt;
+        [
+            djb2(&[0x00, 0x21]),
+            djb2(&[0x01, 0x00]),
+            djb2(b"bC"),
+            djb2(b"cb"),
+            djb2(b"bc"),
+            hasher.finish()
+        ],
+        [5859940, 5859876, 5861092, 5861092, 5861060, 5860902]
+    );
+    assert_eq!(rt; [sdbm(&[0]), loselose(b"ba")], [0, 195]);
+    assert_eq!(rt;
+        [
+            passthrough(b"abcdefghi"),
+            passthrough(b"a"),
+            null(b"a"),
+            NullHasher.answer()
+        ],
+        [0x6263646566676869, 97, 0, 0]
+    );
 }
 
 #[test]
 fn faster_sums(rt: HostRuntime) {
-    assert_eq!(rt; sdbm(b"abc"), 807794786);
-    assert_eq!(rt; sdbm(b"abcd"), 3518636162);
-    assert_eq!(rt; sdbm(b"abcde"), 3176136803);
+    assert_eq!(rt;
+        [sdbm(b"abc"), sdbm(b"abcd"), sdbm(b"abcde")],
+        [807794786, 3518636162, 3176136803]
+    );
     let mut all = [0u8; 256];
     for (i, byte) in all.iter_mut().enumerate() {
         *byte = (i & 0xff) as u8;
     }
-    assert_eq!(rt; loselose(&all), 32640);
-    assert_eq!(rt; loselose(&[0xff; 1000]), 255000);
+    assert_eq!(rt; [loselose(&all), loselose(&[0xff; 1000])], [32640, 255000]);
 }
 
 /// A hasher fed in two pieces, and one that takes a step for each byte.
@@ -114,20 +122,30 @@ fn before<H: Undo>(rt: &impl Abort, answer: u64, piece: &[u8]) -> u64 {
 
 #[test]
 fn undoing(rt: HostRuntime) {
-    assert_eq!(rt; before::<DJB2Hasher>(&rt, 177604, b"a"), 5381);
-    assert_eq!(rt; before::<FNV1aHasher32>(&rt, 3826002220, b"a"), 2166136261);
     assert_eq!(rt;
-        before::<FNV1aHasher64>(&rt, 12638187200555641996, b"a"),
-        14695981039346656037
+        [
+            before::<DJB2Hasher>(&rt, 177604, b"a"),
+            before::<FNV1aHasher32>(&rt, 3826002220, b"a"),
+            before::<FNV1aHasher64>(&rt, 12638187200555641996, b"a"),
+            before::<Bricolage>(&rt, 16461606921607156355, b"b"),
+            before::<SDBMHasher>(&rt, 6363201, b"b")
+        ],
+        [
+            5381,
+            2166136261,
+            14695981039346656037,
+            17926483712435944715,
+            97
+        ]
     );
     assert_eq!(rt;
-        before::<Bricolage>(&rt, 16461606921607156355, b"b"),
-        17926483712435944715
+        [
+            DJB2Hasher::unfinish(4294967296).is_none(),
+            SDBMHasher::unfinish(4294967296).is_none(),
+            FNV1aHasher32::unfinish(u64::MAX).is_none()
+        ],
+        [true; 3]
     );
-    assert_eq!(rt; before::<SDBMHasher>(&rt, 6363201, b"b"), 97);
-    assert!(rt; DJB2Hasher::unfinish(4294967296).is_none());
-    assert!(rt; SDBMHasher::unfinish(4294967296).is_none());
-    assert!(rt; FNV1aHasher32::unfinish(u64::MAX).is_none());
     let mut hasher = LoseLoseHasher::default();
     hasher.unwrite(b"ab");
     assert_eq!(rt; hasher.finish(), 18446744073709551421);
@@ -170,25 +188,31 @@ fn windows(rt: HostRuntime) {
     ] {
         assert_eq!(rt; apart_by_one::<FNV1aHasher64>(x, y), apart);
     }
-    assert!(rt; !apart_by_one::<FNV1aHasher64>(b"a", b"ab"));
-    assert!(rt; apart_djb2(b"aaaaaa", b"zzzzzz"));
-    assert!(rt; apart_djb2(b"a1", b"b2"));
-    assert!(rt; apart_djb2(b"bc", b"cb"));
-    assert!(rt; apart_djb2(b"aaaaaa", b"baaaab"));
-    assert!(rt; !apart_djb2(b"bC", b"cb"));
-    assert!(rt; !apart_djb2(b"a", b"A"));
-    assert!(rt; !apart_djb2(b"", b""));
-    assert!(rt; !apart_djb2(b"a", b"ab"));
-    assert!(rt; !apart_djb2(b"aaaaaaa", b"baaaaab"));
-    assert!(rt; !apart_djb2(&[0x00, 0x21], &[0x01, 0x00]));
-    assert!(rt; apart_sdbm(b"abc", b"cba"));
-    assert!(rt; !apart_sdbm(b"abcd", b"dbca"));
-    assert!(rt; !apart_sdbm(b"abcd", b"xbcx"));
-    assert!(rt; apart_fnv64(b"abc", b"cba"));
-    assert!(rt; !apart_fnv64(b"abcd", b"dbca"));
-    assert!(rt; apart_fnv32(b"ab", b"ba"));
-    assert!(rt; apart_fnv32(b"abc", b"bac"));
-    assert!(rt; !apart_fnv32(b"abc", b"cba"));
+    let apart = [
+        apart_djb2(b"aaaaaa", b"zzzzzz"),
+        apart_djb2(b"a1", b"b2"),
+        apart_djb2(b"bc", b"cb"),
+        apart_djb2(b"aaaaaa", b"baaaab"),
+        apart_sdbm(b"abc", b"cba"),
+        apart_fnv64(b"abc", b"cba"),
+        apart_fnv32(b"ab", b"ba"),
+        apart_fnv32(b"abc", b"bac"),
+    ];
+    assert_eq!(rt; apart, [true; 8]);
+    let outside = [
+        apart_by_one::<FNV1aHasher64>(b"a", b"ab"),
+        apart_djb2(b"bC", b"cb"),
+        apart_djb2(b"a", b"A"),
+        apart_djb2(b"", b""),
+        apart_djb2(b"a", b"ab"),
+        apart_djb2(b"aaaaaaa", b"baaaaab"),
+        apart_djb2(&[0x00, 0x21], &[0x01, 0x00]),
+        apart_sdbm(b"abcd", b"dbca"),
+        apart_sdbm(b"abcd", b"xbcx"),
+        apart_fnv64(b"abcd", b"dbca"),
+        apart_fnv32(b"abc", b"cba"),
+    ];
+    assert_eq!(rt; outside, [false; 11]);
 }
 
 /// One place wider, or one bit looser, the hashes collide: pairs that a search over random texts found.
@@ -220,8 +244,8 @@ fn words_of_two_letters(rt: HostRuntime) {
 /// Laws are calls that do nothing.
 #[test]
 fn laws_are_calls() {
-    crate::fnv::origin_of_constants();
-    crate::oz::origin_of_constants();
-    crate::oz::sdbm_of_joined_texts();
-    crate::oz::loselose_ignores_order();
+    hashers::fnv::origin_of_constants();
+    hashers::oz::origin_of_constants();
+    hashers::oz::sdbm_of_joined_texts();
+    hashers::oz::loselose_ignores_order();
 }

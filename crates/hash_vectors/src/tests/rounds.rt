@@ -1,6 +1,6 @@
 //! Known values of the words, the sums and the rounds, and each call once.
 
-use crate::*;
+use hash_rounds::*;
 use std::simd::prelude::*;
 
 const DEAD_BEEF: u64 = 0xdead_beef_dead_beef;
@@ -13,19 +13,35 @@ const ALL_ONES: [u64; 12] = [u64::MAX; 12];
 
 #[test]
 fn words_have_known_values(rt: HostRuntime) {
-    assert_eq!(rt; rotl32(0x8000_0001, 1), 3);
-    assert_eq!(rt; rotl32(3, 31), 0x8000_0001);
-    assert_eq!(rt; rotl64(0x8000_0000_0000_0001, 4), 0x18);
-    assert_eq!(rt; rotl64(0x18, 60), 0x8000_0000_0000_0001);
-    assert_eq!(rt; le32(b"abcd"), 1_684_234_849);
-    assert_eq!(rt; le32(b"ab"), 0x6261);
-    assert_eq!(rt; le32(&[]), 0);
-    assert_eq!(rt; le_four(b"abcd"), 1_684_234_849);
-    assert_eq!(rt; le64(b"abcdefgh"), 0x6867_6665_6463_6261);
+    assert_eq!(rt;
+        [
+            rotl32(0x8000_0001, 1),
+            rotl32(3, 31),
+            le32(b"abcd"),
+            le32(b"ab"),
+            le32(&[]),
+            le_four(b"abcd")
+        ],
+        [3, 0x8000_0001, 1_684_234_849, 0x6261, 0, 1_684_234_849]
+    );
+    assert_eq!(rt;
+        [
+            rotl64(0x8000_0000_0000_0001, 4),
+            rotl64(0x18, 60),
+            le64(b"abcdefgh"),
+            swap_halves(1),
+            swap_halves(0x0123_4567_89ab_cdef)
+        ],
+        [
+            0x18,
+            0x8000_0000_0000_0001,
+            0x6867_6665_6463_6261,
+            4_294_967_296,
+            0x89ab_cdef_0123_4567
+        ]
+    );
     let words: [u64; 2] = le_words(b"abcdefgh\x01\0\0\0\0\0\0\x80");
     assert_eq!(rt; words, [0x6867_6665_6463_6261, 0x8000_0000_0000_0001]);
-    assert_eq!(rt; swap_halves(1), 4_294_967_296);
-    assert_eq!(rt; swap_halves(0x0123_4567_89ab_cdef), 0x89ab_cdef_0123_4567);
 }
 
 #[test]

@@ -1,5 +1,5 @@
 use Rattle.std.proofs.Common.{◌≡◌, ◌<◌, ◌^◌, ◌∙◌, sym, arith}
-use Rattle.hash_fx.proofs.tests.there_and_back32.Goals as goal
+use Rattle.hash_vectors.proofs.tests.fx.there_and_back32.Goals as goal
 
 pub returns : goal.returns
 returns c =

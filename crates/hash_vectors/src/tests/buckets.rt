@@ -1,6 +1,7 @@
 //! The table over two hashers, and where memory is refused.
-use super::*;
+use hash_buckets::{Buckets, Command, NoRoom, NoTable, obey_all};
 use hashers::fnv::FNV1aHasher64;
+use hashers::laws::Piecewise;
 use hashers::null::NullHasher;
 use std::process::Abort;
 use std::test::Fail;

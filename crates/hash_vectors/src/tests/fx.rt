@@ -1,12 +1,12 @@
 //! Values from outside the proofs: vectors, worked rows, and calls that run there and back.
 ghost use Rattle.std.specs.Prelude.{◌≡◌, ◌≤◌, ◌%◌, length};
 
-use crate::laws::{
+use hashers::fx_hash::laws::{
     apart_by_one_fx, fixed_widths_are_words32, fixed_widths_are_words64, run_words, run_words32,
     run_words64,
 };
-use crate::{FxHasher, FxHasher32, FxHasher64, fxhash, fxhash32, fxhash64};
-use hash_laws::laws::{Piecewise, Undo, run_pair};
+use hashers::fx_hash::{FxHasher, FxHasher32, FxHasher64, fxhash, fxhash32, fxhash64};
+use hashers::laws::{Piecewise, Undo, run_pair};
 use std::hash::Hasher;
 use std::process::Abort;
 

@@ -1,9 +1,9 @@
 //! SpookyHash in both forms, by vectors and over all cuts.
-use crate::laws::apart_by_zeros;
-use crate::spooky_hash::{SpookyHasher, spooky, spooky_v1};
-use crate::tests::write_to_spooky;
-use hash_laws::laws::{Piecewise, answer_of_pieces, run_streamed};
+use crate::tests::jenkins::write_to_spooky;
 use hash_rounds::{short_end, un_short_end};
+use hashers::jenkins::laws::apart_by_zeros;
+use hashers::jenkins::spooky_hash::{SpookyHasher, spooky, spooky_v1};
+use hashers::laws::{Piecewise, answer_of_pieces, run_streamed};
 use std::hash::Hasher;
 
 /// The bytes 0, 1, .., 255, 0, ..

@@ -1,21 +1,18 @@
 //! Values from outside the proofs: vectors and worked rows.
-mod plain;
-mod spooky_rows;
-
 ghost use Rattle.std.specs.Prelude.{◌≡◌, fold};
 ghost use Rattle.std.specs.Hash as fed;
 ghost use Rattle.hash_jenkins.specs.Counted.{after_write};
-ghost use Rattle.hash_jenkins.specs.Lookup3.{lookup3};
-ghost use Rattle.hash_jenkins.specs.Oaat.{oaat};
+ghost use Rattle.hashers.specs.Lookup3.{lookup3};
+ghost use Rattle.hashers.specs.Oaat.{oaat};
 
-use crate::laws::same_answers_later;
-use crate::spooky_hash::SpookyHasher;
 use crate::tests::plain::plain_lookup3;
-use crate::{Lookup3Hasher, OAATHasher, lookup3, oaat};
-use hash_laws::laws::{
+use hash_rounds::{lookup3_final, lookup3_mix};
+use hashers::jenkins::laws::same_answers_later;
+use hashers::jenkins::spooky_hash::SpookyHasher;
+use hashers::jenkins::{Lookup3Hasher, OAATHasher, lookup3, oaat};
+use hashers::laws::{
     ByteStep, Piecewise, Undo, answer_of_pieces, apart_by_one, run_pair, run_pieces,
 };
-use hash_rounds::{lookup3_final, lookup3_mix};
 use std::hash::Hasher;
 
 // A number is written as its little-endian bytes, one write on each type.
@@ -31,7 +28,7 @@ fn write_to_lookup3(hasher: &mut Lookup3Hasher, number: u64)
     hasher.write_u64(number);
 }
 
-fn write_to_spooky(hasher: &mut SpookyHasher, number: usize)
+pub(super) fn write_to_spooky(hasher: &mut SpookyHasher, number: usize)
     ensures { hasher.new ≡ fold after_write hasher.old (fed.usize number) }
 {
     hasher.write_usize(number);

@@ -1,0 +1,41 @@
+-- Two texts of one length are the same where their groups of n bytes are, and what is left behind these.
+use Rattle.std.proofs.Common.{◌≡◌, ◌≢◌, ℕ, zero, suc, ◌+◌, ◌*◌, Bool, true, false, List, ◌++◌, take, drop, drop-drop, refl, sym, ap, ap₂, ◌∙◌, arith}
+use Rattle.std.specs.Simd.{first_chunks}
+use Rattle.std.specs.Bool.{Decides}
+use Rattle.std.specs.Str.{bytes_eq}
+use Rattle.std.proofs.lemmas.List.{take-append-drop}
+use Rattle.std.proofs.lemmas.Slice.Eq.{bytes_eq-Decides}
+
+-- what decides whether two texts are the same is their comparison
+decided : (r : Bool) (x y : List ℕ) → Decides r (x ≡ y) → r ≡ bytes_eq x y
+decided true x y d = sym ((bytes_eq-Decides x y).1 (d.0 refl))
+decided false x y d = elim (bytes_eq x y) as (λ t. bytes_eq x y ≡ t → false ≡ t) [ true ↦ λ e. d.1 ((bytes_eq-Decides x y).0 e) | false ↦ λ e. refl ] refl
+
+same_groups : (n k : ℕ) (x y : List ℕ) → first_chunks n k x ≡ first_chunks n k y → drop (k * n) x ≡ drop (k * n) y → x ≡ y
+same_groups n zero x y groups left =
+    let none : 0 * n ≡ 0 = omega arith in
+    sym (ap (λ k. drop k x) none) ∙ left ∙ ap (λ k. drop k y) none
+same_groups n (suc k) x y groups left =
+    let first : take n x ≡ take n y = cc in
+    let others : first_chunks n k (drop n x) ≡ first_chunks n k (drop n y) = cc in
+    let behind : (l : List ℕ) → drop (k * n) (drop n l) ≡ drop (suc k * n) l = λ l. let sum : n + k * n ≡ suc k * n = omega arith in drop-drop (k * n) n l ∙ ap (λ i. drop i l) sum in
+    sym (take-append-drop n x) ∙ ap₂ (λ a b. a ++ b) first (same_groups n k (drop n x) (drop n y) others (behind x ∙ left ∙ sym (behind y))) ∙ take-append-drop n y
+
+module _ (n : ℕ) (x y : List ℕ) (i j : ℕ) (counts : i ≡ j) (groups others : List (List ℕ)) (groups_are : groups ≡ first_chunks n i x) (others_are : others ≡ first_chunks n j y) (r : Bool) (d : Decides r (groups ≡ others)) where
+  pub groups_differ : r ≡ false → r ≡ bytes_eq x y
+  groups_differ differ = decided r x y (λ agree. cc, λ same. d.1 (groups_are ∙ ap₂ (first_chunks n) counts same ∙ sym others_are))
+
+  pub left_decides : r ≡ true → (left other_left : List ℕ) → left ≡ drop (i * n) x → other_left ≡ drop (j * n) y → (s : Bool) → Decides s (left ≡ other_left) → s ≡ bytes_eq x y
+  left_decides agree left other_left left_is other_left_is s e =
+      let chunks : first_chunks n i x ≡ first_chunks n i y = sym groups_are ∙ d.0 agree ∙ others_are ∙ ap (λ k. first_chunks n k y) (sym counts) in
+      decided s x y (
+        λ t. same_groups n i x y chunks (sym left_is ∙ e.0 t ∙ other_left_is ∙ ap (λ k. drop (k * n) y) (sym counts)),
+        λ all. e.1 (left_is ∙ ap₂ (λ k l. drop (k * n) l) counts all ∙ sym other_left_is),
+      )
+
+-- what a comparison says
+pub compared : (x y : List ℕ) → true ≡ bytes_eq x y → x ≡ y
+compared x y e = (bytes_eq-Decides x y).0 (sym e)
+
+pub apart : (x y : List ℕ) → false ≡ bytes_eq x y → x ≢ y
+apart x y e same = let t : bytes_eq x y ≡ true = (bytes_eq-Decides x y).1 same in cc
