@@ -1,6 +1,6 @@
 -- What mixing in the whole blocks of some bytes leads to.
-use Rattle.std.proofs.Common.{◌≡◌, ℕ, ◌+◌, ◌*◌, ◌/◌, ◌%◌, ◌<◌, ◌≤◌, List, ◌++◌, length, take, drop, refl, arith, length-append}
-use Rattle.std.proofs.lemmas.List.{append_assoc, take_at, length-take-le}
+use Rattle.std.proofs.Common.{◌≡◌, ℕ, ◌+◌, ◌-◌, ◌*◌, ◌/◌, ◌%◌, ◌<◌, ◌≤◌, List, [], ◌++◌, length, take, drop, refl, sym, ap, ◌∙◌, arith, length-append, length-drop}
+use Rattle.std.proofs.lemmas.List.{append_assoc, take_at, take-take, take-append-le, take-append-drop, drop-take, length-take-le}
 use Rattle.hash_rounds.specs.Blocks.{spooky_blocks}
 use Rattle.hash_rounds.proofs.BlockLemmas.{spooky_blocks-take}
 use Rattle.hash_jenkins.specs.Put.{put_at}
@@ -31,8 +31,29 @@ mixed_whole s b head rest k full fits ends edge =
     let whole : length (take k b ++ head) % 96 ≡ 0 = omega (arith, length-append (take k b) head, length-take-le k b fits) in
     rw (filled, ← append_assoc) (mixed_through s (take k b ++ head) rest (length rest / 96 * 96) whole refl)
 
+-- a piece that completes one block, put as a whole, and what is behind the block copied to the front
+pub mixed_piece : (s b p : List ℕ) (k n : ℕ) → k ≤ length b → n ≡ k + length p → n ≤ length b → 96 ≤ n → n < 192
+    → mixed s (take k b ++ p) ≡ Long (spooky_blocks (spooky_blocks s (take 96 (put_at k p b))) []) (take (n - 96) (put_at 0 (drop 96 (put_at k p b)) (put_at k p b)))
+mixed_piece s b p k n fits ends within some few =
+    let w : List ℕ = put_at k p b in
+    let all : List ℕ = take k b ++ p in
+    let filled : take n w ≡ all = take-put_at k p b n ends fits in
+    let size : length all ≡ n = omega (arith, ends, length-append (take k b) p, length-take-le k b fits) in
+    let size_w : length w ≡ length b = omega (arith, ends, within, length-append (take k b) (p ++ drop (k + length p) b), length-append p (drop (k + length p) b), length-take-le k b fits, length-drop (k + length p) b) in
+    let front : take 96 w ≡ take 96 all = sym (take-take 96 n w some) ∙ ap (take 96) filled in
+    let enough : n - 96 ≤ length (drop 96 w) = omega (arith, size_w, within, length-drop 96 w) in
+    let whole : 96 + (n - 96) ≡ n = omega (arith, some) in
+    let behind : take (n - 96) (put_at 0 (drop 96 w) w) ≡ drop 96 all =
+    take-append-le (n - 96) (drop 96 w) (drop (0 + length (drop 96 w)) w) enough ∙ sym (drop-take 96 (n - 96) w) ∙ ap (λ i. drop 96 (take i w)) whole ∙ ap (drop 96) filled in
+    let rest : length (drop 96 all) ≡ n - 96 = length-drop 96 all ∙ ap (λ i. i - 96) size in
+    let block : length (take 96 all) % 96 ≡ 0 = omega (arith, size, length-take-le 96 all (omega (arith, size, some))) in
+    let none : 0 ≡ length (drop 96 all) / 96 * 96 = omega (arith, rest, few) in
+    rw (front, behind) (ap (mixed s) (sym (take-append-drop 96 all)) ∙ mixed_through s (take 96 all) (drop 96 all) 0 block none)
+
 pub ruleset slice = (whole_blocks, take-put_first)
 
 pub ruleset part = (mixed_part)
 
 pub ruleset whole = (mixed_whole, take-put_first)
+
+pub ruleset piece = (mixed_piece)

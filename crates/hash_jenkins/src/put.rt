@@ -5,7 +5,7 @@ ghost use Rattle.hash_jenkins.specs.Put.{put_at};
 
 // Writes the bytes at the place `at`.
 #[inline(always)]
-fn put_array<const N: usize>(buffer: &mut [u8], at: usize, bytes: [u8; N])
+pub(crate) fn put_array<const N: usize>(buffer: &mut [u8], at: usize, bytes: [u8; N])
     requires { at + N ≤ length buffer.old }
     ensures { buffer.new ≡ put_at at bytes.entry buffer.old }
 {

@@ -2,7 +2,7 @@
 ghost use Rattle.std.specs.Prelude.{◌≡◌, if◌then◌else◌, nat_lt, ◌+◌, ◌-◌, ◌*◌, ◌/◌, ◌%◌, ◌<◌, ◌≤◌, ◌++◌, length, take};
 ghost use Rattle.hash_jenkins.specs.Spooky.{Long, padded, long_words, mixed};
 
-use crate::put::put;
+use crate::put::{put, put_array};
 use crate::spooky_short::{LONG, zero_filled};
 use hash_rounds::{Turns, le_words, spooky_blocks, spooky_end};
 
@@ -73,6 +73,38 @@ fn mix_whole_blocks(
     left.len()
 }
 
+// The same where the kept bytes and a piece of at most 96 complete one block. The piece is kept as a whole first, and what is
+// behind the block is copied down by a fixed length, so that no copy depends on how much is kept.
+#[inline(never)]
+#[tactic(auto, using(crate::proofs::MixLemmas::piece))]
+fn mix_piece(
+    words: &mut [u64; 12],
+    buffer: &mut [u8; 192],
+    kept: usize,
+    piece: &[u8],
+    turns: &mut Turns,
+) -> usize
+    requires within { kept < 96 }
+    requires few { length piece.now ≤ 96 }
+    requires enough { 96 ≤ kept + length piece.now }
+    ensures position { Long words.new (take result buffer.new)
+        ≡ mixed words.old (take kept buffer.old ++ piece.now) }
+    ensures part { result < 96 }
+    ensures turns { turns.new ≡ turns.old + 2 }
+{
+    let end = kept + piece.len();
+    put(buffer, kept, piece);
+    let mut mixed = *words;
+    spooky_blocks(&buffer[..BLOCK], &mut mixed, turns);
+    spooky_blocks(&[], &mut mixed, turns); // no block follows
+    *words = mixed;
+    if let Some(behind) = buffer.last_chunk::<96>() {
+        let behind = *behind;
+        put_array(buffer, 0, behind);
+    }
+    end - BLOCK
+}
+
 // The same where no bytes are kept.
 #[inline(never)]
 #[tactic(auto, using(crate::proofs::MixLemmas::slice), unfolding(crate::specs::Spooky::tail))]
@@ -117,6 +149,8 @@ pub(crate) fn mix_blocks(
     }
     if kept == 0 {
         mix_slice(words, buffer, bytes, turns)
+    } else if kept < BLOCK && bytes.len() <= BLOCK && bytes.len() >= 32 {
+        mix_piece(words, buffer, kept, bytes, turns)
     } else {
         mix_whole_blocks(words, buffer, kept, bytes, turns)
     }
