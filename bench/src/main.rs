@@ -3,6 +3,11 @@
 //! With the words `hash NAME` it prints the original's hash of standard input instead.
 //!
 //! Answers are compared first. A cell is the original's median time, ours, and the first divided by the second.
+//!
+//! A linker puts a function at a multiple of 16 bytes, as it comes. Some processors take a short loop with a jump over a
+//! multiple of 32 bytes at half its speed, and where a process's pages lie has as much effect on loops of a few cycles. Both
+//! are chance. So this program is linked at four placements and run several times: `measure FILE` writes its medians to the
+//! file, and `tables FILE` measures as well and prints for each side the least median of all.
 mod measure;
 mod original;
 mod ours;
@@ -15,7 +20,19 @@ use hashers::null::{NullHasher, PassThroughHasher};
 use hashers::oz::{DJB2Hasher, LoseLoseHasher, SDBMHasher};
 use hashers::pigeon::Bricolage;
 use measure::{gigahertz, Pair, Sheet};
+use std::fs::OpenOptions;
 use std::hint::black_box;
+use std::io::Write;
+
+std::arch::global_asm!(concat!(
+    ".globl placed\nplaced: .skip ",
+    env!("HASH_SPEED_BEHIND")
+));
+
+extern "C" {
+    /// Stands before all code, with the bytes of its own that this placement has.
+    fn placed();
+}
 
 /// A call over a text.
 type Call = unsafe extern "C" fn(*const u8, usize) -> u64;
@@ -466,35 +483,69 @@ fn hash_input(name: &str) -> u64 {
     }
 }
 
-fn main() {
-    if let (Some("hash"), Some(name)) =
-        (std::env::args().nth(1).as_deref(), std::env::args().nth(2))
-    {
-        println!("{}", hash_input(&name));
-        return;
-    }
-    let only = std::env::args().nth(1).unwrap_or_default();
+/// The pairs of each process that wrote to the file.
+fn read_pairs(file: &str) -> Vec<Vec<Pair>> {
+    let text = std::fs::read_to_string(file).expect("the times of other processes");
+    let pairs = |line: &str| {
+        let times: Vec<f64> = line.split(' ').filter_map(|it| it.parse().ok()).collect();
+        let pair = |two: &[f64]| Pair {
+            original: two[0],
+            ours: two[1],
+        };
+        times.chunks_exact(2).map(pair).collect()
+    };
+    text.lines().map(pairs).collect()
+}
+
+/// Adds a line with the pairs of this process.
+fn write_pairs(file: &str, pairs: &[Pair]) {
+    let line: String = pairs
+        .iter()
+        .map(|pair| format!("{} {} ", pair.original, pair.ours))
+        .collect();
+    let mut file = OpenOptions::new()
+        .create(true)
+        .append(true)
+        .open(file)
+        .expect("a file for the times");
+    writeln!(file, "{line}").expect("the times written");
+}
+
+/// Measures all whose name has `only` in it.
+fn measure_all(sheet: &mut Sheet, only: &str) {
     let mut names = names();
-    names.retain(|n| n.name.contains(&only));
+    names.retain(|n| n.name.contains(only));
     let text = bytes(LONGEST);
     let gigahertz = gigahertz();
-    println!(
-        "{gigahertz:.2} GHz; a cell is the original's median / ours = **the ratio**, each of {} runs by turns; of {} passes the one with the middle ratio",
-        measure::RUNS,
-        measure::PASSES
-    );
-    let mut sheet = Sheet::default();
-    for _ in 0..measure::PASSES {
-        sheet.begin_pass();
-        keys(&mut sheet, &names, &text);
-        pieces(&mut sheet, &names, &text);
-        texts(&mut sheet, &names, &text, gigahertz);
-        if only.is_empty() {
-            numbers(&mut sheet, &text);
-            behind(&mut sheet, &text);
-            readers(&mut sheet, &text);
-            unwrites(&mut sheet, &text);
-            tables(&mut sheet, &text);
+    sheet.line(&format!(
+        "{gigahertz:.2} GHz; a cell is the original's time / ours = **the ratio**, each side's time the least of {} processes', two at each of four placements, and a process's the median of {} runs by turns",
+        sheet.processes(),
+        measure::RUNS
+    ));
+    keys(sheet, &names, &text);
+    pieces(sheet, &names, &text);
+    texts(sheet, &names, &text, gigahertz);
+    if only.is_empty() {
+        numbers(sheet, &text);
+        behind(sheet, &text);
+        readers(sheet, &text);
+        unwrites(sheet, &text);
+        tables(sheet, &text);
+    }
+}
+
+fn main() {
+    black_box(placed as *const ());
+    let words: Vec<String> = std::env::args().skip(1).collect();
+    let words: Vec<&str> = words.iter().map(String::as_str).collect();
+    match words[..] {
+        ["hash", name] => println!("{}", hash_input(name)),
+        ["measure", file, only] => {
+            let mut sheet = Sheet::new(Vec::new(), false);
+            measure_all(&mut sheet, only);
+            write_pairs(file, sheet.pairs());
         }
+        ["tables", file, only] => measure_all(&mut Sheet::new(read_pairs(file), true), only),
+        _ => eprintln!("usage: bench hash NAME | measure FILE NAME | tables FILE NAME"),
     }
 }

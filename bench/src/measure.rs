@@ -56,37 +56,49 @@ fn side_by_side(original: &dyn Fn() -> u64, ours: &dyn Fn() -> u64) -> Pair {
     }
 }
 
-/// How often all is measured.
-pub const PASSES: usize = 3;
-
-/// All pairs of each pass, in one order. The last pass prints, of each pair the one with the middle ratio.
-#[derive(Default)]
+/// The pairs of this process, in one order, beside those of the processes before it.
 pub struct Sheet {
-    passes: Vec<Vec<Pair>>,
+    before: Vec<Vec<Pair>>,
+    now: Vec<Pair>,
+    prints: bool,
 }
 
 impl Sheet {
-    pub fn begin_pass(&mut self) {
-        self.passes.push(Vec::new());
+    /// A sheet that prints where `prints`.
+    pub fn new(before: Vec<Vec<Pair>>, prints: bool) -> Self {
+        Self {
+            before,
+            now: Vec::new(),
+            prints,
+        }
     }
 
     pub fn line(&self, text: &str) {
-        if self.passes.len() == PASSES {
+        if self.prints {
             println!("{text}");
         }
     }
 
-    /// Measures both, and answers the pass with the middle ratio of those so far.
+    /// Measures both, and answers for each side the least median of all processes.
     pub fn pair(&mut self, original: &dyn Fn() -> u64, ours: &dyn Fn() -> u64) -> Pair {
+        let place = self.now.len();
         let now = side_by_side(original, ours);
-        let mut place = 0;
-        if let Some(pass) = self.passes.last_mut() {
-            place = pass.len();
-            pass.push(now);
-        }
-        let mut pairs: Vec<Pair> = self.passes.iter().map(|pass| pass[place]).collect();
-        pairs.sort_by(|a, b| a.ratio().total_cmp(&b.ratio()));
-        pairs[pairs.len() / 2]
+        self.now.push(now);
+        let before = self.before.iter().map(|process| process[place]);
+        before.fold(now, |a, b| Pair {
+            original: a.original.min(b.original),
+            ours: a.ours.min(b.ours),
+        })
+    }
+
+    /// How many processes there are, this one among them.
+    pub fn processes(&self) -> usize {
+        self.before.len() + 1
+    }
+
+    /// What this process measured.
+    pub fn pairs(&self) -> &[Pair] {
+        &self.now
     }
 }
 

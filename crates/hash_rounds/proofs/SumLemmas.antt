@@ -132,10 +132,6 @@ loselose-append s t u =
 pub loselose-one : (s b : ℕ) → loselose s (b ∷ []) ≡ loselose_step s b
 loselose-one s b = ap (λ n. n % 2 ^ 64) (rw (sum_by-cons (λ v. v) b []) (omega arith))
 
--- a text of one byte
-pub loselose_of_one : (s : ℕ) (t : List ℕ) → 1 ≤ length t → length t < 2 → loselose s t ≡ (s + get_or t 0 0) % 2 ^ 64
-loselose_of_one s t some few = ap (loselose s) (only_byte t some few) ∙ loselose-one s (get_or t 0 0)
-
 -- one byte more
 pub loselose_push : (s : ℕ) (t : List ℕ) (b : ℕ) → (loselose s t + b) % 2 ^ 64 ≡ loselose s (t ++ b ∷ [])
 loselose_push s t b = sym (loselose-one (loselose s t) b) ∙ loselose-append s t (b ∷ [])

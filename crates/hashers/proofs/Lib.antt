@@ -1,3 +1,4 @@
+pub mod ChunkSums
 pub mod Collisions
 pub mod Djb2Window
 pub mod FnvWindows

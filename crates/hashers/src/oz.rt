@@ -107,6 +107,31 @@ fn loselose_unstepped(state: u64, byte: u8) -> u64
     state.wrapping_sub(u64::from(byte))
 }
 
+/// The sum of four bytes.
+#[inline(always)]
+fn sum_of_four(four: &[u8; 4]) -> u64
+    ensures { result ≡ loselose 0 four.now }
+{
+    let [a, b, c, d] = *four;
+    u64::from(a) + u64::from(b) + u64::from(c) + u64::from(d)
+}
+
+/// The bytes of lose lose on, the last of them four in each turn.
+#[inline(always)]
+fn loselose_in(state: u64, few: &[u8]) -> u64
+    ensures { result ≡ loselose state few.now }
+{
+    let (ones, fours) = few.as_rchunks::<4>();
+    let mut h = state;
+    for byte in ones {
+        h = loselose_stepped(h, *byte);
+    }
+    for four in fours {
+        h = h.wrapping_add(sum_of_four(four));
+    }
+    h
+}
+
 /// The sum of eight bytes, in one turn of `lose8`. The lanes begin at 0 and are summed at once: the processor has one step
 /// for both.
 #[inline(always)]
@@ -549,8 +574,7 @@ impl Hasher for LoseLoseHasher {
         self.state // as it is, of lose lose
     }
 
-    /// Sums the bytes, eight in each turn of `lose8` and the last up to seven alone, and adds the sum. A single byte has
-    /// no loop.
+    /// Adds the up to seven first bytes, and then eight in each turn of `lose8`.
     #[inline(always)]
     fn write(&mut self, bytes: &[u8])
         ensures value { self.new ≡ loselose_write self.old bytes.now }
@@ -559,19 +583,12 @@ impl Hasher for LoseLoseHasher {
         ensures known_before { self.old.state < 2 ^ 64 }
         ensures known_after { self.new.state < 2 ^ 64 }
     {
-        if let [byte] = bytes {
-            self.state = loselose_stepped(self.state, *byte);
-            return;
-        }
-        let (eights, rest) = bytes.as_chunks::<8>();
-        let mut sum: u64 = 0;
+        let (few, eights) = bytes.as_rchunks::<8>();
+        let mut state = loselose_in(self.state, few);
         for eight in eights {
-            sum = sum.wrapping_add(sum_of_eight(eight, &mut self.turns));
+            state = state.wrapping_add(sum_of_eight(eight, &mut self.turns));
         }
-        for byte in rest {
-            sum = sum.wrapping_add(u64::from(*byte));
-        }
-        self.state = self.state.wrapping_add(sum);
+        self.state = state;
     }
 }
 
