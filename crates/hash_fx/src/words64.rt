@@ -107,8 +107,9 @@ pub fn words_in(state: u64, piece: &[u8]) -> u64
     ensures { result ≡ fx64 state (words64 piece.now) }
 {
     let (eights, rest) = piece.as_chunks::<8>();
+    let h = eights_in(state, eights);
     let (fours, bytes) = rest.as_chunks::<4>();
-    bytes_in(fours_in(eights_in(state, eights), fours), bytes)
+    bytes_in(fours_in(h, fours), bytes)
 }
 
 /// The words of a piece out again, from the last to the first.

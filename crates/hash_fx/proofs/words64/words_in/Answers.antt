@@ -16,6 +16,6 @@ returns c =
     let bytes = c.as_chunks-2.result.1.now in
     let words : eights ++ (fours ++ bytes) ≡ words64 c.args.piece.now =
     rw (c.as_chunks-2.ensures.front, c.as_chunks-2.ensures.back, c.as_chunks.ensures.front, c.as_chunks.ensures.back) refl in
-    c.bytes_in.ensures ∙ ap (λ s. fold fx64_step s bytes) (c.fours_in.ensures ∙ ap (λ s. fold fx64_step s fours) c.eights_in.ensures)
+    c.bytes_in.ensures ∙ ap (λ s. fold fx64_step s bytes) (c.fours_in.ensures ∙ ap (λ s. fold fx64_step s fours) c.eights_in-h.ensures)
     ∙ sym (fold-append fx64_step c.args.state eights (fours ++ bytes) ∙ fold-append fx64_step (fold fx64_step c.args.state eights) fours bytes)
     ∙ ap (fold fx64_step c.args.state) words ∙ sym (recurrence-fold fx64_step c.args.state (words64 c.args.piece.now))
