@@ -518,7 +518,7 @@ fn measure_all(sheet: &mut Sheet, only: &str) {
     let text = bytes(LONGEST);
     let gigahertz = gigahertz();
     sheet.line(&format!(
-        "{gigahertz:.2} GHz; a cell is the original's time / ours = **the ratio**, each side's time the least of {} processes', two at each of four placements, and a process's the median of {} runs by turns",
+        "{gigahertz:.2} GHz; a cell is the original's time / ours = **the ratio**, and a side's time the least of {} processes' medians of {} runs by turns",
         sheet.processes(),
         measure::RUNS
     ));
@@ -546,6 +546,9 @@ fn main() {
             write_pairs(file, sheet.pairs());
         }
         ["tables", file, only] => measure_all(&mut Sheet::new(read_pairs(file), true), only),
-        _ => eprintln!("usage: bench hash NAME | measure FILE NAME | tables FILE NAME"),
+        _ => {
+            eprintln!("usage: bench hash NAME | measure FILE NAME | tables FILE NAME");
+            std::process::exit(2);
+        }
     }
 }
