@@ -2,7 +2,7 @@
 //!
 //! With the words `hash NAME` it prints the original's hash of standard input instead.
 //!
-//! Answers are compared first. A cell is the original's median time, ours, and the first divided by the second.
+//! Answers are compared first. A cell is the original's time, ours, and the first divided by the second.
 //!
 //! A linker puts a function at a multiple of 16 bytes, as it comes. Some processors take a short loop with a jump over a
 //! multiple of 32 bytes at half its speed, and where a process's pages lie has as much effect on loops of a few cycles. Both
@@ -487,7 +487,8 @@ fn hash_input(name: &str) -> u64 {
 fn read_pairs(file: &str) -> Vec<Vec<Pair>> {
     let text = std::fs::read_to_string(file).expect("the times of other processes");
     let pairs = |line: &str| {
-        let times: Vec<f64> = line.split(' ').filter_map(|it| it.parse().ok()).collect();
+        let time = |it: &str| it.parse().expect("a time");
+        let times: Vec<f64> = line.split_whitespace().map(time).collect();
         let pair = |two: &[f64]| Pair {
             original: two[0],
             ours: two[1],

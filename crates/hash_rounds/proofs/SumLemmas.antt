@@ -74,10 +74,6 @@ only_byte (b ∷ more ∷ rest) some few = absurd (omega arith)
 
 -- ---- sdbm
 
-pub sdbm-lt : (s : ℕ) (t : List ℕ) → sdbm s t < 2 ^ 32
-unfolding sdbm
-sdbm-lt s t = mod-lt _ (lit< tt)
-
 pub sdbm-nil : (s : ℕ) → s < 2 ^ 32 → sdbm s [] ≡ s
 unfolding sdbm
 sdbm-nil = number-nil 65599 (2 ^ 32)
@@ -119,9 +115,6 @@ sdbm_of_four h (a ∷ b ∷ c ∷ d ∷ e ∷ xs) n = absurd (omega arith)
 
 -- ---- lose lose
 
-pub loselose-lt : (s : ℕ) (t : List ℕ) → loselose s t < 2 ^ 64
-loselose-lt s t = mod-lt _ (lit< tt)
-
 pub loselose-nil : (s : ℕ) → s < 2 ^ 64 → loselose s [] ≡ s
 loselose-nil s s_in = let e : s + 0 ≡ s = omega arith in ap (λ n. n % 2 ^ 64) e ∙ mod-eq_of_lt s_in
 
@@ -131,10 +124,6 @@ loselose-append s t u =
 
 pub loselose-one : (s b : ℕ) → loselose s (b ∷ []) ≡ loselose_step s b
 loselose-one s b = ap (λ n. n % 2 ^ 64) (rw (sum_by-cons (λ v. v) b []) (omega arith))
-
--- one byte more
-pub loselose_push : (s : ℕ) (t : List ℕ) (b : ℕ) → (loselose s t + b) % 2 ^ 64 ≡ loselose s (t ++ b ∷ [])
-loselose_push s t b = sym (loselose-one (loselose s t) b) ∙ loselose-append s t (b ∷ [])
 
 pub loselose-fold : (s : ℕ) (t : List ℕ) → s < 2 ^ 64 → loselose s t ≡ fold loselose_step s t
 loselose-fold s [] s_in = loselose-nil s s_in

@@ -116,12 +116,12 @@ fn sum_of_four(four: &[u8; 4]) -> u64
     u64::from(a) + u64::from(b) + u64::from(c) + u64::from(d)
 }
 
-/// The bytes of lose lose on, the last of them four in each turn.
+/// The bytes of lose lose in: up to three alone, and then four at a time.
 #[inline(always)]
-fn loselose_in(state: u64, few: &[u8]) -> u64
-    ensures { result ≡ loselose state few.now }
+fn loselose_bytes_in(state: u64, bytes: &[u8]) -> u64
+    ensures { result ≡ loselose state bytes.now }
 {
-    let (ones, fours) = few.as_rchunks::<4>();
+    let (ones, fours) = bytes.as_rchunks::<4>();
     let mut h = state;
     for byte in ones {
         h = loselose_stepped(h, *byte);
@@ -584,7 +584,7 @@ impl Hasher for LoseLoseHasher {
         ensures known_after { self.new.state < 2 ^ 64 }
     {
         let (few, eights) = bytes.as_rchunks::<8>();
-        let mut state = loselose_in(self.state, few);
+        let mut state = loselose_bytes_in(self.state, few);
         for eight in eights {
             state = state.wrapping_add(sum_of_eight(eight, &mut self.turns));
         }

@@ -15,7 +15,7 @@ pub returns-clause-state : goal.returns-clause-state
 returns-clause-state c =
     let bytes = c.args.bytes.now in
     c.loop-eight.invariant.0
-    ∙ rw (c.loselose_in-state.ensures, c.as_rchunks.ensures.front)
+    ∙ rw (c.loselose_bytes_in-state.ensures, c.as_rchunks.ensures.front)
     (all_chunks (length bytes % 8) (c.loop-eight.eight-index * 8) c.self.inside.state bytes (omega arith))
     ∙ ap (λ v. loselose v.state bytes) c.self.view_is
 
