@@ -1,5 +1,5 @@
--- Lose lose over a text in chunks, behind its few first bytes.
-use Rattle.std.proofs.Common.{ℕ, ◌≡◌, ◌+◌, ◌*◌, ◌%◌, ◌^◌, ◌<◌, ◌≤◌, arith, List, [], length, take, drop, get_or, sum, ap, ◌∙◌, zero-add, length-drop, take-append-drop, take_all}
+-- Lose lose over a text in chunks, and its few last bytes.
+use Rattle.std.proofs.Common.{ℕ, ◌≡◌, ◌+◌, ◌*◌, ◌%◌, ◌^◌, ◌<◌, List, [], take, drop, get_or, sum, ap, ◌∙◌, zero-add, take-append-drop}
 use Rattle.std.proofs.Math.Nat.{add-mod-mod}
 use Rattle.std.specs.Simd.{first_chunks}
 use Rattle.hash_rounds.specs.Sums.{loselose}
@@ -17,9 +17,6 @@ chunk_more n k i s text here =
     let chunk = get_or (first_chunks n k text) i [] in
     state_and_sum (loselose s (take (i * n) text)) chunk ∙ loselose-append s (take (i * n) text) chunk ∙ ap (loselose s) (take_chunk n k i text [] here)
 
--- the few first bytes, and then so many that they are all
-pub all_chunks : (few bytes s : ℕ) (text : List ℕ) → length text ≤ few + bytes
-    → loselose (loselose s (take few text)) (take bytes (drop few text)) ≡ loselose s text
-all_chunks few bytes s text all =
-    rw (take_all bytes (drop few text) (omega (arith, length-drop few text)))
-    (loselose-append s (take few text) (drop few text) ∙ ap (loselose s) (take-append-drop few text))
+-- the chunks, and then the bytes behind them
+pub chunks_and_rest : (n s : ℕ) (text : List ℕ) → loselose (loselose s (take n text)) (drop n text) ≡ loselose s text
+chunks_and_rest n s text = loselose-append s (take n text) (drop n text) ∙ ap (loselose s) (take-append-drop n text)

@@ -107,27 +107,14 @@ fn loselose_unstepped(state: u64, byte: u8) -> u64
     state.wrapping_sub(u64::from(byte))
 }
 
-/// The sum of four bytes.
-#[inline(always)]
-fn sum_of_four(four: &[u8; 4]) -> u64
-    ensures { result ≡ loselose 0 four.now }
-{
-    let [a, b, c, d] = *four;
-    u64::from(a) + u64::from(b) + u64::from(c) + u64::from(d)
-}
-
-/// The bytes of lose lose in: up to three alone, and then four at a time.
+/// The bytes of lose lose in, one step for each.
 #[inline(always)]
 fn loselose_bytes_in(state: u64, bytes: &[u8]) -> u64
     ensures { result ≡ loselose state bytes.now }
 {
-    let (ones, fours) = bytes.as_rchunks::<4>();
     let mut h = state;
-    for byte in ones {
+    for byte in bytes {
         h = loselose_stepped(h, *byte);
-    }
-    for four in fours {
-        h = h.wrapping_add(sum_of_four(four));
     }
     h
 }
@@ -574,7 +561,8 @@ impl Hasher for LoseLoseHasher {
         self.state // as it is, of lose lose
     }
 
-    /// Adds the up to seven first bytes, and then eight in each turn of `lose8`.
+    /// Adds eight bytes in each turn of `lose8`, and the up to seven last ones one by one. Fewer than eight have a way of
+    /// their own, with nothing else on it.
     #[inline(always)]
     fn write(&mut self, bytes: &[u8])
         ensures value { self.new ≡ loselose_write self.old bytes.now }
@@ -583,12 +571,16 @@ impl Hasher for LoseLoseHasher {
         ensures known_before { self.old.state < 2 ^ 64 }
         ensures known_after { self.new.state < 2 ^ 64 }
     {
-        let (few, eights) = bytes.as_rchunks::<8>();
-        let mut state = loselose_bytes_in(self.state, few);
+        if bytes.len() < 8 {
+            self.state = loselose_bytes_in(self.state, bytes);
+            return;
+        }
+        let (eights, few) = bytes.as_chunks::<8>();
+        let mut state = self.state;
         for eight in eights {
             state = state.wrapping_add(sum_of_eight(eight, &mut self.turns));
         }
-        self.state = state;
+        self.state = loselose_bytes_in(state, few);
     }
 }
 

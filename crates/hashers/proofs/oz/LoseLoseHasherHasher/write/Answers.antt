@@ -1,22 +1,22 @@
-use Rattle.std.proofs.Common.{◌≡◌, ◌+◌, ◌*◌, ◌<◌, ◌/◌, ◌%◌, ◌∙◌, ap, arith, length, drop}
+use Rattle.std.proofs.Common.{◌≡◌, ◌+◌, ◌*◌, ◌<◌, ◌/◌, ◌∙◌, ap, arith, length}
 use Rattle.hash_rounds.specs.Sums.{loselose}
-use Rattle.hashers.proofs.ChunkSums.{chunk_more, all_chunks}
+use Rattle.hashers.proofs.ChunkSums.{chunk_more, chunks_and_rest}
 use Rattle.hashers.proofs.oz.LoseLoseHasherHasher.write.Goals as goal
 
 pub loop-eight-preserved : goal.loop-eight-preserved
 loop-eight-preserved c =
     let bytes = c.args.bytes.now in
     let here : c.loop-eight.eight-index < length bytes / 8 = omega arith in (
-      rw (c.sum_of_eight-state.ensures.value, c.loop-eight.invariant.0, c.as_rchunks.ensures.back) (chunk_more 8 (length bytes / 8) _ _ (drop (length bytes % 8) bytes) here),
+      rw (c.sum_of_eight-state.ensures.value, c.loop-eight.invariant.0, c.as_chunks.ensures.front) (chunk_more 8 (length bytes / 8) _ _ bytes here),
       omega arith,
     )
 
 pub returns-clause-state : goal.returns-clause-state
 returns-clause-state c =
     let bytes = c.args.bytes.now in
-    c.loop-eight.invariant.0
-    ∙ rw (c.loselose_bytes_in-state.ensures, c.as_rchunks.ensures.front)
-    (all_chunks (length bytes % 8) (c.loop-eight.eight-index * 8) c.self.inside.state bytes (omega arith))
+    let eights : c.loop-eight.eight-index ≡ length bytes / 8 = omega arith in
+    c.loselose_bytes_in-self-inside-2.ensures
+    ∙ rw (c.loop-eight.invariant.0, c.as_chunks.ensures.back, eights) (chunks_and_rest (length bytes / 8 * 8) c.self.inside.state bytes)
     ∙ ap (λ v. loselose v.state bytes) c.self.view_is
 
 pub returns-clause-turns : goal.returns-clause-turns
