@@ -1,5 +1,5 @@
 -- Laws of the sums of bytes: of no bytes, of joined texts, and byte by byte.
-use Rattle.std.proofs.Common.{◌≡◌, ℕ, suc, ◌+◌, ◌-◌, ◌*◌, ◌%◌, ◌^◌, ◌<◌, ◌≤◌, List, [], ◌∷◌, ◌++◌, length, get_or, All, take, drop, sum, map, fold, refl, sym, ap, ◌∙◌, arith, add-zero, length-append, length-drop, take-append-drop, pow-add, lit<}
+use Rattle.std.proofs.Common.{◌≡◌, ℕ, suc, ◌+◌, ◌-◌, ◌*◌, ◌%◌, ◌^◌, ◌<◌, ◌≤◌, List, [], ◌∷◌, ◌++◌, length, get_or, All, take, drop, sum, map, fold, refl, sym, ap, ◌∙◌, arith, add-zero, zero-add, length-append, length-drop, take-append-drop, pow-add, lit<}
 use Rattle.std.specs.Int.{w64, from_be_bytes}
 use Rattle.std.specs.Simd.Lanes.{fold_l, zip2}
 use Rattle.std.proofs.Math.Nat.{mod-add-mod, add-mod-mod, add-mul-mod_self_left, mod-lt, mod-eq_of_lt, pow-suc, pow-zero, mul-one, mul_comm}
@@ -124,6 +124,10 @@ loselose-append s t u =
 
 pub loselose-one : (s b : ℕ) → loselose s (b ∷ []) ≡ loselose_step s b
 loselose-one s b = ap (λ n. n % 2 ^ 64) (rw (sum_by-cons (λ v. v) b []) (omega arith))
+
+-- the sum of some bytes is added to a state
+pub loselose-add : (s : ℕ) (t : List ℕ) → (s + loselose 0 t) % 2 ^ 64 ≡ loselose s t
+loselose-add s t = add-mod-mod s (0 + sum t) (2 ^ 64) ∙ ap (λ n. (s + n) % 2 ^ 64) (zero-add (sum t))
 
 pub loselose-fold : (s : ℕ) (t : List ℕ) → s < 2 ^ 64 → loselose s t ≡ fold loselose_step s t
 loselose-fold s [] s_in = loselose-nil s s_in

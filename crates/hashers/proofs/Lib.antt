@@ -1,4 +1,3 @@
-pub mod ChunkSums
 pub mod Collisions
 pub mod Djb2Window
 pub mod FnvWindows

@@ -1,23 +1,31 @@
-use Rattle.std.proofs.Common.{◌≡◌, ◌+◌, ◌*◌, ◌<◌, ◌/◌, ◌∙◌, ap, arith, length}
+use Rattle.std.proofs.Common.{◌≡◌, ◌+◌, ◌*◌, ◌<◌, ◌/◌, ◌∙◌, [], ◌++◌, ap, arith, length, get_or, take, take-append-drop}
 use Rattle.hash_rounds.specs.Sums.{loselose}
-use Rattle.hashers.proofs.ChunkSums.{chunk_more, chunks_and_rest}
+use Rattle.hash_rounds.proofs.SumLemmas.{loselose-add, loselose-append}
+use Rattle.hash_rounds.proofs.Chunks.{take_chunk}
 use Rattle.hashers.proofs.oz.LoseLoseHasherHasher.write.Goals as goal
 
 pub loop-eight-preserved : goal.loop-eight-preserved
 loop-eight-preserved c =
     let bytes = c.args.bytes.now in
-    let here : c.loop-eight.eight-index < length bytes / 8 = omega arith in (
-      rw (c.sum_of_eight-state.ensures.value, c.loop-eight.invariant.0, c.as_chunks.ensures.front) (chunk_more 8 (length bytes / 8) _ _ bytes here),
+    let s = c.self.inside.state in
+    let i = c.loop-eight.eight-index in
+    let eight = get_or c.as_chunks.result.0.now i [] in
+    let here : i < length bytes / 8 = omega arith in
+    let more : take (i * 8) bytes ++ eight ≡ take ((i + 1) * 8) bytes = rw c.as_chunks.ensures.front (take_chunk 8 (length bytes / 8) i bytes [] here) in (
+      rw (c.sum_of_eight-state.ensures.value, c.loop-eight.invariant.0)
+          (loselose-add _ eight ∙ loselose-append s (take (i * 8) bytes) eight ∙ ap (loselose s) more),
       omega arith,
     )
 
 pub returns-clause-state : goal.returns-clause-state
 returns-clause-state c =
     let bytes = c.args.bytes.now in
+    let rest = c.as_chunks.result.1.now in
+    let s = c.self.inside.state in
     let eights : c.loop-eight.eight-index ≡ length bytes / 8 = omega arith in
     c.loselose_bytes_in-self-inside-2.ensures
-    ∙ rw (c.loop-eight.invariant.0, c.as_chunks.ensures.back, eights) (chunks_and_rest (length bytes / 8 * 8) c.self.inside.state bytes)
-    ∙ ap (λ v. loselose v.state bytes) c.self.view_is
+    ∙ rw (c.loop-eight.invariant.0, loselose-append s (take (c.loop-eight.eight-index * 8) bytes) rest, c.as_chunks.ensures.back, eights, take-append-drop (length bytes / 8 * 8) bytes)
+    (ap (λ v. loselose v.state bytes) c.self.view_is)
 
 pub returns-clause-turns : goal.returns-clause-turns
 returns-clause-turns c =
