@@ -1,6 +1,7 @@
 //! `hashof NAME` prints the hash of that name of its standard input, as a line.
 #![tactic(auto)]
 
+mod name;
 mod outcome;
 mod run;
 #[cfg(test)]

@@ -2,12 +2,13 @@
 ghost use Rattle.std.specs.Prelude.{◌≡◌, ◌≢◌, ◌^◌, ◌<◌, ◌≤◌, ◌↔◌, [], ◌∷◌, length, drop, fold, OnOk, OnErr, IfErr};
 ghost use Rattle.std.specs.Io.KnownBytes.{Appends};
 ghost use Rattle.hash_laws.specs.Reading.{cut};
-ghost use Rattle.hashof.specs.Named.{IsName, named, line_of};
+ghost use Rattle.hashof.specs.Named.{IsName, hash_by, named, line_of};
 ghost use Rattle.hashof.specs.Telling.{Tells, FeedsAll, AppendsBeginning};
 ghost use Rattle.hashers.specs.Fx.{fx32, fx64, words32, words64};
 ghost use Rattle.hashers.specs.Spooky.{spooky_v1};
 ghost use Rattle.hashof.specs.Refusals.{Refuses, RefusesRead};
 
+use crate::name::{Algorithm, algorithm_named};
 use hashers::engine::{Fault, Taken, hash_reader};
 use hashers::fnv::{FNV1aHasher32, FNV1aHasher64};
 use hashers::fx_hash::{FxHasher, FxHasher32, FxHasher64};
@@ -190,6 +191,38 @@ fn tell_fxhash64<R: Read, W: Write>(limit: u64, r: &mut R, w: &mut W) -> Result<
     tell_pieces::<FxHasher64, R, W>(limit, r, w)
 }
 
+/// Tells the hash by that algorithm of what is read.
+fn tell<R: Read, W: Write>(
+    algorithm: Algorithm,
+    limit: u64,
+    r: &mut R,
+    w: &mut W,
+) -> Result<(), RunFault>
+    ensures done { OnOk result (Tells limit (hash_by algorithm)
+        (R.remaining r.old) (R.remaining r.new) (W.contents w.old) (W.contents w.new)) }
+    ensures refused { IfErr result (Refuses limit (hash_by algorithm)
+        (R.remaining r.old) (R.remaining r.new) (W.contents w.old) (W.contents w.new)) }
+    ensures known { result ≢ Err RunFault.UnknownName }
+{
+    match algorithm {
+        Algorithm::Fnv1a32 => tell_text::<FNV1aHasher32, R, W>(limit, r, w),
+        Algorithm::Fnv1a64 => tell_text::<FNV1aHasher64, R, W>(limit, r, w),
+        Algorithm::Djb2 => tell_text::<DJB2Hasher, R, W>(limit, r, w),
+        Algorithm::Sdbm => tell_text::<SDBMHasher, R, W>(limit, r, w),
+        Algorithm::LoseLose => tell_text::<LoseLoseHasher, R, W>(limit, r, w),
+        Algorithm::Bricolage => tell_text::<Bricolage, R, W>(limit, r, w),
+        Algorithm::Oaat => tell_text::<OAATHasher, R, W>(limit, r, w),
+        Algorithm::Lookup3 => tell_pieces::<Lookup3Hasher, R, W>(limit, r, w),
+        Algorithm::Spooky => tell_text::<SpookyHasher, R, W>(limit, r, w),
+        Algorithm::SpookyV1 => tell_spooky_v1(limit, r, w),
+        Algorithm::Fxhash => tell_fxhash(limit, r, w),
+        Algorithm::Fxhash32 => tell_fxhash32(limit, r, w),
+        Algorithm::Fxhash64 => tell_fxhash64(limit, r, w),
+        Algorithm::Null => tell_text::<NullHasher, R, W>(limit, r, w),
+        Algorithm::PassThrough => tell_text::<PassThroughHasher, R, W>(limit, r, w),
+    }
+}
+
 /// Tells the hash of that name of what is read, if that is less than `limit` bytes: writes the number in decimal and a
 /// newline, and flushes once.
 ///
@@ -208,23 +241,9 @@ pub fn run_limited<R: Read, W: Write>(
         (R.remaining r.old) (R.remaining r.new) (W.contents w.old) (W.contents w.new)) }
     ensures unknown { (result ≡ Err RunFault.UnknownName) ↔ (¬ IsName name.now) }
 {
-    match name {
-        "fnv1a32" => tell_text::<FNV1aHasher32, R, W>(limit, r, w),
-        "fnv1a64" => tell_text::<FNV1aHasher64, R, W>(limit, r, w),
-        "djb2" => tell_text::<DJB2Hasher, R, W>(limit, r, w),
-        "sdbm" => tell_text::<SDBMHasher, R, W>(limit, r, w),
-        "loselose" => tell_text::<LoseLoseHasher, R, W>(limit, r, w),
-        "bricolage" => tell_text::<Bricolage, R, W>(limit, r, w),
-        "oaat" => tell_text::<OAATHasher, R, W>(limit, r, w),
-        "lookup3" => tell_pieces::<Lookup3Hasher, R, W>(limit, r, w),
-        "spooky" => tell_text::<SpookyHasher, R, W>(limit, r, w),
-        "spooky_v1" => tell_spooky_v1(limit, r, w),
-        "fxhash" => tell_fxhash(limit, r, w),
-        "fxhash32" => tell_fxhash32(limit, r, w),
-        "fxhash64" => tell_fxhash64(limit, r, w),
-        "null" => tell_text::<NullHasher, R, W>(limit, r, w),
-        "passthrough" => tell_text::<PassThroughHasher, R, W>(limit, r, w),
-        _ => Err(RunFault::UnknownName),
+    match algorithm_named(name) {
+        Some(algorithm) => tell(algorithm, limit, r, w),
+        None => Err(RunFault::UnknownName),
     }
 }
 

@@ -7,7 +7,6 @@ use std::hash::Hasher;
 use std::io;
 use std::io::{ErrorKind, Read, Write};
 use std::process::Abort;
-use std::test::Fail;
 
 /// Gives its text, at most so many bytes a read, and fails once after some bytes.
 #[derive(Drop)]
@@ -153,13 +152,26 @@ fn end_of(outcome: Result<(), RunFault>) -> End {
     }
 }
 
+/// A run ended so, this stands on its paper, and so many writes and flushes were made.
+fn ended(
+    rt: &impl Abort,
+    outcome: Result<(), RunFault>,
+    end: End,
+    paper: &Paper,
+    line: &[u8],
+    calls: [u64; 2],
+) {
+    assert_eq!(rt; end_of(outcome), end);
+    assert_eq!(rt; paper.line(), line);
+    assert_eq!(rt; [paper.writes, paper.flushes], calls);
+}
+
 /// Runs over a text, and compares the line.
 fn tells(rt: &impl Abort, name: &str, text: &[u8], line: &[u8]) {
     let mut paper = plain();
     let mut reader = text;
-    assert_eq!(rt; end_of(run(name, &mut reader, &mut paper)), End::Told);
-    assert_eq!(rt; paper.line(), line);
-    assert_eq!(rt; paper.flushes, 1);
+    let outcome = run(name, &mut reader, &mut paper);
+    ended(rt, outcome, End::Told, &paper, line, [1, 1]);
 }
 
 #[test]
@@ -190,49 +202,58 @@ fn tells_by_name(rt: HostRuntime) {
     tells(&rt, "passthrough", b"a", b"97\n");
 }
 
-/// What a hasher answers that was fed 4096 zeros and then one.
-fn lookup3_of_4097_zeros() -> u64 {
+/// Of 4097 zeros, whatever the reads, the line tells the hash of two writes, of 4096 and of one.
+#[test]
+fn tells_lookup3_of_pieces(rt: HostRuntime) {
     let mut hasher = Lookup3Hasher::default();
     hasher.write(&[0; 4096]);
     hasher.write(&[0]);
-    hasher.finish()
-}
-
-#[test]
-fn tells_lookup3_of_pieces(rt: HostRuntime) -> Result<(), Fail> {
+    assert_eq!(rt; hasher.finish(), 952307450047595019);
     let mut paper = plain();
     let mut reader = Script::new(&[0; 4097], 1000, None);
-    assert_eq!(rt; end_of(run("lookup3", &mut reader, &mut paper)), End::Told);
-    let line = format!(in rt.alloc(); "{}\n", lookup3_of_4097_zeros())?;
-    assert_eq!(rt; paper.line(), line.as_bytes());
-    Ok(())
+    let outcome = run("lookup3", &mut reader, &mut paper);
+    ended(
+        &rt,
+        outcome,
+        End::Told,
+        &paper,
+        b"952307450047595019\n",
+        [1, 1],
+    );
+}
+
+/// Nothing is read, written or flushed.
+fn refuses(rt: &impl Abort, name: &str) {
+    let mut reader = Script::new(b"ab", 2, None);
+    let mut paper = plain();
+    let outcome = run(name, &mut reader, &mut paper);
+    ended(rt, outcome, End::Unknown, &paper, b"", [0, 0]);
+    assert_eq!(rt; reader.reads, 0);
 }
 
 #[test]
 fn refuses_a_name_before_it_reads(rt: HostRuntime) {
-    for name in ["md5", "", "fnv1a6", "fnv1a64 ", "FNV1A64"] {
-        let mut reader = Script::new(b"ab", 2, None);
-        let mut paper = plain();
-        assert_eq!(rt; end_of(run(name, &mut reader, &mut paper)), End::Unknown);
-        assert_eq!(rt; reader.reads, 0);
-        assert_eq!(rt; paper.writes, 0);
-        assert_eq!(rt; paper.flushes, 0);
-    }
+    refuses(&rt, "md5");
+    refuses(&rt, "");
+    refuses(&rt, "fnv1a6");
+    refuses(&rt, "fnv1a64 ");
+    refuses(&rt, "FNV1A64");
+}
+
+/// Runs over `ab` under a limit: at most that many reads are made, each of some bytes.
+fn limited(rt: &impl Abort, limit: u64, end: End, line: &[u8], calls: [u64; 2]) {
+    let mut reader = Script::new(b"ab", 1, None);
+    let mut paper = plain();
+    let outcome = run_limited("fnv1a64", limit, &mut reader, &mut paper);
+    ended(rt, outcome, end, &paper, line, calls);
+    assert!(rt; reader.reads <= limit && !reader.asked_for_nothing);
 }
 
 #[test]
 fn refuses_an_input_at_the_limit(rt: HostRuntime) {
-    for (limit, end) in [(0, End::Long), (2, End::Long), (3, End::Told)] {
-        let mut reader = Script::new(b"ab", 1, None);
-        let mut paper = plain();
-        let outcome = run_limited("fnv1a64", limit, &mut reader, &mut paper);
-        assert_eq!(rt; end_of(outcome), end);
-        assert!(rt; reader.reads <= limit);
-        assert!(rt; !reader.asked_for_nothing);
-        if end == End::Long {
-            assert_eq!(rt; paper.writes, 0);
-        }
-    }
+    limited(&rt, 0, End::Long, b"", [0, 0]);
+    limited(&rt, 2, End::Long, b"", [0, 0]);
+    limited(&rt, 3, End::Told, b"620445648566982762\n", [1, 1]);
 }
 
 #[test]
@@ -241,83 +262,83 @@ fn writes_nothing_where_a_read_fails(rt: HostRuntime) {
         let mut reader = Script::new(b"abc", 2, Some(k as usize));
         let mut paper = plain();
         let outcome = run("fnv1a64", &mut reader, &mut paper);
-        assert_eq!(rt; end_of(outcome), End::Read(k, ErrorKind::BrokenPipe));
-        assert_eq!(rt; paper.writes, 0);
-        assert_eq!(rt; paper.flushes, 0);
+        let end = End::Read(k, ErrorKind::BrokenPipe);
+        ended(&rt, outcome, end, &paper, b"", [0, 0]);
     }
 }
 
+/// Runs over `a` onto this paper.
+fn writes(rt: &impl Abort, mut paper: Paper, end: End, line: &[u8], calls: [u64; 2]) {
+    let mut reader: &[u8] = b"a";
+    let outcome = run("fnv1a64", &mut reader, &mut paper);
+    ended(rt, outcome, end, &paper, line, calls);
+}
+
+/// The line of the hash of `a`.
+const LINE: &[u8] = b"12638187200555641996\n";
+
 #[test]
 fn stops_at_the_first_failed_write(rt: HostRuntime) {
-    let line = b"12638187200555641996\n";
-    for call in 1..=22u64 {
-        let mut reader: &[u8] = b"a";
-        let mut paper = Paper::new(1, Trouble::FailsAt(call), ErrorKind::BrokenPipe);
-        let end = end_of(run("fnv1a64", &mut reader, &mut paper));
-        let told = if call <= 21 { (call - 1) as usize } else { 21 };
-        assert_eq!(rt; paper.line(), &line[..told]);
-        if call <= 21 {
-            assert_eq!(rt; end, End::Write(Some(ErrorKind::BrokenPipe)));
-            assert_eq!(rt; paper.writes, call);
-            assert_eq!(rt; paper.flushes, 0);
-        } else {
-            assert_eq!(rt; end, End::Told);
-            assert_eq!(rt; paper.writes, 21);
-            assert_eq!(rt; paper.flushes, 1);
-        }
+    let kind = ErrorKind::BrokenPipe;
+    for told in 0..21 {
+        let call = told as u64 + 1;
+        let paper = Paper::new(1, Trouble::FailsAt(call), kind);
+        let end = End::Write(Some(kind));
+        writes(&rt, paper, end, &LINE[..told], [call, 0]);
     }
+    let paper = Paper::new(1, Trouble::FailsAt(22), kind);
+    writes(&rt, paper, End::Told, LINE, [21, 1]);
 }
 
 #[test]
 fn tells_what_a_writer_answered(rt: HostRuntime) {
     let kind = ErrorKind::Interrupted;
-    let cases = [
-        (Trouble::FailsAt(1), End::Write(Some(kind)), 0, 1, 0),
-        (Trouble::TakesNothing, End::Write(None), 0, 1, 0),
-        (Trouble::FlushFails, End::Write(Some(kind)), 21, 1, 1),
-    ];
-    for (trouble, end, len, writes, flushes) in cases {
-        let mut reader: &[u8] = b"a";
-        let mut paper = Paper::new(32, trouble, kind);
-        assert_eq!(rt; end_of(run("fnv1a64", &mut reader, &mut paper)), end);
-        assert_eq!(rt; paper.line().len(), len);
-        assert_eq!(rt; paper.writes, writes);
-        assert_eq!(rt; paper.flushes, flushes);
-    }
+    let failed = End::Write(Some(kind));
+    let fails = Paper::new(32, Trouble::FailsAt(1), kind);
+    writes(&rt, fails, failed, b"", [1, 0]);
+    let takes_nothing = Paper::new(32, Trouble::TakesNothing, kind);
+    writes(&rt, takes_nothing, End::Write(None), b"", [1, 0]);
+    let flush_fails = Paper::new(32, Trouble::FlushFails, kind);
+    writes(&rt, flush_fails, failed, LINE, [1, 1]);
+}
+
+/// The line on standard error and the status.
+fn ends(rt: &impl Abort, outcome: Outcome, line: &str, status: u8) {
+    assert_eq!(rt; outcome_line(&outcome), line);
+    assert_eq!(rt; outcome_status(&outcome), status);
 }
 
 #[test]
 fn ends_by_the_table(rt: HostRuntime) {
-    let cases = [
-        (Outcome::Done, "", 0),
-        (Outcome::Usage, "usage: hashof NAME\n", 2),
-        (Outcome::NoMemory, "hashof: out of memory\n", 1),
-        (
-            Outcome::Failed(RunFault::UnknownName),
-            "hashof: unknown name\n",
-            2,
-        ),
-        (
-            Outcome::Failed(RunFault::ReadFault(Fault {
-                bytes: 3,
-                error: io::Error::from(ErrorKind::BrokenPipe),
-            })),
-            "hashof: read fault\n",
-            1,
-        ),
-        (
-            Outcome::Failed(RunFault::TooLong),
-            "hashof: input too long\n",
-            1,
-        ),
-        (
-            Outcome::Failed(RunFault::WriteFault(None)),
-            "hashof: write fault\n",
-            1,
-        ),
-    ];
-    for (outcome, line, status) in cases {
-        assert_eq!(rt; outcome_line(&outcome), line);
-        assert_eq!(rt; outcome_status(&outcome), status);
-    }
+    let fault = Fault {
+        bytes: 3,
+        error: io::Error::from(ErrorKind::BrokenPipe),
+    };
+    ends(&rt, Outcome::Done, "", 0);
+    ends(&rt, Outcome::Usage, "usage: hashof NAME\n", 2);
+    ends(&rt, Outcome::NoMemory, "hashof: out of memory\n", 1);
+    ends(
+        &rt,
+        Outcome::Failed(RunFault::UnknownName),
+        "hashof: unknown name\n",
+        2,
+    );
+    ends(
+        &rt,
+        Outcome::Failed(RunFault::ReadFault(fault)),
+        "hashof: read fault\n",
+        1,
+    );
+    ends(
+        &rt,
+        Outcome::Failed(RunFault::TooLong),
+        "hashof: input too long\n",
+        1,
+    );
+    ends(
+        &rt,
+        Outcome::Failed(RunFault::WriteFault(None)),
+        "hashof: write fault\n",
+        1,
+    );
 }
