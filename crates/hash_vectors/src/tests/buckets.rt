@@ -1,14 +1,17 @@
 //! The table over two hashers, and where memory is refused.
+use crate::tests::tables::{insert, key};
+use crate::tests::{all_hold, same, same_replies};
 use hash_buckets::{Buckets, Command, NoRoom, NoTable, obey_all};
 use hashers::fnv::FNV1aHasher64;
 use hashers::laws::Piecewise;
 use hashers::null::NullHasher;
+use std::alloc::Global;
 use std::process::Abort;
 use std::test::Fail;
 
 /// The answer of an insert that finds memory, at the second try if not at the first.
-fn inserted<H: Piecewise, const N: usize, R: Abort>(
-    rt: &R,
+fn inserted<H: Piecewise, const N: usize>(
+    rt: &impl Abort,
     table: &mut Buckets<H, N>,
     key: Vec<u8>,
     value: u64,
@@ -16,14 +19,22 @@ fn inserted<H: Piecewise, const N: usize, R: Abort>(
     match table.insert(key, value) {
         Ok(old) => old,
         Err(NoRoom { key, value: same }) => {
-            assert_eq!(rt; same, value);
-            assert_eq!(rt; table.get(&key), None);
-            match table.insert(key, value) {
-                Ok(old) => old,
-                Err(NoRoom { key: _, value: _ }) => panic!(rt; "refused twice"),
-            }
+            all_hold(rt, &[same == value, table.get(&key).is_none()]);
+            insert(rt, table, key, value)
         }
     }
+}
+
+/// The answer of an insert of a key of these bytes, if there is memory for it.
+fn put<H: Piecewise, const N: usize>(
+    rt: &impl Abort,
+    alloc: Global,
+    table: &mut Buckets<H, N>,
+    key: &[u8],
+    value: u64,
+) -> Option<Option<u64>> {
+    let key = Vec::from_slice(alloc, key).ok()?;
+    Some(inserted(rt, table, key, value))
 }
 
 #[test]
@@ -34,17 +45,18 @@ fn one_bucket_of_four(rt: HostRuntime) -> Result<(), Fail> {
         Err(NoTable) => return Ok(()),
     };
     for (name, value, old) in [(b"a", 1, None), (b"b", 7, None), (b"a", 2, Some(1))] {
-        let Ok(key) = Vec::from_slice(alloc, name) else {
+        let Some(reply) = put(&rt, alloc, &mut table, name, value) else {
             return Ok(());
         };
-        assert_eq!(rt; inserted(&rt, &mut table, key, value), old);
+        same_replies(&rt, &[reply], &[old]);
     }
-    assert_eq!(rt; table.get(b"b"), Some(7));
-    assert_eq!(rt; table.bucket(0).len(), 2);
-    assert_eq!(rt; table.bucket(3).len(), 0);
-    assert_eq!(rt; table.remove(b"a"), Some(2));
-    assert_eq!(rt; table.remove(b"a"), None);
-    assert_eq!(rt; table.len(), 1);
+    let held = table.get(b"b");
+    let lengths = [table.bucket(0).len() as u64, table.bucket(3).len() as u64];
+    let removed = [table.remove(b"a"), table.remove(b"a")];
+    same_replies(&rt, &[held], &[Some(7)]);
+    same(&rt, &lengths, &[2, 0]);
+    same_replies(&rt, &removed, &[Some(2), None]);
+    all_hold(&rt, &[table.len() == 1]);
     Ok(())
 }
 
@@ -61,45 +73,46 @@ fn forty_commands(rt: HostRuntime) -> Result<(), Fail> {
     for i in 0..40u64 {
         let at = (i * 5 % 8) as usize;
         if i % 7 == 6 {
-            assert_eq!(rt; table.remove(names[at]), values[at]);
+            same_replies(&rt, &[table.remove(names[at])], &[values[at]]);
             values[at] = None;
         } else {
-            let Ok(key) = Vec::from_slice(alloc, names[at]) else {
+            let Some(reply) = put(&rt, alloc, &mut table, names[at], i) else {
                 return Ok(());
             };
-            assert_eq!(rt; inserted(&rt, &mut table, key, i), values[at]);
+            same_replies(&rt, &[reply], &[values[at]]);
             values[at] = Some(i);
         }
-        for (name, value) in names.iter().zip(values.iter()) {
-            assert_eq!(rt; table.get(name), *value);
-        }
+        let held = names.map(|name| table.get(name));
+        same_replies(&rt, &held, &values);
         let count = values.iter().filter(|value| value.is_some()).count();
-        assert_eq!(rt; table.len(), count as u128);
+        all_hold(&rt, &[table.len() == count as u128]);
     }
     Ok(())
 }
 
 /// A list of commands, whose replies are those of a map.
 #[test]
-fn commands_in_order(rt: HostRuntime) -> Result<(), Fail> {
+fn commands_in_order(rt: HostRuntime) {
     let alloc = rt.alloc();
     let mut table = match Buckets::<FNV1aHasher64, 3>::new(alloc) {
         Ok(table) => table,
-        Err(NoTable) => return Ok(()),
+        Err(NoTable) => return,
     };
-    let mut commands = Vec::new(alloc);
-    commands.push(Command::Insert(Vec::from_slice(alloc, b"a")?, 1))?;
-    commands.push(Command::Insert(Vec::from_slice(alloc, b"a")?, 2))?;
-    commands.push(Command::Get(Vec::from_slice(alloc, b"a")?))?;
-    commands.push(Command::Remove(Vec::from_slice(alloc, b"a")?))?;
-    commands.push(Command::Get(Vec::from_slice(alloc, b"a")?))?;
+    let commands = vec![in alloc;
+        Command::Insert(key(&rt, alloc, b"a"), 1),
+        Command::Insert(key(&rt, alloc, b"a"), 2),
+        Command::Get(key(&rt, alloc, b"a")),
+        Command::Remove(key(&rt, alloc, b"a")),
+        Command::Get(key(&rt, alloc, b"a")),
+    ];
+    let commands = commands.expect(&rt, "memory for the commands");
     let Ok(replies) = obey_all(alloc, &mut table, commands) else {
-        return Ok(());
+        return;
     };
-    assert_eq!(rt;
+    same_replies(
+        &rt,
         replies.as_slice(),
-        [None, Some(1), Some(2), Some(2), None].as_slice()
+        &[None, Some(1), Some(2), Some(2), None],
     );
-    assert_eq!(rt; table.len(), 0);
-    Ok(())
+    all_hold(&rt, &[table.len() == 0]);
 }

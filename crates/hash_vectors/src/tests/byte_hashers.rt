@@ -1,4 +1,5 @@
 //! Vectors and worked examples of the byte hashers.
+use crate::tests::{all_hold, none_holds, same};
 use hashers::fnv::{FNV1aHasher32, FNV1aHasher64, fnv1a32, fnv1a64};
 use hashers::laws::{
     ByteStep, Piecewise, Streamed, Undo, answer_of_pieces, apart_by_one, apart_djb2, apart_fnv32,
@@ -9,75 +10,92 @@ use hashers::oz::{DJB2Hasher, LoseLoseHasher, SDBMHasher, djb2, loselose, sdbm};
 use hashers::pigeon::{Bricolage, bricolage};
 use std::hash::Hasher;
 use std::process::Abort;
-use std::test::Fail;
+
+fn by_name(text: &[u8]) -> [u64; 4] {
+    [bricolage(text), djb2(text), sdbm(text), loselose(text)]
+}
 
 #[test]
 fn vectors(rt: HostRuntime) {
-    let texts: [&[u8]; 6] = [b"", b"a", b"b", b"ab", b"abcd", b"abcdefg"];
-    let fnv = [
-        14695981039346656037,
-        12638187200555641996,
-        12638190499090526629,
-        620445648566982762,
-        18165163011005162717,
-        4642726675185563447,
-    ];
-    for (text, hash) in texts.iter().zip(fnv.iter()) {
-        assert_eq!(rt; fnv1a64(text), *hash);
-    }
-    let short = [
-        (0u64, 5381u64, 0u64, 0u64),
-        (17926483712435944715, 177604, 97, 97),
-        (12457347154332739726, 177607, 98, 98),
-        (16461606921607156355, 5860902, 6363201, 195),
-    ];
-    for (text, (pigeon, bernstein, database, sum)) in texts.iter().zip(short.iter()) {
-        assert_eq!(rt;
-            [bricolage(text), djb2(text), sdbm(text), loselose(text)],
-            [*pigeon, *bernstein, *database, *sum]
-        );
-    }
-    assert_eq!(rt; [fnv1a32(b""), fnv1a32(b"a")], [2166136261, 3826002220]);
+    same(
+        &rt,
+        &[
+            fnv1a64(b""),
+            fnv1a64(b"a"),
+            fnv1a64(b"b"),
+            fnv1a64(b"ab"),
+            fnv1a64(b"abcd"),
+            fnv1a64(b"abcdefg"),
+        ],
+        &[
+            14695981039346656037,
+            12638187200555641996,
+            12638190499090526629,
+            620445648566982762,
+            18165163011005162717,
+            4642726675185563447,
+        ],
+    );
+    same(&rt, &by_name(b""), &[0, 5381, 0, 0]);
+    same(&rt, &by_name(b"a"), &[17926483712435944715, 177604, 97, 97]);
+    same(&rt, &by_name(b"b"), &[12457347154332739726, 177607, 98, 98]);
+    same(
+        &rt,
+        &by_name(b"ab"),
+        &[16461606921607156355, 5860902, 6363201, 195],
+    );
+    same(
+        &rt,
+        &[fnv1a32(b""), fnv1a32(b"a")],
+        &[2166136261, 3826002220],
+    );
 }
 
 #[test]
 fn worked_examples(rt: HostRuntime) {
     let mut hasher = DJB2Hasher::default();
     hasher.write_u16(25185);
-    assert_eq!(rt;
-        [
+    same(
+        &rt,
+        &[
             djb2(&[0x00, 0x21]),
             djb2(&[0x01, 0x00]),
             djb2(b"bC"),
             djb2(b"cb"),
             djb2(b"bc"),
-            hasher.finish()
+            hasher.finish(),
         ],
-        [5859940, 5859876, 5861092, 5861092, 5861060, 5860902]
+        &[5859940, 5859876, 5861092, 5861092, 5861060, 5860902],
     );
-    assert_eq!(rt; [sdbm(&[0]), loselose(b"ba")], [0, 195]);
-    assert_eq!(rt;
-        [
+    same(&rt, &[sdbm(&[0]), loselose(b"ba")], &[0, 195]);
+    same(
+        &rt,
+        &[
             passthrough(b"abcdefghi"),
             passthrough(b"a"),
             null(b"a"),
-            NullHasher.answer()
+            NullHasher.answer(),
         ],
-        [0x6263646566676869, 97, 0, 0]
+        &[0x6263646566676869, 97, 0, 0],
     );
 }
 
 #[test]
 fn faster_sums(rt: HostRuntime) {
-    assert_eq!(rt;
-        [sdbm(b"abc"), sdbm(b"abcd"), sdbm(b"abcde")],
-        [807794786, 3518636162, 3176136803]
+    same(
+        &rt,
+        &[sdbm(b"abc"), sdbm(b"abcd"), sdbm(b"abcde")],
+        &[807794786, 3518636162, 3176136803],
     );
     let mut all = [0u8; 256];
     for (i, byte) in all.iter_mut().enumerate() {
         *byte = (i & 0xff) as u8;
     }
-    assert_eq!(rt; [loselose(&all), loselose(&[0xff; 1000])], [32640, 255000]);
+    same(
+        &rt,
+        &[loselose(&all), loselose(&[0xff; 1000])],
+        &[32640, 255000],
+    );
 }
 
 /// A hasher fed in two pieces, and one that takes a step for each byte.
@@ -90,9 +108,9 @@ fn agree<H: ByteStep>(rt: &impl Abort, text: &[u8], cut: usize) {
     for byte in text {
         stepped.step(*byte);
     }
-    assert_eq!(rt; fed.answer(), stepped.answer());
+    same(rt, &[fed.answer()], &[stepped.answer()]);
     stepped.unwrite(text);
-    assert_eq!(rt; stepped.answer(), H::fresh().answer());
+    same(rt, &[stepped.answer()], &[H::fresh().answer()]);
 }
 
 #[test]
@@ -122,107 +140,121 @@ fn before<H: Undo>(rt: &impl Abort, answer: u64, piece: &[u8]) -> u64 {
 
 #[test]
 fn undoing(rt: HostRuntime) {
-    assert_eq!(rt;
-        [
+    same(
+        &rt,
+        &[
             before::<DJB2Hasher>(&rt, 177604, b"a"),
             before::<FNV1aHasher32>(&rt, 3826002220, b"a"),
             before::<FNV1aHasher64>(&rt, 12638187200555641996, b"a"),
             before::<Bricolage>(&rt, 16461606921607156355, b"b"),
-            before::<SDBMHasher>(&rt, 6363201, b"b")
+            before::<SDBMHasher>(&rt, 6363201, b"b"),
         ],
-        [
+        &[
             5381,
             2166136261,
             14695981039346656037,
             17926483712435944715,
-            97
-        ]
+            97,
+        ],
     );
-    assert_eq!(rt;
-        [
+    all_hold(
+        &rt,
+        &[
             DJB2Hasher::unfinish(4294967296).is_none(),
             SDBMHasher::unfinish(4294967296).is_none(),
-            FNV1aHasher32::unfinish(u64::MAX).is_none()
+            FNV1aHasher32::unfinish(u64::MAX).is_none(),
         ],
-        [true; 3]
     );
     let mut hasher = LoseLoseHasher::default();
     hasher.unwrite(b"ab");
-    assert_eq!(rt; hasher.finish(), 18446744073709551421);
+    same(&rt, &[hasher.finish()], &[18446744073709551421]);
     hasher.write(b"ab");
-    assert_eq!(rt; hasher.finish(), 0);
     let mut last = LoseLoseHasher::unfinish(18446744073709551615).expect(&rt, "a state");
     last.write(&[2]);
-    assert_eq!(rt; last.finish(), 1);
+    same(&rt, &[hasher.finish(), last.finish()], &[0, 1]);
     last.step(7);
     last.unstep(7);
-    assert_eq!(rt; last.finish(), 1);
+    same(&rt, &[last.finish()], &[1]);
 }
 
 #[test]
-fn generic_laws(rt: HostRuntime) -> Result<(), Fail> {
-    let mut a = DJB2Hasher::unfinish(1).ok_or("a state")?;
-    let mut b = DJB2Hasher::unfinish(2).ok_or("a state")?;
+fn generic_laws(rt: HostRuntime) {
+    let mut a = DJB2Hasher::unfinish(1).expect(&rt, "a state");
+    let mut b = DJB2Hasher::unfinish(2).expect(&rt, "a state");
     run_pair(&mut a, &mut b, &[b"ab", b"", b"c"]);
-    assert!(rt; a.answer() != b.answer());
+    none_holds(&rt, &[a.answer() == b.answer()]);
     let mut whole = PassThroughHasher::fresh();
     run_streamed(&mut whole, &[b"abc", b"", b"defghi"]);
-    assert_eq!(rt; whole.answer(), 0x6263646566676869);
     let mut pieces = FNV1aHasher64::fresh();
     run_pieces(&mut pieces, &[b"a", b"b"]);
-    assert_eq!(rt; pieces.answer(), 620445648566982762);
-    assert_eq!(rt;
-        answer_of_pieces::<FNV1aHasher64>(&[b"a", b"", b"b"]),
-        620445648566982762
+    same(
+        &rt,
+        &[
+            whole.answer(),
+            pieces.answer(),
+            answer_of_pieces::<FNV1aHasher64>(&[b"a", b"", b"b"]),
+            bucket_of::<DJB2Hasher>(b"a", 1000),
+        ],
+        &[
+            0x6263646566676869,
+            620445648566982762,
+            620445648566982762,
+            604,
+        ],
     );
-    assert_eq!(rt; bucket_of::<DJB2Hasher>(b"a", 1000), 604);
-    Ok(())
 }
 
 #[test]
 fn windows(rt: HostRuntime) {
-    for (x, y, apart) in [
-        (b"ab", b"cb", true),
-        (b"ab", b"ba", false),
-        (b"aa", b"aa", false),
-    ] {
-        assert_eq!(rt; apart_by_one::<FNV1aHasher64>(x, y), apart);
-    }
-    let apart = [
-        apart_djb2(b"aaaaaa", b"zzzzzz"),
-        apart_djb2(b"a1", b"b2"),
-        apart_djb2(b"bc", b"cb"),
-        apart_djb2(b"aaaaaa", b"baaaab"),
-        apart_sdbm(b"abc", b"cba"),
-        apart_fnv64(b"abc", b"cba"),
-        apart_fnv32(b"ab", b"ba"),
-        apart_fnv32(b"abc", b"bac"),
-    ];
-    assert_eq!(rt; apart, [true; 8]);
-    let outside = [
-        apart_by_one::<FNV1aHasher64>(b"a", b"ab"),
-        apart_djb2(b"bC", b"cb"),
-        apart_djb2(b"a", b"A"),
-        apart_djb2(b"", b""),
-        apart_djb2(b"a", b"ab"),
-        apart_djb2(b"aaaaaaa", b"baaaaab"),
-        apart_djb2(&[0x00, 0x21], &[0x01, 0x00]),
-        apart_sdbm(b"abcd", b"dbca"),
-        apart_sdbm(b"abcd", b"xbcx"),
-        apart_fnv64(b"abcd", b"dbca"),
-        apart_fnv32(b"abc", b"cba"),
-    ];
-    assert_eq!(rt; outside, [false; 11]);
+    all_hold(
+        &rt,
+        &[
+            apart_by_one::<FNV1aHasher64>(b"ab", b"cb"),
+            apart_djb2(b"aaaaaa", b"zzzzzz"),
+            apart_djb2(b"a1", b"b2"),
+            apart_djb2(b"bc", b"cb"),
+            apart_djb2(b"aaaaaa", b"baaaab"),
+            apart_sdbm(b"abc", b"cba"),
+            apart_fnv64(b"abc", b"cba"),
+            apart_fnv32(b"ab", b"ba"),
+            apart_fnv32(b"abc", b"bac"),
+        ],
+    );
+    none_holds(
+        &rt,
+        &[
+            apart_by_one::<FNV1aHasher64>(b"ab", b"ba"),
+            apart_by_one::<FNV1aHasher64>(b"aa", b"aa"),
+            apart_by_one::<FNV1aHasher64>(b"a", b"ab"),
+            apart_djb2(b"bC", b"cb"),
+            apart_djb2(b"a", b"A"),
+            apart_djb2(b"", b""),
+            apart_djb2(b"a", b"ab"),
+            apart_djb2(b"aaaaaaa", b"baaaaab"),
+            apart_djb2(&[0x00, 0x21], &[0x01, 0x00]),
+            apart_sdbm(b"abcd", b"dbca"),
+            apart_sdbm(b"abcd", b"xbcx"),
+            apart_fnv64(b"abcd", b"dbca"),
+            apart_fnv32(b"abc", b"cba"),
+        ],
+    );
 }
 
 /// One place wider, or one bit looser, the hashes collide: pairs that a search over random texts found.
 #[test]
 fn windows_can_be_no_wider(rt: HostRuntime) {
-    assert_eq!(rt; djb2(b"ogwmava"), djb2(b"vxbavgx"));
-    assert!(rt; !apart_djb2(b"ogwmava", b"vxbavgx"));
-    assert_eq!(rt; djb2(b"bC"), djb2(b"cb"));
-    assert_eq!(rt; sdbm(b"N5<k"), sdbm(b"o6],"));
-    assert!(rt; !apart_sdbm(b"N5<k", b"o6],"));
+    same(
+        &rt,
+        &[djb2(b"ogwmava"), djb2(b"bC"), sdbm(b"N5<k")],
+        &[djb2(b"vxbavgx"), djb2(b"cb"), sdbm(b"o6],")],
+    );
+    none_holds(
+        &rt,
+        &[
+            apart_djb2(b"ogwmava", b"vxbavgx"),
+            apart_sdbm(b"N5<k", b"o6],"),
+        ],
+    );
 }
 
 #[test]
@@ -231,14 +263,14 @@ fn words_of_two_letters(rt: HostRuntime) {
         for b in b'a'..=b'z' {
             for c in b'a'..=b'z' {
                 for d in b'a'..=b'z' {
-                    let same = djb2(&[a, b]) == djb2(&[c, d]);
-                    assert_eq!(rt; same, a == c && b == d);
+                    let collide = djb2(&[a, b]) == djb2(&[c, d]);
+                    all_hold(&rt, &[collide == (a == c && b == d)]);
                 }
             }
         }
     }
-    assert!(rt; same_word(b"abc", b"abc"));
-    assert!(rt; !same_word(b"abc", b"abd"));
+    all_hold(&rt, &[same_word(b"abc", b"abc")]);
+    none_holds(&rt, &[same_word(b"abc", b"abd")]);
 }
 
 /// Laws are calls that do nothing.

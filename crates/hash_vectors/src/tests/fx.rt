@@ -1,6 +1,7 @@
 //! Values from outside the proofs: vectors, worked rows, and calls that run there and back.
 ghost use Rattle.std.specs.Prelude.{◌≡◌, ◌≤◌, ◌%◌, length};
 
+use crate::tests::{all_hold, none_holds, same, same_at};
 use hashers::fx_hash::laws::{
     apart_by_one_fx, fixed_widths_are_words32, fixed_widths_are_words64, run_words, run_words32,
     run_words64,
@@ -120,20 +121,20 @@ fn in_two32(text: &[u8], cut: usize) -> u64
     h.finish()
 }
 
+fn by_width(text: &[u8]) -> [u64; 3] {
+    [fxhash64(text), fxhash(text), fxhash32(text)]
+}
+
+// The hashes of the word 97, by width.
+const OF_97: [u64; 3] = [16160435425421689461, 16160435425421689461, 3555066485];
+
 #[test]
 fn vectors(rt: HostRuntime) {
-    let table: [(&[u8], u64, u64); 5] = [
-        (b"", 0, 0),
-        (b"a", 16160435425421689461, 3555066485),
-        (b"a\0\0\0", 16160435425421689461, 3555066485),
-        (b"\0\0\0\0a", 16160435425421689461, 3555066485),
-        (&[0; 8], 0, 0),
-    ];
-    for (text, wide, narrow) in table {
-        assert_eq!(rt; fxhash64(text), wide);
-        assert_eq!(rt; fxhash(text), wide);
-        assert_eq!(rt; fxhash32(text), narrow);
-    }
+    same(&rt, &by_width(b""), &[0; 3]);
+    same(&rt, &by_width(b"a"), &OF_97);
+    same(&rt, &by_width(b"a\0\0\0"), &OF_97);
+    same(&rt, &by_width(b"\0\0\0\0a"), &OF_97);
+    same(&rt, &by_width(&[0; 8]), &[0; 3]);
 }
 
 // Each length from 0 to 40, by the places of its words, and in two pieces at every cut between words.
@@ -145,155 +146,160 @@ fn words_by_place(rt: HostRuntime) {
     }
     for n in 0..=40usize {
         let text = &text[..n];
-        let wide = fxhash64(text);
-        let narrow = fxhash32(text);
-        assert_eq!(rt; wide, plain64(text), "at {n}");
-        assert_eq!(rt; wide, fxhash(text), "at {n}");
-        assert_eq!(rt; narrow, plain32(text), "at {n}");
+        let (wide, narrow) = (plain64(text), plain32(text));
+        same_at(&rt, n, &by_width(text), &[wide, wide, narrow]);
         for cut in 0..=n {
             if cut % 8 == 0 {
-                assert!(rt; in_two(text, cut) == (wide, wide), "at {n}");
+                let (answer, answer64) = in_two(text, cut);
+                same_at(&rt, n, &[answer, answer64], &[wide, wide]);
             }
             if cut % 4 == 0 {
-                assert_eq!(rt; in_two32(text, cut), narrow, "at {n}");
+                same_at(&rt, n, &[in_two32(text, cut)], &[narrow]);
             }
         }
     }
+}
+
+// That three hashers hold the word 97, and again once a number was written and taken out, and the other way round.
+fn hold_97(rt: &impl Abort, width: usize, hashers: (FxHasher64, FxHasher, FxHasher32)) {
+    let (mut h64, mut h, mut h32) = hashers;
+    same_at(rt, width, &[h64.finish(), h.finish(), h32.finish()], &OF_97);
+    let (written64, taken64) = there_and_back64(&mut h64, 0xfedcba9876543210);
+    let (written, taken) = there_and_back(&mut h, 0xfedcba9876543210);
+    let (written32, taken32) = there_and_back32(&mut h32, 0xfedcba98);
+    same_at(rt, width, &[written64, written, written32], &OF_97);
+    same_at(rt, width, &[taken64, taken, taken32], &OF_97);
+}
+
+fn fresh() -> (FxHasher64, FxHasher, FxHasher32) {
+    (
+        FxHasher64::default(),
+        FxHasher::default(),
+        FxHasher32::default(),
+    )
 }
 
 // The word 97, of so many bytes, and 9 for a `usize`; at 32 bits eight bytes are two words, the low one first.
 #[test]
 fn fixed_widths(rt: HostRuntime) {
-    for (width, wide, narrow) in [
-        (1, 0x61u64, 0x61u64),
-        (4, 0x61, 0x61),
-        (8, 0x61, 0x6100000000),
-        (9, 0x61, 0x6100000000),
-    ] {
-        let mut h = FxHasher::default();
-        let mut h64 = FxHasher64::default();
-        let mut h32 = FxHasher32::default();
-        match width {
-            1 => {
-                h.write_u8((wide & 0xff) as u8);
-                h64.write_u8((wide & 0xff) as u8);
-                h32.write_u8((narrow & 0xff) as u8);
-            }
-            4 => {
-                h.write_u32((wide & 0xffffffff) as u32);
-                h64.write_u32((wide & 0xffffffff) as u32);
-                h32.write_u32((narrow & 0xffffffff) as u32);
-            }
-            8 => {
-                h.write_u64(wide);
-                h64.write_u64(wide);
-                h32.write_u64(narrow);
-            }
-            _ => {
-                h.write_usize(wide as usize);
-                h64.write_usize(wide as usize);
-                h32.write_usize(narrow as usize);
-            }
-        }
-        let wide = 16160435425421689461;
-        assert_eq!(rt; h.finish(), wide, "at {width}");
-        assert_eq!(rt; h64.finish(), wide, "at {width}");
-        assert_eq!(rt; h32.finish(), 3555066485, "at {width}");
-        assert!(rt; there_and_back(&mut h, 0xfedcba9876543210) == (wide, wide));
-        assert!(rt; there_and_back64(&mut h64, 0xfedcba9876543210) == (wide, wide));
-        assert!(rt; there_and_back32(&mut h32, 0xfedcba98) == (3555066485, 3555066485));
-    }
-    let mut two = FxHasher64::default();
-    two.write_u16(97);
-    assert_eq!(rt; two.finish(), fxhash64(b"a\0"));
-    let mut two = FxHasher32::default();
-    two.write_u16(97);
-    assert_eq!(rt; two.finish(), fxhash32(b"a\0"));
+    let (mut h64, mut h, mut h32) = fresh();
+    h64.write_u8(97);
+    h.write_u8(97);
+    h32.write_u8(97);
+    hold_97(&rt, 1, (h64, h, h32));
+    let (mut h64, mut h, mut h32) = fresh();
+    h64.write_u32(97);
+    h.write_u32(97);
+    h32.write_u32(97);
+    hold_97(&rt, 4, (h64, h, h32));
+    let (mut h64, mut h, mut h32) = fresh();
+    h64.write_u64(97);
+    h.write_u64(97);
+    h32.write_u64(97 << 32);
+    hold_97(&rt, 8, (h64, h, h32));
+    let (mut h64, mut h, mut h32) = fresh();
+    h64.write_usize(97);
+    h.write_usize(97);
+    h32.write_usize(97 << 32);
+    hold_97(&rt, 9, (h64, h, h32));
+    let (mut h64, _, mut h32) = fresh();
+    h64.write_u16(97);
+    h32.write_u16(97);
+    same(
+        &rt,
+        &[h64.finish(), h32.finish()],
+        &[fxhash64(b"a\0"), fxhash32(b"a\0")],
+    );
 }
 
 #[test]
 fn pieces_of_whole_words(rt: HostRuntime) {
-    let mut h = FxHasher::default();
+    let (mut h64, mut h, mut h32) = fresh();
     run_words(&mut h, &[b"abcdefgh", b"a"]);
-    assert_eq!(rt; h.finish(), fxhash(b"abcdefgha"));
-    let mut h64 = FxHasher64::default();
     run_words64(&mut h64, &[b"abcdefgh", b"a"]);
-    assert_eq!(rt; h64.finish(), fxhash64(b"abcdefgha"));
-    let mut h32 = FxHasher32::default();
     run_words32(&mut h32, &[b"abcd", b"", b"ef"]);
-    assert_eq!(rt; h32.finish(), fxhash32(b"abcdef"));
+    let narrow = h32.finish();
     run_words32(&mut h32, &[]);
-    assert_eq!(rt; h32.answer(), fxhash32(b"abcdef"));
+    same(
+        &rt,
+        &[h.finish(), h64.finish(), narrow, h32.answer()],
+        &[
+            fxhash(b"abcdefgha"),
+            fxhash64(b"abcdefgha"),
+            fxhash32(b"abcdef"),
+            fxhash32(b"abcdef"),
+        ],
+    );
     let mut cut = FxHasher64::default();
     cut.write(b"a");
     cut.write(b"bcdefgha");
-    assert!(rt; cut.finish() != h64.finish());
+    none_holds(&rt, &[cut.finish() == h64.finish()]);
 }
 
-/// A hasher with this answer, the pieces taken out from the last to the first and fed again.
-fn undone<H: Undo>(rt: &impl Abort, answer: u64, pieces: &[&[u8]]) -> u64 {
+// That a text is taken out of its hash down to the answer of a fresh hasher, and fed again up to it.
+fn all_taken_out<H: Undo>(rt: &impl Abort, n: usize, answer: u64, text: &[u8]) {
     let mut hasher = H::unfinish(answer).expect(rt, "a hasher with this answer");
-    for piece in pieces.iter().rev() {
-        hasher.unwrite(piece);
-    }
+    hasher.unwrite(text);
     let before = hasher.answer();
-    for piece in pieces {
-        hasher.feed(piece);
-    }
-    assert_eq!(rt; hasher.answer(), answer);
-    before
+    hasher.feed(text);
+    same_at(rt, n, &[before, hasher.answer()], &[0, answer]);
+}
+
+// That three pieces are taken out of the answer 1 from the last to the first, and fed again up to it.
+fn fed_again<H: Undo>(rt: &impl Abort, n: usize, text: &[u8]) {
+    let mut hasher = H::unfinish(1).expect(rt, "a hasher with this answer");
+    hasher.unwrite(b"more");
+    hasher.unwrite(b"");
+    hasher.unwrite(text);
+    hasher.feed(text);
+    hasher.feed(b"");
+    hasher.feed(b"more");
+    same_at(rt, n, &[hasher.answer()], &[1]);
 }
 
 #[test]
 fn taken_out_again(rt: HostRuntime) {
-    assert_eq!(rt; undone::<FxHasher64>(&rt, 16160435425421689461, &[b"a"]), 0);
-    assert_eq!(rt; undone::<FxHasher>(&rt, 16160435425421689461, &[b"a"]), 0);
-    assert_eq!(rt; undone::<FxHasher32>(&rt, 3555066485, &[b"a"]), 0);
-    assert!(rt; FxHasher32::unfinish(4294967296).is_none());
-    match FxHasher32::unfinish(3555066485) {
-        Some(mut hasher) => {
-            hasher.unwrite_word(97);
-            assert_eq!(rt; hasher.finish(), 0);
-        }
-        None => assert!(rt; false),
-    }
+    all_taken_out::<FxHasher64>(&rt, 1, 16160435425421689461, b"a");
+    all_taken_out::<FxHasher>(&rt, 1, 16160435425421689461, b"a");
+    all_taken_out::<FxHasher32>(&rt, 1, 3555066485, b"a");
+    all_hold(&rt, &[FxHasher32::unfinish(4294967296).is_none()]);
+    let mut word = FxHasher32::unfinish(3555066485).expect(&rt, "a hasher with this answer");
+    word.unwrite_word(97);
+    same(&rt, &[word.finish()], &[0]);
     let text = b"the words of a text of forty-six bytes in all.";
     for n in 0..=46usize {
         let text = &text[..n];
-        assert_eq!(rt;
-            undone::<FxHasher64>(&rt, fxhash64(text), &[text]),
-            0,
-            "at {n}"
-        );
-        assert_eq!(rt; undone::<FxHasher>(&rt, fxhash(text), &[text]), 0, "at {n}");
-        assert_eq!(rt;
-            undone::<FxHasher32>(&rt, fxhash32(text), &[text]),
-            0,
-            "at {n}"
-        );
-        undone::<FxHasher64>(&rt, 1, &[text, b"", b"more"]);
-        undone::<FxHasher32>(&rt, 1, &[text, b"", b"more"]);
+        all_taken_out::<FxHasher64>(&rt, n, fxhash64(text), text);
+        all_taken_out::<FxHasher>(&rt, n, fxhash(text), text);
+        all_taken_out::<FxHasher32>(&rt, n, fxhash32(text), text);
+        fed_again::<FxHasher64>(&rt, n, text);
+        fed_again::<FxHasher32>(&rt, n, text);
     }
     let mut a = FxHasher64::default();
     let mut b = FxHasher64::default();
     b.write(b"x");
     run_pair(&mut a, &mut b, &[b"ab", b"", b"and more words"]);
-    assert!(rt; a.finish() != b.finish());
+    none_holds(&rt, &[a.finish() == b.finish()]);
 }
 
 #[test]
 fn apart_by_one_byte(rt: HostRuntime) {
-    let table: [(&[&[u8]], &[&[u8]], bool); 8] = [
-        (&[b"abcd", b"e"], &[b"abcd", b"f"], true),
-        (&[b"abcde"], &[b"abcd", b"e"], false),
-        (&[], &[], false),
-        (&[b"ab", b"", b"cd"], &[b"xb", b"", b"cd"], true),
-        (&[b"ab", b"cd"], &[b"xb", b"xd"], false),
-        (&[b"ab", b"cd"], &[b"xx", b"cd"], false),
-        (&[b"ab", b"cd"], &[b"ab", b"cd"], false),
-        (&[b"abc", b"d"], &[b"ab", b"xd"], false),
-    ];
-    for (x, y, apart) in table {
-        assert!(rt; apart_by_one_fx(x, y) == apart);
-    }
+    all_hold(
+        &rt,
+        &[
+            apart_by_one_fx(&[b"abcd", b"e"], &[b"abcd", b"f"]),
+            apart_by_one_fx(&[b"ab", b"", b"cd"], &[b"xb", b"", b"cd"]),
+        ],
+    );
+    none_holds(
+        &rt,
+        &[
+            apart_by_one_fx(&[b"abcde"], &[b"abcd", b"e"]),
+            apart_by_one_fx(&[], &[]),
+            apart_by_one_fx(&[b"ab", b"cd"], &[b"xb", b"xd"]),
+            apart_by_one_fx(&[b"ab", b"cd"], &[b"xx", b"cd"]),
+            apart_by_one_fx(&[b"ab", b"cd"], &[b"ab", b"cd"]),
+            apart_by_one_fx(&[b"abc", b"d"], &[b"ab", b"xd"]),
+        ],
+    );
 }

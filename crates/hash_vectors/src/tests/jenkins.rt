@@ -6,6 +6,7 @@ ghost use Rattle.hashers.specs.Lookup3.{lookup3};
 ghost use Rattle.hashers.specs.Oaat.{oaat};
 
 use crate::tests::plain::plain_lookup3;
+use crate::tests::{all_hold, none_holds, same, same_at, same32};
 use hash_rounds::{lookup3_final, lookup3_mix};
 use hashers::jenkins::laws::same_answers_later;
 use hashers::jenkins::spooky_hash::SpookyHasher;
@@ -34,51 +35,72 @@ pub(super) fn write_to_spooky(hasher: &mut SpookyHasher, number: usize)
     hasher.write_usize(number);
 }
 
+fn both(text: &[u8]) -> [u64; 2] {
+    [oaat(text), lookup3(text)]
+}
+
 #[test]
 fn vectors(rt: HostRuntime) {
-    let table: [(&[u8], u64, u64); 5] = [
-        (b"", 0, 0),
-        (b"a", 29161854018, 6351843130003064584),
-        (b"b", 30079156635, 5351957087540069269),
-        (b"ab", 30087418617432, 7744397999705663711),
-        (b"abcdefg", 3103867595652801641, 6461572128488215717),
-    ];
-    for (text, one_at_a_time, three_words) in table {
-        assert_eq!(rt; oaat(text), one_at_a_time);
-        assert_eq!(rt; lookup3(text), three_words);
-    }
-    assert_eq!(rt; oaat(b"\0"), 0);
-    assert_eq!(rt; lookup3(b"abcd"), 16288908501016938652);
-    assert_eq!(rt; lookup3(&[0; 12]), 0x14c3a0e3fb293fc1);
+    same(&rt, &both(b""), &[0, 0]);
+    same(&rt, &both(b"a"), &[29161854018, 6351843130003064584]);
+    same(&rt, &both(b"b"), &[30079156635, 5351957087540069269]);
+    same(&rt, &both(b"ab"), &[30087418617432, 7744397999705663711]);
+    same(
+        &rt,
+        &both(b"abcdefg"),
+        &[3103867595652801641, 6461572128488215717],
+    );
+    same(
+        &rt,
+        &[oaat(b"\0"), lookup3(b"abcd"), lookup3(&[0; 12])],
+        &[0, 16288908501016938652, 0x14c3a0e3fb293fc1],
+    );
 }
 
 #[test]
 fn rounds_of_twelve_zeros(rt: HostRuntime) {
     let mut words = [0xdeadbefb; 3];
     lookup3_mix(&mut words);
-    assert!(rt; words == [0x8f43a99b, 0x203e9c5d, 0xa1d89905]);
+    same32(&rt, &words, &[0x8f43a99b, 0x203e9c5d, 0xa1d89905]);
     lookup3_final(&mut words);
-    assert!(rt; words == [0x65852e52, 0x14c3a0e3, 0xfb293fc1]);
+    same32(&rt, &words, &[0x65852e52, 0x14c3a0e3, 0xfb293fc1]);
 }
 
 #[test]
 fn lookup3_pieces(rt: HostRuntime) {
     let mut hasher = Lookup3Hasher::fresh();
     hasher.write(b"a");
-    assert_eq!(rt; hasher.finish(), 6351843130003064584);
+    let first = hasher.finish();
     hasher.write(b"");
-    assert_eq!(rt; hasher.finish(), 6351843130003064584);
+    let empty = hasher.finish();
     hasher.feed(b"b");
-    assert_eq!(rt; hasher.answer(), 18104817335149544820);
-    let mut same = Lookup3Hasher::default();
-    run_pieces(&mut same, &[b"a", b"b"]);
-    same_answers_later(&mut hasher, &mut same, &[b"later", b"", b"and later"]);
-    assert_eq!(rt; hasher.finish(), same.finish());
+    same(
+        &rt,
+        &[first, empty, hasher.answer()],
+        &[
+            6351843130003064584,
+            6351843130003064584,
+            18104817335149544820,
+        ],
+    );
+    let mut again = Lookup3Hasher::default();
+    run_pieces(&mut again, &[b"a", b"b"]);
+    same_answers_later(&mut hasher, &mut again, &[b"later", b"", b"and later"]);
     let mut other = Lookup3Hasher::default();
     let mut number = Lookup3Hasher::default();
     write_to_lookup3(&mut number, 0x6867666564636261);
     other.write(b"abcdefgh");
-    assert_eq!(rt; number.finish(), other.finish());
+    same(
+        &rt,
+        &[hasher.finish(), number.finish()],
+        &[again.finish(), other.finish()],
+    );
+}
+
+/// The two words of the plain program as one answer.
+fn joined(words: (u32, u32)) -> u64 {
+    let (pc, pb) = words;
+    u64::from(pc) + u64::from(pb) * 4294967296
 }
 
 // Every length from 0 to 60, in one piece and behind another piece.
@@ -88,55 +110,50 @@ fn lookup3_by_the_definition(rt: HostRuntime) {
     for i in 0..60 {
         text[i] = (i * 7 % 256) as u8;
     }
-    for n in 0..61 {
+    for n in 0..61usize {
         let piece = &text[..n];
-        let (pc, pb) = plain_lookup3(0, 0, piece);
-        assert_eq!(rt;
-            lookup3(piece),
-            u64::from(pc) + u64::from(pb) * 4294967296,
-            "at {n}"
-        );
+        let first = plain_lookup3(0, 0, piece);
+        let both = plain_lookup3(first.0, first.1, &text);
         let mut hasher = Lookup3Hasher::default();
         hasher.write(piece);
         hasher.write(&text);
-        let (pc, pb) = plain_lookup3(pc, pb, &text);
-        assert_eq!(rt;
-            hasher.finish(),
-            u64::from(pc) + u64::from(pb) * 4294967296,
-            "at {n}"
+        same_at(
+            &rt,
+            n,
+            &[lookup3(piece), hasher.finish()],
+            &[joined(first), joined(both)],
         );
     }
 }
 
 #[test]
 fn oaat_undone(rt: HostRuntime) {
-    match OAATHasher::unfinish(29161854018) {
-        Some(mut hasher) => {
-            hasher.unwrite(b"a");
-            assert_eq!(rt; hasher.finish(), 0);
-            hasher.step(97);
-            assert_eq!(rt; hasher.answer(), 29161854018);
-            hasher.unstep(97);
-            assert_eq!(rt; hasher.answer(), 0);
-            hasher.unwrite(b"abc");
-            hasher.unwrite(b"defg");
-            hasher.feed(b"defg");
-            hasher.feed(b"abc");
-            assert_eq!(rt; hasher.answer(), 0);
-        }
-        None => assert!(rt; false),
-    }
+    let mut hasher = OAATHasher::unfinish(29161854018).expect(&rt, "a state");
+    hasher.unwrite(b"a");
+    let before = hasher.finish();
+    hasher.step(97);
+    let after = hasher.answer();
+    hasher.unstep(97);
+    same(&rt, &[before, after, hasher.answer()], &[0, 29161854018, 0]);
+    hasher.unwrite(b"abc");
+    hasher.unwrite(b"defg");
+    hasher.feed(b"defg");
+    hasher.feed(b"abc");
     let mut a = OAATHasher::fresh();
     let mut b = OAATHasher::default();
     b.write(b"x");
     run_pair(&mut a, &mut b, &[b"ab", b"", b"c"]);
-    assert!(rt; a.finish() != b.finish());
+    let apart = a.finish() != b.finish();
     write_to_oaat(&mut a, 0x6261);
-    assert_eq!(rt; a.finish(), oaat(b"abcab"));
-    assert_eq!(rt;
-        answer_of_pieces::<OAATHasher>(&[b"ab", b"cdefg"]),
-        3103867595652801641
+    same(
+        &rt,
+        &[
+            hasher.answer(),
+            a.finish(),
+            answer_of_pieces::<OAATHasher>(&[b"ab", b"cdefg"]),
+        ],
+        &[0, oaat(b"abcab"), 3103867595652801641],
     );
-    assert!(rt; apart_by_one::<OAATHasher>(b"ab", b"cb"));
-    assert!(rt; !apart_by_one::<OAATHasher>(b"ab", b"ba"));
+    all_hold(&rt, &[apart, apart_by_one::<OAATHasher>(b"ab", b"cb")]);
+    none_holds(&rt, &[apart_by_one::<OAATHasher>(b"ab", b"ba")]);
 }

@@ -1,5 +1,6 @@
 //! The answers of the original, replayed.
 use super::sample::SAMPLE;
+use crate::tests::same_at;
 use hashers::fnv::{FNV1aHasher32, FNV1aHasher64};
 use hashers::fx_hash::{FxHasher, FxHasher32, FxHasher64};
 use hashers::jenkins::spooky_hash::SpookyHasher;
@@ -34,7 +35,7 @@ fn fed<H: Piecewise>(text: &[u8], piece: usize) -> H {
 #[test]
 fn answers_as_the_original(rt: HostRuntime) {
     let mut text = [0u8; 4097];
-    for (length, filling, piece, answers) in SAMPLE {
+    for (row, (length, filling, piece, answers)) in SAMPLE.into_iter().enumerate() {
         let length = length.min(text.len());
         for (i, b) in text.iter_mut().enumerate() {
             *b = byte(filling, i);
@@ -56,6 +57,6 @@ fn answers_as_the_original(rt: HostRuntime) {
             fed::<FxHasher32>(text, piece).answer(),
             fed::<FxHasher64>(text, piece).answer(),
         ];
-        assert_eq!(rt; ours, answers, "{length} bytes in pieces of {piece}");
+        same_at(&rt, row, &ours, &answers);
     }
 }

@@ -1,7 +1,9 @@
 //! Each promise and each example called once.
 use crate::promises::*;
+use crate::tests::tables::{key, new_table};
+use crate::tests::{all_hold, none_holds, same, same_replies};
 use crate::uses::{bloom_hashes, fingerprint, may_collide, remember, replace_last};
-use hash_buckets::{Buckets, NoRoom, NoTable};
+use hash_buckets::{Buckets, NoRoom};
 use hash_laws::window::{differ_at_one_place, is_window};
 use hashers::engine::Fault;
 use hashers::fnv::{FNV1aHasher32, FNV1aHasher64, fnv1a32, fnv1a64};
@@ -14,14 +16,14 @@ use hashers::oz::{DJB2Hasher, LoseLoseHasher, SDBMHasher, djb2, loselose, sdbm};
 use hashers::pigeon::{Bricolage, bricolage};
 use std::hash::Hasher;
 use std::process::Abort;
-use std::test::Fail;
 
 #[test]
 fn answers_of_pieces(rt: HostRuntime) {
     let pieces: [&[u8]; 3] = [b"ab", b"", b"c"];
     let text = b"abc";
-    assert_eq!(rt;
-        [
+    same(
+        &rt,
+        &[
             fnv1a32_of_pieces(&pieces),
             fnv1a64_of_pieces(&pieces),
             djb2_of_pieces(&pieces),
@@ -32,9 +34,9 @@ fn answers_of_pieces(rt: HostRuntime) {
             null_of_pieces(&pieces),
             passthrough_of_pieces(&pieces),
             spooky_of_pieces(0, 0, &pieces).0,
-            spooky_v1_of_pieces(0, 0, &pieces).0
+            spooky_v1_of_pieces(0, 0, &pieces).0,
         ],
-        [
+        &[
             fnv1a32(text),
             fnv1a64(text),
             djb2(text),
@@ -45,8 +47,8 @@ fn answers_of_pieces(rt: HostRuntime) {
             0,
             passthrough(text),
             spooky(text),
-            spooky_v1(text)
-        ]
+            spooky_v1(text),
+        ],
     );
 }
 
@@ -57,33 +59,48 @@ fn answers_that_see_the_cuts(rt: HostRuntime) {
     let mut hasher = Lookup3Hasher::default();
     hasher.write(b"abcdefgh");
     hasher.write(b"ij");
-    assert_eq!(rt;
-        [
+    same(
+        &rt,
+        &[
             fxhash_of_pieces(&pieces),
             fxhash32_of_pieces(&pieces),
             fxhash64_of_pieces(&pieces),
-            lookup3_of_pieces(&pieces)
+            lookup3_of_pieces(&pieces),
         ],
-        [
+        &[
             fxhash(text),
             fxhash32(text),
             fxhash64(text),
-            hasher.finish()
-        ]
+            hasher.finish(),
+        ],
     );
-    assert!(rt; lookup3_of_pieces(&pieces) != lookup3(text));
+    all_hold(&rt, &[lookup3_of_pieces(&pieces) != lookup3(text)]);
+}
+
+/// A fresh hasher, and one that was fed `abc`.
+fn fresh_and_fed<H: Piecewise>() -> (H, H) {
+    let mut fed = H::default();
+    fed.write(b"abc");
+    (H::default(), fed)
+}
+
+/// That the first is fresh and the second was fed `abc`, and that each answered in between as the other.
+fn as_they_were<H: Piecewise>(rt: &impl Abort, between: (u64, u64), a: &H, b: &H) {
+    let (fresh, fed): (H, H) = fresh_and_fed();
+    let (there, back) = between;
+    same(
+        rt,
+        &[there, back, a.finish(), b.finish()],
+        &[fed.finish(), fresh.finish(), fresh.finish(), fed.finish()],
+    );
 }
 
 /// That a fresh hasher and one that was fed `abc` are as they were, and what they answer in between.
 macro_rules! undone {
     ($rt:ident, $hasher:ident, $undone:ident) => {
-        let fresh = $hasher::default().finish();
-        let mut a = $hasher::default();
-        let mut b = $hasher::default();
-        b.write(b"abc");
-        let fed = b.finish();
-        let (there, back) = $undone(&mut a, &mut b, b"abc");
-        assert_eq!($rt; [there, back, a.finish(), b.finish()], [fed, fresh, fresh, fed]);
+        let (mut a, mut b): ($hasher, $hasher) = fresh_and_fed();
+        let between = $undone(&mut a, &mut b, b"abc");
+        as_they_were(&$rt, between, &a, &b);
     };
 }
 
@@ -113,55 +130,76 @@ fn undone_fx(rt: HostRuntime) {
     undone!(rt, FxHasher64, fxhash64_undone);
 }
 
+/// The fingerprint of a text in memory.
+fn fingerprint_of(rt: &impl Abort, text: &[u8], limit: u64) -> Option<u64> {
+    let mut text = text;
+    match fingerprint(&mut text, limit) {
+        Ok(told) => told,
+        Err(Fault { bytes: _, error: _ }) => panic!(rt; "a read of memory failed"),
+    }
+}
+
+/// The value that was there.
+fn remembered<H: Piecewise>(
+    rt: &impl Abort,
+    table: &mut Buckets<H, 64>,
+    key: Vec<u8>,
+    value: u64,
+) -> Option<u64> {
+    match remember(table, key, value) {
+        Ok(before) => before,
+        Err(NoRoom { key: _, value: _ }) => panic!(rt; "no memory for a key"),
+    }
+}
+
 #[test]
-fn examples(rt: HostRuntime) -> Result<(), Fail> {
-    let mut text: &[u8] = b"abc";
-    match fingerprint(&mut text, 4) {
-        Ok(told) => assert_eq!(rt; told, Some(fnv1a64(b"abc"))),
-        Err(Fault { bytes: _, error: _ }) => panic!(rt; "a read of memory failed"),
-    }
-    let mut text: &[u8] = b"abc";
-    match fingerprint(&mut text, 3) {
-        Ok(told) => assert_eq!(rt; told, None),
-        Err(Fault { bytes: _, error: _ }) => panic!(rt; "a read of memory failed"),
-    }
+fn examples(rt: HostRuntime) {
     let mut hasher = DJB2Hasher::default();
     hasher.write(b"ab");
     hasher.write(b"cd");
     replace_last(&mut hasher, b"cd", b"xyz");
-    assert_eq!(rt; hasher.finish(), djb2(b"abxyz"));
-    assert_eq!(rt; bloom_hashes(b"abc"), (fnv1a64(b"abc"), oaat(b"abc")));
-    assert!(rt; !may_collide(b"ab", b"cb"));
-    assert!(rt; may_collide(b"ab", b"abc"));
+    let (first, second) = bloom_hashes(b"abc");
+    same(
+        &rt,
+        &[hasher.finish(), first, second],
+        &[djb2(b"abxyz"), fnv1a64(b"abc"), oaat(b"abc")],
+    );
+    none_holds(&rt, &[may_collide(b"ab", b"cb")]);
+    all_hold(&rt, &[may_collide(b"ab", b"abc")]);
     let alloc = rt.alloc();
-    let mut table = match Buckets::<FNV1aHasher64, 64>::new(alloc) {
-        Ok(table) => table,
-        Err(NoTable) => panic!(rt; "no memory for the table"),
-    };
-    for (value, old) in [(1, None), (2, Some(1))] {
-        match remember(&mut table, Vec::from_slice(alloc, b"key")?, value) {
-            Ok(before) => assert_eq!(rt; before, old),
-            Err(NoRoom { key: _, value: _ }) => panic!(rt; "no memory for a key"),
-        }
-    }
-    assert_eq!(rt; table.get(b"key"), Some(2));
-    Ok(())
+    let mut table = new_table::<FNV1aHasher64, 64>(&rt, alloc);
+    let replies = [
+        fingerprint_of(&rt, b"abc", 4),
+        fingerprint_of(&rt, b"abc", 3),
+        remembered(&rt, &mut table, key(&rt, alloc, b"key"), 1),
+        remembered(&rt, &mut table, key(&rt, alloc, b"key"), 2),
+        table.get(b"key"),
+    ];
+    same_replies(
+        &rt,
+        &replies,
+        &[Some(fnv1a64(b"abc")), None, None, Some(1), Some(2)],
+    );
 }
 
 #[test]
 fn windows(rt: HostRuntime) {
-    let windows = [
-        is_window(b"abcd", b"axyd", 2, 0),
-        is_window(b"abcd", b"axyd", 2, 0xe0),
-        differ_at_one_place(b"abc", b"abd"),
-    ];
-    let others = [
-        is_window(b"abcd", b"axyd", 1, 0),
-        is_window(b"abcd", b"abcd", 4, 0),
-        is_window(b"ab", b"abc", 4, 0),
-        is_window(b"abcd", b"aXyd", 2, 0xe0),
-        differ_at_one_place(b"abc", b"acb"),
-    ];
-    assert_eq!(rt; windows, [true; 3]);
-    assert_eq!(rt; others, [false; 5]);
+    all_hold(
+        &rt,
+        &[
+            is_window(b"abcd", b"axyd", 2, 0),
+            is_window(b"abcd", b"axyd", 2, 0xe0),
+            differ_at_one_place(b"abc", b"abd"),
+        ],
+    );
+    none_holds(
+        &rt,
+        &[
+            is_window(b"abcd", b"axyd", 1, 0),
+            is_window(b"abcd", b"abcd", 4, 0),
+            is_window(b"ab", b"abc", 4, 0),
+            is_window(b"abcd", b"aXyd", 2, 0xe0),
+            differ_at_one_place(b"abc", b"acb"),
+        ],
+    );
 }

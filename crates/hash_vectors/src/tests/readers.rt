@@ -1,6 +1,7 @@
 //! The reader engine over readers that misbehave.
 ghost use Rattle.std.specs.Prelude.{◌<◌, ◌≤◌};
 
+use crate::tests::{all_hold, none_holds, same};
 use hashers::engine::{Fault, Taken, hash_reader};
 use hashers::fnv::FNV1aHasher64;
 use hashers::jenkins::Lookup3Hasher;
@@ -81,6 +82,11 @@ fn end_of(outcome: Result<Taken, Fault>) -> End {
     }
 }
 
+/// That calls ended as wanted.
+fn same_ends(rt: &impl Abort, got: &[End], want: &[End]) {
+    assert_eq!(rt; got, want);
+}
+
 /// `abcd` by one byte a read, through an array of N, failing once after k bytes and going on.
 fn reads_abcd<const N: usize>(rt: &impl Abort)
     requires not_empty { 0 < N }
@@ -89,17 +95,22 @@ fn reads_abcd<const N: usize>(rt: &impl Abort)
     let mut h = FNV1aHasher64::fresh();
     let mut r = Script::new(b"abcd", 1, None);
     let end = end_of(hash_reader::<FNV1aHasher64, Script, N>(&mut h, &mut r, 9));
-    assert_eq!(rt; end, End::Taken(4, true));
-    assert_eq!(rt; h.answer(), 18165163011005162717);
-    assert!(rt; !r.asked_for_nothing);
+    same_ends(rt, &[end], &[End::Taken(4, true)]);
+    same(rt, &[h.answer()], &[18165163011005162717]);
+    none_holds(rt, &[r.asked_for_nothing]);
     for k in 0..5u64 {
         let mut h = FNV1aHasher64::fresh();
         let mut r = Script::new(b"abcd", 1, Some(k as usize));
-        let end = end_of(hash_reader::<FNV1aHasher64, Script, N>(&mut h, &mut r, 9));
-        assert_eq!(rt; end, End::Fault(k, ErrorKind::BrokenPipe));
-        let end = end_of(hash_reader::<FNV1aHasher64, Script, N>(&mut h, &mut r, 9));
-        assert_eq!(rt; end, End::Taken(4 - k, true));
-        assert_eq!(rt; h.answer(), 18165163011005162717);
+        let ends = [
+            end_of(hash_reader::<FNV1aHasher64, Script, N>(&mut h, &mut r, 9)),
+            end_of(hash_reader::<FNV1aHasher64, Script, N>(&mut h, &mut r, 9)),
+        ];
+        let wanted = [
+            End::Fault(k, ErrorKind::BrokenPipe),
+            End::Taken(4 - k, true),
+        ];
+        same_ends(rt, &ends, &wanted);
+        same(rt, &[h.answer()], &[18165163011005162717]);
     }
 }
 
@@ -115,30 +126,54 @@ fn short_reads_and_faults(rt: HostRuntime) {
 fn goes_on_after_a_fault(rt: HostRuntime) {
     let mut h = FNV1aHasher64::fresh();
     let mut r = Script::new(b"abcd", 2, Some(2));
+    let fault = end_of(hash_reader::<FNV1aHasher64, Script, 4>(&mut h, &mut r, 9));
+    let between = h.answer();
     let end = end_of(hash_reader::<FNV1aHasher64, Script, 4>(&mut h, &mut r, 9));
-    assert_eq!(rt; end, End::Fault(2, ErrorKind::BrokenPipe));
-    assert_eq!(rt; h.answer(), 620445648566982762);
-    let end = end_of(hash_reader::<FNV1aHasher64, Script, 4>(&mut h, &mut r, 9));
-    assert_eq!(rt; end, End::Taken(2, true));
-    assert_eq!(rt; h.answer(), 18165163011005162717);
+    same_ends(
+        &rt,
+        &[fault, end],
+        &[End::Fault(2, ErrorKind::BrokenPipe), End::Taken(2, true)],
+    );
+    same(
+        &rt,
+        &[between, h.answer()],
+        &[620445648566982762, 18165163011005162717],
+    );
+}
+
+/// lookup3's answer to `ab` where the reader fails once after k bytes.
+fn lookup3_cut_at(rt: &impl Abort, k: u64) -> u64
+    requires { k ≤ 2 }
+{
+    let mut h = Lookup3Hasher::fresh();
+    let mut r = Script::new(b"ab", 2, Some(k as usize));
+    let ends = [
+        end_of(hash_reader::<Lookup3Hasher, Script, 4>(&mut h, &mut r, 9)),
+        end_of(hash_reader::<Lookup3Hasher, Script, 4>(&mut h, &mut r, 9)),
+    ];
+    let wanted = [
+        End::Fault(k, ErrorKind::BrokenPipe),
+        End::Taken(2 - k, true),
+    ];
+    same_ends(rt, &ends, &wanted);
+    h.answer()
 }
 
 #[test]
 fn a_fault_is_a_cut_for_lookup3(rt: HostRuntime) {
-    let answers = [
-        (0, 7744397999705663711),
-        (1, 18104817335149544820),
-        (2, 7744397999705663711),
-    ];
-    for (k, answer) in answers {
-        let mut h = Lookup3Hasher::fresh();
-        let mut r = Script::new(b"ab", 2, Some(k));
-        let end = end_of(hash_reader::<Lookup3Hasher, Script, 4>(&mut h, &mut r, 9));
-        assert_eq!(rt; end, End::Fault(k as u64, ErrorKind::BrokenPipe));
-        let end = end_of(hash_reader::<Lookup3Hasher, Script, 4>(&mut h, &mut r, 9));
-        assert_eq!(rt; end, End::Taken(2 - k as u64, true));
-        assert_eq!(rt; h.answer(), answer);
-    }
+    same(
+        &rt,
+        &[
+            lookup3_cut_at(&rt, 0),
+            lookup3_cut_at(&rt, 1),
+            lookup3_cut_at(&rt, 2),
+        ],
+        &[
+            7744397999705663711,
+            18104817335149544820,
+            7744397999705663711,
+        ],
+    );
 }
 
 #[test]
@@ -147,8 +182,8 @@ fn an_interruption_is_a_fault(rt: HostRuntime) {
     let mut r = Script::new(b"ab", 4, Some(0));
     r.kind = ErrorKind::Interrupted;
     let end = end_of(hash_reader::<FNV1aHasher64, Script, 4>(&mut h, &mut r, 9));
-    assert_eq!(rt; end, End::Fault(0, ErrorKind::Interrupted));
-    assert_eq!(rt; r.reads, 1);
+    same_ends(&rt, &[end], &[End::Fault(0, ErrorKind::Interrupted)]);
+    same(&rt, &[r.reads], &[1]);
 }
 
 #[test]
@@ -158,38 +193,58 @@ fn an_endless_reader(rt: HostRuntime) {
         let mut r = Script::new(&[1; 50], most, None);
         r.endless = true;
         let end = end_of(hash_reader::<LoseLoseHasher, Script, 4096>(&mut h, &mut r, 1000));
-        assert_eq!(rt; end, End::Taken(1000, false));
-        assert_eq!(rt; h.answer(), 1000);
-        assert!(rt; r.reads <= 1000);
-        assert!(rt; !r.asked_for_nothing);
+        same_ends(&rt, &[end], &[End::Taken(1000, false)]);
+        same(&rt, &[h.answer()], &[1000]);
+        all_hold(&rt, &[r.reads <= 1000]);
+        none_holds(&rt, &[r.asked_for_nothing]);
     }
+}
+
+/// What comes of `ab` under a limit, which is read at all unless that is 0.
+fn limited(rt: &impl Abort, limit: u64) -> (End, u64) {
+    let mut h = FNV1aHasher64::fresh();
+    let mut r = Script::new(b"ab", 2, None);
+    let end = end_of(hash_reader::<FNV1aHasher64, Script, 2>(&mut h, &mut r, limit));
+    all_hold(rt, &[(r.reads == 0) == (limit == 0)]);
+    (end, h.answer())
 }
 
 #[test]
 fn limits(rt: HostRuntime) {
-    let cases = [
-        (0, End::Taken(0, false), 14695981039346656037),
-        (1, End::Taken(1, false), 12638187200555641996),
-        (2, End::Taken(2, false), 620445648566982762),
-        (3, End::Taken(2, true), 620445648566982762),
-    ];
-    for (limit, end, answer) in cases {
-        let mut h = FNV1aHasher64::fresh();
-        let mut r = Script::new(b"ab", 2, None);
-        let taken = end_of(hash_reader::<FNV1aHasher64, Script, 2>(&mut h, &mut r, limit));
-        assert_eq!(rt; taken, end);
-        assert_eq!(rt; h.answer(), answer);
-        assert_eq!(rt; r.reads == 0, limit == 0);
-    }
+    let (at0, none) = limited(&rt, 0);
+    let (at1, one) = limited(&rt, 1);
+    let (at2, two) = limited(&rt, 2);
+    let (at3, all) = limited(&rt, 3);
     let mut h = FNV1aHasher64::fresh();
     let mut r = Script::new(b"ab", 2, None);
-    let end = end_of(hash_reader::<FNV1aHasher64, Script, 4>(&mut h, &mut r, 1));
-    assert_eq!(rt; end, End::Taken(1, false));
-    let end = end_of(hash_reader::<FNV1aHasher64, Script, 4>(&mut h, &mut r, 10));
-    assert_eq!(rt; end, End::Taken(1, true));
-    assert_eq!(rt; h.answer(), 620445648566982762);
+    let first = end_of(hash_reader::<FNV1aHasher64, Script, 4>(&mut h, &mut r, 1));
+    let last = end_of(hash_reader::<FNV1aHasher64, Script, 4>(&mut h, &mut r, 10));
+    let whole = h.answer();
     let mut failing = Script::new(b"ab", 2, Some(0));
-    let end = end_of(hash_reader::<FNV1aHasher64, Script, 4>(&mut h, &mut failing, 0));
-    assert_eq!(rt; end, End::Taken(0, false));
-    assert_eq!(rt; failing.reads, 0);
+    let unread = end_of(hash_reader::<FNV1aHasher64, Script, 4>(&mut h, &mut failing, 0));
+    same_ends(
+        &rt,
+        &[at0, at1, at2, at3, first, last, unread],
+        &[
+            End::Taken(0, false),
+            End::Taken(1, false),
+            End::Taken(2, false),
+            End::Taken(2, true),
+            End::Taken(1, false),
+            End::Taken(1, true),
+            End::Taken(0, false),
+        ],
+    );
+    same(
+        &rt,
+        &[none, one, two, all, whole, failing.reads],
+        &[
+            14695981039346656037,
+            12638187200555641996,
+            620445648566982762,
+            620445648566982762,
+            620445648566982762,
+            0,
+        ],
+    );
 }

@@ -1,10 +1,12 @@
 //! SpookyHash in both forms, by vectors and over all cuts.
 use crate::tests::jenkins::write_to_spooky;
+use crate::tests::{all_hold, all_hold_at, none_holds, same};
 use hash_rounds::{short_end, un_short_end};
 use hashers::jenkins::laws::apart_by_zeros;
 use hashers::jenkins::spooky_hash::{SpookyHasher, spooky, spooky_v1};
 use hashers::laws::{Piecewise, answer_of_pieces, run_streamed};
 use std::hash::Hasher;
+use std::process::Abort;
 
 /// The bytes 0, 1, .., 255, 0, ..
 fn counting() -> [u8; 300] {
@@ -54,23 +56,40 @@ fn asked_between(text: &[u8]) -> ((u64, u64), (u64, u64)) {
     (hasher.finish128(), hasher.finish128_v1())
 }
 
+/// The answer under version 1, which is the other version's for no bytes alone.
+fn version_1(rt: &impl Abort, text: &[u8]) -> u64 {
+    let answer = spooky_v1(text);
+    all_hold(rt, &[(spooky(text) == answer) == text.is_empty()]);
+    answer
+}
+
 #[test]
 fn vectors_of_version_1(rt: HostRuntime) {
-    let table: [(&[u8], u64); 9] = [
-        (b"", 13905049616862401802),
-        (b"a", 16932945748884078726),
-        (b"b", 5781063613870495197),
-        (b"ab", 13849109452443161137),
-        (b"abcd", 4142038200967391753),
-        (b"abcdefg", 2761526316938866980),
-        (b"abcdefghijklmnopqrstuvwxyz", 16192181224158463141),
-        (b"\0", 13905049616862401802),
-        (&[0; 191], 13905049616862401802),
-    ];
-    for (text, want) in table {
-        assert_eq!(rt; spooky_v1(text), want);
-        assert!(rt; (spooky(text) == want) == text.is_empty());
-    }
+    same(
+        &rt,
+        &[
+            version_1(&rt, b""),
+            version_1(&rt, b"a"),
+            version_1(&rt, b"b"),
+            version_1(&rt, b"ab"),
+            version_1(&rt, b"abcd"),
+            version_1(&rt, b"abcdefg"),
+            version_1(&rt, b"abcdefghijklmnopqrstuvwxyz"),
+            version_1(&rt, b"\0"),
+            version_1(&rt, &[0; 191]),
+        ],
+        &[
+            13905049616862401802,
+            16932945748884078726,
+            5781063613870495197,
+            13849109452443161137,
+            4142038200967391753,
+            2761526316938866980,
+            16192181224158463141,
+            13905049616862401802,
+            13905049616862401802,
+        ],
+    );
 }
 
 #[test]
@@ -83,28 +102,45 @@ fn letters_in_pieces(rt: HostRuntime) {
         asked.feed(&[*letter]);
         asked.finish();
     }
-    assert_eq!(rt; pieces.finish128_v1().0, 16192181224158463141);
-    assert_eq!(rt; asked.finish128_v1().0, 16192181224158463141);
-    assert_eq!(rt; pieces.finish(), spooky(letters));
-    assert_eq!(rt; asked.answer(), spooky(letters));
-    assert_eq!(rt;
-        answer_of_pieces::<SpookyHasher>(&[&letters[..5], b"", &letters[5..]]),
-        spooky(letters)
+    same(
+        &rt,
+        &[pieces.finish128_v1().0, asked.finish128_v1().0],
+        &[16192181224158463141, 16192181224158463141],
+    );
+    let whole = spooky(letters);
+    same(
+        &rt,
+        &[
+            pieces.finish(),
+            asked.answer(),
+            answer_of_pieces::<SpookyHasher>(&[&letters[..5], b"", &letters[5..]]),
+        ],
+        &[whole, whole, whole],
     );
 }
 
 #[test]
 fn cuts_do_not_show(rt: HostRuntime) {
     let text = counting();
-    for n in 0..301 {
-        let whole = in_one(&text[..n]);
-        for cut in [95, 96, 191, 192, 193, 287] {
-            assert!(rt; cut_at(&text[..n], cut) == whole, "{n} bytes, cut at {cut}");
-        }
-        assert!(rt; byte_by_byte(&text[..n]) == whole, "{n} bytes");
-        let (answer, version_1) = asked_between(&text[..n]);
-        assert!(rt; answer == whole, "{n} bytes");
-        assert!(rt; (version_1 == whole) == (n == 0 || n >= 192), "{n} bytes");
+    for n in 0..301usize {
+        let text = &text[..n];
+        let whole = in_one(text);
+        let (answer, version_1) = asked_between(text);
+        all_hold_at(
+            &rt,
+            n,
+            &[
+                cut_at(text, 95) == whole,
+                cut_at(text, 96) == whole,
+                cut_at(text, 191) == whole,
+                cut_at(text, 192) == whole,
+                cut_at(text, 193) == whole,
+                cut_at(text, 287) == whole,
+                byte_by_byte(text) == whole,
+                answer == whole,
+                (version_1 == whole) == (n == 0 || n >= 192),
+            ],
+        );
     }
 }
 
@@ -116,15 +152,18 @@ fn short_words_tell_zeros_apart(rt: HostRuntime) {
     let one = hasher.short_words();
     hasher.write(&[0; 190]);
     let many = hasher.short_words();
-    assert!(rt; empty != one && empty != many && one != many);
-    match many {
-        Some(words) => assert!(rt; (words[0], words[1]) == hasher.finish128()),
-        None => assert!(rt; false),
-    }
+    none_holds(&rt, &[empty == one, empty == many, one == many]);
+    let words = many.expect(&rt, "fewer than 192 bytes");
+    all_hold(&rt, &[(words[0], words[1]) == hasher.finish128()]);
     for _ in 0..2 {
         hasher.write(&[0]);
-        assert!(rt; hasher.short_words() == None);
-        assert!(rt; hasher.finish128() == hasher.finish128_v1());
+        all_hold(
+            &rt,
+            &[
+                hasher.short_words().is_none(),
+                hasher.finish128() == hasher.finish128_v1(),
+            ],
+        );
     }
 }
 
@@ -132,29 +171,32 @@ fn short_words_tell_zeros_apart(rt: HostRuntime) {
 #[test]
 fn length_in_the_fourth_word(rt: HostRuntime) {
     let text = counting();
-    for n in 0..192 {
+    for n in 0..192usize {
         let mut hasher = SpookyHasher::new(3, 4);
         hasher.write(&text[..n]);
-        match hasher.short_words() {
-            Some(mut words) => {
-                un_short_end(&mut words);
-                words[3] = words[3].wrapping_sub((n as u64) << 56);
-                short_end(&mut words);
-                assert!(rt; (words[0], words[1]) == hasher.finish128_v1(), "{n} bytes");
-            }
-            None => assert!(rt; false, "{n} bytes"),
-        }
+        let mut words = hasher.short_words().expect(&rt, "fewer than 192 bytes");
+        un_short_end(&mut words);
+        words[3] = words[3].wrapping_sub((n as u64) << 56);
+        short_end(&mut words);
+        all_hold_at(&rt, n, &[(words[0], words[1]) == hasher.finish128_v1()]);
     }
 }
 
 #[test]
 fn zeros_at_the_end(rt: HostRuntime) {
-    assert!(rt; apart_by_zeros(&[], &[0]));
-    assert!(rt; !apart_by_zeros(&[0], &[]));
-    assert!(rt; !apart_by_zeros(b"a", b"a"));
-    assert!(rt; !apart_by_zeros(&[0; 191], &[0; 192]));
-    assert!(rt; !apart_by_zeros(b"a", b"a\x01"));
-    assert!(rt; apart_by_zeros(b"a", b"a\0\0"));
+    all_hold(
+        &rt,
+        &[apart_by_zeros(&[], &[0]), apart_by_zeros(b"a", b"a\0\0")],
+    );
+    none_holds(
+        &rt,
+        &[
+            apart_by_zeros(&[0], &[]),
+            apart_by_zeros(b"a", b"a"),
+            apart_by_zeros(&[0; 191], &[0; 192]),
+            apart_by_zeros(b"a", b"a\x01"),
+        ],
+    );
 }
 
 #[test]
@@ -163,6 +205,6 @@ fn numbers_and_lists(rt: HostRuntime) {
     write_to_spooky(&mut numbers, 0x6867666564636261);
     let mut list = SpookyHasher::default();
     run_streamed(&mut list, &[b"abc", b"", b"defgh"]);
-    assert!(rt; numbers.finish128() == list.finish128());
-    assert_eq!(rt; list.finish(), spooky(b"abcdefgh"));
+    all_hold(&rt, &[numbers.finish128() == list.finish128()]);
+    same(&rt, &[list.finish()], &[spooky(b"abcdefgh")]);
 }
