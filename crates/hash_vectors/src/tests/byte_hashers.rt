@@ -11,7 +11,8 @@ use hashers::pigeon::{Bricolage, bricolage};
 use std::hash::Hasher;
 use std::process::Abort;
 
-fn by_name(text: &[u8]) -> [u64; 4] {
+/// Four hashes of a text: Bricolage, djb2, sdbm and lose lose.
+fn four(text: &[u8]) -> [u64; 4] {
     [bricolage(text), djb2(text), sdbm(text), loselose(text)]
 }
 
@@ -36,12 +37,12 @@ fn vectors(rt: HostRuntime) {
             4642726675185563447,
         ],
     );
-    same(&rt, &by_name(b""), &[0, 5381, 0, 0]);
-    same(&rt, &by_name(b"a"), &[17926483712435944715, 177604, 97, 97]);
-    same(&rt, &by_name(b"b"), &[12457347154332739726, 177607, 98, 98]);
+    same(&rt, &four(b""), &[0, 5381, 0, 0]);
+    same(&rt, &four(b"a"), &[17926483712435944715, 177604, 97, 97]);
+    same(&rt, &four(b"b"), &[12457347154332739726, 177607, 98, 98]);
     same(
         &rt,
-        &by_name(b"ab"),
+        &four(b"ab"),
         &[16461606921607156355, 5860902, 6363201, 195],
     );
     same(

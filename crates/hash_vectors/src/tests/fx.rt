@@ -121,11 +121,12 @@ fn in_two32(text: &[u8], cut: usize) -> u64
     h.finish()
 }
 
+// The three hashes of a text.
 fn by_width(text: &[u8]) -> [u64; 3] {
     [fxhash64(text), fxhash(text), fxhash32(text)]
 }
 
-// The hashes of the word 97, by width.
+// Those of the word 97.
 const OF_97: [u64; 3] = [16160435425421689461, 16160435425421689461, 3555066485];
 
 #[test]
@@ -171,6 +172,7 @@ fn hold_97(rt: &impl Abort, width: usize, hashers: (FxHasher64, FxHasher, FxHash
     same_at(rt, width, &[taken64, taken, taken32], &OF_97);
 }
 
+// Three hashers, in the order of their hashes.
 fn fresh() -> (FxHasher64, FxHasher, FxHasher32) {
     (
         FxHasher64::default(),

@@ -35,6 +35,7 @@ pub(super) fn write_to_spooky(hasher: &mut SpookyHasher, number: usize)
     hasher.write_usize(number);
 }
 
+/// Both hashes of a text: one-at-a-time and lookup3.
 fn both(text: &[u8]) -> [u64; 2] {
     [oaat(text), lookup3(text)]
 }
