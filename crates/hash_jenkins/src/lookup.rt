@@ -46,21 +46,6 @@ fn le_few(bytes: &[u8]) -> u32
     }
 }
 
-// The words of what is left after the whole blocks.
-#[inline(always)]
-fn rest_words(rest: &[u8]) -> (u32, u32, u32)
-    requires { length rest.now < 12 }
-    ensures { result ≡ block_words rest.now }
-{
-    match rest.split_first_chunk::<4>() {
-        None => (le_few(rest), 0, 0),
-        Some((a, more)) => match more.split_first_chunk::<4>() {
-            None => (le_four(a), le_few(more), 0),
-            Some((b, last)) => (le_four(a), le_four(b), le_few(last)),
-        },
-    }
-}
-
 // The words before a piece of this length.
 #[inline(always)]
 fn start(pc: u32, pb: u32, len: usize) -> [u32; 3]
@@ -71,13 +56,19 @@ fn start(pc: u32, pb: u32, len: usize) -> [u32; 3]
     [first, first, first.wrapping_add(pb)]
 }
 
-// Adds the words of the rest, and zeros behind it.
+// Adds the words of what is left after the whole blocks, and zeros behind it.
 #[inline(always)]
 fn add_rest(s: &mut [u32; 3], rest: &[u8])
     requires { length rest.now < 12 }
     ensures { s.new ≡ add_block s.old (zero_filled 12 rest.now) }
 {
-    add_words(s, rest_words(rest));
+    match rest.split_first_chunk::<4>() {
+        None => add_words(s, (le_few(rest), 0, 0)),
+        Some((a, more)) => match more.split_first_chunk::<4>() {
+            None => add_words(s, (le_four(a), le_few(more), 0)),
+            Some((b, last)) => add_words(s, (le_four(a), le_four(b), le_few(last))),
+        },
+    }
 }
 
 // The two words after a piece that has some bytes.
