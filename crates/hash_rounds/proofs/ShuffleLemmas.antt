@@ -125,8 +125,6 @@ module _ (x mask k : ℕ) (apart : bit_and mask (mask * 2 ^ k) ≡ 0) where
     | inr above ↦ exchange_above j j_in above
   ]
 
-pub ruleset exchanges = (bit_at-exchange)
-
 -- ---- the halves
 
 pub bit_at-swap_halves : (x j : ℕ) → x < 2 ^ 64 → j < 64 → bit_at (swap_halves x) j ≡ bit_at x ((j + 32) % 64)

@@ -98,8 +98,6 @@ rotate_left-64 x k x_in some within =
     let rest : (64 - k) % 64 ≡ 64 - k = mod-eq_of_lt (omega arith) in
     rw (turn, rest) (rotl-or 64 x k (omega arith) x_in)
 
-pub ruleset rotations = (rotate_left-32, rotate_left-64, rotl-rotl)
-
 -- ---- little-endian bytes
 
 le-drop : (bs : List ℕ) (i : ℕ) → i < length bs → le (drop i bs) ≡ slice_index bs i + 256 * le (drop (i + 1) bs)
@@ -131,8 +129,6 @@ from_le_bytes-4 bs len =
     let e3 = le-drop bs 3 (omega arith) in
     let e4 = le-drop_all bs 4 (omega arith) in
     omega arith
-
-pub ruleset le_values = (from_le_bytes-8, from_le_bytes-4)
 
 -- the values of at most four bytes
 pub le-0 : (t : List ℕ) → length t ≡ 0 → le t ≡ 0
@@ -170,12 +166,8 @@ le-4 (a ∷ b ∷ c ∷ []) n = absurd (omega arith)
 le-4 (a ∷ b ∷ c ∷ d ∷ []) n = omega arith
 le-4 (a ∷ b ∷ c ∷ d ∷ e ∷ t) n = absurd (omega arith)
 
-pub ruleset le_of_few = (le-0, le-1, le-2, le-3, le-4)
-
 pub swap_halves-is : (x : ℕ) → rotl 64 x 32 ≡ swap_halves x
 swap_halves-is x = rotl_split 32 32 x
-
-pub ruleset halves = (swap_halves-is)
 
 -- ---- lists of words
 

@@ -46,5 +46,3 @@ same_from_xorshift y z k y_in z_in some same =
 -- a shift of a word is a word
 pub xorshift-lt : (x k : ℕ) → x < 2 ^ 64 → xorshift x k < 2 ^ 64
 xorshift-lt x k x_in = xor_lt 64 x (x / 2 ^ k) x_in (omega (arith, shr_le x k))
-
-pub ruleset unshifts = (xorshift-more, xorshift-past, same_from_xorshift)

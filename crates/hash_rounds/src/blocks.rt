@@ -9,7 +9,7 @@ use crate::words::le64;
 
 /// The bytes as `N` little-endian words of eight bytes each. There are `8 * N` bytes.
 #[inline(always)]
-#[tactic(auto, using(std::proofs::lemmas::List::map_more), unfolding(crate::specs::Blocks::le_words, crate::specs::Blocks::pieces))]
+#[tactic(auto, unfolding(crate::specs::Blocks::le_words, crate::specs::Blocks::pieces))]
 pub fn le_words<const N: usize>(bytes: &[u8]) -> [u64; N]
     requires { length bytes.now ≡ 8 * N }
     ensures { result ≡ le_words bytes.now }

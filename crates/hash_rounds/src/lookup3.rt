@@ -69,7 +69,6 @@ pub fn lookup3_unfinal(s: &mut [u32; 3])
 }
 
 #[inline(always)]
-#[tactic(auto, unfolding(crate::specs::Steps::apply))]
 fn mix_group(s: &mut [u32; 3], x: usize, y: usize, z: usize, k: u32)
     requires x_in { x < 3 }
     requires y_in { y < 3 }
@@ -84,7 +83,6 @@ fn mix_group(s: &mut [u32; 3], x: usize, y: usize, z: usize, k: u32)
 }
 
 #[inline(always)]
-#[tactic(auto, unfolding(crate::specs::Steps::apply, crate::specs::Steps::undo))]
 fn unmix_group(s: &mut [u32; 3], x: usize, y: usize, z: usize, k: u32)
     requires x_in { x < 3 }
     requires y_in { y < 3 }
@@ -99,7 +97,6 @@ fn unmix_group(s: &mut [u32; 3], x: usize, y: usize, z: usize, k: u32)
 }
 
 #[inline(always)]
-#[tactic(auto, unfolding(crate::specs::Steps::apply))]
 fn final_group(s: &mut [u32; 3], x: usize, y: usize, k: u32)
     requires x_in { x < 3 }
     requires y_in { y < 3 }
@@ -112,7 +109,6 @@ fn final_group(s: &mut [u32; 3], x: usize, y: usize, k: u32)
 }
 
 #[inline(always)]
-#[tactic(auto, unfolding(crate::specs::Steps::apply, crate::specs::Steps::undo))]
 fn unfinal_group(s: &mut [u32; 3], x: usize, y: usize, k: u32)
     requires x_in { x < 3 }
     requires y_in { y < 3 }

@@ -82,7 +82,6 @@ pub fn un_short_end(h: &mut [u64; 4])
 }
 
 #[inline(always)]
-#[tactic(auto, unfolding(crate::specs::Steps::apply))]
 fn mix_group(h: &mut [u64; 4], p: usize, r: u32)
     requires p_in { p < 4 }
     requires some { 0 < r }
@@ -95,7 +94,6 @@ fn mix_group(h: &mut [u64; 4], p: usize, r: u32)
 }
 
 #[inline(always)]
-#[tactic(auto, unfolding(crate::specs::Steps::apply, crate::specs::Steps::undo))]
 fn unmix_group(h: &mut [u64; 4], p: usize, r: u32)
     requires p_in { p < 4 }
     requires some { 0 < r }
@@ -108,7 +106,6 @@ fn unmix_group(h: &mut [u64; 4], p: usize, r: u32)
 }
 
 #[inline(always)]
-#[tactic(auto, unfolding(crate::specs::Steps::apply))]
 fn end_group(h: &mut [u64; 4], p: usize, r: u32)
     requires p_in { p < 4 }
     requires some { 0 < r }
@@ -121,7 +118,6 @@ fn end_group(h: &mut [u64; 4], p: usize, r: u32)
 }
 
 #[inline(always)]
-#[tactic(auto, unfolding(crate::specs::Steps::apply, crate::specs::Steps::undo))]
 fn unend_group(h: &mut [u64; 4], p: usize, r: u32)
     requires p_in { p < 4 }
     requires some { 0 < r }

@@ -45,7 +45,6 @@ pub fn unshuffle64(x: u64) -> u64
 
 // The bits of the mask change places with those k above.
 #[inline(always)]
-#[tactic(auto, using(crate::proofs::ShuffleLemmas::exchanges))]
 fn exchange(x: u64, mask: u64, k: u32) -> u64
     requires within { k < 64 }
     requires apart { bit_and mask (mask * 2 ^ k) ≡ 0 }

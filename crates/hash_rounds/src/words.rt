@@ -6,7 +6,6 @@ ghost use Rattle.hash_rounds.specs.Words.{rotl, le, xorshift, swap_halves};
 /// The word of 32 bits turned to the left by `k` bits: what leaves at the top comes in at the bottom.
 /// `k` is from 1 to 31. A turn by `32 - k` takes it back.
 #[inline(always)]
-#[tactic(auto, using(crate::proofs::WordLemmas::rotations))]
 pub fn rotl32(x: u32, k: u32) -> u32
     requires some { 0 < k }
     requires within { k < 32 }
@@ -19,7 +18,6 @@ pub fn rotl32(x: u32, k: u32) -> u32
 /// The word of 64 bits turned to the left by `k` bits: what leaves at the top comes in at the bottom.
 /// `k` is from 1 to 63. A turn by `64 - k` takes it back.
 #[inline(always)]
-#[tactic(auto, using(crate::proofs::WordLemmas::rotations))]
 pub fn rotl64(x: u64, k: u32) -> u64
     requires some { 0 < k }
     requires within { k < 64 }
@@ -31,7 +29,6 @@ pub fn rotl64(x: u64, k: u32) -> u64
 
 /// The little-endian value of at most four bytes, the first byte being the lowest. No bytes give 0.
 #[inline(always)]
-#[tactic(auto, using(crate::proofs::WordLemmas::le_of_few))]
 pub fn le32(bytes: &[u8]) -> u32
     requires { length bytes.now ≤ 4 }
     ensures { result ≡ le bytes.now }
@@ -47,7 +44,6 @@ pub fn le32(bytes: &[u8]) -> u32
 
 /// The little-endian value of eight bytes, as one load.
 #[inline(always)]
-#[tactic(auto, using(crate::proofs::WordLemmas::le_values))]
 pub fn le64(bytes: &[u8; 8]) -> u64
     ensures { result ≡ le bytes.now }
 {
@@ -56,7 +52,6 @@ pub fn le64(bytes: &[u8; 8]) -> u64
 
 /// The little-endian value of four bytes, as one load.
 #[inline(always)]
-#[tactic(auto, using(crate::proofs::WordLemmas::le_values))]
 pub fn le_four(bytes: &[u8; 4]) -> u32
     ensures { result ≡ le bytes.now }
 {
@@ -65,7 +60,6 @@ pub fn le_four(bytes: &[u8; 4]) -> u32
 
 /// The word of 64 bits with its two halves of 32 bits exchanged. Done twice, it gives the word back.
 #[inline(always)]
-#[tactic(auto, using(crate::proofs::WordLemmas::halves))]
 pub fn swap_halves(x: u64) -> u64
     ensures value { result ≡ swap_halves x }
     ensures undone { swap_halves result ≡ x }
@@ -86,7 +80,6 @@ pub fn xorshift(x: u64, k: u32) -> u64
 /// The one word of 64 bits of which `xorshift` by `k` makes `x`. `k` is from 1 to 63.
 ///
 /// A shift is folded on at twice the distance each time, until nothing is left to shift.
-#[tactic(auto, using(crate::proofs::XorshiftLemmas::unshifts))]
 pub fn unxorshift(x: u64, k: u32) -> u64
     requires some { 0 < k }
     requires within { k < 64 }
