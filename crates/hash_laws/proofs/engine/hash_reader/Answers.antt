@@ -1,5 +1,6 @@
-use Rattle.std.proofs.Common.{◌≡◌, ◌≤◌, arith, rules, min, ◌-◌}
+use Rattle.std.proofs.Common.{◌≡◌, ◌≤◌, arith, rules, min, refl, ◌-◌}
 use Rattle.std.proofs.Math.Nat.{zero-mod}
+use Rattle.std.proofs.lemmas.Bool.{false≢true}
 use Rattle.hash_laws.proofs.ReadingLemmas.{feeds_none, feeds_front, whole_more}
 use Rattle.hash_laws.proofs.engine.hash_reader.Goals as goal
 
@@ -35,3 +36,9 @@ loop-bytes-preserved g c =
       within = omega arith;
       whole = whole_more _ _ _ _ c.requires.not_empty full (before.whole c.loop-bytes-test.true);
     }
+
+pub returns-clause-at_limit : goal.returns-clause-at_limit
+returns-clause-at_limit g c = (λ _. omega (arith, c.loop-bytes.invariant.within), λ _. refl)
+
+pub returns-clause-nothing_left : goal.returns-clause-nothing_left
+returns-clause-nothing_left g c = λ no. absurd (false≢true no)

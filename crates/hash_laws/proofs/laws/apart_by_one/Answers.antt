@@ -5,6 +5,9 @@ use Rattle.hash_laws.proofs.Windows.{Window-fold, Separates-one}
 use Rattle.hash_laws.proofs.WindowTest.{one_place_window}
 use Rattle.hash_laws.proofs.laws.apart_by_one.Goals as goal
 
+pub returns-clause-exactly : goal.returns-clause-exactly
+returns-clause-exactly g c = c.differ_at_one_place.ensures
+
 -- a byte is a step that loses nothing, and a place a window of one
 pub returns-clause-differ : goal.returns-clause-differ
 returns-clause-differ g c =
