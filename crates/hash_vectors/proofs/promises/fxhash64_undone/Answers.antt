@@ -1,0 +1,17 @@
+use Rattle.std.proofs.Common.{◌∙◌, ap}
+use Rattle.hashers.specs.Fx.{fx64, words64}
+use Rattle.hash_vectors.proofs.promises.fxhash64_undone.Goals as goal
+
+pub returns-clause-there : goal.returns-clause-there
+returns-clause-there c = c.there_and_back.ensures.there
+
+pub returns-clause-there_and_back : goal.returns-clause-there_and_back
+returns-clause-there_and_back c = c.there_and_back.ensures.there_and_back
+
+pub returns-clause-back : goal.returns-clause-back
+returns-clause-back c =
+    let before = c.there_and_back.ensures.back in
+    ap (λ s. fx64 s (words64 c.args.piece.now)) before.2 ∙ before.1
+
+pub returns-clause-back_and_there : goal.returns-clause-back_and_there
+returns-clause-back_and_there c = c.there_and_back.ensures.back_and_there
