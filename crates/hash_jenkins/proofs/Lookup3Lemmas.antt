@@ -1,10 +1,14 @@
 -- Words of blocks, whole and filled with zeros.
-use Rattle.std.proofs.Common.{◌≡◌, ℕ, zero, suc, ◌+◌, ◌-◌, ◌*◌, List, [], ◌∷◌, ◌++◌, ◌<◌, length, slice_index, take, drop, replicate, refl, ap, sym, ◌∙◌, arith}
+use Rattle.std.proofs.Common.{◌≡◌, ℕ, zero, suc, ◌+◌, ◌-◌, ◌*◌, ◌/◌, ◌≤◌, List, [], ◌∷◌, ◌++◌, ◌<◌, length, slice_index, take, drop, replicate, refl, ap, sym, ◌∙◌, arith}
 use Rattle.std.proofs.lemmas.List.{drop-drop, take_all, drop_all}
+use Rattle.std.specs.Simd.{first_chunks}
 use Rattle.std.proofs.Math.Path.{ap₂}
 use Rattle.hash_rounds.specs.Words.{le}
+use Rattle.hash_rounds.specs.Blocks.{pieces}
+use Rattle.hash_rounds.specs.Rounds as rounds
+use Rattle.hash_rounds.specs.Steps.{apply}
 use Rattle.hash_jenkins.specs.Filled.{zero_filled}
-use Rattle.hash_jenkins.specs.Lookup3.{block_words, lookup3, lookup3_answer, AreTwoWords}
+use Rattle.hash_jenkins.specs.Lookup3.{add_block, block_words, mix_blocks, start, last_block, lookup3_piece, lookup3, lookup3_answer, AreTwoWords}
 
 pub drop_eight : (xs : List ℕ) → drop 4 (drop 4 xs) ≡ drop 8 xs
 drop_eight xs = drop-drop 4 4 xs
@@ -76,6 +80,15 @@ pub words_of_filled : (n : ℕ) (t : List ℕ) → block_words t ≡ block_words
 words_of_filled n t =
     let m = n - length t in
     rw (le-take_filled 4 m t, le-filled 4 4 m t, le-filled 4 8 m t) refl
+
+-- a piece from its whole blocks and what is left behind them
+pub lookup3_piece_from : (pc pb i : ℕ) (piece first s rest added end : List ℕ) (blocks : List (List ℕ)) → blocks ≡ first_chunks 12 (length piece / 12) piece
+    → rest ≡ drop (length piece / 12 * 12) piece → length blocks ≤ i → s ≡ mix_blocks first (take i blocks) → added ≡ add_block s (zero_filled 12 rest)
+    → end ≡ apply 32 rounds.lookup3_final [] added → first ≡ start pc pb (length piece) → (slice_index end 2, slice_index end 1) ≡ lookup3_piece pc pb piece
+unfolding last_block pieces
+lookup3_piece_from pc pb i piece first s rest added end blocks all left done mixed filled last began =
+    let whole : take i blocks ≡ blocks = take_all i blocks done in
+    rw (last, filled, mixed, whole, all, left, began) refl
 
 -- the answer tells all of two words
 pub lookup3_answer-same : (s t : ℕ × ℕ) → AreTwoWords s → AreTwoWords t → lookup3_answer s ≡ lookup3_answer t → s ≡ t

@@ -1,5 +1,7 @@
 -- What mixing in the whole blocks of some bytes leads to.
-use Rattle.std.proofs.Common.{◌≡◌, ℕ, ◌+◌, ◌-◌, ◌*◌, ◌/◌, ◌%◌, ◌<◌, ◌≤◌, List, [], ◌++◌, length, take, drop, refl, sym, ap, ◌∙◌, arith, length-append, length-drop}
+use Rattle.std.proofs.Common.{◌≡◌, ℕ, nat_lt, false, ◌+◌, ◌-◌, ◌*◌, ◌/◌, ◌%◌, ◌<◌, ◌≤◌, List, [], ◌++◌, length, take, drop, refl, sym, ap, ◌∙◌, arith, length-append, length-drop}
+use Rattle.std.specs.Prelude.{if◌then◌else◌}
+use Rattle.std.proofs.lemmas.Bool.Decides.{nat_tests}
 use Rattle.std.proofs.lemmas.List.{append_assoc, take_at, take-take, take-append-le, take-append-drop, drop-take, length-take-le}
 use Rattle.hash_rounds.specs.Blocks.{spooky_blocks}
 use Rattle.hash_rounds.proofs.BlockLemmas.{spooky_blocks-take}
@@ -49,6 +51,20 @@ mixed_piece s b p k n fits ends within some few =
     let block : length (take 96 all) % 96 ≡ 0 = omega (arith, size, length-take-le 96 all (omega (arith, size, some))) in
     let none : 0 ≡ length (drop 96 all) / 96 * 96 = omega (arith, rest, few) in
     rw (front, behind) (ap (mixed s) (sym (take-append-drop 96 all)) ∙ mixed_through s (take 96 all) (drop 96 all) 0 block none)
+
+-- the same of the words and the buffer that the code comes to
+pub mixed_piece_from : (s b p words buffer : List ℕ) (k : ℕ) → k ≤ length b → k + length p ≤ length b → 96 ≤ k + length p → k + length p < 192
+    → words ≡ spooky_blocks (spooky_blocks s (take 96 (put_at k p b))) [] → buffer ≡ put_at 0 (drop 96 (put_at k p b)) (put_at k p b)
+    → Long words (take (k + length p - 96) buffer) ≡ mixed s (take k b ++ p)
+mixed_piece_from s b p words buffer k fits within some few led left =
+    rw (led, left) (sym (mixed_piece s b p k (k + length p) fits refl within some few))
+
+-- how many turns, where no bytes are kept
+pub turns_of_none : (k n : ℕ) → k ≡ 0 → 96 ≤ k + n → ◌≡◌ {A = ℕ} (if nat_lt (k + n) 96 then 0 else (if nat_lt 0 k then 2 else 1)) 1
+turns_of_none k n none enough =
+    let some : nat_lt (k + n) 96 ≡ false = grind (arith, nat_tests) in
+    let kept : nat_lt 0 k ≡ false = grind (arith, nat_tests) in
+    rw (some, kept) refl
 
 pub ruleset slice = (whole_blocks, take-put_first)
 

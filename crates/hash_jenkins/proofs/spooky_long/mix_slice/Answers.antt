@@ -1,0 +1,17 @@
+use Rattle.std.proofs.Common.{◌∙◌, ap, take, length}
+use Rattle.std.proofs.Math.Path.{ap₂}
+use Rattle.hash_rounds.specs.Blocks.{spooky_blocks}
+use Rattle.hash_jenkins.specs.Spooky.{Long, tail}
+use Rattle.hash_jenkins.proofs.MixLemmas.{whole_blocks, take-put_first}
+use Rattle.hash_jenkins.proofs.spooky_long.mix_slice.Goals as goal
+
+pub returns-clause-position : goal.returns-clause-position
+unfolding tail
+returns-clause-position c =
+    let left = c.split_at.result.1.now in
+    ap₂ Long
+    (c.spooky_blocks.ensures.mixed ∙ ap (spooky_blocks c.args.words.now) c.split_at.ensures.front ∙ whole_blocks c.args.words.now c.args.bytes.now)
+    (ap (take (length left)) c.put.ensures ∙ take-put_first left c.args.buffer.now ∙ c.split_at.ensures.back)
+
+pub returns-clause-turns : goal.returns-clause-turns
+returns-clause-turns c = c.spooky_blocks.ensures.turn
