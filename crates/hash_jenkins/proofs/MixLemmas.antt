@@ -1,5 +1,5 @@
 -- What mixing in the whole blocks of some bytes leads to.
-use Rattle.std.proofs.Common.{◌≡◌, ℕ, nat_lt, false, ◌+◌, ◌-◌, ◌*◌, ◌/◌, ◌%◌, ◌<◌, ◌≤◌, List, [], ◌++◌, length, take, drop, refl, sym, ap, ◌∙◌, arith, length-append, length-drop}
+use Rattle.std.proofs.Common.{◌≡◌, ℕ, nat_lt, true, false, ◌+◌, ◌-◌, ◌*◌, ◌/◌, ◌%◌, ◌<◌, ◌≤◌, List, [], ◌++◌, length, take, drop, refl, sym, ap, ◌∙◌, arith, length-append, length-drop}
 use Rattle.std.specs.Prelude.{if◌then◌else◌}
 use Rattle.std.proofs.lemmas.Bool.Decides.{nat_tests}
 use Rattle.std.proofs.lemmas.List.{append_assoc, take_at, take-take, take-append-le, take-append-drop, drop-take, length-take-le}
@@ -59,17 +59,24 @@ pub mixed_piece_from : (s b p words buffer : List ℕ) (k : ℕ) → k ≤ lengt
 mixed_piece_from s b p words buffer k fits within some few led left =
     rw (led, left) (sym (mixed_piece s b p k (k + length p) fits refl within some few))
 
--- how many turns, where no bytes are kept
+-- what is missing from a block that must be completed
+pub room_in_block : (k n full : ℕ) → k < 192 → 96 ≤ k + n → (96 ≤ k → 192 ≤ k + n) → full % 96 ≡ 0 → k ≤ full → full < k + 96 → full - k ≤ n
+room_in_block k n full within some enough whole after close = grind arith
+
+-- how many turns: for no block, where no bytes are kept, and where some are
+pub turns_of_few : (k n : ℕ) → k + n < 96 → ◌≡◌ {A = ℕ} (if nat_lt (k + n) 96 then 0 else (if nat_lt 0 k then 2 else 1)) 0
+turns_of_few k n few =
+    let none : nat_lt (k + n) 96 ≡ true = grind (arith, nat_tests) in
+    rw none refl
+
 pub turns_of_none : (k n : ℕ) → k ≡ 0 → 96 ≤ k + n → ◌≡◌ {A = ℕ} (if nat_lt (k + n) 96 then 0 else (if nat_lt 0 k then 2 else 1)) 1
 turns_of_none k n none enough =
     let some : nat_lt (k + n) 96 ≡ false = grind (arith, nat_tests) in
     let kept : nat_lt 0 k ≡ false = grind (arith, nat_tests) in
     rw (some, kept) refl
 
-pub ruleset slice = (whole_blocks, take-put_first)
-
-pub ruleset part = (mixed_part)
-
-pub ruleset whole = (mixed_whole, take-put_first)
-
-pub ruleset piece = (mixed_piece)
+pub turns_of_some : (k n : ℕ) → 0 < k → 96 ≤ k + n → ◌≡◌ {A = ℕ} (if nat_lt (k + n) 96 then 0 else (if nat_lt 0 k then 2 else 1)) 2
+turns_of_some k n some enough =
+    let block : nat_lt (k + n) 96 ≡ false = grind (arith, nat_tests) in
+    let kept : nat_lt 0 k ≡ true = grind (arith, nat_tests) in
+    rw (block, kept) refl

@@ -73,7 +73,6 @@ fn add_rest(s: &mut [u32; 3], rest: &[u8])
 
 // The two words after a piece that has some bytes.
 #[inline(always)]
-#[tactic(auto, unfolding(crate::specs::Lookup3::last_block, hash_rounds::specs::Blocks::pieces))]
 fn lookup3_piece(pc: u32, pb: u32, piece: &[u8]) -> (u32, u32)
     ensures { result ≡ lookup3_piece pc pb piece.now }
 {

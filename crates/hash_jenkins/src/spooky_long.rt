@@ -44,7 +44,6 @@ fn block_end(place: usize) -> usize
 // Mixes in the whole blocks of the kept bytes followed by `bytes`, of which there is at least one. What is left is then
 // kept, and is as long as the result says.
 #[inline(never)]
-#[tactic(auto, using(crate::proofs::MixLemmas::whole))]
 fn mix_whole_blocks(
     words: &mut [u64; 12],
     buffer: &mut [u8; 192],
@@ -76,7 +75,6 @@ fn mix_whole_blocks(
 // The same where the kept bytes and a piece of at most 96 complete one block. The piece is kept as a whole first, and what is
 // behind the block is copied down by a fixed length, so that no copy depends on how much is kept.
 #[inline(never)]
-#[tactic(auto, using(crate::proofs::MixLemmas::piece))]
 fn mix_piece(
     words: &mut [u64; 12],
     buffer: &mut [u8; 192],
@@ -107,7 +105,6 @@ fn mix_piece(
 
 // The same where no bytes are kept.
 #[inline(never)]
-#[tactic(auto, using(crate::proofs::MixLemmas::slice), unfolding(crate::specs::Spooky::tail))]
 fn mix_slice(
     words: &mut [u64; 12],
     buffer: &mut [u8; 192],
@@ -126,7 +123,6 @@ fn mix_slice(
 
 /// The same where there may be no whole block.
 #[inline(always)]
-#[tactic(auto, using(crate::proofs::MixLemmas::part))]
 pub(crate) fn mix_blocks(
     words: &mut [u64; 12],
     buffer: &mut [u8; 192],

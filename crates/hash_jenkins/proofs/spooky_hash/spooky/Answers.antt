@@ -6,5 +6,4 @@ use Rattle.hash_jenkins.proofs.spooky_hash.spooky.Goals as goal
 pub returns : goal.returns
 returns c =
     let there = c.write.ensures.stands 0 0 [] c.default-hasher.ensures.0 in
-    let answer = ap (λ (r : ℕ × ℕ). r.0) (ap hash there ∙ hash-position 0 0 c.args.bytes.now) in
-    cc
+    (assumption) ∙ ap (λ (r : ℕ × ℕ). r.0) (ap hash there ∙ hash-position 0 0 c.args.bytes.now)

@@ -1,6 +1,9 @@
-use Rattle.std.proofs.Common.{◌≡◌, ◌++◌, ◌*◌, ◌/◌, length, take, drop, arith}
+use Rattle.std.proofs.Common.{◌≡◌, ◌∙◌, ◌++◌, List, ℕ, length, take, sym, ap, arith}
+use Rattle.std.proofs.Math.Path.{ap₂}
+use Rattle.hash_rounds.specs.Blocks.{spooky_blocks}
+use Rattle.hash_jenkins.specs.Spooky.{Long, mixed}
 use Rattle.std.proofs.lemmas.List.{take-append-drop}
-use Rattle.hash_jenkins.proofs.MixLemmas.{mixed_whole, take-put_first}
+use Rattle.hash_jenkins.proofs.MixLemmas.{mixed_whole, room_in_block, take-put_first}
 use Rattle.hash_jenkins.proofs.spooky_long.mix_whole_blocks.Goals as goal
 
 pub returns-clause-turns : goal.returns-clause-turns
@@ -14,7 +17,45 @@ returns-clause-position c =
     let b = c.args.buffer.now in
     let head = c.split_at.result.0.now in
     let rest = c.split_at.result.1.now in
+    let left = c.split_at-2.result.1.now in
     let all : head ++ rest ≡ c.args.bytes.now = rw (c.split_at.ensures.front, c.split_at.ensures.back) (take-append-drop _ _) in
-    let kept = take-put_first c.split_at-2.result.1.now c.put.new.buffer in
+    let filled = c.spooky_blocks.ensures.mixed ∙ ap (λ (w : List ℕ). spooky_blocks c.args.words.now (take c.block_end-full.result w)) c.put.ensures in
     let led = mixed_whole c.args.words.now b head rest c.args.kept c.block_end-full.result (omega arith) (omega arith) c.block_end-full.ensures.whole in
-    cc
+    ap₂ Long (c.spooky_blocks-2.ensures.mixed ∙ ap₂ spooky_blocks filled c.split_at-2.ensures.front) (ap (take (length left)) c.put-2.ensures ∙ take-put_first left c.put.new.buffer ∙ c.split_at-2.ensures.back)
+    ∙ sym led ∙ ap (λ (x : List ℕ). mixed c.args.words.now (take c.args.kept b ++ x)) all
+
+pub block_end-full-requires-clause-some : goal.block_end-full-requires-clause-some
+block_end-full-requires-clause-some c = omega arith
+
+pub block_end-full-requires-clause-within : goal.block_end-full-requires-clause-within
+block_end-full-requires-clause-within c = omega arith
+
+pub overflow_sub-full : goal.overflow_sub-full
+overflow_sub-full c = omega arith
+
+pub split_at-requires : goal.split_at-requires
+split_at-requires c = room_in_block _ _ _ c.requires.within c.requires.some c.requires.enough c.block_end-full.ensures.whole c.block_end-full.ensures.after c.block_end-full.ensures.close
+
+pub put-requires-clause-fits : goal.put-requires-clause-fits
+put-requires-clause-fits c = omega arith
+
+pub put-requires-clause-few : goal.put-requires-clause-few
+put-requires-clause-few c = omega arith
+
+pub overflow_mul-rest : goal.overflow_mul-rest
+overflow_mul-rest c = omega arith
+
+pub split_at-requires-2 : goal.split_at-requires-2
+split_at-requires-2 c = omega arith
+
+pub spooky_blocks-requires : goal.spooky_blocks-requires
+spooky_blocks-requires c = omega arith
+
+pub spooky_blocks-requires-2 : goal.spooky_blocks-requires-2
+spooky_blocks-requires-2 c = omega arith
+
+pub put-requires-2-clause-fits : goal.put-requires-2-clause-fits
+put-requires-2-clause-fits c = omega arith
+
+pub put-requires-2-clause-few : goal.put-requires-2-clause-few
+put-requires-2-clause-few c = omega arith
