@@ -4,3 +4,4 @@ pub mod PutLemmas
 pub mod Zeros
 pub mod ShortLemmas
 pub mod OaatLemmas
+pub mod WriteLemmas
