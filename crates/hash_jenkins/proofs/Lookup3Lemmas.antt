@@ -1,5 +1,6 @@
 -- Words of blocks, whole and filled with zeros.
-use Rattle.std.proofs.Common.{◌≡◌, ℕ, zero, suc, ◌+◌, ◌-◌, ◌*◌, ◌/◌, ◌≤◌, List, [], ◌∷◌, ◌++◌, ◌<◌, length, slice_index, take, drop, replicate, refl, ap, sym, ◌∙◌, arith}
+use Rattle.std.specs.Bool.{◌==◌}
+use Rattle.std.proofs.Common.{◌≡◌, false, ℕ, zero, suc, ◌+◌, ◌-◌, ◌*◌, ◌/◌, ◌≤◌, List, [], ◌∷◌, ◌++◌, ◌<◌, length, slice_index, take, drop, replicate, refl, ap, sym, ◌∙◌, arith}
 use Rattle.std.proofs.lemmas.List.{drop-drop, take_all, drop_all}
 use Rattle.std.specs.Simd.{first_chunks}
 use Rattle.std.proofs.Math.Path.{ap₂}
@@ -89,6 +90,11 @@ unfolding last_block pieces
 lookup3_piece_from pc pb i piece first s rest added end blocks all left done mixed filled last began =
     let whole : take i blocks ≡ blocks = take_all i blocks done in
     rw (last, filled, mixed, whole, all, left, began) refl
+
+-- the words after some bytes
+pub lookup3_some : (s : ℕ × ℕ) (piece : List ℕ) → false ≡ (length piece == 0) → lookup3 s piece ≡ lookup3_piece s.0 s.1 piece
+lookup3_some s [] none = absurd (cc)
+lookup3_some s (byte ∷ piece) some = refl
 
 -- the answer tells all of two words
 pub lookup3_answer-same : (s t : ℕ × ℕ) → AreTwoWords s → AreTwoWords t → lookup3_answer s ≡ lookup3_answer t → s ≡ t
