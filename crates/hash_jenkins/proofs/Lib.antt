@@ -1,7 +1,7 @@
-pub mod MixLemmas
 pub mod Lookup3Lemmas
-pub mod PutLemmas
-pub mod Zeros
-pub mod ShortLemmas
+pub mod MixLemmas
 pub mod OaatLemmas
+pub mod PutLemmas
+pub mod ShortLemmas
 pub mod WriteLemmas
+pub mod Zeros

@@ -15,7 +15,8 @@ finish_from h x e = rw (e, mul_comm h 9, mul_comm (xorshift (9 * h % 2 ^ 64) 11)
 
 -- the few bytes that come before the whole eights, and then as many eights as there are
 pub oaat_by_eights : (s begun h i : ℕ) (bytes few : List ℕ) (eights : List (List ℕ)) → few ≡ take (length bytes % 8) bytes
-    → eights ≡ first_chunks 8 (length bytes / 8) (drop (length bytes % 8) bytes) → begun ≡ oaat s few → h ≡ fold oaat begun (take i eights) → length eights ≤ i → h ≡ oaat s bytes
+    → eights ≡ first_chunks 8 (length bytes / 8) (drop (length bytes % 8) bytes) → begun ≡ oaat s few
+    → h ≡ fold oaat begun (take i eights) → length eights ≤ i → h ≡ oaat s bytes
 oaat_by_eights s begun h i bytes few eights front back start led done =
     let whole : take i eights ≡ eights = take_all i eights done in
     rw (led, whole, back, start, front) (recurrence_by_eights oaat_step s bytes)

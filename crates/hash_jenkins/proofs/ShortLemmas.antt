@@ -5,12 +5,13 @@ use Rattle.std.proofs.lemmas.Bool.Decides.{nat_tests}
 use Rattle.hash_rounds.specs.Words.{add_at}
 use Rattle.hash_rounds.specs.Spooky.{short_end}
 use Rattle.hash_jenkins.specs.Filled.{zero_filled}
-use Rattle.hash_jenkins.specs.Spooky.{Position, Short, first_two, add_chunks, short_start, short_words}
+use Rattle.hash_jenkins.specs.Spooky.{Short, first_two, add_chunks, short_start, short_words}
 use Rattle.hash_jenkins.specs.Counted.{Counted}
 use Rattle.hash_jenkins.specs.SpookyHasher.{position_of, counted_of}
 use Rattle.hash_jenkins.specs.declared.spooky_hash.SpookyHasher.TheInside.{Inside}
 
-pub position_short : (s : Inside) (h : Counted) → s.length < 192 → counted_of s ≡ h → h.at ≡ Short (slice_index s.words 0) (slice_index s.words 1) (take s.kept s.buffer)
+pub position_short : (s : Inside) (h : Counted) → s.length < 192 → counted_of s ≡ h
+    → h.at ≡ Short (slice_index s.words 0) (slice_index s.words 1) (take s.kept s.buffer)
 position_short s h few is =
     let short : nat_lt s.length 192 ≡ true = grind (arith, nat_tests) in
     let there : position_of s ≡ Short (slice_index s.words 0) (slice_index s.words 1) (take s.kept s.buffer) = rw short refl in
@@ -24,7 +25,8 @@ pub first_alike : (r s : ℕ × ℕ) → r ≡ s → r.0 ≡ s.0
 first_alike r s e = ap (λ (p : ℕ × ℕ). p.0) e
 
 -- the words of the first n bytes, with the length as the code shifts it
-pub short_words_from : (seed1 seed2 n : ℕ) (text h end : List ℕ) → length text ≡ 192 → n < 192 → text ≡ zero_filled 192 (take n text) → h ≡ add_chunks seed1 seed2 text
+pub short_words_from : (seed1 seed2 n : ℕ) (text h end : List ℕ) → length text ≡ 192 → n < 192 → text ≡ zero_filled 192 (take n text)
+    → h ≡ add_chunks seed1 seed2 text
     → end ≡ short_end (slice_set h 3 ((slice_index h 3 + n * 2 ^ 56 % 2 ^ 64) % 2 ^ 64)) → end ≡ short_words seed1 seed2 (take n text)
 short_words_from seed1 seed2 n text h end size few filled begun last =
     let count : length (take n text) ≡ n = length-take-le n text (omega arith) in

@@ -1,9 +1,8 @@
 -- What a hasher of a short text comes to by bytes that leave it one.
-use Rattle.std.proofs.Common.{◌≡◌, ℕ, ◌+◌, ◌-◌, ◌<◌, ◌≤◌, ◌++◌, ◌∙◌, nat_lt, true, List, length, take, drop, slice_index, replicate, refl, sym, ap, arith, length-append}
+use Rattle.std.proofs.Common.{◌≡◌, ℕ, ◌+◌, ◌-◌, ◌<◌, ◌≤◌, ◌++◌, ◌∙◌, nat_lt, true, List, length, take, slice_index, replicate, refl, sym, ap, arith, length-append}
 use Rattle.std.proofs.Math.Path.{ap₂}
 use Rattle.std.proofs.lemmas.Bool.Decides.{nat_tests}
-use Rattle.std.proofs.lemmas.Grind.{common_steps}
-use Rattle.std.proofs.lemmas.List.{append_assoc, take_at, drop_at, drop-drop, drop-replicate, length-replicate, length-take-le, replicate-append-replicate}
+use Rattle.std.proofs.lemmas.List.{append_assoc, take_at, drop_at, drop-drop, drop-replicate, length-take-le}
 use Rattle.hash_jenkins.specs.Counted.{Counted, MixesBlock, mixing_calls, after_write}
 use Rattle.hash_jenkins.specs.Filled.{zero_filled}
 use Rattle.hash_jenkins.specs.Put.{put_at}
@@ -15,14 +14,21 @@ use Rattle.hash_jenkins.proofs.PutLemmas.{take-put_at}
 use Rattle.hash_jenkins.proofs.ShortLemmas.{position_short}
 
 -- the text and zeros, with a piece put behind the text
-put-zero_filled : (text piece : List ℕ) (n : ℕ) → length text + length piece ≤ n → put_at (length text) piece (zero_filled n text) ≡ zero_filled n (text ++ piece)
+put-zero_filled : (text piece : List ℕ) (n : ℕ) → length text + length piece ≤ n
+    → put_at (length text) piece (zero_filled n text) ≡ zero_filled n (text ++ piece)
 put-zero_filled text piece n fits =
     let zeros : List ℕ = replicate (n - length text) 0 in
     let count : n - length text - length piece ≡ n - length (text ++ piece) = omega (arith, length-append text piece) in
-    rw (take_at text zeros (length text) refl, ← drop-drop (length piece) (length text) (text ++ zeros), drop_at text zeros (length text) refl, drop-replicate {X = ℕ} (length piece) (n - length text) 0, count)
-    (sym (append_assoc text piece (replicate (n - length (text ++ piece)) 0)))
+    rw (take_at text zeros (length text) refl, ← drop-drop (length piece) (length text) (text ++ zeros))
+    (rw (drop_at text zeros (length text) refl, drop-replicate {X = ℕ} (length piece) (n - length text) 0, count)
+    (sym (append_assoc text piece (replicate (n - length (text ++ piece)) 0))))
 
-module _ (s : Inside) (b p : List ℕ) (n : ℕ) (settled : IsSettled s) (whole : length s.buffer ≡ 192) (few : n < 192) (count : n ≡ s.length + length p) (put : b ≡ put_at s.kept p s.buffer) where
+-- a hasher that keeps a piece too, in the buffer b and with the length n
+abbrev kept_too : Inside → List ℕ → List ℕ → ℕ → Inside
+kept_too s b p n = record { buffer = b; words = s.words; kept = s.kept + length p; length = n; turns = s.turns }
+
+module _ (s : Inside) (b p : List ℕ) (n : ℕ) (settled : IsSettled s) (whole : length s.buffer ≡ 192) (few : n < 192)
+    (count : n ≡ s.length + length p) (put : b ≡ put_at s.kept p s.buffer) where
   kept_all : s.kept ≡ s.length
   kept_all = settled.all_kept (omega arith)
 
@@ -35,7 +41,7 @@ module _ (s : Inside) (b p : List ℕ) (n : ℕ) (settled : IsSettled s) (whole 
   size : length (take s.kept s.buffer ++ p) ≡ n
   size = omega (arith, kept_all, ends, length-append (take s.kept s.buffer) p)
 
-  pub settled_still : IsSettled (record { buffer = b; words = s.words; kept = s.kept + length p; length = n; turns = s.turns })
+  pub settled_still : IsSettled (kept_too s b p n)
   settled_still = record {
     all_kept = λ h. omega (arith, kept_all);
     unmixed = λ h. settled.unmixed (omega arith);
@@ -52,17 +58,17 @@ module _ (s : Inside) (b p : List ℕ) (n : ℕ) (settled : IsSettled s) (whole 
     below : nat_lt (length (take s.kept s.buffer ++ p)) 192 ≡ true
     below = grind (arith, nat_tests, size)
 
-    pub written_still : counted_of (record { buffer = b; words = s.words; kept = s.kept + length p; length = n; turns = s.turns }) ≡ after_write h p
+    pub written_still : counted_of (kept_too s b p n) ≡ after_write h p
     written_still =
         let short : nat_lt n 192 ≡ true = grind (arith, nat_tests) in
-        let there : position_of (record { buffer = b; words = s.words; kept = s.kept + length p; length = n; turns = s.turns }) ≡ after h.at p = rw (at, below, short, text_then) refl in
+        let there : position_of (kept_too s b p n) ≡ after h.at p = rw (at, below, short, text_then) refl in
         let none : mixing_calls h.at p ≡ 0 = rw (at, below) refl in
         ap₂ (λ (a : Position) (i : ℕ). record { at = a; turns = i }) there (omega (arith, none, ap (λ (k : Counted). k.turns) is))
 
     pub mixes_none : MixesBlock h.at p → ⊥
     mixes_none mixes = let large = rw at at mixes in omega (arith, size, large)
 
-    pub position_after : IsPosition (position_of (record { buffer = b; words = s.words; kept = s.kept + length p; length = n; turns = s.turns }))
+    pub position_after : IsPosition (position_of (kept_too s b p n))
     position_after =
         let short : nat_lt n 192 ≡ true = grind (arith, nat_tests) in
         rw (short, text_then) (omega (arith, size))

@@ -21,7 +21,8 @@ returns-clause-position c =
     let all : head ++ rest ≡ c.args.bytes.now = rw (c.split_at.ensures.front, c.split_at.ensures.back) (take-append-drop _ _) in
     let filled = c.spooky_blocks.ensures.mixed ∙ ap (λ (w : List ℕ). spooky_blocks c.args.words.now (take c.block_end-full.result w)) c.put.ensures in
     let led = mixed_whole c.args.words.now b head rest c.args.kept c.block_end-full.result (omega arith) (omega arith) c.block_end-full.ensures.whole in
-    ap₂ Long (c.spooky_blocks-2.ensures.mixed ∙ ap₂ spooky_blocks filled c.split_at-2.ensures.front) (ap (take (length left)) c.put-2.ensures ∙ take-put_first left c.put.new.buffer ∙ c.split_at-2.ensures.back)
+    ap₂ Long (c.spooky_blocks-2.ensures.mixed ∙ ap₂ spooky_blocks filled c.split_at-2.ensures.front)
+    (ap (take (length left)) c.put-2.ensures ∙ take-put_first left c.put.new.buffer ∙ c.split_at-2.ensures.back)
     ∙ sym led ∙ ap (λ (x : List ℕ). mixed c.args.words.now (take c.args.kept b ++ x)) all
 
 pub block_end-full-requires-clause-some : goal.block_end-full-requires-clause-some
@@ -34,7 +35,8 @@ pub overflow_sub-full : goal.overflow_sub-full
 overflow_sub-full c = omega arith
 
 pub split_at-requires : goal.split_at-requires
-split_at-requires c = room_in_block _ _ _ c.requires.within c.requires.some c.requires.enough c.block_end-full.ensures.whole c.block_end-full.ensures.after c.block_end-full.ensures.close
+split_at-requires c = room_in_block _ _ _ c.requires.within c.requires.some c.requires.enough
+    c.block_end-full.ensures.whole c.block_end-full.ensures.after c.block_end-full.ensures.close
 
 pub put-requires-clause-fits : goal.put-requires-clause-fits
 put-requires-clause-fits c = omega arith

@@ -5,4 +5,5 @@ use Rattle.hash_jenkins.proofs.lookup.Lookup3HasherHasher.write.Goals as goal
 
 pub returns-then-not-is_empty-clause-state : goal.returns-then-not-is_empty-clause-state
 returns-then-not-is_empty-clause-state c =
-    c.lookup3_piece-words.ensures ∙ sym (lookup3_some (c.self.inside.pc, c.self.inside.pb) c.args.bytes.now (cc)) ∙ ap (λ (s : ℕ × ℕ). lookup3 s c.args.bytes.now) c.self.view_is
+    c.lookup3_piece-words.ensures ∙ sym (lookup3_some (c.self.inside.pc, c.self.inside.pb) c.args.bytes.now (cc))
+    ∙ ap (λ (s : ℕ × ℕ). lookup3 s c.args.bytes.now) c.self.view_is

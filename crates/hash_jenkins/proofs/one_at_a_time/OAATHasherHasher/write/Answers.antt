@@ -10,7 +10,8 @@ loop-eight-preserved c =
     let eights = c.as_rchunks.result.1.now in
     let i = c.loop-eight.eight-index in
     record {
-      so_far = c.bytes_in-state-in-loop-eight.ensures ∙ ap (λ (s : ℕ). oaat s (get_or eights i [])) c.loop-eight.invariant.so_far ∙ sym (fold_more oaat c.bytes_in-state.result eights i [] c.loop-eight-test.true);
+      so_far = c.bytes_in-state-in-loop-eight.ensures ∙ ap (λ (s : ℕ). oaat s (get_or eights i [])) c.loop-eight.invariant.so_far
+          ∙ sym (fold_more oaat c.bytes_in-state.result eights i [] c.loop-eight-test.true);
       known = c.bytes_in-state-in-loop-eight.type_inv;
     }
 
@@ -37,7 +38,8 @@ loop-eight-smaller c = omega arith
 
 pub returns-clause-state : goal.returns-clause-state
 returns-clause-state c =
-    oaat_by_eights _ _ _ _ _ _ _ c.as_rchunks.ensures.front c.as_rchunks.ensures.back (c.bytes_in-state.ensures ∙ ap (λ (s : ℕ). oaat s c.as_rchunks.result.0.now) c.self.view_is)
+    oaat_by_eights _ _ _ _ _ _ _ c.as_rchunks.ensures.front c.as_rchunks.ensures.back
+    (c.bytes_in-state.ensures ∙ ap (λ (s : ℕ). oaat s c.as_rchunks.result.0.now) c.self.view_is)
     c.loop-eight.invariant.so_far c.loop-eight-test.false
 
 pub returns-clause-known_before : goal.returns-clause-known_before

@@ -11,7 +11,8 @@ use Rattle.hash_jenkins.proofs.one_at_a_time.OAATHasherUndo.unwrite.Goals as goa
 
 pub loop-byte-init : goal.loop-byte-init
 loop-byte-init c =
-    let whole = ap (λ i. iter_rest (rev_source i)) c.into_iter-byte-iterator.ensures.into_iter_gives ∙ ap iter_rest c.rev-byte-items.ensures.source ∙ c.iter.ensures.rest in
+    let whole = ap (λ i. iter_rest (rev_source i)) c.into_iter-byte-iterator.ensures.into_iter_gives
+    ∙ ap iter_rest c.rev-byte-items.ensures.source ∙ c.iter.ensures.rest in
     undoing_none oaat_step (2 ^ 64) oaat (recurrence_is_fold oaat_step (2 ^ 64)) _ _ _ whole (search rules)
 
 pub loop-byte-preserved : goal.loop-byte-preserved

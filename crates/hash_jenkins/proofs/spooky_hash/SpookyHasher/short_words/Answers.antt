@@ -1,4 +1,4 @@
-use Rattle.std.proofs.Common.{◌≡◌, ◌∙◌, Some, ap}
+use Rattle.std.proofs.Common.{◌∙◌, Some, ap}
 use Rattle.hash_jenkins.specs.Spooky.{short_words_at}
 use Rattle.hash_jenkins.specs.SpookyLaws.{short_words_at-position}
 use Rattle.hash_jenkins.proofs.ShortLemmas.{position_short}

@@ -23,7 +23,8 @@ returns-then-self-lt-LONG-clause-few c = omega (arith, ap (λ (k : Counted). k.t
 
 pub returns-then-self-lt-LONG-clause-counted : goal.returns-then-self-lt-LONG-clause-counted
 returns-then-self-lt-LONG-clause-counted c = λ mixes.
-    absurd (mixes_none c.self.inside _ _ _ c.self.invariant c.self.told.0 c.if-self-lt-LONG.true (omega arith) c.put.ensures c.args.self.now c.self.view_is mixes)
+    absurd (mixes_none c.self.inside _ _ _ c.self.invariant c.self.told.0 c.if-self-lt-LONG.true (omega arith) c.put.ensures
+    c.args.self.now c.self.view_is mixes)
 
 pub returns-then-self-lt-LONG-clause-stands : goal.returns-then-self-lt-LONG-clause-stands
 returns-then-self-lt-LONG-clause-stands c =
