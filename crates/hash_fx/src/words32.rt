@@ -22,7 +22,6 @@ pub fn word_in(state: u32, word: u32) -> u32
 
 /// One word out again.
 #[inline(always)]
-#[tactic(auto, using(hash_rounds::proofs::FxStepLemmas::fx32_back))]
 pub fn word_out(state: u32, word: u32) -> u32
     ensures { fx32_step result word ≡ state }
 {

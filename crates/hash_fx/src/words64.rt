@@ -22,7 +22,6 @@ pub fn word_in(state: u64, word: u64) -> u64
 
 /// One word out again.
 #[inline(always)]
-#[tactic(auto, using(hash_rounds::proofs::FxStepLemmas::fx64_back))]
 pub fn word_out(state: u64, word: u64) -> u64
     ensures { fx64_step result word ≡ state }
 {
