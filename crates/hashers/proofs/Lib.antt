@@ -2,6 +2,7 @@ pub mod Collisions
 pub mod Djb2Window
 pub mod FnvWindows
 pub mod LastBytes
+pub mod Narrowed
 pub mod SdbmWindow
 pub mod ShortWords
 pub mod WindowSpreads
