@@ -1,5 +1,6 @@
 pub mod Collisions
 pub mod Djb2Window
+pub mod Eights
 pub mod FnvWindows
 pub mod LastBytes
 pub mod Narrowed

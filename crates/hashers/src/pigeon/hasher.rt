@@ -95,7 +95,6 @@ impl Hasher for Bricolage {
 
     /// Takes the bytes in, one step for each. Eight steps at a time are straight code.
     #[inline(always)]
-    #[tactic(auto, using(hash_laws::proofs::RecurrenceLemmas::turns_of_eight))]
     fn write(&mut self, bytes: &[u8])
         ensures state { self.new ≡ bricolage self.old bytes.now }
         ensures known_before { self.old < 2 ^ 64 }

@@ -4,7 +4,8 @@ use Rattle.hash_laws.proofs.TextLemmas.{IsText-from_slice}
 use Rattle.hashers.proofs.LastBytes.{passthrough-last}
 use Rattle.hashers.proofs.null.passthrough.Goals as goal
 
+pub returns-clause-value : goal.returns-clause-value
+returns-clause-value c = c.finish.ensures.value ∙ c.write.ensures.state ∙ ap (λ start. passthrough start c.args.bytes.now) assumption
+
 pub returns-clause-last : goal.returns-clause-last
-returns-clause-last c =
-    c.finish.ensures.value ∙ c.write.ensures.state ∙ ap (λ s. passthrough s c.args.bytes.now) c.default-hasher.ensures
-    ∙ passthrough-last c.args.bytes.now (IsText-from_slice _ c.type_inv.bytes)
+returns-clause-last c = returns-clause-value c ∙ passthrough-last c.args.bytes.now (IsText-from_slice _ c.type_inv.bytes)

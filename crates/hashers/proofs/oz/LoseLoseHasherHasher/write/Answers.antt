@@ -34,3 +34,14 @@ returns-clause-turns c =
 
 pub returns-clause-value : goal.returns-clause-value
 returns-clause-value c = λ i. record { state = returns-clause-state c i; turns = returns-clause-turns c i }
+
+pub returns-then-bytes-lt8-clause-state : goal.returns-then-bytes-lt8-clause-state
+returns-then-bytes-lt8-clause-state c = c.loselose_bytes_in-self-inside.ensures ∙ ap (λ before. loselose before.state c.args.bytes.now) c.self.view_is
+
+pub returns-then-bytes-lt8-clause-turns : goal.returns-then-bytes-lt8-clause-turns
+returns-then-bytes-lt8-clause-turns c =
+    let none : c.args.self.now.turns ≡ c.args.self.now.turns + length c.args.bytes.now / 8 = omega (arith, c.if-bytes-lt8.true) in
+    ap (λ v. v.turns) c.self.view_is ∙ none
+
+pub returns-then-bytes-lt8-clause-value : goal.returns-then-bytes-lt8-clause-value
+returns-then-bytes-lt8-clause-value c = λ i. record { state = returns-then-bytes-lt8-clause-state c i; turns = returns-then-bytes-lt8-clause-turns c i }
