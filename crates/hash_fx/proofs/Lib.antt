@@ -1,4 +1,5 @@
 pub mod CutsLemmas
+pub mod Narrowed
 pub mod OneApart
 pub mod PiecesLemmas
 pub mod TestLemmas

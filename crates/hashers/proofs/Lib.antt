@@ -3,7 +3,6 @@ pub mod Djb2Window
 pub mod Eights
 pub mod FnvWindows
 pub mod LastBytes
-pub mod Narrowed
 pub mod SdbmWindow
 pub mod ShortWords
 pub mod WindowSpreads

@@ -1,5 +1,5 @@
 use Rattle.std.proofs.Common.{◌∙◌, sym}
-use Rattle.hashers.proofs.Narrowed.{narrowed}
+use Rattle.hash_fx.proofs.Narrowed.{narrowed}
 use Rattle.hashers.proofs.oz.DJB2HasherUndo.unfinish.Goals as goal
 
 pub returns-clause-some : goal.returns-clause-some
