@@ -62,3 +62,15 @@ pub returns-clause-differ_32 : goal.returns-clause-differ_32
 returns-clause-differ_32 c =
     OnTrue_from c.loop-i.apart _ (λ yes. fx32_pieces-differ c.args.x.now c.args.y.now (OnTrue_at c.if-not-same_cuts.false c.same_cuts.ensures.first)
     (OnTrue_at c.if-not-same_cuts.false c.same_cuts.ensures.second) ((returns-clause-exactly c).0 yes))
+
+pub returns-then-not-same_cuts-clause-exactly : goal.returns-then-not-same_cuts-clause-exactly
+returns-then-not-same_cuts-clause-exactly c = (
+  (λ (e : false ≡ true). cc),
+  λ d. absurd (both_ways c.same_cuts.result c.if-not-same_cuts.true (c.same_cuts.ensures.exactly.1 d.same_cuts)),
+)
+
+pub returns-then-not-same_cuts-clause-differ_64 : goal.returns-then-not-same_cuts-clause-differ_64
+returns-then-not-same_cuts-clause-differ_64 c = tt
+
+pub returns-then-not-same_cuts-clause-differ_32 : goal.returns-then-not-same_cuts-clause-differ_32
+returns-then-not-same_cuts-clause-differ_32 c = tt
