@@ -56,6 +56,21 @@ module _ {S : Type 0} (step : S → ℕ → S) where
       chunked 8 (length text / 8) (recurrence step s (take few text)) (drop few text) (omega (arith, length-drop few text))
       ∙ sym (recurrence-append s (take few text) (drop few text)) ∙ ap (recurrence step s) (take-append-drop few text)
 
+  -- one eight more
+  pub one_eight_more : (start state next : S) (i : ℕ) (eights : List (List ℕ)) → i < length eights
+      → state ≡ fold (recurrence step) start (take i eights) → next ≡ recurrence step state (get_or eights i [])
+      → next ≡ fold (recurrence step) start (take (i + 1) eights)
+  one_eight_more start state next i eights below so_far led =
+      led ∙ ap (λ s. recurrence step s (get_or eights i [])) so_far ∙ sym (fold_more (recurrence step) start eights i [] below)
+
+  -- the few first bytes and all eights
+  pub all_eights : (s start state : S) (i : ℕ) (text few : List ℕ) (eights : List (List ℕ)) → length eights ≤ i
+      → few ≡ take (length text % 8) text → eights ≡ first_chunks 8 (length text / 8) (drop (length text % 8) text)
+      → start ≡ recurrence step s few → state ≡ fold (recurrence step) start (take i eights)
+      → state ≡ recurrence step s text
+  all_eights s start state i text few eights over front back begun so_far =
+      so_far ∙ rw (take_all i eights over, back, begun, front) (recurrence_by_eights s text)
+
 -- the form in which laws take it
 pub recurrence_is_fold : (step : ℕ → ℕ → ℕ) (bound s : ℕ) (text : List ℕ) → s < bound → recurrence step s text ≡ fold step s text
 recurrence_is_fold step bound s text known = recurrence-fold step s text

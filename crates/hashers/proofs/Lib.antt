@@ -1,6 +1,5 @@
 pub mod Collisions
 pub mod Djb2Window
-pub mod Eights
 pub mod FnvWindows
 pub mod LastBytes
 pub mod SdbmWindow

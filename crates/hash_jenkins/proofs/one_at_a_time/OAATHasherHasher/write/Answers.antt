@@ -1,17 +1,14 @@
 use Rattle.std.proofs.Common.{arith}
-use Rattle.std.proofs.Common.{◌∙◌, ℕ, [], get_or, ap, sym}
-use Rattle.std.proofs.lemmas.List.Sums.{fold_more}
+use Rattle.std.proofs.Common.{◌∙◌, ap}
 use Rattle.hash_jenkins.specs.Oaat.{oaat}
-use Rattle.hash_jenkins.proofs.OaatLemmas.{oaat_by_eights}
+use Rattle.hash_rounds.specs.ByteSteps.{oaat_step}
+use Rattle.hash_laws.proofs.RecurrenceLemmas.{one_eight_more, all_eights}
 use Rattle.hash_jenkins.proofs.one_at_a_time.OAATHasherHasher.write.Goals as goal
 
 pub loop-eight-preserved : goal.loop-eight-preserved
 loop-eight-preserved c =
-    let eights = c.as_rchunks.result.1.now in
-    let i = c.loop-eight.eight-index in
     record {
-      so_far = c.bytes_in-state-in-loop-eight.ensures ∙ ap (λ (s : ℕ). oaat s (get_or eights i [])) c.loop-eight.invariant.so_far
-          ∙ sym (fold_more oaat c.bytes_in-state.result eights i [] c.loop-eight-test.true);
+      so_far = one_eight_more oaat_step _ _ _ _ _ c.loop-eight-test.true c.loop-eight.invariant.so_far c.bytes_in-state-in-loop-eight.ensures;
       known = c.bytes_in-state-in-loop-eight.type_inv;
     }
 
@@ -38,9 +35,8 @@ loop-eight-smaller c = omega arith
 
 pub returns-clause-state : goal.returns-clause-state
 returns-clause-state c =
-    oaat_by_eights _ _ _ _ _ _ _ c.as_rchunks.ensures.front c.as_rchunks.ensures.back
-    (c.bytes_in-state.ensures ∙ ap (λ (s : ℕ). oaat s c.as_rchunks.result.0.now) c.self.view_is)
-    c.loop-eight.invariant.so_far c.loop-eight-test.false
+    all_eights oaat_step _ _ _ _ _ _ _ c.loop-eight-test.false c.as_rchunks.ensures.front c.as_rchunks.ensures.back c.bytes_in-state.ensures c.loop-eight.invariant.so_far
+    ∙ ap (λ before. oaat before c.args.bytes.now) c.self.view_is
 
 pub returns-clause-known_before : goal.returns-clause-known_before
 returns-clause-known_before c = omega arith

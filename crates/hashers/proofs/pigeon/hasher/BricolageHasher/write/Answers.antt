@@ -1,7 +1,7 @@
 use Rattle.std.proofs.Common.{◌∙◌, ap, refl, arith}
 use Rattle.hash_rounds.specs.ByteSteps.{bricolage_step}
 use Rattle.hashers.specs.Pigeon.{bricolage}
-use Rattle.hashers.proofs.Eights.{one_eight_more, all_eights}
+use Rattle.hash_laws.proofs.RecurrenceLemmas.{one_eight_more, all_eights}
 use Rattle.hashers.proofs.pigeon.hasher.BricolageHasher.write.Goals as goal
 
 pub loop-eight-init : goal.loop-eight-init
