@@ -6,6 +6,4 @@ pub returns-clause-value : goal.returns-clause-value
 returns-clause-value c = c.rotate_left.ensures ∙ rotate_left-32 c.args.x c.args.k c.ranges.x.fits c.requires.some c.requires.within
 
 pub returns-clause-undone : goal.returns-clause-undone
-returns-clause-undone c =
-    let value = c.rotate_left.ensures ∙ rotate_left-32 c.args.x c.args.k c.ranges.x.fits c.requires.some c.requires.within in
-    rw value (rotl-rotl 32 c.args.x c.args.k (omega arith) c.ranges.x.fits)
+returns-clause-undone c = rw (returns-clause-value c) (rotl-rotl 32 c.args.x c.args.k (omega arith) c.ranges.x.fits)

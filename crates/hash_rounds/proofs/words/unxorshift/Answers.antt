@@ -15,5 +15,4 @@ returns-clause-solves c =
 pub returns-clause-alone : goal.returns-clause-alone
 returns-clause-alone c =
     let l = c.loop-shift in
-    let solves = l.invariant.0 ∙ xorshift-past c.args.x l.shift c.ranges.x.fits c.loop-shift-test.false in
-    λ y y_in same. same_from_xorshift y l.y c.args.k y_in l.auto.y-fits.fits c.requires.some (same ∙ sym solves)
+    λ y y_in same. same_from_xorshift y l.y c.args.k y_in l.auto.y-fits.fits c.requires.some (same ∙ sym (returns-clause-solves c))

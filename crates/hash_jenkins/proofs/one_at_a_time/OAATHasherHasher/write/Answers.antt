@@ -1,5 +1,4 @@
-use Rattle.std.proofs.Common.{arith}
-use Rattle.std.proofs.Common.{◌∙◌, ap}
+use Rattle.std.proofs.Common.{arith, ◌∙◌, ap}
 use Rattle.hash_jenkins.specs.Oaat.{oaat}
 use Rattle.hash_rounds.specs.ByteSteps.{oaat_step}
 use Rattle.hash_laws.proofs.RecurrenceLemmas.{one_eight_more, all_eights}
