@@ -9,7 +9,7 @@ use Rattle.hash_rounds.specs.Blocks.{pieces}
 use Rattle.hash_rounds.specs.Rounds as rounds
 use Rattle.hash_rounds.specs.Steps.{apply}
 use Rattle.hash_jenkins.specs.Filled.{zero_filled}
-use Rattle.hash_jenkins.specs.Lookup3.{add_block, block_words, mix_blocks, start, last_block, lookup3_words, lookup3_piece, lookup3, lookup3_answer, AreTwoWords}
+use Rattle.hash_jenkins.specs.Lookup3.{add_words, add_block, block_words, mix_blocks, start, last_block, lookup3_words, lookup3_piece, lookup3, lookup3_answer, AreTwoWords}
 
 pub drop_eight : (xs : List ℕ) → drop 4 (drop 4 xs) ≡ drop 8 xs
 drop_eight xs = drop-drop 4 4 xs
@@ -81,6 +81,10 @@ pub words_of_filled : (n : ℕ) (t : List ℕ) → block_words t ≡ block_words
 words_of_filled n t =
     let m = n - length t in
     rw (le-take_filled 4 m t, le-filled 4 4 m t, le-filled 4 8 m t) refl
+
+-- the words of a text are added as those of the text with zeros behind it
+pub added_filled : (n : ℕ) (s added t : List ℕ) (words : ℕ × ℕ × ℕ) → added ≡ add_words s words → words ≡ block_words t → added ≡ add_block s (zero_filled n t)
+added_filled n s added t words are of = are ∙ ap (add_words s) (of ∙ words_of_filled n t)
 
 -- a piece from its whole blocks and what is left behind them
 pub lookup3_piece_from : (pc pb i : ℕ) (piece first s rest added end : List ℕ) (blocks : List (List ℕ))

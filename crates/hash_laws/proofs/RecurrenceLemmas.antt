@@ -77,6 +77,3 @@ recurrence_is_fold step bound s text known = recurrence-fold step s text
 
 -- the turns of a loop over the bytes of a text, from the front
 pub ruleset turns = (recurrence-nil, recurrence_more, take_all)
-
--- the turns of a loop over the eights of a text, behind its few first bytes
-pub ruleset turns_of_eight = (fold_more, take_all, recurrence_one, recurrence_by_eights)

@@ -148,7 +148,6 @@ impl Hasher for FNV1aHasher32 {
 
     /// Takes the bytes in, one step for each. Eight steps at a time are straight code, and so is a single one.
     #[inline(always)]
-    #[tactic(auto, using(hash_laws::proofs::RecurrenceLemmas::turns_of_eight))]
     fn write(&mut self, bytes: &[u8])
         ensures state { self.new ≡ fnv1a32 self.old bytes.now }
         ensures known_before { self.old < 2 ^ 32 }
@@ -331,7 +330,6 @@ impl Hasher for FNV1aHasher64 {
 
     /// Takes the bytes in, one step for each. Eight steps at a time are straight code, and so is a single one.
     #[inline(always)]
-    #[tactic(auto, using(hash_laws::proofs::RecurrenceLemmas::turns_of_eight))]
     fn write(&mut self, bytes: &[u8])
         ensures state { self.new ≡ fnv1a64 self.old bytes.now }
         ensures known_before { self.old < 2 ^ 64 }

@@ -1,4 +1,4 @@
-use Rattle.std.proofs.Common.{ℕ, ◌<◌, [], get_or, ap, sym, ◌∙◌, Bor, List}
+use Rattle.std.proofs.Common.{ℕ, ◌<◌, [], sym, Bor, List}
 use Rattle.std.proofs.lemmas.List.Elements.{All-append}
 use Rattle.hash_laws.proofs.TextLemmas.{joined_more}
 use Rattle.hash_laws.proofs.laws.run_streamed.Goals as goal
@@ -9,12 +9,10 @@ loop-more-preserved g c =
     let before = c.loop-more.invariant in
     let fed = c.feed.ensures in
     let laws = g.met.H.Streamed in
-    let H = g.H.Piecewise in
     let none : Bor (List ℕ) = record { ref_ptr = (0, 0); now = [] } in
-    let piece = (get_or c.args.pieces.now c.loop-more.more-index none).now in
     let more = λ (text : List ℕ). joined_more text c.args.pieces.now c.loop-more.more-index none c.loop-more-test.true in
     record {
       stands = λ from text stood. rw (more text) (laws.stands_after c.loop-more.h c.feed.new.self from _ _ fed.text fed.state (before.stands from text stood));
-      one = λ known. fed.state ∙ ap (λ s. H.after s piece) (before.one known) ∙ sym (laws.after_joined _ _ _ known before.text fed.text) ∙ ap (H.after (H.state c.args.h.now)) (sym (more []));
+      one = λ known. rw (fed.state, before.one known, more []) (sym (laws.after_joined _ _ _ known before.text fed.text));
       text = rw (more []) (All-append (λ byte. byte < 256) _ _ before.text fed.text);
     }

@@ -1,29 +1,18 @@
-use Rattle.std.proofs.Common.{◌∙◌, ap, subst, fold}
-use Rattle.std.specs.Io.KnownBytes.{Appends}
+use Rattle.std.proofs.Common.{◌∙◌, ap, fold}
 use Rattle.hash_laws.specs.Reading.{cut}
-use Rattle.hashof.specs.Named.{line_of}
-use Rattle.hashof.specs.Telling.{AppendsBeginning}
+use Rattle.hashof.proofs.Tellings.{led_from, tells_found, refuses_found}
 use Rattle.hashof.proofs.run.tell_pieces.Goals as goal
 
 pub returns-in-Ok-clause-done : goal.returns-in-Ok-clause-done
 returns-in-Ok-clause-done g c =
     let H = g.H.Piecewise in
     let fed = c.in_ok-feed_all.ensures.fed in
-    let state = fed.fed ∙ ap (λ s. fold H.after s (cut 4096 fed.text)) c.fresh-hasher.ensures.state in
-    record {
-      text = fed.text;
-      all = fed.all;
-      line = subst (λ hash. Appends (g.W.Write.contents c.args.w.now) (g.W.Write.contents c.write_number.new.w) (line_of hash))
-          (c.answer.ensures.value ∙ ap H.answer state) c.in-Ok.ensures.ok;
-    }
+    let state = led_from H.after H.fresh _ _ fed.text c.fresh-hasher.ensures.state fed.fed in
+    tells_found c.args.limit (λ text. H.answer (fold H.after H.fresh (cut 4096 text))) _ _ _ _ fed.text fed.all c.answer.result (c.answer.ensures.value ∙ ap H.answer state) c.in-Ok.ensures.ok
 
 pub returns-clause-refused : goal.returns-clause-refused
 returns-clause-refused g c =
     let H = g.H.Piecewise in
     let fed = c.in_ok-feed_all.ensures.fed in
-    let state = fed.fed ∙ ap (λ s. fold H.after s (cut 4096 fed.text)) c.fresh-hasher.ensures.state in (
-      fed.text,
-      fed.all,
-      subst (λ hash. AppendsBeginning (g.W.Write.contents c.args.w.now) (g.W.Write.contents c.write_number.new.w) (line_of hash))
-          (c.answer.ensures.value ∙ ap H.answer state) c.in-Err.ensures.err,
-    )
+    let state = led_from H.after H.fresh _ _ fed.text c.fresh-hasher.ensures.state fed.fed in
+    refuses_found c.args.limit (λ text. H.answer (fold H.after H.fresh (cut 4096 text))) _ _ _ _ fed.text fed.all c.answer.result (c.answer.ensures.value ∙ ap H.answer state) c.in-Err.ensures.err
