@@ -14,8 +14,8 @@ pub led_from : {S : Type 0} (after : S → List ℕ → S) (fresh s s' : S) (tex
 led_from after fresh s s' text began fed = fed ∙ ap (λ t. fold after t (cut 4096 text)) began
 
 -- a hash of all that was read, and its line
-module _ (limit : ℕ) (hash : List ℕ → ℕ) (left left' written written' : Option (List ℕ)) (text : List ℕ)
-    (all : ReadsAll left left' limit text) (found : ℕ) (is : found ≡ hash text) where
+module _ {limit : ℕ} (hash : List ℕ → ℕ) {left left' : Option (List ℕ)} (written written' : Option (List ℕ)) {text : List ℕ}
+    (all : ReadsAll left left' limit text) {found : ℕ} (is : found ≡ hash text) where
   pub tells_found : Appends written written' (line_of found) → Tells limit hash left left' written written'
   tells_found line = record { text = text; all = all; line = subst (λ n. Appends written written' (line_of n)) is line }
 

@@ -32,7 +32,7 @@ fn fed<H: Piecewise>(text: &[u8], piece: usize) -> H {
     hasher
 }
 
-/// The answers of fourteen hashers to a text in such pieces, in the order of the sample.
+/// What fourteen hashers answer to a text in pieces of one length, in the order of the sample.
 fn answers(text: &[u8], piece: usize) -> [u64; 14] {
     [
         fed::<FNV1aHasher32>(text, piece).answer(),
