@@ -421,43 +421,55 @@ fn tables(sheet: &mut Sheet, text: &[u8]) {
     head(sheet,
         "Rust's `HashMap` with the original's hasher / `Buckets` with ours and 4096 buckets, 1000 keys of 16 bytes, ns a key:",
         "name",
-        &["insert into a new table, and free it", "get", "insert, remove, and free it"].map(String::from),
+        &["insert into a new table, and free it", "get", "get of a key that isn't there", "insert, remove, and free it"].map(String::from),
     );
-    let calls: [(&str, [CallOfTable; 2], [CallOfSize; 2]); 3] = [
+    let calls: [(&str, [[CallOfTable; 2]; 2], [CallOfSize; 2]); 3] = [
         (
             "fnv1a64",
-            [original::table::<FNV1aHasher64>, ours::buckets::fnv1a64],
+            [
+                [original::table::<FNV1aHasher64>, ours::buckets::fnv1a64],
+                [original::missed::<FNV1aHasher64>, ours::missed::fnv1a64],
+            ],
             [original::emptied::<FNV1aHasher64>, ours::emptied::fnv1a64],
         ),
         (
             "lookup3",
-            [original::table::<Lookup3Hasher>, ours::buckets::lookup3],
+            [
+                [original::table::<Lookup3Hasher>, ours::buckets::lookup3],
+                [original::missed::<Lookup3Hasher>, ours::missed::lookup3],
+            ],
             [original::emptied::<Lookup3Hasher>, ours::emptied::lookup3],
         ),
         (
             "fxhash",
-            [original::table::<FxHasher>, ours::buckets::fxhash],
+            [
+                [original::table::<FxHasher>, ours::buckets::fxhash],
+                [original::missed::<FxHasher>, ours::missed::fxhash],
+            ],
             [original::emptied::<FxHasher>, ours::emptied::fxhash],
         ),
     ];
     let (size, rounds, count) = (black_box(16), 32, 1000);
-    let text = &text[..size * count];
-    for (name, tables, emptied) in calls {
-        let asked = |side: usize, rounds: usize| call_of_table(tables[side], text, size, rounds);
+    let (twice, text) = (&text[..2 * size * count], &text[..size * count]);
+    for (name, [there, missing], emptied) in calls {
+        let asked = |side: usize, rounds: usize| call_of_table(there[side], text, size, rounds);
+        let missed = |side: usize, rounds: usize| call_of_table(missing[side], twice, size, rounds);
         let taken = |side: usize| call_of_size(emptied[side], text, size);
         same(name, asked(0, 2), asked(1, 2));
+        same(name, missed(0, 2), missed(1, 2));
         same(name, taken(0), taken(1));
         let insert = sheet.pair(&|| asked(0, 0), &|| asked(1, 0));
-        let both = sheet.pair(&|| asked(0, rounds), &|| asked(1, rounds));
+        let found = sheet.pair(&|| asked(0, rounds), &|| asked(1, rounds));
+        let none = sheet.pair(&|| missed(0, rounds), &|| missed(1, rounds));
         let remove = sheet.pair(&|| taken(0), &|| taken(1));
-        let get = Pair {
-            original: (both.original - insert.original) / rounds as f64,
-            ours: (both.ours - insert.ours) / rounds as f64,
+        let get = |with: Pair| Pair {
+            original: (with.original - insert.original) / rounds as f64,
+            ours: (with.ours - insert.ours) / rounds as f64,
         };
         row(
             sheet,
             name,
-            &[insert, get, remove].map(|pair| cell(pair, count as f64)),
+            &[insert, get(found), get(none), remove].map(|pair| cell(pair, count as f64)),
         );
     }
 }

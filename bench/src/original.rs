@@ -145,6 +145,25 @@ pub unsafe extern "C" fn table<H: Default + Hasher>(
     sum
 }
 
+/// The first half of the keys is put in, and then each of the others, which are not there, is asked for `rounds` times.
+pub unsafe extern "C" fn missed<H: Default + Hasher>(
+    at: *const u8,
+    len: usize,
+    size: usize,
+    rounds: usize,
+) -> u64 {
+    let keys = slice(at, len);
+    let (there, others) = keys.split_at(keys.len() / 2);
+    let table = filled::<H>(there, size);
+    let mut missed: u64 = 0;
+    for _ in 0..rounds {
+        for key in others.chunks_exact(size) {
+            missed = missed.wrapping_add(table.get(key).is_none() as u64);
+        }
+    }
+    missed
+}
+
 /// Each key is put in with its number, and then taken out.
 pub unsafe extern "C" fn emptied<H: Default + Hasher>(
     at: *const u8,

@@ -27,6 +27,7 @@ calls! {
     numbers (at: *const u8, len: usize, width: usize): fnv1a64 djb2 lookup3 fxhash fxhash32 fxhash64;
     behind (at: *const u8, len: usize): fxhash fxhash32 fxhash64;
     buckets (at: *const u8, len: usize, size: usize, rounds: usize): fnv1a64 lookup3 fxhash;
+    missed (at: *const u8, len: usize, size: usize, rounds: usize): fnv1a64 lookup3 fxhash;
     emptied (at: *const u8, len: usize, size: usize): fnv1a64 lookup3 fxhash;
 }
 

@@ -1,6 +1,7 @@
 pub mod Pairs
 pub mod Changes
 pub mod Tables
-pub mod Lists
+pub mod Extents
+pub mod Filters
 pub mod Texts
 pub mod Runs

@@ -1,26 +1,33 @@
 //! A table of buckets over any hasher.
 #![tactic(auto)]
 
-ghost use Rattle.std.specs.Prelude.{◌≡◌, ◌↔◌, IsTrue, ◌<◌, ◌≤◌, ◌%◌, ℕ, IfOk, IfErr, OnOk, OnErr, None, Some, fold, length, take};
+ghost use Rattle.std.specs.Prelude.{◌≡◌, ◌≢◌, ◌↔◌, IsTrue, ◌<◌, ◌≤◌, ◌%◌, ℕ, IfOk, IfErr, OnOk, OnErr, None, Some, fold, length, slice_index_or, MatchOption, [], take};
 ghost use Rattle.std.specs.Coded.{coded_list, coded_ℕ};
 ghost use Rattle.std.specs.FinMap as map;
-ghost use Rattle.std.specs.List.{position, sum_by};
+ghost use Rattle.std.specs.Int.{bit_at};
+ghost use Rattle.std.specs.List.{position};
 ghost use Rattle.std.specs.Str.{bytes_eq};
 ghost use Rattle.std.specs.List.Sorted.{IsPermutation};
-ghost use Rattle.hash_buckets.specs.Table.{Table, table_of, items, pairs, pairs_of_each, IsPlaced, IsChange, HasEachKeyOnce, HasKeyAt, value_at, bucket_content};
+ghost use Rattle.hash_buckets.specs.Table.{Table, table_of, pairs, IsPlaced, IsChangeIn, HasEachKeyOnce, HasKeyAt, value_at, bucket_content};
+ghost use Rattle.hash_buckets.specs.Filters.{bit_of, IsFiltered};
 ghost use Rattle.hash_buckets.specs.Commands.{reply_to, replies_to, content_after};
 
-mod list;
+mod lists;
 
-use crate::list::Bucket;
-use hashers::laws::{Piecewise, bucket_of};
+use crate::lists::Lists;
+use hashers::laws::Piecewise;
 use std::alloc::{AllocError, Global};
 use std::marker::{Model, PhantomData};
 
 /// A finite map from texts to numbers. A key stands in the bucket that the hasher names.
+///
+/// Of its hash the lower bits say the bucket, where `N` is a power of two, and the upper ones where to look in it, so keys are
+/// found fastest under hashers that fill 64 bits. That costs time at most: what a call answers doesn't rest on it.
 #[derive(Drop)]
 pub struct Buckets<H: Piecewise, const N: usize> {
-    buckets: Vec<Bucket>,
+    buckets: Lists,
+    /// A Bloom filter of the keys of each bucket. A key that went leaves its bit.
+    filters: Vec<u32>,
     hasher: PhantomData<H>,
     alloc: Global,
 }
@@ -30,9 +37,9 @@ impl<H: Piecewise, const N: usize> Model for Buckets<H, N> {
 
     ghost coded = { map.code (coded_list coded_ℕ) coded_ℕ };
 
-    ghost view = { λ b. table_of (pairs_of_each b.buckets.items) };
+    ghost view = { λ b. table_of b.buckets };
 
-    ghost invariant = { λ b. IsPlaced (λ key. H.answer (H.after H.fresh key) % N) N (pairs_of_each b.buckets.items) };
+    ghost invariant = { λ b. IsPlaced (λ key. H.answer (H.after H.fresh key) % N) N b.buckets × IsFiltered (λ key. H.answer (H.after H.fresh key)) N b.filters.items b.buckets };
 }
 
 /// There is no memory for a table.
@@ -78,70 +85,112 @@ fn is_same(text: &[u8], other: &[u8]) -> bool
     same_eights(eights, other_eights) && same_bytes(few, other_few)
 }
 
-/// Where the key stands.
+/// Where the key stands, by a look at each pair in order.
+#[inline(always)]
 fn place_of(bucket: &[(Vec<u8>, u64)], key: &[u8]) -> Option<usize>
     ensures { result ≡ position (λ pair. bytes_eq pair.0.items key.now) bucket.now }
 {
     bucket.iter().position(|pair| is_same(&pair.0, key))
 }
 
+/// The same, where the likely place had another key or none.
+#[cold]
+#[inline(never)]
+fn place_elsewhere(bucket: &[(Vec<u8>, u64)], key: &[u8]) -> Option<usize>
+    ensures { MatchOption result (value_at key.now (pairs bucket.now) ≡ None) (λ at. HasKeyAt (pairs bucket.now) at key.now) }
+{
+    place_of(bucket, key)
+}
+
+/// Where the key stands, with a look at the likely place first.
+#[inline(always)]
+fn place_by_tag(bucket: &[(Vec<u8>, u64)], likely: usize, key: &[u8]) -> Option<usize>
+    ensures { MatchOption result (value_at key.now (pairs bucket.now) ≡ None) (λ at. HasKeyAt (pairs bucket.now) at key.now) }
+{
+    if likely < bucket.len() && is_same(&bucket[likely].0, key) {
+        return Some(likely);
+    }
+    place_elsewhere(bucket, key)
+}
+
 /// The value of the key.
-fn value_in(bucket: &[(Vec<u8>, u64)], key: &[u8]) -> Option<u64>
+#[inline(always)]
+fn value_in(bucket: &[(Vec<u8>, u64)], likely: usize, key: &[u8]) -> Option<u64>
     requires { HasEachKeyOnce (pairs bucket.now) }
     ensures { result ≡ value_at key.now (pairs bucket.now) }
 {
-    match place_of(bucket, key) {
+    match place_by_tag(bucket, likely, key) {
         Some(at) => Some(bucket[at].1),
         None => None,
     }
 }
 
-/// Gives the key the value, and answers its old one.
+/// Gives the key the value in bucket i, and answers its old one.
+#[inline(always)]
 fn put_in(
-    bucket: &mut Bucket,
+    buckets: &mut Lists,
     alloc: Global,
+    i: usize,
+    hash: u64,
     key: Vec<u8>,
     value: u64,
 ) -> Result<Option<u64>, NoRoom>
-    requires { HasEachKeyOnce (pairs (items bucket.old)) }
-    ensures ok { IfOk result (λ old. old ≡ value_at key.items (pairs (items bucket.old))) }
-    ensures put { OnOk result (IsChange (pairs (items bucket.old)) (pairs (items bucket.new)) key.items (Some value)) }
+    requires below { i < length buckets.old }
+    requires once { HasEachKeyOnce (slice_index_or buckets.old i []) }
+    ensures ok { IfOk result (λ old. old ≡ value_at key.items (slice_index_or buckets.old i [])) }
+    ensures put { OnOk result (IsChangeIn i buckets.old buckets.new key.items (Some value)) }
     ensures err { IfErr result (λ refused. refused ≡ record { key = key; value = value }) }
-    ensures unchanged { OnErr result (items bucket.new ≡ items bucket.old) }
-    ensures new_key { OnErr result (value_at key.items (pairs (items bucket.old)) ≡ None) }
+    ensures unchanged { OnErr result (buckets.new ≡ buckets.old) }
+    ensures new_key { OnErr result (value_at key.items (slice_index_or buckets.old i []) ≡ None) }
 {
-    match place_of(bucket.as_slice(), &key) {
-        Some(at) => Ok(Some(bucket.set_value(at, value))),
-        None => match bucket.push(alloc, (key, value)) {
+    match place_of(buckets.pairs(i), &key) {
+        Some(at) => Ok(Some(buckets.set_value(i, at, value))),
+        None => match buckets.push(alloc, i, hash, (key, value)) {
             Ok(()) => Ok(None),
             Err((key, value)) => Err(NoRoom { key, value }),
         },
     }
 }
 
-/// Takes the key out, and answers its value.
-fn take_out(bucket: &mut Bucket, key: &[u8]) -> Option<u64>
-    requires { HasEachKeyOnce (pairs (items bucket.old)) }
-    ensures value { result ≡ value_at key.now (pairs (items bucket.old)) }
-    ensures taken { IsChange (pairs (items bucket.old)) (pairs (items bucket.new)) key.now None }
+/// Takes the key out of bucket i, and answers its value.
+#[inline(always)]
+fn take_out(buckets: &mut Lists, alloc: Global, i: usize, hash: u64, key: &[u8]) -> Option<u64>
+    requires below { i < length buckets.old }
+    requires once { HasEachKeyOnce (slice_index_or buckets.old i []) }
+    ensures value { result ≡ value_at key.now (slice_index_or buckets.old i []) }
+    ensures taken { IsChangeIn i buckets.old buckets.new key.now None }
 {
-    match place_of(bucket.as_slice(), key) {
-        Some(at) => {
-            let (_, value) = bucket.remove(at);
-            Some(value)
-        }
+    match place_by_tag(buckets.pairs(i), buckets.likely_place(i, hash), key) {
+        Some(at) => Some(buckets.remove(alloc, i, at)),
         None => None,
     }
 }
 
-/// How many pairs the buckets have together.
-fn pairs_in(buckets: &[Bucket]) -> u128
-    ensures { result ≡ sum_by (λ bucket. length (items bucket)) buckets.now }
+/// Whether a key with this hash can be among those of the filter.
+#[inline(always)]
+fn passes(filter: u32, hash: u64) -> bool
+    ensures { IsTrue result ↔ bit_at filter (bit_of hash) ≡ 1 }
 {
-    buckets
-        .iter()
-        .map(|bucket| bucket.as_slice().len() as u128)
-        .sum()
+    filter >> (hash >> 59) & 1 == 1
+}
+
+/// The filter with a key of this hash.
+#[inline(always)]
+fn with_hash(filter: u32, hash: u64) -> u32
+    ensures set { bit_at result (bit_of hash) ≡ 1 }
+    ensures others { (b : ℕ) → b ≢ bit_of hash → bit_at result b ≡ bit_at filter b }
+{
+    filter | 1 << (hash >> 59)
+}
+
+/// The hash of a key in one piece.
+#[inline(always)]
+fn hash_of<H: Piecewise>(key: &[u8]) -> u64
+    ensures { result ≡ H.answer (H.after H.fresh key.now) }
+{
+    let mut hasher = H::fresh();
+    hasher.feed(key);
+    hasher.answer()
 }
 
 impl<H: Piecewise, const N: usize> Buckets<H, N> {
@@ -150,35 +199,43 @@ impl<H: Piecewise, const N: usize> Buckets<H, N> {
         requires { 1 ≤ N }
         ensures { IfOk result (λ table. table ≡ map.empty) }
     {
-        let Ok(mut buckets) = Vec::with_capacity(alloc, N) else {
+        let Ok(buckets) = Lists::new(alloc, N) else {
             return Err(NoTable);
         };
-        for _ in 0..N {
-            if buckets.push(Bucket::Empty).is_err() {
-                return Err(NoTable);
-            }
+        let mut filters = Vec::new(alloc);
+        if filters.resize(N, 0).is_err() {
+            return Err(NoTable);
         }
         Ok(Buckets {
             buckets,
+            filters,
             hasher: PhantomData,
             alloc,
         })
     }
 
-    /// The bucket of a key.
-    fn number(&self, key: &[u8]) -> usize
-        ensures value { result ≡ H.answer (H.after H.fresh key.now) % N }
+    /// The bucket of a key with this hash.
+    #[inline(always)]
+    fn number(&self, hash: u64) -> usize
+        ensures value { result ≡ hash % N }
         ensures below { result < N }
     {
         let _ = &self.buckets; // there are N of them
-        bucket_of::<H>(key, N as u64) as usize
+        (hash % N as u64) as usize
     }
 
     /// The value of the key.
+    #[inline(always)]
     pub fn get(&self, key: &[u8]) -> Option<u64>
         ensures { result ≡ map.get self.now key.now }
     {
-        value_in(self.buckets[self.number(key)].as_slice(), key)
+        let hash = hash_of::<H>(key);
+        let i = self.number(hash);
+        if !passes(self.filters[i], hash) {
+            return None;
+        }
+        let bucket = self.buckets.pairs(i);
+        value_in(bucket, self.buckets.likely_place(i, hash), key)
     }
 
     /// Gives the key the value, and answers its old one.
@@ -189,8 +246,10 @@ impl<H: Piecewise, const N: usize> Buckets<H, N> {
         ensures unchanged { OnErr result (self.new ≡ self.old) }
         ensures new_key { OnErr result (map.get self.old key.items ≡ None) }
     {
-        let number = self.number(&key);
-        put_in(&mut self.buckets[number], self.alloc, key, value)
+        let hash = hash_of::<H>(&key);
+        let i = self.number(hash);
+        self.filters[i] = with_hash(self.filters[i], hash);
+        put_in(&mut self.buckets, self.alloc, i, hash, key, value)
     }
 
     /// Takes the key out, and answers its value.
@@ -198,15 +257,16 @@ impl<H: Piecewise, const N: usize> Buckets<H, N> {
         ensures value { result ≡ map.get self.old key.now }
         ensures removed { self.new ≡ map.remove self.old key.now }
     {
-        let number = self.number(key);
-        take_out(&mut self.buckets[number], key)
+        let hash = hash_of::<H>(key);
+        let i = self.number(hash);
+        take_out(&mut self.buckets, self.alloc, i, hash, key)
     }
 
     /// How many keys there are.
     pub fn len(&self) -> u128
         ensures { result ≡ map.len self.now }
     {
-        pairs_in(&self.buckets)
+        self.buckets.pairs_in_all()
     }
 
     /// The pairs of a bucket.
@@ -214,7 +274,7 @@ impl<H: Piecewise, const N: usize> Buckets<H, N> {
         requires { i < N }
         ensures { IsPermutation (bucket_content (λ key. H.answer (H.after H.fresh key) % N) i self.now) (pairs result.now) }
     {
-        self.buckets[i].as_slice()
+        self.buckets.pairs(i)
     }
 }
 

@@ -52,6 +52,28 @@ fn put_and_asked<H: Piecewise>(
     Some(sum)
 }
 
+/// Puts the first half of the keys in, and then asks for each of the others `rounds` times, which are not there: how often
+/// none was found, or `None` where memory is short.
+#[inline(always)]
+fn put_and_missed<H: Piecewise>(
+    alloc: Global,
+    keys: &[u8],
+    size: usize,
+    rounds: usize,
+) -> Option<u64> {
+    let (there, others) = keys.split_at(keys.len() / 2);
+    let table = filled::<H>(alloc, there, size)?;
+    let mut missed: u64 = 0;
+    if size > 0 {
+        for _ in 0..rounds {
+            for key in others.chunks_exact(size) {
+                missed = missed.wrapping_add(table.get(key).is_none() as u64);
+            }
+        }
+    }
+    Some(missed)
+}
+
 /// Puts each key in with its number, and then takes each out: the sum of the values, or `None` where memory is short.
 #[inline(always)]
 fn put_and_taken<H: Piecewise>(alloc: Global, keys: &[u8], size: usize) -> Option<u64> {
@@ -114,4 +136,37 @@ pub extern "C" fn hash_speed_emptied_lookup3(alloc: Global, keys: &[u8], size: u
 #[unsafe(no_mangle)]
 pub extern "C" fn hash_speed_emptied_fxhash(alloc: Global, keys: &[u8], size: usize) -> u64 {
     put_and_taken::<FxHasher>(alloc, keys, size).unwrap_or(u64::MAX)
+}
+
+/// A table over FNV-1a at 64 bits that is asked for keys that are not there.
+#[unsafe(no_mangle)]
+pub extern "C" fn hash_speed_missed_fnv1a64(
+    alloc: Global,
+    keys: &[u8],
+    size: usize,
+    rounds: usize,
+) -> u64 {
+    put_and_missed::<FNV1aHasher64>(alloc, keys, size, rounds).unwrap_or(u64::MAX)
+}
+
+/// A table over lookup3 that is asked for keys that are not there.
+#[unsafe(no_mangle)]
+pub extern "C" fn hash_speed_missed_lookup3(
+    alloc: Global,
+    keys: &[u8],
+    size: usize,
+    rounds: usize,
+) -> u64 {
+    put_and_missed::<Lookup3Hasher>(alloc, keys, size, rounds).unwrap_or(u64::MAX)
+}
+
+/// A table over fx that is asked for keys that are not there.
+#[unsafe(no_mangle)]
+pub extern "C" fn hash_speed_missed_fxhash(
+    alloc: Global,
+    keys: &[u8],
+    size: usize,
+    rounds: usize,
+) -> u64 {
+    put_and_missed::<FxHasher>(alloc, keys, size, rounds).unwrap_or(u64::MAX)
 }
