@@ -1,7 +1,8 @@
-use Rattle.std.proofs.Common.{◌≡◌, ◌∷◌, ◌++◌, [], ◌∙◌, ap, sym, append_assoc, Result, Ok, Err}
+use Rattle.std.proofs.Common.{◌≡◌, List, ◌∷◌, ◌++◌, [], ◌∙◌, ap, sym, append_assoc, Result, Ok, Err}
 use Rattle.std.specs.Prelude.{OnErr}
 use Rattle.std.specs.Prelude.{fold}
 use Rattle.std.proofs.lemmas.List.Sums.{fold-append}
+use Rattle.hash_buckets.specs.declared.Command.{Command}
 use Rattle.hash_buckets.specs.Commands.{content_after, reply_to}
 use Rattle.hash_buckets.proofs.Runs.{replies_to-push, begun}
 use Rattle.hash_buckets.proofs.obey_all.Goals as goal
@@ -9,6 +10,10 @@ use Rattle.hash_buckets.proofs.obey_all.Goals as goal
 any_err : {T E : Type 0} {P : Type 0} (r : Result T E) → P → OnErr r P
 any_err (Ok x) p = tt
 any_err (Err e) p = p
+
+-- one more of the commands was done
+split_further : (all done : List Command) (command : Command) (rest left : List Command) → all ≡ done ++ left → left ≡ command ∷ rest → all ≡ (done ++ command ∷ []) ++ rest
+split_further all done command rest left split step = split ∙ ap (λ t. done ++ t) step ∙ sym (append_assoc done (command ∷ []) rest)
 
 pub loop-command-preserved : goal.loop-command-preserved
 loop-command-preserved g c =
@@ -23,7 +28,7 @@ loop-command-preserved g c =
       content = table ∙ ap (λ t. content_after t command) before.content ∙ sym (fold-append content_after start done (command ∷ []));
       replies = pushed ∙ ap (λ r. c.loop-command.replies.items ++ r ∷ []) (reply ∙ ap (λ t. reply_to t command) before.content)
           ∙ ap (λ rs. rs ++ reply_to (fold content_after start done) command ∷ []) before.replies ∙ sym (replies_to-push start done command);
-      split = before.split ∙ ap (λ t. done ++ t) c.in-Some.ensures.steps.0 ∙ sym (append_assoc done (command ∷ []) c.next.new.self.rest.items);
+      split = split_further _ _ _ _ _ before.split c.in-Some.ensures.steps.0;
     }
 
 pub returns-in_err-push-in-Ok-clause-begun : goal.returns-in_err-push-in-Ok-clause-begun
@@ -35,5 +40,5 @@ returns-in_err-push-in-Ok-clause-begun g c =
     let table : c.obey.new.table ≡ content_after c.loop-command.table command = c.in-Ok.ensures.content in
     any_err c.from_residual.result
     (begun start c.obey.new.table c.args.commands.items (done ++ command ∷ []) c.next.new.self.rest.items
-    (before.split ∙ ap (λ t. done ++ t) c.in-Some.ensures.steps.0 ∙ sym (append_assoc done (command ∷ []) c.next.new.self.rest.items))
+    (split_further _ _ _ _ _ before.split c.in-Some.ensures.steps.0)
     (table ∙ ap (λ t. content_after t command) before.content ∙ sym (fold-append content_after start done (command ∷ []))))
