@@ -38,7 +38,7 @@ take_shorter (suc n) zero xs le = absurd (omega arith)
 take_shorter (suc n) (suc m) [] le = refl
 take_shorter (suc n) (suc m) (x ∷ xs) le = ap (λ rest. x ∷ rest) (take_shorter n m xs (omega arith))
 
-pub front_same : (n m : ℕ) (xs ys : Block) → n ≤ m → take m ys ≡ take m xs → take n ys ≡ take n xs
+front_same : (n m : ℕ) (xs ys : Block) → n ≤ m → take m ys ≡ take m xs → take n ys ≡ take n xs
 front_same n m xs ys le same = sym (take_shorter n m ys le) ∙ ap (take n) same ∙ take_shorter n m xs le
 
 back_same : (n m : ℕ) (xs ys : Block) → m ≤ n → drop m ys ≡ drop m xs → drop n ys ≡ drop n xs
@@ -62,6 +62,7 @@ pub record IsSameOutside (e : Extent) (xs ys : Block) : Type 0 where
   pub before : take e.start ys ≡ take e.start xs
   pub behind : drop (e.start + e.room) ys ≡ drop (e.start + e.room) xs
 
+-- what stands in another extent stays
 stays : (e f : Extent) (xs ys : Block) → IsSameOutside e xs ys → f.len ≤ f.room → IsClear e f → content ys f ≡ content xs f
 stays e f xs ys same filled apart = ⊎_elim
     (λ (first : IsBefore e f). ap (λ (part : Block). pairs (take f.len part)) (back_same f.start (e.start + e.room) xs ys first same.behind))
@@ -70,13 +71,15 @@ stays e f xs ys same filled apart = ⊎_elim
     ap pairs (sym (drop-take f.start f.len ys) ∙ ap (drop f.start) front ∙ drop-take f.start f.len xs))
     apart
 
-pub place_written : (e : Extent) (xs : Block) (at : ℕ) (pair : Vec ℕ × ℕ) → at < e.room → IsSameOutside e xs (set xs (e.start + at) pair)
+-- a write to one of its places
+place_written : (e : Extent) (xs : Block) (at : ℕ) (pair : Vec ℕ × ℕ) → at < e.room → IsSameOutside e xs (set xs (e.start + at) pair)
 place_written e xs at pair below = record {
   before = take-set-le e.start xs (e.start + at) pair (omega arith);
   behind = drop-set-lt (e.start + e.room) xs (e.start + at) pair (omega (arith, below));
 }
 
-pub part_written : (e : Extent) (xs ws : Block) (n : ℕ) → n ≤ e.room → length ws ≡ n → e.start ≤ length xs → IsSameOutside e xs (put_mid e.start n xs ws)
+-- a write to its first n places
+part_written : (e : Extent) (xs ws : Block) (n : ℕ) → n ≤ e.room → length ws ≡ n → e.start ≤ length xs → IsSameOutside e xs (put_mid e.start n xs ws)
 part_written e xs ws n fits long inside = record {
   before = take-put_mid_below e.start n xs ws e.start (omega arith) inside;
   behind = drop-put_mid e.start n xs ws (e.start + e.room) (omega (arith, fits)) inside long;
@@ -87,17 +90,17 @@ module _ (es : List Extent) (xs : Block) (p : IsApart es (length xs)) (i : ℕ) 
   here : extent_at es i ≡ e
   here = get_or_default es i nowhere e in' ∙ sym read
 
-  pub content_here : get_or (contents xs es) i [] ≡ content xs e
+  content_here : get_or (contents xs es) i [] ≡ content xs e
   content_here = get_or-map (content xs) es i nowhere ∙ ap (content xs) here
 
-  pub filled_here : e.len ≤ e.room
+  filled_here : e.len ≤ e.room
   filled_here = subst (λ (f : Extent). f.len ≤ f.room) here (p.filled i)
 
-  pub inside_here : e.start + e.room ≤ length xs
+  inside_here : e.start + e.room ≤ length xs
   inside_here = subst (λ (f : Extent). f.start + f.room ≤ length xs) here (p.inside i)
 
   -- what stands in the extents after a write to one
-  pub written : (ys : Block) (f : Extent) → IsSameOutside e xs ys → contents ys (set es i f) ≡ set (contents xs es) i (content ys f)
+  written : (ys : Block) (f : Extent) → IsSameOutside e xs ys → contents ys (set es i f) ≡ set (contents xs es) i (content ys f)
   written ys f same = one_changed (content ys) (content xs) es i f
       (λ j ne. stays e (extent_at es j) xs ys same (p.filled j)
       (subst (λ (g : Extent). IsClear g (extent_at es j)) here (p.clear i j (λ is. ne (sym is)))))
@@ -122,12 +125,13 @@ module _ (es : List Extent) (xs : Block) (p : IsApart es (length xs)) (i : ℕ) 
       }
 
   -- where only its length changes
-  pub resized : (tags len : ℕ) → len ≤ e.room → IsApart (set es i (record { tags = tags; start = e.start; len = len; room = e.room })) (length xs)
+  resized : (tags len : ℕ) → len ≤ e.room → IsApart (set es i (record { tags = tags; start = e.start; len = len; room = e.room })) (length xs)
   resized tags len fits =
       put (record { tags = tags; start = e.start; len = len; room = e.room }) (length xs) fits inside_here (omega arith)
       (λ j ne. subst (λ g. IsClear g (extent_at es j)) here (p.clear i j (λ is. ne (sym is))))
 
   -- ---- what the calls on a list write
+  -- an extent, written where it stands
   pub same_list : set es i e ≡ es
   same_list = ap (set es i) (sym here) ∙ set-get_or es i nowhere
 
@@ -141,6 +145,7 @@ module _ (es : List Extent) (xs : Block) (p : IsApart es (length xs)) (i : ℕ) 
   within_list at below = omega (arith, below, ap (λ (list : Pairs). length list) content_here, length-map (take e.len (drop e.start xs)) bare, list_long)
 
   module _ (at : ℕ) (below : at < e.len) where
+    -- the pair at a place of the list, read from the list and from the block
     pub read_list : (n : ℕ) → n ≡ e.len → (pair : Vec ℕ × ℕ) → pair ≡ get_or (take n (drop e.start xs)) at pair → (d : List ℕ × ℕ) → get_or (get_or (contents xs es) i []) at d ≡ bare pair
     read_list n n_is pair is d =
         ap (λ (list : Pairs). get_or list at d) content_here
@@ -150,6 +155,7 @@ module _ (es : List Extent) (xs : Block) (p : IsApart es (length xs)) (i : ℕ) 
     pub read_place : (pair : Vec ℕ × ℕ) → pair ≡ get_or xs (e.start + at) pair → (d : List ℕ × ℕ) → get_or (get_or (contents xs es) i []) at d ≡ bare pair
     read_place pair is = read_list e.len refl pair (is ∙ sym (get_or-take e.len (drop e.start xs) at pair below ∙ get_or-drop e.start xs at pair))
 
+    -- another value beside the key there
     pub value_written : (pair : Vec ℕ × ℕ) (v : ℕ) → pair ≡ get_or xs (e.start + at) pair
         → contents (set xs (e.start + at) (pair.0, v)) es ≡ set (contents xs es) i (with_value (get_or (contents xs es) i []) at v)
     value_written pair v is =
@@ -161,6 +167,7 @@ module _ (es : List Extent) (xs : Block) (p : IsApart es (length xs)) (i : ℕ) 
         ∙ written ys e (place_written e xs at (pair.0, v) (omega (arith, below, filled_here)))
         ∙ ap (set (contents xs es) i) (list ∙ (λ k. set ((sym content_here) k) at ((sym key) k, v)))
 
+    -- the block is as long as before a removal
     pub length_removed : (other : Vec ℕ × ℕ) (n : ℕ) → n ≡ e.len → length (put_mid e.start n xs (remove (take n (drop e.start xs)) at ++ other ∷ [])) ≡ length xs
     length_removed other n is =
         let cs : Block = take n (drop e.start xs) in
@@ -193,10 +200,10 @@ module _ (es : List Extent) (xs : Block) (p : IsApart es (length xs)) (i : ℕ) 
     other_clear : (j : ℕ) → j ≢ i → IsClear e (extent_at es j)
     other_clear j ne = subst (λ (g : Extent). IsClear g (extent_at es j)) here (p.clear i j (λ is. ne (sym is)))
 
-    pub apart_with_room : IsApart (set es i f) (length ys)
+    apart_with_room : IsApart (set es i f) (length ys)
     apart_with_room = put f (length ys) (omega (arith, h.place)) h.inside h.longer (λ j ne. h.clear (extent_at es j) (p.inside j) (other_clear j ne))
 
-    pub same_with_room : contents ys (set es i f) ≡ contents xs es
+    same_with_room : contents ys (set es i f) ≡ contents xs es
     same_with_room =
         one_changed (content ys) (content xs) es i f (λ j ne. h.others (extent_at es j) (p.filled j) (p.inside j) (other_clear j ne))
         ∙ ap (set (contents xs es) i) (h.pairs ∙ sym content_here) ∙ set-get_or (contents xs es) i []
@@ -236,15 +243,10 @@ module _ (es : List Extent) (xs : Block) (p : IsApart es (length xs)) (i : ℕ) 
 
 -- ---- more places at the end of the block
 module _ (es : List Extent) (xs : Block) (p : IsApart es (length xs)) (more : Block) where
-  pub apart_in_longer : IsApart es (length (xs ++ more))
-  apart_in_longer = record { filled = p.filled; inside = λ j. omega (arith, p.inside j, length-append xs more); clear = p.clear }
-
   pub same_in_longer : contents (xs ++ more) es ≡ contents xs es
   same_in_longer = map_same (content (xs ++ more)) (content xs) es (λ j. content_of_longer (extent_at es j) xs more (p.filled j) (p.inside j))
 
-pub has_room : (xs : Block) (e : Extent) → e.len < e.room → e.start + e.room ≤ length xs → HasRoom xs xs e e
-has_room xs e place inside = record { place = place; inside = inside; longer = omega arith; pairs = refl; others = λ g filled ends clear. refl; clear = λ g ends clear. clear }
-
+-- a list moves there: zs is the block with the places, and ys with the list in them
 module _ (e : Extent) (xs more zs ys : Block) (end : ℕ) (full : e.room ≤ e.len) (filled : e.len ≤ e.room) (inside : e.start + e.room ≤ length xs)
     (end_is : end ≡ length xs) (longer : zs ≡ xs ++ more)
     (long : length ys ≡ length zs)
