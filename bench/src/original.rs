@@ -127,7 +127,21 @@ fn filled<H: Default + Hasher>(
     table
 }
 
-/// Each key is put in with its number, and then asked for `rounds` times.
+/// The keys of `there` are put in with their numbers, and then each of `asked` is asked for `rounds` times: the sum of the
+/// values, of which a key that isn't there counts as 1.
+#[inline(always)]
+fn asked<H: Default + Hasher>(there: &[u8], asked: &[u8], size: usize, rounds: usize) -> u64 {
+    let table = filled::<H>(there, size);
+    let mut sum: u64 = 0;
+    for _ in 0..rounds {
+        for key in asked.chunks_exact(size) {
+            sum = sum.wrapping_add(table.get(key).copied().unwrap_or(1));
+        }
+    }
+    sum
+}
+
+/// A table of the keys, asked for each of them.
 pub unsafe extern "C" fn table<H: Default + Hasher>(
     at: *const u8,
     len: usize,
@@ -135,17 +149,10 @@ pub unsafe extern "C" fn table<H: Default + Hasher>(
     rounds: usize,
 ) -> u64 {
     let keys = slice(at, len);
-    let table = filled::<H>(keys, size);
-    let mut sum: u64 = 0;
-    for _ in 0..rounds {
-        for key in keys.chunks_exact(size) {
-            sum = sum.wrapping_add(table.get(key).copied().unwrap_or(0));
-        }
-    }
-    sum
+    asked::<H>(keys, keys, size, rounds)
 }
 
-/// The first half of the keys is put in, and then each of the others, which are not there, is asked for `rounds` times.
+/// A table of the first half of the keys, asked for the others.
 pub unsafe extern "C" fn missed<H: Default + Hasher>(
     at: *const u8,
     len: usize,
@@ -154,14 +161,7 @@ pub unsafe extern "C" fn missed<H: Default + Hasher>(
 ) -> u64 {
     let keys = slice(at, len);
     let (there, others) = keys.split_at(keys.len() / 2);
-    let table = filled::<H>(there, size);
-    let mut missed: u64 = 0;
-    for _ in 0..rounds {
-        for key in others.chunks_exact(size) {
-            missed = missed.wrapping_add(table.get(key).is_none() as u64);
-        }
-    }
-    missed
+    asked::<H>(there, others, size, rounds)
 }
 
 /// Each key is put in with its number, and then taken out.

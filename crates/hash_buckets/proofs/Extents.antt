@@ -9,11 +9,11 @@ use Rattle.std.proofs.lemmas.List.Sums.{sum_by-cons}
 use Rattle.std.specs.List.{remove, sum_by}
 use Rattle.std.proofs.Math.ListN.{get_or-map}
 use Rattle.std.proofs.lemmas.List.{get_or-map as get_or-map_any}
-use Rattle.std.proofs.Math.Seq.{take-set-lt, take-append_seam}
+use Rattle.std.proofs.Math.Seq.{take-set-lt, take-append_seam, take-nil}
 use Rattle.std.specs.Global.{Vec}
 use borrow.Rule.Slice.PartMut.{put_mid, same_len_mid}
 use Rattle.hash_buckets.specs.declared.lists.Extent.{Extent}
-use Rattle.hash_buckets.specs.Extents.{content, contents, nowhere, extent_at, IsBefore, IsClear, IsApart, HasRoom}
+use Rattle.hash_buckets.specs.Extents.{content, contents, nowhere, extent_at, IsBefore, AreDisjoint, IsApart, HasRoom}
 use Rattle.hash_buckets.specs.Table.{pairs, with_value}
 use Rattle.hash_buckets.proofs.Pairs.{Pairs}
 
@@ -63,7 +63,7 @@ pub record IsSameOutside (e : Extent) (xs ys : Block) : Type 0 where
   pub behind : drop (e.start + e.room) ys ≡ drop (e.start + e.room) xs
 
 -- what stands in another extent stays
-stays : (e f : Extent) (xs ys : Block) → IsSameOutside e xs ys → f.len ≤ f.room → IsClear e f → content ys f ≡ content xs f
+stays : (e f : Extent) (xs ys : Block) → IsSameOutside e xs ys → f.len ≤ f.room → AreDisjoint e f → content ys f ≡ content xs f
 stays e f xs ys same filled apart = ⊎_elim
     (λ (first : IsBefore e f). ap (λ (part : Block). pairs (take f.len part)) (back_same f.start (e.start + e.room) xs ys first same.behind))
     (λ (second : IsBefore f e).
@@ -103,12 +103,12 @@ module _ (es : List Extent) (xs : Block) (p : IsApart es (length xs)) (i : ℕ) 
   written : (ys : Block) (f : Extent) → IsSameOutside e xs ys → contents ys (set es i f) ≡ set (contents xs es) i (content ys f)
   written ys f same = one_changed (content ys) (content xs) es i f
       (λ j ne. stays e (extent_at es j) xs ys same (p.filled j)
-      (subst (λ (g : Extent). IsClear g (extent_at es j)) here (p.clear i j (λ is. ne (sym is)))))
+      (subst (λ (g : Extent). AreDisjoint g (extent_at es j)) here (p.disjoint i j (λ is. ne (sym is)))))
 
   -- extents that are apart from another one in its place
   put : (f : Extent) (size : ℕ) → f.len ≤ f.room → f.start + f.room ≤ size → length xs ≤ size
-      → ((j : ℕ) → j ≢ i → IsClear f (extent_at es j)) → IsApart (set es i f) size
-  put f size fits ends more clear =
+      → ((j : ℕ) → j ≢ i → AreDisjoint f (extent_at es j)) → IsApart (set es i f) size
+  put f size fits ends more disjoint =
       let at : (j : ℕ) → j ≡ i → f ≡ extent_at (set es i f) j = λ j is. sym (get_or-set_at es i j f nowhere is in') in
       let other : (j : ℕ) → j ≢ i → extent_at es j ≡ extent_at (set es i f) j = λ j ne. sym (get_or-set_other es i j f nowhere ne) in
       let either : (j : ℕ) (Q : Extent → Type 0) → Q f → (j ≢ i → Q (extent_at es j)) → Q (extent_at (set es i f) j) =
@@ -116,11 +116,11 @@ module _ (es : List Extent) (xs : Block) (p : IsApart es (length xs)) (i : ℕ) 
       record {
         filled = λ j. either j (λ g. g.len ≤ g.room) fits (λ ne. p.filled j);
         inside = λ j. either j (λ g. g.start + g.room ≤ size) ends (λ ne. omega (arith, p.inside j, more));
-        clear = λ j k ne. ⊎_elim
-            (λ (is : j ≡ i). subst (λ g. IsClear g (extent_at (set es i f) k)) (at j is)
-            (subst (λ g. IsClear f g) (other k (λ e. ne (is ∙ sym e))) (clear k (λ e. ne (is ∙ sym e)))))
-            (λ (no : j ≢ i). subst (λ g. IsClear g (extent_at (set es i f) k)) (other j no)
-            (either k (λ g. IsClear (extent_at es j) g) (⊎_elim (λ a. inr a) (λ a. inl a) (clear j no)) (λ _. p.clear j k ne)))
+        disjoint = λ j k ne. ⊎_elim
+            (λ (is : j ≡ i). subst (λ g. AreDisjoint g (extent_at (set es i f) k)) (at j is)
+            (subst (λ g. AreDisjoint f g) (other k (λ e. ne (is ∙ sym e))) (disjoint k (λ e. ne (is ∙ sym e)))))
+            (λ (no : j ≢ i). subst (λ g. AreDisjoint g (extent_at (set es i f) k)) (other j no)
+            (either k (λ g. AreDisjoint (extent_at es j) g) (⊎_elim (λ a. inr a) (λ a. inl a) (disjoint j no)) (λ _. p.disjoint j k ne)))
             (cases_eq j i);
       }
 
@@ -128,7 +128,7 @@ module _ (es : List Extent) (xs : Block) (p : IsApart es (length xs)) (i : ℕ) 
   resized : (tags len : ℕ) → len ≤ e.room → IsApart (set es i (record { tags = tags; start = e.start; len = len; room = e.room })) (length xs)
   resized tags len fits =
       put (record { tags = tags; start = e.start; len = len; room = e.room }) (length xs) fits inside_here (omega arith)
-      (λ j ne. subst (λ g. IsClear g (extent_at es j)) here (p.clear i j (λ is. ne (sym is))))
+      (λ j ne. subst (λ g. AreDisjoint g (extent_at es j)) here (p.disjoint i j (λ is. ne (sym is))))
 
   -- ---- what the calls on a list write
   -- an extent, written where it stands
@@ -197,15 +197,15 @@ module _ (es : List Extent) (xs : Block) (p : IsApart es (length xs)) (i : ℕ) 
 
   -- ---- where the extent has room for more, there or elsewhere
   module _ (ys : Block) (f : Extent) (h : HasRoom xs ys e f) where
-    other_clear : (j : ℕ) → j ≢ i → IsClear e (extent_at es j)
-    other_clear j ne = subst (λ (g : Extent). IsClear g (extent_at es j)) here (p.clear i j (λ is. ne (sym is)))
+    others_disjoint : (j : ℕ) → j ≢ i → AreDisjoint e (extent_at es j)
+    others_disjoint j ne = subst (λ (g : Extent). AreDisjoint g (extent_at es j)) here (p.disjoint i j (λ is. ne (sym is)))
 
     apart_with_room : IsApart (set es i f) (length ys)
-    apart_with_room = put f (length ys) (omega (arith, h.place)) h.inside h.longer (λ j ne. h.clear (extent_at es j) (p.inside j) (other_clear j ne))
+    apart_with_room = put f (length ys) (omega (arith, h.place)) h.inside h.longer (λ j ne. h.disjoint (extent_at es j) (p.inside j) (others_disjoint j ne))
 
     same_with_room : contents ys (set es i f) ≡ contents xs es
     same_with_room =
-        one_changed (content ys) (content xs) es i f (λ j ne. h.others (extent_at es j) (p.filled j) (p.inside j) (other_clear j ne))
+        one_changed (content ys) (content xs) es i f (λ j ne. h.others (extent_at es j) (p.filled j) (p.inside j) (others_disjoint j ne))
         ∙ ap (set (contents xs es) i) (h.pairs ∙ sym content_here) ∙ set-get_or (contents xs es) i []
 
 -- a pair more
@@ -271,8 +271,8 @@ module _ (e : Extent) (xs more zs ys : Block) (end : ℕ) (full : e.room ≤ e.l
     inside = omega (arith, size, places);
     longer = omega (arith, size, end_is);
     pairs = ap pairs (moved ∙ ap (λ (block : Block). take e.len (drop e.start block)) longer) ∙ content_of_longer e xs more filled inside;
-    others = λ g fits ends clear. sym (content_of_front g ys end fits (omega (arith, ends, end_is))) ∙ stays e g xs (take end ys) same_front fits clear;
-    clear = λ g ends clear. inr (omega (arith, ends, end_is));
+    others = λ g fits ends disjoint. sym (content_of_front g ys end fits (omega (arith, ends, end_is))) ∙ stays e g xs (take end ys) same_front fits disjoint;
+    disjoint = λ g ends disjoint. inr (omega (arith, ends, end_is));
   }
 
 -- ---- how many pairs there are
@@ -291,14 +291,10 @@ pub last_replaced : (list : Block) (x y : Vec ℕ × ℕ) → set (list ++ x ∷
 last_replaced list x y = set_at list x [] y (length (list ++ x ∷ []) - 1) (omega (arith, length-append list (x ∷ [])))
 
 -- ---- lists with no places
-take_none : (n : ℕ) → ◌≡◌ {A = List Extent} (take n []) []
-take_none zero = refl
-take_none (suc n) = refl
-
 pub filled_up : (es : List Extent) (n m : ℕ) → es ≡ [] → m ≡ 0 → take n es ++ replicate (n - m) nowhere ≡ replicate n nowhere
 filled_up es n m none start =
     let all : n - m ≡ n = omega (arith, start) in
-    (λ k. take n (none k) ++ replicate (all k) nowhere) ∙ ap (λ (front : List Extent). front ++ replicate n nowhere) (take_none n)
+    (λ k. take n (none k) ++ replicate (all k) nowhere) ∙ ap (λ (front : List Extent). front ++ replicate n nowhere) (take-nil n)
 
 pub none_filled : (xs : Block) (n : ℕ) → contents xs (replicate n nowhere) ≡ replicate n []
 none_filled xs zero = refl

@@ -25,14 +25,14 @@ abbrev pub IsBefore : Extent → Extent → Type 0
 IsBefore e f = e.start + e.room ≤ f.start
 
 -- they have no place in common
-abbrev pub IsClear : Extent → Extent → Type 0
-IsClear e f = IsBefore e f ⊎ IsBefore f e
+abbrev pub AreDisjoint : Extent → Extent → Type 0
+AreDisjoint e f = IsBefore e f ⊎ IsBefore f e
 
 -- the extents lie in a block of that size, and no two of them have a place in common
 pub record IsApart (extents : List Extent) (size : ℕ) : Type 0 where
   pub filled : (i : ℕ) → (extent_at extents i).len ≤ (extent_at extents i).room
   pub inside : (i : ℕ) → (extent_at extents i).start + (extent_at extents i).room ≤ size
-  pub clear : (i j : ℕ) → i ≢ j → IsClear (extent_at extents i) (extent_at extents j)
+  pub disjoint : (i j : ℕ) → i ≢ j → AreDisjoint (extent_at extents i) (extent_at extents j)
 
 -- an extent of a block became another, with the same pairs and a place behind them, and no other's pairs changed
 pub record HasRoom (old new : List (Vec ℕ × ℕ)) (e f : Extent) : Type 0 where
@@ -40,5 +40,5 @@ pub record HasRoom (old new : List (Vec ℕ × ℕ)) (e f : Extent) : Type 0 whe
   pub inside : f.start + f.room ≤ length new
   pub longer : length old ≤ length new
   pub pairs : content new f ≡ content old e
-  pub others : (g : Extent) → g.len ≤ g.room → g.start + g.room ≤ length old → IsClear e g → content new g ≡ content old g
-  pub clear : (g : Extent) → g.start + g.room ≤ length old → IsClear e g → IsClear f g
+  pub others : (g : Extent) → g.len ≤ g.room → g.start + g.room ≤ length old → AreDisjoint e g → content new g ≡ content old g
+  pub disjoint : (g : Extent) → g.start + g.room ≤ length old → AreDisjoint e g → AreDisjoint f g

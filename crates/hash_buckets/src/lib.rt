@@ -266,7 +266,7 @@ impl<H: Piecewise, const N: usize> Buckets<H, N> {
     pub fn len(&self) -> u128
         ensures { result ≡ map.len self.now }
     {
-        self.buckets.pairs_in_all()
+        self.buckets.total_len()
     }
 
     /// The pairs of a bucket.

@@ -1,6 +1,7 @@
 //! Lists of pairs in one block of memory. Each list has places of its own there that follow one another. Where they are
 //! full it moves to the end of the block, to twice as many, and those that it left stay empty: as long as memory was never
-//! short, the block has less than four times as many places as the lists had pairs when each was longest.
+//! short, the block has less than four times as many places as the lists had pairs when each was longest. That is reckoned:
+//! no clause speaks of memory.
 //!
 //! Beside its places stand the tags of a list: seven bits of the hash of each of its first eight keys. They say where a key
 //! is looked for first, and are a hint: no clause speaks of them, and a wrong one costs a look at the other pairs.
@@ -243,7 +244,7 @@ impl Lists {
     }
 
     /// How many pairs the lists have together.
-    pub(crate) fn pairs_in_all(&self) -> u128
+    pub(crate) fn total_len(&self) -> u128
         ensures { result ≡ sum_by length self.now }
     {
         pairs_in(&self.extents)

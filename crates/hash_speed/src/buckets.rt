@@ -31,47 +31,26 @@ fn filled<H: Piecewise>(alloc: Global, keys: &[u8], size: usize) -> Option<Bucke
     Some(table)
 }
 
-/// Puts each key in with its number, and then asks for each key `rounds` times: the sum of the values, or `None` where
-/// memory is short.
+/// Puts the keys of `there` in with their numbers, and then asks for each of `asked` `rounds` times: the sum of the values, of
+/// which a key that isn't there counts as 1, or `None` where memory is short.
 #[inline(always)]
 fn put_and_asked<H: Piecewise>(
     alloc: Global,
-    keys: &[u8],
+    there: &[u8],
+    asked: &[u8],
     size: usize,
     rounds: usize,
 ) -> Option<u64> {
-    let table = filled::<H>(alloc, keys, size)?;
+    let table = filled::<H>(alloc, there, size)?;
     let mut sum: u64 = 0;
     if size > 0 {
         for _ in 0..rounds {
-            for key in keys.chunks_exact(size) {
-                sum = sum.wrapping_add(table.get(key).unwrap_or(0));
+            for key in asked.chunks_exact(size) {
+                sum = sum.wrapping_add(table.get(key).unwrap_or(1));
             }
         }
     }
     Some(sum)
-}
-
-/// Puts the first half of the keys in, and then asks for each of the others `rounds` times, which are not there: how often
-/// none was found, or `None` where memory is short.
-#[inline(always)]
-fn put_and_missed<H: Piecewise>(
-    alloc: Global,
-    keys: &[u8],
-    size: usize,
-    rounds: usize,
-) -> Option<u64> {
-    let (there, others) = keys.split_at(keys.len() / 2);
-    let table = filled::<H>(alloc, there, size)?;
-    let mut missed: u64 = 0;
-    if size > 0 {
-        for _ in 0..rounds {
-            for key in others.chunks_exact(size) {
-                missed = missed.wrapping_add(table.get(key).is_none() as u64);
-            }
-        }
-    }
-    Some(missed)
 }
 
 /// Puts each key in with its number, and then takes each out: the sum of the values, or `None` where memory is short.
@@ -95,7 +74,7 @@ pub extern "C" fn hash_speed_buckets_fnv1a64(
     size: usize,
     rounds: usize,
 ) -> u64 {
-    put_and_asked::<FNV1aHasher64>(alloc, keys, size, rounds).unwrap_or(u64::MAX)
+    put_and_asked::<FNV1aHasher64>(alloc, keys, keys, size, rounds).unwrap_or(u64::MAX)
 }
 
 /// A table over lookup3.
@@ -106,7 +85,7 @@ pub extern "C" fn hash_speed_buckets_lookup3(
     size: usize,
     rounds: usize,
 ) -> u64 {
-    put_and_asked::<Lookup3Hasher>(alloc, keys, size, rounds).unwrap_or(u64::MAX)
+    put_and_asked::<Lookup3Hasher>(alloc, keys, keys, size, rounds).unwrap_or(u64::MAX)
 }
 
 /// A table over fx.
@@ -117,7 +96,7 @@ pub extern "C" fn hash_speed_buckets_fxhash(
     size: usize,
     rounds: usize,
 ) -> u64 {
-    put_and_asked::<FxHasher>(alloc, keys, size, rounds).unwrap_or(u64::MAX)
+    put_and_asked::<FxHasher>(alloc, keys, keys, size, rounds).unwrap_or(u64::MAX)
 }
 
 /// A table over FNV-1a at 64 bits that is filled and emptied.
@@ -138,7 +117,7 @@ pub extern "C" fn hash_speed_emptied_fxhash(alloc: Global, keys: &[u8], size: us
     put_and_taken::<FxHasher>(alloc, keys, size).unwrap_or(u64::MAX)
 }
 
-/// A table over FNV-1a at 64 bits that is asked for keys that are not there.
+/// A table over FNV-1a at 64 bits of the first half of the keys, asked for the others.
 #[unsafe(no_mangle)]
 pub extern "C" fn hash_speed_missed_fnv1a64(
     alloc: Global,
@@ -146,10 +125,11 @@ pub extern "C" fn hash_speed_missed_fnv1a64(
     size: usize,
     rounds: usize,
 ) -> u64 {
-    put_and_missed::<FNV1aHasher64>(alloc, keys, size, rounds).unwrap_or(u64::MAX)
+    let (there, others) = keys.split_at(keys.len() / 2);
+    put_and_asked::<FNV1aHasher64>(alloc, there, others, size, rounds).unwrap_or(u64::MAX)
 }
 
-/// A table over lookup3 that is asked for keys that are not there.
+/// A table over lookup3 of the first half of the keys, asked for the others.
 #[unsafe(no_mangle)]
 pub extern "C" fn hash_speed_missed_lookup3(
     alloc: Global,
@@ -157,10 +137,11 @@ pub extern "C" fn hash_speed_missed_lookup3(
     size: usize,
     rounds: usize,
 ) -> u64 {
-    put_and_missed::<Lookup3Hasher>(alloc, keys, size, rounds).unwrap_or(u64::MAX)
+    let (there, others) = keys.split_at(keys.len() / 2);
+    put_and_asked::<Lookup3Hasher>(alloc, there, others, size, rounds).unwrap_or(u64::MAX)
 }
 
-/// A table over fx that is asked for keys that are not there.
+/// A table over fx of the first half of the keys, asked for the others.
 #[unsafe(no_mangle)]
 pub extern "C" fn hash_speed_missed_fxhash(
     alloc: Global,
@@ -168,5 +149,6 @@ pub extern "C" fn hash_speed_missed_fxhash(
     size: usize,
     rounds: usize,
 ) -> u64 {
-    put_and_missed::<FxHasher>(alloc, keys, size, rounds).unwrap_or(u64::MAX)
+    let (there, others) = keys.split_at(keys.len() / 2);
+    put_and_asked::<FxHasher>(alloc, there, others, size, rounds).unwrap_or(u64::MAX)
 }
