@@ -1,9 +1,10 @@
--- Two texts of one length are the same where their groups of n bytes are, and what is left behind these.
-use Rattle.std.proofs.Common.{◌≡◌, ◌≢◌, ℕ, zero, suc, ◌+◌, ◌*◌, Bool, true, false, List, ◌++◌, take, drop, drop-drop, refl, sym, ap, ap₂, ◌∙◌, arith}
+-- Two texts of one length are the same where their groups of n bytes are, and what is left behind these, and where their
+-- ends are, if no byte stands between these.
+use Rattle.std.proofs.Common.{◌≡◌, ◌≢◌, ℕ, zero, suc, ◌+◌, ◌*◌, Bool, true, false, List, ◌++◌, take, drop, drop-drop, length, ◌-◌, ◌≤◌, refl, sym, ap, ap₂, ◌∙◌, arith}
 use Rattle.std.specs.Simd.{first_chunks}
 use Rattle.std.specs.Bool.{Decides}
 use Rattle.std.specs.Str.{bytes_eq}
-use Rattle.std.proofs.lemmas.List.{take-append-drop}
+use Rattle.std.proofs.lemmas.List.{take-append-drop, take-take}
 use Rattle.std.proofs.lemmas.Slice.Eq.{bytes_eq-Decides}
 
 -- what decides whether two texts are the same is their comparison
@@ -39,3 +40,20 @@ compared x y e = (bytes_eq-Decides x y).0 (sym e)
 
 pub apart : (x y : List ℕ) → false ≡ bytes_eq x y → x ≢ y
 apart x y e same = let t : bytes_eq x y ≡ true = (bytes_eq-Decides x y).1 same in cc
+
+-- two texts of one length, with eight bytes at each end and nothing between them
+module _ (x y : List ℕ) (counts : length x ≡ length y) (short : length x ≤ 16) where
+  same_ends : take 8 x ≡ take 8 y → drop (length x - 8) x ≡ drop (length y - 8) y → x ≡ y
+  same_ends first last =
+      let within : length x - 8 ≤ 8 = omega (arith, short) in
+      let front : take (length x - 8) x ≡ take (length y - 8) y =
+      sym (take-take (length x - 8) 8 x within) ∙ ap₂ (λ (n : ℕ) (l : List ℕ). take (n - 8) l) counts first ∙ take-take (length y - 8) 8 y (omega (arith, short, counts)) in
+      sym (take-append-drop (length x - 8) x) ∙ ap₂ (λ (a b : List ℕ). a ++ b) front last ∙ take-append-drop (length y - 8) y
+
+  pub ends_decide : (first last others_first others_last : List ℕ) → first ≡ take 8 x → last ≡ drop (length x - 8) x → others_first ≡ take 8 y → others_last ≡ drop (length y - 8) y
+      → true ≡ bytes_eq first others_first → bytes_eq last others_last ≡ bytes_eq x y
+  ends_decide first last others_first others_last first_is last_is others_first_is others_last_is begun =
+      decided (bytes_eq last others_last) x y (
+        λ t. same_ends (sym first_is ∙ compared first others_first begun ∙ others_first_is) (sym last_is ∙ compared last others_last (sym t) ∙ others_last_is),
+        λ all. (bytes_eq-Decides last others_last).1 (last_is ∙ ap (λ (l : List ℕ). drop (length l - 8) l) all ∙ sym others_last_is),
+      )

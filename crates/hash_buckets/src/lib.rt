@@ -1,7 +1,7 @@
 //! A table of buckets over any hasher.
 #![tactic(auto)]
 
-ghost use Rattle.std.specs.Prelude.{◌≡◌, ◌≢◌, ◌↔◌, IsTrue, ◌<◌, ◌≤◌, ◌%◌, ℕ, IfOk, IfErr, OnOk, OnErr, None, Some, fold, length, slice_index_or, MatchOption, [], take};
+ghost use Rattle.std.specs.Prelude.{◌≡◌, ◌≢◌, ◌↔◌, IsTrue, ◌<◌, ◌≤◌, ◌%◌, ℕ, IfOk, IfErr, IfSome, OnOk, OnErr, None, Some, fold, length, slice_index_or, MatchOption, [], take, drop, ◌-◌};
 ghost use Rattle.std.specs.Coded.{coded_list, coded_ℕ};
 ghost use Rattle.std.specs.FinMap as map;
 ghost use Rattle.std.specs.Int.{bit_at};
@@ -72,7 +72,29 @@ fn same_bytes(bytes: &[u8], others: &[u8]) -> bool
     bytes.iter().zip(others).all(|(byte, other)| byte == other)
 }
 
-/// Whether two texts are the same, eight bytes at a time.
+/// Whether two texts of one length are the same, eight bytes at a time.
+#[inline(always)]
+fn same_by_eights(text: &[u8], other: &[u8]) -> bool
+    requires { length text.now ≡ length other.now }
+    ensures { result ≡ bytes_eq text.now other.now }
+{
+    let (eights, few) = text.as_chunks::<8>();
+    let (other_eights, other_few) = other.as_chunks::<8>();
+    same_eights(eights, other_eights) && same_bytes(few, other_few)
+}
+
+/// The first eight bytes and the last eight of a text, where they are all of it.
+#[inline(always)]
+fn ends(text: &[u8]) -> Option<(&[u8; 8], &[u8; 8])>
+    ensures { IfSome result (λ ends. (length text.now ≤ 16) × (ends.0.now ≡ take 8 text.now) × (ends.1.now ≡ drop (length text.now - 8) text.now)) }
+{
+    if text.len() > 16 {
+        return None;
+    }
+    Some((text.first_chunk::<8>()?, text.last_chunk::<8>()?))
+}
+
+/// Whether two texts are the same: from eight to sixteen bytes by their ends, and else eight bytes at a time.
 #[inline(always)]
 fn is_same(text: &[u8], other: &[u8]) -> bool
     ensures { result ≡ bytes_eq text.now other.now }
@@ -80,9 +102,12 @@ fn is_same(text: &[u8], other: &[u8]) -> bool
     if text.len() != other.len() {
         return false;
     }
-    let (eights, few) = text.as_chunks::<8>();
-    let (other_eights, other_few) = other.as_chunks::<8>();
-    same_eights(eights, other_eights) && same_bytes(few, other_few)
+    match (ends(text), ends(other)) {
+        (Some((first, last)), Some((other_first, other_last))) => {
+            first == other_first && last == other_last
+        }
+        _ => same_by_eights(text, other),
+    }
 }
 
 /// Where the key stands, by a look at each pair in order.

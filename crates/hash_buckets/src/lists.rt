@@ -14,6 +14,7 @@ ghost use Rattle.hash_buckets.specs.Extents.{HasRoom};
 use std::alloc::{AllocError, Global};
 use std::marker::Model;
 use std::mem::replace;
+use std::simd::prelude::*;
 
 /// The places of a list in the block: from `start` on there are `room`, and pairs stand in the first `len` of them. Byte i
 /// of `tags` is the tag of pair i, or 0.
@@ -44,22 +45,20 @@ impl Model for Lists {
     ghost invariant = { λ l. IsApart l.extents.items (length l.block.items) };
 }
 
-/// A one in each byte.
-const ONES: u64 = 0x0101_0101_0101_0101;
-
-/// The upper bit of each byte.
-const UPPER: u64 = 0x8080_8080_8080_8080;
-
 /// The tag of a key with this hash: its upper seven bits, and a one before them.
 #[inline(always)]
-fn tag(hash: u64) -> u64 {
-    hash >> 57 | 0x80
+fn tag(hash: u64) -> u8 {
+    (hash >> 57) as u8 | 0x80
 }
 
 /// The tags with one more, of pair i.
 #[inline(always)]
-fn with_tag(tags: u64, i: usize, tag: u64) -> u64 {
-    if i < 8 { tags | tag << (8 * i) } else { tags }
+fn with_tag(tags: u64, i: usize, tag: u8) -> u64 {
+    if i < 8 {
+        tags | u64::from(tag) << (8 * i)
+    } else {
+        tags
+    }
 }
 
 /// The tags without that of pair i. Those behind it move down.
@@ -77,9 +76,9 @@ impl Extent {
     /// Where a key with this hash stands, if one of the tags is its own, and 8 if none is. Another key can have the same tag.
     #[inline(always)]
     fn likely_place(&self, hash: u64) -> usize {
-        let others = self.tags ^ tag(hash).wrapping_mul(ONES);
-        let same = others.wrapping_sub(ONES) & !others & UPPER;
-        (same.trailing_zeros() / 8) as usize
+        let tags = u8x8::from_array(self.tags.to_le_bytes());
+        let same = tags.simd_eq(u8x8::splat(tag(hash))).to_bitmask();
+        (same as u8).trailing_zeros() as usize
     }
 }
 

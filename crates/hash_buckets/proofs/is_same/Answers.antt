@@ -1,12 +1,9 @@
-use Rattle.std.proofs.Common.{ap, ◌/◌}
-use Rattle.hash_buckets.proofs.Texts.{groups_differ, left_decides}
+use Rattle.std.proofs.Common.{◌≡◌, ◌∙◌, sym}
+use Rattle.hash_buckets.proofs.Texts.{ends_decide}
 use Rattle.hash_buckets.proofs.is_same.Goals as goal
 
-pub returns-then-same_eights : goal.returns-then-same_eights
-returns-then-same_eights c =
-    left_decides 8 _ _ _ _ (ap (λ n. n / 8) c.if-text-other.false) _ _ c.as_chunks.ensures.front c.as_chunks-2.ensures.front _ c.same_eights.ensures c.if-same_eights.true
-    _ _ c.as_chunks.ensures.back c.as_chunks-2.ensures.back _ c.same_bytes.ensures
-
-pub returns-else-same_eights : goal.returns-else-same_eights
-returns-else-same_eights c =
-    groups_differ 8 _ _ _ _ (ap (λ n. n / 8) c.if-text-other.false) _ _ c.as_chunks.ensures.front c.as_chunks-2.ensures.front _ c.same_eights.ensures c.if-same_eights.false
+pub returns-then-eq : goal.returns-then-eq
+returns-then-eq c =
+    let mine = c.in-Some-Some.ensures in
+    let others = c.in-Some-Some.ensures' in
+    c.eq-then-eq.ensures ∙ ends_decide _ _ c.if-text-other.false mine.0 _ _ _ _ mine.1 mine.2 others.1 others.2 (sym c.if-eq.true ∙ c.eq.ensures)
