@@ -73,7 +73,7 @@ fn same_bytes(bytes: &[u8], others: &[u8]) -> bool
 }
 
 /// Whether two texts of one length are the same, eight bytes at a time.
-#[inline(always)]
+#[inline(never)]
 fn same_by_eights(text: &[u8], other: &[u8]) -> bool
     requires { length text.now ≡ length other.now }
     ensures { result ≡ bytes_eq text.now other.now }
@@ -138,59 +138,6 @@ fn place_by_tag(bucket: &[(Vec<u8>, u64)], likely: usize, key: &[u8]) -> Option<
     place_elsewhere(bucket, key)
 }
 
-/// The value of the key.
-#[inline(always)]
-fn value_in(bucket: &[(Vec<u8>, u64)], likely: usize, key: &[u8]) -> Option<u64>
-    requires { HasEachKeyOnce (pairs bucket.now) }
-    ensures { result ≡ value_at key.now (pairs bucket.now) }
-{
-    match place_by_tag(bucket, likely, key) {
-        Some(at) => Some(bucket[at].1),
-        None => None,
-    }
-}
-
-/// Gives the key the value in bucket i, and answers its old one.
-#[inline(always)]
-fn put_in(
-    buckets: &mut Lists,
-    alloc: Global,
-    i: usize,
-    hash: u64,
-    key: Vec<u8>,
-    value: u64,
-) -> Result<Option<u64>, NoRoom>
-    requires below { i < length buckets.old }
-    requires once { HasEachKeyOnce (slice_index_or buckets.old i []) }
-    ensures ok { IfOk result (λ old. old ≡ value_at key.items (slice_index_or buckets.old i [])) }
-    ensures put { OnOk result (IsChangeIn i buckets.old buckets.new key.items (Some value)) }
-    ensures err { IfErr result (λ refused. refused ≡ record { key = key; value = value }) }
-    ensures unchanged { OnErr result (buckets.new ≡ buckets.old) }
-    ensures new_key { OnErr result (value_at key.items (slice_index_or buckets.old i []) ≡ None) }
-{
-    match place_of(buckets.pairs(i), &key) {
-        Some(at) => Ok(Some(buckets.set_value(i, at, value))),
-        None => match buckets.push(alloc, i, hash, (key, value)) {
-            Ok(()) => Ok(None),
-            Err((key, value)) => Err(NoRoom { key, value }),
-        },
-    }
-}
-
-/// Takes the key out of bucket i, and answers its value.
-#[inline(always)]
-fn take_out(buckets: &mut Lists, alloc: Global, i: usize, hash: u64, key: &[u8]) -> Option<u64>
-    requires below { i < length buckets.old }
-    requires once { HasEachKeyOnce (slice_index_or buckets.old i []) }
-    ensures value { result ≡ value_at key.now (slice_index_or buckets.old i []) }
-    ensures taken { IsChangeIn i buckets.old buckets.new key.now None }
-{
-    match place_by_tag(buckets.pairs(i), buckets.likely_place(i, hash), key) {
-        Some(at) => Some(buckets.remove(alloc, i, at)),
-        None => None,
-    }
-}
-
 /// Whether a key with this hash can be among those of the filter.
 #[inline(always)]
 fn passes(filter: u32, hash: u64) -> bool
@@ -206,6 +153,84 @@ fn with_hash(filter: u32, hash: u64) -> u32
     ensures others { (b : ℕ) → b ≢ bit_of hash → bit_at result b ≡ bit_at filter b }
 {
     filter | 1 << (hash >> 59)
+}
+
+/// Where the key stands in bucket i, which isn't searched where the filter lets no key with this hash pass.
+#[inline(always)]
+fn place_in(buckets: &Lists, i: usize, filter: u32, hash: u64, key: &[u8]) -> Option<usize>
+    requires below { i < length buckets.now }
+    requires absent { bit_at filter (bit_of hash) ≡ 0 → value_at key.now (slice_index_or buckets.now i []) ≡ None }
+    ensures { MatchOption result (value_at key.now (slice_index_or buckets.now i []) ≡ None) (λ at. HasKeyAt (slice_index_or buckets.now i []) at key.now) }
+{
+    if !passes(filter, hash) {
+        return None;
+    }
+    place_by_tag(buckets.pairs(i), buckets.likely_place(i, hash), key)
+}
+
+/// The value of the key in bucket i.
+#[inline(always)]
+fn value_in(buckets: &Lists, i: usize, filter: u32, hash: u64, key: &[u8]) -> Option<u64>
+    requires below { i < length buckets.now }
+    requires once { HasEachKeyOnce (slice_index_or buckets.now i []) }
+    requires absent { bit_at filter (bit_of hash) ≡ 0 → value_at key.now (slice_index_or buckets.now i []) ≡ None }
+    ensures { result ≡ value_at key.now (slice_index_or buckets.now i []) }
+{
+    match place_in(buckets, i, filter, hash, key) {
+        Some(at) => Some(buckets.pairs(i)[at].1),
+        None => None,
+    }
+}
+
+/// Gives the key the value in bucket i, and answers its old one.
+#[inline(always)]
+fn put_in(
+    buckets: &mut Lists,
+    alloc: Global,
+    i: usize,
+    filter: u32,
+    hash: u64,
+    key: Vec<u8>,
+    value: u64,
+) -> Result<Option<u64>, NoRoom>
+    requires below { i < length buckets.old }
+    requires once { HasEachKeyOnce (slice_index_or buckets.old i []) }
+    requires absent { bit_at filter (bit_of hash) ≡ 0 → value_at key.items (slice_index_or buckets.old i []) ≡ None }
+    ensures ok { IfOk result (λ old. old ≡ value_at key.items (slice_index_or buckets.old i [])) }
+    ensures put { OnOk result (IsChangeIn i buckets.old buckets.new key.items (Some value)) }
+    ensures err { IfErr result (λ refused. refused ≡ record { key = key; value = value }) }
+    ensures unchanged { OnErr result (buckets.new ≡ buckets.old) }
+    ensures new_key { OnErr result (value_at key.items (slice_index_or buckets.old i []) ≡ None) }
+{
+    match place_in(buckets, i, filter, hash, &key) {
+        Some(at) => Ok(Some(buckets.set_value(i, at, value))),
+        None => match buckets.push(alloc, i, hash, (key, value)) {
+            Ok(()) => Ok(None),
+            Err((key, value)) => Err(NoRoom { key, value }),
+        },
+    }
+}
+
+/// Takes the key out of bucket i, and answers its value.
+#[inline(always)]
+fn take_out(
+    buckets: &mut Lists,
+    alloc: Global,
+    i: usize,
+    filter: u32,
+    hash: u64,
+    key: &[u8],
+) -> Option<u64>
+    requires below { i < length buckets.old }
+    requires once { HasEachKeyOnce (slice_index_or buckets.old i []) }
+    requires absent { bit_at filter (bit_of hash) ≡ 0 → value_at key.now (slice_index_or buckets.old i []) ≡ None }
+    ensures value { result ≡ value_at key.now (slice_index_or buckets.old i []) }
+    ensures taken { IsChangeIn i buckets.old buckets.new key.now None }
+{
+    match place_in(buckets, i, filter, hash, key) {
+        Some(at) => Some(buckets.remove(alloc, i, at)),
+        None => None,
+    }
 }
 
 /// The hash of a key in one piece.
@@ -256,11 +281,7 @@ impl<H: Piecewise, const N: usize> Buckets<H, N> {
     {
         let hash = hash_of::<H>(key);
         let i = self.number(hash);
-        if !passes(self.filters[i], hash) {
-            return None;
-        }
-        let bucket = self.buckets.pairs(i);
-        value_in(bucket, self.buckets.likely_place(i, hash), key)
+        value_in(&self.buckets, i, self.filters[i], hash, key)
     }
 
     /// Gives the key the value, and answers its old one.
@@ -273,8 +294,9 @@ impl<H: Piecewise, const N: usize> Buckets<H, N> {
     {
         let hash = hash_of::<H>(&key);
         let i = self.number(hash);
-        self.filters[i] = with_hash(self.filters[i], hash);
-        put_in(&mut self.buckets, self.alloc, i, hash, key, value)
+        let filter = self.filters[i];
+        self.filters[i] = with_hash(filter, hash);
+        put_in(&mut self.buckets, self.alloc, i, filter, hash, key, value)
     }
 
     /// Takes the key out, and answers its value.
@@ -284,7 +306,7 @@ impl<H: Piecewise, const N: usize> Buckets<H, N> {
     {
         let hash = hash_of::<H>(key);
         let i = self.number(hash);
-        take_out(&mut self.buckets, self.alloc, i, hash, key)
+        take_out(&mut self.buckets, self.alloc, i, self.filters[i], hash, key)
     }
 
     /// How many keys there are.

@@ -1,4 +1,4 @@
-use Rattle.std.proofs.Common.{◌≡◌, ◌∙◌, sym}
+use Rattle.std.proofs.Common.{◌∙◌, sym}
 use Rattle.hash_buckets.proofs.Texts.{ends_decide}
 use Rattle.hash_buckets.proofs.is_same.Goals as goal
 
