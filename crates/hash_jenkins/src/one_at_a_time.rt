@@ -112,13 +112,17 @@ impl Hasher for OAATHasher {
         finished(self.state)
     }
 
-    /// Takes the bytes in, one step for each. Eight steps at a time are straight code.
+    /// Takes the bytes in, one step for each. Eight steps at a time are straight code, and so is a single one.
     #[inline(always)]
     fn write(&mut self, bytes: &[u8])
         ensures state { self.new ≡ oaat self.old bytes.now }
         ensures known_before { self.old < 2 ^ 64 }
         ensures known_after { self.new < 2 ^ 64 }
     {
+        if let [byte] = bytes {
+            self.state = stepped(self.state, *byte);
+            return;
+        }
         let (few, eights) = bytes.as_rchunks::<8>();
         let mut state = bytes_in(self.state, few);
         for eight in eights {

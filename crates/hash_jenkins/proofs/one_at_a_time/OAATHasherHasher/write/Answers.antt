@@ -1,7 +1,7 @@
-use Rattle.std.proofs.Common.{arith, ◌∙◌, ap}
+use Rattle.std.proofs.Common.{arith, sym, ◌∙◌, ap}
 use Rattle.hash_jenkins.specs.Oaat.{oaat}
 use Rattle.hash_rounds.specs.ByteSteps.{oaat_step}
-use Rattle.hash_laws.proofs.RecurrenceLemmas.{one_eight_more, all_eights}
+use Rattle.hash_laws.proofs.RecurrenceLemmas.{recurrence_one, one_eight_more, all_eights}
 use Rattle.hash_jenkins.proofs.one_at_a_time.OAATHasherHasher.write.Goals as goal
 
 pub loop-eight-preserved : goal.loop-eight-preserved
@@ -31,6 +31,11 @@ bytes_in-state-requires-in-loop-eight c = omega arith
 
 pub loop-eight-smaller : goal.loop-eight-smaller
 loop-eight-smaller c = omega arith
+
+pub returns-in-len1-clause-state : goal.returns-in-len1-clause-state
+returns-in-len1-clause-state c =
+    c.stepped-self-inside.ensures ∙ sym (recurrence_one oaat_step _ _ c.in-len1.len_at_least c.in-len1.len_below)
+    ∙ ap (λ before. oaat before c.args.bytes.now) c.self.view_is
 
 pub returns-clause-state : goal.returns-clause-state
 returns-clause-state c =
