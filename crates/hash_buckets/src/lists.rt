@@ -3,7 +3,7 @@
 //! short, the block has less than four times as many places as the lists had pairs when each was longest. That is reckoned:
 //! no clause speaks of memory.
 //!
-//! Beside its places stand the tags of a list: seven bits of the hash of each of its first eight keys. They say where a key
+//! Beside its places stand the tags of a list: eight bits of the hash of each of its first eight keys. They say where a key
 //! is looked for first, and are a hint: no clause speaks of them, and a wrong one costs a look at the other pairs.
 ghost use Rattle.std.specs.Prelude.{◌≡◌, ◌<◌, ◌≤◌, ◌+◌, List, [], ◌∷◌, ◌++◌, ℕ, length, take, drop, replicate, slice_index_or, slice_set, IfOk, IfErr, OnOk, OnErr};
 ghost use Rattle.std.specs.Global.{Vec};
@@ -17,7 +17,7 @@ use std::mem::replace;
 use std::simd::prelude::*;
 
 /// The places of a list in the block: from `start` on there are `room`, and pairs stand in the first `len` of them. Byte i
-/// of `tags` is the tag of pair i, or 0.
+/// of `tags` is the tag of pair i, and 0 where no pair stands.
 #[derive(Clone, Copy, Drop)]
 struct Extent {
     tags: u64,
@@ -45,10 +45,10 @@ impl Model for Lists {
     ghost invariant = { λ l. IsApart l.extents.items (length l.block.items) };
 }
 
-/// The tag of a key with this hash: its upper seven bits, and a one before them.
+/// The tag of a key with this hash: its upper eight bits.
 #[inline(always)]
 fn tag(hash: u64) -> u8 {
-    (hash >> 57) as u8 | 0x80
+    (hash >> 56) as u8
 }
 
 /// The tags with one more, of pair i.
@@ -73,7 +73,7 @@ fn without_tag(tags: u64, i: usize) -> u64 {
 }
 
 impl Extent {
-    /// Where a key with this hash stands, if one of the tags is its own, and 8 if none is. Another key can have the same tag.
+    /// The first place with the tag of a key with this hash, or 8. Another key can have the same tag, and an empty place 0.
     #[inline(always)]
     fn likely_place(&self, hash: u64) -> usize {
         let tags = u8x8::from_array(self.tags.to_le_bytes());
