@@ -524,7 +524,7 @@ fn write_pairs(file: &str, pairs: &[Pair]) {
     writeln!(file, "{line}").expect("the times written");
 }
 
-/// Measures all whose name has `only` in it.
+/// Measures all whose name has `only` in it; that of the tables of buckets is `Buckets`.
 fn measure_all(sheet: &mut Sheet, only: &str) {
     let mut names = names();
     names.retain(|n| n.name.contains(only));
@@ -543,6 +543,8 @@ fn measure_all(sheet: &mut Sheet, only: &str) {
         behind(sheet, &text);
         readers(sheet, &text);
         unwrites(sheet, &text);
+    }
+    if "Buckets".contains(only) {
         tables(sheet, &text);
     }
 }
