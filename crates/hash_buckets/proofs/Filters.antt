@@ -1,8 +1,6 @@
 -- Filters of buckets, as keys come and go.
 use Rattle.std.proofs.Common.{◌≡◌, ◌≢◌, ℕ, zero, suc, ◌<◌, ◌%◌, true, false, cond, List, [], length, get_or, set, replicate, Option, Some, None, refl, sym, ap, subst, ◌∙◌, arith, length-set, get_or-set_other, ⊎_elim}
 use Rattle.std.specs.Int.{bit_at}
-use Rattle.std.specs.Prelude.{IsTrue}
-use Rattle.std.proofs.lemmas.Nat.Bits.{bit_at-lt}
 use Rattle.std.proofs.lemmas.Bool.{cases_eq}
 use Rattle.std.proofs.lemmas.Grind.{get_or-set_at}
 use Rattle.std.proofs.lemmas.List.{get_or_default, length-replicate}
@@ -14,11 +12,6 @@ no_pairs : (n i : ℕ) → get_or (replicate {A = Pairs} n []) i [] ≡ []
 no_pairs zero i = refl
 no_pairs (suc n) zero = refl
 no_pairs (suc n) (suc i) = no_pairs n i
-
-pub clear_bit : (filter b : ℕ) → (bit_at filter b ≡ 1 → IsTrue false) → bit_at filter b ≡ 0
-clear_bit filter b not_set = ⊎_elim (λ (is : bit_at filter b ≡ 0). is)
-    (λ (ne : bit_at filter b ≢ 0). let one : bit_at filter b ≡ 1 = omega (arith, bit_at-lt filter b, ne) in let no : IsTrue false = not_set one in cc)
-    (cases_eq (bit_at filter b) 0)
 
 -- what has one bit more lacks none
 pub rises : (bit filter more : ℕ) → bit_at more bit ≡ 1 → ((b : ℕ) → b ≢ bit → bit_at more b ≡ bit_at filter b) → (b : ℕ) → bit_at more b ≡ 0 → bit_at filter b ≡ 0
