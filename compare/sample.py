@@ -3,14 +3,15 @@
 
     compare/sample.py ORIGINAL > crates/hash_vectors/src/tests/sample.rt
 
-ORIGINAL is a folder with the crate hashers 1.0.1 and its program `oracle`, which reads a case a line, a name and the
-pieces in hexadecimal, and writes an answer a line.
+(and then `rt fmt` in that crate.) ORIGINAL is a folder with the Rust crate hashers 1.0.1.
 """
-import subprocess
 import sys
 
-NAMES = ["fnv1a32", "fnv1a64", "djb2", "sdbm", "loselose", "bricolage", "oaat", "lookup3", "spooky_v1", "null",
-         "passthrough", "fxhash", "fxhash32", "fxhash64"]
+sys.dont_write_bytecode = True
+from names import names_of_original
+from original import answers, build_oracle, folder_of_original
+
+NAMES = names_of_original()
 
 # length, filling, length of the pieces (0: one piece)
 CASES = [(0, 2, 0), (1, 2, 0), (3, 2, 0), (4, 0, 0), (7, 2, 0), (8, 1, 0), (11, 2, 0), (12, 2, 0), (13, 2, 0), (24, 0, 0),
@@ -25,14 +26,13 @@ def byte(filling, i):
 
 
 def main():
-    oracle = sys.argv[1] + "/oracle"
+    oracle = build_oracle(folder_of_original("compare/sample.py ORIGINAL"))
     lines = []
     for length, filling, piece in CASES:
         text = bytes(byte(filling, i) for i in range(length))
         pieces = [text[at:at + piece] for at in range(0, length, piece)] if piece else [text]
         lines += ["%s %s" % (name, ",".join(p.hex() for p in pieces)) for name in NAMES]
-    done = subprocess.run([oracle, "--lines"], input="\n".join(lines) + "\n", capture_output=True, text=True, check=True)
-    answers = iter(done.stdout.split())
+    found = iter(answers(oracle, lines))
     print("//! Answers of the Rust crate hashers 1.0.1, written by compare/sample.py from that crate's own program.")
     print()
     print("/// A text's length, what fills it, the length of its pieces (0: one piece), and the answers in the order of the names:")
@@ -40,7 +40,7 @@ def main():
     print("/// %s." % ", ".join(NAMES[8:]))
     print("pub const SAMPLE: [(usize, u8, usize, [u64; %d]); %d] = [" % (len(NAMES), len(CASES)))
     for length, filling, piece in CASES:
-        print("    (%d, %d, %d, [%s])," % (length, filling, piece, ", ".join(next(answers) for _ in NAMES)))
+        print("    (%d, %d, %d, [%s])," % (length, filling, piece, ", ".join(str(next(found)) for _ in NAMES)))
     print("];")
 
 

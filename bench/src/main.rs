@@ -8,6 +8,10 @@
 //! multiple of 32 bytes at half its speed, and where a process's pages lie has as much effect on loops of a few cycles. Both
 //! are chance. So this program is linked at four placements and run several times: `measure FILE` writes its medians to the
 //! file, and `tables FILE` measures as well and prints for each side the least median of all.
+
+#[macro_use]
+mod names;
+mod heap;
 mod measure;
 mod original;
 mod ours;
@@ -23,6 +27,9 @@ use measure::{gigahertz, Pair, Sheet};
 use std::fs::OpenOptions;
 use std::hint::black_box;
 use std::io::Write;
+
+#[global_allocator]
+static HEAP: heap::Heap = heap::Heap;
 
 std::arch::global_asm!(concat!(
     ".globl placed\nplaced: .skip ",
@@ -87,9 +94,11 @@ struct Name {
     whole: [Call; 2],
     keys: [CallOfSize; 2],
     pieces: [CallOfSize; 2],
+    /// The original's hash of standard input.
+    input: fn() -> u64,
 }
 
-macro_rules! names {
+macro_rules! table {
     ($($name:ident $hasher:ident $alike_from:literal)*) => {
         vec![$(Name {
             name: stringify!($name),
@@ -97,28 +106,13 @@ macro_rules! names {
             whole: [original::whole::<$hasher>, ours::whole::$name],
             keys: [original::keys::<$hasher>, ours::keys::$name],
             pieces: [original::pieces::<$hasher>, ours::pieces::$name],
+            input: original::input::<$hasher>,
         }),*]
     };
 }
 
 fn names() -> Vec<Name> {
-    names! {
-        fnv1a32 FNV1aHasher32 0
-        fnv1a64 FNV1aHasher64 0
-        djb2 DJB2Hasher 0
-        sdbm SDBMHasher 0
-        loselose LoseLoseHasher 0
-        bricolage Bricolage 0
-        oaat OAATHasher 0
-        lookup3 Lookup3Hasher 0
-        spooky SpookyHasher 192
-        spooky_v1 SpookyHasher 0
-        null NullHasher 0
-        passthrough PassThroughHasher 0
-        fxhash FxHasher 0
-        fxhash32 FxHasher32 0
-        fxhash64 FxHasher64 0
-    }
+    with_names!(table)
 }
 
 /// Bytes that look like nothing, the same in each run.
@@ -419,9 +413,9 @@ fn unwrites(sheet: &mut Sheet, text: &[u8]) {
 
 fn tables(sheet: &mut Sheet, text: &[u8]) {
     head(sheet,
-        "Rust's `HashMap` with the original's hasher / `Buckets` with ours and 4096 buckets, 1000 keys of 16 bytes, ns a key:",
+        "Rust's `HashMap` with the original's hasher / `Buckets` with ours and 1024 buckets, 1000 keys of 16 bytes, ns a key; and the KiB that both hold, keys and all:",
         "name",
-        &["insert into a new table, and free it", "get", "get of a key that isn't there", "insert, remove, and free it"].map(String::from),
+        &["insert into a new table, and free it", "get", "get of a key that isn't there", "insert, remove, and free it", "KiB"].map(String::from),
     );
     let calls: [(&str, [[CallOfTable; 2]; 2], [CallOfSize; 2]); 3] = [
         (
@@ -466,32 +460,21 @@ fn tables(sheet: &mut Sheet, text: &[u8]) {
             original: (with.original - insert.original) / rounds as f64,
             ours: (with.ours - insert.ours) / rounds as f64,
         };
-        row(
-            sheet,
-            name,
-            &[insert, get(found), get(none), remove].map(|pair| cell(pair, count as f64)),
-        );
+        let [theirs, own] = [0, 1].map(|side| heap::held(&|| asked(side, 0)).div_ceil(1024));
+        let mut cells: Vec<String> = [insert, get(found), get(none), remove]
+            .iter()
+            .map(|pair| cell(*pair, count as f64))
+            .collect();
+        cells.push(format!("{theirs} / {own}"));
+        row(sheet, name, &cells);
     }
 }
 
 /// The hash of that name of standard input, by the original, through an array of 4096 bytes and one read a piece.
 fn hash_input(name: &str) -> u64 {
-    match name {
-        "fnv1a32" => original::input::<FNV1aHasher32>(),
-        "fnv1a64" => original::input::<FNV1aHasher64>(),
-        "djb2" => original::input::<DJB2Hasher>(),
-        "sdbm" => original::input::<SDBMHasher>(),
-        "loselose" => original::input::<LoseLoseHasher>(),
-        "bricolage" => original::input::<Bricolage>(),
-        "oaat" => original::input::<OAATHasher>(),
-        "lookup3" => original::input::<Lookup3Hasher>(),
-        "spooky" | "spooky_v1" => original::input::<SpookyHasher>(),
-        "null" => original::input::<NullHasher>(),
-        "passthrough" => original::input::<PassThroughHasher>(),
-        "fxhash" => original::input::<FxHasher>(),
-        "fxhash32" => original::input::<FxHasher32>(),
-        "fxhash64" => original::input::<FxHasher64>(),
-        _ => panic!("no such name: {name}"),
+    match names().iter().find(|it| it.name == name) {
+        Some(found) => (found.input)(),
+        None => panic!("no such name: {name}"),
     }
 }
 

@@ -1,4 +1,5 @@
 //! The calls of the static library, which takes a slice as a pointer and a length, and the heap that it asks for.
+use crate::heap::{given, taken_back};
 use std::alloc::Layout;
 
 macro_rules! calls {
@@ -18,12 +19,21 @@ macro_rules! calls {
     };
 }
 
+macro_rules! calls_of_each_name {
+    ($($name:ident $hasher:ident $alike_from:literal)*) => {
+        calls! {
+            whole (at: *const u8, len: usize): $($name)*;
+            keys (at: *const u8, len: usize, size: usize): $($name)*;
+            pieces (at: *const u8, len: usize, size: usize): $($name)*;
+        }
+    };
+}
+
+with_names!(calls_of_each_name);
+
 calls! {
-    whole (at: *const u8, len: usize): fnv1a32 fnv1a64 djb2 sdbm loselose bricolage oaat lookup3 spooky spooky_v1 null passthrough fxhash fxhash32 fxhash64;
     reader (at: *const u8, len: usize): fnv1a64 sdbm loselose lookup3 spooky fxhash;
     unwrite (at: *const u8, len: usize): fnv1a32 fnv1a64 djb2 sdbm loselose bricolage oaat fxhash fxhash32 fxhash64;
-    keys (at: *const u8, len: usize, size: usize): fnv1a32 fnv1a64 djb2 sdbm loselose bricolage oaat lookup3 spooky spooky_v1 null passthrough fxhash fxhash32 fxhash64;
-    pieces (at: *const u8, len: usize, size: usize): fnv1a32 fnv1a64 djb2 sdbm loselose bricolage oaat lookup3 spooky spooky_v1 null passthrough fxhash fxhash32 fxhash64;
     numbers (at: *const u8, len: usize, width: usize): fnv1a64 djb2 lookup3 fxhash fxhash32 fxhash64;
     behind (at: *const u8, len: usize): fxhash fxhash32 fxhash64;
     buckets (at: *const u8, len: usize, size: usize, rounds: usize): fnv1a64 lookup3 fxhash;
@@ -58,7 +68,7 @@ fn tried(at: *mut u8) -> Tried {
 /// A block of `size` bytes, or of `align` where `size` is 0.
 #[no_mangle]
 pub unsafe extern "C" fn rattle_alloc(size: usize, align: usize) -> Tried {
-    tried(malloc(if size == 0 { align } else { size }))
+    tried(given(malloc(if size == 0 { align } else { size })))
 }
 
 /// The block with another size.
@@ -69,11 +79,13 @@ pub unsafe extern "C" fn rattle_realloc(
     size: usize,
     align: usize,
 ) -> Tried {
-    tried(realloc(at, if size == 0 { align } else { size }))
+    taken_back(at);
+    tried(given(realloc(at, if size == 0 { align } else { size })))
 }
 
 /// Frees the block.
 #[no_mangle]
 pub unsafe extern "C" fn rattle_dealloc(at: *mut u8) {
+    taken_back(at);
     free(at)
 }

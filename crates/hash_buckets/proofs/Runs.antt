@@ -1,8 +1,9 @@
 -- Commands one after another.
 use Rattle.std.proofs.Math.Seq.{take-append_seam}
-use Rattle.std.proofs.Common.{ℕ, ◌≡◌, length, take, sym, ◌∙◌, List, [], ◌∷◌, ◌++◌, fold, refl, ap}
+use Rattle.std.proofs.Common.{ℕ, ◌≡◌, length, take, sym, ◌∙◌, List, [], ◌∷◌, ◌++◌, fold, refl, ap, subst, Some}
+use Rattle.std.specs.Prelude.{slice_get, IsSomeAnd}
 use Rattle.hash_buckets.specs.Table.{Table}
-use Rattle.hash_buckets.specs.Commands.{content_after, reply_to, replies_to}
+use Rattle.hash_buckets.specs.Commands.{content_after, reply_to, replies_to, NeedsMemory, StopsAt}
 use Rattle.hash_buckets.specs.declared.Command.{Command}
 
 -- one command more
@@ -11,7 +12,19 @@ pub replies_to-push : (table : Table) (done : List Command) (command : Command)
 replies_to-push table [] command = refl
 replies_to-push table (first ∷ done) command = ap (λ replies. reply_to table first ∷ replies) (replies_to-push (content_after table first) done command)
 
--- the commands that were done are a beginning of all
-pub begun : (table now : Table) (all done left : List Command) → all ≡ done ++ left → now ≡ fold content_after table done
-    → (n : ℕ) × (now ≡ fold content_after table (take n all))
-begun table now all done left split so_far = (length done, so_far ∙ ap (fold content_after table) (sym (take-append_seam done left) ∙ ap (take (length done)) (sym split)))
+-- the command behind those that were done
+next : (done : List Command) (command : Command) (left : List Command) → slice_get (done ++ command ∷ left) (length done) ≡ Some command
+next [] command left = refl
+next (first ∷ done) command left = next done command left
+
+-- the commands that were done are a beginning of all, and the one behind them found no memory
+pub stops_at : (start now : Table) (all done : List Command) (command : Command) (left : List Command) → all ≡ done ++ command ∷ left
+    → (table : Table) → table ≡ fold content_after start done → now ≡ table → NeedsMemory table command → (n : ℕ) × StopsAt n start all now
+stops_at start now all done command left split table so_far same wanted = (
+  length done,
+  record {
+    content = same ∙ so_far ∙ ap (fold content_after start) (sym (take-append_seam done (command ∷ left)) ∙ ap (take (length done)) (sym split));
+    wanted = λ some. subst (λ commands. IsSomeAnd (slice_get commands (length done)) (NeedsMemory now)) (sym split)
+        (subst (λ o. IsSomeAnd o (NeedsMemory now)) (sym (next done command left)) (subst (λ t. NeedsMemory t command) (sym same) wanted));
+  },
+)

@@ -1,5 +1,6 @@
-//! The hashes of cases: each line of standard input is a name and the pieces of a text in hexadecimal, with commas between
-//! them, and each line of standard output the hash of that name. For comparing with other programs.
+//! The hashes of cases: each line of standard input is the pieces of a text in hexadecimal, with commas between them, and
+//! each line of standard output their hashes, in the order in which `hashof` lists its names. For comparing with other
+//! programs.
 #![tactic(auto)]
 
 use hashers::fnv::{FNV1aHasher32, FNV1aHasher64};
@@ -34,39 +35,44 @@ fn bytes_of(alloc: Global, hex: &str) -> Result<Vec<u8>, AllocError> {
     Ok(bytes)
 }
 
+/// The pieces of a line.
+fn pieces_of(alloc: Global, line: &str) -> Result<Vec<Vec<u8>>, AllocError> {
+    let mut pieces = Vec::new(alloc);
+    for piece in line.split(',') {
+        pieces.push(bytes_of(alloc, piece)?)?;
+    }
+    Ok(pieces)
+}
+
 /// A hasher that was fed the pieces.
-fn fed<H: Piecewise>(alloc: Global, pieces: &str) -> Result<H, AllocError> {
+fn fed<H: Piecewise>(pieces: &[Vec<u8>]) -> H {
     let mut hasher = H::fresh();
-    for piece in pieces.split(',') {
-        hasher.feed(&bytes_of(alloc, piece)?);
+    for piece in pieces {
+        hasher.feed(piece);
     }
-    Ok(hasher)
+    hasher
 }
 
-/// What a hasher answers to the pieces.
-fn answer<H: Piecewise>(alloc: Global, pieces: &str) -> Result<u64, AllocError> {
-    Ok(fed::<H>(alloc, pieces)?.answer())
-}
-
-/// The hash of that name of the pieces, 0 for any other name.
-fn hash_of(alloc: Global, name: &str, pieces: &str) -> Result<u64, AllocError> {
-    match name {
-        "fnv1a32" => answer::<FNV1aHasher32>(alloc, pieces),
-        "fnv1a64" => answer::<FNV1aHasher64>(alloc, pieces),
-        "djb2" => answer::<DJB2Hasher>(alloc, pieces),
-        "sdbm" => answer::<SDBMHasher>(alloc, pieces),
-        "loselose" => answer::<LoseLoseHasher>(alloc, pieces),
-        "bricolage" => answer::<Bricolage>(alloc, pieces),
-        "oaat" => answer::<OAATHasher>(alloc, pieces),
-        "lookup3" => answer::<Lookup3Hasher>(alloc, pieces),
-        "spooky" => answer::<SpookyHasher>(alloc, pieces),
-        "spooky_v1" => Ok(fed::<SpookyHasher>(alloc, pieces)?.finish128_v1().0),
-        "passthrough" => answer::<PassThroughHasher>(alloc, pieces),
-        "fxhash" => answer::<FxHasher>(alloc, pieces),
-        "fxhash32" => answer::<FxHasher32>(alloc, pieces),
-        "fxhash64" => answer::<FxHasher64>(alloc, pieces),
-        _ => answer::<NullHasher>(alloc, pieces),
-    }
+/// What each hasher answers to the pieces.
+fn hashes(pieces: &[Vec<u8>]) -> [u64; 15] {
+    let spooky = fed::<SpookyHasher>(pieces);
+    [
+        fed::<FNV1aHasher32>(pieces).answer(),
+        fed::<FNV1aHasher64>(pieces).answer(),
+        fed::<DJB2Hasher>(pieces).answer(),
+        fed::<SDBMHasher>(pieces).answer(),
+        fed::<LoseLoseHasher>(pieces).answer(),
+        fed::<Bricolage>(pieces).answer(),
+        fed::<OAATHasher>(pieces).answer(),
+        fed::<Lookup3Hasher>(pieces).answer(),
+        spooky.answer(),
+        spooky.finish128_v1().0,
+        fed::<NullHasher>(pieces).answer(),
+        fed::<PassThroughHasher>(pieces).answer(),
+        fed::<FxHasher>(pieces).answer(),
+        fed::<FxHasher32>(pieces).answer(),
+        fed::<FxHasher64>(pieces).answer(),
+    ]
 }
 
 fn main(rt: HostRuntime) -> io::Result<()> {
@@ -74,10 +80,11 @@ fn main(rt: HostRuntime) -> io::Result<()> {
     let input = BufReader::new(alloc, rt.stdin())?;
     let mut output = BufWriter::new(alloc, rt.stdout())?;
     for line in input.lines(alloc) {
-        let line = line?;
-        let (name, pieces) = line.as_str().split_once(' ').unwrap_or((line.as_str(), ""));
-        let hash = hash_of(alloc, name, pieces)?;
-        writeln!(output, "{hash}")?;
+        let pieces = pieces_of(alloc, &line?)?;
+        for hash in hashes(&pieces) {
+            write!(output, "{hash} ")?;
+        }
+        writeln!(output)?;
     }
     output.flush()
 }

@@ -1,3 +1,5 @@
+pub mod ByPlace
+pub mod FixedWidths
 pub mod CutsLemmas
 pub mod Narrowed
 pub mod OneApart

@@ -1,13 +1,13 @@
 -- Lists of pieces that differ at one byte.
-use Rattle.std.proofs.Common.{◌≡◌, ◌≢◌, ℕ, ◌<◌, ◌^◌, List, [], ◌∷◌, ◌++◌, length, fold, refl, sym, ap, ◌∙◌, inl, inr, subst, lit≤, lit<}
+use Rattle.std.proofs.Common.{◌≡◌, ◌≢◌, ℕ, ◌<◌, ◌^◌, List, [], ◌∷◌, ◌++◌, length, fold, refl, sym, ap, ◌∙◌, inl, inr, subst, lit<}
 use Rattle.std.specs.Prelude.{All}
 use Rattle.std.specs.List.{flat_map}
 use Rattle.std.proofs.Math.Path.{ap₂}
 use Rattle.std.proofs.lemmas.List.Sums.{fold-append}
 use Rattle.std.proofs.lemmas.List.Elements.{All-nil, All-head, All-tail, All-append}
-use Rattle.hash_rounds.specs.ByteSteps.{fx32_step, fx64_step}
-use Rattle.hash_rounds.proofs.ByteStepLemmas.{LosesNothing}
-use Rattle.hash_rounds.proofs.FxStepLemmas.{fx32_loses_nothing, fx64_loses_nothing}
+use Rattle.hash_fx.specs.Fx.{fx32_step, fx64_step}
+use Rattle.hash_rounds.specs.StepFacts.{StepFacts}
+use Rattle.hash_fx.specs.FxStepLaws.{fx32_facts, fx64_facts}
 use Rattle.hash_laws.specs.Text.{IsText, joined, texts}
 use Rattle.hash_laws.specs.Recurrence.{recurrence}
 use Rattle.hash_laws.proofs.FoldLemmas.{fold_cancels}
@@ -49,7 +49,7 @@ words-apart words tells (p ∷ x) (q ∷ y) cuts xs ys one =
           (OneApart-append_right (words p.now) _ _ (words-apart words tells x y later (All-tail IsText p.now (texts x) xs) (All-tail IsText q.now (texts y) ys) back.1))
     ]
 
-module _ (w : ℕ) (step : ℕ → ℕ → ℕ) (loses : LosesNothing step (2 ^ w) (2 ^ w)) where
+module _ (w : ℕ) (step : ℕ → ℕ → ℕ) (loses : StepFacts step (2 ^ w) (2 ^ w)) where
   -- one word apart, and so in the state
   fold-apart : (s : ℕ) (u v : List ℕ) → s < 2 ^ w → All (IsWord w) u → All (IsWord w) v → OneApart u v → fold step s u ≢ fold step s v
   fold-apart s [] [] known us vs one = absurd one
@@ -61,8 +61,8 @@ module _ (w : ℕ) (step : ℕ → ℕ → ℕ) (loses : LosesNothing step (2 ^ 
       let rest = All-tail (IsWord w) a u us in
       elim one [
         | inl here ↦
-            λ same. here.0 (loses.same_item s a b known first second
-            (fold_cancels step (IsWord w) (IsWord w) loses.in_range loses.same_state (step s a) (step s b) u (loses.in_range s a known first) (loses.in_range s b known second) rest
+            λ same. here.0 (loses.item_injective s a b known first second
+            (fold_cancels step (IsWord w) (IsWord w) loses.in_range loses.state_injective (step s a) (step s b) u (loses.in_range s a known first) (loses.in_range s b known second) rest
             (same ∙ ap (fold step (step s b)) (sym here.1))))
         | inr later ↦
             λ same. fold-apart (step s a) u v (loses.in_range s a known first) rest (All-tail (IsWord w) b v vs) later.1
@@ -89,7 +89,7 @@ module _ (w : ℕ) (step : ℕ → ℕ → ℕ) (loses : LosesNothing step (2 ^ 
         (sym (fold-pieces s (texts x)) ∙ same ∙ fold-pieces s (texts y))
 
 pub fx64_pieces-differ : (x y : Pieces) → All IsText (texts x) → All IsText (texts y) → DifferByOneByte x y → fx64_pieces 0 (texts x) ≢ fx64_pieces 0 (texts y)
-fx64_pieces-differ x y xs ys d = pieces-differ 64 fx64_step fx64_loses_nothing words64 words64-fit words64-apart 0 x y (lit< tt) xs ys d
+fx64_pieces-differ x y xs ys d = pieces-differ 64 fx64_step fx64_facts words64 words64-fit words64-apart 0 x y (lit< tt) xs ys d
 
 pub fx32_pieces-differ : (x y : Pieces) → All IsText (texts x) → All IsText (texts y) → DifferByOneByte x y → fx32_pieces 0 (texts x) ≢ fx32_pieces 0 (texts y)
-fx32_pieces-differ x y xs ys d = pieces-differ 32 fx32_step fx32_loses_nothing words32 (λ piece. words32-fit 32 piece (lit≤ tt)) words32-apart 0 x y (lit< tt) xs ys d
+fx32_pieces-differ x y xs ys d = pieces-differ 32 fx32_step fx32_facts words32 words32-fit words32-apart 0 x y (lit< tt) xs ys d

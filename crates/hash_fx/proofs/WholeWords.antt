@@ -6,7 +6,7 @@ use Rattle.std.proofs.lemmas.List.{append-nil, map-append, length-append, drop_a
 use Rattle.std.specs.Simd.{first_chunks}
 use Rattle.hash_rounds.specs.Words.{le}
 use Rattle.hash_rounds.specs.Blocks.{pieces}
-use Rattle.hash_rounds.specs.ByteSteps.{fx32_step, fx64_step}
+use Rattle.hash_fx.specs.Fx.{fx32_step, fx64_step}
 use Rattle.hash_rounds.proofs.Chunks.{first_chunks-append}
 use Rattle.hash_laws.specs.Recurrence.{recurrence}
 use Rattle.hash_laws.specs.Text.{joined, texts}
@@ -66,7 +66,7 @@ module _ (step : ℕ → ℕ → ℕ) (words : List ℕ → List ℕ) (n : ℕ)
   at_more start state next i pieces whole below led before =
       let so_far = joined (take i pieces) in
       let piece = (get_or pieces i no_piece).now in
-      let more : joined (take (i + 1) pieces) ≡ so_far ++ piece = joined_more [] pieces i no_piece below in
+      let more : joined (take (i + 1) pieces) ≡ so_far ++ piece = joined_more (λ piece. piece.now) [] pieces i no_piece below in
       record {
         there = led ∙ ap (λ s. recurrence step s (words piece)) before.there ∙ sym (recurrence-append step start (words so_far) (words piece))
             ∙ ap (recurrence step start) (sym (joins so_far piece (before.whole below))) ∙ ap (λ t. recurrence step start (words t)) (sym more);

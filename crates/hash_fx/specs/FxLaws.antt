@@ -1,5 +1,5 @@
 -- Laws of a piece's words, which the impls of the traits cite; they may name no lemma of this crate's own proofs.
-use Rattle.std.proofs.Common.{ℕ, zero, suc, ◌≡◌, ◌/◌, ◌^◌, ◌<◌, ◌≤◌, List, [], ◌∷◌, length, take, drop, map, get_or, sym, ◌∙◌, arith, lit<}
+use Rattle.std.proofs.Common.{ℕ, zero, suc, refl, ◌≡◌, ◌/◌, ◌^◌, ◌<◌, ◌≤◌, List, [], ◌∷◌, length, take, drop, map, get_or, ap, ◌∙◌, arith, lit<}
 use Rattle.std.specs.Prelude.{All}
 use Rattle.std.specs.Simd.{first_chunks}
 use Rattle.std.proofs.Math.Nat.{pow-le-pow_right, pow-suc}
@@ -7,12 +7,10 @@ use Rattle.std.proofs.lemmas.List.{length-take}
 use Rattle.std.proofs.lemmas.List.Elements.{All-nil, All-cons, All-head, All-tail, All-take, All-drop, All-append}
 use Rattle.hash_rounds.specs.Words.{le}
 use Rattle.hash_rounds.specs.Blocks.{pieces}
-use Rattle.hash_rounds.specs.ByteSteps.{fx32_step, fx64_step}
-use Rattle.hash_rounds.proofs.FxStepLemmas.{fx32_loses_nothing, fx64_loses_nothing}
+use Rattle.hash_fx.specs.Fx.{fx32_step, fx64_step}
 use Rattle.hash_laws.specs.Text.{IsText}
 use Rattle.hash_laws.proofs.TextLemmas.{IsByte}
-use Rattle.hash_laws.proofs.FoldLemmas.{fold_is_state, fold_cancels}
-use Rattle.hash_laws.proofs.RecurrenceLemmas.{recurrence-fold}
+use Rattle.hash_laws.proofs.RecurrenceLemmas.{recurrence-nil}
 use Rattle.hash_fx.specs.Fx.{fx32, fx64, words32, words64}
 
 -- n bytes are a number below 256^n
@@ -43,40 +41,31 @@ whole_words w n text = chunk_words w n (length text / n) text
 single_words : (w : ℕ) (text : List ℕ) → 256 ≤ 2 ^ w → IsText text → All (IsWord w) text
 single_words w text fits bytes = λ k d below. let h : get_or text k d < 256 = bytes k d below in omega (arith, h, fits)
 
-pub words32-fit : (w : ℕ) (piece : List ℕ) → 2 ^ 32 ≤ 2 ^ w → IsText piece → All (IsWord w) (words32 piece)
-words32-fit w piece fits bytes =
+words_fit : (w : ℕ) (piece : List ℕ) → 2 ^ 32 ≤ 2 ^ w → IsText piece → All (IsWord w) (words32 piece)
+words_fit w piece fits bytes =
     All-append (IsWord w) _ _ (whole_words w 4 piece (omega (arith, fits)) bytes)
     (single_words w _ (omega (arith, fits)) (All-drop IsByte _ piece bytes))
+
+pub words32-fit : (piece : List ℕ) → IsText piece → All (IsWord 32) (words32 piece)
+words32-fit piece bytes = words_fit 32 piece (omega arith) bytes
 
 pub words64-fit : (piece : List ℕ) → IsText piece → All (IsWord 64) (words64 piece)
 words64-fit piece bytes =
     All-append (IsWord 64) _ _ (whole_words 64 8 piece (omega arith) bytes)
-    (words32-fit 64 _ (omega arith) (All-drop IsByte _ piece bytes))
+    (words_fit 64 _ (omega arith) (All-drop IsByte _ piece bytes))
 
--- ---- what a piece does to a state
-
-pub fx32_below : (s : ℕ) (piece : List ℕ) → s < 2 ^ 32 → IsText piece → fx32 s (words32 piece) < 2 ^ 32
-fx32_below s piece known bytes =
-    rw recurrence-fold (fold_is_state fx32_step (IsWord 32) (IsWord 32) fx32_loses_nothing.in_range s (words32 piece) known (words32-fit 32 piece (omega arith) bytes))
-
-pub fx64_below : (s : ℕ) (piece : List ℕ) → s < 2 ^ 64 → IsText piece → fx64 s (words64 piece) < 2 ^ 64
-fx64_below s piece known bytes =
-    rw recurrence-fold (fold_is_state fx64_step (IsWord 64) (IsWord 64) fx64_loses_nothing.in_range s (words64 piece) known (words64-fit piece bytes))
-
-pub fx32_nothing : (s : ℕ) → fx32 s (words32 []) ≡ s
+-- no bytes are no words
+pub words32-nil : words32 [] ≡ []
 unfolding pieces
-fx32_nothing s = recurrence-fold fx32_step s (words32 [])
+words32-nil = refl
+
+pub words64-nil : words64 [] ≡ []
+unfolding pieces
+words64-nil = refl
+
+-- a piece of no bytes changes nothing
+pub fx32_nothing : (s : ℕ) → fx32 s (words32 []) ≡ s
+fx32_nothing s = ap (fx32 s) words32-nil ∙ recurrence-nil fx32_step s
 
 pub fx64_nothing : (s : ℕ) → fx64 s (words64 []) ≡ s
-unfolding pieces
-fx64_nothing s = recurrence-fold fx64_step s (words64 [])
-
-pub fx32_before : (s t : ℕ) (piece : List ℕ) → s < 2 ^ 32 → t < 2 ^ 32 → IsText piece → fx32 s (words32 piece) ≡ fx32 t (words32 piece) → s ≡ t
-fx32_before s t piece ks kt bytes same =
-    fold_cancels fx32_step (IsWord 32) (IsWord 32) fx32_loses_nothing.in_range fx32_loses_nothing.same_state s t (words32 piece) ks kt (words32-fit 32 piece (omega arith) bytes)
-    (sym (recurrence-fold fx32_step s (words32 piece)) ∙ same ∙ recurrence-fold fx32_step t (words32 piece))
-
-pub fx64_before : (s t : ℕ) (piece : List ℕ) → s < 2 ^ 64 → t < 2 ^ 64 → IsText piece → fx64 s (words64 piece) ≡ fx64 t (words64 piece) → s ≡ t
-fx64_before s t piece ks kt bytes same =
-    fold_cancels fx64_step (IsWord 64) (IsWord 64) fx64_loses_nothing.in_range fx64_loses_nothing.same_state s t (words64 piece) ks kt (words64-fit piece bytes)
-    (sym (recurrence-fold fx64_step s (words64 piece)) ∙ same ∙ recurrence-fold fx64_step t (words64 piece))
+fx64_nothing s = ap (fx64 s) words64-nil ∙ recurrence-nil fx64_step s

@@ -1,145 +1,92 @@
 //! The fx hash at 64 bits.
-ghost use Rattle.std.specs.Prelude.{◌≡◌, ◌≢◌, ◌<◌, ◌↔◌, ◌^◌, ℕ, IsSome, IsSomeAnd, IfSome, IfNone, refl};
+ghost use Rattle.std.specs.Prelude.{◌≡◌, ◌^◌, refl};
 ghost use Rattle.std.proofs.Common.{lit<};
-ghost use Rattle.hash_rounds.specs.ByteSteps.{fx64_step};
-ghost use Rattle.hash_fx.specs.Fx.{fx64, words64};
-ghost use Rattle.hash_fx.specs.FxLaws.{fx64_below, fx64_nothing, fx64_before};
+ghost use Rattle.hash_laws.proofs.RecurrenceLemmas.{recurrence-fold};
+ghost use Rattle.hash_fx.specs.Fx.{fx64, fx64_step, words64};
+ghost use Rattle.hash_fx.specs.FxLaws.{words64-fit, words64-nil};
+ghost use Rattle.hash_fx.specs.FxStepLaws.{fx64_facts};
 
-use crate::words64::{word_in, word_out, words_in, words_out};
-use hash_laws::laws::{Piecewise, Undo};
+use crate::words64::{word_out, words_in, words_out};
+use hash_rules::{WordHasher, WordRule};
 use std::hash::Hasher;
-use std::marker::Model;
 
-/// fx at 64 bits, which came from Firefox's hash tables to those of rustc. The start is 0, and a word `v` takes the
-/// state `h` to `(rotl(h, 5) ^ v) * 0x517cc1b727220a95`, modulo 2^64.
-///
-/// Each write is split into little-endian words by itself: words of eight bytes, then one of four bytes if at least four
-/// are left, then single bytes. So the cuts between writes may show. Contracts see a hasher as its state, a number below
-/// 2^64.
-pub struct FxHasher64 {
-    state: u64,
-}
+/// The rule of fx at 64 bits.
+pub struct Fx64Rule;
 
-impl Model for FxHasher64 {
-    ghost Value = { ℕ };
+impl WordRule for Fx64Rule {
+    type Word = u64;
 
-    ghost view = { λ h. h.state };
-}
+    ghost number = { λ s. s };
 
-impl Drop for FxHasher64 {
-    fn drop(self) {
-        let Self { state: _ } = self;
-    }
-}
+    ghost bound = { 2 ^ 64 };
 
-impl Default for FxHasher64 {
-    ghost is_default = { λ h. h ≡ 0 };
+    ghost start = { 0 };
 
-    /// The hasher of no words.
-    fn default() -> FxHasher64 {
-        FxHasher64 { state: 0 }
-    }
-}
+    ghost step = { fx64_step };
 
-impl Hasher for FxHasher64 {
-    ghost write = { λ h piece. fx64 h (words64 piece) };
-
-    ghost finish = { λ h. h };
-
-    /// The state.
-    #[inline(always)]
-    fn finish(&self) -> u64
-        ensures value { result ≡ self.now }
-        ensures known { self.now < 2 ^ 64 }
-    {
-        self.state // as it is, at 64 bits
-    }
-
-    /// Takes the words of the piece in. Each write is split by itself.
-    #[inline(always)]
-    fn write(&mut self, piece: &[u8])
-        ensures state { self.new ≡ fx64 self.old (words64 piece.now) }
-        ensures known_before { self.old < 2 ^ 64 }
-        ensures known_after { self.new < 2 ^ 64 }
-    {
-        self.state = words_in(self.state, piece);
-    }
-}
-
-impl Piecewise for FxHasher64 {
-    ghost State = { ℕ };
-
-    ghost state = { λ h. h };
-
-    ghost is_state = { λ s. s < 2 ^ 64 };
-
-    ghost fresh = { 0 };
+    ghost words = { words64 };
 
     ghost after = { λ s piece. fx64 s (words64 piece) };
 
-    ghost answer = { λ s. s };
+    ghost write = { λ s piece. fx64 s (words64 piece) };
 
-    fn fresh() -> FxHasher64 {
-        FxHasher64::default()
+    fn start() -> u64 {
+        0
     }
 
     #[inline(always)]
-    fn feed(&mut self, piece: &[u8]) {
-        self.write(piece);
+    fn write(state: u64, piece: &[u8]) -> u64 {
+        words_in(state, piece)
     }
 
     #[inline(always)]
-    fn answer(&self) -> u64 {
-        self.finish()
+    fn unwrite(state: u64, piece: &[u8]) -> u64 {
+        words_out(state, piece)
     }
 
-    ghost default_is_fresh = { λ h same. same };
+    #[inline(always)]
+    fn unstep(state: u64, word: u64) -> u64 {
+        word_out(state, word)
+    }
 
-    ghost write_feeds = { λ h piece. refl };
+    #[inline(always)]
+    fn answer(state: u64) -> u64 {
+        state
+    }
 
-    ghost finish_answers = { λ h. refl };
+    fn unanswer(hash: u64) -> Option<u64> {
+        Some(hash)
+    }
 
-    ghost fresh_is_state = { lit< tt };
+    ghost start_in_range = { lit< tt };
 
-    ghost after_is_state = { fx64_below };
+    ghost facts = { fx64_facts };
 
-    ghost after_nothing = { λ s known. fx64_nothing s };
+    ghost words_in_range = { words64-fit };
+
+    ghost no_words = { words64-nil };
+
+    ghost is_fold = { λ s piece. recurrence-fold fx64_step s (words64 piece) };
+
+    ghost write_is_after = { λ s piece. refl };
 }
 
-impl Undo for FxHasher64 {
-    /// Takes the words of the piece out, from the last to the first.
-    #[inline(always)]
-    fn unwrite(&mut self, piece: &[u8]) {
-        self.state = words_out(self.state, piece);
-    }
+/// fx at 64 bits, which came from Firefox's hash tables to those of rustc (the crate fxhash has its formula and key).
+///
+/// From 0, a word `v` takes the state `h` to `(rotl(h, 5) ^ v) * 0x517cc1b727220a95`, modulo 2^64; `finish` answers `h`. Each
+/// write is split into little-endian words by itself: words of eight bytes, then one of four bytes if at least four are
+/// left, then single bytes. So the cuts between writes may show. Each write can be undone, by `unwrite` or word by word.
+///
+/// Contracts see the hasher as its state, a number below 2^64: `write` gives `h.new ≡ fx64 h.old (words64 piece.now)`, and
+/// `unwrite_word(v)` gives `fx64_step h.new v ≡ h.old`. Of `a` the hash is 16160435425421689461.
+pub type FxHasher64 = WordHasher<Fx64Rule>;
 
-    /// The hasher with this state, which every answer has.
-    fn unfinish(answer: u64) -> Option<FxHasher64>
-        ensures exact { IsSomeAnd result (λ h. h ≡ answer) }
-        ensures some { IfSome result (λ h. h ≡ answer) }
-        ensures known { IfSome result (λ h. h < 2 ^ 64) }
-        ensures none { IfNone result ((s : ℕ) → s < 2 ^ 64 → s ≢ answer) }
-    {
-        Some(FxHasher64 { state: answer })
-    }
+/// The name of fx at the width of a machine word.
+pub struct MachineWord;
 
-    ghost one_before = { fx64_before };
-
-    ghost one_answer = { λ s t ks kt same. same };
-}
-
-impl FxHasher64 {
-    /// Takes one word out again, the inverse of `write_u64` of the same word, both ways, on every state.
-    #[inline(always)]
-    pub fn unwrite_word(&mut self, v: u64)
-        ensures back { fx64_step self.new v ≡ self.old }
-        ensures undone { (s : ℕ) → s < 2 ^ 64 → fx64_step s v ≡ self.old → self.new ≡ s }
-        ensures known_before { self.old < 2 ^ 64 }
-        ensures known_after { self.new < 2 ^ 64 }
-    {
-        self.state = word_out(self.state, v);
-    }
-}
+/// fx at the width of a machine word, which here is always 64 bits: a type of its own that splits, hashes and answers as
+/// [`FxHasher64`] does, with the same contracts.
+pub type FxHasher = WordHasher<Fx64Rule, MachineWord>;
 
 /// The answer of a default `FxHasher64` to the bytes as one write.
 #[inline(always)]
@@ -147,6 +94,16 @@ pub fn fxhash64(bytes: &[u8]) -> u64
     ensures { result ≡ fx64 0 (words64 bytes.now) }
 {
     let mut hasher = FxHasher64::default();
+    hasher.write(bytes);
+    hasher.finish()
+}
+
+/// The answer of a default `FxHasher` to the bytes as one write.
+#[inline(always)]
+pub fn fxhash(bytes: &[u8]) -> u64
+    ensures { result ≡ fx64 0 (words64 bytes.now) }
+{
+    let mut hasher = FxHasher::default();
     hasher.write(bytes);
     hasher.finish()
 }

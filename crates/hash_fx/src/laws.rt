@@ -1,37 +1,39 @@
 //! Laws of the fx hashes: where the cuts of a list of pieces don't show, and where one byte does.
-ghost use Rattle.std.specs.Prelude.{◌≡◌, ◌≢◌, ◌↔◌, ◌<◌, ◌^◌, ◌/◌, ◌%◌, ℕ, [], ◌∷◌, All, IsTrue, length, map};
+ghost use Rattle.std.specs.Prelude.{◌≡◌, ◌≢◌, ◌↔◌, ◌<◌, ◌≤◌, ◌^◌, ◌+◌, ◌*◌, ◌/◌, ◌%◌, ℕ, List, [], ◌∷◌, All, IsTrue, length, map, take, drop, slice_index};
+ghost use Rattle.std.specs.List.{flat_map};
+ghost use denote.Bor.{Bor};
+ghost use Rattle.hash_rounds.specs.Words.{le};
 ghost use Rattle.std.specs.Bool.{OnTrue};
 ghost use Rattle.std.specs.Hash.{le_bytes};
-ghost use Rattle.hash_rounds.specs.ByteSteps.{fx32_step, fx64_step};
+ghost use Rattle.hash_fx.specs.Fx.{fx32_step, fx64_step};
 ghost use Rattle.hash_laws.specs.Text.{IsText, joined, texts};
 ghost use Rattle.hash_fx.specs.Fx.{fx32, fx64, words32, words64};
 ghost use Rattle.hash_fx.specs.Pieces.{AreWhole, DifferByOneByte, fx32_pieces, fx64_pieces};
 
-use crate::fx::FxHasher;
 use crate::fx32::FxHasher32;
-use crate::fx64::FxHasher64;
+use crate::fx64::{Fx64Rule, FxHasher64};
 use hash_laws::window::differ_at_one_place;
+use hash_rules::WordHasher;
 use std::hash::Hasher;
 
 /// Writes the pieces in order. The state is that after one write of the joined bytes, since the length of each piece but
-/// the last is a multiple of eight, so that no cut falls into a word. There may be no pieces at all.
-pub fn run_words(h: &mut FxHasher, pieces: &[&[u8]])
+/// the last is a multiple of eight, so that no cut falls into a word. There may be no pieces at all. It takes either type
+/// of 64 bits.
+pub fn run_words<Name>(h: &mut WordHasher<Fx64Rule, Name>, pieces: &[&[u8]])
     requires { AreWhole 8 pieces.now }
     ensures { h.new ≡ fx64 h.old (words64 (joined pieces.now)) }
 {
     for piece in pieces {
-        h.write(piece); // on the machine's words
+        h.write(piece);
     }
 }
 
-/// The same as `run_words`, on `FxHasher64`.
+/// The same as `run_words`, on `FxHasher64` alone.
 pub fn run_words64(h: &mut FxHasher64, pieces: &[&[u8]])
     requires { AreWhole 8 pieces.now }
     ensures { h.new ≡ fx64 h.old (words64 (joined pieces.now)) }
 {
-    for piece in pieces {
-        h.write(piece); // at 64 bits
-    }
+    run_words(h, pieces)
 }
 
 /// The same on `FxHasher32`, where the lengths are multiples of four.
@@ -39,8 +41,8 @@ pub fn run_words32(h: &mut FxHasher32, pieces: &[&[u8]])
     requires { AreWhole 4 pieces.now }
     ensures { h.new ≡ fx32 h.old (words32 (joined pieces.now)) }
 {
-    for piece in pieces {
-        h.write(piece); // at 32 bits
+    for part in pieces {
+        h.write(part);
     }
 }
 
@@ -78,7 +80,7 @@ pub fn apart_by_one_fx(x: &[&[u8]], y: &[&[u8]]) -> bool
     ensures differ_32 { OnTrue result (fx32_pieces 0 (texts x.now) ≢ fx32_pieces 0 (texts y.now)) }
 {
     if !same_cuts(x, y) {
-        return false; // whatever the joined bytes are
+        return false;
     }
     let mut apart = false;
     for i in 0..x.len() {
@@ -89,7 +91,7 @@ pub fn apart_by_one_fx(x: &[&[u8]], y: &[&[u8]]) -> bool
             apart = true;
         }
     }
-    apart // so far none differed, or one
+    apart
 }
 
 /// At 64 bits a number of 8, 32 or 64 bits is one word, as `write_u8`, `write_u32`, `write_u64` and `write_usize` write
@@ -111,4 +113,45 @@ pub fn fixed_widths_are_words32()
     ensures four_bytes { (h v : ℕ) → v < 2 ^ 32 → fx32 h (words32 (le_bytes 4 v)) ≡ fx32_step h v }
     ensures eight_bytes { (h v : ℕ) → v < 2 ^ 64
         → fx32 h (words32 (le_bytes 8 v)) ≡ fx32_step (fx32_step h (v % 2 ^ 32)) (v / 2 ^ 32) }
+{}
+
+/// The words of a piece by 64 bits, by place, a law with no code: first a little-endian word of each eight bytes, then one of
+/// four bytes where at least four are left, and then each byte that is left.
+pub fn words_by_place64()
+    ensures eights { (t : List ℕ) (i : ℕ) → i < length t / 8
+        → slice_index (words64 t) i ≡ le (take 8 (drop (i * 8) t)) }
+    ensures four { (t : List ℕ) → 4 ≤ length t % 8
+        → slice_index (words64 t) (length t / 8) ≡ le (take 4 (drop (length t / 8 * 8) t)) }
+    ensures bytes { (t : List ℕ) (i : ℕ)
+        → slice_index (words64 t) (length t / 8 + length t % 8 / 4 + i)
+        ≡ slice_index t (length t / 4 * 4 + i) }
+    ensures count { (t : List ℕ)
+        → length (words64 t) ≡ length t / 8 + length t % 8 / 4 + length t % 4 }
+{}
+
+/// The words of a piece by 32 bits, by place, a law with no code: first a little-endian word of each four bytes, and then each
+/// byte that is left.
+pub fn words_by_place32()
+    ensures fours { (t : List ℕ) (i : ℕ) → i < length t / 4
+        → slice_index (words32 t) i ≡ le (take 4 (drop (i * 4) t)) }
+    ensures bytes { (t : List ℕ) (i : ℕ)
+        → slice_index (words32 t) (length t / 4 + i) ≡ slice_index t (length t / 4 * 4 + i) }
+    ensures count { (t : List ℕ) → length (words32 t) ≡ length t / 4 + length t % 4 }
+{}
+
+/// The state after pieces is the recurrence over all words of all pieces, one after the other: a law with no code.
+pub fn pieces_are_their_words()
+    ensures at_64 { (s : ℕ) (pieces : List (List ℕ))
+        → fx64_pieces s pieces ≡ fx64 s (flat_map words64 pieces) }
+    ensures at_32 { (s : ℕ) (pieces : List (List ℕ))
+        → fx32_pieces s pieces ≡ fx32 s (flat_map words32 pieces) }
+{}
+
+/// One changed byte shows, a law with no code: two lists of pieces of the same lengths one by one, of which exactly one byte
+/// of all differs, have different hashes.
+pub fn one_changed_byte_shows_fx()
+    ensures at_64 { (x y : List (Bor (List ℕ))) → All IsText (texts x) → All IsText (texts y)
+        → DifferByOneByte x y → fx64_pieces 0 (texts x) ≢ fx64_pieces 0 (texts y) }
+    ensures at_32 { (x y : List (Bor (List ℕ))) → All IsText (texts x) → All IsText (texts y)
+        → DifferByOneByte x y → fx32_pieces 0 (texts x) ≢ fx32_pieces 0 (texts y) }
 {}

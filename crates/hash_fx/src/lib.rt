@@ -2,13 +2,11 @@
 //! the state one step. The split and the key of 32 bits are this project's own choice.
 #![tactic(auto)]
 
-mod fx;
 mod fx32;
 mod fx64;
 pub mod laws;
 mod words32;
 mod words64;
 
-pub use fx::{FxHasher, fxhash};
-pub use fx32::{FxHasher32, fxhash32};
-pub use fx64::{FxHasher64, fxhash64};
+pub use fx32::{Fx32Rule, FxHasher32, fxhash32};
+pub use fx64::{Fx64Rule, FxHasher, FxHasher64, MachineWord, fxhash, fxhash64};

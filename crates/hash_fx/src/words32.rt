@@ -1,7 +1,7 @@
 //! Words of 32 bits in and out of a state.
 ghost use Rattle.std.specs.Prelude.{◌≡◌, ◌<◌, ◌^◌, ℕ, fold, map};
 ghost use Rattle.hash_rounds.specs.Words.{le};
-ghost use Rattle.hash_rounds.specs.ByteSteps.{fx32_step};
+ghost use Rattle.hash_fx.specs.Fx.{fx32_step};
 ghost use Rattle.hash_fx.specs.Fx.{fx32, words32};
 
 use hash_rounds::{le_four, rotl32};
@@ -88,8 +88,7 @@ pub fn words_in(state: u32, piece: &[u8]) -> u32
 /// The words of a piece out again, from the last to the first.
 #[inline(always)]
 pub fn words_out(state: u32, piece: &[u8]) -> u32
-    ensures back { fx32 result (words32 piece.now) ≡ state }
-    ensures undone { (s : ℕ) → s < 2 ^ 32 → fx32 s (words32 piece.now) ≡ state → result ≡ s }
+    ensures { fx32 result (words32 piece.now) ≡ state }
 {
     let (fours, bytes) = piece.as_chunks::<4>();
     fours_out(bytes_out(state, bytes), fours)

@@ -1,7 +1,7 @@
 //! Words of 64 bits in and out of a state, which both 64-bit types stand on.
 ghost use Rattle.std.specs.Prelude.{◌≡◌, ◌<◌, ◌^◌, ℕ, fold, map};
 ghost use Rattle.hash_rounds.specs.Words.{le};
-ghost use Rattle.hash_rounds.specs.ByteSteps.{fx64_step};
+ghost use Rattle.hash_fx.specs.Fx.{fx64_step};
 ghost use Rattle.hash_fx.specs.Fx.{fx64, words64};
 
 use hash_rounds::{le_four, le64, rotl64};
@@ -114,8 +114,7 @@ pub fn words_in(state: u64, piece: &[u8]) -> u64
 /// The words of a piece out again, from the last to the first.
 #[inline(always)]
 pub fn words_out(state: u64, piece: &[u8]) -> u64
-    ensures back { fx64 result (words64 piece.now) ≡ state }
-    ensures undone { (s : ℕ) → s < 2 ^ 64 → fx64 s (words64 piece.now) ≡ state → result ≡ s }
+    ensures { fx64 result (words64 piece.now) ≡ state }
 {
     let (eights, rest) = piece.as_chunks::<8>();
     let (fours, bytes) = rest.as_chunks::<4>();

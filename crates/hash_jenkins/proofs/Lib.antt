@@ -1,6 +1,5 @@
 pub mod Lookup3Lemmas
 pub mod MixLemmas
-pub mod OaatLemmas
 pub mod PutLemmas
 pub mod ShortLemmas
 pub mod WriteLemmas

@@ -1,13 +1,13 @@
 -- What mixing in the whole blocks of some bytes leads to.
-use Rattle.std.proofs.Common.{◌≡◌, ℕ, nat_lt, true, false, ◌+◌, ◌-◌, ◌*◌, ◌/◌, ◌%◌, ◌<◌, ◌≤◌, List, [], ◌++◌, length, take, drop, refl, sym, ap, ◌∙◌, arith, length-append, length-drop}
-use Rattle.std.specs.Prelude.{if◌then◌else◌}
+use Rattle.std.proofs.Common.{◌≡◌, ℕ, nat_lt, nat_le, ◌&&◌, true, false, ◌+◌, ◌-◌, ◌*◌, ◌/◌, ◌%◌, ◌<◌, ◌≤◌, List, ◌++◌, length, take, drop, refl, sym, ap, ◌∙◌, arith, length-append, length-drop}
 use Rattle.std.proofs.lemmas.Bool.Decides.{nat_tests}
 use Rattle.std.proofs.lemmas.List.{append_assoc, take_at, take-take, take-append-le, take-append-drop, drop-take, length-take-le}
 use Rattle.hash_rounds.specs.Blocks.{spooky_blocks}
 use Rattle.hash_rounds.proofs.BlockLemmas.{spooky_blocks-take}
+use Rattle.hash_jenkins.specs.Counted.{block_end, calls_over}
 use Rattle.hash_jenkins.specs.Put.{put_at}
 use Rattle.hash_jenkins.specs.Spooky.{Long, mixed}
-use Rattle.hash_jenkins.specs.SpookyLaws.{mixed_short, mixed_through}
+use Rattle.hash_jenkins.specs.SpookyLaws.{mixed-append, mixed_short, mixed_through}
 use Rattle.hash_jenkins.proofs.PutLemmas.{take-put_at}
 
 -- the whole blocks of a text, as far as they go
@@ -35,7 +35,7 @@ mixed_whole s b head rest k full fits ends edge =
 
 -- a piece that completes one block, put as a whole, and what is behind the block copied to the front
 pub mixed_piece : (s b p : List ℕ) (k n : ℕ) → k ≤ length b → n ≡ k + length p → n ≤ length b → 96 ≤ n → n < 192
-    → mixed s (take k b ++ p) ≡ Long (spooky_blocks (spooky_blocks s (take 96 (put_at k p b))) []) (take (n - 96) (put_at 0 (drop 96 (put_at k p b)) (put_at k p b)))
+    → mixed s (take k b ++ p) ≡ Long (spooky_blocks s (take 96 (put_at k p b))) (take (n - 96) (put_at 0 (drop 96 (put_at k p b)) (put_at k p b)))
 mixed_piece s b p k n fits ends within some few =
     let w : List ℕ = put_at k p b in
     let all : List ℕ = take k b ++ p in
@@ -49,34 +49,42 @@ mixed_piece s b p k n fits ends within some few =
     take-append-le (n - 96) (drop 96 w) (drop (0 + length (drop 96 w)) w) enough ∙ sym (drop-take 96 (n - 96) w) ∙ ap (λ i. drop 96 (take i w)) whole ∙ ap (drop 96) filled in
     let rest : length (drop 96 all) ≡ n - 96 = length-drop 96 all ∙ ap (λ i. i - 96) size in
     let block : length (take 96 all) % 96 ≡ 0 = omega (arith, size, length-take-le 96 all (omega (arith, size, some))) in
-    let none : 0 ≡ length (drop 96 all) / 96 * 96 = omega (arith, rest, few) in
-    rw (front, behind) (ap (mixed s) (sym (take-append-drop 96 all)) ∙ mixed_through s (take 96 all) (drop 96 all) 0 block none)
+    rw (front, behind) (ap (mixed s) (sym (take-append-drop 96 all)) ∙ mixed-append s (take 96 all) (drop 96 all) block
+    ∙ mixed_short (spooky_blocks s (take 96 all)) (drop 96 all) (omega (arith, rest, few)))
 
 -- the same of the words and the buffer that the code comes to
 pub mixed_piece_from : (s b p words buffer : List ℕ) (k : ℕ) → k ≤ length b → k + length p ≤ length b → 96 ≤ k + length p → k + length p < 192
-    → words ≡ spooky_blocks (spooky_blocks s (take 96 (put_at k p b))) [] → buffer ≡ put_at 0 (drop 96 (put_at k p b)) (put_at k p b)
+    → words ≡ spooky_blocks s (take 96 (put_at k p b)) → buffer ≡ put_at 0 (drop 96 (put_at k p b)) (put_at k p b)
     → Long words (take (k + length p - 96) buffer) ≡ mixed s (take k b ++ p)
 mixed_piece_from s b p words buffer k fits within some few led left =
     rw (led, left) (sym (mixed_piece s b p k (k + length p) fits refl within some few))
 
 -- what is missing from a block that must be completed
-pub room_in_block : (k n full : ℕ) → k < 192 → 96 ≤ k + n → (96 ≤ k → 192 ≤ k + n) → full % 96 ≡ 0 → k ≤ full → full < k + 96 → full - k ≤ n
-room_in_block k n full within some enough whole after close = grind arith
+pub room_in_block : (k n : ℕ) → k < 192 → 96 ≤ k + n → (96 ≤ k → 192 ≤ k + n) → block_end k - k ≤ n
+room_in_block k n within some enough = grind arith
 
--- how many turns: for no block, where no bytes are kept, and where some are
-pub turns_of_few : (k n : ℕ) → k + n < 96 → ◌≡◌ {A = ℕ} (if nat_lt (k + n) 96 then 0 else (if nat_lt 0 k then 2 else 1)) 0
-turns_of_few k n few =
+-- how many calls: for no block, where no bytes are kept, where no block follows the kept bytes, and where one does
+pub calls_none : (k n : ℕ) → k + n < 96 → calls_over k n ≡ 0
+calls_none k n few =
     let none : nat_lt (k + n) 96 ≡ true = grind (arith, nat_tests) in
     rw none refl
 
-pub turns_of_none : (k n : ℕ) → k ≡ 0 → 96 ≤ k + n → ◌≡◌ {A = ℕ} (if nat_lt (k + n) 96 then 0 else (if nat_lt 0 k then 2 else 1)) 1
-turns_of_none k n none enough =
-    let some : nat_lt (k + n) 96 ≡ false = grind (arith, nat_tests) in
-    let kept : nat_lt 0 k ≡ false = grind (arith, nat_tests) in
-    rw (some, kept) refl
+module _ (k n : ℕ) (block : 96 ≤ k + n) where
+  some : nat_lt (k + n) 96 ≡ false
+  some = grind (arith, nat_tests)
 
-pub turns_of_some : (k n : ℕ) → 0 < k → 96 ≤ k + n → ◌≡◌ {A = ℕ} (if nat_lt (k + n) 96 then 0 else (if nat_lt 0 k then 2 else 1)) 2
-turns_of_some k n some enough =
-    let block : nat_lt (k + n) 96 ≡ false = grind (arith, nat_tests) in
-    let kept : nat_lt 0 k ≡ true = grind (arith, nat_tests) in
-    rw (block, kept) refl
+  pub calls_unkept : k ≡ 0 → calls_over k n ≡ 1
+  calls_unkept none =
+      let kept : nat_lt 0 k ≡ false = grind (arith, nat_tests) in
+      rw (some, kept) refl
+
+  pub calls_last : k + n < block_end k + 96 → calls_over k n ≡ 1
+  calls_last last =
+      let follows : (nat_lt 0 k && nat_le (block_end k + 96) (k + n)) ≡ false = grind (arith, nat_tests) in
+      rw (some, follows) refl
+
+  pub calls_followed : 0 < k → block_end k + 96 ≤ k + n → calls_over k n ≡ 2
+  calls_followed any more =
+      let kept : nat_lt 0 k ≡ true = grind (arith, nat_tests) in
+      let follows : nat_le (block_end k + 96) (k + n) ≡ true = grind (arith, nat_tests) in
+      rw (some, kept, follows) refl

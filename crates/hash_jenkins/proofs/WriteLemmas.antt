@@ -1,14 +1,16 @@
--- What a hasher of a short text comes to by bytes that leave it one.
-use Rattle.std.proofs.Common.{◌≡◌, ℕ, ◌+◌, ◌-◌, ◌<◌, ◌≤◌, ◌++◌, ◌∙◌, nat_lt, true, List, length, take, slice_index, replicate, refl, sym, ap, arith, length-append}
+-- What a hasher comes to by more bytes: one of a short text that they leave one, and where it stands then.
+use Rattle.std.proofs.Common.{◌≡◌, ℕ, ◌+◌, ◌-◌, ◌<◌, ◌≤◌, ◌++◌, ◌∙◌, nat_lt, true, List, length, take, slice_index, replicate, refl, sym, ap, subst, arith, length-append}
 use Rattle.std.proofs.Math.Path.{ap₂}
 use Rattle.std.proofs.lemmas.Bool.Decides.{nat_tests}
 use Rattle.std.proofs.lemmas.List.{append_assoc, take_at, drop_at, drop-drop, drop-replicate, length-take-le}
+use Rattle.hash_laws.specs.Text.{IsText}
 use Rattle.hash_jenkins.specs.Counted.{Counted, MixesBlock, mixing_calls, after_write}
 use Rattle.hash_jenkins.specs.Filled.{zero_filled}
 use Rattle.hash_jenkins.specs.Put.{put_at}
 use Rattle.hash_jenkins.specs.Spooky.{Position, Short, after}
 use Rattle.hash_jenkins.specs.SpookyHasher.{position_of, counted_of, IsSettled}
 use Rattle.hash_jenkins.specs.SpookyStanding.{IsPosition}
+use Rattle.hash_jenkins.specs.SpookyLaws.{IsPosition-after}
 use Rattle.hash_jenkins.specs.declared.spooky_hash.SpookyHasher.TheInside.{Inside}
 use Rattle.hash_jenkins.proofs.PutLemmas.{take-put_at}
 use Rattle.hash_jenkins.proofs.ShortLemmas.{position_short}
@@ -41,8 +43,9 @@ module _ (s : Inside) (b p : List ℕ) (n : ℕ) (settled : IsSettled s) (whole 
   size : length (take s.kept s.buffer ++ p) ≡ n
   size = omega (arith, kept_all, ends, length-append (take s.kept s.buffer) p)
 
-  pub settled_still : IsSettled (kept_too s b p n)
-  settled_still = record {
+  pub settled_still : IsPosition (position_of (kept_too s b p n)) → IsSettled (kept_too s b p n)
+  settled_still known = record {
+    in_range = known;
     all_kept = λ h. omega (arith, kept_all);
     unmixed = λ h. settled.unmixed (omega arith);
     filled = λ h.
@@ -68,7 +71,17 @@ module _ (s : Inside) (b p : List ℕ) (n : ℕ) (settled : IsSettled s) (whole 
     pub mixes_none : MixesBlock h.at p → ⊥
     mixes_none mixes = let large = rw at at mixes in omega (arith, size, large)
 
-    pub position_after : IsPosition (position_of (kept_too s b p n))
-    position_after =
-        let short : nat_lt n 192 ≡ true = grind (arith, nat_tests) in
-        rw (short, text_then) (omega (arith, size))
+-- a hasher of a long text
+pub settled_long : (s : Inside) → 192 ≤ s.length → s.kept < 96 → IsPosition (position_of s) → IsSettled s
+settled_long s long part known = record {
+  in_range = known;
+  all_kept = λ h. absurd (omega arith);
+  unmixed = λ h. absurd (omega arith);
+  filled = λ h. absurd (omega arith);
+  part_kept = λ h. part;
+}
+
+-- where a piece leads a settled hasher is in range
+pub in_range_after : (s : Inside) (h : Counted) (to : Position) (p : List ℕ) → IsSettled s → counted_of s ≡ h → to ≡ after h.at p → IsText p → IsPosition to
+in_range_after s h to p settled is led bytes =
+    rw led (IsPosition-after h.at p (subst (λ (k : Counted). IsPosition k.at) is settled.in_range) bytes)

@@ -3,6 +3,7 @@ pub mod Filled
 pub mod Lookup3
 pub mod Lookup3Laws
 pub mod Oaat
+pub mod OaatLaws
 pub mod Put
 pub mod Spooky
 pub mod SpookyHasher

@@ -1,14 +1,18 @@
 -- Laws of positions, which the impls of SpookyHasher cite: a position depends on the whole text alone, not on its cuts.
-use Rattle.std.proofs.Common.{◌≡◌, ℕ, ◌+◌, ◌*◌, ◌/◌, ◌%◌, ◌<◌, ◌^◌, nat_lt, Bool, true, false, List, [], ◌∷◌, ◌++◌, length, take, drop, refl, sym, ap, ◌∙◌, arith, length-append}
+use Rattle.std.proofs.Common.{◌≡◌, ℕ, ◌+◌, ◌*◌, ◌/◌, ◌%◌, ◌<◌, ◌^◌, nat_lt, Bool, true, false, List, [], ◌∷◌, ◌++◌, length, take, drop, refl, sym, ap, ◌∙◌, arith, lit<, length-append}
 use Rattle.std.proofs.lemmas.Bool.Decides.{nat_tests}
 use Rattle.std.proofs.lemmas.List.{append_assoc, append-nil, take-append-drop, drop_at, drop-drop, length-drop, length-take-le}
-use Rattle.std.proofs.lemmas.List.Elements.{All-nil, All-append}
+use Rattle.std.proofs.lemmas.List.Elements.{All-nil, All-cons, All-append, All-drop}
 use Rattle.hash_rounds.specs.Blocks.{spooky_blocks}
-use Rattle.hash_rounds.proofs.BlockLemmas.{spooky_blocks-append, spooky_blocks_short, spooky_blocks-take}
+use Rattle.hash_rounds.specs.Words.{AreWords}
+use Rattle.hash_rounds.proofs.BlockLemmas.{spooky_blocks-append, spooky_blocks_short, spooky_blocks-take, spooky_blocks-words}
 use Rattle.hash_laws.specs.Text.{IsText}
 use Rattle.hash_laws.proofs.TextLemmas.{IsByte}
 use Rattle.hash_jenkins.specs.Spooky.{Position, Short, Long, position, after, mixed, tail, long_start, hash, hash_v1, short_words_at, spooky, spooky_v1, short_words_of}
 use Rattle.hash_jenkins.specs.SpookyStanding.{IsPosition, SpookyStandsAt, spooky_from}
+
+abbrev IsWord : ℕ → Type 0
+IsWord n = n < 2 ^ 64
 
 pub tail-append : (a b : List ℕ) → length a % 96 ≡ 0 → tail (a ++ b) ≡ tail b
 unfolding tail
@@ -84,24 +88,64 @@ module _ (seed1 seed2 : ℕ) (m : List ℕ) where
   pub short_words_at-position : short_words_at (position seed1 seed2 m) ≡ short_words_of seed1 seed2 m
   short_words_at-position = words_by_length (nat_lt (length m) 192) refl
 
-  position_by_length : (b : Bool) → nat_lt (length m) 192 ≡ b → IsPosition (position seed1 seed2 m)
-  position_by_length true short = rw short (grind (arith, nat_tests))
-  position_by_length false long = rw long (tail-lt m)
+-- a text's blocks lead from twelve words to twelve words
+IsPosition-mixed : (words t : List ℕ) → length words ≡ 12 → AreWords 64 words → IsText t → IsPosition (mixed words t)
+unfolding tail
+IsPosition-mixed words t twelve words_in bytes =
+    let kept = spooky_blocks-words words t twelve words_in in
+    record {
+      twelve = kept.0;
+      words_in = kept.1;
+      is_text = All-drop IsByte (length t / 96 * 96) t bytes;
+      below_block = tail-lt t;
+    }
 
-  IsPosition-position : IsPosition (position seed1 seed2 m)
-  IsPosition-position = position_by_length (nat_lt (length m) 192) refl
+module _ (seed1 seed2 : ℕ) (seed1_in : seed1 < 2 ^ 64) (seed2_in : seed2 < 2 ^ 64) where
+  abbrev three : List ℕ
+  three = seed1 ∷ seed2 ∷ 0xdeadbeefdeadbeef ∷ []
+
+  three_in : AreWords 64 three
+  three_in =
+      All-append IsWord (seed1 ∷ seed2 ∷ []) (0xdeadbeefdeadbeef ∷ [])
+      (All-cons IsWord seed1 (seed2 ∷ []) seed1_in (All-cons IsWord seed2 [] seed2_in (All-nil IsWord)))
+      (All-cons IsWord 0xdeadbeefdeadbeef [] (lit< tt) (All-nil IsWord))
+
+  long_start-words : AreWords 64 (long_start seed1 seed2)
+  long_start-words =
+      let six = All-append IsWord three three three_in three_in in
+      All-append IsWord (three ++ three) (three ++ three) six six
+
+  position_by_length : (m : List ℕ) (b : Bool) → nat_lt (length m) 192 ≡ b → IsText m → IsPosition (position seed1 seed2 m)
+  position_by_length m true short bytes = rw short (record {
+    seed1_in = seed1_in;
+    seed2_in = seed2_in;
+    is_text = bytes;
+    below_long = grind (arith, nat_tests);
+  })
+  position_by_length m false long bytes = rw long (IsPosition-mixed (long_start seed1 seed2) m refl long_start-words bytes)
+
+  -- the position of a text under two seeds of 64 bits
+  pub IsPosition-position : (m : List ℕ) → IsText m → IsPosition (position seed1 seed2 m)
+  IsPosition-position m bytes = position_by_length m (nat_lt (length m) 192) refl bytes
+
+-- the position of no bytes under the seeds 0 and 0
+pub IsPosition-fresh : IsPosition (position 0 0 [])
+IsPosition-fresh = IsPosition-position 0 0 (lit< tt) (lit< tt) [] (All-nil IsByte)
 
 -- a piece leads from positions to positions
 pub IsPosition-after : (at : Position) (p : List ℕ) → IsPosition at → IsText p → IsPosition (after at p)
-IsPosition-after (Short seed1 seed2 text) p known bytes = IsPosition-position seed1 seed2 (text ++ p)
-IsPosition-after (Long words t) p known bytes = tail-lt (t ++ p)
+IsPosition-after (Short seed1 seed2 text) p known bytes =
+    IsPosition-position seed1 seed2 known.seed1_in known.seed2_in (text ++ p) (All-append IsByte text p known.is_text bytes)
+IsPosition-after (Long words t) p known bytes =
+    IsPosition-mixed words (t ++ p) known.twelve known.words_in (All-append IsByte t p known.is_text bytes)
 
 -- no bytes change nothing
 pub after-nil : (at : Position) → IsPosition at → after at [] ≡ at
 after-nil (Short seed1 seed2 text) known =
+    let few = known.below_long in
     let short : nat_lt (length text) 192 ≡ true = grind (arith, nat_tests) in
     rw (append-nil text, short) refl
-after-nil (Long words t) known = rw (append-nil t) (mixed_short words t known)
+after-nil (Long words t) known = rw (append-nil t) (mixed_short words t known.below_block)
 
 -- two pieces are one
 pub after-append : (at : Position) (p q : List ℕ) → IsPosition at → IsText p → IsText q → after at (p ++ q) ≡ after (after at p) q

@@ -124,7 +124,7 @@ impl Hasher for Lookup3Hasher {
     #[inline(always)]
     fn finish(&self) -> u64
         ensures value { result ≡ lookup3_answer self.now }
-        ensures known { AreTwoWords self.now }
+        ensures in_range { AreTwoWords self.now }
     {
         u64::from(self.pc) + u64::from(self.pb) * 4294967296
     }
@@ -135,8 +135,8 @@ impl Hasher for Lookup3Hasher {
     #[inline(always)]
     fn write(&mut self, bytes: &[u8])
         ensures state { self.new ≡ lookup3 self.old bytes.now }
-        ensures known_before { AreTwoWords self.old }
-        ensures known_after { AreTwoWords self.new }
+        ensures in_range_before { AreTwoWords self.old }
+        ensures in_range_after { AreTwoWords self.new }
     {
         let pc = self.pc;
         let pb = self.pb;
@@ -153,13 +153,17 @@ impl Piecewise for Lookup3Hasher {
 
     ghost state = { λ h. h };
 
-    ghost is_state = { AreTwoWords };
+    ghost in_range = { AreTwoWords };
 
     ghost fresh = { (0, 0) };
 
     ghost after = { lookup3 };
 
     ghost answer = { lookup3_answer };
+
+    ghost hash_of = { λ text. lookup3_answer (lookup3 (0, 0) text) };
+
+    ghost first = { (0, 0) };
 
     fn fresh() -> Lookup3Hasher {
         Lookup3Hasher::default()
@@ -175,15 +179,27 @@ impl Piecewise for Lookup3Hasher {
         self.finish()
     }
 
-    ghost default_is_fresh = { λ h same. same };
+    #[inline(always)]
+    fn fork(&self) -> Lookup3Hasher {
+        Lookup3Hasher {
+            pc: self.pc,
+            pb: self.pb,
+        }
+    }
+
+    ghost default_is_first = { λ h same. same };
+
+    ghost first_is_fresh = { refl };
+
+    ghost hash_of_is = { λ text. refl };
 
     ghost write_feeds = { λ h piece. refl };
 
     ghost finish_answers = { λ h. refl };
 
-    ghost fresh_is_state = { (lit< tt, lit< tt) };
+    ghost fresh_in_range = { (lit< tt, lit< tt) };
 
-    ghost after_is_state = { lookup3-AreTwoWords };
+    ghost after_in_range = { lookup3-AreTwoWords };
 
     ghost after_nothing = { λ s known. refl };
 }

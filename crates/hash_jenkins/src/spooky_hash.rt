@@ -10,7 +10,7 @@ ghost use Rattle.std.proofs.Common.{lit<};
 ghost use Rattle.hash_jenkins.specs.Spooky.{Position, position, after, hash, hash_v1, short_words_at, short_words_of, spooky, spooky_v1};
 ghost use Rattle.hash_jenkins.specs.Counted.{Counted, after_write, MixesBlock};
 ghost use Rattle.hash_jenkins.specs.SpookyStanding.{IsPosition, SpookyStandsAt, spooky_from};
-ghost use Rattle.hash_jenkins.specs.SpookyLaws.{IsPosition-after, after-nil, after-append, stands_at_seeds, stands_after, hash_from_seeds, answer_where_stands};
+ghost use Rattle.hash_jenkins.specs.SpookyLaws.{IsPosition-fresh, IsPosition-after, after-nil, after-append, stands_at_seeds, stands_after, hash_from_seeds, answer_where_stands};
 
 use crate::put::put;
 use crate::spooky_long::{long_words, mix_blocks};
@@ -22,10 +22,14 @@ use std::marker::Model;
 
 /// SpookyHash of a text that comes piece by piece.
 ///
-/// Contracts see where the hasher stands, its `Position`, and how many calls have mixed blocks on the way there, its
-/// `turns`. The position is the two seeds and the text so far below 192 bytes, and from then on the twelve words after
-/// all whole blocks and the tail behind them. At most 191 bytes are kept. The count of bytes stays at its greatest value
-/// once it is there, so no length is refused.
+/// Contracts see where the hasher stands, its `Position`, and how many calls that mix blocks were charged to its counter
+/// on the way there, its `turns`. The position is the two seeds and the text so far below 192 bytes, and from then on the
+/// twelve words after all whole blocks and the tail behind them. At most 191 bytes are kept. The count of bytes stays at
+/// its greatest value once it is there, so no length is refused. Each position that a hasher stands at is in range: two
+/// seeds below 2^64 and less than 192 bytes, or twelve words below 2^64 and less than 96 bytes.
+///
+/// The turns show the calls of `spooky_blocks` that were charged to this hasher's counter, and no more: a body could
+/// charge another counter, call it on no bytes, or mix a block by `spooky_mix`, which counts nothing.
 pub struct SpookyHasher {
     buffer: [u8; 192],
     words: [u64; 12],
@@ -81,7 +85,7 @@ impl SpookyHasher {
         ensures here { result ≡ hash self.now.at }
         ensures of_text { (seed1 seed2 : ℕ) (text : List ℕ) → self.now.at ≡ position seed1 seed2 text
             → result ≡ spooky seed1 seed2 text }
-        ensures known { IsPosition self.now.at }
+        ensures in_range { IsPosition self.now.at }
     {
         if self.length < LONG {
             let h = short_words(self.words[0], self.words[1], &self.buffer, self.kept);
@@ -124,7 +128,7 @@ impl SpookyHasher {
 }
 
 impl Default for SpookyHasher {
-    ghost is_default = { λ s. (s.at ≡ position 0 0 []) × (s.turns ≡ 0) };
+    ghost is_default = { λ s. s ≡ record { at = position 0 0 []; turns = 0 } };
 
     /// The hasher of no bytes under the seeds 0 and 0.
     fn default() -> SpookyHasher {
@@ -140,13 +144,14 @@ impl Hasher for SpookyHasher {
     /// The first word of `finish128`.
     fn finish(&self) -> u64
         ensures value { result ≡ (hash self.now.at).0 }
-        ensures known { IsPosition self.now.at }
+        ensures in_range { IsPosition self.now.at }
     {
         self.finish128().0
     }
 
-    /// Goes on over the bytes. Where they complete blocks, these are mixed in by one call where nothing was kept, and by
-    /// two else; the whole blocks of `bytes` are read where they stand.
+    /// Goes on over the bytes. Where they complete blocks, these are mixed in by one call where nothing was kept or no
+    /// block follows the one that the kept bytes end in, and by two else: one for the kept bytes' blocks, and one for
+    /// those behind, which are read where they stand in `bytes`.
     #[inline(always)]
     fn write(&mut self, bytes: &[u8])
         ensures written { self.new ≡ after_write self.old bytes.now }
@@ -154,8 +159,8 @@ impl Hasher for SpookyHasher {
         ensures counted { MixesBlock self.old.at bytes.now → self.old.turns < self.new.turns }
         ensures stands { (seed1 seed2 : ℕ) (text : List ℕ) → self.old.at ≡ position seed1 seed2 text
             → self.new.at ≡ position seed1 seed2 (text ++ bytes.now) }
-        ensures known_before { IsPosition self.old.at }
-        ensures known_after { IsPosition self.new.at }
+        ensures in_range_before { IsPosition self.old.at }
+        ensures in_range_after { IsPosition self.new.at }
     {
         self.length = self.length.saturating_add(bytes.len());
         if self.length < LONG {
@@ -175,13 +180,17 @@ impl Piecewise for SpookyHasher {
 
     ghost state = { λ h. h.at };
 
-    ghost is_state = { IsPosition };
+    ghost in_range = { IsPosition };
 
     ghost fresh = { position 0 0 [] };
 
     ghost after = { after };
 
     ghost answer = { λ at. (hash at).0 };
+
+    ghost hash_of = { λ text. (hash (after (position 0 0 []) text)).0 };
+
+    ghost first = { record { at = position 0 0 []; turns = 0 } };
 
     fn fresh() -> SpookyHasher {
         SpookyHasher::default()
@@ -197,15 +206,29 @@ impl Piecewise for SpookyHasher {
         self.finish()
     }
 
-    ghost default_is_fresh = { λ h same. same.0 };
+    fn fork(&self) -> SpookyHasher {
+        SpookyHasher {
+            buffer: self.buffer,
+            words: self.words,
+            kept: self.kept,
+            length: self.length,
+            turns: self.turns.fork(),
+        }
+    }
+
+    ghost default_is_first = { λ h same. same };
+
+    ghost first_is_fresh = { refl };
+
+    ghost hash_of_is = { λ text. refl };
 
     ghost write_feeds = { λ h piece. refl };
 
     ghost finish_answers = { λ h. refl };
 
-    ghost fresh_is_state = { lit< tt };
+    ghost fresh_in_range = { IsPosition-fresh };
 
-    ghost after_is_state = { IsPosition-after };
+    ghost after_in_range = { IsPosition-after };
 
     ghost after_nothing = { after-nil };
 }

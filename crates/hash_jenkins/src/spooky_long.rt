@@ -1,5 +1,6 @@
 //! Blocks of a text from 192 bytes on, and its tail.
-ghost use Rattle.std.specs.Prelude.{◌≡◌, if◌then◌else◌, nat_lt, ◌+◌, ◌-◌, ◌*◌, ◌/◌, ◌%◌, ◌<◌, ◌≤◌, ◌++◌, length, take};
+ghost use Rattle.std.specs.Prelude.{◌≡◌, ◌+◌, ◌-◌, ◌*◌, ◌/◌, ◌<◌, ◌≤◌, ◌++◌, length, take};
+ghost use Rattle.hash_jenkins.specs.Counted.{block_end, calls_over};
 ghost use Rattle.hash_jenkins.specs.Spooky.{Long, padded, long_words, mixed};
 
 use crate::put::{put, put_array};
@@ -34,9 +35,7 @@ pub(crate) fn long_words(words: &[u64; 12], tail: &[u8]) -> [u64; 12]
 fn block_end(place: usize) -> usize
     requires some { 0 < place }
     requires within { place < 192 }
-    ensures whole { result % 96 ≡ 0 }
-    ensures after { place ≤ result }
-    ensures close { result < place + 96 }
+    ensures { result ≡ block_end place }
 {
     if place <= BLOCK { BLOCK } else { LONG }
 }
@@ -58,7 +57,7 @@ fn mix_whole_blocks(
     ensures position { Long words.new (take result buffer.new)
         ≡ mixed words.old (take kept buffer.old ++ bytes.now) }
     ensures part { result < 96 }
-    ensures turns { turns.new ≡ turns.old + 2 }
+    ensures turns { turns.new ≡ turns.old + calls_over kept (length bytes.now) }
 {
     let full = block_end(kept);
     let (head, rest) = bytes.split_at(full - kept);
@@ -66,7 +65,9 @@ fn mix_whole_blocks(
     let (blocks, left) = rest.split_at(rest.len() / BLOCK * BLOCK);
     let mut mixed = *words;
     spooky_blocks(&buffer[..full], &mut mixed, turns);
-    spooky_blocks(blocks, &mut mixed, turns);
+    if !blocks.is_empty() {
+        spooky_blocks(blocks, &mut mixed, turns);
+    }
     *words = mixed;
     put(buffer, 0, left);
     left.len()
@@ -88,14 +89,11 @@ fn mix_piece(
     ensures position { Long words.new (take result buffer.new)
         ≡ mixed words.old (take kept buffer.old ++ piece.now) }
     ensures part { result < 96 }
-    ensures turns { turns.new ≡ turns.old + 2 }
+    ensures turns { turns.new ≡ turns.old + 1 }
 {
     let end = kept + piece.len();
     put(buffer, kept, piece);
-    let mut mixed = *words;
-    spooky_blocks(&buffer[..BLOCK], &mut mixed, turns);
-    spooky_blocks(&[], &mut mixed, turns); // no block follows
-    *words = mixed;
+    spooky_blocks(&buffer[..BLOCK], words, turns);
     if let Some(behind) = buffer.last_chunk::<96>() {
         let behind = *behind;
         put_array(buffer, 0, behind);
@@ -135,8 +133,7 @@ pub(crate) fn mix_blocks(
     ensures position { Long words.new (take result buffer.new)
         ≡ mixed words.old (take kept buffer.old ++ bytes.now) }
     ensures part { result < 96 }
-    ensures turns { turns.new ≡ turns.old + (if nat_lt (kept + length bytes.now) 96 then 0
-        else (if nat_lt 0 kept then 2 else 1)) }
+    ensures turns { turns.new ≡ turns.old + calls_over kept (length bytes.now) }
 {
     let end = kept + bytes.len();
     if end < BLOCK {

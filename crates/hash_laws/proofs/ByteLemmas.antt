@@ -1,5 +1,5 @@
 -- What follows for a hasher whose state is a number below a bound, and which takes a step for each byte: its state
--- after a text is the fold of the step. What the step keeps and loses is passed in.
+-- after a text is the fold of the step. the facts of the step are passed in.
 use Rattle.std.proofs.Common.{ℕ, ◌≡◌, ◌<◌, List, [], ◌∷◌, ◌++◌, fold, ap, sym, ◌∙◌, refl, slice_index, append_assoc, length, arith}
 use Rattle.std.proofs.lemmas.List.{append-nil}
 use Rattle.std.proofs.lemmas.List.Sums.{fold-append}
@@ -7,7 +7,7 @@ use Rattle.std.proofs.lemmas.List.Elements.{All-nil, All-head, All-tail, All-app
 use Rattle.hash_laws.specs.Text.{IsText}
 use Rattle.hash_laws.specs.Standing.{StandsAt}
 use Rattle.hash_laws.proofs.TextLemmas.{IsByte}
-use Rattle.hash_laws.proofs.FoldLemmas.{fold_is_state, fold_cancels}
+use Rattle.hash_laws.proofs.FoldLemmas.{fold_in_range, fold_cancels}
 
 module _ (step : ℕ → ℕ → ℕ) (bound : ℕ) (after : ℕ → List ℕ → ℕ)
     (is_fold : (s : ℕ) (text : List ℕ) → s < bound → after s text ≡ fold step s text) where
@@ -16,9 +16,9 @@ module _ (step : ℕ → ℕ → ℕ) (bound : ℕ) (after : ℕ → List ℕ �
   after_one s byte known = is_fold s (byte ∷ []) known
 
   -- from one state different bytes lead to different states
-  pub one_byte : ((s a b : ℕ) → s < bound → a < 256 → b < 256 → step s a ≡ step s b → a ≡ b)
+  pub byte_injective : ((s a b : ℕ) → s < bound → a < 256 → b < 256 → step s a ≡ step s b → a ≡ b)
       → (s a b : ℕ) → s < bound → a < 256 → b < 256 → after s (a ∷ []) ≡ after s (b ∷ []) → a ≡ b
-  one_byte same_byte s a b known a_byte b_byte same =
+  byte_injective same_byte s a b known a_byte b_byte same =
       same_byte s a b known a_byte b_byte (sym (after_one s a known) ∙ same ∙ after_one s b known)
 
   -- before the first byte
@@ -34,7 +34,7 @@ module _ (step : ℕ → ℕ → ℕ) (bound : ℕ) (after : ℕ → List ℕ �
   module _ (in_range : (s b : ℕ) → s < bound → b < 256 → step s b < bound) where
     -- a text leads from states in range to states in range
     pub after_below : (s : ℕ) (text : List ℕ) → s < bound → IsText text → after s text < bound
-    after_below s text known bytes = rw (is_fold s text known) (fold_is_state step (λ u. u < bound) IsByte in_range s text known bytes)
+    after_below s text known bytes = rw (is_fold s text known) (fold_in_range step (λ u. u < bound) IsByte in_range s text known bytes)
 
     -- a text in two pieces
     pub after_joined : (s : ℕ) (text more : List ℕ) → s < bound → IsText text → IsText more → after s (text ++ more) ≡ after (after s text) more
@@ -63,30 +63,30 @@ module _ (step : ℕ → ℕ → ℕ) (bound : ℕ) (after : ℕ → List ℕ �
       there = led ∙ ap (λ s. after s piece) stood.there ∙ sym (after_joined stood.start text piece stood.in_range stood.is_text bytes);
     }
 
-    -- where each step loses nothing, a text loses nothing
-    pub one_before : ((s t b : ℕ) → s < bound → t < bound → b < 256 → step s b ≡ step t b → s ≡ t)
+    -- where each step is injective, so is a text
+    pub after_injective : ((s t b : ℕ) → s < bound → t < bound → b < 256 → step s b ≡ step t b → s ≡ t)
         → (s t : ℕ) (text : List ℕ) → s < bound → t < bound → IsText text → after s text ≡ after t text → s ≡ t
-    one_before same_state s t text ks kt bytes same =
-        fold_cancels step (λ u. u < bound) IsByte in_range same_state s t text ks kt bytes (sym (is_fold s text ks) ∙ same ∙ is_fold t text kt)
+    after_injective state_injective s t text ks kt bytes same =
+        fold_cancels step (λ u. u < bound) IsByte in_range state_injective s t text ks kt bytes (sym (is_fold s text ks) ∙ same ∙ is_fold t text kt)
 
     -- a state from which a text leads to another is the only one
     pub undone : ((s t b : ℕ) → s < bound → t < bound → b < 256 → step s b ≡ step t b → s ≡ t)
         → (old state : ℕ) (text : List ℕ) → state < bound → IsText text → after state text ≡ old
         → (s : ℕ) → s < bound → after s text ≡ old → state ≡ s
-    undone same_state old state text known bytes back s ks led = one_before same_state state s text known ks bytes (back ∙ sym led)
+    undone state_injective old state text known bytes back s ks led = after_injective state_injective state s text known ks bytes (back ∙ sym led)
 
 -- what was taken out of a piece so far, from its end: from the state, these bytes lead to the old one
 pub record Undoing (after : ℕ → List ℕ → ℕ) (bound old state : ℕ) (left piece : List ℕ) : Type 0 where
   pub taken : List ℕ
   pub split : piece ≡ left ++ taken
   pub back : after state taken ≡ old
-  pub known : state < bound
+  pub in_range : state < bound
 
 module _ (step : ℕ → ℕ → ℕ) (bound : ℕ) (after : ℕ → List ℕ → ℕ)
     (is_fold : (s : ℕ) (text : List ℕ) → s < bound → after s text ≡ fold step s text) where
   -- nothing was taken out yet
   pub undoing_none : (state : ℕ) (left piece : List ℕ) → left ≡ piece → state < bound → Undoing after bound state state left piece
-  undoing_none state left piece whole known = record { taken = []; split = sym whole ∙ sym (append-nil left); back = is_fold state [] known; known = known }
+  undoing_none state left piece whole known = record { taken = []; split = sym whole ∙ sym (append-nil left); back = is_fold state [] known; in_range = known }
 
   -- one byte more is taken out
   pub undoing_more : (old state before byte : ℕ) (left front piece : List ℕ) → left ≡ front ++ byte ∷ [] → before < bound → step before byte ≡ state
@@ -94,8 +94,8 @@ module _ (step : ℕ → ℕ → ℕ) (bound : ℕ) (after : ℕ → List ℕ �
   undoing_more old state before byte left front piece last known there so_far = record {
     taken = byte ∷ so_far.taken;
     split = so_far.split ∙ ap (λ t. t ++ so_far.taken) last ∙ append_assoc front (byte ∷ []) so_far.taken;
-    back = is_fold before (byte ∷ so_far.taken) known ∙ ap (λ s. fold step s so_far.taken) there ∙ sym (is_fold state so_far.taken so_far.known) ∙ so_far.back;
-    known = known;
+    back = is_fold before (byte ∷ so_far.taken) known ∙ ap (λ s. fold step s so_far.taken) there ∙ sym (is_fold state so_far.taken so_far.in_range) ∙ so_far.back;
+    in_range = known;
   }
 
 -- all bytes are taken out

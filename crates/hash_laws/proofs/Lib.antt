@@ -1,8 +1,11 @@
 pub mod ByteLemmas
+pub mod ChangedByte
 pub mod FoldLemmas
+pub mod ItemLemmas
 pub mod PairLemmas
 pub mod ReadingLemmas
 pub mod RecurrenceLemmas
 pub mod TextLemmas
 pub mod Windows
 pub mod WindowTest
+pub mod WriteLemmas

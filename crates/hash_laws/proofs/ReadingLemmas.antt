@@ -13,7 +13,7 @@ use Rattle.std.proofs.lemmas.Nat.{mod_below, div-mul-add, div-add-mod'}
 use borrow.Rule.Slice.PartMut.{put_mid, post_of}
 use Rattle.std.proofs.lemmas.List.Elements.{All-nil, All-append, All-head, All-tail, All-map, All-take, All-drop}
 use Rattle.hash_laws.specs.Text.{IsText}
-use Rattle.hash_laws.specs.Reading.{cut, FeedsRead}
+use Rattle.hash_laws.specs.Reading.{cut, FeedsRead, HashesRead}
 use Rattle.hash_laws.proofs.TextLemmas.{IsByte}
 
 -- what stands at the front of a buffer after a write behind it
@@ -141,19 +141,30 @@ cut_texts n text bytes =
 
 -- where a text in two pieces leads to where it leads whole, so does one in any pieces
 module _ {S : Type 0} (is_state : S → Type 0) (after : S → List ℕ → S)
-    (after_is_state : (s : S) (piece : List ℕ) → is_state s → IsText piece → is_state (after s piece))
+    (after_in_range : (s : S) (piece : List ℕ) → is_state s → IsText piece → is_state (after s piece))
     (after_nothing : (s : S) → is_state s → after s [] ≡ s)
     (after_joined : (s : S) (text more : List ℕ) → is_state s → IsText text → IsText more → after s (text ++ more) ≡ after (after s text) more) where
-  fold-pieces : (s : S) (pieces : List (List ℕ)) → is_state s → All IsText pieces → (fold after s pieces ≡ after s (flat_map (λ p. p) pieces)) × IsText (flat_map (λ p. p) pieces)
+  pub fold-pieces : (s : S) (pieces : List (List ℕ)) → is_state s → All IsText pieces → (fold after s pieces ≡ after s (flat_map (λ p. p) pieces)) × IsText (flat_map (λ p. p) pieces)
   fold-pieces s [] known texts = (sym (after_nothing s known), All-nil IsByte)
   fold-pieces s (piece ∷ pieces) known texts =
       let bytes = All-head IsText piece pieces texts in
-      let rest = fold-pieces (after s piece) pieces (after_is_state s piece known bytes) (All-tail IsText piece pieces texts) in
+      let rest = fold-pieces (after s piece) pieces (after_in_range s piece known bytes) (All-tail IsText piece pieces texts) in
       (rest.0 ∙ sym (after_joined s piece (flat_map (λ p. p) pieces) known bytes rest.1), All-append IsByte piece (flat_map (λ p. p) pieces) bytes rest.1)
 
   -- a cut text leads to where the text leads
   pub fold-cut : (n : ℕ) (s : S) (text : List ℕ) → 0 < n → is_state s → IsText text → fold after s (cut n text) ≡ after s text
   fold-cut n s text some known bytes = (fold-pieces s (cut n text) known (cut_texts n text bytes)).0 ∙ ap (after s) (flat_map-cut n text some)
+
+  -- what was read in pieces leads to where it leads as one text
+  pub HashesRead-fed : (n : ℕ) (left left' : Option (List ℕ)) (s s' : S) (bytes : ℕ) → 0 < n → FeedsRead after n left left' s s' bytes
+      → HashesRead is_state after left left' s s' bytes
+  HashesRead-fed n left left' s s' bytes some fed = record {
+    text = fed.text;
+    is_text = fed.is_text;
+    read = fed.read;
+    count = fed.count;
+    hashed = λ known. fed.fed ∙ fold-cut n s fed.text some known fed.is_text;
+  }
 
   -- the same of what is answered
   pub answer-cut : (answer : S → ℕ) (s : S) → is_state s → (hash : List ℕ → ℕ) → ((text : List ℕ) → IsText text → answer (after s text) ≡ hash text)

@@ -2,6 +2,7 @@
 use Rattle.std.proofs.Common.{ℕ, zero, suc, ◌≡◌, ◌+◌, ◌-◌, ◌*◌, ◌/◌, ◌%◌, ◌<◌, ◌≤◌, arith, List, [], ◌∷◌, ◌++◌, length, take, drop, get_or, fold, reverse, refl, ap, sym, ◌∙◌}
 use Rattle.std.proofs.lemmas.List.{reverse-append, append-nil, append_assoc, take_more, drop_more, take_all, take-append-drop, length-drop, nil_from_length}
 use Rattle.std.proofs.lemmas.List.Sums.{fold_more}
+use Rattle.std.specs.List.{flat_map}
 use Rattle.std.specs.Simd.{first_chunks}
 use Rattle.hash_laws.specs.Recurrence.{from_last, recurrence}
 
@@ -70,6 +71,13 @@ module _ {S : Type 0} (step : S → ℕ → S) where
       → state ≡ recurrence step s text
   all_eights s start state i text few eights over front back begun so_far =
       so_far ∙ rw (take_all i eights over, back, begun, front) (recurrence_by_eights s text)
+
+-- a text in pieces, each of which is split into items
+pub recurrence-pieces : {S : Type 0} (step : S → ℕ → S) (items : List ℕ → List ℕ) (s : S) (pieces : List (List ℕ))
+    → fold (λ t piece. recurrence step t (items piece)) s pieces ≡ recurrence step s (flat_map items pieces)
+recurrence-pieces step items s [] = sym (recurrence-nil step s)
+recurrence-pieces step items s (piece ∷ pieces) =
+    recurrence-pieces step items (recurrence step s (items piece)) pieces ∙ sym (recurrence-append step s (items piece) (flat_map items pieces))
 
 -- the form in which laws take it
 pub recurrence_is_fold : (step : ℕ → ℕ → ℕ) (bound s : ℕ) (text : List ℕ) → s < bound → recurrence step s text ≡ fold step s text

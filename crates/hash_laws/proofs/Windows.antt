@@ -7,7 +7,7 @@ use Rattle.std.proofs.lemmas.List.{ext_get_or}
 use Rattle.std.proofs.lemmas.List.Elements.{All-head, All-tail}
 use Rattle.std.specs.Int.Bits.{bit_and}
 use Rattle.hash_laws.specs.Text.{IsText}
-use Rattle.hash_laws.specs.Window.{Window, AgreeOutside, AgreeUnder}
+use Rattle.hash_laws.specs.DifferWithin.{DifferWithin, AgreeOutside, AgreeUnder}
 use Rattle.hash_laws.proofs.FoldLemmas.{fold_cancels}
 use Rattle.hash_laws.proofs.TextLemmas.{IsByte}
 
@@ -15,7 +15,7 @@ use Rattle.hash_laws.proofs.TextLemmas.{IsByte}
 -- relates the states that the first place at which the bytes differ and n further places have led to
 pub record Separates {S : Type 0} (step : S → ℕ → S) (is_state : S → Type 0) (places mask : ℕ) (Apart : ℕ → S → S → Type 0) : Type 0 where
   pub in_range : (s : S) (b : ℕ) → is_state s → b < 256 → is_state (step s b)
-  pub same_state : (s t : S) (b : ℕ) → is_state s → is_state t → b < 256 → step s b ≡ step t b → s ≡ t
+  pub state_injective : (s t : S) (b : ℕ) → is_state s → is_state t → b < 256 → step s b ≡ step t b → s ≡ t
   pub first : (s : S) (a b : ℕ) → is_state s → a < 256 → b < 256 → bit_and a mask ≡ bit_and b mask → a ≢ b → Apart 0 (step s a) (step s b)
   pub next : (n : ℕ) (s t : S) (a b : ℕ) → suc n < places → is_state s → is_state t → a < 256 → b < 256 → bit_and a mask ≡ bit_and b mask
       → Apart n s t → Apart (suc n) (step s a) (step t b)
@@ -24,7 +24,7 @@ pub record Separates {S : Type 0} (step : S → ℕ → S) (is_state : S → Typ
 module _ {S : Type 0} (step : S → ℕ → S) (is_state : S → Type 0) (places mask : ℕ) (Apart : ℕ → S → S → Type 0) (laws : Separates step is_state places mask Apart) where
   -- equal bytes keep different states different
   fold_differs : (s t : S) (text : List ℕ) → is_state s → is_state t → IsText text → s ≢ t → fold step s text ≢ fold step t text
-  fold_differs s t text ks kt bytes differ same = differ (fold_cancels step is_state IsByte laws.in_range laws.same_state s t text ks kt bytes same)
+  fold_differs s t text ks kt bytes differ same = differ (fold_cancels step is_state IsByte laws.in_range laws.state_injective s t text ks kt bytes same)
 
   -- one place and n further places of the window have passed, and r are left
   rest_differs : (n r : ℕ) (s t : S) (x y : List ℕ) → suc n + r ≡ places → is_state s → is_state t → IsText x → IsText y
@@ -69,8 +69,8 @@ module _ {S : Type 0} (step : S → ℕ → S) (is_state : S → Type 0) (places
       ]
 
   -- texts that a window separates lead to different states
-  pub Window-fold : (start : S) (x y : List ℕ) → is_state start → IsText x → IsText y → Window places mask x y → fold step start x ≢ fold step start y
-  Window-fold start x y known xs ys window =
+  pub DifferWithin-fold : (start : S) (x y : List ℕ) → is_state start → IsText x → IsText y → DifferWithin places mask x y → fold step start x ≢ fold step start y
+  DifferWithin-fold start x y known xs ys window =
       window_differs window.within.0 start x y known xs ys window.same_length window.under_mask window.within.1 window.different
 
 -- a step that loses nothing separates two states by one byte
@@ -79,9 +79,9 @@ pub Separates-one : {S : Type 0} (step : S → ℕ → S) (is_state : S → Type
     → ((s t : S) (b : ℕ) → is_state s → is_state t → b < 256 → step s b ≡ step t b → s ≡ t)
     → ((s : S) (a b : ℕ) → is_state s → a < 256 → b < 256 → step s a ≡ step s b → a ≡ b)
     → Separates step is_state 1 0 (λ _ s t. s ≢ t)
-Separates-one step is_state in_range same_state same_byte = record {
+Separates-one step is_state in_range state_injective same_byte = record {
   in_range = in_range;
-  same_state = same_state;
+  state_injective = state_injective;
   first = λ s a b known sa sb mask ne e. ne (same_byte s a b known sa sb e);
   next = λ n s t a b fits ks kt sa sb mask far. absurd (omega arith);
   apart = λ n s t far. far;

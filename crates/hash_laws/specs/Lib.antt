@@ -2,4 +2,5 @@ pub mod Reading
 pub mod Recurrence
 pub mod Standing
 pub mod Text
-pub mod Window
+pub mod Writes
+pub mod DifferWithin

@@ -15,3 +15,11 @@ pub record FeedsRead {S : Type 0} (after : S → List ℕ → S) (n : ℕ) (left
   pub read : Consumes left left' text
   pub count : length text ≡ bytes
   pub fed : s' ≡ fold after s (cut n text)
+
+-- so many of the bytes that were left were read, and led from one state in range to another, as one text
+pub record HashesRead {S : Type 0} (in_range : S → Type 0) (after : S → List ℕ → S) (left left' : Option (List ℕ)) (s s' : S) (bytes : ℕ) : Type 0 where
+  pub text : List ℕ
+  pub is_text : IsText text
+  pub read : Consumes left left' text
+  pub count : length text ≡ bytes
+  pub hashed : in_range s → s' ≡ after s text

@@ -1,10 +1,13 @@
 //! The hash of what a reader gives, read through one fixed array, however the reader cuts it.
 ghost use Rattle.std.specs.Prelude.{◌≡◌, ◌<◌, ◌≤◌, ◌↔◌, length, take, IfOk, IfErr, OnOk, OnErr, IsTrue, false};
 ghost use Rattle.std.specs.Io.KnownBytes.{Consumes, IsAtEnd};
-ghost use Rattle.hash_laws.specs.Reading.{FeedsRead};
+ghost use Rattle.hash_laws.specs.Reading.{FeedsRead, HashesRead};
 ghost use Rattle.hash_laws.specs.Text.{IsText};
 
-use crate::laws::Piecewise;
+use crate::laws::{Piecewise, Streamed};
+use std::error::Error as StdError;
+use std::fmt;
+use std::fmt::{Debug, Display, Formatter};
 use std::io::{Error, Read, Result as IoResult};
 
 /// What was read without a fault.
@@ -29,6 +32,45 @@ pub struct Fault {
     pub error: Error,
 }
 
+impl Drop for Fault {
+    fn drop(self) {
+        let Self { bytes: _, error: _ } = self;
+    }
+}
+
+/// Says how many bytes were read before, and what the read answered.
+impl Display for Fault {
+    fn fmt<W: fmt::Write>(&self, f: &mut Formatter<W>) -> fmt::Result {
+        write!(
+            f,
+            "a read failed after {} bytes: {}",
+            self.bytes, self.error
+        )
+    }
+}
+
+/// The same, with what the read answered in its own form for programmers.
+impl Debug for Fault {
+    fn fmt<W: fmt::Write>(&self, f: &mut Formatter<W>) -> fmt::Result {
+        write!(
+            f,
+            "a read failed after {} bytes: {:?}",
+            self.bytes, self.error
+        )
+    }
+}
+
+impl StdError for Fault {}
+
+/// What the read answered, so that `?` hands a fault on where an `io::Error` is returned.
+impl From<Fault> for Error {
+    ghost from_gives = { λ fault error. error ≡ fault.error };
+
+    fn from(fault: Fault) -> Error {
+        fault.error
+    }
+}
+
 /// Reads until the buffer is full, the input ends or a read fails, and counts the bytes.
 fn fill<R: Read>(r: &mut R, buf: &mut [u8]) -> (usize, IoResult<()>)
     ensures within { result.0 ≤ length buf.new }
@@ -49,7 +91,7 @@ fn fill<R: Read>(r: &mut R, buf: &mut [u8]) -> (usize, IoResult<()>)
 
 /// Feeds the piece, unless it is empty.
 fn feed_unless_empty<H: Piecewise>(h: &mut H, piece: &[u8])
-    ensures empty { length piece.now ≡ 0 → H.state h.new ≡ H.state h.old }
+    ensures untouched { length piece.now ≡ 0 → h.new ≡ h.old }
     ensures fed { 0 < length piece.now → H.state h.new ≡ H.after (H.state h.old) piece.now }
     ensures text { IsText piece.now }
 {
@@ -103,4 +145,28 @@ pub fn hash_reader<H: Piecewise, R: Read, const N: usize>(
         bytes,
         ended: false,
     })
+}
+
+/// `hash_reader` for a hasher to which cuts don't show: its state is then that after the text that was read, however it came.
+pub fn hash_stream<H: Streamed, R: Read, const N: usize>(
+    h: &mut H,
+    r: &mut R,
+    limit: u64,
+) -> Result<Taken, Fault>
+    requires not_empty { 0 < N }
+    requires small { N ≤ 65536 }
+
+    // The state is that after the text that was read, at a fault too.
+    ensures taken { IfOk result (λ taken. HashesRead H.in_range H.after (R.remaining r.old)
+        (R.remaining r.new) (H.state h.old) (H.state h.new) taken.bytes) }
+    ensures fault { IfErr result (λ fault. HashesRead H.in_range H.after (R.remaining r.old)
+        (R.remaining r.new) (H.state h.old) (H.state h.new) fault.bytes) }
+
+    // As for `hash_reader`.
+    ensures within { IfOk result (λ taken. taken.bytes ≤ limit) }
+    ensures at_limit { IfOk result (λ taken. (taken.ended ≡ false) ↔ (taken.bytes ≡ limit)) }
+    ensures nothing_left { IfOk result (λ taken. IsTrue taken.ended → IsAtEnd (R.remaining r.new)) }
+    ensures before_limit { IfErr result (λ fault. fault.bytes < limit) }
+{
+    hash_reader::<H, R, N>(h, r, limit)
 }

@@ -4,3 +4,4 @@
 pub mod engine;
 pub mod laws;
 pub mod window;
+pub mod writes;

@@ -1,11 +1,11 @@
 //! Whether two texts differ within a few neighbouring places only.
 ghost use Rattle.std.specs.Prelude.{◌≡◌, ◌↔◌, IsTrue, IfNone, IfSome, length};
-ghost use Rattle.hash_laws.specs.Window.{Window, AgreeUnder, DifferAtOnePlace, IsFirstDifference};
+ghost use Rattle.hash_laws.specs.DifferWithin.{DifferWithin, AgreeUnder, DifferAtOnePlace, IsFirstDifference};
 
 /// Whether the texts have one length and differ, but only within `places` neighbouring places, and at every place
 /// only in bits that are 0 in `mask`. A text shorter than `places` is one window.
 pub fn is_window(x: &[u8], y: &[u8], places: usize, mask: u8) -> bool
-    ensures { IsTrue result ↔ Window places mask x.now y.now }
+    ensures { IsTrue result ↔ DifferWithin places mask x.now y.now }
 {
     if x.len() != y.len() || !agree_under(mask, x, y) {
         return false;

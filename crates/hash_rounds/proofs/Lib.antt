@@ -6,6 +6,5 @@ pub mod RoundLemmas
 pub mod ShuffleLemmas
 pub mod BlockLemmas
 pub mod SumLemmas
-pub mod ByteStepLemmas
-pub mod FxStepLemmas
+pub mod SumStepLemmas
 pub mod Chunks

@@ -6,8 +6,7 @@ use Rattle.std.proofs.Math.Nat.{mod-add-mod, add-mod-mod, add-mul-mod_self_left,
 use Rattle.std.proofs.lemmas.List.Elements.{All-drop}
 use Rattle.std.proofs.lemmas.List.Sums.{sum_by-append, sum_by-cons}
 use Rattle.std.proofs.lemmas.Nat.{mul-mod_first, mul-add-lt}
-use Rattle.hash_rounds.specs.Sums.{digit_sum, sdbm, loselose, passthrough}
-use Rattle.hash_rounds.proofs.ByteStepLemmas.{sdbm_step, loselose_step, passthrough_step}
+use Rattle.hash_rounds.specs.Sums.{digit_sum, sdbm, loselose, passthrough, sdbm_step, loselose_step, passthrough_step}
 
 -- ---- digits
 

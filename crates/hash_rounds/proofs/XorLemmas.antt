@@ -1,7 +1,7 @@
 -- What `^` does to a word, and how it is undone.
-use Rattle.std.proofs.Common.{◌≡◌, ℕ, ◌/◌, ◌^◌, ◌<◌, bit_xor, sym, ap, ◌∙◌}
+use Rattle.std.proofs.Common.{◌≡◌, ℕ, ◌/◌, ◌^◌, ◌<◌, bit_xor, sym, ap, ◌∙◌, arith}
 use Rattle.std.proofs.Math.Nat.{div-eq_of_lt}
-use Rattle.std.proofs.lemmas.Nat.{xor_shr, xor_comm}
+use Rattle.std.proofs.lemmas.Nat.{xor_lt, xor_shr, xor_comm}
 use Rattle.std.specs.Int.Bits.{xor_assoc, xor_self, xor_zero_r}
 
 -- `^` undoes itself
@@ -18,3 +18,10 @@ xor_cancel_left h a b e = xor_cancel a b h (xor_comm a h ∙ e ∙ xor_comm h b)
 pub xor_block_kept : (k h b : ℕ) → b < 2 ^ k → bit_xor h b / 2 ^ k ≡ h / 2 ^ k
 xor_block_kept k h b small =
     xor_shr h b k ∙ ap (bit_xor (h / 2 ^ k)) (div-eq_of_lt small) ∙ xor_zero_r (h / 2 ^ k)
+
+-- a word with a byte xored in is a word
+pub xored_32 : (h b : ℕ) → h < 2 ^ 32 → b < 256 → bit_xor h b < 2 ^ 32
+xored_32 h b hs sb = xor_lt 32 h b hs (omega arith)
+
+pub xored_64 : (h b : ℕ) → h < 2 ^ 64 → b < 256 → bit_xor h b < 2 ^ 64
+xored_64 h b hs sb = xor_lt 64 h b hs (omega arith)

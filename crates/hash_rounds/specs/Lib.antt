@@ -6,4 +6,4 @@ pub mod Blocks
 pub mod Spooky
 pub mod Link
 pub mod Sums
-pub mod ByteSteps
+pub mod StepFacts

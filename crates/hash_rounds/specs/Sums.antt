@@ -17,3 +17,13 @@ loselose s t = (s + sum t) % 2 ^ 64
 -- the bytes t behind the word s, as one number in base 256, of which a word is kept
 unfoldable pub passthrough : ℕ → List ℕ → ℕ
 passthrough s t = (s * 256 ^ length t + digit_sum 256 t) % 2 ^ 64
+
+-- one byte of each: the state, a digit further, and the byte
+abbrev pub sdbm_step : ℕ → ℕ → ℕ
+sdbm_step h b = (65599 * h + b) % 2 ^ 32
+
+abbrev pub loselose_step : ℕ → ℕ → ℕ
+loselose_step h b = (h + b) % 2 ^ 64
+
+abbrev pub passthrough_step : ℕ → ℕ → ℕ
+passthrough_step h b = (256 * h + b) % 2 ^ 64

@@ -11,10 +11,14 @@ use std::snapshot::Snapshot;
 enum Link {
     Start,
     After(Snapshot<Link>),
+    Same(Snapshot<Snapshot<Link>>),
 }
 
 /// How many counted calls were made, as contracts see it: a number. It has no bytes at run time. `spooky_blocks`,
 /// `sdbm4` and `lose8` raise it by one a call, and nothing outside this crate can.
+///
+/// A count shows the calls that were charged to this counter, and no more: a body may charge another counter, make a call
+/// on no bytes, or leave a call's result unused.
 #[derive(Drop)]
 pub struct Turns {
     last: Snapshot<Link>,
@@ -38,6 +42,16 @@ impl Turns {
     {
         Turns {
             last: Snapshot::of(&Link::Start),
+        }
+    }
+
+    /// The same count once more.
+    pub fn fork(&self) -> Turns
+        ensures { result ≡ self.now }
+    {
+        let last = Snapshot::of(&self.last);
+        Turns {
+            last: Snapshot::of(&Link::Same(last)),
         }
     }
 

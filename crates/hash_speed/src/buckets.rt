@@ -8,7 +8,7 @@ use hashers::laws::Piecewise;
 use std::alloc::Global;
 
 /// How many buckets a table has.
-const BUCKETS: usize = 4096;
+const BUCKETS: usize = 1024;
 
 /// A table with each key and its number, or `None` where memory is short.
 #[inline(always)]

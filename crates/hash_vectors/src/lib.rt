@@ -1,7 +1,6 @@
-//! Tests that cross the crates, their readers, and the promises at each concrete type.
+//! Tests that cross the crates, their readers, a third party's hasher, and examples.
 #![tactic(auto)]
 
-pub mod promises;
 #[cfg(test)]
 mod tests;
 pub mod times31;

@@ -3,8 +3,8 @@ ghost use Rattle.std.specs.Prelude.{false, ◌≡◌, ◌≢◌, ◌<◌, ◌^�
 ghost use Rattle.std.specs.Bool.{OnFalse};
 ghost use Rattle.std.specs.FinMap as map;
 ghost use Rattle.std.specs.Io.KnownBytes.{IsAtEnd};
-ghost use Rattle.hash_laws.specs.Window.{Window};
-ghost use Rattle.hashers.specs.ByteSteps.{oaat_finish};
+ghost use Rattle.hash_laws.specs.DifferWithin.{DifferWithin};
+ghost use Rattle.hash_jenkins.specs.Oaat.{oaat_finish};
 ghost use Rattle.hashers.specs.Fnv.{fnv1a64, fnv1a64_basis};
 ghost use Rattle.hashers.specs.Oaat.{oaat};
 ghost use Rattle.hashers.specs.Oz.{djb2};
@@ -58,7 +58,7 @@ pub fn bloom_hashes(key: &[u8]) -> (u64, u64)
 /// keys of one length that differ within six neighbouring places, and nowhere in the three high bits of a byte.
 pub fn may_collide(x: &[u8], y: &[u8]) -> bool
     ensures differ { OnFalse result (djb2 5381 x.now ≢ djb2 5381 y.now) }
-    ensures exactly { (result ≡ false) ↔ Window 6 0xE0 x.now y.now }
+    ensures exactly { (result ≡ false) ↔ DifferWithin 6 0xE0 x.now y.now }
 {
     !apart_djb2(x, y)
 }

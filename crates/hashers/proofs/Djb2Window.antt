@@ -3,8 +3,8 @@ use Rattle.std.proofs.Common.{◌≡◌, ℕ, zero, suc, ◌+◌, ◌-◌, ◌*�
 use Rattle.std.specs.Int.Bits.{bit_xor, bit_and}
 use Rattle.std.proofs.lemmas.Nat.{xor_shr, xor_lt}
 use Rattle.std.proofs.lemmas.Nat.Bits.{and_high}
-use Rattle.hash_rounds.specs.ByteSteps.{djb2_step}
-use Rattle.hash_rounds.proofs.ByteStepLemmas.{djb2_loses_nothing}
+use Rattle.hashers.specs.Oz.{djb2_step}
+use Rattle.hashers.specs.OzLaws.{djb2_facts}
 use Rattle.hash_laws.proofs.Windows.{Separates}
 use Rattle.hashers.proofs.WindowSpreads.{IsState32}
 use Rattle.hash_rounds.proofs.XorLemmas.{xor_cancel, xor_cancel_left, xor_block_kept}
@@ -63,8 +63,8 @@ spread_fits (suc (suc (suc (suc (suc n))))) h = absurd (omega arith)
 
 pub djb2_separates : Separates djb2_step IsState32 6 224 (λ n. Near (spread_after n))
 djb2_separates = record {
-  in_range = djb2_loses_nothing.in_range;
-  same_state = djb2_loses_nothing.same_state;
+  in_range = djb2_facts.in_range;
+  state_injective = djb2_facts.state_injective;
   first = λ h a b hs sa sb top ne. record {
     differ = λ e. ne (xor_cancel_left (33 * h % 2 ^ 32) a b e);
     close =

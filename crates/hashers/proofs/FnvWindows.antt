@@ -1,8 +1,9 @@
 -- Why two texts that differ within three places (fnv1a64) or two (fnv1a32) have different hashes.
 use Rattle.std.proofs.Common.{◌≡◌, ℕ, zero, suc, ◌+◌, ◌*◌, ◌/◌, ◌%◌, ◌^◌, ◌<◌, ◌≢◌, arith}
 use Rattle.std.specs.Int.Bits.{bit_xor}
-use Rattle.hash_rounds.specs.ByteSteps.{fnv1a32_step, fnv1a64_step}
-use Rattle.hash_rounds.proofs.ByteStepLemmas.{xored_32, xored_64, fnv1a32_same, fnv1a64_same, fnv1a32_loses_nothing, fnv1a64_loses_nothing}
+use Rattle.hashers.specs.Fnv.{fnv1a32_step, fnv1a64_step}
+use Rattle.hash_rounds.proofs.XorLemmas.{xored_32, xored_64}
+use Rattle.hashers.specs.FnvLaws.{fnv1a32_same, fnv1a64_same, fnv1a32_facts, fnv1a64_facts}
 use Rattle.hashers.proofs.WindowSpreads.{IsState32, IsState64, OneByte, TwoBytes}
 use Rattle.hash_laws.proofs.Windows.{Separates}
 use Rattle.hash_rounds.proofs.XorLemmas.{xor_cancel_left, xor_block_kept}
@@ -63,8 +64,8 @@ different_32 (suc n) h k far = far
 
 pub fnv1a32_separates : Separates fnv1a32_step IsState32 2 0 Fnv32Apart
 fnv1a32_separates = record {
-  in_range = fnv1a32_loses_nothing.in_range;
-  same_state = fnv1a32_loses_nothing.same_state;
+  in_range = fnv1a32_facts.in_range;
+  state_injective = fnv1a32_facts.state_injective;
   first = λ h a b hs sa sb mask ne.
       first_32 h (bit_xor h a) (bit_xor h b) (kept h a sa) (kept h b sb) (λ e. ne (xor_cancel_left h a b e));
   next = λ n h k a b fits hs ks sa sb mask far. next_32 n h k a b fits hs ks sa sb far;
@@ -86,8 +87,8 @@ different_64 (suc (suc n)) h k far = far
 
 pub fnv1a64_separates : Separates fnv1a64_step IsState64 3 0 Fnv64Apart
 fnv1a64_separates = record {
-  in_range = fnv1a64_loses_nothing.in_range;
-  same_state = fnv1a64_loses_nothing.same_state;
+  in_range = fnv1a64_facts.in_range;
+  state_injective = fnv1a64_facts.state_injective;
   first = λ h a b hs sa sb mask ne.
       first_64 h (bit_xor h a) (bit_xor h b) (kept h a sa) (kept h b sb) (λ e. ne (xor_cancel_left h a b e));
   next = λ n h k a b fits hs ks sa sb mask far. next_64 n h k a b fits hs ks sa sb far;

@@ -5,3 +5,9 @@ pub mod LastBytes
 pub mod SdbmWindow
 pub mod ShortWords
 pub mod WindowSpreads
+pub use Rattle.hash_laws.proofs.RecurrenceLemmas
+pub use Rattle.hash_laws.proofs.ReadingLemmas
+pub use Rattle.hash_laws.proofs.TextLemmas
+pub use Rattle.hash_laws.proofs.WriteLemmas
+pub use Rattle.hash_rounds.proofs.XorLemmas
+pub use Rattle.hash_fx.proofs.FixedWidths

@@ -1,6 +1,7 @@
 -- Why two texts that differ within three places have different sdbm hashes.
 use Rattle.std.proofs.Common.{◌≡◌, ℕ, zero, suc, ◌+◌, ◌*◌, ◌%◌, ◌^◌, ◌<◌, ◌≢◌, arith}
-use Rattle.hash_rounds.proofs.ByteStepLemmas.{sdbm_step, sdbm_loses_nothing}
+use Rattle.hash_rounds.specs.Sums.{sdbm_step}
+use Rattle.hash_rounds.proofs.SumStepLemmas.{sdbm_facts}
 use Rattle.hash_laws.proofs.Windows.{Separates}
 use Rattle.hashers.proofs.WindowSpreads.{IsState32, OneByte, TwoBytes}
 
@@ -40,8 +41,8 @@ different (suc (suc n)) h k far = far
 
 pub sdbm_separates : Separates sdbm_step IsState32 3 0 SdbmApart
 sdbm_separates = record {
-  in_range = sdbm_loses_nothing.in_range;
-  same_state = sdbm_loses_nothing.same_state;
+  in_range = sdbm_facts.in_range;
+  state_injective = sdbm_facts.state_injective;
   first = λ h a b hs sa sb mask ne. record { c = a; d = b; c_byte = sa; d_byte = sb; differ = ne; apart = omega arith };
   next = λ n h k a b fits hs ks sa sb mask far. next_place n h k a b fits sa sb far;
   apart = different;

@@ -7,15 +7,15 @@ use Rattle.std.proofs.lemmas.List.{get_or_past}
 use Rattle.std.proofs.lemmas.Nat.Bits.{and_high}
 use Rattle.std.specs.Int.Bits.{bit_and}
 use Rattle.hash_laws.specs.Text.{IsText}
-use Rattle.hash_laws.specs.Window.{Window}
+use Rattle.hash_laws.specs.DifferWithin.{DifferWithin}
 use Rattle.hashers.specs.Oz.{djb2}
-use Rattle.hashers.specs.Words.{IsShortWord}
+use Rattle.hashers.specs.ShortWords.{IsShortWord}
 use Rattle.hashers.proofs.Collisions.{djb2_apart}
 
 letter_top : (b : ℕ) → 97 ≤ b → b ≤ 122 → bit_and b 224 ≡ 96
 letter_top b low high = omega (arith, and_high b 3 5)
 
-words_window : (x y : List ℕ) → length x ≡ length y → IsShortWord x → IsShortWord y → x ≢ y → Window 6 224 x y
+words_window : (x y : List ℕ) → length x ≡ length y → IsShortWord x → IsShortWord y → x ≢ y → DifferWithin 6 224 x y
 words_window x y len wx wy ne = record {
   same_length = len;
   different = ne;

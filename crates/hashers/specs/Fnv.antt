@@ -1,7 +1,6 @@
--- The hash of Fowler, Noll and Vo in the variant 1a (the FNV authors' page).
+-- The hash of Fowler, Noll and Vo in the variant 1a (the FNV authors' page, www.isthe.com/chongo/tech/comp/fnv).
 use Rattle.std.specs.Prelude.{ℕ, ◌*◌, ◌%◌, ◌^◌, List, bit_xor}
 use Rattle.hash_laws.specs.Recurrence.{recurrence}
-use Rattle.hash_rounds.specs.ByteSteps.{fnv1a32_step, fnv1a64_step}
 
 -- the starts, which the authors call offset bases
 abbrev pub fnv1a32_basis : ℕ
@@ -9,6 +8,13 @@ fnv1a32_basis = 2166136261
 
 abbrev pub fnv1a64_basis : ℕ
 fnv1a64_basis = 14695981039346656037
+
+-- one byte: it is xored in, and then a product by the FNV prime
+abbrev pub fnv1a32_step : ℕ → ℕ → ℕ
+fnv1a32_step h b = bit_xor h b * 16777619 % 2 ^ 32
+
+abbrev pub fnv1a64_step : ℕ → ℕ → ℕ
+fnv1a64_step h b = bit_xor h b * 1099511628211 % 2 ^ 64
 
 -- the state after a text, from a start
 abbrev pub fnv1a32 : ℕ → List ℕ → ℕ

@@ -1,8 +1,11 @@
--- djb2 (Oz' page of hash functions).
-use Rattle.std.specs.Prelude.{ℕ, List}
+-- djb2, Dan Bernstein's hash in its form with xor (Oz' page of hash functions, www.cse.yorku.ca/~oz/hash.html).
+use Rattle.std.specs.Prelude.{ℕ, ◌*◌, ◌%◌, ◌^◌, List, bit_xor}
 use Rattle.hash_laws.specs.Recurrence.{recurrence}
-use Rattle.hash_rounds.specs.ByteSteps.{djb2_step}
 
--- the state after a text, from a start
+-- one byte: a product by 33, and then the byte is xored in
+abbrev pub djb2_step : ℕ → ℕ → ℕ
+djb2_step h b = bit_xor (33 * h % 2 ^ 32) b
+
+-- the state after a text, from a start, by default 5381
 abbrev pub djb2 : ℕ → List ℕ → ℕ
 djb2 = recurrence djb2_step

@@ -1,17 +1,14 @@
 //! The hash functions of Glenn Fowler, Landon Curt Noll and Kiem-Phong Vo, in the variant 1a: for each byte an exclusive
 //! or, and then a product by a prime. They were published on the authors' page, and are short and widely used.
-ghost use Rattle.std.specs.Prelude.{◌≡◌, ◌≢◌, ◌<◌, ◌^◌, ◌+◌, ◌*◌, ◌%◌, ◌↔◌, ℕ, [], ◌∷◌, IsSome, IsSomeAnd, IfSome, IfNone, slice_index, refl};
+ghost use Rattle.std.specs.Prelude.{◌≡◌, ◌^◌, ◌+◌, ◌*◌, ◌%◌, refl};
 ghost use Rattle.std.proofs.Common.{lit<};
-ghost use Rattle.hash_rounds.specs.ByteSteps.{fnv1a32_step, fnv1a64_step};
-ghost use Rattle.hash_rounds.proofs.ByteStepLemmas.{fnv1a32_loses_nothing, fnv1a64_loses_nothing};
-ghost use Rattle.hash_laws.specs.Standing.{StandsAt};
-ghost use Rattle.hash_laws.proofs.ByteLemmas as bytewise;
+ghost use Rattle.hashers.specs.Fnv.{fnv1a32_step, fnv1a64_step};
+ghost use Rattle.hashers.specs.FnvLaws.{fnv1a32_facts, fnv1a64_facts};
 ghost use Rattle.hash_laws.proofs.RecurrenceLemmas.{recurrence_is_fold};
 ghost use Rattle.hashers.specs.Fnv.{fnv0, fnv1a32_basis, fnv1a32, fnv1a64_basis, fnv1a64};
 
-use hash_laws::laws::{ByteStep, Piecewise, Streamed, Undo};
+use hash_rules::{ByteHasher, ByteRule, StepRule, alone_or_in_eights};
 use std::hash::Hasher;
-use std::marker::Model;
 
 /// The start at 32 bits, which the authors call the offset basis.
 const BASIS_32: u32 = 2166136261;
@@ -46,238 +43,81 @@ pub fn origin_of_constants()
     ensures inverse_64 { 1099511628211 * UNPRIME_64 % 2 ^ 64 ≡ 1 }
 {}
 
-/// One byte on, at 32 bits.
-#[inline(always)]
-fn stepped_32(state: u32, byte: u8) -> u32
-    ensures { result ≡ fnv1a32_step state byte }
-{
-    (state ^ u32::from(byte)).wrapping_mul(PRIME_32)
-}
+/// The rule of FNV-1a at 32 bits.
+pub struct Fnv1aRule32;
 
-/// The bytes in, one step for each, at 32 bits.
-#[inline(always)]
-#[tactic(auto, using(hash_laws::proofs::RecurrenceLemmas::turns))]
-fn bytes_in_32(state: u32, bytes: &[u8]) -> u32
-    ensures { result ≡ fnv1a32 state bytes.now }
-{
-    let mut h = state;
-    for byte in bytes {
-        h = stepped_32(h, *byte);
+impl StepRule for Fnv1aRule32 {
+    type State = u32;
+
+    ghost number = { λ s. s };
+
+    ghost bound = { 2 ^ 32 };
+
+    ghost start = { fnv1a32_basis };
+
+    ghost step = { fnv1a32_step };
+
+    fn start() -> u32 {
+        BASIS_32
     }
-    h
-}
 
-/// One byte back, at 32 bits.
-#[inline(always)]
-#[tactic(auto, using(hash_rounds::proofs::ByteStepLemmas::fnv1a32_back))]
-fn unstepped_32(state: u32, byte: u8) -> u32
-    ensures { fnv1a32_step result byte ≡ state }
-{
-    state.wrapping_mul(UNPRIME_32) ^ u32::from(byte)
-}
-
-/// One byte on, at 64 bits.
-#[inline(always)]
-fn stepped_64(state: u64, byte: u8) -> u64
-    ensures { result ≡ fnv1a64_step state byte }
-{
-    (state ^ u64::from(byte)).wrapping_mul(PRIME_64)
-}
-
-/// The bytes in, one step for each, at 64 bits.
-#[inline(always)]
-#[tactic(auto, using(hash_laws::proofs::RecurrenceLemmas::turns))]
-fn bytes_in_64(state: u64, bytes: &[u8]) -> u64
-    ensures { result ≡ fnv1a64 state bytes.now }
-{
-    let mut h = state;
-    for byte in bytes {
-        h = stepped_64(h, *byte);
-    }
-    h
-}
-
-/// One byte back, at 64 bits.
-#[inline(always)]
-#[tactic(auto, using(hash_rounds::proofs::ByteStepLemmas::fnv1a64_back))]
-fn unstepped_64(state: u64, byte: u8) -> u64
-    ensures { fnv1a64_step result byte ≡ state }
-{
-    state.wrapping_mul(UNPRIME_64) ^ u64::from(byte)
-}
-
-/// FNV-1a at 32 bits. Contracts see it as its state, a number below 2^32.
-pub struct FNV1aHasher32 {
-    state: u32,
-}
-
-impl Model for FNV1aHasher32 {
-    ghost Value = { ℕ };
-
-    ghost view = { λ h. h.state };
-}
-
-impl Drop for FNV1aHasher32 {
-    fn drop(self) {
-        let Self { state: _ } = self;
-    }
-}
-
-impl Default for FNV1aHasher32 {
-    ghost is_default = { λ h. h ≡ fnv1a32_basis };
-
-    /// The hasher of no bytes.
-    fn default() -> FNV1aHasher32 {
-        FNV1aHasher32 { state: BASIS_32 }
-    }
-}
-
-impl Hasher for FNV1aHasher32 {
-    ghost write = { fnv1a32 };
-
-    ghost finish = { λ h. h };
-
-    /// The state, widened.
     #[inline(always)]
-    fn finish(&self) -> u64
-        ensures value { result ≡ self.now }
-        ensures known { self.now < 2 ^ 32 }
-    {
-        u64::from(self.state)
+    fn fork(state: &u32) -> u32 {
+        *state
     }
 
-    /// Takes the bytes in, one step for each. Eight steps at a time are straight code, and so is a single one.
     #[inline(always)]
-    fn write(&mut self, bytes: &[u8])
-        ensures state { self.new ≡ fnv1a32 self.old bytes.now }
-        ensures known_before { self.old < 2 ^ 32 }
-        ensures known_after { self.new < 2 ^ 32 }
-    {
-        if let [byte] = bytes {
-            self.state = stepped_32(self.state, *byte);
-            return;
-        }
-        let (few, eights) = bytes.as_rchunks::<8>();
-        let mut state = bytes_in_32(self.state, few);
-        for eight in eights {
-            state = bytes_in_32(state, eight);
-        }
-        self.state = state;
+    fn step(state: &mut u32, byte: u8) {
+        *state = (*state ^ u32::from(byte)).wrapping_mul(PRIME_32);
     }
+
+    #[inline(always)]
+    #[tactic(auto, using(crate::specs::FnvLaws::fnv1a32_back))]
+    fn unstep(state: &mut u32, byte: u8) {
+        *state = state.wrapping_mul(UNPRIME_32) ^ u32::from(byte);
+    }
+
+    ghost start_in_range = { lit< tt };
+
+    ghost facts = { fnv1a32_facts };
 }
 
-impl Piecewise for FNV1aHasher32 {
-    ghost State = { ℕ };
-
-    ghost state = { λ h. h };
-
-    ghost is_state = { λ s. s < 2 ^ 32 };
-
-    ghost fresh = { fnv1a32_basis };
-
+impl ByteRule for Fnv1aRule32 {
     ghost after = { fnv1a32 };
+
+    ghost write = { fnv1a32 };
 
     ghost answer = { λ s. s };
 
-    fn fresh() -> FNV1aHasher32 {
-        FNV1aHasher32::default()
+    #[inline(always)]
+    fn write(state: &mut u32, bytes: &[u8]) {
+        alone_or_in_eights::<Fnv1aRule32>(state, bytes);
     }
 
     #[inline(always)]
-    fn feed(&mut self, piece: &[u8]) {
-        self.write(piece);
+    fn answer(state: &u32) -> u64 {
+        u64::from(*state)
     }
 
-    #[inline(always)]
-    fn answer(&self) -> u64 {
-        self.finish()
+    fn unanswer(hash: u64) -> Option<u32> {
+        u32::try_from(hash).ok()
     }
 
-    ghost default_is_fresh = { λ h same. same };
+    ghost is_fold = { recurrence_is_fold fnv1a32_step (2 ^ 32) };
 
-    ghost write_feeds = { λ h piece. refl };
+    ghost write_is_after = { λ s text. refl };
 
-    ghost finish_answers = { λ h. refl };
-
-    ghost fresh_is_state = { lit< tt };
-
-    ghost after_is_state = { bytewise.after_below fnv1a32_step (2 ^ 32) fnv1a32 (recurrence_is_fold fnv1a32_step (2 ^ 32)) fnv1a32_loses_nothing.in_range };
-
-    ghost after_nothing = { λ s known. (recurrence_is_fold fnv1a32_step (2 ^ 32)) s [] known };
+    ghost answer_injective = { λ s t ks kt same. same };
 }
 
-impl Streamed for FNV1aHasher32 {
-    ghost start = { fnv1a32_basis ∷ [] };
-
-    ghost stands_at = { StandsAt fnv1a32 (2 ^ 32) };
-
-    ghost hash = { λ from text. fnv1a32 (slice_index from 0) text };
-
-    ghost stands_at_start = { bytewise.stands_at_start fnv1a32_step (2 ^ 32) fnv1a32 (recurrence_is_fold fnv1a32_step (2 ^ 32)) fnv1a32_basis (lit< tt) };
-
-    ghost stands_after = { bytewise.stands_after fnv1a32_step (2 ^ 32) fnv1a32 (recurrence_is_fold fnv1a32_step (2 ^ 32)) fnv1a32_loses_nothing.in_range };
-
-    ghost after_joined = { bytewise.after_joined fnv1a32_step (2 ^ 32) fnv1a32 (recurrence_is_fold fnv1a32_step (2 ^ 32)) fnv1a32_loses_nothing.in_range };
-
-    ghost hash_from_start = { λ text bytes. refl };
-
-    ghost stands_answers = { bytewise.stands_state fnv1a32 (2 ^ 32) };
-}
-
-impl Undo for FNV1aHasher32 {
-    fn unwrite(&mut self, piece: &[u8]) {
-        let mut state = self.state;
-        for byte in piece.iter().rev() {
-            state = unstepped_32(state, *byte);
-        }
-        self.state = state;
-    }
-
-    fn unfinish(answer: u64) -> Option<FNV1aHasher32>
-        ensures exact { IsSome result ↔ (answer < 2 ^ 32) }
-        ensures some { IfSome result (λ h. h ≡ answer) }
-        ensures known { IfSome result (λ h. h < 2 ^ 32) }
-        ensures none { IfNone result ((s : ℕ) → s < 2 ^ 32 → s ≢ answer) }
-    {
-        let state = u32::try_from(answer).ok()?;
-        Some(FNV1aHasher32 { state })
-    }
-
-    ghost one_before = { bytewise.one_before fnv1a32_step (2 ^ 32) fnv1a32 (recurrence_is_fold fnv1a32_step (2 ^ 32)) fnv1a32_loses_nothing.in_range fnv1a32_loses_nothing.same_state };
-
-    ghost one_answer = { λ s t ks kt same. same };
-}
-
-impl ByteStep for FNV1aHasher32 {
-    ghost itself = { λ h. h ∷ [] };
-
-    #[inline(always)]
-    fn step(&mut self, byte: u8)
-        ensures exact { self.new ≡ fnv1a32_step self.old byte }
-        ensures state { self.new ≡ fnv1a32 self.old (byte ∷ []) }
-        ensures known_before { self.old < 2 ^ 32 }
-        ensures known_after { self.new < 2 ^ 32 }
-    {
-        self.state = stepped_32(self.state, byte);
-    }
-
-    #[inline(always)]
-    fn unstep(&mut self, byte: u8)
-        ensures exact { fnv1a32_step self.new byte ≡ self.old }
-        ensures back { fnv1a32 self.new (byte ∷ []) ≡ self.old }
-        ensures undone { (s : ℕ) → s < 2 ^ 32 → fnv1a32 s (byte ∷ []) ≡ self.old → self.new ≡ s }
-        ensures known_before { self.old < 2 ^ 32 }
-        ensures known_after { self.new < 2 ^ 32 }
-    {
-        self.state = unstepped_32(self.state, byte);
-    }
-
-    ghost in_steps = { bytewise.in_steps fnv1a32_step (2 ^ 32) fnv1a32 (recurrence_is_fold fnv1a32_step (2 ^ 32)) fnv1a32_loses_nothing.in_range };
-
-    ghost one_byte = { bytewise.one_byte fnv1a32_step (2 ^ 32) fnv1a32 (recurrence_is_fold fnv1a32_step (2 ^ 32)) fnv1a32_loses_nothing.same_item };
-
-    ghost stands_at_itself = { λ h known. bytewise.stands_at_start fnv1a32_step (2 ^ 32) fnv1a32 (recurrence_is_fold fnv1a32_step (2 ^ 32)) h known h refl };
-}
+/// FNV-1a at 32 bits (the FNV authors' page, www.isthe.com/chongo/tech/comp/fnv).
+///
+/// From 2166136261, a byte `b` takes the state `h` to `(h ^ b) * 16777619`, modulo 2^32; `finish` answers `h`, widened. Cuts
+/// don't show, and each write can be undone. Texts that differ in at most two neighbouring bytes never collide.
+///
+/// Contracts see the hasher as its state, a number below 2^32: `write` gives `h.new ≡ fnv1a32 h.old bytes.now`, and
+/// `finish` answers `h.now`. Of `a` the hash is 3826002220.
+pub type FNV1aHasher32 = ByteHasher<Fnv1aRule32>;
 
 /// FNV-1a at 32 bits of the bytes.
 pub fn fnv1a32(bytes: &[u8]) -> u64
@@ -288,177 +128,81 @@ pub fn fnv1a32(bytes: &[u8]) -> u64
     hasher.finish()
 }
 
-/// FNV-1a at 64 bits. Contracts see it as its state, a number below 2^64.
-pub struct FNV1aHasher64 {
-    state: u64,
-}
+/// The rule of FNV-1a at 64 bits.
+pub struct Fnv1aRule64;
 
-impl Model for FNV1aHasher64 {
-    ghost Value = { ℕ };
+impl StepRule for Fnv1aRule64 {
+    type State = u64;
 
-    ghost view = { λ h. h.state };
-}
+    ghost number = { λ s. s };
 
-impl Drop for FNV1aHasher64 {
-    fn drop(self) {
-        let Self { state: _ } = self;
+    ghost bound = { 2 ^ 64 };
+
+    ghost start = { fnv1a64_basis };
+
+    ghost step = { fnv1a64_step };
+
+    fn start() -> u64 {
+        BASIS_64
     }
-}
 
-impl Default for FNV1aHasher64 {
-    ghost is_default = { λ h. h ≡ fnv1a64_basis };
-
-    /// The hasher of no bytes.
-    fn default() -> FNV1aHasher64 {
-        FNV1aHasher64 { state: BASIS_64 }
-    }
-}
-
-impl Hasher for FNV1aHasher64 {
-    ghost write = { fnv1a64 };
-
-    ghost finish = { λ h. h };
-
-    /// The state.
     #[inline(always)]
-    fn finish(&self) -> u64
-        ensures value { result ≡ self.now }
-        ensures known { self.now < 2 ^ 64 }
-    {
-        self.state // as it is, at 64 bits
+    fn fork(state: &u64) -> u64 {
+        *state
     }
 
-    /// Takes the bytes in, one step for each. Eight steps at a time are straight code, and so is a single one.
     #[inline(always)]
-    fn write(&mut self, bytes: &[u8])
-        ensures state { self.new ≡ fnv1a64 self.old bytes.now }
-        ensures known_before { self.old < 2 ^ 64 }
-        ensures known_after { self.new < 2 ^ 64 }
-    {
-        if let [byte] = bytes {
-            self.state = stepped_64(self.state, *byte);
-            return;
-        }
-        let (few, eights) = bytes.as_rchunks::<8>();
-        let mut state = bytes_in_64(self.state, few);
-        for eight in eights {
-            state = bytes_in_64(state, eight);
-        }
-        self.state = state;
+    fn step(state: &mut u64, byte: u8) {
+        *state = (*state ^ u64::from(byte)).wrapping_mul(PRIME_64);
     }
+
+    #[inline(always)]
+    #[tactic(auto, using(crate::specs::FnvLaws::fnv1a64_back, hash_rounds::proofs::XorLemmas::xored_64))]
+    fn unstep(state: &mut u64, byte: u8) {
+        *state = state.wrapping_mul(UNPRIME_64) ^ u64::from(byte);
+    }
+
+    ghost start_in_range = { lit< tt };
+
+    ghost facts = { fnv1a64_facts };
 }
 
-impl Piecewise for FNV1aHasher64 {
-    ghost State = { ℕ };
-
-    ghost state = { λ h. h };
-
-    ghost is_state = { λ s. s < 2 ^ 64 };
-
-    ghost fresh = { fnv1a64_basis };
-
+impl ByteRule for Fnv1aRule64 {
     ghost after = { fnv1a64 };
+
+    ghost write = { fnv1a64 };
 
     ghost answer = { λ s. s };
 
-    fn fresh() -> FNV1aHasher64 {
-        FNV1aHasher64::default()
+    #[inline(always)]
+    fn write(state: &mut u64, bytes: &[u8]) {
+        alone_or_in_eights::<Fnv1aRule64>(state, bytes);
     }
 
     #[inline(always)]
-    fn feed(&mut self, piece: &[u8]) {
-        self.write(piece);
+    fn answer(state: &u64) -> u64 {
+        *state
     }
 
-    #[inline(always)]
-    fn answer(&self) -> u64 {
-        self.finish()
+    fn unanswer(hash: u64) -> Option<u64> {
+        Some(hash)
     }
 
-    ghost default_is_fresh = { λ h same. same };
+    ghost is_fold = { recurrence_is_fold fnv1a64_step (2 ^ 64) };
 
-    ghost write_feeds = { λ h piece. refl };
+    ghost write_is_after = { λ s text. refl };
 
-    ghost finish_answers = { λ h. refl };
-
-    ghost fresh_is_state = { lit< tt };
-
-    ghost after_is_state = { bytewise.after_below fnv1a64_step (2 ^ 64) fnv1a64 (recurrence_is_fold fnv1a64_step (2 ^ 64)) fnv1a64_loses_nothing.in_range };
-
-    ghost after_nothing = { λ s known. (recurrence_is_fold fnv1a64_step (2 ^ 64)) s [] known };
+    ghost answer_injective = { λ s t ks kt same. same };
 }
 
-impl Streamed for FNV1aHasher64 {
-    ghost start = { fnv1a64_basis ∷ [] };
-
-    ghost stands_at = { StandsAt fnv1a64 (2 ^ 64) };
-
-    ghost hash = { λ from text. fnv1a64 (slice_index from 0) text };
-
-    ghost stands_at_start = { bytewise.stands_at_start fnv1a64_step (2 ^ 64) fnv1a64 (recurrence_is_fold fnv1a64_step (2 ^ 64)) fnv1a64_basis (lit< tt) };
-
-    ghost stands_after = { bytewise.stands_after fnv1a64_step (2 ^ 64) fnv1a64 (recurrence_is_fold fnv1a64_step (2 ^ 64)) fnv1a64_loses_nothing.in_range };
-
-    ghost after_joined = { bytewise.after_joined fnv1a64_step (2 ^ 64) fnv1a64 (recurrence_is_fold fnv1a64_step (2 ^ 64)) fnv1a64_loses_nothing.in_range };
-
-    ghost hash_from_start = { λ text bytes. refl };
-
-    ghost stands_answers = { bytewise.stands_state fnv1a64 (2 ^ 64) };
-}
-
-impl Undo for FNV1aHasher64 {
-    fn unwrite(&mut self, piece: &[u8]) {
-        let mut state = self.state;
-        for byte in piece.iter().rev() {
-            state = unstepped_64(state, *byte);
-        }
-        self.state = state;
-    }
-
-    fn unfinish(answer: u64) -> Option<FNV1aHasher64>
-        ensures exact { IsSomeAnd result (λ h. h ≡ answer) }
-        ensures some { IfSome result (λ h. h ≡ answer) }
-        ensures known { IfSome result (λ h. h < 2 ^ 64) }
-        ensures none { IfNone result ((s : ℕ) → s < 2 ^ 64 → s ≢ answer) }
-    {
-        Some(FNV1aHasher64 { state: answer })
-    }
-
-    ghost one_before = { bytewise.one_before fnv1a64_step (2 ^ 64) fnv1a64 (recurrence_is_fold fnv1a64_step (2 ^ 64)) fnv1a64_loses_nothing.in_range fnv1a64_loses_nothing.same_state };
-
-    ghost one_answer = { λ s t ks kt same. same };
-}
-
-impl ByteStep for FNV1aHasher64 {
-    ghost itself = { λ h. h ∷ [] };
-
-    #[inline(always)]
-    fn step(&mut self, byte: u8)
-        ensures exact { self.new ≡ fnv1a64_step self.old byte }
-        ensures state { self.new ≡ fnv1a64 self.old (byte ∷ []) }
-        ensures known_before { self.old < 2 ^ 64 }
-        ensures known_after { self.new < 2 ^ 64 }
-    {
-        self.state = stepped_64(self.state, byte);
-    }
-
-    #[inline(always)]
-    fn unstep(&mut self, byte: u8)
-        ensures exact { fnv1a64_step self.new byte ≡ self.old }
-        ensures back { fnv1a64 self.new (byte ∷ []) ≡ self.old }
-        ensures undone { (s : ℕ) → s < 2 ^ 64 → fnv1a64 s (byte ∷ []) ≡ self.old → self.new ≡ s }
-        ensures known_before { self.old < 2 ^ 64 }
-        ensures known_after { self.new < 2 ^ 64 }
-    {
-        self.state = unstepped_64(self.state, byte);
-    }
-
-    ghost in_steps = { bytewise.in_steps fnv1a64_step (2 ^ 64) fnv1a64 (recurrence_is_fold fnv1a64_step (2 ^ 64)) fnv1a64_loses_nothing.in_range };
-
-    ghost one_byte = { bytewise.one_byte fnv1a64_step (2 ^ 64) fnv1a64 (recurrence_is_fold fnv1a64_step (2 ^ 64)) fnv1a64_loses_nothing.same_item };
-
-    ghost stands_at_itself = { λ h known. bytewise.stands_at_start fnv1a64_step (2 ^ 64) fnv1a64 (recurrence_is_fold fnv1a64_step (2 ^ 64)) h known h refl };
-}
+/// FNV-1a at 64 bits (the FNV authors' page, www.isthe.com/chongo/tech/comp/fnv).
+///
+/// From 14695981039346656037, a byte `b` takes the state `h` to `(h ^ b) * 1099511628211`, modulo 2^64; `finish` answers `h`.
+/// Cuts don't show, and each write can be undone. Texts that differ in at most three neighbouring bytes never collide.
+///
+/// Contracts see the hasher as its state, a number below 2^64: `write` gives `h.new ≡ fnv1a64 h.old bytes.now`, and
+/// `finish` answers `h.now`. Of `a` the hash is 12638187200555641996.
+pub type FNV1aHasher64 = ByteHasher<Fnv1aRule64>;
 
 /// FNV-1a at 64 bits of the bytes.
 pub fn fnv1a64(bytes: &[u8]) -> u64

@@ -1,12 +1,19 @@
 //! The laws of hashers: the traits and the generic functions, and tests of two texts.
 
-pub use crate::windows::{apart_djb2, apart_fnv32, apart_fnv64, apart_sdbm, same_word};
+pub use crate::windows::{
+    apart_djb2, apart_fnv32, apart_fnv64, apart_sdbm, same_word, windows_tell_apart,
+};
 pub use hash_fx::laws::{
-    apart_by_one_fx, fixed_widths_are_words32, fixed_widths_are_words64, run_words, run_words32,
-    run_words64,
+    apart_by_one_fx, fixed_widths_are_words32, fixed_widths_are_words64, one_changed_byte_shows_fx,
+    pieces_are_their_words, run_words, run_words32, run_words64, words_by_place32,
+    words_by_place64,
 };
 pub use hash_jenkins::laws::{apart_by_zeros, same_answers_later};
 pub use hash_laws::laws::{
-    ByteStep, Piecewise, Streamed, Undo, answer_of_pieces, apart_by_one, bucket_of, run_pair,
-    run_pieces, run_streamed,
+    ByteStep, Piecewise, Streamed, Undo, answer_of_pieces, apart_by_one, bucket_of, hash_of,
+    joined_texts_are_one, one_changed_byte_shows, run_pair, run_pieces, run_streamed,
+    text_is_its_steps,
+};
+pub use hash_laws::writes::{
+    Write, answer_of_writes, run_writes, run_writes_streamed, unrun_writes,
 };

@@ -6,8 +6,10 @@ pub mod laws;
 pub mod null;
 pub mod oz;
 pub mod pigeon;
+pub mod promises;
 mod windows;
 
 pub use hash_fx as fx_hash;
 pub use hash_jenkins as jenkins;
 pub use hash_laws::engine as engine;
+pub use hash_rules as rules;

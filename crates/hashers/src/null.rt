@@ -3,7 +3,7 @@ ghost use Rattle.std.specs.Prelude.{◌≡◌, ◌<◌, ◌^◌, ◌-◌, ◌+�
 ghost use Rattle.std.proofs.Common.{lit<, sym};
 ghost use Rattle.std.proofs.Math.Nat.{mod-lt};
 ghost use Rattle.hash_rounds.specs.Sums.{digit_sum, passthrough};
-ghost use Rattle.hash_rounds.proofs.ByteStepLemmas.{passthrough_step};
+ghost use Rattle.hash_rounds.specs.Sums.{passthrough_step};
 ghost use Rattle.hash_rounds.proofs.SumLemmas.{passthrough-fold, passthrough-lt, passthrough-nil, passthrough-append};
 ghost use Rattle.hash_laws.specs.Standing.{StandsAt};
 ghost use Rattle.hash_laws.proofs.ByteLemmas as bytewise;
@@ -12,7 +12,8 @@ use hash_laws::laws::{Piecewise, Streamed};
 use std::hash::Hasher;
 use std::marker::Model;
 
-/// The hasher that answers 0 to every text. The value written `NullHasher` is its default.
+/// The hasher that answers 0 to every text (the crate hashers' own, the worst case for a table). The value written
+/// `NullHasher` is its default. `write` gives `h.new ≡ h.old`, and `finish` answers 0.
 pub struct NullHasher;
 
 impl Drop for NullHasher {
@@ -53,13 +54,17 @@ impl Piecewise for NullHasher {
 
     ghost state = { λ h. tt };
 
-    ghost is_state = { λ s. Unit {0} };
+    ghost in_range = { λ s. Unit {0} };
 
     ghost fresh = { tt };
 
     ghost after = { λ s piece. s };
 
     ghost answer = { λ s. 0 };
+
+    ghost hash_of = { λ text. 0 };
+
+    ghost first = { record {} };
 
     fn fresh() -> NullHasher {
         NullHasher
@@ -75,15 +80,24 @@ impl Piecewise for NullHasher {
         self.finish()
     }
 
-    ghost default_is_fresh = { λ h same. refl };
+    #[inline(always)]
+    fn fork(&self) -> NullHasher {
+        NullHasher
+    }
+
+    ghost default_is_first = { λ h same. refl };
+
+    ghost first_is_fresh = { refl };
+
+    ghost hash_of_is = { λ text. refl };
 
     ghost write_feeds = { λ h piece. refl };
 
     ghost finish_answers = { λ h. refl };
 
-    ghost fresh_is_state = { tt };
+    ghost fresh_in_range = { tt };
 
-    ghost after_is_state = { λ s piece known bytes. known };
+    ghost after_in_range = { λ s piece known bytes. known };
 
     ghost after_nothing = { λ s known. refl };
 }
@@ -117,7 +131,7 @@ pub fn null(bytes: &[u8]) -> u64
 
 /// One byte behind the state, as a digit in base 256.
 #[inline(always)]
-fn followed(state: u64, byte: u8) -> u64
+fn append_byte(state: u64, byte: u8) -> u64
     ensures { result ≡ passthrough_step state byte }
 {
     (state << 8) + u64::from(byte)
@@ -125,28 +139,32 @@ fn followed(state: u64, byte: u8) -> u64
 
 /// The bytes behind the state, one by one.
 #[inline(always)]
-fn few_behind(state: u64, bytes: &[u8]) -> u64
+fn append_few(state: u64, bytes: &[u8]) -> u64
     ensures { result ≡ passthrough state bytes.now }
 {
     let mut state = state;
     for byte in bytes {
-        state = followed(state, *byte);
+        state = append_byte(state, *byte);
     }
     state
 }
 
 /// The bytes behind the state, of which only the last eight are read.
 #[inline(always)]
-fn behind(state: u64, bytes: &[u8]) -> u64
+fn append_bytes(state: u64, bytes: &[u8]) -> u64
     ensures { result ≡ passthrough state bytes.now }
 {
     match bytes.last_chunk::<8>() {
         Some(last) => u64::from_be_bytes(*last),
-        None => few_behind(state, bytes),
+        None => append_few(state, bytes),
     }
 }
 
-/// The hasher that keeps the last eight bytes. Contracts see it as its state, a number below 2^64.
+/// The hasher that keeps the last eight bytes (the crate hashers' own, for keys that are hashes already). From 0, a byte
+/// `b` takes the state `h` to `256 * h + b`, modulo 2^64; `finish` answers `h`. Cuts don't show.
+///
+/// Contracts see the hasher as its state, a number below 2^64: `write` gives `h.new ≡ passthrough h.old bytes.now`. Of `a`
+/// the hash is 97.
 pub struct PassThroughHasher {
     state: u64,
 }
@@ -181,19 +199,19 @@ impl Hasher for PassThroughHasher {
     #[inline(always)]
     fn finish(&self) -> u64
         ensures value { result ≡ self.now }
-        ensures known { self.now < 2 ^ 64 }
+        ensures in_range { self.now < 2 ^ 64 }
     {
-        self.state // as it is, the last eight bytes
+        self.state
     }
 
     /// Takes the bytes in, of which only the last eight are read.
     #[inline(always)]
     fn write(&mut self, bytes: &[u8])
         ensures state { self.new ≡ passthrough self.old bytes.now }
-        ensures known_before { self.old < 2 ^ 64 }
-        ensures known_after { self.new < 2 ^ 64 }
+        ensures in_range_before { self.old < 2 ^ 64 }
+        ensures in_range_after { self.new < 2 ^ 64 }
     {
-        self.state = behind(self.state, bytes);
+        self.state = append_bytes(self.state, bytes);
     }
 }
 
@@ -202,13 +220,17 @@ impl Piecewise for PassThroughHasher {
 
     ghost state = { λ h. h };
 
-    ghost is_state = { λ s. s < 2 ^ 64 };
+    ghost in_range = { λ s. s < 2 ^ 64 };
 
     ghost fresh = { 0 };
 
     ghost after = { passthrough };
 
     ghost answer = { λ s. s };
+
+    ghost hash_of = { passthrough 0 };
+
+    ghost first = { 0 };
 
     fn fresh() -> PassThroughHasher {
         PassThroughHasher::default()
@@ -224,15 +246,24 @@ impl Piecewise for PassThroughHasher {
         self.finish()
     }
 
-    ghost default_is_fresh = { λ h same. same };
+    #[inline(always)]
+    fn fork(&self) -> PassThroughHasher {
+        PassThroughHasher { state: self.state }
+    }
+
+    ghost default_is_first = { λ h same. same };
+
+    ghost first_is_fresh = { refl };
+
+    ghost hash_of_is = { λ text. refl };
 
     ghost write_feeds = { λ h piece. refl };
 
     ghost finish_answers = { λ h. refl };
 
-    ghost fresh_is_state = { lit< tt };
+    ghost fresh_in_range = { lit< tt };
 
-    ghost after_is_state = { λ s piece known bytes. passthrough-lt s piece };
+    ghost after_in_range = { λ s piece known bytes. passthrough-lt s piece };
 
     ghost after_nothing = { passthrough-nil };
 }

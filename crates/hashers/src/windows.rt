@@ -1,12 +1,13 @@
 //! Tests on two texts that differ within a few neighbouring places: where one answers true, a hash tells the texts apart.
 //! None of them computes a hash.
-ghost use Rattle.std.specs.Prelude.{◌≡◌, ◌≢◌, ◌↔◌, IsTrue, length};
+ghost use Rattle.std.specs.Prelude.{◌≡◌, ◌≢◌, ◌↔◌, ℕ, List, IsTrue, length};
 ghost use Rattle.std.specs.Bool.{OnTrue};
 ghost use Rattle.hash_rounds.specs.Sums.{sdbm};
-ghost use Rattle.hash_laws.specs.Window.{Window};
+ghost use Rattle.hash_laws.specs.Text.{IsText};
+ghost use Rattle.hash_laws.specs.DifferWithin.{DifferWithin};
 ghost use Rattle.hashers.specs.Fnv.{fnv1a32, fnv1a32_basis, fnv1a64, fnv1a64_basis};
 ghost use Rattle.hashers.specs.Oz.{djb2};
-ghost use Rattle.hashers.specs.Words.{IsShortWord};
+ghost use Rattle.hashers.specs.ShortWords.{IsShortWord};
 
 use crate::oz;
 use hash_laws::window::is_window;
@@ -14,7 +15,7 @@ use hash_laws::window::is_window;
 /// Whether the texts have one length and differ, but only within six neighbouring places, and everywhere only in the low
 /// five bits of a byte. Their `djb2` hashes then differ.
 pub fn apart_djb2(x: &[u8], y: &[u8]) -> bool
-    ensures exactly { IsTrue result ↔ Window 6 0xE0 x.now y.now }
+    ensures exactly { IsTrue result ↔ DifferWithin 6 0xE0 x.now y.now }
     ensures differ { OnTrue result (djb2 5381 x.now ≢ djb2 5381 y.now) }
 {
     is_window(x, y, 6, 0xE0)
@@ -23,7 +24,7 @@ pub fn apart_djb2(x: &[u8], y: &[u8]) -> bool
 /// Whether the texts have one length and differ, but only within three neighbouring places. Their `sdbm` hashes then
 /// differ.
 pub fn apart_sdbm(x: &[u8], y: &[u8]) -> bool
-    ensures exactly { IsTrue result ↔ Window 3 0 x.now y.now }
+    ensures exactly { IsTrue result ↔ DifferWithin 3 0 x.now y.now }
     ensures differ { OnTrue result (sdbm 0 x.now ≢ sdbm 0 y.now) }
 {
     is_window(x, y, 3, 0) // of sdbm
@@ -32,7 +33,7 @@ pub fn apart_sdbm(x: &[u8], y: &[u8]) -> bool
 /// Whether the texts have one length and differ, but only within three neighbouring places. Their `fnv1a64` hashes then
 /// differ.
 pub fn apart_fnv64(x: &[u8], y: &[u8]) -> bool
-    ensures exactly { IsTrue result ↔ Window 3 0 x.now y.now }
+    ensures exactly { IsTrue result ↔ DifferWithin 3 0 x.now y.now }
     ensures differ { OnTrue result (fnv1a64 fnv1a64_basis x.now ≢ fnv1a64 fnv1a64_basis y.now) }
 {
     is_window(x, y, 3, 0) // of FNV at 64 bits
@@ -41,7 +42,7 @@ pub fn apart_fnv64(x: &[u8], y: &[u8]) -> bool
 /// Whether the texts have one length and differ, but only within two neighbouring places. Their `fnv1a32` hashes then
 /// differ.
 pub fn apart_fnv32(x: &[u8], y: &[u8]) -> bool
-    ensures exactly { IsTrue result ↔ Window 2 0 x.now y.now }
+    ensures exactly { IsTrue result ↔ DifferWithin 2 0 x.now y.now }
     ensures differ { OnTrue result (fnv1a32 fnv1a32_basis x.now ≢ fnv1a32 fnv1a32_basis y.now) }
 {
     is_window(x, y, 2, 0)
@@ -57,3 +58,16 @@ pub fn same_word(x: &[u8], y: &[u8]) -> bool
 {
     oz::djb2(x) == oz::djb2(y)
 }
+
+/// The windows as laws, with no code: where two texts have one length and differ, but only within so many neighbouring places
+/// and in bits outside the mask, the named hashes differ.
+pub fn windows_tell_apart()
+    ensures djb2 { (x y : List ℕ) → IsText x → IsText y → DifferWithin 6 0xE0 x y
+        → djb2 5381 x ≢ djb2 5381 y }
+    ensures sdbm { (x y : List ℕ) → IsText x → IsText y → DifferWithin 3 0 x y
+        → sdbm 0 x ≢ sdbm 0 y }
+    ensures fnv64 { (x y : List ℕ) → IsText x → IsText y → DifferWithin 3 0 x y
+        → fnv1a64 fnv1a64_basis x ≢ fnv1a64 fnv1a64_basis y }
+    ensures fnv32 { (x y : List ℕ) → IsText x → IsText y → DifferWithin 2 0 x y
+        → fnv1a32 fnv1a32_basis x ≢ fnv1a32 fnv1a32_basis y }
+{}

@@ -1,4 +1,5 @@
+pub mod Calls
 pub mod Lines
-pub mod Tellings
+pub mod Readings
 pub mod Versions
 pub mod Words

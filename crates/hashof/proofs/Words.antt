@@ -3,7 +3,7 @@ use Rattle.std.proofs.Common.{◌≡◌, ◌%◌, ℕ, List, ◌++◌, length, f
 use Rattle.hash_laws.specs.Reading.{cut}
 use Rattle.hash_laws.proofs.ReadingLemmas.{fold-cut_whole}
 use Rattle.hash_laws.proofs.RecurrenceLemmas.{recurrence-append}
-use Rattle.hash_rounds.specs.ByteSteps.{fx32_step, fx64_step}
+use Rattle.hash_fx.specs.Fx.{fx32_step, fx64_step}
 use Rattle.hash_fx.specs.Fx.{fx32, fx64, words32, words64}
 use Rattle.hash_fx.specs.FxLaws.{fx32_nothing, fx64_nothing}
 use Rattle.hash_fx.proofs.WholeWords.{words32-append, words64-append}

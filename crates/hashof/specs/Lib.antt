@@ -1,4 +1,4 @@
 pub mod Named
-pub mod Refusals
+pub mod Program
+pub mod Running
 pub mod Status
-pub mod Telling

@@ -1,15 +1,20 @@
-//! How a run of the program ends.
+//! How the program ends.
 ghost use Rattle.std.specs.Prelude.{◌≡◌};
+ghost use Rattle.hashof.specs.Program.{Exits};
+ghost use Rattle.hashof.specs.declared.run.TheConstants.{LIMIT};
+ghost use Rattle.hashof.specs.Running.{run_of};
 ghost use Rattle.hashof.specs.Status.{complaint_of, status_of};
 
-use crate::run::RunFault;
-use hashers::engine::Fault;
+use crate::run::{RunFault, run};
+use std::env::Args;
+use std::io;
+use std::io::{ErrorKind, Read, Write};
 
 /// What came of a run of the program.
 pub enum Outcome {
     /// The hash was told.
     Done,
-    /// There was not exactly one argument.
+    /// There was not exactly one argument, or one was no text.
     Usage,
     /// There was no memory for the arguments.
     NoMemory,
@@ -20,11 +25,34 @@ pub enum Outcome {
 impl Drop for Outcome {
     fn drop(self) {
         match self {
-            Outcome::Failed(RunFault::ReadFault(Fault { bytes: _, error: _ })) => {}
+            Outcome::Failed(RunFault::ReadFault(_)) => {}
             Outcome::Failed(RunFault::WriteFault(_)) => {}
             Outcome::Failed(RunFault::UnknownName | RunFault::TooLong) => {}
             Outcome::Done | Outcome::Usage | Outcome::NoMemory => {}
         }
+    }
+}
+
+/// Does what the arguments ask for, as the system gives them, the program's own name first: tells the hash of the one
+/// name that they are. Where they are wrong, or there was no memory for them, nothing is read or written.
+pub fn outcome_of<R: Read, W: Write>(args: io::Result<Args>, r: &mut R, w: &mut W) -> Outcome
+    ensures { Exits args (run_of LIMIT R.remaining r.old r.new W.contents w.old w.new) result }
+{
+    match args {
+        Ok(mut args) => {
+            let _program = args.next();
+            match (args.next(), args.next()) {
+                (Some(name), None) => match run(name.as_str(), r, w) {
+                    Ok(()) => Outcome::Done,
+                    Err(fault) => Outcome::Failed(fault),
+                },
+                _ => Outcome::Usage,
+            }
+        }
+        Err(error) => match error.kind() {
+            ErrorKind::OutOfMemory => Outcome::NoMemory,
+            _ => Outcome::Usage,
+        },
     }
 }
 

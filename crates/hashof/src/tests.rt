@@ -1,7 +1,10 @@
 //! Tests of the program, over readers and writers that misbehave.
+mod program;
+
 use crate::outcome::{Outcome, outcome_line, outcome_status};
 use crate::run::{RunFault, run, run_limited};
-use hashers::engine::Fault;
+use hashers::engine::{Fault, hash_reader};
+use hashers::fnv::FNV1aHasher64;
 use hashers::jenkins::Lookup3Hasher;
 use std::hash::Hasher;
 use std::io;
@@ -145,7 +148,7 @@ fn end_of(outcome: Result<(), RunFault>) -> End {
     match outcome {
         Ok(()) => End::Told,
         Err(RunFault::UnknownName) => End::Unknown,
-        Err(RunFault::ReadFault(Fault { bytes, error })) => End::Read(bytes, error.kind()),
+        Err(RunFault::ReadFault(fault)) => End::Read(fault.bytes, fault.error.kind()),
         Err(RunFault::TooLong) => End::Long,
         Err(RunFault::WriteFault(Some(error))) => End::Write(Some(error.kind())),
         Err(RunFault::WriteFault(None)) => End::Write(None),
@@ -222,6 +225,74 @@ fn tells_lookup3_of_pieces(rt: HostRuntime) {
     );
 }
 
+/// Runs over the beginning of a text, read so many bytes at a time, and compares the line.
+fn tells_beginning(rt: &impl Abort, name: &str, text: &[u8], most: usize, line: &[u8]) {
+    let mut paper = plain();
+    let mut reader = Script::new(text, most, None);
+    let outcome = run(name, &mut reader, &mut paper);
+    ended(rt, outcome, End::Told, &paper, line, [1, 1]);
+}
+
+/// What the original answers to so many bytes.
+const AT_THE_ENDS: [(&str, usize, &str); 24] = [
+    ("fnv1a64", 4095, "3811037686200682770\n"),
+    ("fnv1a64", 4096, "9000293197543857445\n"),
+    ("fnv1a64", 4097, "3795539694529513508\n"),
+    ("fnv1a64", 8191, "6156934204668905250\n"),
+    ("fnv1a64", 8192, "17181620337946081061\n"),
+    ("fnv1a64", 8193, "1287639582017524052\n"),
+    ("lookup3", 4095, "8077871715727144559\n"),
+    ("lookup3", 4096, "13034767391109764602\n"),
+    ("lookup3", 4097, "8063132460245924901\n"),
+    ("lookup3", 8191, "16528104600836260794\n"),
+    ("lookup3", 8192, "10480385044041270637\n"),
+    ("lookup3", 8193, "16351905035178967481\n"),
+    ("spooky_v1", 4095, "14764326417199162560\n"),
+    ("spooky_v1", 4096, "10016349246941316779\n"),
+    ("spooky_v1", 4097, "13492617575819180468\n"),
+    ("spooky_v1", 8191, "15878751148285449880\n"),
+    ("spooky_v1", 8192, "16414973006445263668\n"),
+    ("spooky_v1", 8193, "3004010557080652910\n"),
+    ("fxhash32", 4095, "9865538\n"),
+    ("fxhash32", 4096, "1312422903\n"),
+    ("fxhash32", 4097, "3219497088\n"),
+    ("fxhash32", 8191, "2164153943\n"),
+    ("fxhash32", 8192, "2699266469\n"),
+    ("fxhash32", 8193, "942521681\n"),
+];
+
+#[test]
+fn tells_texts_that_end_at_a_piece(rt: HostRuntime) {
+    let mut text = [0u8; 8193];
+    for (i, byte) in text.iter_mut().enumerate() {
+        *byte = ((i % 256 * 131 + i / 256 % 256 * 17 + 89) % 256) as u8;
+    }
+    for (name, length, line) in AT_THE_ENDS {
+        let beginning = &text[..length.min(8193)];
+        tells_beginning(&rt, name, beginning, 8193, line.as_bytes());
+        tells_beginning(&rt, name, beginning, 1000, line.as_bytes());
+    }
+}
+
+/// The number of the first digits, by `passthrough`, for one digit to all twenty.
+fn tells_digits(rt: &impl Abort, digits: &[u8; 20]) {
+    let mut number: u64 = 0;
+    let mut line = [b'\n'; 21];
+    for (i, digit) in digits.iter().enumerate() {
+        number = number.wrapping_mul(10).wrapping_add((*digit & 15) as u64);
+        line[i] = *digit;
+        tells(rt, "passthrough", &number.to_be_bytes(), &line[..i + 2]);
+        line[i + 1] = b'\n';
+    }
+}
+
+#[test]
+fn tells_numbers_of_each_length(rt: HostRuntime) {
+    tells_digits(&rt, b"12345678901234567890");
+    tells_digits(&rt, b"10000000000000000000");
+    tells_digits(&rt, b"18446744073709551615");
+}
+
 /// Nothing is read, written or flushed.
 fn refuses(rt: &impl Abort, name: &str) {
     let mut reader = Script::new(b"ab", 2, None);
@@ -267,6 +338,70 @@ fn writes_nothing_where_a_read_fails(rt: HostRuntime) {
     }
 }
 
+#[test]
+fn an_interruption_is_a_fault(rt: HostRuntime) {
+    let mut reader = Script::new(b"abc", 1, Some(2));
+    reader.kind = ErrorKind::Interrupted;
+    let mut paper = plain();
+    let outcome = run("fnv1a64", &mut reader, &mut paper);
+    let end = End::Read(2, ErrorKind::Interrupted);
+    ended(&rt, outcome, end, &paper, b"", [0, 0]);
+}
+
+/// Asks a hasher between two limits, and goes on.
+fn goes_on(
+    rt: &impl Abort,
+    h: &mut FNV1aHasher64,
+    r: &mut Script,
+    limit: u64,
+    taken: (u64, bool),
+    hash: u64,
+) {
+    match hash_reader::<FNV1aHasher64, Script, 4>(h, r, limit) {
+        Ok(it) => assert_eq!(rt; (it.bytes, it.ended), taken),
+        Err(fault) => assert!(rt; false, "{fault}"),
+    }
+    assert_eq!(rt; h.finish(), hash);
+}
+
+#[test]
+fn finish_between_two_limits(rt: HostRuntime) {
+    let mut hasher = FNV1aHasher64::default();
+    let mut reader = Script::new(b"abcdefg", 3, None);
+    goes_on(
+        &rt,
+        &mut hasher,
+        &mut reader,
+        2,
+        (2, false),
+        620445648566982762,
+    );
+    goes_on(
+        &rt,
+        &mut hasher,
+        &mut reader,
+        2,
+        (2, false),
+        18165163011005162717,
+    );
+    goes_on(
+        &rt,
+        &mut hasher,
+        &mut reader,
+        4,
+        (3, true),
+        4642726675185563447,
+    );
+    goes_on(
+        &rt,
+        &mut hasher,
+        &mut reader,
+        4,
+        (0, true),
+        4642726675185563447,
+    );
+}
+
 /// Runs over `a` onto this paper.
 fn writes(rt: &impl Abort, mut paper: Paper, end: End, line: &[u8], calls: [u64; 2]) {
     let mut reader: &[u8] = b"a";
@@ -300,6 +435,19 @@ fn tells_what_a_writer_answered(rt: HostRuntime) {
     writes(&rt, takes_nothing, End::Write(None), b"", [1, 0]);
     let flush_fails = Paper::new(32, Trouble::FlushFails, kind);
     writes(&rt, flush_fails, failed, LINE, [1, 1]);
+    let late = Paper::new(1, Trouble::FailsAt(8), kind);
+    writes(&rt, late, failed, &LINE[..7], [8, 0]);
+    let flush_fails_late = Paper::new(1, Trouble::FlushFails, kind);
+    writes(&rt, flush_fails_late, failed, LINE, [21, 1]);
+}
+
+#[test]
+fn fails_at_once_by_another_name(rt: HostRuntime) {
+    let mut reader: &[u8] = b"a";
+    let mut paper = Paper::new(32, Trouble::FailsAt(1), ErrorKind::BrokenPipe);
+    let outcome = run("djb2", &mut reader, &mut paper);
+    let end = End::Write(Some(ErrorKind::BrokenPipe));
+    ended(&rt, outcome, end, &paper, b"", [1, 0]);
 }
 
 /// The line on standard error and the status.

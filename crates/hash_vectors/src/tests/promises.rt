@@ -1,40 +1,47 @@
 //! Each promise and each example called once.
-use crate::promises::*;
 use crate::tests::tables::{key, new_table};
 use crate::tests::{all_hold, none_holds, same, same_replies};
 use crate::uses::{bloom_hashes, fingerprint, may_collide, remember, replace_last};
 use hash_buckets::{Buckets, NoRoom};
 use hash_laws::window::{differ_at_one_place, is_window};
-use hashers::engine::Fault;
 use hashers::fnv::{FNV1aHasher32, FNV1aHasher64, fnv1a32, fnv1a64};
 use hashers::fx_hash::{FxHasher, FxHasher32, FxHasher64, fxhash, fxhash32, fxhash64};
 use hashers::jenkins::spooky_hash::{spooky, spooky_v1};
 use hashers::jenkins::{Lookup3Hasher, OAATHasher, lookup3, oaat};
-use hashers::laws::Piecewise;
+use hashers::laws::{Piecewise, Write};
 use hashers::null::passthrough;
 use hashers::oz::{DJB2Hasher, LoseLoseHasher, SDBMHasher, djb2, loselose, sdbm};
 use hashers::pigeon::{Bricolage, bricolage};
+use hashers::promises::*;
 use std::hash::Hasher;
 use std::process::Abort;
 
 #[test]
-fn answers_of_pieces(rt: HostRuntime) {
-    let pieces: [&[u8]; 3] = [b"ab", b"", b"c"];
-    let text = b"abc";
+fn answers_of_writes(rt: HostRuntime) {
+    let writes = [
+        Write::Bytes(b"ab"),
+        Write::Bytes(b""),
+        Write::U8(b'c'),
+        Write::U16(0x6564),
+        Write::U32(0x69686766),
+        Write::U64(0x71706f6e6d6c6b6a),
+        Write::Usize(0x7978777675747372),
+    ];
+    let text = b"abcdefghijklmnopqrstuvwxy";
     same(
         &rt,
         &[
-            fnv1a32_of_pieces(&pieces),
-            fnv1a64_of_pieces(&pieces),
-            djb2_of_pieces(&pieces),
-            sdbm_of_pieces(&pieces),
-            loselose_of_pieces(&pieces),
-            bricolage_of_pieces(&pieces),
-            oaat_of_pieces(&pieces),
-            null_of_pieces(&pieces),
-            passthrough_of_pieces(&pieces),
-            spooky_of_pieces(0, 0, &pieces).0,
-            spooky_v1_of_pieces(0, 0, &pieces).0,
+            fnv1a32_of_writes(&writes),
+            fnv1a64_of_writes(&writes),
+            djb2_of_writes(&writes),
+            sdbm_of_writes(&writes),
+            loselose_of_writes(&writes),
+            bricolage_of_writes(&writes),
+            oaat_of_writes(&writes),
+            null_of_writes(&writes),
+            passthrough_of_writes(&writes),
+            spooky_of_writes(0, 0, &writes).0,
+            spooky_v1_of_writes(0, 0, &writes).0,
         ],
         &[
             fnv1a32(text),
@@ -54,7 +61,11 @@ fn answers_of_pieces(rt: HostRuntime) {
 
 #[test]
 fn answers_that_see_the_cuts(rt: HostRuntime) {
-    let pieces: [&[u8]; 3] = [b"abcdefgh", b"", b"ij"];
+    let writes = [
+        Write::U64(0x6867666564636261),
+        Write::Bytes(b""),
+        Write::Bytes(b"ij"),
+    ];
     let text = b"abcdefghij";
     let mut hasher = Lookup3Hasher::default();
     hasher.write(b"abcdefgh");
@@ -62,10 +73,10 @@ fn answers_that_see_the_cuts(rt: HostRuntime) {
     same(
         &rt,
         &[
-            fxhash_of_pieces(&pieces),
-            fxhash32_of_pieces(&pieces),
-            fxhash64_of_pieces(&pieces),
-            lookup3_of_pieces(&pieces),
+            fxhash_of_writes(&writes),
+            fxhash32_of_writes(&writes),
+            fxhash64_of_writes(&writes),
+            lookup3_of_writes(&writes),
         ],
         &[
             fxhash(text),
@@ -74,24 +85,30 @@ fn answers_that_see_the_cuts(rt: HostRuntime) {
             hasher.finish(),
         ],
     );
-    all_hold(&rt, &[lookup3_of_pieces(&pieces) != lookup3(text)]);
+    all_hold(&rt, &[lookup3_of_writes(&writes) != lookup3(text)]);
 }
 
 /// A fresh hasher, and one that was fed `abc`.
 fn fresh_and_fed<H: Piecewise>() -> (H, H) {
     let mut fed = H::default();
-    fed.write(b"abc");
+    fed.write(b"a");
+    fed.write(b"bc");
     (H::default(), fed)
 }
 
 /// That the first is fresh and the second was fed `abc`, and that each answered in between as the other.
-fn as_they_were<H: Piecewise>(rt: &impl Abort, between: (u64, u64), a: &H, b: &H) {
+fn as_they_were<H: Piecewise>(rt: &impl Abort, way: WayBack, a: &H, b: &H) {
     let (fresh, fed): (H, H) = fresh_and_fed();
-    let (there, back) = between;
     same(
         rt,
-        &[there, back, a.finish(), b.finish()],
-        &[fed.finish(), fresh.finish(), fresh.finish(), fed.finish()],
+        &[way.before, way.there, way.back, a.finish(), b.finish()],
+        &[
+            fresh.finish(),
+            fed.finish(),
+            fresh.finish(),
+            fresh.finish(),
+            fed.finish(),
+        ],
     );
 }
 
@@ -99,8 +116,8 @@ fn as_they_were<H: Piecewise>(rt: &impl Abort, between: (u64, u64), a: &H, b: &H
 macro_rules! undone {
     ($rt:ident, $hasher:ident, $undone:ident) => {
         let (mut a, mut b): ($hasher, $hasher) = fresh_and_fed();
-        let between = $undone(&mut a, &mut b, b"abc");
-        as_they_were(&$rt, between, &a, &b);
+        let way = $undone(&mut a, &mut b, &[Write::U8(b'a'), Write::Bytes(b"bc")]);
+        as_they_were(&$rt, way, &a, &b);
     };
 }
 
@@ -135,7 +152,7 @@ fn fingerprint_of(rt: &impl Abort, text: &[u8], limit: u64) -> Option<u64> {
     let mut text = text;
     match fingerprint(&mut text, limit) {
         Ok(told) => told,
-        Err(Fault { bytes: _, error: _ }) => panic!(rt; "a read of memory failed"),
+        Err(_) => panic!(rt; "a read of memory failed"),
     }
 }
 

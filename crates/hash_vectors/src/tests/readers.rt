@@ -78,7 +78,7 @@ enum End {
 fn end_of(outcome: Result<Taken, Fault>) -> End {
     match outcome {
         Ok(taken) => End::Taken(taken.bytes, taken.ended),
-        Err(Fault { bytes, error }) => End::Fault(bytes, error.kind()),
+        Err(fault) => End::Fault(fault.bytes, fault.error.kind()),
     }
 }
 

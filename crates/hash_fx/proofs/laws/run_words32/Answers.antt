@@ -3,9 +3,9 @@ use Rattle.hash_fx.specs.FxLaws.{fx32_nothing}
 use Rattle.hash_fx.proofs.WholeWords.{at_more32}
 use Rattle.hash_fx.proofs.laws.run_words32.Goals as goal
 
-pub loop-piece-init : goal.loop-piece-init
-loop-piece-init c = record { there = sym (fx32_nothing c.args.h.now); whole = λ _. refl }
+pub loop-part-init : goal.loop-part-init
+loop-part-init c = record { there = sym (fx32_nothing c.args.h.now); whole = λ _. refl }
 
-pub loop-piece-preserved : goal.loop-piece-preserved
-loop-piece-preserved c =
-    at_more32 c.args.h.now c.loop-piece.h c.write.new.self c.loop-piece.piece-index c.args.pieces.now c.requires c.loop-piece-test.true c.write.ensures.state c.loop-piece.invariant
+pub loop-part-preserved : goal.loop-part-preserved
+loop-part-preserved c =
+    at_more32 c.args.h.now c.loop-part.h c.write.new.self c.loop-part.part-index c.args.pieces.now c.requires c.loop-part-test.true c.write.ensures.state c.loop-part.invariant

@@ -1,5 +1,5 @@
 use Rattle.std.proofs.Common.{◌≡◌, fold, take}
-use Rattle.hash_rounds.specs.ByteSteps.{fx32_step}
+use Rattle.hash_fx.specs.Fx.{fx32_step}
 use Rattle.hash_fx.proofs.words32.bytes_in.Given as goal
 
 abbrev pub invariant-loop-byte : goal.invariant-loop-byte

@@ -1,7 +1,7 @@
 use Rattle.std.proofs.Common.{◌^◌, fold}
 use Rattle.std.specs.Iterator.Adapters.{rev_source}
 use Rattle.std.specs.Slice.Iter.{iter_rest}
-use Rattle.hash_rounds.specs.ByteSteps.{fx32_step}
+use Rattle.hash_fx.specs.Fx.{fx32_step}
 use Rattle.hash_laws.proofs.ByteLemmas.{Undoing}
 use Rattle.hash_fx.proofs.words32.bytes_out.Given as goal
 

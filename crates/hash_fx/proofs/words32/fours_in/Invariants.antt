@@ -1,6 +1,6 @@
 use Rattle.std.proofs.Common.{◌≡◌, fold, take, map}
 use Rattle.hash_rounds.specs.Words.{le}
-use Rattle.hash_rounds.specs.ByteSteps.{fx32_step}
+use Rattle.hash_fx.specs.Fx.{fx32_step}
 use Rattle.hash_fx.proofs.words32.fours_in.Given as goal
 
 abbrev pub invariant-loop-four : goal.invariant-loop-four

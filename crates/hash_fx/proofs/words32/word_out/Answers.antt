@@ -1,6 +1,6 @@
 use Rattle.std.proofs.Common.{◌∙◌, ap, lit<, arith}
-use Rattle.hash_rounds.specs.ByteSteps.{fx32_step}
-use Rattle.hash_rounds.proofs.FxStepLemmas.{fx32_back}
+use Rattle.hash_fx.specs.Fx.{fx32_step}
+use Rattle.hash_fx.specs.FxStepLaws.{fx32_back}
 use Rattle.hash_fx.proofs.words32.word_out.Goals as goal
 
 pub rotl32-requires-clause-some : goal.rotl32-requires-clause-some

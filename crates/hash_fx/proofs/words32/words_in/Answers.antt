@@ -2,7 +2,7 @@ use Rattle.std.proofs.Common.{◌≡◌, ◌++◌, ◌∙◌, ap, sym, refl, map
 use Rattle.std.proofs.lemmas.List.Sums.{fold-append}
 use Rattle.hash_rounds.specs.Words.{le}
 use Rattle.hash_rounds.specs.Blocks.{pieces}
-use Rattle.hash_rounds.specs.ByteSteps.{fx32_step}
+use Rattle.hash_fx.specs.Fx.{fx32_step}
 use Rattle.hash_laws.proofs.RecurrenceLemmas.{recurrence-fold}
 use Rattle.hash_fx.specs.Fx.{words32}
 use Rattle.hash_fx.proofs.words32.words_in.Goals as goal

@@ -2,23 +2,17 @@ use Rattle.std.proofs.Common.{◌≡◌, ◌++◌, ◌∙◌, ap, sym, refl, map
 use Rattle.std.proofs.lemmas.List.Sums.{fold-append}
 use Rattle.hash_rounds.specs.Words.{le}
 use Rattle.hash_rounds.specs.Blocks.{pieces}
-use Rattle.hash_rounds.specs.ByteSteps.{fx32_step}
+use Rattle.hash_fx.specs.Fx.{fx32_step}
 use Rattle.hash_laws.proofs.RecurrenceLemmas.{recurrence-fold}
-use Rattle.hash_laws.proofs.TextLemmas.{IsText-from_slice}
 use Rattle.hash_fx.specs.Fx.{words32}
-use Rattle.hash_fx.specs.FxLaws.{fx32_before}
 use Rattle.hash_fx.proofs.words32.words_out.Goals as goal
 
-pub returns-clause-back : goal.returns-clause-back
+pub returns : goal.returns
 unfolding pieces
-returns-clause-back c =
+returns c =
     let fours = map le c.as_chunks.result.0.now in
     let bytes = c.as_chunks.result.1.now in
     let before = c.fours_out.result in
     let words : fours ++ bytes ≡ words32 c.args.piece.now = rw (c.as_chunks.ensures.front, c.as_chunks.ensures.back) refl in
     recurrence-fold fx32_step before (words32 c.args.piece.now) ∙ ap (fold fx32_step before) (sym words)
     ∙ fold-append fx32_step before fours bytes ∙ ap (λ s. fold fx32_step s bytes) c.fours_out.ensures ∙ c.bytes_out.ensures
-
-pub returns-clause-undone : goal.returns-clause-undone
-returns-clause-undone c = λ s known led.
-    fx32_before c.fours_out.result s c.args.piece.now c.fours_out.type_inv known (IsText-from_slice _ c.type_inv.piece) (returns-clause-back c ∙ sym led)

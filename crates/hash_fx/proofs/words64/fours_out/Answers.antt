@@ -3,7 +3,7 @@ use Rattle.std.specs.Iterator.Adapters.{rev_source}
 use Rattle.std.specs.Slice.Iter.{iter_rest}
 use Rattle.std.proofs.lemmas.List.{map-append, length-map}
 use Rattle.hash_rounds.specs.Words.{le}
-use Rattle.hash_rounds.specs.ByteSteps.{fx64_step}
+use Rattle.hash_fx.specs.Fx.{fx64_step}
 use Rattle.hash_laws.proofs.ByteLemmas.{undoing_none, undoing_more, undoing_all}
 use Rattle.hash_fx.proofs.words64.fours_out.Goals as goal
 

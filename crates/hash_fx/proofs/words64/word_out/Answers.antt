@@ -1,6 +1,6 @@
 use Rattle.std.proofs.Common.{◌∙◌, ap, lit<, arith}
-use Rattle.hash_rounds.specs.ByteSteps.{fx64_step}
-use Rattle.hash_rounds.proofs.FxStepLemmas.{fx64_back}
+use Rattle.hash_fx.specs.Fx.{fx64_step}
+use Rattle.hash_fx.specs.FxStepLaws.{fx64_back}
 use Rattle.hash_fx.proofs.words64.word_out.Goals as goal
 
 pub rotl64-requires-clause-some : goal.rotl64-requires-clause-some

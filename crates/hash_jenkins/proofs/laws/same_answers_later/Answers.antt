@@ -13,9 +13,9 @@ loop-piece-preserved c =
     let also = c.feed-in-loop-piece.ensures in
     let before = c.loop-piece.invariant in
     record {
-      first = rest_more lookup3 _ _ _ _ _ _ c.loop-piece-test.true fed.state before.first;
-      second = rest_more lookup3 _ _ _ _ _ _ c.loop-piece-test.true also.state before.second;
-      alike = λ same. lookup3_alike _ _ _ _ _ fed.known_before also.known_before (before.alike same) fed.state also.state;
+      first = rest_more (λ piece. piece.now) lookup3 _ _ _ _ _ _ c.loop-piece-test.true fed.state before.first;
+      second = rest_more (λ piece. piece.now) lookup3 _ _ _ _ _ _ c.loop-piece-test.true also.state before.second;
+      alike = λ same. lookup3_alike _ _ _ _ _ fed.in_range_before also.in_range_before (before.alike same) fed.state also.state;
     }
 
 rest_none : (s end : ℕ × ℕ) (pieces : List (Bor (List ℕ))) (i : ℕ) → length pieces ≤ i → fold lookup3 s (texts (drop i pieces)) ≡ end → s ≡ end

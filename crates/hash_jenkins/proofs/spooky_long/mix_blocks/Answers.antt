@@ -1,6 +1,6 @@
 use Rattle.std.proofs.Common.{◌≡◌, ◌∙◌, ◌+◌, ◌++◌, ℕ, List, length, ap, take, sym, arith}
 use Rattle.hash_jenkins.specs.Spooky.{Long, mixed}
-use Rattle.hash_jenkins.proofs.MixLemmas.{mixed_part, turns_of_few, turns_of_none, turns_of_some}
+use Rattle.hash_jenkins.proofs.MixLemmas.{mixed_part, calls_none, calls_unkept, calls_last}
 use Rattle.hash_jenkins.proofs.spooky_long.mix_blocks.Goals as goal
 
 pub mix_piece-requires-clause-few : goal.mix_piece-requires-clause-few
@@ -13,7 +13,7 @@ returns-then-kept-eq0-clause-position c =
 
 pub returns-then-kept-eq0-clause-turns : goal.returns-then-kept-eq0-clause-turns
 returns-then-kept-eq0-clause-turns c =
-    c.mix_slice.ensures.turns ∙ ap (λ (n : ℕ). c.args.turns.now + n) (sym (turns_of_none c.args.kept _ (omega arith) (omega arith)))
+    c.mix_slice.ensures.turns ∙ ap (λ (n : ℕ). c.args.turns.now + n) (sym (calls_unkept c.args.kept _ (omega arith) (omega arith)))
 
 pub overflow_add-end : goal.overflow_add-end
 overflow_add-end c = omega arith
@@ -33,7 +33,7 @@ pub returns-then-end-lt-BLOCK-clause-part : goal.returns-then-end-lt-BLOCK-claus
 returns-then-end-lt-BLOCK-clause-part c = omega arith
 
 pub returns-then-end-lt-BLOCK-clause-turns : goal.returns-then-end-lt-BLOCK-clause-turns
-returns-then-end-lt-BLOCK-clause-turns c = omega (arith, turns_of_few c.args.kept (length c.args.bytes.now) c.if-end-lt-BLOCK.true)
+returns-then-end-lt-BLOCK-clause-turns c = omega (arith, calls_none c.args.kept (length c.args.bytes.now) c.if-end-lt-BLOCK.true)
 
 pub mix_slice-requires : goal.mix_slice-requires
 mix_slice-requires c = omega arith
@@ -67,7 +67,7 @@ returns-then-bytes-ge32-clause-part c = omega arith
 
 pub returns-then-bytes-ge32-clause-turns : goal.returns-then-bytes-ge32-clause-turns
 returns-then-bytes-ge32-clause-turns c =
-    c.mix_piece.ensures.turns ∙ ap (λ (n : ℕ). c.args.turns.now + n) (sym (turns_of_some c.args.kept _ (omega arith) (omega arith)))
+    c.mix_piece.ensures.turns ∙ ap (λ (n : ℕ). c.args.turns.now + n) (sym (calls_last c.args.kept _ (omega arith) (omega arith)))
 
 pub returns-else-kept-lt-BLOCK-clause-position : goal.returns-else-kept-lt-BLOCK-clause-position
 returns-else-kept-lt-BLOCK-clause-position c = c.mix_whole_blocks.ensures.position
@@ -76,5 +76,4 @@ pub returns-else-kept-lt-BLOCK-clause-part : goal.returns-else-kept-lt-BLOCK-cla
 returns-else-kept-lt-BLOCK-clause-part c = omega arith
 
 pub returns-else-kept-lt-BLOCK-clause-turns : goal.returns-else-kept-lt-BLOCK-clause-turns
-returns-else-kept-lt-BLOCK-clause-turns c =
-    c.mix_whole_blocks.ensures.turns ∙ ap (λ (n : ℕ). c.args.turns.now + n) (sym (turns_of_some c.args.kept _ (omega arith) (omega arith)))
+returns-else-kept-lt-BLOCK-clause-turns c = c.mix_whole_blocks.ensures.turns

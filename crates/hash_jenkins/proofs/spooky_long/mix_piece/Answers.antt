@@ -1,4 +1,4 @@
-use Rattle.std.proofs.Common.{◌≡◌, ◌∙◌, ◌-◌, ◌<◌, List, ℕ, [], ap, take, drop, length, arith}
+use Rattle.std.proofs.Common.{◌≡◌, ◌∙◌, ◌-◌, ◌<◌, List, ℕ, ap, take, drop, length, arith}
 use Rattle.hash_jenkins.specs.Put.{put_at}
 use Rattle.hash_rounds.specs.Blocks.{spooky_blocks}
 use Rattle.hash_jenkins.proofs.MixLemmas.{mixed_piece_from}
@@ -16,8 +16,7 @@ returns-clause-position c =
       | in_default w ↦ let short : length b < 96 = w.in_default.ensures.cases in absurd (omega arith)
     ] in
     mixed_piece_from _ _ _ _ _ _ (omega arith) (omega arith) c.requires.enough (omega arith)
-    (c.spooky_blocks-2.ensures.mixed ∙ ap (λ (w : List ℕ). spooky_blocks w [])
-    (c.spooky_blocks.ensures.mixed ∙ ap (λ (x : List ℕ). spooky_blocks c.args.words.now (take 96 x)) c.put.ensures))
+    (c.spooky_blocks.ensures.mixed ∙ ap (λ (x : List ℕ). spooky_blocks c.args.words.now (take 96 x)) c.put.ensures)
     (left ∙ ap (λ (x : List ℕ). put_at 0 (drop 96 x) x) c.put.ensures)
 
 pub overflow_add-end : goal.overflow_add-end
@@ -31,9 +30,6 @@ put-requires-clause-few c = omega arith
 
 pub spooky_blocks-requires : goal.spooky_blocks-requires
 spooky_blocks-requires c = omega arith
-
-pub spooky_blocks-requires-2 : goal.spooky_blocks-requires-2
-spooky_blocks-requires-2 c = omega arith
 
 pub last_chunk-requires : goal.last_chunk-requires
 last_chunk-requires c = omega arith

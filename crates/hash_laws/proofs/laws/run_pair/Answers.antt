@@ -10,9 +10,9 @@ loop-piece-preserved g c =
     let fed = c.feed.ensures in
     let also = c.feed-in-loop-piece.ensures in
     let before = c.loop-piece.invariant in
-    let kept = alike_after H.is_state H.after H.answer laws.one_before laws.one_answer _ _ _ _ _ fed.known_before also.known_before fed.known_after also.known_after fed.text fed.state also.state in
+    let kept = alike_after H.in_range H.after H.answer laws.after_injective laws.answer_injective _ _ _ _ _ fed.in_range_before also.in_range_before fed.in_range_after also.in_range_after fed.text fed.state also.state in
     record {
-      first = rest_more H.after _ _ _ _ _ _ c.loop-piece-test.true fed.state before.first;
-      second = rest_more H.after _ _ _ _ _ _ c.loop-piece-test.true also.state before.second;
+      first = rest_more (λ piece. piece.now) H.after _ _ _ _ _ _ c.loop-piece-test.true fed.state before.first;
+      second = rest_more (λ piece. piece.now) H.after _ _ _ _ _ _ c.loop-piece-test.true also.state before.second;
       alike = (λ same. before.alike.0 (kept.0 same), λ same. kept.1 (before.alike.1 same));
     }

@@ -1,0 +1,59 @@
+-- Numbers of fixed widths, as words.
+use Rattle.std.proofs.Common.{ℕ, ◌≡◌, ◌<◌, ◌∙◌, ap, sym, refl, [], ◌∷◌, ◌%◌, ◌/◌, ◌^◌, take, drop, arith}
+use Rattle.std.proofs.Math.Path.{ap₂}
+use Rattle.std.proofs.lemmas.Nat.{from_le_bytes-to_le_bytes_4, from_le_bytes-to_le_bytes_8}
+use Rattle.std.specs.Hash.{le_bytes}
+use Rattle.hash_rounds.specs.Words.{le}
+use Rattle.hash_rounds.specs.Blocks.{pieces}
+use Rattle.hash_rounds.proofs.WordLemmas.{from_le_bytes-4, from_le_bytes-8, le-4}
+use Rattle.hash_laws.proofs.RecurrenceLemmas.{recurrence-fold}
+use Rattle.hash_fx.specs.Fx.{fx32, fx32_step, fx64, fx64_step, words32, words64}
+
+-- at 64 bits
+pub fx64_of_byte : (h v : ℕ) → fx64 h (words64 (v ∷ [])) ≡ fx64_step h v
+unfolding pieces
+fx64_of_byte h v = recurrence-fold fx64_step h (v ∷ [])
+
+pub fx64_of_two : (h v : ℕ) → v < 2 ^ 16 → fx64 h (words64 (le_bytes 2 v)) ≡ fx64_step (fx64_step h (v % 2 ^ 8)) (v / 2 ^ 8)
+unfolding pieces le_bytes
+fx64_of_two h v below =
+    let high : v / 2 ^ 8 % 2 ^ 8 ≡ v / 2 ^ 8 = omega arith in
+    recurrence-fold fx64_step h (le_bytes 2 v) ∙ ap (fx64_step (fx64_step h (v % 2 ^ 8))) high
+
+pub fx64_of_four : (h v : ℕ) → v < 2 ^ 32 → fx64 h (words64 (le_bytes 4 v)) ≡ fx64_step h v
+unfolding pieces le_bytes
+fx64_of_four h v below =
+    let value : le (le_bytes 4 v) ≡ v = sym (from_le_bytes-4 (le_bytes 4 v) refl) ∙ from_le_bytes-to_le_bytes_4 v below in
+    recurrence-fold fx64_step h (le (le_bytes 4 v) ∷ []) ∙ ap (fx64_step h) value
+
+pub fx64_of_eight : (h v : ℕ) → v < 2 ^ 64 → fx64 h (words64 (le_bytes 8 v)) ≡ fx64_step h v
+unfolding pieces le_bytes
+fx64_of_eight h v below =
+    let value : le (le_bytes 8 v) ≡ v = sym (from_le_bytes-8 (le_bytes 8 v) refl) ∙ from_le_bytes-to_le_bytes_8 v below in
+    recurrence-fold fx64_step h (le (le_bytes 8 v) ∷ []) ∙ ap (fx64_step h) value
+
+-- at 32 bits
+pub fx32_of_byte : (h v : ℕ) → fx32 h (words32 (v ∷ [])) ≡ fx32_step h v
+unfolding pieces
+fx32_of_byte h v = recurrence-fold fx32_step h (v ∷ [])
+
+pub fx32_of_two : (h v : ℕ) → v < 2 ^ 16 → fx32 h (words32 (le_bytes 2 v)) ≡ fx32_step (fx32_step h (v % 2 ^ 8)) (v / 2 ^ 8)
+unfolding pieces le_bytes
+fx32_of_two h v below =
+    let high : v / 2 ^ 8 % 2 ^ 8 ≡ v / 2 ^ 8 = omega arith in
+    recurrence-fold fx32_step h (le_bytes 2 v) ∙ ap (fx32_step (fx32_step h (v % 2 ^ 8))) high
+
+pub fx32_of_four : (h v : ℕ) → v < 2 ^ 32 → fx32 h (words32 (le_bytes 4 v)) ≡ fx32_step h v
+unfolding pieces le_bytes
+fx32_of_four h v below =
+    let value : le (le_bytes 4 v) ≡ v = sym (from_le_bytes-4 (le_bytes 4 v) refl) ∙ from_le_bytes-to_le_bytes_4 v below in
+    recurrence-fold fx32_step h (le (le_bytes 4 v) ∷ []) ∙ ap (fx32_step h) value
+
+pub fx32_of_eight : (h v : ℕ) → v < 2 ^ 64 → fx32 h (words32 (le_bytes 8 v)) ≡ fx32_step (fx32_step h (v % 2 ^ 32)) (v / 2 ^ 32)
+unfolding pieces le_bytes
+fx32_of_eight h v below =
+    let low : le (take 4 (le_bytes 8 v)) ≡ v % 2 ^ 32 = le-4 (take 4 (le_bytes 8 v)) refl ∙ omega arith in
+    let high : le (drop 4 (le_bytes 8 v)) ≡ v / 2 ^ 32 = le-4 (drop 4 (le_bytes 8 v)) refl ∙ omega arith in
+    recurrence-fold fx32_step h (le (take 4 (le_bytes 8 v)) ∷ le (drop 4 (le_bytes 8 v)) ∷ []) ∙ ap₂ (λ a b. fx32_step (fx32_step h a) b) low high
+
+pub ruleset words_of_numbers = (fx64_of_eight, fx32_of_four)

@@ -1,0 +1,115 @@
+//! Lists of writes: any calls that std's `Hasher` offers for bytes and unsigned numbers, made in order and taken back.
+ghost use Rattle.std.specs.Prelude.{◌≡◌, ◌≢◌, ℕ, List, [], ◌++◌, All, fold};
+ghost use Rattle.hash_laws.specs.Text.{IsText};
+ghost use Rattle.hash_laws.specs.Writes.{written, all_written, joined_written};
+
+use crate::laws::{Piecewise, Streamed, Undo};
+
+/// One write to a hasher. A number is written as its little-endian bytes: 1, 2, 4 or 8 of them, and 8 for `Usize`.
+#[derive(Clone, Copy, Drop)]
+pub enum Write<'a> {
+    /// The bytes.
+    Bytes(&'a [u8]),
+    /// One byte.
+    U8(u8),
+    /// Two bytes, the low one first.
+    U16(u16),
+    /// Four bytes, the lowest first.
+    U32(u32),
+    /// Eight bytes, the lowest first.
+    U64(u64),
+    /// Eight bytes, the lowest first.
+    Usize(usize),
+}
+
+/// Writes the bytes.
+fn write_bytes<H: Piecewise>(h: &mut H, bytes: &[u8])
+    ensures state { H.state h.new ≡ H.after (H.state h.old) bytes.now }
+    ensures text { IsText bytes.now }
+{
+    h.write(bytes);
+}
+
+/// Makes a write by the method of std's `Hasher` that is named as it.
+#[tactic(auto, using(crate::proofs::TextLemmas::number_texts))]
+fn make<H: Piecewise>(h: &mut H, write: &Write)
+    ensures state { H.state h.new ≡ H.after (H.state h.old) (written write.now) }
+    ensures text { IsText (written write.now) }
+{
+    match write {
+        Write::Bytes(bytes) => write_bytes(h, bytes),
+        Write::U8(value) => h.write_u8(*value),
+        Write::U16(value) => h.write_u16(*value),
+        Write::U32(value) => h.write_u32(*value),
+        Write::U64(value) => h.write_u64(*value),
+        Write::Usize(value) => h.write_usize(*value),
+    }
+}
+
+/// Takes a write back by `unwrite` of its bytes.
+#[tactic(auto, using(crate::proofs::TextLemmas::number_texts, crate::proofs::TextLemmas::number_bytes))]
+fn take_back<H: Undo>(h: &mut H, write: &Write)
+    ensures back { H.after (H.state h.new) (written write.now) ≡ H.state h.old }
+    ensures undone { (s : H.State) → H.in_range s
+        → H.after s (written write.now) ≡ H.state h.old → H.state h.new ≡ s }
+    ensures in_range_before { H.in_range (H.state h.old) }
+    ensures in_range_after { H.in_range (H.state h.new) }
+    ensures text { IsText (written write.now) }
+{
+    match write {
+        Write::Bytes(bytes) => h.unwrite(bytes),
+        Write::U8(value) => h.unwrite(&[*value]),
+        Write::U16(value) => h.unwrite(&value.to_le_bytes()),
+        Write::U32(value) => h.unwrite(&value.to_le_bytes()),
+        Write::U64(value) => h.unwrite(&value.to_le_bytes()),
+        Write::Usize(value) => h.unwrite(&value.to_le_bytes()),
+    }
+}
+
+/// Makes the writes in order, by std's own methods. The state is the fold of the definition over the bytes of each.
+pub fn run_writes<H: Piecewise>(h: &mut H, writes: &[Write])
+    ensures state { H.state h.new ≡ fold H.after (H.state h.old) (all_written writes.now) }
+{
+    for write in writes {
+        make(h, write);
+    }
+}
+
+/// Makes the writes in order, by std's own methods. Only the joined bytes count: what stood at (start, text) stands at
+/// (start, text followed by the joined bytes of the writes), and its answer is the definition of that text.
+pub fn run_writes_streamed<H: Streamed>(h: &mut H, writes: &[Write])
+    ensures one { H.in_range (H.state h.old)
+        → H.state h.new ≡ H.after (H.state h.old) (joined_written writes.now) }
+    ensures stands { (from text : List ℕ) → H.stands_at h.old from text
+        → H.stands_at h.new from (text ++ joined_written writes.now) }
+    ensures answers { (from text : List ℕ) → H.stands_at h.old from text
+        → H.answer (H.state h.new) ≡ H.hash from (text ++ joined_written writes.now) }
+{
+    for write in writes {
+        make(h, write);
+    }
+}
+
+/// The hash of the joined bytes of the writes, from the default start.
+pub fn answer_of_writes<H: Streamed>(writes: &[Write]) -> u64
+    ensures { result ≡ H.hash H.start (joined_written writes.now) }
+{
+    let mut hasher = H::fresh();
+    run_writes_streamed(&mut hasher, writes);
+    hasher.answer()
+}
+
+/// Takes the writes back, from the last to the first: the inverse of `run_writes` of the same list, both ways, on every
+/// state.
+pub fn unrun_writes<H: Undo>(h: &mut H, writes: &[Write])
+    // The writes lead back to where the hasher was,
+    ensures back { fold H.after (H.state h.new) (all_written writes.now) ≡ H.state h.old }
+    // and from wherever they led there, that is the state now.
+    ensures undone { (s : H.State) → H.in_range s
+        → fold H.after s (all_written writes.now) ≡ H.state h.old → H.state h.new ≡ s }
+    ensures texts { All IsText (all_written writes.now) }
+{
+    for write in writes.iter().rev() {
+        take_back(h, write);
+    }
+}

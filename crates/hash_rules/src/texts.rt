@@ -1,0 +1,45 @@
+//! Whole texts by a rule's steps.
+ghost use Rattle.std.specs.Prelude.{◌≡◌};
+ghost use Rattle.hash_laws.specs.Recurrence.{recurrence};
+
+use crate::byte_rule::StepRule;
+
+/// The bytes in, one step for each.
+#[inline(always)]
+#[tactic(auto, using(hash_laws::proofs::RecurrenceLemmas::turns))]
+fn in_turn<R: StepRule>(state: &mut R::State, bytes: &[u8])
+    ensures { R.number state.new ≡ recurrence R.step (R.number state.old) bytes.now }
+{
+    for byte in bytes {
+        R::step(state, *byte);
+    }
+}
+
+/// The bytes in, one step for each: the few first ones, up to seven, and then eight a turn.
+#[inline(always)]
+pub fn in_eights<R: StepRule>(state: &mut R::State, bytes: &[u8])
+where
+    R::State: Copy,
+    ensures { R.number state.new ≡ recurrence R.step (R.number state.old) bytes.now }
+{
+    let (few, eights) = bytes.as_rchunks::<8>();
+    let mut word = *state;
+    in_turn::<R>(&mut word, few);
+    for eight in eights {
+        in_turn::<R>(&mut word, eight);
+    }
+    *state = word;
+}
+
+/// The same, where a single byte is one step with no loop round it.
+#[inline(always)]
+pub fn alone_or_in_eights<R: StepRule>(state: &mut R::State, bytes: &[u8])
+where
+    R::State: Copy,
+    ensures { R.number state.new ≡ recurrence R.step (R.number state.old) bytes.now }
+{
+    match bytes {
+        [byte] => R::step(state, *byte),
+        _ => in_eights::<R>(state, bytes),
+    }
+}

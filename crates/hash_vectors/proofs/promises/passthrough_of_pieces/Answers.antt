@@ -1,4 +1,0 @@
-use Rattle.hash_vectors.proofs.promises.passthrough_of_pieces.Goals as goal
-
-pub returns : goal.returns
-returns c = c.answer_of_pieces.ensures

@@ -1,6 +1,0 @@
-use Rattle.std.proofs.Common.{◌≡◌, ◌<◌, ◌^◌, fold, take}
-use Rattle.hashers.specs.Fnv.{fnv1a32}
-use Rattle.hashers.proofs.fnv.FNV1aHasher32Hasher.write.Given as goal
-
-abbrev pub invariant-loop-eight : goal.invariant-loop-eight
-invariant-loop-eight l = record { so_far : l.state ≡ fold fnv1a32 l.initial.state (take l.eight-index l.eights); known : l.state < 2 ^ 32 }

@@ -1,9 +1,0 @@
-use Rattle.std.proofs.Common.{◌^◌}
-use Rattle.std.specs.Iterator.Adapters.{rev_source}
-use Rattle.std.specs.Slice.Iter.{iter_rest}
-use Rattle.hash_laws.proofs.ByteLemmas.{Undoing}
-use Rattle.hash_rounds.specs.Sums.{sdbm}
-use Rattle.hashers.proofs.oz.SDBMHasherUndo.unwrite.Given as goal
-
-abbrev pub invariant-loop-byte : goal.invariant-loop-byte
-invariant-loop-byte l = Undoing sdbm (2 ^ 32) l.initial.state l.state (iter_rest (rev_source l.byte-iterator)) l.piece

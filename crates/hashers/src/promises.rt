@@ -1,0 +1,491 @@
+//! What this project promises, at each concrete type and in the words of the written definitions.
+//!
+//! After any list of writes a hasher answers its definition: of the joined bytes alone, or for fx and lookup3 of the bytes
+//! of each write. Any list of writes of the seven byte hashers and of fx, and each mixing round, is undone exactly, and the
+//! reverse, from every state. Each sentence is the contract of a function of this module.
+ghost use Rattle.std.specs.Prelude.{◌≡◌, ◌<◌, ◌^◌, ℕ, All, fold};
+ghost use Rattle.std.specs.List.{flat_map};
+ghost use Rattle.hash_rounds.specs.Sums.{sdbm, loselose, passthrough};
+ghost use Rattle.hash_laws.specs.Text.{IsText};
+ghost use Rattle.hash_laws.specs.Writes.{all_written, joined_written};
+ghost use Rattle.hash_fx.specs.Fx.{fx32, fx32_step, fx64, fx64_step, words32, words64};
+ghost use Rattle.hash_jenkins.specs.Lookup3.{lookup3, lookup3_answer};
+ghost use Rattle.hash_jenkins.specs.Oaat.{oaat, oaat_finish};
+ghost use Rattle.hash_jenkins.specs.Spooky.{spooky, spooky_v1};
+ghost use Rattle.hashers.specs.Fnv.{fnv1a32, fnv1a32_basis, fnv1a64, fnv1a64_basis};
+ghost use Rattle.hashers.specs.Oz.{djb2};
+ghost use Rattle.hashers.specs.Pigeon.{bricolage};
+
+use crate::fnv::{FNV1aHasher32, FNV1aHasher64};
+use crate::null::{NullHasher, PassThroughHasher};
+use crate::oz::{DJB2Hasher, LoseLoseHasher, SDBMHasher};
+use crate::pigeon::Bricolage;
+use hash_fx::{Fx64Rule, FxHasher, FxHasher32, FxHasher64, MachineWord};
+use hash_jenkins::spooky_hash::SpookyHasher;
+use hash_jenkins::{Lookup3Hasher, OAATHasher};
+use hash_laws::laws::{ByteStep, Piecewise, Streamed, Undo};
+use hash_laws::writes::{Write, answer_of_writes, run_writes, run_writes_streamed, unrun_writes};
+use hash_rounds::{
+    lookup3_final, lookup3_mix, lookup3_unfinal, lookup3_unmix, short_end, short_mix,
+    spooky_end_partial, spooky_mix, spooky_un_end_partial, spooky_unmix, un_short_end,
+    un_short_mix,
+};
+use hash_rules::WordHasher;
+use std::hash::Hasher;
+
+/// `fnv1a32` of the joined bytes of the writes.
+pub fn fnv1a32_of_writes(writes: &[Write]) -> u64
+    ensures { result ≡ fnv1a32 fnv1a32_basis (joined_written writes.now) }
+{
+    answer_of_writes::<FNV1aHasher32>(writes)
+}
+
+/// `fnv1a64` of the joined bytes of the writes.
+pub fn fnv1a64_of_writes(writes: &[Write]) -> u64
+    ensures { result ≡ fnv1a64 fnv1a64_basis (joined_written writes.now) }
+{
+    answer_of_writes::<FNV1aHasher64>(writes)
+}
+
+/// `djb2` of the joined bytes of the writes.
+pub fn djb2_of_writes(writes: &[Write]) -> u64
+    ensures { result ≡ djb2 5381 (joined_written writes.now) }
+{
+    answer_of_writes::<DJB2Hasher>(writes)
+}
+
+/// `sdbm` of the joined bytes of the writes.
+pub fn sdbm_of_writes(writes: &[Write]) -> u64
+    ensures { result ≡ sdbm 0 (joined_written writes.now) }
+{
+    answer_of_writes::<SDBMHasher>(writes)
+}
+
+/// `loselose` of the joined bytes of the writes.
+pub fn loselose_of_writes(writes: &[Write]) -> u64
+    ensures { result ≡ loselose 0 (joined_written writes.now) }
+{
+    answer_of_writes::<LoseLoseHasher>(writes)
+}
+
+/// `bricolage` of the joined bytes of the writes.
+pub fn bricolage_of_writes(writes: &[Write]) -> u64
+    ensures { result ≡ bricolage 0 (joined_written writes.now) }
+{
+    answer_of_writes::<Bricolage>(writes)
+}
+
+/// `oaat` of the joined bytes of the writes.
+pub fn oaat_of_writes(writes: &[Write]) -> u64
+    ensures { result ≡ oaat_finish (oaat 0 (joined_written writes.now)) }
+{
+    answer_of_writes::<OAATHasher>(writes)
+}
+
+/// 0, whatever the writes.
+pub fn null_of_writes(writes: &[Write]) -> u64
+    ensures { result ≡ 0 }
+{
+    answer_of_writes::<NullHasher>(writes)
+}
+
+/// `passthrough` of the joined bytes of the writes.
+pub fn passthrough_of_writes(writes: &[Write]) -> u64
+    ensures { result ≡ passthrough 0 (joined_written writes.now) }
+{
+    answer_of_writes::<PassThroughHasher>(writes)
+}
+
+/// `passthrough` goes on from any state: what it answers before the writes and after them.
+pub fn passthrough_goes_on(h: &mut PassThroughHasher, writes: &[Write]) -> (u64, u64)
+    ensures state { h.new ≡ passthrough h.old (joined_written writes.now) }
+    ensures before { result.0 ≡ h.old }
+    ensures after { result.1 ≡ h.new }
+{
+    goes_on::<PassThroughHasher>(h, writes)
+}
+
+/// SpookyHash of the joined bytes of the writes, under any seeds.
+pub fn spooky_of_writes(seed1: u64, seed2: u64, writes: &[Write]) -> (u64, u64)
+    ensures { result ≡ spooky seed1 seed2 (joined_written writes.now) }
+{
+    let mut hasher = SpookyHasher::new(seed1, seed2);
+    run_writes_streamed(&mut hasher, writes);
+    hasher.finish128()
+}
+
+/// Version 1 of SpookyHash of the joined bytes of the writes, under any seeds.
+pub fn spooky_v1_of_writes(seed1: u64, seed2: u64, writes: &[Write]) -> (u64, u64)
+    ensures { result ≡ spooky_v1 seed1 seed2 (joined_written writes.now) }
+{
+    let mut hasher = SpookyHasher::new(seed1, seed2);
+    run_writes_streamed(&mut hasher, writes);
+    hasher.finish128_v1()
+}
+
+/// `lookup3` of the writes: each of some bytes is one run from the two words before.
+pub fn lookup3_of_writes(writes: &[Write]) -> u64
+    ensures { result ≡ lookup3_answer (fold lookup3 (0, 0) (all_written writes.now)) }
+{
+    let mut hasher = Lookup3Hasher::default();
+    run_writes(&mut hasher, writes);
+    hasher.finish()
+}
+
+/// `fxhash` of all words of all writes, one after the other.
+pub fn fxhash_of_writes(writes: &[Write]) -> u64
+    ensures { result ≡ fx64 0 (flat_map words64 (all_written writes.now)) }
+{
+    let mut hasher = FxHasher::default();
+    run_writes(&mut hasher, writes);
+    hasher.finish()
+}
+
+/// `fxhash32` of all words of all writes, one after the other.
+pub fn fxhash32_of_writes(writes: &[Write]) -> u64
+    ensures { result ≡ fx32 0 (flat_map words32 (all_written writes.now)) }
+{
+    let mut hasher = FxHasher32::default();
+    run_writes(&mut hasher, writes);
+    hasher.finish()
+}
+
+/// `fxhash64` of all words of all writes, one after the other.
+pub fn fxhash64_of_writes(writes: &[Write]) -> u64
+    ensures { result ≡ fx64 0 (flat_map words64 (all_written writes.now)) }
+{
+    let mut hasher = FxHasher64::default();
+    run_writes(&mut hasher, writes);
+    hasher.finish()
+}
+
+/// What a hasher answers before the writes and after them, from any state.
+fn goes_on<H: Streamed>(h: &mut H, writes: &[Write]) -> (u64, u64)
+    ensures state { H.state h.new ≡ H.after (H.state h.old) (joined_written writes.now) }
+    ensures before { result.0 ≡ H.answer (H.state h.old) }
+    ensures after { result.1 ≡ H.answer (H.state h.new) }
+{
+    let before = h.answer();
+    run_writes_streamed(h, writes);
+    (before, h.answer())
+}
+
+/// What two hashers answered on a way that leads back to where they were.
+pub struct WayBack {
+    /// What the first answered before its writes.
+    pub before: u64,
+    /// What it answered after them, before they were taken back.
+    pub there: u64,
+    /// What the second answered after the writes were taken back, before they were made.
+    pub back: u64,
+}
+
+impl Drop for WayBack {
+    fn drop(self) {
+        let Self {
+            before: _,
+            there: _,
+            back: _,
+        } = self;
+    }
+}
+
+/// Makes the writes on the one hasher and takes them back, and takes them back from the other and makes them. Both are
+/// as they were.
+fn there_and_back<H: Undo>(a: &mut H, b: &mut H, writes: &[Write]) -> WayBack
+    ensures before { result.before ≡ H.answer (H.state a.old) }
+    ensures there { result.there ≡ H.answer (fold H.after (H.state a.old) (all_written writes.now)) }
+    ensures there_and_back { H.state a.new ≡ H.state a.old }
+    ensures back { (s : H.State) × H.in_range s
+        × (fold H.after s (all_written writes.now) ≡ H.state b.old) × (result.back ≡ H.answer s) }
+    ensures back_and_there { H.state b.new ≡ H.state b.old }
+    ensures in_range { H.in_range (H.state a.old) }
+    ensures texts { All IsText (all_written writes.now) }
+{
+    let before = a.answer();
+    run_writes(a, writes);
+    let there = a.answer();
+    unrun_writes(a, writes);
+    unrun_writes(b, writes);
+    let back = b.answer();
+    run_writes(b, writes);
+    WayBack {
+        before,
+        there,
+        back,
+    }
+}
+
+/// The same of a hasher for which only the joined bytes count.
+fn there_and_back_joined<H: ByteStep>(a: &mut H, b: &mut H, writes: &[Write]) -> WayBack
+    ensures before { result.before ≡ H.answer (H.state a.old) }
+    ensures there { result.there ≡ H.answer (H.after (H.state a.old) (joined_written writes.now)) }
+    ensures there_and_back { H.state a.new ≡ H.state a.old }
+    ensures back { (s : H.State) × H.in_range s
+        × (H.after s (joined_written writes.now) ≡ H.state b.old) × (result.back ≡ H.answer s) }
+    ensures back_and_there { H.state b.new ≡ H.state b.old }
+{
+    there_and_back::<H>(a, b, writes)
+}
+
+/// `fnv1a32`, from any state: the writes, made and taken back, or taken back and made, leave each hasher as it was.
+pub fn fnv1a32_undone(a: &mut FNV1aHasher32, b: &mut FNV1aHasher32, writes: &[Write]) -> WayBack
+    ensures before { result.before ≡ a.old }
+    ensures there { result.there ≡ fnv1a32 a.old (joined_written writes.now) }
+    ensures there_and_back { a.new ≡ a.old }
+    ensures back { fnv1a32 result.back (joined_written writes.now) ≡ b.old }
+    ensures in_range { result.back < 2 ^ 32 }
+    ensures back_and_there { b.new ≡ b.old }
+{
+    there_and_back_joined::<FNV1aHasher32>(a, b, writes)
+}
+
+/// `fnv1a64`, from any state: the writes, made and taken back, or taken back and made, leave each hasher as it was.
+pub fn fnv1a64_undone(a: &mut FNV1aHasher64, b: &mut FNV1aHasher64, writes: &[Write]) -> WayBack
+    ensures before { result.before ≡ a.old }
+    ensures there { result.there ≡ fnv1a64 a.old (joined_written writes.now) }
+    ensures there_and_back { a.new ≡ a.old }
+    ensures back { fnv1a64 result.back (joined_written writes.now) ≡ b.old }
+    ensures in_range { result.back < 2 ^ 64 }
+    ensures back_and_there { b.new ≡ b.old }
+{
+    there_and_back_joined::<FNV1aHasher64>(a, b, writes)
+}
+
+/// `djb2`, from any state: the writes, made and taken back, or taken back and made, leave each hasher as it was.
+pub fn djb2_undone(a: &mut DJB2Hasher, b: &mut DJB2Hasher, writes: &[Write]) -> WayBack
+    ensures before { result.before ≡ a.old }
+    ensures there { result.there ≡ djb2 a.old (joined_written writes.now) }
+    ensures there_and_back { a.new ≡ a.old }
+    ensures back { djb2 result.back (joined_written writes.now) ≡ b.old }
+    ensures in_range { result.back < 2 ^ 32 }
+    ensures back_and_there { b.new ≡ b.old }
+{
+    there_and_back_joined::<DJB2Hasher>(a, b, writes)
+}
+
+/// `sdbm`, from any state: the writes, made and taken back, or taken back and made, leave each hasher as it was.
+pub fn sdbm_undone(a: &mut SDBMHasher, b: &mut SDBMHasher, writes: &[Write]) -> WayBack
+    ensures before { result.before ≡ a.old.state }
+    ensures there { result.there ≡ sdbm a.old.state (joined_written writes.now) }
+    ensures there_and_back { a.new.state ≡ a.old.state }
+    ensures back { sdbm result.back (joined_written writes.now) ≡ b.old.state }
+    ensures in_range { result.back < 2 ^ 32 }
+    ensures back_and_there { b.new.state ≡ b.old.state }
+{
+    there_and_back_joined::<SDBMHasher>(a, b, writes)
+}
+
+/// `loselose`, from any state: the writes, made and taken back, or taken back and made, leave each hasher as it was.
+pub fn loselose_undone(a: &mut LoseLoseHasher, b: &mut LoseLoseHasher, writes: &[Write]) -> WayBack
+    ensures before { result.before ≡ a.old.state }
+    ensures there { result.there ≡ loselose a.old.state (joined_written writes.now) }
+    ensures there_and_back { a.new.state ≡ a.old.state }
+    ensures back { loselose result.back (joined_written writes.now) ≡ b.old.state }
+    ensures in_range { result.back < 2 ^ 64 }
+    ensures back_and_there { b.new.state ≡ b.old.state }
+{
+    there_and_back_joined::<LoseLoseHasher>(a, b, writes)
+}
+
+/// `bricolage`, from any state: the writes, made and taken back, or taken back and made, leave each hasher as it was.
+pub fn bricolage_undone(a: &mut Bricolage, b: &mut Bricolage, writes: &[Write]) -> WayBack
+    ensures before { result.before ≡ a.old }
+    ensures there { result.there ≡ bricolage a.old (joined_written writes.now) }
+    ensures there_and_back { a.new ≡ a.old }
+    ensures back { bricolage result.back (joined_written writes.now) ≡ b.old }
+    ensures in_range { result.back < 2 ^ 64 }
+    ensures back_and_there { b.new ≡ b.old }
+{
+    there_and_back_joined::<Bricolage>(a, b, writes)
+}
+
+/// `oaat`, from any state: the writes, made and taken back, or taken back and made, leave each hasher as it was.
+pub fn oaat_undone(a: &mut OAATHasher, b: &mut OAATHasher, writes: &[Write]) -> WayBack
+    ensures before { result.before ≡ oaat_finish a.old }
+    ensures there { result.there ≡ oaat_finish (oaat a.old (joined_written writes.now)) }
+    ensures there_and_back { a.new ≡ a.old }
+    ensures back { (s : ℕ) × (s < 2 ^ 64)
+        × (oaat s (joined_written writes.now) ≡ b.old) × (result.back ≡ oaat_finish s) }
+    ensures back_and_there { b.new ≡ b.old }
+{
+    there_and_back_joined::<OAATHasher>(a, b, writes)
+}
+
+/// `fxhash`, from any state: the writes, made and taken back, or taken back and made, leave each hasher as it was.
+pub fn fxhash_undone(a: &mut FxHasher, b: &mut FxHasher, writes: &[Write]) -> WayBack
+    ensures before { result.before ≡ a.old }
+    ensures there { result.there ≡ fx64 a.old (flat_map words64 (all_written writes.now)) }
+    ensures there_and_back { a.new ≡ a.old }
+    ensures back { fx64 result.back (flat_map words64 (all_written writes.now)) ≡ b.old }
+    ensures in_range { result.back < 2 ^ 64 }
+    ensures back_and_there { b.new ≡ b.old }
+{
+    there_and_back::<FxHasher>(a, b, writes)
+}
+
+/// `fxhash32`, from any state: the writes, made and taken back, or taken back and made, leave each hasher as it was.
+pub fn fxhash32_undone(a: &mut FxHasher32, b: &mut FxHasher32, writes: &[Write]) -> WayBack
+    ensures before { result.before ≡ a.old }
+    ensures there { result.there ≡ fx32 a.old (flat_map words32 (all_written writes.now)) }
+    ensures there_and_back { a.new ≡ a.old }
+    ensures back { fx32 result.back (flat_map words32 (all_written writes.now)) ≡ b.old }
+    ensures in_range { result.back < 2 ^ 32 }
+    ensures back_and_there { b.new ≡ b.old }
+{
+    there_and_back::<FxHasher32>(a, b, writes)
+}
+
+/// `fxhash64`, from any state: the writes, made and taken back, or taken back and made, leave each hasher as it was.
+pub fn fxhash64_undone(a: &mut FxHasher64, b: &mut FxHasher64, writes: &[Write]) -> WayBack
+    ensures before { result.before ≡ a.old }
+    ensures there { result.there ≡ fx64 a.old (flat_map words64 (all_written writes.now)) }
+    ensures there_and_back { a.new ≡ a.old }
+    ensures back { fx64 result.back (flat_map words64 (all_written writes.now)) ≡ b.old }
+    ensures in_range { result.back < 2 ^ 64 }
+    ensures back_and_there { b.new ≡ b.old }
+{
+    there_and_back::<FxHasher64>(a, b, writes)
+}
+
+/// A number of 64 bits as one word of either type of 64 bits, made and taken back, and taken back and made.
+#[tactic(auto, using(hash_fx::proofs::FixedWidths::words_of_numbers))]
+fn word_there_and_back<Name>(
+    a: &mut WordHasher<Fx64Rule, Name>,
+    b: &mut WordHasher<Fx64Rule, Name>,
+    word: u64,
+) -> WayBack
+    ensures before { result.before ≡ a.old }
+    ensures there { result.there ≡ fx64_step a.old word }
+    ensures there_and_back { a.new ≡ a.old }
+    ensures back { fx64_step result.back word ≡ b.old }
+    ensures in_range { result.back < 2 ^ 64 }
+    ensures back_and_there { b.new ≡ b.old }
+{
+    let before = a.answer();
+    a.write_u64(word);
+    let there = a.answer();
+    a.unwrite_word(word);
+    b.unwrite_word(word);
+    let back = b.answer();
+    b.write_u64(word);
+    WayBack {
+        before,
+        there,
+        back,
+    }
+}
+
+/// `fxhash`, from any state: a number of 64 bits is one word, which `unwrite_word` undoes, both ways.
+pub fn fxhash_word_undone(a: &mut FxHasher, b: &mut FxHasher, word: u64) -> WayBack
+    ensures before { result.before ≡ a.old }
+    ensures there { result.there ≡ fx64_step a.old word }
+    ensures there_and_back { a.new ≡ a.old }
+    ensures back { fx64_step result.back word ≡ b.old }
+    ensures in_range { result.back < 2 ^ 64 }
+    ensures back_and_there { b.new ≡ b.old }
+{
+    word_there_and_back::<MachineWord>(a, b, word)
+}
+
+/// `fxhash32`, from any state: a number of 32 bits is one word, which `unwrite_word` undoes, both ways.
+#[tactic(auto, using(hash_fx::proofs::FixedWidths::words_of_numbers))]
+pub fn fxhash32_word_undone(a: &mut FxHasher32, b: &mut FxHasher32, word: u32) -> WayBack
+    ensures before { result.before ≡ a.old }
+    ensures there { result.there ≡ fx32_step a.old word }
+    ensures there_and_back { a.new ≡ a.old }
+    ensures back { fx32_step result.back word ≡ b.old }
+    ensures in_range { result.back < 2 ^ 32 }
+    ensures back_and_there { b.new ≡ b.old }
+{
+    let before = a.answer();
+    a.write_u32(word);
+    let there = a.answer();
+    a.unwrite_word(word);
+    b.unwrite_word(word);
+    let back = b.answer();
+    b.write_u32(word);
+    WayBack {
+        before,
+        there,
+        back,
+    }
+}
+
+/// `fxhash64`, from any state: a number of 64 bits is one word, which `unwrite_word` undoes, both ways.
+pub fn fxhash64_word_undone(a: &mut FxHasher64, b: &mut FxHasher64, word: u64) -> WayBack
+    ensures before { result.before ≡ a.old }
+    ensures there { result.there ≡ fx64_step a.old word }
+    ensures there_and_back { a.new ≡ a.old }
+    ensures back { fx64_step result.back word ≡ b.old }
+    ensures in_range { result.back < 2 ^ 64 }
+    ensures back_and_there { b.new ≡ b.old }
+{
+    word_there_and_back::<Fx64Rule>(a, b, word)
+}
+
+/// `lookup3_mix` and `lookup3_unmix` undo one another, both ways, on every state.
+pub fn lookup3_mix_undone(a: &mut [u32; 3], b: &mut [u32; 3])
+    ensures there_and_back { a.new ≡ a.old }
+    ensures back_and_there { b.new ≡ b.old }
+{
+    lookup3_mix(a);
+    lookup3_unmix(a);
+    lookup3_unmix(b);
+    lookup3_mix(b);
+}
+
+/// `lookup3_final` and `lookup3_unfinal` undo one another, both ways, on every state.
+pub fn lookup3_final_undone(a: &mut [u32; 3], b: &mut [u32; 3])
+    ensures there_and_back { a.new ≡ a.old }
+    ensures back_and_there { b.new ≡ b.old }
+{
+    lookup3_final(a);
+    lookup3_unfinal(a);
+    lookup3_unfinal(b);
+    lookup3_final(b);
+}
+
+/// `spooky_mix` and `spooky_unmix` undo one another, both ways, on every state, for the same data.
+pub fn spooky_mix_undone(data: &[u64; 12], a: &mut [u64; 12], b: &mut [u64; 12])
+    ensures there_and_back { a.new ≡ a.old }
+    ensures back_and_there { b.new ≡ b.old }
+{
+    spooky_mix(data, a);
+    spooky_unmix(data, a);
+    spooky_unmix(data, b);
+    spooky_mix(data, b);
+}
+
+/// `spooky_end_partial` and `spooky_un_end_partial` undo one another, both ways, on every state.
+pub fn spooky_end_partial_undone(a: &mut [u64; 12], b: &mut [u64; 12])
+    ensures there_and_back { a.new ≡ a.old }
+    ensures back_and_there { b.new ≡ b.old }
+{
+    spooky_end_partial(a);
+    spooky_un_end_partial(a);
+    spooky_un_end_partial(b);
+    spooky_end_partial(b);
+}
+
+/// `short_mix` and `un_short_mix` undo one another, both ways, on every state.
+pub fn short_mix_undone(a: &mut [u64; 4], b: &mut [u64; 4])
+    ensures there_and_back { a.new ≡ a.old }
+    ensures back_and_there { b.new ≡ b.old }
+{
+    short_mix(a);
+    un_short_mix(a);
+    un_short_mix(b);
+    short_mix(b);
+}
+
+/// `short_end` and `un_short_end` undo one another, both ways, on every state.
+pub fn short_end_undone(a: &mut [u64; 4], b: &mut [u64; 4])
+    ensures there_and_back { a.new ≡ a.old }
+    ensures back_and_there { b.new ≡ b.old }
+{
+    short_end(a);
+    un_short_end(a);
+    un_short_end(b);
+    short_end(b);
+}

@@ -1,0 +1,47 @@
+//! A number as a line.
+ghost use Rattle.std.specs.Prelude.{◌≡◌, OnOk, OnErr};
+ghost use Rattle.std.specs.Io.KnownBytes.{Appends};
+ghost use Rattle.hashof.specs.Named.{line_of};
+ghost use Rattle.hashof.specs.Running.{BeginsLine};
+
+use std::io::{Error, Write};
+
+/// The most bytes of a line: twenty digits and a newline.
+const LINE: usize = 21;
+
+/// The line of a number, made at the end of the array.
+fn put_line(number: u64, line: &mut [u8; LINE]) -> &[u8]
+    ensures { result.now ≡ line_of number }
+{
+    line[20] = b'\n';
+    let mut at = 20;
+    let mut rest = number;
+    while rest >= 10 {
+        at -= 1;
+        line[at] = b'0' + (rest % 10) as u8;
+        rest /= 10;
+    }
+    at -= 1;
+    line[at] = b'0' + rest as u8;
+    &line[at..]
+}
+
+/// Writes the line of a number and flushes. The first error, `Interrupted` too, or a write that takes nothing ends it.
+pub fn write_line<W: Write>(w: &mut W, number: u64) -> Result<(), Option<Error>>
+    ensures ok { OnOk result (Appends (W.contents w.old) (W.contents w.new) (line_of number)) }
+    ensures err { OnErr result (BeginsLine (W.contents w.old) (W.contents w.new) (line_of number)) }
+{
+    let mut line = [0u8; LINE];
+    let mut rest = put_line(number, &mut line);
+    while !rest.is_empty() {
+        match w.write(rest) {
+            Ok(0) => return Err(None),
+            Ok(n) => rest = &rest[n..],
+            Err(error) => return Err(Some(error)),
+        }
+    }
+    match w.flush() {
+        Ok(()) => Ok(()),
+        Err(error) => Err(Some(error)),
+    }
+}
