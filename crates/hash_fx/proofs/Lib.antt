@@ -1,7 +1,6 @@
 pub mod ByPlace
 pub mod FixedWidths
 pub mod CutsLemmas
-pub mod Narrowed
 pub mod OneApart
 pub mod PiecesLemmas
 pub mod TestLemmas
