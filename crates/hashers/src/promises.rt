@@ -3,8 +3,10 @@
 //! After any list of writes a hasher answers its definition: of the joined bytes alone, or for fx and lookup3 of the bytes
 //! of each write. Any list of writes of the seven byte hashers and of fx, and each mixing round, is undone exactly, and the
 //! reverse, from every state. Each sentence is the contract of a function of this module.
-ghost use Rattle.std.specs.Prelude.{◌≡◌, ◌<◌, ◌^◌, ℕ, All, fold};
+ghost use Rattle.std.specs.Prelude.{◌≡◌, ◌<◌, ◌^◌, ℕ, [], All, fold};
 ghost use Rattle.std.specs.List.{flat_map};
+ghost use Rattle.hash_rounds.specs.Rounds.{lookup3_mix, lookup3_final, spooky_mix, spooky_end_partial, short_mix, short_end};
+ghost use Rattle.hash_rounds.specs.Steps.{apply};
 ghost use Rattle.hash_rounds.specs.Sums.{sdbm, loselose, passthrough};
 ghost use Rattle.hash_laws.specs.Text.{IsText};
 ghost use Rattle.hash_laws.specs.Writes.{all_written, joined_written};
@@ -424,68 +426,102 @@ pub fn fxhash64_word_undone(a: &mut FxHasher64, b: &mut FxHasher64, word: u64) -
     word_there_and_back::<Fx64Rule>(a, b, word)
 }
 
-/// `lookup3_mix` and `lookup3_unmix` undo one another, both ways, on every state.
-pub fn lookup3_mix_undone(a: &mut [u32; 3], b: &mut [u32; 3])
+/// `lookup3_mix` and `lookup3_unmix` undo one another, both ways, on every state: the words in between.
+pub fn lookup3_mix_undone(a: &mut [u32; 3], b: &mut [u32; 3]) -> ([u32; 3], [u32; 3])
+    ensures there { result.0 ≡ apply 32 lookup3_mix [] a.old }
     ensures there_and_back { a.new ≡ a.old }
+    ensures back { apply 32 lookup3_mix [] result.1 ≡ b.old }
     ensures back_and_there { b.new ≡ b.old }
 {
     lookup3_mix(a);
+    let there = *a;
     lookup3_unmix(a);
     lookup3_unmix(b);
+    let back = *b;
     lookup3_mix(b);
+    (there, back)
 }
 
-/// `lookup3_final` and `lookup3_unfinal` undo one another, both ways, on every state.
-pub fn lookup3_final_undone(a: &mut [u32; 3], b: &mut [u32; 3])
+/// `lookup3_final` and `lookup3_unfinal` undo one another, both ways, on every state: the words in between.
+pub fn lookup3_final_undone(a: &mut [u32; 3], b: &mut [u32; 3]) -> ([u32; 3], [u32; 3])
+    ensures there { result.0 ≡ apply 32 lookup3_final [] a.old }
     ensures there_and_back { a.new ≡ a.old }
+    ensures back { apply 32 lookup3_final [] result.1 ≡ b.old }
     ensures back_and_there { b.new ≡ b.old }
 {
     lookup3_final(a);
+    let there = *a;
     lookup3_unfinal(a);
     lookup3_unfinal(b);
+    let back = *b;
     lookup3_final(b);
+    (there, back)
 }
 
-/// `spooky_mix` and `spooky_unmix` undo one another, both ways, on every state, for the same data.
-pub fn spooky_mix_undone(data: &[u64; 12], a: &mut [u64; 12], b: &mut [u64; 12])
+/// `spooky_mix` and `spooky_unmix` undo one another, both ways, on every state, for the same data: the words in between.
+pub fn spooky_mix_undone(
+    data: &[u64; 12],
+    a: &mut [u64; 12],
+    b: &mut [u64; 12],
+) -> ([u64; 12], [u64; 12])
+    ensures there { result.0 ≡ apply 64 spooky_mix data.now a.old }
     ensures there_and_back { a.new ≡ a.old }
+    ensures back { apply 64 spooky_mix data.now result.1 ≡ b.old }
     ensures back_and_there { b.new ≡ b.old }
 {
     spooky_mix(data, a);
+    let there = *a;
     spooky_unmix(data, a);
     spooky_unmix(data, b);
+    let back = *b;
     spooky_mix(data, b);
+    (there, back)
 }
 
-/// `spooky_end_partial` and `spooky_un_end_partial` undo one another, both ways, on every state.
-pub fn spooky_end_partial_undone(a: &mut [u64; 12], b: &mut [u64; 12])
+/// `spooky_end_partial` and `spooky_un_end_partial` undo one another, both ways, on every state: the words in between.
+pub fn spooky_end_partial_undone(a: &mut [u64; 12], b: &mut [u64; 12]) -> ([u64; 12], [u64; 12])
+    ensures there { result.0 ≡ apply 64 spooky_end_partial [] a.old }
     ensures there_and_back { a.new ≡ a.old }
+    ensures back { apply 64 spooky_end_partial [] result.1 ≡ b.old }
     ensures back_and_there { b.new ≡ b.old }
 {
     spooky_end_partial(a);
+    let there = *a;
     spooky_un_end_partial(a);
     spooky_un_end_partial(b);
+    let back = *b;
     spooky_end_partial(b);
+    (there, back)
 }
 
-/// `short_mix` and `un_short_mix` undo one another, both ways, on every state.
-pub fn short_mix_undone(a: &mut [u64; 4], b: &mut [u64; 4])
+/// `short_mix` and `un_short_mix` undo one another, both ways, on every state: the words in between.
+pub fn short_mix_undone(a: &mut [u64; 4], b: &mut [u64; 4]) -> ([u64; 4], [u64; 4])
+    ensures there { result.0 ≡ apply 64 short_mix [] a.old }
     ensures there_and_back { a.new ≡ a.old }
+    ensures back { apply 64 short_mix [] result.1 ≡ b.old }
     ensures back_and_there { b.new ≡ b.old }
 {
     short_mix(a);
+    let there = *a;
     un_short_mix(a);
     un_short_mix(b);
+    let back = *b;
     short_mix(b);
+    (there, back)
 }
 
-/// `short_end` and `un_short_end` undo one another, both ways, on every state.
-pub fn short_end_undone(a: &mut [u64; 4], b: &mut [u64; 4])
+/// `short_end` and `un_short_end` undo one another, both ways, on every state: the words in between.
+pub fn short_end_undone(a: &mut [u64; 4], b: &mut [u64; 4]) -> ([u64; 4], [u64; 4])
+    ensures there { result.0 ≡ apply 64 short_end [] a.old }
     ensures there_and_back { a.new ≡ a.old }
+    ensures back { apply 64 short_end [] result.1 ≡ b.old }
     ensures back_and_there { b.new ≡ b.old }
 {
     short_end(a);
+    let there = *a;
     un_short_end(a);
     un_short_end(b);
+    let back = *b;
     short_end(b);
+    (there, back)
 }
