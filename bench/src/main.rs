@@ -12,6 +12,7 @@
 #[macro_use]
 mod names;
 mod heap;
+mod maps;
 mod measure;
 mod original;
 mod ours;
@@ -411,65 +412,6 @@ fn unwrites(sheet: &mut Sheet, text: &[u8]) {
     );
 }
 
-fn tables(sheet: &mut Sheet, text: &[u8]) {
-    head(sheet,
-        "Rust's `HashMap` with the original's hasher / `Buckets` with ours and 1024 buckets, 1000 keys of 16 bytes, ns a key; and the KiB that both hold, keys and all:",
-        "name",
-        &["insert into a new table, and free it", "get", "get of a key that isn't there", "insert, remove, and free it", "KiB"].map(String::from),
-    );
-    let calls: [(&str, [[CallOfTable; 2]; 2], [CallOfSize; 2]); 3] = [
-        (
-            "fnv1a64",
-            [
-                [original::table::<FNV1aHasher64>, ours::buckets::fnv1a64],
-                [original::missed::<FNV1aHasher64>, ours::missed::fnv1a64],
-            ],
-            [original::emptied::<FNV1aHasher64>, ours::emptied::fnv1a64],
-        ),
-        (
-            "lookup3",
-            [
-                [original::table::<Lookup3Hasher>, ours::buckets::lookup3],
-                [original::missed::<Lookup3Hasher>, ours::missed::lookup3],
-            ],
-            [original::emptied::<Lookup3Hasher>, ours::emptied::lookup3],
-        ),
-        (
-            "fxhash",
-            [
-                [original::table::<FxHasher>, ours::buckets::fxhash],
-                [original::missed::<FxHasher>, ours::missed::fxhash],
-            ],
-            [original::emptied::<FxHasher>, ours::emptied::fxhash],
-        ),
-    ];
-    let (size, rounds, count) = (black_box(16), 32, 1000);
-    let (twice, text) = (&text[..2 * size * count], &text[..size * count]);
-    for (name, [there, missing], emptied) in calls {
-        let asked = |side: usize, rounds: usize| call_of_table(there[side], text, size, rounds);
-        let missed = |side: usize, rounds: usize| call_of_table(missing[side], twice, size, rounds);
-        let taken = |side: usize| call_of_size(emptied[side], text, size);
-        same(name, asked(0, 2), asked(1, 2));
-        same(name, missed(0, 2), missed(1, 2));
-        same(name, taken(0), taken(1));
-        let insert = sheet.pair(&|| asked(0, 0), &|| asked(1, 0));
-        let found = sheet.pair(&|| asked(0, rounds), &|| asked(1, rounds));
-        let none = sheet.pair(&|| missed(0, rounds), &|| missed(1, rounds));
-        let remove = sheet.pair(&|| taken(0), &|| taken(1));
-        let get = |with: Pair| Pair {
-            original: (with.original - insert.original) / rounds as f64,
-            ours: (with.ours - insert.ours) / rounds as f64,
-        };
-        let [theirs, own] = [0, 1].map(|side| heap::held(&|| asked(side, 0)).div_ceil(1024));
-        let mut cells: Vec<String> = [insert, get(found), get(none), remove]
-            .iter()
-            .map(|pair| cell(*pair, count as f64))
-            .collect();
-        cells.push(format!("{theirs} / {own}"));
-        row(sheet, name, &cells);
-    }
-}
-
 /// The hash of that name of standard input, by the original, through an array of 4096 bytes and one read a piece.
 fn hash_input(name: &str) -> u64 {
     match names().iter().find(|it| it.name == name) {
@@ -507,7 +449,7 @@ fn write_pairs(file: &str, pairs: &[Pair]) {
     writeln!(file, "{line}").expect("the times written");
 }
 
-/// Measures all whose name has `only` in it; that of the tables of buckets is `Buckets`.
+/// Measures all whose name has `only` in it; that of the tables of buckets is `Buckets`, and of std's maps `Maps`.
 fn measure_all(sheet: &mut Sheet, only: &str) {
     let mut names = names();
     names.retain(|n| n.name.contains(only));
@@ -528,7 +470,10 @@ fn measure_all(sheet: &mut Sheet, only: &str) {
         unwrites(sheet, &text);
     }
     if "Buckets".contains(only) {
-        tables(sheet, &text);
+        maps::tables(sheet, &text);
+    }
+    if "Maps".contains(only) {
+        maps::maps(sheet);
     }
 }
 

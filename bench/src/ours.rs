@@ -36,9 +36,14 @@ calls! {
     unwrite (at: *const u8, len: usize): fnv1a32 fnv1a64 djb2 sdbm loselose bricolage oaat fxhash fxhash32 fxhash64;
     numbers (at: *const u8, len: usize, width: usize): fnv1a64 djb2 lookup3 fxhash fxhash32 fxhash64;
     behind (at: *const u8, len: usize): fxhash fxhash32 fxhash64;
-    buckets (at: *const u8, len: usize, size: usize, rounds: usize): fnv1a64 lookup3 fxhash;
-    missed (at: *const u8, len: usize, size: usize, rounds: usize): fnv1a64 lookup3 fxhash;
-    emptied (at: *const u8, len: usize, size: usize): fnv1a64 lookup3 fxhash;
+    buckets (at: *const u8, len: usize, size: usize, rounds: usize): fnv1a64 fxhash;
+    missed (at: *const u8, len: usize, size: usize, rounds: usize): fnv1a64 fxhash;
+    emptied (at: *const u8, len: usize, size: usize): fnv1a64 fxhash;
+    owned (at: *const u8, len: usize, size: usize, rounds: usize): fnv1a64;
+    owned_missed (at: *const u8, len: usize, size: usize, rounds: usize): fnv1a64;
+    owned_emptied (at: *const u8, len: usize, size: usize): fnv1a64;
+    numbered (there: *const u64, n: usize, asked: *const u64, m: usize, fills: usize, asks: usize): fnv1a64 fxhash;
+    named (there: *const u8, n: usize, asked: *const u8, m: usize, fills: usize, asks: usize): fnv1a64 fxhash;
 }
 
 /// What the heap answers: whether there is memory, and where.

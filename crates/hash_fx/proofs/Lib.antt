@@ -1,6 +1,7 @@
 pub mod ByPlace
 pub mod FixedWidths
 pub mod CutsLemmas
+pub mod LowBits
 pub mod OneApart
 pub mod PiecesLemmas
 pub mod TestLemmas

@@ -155,3 +155,13 @@ pub fn one_changed_byte_shows_fx()
     ensures at_32 { (x y : List (Bor (List ℕ))) → All IsText (texts x) → All IsText (texts y)
         → DifferByOneByte x y → fx32_pieces 0 (texts x) ≢ fx32_pieces 0 (texts y) }
 {}
+
+/// What the low bits of a hash rest on, a law with no code: from one state, two words that are equal mod 2^k lead to
+/// states that are equal mod 2^k. So keys that differ only in the upper part of their last word share a bucket of every
+/// table of 2^k buckets.
+pub fn low_bits_of_a_word()
+    ensures at_64 { (k h v u : ℕ) → k ≤ 64 → v % 2 ^ k ≡ u % 2 ^ k
+        → fx64_step h v % 2 ^ k ≡ fx64_step h u % 2 ^ k }
+    ensures at_32 { (k h v u : ℕ) → k ≤ 32 → v % 2 ^ k ≡ u % 2 ^ k
+        → fx32_step h v % 2 ^ k ≡ fx32_step h u % 2 ^ k }
+{}

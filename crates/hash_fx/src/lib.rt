@@ -5,8 +5,10 @@
 mod fx32;
 mod fx64;
 pub mod laws;
+mod maps;
 mod words32;
 mod words64;
 
 pub use fx32::{Fx32Rule, FxHasher32, fxhash32};
 pub use fx64::{Fx64Rule, FxHasher, FxHasher64, MachineWord, fxhash, fxhash64};
+pub use maps::{FxBuildHasher, FxHashMap, FxHashSet};

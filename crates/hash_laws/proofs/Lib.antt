@@ -2,6 +2,7 @@ pub mod ByteLemmas
 pub mod ChangedByte
 pub mod FoldLemmas
 pub mod ItemLemmas
+pub mod KeyLemmas
 pub mod PairLemmas
 pub mod ReadingLemmas
 pub mod RecurrenceLemmas

@@ -1,6 +1,7 @@
 //! What hash functions promise, what follows for all of them, and the hash of what a reader gives.
 #![tactic(auto)]
 
+pub mod build;
 pub mod engine;
 pub mod laws;
 pub mod window;

@@ -3,7 +3,6 @@
 use hash_buckets::{Buckets, NoRoom, NoTable};
 use hash_fx::FxHasher;
 use hashers::fnv::FNV1aHasher64;
-use hashers::jenkins::Lookup3Hasher;
 use hashers::laws::Piecewise;
 use std::alloc::Global;
 
@@ -77,17 +76,6 @@ pub extern "C" fn hash_speed_buckets_fnv1a64(
     put_and_asked::<FNV1aHasher64>(alloc, keys, keys, size, rounds).unwrap_or(u64::MAX)
 }
 
-/// A table over lookup3.
-#[unsafe(no_mangle)]
-pub extern "C" fn hash_speed_buckets_lookup3(
-    alloc: Global,
-    keys: &[u8],
-    size: usize,
-    rounds: usize,
-) -> u64 {
-    put_and_asked::<Lookup3Hasher>(alloc, keys, keys, size, rounds).unwrap_or(u64::MAX)
-}
-
 /// A table over fx.
 #[unsafe(no_mangle)]
 pub extern "C" fn hash_speed_buckets_fxhash(
@@ -103,12 +91,6 @@ pub extern "C" fn hash_speed_buckets_fxhash(
 #[unsafe(no_mangle)]
 pub extern "C" fn hash_speed_emptied_fnv1a64(alloc: Global, keys: &[u8], size: usize) -> u64 {
     put_and_taken::<FNV1aHasher64>(alloc, keys, size).unwrap_or(u64::MAX)
-}
-
-/// A table over lookup3 that is filled and emptied.
-#[unsafe(no_mangle)]
-pub extern "C" fn hash_speed_emptied_lookup3(alloc: Global, keys: &[u8], size: usize) -> u64 {
-    put_and_taken::<Lookup3Hasher>(alloc, keys, size).unwrap_or(u64::MAX)
 }
 
 /// A table over fx that is filled and emptied.
@@ -127,18 +109,6 @@ pub extern "C" fn hash_speed_missed_fnv1a64(
 ) -> u64 {
     let (there, others) = keys.split_at(keys.len() / 2);
     put_and_asked::<FNV1aHasher64>(alloc, there, others, size, rounds).unwrap_or(u64::MAX)
-}
-
-/// A table over lookup3 of the first half of the keys, asked for the others.
-#[unsafe(no_mangle)]
-pub extern "C" fn hash_speed_missed_lookup3(
-    alloc: Global,
-    keys: &[u8],
-    size: usize,
-    rounds: usize,
-) -> u64 {
-    let (there, others) = keys.split_at(keys.len() / 2);
-    put_and_asked::<Lookup3Hasher>(alloc, there, others, size, rounds).unwrap_or(u64::MAX)
 }
 
 /// A table over fx of the first half of the keys, asked for the others.

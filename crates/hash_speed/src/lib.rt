@@ -7,6 +7,7 @@
 
 mod buckets;
 mod keys;
+mod maps;
 mod numbers;
 mod pieces;
 mod reader;

@@ -7,7 +7,9 @@ ghost use Rattle.hashers.specs.FnvLaws.{fnv1a32_facts, fnv1a64_facts};
 ghost use Rattle.hash_laws.proofs.RecurrenceLemmas.{recurrence_is_fold};
 ghost use Rattle.hashers.specs.Fnv.{fnv0, fnv1a32_basis, fnv1a32, fnv1a64_basis, fnv1a64};
 
+use hash_laws::build::BuildFresh;
 use hash_rules::{ByteHasher, ByteRule, StepRule, alone_or_in_eights};
+use std::collections::{HashMap, HashSet};
 use std::hash::Hasher;
 
 /// The start at 32 bits, which the authors call the offset basis.
@@ -212,3 +214,12 @@ pub fn fnv1a64(bytes: &[u8]) -> u64
     hasher.write(bytes);
     hasher.finish()
 }
+
+/// Makes an [`FNV1aHasher64`] for each key of a map or a set, as the type of this name in the crate fnv does.
+pub type FnvBuildHasher = BuildFresh<FNV1aHasher64>;
+
+/// A map of std by FNV-1a at 64 bits: `FnvHashMap::with_hasher(alloc, FnvBuildHasher::new())` is an empty one.
+pub type FnvHashMap<K, V> = HashMap<K, V, FnvBuildHasher>;
+
+/// A set of std by FNV-1a at 64 bits.
+pub type FnvHashSet<K> = HashSet<K, FnvBuildHasher>;

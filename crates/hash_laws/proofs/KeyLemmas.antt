@@ -1,0 +1,58 @@
+-- What std feeds a hasher of a key.
+use Rattle.std.proofs.Common.{ℕ, ◌≡◌, List, [], ◌∷◌, ◌++◌, fold, length, ap, sym, ◌∙◌, refl, append_assoc}
+use Rattle.std.proofs.lemmas.List.{append-nil}
+use Rattle.std.proofs.lemmas.List.Concat.{concat_is}
+use Rattle.std.proofs.lemmas.List.Elements.{All-nil, All-cons, All-append, All-head, All-tail}
+use Rattle.std.specs.Prelude.{All}
+use Rattle.std.specs.List.{concat, flat_map}
+use Rattle.std.specs.Hash.{le_bytes}
+use Rattle.hash_laws.specs.Text.{IsText}
+use Rattle.hash_laws.proofs.TextLemmas.{IsText-one, IsText-le_bytes, IsByte}
+use Rattle.hash_laws.proofs.ReadingLemmas.{fold-pieces}
+
+-- what is written is fed, write by write
+pub state_after_writes : {A S : Type 0} (write : A → List ℕ → A) (state : A → S) (after : S → List ℕ → S)
+    → ((h : A) (piece : List ℕ) → state (write h piece) ≡ after (state h) piece)
+    → (h : A) (s : S) (writes : List (List ℕ)) → state h ≡ s → state (fold write h writes) ≡ fold after s writes
+state_after_writes write state after feeds h s [] same = same
+state_after_writes write state after feeds h s (piece ∷ writes) same =
+    state_after_writes write state after feeds (write h piece) (after s piece) writes (feeds h piece ∙ ap (λ t. after t piece) same)
+
+-- where a text in two pieces leads to where it leads whole, the writes lead to where they lead joined
+pub fold-concat : {S : Type 0} (in_range : S → Type 0) (after : S → List ℕ → S)
+    → ((s : S) (piece : List ℕ) → in_range s → IsText piece → in_range (after s piece))
+    → ((s : S) → in_range s → after s [] ≡ s)
+    → ((s : S) (text more : List ℕ) → in_range s → IsText text → IsText more → after s (text ++ more) ≡ after (after s text) more)
+    → (s : S) (writes : List (List ℕ)) → in_range s → All IsText writes → fold after s writes ≡ after s (concat writes)
+fold-concat in_range after stays nothing joins s writes known texts =
+    (fold-pieces in_range after stays nothing joins s writes known texts).0 ∙ ap (after s) (sym (concat_is writes))
+
+-- a number's writes, joined
+pub one_write : (bytes : List ℕ) → concat (bytes ∷ []) ≡ bytes
+one_write bytes = concat_is (bytes ∷ []) ∙ append-nil bytes
+
+pub two_writes : (first second : List ℕ) → concat (first ∷ second ∷ []) ≡ first ++ second
+two_writes first second = concat_is (first ∷ second ∷ []) ∙ ap (λ t. first ++ t) (append-nil second)
+
+each_byte : (bytes : List ℕ) → flat_map (λ w. w) (flat_map (λ b. (b ∷ []) ∷ []) bytes) ≡ bytes
+each_byte [] = refl
+each_byte (b ∷ bytes) = ap (λ t. b ∷ t) (each_byte bytes)
+
+-- the writes of a slice of bytes, joined
+pub slice_writes : (length_bytes bytes : List ℕ) → concat (length_bytes ∷ flat_map (λ b. (b ∷ []) ∷ []) bytes) ≡ length_bytes ++ bytes
+slice_writes length_bytes bytes = concat_is (length_bytes ∷ flat_map (λ b. (b ∷ []) ∷ []) bytes) ∙ ap (λ t. length_bytes ++ t) (each_byte bytes)
+
+byte_texts : (bytes : List ℕ) → IsText bytes → All IsText (flat_map (λ b. (b ∷ []) ∷ []) bytes)
+byte_texts [] texts = All-nil IsText
+byte_texts (b ∷ bytes) texts =
+    All-cons IsText (b ∷ []) (flat_map (λ c. (c ∷ []) ∷ []) bytes) (IsText-one b (All-head IsByte b bytes texts)) (byte_texts bytes (All-tail IsByte b bytes texts))
+
+-- the writes of a number, of two, and of a slice of bytes are texts
+pub one_text : (n : ℕ) → All IsText (le_bytes 8 n ∷ [])
+one_text n = All-cons IsText (le_bytes 8 n) [] (IsText-le_bytes 8 n) (All-nil IsText)
+
+pub two_texts : (n m : ℕ) → All IsText (le_bytes 8 n ∷ le_bytes 8 m ∷ [])
+two_texts n m = All-cons IsText (le_bytes 8 n) (le_bytes 8 m ∷ []) (IsText-le_bytes 8 n) (one_text m)
+
+pub slice_texts : (n : ℕ) (bytes : List ℕ) → IsText bytes → All IsText (le_bytes 8 n ∷ flat_map (λ b. (b ∷ []) ∷ []) bytes)
+slice_texts n bytes texts = All-cons IsText (le_bytes 8 n) _ (IsText-le_bytes 8 n) (byte_texts bytes texts)

@@ -1,0 +1,86 @@
+//! What makes a hasher for each key of std's maps and sets.
+//!
+//! std feeds a key in one or more writes, which `hash_input` of the key's type lists: a number is its little-endian bytes,
+//! a slice its length as 8 bytes and then each item, a `&str` its bytes and then 0xFF, a pair its first part and then its
+//! second.
+ghost use Rattle.std.specs.Prelude.{◌≡◌, ◌++◌, All, fold, length};
+ghost use Rattle.std.specs.Hash.{le_bytes};
+ghost use Rattle.std.specs.List.{concat};
+ghost use Rattle.hash_laws.specs.Text.{IsText};
+
+use crate::laws::{Piecewise, Streamed};
+use std::hash::{BuildHasher, Hash, Hasher};
+use std::marker::PhantomData;
+
+/// Makes the default hasher of `H` for each key, as std's `BuildHasherDefault` does for types that can be copied. It takes
+/// no memory, and each one makes the same hashers.
+///
+/// `HashMap::<K, V, BuildFresh<H>>::with_hasher(alloc, BuildFresh::new())` is a map of std over `H`.
+#[derive(Clone, Copy, Default)]
+pub struct BuildFresh<H> {
+    hasher: PhantomData<H>,
+}
+
+impl<H> BuildFresh<H> {
+    /// The builder.
+    pub const fn new() -> BuildFresh<H> {
+        BuildFresh {
+            hasher: PhantomData,
+        }
+    }
+}
+
+impl<H: Piecewise> BuildHasher for BuildFresh<H> {
+    type Hasher = H;
+
+    ghost build_hasher = { λ builder. H.first };
+
+    /// The default hasher of `H`.
+    #[inline(always)]
+    fn build_hasher(&self) -> H {
+        H::fresh()
+    }
+
+    /// The hash of a key: the answer to the fresh state after the writes that std makes of it, in their order.
+    #[inline(always)]
+    fn hash_one<T: Hash + Drop>(&self, x: T) -> u64
+        ensures std { result ≡ H.finish (fold H.write H.first (T.hash_input x)) }
+        ensures defined { result ≡ H.answer (fold H.after H.fresh (T.hash_input x)) }
+    {
+        let mut hasher = H::fresh();
+        x.hash(&mut hasher);
+        hasher.answer()
+    }
+}
+
+/// The hash of a key by [`BuildFresh`], where cuts don't show: that of the bytes that std feeds, joined.
+#[inline(always)]
+pub fn hash_one_joined<H: Streamed, K: Hash + Drop>(key: K) -> u64
+    ensures { All IsText (K.hash_input key) → result ≡ H.hash_of (concat (K.hash_input key)) }
+{
+    BuildFresh::<H>::new().hash_one(key)
+}
+
+/// The hash of a slice of bytes as a key: that of its length in 8 bytes, followed by its bytes.
+#[inline(always)]
+pub fn hash_one_slice<H: Streamed>(key: &[u8]) -> u64
+    ensures { result ≡ H.hash_of (le_bytes 8 (length key.now) ++ key.now) }
+{
+    hash_one_joined::<H, &[u8]>(key)
+}
+
+/// The hash of a number as a key: that of its 8 bytes, the lowest first.
+#[inline(always)]
+pub fn hash_one_number<H: Streamed>(key: u64) -> u64
+    ensures { result ≡ H.hash_of (le_bytes 8 key) }
+{
+    hash_one_joined::<H, u64>(key)
+}
+
+/// The hash of a pair of numbers as a key: that of the 8 bytes of the first, followed by those of the second.
+#[inline(always)]
+pub fn hash_one_pair<H: Streamed>(key: (u64, u64)) -> u64
+    ensures { result ≡ H.hash_of (le_bytes 8 key.0 ++ le_bytes 8 key.1) }
+{
+    hash_one_joined::<H, (u64, u64)>(key)
+}
