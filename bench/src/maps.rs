@@ -1,7 +1,7 @@
 //! Maps of std on both sides: Rust's over the original's hashers, Rattle's over ours; and Rattle's beside the table of buckets.
+use crate::measure::{Pair, Sheet};
 use crate::{call_of_size, call_of_table, cell, figures, head, heap, ours, row, same};
 use crate::{original, CallOfSize, CallOfTable};
-use crate::measure::{Pair, Sheet};
 use hashers::fnv::FNV1aHasher64;
 use hashers::fx_hash::FxHasher;
 use std::collections::HashMap;
@@ -44,7 +44,10 @@ unsafe extern "C" fn numbered<H: Default + Hasher>(
     fills: usize,
     asks: usize,
 ) -> u64 {
-    let (there, asked) = (std::slice::from_raw_parts(there, n), std::slice::from_raw_parts(asked, m));
+    let (there, asked) = (
+        std::slice::from_raw_parts(there, n),
+        std::slice::from_raw_parts(asked, m),
+    );
     put_and_asked::<H, u64>(there, asked, fills, asks)
 }
 
@@ -57,7 +60,10 @@ unsafe extern "C" fn named<H: Default + Hasher>(
     asks: usize,
 ) -> u64 {
     let lines = |at, len| -> Vec<&str> {
-        std::str::from_utf8(std::slice::from_raw_parts(at, len)).expect("a text").lines().collect()
+        std::str::from_utf8(std::slice::from_raw_parts(at, len))
+            .expect("a text")
+            .lines()
+            .collect()
     };
     put_and_asked::<H, &str>(&lines(there, n), &lines(asked, m), fills, asks)
 }
@@ -70,9 +76,14 @@ fn cells(sheet: &mut Sheet, name: &str, count: usize, found: &Run, missed: &Run)
     same(name, found(0, 1, 2), found(1, 1, 2));
     same(name, missed(0, 1, 2), missed(1, 1, 2));
     let (fills, asks) = (4, 16);
-    let mut timed = |run: &Run, fills, asks| sheet.pair(&|| run(0, fills, asks), &|| run(1, fills, asks));
-    let [none, filled, got, not] =
-        [timed(found, 0, 0), timed(found, fills, 0), timed(found, 1, asks), timed(missed, 1, asks)];
+    let mut timed =
+        |run: &Run, fills, asks| sheet.pair(&|| run(0, fills, asks), &|| run(1, fills, asks));
+    let [none, filled, got, not] = [
+        timed(found, 0, 0),
+        timed(found, fills, 0),
+        timed(found, 1, asks),
+        timed(missed, 1, asks),
+    ];
     let insert = Pair {
         original: (filled.original - none.original) / fills as f64,
         ours: (filled.ours - none.ours) / fills as f64,
@@ -87,18 +98,23 @@ fn cells(sheet: &mut Sheet, name: &str, count: usize, found: &Run, missed: &Run)
 
 /// `count` distinct numbers that look like nothing.
 fn numbers(count: usize) -> Vec<u64> {
-    (1..=count as u64).map(|i| i.wrapping_mul(0x9e37_79b9_7f4a_7c15).rotate_left(29) ^ i).collect()
+    (1..=count as u64)
+        .map(|i| i.wrapping_mul(0x9e37_79b9_7f4a_7c15).rotate_left(29) ^ i)
+        .collect()
 }
 
 /// `count` distinct texts of 16 bytes, a line each.
 fn texts(from: usize, count: usize) -> String {
-    (from..from + count).map(|i| format!("{:016x}\n", (i as u64).wrapping_mul(0x9e37_79b9_7f4a_7c15))).collect()
+    (from..from + count)
+        .map(|i| format!("{:016x}\n", (i as u64).wrapping_mul(0x9e37_79b9_7f4a_7c15)))
+        .collect()
 }
 
 /// `count` different words of one to three syllables and a number, a line each.
 fn words(from: usize, count: usize) -> String {
     const SYLLABLES: [&str; 16] = [
-        "ba", "con", "der", "el", "for", "gre", "hin", "is", "jo", "kal", "lum", "men", "not", "or", "pre", "stra",
+        "ba", "con", "der", "el", "for", "gre", "hin", "is", "jo", "kal", "lum", "men", "not",
+        "or", "pre", "stra",
     ];
     let word = |mut i: usize| {
         let mut word = String::new();
@@ -117,11 +133,22 @@ pub fn maps(sheet: &mut Sheet) {
         sheet,
         "std's map: Rust's over the original's hasher / Rattle's over ours, ns a key:",
         "keys",
-        &["insert into a new map, and free it", "get", "get of a key that isn't there"].map(String::from),
+        &[
+            "insert into a new map, and free it",
+            "get",
+            "get of a key that isn't there",
+        ]
+        .map(String::from),
     );
     let of_numbers: [(&str, [OfNumbers; 2]); 2] = [
-        ("fnv1a64, 8-byte numbers", [numbered::<FNV1aHasher64>, ours::numbered::fnv1a64]),
-        ("fxhash, 8-byte numbers", [numbered::<FxHasher>, ours::numbered::fxhash]),
+        (
+            "fnv1a64, 8-byte numbers",
+            [numbered::<FNV1aHasher64>, ours::numbered::fnv1a64],
+        ),
+        (
+            "fxhash, 8-byte numbers",
+            [numbered::<FxHasher>, ours::numbered::fxhash],
+        ),
     ];
     let of_lines: [(&str, [OfLines; 2]); 2] = [
         ("fnv1a64", [named::<FNV1aHasher64>, ours::named::fnv1a64]),
@@ -132,18 +159,47 @@ pub fn maps(sheet: &mut Sheet) {
         let (there, others) = all.split_at(count);
         for (name, calls) in of_numbers {
             let run = |asked: &[u64], side: usize, fills, asks| unsafe {
-                calls[side](there.as_ptr(), there.len(), asked.as_ptr(), asked.len(), fills, asks)
+                calls[side](
+                    there.as_ptr(),
+                    there.len(),
+                    asked.as_ptr(),
+                    asked.len(),
+                    fills,
+                    asks,
+                )
             };
-            cells(sheet, name, count, &|s, f, a| run(there, s, f, a), &|s, f, a| run(others, s, f, a));
+            cells(
+                sheet,
+                name,
+                count,
+                &|s, f, a| run(there, s, f, a),
+                &|s, f, a| run(others, s, f, a),
+            );
         }
-        for (what, make) in [("16-byte texts", texts as fn(usize, usize) -> String), ("words", words)] {
+        for (what, make) in [
+            ("16-byte texts", texts as fn(usize, usize) -> String),
+            ("words", words),
+        ] {
             let (there, others) = (make(0, count), make(count, count));
             for (name, calls) in of_lines {
                 let run = |asked: &str, side: usize, fills, asks| unsafe {
-                    calls[side](there.as_ptr(), there.len(), asked.as_ptr(), asked.len(), fills, asks)
+                    calls[side](
+                        there.as_ptr(),
+                        there.len(),
+                        asked.as_ptr(),
+                        asked.len(),
+                        fills,
+                        asks,
+                    )
                 };
                 let name = format!("{name}, {what}");
-                cells(sheet, &name, count, &|s, f, a| run(&there, s, f, a), &|s, f, a| run(&others, s, f, a));
+                cells(
+                    sheet,
+                    &name,
+                    count,
+                    &|s, f, a| run(&there, s, f, a),
+                    &|s, f, a| run(&others, s, f, a),
+                );
             }
         }
     }
@@ -171,8 +227,10 @@ pub fn table(sheet: &mut Sheet, name: &str, text: &[u8], count: usize, sides: [T
         ours: (with.ours - insert.ours) / rounds as f64,
     };
     let kibibytes = [0, 1].map(|side| figures(heap::held(&|| asked(side, 0)) as f64 / 1024.0));
-    let mut cells: Vec<String> =
-        [insert, get(found), get(none), remove].iter().map(|pair| cell(*pair, count as f64)).collect();
+    let mut cells: Vec<String> = [insert, get(found), get(none), remove]
+        .iter()
+        .map(|pair| cell(*pair, count as f64))
+        .collect();
     cells.push(kibibytes.join(" / "));
     row(sheet, name, &cells);
 }
@@ -186,15 +244,50 @@ pub fn tables(sheet: &mut Sheet, text: &[u8]) {
         &["insert into a new table, and free it", "get", "get of a key that isn't there", "insert, remove, and free it", "KiB"]
             .map(String::from),
     );
-    let buckets_fnv: Table = ([ours::buckets::fnv1a64, ours::missed::fnv1a64], ours::emptied::fnv1a64);
-    let buckets_fx: Table = ([ours::buckets::fxhash, ours::missed::fxhash], ours::emptied::fxhash);
-    let rust_fnv: Table =
-        ([original::table::<FNV1aHasher64>, original::missed::<FNV1aHasher64>], original::emptied::<FNV1aHasher64>);
-    let rust_fx: Table = ([original::table::<FxHasher>, original::missed::<FxHasher>], original::emptied::<FxHasher>);
-    let rattle: Table = ([ours::owned::fnv1a64, ours::owned_missed::fnv1a64], ours::owned_emptied::fnv1a64);
+    let buckets_fnv: Table = (
+        [ours::buckets::fnv1a64, ours::missed::fnv1a64],
+        ours::emptied::fnv1a64,
+    );
+    let buckets_fx: Table = (
+        [ours::buckets::fxhash, ours::missed::fxhash],
+        ours::emptied::fxhash,
+    );
+    let rust_fnv: Table = (
+        [
+            original::table::<FNV1aHasher64>,
+            original::missed::<FNV1aHasher64>,
+        ],
+        original::emptied::<FNV1aHasher64>,
+    );
+    let rust_fx: Table = (
+        [original::table::<FxHasher>, original::missed::<FxHasher>],
+        original::emptied::<FxHasher>,
+    );
+    let rattle: Table = (
+        [ours::owned::fnv1a64, ours::owned_missed::fnv1a64],
+        ours::owned_emptied::fnv1a64,
+    );
     for count in [1000, 10_000] {
-        table(sheet, &format!("Rust's, fnv1a64, {count} keys"), text, count, [rust_fnv, buckets_fnv]);
-        table(sheet, &format!("Rust's, fxhash, {count} keys"), text, count, [rust_fx, buckets_fx]);
-        table(sheet, &format!("Rattle's, fnv1a64, {count} keys"), text, count, [rattle, buckets_fnv]);
+        table(
+            sheet,
+            &format!("Rust's, fnv1a64, {count} keys"),
+            text,
+            count,
+            [rust_fnv, buckets_fnv],
+        );
+        table(
+            sheet,
+            &format!("Rust's, fxhash, {count} keys"),
+            text,
+            count,
+            [rust_fx, buckets_fx],
+        );
+        table(
+            sheet,
+            &format!("Rattle's, fnv1a64, {count} keys"),
+            text,
+            count,
+            [rattle, buckets_fnv],
+        );
     }
 }

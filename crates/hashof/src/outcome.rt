@@ -5,7 +5,7 @@ ghost use Rattle.hashof.specs.declared.run.TheConstants.{LIMIT};
 ghost use Rattle.hashof.specs.Running.{run_of};
 ghost use Rattle.hashof.specs.Status.{complaint_of, status_of};
 
-use crate::run::{RunFault, run};
+use crate::run::{LIMIT, RunFault, run_limited};
 use std::env::Args;
 use std::io;
 use std::io::{ErrorKind, Read, Write};
@@ -34,15 +34,21 @@ impl Drop for Outcome {
 }
 
 /// Does what the arguments ask for, as the system gives them, the program's own name first: tells the hash of the one
-/// name that they are. Where they are wrong, or there was no memory for them, nothing is read or written.
-pub fn outcome_of<R: Read, W: Write>(args: io::Result<Args>, r: &mut R, w: &mut W) -> Outcome
-    ensures { Exits args (run_of LIMIT R.remaining r.old r.new W.contents w.old w.new) result }
+/// name that they are, if the input is less than `limit` bytes. Where they are wrong, or there was no memory for them,
+/// nothing is read or written.
+pub fn outcome_limited<R: Read, W: Write>(
+    args: io::Result<Args>,
+    limit: u64,
+    r: &mut R,
+    w: &mut W,
+) -> Outcome
+    ensures { Exits args (run_of limit R.remaining r.old r.new W.contents w.old w.new) result }
 {
     match args {
         Ok(mut args) => {
             let _program = args.next();
             match (args.next(), args.next()) {
-                (Some(name), None) => match run(name.as_str(), r, w) {
+                (Some(name), None) => match run_limited(name.as_str(), limit, r, w) {
                     Ok(()) => Outcome::Done,
                     Err(fault) => Outcome::Failed(fault),
                 },
@@ -54,6 +60,13 @@ pub fn outcome_of<R: Read, W: Write>(args: io::Result<Args>, r: &mut R, w: &mut 
             _ => Outcome::Usage,
         },
     }
+}
+
+/// What the program does: `outcome_limited` of an input of less than 2^40 bytes.
+pub fn outcome_of<R: Read, W: Write>(args: io::Result<Args>, r: &mut R, w: &mut W) -> Outcome
+    ensures { Exits args (run_of LIMIT R.remaining r.old r.new W.contents w.old w.new) result }
+{
+    outcome_limited(args, LIMIT, r, w)
 }
 
 /// What the program writes on standard error, with its newline; nothing where the hash was told.

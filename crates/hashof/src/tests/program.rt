@@ -1,6 +1,6 @@
 //! The program's outcome, for arguments as the system gives them.
 use super::{Paper, Script, Trouble, plain};
-use crate::outcome::{outcome_line, outcome_of, outcome_status};
+use crate::outcome::{outcome_limited, outcome_line, outcome_of, outcome_status};
 use std::alloc::Global;
 use std::env::Args;
 use std::io;
@@ -128,4 +128,16 @@ fn a_write_fails(rt: HostRuntime) {
     let named = args(rt.alloc(), &["hashof", "fnv1a64"]);
     let paper = Paper::new(1, Trouble::FailsAt(4), ErrorKind::BrokenPipe);
     exits(&rt, named, &mut Script::new(b"ab", 1, None), paper, exit);
+}
+
+#[test]
+fn an_input_at_the_limit(rt: HostRuntime) {
+    let named = args(rt.alloc(), &["hashof", "fnv1a64"]);
+    let mut reader = Script::new(b"ab", 1, None);
+    let mut paper = plain();
+    let outcome = outcome_limited(named, 2, &mut reader, &mut paper);
+    assert_eq!(rt; outcome_line(&outcome), "hashof: input too long\n");
+    assert_eq!(rt; outcome_status(&outcome), 1);
+    assert_eq!(rt; [paper.writes, paper.flushes], [0, 0]);
+    assert_eq!(rt; reader.reads, 2);
 }
