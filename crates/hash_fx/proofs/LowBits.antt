@@ -1,5 +1,5 @@
 -- The low bits of a state after a word rest on the word's low bits.
-use Rattle.std.proofs.Common.{ℕ, ◌≡◌, ◌+◌, ◌-◌, ◌*◌, ◌%◌, ◌^◌, ◌≤◌, bit_xor, ap, sym, ◌∙◌, arith}
+use Rattle.std.proofs.Common.{ℕ, ◌≡◌, ◌-◌, ◌*◌, ◌%◌, ◌^◌, ◌≤◌, bit_xor, ap, sym, ◌∙◌, arith}
 use Rattle.std.proofs.Math.Pow.{mod-mod-pow}
 use Rattle.std.proofs.lemmas.Nat.{xor_mod, mul-mod}
 
@@ -15,7 +15,7 @@ pub low_of_step : (w k state key v u : ℕ) → k ≤ w → v % 2 ^ k ≡ u % 2 
     → bit_xor state v * key % 2 ^ w % 2 ^ k ≡ bit_xor state u * key % 2 ^ w % 2 ^ k
 low_of_step w k state key v u within same =
     let xored : bit_xor state v % 2 ^ k ≡ bit_xor state u % 2 ^ k =
-        xor_mod state v k ∙ ap (bit_xor (state % 2 ^ k)) same ∙ sym (xor_mod state u k) in
+    xor_mod state v k ∙ ap (bit_xor (state % 2 ^ k)) same ∙ sym (xor_mod state u k) in
     low_of_low w k (bit_xor state v * key) within
     ∙ low_of_product (bit_xor state v) (bit_xor state u) key k xored
     ∙ sym (low_of_low w k (bit_xor state u * key) within)

@@ -5,8 +5,8 @@ pub use crate::windows::{
 };
 pub use hash_fx::laws::{
     apart_by_one_fx, fixed_widths_are_words32, fixed_widths_are_words64, low_bits_of_a_word,
-    one_changed_byte_shows_fx, pieces_are_their_words, run_words, run_words32, run_words64, words_by_place32,
-    words_by_place64,
+    one_changed_byte_shows_fx, pieces_are_their_words, run_words, run_words32, run_words64,
+    words_by_place32, words_by_place64,
 };
 pub use hash_jenkins::laws::{apart_by_zeros, same_answers_later};
 pub use hash_laws::laws::{

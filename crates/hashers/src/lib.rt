@@ -11,6 +11,5 @@ mod windows;
 
 pub use hash_fx as fx_hash;
 pub use hash_jenkins as jenkins;
-pub use hash_laws::build as build;
-pub use hash_laws::engine as engine;
+pub use hash_laws::{build as build, engine as engine};
 pub use hash_rules as rules;

@@ -1,4 +1,3 @@
-use Rattle.std.proofs.Common.{ℕ}
 use Rattle.hash_rounds.specs.Words.{rotl}
 use Rattle.hash_fx.proofs.LowBits.{low_of_step}
 use Rattle.hash_fx.proofs.laws.low_bits_of_a_word.Goals as goal
