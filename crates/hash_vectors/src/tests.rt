@@ -7,6 +7,7 @@ mod byte_hashers;
 mod fx;
 mod jenkins;
 mod laws;
+mod maps;
 mod original;
 mod plain;
 mod promises;
