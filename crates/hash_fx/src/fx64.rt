@@ -85,7 +85,7 @@ pub type FxHasher64 = WordHasher<Fx64Rule>;
 pub struct MachineWord;
 
 /// fx at the width of a machine word, which here is always 64 bits: a type of its own that splits, hashes and answers as
-/// [`FxHasher64`] does, with the same contracts.
+/// [`FxHasher64`] does, with the same contracts. Of `a` the hash is 16160435425421689461.
 pub type FxHasher = WordHasher<Fx64Rule, MachineWord>;
 
 /// The answer of a default `FxHasher64` to the bytes as one write.

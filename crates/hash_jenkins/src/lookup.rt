@@ -87,8 +87,15 @@ fn lookup3_piece(pc: u32, pb: u32, piece: &[u8]) -> (u32, u32)
     (s[2], s[1])
 }
 
-/// lookup3 of pieces. Each write of some bytes is one run, which the two words of the run before seed, so that cutting a
-/// text can change its hash. Contracts see the hasher as these two words, (pc, pb), each below 2^32.
+/// Bob Jenkins' lookup3 (his lookup3.c, `hashlittle2`: burtleburtle.net/bob/c/lookup3.c).
+///
+/// A write of some bytes is one run: three words of 32 bits start from 0xdeadbeef, the length and the two words of the run
+/// before. Whole blocks of 12 bytes are added and mixed; what is left, filled with zeros, is added and goes through the last
+/// mixing. A write of no bytes changes nothing. `finish` answers `pc + 2^32 * pb`. Each run seeds the next, so the cuts
+/// between writes may show, and no write can be undone.
+///
+/// Contracts see the hasher as the two words (pc, pb), each below 2^32, which start at (0, 0): `write` gives
+/// `h.new ≡ lookup3 h.old bytes.now`. Of `a` the hash is 6351843130003064584.
 pub struct Lookup3Hasher {
     pc: u32,
     pb: u32,

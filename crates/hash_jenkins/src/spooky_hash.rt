@@ -20,16 +20,21 @@ use hash_rounds::Turns;
 use std::hash::Hasher;
 use std::marker::Model;
 
-/// SpookyHash of a text that comes piece by piece.
+/// SpookyHash of a text that comes piece by piece (Bob Jenkins, burtleburtle.net/bob/hash/spooky.html).
 ///
-/// Contracts see where the hasher stands, its `Position`, and how many calls that mix blocks were charged to its counter
-/// on the way there, its `turns`. The position is the two seeds and the text so far below 192 bytes, and from then on the
-/// twelve words after all whole blocks and the tail behind them. At most 191 bytes are kept. The count of bytes stays at
-/// its greatest value once it is there, so no length is refused. Each position that a hasher stands at is in range: two
-/// seeds below 2^64 and less than 192 bytes, or twelve words below 2^64 and less than 96 bytes.
+/// `finish` answers the first word of the hash of all bytes so far, and `finish128` both. The cuts between writes don't
+/// show. No write can be undone.
+///
+/// Contracts see where the hasher stands, its `Position` (`at`), and the `turns`: how many calls that mix blocks were
+/// charged to its counter on the way there. The position is the two seeds and the text so far below 192 bytes, and from
+/// then on the twelve words after all whole blocks and the tail behind them: two seeds below 2^64 and less than 192 bytes,
+/// or twelve words below 2^64 and less than 96 bytes. At most 191 bytes are kept. The count of bytes stays at its greatest
+/// value once it is there, so no length is refused.
 ///
 /// The turns show the calls of `spooky_blocks` that were charged to this hasher's counter, and no more: a body could
 /// charge another counter, call it on no bytes, or mix a block by `spooky_mix`, which counts nothing.
+///
+/// Of `a` under two seeds of 0 the hash is 16681426114058726960.
 pub struct SpookyHasher {
     buffer: [u8; 192],
     words: [u64; 12],
