@@ -1,0 +1,6 @@
+pub mod ColumnLemmas
+pub mod LineLemmas
+pub mod OrderLemmas
+pub mod RunLemmas
+pub mod SeenLemmas
+pub mod TallyLemmas

@@ -1,0 +1,130 @@
+-- Lines of a text that grows, and the first of each.
+use Rattle.std.proofs.Common.{zero, suc, subst, Option, Some, None, IfSome, ◌≡◌, ◌≢◌, ℕ, ◌+◌, ◌-◌, ◌<◌, ◌≤◌, Bool, true, false, cond, not, ◌||◌, ◌&&◌, if◌then◌else◌, ◌==◌, List, [], ◌∷◌, ◌++◌, length, get_or, take, drop, take-append-drop, append_assoc, All, ap, sym, ◌∙◌, refl, arith}
+use Rattle.std.specs.Io.{StopsAt}
+use Rattle.std.specs.Io.BufRead.{ends_with_byte, strip_last, take_through}
+use Rattle.std.specs.List.{filter, concat, list_any, onto_first}
+use Rattle.std.specs.Str.{bytes_eq}
+use Rattle.std.proofs.lemmas.Bool.{ne_eqb, lt-ltb, false≢true}
+use Rattle.std.proofs.lemmas.Cmp.{nat_list_eq_equiv}
+use Rattle.std.proofs.lemmas.List.{append-nil, take_rest}
+use Rattle.std.proofs.lemmas.Grind.{get_or_tail}
+use Rattle.std.proofs.lemmas.List.Elements.{All-head, All-tail, filter-append}
+use Rattle.std.proofs.lemmas.List.Folds.{list_any-append, concat-append}
+use Rattle.dedup.specs.Lines.{lines, same_text, firsts, each_once}
+
+same_text-symm : (line other : List ℕ) → same_text line other ≡ same_text other line
+same_text-symm line other = nat_list_eq_equiv.symm (strip_last 10 line) (strip_last 10 other)
+
+-- a line more is kept where none before it has its text
+pub firsts_more : (before : List (List ℕ)) (line : List ℕ)
+    → firsts (before ++ line ∷ []) ≡ cond (list_any (same_text line) before) (firsts before) (firsts before ++ line ∷ [])
+firsts_more [] line = refl
+firsts_more (first ∷ before) line =
+    ap (λ more. first ∷ filter other more) (firsts_more before line)
+    ∙ at (list_any (same_text line) before) (same_text line first) (same_text-symm first line)
+  where
+    other : List ℕ → Bool
+    other x = not (same_text first x)
+
+    end : (is : Bool) → first ∷ (filter other (firsts before) ++ cond (not is) (line ∷ []) []) ≡ cond (is || false) (first ∷ filter other (firsts before)) (first ∷ filter other (firsts before) ++ line ∷ [])
+    end true = ap (λ kept. first ∷ kept) (append-nil _)
+    end false = refl
+
+    at : (among is : Bool) → same_text first line ≡ is
+        → first ∷ filter other (cond among (firsts before) (firsts before ++ line ∷ []))
+        ≡ cond (is || among) (first ∷ filter other (firsts before)) (first ∷ filter other (firsts before) ++ line ∷ [])
+    at true true same = refl
+    at true false same = refl
+    at false is same = ap (λ kept. first ∷ kept) (filter-append other (firsts before) (line ∷ []) ∙ ap (λ b. filter other (firsts before) ++ cond (not b) (line ∷ []) []) same) ∙ end is
+
+-- further lines change nothing before them
+pub firsts_begins : (before more : List (List ℕ)) → (rest : List (List ℕ)) × (firsts (before ++ more) ≡ firsts before ++ rest)
+firsts_begins [] more = (firsts more, refl)
+firsts_begins (first ∷ before) more =
+    let other : List ℕ → Bool = λ x. not (same_text first x) in
+    let below = firsts_begins before more in
+    (filter other below.0, ap (λ kept. first ∷ filter other kept) below.1 ∙ ap (λ kept. first ∷ kept) (filter-append other (firsts before) below.0))
+
+-- the first of several bytes before a newline is none, and the others stop there too
+stops_tail : (byte next : ℕ) (line : List ℕ) → StopsAt (byte ∷ next ∷ line) 10 → (byte ≢ 10) × StopsAt (next ∷ line) 10
+stops_tail byte next line stops =
+    let whole = byte ∷ next ∷ line in
+    let same : take (length whole - 1) whole ≡ byte ∷ take (length (next ∷ line) - 1) (next ∷ line) =
+    ap (λ k. take k whole) (the_length (length line)) in
+    let all = subst (All (λ x. x ≢ 10)) same stops in
+    (All-head (λ x. x ≢ 10) byte _ all, All-tail (λ x. x ≢ 10) byte _ all)
+  where
+    the_length : (n : ℕ) → suc (suc n) - 1 ≡ suc (suc n - 1)
+    the_length n = omega arith
+
+ends_some : (line : List ℕ) → 0 < length line → ends_with_byte 10 line ≡ (get_or line (length line - 1) 0 == 10)
+ends_some line some = ap (λ b. b && (get_or line (length line - 1) 0 == 10)) (lt-ltb 0 (length line) some)
+
+-- whether bytes end with a newline is told by the later of them
+ends_tail : (byte next : ℕ) (line : List ℕ) → ends_with_byte 10 (byte ∷ next ∷ line) ≡ ends_with_byte 10 (next ∷ line)
+ends_tail byte next line =
+    ends_some (byte ∷ next ∷ line) (omega arith)
+    ∙ ap (λ x. x == 10) (get_or_tail byte (next ∷ line) (length (byte ∷ next ∷ line) - 1) 0 (omega arith) ∙ ap (λ k. get_or (next ∷ line) k 0) (the_length (length line)))
+    ∙ sym (ends_some (next ∷ line) (omega arith))
+  where
+    the_length : (n : ℕ) → suc (suc n) - 1 - 1 ≡ suc n - 1
+    the_length n = omega arith
+
+-- a line with a newline at its end and nowhere else is the first line of what it begins
+pub lines_of_line : (line more : List ℕ) → StopsAt line 10 → ends_with_byte 10 line ≡ true → lines (line ++ more) ≡ line ∷ lines more
+lines_of_line [] more stops ends = absurd (false≢true ends)
+lines_of_line (byte ∷ []) more stops ends = ap (λ b. cond b ((byte ∷ []) ∷ lines more) (onto_first byte (lines more))) ends
+lines_of_line (byte ∷ next ∷ line) more stops ends =
+    let (other, later) = stops_tail byte next line stops in
+    ap (λ b. cond b ((byte ∷ []) ∷ lines (next ∷ line ++ more)) (onto_first byte (lines (next ∷ line ++ more)))) (ne_eqb byte 10 other)
+    ∙ ap (onto_first byte) (lines_of_line (next ∷ line) more later (sym (ends_tail byte next line) ∙ ends))
+
+-- bytes without a newline before the last are one line
+pub one_line : (line : List ℕ) → StopsAt line 10 → 0 < length line → lines line ≡ line ∷ []
+one_line [] stops some = absurd (omega arith)
+one_line (byte ∷ []) stops some = at (byte == 10)
+  where
+    at : (b : Bool) → cond b ((byte ∷ []) ∷ []) (onto_first byte []) ≡ (byte ∷ []) ∷ []
+    at true = refl
+    at false = refl
+one_line (byte ∷ next ∷ line) stops some =
+    let (other, later) = stops_tail byte next line stops in
+    ap (λ b. cond b ((byte ∷ []) ∷ lines (next ∷ line)) (onto_first byte (lines (next ∷ line)))) (ne_eqb byte 10 other)
+    ∙ ap (onto_first byte) (one_line (next ∷ line) later (omega arith))
+
+-- where no newline was read, all was read
+pub all_through : (bytes : List ℕ) → ends_with_byte 10 (take_through 10 bytes) ≡ false → bytes ≡ take_through 10 bytes
+all_through [] bare = refl
+all_through (byte ∷ bytes) bare = at (byte == 10) refl bare (all_through bytes)
+  where
+    later : (taken : List ℕ) → (byte == 10) ≡ false → ends_with_byte 10 (byte ∷ taken) ≡ false → ends_with_byte 10 taken ≡ false
+    later [] other bare = refl
+    later (next ∷ taken) other bare = sym (ends_tail byte next taken) ∙ bare
+
+    at : (b : Bool) → (byte == 10) ≡ b → ends_with_byte 10 (cond b (byte ∷ []) (byte ∷ take_through 10 bytes)) ≡ false
+        → (ends_with_byte 10 (take_through 10 bytes) ≡ false → bytes ≡ take_through 10 bytes) → byte ∷ bytes ≡ cond b (byte ∷ []) (byte ∷ take_through 10 bytes)
+    at true is bare more = absurd (false≢true (sym bare ∙ is))
+    at false is bare more = ap (λ l. byte ∷ l) (more (later (take_through 10 bytes) is bare))
+
+pub bare_is_all : (old : Option (List ℕ)) (line : List ℕ) → IfSome old (λ bytes. line ≡ take_through 10 bytes) → ends_with_byte 10 line ≡ false → IfSome old (λ bytes. bytes ≡ line)
+bare_is_all None line is bare = tt
+bare_is_all (Some bytes) line is bare = all_through bytes (ap (ends_with_byte 10) (sym is) ∙ bare) ∙ sym is
+
+-- what is written and what is left of some bytes, after more of them
+pub taken_more : (part rest bytes : List ℕ) (n : ℕ) → part ++ rest ≡ bytes → (part ++ take n rest) ++ take (length rest - n) (drop n rest) ≡ bytes
+taken_more part rest bytes n is =
+    ap (λ t. (part ++ take n rest) ++ t) (take_rest rest n) ∙ append_assoc part (take n rest) (drop n rest) ∙ ap (λ t. part ++ t) (take-append-drop n rest) ∙ is
+
+-- what a line adds
+pub each_once_more : (text line : List ℕ) → lines (text ++ line) ≡ lines text ++ line ∷ [] → each_once (text ++ line) ≡ each_once text ++ (if list_any (same_text line) (lines text) then [] else line)
+each_once_more text line split = ap (λ all. concat (firsts all)) split ∙ ap concat (firsts_more (lines text) line) ∙ at (list_any (same_text line) (lines text))
+  where
+    at : (b : Bool) → concat (cond b (firsts (lines text)) (firsts (lines text) ++ line ∷ [])) ≡ each_once text ++ cond b [] line
+    at true = sym (append-nil _)
+    at false = concat-append (firsts (lines text)) (line ∷ []) ∙ ap (λ l. each_once text ++ l) (append-nil line)
+
+-- what further lines add stands behind what was there
+pub each_once_begins : (text more : List ℕ) → lines (text ++ more) ≡ lines text ++ lines more → (rest : List ℕ) × (each_once (text ++ more) ≡ each_once text ++ rest)
+each_once_begins text more split =
+    let (rest, is) = firsts_begins (lines text) (lines more) in
+    (concat rest, ap (λ all. concat (firsts all)) split ∙ ap concat is ∙ concat-append (firsts (lines text)) rest)

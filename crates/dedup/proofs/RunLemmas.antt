@@ -1,0 +1,254 @@
+-- A run between two lines, and how it ends.
+use Rattle.std.proofs.Common.{◌≡◌, ℕ, ◌<◌, Bool, true, false, not, ◌||◌, List, [], ◌∷◌, ◌++◌, length, ap, sym, ◌∙◌, refl, if◌then◌else◌, subst, Option, None, Some, IfSome, Result, Ok, Err, OnOk, OnErr, append_assoc}
+use Rattle.std.proofs.lemmas.Result.{on_ok_weaker, on_err_weaker}
+use Rattle.std.specs.Io.{StopsAt}
+use Rattle.std.specs.Io.BufRead.{ends_with_byte, strip_last}
+use Rattle.std.specs.Io.KnownBytes.{Consumes, Appends, Keeps}
+use Rattle.std.specs.Result.{IsErr}
+use Rattle.std.specs.List.{list_any}
+use Rattle.std.specs.Str.{bytes_eq}
+use Rattle.std.proofs.KnownBytes.{Consumes-nil, Consumes-trans, Appends-nil, Appends-trans, Appends-kept}
+use Rattle.std.proofs.lemmas.Bool.{false≢true}
+use Rattle.std.proofs.lemmas.List.{append-nil}
+use Rattle.std.proofs.lemmas.List.Folds.{list_any-append}
+use Rattle.dedup.specs.Lines.{lines, same_text, each_once}
+use Rattle.dedup.specs.Running.{Run, WritesAll, WritesPart, Ends}
+use Rattle.dedup.specs.declared.run.Fault.{Fault}
+use Rattle.dedup.proofs.LineLemmas.{lines_of_line, one_line, each_once_more, each_once_begins}
+
+-- the lines that were read are whole, their texts are seen, and each is written once
+pub record Between (run : Run) (seen : List ℕ → Bool) : Type 0 where
+  pub text : List ℕ
+  pub read : Consumes run.left run.left' text
+  pub whole : (more : List ℕ) → lines (text ++ more) ≡ lines text ++ lines more
+  pub is_seen : (other : List ℕ) → seen other ≡ list_any (λ line. bytes_eq other (strip_last 10 line)) (lines text)
+  pub written : Appends run.written run.written' (each_once text)
+
+pub between_start : (left written : Option (List ℕ)) (seen : List ℕ → Bool) → ((other : List ℕ) → seen other ≡ false)
+    → Between (record { left = left; left' = left; written = written; written' = written }) seen
+between_start left written seen none = record {
+  text = [];
+  read = Consumes-nil left;
+  whole = λ more. refl;
+  is_seen = none;
+  written = Appends-nil written;
+}
+
+-- how a line splits off behind whole lines
+split_off : (text : List ℕ) → ((more : List ℕ) → lines (text ++ more) ≡ lines text ++ lines more) → (line : List ℕ) → StopsAt line 10 → 0 < length line
+    → lines (text ++ line) ≡ lines text ++ line ∷ []
+split_off text whole line stops some = whole line ∙ ap (λ l. lines text ++ l) (one_line line stops some)
+
+-- what the line adds
+adds : (run : Run) (seen : List ℕ → Bool) (before : Between run seen) (line : List ℕ) → StopsAt line 10 → 0 < length line
+    → each_once (before.text ++ line) ≡ each_once before.text ++ (if seen (strip_last 10 line) then [] else line)
+adds run seen before line stops some =
+    each_once_more before.text line (split_off before.text before.whole line stops some)
+    ∙ ap (λ b. each_once before.text ++ (if b then [] else line)) (sym (before.is_seen (strip_last 10 line)))
+
+-- what comes behind a line with its newline are other lines
+whole_more : (text : List ℕ) → ((more : List ℕ) → lines (text ++ more) ≡ lines text ++ lines more) → (line : List ℕ) → StopsAt line 10 → 0 < length line
+    → ends_with_byte 10 line ≡ true → (more : List ℕ) → lines ((text ++ line) ++ more) ≡ lines (text ++ line) ++ lines more
+whole_more text whole line stops some ended more =
+    ap lines (append_assoc text line more) ∙ whole (line ++ more) ∙ ap (λ l. lines text ++ l) (lines_of_line line more stops ended)
+    ∙ sym (append_assoc (lines text) (line ∷ []) (lines more)) ∙ ap (λ l. l ++ lines more) (sym (split_off text whole line stops some))
+
+abbrev after : Run → Option (List ℕ) → Option (List ℕ) → Run
+after run left written = record { left = run.left; left' = left; written = run.written; written' = written }
+
+-- a whole line more
+pub between_more : (run : Run) (seen seen' : List ℕ → Bool) → Between run seen → (left written : Option (List ℕ)) (line : List ℕ)
+    → Consumes run.left' left line → StopsAt line 10 → 0 < length line → ends_with_byte 10 line ≡ true
+    → Appends run.written' written (if seen (strip_last 10 line) then [] else line)
+    → ((other : List ℕ) → seen' other ≡ (bytes_eq other (strip_last 10 line) || seen other))
+    → Between (after run left written) seen'
+between_more run seen seen' before left written line read stops some ended appends sees =
+    let split = split_off before.text before.whole line stops some in
+    record {
+      text = before.text ++ line;
+      read = Consumes-trans _ _ _ _ _ before.read read;
+      whole = whole_more before.text before.whole line stops some ended;
+      is_seen = λ other. sees other ∙ ap (λ b. bytes_eq other (strip_last 10 line) || b) (before.is_seen other)
+          ∙ or_last (bytes_eq other (strip_last 10 line)) (list_any (λ l. bytes_eq other (strip_last 10 l)) (lines before.text))
+          ∙ sym (list_any-append (λ l. bytes_eq other (strip_last 10 l)) (lines before.text) (line ∷ []))
+          ∙ ap (list_any (λ l. bytes_eq other (strip_last 10 l))) (sym split);
+      written = subst (Appends run.written written) (sym (adds run seen before line stops some)) (Appends-trans _ _ _ _ _ before.written appends);
+    }
+  where
+    or_last : (a b : Bool) → (a || b) ≡ (b || (a || false))
+    or_last true true = refl
+    or_last true false = refl
+    or_last false true = refl
+    or_last false false = refl
+
+-- what follows what was read is all that was left
+rest_is : (a b : Option (List ℕ)) (text line : List ℕ) → Consumes a b text → IfSome b (λ bytes. bytes ≡ line) → IfSome a (λ bytes. bytes ≡ text ++ line)
+rest_is None b text line read all = tt
+rest_is (Some x) None text line read all = absurd read
+rest_is (Some x) (Some y) text line read all = read ∙ ap (λ l. text ++ l) all
+
+-- the last line has no newline
+pub all_at_line : (run : Run) (seen : List ℕ → Bool) → Between run seen → (left written : Option (List ℕ)) (line : List ℕ)
+    → Consumes run.left' left line → StopsAt line 10 → 0 < length line → IfSome run.left' (λ bytes. bytes ≡ line)
+    → Appends run.written' written (if seen (strip_last 10 line) then [] else line)
+    → WritesAll each_once (after run left written)
+all_at_line run seen before left written line read stops some all appends = record {
+  text = before.text ++ line;
+  read = Consumes-trans _ _ _ _ _ before.read read;
+  all = rest_is _ _ _ _ before.read all;
+  written = subst (Appends run.written written) (sym (adds run seen before line stops some)) (Appends-trans _ _ _ _ _ before.written appends);
+}
+
+-- there is no further line
+pub all_at_end : (run : Run) (seen : List ℕ → Bool) → Between run seen → (left : Option (List ℕ)) → Consumes run.left' left [] → IfSome run.left' (λ bytes. bytes ≡ [])
+    → WritesAll each_once (after run left run.written')
+all_at_end run seen before left read all = record {
+  text = before.text;
+  read = rw append-nil at (Consumes-trans _ _ _ _ _ before.read read);
+  all = rw append-nil at (rest_is _ _ _ _ before.read all);
+  written = before.written;
+}
+
+-- after the last write comes a flush
+pub ends_at_flush : (run : Run) → WritesAll each_once run → (written : Option (List ℕ)) → Keeps run.written' written → (result : Result (Unit {0}) Fault)
+    → Ends each_once (after run run.left' written) result
+ends_at_flush run all written keeps (Ok done) = record {
+  text = all.text;
+  read = all.read;
+  all = all.all;
+  written = Appends-kept _ _ _ _ all.written keeps;
+}
+ends_at_flush run all written keeps (Err fault) = record {
+  part = each_once all.text;
+  written = Appends-kept _ _ _ _ all.written keeps;
+  begins = begins_all run.left all.text all.all;
+}
+  where
+    begins_all : (a : Option (List ℕ)) (text : List ℕ) → IfSome a (λ bytes. bytes ≡ text) → IfSome a (λ bytes. (rest : List ℕ) × (each_once bytes ≡ each_once text ++ rest))
+    begins_all None text is = tt
+    begins_all (Some bytes) text is = ([], ap each_once is ∙ sym (append-nil _))
+
+-- a fault between two lines
+pub part_between : (run : Run) (seen : List ℕ → Bool) → Between run seen → (left : Option (List ℕ)) → WritesPart each_once (after run left run.written')
+part_between run seen before left = record {
+  part = each_once before.text;
+  written = before.written;
+  begins = begins run.left run.left' before.text before.read before.whole;
+}
+  where
+    begins : (a b : Option (List ℕ)) (text : List ℕ) → Consumes a b text → ((more : List ℕ) → lines (text ++ more) ≡ lines text ++ lines more)
+        → IfSome a (λ bytes. (rest : List ℕ) × (each_once bytes ≡ each_once text ++ rest))
+    begins None b text read whole = tt
+    begins (Some bytes) None text read whole = absurd read
+    begins (Some bytes) (Some more) text read whole =
+        let (rest, is) = each_once_begins text more (whole more) in
+        (rest, ap each_once read ∙ is)
+
+-- a fault at the write of a line
+pub part_at_line : (run : Run) (seen : List ℕ → Bool) → Between run seen → (left written : Option (List ℕ)) (line : List ℕ)
+    → Consumes run.left' left line → StopsAt line 10 → 0 < length line → (ended : Bool) → ended ≡ ends_with_byte 10 line
+    → (ended ≡ false → IfSome run.left' (λ bytes. bytes ≡ line))
+    → (part rest : List ℕ) → part ++ rest ≡ (if seen (strip_last 10 line) then [] else line) → Appends run.written' written part
+    → WritesPart each_once (after run left written)
+part_at_line run seen before left written line read stops some ended is all part rest of appends = record {
+  part = each_once before.text ++ part;
+  written = Appends-trans _ _ _ _ _ before.written appends;
+  begins = begins run.left run.left' left before.read read ended is all;
+}
+  where
+    text : List ℕ
+    text = before.text
+
+    line_adds : each_once (text ++ line) ≡ (each_once text ++ part) ++ rest
+    line_adds = adds run seen before line stops some ∙ ap (λ l. each_once text ++ l) (sym of) ∙ sym (append_assoc (each_once text) part rest)
+
+    begins : (a b c : Option (List ℕ)) → Consumes a b text → Consumes b c line → (ended : Bool) → ended ≡ ends_with_byte 10 line
+        → (ended ≡ false → IfSome b (λ bytes. bytes ≡ line))
+        → IfSome a (λ bytes. (rest : List ℕ) × (each_once bytes ≡ (each_once text ++ part) ++ rest))
+    begins None b c read next ended is all = tt
+    begins (Some x) None c read next ended is all = absurd read
+    begins (Some x) (Some y) None read next ended is all = absurd next
+    begins (Some x) (Some y) (Some z) read next true is all =
+        let (more, begun) = each_once_begins (text ++ line) z (whole_more before.text before.whole line stops some (sym is) z) in (
+          rest ++ more,
+          ap each_once (read ∙ ap (λ l. text ++ l) next ∙ sym (append_assoc text line z)) ∙ begun ∙ ap (λ l. l ++ more) line_adds
+              ∙ append_assoc (each_once text ++ part) rest more,
+        )
+    begins (Some x) (Some y) (Some z) read next false is all = (rest, ap each_once (read ∙ ap (λ l. text ++ l) (all refl)) ∙ line_adds)
+
+-- the lines that were read are whole and counted, and nothing is written
+pub record Counting (run : Run) (counts : List (List ℕ) → Type 0) : Type 0 where
+  pub text : List ℕ
+  pub read : Consumes run.left run.left' text
+  pub whole : (more : List ℕ) → lines (text ++ more) ≡ lines text ++ lines more
+  pub counted : counts (lines text)
+  pub same : run.written' ≡ run.written
+
+-- a whole line more
+pub counting_more : (run : Run) (counts counts' : List (List ℕ) → Type 0) → Counting run counts → (left : Option (List ℕ)) (line : List ℕ)
+    → Consumes run.left' left line → StopsAt line 10 → 0 < length line → ends_with_byte 10 line ≡ true → ((ls : List (List ℕ)) → counts ls → counts' (ls ++ line ∷ []))
+    → Counting (after run left run.written') counts'
+counting_more run counts counts' before left line read stops some ended more = record {
+  text = before.text ++ line;
+  read = Consumes-trans _ _ _ _ _ before.read read;
+  whole = whole_more before.text before.whole line stops some ended;
+  counted = subst counts' (sym (split_off before.text before.whole line stops some)) (more (lines before.text) before.counted);
+  same = before.same;
+}
+
+-- a fault before anything is written
+pub part_counting : (output : List ℕ → List ℕ) (run : Run) (counts : List (List ℕ) → Type 0) → Counting run counts → (left : Option (List ℕ)) → WritesPart output (after run left run.written')
+part_counting output run counts before left = record {
+  part = [];
+  written = subst (λ now. Appends run.written now []) (sym before.same) (Appends-nil run.written);
+  begins = all run.left;
+}
+  where
+    all : (a : Option (List ℕ)) → IfSome a (λ text. (rest : List ℕ) × (output text ≡ [] ++ rest))
+    all None = tt
+    all (Some text) = (output text, refl)
+
+-- what is told of the whole input
+pub ends_told : (output : List ℕ → List ℕ) (run : Run) (text : List ℕ) → Consumes run.left run.left' text → IfSome run.left (λ bytes. bytes ≡ text) → (result : Result (Unit {0}) Fault)
+    → OnOk result (Appends run.written run.written' (output text))
+    → OnErr result ((part rest : List ℕ) × (part ++ rest ≡ output text) × Appends run.written run.written' part) → Ends output run result
+ends_told output run text read all (Ok done) told stopped = record { text = text; read = read; all = all; written = told }
+ends_told output run text read all (Err fault) told stopped = record {
+  part = stopped.0;
+  written = stopped.3;
+  begins = begins run.left all;
+}
+  where
+    begins : (a : Option (List ℕ)) → IfSome a (λ bytes. bytes ≡ text) → IfSome a (λ bytes. (rest : List ℕ) × (output bytes ≡ stopped.0 ++ rest))
+    begins None all = tt
+    begins (Some bytes) all = (stopped.1, ap output all ∙ sym stopped.2)
+
+-- the same, where the last line has no newline
+pub ends_told_at_line : (output : List ℕ → List ℕ) (run : Run) (counts counts' : List (List ℕ) → Type 0) → (before : Counting run counts) → (left written : Option (List ℕ)) (line : List ℕ)
+    → Consumes run.left' left line → StopsAt line 10 → 0 < length line → IfSome run.left' (λ bytes. bytes ≡ line)
+    → ((ls : List (List ℕ)) → counts ls → counts' (ls ++ line ∷ [])) → (result : Result (Unit {0}) Fault)
+    → OnOk result ((text : List ℕ) → counts' (lines text) → Appends run.written' written (output text))
+    → OnErr result ((text : List ℕ) → counts' (lines text) → (part rest : List ℕ) × (part ++ rest ≡ output text) × Appends run.written' written part)
+    → Ends output (after run left written) result
+ends_told_at_line output run counts counts' before left written line read stops some all more result told stopped =
+    let text = before.text ++ line in
+    let counted = subst counts' (sym (split_off before.text before.whole line stops some)) (more (lines before.text) before.counted) in
+    ends_told output (after run left written) text (Consumes-trans _ _ _ _ _ before.read read) (rest_is _ _ _ _ before.read all) result
+    (on_ok_weaker result (λ f. subst (λ w. Appends w written (output text)) before.same (f text counted)) told)
+    (on_err_weaker result (λ f. subst (λ w. (part rest : List ℕ) × (part ++ rest ≡ output text) × Appends w written part) before.same (f text counted)) stopped)
+
+-- the same, where there is no further line
+pub ends_told_at_end : (output : List ℕ → List ℕ) (run : Run) (counts : List (List ℕ) → Type 0) → (before : Counting run counts) → (left written : Option (List ℕ))
+    → Consumes run.left' left [] → IfSome run.left' (λ bytes. bytes ≡ []) → (result : Result (Unit {0}) Fault)
+    → OnOk result ((text : List ℕ) → counts (lines text) → Appends run.written' written (output text))
+    → OnErr result ((text : List ℕ) → counts (lines text) → (part rest : List ℕ) × (part ++ rest ≡ output text) × Appends run.written' written part)
+    → Ends output (after run left written) result
+ends_told_at_end output run counts before left written read all result told stopped =
+    ends_told output (after run left written) before.text (rw append-nil at (Consumes-trans _ _ _ _ _ before.read read)) (rw append-nil at (rest_is _ _ _ _ before.read all)) result
+    (on_ok_weaker result (λ f. subst (λ w. Appends w written (output before.text)) before.same (f before.text before.counted)) told)
+    (on_err_weaker result (λ f. subst (λ w. (part rest : List ℕ) × (part ++ rest ≡ output before.text) × Appends w written part) before.same (f before.text before.counted)) stopped)
+
+-- an error that is handed on
+pub handed_on : (output : List ℕ → List ℕ) (run : Run) (result : Result (Unit {0}) Fault) → IsErr result → WritesPart output run → Ends output run result
+handed_on output run (Ok done) is part = absurd (false≢true is)
+handed_on output run (Err fault) is part = part

@@ -1,0 +1,237 @@
+-- Texts by their places, and how often each came.
+use Rattle.std.proofs.Common.{zero, suc, ◌≡◌, ℕ, ◌+◌, ◌-◌, ◌<◌, ◌≤◌, Bool, true, false, cond, not, ◌||◌, List, [], ◌∷◌, ◌++◌, length, get_or, set, map, All, ap, sym, subst, ◌∙◌, refl, arith, Option, None, Some, IfSome, Vec, Global, add-zero, zero-add}
+use Rattle.std.specs.HashMap.{HashMap, PutsEntry}
+use Rattle.std.specs.Io.BufRead.{strip_last}
+use Rattle.std.specs.List.{filter, list_any, count_by, sum_by, enumerate_from}
+use Rattle.std.specs.List.Sorted.{IsPermutation}
+use Rattle.std.specs.Map.{lookup, keys_of}
+use Rattle.std.specs.Option.{is_some, unwrap_or}
+use Rattle.std.specs.Str.{bytes_eq}
+use Rattle.std.proofs.lemmas.Bool.{false≢true, or_parts}
+use Rattle.std.proofs.lemmas.Cmp.{nat_list_eq_equiv}
+use Rattle.std.proofs.lemmas.List.{map-append, length-map, length-append, get_or-map, get_or_default}
+use Rattle.std.proofs.lemmas.List.Elements.{All-map, All-head, All-tail}
+use Rattle.std.proofs.lemmas.List.Folds.{list_any-append}
+use Rattle.std.proofs.lemmas.List.FromFn.{length-enumerate_from, get_or-enumerate_from}
+use Rattle.std.proofs.lemmas.List.Sorted.{list_any-IsPermutation, IsPermutation-map, IsPermutation-push_more, All-permutation}
+use Rattle.std.proofs.lemmas.List.Sums.{sum_by-append}
+use Rattle.std.proofs.lemmas.Map.Made.{is_some-lookup}
+use Rattle.std.proofs.lemmas.Map.Entries.{All-lookup}
+use Rattle.dedup.specs.Lines.{same_text, firsts}
+use Rattle.dedup.specs.Tallies.{texts, placed, Tallies}
+use Rattle.dedup.proofs.LineLemmas.{firsts_more}
+
+-- ---- which lines have a text
+
+same-symm : (x y : List ℕ) → same_text x y ≡ same_text y x
+same-symm x y = nat_list_eq_equiv.symm (strip_last 10 x) (strip_last 10 y)
+
+same-congr : (x y z : List ℕ) → same_text x y ≡ true → same_text x z ≡ same_text y z
+same-congr x y z = nat_list_eq_equiv.congr (strip_last 10 x) (strip_last 10 y) (strip_last 10 z)
+
+any-same : (x y : List ℕ) → same_text x y ≡ true → (ls : List (List ℕ)) → list_any (same_text x) ls ≡ list_any (same_text y) ls
+any-same x y same [] = refl
+any-same x y same (z ∷ ls) = ap (λ b. b || list_any (same_text x) ls) (same-congr x y z same) ∙ ap (λ b. same_text y z || b) (any-same x y same ls)
+
+-- a filter that leaves out the lines with another text keeps those with this one
+any_filter : (line x : List ℕ) → same_text x line ≡ false → (ls : List (List ℕ))
+    → list_any (same_text line) (filter (λ y. not (same_text x y)) ls) ≡ list_any (same_text line) ls
+any_filter line x other [] = refl
+any_filter line x other (y ∷ ls) = at (same_text x y) refl (any_filter line x other ls)
+  where
+    at : (b : Bool) → same_text x y ≡ b → list_any (same_text line) (filter (λ y. not (same_text x y)) ls) ≡ list_any (same_text line) ls
+        → list_any (same_text line) (cond (not b) (y ∷ filter (λ y. not (same_text x y)) ls) (filter (λ y. not (same_text x y)) ls)) ≡ (same_text line y || list_any (same_text line) ls)
+    at true is more = more ∙ ap (λ b. b || list_any (same_text line) ls) (sym (same-symm line y ∙ sym (same-congr x y line is) ∙ other))
+    at false is more = ap (λ b. same_text line y || b) more
+
+-- the first lines have the same texts as all
+any_firsts : (line : List ℕ) (ls : List (List ℕ)) → list_any (same_text line) (firsts ls) ≡ list_any (same_text line) ls
+any_firsts line [] = refl
+any_firsts line (x ∷ ls) = at (same_text line x) refl (any_firsts line ls)
+  where
+    at : (b : Bool) → same_text line x ≡ b → list_any (same_text line) (firsts ls) ≡ list_any (same_text line) ls
+        → (b || list_any (same_text line) (filter (λ y. not (same_text x y)) (firsts ls))) ≡ (b || list_any (same_text line) ls)
+    at true is more = refl
+    at false is more = any_filter line x (same-symm x line ∙ is) (firsts ls) ∙ more
+
+-- no two lines have the same text
+abbrev Apart : List (List ℕ) → Type 0
+Apart [] = Unit {0}
+Apart (x ∷ ls) = (list_any (same_text x) ls ≡ false) × Apart ls
+
+none_filtered : (p q : List ℕ → Bool) (ls : List (List ℕ)) → list_any q ls ≡ false → list_any q (filter p ls) ≡ false
+none_filtered p q [] none = refl
+none_filtered p q (x ∷ ls) none = at (p x) (none_filtered p q ls (or_parts _ _ none).1)
+  where
+    at : (b : Bool) → list_any q (filter p ls) ≡ false → list_any q (cond b (x ∷ filter p ls) (filter p ls)) ≡ false
+    at true more = ap (λ b. b || list_any q (filter p ls)) (or_parts _ _ none).0 ∙ more
+    at false more = more
+
+apart_filtered : (p : List ℕ → Bool) (ls : List (List ℕ)) → Apart ls → Apart (filter p ls)
+apart_filtered p [] apart = tt
+apart_filtered p (x ∷ ls) apart = at (p x) (apart_filtered p ls apart.1)
+  where
+    at : (b : Bool) → Apart (filter p ls) → Apart (cond b (x ∷ filter p ls) (filter p ls))
+    at true more = (none_filtered p (same_text x) ls apart.0, more)
+    at false more = more
+
+left_out : (x : List ℕ) (ls : List (List ℕ)) → list_any (same_text x) (filter (λ y. not (same_text x y)) ls) ≡ false
+left_out x [] = refl
+left_out x (y ∷ ls) = at (same_text x y) refl (left_out x ls)
+  where
+    at : (b : Bool) → same_text x y ≡ b → list_any (same_text x) (filter (λ y. not (same_text x y)) ls) ≡ false
+        → list_any (same_text x) (cond (not b) (y ∷ filter (λ y. not (same_text x y)) ls) (filter (λ y. not (same_text x y)) ls)) ≡ false
+    at true is more = more
+    at false is more = ap (λ b. b || list_any (same_text x) (filter (λ y. not (same_text x y)) ls)) is ∙ more
+
+firsts_apart : (ls : List (List ℕ)) → Apart (firsts ls)
+firsts_apart [] = tt
+firsts_apart (x ∷ ls) = (left_out x (firsts ls), apart_filtered (λ y. not (same_text x y)) (firsts ls) (firsts_apart ls))
+
+-- ---- how often a text comes
+
+count_more : (p : List ℕ → Bool) (ls : List (List ℕ)) (line : List ℕ) → count_by p (ls ++ line ∷ []) ≡ count_by p ls + cond (p line) 1 0
+count_more p ls line = sum_by-append (λ x. cond (p x) 1 0) ls (line ∷ []) ∙ ap (λ n. count_by p ls + n) (zero-add (cond (p line) 1 0))
+
+count_none : (p : List ℕ → Bool) (ls : List (List ℕ)) → list_any p ls ≡ false → count_by p ls ≡ 0
+count_none p [] none = refl
+count_none p (x ∷ ls) none =
+    sum_by-append (λ y. cond (p y) 1 0) (x ∷ []) ls
+    ∙ ap (λ n. n + count_by p ls) (zero-add (cond (p x) 1 0) ∙ ap (λ b. cond b 1 0) (or_parts _ _ none).0)
+    ∙ zero-add (count_by p ls) ∙ count_none p ls (or_parts _ _ none).1
+
+module _ (line : List ℕ) (count : List ℕ → ℕ) where
+  abbrev one_if : List ℕ → ℕ
+  one_if x = cond (same_text x line) 1 0
+
+  -- a line of another text than all of these changes none of their counts
+  counts_stay : (ls : List (List ℕ)) → list_any (same_text line) ls ≡ false → map (λ x. count x + one_if x) ls ≡ map count ls
+  counts_stay [] none = refl
+  counts_stay (x ∷ ls) none =
+      ap (λ n. n ∷ map (λ y. count y + one_if y) ls) (ap (λ b. count x + cond b 1 0) (same-symm x line ∙ (or_parts _ _ none).0) ∙ add-zero (count x))
+      ∙ ap (λ ns. count x ∷ ns) (counts_stay ls (or_parts _ _ none).1)
+
+  -- a line of the same text as one of these changes the count of that one
+  one_count_more : (ls : List (List ℕ)) → Apart ls → (i : ℕ) → i < length ls → same_text line (get_or ls i []) ≡ true
+      → map (λ x. count x + one_if x) ls ≡ set (map count ls) i (get_or (map count ls) i 0 + 1)
+  one_count_more [] apart i below same = absurd (omega arith)
+  one_count_more (x ∷ ls) apart zero below same =
+      ap (λ n. n ∷ map (λ y. count y + one_if y) ls) (ap (λ b. count x + cond b 1 0) (same-symm x line ∙ same))
+      ∙ ap (λ ns. (count x + 1) ∷ ns) (counts_stay ls (any-same line x same ls ∙ apart.0))
+  one_count_more (x ∷ ls) apart (suc i) below same =
+      let later : i < length ls = omega arith in
+      let other : same_text x line ≡ false = same-symm x line ∙ same-congr line (get_or ls i []) x same ∙ same-symm (get_or ls i []) x ∙ each_other ls i later apart.0 in
+      ap (λ n. n ∷ map (λ y. count y + one_if y) ls) (ap (λ b. count x + cond b 1 0) other ∙ add-zero (count x))
+      ∙ ap (λ ns. count x ∷ ns) (one_count_more ls apart.1 i later same)
+    where
+      each_other : (ls : List (List ℕ)) (i : ℕ) → i < length ls → list_any (same_text x) ls ≡ false → same_text x (get_or ls i []) ≡ false
+      each_other [] i below none = absurd (omega arith)
+      each_other (y ∷ ls) zero below none = (or_parts _ _ none).0
+      each_other (y ∷ ls) (suc i) below none = each_other ls i (omega arith) (or_parts _ _ none).1
+
+same_map : (f g : List ℕ → ℕ) → ((x : List ℕ) → f x ≡ g x) → (xs : List (List ℕ)) → map f xs ≡ map g xs
+same_map f g same [] = refl
+same_map f g same (x ∷ xs) = ap (λ n. n ∷ map f xs) (same x) ∙ ap (λ ns. g x ∷ ns) (same_map f g same xs)
+
+-- how often each first line's text comes, behind a line more
+counts_new : (ls : List (List ℕ)) (line : List ℕ) → list_any (same_text line) ls ≡ false
+    → map (λ x. count_by (same_text x) (ls ++ line ∷ [])) (firsts (ls ++ line ∷ [])) ≡ map (λ x. count_by (same_text x) ls) (firsts ls) ++ 1 ∷ []
+counts_new ls line new =
+    let after : List ℕ → ℕ = λ x. count_by (same_text x) (ls ++ line ∷ []) in
+    let before : List ℕ → ℕ = λ x. count_by (same_text x) ls in
+    ap (map after) (firsts_more ls line ∙ ap (λ b. cond b (firsts ls) (firsts ls ++ line ∷ [])) new)
+    ∙ map-append after (firsts ls) (line ∷ [])
+    ∙ ap (λ ns. ns ++ after line ∷ []) (same_map after (λ x. before x + one_if line before x) (λ x. count_more (same_text x) ls line) (firsts ls) ∙ counts_stay line before (firsts ls) (any_firsts line ls ∙ new))
+    ∙ ap (λ n. map before (firsts ls) ++ n ∷ []) (count_more (same_text line) ls line ∙ ap (λ n. n + cond (same_text line line) 1 0) (count_none (same_text line) ls new) ∙ ap (λ b. 0 + cond b 1 0) (nat_list_eq_equiv.refl (strip_last 10 line)))
+
+counts_again : (ls : List (List ℕ)) (line : List ℕ) (i : ℕ) → list_any (same_text line) ls ≡ true → i < length (firsts ls) → same_text line (get_or (firsts ls) i []) ≡ true
+    → map (λ x. count_by (same_text x) (ls ++ line ∷ [])) (firsts (ls ++ line ∷ []))
+    ≡ set (map (λ x. count_by (same_text x) ls) (firsts ls)) i (get_or (map (λ x. count_by (same_text x) ls) (firsts ls)) i 0 + 1)
+counts_again ls line i seen below same =
+    let after : List ℕ → ℕ = λ x. count_by (same_text x) (ls ++ line ∷ []) in
+    let before : List ℕ → ℕ = λ x. count_by (same_text x) ls in
+    ap (map after) (firsts_more ls line ∙ ap (λ b. cond b (firsts ls) (firsts ls ++ line ∷ [])) seen)
+    ∙ same_map after (λ x. before x + one_if line before x) (λ x. count_more (same_text x) ls line) (firsts ls)
+    ∙ one_count_more line before (firsts ls) (firsts_apart ls) i below same
+
+-- ---- the places of texts
+
+enumerate_more : (n : ℕ) (xs : List (List ℕ)) (x : List ℕ) → enumerate_from n (xs ++ x ∷ []) ≡ enumerate_from n xs ++ (n + length xs, x) ∷ []
+enumerate_more n [] x = ap (λ k. (k, x) ∷ []) (sym (add-zero n))
+enumerate_more n (y ∷ xs) x = ap (λ es. (n, y) ∷ es) (enumerate_more (n + 1) xs x ∙ ap (λ k. enumerate_from (n + 1) xs ++ (k, x) ∷ []) (omega arith))
+
+any_enumerated : (text : List ℕ) (n : ℕ) (xs : List (List ℕ)) → list_any (λ e. bytes_eq text e.1) (enumerate_from n xs) ≡ list_any (bytes_eq text) xs
+any_enumerated text n [] = refl
+any_enumerated text n (x ∷ xs) = ap (λ b. bytes_eq text x || b) (any_enumerated text (n + 1) xs)
+
+any_texts : (line : List ℕ) (ls : List (List ℕ)) → list_any (bytes_eq (strip_last 10 line)) (map (strip_last 10) ls) ≡ list_any (same_text line) ls
+any_texts line [] = refl
+any_texts line (x ∷ ls) = ap (λ b. same_text line x || b) (any_texts line ls)
+
+any_placed : (text : List ℕ) (entries : List (Vec ℕ Global × ℕ)) → list_any (λ e. bytes_eq text e.1) (placed entries) ≡ list_any (λ key. bytes_eq text key.items) (keys_of entries)
+any_placed text [] = refl
+any_placed text (e ∷ entries) = ap (λ b. bytes_eq text e.0.items || b) (any_placed text entries)
+
+pub all_enumerated : (xs : List (List ℕ)) → All (λ e. (e.0 < length xs) × (get_or xs e.0 [] ≡ e.1)) (enumerate_from 0 xs)
+all_enumerated xs i d below =
+    let within : i < length xs = omega (arith, below, length-enumerate_from 0 xs) in
+    let is = get_or-enumerate_from 0 xs i d within in
+    subst (λ e. (e.0 < length xs) × (get_or xs e.0 [] ≡ e.1)) (sym is) (omega arith, ap (λ k. get_or xs k []) (zero-add i) ∙ get_or_default xs i [] d.1 within)
+
+-- what holds of each place and text holds of what a look-up finds
+found_at : (P : ℕ → List ℕ → Type 0) (text : List ℕ) (entries : List (Vec ℕ Global × ℕ)) (place : ℕ) → All (λ e. P e.0 e.1) (placed entries)
+    → lookup (λ key. bytes_eq text key.items) entries ≡ Some place → (found : List ℕ) × (bytes_eq text found ≡ true) × P place found
+found_at P text [] place all found = absurd (false≢true (ap is_some found))
+found_at P text (e ∷ entries) place all found = at (bytes_eq text e.0.items) refl found (found_at P text entries place (All-tail (λ e. P e.0 e.1) _ _ all))
+  where
+    at : (b : Bool) → bytes_eq text e.0.items ≡ b → cond b (Some e.1) (lookup (λ key. bytes_eq text key.items) entries) ≡ Some place
+        → (lookup (λ key. bytes_eq text key.items) entries ≡ Some place → (found : List ℕ) × (bytes_eq text found ≡ true) × P place found)
+        → (found : List ℕ) × (bytes_eq text found ≡ true) × P place found
+    at true is found more = (e.0.items, is, subst (λ k. P k e.0.items) (ap (λ o. unwrap_or o 0) found) (All-head (λ e. P e.0 e.1) _ _ all))
+    at false is found more = more found
+
+module _ (ls : List (List ℕ)) (entries : List (Vec ℕ Global × ℕ)) (times : List ℕ) (now : Tallies ls entries times) where
+  -- a line's text was seen where the map has it
+  seen_where_found : (line : List ℕ) → list_any (same_text line) ls ≡ is_some (lookup (λ key. bytes_eq (strip_last 10 line) key.items) entries)
+  seen_where_found line =
+      sym (any_firsts line ls) ∙ sym (any_texts line (firsts ls)) ∙ sym (any_enumerated (strip_last 10 line) 0 (texts ls))
+      ∙ list_any-IsPermutation (λ e. bytes_eq (strip_last 10 line) e.1) (enumerate_from 0 (texts ls)) (placed entries) now.places
+      ∙ any_placed (strip_last 10 line) entries ∙ sym (is_some-lookup (λ key. bytes_eq (strip_last 10 line) key.items) entries)
+
+  pub as_many : length times ≡ length (texts ls)
+  as_many = ap length now.counts ∙ length-map (firsts ls) (λ line. count_by (same_text line) ls) ∙ sym (length-map (firsts ls) (strip_last 10))
+
+  -- what stands at a text's place
+  pub at_its_place : All (λ e. (e.0 < length (texts ls)) × (get_or (texts ls) e.0 [] ≡ e.1)) (placed entries)
+  at_its_place = All-permutation (λ e. (e.0 < length (texts ls)) × (get_or (texts ls) e.0 [] ≡ e.1)) (enumerate_from 0 (texts ls)) (placed entries) now.places (all_enumerated (texts ls))
+
+  pub tallies_new : (line : List ℕ) (key : Vec ℕ Global) (n : ℕ) (more : List (Vec ℕ Global × ℕ)) → lookup (λ k. bytes_eq (strip_last 10 line) k.items) entries ≡ None
+      → key.items ≡ strip_last 10 line → n ≡ length times → IsPermutation ((key, n) ∷ entries) more → Tallies (ls ++ line ∷ []) more (times ++ 1 ∷ [])
+  tallies_new line key n more absent is place puts =
+      let new : list_any (same_text line) ls ≡ false = seen_where_found line ∙ ap is_some absent in
+      let firsts_now : firsts (ls ++ line ∷ []) ≡ firsts ls ++ line ∷ [] = firsts_more ls line ∙ ap (λ b. cond b (firsts ls) (firsts ls ++ line ∷ [])) new in
+      let texts_now : texts (ls ++ line ∷ []) ≡ texts ls ++ strip_last 10 line ∷ [] = ap (map (strip_last 10)) firsts_now ∙ map-append (strip_last 10) (firsts ls) (line ∷ []) in
+      let pair : (n, key.items) ≡ (0 + length (texts ls), strip_last 10 line) = ap (λ k. (k, key.items)) (place ∙ as_many ∙ sym (zero-add (length (texts ls)))) ∙ ap (λ t. (0 + length (texts ls), t)) is in
+      record {
+        places = subst (λ es. IsPermutation es (placed more)) (ap (λ p. enumerate_from 0 (texts ls) ++ p ∷ []) pair ∙ sym (ap (enumerate_from 0) texts_now ∙ enumerate_more 0 (texts ls) (strip_last 10 line)))
+            (IsPermutation-push_more _ _ _ (n, key.items) now.places (IsPermutation-map (λ e. (e.1, e.0.items)) _ _ puts));
+        counts = ap (λ ns. ns ++ 1 ∷ []) now.counts ∙ sym (counts_new ls line new);
+      }
+
+  pub tallies_again : (line : List ℕ) (place : ℕ) → lookup (λ k. bytes_eq (strip_last 10 line) k.items) entries ≡ Some place
+      → Tallies (ls ++ line ∷ []) entries (set times place (get_or times place 0 + 1))
+  tallies_again line place found =
+      let seen : list_any (same_text line) ls ≡ true = seen_where_found line ∙ ap is_some found in
+      let firsts_now : firsts (ls ++ line ∷ []) ≡ firsts ls = firsts_more ls line ∙ ap (λ b. cond b (firsts ls) (firsts ls ++ line ∷ [])) seen in
+      let (text, same, there_is) = found_at (λ k t. (k < length (texts ls)) × (get_or (texts ls) k [] ≡ t)) (strip_last 10 line) entries place at_its_place found in
+      let within : place < length (firsts ls) = omega (arith, there_is.0, length-map (firsts ls) (strip_last 10)) in
+      let there : same_text line (get_or (firsts ls) place []) ≡ true =
+      ap (bytes_eq (strip_last 10 line)) (sym (get_or-map (strip_last 10) (firsts ls) place [] [] within) ∙ there_is.1) ∙ same in
+      record {
+        places = subst (λ xs. IsPermutation (enumerate_from 0 (map (strip_last 10) xs)) (placed entries)) (sym firsts_now) now.places;
+        counts = ap (λ ns. set ns place (get_or ns place 0 + 1)) now.counts ∙ sym (counts_again ls line place seen within there);
+      }
+
+-- a text that the map has has a place below the count of places
+pub found_below : (test : Vec ℕ Global → Bool) (entries : List (Vec ℕ Global × ℕ)) (place count : ℕ) → All (λ e. e.1 < count) entries → lookup test entries ≡ Some place → place < count
+found_below test entries place count all found = subst (λ o. IfSome o (λ k. k < count)) found (All-lookup (λ k. k < count) test entries all)

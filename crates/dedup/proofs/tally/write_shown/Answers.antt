@@ -1,0 +1,21 @@
+use Rattle.std.proofs.Common.{rules, arith, ◌≡◌, ◌<◌, ap, sym, subst, ◌∙◌, length}
+use Rattle.std.proofs.KnownBytes.{Keeps-refl}
+use Rattle.dedup.proofs.OrderLemmas.{telling_more, telling_stops, telling_stops_within}
+use Rattle.dedup.proofs.SeenLemmas.{on_err}
+use Rattle.dedup.proofs.tally.write_shown.Goals as goal
+
+pub returns-in_err-show-clause-err : goal.returns-in_err-show-clause-err
+returns-in_err-show-clause-err g c = on_err _ c.from_residual.result (telling_stops _ _ _ _ _ _ c.loop-i.invariant _ (Keeps-refl _))
+
+pub returns-in_err-put-clause-err : goal.returns-in_err-put-clause-err
+returns-in_err-put-clause-err g c =
+    let (part, rest, is, written) = c.in_err-put.ensures.err in
+    on_err _ c.from_residual-in_err-put.result
+    (telling_stops_within _ _ _ _ _ _ c.loop-i.invariant _ _ (search (rules, arith)) (c.deref.ensures.value ∙ c.in_ok-show.ensures) part rest is written)
+
+pub returns-clause-err : goal.returns-clause-err
+returns-clause-err g c = on_err _ c.finish.result (telling_stops _ _ _ _ _ _ c.loop-i.invariant _ c.finish.ensures)
+
+pub loop-i-preserved : goal.loop-i-preserved
+loop-i-preserved g c =
+    telling_more _ _ _ _ _ _ c.loop-i.invariant _ _ (search (rules, arith)) (c.deref.ensures.value ∙ c.in_ok-show.ensures) c.in_ok-put.ensures.ok

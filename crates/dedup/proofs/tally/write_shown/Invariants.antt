@@ -1,0 +1,6 @@
+use Rattle.std.proofs.Common.{◌≡◌, ◌≤◌, length}
+use Rattle.dedup.proofs.OrderLemmas.{Telling}
+use Rattle.dedup.proofs.tally.write_shown.Given as goal
+
+abbrev pub invariant-loop-i : goal.invariant-loop-i
+invariant-loop-i g l = Telling l.which l.order l.times (g.W.Write.contents l.initial.w) (g.W.Write.contents l.w) l.i

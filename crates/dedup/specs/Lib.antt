@@ -1,0 +1,5 @@
+pub mod Lines
+pub mod Program
+pub mod Running
+pub mod Status
+pub mod Tallies

@@ -1,0 +1,34 @@
+-- The lines of a text, and what the program makes of them.
+use Rattle.std.specs.Prelude.{ℕ, ◌==◌, ◌++◌, if◌then◌else◌, Bool, not, nat_lt, List, [], ◌∷◌}
+use Rattle.std.specs.HashSet.{HashSet, contains_by}
+use Rattle.std.specs.Io.BufRead.{strip_last}
+use Rattle.std.specs.List.{filter, concat, count_by, onto_first}
+use Rattle.std.specs.Str.{bytes_eq}
+use Rattle.std.specs.declared.alloc.Global.{Global}
+use Rattle.std.specs.declared.vec.Vec.{Vec}
+
+-- the lines, each through its newline; the last may have none
+abbrev pub lines : List ℕ → List (List ℕ)
+lines [] = []
+lines (byte ∷ text) = if byte == 10 then (byte ∷ []) ∷ lines text else onto_first byte (lines text)
+
+-- whether two lines have the same text, their newlines aside
+abbrev pub same_text : List ℕ → List ℕ → Bool
+same_text line other = bytes_eq (strip_last 10 line) (strip_last 10 other)
+
+-- the lines whose text stands in no line before them
+abbrev pub firsts : List (List ℕ) → List (List ℕ)
+firsts [] = []
+firsts (line ∷ more) = line ∷ filter (λ other. not (same_text line other)) (firsts more)
+
+-- each line of a text once, where it came first
+abbrev pub each_once : List ℕ → List ℕ
+each_once text = concat (firsts (lines text))
+
+-- whether a set has a text
+abbrev pub has : {S : Type 0} → HashSet (Vec ℕ Global) S → List ℕ → Bool
+has seen text = contains_by (λ key. bytes_eq text key.items) seen
+
+-- what is written of a line behind lines of which a set has the texts
+abbrev pub if_new : {S : Type 0} → HashSet (Vec ℕ Global) S → List ℕ → List ℕ
+if_new seen line = if has seen (strip_last 10 line) then [] else line

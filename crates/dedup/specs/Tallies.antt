@@ -1,0 +1,40 @@
+-- What the program writes of lines that it has counted.
+use Rattle.std.specs.Prelude.{ℕ, ◌≡◌, ◌-◌, ◌++◌, if◌then◌else◌, nat_lt, List, [], ◌∷◌, length, map, decimal}
+use Rattle.std.specs.Io.BufRead.{strip_last}
+use Rattle.std.specs.List.{count_by, enumerate_from, flat_map, repeat}
+use Rattle.std.specs.List.Sorted.{IsPermutation}
+use Rattle.std.specs.declared.alloc.Global.{Global}
+use Rattle.std.specs.declared.vec.Vec.{Vec}
+use Rattle.dedup.specs.Lines.{lines, same_text, firsts}
+use Rattle.dedup.specs.declared.tally.Which.{Which}
+use Rattle.dedup.specs.declared.tally.Which.TheVariants.{Counted, Repeated}
+
+-- a number on the right of a column of seven, and a space
+abbrev pub column : ℕ → List ℕ
+column n = repeat (7 - length (decimal n)) (32 ∷ []) ++ (decimal n ++ 32 ∷ [])
+
+-- what is written of a text that came so often
+abbrev pub shown : Which → ℕ → List ℕ → List ℕ
+shown Counted times text = column times ++ (text ++ 10 ∷ [])
+shown Repeated times text = if nat_lt 1 times then text ++ 10 ∷ [] else []
+
+-- what is written of one of these lines
+abbrev pub shown_line : Which → (ls : List (List ℕ)) → List ℕ → List ℕ
+shown_line which ls line = shown which (count_by (same_text line) ls) (strip_last 10 line)
+
+-- each line of a text with how often it came, or those that came more than once, in the order in which they came first
+abbrev pub tallied : Which → List ℕ → List ℕ
+tallied which text = flat_map (shown_line which (lines text)) (firsts (lines text))
+
+-- the texts of lines, each once
+abbrev pub texts : List (List ℕ) → List (List ℕ)
+texts ls = map (strip_last 10) (firsts ls)
+
+-- the text and the place of each entry
+abbrev pub placed : List (Vec ℕ Global × ℕ) → List (ℕ × List ℕ)
+placed entries = map (λ entry. (entry.1, entry.0.items)) entries
+
+-- a map has the place of each text among the first lines, and a list how often the text at each place came
+pub record Tallies (ls : List (List ℕ)) (entries : List (Vec ℕ Global × ℕ)) (times : List ℕ) : Type 0 where
+  pub places : IsPermutation (enumerate_from 0 (texts ls)) (placed entries)
+  pub counts : times ≡ map (λ line. count_by (same_text line) ls) (firsts ls)

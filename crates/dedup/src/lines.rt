@@ -1,0 +1,114 @@
+//! Reads and writes lines, and tells which are new.
+ghost use Rattle.std.specs.Prelude.{◌≡◌, ◌||◌, ℕ, ◌++◌, List, IsTrue, IfSome, IfOk, OnOk, OnErr, not, false};
+ghost use Rattle.std.specs.Io.{StopsAt};
+ghost use Rattle.std.specs.Io.BufRead.{ends_with_byte, strip_last};
+ghost use Rattle.std.specs.Io.KnownBytes.{Consumes, Appends, Keeps};
+ghost use Rattle.std.specs.Str.{bytes_eq};
+ghost use Rattle.dedup.specs.Lines.{has, if_new};
+
+use crate::run::Fault;
+use hashers::build::BuildFresh;
+use hashers::laws::Piecewise;
+use std::alloc::{AllocError, Global};
+use std::collections::HashSet;
+use std::io::{BufRead, ErrorKind, Write};
+
+/// Reads the next line into `line`, through its newline, and answers whether it has one. Where it has none, it is all that was
+/// left; where there is no further line, `line` is empty.
+pub fn read_line<R: BufRead>(r: &mut R, line: &mut Vec<u8>) -> Result<bool, Fault>
+    ensures read { OnOk result (Consumes (R.remaining r.old) (R.remaining r.new) line.new.items) }
+    ensures stops { OnOk result (StopsAt line.new.items 10) }
+    ensures ended { IfOk result (λ ended. ended ≡ ends_with_byte 10 line.new.items) }
+    ensures all { IfOk result (λ ended. ended ≡ false
+        → IfSome (R.remaining r.old) (λ bytes. bytes ≡ line.new.items)) }
+{
+    line.clear();
+    match r.read_until(b'\n', line) {
+        Ok(_) => Ok(is_ended(line)),
+        Err(error) => match error.kind() {
+            ErrorKind::OutOfMemory => Err(Fault::NoMemory),
+            _ => Err(Fault::Read(error)),
+        },
+    }
+}
+
+/// Whether a line has its newline.
+fn is_ended(line: &[u8]) -> bool
+    ensures { result ≡ ends_with_byte 10 line.now }
+{
+    matches!(line, [.., b'\n'])
+}
+
+/// A line without its newline.
+pub fn text_of(line: &[u8]) -> &[u8]
+    ensures { result.now ≡ strip_last 10 line.now }
+{
+    match line {
+        [text @ .., b'\n'] => text,
+        _ => line,
+    }
+}
+
+/// Takes a text into the set of those seen, and answers whether it is new.
+pub fn see<H: Piecewise>(
+    alloc: Global,
+    seen: &mut HashSet<Vec<u8>, BuildFresh<H>>,
+    text: &[u8],
+) -> Result<bool, AllocError>
+    ensures new { IfOk result (λ new. new ≡ not (has seen.old text.now)) }
+    ensures seen { OnOk result ((other : List ℕ) → has seen.new other ≡ (bytes_eq other text.now || has seen.old other)) }
+{
+    if seen.contains(text) {
+        return Ok(false);
+    }
+    let key = text.to_vec(alloc)?;
+    seen.insert(key)?;
+    Ok(true)
+}
+
+/// Writes the bytes. After a fault a beginning of them was written.
+pub fn put<W: Write>(w: &mut W, bytes: &[u8]) -> Result<(), Fault>
+    ensures ok { OnOk result (Appends (W.contents w.old) (W.contents w.new) bytes.now) }
+    ensures err { OnErr result ((part rest : List ℕ) × (part ++ rest ≡ bytes.now)
+        × Appends (W.contents w.old) (W.contents w.new) part) }
+{
+    let mut rest = bytes;
+    while !rest.is_empty() {
+        match w.write(rest) {
+            Ok(0) => return Err(Fault::Write(None)),
+            Ok(n) => rest = &rest[n..],
+            Err(error) => return Err(Fault::Write(Some(error))),
+        }
+    }
+    Ok(())
+}
+
+/// Writes the line if its text is new, and takes the text into the set. After a fault a beginning of the line was written, if
+/// it is new.
+pub fn write_new<H: Piecewise, W: Write>(
+    alloc: Global,
+    seen: &mut HashSet<Vec<u8>, BuildFresh<H>>,
+    line: &[u8],
+    w: &mut W,
+) -> Result<(), Fault>
+    ensures written { OnOk result (Appends (W.contents w.old) (W.contents w.new) (if_new seen.old line.now)) }
+    ensures seen { OnOk result ((other : List ℕ) → has seen.new other
+        ≡ (bytes_eq other (strip_last 10 line.now) || has seen.old other)) }
+    ensures begun { OnErr result ((part rest : List ℕ) × (part ++ rest ≡ if_new seen.old line.now)
+        × Appends (W.contents w.old) (W.contents w.new) part) }
+{
+    if see(alloc, seen, text_of(line))? {
+        put(w, line)?;
+    }
+    Ok(())
+}
+
+/// Flushes the writer.
+pub fn finish<W: Write>(w: &mut W) -> Result<(), Fault>
+    ensures { Keeps (W.contents w.old) (W.contents w.new) }
+{
+    match w.flush() {
+        Ok(()) => Ok(()),
+        Err(error) => Err(Fault::Write(Some(error))),
+    }
+}

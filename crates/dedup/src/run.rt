@@ -1,0 +1,53 @@
+//! A run of the program over any reader, writer and hasher.
+ghost use Rattle.dedup.specs.Lines.{each_once};
+ghost use Rattle.dedup.specs.Running.{Ends, run_of};
+
+use crate::lines::{finish, read_line, write_new};
+use hashers::build::BuildFresh;
+use hashers::laws::Piecewise;
+use std::alloc::{AllocError, Global};
+use std::collections::HashSet;
+use std::io::{BufRead, Error, Write};
+
+/// Why a run ended before its output was whole. What was written by then is a beginning of it.
+#[derive(Drop)]
+pub enum Fault {
+    /// A read failed.
+    Read(Error),
+    /// A write or the flush failed with this error, or a write took nothing.
+    Write(Option<Error>),
+    /// There was no memory.
+    NoMemory,
+    /// There were more lines than the limit.
+    TooManyLines,
+}
+
+impl From<AllocError> for Fault {
+    fn from(_error: AllocError) -> Fault {
+        Fault::NoMemory
+    }
+}
+
+/// Writes each line of the input once, where it came first, and flushes.
+pub fn dedup<H: Piecewise, R: BufRead, W: Write>(
+    alloc: Global,
+    limit: u64,
+    r: &mut R,
+    w: &mut W,
+) -> Result<(), Fault>
+    ensures { Ends each_once (run_of R.remaining r.old r.new W.contents w.old w.new) result }
+{
+    let mut seen = HashSet::with_hasher(alloc, BuildFresh::<H>::new());
+    let mut line = Vec::new(alloc);
+    for _ in 0..limit {
+        let ended = read_line(r, &mut line)?;
+        if line.is_empty() {
+            return finish(w);
+        }
+        write_new(alloc, &mut seen, &line, w)?;
+        if !ended {
+            return finish(w);
+        }
+    }
+    Err(Fault::TooManyLines)
+}
