@@ -24,6 +24,9 @@ use hashers::laws::{Piecewise, hash_of};
 use std::alloc::{AllocError, AllocFailed, Global};
 use std::marker::{Model, PhantomData};
 
+#[cfg(test)]
+mod tests;
+
 /// A node: its name, and its weight, which is how many points it has on the ring.
 #[derive(Drop)]
 pub struct Node {
