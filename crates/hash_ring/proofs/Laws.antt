@@ -1,11 +1,11 @@
 -- What moves where a node comes or goes.
-use Rattle.std.proofs.Common.{ℕ, ◌≡◌, ◌≢◌, List, Some, None, cond, Option, true, false, sym, ap, ◌∙◌, subst, refl}
-use Rattle.std.specs.Ordering.{is_eq, nat_cmp}
+use Rattle.std.proofs.Common.{ℕ, ◌≡◌, ◌≢◌, List, Some, None, cond, true, false, sym, ap, ◌∙◌, subst, refl}
+use Rattle.std.specs.Ordering.{is_eq}
 use Rattle.std.specs.Cmp.Lexicographic.{nat_list_cmp_total}
 use Rattle.std.specs.FinMap as fin
 use Rattle.std.specs.FinMap.{slice_cmp-IsAntisymmetric, nat_cmp-IsAntisymmetric}
 use Rattle.hash_ring.specs.Ring.{ComeInAnyOrder, IsOwner, MovesOnlyFrom, MovesOnlyTo, Nodes}
-use Rattle.hash_ring.proofs.Names.{R, itself, same_name}
+use Rattle.hash_ring.proofs.Names.{R, same_name}
 use Rattle.hash_ring.proofs.Owners.{get_without, one_owner, stays}
 
 pub undone : (nodes : Nodes) (name : List ℕ) (w : ℕ) → fin.get nodes name ≡ None → fin.remove (fin.insert nodes name w) name ≡ nodes

@@ -1,25 +1,25 @@
 -- Who owns a key, and how a ring's points tell it.
-use Rattle.std.proofs.Common.{ℕ, zero, suc, min, is_some, take, ◌≡◌, ◌≢◌, ◌+◌, ◌-◌, ◌<◌, ◌≤◌, T, Bool, true, false, not, cond, ltb, List, [], ◌∷◌, ◌++◌, map, length, get_or, Option, Some, None, arith, sym, ap, ◌∙◌, subst, refl, ⊎_elim}
+use Rattle.std.proofs.Common.{ℕ, zero, suc, min, is_some, take, ◌≡◌, ◌≢◌, ◌+◌, ◌-◌, ◌<◌, ◌≤◌, Bool, true, false, not, cond, List, [], ◌∷◌, ◌++◌, length, get_or, Option, Some, None, arith, sym, ap, ◌∙◌, subst, refl, ⊎_elim}
 use Rattle.std.specs.Prelude.{◌↔◌, IsTrue, ◌||◌, nat_eq}
 use Rattle.std.specs.Borrow.{Bor}
 use Rattle.std.specs.List.{All, AllPairs, Contains, list_any}
 use Rattle.hashers.specs.Text.{texts}
-use Rattle.std.specs.Ordering.{nat_cmp, is_gt, is_eq, eq_by_cmp, ordering_reverse}
+use Rattle.std.specs.Ordering.{is_gt, is_eq, ordering_reverse}
 use Rattle.std.specs.declared.cmp.Ordering.{Ordering}
 use Rattle.std.specs.declared.cmp.Ordering.TheVariants.{Less, Equal, Greater}
-use Rattle.std.specs.Cmp.Lexicographic.{slice_cmp, nat_list_cmp_total, pointwise, bytes_decides}
+use Rattle.std.specs.Cmp.Lexicographic.{nat_list_cmp_total, pointwise, bytes_decides}
 use Rattle.std.specs.FinMap as fin
-use Rattle.std.specs.FinMap.{slice_cmp-IsAntisymmetric, nat_cmp-IsAntisymmetric, find}
-use Rattle.std.proofs.lemmas.Bool.{cases_lt, cases_order, lt-ltb, le-ltb}
+use Rattle.std.specs.FinMap.{slice_cmp-IsAntisymmetric, nat_cmp-IsAntisymmetric}
+use Rattle.std.proofs.lemmas.Bool.{cases_lt, lt-ltb, le-ltb}
 use Rattle.std.proofs.lemmas.List.Elements.{All-cons, All-nil, Contains-append_left, Contains-push}
 use Rattle.std.proofs.lemmas.List.{get_or_default, length-map}
 use Rattle.std.proofs.lemmas.List.Kept.{AllPairs-cons}
 use Rattle.hash_ring.specs.declared.Node.{Node}
 use Rattle.hash_ring.specs.declared.Point.{Point}
-use Rattle.hash_ring.specs.Ring.{AreOwners, without, HasPoint, IsFirst, IsOwner, IsPointOf, Nodes, point, turn}
-use Rattle.hash_ring.specs.Points.{ArePoints, IsBefore, IsRing, IsStart, index_round, node_at, nodes_of, pair_of, pairs}
+use Rattle.hash_ring.specs.Ring.{AreOwners, without, HasPoint, IsOwner, IsPointOf, Nodes, point, turn}
+use Rattle.hash_ring.specs.Points.{IsBefore, IsRing, IsStart, index_round, node_at, nodes_of, pair_of, pairs}
 use Rattle.hash_ring.proofs.Points.{is_there}
-use Rattle.hash_ring.proofs.Names.{Pairs, R, found_at, found_where, get_is, itself, no_greater, one_index, read, same_name}
+use Rattle.hash_ring.proofs.Names.{Pairs, R, found_at, found_where, get_is, itself, no_greater, read, same_name}
 
 -- ---- one owner alone
 not_both : (r s : Ordering) → s ≡ ordering_reverse r → is_gt r ≡ false → is_gt s ≡ false → r ≡ Equal

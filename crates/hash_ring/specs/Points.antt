@@ -1,5 +1,5 @@
 -- How nodes and their points lie in memory.
-use Rattle.std.specs.Prelude.{ℕ, ◌+◌, ◌≡◌, ◌≤◌, ◌<◌, List, [], ◌∷◌, ◌++◌, map, length, slice_index_or, T, nat_lt, not, ◌==◌, ◌-◌, if◌then◌else◌}
+use Rattle.std.specs.Prelude.{ℕ, ◌+◌, ◌≡◌, ◌≤◌, ◌<◌, List, [], ◌++◌, map, length, slice_index_or, T, nat_lt, not, ◌==◌, ◌-◌, if◌then◌else◌}
 use Rattle.std.specs.List.{All, AllPairs, Contains, filter, range_with_len}
 use Rattle.std.specs.Ordering.{nat_cmp}
 use Rattle.std.specs.declared.cmp.Ordering.TheVariants.{Less, Greater}
@@ -51,7 +51,8 @@ IsTrue hash nodes p = IsPointOf hash (node_at nodes p.node) p.place
 -- just the points of the nodes
 pub record ArePoints (hash : List ℕ → ℕ) (nodes : List (List ℕ × ℕ)) (points : List Point) : Type 0 where
   pub real : All (IsTrue hash nodes) points
-  pub all : (i place : ℕ) → IsPointOf hash (node_at nodes i) place → Contains points (record { place = place; node = i })
+  pub all : (i place : ℕ) → IsPointOf hash (node_at nodes i) place
+      → Contains points (record { place = place; node = i })
 
 -- each name is below those after it, each node has a point, and the points stand in order
 pub record IsRing (hash : List ℕ → ℕ) (nodes : List (List ℕ × ℕ)) (points : List Point) : Type 0 where
@@ -69,7 +70,8 @@ pub record IsNamedAt (nodes : List (List ℕ × ℕ)) (name : List ℕ) (i : ℕ
 pub record IsGapAt (nodes : List (List ℕ × ℕ)) (name : List ℕ) (i : ℕ) : Type 0 where
   pub within : i ≤ length nodes
   pub less : (k : ℕ) → k < i → slice_cmp nat_cmp (node_at nodes k).0 name ≡ Less
-  pub greater : (k : ℕ) → i ≤ k → k < length nodes → slice_cmp nat_cmp (node_at nodes k).0 name ≡ Greater
+  pub greater : (k : ℕ) → i ≤ k → k < length nodes
+      → slice_cmp nat_cmp (node_at nodes k).0 name ≡ Greater
 
 -- the node of an index, where the node at another has gone
 abbrev pub closed_up : ℕ → Point → Point
@@ -83,7 +85,8 @@ left_without gone points = map (closed_up gone) (filter (λ p. not (p.node == go
 pub record IsStart (points : List Point) (at i : ℕ) : Type 0 where
   pub within : i ≤ length points
   pub before : (k : ℕ) (d : Point) → k < i → (slice_index_or points k d).place < at
-  pub after : (k : ℕ) (d : Point) → i ≤ k → k < length points → at ≤ (slice_index_or points k d).place
+  pub after : (k : ℕ) (d : Point) → i ≤ k → k < length points
+      → at ≤ (slice_index_or points k d).place
 
 -- the index some steps after the first one, round a list of n
 abbrev pub index_round : ℕ → ℕ → ℕ → ℕ

@@ -1,5 +1,5 @@
 -- Nodes on a ring of 2^64 places, and which of them owns a key.
-use Rattle.std.specs.Prelude.{ℕ, ◌≡◌, ◌≢◌, ◌≤◌, ◌<◌, ◌+◌, ◌^◌, nat_lt, if◌then◌else◌, List, [], ◌∷◌, ◌++◌, length, take, Some, None, not, false}
+use Rattle.std.specs.Prelude.{ℕ, ◌≡◌, ◌≢◌, ◌≤◌, ◌<◌, nat_lt, if◌then◌else◌, List, [], ◌∷◌, ◌++◌, length, take, Some, None, not, false}
 use Rattle.std.specs.List.{filter}
 use Rattle.std.specs.Ordering.{nat_cmp, eq_by_cmp, is_gt}
 use Rattle.std.specs.Cmp.Lexicographic.{slice_cmp}
@@ -29,12 +29,13 @@ pub record HasPoint (hash : List ℕ → ℕ) (nodes : Nodes) (name : List ℕ) 
   pub there : get nodes name ≡ Some weight
   pub point : IsPointOf hash (name, weight) place
 
--- the turn in which a place is reached on the way round from `at`: those before `at` come in the next
+-- the turn in which a place is reached on the way round from `at`: places before `at` come in the
+-- next one
 abbrev pub turn : ℕ → ℕ → ℕ
 turn at place = if nat_lt place at then 1 else 0
 
--- on the way round from `at` the one name's place is reached no later than the other's, and of two names
--- at one place the lesser is first
+-- on the way round from `at` the one name's place is reached no later than the other's, and of two
+-- names at one place the lesser is first
 pub record IsFirst (at : ℕ) (name : List ℕ) (place : ℕ) (other : List ℕ) (next : ℕ) : Type 0 where
   pub sooner : turn at place ≤ turn at next
   pub nearer : turn at place ≡ turn at next → place ≤ next
@@ -44,7 +45,8 @@ pub record IsFirst (at : ℕ) (name : List ℕ) (place : ℕ) (other : List ℕ)
 pub record IsOwner (hash : List ℕ → ℕ) (nodes : Nodes) (at : ℕ) (name : List ℕ) : Type 0 where
   pub place : ℕ
   pub has : HasPoint hash nodes name place
-  pub first : (other : List ℕ) (next : ℕ) → HasPoint hash nodes other next → IsFirst at name place other next
+  pub first : (other : List ℕ) (next : ℕ) → HasPoint hash nodes other next
+      → IsFirst at name place other next
 
 -- the first owns the key, the second where the first is gone, and so on
 abbrev pub AreOwners : (List ℕ → ℕ) → Nodes → ℕ → List (List ℕ) → Type 0

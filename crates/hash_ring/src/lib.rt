@@ -112,7 +112,8 @@ fn all_points<H: Piecewise>(alloc: Global, nodes: &[Node]) -> Result<Vec<Point>,
 /// Where the node of this name stands, or where it would.
 fn place_of(nodes: &[Node], name: &[u8]) -> Result<usize, usize>
     requires { T (is_sorted (slice_cmp nat_cmp) (pairs nodes.now)) }
-    ensures { let all = pairs nodes.now in MatchResult result (IsNamedAt all name.now) (IsGapAt all name.now) }
+    ensures { MatchResult result (IsNamedAt (pairs nodes.now) name.now)
+        (IsGapAt (pairs nodes.now) name.now) }
 {
     nodes.binary_search_by(|node| node.name.as_slice().cmp(name))
 }
@@ -174,7 +175,8 @@ fn names_round<'a, H: Piecewise>(
     n: usize,
 ) -> Result<Vec<&'a [u8]>, AllocError>
     requires { IsRing H.hash_of (pairs nodes.now) points.now }
-    ensures own { IfOk result (λ xs. AreOwners H.hash_of (ring_of nodes.now) place (texts xs.items)) }
+    ensures own { IfOk result (λ xs.
+        AreOwners H.hash_of (ring_of nodes.now) place (texts xs.items)) }
     ensures count { IfOk result (λ xs. length xs.items ≡ min n (map.len (ring_of nodes.now))) }
     ensures different { IfOk result (λ xs. AllPairs (λ a b. a ≢ b) (texts xs.items)) }
 {
@@ -275,7 +277,8 @@ impl<H: Piecewise> Ring<H> {
     /// The names of the first `n` different nodes round the ring from the key's hash, or of all nodes where there are fewer. The first is
     /// the owner, the second would own the key if the first were gone, and so on. It refuses only for want of memory.
     pub fn owners(&self, alloc: Global, key: &[u8], n: usize) -> Result<Vec<&[u8]>, AllocError>
-        ensures own { IfOk result (λ xs. AreOwners H.hash_of self.now (H.hash_of key.now) (texts xs.items)) }
+        ensures own { IfOk result (λ xs.
+            AreOwners H.hash_of self.now (H.hash_of key.now) (texts xs.items)) }
         ensures count { IfOk result (λ xs. length xs.items ≡ min n (map.len self.now)) }
         ensures different { IfOk result (λ xs. AllPairs (λ a b. a ≢ b) (texts xs.items)) }
     {
@@ -285,29 +288,34 @@ impl<H: Piecewise> Ring<H> {
 
 /// A key has one owner, with no code.
 pub fn one_owner_alone<H: Piecewise>()
-    ensures { (m : Nodes) (at : ℕ) (a b : List ℕ) → IsOwner H.hash_of m at a → IsOwner H.hash_of m at b → a ≡ b }
+    ensures { (m : Nodes) (at : ℕ) (a b : List ℕ)
+        → IsOwner H.hash_of m at a → IsOwner H.hash_of m at b → a ≡ b }
 {}
 
 /// What a removal moves, with no code: only the keys that the node owned, and no key to that node.
 pub fn removal_moves_only_its_keys<H: Piecewise>()
-    ensures moves { (m : Nodes) (gone : List ℕ) → MovesOnlyFrom H.hash_of m (map.remove m gone) gone }
+    ensures moves { (m : Nodes) (gone : List ℕ)
+        → MovesOnlyFrom H.hash_of m (map.remove m gone) gone }
     ensures keeps { (m : Nodes) (gone : List ℕ) → OthersKeep H.hash_of m (map.remove m gone) gone }
     ensures gone { (m : Nodes) (gone : List ℕ) → OwnsNothing H.hash_of (map.remove m gone) gone }
 {}
 
 /// What a new node moves, with no code: keys to that node alone.
 pub fn new_node_moves_keys_only_to_it<H: Piecewise>()
-    ensures { (m : Nodes) (new : List ℕ) (w : ℕ) → map.get m new ≡ None → MovesOnlyTo H.hash_of m (map.insert m new w) new }
+    ensures { (m : Nodes) (new : List ℕ) (w : ℕ) → map.get m new ≡ None
+        → MovesOnlyTo H.hash_of m (map.insert m new w) new }
 {}
 
 /// To add a node and to remove it again leaves the nodes as they were, with no code, and so each owner.
 pub fn removal_undoes_adding()
-    ensures { (m : Nodes) (k : List ℕ) (w : ℕ) → map.get m k ≡ None → map.remove (map.insert m k w) k ≡ m }
+    ensures { (m : Nodes) (k : List ℕ) (w : ℕ) → map.get m k ≡ None
+        → map.remove (map.insert m k w) k ≡ m }
 {}
 
 /// The order in which nodes came doesn't show, with no code: two orders lead to the same nodes, and so to the same owners.
 pub fn order_does_not_show()
-    ensures { (m : Nodes) (k : List ℕ) (v : ℕ) (q : List ℕ) (w : ℕ) → k ≢ q → ComeInAnyOrder m k v q w }
+    ensures { (m : Nodes) (k : List ℕ) (v : ℕ) (q : List ℕ) (w : ℕ) → k ≢ q
+        → ComeInAnyOrder m k v q w }
 {}
 
 /// What the loss of a node does to the owners of a key, with no code. The others are the first owners then, in the order that they

@@ -1,4 +1,3 @@
-use Rattle.std.proofs.Common.{ℕ}
 use Rattle.hash_ring.specs.declared.Point.{Point}
 use Rattle.hash_ring.proofs.Edits.{closes_high, closes_low}
 use Rattle.hash_ring.proofs.close_up.Goals as goal

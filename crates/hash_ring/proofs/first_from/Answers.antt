@@ -1,4 +1,4 @@
-use Rattle.std.proofs.Common.{ℕ, ◌<◌, ◌≤◌, ltb, arith, rules}
+use Rattle.std.proofs.Common.{ltb, arith, rules}
 use Rattle.std.proofs.lemmas.List.Sorted.{IsPartitionPoint-from_clause, IsPartitionedBy-ltb}
 use borrow.Author.Tests.{ltb-true, ltb-false}
 use Rattle.hash_ring.proofs.Points.{places_rise}

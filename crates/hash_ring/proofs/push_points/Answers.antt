@@ -1,8 +1,7 @@
-use Rattle.std.proofs.Common.{◌≡◌, ◌+◌, ◌++◌, ◌∷◌, [], ℕ, List, map, take, length, arith, ap, sym, ◌∙◌, refl, append_assoc}
+use Rattle.std.proofs.Common.{◌≡◌, ◌+◌, ◌++◌, ◌∷◌, [], ℕ, List, take, length, arith, ap, sym, ◌∙◌, append_assoc}
 use Rattle.std.proofs.Math.Seq.{take-append_seam}
 use Rattle.std.proofs.lemmas.List.FromFn.{map-range_with_len_more}
 use Rattle.std.specs.Hash.{le_bytes}
-use Rattle.std.specs.List.{range_with_len}
 use Rattle.hash_ring.specs.declared.Point.{Point}
 use Rattle.hash_ring.specs.Ring.{point}
 use Rattle.hash_ring.specs.Points.{points_of}

@@ -1,11 +1,10 @@
-use Rattle.std.proofs.Common.{◌≡◌, ◌≢◌, ◌∙◌, ◌≤◌, ap, sym, subst, refl, ℕ, List, length, get_or, None, Some, arith}
+use Rattle.std.proofs.Common.{◌≡◌, ◌∙◌, ◌≤◌, ap, sym, subst, refl, length, get_or, arith}
 use Rattle.std.specs.List.{insert}
 use Rattle.std.specs.FinMap as fin
 use Rattle.std.proofs.lemmas.List.{length-map}
 use Rattle.std.proofs.lemmas.List.Edits.{get_or-insert_at}
 use Rattle.hash_ring.specs.declared.Node.{Node}
-use Rattle.hash_ring.specs.declared.Point.{Point}
-use Rattle.hash_ring.specs.Points.{ArePoints, IsGapAt, IsRing, nodes_of, pair_of, pairs}
+use Rattle.hash_ring.specs.Points.{ArePoints, IsRing, nodes_of, pair_of, pairs}
 use Rattle.hash_ring.proofs.Names.{absent_read, found_read, gap_read, inserted}
 use Rattle.hash_ring.proofs.Edits.{pairs_insert, ring_with}
 use Rattle.hash_ring.proofs.Ring.add.Goals as goal

@@ -1,10 +1,8 @@
-use Rattle.std.proofs.Common.{◌≡◌, ◌<◌, ◌∙◌, ap, sym, subst, arith, length, ℕ, List, []}
+use Rattle.std.proofs.Common.{◌≡◌, ◌<◌, ◌∙◌, ap, sym, subst, arith, length, ℕ, []}
 use Rattle.std.specs.List.{AllPairs}
 use borrow.Author.Tests.{eqb-true}
-use Rattle.hash_ring.specs.declared.Node.{Node}
-use Rattle.hash_ring.specs.declared.Point.{Point}
 use Rattle.hash_ring.specs.Ring.{IsOwner}
-use Rattle.hash_ring.specs.Points.{IsBefore, IsStart, index_round, nodes_of, pairs}
+use Rattle.hash_ring.specs.Points.{IsBefore, IsStart, index_round, pairs}
 use Rattle.hash_ring.proofs.Owners.{no_points, owner_read}
 use Rattle.hash_ring.proofs.Ring.owner.Goals as goal
 

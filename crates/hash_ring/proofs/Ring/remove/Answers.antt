@@ -1,9 +1,8 @@
-use Rattle.std.proofs.Common.{◌≡◌, ◌∙◌, ap, sym, subst, refl, ℕ, List, get_or, Some, length, arith, ◌<◌, []}
+use Rattle.std.proofs.Common.{◌≡◌, ◌∙◌, ap, sym, subst, refl, Some, length, arith, ◌<◌, []}
 use Rattle.std.specs.List.{remove}
 use Rattle.std.specs.FinMap as fin
 use Rattle.std.proofs.lemmas.List.{get_or-map, length-map}
-use Rattle.hash_ring.specs.declared.Node.{Node}
-use Rattle.hash_ring.specs.Points.{IsRing, left_without, node_at, nodes_of, pair_of, pairs}
+use Rattle.hash_ring.specs.Points.{IsRing, node_at, nodes_of, pair_of, pairs}
 use Rattle.hash_ring.proofs.Names.{absent_read, found_read, none_unchanged, place_read, removed}
 use Rattle.hash_ring.proofs.Edits.{pairs_remove, ring_without}
 use Rattle.hash_ring.proofs.Ring.remove.Goals as goal
