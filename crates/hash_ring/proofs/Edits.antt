@@ -1,0 +1,159 @@
+-- A ring with a node more, and with one less.
+use Rattle.std.proofs.Common.{ℕ, zero, suc, ◌≡◌, ◌≢◌, ◌+◌, ◌-◌, ◌<◌, ◌≤◌, Bool, true, false, not, cond, ltb, ◌==◌, List, [], ◌∷◌, ◌++◌, map, length, get_or, set, take, drop, arith, sym, ap, ◌∙◌, subst, refl, ⊎_elim}
+use Rattle.std.specs.List.{AllPairs, Contains, filter, insert, remove}
+use Rattle.std.proofs.lemmas.Bool.{cases_lt, lt-ltb, le-ltb}
+use Rattle.std.proofs.lemmas.Bool.Decides.{Decides-eqb}
+use Rattle.std.proofs.lemmas.List.{map-append, take-map, drop-map, get_or-map, length-map, get_or_default}
+use Rattle.std.proofs.lemmas.List.Edits.{map_over_more, get_or-remove_below, get_or-remove_above}
+use Rattle.std.proofs.lemmas.List.Elements.{All-append, All-cons, All-drop, All-filter, All-map, All-take, filter_passes}
+use Rattle.std.proofs.lemmas.List.Kept.{AllPairs-filter}
+use Rattle.hash_ring.specs.declared.Node.{Node}
+use Rattle.hash_ring.specs.declared.Point.{Point}
+use Rattle.hash_ring.specs.Ring.{IsPointOf}
+use Rattle.hash_ring.specs.Points.{ArePoints, IsBefore, IsGapAt, IsRing, IsTrue, closed_up, left_without, node_at, pair_of, pairs}
+use Rattle.hash_ring.proofs.Names.{Pairs, inserted_sorted, removed_sorted}
+
+-- what `closed_up` makes of the later indices, and of the earlier
+up_high : (gone : ℕ) (p : Point) → gone < p.node → closed_up gone p ≡ record { place = p.place; node = p.node - 1 }
+up_high gone p h = λ i. record { place = p.place; node = cond (lt-ltb gone p.node h i) (p.node - 1) p.node }
+
+up_low : (gone : ℕ) (p : Point) → p.node ≤ gone → closed_up gone p ≡ p
+up_low gone p h = λ i. record { place = p.place; node = cond (le-ltb gone p.node h i) (p.node - 1) p.node }
+
+pub pairs_insert : (nodes : List Node) (i : ℕ) (node : Node) → pairs (insert nodes i node) ≡ insert (pairs nodes) i (pair_of node)
+pairs_insert nodes i node = map-append pair_of (take i nodes) (node ∷ drop i nodes) ∙ (λ j. sym (take-map pair_of i nodes) j ++ pair_of node ∷ sym (drop-map pair_of i nodes) j)
+
+pub pairs_remove : (nodes : List Node) (i : ℕ) → pairs (remove nodes i) ≡ remove (pairs nodes) i
+pairs_remove nodes i = map-append pair_of (take i nodes) (drop (suc i) nodes) ∙ (λ j. sym (take-map pair_of i nodes) j ++ sym (drop-map pair_of (suc i) nodes) j)
+
+pub remove_insert : {X : Type 0} (xs : List X) (i : ℕ) (x : X) → i ≤ length xs → remove (insert xs i x) i ≡ xs
+remove_insert [] zero x h = refl
+remove_insert [] (suc i) x h = absurd (omega arith)
+remove_insert (y ∷ xs) zero x h = refl
+remove_insert (y ∷ xs) (suc i) x h = ap (λ rest. y ∷ rest) (remove_insert xs i x (omega arith))
+
+-- one point more is counted anew
+abbrev closing : ℕ → List Point → ℕ → List Point
+closing gone old i = map (closed_up gone) (take i old) ++ drop i old
+
+module _ (gone i : ℕ) (old now next : List Point) (d : Point) (below : i < length old) (long : length now ≡ length old) (so_far : now ≡ closing gone old i) where
+  abbrev x : Point
+  x = get_or now i d
+
+  closes : next ≡ set now i (closed_up gone x) → next ≡ closing gone old (i + 1)
+  closes is = is ∙ map_over_more (closed_up gone) old now i x below so_far (get_or_default now i d x (omega arith))
+
+  pub closes_high : gone < x.node → next ≡ set now i (record { place = x.place; node = x.node - 1 }) → next ≡ closing gone old (i + 1)
+  closes_high h is = closes (is ∙ ap (set now i) (sym (up_high gone x h)))
+
+  pub closes_low : x.node ≤ gone → next ≡ set now i x → next ≡ closing gone old (i + 1)
+  closes_low h is = closes (is ∙ ap (set now i) (sym (up_low gone x h)))
+
+-- ---- the points of a ring with a node less
+rises : (gone i j : ℕ) → i ≤ j → cond (ltb gone i) (i - 1) i ≤ cond (ltb gone j) (j - 1) j
+rises gone i j h = ⊎_elim
+    (λ (high : gone < i). let e = lt-ltb gone i high in let f = lt-ltb gone j (omega arith) in rw (e, f) (omega arith))
+    (λ (low : i ≤ gone).
+    let e = le-ltb gone i low in
+    ⊎_elim
+    (λ (above : gone < j). let f = lt-ltb gone j above in rw (e, f) (omega arith))
+    (λ (below : j ≤ gone). let f = le-ltb gone j below in rw (e, f) h)
+    (cases_lt gone j))
+    (cases_lt gone i)
+
+still_before : (gone : ℕ) (points : List Point) → AllPairs IsBefore points → AllPairs IsBefore (map (closed_up gone) points)
+still_before gone points before i j d less within =
+    let f = closed_up gone in
+    let l : j < length points = omega (arith, length-map points f) in
+    let b = before i j d less l in
+    let both : IsBefore (f (get_or points i d)) (f (get_or points j d)) = record { place = b.place; node = λ e. rises gone _ _ (b.node e) } in
+    subst (λ (p : Point). IsBefore p (get_or (map f points) j d)) (sym (get_or-map f points i d d (omega arith)))
+    (subst (λ (q : Point). IsBefore (f (get_or points i d)) q) (sym (get_or-map f points j d d l)) both)
+
+in_filter : (p : Point → Bool) (xs : List Point) (x : Point) → p x ≡ true → Contains xs x → Contains (filter p xs) x
+in_filter p [] x e c = absurd (omega (arith, c.1))
+in_filter p (y ∷ xs) x e (zero, l, is) =
+    let h : p y ≡ true = ap p is ∙ e in
+    subst (λ b. Contains (cond b (y ∷ filter p xs) (filter p xs)) x) (sym h) (0, omega arith, is)
+in_filter p (y ∷ xs) x e (suc k, l, is) =
+    let rest = in_filter p xs x e (k, omega arith, is) in
+    elim (p y) as (λ b. Contains (cond b (y ∷ filter p xs) (filter p xs)) x) [ true ↦ (suc rest.0, omega (arith, rest.1), rest.2) | false ↦ rest ]
+
+in_map : (f : Point → Point) (xs : List Point) (x : Point) → Contains xs x → Contains (map f xs) (f x)
+in_map f xs x c = (c.0, omega (arith, c.1, length-map xs f), get_or-map f xs c.0 x (f x) c.1 ∙ ap f c.2)
+
+module _ (hash : List ℕ → ℕ) (es : Pairs) (gone : ℕ) (below : gone < length es) where
+  abbrev rest : Pairs
+  rest = remove es gone
+
+  abbrev left_points : List Point → List Point
+  left_points points = left_without gone points
+
+  -- the node of an index other than that of the node that went
+  moved : (p : Point) → p.node ≢ gone → node_at rest (closed_up gone p).node ≡ node_at es p.node
+  moved p other = ⊎_elim
+      (λ (high : gone < p.node).
+      let back : p.node - 1 + 1 ≡ p.node = omega arith in
+      ap (λ (q : Point). node_at rest q.node) (up_high gone p high) ∙ get_or-remove_above es gone ([], 0) (p.node - 1) (omega arith) below ∙ ap (λ (i : ℕ). node_at es i) back)
+      (λ (low : p.node ≤ gone). ap (λ (q : Point). node_at rest q.node) (up_low gone p low) ∙ get_or-remove_below es gone ([], 0) p.node (omega arith) below)
+      (cases_lt gone p.node)
+
+  other_node : (p : Point) → not (p.node == gone) ≡ true → p.node ≢ gone
+  other_node p e is = let f : (p.node == gone) ≡ true = (Decides-eqb p.node gone).1 is in cc
+
+  test_of : (p : Point) → p.node ≢ gone → not (p.node == gone) ≡ true
+  test_of p ne = elim (p.node == gone) as (λ b. (p.node == gone) ≡ b → not b ≡ true) [ true ↦ λ e. absurd (ne ((Decides-eqb p.node gone).0 e)) | false ↦ λ e. refl ] refl
+
+  -- the index before of a node that is left
+  record Before (i : ℕ) : Type 0 where
+    j : ℕ
+    other : j ≢ gone
+    same : node_at rest i ≡ node_at es j
+    back : (place : ℕ) → closed_up gone (record { place = place; node = j }) ≡ record { place = place; node = i }
+
+  before : (i : ℕ) → Before i
+  before i = ⊎_elim
+      (λ (low : i < gone). record { j = i; other = λ e. omega arith; same = get_or-remove_below es gone ([], 0) i low below; back = λ place. up_low gone (record { place = place; node = i }) (omega arith) })
+      (λ (high : gone ≤ i). record {
+        j = i + 1;
+        other = λ e. omega arith;
+        same = get_or-remove_above es gone ([], 0) i high below;
+        back = λ place. let e : i + 1 - 1 ≡ i = omega arith in up_high gone (record { place = place; node = i + 1 }) (omega arith) ∙ (λ k. record { place = place; node = e k });
+      })
+      (cases_lt i gone)
+
+  pub still_just : (points : List Point) → ArePoints hash es points → ArePoints hash rest (left_points points)
+  still_just points just = record {
+    real = All-map (IsTrue hash rest) (closed_up gone) (filter (λ p. not (p.node == gone)) points)
+        (λ k d l.
+        let kept = filter (λ p. not (p.node == gone)) points in
+        let p = get_or kept k d in
+        let of = All-filter (λ p. not (p.node == gone)) (IsTrue hash es) points just.real k d l in
+        let ne = other_node p (filter_passes (λ p. not (p.node == gone)) points k d l) in
+        subst (λ node. IsPointOf hash node p.place) (sym (moved p ne)) of);
+    all = λ i place of.
+        let b = before i in
+        let p : Point = record { place = place; node = b.j } in
+        let was = just.all b.j place (subst (λ node. IsPointOf hash node place) b.same of) in
+        subst (Contains (left_points points)) (b.back place)
+        (in_map (closed_up gone) (filter (λ p. not (p.node == gone)) points) p (in_filter (λ p. not (p.node == gone)) points p (test_of p b.other) was));
+  }
+
+  pub ring_without : (points : List Point) → IsRing hash es points → IsRing hash rest (left_points points)
+  ring_without points ring = record {
+    named = removed_sorted es ring.named gone below;
+    weighed = All-append (λ node. 1 ≤ node.1) (take gone es) (drop (suc gone) es) (All-take (λ node. 1 ≤ node.1) gone es ring.weighed) (All-drop (λ node. 1 ≤ node.1) (suc gone) es ring.weighed);
+    just = still_just points ring.just;
+    ordered = still_before gone (filter (λ p. not (p.node == gone)) points) (AllPairs-filter IsBefore (λ p. not (p.node == gone)) points ring.ordered);
+  }
+
+-- a ring with a node more, whose points are made anew
+pub ring_with : (hash : List ℕ → ℕ) (es : Pairs) (name : List ℕ) (w i : ℕ) (old points : List Point) → IsRing hash es old → IsGapAt es name i → 1 ≤ w
+    → ArePoints hash (insert es i (name, w)) points → AllPairs IsBefore points → IsRing hash (insert es i (name, w)) points
+ring_with hash es name w i old points ring gap some just ordered = record {
+  named = inserted_sorted es ring.named name w i gap;
+  weighed = All-append (λ node. 1 ≤ node.1) (take i es) ((name, w) ∷ drop i es) (All-take (λ node. 1 ≤ node.1) i es ring.weighed)
+      (All-cons (λ node. 1 ≤ node.1) (name, w) (drop i es) some (All-drop (λ node. 1 ≤ node.1) i es ring.weighed));
+  just = just;
+  ordered = ordered;
+}

@@ -1,0 +1,5 @@
+pub mod Points
+pub mod Names
+pub mod Owners
+pub mod Edits
+pub mod Laws

@@ -1,0 +1,104 @@
+-- The points of nodes, in a list and in order.
+use Rattle.std.proofs.Common.{ℕ, ◌≡◌, ◌<◌, ◌≤◌, List, [], ◌∷◌, ◌++◌, length, get_or, arith, sym, ap, ◌∙◌, subst, refl, ⊎_elim, false}
+use Rattle.std.specs.List.{All, AllPairs, Contains}
+use Rattle.std.specs.List.Sorted.{IsNonDecreasingBy, IsPermutation, IsSorted}
+use Rattle.std.specs.Ordering.{nat_cmp, is_lt, ordering_then, MatchOrdering}
+use Rattle.std.specs.declared.cmp.Ordering.{Ordering}
+use Rattle.std.specs.declared.cmp.Ordering.TheVariants.{Less, Equal, Greater}
+use Rattle.std.proofs.lemmas.Bool.{cases_lt}
+use Rattle.std.proofs.lemmas.Cmp.{then_total, on_total, nat_cmp_total, ranked}
+use Rattle.std.proofs.lemmas.List.{get_or_past, length-append, get_or_append_left}
+use Rattle.std.proofs.lemmas.List.Elements.{All-append, All-nil, Contains-append_left, Contains-append_right}
+use Rattle.std.proofs.lemmas.List.Sorted.{All-permutation, Contains-permutation, sorted_far, ranks_by}
+use Rattle.std.proofs.lemmas.List.FromFn.{length-map-range_with_len, get_or-map-range_with_len}
+use Rattle.std.proofs.Math.Seq.{get_or-append_seam}
+use Rattle.hash_ring.specs.declared.Point.{Point}
+use Rattle.hash_ring.specs.Ring.{IsPointOf, point}
+use Rattle.hash_ring.specs.Points.{ArePoints, IsBefore, IsTrue, node_at, points_of}
+
+abbrev pub Pairs : Type 0
+Pairs = List (List ℕ × ℕ)
+
+-- a node that has a point is there
+pub is_there : (hash : List ℕ → ℕ) (nodes : Pairs) (i place : ℕ) → IsPointOf hash (node_at nodes i) place → i < length nodes
+is_there hash nodes i place of = ⊎_elim
+    (λ (low : i < length nodes). low)
+    (λ (high : length nodes ≤ i).
+    let none : (node_at nodes i).1 ≡ 0 = ap (λ node. node.1) (get_or_past nodes i ([], 0) high) in
+    absurd (omega (arith, of.below)))
+    (cases_lt i (length nodes))
+
+module _ (hash : List ℕ → ℕ) where
+  pub ArePoints-nil : ArePoints hash [] []
+  ArePoints-nil = record { real = All-nil (IsTrue hash []); all = λ i place of. absurd (omega (arith, is_there hash [] i place of)) }
+
+  -- a point of a node is among the node's points, and only such are
+  pub among : (node : List ℕ × ℕ) (i place : ℕ) → IsPointOf hash node place → Contains (points_of hash node i) (record { place = place; node = i })
+  among node i place of =
+      let nth = λ (k : ℕ). let p : Point = record { place = point hash node.0 k; node = i } in p in
+      let here : (d : Point) → get_or (points_of hash node i) of.number d ≡ record { place = place; node = i } =
+      λ d. get_or-map-range_with_len nth 0 node.1 of.number of.number d of.below (omega arith) ∙ (λ j. record { place = sym of.is j; node = i }) in
+      (of.number, omega (arith, of.below, length-map-range_with_len nth 0 node.1), here _)
+
+  each : (node : List ℕ × ℕ) (i : ℕ) → All (λ p. (p.node ≡ i) × IsPointOf hash node p.place) (points_of hash node i)
+  each node i k d below =
+      let nth = λ (j : ℕ). let p : Point = record { place = point hash node.0 j; node = i } in p in
+      let less : k < node.1 = omega (arith, length-map-range_with_len nth 0 node.1) in
+      subst (λ p. (p.node ≡ i) × IsPointOf hash node p.place) (sym (get_or-map-range_with_len nth 0 node.1 k k d less (omega arith)))
+      (refl, record { number = k; below = less; is = refl })
+
+  -- the points of one node more
+  pub ArePoints-push : (nodes : Pairs) (node : List ℕ × ℕ) (points : List Point) → ArePoints hash nodes points
+      → ArePoints hash (nodes ++ node ∷ []) (points ++ points_of hash node (length nodes))
+  ArePoints-push nodes node points so_far =
+      let more = nodes ++ node ∷ [] in
+      let new = length nodes in
+      let last : node_at more new ≡ node = get_or-append_seam nodes node [] ([], 0) in
+      let before : (i : ℕ) → i < length nodes → node_at more i ≡ node_at nodes i = λ i low. get_or_append_left nodes (node ∷ []) ([], 0) i low in
+      record {
+        real = All-append (IsTrue hash more) points (points_of hash node new)
+            (λ k d below. let p = get_or points k d in let of = so_far.real k d below in
+            subst (λ n. IsPointOf hash n p.place) (sym (before p.node (is_there hash nodes p.node p.place of))) of)
+            (λ k d below. let p = get_or (points_of hash node new) k d in let of = each node new k d below in
+            subst (λ n. IsPointOf hash n p.place) (sym (ap (node_at more) of.0 ∙ last)) of.1);
+        all = λ i place of. ⊎_elim
+            (λ (low : i < length nodes). Contains-append_left points (points_of hash node new) _ (so_far.all i place (subst (λ n. IsPointOf hash n place) (before i low) of)))
+            (λ (high : length nodes ≤ i).
+            let there : i < length more = is_there hash more i place of in
+            let is : length nodes ≡ i = omega (arith, length-append nodes (node ∷ [])) in
+            Contains-append_right points (points_of hash node new) _
+            (subst (λ (j : ℕ). Contains (points_of hash node new) (record { place = place; node = j })) is
+            (among node new place (subst (λ n. IsPointOf hash n place) (ap (node_at more) (sym is) ∙ last) of))))
+            (cases_lt i (length nodes));
+      }
+
+  -- in whatever order the points stand
+  pub ArePoints-permutation : (nodes : Pairs) (points moved : List Point) → IsPermutation points moved → ArePoints hash nodes points → ArePoints hash nodes moved
+  ArePoints-permutation nodes points moved same are = record {
+    real = All-permutation (IsTrue hash nodes) points moved same are.real;
+    all = λ i place of. Contains-permutation points moved _ same (are.all i place of);
+  }
+
+-- ---- points in order
+not_less_by : (a b : Point) (r s : Ordering) → MatchOrdering r (b.place < a.place) (b.place ≡ a.place) (a.place < b.place)
+    → MatchOrdering s (b.node < a.node) (b.node ≡ a.node) (a.node < b.node) → is_lt (ordering_then r s) ≡ false → IsBefore a b
+not_less_by a b Less s h k e = cc
+not_less_by a b Equal Less h k e = cc
+not_less_by a b Equal Equal h k e = record { place = omega arith; node = λ _. omega arith }
+not_less_by a b Equal Greater h k e = record { place = omega arith; node = λ _. omega arith }
+not_less_by a b Greater s h k e = record { place = omega arith; node = λ same. absurd (omega arith) }
+
+not_less : (a b : Point) → is_lt (ordering_then (nat_cmp b.place a.place) (nat_cmp b.node a.node)) ≡ false → IsBefore a b
+not_less a b = not_less_by a b _ _ (ranked b.place a.place _ refl) (ranked b.node a.node _ refl)
+
+pub in_order : (points : List Point) → IsSorted (λ a b. ordering_then (nat_cmp a.place b.place) (nat_cmp a.node b.node)) points → AllPairs IsBefore points
+in_order points sorted i j d less within =
+    let o = ranks_by (then_total (on_total (λ (p : Point). p.place) nat_cmp_total) (on_total (λ (p : Point). p.node) nat_cmp_total)) (λ (p : Point). p) in
+    not_less _ _ (sorted_far _ o points sorted i j d (omega arith) within)
+
+-- no place is above a later one
+pub places_rise : (points : List Point) → AllPairs IsBefore points → IsNonDecreasingBy (λ p. p.place) points
+places_rise points before i j d upto within = ⊎_elim
+    (λ (less : i < j). (before i j d less within).place)
+    (λ (same : j ≤ i). let e : i ≡ j = omega arith in subst (λ (k : ℕ). (get_or points i d).place ≤ (get_or points k d).place) e (omega arith))
+    (cases_lt i j)

@@ -1,0 +1,62 @@
+use Rattle.std.proofs.Common.{◌≡◌, ◌∙◌, ◌≤◌, ap, sym, subst, refl, length, get_or, arith}
+use Rattle.std.specs.List.{insert}
+use Rattle.std.specs.FinMap as fin
+use Rattle.std.proofs.lemmas.List.{length-map}
+use Rattle.std.proofs.lemmas.List.Edits.{get_or-insert_at}
+use Rattle.hash_ring.specs.declared.Node.{Node}
+use Rattle.hash_ring.specs.Points.{ArePoints, IsRing, nodes_of, pair_of, pairs}
+use Rattle.hash_ring.proofs.Names.{absent_read, found_read, gap_read, inserted}
+use Rattle.hash_ring.proofs.Edits.{pairs_insert, ring_with}
+use Rattle.hash_ring.proofs.Ring.add.Goals as goal
+
+pub returns-in-Ok-clause-err : goal.returns-in-Ok-clause-err
+returns-in-Ok-clause-err g c = (
+  refl,
+  λ none.
+      let found = found_read c.self.inside.nodes.items _ c.args.name.items _ c.args.self.now c.self.invariant.named c.self.view_is c.deref.ensures.value c.deref-2.ensures.value c.in-Ok.field-0 c.in-Ok.ensures in
+      cc,
+)
+
+pub returns-in-Err-insert-clause-err : goal.returns-in-Err-insert-clause-err
+returns-in-Err-insert-clause-err g c = (
+  ap (λ (node : Node). node.name) c.in-Err-insert.ensures.value_returned,
+  absent_read c.self.inside.nodes.items _ c.args.name.items _ c.args.self.now c.self.invariant.named c.self.view_is c.deref.ensures.value c.deref-2.ensures.value c.in-Err.at c.in-Err.ensures,
+)
+
+pub invariant_of-self-in-Ok-all_points : goal.invariant_of-self-in-Ok-all_points
+invariant_of-self-in-Ok-all_points g c =
+    let hash = g.H.Piecewise.hash_of in
+    let nodes = c.self.inside.nodes.items in
+    let name = c.args.name.items in
+    let at = c.in-Err.at in
+    let gap = gap_read nodes _ name _ c.args.self.now c.self.invariant.named c.self.view_is c.deref.ensures.value c.deref-2.ensures.value at c.in-Err.ensures in
+    let all : pairs c.insert.new.self.items ≡ insert (pairs nodes) at (name, c.args.weight) = ap pairs c.in_default.ensures.items ∙ pairs_insert nodes at (record { name = c.args.name; weight = c.args.weight }) in
+    let points = c.in-Ok-all_points.points.items in
+    subst (λ es. IsRing hash es points) (sym all)
+    (ring_with hash (pairs nodes) name c.args.weight at c.self.inside.points.items points c.self.invariant gap c.requires
+    (subst (λ es. ArePoints hash es points) (ap pairs c.deref-3.ensures.value ∙ all) c.in-Ok-all_points.ensures.just) c.in-Ok-all_points.ensures.ordered)
+
+pub returns-in-Ok-all_points-clause-added : goal.returns-in-Ok-all_points-clause-added
+returns-in-Ok-all_points-clause-added g c =
+    let nodes = c.self.inside.nodes.items in
+    let name = c.args.name.items in
+    let w = c.args.weight in
+    let at = c.in-Err.at in
+    let gap = gap_read nodes _ name _ c.args.self.now c.self.invariant.named c.self.view_is c.deref.ensures.value c.deref-2.ensures.value at c.in-Err.ensures in
+    let all : pairs c.insert.new.self.items ≡ insert (pairs nodes) at (name, w) = ap pairs c.in_default.ensures.items ∙ pairs_insert nodes at (record { name = c.args.name; weight = w }) in
+    ap nodes_of all ∙ inserted (pairs nodes) c.self.invariant.named name w at gap ∙ ap (λ m. fin.insert m name w) c.self.view_is
+
+pub returns-in-Ok-all_points-clause-new : goal.returns-in-Ok-all_points-clause-new
+returns-in-Ok-all_points-clause-new g c =
+    absent_read c.self.inside.nodes.items _ c.args.name.items _ c.args.self.now c.self.invariant.named c.self.view_is c.deref.ensures.value c.deref-2.ensures.value c.in-Err.at c.in-Err.ensures
+
+pub returns-in-Err-all_points-clause-err : goal.returns-in-Err-all_points-clause-err
+returns-in-Err-all_points-clause-err g c =
+    let nodes = c.self.inside.nodes.items in
+    let node : Node = record { name = c.args.name; weight = c.args.weight } in
+    let at = c.in-Err.at in
+    let gap = gap_read nodes _ c.args.name.items _ c.args.self.now c.self.invariant.named c.self.view_is c.deref.ensures.value c.deref-2.ensures.value at c.in-Err.ensures in
+    let within : at ≤ length nodes = omega (arith, gap.within, length-map nodes pair_of) in (
+      ap (λ (node : Node). node.name) (c.remove.ensures.value ∙ ap (λ ns. get_or ns at c.remove.result) c.in_default.ensures.items ∙ get_or-insert_at nodes at node c.remove.result within),
+      absent_read nodes _ c.args.name.items _ c.args.self.now c.self.invariant.named c.self.view_is c.deref.ensures.value c.deref-2.ensures.value at c.in-Err.ensures,
+    )

@@ -1,0 +1,21 @@
+use Rattle.std.proofs.Common.{◌≡◌, ◌++◌, ℕ, List, map, take, drop, length, not, ◌==◌, arith, ap, ◌∙◌, rules}
+use Rattle.std.specs.List.{filter}
+use Rattle.std.proofs.lemmas.List.{take_all, length-map, drop_all, append-nil}
+use Rattle.std.proofs.lemmas.Fn.{filter_same}
+use Rattle.hash_ring.specs.declared.Point.{Point}
+use Rattle.hash_ring.specs.Points.{closed_up}
+use Rattle.hash_ring.proofs.take_points.Goals as goal
+
+-- a list that was written over whole
+over : (new old : List Point) (n : ℕ) → length new ≡ length old → n ≡ length old → take n (new ++ drop (length new) old) ≡ new
+over new old n same is =
+    ap (λ rest. take n (new ++ rest)) (drop_all (length new) old (omega arith)) ∙ ap (take n) (append-nil new) ∙ take_all n new (omega arith)
+
+pub returns : goal.returns
+returns c =
+    let gone = c.args.gone in
+    let kept : c.retain.new.self.items ≡ filter (λ p. not (p.node == gone)) c.args.points.now.items =
+    filter_same _ (λ p. not (p.node == gone)) _ (λ x b f' k. search rules) _ _ c.retain.ensures.filtered in
+    let all : c.close_up.new.points ≡ map (closed_up gone) c.retain.new.self.items = c.close_up.ensures ∙ ap (map (closed_up gone)) c.deref_mut.ensures.value in
+    over c.close_up.new.points c.retain.new.self.items c.retain.new.self.len (ap length all ∙ length-map c.retain.new.self.items (closed_up gone)) c.retain.new.self.ok.0
+    ∙ all ∙ ap (map (closed_up gone)) kept

@@ -1,0 +1,326 @@
+//! Consistent hashing over any hasher: nodes on a ring of 2^64 places, where only the lost node's keys move.
+//!
+//! A node has as many points on the ring as its weight says, and a key belongs to the node of the first point at or after
+//! the key's hash, round the ring. So when a node goes, its keys alone get other owners, and when one comes, keys go to it
+//! alone. The scheme is of Karger, Lehman, Leighton, Panigrahy, Levine and Lewin, "Consistent hashing and random trees"
+//! (1997); several points for a node are theirs too.
+//!
+//! Which nodes own which keys depends on the set of nodes alone, and not on the order in which they came. How evenly the
+//! keys fall depends on the hasher: see docs/RING.md.
+#![tactic(auto)]
+
+ghost use Rattle.std.specs.Prelude.{◌≡◌, ◌≢◌, ◌↔◌, ◌<◌, ◌≤◌, ℕ, List, IfOk, IfErr, IfSome, IfNone, OnOk, OnErr, IsTrue, MatchResult, None, T, length, map, min};
+ghost use Rattle.std.specs.Cmp.Lexicographic.{slice_cmp};
+ghost use Rattle.std.specs.Coded.{coded_list, coded_ℕ};
+ghost use Rattle.std.specs.FinMap as map;
+ghost use Rattle.std.specs.FinMap.Entries.{is_sorted};
+ghost use Rattle.std.specs.List.{AllPairs, Contains};
+ghost use Rattle.std.specs.Ordering.{nat_cmp};
+ghost use Rattle.hashers.specs.Text.{texts};
+ghost use Rattle.hash_ring.specs.Ring.{Nodes, AreOwners, BeginAlike, ComeInAnyOrder, HandsBack, IsOwner, KeepOrder, MovesOnlyFrom, MovesOnlyTo, OthersKeep, OwnsNothing};
+ghost use Rattle.hash_ring.specs.Points.{AddsPoints, ArePoints, IsBefore, IsGapAt, IsNamedAt, IsRing, IsStart, closed_up, index_round, left_without, pairs, ring_of};
+
+use hashers::laws::{Piecewise, hash_of};
+use std::alloc::{AllocError, AllocFailed, Global};
+use std::marker::{Model, PhantomData};
+
+#[cfg(test)]
+mod tests;
+
+/// A node: its name, and its weight, which is how many points it has on the ring.
+#[derive(Drop)]
+pub struct Node {
+    pub name: Vec<u8>,
+    pub weight: u64,
+}
+
+/// A point on the ring, and the index of its node among the nodes.
+#[derive(Clone, Copy, PartialEq, Eq, PartialOrd, Ord)]
+struct Point {
+    place: u64,
+    node: usize,
+}
+
+/// Why a node was not added. Its name comes back, and the ring is as it was.
+#[derive(Drop)]
+pub enum Refused {
+    /// A node of this name is on the ring.
+    IsThere(Vec<u8>),
+    /// There is no memory for the node and the points.
+    NoRoom(Vec<u8>),
+}
+
+/// Nodes on a ring of 2^64 places. Contracts see the finite map from the nodes' names to their weights.
+///
+/// Point number `k` of a node, from 0 up to its weight, is at the place `hash_of` of its name followed by `k` in 8 bytes, the lowest
+/// first, as one piece. A key is at the place `hash_of` of its bytes. Points at one place belong to the node whose name is least in the
+/// order of bytes.
+///
+/// All points stand in one sorted array, 16 bytes each.
+#[derive(Drop)]
+pub struct Ring<H: Piecewise> {
+    nodes: Vec<Node>, // in the order of their names
+    points: Vec<Point>, // in the order of their places, and at one place in that of their nodes
+    hasher: PhantomData<H>,
+}
+
+impl<H: Piecewise> Model for Ring<H> {
+    ghost Value = { Nodes };
+
+    ghost coded = { map.code (coded_list coded_ℕ) coded_ℕ };
+
+    ghost view = { λ r. ring_of r.nodes.items };
+
+    ghost invariant = { λ r. IsRing H.hash_of (pairs r.nodes.items) r.points.items };
+}
+
+/// Puts the points of the node behind the others.
+fn push_points<H: Piecewise>(
+    alloc: Global,
+    points: &mut Vec<Point>,
+    node: &Node,
+    index: usize,
+) -> Result<(), AllocError>
+    ensures { OnOk result (AddsPoints H.hash_of node.now index points.old.items points.new.items) }
+{
+    let name = node.name.as_slice();
+    let mut text = Vec::from_slice(alloc, name)?;
+    for number in 0..node.weight {
+        text.truncate(name.len());
+        text.extend_from_slice(&number.to_le_bytes())?;
+        points.push(Point {
+            place: hash_of::<H>(&text),
+            node: index,
+        })?;
+    }
+    Ok(())
+}
+
+/// The points of the nodes, in their order.
+fn all_points<H: Piecewise>(alloc: Global, nodes: &[Node]) -> Result<Vec<Point>, AllocError>
+    ensures just { IfOk result (λ points. ArePoints H.hash_of (pairs nodes.now) points.items) }
+    ensures ordered { IfOk result (λ points. AllPairs IsBefore points.items) }
+{
+    let mut points = Vec::new(alloc);
+    for index in 0..nodes.len() {
+        push_points::<H>(alloc, &mut points, &nodes[index], index)?;
+    }
+    points.sort_unstable();
+    Ok(points)
+}
+
+/// Where the node of this name stands, or where it would.
+fn place_of(nodes: &[Node], name: &[u8]) -> Result<usize, usize>
+    requires { T (is_sorted (slice_cmp nat_cmp) (pairs nodes.now)) }
+    ensures { MatchResult result (IsNamedAt (pairs nodes.now) name.now)
+        (IsGapAt (pairs nodes.now) name.now) }
+{
+    nodes.binary_search_by(|node| node.name.as_slice().cmp(name))
+}
+
+/// Where the first point at or after the place stands, or the points' end.
+fn first_from(points: &[Point], place: u64) -> usize
+    requires { AllPairs IsBefore points.now }
+    ensures { IsStart points.now place result }
+{
+    points.partition_point(|point| point.place < place)
+}
+
+/// The index some steps after the first one, round a list of `n`.
+fn index_round(n: usize, first: usize, steps: usize) -> usize
+    requires within { first ≤ n }
+    requires below { steps < n }
+    ensures value { result ≡ index_round n first steps }
+    ensures in_range { result < n }
+{
+    if steps < n - first {
+        first + steps
+    } else {
+        steps - (n - first)
+    }
+}
+
+/// Counts the nodes of the points anew, where the one at an index has gone.
+fn close_up(points: &mut [Point], gone: usize)
+    ensures { points.new ≡ map (closed_up gone) points.old }
+{
+    for point in points.iter_mut() {
+        if point.node > gone {
+            point.node -= 1;
+        }
+    }
+}
+
+/// Takes the points of a node out.
+fn take_points(points: &mut Vec<Point>, gone: usize)
+    ensures { points.new.items ≡ left_without gone points.old.items }
+{
+    points.retain(|point| point.node != gone);
+    close_up(points, gone);
+}
+
+/// Whether the name is one of these.
+fn is_among(names: &[&[u8]], name: &[u8]) -> bool
+    ensures { IsTrue result ↔ Contains (texts names.now) name.now }
+{
+    names.contains(&name)
+}
+
+/// The names of the first `n` different nodes whose points come round from the place.
+fn names_round<'a, H: Piecewise>(
+    alloc: Global,
+    nodes: &'a [Node],
+    points: &[Point],
+    place: u64,
+    n: usize,
+) -> Result<Vec<&'a [u8]>, AllocError>
+    requires { IsRing H.hash_of (pairs nodes.now) points.now }
+    ensures own { IfOk result (λ xs.
+        AreOwners H.hash_of (ring_of nodes.now) place (texts xs.items)) }
+    ensures count { IfOk result (λ xs. length xs.items ≡ min n (map.len (ring_of nodes.now))) }
+    ensures different { IfOk result (λ xs. AllPairs (λ a b. a ≢ b) (texts xs.items)) }
+{
+    let mut names = Vec::new(alloc);
+    let first = first_from(points, place);
+    for steps in 0..points.len() {
+        if names.len() == n {
+            return Ok(names);
+        }
+        let point = points[index_round(points.len(), first, steps)];
+        let name = nodes[point.node].name.as_slice();
+        if !is_among(&names, name) {
+            names.push(name)?;
+        }
+    }
+    Ok(names)
+}
+
+impl<H: Piecewise> Ring<H> {
+    /// The ring of no nodes.
+    pub fn new(alloc: Global) -> Self
+        ensures { result ≡ map.empty }
+    {
+        Ring {
+            nodes: Vec::new(alloc),
+            points: Vec::new(alloc),
+            hasher: PhantomData,
+        }
+    }
+
+    /// How many nodes there are.
+    pub fn len(&self) -> usize
+        ensures { result ≡ map.len self.now }
+    {
+        self.nodes.len()
+    }
+
+    /// The nodes with their weights, in the order of their names, byte by byte.
+    pub fn nodes(&self) -> &[Node]
+        ensures { pairs result.now ≡ map.entries self.now }
+    {
+        &self.nodes
+    }
+
+    /// Puts a node of `weight` points on the ring. Where a node of this name is there, or where there is no memory, the ring stays as it
+    /// was, and the name comes back.
+    ///
+    /// All points are made and sorted anew, so the time grows with all weights together.
+    pub fn add(&mut self, name: Vec<u8>, weight: u64) -> Result<(), Refused>
+        requires { 1 ≤ weight }
+        ensures added { OnOk result (self.new ≡ map.insert self.old name.items weight) }
+        ensures new { OnOk result (map.get self.old name.items ≡ None) }
+        ensures unchanged { OnErr result (self.new ≡ self.old) }
+        ensures err { IfErr result (HandsBack self.old name) }
+    {
+        let at = match place_of(&self.nodes, &name) {
+            Ok(_) => return Err(Refused::IsThere(name)),
+            Err(at) => at,
+        };
+        if let Err(AllocFailed { value }) = self.nodes.insert(at, Node { name, weight }) {
+            return Err(Refused::NoRoom(value.name));
+        }
+        match all_points::<H>(*self.nodes.allocator(), &self.nodes) {
+            Ok(points) => {
+                self.points = points;
+                Ok(())
+            }
+            Err(AllocError) => Err(Refused::NoRoom(self.nodes.remove(at).name)),
+        }
+    }
+
+    /// Takes the node off the ring, and answers its weight. It takes no memory.
+    pub fn remove(&mut self, name: &[u8]) -> Option<u64>
+        ensures value { result ≡ map.get self.old name.now }
+        ensures removed { self.new ≡ map.remove self.old name.now }
+    {
+        let Ok(gone) = place_of(&self.nodes, name) else {
+            return None;
+        };
+        take_points(&mut self.points, gone);
+        Some(self.nodes.remove(gone).weight)
+    }
+
+    /// The name of the node that owns the key: that of the first point at or after the key's hash, round the ring. `None` where there
+    /// are no nodes. It is a binary search, and takes no memory.
+    pub fn owner(&self, key: &[u8]) -> Option<&[u8]>
+        ensures owns { IfSome result (λ x. IsOwner H.hash_of self.now (H.hash_of key.now) x.now) }
+        ensures none { IfNone result (self.now ≡ map.empty) }
+    {
+        if self.points.is_empty() {
+            return None;
+        }
+        let first = first_from(&self.points, hash_of::<H>(key));
+        let point = self.points[index_round(self.points.len(), first, 0)];
+        Some(&self.nodes[point.node].name)
+    }
+
+    /// The names of the first `n` different nodes round the ring from the key's hash, or of all nodes where there are fewer. The first is
+    /// the owner, the second would own the key if the first were gone, and so on. It refuses only for want of memory.
+    pub fn owners(&self, alloc: Global, key: &[u8], n: usize) -> Result<Vec<&[u8]>, AllocError>
+        ensures own { IfOk result (λ xs.
+            AreOwners H.hash_of self.now (H.hash_of key.now) (texts xs.items)) }
+        ensures count { IfOk result (λ xs. length xs.items ≡ min n (map.len self.now)) }
+        ensures different { IfOk result (λ xs. AllPairs (λ a b. a ≢ b) (texts xs.items)) }
+    {
+        names_round::<H>(alloc, &self.nodes, &self.points, hash_of::<H>(key), n)
+    }
+}
+
+/// A key has one owner, with no code.
+pub fn one_owner_alone<H: Piecewise>()
+    ensures { (m : Nodes) (at : ℕ) (a b : List ℕ)
+        → IsOwner H.hash_of m at a → IsOwner H.hash_of m at b → a ≡ b }
+{}
+
+/// What a removal moves, with no code: only the keys that the node owned, and no key to that node.
+pub fn removal_moves_only_its_keys<H: Piecewise>()
+    ensures moves { (m : Nodes) (gone : List ℕ)
+        → MovesOnlyFrom H.hash_of m (map.remove m gone) gone }
+    ensures keeps { (m : Nodes) (gone : List ℕ) → OthersKeep H.hash_of m (map.remove m gone) gone }
+    ensures gone { (m : Nodes) (gone : List ℕ) → OwnsNothing H.hash_of (map.remove m gone) gone }
+{}
+
+/// What a new node moves, with no code: keys to that node alone.
+pub fn new_node_moves_keys_only_to_it<H: Piecewise>()
+    ensures { (m : Nodes) (new : List ℕ) (w : ℕ) → map.get m new ≡ None
+        → MovesOnlyTo H.hash_of m (map.insert m new w) new }
+{}
+
+/// To add a node and to remove it again leaves the nodes as they were, with no code, and so each owner.
+pub fn removal_undoes_adding()
+    ensures { (m : Nodes) (k : List ℕ) (w : ℕ) → map.get m k ≡ None
+        → map.remove (map.insert m k w) k ≡ m }
+{}
+
+/// The order in which nodes came doesn't show, with no code: two orders lead to the same nodes, and so to the same owners.
+pub fn order_does_not_show()
+    ensures { (m : Nodes) (k : List ℕ) (v : ℕ) (q : List ℕ) (w : ℕ) → k ≢ q
+        → ComeInAnyOrder m k v q w }
+{}
+
+/// What the loss of a node does to the owners of a key, with no code. The others are the first owners then, in the order that they
+/// had; and of two lists of owners of a key the longer begins with the shorter.
+pub fn other_owners_keep_their_order<H: Piecewise>()
+    ensures kept { (m : Nodes) (gone : List ℕ) → KeepOrder H.hash_of m gone }
+    ensures alike { (m : Nodes) (at : ℕ) (xs ys : List (List ℕ)) → BeginAlike H.hash_of m at xs ys }
+{}
