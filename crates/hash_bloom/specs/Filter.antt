@@ -1,0 +1,71 @@
+-- A Bloom filter as a set of bits, and the places that a key has there.
+use Rattle.std.specs.Prelude.{ℕ, ◌≡◌, ◌↔◌, ◌⊎◌, ◌+◌, ◌*◌, ◌/◌, ◌%◌, ◌<◌, ◌≤◌, List, [], ◌∷◌, length, slice_index, max}
+use Rattle.std.specs.Int.{bit_at}
+
+-- how many bits a filter has, how many probes each key has, and the bits in words of 64
+pub record Filter : Type 0 where
+  pub bits : ℕ
+  pub probes : ℕ
+  pub words : List ℕ
+
+-- bit i is set: that of value 2 ^ (i mod 64) in word i / 64
+abbrev pub HasBit : List ℕ → ℕ → Type 0
+HasBit words i = bit_at (slice_index words (i / 64)) (i % 64) ≡ 1
+
+abbrev pub IsSet : Filter → ℕ → Type 0
+IsSet filter i = HasBit filter.words i
+
+-- there are a bit and a probe at least, as many words as the bits need, and no bit beyond is set
+pub record IsFilter (filter : Filter) : Type 0 where
+  pub bits : 1 ≤ filter.bits
+  pub probes : 1 ≤ filter.probes
+  pub enough : filter.bits ≤ 64 * length filter.words
+  pub no_more : 64 * length filter.words < filter.bits + 64
+  pub within : (i : ℕ) → IsSet filter i → i < filter.bits
+
+-- ---- the places of a key
+-- the place of probe i among so many bits, by two hashes
+abbrev pub place : ℕ → ℕ → ℕ → ℕ → ℕ
+place bits first second i = (first + i * second) % bits
+
+-- one of the first n places is j
+abbrev pub IsAmong : (ℕ → ℕ) → ℕ → ℕ → Type 0
+IsAmong places n j = (i : ℕ) × (i < n) × (places i ≡ j)
+
+-- the bits at the first n places are set
+abbrev pub HasAll : List ℕ → (ℕ → ℕ) → ℕ → Type 0
+HasAll words places n = (i : ℕ) → i < n → HasBit words (places i)
+
+module _ (f g : List ℕ → ℕ) (filter : Filter) where
+  -- one of the key's probes is at j
+  abbrev pub IsProbe : List ℕ → ℕ → Type 0
+  IsProbe key j = IsAmong (place filter.bits (f key) (g key)) filter.probes j
+
+  -- all of the key's probes are set
+  abbrev pub Passes : List ℕ → Type 0
+  Passes key = HasAll filter.words (place filter.bits (f key) (g key)) filter.probes
+
+  -- one of some key's probes is at j
+  abbrev pub IsProbeOfAny : List (List ℕ) → ℕ → Type 0
+  IsProbeOfAny [] j = ⊥
+  IsProbeOfAny (key ∷ keys) j = IsProbe key j ⊎ IsProbeOfAny keys j
+
+-- ---- changes
+abbrev pub IsEmpty : Filter → Type 0
+IsEmpty filter = (j : ℕ) → IsSet filter j → ⊥
+
+-- so many bits and probes
+abbrev pub HasShape : ℕ → ℕ → Filter → Type 0
+HasShape bits probes filter = (filter.bits ≡ bits) × (filter.probes ≡ probes)
+
+abbrev pub Fits : Filter → Filter → Type 0
+Fits a b = HasShape a.bits a.probes b
+
+-- the bits that were set, those of a set, and no others
+pub record Adds (old new : Filter) (more : ℕ → Type 0) : Type 0 where
+  pub shape : Fits old new
+  pub set : (j : ℕ) → IsSet new j ↔ (IsSet old j ⊎ more j)
+
+-- the whole number of probes that lets the fewest strange keys pass, at so many bits a key: ln 2 of them
+abbrev pub best_probes : ℕ → ℕ
+best_probes bits_per_key = max 1 ((693 * bits_per_key + 500) / 1000)
