@@ -1,3 +1,4 @@
 pub mod OneBit
 pub mod Places
+pub mod Runs
 pub mod Words

@@ -1,5 +1,5 @@
 -- A Bloom filter as a set of bits, and the places that a key has there.
-use Rattle.std.specs.Prelude.{ℕ, ◌≡◌, ◌↔◌, ◌⊎◌, ◌+◌, ◌*◌, ◌/◌, ◌%◌, ◌<◌, ◌≤◌, List, [], ◌∷◌, length, slice_index, max}
+use Rattle.std.specs.Prelude.{ℕ, ◌≡◌, ◌↔◌, ◌⊎◌, ◌+◌, ◌*◌, ◌/◌, ◌%◌, ◌<◌, ◌≤◌, List, length, slice_index, max}
 use Rattle.std.specs.Int.{bit_at}
 
 -- how many bits a filter has, how many probes each key has, and the bits in words of 64
@@ -45,10 +45,9 @@ module _ (f g : List ℕ → ℕ) (filter : Filter) where
   abbrev pub Passes : List ℕ → Type 0
   Passes key = HasAll filter.words (place filter.bits (f key) (g key)) filter.probes
 
-  -- one of some key's probes is at j
-  abbrev pub IsProbeOfAny : List (List ℕ) → ℕ → Type 0
-  IsProbeOfAny [] j = ⊥
-  IsProbeOfAny (key ∷ keys) j = IsProbe key j ⊎ IsProbeOfAny keys j
+  -- no key has all of its probes set
+  abbrev pub PassesNone : Type 0
+  PassesNone = (key : List ℕ) → Passes key → ⊥
 
 -- ---- changes
 abbrev pub IsEmpty : Filter → Type 0

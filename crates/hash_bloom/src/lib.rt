@@ -3,9 +3,10 @@
 
 ghost use Rattle.std.specs.Prelude.{◌≡◌, ◌*◌, ◌≤◌, ◌↔◌, IfOk, IfErr, IsOk, IsTrue, max};
 ghost use Rattle.hashers.specs.Text.{joined};
-ghost use Rattle.hash_bloom.specs.Filter.{Filter, IsFilter, Passes, IsProbe, IsSet, IsEmpty, HasShape, Fits, Adds, best_probes};
+ghost use Rattle.hash_bloom.specs.Filter.{Filter, IsFilter, Passes, PassesNone, IsProbe, IsSet, IsEmpty, HasShape, Fits, Adds, best_probes};
 
 mod bits;
+pub mod commands;
 
 use crate::bits::{has_all, no_bits_beyond, set_all, unite};
 use hashers::laws::{Piecewise, Streamed, hash_of, run_streamed};
@@ -51,6 +52,7 @@ impl<F: Piecewise, G: Piecewise> Bloom<F, G> {
         requires probes { 1 ≤ probes }
         ensures shape { IfOk result (HasShape bits probes) }
         ensures empty { IfOk result IsEmpty }
+        ensures none { IfOk result (PassesNone F.hash_of G.hash_of) }
     {
         let mut words = Vec::new(alloc);
         words.resize(bits.div_ceil(64) as usize, 0)?;
@@ -68,6 +70,7 @@ impl<F: Piecewise, G: Piecewise> Bloom<F, G> {
         requires { 1 ≤ bits_per_key }
         ensures shape { IfOk result (HasShape (max 1 (keys * bits_per_key)) (best_probes bits_per_key)) }
         ensures empty { IfOk result IsEmpty }
+        ensures none { IfOk result (PassesNone F.hash_of G.hash_of) }
     {
         let bits = keys.checked_mul(u64::from(bits_per_key)).ok_or(AllocError)?;
         let probes = ((693 * u64::from(bits_per_key) + 500) / 1000).max(1);
@@ -110,6 +113,7 @@ impl<F: Piecewise, G: Piecewise> Bloom<F, G> {
     pub fn clear(&mut self)
         ensures shape { Fits self.old self.new }
         ensures empty { IsEmpty self.new }
+        ensures none { PassesNone F.hash_of G.hash_of self.new }
     {
         self.words.fill(0);
     }
