@@ -1,4 +1,5 @@
 pub mod OneBit
+pub mod Ones
 pub mod Places
 pub mod Runs
 pub mod Words

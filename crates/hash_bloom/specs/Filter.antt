@@ -1,6 +1,7 @@
 -- A Bloom filter as a set of bits, and the places that a key has there.
 use Rattle.std.specs.Prelude.{ℕ, ◌≡◌, ◌↔◌, ◌⊎◌, ◌+◌, ◌*◌, ◌/◌, ◌%◌, ◌<◌, ◌≤◌, List, length, slice_index, max}
 use Rattle.std.specs.Int.{bit_at}
+use Rattle.std.specs.List.{sum_by, range_with_len}
 
 -- how many bits a filter has, how many probes each key has, and the bits in words of 64
 pub record Filter : Type 0 where
@@ -8,9 +9,16 @@ pub record Filter : Type 0 where
   pub probes : ℕ
   pub words : List ℕ
 
--- bit i is set: that of value 2 ^ (i mod 64) in word i / 64
+-- bit i, 0 or 1: that of value 2 ^ (i mod 64) in word i / 64
+abbrev pub bit : List ℕ → ℕ → ℕ
+bit words i = bit_at (slice_index words (i / 64)) (i % 64)
+
 abbrev pub HasBit : List ℕ → ℕ → Type 0
-HasBit words i = bit_at (slice_index words (i / 64)) (i % 64) ≡ 1
+HasBit words i = bit words i ≡ 1
+
+-- how many of the first n bits are set
+abbrev pub count_set : List ℕ → ℕ → ℕ
+count_set words n = sum_by (bit words) (range_with_len 0 n)
 
 abbrev pub IsSet : Filter → ℕ → Type 0
 IsSet filter i = HasBit filter.words i

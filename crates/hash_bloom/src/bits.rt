@@ -1,6 +1,8 @@
 //! Bits in words of 64, and the places of a key's probes among them.
 ghost use Rattle.std.specs.Prelude.{◌≡◌, ◌+◌, ◌*◌, ◌%◌, ◌<◌, ◌≤◌, ◌↔◌, ◌⊎◌, ℕ, IsTrue, length};
-ghost use Rattle.hash_bloom.specs.Filter.{HasBit, HasAll, IsAmong, place};
+ghost use Rattle.std.specs.Int.RustNames.{count_ones};
+ghost use Rattle.std.specs.List.{sum_by};
+ghost use Rattle.hash_bloom.specs.Filter.{HasBit, HasAll, IsAmong, count_set, place};
 
 /// Whether the bit is set.
 fn has_bit(words: &[u64], at: u64) -> bool
@@ -81,4 +83,20 @@ pub fn no_bits_beyond(words: &[u64], bits: u64) -> bool
     ensures { IsTrue result ↔ ((j : ℕ) → HasBit words.now j → j < bits) }
 {
     bits % 64 == 0 || words[(bits / 64) as usize] >> (bits % 64) == 0
+}
+
+/// How many bits of all words are set.
+fn ones_of_words(words: &[u64]) -> u128
+    ensures { result ≡ sum_by count_ones words.now }
+{
+    words.iter().map(|word| u128::from(word.count_ones())).sum()
+}
+
+/// How many bits are set, of which none lies beyond the first `bits`.
+pub fn ones(words: &[u64], bits: u64) -> u64
+    requires enough { bits ≤ 64 * length words.now }
+    requires within { (j : ℕ) → HasBit words.now j → j < bits }
+    ensures { result ≡ count_set words.now bits }
+{
+    ones_of_words(words) as u64
 }

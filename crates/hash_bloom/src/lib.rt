@@ -3,12 +3,12 @@
 
 ghost use Rattle.std.specs.Prelude.{◌≡◌, ◌*◌, ◌≤◌, ◌↔◌, IfOk, IfErr, IsOk, IsTrue, max};
 ghost use Rattle.hashers.specs.Text.{joined};
-ghost use Rattle.hash_bloom.specs.Filter.{Filter, IsFilter, Passes, PassesNone, IsProbe, IsSet, IsEmpty, HasShape, Fits, Adds, best_probes};
+ghost use Rattle.hash_bloom.specs.Filter.{Filter, IsFilter, Passes, PassesNone, IsProbe, IsSet, IsEmpty, HasShape, Fits, Adds, best_probes, count_set};
 
 mod bits;
 pub mod commands;
 
-use crate::bits::{has_all, no_bits_beyond, set_all, unite};
+use crate::bits::{has_all, no_bits_beyond, ones, set_all, unite};
 use hashers::laws::{Piecewise, Streamed, hash_of, run_streamed};
 use std::alloc::{AllocError, Global};
 use std::marker::{Model, PhantomData};
@@ -116,6 +116,13 @@ impl<F: Piecewise, G: Piecewise> Bloom<F, G> {
         ensures none { PassesNone F.hash_of G.hash_of self.new }
     {
         self.words.fill(0);
+    }
+
+    /// How many bits are set.
+    pub fn ones(&self) -> u64
+        ensures { result ≡ count_set self.now.words self.now.bits }
+    {
+        ones(&self.words, self.bits)
     }
 
     /// How many bits the filter has.
