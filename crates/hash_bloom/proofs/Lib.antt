@@ -1,3 +1,4 @@
+pub mod Masks
 pub mod OneBit
 pub mod Ones
 pub mod Places

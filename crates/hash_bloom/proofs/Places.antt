@@ -1,15 +1,15 @@
 -- The places of probes, one after another.
-use Rattle.std.proofs.Common.{ℕ, ◌≡◌, ◌⊎◌, ◌↔◌, ◌+◌, ◌*◌, ◌%◌, ◌<◌, ◌≤◌, Bool, ◌&&◌, IsTrue, List, sym, ap, ◌∙◌, subst, arith, ⊎_elim, inl, inr, below_more}
+use Rattle.std.proofs.Common.{ℕ, ◌≡◌, ◌⊎◌, ◌↔◌, ◌+◌, ◌*◌, ◌%◌, ◌<◌, ◌≤◌, Bool, ◌&&◌, IsTrue, List, sym, ap, ap₂, ◌∙◌, subst, arith, ⊎_elim, inl, inr, below_more}
 use Rattle.std.proofs.Math.Nat.{add-mod}
 use Rattle.std.proofs.lemmas.Bool.{cases_lt, and_parts, and_from}
 use Rattle.hash_bloom.specs.Filter.{HasBit, HasAll, IsAmong, place}
 
 -- a step further is the next probe's place
-pub next_probe : (bits first second i at : ℕ) → at ≡ place bits first second i
-    → (at + second % bits) % bits ≡ place bits first second (i + 1)
-next_probe bits first second i at is =
+pub next_probe : (bits first second i step at : ℕ) → step ≡ second % bits → at ≡ place bits first second i
+    → (at + step) % bits ≡ place bits first second (i + 1)
+next_probe bits first second i step at s is =
     let more : first + (i + 1) * second ≡ first + i * second + second = grind arith in
-    ap (λ n. (n + second % bits) % bits) is
+    ap₂ (λ m n. (m + n) % bits) is s
     ∙ sym (add-mod (first + i * second) second bits) ∙ ap (λ n. n % bits) (sym more)
 
 module _ (places : ℕ → ℕ) (i at : ℕ) (is : at ≡ places i) where

@@ -30,6 +30,18 @@ fn next_place(at: u64, step: u64, bits: u64) -> u64
     if at < left { at + step } else { at - left }
 }
 
+/// The remainder, by a mask where `bits` is a power of two.
+fn remainder(hash: u64, bits: u64) -> u64
+    requires { 1 ≤ bits }
+    ensures { result ≡ hash % bits }
+{
+    if bits & (bits - 1) == 0 {
+        hash & (bits - 1)
+    } else {
+        hash % bits
+    }
+}
+
 /// Sets the bits of all probes, and answers whether all of them were set before.
 pub fn set_all(words: &mut [u64], bits: u64, probes: u32, first: u64, second: u64) -> bool
     requires some { 1 ≤ bits }
@@ -38,8 +50,8 @@ pub fn set_all(words: &mut [u64], bits: u64, probes: u32, first: u64, second: u6
         ↔ (HasBit words.old j ⊎ IsAmong (place bits first second) probes j) }
     ensures before { IsTrue result ↔ HasAll words.old (place bits first second) probes }
 {
-    let step = second % bits;
-    let mut at = first % bits;
+    let step = remainder(second, bits);
+    let mut at = remainder(first, bits);
     let mut before = true;
     for _ in 0..probes {
         before &= has_bit(words, at);
@@ -55,8 +67,8 @@ pub fn has_all(words: &[u64], bits: u64, probes: u32, first: u64, second: u64) -
     requires there { bits ≤ 64 * length words.now }
     ensures { IsTrue result ↔ HasAll words.now (place bits first second) probes }
 {
-    let step = second % bits;
-    let mut at = first % bits;
+    let step = remainder(second, bits);
+    let mut at = remainder(first, bits);
     for _ in 0..probes {
         if !has_bit(words, at) {
             return false;
