@@ -7,6 +7,8 @@ ghost use Rattle.hash_bloom.specs.Filter.{Filter, IsFilter, Passes, PassesNone, 
 
 mod bits;
 pub mod commands;
+#[cfg(test)]
+mod tests;
 
 use crate::bits::{has_all, no_bits_beyond, ones, set_all, unite};
 use hashers::laws::{Piecewise, Streamed, hash_of, run_streamed};
