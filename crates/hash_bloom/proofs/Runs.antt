@@ -1,7 +1,7 @@
 -- Changes one after another, and what they leave to be found.
 use Rattle.std.proofs.Common.{ℕ, ◌≡◌, ◌⊎◌, ◌↔◌, ◌<◌, List, [], ◌∷◌, ◌++◌, refl, sym, ap, ◌∙◌, subst, ⊎_elim, inl, inr, length, append_assoc}
 use Rattle.std.proofs.lemmas.List.{append-nil, nil_from_length}
-use Rattle.hash_bloom.specs.Filter.{Filter, IsSet, HasBit, IsProbe, Passes, Fits, Adds, place}
+use Rattle.hash_bloom.specs.Filter.{Filter, IsSet, HasBit, IsProbe, IsCovered, Passes, Fits, Adds, place}
 use Rattle.hash_bloom.specs.Commands.{SetsBit, AnySetsBit, Inserts}
 use Rattle.hash_bloom.specs.declared.commands.Command.{Command}
 use Rattle.hash_bloom.specs.declared.commands.Command.TheVariants.{Insert, Union, Store}
@@ -14,14 +14,25 @@ pub split_end : {X : Type 0} (all done rest : List X) → all ≡ done ++ rest �
 split_end all done rest split none = sym (split ∙ ap (λ t. done ++ t) (nil_from_length rest none) ∙ append-nil done)
 
 module _ (f g : List ℕ → ℕ) where
-  -- a key whose probes are all added is found
-  pub found_after : (old new : Filter) (more : ℕ → Type 0) (key : List ℕ) → Adds old new more
-      → ((j : ℕ) → IsProbe f g old key j → IsSet old j ⊎ more j) → Passes f g new key
-  found_after old new more key adds probes i less =
-      let less' : i < old.probes = subst (λ (n : ℕ). i < n) adds.shape.1 less in
-      let at : ℕ = place old.bits (f key) (g key) i in
-      subst (λ (bits : ℕ). HasBit new.words (place bits (f key) (g key) i)) (sym adds.shape.0)
-      ((adds.set at).1 (probes at (i, less', refl)))
+  -- a key is found exactly where its probes were set or are added
+  pub found_exactly : (old new : Filter) (more : ℕ → Type 0) (key : List ℕ) → Adds old new more
+      → Passes f g new key ↔ IsCovered f g old key more
+  found_exactly old new more key adds = (
+    λ found j probe.
+        let less : probe.0 < new.probes = subst (λ (n : ℕ). probe.0 < n) (sym adds.shape.1) probe.1 in
+        let at : place new.bits (f key) (g key) probe.0 ≡ j = ap (λ bits. place bits (f key) (g key) probe.0) adds.shape.0 ∙ probe.2 in
+        (adds.set j).0 (subst (HasBit new.words) at (found probe.0 less)),
+    λ covered i less.
+        let less' : i < old.probes = subst (λ (n : ℕ). i < n) adds.shape.1 less in
+        subst (λ (bits : ℕ). HasBit new.words (place bits (f key) (g key) i)) (sym adds.shape.0)
+        ((adds.set (place old.bits (f key) (g key) i)).1 (covered _ (i, less', refl))),
+  )
+
+  -- what another filter of as many bits and probes finds is covered by its bits
+  pub covered_by : (old other : Filter) (key : List ℕ) → Fits old other → Passes f g other key → IsCovered f g old key (IsSet other)
+  covered_by old other key fits found j probe =
+      let less : probe.0 < other.probes = subst (λ (n : ℕ). probe.0 < n) (sym fits.1) probe.1 in
+      inr (subst (HasBit other.words) (ap (λ bits. place bits (f key) (g key) probe.0) fits.0 ∙ probe.2) (found probe.0 less))
 
   module _ {F G : Type 0} where
     -- which bits a command sets depends on the number of bits and probes alone
@@ -76,4 +87,4 @@ module _ (f g : List ℕ → ℕ) where
     pub inserted_found : (a new : Filter) (commands : List (Command F G)) → Adds a new (AnySetsBit f g a commands)
         → (key : List ℕ) → Inserts commands key → Passes f g new key
     inserted_found a new commands adds key inserts =
-        found_after a new (AnySetsBit f g a commands) key adds (λ j probe. inr (inserts_set a commands key inserts j probe))
+        (found_exactly a new (AnySetsBit f g a commands) key adds).1 (λ j probe. inr (inserts_set a commands key inserts j probe))

@@ -53,6 +53,10 @@ module _ (f g : List ℕ → ℕ) (filter : Filter) where
   abbrev pub Passes : List ℕ → Type 0
   Passes key = HasAll filter.words (place filter.bits (f key) (g key)) filter.probes
 
+  -- each of the key's probes is set, or among more
+  abbrev pub IsCovered : List ℕ → (ℕ → Type 0) → Type 0
+  IsCovered key more = (j : ℕ) → IsProbe key j → IsSet filter j ⊎ more j
+
   -- no key has all of its probes set
   abbrev pub PassesNone : Type 0
   PassesNone = (key : List ℕ) → Passes key → ⊥

@@ -1,6 +1,6 @@
 //! What stands after any list of commands.
-ghost use Rattle.std.specs.Prelude.{◌≡◌, ◌≤◌, ℕ, List, IfOk, All, IsTrue, false};
-ghost use Rattle.hash_bloom.specs.Filter.{Adds, Fits, Passes};
+ghost use Rattle.std.specs.Prelude.{◌≡◌, ◌≤◌, ◌↔◌, ℕ, List, IfOk, All, IsTrue, false};
+ghost use Rattle.hash_bloom.specs.Filter.{Adds, Fits, IsCovered, IsSet, Passes};
 ghost use Rattle.hash_bloom.specs.Commands.{CanRun, SetsBit, AnySetsBit, Inserts};
 
 use crate::{Bloom, NoFilter};
@@ -60,27 +60,32 @@ pub fn obey_all<F: Piecewise, G: Piecewise>(
     filter
 }
 
-/// No false negative: after any list of inserts, unions and stores each key that was inserted is found.
-pub fn inserted_is_found<F: Piecewise, G: Piecewise>(
-    filter: Bloom<F, G>,
-    commands: Vec<Command<F, G>>,
-    key: &[u8],
-) -> bool
-    requires can_run { All (CanRun filter) commands.items }
-    requires inserted { Inserts commands.items key.now }
-    ensures { IsTrue result }
-{
-    obey_all(filter, commands).contains(key)
-}
-
-/// Where `insert` answers `false`, no command before had inserted the key.
-pub fn new_was_not_inserted<F: Piecewise, G: Piecewise>(
+/// Whether the key is found after the commands. No false negative: after any list of inserts, unions and stores each key that
+/// was inserted is found.
+pub fn found_after<F: Piecewise, G: Piecewise>(
     filter: Bloom<F, G>,
     commands: Vec<Command<F, G>>,
     key: &[u8],
 ) -> bool
     requires { All (CanRun filter) commands.items }
-    ensures { result ≡ false → Inserts commands.items key.now → ⊥ }
+    ensures exactly { IsTrue result ↔ IsCovered F.hash_of G.hash_of filter key.now
+        (AnySetsBit F.hash_of G.hash_of filter commands.items) }
+    ensures inserted { Inserts commands.items key.now → IsTrue result }
+{
+    obey_all(filter, commands).contains(key)
+}
+
+/// What `insert` answers after the commands: whether the key was possibly there. Where it answers `false`, no command had
+/// inserted the key.
+pub fn known_after<F: Piecewise, G: Piecewise>(
+    filter: Bloom<F, G>,
+    commands: Vec<Command<F, G>>,
+    key: &[u8],
+) -> bool
+    requires { All (CanRun filter) commands.items }
+    ensures exactly { IsTrue result ↔ IsCovered F.hash_of G.hash_of filter key.now
+        (AnySetsBit F.hash_of G.hash_of filter commands.items) }
+    ensures new { result ≡ false → Inserts commands.items key.now → ⊥ }
 {
     obey_all(filter, commands).insert(key)
 }
@@ -100,17 +105,17 @@ pub fn empty_finds_nothing<F: Piecewise, G: Piecewise>(
     Ok(filter.contains(key))
 }
 
-/// What either of two filters finds, their union finds: the answers of the one, the other and the union.
-pub fn union_finds_both<F: Piecewise, G: Piecewise>(
+/// Whether the key is found in the union: it is where either finds it.
+pub fn found_in_union<F: Piecewise, G: Piecewise>(
     filter: &mut Bloom<F, G>,
     other: &Bloom<F, G>,
     key: &[u8],
-) -> (bool, bool, bool)
+) -> bool
     requires { Fits filter.old other.now }
-    ensures one { IsTrue result.0 → IsTrue result.2 }
-    ensures other { IsTrue result.1 → IsTrue result.2 }
+    ensures exactly { IsTrue result ↔ IsCovered F.hash_of G.hash_of filter.old key.now (IsSet other.now) }
+    ensures one { Passes F.hash_of G.hash_of filter.old key.now → IsTrue result }
+    ensures other { Passes F.hash_of G.hash_of other.now key.now → IsTrue result }
 {
-    let (one, two) = (filter.contains(key), other.contains(key));
     filter.union(other);
-    (one, two, filter.contains(key))
+    filter.contains(key)
 }

@@ -4,8 +4,7 @@ ghost use Rattle.hash_bloom.specs.Commands.{CanRun, Inserts};
 ghost use Rattle.hash_bloom.specs.Filter.{Filter, HasShape};
 
 use crate::commands::{
-    Command, empty_finds_nothing, inserted_is_found, new_was_not_inserted, obey, obey_all,
-    union_finds_both,
+    Command, empty_finds_nothing, found_after, found_in_union, known_after, obey, obey_all,
 };
 use crate::{Bloom, NoFilter};
 use hashers::fnv::{FNV1aHasher64, FnvBuildHasher, FnvHashSet};
@@ -284,25 +283,16 @@ fn commands_in_order(rt: HostRuntime) {
 #[test]
 fn laws_are_calls(rt: HostRuntime) {
     let alloc = rt.alloc();
-    let found = inserted_is_found(
-        made::<NullHasher, LoseLoseHasher>(&rt, alloc, 100, 4),
-        inserts(&rt, alloc, b"a"),
-        b"a",
-    );
-    let new = new_was_not_inserted(
-        made::<NullHasher, LoseLoseHasher>(&rt, alloc, 100, 4),
-        inserts(&rt, alloc, b"a"),
-        b"b",
-    );
-    let none = match empty_finds_nothing::<NullHasher, LoseLoseHasher>(alloc, 100, 4, b"a") {
-        Ok(found) => !found,
-        Err(AllocError) => false,
-    };
+    let one: ByStep = made(&rt, alloc, 100, 4);
+    let two: ByStep = made(&rt, alloc, 100, 4);
+    let found = found_after(one, inserts(&rt, alloc, b"a"), b"a");
+    let known = known_after(two, inserts(&rt, alloc, b"a"), b"b");
     let mut filter: ByStep = made(&rt, alloc, 100, 4);
     let mut other: ByStep = made(&rt, alloc, 100, 4);
     other.insert(b"a");
-    let both = union_finds_both(&mut filter, &other, b"a");
-    all_hold(&rt, &[found, !new, none, !both.0, both.1, both.2]);
+    let both = found_in_union(&mut filter, &other, b"a");
+    let none = empty_finds_nothing::<NullHasher, LoseLoseHasher>(alloc, 100, 4, b"a");
+    all_hold(&rt, &[found, !known, both, matches!(none, Ok(false))]);
 }
 
 /// Where memory is refused there is no filter, and the next call makes one.
