@@ -77,6 +77,6 @@ pub record Adds (old new : Filter) (more : ℕ → Type 0) : Type 0 where
   pub shape : Fits old new
   pub set : (j : ℕ) → IsSet new j ↔ (IsSet old j ⊎ more j)
 
--- the whole number of probes that lets the fewest strange keys pass, at so many bits a key: ln 2 of them
+-- how many probes let few strange keys pass, at so many bits a key: about ln 2 of them, to the nearest whole number
 abbrev pub best_probes : ℕ → ℕ
 best_probes bits_per_key = max 1 ((693 * bits_per_key + 500) / 1000)

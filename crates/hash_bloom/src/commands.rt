@@ -1,4 +1,4 @@
-//! What stands after any list of commands.
+//! What stands after any list of commands, and what follows: no key is forgotten.
 ghost use Rattle.std.specs.Prelude.{◌≡◌, ◌≤◌, ◌↔◌, ℕ, List, IfOk, All, IsTrue, false};
 ghost use Rattle.hash_bloom.specs.Filter.{Adds, Fits, IsCovered, IsSet, Passes};
 ghost use Rattle.hash_bloom.specs.Commands.{CanRun, SetsBit, AnySetsBit, Inserts};
@@ -12,13 +12,13 @@ use std::alloc::{AllocError, Global};
 pub enum Command<F: Piecewise, G: Piecewise> {
     /// Inserts the key.
     Insert(Vec<u8>),
-    /// Adds the bits of another filter.
+    /// Adds the bits of another filter, of as many bits and probes.
     Union(Bloom<F, G>),
     /// Takes the filter's words, and makes the filter of them again.
     Store,
 }
 
-/// Does a command.
+/// Does a command. The bits that were set stay, those of the command are set, and no others.
 pub fn obey<F: Piecewise, G: Piecewise>(
     mut filter: Bloom<F, G>,
     command: Command<F, G>,
@@ -45,7 +45,8 @@ pub fn obey<F: Piecewise, G: Piecewise>(
     }
 }
 
-/// Does the commands in order.
+/// Does the commands in order. A bit is set afterwards exactly where it was, or where some command sets it: an insert sets the
+/// probes of its key, and a union the bits of its filter. Each key that was inserted is found.
 pub fn obey_all<F: Piecewise, G: Piecewise>(
     mut filter: Bloom<F, G>,
     commands: Vec<Command<F, G>>,
@@ -90,7 +91,7 @@ pub fn known_after<F: Piecewise, G: Piecewise>(
     obey_all(filter, commands).insert(key)
 }
 
-/// The filter of no keys finds none.
+/// What a filter of no keys answers to a key: `false`. It refuses only where there is no memory for the filter.
 pub fn empty_finds_nothing<F: Piecewise, G: Piecewise>(
     alloc: Global,
     bits: u64,
@@ -105,7 +106,7 @@ pub fn empty_finds_nothing<F: Piecewise, G: Piecewise>(
     Ok(filter.contains(key))
 }
 
-/// Whether the key is found in the union: it is where either finds it.
+/// Adds the bits of the other filter, and answers whether the key is found then: it is where either found it.
 pub fn found_in_union<F: Piecewise, G: Piecewise>(
     filter: &mut Bloom<F, G>,
     other: &Bloom<F, G>,
