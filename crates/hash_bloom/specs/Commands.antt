@@ -1,6 +1,6 @@
 -- What commands do to a filter.
 use Rattle.std.specs.Prelude.{ℕ, List, [], ◌∷◌, ◌⊎◌, ◌≡◌}
-use Rattle.hash_bloom.specs.Filter.{Filter, IsProbe, IsSet, Fits}
+use Rattle.hash_bloom.specs.Filter.{Filter, IsCovered, IsProbe, IsSet, Fits}
 use Rattle.hash_bloom.specs.declared.commands.Command.{Command}
 use Rattle.hash_bloom.specs.declared.commands.Command.TheVariants.{Insert, Union, Store}
 
@@ -20,6 +20,10 @@ SetsBit f g filter Store j = ⊥
 abbrev pub AnySetsBit : {F G : Type 0} (f g : List ℕ → ℕ) (filter : Filter) → List (Command F G) → ℕ → Type 0
 AnySetsBit f g filter [] j = ⊥
 AnySetsBit f g filter (command ∷ commands) j = SetsBit f g filter command j ⊎ AnySetsBit f g filter commands j
+
+-- each of the key's probes is set, or set by some command
+abbrev pub IsKnownAfter : {F G : Type 0} (f g : List ℕ → ℕ) (filter : Filter) → List (Command F G) → List ℕ → Type 0
+IsKnownAfter f g filter commands key = IsCovered f g filter key (AnySetsBit f g filter commands)
 
 -- some of the commands inserts the key
 abbrev pub Inserts : {F G : Type 0} → List (Command F G) → List ℕ → Type 0

@@ -9,6 +9,9 @@ pub record Filter : Type 0 where
   pub probes : ℕ
   pub words : List ℕ
 
+abbrev pub filter_of : ℕ → ℕ → List ℕ → Filter
+filter_of bits probes words = record { bits = bits; probes = probes; words = words }
+
 -- bit i, 0 or 1: that of value 2 ^ (i mod 64) in word i / 64
 abbrev pub bit : List ℕ → ℕ → ℕ
 bit words i = bit_at (slice_index words (i / 64)) (i % 64)
@@ -80,3 +83,7 @@ pub record Adds (old new : Filter) (more : ℕ → Type 0) : Type 0 where
 -- how many probes let few strange keys pass, at so many bits a key: about ln 2 of them, to the nearest whole number
 abbrev pub best_probes : ℕ → ℕ
 best_probes bits_per_key = max 1 ((693 * bits_per_key + 500) / 1000)
+
+-- a filter for so many keys: at least one bit
+abbrev pub IsForKeys : ℕ → ℕ → Filter → Type 0
+IsForKeys keys bits_per_key filter = HasShape (max 1 (keys * bits_per_key)) (best_probes bits_per_key) filter

@@ -1,7 +1,7 @@
 //! What stands after any list of commands, and what follows: no key is forgotten.
 ghost use Rattle.std.specs.Prelude.{◌≡◌, ◌≤◌, ◌↔◌, ℕ, List, IfOk, All, IsTrue, false};
 ghost use Rattle.hash_bloom.specs.Filter.{Adds, Fits, IsCovered, IsSet, Passes};
-ghost use Rattle.hash_bloom.specs.Commands.{CanRun, SetsBit, AnySetsBit, Inserts};
+ghost use Rattle.hash_bloom.specs.Commands.{CanRun, SetsBit, AnySetsBit, Inserts, IsKnownAfter};
 
 use crate::{Bloom, NoFilter};
 use hashers::laws::Piecewise;
@@ -69,8 +69,8 @@ pub fn found_after<F: Piecewise, G: Piecewise>(
     key: &[u8],
 ) -> bool
     requires { All (CanRun filter) commands.items }
-    ensures exactly { IsTrue result ↔ IsCovered F.hash_of G.hash_of filter key.now
-        (AnySetsBit F.hash_of G.hash_of filter commands.items) }
+    ensures exactly { IsTrue result
+        ↔ IsKnownAfter F.hash_of G.hash_of filter commands.items key.now }
     ensures inserted { Inserts commands.items key.now → IsTrue result }
 {
     obey_all(filter, commands).contains(key)
@@ -84,8 +84,8 @@ pub fn known_after<F: Piecewise, G: Piecewise>(
     key: &[u8],
 ) -> bool
     requires { All (CanRun filter) commands.items }
-    ensures exactly { IsTrue result ↔ IsCovered F.hash_of G.hash_of filter key.now
-        (AnySetsBit F.hash_of G.hash_of filter commands.items) }
+    ensures exactly { IsTrue result
+        ↔ IsKnownAfter F.hash_of G.hash_of filter commands.items key.now }
     ensures new { result ≡ false → Inserts commands.items key.now → ⊥ }
 {
     obey_all(filter, commands).insert(key)

@@ -7,7 +7,7 @@
 
 ghost use Rattle.std.specs.Prelude.{◌≡◌, ◌*◌, ◌≤◌, ◌↔◌, IfOk, IfErr, IsOk, IsTrue, max};
 ghost use Rattle.hashers.specs.Text.{joined};
-ghost use Rattle.hash_bloom.specs.Filter.{Filter, IsFilter, Passes, PassesNone, IsProbe, IsSet, IsEmpty, HasShape, Fits, Adds, best_probes, count_set};
+ghost use Rattle.hash_bloom.specs.Filter.{Filter, IsFilter, Passes, PassesNone, IsProbe, IsSet, IsEmpty, HasShape, Fits, Adds, IsForKeys, count_set, filter_of};
 
 mod bits;
 pub mod commands;
@@ -44,9 +44,9 @@ pub struct Bloom<F: Piecewise, G: Piecewise> {
 impl<F: Piecewise, G: Piecewise> Model for Bloom<F, G> {
     ghost Value = { Filter };
 
-    ghost view = { λ b. record { bits = b.bits; probes = b.probes; words = b.words.items } };
+    ghost view = { λ b. filter_of b.bits b.probes b.words.items };
 
-    ghost invariant = { λ b. IsFilter (record { bits = b.bits; probes = b.probes; words = b.words.items }) };
+    ghost invariant = { λ b. IsFilter (filter_of b.bits b.probes b.words.items) };
 }
 
 /// The hash of the joined pieces, which are not joined for it.
@@ -103,7 +103,7 @@ impl<F: Piecewise, G: Piecewise> Bloom<F, G> {
     /// | 8 | 6 | 2.16 | 16 | 11 | 0.0459 | 24 | 17 | 0.000984 | 32 | 22 | 0.000021 |
     pub fn for_keys(alloc: Global, keys: u64, bits_per_key: u32) -> Result<Self, AllocError>
         requires { 1 ≤ bits_per_key }
-        ensures shape { IfOk result (HasShape (max 1 (keys * bits_per_key)) (best_probes bits_per_key)) }
+        ensures shape { IfOk result (IsForKeys keys bits_per_key) }
         ensures empty { IfOk result IsEmpty }
         ensures none { IfOk result (PassesNone F.hash_of G.hash_of) }
     {
@@ -195,8 +195,8 @@ impl<F: Piecewise, G: Piecewise> Bloom<F, G> {
     /// The filter of these words, as `words` gave them. It refuses exactly where no filter of so many bits and probes has these
     /// words: no bit, no probe, more or fewer words than the bits need, or a bit set beyond them. The words come back then.
     pub fn from_words(words: Vec<u64>, bits: u64, probes: u32) -> Result<Self, NoFilter>
-        ensures ok { IfOk result (λ filter. filter ≡ record { bits = bits; probes = probes; words = words.items }) }
-        ensures exactly { IsOk result ↔ IsFilter (record { bits = bits; probes = probes; words = words.items }) }
+        ensures ok { IfOk result (λ filter. filter ≡ filter_of bits probes words.items) }
+        ensures exactly { IsOk result ↔ IsFilter (filter_of bits probes words.items) }
         ensures err { IfErr result (λ refused. refused.words ≡ words) }
     {
         let fits = bits > 0 && probes > 0 && words.len() as u64 == bits.div_ceil(64);
