@@ -85,9 +85,10 @@ static uint8_t *keys(size_t count, size_t size, bool random, uint64_t from) {
     return at;
 }
 
+// The processor time so far, in nanoseconds.
 static double now(void) {
     struct timespec t;
-    clock_gettime(CLOCK_MONOTONIC, &t);
+    clock_gettime(CLOCK_PROCESS_CPUTIME_ID, &t);
     return (double)t.tv_sec * 1e9 + (double)t.tv_nsec;
 }
 
@@ -129,53 +130,63 @@ static double time_of(call *found, const uint8_t *there, const uint8_t *asked, s
     return (now() - start) / calls;
 }
 
-// The nanoseconds of an insert, of a `contains` of a key that is there, and of one that is not: [0], [1], [2].
+// The least nanoseconds a key of calls that insert alone, that ask for the same keys too, and that ask for strange ones: [0],
+// [1], [2].
 struct times {
     double of[3];
 };
 
 static void measure(struct times *least, call *found, const uint8_t *there, const uint8_t *strange, size_t count,
                     uint64_t bits, int calls, size_t rounds) {
-    double n = (double)count;
-    double filled = time_of(found, there, there, count * 16, 0, bits, calls);
-    double known = time_of(found, there, there, count * 16, rounds, bits, calls);
-    double other = time_of(found, there, strange, count * 16, rounds, bits, calls);
-    double got[3] = {filled / n, (known - filled) / n / (double)rounds, (other - filled) / n / (double)rounds};
+    double got[3] = {
+        time_of(found, there, there, count * 16, 0, bits, calls),
+        time_of(found, there, there, count * 16, rounds, bits, calls),
+        time_of(found, there, strange, count * 16, rounds, bits, calls),
+    };
     for (int i = 0; i < 3; i++)
-        if (got[i] < least->of[i])
-            least->of[i] = got[i];
+        if (got[i] / (double)count < least->of[i])
+            least->of[i] = got[i] / (double)count;
 }
+
+static const struct timed {
+    const char *name;
+    call *found;
+    uint64_t bits[2]; // or 0 for ten bits a key
+} timed[] = {
+    {"fxhash, fnv1a64", hash_bloom_fxhash_fnv1a64, {0, 0}},
+    {"fxhash, lookup3", hash_bloom_fxhash_lookup3, {0, 0}},
+    {"fnv1a64, lookup3", hash_bloom_fnv1a64_lookup3, {0, 0}},
+    {"fxhash, fnv1a64 at 2^14 and 2^27 bits", hash_bloom_fxhash_fnv1a64, {1 << 14, 1 << 27}},
+    {"libbloom", by_libbloom, {0, 0}},
+};
+enum { TIMED = sizeof timed / sizeof *timed };
 
 static void times(void) {
     static const size_t counts[] = {1000, 10000000};
     printf("| | insert, 10^3 | there, 10^3 | strange, 10^3 | insert, 10^7 | there, 10^7 | strange, 10^7 |\n"
            "|---|---:|---:|---:|---:|---:|---:|\n");
-    struct times least[PAIRS + 2][2];
-    for (int i = 0; i < PAIRS + 2; i++)
-        for (int j = 0; j < 2; j++)
-            least[i][j] = (struct times){{1e18, 1e18, 1e18}};
+    struct times least[TIMED][2];
+    size_t rounds = 4;
     for (int j = 0; j < 2; j++) {
         size_t count = counts[j];
         random_state = 2;
         uint8_t *there = keys(count, 16, true, 0), *strange = keys(count, 16, true, 0);
-        int calls = j == 0 ? 300 : 1;
-        size_t rounds = j == 0 ? 4 : 1;
-        uint64_t power = j == 0 ? 1 << 14 : 1 << 27;
-        for (int turn = 0; turn < (j == 0 ? 20 : 3); turn++) {
-            measure(&least[PAIRS + 1][j], by_libbloom, there, strange, count, 0, calls, rounds);
-            for (int i = 0; i < PAIRS; i++)
-                measure(&least[i][j], pairs[i].found, there, strange, count, 10 * count, calls, rounds);
-            measure(&least[PAIRS][j], hash_bloom_fxhash_fnv1a64, there, strange, count, power, calls, rounds);
-        }
+        for (int i = 0; i < TIMED; i++)
+            least[i][j] = (struct times){{1e18, 1e18, 1e18}};
+        for (int turn = 0; turn < (j == 0 ? 20 : 2); turn++)
+            for (int i = 0; i < TIMED; i++) {
+                uint64_t bits = timed[i].bits[j] == 0 ? 10 * count : timed[i].bits[j];
+                measure(&least[i][j], timed[i].found, there, strange, count, bits, j == 0 ? 100 : 1, rounds);
+            }
         free(there);
         free(strange);
     }
-    for (int i = 0; i < PAIRS + 2; i++) {
-        const char *name = i < PAIRS ? pairs[i].name : i == PAIRS ? "fxhash, fnv1a64 at 2^14 and 2^27 bits" : "libbloom";
-        printf("| %s |", name);
-        for (int j = 0; j < 2; j++)
-            for (int k = 0; k < 3; k++)
-                printf(" %.1f |", least[i][j].of[k]);
+    for (int i = 0; i < TIMED; i++) {
+        printf("| %s |", timed[i].name);
+        for (int j = 0; j < 2; j++) {
+            const double *of = least[i][j].of;
+            printf(" %.0f | %.0f | %.0f |", of[0], (of[1] - of[0]) / (double)rounds, (of[2] - of[0]) / (double)rounds);
+        }
         printf("\n");
     }
 }
