@@ -1,0 +1,6 @@
+pub mod Masks
+pub mod OneBit
+pub mod Ones
+pub mod Places
+pub mod Runs
+pub mod Words

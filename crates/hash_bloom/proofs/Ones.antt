@@ -1,0 +1,110 @@
+-- How many bits are set, by words.
+use Rattle.std.proofs.Common.{ℕ, zero, suc, ◌≡◌, ◌≢◌, ◌+◌, ◌-◌, ◌*◌, ◌/◌, ◌%◌, ◌^◌, ◌<◌, ◌≤◌, List, [], ◌∷◌, length, get_or, refl, sym, ap, ap₂, ◌∙◌, arith, ⊎_elim}
+use Rattle.std.specs.Int.{bit_at}
+use Rattle.std.specs.Int.RustNames.{count_ones}
+use Rattle.std.specs.List.{sum_by, range_with_len}
+use Rattle.std.proofs.lemmas.Bool.{cases_eq}
+use Rattle.std.proofs.lemmas.List.Sums.{sum_by-cons}
+use Rattle.std.proofs.lemmas.Nat.{ones_cat}
+use Rattle.std.proofs.lemmas.Nat.Bits.{bit_at-lt, bit_at-suc, bit_at_lowest}
+use Rattle.hash_bloom.specs.Filter.{bit, count_set}
+
+-- the sum of n numbers from a on
+abbrev sum_from : (ℕ → ℕ) → ℕ → ℕ → ℕ
+sum_from f a n = sum_by f (range_with_len a n)
+
+next : (f : ℕ → ℕ) (a n : ℕ) → sum_from f a (suc n) ≡ f a + sum_from f (a + 1) n
+next f a n = sum_by-cons f a (range_with_len (a + 1) n)
+
+same_sum : (f g : ℕ → ℕ) (a n : ℕ) → ((i : ℕ) → a ≤ i → i < a + n → f i ≡ g i) → sum_from f a n ≡ sum_from g a n
+same_sum f g a zero same = refl
+same_sum f g a (suc n) same = next f a n ∙ ap₂ (λ x y. x + y) (same a (omega arith) (omega arith)) (same_sum f g (a + 1) n (λ i low high. same i (omega arith) (omega arith))) ∙ sym (next g a n)
+
+shifted_sum : (f : ℕ → ℕ) (by a n : ℕ) → sum_from f (by + a) n ≡ sum_from (λ i. f (by + i)) a n
+shifted_sum f by a zero = refl
+shifted_sum f by a (suc n) =
+    let e : by + a + 1 ≡ by + (a + 1) = omega arith in
+    next f (by + a) n ∙ ap (λ s. f (by + a) + s) (ap (λ b. sum_from f b n) e ∙ shifted_sum f by (a + 1) n) ∙ sym (next (λ i. f (by + i)) a n)
+
+split_sum : (f : ℕ → ℕ) (a m n : ℕ) → sum_from f a (m + n) ≡ sum_from f a m + sum_from f (a + m) n
+split_sum f a zero n =
+    let e : zero + n ≡ n = omega arith in
+    let e' : a + zero ≡ a = omega arith in
+    let z : sum_from f a n ≡ 0 + sum_from f a n = omega arith in
+    ap (sum_from f a) e ∙ z ∙ ap (λ b. 0 + sum_from f b n) (sym e')
+split_sum f a (suc m) n =
+    let e : suc m + n ≡ suc (m + n) = omega arith in
+    let e' : a + 1 + m ≡ a + suc m = omega arith in
+    let ih = split_sum f (a + 1) m n in
+    let moved : sum_from f (a + 1 + m) n ≡ sum_from f (a + suc m) n = ap (λ b. sum_from f b n) e' in
+    let whole : f a + sum_from f (a + 1) (m + n) ≡ f a + sum_from f (a + 1) m + sum_from f (a + suc m) n = omega (arith, ih, moved) in
+    ap (sum_from f a) e ∙ next f a (m + n) ∙ whole ∙ ap (λ s. s + sum_from f (a + suc m) n) (sym (next f a m))
+
+small_sum : (f : ℕ → ℕ) (a n : ℕ) → ((i : ℕ) → f i < 2) → sum_from f a n ≤ n
+small_sum f a zero low = omega arith
+small_sum f a (suc n) low = omega (arith, next f a n, low a, small_sum f (a + 1) n low)
+
+zero_sum : (f : ℕ → ℕ) (a n : ℕ) → ((i : ℕ) → a ≤ i → f i ≡ 0) → sum_from f a n ≡ 0
+zero_sum f a zero none = refl
+zero_sum f a (suc n) none = omega (arith, next f a n, none a (omega arith), zero_sum f (a + 1) n (λ i low. none i (omega arith)))
+
+-- a number's ones are the sum of its bits
+ones_low : (r : ℕ) → r < 2 → count_ones r ≡ r
+unfolding count_ones
+ones_low zero low = refl
+ones_low (suc zero) low = refl
+ones_low (suc (suc r)) low = absurd (omega arith)
+
+pub ones_are : (k w : ℕ) → w < 2 ^ k → count_ones w ≡ sum_from (bit_at w) 0 k
+ones_are zero w low = let e : w ≡ 0 = omega arith in ap count_ones e ∙ ones_low 0 (omega arith)
+ones_are (suc k) w low =
+    let power : 2 ^ suc k ≡ 2 * 2 ^ k = grind arith in
+    let half : w / 2 < 2 ^ k = omega (arith, power, low) in
+    let r : ℕ = w % 2 in
+    let whole : w / 2 * 2 ^ 1 + r ≡ w = omega arith in
+    let rest : sum_from (bit_at w) (1 + 0) k ≡ sum_from (bit_at (w / 2)) 0 k =
+    shifted_sum (bit_at w) 1 0 k ∙ same_sum (λ i. bit_at w (1 + i)) (bit_at (w / 2)) 0 k (λ i a b. let e : 1 + i ≡ suc i = omega arith in ap (bit_at w) e ∙ bit_at-suc w i) in
+    let ih = ones_are k (w / 2) half in
+    let cat : count_ones (w / 2 * 2 ^ 1 + r) ≡ count_ones (w / 2) + count_ones r = ones_cat 1 (w / 2) r (omega arith) in
+    let lowest : bit_at w 0 ≡ r = bit_at_lowest w in
+    let one = ones_low r (omega arith) in
+    sym (ap count_ones whole) ∙ omega (arith, cat, ih, rest, lowest, one, next (bit_at w) 0 k)
+
+-- those of words
+sum_words : (words : List ℕ) → ((i : ℕ) → get_or words i 0 < 2 ^ 64) → sum_by count_ones words ≡ sum_from (bit words) 0 (64 * length words)
+sum_words [] fits = refl
+sum_words (w ∷ words) fits =
+    let more : 64 * length (w ∷ words) ≡ 64 + 64 * length words = omega arith in
+    let first : sum_from (bit (w ∷ words)) 0 64 ≡ sum_from (bit_at w) 0 64 =
+    same_sum (bit (w ∷ words)) (bit_at w) 0 64 (λ i low high.
+    let word : i / 64 ≡ 0 = omega arith in
+    let place : i % 64 ≡ i = omega arith in
+    ap₂ bit_at (ap (λ k. get_or (w ∷ words) k 0) word) place) in
+    let others : sum_from (bit (w ∷ words)) (64 + 0) (64 * length words) ≡ sum_from (bit words) 0 (64 * length words) =
+    shifted_sum (bit (w ∷ words)) 64 0 (64 * length words)
+    ∙ same_sum (λ i. bit (w ∷ words) (64 + i)) (bit words) 0 (64 * length words) (λ i low high.
+    let word : (64 + i) / 64 ≡ suc (i / 64) = omega arith in
+    let place : (64 + i) % 64 ≡ i % 64 = omega arith in
+    ap₂ bit_at (ap (λ k. get_or (w ∷ words) k 0) word) place) in
+    let ih = sum_words words (λ i. fits (suc i)) in
+    let here = ones_are 64 w (fits 0) in
+    let split = split_sum (bit (w ∷ words)) 0 64 (64 * length words) in
+    sum_by-cons count_ones w words ∙ sym (ap (sum_from (bit (w ∷ words)) 0) more ∙ split ∙ ap₂ (λ x y. x + y) (first ∙ sym here) (others ∙ sym ih))
+
+-- no bit beyond is set, so the words' ones are those of the bits
+pub ones_of_words : (words : List ℕ) (bits : ℕ) → ((i : ℕ) → get_or words i 0 < 2 ^ 64) → bits ≤ 64 * length words
+    → ((i : ℕ) → bit words i ≡ 1 → i < bits) → sum_by count_ones words ≡ count_set words bits
+ones_of_words words bits fits enough within =
+    let n : ℕ = 64 * length words - bits in
+    let whole : 64 * length words ≡ bits + n = omega arith in
+    let none : sum_from (bit words) (0 + bits) n ≡ 0 = zero_sum (bit words) (0 + bits) n (λ i low.
+    let small = bit_at-lt (get_or words (i / 64) 0) (i % 64) in
+    ⊎_elim
+    (λ (one : bit words i ≡ 1). let less = within i one in absurd (omega (arith, low, less)))
+    (λ (ne : bit words i ≢ 1). omega (arith, ne, small))
+    (cases_eq (bit words i) 1)) in
+    let split = split_sum (bit words) 0 bits n in
+    sum_words words fits ∙ ap (sum_from (bit words) 0) whole ∙ split ∙ omega (arith, none)
+
+pub count_set-le : (words : List ℕ) (bits : ℕ) → count_set words bits ≤ bits
+count_set-le words bits = small_sum (bit words) 0 bits (λ i. bit_at-lt (get_or words (i / 64) 0) (i % 64))

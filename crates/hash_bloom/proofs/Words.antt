@@ -1,0 +1,69 @@
+-- Words joined by or, and the last word of a filter.
+use Rattle.std.proofs.Common.{ℕ, ◌≡◌, ◌≢◌, ◌⊎◌, ◌↔◌, ◌+◌, ◌-◌, ◌*◌, ◌/◌, ◌%◌, ◌^◌, ◌<◌, ◌≤◌, max, List, length, get_or, sym, ap, ◌∙◌, arith, ⊎_elim, inl, inr, bit_or}
+use Rattle.std.specs.Int.{bit_at}
+use Rattle.std.proofs.lemmas.Bool.{cases_eq, cases_lt}
+use Rattle.std.proofs.lemmas.Nat.{shr-shr}
+use Rattle.std.proofs.lemmas.List.{get_or_past}
+use Rattle.std.proofs.lemmas.Nat.Bits.{bit_at_or, bit_at-lt, bit_at_above, bit_at-zero, same_from_bits}
+use Rattle.hash_bloom.specs.Filter.{HasBit}
+
+pub united : (old others new : List ℕ) → ((k : ℕ) → get_or new k 0 ≡ bit_or (get_or old k 0) (get_or others k 0))
+    → (j : ℕ) → HasBit new j ↔ (HasBit old j ⊎ HasBit others j)
+united old others new each j =
+    let a : ℕ = bit_at (get_or old (j / 64) 0) (j % 64) in
+    let b : ℕ = bit_at (get_or others (j / 64) 0) (j % 64) in
+    let is : bit_at (get_or new (j / 64) 0) (j % 64) ≡ max a b =
+    ap (λ w. bit_at w (j % 64)) (each (j / 64)) ∙ bit_at_or (get_or old (j / 64) 0) (get_or others (j / 64) 0) (j % 64) in
+    let low : a < 2 = bit_at-lt (get_or old (j / 64) 0) (j % 64) in
+    let low' : b < 2 = bit_at-lt (get_or others (j / 64) 0) (j % 64) in (
+      λ (h : HasBit new j). ⊎_elim (λ (e : a ≡ 1). inl e) (λ (ne : a ≢ 1). inr (omega (arith, is, h, ne, low, low'))) (cases_eq a 1),
+      λ (h : HasBit old j ⊎ HasBit others j). is ∙ ⊎_elim (λ (e : a ≡ 1). let r : max a b ≡ 1 = omega (arith, e, low') in r) (λ (e : b ≡ 1). let r : max a b ≡ 1 = omega (arith, e, low) in r) h,
+    )
+
+-- beyond the bits lies the rest of the last word alone
+module _ (words : List ℕ) (bits : ℕ) (enough : bits ≤ 64 * length words) (no_more : 64 * length words < bits + 64) (inside : bits % 64 ≢ 0) where
+  abbrev pub last : ℕ
+  last = get_or words (bits / 64) 0
+
+  none_beyond : last / 2 ^ (bits % 64) ≡ 0 → (j : ℕ) → HasBit words j → j < bits
+  none_beyond clear j has = ⊎_elim
+      (λ (below : j < bits). below)
+      (λ (beyond : bits ≤ j). ⊎_elim
+      (λ (same : j / 64 ≡ bits / 64).
+      let place : j % 64 ≡ bits % 64 + (j % 64 - bits % 64) = omega arith in
+      let none : bit_at last (j % 64) ≡ 0 =
+      ap (bit_at last) place ∙ ap (λ n. n % 2) (sym (shr-shr last (bits % 64) (j % 64 - bits % 64)))
+      ∙ ap (λ n. n / 2 ^ (j % 64 - bits % 64) % 2) clear ∙ bit_at-zero (j % 64 - bits % 64) in
+      let one : bit_at last (j % 64) ≡ 1 = ap (λ k. bit_at (get_or words k 0) (j % 64)) (sym same) ∙ has in
+      absurd (omega (arith, none, one)))
+      (λ (other : j / 64 ≢ bits / 64).
+      let past : length words ≤ j / 64 = omega arith in
+      let none : bit_at (get_or words (j / 64) 0) (j % 64) ≡ 0 = ap (λ w. bit_at w (j % 64)) (get_or_past words (j / 64) 0 past) ∙ bit_at-zero (j % 64) in
+      absurd (omega (arith, none, has)))
+      (cases_eq (j / 64) (bits / 64)))
+      (cases_lt j bits)
+
+  all_clear : last < 2 ^ 64 → ((j : ℕ) → HasBit words j → j < bits) → last / 2 ^ (bits % 64) ≡ 0
+  all_clear fits below = same_from_bits (last / 2 ^ (bits % 64)) 0 (λ i.
+      let r : ℕ = bits % 64 in
+      let moved : bit_at (last / 2 ^ r) i ≡ bit_at last (r + i) = ap (λ n. n % 2) (shr-shr last r i) in
+      let zero_bit : bit_at last (r + i) ≡ 0 = ⊎_elim
+      (λ (within : r + i < 64).
+      let j : ℕ = 64 * (bits / 64) + (r + i) in
+      let word : j / 64 ≡ bits / 64 = omega arith in
+      let bit : j % 64 ≡ r + i = omega arith in
+      let beyond : bits ≤ j = omega arith in
+      let small : bit_at last (r + i) < 2 = bit_at-lt last (r + i) in
+      ⊎_elim
+      (λ (one : bit_at last (r + i) ≡ 1).
+      let has : HasBit words j = ap (λ k. bit_at (get_or words k 0) (j % 64)) word ∙ ap (bit_at last) bit ∙ one in
+      let less : j < bits = below j has in
+      absurd (omega (arith, less, beyond)))
+      (λ (ne : bit_at last (r + i) ≢ 1). omega (arith, ne, small))
+      (cases_eq (bit_at last (r + i)) 1))
+      (λ (above : 64 ≤ r + i). bit_at_above last 64 (r + i) fits above)
+      (cases_lt (r + i) 64) in
+      moved ∙ zero_bit ∙ sym (bit_at-zero i))
+
+  pub clear_beyond : last < 2 ^ 64 → (last / 2 ^ (bits % 64) ≡ 0) ↔ ((j : ℕ) → HasBit words j → j < bits)
+  clear_beyond fits = (none_beyond, all_clear fits)

@@ -1,0 +1,114 @@
+//! Bits in words of 64, and the places of a key's probes among them.
+ghost use Rattle.std.specs.Prelude.{◌≡◌, ◌+◌, ◌*◌, ◌%◌, ◌<◌, ◌≤◌, ◌↔◌, ◌⊎◌, ℕ, IsTrue, length};
+ghost use Rattle.std.specs.Int.RustNames.{count_ones};
+ghost use Rattle.std.specs.List.{sum_by};
+ghost use Rattle.hash_bloom.specs.Filter.{HasBit, HasAll, IsAmong, count_set, place};
+
+/// Whether the bit is set.
+fn has_bit(words: &[u64], at: u64) -> bool
+    requires { at < 64 * length words.now }
+    ensures { IsTrue result ↔ HasBit words.now at }
+{
+    words[(at / 64) as usize] >> (at % 64) & 1 == 1
+}
+
+/// Sets the bit.
+fn set_bit(words: &mut [u64], at: u64)
+    requires { at < 64 * length words.old }
+    ensures { (j : ℕ) → HasBit words.new j ↔ (HasBit words.old j ⊎ (j ≡ at)) }
+{
+    words[(at / 64) as usize] |= 1 << (at % 64);
+}
+
+/// The place that lies `step` further, round the bits.
+fn next_place(at: u64, step: u64, bits: u64) -> u64
+    requires at { at < bits }
+    requires step { step < bits }
+    ensures { result ≡ (at + step) % bits }
+{
+    let left = bits - step;
+    if at < left { at + step } else { at - left }
+}
+
+/// The remainder, by a mask where `bits` is a power of two.
+fn remainder(hash: u64, bits: u64) -> u64
+    requires { 1 ≤ bits }
+    ensures { result ≡ hash % bits }
+{
+    if bits & (bits - 1) == 0 {
+        hash & (bits - 1)
+    } else {
+        hash % bits
+    }
+}
+
+/// Sets the bits of all probes, and answers whether all of them were set before.
+pub fn set_all(words: &mut [u64], bits: u64, probes: u32, first: u64, second: u64) -> bool
+    requires some { 1 ≤ bits }
+    requires there { bits ≤ 64 * length words.old }
+    ensures set { (j : ℕ) → HasBit words.new j
+        ↔ (HasBit words.old j ⊎ IsAmong (place bits first second) probes j) }
+    ensures before { IsTrue result ↔ HasAll words.old (place bits first second) probes }
+{
+    let step = remainder(second, bits);
+    let mut at = remainder(first, bits);
+    let mut before = true;
+    for _ in 0..probes {
+        before &= has_bit(words, at);
+        set_bit(words, at);
+        at = next_place(at, step, bits);
+    }
+    before
+}
+
+/// Whether the bits of all probes are set.
+pub fn has_all(words: &[u64], bits: u64, probes: u32, first: u64, second: u64) -> bool
+    requires some { 1 ≤ bits }
+    requires there { bits ≤ 64 * length words.now }
+    ensures { IsTrue result ↔ HasAll words.now (place bits first second) probes }
+{
+    let step = remainder(second, bits);
+    let mut at = remainder(first, bits);
+    for _ in 0..probes {
+        if !has_bit(words, at) {
+            return false;
+        }
+        at = next_place(at, step, bits);
+    }
+    true
+}
+
+/// Sets the bits that are set in the others, of as many words.
+pub fn unite(words: &mut [u64], others: &[u64])
+    requires { length words.old ≡ length others.now }
+    ensures { (j : ℕ) → HasBit words.new j ↔ (HasBit words.old j ⊎ HasBit others.now j) }
+{
+    for i in 0..words.len() {
+        words[i] |= others[i];
+    }
+}
+
+/// Whether no bit from place `bits` on is set, which is in the last word.
+pub fn no_bits_beyond(words: &[u64], bits: u64) -> bool
+    requires enough { bits ≤ 64 * length words.now }
+    requires no_more { 64 * length words.now < bits + 64 }
+    ensures { IsTrue result ↔ ((j : ℕ) → HasBit words.now j → j < bits) }
+{
+    bits % 64 == 0 || words[(bits / 64) as usize] >> (bits % 64) == 0
+}
+
+/// How many bits of all words are set.
+fn ones_of_words(words: &[u64]) -> u128
+    ensures { result ≡ sum_by count_ones words.now }
+{
+    words.iter().map(|word| u128::from(word.count_ones())).sum()
+}
+
+/// How many bits are set, of which none lies beyond the first `bits`.
+pub fn ones(words: &[u64], bits: u64) -> u64
+    requires enough { bits ≤ 64 * length words.now }
+    requires within { (j : ℕ) → HasBit words.now j → j < bits }
+    ensures { result ≡ count_set words.now bits }
+{
+    ones_of_words(words) as u64
+}

@@ -1,0 +1,225 @@
+//! A Bloom filter over any two hashers: a set of keys in a few bits a key, which may take a strange key for one of its own
+//! and never forgets one.
+//!
+//! Burton H. Bloom, "Space/Time Trade-offs in Hash Coding with Allowable Errors", 1970. The places come from two hashes, as in
+//! Adam Kirsch and Michael Mitzenmacher, "Less Hashing, Same Performance: Building a Better Bloom Filter", 2006.
+#![tactic(auto)]
+
+ghost use Rattle.std.specs.Prelude.{◌≡◌, ◌*◌, ◌≤◌, ◌↔◌, IfOk, IfErr, IsOk, IsTrue, max};
+ghost use Rattle.hashers.specs.Text.{joined};
+ghost use Rattle.hash_bloom.specs.Filter.{Filter, IsFilter, Passes, PassesNone, IsProbe, IsSet, IsEmpty, HasShape, Fits, Adds, IsForKeys, count_set, filter_of};
+
+mod bits;
+pub mod commands;
+#[cfg(test)]
+mod tests;
+
+use crate::bits::{has_all, no_bits_beyond, ones, set_all, unite};
+use hashers::laws::{Piecewise, Streamed, hash_of, run_streamed};
+use std::alloc::{AllocError, Global};
+use std::marker::{Model, PhantomData};
+
+/// A Bloom filter: a set of bits. Each key has `probes` places among them, by two hashes, and a key is found where the bits at
+/// all of its places are set.
+///
+/// The place of probe i is (f + i * g) mod bits, where f is the hash of the key by `F` and g the one by `G`. The sum is one of
+/// natural numbers: nothing wraps at 2^64. Each call makes one hash by each hasher, two divisions, and no further division for
+/// the probes; where the number of bits is a power of two a mask stands in place of a division.
+///
+/// A key that was inserted is found, whatever the hashers. How often a strange key is found depends on them, and nothing is
+/// proved of it: with good hashes it is about (1 - e^(-probes * keys / bits))^probes. Where a key's second hash is a multiple
+/// of the number of bits, all of its probes are one. A hasher of 32 bits reaches the first 2^32 bits at the first probe.
+///
+/// Contracts see the filter as its number of bits, its number of probes and its words. Bit i is that of value 2^(i mod 64) in
+/// word i / 64. No bit beyond the number of bits is set.
+#[derive(Drop)]
+pub struct Bloom<F: Piecewise, G: Piecewise> {
+    words: Vec<u64>,
+    bits: u64,
+    probes: u32,
+    first: PhantomData<F>,
+    second: PhantomData<G>,
+}
+
+impl<F: Piecewise, G: Piecewise> Model for Bloom<F, G> {
+    ghost Value = { Filter };
+
+    ghost view = { λ b. filter_of b.bits b.probes b.words.items };
+
+    ghost invariant = { λ b. IsFilter (filter_of b.bits b.probes b.words.items) };
+}
+
+/// The hash of the joined pieces, which are not joined for it.
+fn hash_of_pieces<H: Streamed>(pieces: &[&[u8]]) -> u64
+    ensures { result ≡ H.hash_of (joined pieces.now) }
+{
+    let mut hasher = H::fresh();
+    run_streamed(&mut hasher, pieces);
+    hasher.answer()
+}
+
+/// The words are not those of a filter of so many bits and probes: they come back as they were.
+pub struct NoFilter {
+    pub words: Vec<u64>,
+}
+
+impl<F: Piecewise, G: Piecewise> Bloom<F, G> {
+    /// The filter of no keys, with so many bits, and so many probes for each key. It takes 8 bytes for each 64 bits, and refuses
+    /// only where there is no memory for them.
+    pub fn new(alloc: Global, bits: u64, probes: u32) -> Result<Self, AllocError>
+        requires bits { 1 ≤ bits }
+        requires probes { 1 ≤ probes }
+        ensures shape { IfOk result (HasShape bits probes) }
+        ensures empty { IfOk result IsEmpty }
+        ensures none { IfOk result (PassesNone F.hash_of G.hash_of) }
+    {
+        let mut words = Vec::new(alloc);
+        words.resize(bits.div_ceil(64) as usize, 0)?;
+        Ok(Bloom {
+            words,
+            bits,
+            probes,
+            first: PhantomData,
+            second: PhantomData,
+        })
+    }
+
+    /// The filter of no keys, for about so many keys, with so many bits for each (at least one bit in all). The number of probes
+    /// is 0.693 for each of `bits_per_key`, rounded, and at least 1: that is about ln 2, and from 1 to 32 bits the number that
+    /// lets the fewest strange keys pass. It refuses only where there is no memory, which is so too where the number of bits
+    /// is 2^64 or more.
+    ///
+    /// By the formula above these shares of strange keys pass, in percent, once all keys are in:
+    ///
+    /// | bits | probes | share | bits | probes | share | bits | probes | share | bits | probes | share |
+    /// |---:|---:|---:|---:|---:|---:|---:|---:|---:|---:|---:|---:|
+    /// | 1 | 1 | 63.2 | 9 | 6 | 1.33 | 17 | 12 | 0.0284 | 25 | 17 | 0.000608 |
+    /// | 2 | 1 | 39.3 | 10 | 7 | 0.819 | 18 | 12 | 0.0176 | 26 | 18 | 0.000376 |
+    /// | 3 | 2 | 23.7 | 11 | 8 | 0.509 | 19 | 13 | 0.0109 | 27 | 19 | 0.000233 |
+    /// | 4 | 3 | 14.7 | 12 | 8 | 0.314 | 20 | 14 | 0.00671 | 28 | 19 | 0.000144 |
+    /// | 5 | 3 | 9.18 | 13 | 9 | 0.194 | 21 | 15 | 0.00416 | 29 | 20 | 0.0000889 |
+    /// | 6 | 4 | 5.61 | 14 | 10 | 0.12 | 22 | 15 | 0.00257 | 30 | 21 | 0.000055 |
+    /// | 7 | 5 | 3.47 | 15 | 10 | 0.0744 | 23 | 16 | 0.00159 | 31 | 21 | 0.0000341 |
+    /// | 8 | 6 | 2.16 | 16 | 11 | 0.0459 | 24 | 17 | 0.000984 | 32 | 22 | 0.000021 |
+    pub fn for_keys(alloc: Global, keys: u64, bits_per_key: u32) -> Result<Self, AllocError>
+        requires { 1 ≤ bits_per_key }
+        ensures shape { IfOk result (IsForKeys keys bits_per_key) }
+        ensures empty { IfOk result IsEmpty }
+        ensures none { IfOk result (PassesNone F.hash_of G.hash_of) }
+    {
+        let bits = keys.checked_mul(u64::from(bits_per_key)).ok_or(AllocError)?;
+        let probes = ((693 * u64::from(bits_per_key) + 500) / 1000).max(1);
+        Self::new(alloc, bits.max(1), probes as u32)
+    }
+
+    /// Inserts the key: sets the bits at its places, and clears none. It answers whether all of them were set before: `false`
+    /// says that this key was not inserted before, and `true` that it possibly was. It takes no memory.
+    pub fn insert(&mut self, key: &[u8]) -> bool
+        ensures inserted { Adds self.old self.new (IsProbe F.hash_of G.hash_of self.old key.now) }
+        ensures before { IsTrue result ↔ Passes F.hash_of G.hash_of self.old key.now }
+    {
+        let (first, second) = (hash_of::<F>(key), hash_of::<G>(key));
+        set_all(&mut self.words, self.bits, self.probes, first, second)
+    }
+
+    /// Whether the key is found: the bits at all of its places are set. It is found if it was inserted, and possibly if not.
+    pub fn contains(&self, key: &[u8]) -> bool
+        ensures { IsTrue result ↔ Passes F.hash_of G.hash_of self.now key.now }
+    {
+        let (first, second) = (hash_of::<F>(key), hash_of::<G>(key));
+        has_all(&self.words, self.bits, self.probes, first, second)
+    }
+
+    /// Whether the other filter has as many bits and as many probes, as `union` asks.
+    pub fn fits(&self, other: &Self) -> bool
+        ensures { IsTrue result ↔ Fits self.now other.now }
+    {
+        self.bits == other.bits && self.probes == other.probes
+    }
+
+    /// Adds the bits of the other filter, of as many bits and probes. Afterwards each key is found that either found.
+    pub fn union(&mut self, other: &Self)
+        requires { Fits self.old other.now }
+        ensures { Adds self.old self.new (IsSet other.now) }
+    {
+        unite(&mut self.words, &other.words);
+    }
+
+    /// Clears all bits. No key is found then. The numbers of bits and probes stay.
+    pub fn clear(&mut self)
+        ensures shape { Fits self.old self.new }
+        ensures empty { IsEmpty self.new }
+        ensures none { PassesNone F.hash_of G.hash_of self.new }
+    {
+        self.words.fill(0);
+    }
+
+    /// How many bits are set. It goes over all words.
+    pub fn ones(&self) -> u64
+        ensures { result ≡ count_set self.now.words self.now.bits }
+    {
+        ones(&self.words, self.bits)
+    }
+
+    /// How many bits the filter has, at least 1.
+    pub fn bits(&self) -> u64
+        ensures { result ≡ self.now.bits }
+    {
+        self.bits
+    }
+
+    /// How many probes each key has, at least 1.
+    pub fn probes(&self) -> u32
+        ensures { result ≡ self.now.probes }
+    {
+        self.probes
+    }
+
+    /// The bits in words of 64, the lowest first, to be stored beside `bits` and `probes`. The hashers are not stored: whoever
+    /// reads the words back has to name the same two.
+    pub fn words(&self) -> &[u64]
+        ensures words { result.now ≡ self.now.words }
+        ensures is_filter { IsFilter self.now }
+    {
+        &self.words
+    }
+
+    /// The words, for which the filter is given up. It takes no memory.
+    pub fn into_words(self) -> Vec<u64>
+        ensures words { result.items ≡ self.words }
+        ensures is_filter { IsFilter self }
+    {
+        self.words
+    }
+
+    /// The filter of these words, as `words` gave them. It refuses exactly where no filter of so many bits and probes has these
+    /// words: no bit, no probe, more or fewer words than the bits need, or a bit set beyond them. The words come back then.
+    pub fn from_words(words: Vec<u64>, bits: u64, probes: u32) -> Result<Self, NoFilter>
+        ensures ok { IfOk result (λ filter. filter ≡ filter_of bits probes words.items) }
+        ensures exactly { IsOk result ↔ IsFilter (filter_of bits probes words.items) }
+        ensures err { IfErr result (λ refused. refused.words ≡ words) }
+    {
+        let fits = bits > 0 && probes > 0 && words.len() as u64 == bits.div_ceil(64);
+        if !fits || !no_bits_beyond(&words, bits) {
+            return Err(NoFilter { words });
+        }
+        Ok(Bloom {
+            words,
+            bits,
+            probes,
+            first: PhantomData,
+            second: PhantomData,
+        })
+    }
+}
+
+impl<F: Streamed, G: Streamed> Bloom<F, G> {
+    /// Whether the key is found whose pieces these are, in order: what `contains` answers to the joined pieces. It takes no
+    /// memory.
+    pub fn contains_pieces(&self, pieces: &[&[u8]]) -> bool
+        ensures { IsTrue result ↔ Passes F.hash_of G.hash_of self.now (joined pieces.now) }
+    {
+        let (first, second) = (hash_of_pieces::<F>(pieces), hash_of_pieces::<G>(pieces));
+        has_all(&self.words, self.bits, self.probes, first, second)
+    }
+}

@@ -1,0 +1,321 @@
+//! Filters by hand, against a plain set, and where memory is refused.
+ghost use Rattle.std.specs.Prelude.{◌≤◌, All};
+ghost use Rattle.hash_bloom.specs.Commands.{CanRun, Inserts};
+ghost use Rattle.hash_bloom.specs.Filter.{Filter, HasShape};
+
+use crate::commands::{
+    Command, empty_finds_nothing, found_after, found_in_union, known_after, obey, obey_all,
+};
+use crate::{Bloom, NoFilter};
+use hashers::fnv::{FNV1aHasher64, FnvBuildHasher, FnvHashSet};
+use hashers::fx_hash::FxHasher;
+use hashers::jenkins::Lookup3Hasher;
+use hashers::laws::Piecewise;
+use hashers::null::NullHasher;
+use hashers::oz::{DJB2Hasher, LoseLoseHasher};
+use std::alloc::{AllocError, Global};
+use std::process::Abort;
+
+/// That each number is as wanted.
+fn same(rt: &impl Abort, got: &[u64], want: &[u64]) {
+    assert_eq!(rt; got, want);
+}
+
+/// That all claims hold.
+fn all_hold(rt: &impl Abort, claims: &[bool]) {
+    assert!(rt; !claims.contains(&false), "not all hold: {claims:?}");
+}
+
+/// That all claims hold, in one turn of a loop.
+fn all_hold_at(rt: &impl Abort, turn: usize, claims: &[bool]) {
+    assert!(rt;
+        !claims.contains(&false),
+        "not all hold at {turn}: {claims:?}"
+    );
+}
+
+/// The filter of no keys.
+fn made<F: Piecewise, G: Piecewise>(
+    rt: &impl Abort,
+    alloc: Global,
+    bits: u64,
+    probes: u32,
+) -> Bloom<F, G>
+    requires bits { 1 ≤ bits }
+    requires probes { 1 ≤ probes }
+    ensures { HasShape bits probes result }
+{
+    match Bloom::new(alloc, bits, probes) {
+        Ok(filter) => filter,
+        Err(AllocError) => panic!(rt; "no memory for the filter"),
+    }
+}
+
+/// The probes of the key of one byte b are 0, b, 2b, ..: `null` answers 0, and `loselose` the sum of the bytes.
+type ByStep = Bloom<NullHasher, LoseLoseHasher>;
+
+#[test]
+fn places_by_hand(rt: HostRuntime) {
+    let mut filter: ByStep = made(&rt, rt.alloc(), 100, 4);
+    let fresh = filter.insert(&[33]);
+    same(&rt, filter.words(), &[1 | 1 << 33, 1 << 2 | 1 << 35]);
+    let again = filter.insert(&[33]);
+    let others = [filter.contains(&[66]), filter.contains(&[50])];
+    let by_chance = filter.contains(&[0]);
+    let half = filter.insert(&[50]);
+    all_hold(
+        &rt,
+        &[!fresh, again, !others[0], !others[1], by_chance, !half],
+    );
+    same(
+        &rt,
+        filter.words(),
+        &[1 | 1 << 33 | 1 << 50, 1 << 2 | 1 << 35],
+    );
+    same(
+        &rt,
+        &[filter.ones(), filter.bits(), u64::from(filter.probes())],
+        &[5, 100, 4],
+    );
+}
+
+#[test]
+fn places_at_a_power_of_two(rt: HostRuntime) {
+    let mut filter: ByStep = made(&rt, rt.alloc(), 64, 4);
+    let fresh = filter.insert(&[40]);
+    all_hold(&rt, &[!fresh, filter.contains(&[40])]);
+    same(&rt, filter.words(), &[1 | 1 << 40 | 1 << 16 | 1 << 56]);
+}
+
+/// The words that a program in another language made of the keys ``, `a` and `abc`.
+#[test]
+fn words_of_three_keys(rt: HostRuntime) {
+    let mut filter: Bloom<FNV1aHasher64, DJB2Hasher> = made(&rt, rt.alloc(), 100, 5);
+    let mut other: Bloom<FNV1aHasher64, DJB2Hasher> = made(&rt, rt.alloc(), 128, 5);
+    for key in [&b""[..], b"a", b"abc"] {
+        filter.insert(key);
+        other.insert(key);
+    }
+    same(&rt, filter.words(), &[0x2000006080041191, 0x900010020]);
+    same(&rt, other.words(), &[0x210842010101000, 0x85210800]);
+}
+
+/// The best numbers of probes at 1 to 32 bits a key, by the formula (1 - e^(-k/b))^k in another language.
+const BEST: [u32; 32] = [
+    1, 1, 2, 3, 3, 4, 5, 6, 6, 7, 8, 8, 9, 10, 10, 11, 12, 12, 13, 14, 15, 15, 16, 17, 17, 18, 19,
+    19, 20, 21, 21, 22,
+];
+
+#[test]
+fn sizes_for_keys(rt: HostRuntime) {
+    for i in 0..32 {
+        let bits_per_key = i as u32 + 1;
+        match ByStep::for_keys(rt.alloc(), 1000, bits_per_key) {
+            Ok(filter) => all_hold_at(
+                &rt,
+                i,
+                &[
+                    filter.bits() == 1000 * u64::from(bits_per_key),
+                    filter.probes() == BEST[i],
+                    filter.ones() == 0,
+                ],
+            ),
+            Err(AllocError) => panic!(rt; "no memory for the filter"),
+        }
+    }
+    let none = ByStep::for_keys(rt.alloc(), 0, 10);
+    let too_many = ByStep::for_keys(rt.alloc(), u64::MAX, 10);
+    all_hold(
+        &rt,
+        &[
+            none.is_ok_and(|filter| filter.bits() == 1),
+            too_many.is_err(),
+        ],
+    );
+}
+
+/// The words that were refused.
+fn refused(words: Vec<u64>, bits: u64, probes: u32) -> u64 {
+    match ByStep::from_words(words, bits, probes) {
+        Ok(_) => 0,
+        Err(NoFilter { words }) => words.len() as u64,
+    }
+}
+
+#[test]
+fn written_and_read_back(rt: HostRuntime) {
+    let alloc = rt.alloc();
+    let mut filter: ByStep = made(&rt, alloc, 100, 4);
+    filter.insert(&[33]);
+    let stored = Vec::from_slice(alloc, filter.words()).expect(&rt, "memory for the words");
+    match ByStep::from_words(stored, 100, 4) {
+        Ok(back) => {
+            same(&rt, back.words(), filter.words());
+            all_hold(
+                &rt,
+                &[back.contains(&[33]), back.fits(&filter), filter.fits(&back)],
+            );
+        }
+        Err(NoFilter { words: _ }) => panic!(rt; "a filter's words are refused"),
+    }
+    let words = |last: u64| vec![in alloc; 7, last].expect(&rt, "memory for two words");
+    let replies = [
+        refused(words(1), 64, 1),
+        refused(words(1), 129, 1),
+        refused(words(1 << 36), 100, 1),
+        refused(words(1), 0, 1),
+        refused(words(1), 100, 0),
+        refused(words(1 << 35), 100, 1),
+        refused(words(1 << 63), 128, 1),
+    ];
+    same(&rt, &replies, &[2, 2, 2, 2, 2, 0, 0]);
+}
+
+#[test]
+fn unions_and_clear(rt: HostRuntime) {
+    let mut filter: ByStep = made(&rt, rt.alloc(), 100, 4);
+    let mut other: ByStep = made(&rt, rt.alloc(), 100, 4);
+    let third: ByStep = made(&rt, rt.alloc(), 100, 5);
+    filter.insert(&[33]);
+    other.insert(&[34]);
+    let fits = [filter.fits(&other), !filter.fits(&third)];
+    filter.union(&other);
+    let both = [
+        filter.contains(&[33]),
+        filter.contains(&[34]),
+        filter.ones() == 7,
+    ];
+    filter.clear();
+    all_hold(&rt, &fits);
+    all_hold(&rt, &both);
+    same(&rt, filter.words(), &[0, 0]);
+    same(
+        &rt,
+        other.into_words().as_slice(),
+        &[1 | 1 << 2 | 1 << 34, 1 << 4],
+    );
+}
+
+/// A million inserts of random numbers below 2^20, and how many of them a filter had forgotten or took for known.
+fn a_million_inserts(rt: &impl Abort, alloc: Global) -> [u64; 2] {
+    let mut known = FnvHashSet::with_hasher(alloc, FnvBuildHasher::new());
+    let mut filter: Bloom<FxHasher, Lookup3Hasher> = made(rt, alloc, 10_000_000, 7);
+    let mut random: u64 = 1;
+    let (mut forgotten, mut taken) = (0u64, 0u64);
+    for _ in 0..1_000_000u32 {
+        random = random
+            .wrapping_mul(6364136223846793005)
+            .wrapping_add(1442695040888963407);
+        let number = random >> 44;
+        let found = filter.insert(&number.to_le_bytes());
+        let new = known.insert(number).expect(rt, "memory for the set");
+        match (new, found) {
+            (true, true) => taken = taken.wrapping_add(1),
+            (false, false) => forgotten = forgotten.wrapping_add(1),
+            _ => {}
+        }
+    }
+    for number in known.iter() {
+        if !filter.contains(&number.to_le_bytes()) {
+            forgotten = forgotten.wrapping_add(1);
+        }
+    }
+    [forgotten, taken]
+}
+
+#[test]
+fn a_million_inserts_against_a_set(rt: HostRuntime) {
+    let [forgotten, taken] = a_million_inserts(&rt, rt.alloc());
+    all_hold(&rt, &[forgotten == 0, taken < 10_000]);
+}
+
+#[test]
+fn keys_of_every_length_up_to_300(rt: HostRuntime) {
+    let text: [u8; 300] = std::array::from_fn(|i| (i * 7 % 256) as u8);
+    let mut filter: Bloom<FNV1aHasher64, DJB2Hasher> = made(&rt, rt.alloc(), 6000, 10);
+    for length in 0..301 {
+        let key = &text[..length];
+        let (one, two) = key.split_at(length / 3);
+        let before = [filter.contains(key), filter.contains_pieces(&[one, two])];
+        let fresh = filter.insert(key);
+        let after = [
+            filter.contains(key),
+            filter.contains_pieces(&[one, b"", two]),
+        ];
+        all_hold_at(
+            &rt,
+            length,
+            &[before[0] == fresh, before[1] == fresh, after[0], after[1]],
+        );
+    }
+    all_hold(&rt, &[filter.contains_pieces(&[]), filter.ones() < 3001]);
+}
+
+/// An insert of the key.
+fn inserts(rt: &impl Abort, alloc: Global, key: &[u8]) -> Vec<Command<NullHasher, LoseLoseHasher>>
+    ensures can_run { (filter : Filter) → All (CanRun filter) result.items }
+    ensures inserts { Inserts result.items key.now }
+{
+    let key = Vec::from_slice(alloc, key).expect(rt, "memory for the key");
+    vec![in alloc; Command::Insert(key)].expect(rt, "memory for the command")
+}
+
+#[test]
+fn commands_in_order(rt: HostRuntime) {
+    let alloc = rt.alloc();
+    let mut filter: ByStep = made(&rt, alloc, 100, 4);
+    let mut other: ByStep = made(&rt, alloc, 100, 4);
+    filter.insert(&[33]);
+    other.insert(&[34]);
+    let united = obey(filter, Command::Union(other));
+    let stored = obey(united, Command::Store);
+    let filter = obey_all(stored, inserts(&rt, alloc, &[50]));
+    same(
+        &rt,
+        filter.words(),
+        &[
+            1 | 1 << 2 | 1 << 33 | 1 << 34 | 1 << 50,
+            1 << 2 | 1 << 4 | 1 << 35,
+        ],
+    );
+}
+
+#[test]
+fn laws_are_calls(rt: HostRuntime) {
+    let alloc = rt.alloc();
+    let one: ByStep = made(&rt, alloc, 100, 4);
+    let two: ByStep = made(&rt, alloc, 100, 4);
+    let found = found_after(one, inserts(&rt, alloc, b"a"), b"a");
+    let known = known_after(two, inserts(&rt, alloc, b"a"), b"b");
+    let mut filter: ByStep = made(&rt, alloc, 100, 4);
+    let mut other: ByStep = made(&rt, alloc, 100, 4);
+    other.insert(b"a");
+    let both = found_in_union(&mut filter, &other, b"a");
+    let none = empty_finds_nothing::<NullHasher, LoseLoseHasher>(alloc, 100, 4, b"a");
+    all_hold(&rt, &[found, !known, both, matches!(none, Ok(false))]);
+}
+
+/// Where memory is refused there is no filter, and the next call makes one.
+#[test]
+fn refused_for_a_filter(rt: HostRuntime) {
+    let alloc = rt.alloc();
+    let mut filter: ByStep = match ByStep::for_keys(alloc, 10, 10) {
+        Ok(filter) => filter,
+        Err(AllocError) => made(&rt, alloc, 100, 7),
+    };
+    filter.insert(b"a");
+    let again: ByStep = match Bloom::new(alloc, 100, 7) {
+        Ok(filter) => filter,
+        Err(AllocError) => made(&rt, alloc, 100, 7),
+    };
+    let none = empty_finds_nothing::<NullHasher, LoseLoseHasher>(alloc, 100, 4, b"a");
+    all_hold(
+        &rt,
+        &[
+            filter.contains(b"a"),
+            again.ones() == 0,
+            filter.fits(&again),
+            !matches!(none, Ok(true)),
+        ],
+    );
+}
