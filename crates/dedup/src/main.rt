@@ -6,6 +6,8 @@ mod lines;
 mod outcome;
 mod run;
 mod tally;
+#[cfg(test)]
+mod tests;
 
 use hashers::jenkins::Lookup3Hasher;
 use outcome::{Outcome, USAGE, outcome_line, outcome_of, outcome_status};

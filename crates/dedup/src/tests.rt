@@ -1,0 +1,368 @@
+//! Tests of the program, over readers and writers that cut, fail, and refuse.
+use crate::outcome::{Outcome, USAGE, outcome_line, outcome_of, outcome_status};
+use crate::run::{Fault, dedup};
+use crate::tally::{Which, tally};
+use hashers::jenkins::Lookup3Hasher;
+use hashers::laws::Piecewise;
+use hashers::null::NullHasher;
+use std::alloc::Global;
+use std::env::Args;
+use std::io;
+use std::io::{BufReader, ErrorKind, Read, Write};
+use std::process::Abort;
+
+/// Gives its text, at most so many bytes a read, and fails once so many were given.
+#[derive(Drop)]
+struct Script<'a> {
+    left: &'a [u8],
+    most: usize,
+    until_fault: usize,
+}
+
+impl Read for Script<'_> {
+    fn read(&mut self, buf: &mut [u8]) -> io::Result<usize> {
+        if self.until_fault == 0 {
+            return Err(io::Error::from(ErrorKind::BrokenPipe));
+        }
+        let room = self.most.min(buf.len()).min(self.until_fault);
+        let n = room.min(self.left.len());
+        let (now, later) = self.left.split_at(n);
+        buf[..n].copy_from_slice(now);
+        self.left = later;
+        self.until_fault = self.until_fault.saturating_sub(n);
+        Ok(n)
+    }
+}
+
+/// Keeps what is written, at most so many bytes a call, and fails once so many are there.
+#[derive(Drop)]
+struct Paper {
+    text: [u8; 64],
+    len: usize,
+    most: usize,
+    until_fault: usize,
+    flush_fails: bool,
+}
+
+impl Paper {
+    fn new(most: usize, until_fault: usize) -> Paper {
+        Paper {
+            text: [0; 64],
+            len: 0,
+            most,
+            until_fault,
+            flush_fails: false,
+        }
+    }
+
+    fn line(&self) -> &[u8] {
+        &self.text[..self.len.min(64)]
+    }
+}
+
+impl Write for Paper {
+    fn write(&mut self, buf: &[u8]) -> io::Result<usize> {
+        let room = self.until_fault.min(self.most).min(64 - self.len.min(64));
+        if room == 0 {
+            return Err(io::Error::from(ErrorKind::BrokenPipe));
+        }
+        let n = room.min(buf.len());
+        for byte in &buf[..n] {
+            if self.len < 64 {
+                self.text[self.len] = *byte;
+                self.len += 1;
+            }
+        }
+        self.until_fault = self.until_fault.saturating_sub(n);
+        Ok(n)
+    }
+
+    fn flush(&mut self) -> io::Result<()> {
+        if self.flush_fails {
+            return Err(io::Error::from(ErrorKind::BrokenPipe));
+        }
+        Ok(())
+    }
+}
+
+/// What the words ask for, as `env::args` gives them behind the program's own name.
+fn args(alloc: Global, words: &[&str]) -> io::Result<Args> {
+    let mut all = Vec::new(alloc);
+    all.push(String::from_str(alloc, "dedup")?)?;
+    for word in words {
+        all.push(String::from_str(alloc, word)?)?;
+    }
+    Ok(all.into_iter())
+}
+
+/// What became of a call, without the error itself.
+fn status(outcome: &Outcome) -> (u8, &'static str) {
+    (outcome_status(outcome), outcome_line(outcome))
+}
+
+/// Runs the program over a text, read and written so many bytes at a time, onto this paper.
+fn run<H: Piecewise>(
+    alloc: Global,
+    words: &[&str],
+    r: Script<'_>,
+    w: &mut Paper,
+) -> (u8, &'static str) {
+    match BufReader::with_capacity(alloc, 8, r) {
+        Ok(mut reader) => status(&outcome_of::<H, _, _>(
+            alloc,
+            args(alloc, words),
+            40,
+            &mut reader,
+            w,
+        )),
+        Err(_) => (1, "dedup: out of memory\n"),
+    }
+}
+
+/// A text, and what the program writes of it with no argument, with `-c` and with `-d`.
+const CASES: [(&[u8], &[u8], &[u8], &[u8]); 9] = [
+    (b"", b"", b"", b""),
+    (b"\n", b"\n", b"      1 \n", b""),
+    (b"a", b"a", b"      1 a\n", b""),
+    (b"a\n", b"a\n", b"      1 a\n", b""),
+    (b"a\nb\na\n", b"a\nb\n", b"      2 a\n      1 b\n", b"a\n"),
+    (
+        b"b\na\n\na\n\nb",
+        b"b\na\n\n",
+        b"      2 b\n      2 a\n      2 \n",
+        b"b\na\n\n",
+    ),
+    (
+        b"a\nb\nab",
+        b"a\nb\nab",
+        b"      1 a\n      1 b\n      1 ab\n",
+        b"",
+    ),
+    (
+        b"\0\n\0\0\n\0\n",
+        b"\0\n\0\0\n",
+        b"      2 \0\n      1 \0\0\n",
+        b"\0\n",
+    ),
+    (
+        b"a\r\na\n\xff\na\r\n",
+        b"a\r\na\n\xff\n",
+        b"      2 a\r\n      1 a\n      1 \xff\n",
+        b"a\r\n",
+    ),
+];
+
+/// Each case through a reader and a writer of so many bytes a call.
+fn writes_each_case<H: Piecewise>(rt: &impl Abort, alloc: Global, most: usize) {
+    for (text, once, counted, repeated) in CASES {
+        for (words, output) in [
+            (&[][..], once),
+            (&["-c"][..], counted),
+            (&["-d"][..], repeated),
+        ] {
+            let mut paper = Paper::new(most, usize::MAX);
+            let script = Script {
+                left: text,
+                most,
+                until_fault: usize::MAX,
+            };
+            assert_eq!(rt; run::<H>(alloc, words, script, &mut paper), (0, ""));
+            assert_eq!(rt; paper.line(), output);
+        }
+    }
+}
+
+#[test]
+fn lines_come_once_counted_and_repeated(rt: HostRuntime) {
+    writes_each_case::<Lookup3Hasher>(&rt, rt.alloc(), 64);
+}
+
+#[test]
+fn a_byte_at_a_time_and_all_with_one_hash(rt: HostRuntime) {
+    writes_each_case::<NullHasher>(&rt, rt.alloc(), 1);
+}
+
+/// The text of the tests of faults, and what is written of it.
+const TEXT: &[u8] = b"b\na\nb\na\nc\n";
+
+const ONCE: &[u8] = b"b\na\nc\n";
+
+const COUNTED: &[u8] = b"      2 b\n      2 a\n      1 c\n";
+
+#[test]
+fn a_read_fails_at_each_byte(rt: HostRuntime) {
+    for until_fault in 0..TEXT.len() {
+        let script = Script {
+            left: TEXT,
+            most: 3,
+            until_fault,
+        };
+        let mut paper = Paper::new(64, usize::MAX);
+        let end = run::<Lookup3Hasher>(rt.alloc(), &[], script, &mut paper);
+        assert_eq!(rt; end, (1, "dedup: read fault\n"));
+        assert!(rt; ONCE.starts_with(paper.line()));
+    }
+}
+
+#[test]
+fn a_write_fails_at_each_byte(rt: HostRuntime) {
+    for (words, output) in [(&[][..], ONCE), (&["-c"][..], COUNTED)] {
+        for until_fault in 0..output.len() {
+            let script = Script {
+                left: TEXT,
+                most: 3,
+                until_fault: usize::MAX,
+            };
+            let mut paper = Paper::new(4, until_fault);
+            let end = run::<Lookup3Hasher>(rt.alloc(), words, script, &mut paper);
+            assert_eq!(rt; end, (1, "dedup: write fault\n"));
+            assert_eq!(rt; paper.line(), &output[..until_fault]);
+        }
+    }
+}
+
+#[test]
+fn a_flush_fails(rt: HostRuntime) {
+    for (words, output) in [(&[][..], ONCE), (&["-c"][..], COUNTED)] {
+        let mut paper = Paper::new(64, usize::MAX);
+        paper.flush_fails = true;
+        let script = Script {
+            left: TEXT,
+            most: 64,
+            until_fault: usize::MAX,
+        };
+        let end = run::<Lookup3Hasher>(rt.alloc(), words, script, &mut paper);
+        assert_eq!(rt; end, (1, "dedup: write fault\n"));
+        assert_eq!(rt; paper.line(), output);
+    }
+}
+
+#[test]
+fn arguments_that_are_wrong(rt: HostRuntime) {
+    let calls = [
+        (&["--help"][..], (0, "")),
+        (&["-x"][..], (2, USAGE)),
+        (&[""][..], (2, USAGE)),
+        (&["-c", "-d"][..], (2, USAGE)),
+        (&["-c", "-c"][..], (2, USAGE)),
+    ];
+    for (words, end) in calls {
+        let mut paper = Paper::new(64, usize::MAX);
+        let script = Script {
+            left: TEXT,
+            most: 64,
+            until_fault: 0,
+        };
+        assert_eq!(rt;
+            run::<Lookup3Hasher>(rt.alloc(), words, script, &mut paper),
+            end
+        );
+        assert!(rt; paper.line().is_empty());
+    }
+}
+
+#[test]
+fn arguments_that_are_not_there(rt: HostRuntime) {
+    for (kind, end) in [
+        (ErrorKind::OutOfMemory, (1, "dedup: out of memory\n")),
+        (ErrorKind::InvalidData, (2, USAGE)),
+    ] {
+        let mut reader = TEXT;
+        let mut paper = Paper::new(64, usize::MAX);
+        let error = Err(io::Error::from(kind));
+        let outcome = outcome_of::<NullHasher, _, _>(
+            rt.alloc(),
+            error,
+            40,
+            &mut reader,
+            &mut paper,
+        );
+        assert_eq!(rt; status(&outcome), end);
+        assert!(rt; paper.line().is_empty());
+    }
+}
+
+#[test]
+fn more_lines_than_the_limit(rt: HostRuntime) {
+    for (limit, fits) in [(5, false), (6, true)] {
+        let mut reader = TEXT;
+        let mut paper = Paper::new(64, usize::MAX);
+        let once = dedup::<NullHasher, _, _>(rt.alloc(), limit, &mut reader, &mut paper);
+        let mut reader = TEXT;
+        let mut paper = Paper::new(64, usize::MAX);
+        let which = Which::Counted;
+        let counted = tally::<NullHasher, _, _>(rt.alloc(), which, limit, &mut reader, &mut paper);
+        assert_eq!(rt; matches!(once, Ok(())), fits);
+        assert_eq!(rt; matches!(once, Err(Fault::TooManyLines)), !fits);
+        assert_eq!(rt; matches!(counted, Ok(())), fits);
+        assert_eq!(rt; matches!(counted, Err(Fault::TooManyLines)), !fits);
+    }
+}
+
+/// Counts what is written, and how many of its bytes are newlines.
+#[derive(Drop)]
+struct Scale {
+    bytes: u64,
+    newlines: u64,
+}
+
+impl Write for Scale {
+    fn write(&mut self, buf: &[u8]) -> io::Result<usize> {
+        self.bytes = self.bytes.saturating_add(buf.len() as u64);
+        for byte in buf {
+            if *byte == b'\n' {
+                self.newlines = self.newlines.saturating_add(1);
+            }
+        }
+        Ok(buf.len())
+    }
+
+    fn flush(&mut self) -> io::Result<()> {
+        Ok(())
+    }
+}
+
+/// Two lines of a mebibyte that differ in their last byte, one of them twice.
+fn long_lines(alloc: Global) -> io::Result<(u64, u64)> {
+    let mut text = Vec::new(alloc);
+    for last in [b'a', b'b', b'a'] {
+        let len = text.len();
+        text.resize(len + 1048575, b'x')?;
+        text.extend_from_slice(&[last, b'\n'])?;
+    }
+    let mut reader = text.as_slice();
+    let mut scale = Scale {
+        bytes: 0,
+        newlines: 0,
+    };
+    match dedup::<Lookup3Hasher, _, _>(alloc, 4, &mut reader, &mut scale) {
+        Ok(()) => Ok((scale.bytes, scale.newlines)),
+        Err(_) => Ok((0, 0)),
+    }
+}
+
+#[test]
+fn lines_of_a_mebibyte(rt: HostRuntime) {
+    let written = long_lines(rt.alloc()).unwrap_or((0, 0));
+    assert_eq!(rt; written, (2097154, 2));
+}
+
+/// Where a request for memory is refused, what was written is a beginning of the output.
+#[test]
+fn refused_memory(rt: HostRuntime) {
+    for (words, output) in [(&[][..], ONCE), (&["-c"][..], COUNTED)] {
+        let script = Script {
+            left: TEXT,
+            most: 64,
+            until_fault: usize::MAX,
+        };
+        let mut paper = Paper::new(64, usize::MAX);
+        let end = run::<Lookup3Hasher>(rt.alloc(), words, script, &mut paper);
+        if end == (0, "") {
+            assert_eq!(rt; paper.line(), output);
+        } else {
+            assert_eq!(rt; end, (1, "dedup: out of memory\n"));
+            assert!(rt; output.starts_with(paper.line()));
+        }
+    }
+}
