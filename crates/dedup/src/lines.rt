@@ -13,8 +13,8 @@ use std::alloc::{AllocError, Global};
 use std::collections::HashSet;
 use std::io::{BufRead, ErrorKind, Write};
 
-/// Reads the next line into `line`, through its newline, and answers whether it has one. Where it has none, it is all that was
-/// left; where there is no further line, `line` is empty.
+/// Reads the next line into `line`, through its newline, and answers whether it has one. Where it has none, it is all
+/// that was left; where there is no further line, `line` is empty.
 pub fn read_line<R: BufRead>(r: &mut R, line: &mut Vec<u8>) -> Result<bool, Fault>
     ensures read { OnOk result (Consumes (R.remaining r.old) (R.remaining r.new) line.new.items) }
     ensures stops { OnOk result (StopsAt line.new.items 10) }
@@ -56,7 +56,8 @@ pub fn see<H: Piecewise>(
     text: &[u8],
 ) -> Result<bool, AllocError>
     ensures new { IfOk result (λ new. new ≡ not (has seen.old text.now)) }
-    ensures seen { OnOk result ((other : List ℕ) → has seen.new other ≡ (bytes_eq other text.now || has seen.old other)) }
+    ensures seen { OnOk result ((other : List ℕ) → has seen.new other
+        ≡ (bytes_eq other text.now || has seen.old other)) }
 {
     if seen.contains(text) {
         return Ok(false);
@@ -83,15 +84,16 @@ pub fn put<W: Write>(w: &mut W, bytes: &[u8]) -> Result<(), Fault>
     Ok(())
 }
 
-/// Writes the line if its text is new, and takes the text into the set. After a fault a beginning of the line was written, if
-/// it is new.
+/// Writes the line if its text is new, and takes the text into the set. After a fault a beginning of the line was
+/// written, if it is new.
 pub fn write_new<H: Piecewise, W: Write>(
     alloc: Global,
     seen: &mut HashSet<Vec<u8>, BuildFresh<H>>,
     line: &[u8],
     w: &mut W,
 ) -> Result<(), Fault>
-    ensures written { OnOk result (Appends (W.contents w.old) (W.contents w.new) (if_new seen.old line.now)) }
+    ensures written { OnOk result (Appends (W.contents w.old) (W.contents w.new)
+        (if_new seen.old line.now)) }
     ensures seen { OnOk result ((other : List ℕ) → has seen.new other
         ≡ (bytes_eq other (strip_last 10 line.now) || has seen.old other)) }
     ensures begun { OnErr result ((part rest : List ℕ) × (part ++ rest ≡ if_new seen.old line.now)

@@ -1,5 +1,5 @@
-//! `dedup` writes each line of its input once, where it came first. `dedup -c` writes at the end each line behind how often
-//! it came, and `dedup -d` those that came more than once.
+//! `dedup` writes each line of its input once, where it came first. `dedup -c` writes at the end each line behind how
+//! often it came, and `dedup -d` those that came more than once.
 #![tactic(auto)]
 
 mod lines;

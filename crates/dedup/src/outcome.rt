@@ -63,8 +63,8 @@ fn task_of(args: Args) -> Option<Task>
     }
 }
 
-/// Does what the arguments ask for, as the system gives them, over at most `limit` lines. Where they are wrong, or there was
-/// no memory for them, nothing is read or written.
+/// Does what the arguments ask for, as the system gives them, over at most `limit` lines. Where they are wrong, or there
+/// was no memory for them, nothing is read or written.
 pub fn outcome_of<H: Piecewise, R: BufRead, W: Write>(
     alloc: Global,
     args: io::Result<Args>,

@@ -173,7 +173,8 @@ fn tell<H: Piecewise, W: Write>(
     write_shown(alloc, which, &order, times, w)
 }
 
-/// Counts the lines of the input, and writes at its end those that are asked for, in the order in which they came first.
+/// Counts the lines of the input, and writes at its end those that are asked for, in the order in which they came
+/// first.
 pub fn tally<H: Piecewise, R: BufRead, W: Write>(
     alloc: Global,
     which: Which,
