@@ -1,5 +1,5 @@
 -- The points of nodes, in a list and in order.
-use Rattle.std.proofs.Common.{ℕ, ◌≡◌, ◌<◌, ◌≤◌, List, [], ◌∷◌, ◌++◌, length, get_or, arith, sym, ap, ◌∙◌, subst, refl, ⊎_elim, false}
+use Rattle.std.proofs.Common.{ℕ, ◌≡◌, ◌<◌, ◌≤◌, ◌+◌, ◌-◌, Bool, true, ltb, if◌then◌else◌, List, [], ◌∷◌, ◌++◌, length, get_or, arith, sym, ap, ◌∙◌, subst, refl, ⊎_elim, false}
 use Rattle.std.specs.List.{All, AllPairs, Contains}
 use Rattle.std.specs.List.Sorted.{IsNonDecreasingBy, IsPermutation, IsSorted}
 use Rattle.std.specs.Ordering.{nat_cmp, is_lt, ordering_then, MatchOrdering}
@@ -7,11 +7,12 @@ use Rattle.std.specs.declared.cmp.Ordering.{Ordering}
 use Rattle.std.specs.declared.cmp.Ordering.TheVariants.{Less, Equal, Greater}
 use Rattle.std.proofs.lemmas.Bool.{cases_lt}
 use Rattle.std.proofs.lemmas.Cmp.{then_total, on_total, nat_cmp_total, ranked}
-use Rattle.std.proofs.lemmas.List.{get_or_past, length-append, get_or_append_left}
+use Rattle.std.proofs.lemmas.List.{get_or_default, get_or_past, length-append, get_or_append_left}
 use Rattle.std.proofs.lemmas.List.Elements.{All-append, All-nil, Contains-append_left, Contains-append_right}
 use Rattle.std.proofs.lemmas.List.Sorted.{All-permutation, Contains-permutation, sorted_far, ranks_by}
 use Rattle.std.proofs.lemmas.List.FromFn.{length-map-range_with_len, get_or-map-range_with_len}
 use Rattle.std.proofs.Math.Seq.{get_or-append_seam}
+use borrow.Author.Tests.{ltb-true, ltb-false}
 use Rattle.hash_ring.specs.declared.Point.{Point}
 use Rattle.hash_ring.specs.Ring.{IsPointOf, point}
 use Rattle.hash_ring.specs.Points.{ArePoints, IsBefore, IsTrue, node_at, points_of}
@@ -102,3 +103,36 @@ places_rise points before i j d upto within = ⊎_elim
     (λ (less : i < j). (before i j d less within).place)
     (λ (same : j ≤ i). let e : i ≡ j = omega arith in subst (λ (k : ℕ). (get_or points i d).place ≤ (get_or points k d).place) e (omega arith))
     (cases_lt i j)
+
+-- the points below `first` come before the place, and those behind the `size` ones after them don't
+pub record IsWindow (points : List Point) (at first size : ℕ) : Type 0 where
+  pub within : first + size ≤ length points
+  pub before : (k : ℕ) (d : Point) → k < first → (get_or points k d).place < at
+  pub after : (k : ℕ) (d : Point) → first + size ≤ k → k < length points → at ≤ (get_or points k d).place
+
+-- a point in the middle tells which half the place is in
+pub narrowed : (points : List Point) (at first size half : ℕ) (d : Point) (is : Bool) → AllPairs IsBefore points → IsWindow points at first size → half < size → half + half ≤ size → is ≡ ltb (get_or points (first + half) d).place at → IsWindow points at (first + (if is then half else 0)) (size - half)
+narrowed points at first size half d true ordered old less twice is =
+    let upto : first + size ≤ length points = old.within in
+    let there : first + half < length points = omega arith in
+    let here : (get_or points (first + half) d).place < at = ltb-true _ _ (sym is) in
+    record {
+      within = omega arith;
+      before = λ k e below.
+          let rises : (get_or points k e).place ≤ (get_or points (first + half) e).place = places_rise points ordered k (first + half) e (omega arith) there in
+          let same : (get_or points (first + half) e).place ≡ (get_or points (first + half) d).place = ap (λ p. p.place) (get_or_default points (first + half) e d there) in
+          omega arith;
+      after = λ k e from low. old.after k e (omega arith) low;
+    }
+narrowed points at first size half d false ordered old less twice is =
+    let upto : first + size ≤ length points = old.within in
+    let there : first + half < length points = omega arith in
+    let here : at ≤ (get_or points (first + half) d).place = ltb-false _ _ (sym is) in
+    record {
+      within = omega arith;
+      before = λ k e below. old.before k e (omega arith);
+      after = λ k e from low.
+          let rises : (get_or points (first + half) e).place ≤ (get_or points k e).place = places_rise points ordered (first + half) k e (omega arith) low in
+          let same : (get_or points (first + half) e).place ≡ (get_or points (first + half) d).place = ap (λ p. p.place) (get_or_default points (first + half) e d there) in
+          omega arith;
+    }

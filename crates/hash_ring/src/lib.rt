@@ -9,7 +9,7 @@
 //! keys fall depends on the hasher: see docs/RING.md.
 #![tactic(auto)]
 
-ghost use Rattle.std.specs.Prelude.{◌≡◌, ◌≢◌, ◌↔◌, ◌<◌, ◌≤◌, ℕ, List, IfOk, IfErr, IfSome, IfNone, OnOk, OnErr, IsTrue, MatchResult, None, T, length, map, min};
+ghost use Rattle.std.specs.Prelude.{◌≡◌, ◌≢◌, ◌↔◌, ◌<◌, ◌≤◌, ◌^◌, if◌then◌else◌, ℕ, List, IfOk, IfErr, IfSome, IfNone, OnOk, OnErr, IsTrue, MatchResult, None, T, length, map, min};
 ghost use Rattle.std.specs.Cmp.Lexicographic.{slice_cmp};
 ghost use Rattle.std.specs.Coded.{coded_list, coded_ℕ};
 ghost use Rattle.std.specs.FinMap as map;
@@ -118,12 +118,31 @@ fn place_of(nodes: &[Node], name: &[u8]) -> Result<usize, usize>
     nodes.binary_search_by(|node| node.name.as_slice().cmp(name))
 }
 
+/// The number where `is`, and 0 elsewhere. It is a shift, as the compiler makes a jump of an `if`, whose way no processor guesses.
+fn if_so(is: bool, n: usize) -> usize
+    requires { n < 2 ^ 63 }
+    ensures { result ≡ (if is then n else 0) }
+{
+    (n << u32::from(is)) - n
+}
+
 /// Where the first point at or after the place stands, or the points' end.
 fn first_from(points: &[Point], place: u64) -> usize
     requires { AllPairs IsBefore points.now }
     ensures { IsStart points.now place result }
 {
-    points.partition_point(|point| point.place < place)
+    let mut first = 0;
+    let mut size = points.len();
+    while size > 1 {
+        let half = size / 2;
+        first += if_so(points[first + half].place < place, half);
+        size -= half;
+    }
+    if size == 1 && points[first].place < place {
+        first + 1
+    } else {
+        first
+    }
 }
 
 /// The index some steps after the first one, round a list of `n`.
