@@ -9,7 +9,7 @@ mod tally;
 #[cfg(test)]
 mod tests;
 
-use hashers::jenkins::Lookup3Hasher;
+use hashers::fnv::FNV1aHasher64;
 use outcome::{Outcome, USAGE, outcome_line, outcome_of, outcome_status};
 use std::io::{BufReader, BufWriter};
 use std::process::ExitCode;
@@ -21,7 +21,7 @@ fn called(rt: &HostRuntime) -> io::Result<Outcome> {
     let mut input = BufReader::new(alloc, rt.stdin())?;
     let mut output = BufWriter::new(alloc, rt.stdout())?;
     let args = env::args(rt);
-    Ok(outcome_of::<Lookup3Hasher, _, _>(alloc, args, u64::MAX, &mut input, &mut output))
+    Ok(outcome_of::<FNV1aHasher64, _, _>(alloc, args, u64::MAX, &mut input, &mut output))
 }
 
 fn main(rt: HostRuntime) -> ExitCode {
