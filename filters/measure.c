@@ -120,7 +120,7 @@ static void strange_keys(void) {
 }
 
 // ---- times
-// The least time of a call over `calls` calls, in nanoseconds.
+// The time of a call over `calls` calls, in nanoseconds.
 static double time_of(call *found, const uint8_t *there, const uint8_t *asked, size_t len, size_t rounds, uint64_t bits,
                       int calls) {
     double start = now();
@@ -130,22 +130,30 @@ static double time_of(call *found, const uint8_t *there, const uint8_t *asked, s
     return (now() - start) / calls;
 }
 
-// The least nanoseconds a key of calls that insert alone, that ask for the same keys too, and that ask for strange ones: [0],
-// [1], [2].
+// Nanoseconds a key in each turn: of an insert, of a question for a key that is there, and for a strange one: [0], [1], [2].
+enum { TURNS = 21 };
 struct times {
-    double of[3];
+    double of[3][TURNS];
 };
 
-static void measure(struct times *least, call *found, const uint8_t *there, const uint8_t *strange, size_t count,
+static void measure(struct times *times, int turn, call *found, const uint8_t *there, const uint8_t *strange, size_t count,
                     uint64_t bits, int calls, size_t rounds) {
-    double got[3] = {
-        time_of(found, there, there, count * 16, 0, bits, calls),
-        time_of(found, there, there, count * 16, rounds, bits, calls),
-        time_of(found, there, strange, count * 16, rounds, bits, calls),
-    };
-    for (int i = 0; i < 3; i++)
-        if (got[i] / (double)count < least->of[i])
-            least->of[i] = got[i] / (double)count;
+    double insert = time_of(found, there, there, count * 16, 0, bits, calls);
+    double with_there = time_of(found, there, there, count * 16, rounds, bits, calls);
+    double with_strange = time_of(found, there, strange, count * 16, rounds, bits, calls);
+    times->of[0][turn] = insert / (double)count;
+    times->of[1][turn] = (with_there - insert) / (double)(rounds * count);
+    times->of[2][turn] = (with_strange - insert) / (double)(rounds * count);
+}
+
+static int by_size(const void *a, const void *b) {
+    double x = *(const double *)a, y = *(const double *)b;
+    return (x > y) - (x < y);
+}
+
+static double median(double *of, int turns) {
+    qsort(of, (size_t)turns, sizeof *of, by_size);
+    return of[turns / 2];
 }
 
 static const struct timed {
@@ -162,31 +170,28 @@ static const struct timed {
 enum { TIMED = sizeof timed / sizeof *timed };
 
 static void times(void) {
-    static const size_t counts[] = {1000, 10000000};
+    static const size_t counts[] = {1000, 10000000}, rounds[] = {4, 1};
+    static const int turns[] = {TURNS, 3}, calls[] = {100, 1};
+    static struct times got[TIMED][2];
     printf("| | insert, 10^3 | there, 10^3 | strange, 10^3 | insert, 10^7 | there, 10^7 | strange, 10^7 |\n"
            "|---|---:|---:|---:|---:|---:|---:|\n");
-    struct times least[TIMED][2];
-    size_t rounds = 4;
     for (int j = 0; j < 2; j++) {
         size_t count = counts[j];
         random_state = 2;
         uint8_t *there = keys(count, 16, true, 0), *strange = keys(count, 16, true, 0);
-        for (int i = 0; i < TIMED; i++)
-            least[i][j] = (struct times){{1e18, 1e18, 1e18}};
-        for (int turn = 0; turn < (j == 0 ? 20 : 2); turn++)
+        for (int turn = 0; turn < turns[j]; turn++)
             for (int i = 0; i < TIMED; i++) {
                 uint64_t bits = timed[i].bits[j] == 0 ? 10 * count : timed[i].bits[j];
-                measure(&least[i][j], timed[i].found, there, strange, count, bits, j == 0 ? 100 : 1, rounds);
+                measure(&got[i][j], turn, timed[i].found, there, strange, count, bits, calls[j], rounds[j]);
             }
         free(there);
         free(strange);
     }
     for (int i = 0; i < TIMED; i++) {
         printf("| %s |", timed[i].name);
-        for (int j = 0; j < 2; j++) {
-            const double *of = least[i][j].of;
-            printf(" %.0f | %.0f | %.0f |", of[0], (of[1] - of[0]) / (double)rounds, (of[2] - of[0]) / (double)rounds);
-        }
+        for (int j = 0; j < 2; j++)
+            for (int what = 0; what < 3; what++)
+                printf("%s%.0f%s", what == 0 ? " " : " | ", median(got[i][j].of[what], turns[j]), what == 2 ? " |" : "");
         printf("\n");
     }
 }

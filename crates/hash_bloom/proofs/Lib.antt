@@ -1,4 +1,4 @@
-pub mod Masks
+pub mod Reduction
 pub mod OneBit
 pub mod Ones
 pub mod Places

@@ -1,5 +1,5 @@
 //! Bits in words of 64, and the places of a key's probes among them.
-ghost use Rattle.std.specs.Prelude.{◌≡◌, ◌+◌, ◌*◌, ◌%◌, ◌<◌, ◌≤◌, ◌↔◌, ◌⊎◌, ℕ, IsTrue, length};
+ghost use Rattle.std.specs.Prelude.{◌≡◌, ◌+◌, ◌-◌, ◌*◌, ◌/◌, ◌%◌, ◌^◌, ◌<◌, ◌≤◌, ◌↔◌, ◌⊎◌, ℕ, IsTrue, length};
 ghost use Rattle.std.specs.Int.RustNames.{count_ones};
 ghost use Rattle.std.specs.List.{sum_by};
 ghost use Rattle.hash_bloom.specs.Filter.{HasBit, HasAll, IsAmong, count_set, place};
@@ -30,16 +30,16 @@ fn next_place(at: u64, step: u64, bits: u64) -> u64
     if at < left { at + step } else { at - left }
 }
 
-/// The remainder, by a mask where `bits` is a power of two.
-fn remainder(hash: u64, bits: u64) -> u64
-    requires { 1 ≤ bits }
+/// The remainder, by a multiplication with the inverse in place of a division: the quotient comes out right or 1 too low.
+/// Paul Barrett, "Implementing the Rivest Shamir and Adleman Public Key Encryption Algorithm", 1986.
+fn remainder(hash: u64, bits: u64, inverse: u64) -> u64
+    requires some { 1 ≤ bits }
+    requires inverse { inverse ≡ (2 ^ 64 - 1) / bits }
     ensures { result ≡ hash % bits }
 {
-    if bits & (bits - 1) == 0 {
-        hash & (bits - 1)
-    } else {
-        hash % bits
-    }
+    let times = (u128::from(hash) * u128::from(inverse) >> 64) as u64;
+    let rest = hash - times * bits;
+    if rest < bits { rest } else { rest - bits }
 }
 
 /// Sets the bits of all probes, and answers whether all of them were set before.
@@ -50,8 +50,9 @@ pub fn set_all(words: &mut [u64], bits: u64, probes: u32, first: u64, second: u6
         ↔ (HasBit words.old j ⊎ IsAmong (place bits first second) probes j) }
     ensures before { IsTrue result ↔ HasAll words.old (place bits first second) probes }
 {
-    let step = remainder(second, bits);
-    let mut at = remainder(first, bits);
+    let inverse = u64::MAX / bits;
+    let step = remainder(second, bits, inverse);
+    let mut at = remainder(first, bits, inverse);
     let mut before = true;
     for _ in 0..probes {
         before &= has_bit(words, at);
@@ -67,8 +68,9 @@ pub fn has_all(words: &[u64], bits: u64, probes: u32, first: u64, second: u64) -
     requires there { bits ≤ 64 * length words.now }
     ensures { IsTrue result ↔ HasAll words.now (place bits first second) probes }
 {
-    let step = remainder(second, bits);
-    let mut at = remainder(first, bits);
+    let inverse = u64::MAX / bits;
+    let step = remainder(second, bits, inverse);
+    let mut at = remainder(first, bits, inverse);
     for _ in 0..probes {
         if !has_bit(words, at) {
             return false;

@@ -53,7 +53,8 @@ pub fn obey_all<F: Piecewise, G: Piecewise>(
 ) -> Bloom<F, G>
     requires { All (CanRun filter) commands.items }
     ensures set { Adds filter result (AnySetsBit F.hash_of G.hash_of filter commands.items) }
-    ensures found { (key : List ℕ) → Inserts commands.items key → Passes F.hash_of G.hash_of result key }
+    ensures found { (key : List ℕ) → Inserts commands.items key
+        → Passes F.hash_of G.hash_of result key }
 {
     for command in commands {
         filter = obey(filter, command);
@@ -113,7 +114,8 @@ pub fn found_in_union<F: Piecewise, G: Piecewise>(
     key: &[u8],
 ) -> bool
     requires { Fits filter.old other.now }
-    ensures exactly { IsTrue result ↔ IsCovered F.hash_of G.hash_of filter.old key.now (IsSet other.now) }
+    ensures exactly { IsTrue result
+        ↔ IsCovered F.hash_of G.hash_of filter.old key.now (IsSet other.now) }
     ensures one { Passes F.hash_of G.hash_of filter.old key.now → IsTrue result }
     ensures other { Passes F.hash_of G.hash_of other.now key.now → IsTrue result }
 {

@@ -23,8 +23,8 @@ use std::marker::{Model, PhantomData};
 /// all of its places are set.
 ///
 /// The place of probe i is (f + i * g) mod bits, where f is the hash of the key by `F` and g the one by `G`. The sum is one of
-/// natural numbers: nothing wraps at 2^64. Each call makes one hash by each hasher, two divisions, and no further division for
-/// the probes; where the number of bits is a power of two a mask stands in place of a division.
+/// natural numbers: nothing wraps at 2^64. Each call makes one hash by each hasher and one division, of 2^64 - 1 by the number of
+/// bits. No key is in it, so a compiler can take it out of a loop. Multiplications stand in place of all others.
 ///
 /// A key that was inserted is found, whatever the hashers. How often a strange key is found depends on them, and nothing is
 /// proved of it: with good hashes it is about (1 - e^(-probes * keys / bits))^probes. Where a key's second hash is a multiple
