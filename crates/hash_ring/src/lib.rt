@@ -126,8 +126,23 @@ fn if_so(is: bool, n: usize) -> usize
     (n << u32::from(is)) - n
 }
 
-/// Where the first point at or after the place stands, or the points' end.
+/// How many points a search without jumps is faster over: so many lie in a processor's caches.
+const FEW: usize = 1 << 15;
+
+/// Where the first point at or after the place stands, or the points' end. Over many points each step waits for memory, and
+/// jumps that are guessed fetch points early.
 fn first_from(points: &[Point], place: u64) -> usize
+    requires { AllPairs IsBefore points.now }
+    ensures { IsStart points.now place result }
+{
+    if points.len() <= FEW {
+        return first_without_jumps(points, place);
+    }
+    points.partition_point(|point| point.place < place)
+}
+
+/// The same, by a binary search that makes no jump on what a point is.
+fn first_without_jumps(points: &[Point], place: u64) -> usize
     requires { AllPairs IsBefore points.now }
     ensures { IsStart points.now place result }
 {

@@ -1,9 +1,16 @@
-use Rattle.std.proofs.Common.{◌+◌, ◌-◌, ◌/◌, arith, subst, sym, refl}
-use Rattle.hash_ring.proofs.Points.{IsWindow, narrowed}
+use Rattle.std.proofs.Common.{ltb, arith, rules}
+use Rattle.std.proofs.lemmas.List.Sorted.{IsPartitionPoint-from_clause, IsPartitionedBy-ltb}
+use borrow.Author.Tests.{ltb-true, ltb-false}
+use Rattle.hash_ring.proofs.Points.{places_rise}
 use Rattle.hash_ring.proofs.first_from.Goals as goal
 
-pub loop-size-preserved : goal.loop-size-preserved
-loop-size-preserved c =
-    let old = c.loop-size in
-    subst (λ step. IsWindow c.args.points.now c.args.place (old.first + step) (old.size - old.size / 2)) (sym c.if_so-first.ensures)
-    (narrowed c.args.points.now c.args.place old.first old.size (old.size / 2) _ _ c.requires old.invariant (omega (arith, c.loop-size-test.true)) (omega (arith, c.loop-size-test.true)) refl)
+pub returns : goal.returns
+returns c =
+    let points = c.args.points.now in
+    let at = IsPartitionPoint-from_clause (λ p. ltb p.place c.args.place) points c.partition_point.result c.partition_point.ensures.partitioned
+    (IsPartitionedBy-ltb (λ p. p.place) points c.args.place (places_rise points c.requires)) (λ a r q k. search rules) in
+    record {
+      within = c.partition_point.ensures.bound;
+      before = λ k d less. ltb-true _ _ (at.0 k d (omega arith) less);
+      after = λ k d from below. ltb-false _ _ (at.1 k d from below);
+    }

@@ -1,5 +1,5 @@
 use Rattle.hash_ring.proofs.Points.{IsWindow}
-use Rattle.hash_ring.proofs.first_from.Given as goal
+use Rattle.hash_ring.proofs.first_without_jumps.Given as goal
 
 abbrev pub invariant-loop-size : goal.invariant-loop-size
 invariant-loop-size l = IsWindow l.points l.place l.first l.size
