@@ -1,15 +1,14 @@
 -- Lines of a text that grows, and the first of each.
-use Rattle.std.proofs.Common.{zero, suc, subst, Option, Some, None, IfSome, ◌≡◌, ◌≢◌, ℕ, ◌+◌, ◌-◌, ◌<◌, ◌≤◌, Bool, true, false, cond, not, ◌||◌, ◌&&◌, if◌then◌else◌, ◌==◌, List, [], ◌∷◌, ◌++◌, length, get_or, take, drop, take-append-drop, append_assoc, All, ap, sym, ◌∙◌, refl, arith}
+use Rattle.std.proofs.Common.{suc, subst, Option, Some, None, IfSome, ◌≡◌, ◌≢◌, ℕ, ◌-◌, ◌<◌, Bool, true, false, cond, not, ◌||◌, ◌&&◌, if◌then◌else◌, ◌==◌, List, [], ◌∷◌, ◌++◌, length, get_or, take, drop, take-append-drop, append_assoc, All, ap, sym, ◌∙◌, refl, arith}
 use Rattle.std.specs.Io.{StopsAt}
 use Rattle.std.specs.Io.BufRead.{ends_with_byte, strip_last, take_through}
 use Rattle.std.specs.List.{filter, concat, list_any, onto_first}
-use Rattle.std.specs.Str.{bytes_eq}
 use Rattle.std.proofs.lemmas.Bool.{ne_eqb, lt-ltb, false≢true}
 use Rattle.std.proofs.lemmas.Cmp.{nat_list_eq_equiv}
 use Rattle.std.proofs.lemmas.List.{append-nil, take_rest}
 use Rattle.std.proofs.lemmas.Grind.{get_or_tail}
 use Rattle.std.proofs.lemmas.List.Elements.{All-head, All-tail, filter-append}
-use Rattle.std.proofs.lemmas.List.Folds.{list_any-append, concat-append}
+use Rattle.std.proofs.lemmas.List.Folds.{concat-append}
 use Rattle.dedup.specs.Lines.{lines, same_text, firsts, each_once}
 
 same_text-symm : (line other : List ℕ) → same_text line other ≡ same_text other line

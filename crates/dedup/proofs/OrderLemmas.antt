@@ -1,13 +1,13 @@
 -- Texts that are put at their places, and written in order.
-use Rattle.std.proofs.Common.{◌≡◌, ◌≢◌, ℕ, ◌+◌, ◌-◌, zero-add, ◌<◌, ◌≤◌, List, [], ◌∷◌, ◌++◌, length, get_or, set, take, drop, map, All, ap, sym, subst, ◌∙◌, refl, arith, append_assoc, take-append-drop, Vec, Global, Bor, Option, inl, inr}
+use Rattle.std.proofs.Common.{◌≡◌, ℕ, ◌+◌, ◌-◌, zero-add, ◌<◌, ◌≤◌, List, [], ◌∷◌, ◌++◌, length, get_or, set, take, drop, map, All, ap, sym, subst, ◌∙◌, refl, arith, append_assoc, take-append-drop, Vec, Global, Bor, Option, inl, inr}
 use Rattle.std.specs.Io.BufRead.{strip_last}
 use Rattle.std.specs.Io.KnownBytes.{Appends, Keeps}
 use Rattle.std.proofs.KnownBytes.{Appends-nil, Appends-trans, Appends-kept}
-use Rattle.std.specs.List.{count_by, enumerate_from, flat_map, Contains}
+use Rattle.std.specs.List.{count_by, enumerate_from, flat_map}
 use Rattle.std.specs.List.Sorted.{IsPermutation}
 use Rattle.std.proofs.lemmas.Bool.{cases_eq}
 use Rattle.std.proofs.lemmas.List.{append-nil, length-map, length-set, length-append, ext_get_or, get_or_append_left, get_or-append_right, get_or-map, get_or-set_same, get_or-set_other, get_or_default, take_more, take_all}
-use Rattle.std.proofs.lemmas.List.Elements.{All-append, All-nil, Contains-get_or}
+use Rattle.std.proofs.lemmas.List.Elements.{All-append, All-nil}
 use Rattle.std.proofs.lemmas.List.FromFn.{length-enumerate_from, get_or-enumerate_from}
 use Rattle.std.proofs.lemmas.List.Sorted.{All-permutation, Contains-permutation}
 use Rattle.std.proofs.lemmas.Grind.{flat_map-append}

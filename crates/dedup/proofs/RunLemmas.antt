@@ -1,5 +1,5 @@
 -- A run between two lines, and how it ends.
-use Rattle.std.proofs.Common.{◌≡◌, ℕ, ◌<◌, Bool, true, false, not, ◌||◌, List, [], ◌∷◌, ◌++◌, length, ap, sym, ◌∙◌, refl, if◌then◌else◌, subst, Option, None, Some, IfSome, Result, Ok, Err, OnOk, OnErr, append_assoc}
+use Rattle.std.proofs.Common.{◌≡◌, ℕ, ◌<◌, Bool, true, false, ◌||◌, List, [], ◌∷◌, ◌++◌, length, ap, sym, ◌∙◌, refl, if◌then◌else◌, subst, Option, None, Some, IfSome, Result, Ok, Err, OnOk, OnErr, append_assoc}
 use Rattle.std.proofs.lemmas.Result.{on_ok_weaker, on_err_weaker}
 use Rattle.std.specs.Io.{StopsAt}
 use Rattle.std.specs.Io.BufRead.{ends_with_byte, strip_last}
@@ -11,7 +11,7 @@ use Rattle.std.proofs.KnownBytes.{Consumes-nil, Consumes-trans, Appends-nil, App
 use Rattle.std.proofs.lemmas.Bool.{false≢true}
 use Rattle.std.proofs.lemmas.List.{append-nil}
 use Rattle.std.proofs.lemmas.List.Folds.{list_any-append}
-use Rattle.dedup.specs.Lines.{lines, same_text, each_once}
+use Rattle.dedup.specs.Lines.{lines, each_once}
 use Rattle.dedup.specs.Running.{Run, WritesAll, WritesPart, Ends}
 use Rattle.dedup.specs.declared.run.Fault.{Fault}
 use Rattle.dedup.proofs.LineLemmas.{lines_of_line, one_line, each_once_more, each_once_begins}

@@ -1,16 +1,14 @@
 -- The set of the texts that were seen.
-use Rattle.std.proofs.Common.{◌≡◌, ℕ, Result, Ok, Err, OnOk, OnErr, Bool, true, false, not, ◌||◌, List, [], ◌∷◌, ◌++◌, ap, sym, ◌∙◌, refl, if◌then◌else◌, Vec, Global}
+use Rattle.std.proofs.Common.{◌≡◌, ℕ, Result, Ok, Err, OnOk, OnErr, Bool, true, false, not, ◌||◌, List, [], ◌∷◌, ap, sym, ◌∙◌, refl, if◌then◌else◌, Vec, Global}
 use Rattle.std.specs.HashSet.{HashSet, PutsKey}
 use Rattle.std.specs.Io.BufRead.{strip_last}
 use Rattle.std.specs.List.{list_any}
-use Rattle.std.specs.List.Sorted.{IsPermutation}
 use Rattle.std.specs.Result.{is_ok}
 use Rattle.std.specs.Str.{bytes_eq}
 use Rattle.std.proofs.lemmas.Bool.{false≢true}
 use Rattle.std.proofs.lemmas.Cmp.{nat_list_eq_equiv}
-use Rattle.std.proofs.lemmas.List.Folds.{list_any-append}
 use Rattle.std.proofs.lemmas.List.Sorted.{list_any-IsPermutation}
-use Rattle.dedup.specs.Lines.{lines, same_text, has, if_new}
+use Rattle.dedup.specs.Lines.{has, if_new}
 
 module _ {S : Type 0} where
   -- a text that is seen adds nothing

@@ -1,17 +1,15 @@
 -- Texts by their places, and how often each came.
-use Rattle.std.proofs.Common.{zero, suc, ◌≡◌, ℕ, ◌+◌, ◌-◌, ◌<◌, ◌≤◌, Bool, true, false, cond, not, ◌||◌, List, [], ◌∷◌, ◌++◌, length, get_or, set, map, All, ap, sym, subst, ◌∙◌, refl, arith, Option, None, Some, IfSome, Vec, Global, add-zero, zero-add}
-use Rattle.std.specs.HashMap.{HashMap, PutsEntry}
+use Rattle.std.proofs.Common.{zero, suc, ◌≡◌, ℕ, ◌+◌, ◌<◌, Bool, true, false, cond, not, ◌||◌, List, [], ◌∷◌, ◌++◌, length, get_or, set, map, All, ap, sym, subst, ◌∙◌, refl, arith, None, Some, IfSome, Vec, Global, add-zero, zero-add}
 use Rattle.std.specs.Io.BufRead.{strip_last}
-use Rattle.std.specs.List.{filter, list_any, count_by, sum_by, enumerate_from}
+use Rattle.std.specs.List.{filter, list_any, count_by, enumerate_from}
 use Rattle.std.specs.List.Sorted.{IsPermutation}
 use Rattle.std.specs.Map.{lookup, keys_of}
 use Rattle.std.specs.Option.{is_some, unwrap_or}
 use Rattle.std.specs.Str.{bytes_eq}
 use Rattle.std.proofs.lemmas.Bool.{false≢true, or_parts}
 use Rattle.std.proofs.lemmas.Cmp.{nat_list_eq_equiv}
-use Rattle.std.proofs.lemmas.List.{map-append, length-map, length-append, get_or-map, get_or_default}
-use Rattle.std.proofs.lemmas.List.Elements.{All-map, All-head, All-tail}
-use Rattle.std.proofs.lemmas.List.Folds.{list_any-append}
+use Rattle.std.proofs.lemmas.List.{map-append, length-map, get_or-map, get_or_default}
+use Rattle.std.proofs.lemmas.List.Elements.{All-head, All-tail}
 use Rattle.std.proofs.lemmas.List.FromFn.{length-enumerate_from, get_or-enumerate_from}
 use Rattle.std.proofs.lemmas.List.Sorted.{list_any-IsPermutation, IsPermutation-map, IsPermutation-push_more, All-permutation}
 use Rattle.std.proofs.lemmas.List.Sums.{sum_by-append}

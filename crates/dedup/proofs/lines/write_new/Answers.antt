@@ -1,6 +1,4 @@
-use Rattle.std.proofs.Common.{rules, ◌≡◌, ap, sym, ◌∙◌, false, true, List, [], if◌then◌else◌}
-use Rattle.std.specs.Io.BufRead.{strip_last}
-use Rattle.dedup.specs.Lines.{has, if_new}
+use Rattle.std.proofs.Common.{rules, ◌∙◌}
 use Rattle.dedup.proofs.SeenLemmas.{new_is_line, on_err}
 use Rattle.dedup.proofs.lines.write_new.Goals as goal
 

@@ -1,4 +1,4 @@
-use Rattle.std.proofs.Common.{rules, arith, ◌≡◌, ap, sym, subst, ◌∙◌, List, ℕ, None, Option, MatchOption, ◌∷◌, ◌++◌, []}
+use Rattle.std.proofs.Common.{rules, arith, ◌≡◌, ap, sym, subst, ◌∙◌, None, MatchOption, ◌∷◌, ◌++◌, []}
 use Rattle.std.specs.HashMap.{get_by}
 use Rattle.std.specs.List.Sorted.{IsPermutation}
 use Rattle.std.specs.Map.{lookup, set_value}

@@ -1,4 +1,4 @@
-use Rattle.std.proofs.Common.{rules, arith, ◌≡◌, ◌<◌, ap, sym, subst, ◌∙◌, List, ℕ, Some, get_or, set, ◌+◌, ◌∷◌, [], ◌++◌}
+use Rattle.std.proofs.Common.{arith, ◌≡◌, ap, sym, subst, ◌∙◌, Some, get_or, set, ◌+◌, ◌∷◌, [], ◌++◌}
 use Rattle.std.proofs.lemmas.List.{get_or_default}
 use Rattle.std.specs.Map.{lookup}
 use Rattle.std.specs.Option.{option_copied}

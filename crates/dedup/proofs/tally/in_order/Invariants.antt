@@ -1,4 +1,4 @@
-use Rattle.std.proofs.Common.{◌≡◌, ℕ, ◌++◌, length, Bor, List}
+use Rattle.std.proofs.Common.{◌≡◌, length}
 use Rattle.dedup.proofs.OrderLemmas.{Placing}
 use Rattle.dedup.proofs.tally.in_order.Given as goal
 

@@ -1,5 +1,5 @@
-use Rattle.std.proofs.Common.{rules, ◌≡◌, ap, sym, subst, ◌∙◌, List, ℕ, [], ◌∷◌, ◌++◌, append_assoc}
-use Rattle.std.specs.Fmt.{styled_decimal, format_spec}
+use Rattle.std.proofs.Common.{ap, ◌∙◌, [], ◌∷◌, ◌++◌, append_assoc}
+use Rattle.std.specs.Fmt.{styled_decimal}
 use Rattle.dedup.specs.Tallies.{column}
 use Rattle.dedup.proofs.ColumnLemmas.{column_is}
 use Rattle.dedup.proofs.SeenLemmas.{at_ok}

@@ -1,4 +1,4 @@
-use Rattle.std.proofs.Common.{rules, arith, ◌≡◌, ◌<◌, ap, sym, subst, ◌∙◌, List, ℕ, [], ◌++◌, ◌∷◌, length, All, IfSome}
+use Rattle.std.proofs.Common.{rules, arith, ◌≡◌, ◌<◌, ap, sym, subst, ◌∙◌, List, ℕ, [], length, All, IfSome}
 use Rattle.std.specs.Io.BufRead.{strip_last}
 use Rattle.std.specs.Io.KnownBytes.{Consumes}
 use Rattle.std.proofs.lemmas.Bool.{eqb-false}

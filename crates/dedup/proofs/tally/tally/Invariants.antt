@@ -1,4 +1,3 @@
-use Rattle.dedup.specs.Lines.{has, lines}
 use Rattle.dedup.specs.Running.{run_of}
 use Rattle.dedup.specs.Tallies.{Tallies}
 use Rattle.dedup.proofs.RunLemmas.{Counting}

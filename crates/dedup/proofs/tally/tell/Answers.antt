@@ -1,4 +1,4 @@
-use Rattle.std.proofs.Common.{rules, arith, ◌≡◌, ap, sym, subst, ◌∙◌, List, ℕ, map, length}
+use Rattle.std.proofs.Common.{ap, sym, ◌∙◌, map, length}
 use Rattle.std.proofs.lemmas.Result.{on_ok_weaker, on_err_weaker}
 use Rattle.dedup.specs.Tallies.{texts}
 use Rattle.dedup.proofs.TallyLemmas.{as_many}

@@ -1,4 +1,4 @@
-use Rattle.std.proofs.Common.{rules, arith, ◌≡◌, ◌<◌, ap, sym, subst, ◌∙◌, length}
+use Rattle.std.proofs.Common.{rules, arith, ◌∙◌}
 use Rattle.std.proofs.KnownBytes.{Keeps-refl}
 use Rattle.dedup.proofs.OrderLemmas.{telling_more, telling_stops, telling_stops_within}
 use Rattle.dedup.proofs.SeenLemmas.{on_err}

@@ -1,4 +1,3 @@
-use Rattle.std.proofs.Common.{◌≡◌, ◌≤◌, length}
 use Rattle.dedup.proofs.OrderLemmas.{Telling}
 use Rattle.dedup.proofs.tally.write_shown.Given as goal
 
