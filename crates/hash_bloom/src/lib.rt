@@ -15,7 +15,7 @@ pub mod commands;
 mod tests;
 
 use crate::bits::{has_all, no_bits_beyond, ones, set_all, unite};
-use hashers::laws::{Piecewise, Streamed, hash_of, run_streamed};
+use hashers::laws::{Piecewise, Streamed, answer_of_pieces, hash_of};
 use std::alloc::{AllocError, Global};
 use std::marker::{Model, PhantomData};
 
@@ -47,15 +47,6 @@ impl<F: Piecewise, G: Piecewise> Model for Bloom<F, G> {
     ghost view = { λ b. filter_of b.bits b.probes b.words.items };
 
     ghost invariant = { λ b. IsFilter (filter_of b.bits b.probes b.words.items) };
-}
-
-/// The hash of the joined pieces, which are not joined for it.
-fn hash_of_pieces<H: Streamed>(pieces: &[&[u8]]) -> u64
-    ensures { result ≡ H.hash_of (joined pieces.now) }
-{
-    let mut hasher = H::fresh();
-    run_streamed(&mut hasher, pieces);
-    hasher.answer()
 }
 
 /// The words are not those of a filter of so many bits and probes: they come back as they were.
@@ -219,7 +210,7 @@ impl<F: Streamed, G: Streamed> Bloom<F, G> {
     pub fn contains_pieces(&self, pieces: &[&[u8]]) -> bool
         ensures { IsTrue result ↔ Passes F.hash_of G.hash_of self.now (joined pieces.now) }
     {
-        let (first, second) = (hash_of_pieces::<F>(pieces), hash_of_pieces::<G>(pieces));
+        let (first, second) = (answer_of_pieces::<F>(pieces), answer_of_pieces::<G>(pieces));
         has_all(&self.words, self.bits, self.probes, first, second)
     }
 }

@@ -1,9 +1,9 @@
 -- Lists of pieces whose cuts agree.
-use Rattle.std.proofs.Common.{◌≡◌, ℕ, ◌+◌, ◌<◌, ◌≤◌, Bor, List, [], ◌∷◌, ◌++◌, length, map, take, get_or, sym, ap, ◌∙◌, arith, refl}
+use Rattle.std.proofs.Common.{◌≡◌, ℕ, ◌+◌, ◌<◌, Bor, List, [], ◌∷◌, ◌++◌, length, map, take, get_or, sym, ap, ◌∙◌, arith}
 use Rattle.std.specs.Prelude.{All}
 use Rattle.std.proofs.Math.Path.{ap₂}
-use Rattle.std.proofs.lemmas.List.{map_more, map_push, get_or-map, length-map, take_all}
-use Rattle.std.proofs.lemmas.List.Elements.{All-nil, All-push}
+use Rattle.std.proofs.lemmas.List.{map_more, map_push, get_or-map, length-map}
+use Rattle.std.proofs.lemmas.List.Elements.{All-push}
 use Rattle.hash_laws.specs.Text.{IsText, texts}
 
 abbrev pub Pieces : Type 0
@@ -42,9 +42,6 @@ SameCuts-at x y i d same below =
 texts_more : (x : Pieces) (i : ℕ) (d : Bor (List ℕ)) → i < length x → texts (take (i + 1) x) ≡ texts (take i x) ++ (get_or x i d).now ∷ []
 texts_more x i d below = map_more (λ (p : Bor (List ℕ)). p.now) x i d below
 
-pub CutsAgree-none : (x y : Pieces) → CutsAgree (take 0 x) (take 0 y)
-CutsAgree-none x y = record { cuts = refl; first = All-nil IsText; second = All-nil IsText }
-
 pub CutsAgree-more : (x y : Pieces) (i : ℕ) (d : Bor (List ℕ)) → i < length x → i < length y → length (get_or x i d).now ≡ length (get_or y i d).now
     → IsText (get_or x i d).now → IsText (get_or y i d).now → CutsAgree (take i x) (take i y) → CutsAgree (take (i + 1) x) (take (i + 1) y)
 CutsAgree-more x y i d in_x in_y same_length x_text y_text before = record {
@@ -54,6 +51,3 @@ CutsAgree-more x y i d in_x in_y same_length x_text y_text before = record {
   first = rw (texts_more x i d in_x) (All-push IsText (texts (take i x)) (get_or x i d).now before.first x_text);
   second = rw (texts_more y i d in_y) (All-push IsText (texts (take i y)) (get_or y i d).now before.second y_text);
 }
-
-pub CutsAgree-all : (x y : Pieces) (i : ℕ) → length x ≤ i → length y ≤ i → CutsAgree (take i x) (take i y) → CutsAgree x y
-CutsAgree-all x y i x_end y_end before = rw (take_all i x x_end, take_all i y y_end) at before

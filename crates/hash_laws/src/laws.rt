@@ -214,7 +214,8 @@ pub fn run_streamed<H: Streamed>(h: &mut H, pieces: &[&[u8]])
 
 /// The hash of the joined pieces, from the default start.
 pub fn answer_of_pieces<H: Streamed>(pieces: &[&[u8]]) -> u64
-    ensures { result ≡ H.hash H.start (joined pieces.now) }
+    ensures defined { result ≡ H.hash H.start (joined pieces.now) }
+    ensures value { result ≡ H.hash_of (joined pieces.now) }
 {
     let mut hasher = H::fresh();
     run_streamed(&mut hasher, pieces);

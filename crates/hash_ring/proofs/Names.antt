@@ -85,16 +85,6 @@ found_where (x ∷ es) q w e =
       | false ↦ λ t s. let r = found_where es q w s in record { i = suc r.i; below = omega (arith, r.below); is = r.is }
     ] refl e
 
--- a name stands at one index alone
-pub one_index : (es : Pairs) → T (is_sorted R es) → (i j : ℕ) → i < length es → j < length es → (node_at es i).0 ≡ (node_at es j).0 → i ≡ j
-one_index es h i j l m e = ⊎_elim
-    (λ (same : i ≡ j). same)
-    (λ ne. ⊎_elim
-    (λ (low : i < j). let a = names_rise es h i j low m in let b : R (node_at es i).0 (node_at es j).0 ≡ Equal = ap (R (node_at es i).0) (sym e) ∙ itself (node_at es i).0 in cc)
-    (λ (high : j < i). let a = names_rise es h j i high l in let b : R (node_at es j).0 (node_at es i).0 ≡ Equal = ap (R (node_at es j).0) e ∙ itself (node_at es j).0 in cc)
-    ne)
-    (cases_order i j)
-
 -- the name at an index is no greater than at a later one
 pub no_greater : (es : Pairs) → T (is_sorted R es) → (i j : ℕ) → i ≤ j → j < length es → is_gt (R (node_at es i).0 (node_at es j).0) ≡ false
 no_greater es h i j upto m = ⊎_elim

@@ -1,8 +1,7 @@
 -- A slice as chunks of n, in order.
 use Rattle.std.proofs.Common.{◌≡◌, ℕ, zero, suc, ◌+◌, ◌*◌, ◌<◌, ◌≤◌, List, [], ◌++◌, length, get_or, take, drop, refl, sym, ap, ◌∙◌, arith}
 use Rattle.std.proofs.Math.Seq.{take-add}
-use Rattle.std.proofs.lemmas.List.{drop-drop, length-drop, length-take-le, drop-append-le, take-append-le, nil_from_length}
-use Rattle.std.proofs.Math.Nat.{mul-le-mul_right}
+use Rattle.std.proofs.lemmas.List.{drop-drop, length-drop, drop-append-le, take-append-le, nil_from_length}
 use Rattle.std.specs.Simd.{first_chunks}
 
 pub get_or-first_chunks : {X : Type 0} (n k i : ℕ) (xs : List X) (d : List X) → i < k → get_or (first_chunks n k xs) i d ≡ take n (drop (i * n) xs)
@@ -17,12 +16,6 @@ pub take_chunk : {X : Type 0} (n k i : ℕ) (xs : List X) (d : List X) → i < k
 take_chunk n k i xs d h =
     let e : (i + 1) * n ≡ i * n + n = omega arith in
     rw (get_or-first_chunks n k i xs d h, e) (sym (take-add (i * n) n xs))
-
-pub length-chunk_at : {X : Type 0} (n k i : ℕ) (xs : List X) (d : List X) → i < k → k * n ≤ length xs → length (get_or (first_chunks n k xs) i d) ≡ n
-length-chunk_at n k i xs d h le =
-    let room : (i + 1) * n ≤ k * n = mul-le-mul_right n (omega arith) in
-    let left : n ≤ length (drop (i * n) xs) = omega (arith, length-drop (i * n) xs) in
-    ap length (get_or-first_chunks n k i xs d h) ∙ length-take-le n (drop (i * n) xs) left
 
 -- the chunks of two texts, the first of which is i whole chunks
 pub first_chunks-append : {X : Type 0} (n i j k : ℕ) (a b : List X) → k ≡ i + j → length a ≡ i * n

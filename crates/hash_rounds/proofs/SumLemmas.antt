@@ -152,11 +152,6 @@ pub passthrough-one : (s b : ℕ) → passthrough s (b ∷ []) ≡ passthrough_s
 unfolding passthrough
 passthrough-one = number-one 256 (2 ^ 64)
 
--- one byte more
-pub passthrough_push : (s : ℕ) (t : List ℕ) (b : ℕ) → (passthrough s t * 256 % 2 ^ 64 + b) % 2 ^ 64 ≡ passthrough s (t ++ b ∷ [])
-unfolding passthrough
-passthrough_push = number_push 256 (2 ^ 64)
-
 pub passthrough-fold : (s : ℕ) (t : List ℕ) → s < 2 ^ 64 → passthrough s t ≡ fold passthrough_step s t
 unfolding passthrough
 passthrough-fold = number-fold 256 (2 ^ 64)

@@ -12,7 +12,7 @@ pub fn rotl32(x: u32, k: u32) -> u32
     ensures value { result ≡ rotl 32 x k }
     ensures undone { rotl 32 result (32 - k) ≡ x }
 {
-    x.rotate_left(k)
+    u32::rotate_left(x, k)
 }
 
 /// The word of 64 bits turned to the left by `k` bits: what leaves at the top comes in at the bottom.
@@ -24,7 +24,7 @@ pub fn rotl64(x: u64, k: u32) -> u64
     ensures value { result ≡ rotl 64 x k }
     ensures undone { rotl 64 result (64 - k) ≡ x }
 {
-    x.rotate_left(k)
+    u64::rotate_left(x, k)
 }
 
 /// The little-endian value of at most four bytes, the first byte being the lowest. No bytes give 0.

@@ -12,13 +12,22 @@ ghost use Rattle.hashers.specs.ShortWords.{IsShortWord};
 use crate::oz;
 use hash_laws::window::is_window;
 
+// In how many neighbouring places two texts may differ.
+const DJB2_PLACES: usize = 6;
+
+const SDBM_PLACES: usize = 3;
+
+const FNV64_PLACES: usize = 3;
+
+const FNV32_PLACES: usize = 2;
+
 /// Whether the texts have one length and differ, but only within six neighbouring places, and everywhere only in the low
 /// five bits of a byte. Their `djb2` hashes then differ.
 pub fn apart_djb2(x: &[u8], y: &[u8]) -> bool
     ensures exactly { IsTrue result ↔ DifferWithin 6 0xE0 x.now y.now }
     ensures differ { OnTrue result (djb2 5381 x.now ≢ djb2 5381 y.now) }
 {
-    is_window(x, y, 6, 0xE0)
+    is_window(x, y, DJB2_PLACES, 0xE0)
 }
 
 /// Whether the texts have one length and differ, but only within three neighbouring places. Their `sdbm` hashes then
@@ -27,7 +36,7 @@ pub fn apart_sdbm(x: &[u8], y: &[u8]) -> bool
     ensures exactly { IsTrue result ↔ DifferWithin 3 0 x.now y.now }
     ensures differ { OnTrue result (sdbm 0 x.now ≢ sdbm 0 y.now) }
 {
-    is_window(x, y, 3, 0) // of sdbm
+    is_window(x, y, SDBM_PLACES, 0)
 }
 
 /// Whether the texts have one length and differ, but only within three neighbouring places. Their `fnv1a64` hashes then
@@ -36,7 +45,7 @@ pub fn apart_fnv64(x: &[u8], y: &[u8]) -> bool
     ensures exactly { IsTrue result ↔ DifferWithin 3 0 x.now y.now }
     ensures differ { OnTrue result (fnv1a64 fnv1a64_basis x.now ≢ fnv1a64 fnv1a64_basis y.now) }
 {
-    is_window(x, y, 3, 0) // of FNV at 64 bits
+    is_window(x, y, FNV64_PLACES, 0)
 }
 
 /// Whether the texts have one length and differ, but only within two neighbouring places. Their `fnv1a32` hashes then
@@ -45,7 +54,7 @@ pub fn apart_fnv32(x: &[u8], y: &[u8]) -> bool
     ensures exactly { IsTrue result ↔ DifferWithin 2 0 x.now y.now }
     ensures differ { OnTrue result (fnv1a32 fnv1a32_basis x.now ≢ fnv1a32 fnv1a32_basis y.now) }
 {
-    is_window(x, y, 2, 0)
+    is_window(x, y, FNV32_PLACES, 0)
 }
 
 /// Whether two words of a to z of one length, of at most six letters, are the same: by their `djb2` hashes alone, which

@@ -26,17 +26,35 @@ fn one_bucket_of_four(rt: HostRuntime) {
     all_hold(&rt, &[table.len() == 1]);
 }
 
-/// Commands on the keys `a`, `b` and `c`, if there is memory for them.
+/// What is asked of a key.
+#[derive(Clone, Copy)]
+enum Asked {
+    Insert(u64),
+    Get,
+    Remove,
+}
+
+const SCRIPT: [(&[u8], Asked); 7] = [
+    (b"a", Asked::Insert(1)),
+    (b"b", Asked::Insert(2)),
+    (b"a", Asked::Insert(3)),
+    (b"a", Asked::Get),
+    (b"a", Asked::Remove),
+    (b"a", Asked::Get),
+    (b"c", Asked::Insert(4)),
+];
+
+/// The commands of the script, if there is memory for them.
 fn script(alloc: Global) -> Result<Vec<Command>, AllocError> {
-    let commands = vec![in alloc;
-        Command::Insert(Vec::from_slice(alloc, b"a")?, 1),
-        Command::Insert(Vec::from_slice(alloc, b"b")?, 2),
-        Command::Insert(Vec::from_slice(alloc, b"a")?, 3),
-        Command::Get(Vec::from_slice(alloc, b"a")?),
-        Command::Remove(Vec::from_slice(alloc, b"a")?),
-        Command::Get(Vec::from_slice(alloc, b"a")?),
-        Command::Insert(Vec::from_slice(alloc, b"c")?, 4),
-    ]?;
+    let mut commands = Vec::new(alloc);
+    for (key, asked) in &SCRIPT {
+        let key = Vec::from_slice(alloc, key)?;
+        commands.push(match asked {
+            Asked::Insert(value) => Command::Insert(key, *value),
+            Asked::Get => Command::Get(key),
+            Asked::Remove => Command::Remove(key),
+        })?;
+    }
     Ok(commands)
 }
 

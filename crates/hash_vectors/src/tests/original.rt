@@ -55,12 +55,12 @@ fn answers(text: &[u8], piece: usize) -> [u64; 14] {
 #[test]
 fn answers_as_the_original(rt: HostRuntime) {
     let mut text = [0u8; 4097];
-    for (row, (length, filling, piece, wanted)) in SAMPLE.into_iter().enumerate() {
+    for (row, (length, filling, piece, wanted)) in SAMPLE.iter().enumerate() {
         for (i, b) in text.iter_mut().enumerate() {
-            *b = byte(filling, i);
+            *b = byte(*filling, i);
         }
-        let length = length.min(text.len());
-        let ours = answers(&text[..length], piece);
-        same_at(&rt, row, &ours, &wanted);
+        let length = (*length).min(text.len());
+        let ours = answers(&text[..length], *piece);
+        same_at(&rt, row, &ours, wanted);
     }
 }
