@@ -1,5 +1,6 @@
 pub mod Lines
 pub mod Program
 pub mod Running
+pub mod Slots
 pub mod Status
 pub mod Tallies

@@ -1,11 +1,8 @@
 -- The lines of a text, and what the program makes of them.
 use Rattle.std.specs.Prelude.{ℕ, ◌==◌, if◌then◌else◌, Bool, not, List, [], ◌∷◌}
-use Rattle.std.specs.HashSet.{HashSet, contains_by}
 use Rattle.std.specs.Io.BufRead.{strip_last}
-use Rattle.std.specs.List.{filter, concat, onto_first}
+use Rattle.std.specs.List.{filter, concat, list_any, onto_first}
 use Rattle.std.specs.Str.{bytes_eq}
-use Rattle.std.specs.declared.alloc.Global.{Global}
-use Rattle.std.specs.declared.vec.Vec.{Vec}
 
 -- the lines, each through its newline; the last may have none
 abbrev pub lines : List ℕ → List (List ℕ)
@@ -25,10 +22,10 @@ firsts (line ∷ more) = line ∷ filter (λ other. not (same_text line other)) 
 abbrev pub each_once : List ℕ → List ℕ
 each_once text = concat (firsts (lines text))
 
--- whether a set has a text
-abbrev pub has : {S : Type 0} → HashSet (Vec ℕ Global) S → List ℕ → Bool
-has seen text = contains_by (λ key. bytes_eq text key.items) seen
+-- whether a text is among these
+abbrev pub has : List (List ℕ) → List ℕ → Bool
+has seen text = list_any (bytes_eq text) seen
 
--- what is written of a line behind lines of which a set has the texts
-abbrev pub if_new : {S : Type 0} → HashSet (Vec ℕ Global) S → List ℕ → List ℕ
+-- what is written of a line behind lines of which these are the texts
+abbrev pub if_new : List (List ℕ) → List ℕ → List ℕ
 if_new seen line = if has seen (strip_last 10 line) then [] else line

@@ -1,5 +1,5 @@
 //! Reads and writes lines, and tells which are new.
-ghost use Rattle.std.specs.Prelude.{◌≡◌, ◌||◌, ℕ, ◌++◌, List, IsTrue, IfSome, IfOk, OnOk, OnErr, not, false};
+ghost use Rattle.std.specs.Prelude.{◌≡◌, ◌||◌, ℕ, ◌++◌, List, IfSome, IfOk, OnOk, OnErr, false};
 ghost use Rattle.std.specs.Io.{StopsAt};
 ghost use Rattle.std.specs.Io.BufRead.{ends_with_byte, strip_last};
 ghost use Rattle.std.specs.Io.KnownBytes.{Consumes, Appends, Keeps};
@@ -7,10 +7,8 @@ ghost use Rattle.std.specs.Str.{bytes_eq};
 ghost use Rattle.dedup.specs.Lines.{has, if_new};
 
 use crate::run::Fault;
-use hashers::build::BuildFresh;
+use crate::texts::Texts;
 use hashers::laws::Piecewise;
-use std::alloc::{AllocError, Global};
-use std::collections::HashSet;
 use std::io::{BufRead, ErrorKind, Write};
 
 /// Reads the next line into `line`, through its newline, and answers whether it has one. Where it has none, it is all
@@ -49,24 +47,6 @@ pub fn text_of(line: &[u8]) -> &[u8]
     }
 }
 
-/// Takes a text into the set of those seen, and answers whether it is new.
-pub fn see<H: Piecewise>(
-    alloc: Global,
-    seen: &mut HashSet<Vec<u8>, BuildFresh<H>>,
-    text: &[u8],
-) -> Result<bool, AllocError>
-    ensures new { IfOk result (λ new. new ≡ not (has seen.old text.now)) }
-    ensures seen { OnOk result ((other : List ℕ) → has seen.new other
-        ≡ (bytes_eq other text.now || has seen.old other)) }
-{
-    if seen.contains(text) {
-        return Ok(false);
-    }
-    let key = text.to_vec(alloc)?;
-    seen.insert(key)?;
-    Ok(true)
-}
-
 /// Writes the bytes. After a fault a beginning of them was written.
 pub fn put<W: Write>(w: &mut W, bytes: &[u8]) -> Result<(), Fault>
     ensures ok { OnOk result (Appends (W.contents w.old) (W.contents w.new) bytes.now) }
@@ -87,8 +67,7 @@ pub fn put<W: Write>(w: &mut W, bytes: &[u8]) -> Result<(), Fault>
 /// Writes the line if its text is new, and takes the text into the set. After a fault a beginning of the line was
 /// written, if it is new.
 pub fn write_new<H: Piecewise, W: Write>(
-    alloc: Global,
-    seen: &mut HashSet<Vec<u8>, BuildFresh<H>>,
+    seen: &mut Texts<H>,
     line: &[u8],
     w: &mut W,
 ) -> Result<(), Fault>
@@ -99,7 +78,7 @@ pub fn write_new<H: Piecewise, W: Write>(
     ensures begun { OnErr result ((part rest : List ℕ) × (part ++ rest ≡ if_new seen.old line.now)
         × Appends (W.contents w.old) (W.contents w.new) part) }
 {
-    if see(alloc, seen, text_of(line))? {
+    if seen.see(text_of(line))? {
         put(w, line)?;
     }
     Ok(())

@@ -8,6 +8,7 @@ mod run;
 mod tally;
 #[cfg(test)]
 mod tests;
+mod texts;
 
 use hashers::fnv::FNV1aHasher64;
 use outcome::{Outcome, USAGE, outcome_line, outcome_of, outcome_status};

@@ -3,10 +3,9 @@ ghost use Rattle.dedup.specs.Lines.{each_once};
 ghost use Rattle.dedup.specs.Running.{Ends, run_of};
 
 use crate::lines::{finish, read_line, write_new};
-use hashers::build::BuildFresh;
+use crate::texts::Texts;
 use hashers::laws::Piecewise;
 use std::alloc::{AllocError, Global};
-use std::collections::HashSet;
 use std::io::{BufRead, Error, Write};
 
 /// Why a run ended before its output was whole. What was written by then is a beginning of it.
@@ -37,14 +36,14 @@ pub fn dedup<H: Piecewise, R: BufRead, W: Write>(
 ) -> Result<(), Fault>
     ensures { Ends each_once (run_of R.remaining r.old r.new W.contents w.old w.new) result }
 {
-    let mut seen = HashSet::with_hasher(alloc, BuildFresh::<H>::new());
+    let mut seen = Texts::<H>::new(alloc);
     let mut line = Vec::new(alloc);
     for _ in 0..limit {
         let ended = read_line(r, &mut line)?;
         if line.is_empty() {
             return finish(w);
         }
-        write_new(alloc, &mut seen, &line, w)?;
+        write_new(&mut seen, &line, w)?;
         if !ended {
             return finish(w);
         }
