@@ -1,14 +1,15 @@
 -- Lines of a text that grows, and the first of each.
-use Rattle.std.proofs.Common.{suc, subst, Option, Some, None, IfSome, ◌≡◌, ◌≢◌, ℕ, ◌-◌, ◌<◌, Bool, true, false, cond, not, ◌||◌, ◌&&◌, if◌then◌else◌, ◌==◌, List, [], ◌∷◌, ◌++◌, length, get_or, take, drop, take-append-drop, append_assoc, All, ap, sym, ◌∙◌, refl, arith}
+use Rattle.std.proofs.Common.{suc, subst, Option, Some, None, IfSome, ◌≡◌, ◌≢◌, ℕ, ◌+◌, ◌-◌, ◌<◌, Bool, true, false, cond, not, ◌||◌, ◌&&◌, if◌then◌else◌, ◌==◌, List, [], ◌∷◌, ◌++◌, length, get_or, take, drop, take-append-drop, append_assoc, All, ap, sym, ◌∙◌, refl, arith}
 use Rattle.std.specs.Io.{StopsAt}
 use Rattle.std.specs.Io.BufRead.{ends_with_byte, strip_last, take_through}
 use Rattle.std.specs.List.{filter, concat, list_any, onto_first}
-use Rattle.std.proofs.lemmas.Bool.{ne_eqb, lt-ltb, false≢true}
+use Rattle.std.proofs.lemmas.Bool.{ne_eqb, eq-eqb, lt-ltb, false≢true}
 use Rattle.std.proofs.lemmas.Cmp.{nat_list_eq_equiv}
-use Rattle.std.proofs.lemmas.List.{append-nil, take_rest}
+use Rattle.std.proofs.lemmas.List.{append-nil, take_rest, get_or-take, get_or_default, length-take, length-take-le}
 use Rattle.std.proofs.lemmas.Grind.{get_or_tail}
 use Rattle.std.proofs.lemmas.List.Elements.{All-head, All-tail, filter-append}
 use Rattle.std.proofs.lemmas.List.Folds.{concat-append}
+use Rattle.dedup.specs.Between.{IsNewline}
 use Rattle.dedup.specs.Lines.{lines, same_text, firsts, each_once}
 
 same_text-symm : (line other : List ℕ) → same_text line other ≡ same_text other line
@@ -127,3 +128,21 @@ pub each_once_begins : (text more : List ℕ) → lines (text ++ more) ≡ lines
 each_once_begins text more split =
     let (rest, is) = firsts_begins (lines text) (lines more) in
     (concat rest, ap (λ all. concat (firsts all)) split ∙ ap concat is ∙ concat-append (firsts (lines text)) rest)
+
+-- the bytes through the first newline are a line
+pub line_through : (rest : List ℕ) (n : ℕ) → IsNewline rest (Some n) → StopsAt (take (n + 1) rest) 10 × (0 < length (take (n + 1) rest)) × (ends_with_byte 10 (take (n + 1) rest) ≡ true)
+line_through rest n (below, is, before) =
+    let long : length (take (n + 1) rest) ≡ n + 1 = length-take-le (n + 1) rest (omega arith) in
+    let some : 0 < length (take (n + 1) rest) = omega arith in
+    let last : ℕ = length (take (n + 1) rest) - 1 in
+    (
+      λ k d below_last.
+          let within : k < length (take (n + 1) rest) - 1 = omega (arith, below_last, length-take (length (take (n + 1) rest) - 1) (take (n + 1) rest)) in
+          let short : k < n = omega (arith, long, within) in
+          subst (λ x. x ≢ 10) (sym (get_or-take last (take (n + 1) rest) k d within ∙ get_or-take (n + 1) rest k d (omega arith) ∙ get_or_default rest k d 0 (omega arith))) (before k short),
+      some,
+      ends_some (take (n + 1) rest) some ∙ eq-eqb _ _ (ap (λ m. get_or (take (n + 1) rest) (m - 1) 0) long ∙ get_or-take (n + 1) rest (n + 1 - 1) 0 (omega arith) ∙ ap (λ m. get_or rest m 0) (one_less n) ∙ is),
+    )
+  where
+    one_less : (n : ℕ) → n + 1 - 1 ≡ n
+    one_less n = omega arith

@@ -1,28 +1,22 @@
 -- A run between two lines, and how it ends.
-use Rattle.std.proofs.Common.{◌≡◌, ℕ, ◌<◌, Bool, true, false, ◌||◌, List, [], ◌∷◌, ◌++◌, length, ap, sym, ◌∙◌, refl, if◌then◌else◌, subst, Option, None, Some, IfSome, Result, Ok, Err, OnOk, OnErr, append_assoc}
+use Rattle.std.proofs.Common.{◌≡◌, ℕ, ◌<◌, Bool, true, false, ◌||◌, List, [], ◌∷◌, ◌++◌, length, ap, sym, ◌∙◌, refl, if◌then◌else◌, subst, Option, None, Some, IfSome, Result, Ok, Err, OnOk, OnErr, append_assoc, drop, take-append-drop}
 use Rattle.std.proofs.lemmas.Result.{on_ok_weaker, on_err_weaker}
-use Rattle.std.specs.Io.{StopsAt}
+use Rattle.std.specs.Io.{StartsWith, StopsAt}
 use Rattle.std.specs.Io.BufRead.{ends_with_byte, strip_last}
 use Rattle.std.specs.Io.KnownBytes.{Consumes, Appends, Keeps}
 use Rattle.std.specs.Result.{IsErr}
 use Rattle.std.specs.List.{list_any}
 use Rattle.std.specs.Str.{bytes_eq}
 use Rattle.std.proofs.KnownBytes.{Consumes-nil, Consumes-trans, Appends-nil, Appends-trans, Appends-kept}
-use Rattle.std.proofs.lemmas.Bool.{false≢true}
+use Rattle.std.proofs.lemmas.Bool.{false≢true, true≢false}
+use Rattle.std.proofs.Math.Seq.{take-append_seam}
 use Rattle.std.proofs.lemmas.List.{append-nil}
 use Rattle.std.proofs.lemmas.List.Folds.{list_any-append}
+use Rattle.dedup.specs.Between.{Between, BreaksOff, LeadsOn, after}
 use Rattle.dedup.specs.Lines.{lines, each_once}
 use Rattle.dedup.specs.Running.{Run, WritesAll, WritesPart, Ends}
 use Rattle.dedup.specs.declared.run.Fault.{Fault}
 use Rattle.dedup.proofs.LineLemmas.{lines_of_line, one_line, each_once_more, each_once_begins}
-
--- the lines that were read are whole, their texts are seen, and each is written once
-pub record Between (run : Run) (seen : List ℕ → Bool) : Type 0 where
-  pub text : List ℕ
-  pub read : Consumes run.left run.left' text
-  pub whole : (more : List ℕ) → lines (text ++ more) ≡ lines text ++ lines more
-  pub is_seen : (other : List ℕ) → seen other ≡ list_any (λ line. bytes_eq other (strip_last 10 line)) (lines text)
-  pub written : Appends run.written run.written' (each_once text)
 
 pub between_start : (left written : Option (List ℕ)) (seen : List ℕ → Bool) → ((other : List ℕ) → seen other ≡ false)
     → Between (record { left = left; left' = left; written = written; written' = written }) seen
@@ -52,9 +46,6 @@ whole_more : (text : List ℕ) → ((more : List ℕ) → lines (text ++ more) �
 whole_more text whole line stops some ended more =
     ap lines (append_assoc text line more) ∙ whole (line ++ more) ∙ ap (λ l. lines text ++ l) (lines_of_line line more stops ended)
     ∙ sym (append_assoc (lines text) (line ∷ []) (lines more)) ∙ ap (λ l. l ++ lines more) (sym (split_off text whole line stops some))
-
-abbrev after : Run → Option (List ℕ) → Option (List ℕ) → Run
-after run left written = record { left = run.left; left' = left; written = run.written; written' = written }
 
 -- a whole line more
 pub between_more : (run : Run) (seen seen' : List ℕ → Bool) → Between run seen → (left written : Option (List ℕ)) (line : List ℕ)
@@ -175,6 +166,51 @@ part_at_line run seen before left written line read stops some ended is all part
               ∙ append_assoc (each_once text ++ part) rest more,
         )
     begins (Some x) (Some y) (Some z) read next false is all = (rest, ap each_once (read ∙ ap (λ l. text ++ l) (all refl)) ∙ line_adds)
+
+-- ---- several lines that lie together
+
+pub leads_nowhere : (seen : List ℕ → Bool) (written : Option (List ℕ)) → LeadsOn [] seen seen written written
+leads_nowhere seen written = λ run same before left read. record {
+  text = before.text;
+  read = subst (Consumes run.left left) (append-nil before.text) (Consumes-trans run.left run.left' left before.text [] before.read read);
+  whole = before.whole;
+  is_seen = before.is_seen;
+  written = subst (λ w. Appends run.written w (each_once before.text)) same before.written;
+}
+
+-- what is consumed in one is consumed in two
+consumed_in_two : (a c : Option (List ℕ)) (part line : List ℕ) → Consumes a c (part ++ line) → (b : Option (List ℕ)) × Consumes a b part × Consumes b c line
+consumed_in_two None c part line read = (None, tt, tt)
+consumed_in_two (Some x) None part line read = absurd read
+consumed_in_two (Some x) (Some z) part line read = (Some (line ++ z), read ∙ append_assoc part line z, refl)
+
+-- a whole line more
+pub leads_further : (seen seen' seen'' : List ℕ → Bool) (written written' written'' : Option (List ℕ)) (part line : List ℕ) → LeadsOn part seen seen' written written'
+    → StopsAt line 10 → 0 < length line → ends_with_byte 10 line ≡ true → Appends written' written'' (if seen' (strip_last 10 line) then [] else line)
+    → ((other : List ℕ) → seen'' other ≡ (bytes_eq other (strip_last 10 line) || seen' other))
+    → LeadsOn (part ++ line) seen seen'' written written''
+leads_further seen seen' seen'' written written' written'' part line leads stops some ended appends sees = λ run same before left read.
+    let (left', first, second) = consumed_in_two run.left' left part line read in
+    between_more (after run left' written') seen' seen'' (leads run same before left' first) left written'' line second stops some ended appends sees
+
+-- known bytes that begin with some go on behind a part of them
+starts_behind : (a : Option (List ℕ)) (part rest : List ℕ) → IfSome a (λ bytes. StartsWith bytes (part ++ rest)) → (b : Option (List ℕ)) × Consumes a b part × IfSome b (λ bytes. StartsWith bytes rest)
+starts_behind None part rest starts = (None, tt, tt)
+starts_behind (Some x) part rest starts =
+    let all : x ≡ (part ++ rest) ++ drop (length (part ++ rest)) x = sym (take-append-drop (length (part ++ rest)) x) ∙ ap (λ l. l ++ drop (length (part ++ rest)) x) starts in
+    let more : List ℕ = drop (length (part ++ rest)) x in
+    (Some (rest ++ more), all ∙ append_assoc part rest more, take-append_seam rest more)
+
+-- a fault at the write of a line
+pub breaks_at_line : (seen seen' : List ℕ → Bool) (written written' written'' : Option (List ℕ)) (part line later : List ℕ) → LeadsOn part seen seen' written written'
+    → StopsAt line 10 → 0 < length line → ends_with_byte 10 line ≡ true
+    → (begun rest : List ℕ) → begun ++ rest ≡ (if seen' (strip_last 10 line) then [] else line) → Appends written' written'' begun
+    → BreaksOff (part ++ (line ++ later)) seen written written''
+breaks_at_line seen seen' written written' written'' part line later leads stops some ended begun rest of appends = λ run same before starts left.
+    let (left', first, goes_on) = starts_behind run.left' part (line ++ later) starts in
+    let (left'', second, _) = starts_behind left' line later goes_on in
+    let broken = part_at_line (after run left' written') seen' (leads run same before left' first) left'' written'' line second stops some true (sym ended) (λ not_ended. absurd (true≢false not_ended)) begun rest of appends in
+    record { part = broken.part; written = broken.written; begins = broken.begins }
 
 -- the lines that were read are whole and counted, and nothing is written
 pub record Counting (run : Run) (counts : List (List ℕ) → Type 0) : Type 0 where

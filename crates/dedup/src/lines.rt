@@ -1,10 +1,12 @@
 //! Reads and writes lines, and tells which are new.
-ghost use Rattle.std.specs.Prelude.{◌≡◌, ◌||◌, ℕ, ◌++◌, List, IfSome, IfOk, OnOk, OnErr, false};
+ghost use Rattle.std.specs.Prelude.{◌≡◌, ◌≤◌, ◌||◌, ℕ, ◌++◌, List, Option, length, take, IfSome, IfOk, OnOk, OnErr, false};
 ghost use Rattle.std.specs.Io.{StopsAt};
 ghost use Rattle.std.specs.Io.BufRead.{ends_with_byte, strip_last};
 ghost use Rattle.std.specs.Io.KnownBytes.{Consumes, Appends, Keeps};
 ghost use Rattle.std.specs.Str.{bytes_eq};
-ghost use Rattle.dedup.specs.Lines.{has, if_new};
+ghost use Rattle.dedup.specs.Between.{Between, BreaksOff, IsNewline, LeadsOn, after};
+ghost use Rattle.dedup.specs.Lines.{each_once, has, if_new};
+ghost use Rattle.dedup.specs.Running.{Run, WritesPart};
 
 use crate::run::Fault;
 use crate::texts::Texts;
@@ -82,6 +84,75 @@ pub fn write_new<H: Piecewise, W: Write>(
         put(w, line)?;
     }
     Ok(())
+}
+
+/// Where the first newline stands.
+fn newline(bytes: &[u8]) -> Option<usize>
+    ensures { IsNewline bytes.now result }
+{
+    for i in 0..bytes.len() {
+        if bytes[i] == b'\n' {
+            return Some(i);
+        }
+    }
+    None
+}
+
+/// Writes those of the first lines whose texts are new, up to so many, and takes their texts into the set. Answers how
+/// many lines it took, each with its newline, and how many bytes they have together.
+fn write_lines<H: Piecewise, W: Write>(
+    seen: &mut Texts<H>,
+    bytes: &[u8],
+    most: u64,
+    w: &mut W,
+) -> Result<(u64, usize), Fault>
+    ensures most { IfOk result (λ taken. taken.0 ≤ most) }
+    ensures within { IfOk result (λ taken. taken.1 ≤ length bytes.now) }
+    ensures written { IfOk result (λ taken. LeadsOn (take taken.1 bytes.now) (has seen.old) (has seen.new)
+        (W.contents w.old) (W.contents w.new)) }
+    ensures begun { OnErr result (BreaksOff bytes.now (has seen.old) (W.contents w.old) (W.contents w.new)) }
+{
+    let mut rest = bytes;
+    for count in 0..most {
+        match newline(rest) {
+            Some(n) => {
+                let (line, later) = rest.split_at(n + 1);
+                write_new(seen, line, w)?;
+                rest = later;
+            }
+            None => return Ok((count, bytes.len() - rest.len())),
+        }
+    }
+    Ok((most, bytes.len() - rest.len()))
+}
+
+/// Does the same with the lines that lie whole in the reader's buffer, which take no copy. Where the buffer is empty,
+/// it reads.
+pub fn write_buffered<H: Piecewise, R: BufRead, W: Write>(
+    seen: &mut Texts<H>,
+    r: &mut R,
+    most: u64,
+    w: &mut W,
+) -> Result<u64, Fault>
+    ensures most { IfOk result (λ lines. lines ≤ most) }
+    ensures written { OnOk result ((text : List ℕ) × Consumes (R.remaining r.old) (R.remaining r.new) text
+        × LeadsOn text (has seen.old) (has seen.new) (W.contents w.old) (W.contents w.new)) }
+    ensures begun { OnErr result ((run : Run) → run.left' ≡ R.remaining r.old → run.written' ≡ W.contents w.old
+        → Between run (has seen.old) → (left : Option (List ℕ)) → WritesPart each_once (after run left (W.contents w.new))) }
+{
+    let available = match r.fill_buf() {
+        Ok(available) => available,
+        Err(error) => {
+            return match error.kind() {
+                ErrorKind::Interrupted => Ok(0),
+                ErrorKind::OutOfMemory => Err(Fault::NoMemory),
+                _ => Err(Fault::Read(error)),
+            };
+        }
+    };
+    let (lines, len) = write_lines(seen, available, most, w)?;
+    r.consume(len);
+    Ok(lines)
 }
 
 /// Flushes the writer.

@@ -2,7 +2,7 @@
 ghost use Rattle.dedup.specs.Lines.{each_once};
 ghost use Rattle.dedup.specs.Running.{Ends, run_of};
 
-use crate::lines::{finish, read_line, write_new};
+use crate::lines::{finish, read_line, write_buffered, write_new};
 use crate::texts::Texts;
 use hashers::laws::Piecewise;
 use std::alloc::{AllocError, Global};
@@ -38,7 +38,9 @@ pub fn dedup<H: Piecewise, R: BufRead, W: Write>(
 {
     let mut seen = Texts::<H>::new(alloc);
     let mut line = Vec::new(alloc);
-    for _ in 0..limit {
+    let mut left = limit;
+    while left > 0 {
+        left -= write_buffered(&mut seen, r, left - 1, w)?;
         let ended = read_line(r, &mut line)?;
         if line.is_empty() {
             return finish(w);
@@ -47,6 +49,7 @@ pub fn dedup<H: Piecewise, R: BufRead, W: Write>(
         if !ended {
             return finish(w);
         }
+        left -= 1;
     }
     Err(Fault::TooManyLines)
 }
