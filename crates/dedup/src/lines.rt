@@ -1,8 +1,10 @@
 //! Reads and writes lines, and tells which are new.
-ghost use Rattle.std.specs.Prelude.{◌≡◌, ◌≤◌, ◌||◌, ℕ, ◌++◌, List, Option, length, take, IfSome, IfOk, OnOk, OnErr, false};
+ghost use Rattle.std.specs.Prelude.{◌≡◌, ◌≤◌, ◌||◌, ℕ, ◌++◌, List, Option, length, take, IfSome, IfOk, OnOk, OnErr, false, ◌+◌, ◌==◌, not};
 ghost use Rattle.std.specs.Io.{StopsAt};
 ghost use Rattle.std.specs.Io.BufRead.{ends_with_byte, strip_last};
 ghost use Rattle.std.specs.Io.KnownBytes.{Consumes, Appends, Keeps};
+ghost use Rattle.std.specs.List.{prefix_len};
+ghost use Rattle.std.specs.Simd.Lanes.{chunk};
 ghost use Rattle.std.specs.Str.{bytes_eq};
 ghost use Rattle.dedup.specs.Between.{Between, BreaksOff, IsNewline, LeadsOn, after};
 ghost use Rattle.dedup.specs.Lines.{each_once, has, if_new};
@@ -12,6 +14,7 @@ use crate::run::Fault;
 use crate::texts::Texts;
 use hashers::laws::Piecewise;
 use std::io::{BufRead, ErrorKind, Write};
+use std::simd::prelude::*;
 
 /// Reads the next line into `line`, through its newline, and answers whether it has one. Where it has none, it is all
 /// that was left; where there is no further line, `line` is empty.
@@ -86,11 +89,30 @@ pub fn write_new<H: Piecewise, W: Write>(
     Ok(())
 }
 
+/// How many of the 16 bytes from a place on come before the first newline among them.
+fn before_newline(bytes: &[u8], at: usize) -> usize
+    requires { at + 16 ≤ length bytes.now }
+    ensures { result ≡ prefix_len (λ byte. not (byte == 10)) (chunk at 16 bytes.now) }
+{
+    let newlines = u8x16::from_slice(&bytes[at..])
+        .simd_eq(u8x16::splat(b'\n'))
+        .to_bitmask();
+    if newlines == 0 { 16 } else { newlines.trailing_zeros() as usize }
+}
+
 /// Where the first newline stands.
 fn newline(bytes: &[u8]) -> Option<usize>
     ensures { IsNewline bytes.now result }
 {
-    for i in 0..bytes.len() {
+    let mut at = 0;
+    while bytes.len() - at >= 16 {
+        let before = before_newline(bytes, at);
+        if before < 16 {
+            return Some(at + before);
+        }
+        at += 16;
+    }
+    for i in at..bytes.len() {
         if bytes[i] == b'\n' {
             return Some(i);
         }
