@@ -71,6 +71,7 @@ pub fn put<W: Write>(w: &mut W, bytes: &[u8]) -> Result<(), Fault>
 
 /// Writes the line if its text is new, and takes the text into the set. After a fault a beginning of the line was
 /// written, if it is new.
+#[inline(always)]
 pub fn write_new<H: Piecewise, W: Write>(
     seen: &mut Texts<H>,
     line: &[u8],

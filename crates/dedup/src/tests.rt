@@ -2,10 +2,14 @@
 use crate::outcome::{Outcome, USAGE, outcome_line, outcome_of, outcome_status};
 use crate::run::{Fault, dedup};
 use crate::tally::{Which, tally};
+use crate::texts::Texts;
+use hashers::build::BuildFresh;
+use hashers::fnv::FNV1aHasher64;
 use hashers::jenkins::Lookup3Hasher;
 use hashers::laws::Piecewise;
 use hashers::null::NullHasher;
-use std::alloc::Global;
+use std::alloc::{AllocError, Global};
+use std::collections::HashSet;
 use std::env::Args;
 use std::io;
 use std::io::{BufReader, ErrorKind, Read, Write};
@@ -320,6 +324,84 @@ impl Write for Scale {
     fn flush(&mut self) -> io::Result<()> {
         Ok(())
     }
+}
+
+/// So many lines, each of one letter more than the last, each with its newline.
+fn lines_of_each_length(alloc: Global, count: usize) -> Result<Vec<u8>, AllocError> {
+    let mut text = Vec::new(alloc);
+    for len in 0..count {
+        let end: usize = text.len();
+        text.resize(end.saturating_add(len), b'x')?;
+        text.push(b'\n')?;
+    }
+    Ok(text)
+}
+
+/// What is written of these lines, which come twice, through a buffer of so many bytes.
+fn written_of_twice(alloc: Global, lines: &[u8], capacity: usize) -> io::Result<Vec<u8>> {
+    let mut twice = Vec::from_slice(alloc, lines)?;
+    twice.extend_from_slice(lines)?;
+    let script = Script {
+        left: &twice,
+        most: usize::MAX,
+        until_fault: usize::MAX,
+    };
+    let mut reader = BufReader::with_capacity(alloc, capacity, script)?;
+    let mut output = Vec::new(alloc);
+    match dedup::<FNV1aHasher64, _, _>(alloc, 200, &mut reader, &mut output) {
+        Ok(()) => Ok(output),
+        Err(_) => Ok(Vec::new(alloc)),
+    }
+}
+
+/// Each line ends at another place of the buffer, and of the 16 bytes that are searched at once.
+#[test]
+fn lines_that_end_at_each_place(rt: HostRuntime) {
+    let lines = lines_of_each_length(rt.alloc(), 41).expect(&rt, "memory");
+    for capacity in 1..70 {
+        let output = written_of_twice(rt.alloc(), &lines, capacity).expect(&rt, "memory");
+        assert_eq!(rt; output.as_slice(), lines.as_slice());
+    }
+    let output = written_of_twice(rt.alloc(), &lines, 4096).expect(&rt, "memory");
+    assert_eq!(rt; output.as_slice(), lines.as_slice());
+}
+
+/// How often `Texts` and std's set disagree whether a text is new, over so many texts, some of which come again and many
+/// of which begin others.
+fn disagreements<H: Piecewise>(alloc: Global, count: u64) -> Result<u64, AllocError> {
+    let mut texts = Texts::<H>::new(alloc);
+    let mut set = HashSet::with_hasher(alloc, BuildFresh::<Lookup3Hasher>::new());
+    let mut disagreements: u64 = 0;
+    for number in 0..count {
+        let bytes = (number / 3).to_le_bytes();
+        let text = &bytes[..(number % 7) as usize];
+        let is_new = set.insert(Vec::from_slice(alloc, text)?)?;
+        if texts.see(text)? != is_new {
+            disagreements = disagreements.saturating_add(1);
+        }
+    }
+    Ok(disagreements)
+}
+
+#[test]
+fn texts_are_those_of_a_set(rt: HostRuntime) {
+    let alloc = rt.alloc();
+    assert_eq!(rt; disagreements::<FNV1aHasher64>(alloc, 20000).unwrap_or(1), 0);
+    assert_eq!(rt; disagreements::<Lookup3Hasher>(alloc, 2000).unwrap_or(1), 0);
+    assert_eq!(rt; disagreements::<NullHasher>(alloc, 2000).unwrap_or(1), 0);
+}
+
+/// The empty text, a text, and what it begins.
+#[test]
+fn a_text_that_begins_another(rt: HostRuntime) {
+    let mut texts = Texts::<NullHasher>::new(rt.alloc());
+    for text in [&b"ab"[..], b"", b"a", b"abc"] {
+        assert!(rt; matches!(texts.see(text), Ok(true)));
+    }
+    for text in [&b"abc"[..], b"a", b"", b"ab"] {
+        assert!(rt; matches!(texts.see(text), Ok(false)));
+    }
+    assert!(rt; matches!(texts.see(b"b"), Ok(true)));
 }
 
 /// Two lines of a mebibyte that differ in their last byte, one of them twice.
