@@ -134,8 +134,7 @@ pub line_through : (rest : List ℕ) (n : ℕ) → IsNewline rest (Some n) → S
 line_through rest n (below, is, before) =
     let long : length (take (n + 1) rest) ≡ n + 1 = length-take-le (n + 1) rest (omega arith) in
     let some : 0 < length (take (n + 1) rest) = omega arith in
-    let last : ℕ = length (take (n + 1) rest) - 1 in
-    (
+    let last : ℕ = length (take (n + 1) rest) - 1 in (
       λ k d below_last.
           let within : k < length (take (n + 1) rest) - 1 = omega (arith, below_last, length-take (length (take (n + 1) rest) - 1) (take (n + 1) rest)) in
           let short : k < n = omega (arith, long, within) in

@@ -1,11 +1,10 @@
 -- Tables of slots: what a search finds, and what a slot more changes.
-use Rattle.std.proofs.Common.{ℕ, zero, suc, ◌≡◌, ◌≢◌, ◌+◌, ◌-◌, ◌<◌, ◌≤◌, ◌==◌, ◌⊎◌, inl, inr, Bool, true, false, not, cond, ◌&&◌, ◌||◌, Option, Some, None, List, [], ◌∷◌, ◌++◌, length, get_or, take, drop, map, replicate, All, Contains, ◌^◌, arith, sym, ap, ◌∙◌, subst, refl, length-append}
+use Rattle.std.proofs.Common.{ℕ, zero, suc, ◌≡◌, ◌+◌, ◌-◌, ◌<◌, ◌≤◌, ◌==◌, ◌⊎◌, inl, inr, Bool, true, false, not, cond, ◌&&◌, ◌||◌, Option, Some, None, List, [], ◌∷◌, ◌++◌, length, get_or, take, drop, map, replicate, All, Contains, ◌^◌, arith, sym, ap, ◌∙◌, subst, refl, length-append}
 use Rattle.std.specs.List.{count_by, filter, list_any, Any}
 use Rattle.std.specs.Str.{bytes_eq}
 use Rattle.std.proofs.Math.ListN.{set}
 use Rattle.std.proofs.Math.Seq.{take-length, drop-append_seam}
-use Rattle.std.proofs.lemmas.Bool.{cases_Bool, cases_eq, cases_lt, cases_order, both_ways, false≢true, true≢false, false_from_ne_true, not-true, not-false, not_from_true, or_parts, and_parts, and_left, eq-eqb, ne_eqb}
-use Rattle.std.proofs.lemmas.Cmp.{nat_list_eq_equiv}
+use Rattle.std.proofs.lemmas.Bool.{cases_Bool, cases_eq, cases_lt, cases_order, both_ways, false_from_ne_true, not-true, not-false, or_parts, and_parts, and_left, eq-eqb, ne_eqb}
 use Rattle.std.proofs.lemmas.List.{length-set, get_or-set_same, get_or-set_other, get_or_default, take-append-le, drop-append-le, length-drop}
 use Rattle.std.proofs.lemmas.List.Elements.{All-set, All-contains, All-contains_itself, All-replicate, All-tail, All-head}
 use Rattle.std.proofs.lemmas.List.Folds.{list_any_none, list_any_at, list_any_more, Any-from_list_any, sum_by-replicate}
@@ -28,13 +27,13 @@ up_to_weaker P Q n home place more before = record {
 -- of two places round from one home, one comes first
 one_comes_first : (P Q : ℕ → Type 0) (n home i k : ℕ) → HoldsUpTo P n home i → HoldsUpTo Q n home k → i < n → k < n → (k ≡ i) ⊎ (P k ⊎ Q i)
 one_comes_first P Q n home i k p q i_in k_in = elim (cases_order k i) [
-  inl same ↦ inl same
+  | inl same ↦ inl same
   | inr (inl before) ↦ inr (elim (cases_lt k home) [
-    inl k_turns ↦ elim (cases_lt i home) [ inl turns ↦ inl (p.from_the_start turns k before) | inr from ↦ inr (q.to_the_end k_turns i from i_in) ]
+    | inl k_turns ↦ elim (cases_lt i home) [ inl turns ↦ inl (p.from_the_start turns k before) | inr from ↦ inr (q.to_the_end k_turns i from i_in) ]
     | inr from ↦ inl (p.near k from before)
   ])
   | inr (inr after) ↦ inr (elim (cases_lt i home) [
-    inl turns ↦ elim (cases_lt k home) [ inl k_turns ↦ inr (q.from_the_start k_turns i after) | inr from ↦ inl (p.to_the_end turns k from k_in) ]
+    | inl turns ↦ elim (cases_lt k home) [ inl k_turns ↦ inr (q.from_the_start k_turns i after) | inr from ↦ inl (p.to_the_end turns k from k_in) ]
     | inr from ↦ inr (q.near i from after)
   ])
 ]
@@ -75,15 +74,15 @@ any_same p q (x ∷ xs) same = ap (λ b. b || list_any p xs) (All-head (λ x. p 
 pub found_more : (slots : List Slot) (place : ℕ) (slot : Slot) → AreFound slots → place < length slots → is_taken slot ≡ true
     → HoldsUpTo (λ j. is_taken (get_or slots j EMPTY) ≡ true) (length slots) (home_of (length slots) slot.tag) place → AreFound (set slots place slot)
 found_more slots place slot found within taken before = λ i below is. elim (cases_eq i place) [
-  inl same ↦ at i slot (ap (λ k. get_or (set slots place slot) k EMPTY) same ∙ get_or-set_same slots place slot EMPTY within)
-  (subst (λ k. HoldsUpTo (λ j. is_taken (get_or slots j EMPTY) ≡ true) (length slots) (home_of (length slots) slot.tag) k) (sym same) before)
+  | inl same ↦ at i slot (ap (λ k. get_or (set slots place slot) k EMPTY) same ∙ get_or-set_same slots place slot EMPTY within)
+      (subst (λ k. HoldsUpTo (λ j. is_taken (get_or slots j EMPTY) ≡ true) (length slots) (home_of (length slots) slot.tag) k) (sym same) before)
   | inr other ↦ at i (get_or slots i EMPTY) (get_or-set_other slots place i slot EMPTY other)
-  (found i (omega (arith, below, length-set slots place slot)) (ap is_taken (sym (get_or-set_other slots place i slot EMPTY other)) ∙ is))
+      (found i (omega (arith, below, length-set slots place slot)) (ap is_taken (sym (get_or-set_other slots place i slot EMPTY other)) ∙ is))
 ]
   where
     stays : (j : ℕ) → is_taken (get_or slots j EMPTY) ≡ true → is_taken (get_or (set slots place slot) j EMPTY) ≡ true
     stays j is = elim (cases_eq j place) [
-      inl same ↦ ap is_taken (ap (λ k. get_or (set slots place slot) k EMPTY) same ∙ get_or-set_same slots place slot EMPTY within) ∙ taken
+      | inl same ↦ ap is_taken (ap (λ k. get_or (set slots place slot) k EMPTY) same ∙ get_or-set_same slots place slot EMPTY within) ∙ taken
       | inr other ↦ ap is_taken (get_or-set_other slots place j slot EMPTY other) ∙ is
     ]
 
@@ -161,7 +160,7 @@ module _ (tag : List ℕ → ℕ) (bytes : List ℕ) (slots : List Slot) (room :
           let ends : stops bytes (tag text) text slot ≡ true =
           ap (λ b. not b || ((slot.tag == tag text) && bytes_eq text (text_at bytes slot))) taken ∙ ap (λ b. b && bytes_eq text (text_at bytes slot)) (eq-eqb _ _ tagged) ∙ same in
           elim (one_comes_first (λ j. stops bytes (tag text) text (get_or slots j EMPTY) ≡ false) (λ j. is_taken (get_or slots j EMPTY) ≡ true) (length slots) (home_of (length slots) (tag text)) place k first.2 found first.0 below) [
-            inl same_place ↦ both_ways _ free (ap (λ j. is_taken (get_or slots j EMPTY)) (sym same_place) ∙ taken)
+            | inl same_place ↦ both_ways _ free (ap (λ j. is_taken (get_or slots j EMPTY)) (sym same_place) ∙ taken)
             | inr (inl goes_on) ↦ both_ways _ goes_on ends
             | inr (inr there) ↦ both_ways _ free there
           ]
@@ -191,8 +190,8 @@ module _ (tag : List ℕ → ℕ) (bytes : List ℕ) (slots : List Slot) (room :
       ∙ some_more (λ s. bytes_eq other (text_at (bytes ++ text) s)) slots place slot within free taken
       ∙ ap (λ t. bytes_eq other t || some_taken (λ s. bytes_eq other (text_at (bytes ++ text) s)) slots) its_text
       ∙ ap (λ b. bytes_eq other text || b) (any_same (λ s. is_taken s && bytes_eq other (text_at (bytes ++ text) s)) (λ s. is_taken s && bytes_eq other (text_at bytes s)) slots
-          (λ k d below. each (get_or slots k d) (cases_Bool (is_taken (get_or slots k d))) (table.named k d below))
-          ∙ sym (has_is bytes slots other))
+      (λ k d below. each (get_or slots k d) (cases_Bool (is_taken (get_or slots k d))) (table.named k d below))
+      ∙ sym (has_is bytes slots other))
     where
       each : (s : Slot) → (is_taken s ≡ true) ⊎ (is_taken s ≡ false) → Names bytes s → (is_taken s && bytes_eq other (text_at (bytes ++ text) s)) ≡ (is_taken s && bytes_eq other (text_at bytes s))
       each s (inl there_is) named = ap (λ t. is_taken s && bytes_eq other t) (text_stays bytes text s (named there_is))
@@ -201,11 +200,11 @@ module _ (tag : List ℕ → ℕ) (bytes : List ℕ) (slots : List Slot) (room :
   pub table_put : (before : HoldsUpTo (λ j. is_taken (get_or slots j EMPTY) ≡ true) (length slots) (home_of (length slots) (tag text)) place) → IsTable tag (bytes ++ text) (set slots place slot) (room - 1)
   table_put before = record {
     named = All-set (Names (bytes ++ text)) slots place slot
-    (λ _. subst (λ s. s.place + s.len ≤ length (bytes ++ text)) (sym is) (omega (arith, length-append bytes text)))
-    (λ k d below there_is. omega (arith, table.named k d below there_is, length-append bytes text));
+        (λ _. subst (λ s. s.place + s.len ≤ length (bytes ++ text)) (sym is) (omega (arith, length-append bytes text)))
+        (λ k d below there_is. omega (arith, table.named k d below there_is, length-append bytes text));
     tagged = All-set (IsTagged tag (bytes ++ text)) slots place slot
-    (λ _. ap (λ s. s.tag) is ∙ ap tag (sym its_text))
-    (λ k d below there_is. table.tagged k d below there_is ∙ ap tag (sym (text_stays bytes text (get_or slots k d) (table.named k d below there_is))));
+        (λ _. ap (λ s. s.tag) is ∙ ap tag (sym its_text))
+        (λ k d below there_is. table.tagged k d below there_is ∙ ap tag (sym (text_stays bytes text (get_or slots k d) (table.named k d below there_is))));
     found = found_more slots place slot table.found within taken (subst (λ t. HoldsUpTo (λ j. is_taken (get_or slots j EMPTY) ≡ true) (length slots) (home_of (length slots) t) place) (sym (ap (λ s. s.tag) is)) before);
     roomy = omega (arith, table.roomy, free_less slots place slot within free taken);
   }
@@ -260,7 +259,7 @@ module _ (slots : List Slot) (done count : ℕ) (more : List Slot) (before : Ref
       let is_free : is_taken (get_or more place EMPTY) ≡ false = not-true _ free in
       record {
         found = found_more more place slot before.found within taken
-        (up_to_weaker (λ j. not (is_taken (get_or more j EMPTY)) ≡ false) (λ j. is_taken (get_or more j EMPTY) ≡ true) (length more) (home_of (length more) slot.tag) place (λ j is. not-false _ is) passed);
+            (up_to_weaker (λ j. not (is_taken (get_or more j EMPTY)) ≡ false) (λ j. is_taken (get_or more j EMPTY) ≡ true) (length more) (home_of (length more) slot.tag) place (λ j is. not-false _ is) passed);
         roomy = omega (arith, before.roomy, free_less more place slot within is_free taken);
         kept = λ test. some_more test more place slot within is_free taken ∙ ap (λ b. test slot || b) (before.kept test) ∙ swapped (test slot) (some_taken test (take done slots))
             ∙ ap (λ b. some_taken test (take done slots) || (b && test slot)) (sym taken)

@@ -98,7 +98,11 @@ fn before_newline(bytes: &[u8], at: usize) -> usize
     let newlines = u8x16::from_slice(&bytes[at..])
         .simd_eq(u8x16::splat(b'\n'))
         .to_bitmask();
-    if newlines == 0 { 16 } else { newlines.trailing_zeros() as usize }
+    if newlines == 0 {
+        16
+    } else {
+        newlines.trailing_zeros() as usize
+    }
 }
 
 /// Where the first newline stands.

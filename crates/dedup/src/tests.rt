@@ -386,7 +386,10 @@ fn disagreements<H: Piecewise>(alloc: Global, count: u64) -> Result<u64, AllocEr
 #[test]
 fn texts_are_those_of_a_set(rt: HostRuntime) {
     let alloc = rt.alloc();
-    assert_eq!(rt; disagreements::<FNV1aHasher64>(alloc, 20000).unwrap_or(1), 0);
+    assert_eq!(rt;
+        disagreements::<FNV1aHasher64>(alloc, 20000).unwrap_or(1),
+        0
+    );
     assert_eq!(rt; disagreements::<Lookup3Hasher>(alloc, 2000).unwrap_or(1), 0);
     assert_eq!(rt; disagreements::<NullHasher>(alloc, 2000).unwrap_or(1), 0);
 }

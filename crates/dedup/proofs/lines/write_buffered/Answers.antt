@@ -1,4 +1,4 @@
-use Rattle.std.proofs.Common.{[], ◌≡◌, subst, take}
+use Rattle.std.proofs.Common.{[], subst, take}
 use Rattle.std.specs.Io.BufRead.{FillKeeps}
 use Rattle.std.proofs.KnownBytes.{Consumes-kept, Consumes-nil}
 use Rattle.std.proofs.BufReadLemmas.{Consumes_shown}

@@ -22,8 +22,7 @@ loop-count-preserved g c =
     let rest : List ℕ = c.loop-count.rest.now in
     let n : ℕ = c.in-Some.n in
     let (stops, some, ended) = subst (λ l. StopsAt l 10 × (0 < length l) × (ends_with_byte 10 l ≡ true)) (sym c.split_at.ensures.front) (line_through rest n c.in-Some.ensures) in
-    let wrote = c.in_ok-write_new-in-Some.ensures in
-    (
+    let wrote = c.in_ok-write_new-in-Some.ensures in (
       part ++ line,
       append_assoc part line later ∙ ap (λ l. part ++ l) (together line later rest (n + 1) c.split_at.ensures.front c.split_at.ensures.back) ∙ is,
       leads_further (has c.args.seen.now) (has c.loop-count.seen) (has c.write_new.new.seen) (g.W.Write.contents c.args.w.now) (g.W.Write.contents c.loop-count.w) (g.W.Write.contents c.write_new.new.w) part line leads stops some ended wrote.written wrote.seen,
