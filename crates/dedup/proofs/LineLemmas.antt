@@ -12,7 +12,7 @@ use Rattle.std.proofs.lemmas.List.Folds.{concat-append}
 use Rattle.dedup.specs.Between.{IsNewline}
 use Rattle.dedup.specs.Lines.{lines, same_text, firsts, each_once}
 
-same_text-symm : (line other : List ℕ) → same_text line other ≡ same_text other line
+pub same_text-symm : (line other : List ℕ) → same_text line other ≡ same_text other line
 same_text-symm line other = nat_list_eq_equiv.symm (strip_last 10 line) (strip_last 10 other)
 
 -- a line more is kept where none before it has its text
@@ -36,6 +36,14 @@ firsts_more (first ∷ before) line =
     at true true same = refl
     at true false same = refl
     at false is same = ap (λ kept. first ∷ kept) (filter-append other (firsts before) (line ∷ []) ∙ ap (λ b. filter other (firsts before) ++ cond (not b) (line ∷ []) []) same) ∙ end is
+
+-- a line with a new text is one line more
+pub firsts_with_new : (ls : List (List ℕ)) (line : List ℕ) → list_any (same_text line) ls ≡ false → firsts (ls ++ line ∷ []) ≡ firsts ls ++ line ∷ []
+firsts_with_new ls line new = firsts_more ls line ∙ ap (λ b. cond b (firsts ls) (firsts ls ++ line ∷ [])) new
+
+-- a line whose text came before is none
+pub firsts_with_seen : (ls : List (List ℕ)) (line : List ℕ) → list_any (same_text line) ls ≡ true → firsts (ls ++ line ∷ []) ≡ firsts ls
+firsts_with_seen ls line seen = firsts_more ls line ∙ ap (λ b. cond b (firsts ls) (firsts ls ++ line ∷ [])) seen
 
 -- further lines change nothing before them
 pub firsts_begins : (before more : List (List ℕ)) → (rest : List (List ℕ)) × (firsts (before ++ more) ≡ firsts before ++ rest)

@@ -17,12 +17,9 @@ use Rattle.std.proofs.lemmas.Map.Made.{is_some-lookup}
 use Rattle.std.proofs.lemmas.Map.Entries.{All-lookup}
 use Rattle.dedup.specs.Lines.{same_text, firsts}
 use Rattle.dedup.specs.Tallies.{texts, placed, Tallies}
-use Rattle.dedup.proofs.LineLemmas.{firsts_more}
+use Rattle.dedup.proofs.LineLemmas.{firsts_with_new, firsts_with_seen, same_text-symm}
 
 -- ---- which lines have a text
-
-same-symm : (x y : List ℕ) → same_text x y ≡ same_text y x
-same-symm x y = nat_list_eq_equiv.symm (strip_last 10 x) (strip_last 10 y)
 
 same-congr : (x y z : List ℕ) → same_text x y ≡ true → same_text x z ≡ same_text y z
 same-congr x y z = nat_list_eq_equiv.congr (strip_last 10 x) (strip_last 10 y) (strip_last 10 z)
@@ -39,7 +36,7 @@ any_filter line x other (y ∷ ls) = at (same_text x y) refl (any_filter line x 
   where
     at : (b : Bool) → same_text x y ≡ b → list_any (same_text line) (filter (λ y. not (same_text x y)) ls) ≡ list_any (same_text line) ls
         → list_any (same_text line) (cond (not b) (y ∷ filter (λ y. not (same_text x y)) ls) (filter (λ y. not (same_text x y)) ls)) ≡ (same_text line y || list_any (same_text line) ls)
-    at true is more = more ∙ ap (λ b. b || list_any (same_text line) ls) (sym (same-symm line y ∙ sym (same-congr x y line is) ∙ other))
+    at true is more = more ∙ ap (λ b. b || list_any (same_text line) ls) (sym (same_text-symm line y ∙ sym (same-congr x y line is) ∙ other))
     at false is more = ap (λ b. same_text line y || b) more
 
 -- the first lines have the same texts as all
@@ -50,7 +47,7 @@ any_firsts line (x ∷ ls) = at (same_text line x) refl (any_firsts line ls)
     at : (b : Bool) → same_text line x ≡ b → list_any (same_text line) (firsts ls) ≡ list_any (same_text line) ls
         → (b || list_any (same_text line) (filter (λ y. not (same_text x y)) (firsts ls))) ≡ (b || list_any (same_text line) ls)
     at true is more = refl
-    at false is more = any_filter line x (same-symm x line ∙ is) (firsts ls) ∙ more
+    at false is more = any_filter line x (same_text-symm x line ∙ is) (firsts ls) ∙ more
 
 -- no two lines have the same text
 abbrev Apart : List (List ℕ) → Type 0
@@ -106,7 +103,7 @@ module _ (line : List ℕ) (count : List ℕ → ℕ) where
   counts_stay : (ls : List (List ℕ)) → list_any (same_text line) ls ≡ false → map (λ x. count x + one_if x) ls ≡ map count ls
   counts_stay [] none = refl
   counts_stay (x ∷ ls) none =
-      ap (λ n. n ∷ map (λ y. count y + one_if y) ls) (ap (λ b. count x + cond b 1 0) (same-symm x line ∙ (or_parts _ _ none).0) ∙ add-zero (count x))
+      ap (λ n. n ∷ map (λ y. count y + one_if y) ls) (ap (λ b. count x + cond b 1 0) (same_text-symm x line ∙ (or_parts _ _ none).0) ∙ add-zero (count x))
       ∙ ap (λ ns. count x ∷ ns) (counts_stay ls (or_parts _ _ none).1)
 
   -- a line of the same text as one of these changes the count of that one
@@ -114,11 +111,11 @@ module _ (line : List ℕ) (count : List ℕ → ℕ) where
       → map (λ x. count x + one_if x) ls ≡ set (map count ls) i (get_or (map count ls) i 0 + 1)
   one_count_more [] apart i below same = absurd (omega arith)
   one_count_more (x ∷ ls) apart zero below same =
-      ap (λ n. n ∷ map (λ y. count y + one_if y) ls) (ap (λ b. count x + cond b 1 0) (same-symm x line ∙ same))
+      ap (λ n. n ∷ map (λ y. count y + one_if y) ls) (ap (λ b. count x + cond b 1 0) (same_text-symm x line ∙ same))
       ∙ ap (λ ns. (count x + 1) ∷ ns) (counts_stay ls (any-same line x same ls ∙ apart.0))
   one_count_more (x ∷ ls) apart (suc i) below same =
       let later : i < length ls = omega arith in
-      let other : same_text x line ≡ false = same-symm x line ∙ same-congr line (get_or ls i []) x same ∙ same-symm (get_or ls i []) x ∙ each_other ls i later apart.0 in
+      let other : same_text x line ≡ false = same_text-symm x line ∙ same-congr line (get_or ls i []) x same ∙ same_text-symm (get_or ls i []) x ∙ each_other ls i later apart.0 in
       ap (λ n. n ∷ map (λ y. count y + one_if y) ls) (ap (λ b. count x + cond b 1 0) other ∙ add-zero (count x))
       ∙ ap (λ ns. count x ∷ ns) (one_count_more ls apart.1 i later same)
     where
@@ -137,7 +134,7 @@ counts_new : (ls : List (List ℕ)) (line : List ℕ) → list_any (same_text li
 counts_new ls line new =
     let after : List ℕ → ℕ = λ x. count_by (same_text x) (ls ++ line ∷ []) in
     let before : List ℕ → ℕ = λ x. count_by (same_text x) ls in
-    ap (map after) (firsts_more ls line ∙ ap (λ b. cond b (firsts ls) (firsts ls ++ line ∷ [])) new)
+    ap (map after) (firsts_with_new ls line new)
     ∙ map-append after (firsts ls) (line ∷ [])
     ∙ ap (λ ns. ns ++ after line ∷ []) (same_map after (λ x. before x + one_if line before x) (λ x. count_more (same_text x) ls line) (firsts ls) ∙ counts_stay line before (firsts ls) (any_firsts line ls ∙ new))
     ∙ ap (λ n. map before (firsts ls) ++ n ∷ []) (count_more (same_text line) ls line ∙ ap (λ n. n + cond (same_text line line) 1 0) (count_none (same_text line) ls new) ∙ ap (λ b. 0 + cond b 1 0) (nat_list_eq_equiv.refl (strip_last 10 line)))
@@ -148,7 +145,7 @@ counts_again : (ls : List (List ℕ)) (line : List ℕ) (i : ℕ) → list_any (
 counts_again ls line i seen below same =
     let after : List ℕ → ℕ = λ x. count_by (same_text x) (ls ++ line ∷ []) in
     let before : List ℕ → ℕ = λ x. count_by (same_text x) ls in
-    ap (map after) (firsts_more ls line ∙ ap (λ b. cond b (firsts ls) (firsts ls ++ line ∷ [])) seen)
+    ap (map after) (firsts_with_seen ls line seen)
     ∙ same_map after (λ x. before x + one_if line before x) (λ x. count_more (same_text x) ls line) (firsts ls)
     ∙ one_count_more line before (firsts ls) (firsts_apart ls) i below same
 
@@ -207,7 +204,7 @@ module _ (ls : List (List ℕ)) (entries : List (Vec ℕ Global × ℕ)) (times 
       → key.items ≡ strip_last 10 line → n ≡ length times → IsPermutation ((key, n) ∷ entries) more → Tallies (ls ++ line ∷ []) more (times ++ 1 ∷ [])
   tallies_new line key n more absent is place puts =
       let new : list_any (same_text line) ls ≡ false = seen_where_found line ∙ ap is_some absent in
-      let firsts_now : firsts (ls ++ line ∷ []) ≡ firsts ls ++ line ∷ [] = firsts_more ls line ∙ ap (λ b. cond b (firsts ls) (firsts ls ++ line ∷ [])) new in
+      let firsts_now : firsts (ls ++ line ∷ []) ≡ firsts ls ++ line ∷ [] = firsts_with_new ls line new in
       let texts_now : texts (ls ++ line ∷ []) ≡ texts ls ++ strip_last 10 line ∷ [] = ap (map (strip_last 10)) firsts_now ∙ map-append (strip_last 10) (firsts ls) (line ∷ []) in
       let pair : (n, key.items) ≡ (0 + length (texts ls), strip_last 10 line) = ap (λ k. (k, key.items)) (place ∙ as_many ∙ sym (zero-add (length (texts ls)))) ∙ ap (λ t. (0 + length (texts ls), t)) is in
       record {
@@ -220,7 +217,7 @@ module _ (ls : List (List ℕ)) (entries : List (Vec ℕ Global × ℕ)) (times 
       → Tallies (ls ++ line ∷ []) entries (set times place (get_or times place 0 + 1))
   tallies_again line place found =
       let seen : list_any (same_text line) ls ≡ true = seen_where_found line ∙ ap is_some found in
-      let firsts_now : firsts (ls ++ line ∷ []) ≡ firsts ls = firsts_more ls line ∙ ap (λ b. cond b (firsts ls) (firsts ls ++ line ∷ [])) seen in
+      let firsts_now : firsts (ls ++ line ∷ []) ≡ firsts ls = firsts_with_seen ls line seen in
       let (text, same, there_is) = found_at (λ k t. (k < length (texts ls)) × (get_or (texts ls) k [] ≡ t)) (strip_last 10 line) entries place at_its_place found in
       let within : place < length (firsts ls) = omega (arith, there_is.0, length-map (firsts ls) (strip_last 10)) in
       let there : same_text line (get_or (firsts ls) place []) ≡ true =

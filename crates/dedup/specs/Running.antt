@@ -18,6 +18,10 @@ run_of remaining r r' contents w w' = record {
   written' = contents w';
 }
 
+-- what is written now is what was written and a beginning of these bytes
+abbrev pub AppendsPart : (before after : Option (List ℕ)) → List ℕ → Type 0
+AppendsPart before after bytes = (part rest : List ℕ) × (part ++ rest ≡ bytes) × Appends before after part
+
 -- all was read, and what the program makes of it was written
 pub record WritesAll (output : List ℕ → List ℕ) (run : Run) : Type 0 where
   pub text : List ℕ

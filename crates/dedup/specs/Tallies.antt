@@ -22,9 +22,13 @@ shown Repeated times text = if nat_lt 1 times then text ++ 10 ∷ [] else []
 abbrev pub shown_line : Which → (ls : List (List ℕ)) → List ℕ → List ℕ
 shown_line which ls line = shown which (count_by (same_text line) ls) (strip_last 10 line)
 
--- each line of a text with how often it came, or those that came more than once, in the order in which they came first
+-- what is written of lines: each with how often it came, or those that came more than once, in the order in which they came first
+abbrev pub told : Which → List (List ℕ) → List ℕ
+told which ls = flat_map (shown_line which ls) (firsts ls)
+
+-- the same of the lines of a text
 abbrev pub tallied : Which → List ℕ → List ℕ
-tallied which text = flat_map (shown_line which (lines text)) (firsts (lines text))
+tallied which text = told which (lines text)
 
 -- the texts of lines, each once
 abbrev pub texts : List (List ℕ) → List (List ℕ)

@@ -1,5 +1,5 @@
 //! Reads and writes lines, and tells which are new.
-ghost use Rattle.std.specs.Prelude.{◌≡◌, ◌≤◌, ◌||◌, ℕ, ◌++◌, List, Option, length, take, IfSome, IfOk, OnOk, OnErr, false, ◌+◌, ◌==◌, not};
+ghost use Rattle.std.specs.Prelude.{◌≡◌, ◌≤◌, ◌||◌, ℕ, List, Option, length, take, IfSome, IfOk, OnOk, OnErr, false, ◌+◌, ◌==◌, not};
 ghost use Rattle.std.specs.Io.{StopsAt};
 ghost use Rattle.std.specs.Io.BufRead.{ends_with_byte, strip_last};
 ghost use Rattle.std.specs.Io.KnownBytes.{Consumes, Appends, Keeps};
@@ -8,7 +8,7 @@ ghost use Rattle.std.specs.Simd.Lanes.{chunk};
 ghost use Rattle.std.specs.Str.{bytes_eq};
 ghost use Rattle.dedup.specs.Between.{Between, BreaksOff, IsNewline, LeadsOn, after};
 ghost use Rattle.dedup.specs.Lines.{each_once, has, if_new};
-ghost use Rattle.dedup.specs.Running.{Run, WritesPart};
+ghost use Rattle.dedup.specs.Running.{AppendsPart, Run, WritesPart};
 
 use crate::run::Fault;
 use crate::texts::Texts;
@@ -55,8 +55,7 @@ pub fn text_of(line: &[u8]) -> &[u8]
 /// Writes the bytes. After a fault a beginning of them was written.
 pub fn put<W: Write>(w: &mut W, bytes: &[u8]) -> Result<(), Fault>
     ensures ok { OnOk result (Appends (W.contents w.old) (W.contents w.new) bytes.now) }
-    ensures err { OnErr result ((part rest : List ℕ) × (part ++ rest ≡ bytes.now)
-        × Appends (W.contents w.old) (W.contents w.new) part) }
+    ensures err { OnErr result (AppendsPart (W.contents w.old) (W.contents w.new) bytes.now) }
 {
     let mut rest = bytes;
     while !rest.is_empty() {
@@ -81,8 +80,7 @@ pub fn write_new<H: Piecewise, W: Write>(
         (if_new seen.old line.now)) }
     ensures seen { OnOk result ((other : List ℕ) → has seen.new other
         ≡ (bytes_eq other (strip_last 10 line.now) || has seen.old other)) }
-    ensures begun { OnErr result ((part rest : List ℕ) × (part ++ rest ≡ if_new seen.old line.now)
-        × Appends (W.contents w.old) (W.contents w.new) part) }
+    ensures begun { OnErr result (AppendsPart (W.contents w.old) (W.contents w.new) (if_new seen.old line.now)) }
 {
     if seen.see(text_of(line))? {
         put(w, line)?;

@@ -4,11 +4,11 @@ ghost use Rattle.std.specs.HashMap.{get_by};
 ghost use Rattle.std.specs.Str.{bytes_eq};
 ghost use Rattle.std.specs.Io.BufRead.{strip_last};
 ghost use Rattle.std.specs.Io.KnownBytes.{Appends};
-ghost use Rattle.std.specs.List.{count_by, enumerate_from, flat_map};
+ghost use Rattle.std.specs.List.{count_by, enumerate_from};
 ghost use Rattle.std.specs.List.Sorted.{IsPermutation};
-ghost use Rattle.dedup.specs.Running.{Ends, run_of};
+ghost use Rattle.dedup.specs.Running.{AppendsPart, Ends, run_of};
 ghost use Rattle.dedup.specs.Lines.{firsts, same_text};
-ghost use Rattle.dedup.specs.Tallies.{Tallies, column, placed, shown, shown_line, tallied, texts};
+ghost use Rattle.dedup.specs.Tallies.{Tallies, column, placed, shown, tallied, texts, told};
 
 use crate::lines::{finish, put, read_line, text_of};
 use crate::run::Fault;
@@ -140,11 +140,10 @@ fn write_shown<W: Write>(
     requires as_many { length order.now ≡ length times.now }
     ensures ok { OnOk result ((ls : List (List ℕ)) → map (λ text. text.now) order.now ≡ texts ls
         → times.now ≡ map (λ line. count_by (same_text line) ls) (firsts ls)
-        → Appends (W.contents w.old) (W.contents w.new) (flat_map (shown_line which ls) (firsts ls))) }
+        → Appends (W.contents w.old) (W.contents w.new) (told which ls)) }
     ensures err { OnErr result ((ls : List (List ℕ)) → map (λ text. text.now) order.now ≡ texts ls
         → times.now ≡ map (λ line. count_by (same_text line) ls) (firsts ls)
-        → (part rest : List ℕ) × (part ++ rest ≡ flat_map (shown_line which ls) (firsts ls))
-        × Appends (W.contents w.old) (W.contents w.new) part) }
+        → AppendsPart (W.contents w.old) (W.contents w.new) (told which ls)) }
 {
     let mut out = Vec::new(alloc);
     for i in 0..times.len() {
@@ -164,10 +163,9 @@ fn tell<H: Piecewise, W: Write>(
 ) -> Result<(), Fault>
     requires within { All (λ entry. entry.1 < length times.now) places.now.entries }
     ensures ok { OnOk result ((ls : List (List ℕ)) → Tallies ls places.now.entries times.now
-        → Appends (W.contents w.old) (W.contents w.new) (flat_map (shown_line which ls) (firsts ls))) }
+        → Appends (W.contents w.old) (W.contents w.new) (told which ls)) }
     ensures err { OnErr result ((ls : List (List ℕ)) → Tallies ls places.now.entries times.now
-        → (part rest : List ℕ) × (part ++ rest ≡ flat_map (shown_line which ls) (firsts ls))
-        × Appends (W.contents w.old) (W.contents w.new) part) }
+        → AppendsPart (W.contents w.old) (W.contents w.new) (told which ls)) }
 {
     let order = in_order(alloc, places, times.len())?;
     write_shown(alloc, which, &order, times, w)
