@@ -163,7 +163,8 @@ fn make_room(alloc: Global, slots: &mut Vec<Slot>, room: &mut usize) -> Result<(
     requires roomy { room.old ≤ free_count slots.old.items }
     ensures some { OnOk result (0 < room.new) }
     ensures refilled { OnOk result (IsRefilled slots.old.items room.new slots.new.items) }
-    ensures kept { OnErr result ((slots.new.items ≡ slots.old.items) × (room.new ≡ room.old)) }
+    ensures slots_kept { OnErr result (slots.new.items ≡ slots.old.items) }
+    ensures room_kept { OnErr result (room.new ≡ room.old) }
 {
     if *room == 0 {
         let count = slots.len().max(LEAST);
