@@ -5,6 +5,7 @@ use Rattle.std.specs.Prelude.{All}
 use Rattle.std.specs.List.{flat_map}
 use Rattle.std.proofs.lemmas.List.Elements.{All-nil, All-cons}
 use Rattle.hash_laws.specs.Text.{IsText}
+use Rattle.hash_laws.specs.Writes.{IsTakenOut}
 use Rattle.hash_laws.proofs.ReadingLemmas.{fold-pieces}
 
 -- of all items those at the end were taken back: from the state they lead to the old one, and from no other
@@ -23,15 +24,14 @@ module _ {A S : Type 0} (text_of : A → List ℕ) (in_range : S → Type 0) (af
   -- one item more is taken back
   pub one_more_taken : ((s : S) (piece : List ℕ) → in_range s → IsText piece → in_range (after s piece))
       → (old state before : S) (item : A) (left front all : List A) → left ≡ front ++ item ∷ []
-      → IsText (text_of item) → after before (text_of item) ≡ state
-      → ((s : S) → in_range s → after s (text_of item) ≡ state → before ≡ s)
+      → IsTakenOut in_range after state before (text_of item)
       → TakenBack text_of in_range after old state left all → TakenBack text_of in_range after old before front all
-  one_more_taken stays old state before item left front all last text there only so_far = record {
+  one_more_taken stays old state before item left front all last out so_far = record {
     taken = item ∷ so_far.taken;
     split = so_far.split ∙ ap (λ t. t ++ so_far.taken) last ∙ append_assoc front (item ∷ []) so_far.taken;
-    texts = All-cons IsText (text_of item) (map text_of so_far.taken) text so_far.texts;
-    back = ap (λ s. fold after s (map text_of so_far.taken)) there ∙ so_far.back;
-    undone = λ s known led. only s known (sym (so_far.undone (after s (text_of item)) (stays s (text_of item) known text) led));
+    texts = All-cons IsText (text_of item) (map text_of so_far.taken) out.is_text so_far.texts;
+    back = ap (λ s. fold after s (map text_of so_far.taken)) out.back ∙ so_far.back;
+    undone = λ s known led. out.only s known (sym (so_far.undone (after s (text_of item)) (stays s (text_of item) known out.is_text) led));
   }
 
   -- all were taken back

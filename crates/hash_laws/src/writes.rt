@@ -1,7 +1,7 @@
 //! Lists of writes: any calls that std's `Hasher` offers for bytes and unsigned numbers, made in order and taken back.
 ghost use Rattle.std.specs.Prelude.{◌≡◌, ◌≢◌, ℕ, List, [], ◌++◌, All, fold};
 ghost use Rattle.hash_laws.specs.Text.{IsText};
-ghost use Rattle.hash_laws.specs.Writes.{written, all_written, joined_written};
+ghost use Rattle.hash_laws.specs.Writes.{written, all_written, joined_written, IsTakenOut};
 
 use crate::laws::{Piecewise, Streamed, Undo};
 
@@ -46,23 +46,25 @@ fn make<H: Piecewise>(h: &mut H, write: &Write)
     }
 }
 
+/// Takes the bytes out by `unwrite`.
+fn unwrite_bytes<H: Undo>(h: &mut H, bytes: &[u8])
+    ensures { IsTakenOut H.in_range H.after (H.state h.old) (H.state h.new) bytes.now }
+{
+    h.unwrite(bytes);
+}
+
 /// Takes a write back by `unwrite` of its bytes.
-#[tactic(auto, using(crate::proofs::TextLemmas::number_texts, crate::proofs::TextLemmas::number_bytes))]
+#[tactic(auto, using(crate::proofs::TextLemmas::number_bytes))]
 fn take_back<H: Undo>(h: &mut H, write: &Write)
-    ensures back { H.after (H.state h.new) (written write.now) ≡ H.state h.old }
-    ensures undone { (s : H.State) → H.in_range s
-        → H.after s (written write.now) ≡ H.state h.old → H.state h.new ≡ s }
-    ensures in_range_before { H.in_range (H.state h.old) }
-    ensures in_range_after { H.in_range (H.state h.new) }
-    ensures text { IsText (written write.now) }
+    ensures { IsTakenOut H.in_range H.after (H.state h.old) (H.state h.new) (written write.now) }
 {
     match write {
-        Write::Bytes(bytes) => h.unwrite(bytes),
-        Write::U8(value) => h.unwrite(&[*value]),
-        Write::U16(value) => h.unwrite(&value.to_le_bytes()),
-        Write::U32(value) => h.unwrite(&value.to_le_bytes()),
-        Write::U64(value) => h.unwrite(&value.to_le_bytes()),
-        Write::Usize(value) => h.unwrite(&value.to_le_bytes()),
+        Write::Bytes(bytes) => unwrite_bytes(h, bytes),
+        Write::U8(value) => unwrite_bytes(h, &[*value]),
+        Write::U16(value) => unwrite_bytes(h, &value.to_le_bytes()),
+        Write::U32(value) => unwrite_bytes(h, &value.to_le_bytes()),
+        Write::U64(value) => unwrite_bytes(h, &value.to_le_bytes()),
+        Write::Usize(value) => unwrite_bytes(h, &value.to_le_bytes()),
     }
 }
 

@@ -1,7 +1,7 @@
 -- The hashes of two texts that differ within a window are different.
 use Rattle.std.proofs.Common.{◌≡◌, ◌≢◌, ℕ, ◌^◌, ◌<◌, List, fold, lit<, sym, ◌∙◌}
-use Rattle.hashers.specs.Oz.{djb2_step}
-use Rattle.hashers.specs.Fnv.{fnv1a32_step, fnv1a64_step}
+use Rattle.hash_bytes.specs.Oz.{djb2_step}
+use Rattle.hash_bytes.specs.Fnv.{fnv1a32_step, fnv1a64_step}
 use Rattle.hash_rounds.specs.Sums.{sdbm}
 use Rattle.hash_rounds.specs.Sums.{sdbm_step}
 use Rattle.hash_rounds.proofs.SumLemmas.{sdbm-fold}
@@ -9,8 +9,8 @@ use Rattle.hash_laws.specs.Text.{IsText}
 use Rattle.hash_laws.specs.DifferWithin.{DifferWithin}
 use Rattle.hash_laws.proofs.RecurrenceLemmas.{recurrence_is_fold}
 use Rattle.hash_laws.proofs.Windows.{DifferWithin-fold, Separates}
-use Rattle.hashers.specs.Fnv.{fnv1a32, fnv1a32_basis, fnv1a64, fnv1a64_basis}
-use Rattle.hashers.specs.Oz.{djb2}
+use Rattle.hash_bytes.specs.Fnv.{fnv1a32, fnv1a32_basis, fnv1a64, fnv1a64_basis}
+use Rattle.hash_bytes.specs.Oz.{djb2}
 use Rattle.hashers.proofs.Djb2Window.{djb2_separates, spread_after, Near}
 use Rattle.hashers.proofs.SdbmWindow.{sdbm_separates, SdbmApart}
 use Rattle.hashers.proofs.FnvWindows.{fnv1a32_separates, fnv1a64_separates, Fnv32Apart, Fnv64Apart}

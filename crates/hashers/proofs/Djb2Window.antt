@@ -3,8 +3,8 @@ use Rattle.std.proofs.Common.{◌≡◌, ℕ, zero, suc, ◌+◌, ◌-◌, ◌*�
 use Rattle.std.specs.Int.Bits.{bit_xor, bit_and}
 use Rattle.std.proofs.lemmas.Nat.{xor_shr, xor_lt}
 use Rattle.std.proofs.lemmas.Nat.Bits.{and_high}
-use Rattle.hashers.specs.Oz.{djb2_step}
-use Rattle.hashers.specs.OzLaws.{djb2_facts}
+use Rattle.hash_bytes.specs.Oz.{djb2_step}
+use Rattle.hash_bytes.specs.OzLaws.{djb2_facts}
 use Rattle.hash_laws.proofs.Windows.{Separates}
 use Rattle.hashers.proofs.WindowSpreads.{IsState32}
 use Rattle.hash_rounds.proofs.XorLemmas.{xor_cancel, xor_cancel_left, xor_block_kept}

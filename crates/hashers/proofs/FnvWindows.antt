@@ -1,9 +1,9 @@
 -- Why two texts that differ within three places (fnv1a64) or two (fnv1a32) have different hashes.
 use Rattle.std.proofs.Common.{◌≡◌, ℕ, zero, suc, ◌+◌, ◌*◌, ◌/◌, ◌%◌, ◌^◌, ◌<◌, ◌≢◌, arith}
 use Rattle.std.specs.Int.Bits.{bit_xor}
-use Rattle.hashers.specs.Fnv.{fnv1a32_step, fnv1a64_step}
+use Rattle.hash_bytes.specs.Fnv.{fnv1a32_step, fnv1a64_step}
 use Rattle.hash_rounds.proofs.XorLemmas.{xored_32, xored_64}
-use Rattle.hashers.specs.FnvLaws.{fnv1a32_same, fnv1a64_same, fnv1a32_facts, fnv1a64_facts}
+use Rattle.hash_bytes.specs.FnvLaws.{fnv1a32_same, fnv1a64_same, fnv1a32_facts, fnv1a64_facts}
 use Rattle.hashers.proofs.WindowSpreads.{IsState32, IsState64, OneByte, TwoBytes}
 use Rattle.hash_laws.proofs.Windows.{Separates}
 use Rattle.hash_rounds.proofs.XorLemmas.{xor_cancel_left, xor_block_kept}

@@ -8,7 +8,7 @@ use Rattle.std.proofs.lemmas.Nat.Bits.{and_high}
 use Rattle.std.specs.Int.Bits.{bit_and}
 use Rattle.hash_laws.specs.Text.{IsText}
 use Rattle.hash_laws.specs.DifferWithin.{DifferWithin}
-use Rattle.hashers.specs.Oz.{djb2}
+use Rattle.hash_bytes.specs.Oz.{djb2}
 use Rattle.hashers.specs.ShortWords.{IsShortWord}
 use Rattle.hashers.proofs.Collisions.{djb2_apart}
 

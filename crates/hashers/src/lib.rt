@@ -1,14 +1,11 @@
 //! Non-cryptographic hash functions, with inverses and laws: a port of the Rust crate hashers 1.0.1.
 #![tactic(auto)]
 
-pub mod fnv;
 pub mod laws;
-pub mod null;
-pub mod oz;
-pub mod pigeon;
 pub mod promises;
 mod windows;
 
+pub use hash_bytes::{fnv as fnv, null as null, oz as oz, pigeon as pigeon};
 pub use hash_fx as fx_hash;
 pub use hash_jenkins as jenkins;
 pub use hash_laws::{build as build, engine as engine};

@@ -14,14 +14,14 @@ ghost use Rattle.hash_fx.specs.Fx.{fx32, fx32_step, fx64, fx64_step, words32, wo
 ghost use Rattle.hash_jenkins.specs.Lookup3.{lookup3, lookup3_answer};
 ghost use Rattle.hash_jenkins.specs.Oaat.{oaat, oaat_finish};
 ghost use Rattle.hash_jenkins.specs.Spooky.{spooky, spooky_v1};
-ghost use Rattle.hashers.specs.Fnv.{fnv1a32, fnv1a32_basis, fnv1a64, fnv1a64_basis};
-ghost use Rattle.hashers.specs.Oz.{djb2};
-ghost use Rattle.hashers.specs.Pigeon.{bricolage};
+ghost use Rattle.hash_bytes.specs.Fnv.{fnv1a32, fnv1a32_basis, fnv1a64, fnv1a64_basis};
+ghost use Rattle.hash_bytes.specs.Oz.{djb2};
+ghost use Rattle.hash_bytes.specs.Pigeon.{bricolage};
 
-use crate::fnv::{FNV1aHasher32, FNV1aHasher64};
-use crate::null::{NullHasher, PassThroughHasher};
-use crate::oz::{DJB2Hasher, LoseLoseHasher, SDBMHasher};
-use crate::pigeon::Bricolage;
+use hash_bytes::fnv::{FNV1aHasher32, FNV1aHasher64};
+use hash_bytes::null::{NullHasher, PassThroughHasher};
+use hash_bytes::oz::{DJB2Hasher, LoseLoseHasher, SDBMHasher};
+use hash_bytes::pigeon::Bricolage;
 use hash_fx::{Fx64Rule, FxHasher, FxHasher32, FxHasher64, MachineWord};
 use hash_jenkins::spooky_hash::SpookyHasher;
 use hash_jenkins::{Lookup3Hasher, OAATHasher};

@@ -5,11 +5,11 @@ ghost use Rattle.std.specs.Bool.{OnTrue};
 ghost use Rattle.hash_rounds.specs.Sums.{sdbm};
 ghost use Rattle.hash_laws.specs.Text.{IsText};
 ghost use Rattle.hash_laws.specs.DifferWithin.{DifferWithin};
-ghost use Rattle.hashers.specs.Fnv.{fnv1a32, fnv1a32_basis, fnv1a64, fnv1a64_basis};
-ghost use Rattle.hashers.specs.Oz.{djb2};
+ghost use Rattle.hash_bytes.specs.Fnv.{fnv1a32, fnv1a32_basis, fnv1a64, fnv1a64_basis};
+ghost use Rattle.hash_bytes.specs.Oz.{djb2};
 ghost use Rattle.hashers.specs.ShortWords.{IsShortWord};
 
-use crate::oz;
+use hash_bytes::oz;
 use hash_laws::window::is_window;
 
 // In how many neighbouring places two texts may differ.

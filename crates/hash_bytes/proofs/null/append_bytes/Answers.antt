@@ -1,0 +1,11 @@
+use Rattle.std.proofs.Common.{◌∙◌, ap, sym, length}
+use Rattle.hash_rounds.specs.Sums.{digit_sum}
+use Rattle.hash_rounds.proofs.SumLemmas.{from_be_bytes-8, passthrough_of_last}
+use Rattle.hash_laws.proofs.TextLemmas.{IsText-from_slice}
+use Rattle.hash_bytes.proofs.null.append_bytes.Goals as goal
+
+pub returns-in-Some : goal.returns-in-Some
+returns-in-Some c =
+    let chunk = c.in-Some.ensures.cases in
+    c.from_be_bytes.ensures ∙ from_be_bytes-8 _ (ap length chunk.1.same ∙ chunk.1.long) ∙ ap (digit_sum 256) chunk.1.same
+    ∙ sym (passthrough_of_last c.args.state c.args.bytes.now chunk.0 (IsText-from_slice _ c.type_inv.bytes))

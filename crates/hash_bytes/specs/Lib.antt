@@ -1,0 +1,7 @@
+pub mod Counted
+pub mod Fnv
+pub mod FnvLaws
+pub mod Oz
+pub mod OzLaws
+pub mod Pigeon
+pub mod PigeonLaws

@@ -1,0 +1,225 @@
+//! The hash functions of Glenn Fowler, Landon Curt Noll and Kiem-Phong Vo, in the variant 1a: for each byte an exclusive
+//! or, and then a product by a prime. They were published on the authors' page, and are short and widely used.
+ghost use Rattle.std.specs.Prelude.{◌≡◌, ◌^◌, ◌+◌, ◌*◌, ◌%◌, refl};
+ghost use Rattle.std.proofs.Common.{lit<};
+ghost use Rattle.hash_bytes.specs.Fnv.{fnv1a32_step, fnv1a64_step};
+ghost use Rattle.hash_bytes.specs.FnvLaws.{fnv1a32_facts, fnv1a64_facts};
+ghost use Rattle.hash_laws.proofs.RecurrenceLemmas.{recurrence_is_fold};
+ghost use Rattle.hash_bytes.specs.Fnv.{fnv0, fnv1a32_basis, fnv1a32, fnv1a64_basis, fnv1a64};
+
+use hash_laws::build::BuildFresh;
+use hash_rules::{ByteHasher, ByteRule, StepRule, alone_or_in_eights};
+use std::collections::{HashMap, HashSet};
+use std::hash::Hasher;
+
+/// The start at 32 bits, which the authors call the offset basis.
+const BASIS_32: u32 = 2166136261;
+
+/// 2^24 + 2^8 + 0x93.
+const PRIME_32: u32 = 16777619;
+
+/// What undoes the product by `PRIME_32`.
+const UNPRIME_32: u32 = 899433627;
+
+/// The start at 64 bits.
+const BASIS_64: u64 = 14695981039346656037;
+
+/// 2^40 + 2^8 + 0xb3.
+const PRIME_64: u64 = 1099511628211;
+
+/// What undoes the product by `PRIME_64`.
+const UNPRIME_64: u64 = 0xce965057aff6957b;
+
+/// The 32 bytes of which the authors took the starts: a line of Noll's signature.
+const SIGNATURE: [u8; 32] = *b"chongo <Landon Curt Noll> /\\../\\";
+
+/// Where the constants come from, a law and no code: each start is the hash by the oldest variant, FNV-0, of the 32
+/// bytes `chongo <Landon Curt Noll> /\../\`; the primes are a power of two, 2^8 and a byte; and each number that undoes a
+/// product is the inverse of its prime.
+pub fn origin_of_constants()
+    ensures basis_32 { fnv1a32_basis ≡ fnv0 32 16777619 SIGNATURE }
+    ensures basis_64 { fnv1a64_basis ≡ fnv0 64 1099511628211 SIGNATURE }
+    ensures prime_32 { 16777619 ≡ 2 ^ 24 + 2 ^ 8 + 0x93 }
+    ensures prime_64 { 1099511628211 ≡ 2 ^ 40 + 2 ^ 8 + 0xb3 }
+    ensures inverse_32 { 16777619 * UNPRIME_32 % 2 ^ 32 ≡ 1 }
+    ensures inverse_64 { 1099511628211 * UNPRIME_64 % 2 ^ 64 ≡ 1 }
+{}
+
+/// The rule of FNV-1a at 32 bits.
+pub struct Fnv1aRule32;
+
+impl StepRule for Fnv1aRule32 {
+    type State = u32;
+
+    ghost number = { λ s. s };
+
+    ghost bound = { 2 ^ 32 };
+
+    ghost start = { fnv1a32_basis };
+
+    ghost step = { fnv1a32_step };
+
+    fn start() -> u32 {
+        BASIS_32
+    }
+
+    #[inline(always)]
+    fn fork(state: &u32) -> u32 {
+        *state
+    }
+
+    #[inline(always)]
+    fn step(state: &mut u32, byte: u8) {
+        *state = (*state ^ u32::from(byte)).wrapping_mul(PRIME_32);
+    }
+
+    #[inline(always)]
+    #[tactic(auto, using(crate::specs::FnvLaws::fnv1a32_back))]
+    fn unstep(state: &mut u32, byte: u8) {
+        *state = state.wrapping_mul(UNPRIME_32) ^ u32::from(byte);
+    }
+
+    ghost start_in_range = { lit< tt };
+
+    ghost facts = { fnv1a32_facts };
+}
+
+impl ByteRule for Fnv1aRule32 {
+    ghost after = { fnv1a32 };
+
+    ghost write = { fnv1a32 };
+
+    ghost answer = { λ s. s };
+
+    #[inline(always)]
+    fn write(state: &mut u32, bytes: &[u8]) {
+        alone_or_in_eights::<Fnv1aRule32>(state, bytes);
+    }
+
+    #[inline(always)]
+    fn answer(state: &u32) -> u64 {
+        u64::from(*state)
+    }
+
+    fn unanswer(hash: u64) -> Option<u32> {
+        u32::try_from(hash).ok()
+    }
+
+    ghost is_fold = { recurrence_is_fold fnv1a32_step (2 ^ 32) };
+
+    ghost write_is_after = { λ s text. refl };
+
+    ghost answer_injective = { λ s t ks kt same. same };
+}
+
+/// FNV-1a at 32 bits (the FNV authors' page, www.isthe.com/chongo/tech/comp/fnv).
+///
+/// From 2166136261, a byte `b` takes the state `h` to `(h ^ b) * 16777619`, modulo 2^32; `finish` answers `h`, widened. Cuts
+/// don't show, and each write can be undone. Texts that differ in at most two neighbouring bytes never collide.
+///
+/// Contracts see the hasher as its state, a number below 2^32: `write` gives `h.new ≡ fnv1a32 h.old bytes.now`, and
+/// `finish` answers `h.now`. Of `a` the hash is 3826002220.
+pub type FNV1aHasher32 = ByteHasher<Fnv1aRule32>;
+
+/// FNV-1a at 32 bits of the bytes.
+pub fn fnv1a32(bytes: &[u8]) -> u64
+    ensures { result ≡ fnv1a32 fnv1a32_basis bytes.now }
+{
+    let mut hasher = FNV1aHasher32::default();
+    hasher.write(bytes);
+    hasher.finish()
+}
+
+/// The rule of FNV-1a at 64 bits.
+pub struct Fnv1aRule64;
+
+impl StepRule for Fnv1aRule64 {
+    type State = u64;
+
+    ghost number = { λ s. s };
+
+    ghost bound = { 2 ^ 64 };
+
+    ghost start = { fnv1a64_basis };
+
+    ghost step = { fnv1a64_step };
+
+    fn start() -> u64 {
+        BASIS_64
+    }
+
+    #[inline(always)]
+    fn fork(state: &u64) -> u64 {
+        *state
+    }
+
+    #[inline(always)]
+    fn step(state: &mut u64, byte: u8) {
+        *state = (*state ^ u64::from(byte)).wrapping_mul(PRIME_64);
+    }
+
+    #[inline(always)]
+    #[tactic(auto, using(crate::specs::FnvLaws::fnv1a64_back, hash_rounds::proofs::XorLemmas::xored_64))]
+    fn unstep(state: &mut u64, byte: u8) {
+        *state = state.wrapping_mul(UNPRIME_64) ^ u64::from(byte);
+    }
+
+    ghost start_in_range = { lit< tt };
+
+    ghost facts = { fnv1a64_facts };
+}
+
+impl ByteRule for Fnv1aRule64 {
+    ghost after = { fnv1a64 };
+
+    ghost write = { fnv1a64 };
+
+    ghost answer = { λ s. s };
+
+    #[inline(always)]
+    fn write(state: &mut u64, bytes: &[u8]) {
+        alone_or_in_eights::<Fnv1aRule64>(state, bytes);
+    }
+
+    #[inline(always)]
+    fn answer(state: &u64) -> u64 {
+        *state
+    }
+
+    fn unanswer(hash: u64) -> Option<u64> {
+        Some(hash)
+    }
+
+    ghost is_fold = { recurrence_is_fold fnv1a64_step (2 ^ 64) };
+
+    ghost write_is_after = { λ s text. refl };
+
+    ghost answer_injective = { λ s t ks kt same. same };
+}
+
+/// FNV-1a at 64 bits (the FNV authors' page, www.isthe.com/chongo/tech/comp/fnv).
+///
+/// From 14695981039346656037, a byte `b` takes the state `h` to `(h ^ b) * 1099511628211`, modulo 2^64; `finish` answers `h`.
+/// Cuts don't show, and each write can be undone. Texts that differ in at most three neighbouring bytes never collide.
+///
+/// Contracts see the hasher as its state, a number below 2^64: `write` gives `h.new ≡ fnv1a64 h.old bytes.now`, and
+/// `finish` answers `h.now`. Of `a` the hash is 12638187200555641996.
+pub type FNV1aHasher64 = ByteHasher<Fnv1aRule64>;
+
+/// FNV-1a at 64 bits of the bytes.
+pub fn fnv1a64(bytes: &[u8]) -> u64
+    ensures { result ≡ fnv1a64 fnv1a64_basis bytes.now }
+{
+    let mut hasher = FNV1aHasher64::default();
+    hasher.write(bytes);
+    hasher.finish()
+}
+
+/// Makes an [`FNV1aHasher64`] for each key of a map or a set, as the type of this name in the crate fnv does.
+pub type FnvBuildHasher = BuildFresh<FNV1aHasher64>;
+
+/// A map of std by FNV-1a at 64 bits: `FnvHashMap::with_hasher(alloc, FnvBuildHasher::new())` is an empty one.
+pub type FnvHashMap<K, V> = HashMap<K, V, FnvBuildHasher>;
+
+/// A set of std by FNV-1a at 64 bits.
+pub type FnvHashSet<K> = HashSet<K, FnvBuildHasher>;

@@ -1,0 +1,446 @@
+//! Three hash functions of Ozan Yigit's page of hash functions for strings: djb2, sdbm and lose lose.
+ghost use Rattle.std.specs.Prelude.{◌≡◌, ◌^◌, ◌+◌, ◌-◌, ◌*◌, ◌/◌, ◌%◌, ℕ, List, ◌++◌, length, IsPermutation, refl};
+ghost use Rattle.std.proofs.Common.{lit<};
+ghost use Rattle.hash_rounds.specs.Sums.{sdbm, loselose};
+ghost use Rattle.hash_bytes.specs.Oz.{djb2_step};
+ghost use Rattle.hash_rounds.specs.Sums.{sdbm_step, loselose_step};
+ghost use Rattle.hash_bytes.specs.OzLaws.{djb2_facts};
+ghost use Rattle.hash_rounds.proofs.SumStepLemmas.{sdbm_facts, loselose_facts};
+ghost use Rattle.hash_rounds.proofs.SumLemmas.{sdbm-fold, loselose-fold};
+ghost use Rattle.hash_laws.proofs.RecurrenceLemmas.{recurrence_is_fold};
+ghost use Rattle.hash_bytes.specs.Oz.{djb2};
+ghost use Rattle.hash_bytes.specs.Counted.{sdbm_write, loselose_write};
+
+use hash_rounds::{Turns, lose8, sdbm4};
+use hash_rules::{ByteHasher, ByteRule, StepRule, in_eights};
+use std::hash::Hasher;
+use std::marker::Model;
+use std::simd::prelude::*;
+
+/// What undoes a product by 33.
+const UNPRODUCT_33: u32 = 1041204193;
+
+/// What undoes a product by 65599.
+const UNPRODUCT_65599: u32 = 2390421439;
+
+/// Where the constants come from, a law and no code: 65599 is 2^16 + 2^6 - 1, for which the code of sdbm shifts and
+/// subtracts, and each number that undoes a product is the inverse of its multiplier.
+pub fn origin_of_constants()
+    ensures multiplier { 65599 ≡ 2 ^ 16 + 2 ^ 6 - 1 }
+    ensures inverse_33 { 33 * UNPRODUCT_33 % 2 ^ 32 ≡ 1 }
+    ensures inverse_65599 { 65599 * UNPRODUCT_65599 % 2 ^ 32 ≡ 1 }
+{}
+
+/// The law of sdbm of a joined text, with no code: it is made of the hashes of the parts and the second part's length.
+pub fn sdbm_of_joined_texts()
+    ensures { (x y : List ℕ) → sdbm 0 (x ++ y) ≡ (sdbm 0 x * 65599 ^ length y + sdbm 0 y) % 2 ^ 32 }
+{}
+
+/// The law that lose lose ignores the order of the bytes, with no code.
+pub fn loselose_ignores_order()
+    ensures { (s : ℕ) (x y : List ℕ) → IsPermutation x y → loselose s x ≡ loselose s y }
+{}
+
+/// One byte of sdbm on.
+#[inline(always)]
+fn sdbm_step(state: u32, byte: u8) -> u32
+    ensures { result ≡ (65599 * state + byte) % 2 ^ 32 }
+{
+    state.wrapping_mul(65599).wrapping_add(u32::from(byte))
+}
+
+/// One byte of sdbm back.
+#[inline(always)]
+#[tactic(auto, using(hash_rounds::proofs::SumStepLemmas::sdbm_back))]
+fn sdbm_unstep(state: u32, byte: u8) -> u32
+    ensures { (65599 * result + byte) % 2 ^ 32 ≡ state }
+{
+    state
+        .wrapping_sub(u32::from(byte))
+        .wrapping_mul(UNPRODUCT_65599)
+}
+
+/// One byte of lose lose on.
+#[inline(always)]
+fn loselose_step(state: u64, byte: u8) -> u64
+    ensures { result ≡ (state + byte) % 2 ^ 64 }
+{
+    state.wrapping_add(u64::from(byte))
+}
+
+/// One byte of lose lose back.
+#[inline(always)]
+#[tactic(auto, using(hash_rounds::proofs::SumStepLemmas::loselose_back))]
+fn loselose_unstep(state: u64, byte: u8) -> u64
+    ensures { (result + byte) % 2 ^ 64 ≡ state }
+{
+    state.wrapping_sub(u64::from(byte))
+}
+
+/// The bytes of lose lose in, one step for each.
+#[inline(always)]
+fn loselose_bytes_in(state: u64, bytes: &[u8]) -> u64
+    ensures { result ≡ loselose state bytes.now }
+{
+    let mut h = state;
+    for byte in bytes {
+        h = loselose_step(h, *byte);
+    }
+    h
+}
+
+/// The sum of eight bytes, in one turn of `lose8`. The lanes begin at 0 and are summed at once: the processor has one step
+/// for both.
+#[inline(always)]
+fn sum_of_eight(eight: &[u8; 8], turns: &mut Turns) -> u64
+    ensures value { result ≡ loselose 0 eight.now }
+    ensures turn { turns.new ≡ turns.old + 1 }
+{
+    let mut lanes = u64x8::splat(0);
+    lose8(&mut lanes, eight, turns);
+    lanes.reduce_sum()
+}
+
+/// The rule of Dan Bernstein's hash in its form with an exclusive or.
+pub struct Djb2Rule;
+
+impl StepRule for Djb2Rule {
+    type State = u32;
+
+    ghost number = { λ s. s };
+
+    ghost bound = { 2 ^ 32 };
+
+    ghost start = { 5381 };
+
+    ghost step = { djb2_step };
+
+    fn start() -> u32 {
+        5381
+    }
+
+    #[inline(always)]
+    fn fork(state: &u32) -> u32 {
+        *state
+    }
+
+    #[inline(always)]
+    fn step(state: &mut u32, byte: u8) {
+        *state = (*state << 5).wrapping_add(*state) ^ u32::from(byte);
+    }
+
+    #[inline(always)]
+    #[tactic(auto, using(crate::specs::OzLaws::djb2_back))]
+    fn unstep(state: &mut u32, byte: u8) {
+        *state = (*state ^ u32::from(byte)).wrapping_mul(UNPRODUCT_33);
+    }
+
+    ghost start_in_range = { lit< tt };
+
+    ghost facts = { djb2_facts };
+}
+
+impl ByteRule for Djb2Rule {
+    ghost after = { djb2 };
+
+    ghost write = { djb2 };
+
+    ghost answer = { λ s. s };
+
+    #[inline(always)]
+    fn write(state: &mut u32, bytes: &[u8]) {
+        in_eights::<Djb2Rule>(state, bytes);
+    }
+
+    #[inline(always)]
+    fn answer(state: &u32) -> u64 {
+        u64::from(*state)
+    }
+
+    fn unanswer(hash: u64) -> Option<u32> {
+        u32::try_from(hash).ok()
+    }
+
+    ghost is_fold = { recurrence_is_fold djb2_step (2 ^ 32) };
+
+    ghost write_is_after = { λ s text. refl };
+
+    ghost answer_injective = { λ s t ks kt same. same };
+}
+
+/// djb2, Dan Bernstein's hash in its form with an exclusive or (Oz' page of hash functions, www.cse.yorku.ca/~oz/hash.html).
+///
+/// From 5381, a byte `b` takes the state `h` to `(33 * h) ^ b`, at 32 bits; `finish` answers `h`, widened. Cuts don't show, and
+/// each write can be undone. Texts that differ in the low five bits of at most six neighbouring bytes never collide.
+///
+/// Contracts see the hasher as its state, a number below 2^32: `write` gives `h.new ≡ djb2 h.old bytes.now`, and `finish`
+/// answers `h.now`. Of `a` the hash is 177604.
+pub type DJB2Hasher = ByteHasher<Djb2Rule>;
+
+/// djb2 of the bytes, from 5381.
+pub fn djb2(bytes: &[u8]) -> u64
+    ensures { result ≡ djb2 5381 bytes.now }
+{
+    let mut hasher = DJB2Hasher::default();
+    hasher.write(bytes);
+    hasher.finish()
+}
+
+/// What the hasher of sdbm keeps: its state, and the turns that its writes have taken, of which nothing is kept at run
+/// time.
+#[derive(Drop)]
+pub struct SdbmState {
+    state: u32,
+    turns: Turns,
+}
+
+impl Model for SdbmState {
+    ghost use Rattle.std.specs.Prelude.{◌<◌, ◌^◌};
+    ghost use Rattle.hash_bytes.specs.Counted.{Counted};
+
+    ghost Value = { Counted };
+
+    ghost view = { λ h. record { state = h.state; turns = h.turns } };
+
+    ghost invariant = { λ h. h.state < 2 ^ 32 };
+}
+
+/// The rule of sdbm.
+pub struct SdbmRule;
+
+impl StepRule for SdbmRule {
+    type State = SdbmState;
+
+    ghost number = { λ h. h.state };
+
+    ghost bound = { 2 ^ 32 };
+
+    ghost start = { record { state = 0; turns = 0 } };
+
+    ghost step = { sdbm_step };
+
+    fn start() -> SdbmState {
+        SdbmState {
+            state: 0,
+            turns: Turns::new(),
+        }
+    }
+
+    #[inline(always)]
+    fn fork(state: &SdbmState) -> SdbmState {
+        SdbmState {
+            state: state.state,
+            turns: state.turns.fork(),
+        }
+    }
+
+    #[inline(always)]
+    fn step(state: &mut SdbmState, byte: u8) {
+        state.state = sdbm_step(state.state, byte);
+    }
+
+    #[inline(always)]
+    fn unstep(state: &mut SdbmState, byte: u8) {
+        state.state = sdbm_unstep(state.state, byte);
+    }
+
+    ghost start_in_range = { lit< tt };
+
+    ghost facts = { sdbm_facts };
+}
+
+impl ByteRule for SdbmRule {
+    ghost after = { sdbm };
+
+    ghost write = { sdbm_write };
+
+    ghost answer = { λ s. s };
+
+    /// Takes the bytes in, four in each turn of `sdbm4` and the last up to three alone. A single byte has no loop.
+    #[inline(always)]
+    fn write(state: &mut SdbmState, bytes: &[u8])
+        ensures value { state.new ≡ sdbm_write state.old bytes.now }
+        ensures state { state.new.state ≡ sdbm state.old.state bytes.now }
+        ensures turns { state.new.turns ≡ state.old.turns + length bytes.now / 4 }
+    {
+        if let [byte] = bytes {
+            state.state = sdbm_step(state.state, *byte);
+            return;
+        }
+        let (fours, rest) = bytes.as_chunks::<4>();
+        for four in fours {
+            state.state = sdbm4(state.state, four, &mut state.turns);
+        }
+        for byte in rest {
+            state.state = sdbm_step(state.state, *byte);
+        }
+    }
+
+    #[inline(always)]
+    fn answer(state: &SdbmState) -> u64 {
+        u64::from(state.state)
+    }
+
+    fn unanswer(hash: u64) -> Option<SdbmState> {
+        let state = u32::try_from(hash).ok()?;
+        Some(SdbmState {
+            state,
+            turns: Turns::new(),
+        })
+    }
+
+    ghost is_fold = { sdbm-fold };
+
+    ghost write_is_after = { λ s text. refl };
+
+    ghost answer_injective = { λ s t ks kt same. same };
+}
+
+/// The hash of the sdbm database library (Oz' page of hash functions, www.cse.yorku.ca/~oz/hash.html).
+///
+/// From 0, a byte `b` takes the state `h` to `65599 * h + b`, at 32 bits; `finish` answers `h`, widened. So the hash is the sum of
+/// the bytes as digits in base 65599. Cuts don't show, and each write can be undone. Texts that differ in at most three
+/// neighbouring bytes never collide.
+///
+/// Contracts see the hasher as its `state`, a number below 2^32, and the `turns` that its writes have taken, of which nothing
+/// is kept at run time: `write` gives `h.new.state ≡ sdbm h.old.state bytes.now`, in a turn for each four bytes, and `finish`
+/// answers `h.now.state`. Of `ab` the hash is 6363201.
+pub type SDBMHasher = ByteHasher<SdbmRule>;
+
+/// sdbm of the bytes: their sum as digits in base 65599, modulo 2^32.
+pub fn sdbm(bytes: &[u8]) -> u64
+    ensures { result ≡ sdbm 0 bytes.now }
+{
+    let mut hasher = SDBMHasher::default();
+    hasher.write(bytes);
+    hasher.finish()
+}
+
+/// What the hasher of lose lose keeps: its state, and the turns that its writes have taken, of which nothing is kept at
+/// run time.
+#[derive(Drop)]
+pub struct LoseLoseState {
+    state: u64,
+    turns: Turns,
+}
+
+impl Model for LoseLoseState {
+    ghost use Rattle.std.specs.Prelude.{◌<◌, ◌^◌};
+    ghost use Rattle.hash_bytes.specs.Counted.{Counted};
+
+    ghost Value = { Counted };
+
+    ghost view = { λ h. record { state = h.state; turns = h.turns } };
+
+    ghost invariant = { λ h. h.state < 2 ^ 64 };
+}
+
+/// The rule of lose lose.
+pub struct LoseLoseRule;
+
+impl StepRule for LoseLoseRule {
+    type State = LoseLoseState;
+
+    ghost number = { λ h. h.state };
+
+    ghost bound = { 2 ^ 64 };
+
+    ghost start = { record { state = 0; turns = 0 } };
+
+    ghost step = { loselose_step };
+
+    fn start() -> LoseLoseState {
+        LoseLoseState {
+            state: 0,
+            turns: Turns::new(),
+        }
+    }
+
+    #[inline(always)]
+    fn fork(state: &LoseLoseState) -> LoseLoseState {
+        LoseLoseState {
+            state: state.state,
+            turns: state.turns.fork(),
+        }
+    }
+
+    #[inline(always)]
+    fn step(state: &mut LoseLoseState, byte: u8) {
+        state.state = loselose_step(state.state, byte);
+    }
+
+    #[inline(always)]
+    fn unstep(state: &mut LoseLoseState, byte: u8) {
+        state.state = loselose_unstep(state.state, byte);
+    }
+
+    ghost start_in_range = { lit< tt };
+
+    ghost facts = { loselose_facts };
+}
+
+impl ByteRule for LoseLoseRule {
+    ghost after = { loselose };
+
+    ghost write = { loselose_write };
+
+    ghost answer = { λ s. s };
+
+    /// Adds eight bytes in each turn of `lose8`, and the up to seven last ones one by one. Fewer than eight have a way of
+    /// their own, with nothing else on it.
+    #[inline(always)]
+    fn write(state: &mut LoseLoseState, bytes: &[u8])
+        ensures value { state.new ≡ loselose_write state.old bytes.now }
+        ensures state { state.new.state ≡ loselose state.old.state bytes.now }
+        ensures turns { state.new.turns ≡ state.old.turns + length bytes.now / 8 }
+    {
+        if bytes.len() < 8 {
+            state.state = loselose_bytes_in(state.state, bytes);
+            return;
+        }
+        let (eights, few) = bytes.as_chunks::<8>();
+        let mut sum = state.state;
+        for eight in eights {
+            sum = sum.wrapping_add(sum_of_eight(eight, &mut state.turns));
+        }
+        state.state = loselose_bytes_in(sum, few);
+    }
+
+    #[inline(always)]
+    fn answer(state: &LoseLoseState) -> u64 {
+        state.state
+    }
+
+    fn unanswer(hash: u64) -> Option<LoseLoseState> {
+        Some(LoseLoseState {
+            state: hash,
+            turns: Turns::new(),
+        })
+    }
+
+    ghost is_fold = { loselose-fold };
+
+    ghost write_is_after = { λ s text. refl };
+
+    ghost answer_injective = { λ s t ks kt same. same };
+}
+
+/// lose lose, the hash of the first edition of Kernighan and Ritchie's book, here at 64 bits (Oz' page of hash functions,
+/// www.cse.yorku.ca/~oz/hash.html).
+///
+/// From 0, a byte `b` takes the state `h` to `h + b`, modulo 2^64; `finish` answers `h`. So the hash is the sum of the bytes, in
+/// whatever order they come. Cuts don't show, and each write can be undone.
+///
+/// Contracts see the hasher as its `state`, a number below 2^64, and the `turns` that its writes have taken, of which nothing
+/// is kept at run time: `write` gives `h.new.state ≡ loselose h.old.state bytes.now`, in a turn for each eight bytes, and
+/// `finish` answers `h.now.state`. Of `ab` the hash is 195.
+pub type LoseLoseHasher = ByteHasher<LoseLoseRule>;
+
+/// The sum of the bytes, modulo 2^64.
+pub fn loselose(bytes: &[u8]) -> u64
+    ensures { result ≡ loselose 0 bytes.now }
+{
+    let mut hasher = LoseLoseHasher::default();
+    hasher.write(bytes);
+    hasher.finish()
+}

@@ -1,0 +1,96 @@
+//! The hasher.
+ghost use Rattle.std.specs.Prelude.{◌≡◌, ◌^◌, ◌*◌, ◌%◌, refl};
+ghost use Rattle.std.proofs.Common.{lit<};
+ghost use Rattle.hash_rounds.specs.Shuffle.{shuffle};
+ghost use Rattle.hash_bytes.specs.Pigeon.{bricolage_step};
+ghost use Rattle.hash_bytes.specs.PigeonLaws.{bricolage_facts};
+ghost use Rattle.hash_laws.proofs.RecurrenceLemmas.{recurrence_is_fold};
+ghost use Rattle.hash_bytes.specs.Pigeon.{bricolage};
+
+use super::table::SHUFFLED_PRODUCTS;
+use hash_rounds::swap_halves;
+use hash_rules::{ByteHasher, ByteRule, StepRule, in_eights};
+
+/// The shuffled product of a byte.
+#[inline(always)]
+fn shuffled_product(byte: u8) -> u64
+    ensures { result ≡ shuffle (byte * 173773926194192273 % 2 ^ 64) }
+{
+    SHUFFLED_PRODUCTS[usize::from(byte)]
+}
+
+/// The rule of Pigeon's hash.
+pub struct BricolageRule;
+
+impl StepRule for BricolageRule {
+    type State = u64;
+
+    ghost number = { λ s. s };
+
+    ghost bound = { 2 ^ 64 };
+
+    ghost start = { 0 };
+
+    ghost step = { bricolage_step };
+
+    fn start() -> u64 {
+        0
+    }
+
+    #[inline(always)]
+    fn fork(state: &u64) -> u64 {
+        *state
+    }
+
+    #[inline(always)]
+    fn step(state: &mut u64, byte: u8) {
+        *state = swap_halves(state.wrapping_add(shuffled_product(byte)));
+    }
+
+    #[inline(always)]
+    #[tactic(auto, using(crate::specs::PigeonLaws::bricolage_back))]
+    fn unstep(state: &mut u64, byte: u8) {
+        *state = swap_halves(*state).wrapping_sub(shuffled_product(byte));
+    }
+
+    ghost start_in_range = { lit< tt };
+
+    ghost facts = { bricolage_facts };
+}
+
+impl ByteRule for BricolageRule {
+    ghost after = { bricolage };
+
+    ghost write = { bricolage };
+
+    ghost answer = { λ s. s };
+
+    #[inline(always)]
+    fn write(state: &mut u64, bytes: &[u8]) {
+        in_eights::<BricolageRule>(state, bytes);
+    }
+
+    #[inline(always)]
+    fn answer(state: &u64) -> u64 {
+        *state
+    }
+
+    fn unanswer(hash: u64) -> Option<u64> {
+        Some(hash)
+    }
+
+    ghost is_fold = { recurrence_is_fold bricolage_step (2 ^ 64) };
+
+    ghost write_is_after = { λ s text. refl };
+
+    ghost answer_injective = { λ s t ks kt same. same };
+}
+
+/// Bricolage, Steven Pigeon's hash (his blog, hbfs.wordpress.com).
+///
+/// From 0, a byte `b` takes the state `h` to `h + shuffle(b * 173773926194192273)`, whose halves then change places; all is
+/// modulo 2^64, and `shuffle` moves the 64 bits by a table. `finish` answers `h`. Cuts don't show, and each write can be undone.
+///
+/// Contracts see the hasher as its state, a number below 2^64: `write` gives `h.new ≡ bricolage h.old bytes.now`, and
+/// `finish` answers `h.now`. Of `a` the hash is 17926483712435944715.
+pub type Bricolage = ByteHasher<BricolageRule>;

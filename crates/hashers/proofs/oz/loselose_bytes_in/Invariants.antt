@@ -1,6 +1,0 @@
-use Rattle.std.proofs.Common.{◌≡◌, take}
-use Rattle.hash_rounds.specs.Sums.{loselose}
-use Rattle.hashers.proofs.oz.loselose_bytes_in.Given as goal
-
-abbrev pub invariant-loop-byte : goal.invariant-loop-byte
-invariant-loop-byte l = l.h ≡ loselose l.initial.h (take l.byte-index l.bytes)
