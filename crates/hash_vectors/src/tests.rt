@@ -37,6 +37,11 @@ fn same_replies(rt: &impl Abort, got: &[Option<u64>], want: &[Option<u64>]) {
     assert_eq!(rt; got, want);
 }
 
+/// That a reply is as wanted, in one turn of a loop.
+fn same_reply_at(rt: &impl Abort, turn: usize, got: Option<u64>, want: Option<u64>) {
+    assert_eq!(rt; got, want, "at {turn}");
+}
+
 /// That all claims hold.
 fn all_hold(rt: &impl Abort, claims: &[bool]) {
     assert!(rt; !claims.contains(&false), "not all hold: {claims:?}");
