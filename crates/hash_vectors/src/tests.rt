@@ -16,6 +16,7 @@ mod rounds;
 mod sample;
 mod spooky;
 mod tables;
+mod vectors;
 
 /// That each number is as wanted.
 fn same(rt: &impl Abort, got: &[u64], want: &[u64]) {
