@@ -16,6 +16,7 @@ mod rounds;
 mod sample;
 mod spooky;
 mod tables;
+mod vectors;
 
 /// That each number is as wanted.
 fn same(rt: &impl Abort, got: &[u64], want: &[u64]) {
@@ -35,6 +36,11 @@ fn same32(rt: &impl Abort, got: &[u32], want: &[u32]) {
 /// That each reply is as wanted.
 fn same_replies(rt: &impl Abort, got: &[Option<u64>], want: &[Option<u64>]) {
     assert_eq!(rt; got, want);
+}
+
+/// That a reply is as wanted, in one turn of a loop.
+fn same_reply_at(rt: &impl Abort, turn: usize, got: Option<u64>, want: Option<u64>) {
+    assert_eq!(rt; got, want, "at {turn}");
 }
 
 /// That all claims hold.

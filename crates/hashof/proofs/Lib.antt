@@ -1,4 +1,5 @@
 pub mod Calls
+pub mod Endings
 pub mod Lines
 pub mod Readings
 pub mod Versions

@@ -155,54 +155,66 @@ fn end_of(outcome: Result<(), RunFault>) -> End {
     }
 }
 
-/// A run ended so, this stands on its paper, and so many writes and flushes were made.
+/// That numbers are as wanted, in one turn of a loop.
+fn same(rt: &impl Abort, turn: usize, got: &[u64], want: &[u64]) {
+    assert_eq!(rt; got, want, "at {turn}");
+}
+
+/// That a text is as wanted, in one turn of a loop.
+fn same_text(rt: &impl Abort, turn: usize, got: &[u8], want: &[u8]) {
+    assert_eq!(rt; got, want, "at {turn}");
+}
+
+/// In one turn of a loop a run ended so, this stands on its paper, and so many writes and flushes were made.
 fn ended(
     rt: &impl Abort,
+    turn: usize,
     outcome: Result<(), RunFault>,
-    end: End,
     paper: &Paper,
-    line: &[u8],
-    calls: [u64; 2],
+    wanted: (End, &[u8], [u64; 2]),
 ) {
-    assert_eq!(rt; end_of(outcome), end);
-    assert_eq!(rt; paper.line(), line);
-    assert_eq!(rt; [paper.writes, paper.flushes], calls);
+    let (end, line, calls) = wanted;
+    assert_eq!(rt; end_of(outcome), end, "at {turn}");
+    same_text(rt, turn, paper.line(), line);
+    same(rt, turn, &[paper.writes, paper.flushes], &calls);
 }
 
-/// Runs over a text, and compares the line.
-fn tells(rt: &impl Abort, name: &str, text: &[u8], line: &[u8]) {
+/// Runs over a text, read so many bytes at a time, and compares the line.
+fn tells(rt: &impl Abort, turn: usize, name: &str, text: &[u8], most: usize, line: &[u8]) {
     let mut paper = plain();
-    let mut reader = text;
-    let outcome = run(name, &mut reader, &mut paper);
-    ended(rt, outcome, End::Told, &paper, line, [1, 1]);
+    let outcome = run(name, &mut Script::new(text, most, None), &mut paper);
+    ended(rt, turn, outcome, &paper, (End::Told, line, [1, 1]));
 }
 
-#[test]
-fn tells_fnv1a64(rt: HostRuntime) {
-    tells(&rt, "fnv1a64", b"", b"14695981039346656037\n");
-    tells(&rt, "fnv1a64", b"a", b"12638187200555641996\n");
-    tells(&rt, "fnv1a64", b"b", b"12638190499090526629\n");
-    tells(&rt, "fnv1a64", b"ab", b"620445648566982762\n");
-    tells(&rt, "fnv1a64", b"abcd", b"18165163011005162717\n");
-    tells(&rt, "fnv1a64", b"abcdefg", b"4642726675185563447\n");
-}
+/// A name, a text, and the line of its hash.
+const LINES: [(&str, &[u8], &[u8]); 20] = [
+    ("fnv1a64", b"", b"14695981039346656037\n"),
+    ("fnv1a64", b"a", b"12638187200555641996\n"),
+    ("fnv1a64", b"b", b"12638190499090526629\n"),
+    ("fnv1a64", b"ab", b"620445648566982762\n"),
+    ("fnv1a64", b"abcd", b"18165163011005162717\n"),
+    ("fnv1a64", b"abcdefg", b"4642726675185563447\n"),
+    ("fnv1a32", b"a", b"3826002220\n"),
+    ("djb2", b"", b"5381\n"),
+    ("sdbm", b"ab", b"6363201\n"),
+    ("loselose", b"ab", b"195\n"),
+    ("bricolage", b"a", b"17926483712435944715\n"),
+    ("oaat", b"a", b"29161854018\n"),
+    ("lookup3", b"a", b"6351843130003064584\n"),
+    ("spooky", b"", b"13905049616862401802\n"),
+    ("spooky_v1", b"a", b"16932945748884078726\n"),
+    ("fxhash", b"a", b"16160435425421689461\n"),
+    ("fxhash32", b"a", b"3555066485\n"),
+    ("fxhash64", b"a", b"16160435425421689461\n"),
+    ("null", b"ab", b"0\n"),
+    ("passthrough", b"a", b"97\n"),
+];
 
 #[test]
 fn tells_by_name(rt: HostRuntime) {
-    tells(&rt, "fnv1a32", b"a", b"3826002220\n");
-    tells(&rt, "djb2", b"", b"5381\n");
-    tells(&rt, "sdbm", b"ab", b"6363201\n");
-    tells(&rt, "loselose", b"ab", b"195\n");
-    tells(&rt, "bricolage", b"a", b"17926483712435944715\n");
-    tells(&rt, "oaat", b"a", b"29161854018\n");
-    tells(&rt, "lookup3", b"a", b"6351843130003064584\n");
-    tells(&rt, "spooky", b"", b"13905049616862401802\n");
-    tells(&rt, "spooky_v1", b"a", b"16932945748884078726\n");
-    tells(&rt, "fxhash", b"a", b"16160435425421689461\n");
-    tells(&rt, "fxhash32", b"a", b"3555066485\n");
-    tells(&rt, "fxhash64", b"a", b"16160435425421689461\n");
-    tells(&rt, "null", b"ab", b"0\n");
-    tells(&rt, "passthrough", b"a", b"97\n");
+    for (turn, (name, text, line)) in LINES.iter().enumerate() {
+        tells(&rt, turn, name, text, 32, line);
+    }
 }
 
 /// Of 4097 zeros, whatever the reads, the line tells the hash of two writes, of 4096 and of one.
@@ -211,26 +223,8 @@ fn tells_lookup3_of_pieces(rt: HostRuntime) {
     let mut hasher = Lookup3Hasher::default();
     hasher.write(&[0; 4096]);
     hasher.write(&[0]);
-    assert_eq!(rt; hasher.finish(), 952307450047595019);
-    let mut paper = plain();
-    let mut reader = Script::new(&[0; 4097], 1000, None);
-    let outcome = run("lookup3", &mut reader, &mut paper);
-    ended(
-        &rt,
-        outcome,
-        End::Told,
-        &paper,
-        b"952307450047595019\n",
-        [1, 1],
-    );
-}
-
-/// Runs over the beginning of a text, read so many bytes at a time, and compares the line.
-fn tells_beginning(rt: &impl Abort, name: &str, text: &[u8], most: usize, line: &[u8]) {
-    let mut paper = plain();
-    let mut reader = Script::new(text, most, None);
-    let outcome = run(name, &mut reader, &mut paper);
-    ended(rt, outcome, End::Told, &paper, line, [1, 1]);
+    same(&rt, 0, &[hasher.finish()], &[952307450047595019]);
+    tells(&rt, 0, "lookup3", &[0; 4097], 1000, b"952307450047595019\n");
 }
 
 /// What the original answers to so many bytes.
@@ -267,146 +261,104 @@ fn tells_texts_that_end_at_a_piece(rt: HostRuntime) {
     for (i, byte) in text.iter_mut().enumerate() {
         *byte = ((i % 256 * 131 + i / 256 % 256 * 17 + 89) % 256) as u8;
     }
-    for (name, length, line) in AT_THE_ENDS {
-        let beginning = &text[..length.min(8193)];
-        tells_beginning(&rt, name, beginning, 8193, line.as_bytes());
-        tells_beginning(&rt, name, beginning, 1000, line.as_bytes());
+    for (turn, (name, length, line)) in AT_THE_ENDS.iter().enumerate() {
+        for most in [8193, 1000] {
+            let beginning = &text[..(*length).min(8193)];
+            tells(&rt, turn, name, beginning, most, line.as_bytes());
+        }
     }
 }
 
 /// The number of the first digits, by `passthrough`, for one digit to all twenty.
-fn tells_digits(rt: &impl Abort, digits: &[u8; 20]) {
-    let mut number: u64 = 0;
-    let mut line = [b'\n'; 21];
-    for (i, digit) in digits.iter().enumerate() {
-        number = number.wrapping_mul(10).wrapping_add((*digit & 15) as u64);
-        line[i] = *digit;
-        tells(rt, "passthrough", &number.to_be_bytes(), &line[..i + 2]);
-        line[i + 1] = b'\n';
-    }
-}
-
 #[test]
 fn tells_numbers_of_each_length(rt: HostRuntime) {
-    tells_digits(&rt, b"12345678901234567890");
-    tells_digits(&rt, b"10000000000000000000");
-    tells_digits(&rt, b"18446744073709551615");
+    for digits in [
+        b"12345678901234567890",
+        b"10000000000000000000",
+        b"18446744073709551615",
+    ] {
+        let mut number: u64 = 0;
+        let mut line = [b'\n'; 21];
+        for (i, digit) in digits.iter().enumerate() {
+            number = number.wrapping_mul(10).wrapping_add((*digit & 15) as u64);
+            line[i] = *digit;
+            tells(
+                &rt,
+                i,
+                "passthrough",
+                &number.to_be_bytes(),
+                32,
+                &line[..i + 2],
+            );
+            line[i + 1] = b'\n';
+        }
+    }
 }
 
 /// Nothing is read, written or flushed.
-fn refuses(rt: &impl Abort, name: &str) {
-    let mut reader = Script::new(b"ab", 2, None);
-    let mut paper = plain();
-    let outcome = run(name, &mut reader, &mut paper);
-    ended(rt, outcome, End::Unknown, &paper, b"", [0, 0]);
-    assert_eq!(rt; reader.reads, 0);
-}
-
 #[test]
 fn refuses_a_name_before_it_reads(rt: HostRuntime) {
-    refuses(&rt, "md5");
-    refuses(&rt, "");
-    refuses(&rt, "fnv1a6");
-    refuses(&rt, "fnv1a64 ");
-    refuses(&rt, "FNV1A64");
+    for (turn, name) in ["md5", "", "fnv1a6", "fnv1a64 ", "FNV1A64"]
+        .iter()
+        .enumerate()
+    {
+        let mut reader = Script::new(b"ab", 2, None);
+        let mut paper = plain();
+        let outcome = run(name, &mut reader, &mut paper);
+        ended(&rt, turn, outcome, &paper, (End::Unknown, b"", [0, 0]));
+        same(&rt, turn, &[reader.reads], &[0]);
+    }
 }
 
-/// Runs over `ab` under a limit: at most that many reads are made, each of some bytes.
-fn limited(rt: &impl Abort, limit: u64, end: End, line: &[u8], calls: [u64; 2]) {
-    let mut reader = Script::new(b"ab", 1, None);
-    let mut paper = plain();
-    let outcome = run_limited("fnv1a64", limit, &mut reader, &mut paper);
-    ended(rt, outcome, end, &paper, line, calls);
-    assert!(rt; reader.reads <= limit && !reader.asked_for_nothing);
-}
-
+/// Over `ab` under a limit at most that many reads are made, each of some bytes.
 #[test]
 fn refuses_an_input_at_the_limit(rt: HostRuntime) {
-    limited(&rt, 0, End::Long, b"", [0, 0]);
-    limited(&rt, 2, End::Long, b"", [0, 0]);
-    limited(&rt, 3, End::Told, b"620445648566982762\n", [1, 1]);
+    let wanted: [(u64, (End, &[u8], [u64; 2])); 3] = [
+        (0, (End::Long, b"", [0, 0])),
+        (2, (End::Long, b"", [0, 0])),
+        (3, (End::Told, b"620445648566982762\n", [1, 1])),
+    ];
+    for (turn, (limit, wanted)) in wanted.iter().enumerate() {
+        let mut reader = Script::new(b"ab", 1, None);
+        let mut paper = plain();
+        let outcome = run_limited("fnv1a64", *limit, &mut reader, &mut paper);
+        ended(&rt, turn, outcome, &paper, *wanted);
+        let fair = reader.reads <= *limit && !reader.asked_for_nothing;
+        same(&rt, turn, &[u64::from(fair)], &[1]);
+    }
 }
+
+/// Of `abc`: the most bytes of a read, how many come before the fault, and its kind.
+const FAULTS: [(usize, u64, ErrorKind); 5] = [
+    (2, 0, ErrorKind::BrokenPipe),
+    (2, 1, ErrorKind::BrokenPipe),
+    (2, 2, ErrorKind::BrokenPipe),
+    (2, 3, ErrorKind::BrokenPipe),
+    (1, 2, ErrorKind::Interrupted),
+];
 
 #[test]
 fn writes_nothing_where_a_read_fails(rt: HostRuntime) {
-    for k in 0..4u64 {
-        let mut reader = Script::new(b"abc", 2, Some(k as usize));
+    for (turn, (most, bytes, kind)) in FAULTS.iter().enumerate() {
+        let mut reader = Script::new(b"abc", *most, Some(*bytes as usize));
+        reader.kind = *kind;
         let mut paper = plain();
         let outcome = run("fnv1a64", &mut reader, &mut paper);
-        let end = End::Read(k, ErrorKind::BrokenPipe);
-        ended(&rt, outcome, end, &paper, b"", [0, 0]);
+        let end = End::Read(*bytes, *kind);
+        ended(&rt, turn, outcome, &paper, (end, b"", [0, 0]));
     }
-}
-
-#[test]
-fn an_interruption_is_a_fault(rt: HostRuntime) {
-    let mut reader = Script::new(b"abc", 1, Some(2));
-    reader.kind = ErrorKind::Interrupted;
-    let mut paper = plain();
-    let outcome = run("fnv1a64", &mut reader, &mut paper);
-    let end = End::Read(2, ErrorKind::Interrupted);
-    ended(&rt, outcome, end, &paper, b"", [0, 0]);
-}
-
-/// Asks a hasher between two limits, and goes on.
-fn goes_on(
-    rt: &impl Abort,
-    h: &mut FNV1aHasher64,
-    r: &mut Script,
-    limit: u64,
-    taken: (u64, bool),
-    hash: u64,
-) {
-    match hash_reader::<FNV1aHasher64, Script, 4>(h, r, limit) {
-        Ok(it) => assert_eq!(rt; (it.bytes, it.ended), taken),
-        Err(fault) => assert!(rt; false, "{fault}"),
-    }
-    assert_eq!(rt; h.finish(), hash);
-}
-
-#[test]
-fn finish_between_two_limits(rt: HostRuntime) {
-    let mut hasher = FNV1aHasher64::default();
-    let mut reader = Script::new(b"abcdefg", 3, None);
-    goes_on(
-        &rt,
-        &mut hasher,
-        &mut reader,
-        2,
-        (2, false),
-        620445648566982762,
-    );
-    goes_on(
-        &rt,
-        &mut hasher,
-        &mut reader,
-        2,
-        (2, false),
-        18165163011005162717,
-    );
-    goes_on(
-        &rt,
-        &mut hasher,
-        &mut reader,
-        4,
-        (3, true),
-        4642726675185563447,
-    );
-    goes_on(
-        &rt,
-        &mut hasher,
-        &mut reader,
-        4,
-        (0, true),
-        4642726675185563447,
-    );
 }
 
 /// Runs over `a` onto this paper.
-fn writes(rt: &impl Abort, mut paper: Paper, end: End, line: &[u8], calls: [u64; 2]) {
-    let mut reader: &[u8] = b"a";
-    let outcome = run("fnv1a64", &mut reader, &mut paper);
-    ended(rt, outcome, end, &paper, line, calls);
+fn writes(
+    rt: &impl Abort,
+    turn: usize,
+    name: &str,
+    mut paper: Paper,
+    wanted: (End, &[u8], [u64; 2]),
+) {
+    let outcome = run(name, &mut Script::new(b"a", 1, None), &mut paper);
+    ended(rt, turn, outcome, &paper, wanted);
 }
 
 /// The line of the hash of `a`.
@@ -415,46 +367,89 @@ const LINE: &[u8] = b"12638187200555641996\n";
 #[test]
 fn stops_at_the_first_failed_write(rt: HostRuntime) {
     let kind = ErrorKind::BrokenPipe;
-    for told in 0..21 {
+    for told in 0..21usize {
         let call = told as u64 + 1;
         let paper = Paper::new(1, Trouble::FailsAt(call), kind);
-        let end = End::Write(Some(kind));
-        writes(&rt, paper, end, &LINE[..told], [call, 0]);
+        let wanted = (End::Write(Some(kind)), &LINE[..told], [call, 0]);
+        writes(&rt, told, "fnv1a64", paper, wanted);
     }
-    let paper = Paper::new(1, Trouble::FailsAt(22), kind);
-    writes(&rt, paper, End::Told, LINE, [21, 1]);
 }
+
+const INTERRUPTED: End = End::Write(Some(ErrorKind::Interrupted));
+
+const BROKEN: End = End::Write(Some(ErrorKind::BrokenPipe));
+
+/// A name, how many bytes are written at once, how and with what writing fails, and what comes of it over `a`.
+const WRITES: [(&str, usize, Trouble, ErrorKind, (End, &[u8], [u64; 2])); 7] = [
+    (
+        "fnv1a64",
+        32,
+        Trouble::FailsAt(1),
+        ErrorKind::Interrupted,
+        (INTERRUPTED, b"", [1, 0]),
+    ),
+    (
+        "fnv1a64",
+        32,
+        Trouble::TakesNothing,
+        ErrorKind::Interrupted,
+        (End::Write(None), b"", [1, 0]),
+    ),
+    (
+        "fnv1a64",
+        32,
+        Trouble::FlushFails,
+        ErrorKind::Interrupted,
+        (INTERRUPTED, LINE, [1, 1]),
+    ),
+    (
+        "fnv1a64",
+        1,
+        Trouble::FailsAt(8),
+        ErrorKind::Interrupted,
+        (INTERRUPTED, b"1263818", [8, 0]),
+    ),
+    (
+        "fnv1a64",
+        1,
+        Trouble::FlushFails,
+        ErrorKind::Interrupted,
+        (INTERRUPTED, LINE, [21, 1]),
+    ),
+    (
+        "fnv1a64",
+        1,
+        Trouble::FailsAt(22),
+        ErrorKind::BrokenPipe,
+        (End::Told, LINE, [21, 1]),
+    ),
+    (
+        "djb2",
+        32,
+        Trouble::FailsAt(1),
+        ErrorKind::BrokenPipe,
+        (BROKEN, b"", [1, 0]),
+    ),
+];
 
 #[test]
 fn tells_what_a_writer_answered(rt: HostRuntime) {
-    let kind = ErrorKind::Interrupted;
-    let failed = End::Write(Some(kind));
-    let fails = Paper::new(32, Trouble::FailsAt(1), kind);
-    writes(&rt, fails, failed, b"", [1, 0]);
-    let takes_nothing = Paper::new(32, Trouble::TakesNothing, kind);
-    writes(&rt, takes_nothing, End::Write(None), b"", [1, 0]);
-    let flush_fails = Paper::new(32, Trouble::FlushFails, kind);
-    writes(&rt, flush_fails, failed, LINE, [1, 1]);
-    let late = Paper::new(1, Trouble::FailsAt(8), kind);
-    writes(&rt, late, failed, &LINE[..7], [8, 0]);
-    let flush_fails_late = Paper::new(1, Trouble::FlushFails, kind);
-    writes(&rt, flush_fails_late, failed, LINE, [21, 1]);
-}
-
-#[test]
-fn fails_at_once_by_another_name(rt: HostRuntime) {
-    let mut reader: &[u8] = b"a";
-    let mut paper = Paper::new(32, Trouble::FailsAt(1), ErrorKind::BrokenPipe);
-    let outcome = run("djb2", &mut reader, &mut paper);
-    let end = End::Write(Some(ErrorKind::BrokenPipe));
-    ended(&rt, outcome, end, &paper, b"", [1, 0]);
+    for (turn, (name, most, trouble, kind, wanted)) in WRITES.iter().enumerate() {
+        let paper = Paper::new(*most, *trouble, *kind);
+        writes(&rt, turn, name, paper, *wanted);
+    }
 }
 
 /// The line on standard error and the status.
-fn ends(rt: &impl Abort, outcome: Outcome, line: &str, status: u8) {
-    assert_eq!(rt; outcome_line(&outcome), line);
-    assert_eq!(rt; outcome_status(&outcome), status);
-}
+const ENDS: [(&str, u8); 7] = [
+    ("", 0),
+    ("usage: hashof NAME\n", 2),
+    ("hashof: out of memory\n", 1),
+    ("hashof: unknown name\n", 2),
+    ("hashof: read fault\n", 1),
+    ("hashof: input too long\n", 1),
+    ("hashof: write fault\n", 1),
+];
 
 #[test]
 fn ends_by_the_table(rt: HostRuntime) {
@@ -462,31 +457,23 @@ fn ends_by_the_table(rt: HostRuntime) {
         bytes: 3,
         error: io::Error::from(ErrorKind::BrokenPipe),
     };
-    ends(&rt, Outcome::Done, "", 0);
-    ends(&rt, Outcome::Usage, "usage: hashof NAME\n", 2);
-    ends(&rt, Outcome::NoMemory, "hashof: out of memory\n", 1);
-    ends(
-        &rt,
+    let outcomes = [
+        Outcome::Done,
+        Outcome::Usage,
+        Outcome::NoMemory,
         Outcome::Failed(RunFault::UnknownName),
-        "hashof: unknown name\n",
-        2,
-    );
-    ends(
-        &rt,
         Outcome::Failed(RunFault::ReadFault(fault)),
-        "hashof: read fault\n",
-        1,
-    );
-    ends(
-        &rt,
         Outcome::Failed(RunFault::TooLong),
-        "hashof: input too long\n",
-        1,
-    );
-    ends(
-        &rt,
         Outcome::Failed(RunFault::WriteFault(None)),
-        "hashof: write fault\n",
-        1,
-    );
+    ];
+    for (turn, (line, status)) in ENDS.iter().enumerate() {
+        let outcome = &outcomes[turn];
+        same_text(&rt, turn, outcome_line(outcome).as_bytes(), line.as_bytes());
+        same(
+            &rt,
+            turn,
+            &[u64::from(outcome_status(outcome))],
+            &[u64::from(*status)],
+        );
+    }
 }

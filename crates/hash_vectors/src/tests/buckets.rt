@@ -1,6 +1,6 @@
 //! The table's calls one after another, and where memory is refused.
-use crate::tests::tables::{insert, key, new_table};
-use crate::tests::{all_hold, same, same_replies};
+use crate::tests::tables::{Asked, ask, held, insert, new_table};
+use crate::tests::{all_hold, same, same_replies, same_reply_at};
 use hash_buckets::{Buckets, Command, NoRoom, NoTable, obey_all};
 use hashers::fnv::FNV1aHasher64;
 use hashers::laws::Piecewise;
@@ -12,26 +12,21 @@ use std::process::Abort;
 fn one_bucket_of_four(rt: HostRuntime) {
     let alloc = rt.alloc();
     let mut table = new_table::<NullHasher, 4>(&rt, alloc);
-    let replies = [
-        insert(&rt, &mut table, key(&rt, alloc, b"a"), 1),
-        insert(&rt, &mut table, key(&rt, alloc, b"b"), 7),
-        insert(&rt, &mut table, key(&rt, alloc, b"a"), 2),
-        table.get(b"b"),
+    let inserted: [(&[u8], Asked, Option<u64>); 4] = [
+        (b"a", Asked::Insert(1), None),
+        (b"b", Asked::Insert(7), None),
+        (b"a", Asked::Insert(2), Some(1)),
+        (b"b", Asked::Get, Some(7)),
     ];
+    ask(&rt, alloc, &mut table, &inserted);
     let lengths = [table.bucket(0).len() as u64, table.bucket(3).len() as u64];
-    let removed = [table.remove(b"a"), table.remove(b"a")];
-    same_replies(&rt, &replies, &[None, None, Some(1), Some(7)]);
     same(&rt, &lengths, &[2, 0]);
-    same_replies(&rt, &removed, &[Some(2), None]);
+    let removed: [(&[u8], Asked, Option<u64>); 2] = [
+        (b"a", Asked::Remove, Some(2)),
+        (b"a", Asked::Remove, None),
+    ];
+    ask(&rt, alloc, &mut table, &removed);
     all_hold(&rt, &[table.len() == 1]);
-}
-
-/// What is asked of a key.
-#[derive(Clone, Copy)]
-enum Asked {
-    Insert(u64),
-    Get,
-    Remove,
 }
 
 const SCRIPT: [(&[u8], Asked); 7] = [
@@ -59,7 +54,7 @@ fn script(alloc: Global) -> Result<Vec<Command>, AllocError> {
 }
 
 /// What the three keys have.
-fn held<H: Piecewise, const N: usize>(table: &Buckets<H, N>) -> [Option<u64>; 3] {
+fn of_three<H: Piecewise, const N: usize>(table: &Buckets<H, N>) -> [Option<u64>; 3] {
     [table.get(b"a"), table.get(b"b"), table.get(b"c")]
 }
 
@@ -72,7 +67,7 @@ fn commands_in_order(rt: HostRuntime) {
     let replies = obey_all(alloc, &mut table, commands).expect(&rt, "memory for the table");
     let wanted = [None, None, Some(1), Some(3), Some(3), None, None];
     same_replies(&rt, replies.as_slice(), &wanted);
-    same_replies(&rt, &held(&table), &[None, Some(2), Some(4)]);
+    same_replies(&rt, &of_three(&table), &[None, Some(2), Some(4)]);
 }
 
 /// The same. Where memory is refused the table is as before the first command, or as before one that brings a new key.
@@ -85,14 +80,14 @@ fn refused_in_commands(rt: HostRuntime) {
     };
     let Ok(commands) = script(alloc) else { return };
     match obey_all(alloc, &mut table, commands) {
-        Ok(_) => same_replies(&rt, &held(&table), &[None, Some(2), Some(4)]),
+        Ok(_) => same_replies(&rt, &of_three(&table), &[None, Some(2), Some(4)]),
         Err(AllocError) => {
             let before = [
                 [None, None, None],
                 [Some(1), None, None],
                 [None, Some(2), None],
             ];
-            all_hold(&rt, &[before.contains(&held(&table))]);
+            all_hold(&rt, &[before.contains(&of_three(&table))]);
         }
     }
 }
@@ -105,9 +100,10 @@ fn has<H: Piecewise, const N: usize>(
     table: &Buckets<H, N>,
     values: &[Option<u64>; 8],
 ) {
-    let count = values.iter().filter(|value| value.is_some()).count();
-    all_hold(rt, &[table.len() == count as u128]);
-    same_replies(rt, &NAMES.map(|name| table.get(name)), values);
+    all_hold(rt, &[table.len() == held(values)]);
+    for (turn, name) in NAMES.iter().enumerate() {
+        same_reply_at(rt, turn, table.get(name), values[turn]);
+    }
 }
 
 /// Forty commands on eight keys. Where memory is refused, key and value come back and the table is as before, and then the

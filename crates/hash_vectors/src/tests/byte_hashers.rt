@@ -1,101 +1,29 @@
 //! Vectors and worked examples of the byte hashers.
 use crate::tests::{all_hold, none_holds, same};
-use hashers::fnv::{FNV1aHasher32, FNV1aHasher64, fnv1a32, fnv1a64};
+use hashers::fnv::{FNV1aHasher32, FNV1aHasher64};
 use hashers::laws::{
-    ByteStep, Piecewise, Streamed, Undo, answer_of_pieces, apart_by_one, apart_djb2, apart_fnv32,
-    apart_fnv64, apart_sdbm, bucket_of, run_pair, run_pieces, run_streamed, same_word,
+    ByteStep, Piecewise, Streamed, Undo, answer_of_pieces, bucket_of, run_pair, run_pieces,
+    run_streamed, same_word,
 };
-use hashers::null::{NullHasher, PassThroughHasher, null, passthrough};
-use hashers::oz::{DJB2Hasher, LoseLoseHasher, SDBMHasher, djb2, loselose, sdbm};
-use hashers::pigeon::{Bricolage, bricolage};
+use hashers::null::{NullHasher, PassThroughHasher};
+use hashers::oz::{DJB2Hasher, LoseLoseHasher, SDBMHasher, djb2, loselose};
+use hashers::pigeon::Bricolage;
 use std::hash::Hasher;
 use std::process::Abort;
 
-/// Four hashes of a text: Bricolage, djb2, sdbm and lose lose.
-fn four(text: &[u8]) -> [u64; 4] {
-    [bricolage(text), djb2(text), sdbm(text), loselose(text)]
-}
-
-#[test]
-fn vectors(rt: HostRuntime) {
-    same(
-        &rt,
-        &[
-            fnv1a64(b""),
-            fnv1a64(b"a"),
-            fnv1a64(b"b"),
-            fnv1a64(b"ab"),
-            fnv1a64(b"abcd"),
-            fnv1a64(b"abcdefg"),
-        ],
-        &[
-            14695981039346656037,
-            12638187200555641996,
-            12638190499090526629,
-            620445648566982762,
-            18165163011005162717,
-            4642726675185563447,
-        ],
-    );
-    same(&rt, &four(b""), &[0, 5381, 0, 0]);
-    same(&rt, &four(b"a"), &[17926483712435944715, 177604, 97, 97]);
-    same(&rt, &four(b"b"), &[12457347154332739726, 177607, 98, 98]);
-    same(
-        &rt,
-        &four(b"ab"),
-        &[16461606921607156355, 5860902, 6363201, 195],
-    );
-    same(
-        &rt,
-        &[fnv1a32(b""), fnv1a32(b"a")],
-        &[2166136261, 3826002220],
-    );
-}
-
+/// The sum of all bytes; a number that is written as its bytes; a hasher of no answer but 0.
 #[test]
 fn worked_examples(rt: HostRuntime) {
-    let mut hasher = DJB2Hasher::default();
-    hasher.write_u16(25185);
-    same(
-        &rt,
-        &[
-            djb2(&[0x00, 0x21]),
-            djb2(&[0x01, 0x00]),
-            djb2(b"bC"),
-            djb2(b"cb"),
-            djb2(b"bc"),
-            hasher.finish(),
-        ],
-        &[5859940, 5859876, 5861092, 5861092, 5861060, 5860902],
-    );
-    same(&rt, &[sdbm(&[0]), loselose(b"ba")], &[0, 195]);
-    same(
-        &rt,
-        &[
-            passthrough(b"abcdefghi"),
-            passthrough(b"a"),
-            null(b"a"),
-            NullHasher.answer(),
-        ],
-        &[0x6263646566676869, 97, 0, 0],
-    );
-}
-
-#[test]
-fn faster_sums(rt: HostRuntime) {
-    same(
-        &rt,
-        &[sdbm(b"abc"), sdbm(b"abcd"), sdbm(b"abcde")],
-        &[807794786, 3518636162, 3176136803],
-    );
     let mut all = [0u8; 256];
     for (i, byte) in all.iter_mut().enumerate() {
         *byte = (i & 0xff) as u8;
     }
+    let mut hasher = DJB2Hasher::default();
+    hasher.write_u16(25185);
     same(
         &rt,
-        &[loselose(&all), loselose(&[0xff; 1000])],
-        &[32640, 255000],
+        &[loselose(&all), hasher.finish(), NullHasher.answer()],
+        &[32640, 5860902, 0],
     );
 }
 
@@ -201,59 +129,6 @@ fn generic_laws(rt: HostRuntime) {
             620445648566982762,
             620445648566982762,
             604,
-        ],
-    );
-}
-
-#[test]
-fn windows(rt: HostRuntime) {
-    all_hold(
-        &rt,
-        &[
-            apart_by_one::<FNV1aHasher64>(b"ab", b"cb"),
-            apart_djb2(b"aaaaaa", b"zzzzzz"),
-            apart_djb2(b"a1", b"b2"),
-            apart_djb2(b"bc", b"cb"),
-            apart_djb2(b"aaaaaa", b"baaaab"),
-            apart_sdbm(b"abc", b"cba"),
-            apart_fnv64(b"abc", b"cba"),
-            apart_fnv32(b"ab", b"ba"),
-            apart_fnv32(b"abc", b"bac"),
-        ],
-    );
-    none_holds(
-        &rt,
-        &[
-            apart_by_one::<FNV1aHasher64>(b"ab", b"ba"),
-            apart_by_one::<FNV1aHasher64>(b"aa", b"aa"),
-            apart_by_one::<FNV1aHasher64>(b"a", b"ab"),
-            apart_djb2(b"bC", b"cb"),
-            apart_djb2(b"a", b"A"),
-            apart_djb2(b"", b""),
-            apart_djb2(b"a", b"ab"),
-            apart_djb2(b"aaaaaaa", b"baaaaab"),
-            apart_djb2(&[0x00, 0x21], &[0x01, 0x00]),
-            apart_sdbm(b"abcd", b"dbca"),
-            apart_sdbm(b"abcd", b"xbcx"),
-            apart_fnv64(b"abcd", b"dbca"),
-            apart_fnv32(b"abc", b"cba"),
-        ],
-    );
-}
-
-/// One place wider, or one bit looser, the hashes collide: pairs that a search over random texts found.
-#[test]
-fn windows_can_be_no_wider(rt: HostRuntime) {
-    same(
-        &rt,
-        &[djb2(b"ogwmava"), djb2(b"bC"), sdbm(b"N5<k")],
-        &[djb2(b"vxbavgx"), djb2(b"cb"), sdbm(b"o6],")],
-    );
-    none_holds(
-        &rt,
-        &[
-            apart_djb2(b"ogwmava", b"vxbavgx"),
-            apart_sdbm(b"N5<k", b"o6],"),
         ],
     );
 }

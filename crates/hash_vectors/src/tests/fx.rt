@@ -129,15 +129,6 @@ fn by_width(text: &[u8]) -> [u64; 3] {
 // Those of the word 97.
 const OF_97: [u64; 3] = [16160435425421689461, 16160435425421689461, 3555066485];
 
-#[test]
-fn vectors(rt: HostRuntime) {
-    same(&rt, &by_width(b""), &[0; 3]);
-    same(&rt, &by_width(b"a"), &OF_97);
-    same(&rt, &by_width(b"a\0\0\0"), &OF_97);
-    same(&rt, &by_width(b"\0\0\0\0a"), &OF_97);
-    same(&rt, &by_width(&[0; 8]), &[0; 3]);
-}
-
 // Each length from 0 to 40, by the places of its words, and in two pieces at every cut between words.
 #[test]
 fn words_by_place(rt: HostRuntime) {

@@ -6,14 +6,11 @@ ghost use Rattle.hashers.specs.Lookup3.{lookup3};
 ghost use Rattle.hashers.specs.Oaat.{oaat};
 
 use crate::tests::plain::plain_lookup3;
-use crate::tests::{all_hold, none_holds, same, same_at, same32};
-use hash_rounds::{lookup3_final, lookup3_mix};
+use crate::tests::{all_hold, same, same_at};
 use hashers::jenkins::laws::same_answers_later;
 use hashers::jenkins::spooky_hash::SpookyHasher;
 use hashers::jenkins::{Lookup3Hasher, OAATHasher, lookup3, oaat};
-use hashers::laws::{
-    ByteStep, Piecewise, Undo, answer_of_pieces, apart_by_one, run_pair, run_pieces,
-};
+use hashers::laws::{ByteStep, Piecewise, Undo, answer_of_pieces, run_pair, run_pieces};
 use std::hash::Hasher;
 
 // A number is written as its little-endian bytes, one write on each type.
@@ -33,38 +30,6 @@ pub(super) fn write_to_spooky(hasher: &mut SpookyHasher, number: usize)
     ensures { hasher.new ≡ fold after_write hasher.old (fed.usize number) }
 {
     hasher.write_usize(number);
-}
-
-/// Both hashes of a text: one-at-a-time and lookup3.
-fn both(text: &[u8]) -> [u64; 2] {
-    [oaat(text), lookup3(text)]
-}
-
-#[test]
-fn vectors(rt: HostRuntime) {
-    same(&rt, &both(b""), &[0, 0]);
-    same(&rt, &both(b"a"), &[29161854018, 6351843130003064584]);
-    same(&rt, &both(b"b"), &[30079156635, 5351957087540069269]);
-    same(&rt, &both(b"ab"), &[30087418617432, 7744397999705663711]);
-    same(
-        &rt,
-        &both(b"abcdefg"),
-        &[3103867595652801641, 6461572128488215717],
-    );
-    same(
-        &rt,
-        &[oaat(b"\0"), lookup3(b"abcd"), lookup3(&[0; 12])],
-        &[0, 16288908501016938652, 0x14c3a0e3fb293fc1],
-    );
-}
-
-#[test]
-fn rounds_of_twelve_zeros(rt: HostRuntime) {
-    let mut words = [0xdeadbefb; 3];
-    lookup3_mix(&mut words);
-    same32(&rt, &words, &[0x8f43a99b, 0x203e9c5d, 0xa1d89905]);
-    lookup3_final(&mut words);
-    same32(&rt, &words, &[0x65852e52, 0x14c3a0e3, 0xfb293fc1]);
 }
 
 #[test]
@@ -155,6 +120,5 @@ fn oaat_undone(rt: HostRuntime) {
         ],
         &[0, oaat(b"abcab"), 3103867595652801641],
     );
-    all_hold(&rt, &[apart, apart_by_one::<OAATHasher>(b"ab", b"cb")]);
-    none_holds(&rt, &[apart_by_one::<OAATHasher>(b"ab", b"ba")]);
+    all_hold(&rt, &[apart]);
 }

@@ -1,10 +1,7 @@
 //! What generic code gives at a type that it has never seen.
-use crate::tests::{all_hold, none_holds, same};
+use crate::tests::{all_hold, same};
 use crate::times31::Times31;
-use hashers::fnv::FNV1aHasher64;
-use hashers::laws::{
-    Piecewise, Streamed, Undo, answer_of_pieces, apart_by_one, run_pair, run_streamed,
-};
+use hashers::laws::{Piecewise, Streamed, Undo, answer_of_pieces, run_pair, run_streamed};
 
 #[test]
 fn a_third_partys_hasher(rt: HostRuntime) {
@@ -24,26 +21,5 @@ fn a_third_partys_hasher(rt: HostRuntime) {
         ],
         &[3105, 2112, 2112, 1],
     );
-    all_hold(
-        &rt,
-        &[
-            apart_by_one::<Times31>(b"Aa", b"Ba"),
-            Times31::unfinish(4294967296).is_none(),
-            apart,
-        ],
-    );
-    none_holds(&rt, &[apart_by_one::<Times31>(b"Aa", b"BB")]);
-}
-
-#[test]
-fn one_changed_byte(rt: HostRuntime) {
-    all_hold(&rt, &[apart_by_one::<FNV1aHasher64>(b"ab", b"cb")]);
-    none_holds(
-        &rt,
-        &[
-            apart_by_one::<FNV1aHasher64>(b"ab", b"ba"),
-            apart_by_one::<FNV1aHasher64>(b"a", b"ab"),
-            apart_by_one::<FNV1aHasher64>(b"a", b"a"),
-        ],
-    );
+    all_hold(&rt, &[Times31::unfinish(4294967296).is_none(), apart]);
 }

@@ -1,13 +1,12 @@
 //! std's maps and sets over the hashers, and the numbers that keys have there.
 use crate::maps::{count_words, map_by_its_builder, map_by_its_type, see};
-use crate::tests::{all_hold, same};
+use crate::tests::{all_hold, all_hold_at, same, same_at};
 use hashers::build::{BuildFresh, hash_one_number, hash_one_pair, hash_one_slice};
 use hashers::fnv::{FNV1aHasher64, FnvBuildHasher, FnvHashSet, fnv1a64};
 use hashers::laws::Piecewise;
 use hashers::null::NullHasher;
 use std::alloc::Global;
 use std::hash::BuildHasher;
-use std::process::Abort;
 
 #[test]
 fn maps_find_what_was_inserted(rt: HostRuntime) {
@@ -16,26 +15,39 @@ fn maps_find_what_was_inserted(rt: HostRuntime) {
     all_hold(&rt, &[by_builder, by_type]);
 }
 
-/// How often three words are counted in a list, or nothing where memory is short.
-fn counted<H: Piecewise>(alloc: Global) -> [u64; 3] {
+/// How often a word is counted in a list, or nothing where memory is short.
+fn counted<H: Piecewise>(alloc: Global, word: &str) -> u64 {
     match count_words::<H>(alloc, &["so", "no", "so"]) {
-        Ok(counts) => { ["so", "no", "go"].map(|word| counts.get(word).copied().unwrap_or(0)) }
-        Err(_) => [0; 3],
+        Ok(counts) => counts.get(word).copied().unwrap_or(0),
+        Err(_) => 0,
     }
 }
 
 #[test]
 fn words_are_counted(rt: HostRuntime) {
-    same(&rt, &counted::<FNV1aHasher64>(rt.alloc()), &[2, 1, 0]);
-    same(&rt, &counted::<NullHasher>(rt.alloc()), &[2, 1, 0]);
+    for (turn, (word, count)) in [("so", 2), ("no", 1), ("go", 0)].iter().enumerate() {
+        let by_fnv = counted::<FNV1aHasher64>(rt.alloc(), word);
+        let by_null = counted::<NullHasher>(rt.alloc(), word);
+        same_at(&rt, turn, &[by_fnv, by_null], &[*count, *count]);
+    }
+}
+
+fn fresh_set(alloc: Global) -> FnvHashSet<u64> {
+    FnvHashSet::with_hasher(alloc, FnvBuildHasher::new())
+}
+
+/// Whether 7 is new to the set, or nothing where memory is short.
+fn is_new(seen: &mut FnvHashSet<u64>) -> Option<bool> {
+    see(seen, 7).ok()
 }
 
 #[test]
 fn keys_are_seen_once(rt: HostRuntime) {
-    let mut seen = FnvHashSet::with_hasher(rt.alloc(), FnvBuildHasher::new());
-    let first = matches!(see(&mut seen, 7), Ok(true));
-    let again = matches!(see(&mut seen, 7), Ok(false));
-    all_hold(&rt, &[first, again, seen.len() == 1]);
+    let mut seen = fresh_set(rt.alloc());
+    for (turn, new) in [true, false].iter().enumerate() {
+        let answer = is_new(&mut seen);
+        all_hold_at(&rt, turn, &[answer == Some(*new), seen.len() == 1]);
+    }
 }
 
 #[test]

@@ -20,8 +20,7 @@ fn byte(filling: u8, i: usize) -> u8 {
 }
 
 /// Feeds a text in pieces of one length, or in one piece.
-fn fed<H: Piecewise>(text: &[u8], piece: usize) -> H {
-    let mut hasher = H::fresh();
+fn feed<H: Piecewise>(hasher: &mut H, text: &[u8], piece: usize) {
     if piece == 0 {
         hasher.feed(text);
     } else {
@@ -29,26 +28,38 @@ fn fed<H: Piecewise>(text: &[u8], piece: usize) -> H {
             hasher.feed(part);
         }
     }
-    hasher
 }
 
-/// What fourteen hashers answer to a text in pieces of one length, in the order of the sample.
+/// What a hasher answers to a text in pieces of one length.
+fn answer<H: Piecewise>(text: &[u8], piece: usize) -> u64 {
+    let mut hasher = H::fresh();
+    feed(&mut hasher, text, piece);
+    hasher.answer()
+}
+
+fn answer_of_version_1(text: &[u8], piece: usize) -> u64 {
+    let mut hasher = SpookyHasher::fresh();
+    feed(&mut hasher, text, piece);
+    hasher.finish128_v1().0
+}
+
+/// What fourteen hashers answer, in the order of the sample.
 fn answers(text: &[u8], piece: usize) -> [u64; 14] {
     [
-        fed::<FNV1aHasher32>(text, piece).answer(),
-        fed::<FNV1aHasher64>(text, piece).answer(),
-        fed::<DJB2Hasher>(text, piece).answer(),
-        fed::<SDBMHasher>(text, piece).answer(),
-        fed::<LoseLoseHasher>(text, piece).answer(),
-        fed::<Bricolage>(text, piece).answer(),
-        fed::<OAATHasher>(text, piece).answer(),
-        fed::<Lookup3Hasher>(text, piece).answer(),
-        fed::<SpookyHasher>(text, piece).finish128_v1().0,
-        fed::<NullHasher>(text, piece).answer(),
-        fed::<PassThroughHasher>(text, piece).answer(),
-        fed::<FxHasher>(text, piece).answer(),
-        fed::<FxHasher32>(text, piece).answer(),
-        fed::<FxHasher64>(text, piece).answer(),
+        answer::<FNV1aHasher32>(text, piece),
+        answer::<FNV1aHasher64>(text, piece),
+        answer::<DJB2Hasher>(text, piece),
+        answer::<SDBMHasher>(text, piece),
+        answer::<LoseLoseHasher>(text, piece),
+        answer::<Bricolage>(text, piece),
+        answer::<OAATHasher>(text, piece),
+        answer::<Lookup3Hasher>(text, piece),
+        answer_of_version_1(text, piece),
+        answer::<NullHasher>(text, piece),
+        answer::<PassThroughHasher>(text, piece),
+        answer::<FxHasher>(text, piece),
+        answer::<FxHasher32>(text, piece),
+        answer::<FxHasher64>(text, piece),
     ]
 }
 

@@ -1,7 +1,7 @@
 //! The reader engine over readers that misbehave.
 ghost use Rattle.std.specs.Prelude.{◌<◌, ◌≤◌};
 
-use crate::tests::{all_hold, none_holds, same};
+use crate::tests::{all_hold_at, none_holds, same_at};
 use hashers::engine::{Fault, Taken, hash_reader};
 use hashers::fnv::FNV1aHasher64;
 use hashers::jenkins::Lookup3Hasher;
@@ -82,35 +82,53 @@ fn end_of(outcome: Result<Taken, Fault>) -> End {
     }
 }
 
-/// That calls ended as wanted.
-fn same_ends(rt: &impl Abort, got: &[End], want: &[End]) {
-    assert_eq!(rt; got, want);
+/// That a call ended as wanted, in one turn of a loop.
+fn same_end(rt: &impl Abort, turn: usize, got: End, want: End) {
+    assert_eq!(rt; got, want, "at {turn}");
 }
+
+/// Reads on through an array of N, under one limit after another, and compares how each call ends and the hash so far.
+fn reads_on<const N: usize>(rt: &impl Abort, r: &mut Script, steps: &[(u64, End, u64)])
+    requires not_empty { 0 < N }
+    requires small { N ≤ 65536 }
+{
+    let mut h = FNV1aHasher64::fresh();
+    for (turn, (limit, end, hash)) in steps.iter().enumerate() {
+        let outcome = hash_reader::<FNV1aHasher64, Script, N>(&mut h, r, *limit);
+        same_end(rt, turn, end_of(outcome), *end);
+        same_at(rt, turn, &[h.answer()], &[*hash]);
+    }
+}
+
+/// The hashes of nothing, `a`, `ab`, `abc`, `abcd` and `abcdefg`.
+const OF_NOTHING: u64 = 14695981039346656037;
+
+const OF_A: u64 = 12638187200555641996;
+
+const OF_AB: u64 = 620445648566982762;
+
+const OF_ABC: u64 = 16654208175385433931;
+
+const OF_ABCD: u64 = 18165163011005162717;
+
+const OF_ABCDEFG: u64 = 4642726675185563447;
 
 /// `abcd` by one byte a read, through an array of N, failing once after k bytes and going on.
 fn reads_abcd<const N: usize>(rt: &impl Abort)
     requires not_empty { 0 < N }
     requires small { N ≤ 65536 }
 {
-    let mut h = FNV1aHasher64::fresh();
     let mut r = Script::new(b"abcd", 1, None);
-    let end = end_of(hash_reader::<FNV1aHasher64, Script, N>(&mut h, &mut r, 9));
-    same_ends(rt, &[end], &[End::Taken(4, true)]);
-    same(rt, &[h.answer()], &[18165163011005162717]);
+    reads_on::<N>(rt, &mut r, &[(9, End::Taken(4, true), OF_ABCD)]);
     none_holds(rt, &[r.asked_for_nothing]);
-    for k in 0..5u64 {
-        let mut h = FNV1aHasher64::fresh();
-        let mut r = Script::new(b"abcd", 1, Some(k as usize));
-        let ends = [
-            end_of(hash_reader::<FNV1aHasher64, Script, N>(&mut h, &mut r, 9)),
-            end_of(hash_reader::<FNV1aHasher64, Script, N>(&mut h, &mut r, 9)),
-        ];
-        let wanted = [
-            End::Fault(k, ErrorKind::BrokenPipe),
-            End::Taken(4 - k, true),
-        ];
-        same_ends(rt, &ends, &wanted);
-        same(rt, &[h.answer()], &[18165163011005162717]);
+    for (k, hash) in [OF_NOTHING, OF_A, OF_AB, OF_ABC, OF_ABCD]
+        .iter()
+        .enumerate()
+    {
+        let fault = End::Fault(k as u64, ErrorKind::BrokenPipe);
+        let end = End::Taken(4 - k as u64, true);
+        let mut r = Script::new(b"abcd", 1, Some(k));
+        reads_on::<N>(rt, &mut r, &[(9, fault, *hash), (9, end, OF_ABCD)]);
     }
 }
 
@@ -122,68 +140,116 @@ fn short_reads_and_faults(rt: HostRuntime) {
     reads_abcd::<4>(&rt);
 }
 
+const BROKEN: End = End::Fault(2, ErrorKind::BrokenPipe);
+
+const INTERRUPTED: End = End::Fault(0, ErrorKind::Interrupted);
+
+/// A text, after how many bytes a read fails and how, the steps, and how many reads are made.
+const STEPS: [(&[u8], Option<usize>, ErrorKind, &[(u64, End, u64)], u64); 8] = [
+    (
+        b"abcd",
+        Some(2),
+        ErrorKind::BrokenPipe,
+        &[(9, BROKEN, OF_AB), (9, End::Taken(2, true), OF_ABCD)],
+        4,
+    ),
+    (
+        b"ab",
+        Some(0),
+        ErrorKind::Interrupted,
+        &[(9, INTERRUPTED, OF_NOTHING)],
+        1,
+    ),
+    (
+        b"ab",
+        None,
+        ErrorKind::BrokenPipe,
+        &[(0, End::Taken(0, false), OF_NOTHING)],
+        0,
+    ),
+    (
+        b"ab",
+        None,
+        ErrorKind::BrokenPipe,
+        &[(1, End::Taken(1, false), OF_A)],
+        1,
+    ),
+    (
+        b"ab",
+        None,
+        ErrorKind::BrokenPipe,
+        &[(2, End::Taken(2, false), OF_AB)],
+        1,
+    ),
+    (
+        b"ab",
+        None,
+        ErrorKind::BrokenPipe,
+        &[(3, End::Taken(2, true), OF_AB)],
+        2,
+    ),
+    (
+        b"ab",
+        None,
+        ErrorKind::BrokenPipe,
+        &[
+            (1, End::Taken(1, false), OF_A),
+            (10, End::Taken(1, true), OF_AB),
+        ],
+        3,
+    ),
+    (
+        b"ab",
+        Some(0),
+        ErrorKind::BrokenPipe,
+        &[(0, End::Taken(0, false), OF_NOTHING)],
+        0,
+    ),
+];
+
 #[test]
-fn goes_on_after_a_fault(rt: HostRuntime) {
-    let mut h = FNV1aHasher64::fresh();
-    let mut r = Script::new(b"abcd", 2, Some(2));
-    let fault = end_of(hash_reader::<FNV1aHasher64, Script, 4>(&mut h, &mut r, 9));
-    let between = h.answer();
-    let end = end_of(hash_reader::<FNV1aHasher64, Script, 4>(&mut h, &mut r, 9));
-    same_ends(
-        &rt,
-        &[fault, end],
-        &[End::Fault(2, ErrorKind::BrokenPipe), End::Taken(2, true)],
-    );
-    same(
-        &rt,
-        &[between, h.answer()],
-        &[620445648566982762, 18165163011005162717],
-    );
+fn faults_and_limits(rt: HostRuntime) {
+    for (turn, (text, until_fault, kind, steps, reads)) in STEPS.iter().enumerate() {
+        let mut two = Script::new(text, 2, *until_fault);
+        two.kind = *kind;
+        reads_on::<2>(&rt, &mut two, steps);
+        let mut four = Script::new(text, 2, *until_fault);
+        four.kind = *kind;
+        reads_on::<4>(&rt, &mut four, steps);
+        same_at(&rt, turn, &[two.reads, four.reads], &[*reads, *reads]);
+    }
 }
 
-/// lookup3's answer to `ab` where the reader fails once after k bytes.
-fn lookup3_cut_at(rt: &impl Abort, k: u64) -> u64
-    requires { k ≤ 2 }
-{
-    let mut h = Lookup3Hasher::fresh();
-    let mut r = Script::new(b"ab", 2, Some(k as usize));
-    let ends = [
-        end_of(hash_reader::<Lookup3Hasher, Script, 4>(&mut h, &mut r, 9)),
-        end_of(hash_reader::<Lookup3Hasher, Script, 4>(&mut h, &mut r, 9)),
+#[test]
+fn finish_between_two_limits(rt: HostRuntime) {
+    let steps = [
+        (2, End::Taken(2, false), OF_AB),
+        (2, End::Taken(2, false), OF_ABCD),
+        (4, End::Taken(3, true), OF_ABCDEFG),
+        (4, End::Taken(0, true), OF_ABCDEFG),
     ];
-    let wanted = [
-        End::Fault(k, ErrorKind::BrokenPipe),
-        End::Taken(2 - k, true),
-    ];
-    same_ends(rt, &ends, &wanted);
-    h.answer()
+    reads_on::<4>(&rt, &mut Script::new(b"abcdefg", 3, None), &steps);
 }
+
+/// lookup3's answer to `ab` where the reader fails once after k bytes, for k from 0 to 2.
+const CUT_AT: [u64; 3] = [
+    7744397999705663711,
+    18104817335149544820,
+    7744397999705663711,
+];
 
 #[test]
 fn a_fault_is_a_cut_for_lookup3(rt: HostRuntime) {
-    same(
-        &rt,
-        &[
-            lookup3_cut_at(&rt, 0),
-            lookup3_cut_at(&rt, 1),
-            lookup3_cut_at(&rt, 2),
-        ],
-        &[
-            7744397999705663711,
-            18104817335149544820,
-            7744397999705663711,
-        ],
-    );
-}
-
-#[test]
-fn an_interruption_is_a_fault(rt: HostRuntime) {
-    let mut h = FNV1aHasher64::fresh();
-    let mut r = Script::new(b"ab", 4, Some(0));
-    r.kind = ErrorKind::Interrupted;
-    let end = end_of(hash_reader::<FNV1aHasher64, Script, 4>(&mut h, &mut r, 9));
-    same_ends(&rt, &[end], &[End::Fault(0, ErrorKind::Interrupted)]);
-    same(&rt, &[r.reads], &[1]);
+    for (k, answer) in CUT_AT.iter().enumerate() {
+        let mut h = Lookup3Hasher::fresh();
+        let mut r = Script::new(b"ab", 2, Some(k));
+        let fault = End::Fault(k as u64, ErrorKind::BrokenPipe);
+        for end in [fault, End::Taken(2 - k as u64, true)] {
+            let outcome = hash_reader::<Lookup3Hasher, Script, 4>(&mut h, &mut r, 9);
+            same_end(&rt, k, end_of(outcome), end);
+        }
+        same_at(&rt, k, &[h.answer()], &[*answer]);
+    }
 }
 
 #[test]
@@ -192,59 +258,9 @@ fn an_endless_reader(rt: HostRuntime) {
         let mut h = LoseLoseHasher::fresh();
         let mut r = Script::new(&[1; 50], most, None);
         r.endless = true;
-        let end = end_of(hash_reader::<LoseLoseHasher, Script, 4096>(&mut h, &mut r, 1000));
-        same_ends(&rt, &[end], &[End::Taken(1000, false)]);
-        same(&rt, &[h.answer()], &[1000]);
-        all_hold(&rt, &[r.reads <= 1000]);
-        none_holds(&rt, &[r.asked_for_nothing]);
+        let outcome = hash_reader::<LoseLoseHasher, Script, 4096>(&mut h, &mut r, 1000);
+        same_end(&rt, most, end_of(outcome), End::Taken(1000, false));
+        same_at(&rt, most, &[h.answer()], &[1000]);
+        all_hold_at(&rt, most, &[r.reads <= 1000, !r.asked_for_nothing]);
     }
-}
-
-/// What comes of `ab` under a limit, which is read at all unless that is 0.
-fn limited(rt: &impl Abort, limit: u64) -> (End, u64) {
-    let mut h = FNV1aHasher64::fresh();
-    let mut r = Script::new(b"ab", 2, None);
-    let end = end_of(hash_reader::<FNV1aHasher64, Script, 2>(&mut h, &mut r, limit));
-    all_hold(rt, &[(r.reads == 0) == (limit == 0)]);
-    (end, h.answer())
-}
-
-#[test]
-fn limits(rt: HostRuntime) {
-    let (at0, none) = limited(&rt, 0);
-    let (at1, one) = limited(&rt, 1);
-    let (at2, two) = limited(&rt, 2);
-    let (at3, all) = limited(&rt, 3);
-    let mut h = FNV1aHasher64::fresh();
-    let mut r = Script::new(b"ab", 2, None);
-    let first = end_of(hash_reader::<FNV1aHasher64, Script, 4>(&mut h, &mut r, 1));
-    let last = end_of(hash_reader::<FNV1aHasher64, Script, 4>(&mut h, &mut r, 10));
-    let whole = h.answer();
-    let mut failing = Script::new(b"ab", 2, Some(0));
-    let unread = end_of(hash_reader::<FNV1aHasher64, Script, 4>(&mut h, &mut failing, 0));
-    same_ends(
-        &rt,
-        &[at0, at1, at2, at3, first, last, unread],
-        &[
-            End::Taken(0, false),
-            End::Taken(1, false),
-            End::Taken(2, false),
-            End::Taken(2, true),
-            End::Taken(1, false),
-            End::Taken(1, true),
-            End::Taken(0, false),
-        ],
-    );
-    same(
-        &rt,
-        &[none, one, two, all, whole, failing.reads],
-        &[
-            14695981039346656037,
-            12638187200555641996,
-            620445648566982762,
-            620445648566982762,
-            620445648566982762,
-            0,
-        ],
-    );
 }

@@ -2,11 +2,9 @@
 use crate::tests::jenkins::write_to_spooky;
 use crate::tests::{all_hold, all_hold_at, none_holds, same};
 use hash_rounds::{short_end, un_short_end};
-use hashers::jenkins::laws::apart_by_zeros;
-use hashers::jenkins::spooky_hash::{SpookyHasher, spooky, spooky_v1};
+use hashers::jenkins::spooky_hash::{SpookyHasher, spooky};
 use hashers::laws::{Piecewise, answer_of_pieces, run_streamed};
 use std::hash::Hasher;
-use std::process::Abort;
 
 /// The bytes 0, 1, .., 255, 0, ..
 fn counting() -> [u8; 300] {
@@ -54,42 +52,6 @@ fn asked_between(text: &[u8]) -> ((u64, u64), (u64, u64)) {
         rest = back;
     }
     (hasher.finish128(), hasher.finish128_v1())
-}
-
-/// The answer under version 1, which is the other version's for no bytes alone.
-fn version_1(rt: &impl Abort, text: &[u8]) -> u64 {
-    let answer = spooky_v1(text);
-    all_hold(rt, &[(spooky(text) == answer) == text.is_empty()]);
-    answer
-}
-
-#[test]
-fn vectors_of_version_1(rt: HostRuntime) {
-    same(
-        &rt,
-        &[
-            version_1(&rt, b""),
-            version_1(&rt, b"a"),
-            version_1(&rt, b"b"),
-            version_1(&rt, b"ab"),
-            version_1(&rt, b"abcd"),
-            version_1(&rt, b"abcdefg"),
-            version_1(&rt, b"abcdefghijklmnopqrstuvwxyz"),
-            version_1(&rt, b"\0"),
-            version_1(&rt, &[0; 191]),
-        ],
-        &[
-            13905049616862401802,
-            16932945748884078726,
-            5781063613870495197,
-            13849109452443161137,
-            4142038200967391753,
-            2761526316938866980,
-            16192181224158463141,
-            13905049616862401802,
-            13905049616862401802,
-        ],
-    );
 }
 
 #[test]
@@ -180,23 +142,6 @@ fn length_in_the_fourth_word(rt: HostRuntime) {
         short_end(&mut words);
         all_hold_at(&rt, n, &[(words[0], words[1]) == hasher.finish128_v1()]);
     }
-}
-
-#[test]
-fn zeros_at_the_end(rt: HostRuntime) {
-    all_hold(
-        &rt,
-        &[apart_by_zeros(&[], &[0]), apart_by_zeros(b"a", b"a\0\0")],
-    );
-    none_holds(
-        &rt,
-        &[
-            apart_by_zeros(&[0], &[]),
-            apart_by_zeros(b"a", b"a"),
-            apart_by_zeros(&[0; 191], &[0; 192]),
-            apart_by_zeros(b"a", b"a\x01"),
-        ],
-    );
 }
 
 #[test]

@@ -1,7 +1,7 @@
 //! The table over many hashers, against other maps, and with many keys.
 ghost use Rattle.std.specs.Prelude.{◌≤◌};
 
-use crate::tests::{all_hold, same, same_replies};
+use crate::tests::{all_hold, all_hold_at, same, same_replies, same_reply_at};
 use crate::times31::Times31;
 use hash_buckets::{Buckets, Command, NoRoom, NoTable, obey, obey_all};
 use hashers::fnv::FNV1aHasher64;
@@ -12,7 +12,6 @@ use hashers::null::{NullHasher, PassThroughHasher};
 use hashers::oz::{DJB2Hasher, LoseLoseHasher};
 use std::alloc::Global;
 use std::collections::BTreeMap;
-use std::mem::replace;
 use std::process::Abort;
 use std::test::Fail;
 
@@ -45,25 +44,50 @@ pub(super) fn insert<H: Piecewise, const N: usize>(
     }
 }
 
+/// What is asked of a key.
+#[derive(Clone, Copy)]
+pub(super) enum Asked {
+    Insert(u64),
+    Get,
+    Remove,
+}
+
+/// Asks a table one thing after another, and compares the replies.
+pub(super) fn ask<H: Piecewise, const N: usize>(
+    rt: &impl Abort,
+    alloc: Global,
+    table: &mut Buckets<H, N>,
+    script: &[(&[u8], Asked, Option<u64>)],
+) {
+    for (turn, (name, asked, wanted)) in script.iter().enumerate() {
+        let reply = match asked {
+            Asked::Insert(value) => insert(rt, table, key(rt, alloc, name), *value),
+            Asked::Get => table.get(name),
+            Asked::Remove => table.remove(name),
+        };
+        same_reply_at(rt, turn, reply, *wanted);
+    }
+}
+
 #[test]
 fn keys_of_one_bucket(rt: HostRuntime) {
     let alloc = rt.alloc();
     let mut table = new_table::<Times31, 8>(&rt, alloc);
-    let replies = [
-        insert(&rt, &mut table, key(&rt, alloc, b"Aa"), 1),
-        insert(&rt, &mut table, key(&rt, alloc, b"BB"), 2),
+    let inserted: [(&[u8], Asked, Option<u64>); 2] = [
+        (b"Aa", Asked::Insert(1), None),
+        (b"BB", Asked::Insert(2), None),
     ];
-    same_replies(&rt, &replies, &[None, None]);
+    ask(&rt, alloc, &mut table, &inserted);
     same(
         &rt,
         &[table.bucket(0).len() as u64, table.bucket(1).len() as u64],
         &[2, 0],
     );
-    same_replies(
-        &rt,
-        &[table.remove(b"Aa"), table.get(b"BB")],
-        &[Some(1), Some(2)],
-    );
+    let after: [(&[u8], Asked, Option<u64>); 2] = [
+        (b"Aa", Asked::Remove, Some(1)),
+        (b"BB", Asked::Get, Some(2)),
+    ];
+    ask(&rt, alloc, &mut table, &after);
     all_hold(&rt, &[table.len() == 1]);
 }
 
@@ -71,13 +95,13 @@ fn keys_of_one_bucket(rt: HostRuntime) {
 fn one_bucket(rt: HostRuntime) {
     let alloc = rt.alloc();
     let mut table = new_table::<FNV1aHasher64, 1>(&rt, alloc);
-    let replies = [
-        insert(&rt, &mut table, Vec::new(alloc), 5),
-        table.get(b""),
-        table.get(b"a"),
-        insert(&rt, &mut table, Vec::new(alloc), 6),
+    let script: [(&[u8], Asked, Option<u64>); 4] = [
+        (b"", Asked::Insert(5), None),
+        (b"", Asked::Get, Some(5)),
+        (b"a", Asked::Get, None),
+        (b"", Asked::Insert(6), Some(5)),
     ];
-    same_replies(&rt, &replies, &[None, Some(5), None, Some(5)]);
+    ask(&rt, alloc, &mut table, &script);
     all_hold(&rt, &[table.len() == 1]);
 }
 
@@ -113,26 +137,6 @@ enum Deed {
     Get,
 }
 
-/// The reply of a plain list of pairs.
-fn plain_reply(
-    rt: &impl Abort,
-    pairs: &mut Vec<([u8; 2], u64)>,
-    deed: Deed,
-    name: [u8; 2],
-    value: u64,
-) -> Option<u64> {
-    match (deed, pairs.iter().position(|pair| pair.0 == name)) {
-        (Deed::Insert, None) => {
-            pairs.push((name, value)).expect(rt, "memory for a pair");
-            None
-        }
-        (Deed::Insert, Some(at)) => Some(replace(&mut pairs[at].1, value)),
-        (Deed::Remove, Some(at)) => Some(pairs.swap_remove(at).1),
-        (Deed::Get, Some(at)) => Some(pairs[at].1),
-        (Deed::Remove | Deed::Get, None) => None,
-    }
-}
-
 /// The table's reply.
 fn reply<H: Piecewise, const N: usize>(
     rt: &impl Abort,
@@ -152,33 +156,61 @@ fn reply<H: Piecewise, const N: usize>(
     }
 }
 
+/// How many values there are.
+pub(super) fn held(values: &[Option<u64>]) -> u128 {
+    let mut count = 0u128;
+    for value in values {
+        count = count.wrapping_add(u128::from(value.is_some()));
+    }
+    count
+}
+
+/// How many keys all buckets have.
+fn in_all_buckets<H: Piecewise>(table: &Buckets<H, 5>) -> u128 {
+    let mut count = 0u128;
+    for i in 0..5usize {
+        count = count.wrapping_add(table.bucket(i).len() as u128);
+    }
+    count
+}
+
 /// Letters of which two in a row often have one hash: `Aa` and `BB` in the recurrence by 31, `bC` and `cb` in djb2.
 const LETTERS: [u8; 6] = [b'A', b'B', b'C', b'a', b'b', b'c'];
 
-/// Ten thousand commands on 36 keys against a plain list of pairs.
+/// The key of this number.
+fn name_of(number: usize) -> [u8; 2] {
+    [LETTERS[number % 6], LETTERS[number / 6 % 6]]
+}
+
+/// Ten thousand commands on 36 keys against a plain list of their values.
 fn replies_as_a_list<H: Piecewise>(rt: &impl Abort, alloc: Global) {
     let mut table = new_table::<H, 5>(rt, alloc);
-    let mut pairs: Vec<([u8; 2], u64)> = Vec::new(alloc);
+    let mut values: [Option<u64>; 36] = [None; 36];
     let mut seed: u64 = 7;
-    for turn in 0..10_000u64 {
+    for turn in 0..10_000usize {
         seed = seed
             .wrapping_mul(6364136223846793005)
             .wrapping_add(1442695040888963407);
-        let letters = (seed >> 40) as usize;
-        let name = [LETTERS[letters % 6], LETTERS[letters / 6 % 6]];
+        let number = (seed >> 40) as usize % 36;
         let deed = match seed >> 60 {
             0..=5 => Deed::Insert,
             6..=10 => Deed::Remove,
             _ => Deed::Get,
         };
-        let ours = reply(rt, &mut table, deed, key(rt, alloc, &name), turn);
-        let wanted = plain_reply(rt, &mut pairs, deed, name, turn);
-        same_replies(rt, &[ours], &[wanted]);
-        all_hold(rt, &[table.len() == pairs.len() as u128]);
+        let name = key(rt, alloc, &name_of(number));
+        let ours = reply(rt, &mut table, deed, name, turn as u64);
+        same_reply_at(rt, turn, ours, values[number]);
+        values[number] = match deed {
+            Deed::Insert => Some(turn as u64),
+            Deed::Remove => None,
+            Deed::Get => values[number],
+        };
+        all_hold_at(rt, turn, &[table.len() == held(&values)]);
     }
-    let all = (0..5).fold(0usize, |all, i| all.wrapping_add(table.bucket(i).len()));
-    let held = pairs.iter().all(|pair| table.get(&pair.0) == Some(pair.1));
-    all_hold(rt, &[all == pairs.len(), held]);
+    all_hold(rt, &[in_all_buckets(&table) == held(&values)]);
+    for (number, value) in values.iter().enumerate() {
+        same_reply_at(rt, number, table.get(&name_of(number)), *value);
+    }
 }
 
 #[test]
@@ -193,45 +225,31 @@ fn replies_as_a_list_under_seven_hashers(rt: HostRuntime) {
     replies_as_a_list::<SpookyHasher>(&rt, alloc);
 }
 
-/// A table of `N` buckets over the last eight bytes, with the numbers below `count` as keys of two bytes.
-fn numbered<const N: usize>(
-    rt: &impl Abort,
-    alloc: Global,
-    count: u16,
-) -> Buckets<PassThroughHasher, N>
+/// Puts the numbers below `count` as keys of two bytes into a table of `N` buckets over the last eight bytes, so many
+/// into each bucket.
+fn numbered<const N: usize>(rt: &impl Abort, alloc: Global, count: u16, each: usize)
     requires { 1 ≤ N }
 {
     let mut table = new_table::<PassThroughHasher, N>(rt, alloc);
     for i in 0..count {
-        let old = insert(
-            rt,
-            &mut table,
-            key(rt, alloc, &i.to_be_bytes()),
-            u64::from(i),
-        );
-        all_hold(
-            rt,
-            &[
-                old.is_none(),
-                table.get(&i.to_be_bytes()) == Some(u64::from(i)),
-            ],
-        );
+        let name = i.to_be_bytes();
+        let old = insert(rt, &mut table, key(rt, alloc, &name), u64::from(i));
+        same_reply_at(rt, usize::from(i), old, None);
+        same_reply_at(rt, usize::from(i), table.get(&name), Some(u64::from(i)));
     }
     all_hold(rt, &[table.len() == u128::from(count)]);
-    table
+    for i in 0..N {
+        all_hold_at(rt, i, &[table.bucket(i).len() == each]);
+    }
 }
 
 /// A thousand keys in one bucket; one key in each of 1001 buckets; two in each of 500.
 #[test]
 fn full_buckets(rt: HostRuntime) {
     let alloc = rt.alloc();
-    let one = numbered::<1>(&rt, alloc, 1000);
-    same(&rt, &[one.bucket(0).len() as u64], &[1000]);
-    let many = numbered::<1001>(&rt, alloc, 1001);
-    let each = (0..1001).all(|i| many.bucket(i).len() == 1);
-    let twice = numbered::<500>(&rt, alloc, 1000);
-    let both = (0..500).all(|i| twice.bucket(i).len() == 2);
-    all_hold(&rt, &[each, both]);
+    numbered::<1>(&rt, alloc, 1000, 1000);
+    numbered::<1001>(&rt, alloc, 1001, 1);
+    numbered::<500>(&rt, alloc, 1000, 2);
 }
 
 /// The replies to 1001 commands.
@@ -245,9 +263,8 @@ fn a_thousand_and_one_commands(rt: HostRuntime) {
         commands.push(command).expect(&rt, "memory for a command");
     }
     let replies = obey_all(alloc, &mut table, commands).expect(&rt, "memory for the table");
-    let wanted = (0..1001u64).map(|i| i.checked_sub(7));
-    all_hold(
-        &rt,
-        &[replies.len() == 1001, replies.iter().copied().eq(wanted)],
-    );
+    all_hold(&rt, &[replies.len() == 1001]);
+    for (i, reply) in replies.iter().enumerate() {
+        same_reply_at(&rt, i, *reply, (i as u64).checked_sub(7));
+    }
 }

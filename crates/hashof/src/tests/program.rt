@@ -1,6 +1,6 @@
 //! The program's outcome, for arguments as the system gives them.
-use super::{Paper, Script, Trouble, plain};
-use crate::outcome::{outcome_limited, outcome_line, outcome_of, outcome_status};
+use super::{Paper, Script, Trouble, plain, same, same_text};
+use crate::outcome::{Outcome, outcome_limited, outcome_line, outcome_of, outcome_status};
 use std::alloc::Global;
 use std::env::Args;
 use std::io;
@@ -16,118 +16,91 @@ fn args(alloc: Global, words: &[&str]) -> io::Result<Args> {
     Ok(all.into_iter())
 }
 
-/// How the program ends: the line on standard error, the status, and what was written, in how many writes and flushes.
+/// The line on standard error, the status, what was written, and how many reads, writes and flushes were made.
 #[derive(Clone, Copy)]
-struct Exit<'a> {
-    complaint: &'a str,
-    status: u8,
-    line: &'a [u8],
-    calls: [u64; 2],
+struct Exit(&'static str, u8, &'static [u8], [u64; 3]);
+
+const USAGE: Exit = Exit("usage: hashof NAME\n", 2, b"", [0, 0, 0]);
+
+const NO_MEMORY: Exit = Exit("hashof: out of memory\n", 1, b"", [0, 0, 0]);
+
+const UNKNOWN: Exit = Exit("hashof: unknown name\n", 2, b"", [0, 0, 0]);
+
+const TOLD: Exit = Exit("", 0, b"620445648566982762\n", [3, 1, 1]);
+
+const UNREAD: Exit = Exit("hashof: read fault\n", 1, b"", [2, 0, 0]);
+
+const UNWRITTEN: Exit = Exit("hashof: write fault\n", 1, b"620", [3, 4, 0]);
+
+const TOO_LONG: Exit = Exit("hashof: input too long\n", 1, b"", [2, 0, 0]);
+
+/// In one turn of a loop the program ended so.
+fn ended(rt: &impl Abort, turn: usize, outcome: &Outcome, r: &Script, w: &Paper, exit: Exit) {
+    let Exit(complaint, status, line, [reads, writes, flushes]) = exit;
+    same_text(
+        rt,
+        turn,
+        outcome_line(outcome).as_bytes(),
+        complaint.as_bytes(),
+    );
+    same_text(rt, turn, w.line(), line);
+    let got = [
+        u64::from(outcome_status(outcome)),
+        r.reads,
+        w.writes,
+        w.flushes,
+    ];
+    same(rt, turn, &got, &[u64::from(status), reads, writes, flushes]);
 }
 
-/// A refusal before anything is read or written.
-const fn refusal(complaint: &str, status: u8) -> Exit<'_> {
-    Exit {
-        complaint,
-        status,
-        line: b"",
-        calls: [0, 0],
+/// Arguments, after how many bytes a read fails, how many bytes are written at once, how writing fails, and the end.
+const CALLS: [(&[&str], Option<usize>, usize, Trouble, Exit); 9] = [
+    (&[], None, 32, Trouble::None, USAGE),
+    (&["hashof"], None, 32, Trouble::None, USAGE),
+    (
+        &["hashof", "fnv1a64", "fnv1a64"],
+        None,
+        32,
+        Trouble::None,
+        USAGE,
+    ),
+    (&["hashof", "md5", "x", "y"], None, 32, Trouble::None, USAGE),
+    (&["hashof", "md5"], None, 32, Trouble::None, UNKNOWN),
+    (&["hashof", ""], None, 32, Trouble::None, UNKNOWN),
+    (&["hashof", "fnv1a64"], None, 32, Trouble::None, TOLD),
+    (&["hashof", "fnv1a64"], Some(1), 32, Trouble::None, UNREAD),
+    (
+        &["hashof", "fnv1a64"],
+        None,
+        1,
+        Trouble::FailsAt(4),
+        UNWRITTEN,
+    ),
+];
+
+#[test]
+fn calls_end_by_the_table(rt: HostRuntime) {
+    for (turn, (words, until_fault, most, trouble, exit)) in CALLS.iter().enumerate() {
+        let mut reader = Script::new(b"ab", 1, *until_fault);
+        let mut paper = Paper::new(*most, *trouble, ErrorKind::BrokenPipe);
+        let outcome = outcome_of(args(rt.alloc(), words), &mut reader, &mut paper);
+        ended(&rt, turn, &outcome, &reader, &paper, *exit);
     }
 }
 
-/// Runs the program with these arguments over a reader, onto this paper.
-fn exits(rt: &impl Abort, args: io::Result<Args>, r: &mut Script, mut paper: Paper, exit: Exit) {
-    let outcome = outcome_of(args, r, &mut paper);
-    assert_eq!(rt; outcome_line(&outcome), exit.complaint);
-    assert_eq!(rt; outcome_status(&outcome), exit.status);
-    assert_eq!(rt; paper.line(), exit.line);
-    assert_eq!(rt; [paper.writes, paper.flushes], exit.calls);
-}
-
-/// The call is refused before anything is read or written.
-fn refuses(rt: &impl Abort, args: io::Result<Args>, complaint: &str, status: u8) {
-    let mut reader = Script::new(b"ab", 2, None);
-    let exit = refusal(complaint, status);
-    exits(rt, args, &mut reader, plain(), exit);
-    assert_eq!(rt; reader.reads, 0);
-}
-
+/// Arguments that were not had.
 #[test]
-fn wrong_calls(rt: HostRuntime) {
-    let usage = "usage: hashof NAME\n";
-    let alloc = rt.alloc();
-    refuses(&rt, args(alloc, &[]), usage, 2);
-    refuses(&rt, args(alloc, &["hashof"]), usage, 2);
-    refuses(
-        &rt,
-        args(alloc, &["hashof", "fnv1a64", "fnv1a64"]),
-        usage,
-        2,
-    );
-    refuses(&rt, args(alloc, &["hashof", "md5", "x", "y"]), usage, 2);
-    let no_text = Err(io::Error::from(ErrorKind::InvalidData));
-    refuses(&rt, no_text, usage, 2);
-}
-
-#[test]
-fn no_memory_for_the_arguments(rt: HostRuntime) {
-    let no_memory = Err(io::Error::from(ErrorKind::OutOfMemory));
-    refuses(&rt, no_memory, "hashof: out of memory\n", 1);
-}
-
-#[test]
-fn an_unknown_name(rt: HostRuntime) {
-    let alloc = rt.alloc();
-    refuses(
-        &rt,
-        args(alloc, &["hashof", "md5"]),
-        "hashof: unknown name\n",
-        2,
-    );
-    refuses(
-        &rt,
-        args(alloc, &["hashof", ""]),
-        "hashof: unknown name\n",
-        2,
-    );
-}
-
-#[test]
-fn a_hash_is_told(rt: HostRuntime) {
-    let exit = Exit {
-        complaint: "",
-        status: 0,
-        line: b"620445648566982762\n",
-        calls: [1, 1],
-    };
-    let named = args(rt.alloc(), &["hashof", "fnv1a64"]);
-    exits(&rt, named, &mut Script::new(b"ab", 1, None), plain(), exit);
-}
-
-#[test]
-fn a_read_fails(rt: HostRuntime) {
-    let exit = refusal("hashof: read fault\n", 1);
-    let named = args(rt.alloc(), &["hashof", "fnv1a64"]);
-    exits(
-        &rt,
-        named,
-        &mut Script::new(b"ab", 1, Some(1)),
-        plain(),
-        exit,
-    );
-}
-
-#[test]
-fn a_write_fails(rt: HostRuntime) {
-    let exit = Exit {
-        complaint: "hashof: write fault\n",
-        status: 1,
-        line: b"620",
-        calls: [4, 0],
-    };
-    let named = args(rt.alloc(), &["hashof", "fnv1a64"]);
-    let paper = Paper::new(1, Trouble::FailsAt(4), ErrorKind::BrokenPipe);
-    exits(&rt, named, &mut Script::new(b"ab", 1, None), paper, exit);
+fn arguments_that_are_not_there(rt: HostRuntime) {
+    let kinds = [
+        (ErrorKind::InvalidData, USAGE),
+        (ErrorKind::OutOfMemory, NO_MEMORY),
+    ];
+    for (turn, (kind, exit)) in kinds.iter().enumerate() {
+        let mut reader = Script::new(b"ab", 1, None);
+        let mut paper = plain();
+        let outcome = outcome_of(Err(io::Error::from(*kind)), &mut reader, &mut paper);
+        ended(&rt, turn, &outcome, &reader, &paper, *exit);
+    }
 }
 
 #[test]
@@ -136,8 +109,5 @@ fn an_input_at_the_limit(rt: HostRuntime) {
     let mut reader = Script::new(b"ab", 1, None);
     let mut paper = plain();
     let outcome = outcome_limited(named, 2, &mut reader, &mut paper);
-    assert_eq!(rt; outcome_line(&outcome), "hashof: input too long\n");
-    assert_eq!(rt; outcome_status(&outcome), 1);
-    assert_eq!(rt; [paper.writes, paper.flushes], [0, 0]);
-    assert_eq!(rt; reader.reads, 2);
+    ended(&rt, 0, &outcome, &reader, &paper, TOO_LONG);
 }
