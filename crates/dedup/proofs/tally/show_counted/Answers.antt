@@ -1,6 +1,5 @@
 use Rattle.std.proofs.Common.{ap, ◌∙◌, [], ◌∷◌, ◌++◌}
 use Rattle.std.specs.Fmt.{styled_decimal}
-use Rattle.dedup.specs.Tallies.{column}
 use Rattle.dedup.proofs.ColumnLemmas.{column_is}
 use Rattle.dedup.proofs.SeenLemmas.{at_ok}
 use Rattle.dedup.proofs.tally.show_counted.Goals as goal

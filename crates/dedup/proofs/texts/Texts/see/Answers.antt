@@ -1,9 +1,7 @@
-use Rattle.std.proofs.Common.{◌≡◌, ◌-◌, ℕ, List, true, false, not, arith, sym, ap, ◌∙◌, subst, length, get_or}
+use Rattle.std.proofs.Common.{◌≡◌, ◌-◌, not, arith, sym, ap, ◌∙◌, subst, length}
 use Rattle.std.proofs.Math.ListN.{set}
 use Rattle.dedup.specs.Lines.{has}
-use Rattle.dedup.specs.Slots.{IsTable, free_count, home_of, is_taken, tag_by, texts_in}
-use Rattle.dedup.specs.declared.texts.Slot.{Slot}
-use Rattle.dedup.specs.declared.texts.TheConstants.{EMPTY}
+use Rattle.dedup.specs.Slots.{IsTable, free_count, home_of, tag_by, texts_in}
 use Rattle.dedup.proofs.SeenLemmas.{has_already, on_err}
 use Rattle.dedup.proofs.SlotLemmas.{none_stops, searched, seen_found, seen_more, seen_not, slot_made, still_has, table_more}
 use Rattle.dedup.proofs.texts.Texts.see.Goals as goal
