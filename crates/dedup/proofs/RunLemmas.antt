@@ -1,6 +1,5 @@
 -- A run between two lines, and how it ends.
-use Rattle.std.proofs.Common.{◌≡◌, ℕ, ◌<◌, Bool, true, false, ◌||◌, List, [], ◌∷◌, ◌++◌, length, ap, sym, ◌∙◌, refl, if◌then◌else◌, subst, Option, None, Some, IfSome, Result, Ok, Err, OnOk, OnErr, append_assoc, drop, take-append-drop}
-use Rattle.std.proofs.lemmas.Result.{on_ok_weaker, on_err_weaker}
+use Rattle.std.proofs.Common.{◌≡◌, ℕ, ◌<◌, Bool, true, false, ◌||◌, List, [], ◌∷◌, ◌++◌, length, ap, sym, ◌∙◌, refl, if◌then◌else◌, subst, Option, None, Some, IfSome, Result, Ok, Err, OnOk, OnErr, append_assoc, ◌-◌, take, drop, take-append-drop, length-append, arith, Vec, Global}
 use Rattle.std.specs.Io.{StartsWith, StopsAt}
 use Rattle.std.specs.Io.BufRead.{ends_with_byte, strip_last}
 use Rattle.std.specs.Io.KnownBytes.{Consumes, Appends, Keeps}
@@ -15,6 +14,7 @@ use Rattle.std.proofs.lemmas.List.Folds.{list_any-append}
 use Rattle.dedup.specs.Between.{Between, BreaksOff, LeadsOn, after}
 use Rattle.dedup.specs.Lines.{lines, each_once}
 use Rattle.dedup.specs.Running.{Run, WritesAll, WritesPart, Ends}
+use Rattle.dedup.specs.Tallies.{AllCounted, Tallies}
 use Rattle.dedup.specs.declared.run.Fault.{Fault}
 use Rattle.dedup.proofs.LineLemmas.{lines_of_line, one_line, each_once_more, each_once_begins}
 
@@ -193,6 +193,16 @@ leads_further seen seen' seen'' written written' written'' part line leads stops
     let (left', first, second) = consumed_in_two run.left' left part line read in
     between_more (after run left' written') seen' seen'' (leads run same before left' first) left written'' line second stops some ended appends sees
 
+-- what stands before the rest
+front_is : (part rest bytes : List ℕ) → part ++ rest ≡ bytes → take (length bytes - length rest) bytes ≡ part
+front_is part rest bytes is =
+    let long : length bytes - length rest ≡ length part = omega (arith, ap length (sym is), length-append part rest) in
+    ap (λ n. take n bytes) long ∙ ap (take (length part)) (sym is) ∙ take-append_seam part rest
+
+pub leads_so_far : (seen seen' : List ℕ → Bool) (written written' : Option (List ℕ)) (part rest bytes : List ℕ) → part ++ rest ≡ bytes → LeadsOn part seen seen' written written'
+    → LeadsOn (take (length bytes - length rest) bytes) seen seen' written written'
+leads_so_far seen seen' written written' part rest bytes is leads = subst (λ text. LeadsOn text seen seen' written written') (sym (front_is part rest bytes is)) leads
+
 -- known bytes that begin with some go on behind a part of them
 starts_behind : (a : Option (List ℕ)) (part rest : List ℕ) → IfSome a (λ bytes. StartsWith bytes (part ++ rest)) → (b : Option (List ℕ)) × Consumes a b part × IfSome b (λ bytes. StartsWith bytes rest)
 starts_behind None part rest starts = (None, tt, tt)
@@ -212,33 +222,54 @@ breaks_at_line seen seen' written written' written'' part line later leads stops
     let broken = part_at_line (after run left' written') seen' (leads run same before left' first) left'' written'' line second stops some true (sym ended) (λ not_ended. absurd (true≢false not_ended)) begun rest of appends in
     record { part = broken.part; written = broken.written; begins = broken.begins }
 
--- the lines that were read are whole and counted, and nothing is written
-pub record Counting (run : Run) (counts : List (List ℕ) → Type 0) : Type 0 where
-  pub text : List ℕ
-  pub read : Consumes run.left run.left' text
-  pub whole : (more : List ℕ) → lines (text ++ more) ≡ lines text ++ lines more
-  pub counted : counts (lines text)
-  pub same : run.written' ≡ run.written
+-- ---- lines that are counted
 
--- a whole line more
-pub counting_more : (run : Run) (counts counts' : List (List ℕ) → Type 0) → Counting run counts → (left : Option (List ℕ)) (line : List ℕ)
-    → Consumes run.left' left line → StopsAt line 10 → 0 < length line → ends_with_byte 10 line ≡ true → ((ls : List (List ℕ)) → counts ls → counts' (ls ++ line ∷ []))
-    → Counting (after run left run.written') counts'
-counting_more run counts counts' before left line read stops some ended more = record {
-  text = before.text ++ line;
-  read = Consumes-trans _ _ _ _ _ before.read read;
-  whole = whole_more before.text before.whole line stops some ended;
-  counted = subst counts' (sym (split_off before.text before.whole line stops some)) (more (lines before.text) before.counted);
-  same = before.same;
-}
+-- the lines that were read are whole and counted
+pub record Counting (left left' : Option (List ℕ)) (entries : List (Vec ℕ Global × ℕ)) (times : List ℕ) : Type 0 where
+  pub text : List ℕ
+  pub read : Consumes left left' text
+  pub whole : (more : List ℕ) → lines (text ++ more) ≡ lines text ++ lines more
+  pub counted : Tallies (lines text) entries times
+
+pub counting_start : (left : Option (List ℕ)) (entries : List (Vec ℕ Global × ℕ)) (times : List ℕ) → Tallies [] entries times → Counting left left entries times
+counting_start left entries times none = record { text = []; read = Consumes-nil left; whole = λ more. refl; counted = none }
+
+module _ (left left' : Option (List ℕ)) (entries : List (Vec ℕ Global × ℕ)) (times : List ℕ) (before : Counting left left' entries times) (left'' : Option (List ℕ)) where
+  -- there is no further line
+  pub counted_at_end : Consumes left' left'' [] → IfSome left' (λ bytes. bytes ≡ []) → AllCounted left left'' entries times
+  counted_at_end read all = record {
+    text = before.text;
+    read = rw append-nil at (Consumes-trans _ _ _ _ _ before.read read);
+    all = rw append-nil at (rest_is _ _ _ _ before.read all);
+    tallies = before.counted;
+  }
+
+  module _ (line : List ℕ) (read : Consumes left' left'' line) (stops : StopsAt line 10) (some : 0 < length line) (entries' : List (Vec ℕ Global × ℕ)) (times' : List ℕ)
+      (more : (ls : List (List ℕ)) → Tallies ls entries times → Tallies (ls ++ line ∷ []) entries' times') where
+    with_line : Tallies (lines (before.text ++ line)) entries' times'
+    with_line = subst (λ ls. Tallies ls entries' times') (sym (split_off before.text before.whole line stops some)) (more (lines before.text) before.counted)
+
+    -- a whole line more
+    pub counting_more : ends_with_byte 10 line ≡ true → Counting left left'' entries' times'
+    counting_more ended = record {
+      text = before.text ++ line;
+      read = Consumes-trans _ _ _ _ _ before.read read;
+      whole = whole_more before.text before.whole line stops some ended;
+      counted = with_line;
+    }
+
+    -- the last line has no newline
+    pub counted_at_line : IfSome left' (λ bytes. bytes ≡ line) → AllCounted left left'' entries' times'
+    counted_at_line all = record {
+      text = before.text ++ line;
+      read = Consumes-trans _ _ _ _ _ before.read read;
+      all = rest_is _ _ _ _ before.read all;
+      tallies = with_line;
+    }
 
 -- a fault before anything is written
-pub part_counting : (output : List ℕ → List ℕ) (run : Run) (counts : List (List ℕ) → Type 0) → Counting run counts → (left : Option (List ℕ)) → WritesPart output (after run left run.written')
-part_counting output run counts before left = record {
-  part = [];
-  written = subst (λ now. Appends run.written now []) (sym before.same) (Appends-nil run.written);
-  begins = all run.left;
-}
+pub part_nothing : (output : List ℕ → List ℕ) (left left' written : Option (List ℕ)) → WritesPart output (record { left = left; left' = left'; written = written; written' = written })
+part_nothing output left left' written = record { part = []; written = Appends-nil written; begins = all left }
   where
     all : (a : Option (List ℕ)) → IfSome a (λ text. (rest : List ℕ) × (output text ≡ [] ++ rest))
     all None = tt
@@ -258,31 +289,6 @@ ends_told output run text read all (Err fault) told stopped = record {
     begins : (a : Option (List ℕ)) → IfSome a (λ bytes. bytes ≡ text) → IfSome a (λ bytes. (rest : List ℕ) × (output bytes ≡ stopped.0 ++ rest))
     begins None all = tt
     begins (Some bytes) all = (stopped.1, ap output all ∙ sym stopped.2)
-
--- the same, where the last line has no newline
-pub ends_told_at_line : (output : List ℕ → List ℕ) (run : Run) (counts counts' : List (List ℕ) → Type 0) → (before : Counting run counts) → (left written : Option (List ℕ)) (line : List ℕ)
-    → Consumes run.left' left line → StopsAt line 10 → 0 < length line → IfSome run.left' (λ bytes. bytes ≡ line)
-    → ((ls : List (List ℕ)) → counts ls → counts' (ls ++ line ∷ [])) → (result : Result (Unit {0}) Fault)
-    → OnOk result ((text : List ℕ) → counts' (lines text) → Appends run.written' written (output text))
-    → OnErr result ((text : List ℕ) → counts' (lines text) → (part rest : List ℕ) × (part ++ rest ≡ output text) × Appends run.written' written part)
-    → Ends output (after run left written) result
-ends_told_at_line output run counts counts' before left written line read stops some all more result told stopped =
-    let text = before.text ++ line in
-    let counted = subst counts' (sym (split_off before.text before.whole line stops some)) (more (lines before.text) before.counted) in
-    ends_told output (after run left written) text (Consumes-trans _ _ _ _ _ before.read read) (rest_is _ _ _ _ before.read all) result
-    (on_ok_weaker result (λ f. subst (λ w. Appends w written (output text)) before.same (f text counted)) told)
-    (on_err_weaker result (λ f. subst (λ w. (part rest : List ℕ) × (part ++ rest ≡ output text) × Appends w written part) before.same (f text counted)) stopped)
-
--- the same, where there is no further line
-pub ends_told_at_end : (output : List ℕ → List ℕ) (run : Run) (counts : List (List ℕ) → Type 0) → (before : Counting run counts) → (left written : Option (List ℕ))
-    → Consumes run.left' left [] → IfSome run.left' (λ bytes. bytes ≡ []) → (result : Result (Unit {0}) Fault)
-    → OnOk result ((text : List ℕ) → counts (lines text) → Appends run.written' written (output text))
-    → OnErr result ((text : List ℕ) → counts (lines text) → (part rest : List ℕ) × (part ++ rest ≡ output text) × Appends run.written' written part)
-    → Ends output (after run left written) result
-ends_told_at_end output run counts before left written read all result told stopped =
-    ends_told output (after run left written) before.text (rw append-nil at (Consumes-trans _ _ _ _ _ before.read read)) (rw append-nil at (rest_is _ _ _ _ before.read all)) result
-    (on_ok_weaker result (λ f. subst (λ w. Appends w written (output before.text)) before.same (f before.text before.counted)) told)
-    (on_err_weaker result (λ f. subst (λ w. (part rest : List ℕ) × (part ++ rest ≡ output before.text) × Appends w written part) before.same (f before.text before.counted)) stopped)
 
 -- an error that is handed on
 pub handed_on : (output : List ℕ → List ℕ) (run : Run) (result : Result (Unit {0}) Fault) → IsErr result → WritesPart output run → Ends output run result

@@ -311,9 +311,6 @@ first_at bytes bytes' text slots slots' tag tag' result same_bytes same_slots sa
 pub none_stops : (bytes text : List ℕ) (slots : List Slot) (tag home : ℕ) → FirstRound (stops bytes tag text) slots home None → free_count slots ≡ 0
 none_stops bytes text slots tag home first = none_free slots (λ j below. (or_parts _ _ (first j below)).0)
 
-pub taken_at : (slots : List Slot) (place : ℕ) (slot : Slot) (is : Bool) → place < length slots → slot ≡ get_or slots place slot → is ≡ is_taken slot → is_taken (get_or slots place EMPTY) ≡ is
-taken_at slots place slot is within there taken = ap is_taken (get_or_default slots place EMPTY slot within ∙ sym there) ∙ sym taken
-
 -- the slot of a text whose bytes begin where others end
 pub slot_made : (slot : Slot) (tag tag' len place place' : ℕ) → slot ≡ record { tag = tag'; len = len; place = place' } → tag' ≡ tag → place' ≡ place → place < 2 ^ 63
     → (slot ≡ record { tag = tag; len = len; place = place }) × (is_taken slot ≡ true)
@@ -329,29 +326,34 @@ pub record Searched (tag : List ℕ → ℕ) (bytes : List ℕ) (slots : List Sl
   pub still : (other : List ℕ) → has (texts_in bytes slots) other ≡ has seen other
   pub first : FirstRound (stops bytes (tag text) text) slots (home_of (length slots) (tag text)) (Some place)
 
-pub still_has : (tag : List ℕ → ℕ) (bytes : List ℕ) (old slots : List Slot) (room : ℕ) (seen : List (List ℕ)) → texts_in bytes old ≡ seen → IsRefilled old room slots
+pub still_has : (bytes : List ℕ) (old slots : List Slot) (room : ℕ) (seen : List (List ℕ)) → texts_in bytes old ≡ seen → IsRefilled old room slots
     → (other : List ℕ) → has (texts_in bytes slots) other ≡ has seen other
-still_has tag bytes old slots room seen view refilled other = has_kept bytes old slots room refilled other ∙ ap (λ s. has s other) view
+still_has bytes old slots room seen view refilled other = has_kept bytes old slots room refilled other ∙ ap (λ s. has s other) view
 
-pub searched : (tag : List ℕ → ℕ) (bytes bytes' : List ℕ) (old slots slots' : List Slot) (room' room : ℕ) (text : List ℕ) (t place : ℕ) (seen : List (List ℕ))
+pub searched : {tag : List ℕ → ℕ} {bytes bytes' : List ℕ} {old slots slots' : List Slot} {room' room : ℕ} (text : List ℕ) {t : ℕ} (place : ℕ) {seen : List (List ℕ)}
     → IsTable tag bytes old room' → texts_in bytes old ≡ seen → IsRefilled old room slots → bytes' ≡ bytes → slots' ≡ slots → t ≡ tag text
     → FirstRound (stops bytes' t text) slots' (home_of (length slots') t) (Some place) → Searched tag bytes slots room text place seen
-searched tag bytes bytes' old slots slots' room' room text t place seen table view refilled same_bytes same_slots same_tag first = record {
+searched {tag} {bytes} {bytes'} {old} {slots} {slots'} {room'} {room} text {t} place {seen} table view refilled same_bytes same_slots same_tag first = record {
   table = table_kept tag bytes old slots room' room table refilled;
-  still = still_has tag bytes old slots room seen view refilled;
+  still = still_has bytes old slots room seen view refilled;
   first = first_at bytes bytes' text slots slots' (tag text) t (Some place) same_bytes same_slots same_tag first;
 }
 
-module _ (tag : List ℕ → ℕ) (bytes : List ℕ) (slots : List Slot) (room : ℕ) (text : List ℕ) (place : ℕ) (seen : List (List ℕ)) (s : Searched tag bytes slots room text place seen) where
-  pub seen_found : is_taken (get_or slots place EMPTY) ≡ true → has seen text ≡ true
-  seen_found taken = sym (s.still text) ∙ has_found tag bytes slots room s.table text place s.first taken
+module _ {tag : List ℕ → ℕ} {bytes : List ℕ} {slots : List Slot} {room : ℕ} {text : List ℕ} {place : ℕ} {seen : List (List ℕ)} (s : Searched tag bytes slots room text place seen)
+    {slot : Slot} (there : slot ≡ get_or slots place slot) where
+  at_place : is_taken (get_or slots place EMPTY) ≡ is_taken slot
+  at_place = ap is_taken (get_or_default slots place EMPTY slot s.first.0 ∙ sym there)
 
-  pub seen_not : is_taken (get_or slots place EMPTY) ≡ false → has seen text ≡ false
-  seen_not free = sym (s.still text) ∙ has_not_found tag bytes slots room s.table text place s.first free
+  pub seen_found : true ≡ is_taken slot → has seen text ≡ true
+  seen_found taken = sym (s.still text) ∙ has_found tag bytes slots room s.table text place s.first (at_place ∙ sym taken)
 
-  module _ (free : is_taken (get_or slots place EMPTY) ≡ false) (slot : Slot) (made : (slot ≡ record { tag = tag text; len = length text; place = length bytes }) × (is_taken slot ≡ true)) where
-    pub seen_more : (other : List ℕ) → has (texts_in (bytes ++ text) (set slots place slot)) other ≡ (bytes_eq other text || has seen other)
-    seen_more other = has_put tag bytes slots room s.table text place s.first.0 free slot made.1 made.0 other ∙ ap (λ b. bytes_eq other text || b) (s.still other)
+  module _ (free : false ≡ is_taken slot) where
+    pub seen_not : has seen text ≡ false
+    seen_not = sym (s.still text) ∙ has_not_found tag bytes slots room s.table text place s.first (at_place ∙ sym free)
 
-    pub table_more : IsTable tag (bytes ++ text) (set slots place slot) (room - 1)
-    table_more = table_put tag bytes slots room s.table text place s.first.0 free slot made.1 made.0 (all_taken tag bytes slots room s.table text place s.first)
+    module _ {new : Slot} (made : (new ≡ record { tag = tag text; len = length text; place = length bytes }) × (is_taken new ≡ true)) where
+      pub seen_more : (other : List ℕ) → has (texts_in (bytes ++ text) (set slots place new)) other ≡ (bytes_eq other text || has seen other)
+      seen_more other = has_put tag bytes slots room s.table text place s.first.0 (at_place ∙ sym free) new made.1 made.0 other ∙ ap (λ b. bytes_eq other text || b) (s.still other)
+
+      pub table_more : IsTable tag (bytes ++ text) (set slots place new) (room - 1)
+      table_more = table_put tag bytes slots room s.table text place s.first.0 (at_place ∙ sym free) new made.1 made.0 (all_taken tag bytes slots room s.table text place s.first)

@@ -1,6 +1,7 @@
 -- What the program writes of lines that it has counted.
-use Rattle.std.specs.Prelude.{ℕ, ◌≡◌, ◌-◌, ◌++◌, if◌then◌else◌, nat_lt, List, [], ◌∷◌, length, map, decimal}
+use Rattle.std.specs.Prelude.{ℕ, ◌≡◌, ◌-◌, ◌++◌, if◌then◌else◌, nat_lt, List, [], ◌∷◌, Option, IfSome, length, map, decimal}
 use Rattle.std.specs.Io.BufRead.{strip_last}
+use Rattle.std.specs.Io.KnownBytes.{Consumes}
 use Rattle.std.specs.List.{count_by, enumerate_from, flat_map, repeat}
 use Rattle.std.specs.List.Sorted.{IsPermutation}
 use Rattle.std.specs.declared.alloc.Global.{Global}
@@ -42,3 +43,10 @@ placed entries = map (λ entry. (entry.1, entry.0.items)) entries
 pub record Tallies (ls : List (List ℕ)) (entries : List (Vec ℕ Global × ℕ)) (times : List ℕ) : Type 0 where
   pub places : IsPermutation (enumerate_from 0 (texts ls)) (placed entries)
   pub counts : times ≡ map (λ line. count_by (same_text line) ls) (firsts ls)
+
+-- all was read, and its lines are counted
+pub record AllCounted (left left' : Option (List ℕ)) (entries : List (Vec ℕ Global × ℕ)) (times : List ℕ) : Type 0 where
+  pub text : List ℕ
+  pub read : Consumes left left' text
+  pub all : IfSome left (λ bytes. bytes ≡ text)
+  pub tallies : Tallies (lines text) entries times

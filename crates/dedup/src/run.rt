@@ -1,4 +1,5 @@
 //! A run of the program over any reader, writer and hasher.
+ghost use Rattle.std.specs.Prelude.{◌≡◌, []};
 ghost use Rattle.dedup.specs.Lines.{each_once};
 ghost use Rattle.dedup.specs.Running.{Ends, run_of};
 
@@ -27,6 +28,33 @@ impl From<AllocError> for Fault {
     }
 }
 
+/// Writes each line of the input once, where it came first. `line` is room for one.
+fn write_each<H: Piecewise, R: BufRead, W: Write>(
+    seen: &mut Texts<H>,
+    line: &mut Vec<u8>,
+    limit: u64,
+    r: &mut R,
+    w: &mut W,
+) -> Result<(), Fault>
+    requires { seen.old ≡ [] }
+    ensures { Ends each_once (run_of R.remaining r.old r.new W.contents w.old w.new) result }
+{
+    let mut left = limit;
+    while left > 0 {
+        left -= write_buffered(seen, r, left - 1, w)?;
+        let ended = read_line(r, line)?;
+        if line.is_empty() {
+            return Ok(());
+        }
+        write_new(seen, line, w)?;
+        if !ended {
+            return Ok(());
+        }
+        left -= 1;
+    }
+    Err(Fault::TooManyLines)
+}
+
 /// Writes each line of the input once, where it came first, and flushes.
 pub fn dedup<H: Piecewise, R: BufRead, W: Write>(
     alloc: Global,
@@ -38,18 +66,6 @@ pub fn dedup<H: Piecewise, R: BufRead, W: Write>(
 {
     let mut seen = Texts::<H>::new(alloc);
     let mut line = Vec::new(alloc);
-    let mut left = limit;
-    while left > 0 {
-        left -= write_buffered(&mut seen, r, left - 1, w)?;
-        let ended = read_line(r, &mut line)?;
-        if line.is_empty() {
-            return finish(w);
-        }
-        write_new(&mut seen, &line, w)?;
-        if !ended {
-            return finish(w);
-        }
-        left -= 1;
-    }
-    Err(Fault::TooManyLines)
+    write_each(&mut seen, &mut line, limit, r, w)?;
+    finish(w)
 }

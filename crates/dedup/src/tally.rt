@@ -8,7 +8,7 @@ ghost use Rattle.std.specs.List.{count_by, enumerate_from};
 ghost use Rattle.std.specs.List.Sorted.{IsPermutation};
 ghost use Rattle.dedup.specs.Running.{AppendsPart, Ends, run_of};
 ghost use Rattle.dedup.specs.Lines.{firsts, same_text};
-ghost use Rattle.dedup.specs.Tallies.{Tallies, column, placed, shown, tallied, texts, told};
+ghost use Rattle.dedup.specs.Tallies.{AllCounted, Tallies, column, placed, shown, tallied, texts, told};
 
 use crate::lines::{finish, put, read_line, text_of};
 use crate::run::Fault;
@@ -42,9 +42,9 @@ fn add<H: Piecewise>(
         → Tallies ls places.old.entries times.old.items
         → Tallies (ls ++ line ∷ []) places.new.entries times.new.items) }
 {
-    let key = text.to_vec(alloc)?;
     let place = times.len();
     times.push(1)?;
+    let key = text.to_vec(alloc)?;
     places.insert(key, place)?;
     Ok(())
 }
@@ -94,6 +94,14 @@ fn in_order<H: Piecewise>(
     Ok(order)
 }
 
+/// Puts a text and a newline behind the bytes.
+fn push_line(out: &mut Vec<u8>, text: &[u8]) -> Result<(), AllocError>
+    ensures { OnOk result (out.new.items ≡ out.old.items ++ (text.now ++ 10 ∷ [])) }
+{
+    out.extend_from_slice(text)?;
+    out.extend_from_slice(b"\n")
+}
+
 /// Makes the line of a text, behind how often it came.
 fn show_counted(times: u64, text: &[u8], out: &mut Vec<u8>) -> Result<(), Fault>
     ensures { OnOk result (out.new.items ≡ column times ++ (text.now ++ 10 ∷ [])) }
@@ -102,8 +110,7 @@ fn show_counted(times: u64, text: &[u8], out: &mut Vec<u8>) -> Result<(), Fault>
     if write!(out, "{times:>7} ").is_err() {
         return Err(Fault::NoMemory);
     }
-    out.extend_from_slice(text)?;
-    out.extend_from_slice(b"\n")?;
+    push_line(out, text)?;
     Ok(())
 }
 
@@ -113,8 +120,7 @@ fn show_repeated(times: u64, text: &[u8], out: &mut Vec<u8>) -> Result<(), Fault
 {
     out.clear();
     if times > 1 {
-        out.extend_from_slice(text)?;
-        out.extend_from_slice(b"\n")?;
+        push_line(out, text)?;
     }
     Ok(())
 }
@@ -171,6 +177,31 @@ fn tell<H: Piecewise, W: Write>(
     write_shown(alloc, which, &order, times, w)
 }
 
+/// Counts the text of each line of the input.
+fn count_lines<H: Piecewise, R: BufRead>(
+    alloc: Global,
+    limit: u64,
+    r: &mut R,
+    places: &mut Places<H>,
+    times: &mut Vec<u64>,
+) -> Result<(), Fault>
+    requires { Tallies [] places.old.entries times.old.items }
+    ensures { OnOk result (AllCounted (R.remaining r.old) (R.remaining r.new) places.new.entries times.new.items) }
+{
+    let mut line = Vec::new(alloc);
+    for _ in 0..limit {
+        let ended = read_line(r, &mut line)?;
+        if line.is_empty() {
+            return Ok(());
+        }
+        count(alloc, places, times, text_of(&line))?;
+        if !ended {
+            return Ok(());
+        }
+    }
+    Err(Fault::TooManyLines)
+}
+
 /// Counts the lines of the input, and writes at its end those that are asked for, in the order in which they came
 /// first.
 pub fn tally<H: Piecewise, R: BufRead, W: Write>(
@@ -184,16 +215,6 @@ pub fn tally<H: Piecewise, R: BufRead, W: Write>(
 {
     let mut places: Places<H> = HashMap::with_hasher(alloc, BuildFresh::new());
     let mut times = Vec::new(alloc);
-    let mut line = Vec::new(alloc);
-    for _ in 0..limit {
-        let ended = read_line(r, &mut line)?;
-        if line.is_empty() {
-            return tell(alloc, which, &places, &times, w);
-        }
-        count(alloc, &mut places, &mut times, text_of(&line))?;
-        if !ended {
-            return tell(alloc, which, &places, &times, w);
-        }
-    }
-    Err(Fault::TooManyLines)
+    count_lines(alloc, limit, r, &mut places, &mut times)?;
+    tell(alloc, which, &places, &times, w)
 }

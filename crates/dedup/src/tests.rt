@@ -15,12 +15,49 @@ use std::io;
 use std::io::{BufReader, ErrorKind, Read, Write};
 use std::process::Abort;
 
+/// That the bytes are as wanted.
+fn same(rt: &impl Abort, got: &[u8], want: &[u8]) {
+    assert_eq!(rt; got, want);
+}
+
+/// That all claims hold.
+fn all_hold(rt: &impl Abort, claims: &[bool]) {
+    assert!(rt; !claims.contains(&false), "not all hold: {claims:?}");
+}
+
+/// How the program ends: its status, and its line on standard error.
+type End = (u8, &'static str);
+
+const WELL: End = (0, "");
+
+const NO_MEMORY: End = (1, "dedup: out of memory\n");
+
+const READ_FAULT: End = (1, "dedup: read fault\n");
+
+const WRITE_FAULT: End = (1, "dedup: write fault\n");
+
+/// That the program ended as wanted.
+fn ended(rt: &impl Abort, got: End, want: End) {
+    assert_eq!(rt; got, want);
+}
+
 /// Gives its text, at most so many bytes a read, and fails once so many were given.
 #[derive(Drop)]
 struct Script<'a> {
     left: &'a [u8],
     most: usize,
     until_fault: usize,
+}
+
+impl<'a> Script<'a> {
+    /// The text, at most so many bytes a read.
+    fn new(left: &'a [u8], most: usize) -> Script<'a> {
+        Script {
+            left,
+            most,
+            until_fault: usize::MAX,
+        }
+    }
 }
 
 impl Read for Script<'_> {
@@ -100,17 +137,12 @@ fn args(alloc: Global, words: &[&str]) -> io::Result<Args> {
 }
 
 /// What became of a call, without the error itself.
-fn status(outcome: &Outcome) -> (u8, &'static str) {
+fn status(outcome: &Outcome) -> End {
     (outcome_status(outcome), outcome_line(outcome))
 }
 
 /// Runs the program over a text, read and written so many bytes at a time, onto this paper.
-fn run<H: Piecewise>(
-    alloc: Global,
-    words: &[&str],
-    r: Script<'_>,
-    w: &mut Paper,
-) -> (u8, &'static str) {
+fn run<H: Piecewise>(alloc: Global, words: &[&str], r: Script<'_>, w: &mut Paper) -> End {
     match BufReader::with_capacity(alloc, 8, r) {
         Ok(mut reader) => status(&outcome_of::<H, _, _>(
             alloc,
@@ -119,8 +151,22 @@ fn run<H: Piecewise>(
             &mut reader,
             w,
         )),
-        Err(_) => (1, "dedup: out of memory\n"),
+        Err(_) => NO_MEMORY,
     }
+}
+
+/// That the program ends so, and wrote this.
+fn ends<H: Piecewise>(
+    rt: &impl Abort,
+    alloc: Global,
+    words: &[&str],
+    r: Script<'_>,
+    mut w: Paper,
+    end: End,
+    output: &[u8],
+) {
+    ended(rt, run::<H>(alloc, words, r, &mut w), end);
+    same(rt, w.line(), output);
 }
 
 /// A text, and what the program writes of it with no argument, with `-c` and with `-d`.
@@ -156,23 +202,33 @@ const CASES: [(&[u8], &[u8], &[u8], &[u8]); 9] = [
     ),
 ];
 
+/// That the program writes this of the text, through a reader and a writer of so many bytes a call.
+fn writes<H: Piecewise>(
+    rt: &impl Abort,
+    alloc: Global,
+    words: &[&str],
+    text: &[u8],
+    most: usize,
+    output: &[u8],
+) {
+    let paper = Paper::new(most, usize::MAX);
+    ends::<H>(
+        rt,
+        alloc,
+        words,
+        Script::new(text, most),
+        paper,
+        WELL,
+        output,
+    );
+}
+
 /// Each case through a reader and a writer of so many bytes a call.
 fn writes_each_case<H: Piecewise>(rt: &impl Abort, alloc: Global, most: usize) {
-    for (text, once, counted, repeated) in CASES {
-        for (words, output) in [
-            (&[][..], once),
-            (&["-c"][..], counted),
-            (&["-d"][..], repeated),
-        ] {
-            let mut paper = Paper::new(most, usize::MAX);
-            let script = Script {
-                left: text,
-                most,
-                until_fault: usize::MAX,
-            };
-            assert_eq!(rt; run::<H>(alloc, words, script, &mut paper), (0, ""));
-            assert_eq!(rt; paper.line(), output);
-        }
+    for (text, once, counted, repeated) in &CASES {
+        writes::<H>(rt, alloc, &[], text, most, once);
+        writes::<H>(rt, alloc, &["-c"], text, most, counted);
+        writes::<H>(rt, alloc, &["-d"], text, most, repeated);
     }
 }
 
@@ -186,89 +242,74 @@ fn a_byte_at_a_time_and_all_with_one_hash(rt: HostRuntime) {
     writes_each_case::<NullHasher>(&rt, rt.alloc(), 1);
 }
 
-/// The text of the tests of faults, and what is written of it.
+/// The text of the tests of faults.
 const TEXT: &[u8] = b"b\na\nb\na\nc\n";
 
 const ONCE: &[u8] = b"b\na\nc\n";
 
-const COUNTED: &[u8] = b"      2 b\n      2 a\n      1 c\n";
+/// What is written of it with no argument and with `-c`.
+const OUTPUTS: [(&[&str], &[u8]); 2] = [
+    (&[], ONCE),
+    (&["-c"], b"      2 b\n      2 a\n      1 c\n"),
+];
 
 #[test]
 fn a_read_fails_at_each_byte(rt: HostRuntime) {
     for until_fault in 0..TEXT.len() {
-        let script = Script {
-            left: TEXT,
-            most: 3,
-            until_fault,
-        };
+        let mut script = Script::new(TEXT, 3);
+        script.until_fault = until_fault;
         let mut paper = Paper::new(64, usize::MAX);
         let end = run::<Lookup3Hasher>(rt.alloc(), &[], script, &mut paper);
-        assert_eq!(rt; end, (1, "dedup: read fault\n"));
-        assert!(rt; ONCE.starts_with(paper.line()));
+        ended(&rt, end, READ_FAULT);
+        all_hold(&rt, &[ONCE.starts_with(paper.line())]);
     }
 }
 
 #[test]
 fn a_write_fails_at_each_byte(rt: HostRuntime) {
-    for (words, output) in [(&[][..], ONCE), (&["-c"][..], COUNTED)] {
+    for (words, output) in &OUTPUTS {
         for until_fault in 0..output.len() {
-            let script = Script {
-                left: TEXT,
-                most: 3,
-                until_fault: usize::MAX,
-            };
-            let mut paper = Paper::new(4, until_fault);
-            let end = run::<Lookup3Hasher>(rt.alloc(), words, script, &mut paper);
-            assert_eq!(rt; end, (1, "dedup: write fault\n"));
-            assert_eq!(rt; paper.line(), &output[..until_fault]);
+            let paper = Paper::new(4, until_fault);
+            let written = &output[..until_fault];
+            let script = Script::new(TEXT, 3);
+            ends::<Lookup3Hasher>(&rt, rt.alloc(), words, script, paper, WRITE_FAULT, written);
         }
     }
 }
 
 #[test]
 fn a_flush_fails(rt: HostRuntime) {
-    for (words, output) in [(&[][..], ONCE), (&["-c"][..], COUNTED)] {
+    for (words, output) in &OUTPUTS {
         let mut paper = Paper::new(64, usize::MAX);
         paper.flush_fails = true;
-        let script = Script {
-            left: TEXT,
-            most: 64,
-            until_fault: usize::MAX,
-        };
-        let end = run::<Lookup3Hasher>(rt.alloc(), words, script, &mut paper);
-        assert_eq!(rt; end, (1, "dedup: write fault\n"));
-        assert_eq!(rt; paper.line(), output);
+        let script = Script::new(TEXT, 64);
+        ends::<Lookup3Hasher>(&rt, rt.alloc(), words, script, paper, WRITE_FAULT, output);
     }
 }
 
+/// Calls that read and write nothing.
+const CALLS: [(&[&str], End); 5] = [
+    (&["--help"], WELL),
+    (&["-x"], (2, USAGE)),
+    (&[""], (2, USAGE)),
+    (&["-c", "-d"], (2, USAGE)),
+    (&["-c", "-c"], (2, USAGE)),
+];
+
 #[test]
 fn arguments_that_are_wrong(rt: HostRuntime) {
-    let calls = [
-        (&["--help"][..], (0, "")),
-        (&["-x"][..], (2, USAGE)),
-        (&[""][..], (2, USAGE)),
-        (&["-c", "-d"][..], (2, USAGE)),
-        (&["-c", "-c"][..], (2, USAGE)),
-    ];
-    for (words, end) in calls {
-        let mut paper = Paper::new(64, usize::MAX);
-        let script = Script {
-            left: TEXT,
-            most: 64,
-            until_fault: 0,
-        };
-        assert_eq!(rt;
-            run::<Lookup3Hasher>(rt.alloc(), words, script, &mut paper),
-            end
-        );
-        assert!(rt; paper.line().is_empty());
+    for (words, end) in &CALLS {
+        let mut script = Script::new(TEXT, 64);
+        script.until_fault = 0;
+        let paper = Paper::new(64, usize::MAX);
+        ends::<Lookup3Hasher>(&rt, rt.alloc(), words, script, paper, *end, b"");
     }
 }
 
 #[test]
 fn arguments_that_are_not_there(rt: HostRuntime) {
     for (kind, end) in [
-        (ErrorKind::OutOfMemory, (1, "dedup: out of memory\n")),
+        (ErrorKind::OutOfMemory, NO_MEMORY),
         (ErrorKind::InvalidData, (2, USAGE)),
     ] {
         let mut reader = TEXT;
@@ -281,25 +322,32 @@ fn arguments_that_are_not_there(rt: HostRuntime) {
             &mut reader,
             &mut paper,
         );
-        assert_eq!(rt; status(&outcome), end);
-        assert!(rt; paper.line().is_empty());
+        ended(&rt, status(&outcome), end);
+        same(&rt, paper.line(), b"");
     }
+}
+
+/// What became of a run under a limit: whether its output is whole, and whether there were too many lines.
+fn met(end: &Result<(), Fault>) -> (bool, bool) {
+    (end.is_ok(), matches!(end, Err(Fault::TooManyLines)))
 }
 
 #[test]
 fn more_lines_than_the_limit(rt: HostRuntime) {
     for (limit, fits) in [(5, false), (6, true)] {
-        let mut reader = TEXT;
         let mut paper = Paper::new(64, usize::MAX);
-        let once = dedup::<NullHasher, _, _>(rt.alloc(), limit, &mut reader, &mut paper);
-        let mut reader = TEXT;
+        let once = dedup::<NullHasher, _, _>(rt.alloc(), limit, &mut &TEXT[..], &mut paper);
         let mut paper = Paper::new(64, usize::MAX);
         let which = Which::Counted;
-        let counted = tally::<NullHasher, _, _>(rt.alloc(), which, limit, &mut reader, &mut paper);
-        assert_eq!(rt; matches!(once, Ok(())), fits);
-        assert_eq!(rt; matches!(once, Err(Fault::TooManyLines)), !fits);
-        assert_eq!(rt; matches!(counted, Ok(())), fits);
-        assert_eq!(rt; matches!(counted, Err(Fault::TooManyLines)), !fits);
+        let counted = tally::<NullHasher, _, _>(
+            rt.alloc(),
+            which,
+            limit,
+            &mut &TEXT[..],
+            &mut paper,
+        );
+        let wanted = (fits, !fits);
+        all_hold(&rt, &[met(&once) == wanted, met(&counted) == wanted]);
     }
 }
 
@@ -341,11 +389,7 @@ fn lines_of_each_length(alloc: Global, count: usize) -> Result<Vec<u8>, AllocErr
 fn written_of_twice(alloc: Global, lines: &[u8], capacity: usize) -> io::Result<Vec<u8>> {
     let mut twice = Vec::from_slice(alloc, lines)?;
     twice.extend_from_slice(lines)?;
-    let script = Script {
-        left: &twice,
-        most: usize::MAX,
-        until_fault: usize::MAX,
-    };
+    let script = Script::new(&twice, usize::MAX);
     let mut reader = BufReader::with_capacity(alloc, capacity, script)?;
     let mut output = Vec::new(alloc);
     match dedup::<FNV1aHasher64, _, _>(alloc, 200, &mut reader, &mut output) {
@@ -354,16 +398,20 @@ fn written_of_twice(alloc: Global, lines: &[u8], capacity: usize) -> io::Result<
     }
 }
 
+/// Whether lines of each length, which come twice, are written once through a buffer of so many bytes.
+fn come_once(alloc: Global, capacity: usize) -> io::Result<bool> {
+    let lines = lines_of_each_length(alloc, 41)?;
+    let output = written_of_twice(alloc, &lines, capacity)?;
+    Ok(output == lines)
+}
+
 /// Each line ends at another place of the buffer, and of the 16 bytes that are searched at once.
 #[test]
 fn lines_that_end_at_each_place(rt: HostRuntime) {
-    let lines = lines_of_each_length(rt.alloc(), 41).expect(&rt, "memory");
     for capacity in 1..70 {
-        let output = written_of_twice(rt.alloc(), &lines, capacity).expect(&rt, "memory");
-        assert_eq!(rt; output.as_slice(), lines.as_slice());
+        all_hold(&rt, &[come_once(rt.alloc(), capacity).unwrap_or(false)]);
     }
-    let output = written_of_twice(rt.alloc(), &lines, 4096).expect(&rt, "memory");
-    assert_eq!(rt; output.as_slice(), lines.as_slice());
+    all_hold(&rt, &[come_once(rt.alloc(), 4096).unwrap_or(false)]);
 }
 
 /// How often `Texts` and std's set disagree whether a text is new, over so many texts, some of which come again and many
@@ -386,25 +434,33 @@ fn disagreements<H: Piecewise>(alloc: Global, count: u64) -> Result<u64, AllocEr
 #[test]
 fn texts_are_those_of_a_set(rt: HostRuntime) {
     let alloc = rt.alloc();
-    assert_eq!(rt;
+    let counts = [
         disagreements::<FNV1aHasher64>(alloc, 20000).unwrap_or(1),
-        0
-    );
-    assert_eq!(rt; disagreements::<Lookup3Hasher>(alloc, 2000).unwrap_or(1), 0);
-    assert_eq!(rt; disagreements::<NullHasher>(alloc, 2000).unwrap_or(1), 0);
+        disagreements::<Lookup3Hasher>(alloc, 2000).unwrap_or(1),
+        disagreements::<NullHasher>(alloc, 2000).unwrap_or(1),
+    ];
+    all_hold(&rt, &[counts == [0, 0, 0]]);
 }
 
-/// The empty text, a text, and what it begins.
+/// The empty text, texts that begin others, and whether each is new where it comes.
+const SEEN: [(&[u8], bool); 9] = [
+    (b"ab", true),
+    (b"", true),
+    (b"a", true),
+    (b"abc", true),
+    (b"abc", false),
+    (b"a", false),
+    (b"", false),
+    (b"ab", false),
+    (b"b", true),
+];
+
 #[test]
 fn a_text_that_begins_another(rt: HostRuntime) {
     let mut texts = Texts::<NullHasher>::new(rt.alloc());
-    for text in [&b"ab"[..], b"", b"a", b"abc"] {
-        assert!(rt; matches!(texts.see(text), Ok(true)));
+    for (text, is_new) in &SEEN {
+        all_hold(&rt, &[texts.see(text) == Ok(*is_new)]);
     }
-    for text in [&b"abc"[..], b"a", b"", b"ab"] {
-        assert!(rt; matches!(texts.see(text), Ok(false)));
-    }
-    assert!(rt; matches!(texts.see(b"b"), Ok(true)));
 }
 
 /// Two lines of a mebibyte that differ in their last byte, one of them twice.
@@ -429,25 +485,22 @@ fn long_lines(alloc: Global) -> io::Result<(u64, u64)> {
 #[test]
 fn lines_of_a_mebibyte(rt: HostRuntime) {
     let written = long_lines(rt.alloc()).unwrap_or((0, 0));
-    assert_eq!(rt; written, (2097154, 2));
+    all_hold(&rt, &[written == (2097154, 2)]);
 }
 
 /// Where a request for memory is refused, what was written is a beginning of the output.
 #[test]
 fn refused_memory(rt: HostRuntime) {
-    for (words, output) in [(&[][..], ONCE), (&["-c"][..], COUNTED)] {
-        let script = Script {
-            left: TEXT,
-            most: 64,
-            until_fault: usize::MAX,
-        };
+    for (words, output) in &OUTPUTS {
         let mut paper = Paper::new(64, usize::MAX);
+        let script = Script::new(TEXT, 64);
         let end = run::<Lookup3Hasher>(rt.alloc(), words, script, &mut paper);
-        if end == (0, "") {
-            assert_eq!(rt; paper.line(), output);
-        } else {
-            assert_eq!(rt; end, (1, "dedup: out of memory\n"));
-            assert!(rt; output.starts_with(paper.line()));
-        }
+        let refused = end == NO_MEMORY;
+        let claims = [
+            refused || end == WELL,
+            refused || paper.line() == *output,
+            output.starts_with(paper.line()),
+        ];
+        all_hold(&rt, &claims);
     }
 }

@@ -4,7 +4,7 @@ use Rattle.std.specs.Io.BufRead.{ends_with_byte}
 use Rattle.dedup.specs.Between.{BreaksOff}
 use Rattle.dedup.specs.Lines.{has}
 use Rattle.dedup.proofs.LineLemmas.{line_through}
-use Rattle.dedup.proofs.RunLemmas.{breaks_at_line, leads_further, leads_nowhere}
+use Rattle.dedup.proofs.RunLemmas.{breaks_at_line, leads_further, leads_nowhere, leads_so_far}
 use Rattle.dedup.proofs.SeenLemmas.{on_err}
 use Rattle.dedup.proofs.lines.write_lines.Goals as goal
 
@@ -41,3 +41,9 @@ returns-in_err-write_new-in-Some-clause-begun g c =
     on_err _ c.from_residual.result
     (subst (λ l. BreaksOff l (has c.args.seen.now) (g.W.Write.contents c.args.w.now) (g.W.Write.contents c.write_new.new.w)) all
     (breaks_at_line (has c.args.seen.now) (has c.loop-count.seen) (g.W.Write.contents c.args.w.now) (g.W.Write.contents c.loop-count.w) (g.W.Write.contents c.write_new.new.w) part line later leads stops some ended begun more of appends))
+
+pub returns-in-None-clause-written : goal.returns-in-None-clause-written
+returns-in-None-clause-written g c = let (part, is, leads) = c.loop-count.invariant in leads_so_far _ _ _ _ part c.loop-count.rest.now c.args.bytes.now is leads
+
+pub returns-clause-written : goal.returns-clause-written
+returns-clause-written g c = let (part, is, leads) = c.loop-count.invariant in leads_so_far _ _ _ _ part c.loop-count.rest.now c.args.bytes.now is leads

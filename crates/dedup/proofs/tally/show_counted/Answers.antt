@@ -1,6 +1,5 @@
-use Rattle.std.proofs.Common.{ap, ◌∙◌, [], ◌∷◌, ◌++◌, append_assoc}
+use Rattle.std.proofs.Common.{ap, ◌∙◌, [], ◌∷◌, ◌++◌}
 use Rattle.std.specs.Fmt.{styled_decimal}
-use Rattle.dedup.specs.Tallies.{column}
 use Rattle.dedup.proofs.ColumnLemmas.{column_is}
 use Rattle.dedup.proofs.SeenLemmas.{at_ok}
 use Rattle.dedup.proofs.tally.show_counted.Goals as goal
@@ -10,6 +9,4 @@ returns c =
     let items = at_ok _ c.write.result c.if-is_err.ensures.negation c.write.ensures.bytes in
     let written = items ∙ ap (λ front. front ++ (styled_decimal c.laid_out.result c.args.times ++ 32 ∷ [])) c.clear.ensures.items
     ∙ ap (λ spec. styled_decimal spec c.args.times ++ 32 ∷ []) c.laid_out.ensures ∙ column_is c.args.times in
-    c.in_ok-extend_from_slice-2.ensures.items
-    ∙ ap (λ front. front ++ 10 ∷ []) (c.in_ok-extend_from_slice.ensures.items ∙ ap (λ front. front ++ c.args.text.now) written)
-    ∙ append_assoc (column c.args.times) c.args.text.now (10 ∷ [])
+    c.in_ok-push_line.ensures ∙ ap (λ front. front ++ (c.args.text.now ++ 10 ∷ [])) written

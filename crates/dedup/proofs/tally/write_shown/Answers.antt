@@ -1,7 +1,7 @@
 use Rattle.std.proofs.Common.{rules, arith, ◌∙◌}
 use Rattle.std.proofs.KnownBytes.{Keeps-refl}
-use Rattle.dedup.proofs.OrderLemmas.{telling_more, telling_stops, telling_stops_within}
-use Rattle.dedup.proofs.SeenLemmas.{on_err}
+use Rattle.dedup.proofs.OrderLemmas.{telling_ends, telling_more, telling_stops, telling_stops_within}
+use Rattle.dedup.proofs.SeenLemmas.{on_err, on_ok}
 use Rattle.dedup.proofs.tally.write_shown.Goals as goal
 
 pub returns-in_err-show-clause-err : goal.returns-in_err-show-clause-err
@@ -15,6 +15,9 @@ returns-in_err-put-clause-err g c =
 
 pub returns-clause-err : goal.returns-clause-err
 returns-clause-err g c = on_err _ c.finish.result (telling_stops _ _ _ _ _ _ c.loop-i.invariant _ c.finish.ensures)
+
+pub returns-clause-ok : goal.returns-clause-ok
+returns-clause-ok g c = on_ok _ c.finish.result (telling_ends _ _ _ _ _ _ c.loop-i.invariant (omega arith) _ c.finish.ensures)
 
 pub loop-i-preserved : goal.loop-i-preserved
 loop-i-preserved g c =
