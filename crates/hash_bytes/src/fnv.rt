@@ -8,7 +8,7 @@ ghost use Rattle.hash_laws.proofs.RecurrenceLemmas.{recurrence_is_fold};
 ghost use Rattle.hash_bytes.specs.Fnv.{fnv0, fnv1a32_basis, fnv1a32, fnv1a64_basis, fnv1a64};
 
 use hash_laws::build::BuildFresh;
-use hash_rules::{ByteHasher, ByteRule, StepRule, alone_or_in_eights};
+use hash_rules::{ByteHasher, ByteRule, StepRule, UndoRule, alone_or_in_eights};
 use std::collections::{HashMap, HashSet};
 use std::hash::Hasher;
 
@@ -73,15 +73,9 @@ impl StepRule for Fnv1aRule32 {
         *state = (*state ^ u32::from(byte)).wrapping_mul(PRIME_32);
     }
 
-    #[inline(always)]
-    #[tactic(auto, using(crate::specs::FnvLaws::fnv1a32_back))]
-    fn unstep(state: &mut u32, byte: u8) {
-        *state = state.wrapping_mul(UNPRIME_32) ^ u32::from(byte);
-    }
-
     ghost start_in_range = { lit< tt };
 
-    ghost facts = { fnv1a32_facts };
+    ghost step_in_range = { fnv1a32_facts.in_range };
 }
 
 impl ByteRule for Fnv1aRule32 {
@@ -101,13 +95,23 @@ impl ByteRule for Fnv1aRule32 {
         u64::from(*state)
     }
 
+    ghost is_fold = { recurrence_is_fold fnv1a32_step (2 ^ 32) };
+
+    ghost write_is_after = { λ s text. refl };
+}
+
+impl UndoRule for Fnv1aRule32 {
+    #[inline(always)]
+    #[tactic(auto, using(crate::specs::FnvLaws::fnv1a32_back))]
+    fn unstep(state: &mut u32, byte: u8) {
+        *state = state.wrapping_mul(UNPRIME_32) ^ u32::from(byte);
+    }
+
     fn unanswer(hash: u64) -> Option<u32> {
         u32::try_from(hash).ok()
     }
 
-    ghost is_fold = { recurrence_is_fold fnv1a32_step (2 ^ 32) };
-
-    ghost write_is_after = { λ s text. refl };
+    ghost facts = { fnv1a32_facts };
 
     ghost answer_injective = { λ s t ks kt same. same };
 }
@@ -158,15 +162,9 @@ impl StepRule for Fnv1aRule64 {
         *state = (*state ^ u64::from(byte)).wrapping_mul(PRIME_64);
     }
 
-    #[inline(always)]
-    #[tactic(auto, using(crate::specs::FnvLaws::fnv1a64_back, hash_rounds::proofs::XorLemmas::xored_64))]
-    fn unstep(state: &mut u64, byte: u8) {
-        *state = state.wrapping_mul(UNPRIME_64) ^ u64::from(byte);
-    }
-
     ghost start_in_range = { lit< tt };
 
-    ghost facts = { fnv1a64_facts };
+    ghost step_in_range = { fnv1a64_facts.in_range };
 }
 
 impl ByteRule for Fnv1aRule64 {
@@ -186,13 +184,23 @@ impl ByteRule for Fnv1aRule64 {
         *state
     }
 
+    ghost is_fold = { recurrence_is_fold fnv1a64_step (2 ^ 64) };
+
+    ghost write_is_after = { λ s text. refl };
+}
+
+impl UndoRule for Fnv1aRule64 {
+    #[inline(always)]
+    #[tactic(auto, using(crate::specs::FnvLaws::fnv1a64_back, hash_rounds::proofs::XorLemmas::xored_64))]
+    fn unstep(state: &mut u64, byte: u8) {
+        *state = state.wrapping_mul(UNPRIME_64) ^ u64::from(byte);
+    }
+
     fn unanswer(hash: u64) -> Option<u64> {
         Some(hash)
     }
 
-    ghost is_fold = { recurrence_is_fold fnv1a64_step (2 ^ 64) };
-
-    ghost write_is_after = { λ s text. refl };
+    ghost facts = { fnv1a64_facts };
 
     ghost answer_injective = { λ s t ks kt same. same };
 }

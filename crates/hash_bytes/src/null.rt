@@ -9,8 +9,8 @@ ghost use Rattle.hash_laws.specs.Standing.{StandsAt};
 ghost use Rattle.hash_laws.proofs.ByteLemmas as bytewise;
 
 use hash_laws::laws::{Piecewise, Streamed};
+use hash_rules::{ByteHasher, ByteRule, StepRule};
 use std::hash::Hasher;
-use std::marker::Model;
 
 /// The hasher that answers 0 to every text (the crate hashers' own, the worst case for a table). The value written
 /// `NullHasher` is its default. `write` gives `h.new ≡ h.old`, and `finish` answers 0.
@@ -160,131 +160,67 @@ fn append_bytes(state: u64, bytes: &[u8]) -> u64
     }
 }
 
+/// The rule that keeps the last eight bytes. It loses what it lets go, so nothing takes a byte back.
+pub struct PassThroughRule;
+
+impl StepRule for PassThroughRule {
+    type State = u64;
+
+    ghost number = { λ s. s };
+
+    ghost bound = { 2 ^ 64 };
+
+    ghost start = { 0 };
+
+    ghost step = { passthrough_step };
+
+    fn start() -> u64 {
+        0
+    }
+
+    #[inline(always)]
+    fn fork(state: &u64) -> u64 {
+        *state
+    }
+
+    #[inline(always)]
+    fn step(state: &mut u64, byte: u8) {
+        *state = append_byte(*state, byte);
+    }
+
+    ghost start_in_range = { lit< tt };
+
+    ghost step_in_range = { λ s b known below. mod-lt (256 * s + b) (lit< tt) };
+}
+
+impl ByteRule for PassThroughRule {
+    ghost after = { passthrough };
+
+    ghost write = { passthrough };
+
+    ghost answer = { λ s. s };
+
+    #[inline(always)]
+    fn write(state: &mut u64, bytes: &[u8]) {
+        *state = append_bytes(*state, bytes);
+    }
+
+    #[inline(always)]
+    fn answer(state: &u64) -> u64 {
+        *state
+    }
+
+    ghost is_fold = { passthrough-fold };
+
+    ghost write_is_after = { λ s text. refl };
+}
+
 /// The hasher that keeps the last eight bytes (the crate hashers' own, for keys that are hashes already). From 0, a byte
 /// `b` takes the state `h` to `256 * h + b`, modulo 2^64; `finish` answers `h`. Cuts don't show.
 ///
 /// Contracts see the hasher as its state, a number below 2^64: `write` gives `h.new ≡ passthrough h.old bytes.now`. Of `a`
 /// the hash is 97.
-pub struct PassThroughHasher {
-    state: u64,
-}
-
-impl Model for PassThroughHasher {
-    ghost Value = { ℕ };
-
-    ghost view = { λ h. h.state };
-}
-
-impl Drop for PassThroughHasher {
-    fn drop(self) {
-        let Self { state: _ } = self;
-    }
-}
-
-impl Default for PassThroughHasher {
-    ghost is_default = { λ h. h ≡ 0 };
-
-    /// The hasher of no bytes.
-    fn default() -> PassThroughHasher {
-        PassThroughHasher { state: 0 }
-    }
-}
-
-impl Hasher for PassThroughHasher {
-    ghost write = { passthrough };
-
-    ghost finish = { λ h. h };
-
-    /// The state.
-    #[inline(always)]
-    fn finish(&self) -> u64
-        ensures value { result ≡ self.now }
-        ensures in_range { self.now < 2 ^ 64 }
-    {
-        self.state
-    }
-
-    /// Takes the bytes in, of which only the last eight are read.
-    #[inline(always)]
-    fn write(&mut self, bytes: &[u8])
-        ensures state { self.new ≡ passthrough self.old bytes.now }
-        ensures in_range_before { self.old < 2 ^ 64 }
-        ensures in_range_after { self.new < 2 ^ 64 }
-    {
-        self.state = append_bytes(self.state, bytes);
-    }
-}
-
-impl Piecewise for PassThroughHasher {
-    ghost State = { ℕ };
-
-    ghost state = { λ h. h };
-
-    ghost in_range = { λ s. s < 2 ^ 64 };
-
-    ghost fresh = { 0 };
-
-    ghost after = { passthrough };
-
-    ghost answer = { λ s. s };
-
-    ghost hash_of = { passthrough 0 };
-
-    ghost first = { 0 };
-
-    fn fresh() -> PassThroughHasher {
-        PassThroughHasher::default()
-    }
-
-    #[inline(always)]
-    fn feed(&mut self, piece: &[u8]) {
-        self.write(piece);
-    }
-
-    #[inline(always)]
-    fn answer(&self) -> u64 {
-        self.finish()
-    }
-
-    #[inline(always)]
-    fn fork(&self) -> PassThroughHasher {
-        PassThroughHasher { state: self.state }
-    }
-
-    ghost default_is_first = { λ h same. same };
-
-    ghost first_is_fresh = { refl };
-
-    ghost hash_of_is = { λ text. refl };
-
-    ghost write_feeds = { λ h piece. refl };
-
-    ghost finish_answers = { λ h. refl };
-
-    ghost fresh_in_range = { lit< tt };
-
-    ghost after_in_range = { λ s piece known bytes. passthrough-lt s piece };
-
-    ghost after_nothing = { passthrough-nil };
-}
-
-impl Streamed for PassThroughHasher {
-    ghost start = { 0 ∷ [] };
-
-    ghost stands_at = { StandsAt passthrough (2 ^ 64) };
-
-    ghost hash = { λ from text. passthrough (slice_index from 0) text };
-
-    ghost stands_at_start = { bytewise.stands_at_start passthrough_step (2 ^ 64) passthrough passthrough-fold 0 (lit< tt) };
-
-    ghost stands_after = { bytewise.stands_after passthrough_step (2 ^ 64) passthrough passthrough-fold (λ s b known below. mod-lt (256 * s + b) (lit< tt)) };
-
-    ghost after_joined = { λ s text more known one two. sym (passthrough-append s text more) };
-
-    ghost hash_from_start = { λ text bytes. refl };
-
-    ghost stands_answers = { bytewise.stands_state passthrough (2 ^ 64) };
-}
+pub type PassThroughHasher = ByteHasher<PassThroughRule>;
 
 /// The big-endian value of the last eight bytes, or of all where there are fewer.
 pub fn passthrough(bytes: &[u8]) -> u64

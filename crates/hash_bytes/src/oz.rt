@@ -12,7 +12,7 @@ ghost use Rattle.hash_bytes.specs.Oz.{djb2};
 ghost use Rattle.hash_bytes.specs.Counted.{sdbm_write, loselose_write};
 
 use hash_rounds::{Turns, lose8, sdbm4};
-use hash_rules::{ByteHasher, ByteRule, StepRule, in_eights};
+use hash_rules::{ByteHasher, ByteRule, StepRule, UndoRule, in_eights};
 use std::hash::Hasher;
 use std::marker::Model;
 use std::simd::prelude::*;
@@ -129,15 +129,9 @@ impl StepRule for Djb2Rule {
         *state = (*state << 5).wrapping_add(*state) ^ u32::from(byte);
     }
 
-    #[inline(always)]
-    #[tactic(auto, using(crate::specs::OzLaws::djb2_back))]
-    fn unstep(state: &mut u32, byte: u8) {
-        *state = (*state ^ u32::from(byte)).wrapping_mul(UNPRODUCT_33);
-    }
-
     ghost start_in_range = { lit< tt };
 
-    ghost facts = { djb2_facts };
+    ghost step_in_range = { djb2_facts.in_range };
 }
 
 impl ByteRule for Djb2Rule {
@@ -157,13 +151,23 @@ impl ByteRule for Djb2Rule {
         u64::from(*state)
     }
 
+    ghost is_fold = { recurrence_is_fold djb2_step (2 ^ 32) };
+
+    ghost write_is_after = { λ s text. refl };
+}
+
+impl UndoRule for Djb2Rule {
+    #[inline(always)]
+    #[tactic(auto, using(crate::specs::OzLaws::djb2_back))]
+    fn unstep(state: &mut u32, byte: u8) {
+        *state = (*state ^ u32::from(byte)).wrapping_mul(UNPRODUCT_33);
+    }
+
     fn unanswer(hash: u64) -> Option<u32> {
         u32::try_from(hash).ok()
     }
 
-    ghost is_fold = { recurrence_is_fold djb2_step (2 ^ 32) };
-
-    ghost write_is_after = { λ s text. refl };
+    ghost facts = { djb2_facts };
 
     ghost answer_injective = { λ s t ks kt same. same };
 }
@@ -239,14 +243,9 @@ impl StepRule for SdbmRule {
         state.state = sdbm_step(state.state, byte);
     }
 
-    #[inline(always)]
-    fn unstep(state: &mut SdbmState, byte: u8) {
-        state.state = sdbm_unstep(state.state, byte);
-    }
-
     ghost start_in_range = { lit< tt };
 
-    ghost facts = { sdbm_facts };
+    ghost step_in_range = { sdbm_facts.in_range };
 }
 
 impl ByteRule for SdbmRule {
@@ -281,6 +280,17 @@ impl ByteRule for SdbmRule {
         u64::from(state.state)
     }
 
+    ghost is_fold = { sdbm-fold };
+
+    ghost write_is_after = { λ s text. refl };
+}
+
+impl UndoRule for SdbmRule {
+    #[inline(always)]
+    fn unstep(state: &mut SdbmState, byte: u8) {
+        state.state = sdbm_unstep(state.state, byte);
+    }
+
     fn unanswer(hash: u64) -> Option<SdbmState> {
         let state = u32::try_from(hash).ok()?;
         Some(SdbmState {
@@ -289,9 +299,7 @@ impl ByteRule for SdbmRule {
         })
     }
 
-    ghost is_fold = { sdbm-fold };
-
-    ghost write_is_after = { λ s text. refl };
+    ghost facts = { sdbm_facts };
 
     ghost answer_injective = { λ s t ks kt same. same };
 }
@@ -369,14 +377,9 @@ impl StepRule for LoseLoseRule {
         state.state = loselose_step(state.state, byte);
     }
 
-    #[inline(always)]
-    fn unstep(state: &mut LoseLoseState, byte: u8) {
-        state.state = loselose_unstep(state.state, byte);
-    }
-
     ghost start_in_range = { lit< tt };
 
-    ghost facts = { loselose_facts };
+    ghost step_in_range = { loselose_facts.in_range };
 }
 
 impl ByteRule for LoseLoseRule {
@@ -411,6 +414,17 @@ impl ByteRule for LoseLoseRule {
         state.state
     }
 
+    ghost is_fold = { loselose-fold };
+
+    ghost write_is_after = { λ s text. refl };
+}
+
+impl UndoRule for LoseLoseRule {
+    #[inline(always)]
+    fn unstep(state: &mut LoseLoseState, byte: u8) {
+        state.state = loselose_unstep(state.state, byte);
+    }
+
     fn unanswer(hash: u64) -> Option<LoseLoseState> {
         Some(LoseLoseState {
             state: hash,
@@ -418,9 +432,7 @@ impl ByteRule for LoseLoseRule {
         })
     }
 
-    ghost is_fold = { loselose-fold };
-
-    ghost write_is_after = { λ s text. refl };
+    ghost facts = { loselose_facts };
 
     ghost answer_injective = { λ s t ks kt same. same };
 }

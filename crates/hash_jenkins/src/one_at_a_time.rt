@@ -8,7 +8,7 @@ ghost use Rattle.hash_laws.proofs.RecurrenceLemmas.{recurrence_is_fold};
 ghost use Rattle.hash_jenkins.specs.Oaat.{oaat};
 
 use hash_rounds::{unxorshift, xorshift};
-use hash_rules::{ByteHasher, ByteRule, StepRule, alone_or_in_eights};
+use hash_rules::{ByteHasher, ByteRule, StepRule, UndoRule, alone_or_in_eights};
 use std::hash::Hasher;
 
 /// What undoes a product by 1025.
@@ -59,17 +59,9 @@ impl StepRule for OaatRule {
         *state = xorshift(state.wrapping_add(u64::from(byte)).wrapping_mul(1025), 6);
     }
 
-    #[inline(always)]
-    #[tactic(auto, using(crate::specs::OaatLaws::oaat_back))]
-    fn unstep(state: &mut u64, byte: u8) {
-        *state = unxorshift(*state, 6)
-            .wrapping_mul(UN_1025)
-            .wrapping_sub(u64::from(byte));
-    }
-
     ghost start_in_range = { lit< tt };
 
-    ghost facts = { oaat_facts };
+    ghost step_in_range = { oaat_facts.in_range };
 }
 
 impl ByteRule for OaatRule {
@@ -89,14 +81,26 @@ impl ByteRule for OaatRule {
         xorshift(state.wrapping_mul(9), 11).wrapping_mul(32769)
     }
 
+    ghost is_fold = { recurrence_is_fold oaat_step (2 ^ 64) };
+
+    ghost write_is_after = { λ s text. refl };
+}
+
+impl UndoRule for OaatRule {
+    #[inline(always)]
+    #[tactic(auto, using(crate::specs::OaatLaws::oaat_back))]
+    fn unstep(state: &mut u64, byte: u8) {
+        *state = unxorshift(*state, 6)
+            .wrapping_mul(UN_1025)
+            .wrapping_sub(u64::from(byte));
+    }
+
     #[tactic(auto, using(crate::specs::OaatLaws::oaat_unfinish_back))]
     fn unanswer(hash: u64) -> Option<u64> {
         Some(unxorshift(hash.wrapping_mul(UN_32769), 11).wrapping_mul(UN_9))
     }
 
-    ghost is_fold = { recurrence_is_fold oaat_step (2 ^ 64) };
-
-    ghost write_is_after = { λ s text. refl };
+    ghost facts = { oaat_facts };
 
     ghost answer_injective = { oaat_finish_same };
 }

@@ -4,7 +4,7 @@ ghost use Rattle.std.proofs.Common.{ap};
 ghost use Rattle.hash_laws.specs.Standing.{StandsAt};
 ghost use Rattle.hash_laws.proofs.ByteLemmas as bytewise;
 
-use crate::byte_rule::ByteRule;
+use crate::byte_rule::{ByteRule, UndoRule};
 use hash_laws::laws::{ByteStep, Piecewise, Streamed, Undo};
 use std::hash::Hasher;
 use std::marker::Model;
@@ -115,7 +115,7 @@ impl<R: ByteRule> Piecewise for ByteHasher<R> {
 
     ghost fresh_in_range = { R.start_in_range };
 
-    ghost after_in_range = { bytewise.after_below R.step R.bound R.after R.is_fold R.facts.in_range };
+    ghost after_in_range = { bytewise.after_below R.step R.bound R.after R.is_fold R.step_in_range };
 
     ghost after_nothing = { λ s known. R.is_fold s [] known };
 }
@@ -131,9 +131,9 @@ impl<R: ByteRule> Streamed for ByteHasher<R> {
         (R.number R.start) R.start_in_range (R.number h) };
 
     ghost stands_after = { λ h k. bytewise.stands_after R.step R.bound R.after R.is_fold
-        R.facts.in_range (R.number h) (R.number k) };
+        R.step_in_range (R.number h) (R.number k) };
 
-    ghost after_joined = { bytewise.after_joined R.step R.bound R.after R.is_fold R.facts.in_range };
+    ghost after_joined = { bytewise.after_joined R.step R.bound R.after R.is_fold R.step_in_range };
 
     ghost hash_from_start = { λ text bytes. refl };
 
@@ -141,7 +141,7 @@ impl<R: ByteRule> Streamed for ByteHasher<R> {
         ap R.answer (bytewise.stands_state R.after R.bound (R.number h) from text stood) };
 }
 
-impl<R: ByteRule> Undo for ByteHasher<R> {
+impl<R: UndoRule> Undo for ByteHasher<R> {
     ghost is_answer = { λ answer. answer < R.bound };
 
     fn unwrite(&mut self, piece: &[u8]) {
@@ -161,7 +161,7 @@ impl<R: ByteRule> Undo for ByteHasher<R> {
     ghost answer_injective = { R.answer_injective };
 }
 
-impl<R: ByteRule> ByteStep for ByteHasher<R> {
+impl<R: UndoRule> ByteStep for ByteHasher<R> {
     ghost own_start = { λ h. R.number h ∷ [] };
 
     #[inline(always)]

@@ -9,7 +9,7 @@ mod word_hasher;
 mod word_rule;
 
 pub use byte_hasher::ByteHasher;
-pub use byte_rule::{ByteRule, StepRule};
+pub use byte_rule::{ByteRule, StepRule, UndoRule};
 pub use texts::{alone_or_in_eights, in_eights};
 pub use word_hasher::WordHasher;
 pub use word_rule::WordRule;

@@ -5,7 +5,7 @@ ghost use Rattle.hashers.proofs.RecurrenceLemmas.{recurrence_is_fold};
 ghost use Rattle.hash_vectors.specs.Times31.{times31_step, times31};
 ghost use Rattle.hash_vectors.specs.Times31Laws.{times31_facts};
 
-use hashers::rules::{ByteHasher, ByteRule, StepRule, in_eights};
+use hashers::rules::{ByteHasher, ByteRule, StepRule, UndoRule, in_eights};
 
 /// What undoes a product by 31.
 const UNPRODUCT_31: u32 = 3186588639;
@@ -36,15 +36,9 @@ impl StepRule for Times31Rule {
         *state = state.wrapping_mul(31).wrapping_add(u32::from(byte));
     }
 
-    fn unstep(state: &mut u32, byte: u8) {
-        *state = state
-            .wrapping_sub(u32::from(byte))
-            .wrapping_mul(UNPRODUCT_31);
-    }
-
     ghost start_in_range = { lit< tt };
 
-    ghost facts = { times31_facts };
+    ghost step_in_range = { times31_facts.in_range };
 }
 
 impl ByteRule for Times31Rule {
@@ -62,13 +56,23 @@ impl ByteRule for Times31Rule {
         u64::from(*state)
     }
 
+    ghost is_fold = { recurrence_is_fold times31_step (2 ^ 32) };
+
+    ghost write_is_after = { λ s text. refl };
+}
+
+impl UndoRule for Times31Rule {
+    fn unstep(state: &mut u32, byte: u8) {
+        *state = state
+            .wrapping_sub(u32::from(byte))
+            .wrapping_mul(UNPRODUCT_31);
+    }
+
     fn unanswer(hash: u64) -> Option<u32> {
         u32::try_from(hash).ok()
     }
 
-    ghost is_fold = { recurrence_is_fold times31_step (2 ^ 32) };
-
-    ghost write_is_after = { λ s text. refl };
+    ghost facts = { times31_facts };
 
     ghost answer_injective = { λ s t ks kt same. same };
 }

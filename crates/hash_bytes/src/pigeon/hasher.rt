@@ -9,7 +9,7 @@ ghost use Rattle.hash_bytes.specs.Pigeon.{bricolage};
 
 use super::table::SHUFFLED_PRODUCTS;
 use hash_rounds::swap_halves;
-use hash_rules::{ByteHasher, ByteRule, StepRule, in_eights};
+use hash_rules::{ByteHasher, ByteRule, StepRule, UndoRule, in_eights};
 
 /// The shuffled product of a byte.
 #[inline(always)]
@@ -47,15 +47,9 @@ impl StepRule for BricolageRule {
         *state = swap_halves(state.wrapping_add(shuffled_product(byte)));
     }
 
-    #[inline(always)]
-    #[tactic(auto, using(crate::specs::PigeonLaws::bricolage_back))]
-    fn unstep(state: &mut u64, byte: u8) {
-        *state = swap_halves(*state).wrapping_sub(shuffled_product(byte));
-    }
-
     ghost start_in_range = { lit< tt };
 
-    ghost facts = { bricolage_facts };
+    ghost step_in_range = { bricolage_facts.in_range };
 }
 
 impl ByteRule for BricolageRule {
@@ -75,13 +69,23 @@ impl ByteRule for BricolageRule {
         *state
     }
 
+    ghost is_fold = { recurrence_is_fold bricolage_step (2 ^ 64) };
+
+    ghost write_is_after = { λ s text. refl };
+}
+
+impl UndoRule for BricolageRule {
+    #[inline(always)]
+    #[tactic(auto, using(crate::specs::PigeonLaws::bricolage_back))]
+    fn unstep(state: &mut u64, byte: u8) {
+        *state = swap_halves(*state).wrapping_sub(shuffled_product(byte));
+    }
+
     fn unanswer(hash: u64) -> Option<u64> {
         Some(hash)
     }
 
-    ghost is_fold = { recurrence_is_fold bricolage_step (2 ^ 64) };
-
-    ghost write_is_after = { λ s text. refl };
+    ghost facts = { bricolage_facts };
 
     ghost answer_injective = { λ s t ks kt same. same };
 }

@@ -21,6 +21,6 @@ returns-clause-back g c =
 
 pub returns-clause-undone : goal.returns-clause-undone
 returns-clause-undone g c =
-    let facts = g.met.R.StepRule.facts in
+    let facts = g.met.R.UndoRule.facts in
     undone g.R.StepRule.step g.R.StepRule.bound g.R.ByteRule.after g.met.R.ByteRule.is_fold facts.in_range facts.state_injective
     _ _ _ c.loop-byte.invariant.in_range (IsText-from_slice _ c.type_inv.piece) (returns-clause-back g c)
