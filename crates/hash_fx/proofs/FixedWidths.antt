@@ -6,26 +6,28 @@ use Rattle.std.specs.Hash.{le_bytes}
 use Rattle.hash_rounds.specs.Words.{le}
 use Rattle.hash_rounds.specs.Blocks.{pieces}
 use Rattle.hash_rounds.proofs.WordLemmas.{from_le_bytes-4, from_le_bytes-8, le-4}
+use Rattle.hash_laws.specs.Recurrence.{recurrence}
 use Rattle.hash_laws.proofs.RecurrenceLemmas.{recurrence-fold}
 use Rattle.hash_fx.specs.Fx.{fx32, fx32_step, fx64, fx64_step, words32, words64}
 
+-- one or two words, by any step
+module _ (step : ℕ → ℕ → ℕ) (h v : ℕ) where
+  pub of_byte : recurrence step h (v ∷ []) ≡ step h v
+  of_byte = recurrence-fold step h (v ∷ [])
+
+  pub of_two : v < 2 ^ 16 → recurrence step h (le_bytes 2 v) ≡ step (step h (v % 2 ^ 8)) (v / 2 ^ 8)
+  unfolding le_bytes
+  of_two below =
+      let high : v / 2 ^ 8 % 2 ^ 8 ≡ v / 2 ^ 8 = omega arith in
+      recurrence-fold step h (le_bytes 2 v) ∙ ap (step (step h (v % 2 ^ 8))) high
+
+  pub of_four : v < 2 ^ 32 → recurrence step h (le (le_bytes 4 v) ∷ []) ≡ step h v
+  unfolding le_bytes
+  of_four below =
+      let value : le (le_bytes 4 v) ≡ v = sym (from_le_bytes-4 (le_bytes 4 v) refl) ∙ from_le_bytes-to_le_bytes_4 v below in
+      recurrence-fold step h (le (le_bytes 4 v) ∷ []) ∙ ap (step h) value
+
 -- at 64 bits
-pub fx64_of_byte : (h v : ℕ) → fx64 h (words64 (v ∷ [])) ≡ fx64_step h v
-unfolding pieces
-fx64_of_byte h v = recurrence-fold fx64_step h (v ∷ [])
-
-pub fx64_of_two : (h v : ℕ) → v < 2 ^ 16 → fx64 h (words64 (le_bytes 2 v)) ≡ fx64_step (fx64_step h (v % 2 ^ 8)) (v / 2 ^ 8)
-unfolding pieces le_bytes
-fx64_of_two h v below =
-    let high : v / 2 ^ 8 % 2 ^ 8 ≡ v / 2 ^ 8 = omega arith in
-    recurrence-fold fx64_step h (le_bytes 2 v) ∙ ap (fx64_step (fx64_step h (v % 2 ^ 8))) high
-
-pub fx64_of_four : (h v : ℕ) → v < 2 ^ 32 → fx64 h (words64 (le_bytes 4 v)) ≡ fx64_step h v
-unfolding pieces le_bytes
-fx64_of_four h v below =
-    let value : le (le_bytes 4 v) ≡ v = sym (from_le_bytes-4 (le_bytes 4 v) refl) ∙ from_le_bytes-to_le_bytes_4 v below in
-    recurrence-fold fx64_step h (le (le_bytes 4 v) ∷ []) ∙ ap (fx64_step h) value
-
 pub fx64_of_eight : (h v : ℕ) → v < 2 ^ 64 → fx64 h (words64 (le_bytes 8 v)) ≡ fx64_step h v
 unfolding pieces le_bytes
 fx64_of_eight h v below =
@@ -33,21 +35,9 @@ fx64_of_eight h v below =
     recurrence-fold fx64_step h (le (le_bytes 8 v) ∷ []) ∙ ap (fx64_step h) value
 
 -- at 32 bits
-pub fx32_of_byte : (h v : ℕ) → fx32 h (words32 (v ∷ [])) ≡ fx32_step h v
-unfolding pieces
-fx32_of_byte h v = recurrence-fold fx32_step h (v ∷ [])
-
-pub fx32_of_two : (h v : ℕ) → v < 2 ^ 16 → fx32 h (words32 (le_bytes 2 v)) ≡ fx32_step (fx32_step h (v % 2 ^ 8)) (v / 2 ^ 8)
-unfolding pieces le_bytes
-fx32_of_two h v below =
-    let high : v / 2 ^ 8 % 2 ^ 8 ≡ v / 2 ^ 8 = omega arith in
-    recurrence-fold fx32_step h (le_bytes 2 v) ∙ ap (fx32_step (fx32_step h (v % 2 ^ 8))) high
-
 pub fx32_of_four : (h v : ℕ) → v < 2 ^ 32 → fx32 h (words32 (le_bytes 4 v)) ≡ fx32_step h v
 unfolding pieces le_bytes
-fx32_of_four h v below =
-    let value : le (le_bytes 4 v) ≡ v = sym (from_le_bytes-4 (le_bytes 4 v) refl) ∙ from_le_bytes-to_le_bytes_4 v below in
-    recurrence-fold fx32_step h (le (le_bytes 4 v) ∷ []) ∙ ap (fx32_step h) value
+fx32_of_four = of_four fx32_step
 
 pub fx32_of_eight : (h v : ℕ) → v < 2 ^ 64 → fx32 h (words32 (le_bytes 8 v)) ≡ fx32_step (fx32_step h (v % 2 ^ 32)) (v / 2 ^ 32)
 unfolding pieces le_bytes

@@ -10,8 +10,7 @@ ghost use Rattle.hash_laws.specs.Text.{IsText, joined, texts};
 ghost use Rattle.hash_fx.specs.Fx.{fx32, fx64, words32, words64};
 ghost use Rattle.hash_fx.specs.Pieces.{AreWhole, DifferByOneByte, fx32_pieces, fx64_pieces};
 
-use crate::fx32::FxHasher32;
-use crate::fx64::{Fx64Rule, FxHasher64};
+use crate::fx::{Fx64Rule, FxHasher32, FxHasher64};
 use hash_laws::window::differ_at_one_place;
 use hash_rules::WordHasher;
 use std::hash::Hasher;

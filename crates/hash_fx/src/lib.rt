@@ -2,13 +2,15 @@
 //! the state one step. The split and the key of 32 bits are this project's own choice.
 #![tactic(auto)]
 
-mod fx32;
-mod fx64;
+mod fx;
 pub mod laws;
 mod maps;
-mod words32;
-mod words64;
+mod word;
+mod words;
 
-pub use fx32::{Fx32Rule, FxHasher32, fxhash32};
-pub use fx64::{Fx64Rule, FxHasher, FxHasher64, MachineWord, fxhash, fxhash64};
+pub use fx::{
+    Fx32Rule, Fx64Rule, FxHasher, FxHasher32, FxHasher64, FxRule, MachineWord, fxhash, fxhash32,
+    fxhash64,
+};
 pub use maps::{FxBuildHasher, FxHashMap, FxHashSet};
+pub use word::{FxWord, Reads, Splits};

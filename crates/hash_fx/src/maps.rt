@@ -1,6 +1,6 @@
 //! std's maps and sets by the fx hash, under the names that users know from the crate fxhash.
 
-use crate::fx64::FxHasher;
+use crate::fx::FxHasher;
 use hash_laws::build::BuildFresh;
 use std::collections::{HashMap, HashSet};
 

@@ -1,0 +1,7 @@
+use Rattle.std.proofs.Common.{◌≡◌, fold, take}
+use Rattle.hash_fx.proofs.words.bytes_in.Given as goal
+
+abbrev pub invariant-loop-byte : goal.invariant-loop-byte
+invariant-loop-byte g l =
+    let word = g.W.FxWord in
+    word.number l.h ≡ fold word.step (word.number l.initial.h) (take l.byte-index l.bytes)

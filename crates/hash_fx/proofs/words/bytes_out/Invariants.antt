@@ -1,0 +1,10 @@
+use Rattle.std.proofs.Common.{◌^◌, fold}
+use Rattle.std.specs.Iterator.Adapters.{rev_source}
+use Rattle.std.specs.Slice.Iter.{iter_rest}
+use Rattle.hash_laws.proofs.ByteLemmas.{Undoing}
+use Rattle.hash_fx.proofs.words.bytes_out.Given as goal
+
+abbrev pub invariant-loop-byte : goal.invariant-loop-byte
+invariant-loop-byte g l =
+    let word = g.W.FxWord in
+    Undoing (fold word.step) (2 ^ word.bits) (word.number l.initial.h) (word.number l.h) (iter_rest (rev_source l.byte-iterator)) l.fn.bytes

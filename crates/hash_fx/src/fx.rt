@@ -1,0 +1,139 @@
+//! The hashers of fx.
+ghost use Rattle.std.specs.Prelude.{◌≡◌, ◌^◌, ◌<◌};
+ghost use Rattle.std.proofs.Common.{subst, sym};
+ghost use Rattle.std.proofs.lemmas.Nat.{pow_pos};
+ghost use Rattle.hash_laws.specs.Recurrence.{recurrence};
+ghost use Rattle.hash_laws.proofs.RecurrenceLemmas.{recurrence-fold};
+ghost use Rattle.hash_fx.specs.Fx.{fx32, fx64, words32, words64};
+
+use crate::word::{FxWord, Reads, Splits};
+use crate::words::{words_in, words_out};
+use hash_rules::{WordHasher, WordRule};
+use std::hash::Hasher;
+use std::marker::PhantomData;
+
+/// The rule of fx by words of N bytes.
+pub struct FxRule<W, const N: usize> {
+    word: PhantomData<W>,
+}
+
+/// The rule of fx at 32 bits.
+pub type Fx32Rule = FxRule<u32, 4>;
+
+/// The rule of fx at 64 bits.
+pub type Fx64Rule = FxRule<u64, 8>;
+
+impl<W: Splits<N> + Reads<N> + Reads<4>, const N: usize> WordRule for FxRule<W, N> {
+    type Word = W;
+
+    ghost number = { W.number };
+
+    ghost bound = { 2 ^ W.bits };
+
+    ghost start = { W.word_of 0 };
+
+    ghost step = { W.step };
+
+    ghost words = { W.words };
+
+    ghost after = { λ s piece. recurrence W.step s (W.words piece) };
+
+    ghost write = { λ s piece. W.word_of (recurrence W.step (W.number s) (W.words piece)) };
+
+    fn start() -> W {
+        W::byte(0)
+    }
+
+    #[inline(always)]
+    fn write(state: W, piece: &[u8]) -> W {
+        words_in(state, piece).known()
+    }
+
+    #[inline(always)]
+    fn unwrite(state: W, piece: &[u8]) -> W {
+        words_out(state, piece).known()
+    }
+
+    #[inline(always)]
+    fn unstep(state: W, word: W) -> W {
+        state.word_out(word.known())
+    }
+
+    #[inline(always)]
+    fn answer(state: W) -> u64 {
+        state.widened()
+    }
+
+    fn unanswer(hash: u64) -> Option<W> {
+        W::narrowed(hash)
+    }
+
+    ghost start_in_range = { subst (λ n. n < 2 ^ W.bits) (sym (W.number_of_word 0)) (pow_pos W.bits) };
+
+    ghost facts = { W.facts };
+
+    ghost words_in_range = { W.words_in_range };
+
+    ghost no_words = { W.no_words };
+
+    ghost is_fold = { λ s piece. recurrence-fold W.step s (W.words piece) };
+
+    ghost write_is_after = { λ s piece. W.number_of_word _ };
+}
+
+/// fx at 32 bits. From 0, a word `v` takes the state `h` to `(rotl(h, 5) ^ v) * 0x27220a95`, modulo 2^32; this key is the
+/// low half of the one at 64 bits. `finish` answers `h`, widened.
+///
+/// Each write is split into little-endian words by itself: words of four bytes, then single bytes. So the cuts between
+/// writes may show. Each write can be undone, by `unwrite` or word by word.
+///
+/// Contracts see the hasher as its state, a number below 2^32: `write` gives `h.new ≡ fx32 h.old (words32 piece.now)`, and
+/// `unwrite_word(v)` gives `fx32_step h.new v ≡ h.old`. Of `a` the hash is 3555066485.
+pub type FxHasher32 = WordHasher<Fx32Rule>;
+
+/// fx at 64 bits, which came from Firefox's hash tables to those of rustc (the crate fxhash has its formula and key).
+///
+/// From 0, a word `v` takes the state `h` to `(rotl(h, 5) ^ v) * 0x517cc1b727220a95`, modulo 2^64; `finish` answers `h`. Each
+/// write is split into little-endian words by itself: words of eight bytes, then one of four bytes if at least four are
+/// left, then single bytes. So the cuts between writes may show. Each write can be undone, by `unwrite` or word by word.
+///
+/// Contracts see the hasher as its state, a number below 2^64: `write` gives `h.new ≡ fx64 h.old (words64 piece.now)`, and
+/// `unwrite_word(v)` gives `fx64_step h.new v ≡ h.old`. Of `a` the hash is 16160435425421689461.
+pub type FxHasher64 = WordHasher<Fx64Rule>;
+
+/// The name of fx at the width of a machine word.
+pub struct MachineWord;
+
+/// fx at the width of a machine word, which here is always 64 bits: a type of its own that splits, hashes and answers as
+/// [`FxHasher64`] does, with the same contracts. Of `a` the hash is 16160435425421689461.
+pub type FxHasher = WordHasher<Fx64Rule, MachineWord>;
+
+/// The answer of a default `FxHasher32` to the bytes as one write, below 2^32.
+#[inline(always)]
+pub fn fxhash32(bytes: &[u8]) -> u64
+    ensures { result ≡ fx32 0 (words32 bytes.now) }
+{
+    let mut hasher = FxHasher32::default();
+    hasher.write(bytes);
+    hasher.finish()
+}
+
+/// The answer of a default `FxHasher64` to the bytes as one write.
+#[inline(always)]
+pub fn fxhash64(bytes: &[u8]) -> u64
+    ensures { result ≡ fx64 0 (words64 bytes.now) }
+{
+    let mut hasher = FxHasher64::default();
+    hasher.write(bytes);
+    hasher.finish()
+}
+
+/// The answer of a default `FxHasher` to the bytes as one write.
+#[inline(always)]
+pub fn fxhash(bytes: &[u8]) -> u64
+    ensures { result ≡ fx64 0 (words64 bytes.now) }
+{
+    let mut hasher = FxHasher::default();
+    hasher.write(bytes);
+    hasher.finish()
+}

@@ -1,0 +1,229 @@
+//! A word of fx, and what of it hangs on its width.
+ghost use Rattle.std.specs.Prelude.{◌≡◌, ◌<◌, ◌^◌, ◌++◌, ◌↔◌, ℕ, List, [], All, map, refl, IsSome, IfSome};
+ghost use Rattle.std.proofs.Common.{lit<};
+ghost use Rattle.hash_rounds.specs.Words.{le};
+ghost use Rattle.hash_rounds.specs.StepFacts.{StepFacts};
+ghost use Rattle.hash_laws.specs.Text.{IsText};
+ghost use Rattle.hash_fx.specs.Fx.{fx32_step, fx64_step, words32, words64};
+ghost use Rattle.hash_fx.specs.FxLaws.{words32-fit, words32-nil, words64-fit, words64-nil};
+ghost use Rattle.hash_fx.specs.FxStepLaws.{fx32_facts, fx64_facts};
+
+use hash_rounds::{le_four, le64, rotl32, rotl64};
+
+/// A word of fx: a state, or what takes a state one step.
+pub trait FxWord: Copy + Drop {
+    /// The number that a word is.
+    ghost number: { Self → ℕ };
+
+    /// The word that a number is.
+    ghost word_of: { ℕ → Self };
+
+    /// The numbers have so many bits.
+    ghost bits: { ℕ };
+
+    /// The number after one word.
+    ghost step: { ℕ → ℕ → ℕ };
+
+    /// The word itself, of which generic code learns here that it is in range.
+    fn known(self) -> Self
+        ensures same { result ≡ self }
+        ensures in_range { number self < 2 ^ bits };
+
+    /// One word in: the state turned by five bits, the word xored in, times the key of the width.
+    fn word_in(self, word: Self) -> Self
+        ensures { number result ≡ step (number self) (number word) };
+
+    /// One word out again: times what undoes the key, the word xored out, turned back.
+    fn word_out(self, word: Self) -> Self
+        ensures back { step (number result) (number word) ≡ number self }
+        ensures in_range { number result < 2 ^ bits };
+
+    /// A byte as a word.
+    fn byte(byte: u8) -> Self
+        ensures { number result ≡ byte };
+
+    /// The word, widened.
+    fn widened(self) -> u64
+        ensures { result ≡ number self };
+
+    /// The word that is so when widened, or `None` exactly where there is none.
+    fn narrowed(hash: u64) -> Option<Self>
+        ensures exact { IsSome result ↔ (hash < 2 ^ bits) }
+        ensures some { IfSome result (λ s. number s ≡ hash) };
+
+    /// A word is that of its number.
+    ghost word_of_number: { (s : Self) → word_of (number s) ≡ s };
+
+    /// A number is that of its word.
+    ghost number_of_word: { (n : ℕ) → number (word_of n) ≡ n };
+
+    /// The step stays in range and is injective, in the state and in the word.
+    ghost facts: { StepFacts step (2 ^ bits) (2 ^ bits) };
+}
+
+/// A word that N little-endian bytes are.
+pub trait Reads<const N: usize>: FxWord {
+    /// N bytes as a word.
+    fn read(bytes: &[u8; N]) -> Self
+        ensures { Self.number result ≡ le bytes.now };
+}
+
+/// A word of N bytes, and how a piece is split into words.
+pub trait Splits<const N: usize>: FxWord {
+    /// The words of a piece.
+    ghost words: { List ℕ → List ℕ };
+
+    /// The words of more than four bytes, and what is left.
+    fn split(piece: &[u8]) -> (&[[u8; N]], &[u8])
+        ensures { words piece.now ≡ map le result.0.now ++ words32 result.1.now };
+
+    /// N is a size in memory.
+    ghost size: { N < 2 ^ 63 };
+
+    /// The words of a piece are in range.
+    ghost words_in_range: { (piece : List ℕ) → IsText piece → All (λ v. v < 2 ^ Self.bits) (words piece) };
+
+    /// No bytes are no words.
+    ghost no_words: { words [] ≡ [] };
+}
+
+impl FxWord for u32 {
+    ghost number = { λ s. s };
+
+    ghost word_of = { λ n. n };
+
+    ghost bits = { 32 };
+
+    ghost step = { fx32_step };
+
+    #[inline(always)]
+    fn known(self) -> u32 {
+        self
+    }
+
+    #[inline(always)]
+    fn word_in(self, word: u32) -> u32 {
+        (rotl32(self, 5) ^ word).wrapping_mul(0x27220a95)
+    }
+
+    #[inline(always)]
+    fn word_out(self, word: u32) -> u32 {
+        rotl32(self.wrapping_mul(0x780970bd) ^ word, 27)
+    }
+
+    #[inline(always)]
+    fn byte(byte: u8) -> u32 {
+        u32::from(byte)
+    }
+
+    #[inline(always)]
+    fn widened(self) -> u64 {
+        u64::from(self)
+    }
+
+    fn narrowed(hash: u64) -> Option<u32> {
+        u32::try_from(hash).ok()
+    }
+
+    ghost word_of_number = { λ s. refl };
+
+    ghost number_of_word = { λ n. refl };
+
+    ghost facts = { fx32_facts };
+}
+
+impl FxWord for u64 {
+    ghost number = { λ s. s };
+
+    ghost word_of = { λ n. n };
+
+    ghost bits = { 64 };
+
+    ghost step = { fx64_step };
+
+    #[inline(always)]
+    fn known(self) -> u64 {
+        self
+    }
+
+    #[inline(always)]
+    fn word_in(self, word: u64) -> u64 {
+        (rotl64(self, 5) ^ word).wrapping_mul(0x517cc1b727220a95)
+    }
+
+    #[inline(always)]
+    fn word_out(self, word: u64) -> u64 {
+        rotl64(self.wrapping_mul(0x2040003d780970bd) ^ word, 59)
+    }
+
+    #[inline(always)]
+    fn byte(byte: u8) -> u64 {
+        u64::from(byte)
+    }
+
+    #[inline(always)]
+    fn widened(self) -> u64 {
+        self
+    }
+
+    fn narrowed(hash: u64) -> Option<u64> {
+        Some(hash)
+    }
+
+    ghost word_of_number = { λ s. refl };
+
+    ghost number_of_word = { λ n. refl };
+
+    ghost facts = { fx64_facts };
+}
+
+impl Reads<4> for u32 {
+    #[inline(always)]
+    fn read(bytes: &[u8; 4]) -> u32 {
+        le_four(bytes)
+    }
+}
+
+impl Reads<4> for u64 {
+    #[inline(always)]
+    fn read(bytes: &[u8; 4]) -> u64 {
+        u64::from(le_four(bytes))
+    }
+}
+
+impl Reads<8> for u64 {
+    #[inline(always)]
+    fn read(bytes: &[u8; 8]) -> u64 {
+        le64(bytes)
+    }
+}
+
+impl Splits<4> for u32 {
+    ghost words = { words32 };
+
+    #[inline(always)]
+    fn split(piece: &[u8]) -> (&[[u8; 4]], &[u8]) {
+        (&[], piece)
+    }
+
+    ghost size = { lit< tt };
+
+    ghost words_in_range = { words32-fit };
+
+    ghost no_words = { words32-nil };
+}
+
+impl Splits<8> for u64 {
+    ghost words = { words64 };
+
+    #[inline(always)]
+    fn split(piece: &[u8]) -> (&[[u8; 8]], &[u8]) {
+        piece.as_chunks::<8>()
+    }
+
+    ghost size = { lit< tt };
+
+    ghost words_in_range = { words64-fit };
+
+    ghost no_words = { words64-nil };
+}
