@@ -1,28 +1,15 @@
 -- Pieces that are one byte apart have words that are one word apart.
-use Rattle.std.proofs.Common.{◌≡◌, ℕ, zero, suc, ◌+◌, ◌*◌, ◌/◌, ◌<◌, List, [], ◌∷◌, ◌++◌, length, take, drop, map, arith, refl, sym, ap, ◌∙◌, inl, inr, subst, min}
-use Rattle.std.proofs.Math.Path.{ap₂}
+use Rattle.std.proofs.Common.{◌≡◌, ℕ, zero, suc, ◌+◌, ◌*◌, ◌/◌, List, ◌∷◌, ◌++◌, length, take, drop, map, arith, refl, sym, ap, ◌∙◌, inl, inr, subst, min}
 use Rattle.std.proofs.lemmas.List.{drop-drop, length-take, length-drop, take-append-drop}
-use Rattle.std.proofs.lemmas.List.Elements.{All-head, All-tail, All-take, All-drop}
+use Rattle.std.proofs.lemmas.List.Elements.{All-take, All-drop}
 use Rattle.std.specs.Simd.{first_chunks}
 use Rattle.hash_rounds.specs.Words.{le}
 use Rattle.hash_rounds.specs.Blocks.{pieces}
+use Rattle.hash_rounds.proofs.PieceLemmas.{le-same}
 use Rattle.hash_laws.specs.Text.{IsText}
 use Rattle.hash_laws.proofs.TextLemmas.{IsByte}
 use Rattle.hash_fx.specs.Fx.{words32, words64}
 use Rattle.hash_fx.proofs.OneApart.{OneApart, OneApart-split, OneApart-itself}
-
--- the bytes of a word are known by its value
-le-same : (x y : List ℕ) → IsText x → IsText y → length x ≡ length y → le x ≡ le y → x ≡ y
-unfolding le
-le-same [] [] xs ys len same = refl
-le-same [] (b ∷ y) xs ys len same = absurd (omega (arith, len))
-le-same (a ∷ x) [] xs ys len same = absurd (omega (arith, len))
-le-same (a ∷ x) (b ∷ y) xs ys len same =
-    let first : a < 256 = All-head IsByte a x xs in
-    let second : b < 256 = All-head IsByte b y ys in
-    let heads : a ≡ b = omega (arith, same) in
-    let values : le x ≡ le y = omega (arith, same) in
-    ap₂ (λ c t. c ∷ t) heads (le-same x y (All-tail IsByte a x xs) (All-tail IsByte b y ys) (omega (arith, len)) values)
 
 itself : {x y : List ℕ} → x ≡ y → OneApart x y → ⊥
 itself {x} same one = OneApart-itself x (subst (OneApart x) (sym same) one)

@@ -1,26 +1,18 @@
 -- Laws of a piece's words, which the impls of the traits cite; they may name no lemma of this crate's own proofs.
-use Rattle.std.proofs.Common.{ℕ, zero, suc, refl, ◌≡◌, ◌/◌, ◌^◌, ◌<◌, ◌≤◌, List, [], ◌∷◌, length, take, drop, map, get_or, ap, ◌∙◌, arith, lit<}
+use Rattle.std.proofs.Common.{ℕ, zero, suc, refl, ◌≡◌, ◌/◌, ◌^◌, ◌<◌, ◌≤◌, List, [], length, take, drop, map, get_or, ap, ◌∙◌, arith, lit<}
 use Rattle.std.specs.Prelude.{All}
 use Rattle.std.specs.Simd.{first_chunks}
-use Rattle.std.proofs.Math.Nat.{pow-le-pow_right, pow-suc}
+use Rattle.std.proofs.Math.Nat.{pow-le-pow_right}
 use Rattle.std.proofs.lemmas.List.{length-take}
-use Rattle.std.proofs.lemmas.List.Elements.{All-nil, All-cons, All-head, All-tail, All-take, All-drop, All-append}
+use Rattle.std.proofs.lemmas.List.Elements.{All-nil, All-cons, All-take, All-drop, All-append}
 use Rattle.hash_rounds.specs.Words.{le}
 use Rattle.hash_rounds.specs.Blocks.{pieces}
+use Rattle.hash_rounds.proofs.PieceLemmas.{le-lt}
 use Rattle.hash_fx.specs.Fx.{fx32_step, fx64_step}
 use Rattle.hash_laws.specs.Text.{IsText}
 use Rattle.hash_laws.proofs.TextLemmas.{IsByte}
 use Rattle.hash_laws.proofs.RecurrenceLemmas.{recurrence-nil}
 use Rattle.hash_fx.specs.Fx.{fx32, fx64, words32, words64}
-
--- n bytes are a number below 256^n
-le-lt : (bytes : List ℕ) → IsText bytes → le bytes < 256 ^ length bytes
-unfolding le
-le-lt [] text = lit< tt
-le-lt (b ∷ bytes) text =
-    let here : b < 256 = All-head IsByte b bytes text in
-    let rest : le bytes < 256 ^ length bytes = le-lt bytes (All-tail IsByte b bytes text) in
-    rw pow-suc (omega arith)
 
 abbrev pub IsWord : ℕ → ℕ → Type 0
 IsWord w v = v < 2 ^ w

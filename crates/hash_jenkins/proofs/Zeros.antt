@@ -9,7 +9,7 @@ use Rattle.hash_jenkins.specs.Filled.{zero_filled}
 use Rattle.hash_jenkins.specs.Spooky.{add_chunk, add_chunks, short_start}
 use Rattle.hash_jenkins.specs.Zeros.{AddsZeros, HaveOtherWords}
 
-add_at-AreFourWords : (h : List ℕ) (i x : ℕ) → AreFourWords h → AreFourWords (add_at h i x)
+pub add_at-AreFourWords : (h : List ℕ) (i x : ℕ) → AreFourWords h → AreFourWords (add_at h i x)
 add_at-AreFourWords h i x w =
     (length-set h i ((slice_index h i + x) % 2 ^ 64) ∙ w.0, λ j. let old = w.1 j in grind (arith, common_steps))
 
@@ -30,7 +30,7 @@ take-zero_filled n m x fits le =
     rw (append_assoc, replicate-append-replicate, count) refl in
     rw more (take_at (zero_filled n x) (replicate (m - n) 0) n size)
 
-start_below : (seed1 seed2 : ℕ) → seed1 < 2 ^ 64 → seed2 < 2 ^ 64 → (i : ℕ)
+pub start_below : (seed1 seed2 : ℕ) → seed1 < 2 ^ 64 → seed2 < 2 ^ 64 → (i : ℕ)
     → slice_index (seed1 ∷ seed2 ∷ 0xdeadbeefdeadbeef ∷ 0xdeadbeefdeadbeef ∷ []) i < 2 ^ 64
 start_below seed1 seed2 s1 s2 zero = s1
 start_below seed1 seed2 s1 s2 (suc zero) = s2
@@ -42,16 +42,16 @@ start_below seed1 seed2 s1 s2 (suc (suc (suc (suc i)))) = lit< tt
 lengths_apart : (s a b : ℕ) → a < 192 → b < 192 → (s + a * 2 ^ 56) % 2 ^ 64 ≡ (s + b * 2 ^ 56) % 2 ^ 64 → a ≡ b
 lengths_apart s a b la lb e = omega arith
 
-add_chunk-AreFourWords : (h w : List ℕ) → AreFourWords h → AreFourWords (add_chunk h w)
+pub add_chunk-AreFourWords : (h w : List ℕ) → AreFourWords h → AreFourWords (add_chunk h w)
 add_chunk-AreFourWords h w a =
     let before = add_at-AreFourWords _ 3 (slice_index w 1) (add_at-AreFourWords h 2 (slice_index w 0) a) in
     add_at-AreFourWords _ 1 _ (add_at-AreFourWords _ 0 _ (short_mix-AreFourWords _ before))
 
-fold-AreFourWords : (h : List ℕ) (chunks : List (List ℕ)) → AreFourWords h → AreFourWords (fold (λ k chunk. add_chunk k (le_words chunk)) h chunks)
+pub fold-AreFourWords : (h : List ℕ) (chunks : List (List ℕ)) → AreFourWords h → AreFourWords (fold (λ k chunk. add_chunk k (le_words chunk)) h chunks)
 fold-AreFourWords h [] a = a
 fold-AreFourWords h (c ∷ cs) a = fold-AreFourWords (add_chunk h (le_words c)) cs (add_chunk-AreFourWords h (le_words c) a)
 
-short_start-AreFourWords : (seed1 seed2 : ℕ) (text : List ℕ) → seed1 < 2 ^ 64 → seed2 < 2 ^ 64 → AreFourWords (short_start seed1 seed2 text)
+pub short_start-AreFourWords : (seed1 seed2 : ℕ) (text : List ℕ) → seed1 < 2 ^ 64 → seed2 < 2 ^ 64 → AreFourWords (short_start seed1 seed2 text)
 unfolding add_chunks
 short_start-AreFourWords seed1 seed2 text s1 s2 = fold-AreFourWords _ (pieces 32 (zero_filled 192 text)) (refl, start_below seed1 seed2 s1 s2)
 

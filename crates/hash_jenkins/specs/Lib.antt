@@ -2,6 +2,7 @@ pub mod Counted
 pub mod Filled
 pub mod Lookup3
 pub mod Lookup3Laws
+pub mod Mixing
 pub mod Oaat
 pub mod OaatLaws
 pub mod Put

@@ -12,18 +12,18 @@ use Rattle.hash_laws.specs.Text.{IsText}
 use Rattle.hash_jenkins.specs.Lookup3.{add_word, add_words, add_block, mix_block, mix_blocks, start, last_block, lookup3_words, lookup3, AreTwoWords}
 
 -- three words of 32 bits
-abbrev AreThreeWords : List ℕ → Type 0
+abbrev pub AreThreeWords : List ℕ → Type 0
 AreThreeWords s = (length s ≡ 3) × ((i : ℕ) → slice_index s i < 2 ^ 32)
 
-lookup3_mix-steps : AreSteps 32 3 0 rounds.lookup3_mix
+pub lookup3_mix-steps : AreSteps 32 3 0 rounds.lookup3_mix
 unfolding rounds.lookup3_mix
 lookup3_mix-steps = refl
 
-lookup3_final-steps : AreSteps 32 3 0 rounds.lookup3_final
+pub lookup3_final-steps : AreSteps 32 3 0 rounds.lookup3_final
 unfolding rounds.lookup3_final
 lookup3_final-steps = refl
 
-apply-AreThreeWords : (steps : List Step) (s : List ℕ) → AreSteps 32 3 0 steps → AreThreeWords s → AreThreeWords (apply 32 steps [] s)
+pub apply-AreThreeWords : (steps : List Step) (s : List ℕ) → AreSteps 32 3 0 steps → AreThreeWords s → AreThreeWords (apply 32 steps [] s)
 apply-AreThreeWords steps s are known =
     let kept = apply-words 32 0 steps [] s (rw known.0 are) (AreWords-from 32 s known.1) in
     (kept.0 ∙ known.0, AreWords-at 32 (apply 32 steps [] s) kept.1)
@@ -36,7 +36,7 @@ add_words-AreThreeWords : (s : List ℕ) (x y z : ℕ) → AreThreeWords s → A
 add_words-AreThreeWords s x y z known =
     add_word-AreThreeWords _ 2 z (add_word-AreThreeWords _ 1 y (add_word-AreThreeWords s 0 x known))
 
-add_block-AreThreeWords : (s block : List ℕ) → AreThreeWords s → AreThreeWords (add_block s block)
+pub add_block-AreThreeWords : (s block : List ℕ) → AreThreeWords s → AreThreeWords (add_block s block)
 add_block-AreThreeWords s block known = add_words-AreThreeWords s _ _ _ known
 
 mix_blocks-AreThreeWords : (blocks : List (List ℕ)) (s : List ℕ) → AreThreeWords s → AreThreeWords (mix_blocks s blocks)
@@ -44,7 +44,7 @@ mix_blocks-AreThreeWords [] s known = known
 mix_blocks-AreThreeWords (block ∷ blocks) s known =
     mix_blocks-AreThreeWords blocks (mix_block s block) (apply-AreThreeWords rounds.lookup3_mix _ lookup3_mix-steps (add_block-AreThreeWords s block known))
 
-start-AreThreeWords : (pc pb n : ℕ) → AreThreeWords (start pc pb n)
+pub start-AreThreeWords : (pc pb n : ℕ) → AreThreeWords (start pc pb n)
 start-AreThreeWords pc pb n = (refl, below) where
   below : (i : ℕ) → slice_index (start pc pb n) i < 2 ^ 32
   below zero = mod_below _ (2 ^ 32) (pow_pos 32)

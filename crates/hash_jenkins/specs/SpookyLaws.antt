@@ -51,7 +51,7 @@ unfolding tail
 mixed_through s head rest n edge count =
     rw (mixed-append s head rest edge, spooky_blocks-take (spooky_blocks s head) rest n count, count) refl
 
-tail-lt : (t : List ℕ) → length (tail t) < 96
+pub tail-lt : (t : List ℕ) → length (tail t) < 96
 unfolding tail
 tail-lt t = omega (arith, length-drop (length t / 96 * 96) t)
 
@@ -110,7 +110,7 @@ module _ (seed1 seed2 : ℕ) (seed1_in : seed1 < 2 ^ 64) (seed2_in : seed2 < 2 ^
       (All-cons IsWord seed1 (seed2 ∷ []) seed1_in (All-cons IsWord seed2 [] seed2_in (All-nil IsWord)))
       (All-cons IsWord 0xdeadbeefdeadbeef [] (lit< tt) (All-nil IsWord))
 
-  long_start-words : AreWords 64 (long_start seed1 seed2)
+  pub long_start-words : AreWords 64 (long_start seed1 seed2)
   long_start-words =
       let six = All-append IsWord three three three_in three_in in
       All-append IsWord (three ++ three) (three ++ three) six six

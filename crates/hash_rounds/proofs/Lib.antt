@@ -8,3 +8,6 @@ pub mod BlockLemmas
 pub mod SumLemmas
 pub mod SumStepLemmas
 pub mod Chunks
+pub mod PieceLemmas
+pub mod MixRuns
+pub mod EndLemmas

@@ -44,7 +44,12 @@ module _ (h : List ℕ) (are : AreFourWords h) where
       let kept = apply-words 64 0 rounds.short_end [] h (rw are.0 short_end-steps) words in
       (kept.0 ∙ are.0, AreWords-at 64 (short_end h) kept.1)
 
--- no two states of four words end alike
+-- no two states of four words are mixed alike, or end alike
+pub short_mix-same : (h k : List ℕ) → AreFourWords h → AreFourWords k → short_mix h ≡ short_mix k → h ≡ k
+short_mix-same h k h_in k_in same =
+    apply-same 64 [] (AreWords-from 64 [] (no_words 64)) rounds.short_mix h k (k_in.0 ∙ sym h_in.0) (rw h_in.0 short_mix-steps)
+    (words h h_in) (words k k_in) same
+
 pub short_end-same : (h k : List ℕ) → AreFourWords h → AreFourWords k → short_end h ≡ short_end k → h ≡ k
 short_end-same h k h_in k_in same =
     apply-same 64 [] (AreWords-from 64 [] (no_words 64)) rounds.short_end h k (k_in.0 ∙ sym h_in.0) (rw h_in.0 short_end-steps)

@@ -41,6 +41,13 @@ sub-add w x y x_in y_in = sub-add_mod (2 ^ w) x y x_in y_in
 pub add-sub : (w x y : ℕ) → x < 2 ^ w → y < 2 ^ w → add w (sub w x y) y ≡ x
 add-sub w x y x_in y_in = add-sub_mod (2 ^ w) x y x_in y_in
 
+-- what is added to a word of 64 bits is known by the sum, and so is the word
+pub added-same : (a x y : ℕ) → x < 2 ^ 64 → y < 2 ^ 64 → (a + x) % 2 ^ 64 ≡ (a + y) % 2 ^ 64 → x ≡ y
+added-same a x y x_in y_in same = omega arith
+
+pub word-same : (a b x : ℕ) → a < 2 ^ 64 → b < 2 ^ 64 → (a + x) % 2 ^ 64 ≡ (b + x) % 2 ^ 64 → a ≡ b
+word-same a b x a_in b_in same = omega arith
+
 -- a rotation exchanges the high part and the low part
 rotl_split : (j k x : ℕ) → rotl (j + k) x k ≡ x % 2 ^ j * 2 ^ k + x / 2 ^ j
 unfolding rotl

@@ -17,6 +17,7 @@ pub use Rattle.hash_laws.specs.Writes
 pub use Rattle.hash_fx.specs.Fx
 pub use Rattle.hash_fx.specs.Pieces
 pub use Rattle.hash_jenkins.specs.Lookup3
+pub use Rattle.hash_jenkins.specs.Mixing
 pub use Rattle.hash_jenkins.specs.Oaat
 pub use Rattle.hash_jenkins.specs.Spooky
 pub use Rattle.hash_jenkins.specs.SpookyStanding

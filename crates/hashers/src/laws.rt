@@ -8,7 +8,10 @@ pub use hash_fx::laws::{
     one_changed_byte_shows_fx, pieces_are_their_words, run_words, run_words32, run_words64,
     words_by_place32, words_by_place64,
 };
-pub use hash_jenkins::laws::{apart_by_zeros, same_answers_later};
+pub use hash_jenkins::laws::{
+    apart_by_zeros, neighbouring_words_show, one_changed_block_shows, one_changed_stretch_shows,
+    same_answers_later,
+};
 pub use hash_laws::laws::{
     ByteStep, Piecewise, Streamed, Undo, answer_of_pieces, apart_by_one, bucket_of, hash_of,
     joined_texts_are_one, one_changed_byte_shows, run_pair, run_pieces, run_streamed,

@@ -1,0 +1,21 @@
+-- Texts that differ only in what is mixed into a state close together.
+use Rattle.std.specs.Prelude.{◌≡◌, ◌≢◌, ℕ, List, length, slice_index}
+use Rattle.hash_laws.specs.DifferWithin.{AgreeOutside}
+use Rattle.hash_rounds.specs.Blocks.{spooky_blocks}
+use Rattle.hash_jenkins.specs.Spooky.{long_start, long_words, tail}
+
+-- the lengths are equal, the texts differ, and all places where they do are in one group
+pub record DifferInOne (group : ℕ → ℕ) (x y : List ℕ) : Type 0 where
+  pub same_length : length x ≡ length y
+  pub different : x ≢ y
+  pub one : (g : ℕ) × ((i : ℕ) → group i ≢ g → slice_index x i ≡ slice_index y i)
+
+-- the lengths are equal, the texts differ, and they agree outside so many neighbouring places
+pub record DifferFrom (from places : ℕ) (x y : List ℕ) : Type 0 where
+  pub same_length : length x ≡ length y
+  pub different : x ≢ y
+  pub outside : AgreeOutside from places x y
+
+-- Spooky's twelve words after all blocks of a text and its tail
+abbrev pub twelve_words : ℕ → ℕ → List ℕ → List ℕ
+twelve_words seed1 seed2 text = long_words (spooky_blocks (long_start seed1 seed2) text) (tail text)
