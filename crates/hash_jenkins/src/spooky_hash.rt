@@ -15,7 +15,7 @@ ghost use Rattle.hash_jenkins.specs.SpookyLaws.{IsPosition-fresh, IsPosition-aft
 use crate::put::put;
 use crate::spooky_long::{long_words, mix_blocks};
 use crate::spooky_short::{FILL, LONG, short_words, short_words_v1};
-use hash_laws::laws::{Piecewise, Streamed};
+use hash_laws::traits::{Piecewise, Streamed};
 use hash_rounds::Turns;
 use std::hash::Hasher;
 use std::marker::Model;
