@@ -10,4 +10,4 @@ mod spooky_long;
 mod spooky_short;
 
 pub use lookup::{Lookup3Hasher, lookup3};
-pub use one_at_a_time::{OAATHasher, oaat};
+pub use one_at_a_time::{OAATHasher, oaat, origin_of_constants};
