@@ -17,6 +17,9 @@ mod tests;
 use crate::bits::{has_all, no_bits_beyond, ones, set_all, unite};
 use hashers::laws::{Piecewise, Streamed, answer_of_pieces, hash_of};
 use std::alloc::{AllocError, Global};
+use std::error::Error as StdError;
+use std::fmt;
+use std::fmt::{Display, Formatter};
 use std::marker::{Model, PhantomData};
 
 /// A Bloom filter: a set of bits. Each key has `probes` places among them, by two hashes, and a key is found where the bits at
@@ -50,9 +53,18 @@ impl<F: Piecewise, G: Piecewise> Model for Bloom<F, G> {
 }
 
 /// The words are not those of a filter of so many bits and probes: they come back as they were.
+#[derive(Debug, Drop)]
 pub struct NoFilter {
     pub words: Vec<u64>,
 }
+
+impl Display for NoFilter {
+    fn fmt<W: fmt::Write>(&self, f: &mut Formatter<W>) -> fmt::Result {
+        write!(f, "no filter of so many bits and probes has these words")
+    }
+}
+
+impl StdError for NoFilter {}
 
 impl<F: Piecewise, G: Piecewise> Bloom<F, G> {
     /// The filter of no keys, with so many bits, and so many probes for each key. It takes 8 bytes for each 64 bits, and refuses

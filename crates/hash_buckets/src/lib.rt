@@ -1,7 +1,7 @@
 //! A table of buckets over any hasher.
 #![tactic(auto)]
 
-ghost use Rattle.std.specs.Prelude.{◌≡◌, ◌≢◌, ◌<◌, ◌≤◌, ℕ, List, IfOk, IfErr, OnOk, OnErr, [], None, Some, fold, length, vec_capacity, vec_len};
+ghost use Rattle.std.specs.Prelude.{◌≡◌, ◌≢◌, ◌↔◌, ◌<◌, ◌≤◌, ℕ, List, IsTrue, IfOk, IfErr, OnOk, OnErr, [], None, Some, fold, length, vec_capacity, vec_len};
 ghost use Rattle.std.specs.Coded.{coded_list, coded_ℕ};
 ghost use Rattle.std.specs.FinMap as map;
 ghost use Rattle.std.specs.List.{position, sum_by};
@@ -11,6 +11,9 @@ ghost use Rattle.hash_buckets.specs.Commands.{reply_to, replies_to, content_afte
 
 use hashers::laws::{Piecewise, bucket_of};
 use std::alloc::{AllocError, AllocFailed, Global};
+use std::error::Error as StdError;
+use std::fmt;
+use std::fmt::{Display, Formatter};
 use std::marker::{Model, PhantomData};
 
 /// A finite map from byte texts to numbers: `N` lists of pairs in one `Vec`. A key stands in the list whose number is its hash
@@ -34,13 +37,31 @@ impl<H: Piecewise, const N: usize> Model for Buckets<H, N> {
 }
 
 /// There is no memory for a table's lists.
+#[derive(Debug, Drop)]
 pub struct NoTable;
 
+impl Display for NoTable {
+    fn fmt<W: fmt::Write>(&self, f: &mut Formatter<W>) -> fmt::Result {
+        write!(f, "there is no memory for the table's lists")
+    }
+}
+
+impl StdError for NoTable {}
+
 /// There is no memory for a new key: the key and its value come back.
+#[derive(Debug, Drop)]
 pub struct NoRoom {
     pub key: Vec<u8>,
     pub value: u64,
 }
+
+impl Display for NoRoom {
+    fn fmt<W: fmt::Write>(&self, f: &mut Formatter<W>) -> fmt::Result {
+        write!(f, "there is no memory for a new key")
+    }
+}
+
+impl StdError for NoRoom {}
 
 /// Where the key stands.
 fn place_of(list: &[(Vec<u8>, u64)], key: &[u8]) -> Option<usize>
@@ -170,6 +191,13 @@ impl<H: Piecewise, const N: usize> Buckets<H, N> {
         ensures { result ≡ map.len self.now }
     {
         pairs_in(&self.buckets)
+    }
+
+    /// Whether there is no key.
+    pub fn is_empty(&self) -> bool
+        ensures { IsTrue result ↔ (map.len self.now ≡ 0) }
+    {
+        self.len() == 0
     }
 
     /// The pairs of bucket `i`: those of the keys whose hash mod `N` is `i`, each once, in no order that is promised.

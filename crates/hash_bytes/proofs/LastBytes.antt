@@ -4,11 +4,11 @@ use Rattle.std.proofs.lemmas.Bool.{cases_lt}
 use Rattle.std.proofs.Math.Nat.{mod-eq_of_lt}
 use Rattle.std.proofs.Math.Nat.{pow-le-pow_right}
 use Rattle.hash_laws.specs.Text.{IsText}
-use Rattle.hash_rounds.specs.Sums.{digit_sum, passthrough}
+use Rattle.hash_rounds.specs.Sums.{digit_sum, passthrough_from}
 use Rattle.hash_rounds.proofs.SumLemmas.{digit_sum-lt, passthrough_of_last}
 
-few : (t : List ℕ) → IsText t → length t < 8 → passthrough 0 t ≡ digit_sum 256 (drop (length t - 8) t)
-unfolding passthrough
+few : (t : List ℕ) → IsText t → length t < 8 → passthrough_from 0 t ≡ digit_sum 256 (drop (length t - 8) t)
+unfolding passthrough_from
 few t bytes small =
     let none : length t - 8 ≡ 0 = omega arith in
     let shorter : length t ≤ 8 = omega arith in
@@ -16,5 +16,5 @@ few t bytes small =
     let start : 0 * 256 ^ length t + digit_sum 256 t ≡ digit_sum 256 t = omega arith in
     ap (λ n. n % 2 ^ 64) start ∙ mod-eq_of_lt below ∙ ap (λ n. digit_sum 256 (drop n t)) (sym none)
 
-pub passthrough-last : (t : List ℕ) → IsText t → passthrough 0 t ≡ digit_sum 256 (drop (length t - 8) t)
+pub passthrough-last : (t : List ℕ) → IsText t → passthrough_from 0 t ≡ digit_sum 256 (drop (length t - 8) t)
 passthrough-last t bytes = ⊎_elim (few t bytes) (λ more. passthrough_of_last 0 t (omega (arith, more)) bytes) (cases_lt (length t) 8)

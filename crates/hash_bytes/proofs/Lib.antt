@@ -1,1 +1,2 @@
 pub mod LastBytes
+pub mod Joined

@@ -17,11 +17,11 @@ abbrev pub fnv1a64_step : ℕ → ℕ → ℕ
 fnv1a64_step h b = bit_xor h b * 1099511628211 % 2 ^ 64
 
 -- the state after a text, from a start
-abbrev pub fnv1a32 : ℕ → List ℕ → ℕ
-fnv1a32 = recurrence fnv1a32_step
+abbrev pub fnv1a32_from : ℕ → List ℕ → ℕ
+fnv1a32_from = recurrence fnv1a32_step
 
-abbrev pub fnv1a64 : ℕ → List ℕ → ℕ
-fnv1a64 = recurrence fnv1a64_step
+abbrev pub fnv1a64_from : ℕ → List ℕ → ℕ
+fnv1a64_from = recurrence fnv1a64_step
 
 -- the oldest variant, FNV-0, by its width and prime: from 0, for each byte a product, and then an exclusive or
 abbrev pub fnv0 : ℕ → ℕ → List ℕ → ℕ

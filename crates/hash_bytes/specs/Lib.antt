@@ -1,4 +1,4 @@
-pub mod Counted
+pub mod CountedSum
 pub mod Fnv
 pub mod FnvLaws
 pub mod Oz

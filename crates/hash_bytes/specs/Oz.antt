@@ -7,5 +7,5 @@ abbrev pub djb2_step : ℕ → ℕ → ℕ
 djb2_step h b = bit_xor (33 * h % 2 ^ 32) b
 
 -- the state after a text, from a start, by default 5381
-abbrev pub djb2 : ℕ → List ℕ → ℕ
-djb2 = recurrence djb2_step
+abbrev pub djb2_from : ℕ → List ℕ → ℕ
+djb2_from = recurrence djb2_step

@@ -9,5 +9,5 @@ abbrev pub bricolage_step : ℕ → ℕ → ℕ
 bricolage_step h b = swap_halves ((h + shuffle (b * 173773926194192273 % 2 ^ 64)) % 2 ^ 64)
 
 -- the state after a text, from a start, by default 0
-abbrev pub bricolage : ℕ → List ℕ → ℕ
-bricolage = recurrence bricolage_step
+abbrev pub bricolage_from : ℕ → List ℕ → ℕ
+bricolage_from = recurrence bricolage_step

@@ -2,10 +2,9 @@
 //! or, and then a product by a prime. They were published on the authors' page, and are short and widely used.
 ghost use Rattle.std.specs.Prelude.{◌≡◌, ◌^◌, ◌+◌, ◌*◌, ◌%◌, refl};
 ghost use Rattle.std.proofs.Common.{lit<};
-ghost use Rattle.hash_bytes.specs.Fnv.{fnv1a32_step, fnv1a64_step};
+ghost use Rattle.hash_bytes.specs.Fnv.{fnv1a32_step, fnv1a64_step, fnv0, fnv1a32_basis, fnv1a32_from, fnv1a64_basis, fnv1a64_from};
 ghost use Rattle.hash_bytes.specs.FnvLaws.{fnv1a32_facts, fnv1a64_facts};
 ghost use Rattle.hash_laws.proofs.RecurrenceLemmas.{recurrence_is_fold};
-ghost use Rattle.hash_bytes.specs.Fnv.{fnv0, fnv1a32_basis, fnv1a32, fnv1a64_basis, fnv1a64};
 
 use hash_laws::build::BuildFresh;
 use hash_rules::{ByteHasher, ByteRule, StepRule, UndoRule, alone_or_in_eights};
@@ -79,9 +78,9 @@ impl StepRule for Fnv1aRule32 {
 }
 
 impl ByteRule for Fnv1aRule32 {
-    ghost after = { fnv1a32 };
+    ghost after = { fnv1a32_from };
 
-    ghost write = { fnv1a32 };
+    ghost write = { fnv1a32_from };
 
     ghost answer = { λ s. s };
 
@@ -121,13 +120,13 @@ impl UndoRule for Fnv1aRule32 {
 /// From 2166136261, a byte `b` takes the state `h` to `(h ^ b) * 16777619`, modulo 2^32; `finish` answers `h`, widened. Cuts
 /// don't show, and each write can be undone. Texts that differ in at most two neighbouring bytes never collide.
 ///
-/// Contracts see the hasher as its state, a number below 2^32: `write` gives `h.new ≡ fnv1a32 h.old bytes.now`, and
+/// Contracts see the hasher as its state, a number below 2^32: `write` gives `h.new ≡ fnv1a32_from h.old bytes.now`, and
 /// `finish` answers `h.now`. Of `a` the hash is 3826002220.
 pub type FNV1aHasher32 = ByteHasher<Fnv1aRule32>;
 
 /// FNV-1a at 32 bits of the bytes.
 pub fn fnv1a32(bytes: &[u8]) -> u64
-    ensures { result ≡ fnv1a32 fnv1a32_basis bytes.now }
+    ensures { result ≡ fnv1a32_from fnv1a32_basis bytes.now }
 {
     let mut hasher = FNV1aHasher32::default();
     hasher.write(bytes);
@@ -168,9 +167,9 @@ impl StepRule for Fnv1aRule64 {
 }
 
 impl ByteRule for Fnv1aRule64 {
-    ghost after = { fnv1a64 };
+    ghost after = { fnv1a64_from };
 
-    ghost write = { fnv1a64 };
+    ghost write = { fnv1a64_from };
 
     ghost answer = { λ s. s };
 
@@ -210,13 +209,13 @@ impl UndoRule for Fnv1aRule64 {
 /// From 14695981039346656037, a byte `b` takes the state `h` to `(h ^ b) * 1099511628211`, modulo 2^64; `finish` answers `h`.
 /// Cuts don't show, and each write can be undone. Texts that differ in at most three neighbouring bytes never collide.
 ///
-/// Contracts see the hasher as its state, a number below 2^64: `write` gives `h.new ≡ fnv1a64 h.old bytes.now`, and
+/// Contracts see the hasher as its state, a number below 2^64: `write` gives `h.new ≡ fnv1a64_from h.old bytes.now`, and
 /// `finish` answers `h.now`. Of `a` the hash is 12638187200555641996.
 pub type FNV1aHasher64 = ByteHasher<Fnv1aRule64>;
 
 /// FNV-1a at 64 bits of the bytes.
 pub fn fnv1a64(bytes: &[u8]) -> u64
-    ensures { result ≡ fnv1a64 fnv1a64_basis bytes.now }
+    ensures { result ≡ fnv1a64_from fnv1a64_basis bytes.now }
 {
     let mut hasher = FNV1aHasher64::default();
     hasher.write(bytes);

@@ -1,14 +1,13 @@
 //! Two hash functions that mix nothing: one that forgets every byte, and one that keeps the last eight.
-ghost use Rattle.std.specs.Prelude.{◌≡◌, ◌<◌, ◌^◌, ◌-◌, ◌+◌, ◌*◌, ℕ, List, [], ◌∷◌, length, drop, slice_index, refl};
+ghost use Rattle.std.specs.Prelude.{◌≡◌, ◌<◌, ◌^◌, ◌-◌, ◌+◌, ◌*◌, ◌%◌, ℕ, List, [], ◌∷◌, ◌++◌, length, drop, slice_index, refl};
 ghost use Rattle.std.proofs.Common.{lit<, sym};
 ghost use Rattle.std.proofs.Math.Nat.{mod-lt};
-ghost use Rattle.hash_rounds.specs.Sums.{digit_sum, passthrough};
-ghost use Rattle.hash_rounds.specs.Sums.{passthrough_step};
+ghost use Rattle.hash_rounds.specs.Sums.{digit_sum, passthrough_from, passthrough_step};
 ghost use Rattle.hash_rounds.proofs.SumLemmas.{passthrough-fold, passthrough-lt, passthrough-nil, passthrough-append};
 ghost use Rattle.hash_laws.specs.Standing.{StandsAt};
 ghost use Rattle.hash_laws.proofs.ByteLemmas as bytewise;
 
-use hash_laws::laws::{Piecewise, Streamed};
+use hash_laws::traits::{Piecewise, Streamed};
 use hash_rules::{ByteHasher, ByteRule, StepRule};
 use std::hash::Hasher;
 
@@ -140,7 +139,7 @@ fn append_byte(state: u64, byte: u8) -> u64
 /// The bytes behind the state, one by one.
 #[inline(always)]
 fn append_few(state: u64, bytes: &[u8]) -> u64
-    ensures { result ≡ passthrough state bytes.now }
+    ensures { result ≡ passthrough_from state bytes.now }
 {
     let mut state = state;
     for byte in bytes {
@@ -152,7 +151,7 @@ fn append_few(state: u64, bytes: &[u8]) -> u64
 /// The bytes behind the state, of which only the last eight are read.
 #[inline(always)]
 fn append_bytes(state: u64, bytes: &[u8]) -> u64
-    ensures { result ≡ passthrough state bytes.now }
+    ensures { result ≡ passthrough_from state bytes.now }
 {
     match bytes.last_chunk::<8>() {
         Some(last) => u64::from_be_bytes(*last),
@@ -194,9 +193,9 @@ impl StepRule for PassThroughRule {
 }
 
 impl ByteRule for PassThroughRule {
-    ghost after = { passthrough };
+    ghost after = { passthrough_from };
 
-    ghost write = { passthrough };
+    ghost write = { passthrough_from };
 
     ghost answer = { λ s. s };
 
@@ -218,16 +217,37 @@ impl ByteRule for PassThroughRule {
 /// The hasher that keeps the last eight bytes (the crate hashers' own, for keys that are hashes already). From 0, a byte
 /// `b` takes the state `h` to `256 * h + b`, modulo 2^64; `finish` answers `h`. Cuts don't show.
 ///
-/// Contracts see the hasher as its state, a number below 2^64: `write` gives `h.new ≡ passthrough h.old bytes.now`. Of `a`
+/// Contracts see the hasher as its state, a number below 2^64: `write` gives `h.new ≡ passthrough_from h.old bytes.now`. Of `a`
 /// the hash is 97.
 pub type PassThroughHasher = ByteHasher<PassThroughRule>;
 
 /// The big-endian value of the last eight bytes, or of all where there are fewer.
 pub fn passthrough(bytes: &[u8]) -> u64
-    ensures value { result ≡ passthrough 0 bytes.now }
+    ensures value { result ≡ passthrough_from 0 bytes.now }
     ensures last { result ≡ digit_sum 256 (drop (length bytes.now - 8) bytes.now) }
 {
     let mut hasher = PassThroughHasher::default();
     hasher.write(bytes);
     hasher.finish()
+}
+
+/// The law of passthrough of a joined text, with no code: the second part's bytes stand behind the first part's, as digits in
+/// base 256, of which eight are kept.
+pub fn passthrough_of_joined_texts()
+    ensures { (x y : List ℕ) → passthrough_from 0 (x ++ y)
+        ≡ (passthrough_from 0 x * 256 ^ length y + passthrough_from 0 y) % 2 ^ 64 }
+{}
+
+/// passthrough of a joined text from the hashes of its two parts and the second one's length in bytes.
+pub fn passthrough_combine(hash1: u64, hash2: u64, length2: u64) -> u64
+    ensures value { result ≡ (hash1 * 256 ^ length2 + hash2) % 2 ^ 64 }
+    ensures joined { (x y : List ℕ) → length y ≡ length2 → hash1 ≡ passthrough_from 0 x
+        → hash2 ≡ passthrough_from 0 y → result ≡ passthrough_from 0 (x ++ y) }
+{
+    let first = if length2 < 8 {
+        hash1 << (8 * length2)
+    } else {
+        0
+    };
+    first.wrapping_add(hash2)
 }

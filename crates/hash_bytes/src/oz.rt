@@ -1,15 +1,13 @@
 //! Three hash functions of Ozan Yigit's page of hash functions for strings: djb2, sdbm and lose lose.
 ghost use Rattle.std.specs.Prelude.{◌≡◌, ◌^◌, ◌+◌, ◌-◌, ◌*◌, ◌/◌, ◌%◌, ℕ, List, ◌++◌, length, IsPermutation, refl};
 ghost use Rattle.std.proofs.Common.{lit<};
-ghost use Rattle.hash_rounds.specs.Sums.{sdbm, loselose};
-ghost use Rattle.hash_bytes.specs.Oz.{djb2_step};
-ghost use Rattle.hash_rounds.specs.Sums.{sdbm_step, loselose_step};
+ghost use Rattle.hash_rounds.specs.Sums.{sdbm_from, loselose_from, sdbm_step, loselose_step};
+ghost use Rattle.hash_bytes.specs.Oz.{djb2_step, djb2_from};
 ghost use Rattle.hash_bytes.specs.OzLaws.{djb2_facts};
 ghost use Rattle.hash_rounds.proofs.SumStepLemmas.{sdbm_facts, loselose_facts};
 ghost use Rattle.hash_rounds.proofs.SumLemmas.{sdbm-fold, loselose-fold};
 ghost use Rattle.hash_laws.proofs.RecurrenceLemmas.{recurrence_is_fold};
-ghost use Rattle.hash_bytes.specs.Oz.{djb2};
-ghost use Rattle.hash_bytes.specs.Counted.{sdbm_write, loselose_write};
+ghost use Rattle.hash_bytes.specs.CountedSum.{sdbm_write, loselose_write};
 
 use hash_rounds::{Turns, lose8, sdbm4};
 use hash_rules::{ByteHasher, ByteRule, StepRule, UndoRule, in_eights};
@@ -33,73 +31,18 @@ pub fn origin_of_constants()
 
 /// The law of sdbm of a joined text, with no code: it is made of the hashes of the parts and the second part's length.
 pub fn sdbm_of_joined_texts()
-    ensures { (x y : List ℕ) → sdbm 0 (x ++ y) ≡ (sdbm 0 x * 65599 ^ length y + sdbm 0 y) % 2 ^ 32 }
+    ensures { (x y : List ℕ) → sdbm_from 0 (x ++ y) ≡ (sdbm_from 0 x * 65599 ^ length y + sdbm_from 0 y) % 2 ^ 32 }
+{}
+
+/// The law of lose lose of a joined text, with no code: it is the sum of the hashes of the parts.
+pub fn loselose_of_joined_texts()
+    ensures { (x y : List ℕ) → loselose_from 0 (x ++ y) ≡ (loselose_from 0 x + loselose_from 0 y) % 2 ^ 64 }
 {}
 
 /// The law that lose lose ignores the order of the bytes, with no code.
 pub fn loselose_ignores_order()
-    ensures { (s : ℕ) (x y : List ℕ) → IsPermutation x y → loselose s x ≡ loselose s y }
+    ensures { (s : ℕ) (x y : List ℕ) → IsPermutation x y → loselose_from s x ≡ loselose_from s y }
 {}
-
-/// One byte of sdbm on.
-#[inline(always)]
-fn sdbm_step(state: u32, byte: u8) -> u32
-    ensures { result ≡ (65599 * state + byte) % 2 ^ 32 }
-{
-    state.wrapping_mul(65599).wrapping_add(u32::from(byte))
-}
-
-/// One byte of sdbm back.
-#[inline(always)]
-#[tactic(auto, using(hash_rounds::proofs::SumStepLemmas::sdbm_back))]
-fn sdbm_unstep(state: u32, byte: u8) -> u32
-    ensures { (65599 * result + byte) % 2 ^ 32 ≡ state }
-{
-    state
-        .wrapping_sub(u32::from(byte))
-        .wrapping_mul(UNPRODUCT_65599)
-}
-
-/// One byte of lose lose on.
-#[inline(always)]
-fn loselose_step(state: u64, byte: u8) -> u64
-    ensures { result ≡ (state + byte) % 2 ^ 64 }
-{
-    state.wrapping_add(u64::from(byte))
-}
-
-/// One byte of lose lose back.
-#[inline(always)]
-#[tactic(auto, using(hash_rounds::proofs::SumStepLemmas::loselose_back))]
-fn loselose_unstep(state: u64, byte: u8) -> u64
-    ensures { (result + byte) % 2 ^ 64 ≡ state }
-{
-    state.wrapping_sub(u64::from(byte))
-}
-
-/// The bytes of lose lose in, one step for each.
-#[inline(always)]
-fn loselose_bytes_in(state: u64, bytes: &[u8]) -> u64
-    ensures { result ≡ loselose state bytes.now }
-{
-    let mut h = state;
-    for byte in bytes {
-        h = loselose_step(h, *byte);
-    }
-    h
-}
-
-/// The sum of eight bytes, in one turn of `lose8`. The lanes begin at 0 and are summed at once: the processor has one step
-/// for both.
-#[inline(always)]
-fn sum_of_eight(eight: &[u8; 8], turns: &mut Turns) -> u64
-    ensures value { result ≡ loselose 0 eight.now }
-    ensures turn { turns.new ≡ turns.old + 1 }
-{
-    let mut lanes = u64x8::splat(0);
-    lose8(&mut lanes, eight, turns);
-    lanes.reduce_sum()
-}
 
 /// The rule of Dan Bernstein's hash in its form with an exclusive or.
 pub struct Djb2Rule;
@@ -135,9 +78,9 @@ impl StepRule for Djb2Rule {
 }
 
 impl ByteRule for Djb2Rule {
-    ghost after = { djb2 };
+    ghost after = { djb2_from };
 
-    ghost write = { djb2 };
+    ghost write = { djb2_from };
 
     ghost answer = { λ s. s };
 
@@ -177,17 +120,36 @@ impl UndoRule for Djb2Rule {
 /// From 5381, a byte `b` takes the state `h` to `(33 * h) ^ b`, at 32 bits; `finish` answers `h`, widened. Cuts don't show, and
 /// each write can be undone. Texts that differ in the low five bits of at most six neighbouring bytes never collide.
 ///
-/// Contracts see the hasher as its state, a number below 2^32: `write` gives `h.new ≡ djb2 h.old bytes.now`, and `finish`
+/// Contracts see the hasher as its state, a number below 2^32: `write` gives `h.new ≡ djb2_from h.old bytes.now`, and `finish`
 /// answers `h.now`. Of `a` the hash is 177604.
 pub type DJB2Hasher = ByteHasher<Djb2Rule>;
 
 /// djb2 of the bytes, from 5381.
 pub fn djb2(bytes: &[u8]) -> u64
-    ensures { result ≡ djb2 5381 bytes.now }
+    ensures { result ≡ djb2_from 5381 bytes.now }
 {
     let mut hasher = DJB2Hasher::default();
     hasher.write(bytes);
     hasher.finish()
+}
+
+/// One byte of sdbm on.
+#[inline(always)]
+fn sdbm_step(state: u32, byte: u8) -> u32
+    ensures { result ≡ (65599 * state + byte) % 2 ^ 32 }
+{
+    state.wrapping_mul(65599).wrapping_add(u32::from(byte))
+}
+
+/// One byte of sdbm back.
+#[inline(always)]
+#[tactic(auto, using(hash_rounds::proofs::SumStepLemmas::sdbm_back))]
+fn sdbm_unstep(state: u32, byte: u8) -> u32
+    ensures { (65599 * result + byte) % 2 ^ 32 ≡ state }
+{
+    state
+        .wrapping_sub(u32::from(byte))
+        .wrapping_mul(UNPRODUCT_65599)
 }
 
 /// What the hasher of sdbm keeps: its state, and the turns that its writes have taken, of which nothing is kept at run
@@ -200,9 +162,9 @@ pub struct SdbmState {
 
 impl Model for SdbmState {
     ghost use Rattle.std.specs.Prelude.{◌<◌, ◌^◌};
-    ghost use Rattle.hash_bytes.specs.Counted.{Counted};
+    ghost use Rattle.hash_bytes.specs.CountedSum.{CountedSum};
 
-    ghost Value = { Counted };
+    ghost Value = { CountedSum };
 
     ghost view = { λ h. record { state = h.state; turns = h.turns } };
 
@@ -249,7 +211,7 @@ impl StepRule for SdbmRule {
 }
 
 impl ByteRule for SdbmRule {
-    ghost after = { sdbm };
+    ghost after = { sdbm_from };
 
     ghost write = { sdbm_write };
 
@@ -259,7 +221,7 @@ impl ByteRule for SdbmRule {
     #[inline(always)]
     fn write(state: &mut SdbmState, bytes: &[u8])
         ensures value { state.new ≡ sdbm_write state.old bytes.now }
-        ensures state { state.new.state ≡ sdbm state.old.state bytes.now }
+        ensures state { state.new.state ≡ sdbm_from state.old.state bytes.now }
         ensures turns { state.new.turns ≡ state.old.turns + length bytes.now / 4 }
     {
         if let [byte] = bytes {
@@ -311,17 +273,72 @@ impl UndoRule for SdbmRule {
 /// neighbouring bytes never collide.
 ///
 /// Contracts see the hasher as its `state`, a number below 2^32, and the `turns` that its writes have taken, of which nothing
-/// is kept at run time: `write` gives `h.new.state ≡ sdbm h.old.state bytes.now`, in a turn for each four bytes, and `finish`
+/// is kept at run time: `write` gives `h.new.state ≡ sdbm_from h.old.state bytes.now`, in a turn for each four bytes, and `finish`
 /// answers `h.now.state`. Of `ab` the hash is 6363201.
 pub type SDBMHasher = ByteHasher<SdbmRule>;
 
 /// sdbm of the bytes: their sum as digits in base 65599, modulo 2^32.
 pub fn sdbm(bytes: &[u8]) -> u64
-    ensures { result ≡ sdbm 0 bytes.now }
+    ensures { result ≡ sdbm_from 0 bytes.now }
 {
     let mut hasher = SDBMHasher::default();
     hasher.write(bytes);
     hasher.finish()
+}
+
+/// sdbm of a joined text from the hashes of its two parts and the second one's length in bytes, in a time that grows with
+/// the number of that length's digits. Of each hash the low 32 bits count.
+pub fn sdbm_combine(hash1: u64, hash2: u64, length2: u64) -> u64
+    ensures value { result ≡ (hash1 * 65599 ^ length2 + hash2) % 2 ^ 32 }
+    ensures joined { (x y : List ℕ) → length y ≡ length2 → hash1 ≡ sdbm_from 0 x → hash2 ≡ sdbm_from 0 y
+        → result ≡ sdbm_from 0 (x ++ y) }
+{
+    // 65599 to the power 2^32 is 1 modulo 2^32, so of the exponent 32 bits are enough.
+    let power = 65599u32.wrapping_pow((length2 % 4294967296) as u32);
+    let first = (hash1 % 4294967296) as u32;
+    let second = (hash2 % 4294967296) as u32;
+    u64::from(first.wrapping_mul(power).wrapping_add(second))
+}
+
+/// One byte of lose lose on.
+#[inline(always)]
+fn loselose_step(state: u64, byte: u8) -> u64
+    ensures { result ≡ (state + byte) % 2 ^ 64 }
+{
+    state.wrapping_add(u64::from(byte))
+}
+
+/// One byte of lose lose back.
+#[inline(always)]
+#[tactic(auto, using(hash_rounds::proofs::SumStepLemmas::loselose_back))]
+fn loselose_unstep(state: u64, byte: u8) -> u64
+    ensures { (result + byte) % 2 ^ 64 ≡ state }
+{
+    state.wrapping_sub(u64::from(byte))
+}
+
+/// The bytes of lose lose in, one step for each.
+#[inline(always)]
+fn loselose_bytes_in(state: u64, bytes: &[u8]) -> u64
+    ensures { result ≡ loselose_from state bytes.now }
+{
+    let mut h = state;
+    for byte in bytes {
+        h = loselose_step(h, *byte);
+    }
+    h
+}
+
+/// The sum of eight bytes, in one turn of `lose8`. The lanes begin at 0 and are summed at once: the processor has one step
+/// for both.
+#[inline(always)]
+fn sum_of_eight(eight: &[u8; 8], turns: &mut Turns) -> u64
+    ensures value { result ≡ loselose_from 0 eight.now }
+    ensures turn { turns.new ≡ turns.old + 1 }
+{
+    let mut lanes = u64x8::splat(0);
+    lose8(&mut lanes, eight, turns);
+    lanes.reduce_sum()
 }
 
 /// What the hasher of lose lose keeps: its state, and the turns that its writes have taken, of which nothing is kept at
@@ -334,9 +351,9 @@ pub struct LoseLoseState {
 
 impl Model for LoseLoseState {
     ghost use Rattle.std.specs.Prelude.{◌<◌, ◌^◌};
-    ghost use Rattle.hash_bytes.specs.Counted.{Counted};
+    ghost use Rattle.hash_bytes.specs.CountedSum.{CountedSum};
 
-    ghost Value = { Counted };
+    ghost Value = { CountedSum };
 
     ghost view = { λ h. record { state = h.state; turns = h.turns } };
 
@@ -383,7 +400,7 @@ impl StepRule for LoseLoseRule {
 }
 
 impl ByteRule for LoseLoseRule {
-    ghost after = { loselose };
+    ghost after = { loselose_from };
 
     ghost write = { loselose_write };
 
@@ -394,7 +411,7 @@ impl ByteRule for LoseLoseRule {
     #[inline(always)]
     fn write(state: &mut LoseLoseState, bytes: &[u8])
         ensures value { state.new ≡ loselose_write state.old bytes.now }
-        ensures state { state.new.state ≡ loselose state.old.state bytes.now }
+        ensures state { state.new.state ≡ loselose_from state.old.state bytes.now }
         ensures turns { state.new.turns ≡ state.old.turns + length bytes.now / 8 }
     {
         if bytes.len() < 8 {
@@ -444,15 +461,25 @@ impl UndoRule for LoseLoseRule {
 /// whatever order they come. Cuts don't show, and each write can be undone.
 ///
 /// Contracts see the hasher as its `state`, a number below 2^64, and the `turns` that its writes have taken, of which nothing
-/// is kept at run time: `write` gives `h.new.state ≡ loselose h.old.state bytes.now`, in a turn for each eight bytes, and
+/// is kept at run time: `write` gives `h.new.state ≡ loselose_from h.old.state bytes.now`, in a turn for each eight bytes, and
 /// `finish` answers `h.now.state`. Of `ab` the hash is 195.
 pub type LoseLoseHasher = ByteHasher<LoseLoseRule>;
 
 /// The sum of the bytes, modulo 2^64.
 pub fn loselose(bytes: &[u8]) -> u64
-    ensures { result ≡ loselose 0 bytes.now }
+    ensures { result ≡ loselose_from 0 bytes.now }
 {
     let mut hasher = LoseLoseHasher::default();
     hasher.write(bytes);
     hasher.finish()
+}
+
+/// lose lose of a joined text from the hashes of its two parts. The second one's length does not matter: the parameter
+/// stands there so that all three calls of the kind are called alike.
+pub fn loselose_combine(hash1: u64, hash2: u64, _length2: u64) -> u64
+    ensures value { result ≡ (hash1 + hash2) % 2 ^ 64 }
+    ensures joined { (x y : List ℕ) → hash1 ≡ loselose_from 0 x → hash2 ≡ loselose_from 0 y
+        → result ≡ loselose_from 0 (x ++ y) }
+{
+    hash1.wrapping_add(hash2)
 }

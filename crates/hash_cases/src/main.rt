@@ -1,19 +1,17 @@
 //! The hashes of cases: each line of standard input is the pieces of a text in hexadecimal, with commas between them, and
-//! each line of standard output their hashes, in the order in which `hashof` lists its names. For comparing with other
+//! each line of standard output the hashes of the names that are the arguments, in their order. For comparing with other
 //! programs.
 #![tactic(auto)]
 
-use hashers::fnv::{FNV1aHasher32, FNV1aHasher64};
-use hashers::fx_hash::{FxHasher, FxHasher32, FxHasher64};
+ghost use Rattle.std.specs.Prelude.{⊤};
+
+use hash_names::{HashTask, by_name};
 use hashers::jenkins::spooky_hash::SpookyHasher;
-use hashers::jenkins::{Lookup3Hasher, OAATHasher};
-use hashers::laws::Piecewise;
-use hashers::null::{NullHasher, PassThroughHasher};
-use hashers::oz::{DJB2Hasher, LoseLoseHasher, SDBMHasher};
-use hashers::pigeon::Bricolage;
+use hashers::laws::{Piecewise, Streamed};
 use std::alloc::{AllocError, Global};
+use std::env;
 use std::io;
-use std::io::{BufRead, BufReader, BufWriter, Write};
+use std::io::{BufRead, BufReader, BufWriter, Error, ErrorKind, Write};
 
 /// The value of a hexadecimal digit, 0 for any other byte.
 fn digit(byte: u8) -> u8 {
@@ -53,36 +51,48 @@ fn fed<H: Piecewise>(pieces: &[Vec<u8>]) -> H {
     hasher
 }
 
-/// What each hasher answers to the pieces.
-fn hashes(pieces: &[Vec<u8>]) -> [u64; 15] {
-    let spooky = fed::<SpookyHasher>(pieces);
-    [
-        fed::<FNV1aHasher32>(pieces).answer(),
-        fed::<FNV1aHasher64>(pieces).answer(),
-        fed::<DJB2Hasher>(pieces).answer(),
-        fed::<SDBMHasher>(pieces).answer(),
-        fed::<LoseLoseHasher>(pieces).answer(),
-        fed::<Bricolage>(pieces).answer(),
-        fed::<OAATHasher>(pieces).answer(),
-        fed::<Lookup3Hasher>(pieces).answer(),
-        spooky.answer(),
-        spooky.finish128_v1().0,
-        fed::<NullHasher>(pieces).answer(),
-        fed::<PassThroughHasher>(pieces).answer(),
-        fed::<FxHasher>(pieces).answer(),
-        fed::<FxHasher32>(pieces).answer(),
-        fed::<FxHasher64>(pieces).answer(),
-    ]
+/// To hash pieces, each of which is fed as one write.
+struct HashPieces;
+
+impl HashTask for HashPieces {
+    type Told = ();
+
+    type Input = Vec<Vec<u8>>;
+
+    type Outcome = u64;
+
+    ghost by = { λ hash told before after outcome. ⊤ };
+
+    fn by_text<H: Streamed>(_told: (), pieces: &mut Vec<Vec<u8>>) -> u64 {
+        fed::<H>(pieces).answer()
+    }
+
+    fn by_pieces<H: Piecewise>(_told: (), pieces: &mut Vec<Vec<u8>>) -> u64 {
+        fed::<H>(pieces).answer()
+    }
+
+    fn by_spooky_v1(_told: (), pieces: &mut Vec<Vec<u8>>) -> u64 {
+        fed::<SpookyHasher>(pieces).finish128_v1().0
+    }
+
+    ghost by_same = { λ hash same agree told before after outcome done. done };
 }
 
 fn main(rt: HostRuntime) -> io::Result<()> {
     let alloc = rt.alloc();
+    let mut names = Vec::new(alloc);
+    for name in env::args(&rt)?.skip(1) {
+        names.push(name)?;
+    }
     let input = BufReader::new(alloc, rt.stdin())?;
     let mut output = BufWriter::new(alloc, rt.stdout())?;
     for line in input.lines(alloc) {
-        let pieces = pieces_of(alloc, &line?)?;
-        for hash in hashes(&pieces) {
-            write!(output, "{hash} ")?;
+        let mut pieces = pieces_of(alloc, &line?)?;
+        for name in &names {
+            match by_name::<HashPieces>(name, (), &mut pieces) {
+                Some(hash) => write!(output, "{hash} ")?,
+                None => return Err(Error::from(ErrorKind::InvalidInput)),
+            }
         }
         writeln!(output)?;
     }

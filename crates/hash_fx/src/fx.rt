@@ -6,24 +6,23 @@ ghost use Rattle.hash_laws.specs.Recurrence.{recurrence};
 ghost use Rattle.hash_laws.proofs.RecurrenceLemmas.{recurrence-fold};
 ghost use Rattle.hash_fx.specs.Fx.{fx32, fx64, words32, words64};
 
-use crate::word::{FxWord, Reads, Splits};
-use crate::words::{words_in, words_out};
+use crate::word::{FxSplit, FxWord};
 use hash_rules::{WordHasher, WordRule};
 use std::hash::Hasher;
 use std::marker::PhantomData;
 
-/// The rule of fx by words of N bytes.
-pub struct FxRule<W, const N: usize> {
+/// The rule of fx by words of a width.
+pub struct FxRule<W> {
     word: PhantomData<W>,
 }
 
 /// The rule of fx at 32 bits.
-pub type Fx32Rule = FxRule<u32, 4>;
+pub type Fx32Rule = FxRule<u32>;
 
 /// The rule of fx at 64 bits.
-pub type Fx64Rule = FxRule<u64, 8>;
+pub type Fx64Rule = FxRule<u64>;
 
-impl<W: Splits<N> + Reads<N> + Reads<4>, const N: usize> WordRule for FxRule<W, N> {
+impl<W: FxSplit> WordRule for FxRule<W> {
     type Word = W;
 
     ghost number = { W.number };
@@ -46,12 +45,12 @@ impl<W: Splits<N> + Reads<N> + Reads<4>, const N: usize> WordRule for FxRule<W, 
 
     #[inline(always)]
     fn write(state: W, piece: &[u8]) -> W {
-        words_in(state, piece).known()
+        state.words_in(piece).known()
     }
 
     #[inline(always)]
     fn unwrite(state: W, piece: &[u8]) -> W {
-        words_out(state, piece).known()
+        state.words_out(piece).known()
     }
 
     #[inline(always)]

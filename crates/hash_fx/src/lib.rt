@@ -3,7 +3,7 @@
 #![tactic(auto)]
 
 mod fx;
-pub mod laws;
+pub mod pieces;
 mod maps;
 mod word;
 mod words;
@@ -13,4 +13,4 @@ pub use fx::{
     fxhash64,
 };
 pub use maps::{FxBuildHasher, FxHashMap, FxHashSet};
-pub use word::{FxWord, Reads, Splits};
+pub use word::{FxSplit, FxWord};

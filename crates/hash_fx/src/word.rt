@@ -1,14 +1,15 @@
 //! A word of fx, and what of it hangs on its width.
-ghost use Rattle.std.specs.Prelude.{◌≡◌, ◌<◌, ◌^◌, ◌++◌, ◌↔◌, ℕ, List, [], All, map, refl, IsSome, IfSome};
-ghost use Rattle.std.proofs.Common.{lit<};
+ghost use Rattle.std.specs.Prelude.{◌≡◌, ◌<◌, ◌^◌, ◌↔◌, ℕ, List, [], All, refl, IsSome, IfSome};
 ghost use Rattle.hash_rounds.specs.Words.{le};
 ghost use Rattle.hash_rounds.specs.StepFacts.{StepFacts};
+ghost use Rattle.hash_laws.specs.Recurrence.{recurrence};
 ghost use Rattle.hash_laws.specs.Text.{IsText};
 ghost use Rattle.hash_fx.specs.Fx.{fx32_step, fx64_step, words32, words64};
 ghost use Rattle.hash_fx.specs.FxLaws.{words32-fit, words32-nil, words64-fit, words64-nil};
 ghost use Rattle.hash_fx.specs.FxStepLaws.{fx32_facts, fx64_facts};
 
-use hash_rounds::{le_four, le64, rotl32, rotl64};
+use crate::words::{eights_in, eights_out, fours_and_bytes_in, fours_and_bytes_out};
+use hash_rounds::{le_four, rotl32, rotl64};
 
 /// A word of fx: a state, or what takes a state one step.
 pub trait FxWord: Copy + Drop {
@@ -42,6 +43,10 @@ pub trait FxWord: Copy + Drop {
     fn byte(byte: u8) -> Self
         ensures { number result ≡ byte };
 
+    /// Four bytes as a word, the lowest first.
+    fn four(bytes: &[u8; 4]) -> Self
+        ensures { number result ≡ le bytes.now };
+
     /// The word, widened.
     fn widened(self) -> u64
         ensures { result ≡ number self };
@@ -61,24 +66,18 @@ pub trait FxWord: Copy + Drop {
     ghost facts: { StepFacts step (2 ^ bits) (2 ^ bits) };
 }
 
-/// A word that N little-endian bytes are.
-pub trait Reads<const N: usize>: FxWord {
-    /// N bytes as a word.
-    fn read(bytes: &[u8; N]) -> Self
-        ensures { Self.number result ≡ le bytes.now };
-}
-
-/// A word of N bytes, and how a piece is split into words.
-pub trait Splits<const N: usize>: FxWord {
+/// How a piece is split into words of one width.
+pub trait FxSplit: FxWord {
     /// The words of a piece.
     ghost words: { List ℕ → List ℕ };
 
-    /// The words of more than four bytes, and what is left.
-    fn split(piece: &[u8]) -> (&[[u8; N]], &[u8])
-        ensures { words piece.now ≡ map le result.0.now ++ words32 result.1.now };
+    /// The words of a piece in.
+    fn words_in(self, piece: &[u8]) -> Self
+        ensures { Self.number result ≡ recurrence Self.step (Self.number self) (words piece.now) };
 
-    /// N is a size in memory.
-    ghost size: { N < 2 ^ 63 };
+    /// The words of a piece out again, from the last to the first.
+    fn words_out(self, piece: &[u8]) -> Self
+        ensures { recurrence Self.step (Self.number result) (words piece.now) ≡ Self.number self };
 
     /// The words of a piece are in range.
     ghost words_in_range: { (piece : List ℕ) → IsText piece → All (λ v. v < 2 ^ Self.bits) (words piece) };
@@ -114,6 +113,11 @@ impl FxWord for u32 {
     #[inline(always)]
     fn byte(byte: u8) -> u32 {
         u32::from(byte)
+    }
+
+    #[inline(always)]
+    fn four(bytes: &[u8; 4]) -> u32 {
+        le_four(bytes)
     }
 
     #[inline(always)]
@@ -162,6 +166,11 @@ impl FxWord for u64 {
     }
 
     #[inline(always)]
+    fn four(bytes: &[u8; 4]) -> u64 {
+        u64::from(le_four(bytes))
+    }
+
+    #[inline(always)]
     fn widened(self) -> u64 {
         self
     }
@@ -177,51 +186,38 @@ impl FxWord for u64 {
     ghost facts = { fx64_facts };
 }
 
-impl Reads<4> for u32 {
-    #[inline(always)]
-    fn read(bytes: &[u8; 4]) -> u32 {
-        le_four(bytes)
-    }
-}
-
-impl Reads<4> for u64 {
-    #[inline(always)]
-    fn read(bytes: &[u8; 4]) -> u64 {
-        u64::from(le_four(bytes))
-    }
-}
-
-impl Reads<8> for u64 {
-    #[inline(always)]
-    fn read(bytes: &[u8; 8]) -> u64 {
-        le64(bytes)
-    }
-}
-
-impl Splits<4> for u32 {
+impl FxSplit for u32 {
     ghost words = { words32 };
 
     #[inline(always)]
-    fn split(piece: &[u8]) -> (&[[u8; 4]], &[u8]) {
-        (&[], piece)
+    fn words_in(self, piece: &[u8]) -> u32 {
+        fours_and_bytes_in(self, piece)
     }
 
-    ghost size = { lit< tt };
+    #[inline(always)]
+    fn words_out(self, piece: &[u8]) -> u32 {
+        fours_and_bytes_out(self, piece)
+    }
 
     ghost words_in_range = { words32-fit };
 
     ghost no_words = { words32-nil };
 }
 
-impl Splits<8> for u64 {
+impl FxSplit for u64 {
     ghost words = { words64 };
 
     #[inline(always)]
-    fn split(piece: &[u8]) -> (&[[u8; 8]], &[u8]) {
-        piece.as_chunks::<8>()
+    fn words_in(self, piece: &[u8]) -> u64 {
+        let (eights, rest) = piece.as_chunks::<8>();
+        fours_and_bytes_in(eights_in(self, eights), rest)
     }
 
-    ghost size = { lit< tt };
+    #[inline(always)]
+    fn words_out(self, piece: &[u8]) -> u64 {
+        let (eights, rest) = piece.as_chunks::<8>();
+        eights_out(fours_and_bytes_out(self, rest), eights)
+    }
 
     ghost words_in_range = { words64-fit };
 

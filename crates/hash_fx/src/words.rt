@@ -1,9 +1,11 @@
-//! The words of a piece in and out of a state.
-ghost use Rattle.std.specs.Prelude.{◌≡◌, ◌<◌, ◌^◌, ℕ, fold, map};
+//! Words in and out of a state.
+ghost use Rattle.std.specs.Prelude.{◌≡◌, fold, map};
 ghost use Rattle.hash_rounds.specs.Words.{le};
 ghost use Rattle.hash_laws.specs.Recurrence.{recurrence};
+ghost use Rattle.hash_fx.specs.Fx.{fx64_step, words32};
 
-use crate::word::{FxWord, Reads, Splits};
+use crate::word::FxWord;
+use hash_rounds::le64;
 
 /// A word for each byte in.
 #[inline(always)]
@@ -29,47 +31,68 @@ fn bytes_out<W: FxWord>(state: W, bytes: &[u8]) -> W
     h
 }
 
-/// A word for each N bytes in.
+/// A word for each four bytes in.
 #[inline(always)]
-fn chunks_in<W: Reads<N>, const N: usize>(state: W, chunks: &[[u8; N]]) -> W
-    ensures { W.number result ≡ fold W.step (W.number state) (map le chunks.now) }
+fn fours_in<W: FxWord>(state: W, fours: &[[u8; 4]]) -> W
+    ensures { W.number result ≡ fold W.step (W.number state) (map le fours.now) }
 {
     let mut h = state;
-    for chunk in chunks {
-        h = h.word_in(W::read(chunk));
+    for four in fours {
+        h = h.word_in(W::four(four));
     }
     h
 }
 
-/// A word for each N bytes out again, from the last to the first.
+/// A word for each four bytes out again, from the last to the first.
 #[inline(always)]
-fn chunks_out<W: Reads<N>, const N: usize>(state: W, chunks: &[[u8; N]]) -> W
-    ensures { fold W.step (W.number result) (map le chunks.now) ≡ W.number state }
+fn fours_out<W: FxWord>(state: W, fours: &[[u8; 4]]) -> W
+    ensures { fold W.step (W.number result) (map le fours.now) ≡ W.number state }
 {
     let mut h = state.known();
-    for chunk in chunks.iter().rev() {
-        h = h.word_out(W::read(chunk));
+    for four in fours.iter().rev() {
+        h = h.word_out(W::four(four));
     }
     h
 }
 
-/// The words of a piece in.
+/// The words of a piece by 32 bits in.
 #[inline(always)]
-pub fn words_in<W: Splits<N> + Reads<N> + Reads<4>, const N: usize>(state: W, piece: &[u8]) -> W
-    ensures { W.number result ≡ recurrence W.step (W.number state) (W.words piece.now) }
+pub fn fours_and_bytes_in<W: FxWord>(state: W, piece: &[u8]) -> W
+    ensures { W.number result ≡ recurrence W.step (W.number state) (words32 piece.now) }
 {
-    let (wide, rest) = W::split(piece);
-    let h = chunks_in(state, wide);
-    let (fours, bytes) = rest.as_chunks::<4>();
-    bytes_in(chunks_in(h, fours), bytes)
+    let (fours, bytes) = piece.as_chunks::<4>();
+    bytes_in(fours_in(state, fours), bytes)
 }
 
-/// The words of a piece out again, from the last to the first.
+/// The words of a piece by 32 bits out again, from the last to the first.
 #[inline(always)]
-pub fn words_out<W: Splits<N> + Reads<N> + Reads<4>, const N: usize>(state: W, piece: &[u8]) -> W
-    ensures { recurrence W.step (W.number result) (W.words piece.now) ≡ W.number state }
+pub fn fours_and_bytes_out<W: FxWord>(state: W, piece: &[u8]) -> W
+    ensures { recurrence W.step (W.number result) (words32 piece.now) ≡ W.number state }
 {
-    let (wide, rest) = W::split(piece);
-    let (fours, bytes) = rest.as_chunks::<4>();
-    chunks_out(chunks_out(bytes_out(state, bytes), fours), wide)
+    let (fours, bytes) = piece.as_chunks::<4>();
+    fours_out(bytes_out(state, bytes), fours)
+}
+
+/// A word for each eight bytes in.
+#[inline(always)]
+pub fn eights_in(state: u64, eights: &[[u8; 8]]) -> u64
+    ensures { result ≡ fold fx64_step state (map le eights.now) }
+{
+    let mut h = state;
+    for eight in eights {
+        h = h.word_in(le64(eight));
+    }
+    h
+}
+
+/// A word for each eight bytes out again, from the last to the first.
+#[inline(always)]
+pub fn eights_out(state: u64, eights: &[[u8; 8]]) -> u64
+    ensures { fold fx64_step result (map le eights.now) ≡ state }
+{
+    let mut h = state;
+    for eight in eights.iter().rev() {
+        h = h.word_out(le64(eight));
+    }
+    h
 }

@@ -104,7 +104,7 @@ round-same steps are s t s_in t_in same =
 
 -- the words from what stands before the last round
 abbrev end : List ℕ → List ℕ → List ℕ
-end s r = apply 32 rounds.lookup3_final [] (add_block s (zero_filled 12 r))
+end s r = apply 32 rounds.lookup3_final_steps [] (add_block s (zero_filled 12 r))
 
 words-end : (pc pb : ℕ) (x : List ℕ) → lookup3_words pc pb x ≡ end (fold mix_block (start pc pb (length x)) (first_chunks 12 (length x / 12) x)) (drop (length x / 12 * 12) x)
 unfolding last_block pieces
@@ -117,17 +117,17 @@ lookup3_words-differ pc pb x y xs ys differ = λ same.
     let led : end (fold mix_block (start pc pb (length x)) (first_chunks 12 k x)) (drop (k * 12) x) ≡ end (fold mix_block (start pc pb (length x)) (first_chunks 12 k y)) (drop (k * 12) y) =
     sym (words-end pc pb x) ∙ same ∙ words-end pc pb y ∙ ap (λ n. end (fold mix_block (start pc pb n) (first_chunks 12 (n / 12) y)) (drop (n / 12 * 12) y)) (sym differ.same_length) in
     differ.different (texts-same AreThreeWords (IsPiece 12) mix_block
-    (λ s c s_in c_is. apply-AreThreeWords rounds.lookup3_mix _ lookup3_mix-steps (add_block-AreThreeWords s c s_in))
+    (λ s c s_in c_is. apply-AreThreeWords rounds.lookup3_mix_steps _ lookup3_mix-steps (add_block-AreThreeWords s c s_in))
     (λ s t c s_in t_in c_is e. added_states s t s_in t_in (block_words c) (block-Added c c_is)
-    (round-same rounds.lookup3_mix lookup3_mix-steps _ _ (add_block-AreThreeWords s c s_in) (add_block-AreThreeWords t c t_in) e))
+    (round-same rounds.lookup3_mix_steps lookup3_mix-steps _ _ (add_block-AreThreeWords s c s_in) (add_block-AreThreeWords t c t_in) e))
     (λ c e. length c ≡ length e)
     (λ s c e s_in c_is e_is like eq. add_block-same s c e s_in c_is e_is
-    (round-same rounds.lookup3_mix lookup3_mix-steps _ _ (add_block-AreThreeWords s c s_in) (add_block-AreThreeWords s e s_in) eq))
+    (round-same rounds.lookup3_mix_steps lookup3_mix-steps _ _ (add_block-AreThreeWords s c s_in) (add_block-AreThreeWords s e s_in) eq))
     12 end (λ c is. is)
     (λ s t r s_in t_in text few e. added_states s t s_in t_in (block_words (zero_filled 12 r)) (block-Added (zero_filled 12 r) (filled-piece 12 r text (omega (arith, few))))
-    (round-same rounds.lookup3_final lookup3_final-steps _ _ (add_block-AreThreeWords s _ s_in) (add_block-AreThreeWords t _ t_in) e))
+    (round-same rounds.lookup3_final_steps lookup3_final-steps _ _ (add_block-AreThreeWords s _ s_in) (add_block-AreThreeWords t _ t_in) e))
     (λ s q r s_in qs rs few long e. filled-same 12 q r long (add_block-same s _ _ s_in (filled-piece 12 q qs (omega (arith, few))) (filled-piece 12 r rs (omega (arith, few, long)))
-    (round-same rounds.lookup3_final lookup3_final-steps _ _ (add_block-AreThreeWords s _ s_in) (add_block-AreThreeWords s _ s_in) e)))
+    (round-same rounds.lookup3_final_steps lookup3_final-steps _ _ (add_block-AreThreeWords s _ s_in) (add_block-AreThreeWords s _ s_in) e)))
     k g x y (start pc pb (length x)) (start-AreThreeWords pc pb (length x)) xs ys differ.same_length (omega arith) (omega arith)
     (λ i i_in other. part-same 12 (i * 12) x y differ.same_length (λ j j_in. differ.one.1 (i * 12 + j) (λ (e : (i * 12 + j) / 12 ≡ g). other (omega (arith, e, j_in)))))
     (λ g_in. rest-same (k * 12) x y differ.same_length (λ j. differ.one.1 (k * 12 + j) (λ (e : (k * 12 + j) / 12 ≡ g). omega (arith, e, g_in))))

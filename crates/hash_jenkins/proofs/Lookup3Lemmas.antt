@@ -9,7 +9,7 @@ use Rattle.hash_rounds.specs.Blocks.{pieces}
 use Rattle.hash_rounds.specs.Rounds as rounds
 use Rattle.hash_rounds.specs.Steps.{apply}
 use Rattle.hash_jenkins.specs.Filled.{zero_filled}
-use Rattle.hash_jenkins.specs.Lookup3.{add_words, add_block, block_words, mix_blocks, start, last_block, lookup3_words, lookup3_piece, lookup3, lookup3_answer, AreTwoWords}
+use Rattle.hash_jenkins.specs.Lookup3.{add_words, add_block, block_words, mix_blocks, start, last_block, lookup3_words, lookup3_piece, lookup3_from, lookup3_answer, AreTwoWords}
 
 pub drop_eight : (xs : List ℕ) → drop 4 (drop 4 xs) ≡ drop 8 xs
 drop_eight xs = drop-drop 4 4 xs
@@ -90,16 +90,16 @@ added_filled n s added t words are of = are ∙ ap (add_words s) (of ∙ words_o
 pub lookup3_piece_from : (pc pb i : ℕ) (piece first s rest added end : List ℕ) (blocks : List (List ℕ))
     → blocks ≡ first_chunks 12 (length piece / 12) piece
     → rest ≡ drop (length piece / 12 * 12) piece → length blocks ≤ i → s ≡ mix_blocks first (take i blocks) → added ≡ add_block s (zero_filled 12 rest)
-    → end ≡ apply 32 rounds.lookup3_final [] added → first ≡ start pc pb (length piece) → (slice_index end 2, slice_index end 1) ≡ lookup3_piece pc pb piece
+    → end ≡ apply 32 rounds.lookup3_final_steps [] added → first ≡ start pc pb (length piece) → (slice_index end 2, slice_index end 1) ≡ lookup3_piece pc pb piece
 unfolding last_block pieces
 lookup3_piece_from pc pb i piece first s rest added end blocks all left done mixed filled last began =
     let whole : take i blocks ≡ blocks = take_all i blocks done in
     let blocked : s ≡ mix_blocks (start pc pb (length piece)) (first_chunks 12 (length piece / 12) piece) = rw (mixed, whole, all, began) refl in
-    let ended : end ≡ lookup3_words pc pb piece = last ∙ ap (apply 32 rounds.lookup3_final []) (filled ∙ ap₂ add_block blocked (ap (zero_filled 12) left)) in
+    let ended : end ≡ lookup3_words pc pb piece = last ∙ ap (apply 32 rounds.lookup3_final_steps []) (filled ∙ ap₂ add_block blocked (ap (zero_filled 12) left)) in
     ap (λ (w : List ℕ). (slice_index w 2, slice_index w 1)) ended
 
 -- the words after some bytes
-pub lookup3_some : (s : ℕ × ℕ) (piece : List ℕ) → false ≡ (length piece == 0) → lookup3 s piece ≡ lookup3_piece s.0 s.1 piece
+pub lookup3_some : (s : ℕ × ℕ) (piece : List ℕ) → false ≡ (length piece == 0) → lookup3_from s piece ≡ lookup3_piece s.0 s.1 piece
 lookup3_some s [] none = absurd (cc)
 lookup3_some s (byte ∷ piece) some = refl
 
@@ -112,6 +112,6 @@ lookup3_answer-same s t ks kt same =
 
 -- hashers that answer alike do so after a piece fed to both
 pub lookup3_alike : (s t u v : ℕ × ℕ) (piece : List ℕ) → AreTwoWords s → AreTwoWords t → lookup3_answer s ≡ lookup3_answer t
-    → u ≡ lookup3 s piece → v ≡ lookup3 t piece → lookup3_answer u ≡ lookup3_answer v
+    → u ≡ lookup3_from s piece → v ≡ lookup3_from t piece → lookup3_answer u ≡ lookup3_answer v
 lookup3_alike s t u v piece ks kt same us vt =
-    ap lookup3_answer (us ∙ ap (λ (r : ℕ × ℕ). lookup3 r piece) (lookup3_answer-same s t ks kt same) ∙ sym vt)
+    ap lookup3_answer (us ∙ ap (λ (r : ℕ × ℕ). lookup3_from r piece) (lookup3_answer-same s t ks kt same) ∙ sym vt)

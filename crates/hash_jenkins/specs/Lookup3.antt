@@ -21,7 +21,7 @@ abbrev pub add_block : List ℕ → List ℕ → List ℕ
 add_block s block = add_words s (block_words block)
 
 abbrev pub mix_block : List ℕ → List ℕ → List ℕ
-mix_block s block = apply 32 rounds.lookup3_mix [] (add_block s block)
+mix_block s block = apply 32 rounds.lookup3_mix_steps [] (add_block s block)
 
 abbrev pub mix_blocks : List ℕ → List (List ℕ) → List ℕ
 mix_blocks s blocks = fold mix_block s blocks
@@ -40,7 +40,7 @@ last_block piece =
 -- a, b and c after a piece that has some bytes
 abbrev pub lookup3_words : ℕ → ℕ → List ℕ → List ℕ
 lookup3_words pc pb piece =
-    apply 32 rounds.lookup3_final []
+    apply 32 rounds.lookup3_final_steps []
     (add_block (mix_blocks (start pc pb (length piece)) (pieces 12 piece)) (last_block piece))
 
 -- the two words (pc, pb) after such a piece: c and b
@@ -50,9 +50,9 @@ lookup3_piece pc pb piece =
     (slice_index s 2, slice_index s 1)
 
 -- the two words after any piece: no bytes change nothing
-abbrev pub lookup3 : ℕ × ℕ → List ℕ → ℕ × ℕ
-lookup3 s [] = s
-lookup3 s (byte ∷ piece) = lookup3_piece s.0 s.1 (byte ∷ piece)
+abbrev pub lookup3_from : ℕ × ℕ → List ℕ → ℕ × ℕ
+lookup3_from s [] = s
+lookup3_from s (byte ∷ piece) = lookup3_piece s.0 s.1 (byte ∷ piece)
 
 -- the answer, of 64 bits
 abbrev pub lookup3_answer : ℕ × ℕ → ℕ

@@ -9,18 +9,18 @@ use Rattle.hash_rounds.specs.Rounds as rounds
 use Rattle.hash_rounds.proofs.WordLemmas.{AreWords-from, AreWords-at}
 use Rattle.hash_rounds.proofs.StepLemmas.{apply-words}
 use Rattle.hash_laws.specs.Text.{IsText}
-use Rattle.hash_jenkins.specs.Lookup3.{add_word, add_words, add_block, mix_block, mix_blocks, start, last_block, lookup3_words, lookup3, AreTwoWords}
+use Rattle.hash_jenkins.specs.Lookup3.{add_word, add_words, add_block, mix_block, mix_blocks, start, last_block, lookup3_words, lookup3_from, AreTwoWords}
 
 -- three words of 32 bits
 abbrev pub AreThreeWords : List ℕ → Type 0
 AreThreeWords s = (length s ≡ 3) × ((i : ℕ) → slice_index s i < 2 ^ 32)
 
-pub lookup3_mix-steps : AreSteps 32 3 0 rounds.lookup3_mix
-unfolding rounds.lookup3_mix
+pub lookup3_mix-steps : AreSteps 32 3 0 rounds.lookup3_mix_steps
+unfolding rounds.lookup3_mix_steps
 lookup3_mix-steps = refl
 
-pub lookup3_final-steps : AreSteps 32 3 0 rounds.lookup3_final
-unfolding rounds.lookup3_final
+pub lookup3_final-steps : AreSteps 32 3 0 rounds.lookup3_final_steps
+unfolding rounds.lookup3_final_steps
 lookup3_final-steps = refl
 
 pub apply-AreThreeWords : (steps : List Step) (s : List ℕ) → AreSteps 32 3 0 steps → AreThreeWords s → AreThreeWords (apply 32 steps [] s)
@@ -42,7 +42,7 @@ add_block-AreThreeWords s block known = add_words-AreThreeWords s _ _ _ known
 mix_blocks-AreThreeWords : (blocks : List (List ℕ)) (s : List ℕ) → AreThreeWords s → AreThreeWords (mix_blocks s blocks)
 mix_blocks-AreThreeWords [] s known = known
 mix_blocks-AreThreeWords (block ∷ blocks) s known =
-    mix_blocks-AreThreeWords blocks (mix_block s block) (apply-AreThreeWords rounds.lookup3_mix _ lookup3_mix-steps (add_block-AreThreeWords s block known))
+    mix_blocks-AreThreeWords blocks (mix_block s block) (apply-AreThreeWords rounds.lookup3_mix_steps _ lookup3_mix-steps (add_block-AreThreeWords s block known))
 
 pub start-AreThreeWords : (pc pb n : ℕ) → AreThreeWords (start pc pb n)
 start-AreThreeWords pc pb n = (refl, below) where
@@ -55,10 +55,10 @@ start-AreThreeWords pc pb n = (refl, below) where
 lookup3_words-AreThreeWords : (pc pb : ℕ) (piece : List ℕ) → AreThreeWords (lookup3_words pc pb piece)
 lookup3_words-AreThreeWords pc pb piece =
     let mixed = mix_blocks-AreThreeWords (pieces 12 piece) _ (start-AreThreeWords pc pb (length piece)) in
-    apply-AreThreeWords rounds.lookup3_final _ lookup3_final-steps (add_block-AreThreeWords _ (last_block piece) mixed)
+    apply-AreThreeWords rounds.lookup3_final_steps _ lookup3_final-steps (add_block-AreThreeWords _ (last_block piece) mixed)
 
 -- a piece leads from two words to two words
-pub lookup3-AreTwoWords : (s : ℕ × ℕ) (piece : List ℕ) → AreTwoWords s → IsText piece → AreTwoWords (lookup3 s piece)
+pub lookup3-AreTwoWords : (s : ℕ × ℕ) (piece : List ℕ) → AreTwoWords s → IsText piece → AreTwoWords (lookup3_from s piece)
 lookup3-AreTwoWords s [] known text = known
 lookup3-AreTwoWords s (byte ∷ piece) known text =
     let are = lookup3_words-AreThreeWords s.0 s.1 (byte ∷ piece) in

@@ -8,8 +8,8 @@ abbrev pub oaat_step : ℕ → ℕ → ℕ
 oaat_step h b = xorshift (1025 * ((h + b) % 2 ^ 64) % 2 ^ 64) 6
 
 -- the state after a text, from a start, by default 0
-abbrev pub oaat : ℕ → List ℕ → ℕ
-oaat = recurrence oaat_step
+abbrev pub oaat_state : ℕ → List ℕ → ℕ
+oaat_state = recurrence oaat_step
 
 -- the answer of a state: its last mix
 abbrev pub oaat_finish : ℕ → ℕ

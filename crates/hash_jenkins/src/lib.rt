@@ -1,7 +1,7 @@
 //! Bob Jenkins' hash functions: one-at-a-time, lookup3 and SpookyHash. None of them is cryptographic.
 #![tactic(auto)]
 
-pub mod laws;
+pub mod two_texts;
 mod lookup;
 mod one_at_a_time;
 mod put;

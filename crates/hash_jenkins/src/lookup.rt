@@ -3,11 +3,10 @@ ghost use Rattle.std.specs.Prelude.{◌≡◌, ◌<◌, ℕ, length, refl};
 ghost use Rattle.std.proofs.Common.{lit<};
 ghost use Rattle.hash_rounds.specs.Words.{le};
 ghost use Rattle.hash_jenkins.specs.Filled.{zero_filled};
-ghost use Rattle.hash_jenkins.specs.Lookup3.{add_words, add_block, block_words, start};
-ghost use Rattle.hash_jenkins.specs.Lookup3.{lookup3_piece, lookup3, lookup3_answer, AreTwoWords};
+ghost use Rattle.hash_jenkins.specs.Lookup3.{add_words, add_block, block_words, start, lookup3_piece, lookup3_from, lookup3_answer, AreTwoWords};
 ghost use Rattle.hash_jenkins.specs.Lookup3Laws.{lookup3-AreTwoWords};
 
-use hash_laws::laws::Piecewise;
+use hash_laws::traits::Piecewise;
 use hash_rounds::{le_four, lookup3_final, lookup3_mix};
 use std::hash::Hasher;
 use std::marker::Model;
@@ -95,7 +94,7 @@ fn lookup3_piece(pc: u32, pb: u32, piece: &[u8]) -> (u32, u32)
 /// between writes may show, and no write can be undone.
 ///
 /// Contracts see the hasher as the two words (pc, pb), each below 2^32, which start at (0, 0): `write` gives
-/// `h.new ≡ lookup3 h.old bytes.now`. Of `a` the hash is 6351843130003064584.
+/// `h.new ≡ lookup3_from h.old bytes.now`. Of `a` the hash is 6351843130003064584.
 pub struct Lookup3Hasher {
     pc: u32,
     pb: u32,
@@ -133,7 +132,7 @@ impl Default for Lookup3Hasher {
 }
 
 impl Hasher for Lookup3Hasher {
-    ghost write = { lookup3 };
+    ghost write = { lookup3_from };
 
     ghost finish = { lookup3_answer };
 
@@ -151,7 +150,7 @@ impl Hasher for Lookup3Hasher {
     /// last time; two of them are kept.
     #[inline(always)]
     fn write(&mut self, bytes: &[u8])
-        ensures state { self.new ≡ lookup3 self.old bytes.now }
+        ensures state { self.new ≡ lookup3_from self.old bytes.now }
         ensures in_range_before { AreTwoWords self.old }
         ensures in_range_after { AreTwoWords self.new }
     {
@@ -174,11 +173,11 @@ impl Piecewise for Lookup3Hasher {
 
     ghost fresh = { (0, 0) };
 
-    ghost after = { lookup3 };
+    ghost after = { lookup3_from };
 
     ghost answer = { lookup3_answer };
 
-    ghost hash_of = { λ text. lookup3_answer (lookup3 (0, 0) text) };
+    ghost hash_of = { λ text. lookup3_answer (lookup3_from (0, 0) text) };
 
     ghost first = { (0, 0) };
 
@@ -223,7 +222,7 @@ impl Piecewise for Lookup3Hasher {
 
 /// lookup3 of the bytes in one piece, from the words 0 and 0.
 pub fn lookup3(bytes: &[u8]) -> u64
-    ensures { result ≡ lookup3_answer (lookup3 (0, 0) bytes.now) }
+    ensures { result ≡ lookup3_answer (lookup3_from (0, 0) bytes.now) }
 {
     let mut hasher = Lookup3Hasher::default();
     hasher.write(bytes);

@@ -2,10 +2,9 @@
 //! product and a shift. Each write can be undone.
 ghost use Rattle.std.specs.Prelude.{◌≡◌, ◌+◌, ◌*◌, ◌%◌, ◌^◌, refl};
 ghost use Rattle.std.proofs.Common.{lit<};
-ghost use Rattle.hash_jenkins.specs.Oaat.{oaat_step, oaat_finish};
+ghost use Rattle.hash_jenkins.specs.Oaat.{oaat_step, oaat_finish, oaat_state};
 ghost use Rattle.hash_jenkins.specs.OaatLaws.{oaat_facts, oaat_finish_same};
 ghost use Rattle.hash_laws.proofs.RecurrenceLemmas.{recurrence_is_fold};
-ghost use Rattle.hash_jenkins.specs.Oaat.{oaat};
 
 use hash_rounds::{unxorshift, xorshift};
 use hash_rules::{ByteHasher, ByteRule, StepRule, UndoRule, alone_or_in_eights};
@@ -65,9 +64,9 @@ impl StepRule for OaatRule {
 }
 
 impl ByteRule for OaatRule {
-    ghost after = { oaat };
+    ghost after = { oaat_state };
 
-    ghost write = { oaat };
+    ghost write = { oaat_state };
 
     ghost answer = { oaat_finish };
 
@@ -110,13 +109,13 @@ impl UndoRule for OaatRule {
 /// From 0, a byte `b` takes the state `h` to `h + b`, then to `1025 * h`, then to `h ^ (h >> 6)`. `finish` mixes a copy once
 /// more: `9 * h`, `h ^ (h >> 11)`, `32769 * h`. All is modulo 2^64. Cuts don't show, and each write can be undone.
 ///
-/// Contracts see the hasher as its state, a number below 2^64: `write` gives `h.new ≡ oaat h.old bytes.now`, and `finish`
+/// Contracts see the hasher as its state, a number below 2^64: `write` gives `h.new ≡ oaat_state h.old bytes.now`, and `finish`
 /// answers `oaat_finish h.now`. Of `a` the hash is 29161854018.
 pub type OAATHasher = ByteHasher<OaatRule>;
 
 /// One-at-a-time at 64 bits of the bytes.
 pub fn oaat(bytes: &[u8]) -> u64
-    ensures { result ≡ oaat_finish (oaat 0 bytes.now) }
+    ensures { result ≡ oaat_finish (oaat_state 0 bytes.now) }
 {
     let mut hasher = OAATHasher::default();
     hasher.write(bytes);

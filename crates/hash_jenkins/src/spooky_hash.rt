@@ -13,7 +13,7 @@ ghost use Rattle.hash_jenkins.specs.SpookyStanding.{IsPosition, SpookyStandsAt, 
 ghost use Rattle.hash_jenkins.specs.SpookyLaws.{IsPosition-fresh, IsPosition-after, after-nil, after-append, stands_at_seeds, stands_after, hash_from_seeds, answer_where_stands};
 
 use crate::spooky_parts::SpookyParts;
-use hash_laws::laws::{Piecewise, Streamed};
+use hash_laws::traits::{Piecewise, Streamed};
 use hash_rounds::Turns;
 use std::hash::Hasher;
 use std::marker::Model;

@@ -10,3 +10,4 @@ pub mod TextLemmas
 pub mod Windows
 pub mod WindowTest
 pub mod WriteLemmas
+pub mod KnownText

@@ -1,5 +1,5 @@
 -- What a reader's bytes do to a hasher.
-use Rattle.std.specs.Prelude.{ℕ, ◌≡◌, ◌+◌, ◌-◌, ◌*◌, ◌/◌, List, Option, map, take, drop, length, fold}
+use Rattle.std.specs.Prelude.{ℕ, ◌≡◌, ◌+◌, ◌-◌, ◌*◌, ◌/◌, List, Option, Some, map, take, drop, length, fold}
 use Rattle.std.specs.List.{range_with_len}
 use Rattle.std.specs.Io.KnownBytes.{Consumes}
 use Rattle.hash_laws.specs.Text.{IsText}
@@ -23,3 +23,17 @@ pub record HashesRead {S : Type 0} (in_range : S → Type 0) (after : S → List
   pub read : Consumes left left' text
   pub count : length text ≡ bytes
   pub hashed : in_range s → s' ≡ after s text
+
+-- where the bytes that were left are known, the first so many led there in pieces of n, or as one text
+abbrev pub FeedsFirst : {S : Type 0} (after : S → List ℕ → S) (n : ℕ) (left : Option (List ℕ)) (s s' : S) (count : ℕ) → Type 0
+FeedsFirst after n left s s' count = (bytes : List ℕ) → left ≡ Some bytes → s' ≡ fold after s (cut n (take count bytes))
+
+abbrev pub HashesFirst : {S : Type 0} (in_range : S → Type 0) (after : S → List ℕ → S) (left : Option (List ℕ)) (s s' : S) (count : ℕ) → Type 0
+HashesFirst in_range after left s s' count = (bytes : List ℕ) → left ≡ Some bytes → in_range s → s' ≡ after s (take count bytes)
+
+-- where they are known, all of them led there
+abbrev pub FeedsAll : {S : Type 0} (after : S → List ℕ → S) (n : ℕ) (left : Option (List ℕ)) (s s' : S) → Type 0
+FeedsAll after n left s s' = (bytes : List ℕ) → left ≡ Some bytes → s' ≡ fold after s (cut n bytes)
+
+abbrev pub HashesAll : {S : Type 0} (in_range : S → Type 0) (after : S → List ℕ → S) (left : Option (List ℕ)) (s s' : S) → Type 0
+HashesAll in_range after left s s' = (bytes : List ℕ) → left ≡ Some bytes → in_range s → s' ≡ after s bytes

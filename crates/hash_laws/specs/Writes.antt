@@ -3,11 +3,11 @@ use Rattle.std.specs.Prelude.{ℕ, ◌≡◌, List, [], ◌∷◌, map}
 use Rattle.std.specs.List.{flat_map}
 use Rattle.std.specs.Hash.{le_bytes}
 use Rattle.hash_laws.specs.Text.{IsText}
-use Rattle.hash_laws.specs.declared.writes.Write.{Write}
-use Rattle.hash_laws.specs.declared.writes.Write.TheVariants.{Bytes, U8, U16, U32, U64, Usize}
+use Rattle.hash_laws.specs.declared.writes.HasherWrite.{HasherWrite}
+use Rattle.hash_laws.specs.declared.writes.HasherWrite.TheVariants.{Bytes, U8, U16, U32, U64, Usize}
 
 -- the bytes of a write, of a number the lowest first
-abbrev pub written : Write → List ℕ
+abbrev pub written : HasherWrite → List ℕ
 written (Bytes bytes) = bytes.now
 written (U8 value) = value ∷ []
 written (U16 value) = le_bytes 2 value
@@ -16,11 +16,11 @@ written (U64 value) = le_bytes 8 value
 written (Usize value) = le_bytes 8 value
 
 -- the bytes of each write
-abbrev pub all_written : List Write → List (List ℕ)
+abbrev pub all_written : List HasherWrite → List (List ℕ)
 all_written writes = map written writes
 
 -- the bytes of all writes, one after the other
-abbrev pub joined_written : List Write → List ℕ
+abbrev pub joined_written : List HasherWrite → List ℕ
 joined_written writes = flat_map written writes
 
 -- a text was taken out: it leads from the new state to the old one, and from no other state in range

@@ -3,12 +3,12 @@
 //! std feeds a key in one or more writes, which `hash_input` of the key's type lists: a number is its little-endian bytes,
 //! a slice its length as 8 bytes and then each item, a `&str` its bytes and then 0xFF, a pair its first part and then its
 //! second.
-ghost use Rattle.std.specs.Prelude.{◌≡◌, ◌++◌, All, fold, length};
+ghost use Rattle.std.specs.Prelude.{◌≡◌, ◌++◌, ◌∷◌, [], All, fold, length};
 ghost use Rattle.std.specs.Hash.{le_bytes};
 ghost use Rattle.std.specs.List.{concat};
 ghost use Rattle.hash_laws.specs.Text.{IsText};
 
-use crate::laws::{Piecewise, Streamed};
+use crate::traits::{Piecewise, Streamed};
 use std::hash::{BuildHasher, Hash, Hasher};
 use std::marker::PhantomData;
 
@@ -83,4 +83,22 @@ pub fn hash_one_pair<H: Streamed>(key: (u64, u64)) -> u64
     ensures { result ≡ H.hash_of (le_bytes 8 key.0 ++ le_bytes 8 key.1) }
 {
     hash_one_joined::<H, (u64, u64)>(key)
+}
+
+/// The hash of a string as a key: that of its bytes in UTF-8, followed by 0xFF.
+#[inline(always)]
+pub fn hash_one_str<H: Streamed>(key: &str) -> u64
+    ensures { result ≡ H.hash_of (key.now ++ 0xFF ∷ []) }
+{
+    hash_one_joined::<H, &str>(key)
+}
+
+/// Feeds a key to a hasher to which cuts don't show: the state is that after the bytes that std feeds, joined, from
+/// wherever the hasher stood.
+#[inline(always)]
+pub fn feed_key<H: Streamed, K: Hash + Drop>(h: &mut H, key: K)
+    ensures { All IsText (K.hash_input key) → H.in_range (H.state h.old)
+        → H.state h.new ≡ H.after (H.state h.old) (concat (K.hash_input key)) }
+{
+    key.hash(h);
 }

@@ -1,10 +1,10 @@
 //! The hash of what a reader gives, read through one fixed array, however the reader cuts it.
 ghost use Rattle.std.specs.Prelude.{◌≡◌, ◌<◌, ◌≤◌, ◌↔◌, length, take, IfOk, IfErr, OnOk, OnErr, IsTrue, false};
 ghost use Rattle.std.specs.Io.KnownBytes.{Consumes, IsAtEnd};
-ghost use Rattle.hash_laws.specs.Reading.{FeedsRead, HashesRead};
+ghost use Rattle.hash_laws.specs.Reading.{FeedsRead, FeedsFirst, FeedsAll, HashesRead, HashesFirst, HashesAll};
 ghost use Rattle.hash_laws.specs.Text.{IsText};
 
-use crate::laws::{Piecewise, Streamed};
+use crate::traits::{Piecewise, Streamed};
 use std::error::Error as StdError;
 use std::fmt;
 use std::fmt::{Debug, Display, Formatter};
@@ -121,6 +121,14 @@ pub fn hash_reader<H: Piecewise, R: Read, const N: usize>(
     ensures fault { IfErr result (λ fault. FeedsRead H.after N (R.remaining r.old) (R.remaining r.new)
         (H.state h.old) (H.state h.new) fault.bytes) }
 
+    // Where the reader's bytes are known: the first so many of them, and all where the end was seen.
+    ensures first_taken { IfOk result (λ taken. FeedsFirst H.after N (R.remaining r.old)
+        (H.state h.old) (H.state h.new) taken.bytes) }
+    ensures first_fault { IfErr result (λ fault. FeedsFirst H.after N (R.remaining r.old)
+        (H.state h.old) (H.state h.new) fault.bytes) }
+    ensures all { IfOk result (λ taken. IsTrue taken.ended
+        → FeedsAll H.after N (R.remaining r.old) (H.state h.old) (H.state h.new)) }
+
     // The limit is met, or the end was seen before it and nothing is left.
     ensures within { IfOk result (λ taken. taken.bytes ≤ limit) }
     ensures at_limit { IfOk result (λ taken. (taken.ended ≡ false) ↔ (taken.bytes ≡ limit)) }
@@ -161,6 +169,14 @@ pub fn hash_stream<H: Streamed, R: Read, const N: usize>(
         (R.remaining r.new) (H.state h.old) (H.state h.new) taken.bytes) }
     ensures fault { IfErr result (λ fault. HashesRead H.in_range H.after (R.remaining r.old)
         (R.remaining r.new) (H.state h.old) (H.state h.new) fault.bytes) }
+
+    // Where the reader's bytes are known: the first so many of them, and all where the end was seen.
+    ensures first_taken { IfOk result (λ taken. HashesFirst H.in_range H.after (R.remaining r.old)
+        (H.state h.old) (H.state h.new) taken.bytes) }
+    ensures first_fault { IfErr result (λ fault. HashesFirst H.in_range H.after (R.remaining r.old)
+        (H.state h.old) (H.state h.new) fault.bytes) }
+    ensures all { IfOk result (λ taken. IsTrue taken.ended
+        → HashesAll H.in_range H.after (R.remaining r.old) (H.state h.old) (H.state h.new)) }
 
     // As for `hash_reader`.
     ensures within { IfOk result (λ taken. taken.bytes ≤ limit) }

@@ -3,6 +3,6 @@
 
 pub mod build;
 pub mod engine;
-pub mod laws;
+pub mod traits;
 pub mod window;
 pub mod writes;

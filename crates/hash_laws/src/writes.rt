@@ -3,11 +3,11 @@ ghost use Rattle.std.specs.Prelude.{◌≡◌, ◌≢◌, ℕ, List, [], ◌++�
 ghost use Rattle.hash_laws.specs.Text.{IsText};
 ghost use Rattle.hash_laws.specs.Writes.{written, all_written, joined_written, IsTakenOut};
 
-use crate::laws::{Piecewise, Streamed, Undo};
+use crate::traits::{Piecewise, Streamed, Undo};
 
 /// One write to a hasher. A number is written as its little-endian bytes: 1, 2, 4 or 8 of them, and 8 for `Usize`.
 #[derive(Clone, Copy, Drop)]
-pub enum Write<'a> {
+pub enum HasherWrite<'a> {
     /// The bytes.
     Bytes(&'a [u8]),
     /// One byte.
@@ -32,17 +32,17 @@ fn write_bytes<H: Piecewise>(h: &mut H, bytes: &[u8])
 
 /// Makes a write by the method of std's `Hasher` that is named as it.
 #[tactic(auto, using(crate::proofs::TextLemmas::number_texts))]
-fn make<H: Piecewise>(h: &mut H, write: &Write)
+fn make<H: Piecewise>(h: &mut H, write: &HasherWrite)
     ensures state { H.state h.new ≡ H.after (H.state h.old) (written write.now) }
     ensures text { IsText (written write.now) }
 {
     match write {
-        Write::Bytes(bytes) => write_bytes(h, bytes),
-        Write::U8(value) => h.write_u8(*value),
-        Write::U16(value) => h.write_u16(*value),
-        Write::U32(value) => h.write_u32(*value),
-        Write::U64(value) => h.write_u64(*value),
-        Write::Usize(value) => h.write_usize(*value),
+        HasherWrite::Bytes(bytes) => write_bytes(h, bytes),
+        HasherWrite::U8(value) => h.write_u8(*value),
+        HasherWrite::U16(value) => h.write_u16(*value),
+        HasherWrite::U32(value) => h.write_u32(*value),
+        HasherWrite::U64(value) => h.write_u64(*value),
+        HasherWrite::Usize(value) => h.write_usize(*value),
     }
 }
 
@@ -55,21 +55,21 @@ fn unwrite_bytes<H: Undo>(h: &mut H, bytes: &[u8])
 
 /// Takes a write back by `unwrite` of its bytes.
 #[tactic(auto, using(crate::proofs::TextLemmas::number_bytes))]
-fn take_back<H: Undo>(h: &mut H, write: &Write)
+fn take_back<H: Undo>(h: &mut H, write: &HasherWrite)
     ensures { IsTakenOut H.in_range H.after (H.state h.old) (H.state h.new) (written write.now) }
 {
     match write {
-        Write::Bytes(bytes) => unwrite_bytes(h, bytes),
-        Write::U8(value) => unwrite_bytes(h, &[*value]),
-        Write::U16(value) => unwrite_bytes(h, &value.to_le_bytes()),
-        Write::U32(value) => unwrite_bytes(h, &value.to_le_bytes()),
-        Write::U64(value) => unwrite_bytes(h, &value.to_le_bytes()),
-        Write::Usize(value) => unwrite_bytes(h, &value.to_le_bytes()),
+        HasherWrite::Bytes(bytes) => unwrite_bytes(h, bytes),
+        HasherWrite::U8(value) => unwrite_bytes(h, &[*value]),
+        HasherWrite::U16(value) => unwrite_bytes(h, &value.to_le_bytes()),
+        HasherWrite::U32(value) => unwrite_bytes(h, &value.to_le_bytes()),
+        HasherWrite::U64(value) => unwrite_bytes(h, &value.to_le_bytes()),
+        HasherWrite::Usize(value) => unwrite_bytes(h, &value.to_le_bytes()),
     }
 }
 
 /// Makes the writes in order, by std's own methods. The state is the fold of the definition over the bytes of each.
-pub fn run_writes<H: Piecewise>(h: &mut H, writes: &[Write])
+pub fn run_writes<H: Piecewise>(h: &mut H, writes: &[HasherWrite])
     ensures state { H.state h.new ≡ fold H.after (H.state h.old) (all_written writes.now) }
 {
     for write in writes {
@@ -79,13 +79,14 @@ pub fn run_writes<H: Piecewise>(h: &mut H, writes: &[Write])
 
 /// Makes the writes in order, by std's own methods. Only the joined bytes count: what stood at (start, text) stands at
 /// (start, text followed by the joined bytes of the writes), and its answer is the definition of that text.
-pub fn run_writes_streamed<H: Streamed>(h: &mut H, writes: &[Write])
-    ensures one { H.in_range (H.state h.old)
+pub fn run_writes_streamed<H: Streamed>(h: &mut H, writes: &[HasherWrite])
+    ensures state { H.in_range (H.state h.old)
         → H.state h.new ≡ H.after (H.state h.old) (joined_written writes.now) }
     ensures stands { (from text : List ℕ) → H.stands_at h.old from text
         → H.stands_at h.new from (text ++ joined_written writes.now) }
     ensures answers { (from text : List ℕ) → H.stands_at h.old from text
         → H.answer (H.state h.new) ≡ H.hash from (text ++ joined_written writes.now) }
+    ensures text { IsText (joined_written writes.now) }
 {
     for write in writes {
         make(h, write);
@@ -93,8 +94,10 @@ pub fn run_writes_streamed<H: Streamed>(h: &mut H, writes: &[Write])
 }
 
 /// The hash of the joined bytes of the writes, from the default start.
-pub fn answer_of_writes<H: Streamed>(writes: &[Write]) -> u64
-    ensures { result ≡ H.hash H.start (joined_written writes.now) }
+pub fn answer_of_writes<H: Streamed>(writes: &[HasherWrite]) -> u64
+    ensures defined { result ≡ H.hash H.start (joined_written writes.now) }
+    ensures value { result ≡ H.hash_of (joined_written writes.now) }
+    ensures text { IsText (joined_written writes.now) }
 {
     let mut hasher = H::fresh();
     run_writes_streamed(&mut hasher, writes);
@@ -103,7 +106,7 @@ pub fn answer_of_writes<H: Streamed>(writes: &[Write]) -> u64
 
 /// Takes the writes back, from the last to the first: the inverse of `run_writes` of the same list, both ways, on every
 /// state.
-pub fn unrun_writes<H: Undo>(h: &mut H, writes: &[Write])
+pub fn unrun_writes<H: Undo>(h: &mut H, writes: &[HasherWrite])
     // The writes lead back to where the hasher was,
     ensures back { fold H.after (H.state h.new) (all_written writes.now) ≡ H.state h.old }
     // and from wherever they led there, that is the state now.

@@ -10,7 +10,7 @@ use Rattle.std.proofs.lemmas.List.Kept.{AllPairs-filter}
 use Rattle.hash_ring.specs.declared.Node.{Node}
 use Rattle.hash_ring.specs.declared.Point.{Point}
 use Rattle.hash_ring.specs.Ring.{IsPointOf}
-use Rattle.hash_ring.specs.Points.{ArePoints, IsBefore, IsGapAt, IsRing, IsTrue, closed_up, left_without, node_at, pair_of, pairs}
+use Rattle.hash_ring.specs.Points.{ArePoints, IsBefore, IsGapAt, IsRing, IsPointOfItsNode, closed_up, left_without, node_at, pair_of, pairs}
 use Rattle.hash_ring.proofs.Names.{Pairs, inserted_sorted, removed_sorted}
 
 -- what `closed_up` makes of the later indices, and of the earlier
@@ -124,11 +124,11 @@ module _ (hash : List ℕ → ℕ) (es : Pairs) (gone : ℕ) (below : gone < len
 
   pub still_just : (points : List Point) → ArePoints hash es points → ArePoints hash rest (left_points points)
   still_just points just = record {
-    real = All-map (IsTrue hash rest) (closed_up gone) (filter (λ p. not (p.node == gone)) points)
+    real = All-map (IsPointOfItsNode hash rest) (closed_up gone) (filter (λ p. not (p.node == gone)) points)
         (λ k d l.
         let kept = filter (λ p. not (p.node == gone)) points in
         let p = get_or kept k d in
-        let of = All-filter (λ p. not (p.node == gone)) (IsTrue hash es) points just.real k d l in
+        let of = All-filter (λ p. not (p.node == gone)) (IsPointOfItsNode hash es) points just.real k d l in
         let ne = other_node p (filter_passes (λ p. not (p.node == gone)) points k d l) in
         subst (λ node. IsPointOf hash node p.place) (sym (moved p ne)) of);
     all = λ i place of.

@@ -21,8 +21,8 @@ use Rattle.hash_ring.specs.Points.{IsGapAt, IsNamedAt, node_at, nodes_of, pair_o
 abbrev pub Pairs : Type 0
 Pairs = List (List ℕ × ℕ)
 
-abbrev pub R : List ℕ → List ℕ → Ordering
-R = slice_cmp nat_cmp
+abbrev pub by_bytes : List ℕ → List ℕ → Ordering
+by_bytes = slice_cmp nat_cmp
 
 is_equal : (r : Ordering) → is_eq r ≡ true → r ≡ Equal
 is_equal Less e = cc
@@ -30,16 +30,16 @@ is_equal Equal e = refl
 is_equal Greater e = cc
 
 -- keys that tie are the same
-pub same_name : (q k : List ℕ) → is_eq (R q k) ≡ true → q ≡ k
+pub same_name : (q k : List ℕ) → is_eq (by_bytes q k) ≡ true → q ≡ k
 same_name q k e = slice_cmp-IsAntisymmetric nat_cmp-IsAntisymmetric q k (is_equal _ e)
 
-pub itself : (k : List ℕ) → R k k ≡ Equal
+pub itself : (k : List ℕ) → by_bytes k k ≡ Equal
 itself k = tied_itself nat_list_cmp_total k
 
-back_less : (q k : List ℕ) → R q k ≡ Less → R k q ≡ Greater
+back_less : (q k : List ℕ) → by_bytes q k ≡ Less → by_bytes k q ≡ Greater
 back_less q k e = nat_list_cmp_total.antisymm k q ∙ ap ordering_reverse e
 
-back_greater : (q k : List ℕ) → R q k ≡ Greater → R k q ≡ Less
+back_greater : (q k : List ℕ) → by_bytes q k ≡ Greater → by_bytes k q ≡ Less
 back_greater q k e = nat_list_cmp_total.antisymm k q ∙ ap ordering_reverse e
 
 both_parts : (a b : Bool) → T (a && b) → T a × T b
@@ -51,25 +51,25 @@ less_is Less h = refl
 less_is Equal h = absurd h
 less_is Greater h = absurd h
 
-below_at : (x : List ℕ) (es : Pairs) (j : ℕ) → T (below_all R x es) → j < length es → R x (node_at es j).0 ≡ Less
+below_at : (x : List ℕ) (es : Pairs) (j : ℕ) → T (below_all by_bytes x es) → j < length es → by_bytes x (node_at es j).0 ≡ Less
 below_at x [] j h l = absurd (omega arith)
 below_at x (e ∷ es) zero h l = less_is _ (both_parts _ _ h).0
 below_at x (e ∷ es) (suc j) h l = below_at x es j (both_parts _ _ h).1 (omega arith)
 
 -- each name is less than those after it
-pub names_rise : (es : Pairs) → T (is_sorted R es) → (i j : ℕ) → i < j → j < length es → R (node_at es i).0 (node_at es j).0 ≡ Less
+pub names_rise : (es : Pairs) → T (is_sorted by_bytes es) → (i j : ℕ) → i < j → j < length es → by_bytes (node_at es i).0 (node_at es j).0 ≡ Less
 names_rise [] h i j l m = absurd (omega arith)
 names_rise (e ∷ es) h i zero l m = absurd (omega arith)
 names_rise (e ∷ es) h zero (suc j) l m = below_at e.0 es j (both_parts _ _ h).0 (omega arith)
 names_rise (e ∷ es) h (suc i) (suc j) l m = names_rise es (both_parts _ _ h).1 i j (omega arith) (omega arith)
 
 -- a node at an index is found
-pub found_at : (es : Pairs) → T (is_sorted R es) → (i : ℕ) → i < length es → find R (node_at es i).0 es ≡ Some (node_at es i).1
+pub found_at : (es : Pairs) → T (is_sorted by_bytes es) → (i : ℕ) → i < length es → find by_bytes (node_at es i).0 es ≡ Some (node_at es i).1
 found_at [] h i l = absurd (omega arith)
-found_at (e ∷ es) h zero l = ap (λ r. cond (is_eq r) (Some e.1) (find R e.0 es)) (itself e.0)
+found_at (e ∷ es) h zero l = ap (λ r. cond (is_eq r) (Some e.1) (find by_bytes e.0 es)) (itself e.0)
 found_at (e ∷ es) h (suc i) l =
-    let later : R (node_at es i).0 e.0 ≡ Greater = back_less e.0 (node_at es i).0 (below_at e.0 es i (both_parts _ _ h).0 (omega arith)) in
-    ap (λ r. cond (is_eq r) (Some e.1) (find R (node_at es i).0 es)) later ∙ found_at es (both_parts _ _ h).1 i (omega arith)
+    let later : by_bytes (node_at es i).0 e.0 ≡ Greater = back_less e.0 (node_at es i).0 (below_at e.0 es i (both_parts _ _ h).0 (omega arith)) in
+    ap (λ r. cond (is_eq r) (Some e.1) (find by_bytes (node_at es i).0 es)) later ∙ found_at es (both_parts _ _ h).1 i (omega arith)
 
 -- where a node that is found stands
 pub record IsFoundAt (es : Pairs) (q : List ℕ) (w : ℕ) : Type 0 where
@@ -77,36 +77,36 @@ pub record IsFoundAt (es : Pairs) (q : List ℕ) (w : ℕ) : Type 0 where
   pub below : i < length es
   pub is : node_at es i ≡ (q, w)
 
-pub found_where : (es : Pairs) (q : List ℕ) (w : ℕ) → find R q es ≡ Some w → IsFoundAt es q w
+pub found_where : (es : Pairs) (q : List ℕ) (w : ℕ) → find by_bytes q es ≡ Some w → IsFoundAt es q w
 found_where [] q w e = cc
 found_where (x ∷ es) q w e =
-    elim (is_eq (R q x.0)) as (λ b. is_eq (R q x.0) ≡ b → cond b (Some x.1) (find R q es) ≡ Some w → IsFoundAt (x ∷ es) q w) [
+    elim (is_eq (by_bytes q x.0)) as (λ b. is_eq (by_bytes q x.0) ≡ b → cond b (Some x.1) (find by_bytes q es) ≡ Some w → IsFoundAt (x ∷ es) q w) [
       | true ↦ λ t s. let value : x.1 ≡ w = cc in let name : q ≡ x.0 = same_name q x.0 t in record { i = 0; below = omega arith; is = λ j. (sym name j, value j) }
       | false ↦ λ t s. let r = found_where es q w s in record { i = suc r.i; below = omega (arith, r.below); is = r.is }
     ] refl e
 
 -- the name at an index is no greater than at a later one
-pub no_greater : (es : Pairs) → T (is_sorted R es) → (i j : ℕ) → i ≤ j → j < length es → is_gt (R (node_at es i).0 (node_at es j).0) ≡ false
+pub no_greater : (es : Pairs) → T (is_sorted by_bytes es) → (i j : ℕ) → i ≤ j → j < length es → is_gt (by_bytes (node_at es i).0 (node_at es j).0) ≡ false
 no_greater es h i j upto m = ⊎_elim
     (λ (low : i < j). ap is_gt (names_rise es h i j low m))
-    (λ (same : j ≤ i). let e : i ≡ j = omega arith in ap is_gt (ap (λ k. R (node_at es i).0 (node_at es k).0) (sym e) ∙ itself (node_at es i).0))
+    (λ (same : j ≤ i). let e : i ≡ j = omega arith in ap is_gt (ap (λ k. by_bytes (node_at es i).0 (node_at es k).0) (sym e) ∙ itself (node_at es i).0))
     (cases_lt i j)
 
 -- ---- a search by name
-sorted_nodes : (nodes : List Node) → T (is_sorted R (pairs nodes)) → IsSortedBy (λ a b. is_lt (R a.name.items b.name.items)) nodes
+sorted_nodes : (nodes : List Node) → T (is_sorted by_bytes (pairs nodes)) → IsSortedBy (λ a b. is_lt (by_bytes a.name.items b.name.items)) nodes
 sorted_nodes nodes h k d low next =
     let long = length-map nodes pair_of in
     let a = (node_at (pairs nodes) k).0 in
     let b = (node_at (pairs nodes) (k + 1)).0 in
     let here : (i : ℕ) → i < length nodes → (get_or nodes i d).name.items ≡ (node_at (pairs nodes) i).0 = λ i l. sym (ap (λ node. node.0) (get_or-map pair_of nodes i d ([], 0) l)) in
-    let rise : R a b ≡ Less = names_rise (pairs nodes) h k (k + 1) (omega arith) (omega arith) in
-    ap is_lt ((λ j. R (here (k + 1) next j) (here k (omega arith) j)) ∙ back_less a b rise)
+    let rise : by_bytes a b ≡ Less = names_rise (pairs nodes) h k (k + 1) (omega arith) (omega arith) in
+    ap is_lt ((λ j. by_bytes (here (k + 1) next j) (here k (omega arith) j)) ∙ back_less a b rise)
 
 pub read : (nodes : List Node) (d : Node) (k : ℕ) → k < length nodes → (node_at (pairs nodes) k).0 ≡ (get_or nodes k d).name.items
 read nodes d k l = ap (λ node. node.0) (get_or-map pair_of nodes k d ([], 0) l)
 
-pub named_or_gap : (nodes : List Node) (name : List ℕ) (r : Result ℕ ℕ) → T (is_sorted R (pairs nodes)) → IsSearchInRange r (length nodes)
-    → IsBinarySearchResult (λ node. R node.name.items name) nodes r → MatchResult r (IsNamedAt (pairs nodes) name) (IsGapAt (pairs nodes) name)
+pub named_or_gap : (nodes : List Node) (name : List ℕ) (r : Result ℕ ℕ) → T (is_sorted by_bytes (pairs nodes)) → IsSearchInRange r (length nodes)
+    → IsBinarySearchResult (λ node. by_bytes node.name.items name) nodes r → MatchResult r (IsNamedAt (pairs nodes) name) (IsGapAt (pairs nodes) name)
 named_or_gap [] name (Ok i) h below is = absurd (omega arith)
 named_or_gap [] name (Err i) h within is = record {
   within = omega arith;
@@ -126,8 +126,8 @@ named_or_gap (d ∷ ds) name (Err i) h within is =
     let at = is (searchable_from_sorted nat_list_cmp_total (λ (node : Node). node.name.items) nodes name (sorted_nodes nodes h)) in
     record {
       within = omega arith;
-      less = λ k l. ap (λ x. R x name) (read nodes d k (omega arith)) ∙ at.0 k d (omega arith) l;
-      greater = λ k l m. ap (λ x. R x name) (read nodes d k (omega arith)) ∙ at.1 k d l (omega arith);
+      less = λ k l. ap (λ x. by_bytes x name) (read nodes d k (omega arith)) ∙ at.0 k d (omega arith) l;
+      greater = λ k l m. ap (λ x. by_bytes x name) (read nodes d k (omega arith)) ∙ at.1 k d l (omega arith);
     }
 
 -- ---- a node more, and one less
@@ -145,86 +145,86 @@ start_gap e es name gap = record {
   greater = λ k l m. gap.greater (suc k) (omega arith) (omega arith);
 }
 
-put_at : (es : Pairs) (name : List ℕ) (w i : ℕ) → IsGapAt es name i → put R name w es ≡ insert es i (name, w)
+put_at : (es : Pairs) (name : List ℕ) (w i : ℕ) → IsGapAt es name i → put by_bytes name w es ≡ insert es i (name, w)
 put_at [] name w zero gap = refl
 put_at [] name w (suc i) gap = absurd (omega (arith, gap.within))
 put_at (e ∷ es) name w zero gap =
-    let less : R name e.0 ≡ Less = back_greater e.0 name (gap.greater 0 (omega arith) (omega arith)) in
-    ap (λ r. by_order r ((name, w) ∷ e ∷ es) ((e.0, w) ∷ es) (e ∷ put R name w es)) less
+    let less : by_bytes name e.0 ≡ Less = back_greater e.0 name (gap.greater 0 (omega arith) (omega arith)) in
+    ap (λ r. by_order r ((name, w) ∷ e ∷ es) ((e.0, w) ∷ es) (e ∷ put by_bytes name w es)) less
 put_at (e ∷ es) name w (suc i) gap =
-    let more : R name e.0 ≡ Greater = back_less e.0 name (gap.less 0 (omega arith)) in
-    ap (λ r. by_order r ((name, w) ∷ e ∷ es) ((e.0, w) ∷ es) (e ∷ put R name w es)) more ∙ ap (λ rest. e ∷ rest) (put_at es name w i (tail_gap e es name i gap))
+    let more : by_bytes name e.0 ≡ Greater = back_less e.0 name (gap.less 0 (omega arith)) in
+    ap (λ r. by_order r ((name, w) ∷ e ∷ es) ((e.0, w) ∷ es) (e ∷ put by_bytes name w es)) more ∙ ap (λ rest. e ∷ rest) (put_at es name w i (tail_gap e es name i gap))
 
-not_found : (es : Pairs) (name : List ℕ) (i : ℕ) → IsGapAt es name i → find R name es ≡ None
+not_found : (es : Pairs) (name : List ℕ) (i : ℕ) → IsGapAt es name i → find by_bytes name es ≡ None
 not_found [] name i gap = refl
 not_found (e ∷ es) name zero gap =
-    let less : R name e.0 ≡ Less = back_greater e.0 name (gap.greater 0 (omega arith) (omega arith)) in
-    ap (λ r. cond (is_eq r) (Some e.1) (find R name es)) less ∙ not_found es name 0 (start_gap e es name gap)
+    let less : by_bytes name e.0 ≡ Less = back_greater e.0 name (gap.greater 0 (omega arith) (omega arith)) in
+    ap (λ r. cond (is_eq r) (Some e.1) (find by_bytes name es)) less ∙ not_found es name 0 (start_gap e es name gap)
 not_found (e ∷ es) name (suc i) gap =
-    let more : R name e.0 ≡ Greater = back_less e.0 name (gap.less 0 (omega arith)) in
-    ap (λ r. cond (is_eq r) (Some e.1) (find R name es)) more ∙ not_found es name i (tail_gap e es name i gap)
+    let more : by_bytes name e.0 ≡ Greater = back_less e.0 name (gap.less 0 (omega arith)) in
+    ap (λ r. cond (is_eq r) (Some e.1) (find by_bytes name es)) more ∙ not_found es name i (tail_gap e es name i gap)
 
 -- every name but this one
 abbrev other : List ℕ → List ℕ → Bool
-other name = λ x. not (eq_by_cmp R name x)
+other name = λ x. not (eq_by_cmp by_bytes name x)
 
-all_kept : (name : List ℕ) (es : Pairs) → T (below_all R name es) → where_key R (other name) es ≡ es
+all_kept : (name : List ℕ) (es : Pairs) → T (below_all by_bytes name es) → where_key by_bytes (other name) es ≡ es
 all_kept name [] h = refl
 all_kept name (e ∷ es) h =
-    let less : R name e.0 ≡ Less = less_is _ (both_parts _ _ h).0 in
-    ap (λ r. cond (not (is_eq r)) (e ∷ where_key R (other name) es) (where_key R (other name) es)) less ∙ ap (λ rest. e ∷ rest) (all_kept name es (both_parts _ _ h).1)
+    let less : by_bytes name e.0 ≡ Less = less_is _ (both_parts _ _ h).0 in
+    ap (λ r. cond (not (is_eq r)) (e ∷ where_key by_bytes (other name) es) (where_key by_bytes (other name) es)) less ∙ ap (λ rest. e ∷ rest) (all_kept name es (both_parts _ _ h).1)
 
-removed_at : (es : Pairs) → T (is_sorted R es) → (i : ℕ) → i < length es → where_key R (other (node_at es i).0) es ≡ remove es i
+removed_at : (es : Pairs) → T (is_sorted by_bytes es) → (i : ℕ) → i < length es → where_key by_bytes (other (node_at es i).0) es ≡ remove es i
 removed_at [] h i l = absurd (omega arith)
 removed_at (e ∷ es) h zero l =
-    ap (λ r. cond (not (is_eq r)) (e ∷ where_key R (other e.0) es) (where_key R (other e.0) es)) (itself e.0) ∙ all_kept e.0 es (both_parts _ _ h).0
+    ap (λ r. cond (not (is_eq r)) (e ∷ where_key by_bytes (other e.0) es) (where_key by_bytes (other e.0) es)) (itself e.0) ∙ all_kept e.0 es (both_parts _ _ h).0
 removed_at (e ∷ es) h (suc i) l =
     let name = (node_at es i).0 in
-    let later : R name e.0 ≡ Greater = back_less e.0 name (below_at e.0 es i (both_parts _ _ h).0 (omega arith)) in
-    ap (λ r. cond (not (is_eq r)) (e ∷ where_key R (other name) es) (where_key R (other name) es)) later ∙ ap (λ rest. e ∷ rest) (removed_at es (both_parts _ _ h).1 i (omega arith))
+    let later : by_bytes name e.0 ≡ Greater = back_less e.0 name (below_at e.0 es i (both_parts _ _ h).0 (omega arith)) in
+    ap (λ r. cond (not (is_eq r)) (e ∷ where_key by_bytes (other name) es) (where_key by_bytes (other name) es)) later ∙ ap (λ rest. e ∷ rest) (removed_at es (both_parts _ _ h).1 i (omega arith))
 
 swapped : {A : Type 0} (b : Bool) (x y : A) → cond (not b) x y ≡ cond b y x
 swapped true x y = refl
 swapped false x y = refl
 
 -- ---- the map of the nodes
-module _ (es : Pairs) (h : T (is_sorted R es)) where
+module _ (es : Pairs) (h : T (is_sorted by_bytes es)) where
   pub entries_are : fin.entries (nodes_of es) ≡ es
-  entries_are = fin.entries-from_sorted R es h
+  entries_are = fin.entries-from_sorted by_bytes es h
 
-  pub get_is : (q : List ℕ) → fin.get (nodes_of es) q ≡ find R q es
-  get_is q = fin.get-from_sorted R es q h
+  pub get_is : (q : List ℕ) → fin.get (nodes_of es) q ≡ find by_bytes q es
+  get_is q = fin.get-from_sorted by_bytes es q h
 
-  pub inserted_sorted : (name : List ℕ) (w i : ℕ) → IsGapAt es name i → T (is_sorted R (insert es i (name, w)))
-  inserted_sorted name w i gap = subst (λ es. T (is_sorted R es)) (put_at es name w i gap) (is_sorted-put R nat_list_cmp_total name w es h)
+  pub inserted_sorted : (name : List ℕ) (w i : ℕ) → IsGapAt es name i → T (is_sorted by_bytes (insert es i (name, w)))
+  inserted_sorted name w i gap = subst (λ es. T (is_sorted by_bytes es)) (put_at es name w i gap) (is_sorted-put by_bytes nat_list_cmp_total name w es h)
 
   pub inserted : (name : List ℕ) (w i : ℕ) → IsGapAt es name i → nodes_of (insert es i (name, w)) ≡ fin.insert (nodes_of es) name w
   inserted name w i gap =
       fin.same_entries_map _ _
-      (fin.entries-from_sorted R _ (inserted_sorted name w i gap)
-      ∙ sym (fin.entries-insert nat_list_cmp_total (nodes_of es) name w ∙ ap (put R name w) entries_are ∙ put_at es name w i gap))
+      (fin.entries-from_sorted by_bytes _ (inserted_sorted name w i gap)
+      ∙ sym (fin.entries-insert nat_list_cmp_total (nodes_of es) name w ∙ ap (put by_bytes name w) entries_are ∙ put_at es name w i gap))
 
   pub new_name : (name : List ℕ) (i : ℕ) → IsGapAt es name i → fin.get (nodes_of es) name ≡ None
   new_name name i gap = get_is name ∙ not_found es name i gap
 
-  pub removed_sorted : (i : ℕ) → i < length es → T (is_sorted R (remove es i))
-  removed_sorted i l = subst (λ es. T (is_sorted R es)) (removed_at es h i l) (is_sorted-where_key R (other (node_at es i).0) es h)
+  pub removed_sorted : (i : ℕ) → i < length es → T (is_sorted by_bytes (remove es i))
+  removed_sorted i l = subst (λ es. T (is_sorted by_bytes es)) (removed_at es h i l) (is_sorted-where_key by_bytes (other (node_at es i).0) es h)
 
   pub removed : (i : ℕ) → i < length es → nodes_of (remove es i) ≡ fin.remove (nodes_of es) (node_at es i).0
   removed i l =
       let name = (node_at es i).0 in
       fin.same_map nat_list_cmp_total (slice_cmp-IsAntisymmetric nat_cmp-IsAntisymmetric) _ _
-      (λ q. fin.get-from_sorted R _ q (removed_sorted i l)
-      ∙ ap (find R q) (sym (removed_at es h i l))
-      ∙ find-where_key R (other name) q (λ x e. ap (other name) (sym (slice_cmp-IsAntisymmetric nat_cmp-IsAntisymmetric q x e))) es
-      ∙ swapped (eq_by_cmp R name q) (find R q es) None
+      (λ q. fin.get-from_sorted by_bytes _ q (removed_sorted i l)
+      ∙ ap (find by_bytes q) (sym (removed_at es h i l))
+      ∙ find-where_key by_bytes (other name) q (λ x e. ap (other name) (sym (slice_cmp-IsAntisymmetric nat_cmp-IsAntisymmetric q x e))) es
+      ∙ swapped (eq_by_cmp by_bytes name q) (find by_bytes q es) None
       ∙ sym (fin.get-remove nat_list_cmp_total (nodes_of es) name q ∙ (λ j. cond ((eq_by_cmp_equiv nat_list_cmp_total).symm q name j) None (get_is q j))))
 
   pub unchanged : (name : List ℕ) → fin.get (nodes_of es) name ≡ None → fin.remove (nodes_of es) name ≡ nodes_of es
   unchanged name none =
       fin.same_map nat_list_cmp_total (slice_cmp-IsAntisymmetric nat_cmp-IsAntisymmetric) _ _
       (λ q. fin.get-remove nat_list_cmp_total (nodes_of es) name q
-      ∙ elim (eq_by_cmp R q name) as (λ b. eq_by_cmp R q name ≡ b → cond b None (fin.get (nodes_of es) q) ≡ fin.get (nodes_of es) q) [
+      ∙ elim (eq_by_cmp by_bytes q name) as (λ b. eq_by_cmp by_bytes q name ≡ b → cond b None (fin.get (nodes_of es) q) ≡ fin.get (nodes_of es) q) [
         | true ↦ λ e. sym (ap (fin.get (nodes_of es)) (same_name q name e) ∙ none)
         | false ↦ λ e. refl
       ] refl)
@@ -232,10 +232,10 @@ module _ (es : Pairs) (h : T (is_sorted R es)) where
 pub no_nodes : nodes_of [] ≡ fin.empty
 no_nodes =
     fin.same_map nat_list_cmp_total (slice_cmp-IsAntisymmetric nat_cmp-IsAntisymmetric) _ _
-    (λ q. fin.get-from_sorted R [] q tt ∙ sym (fin.get-empty R q))
+    (λ q. fin.get-from_sorted by_bytes [] q tt ∙ sym (fin.get-empty by_bytes q))
 
 -- ---- what a search by name says of the map
-module _ (nodes now : List Node) (name text : List ℕ) (m : Nodes) (h : T (is_sorted R (pairs nodes))) (view : nodes_of (pairs nodes) ≡ m) (read_nodes : now ≡ nodes) (read_name : text ≡ name) where
+module _ (nodes now : List Node) (name text : List ℕ) (m : Nodes) (h : T (is_sorted by_bytes (pairs nodes))) (view : nodes_of (pairs nodes) ≡ m) (read_nodes : now ≡ nodes) (read_name : text ≡ name) where
   pub gap_read : (i : ℕ) → IsGapAt (pairs now) text i → IsGapAt (pairs nodes) name i
   gap_read i gap = subst (λ t. IsGapAt (pairs nodes) t i) read_name (subst (λ ns. IsGapAt (pairs ns) text i) read_nodes gap)
 
@@ -248,7 +248,7 @@ module _ (nodes now : List Node) (name text : List ℕ) (m : Nodes) (h : T (is_s
   pub found_read : (i : ℕ) → IsNamedAt (pairs now) text i → fin.get m name ≡ Some (node_at (pairs nodes) i).1
   found_read i place =
       let p = place_read i place in
-      ap (λ n. fin.get n name) (sym view) ∙ get_is (pairs nodes) h name ∙ ap (λ q. find R q (pairs nodes)) (sym p.is) ∙ found_at (pairs nodes) h i p.below
+      ap (λ n. fin.get n name) (sym view) ∙ get_is (pairs nodes) h name ∙ ap (λ q. find by_bytes q (pairs nodes)) (sym p.is) ∙ found_at (pairs nodes) h i p.below
 
   pub none_unchanged : (i : ℕ) → IsGapAt (pairs now) text i → m ≡ fin.remove m name
   none_unchanged i gap = sym (ap (λ n. fin.remove n name) (sym view) ∙ unchanged (pairs nodes) h name (new_name (pairs nodes) h name i (gap_read i gap)) ∙ view)

@@ -19,7 +19,7 @@ use Rattle.hash_ring.specs.declared.Point.{Point}
 use Rattle.hash_ring.specs.Ring.{AreOwners, without, HasPoint, IsOwner, IsPointOf, Nodes, point, turn}
 use Rattle.hash_ring.specs.Points.{IsBefore, IsRing, IsStart, index_round, node_at, nodes_of, pair_of, pairs}
 use Rattle.hash_ring.proofs.Points.{is_there}
-use Rattle.hash_ring.proofs.Names.{Pairs, R, found_at, found_where, get_is, itself, no_greater, read, same_name}
+use Rattle.hash_ring.proofs.Names.{Pairs, by_bytes, found_at, found_where, get_is, itself, no_greater, read, same_name}
 
 -- ---- one owner alone
 not_both : (r s : Ordering) → s ≡ ordering_reverse r → is_gt r ≡ false → is_gt s ≡ false → r ≡ Equal
@@ -27,8 +27,8 @@ not_both Less s e h k = cc
 not_both Equal s e h k = refl
 not_both Greater s e h k = cc
 
-neither_greater : (a b : List ℕ) → is_gt (R a b) ≡ false → is_gt (R b a) ≡ false → a ≡ b
-neither_greater a b h k = slice_cmp-IsAntisymmetric nat_cmp-IsAntisymmetric a b (not_both (R a b) (R b a) (nat_list_cmp_total.antisymm b a) h k)
+neither_greater : (a b : List ℕ) → is_gt (by_bytes a b) ≡ false → is_gt (by_bytes b a) ≡ false → a ≡ b
+neither_greater a b h k = slice_cmp-IsAntisymmetric nat_cmp-IsAntisymmetric a b (not_both (by_bytes a b) (by_bytes b a) (nat_list_cmp_total.antisymm b a) h k)
 
 pub one_owner : (hash : List ℕ → ℕ) (nodes : Nodes) (at : ℕ) (a b : List ℕ) → IsOwner hash nodes at a → IsOwner hash nodes at b → a ≡ b
 one_owner hash nodes at a b p q =
@@ -39,14 +39,14 @@ one_owner hash nodes at a b p q =
     neither_greater a b (f.lesser same) (g.lesser (sym same))
 
 -- ---- a node that has gone
-pub get_without : (nodes : Nodes) (gone q : List ℕ) → fin.get (fin.remove nodes gone) q ≡ cond (is_eq (R q gone)) None (fin.get nodes q)
+pub get_without : (nodes : Nodes) (gone q : List ℕ) → fin.get (fin.remove nodes gone) q ≡ cond (is_eq (by_bytes q gone)) None (fin.get nodes q)
 get_without nodes gone q = fin.get-remove nat_list_cmp_total nodes gone q
 
 kept : (hash : List ℕ → ℕ) (nodes : Nodes) (gone name : List ℕ) (place : ℕ) → name ≢ gone → HasPoint hash nodes name place → HasPoint hash (fin.remove nodes gone) name place
 kept hash nodes gone name place ne p = record {
   weight = p.weight;
   there = get_without nodes gone name
-      ∙ elim (is_eq (R name gone)) as (λ b. is_eq (R name gone) ≡ b → cond b None (fin.get nodes name) ≡ Some p.weight) [
+      ∙ elim (is_eq (by_bytes name gone)) as (λ b. is_eq (by_bytes name gone) ≡ b → cond b None (fin.get nodes name) ≡ Some p.weight) [
         | true ↦ λ e. absurd (ne (same_name name gone e))
         | false ↦ λ e. p.there
       ] refl;
@@ -60,10 +60,10 @@ record WasThere (hash : List ℕ → ℕ) (nodes : Nodes) (gone name : List ℕ)
 
 was_there : (hash : List ℕ → ℕ) (nodes : Nodes) (gone name : List ℕ) (place : ℕ) → HasPoint hash (fin.remove nodes gone) name place → WasThere hash nodes gone name place
 was_there hash nodes gone name place p =
-    elim (is_eq (R name gone)) as (λ b. is_eq (R name gone) ≡ b → cond b None (fin.get nodes name) ≡ Some p.weight → WasThere hash nodes gone name place) [
+    elim (is_eq (by_bytes name gone)) as (λ b. is_eq (by_bytes name gone) ≡ b → cond b None (fin.get nodes name) ≡ Some p.weight → WasThere hash nodes gone name place) [
       | true ↦ λ e s. cc
       | false ↦ λ e s. record {
-        other = λ is. let no : is_eq (R gone gone) ≡ false = subst (λ n. is_eq (R n gone) ≡ false) is e in let yes : is_eq (R gone gone) ≡ true = ap is_eq (itself gone) in cc;
+        other = λ is. let no : is_eq (by_bytes gone gone) ≡ false = subst (λ n. is_eq (by_bytes n gone) ≡ false) is e in let yes : is_eq (by_bytes gone gone) ≡ true = ap is_eq (itself gone) in cc;
         has = record { weight = p.weight; there = s; point = p.point };
       }
     ] refl (sym (get_without nodes gone name) ∙ p.there)
@@ -88,12 +88,12 @@ left nodes (name ∷ names) = left (fin.remove nodes name) names
 remove_comm : (nodes : Nodes) (a b : List ℕ) → fin.remove (fin.remove nodes a) b ≡ fin.remove (fin.remove nodes b) a
 remove_comm nodes a b =
     fin.same_map nat_list_cmp_total (slice_cmp-IsAntisymmetric nat_cmp-IsAntisymmetric) _ _
-    (λ q. get_without (fin.remove nodes a) b q ∙ ap (cond (is_eq (R q b)) None) (get_without nodes a q)
-    ∙ elim (is_eq (R q a)) as (λ x. cond (is_eq (R q b)) None (cond x None (fin.get nodes q)) ≡ cond x None (cond (is_eq (R q b)) None (fin.get nodes q))) [
-      | true ↦ elim (is_eq (R q b)) as (λ y. cond {A = Option ℕ} y None None ≡ None) [ true ↦ refl | false ↦ refl ]
+    (λ q. get_without (fin.remove nodes a) b q ∙ ap (cond (is_eq (by_bytes q b)) None) (get_without nodes a q)
+    ∙ elim (is_eq (by_bytes q a)) as (λ x. cond (is_eq (by_bytes q b)) None (cond x None (fin.get nodes q)) ≡ cond x None (cond (is_eq (by_bytes q b)) None (fin.get nodes q))) [
+      | true ↦ elim (is_eq (by_bytes q b)) as (λ y. cond {A = Option ℕ} y None None ≡ None) [ true ↦ refl | false ↦ refl ]
       | false ↦ refl
     ]
-    ∙ sym (get_without (fin.remove nodes b) a q ∙ ap (cond (is_eq (R q a)) None) (get_without nodes b q)))
+    ∙ sym (get_without (fin.remove nodes b) a q ∙ ap (cond (is_eq (by_bytes q a)) None) (get_without nodes b q)))
 
 -- names that aren't this one
 abbrev pub AreOther : List ℕ → List (List ℕ) → Type 0
@@ -106,7 +106,7 @@ not_there hash nodes at gone [] none o = tt
 not_there hash nodes at gone (a ∷ names) none o = (
   λ is. let has = o.0.has in let there : fin.get nodes a ≡ Some has.weight = has.there in let no : fin.get nodes a ≡ None = ap (fin.get nodes) is ∙ none in cc,
   not_there hash (fin.remove nodes a) at gone names
-      (get_without nodes a gone ∙ elim (is_eq (R gone a)) as (λ b. cond b None (fin.get nodes gone) ≡ None) [ true ↦ refl | false ↦ none ])
+      (get_without nodes a gone ∙ elim (is_eq (by_bytes gone a)) as (λ b. cond b None (fin.get nodes gone) ≡ None) [ true ↦ refl | false ↦ none ])
       o.1,
 )
 
@@ -116,7 +116,7 @@ gone_is_none nodes gone = get_without nodes gone gone ∙ ap (λ r. cond (is_eq 
 other_kept : (gone : List ℕ) (names : List (List ℕ)) → AreOther gone names → without gone names ≡ names
 other_kept gone [] o = refl
 other_kept gone (a ∷ names) o =
-    elim (is_eq (R a gone)) as (λ b. is_eq (R a gone) ≡ b → cond (not b) (a ∷ without gone names) (without gone names) ≡ a ∷ names) [
+    elim (is_eq (by_bytes a gone)) as (λ b. is_eq (by_bytes a gone) ≡ b → cond (not b) (a ∷ without gone names) (without gone names) ≡ a ∷ names) [
       | true ↦ λ e. absurd (o.0 (same_name a gone e))
       | false ↦ λ e. ap (λ rest. a ∷ rest) (other_kept gone names o.1)
     ] refl
@@ -126,13 +126,13 @@ pub keep_order : (hash : List ℕ → ℕ) (nodes : Nodes) (at : ℕ) (gone : Li
     → AreOwners hash (fin.remove nodes gone) at (without gone names)
 keep_order hash nodes at gone [] o = tt
 keep_order hash nodes at gone (a ∷ names) o =
-    elim (is_eq (R a gone)) as (λ b. is_eq (R a gone) ≡ b → AreOwners hash (fin.remove nodes gone) at (cond (not b) (a ∷ without gone names) (without gone names))) [
+    elim (is_eq (by_bytes a gone)) as (λ b. is_eq (by_bytes a gone) ≡ b → AreOwners hash (fin.remove nodes gone) at (cond (not b) (a ∷ without gone names) (without gone names))) [
       | true ↦ λ e.
           let is : a ≡ gone = same_name a gone e in
           let rest : AreOwners hash (fin.remove nodes gone) at names = subst (λ n. AreOwners hash (fin.remove nodes n) at names) is o.1 in
           subst (AreOwners hash (fin.remove nodes gone) at) (sym (other_kept gone names (not_there hash (fin.remove nodes gone) at gone names (gone_is_none nodes gone) rest))) rest
       | false ↦ λ e. (
-        stays hash nodes at gone a o.0 (λ is. let yes : is_eq (R a gone) ≡ true = ap (λ k. is_eq (R a k)) (sym is) ∙ ap is_eq (itself a) in cc),
+        stays hash nodes at gone a o.0 (λ is. let yes : is_eq (by_bytes a gone) ≡ true = ap (λ k. is_eq (by_bytes a k)) (sym is) ∙ ap is_eq (itself a) in cc),
         subst (λ m. AreOwners hash m at (without gone names)) (remove_comm nodes a gone) (keep_order hash (fin.remove nodes a) at gone names o.1),
       )
     ] refl
@@ -169,7 +169,7 @@ count hash nodes at (a ∷ names) o =
     ⊎_elim
     (λ (low : 0 < fin.len nodes). low)
     (λ (no : fin.len nodes ≤ 0).
-    let none : fin.get nodes a ≡ None = ap (λ m. fin.get m a) (fin.empty_of_len nodes (omega arith)) ∙ fin.get-empty R a in
+    let none : fin.get nodes a ≡ None = ap (λ m. fin.get m a) (fin.empty_of_len nodes (omega arith)) ∙ fin.get-empty by_bytes a in
     let some : fin.get nodes a ≡ Some has.weight = has.there in
     cc)
     (cases_lt 0 (fin.len nodes)) in
@@ -274,10 +274,10 @@ left_get : (nodes : Nodes) (names : List (List ℕ)) (name : List ℕ) (w : ℕ)
 left_get nodes [] name w e = (tt, e)
 left_get nodes (a ∷ names) name w e =
     let rest = left_get (fin.remove nodes a) names name w e in
-    elim (is_eq (R name a)) as (λ b. is_eq (R name a) ≡ b → cond b None (fin.get nodes name) ≡ Some w → AreOther name (a ∷ names) × (fin.get nodes name ≡ Some w)) [
+    elim (is_eq (by_bytes name a)) as (λ b. is_eq (by_bytes name a) ≡ b → cond b None (fin.get nodes name) ≡ Some w → AreOther name (a ∷ names) × (fin.get nodes name ≡ Some w)) [
       | true ↦ λ t s. cc
       | false ↦ λ t s. (
-        (λ is. let no : is_eq (R name name) ≡ false = subst (λ n. is_eq (R name n) ≡ false) is t in let yes : is_eq (R name name) ≡ true = ap is_eq (itself name) in cc, rest.0),
+        (λ is. let no : is_eq (by_bytes name name) ≡ false = subst (λ n. is_eq (by_bytes name n) ≡ false) is t in let yes : is_eq (by_bytes name name) ≡ true = ap is_eq (itself name) in cc, rest.0),
         s,
       )
     ] refl (sym (get_without nodes a name) ∙ rest.1)
@@ -356,7 +356,7 @@ module _ (hash : List ℕ → ℕ) (es : Pairs) (points : List Point) (ring : Is
         record {
           sooner = subst (λ q. turn at (the s).place ≤ turn at q) r.is turned.sooner;
           nearer = subst (λ q. turn at (the s).place ≡ turn at q → (the s).place ≤ q) r.is turned.nearer;
-          lesser = λ e. subst (λ o. is_gt (R (named s) o) ≡ false) r.node
+          lesser = λ e. subst (λ o. is_gt (by_bytes (named s) o) ≡ false) r.node
               (no_greater es ring.named (the s).node (the r.s).node (turned.lesser (e ∙ sym r.is)) there);
         };
   }
@@ -365,7 +365,7 @@ module _ (hash : List ℕ → ℕ) (es : Pairs) (points : List Point) (ring : Is
   pub none_left : (names : List (List ℕ)) → ((t : ℕ) → t < length points → Contains names (named t)) → left (nodes_of es) names ≡ fin.empty
   none_left names passed =
       fin.same_map nat_list_cmp_total (slice_cmp-IsAntisymmetric nat_cmp-IsAntisymmetric) _ _
-      (λ q. no_one q (fin.get (left (nodes_of es) names) q) refl ∙ sym (fin.get-empty R q))
+      (λ q. no_one q (fin.get (left (nodes_of es) names) q) refl ∙ sym (fin.get-empty by_bytes q))
     where
       no_one : (q : List ℕ) (o : Option ℕ) → fin.get (left (nodes_of es) names) q ≡ o → fin.get (left (nodes_of es) names) q ≡ None
       no_one q None e = e
@@ -425,7 +425,7 @@ module _ (hash : List ℕ → ℕ) (nodes : List Node) (points : List Point) (ri
   pub round_all : (n steps : ℕ) → AreNamesRound hash nodes points at first names steps → length points ≤ steps → length names ≤ n → length names ≡ min n (fin.len (nodes_of es))
   round_all n steps so_far end few =
       let empty : left (nodes_of es) names ≡ fin.empty = none_left hash es points ring at first start none names (λ t l. so_far.passed t (omega arith)) in
-      let no : fin.len (left (nodes_of es) names) ≡ 0 = ap fin.len empty ∙ fin.len-empty R ℕ in
+      let no : fin.len (left (nodes_of es) names) ≡ 0 = ap fin.len empty ∙ fin.len-empty by_bytes ℕ in
       omega (arith, count hash (nodes_of es) at names so_far.own)
 
   -- the names when they are enough

@@ -15,7 +15,7 @@ use Rattle.std.proofs.Math.Seq.{get_or-append_seam}
 use borrow.Author.Tests.{ltb-true, ltb-false}
 use Rattle.hash_ring.specs.declared.Point.{Point}
 use Rattle.hash_ring.specs.Ring.{IsPointOf, point}
-use Rattle.hash_ring.specs.Points.{ArePoints, IsBefore, IsTrue, node_at, points_of}
+use Rattle.hash_ring.specs.Points.{ArePoints, IsBefore, IsPointOfItsNode, node_at, points_of}
 
 abbrev pub Pairs : Type 0
 Pairs = List (List ℕ × ℕ)
@@ -31,7 +31,7 @@ is_there hash nodes i place of = ⊎_elim
 
 module _ (hash : List ℕ → ℕ) where
   pub ArePoints-nil : ArePoints hash [] []
-  ArePoints-nil = record { real = All-nil (IsTrue hash []); all = λ i place of. absurd (omega (arith, is_there hash [] i place of)) }
+  ArePoints-nil = record { real = All-nil (IsPointOfItsNode hash []); all = λ i place of. absurd (omega (arith, is_there hash [] i place of)) }
 
   -- a point of a node is among the node's points, and only such are
   pub among : (node : List ℕ × ℕ) (i place : ℕ) → IsPointOf hash node place → Contains (points_of hash node i) (record { place = place; node = i })
@@ -57,7 +57,7 @@ module _ (hash : List ℕ → ℕ) where
       let last : node_at more new ≡ node = get_or-append_seam nodes node [] ([], 0) in
       let before : (i : ℕ) → i < length nodes → node_at more i ≡ node_at nodes i = λ i low. get_or_append_left nodes (node ∷ []) ([], 0) i low in
       record {
-        real = All-append (IsTrue hash more) points (points_of hash node new)
+        real = All-append (IsPointOfItsNode hash more) points (points_of hash node new)
             (λ k d below. let p = get_or points k d in let of = so_far.real k d below in
             subst (λ n. IsPointOf hash n p.place) (sym (before p.node (is_there hash nodes p.node p.place of))) of)
             (λ k d below. let p = get_or (points_of hash node new) k d in let of = each node new k d below in
@@ -76,7 +76,7 @@ module _ (hash : List ℕ → ℕ) where
   -- in whatever order the points stand
   pub ArePoints-permutation : (nodes : Pairs) (points moved : List Point) → IsPermutation points moved → ArePoints hash nodes points → ArePoints hash nodes moved
   ArePoints-permutation nodes points moved same are = record {
-    real = All-permutation (IsTrue hash nodes) points moved same are.real;
+    real = All-permutation (IsPointOfItsNode hash nodes) points moved same are.real;
     all = λ i place of. Contains-permutation points moved _ same (are.all i place of);
   }
 

@@ -45,12 +45,12 @@ pub record IsBefore (p q : Point) : Type 0 where
   pub node : p.place ≡ q.place → p.node ≤ q.node
 
 -- the point is one of its node
-abbrev pub IsTrue : (List ℕ → ℕ) → List (List ℕ × ℕ) → Point → Type 0
-IsTrue hash nodes p = IsPointOf hash (node_at nodes p.node) p.place
+abbrev pub IsPointOfItsNode : (List ℕ → ℕ) → List (List ℕ × ℕ) → Point → Type 0
+IsPointOfItsNode hash nodes p = IsPointOf hash (node_at nodes p.node) p.place
 
 -- just the points of the nodes
 pub record ArePoints (hash : List ℕ → ℕ) (nodes : List (List ℕ × ℕ)) (points : List Point) : Type 0 where
-  pub real : All (IsTrue hash nodes) points
+  pub real : All (IsPointOfItsNode hash nodes) points
   pub all : (i place : ℕ) → IsPointOf hash (node_at nodes i) place
       → Contains points (record { place = place; node = i })
 

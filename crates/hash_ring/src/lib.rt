@@ -22,6 +22,9 @@ ghost use Rattle.hash_ring.specs.Points.{AddsPoints, ArePoints, IsBefore, IsGapA
 
 use hashers::laws::{Piecewise, hash_of};
 use std::alloc::{AllocError, AllocFailed, Global};
+use std::error::Error as StdError;
+use std::fmt;
+use std::fmt::{Display, Formatter};
 use std::marker::{Model, PhantomData};
 
 #[cfg(test)]
@@ -42,13 +45,24 @@ struct Point {
 }
 
 /// Why a node was not added. Its name comes back, and the ring is as it was.
-#[derive(Drop)]
+#[derive(Debug, Drop)]
 pub enum Refused {
     /// A node of this name is on the ring.
     IsThere(Vec<u8>),
     /// There is no memory for the node and the points.
     NoRoom(Vec<u8>),
 }
+
+impl Display for Refused {
+    fn fmt<W: fmt::Write>(&self, f: &mut Formatter<W>) -> fmt::Result {
+        match self {
+            Refused::IsThere(_) => write!(f, "a node of this name is on the ring"),
+            Refused::NoRoom(_) => write!(f, "there is no memory for the node and its points"),
+        }
+    }
+}
+
+impl StdError for Refused {}
 
 /// Nodes on a ring of 2^64 places. Contracts see the finite map from the nodes' names to their weights.
 ///
@@ -246,6 +260,13 @@ impl<H: Piecewise> Ring<H> {
         ensures { result ≡ map.len self.now }
     {
         self.nodes.len()
+    }
+
+    /// Whether there is no node.
+    pub fn is_empty(&self) -> bool
+        ensures { IsTrue result ↔ (map.len self.now ≡ 0) }
+    {
+        self.len() == 0
     }
 
     /// The nodes with their weights, in the order of their names, byte by byte.

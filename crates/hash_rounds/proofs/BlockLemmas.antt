@@ -5,7 +5,7 @@ use Rattle.std.proofs.lemmas.List.{take-append-drop, length-take-le, take_more, 
 use Rattle.std.proofs.lemmas.List.Sums.{fold_more}
 use Rattle.std.proofs.lemmas.Grind.{fold-append}
 use Rattle.hash_rounds.specs.Words.{AreWords}
-use Rattle.hash_rounds.specs.Rounds.{spooky_mix}
+use Rattle.hash_rounds.specs.Rounds.{spooky_mix_steps}
 use Rattle.hash_rounds.specs.Blocks.{pieces, le_words, mix_block, unmix_block, spooky_blocks}
 use Rattle.hash_rounds.proofs.Chunks.{first_chunks-append}
 use Rattle.hash_rounds.proofs.StepLemmas.{apply-words}
@@ -38,7 +38,7 @@ fold-words : (s : List ℕ) (blocks : List (List ℕ)) → length s ≡ 12 → A
     → (length (fold mix_block s blocks) ≡ 12) × AreWords 64 (fold mix_block s blocks)
 fold-words s [] twelve s_in = (twelve, s_in)
 fold-words s (block ∷ blocks) twelve s_in =
-    let kept = apply-words 64 12 spooky_mix (le_words block) s (rw twelve spooky_mix-steps) s_in in
+    let kept = apply-words 64 12 spooky_mix_steps (le_words block) s (rw twelve spooky_mix-steps) s_in in
     fold-words (mix_block s block) blocks (kept.0 ∙ twelve) kept.1
 
 pub spooky_blocks-words : (s bytes : List ℕ) → length s ≡ 12 → AreWords 64 s

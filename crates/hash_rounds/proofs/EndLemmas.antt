@@ -56,27 +56,27 @@ sums-same d e s len d_in e_in same =
 -- ---- the whole end
 
 abbrev thrice : List Step
-thrice = rounds.spooky_end_partial ++ (rounds.spooky_end_partial ++ rounds.spooky_end_partial)
+thrice = rounds.spooky_end_partial_steps ++ (rounds.spooky_end_partial_steps ++ rounds.spooky_end_partial_steps)
 
 thrice-steps : AreSteps 64 12 0 thrice
-unfolding rounds.spooky_end_partial
+unfolding rounds.spooky_end_partial_steps
 thrice-steps = refl
 
 sums-steps : AreSteps 64 12 12 (sums 0 12)
 sums-steps = refl
 
-end-steps : AreSteps 64 12 12 rounds.spooky_end
-unfolding rounds.spooky_end rounds.data_sums rounds.spooky_end_partial
+end-steps : AreSteps 64 12 12 rounds.spooky_end_steps
+unfolding rounds.spooky_end_steps rounds.data_sums rounds.spooky_end_partial_steps
 end-steps = refl
 
-end-parts : rounds.spooky_end ≡ sums 0 12 ++ thrice
-unfolding rounds.spooky_end rounds.data_sums
+end-parts : rounds.spooky_end_steps ≡ sums 0 12 ++ thrice
+unfolding rounds.spooky_end_steps rounds.data_sums
 end-parts = refl
 
 -- no two states end alike with the same data
 pub spooky_end-same : (d s t : List ℕ) → AreTwelve d → AreTwelve s → AreTwelve t → spooky_end d s ≡ spooky_end d t → s ≡ t
 spooky_end-same d s t d_in s_in t_in same =
-    apply-same 64 d d_in.1 rounds.spooky_end s t (t_in.0 ∙ sym s_in.0) (rw (s_in.0, d_in.0) end-steps) s_in.1 t_in.1 same
+    apply-same 64 d d_in.1 rounds.spooky_end_steps s t (t_in.0 ∙ sym s_in.0) (rw (s_in.0, d_in.0) end-steps) s_in.1 t_in.1 same
 
 sums-in : (d s : List ℕ) → AreTwelve s → AreTwelve (apply 64 (sums 0 12) d s)
 sums-in d s s_in =

@@ -8,7 +8,7 @@ use Rattle.std.proofs.lemmas.List.Elements.{All-nil, All-cons, All-head, All-tai
 use Rattle.std.specs.Simd.{first_chunks}
 use Rattle.hash_rounds.specs.Words.{add, rotl, le, AreWords}
 use Rattle.hash_rounds.specs.Steps.{apply, AreSteps}
-use Rattle.hash_rounds.specs.Rounds.{spooky_mix, spooky_mix_row, spooky_mix_rows, spooky_mix_turns}
+use Rattle.hash_rounds.specs.Rounds.{spooky_mix_steps, spooky_mix_row, spooky_mix_rows, spooky_mix_turns}
 use Rattle.hash_rounds.specs.Blocks.{pieces, le_words, mix_block}
 use Rattle.hash_rounds.proofs.WordLemmas.{added-same, word-same}
 use Rattle.hash_rounds.proofs.XorLemmas.{xor_cancel, xor_cancel_left}
@@ -359,8 +359,8 @@ by_table d s (i, r) = five i ((i + 2) % 12) ((i + 10) % 12) ((i + 11) % 12) ((i 
 rows-are : (d s : List ℕ) (r : ℕ × ℕ) → apply 64 (spooky_mix_row r) d s ≡ by_table d s r
 rows-are d s (i, r) = row-is i r d s
 
-mix-rows : (d s : List ℕ) → apply 64 spooky_mix d s ≡ fold (by_table d) s spooky_mix_rows
-unfolding spooky_mix
+mix-rows : (d s : List ℕ) → apply 64 spooky_mix_steps d s ≡ fold (by_table d) s spooky_mix_rows
+unfolding spooky_mix_steps
 mix-rows d s =
     apply_rows 64 spooky_mix_row spooky_mix_rows d s ∙ fold-alike (λ t r. apply 64 (spooky_mix_row r) d t) (by_table d) (rows-are d) spooky_mix_rows s
 
@@ -373,7 +373,7 @@ unfolding le_words pieces
 le_words-12 c len = rw len refl
 
 mix_block-run : (c s : List ℕ) → length c ≡ 96 → mix_block s c ≡ run 0 s (words_of 12 c)
-mix_block-run c s len = ap (λ d. apply 64 spooky_mix d s) (le_words-12 c len) ∙ mix-rows (words_of 12 c) s ∙ twelve-rows c s
+mix_block-run c s len = ap (λ d. apply 64 spooky_mix_steps d s) (le_words-12 c len) ∙ mix-rows (words_of 12 c) s ∙ twelve-rows c s
 
 blocks-run : (k : ℕ) (x s : List ℕ) → k * 96 ≤ length x → fold mix_block s (first_chunks 96 k x) ≡ run 0 s (words_of (12 * k) x)
 blocks-run zero x s fits = refl

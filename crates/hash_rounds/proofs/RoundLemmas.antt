@@ -7,21 +7,21 @@ use Rattle.hash_rounds.specs.Spooky.{short_mix, short_end}
 use Rattle.hash_rounds.proofs.WordLemmas.{AreWords-from, AreWords-at, no_words}
 use Rattle.hash_rounds.proofs.StepLemmas.{apply-words, apply-same}
 
-pub spooky_mix-steps : AreSteps 64 12 12 rounds.spooky_mix
-unfolding rounds.spooky_mix
+pub spooky_mix-steps : AreSteps 64 12 12 rounds.spooky_mix_steps
+unfolding rounds.spooky_mix_steps
 spooky_mix-steps = refl
 
 -- the last third of the long form reads no data
-pub spooky_end_partial-steps : AreSteps 64 12 0 rounds.spooky_end_partial
-unfolding rounds.spooky_end_partial
+pub spooky_end_partial-steps : AreSteps 64 12 0 rounds.spooky_end_partial_steps
+unfolding rounds.spooky_end_partial_steps
 spooky_end_partial-steps = refl
 
-short_mix-steps : AreSteps 64 4 0 rounds.short_mix
-unfolding rounds.short_mix
+short_mix-steps : AreSteps 64 4 0 rounds.short_mix_steps
+unfolding rounds.short_mix_steps
 short_mix-steps = refl
 
-short_end-steps : AreSteps 64 4 0 rounds.short_end
-unfolding rounds.short_end
+short_end-steps : AreSteps 64 4 0 rounds.short_end_steps
+unfolding rounds.short_end_steps
 short_end-steps = refl
 
 -- ---- four words
@@ -36,21 +36,21 @@ module _ (h : List ℕ) (are : AreFourWords h) where
 
   pub short_mix-AreFourWords : AreFourWords (short_mix h)
   short_mix-AreFourWords =
-      let kept = apply-words 64 0 rounds.short_mix [] h (rw are.0 short_mix-steps) words in
+      let kept = apply-words 64 0 rounds.short_mix_steps [] h (rw are.0 short_mix-steps) words in
       (kept.0 ∙ are.0, AreWords-at 64 (short_mix h) kept.1)
 
   pub short_end-AreFourWords : AreFourWords (short_end h)
   short_end-AreFourWords =
-      let kept = apply-words 64 0 rounds.short_end [] h (rw are.0 short_end-steps) words in
+      let kept = apply-words 64 0 rounds.short_end_steps [] h (rw are.0 short_end-steps) words in
       (kept.0 ∙ are.0, AreWords-at 64 (short_end h) kept.1)
 
 -- no two states of four words are mixed alike, or end alike
 pub short_mix-same : (h k : List ℕ) → AreFourWords h → AreFourWords k → short_mix h ≡ short_mix k → h ≡ k
 short_mix-same h k h_in k_in same =
-    apply-same 64 [] (AreWords-from 64 [] (no_words 64)) rounds.short_mix h k (k_in.0 ∙ sym h_in.0) (rw h_in.0 short_mix-steps)
+    apply-same 64 [] (AreWords-from 64 [] (no_words 64)) rounds.short_mix_steps h k (k_in.0 ∙ sym h_in.0) (rw h_in.0 short_mix-steps)
     (words h h_in) (words k k_in) same
 
 pub short_end-same : (h k : List ℕ) → AreFourWords h → AreFourWords k → short_end h ≡ short_end k → h ≡ k
 short_end-same h k h_in k_in same =
-    apply-same 64 [] (AreWords-from 64 [] (no_words 64)) rounds.short_end h k (k_in.0 ∙ sym h_in.0) (rw h_in.0 short_end-steps)
+    apply-same 64 [] (AreWords-from 64 [] (no_words 64)) rounds.short_end_steps h k (k_in.0 ∙ sym h_in.0) (rw h_in.0 short_end-steps)
     (words h h_in) (words k k_in) same

@@ -6,7 +6,7 @@ use Rattle.std.proofs.Math.Nat.{mod-add-mod, add-mod-mod, add-mul-mod_self_left,
 use Rattle.std.proofs.lemmas.List.Elements.{All-drop}
 use Rattle.std.proofs.lemmas.List.Sums.{sum_by-append, sum_by-cons}
 use Rattle.std.proofs.lemmas.Nat.{mul-mod_first, mul-add-lt}
-use Rattle.hash_rounds.specs.Sums.{digit_sum, sdbm, loselose, passthrough, sdbm_step, loselose_step, passthrough_step}
+use Rattle.hash_rounds.specs.Sums.{digit_sum, sdbm_from, loselose_from, passthrough_from, sdbm_step, loselose_step, passthrough_step}
 
 -- ---- digits
 
@@ -73,36 +73,36 @@ only_byte (b ∷ more ∷ rest) some few = absurd (omega arith)
 
 -- ---- sdbm
 
-pub sdbm-nil : (s : ℕ) → s < 2 ^ 32 → sdbm s [] ≡ s
-unfolding sdbm
+pub sdbm-nil : (s : ℕ) → s < 2 ^ 32 → sdbm_from s [] ≡ s
+unfolding sdbm_from
 sdbm-nil = number-nil 65599 (2 ^ 32)
 
-pub sdbm-append : (s : ℕ) (t u : List ℕ) → sdbm (sdbm s t) u ≡ sdbm s (t ++ u)
-unfolding sdbm
+pub sdbm-append : (s : ℕ) (t u : List ℕ) → sdbm_from (sdbm_from s t) u ≡ sdbm_from s (t ++ u)
+unfolding sdbm_from
 sdbm-append = number-append 65599 (2 ^ 32)
 
-pub sdbm-one : (s b : ℕ) → sdbm s (b ∷ []) ≡ sdbm_step s b
-unfolding sdbm
+pub sdbm-one : (s b : ℕ) → sdbm_from s (b ∷ []) ≡ sdbm_step s b
+unfolding sdbm_from
 sdbm-one = number-one 65599 (2 ^ 32)
 
 -- a text of one byte
-pub sdbm_of_one : (s : ℕ) (t : List ℕ) → 1 ≤ length t → length t < 2 → sdbm s t ≡ (65599 * s + get_or t 0 0) % 2 ^ 32
-sdbm_of_one s t some few = ap (sdbm s) (only_byte t some few) ∙ sdbm-one s (get_or t 0 0)
+pub sdbm_of_one : (s : ℕ) (t : List ℕ) → 1 ≤ length t → length t < 2 → sdbm_from s t ≡ (65599 * s + get_or t 0 0) % 2 ^ 32
+sdbm_of_one s t some few = ap (sdbm_from s) (only_byte t some few) ∙ sdbm-one s (get_or t 0 0)
 
 -- one byte more
-pub sdbm_push : (s : ℕ) (t : List ℕ) (b : ℕ) → (sdbm s t * 65599 % 2 ^ 32 + b) % 2 ^ 32 ≡ sdbm s (t ++ b ∷ [])
-unfolding sdbm
+pub sdbm_push : (s : ℕ) (t : List ℕ) (b : ℕ) → (sdbm_from s t * 65599 % 2 ^ 32 + b) % 2 ^ 32 ≡ sdbm_from s (t ++ b ∷ [])
+unfolding sdbm_from
 sdbm_push = number_push 65599 (2 ^ 32)
 
-pub sdbm-fold : (s : ℕ) (t : List ℕ) → s < 2 ^ 32 → sdbm s t ≡ fold sdbm_step s t
-unfolding sdbm
+pub sdbm-fold : (s : ℕ) (t : List ℕ) → s < 2 ^ 32 → sdbm_from s t ≡ fold sdbm_step s t
+unfolding sdbm_from
 sdbm-fold = number-fold 65599 (2 ^ 32)
 
 -- four bytes at once, in lanes, the powers of 65599 taken mod 2^32
 pub sdbm_of_four : (h : ℕ) (t : List ℕ) → length t ≡ 4 →
     (h * 1139564289 % 2 ^ 32 + fold_l (λ a x. (a + x) % 2 ^ 32) 0 (zip2 (λ x y. x * y % 2 ^ 32) (map (λ x. x) t) (780587199 ∷ 8261505 ∷ 65599 ∷ 1 ∷ []))) % 2 ^ 32
-    ≡ sdbm h t
-unfolding sdbm
+    ≡ sdbm_from h t
+unfolding sdbm_from
 sdbm_of_four h [] n = absurd (omega arith)
 sdbm_of_four h (a ∷ []) n = absurd (omega arith)
 sdbm_of_four h (a ∷ b ∷ []) n = absurd (omega arith)
@@ -114,51 +114,51 @@ sdbm_of_four h (a ∷ b ∷ c ∷ d ∷ e ∷ xs) n = absurd (omega arith)
 
 -- ---- lose lose
 
-pub loselose-nil : (s : ℕ) → s < 2 ^ 64 → loselose s [] ≡ s
+pub loselose-nil : (s : ℕ) → s < 2 ^ 64 → loselose_from s [] ≡ s
 loselose-nil s s_in = let e : s + 0 ≡ s = omega arith in ap (λ n. n % 2 ^ 64) e ∙ mod-eq_of_lt s_in
 
-pub loselose-append : (s : ℕ) (t u : List ℕ) → loselose (loselose s t) u ≡ loselose s (t ++ u)
+pub loselose-append : (s : ℕ) (t u : List ℕ) → loselose_from (loselose_from s t) u ≡ loselose_from s (t ++ u)
 loselose-append s t u =
     mod-add-mod (s + sum t) (2 ^ 64) (sum u) ∙ ap (λ n. n % 2 ^ 64) (rw (sum_by-append (λ b. b) t u) (omega arith))
 
-pub loselose-one : (s b : ℕ) → loselose s (b ∷ []) ≡ loselose_step s b
+pub loselose-one : (s b : ℕ) → loselose_from s (b ∷ []) ≡ loselose_step s b
 loselose-one s b = ap (λ n. n % 2 ^ 64) (rw (sum_by-cons (λ v. v) b []) (omega arith))
 
 -- the sum of some bytes is added to a state
-pub loselose-add : (s : ℕ) (t : List ℕ) → (s + loselose 0 t) % 2 ^ 64 ≡ loselose s t
+pub loselose-add : (s : ℕ) (t : List ℕ) → (s + loselose_from 0 t) % 2 ^ 64 ≡ loselose_from s t
 loselose-add s t = add-mod-mod s (0 + sum t) (2 ^ 64) ∙ ap (λ n. (s + n) % 2 ^ 64) (zero-add (sum t))
 
-pub loselose-fold : (s : ℕ) (t : List ℕ) → s < 2 ^ 64 → loselose s t ≡ fold loselose_step s t
+pub loselose-fold : (s : ℕ) (t : List ℕ) → s < 2 ^ 64 → loselose_from s t ≡ fold loselose_step s t
 loselose-fold s [] s_in = loselose-nil s s_in
 loselose-fold s (b ∷ t) s_in =
-    sym (loselose-append s (b ∷ []) t) ∙ ap (λ h. loselose h t) (loselose-one s b)
+    sym (loselose-append s (b ∷ []) t) ∙ ap (λ h. loselose_from h t) (loselose-one s b)
     ∙ loselose-fold ((s + b) % 2 ^ 64) t (mod-lt (s + b) (lit< tt))
 
 -- ---- bytes behind a word
 
-pub passthrough-lt : (s : ℕ) (t : List ℕ) → passthrough s t < 2 ^ 64
-unfolding passthrough
+pub passthrough-lt : (s : ℕ) (t : List ℕ) → passthrough_from s t < 2 ^ 64
+unfolding passthrough_from
 passthrough-lt s t = mod-lt _ (lit< tt)
 
-pub passthrough-nil : (s : ℕ) → s < 2 ^ 64 → passthrough s [] ≡ s
-unfolding passthrough
+pub passthrough-nil : (s : ℕ) → s < 2 ^ 64 → passthrough_from s [] ≡ s
+unfolding passthrough_from
 passthrough-nil = number-nil 256 (2 ^ 64)
 
-pub passthrough-append : (s : ℕ) (t u : List ℕ) → passthrough (passthrough s t) u ≡ passthrough s (t ++ u)
-unfolding passthrough
+pub passthrough-append : (s : ℕ) (t u : List ℕ) → passthrough_from (passthrough_from s t) u ≡ passthrough_from s (t ++ u)
+unfolding passthrough_from
 passthrough-append = number-append 256 (2 ^ 64)
 
-pub passthrough-one : (s b : ℕ) → passthrough s (b ∷ []) ≡ passthrough_step s b
-unfolding passthrough
+pub passthrough-one : (s b : ℕ) → passthrough_from s (b ∷ []) ≡ passthrough_step s b
+unfolding passthrough_from
 passthrough-one = number-one 256 (2 ^ 64)
 
-pub passthrough-fold : (s : ℕ) (t : List ℕ) → s < 2 ^ 64 → passthrough s t ≡ fold passthrough_step s t
-unfolding passthrough
+pub passthrough-fold : (s : ℕ) (t : List ℕ) → s < 2 ^ 64 → passthrough_from s t ≡ fold passthrough_step s t
+unfolding passthrough_from
 passthrough-fold = number-fold 256 (2 ^ 64)
 
 -- eight bytes fill the word
-pub passthrough_of_eight : (s : ℕ) (t : List ℕ) → length t ≡ 8 → All (λ b. b < 256) t → passthrough s t ≡ digit_sum 256 t
-unfolding passthrough
+pub passthrough_of_eight : (s : ℕ) (t : List ℕ) → length t ≡ 8 → All (λ b. b < 256) t → passthrough_from s t ≡ digit_sum 256 t
+unfolding passthrough_from
 passthrough_of_eight s t n bytes =
     let number_in = rw n at (digit_sum-lt 256 t bytes) in
     let d = digit_sum 256 t in
@@ -166,9 +166,9 @@ passthrough_of_eight s t n bytes =
     rw n left
 
 -- only the last eight bytes are kept
-pub passthrough_of_last : (s : ℕ) (t : List ℕ) → 8 ≤ length t → All (λ b. b < 256) t → passthrough s t ≡ digit_sum 256 (drop (length t - 8) t)
+pub passthrough_of_last : (s : ℕ) (t : List ℕ) → 8 ≤ length t → All (λ b. b < 256) t → passthrough_from s t ≡ digit_sum 256 (drop (length t - 8) t)
 passthrough_of_last s t n bytes =
     let front = length t - 8 in
     let last = drop front t in
-    sym (ap (passthrough s) (take-append-drop front t)) ∙ sym (passthrough-append s (take front t) last)
-    ∙ passthrough_of_eight (passthrough s (take front t)) last (omega (arith, length-drop front t)) (All-drop (λ b. b < 256) front t bytes)
+    sym (ap (passthrough_from s) (take-append-drop front t)) ∙ sym (passthrough-append s (take front t) last)
+    ∙ passthrough_of_eight (passthrough_from s (take front t)) last (omega (arith, length-drop front t)) (All-drop (λ b. b < 256) front t bytes)

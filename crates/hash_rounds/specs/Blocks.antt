@@ -3,7 +3,7 @@ use Rattle.std.specs.Prelude.{ℕ, ◌/◌, List, length, fold, map, reverse}
 use Rattle.std.specs.Simd.{first_chunks}
 use Rattle.hash_rounds.specs.Words.{le}
 use Rattle.hash_rounds.specs.Steps.{apply, undo}
-use Rattle.hash_rounds.specs.Rounds.{spooky_mix}
+use Rattle.hash_rounds.specs.Rounds.{spooky_mix_steps}
 
 -- the whole pieces of n bytes of a text
 unfoldable pub pieces : ℕ → List ℕ → List (List ℕ)
@@ -15,10 +15,10 @@ le_words block = map le (pieces 8 block)
 
 -- a state with the words of a block mixed in, and taken out again
 abbrev pub mix_block : List ℕ → List ℕ → List ℕ
-mix_block s block = apply 64 spooky_mix (le_words block) s
+mix_block s block = apply 64 spooky_mix_steps (le_words block) s
 
 abbrev pub unmix_block : List ℕ → List ℕ → List ℕ
-unmix_block s block = apply 64 (undo 64 spooky_mix) (le_words block) s
+unmix_block s block = apply 64 (undo 64 spooky_mix_steps) (le_words block) s
 
 -- the same for all blocks of a text, from the first to the last and from the last to the first
 unfoldable pub spooky_blocks : List ℕ → List ℕ → List ℕ

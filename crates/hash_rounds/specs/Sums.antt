@@ -7,16 +7,16 @@ digit_sum x [] = 0
 digit_sum x (b ∷ t) = b * x ^ length t + digit_sum x t
 
 -- sdbm (Oz' page of hash functions): the state after the bytes t, from the state s
-unfoldable pub sdbm : ℕ → List ℕ → ℕ
-sdbm s t = (s * 65599 ^ length t + digit_sum 65599 t) % 2 ^ 32
+unfoldable pub sdbm_from : ℕ → List ℕ → ℕ
+sdbm_from s t = (s * 65599 ^ length t + digit_sum 65599 t) % 2 ^ 32
 
 -- lose lose (Oz' page of hash functions): the state after the bytes t, from the state s
-abbrev pub loselose : ℕ → List ℕ → ℕ
-loselose s t = (s + sum t) % 2 ^ 64
+abbrev pub loselose_from : ℕ → List ℕ → ℕ
+loselose_from s t = (s + sum t) % 2 ^ 64
 
 -- the bytes t behind the word s, as one number in base 256, of which a word is kept
-unfoldable pub passthrough : ℕ → List ℕ → ℕ
-passthrough s t = (s * 256 ^ length t + digit_sum 256 t) % 2 ^ 64
+unfoldable pub passthrough_from : ℕ → List ℕ → ℕ
+passthrough_from s t = (s * 256 ^ length t + digit_sum 256 t) % 2 ^ 64
 
 -- one byte of each: the state, a digit further, and the byte
 abbrev pub sdbm_step : ℕ → ℕ → ℕ

@@ -3,7 +3,7 @@
 
 ghost use Rattle.std.specs.Prelude.{◌≡◌, ◌<◌, [], length};
 ghost use Rattle.hash_rounds.specs.Steps.{apply, undo};
-ghost use Rattle.hash_rounds.specs.Rounds.{lookup3_mix, lookup3_mix_group, lookup3_final, lookup3_final_group};
+ghost use Rattle.hash_rounds.specs.Rounds.{lookup3_mix_steps, lookup3_mix_group, lookup3_final_steps, lookup3_final_group};
 
 use crate::words::rotl32;
 
@@ -16,8 +16,8 @@ const C: usize = 2;
 
 /// Mixes the words a, b and c: six groups of three steps, each by the table of the round.
 pub fn lookup3_mix(s: &mut [u32; 3])
-    ensures round { s.new ≡ apply 32 lookup3_mix [] s.old }
-    ensures undone { apply 32 (undo 32 lookup3_mix) [] s.new ≡ s.old }
+    ensures round { s.new ≡ apply 32 lookup3_mix_steps [] s.old }
+    ensures undone { apply 32 (undo 32 lookup3_mix_steps) [] s.new ≡ s.old }
 {
     mix_group(s, A, C, B, 4);
     mix_group(s, B, A, C, 6);
@@ -29,8 +29,8 @@ pub fn lookup3_mix(s: &mut [u32; 3])
 
 /// Takes `lookup3_mix` back, on any three words.
 pub fn lookup3_unmix(s: &mut [u32; 3])
-    ensures round { s.new ≡ apply 32 (undo 32 lookup3_mix) [] s.old }
-    ensures undone { apply 32 lookup3_mix [] s.new ≡ s.old }
+    ensures round { s.new ≡ apply 32 (undo 32 lookup3_mix_steps) [] s.old }
+    ensures undone { apply 32 lookup3_mix_steps [] s.new ≡ s.old }
 {
     unmix_group(s, C, B, A, 4);
     unmix_group(s, B, A, C, 19);
@@ -42,8 +42,8 @@ pub fn lookup3_unmix(s: &mut [u32; 3])
 
 /// The last mix of the words a, b and c: seven groups of two steps, each by the table of the round.
 pub fn lookup3_final(s: &mut [u32; 3])
-    ensures round { s.new ≡ apply 32 lookup3_final [] s.old }
-    ensures undone { apply 32 (undo 32 lookup3_final) [] s.new ≡ s.old }
+    ensures round { s.new ≡ apply 32 lookup3_final_steps [] s.old }
+    ensures undone { apply 32 (undo 32 lookup3_final_steps) [] s.new ≡ s.old }
 {
     final_group(s, C, B, 14);
     final_group(s, A, C, 11);
@@ -56,8 +56,8 @@ pub fn lookup3_final(s: &mut [u32; 3])
 
 /// Takes `lookup3_final` back, on any three words.
 pub fn lookup3_unfinal(s: &mut [u32; 3])
-    ensures round { s.new ≡ apply 32 (undo 32 lookup3_final) [] s.old }
-    ensures undone { apply 32 lookup3_final [] s.new ≡ s.old }
+    ensures round { s.new ≡ apply 32 (undo 32 lookup3_final_steps) [] s.old }
+    ensures undone { apply 32 lookup3_final_steps [] s.new ≡ s.old }
 {
     unfinal_group(s, C, B, 24);
     unfinal_group(s, B, A, 14);

@@ -3,14 +3,14 @@
 
 ghost use Rattle.std.specs.Prelude.{◌≡◌, ◌<◌, [], length};
 ghost use Rattle.hash_rounds.specs.Steps.{apply, undo};
-ghost use Rattle.hash_rounds.specs.Rounds.{short_mix, short_mix_group, short_end, short_end_group};
+ghost use Rattle.hash_rounds.specs.Rounds.{short_mix_steps, short_mix_group, short_end_steps, short_end_group};
 
 use crate::words::rotl64;
 
 /// Mixes four words: twelve groups of three steps.
 pub fn short_mix(h: &mut [u64; 4])
-    ensures round { h.new ≡ apply 64 short_mix [] h.old }
-    ensures undone { apply 64 (undo 64 short_mix) [] h.new ≡ h.old }
+    ensures round { h.new ≡ apply 64 short_mix_steps [] h.old }
+    ensures undone { apply 64 (undo 64 short_mix_steps) [] h.new ≡ h.old }
 {
     mix_group(h, 2, 50);
     mix_group(h, 3, 52);
@@ -28,8 +28,8 @@ pub fn short_mix(h: &mut [u64; 4])
 
 /// Takes `short_mix` back, on any four words.
 pub fn un_short_mix(h: &mut [u64; 4])
-    ensures round { h.new ≡ apply 64 (undo 64 short_mix) [] h.old }
-    ensures undone { apply 64 short_mix [] h.new ≡ h.old }
+    ensures round { h.new ≡ apply 64 (undo 64 short_mix_steps) [] h.old }
+    ensures undone { apply 64 short_mix_steps [] h.new ≡ h.old }
 {
     unmix_group(h, 1, 36);
     unmix_group(h, 0, 5);
@@ -47,8 +47,8 @@ pub fn un_short_mix(h: &mut [u64; 4])
 
 /// The last mix of four words: eleven groups of three steps.
 pub fn short_end(h: &mut [u64; 4])
-    ensures round { h.new ≡ apply 64 short_end [] h.old }
-    ensures undone { apply 64 (undo 64 short_end) [] h.new ≡ h.old }
+    ensures round { h.new ≡ apply 64 short_end_steps [] h.old }
+    ensures undone { apply 64 (undo 64 short_end_steps) [] h.new ≡ h.old }
 {
     end_group(h, 2, 15);
     end_group(h, 3, 52);
@@ -65,8 +65,8 @@ pub fn short_end(h: &mut [u64; 4])
 
 /// Takes `short_end` back, on any four words.
 pub fn un_short_end(h: &mut [u64; 4])
-    ensures round { h.new ≡ apply 64 (undo 64 short_end) [] h.old }
-    ensures undone { apply 64 short_end [] h.new ≡ h.old }
+    ensures round { h.new ≡ apply 64 (undo 64 short_end_steps) [] h.old }
+    ensures undone { apply 64 short_end_steps [] h.new ≡ h.old }
 {
     unend_group(h, 0, 63);
     unend_group(h, 3, 25);

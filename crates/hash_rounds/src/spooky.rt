@@ -3,14 +3,14 @@
 
 ghost use Rattle.std.specs.Prelude.{◌≡◌, ◌<◌, [], length};
 ghost use Rattle.hash_rounds.specs.Steps.{apply, undo};
-ghost use Rattle.hash_rounds.specs.Rounds.{spooky_mix, spooky_mix_row, spooky_end_partial, spooky_end_partial_row, spooky_end, data_sums};
+ghost use Rattle.hash_rounds.specs.Rounds.{spooky_mix_steps, spooky_mix_row, spooky_end_partial_steps, spooky_end_partial_row, spooky_end_steps, data_sums};
 
 use crate::words::rotl64;
 
 /// Mixes twelve words of data into a state of twelve words: twelve rows of five steps.
 pub fn spooky_mix(d: &[u64; 12], s: &mut [u64; 12])
-    ensures round { s.new ≡ apply 64 spooky_mix d.now s.old }
-    ensures undone { apply 64 (undo 64 spooky_mix) d.now s.new ≡ s.old }
+    ensures round { s.new ≡ apply 64 spooky_mix_steps d.now s.old }
+    ensures undone { apply 64 (undo 64 spooky_mix_steps) d.now s.new ≡ s.old }
 {
     mix_row(d, s, 0, 11);
     mix_row(d, s, 1, 32);
@@ -28,8 +28,8 @@ pub fn spooky_mix(d: &[u64; 12], s: &mut [u64; 12])
 
 /// Takes `spooky_mix` of the same data back, on any state.
 pub fn spooky_unmix(d: &[u64; 12], s: &mut [u64; 12])
-    ensures round { s.new ≡ apply 64 (undo 64 spooky_mix) d.now s.old }
-    ensures undone { apply 64 spooky_mix d.now s.new ≡ s.old }
+    ensures round { s.new ≡ apply 64 (undo 64 spooky_mix_steps) d.now s.old }
+    ensures undone { apply 64 spooky_mix_steps d.now s.new ≡ s.old }
 {
     unmix_row(d, s, 11, 46);
     unmix_row(d, s, 10, 22);
@@ -47,8 +47,8 @@ pub fn spooky_unmix(d: &[u64; 12], s: &mut [u64; 12])
 
 /// A third of the last mix of a state: twelve rows of three steps. It reads no data.
 pub fn spooky_end_partial(s: &mut [u64; 12])
-    ensures round { s.new ≡ apply 64 spooky_end_partial [] s.old }
-    ensures undone { apply 64 (undo 64 spooky_end_partial) [] s.new ≡ s.old }
+    ensures round { s.new ≡ apply 64 spooky_end_partial_steps [] s.old }
+    ensures undone { apply 64 (undo 64 spooky_end_partial_steps) [] s.new ≡ s.old }
 {
     end_partial_row(s, 0, 44);
     end_partial_row(s, 1, 15);
@@ -66,8 +66,8 @@ pub fn spooky_end_partial(s: &mut [u64; 12])
 
 /// Takes `spooky_end_partial` back, on any state.
 pub fn spooky_un_end_partial(s: &mut [u64; 12])
-    ensures round { s.new ≡ apply 64 (undo 64 spooky_end_partial) [] s.old }
-    ensures undone { apply 64 spooky_end_partial [] s.new ≡ s.old }
+    ensures round { s.new ≡ apply 64 (undo 64 spooky_end_partial_steps) [] s.old }
+    ensures undone { apply 64 spooky_end_partial_steps [] s.new ≡ s.old }
 {
     un_end_partial_row(s, 11, 54);
     un_end_partial_row(s, 10, 42);
@@ -86,7 +86,7 @@ pub fn spooky_un_end_partial(s: &mut [u64; 12])
 /// The last mix of a state: each word of data is added to its word of the state, and then `spooky_end_partial` runs
 /// three times.
 pub fn spooky_end(d: &[u64; 12], s: &mut [u64; 12])
-    ensures { s.new ≡ apply 64 spooky_end d.now s.old }
+    ensures { s.new ≡ apply 64 spooky_end_steps d.now s.old }
 {
     add_data(d, s);
     spooky_end_partial(s);

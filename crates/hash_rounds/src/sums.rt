@@ -3,7 +3,7 @@
 
 ghost use Rattle.std.specs.Prelude.{◌≡◌, ◌+◌, ◌%◌, ◌^◌};
 ghost use Rattle.std.specs.Simd.Lanes.{zip2};
-ghost use Rattle.hash_rounds.specs.Sums.{sdbm};
+ghost use Rattle.hash_rounds.specs.Sums.{sdbm_from};
 
 use crate::Turns;
 use std::simd::prelude::*;
@@ -12,7 +12,7 @@ use std::simd::prelude::*;
 /// The products are made in lanes.
 #[inline(always)]
 pub fn sdbm4(h: u32, b: &[u8; 4], t: &mut Turns) -> u32
-    ensures value { result ≡ sdbm h b.now }
+    ensures value { result ≡ sdbm_from h b.now }
     ensures turn { t.new ≡ t.old + 1 }
 {
     t.tick();

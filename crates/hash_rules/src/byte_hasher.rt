@@ -5,7 +5,7 @@ ghost use Rattle.hash_laws.specs.Standing.{StandsAt};
 ghost use Rattle.hash_laws.proofs.ByteLemmas as bytewise;
 
 use crate::byte_rule::{ByteRule, UndoRule};
-use hash_laws::laws::{ByteStep, Piecewise, Streamed, Undo};
+use hash_laws::traits::{ByteStep, Piecewise, Streamed, Undo};
 use std::hash::Hasher;
 use std::marker::Model;
 

@@ -4,7 +4,7 @@ ghost use Rattle.std.proofs.Common.{ap};
 ghost use Rattle.hash_laws.proofs.ItemLemmas as itemwise;
 
 use crate::word_rule::WordRule;
-use hash_laws::laws::{Piecewise, Undo};
+use hash_laws::traits::{Piecewise, Undo};
 use std::hash::Hasher;
 use std::marker::{Model, PhantomData};
 

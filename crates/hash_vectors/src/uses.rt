@@ -5,9 +5,9 @@ ghost use Rattle.std.specs.FinMap as map;
 ghost use Rattle.std.specs.Io.KnownBytes.{IsAtEnd};
 ghost use Rattle.hash_laws.specs.DifferWithin.{DifferWithin};
 ghost use Rattle.hash_jenkins.specs.Oaat.{oaat_finish};
-ghost use Rattle.hashers.specs.Fnv.{fnv1a64, fnv1a64_basis};
-ghost use Rattle.hashers.specs.Oaat.{oaat};
-ghost use Rattle.hashers.specs.Oz.{djb2};
+ghost use Rattle.hashers.specs.Fnv.{fnv1a64_from, fnv1a64_basis};
+ghost use Rattle.hashers.specs.Oaat.{oaat_state};
+ghost use Rattle.hashers.specs.Oz.{djb2_from};
 ghost use Rattle.hashers.specs.Reading.{FeedsRead};
 
 use hash_buckets::{Buckets, NoRoom};
@@ -23,10 +23,10 @@ use std::io::Read;
 /// A failed read is handed on; what was read before it is gone with the hasher.
 pub fn fingerprint<R: Read>(r: &mut R, limit: u64) -> Result<Option<u64>, Fault>
     ensures hash { IfOk result (λ told. IfSome told (λ hash. (bytes : ℕ) × (bytes < limit)
-        × FeedsRead fnv1a64 4096 (R.remaining r.old) (R.remaining r.new) fnv1a64_basis hash bytes)) }
+        × FeedsRead fnv1a64_from 4096 (R.remaining r.old) (R.remaining r.new) fnv1a64_basis hash bytes)) }
     ensures ended { IfOk result (λ told. IfSome told (λ _. IsAtEnd (R.remaining r.new))) }
     ensures limit_met { IfOk result (λ told. IfNone told ((hash : ℕ)
-        × FeedsRead fnv1a64 4096 (R.remaining r.old) (R.remaining r.new) fnv1a64_basis hash limit)) }
+        × FeedsRead fnv1a64_from 4096 (R.remaining r.old) (R.remaining r.new) fnv1a64_basis hash limit)) }
     ensures fault { IfErr result (λ fault. fault.bytes < limit) }
 {
     let mut hasher = FNV1aHasher64::fresh();
@@ -40,7 +40,7 @@ pub fn fingerprint<R: Read>(r: &mut R, limit: u64) -> Result<Option<u64>, Fault>
 
 /// Takes a text's last piece out and another in, without the text before it.
 pub fn replace_last(h: &mut DJB2Hasher, old: &[u8], new: &[u8])
-    ensures { (s : ℕ) → s < 2 ^ 32 → djb2 s old.now ≡ h.old → h.new ≡ djb2 s new.now }
+    ensures { (s : ℕ) → s < 2 ^ 32 → djb2_from s old.now ≡ h.old → h.new ≡ djb2_from s new.now }
 {
     h.unwrite(old);
     h.write(new);
@@ -48,8 +48,8 @@ pub fn replace_last(h: &mut DJB2Hasher, old: &[u8], new: &[u8])
 
 /// The two hashes of a key from which a Bloom filter makes all others.
 pub fn bloom_hashes(key: &[u8]) -> (u64, u64)
-    ensures first { result.0 ≡ fnv1a64 fnv1a64_basis key.now }
-    ensures second { result.1 ≡ oaat_finish (oaat 0 key.now) }
+    ensures first { result.0 ≡ fnv1a64_from fnv1a64_basis key.now }
+    ensures second { result.1 ≡ oaat_finish (oaat_state 0 key.now) }
 {
     (fnv1a64(key), oaat(key))
 }
@@ -57,7 +57,7 @@ pub fn bloom_hashes(key: &[u8]) -> (u64, u64)
 /// Whether two keys may share a slot of a `djb2` table: `false` promises that their hashes differ, and is answered for
 /// keys of one length that differ within six neighbouring places, and nowhere in the three high bits of a byte.
 pub fn may_collide(x: &[u8], y: &[u8]) -> bool
-    ensures differ { OnFalse result (djb2 5381 x.now ≢ djb2 5381 y.now) }
+    ensures differ { OnFalse result (djb2_from 5381 x.now ≢ djb2_from 5381 y.now) }
     ensures exactly { (result ≡ false) ↔ DifferWithin 6 0xE0 x.now y.now }
 {
     !apart_djb2(x, y)

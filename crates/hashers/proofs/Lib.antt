@@ -10,3 +10,5 @@ pub use Rattle.hash_laws.proofs.TextLemmas
 pub use Rattle.hash_laws.proofs.WriteLemmas
 pub use Rattle.hash_rounds.proofs.XorLemmas
 pub use Rattle.hash_fx.proofs.FixedWidths
+pub use Rattle.hash_laws.proofs.ByteLemmas
+pub use Rattle.hash_fx.proofs.WholeWords

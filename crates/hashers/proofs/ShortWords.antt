@@ -8,7 +8,7 @@ use Rattle.std.proofs.lemmas.Nat.Bits.{and_high}
 use Rattle.std.specs.Int.Bits.{bit_and}
 use Rattle.hash_laws.specs.Text.{IsText}
 use Rattle.hash_laws.specs.DifferWithin.{DifferWithin}
-use Rattle.hash_bytes.specs.Oz.{djb2}
+use Rattle.hash_bytes.specs.Oz.{djb2_from}
 use Rattle.hashers.specs.ShortWords.{IsShortWord}
 use Rattle.hashers.proofs.Collisions.{djb2_apart}
 
@@ -32,7 +32,7 @@ words_window x y len wx wy ne = record {
 }
 
 pub djb2_same_word : (x y : List ℕ) → IsText x → IsText y → length x ≡ length y → IsShortWord x → IsShortWord y
-    → djb2 5381 x ≡ djb2 5381 y → x ≡ y
+    → djb2_from 5381 x ≡ djb2_from 5381 y → x ≡ y
 djb2_same_word x y xs ys len wx wy e =
     let decides = bytes_eq-Decides x y in
     ⊎_elim decides.0 (λ f. absurd (djb2_apart x y xs ys (words_window x y len wx wy (λ q. false≢true (sym f ∙ decides.1 q))) e))

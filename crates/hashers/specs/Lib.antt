@@ -1,5 +1,5 @@
 pub mod ShortWords
-pub use Rattle.hash_bytes.specs.Counted
+pub use Rattle.hash_bytes.specs.CountedSum
 pub use Rattle.hash_bytes.specs.Fnv
 pub use Rattle.hash_bytes.specs.FnvLaws
 pub use Rattle.hash_bytes.specs.Oz
@@ -23,3 +23,10 @@ pub use Rattle.hash_jenkins.specs.Spooky
 pub use Rattle.hash_jenkins.specs.SpookyStanding
 pub use Rattle.hash_rounds.specs.Words
 pub use Rattle.hash_rounds.specs.Shuffle
+pub use Rattle.hash_jenkins.specs.Counted
+pub use Rattle.hash_jenkins.specs.Zeros
+pub use Rattle.hash_rounds.specs.Steps
+pub use Rattle.hash_rounds.specs.Rounds
+pub use Rattle.hash_rounds.specs.Blocks
+pub use Rattle.hash_fx.specs.FxLaws
+pub use Rattle.hash_jenkins.specs.SpookyLaws

@@ -3,20 +3,21 @@
 pub use crate::windows::{
     apart_djb2, apart_fnv32, apart_fnv64, apart_sdbm, same_word, windows_tell_apart,
 };
-pub use hash_fx::laws::{
+pub use hash_fx::pieces::{
     apart_by_one_fx, fixed_widths_are_words32, fixed_widths_are_words64, low_bits_of_a_word,
     one_changed_byte_shows_fx, pieces_are_their_words, run_words, run_words32, run_words64,
     words_by_place32, words_by_place64,
 };
-pub use hash_jenkins::laws::{
+pub use hash_jenkins::two_texts::{
     apart_by_zeros, neighbouring_words_show, one_changed_block_shows, one_changed_stretch_shows,
     same_answers_later,
 };
-pub use hash_laws::laws::{
-    ByteStep, Piecewise, Streamed, Undo, answer_of_pieces, apart_by_one, bucket_of, hash_of,
-    joined_texts_are_one, one_changed_byte_shows, run_pair, run_pieces, run_streamed,
-    text_is_its_steps,
+pub use hash_laws::traits::{
+    ByteStep, Piecewise, Streamed, Undo, answer_of_pieces, apart_by_one, bucket_of,
+    bytes_are_a_text, hash_is_from_the_start, hash_of, joined_texts_are_one,
+    no_bytes_change_nothing, one_changed_byte_shows, run_pair, run_pieces, run_streamed,
+    string_is_a_text, text_is_its_steps, text_stays_in_range, writes_are_fed,
 };
 pub use hash_laws::writes::{
-    Write, answer_of_writes, run_writes, run_writes_streamed, unrun_writes,
+    HasherWrite, answer_of_writes, run_writes, run_writes_streamed, unrun_writes,
 };

@@ -5,18 +5,18 @@
 //! reverse, from every state. Each sentence is the contract of a function of this module.
 ghost use Rattle.std.specs.Prelude.{◌≡◌, ◌<◌, ◌^◌, ℕ, [], All, fold};
 ghost use Rattle.std.specs.List.{flat_map};
-ghost use Rattle.hash_rounds.specs.Rounds.{lookup3_mix, lookup3_final, spooky_mix, spooky_end_partial, short_mix, short_end};
+ghost use Rattle.hash_rounds.specs.Rounds.{lookup3_mix_steps, lookup3_final_steps, spooky_mix_steps, spooky_end_partial_steps, short_mix_steps, short_end_steps};
 ghost use Rattle.hash_rounds.specs.Steps.{apply};
-ghost use Rattle.hash_rounds.specs.Sums.{sdbm, loselose, passthrough};
+ghost use Rattle.hash_rounds.specs.Sums.{sdbm_from, loselose_from, passthrough_from};
 ghost use Rattle.hash_laws.specs.Text.{IsText};
 ghost use Rattle.hash_laws.specs.Writes.{all_written, joined_written};
 ghost use Rattle.hash_fx.specs.Fx.{fx32, fx32_step, fx64, fx64_step, words32, words64};
-ghost use Rattle.hash_jenkins.specs.Lookup3.{lookup3, lookup3_answer};
-ghost use Rattle.hash_jenkins.specs.Oaat.{oaat, oaat_finish};
+ghost use Rattle.hash_jenkins.specs.Lookup3.{lookup3_from, lookup3_answer};
+ghost use Rattle.hash_jenkins.specs.Oaat.{oaat_state, oaat_finish};
 ghost use Rattle.hash_jenkins.specs.Spooky.{spooky, spooky_v1};
-ghost use Rattle.hash_bytes.specs.Fnv.{fnv1a32, fnv1a32_basis, fnv1a64, fnv1a64_basis};
-ghost use Rattle.hash_bytes.specs.Oz.{djb2};
-ghost use Rattle.hash_bytes.specs.Pigeon.{bricolage};
+ghost use Rattle.hash_bytes.specs.Fnv.{fnv1a32_from, fnv1a32_basis, fnv1a64_from, fnv1a64_basis};
+ghost use Rattle.hash_bytes.specs.Oz.{djb2_from};
+ghost use Rattle.hash_bytes.specs.Pigeon.{bricolage_from};
 
 use hash_bytes::fnv::{FNV1aHasher32, FNV1aHasher64};
 use hash_bytes::null::{NullHasher, PassThroughHasher};
@@ -25,8 +25,10 @@ use hash_bytes::pigeon::Bricolage;
 use hash_fx::{Fx64Rule, FxHasher, FxHasher32, FxHasher64, MachineWord};
 use hash_jenkins::spooky_hash::SpookyHasher;
 use hash_jenkins::{Lookup3Hasher, OAATHasher};
-use hash_laws::laws::{ByteStep, Piecewise, Streamed, Undo};
-use hash_laws::writes::{Write, answer_of_writes, run_writes, run_writes_streamed, unrun_writes};
+use hash_laws::traits::{ByteStep, Piecewise, Streamed, Undo};
+use hash_laws::writes::{
+    HasherWrite, answer_of_writes, run_writes, run_writes_streamed, unrun_writes,
+};
 use hash_rounds::{
     lookup3_final, lookup3_mix, lookup3_unfinal, lookup3_unmix, short_end, short_mix,
     spooky_end_partial, spooky_mix, spooky_un_end_partial, spooky_unmix, un_short_end,
@@ -36,71 +38,71 @@ use hash_rules::WordHasher;
 use std::hash::Hasher;
 
 /// `fnv1a32` of the joined bytes of the writes.
-pub fn fnv1a32_of_writes(writes: &[Write]) -> u64
-    ensures { result ≡ fnv1a32 fnv1a32_basis (joined_written writes.now) }
+pub fn fnv1a32_of_writes(writes: &[HasherWrite]) -> u64
+    ensures { result ≡ fnv1a32_from fnv1a32_basis (joined_written writes.now) }
 {
     answer_of_writes::<FNV1aHasher32>(writes)
 }
 
 /// `fnv1a64` of the joined bytes of the writes.
-pub fn fnv1a64_of_writes(writes: &[Write]) -> u64
-    ensures { result ≡ fnv1a64 fnv1a64_basis (joined_written writes.now) }
+pub fn fnv1a64_of_writes(writes: &[HasherWrite]) -> u64
+    ensures { result ≡ fnv1a64_from fnv1a64_basis (joined_written writes.now) }
 {
     answer_of_writes::<FNV1aHasher64>(writes)
 }
 
 /// `djb2` of the joined bytes of the writes.
-pub fn djb2_of_writes(writes: &[Write]) -> u64
-    ensures { result ≡ djb2 5381 (joined_written writes.now) }
+pub fn djb2_of_writes(writes: &[HasherWrite]) -> u64
+    ensures { result ≡ djb2_from 5381 (joined_written writes.now) }
 {
     answer_of_writes::<DJB2Hasher>(writes)
 }
 
 /// `sdbm` of the joined bytes of the writes.
-pub fn sdbm_of_writes(writes: &[Write]) -> u64
-    ensures { result ≡ sdbm 0 (joined_written writes.now) }
+pub fn sdbm_of_writes(writes: &[HasherWrite]) -> u64
+    ensures { result ≡ sdbm_from 0 (joined_written writes.now) }
 {
     answer_of_writes::<SDBMHasher>(writes)
 }
 
 /// `loselose` of the joined bytes of the writes.
-pub fn loselose_of_writes(writes: &[Write]) -> u64
-    ensures { result ≡ loselose 0 (joined_written writes.now) }
+pub fn loselose_of_writes(writes: &[HasherWrite]) -> u64
+    ensures { result ≡ loselose_from 0 (joined_written writes.now) }
 {
     answer_of_writes::<LoseLoseHasher>(writes)
 }
 
 /// `bricolage` of the joined bytes of the writes.
-pub fn bricolage_of_writes(writes: &[Write]) -> u64
-    ensures { result ≡ bricolage 0 (joined_written writes.now) }
+pub fn bricolage_of_writes(writes: &[HasherWrite]) -> u64
+    ensures { result ≡ bricolage_from 0 (joined_written writes.now) }
 {
     answer_of_writes::<Bricolage>(writes)
 }
 
 /// `oaat` of the joined bytes of the writes.
-pub fn oaat_of_writes(writes: &[Write]) -> u64
-    ensures { result ≡ oaat_finish (oaat 0 (joined_written writes.now)) }
+pub fn oaat_of_writes(writes: &[HasherWrite]) -> u64
+    ensures { result ≡ oaat_finish (oaat_state 0 (joined_written writes.now)) }
 {
     answer_of_writes::<OAATHasher>(writes)
 }
 
 /// 0, whatever the writes.
-pub fn null_of_writes(writes: &[Write]) -> u64
+pub fn null_of_writes(writes: &[HasherWrite]) -> u64
     ensures { result ≡ 0 }
 {
     answer_of_writes::<NullHasher>(writes)
 }
 
 /// `passthrough` of the joined bytes of the writes.
-pub fn passthrough_of_writes(writes: &[Write]) -> u64
-    ensures { result ≡ passthrough 0 (joined_written writes.now) }
+pub fn passthrough_of_writes(writes: &[HasherWrite]) -> u64
+    ensures { result ≡ passthrough_from 0 (joined_written writes.now) }
 {
     answer_of_writes::<PassThroughHasher>(writes)
 }
 
 /// `passthrough` goes on from any state: what it answers before the writes and after them.
-pub fn passthrough_goes_on(h: &mut PassThroughHasher, writes: &[Write]) -> (u64, u64)
-    ensures state { h.new ≡ passthrough h.old (joined_written writes.now) }
+pub fn passthrough_goes_on(h: &mut PassThroughHasher, writes: &[HasherWrite]) -> (u64, u64)
+    ensures state { h.new ≡ passthrough_from h.old (joined_written writes.now) }
     ensures before { result.0 ≡ h.old }
     ensures after { result.1 ≡ h.new }
 {
@@ -108,7 +110,7 @@ pub fn passthrough_goes_on(h: &mut PassThroughHasher, writes: &[Write]) -> (u64,
 }
 
 /// SpookyHash of the joined bytes of the writes, under any seeds.
-pub fn spooky_of_writes(seed1: u64, seed2: u64, writes: &[Write]) -> (u64, u64)
+pub fn spooky_of_writes(seed1: u64, seed2: u64, writes: &[HasherWrite]) -> (u64, u64)
     ensures { result ≡ spooky seed1 seed2 (joined_written writes.now) }
 {
     let mut hasher = SpookyHasher::new(seed1, seed2);
@@ -117,7 +119,7 @@ pub fn spooky_of_writes(seed1: u64, seed2: u64, writes: &[Write]) -> (u64, u64)
 }
 
 /// Version 1 of SpookyHash of the joined bytes of the writes, under any seeds.
-pub fn spooky_v1_of_writes(seed1: u64, seed2: u64, writes: &[Write]) -> (u64, u64)
+pub fn spooky_v1_of_writes(seed1: u64, seed2: u64, writes: &[HasherWrite]) -> (u64, u64)
     ensures { result ≡ spooky_v1 seed1 seed2 (joined_written writes.now) }
 {
     let mut hasher = SpookyHasher::new(seed1, seed2);
@@ -126,8 +128,8 @@ pub fn spooky_v1_of_writes(seed1: u64, seed2: u64, writes: &[Write]) -> (u64, u6
 }
 
 /// `lookup3` of the writes: each of some bytes is one run from the two words before.
-pub fn lookup3_of_writes(writes: &[Write]) -> u64
-    ensures { result ≡ lookup3_answer (fold lookup3 (0, 0) (all_written writes.now)) }
+pub fn lookup3_of_writes(writes: &[HasherWrite]) -> u64
+    ensures { result ≡ lookup3_answer (fold lookup3_from (0, 0) (all_written writes.now)) }
 {
     let mut hasher = Lookup3Hasher::default();
     run_writes(&mut hasher, writes);
@@ -135,7 +137,7 @@ pub fn lookup3_of_writes(writes: &[Write]) -> u64
 }
 
 /// `fxhash` of all words of all writes, one after the other.
-pub fn fxhash_of_writes(writes: &[Write]) -> u64
+pub fn fxhash_of_writes(writes: &[HasherWrite]) -> u64
     ensures { result ≡ fx64 0 (flat_map words64 (all_written writes.now)) }
 {
     let mut hasher = FxHasher::default();
@@ -144,7 +146,7 @@ pub fn fxhash_of_writes(writes: &[Write]) -> u64
 }
 
 /// `fxhash32` of all words of all writes, one after the other.
-pub fn fxhash32_of_writes(writes: &[Write]) -> u64
+pub fn fxhash32_of_writes(writes: &[HasherWrite]) -> u64
     ensures { result ≡ fx32 0 (flat_map words32 (all_written writes.now)) }
 {
     let mut hasher = FxHasher32::default();
@@ -153,7 +155,7 @@ pub fn fxhash32_of_writes(writes: &[Write]) -> u64
 }
 
 /// `fxhash64` of all words of all writes, one after the other.
-pub fn fxhash64_of_writes(writes: &[Write]) -> u64
+pub fn fxhash64_of_writes(writes: &[HasherWrite]) -> u64
     ensures { result ≡ fx64 0 (flat_map words64 (all_written writes.now)) }
 {
     let mut hasher = FxHasher64::default();
@@ -162,7 +164,7 @@ pub fn fxhash64_of_writes(writes: &[Write]) -> u64
 }
 
 /// What a hasher answers before the writes and after them, from any state.
-fn goes_on<H: Streamed>(h: &mut H, writes: &[Write]) -> (u64, u64)
+fn goes_on<H: Streamed>(h: &mut H, writes: &[HasherWrite]) -> (u64, u64)
     ensures state { H.state h.new ≡ H.after (H.state h.old) (joined_written writes.now) }
     ensures before { result.0 ≡ H.answer (H.state h.old) }
     ensures after { result.1 ≡ H.answer (H.state h.new) }
@@ -194,7 +196,7 @@ impl Drop for WayBack {
 
 /// Makes the writes on the one hasher and takes them back, and takes them back from the other and makes them. Both are
 /// as they were.
-fn there_and_back<H: Undo>(a: &mut H, b: &mut H, writes: &[Write]) -> WayBack
+fn there_and_back<H: Undo>(a: &mut H, b: &mut H, writes: &[HasherWrite]) -> WayBack
     ensures before { result.before ≡ H.answer (H.state a.old) }
     ensures there { result.there ≡ H.answer (fold H.after (H.state a.old) (all_written writes.now)) }
     ensures there_and_back { H.state a.new ≡ H.state a.old }
@@ -219,7 +221,7 @@ fn there_and_back<H: Undo>(a: &mut H, b: &mut H, writes: &[Write]) -> WayBack
 }
 
 /// The same of a hasher for which only the joined bytes count.
-fn there_and_back_joined<H: ByteStep>(a: &mut H, b: &mut H, writes: &[Write]) -> WayBack
+fn there_and_back_joined<H: ByteStep>(a: &mut H, b: &mut H, writes: &[HasherWrite]) -> WayBack
     ensures before { result.before ≡ H.answer (H.state a.old) }
     ensures there { result.there ≡ H.answer (H.after (H.state a.old) (joined_written writes.now)) }
     ensures there_and_back { H.state a.new ≡ H.state a.old }
@@ -231,11 +233,15 @@ fn there_and_back_joined<H: ByteStep>(a: &mut H, b: &mut H, writes: &[Write]) ->
 }
 
 /// `fnv1a32`, from any state: the writes, made and taken back, or taken back and made, leave each hasher as it was.
-pub fn fnv1a32_undone(a: &mut FNV1aHasher32, b: &mut FNV1aHasher32, writes: &[Write]) -> WayBack
+pub fn fnv1a32_undone(
+    a: &mut FNV1aHasher32,
+    b: &mut FNV1aHasher32,
+    writes: &[HasherWrite],
+) -> WayBack
     ensures before { result.before ≡ a.old }
-    ensures there { result.there ≡ fnv1a32 a.old (joined_written writes.now) }
+    ensures there { result.there ≡ fnv1a32_from a.old (joined_written writes.now) }
     ensures there_and_back { a.new ≡ a.old }
-    ensures back { fnv1a32 result.back (joined_written writes.now) ≡ b.old }
+    ensures back { fnv1a32_from result.back (joined_written writes.now) ≡ b.old }
     ensures in_range { result.back < 2 ^ 32 }
     ensures back_and_there { b.new ≡ b.old }
 {
@@ -243,11 +249,15 @@ pub fn fnv1a32_undone(a: &mut FNV1aHasher32, b: &mut FNV1aHasher32, writes: &[Wr
 }
 
 /// `fnv1a64`, from any state: the writes, made and taken back, or taken back and made, leave each hasher as it was.
-pub fn fnv1a64_undone(a: &mut FNV1aHasher64, b: &mut FNV1aHasher64, writes: &[Write]) -> WayBack
+pub fn fnv1a64_undone(
+    a: &mut FNV1aHasher64,
+    b: &mut FNV1aHasher64,
+    writes: &[HasherWrite],
+) -> WayBack
     ensures before { result.before ≡ a.old }
-    ensures there { result.there ≡ fnv1a64 a.old (joined_written writes.now) }
+    ensures there { result.there ≡ fnv1a64_from a.old (joined_written writes.now) }
     ensures there_and_back { a.new ≡ a.old }
-    ensures back { fnv1a64 result.back (joined_written writes.now) ≡ b.old }
+    ensures back { fnv1a64_from result.back (joined_written writes.now) ≡ b.old }
     ensures in_range { result.back < 2 ^ 64 }
     ensures back_and_there { b.new ≡ b.old }
 {
@@ -255,11 +265,11 @@ pub fn fnv1a64_undone(a: &mut FNV1aHasher64, b: &mut FNV1aHasher64, writes: &[Wr
 }
 
 /// `djb2`, from any state: the writes, made and taken back, or taken back and made, leave each hasher as it was.
-pub fn djb2_undone(a: &mut DJB2Hasher, b: &mut DJB2Hasher, writes: &[Write]) -> WayBack
+pub fn djb2_undone(a: &mut DJB2Hasher, b: &mut DJB2Hasher, writes: &[HasherWrite]) -> WayBack
     ensures before { result.before ≡ a.old }
-    ensures there { result.there ≡ djb2 a.old (joined_written writes.now) }
+    ensures there { result.there ≡ djb2_from a.old (joined_written writes.now) }
     ensures there_and_back { a.new ≡ a.old }
-    ensures back { djb2 result.back (joined_written writes.now) ≡ b.old }
+    ensures back { djb2_from result.back (joined_written writes.now) ≡ b.old }
     ensures in_range { result.back < 2 ^ 32 }
     ensures back_and_there { b.new ≡ b.old }
 {
@@ -267,11 +277,11 @@ pub fn djb2_undone(a: &mut DJB2Hasher, b: &mut DJB2Hasher, writes: &[Write]) -> 
 }
 
 /// `sdbm`, from any state: the writes, made and taken back, or taken back and made, leave each hasher as it was.
-pub fn sdbm_undone(a: &mut SDBMHasher, b: &mut SDBMHasher, writes: &[Write]) -> WayBack
+pub fn sdbm_undone(a: &mut SDBMHasher, b: &mut SDBMHasher, writes: &[HasherWrite]) -> WayBack
     ensures before { result.before ≡ a.old.state }
-    ensures there { result.there ≡ sdbm a.old.state (joined_written writes.now) }
+    ensures there { result.there ≡ sdbm_from a.old.state (joined_written writes.now) }
     ensures there_and_back { a.new.state ≡ a.old.state }
-    ensures back { sdbm result.back (joined_written writes.now) ≡ b.old.state }
+    ensures back { sdbm_from result.back (joined_written writes.now) ≡ b.old.state }
     ensures in_range { result.back < 2 ^ 32 }
     ensures back_and_there { b.new.state ≡ b.old.state }
 {
@@ -279,11 +289,15 @@ pub fn sdbm_undone(a: &mut SDBMHasher, b: &mut SDBMHasher, writes: &[Write]) -> 
 }
 
 /// `loselose`, from any state: the writes, made and taken back, or taken back and made, leave each hasher as it was.
-pub fn loselose_undone(a: &mut LoseLoseHasher, b: &mut LoseLoseHasher, writes: &[Write]) -> WayBack
+pub fn loselose_undone(
+    a: &mut LoseLoseHasher,
+    b: &mut LoseLoseHasher,
+    writes: &[HasherWrite],
+) -> WayBack
     ensures before { result.before ≡ a.old.state }
-    ensures there { result.there ≡ loselose a.old.state (joined_written writes.now) }
+    ensures there { result.there ≡ loselose_from a.old.state (joined_written writes.now) }
     ensures there_and_back { a.new.state ≡ a.old.state }
-    ensures back { loselose result.back (joined_written writes.now) ≡ b.old.state }
+    ensures back { loselose_from result.back (joined_written writes.now) ≡ b.old.state }
     ensures in_range { result.back < 2 ^ 64 }
     ensures back_and_there { b.new.state ≡ b.old.state }
 {
@@ -291,11 +305,11 @@ pub fn loselose_undone(a: &mut LoseLoseHasher, b: &mut LoseLoseHasher, writes: &
 }
 
 /// `bricolage`, from any state: the writes, made and taken back, or taken back and made, leave each hasher as it was.
-pub fn bricolage_undone(a: &mut Bricolage, b: &mut Bricolage, writes: &[Write]) -> WayBack
+pub fn bricolage_undone(a: &mut Bricolage, b: &mut Bricolage, writes: &[HasherWrite]) -> WayBack
     ensures before { result.before ≡ a.old }
-    ensures there { result.there ≡ bricolage a.old (joined_written writes.now) }
+    ensures there { result.there ≡ bricolage_from a.old (joined_written writes.now) }
     ensures there_and_back { a.new ≡ a.old }
-    ensures back { bricolage result.back (joined_written writes.now) ≡ b.old }
+    ensures back { bricolage_from result.back (joined_written writes.now) ≡ b.old }
     ensures in_range { result.back < 2 ^ 64 }
     ensures back_and_there { b.new ≡ b.old }
 {
@@ -303,19 +317,19 @@ pub fn bricolage_undone(a: &mut Bricolage, b: &mut Bricolage, writes: &[Write]) 
 }
 
 /// `oaat`, from any state: the writes, made and taken back, or taken back and made, leave each hasher as it was.
-pub fn oaat_undone(a: &mut OAATHasher, b: &mut OAATHasher, writes: &[Write]) -> WayBack
+pub fn oaat_undone(a: &mut OAATHasher, b: &mut OAATHasher, writes: &[HasherWrite]) -> WayBack
     ensures before { result.before ≡ oaat_finish a.old }
-    ensures there { result.there ≡ oaat_finish (oaat a.old (joined_written writes.now)) }
+    ensures there { result.there ≡ oaat_finish (oaat_state a.old (joined_written writes.now)) }
     ensures there_and_back { a.new ≡ a.old }
     ensures back { (s : ℕ) × (s < 2 ^ 64)
-        × (oaat s (joined_written writes.now) ≡ b.old) × (result.back ≡ oaat_finish s) }
+        × (oaat_state s (joined_written writes.now) ≡ b.old) × (result.back ≡ oaat_finish s) }
     ensures back_and_there { b.new ≡ b.old }
 {
     there_and_back_joined::<OAATHasher>(a, b, writes)
 }
 
 /// `fxhash`, from any state: the writes, made and taken back, or taken back and made, leave each hasher as it was.
-pub fn fxhash_undone(a: &mut FxHasher, b: &mut FxHasher, writes: &[Write]) -> WayBack
+pub fn fxhash_undone(a: &mut FxHasher, b: &mut FxHasher, writes: &[HasherWrite]) -> WayBack
     ensures before { result.before ≡ a.old }
     ensures there { result.there ≡ fx64 a.old (flat_map words64 (all_written writes.now)) }
     ensures there_and_back { a.new ≡ a.old }
@@ -327,7 +341,7 @@ pub fn fxhash_undone(a: &mut FxHasher, b: &mut FxHasher, writes: &[Write]) -> Wa
 }
 
 /// `fxhash32`, from any state: the writes, made and taken back, or taken back and made, leave each hasher as it was.
-pub fn fxhash32_undone(a: &mut FxHasher32, b: &mut FxHasher32, writes: &[Write]) -> WayBack
+pub fn fxhash32_undone(a: &mut FxHasher32, b: &mut FxHasher32, writes: &[HasherWrite]) -> WayBack
     ensures before { result.before ≡ a.old }
     ensures there { result.there ≡ fx32 a.old (flat_map words32 (all_written writes.now)) }
     ensures there_and_back { a.new ≡ a.old }
@@ -339,7 +353,7 @@ pub fn fxhash32_undone(a: &mut FxHasher32, b: &mut FxHasher32, writes: &[Write])
 }
 
 /// `fxhash64`, from any state: the writes, made and taken back, or taken back and made, leave each hasher as it was.
-pub fn fxhash64_undone(a: &mut FxHasher64, b: &mut FxHasher64, writes: &[Write]) -> WayBack
+pub fn fxhash64_undone(a: &mut FxHasher64, b: &mut FxHasher64, writes: &[HasherWrite]) -> WayBack
     ensures before { result.before ≡ a.old }
     ensures there { result.there ≡ fx64 a.old (flat_map words64 (all_written writes.now)) }
     ensures there_and_back { a.new ≡ a.old }
@@ -428,9 +442,9 @@ pub fn fxhash64_word_undone(a: &mut FxHasher64, b: &mut FxHasher64, word: u64) -
 
 /// `lookup3_mix` and `lookup3_unmix` undo one another, both ways, on every state: the words in between.
 pub fn lookup3_mix_undone(a: &mut [u32; 3], b: &mut [u32; 3]) -> ([u32; 3], [u32; 3])
-    ensures there { result.0 ≡ apply 32 lookup3_mix [] a.old }
+    ensures there { result.0 ≡ apply 32 lookup3_mix_steps [] a.old }
     ensures there_and_back { a.new ≡ a.old }
-    ensures back { apply 32 lookup3_mix [] result.1 ≡ b.old }
+    ensures back { apply 32 lookup3_mix_steps [] result.1 ≡ b.old }
     ensures back_and_there { b.new ≡ b.old }
 {
     lookup3_mix(a);
@@ -444,9 +458,9 @@ pub fn lookup3_mix_undone(a: &mut [u32; 3], b: &mut [u32; 3]) -> ([u32; 3], [u32
 
 /// `lookup3_final` and `lookup3_unfinal` undo one another, both ways, on every state: the words in between.
 pub fn lookup3_final_undone(a: &mut [u32; 3], b: &mut [u32; 3]) -> ([u32; 3], [u32; 3])
-    ensures there { result.0 ≡ apply 32 lookup3_final [] a.old }
+    ensures there { result.0 ≡ apply 32 lookup3_final_steps [] a.old }
     ensures there_and_back { a.new ≡ a.old }
-    ensures back { apply 32 lookup3_final [] result.1 ≡ b.old }
+    ensures back { apply 32 lookup3_final_steps [] result.1 ≡ b.old }
     ensures back_and_there { b.new ≡ b.old }
 {
     lookup3_final(a);
@@ -458,31 +472,32 @@ pub fn lookup3_final_undone(a: &mut [u32; 3], b: &mut [u32; 3]) -> ([u32; 3], [u
     (there, back)
 }
 
-/// `spooky_mix` and `spooky_unmix` undo one another, both ways, on every state, for the same data: the words in between.
+/// `spooky_mix` and `spooky_unmix` undo one another, both ways, on every state, for the same twelve words of data: the words
+/// in between.
 pub fn spooky_mix_undone(
-    data: &[u64; 12],
+    words: &[u64; 12],
     a: &mut [u64; 12],
     b: &mut [u64; 12],
 ) -> ([u64; 12], [u64; 12])
-    ensures there { result.0 ≡ apply 64 spooky_mix data.now a.old }
+    ensures there { result.0 ≡ apply 64 spooky_mix_steps words.now a.old }
     ensures there_and_back { a.new ≡ a.old }
-    ensures back { apply 64 spooky_mix data.now result.1 ≡ b.old }
+    ensures back { apply 64 spooky_mix_steps words.now result.1 ≡ b.old }
     ensures back_and_there { b.new ≡ b.old }
 {
-    spooky_mix(data, a);
+    spooky_mix(words, a);
     let there = *a;
-    spooky_unmix(data, a);
-    spooky_unmix(data, b);
+    spooky_unmix(words, a);
+    spooky_unmix(words, b);
     let back = *b;
-    spooky_mix(data, b);
+    spooky_mix(words, b);
     (there, back)
 }
 
 /// `spooky_end_partial` and `spooky_un_end_partial` undo one another, both ways, on every state: the words in between.
 pub fn spooky_end_partial_undone(a: &mut [u64; 12], b: &mut [u64; 12]) -> ([u64; 12], [u64; 12])
-    ensures there { result.0 ≡ apply 64 spooky_end_partial [] a.old }
+    ensures there { result.0 ≡ apply 64 spooky_end_partial_steps [] a.old }
     ensures there_and_back { a.new ≡ a.old }
-    ensures back { apply 64 spooky_end_partial [] result.1 ≡ b.old }
+    ensures back { apply 64 spooky_end_partial_steps [] result.1 ≡ b.old }
     ensures back_and_there { b.new ≡ b.old }
 {
     spooky_end_partial(a);
@@ -496,9 +511,9 @@ pub fn spooky_end_partial_undone(a: &mut [u64; 12], b: &mut [u64; 12]) -> ([u64;
 
 /// `short_mix` and `un_short_mix` undo one another, both ways, on every state: the words in between.
 pub fn short_mix_undone(a: &mut [u64; 4], b: &mut [u64; 4]) -> ([u64; 4], [u64; 4])
-    ensures there { result.0 ≡ apply 64 short_mix [] a.old }
+    ensures there { result.0 ≡ apply 64 short_mix_steps [] a.old }
     ensures there_and_back { a.new ≡ a.old }
-    ensures back { apply 64 short_mix [] result.1 ≡ b.old }
+    ensures back { apply 64 short_mix_steps [] result.1 ≡ b.old }
     ensures back_and_there { b.new ≡ b.old }
 {
     short_mix(a);
@@ -512,9 +527,9 @@ pub fn short_mix_undone(a: &mut [u64; 4], b: &mut [u64; 4]) -> ([u64; 4], [u64; 
 
 /// `short_end` and `un_short_end` undo one another, both ways, on every state: the words in between.
 pub fn short_end_undone(a: &mut [u64; 4], b: &mut [u64; 4]) -> ([u64; 4], [u64; 4])
-    ensures there { result.0 ≡ apply 64 short_end [] a.old }
+    ensures there { result.0 ≡ apply 64 short_end_steps [] a.old }
     ensures there_and_back { a.new ≡ a.old }
-    ensures back { apply 64 short_end [] result.1 ≡ b.old }
+    ensures back { apply 64 short_end_steps [] result.1 ≡ b.old }
     ensures back_and_there { b.new ≡ b.old }
 {
     short_end(a);

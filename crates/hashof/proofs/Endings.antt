@@ -4,7 +4,7 @@ use Rattle.std.specs.Io.KnownBytes.{Appends, Keeps}
 use Rattle.std.specs.declared.io.Error.{Error}
 use Rattle.hashof.specs.declared.run.RunFault.{RunFault}
 use Rattle.hashof.specs.declared.run.RunFault.TheVariants.{UnknownName, ReadFault, TooLong, WriteFault}
-use Rattle.hashof.specs.Named.{line_of}
+use Rattle.hashof.specs.Line.{line_of}
 use Rattle.hashof.specs.Running.{Run, HashesNamed, EndsNamed, BeginsLine}
 
 -- nothing was written

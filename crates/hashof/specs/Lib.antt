@@ -1,4 +1,5 @@
-pub mod Named
+pub mod Line
 pub mod Program
 pub mod Running
 pub mod Status
+pub mod ReadingLaws

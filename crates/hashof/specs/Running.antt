@@ -1,10 +1,11 @@
 -- What a run reads and writes, and how it ends.
 use Rattle.std.specs.Prelude.{ℕ, ◌≡◌, ◌<◌, List, Option, Some, None, Result, Ok, Err, ◌++◌, length}
 use Rattle.std.specs.Io.KnownBytes.{Consumes, Appends, Keeps, IsAtEnd}
-use Rattle.hash_laws.specs.Text.{IsText}
+use Rattle.hashers.specs.Text.{IsText}
 use Rattle.hashof.specs.declared.run.RunFault.{RunFault}
 use Rattle.hashof.specs.declared.run.RunFault.TheVariants.{UnknownName, ReadFault, TooLong, WriteFault}
-use Rattle.hashof.specs.Named.{named, line_of, pieced}
+use Rattle.hash_names.specs.Named.{named, pieced}
+use Rattle.hashof.specs.Line.{line_of}
 
 -- how many bytes are too many to be read, and those that are left to be read before and after
 pub record Reading : Type 0 where

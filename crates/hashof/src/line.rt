@@ -1,7 +1,7 @@
 //! A number as a line.
 ghost use Rattle.std.specs.Prelude.{◌≡◌, OnOk, OnErr};
 ghost use Rattle.std.specs.Io.KnownBytes.{Appends};
-ghost use Rattle.hashof.specs.Named.{line_of};
+ghost use Rattle.hashof.specs.Line.{line_of};
 ghost use Rattle.hashof.specs.Running.{BeginsLine};
 
 use std::io::{Error, Write};

@@ -1,19 +1,16 @@
-//! The hashes by their names, of what a reader gives.
+//! The hash of a name of what a reader gives.
 ghost use Rattle.hashers.specs.Spooky.{spooky_v1};
-ghost use Rattle.hashof.specs.Named.{named, pieced};
+ghost use Rattle.hash_names.specs.Named.{named, pieced};
+ghost use Rattle.hashof.specs.ReadingLaws.{Hashes-agree};
 ghost use Rattle.hashof.specs.Running.{Feeds, Hashes, HashesNamed, read};
 
 use crate::run::RunFault;
+use hash_names::{HashTask, by_name};
 use hashers::engine::hash_reader;
-use hashers::fnv::{FNV1aHasher32, FNV1aHasher64};
-use hashers::fx_hash::{FxHasher, FxHasher32, FxHasher64};
 use hashers::jenkins::spooky_hash::SpookyHasher;
-use hashers::jenkins::{Lookup3Hasher, OAATHasher};
 use hashers::laws::{Piecewise, Streamed};
-use hashers::null::{NullHasher, PassThroughHasher};
-use hashers::oz::{DJB2Hasher, LoseLoseHasher, SDBMHasher};
-use hashers::pigeon::Bricolage;
 use std::io::Read;
+use std::marker::PhantomData;
 
 /// How many bytes are fed at once.
 const PIECE: usize = 4096;
@@ -58,27 +55,42 @@ fn hash_of_spooky_v1<R: Read>(limit: u64, r: &mut R) -> Result<u64, RunFault>
     Ok(hasher.finish128_v1().0)
 }
 
-/// The hash of that name of what is read, if that is less than `limit` bytes. For fx it is that of one write, since
-/// pieces of 4096 bytes are whole words. An unknown name is refused before anything is read.
+/// To hash what a reader gives, if that is less than a limit in bytes.
+struct HashRead<R> {
+    reader: PhantomData<R>,
+}
+
+impl<R: Read> HashTask for HashRead<R> {
+    type Told = u64;
+
+    type Input = R;
+
+    type Outcome = Result<u64, RunFault>;
+
+    ghost by = { λ hash limit r s result. Hashes hash (read limit R.remaining r s) result };
+
+    fn by_text<H: Streamed>(limit: u64, r: &mut R) -> Result<u64, RunFault> {
+        hash_of_text::<H, R>(limit, r)
+    }
+
+    fn by_pieces<H: Piecewise>(limit: u64, r: &mut R) -> Result<u64, RunFault> {
+        hash_of_pieces::<H, R>(limit, r)
+    }
+
+    fn by_spooky_v1(limit: u64, r: &mut R) -> Result<u64, RunFault> {
+        hash_of_spooky_v1(limit, r)
+    }
+
+    ghost by_same = { λ hash same agree limit r s. Hashes-agree hash same agree (read limit R.remaining r s) };
+}
+
+/// The hash of that name of what is read, if that is less than `limit` bytes. An unknown name is refused before anything is
+/// read.
 pub fn hash_named<R: Read>(name: &str, limit: u64, r: &mut R) -> Result<u64, RunFault>
     ensures { HashesNamed (named name.now) (read limit R.remaining r.old r.new) result }
 {
-    match name {
-        "fnv1a32" => hash_of_text::<FNV1aHasher32, R>(limit, r),
-        "fnv1a64" => hash_of_text::<FNV1aHasher64, R>(limit, r),
-        "djb2" => hash_of_text::<DJB2Hasher, R>(limit, r),
-        "sdbm" => hash_of_text::<SDBMHasher, R>(limit, r),
-        "loselose" => hash_of_text::<LoseLoseHasher, R>(limit, r),
-        "bricolage" => hash_of_text::<Bricolage, R>(limit, r),
-        "oaat" => hash_of_text::<OAATHasher, R>(limit, r),
-        "lookup3" => hash_of_pieces::<Lookup3Hasher, R>(limit, r),
-        "spooky" => hash_of_text::<SpookyHasher, R>(limit, r),
-        "spooky_v1" => hash_of_spooky_v1(limit, r),
-        "null" => hash_of_text::<NullHasher, R>(limit, r),
-        "passthrough" => hash_of_text::<PassThroughHasher, R>(limit, r),
-        "fxhash" => hash_of_pieces::<FxHasher, R>(limit, r),
-        "fxhash32" => hash_of_pieces::<FxHasher32, R>(limit, r),
-        "fxhash64" => hash_of_pieces::<FxHasher64, R>(limit, r),
-        _ => Err(RunFault::UnknownName),
+    match by_name::<HashRead<R>>(name, limit, r) {
+        Some(result) => result,
+        None => Err(RunFault::UnknownName),
     }
 }

@@ -11,6 +11,7 @@ use std::io;
 use std::io::{ErrorKind, Read, Write};
 
 /// What came of a run of the program.
+#[derive(Drop)]
 pub enum Outcome {
     /// The hash was told.
     Done,
@@ -20,17 +21,6 @@ pub enum Outcome {
     NoMemory,
     /// No hash was told.
     Failed(RunFault),
-}
-
-impl Drop for Outcome {
-    fn drop(self) {
-        match self {
-            Outcome::Failed(RunFault::ReadFault(_)) => {}
-            Outcome::Failed(RunFault::WriteFault(_)) => {}
-            Outcome::Failed(RunFault::UnknownName | RunFault::TooLong) => {}
-            Outcome::Done | Outcome::Usage | Outcome::NoMemory => {}
-        }
-    }
 }
 
 /// Does what the arguments ask for, as the system gives them, the program's own name first: tells the hash of the one

@@ -4,9 +4,13 @@ ghost use Rattle.hashof.specs.Running.{Ends, run_of};
 use crate::line::write_line;
 use crate::named::hash_named;
 use hashers::engine::Fault;
+use std::error::Error as StdError;
+use std::fmt;
+use std::fmt::{Display, Formatter};
 use std::io::{Error, Read, Write};
 
 /// Why no hash was told. The cases are tried in this order.
+#[derive(Debug, Drop)]
 pub enum RunFault {
     /// The name isn't known. Nothing was read or written.
     UnknownName,
@@ -18,6 +22,20 @@ pub enum RunFault {
     /// whole line where the flush failed.
     WriteFault(Option<Error>),
 }
+
+impl Display for RunFault {
+    fn fmt<W: fmt::Write>(&self, f: &mut Formatter<W>) -> fmt::Result {
+        match self {
+            RunFault::UnknownName => write!(f, "no hash has this name"),
+            RunFault::ReadFault(fault) => write!(f, "{fault}"),
+            RunFault::TooLong => write!(f, "the input is too long"),
+            RunFault::WriteFault(Some(error)) => write!(f, "a write failed: {error}"),
+            RunFault::WriteFault(None) => write!(f, "a write took nothing"),
+        }
+    }
+}
+
+impl StdError for RunFault {}
 
 /// The bytes from which on an input is too long: 2^40.
 pub const LIMIT: u64 = 1 << 40;

@@ -2,10 +2,9 @@
 ghost use Rattle.std.specs.Prelude.{◌≡◌, ◌^◌, ◌*◌, ◌%◌, refl};
 ghost use Rattle.std.proofs.Common.{lit<};
 ghost use Rattle.hash_rounds.specs.Shuffle.{shuffle};
-ghost use Rattle.hash_bytes.specs.Pigeon.{bricolage_step};
+ghost use Rattle.hash_bytes.specs.Pigeon.{bricolage_step, bricolage_from};
 ghost use Rattle.hash_bytes.specs.PigeonLaws.{bricolage_facts};
 ghost use Rattle.hash_laws.proofs.RecurrenceLemmas.{recurrence_is_fold};
-ghost use Rattle.hash_bytes.specs.Pigeon.{bricolage};
 
 use super::table::SHUFFLED_PRODUCTS;
 use hash_rounds::swap_halves;
@@ -53,9 +52,9 @@ impl StepRule for BricolageRule {
 }
 
 impl ByteRule for BricolageRule {
-    ghost after = { bricolage };
+    ghost after = { bricolage_from };
 
-    ghost write = { bricolage };
+    ghost write = { bricolage_from };
 
     ghost answer = { λ s. s };
 
@@ -95,6 +94,6 @@ impl UndoRule for BricolageRule {
 /// From 0, a byte `b` takes the state `h` to `h + shuffle(b * 173773926194192273)`, whose halves then change places; all is
 /// modulo 2^64, and `shuffle` moves the 64 bits by a table. `finish` answers `h`. Cuts don't show, and each write can be undone.
 ///
-/// Contracts see the hasher as its state, a number below 2^64: `write` gives `h.new ≡ bricolage h.old bytes.now`, and
+/// Contracts see the hasher as its state, a number below 2^64: `write` gives `h.new ≡ bricolage_from h.old bytes.now`, and
 /// `finish` answers `h.now`. Of `a` the hash is 17926483712435944715.
 pub type Bricolage = ByteHasher<BricolageRule>;

@@ -2,7 +2,7 @@
 ghost use Rattle.std.specs.Prelude.{◌≡◌, ◌≤◌, ◌%◌, length};
 
 use crate::tests::{all_hold, none_holds, same, same_at};
-use hashers::fx_hash::laws::{
+use hashers::laws::{
     apart_by_one_fx, fixed_widths_are_words32, fixed_widths_are_words64, run_words, run_words32,
     run_words64,
 };

@@ -2,12 +2,12 @@
 ghost use Rattle.std.specs.Prelude.{◌≡◌, fold};
 ghost use Rattle.std.specs.Hash as fed;
 ghost use Rattle.hash_jenkins.specs.Counted.{after_write};
-ghost use Rattle.hashers.specs.Lookup3.{lookup3};
-ghost use Rattle.hashers.specs.Oaat.{oaat};
+ghost use Rattle.hashers.specs.Lookup3.{lookup3_from};
+ghost use Rattle.hashers.specs.Oaat.{oaat_state};
 
 use crate::tests::plain::plain_lookup3;
 use crate::tests::{all_hold, same, same_at};
-use hashers::jenkins::laws::same_answers_later;
+use hashers::laws::same_answers_later;
 use hashers::jenkins::spooky_hash::SpookyHasher;
 use hashers::jenkins::{Lookup3Hasher, OAATHasher, lookup3, oaat};
 use hashers::laws::{ByteStep, Piecewise, Undo, answer_of_pieces, run_pair, run_pieces};
@@ -15,13 +15,13 @@ use std::hash::Hasher;
 
 // A number is written as its little-endian bytes, one write on each type.
 fn write_to_oaat(hasher: &mut OAATHasher, number: u16)
-    ensures { hasher.new ≡ fold oaat hasher.old (fed.u16 number) }
+    ensures { hasher.new ≡ fold oaat_state hasher.old (fed.u16 number) }
 {
     hasher.write_u16(number);
 }
 
 fn write_to_lookup3(hasher: &mut Lookup3Hasher, number: u64)
-    ensures { hasher.new ≡ fold lookup3 hasher.old (fed.u64 number) }
+    ensures { hasher.new ≡ fold lookup3_from hasher.old (fed.u64 number) }
 {
     hasher.write_u64(number);
 }

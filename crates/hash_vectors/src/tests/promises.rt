@@ -8,7 +8,7 @@ use hashers::fnv::{FNV1aHasher32, FNV1aHasher64, fnv1a32, fnv1a64};
 use hashers::fx_hash::{FxHasher, FxHasher32, FxHasher64, fxhash, fxhash32, fxhash64};
 use hashers::jenkins::spooky_hash::{spooky, spooky_v1};
 use hashers::jenkins::{Lookup3Hasher, OAATHasher, lookup3, oaat};
-use hashers::laws::{Piecewise, Write};
+use hashers::laws::{Piecewise, HasherWrite};
 use hashers::null::passthrough;
 use hashers::oz::{DJB2Hasher, LoseLoseHasher, SDBMHasher, djb2, loselose, sdbm};
 use hashers::pigeon::{Bricolage, bricolage};
@@ -19,13 +19,13 @@ use std::process::Abort;
 #[test]
 fn answers_of_writes(rt: HostRuntime) {
     let writes = [
-        Write::Bytes(b"ab"),
-        Write::Bytes(b""),
-        Write::U8(b'c'),
-        Write::U16(0x6564),
-        Write::U32(0x69686766),
-        Write::U64(0x71706f6e6d6c6b6a),
-        Write::Usize(0x7978777675747372),
+        HasherWrite::Bytes(b"ab"),
+        HasherWrite::Bytes(b""),
+        HasherWrite::U8(b'c'),
+        HasherWrite::U16(0x6564),
+        HasherWrite::U32(0x69686766),
+        HasherWrite::U64(0x71706f6e6d6c6b6a),
+        HasherWrite::Usize(0x7978777675747372),
     ];
     let text = b"abcdefghijklmnopqrstuvwxy";
     same(
@@ -62,9 +62,9 @@ fn answers_of_writes(rt: HostRuntime) {
 #[test]
 fn answers_that_see_the_cuts(rt: HostRuntime) {
     let writes = [
-        Write::U64(0x6867666564636261),
-        Write::Bytes(b""),
-        Write::Bytes(b"ij"),
+        HasherWrite::U64(0x6867666564636261),
+        HasherWrite::Bytes(b""),
+        HasherWrite::Bytes(b"ij"),
     ];
     let text = b"abcdefghij";
     let mut hasher = Lookup3Hasher::default();
@@ -116,7 +116,7 @@ fn as_they_were<H: Piecewise>(rt: &impl Abort, way: WayBack, a: &H, b: &H) {
 macro_rules! undone {
     ($rt:ident, $hasher:ident, $undone:ident) => {
         let (mut a, mut b): ($hasher, $hasher) = fresh_and_fed();
-        let way = $undone(&mut a, &mut b, &[Write::U8(b'a'), Write::Bytes(b"bc")]);
+        let way = $undone(&mut a, &mut b, &[HasherWrite::U8(b'a'), HasherWrite::Bytes(b"bc")]);
         as_they_were(&$rt, way, &a, &b);
     };
 }

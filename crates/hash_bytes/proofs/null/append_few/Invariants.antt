@@ -1,6 +1,6 @@
 use Rattle.std.proofs.Common.{◌≡◌, take}
-use Rattle.hash_rounds.specs.Sums.{passthrough}
+use Rattle.hash_rounds.specs.Sums.{passthrough_from}
 use Rattle.hash_bytes.proofs.null.append_few.Given as goal
 
 abbrev pub invariant-loop-byte : goal.invariant-loop-byte
-invariant-loop-byte l = l.state ≡ passthrough l.initial.state (take l.byte-index l.bytes)
+invariant-loop-byte l = l.state ≡ passthrough_from l.initial.state (take l.byte-index l.bytes)

@@ -45,7 +45,7 @@ loop-block-smaller c = omega arith
 pub loop-block-preserved : goal.loop-block-preserved
 loop-block-preserved c =
     let led = c.add_words.ensures ∙ ap₂ add_words c.loop-block.invariant c.block_words.ensures in
-    c.lookup3_mix.ensures.round ∙ ap (apply 32 rounds.lookup3_mix []) led
+    c.lookup3_mix.ensures.round ∙ ap (apply 32 rounds.lookup3_mix_steps []) led
     ∙ sym (fold_more mix_block _ c.as_chunks.result.0.now c.loop-block.block-index [] c.loop-block-test.true)
 
 pub lookup3_final-requires : goal.lookup3_final-requires

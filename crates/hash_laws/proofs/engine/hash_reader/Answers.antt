@@ -2,6 +2,7 @@ use Rattle.std.proofs.Common.{◌≡◌, ◌≤◌, arith, rules, min, refl, ap,
 use Rattle.std.proofs.Math.Nat.{zero-mod}
 use Rattle.std.proofs.lemmas.Bool.{false≢true}
 use Rattle.hash_laws.proofs.ReadingLemmas.{feeds_none, feeds_front, whole_more}
+use Rattle.hash_laws.proofs.KnownText.{FeedsFirst-fed, FeedsAll-fed}
 use Rattle.hash_laws.proofs.engine.hash_reader.Goals as goal
 
 pub loop-bytes-init : goal.loop-bytes-init
@@ -45,3 +46,19 @@ returns-clause-at_limit g c = (λ _. omega (arith, c.loop-bytes.invariant.within
 
 pub returns-clause-nothing_left : goal.returns-clause-nothing_left
 returns-clause-nothing_left g c = λ no. absurd (false≢true no)
+
+-- where the bytes are known
+pub returns-in-Err-clause-first_fault : goal.returns-in-Err-clause-first_fault
+returns-in-Err-clause-first_fault g c = FeedsFirst-fed _ _ _ _ _ _ _ (returns-in-Err-clause-fault g c)
+
+pub returns-then-filled-room-clause-first_taken : goal.returns-then-filled-room-clause-first_taken
+returns-then-filled-room-clause-first_taken g c = FeedsFirst-fed _ _ _ _ _ _ _ (returns-then-filled-room-clause-taken g c)
+
+pub returns-then-filled-room-clause-all : goal.returns-then-filled-room-clause-all
+returns-then-filled-room-clause-all g c = λ ended. FeedsAll-fed _ _ _ _ _ _ _ (returns-then-filled-room-clause-taken g c) (search rules)
+
+pub returns-clause-first_taken : goal.returns-clause-first_taken
+returns-clause-first_taken g c = FeedsFirst-fed _ _ _ _ _ _ _ c.loop-bytes.invariant.so_far
+
+pub returns-clause-all : goal.returns-clause-all
+returns-clause-all g c = λ no. absurd (false≢true no)

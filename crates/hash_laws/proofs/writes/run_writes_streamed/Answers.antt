@@ -1,7 +1,7 @@
 use Rattle.std.proofs.Common.{ℕ, ◌<◌, [], sym, List, Bor}
 use Rattle.std.proofs.lemmas.List.Elements.{All-append}
 use Rattle.hash_laws.specs.Writes.{written}
-use Rattle.hash_laws.specs.declared.writes.Write.TheVariants.{Bytes}
+use Rattle.hash_laws.specs.declared.writes.HasherWrite.TheVariants.{Bytes}
 use Rattle.hash_laws.proofs.TextLemmas.{joined_more}
 use Rattle.hash_laws.proofs.writes.run_writes_streamed.Goals as goal
 

@@ -1,6 +1,6 @@
 use Rattle.std.proofs.Common.{ℕ, arith, ◌≡◌, sym, ◌∙◌, subst}
 use Rattle.std.proofs.lemmas.Bool.{false≢true}
-use Rattle.hashers.specs.Fnv.{fnv1a64, fnv1a64_basis}
+use Rattle.hashers.specs.Fnv.{fnv1a64_from, fnv1a64_basis}
 use Rattle.hashers.specs.Reading.{FeedsRead}
 use Rattle.hash_vectors.proofs.uses.fingerprint.Goals.{then-taken, else-taken}
 use Rattle.hash_vectors.proofs.uses.fingerprint.Goals as goal
@@ -10,7 +10,7 @@ returns-clause-hash g c =
     let left = g.R.Read.remaining in
     let read = c.in_ok-taken.ensures in
     let bytes = c.in_ok-taken.taken.bytes in
-    let reads = λ (from hash : ℕ). FeedsRead fnv1a64 4096 (left c.args.r.now) (left c.hash_reader.new.r) from hash bytes in
+    let reads = λ (from hash : ℕ). FeedsRead fnv1a64_from 4096 (left c.args.r.now) (left c.hash_reader.new.r) from hash bytes in
     elim c.if-taken.branch [
       | then-taken w ↦
           let not_full : (bytes ≡ c.args.limit) → ⊥ = λ full. false≢true (sym (read.at_limit.1 full) ∙ w.if-taken.true) in
@@ -29,7 +29,7 @@ pub returns-clause-limit_met : goal.returns-clause-limit_met
 returns-clause-limit_met g c =
     let left = g.R.Read.remaining in
     let read = c.in_ok-taken.ensures in
-    let reads = λ (from bytes : ℕ). FeedsRead fnv1a64 4096 (left c.args.r.now) (left c.hash_reader.new.r) from c.hash_reader.new.h bytes in
+    let reads = λ (from bytes : ℕ). FeedsRead fnv1a64_from 4096 (left c.args.r.now) (left c.hash_reader.new.r) from c.hash_reader.new.h bytes in
     elim c.if-taken.branch [
       | then-taken w ↦ rw w.result-is tt
       | else-taken w ↦

@@ -1,7 +1,7 @@
 use Rattle.std.proofs.Common.{sym, ◌∙◌, ap, eq-eqb}
 use Rattle.std.proofs.lemmas.Bool.{eqb-true}
 use Rattle.hash_laws.proofs.TextLemmas.{IsText-from_slice}
-use Rattle.hash_bytes.specs.Oz.{djb2}
+use Rattle.hash_bytes.specs.Oz.{djb2_from}
 use Rattle.hashers.proofs.ShortWords.{djb2_same_word}
 use Rattle.hashers.proofs.windows.same_word.Goals as goal
 
@@ -11,5 +11,5 @@ returns c =
     let y = c.djb2-2.ensures in (
       (λ t. djb2_same_word c.args.x.now c.args.y.now (IsText-from_slice _ c.type_inv.x) (IsText-from_slice _ c.type_inv.y)
           c.requires.same_length c.requires.first c.requires.second (sym x ∙ eqb-true c.djb2.result c.djb2-2.result t ∙ y)),
-      (λ e. eq-eqb c.djb2.result c.djb2-2.result (x ∙ ap (djb2 5381) e ∙ sym y)),
+      (λ e. eq-eqb c.djb2.result c.djb2-2.result (x ∙ ap (djb2_from 5381) e ∙ sym y)),
     )

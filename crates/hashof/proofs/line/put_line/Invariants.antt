@@ -1,6 +1,6 @@
 use Rattle.std.proofs.Common.{◌≡◌, ◌≤◌, length, drop, ◌++◌}
 use Rattle.std.specs.Fmt.{decimal}
-use Rattle.hashof.specs.Named.{line_of}
+use Rattle.hashof.specs.Line.{line_of}
 use Rattle.hashof.proofs.line.put_line.Given as goal
 
 -- the digits that are left, and those that stand there

@@ -1,6 +1,6 @@
 use Rattle.std.proofs.Common.{ℕ, List, ◌≡◌, ◌++◌, length}
 use Rattle.std.specs.Io.KnownBytes.{Appends}
-use Rattle.hashof.specs.Named.{line_of}
+use Rattle.hashof.specs.Line.{line_of}
 use Rattle.hashof.proofs.line.write_line.Given as goal
 
 -- what is left of the line, behind what was written

@@ -1,6 +1,6 @@
 use Rattle.std.proofs.Common.{lit<}
-use Rattle.hash_laws.proofs.ReadingLemmas.{answer-cut}
-use Rattle.hashof.proofs.Readings.{Hashes-agree}
+use Rattle.hashers.proofs.ReadingLemmas.{answer-cut}
+use Rattle.hashof.specs.ReadingLaws.{Hashes-agree}
 use Rattle.hashof.proofs.named.hash_of_text.Goals as goal
 
 -- the pieces of a text, fed in order, are the text

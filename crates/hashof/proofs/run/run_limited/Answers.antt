@@ -1,5 +1,5 @@
 use Rattle.std.proofs.Common.{◌≡◌, Err, rules}
-use Rattle.hashof.specs.Named.{named}
+use Rattle.hash_names.specs.Named.{named}
 use Rattle.hashof.specs.Running.{run_of}
 use Rattle.hashof.proofs.Endings.{ended_unread, ended_told, ended_unwritten}
 use Rattle.hashof.proofs.run.run_limited.Goals as goal

@@ -1,5 +1,5 @@
 use Rattle.std.proofs.Common.{◌≡◌, ◌+◌, ◌*◌, ◌<◌, ◌/◌, ◌∙◌, [], ◌++◌, ap, arith, length, get_or, take, take-append-drop}
-use Rattle.hash_rounds.specs.Sums.{loselose}
+use Rattle.hash_rounds.specs.Sums.{loselose_from}
 use Rattle.hash_rounds.proofs.SumLemmas.{loselose-add, loselose-append}
 use Rattle.hash_rounds.proofs.Chunks.{take_chunk}
 use Rattle.hash_bytes.proofs.oz.LoseLoseRuleByteRule.write.Goals as goal
@@ -13,7 +13,7 @@ loop-eight-preserved c =
     let here : i < length bytes / 8 = omega arith in
     let more : take (i * 8) bytes ++ eight ≡ take ((i + 1) * 8) bytes = rw c.as_chunks.ensures.front (take_chunk 8 (length bytes / 8) i bytes [] here) in (
       rw (c.sum_of_eight-sum.ensures.value, c.loop-eight.invariant.0)
-          (loselose-add _ eight ∙ loselose-append s (take (i * 8) bytes) eight ∙ ap (loselose s) more),
+          (loselose-add _ eight ∙ loselose-append s (take (i * 8) bytes) eight ∙ ap (loselose_from s) more),
       omega arith,
     )
 
@@ -25,7 +25,7 @@ returns-clause-state c =
     let eights : c.loop-eight.eight-index ≡ length bytes / 8 = omega arith in
     c.loselose_bytes_in-state-inside-2.ensures
     ∙ rw (c.loop-eight.invariant.0, loselose-append s (take (c.loop-eight.eight-index * 8) bytes) rest, c.as_chunks.ensures.back, eights, take-append-drop (length bytes / 8 * 8) bytes)
-    (ap (λ v. loselose v.state bytes) c.state.view_is)
+    (ap (λ v. loselose_from v.state bytes) c.state.view_is)
 
 pub returns-clause-turns : goal.returns-clause-turns
 returns-clause-turns c =
@@ -36,7 +36,7 @@ pub returns-clause-value : goal.returns-clause-value
 returns-clause-value c = λ i. record { state = returns-clause-state c i; turns = returns-clause-turns c i }
 
 pub returns-then-bytes-lt8-clause-state : goal.returns-then-bytes-lt8-clause-state
-returns-then-bytes-lt8-clause-state c = c.loselose_bytes_in-state-inside.ensures ∙ ap (λ before. loselose before.state c.args.bytes.now) c.state.view_is
+returns-then-bytes-lt8-clause-state c = c.loselose_bytes_in-state-inside.ensures ∙ ap (λ before. loselose_from before.state c.args.bytes.now) c.state.view_is
 
 pub returns-then-bytes-lt8-clause-turns : goal.returns-then-bytes-lt8-clause-turns
 returns-then-bytes-lt8-clause-turns c =

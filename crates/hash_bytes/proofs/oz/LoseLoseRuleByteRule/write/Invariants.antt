@@ -1,8 +1,8 @@
 use Rattle.std.proofs.Common.{◌≡◌, ◌+◌, ◌*◌, take}
-use Rattle.hash_rounds.specs.Sums.{loselose}
+use Rattle.hash_rounds.specs.Sums.{loselose_from}
 use Rattle.hash_bytes.proofs.oz.LoseLoseRuleByteRule.write.Given as goal
 
 abbrev pub invariant-loop-eight : goal.invariant-loop-eight
 invariant-loop-eight l =
-    (l.sum ≡ loselose l.initial.sum (take (l.eight-index * 8) l.bytes))
+    (l.sum ≡ loselose_from l.initial.sum (take (l.eight-index * 8) l.bytes))
     × (l.state-inside.turns ≡ l.initial.state-inside.turns + l.eight-index)

@@ -1,7 +1,7 @@
 use Rattle.std.proofs.Common.{◌≡◌, ◌+◌, ◌*◌, ◌<◌, ◌/◌, ◌∙◌, [], ap, sym, arith, length, get_or, take, take-append-drop, take_all, lit<, ◌%◌, ◌^◌}
 use Rattle.std.proofs.Math.Nat.{mod-lt}
 use Rattle.std.proofs.lemmas.List.{take_more}
-use Rattle.hash_rounds.specs.Sums.{sdbm}
+use Rattle.hash_rounds.specs.Sums.{sdbm_from}
 use Rattle.hash_rounds.proofs.SumLemmas.{sdbm-nil, sdbm-append, sdbm_of_one, sdbm_push}
 use Rattle.hash_rounds.proofs.Chunks.{take_chunk}
 use Rattle.hash_bytes.proofs.oz.SdbmRuleByteRule.write.Goals as goal
@@ -15,8 +15,8 @@ loop-four-preserved c =
     let four = get_or c.as_chunks.result.0.now c.loop-four.four-index [] in
     let here : c.loop-four.four-index < length c.args.bytes.now / 4 = omega arith in (
       c.sdbm4-state-inside.type_inv,
-      c.sdbm4-state-inside.ensures.value ∙ ap (λ s. sdbm s four) inv.1 ∙ sdbm-append _ _ four
-          ∙ ap (λ t. sdbm c.state.inside.state t) (rw c.as_chunks.ensures.front (take_chunk 4 (length c.args.bytes.now / 4) _ c.args.bytes.now [] here)),
+      c.sdbm4-state-inside.ensures.value ∙ ap (λ s. sdbm_from s four) inv.1 ∙ sdbm-append _ _ four
+          ∙ ap (λ t. sdbm_from c.state.inside.state t) (rw c.as_chunks.ensures.front (take_chunk 4 (length c.args.bytes.now / 4) _ c.args.bytes.now [] here)),
       omega arith,
     )
 
@@ -32,7 +32,7 @@ loop-byte-preserved c =
     let before = c.loop-byte.state-inside.state in
     let byte = get_or rest j 0 in
     let step : (65599 * before + byte) % 2 ^ 32 ≡ (before * 65599 % 2 ^ 32 + byte) % 2 ^ 32 = omega arith in
-    let value : (before * 65599 % 2 ^ 32 + byte) % 2 ^ 32 ≡ sdbm s (take (j + 1) rest) =
+    let value : (before * 65599 % 2 ^ 32 + byte) % 2 ^ 32 ≡ sdbm_from s (take (j + 1) rest) =
     rw (inv.1, take_more rest j 0 c.loop-byte-test.true) (sdbm_push s (take j rest) byte) in
     (rw c.sdbm_step-state-inside-in-loop-byte.ensures (mod-lt _ (lit< tt)), c.sdbm_step-state-inside-in-loop-byte.ensures ∙ step ∙ value, inv.2)
 
@@ -44,7 +44,7 @@ returns-clause-state c =
     let fours : c.loop-four.four-index ≡ length bytes / 4 = omega arith in
     c.loop-byte.invariant.1
     ∙ rw (take_all c.loop-byte.byte-index rest c.loop-byte-test.false, c.loop-four.invariant.1, sdbm-append s (take (c.loop-four.four-index * 4) bytes) rest, c.as_chunks.ensures.back, fours, take-append-drop (length bytes / 4 * 4) bytes)
-    (ap (λ v. sdbm v.state bytes) c.state.view_is)
+    (ap (λ v. sdbm_from v.state bytes) c.state.view_is)
 
 pub returns-clause-turns : goal.returns-clause-turns
 returns-clause-turns c =
@@ -57,7 +57,7 @@ returns-clause-value c = λ i. record { state = returns-clause-state c i; turns 
 pub returns-in-len1-clause-state : goal.returns-in-len1-clause-state
 returns-in-len1-clause-state c =
     c.sdbm_step-state-inside.ensures ∙ sym (sdbm_of_one c.state.inside.state c.args.bytes.now c.in-len1.len_at_least c.in-len1.len_below)
-    ∙ ap (λ v. sdbm v.state c.args.bytes.now) c.state.view_is
+    ∙ ap (λ v. sdbm_from v.state c.args.bytes.now) c.state.view_is
 
 pub returns-in-len1-clause-turns : goal.returns-in-len1-clause-turns
 returns-in-len1-clause-turns c =

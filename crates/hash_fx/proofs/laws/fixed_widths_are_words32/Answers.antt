@@ -1,9 +1,0 @@
-use Rattle.std.specs.Hash.{le_bytes}
-use Rattle.hash_rounds.specs.Blocks.{pieces}
-use Rattle.hash_fx.specs.Fx.{fx32_step}
-use Rattle.hash_fx.proofs.FixedWidths.{of_byte, of_two, of_four, fx32_of_eight}
-use Rattle.hash_fx.proofs.laws.fixed_widths_are_words32.Goals as goal
-
-pub returns : goal.returns
-unfolding pieces le_bytes
-returns c = record { byte = λ h v below. of_byte fx32_step h v; two_bytes = of_two fx32_step; four_bytes = of_four fx32_step; eight_bytes = fx32_of_eight }

@@ -1,8 +1,0 @@
-use Rattle.std.proofs.Common.{◌≡◌, fold, map, take}
-use Rattle.hash_rounds.specs.Words.{le}
-use Rattle.hash_fx.proofs.words.chunks_in.Given as goal
-
-abbrev pub invariant-loop-chunk : goal.invariant-loop-chunk
-invariant-loop-chunk g l =
-    let word = g.W.FxWord in
-    word.number l.h ≡ fold word.step (word.number l.initial.h) (map le (take l.chunk-index l.chunks))

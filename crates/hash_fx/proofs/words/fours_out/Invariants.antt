@@ -1,0 +1,12 @@
+use Rattle.std.proofs.Common.{◌^◌, fold, map}
+use Rattle.std.specs.Iterator.Adapters.{rev_source}
+use Rattle.std.specs.Slice.Iter.{iter_rest}
+use Rattle.hash_rounds.specs.Words.{le}
+use Rattle.hash_laws.proofs.ByteLemmas.{Undoing}
+use Rattle.hash_fx.proofs.words.fours_out.Given as goal
+
+abbrev pub invariant-loop-four : goal.invariant-loop-four
+invariant-loop-four g l =
+    let word = g.W.FxWord in
+    Undoing (fold word.step) (2 ^ word.bits) (word.number l.initial.h) (word.number l.h)
+    (map le (iter_rest (rev_source l.four-iterator))) (map le l.fn.fours)

@@ -1,0 +1,81 @@
+//! Laws of lookup3 and of SpookyHash alone.
+ghost use Rattle.std.specs.Prelude.{◌≡◌, ◌≢◌, ◌↔◌, ◌<◌, ◌≤◌, ◌+◌, ◌*◌, ◌/◌, ◌^◌, ℕ, List, IsTrue, fold, length};
+ghost use Rattle.std.specs.Bool.{OnTrue};
+ghost use Rattle.hash_laws.specs.Text.{IsText, texts};
+ghost use Rattle.hash_jenkins.specs.Filled.{zero_filled};
+ghost use Rattle.hash_jenkins.specs.Lookup3.{lookup3_from, lookup3_answer, lookup3_words};
+ghost use Rattle.hash_jenkins.specs.Mixing.{DifferFrom, DifferInOne, twelve_words};
+ghost use Rattle.hash_jenkins.specs.Spooky.{short_words, short_words_v1};
+ghost use Rattle.hash_jenkins.specs.Zeros.{AddsZeros, HaveOtherWords};
+
+use crate::lookup::Lookup3Hasher;
+use crate::spooky_short::{LONG, zero_filled};
+use hash_laws::traits::Piecewise;
+
+// Whether `y` is `x` and zeros behind it.
+fn is_filled(x: &[u8], y: &[u8]) -> bool
+    requires longer { length x.now ≤ length y.now }
+    requires within { length y.now ≤ 192 }
+    ensures { IsTrue result ↔ (y.now ≡ zero_filled (length y.now) x.now) }
+{
+    let filled: [u8; LONG] = zero_filled(x);
+    y == &filled[..y.len()]
+}
+
+/// Whether `y` is `x` followed by at least one zero byte, and has fewer than 192 bytes. Where so, the four `short_words`
+/// of the two texts differ under all seeds; of the two words of the hash alone nothing is said. Computes no hash.
+pub fn apart_by_zeros(x: &[u8], y: &[u8]) -> bool
+    ensures exactly { IsTrue result ↔ AddsZeros x.now y.now }
+    ensures differ { OnTrue result (HaveOtherWords x.now y.now) }
+{
+    if y.len() <= x.len() || y.len() >= LONG {
+        return false;
+    }
+    is_filled(x, y)
+}
+
+/// Feeds the pieces to both hashers, in order. Where their answers were equal before, they are equal afterwards: what
+/// `finish` answers is the whole state.
+pub fn same_answers_later(a: &mut Lookup3Hasher, b: &mut Lookup3Hasher, pieces: &[&[u8]])
+    ensures first { a.new ≡ fold lookup3_from a.old (texts pieces.now) }
+    ensures second { b.new ≡ fold lookup3_from b.old (texts pieces.now) }
+    ensures alike { lookup3_answer a.old ≡ lookup3_answer b.old
+        → lookup3_answer a.new ≡ lookup3_answer b.new }
+{
+    for piece in pieces {
+        a.feed(piece);
+        b.feed(piece);
+    }
+}
+
+/// A changed block shows in lookup3, a law with no code: two pieces of one length that differ, but only within one block of
+/// twelve bytes, lead from any two words to different words a, b and c. Of the answer, which is b and c alone, nothing is said.
+pub fn one_changed_block_shows()
+    ensures { (pc pb : ℕ) (x y : List ℕ) → IsText x → IsText y → DifferInOne (λ i. i / 12) x y
+        → lookup3_words pc pb x ≢ lookup3_words pc pb y }
+{}
+
+/// A changed stretch shows in SpookyHash below 192 bytes, a law with no code: two texts of one length that differ, but only in
+/// what is added between two mixes, have different words under all seeds. That is the first 16 bytes, and 32 bytes each from
+/// byte 16, 48, 80 and so on. Of the hash, which is two of the four words, nothing is said.
+pub fn one_changed_stretch_shows()
+    ensures words { (seed1 seed2 : ℕ) (x y : List ℕ) → seed1 < 2 ^ 64 → seed2 < 2 ^ 64 → IsText x → IsText y
+        → length x < 192 → DifferInOne (λ i. (i + 16) / 32) x y
+        → short_words seed1 seed2 x ≢ short_words seed1 seed2 y }
+    ensures words_v1 { (seed1 seed2 : ℕ) (x y : List ℕ) → seed1 < 2 ^ 64 → seed2 < 2 ^ 64 → IsText x → IsText y
+        → length x < 192 → DifferInOne (λ i. (i + 16) / 32) x y
+        → short_words_v1 seed1 seed2 x ≢ short_words_v1 seed1 seed2 y }
+{}
+
+/// A change within eleven neighbouring words shows in SpookyHash from 192 bytes on, a law with no code: two texts of one length
+/// that differ, but only within 88 bytes of their whole blocks, from a place that 8 divides, or only within what is left
+/// behind the whole blocks, have different words under all seeds. Of the hash, which is two of the twelve words, nothing
+/// is said.
+pub fn neighbouring_words_show()
+    ensures words { (seed1 seed2 : ℕ) (x y : List ℕ) (w : ℕ) → seed1 < 2 ^ 64 → seed2 < 2 ^ 64 → IsText x → IsText y
+        → DifferFrom (8 * w) 88 x y → 8 * w + 88 ≤ length x / 96 * 96
+        → twelve_words seed1 seed2 x ≢ twelve_words seed1 seed2 y }
+    ensures tail { (seed1 seed2 : ℕ) (x y : List ℕ) → seed1 < 2 ^ 64 → seed2 < 2 ^ 64 → IsText x → IsText y
+        → DifferFrom (length x / 96 * 96) 96 x y
+        → twelve_words seed1 seed2 x ≢ twelve_words seed1 seed2 y }
+{}

@@ -1,0 +1,18 @@
+use Rattle.hash_laws.proofs.PairLemmas.{alike_after}
+use Rattle.hash_laws.proofs.TextLemmas.{rest_more}
+use Rattle.hash_laws.proofs.traits.run_pair.Goals as goal
+
+-- a piece fed to both keeps their answers alike or different
+pub loop-piece-preserved : goal.loop-piece-preserved
+loop-piece-preserved g c =
+    let H = g.H.Piecewise in
+    let laws = g.met.H.Undo in
+    let fed = c.feed.ensures in
+    let also = c.feed-in-loop-piece.ensures in
+    let before = c.loop-piece.invariant in
+    let kept = alike_after H.in_range H.after H.answer laws.after_injective laws.answer_injective _ _ _ _ _ fed.in_range_before also.in_range_before fed.in_range_after also.in_range_after fed.text fed.state also.state in
+    record {
+      first = rest_more (λ piece. piece.now) H.after _ _ _ _ _ _ c.loop-piece-test.true fed.state before.first;
+      second = rest_more (λ piece. piece.now) H.after _ _ _ _ _ _ c.loop-piece-test.true also.state before.second;
+      alike = (λ same. before.alike.0 (kept.0 same), λ same. kept.1 (before.alike.1 same));
+    }
