@@ -1,6 +1,32 @@
-//! Links the static library of the folder that HASH_SPEED names, and puts HASH_SPEED_BEHIND bytes before all code.
+//! Links the static library of the folder that HASH_SPEED names, puts HASH_SPEED_BEHIND bytes before all code, and lists the
+//! original's names.
+
+use std::path::Path;
+
+/// Where the original's names and types stand.
+const ORACLE: &str = "../compare/oracle/src/main.rs";
+
+/// A macro that hands another one each name with the original's hasher, and from how many bytes on our answers are the
+/// original's: its SpookyHash is our version 1, and ours from 192 bytes on.
+fn names(oracle: &str) -> String {
+    let mut rows = String::new();
+    for line in oracle.lines() {
+        let Some((name, hasher)) = line.split_once(" => answer::<") else { continue };
+        let name = name.trim().trim_matches('"');
+        let hasher = hasher.split('>').next().unwrap().rsplit("::").next().unwrap();
+        if name == "spooky_v1" {
+            rows += &format!("spooky {hasher} 192\n");
+        }
+        rows += &format!("{name} {hasher} 0\n");
+    }
+    format!("macro_rules! with_names {{ ($then:ident) => {{ $then! {{ {rows} }} }} }}\n")
+}
 
 fn main() {
+    println!("cargo:rerun-if-changed={ORACLE}");
+    let oracle = std::fs::read_to_string(ORACLE).expect("the oracle's source");
+    let out = std::env::var("OUT_DIR").expect("OUT_DIR");
+    std::fs::write(Path::new(&out).join("names.rs"), names(&oracle)).expect("a file of names");
     println!("cargo:rerun-if-env-changed=HASH_SPEED");
     println!("cargo:rerun-if-env-changed=HASH_SPEED_BEHIND");
     let behind = std::env::var("HASH_SPEED_BEHIND").unwrap_or("0".into());

@@ -9,8 +9,8 @@
 //! are chance. So this program is linked at four placements and run several times: `measure FILE` writes its medians to the
 //! file, and `tables FILE` measures as well and prints for each side the least median of all.
 
-#[macro_use]
-mod names;
+include!(concat!(env!("OUT_DIR"), "/names.rs"));
+
 mod heap;
 mod maps;
 mod measure;

@@ -11,4 +11,4 @@ pub mod spooky_parts;
 mod spooky_short;
 
 pub use lookup::{Lookup3Hasher, lookup3};
-pub use one_at_a_time::{OAATHasher, oaat};
+pub use one_at_a_time::{OAATHasher, oaat, origin_of_constants};

@@ -5,8 +5,8 @@ use hashers::laws::{
     ByteStep, Piecewise, Streamed, Undo, answer_of_pieces, bucket_of, run_pair, run_pieces,
     run_streamed, same_word,
 };
-use hashers::null::{NullHasher, PassThroughHasher};
-use hashers::oz::{DJB2Hasher, LoseLoseHasher, SDBMHasher, djb2, loselose};
+use hashers::null::{NullHasher, PassThroughHasher, passthrough, passthrough_combine};
+use hashers::oz::{DJB2Hasher, LoseLoseHasher, SDBMHasher, djb2, loselose, loselose_combine, sdbm, sdbm_combine};
 use hashers::pigeon::Bricolage;
 use std::hash::Hasher;
 use std::process::Abort;
@@ -155,5 +155,33 @@ fn laws_are_calls() {
     hashers::fnv::origin_of_constants();
     hashers::oz::origin_of_constants();
     hashers::oz::sdbm_of_joined_texts();
+    hashers::oz::loselose_of_joined_texts();
     hashers::oz::loselose_ignores_order();
+    hashers::null::passthrough_of_joined_texts();
+}
+
+/// Hashes of joined texts, from those of the parts and the second one's length.
+#[test]
+fn combined(rt: HostRuntime) {
+    same(
+        &rt,
+        &[
+            sdbm_combine(sdbm(b"a"), sdbm(b"bcd"), 3),
+            sdbm_combine(sdbm(b"a"), 0, 8589934597),
+            sdbm_combine(sdbm(b"a") + 4294967296, 0, 0),
+            loselose_combine(loselose(b"ab"), loselose(b"c"), 1),
+            passthrough_combine(passthrough(b"ab"), passthrough(b"c"), 1),
+            passthrough_combine(passthrough(b"abcdefgh"), passthrough(b"i"), 1),
+            passthrough_combine(passthrough(b"ab"), passthrough(b"01234567"), 8),
+        ],
+        &[
+            sdbm(b"abcd"),
+            1724963039,
+            97,
+            loselose(b"abc"),
+            passthrough(b"abc"),
+            passthrough(b"bcdefghi"),
+            passthrough(b"01234567"),
+        ],
+    );
 }
