@@ -113,6 +113,70 @@ uint64_t hashers_sdbm_combine(uint64_t hash1, uint64_t hash2, uint64_t n2);
 uint64_t hashers_loselose_combine(uint64_t hash1, uint64_t hash2, uint64_t n2);
 uint64_t hashers_passthrough_combine(uint64_t hash1, uint64_t hash2, uint64_t n2);
 
+/* ---- many texts in one call. Text i of a column lies in data from offsets[i] to offsets[i + 1], as Arrow's columns of strings lie,
+ * and its hash goes to hashes[i]. There are count hashes and count + 1 offsets. Where there are more or fewer offsets, or they fall or
+ * pass n, the answer is false and nothing is written. */
+bool hashers_fnv1a32_column32(const void *data, size_t n, const uint32_t *offsets, size_t offsets_count,
+    uint64_t *hashes, size_t count);
+bool hashers_fnv1a32_column64(const void *data, size_t n, const uint64_t *offsets, size_t offsets_count,
+    uint64_t *hashes, size_t count);
+bool hashers_fnv1a64_column32(const void *data, size_t n, const uint32_t *offsets, size_t offsets_count,
+    uint64_t *hashes, size_t count);
+bool hashers_fnv1a64_column64(const void *data, size_t n, const uint64_t *offsets, size_t offsets_count,
+    uint64_t *hashes, size_t count);
+bool hashers_djb2_column32(const void *data, size_t n, const uint32_t *offsets, size_t offsets_count,
+    uint64_t *hashes, size_t count);
+bool hashers_djb2_column64(const void *data, size_t n, const uint64_t *offsets, size_t offsets_count,
+    uint64_t *hashes, size_t count);
+bool hashers_sdbm_column32(const void *data, size_t n, const uint32_t *offsets, size_t offsets_count,
+    uint64_t *hashes, size_t count);
+bool hashers_sdbm_column64(const void *data, size_t n, const uint64_t *offsets, size_t offsets_count,
+    uint64_t *hashes, size_t count);
+bool hashers_loselose_column32(const void *data, size_t n, const uint32_t *offsets, size_t offsets_count,
+    uint64_t *hashes, size_t count);
+bool hashers_loselose_column64(const void *data, size_t n, const uint64_t *offsets, size_t offsets_count,
+    uint64_t *hashes, size_t count);
+bool hashers_bricolage_column32(const void *data, size_t n, const uint32_t *offsets, size_t offsets_count,
+    uint64_t *hashes, size_t count);
+bool hashers_bricolage_column64(const void *data, size_t n, const uint64_t *offsets, size_t offsets_count,
+    uint64_t *hashes, size_t count);
+bool hashers_oaat_column32(const void *data, size_t n, const uint32_t *offsets, size_t offsets_count,
+    uint64_t *hashes, size_t count);
+bool hashers_oaat_column64(const void *data, size_t n, const uint64_t *offsets, size_t offsets_count,
+    uint64_t *hashes, size_t count);
+bool hashers_lookup3_column32(const void *data, size_t n, const uint32_t *offsets, size_t offsets_count,
+    uint64_t *hashes, size_t count);
+bool hashers_lookup3_column64(const void *data, size_t n, const uint64_t *offsets, size_t offsets_count,
+    uint64_t *hashes, size_t count);
+bool hashers_spooky_column32(const void *data, size_t n, const uint32_t *offsets, size_t offsets_count,
+    uint64_t *hashes, size_t count);
+bool hashers_spooky_column64(const void *data, size_t n, const uint64_t *offsets, size_t offsets_count,
+    uint64_t *hashes, size_t count);
+bool hashers_spooky_v1_column32(const void *data, size_t n, const uint32_t *offsets, size_t offsets_count,
+    uint64_t *hashes, size_t count);
+bool hashers_spooky_v1_column64(const void *data, size_t n, const uint64_t *offsets, size_t offsets_count,
+    uint64_t *hashes, size_t count);
+bool hashers_null_column32(const void *data, size_t n, const uint32_t *offsets, size_t offsets_count,
+    uint64_t *hashes, size_t count);
+bool hashers_null_column64(const void *data, size_t n, const uint64_t *offsets, size_t offsets_count,
+    uint64_t *hashes, size_t count);
+bool hashers_passthrough_column32(const void *data, size_t n, const uint32_t *offsets, size_t offsets_count,
+    uint64_t *hashes, size_t count);
+bool hashers_passthrough_column64(const void *data, size_t n, const uint64_t *offsets, size_t offsets_count,
+    uint64_t *hashes, size_t count);
+bool hashers_fxhash_column32(const void *data, size_t n, const uint32_t *offsets, size_t offsets_count,
+    uint64_t *hashes, size_t count);
+bool hashers_fxhash_column64(const void *data, size_t n, const uint64_t *offsets, size_t offsets_count,
+    uint64_t *hashes, size_t count);
+bool hashers_fxhash32_column32(const void *data, size_t n, const uint32_t *offsets, size_t offsets_count,
+    uint64_t *hashes, size_t count);
+bool hashers_fxhash32_column64(const void *data, size_t n, const uint64_t *offsets, size_t offsets_count,
+    uint64_t *hashes, size_t count);
+bool hashers_fxhash64_column32(const void *data, size_t n, const uint32_t *offsets, size_t offsets_count,
+    uint64_t *hashes, size_t count);
+bool hashers_fxhash64_column64(const void *data, size_t n, const uint64_t *offsets, size_t offsets_count,
+    uint64_t *hashes, size_t count);
+
 #ifdef __cplusplus
 }
 #endif

@@ -109,6 +109,43 @@ static void check_spooky(void) {
     }
 }
 
+typedef bool of_column32(const void *, size_t, const uint32_t *, size_t, uint64_t *, size_t);
+typedef bool of_column64(const void *, size_t, const uint64_t *, size_t, uint64_t *, size_t);
+
+static const struct column {
+    whole *of;
+    of_column32 *by32;
+    of_column64 *by64;
+} columns[] = {
+#define COLUMN(name) {hashers_##name, hashers_##name##_column32, hashers_##name##_column64}
+    COLUMN(fnv1a32), COLUMN(fnv1a64), COLUMN(djb2), COLUMN(sdbm), COLUMN(loselose), COLUMN(bricolage), COLUMN(oaat), COLUMN(lookup3),
+    COLUMN(spooky), COLUMN(spooky_v1), COLUMN(null), COLUMN(passthrough), COLUMN(fxhash), COLUMN(fxhash32), COLUMN(fxhash64),
+};
+
+enum { TEXTS = 40 };
+
+// A column against a call for each text; and offsets that fall, pass the end, or are too many or too few, which write nothing.
+static void check_column(const struct column *c) {
+    uint32_t offsets32[TEXTS + 1];
+    uint64_t offsets64[TEXTS + 1], hashes[TEXTS], none[TEXTS] = {0};
+    for (uint32_t i = 0; i <= TEXTS; i++) offsets64[i] = offsets32[i] = i * (i + 1) / 2;
+    same("column32", 1, c->by32(text, sizeof text, offsets32, TEXTS + 1, hashes, TEXTS));
+    for (size_t i = 0; i < TEXTS; i++) same("column32", c->of(text + offsets32[i], i + 1), hashes[i]);
+    memset(hashes, 0, sizeof hashes);
+    same("column64", 1, c->by64(text, offsets64[TEXTS], offsets64, TEXTS + 1, hashes, TEXTS));
+    for (size_t i = 0; i < TEXTS; i++) same("column64", c->of(text + offsets64[i], i + 1), hashes[i]);
+    same("a column of no texts", 1, c->by64(NULL, 0, offsets64, 1, NULL, 0));
+    memset(hashes, 0, sizeof hashes);
+    same("past the end", 0, c->by64(text, offsets64[TEXTS] - 1, offsets64, TEXTS + 1, hashes, TEXTS));
+    same("too few offsets", 0, c->by64(text, sizeof text, offsets64, TEXTS, hashes, TEXTS));
+    same("too many offsets", 0, c->by32(text, sizeof text, offsets32, TEXTS + 1, hashes, TEXTS - 1));
+    same("no offsets", 0, c->by32(text, sizeof text, NULL, 0, NULL, 0));
+    offsets32[7] = 0, offsets64[9] = UINT64_MAX;
+    same("offsets that fall", 0, c->by32(text, sizeof text, offsets32, TEXTS + 1, hashes, TEXTS));
+    same("a huge offset", 0, c->by64(text, sizeof text, offsets64, TEXTS + 1, hashes, TEXTS));
+    same("what is refused writes nothing", 0, (uint64_t)memcmp(hashes, none, sizeof none));
+}
+
 // A text of two parts from their hashes.
 static void check_combine(void) {
     for (size_t n = 0; n < 100; n++) {
@@ -163,6 +200,7 @@ int main(void) {
     }
     check_spooky();
     check_combine();
+    for (size_t i = 0; i < sizeof columns / sizeof *columns; i++) check_column(columns + i);
     check_states_of_any_bytes();
     printf("%d passed, %d failed\n", passed, failed);
     return failed != 0;

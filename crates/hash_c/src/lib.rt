@@ -4,6 +4,8 @@
 
 ghost use Rattle.std.specs.Prelude.{◌≡◌};
 
+mod column;
+mod columns;
 mod combine;
 mod parts;
 mod spooky;
