@@ -4,6 +4,7 @@ use std::process::Abort;
 
 mod buckets;
 mod byte_hashers;
+mod collision;
 mod fx;
 mod jenkins;
 mod laws;

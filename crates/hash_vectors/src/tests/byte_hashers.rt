@@ -6,7 +6,9 @@ use hashers::laws::{
     run_streamed, same_word,
 };
 use hashers::null::{NullHasher, PassThroughHasher, passthrough, passthrough_combine};
-use hashers::oz::{DJB2Hasher, LoseLoseHasher, SDBMHasher, djb2, loselose, loselose_combine, sdbm, sdbm_combine};
+use hashers::oz::{
+    DJB2Hasher, LoseLoseHasher, SDBMHasher, djb2, loselose, loselose_combine, sdbm, sdbm_combine,
+};
 use hashers::pigeon::Bricolage;
 use std::hash::Hasher;
 use std::process::Abort;

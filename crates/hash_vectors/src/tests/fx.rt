@@ -2,12 +2,11 @@
 ghost use Rattle.std.specs.Prelude.{◌≡◌, ◌≤◌, ◌%◌, length};
 
 use crate::tests::{all_hold, none_holds, same, same_at};
-use hashers::laws::{
-    apart_by_one_fx, fixed_widths_are_words32, fixed_widths_are_words64, run_words, run_words32,
-    run_words64,
-};
 use hashers::fx_hash::{FxHasher, FxHasher32, FxHasher64, fxhash, fxhash32, fxhash64};
-use hashers::laws::{Piecewise, Undo, run_pair};
+use hashers::laws::{
+    Piecewise, Undo, apart_by_one_fx, fixed_widths_are_words32, fixed_widths_are_words64, run_pair,
+    run_words, run_words32, run_words64,
+};
 use std::hash::Hasher;
 use std::process::Abort;
 

@@ -7,10 +7,11 @@ ghost use Rattle.hashers.specs.Oaat.{oaat_state};
 
 use crate::tests::plain::plain_lookup3;
 use crate::tests::{all_hold, same, same_at};
-use hashers::laws::same_answers_later;
 use hashers::jenkins::spooky_hash::SpookyHasher;
 use hashers::jenkins::{Lookup3Hasher, OAATHasher, lookup3, oaat};
-use hashers::laws::{ByteStep, Piecewise, Undo, answer_of_pieces, run_pair, run_pieces};
+use hashers::laws::{
+    ByteStep, Piecewise, Undo, answer_of_pieces, run_pair, run_pieces, same_answers_later,
+};
 use std::hash::Hasher;
 
 // A number is written as its little-endian bytes, one write on each type.

@@ -8,7 +8,7 @@ use hashers::fnv::{FNV1aHasher32, FNV1aHasher64, fnv1a32, fnv1a64};
 use hashers::fx_hash::{FxHasher, FxHasher32, FxHasher64, fxhash, fxhash32, fxhash64};
 use hashers::jenkins::spooky_hash::{spooky, spooky_v1};
 use hashers::jenkins::{Lookup3Hasher, OAATHasher, lookup3, oaat};
-use hashers::laws::{Piecewise, HasherWrite};
+use hashers::laws::{HasherWrite, Piecewise};
 use hashers::null::passthrough;
 use hashers::oz::{DJB2Hasher, LoseLoseHasher, SDBMHasher, djb2, loselose, sdbm};
 use hashers::pigeon::{Bricolage, bricolage};

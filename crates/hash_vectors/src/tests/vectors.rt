@@ -3,10 +3,11 @@ use crate::tests::{all_hold, all_hold_at, same_at};
 use crate::times31::Times31;
 use hashers::fnv::{FNV1aHasher64, fnv1a32, fnv1a64};
 use hashers::fx_hash::{fxhash, fxhash32, fxhash64};
-use hashers::laws::apart_by_zeros;
 use hashers::jenkins::spooky_hash::{spooky, spooky_v1};
 use hashers::jenkins::{OAATHasher, lookup3, oaat};
-use hashers::laws::{apart_by_one, apart_djb2, apart_fnv32, apart_fnv64, apart_sdbm};
+use hashers::laws::{
+    apart_by_one, apart_by_zeros, apart_djb2, apart_fnv32, apart_fnv64, apart_sdbm,
+};
 use hashers::null::{null, passthrough};
 use hashers::oz::{djb2, loselose, sdbm};
 use hashers::pigeon::bricolage;
