@@ -148,9 +148,9 @@ fn append_few(state: u64, bytes: &[u8]) -> u64
     state
 }
 
-/// The bytes behind the state, of which only the last eight are read.
+/// The hash with more bytes behind: what a [`PassThroughHasher`] of this state comes to. Only the last eight bytes are read.
 #[inline(always)]
-fn append_bytes(state: u64, bytes: &[u8]) -> u64
+pub fn passthrough_from(state: u64, bytes: &[u8]) -> u64
     ensures { result ≡ passthrough_from state bytes.now }
 {
     match bytes.last_chunk::<8>() {
@@ -201,7 +201,7 @@ impl ByteRule for PassThroughRule {
 
     #[inline(always)]
     fn write(state: &mut u64, bytes: &[u8]) {
-        *state = append_bytes(*state, bytes);
+        *state = passthrough_from(*state, bytes);
     }
 
     #[inline(always)]

@@ -4,7 +4,6 @@ pub mod Lookup3Blocks
 pub mod Lookup3Lemmas
 pub mod MixLemmas
 pub mod PutLemmas
-pub mod ShortLemmas
 pub mod ShortStretches
 pub mod WriteLemmas
 pub mod Zeros

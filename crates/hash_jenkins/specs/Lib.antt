@@ -9,5 +9,6 @@ pub mod Put
 pub mod Spooky
 pub mod SpookyHasher
 pub mod SpookyLaws
+pub mod SpookyParts
 pub mod SpookyStanding
 pub mod Zeros

@@ -7,6 +7,7 @@ mod one_at_a_time;
 mod put;
 pub mod spooky_hash;
 mod spooky_long;
+pub mod spooky_parts;
 mod spooky_short;
 
 pub use lookup::{Lookup3Hasher, lookup3};

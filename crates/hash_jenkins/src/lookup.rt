@@ -112,12 +112,22 @@ impl Drop for Lookup3Hasher {
     }
 }
 
+impl Lookup3Hasher {
+    /// The hasher that stands at these two words, as after the pieces whose hash is pc + 2^32 * pb.
+    #[inline(always)]
+    pub fn new(pc: u32, pb: u32) -> Lookup3Hasher
+        ensures { result ≡ (pc, pb) }
+    {
+        Lookup3Hasher { pc, pb }
+    }
+}
+
 impl Default for Lookup3Hasher {
     ghost is_default = { λ h. h ≡ (0, 0) };
 
     /// The hasher of no pieces: both words are 0.
     fn default() -> Lookup3Hasher {
-        Lookup3Hasher { pc: 0, pb: 0 }
+        Lookup3Hasher::new(0, 0)
     }
 }
 

@@ -12,9 +12,7 @@ ghost use Rattle.hash_jenkins.specs.Counted.{Counted, after_write, MixesBlock};
 ghost use Rattle.hash_jenkins.specs.SpookyStanding.{IsPosition, SpookyStandsAt, spooky_from};
 ghost use Rattle.hash_jenkins.specs.SpookyLaws.{IsPosition-fresh, IsPosition-after, after-nil, after-append, stands_at_seeds, stands_after, hash_from_seeds, answer_where_stands};
 
-use crate::put::put;
-use crate::spooky_long::{long_words, mix_blocks};
-use crate::spooky_short::{FILL, LONG, short_words, short_words_v1};
+use crate::spooky_parts::SpookyParts;
 use hash_laws::traits::{Piecewise, Streamed};
 use hash_rounds::Turns;
 use std::hash::Hasher;
@@ -36,10 +34,7 @@ use std::marker::Model;
 ///
 /// Of `a` under two seeds of 0 the hash is 16681426114058726960.
 pub struct SpookyHasher {
-    buffer: [u8; 192],
-    words: [u64; 12],
-    kept: usize,
-    length: usize,
+    parts: SpookyParts,
     turns: Turns,
 }
 
@@ -48,22 +43,16 @@ impl Model for SpookyHasher {
 
     ghost Value = { Counted };
 
-    ghost use Rattle.hash_jenkins.specs.SpookyHasher.{counted_of, IsSettled};
+    ghost use Rattle.hash_jenkins.specs.SpookyHasher.{counted_of, HasSettled};
 
     ghost view = { counted_of };
 
-    ghost invariant = { IsSettled };
+    ghost invariant = { HasSettled };
 }
 
 impl Drop for SpookyHasher {
     fn drop(self) {
-        let Self {
-            buffer: _,
-            words: _,
-            kept: _,
-            length: _,
-            turns: _,
-        } = self;
+        let Self { parts: _, turns: _ } = self;
     }
 }
 
@@ -75,12 +64,7 @@ impl SpookyHasher {
         ensures turns { result.turns ≡ 0 }
     {
         SpookyHasher {
-            buffer: [0; LONG],
-            words: [
-                seed1, seed2, FILL, seed1, seed2, FILL, seed1, seed2, FILL, seed1, seed2, FILL,
-            ],
-            kept: 0,
-            length: 0,
+            parts: SpookyParts::new(seed1, seed2),
             turns: Turns::new(),
         }
     }
@@ -92,13 +76,7 @@ impl SpookyHasher {
             → result ≡ spooky seed1 seed2 text }
         ensures in_range { IsPosition self.now.at }
     {
-        if self.length < LONG {
-            let h = short_words(self.words[0], self.words[1], &self.buffer, self.kept);
-            (h[0], h[1])
-        } else {
-            let words = long_words(&self.words, &self.buffer[..self.kept]);
-            (words[0], words[1])
-        }
+        self.parts.finish128()
     }
 
     /// The hash of the bytes so far by version 1, for values that were stored before the length was mixed in: it leaves
@@ -108,13 +86,7 @@ impl SpookyHasher {
         ensures of_text { (seed1 seed2 : ℕ) (text : List ℕ) → self.now.at ≡ position seed1 seed2 text
             → result ≡ spooky_v1 seed1 seed2 text }
     {
-        if self.length < LONG {
-            let h = short_words_v1(self.words[0], self.words[1], &self.buffer, self.kept);
-            (h[0], h[1])
-        } else {
-            let words = long_words(&self.words, &self.buffer[..self.kept]);
-            (words[0], words[1])
-        }
+        self.parts.finish128_v1()
     }
 
     /// The four words that a text below 192 bytes ends in, the first two of which are its hash; `None` exactly from 192
@@ -124,11 +96,7 @@ impl SpookyHasher {
         ensures of_text { (seed1 seed2 : ℕ) (text : List ℕ) → self.now.at ≡ position seed1 seed2 text
             → result ≡ short_words_of seed1 seed2 text }
     {
-        if self.length < LONG {
-            Some(short_words(self.words[0], self.words[1], &self.buffer, self.kept))
-        } else {
-            None
-        }
+        self.parts.short_words()
     }
 }
 
@@ -167,16 +135,7 @@ impl Hasher for SpookyHasher {
         ensures in_range_before { IsPosition self.old.at }
         ensures in_range_after { IsPosition self.new.at }
     {
-        self.length = self.length.saturating_add(bytes.len());
-        if self.length < LONG {
-            let end = self.kept + bytes.len();
-            put(&mut self.buffer, self.kept, bytes);
-            self.kept = end;
-        } else {
-            let words = &mut self.words;
-            let buffer = &mut self.buffer;
-            self.kept = mix_blocks(words, buffer, self.kept, bytes, &mut self.turns);
-        }
+        self.parts.write_counted(bytes, &mut self.turns);
     }
 }
 
@@ -213,10 +172,7 @@ impl Piecewise for SpookyHasher {
 
     fn fork(&self) -> SpookyHasher {
         SpookyHasher {
-            buffer: self.buffer,
-            words: self.words,
-            kept: self.kept,
-            length: self.length,
+            parts: self.parts,
             turns: self.turns.fork(),
         }
     }

@@ -8,7 +8,7 @@ use crate::spooky_short::{LONG, zero_filled};
 use hash_rounds::{Turns, le_words, spooky_blocks, spooky_end};
 
 /// The bytes of a block.
-const BLOCK: usize = 96;
+pub(crate) const BLOCK: usize = 96;
 
 // The tail of a long text as a block, which ends in the tail's length.
 fn padded(tail: &[u8]) -> [u8; 96]

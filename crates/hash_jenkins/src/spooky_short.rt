@@ -47,11 +47,11 @@ fn add_chunks(seed1: u64, seed2: u64, text: &[u8; 192]) -> [u64; 4]
     h
 }
 
-/// The four words of the first `len` bytes, after which the array has zeros alone.
+/// The four words of the first `len` bytes, where the array has zeros alone after them.
 pub(crate) fn short_words(seed1: u64, seed2: u64, text: &[u8; 192], len: usize) -> [u64; 4]
-    requires within { len < 192 }
-    requires filled { text.now ≡ zero_filled 192 (take len text.now) }
-    ensures { result ≡ short_words seed1 seed2 (take len text.now) }
+    requires { len < 192 }
+    ensures { text.now ≡ zero_filled 192 (take len text.now)
+        → result ≡ short_words seed1 seed2 (take len text.now) }
 {
     let mut h = add_chunks(seed1, seed2, text);
     h[3] = h[3].wrapping_add((len as u64) << 56);
@@ -61,9 +61,9 @@ pub(crate) fn short_words(seed1: u64, seed2: u64, text: &[u8; 192], len: usize) 
 
 /// The same by version 1.
 pub(crate) fn short_words_v1(seed1: u64, seed2: u64, text: &[u8; 192], len: usize) -> [u64; 4]
-    requires within { len < 192 }
-    requires filled { text.now ≡ zero_filled 192 (take len text.now) }
-    ensures { result ≡ short_words_v1 seed1 seed2 (take len text.now) }
+    requires { len < 192 }
+    ensures { text.now ≡ zero_filled 192 (take len text.now)
+        → result ≡ short_words_v1 seed1 seed2 (take len text.now) }
 {
     let mut h = add_chunks(seed1, seed2, text);
     short_end(&mut h);

@@ -1,0 +1,207 @@
+// Calls each function of libhashers and compares what it answers. The last line says how many checks passed and how many failed.
+#include "hashers.h"
+#include <inttypes.h>
+#include <stdio.h>
+#include <stdlib.h>
+#include <string.h>
+#include <sys/mman.h>
+
+_Static_assert(sizeof(hashers_spooky_state) == 312 && _Alignof(hashers_spooky_state) == 8, "the size that the library proves");
+
+static int passed, failed;
+
+static void same(const char *what, uint64_t wanted, uint64_t found) {
+    if (wanted == found) {
+        passed++;
+    } else if (failed++ < 20) {
+        printf("%s: wanted %" PRIu64 ", found %" PRIu64 "\n", what, wanted, found);
+    }
+}
+
+static void same_words(const char *what, hashers_words wanted, hashers_words found) {
+    same(what, wanted.first, found.first);
+    same(what, wanted.second, found.second);
+}
+
+static uint64_t random_state = 88172645463325252u;
+
+static uint64_t random_number(void) {
+    random_state ^= random_state << 13, random_state ^= random_state >> 7, random_state ^= random_state << 17;
+    return random_state;
+}
+
+typedef uint64_t whole(const void *, size_t);
+typedef uint64_t on(uint64_t, const void *, size_t);
+
+// What is the same for each name: the whole, the parts, the way back, whether cuts show, and the greatest hash.
+static const struct kind {
+    const char *name;
+    whole *of;
+    on *write, *unwrite;
+    int joins;
+    uint64_t greatest;
+} kinds[] = {
+#define UNDONE(name, joins, bits) {#name, hashers_##name, hashers_##name##_write, hashers_##name##_unwrite, joins, UINT##bits##_MAX}
+#define WRITTEN(name, joins) {#name, hashers_##name, hashers_##name##_write, NULL, joins, UINT64_MAX}
+#define WHOLE(name) {#name, hashers_##name, NULL, NULL, 1, UINT64_MAX}
+    UNDONE(fnv1a32, 1, 32), UNDONE(fnv1a64, 1, 64), UNDONE(djb2, 1, 32), UNDONE(sdbm, 1, 32), UNDONE(loselose, 1, 64),
+    UNDONE(bricolage, 1, 64), UNDONE(oaat, 1, 64), UNDONE(fxhash, 0, 64), UNDONE(fxhash32, 0, 32), UNDONE(fxhash64, 0, 64),
+    WRITTEN(lookup3, 0), WRITTEN(null, 1), WRITTEN(passthrough, 1),
+    WHOLE(spooky), WHOLE(spooky_v1),
+};
+enum { KINDS = sizeof kinds / sizeof *kinds };
+
+static const struct vector {
+    whole *of;
+    const char *text;
+    uint64_t hash;
+} vectors[] = {
+#include "vectors.inc"
+};
+
+static unsigned char text[1000];
+
+static void check_vectors(void) {
+    for (size_t i = 0; i < sizeof vectors / sizeof *vectors; i++)
+        same(vectors[i].text, vectors[i].hash, vectors[i].of(vectors[i].text, strlen(vectors[i].text)));
+    uint64_t hash = hashers_lookup3_write(hashers_lookup3("a", 1), "b", 1);
+    same("lookup3 in parts", (uint64_t)0xfb413b71 << 32 | 0x60ec4574, hash);
+    unsigned char zeros[12] = {0};
+    same("lookup3 of zeros", (uint64_t)0x14c3a0e3 << 32 | 0xfb293fc1, hashers_lookup3(zeros, 12));
+    same("a high half", hashers_djb2_write(5381, "a", 1), hashers_djb2_write(5381 | (uint64_t)7 << 32, "a", 1));
+}
+
+// The parts of a text against the whole, and the way back, from hashes of texts and from any number.
+static void check_parts(const struct kind *k) {
+    uint64_t start = k->of(NULL, 0);
+    for (size_t n = 0; n < 300 && k->write; n++) {
+        size_t more = n % 37;
+        uint64_t parts = k->write(k->of(text, n), text + n, more);
+        same(k->name, k->of(text, n), k->write(start, text, n));
+        same(k->name, k->of(text, n), k->write(k->of(text, n), NULL, 0));
+        if (k->joins)
+            same(k->name, k->of(text, n + more), parts);
+        if (k->unwrite) {
+            uint64_t any = random_number(), bits = k->greatest;
+            same(k->name, k->of(text, n), k->unwrite(parts, text + n, more));
+            same(k->name, any & bits, k->write(k->unwrite(any, text, n), text, n) & bits);
+            same(k->name, any & bits, k->unwrite(k->write(any, text, n), text, n) & bits);
+        }
+    }
+}
+
+static void check_spooky(void) {
+    same("spooky128", hashers_spooky(text, 500), hashers_spooky128(text, 500, 0, 0).first);
+    same("spooky128_v1", hashers_spooky_v1(text, 20), hashers_spooky128_v1(text, 20, 0, 0).first);
+    for (size_t n = 0; n < 600; n++) {
+        hashers_spooky_state s = hashers_spooky_begin(1, 2);
+        same_words("spooky of nothing", hashers_spooky128(NULL, 0, 1, 2), hashers_spooky_finish(&s));
+        for (size_t at = 0; at < n;) {
+            size_t part = 1 + at * 7 % 101;
+            if (part > n - at) part = n - at;
+            hashers_spooky_write(&s, text + at, part);
+            hashers_spooky_write(&s, NULL, 0);
+            at += part;
+        }
+        hashers_spooky_state copy = s;
+        same_words("spooky in parts", hashers_spooky128(text, n, 1, 2), hashers_spooky_finish(&s));
+        same_words("spooky_v1 in parts", hashers_spooky128_v1(text, n, 1, 2), hashers_spooky_finish_v1(&copy));
+    }
+}
+
+typedef bool of_column32(const void *, size_t, const uint32_t *, size_t, uint64_t *, size_t);
+typedef bool of_column64(const void *, size_t, const uint64_t *, size_t, uint64_t *, size_t);
+
+static const struct column {
+    whole *of;
+    of_column32 *by32;
+    of_column64 *by64;
+} columns[] = {
+#define COLUMN(name) {hashers_##name, hashers_##name##_column32, hashers_##name##_column64}
+    COLUMN(fnv1a32), COLUMN(fnv1a64), COLUMN(djb2), COLUMN(sdbm), COLUMN(loselose), COLUMN(bricolage), COLUMN(oaat), COLUMN(lookup3),
+    COLUMN(spooky), COLUMN(spooky_v1), COLUMN(null), COLUMN(passthrough), COLUMN(fxhash), COLUMN(fxhash32), COLUMN(fxhash64),
+};
+
+enum { TEXTS = 40 };
+
+// A column against a call for each text; and offsets that fall, pass the end, or are too many or too few, which write nothing.
+static void check_column(const struct column *c) {
+    uint32_t offsets32[TEXTS + 1];
+    uint64_t offsets64[TEXTS + 1], hashes[TEXTS], none[TEXTS] = {0};
+    for (uint32_t i = 0; i <= TEXTS; i++) offsets64[i] = offsets32[i] = i * (i + 1) / 2;
+    same("column32", 1, c->by32(text, sizeof text, offsets32, TEXTS + 1, hashes, TEXTS));
+    for (size_t i = 0; i < TEXTS; i++) same("column32", c->of(text + offsets32[i], i + 1), hashes[i]);
+    memset(hashes, 0, sizeof hashes);
+    same("column64", 1, c->by64(text, offsets64[TEXTS], offsets64, TEXTS + 1, hashes, TEXTS));
+    for (size_t i = 0; i < TEXTS; i++) same("column64", c->of(text + offsets64[i], i + 1), hashes[i]);
+    same("a column of no texts", 1, c->by64(NULL, 0, offsets64, 1, NULL, 0));
+    memset(hashes, 0, sizeof hashes);
+    same("past the end", 0, c->by64(text, offsets64[TEXTS] - 1, offsets64, TEXTS + 1, hashes, TEXTS));
+    same("too few offsets", 0, c->by64(text, sizeof text, offsets64, TEXTS, hashes, TEXTS));
+    same("too many offsets", 0, c->by32(text, sizeof text, offsets32, TEXTS + 1, hashes, TEXTS - 1));
+    same("no offsets", 0, c->by32(text, sizeof text, NULL, 0, NULL, 0));
+    offsets32[7] = 0, offsets64[9] = UINT64_MAX;
+    same("offsets that fall", 0, c->by32(text, sizeof text, offsets32, TEXTS + 1, hashes, TEXTS));
+    same("a huge offset", 0, c->by64(text, sizeof text, offsets64, TEXTS + 1, hashes, TEXTS));
+    same("what is refused writes nothing", 0, (uint64_t)memcmp(hashes, none, sizeof none));
+}
+
+// A text of two parts from their hashes.
+static void check_combine(void) {
+    for (size_t n = 0; n < 100; n++) {
+        const unsigned char *second = text + n;
+        size_t n2 = n * 7 % 50;
+        same("sdbm_combine", hashers_sdbm(text, n + n2), hashers_sdbm_combine(hashers_sdbm(text, n), hashers_sdbm(second, n2), n2));
+        same("loselose_combine", hashers_loselose(text, n + n2),
+             hashers_loselose_combine(hashers_loselose(text, n), hashers_loselose(second, n2), n2));
+        same("passthrough_combine", hashers_passthrough(text, n + n2),
+             hashers_passthrough_combine(hashers_passthrough(text, n), hashers_passthrough(second, n2), n2));
+    }
+}
+
+// A state at the very end of what can be read, so that a call that reaches past it ends the test; and one at the very beginning.
+static void check_states_of_any_bytes(void) {
+    size_t page = 65536;
+    unsigned char *room = mmap(NULL, 3 * page, PROT_NONE, MAP_PRIVATE | MAP_ANONYMOUS, -1, 0);
+    if (room == MAP_FAILED || mprotect(room + page, page, PROT_READ | PROT_WRITE)) {
+        perror("mmap");
+        exit(1);
+    }
+    hashers_spooky_state *ends[] = {(void *)(room + 2 * page - sizeof(hashers_spooky_state)), (void *)(room + page)};
+    hashers_words zeros = {0, 0};
+    for (int turn = 0; turn < 20000; turn++) {
+        hashers_spooky_state *s = ends[turn % 2], before;
+        *s = hashers_spooky_begin(3, 4);
+        uint64_t mark = s->opaque[0];
+        size_t n = (size_t)(random_number() % 400);
+        if (turn % 5 == 0) memset(s, 0, sizeof *s);
+        if (turn % 5 == 1) s->opaque[0] ^= random_number() | 1;
+        if (turn % 5 >= 2)
+            for (size_t i = 1; i < 39; i++) s->opaque[i] = random_number() >> random_number() % 64;
+        before = *s;
+        hashers_words one = hashers_spooky_finish(s), two = hashers_spooky_finish_v1(s);
+        hashers_spooky_write(s, text, n);
+        if (before.opaque[0] != mark) {
+            same_words("finish without the mark", zeros, one);
+            same_words("finish_v1 without the mark", zeros, two);
+            same("write without the mark", 0, (uint64_t)memcmp(&before, s, sizeof before));
+        }
+    }
+    munmap(room, 3 * page);
+}
+
+int main(void) {
+    for (size_t i = 0; i < sizeof text; i++) text[i] = (unsigned char)(random_number() >> 32);
+    same("version", HASHERS_VERSION, hashers_version());
+    check_vectors();
+    for (const struct kind *k = kinds; k < kinds + KINDS; k++) {
+        same(k->name, k->of(text, 0), k->of(NULL, 0));
+        check_parts(k);
+    }
+    check_spooky();
+    check_combine();
+    for (size_t i = 0; i < sizeof columns / sizeof *columns; i++) check_column(columns + i);
+    check_states_of_any_bytes();
+    printf("%d passed, %d failed\n", passed, failed);
+    return failed != 0;
+}

@@ -1,0 +1,8 @@
+use Rattle.std.proofs.Common.{◌≡◌, ◌<◌, ℕ, map, slice_index}
+use Rattle.hash_c.specs.Columns.{text_at}
+use Rattle.hash_c.proofs.column.column.Given as goal
+
+-- the hashes before i are written
+abbrev pub invariant-loop-i : goal.invariant-loop-i
+invariant-loop-i g l =
+    (k : ℕ) → k < l.i → slice_index l.hashes k ≡ g.T.TextHash.hash (text_at l.bytes (map g.O.Offset.number l.offsets) k)

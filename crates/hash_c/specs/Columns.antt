@@ -1,0 +1,17 @@
+-- Many texts that lie behind one another.
+use Rattle.std.specs.Prelude.{ℕ, ◌≡◌, ◌+◌, ◌<◌, ◌≤◌, List, length, slice_index, slice_range}
+
+-- there is one place more than texts, none falls, and none that begins or ends a text passes the data's end
+pub record AreOffsets (size count : ℕ) (offsets : List ℕ) : Type 0 where
+  pub one_more : length offsets ≡ count + 1
+  pub rise : (i : ℕ) → i < count → slice_index offsets i ≤ slice_index offsets (i + 1)
+  pub within : (i : ℕ) → i < count → slice_index offsets (i + 1) ≤ size
+
+-- text i lies between places i and i + 1
+abbrev pub text_at : List ℕ → List ℕ → ℕ → List ℕ
+text_at bytes offsets i = slice_range bytes (slice_index offsets i) (slice_index offsets (i + 1))
+
+-- number i is the hash of text i
+abbrev pub AreHashes : (List ℕ → ℕ) → List ℕ → List ℕ → List ℕ → Type 0
+AreHashes hash bytes offsets hashes =
+    (i : ℕ) → i < length hashes → slice_index hashes i ≡ hash (text_at bytes offsets i)

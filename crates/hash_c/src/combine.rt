@@ -1,0 +1,35 @@
+//! The hash of two texts joined, from their hashes and the second one's length.
+ghost use Rattle.std.specs.Prelude.{◌≡◌, ◌+◌, ◌*◌, ◌%◌, ◌^◌, List, ℕ, ◌++◌, length};
+ghost use Rattle.hashers.specs.Sums.{loselose_from, passthrough_from, sdbm_from};
+
+use hashers::{null, oz};
+
+/// sdbm of a joined text from the hashes of its two parts and the second one's length in bytes.
+#[unsafe(no_mangle)]
+pub extern "C" fn hashers_sdbm_combine(hash1: u64, hash2: u64, n2: u64) -> u64
+    ensures value { result ≡ (hash1 * 65599 ^ n2 + hash2) % 2 ^ 32 }
+    ensures joined { (x y : List ℕ) → length y ≡ n2 → hash1 ≡ sdbm_from 0 x → hash2 ≡ sdbm_from 0 y
+        → result ≡ sdbm_from 0 (x ++ y) }
+{
+    oz::sdbm_combine(hash1, hash2, n2)
+}
+
+/// The same of lose lose, which needs no length: the sum.
+#[unsafe(no_mangle)]
+pub extern "C" fn hashers_loselose_combine(hash1: u64, hash2: u64, n2: u64) -> u64
+    ensures value { result ≡ (hash1 + hash2) % 2 ^ 64 }
+    ensures joined { (x y : List ℕ) → hash1 ≡ loselose_from 0 x → hash2 ≡ loselose_from 0 y
+        → result ≡ loselose_from 0 (x ++ y) }
+{
+    oz::loselose_combine(hash1, hash2, n2)
+}
+
+/// The same of passthrough.
+#[unsafe(no_mangle)]
+pub extern "C" fn hashers_passthrough_combine(hash1: u64, hash2: u64, n2: u64) -> u64
+    ensures value { result ≡ (hash1 * 256 ^ n2 + hash2) % 2 ^ 64 }
+    ensures joined { (x y : List ℕ) → length y ≡ n2 → hash1 ≡ passthrough_from 0 x → hash2 ≡ passthrough_from 0 y
+        → result ≡ passthrough_from 0 (x ++ y) }
+{
+    null::passthrough_combine(hash1, hash2, n2)
+}

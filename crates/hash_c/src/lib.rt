@@ -1,0 +1,20 @@
+//! The hash functions of `hashers` for programs in C, and in whatever calls C: exported calls over pointers and lengths, each with
+//! the contract of what it calls. `c/hashers.h` declares them, and says what a caller must see to.
+#![tactic(auto)]
+
+ghost use Rattle.std.specs.Prelude.{◌≡◌};
+
+mod column;
+mod columns;
+mod combine;
+mod parts;
+mod spooky;
+mod whole;
+
+/// The version of the library, of which VERSION at the top says the three parts: 10000 * major + 100 * minor + patch.
+#[unsafe(no_mangle)]
+pub extern "C" fn hashers_version() -> u32
+    ensures { result ≡ 10001 }
+{
+    10001
+}

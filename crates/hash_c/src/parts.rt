@@ -1,0 +1,255 @@
+//! Texts that come in parts. The hash so far is all that is kept, but for SpookyHash: `write` takes it to the hash with more bytes
+//! behind, and `unwrite` to the hash without the last ones. The hash of no bytes is where a text begins. Every number is a hash so
+//! far: of one of 32 bits the low 32 are taken.
+ghost use Rattle.std.specs.Prelude.{◌≡◌, ◌<◌, ◌^◌, ◌/◌, ◌%◌, ℕ};
+ghost use Rattle.hashers.specs.Fnv.{fnv1a32_from, fnv1a64_from};
+ghost use Rattle.hashers.specs.Fx.{fx32, fx64, words32, words64};
+ghost use Rattle.hashers.specs.Lookup3.{lookup3_from, lookup3_answer};
+ghost use Rattle.hashers.specs.Oaat.{oaat_state, oaat_finish};
+ghost use Rattle.hashers.specs.Oz.{djb2_from};
+ghost use Rattle.hashers.specs.Pigeon.{bricolage_from};
+ghost use Rattle.hashers.specs.Sums.{loselose_from, passthrough_from, sdbm_from};
+
+use hashers::fnv::{FNV1aHasher32, FNV1aHasher64};
+use hashers::fx_hash::{FxHasher, FxHasher32, FxHasher64};
+use hashers::jenkins::{Lookup3Hasher, OAATHasher};
+use hashers::laws::Undo;
+use hashers::null::{null, passthrough_from};
+use hashers::oz::{DJB2Hasher, LoseLoseHasher, SDBMHasher};
+use hashers::pigeon::Bricolage;
+use std::hash::Hasher;
+
+/// The hasher whose hash so far is this one.
+#[inline(always)]
+fn at<H: Undo>(hash: u64) -> H
+    requires { H.is_answer hash }
+    ensures here { H.answer (H.state result) ≡ hash }
+    ensures in_range { H.in_range (H.state result) }
+{
+    match H::unfinish(hash) {
+        Some(hasher) => hasher,
+        None => unreachable!(),
+    }
+}
+
+/// The hash with more bytes behind.
+#[inline(always)]
+fn written<H: Undo>(hash: u64, bytes: &[u8]) -> u64
+    requires { H.is_answer hash }
+    ensures { (s : H.State) → H.in_range s → H.answer s ≡ hash → result ≡ H.answer (H.after s bytes.now) }
+{
+    let mut hasher = at::<H>(hash);
+    hasher.feed(bytes);
+    hasher.answer()
+}
+
+/// The hash without the last bytes.
+#[inline(always)]
+fn unwritten<H: Undo>(hash: u64, bytes: &[u8]) -> u64
+    requires { H.is_answer hash }
+    ensures back { (s : H.State) → H.in_range s → H.answer s ≡ result → H.answer (H.after s bytes.now) ≡ hash }
+    ensures undone { (s : H.State) → H.in_range s → H.answer (H.after s bytes.now) ≡ hash → result ≡ H.answer s }
+    ensures reached { (bound : ℕ) → ((s : H.State) → H.in_range s → H.answer s < bound) → result < bound }
+{
+    let mut hasher = at::<H>(hash);
+    hasher.unwrite(bytes);
+    hasher.answer()
+}
+
+/// The hash of fnv1a32 with more bytes behind.
+#[unsafe(no_mangle)]
+pub extern "C" fn hashers_fnv1a32_write(hash: u64, bytes: &[u8]) -> u64
+    ensures { result ≡ fnv1a32_from (hash % 2 ^ 32) bytes.now }
+{
+    written::<FNV1aHasher32>(hash % 4294967296, bytes)
+}
+
+/// The hash of fnv1a32 without the last bytes.
+#[unsafe(no_mangle)]
+pub extern "C" fn hashers_fnv1a32_unwrite(hash: u64, bytes: &[u8]) -> u64
+    ensures back { fnv1a32_from result bytes.now ≡ hash % 2 ^ 32 }
+    ensures undone { (s : ℕ) → s < 2 ^ 32 → fnv1a32_from s bytes.now ≡ hash % 2 ^ 32 → result ≡ s }
+{
+    unwritten::<FNV1aHasher32>(hash % 4294967296, bytes)
+}
+
+/// The hash of fnv1a64 with more bytes behind.
+#[unsafe(no_mangle)]
+pub extern "C" fn hashers_fnv1a64_write(hash: u64, bytes: &[u8]) -> u64
+    ensures { result ≡ fnv1a64_from hash bytes.now }
+{
+    written::<FNV1aHasher64>(hash, bytes)
+}
+
+/// The hash of fnv1a64 without the last bytes.
+#[unsafe(no_mangle)]
+pub extern "C" fn hashers_fnv1a64_unwrite(hash: u64, bytes: &[u8]) -> u64
+    ensures back { fnv1a64_from result bytes.now ≡ hash }
+    ensures undone { (s : ℕ) → s < 2 ^ 64 → fnv1a64_from s bytes.now ≡ hash → result ≡ s }
+{
+    unwritten::<FNV1aHasher64>(hash, bytes)
+}
+
+/// The hash of djb2 with more bytes behind.
+#[unsafe(no_mangle)]
+pub extern "C" fn hashers_djb2_write(hash: u64, bytes: &[u8]) -> u64
+    ensures { result ≡ djb2_from (hash % 2 ^ 32) bytes.now }
+{
+    written::<DJB2Hasher>(hash % 4294967296, bytes)
+}
+
+/// The hash of djb2 without the last bytes.
+#[unsafe(no_mangle)]
+pub extern "C" fn hashers_djb2_unwrite(hash: u64, bytes: &[u8]) -> u64
+    ensures back { djb2_from result bytes.now ≡ hash % 2 ^ 32 }
+    ensures undone { (s : ℕ) → s < 2 ^ 32 → djb2_from s bytes.now ≡ hash % 2 ^ 32 → result ≡ s }
+{
+    unwritten::<DJB2Hasher>(hash % 4294967296, bytes)
+}
+
+/// The hash of sdbm with more bytes behind.
+#[unsafe(no_mangle)]
+pub extern "C" fn hashers_sdbm_write(hash: u64, bytes: &[u8]) -> u64
+    ensures { result ≡ sdbm_from (hash % 2 ^ 32) bytes.now }
+{
+    written::<SDBMHasher>(hash % 4294967296, bytes)
+}
+
+/// The hash of sdbm without the last bytes.
+#[unsafe(no_mangle)]
+pub extern "C" fn hashers_sdbm_unwrite(hash: u64, bytes: &[u8]) -> u64
+    ensures back { sdbm_from result bytes.now ≡ hash % 2 ^ 32 }
+    ensures undone { (s : ℕ) → s < 2 ^ 32 → sdbm_from s bytes.now ≡ hash % 2 ^ 32 → result ≡ s }
+{
+    unwritten::<SDBMHasher>(hash % 4294967296, bytes)
+}
+
+/// The hash of loselose with more bytes behind.
+#[unsafe(no_mangle)]
+pub extern "C" fn hashers_loselose_write(hash: u64, bytes: &[u8]) -> u64
+    ensures { result ≡ loselose_from hash bytes.now }
+{
+    written::<LoseLoseHasher>(hash, bytes)
+}
+
+/// The hash of loselose without the last bytes.
+#[unsafe(no_mangle)]
+pub extern "C" fn hashers_loselose_unwrite(hash: u64, bytes: &[u8]) -> u64
+    ensures back { loselose_from result bytes.now ≡ hash }
+    ensures undone { (s : ℕ) → s < 2 ^ 64 → loselose_from s bytes.now ≡ hash → result ≡ s }
+{
+    unwritten::<LoseLoseHasher>(hash, bytes)
+}
+
+/// The hash of bricolage with more bytes behind.
+#[unsafe(no_mangle)]
+pub extern "C" fn hashers_bricolage_write(hash: u64, bytes: &[u8]) -> u64
+    ensures { result ≡ bricolage_from hash bytes.now }
+{
+    written::<Bricolage>(hash, bytes)
+}
+
+/// The hash of bricolage without the last bytes.
+#[unsafe(no_mangle)]
+pub extern "C" fn hashers_bricolage_unwrite(hash: u64, bytes: &[u8]) -> u64
+    ensures back { bricolage_from result bytes.now ≡ hash }
+    ensures undone { (s : ℕ) → s < 2 ^ 64 → bricolage_from s bytes.now ≡ hash → result ≡ s }
+{
+    unwritten::<Bricolage>(hash, bytes)
+}
+
+/// The hash of fxhash with more bytes behind.
+#[unsafe(no_mangle)]
+pub extern "C" fn hashers_fxhash_write(hash: u64, bytes: &[u8]) -> u64
+    ensures { result ≡ fx64 hash (words64 bytes.now) }
+{
+    written::<FxHasher>(hash, bytes)
+}
+
+/// The hash of fxhash without the last bytes.
+#[unsafe(no_mangle)]
+pub extern "C" fn hashers_fxhash_unwrite(hash: u64, bytes: &[u8]) -> u64
+    ensures back { fx64 result (words64 bytes.now) ≡ hash }
+    ensures undone { (s : ℕ) → s < 2 ^ 64 → fx64 s (words64 bytes.now) ≡ hash → result ≡ s }
+{
+    unwritten::<FxHasher>(hash, bytes)
+}
+
+/// The hash of fxhash32 with more bytes behind.
+#[unsafe(no_mangle)]
+pub extern "C" fn hashers_fxhash32_write(hash: u64, bytes: &[u8]) -> u64
+    ensures { result ≡ fx32 (hash % 2 ^ 32) (words32 bytes.now) }
+{
+    written::<FxHasher32>(hash % 4294967296, bytes)
+}
+
+/// The hash of fxhash32 without the last bytes.
+#[unsafe(no_mangle)]
+pub extern "C" fn hashers_fxhash32_unwrite(hash: u64, bytes: &[u8]) -> u64
+    ensures back { fx32 result (words32 bytes.now) ≡ hash % 2 ^ 32 }
+    ensures undone { (s : ℕ) → s < 2 ^ 32 → fx32 s (words32 bytes.now) ≡ hash % 2 ^ 32 → result ≡ s }
+{
+    unwritten::<FxHasher32>(hash % 4294967296, bytes)
+}
+
+/// The hash of fxhash64 with more bytes behind.
+#[unsafe(no_mangle)]
+pub extern "C" fn hashers_fxhash64_write(hash: u64, bytes: &[u8]) -> u64
+    ensures { result ≡ fx64 hash (words64 bytes.now) }
+{
+    written::<FxHasher64>(hash, bytes)
+}
+
+/// The hash of fxhash64 without the last bytes.
+#[unsafe(no_mangle)]
+pub extern "C" fn hashers_fxhash64_unwrite(hash: u64, bytes: &[u8]) -> u64
+    ensures back { fx64 result (words64 bytes.now) ≡ hash }
+    ensures undone { (s : ℕ) → s < 2 ^ 64 → fx64 s (words64 bytes.now) ≡ hash → result ≡ s }
+{
+    unwritten::<FxHasher64>(hash, bytes)
+}
+
+/// The hash of one-at-a-time with more bytes behind.
+#[unsafe(no_mangle)]
+pub extern "C" fn hashers_oaat_write(hash: u64, bytes: &[u8]) -> u64
+    ensures { (s : ℕ) → s < 2 ^ 64 → oaat_finish s ≡ hash → result ≡ oaat_finish (oaat_state s bytes.now) }
+{
+    written::<OAATHasher>(hash, bytes)
+}
+
+/// The hash of one-at-a-time without the last bytes.
+#[unsafe(no_mangle)]
+pub extern "C" fn hashers_oaat_unwrite(hash: u64, bytes: &[u8]) -> u64
+    ensures back { (s : ℕ) → s < 2 ^ 64 → oaat_finish s ≡ result → oaat_finish (oaat_state s bytes.now) ≡ hash }
+    ensures undone { (s : ℕ) → s < 2 ^ 64 → oaat_finish (oaat_state s bytes.now) ≡ hash → result ≡ oaat_finish s }
+{
+    unwritten::<OAATHasher>(hash, bytes)
+}
+
+/// The hash of lookup3 with one more piece behind.
+#[unsafe(no_mangle)]
+pub extern "C" fn hashers_lookup3_write(hash: u64, piece: &[u8]) -> u64
+    ensures { result ≡ lookup3_answer (lookup3_from (hash % 2 ^ 32, hash / 2 ^ 32) piece.now) }
+{
+    let pc = (hash % 4294967296) as u32;
+    let pb = (hash / 4294967296) as u32;
+    let mut hasher = Lookup3Hasher::new(pc, pb);
+    hasher.write(piece);
+    hasher.finish()
+}
+
+/// The hash of passthrough with more bytes behind.
+#[unsafe(no_mangle)]
+pub extern "C" fn hashers_passthrough_write(hash: u64, bytes: &[u8]) -> u64
+    ensures { result ≡ passthrough_from hash bytes.now }
+{
+    passthrough_from(hash, bytes)
+}
+
+/// The hash of null: 0, whatever the bytes.
+#[unsafe(no_mangle)]
+pub extern "C" fn hashers_null_write(_hash: u64, bytes: &[u8]) -> u64
+    ensures { result ≡ 0 }
+{
+    null(bytes)
+}

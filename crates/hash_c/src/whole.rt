@@ -1,0 +1,133 @@
+//! One call over a whole text.
+ghost use Rattle.std.specs.Prelude.{◌≡◌};
+ghost use Rattle.hashers.specs.Fnv.{fnv1a32_basis, fnv1a32_from, fnv1a64_basis, fnv1a64_from};
+ghost use Rattle.hashers.specs.Fx.{fx32, fx64, words32, words64};
+ghost use Rattle.hashers.specs.Lookup3.{lookup3_from, lookup3_answer};
+ghost use Rattle.hashers.specs.Oaat.{oaat_state, oaat_finish};
+ghost use Rattle.hashers.specs.Oz.{djb2_from};
+ghost use Rattle.hashers.specs.Pigeon.{bricolage_from};
+ghost use Rattle.hashers.specs.Spooky.{spooky, spooky_v1};
+ghost use Rattle.hashers.specs.Sums.{loselose_from, passthrough_from, sdbm_from};
+
+use hashers::jenkins::spooky_hash;
+use hashers::{fnv, fx_hash, jenkins, null, oz, pigeon};
+
+/// FNV-1a at 32 bits of the text.
+#[unsafe(no_mangle)]
+pub extern "C" fn hashers_fnv1a32(text: &[u8]) -> u64
+    ensures { result ≡ fnv1a32_from fnv1a32_basis text.now }
+{
+    fnv::fnv1a32(text)
+}
+
+/// FNV-1a at 64 bits of the text.
+#[unsafe(no_mangle)]
+pub extern "C" fn hashers_fnv1a64(text: &[u8]) -> u64
+    ensures { result ≡ fnv1a64_from fnv1a64_basis text.now }
+{
+    fnv::fnv1a64(text)
+}
+
+/// djb2 of the text.
+#[unsafe(no_mangle)]
+pub extern "C" fn hashers_djb2(text: &[u8]) -> u64
+    ensures { result ≡ djb2_from 5381 text.now }
+{
+    oz::djb2(text)
+}
+
+/// sdbm of the text.
+#[unsafe(no_mangle)]
+pub extern "C" fn hashers_sdbm(text: &[u8]) -> u64
+    ensures { result ≡ sdbm_from 0 text.now }
+{
+    oz::sdbm(text)
+}
+
+/// lose lose at 64 bits of the text.
+#[unsafe(no_mangle)]
+pub extern "C" fn hashers_loselose(text: &[u8]) -> u64
+    ensures { result ≡ loselose_from 0 text.now }
+{
+    oz::loselose(text)
+}
+
+/// Bricolage of the text.
+#[unsafe(no_mangle)]
+pub extern "C" fn hashers_bricolage(text: &[u8]) -> u64
+    ensures { result ≡ bricolage_from 0 text.now }
+{
+    pigeon::bricolage(text)
+}
+
+/// fx at the width of a machine word, 64 bits, of the text as one piece.
+#[unsafe(no_mangle)]
+pub extern "C" fn hashers_fxhash(text: &[u8]) -> u64
+    ensures { result ≡ fx64 0 (words64 text.now) }
+{
+    fx_hash::fxhash(text)
+}
+
+/// fx at 32 bits of the text as one piece.
+#[unsafe(no_mangle)]
+pub extern "C" fn hashers_fxhash32(text: &[u8]) -> u64
+    ensures { result ≡ fx32 0 (words32 text.now) }
+{
+    fx_hash::fxhash32(text)
+}
+
+/// fx at 64 bits of the text as one piece.
+#[unsafe(no_mangle)]
+pub extern "C" fn hashers_fxhash64(text: &[u8]) -> u64
+    ensures { result ≡ fx64 0 (words64 text.now) }
+{
+    fx_hash::fxhash64(text)
+}
+
+/// One-at-a-time of the text, at 64 bits.
+#[unsafe(no_mangle)]
+pub extern "C" fn hashers_oaat(text: &[u8]) -> u64
+    ensures { result ≡ oaat_finish (oaat_state 0 text.now) }
+{
+    jenkins::oaat(text)
+}
+
+/// lookup3 of the text as one piece: both words, pc + 2^32 * pb.
+#[unsafe(no_mangle)]
+pub extern "C" fn hashers_lookup3(text: &[u8]) -> u64
+    ensures { result ≡ lookup3_answer (lookup3_from (0, 0) text.now) }
+{
+    jenkins::lookup3(text)
+}
+
+/// The first word of SpookyHash of the text under the seeds 0 and 0, with the length mixed in.
+#[unsafe(no_mangle)]
+pub extern "C" fn hashers_spooky(text: &[u8]) -> u64
+    ensures { result ≡ (spooky 0 0 text.now).0 }
+{
+    spooky_hash::spooky(text)
+}
+
+/// The same by version 1, as the original crate answers: the length of a text below 192 bytes is left out.
+#[unsafe(no_mangle)]
+pub extern "C" fn hashers_spooky_v1(text: &[u8]) -> u64
+    ensures { result ≡ (spooky_v1 0 0 text.now).0 }
+{
+    spooky_hash::spooky_v1(text)
+}
+
+/// 0, whatever the text.
+#[unsafe(no_mangle)]
+pub extern "C" fn hashers_null(text: &[u8]) -> u64
+    ensures { result ≡ 0 }
+{
+    null::null(text)
+}
+
+/// The last eight bytes of the text as a number, the highest first.
+#[unsafe(no_mangle)]
+pub extern "C" fn hashers_passthrough(text: &[u8]) -> u64
+    ensures { result ≡ passthrough_from 0 text.now }
+{
+    null::passthrough(text)
+}
