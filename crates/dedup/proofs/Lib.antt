@@ -3,5 +3,4 @@ pub mod LineLemmas
 pub mod OrderLemmas
 pub mod RunLemmas
 pub mod SeenLemmas
-pub mod SlotLemmas
 pub mod TallyLemmas

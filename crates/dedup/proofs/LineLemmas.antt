@@ -2,15 +2,14 @@
 use Rattle.std.proofs.Common.{suc, subst, Option, Some, None, IfSome, ◌≡◌, ◌≢◌, ℕ, ◌+◌, ◌-◌, ◌<◌, Bool, true, false, cond, not, ◌||◌, ◌&&◌, if◌then◌else◌, ◌==◌, List, [], ◌∷◌, ◌++◌, length, get_or, take, drop, take-append-drop, append_assoc, All, ap, sym, ◌∙◌, refl, arith}
 use Rattle.std.specs.Io.{StopsAt}
 use Rattle.std.specs.Io.BufRead.{ends_with_byte, strip_last, take_through}
-use Rattle.std.specs.List.{filter, concat, list_any, onto_first}
+use Rattle.std.specs.List.{filter, flat_map, list_any, onto_first}
 use Rattle.std.proofs.lemmas.Bool.{ne_eqb, eq-eqb, lt-ltb, false≢true}
 use Rattle.std.proofs.lemmas.Cmp.{nat_list_eq_equiv}
 use Rattle.std.proofs.lemmas.List.{append-nil, take_rest, get_or-take, get_or_default, length-take, length-take-le}
-use Rattle.std.proofs.lemmas.Grind.{get_or_tail}
+use Rattle.std.proofs.lemmas.Grind.{flat_map-append, get_or_tail}
 use Rattle.std.proofs.lemmas.List.Elements.{All-head, All-tail, filter-append}
-use Rattle.std.proofs.lemmas.List.Folds.{concat-append}
 use Rattle.dedup.specs.Between.{IsNewline}
-use Rattle.dedup.specs.Lines.{lines, same_text, firsts, each_once}
+use Rattle.dedup.specs.Lines.{lines, same_text, firsts, as_line, each_once}
 
 pub same_text-symm : (line other : List ℕ) → same_text line other ≡ same_text other line
 same_text-symm line other = nat_list_eq_equiv.symm (strip_last 10 line) (strip_last 10 other)
@@ -124,18 +123,18 @@ taken_more part rest bytes n is =
     ap (λ t. (part ++ take n rest) ++ t) (take_rest rest n) ∙ append_assoc part (take n rest) (drop n rest) ∙ ap (λ t. part ++ t) (take-append-drop n rest) ∙ is
 
 -- what a line adds
-pub each_once_more : (text line : List ℕ) → lines (text ++ line) ≡ lines text ++ line ∷ [] → each_once (text ++ line) ≡ each_once text ++ (if list_any (same_text line) (lines text) then [] else line)
-each_once_more text line split = ap (λ all. concat (firsts all)) split ∙ ap concat (firsts_more (lines text) line) ∙ at (list_any (same_text line) (lines text))
+pub each_once_more : (text line : List ℕ) → lines (text ++ line) ≡ lines text ++ line ∷ [] → each_once (text ++ line) ≡ each_once text ++ (if list_any (same_text line) (lines text) then [] else as_line line)
+each_once_more text line split = ap (λ all. flat_map as_line (firsts all)) split ∙ ap (flat_map as_line) (firsts_more (lines text) line) ∙ at (list_any (same_text line) (lines text))
   where
-    at : (b : Bool) → concat (cond b (firsts (lines text)) (firsts (lines text) ++ line ∷ [])) ≡ each_once text ++ cond b [] line
+    at : (b : Bool) → flat_map as_line (cond b (firsts (lines text)) (firsts (lines text) ++ line ∷ [])) ≡ each_once text ++ cond b [] (as_line line)
     at true = sym (append-nil _)
-    at false = concat-append (firsts (lines text)) (line ∷ []) ∙ ap (λ l. each_once text ++ l) (append-nil line)
+    at false = flat_map-append as_line (firsts (lines text)) (line ∷ []) ∙ ap (λ l. each_once text ++ l) (append-nil (as_line line))
 
 -- what further lines add stands behind what was there
 pub each_once_begins : (text more : List ℕ) → lines (text ++ more) ≡ lines text ++ lines more → (rest : List ℕ) × (each_once (text ++ more) ≡ each_once text ++ rest)
 each_once_begins text more split =
     let (rest, is) = firsts_begins (lines text) (lines more) in
-    (concat rest, ap (λ all. concat (firsts all)) split ∙ ap concat is ∙ concat-append (firsts (lines text)) rest)
+    (flat_map as_line rest, ap (λ all. flat_map as_line (firsts all)) split ∙ ap (flat_map as_line) is ∙ flat_map-append as_line (firsts (lines text)) rest)
 
 -- the bytes through the first newline are a line
 pub line_through : (rest : List ℕ) (n : ℕ) → IsNewline rest (Some n) → StopsAt (take (n + 1) rest) 10 × (0 < length (take (n + 1) rest)) × (ends_with_byte 10 (take (n + 1) rest) ≡ true)

@@ -1,5 +1,5 @@
 -- A run between two lines, and how it ends.
-use Rattle.std.proofs.Common.{◌≡◌, ℕ, ◌<◌, Bool, true, false, ◌||◌, List, [], ◌∷◌, ◌++◌, length, ap, sym, ◌∙◌, refl, if◌then◌else◌, subst, Option, None, Some, IfSome, Result, Ok, Err, OnOk, OnErr, append_assoc, ◌-◌, take, drop, take-append-drop, length-append, arith, Vec, Global}
+use Rattle.std.proofs.Common.{◌≡◌, ℕ, ◌<◌, Bool, true, false, ◌||◌, List, [], ◌∷◌, ◌++◌, length, ap, sym, ◌∙◌, refl, if◌then◌else◌, subst, Option, None, Some, IfSome, Result, Ok, Err, OnOk, OnErr, append_assoc, ◌-◌, take, drop, take-append-drop, length-append, arith}
 use Rattle.std.specs.Io.{StartsWith, StopsAt}
 use Rattle.std.specs.Io.BufRead.{ends_with_byte, strip_last}
 use Rattle.std.specs.Io.KnownBytes.{Consumes, Appends, Keeps}
@@ -12,7 +12,7 @@ use Rattle.std.proofs.Math.Seq.{take-append_seam}
 use Rattle.std.proofs.lemmas.List.{append-nil}
 use Rattle.std.proofs.lemmas.List.Folds.{list_any-append}
 use Rattle.dedup.specs.Between.{Between, BreaksOff, LeadsOn, after}
-use Rattle.dedup.specs.Lines.{lines, each_once}
+use Rattle.dedup.specs.Lines.{lines, as_line, each_once}
 use Rattle.dedup.specs.Running.{Run, WritesAll, WritesPart, Ends}
 use Rattle.dedup.specs.Tallies.{AllCounted, Tallies}
 use Rattle.dedup.specs.declared.run.Fault.{Fault}
@@ -35,10 +35,10 @@ split_off text whole line stops some = whole line ∙ ap (λ l. lines text ++ l)
 
 -- what the line adds
 adds : (run : Run) (seen : List ℕ → Bool) (before : Between run seen) (line : List ℕ) → StopsAt line 10 → 0 < length line
-    → each_once (before.text ++ line) ≡ each_once before.text ++ (if seen (strip_last 10 line) then [] else line)
+    → each_once (before.text ++ line) ≡ each_once before.text ++ (if seen (strip_last 10 line) then [] else as_line line)
 adds run seen before line stops some =
     each_once_more before.text line (split_off before.text before.whole line stops some)
-    ∙ ap (λ b. each_once before.text ++ (if b then [] else line)) (sym (before.is_seen (strip_last 10 line)))
+    ∙ ap (λ b. each_once before.text ++ (if b then [] else as_line line)) (sym (before.is_seen (strip_last 10 line)))
 
 -- what comes behind a line with its newline are other lines
 whole_more : (text : List ℕ) → ((more : List ℕ) → lines (text ++ more) ≡ lines text ++ lines more) → (line : List ℕ) → StopsAt line 10 → 0 < length line
@@ -50,7 +50,7 @@ whole_more text whole line stops some ended more =
 -- a whole line more
 pub between_more : (run : Run) (seen seen' : List ℕ → Bool) → Between run seen → (left written : Option (List ℕ)) (line : List ℕ)
     → Consumes run.left' left line → StopsAt line 10 → 0 < length line → ends_with_byte 10 line ≡ true
-    → Appends run.written' written (if seen (strip_last 10 line) then [] else line)
+    → Appends run.written' written (if seen (strip_last 10 line) then [] else as_line line)
     → ((other : List ℕ) → seen' other ≡ (bytes_eq other (strip_last 10 line) || seen other))
     → Between (after run left written) seen'
 between_more run seen seen' before left written line read stops some ended appends sees =
@@ -81,7 +81,7 @@ rest_is (Some x) (Some y) text line read all = read ∙ ap (λ l. text ++ l) all
 -- the last line has no newline
 pub all_at_line : (run : Run) (seen : List ℕ → Bool) → Between run seen → (left written : Option (List ℕ)) (line : List ℕ)
     → Consumes run.left' left line → StopsAt line 10 → 0 < length line → IfSome run.left' (λ bytes. bytes ≡ line)
-    → Appends run.written' written (if seen (strip_last 10 line) then [] else line)
+    → Appends run.written' written (if seen (strip_last 10 line) then [] else as_line line)
     → WritesAll each_once (after run left written)
 all_at_line run seen before left written line read stops some all appends = record {
   text = before.text ++ line;
@@ -139,7 +139,7 @@ part_between run seen before left = record {
 pub part_at_line : (run : Run) (seen : List ℕ → Bool) → Between run seen → (left written : Option (List ℕ)) (line : List ℕ)
     → Consumes run.left' left line → StopsAt line 10 → 0 < length line → (ended : Bool) → ended ≡ ends_with_byte 10 line
     → (ended ≡ false → IfSome run.left' (λ bytes. bytes ≡ line))
-    → (part rest : List ℕ) → part ++ rest ≡ (if seen (strip_last 10 line) then [] else line) → Appends run.written' written part
+    → (part rest : List ℕ) → part ++ rest ≡ (if seen (strip_last 10 line) then [] else as_line line) → Appends run.written' written part
     → WritesPart each_once (after run left written)
 part_at_line run seen before left written line read stops some ended is all part rest of appends = record {
   part = each_once before.text ++ part;
@@ -186,7 +186,7 @@ consumed_in_two (Some x) (Some z) part line read = (Some (line ++ z), read ∙ a
 
 -- a whole line more
 pub leads_further : (seen seen' seen'' : List ℕ → Bool) (written written' written'' : Option (List ℕ)) (part line : List ℕ) → LeadsOn part seen seen' written written'
-    → StopsAt line 10 → 0 < length line → ends_with_byte 10 line ≡ true → Appends written' written'' (if seen' (strip_last 10 line) then [] else line)
+    → StopsAt line 10 → 0 < length line → ends_with_byte 10 line ≡ true → Appends written' written'' (if seen' (strip_last 10 line) then [] else as_line line)
     → ((other : List ℕ) → seen'' other ≡ (bytes_eq other (strip_last 10 line) || seen' other))
     → LeadsOn (part ++ line) seen seen'' written written''
 leads_further seen seen' seen'' written written' written'' part line leads stops some ended appends sees = λ run same before left read.
@@ -203,6 +203,26 @@ pub leads_so_far : (seen seen' : List ℕ → Bool) (written written' : Option (
     → LeadsOn (take (length bytes - length rest) bytes) seen seen' written written'
 leads_so_far seen seen' written written' part rest bytes is leads = subst (λ text. LeadsOn text seen seen' written written') (sym (front_is part rest bytes is)) leads
 
+-- a flush changes nothing that was written
+pub leads_kept : (text : List ℕ) (seen seen' : List ℕ → Bool) (written written' flushed : Option (List ℕ)) → LeadsOn text seen seen' written written' → Keeps written' flushed → LeadsOn text seen seen' written flushed
+leads_kept text seen seen' written written' flushed leads keeps = λ run same before left read.
+    let between = leads run same before left read in
+    record {
+      text = between.text;
+      read = between.read;
+      whole = between.whole;
+      is_seen = between.is_seen;
+      written = Appends-kept _ _ _ _ between.written keeps;
+    }
+
+-- a fault behind whole lines
+pub part_behind : (seen seen' : List ℕ → Bool) (written written' start left' : Option (List ℕ)) (text : List ℕ) → LeadsOn text seen seen' written written' → Consumes start left' text
+    → (run : Run) → run.left' ≡ start → run.written' ≡ written → Between run seen → (left : Option (List ℕ)) → WritesPart each_once (after run left written')
+part_behind seen seen' written written' start left' text leads read run same_left same before left =
+    let read_on : Consumes run.left' left' text = subst (λ a. Consumes a left' text) (sym same_left) read in
+    let part = part_between (after run left' written') seen' (leads run same before left' read_on) left' in
+    record { part = part.part; written = part.written; begins = part.begins }
+
 -- known bytes that begin with some go on behind a part of them
 starts_behind : (a : Option (List ℕ)) (part rest : List ℕ) → IfSome a (λ bytes. StartsWith bytes (part ++ rest)) → (b : Option (List ℕ)) × Consumes a b part × IfSome b (λ bytes. StartsWith bytes rest)
 starts_behind None part rest starts = (None, tt, tt)
@@ -214,7 +234,7 @@ starts_behind (Some x) part rest starts =
 -- a fault at the write of a line
 pub breaks_at_line : (seen seen' : List ℕ → Bool) (written written' written'' : Option (List ℕ)) (part line later : List ℕ) → LeadsOn part seen seen' written written'
     → StopsAt line 10 → 0 < length line → ends_with_byte 10 line ≡ true
-    → (begun rest : List ℕ) → begun ++ rest ≡ (if seen' (strip_last 10 line) then [] else line) → Appends written' written'' begun
+    → (begun rest : List ℕ) → begun ++ rest ≡ (if seen' (strip_last 10 line) then [] else as_line line) → Appends written' written'' begun
     → BreaksOff (part ++ (line ++ later)) seen written written''
 breaks_at_line seen seen' written written' written'' part line later leads stops some ended begun rest of appends = λ run same before starts left.
     let (left', first, goes_on) = starts_behind run.left' part (line ++ later) starts in
@@ -225,18 +245,18 @@ breaks_at_line seen seen' written written' written'' part line later leads stops
 -- ---- lines that are counted
 
 -- the lines that were read are whole and counted
-pub record Counting (left left' : Option (List ℕ)) (entries : List (Vec ℕ Global × ℕ)) (times : List ℕ) : Type 0 where
+pub record Counting (left left' : Option (List ℕ)) (seen : List (List ℕ)) (times : List ℕ) : Type 0 where
   pub text : List ℕ
   pub read : Consumes left left' text
   pub whole : (more : List ℕ) → lines (text ++ more) ≡ lines text ++ lines more
-  pub counted : Tallies (lines text) entries times
+  pub counted : Tallies (lines text) seen times
 
-pub counting_start : (left : Option (List ℕ)) (entries : List (Vec ℕ Global × ℕ)) (times : List ℕ) → Tallies [] entries times → Counting left left entries times
-counting_start left entries times none = record { text = []; read = Consumes-nil left; whole = λ more. refl; counted = none }
+pub counting_start : (left : Option (List ℕ)) (seen : List (List ℕ)) (times : List ℕ) → Tallies [] seen times → Counting left left seen times
+counting_start left seen times none = record { text = []; read = Consumes-nil left; whole = λ more. refl; counted = none }
 
-module _ (left left' : Option (List ℕ)) (entries : List (Vec ℕ Global × ℕ)) (times : List ℕ) (before : Counting left left' entries times) (left'' : Option (List ℕ)) where
+module _ (left left' : Option (List ℕ)) (seen : List (List ℕ)) (times : List ℕ) (before : Counting left left' seen times) (left'' : Option (List ℕ)) where
   -- there is no further line
-  pub counted_at_end : Consumes left' left'' [] → IfSome left' (λ bytes. bytes ≡ []) → AllCounted left left'' entries times
+  pub counted_at_end : Consumes left' left'' [] → IfSome left' (λ bytes. bytes ≡ []) → AllCounted left left'' seen times
   counted_at_end read all = record {
     text = before.text;
     read = rw append-nil at (Consumes-trans _ _ _ _ _ before.read read);
@@ -244,13 +264,13 @@ module _ (left left' : Option (List ℕ)) (entries : List (Vec ℕ Global × ℕ
     tallies = before.counted;
   }
 
-  module _ (line : List ℕ) (read : Consumes left' left'' line) (stops : StopsAt line 10) (some : 0 < length line) (entries' : List (Vec ℕ Global × ℕ)) (times' : List ℕ)
-      (more : (ls : List (List ℕ)) → Tallies ls entries times → Tallies (ls ++ line ∷ []) entries' times') where
-    with_line : Tallies (lines (before.text ++ line)) entries' times'
-    with_line = subst (λ ls. Tallies ls entries' times') (sym (split_off before.text before.whole line stops some)) (more (lines before.text) before.counted)
+  module _ (line : List ℕ) (read : Consumes left' left'' line) (stops : StopsAt line 10) (some : 0 < length line) (seen' : List (List ℕ)) (times' : List ℕ)
+      (more : (ls : List (List ℕ)) → Tallies ls seen times → Tallies (ls ++ line ∷ []) seen' times') where
+    with_line : Tallies (lines (before.text ++ line)) seen' times'
+    with_line = subst (λ ls. Tallies ls seen' times') (sym (split_off before.text before.whole line stops some)) (more (lines before.text) before.counted)
 
     -- a whole line more
-    pub counting_more : ends_with_byte 10 line ≡ true → Counting left left'' entries' times'
+    pub counting_more : ends_with_byte 10 line ≡ true → Counting left left'' seen' times'
     counting_more ended = record {
       text = before.text ++ line;
       read = Consumes-trans _ _ _ _ _ before.read read;
@@ -259,7 +279,7 @@ module _ (left left' : Option (List ℕ)) (entries : List (Vec ℕ Global × ℕ
     }
 
     -- the last line has no newline
-    pub counted_at_line : IfSome left' (λ bytes. bytes ≡ line) → AllCounted left left'' entries' times'
+    pub counted_at_line : IfSome left' (λ bytes. bytes ≡ line) → AllCounted left left'' seen' times'
     counted_at_line all = record {
       text = before.text ++ line;
       read = Consumes-trans _ _ _ _ _ before.read read;

@@ -1,22 +1,15 @@
 -- Texts by their places, and how often each came.
-use Rattle.std.proofs.Common.{zero, suc, ◌≡◌, ℕ, ◌+◌, ◌<◌, Bool, true, false, cond, not, ◌||◌, List, [], ◌∷◌, ◌++◌, length, get_or, set, map, All, ap, sym, subst, ◌∙◌, refl, arith, None, Some, IfSome, Vec, Global, add-zero, zero-add}
+use Rattle.std.proofs.Common.{zero, suc, ◌≡◌, ℕ, ◌+◌, ◌<◌, Bool, true, false, cond, not, ◌||◌, List, [], ◌∷◌, ◌++◌, length, get_or, set, map, ap, sym, ◌∙◌, refl, arith, add-zero, zero-add}
 use Rattle.std.specs.Io.BufRead.{strip_last}
-use Rattle.std.specs.List.{filter, list_any, count_by, enumerate_from}
-use Rattle.std.specs.List.Sorted.{IsPermutation}
-use Rattle.std.specs.Map.{lookup, keys_of}
-use Rattle.std.specs.Option.{is_some, unwrap_or}
+use Rattle.std.specs.List.{filter, list_any, count_by}
 use Rattle.std.specs.Str.{bytes_eq}
-use Rattle.std.proofs.lemmas.Bool.{false≢true, or_parts}
+use Rattle.std.proofs.lemmas.Bool.{or_parts}
 use Rattle.std.proofs.lemmas.Cmp.{nat_list_eq_equiv}
-use Rattle.std.proofs.lemmas.List.{map-append, length-map, get_or-map, get_or_default}
-use Rattle.std.proofs.lemmas.List.Elements.{All-head, All-tail}
-use Rattle.std.proofs.lemmas.List.FromFn.{length-enumerate_from, get_or-enumerate_from}
-use Rattle.std.proofs.lemmas.List.Sorted.{list_any-IsPermutation, IsPermutation-map, IsPermutation-push_more, All-permutation}
+use Rattle.std.proofs.lemmas.List.{map-append, length-map, get_or-map}
 use Rattle.std.proofs.lemmas.List.Sums.{sum_by-append}
-use Rattle.std.proofs.lemmas.Map.Made.{is_some-lookup}
-use Rattle.std.proofs.lemmas.Map.Entries.{All-lookup}
 use Rattle.dedup.specs.Lines.{same_text, firsts}
-use Rattle.dedup.specs.Tallies.{texts, placed, Tallies}
+use Rattle.dedup.specs.Tallies.{texts, Tallies}
+use Rattle.hash_texts.specs.Texts.{StandsAt, has, with_text}
 use Rattle.dedup.proofs.LineLemmas.{firsts_with_new, firsts_with_seen, same_text-symm}
 
 -- ---- which lines have a text
@@ -151,82 +144,39 @@ counts_again ls line i seen below same =
 
 -- ---- the places of texts
 
-enumerate_more : (n : ℕ) (xs : List (List ℕ)) (x : List ℕ) → enumerate_from n (xs ++ x ∷ []) ≡ enumerate_from n xs ++ (n + length xs, x) ∷ []
-enumerate_more n [] x = ap (λ k. (k, x) ∷ []) (sym (add-zero n))
-enumerate_more n (y ∷ xs) x = ap (λ es. (n, y) ∷ es) (enumerate_more (n + 1) xs x ∙ ap (λ k. enumerate_from (n + 1) xs ++ (k, x) ∷ []) (omega arith))
-
-any_enumerated : (text : List ℕ) (n : ℕ) (xs : List (List ℕ)) → list_any (λ e. bytes_eq text e.1) (enumerate_from n xs) ≡ list_any (bytes_eq text) xs
-any_enumerated text n [] = refl
-any_enumerated text n (x ∷ xs) = ap (λ b. bytes_eq text x || b) (any_enumerated text (n + 1) xs)
-
 any_texts : (line : List ℕ) (ls : List (List ℕ)) → list_any (bytes_eq (strip_last 10 line)) (map (strip_last 10) ls) ≡ list_any (same_text line) ls
 any_texts line [] = refl
 any_texts line (x ∷ ls) = ap (λ b. same_text line x || b) (any_texts line ls)
 
-any_placed : (text : List ℕ) (entries : List (Vec ℕ Global × ℕ)) → list_any (λ e. bytes_eq text e.1) (placed entries) ≡ list_any (λ key. bytes_eq text key.items) (keys_of entries)
-any_placed text [] = refl
-any_placed text (e ∷ entries) = ap (λ b. bytes_eq text e.0.items || b) (any_placed text entries)
+module _ (ls : List (List ℕ)) (seen : List (List ℕ)) (times : List ℕ) (now : Tallies ls seen times) where
+  -- a line came before where the set has its text
+  came_before : (line : List ℕ) → list_any (same_text line) ls ≡ has seen (strip_last 10 line)
+  came_before line = sym (any_firsts line ls) ∙ sym (any_texts line (firsts ls)) ∙ ap (list_any (bytes_eq (strip_last 10 line))) (sym now.places)
 
-pub all_enumerated : (xs : List (List ℕ)) → All (λ e. (e.0 < length xs) × (get_or xs e.0 [] ≡ e.1)) (enumerate_from 0 xs)
-all_enumerated xs i d below =
-    let within : i < length xs = omega (arith, below, length-enumerate_from 0 xs) in
-    let is = get_or-enumerate_from 0 xs i d within in
-    subst (λ e. (e.0 < length xs) × (get_or xs e.0 [] ≡ e.1)) (sym is) (omega arith, ap (λ k. get_or xs k []) (zero-add i) ∙ get_or_default xs i [] d.1 within)
+  pub as_many : length seen ≡ length times
+  as_many = ap length now.places ∙ length-map (firsts ls) (strip_last 10) ∙ sym (ap length now.counts ∙ length-map (firsts ls) (λ line. count_by (same_text line) ls))
 
--- what holds of each place and text holds of what a look-up finds
-found_at : (P : ℕ → List ℕ → Type 0) (text : List ℕ) (entries : List (Vec ℕ Global × ℕ)) (place : ℕ) → All (λ e. P e.0 e.1) (placed entries)
-    → lookup (λ key. bytes_eq text key.items) entries ≡ Some place → (found : List ℕ) × (bytes_eq text found ≡ true) × P place found
-found_at P text [] place all found = absurd (false≢true (ap is_some found))
-found_at P text (e ∷ entries) place all found = at (bytes_eq text e.0.items) refl found (found_at P text entries place (All-tail (λ e. P e.0 e.1) _ _ all))
-  where
-    at : (b : Bool) → bytes_eq text e.0.items ≡ b → cond b (Some e.1) (lookup (λ key. bytes_eq text key.items) entries) ≡ Some place
-        → (lookup (λ key. bytes_eq text key.items) entries ≡ Some place → (found : List ℕ) × (bytes_eq text found ≡ true) × P place found)
-        → (found : List ℕ) × (bytes_eq text found ≡ true) × P place found
-    at true is found more = (e.0.items, is, subst (λ k. P k e.0.items) (ap (λ o. unwrap_or o 0) found) (All-head (λ e. P e.0 e.1) _ _ all))
-    at false is found more = more found
-
-module _ (ls : List (List ℕ)) (entries : List (Vec ℕ Global × ℕ)) (times : List ℕ) (now : Tallies ls entries times) where
-  -- a line's text was seen where the map has it
-  seen_where_found : (line : List ℕ) → list_any (same_text line) ls ≡ is_some (lookup (λ key. bytes_eq (strip_last 10 line) key.items) entries)
-  seen_where_found line =
-      sym (any_firsts line ls) ∙ sym (any_texts line (firsts ls)) ∙ sym (any_enumerated (strip_last 10 line) 0 (texts ls))
-      ∙ list_any-IsPermutation (λ e. bytes_eq (strip_last 10 line) e.1) (enumerate_from 0 (texts ls)) (placed entries) now.places
-      ∙ any_placed (strip_last 10 line) entries ∙ sym (is_some-lookup (λ key. bytes_eq (strip_last 10 line) key.items) entries)
-
-  pub as_many : length times ≡ length (texts ls)
-  as_many = ap length now.counts ∙ length-map (firsts ls) (λ line. count_by (same_text line) ls) ∙ sym (length-map (firsts ls) (strip_last 10))
-
-  -- what stands at a text's place
-  pub at_its_place : All (λ e. (e.0 < length (texts ls)) × (get_or (texts ls) e.0 [] ≡ e.1)) (placed entries)
-  at_its_place = All-permutation (λ e. (e.0 < length (texts ls)) × (get_or (texts ls) e.0 [] ≡ e.1)) (enumerate_from 0 (texts ls)) (placed entries) now.places (all_enumerated (texts ls))
-
-  pub tallies_new : (line : List ℕ) (key : Vec ℕ Global) (n : ℕ) (more : List (Vec ℕ Global × ℕ)) → lookup (λ k. bytes_eq (strip_last 10 line) k.items) entries ≡ None
-      → key.items ≡ strip_last 10 line → n ≡ length times → IsPermutation ((key, n) ∷ entries) more → Tallies (ls ++ line ∷ []) more (times ++ 1 ∷ [])
-  tallies_new line key n more absent is place puts =
-      let new : list_any (same_text line) ls ≡ false = seen_where_found line ∙ ap is_some absent in
-      let firsts_now : firsts (ls ++ line ∷ []) ≡ firsts ls ++ line ∷ [] = firsts_with_new ls line new in
-      let texts_now : texts (ls ++ line ∷ []) ≡ texts ls ++ strip_last 10 line ∷ [] = ap (map (strip_last 10)) firsts_now ∙ map-append (strip_last 10) (firsts ls) (line ∷ []) in
-      let pair : (n, key.items) ≡ (0 + length (texts ls), strip_last 10 line) = ap (λ k. (k, key.items)) (place ∙ as_many ∙ sym (zero-add (length (texts ls)))) ∙ ap (λ t. (0 + length (texts ls), t)) is in
+  pub tallies_new : (line : List ℕ) (more : List (List ℕ)) → has seen (strip_last 10 line) ≡ false → more ≡ with_text seen (strip_last 10 line) → Tallies (ls ++ line ∷ []) more (times ++ 1 ∷ [])
+  tallies_new line more absent is =
+      let new : list_any (same_text line) ls ≡ false = came_before line ∙ absent in
+      let texts_now : texts (ls ++ line ∷ []) ≡ texts ls ++ strip_last 10 line ∷ [] =
+      ap (map (strip_last 10)) (firsts_with_new ls line new) ∙ map-append (strip_last 10) (firsts ls) (line ∷ []) in
       record {
-        places = subst (λ es. IsPermutation es (placed more)) (ap (λ p. enumerate_from 0 (texts ls) ++ p ∷ []) pair ∙ sym (ap (enumerate_from 0) texts_now ∙ enumerate_more 0 (texts ls) (strip_last 10 line)))
-            (IsPermutation-push_more _ _ _ (n, key.items) now.places (IsPermutation-map (λ e. (e.1, e.0.items)) _ _ puts));
+        places = is ∙ ap (λ b. cond b seen (seen ++ strip_last 10 line ∷ [])) absent ∙ ap (λ s. s ++ strip_last 10 line ∷ []) now.places ∙ sym texts_now;
         counts = ap (λ ns. ns ++ 1 ∷ []) now.counts ∙ sym (counts_new ls line new);
       }
 
-  pub tallies_again : (line : List ℕ) (place : ℕ) → lookup (λ k. bytes_eq (strip_last 10 line) k.items) entries ≡ Some place
-      → Tallies (ls ++ line ∷ []) entries (set times place (get_or times place 0 + 1))
-  tallies_again line place found =
-      let seen : list_any (same_text line) ls ≡ true = seen_where_found line ∙ ap is_some found in
-      let firsts_now : firsts (ls ++ line ∷ []) ≡ firsts ls = firsts_with_seen ls line seen in
-      let (text, same, there_is) = found_at (λ k t. (k < length (texts ls)) × (get_or (texts ls) k [] ≡ t)) (strip_last 10 line) entries place at_its_place found in
-      let within : place < length (firsts ls) = omega (arith, there_is.0, length-map (firsts ls) (strip_last 10)) in
-      let there : same_text line (get_or (firsts ls) place []) ≡ true =
-      ap (bytes_eq (strip_last 10 line)) (sym (get_or-map (strip_last 10) (firsts ls) place [] [] within) ∙ there_is.1) ∙ same in
+  pub tallies_again : (line : List ℕ) (more : List (List ℕ)) (place : ℕ) → has seen (strip_last 10 line) ≡ true → more ≡ with_text seen (strip_last 10 line)
+      → StandsAt more (strip_last 10 line) place → Tallies (ls ++ line ∷ []) more (set times place (get_or times place 0 + 1))
+  tallies_again line more place there is stands =
+      let before : list_any (same_text line) ls ≡ true = came_before line ∙ there in
+      let firsts_now : firsts (ls ++ line ∷ []) ≡ firsts ls = firsts_with_seen ls line before in
+      let same : more ≡ texts ls = is ∙ ap (λ b. cond b seen (seen ++ strip_last 10 line ∷ [])) there ∙ now.places in
+      let within : place < length (firsts ls) = omega (arith, stands.0, ap length same, length-map (firsts ls) (strip_last 10)) in
+      let its_text : strip_last 10 (get_or (firsts ls) place []) ≡ strip_last 10 line =
+      sym (get_or-map (strip_last 10) (firsts ls) place [] [] within) ∙ ap (λ s. get_or s place []) (sym same) ∙ stands.1 in
       record {
-        places = subst (λ xs. IsPermutation (enumerate_from 0 (map (strip_last 10) xs)) (placed entries)) (sym firsts_now) now.places;
-        counts = ap (λ ns. set ns place (get_or ns place 0 + 1)) now.counts ∙ sym (counts_again ls line place seen within there);
+        places = same ∙ ap (map (strip_last 10)) (sym firsts_now);
+        counts = ap (λ ns. set ns place (get_or ns place 0 + 1)) now.counts
+            ∙ sym (counts_again ls line place before within (ap (bytes_eq (strip_last 10 line)) its_text ∙ nat_list_eq_equiv.refl (strip_last 10 line)));
       }
-
--- a text that the map has has a place below the count of places
-pub found_below : (test : Vec ℕ Global → Bool) (entries : List (Vec ℕ Global × ℕ)) (place count : ℕ) → All (λ e. e.1 < count) entries → lookup test entries ≡ Some place → place < count
-found_below test entries place count all found = subst (λ o. IfSome o (λ k. k < count)) found (All-lookup (λ k. k < count) test entries all)

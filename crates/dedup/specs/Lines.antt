@@ -1,8 +1,9 @@
 -- The lines of a text, and what the program makes of them.
-use Rattle.std.specs.Prelude.{ℕ, ◌==◌, if◌then◌else◌, Bool, not, List, [], ◌∷◌}
+use Rattle.std.specs.Prelude.{ℕ, ◌==◌, ◌++◌, if◌then◌else◌, Bool, not, List, [], ◌∷◌}
 use Rattle.std.specs.Io.BufRead.{strip_last}
-use Rattle.std.specs.List.{filter, concat, list_any, onto_first}
+use Rattle.std.specs.List.{filter, flat_map, onto_first}
 use Rattle.std.specs.Str.{bytes_eq}
+use Rattle.hash_texts.specs.Texts.{has}
 
 -- the lines, each through its newline; the last may have none
 abbrev pub lines : List ℕ → List (List ℕ)
@@ -18,14 +19,14 @@ abbrev pub firsts : List (List ℕ) → List (List ℕ)
 firsts [] = []
 firsts (line ∷ more) = line ∷ filter (λ other. not (same_text line other)) (firsts more)
 
--- each line of a text once, where it came first
-abbrev pub each_once : List ℕ → List ℕ
-each_once text = concat (firsts (lines text))
+-- the text of a line, and a newline behind it
+abbrev pub as_line : List ℕ → List ℕ
+as_line line = strip_last 10 line ++ 10 ∷ []
 
--- whether a text is among these
-abbrev pub has : List (List ℕ) → List ℕ → Bool
-has seen text = list_any (bytes_eq text) seen
+-- each line of a text once, where it came first, with a newline behind it
+abbrev pub each_once : List ℕ → List ℕ
+each_once text = flat_map as_line (firsts (lines text))
 
 -- what is written of a line behind lines of which these are the texts
 abbrev pub if_new : List (List ℕ) → List ℕ → List ℕ
-if_new seen line = if has seen (strip_last 10 line) then [] else line
+if_new seen line = if has seen (strip_last 10 line) then [] else as_line line

@@ -16,13 +16,14 @@ use Rattle.dedup.specs.declared.outcome.Outcome.{Outcome}
 use Rattle.dedup.specs.declared.outcome.Outcome.TheVariants.{Done, Helped, Usage, NoMemory, Failed}
 use Rattle.dedup.specs.declared.outcome.Task.{Task}
 use Rattle.dedup.specs.declared.outcome.Task.TheVariants.{Once, Tallied, Help}
-use Rattle.dedup.specs.declared.tally.Which.TheVariants.{Counted, Repeated}
+use Rattle.dedup.specs.declared.tally.Which.TheVariants.{Counted, Repeated, Unique}
 
 -- what one word asks for
 abbrev pub task_named : List ℕ → Option Task
 task_named word =
     if bytes_eq word (codes "-c") then Some (Tallied Counted) else
     if bytes_eq word (codes "-d") then Some (Tallied Repeated) else
+    if bytes_eq word (codes "-u") then Some (Tallied Unique) else
     if bytes_eq word (codes "--help") then Some Help else None
 
 -- what the words behind the program's own name ask for

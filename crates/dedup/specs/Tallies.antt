@@ -1,14 +1,11 @@
 -- What the program writes of lines that it has counted.
-use Rattle.std.specs.Prelude.{ℕ, ◌≡◌, ◌-◌, ◌++◌, if◌then◌else◌, nat_lt, List, [], ◌∷◌, Option, IfSome, length, map, decimal}
+use Rattle.std.specs.Prelude.{ℕ, ◌≡◌, ◌==◌, ◌-◌, ◌++◌, if◌then◌else◌, nat_lt, List, [], ◌∷◌, Option, IfSome, length, map, decimal}
 use Rattle.std.specs.Io.BufRead.{strip_last}
 use Rattle.std.specs.Io.KnownBytes.{Consumes}
-use Rattle.std.specs.List.{count_by, enumerate_from, flat_map, repeat}
-use Rattle.std.specs.List.Sorted.{IsPermutation}
-use Rattle.std.specs.declared.alloc.Global.{Global}
-use Rattle.std.specs.declared.vec.Vec.{Vec}
+use Rattle.std.specs.List.{count_by, flat_map, repeat}
 use Rattle.dedup.specs.Lines.{lines, same_text, firsts}
 use Rattle.dedup.specs.declared.tally.Which.{Which}
-use Rattle.dedup.specs.declared.tally.Which.TheVariants.{Counted, Repeated}
+use Rattle.dedup.specs.declared.tally.Which.TheVariants.{Counted, Repeated, Unique}
 
 -- a number on the right of a column of seven, and a space
 abbrev pub column : ℕ → List ℕ
@@ -18,12 +15,13 @@ column n = repeat (7 - length (decimal n)) (32 ∷ []) ++ (decimal n ++ 32 ∷ [
 abbrev pub shown : Which → ℕ → List ℕ → List ℕ
 shown Counted times text = column times ++ (text ++ 10 ∷ [])
 shown Repeated times text = if nat_lt 1 times then text ++ 10 ∷ [] else []
+shown Unique times text = if times == 1 then text ++ 10 ∷ [] else []
 
 -- what is written of one of these lines
 abbrev pub shown_line : Which → (ls : List (List ℕ)) → List ℕ → List ℕ
 shown_line which ls line = shown which (count_by (same_text line) ls) (strip_last 10 line)
 
--- what is written of lines: each with how often it came, or those that came more than once, in the order in which they came first
+-- what is written of lines: each with how often it came, those that came more than once, or those that came once, in the order in which they came first
 abbrev pub told : Which → List (List ℕ) → List ℕ
 told which ls = flat_map (shown_line which ls) (firsts ls)
 
@@ -35,18 +33,14 @@ tallied which text = told which (lines text)
 abbrev pub texts : List (List ℕ) → List (List ℕ)
 texts ls = map (strip_last 10) (firsts ls)
 
--- the text and the place of each entry
-abbrev pub placed : List (Vec ℕ Global × ℕ) → List (ℕ × List ℕ)
-placed entries = map (λ entry. (entry.1, entry.0.items)) entries
-
--- a map has the place of each text among the first lines, and a list how often the text at each place came
-pub record Tallies (ls : List (List ℕ)) (entries : List (Vec ℕ Global × ℕ)) (times : List ℕ) : Type 0 where
-  pub places : IsPermutation (enumerate_from 0 (texts ls)) (placed entries)
+-- the texts of the lines in their order, and how often the text at each place came
+pub record Tallies (ls : List (List ℕ)) (seen : List (List ℕ)) (times : List ℕ) : Type 0 where
+  pub places : seen ≡ texts ls
   pub counts : times ≡ map (λ line. count_by (same_text line) ls) (firsts ls)
 
 -- all was read, and its lines are counted
-pub record AllCounted (left left' : Option (List ℕ)) (entries : List (Vec ℕ Global × ℕ)) (times : List ℕ) : Type 0 where
+pub record AllCounted (left left' : Option (List ℕ)) (seen : List (List ℕ)) (times : List ℕ) : Type 0 where
   pub text : List ℕ
   pub read : Consumes left left' text
   pub all : IfSome left (λ bytes. bytes ≡ text)
-  pub tallies : Tallies (lines text) entries times
+  pub tallies : Tallies (lines text) seen times

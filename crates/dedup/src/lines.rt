@@ -1,5 +1,5 @@
 //! Reads and writes lines, and tells which are new.
-ghost use Rattle.std.specs.Prelude.{◌≡◌, ◌≤◌, ◌||◌, ℕ, List, Option, length, take, IfSome, IfOk, OnOk, OnErr, false, ◌+◌, ◌==◌, not};
+ghost use Rattle.std.specs.Prelude.{◌≡◌, ◌≤◌, ◌||◌, ◌++◌, ◌∷◌, [], ℕ, List, Option, length, take, IfSome, IfOk, OnOk, OnErr, false, ◌+◌, ◌==◌, not};
 ghost use Rattle.std.specs.Io.{StopsAt};
 ghost use Rattle.std.specs.Io.BufRead.{ends_with_byte, strip_last};
 ghost use Rattle.std.specs.Io.KnownBytes.{Consumes, Appends, Keeps};
@@ -7,12 +7,13 @@ ghost use Rattle.std.specs.List.{prefix_len};
 ghost use Rattle.std.specs.Simd.Lanes.{chunk};
 ghost use Rattle.std.specs.Str.{bytes_eq};
 ghost use Rattle.dedup.specs.Between.{Between, BreaksOff, IsNewline, LeadsOn, after};
-ghost use Rattle.dedup.specs.Lines.{each_once, has, if_new};
+ghost use Rattle.dedup.specs.Lines.{each_once, if_new};
+ghost use Rattle.hash_texts.specs.Texts.{has};
 ghost use Rattle.dedup.specs.Running.{AppendsPart, Run, WritesPart};
 
 use crate::run::Fault;
-use crate::texts::Texts;
-use hashers::laws::Piecewise;
+use hash_texts::Texts;
+use std::hash::BuildHasher;
 use std::io::{BufRead, ErrorKind, Write};
 use std::simd::prelude::*;
 
@@ -68,11 +69,20 @@ pub fn put<W: Write>(w: &mut W, bytes: &[u8]) -> Result<(), Fault>
     Ok(())
 }
 
-/// Writes the line if its text is new, and takes the text into the set. After a fault a beginning of the line was
-/// written, if it is new.
+/// Writes a text and a newline. After a fault a beginning of that was written.
+pub fn put_line<W: Write>(w: &mut W, text: &[u8]) -> Result<(), Fault>
+    ensures ok { OnOk result (Appends (W.contents w.old) (W.contents w.new) (text.now ++ 10 ∷ [])) }
+    ensures err { OnErr result (AppendsPart (W.contents w.old) (W.contents w.new) (text.now ++ 10 ∷ [])) }
+{
+    put(w, text)?;
+    put(w, b"\n")
+}
+
+/// Writes the text of the line and a newline if it is new, and takes it into the set. After a fault a beginning of that
+/// was written, if it is new.
 #[inline(always)]
-pub fn write_new<H: Piecewise, W: Write>(
-    seen: &mut Texts<H>,
+pub fn write_new<S: BuildHasher + Drop, W: Write>(
+    seen: &mut Texts<S>,
     line: &[u8],
     w: &mut W,
 ) -> Result<(), Fault>
@@ -82,10 +92,37 @@ pub fn write_new<H: Piecewise, W: Write>(
         ≡ (bytes_eq other (strip_last 10 line.now) || has seen.old other)) }
     ensures begun { OnErr result (AppendsPart (W.contents w.old) (W.contents w.new) (if_new seen.old line.now)) }
 {
-    if seen.see(text_of(line))? {
-        put(w, line)?;
+    let text = text_of(line);
+    if seen.see(text)?.is_new {
+        put_line(w, text)?;
     }
     Ok(())
+}
+
+/// Does the same, and flushes, so that the line is there before the next one is read.
+pub fn write_at_once<S: BuildHasher + Drop, W: Write>(
+    seen: &mut Texts<S>,
+    line: &[u8],
+    w: &mut W,
+) -> Result<(), Fault>
+    ensures written { OnOk result (Appends (W.contents w.old) (W.contents w.new)
+        (if_new seen.old line.now)) }
+    ensures seen { OnOk result ((other : List ℕ) → has seen.new other
+        ≡ (bytes_eq other (strip_last 10 line.now) || has seen.old other)) }
+    ensures begun { OnErr result (AppendsPart (W.contents w.old) (W.contents w.new) (if_new seen.old line.now)) }
+{
+    write_new(seen, line, w)?;
+    finish(w)
+}
+
+/// Flushes the writer.
+pub fn finish<W: Write>(w: &mut W) -> Result<(), Fault>
+    ensures { Keeps (W.contents w.old) (W.contents w.new) }
+{
+    match w.flush() {
+        Ok(()) => Ok(()),
+        Err(error) => Err(Fault::Write(Some(error))),
+    }
 }
 
 /// How many of the 16 bytes from a place on come before the first newline among them.
@@ -125,8 +162,8 @@ fn newline(bytes: &[u8]) -> Option<usize>
 
 /// Writes those of the first lines whose texts are new, up to so many, and takes their texts into the set. Answers how
 /// many lines it took, each with its newline, and how many bytes they have together.
-fn write_lines<H: Piecewise, W: Write>(
-    seen: &mut Texts<H>,
+fn write_lines<S: BuildHasher + Drop, W: Write>(
+    seen: &mut Texts<S>,
     bytes: &[u8],
     most: u64,
     w: &mut W,
@@ -152,9 +189,9 @@ fn write_lines<H: Piecewise, W: Write>(
 }
 
 /// Does the same with the lines that lie whole in the reader's buffer, which take no copy. Where the buffer is empty,
-/// it reads.
-pub fn write_buffered<H: Piecewise, R: BufRead, W: Write>(
-    seen: &mut Texts<H>,
+/// it reads. Then it flushes, since the next read may wait.
+pub fn write_buffered<S: BuildHasher + Drop, R: BufRead, W: Write>(
+    seen: &mut Texts<S>,
     r: &mut R,
     most: u64,
     w: &mut W,
@@ -177,15 +214,6 @@ pub fn write_buffered<H: Piecewise, R: BufRead, W: Write>(
     };
     let (lines, len) = write_lines(seen, available, most, w)?;
     r.consume(len);
+    finish(w)?;
     Ok(lines)
-}
-
-/// Flushes the writer.
-pub fn finish<W: Write>(w: &mut W) -> Result<(), Fault>
-    ensures { Keeps (W.contents w.old) (W.contents w.new) }
-{
-    match w.flush() {
-        Ok(()) => Ok(()),
-        Err(error) => Err(Fault::Write(Some(error))),
-    }
 }

@@ -1,5 +1,5 @@
 //! `dedup` writes each line of its input once, where it came first. `dedup -c` writes at the end each line behind how
-//! often it came, and `dedup -d` those that came more than once.
+//! often it came, `dedup -d` those that came more than once, and `dedup -u` those that came once.
 #![tactic(auto)]
 
 mod lines;
@@ -8,21 +8,24 @@ mod run;
 mod tally;
 #[cfg(test)]
 mod tests;
-mod texts;
 
-use hashers::fnv::FNV1aHasher64;
 use outcome::{Outcome, USAGE, outcome_line, outcome_of, outcome_status};
+use std::hash::RandomState;
 use std::io::{BufReader, BufWriter};
 use std::process::ExitCode;
 use std::{env, io};
 
+/// How many bytes a read may bring, and how many are written at once.
+const BUFFER: usize = 65536;
+
 /// What came of the call, over standard input and output.
 fn called(rt: &HostRuntime) -> io::Result<Outcome> {
     let alloc = rt.alloc();
-    let mut input = BufReader::new(alloc, rt.stdin())?;
-    let mut output = BufWriter::new(alloc, rt.stdout())?;
+    let hasher = RandomState::new(rt)?;
+    let mut input = BufReader::with_capacity(alloc, BUFFER, rt.stdin())?;
+    let mut output = BufWriter::with_capacity(alloc, BUFFER, rt.stdout())?;
     let args = env::args(rt);
-    Ok(outcome_of::<FNV1aHasher64, _, _>(alloc, args, u64::MAX, &mut input, &mut output))
+    Ok(outcome_of(alloc, hasher, args, u64::MAX, &mut input, &mut output))
 }
 
 fn main(rt: HostRuntime) -> ExitCode {

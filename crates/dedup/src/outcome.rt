@@ -7,9 +7,9 @@ ghost use Rattle.dedup.specs.Status.{complaint_of, status_of};
 
 use crate::run::{Fault, dedup};
 use crate::tally::{Which, tally};
-use hashers::laws::Piecewise;
 use std::alloc::Global;
 use std::env::Args;
+use std::hash::BuildHasher;
 use std::io;
 use std::io::{BufRead, ErrorKind, Write};
 
@@ -45,6 +45,7 @@ fn task_named(word: &str) -> Option<Task>
     match word {
         "-c" => Some(Task::Tallied(Which::Counted)),
         "-d" => Some(Task::Tallied(Which::Repeated)),
+        "-u" => Some(Task::Tallied(Which::Unique)),
         "--help" => Some(Task::Help),
         _ => None,
     }
@@ -65,8 +66,9 @@ fn task_of(args: Args) -> Option<Task>
 
 /// Does what the arguments ask for, as the system gives them, over at most `limit` lines. Where they are wrong, or there
 /// was no memory for them, nothing is read or written.
-pub fn outcome_of<H: Piecewise, R: BufRead, W: Write>(
+pub fn outcome_of<S: BuildHasher + Drop, R: BufRead, W: Write>(
     alloc: Global,
+    hasher: S,
     args: io::Result<Args>,
     limit: u64,
     r: &mut R,
@@ -76,11 +78,11 @@ pub fn outcome_of<H: Piecewise, R: BufRead, W: Write>(
 {
     match args {
         Ok(args) => match task_of(args) {
-            Some(Task::Once) => match dedup::<H, R, W>(alloc, limit, r, w) {
+            Some(Task::Once) => match dedup(alloc, hasher, limit, r, w) {
                 Ok(()) => Outcome::Done,
                 Err(fault) => Outcome::Failed(fault),
             },
-            Some(Task::Tallied(which)) => match tally::<H, R, W>(alloc, which, limit, r, w) {
+            Some(Task::Tallied(which)) => match tally(alloc, hasher, which, limit, r, w) {
                 Ok(()) => Outcome::Done,
                 Err(fault) => Outcome::Failed(fault),
             },
@@ -95,7 +97,7 @@ pub fn outcome_of<H: Piecewise, R: BufRead, W: Write>(
 }
 
 /// How the program is called.
-pub const USAGE: &str = "usage: dedup [-c | -d | --help]\n";
+pub const USAGE: &str = "usage: dedup [-c | -d | -u | --help]\n";
 
 /// What the program says on standard error, with its newline; nothing where all went well.
 pub fn outcome_line(outcome: &Outcome) -> &'static str
@@ -108,6 +110,7 @@ pub fn outcome_line(outcome: &Outcome) -> &'static str
         Outcome::Failed(Fault::Read(_)) => "dedup: read fault\n",
         Outcome::Failed(Fault::Write(_)) => "dedup: write fault\n",
         Outcome::Failed(Fault::TooManyLines) => "dedup: too many lines\n",
+        Outcome::Failed(Fault::TooManyTexts) => "dedup: too many different lines\n",
     }
 }
 

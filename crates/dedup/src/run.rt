@@ -3,10 +3,10 @@ ghost use Rattle.std.specs.Prelude.{◌≡◌, []};
 ghost use Rattle.dedup.specs.Lines.{each_once};
 ghost use Rattle.dedup.specs.Running.{Ends, run_of};
 
-use crate::lines::{finish, read_line, write_buffered, write_new};
-use crate::texts::Texts;
-use hashers::laws::Piecewise;
+use crate::lines::{finish, read_line, write_at_once, write_buffered};
+use hash_texts::{Full, Texts};
 use std::alloc::{AllocError, Global};
+use std::hash::BuildHasher;
 use std::io::{BufRead, Error, Write};
 
 /// Why a run ended before its output was whole. What was written by then is a beginning of it.
@@ -20,6 +20,8 @@ pub enum Fault {
     NoMemory,
     /// There were more lines than the limit.
     TooManyLines,
+    /// There were 2^32 - 1 texts.
+    TooManyTexts,
 }
 
 impl From<AllocError> for Fault {
@@ -28,9 +30,18 @@ impl From<AllocError> for Fault {
     }
 }
 
+impl From<Full> for Fault {
+    fn from(full: Full) -> Fault {
+        match full {
+            Full::NoMemory => Fault::NoMemory,
+            Full::TooManyTexts => Fault::TooManyTexts,
+        }
+    }
+}
+
 /// Writes each line of the input once, where it came first. `line` is room for one.
-fn write_each<H: Piecewise, R: BufRead, W: Write>(
-    seen: &mut Texts<H>,
+fn write_each<S: BuildHasher + Drop, R: BufRead, W: Write>(
+    seen: &mut Texts<S>,
     line: &mut Vec<u8>,
     limit: u64,
     r: &mut R,
@@ -46,7 +57,7 @@ fn write_each<H: Piecewise, R: BufRead, W: Write>(
         if line.is_empty() {
             return Ok(());
         }
-        write_new(seen, line, w)?;
+        write_at_once(seen, line, w)?;
         if !ended {
             return Ok(());
         }
@@ -56,15 +67,16 @@ fn write_each<H: Piecewise, R: BufRead, W: Write>(
 }
 
 /// Writes each line of the input once, where it came first, and flushes.
-pub fn dedup<H: Piecewise, R: BufRead, W: Write>(
+pub fn dedup<S: BuildHasher + Drop, R: BufRead, W: Write>(
     alloc: Global,
+    hasher: S,
     limit: u64,
     r: &mut R,
     w: &mut W,
 ) -> Result<(), Fault>
     ensures { Ends each_once (run_of R.remaining r.old r.new W.contents w.old w.new) result }
 {
-    let mut seen = Texts::<H>::new(alloc);
+    let mut seen = Texts::new(alloc, hasher);
     let mut line = Vec::new(alloc);
     write_each(&mut seen, &mut line, limit, r, w)?;
     finish(w)

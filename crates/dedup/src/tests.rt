@@ -2,7 +2,7 @@
 use crate::outcome::{Outcome, USAGE, outcome_line, outcome_of, outcome_status};
 use crate::run::{Fault, dedup};
 use crate::tally::{Which, tally};
-use crate::texts::Texts;
+use hash_texts::Texts;
 use hashers::build::BuildFresh;
 use hashers::fnv::FNV1aHasher64;
 use hashers::jenkins::Lookup3Hasher;
@@ -144,8 +144,9 @@ fn status(outcome: &Outcome) -> End {
 /// Runs the program over a text, read and written so many bytes at a time, onto this paper.
 fn run<H: Piecewise>(alloc: Global, words: &[&str], r: Script<'_>, w: &mut Paper) -> End {
     match BufReader::with_capacity(alloc, 8, r) {
-        Ok(mut reader) => status(&outcome_of::<H, _, _>(
+        Ok(mut reader) => status(&outcome_of(
             alloc,
+            BuildFresh::<H>::new(),
             args(alloc, words),
             40,
             &mut reader,
@@ -169,36 +170,46 @@ fn ends<H: Piecewise>(
     same(rt, w.line(), output);
 }
 
-/// A text, and what the program writes of it with no argument, with `-c` and with `-d`.
-const CASES: [(&[u8], &[u8], &[u8], &[u8]); 9] = [
-    (b"", b"", b"", b""),
-    (b"\n", b"\n", b"      1 \n", b""),
-    (b"a", b"a", b"      1 a\n", b""),
-    (b"a\n", b"a\n", b"      1 a\n", b""),
-    (b"a\nb\na\n", b"a\nb\n", b"      2 a\n      1 b\n", b"a\n"),
+/// A text, and what the program writes of it with no argument, with `-c`, with `-d` and with `-u`.
+const CASES: [(&[u8], &[u8], &[u8], &[u8], &[u8]); 9] = [
+    (b"", b"", b"", b"", b""),
+    (b"\n", b"\n", b"      1 \n", b"", b"\n"),
+    (b"a", b"a\n", b"      1 a\n", b"", b"a\n"),
+    (b"a\n", b"a\n", b"      1 a\n", b"", b"a\n"),
+    (
+        b"a\nb\na\n",
+        b"a\nb\n",
+        b"      2 a\n      1 b\n",
+        b"a\n",
+        b"b\n",
+    ),
     (
         b"b\na\n\na\n\nb",
         b"b\na\n\n",
         b"      2 b\n      2 a\n      2 \n",
         b"b\na\n\n",
+        b"",
     ),
     (
         b"a\nb\nab",
-        b"a\nb\nab",
+        b"a\nb\nab\n",
         b"      1 a\n      1 b\n      1 ab\n",
         b"",
+        b"a\nb\nab\n",
     ),
     (
         b"\0\n\0\0\n\0\n",
         b"\0\n\0\0\n",
         b"      2 \0\n      1 \0\0\n",
         b"\0\n",
+        b"\0\0\n",
     ),
     (
         b"a\r\na\n\xff\na\r\n",
         b"a\r\na\n\xff\n",
         b"      2 a\r\n      1 a\n      1 \xff\n",
         b"a\r\n",
+        b"a\n\xff\n",
     ),
 ];
 
@@ -225,15 +236,16 @@ fn writes<H: Piecewise>(
 
 /// Each case through a reader and a writer of so many bytes a call.
 fn writes_each_case<H: Piecewise>(rt: &impl Abort, alloc: Global, most: usize) {
-    for (text, once, counted, repeated) in &CASES {
+    for (text, once, counted, repeated, unique) in &CASES {
         writes::<H>(rt, alloc, &[], text, most, once);
         writes::<H>(rt, alloc, &["-c"], text, most, counted);
         writes::<H>(rt, alloc, &["-d"], text, most, repeated);
+        writes::<H>(rt, alloc, &["-u"], text, most, unique);
     }
 }
 
 #[test]
-fn lines_come_once_counted_and_repeated(rt: HostRuntime) {
+fn lines_come_once_counted_repeated_and_unique(rt: HostRuntime) {
     writes_each_case::<Lookup3Hasher>(&rt, rt.alloc(), 64);
 }
 
@@ -247,11 +259,10 @@ const TEXT: &[u8] = b"b\na\nb\na\nc\n";
 
 const ONCE: &[u8] = b"b\na\nc\n";
 
+const COUNTED: &[u8] = b"      2 b\n      2 a\n      1 c\n";
+
 /// What is written of it with no argument and with `-c`.
-const OUTPUTS: [(&[&str], &[u8]); 2] = [
-    (&[], ONCE),
-    (&["-c"], b"      2 b\n      2 a\n      1 c\n"),
-];
+const OUTPUTS: [(&[&str], &[u8]); 2] = [(&[], ONCE), (&["-c"], COUNTED)];
 
 #[test]
 fn a_read_fails_at_each_byte(rt: HostRuntime) {
@@ -277,9 +288,12 @@ fn a_write_fails_at_each_byte(rt: HostRuntime) {
     }
 }
 
+/// What is written before the first flush, which comes behind the lines of a buffer of 8 bytes, or at the end.
+const FLUSHED: [(&[&str], &[u8]); 2] = [(&[], b"b\na\n"), (&["-c"], COUNTED)];
+
 #[test]
 fn a_flush_fails(rt: HostRuntime) {
-    for (words, output) in &OUTPUTS {
+    for (words, output) in &FLUSHED {
         let mut paper = Paper::new(64, usize::MAX);
         paper.flush_fails = true;
         let script = Script::new(TEXT, 64);
@@ -315,8 +329,9 @@ fn arguments_that_are_not_there(rt: HostRuntime) {
         let mut reader = TEXT;
         let mut paper = Paper::new(64, usize::MAX);
         let error = Err(io::Error::from(kind));
-        let outcome = outcome_of::<NullHasher, _, _>(
+        let outcome = outcome_of(
             rt.alloc(),
+            BuildFresh::<NullHasher>::new(),
             error,
             40,
             &mut reader,
@@ -336,11 +351,18 @@ fn met(end: &Result<(), Fault>) -> (bool, bool) {
 fn more_lines_than_the_limit(rt: HostRuntime) {
     for (limit, fits) in [(5, false), (6, true)] {
         let mut paper = Paper::new(64, usize::MAX);
-        let once = dedup::<NullHasher, _, _>(rt.alloc(), limit, &mut &TEXT[..], &mut paper);
+        let once = dedup(
+            rt.alloc(),
+            BuildFresh::<NullHasher>::new(),
+            limit,
+            &mut &TEXT[..],
+            &mut paper,
+        );
         let mut paper = Paper::new(64, usize::MAX);
         let which = Which::Counted;
-        let counted = tally::<NullHasher, _, _>(
+        let counted = tally(
             rt.alloc(),
+            BuildFresh::<NullHasher>::new(),
             which,
             limit,
             &mut &TEXT[..],
@@ -392,7 +414,13 @@ fn written_of_twice(alloc: Global, lines: &[u8], capacity: usize) -> io::Result<
     let script = Script::new(&twice, usize::MAX);
     let mut reader = BufReader::with_capacity(alloc, capacity, script)?;
     let mut output = Vec::new(alloc);
-    match dedup::<FNV1aHasher64, _, _>(alloc, 200, &mut reader, &mut output) {
+    match dedup(
+        alloc,
+        BuildFresh::<FNV1aHasher64>::new(),
+        200,
+        &mut reader,
+        &mut output,
+    ) {
         Ok(()) => Ok(output),
         Err(_) => Ok(Vec::new(alloc)),
     }
@@ -417,14 +445,17 @@ fn lines_that_end_at_each_place(rt: HostRuntime) {
 /// How often `Texts` and std's set disagree whether a text is new, over so many texts, some of which come again and many
 /// of which begin others.
 fn disagreements<H: Piecewise>(alloc: Global, count: u64) -> Result<u64, AllocError> {
-    let mut texts = Texts::<H>::new(alloc);
+    let mut texts = Texts::new(alloc, BuildFresh::<H>::new());
     let mut set = HashSet::with_hasher(alloc, BuildFresh::<Lookup3Hasher>::new());
     let mut disagreements: u64 = 0;
     for number in 0..count {
         let bytes = (number / 3).to_le_bytes();
         let text = &bytes[..(number % 7) as usize];
         let is_new = set.insert(Vec::from_slice(alloc, text)?)?;
-        if texts.see(text)? != is_new {
+        let Ok(seen) = texts.see(text) else {
+            return Err(AllocError);
+        };
+        if seen.is_new != is_new || texts.text_at(seen.place) != text {
             disagreements = disagreements.saturating_add(1);
         }
     }
@@ -457,9 +488,12 @@ const SEEN: [(&[u8], bool); 9] = [
 
 #[test]
 fn a_text_that_begins_another(rt: HostRuntime) {
-    let mut texts = Texts::<NullHasher>::new(rt.alloc());
+    let mut texts = Texts::new(rt.alloc(), BuildFresh::<NullHasher>::new());
     for (text, is_new) in &SEEN {
-        all_hold(&rt, &[texts.see(text) == Ok(*is_new)]);
+        match texts.see(text) {
+            Ok(seen) => all_hold(&rt, &[seen.is_new == *is_new]),
+            Err(_) => all_hold(&rt, &[false]),
+        }
     }
 }
 
@@ -476,7 +510,13 @@ fn long_lines(alloc: Global) -> io::Result<(u64, u64)> {
         bytes: 0,
         newlines: 0,
     };
-    match dedup::<Lookup3Hasher, _, _>(alloc, 4, &mut reader, &mut scale) {
+    match dedup(
+        alloc,
+        BuildFresh::<Lookup3Hasher>::new(),
+        4,
+        &mut reader,
+        &mut scale,
+    ) {
         Ok(()) => Ok((scale.bytes, scale.newlines)),
         Err(_) => Ok((0, 0)),
     }

@@ -9,9 +9,8 @@ use hash_names::{HashTask, by_name};
 use hashers::jenkins::spooky_hash::SpookyHasher;
 use hashers::laws::{Piecewise, Streamed};
 use std::alloc::{AllocError, Global};
-use std::env;
-use std::io;
 use std::io::{BufRead, BufReader, BufWriter, Error, ErrorKind, Write};
+use std::{env, io};
 
 /// The value of a hexadecimal digit, 0 for any other byte.
 fn digit(byte: u8) -> u8 {

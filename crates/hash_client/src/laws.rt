@@ -63,6 +63,7 @@ pub fn laws_are_calls<H: laws::ByteStep>() {
     laws::fixed_widths_are_words32();
     laws::pieces_are_their_words();
     laws::one_changed_byte_shows_fx();
+    laws::one_changed_word_shows_fx();
     laws::low_bits_of_a_word();
     laws::one_changed_block_shows();
     laws::one_changed_stretch_shows();

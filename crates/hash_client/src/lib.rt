@@ -3,6 +3,7 @@
 #![tactic(auto)]
 
 pub mod answers;
+pub mod generic;
 pub mod laws;
 pub mod pages;
 pub mod undone;

@@ -7,3 +7,5 @@ pub mod PiecesLemmas
 pub mod TestLemmas
 pub mod WholeWords
 pub mod WordsApart
+pub mod DifferencesLemmas
+pub mod WordTests

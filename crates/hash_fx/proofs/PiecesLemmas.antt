@@ -14,7 +14,7 @@ use Rattle.hash_laws.proofs.FoldLemmas.{fold_cancels}
 use Rattle.hash_laws.proofs.RecurrenceLemmas.{recurrence-fold}
 use Rattle.hash_fx.specs.Fx.{words32, words64}
 use Rattle.hash_fx.specs.FxLaws.{IsWord, words32-fit, words64-fit}
-use Rattle.hash_fx.specs.Pieces.{DifferByOneByte, fx32_pieces, fx64_pieces}
+use Rattle.hash_fx.specs.Pieces.{DifferByOneWord, DifferByOneByte, fx32_pieces, fx64_pieces}
 use Rattle.hash_fx.proofs.CutsLemmas.{Pieces, SameCuts}
 use Rattle.hash_fx.proofs.OneApart.{OneApart, OneApart-split, OneApart-append_left, OneApart-append_right, append_same, one_from_DifferAtOnePlace}
 use Rattle.hash_fx.proofs.WordsApart.{TellApart, words32-apart, words64-apart}
@@ -69,7 +69,7 @@ module _ (w : ℕ) (step : ℕ → ℕ → ℕ) (loses : StepFacts step (2 ^ w) 
             (same ∙ ap (λ c. fold step (step s c) v) (sym later.0))
       ]
 
-  module _ (words : List ℕ → List ℕ) (fit : (piece : List ℕ) → IsText piece → All (IsWord w) (words piece)) (tells : TellApart words) where
+  module _ (words : List ℕ → List ℕ) (fit : (piece : List ℕ) → IsText piece → All (IsWord w) (words piece)) where
     -- the words of pieces come one after another
     fold-pieces : (s : ℕ) (ps : List (List ℕ)) → fold (λ t piece. recurrence step t (words piece)) s ps ≡ fold step s (flat_map words ps)
     fold-pieces s [] = refl
@@ -81,15 +81,26 @@ module _ (w : ℕ) (step : ℕ → ℕ → ℕ) (loses : StepFacts step (2 ^ w) 
     pieces-fit [] all = All-nil (IsWord w)
     pieces-fit (p ∷ ps) all = All-append (IsWord w) (words p) (flat_map words ps) (fit p (All-head IsText p ps all)) (pieces-fit ps (All-tail IsText p ps all))
 
-    pub pieces-differ : (s : ℕ) (x y : Pieces) → s < 2 ^ w → All IsText (texts x) → All IsText (texts y) → DifferByOneByte x y
+    pub words-differ : (s : ℕ) (x y : Pieces) → s < 2 ^ w → All IsText (texts x) → All IsText (texts y)
+        → OneApart (flat_map words (texts x)) (flat_map words (texts y))
         → fold (λ t piece. recurrence step t (words piece)) s (texts x) ≢ fold (λ t piece. recurrence step t (words piece)) s (texts y)
-    pieces-differ s x y known xs ys d = λ same.
-        fold-apart s (flat_map words (texts x)) (flat_map words (texts y)) known (pieces-fit (texts x) xs) (pieces-fit (texts y) ys)
-        (words-apart words tells x y d.same_cuts xs ys (one_from_DifferAtOnePlace (joined x) (joined y) d.one_byte))
+    words-differ s x y known xs ys one = λ same.
+        fold-apart s (flat_map words (texts x)) (flat_map words (texts y)) known (pieces-fit (texts x) xs) (pieces-fit (texts y) ys) one
         (sym (fold-pieces s (texts x)) ∙ same ∙ fold-pieces s (texts y))
 
+pub fx64_words-differ : (x y : Pieces) → All IsText (texts x) → All IsText (texts y) → DifferByOneWord words64 x y → fx64_pieces 0 (texts x) ≢ fx64_pieces 0 (texts y)
+fx64_words-differ x y xs ys d = words-differ 64 fx64_step fx64_facts words64 words64-fit 0 x y (lit< tt) xs ys (one_from_DifferAtOnePlace _ _ d.one_word)
+
+pub fx32_words-differ : (x y : Pieces) → All IsText (texts x) → All IsText (texts y) → DifferByOneWord words32 x y → fx32_pieces 0 (texts x) ≢ fx32_pieces 0 (texts y)
+fx32_words-differ x y xs ys d = words-differ 32 fx32_step fx32_facts words32 words32-fit 0 x y (lit< tt) xs ys (one_from_DifferAtOnePlace _ _ d.one_word)
+
+-- one byte apart is one word apart
+module _ (words : List ℕ → List ℕ) (tells : TellApart words) (x y : Pieces) (xs : All IsText (texts x)) (ys : All IsText (texts y)) (d : DifferByOneByte x y) where
+  one-word : OneApart (flat_map words (texts x)) (flat_map words (texts y))
+  one-word = words-apart words tells x y d.same_cuts xs ys (one_from_DifferAtOnePlace (joined x) (joined y) d.one_byte)
+
 pub fx64_pieces-differ : (x y : Pieces) → All IsText (texts x) → All IsText (texts y) → DifferByOneByte x y → fx64_pieces 0 (texts x) ≢ fx64_pieces 0 (texts y)
-fx64_pieces-differ x y xs ys d = pieces-differ 64 fx64_step fx64_facts words64 words64-fit words64-apart 0 x y (lit< tt) xs ys d
+fx64_pieces-differ x y xs ys d = words-differ 64 fx64_step fx64_facts words64 words64-fit 0 x y (lit< tt) xs ys (one-word words64 words64-apart x y xs ys d)
 
 pub fx32_pieces-differ : (x y : Pieces) → All IsText (texts x) → All IsText (texts y) → DifferByOneByte x y → fx32_pieces 0 (texts x) ≢ fx32_pieces 0 (texts y)
-fx32_pieces-differ x y xs ys d = pieces-differ 32 fx32_step fx32_facts words32 words32-fit words32-apart 0 x y (lit< tt) xs ys d
+fx32_pieces-differ x y xs ys d = words-differ 32 fx32_step fx32_facts words32 words32-fit 0 x y (lit< tt) xs ys (one-word words32 words32-apart x y xs ys d)

@@ -1,9 +1,10 @@
 -- Laws of a piece's words, which the impls of the traits cite; they may name no lemma of this crate's own proofs.
-use Rattle.std.proofs.Common.{ℕ, zero, suc, refl, ◌≡◌, ◌/◌, ◌^◌, ◌<◌, ◌≤◌, List, [], length, take, drop, map, get_or, ap, ◌∙◌, arith, lit<}
+use Rattle.std.proofs.Common.{ℕ, zero, suc, refl, sym, ◌+◌, ◌*◌, ◌≡◌, ◌/◌, ◌^◌, ◌<◌, ◌≤◌, List, [], length, take, drop, map, get_or, ap, ◌∙◌, arith, lit<}
 use Rattle.std.specs.Prelude.{All}
 use Rattle.std.specs.Simd.{first_chunks}
 use Rattle.std.proofs.Math.Nat.{pow-le-pow_right}
-use Rattle.std.proofs.lemmas.List.{length-take}
+use Rattle.std.proofs.Math.Path.{ap₂}
+use Rattle.std.proofs.lemmas.List.{length-append, length-drop, length-take}
 use Rattle.std.proofs.lemmas.List.Elements.{All-nil, All-cons, All-take, All-drop, All-append}
 use Rattle.hash_rounds.specs.Words.{le}
 use Rattle.hash_rounds.specs.Blocks.{pieces}
@@ -61,3 +62,26 @@ fx32_nothing s = ap (fx32 s) words32-nil ∙ recurrence-nil fx32_step s
 
 pub fx64_nothing : (s : ℕ) → fx64 s (words64 []) ≡ s
 fx64_nothing s = ap (fx64 s) words64-nil ∙ recurrence-nil fx64_step s
+
+-- pieces of one length have as many words
+chunks_length : (n k : ℕ) (x y : List ℕ) → length (map le (first_chunks n k x)) ≡ length (map le (first_chunks n k y))
+chunks_length n zero x y = refl
+chunks_length n (suc k) x y = ap suc (chunks_length n k (drop n x) (drop n y))
+
+pub words32-length : (x y : List ℕ) → length x ≡ length y → length (words32 x) ≡ length (words32 y)
+unfolding pieces
+words32-length x y len =
+    let k = length x / 4 in
+    let same : length y / 4 ≡ k = ap (λ m. m / 4) (sym len) in
+    let rest : length (drop (k * 4) x) ≡ length (drop (k * 4) y) = omega (arith, length-drop (k * 4) x, length-drop (k * 4) y, len) in
+    rw same (length-append (map le (first_chunks 4 k x)) (drop (k * 4) x) ∙ ap₂ (λ a b. a + b) (chunks_length 4 k x y) rest
+    ∙ sym (length-append (map le (first_chunks 4 k y)) (drop (k * 4) y)))
+
+pub words64-length : (x y : List ℕ) → length x ≡ length y → length (words64 x) ≡ length (words64 y)
+unfolding pieces
+words64-length x y len =
+    let k = length x / 8 in
+    let same : length y / 8 ≡ k = ap (λ m. m / 8) (sym len) in
+    let rest : length (drop (k * 8) x) ≡ length (drop (k * 8) y) = omega (arith, length-drop (k * 8) x, length-drop (k * 8) y, len) in
+    rw same (length-append (map le (first_chunks 8 k x)) (words32 (drop (k * 8) x)) ∙ ap₂ (λ a b. a + b) (chunks_length 8 k x y) (words32-length _ _ rest)
+    ∙ sym (length-append (map le (first_chunks 8 k y)) (words32 (drop (k * 8) y))))

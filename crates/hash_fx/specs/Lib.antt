@@ -2,3 +2,4 @@ pub mod Fx
 pub mod FxLaws
 pub mod FxStepLaws
 pub mod Pieces
+pub mod Differences

@@ -1,5 +1,6 @@
 -- Lists of pieces: the state after one, where its cuts don't show, and where one byte tells two of them apart.
 use Rattle.std.specs.Prelude.{ℕ, ◌≡◌, ◌-◌, ◌%◌, List, length, take, map, fold, All}
+use Rattle.std.specs.List.{flat_map}
 use denote.Bor.{Bor}
 use Rattle.hash_laws.specs.Text.{texts, joined}
 use Rattle.hash_laws.specs.DifferWithin.{DifferAtOnePlace}
@@ -20,3 +21,8 @@ AreWhole n pieces = All (λ text. length text % n ≡ 0) (take (length pieces - 
 pub record DifferByOneByte (x y : List (Bor (List ℕ))) : Type 0 where
   pub same_cuts : map length (texts x) ≡ map length (texts y)
   pub one_byte : DifferAtOnePlace (joined x) (joined y)
+
+-- the same, and exactly one word of all differs
+pub record DifferByOneWord (words : List ℕ → List ℕ) (x y : List (Bor (List ℕ))) : Type 0 where
+  pub same_cuts : map length (texts x) ≡ map length (texts y)
+  pub one_word : DifferAtOnePlace (flat_map words (texts x)) (flat_map words (texts y))

@@ -2,9 +2,10 @@
 //! the state one step. The split and the key of 32 bits are this project's own choice.
 #![tactic(auto)]
 
+mod differing;
 mod fx;
-pub mod pieces;
 mod maps;
+pub mod pieces;
 mod word;
 mod words;
 

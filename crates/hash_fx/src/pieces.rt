@@ -7,9 +7,10 @@ ghost use Rattle.std.specs.Bool.{OnTrue};
 ghost use Rattle.std.specs.Hash.{le_bytes};
 ghost use Rattle.hash_fx.specs.Fx.{fx32_step, fx64_step, fx32, fx64, words32, words64};
 ghost use Rattle.hash_laws.specs.Text.{IsText, joined, texts};
-ghost use Rattle.hash_fx.specs.Pieces.{AreWhole, DifferByOneByte, fx32_pieces, fx64_pieces};
+ghost use Rattle.hash_fx.specs.Pieces.{AreWhole, DifferByOneByte, DifferByOneWord, fx32_pieces, fx64_pieces};
 
 use crate::fx::{Fx64Rule, FxHasher32, FxHasher64};
+use crate::word::FxSplit;
 use hash_laws::window::differ_at_one_place;
 use hash_rules::WordHasher;
 use std::hash::Hasher;
@@ -92,6 +93,44 @@ pub fn apart_by_one_fx(x: &[&[u8]], y: &[&[u8]]) -> bool
     apart
 }
 
+/// Whether the two lists have as many pieces, of the same lengths one by one, and exactly one word of all differs.
+fn apart_by_one_word<W: FxSplit>(x: &[&[u8]], y: &[&[u8]]) -> bool
+    ensures exactly { IsTrue result ↔ DifferByOneWord W.words x.now y.now }
+    ensures first { OnTrue result (All IsText (texts x.now)) }
+    ensures second { OnTrue result (All IsText (texts y.now)) }
+{
+    if !same_cuts(x, y) {
+        return false;
+    }
+    let mut apart = 0;
+    for i in 0..x.len() {
+        let more = W::differing(x[i], y[i]);
+        if more > 1 - apart {
+            return false;
+        }
+        apart += more;
+    }
+    apart == 1
+}
+
+/// Whether the two lists have as many pieces, of the same lengths one by one, and exactly one word of 64 bits of all differs: up
+/// to eight neighbouring bytes, from a place in their piece that eight divides. Where so, both types of 64 bits answer
+/// differently to the two lists, from their defaults. Computes no hash.
+pub fn apart_by_one_word_fx64(x: &[&[u8]], y: &[&[u8]]) -> bool
+    ensures exactly { IsTrue result ↔ DifferByOneWord words64 x.now y.now }
+    ensures differ { OnTrue result (fx64_pieces 0 (texts x.now) ≢ fx64_pieces 0 (texts y.now)) }
+{
+    apart_by_one_word::<u64>(x, y)
+}
+
+/// The same by words of 32 bits, up to four neighbouring bytes: `FxHasher32` answers differently.
+pub fn apart_by_one_word_fx32(x: &[&[u8]], y: &[&[u8]]) -> bool
+    ensures exactly { IsTrue result ↔ DifferByOneWord words32 x.now y.now }
+    ensures differ { OnTrue result (fx32_pieces 0 (texts x.now) ≢ fx32_pieces 0 (texts y.now)) }
+{
+    apart_by_one_word::<u32>(x, y)
+}
+
 /// At 64 bits a number of 8, 32 or 64 bits is one word, as `write_u8`, `write_u32`, `write_u64` and `write_usize` write
 /// it, and one of 16 bits is two words of a byte, the low one first.
 pub fn fixed_widths_are_words64()
@@ -152,6 +191,15 @@ pub fn one_changed_byte_shows_fx()
         → DifferByOneByte x y → fx64_pieces 0 (texts x) ≢ fx64_pieces 0 (texts y) }
     ensures at_32 { (x y : List (Bor (List ℕ))) → All IsText (texts x) → All IsText (texts y)
         → DifferByOneByte x y → fx32_pieces 0 (texts x) ≢ fx32_pieces 0 (texts y) }
+{}
+
+/// One changed word shows, a law with no code: two lists of pieces of the same lengths one by one, of which exactly one word of
+/// all differs, have different hashes.
+pub fn one_changed_word_shows_fx()
+    ensures at_64 { (x y : List (Bor (List ℕ))) → All IsText (texts x) → All IsText (texts y)
+        → DifferByOneWord words64 x y → fx64_pieces 0 (texts x) ≢ fx64_pieces 0 (texts y) }
+    ensures at_32 { (x y : List (Bor (List ℕ))) → All IsText (texts x) → All IsText (texts y)
+        → DifferByOneWord words32 x y → fx32_pieces 0 (texts x) ≢ fx32_pieces 0 (texts y) }
 {}
 
 /// What the low bits of a hash rest on, a law with no code: from one state, two words that are equal mod 2^k lead to

@@ -1,13 +1,15 @@
 //! A word of fx, and what of it hangs on its width.
-ghost use Rattle.std.specs.Prelude.{◌≡◌, ◌<◌, ◌^◌, ◌↔◌, ℕ, List, [], All, refl, IsSome, IfSome};
+ghost use Rattle.std.specs.Prelude.{◌≡◌, ◌<◌, ◌^◌, ◌↔◌, ℕ, List, [], All, refl, length, IsSome, IfSome};
 ghost use Rattle.hash_rounds.specs.Words.{le};
 ghost use Rattle.hash_rounds.specs.StepFacts.{StepFacts};
 ghost use Rattle.hash_laws.specs.Recurrence.{recurrence};
 ghost use Rattle.hash_laws.specs.Text.{IsText};
 ghost use Rattle.hash_fx.specs.Fx.{fx32_step, fx64_step, words32, words64};
-ghost use Rattle.hash_fx.specs.FxLaws.{words32-fit, words32-nil, words64-fit, words64-nil};
+ghost use Rattle.hash_fx.specs.FxLaws.{words32-fit, words32-length, words32-nil, words64-fit, words64-length, words64-nil};
+ghost use Rattle.hash_fx.specs.Differences.{differences};
 ghost use Rattle.hash_fx.specs.FxStepLaws.{fx32_facts, fx64_facts};
 
+use crate::differing::{differing_eights, differing_fours_and_bytes};
 use crate::words::{eights_in, eights_out, fours_and_bytes_in, fours_and_bytes_out};
 use hash_rounds::{le_four, rotl32, rotl64};
 
@@ -78,6 +80,14 @@ pub trait FxSplit: FxWord {
     /// The words of a piece out again, from the last to the first.
     fn words_out(self, piece: &[u8]) -> Self
         ensures { recurrence Self.step (Self.number result) (words piece.now) ≡ Self.number self };
+
+    /// At how many places the words of two pieces of one length differ.
+    fn differing(x: &[u8], y: &[u8]) -> usize
+        requires { length x.now ≡ length y.now }
+        ensures { result ≡ differences (words x.now) (words y.now) };
+
+    /// Pieces of one length have as many words.
+    ghost words_length: { (x y : List ℕ) → length x ≡ length y → length (words x) ≡ length (words y) };
 
     /// The words of a piece are in range.
     ghost words_in_range: { (piece : List ℕ) → IsText piece → All (λ v. v < 2 ^ Self.bits) (words piece) };
@@ -199,6 +209,12 @@ impl FxSplit for u32 {
         fours_and_bytes_out(self, piece)
     }
 
+    fn differing(x: &[u8], y: &[u8]) -> usize {
+        differing_fours_and_bytes(x, y)
+    }
+
+    ghost words_length = { words32-length };
+
     ghost words_in_range = { words32-fit };
 
     ghost no_words = { words32-nil };
@@ -218,6 +234,14 @@ impl FxSplit for u64 {
         let (eights, rest) = piece.as_chunks::<8>();
         eights_out(fours_and_bytes_out(self, rest), eights)
     }
+
+    fn differing(x: &[u8], y: &[u8]) -> usize {
+        let (x_eights, x_rest) = x.as_chunks::<8>();
+        let (y_eights, y_rest) = y.as_chunks::<8>();
+        differing_eights(x_eights, y_eights) + differing_fours_and_bytes(x_rest, y_rest)
+    }
+
+    ghost words_length = { words64-length };
 
     ghost words_in_range = { words64-fit };
 

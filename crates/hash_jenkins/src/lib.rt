@@ -1,7 +1,6 @@
 //! Bob Jenkins' hash functions: one-at-a-time, lookup3 and SpookyHash. None of them is cryptographic.
 #![tactic(auto)]
 
-pub mod two_texts;
 mod lookup;
 mod one_at_a_time;
 mod put;
@@ -9,6 +8,7 @@ pub mod spooky_hash;
 mod spooky_long;
 pub mod spooky_parts;
 mod spooky_short;
+pub mod two_texts;
 
 pub use lookup::{Lookup3Hasher, lookup3};
 pub use one_at_a_time::{OAATHasher, oaat, origin_of_constants};

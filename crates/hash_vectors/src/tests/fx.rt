@@ -4,8 +4,9 @@ ghost use Rattle.std.specs.Prelude.{◌≡◌, ◌≤◌, ◌%◌, length};
 use crate::tests::{all_hold, none_holds, same, same_at};
 use hashers::fx_hash::{FxHasher, FxHasher32, FxHasher64, fxhash, fxhash32, fxhash64};
 use hashers::laws::{
-    Piecewise, Undo, apart_by_one_fx, fixed_widths_are_words32, fixed_widths_are_words64, run_pair,
-    run_words, run_words32, run_words64,
+    Piecewise, Undo, apart_by_one_fx, apart_by_one_word_fx32, apart_by_one_word_fx64,
+    fixed_widths_are_words32, fixed_widths_are_words64, run_pair, run_words, run_words32,
+    run_words64,
 };
 use std::hash::Hasher;
 use std::process::Abort;
@@ -292,6 +293,31 @@ fn apart_by_one_byte(rt: HostRuntime) {
             apart_by_one_fx(&[b"ab", b"cd"], &[b"xx", b"cd"]),
             apart_by_one_fx(&[b"ab", b"cd"], &[b"ab", b"cd"]),
             apart_by_one_fx(&[b"abc", b"d"], &[b"ab", b"xd"]),
+        ],
+    );
+}
+
+/// One changed word, and one that is not, by both widths.
+#[test]
+fn one_changed_word(rt: HostRuntime) {
+    all_hold(
+        &rt,
+        &[
+            apart_by_one_word_fx64(&[b"01234567abcdefgh"], &[b"76543210abcdefgh"]),
+            apart_by_one_word_fx64(&[b"01234567", b"8abc"], &[b"01234567", b"cba8"]),
+            apart_by_one_word_fx64(&[b"01234567abcdxy"], &[b"01234567abcdxz"]),
+            apart_by_one_word_fx32(&[b"0123abcd"], &[b"3210abcd"]),
+        ],
+    );
+    none_holds(
+        &rt,
+        &[
+            apart_by_one_word_fx64(&[b"01234567abcdefgh"], &[b"0123456xxbcdefgh"]),
+            apart_by_one_word_fx64(&[b"01234567xy"], &[b"01234567yx"]),
+            apart_by_one_word_fx64(&[b"01234567"], &[b"01234567"]),
+            apart_by_one_word_fx64(&[b"0", b"1"], &[b"2", b"3"]),
+            apart_by_one_word_fx32(&[b"01234567"], &[b"76543210"]),
+            apart_by_one_word_fx32(&[b"0123", b"4"], &[b"01234"]),
         ],
     );
 }

@@ -2,7 +2,7 @@ use Rattle.std.proofs.Common.{ℕ, List, [], ◌≡◌, ◌<◌, ◌+◌, ◌++�
 use Rattle.std.specs.Io.{StopsAt}
 use Rattle.std.specs.Io.BufRead.{ends_with_byte}
 use Rattle.dedup.specs.Between.{BreaksOff}
-use Rattle.dedup.specs.Lines.{has}
+use Rattle.hash_texts.specs.Texts.{has}
 use Rattle.dedup.proofs.LineLemmas.{line_through}
 use Rattle.dedup.proofs.RunLemmas.{breaks_at_line, leads_further, leads_nowhere, leads_so_far}
 use Rattle.dedup.proofs.SeenLemmas.{on_err}

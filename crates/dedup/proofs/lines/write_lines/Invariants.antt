@@ -1,6 +1,6 @@
 use Rattle.std.proofs.Common.{ℕ, List, ◌≡◌, ◌++◌}
 use Rattle.dedup.specs.Between.{LeadsOn}
-use Rattle.dedup.specs.Lines.{has}
+use Rattle.hash_texts.specs.Texts.{has}
 use Rattle.dedup.proofs.lines.write_lines.Given as goal
 
 -- what is left of the bytes, behind whole lines

@@ -1,8 +1,8 @@
-use Rattle.std.proofs.Common.{rules, ◌∙◌}
+use Rattle.std.proofs.Common.{rules, ap, ◌∙◌, ◌∷◌, ◌++◌, []}
 use Rattle.dedup.proofs.SeenLemmas.{new_is_line, on_err}
 use Rattle.dedup.proofs.lines.write_new.Goals as goal
 
-pub returns-in_err-put-clause-begun : goal.returns-in_err-put-clause-begun
-returns-in_err-put-clause-begun g c =
-    let (part, rest, is, written) = c.in_err-put.ensures.err in
-    on_err _ c.from_residual-in_err-put.result (part, rest, is ∙ new_is_line c.args.seen.now c.args.line.now (search rules), written)
+pub returns-in_err-put_line-clause-begun : goal.returns-in_err-put_line-clause-begun
+returns-in_err-put_line-clause-begun g c =
+    let (part, rest, is, written) = c.in_err-put_line.ensures.err in
+    on_err _ c.from_residual-in_err-put_line.result (part, rest, is ∙ ap (λ t. t ++ 10 ∷ []) c.text_of-text.ensures ∙ new_is_line c.args.seen.now c.args.line.now (search rules), written)

@@ -1,4 +1,4 @@
-use Rattle.dedup.specs.Lines.{has}
+use Rattle.hash_texts.specs.Texts.{has}
 use Rattle.dedup.specs.Running.{run_of}
 use Rattle.dedup.specs.Between.{Between}
 use Rattle.dedup.proofs.run.write_each.Given as goal

@@ -1,30 +1,28 @@
-use Rattle.std.proofs.Common.{arith, ◌≡◌, ap, sym, subst, ◌∙◌, Some, get_or, set, ◌+◌, ◌∷◌, [], ◌++◌}
+use Rattle.std.proofs.Common.{rules, arith, ◌≡◌, ◌<◌, ap, sym, subst, ◌∙◌, cond, get_or, set, length, ◌+◌, ◌∷◌, [], ◌++◌, true, false}
 use Rattle.std.proofs.lemmas.List.{get_or_default}
-use Rattle.std.specs.Map.{lookup}
-use Rattle.std.specs.Option.{option_copied}
-use Rattle.std.specs.Str.{bytes_eq}
+use Rattle.hash_texts.specs.Texts.{StandsAt, has, with_text}
 use Rattle.dedup.specs.Tallies.{Tallies}
-use Rattle.dedup.proofs.TallyLemmas.{found_below, tallies_again}
+use Rattle.dedup.proofs.SeenLemmas.{is_there, not_there}
+use Rattle.dedup.proofs.TallyLemmas.{tallies_again, tallies_new}
 use Rattle.dedup.proofs.tally.count.Goals as goal
 
-pub index-requires : goal.index-requires
-index-requires g c =
-    let found = sym c.get.ensures.value ∙ ap option_copied c.in-Some.is in
-    let below = found_below _ _ _ _ c.requires.within found in
-    omega (arith, below, c.args.times.now.ok.0)
+pub returns-in-Ok : goal.returns-in-Ok
+returns-in-Ok g c = λ ls line is now.
+    let old = c.args.texts.now in
+    let absent : has old c.args.text.now ≡ false = not_there _ c.in_ok-seen.seen.is_new c.in_ok-seen.ensures.new (search rules) in
+    subst (Tallies (ls ++ line ∷ []) c.see.new.self) (sym c.in-Ok.ensures.items)
+    (tallies_new ls old c.args.times.now.items now line c.see.new.self (ap (has old) is ∙ absent) (c.in_ok-seen.ensures.texts ∙ ap (with_text old) (sym is)))
 
-pub index_mut-requires : goal.index_mut-requires
-index_mut-requires g c =
-    let found = sym c.get.ensures.value ∙ ap option_copied c.in-Some.is in
-    let below = found_below _ _ _ _ c.requires.within found in
-    omega (arith, below, c.args.times.now.ok.0)
-
-pub returns-in-Some-checked_add : goal.returns-in-Some-checked_add
-returns-in-Some-checked_add g c = λ ls line is now.
-    let found = sym c.get.ensures.value ∙ ap option_copied c.in-Some.is in
-    let below = found_below _ _ _ _ c.requires.within found in
-    let was : c.index.result.now ≡ get_or c.args.times.now.items c.in-Some.place.now 0 = c.index.ensures ∙ get_or_default c.args.times.now.items c.in-Some.place.now c.index.result.now 0 below in
-    let more = c.in-Some-checked_add.ensures.1 ∙ ap (λ n. n + 1) was in
-    let lookup_is = subst (λ text. lookup (λ key. bytes_eq text key.items) c.args.places.now.entries ≡ Some c.in-Some.place.now) (sym is) found in
-    subst (λ n. Tallies (ls ++ line ∷ []) c.args.places.now.entries (set c.args.times.now.items c.in-Some.place.now n)) (sym more)
-    (tallies_again ls _ _ now line c.in-Some.place.now lookup_is)
+pub returns : goal.returns
+returns g c = λ ls line is now.
+    let old = c.args.texts.now in
+    let times = c.args.times.now.items in
+    let place = c.in_ok-seen.seen.place in
+    let there : has old c.args.text.now ≡ true = is_there _ c.in_ok-seen.seen.is_new c.in_ok-seen.ensures.new (search rules) in
+    let same : c.see.new.self ≡ old = c.in_ok-seen.ensures.texts ∙ ap (λ b. cond b old (old ++ c.args.text.now ∷ [])) there in
+    let below : place < length times = omega (arith, c.in_ok-seen.ensures.place.0, ap length same, c.requires.as_many) in
+    let was : c.index.result.now ≡ get_or times place 0 = c.index.ensures ∙ get_or_default times place c.index.result.now 0 below in
+    let more : c.in-Some.more ≡ get_or times place 0 + 1 = c.in-Some.ensures.1 ∙ ap (λ n. n + 1) was in
+    subst (λ n. Tallies (ls ++ line ∷ []) c.see.new.self (set times place n)) (sym more)
+    (tallies_again ls old times now line c.see.new.self place (ap (has old) is ∙ there) (c.in_ok-seen.ensures.texts ∙ ap (with_text old) (sym is))
+    (subst (λ t. StandsAt c.see.new.self t place) (sym is) c.in_ok-seen.ensures.place))

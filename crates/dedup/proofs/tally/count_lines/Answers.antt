@@ -4,14 +4,14 @@ use Rattle.std.specs.Io.KnownBytes.{Consumes}
 use Rattle.std.proofs.lemmas.Bool.{eqb-false}
 use Rattle.std.proofs.lemmas.List.{nil_from_length}
 use Rattle.dedup.proofs.RunLemmas.{counted_at_end, counted_at_line, counting_more, counting_start}
-use Rattle.dedup.proofs.OrderLemmas.{within_places}
+use Rattle.dedup.proofs.TallyLemmas.{as_many}
 use Rattle.dedup.proofs.tally.count_lines.Goals as goal
 
 pub loop-init : goal.loop-init
 loop-init g c = counting_start _ _ _ c.requires
 
 pub count-requires : goal.count-requires
-count-requires g c = record { within = within_places _ _ _ c.loop.invariant.counted }
+count-requires g c = record { as_many = as_many _ _ _ c.loop.invariant.counted }
 
 pub returns-then-is_empty : goal.returns-then-is_empty
 returns-then-is_empty g c =

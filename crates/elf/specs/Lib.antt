@@ -1,2 +1,0 @@
-pub mod Elf
-pub mod ElfLaws

@@ -1,0 +1,16 @@
+-- Texts that lie one behind the other.
+use Rattle.std.specs.Prelude.{ℕ, ◌≡◌, ◌≤◌, ◌-◌, ◌==◌, if◌then◌else◌, List, [], ◌∷◌, take, drop, slice_index_or}
+
+-- the bytes cut at these ends, from a start on
+abbrev pub cut : ℕ → List ℕ → (ends : List ℕ) → List (List ℕ)
+cut start bytes [] = []
+cut start bytes (end ∷ ends) = take (end - start) (drop start bytes) ∷ cut end bytes ends
+
+-- the ends rise from a start to the last one
+abbrev pub Rises : ℕ → (ends : List ℕ) → ℕ → Type 0
+Rises start [] last = start ≡ last
+Rises start (end ∷ ends) last = (start ≤ end) × Rises end ends last
+
+-- where the text at a place begins
+abbrev pub start_of : List ℕ → ℕ → ℕ
+start_of ends place = if place == 0 then 0 else slice_index_or ends (place - 1) 0

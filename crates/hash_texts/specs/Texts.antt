@@ -1,0 +1,20 @@
+-- Texts of which each stands once.
+use Rattle.std.specs.Prelude.{ℕ, ◌≡◌, ◌<◌, ◌++◌, if◌then◌else◌, Bool, List, [], ◌∷◌, length, slice_index_or}
+use Rattle.std.specs.List.{list_any}
+use Rattle.std.specs.Str.{bytes_eq}
+
+-- whether a text is among these
+abbrev pub has : List (List ℕ) → List ℕ → Bool
+has texts text = list_any (bytes_eq text) texts
+
+-- these texts and behind them another, unless they have it
+abbrev pub with_text : List (List ℕ) → List ℕ → List (List ℕ)
+with_text texts text = if has texts text then texts else texts ++ text ∷ []
+
+-- the text stands at this place
+abbrev pub StandsAt : List (List ℕ) → List ℕ → ℕ → Type 0
+StandsAt texts text place = (place < length texts) × (slice_index_or texts place [] ≡ text)
+
+-- no text stands at two places
+abbrev pub EachOnce : List (List ℕ) → Type 0
+EachOnce texts = (i k : ℕ) → i < length texts → k < length texts → slice_index_or texts i [] ≡ slice_index_or texts k [] → i ≡ k

@@ -1,0 +1,12 @@
+//! A set of byte texts, each with its place: that of the first text is 0, that of the next 1, and so on.
+//!
+//! It is an index as well: the place of a text is where a caller's own list has what belongs to it, as a count.
+#![tactic(auto)]
+
+mod slots;
+mod store;
+#[cfg(test)]
+mod tests;
+mod texts;
+
+pub use texts::{Full, Seen, Texts};

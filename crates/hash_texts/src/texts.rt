@@ -1,0 +1,155 @@
+//! The set of texts.
+ghost use Rattle.std.specs.Prelude.{◌≡◌, ◌<◌, ℕ, List, [], IfOk, IfSome, IfNone, OnOk, OnErr, not, false, length, slice_index_or};
+ghost use Rattle.hash_texts.specs.Slots.{IsTable, tag_by};
+ghost use Rattle.hash_texts.specs.Texts.{EachOnce, StandsAt, has, with_text};
+
+use crate::slots::{NOWHERE, Slot, make_room, stop, tag_of};
+use crate::store::Store;
+use std::alloc::{AllocError, Global};
+use std::hash::BuildHasher;
+use std::marker::Model;
+
+/// A text that was seen.
+#[derive(Clone, Copy)]
+pub struct Seen {
+    /// Its place among the texts.
+    pub place: usize,
+    /// Whether it is new.
+    pub is_new: bool,
+}
+
+/// Why a text could not be taken in.
+#[derive(Clone, Copy, PartialEq, Eq)]
+pub enum Full {
+    /// There was no memory.
+    NoMemory,
+    /// There were 2^32 - 1 texts, and a set has no more.
+    TooManyTexts,
+}
+
+impl From<AllocError> for Full {
+    fn from(_error: AllocError) -> Full {
+        Full::NoMemory
+    }
+}
+
+/// A set of texts, in the order in which they came. Nothing is taken out.
+///
+/// The bytes of all texts lie one behind the other in one buffer. A table of slots says at which place each text stands: in
+/// the first slot that was free, round from where its hash points. So the time of a call depends on the hasher, and the
+/// answers do not. A text costs its bytes, 8 bytes, and 11 to 22 bytes of the table.
+///
+/// Where somebody else chooses the texts, take std's `RandomState` as the hasher: whoever does not know its keys cannot
+/// choose texts that collide.
+#[derive(Drop)]
+pub struct Texts<S: BuildHasher + Drop> {
+    alloc: Global,
+    hasher: S,
+    texts: Store,
+    slots: Vec<Slot>,
+    room: usize, // how many texts may come before the table grows
+}
+
+impl<S: BuildHasher + Drop> Model for Texts<S> {
+    ghost Value = { List (List ℕ) };
+
+    ghost view = { λ set. set.texts };
+
+    ghost invariant = { λ set. EachOnce set.texts
+        × IsTable (λ text. tag_by (S.Hasher.finish (S.Hasher.write (S.build_hasher set.hasher) text))) set.texts set.slots.items set.room };
+}
+
+/// The slot of a text at this place. It fails where slots have no such place.
+fn slot_of(tag: u32, place: usize) -> Result<Slot, Full>
+    ensures slot { IfOk result (λ slot. slot ≡ record { tag = tag; place = place }) }
+    ensures below { OnOk result (place < NOWHERE) }
+{
+    match u32::try_from(place) {
+        Ok(place) if place < NOWHERE => Ok(Slot { tag, place }),
+        _ => Err(Full::TooManyTexts),
+    }
+}
+
+impl<S: BuildHasher + Drop> Texts<S> {
+    /// The empty set over this hasher. It takes no memory.
+    pub fn new(alloc: Global, hasher: S) -> Self
+        ensures { result ≡ [] }
+    {
+        Texts {
+            alloc,
+            hasher,
+            texts: Store::new(alloc),
+            slots: Vec::new(alloc),
+            room: 0,
+        }
+    }
+
+    /// How many texts there are. No text stands twice.
+    pub fn len(&self) -> usize
+        ensures value { result ≡ length self.now }
+        ensures once { EachOnce self.now }
+    {
+        self.texts.len()
+    }
+
+    /// The text at a place.
+    pub fn text_at(&self, place: usize) -> &[u8]
+        requires { place < length self.now }
+        ensures { result.now ≡ slice_index_or self.now place [] }
+    {
+        self.texts.get(place)
+    }
+
+    /// The place of a text, if it is there.
+    pub fn place_of(&self, text: &[u8]) -> Option<usize>
+        ensures there { IfSome result (λ place. StandsAt self.now text.now place) }
+        ensures absent { IfNone result (has self.now text.now ≡ false) }
+    {
+        if self.slots.is_empty() {
+            return None;
+        }
+        let tag = tag_of(&self.hasher, text);
+        match stop(&self.texts, &self.slots, tag, text) {
+            Some(at) => {
+                let found = self.slots[at];
+                if found.is_taken() {
+                    Some(found.place as usize)
+                } else {
+                    None
+                }
+            }
+            None => None,
+        }
+    }
+
+    /// Takes a text into the set, behind the others, unless it is there, and answers its place and whether it is new. Where
+    /// that fails, the set stays as it was.
+    pub fn see(&mut self, text: &[u8]) -> Result<Seen, Full>
+        ensures new { IfOk result (λ seen. seen.is_new ≡ not (has self.old text.now)) }
+        ensures texts { OnOk result (self.new ≡ with_text self.old text.now) }
+        ensures place { IfOk result (λ seen. StandsAt self.new text.now seen.place) }
+        ensures kept { OnErr result (self.new ≡ self.old) }
+    {
+        make_room(self.alloc, &mut self.slots, &mut self.room)?;
+        let tag = tag_of(&self.hasher, text);
+        let Some(at) = stop(&self.texts, &self.slots, tag, text) else {
+            unreachable!()
+        };
+        let found = self.slots[at];
+        if found.is_taken() {
+            return Ok(Seen {
+                place: found.place as usize,
+                is_new: false,
+            });
+        }
+        let place = self.texts.len();
+        let slot = slot_of(tag, place)?;
+        self.texts.push(text)?;
+        self.slots[at] = slot;
+        self.room -= 1;
+        Ok(Seen {
+            place,
+            is_new: true,
+        })
+    }
+}
