@@ -29,7 +29,9 @@ placed number n some = record {
   once = λ i. subst HasEachKeyOnce (sym (none_at n i)) tt;
 }
 
-module _ {F : Type 0} (made : F → Vec (Vec ℕ × ℕ) → F → Type 0) (each : (f : F) (x : Vec (Vec ℕ × ℕ)) (f' : F) → made f x f' → x.items ≡ []) (n : ℕ) (old new : List (Vec (Vec ℕ × ℕ))) (f : F) (none : old ≡ []) (results : AppendsResults made (take n old) new f) (count : length new ≡ n) where
+module _ {F : Type 0} (made : F → Vec (Vec ℕ × ℕ) → F → Type 0)
+    (each : (f : F) (x : Vec (Vec ℕ × ℕ)) (f' : F) → made f x f' → x.items ≡ []) (n : ℕ) (old new : List (Vec (Vec ℕ × ℕ))) (f : F)
+    (none : old ≡ []) (results : AppendsResults made (take n old) new f) (count : length new ≡ n) where
   are : pairs_of_each new ≡ replicate n []
   are =
       let of_none : take n old ≡ [] = ap (take n) none ∙ take-nil n in

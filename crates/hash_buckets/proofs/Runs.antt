@@ -10,7 +10,8 @@ use Rattle.hash_buckets.specs.declared.Command.{Command}
 pub replies_to-push : (table : Table) (done : List Command) (command : Command)
     → replies_to table (done ++ command ∷ []) ≡ replies_to table done ++ reply_to (fold content_after table done) command ∷ []
 replies_to-push table [] command = refl
-replies_to-push table (first ∷ done) command = ap (λ replies. reply_to table first ∷ replies) (replies_to-push (content_after table first) done command)
+replies_to-push table (first ∷ done) command = ap (λ replies. reply_to table first ∷ replies)
+    (replies_to-push (content_after table first) done command)
 
 -- the command behind those that were done
 next : (done : List Command) (command : Command) (left : List Command) → slice_get (done ++ command ∷ left) (length done) ≡ Some command
@@ -23,7 +24,8 @@ pub stops_at : (start now : Table) (all done : List Command) (command : Command)
 stops_at start now all done command left split table so_far same wanted = (
   length done,
   record {
-    content = same ∙ so_far ∙ ap (fold content_after start) (sym (take-append_seam done (command ∷ left)) ∙ ap (take (length done)) (sym split));
+    content = same ∙ so_far ∙ ap (fold content_after start) (sym (take-append_seam done (command ∷ left))
+        ∙ ap (take (length done)) (sym split));
     wanted = λ some. subst (λ commands. IsSomeAnd (slice_get commands (length done)) (NeedsMemory now)) (sym split)
         (subst (λ o. IsSomeAnd o (NeedsMemory now)) (sym (next done command left)) (subst (λ t. NeedsMemory t command) (sym same) wanted));
   },

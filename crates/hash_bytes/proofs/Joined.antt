@@ -16,7 +16,8 @@ pub sdbm_joined : (x y : List ℕ) → sdbm_from 0 (x ++ y) ≡ (sdbm_from 0 x *
 unfolding sdbm_from
 sdbm_joined x y = sym (sdbm-append 0 x y) ∙ behind 65599 (2 ^ 32) (sdbm_from 0 x * 65599 ^ length y) y
 
-pub passthrough_joined : (x y : List ℕ) → passthrough_from 0 (x ++ y) ≡ (passthrough_from 0 x * 256 ^ length y + passthrough_from 0 y) % 2 ^ 64
+pub passthrough_joined : (x y : List ℕ) → passthrough_from 0 (x ++ y)
+    ≡ (passthrough_from 0 x * 256 ^ length y + passthrough_from 0 y) % 2 ^ 64
 unfolding passthrough_from
 passthrough_joined x y = sym (passthrough-append 0 x y) ∙ behind 256 (2 ^ 64) (passthrough_from 0 x * 256 ^ length y) y
 
@@ -38,14 +39,16 @@ one_pow (suc c) = pow-suc 1 c ∙ ap (λ n. n * 1) (one_pow c)
 -- where a power is 1 modulo m, the exponent counts modulo that power's
 module _ (a m period : ℕ) (one : a ^ period % m ≡ 1 % m) where
   whole_periods : (q : ℕ) → a ^ (period * q) % m ≡ 1 % m
-  whole_periods q = ap (λ n. n % m) (sym (pow_pow a period q)) ∙ sym (pow-mod (a ^ period) q m) ∙ ap (λ n. n ^ q % m) one ∙ pow-mod 1 q m ∙ ap (λ n. n % m) (one_pow q)
+  whole_periods q = ap (λ n. n % m) (sym (pow_pow a period q)) ∙ sym (pow-mod (a ^ period) q m) ∙ ap (λ n. n ^ q % m) one ∙ pow-mod 1 q m
+      ∙ ap (λ n. n % m) (one_pow q)
 
   pow_by_period : (n : ℕ) → a ^ (n % period) % m ≡ a ^ n % m
   pow_by_period n =
       let q = n / period in
       let r = n % period in
       let once : a ^ r ≡ 1 * a ^ r = omega arith in
-      ap (λ k. k % m) once ∙ sym (mul-mod_first 1 (a ^ r) m) ∙ ap (λ k. (k * a ^ r) % m) (sym (whole_periods q)) ∙ mul-mod_first (a ^ (period * q)) (a ^ r) m
+      ap (λ k. k % m) once ∙ sym (mul-mod_first 1 (a ^ r) m) ∙ ap (λ k. (k * a ^ r) % m) (sym (whole_periods q))
+          ∙ mul-mod_first (a ^ (period * q)) (a ^ r) m
       ∙ ap (λ k. k % m) (sym (pow-add a (period * q) r)) ∙ ap (λ k. a ^ k % m) (div-add-mod n period)
 
 -- a long power by short ones

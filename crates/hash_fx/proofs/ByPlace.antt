@@ -59,7 +59,8 @@ behind64 : (piece : List ℕ) (i : ℕ) → get_or (words64 piece) (length piece
 unfolding pieces
 behind64 piece i = rest_at 8 (length piece / 8) i piece (words32 (rest_of piece))
 
-pub four64 : (piece : List ℕ) → 4 ≤ length piece % 8 → get_or (words64 piece) (length piece / 8) 0 ≡ le (take 4 (drop (length piece / 8 * 8) piece))
+pub four64 : (piece : List ℕ) → 4 ≤ length piece % 8 → get_or (words64 piece) (length piece / 8) 0
+    ≡ le (take 4 (drop (length piece / 8 * 8) piece))
 four64 piece some =
     let first : length piece / 8 ≡ length piece / 8 + 0 = omega arith in
     let here : 0 < length (rest_of piece) / 4 = omega (arith, some, rest_len piece) in

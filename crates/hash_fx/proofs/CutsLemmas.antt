@@ -34,7 +34,8 @@ length-at x i d below =
     ∙ ap length (get_or-map (λ (p : Bor (List ℕ)). p.now) x i d [] below)
 
 -- of the same lengths
-pub SameCuts-at : (x y : Pieces) (i : ℕ) (d : Bor (List ℕ)) → SameCuts x y → i < length x → length (get_or x i d).now ≡ length (get_or y i d).now
+pub SameCuts-at : (x y : Pieces) (i : ℕ) (d : Bor (List ℕ)) → SameCuts x y → i < length x
+    → length (get_or x i d).now ≡ length (get_or y i d).now
 SameCuts-at x y i d same below =
     let also : i < length y = omega (arith, SameCuts-length x y same) in
     sym (length-at x i d below) ∙ ap (λ t. get_or t i 0) same ∙ length-at y i d also
@@ -42,7 +43,8 @@ SameCuts-at x y i d same below =
 texts_more : (x : Pieces) (i : ℕ) (d : Bor (List ℕ)) → i < length x → texts (take (i + 1) x) ≡ texts (take i x) ++ (get_or x i d).now ∷ []
 texts_more x i d below = map_more (λ (p : Bor (List ℕ)). p.now) x i d below
 
-pub CutsAgree-more : (x y : Pieces) (i : ℕ) (d : Bor (List ℕ)) → i < length x → i < length y → length (get_or x i d).now ≡ length (get_or y i d).now
+pub CutsAgree-more : (x y : Pieces) (i : ℕ) (d : Bor (List ℕ)) → i < length x → i < length y
+    → length (get_or x i d).now ≡ length (get_or y i d).now
     → IsText (get_or x i d).now → IsText (get_or y i d).now → CutsAgree (take i x) (take i y) → CutsAgree (take (i + 1) x) (take (i + 1) y)
 CutsAgree-more x y i d in_x in_y same_length x_text y_text before = record {
   cuts = ap (map length) (texts_more x i d in_x) ∙ map_push length (texts (take i x)) (get_or x i d).now

@@ -10,6 +10,27 @@ use Rattle.hash_laws.specs.Recurrence.{recurrence}
 use Rattle.hash_laws.proofs.RecurrenceLemmas.{recurrence-fold}
 use Rattle.hash_fx.specs.Fx.{fx32, fx32_step, fx64, fx64_step, words32, words64}
 
+-- a number that is one word
+pub words64-byte : (v : ℕ) → words64 (v ∷ []) ≡ v ∷ []
+unfolding pieces
+words64-byte v = refl
+
+pub words32-byte : (v : ℕ) → words32 (v ∷ []) ≡ v ∷ []
+unfolding pieces
+words32-byte v = refl
+
+pub words32-four : (v : ℕ) → v < 2 ^ 32 → words32 (le_bytes 4 v) ≡ v ∷ []
+unfolding pieces le_bytes
+words32-four v below = ap (λ w. w ∷ []) (sym (from_le_bytes-4 (le_bytes 4 v) refl) ∙ from_le_bytes-to_le_bytes_4 v below)
+
+pub words64-four : (v : ℕ) → v < 2 ^ 32 → words64 (le_bytes 4 v) ≡ v ∷ []
+unfolding pieces le_bytes
+words64-four v below = words32-four v below
+
+pub words64-eight : (v : ℕ) → v < 2 ^ 64 → words64 (le_bytes 8 v) ≡ v ∷ []
+unfolding pieces le_bytes
+words64-eight v below = ap (λ w. w ∷ []) (sym (from_le_bytes-8 (le_bytes 8 v) refl) ∙ from_le_bytes-to_le_bytes_8 v below)
+
 -- one or two words, by any step
 module _ (step : ℕ → ℕ → ℕ) (h v : ℕ) where
   pub of_byte : recurrence step h (v ∷ []) ≡ step h v
@@ -21,29 +42,23 @@ module _ (step : ℕ → ℕ → ℕ) (h v : ℕ) where
       let high : v / 2 ^ 8 % 2 ^ 8 ≡ v / 2 ^ 8 = omega arith in
       recurrence-fold step h (le_bytes 2 v) ∙ ap (step (step h (v % 2 ^ 8))) high
 
-  pub of_four : v < 2 ^ 32 → recurrence step h (le (le_bytes 4 v) ∷ []) ≡ step h v
-  unfolding le_bytes
-  of_four below =
-      let value : le (le_bytes 4 v) ≡ v = sym (from_le_bytes-4 (le_bytes 4 v) refl) ∙ from_le_bytes-to_le_bytes_4 v below in
-      recurrence-fold step h (le (le_bytes 4 v) ∷ []) ∙ ap (step h) value
-
 -- at 64 bits
+pub fx64_of_four : (h v : ℕ) → v < 2 ^ 32 → fx64 h (words64 (le_bytes 4 v)) ≡ fx64_step h v
+fx64_of_four h v below = ap (recurrence fx64_step h) (words64-four v below) ∙ of_byte fx64_step h v
+
 pub fx64_of_eight : (h v : ℕ) → v < 2 ^ 64 → fx64 h (words64 (le_bytes 8 v)) ≡ fx64_step h v
-unfolding pieces le_bytes
-fx64_of_eight h v below =
-    let value : le (le_bytes 8 v) ≡ v = sym (from_le_bytes-8 (le_bytes 8 v) refl) ∙ from_le_bytes-to_le_bytes_8 v below in
-    recurrence-fold fx64_step h (le (le_bytes 8 v) ∷ []) ∙ ap (fx64_step h) value
+fx64_of_eight h v below = ap (recurrence fx64_step h) (words64-eight v below) ∙ of_byte fx64_step h v
 
 -- at 32 bits
 pub fx32_of_four : (h v : ℕ) → v < 2 ^ 32 → fx32 h (words32 (le_bytes 4 v)) ≡ fx32_step h v
-unfolding pieces le_bytes
-fx32_of_four = of_four fx32_step
+fx32_of_four h v below = ap (recurrence fx32_step h) (words32-four v below) ∙ of_byte fx32_step h v
 
 pub fx32_of_eight : (h v : ℕ) → v < 2 ^ 64 → fx32 h (words32 (le_bytes 8 v)) ≡ fx32_step (fx32_step h (v % 2 ^ 32)) (v / 2 ^ 32)
 unfolding pieces le_bytes
 fx32_of_eight h v below =
     let low : le (take 4 (le_bytes 8 v)) ≡ v % 2 ^ 32 = le-4 (take 4 (le_bytes 8 v)) refl ∙ omega arith in
     let high : le (drop 4 (le_bytes 8 v)) ≡ v / 2 ^ 32 = le-4 (drop 4 (le_bytes 8 v)) refl ∙ omega arith in
-    recurrence-fold fx32_step h (le (take 4 (le_bytes 8 v)) ∷ le (drop 4 (le_bytes 8 v)) ∷ []) ∙ ap₂ (λ a b. fx32_step (fx32_step h a) b) low high
+    recurrence-fold fx32_step h (le (take 4 (le_bytes 8 v)) ∷ le (drop 4 (le_bytes 8 v)) ∷ [])
+        ∙ ap₂ (λ a b. fx32_step (fx32_step h a) b) low high
 
-pub ruleset words_of_numbers = (fx64_of_eight, fx32_of_four)
+pub ruleset words_of_numbers = (words64-byte, words64-four, words64-eight, words32-byte, words32-four)

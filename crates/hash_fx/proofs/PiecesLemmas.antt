@@ -46,7 +46,8 @@ words-apart words tells (p ∷ x) (q ∷ y) cuts xs ys one =
           (ap (flat_map words) (texts-same x y later front.1))
       | inr back ↦
           subst (λ t. OneApart (flat_map words (texts (p ∷ x))) (words t ++ flat_map words (texts y))) back.0
-          (OneApart-append_right (words p.now) _ _ (words-apart words tells x y later (All-tail IsText p.now (texts x) xs) (All-tail IsText q.now (texts y) ys) back.1))
+          (OneApart-append_right (words p.now) _ _ (words-apart words tells x y later (All-tail IsText p.now (texts x) xs)
+              (All-tail IsText q.now (texts y) ys) back.1))
     ]
 
 module _ (w : ℕ) (step : ℕ → ℕ → ℕ) (loses : StepFacts step (2 ^ w) (2 ^ w)) where
@@ -62,7 +63,8 @@ module _ (w : ℕ) (step : ℕ → ℕ → ℕ) (loses : StepFacts step (2 ^ w) 
       elim one [
         | inl here ↦
             λ same. here.0 (loses.item_injective s a b known first second
-            (fold_cancels step (IsWord w) (IsWord w) loses.in_range loses.state_injective (step s a) (step s b) u (loses.in_range s a known first) (loses.in_range s b known second) rest
+            (fold_cancels step (IsWord w) (IsWord w) loses.in_range loses.state_injective (step s a) (step s b) u
+                (loses.in_range s a known first) (loses.in_range s b known second) rest
             (same ∙ ap (fold step (step s b)) (sym here.1))))
         | inr later ↦
             λ same. fold-apart (step s a) u v (loses.in_range s a known first) rest (All-tail (IsWord w) b v vs) later.1
@@ -79,7 +81,8 @@ module _ (w : ℕ) (step : ℕ → ℕ → ℕ) (loses : StepFacts step (2 ^ w) 
 
     pieces-fit : (ps : List (List ℕ)) → All IsText ps → All (IsWord w) (flat_map words ps)
     pieces-fit [] all = All-nil (IsWord w)
-    pieces-fit (p ∷ ps) all = All-append (IsWord w) (words p) (flat_map words ps) (fit p (All-head IsText p ps all)) (pieces-fit ps (All-tail IsText p ps all))
+    pieces-fit (p ∷ ps) all = All-append (IsWord w) (words p) (flat_map words ps) (fit p (All-head IsText p ps all))
+        (pieces-fit ps (All-tail IsText p ps all))
 
     pub words-differ : (s : ℕ) (x y : Pieces) → s < 2 ^ w → All IsText (texts x) → All IsText (texts y)
         → OneApart (flat_map words (texts x)) (flat_map words (texts y))
@@ -88,19 +91,28 @@ module _ (w : ℕ) (step : ℕ → ℕ → ℕ) (loses : StepFacts step (2 ^ w) 
         fold-apart s (flat_map words (texts x)) (flat_map words (texts y)) known (pieces-fit (texts x) xs) (pieces-fit (texts y) ys) one
         (sym (fold-pieces s (texts x)) ∙ same ∙ fold-pieces s (texts y))
 
-pub fx64_words-differ : (x y : Pieces) → All IsText (texts x) → All IsText (texts y) → DifferByOneWord words64 x y → fx64_pieces 0 (texts x) ≢ fx64_pieces 0 (texts y)
-fx64_words-differ x y xs ys d = words-differ 64 fx64_step fx64_facts words64 words64-fit 0 x y (lit< tt) xs ys (one_from_DifferAtOnePlace _ _ d.one_word)
+pub fx64_words-differ : (x y : Pieces) → All IsText (texts x) → All IsText (texts y) → DifferByOneWord words64 x y
+    → fx64_pieces 0 (texts x) ≢ fx64_pieces 0 (texts y)
+fx64_words-differ x y xs ys d = words-differ 64 fx64_step fx64_facts words64 words64-fit 0 x y (lit< tt) xs ys
+    (one_from_DifferAtOnePlace _ _ d.one_word)
 
-pub fx32_words-differ : (x y : Pieces) → All IsText (texts x) → All IsText (texts y) → DifferByOneWord words32 x y → fx32_pieces 0 (texts x) ≢ fx32_pieces 0 (texts y)
-fx32_words-differ x y xs ys d = words-differ 32 fx32_step fx32_facts words32 words32-fit 0 x y (lit< tt) xs ys (one_from_DifferAtOnePlace _ _ d.one_word)
+pub fx32_words-differ : (x y : Pieces) → All IsText (texts x) → All IsText (texts y) → DifferByOneWord words32 x y
+    → fx32_pieces 0 (texts x) ≢ fx32_pieces 0 (texts y)
+fx32_words-differ x y xs ys d = words-differ 32 fx32_step fx32_facts words32 words32-fit 0 x y (lit< tt) xs ys
+    (one_from_DifferAtOnePlace _ _ d.one_word)
 
 -- one byte apart is one word apart
-module _ (words : List ℕ → List ℕ) (tells : TellApart words) (x y : Pieces) (xs : All IsText (texts x)) (ys : All IsText (texts y)) (d : DifferByOneByte x y) where
+module _ (words : List ℕ → List ℕ) (tells : TellApart words) (x y : Pieces) (xs : All IsText (texts x)) (ys : All IsText (texts y))
+    (d : DifferByOneByte x y) where
   one-word : OneApart (flat_map words (texts x)) (flat_map words (texts y))
   one-word = words-apart words tells x y d.same_cuts xs ys (one_from_DifferAtOnePlace (joined x) (joined y) d.one_byte)
 
-pub fx64_pieces-differ : (x y : Pieces) → All IsText (texts x) → All IsText (texts y) → DifferByOneByte x y → fx64_pieces 0 (texts x) ≢ fx64_pieces 0 (texts y)
-fx64_pieces-differ x y xs ys d = words-differ 64 fx64_step fx64_facts words64 words64-fit 0 x y (lit< tt) xs ys (one-word words64 words64-apart x y xs ys d)
+pub fx64_pieces-differ : (x y : Pieces) → All IsText (texts x) → All IsText (texts y) → DifferByOneByte x y
+    → fx64_pieces 0 (texts x) ≢ fx64_pieces 0 (texts y)
+fx64_pieces-differ x y xs ys d = words-differ 64 fx64_step fx64_facts words64 words64-fit 0 x y (lit< tt) xs ys
+    (one-word words64 words64-apart x y xs ys d)
 
-pub fx32_pieces-differ : (x y : Pieces) → All IsText (texts x) → All IsText (texts y) → DifferByOneByte x y → fx32_pieces 0 (texts x) ≢ fx32_pieces 0 (texts y)
-fx32_pieces-differ x y xs ys d = words-differ 32 fx32_step fx32_facts words32 words32-fit 0 x y (lit< tt) xs ys (one-word words32 words32-apart x y xs ys d)
+pub fx32_pieces-differ : (x y : Pieces) → All IsText (texts x) → All IsText (texts y) → DifferByOneByte x y
+    → fx32_pieces 0 (texts x) ≢ fx32_pieces 0 (texts y)
+fx32_pieces-differ x y xs ys d = words-differ 32 fx32_step fx32_facts words32 words32-fit 0 x y (lit< tt) xs ys
+    (one-word words32 words32-apart x y xs ys d)

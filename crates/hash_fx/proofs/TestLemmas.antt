@@ -26,7 +26,8 @@ module _ (p q : Bor (List ℕ)) (x y : Pieces) (len : length p.now ≡ length q.
 
   equal_back : (apart : Bool) → p.now ≡ q.now → RestApart apart x y → RestApart apart (p ∷ x) (q ∷ y)
   equal_back true same rest = ap₂ (λ s t. s ++ t) same rest
-  equal_back false same rest = subst (λ t. OneApart (p.now ++ joined x) (t ++ joined y)) same (OneApart-append_right p.now (joined x) (joined y) rest)
+  equal_back false same rest = subst (λ t. OneApart (p.now ++ joined x) (t ++ joined y)) same
+      (OneApart-append_right p.now (joined x) (joined y) rest)
 
   -- a piece that is the same
   pub RestApart-equal : (apart : Bool) → p.now ≡ q.now → RestApart apart (p ∷ x) (q ∷ y) ↔ RestApart apart x y
@@ -56,7 +57,8 @@ module _ (p q : Bor (List ℕ)) (x y : Pieces) (len : length p.now ≡ length q.
 -- ---- one turn of the loop, over which a fact is the same as what is left
 
 module _ (P : Type 0) (x y : Pieces) (i : ℕ) (d : Bor (List ℕ)) (cuts : SameCuts x y) (below : i < length x) where
-  at_turn : (apart : Bool) → P ↔ RestApart apart (drop i x) (drop i y) → P ↔ RestApart apart (get_or x i d ∷ drop (i + 1) x) (get_or y i d ∷ drop (i + 1) y)
+  at_turn : (apart : Bool) → P ↔ RestApart apart (drop i x) (drop i y)
+      → P ↔ RestApart apart (get_or x i d ∷ drop (i + 1) x) (get_or y i d ∷ drop (i + 1) y)
   at_turn apart left =
       let also : i < length y = omega (arith, SameCuts-length x y cuts) in
       rw (drop_more x i d below, drop_more y i d also) at left
@@ -65,10 +67,12 @@ module _ (P : Type 0) (x y : Pieces) (i : ℕ) (d : Bor (List ℕ)) (cuts : Same
       → P ↔ RestApart apart (drop (i + 1) x) (drop (i + 1) y)
   left_equal apart same left =
       let turn = at_turn apart left in
-      let step = RestApart-equal (get_or x i d) (get_or y i d) (drop (i + 1) x) (drop (i + 1) y) (SameCuts-at x y i d cuts below) apart same in
+      let step = RestApart-equal (get_or x i d) (get_or y i d) (drop (i + 1) x) (drop (i + 1) y) (SameCuts-at x y i d cuts below)
+          apart same in
       ((λ p. step.0 (turn.0 p)), λ rest. turn.1 (step.1 rest))
 
-  pub left_first : (apart : Bool) → apart ≡ false → OneApart (get_or x i d).now (get_or y i d).now → P ↔ RestApart apart (drop i x) (drop i y)
+  pub left_first : (apart : Bool) → apart ≡ false → OneApart (get_or x i d).now (get_or y i d).now
+      → P ↔ RestApart apart (drop i x) (drop i y)
       → P ↔ RestApart true (drop (i + 1) x) (drop (i + 1) y)
   left_first true none one left = cc
   left_first false none one left =
@@ -76,23 +80,28 @@ module _ (P : Type 0) (x y : Pieces) (i : ℕ) (d : Bor (List ℕ)) (cuts : Same
       let step = RestApart-first (get_or x i d) (get_or y i d) (drop (i + 1) x) (drop (i + 1) y) (SameCuts-at x y i d cuts below) one in
       ((λ p. step.0 (turn.0 p)), λ rest. turn.1 (step.1 rest))
 
-  pub left_second : (apart : Bool) → apart ≡ true → (get_or x i d).now ≢ (get_or y i d).now → P ↔ RestApart apart (drop i x) (drop i y) → P → ⊥
+  pub left_second : (apart : Bool) → apart ≡ true → (get_or x i d).now ≢ (get_or y i d).now
+      → P ↔ RestApart apart (drop i x) (drop i y) → P → ⊥
   left_second true some ne left =
-      λ p. RestApart-second (get_or x i d) (get_or y i d) (drop (i + 1) x) (drop (i + 1) y) (SameCuts-at x y i d cuts below) ne ((at_turn true left).0 p)
+      λ p. RestApart-second (get_or x i d) (get_or y i d) (drop (i + 1) x) (drop (i + 1) y) (SameCuts-at x y i d cuts below) ne
+          ((at_turn true left).0 p)
   left_second false some ne left = cc
 
-  pub left_many : (apart : Bool) → apart ≡ false → (get_or x i d).now ≢ (get_or y i d).now → (OneApart (get_or x i d).now (get_or y i d).now → ⊥)
+  pub left_many : (apart : Bool) → apart ≡ false → (get_or x i d).now ≢ (get_or y i d).now
+      → (OneApart (get_or x i d).now (get_or y i d).now → ⊥)
       → P ↔ RestApart apart (drop i x) (drop i y) → P → ⊥
   left_many true none ne many left = cc
   left_many false none ne many left =
-      λ p. RestApart-many (get_or x i d) (get_or y i d) (drop (i + 1) x) (drop (i + 1) y) (SameCuts-at x y i d cuts below) ne many ((at_turn false left).0 p)
+      λ p. RestApart-many (get_or x i d) (get_or y i d) (drop (i + 1) x) (drop (i + 1) y) (SameCuts-at x y i d cuts below) ne many
+          ((at_turn false left).0 p)
 
 -- no pieces are left
 at_end : (P : Type 0) (apart : Bool) → P ↔ RestApart apart [] [] → IsTrue apart ↔ P
 at_end P true left = ((λ _. left.1 refl), λ _. refl)
 at_end P false left = ((λ (e : false ≡ true). cc), λ p. absurd (left.0 p))
 
-pub left_none : (P : Type 0) (x y : Pieces) (i : ℕ) → SameCuts x y → length x ≤ i → (apart : Bool) → P ↔ RestApart apart (drop i x) (drop i y) → IsTrue apart ↔ P
+pub left_none : (P : Type 0) (x y : Pieces) (i : ℕ) → SameCuts x y → length x ≤ i → (apart : Bool)
+    → P ↔ RestApart apart (drop i x) (drop i y) → IsTrue apart ↔ P
 left_none P x y i cuts x_end apart left =
     at_end P apart (rw (drop_all i x x_end, drop_all i y (omega (arith, SameCuts-length x y cuts))) at left)
 
@@ -105,7 +114,8 @@ DifferByOneByte-iff x y cuts = (
 )
 
 pub pieces_equal : (p q : List ℕ) (r : Bool) → r ≡ not (pointwise nat_eq p q) → r ≡ false → p ≡ q
-pieces_equal p q r is same = (slice_eq-Decides Decides-eqb p q (pointwise nat_eq p q) refl).0 (not-false (pointwise nat_eq p q) (sym is ∙ same))
+pieces_equal p q r is same = (slice_eq-Decides Decides-eqb p q (pointwise nat_eq p q) refl).0
+    (not-false (pointwise nat_eq p q) (sym is ∙ same))
 
 pub pieces_differ : (p q : List ℕ) (r : Bool) → r ≡ not (pointwise nat_eq p q) → r ≡ true → p ≢ q
 pieces_differ p q r is differ = λ same. let equal = (slice_eq-Decides Decides-eqb p q (pointwise nat_eq p q) refl).1 same in cc

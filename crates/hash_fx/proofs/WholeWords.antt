@@ -17,7 +17,8 @@ use Rattle.hash_fx.specs.Pieces.{AreWhole}
 use Rattle.hash_fx.proofs.CutsLemmas.{Pieces, no_piece}
 
 -- the first text is i words of n bytes
-words-append : (n : ℕ) (rest : List ℕ → List ℕ) (a b : List ℕ) (i j k : ℕ) → rest [] ≡ [] → k ≡ i + j → length a ≡ i * n → k * n ≡ length a + j * n
+words-append : (n : ℕ) (rest : List ℕ → List ℕ) (a b : List ℕ) (i j k : ℕ) → rest [] ≡ [] → k ≡ i + j → length a ≡ i * n
+    → k * n ≡ length a + j * n
     → map le (first_chunks n k (a ++ b)) ++ rest (drop (k * n) (a ++ b))
     ≡ (map le (first_chunks n i a) ++ rest (drop (i * n) a)) ++ (map le (first_chunks n j b) ++ rest (drop (j * n) b))
 words-append n rest a b i j k none sum whole places =
@@ -26,24 +27,28 @@ words-append n rest a b i j k none sum whole places =
     let left : drop (k * n) (a ++ b) ≡ drop (j * n) b = ap (λ m. drop m (a ++ b)) places ∙ drop-append-add a b (j * n) in
     let no_rest : map le (first_chunks n i a) ++ rest (drop (i * n) a) ≡ map le (first_chunks n i a) =
     ap (λ t. map le (first_chunks n i a) ++ t) (ap rest (drop_all (i * n) a (omega arith)) ∙ none) ∙ append-nil _ in
-    ap₂ (λ s t. s ++ rest t) words left ∙ append_assoc (map le (first_chunks n i a)) (map le (first_chunks n j b)) (rest (drop (j * n) b)) ∙ ap (λ s. s ++ (map le (first_chunks n j b) ++ rest (drop (j * n) b))) (sym no_rest)
+    ap₂ (λ s t. s ++ rest t) words left ∙ append_assoc (map le (first_chunks n i a)) (map le (first_chunks n j b)) (rest (drop (j * n) b))
+        ∙ ap (λ s. s ++ (map le (first_chunks n j b) ++ rest (drop (j * n) b))) (sym no_rest)
 
 pub words32-append : (a b : List ℕ) → length a % 4 ≡ 0 → words32 (a ++ b) ≡ words32 a ++ words32 b
 unfolding pieces
 words32-append a b whole =
     let size = length-append a b in
-    words-append 4 (λ t. t) a b (length a / 4) (length b / 4) (length (a ++ b) / 4) refl (omega (arith, size)) (omega arith) (omega (arith, size))
+    words-append 4 (λ t. t) a b (length a / 4) (length b / 4) (length (a ++ b) / 4) refl (omega (arith, size)) (omega arith)
+        (omega (arith, size))
 
 pub words64-append : (a b : List ℕ) → length a % 8 ≡ 0 → words64 (a ++ b) ≡ words64 a ++ words64 b
 unfolding pieces
 words64-append a b whole =
     let size = length-append a b in
-    words-append 8 words32 a b (length a / 8) (length b / 8) (length (a ++ b) / 8) refl (omega (arith, size)) (omega arith) (omega (arith, size))
+    words-append 8 words32 a b (length a / 8) (length b / 8) (length (a ++ b) / 8) refl (omega (arith, size)) (omega arith)
+        (omega (arith, size))
 
 -- ---- one piece more
 
 -- a piece before the last
-piece_whole : (n : ℕ) (pieces : Pieces) (i : ℕ) (d : Bor (List ℕ)) → AreWhole n pieces → i + 1 < length pieces → length (get_or pieces i d).now % n ≡ 0
+piece_whole : (n : ℕ) (pieces : Pieces) (i : ℕ) (d : Bor (List ℕ)) → AreWhole n pieces → i + 1 < length pieces
+    → length (get_or pieces i d).now % n ≡ 0
 piece_whole n pieces i d whole more =
     let within : i < length pieces - 1 = omega arith in
     let size : length (take (length pieces - 1) (texts pieces)) ≡ length pieces - 1 =
@@ -62,22 +67,28 @@ module _ (step : ℕ → ℕ → ℕ) (words : List ℕ → List ℕ) (n : ℕ)
     (sums : (a b : ℕ) → a % n ≡ 0 → b % n ≡ 0 → (a + b) % n ≡ 0) where
   at_more : (start state next i : ℕ) (pieces : Pieces) → AreWhole n pieces → i < length pieces
       → next ≡ recurrence step state (words (get_or pieces i no_piece).now)
-      → IsAt (λ s text. recurrence step s (words text)) n start state i pieces → IsAt (λ s text. recurrence step s (words text)) n start next (i + 1) pieces
+      → IsAt (λ s text. recurrence step s (words text)) n start state i pieces
+          → IsAt (λ s text. recurrence step s (words text)) n start next (i + 1) pieces
   at_more start state next i pieces whole below led before =
       let so_far = joined (take i pieces) in
       let piece = (get_or pieces i no_piece).now in
       let more : joined (take (i + 1) pieces) ≡ so_far ++ piece = joined_more (λ piece. piece.now) [] pieces i no_piece below in
       record {
-        there = led ∙ ap (λ s. recurrence step s (words piece)) before.there ∙ sym (recurrence-append step start (words so_far) (words piece))
-            ∙ ap (recurrence step start) (sym (joins so_far piece (before.whole below))) ∙ ap (λ t. recurrence step start (words t)) (sym more);
+        there = led ∙ ap (λ s. recurrence step s (words piece)) before.there
+            ∙ sym (recurrence-append step start (words so_far) (words piece))
+            ∙ ap (recurrence step start) (sym (joins so_far piece (before.whole below)))
+                ∙ ap (λ t. recurrence step start (words t)) (sym more);
         whole = λ left.
-            rw (more, length-append so_far piece) (sums (length so_far) (length piece) (before.whole below) (piece_whole n pieces i no_piece whole left));
+            rw (more, length-append so_far piece) (sums (length so_far) (length piece) (before.whole below)
+                (piece_whole n pieces i no_piece whole left));
       }
 
-pub at_more64 : (start state next i : ℕ) (pieces : Pieces) → AreWhole 8 pieces → i < length pieces → next ≡ fx64 state (words64 (get_or pieces i no_piece).now)
+pub at_more64 : (start state next i : ℕ) (pieces : Pieces) → AreWhole 8 pieces → i < length pieces
+    → next ≡ fx64 state (words64 (get_or pieces i no_piece).now)
     → IsAt (λ s text. fx64 s (words64 text)) 8 start state i pieces → IsAt (λ s text. fx64 s (words64 text)) 8 start next (i + 1) pieces
 at_more64 = at_more fx64_step words64 8 words64-append (λ a b first second. omega (arith, first, second))
 
-pub at_more32 : (start state next i : ℕ) (pieces : Pieces) → AreWhole 4 pieces → i < length pieces → next ≡ fx32 state (words32 (get_or pieces i no_piece).now)
+pub at_more32 : (start state next i : ℕ) (pieces : Pieces) → AreWhole 4 pieces → i < length pieces
+    → next ≡ fx32 state (words32 (get_or pieces i no_piece).now)
     → IsAt (λ s text. fx32 s (words32 text)) 4 start state i pieces → IsAt (λ s text. fx32 s (words32 text)) 4 start next (i + 1) pieces
 at_more32 = at_more fx32_step words32 4 words32-append (λ a b first second. omega (arith, first, second))

@@ -25,12 +25,14 @@ module _ (words : List ℕ → List ℕ) (long : (x y : List ℕ) → length x �
       ∙ sym (length-append (words q.now) (words_of words y))
 
   first-and-rest : (p q : Bor (List ℕ)) (x y : Pieces) → length p.now ≡ length q.now
-      → differences (words_of words (p ∷ x)) (words_of words (q ∷ y)) ≡ differences (words p.now) (words q.now) + differences (words_of words x) (words_of words y)
+      → differences (words_of words (p ∷ x)) (words_of words (q ∷ y))
+          ≡ differences (words p.now) (words q.now) + differences (words_of words x) (words_of words y)
   first-and-rest p q x y len = differences-append (words p.now) (words q.now) (words_of words x) (words_of words y) (long p.now q.now len)
 
   one-more : (x y : Pieces) (i : ℕ) (d : Bor (List ℕ)) → SameCuts x y → i < length x
       → differences (words_of words (take (suc i) x)) (words_of words (take (suc i) y))
-      ≡ differences (words_of words (take i x)) (words_of words (take i y)) + differences (words (get_or x i d).now) (words (get_or y i d).now)
+      ≡ differences (words_of words (take i x)) (words_of words (take i y))
+          + differences (words (get_or x i d).now) (words (get_or y i d).now)
   one-more [] y i d cuts below = absurd (omega (arith, below))
   one-more (p ∷ x) [] i d cuts below = cc
   one-more (p ∷ x) (q ∷ y) zero d cuts below =
@@ -48,14 +50,16 @@ module _ (words : List ℕ → List ℕ) (long : (x y : List ℕ) → length x �
   -- a turn of the loop
   pub more-words : (x y : Pieces) (i : ℕ) (d : Bor (List ℕ)) → SameCuts x y → i < length x
       → differences (words_of words (take (i + 1) x)) (words_of words (take (i + 1) y))
-      ≡ differences (words_of words (take i x)) (words_of words (take i y)) + differences (words (get_or x i d).now) (words (get_or y i d).now)
+      ≡ differences (words_of words (take i x)) (words_of words (take i y))
+          + differences (words (get_or x i d).now) (words (get_or y i d).now)
   more-words x y i d cuts below =
       let next : i + 1 ≡ suc i = omega arith in
       ap (λ k. differences (words_of words (take k x)) (words_of words (take k y))) next ∙ one-more x y i d cuts below
 
   in-two : (x y : Pieces) (i : ℕ) → SameCuts x y
       → differences (words_of words x) (words_of words y)
-      ≡ differences (words_of words (take i x)) (words_of words (take i y)) + differences (words_of words (drop i x)) (words_of words (drop i y))
+      ≡ differences (words_of words (take i x)) (words_of words (take i y))
+          + differences (words_of words (drop i x)) (words_of words (drop i y))
   in-two x y zero cuts = omega arith
   in-two [] [] (suc i) cuts = refl
   in-two [] (q ∷ y) (suc i) cuts = cc
@@ -69,18 +73,21 @@ module _ (words : List ℕ → List ℕ) (long : (x y : List ℕ) → length x �
       omega (arith, whole, front, rest)
 
   -- one difference in all is one word
-  pub DifferByOneWord-iff : (x y : Pieces) → SameCuts x y → (differences (words_of words x) (words_of words y) ≡ 1) ↔ DifferByOneWord words x y
+  pub DifferByOneWord-iff : (x y : Pieces) → SameCuts x y → (differences (words_of words x) (words_of words y) ≡ 1)
+      ↔ DifferByOneWord words x y
   DifferByOneWord-iff x y cuts = (
     (λ one. record { same_cuts = cuts; one_word = DifferAtOnePlace-from_one _ _ (one-OneApart _ _ (as-many x y cuts) one) }),
     λ d. OneApart-one _ _ (one_from_DifferAtOnePlace _ _ d.one_word),
   )
 
   -- two differences are too many
-  pub too-many : (x y : Pieces) (i : ℕ) → SameCuts x y → 1 < differences (words_of words (take i x)) (words_of words (take i y)) → DifferByOneWord words x y → ⊥
+  pub too-many : (x y : Pieces) (i : ℕ) → SameCuts x y → 1 < differences (words_of words (take i x)) (words_of words (take i y))
+      → DifferByOneWord words x y → ⊥
   too-many x y i cuts many d = omega (arith, many, in-two x y i cuts, (DifferByOneWord-iff x y cuts).1 d)
 
   -- all pieces
   pub at-the-end : (x y : Pieces) (i : ℕ) → SameCuts x y → length x ≤ i
       → differences (words_of words (take i x)) (words_of words (take i y)) ≡ differences (words_of words x) (words_of words y)
   at-the-end x y i cuts end =
-      ap₂ (λ u v. differences (words_of words u) (words_of words v)) (take_all i x end) (take_all i y (omega (arith, end, SameCuts-length x y cuts)))
+      ap₂ (λ u v. differences (words_of words u) (words_of words v)) (take_all i x end)
+          (take_all i y (omega (arith, end, SameCuts-length x y cuts)))

@@ -134,6 +134,9 @@ pub fn apart_by_one_word_fx32(x: &[&[u8]], y: &[&[u8]]) -> bool
 /// At 64 bits a number of 8, 32 or 64 bits is one word, as `write_u8`, `write_u32`, `write_u64` and `write_usize` write
 /// it, and one of 16 bits is two words of a byte, the low one first.
 pub fn fixed_widths_are_words64()
+    ensures one_byte { (v : ℕ) → words64 (v ∷ []) ≡ v ∷ [] }
+    ensures one_of_four { (v : ℕ) → v < 2 ^ 32 → words64 (le_bytes 4 v) ≡ v ∷ [] }
+    ensures one_of_eight { (v : ℕ) → v < 2 ^ 64 → words64 (le_bytes 8 v) ≡ v ∷ [] }
     ensures byte { (h v : ℕ) → v < 2 ^ 8 → fx64 h (words64 (v ∷ [])) ≡ fx64_step h v }
     ensures two_bytes { (h v : ℕ) → v < 2 ^ 16
         → fx64 h (words64 (le_bytes 2 v)) ≡ fx64_step (fx64_step h (v % 2 ^ 8)) (v / 2 ^ 8) }
@@ -144,12 +147,22 @@ pub fn fixed_widths_are_words64()
 /// At 32 bits a number of 8 or 32 bits is one word, one of 16 bits is two words of a byte, and one of 64 bits, as
 /// `write_u64` and `write_usize` write it, is two words of 32 bits, the low ones first.
 pub fn fixed_widths_are_words32()
+    ensures one_byte { (v : ℕ) → words32 (v ∷ []) ≡ v ∷ [] }
+    ensures one_of_four { (v : ℕ) → v < 2 ^ 32 → words32 (le_bytes 4 v) ≡ v ∷ [] }
     ensures byte { (h v : ℕ) → v < 2 ^ 8 → fx32 h (words32 (v ∷ [])) ≡ fx32_step h v }
     ensures two_bytes { (h v : ℕ) → v < 2 ^ 16
         → fx32 h (words32 (le_bytes 2 v)) ≡ fx32_step (fx32_step h (v % 2 ^ 8)) (v / 2 ^ 8) }
     ensures four_bytes { (h v : ℕ) → v < 2 ^ 32 → fx32 h (words32 (le_bytes 4 v)) ≡ fx32_step h v }
     ensures eight_bytes { (h v : ℕ) → v < 2 ^ 64
         → fx32 h (words32 (le_bytes 8 v)) ≡ fx32_step (fx32_step h (v % 2 ^ 32)) (v / 2 ^ 32) }
+{}
+
+/// A law with no code: under fx cuts show. `abcd` as one piece and as two has different hashes.
+pub fn cuts_show_in_fx()
+    ensures at_64 { fx64_pieces 0 ((97 ∷ 98 ∷ 99 ∷ 100 ∷ []) ∷ [])
+        ≢ fx64_pieces 0 ((97 ∷ 98 ∷ []) ∷ (99 ∷ 100 ∷ []) ∷ []) }
+    ensures at_32 { fx32_pieces 0 ((97 ∷ 98 ∷ 99 ∷ 100 ∷ []) ∷ [])
+        ≢ fx32_pieces 0 ((97 ∷ 98 ∷ []) ∷ (99 ∷ 100 ∷ []) ∷ []) }
 {}
 
 /// The words of a piece by 64 bits, by place, a law with no code: first a little-endian word of each eight bytes, then one of

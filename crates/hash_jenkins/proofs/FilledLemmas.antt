@@ -17,7 +17,8 @@ pub filled-same : (n : ℕ) (q r : List ℕ) → length q ≡ length r → zero_
 filled-same n q r len same =
     sym (take_at q _ (length q) refl) ∙ ap (take (length q)) same ∙ take_at r _ (length q) (sym len)
 
-append-at : (x y t : List ℕ) (i : ℕ) → length x ≡ length y → slice_index x i ≡ slice_index y i → slice_index (x ++ t) i ≡ slice_index (y ++ t) i
+append-at : (x y t : List ℕ) (i : ℕ) → length x ≡ length y → slice_index x i ≡ slice_index y i
+    → slice_index (x ++ t) i ≡ slice_index (y ++ t) i
 append-at [] [] t i len same = refl
 append-at [] (b ∷ y) t i len same = absurd (omega (arith, len))
 append-at (a ∷ x) [] t i len same = absurd (omega (arith, len))
@@ -25,5 +26,6 @@ append-at (a ∷ x) (b ∷ y) t zero len same = same
 append-at (a ∷ x) (b ∷ y) t (suc i) len same = append-at x y t i (omega (arith, len)) same
 
 -- where the texts agree, they do so filled up
-pub filled-at : (n : ℕ) (x y : List ℕ) (i : ℕ) → length x ≡ length y → slice_index x i ≡ slice_index y i → slice_index (zero_filled n x) i ≡ slice_index (zero_filled n y) i
+pub filled-at : (n : ℕ) (x y : List ℕ) (i : ℕ) → length x ≡ length y → slice_index x i ≡ slice_index y i
+    → slice_index (zero_filled n x) i ≡ slice_index (zero_filled n y) i
 filled-at n x y i len same = rw len (append-at x y (replicate (n - length y) 0) i len same)

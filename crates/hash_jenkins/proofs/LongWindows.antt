@@ -41,7 +41,8 @@ long_words-same : (s t r : List ℕ) → AreTwelve s → AreTwelve t → IsText 
 long_words-same s t r s_in t_in text few same =
     spooky_end-same (le_words (padded r)) s t (data-in (padded r) (padded-piece r text few)) s_in t_in same
 
-long_words-tail : (s q r : List ℕ) → AreTwelve s → IsText q → IsText r → length q < 96 → length q ≡ length r → long_words s q ≡ long_words s r → q ≡ r
+long_words-tail : (s q r : List ℕ) → AreTwelve s → IsText q → IsText r → length q < 96 → length q ≡ length r
+    → long_words s q ≡ long_words s r → q ≡ r
 long_words-tail s q r s_in qs rs few len same =
     let q_is = padded-piece q qs few in
     let r_is = padded-piece r rs (omega (arith, few, len)) in
@@ -49,7 +50,8 @@ long_words-tail s q r s_in qs rs few len same =
     let whole : padded q ≡ padded r = data-same (padded q) (padded r) q_is r_is equal in
     let q_len : length (zero_filled 95 q) ≡ 95 = (filled-piece 95 q qs (omega (arith, few))).1 in
     let r_len : length (zero_filled 95 r) ≡ 95 = (filled-piece 95 r rs (omega (arith, few, len))).1 in
-    filled-same 95 q r len (sym (take_at (zero_filled 95 q) (length q ∷ []) 95 q_len) ∙ ap (take 95) whole ∙ take_at (zero_filled 95 r) (length r ∷ []) 95 r_len)
+    filled-same 95 q r len (sym (take_at (zero_filled 95 q) (length q ∷ []) 95 q_len) ∙ ap (take 95) whole
+        ∙ take_at (zero_filled 95 r) (length r ∷ []) 95 r_len)
 
 -- ---- texts
 
@@ -79,14 +81,17 @@ module _ (seed1 seed2 : ℕ) (x y : List ℕ) (s1 : seed1 < 2 ^ 64) (s2 : seed2 
   after_in : (z : List ℕ) → AreTwelve (spooky_blocks start z)
   after_in z = spooky_blocks-words start z refl start_in.1
 
-  pub words-differ : (w : ℕ) → DifferFrom (8 * w) 88 x y → 8 * w + 88 ≤ length x / 96 * 96 → twelve_words seed1 seed2 x ≢ twelve_words seed1 seed2 y
+  pub words-differ : (w : ℕ) → DifferFrom (8 * w) 88 x y → 8 * w + 88 ≤ length x / 96 * 96
+      → twelve_words seed1 seed2 x ≢ twelve_words seed1 seed2 y
   words-differ w differ within = λ same.
       let len = differ.same_length in
       let k = length x / 96 in
-      let rest : drop (k * 96) x ≡ drop (k * 96) y = rest-same (k * 96) x y len (λ i. differ.outside (k * 96 + i) (inr (omega (arith, within)))) in
+      let rest : drop (k * 96) x ≡ drop (k * 96) y = rest-same (k * 96) x y len
+          (λ i. differ.outside (k * 96 + i) (inr (omega (arith, within)))) in
       let count : length y / 96 ≡ k = ap (λ n. n / 96) (sym len) in
       let tails : tail x ≡ tail y = tail-is x ∙ rest ∙ ap (λ n. drop (n * 96) y) (sym count) ∙ sym (tail-is y) in
-      let states = long_words-same _ _ (tail x) (after_in x) (after_in y) (tail-text x xs) (tail-lt x) (same ∙ ap (long_words (spooky_blocks start y)) (sym tails)) in
+      let states = long_words-same _ _ (tail x) (after_in x) (after_in y) (tail-text x xs) (tail-lt x)
+          (same ∙ ap (long_words (spooky_blocks start y)) (sym tails)) in
       let blocks : fold mix_block start (first_chunks 96 k x) ≡ fold mix_block start (first_chunks 96 k y) =
       sym (blocks-are start x) ∙ states ∙ blocks-are start y ∙ ap (λ n. fold mix_block start (first_chunks 96 n y)) count in
       differ.different (blocks-window k w x y start start_in xs ys len (omega arith) (λ i out. differ.outside i out) rest blocks)
@@ -98,9 +103,11 @@ module _ (seed1 seed2 : ℕ) (x y : List ℕ) (s1 : seed1 < 2 ^ 64) (s2 : seed2 
       let count : length y / 96 ≡ length x / 96 = ap (λ n. n / 96) (sym len) in
       let front : take n x ≡ take n y = part-same n 0 x y len (λ i i_in. differ.outside (0 + i) (inl (omega (arith, i_in)))) in
       let blocks : spooky_blocks start x ≡ spooky_blocks start y =
-      sym (spooky_blocks-take start x n refl) ∙ ap (spooky_blocks start) front ∙ spooky_blocks-take start y n (ap (λ m. m * 96) (sym count)) in
+      sym (spooky_blocks-take start x n refl) ∙ ap (spooky_blocks start) front
+          ∙ spooky_blocks-take start y n (ap (λ m. m * 96) (sym count)) in
       let long : length (tail x) ≡ length (tail y) = omega (arith, len, tail-long x, tail-long y) in
-      let tails : tail x ≡ tail y = long_words-tail (spooky_blocks start x) (tail x) (tail y) (after_in x) (tail-text x xs) (tail-text y ys) (tail-lt x) long
+      let tails : tail x ≡ tail y = long_words-tail (spooky_blocks start x) (tail x) (tail y) (after_in x) (tail-text x xs)
+          (tail-text y ys) (tail-lt x) long
       (same ∙ ap (λ s. long_words s (tail y)) (sym blocks)) in
       let rest : drop n x ≡ drop n y = sym (tail-is x) ∙ tails ∙ tail-is y ∙ ap (λ m. drop (m * 96) y) count in
       differ.different (sym (take-append-drop n x) ∙ ap₂ (λ (a b : List ℕ). a ++ b) front rest ∙ take-append-drop n y)

@@ -42,7 +42,8 @@ add_block-AreThreeWords s block known = add_words-AreThreeWords s _ _ _ known
 mix_blocks-AreThreeWords : (blocks : List (List ℕ)) (s : List ℕ) → AreThreeWords s → AreThreeWords (mix_blocks s blocks)
 mix_blocks-AreThreeWords [] s known = known
 mix_blocks-AreThreeWords (block ∷ blocks) s known =
-    mix_blocks-AreThreeWords blocks (mix_block s block) (apply-AreThreeWords rounds.lookup3_mix_steps _ lookup3_mix-steps (add_block-AreThreeWords s block known))
+    mix_blocks-AreThreeWords blocks (mix_block s block) (apply-AreThreeWords rounds.lookup3_mix_steps _ lookup3_mix-steps
+        (add_block-AreThreeWords s block known))
 
 pub start-AreThreeWords : (pc pb n : ℕ) → AreThreeWords (start pc pb n)
 start-AreThreeWords pc pb n = (refl, below) where

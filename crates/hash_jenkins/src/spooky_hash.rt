@@ -5,7 +5,7 @@
 //! twelve words take blocks of 96 bytes, and the tail of 0 to 95 bytes ends in its own length. Version 1 is an older form,
 //! kept for values that were stored: it leaves the length of a text below 192 bytes out, so that zeros at its end don't
 //! show.
-ghost use Rattle.std.specs.Prelude.{◌≡◌, ℕ, ◌+◌, ◌<◌, ◌≤◌, ◌^◌, List, [], ◌∷◌, ◌++◌, refl};
+ghost use Rattle.std.specs.Prelude.{◌≡◌, ℕ, ◌+◌, ◌<◌, ◌≤◌, ◌^◌, List, [], ◌∷◌, ◌++◌, slice_index, refl};
 ghost use Rattle.std.proofs.Common.{lit<};
 ghost use Rattle.hash_jenkins.specs.Spooky.{Position, position, after, hash, hash_v1, short_words_at, short_words_of, spooky, spooky_v1};
 ghost use Rattle.hash_jenkins.specs.Counted.{Counted, after_write, MixesBlock};
@@ -61,6 +61,7 @@ impl SpookyHasher {
     pub fn new(seed1: u64, seed2: u64) -> SpookyHasher
         ensures position { result.at ≡ position seed1 seed2 [] }
         ensures stands { SpookyStandsAt result.at (seed1 ∷ seed2 ∷ []) [] }
+        ensures in_range { IsPosition result.at }
         ensures turns { result.turns ≡ 0 }
     {
         SpookyHasher {
@@ -74,6 +75,8 @@ impl SpookyHasher {
         ensures here { result ≡ hash self.now.at }
         ensures of_text { (seed1 seed2 : ℕ) (text : List ℕ) → self.now.at ≡ position seed1 seed2 text
             → result ≡ spooky seed1 seed2 text }
+        ensures where_it_stands { (from text : List ℕ) → SpookyStandsAt self.now.at from text
+            → result ≡ spooky (slice_index from 0) (slice_index from 1) text }
         ensures in_range { IsPosition self.now.at }
     {
         self.parts.finish128()

@@ -1,11 +1,11 @@
 //! Laws of lookup3 and of SpookyHash alone.
-ghost use Rattle.std.specs.Prelude.{◌≡◌, ◌≢◌, ◌↔◌, ◌<◌, ◌≤◌, ◌+◌, ◌*◌, ◌/◌, ◌^◌, ℕ, List, IsTrue, fold, length};
+ghost use Rattle.std.specs.Prelude.{◌≡◌, ◌≢◌, ◌↔◌, ◌<◌, ◌≤◌, ◌+◌, ◌*◌, ◌/◌, ◌^◌, ℕ, List, [], ◌∷◌, ◌++◌, IsTrue, fold, length};
 ghost use Rattle.std.specs.Bool.{OnTrue};
 ghost use Rattle.hash_laws.specs.Text.{IsText, texts};
 ghost use Rattle.hash_jenkins.specs.Filled.{zero_filled};
 ghost use Rattle.hash_jenkins.specs.Lookup3.{lookup3_from, lookup3_answer, lookup3_words};
 ghost use Rattle.hash_jenkins.specs.Mixing.{DifferFrom, DifferInOne, twelve_words};
-ghost use Rattle.hash_jenkins.specs.Spooky.{short_words, short_words_v1};
+ghost use Rattle.hash_jenkins.specs.Spooky.{after, position, short_words, short_words_v1, spooky_v1};
 ghost use Rattle.hash_jenkins.specs.Zeros.{AddsZeros, HaveOtherWords};
 
 use crate::lookup::Lookup3Hasher;
@@ -33,6 +33,24 @@ pub fn apart_by_zeros(x: &[u8], y: &[u8]) -> bool
     }
     is_filled(x, y)
 }
+
+/// A law with no code: by version 1 zeros at the end of a text below 192 bytes don't show.
+pub fn zeros_do_not_show_in_version_1()
+    ensures { (x y : List ℕ) → AddsZeros x y
+        → (seed1 seed2 : ℕ) → spooky_v1 seed1 seed2 x ≡ spooky_v1 seed1 seed2 y }
+{}
+
+/// A law with no code: the position of two texts, one behind the other, is that after the second from that of the first.
+pub fn position_of_joined_texts()
+    ensures { (seed1 seed2 : ℕ) (text more : List ℕ)
+        → position seed1 seed2 (text ++ more) ≡ after (position seed1 seed2 text) more }
+{}
+
+/// A law with no code: in lookup3 cuts show. The answer to `a` and then `b` is not that to `ab`.
+pub fn cuts_show_in_lookup3()
+    ensures { lookup3_answer (lookup3_from (lookup3_from (0, 0) (97 ∷ [])) (98 ∷ []))
+        ≢ lookup3_answer (lookup3_from (0, 0) (97 ∷ 98 ∷ [])) }
+{}
 
 /// Feeds the pieces to both hashers, in order. Where their answers were equal before, they are equal afterwards: what
 /// `finish` answers is the whole state.

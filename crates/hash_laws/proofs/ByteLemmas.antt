@@ -37,7 +37,8 @@ module _ (step : ℕ → ℕ → ℕ) (bound : ℕ) (after : ℕ → List ℕ �
     after_below s text known bytes = rw (is_fold s text known) (fold_in_range step (λ u. u < bound) IsByte in_range s text known bytes)
 
     -- a text in two pieces
-    pub after_joined : (s : ℕ) (text more : List ℕ) → s < bound → IsText text → IsText more → after s (text ++ more) ≡ after (after s text) more
+    pub after_joined : (s : ℕ) (text more : List ℕ) → s < bound → IsText text → IsText more
+        → after s (text ++ more) ≡ after (after s text) more
     after_joined s text more known bytes _ =
         is_fold s (text ++ more) known ∙ fold-append step s text more ∙ ap (λ t. fold step t more) (sym (is_fold s text known))
         ∙ sym (is_fold (after s text) more (after_below s text known bytes))
@@ -67,13 +68,15 @@ module _ (step : ℕ → ℕ → ℕ) (bound : ℕ) (after : ℕ → List ℕ �
     pub after_injective : ((s t b : ℕ) → s < bound → t < bound → b < 256 → step s b ≡ step t b → s ≡ t)
         → (s t : ℕ) (text : List ℕ) → s < bound → t < bound → IsText text → after s text ≡ after t text → s ≡ t
     after_injective state_injective s t text ks kt bytes same =
-        fold_cancels step (λ u. u < bound) IsByte in_range state_injective s t text ks kt bytes (sym (is_fold s text ks) ∙ same ∙ is_fold t text kt)
+        fold_cancels step (λ u. u < bound) IsByte in_range state_injective s t text ks kt bytes
+            (sym (is_fold s text ks) ∙ same ∙ is_fold t text kt)
 
     -- a state from which a text leads to another is the only one
     pub undone : ((s t b : ℕ) → s < bound → t < bound → b < 256 → step s b ≡ step t b → s ≡ t)
         → (old state : ℕ) (text : List ℕ) → state < bound → IsText text → after state text ≡ old
         → (s : ℕ) → s < bound → after s text ≡ old → state ≡ s
-    undone state_injective old state text known bytes back s ks led = after_injective state_injective state s text known ks bytes (back ∙ sym led)
+    undone state_injective old state text known bytes back s ks led
+        = after_injective state_injective state s text known ks bytes (back ∙ sym led)
 
 -- what was taken out of a piece so far, from its end: from the state, these bytes lead to the old one
 pub record Undoing (after : ℕ → List ℕ → ℕ) (bound old state : ℕ) (left piece : List ℕ) : Type 0 where
@@ -86,23 +89,28 @@ module _ (step : ℕ → ℕ → ℕ) (bound : ℕ) (after : ℕ → List ℕ �
     (is_fold : (s : ℕ) (text : List ℕ) → s < bound → after s text ≡ fold step s text) where
   -- nothing was taken out yet
   pub undoing_none : (state : ℕ) (left piece : List ℕ) → left ≡ piece → state < bound → Undoing after bound state state left piece
-  undoing_none state left piece whole known = record { taken = []; split = sym whole ∙ sym (append-nil left); back = is_fold state [] known; in_range = known }
+  undoing_none state left piece whole known = record { taken = []; split = sym whole ∙ sym (append-nil left);
+      back = is_fold state [] known; in_range = known }
 
   -- one byte more is taken out
-  pub undoing_more : (old state before byte : ℕ) (left front piece : List ℕ) → left ≡ front ++ byte ∷ [] → before < bound → step before byte ≡ state
+  pub undoing_more : (old state before byte : ℕ) (left front piece : List ℕ) → left ≡ front ++ byte ∷ [] → before < bound
+      → step before byte ≡ state
       → Undoing after bound old state left piece → Undoing after bound old before front piece
   undoing_more old state before byte left front piece last known there so_far = record {
     taken = byte ∷ so_far.taken;
     split = so_far.split ∙ ap (λ t. t ++ so_far.taken) last ∙ append_assoc front (byte ∷ []) so_far.taken;
-    back = is_fold before (byte ∷ so_far.taken) known ∙ ap (λ s. fold step s so_far.taken) there ∙ sym (is_fold state so_far.taken so_far.in_range) ∙ so_far.back;
+    back = is_fold before (byte ∷ so_far.taken) known ∙ ap (λ s. fold step s so_far.taken) there
+        ∙ sym (is_fold state so_far.taken so_far.in_range) ∙ so_far.back;
     in_range = known;
   }
 
 -- all bytes are taken out
-pub undoing_all : (after : ℕ → List ℕ → ℕ) (bound old state : ℕ) (left piece : List ℕ) → length left ≡ 0 → Undoing after bound old state left piece → after state piece ≡ old
+pub undoing_all : (after : ℕ → List ℕ → ℕ) (bound old state : ℕ) (left piece : List ℕ) → length left ≡ 0
+    → Undoing after bound old state left piece → after state piece ≡ old
 undoing_all after bound old state [] piece none all = ap (after state) all.split ∙ all.back
 undoing_all after bound old state (byte ∷ left) piece none all = absurd (omega (arith, none))
 
 -- where a hasher stands decides its state
-pub stands_state : (after : ℕ → List ℕ → ℕ) (bound h : ℕ) (from text : List ℕ) → StandsAt after bound h from text → h ≡ after (slice_index from 0) text
+pub stands_state : (after : ℕ → List ℕ → ℕ) (bound h : ℕ) (from text : List ℕ) → StandsAt after bound h from text
+    → h ≡ after (slice_index from 0) text
 stands_state after bound h from text stood = stood.there ∙ ap (λ s. after (slice_index s 0) text) (sym stood.only)

@@ -15,7 +15,8 @@ pub answers_differ : {S : Type 0} (in_range : S → Type 0) (after : S → List 
     → ((s t : S) → in_range s → in_range t → answer s ≡ answer t → s ≡ t)
     → ((text : List ℕ) → hash_of text ≡ answer (after fresh text))
     → (x y : List ℕ) → IsText x → IsText y → DifferAtOnePlace x y → hash_of x ≢ hash_of y
-answers_differ {S} in_range after answer hash_of fresh known stays state_injective byte_injective in_steps answer_injective hash_is x y xs ys one same =
+answers_differ {S} in_range after answer hash_of fresh known stays state_injective byte_injective in_steps answer_injective hash_is x y xs
+    ys one same =
     let step = λ (s : S) (byte : ℕ). after s (byte ∷ []) in
     let separates = Separates-one step in_range
     (λ s b s_in below. stays s (b ∷ []) s_in (IsText-one b below))

@@ -40,12 +40,14 @@ each_byte (b ∷ bytes) = ap (λ t. b ∷ t) (each_byte bytes)
 
 -- the writes of a slice of bytes, joined
 pub slice_writes : (length_bytes bytes : List ℕ) → concat (length_bytes ∷ flat_map (λ b. (b ∷ []) ∷ []) bytes) ≡ length_bytes ++ bytes
-slice_writes length_bytes bytes = concat_is (length_bytes ∷ flat_map (λ b. (b ∷ []) ∷ []) bytes) ∙ ap (λ t. length_bytes ++ t) (each_byte bytes)
+slice_writes length_bytes bytes = concat_is (length_bytes ∷ flat_map (λ b. (b ∷ []) ∷ []) bytes)
+    ∙ ap (λ t. length_bytes ++ t) (each_byte bytes)
 
 byte_texts : (bytes : List ℕ) → IsText bytes → All IsText (flat_map (λ b. (b ∷ []) ∷ []) bytes)
 byte_texts [] texts = All-nil IsText
 byte_texts (b ∷ bytes) texts =
-    All-cons IsText (b ∷ []) (flat_map (λ c. (c ∷ []) ∷ []) bytes) (IsText-one b (All-head IsByte b bytes texts)) (byte_texts bytes (All-tail IsByte b bytes texts))
+    All-cons IsText (b ∷ []) (flat_map (λ c. (c ∷ []) ∷ []) bytes) (IsText-one b (All-head IsByte b bytes texts))
+        (byte_texts bytes (All-tail IsByte b bytes texts))
 
 -- the writes of a number, of two, and of a slice of bytes are texts
 pub one_text : (n : ℕ) → All IsText (le_bytes 8 n ∷ [])

@@ -5,7 +5,8 @@ use Rattle.std.specs.Io.KnownBytes.{Consumes, IsAtEnd}
 use Rattle.hash_laws.specs.Reading.{cut, FeedsRead, FeedsFirst, FeedsAll, HashesRead, HashesFirst, HashesAll}
 
 -- two facts of a result's value
-pub at_both : {A E : Type 0} {P Q R : A → Type 0} (result : Result A E) → IfOk result P → IfOk result Q → ((x : A) → P x → Q x → R x) → IfOk result R
+pub at_both : {A E : Type 0} {P Q R : A → Type 0} (result : Result A E) → IfOk result P → IfOk result Q → ((x : A) → P x → Q x → R x)
+    → IfOk result R
 at_both (Ok x) p q both = both x p q
 at_both (Err e) p q both = tt
 
@@ -18,7 +19,8 @@ all_read : (left' : Option (List ℕ)) (bytes text : List ℕ) → Consumes (Som
 all_read None bytes text never end = absurd never
 all_read (Some rest) bytes text parts end = sym (parts ∙ ap (λ more. text ++ more) end ∙ append-nil text)
 
-module _ {S : Type 0} (after : S → List ℕ → S) (n : ℕ) (left left' : Option (List ℕ)) (s s' : S) (count : ℕ) (fed : FeedsRead after n left left' s s' count) where
+module _ {S : Type 0} (after : S → List ℕ → S) (n : ℕ) (left left' : Option (List ℕ)) (s s' : S) (count : ℕ)
+    (fed : FeedsRead after n left left' s s' count) where
   pub FeedsFirst-fed : FeedsFirst after n left s s' count
   FeedsFirst-fed = λ bytes known.
       let read = subst (λ l. Consumes l left' fed.text) known fed.read in
@@ -26,7 +28,8 @@ module _ {S : Type 0} (after : S → List ℕ → S) (n : ℕ) (left left' : Opt
 
   pub FeedsAll-fed : IsAtEnd left' → FeedsAll after n left s s'
   FeedsAll-fed end = λ bytes known.
-      fed.fed ∙ ap (λ text. fold after s (cut n text)) (all_read left' bytes fed.text (subst (λ l. Consumes l left' fed.text) known fed.read) end)
+      fed.fed ∙ ap (λ text. fold after s (cut n text)) (all_read left' bytes fed.text
+          (subst (λ l. Consumes l left' fed.text) known fed.read) end)
 
 module _ {S : Type 0} (in_range : S → Type 0) (after : S → List ℕ → S) (left left' : Option (List ℕ)) (s s' : S) (count : ℕ)
     (read : HashesRead in_range after left left' s s' count) where

@@ -1,6 +1,7 @@
 pub mod ByteLemmas
 pub mod ChangedByte
 pub mod FoldLemmas
+pub mod FrameLemmas
 pub mod ItemLemmas
 pub mod KeyLemmas
 pub mod PairLemmas

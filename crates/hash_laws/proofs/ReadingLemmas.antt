@@ -17,16 +17,19 @@ use Rattle.hash_laws.specs.Reading.{cut, FeedsRead, HashesRead}
 use Rattle.hash_laws.proofs.TextLemmas.{IsByte}
 
 -- what stands at the front of a buffer after a write behind it
-pub take-put : (at k n : ℕ) (buf part : List ℕ) → at ≤ length buf → n ≤ length part → take (at + n) (put_mid at k buf part) ≡ take at buf ++ take n part
+pub take-put : (at k n : ℕ) (buf part : List ℕ) → at ≤ length buf → n ≤ length part
+    → take (at + n) (put_mid at k buf part) ≡ take at buf ++ take n part
 take-put at k n buf part within fits =
     let front = take at buf in
     ap (λ m. take (m + n) (front ++ (part ++ post_of at k buf))) (sym (length-take-le at buf within))
     ∙ take-append-add front (part ++ post_of at k buf) n
     ∙ ap (λ t. front ++ t) (take-append-le n part (post_of at k buf) fits)
 
-same_map : {X : Type 0} (f g : ℕ → X) (a k : ℕ) → ((i : ℕ) → i < a + k → f i ≡ g i) → map f (range_with_len a k) ≡ map g (range_with_len a k)
+same_map : {X : Type 0} (f g : ℕ → X) (a k : ℕ) → ((i : ℕ) → i < a + k → f i ≡ g i)
+    → map f (range_with_len a k) ≡ map g (range_with_len a k)
 same_map f g a zero same = refl
-same_map f g a (suc k) same = ap (λ x. x ∷ map f (range_with_len (a + 1) k)) (same a (omega arith)) ∙ ap (λ xs. g a ∷ xs) (same_map f g (a + 1) k (λ i below. same i (omega arith)))
+same_map f g a (suc k) same = ap (λ x. x ∷ map f (range_with_len (a + 1) k)) (same a (omega arith))
+    ∙ ap (λ xs. g a ∷ xs) (same_map f g (a + 1) k (λ i below. same i (omega arith)))
 
 abbrev piece_at : ℕ → List ℕ → ℕ → List ℕ
 piece_at n text i = take n (drop (i * n) text)
@@ -37,7 +40,8 @@ pieces_in n text = (length text + (n - 1)) / n
 whole_pieces : (n k : ℕ) (text : List ℕ) → 0 < n → length text ≡ k * n → pieces_in n text ≡ k
 whole_pieces n k text some whole = ap (λ len. (len + (n - 1)) / n) whole ∙ div-mul-add k n (n - 1) (omega arith)
 
-one_piece_more : (n k : ℕ) (text piece : List ℕ) → length text ≡ k * n → 0 < length piece → length piece ≤ n → pieces_in n (text ++ piece) ≡ k + 1
+one_piece_more : (n k : ℕ) (text piece : List ℕ) → length text ≡ k * n → 0 < length piece → length piece ≤ n
+    → pieces_in n (text ++ piece) ≡ k + 1
 one_piece_more n k text piece whole some fits =
     let sum : length (text ++ piece) + (n - 1) ≡ (k + 1) * n + (length piece - 1) = omega (arith, length-append text piece) in
     ap (λ m. m / n) sum ∙ div-mul-add (k + 1) n (length piece - 1) (omega arith)
@@ -51,18 +55,22 @@ piece_before n k text piece whole i below =
     ap (take n) (drop-append-le (i * n) text piece within) ∙ take-append-le n (drop (i * n) text) piece room
 
 -- whole pieces and one more, which may be shorter
-pub cut_more : (n k : ℕ) (text piece : List ℕ) → 0 < n → length text ≡ k * n → 0 < length piece → length piece ≤ n → cut n (text ++ piece) ≡ cut n text ++ piece ∷ []
+pub cut_more : (n k : ℕ) (text piece : List ℕ) → 0 < n → length text ≡ k * n → 0 < length piece → length piece ≤ n
+    → cut n (text ++ piece) ≡ cut n text ++ piece ∷ []
 cut_more n k text piece some whole filled fits =
     let both = text ++ piece in
     ap (λ m. map (piece_at n both) (range_with_len 0 m)) (one_piece_more n k text piece whole filled fits)
     ∙ map-range_with_len_more (piece_at n both) 0 k k (omega arith)
-    ∙ ap (λ ps. ps ++ piece_at n both k ∷ []) (same_map (piece_at n both) (piece_at n text) 0 k (λ i below. piece_before n k text piece whole i (omega arith)))
-    ∙ ap (λ p. map (piece_at n text) (range_with_len 0 k) ++ p ∷ []) (ap (take n) (drop_at text piece (k * n) whole) ∙ take_all n piece fits)
+    ∙ ap (λ ps. ps ++ piece_at n both k ∷ []) (same_map (piece_at n both) (piece_at n text) 0 k
+        (λ i below. piece_before n k text piece whole i (omega arith)))
+    ∙ ap (λ p. map (piece_at n text) (range_with_len 0 k) ++ p ∷ [])
+        (ap (take n) (drop_at text piece (k * n) whole) ∙ take_all n piece fits)
     ∙ ap (λ m. map (piece_at n text) (range_with_len 0 m) ++ piece ∷ []) (sym (whole_pieces n k text some whole))
 
 module _ {S : Type 0} (after : S → List ℕ → S) where
   -- a piece more was read, and fed unless it is empty
-  pub feeds_more : (n : ℕ) (a b c : Option (List ℕ)) (s t u : S) (bytes : ℕ) (piece : List ℕ) → 0 < n → FeedsRead after n a b s t bytes → bytes % n ≡ 0
+  pub feeds_more : (n : ℕ) (a b c : Option (List ℕ)) (s t u : S) (bytes : ℕ) (piece : List ℕ) → 0 < n → FeedsRead after n a b s t bytes
+      → bytes % n ≡ 0
       → Consumes b c piece → IsText piece → length piece ≤ n → (length piece ≡ 0 → u ≡ t) → (0 < length piece → u ≡ after t piece)
       → FeedsRead after n a c s u (bytes + length piece)
   feeds_more n a b c s t u bytes [] some before whole read bytes_read fits empty fed =
@@ -83,20 +91,24 @@ module _ {S : Type 0} (after : S → List ℕ → S) where
         read = Consumes-trans a b c before.text piece before.read read;
         count = length-append before.text piece ∙ ap (λ m. m + length piece) before.count;
         fed = fed filled ∙ ap (λ v. after v piece) before.fed
-            ∙ sym (ap (fold after s) (cut_more n (bytes / n) before.text piece some pieces filled fits) ∙ fold-append after s (cut n before.text) (piece ∷ []));
+            ∙ sym (ap (fold after s) (cut_more n (bytes / n) before.text piece some pieces filled fits)
+                ∙ fold-append after s (cut n before.text) (piece ∷ []));
       }
 
   -- the same for the front of a buffer
-  pub feeds_front : (n : ℕ) (a b c : Option (List ℕ)) (s t u : S) (bytes filled : ℕ) (buf rest : List ℕ) → 0 < n → FeedsRead after n a b s t bytes → bytes % n ≡ 0
+  pub feeds_front : (n : ℕ) (a b c : Option (List ℕ)) (s t u : S) (bytes filled : ℕ) (buf rest : List ℕ) → 0 < n
+      → FeedsRead after n a b s t bytes → bytes % n ≡ 0
       → Consumes b c (take filled buf) → filled ≤ length buf → filled ≤ n
-      → IsText (take filled (buf ++ rest)) → (length (take filled (buf ++ rest)) ≡ 0 → u ≡ t) → (0 < length (take filled (buf ++ rest)) → u ≡ after t (take filled (buf ++ rest)))
+      → IsText (take filled (buf ++ rest)) → (length (take filled (buf ++ rest)) ≡ 0 → u ≡ t)
+          → (0 < length (take filled (buf ++ rest)) → u ≡ after t (take filled (buf ++ rest)))
       → FeedsRead after n a c s u (bytes + filled)
   feeds_front n a b c s t u bytes filled buf rest some before whole read within fits bytes_read empty fed =
       let same = take-append-le filled buf rest within in
       let count = length-take-le filled buf within in
       let few : length (take filled buf) ≤ n = omega (arith, count) in
       subst (λ m. FeedsRead after n a c s u (bytes + m)) count
-      (feeds_more n a b c s t u bytes (take filled buf) some before whole read (rw same at bytes_read) few (rw same at empty) (rw same at fed))
+      (feeds_more n a b c s t u bytes (take filled buf) some before whole read (rw same at bytes_read) few (rw same at empty)
+          (rw same at fed))
 
   -- before the first read
   pub feeds_none : (n : ℕ) (a : Option (List ℕ)) (s : S) → 0 < n → FeedsRead after n a a s s 0
@@ -110,7 +122,8 @@ module _ {S : Type 0} (after : S → List ℕ → S) where
       }
 
 -- while the limit is not met, whole pieces were read
-pub whole_more : (n bytes filled limit : ℕ) → 0 < n → filled ≡ min (limit - bytes) n → bytes % n ≡ 0 → bytes + filled < limit → (bytes + filled) % n ≡ 0
+pub whole_more : (n bytes filled limit : ℕ) → 0 < n → filled ≡ min (limit - bytes) n → bytes % n ≡ 0 → bytes + filled < limit
+    → (bytes + filled) % n ≡ 0
 whole_more n bytes filled limit some room whole below =
     let full : filled ≡ n = omega arith in
     ap (λ m. (bytes + m) % n) full ∙ add-mod_right bytes n ∙ whole
@@ -130,30 +143,36 @@ joined_cut n (suc k) text =
 
 pub flat_map-cut : (n : ℕ) (text : List ℕ) → 0 < n → flat_map (λ p. p) (cut n text) ≡ text
 flat_map-cut n text some =
-    let enough : length text ≤ pieces_in n text * n = omega (arith, div-add-mod' (length text + (n - 1)) n, mod_below (length text + (n - 1)) n some) in
+    let enough : length text ≤ pieces_in n text * n
+        = omega (arith, div-add-mod' (length text + (n - 1)) n, mod_below (length text + (n - 1)) n some) in
     joined_cut n (pieces_in n text) text ∙ take_all (pieces_in n text * n) text enough
 
 -- each piece of a cut text is a text
 cut_texts : (n : ℕ) (text : List ℕ) → IsText text → All IsText (cut n text)
 cut_texts n text bytes =
     All-map IsText (piece_at n text) (range_with_len 0 (pieces_in n text))
-    (λ k d below. All-take IsByte n (drop (slice_index_or (range_with_len 0 (pieces_in n text)) k d * n) text) (All-drop IsByte _ text bytes))
+    (λ k d below. All-take IsByte n (drop (slice_index_or (range_with_len 0 (pieces_in n text)) k d * n) text)
+        (All-drop IsByte _ text bytes))
 
 -- where a text in two pieces leads to where it leads whole, so does one in any pieces
 module _ {S : Type 0} (is_state : S → Type 0) (after : S → List ℕ → S)
     (after_in_range : (s : S) (piece : List ℕ) → is_state s → IsText piece → is_state (after s piece))
     (after_nothing : (s : S) → is_state s → after s [] ≡ s)
-    (after_joined : (s : S) (text more : List ℕ) → is_state s → IsText text → IsText more → after s (text ++ more) ≡ after (after s text) more) where
-  pub fold-pieces : (s : S) (pieces : List (List ℕ)) → is_state s → All IsText pieces → (fold after s pieces ≡ after s (flat_map (λ p. p) pieces)) × IsText (flat_map (λ p. p) pieces)
+    (after_joined : (s : S) (text more : List ℕ) → is_state s → IsText text → IsText more
+        → after s (text ++ more) ≡ after (after s text) more) where
+  pub fold-pieces : (s : S) (pieces : List (List ℕ)) → is_state s → All IsText pieces
+      → (fold after s pieces ≡ after s (flat_map (λ p. p) pieces)) × IsText (flat_map (λ p. p) pieces)
   fold-pieces s [] known texts = (sym (after_nothing s known), All-nil IsByte)
   fold-pieces s (piece ∷ pieces) known texts =
       let bytes = All-head IsText piece pieces texts in
       let rest = fold-pieces (after s piece) pieces (after_in_range s piece known bytes) (All-tail IsText piece pieces texts) in
-      (rest.0 ∙ sym (after_joined s piece (flat_map (λ p. p) pieces) known bytes rest.1), All-append IsByte piece (flat_map (λ p. p) pieces) bytes rest.1)
+      (rest.0 ∙ sym (after_joined s piece (flat_map (λ p. p) pieces) known bytes rest.1), All-append IsByte piece
+          (flat_map (λ p. p) pieces) bytes rest.1)
 
   -- a cut text leads to where the text leads
   pub fold-cut : (n : ℕ) (s : S) (text : List ℕ) → 0 < n → is_state s → IsText text → fold after s (cut n text) ≡ after s text
-  fold-cut n s text some known bytes = (fold-pieces s (cut n text) known (cut_texts n text bytes)).0 ∙ ap (after s) (flat_map-cut n text some)
+  fold-cut n s text some known bytes = (fold-pieces s (cut n text) known (cut_texts n text bytes)).0
+      ∙ ap (after s) (flat_map-cut n text some)
 
   -- what was read in pieces leads to where it leads as one text
   pub HashesRead-fed : (n : ℕ) (left left' : Option (List ℕ)) (s s' : S) (bytes : ℕ) → 0 < n → FeedsRead after n left left' s s' bytes
@@ -167,7 +186,8 @@ module _ {S : Type 0} (is_state : S → Type 0) (after : S → List ℕ → S)
   }
 
   -- the same of what is answered
-  pub answer-cut : (answer : S → ℕ) (s : S) → is_state s → (hash : List ℕ → ℕ) → ((text : List ℕ) → IsText text → answer (after s text) ≡ hash text)
+  pub answer-cut : (answer : S → ℕ) (s : S) → is_state s → (hash : List ℕ → ℕ)
+      → ((text : List ℕ) → IsText text → answer (after s text) ≡ hash text)
       → (n : ℕ) → 0 < n → (text : List ℕ) → IsText text → answer (fold after s (cut n text)) ≡ hash text
   answer-cut answer s known hash whole n some text bytes = ap answer (fold-cut n s text some known bytes) ∙ whole text bytes
 
@@ -182,7 +202,8 @@ module _ {S : Type 0} (after : S → List ℕ → S) (s : S) (n : ℕ) (some : 0
       let sum : k * n + n ≡ suc k * n = omega arith in
       let enough : k * n ≤ length text = omega (arith, sum, within) in
       let count : length (take (k * n) text) ≡ k * n = length-take-le (k * n) text enough in
-      let whole : length (take (k * n) text) % n ≡ 0 = ap (λ m. m % n) (count ∙ sym (zero-add (k * n))) ∙ add-mul-mod_self_right 0 k n ∙ zero-mod n in
+      let whole : length (take (k * n) text) % n ≡ 0 = ap (λ m. m % n) (count ∙ sym (zero-add (k * n))) ∙ add-mul-mod_self_right 0 k n
+          ∙ zero-mod n in
       ap (λ m. fold after s (map (piece_at n text) (range_with_len 0 m))) (sym next)
       ∙ ap (fold after s) (map-range_with_len_more (piece_at n text) 0 k k (omega arith))
       ∙ fold-append after s (map (piece_at n text) (range_with_len 0 k)) (piece_at n text k ∷ [])

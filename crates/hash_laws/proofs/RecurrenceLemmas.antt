@@ -31,7 +31,8 @@ module _ {S : Type 0} (step : S → ℕ → S) where
   recurrence-append s text more = by_front s text more ∙ sym (recurrence-fold (recurrence step s text) more)
 
   -- the step of a loop from the front
-  pub recurrence_more : (s : S) (text : List ℕ) (i : ℕ) → i < length text → recurrence step s (take (i + 1) text) ≡ step (recurrence step s (take i text)) (get_or text i 0)
+  pub recurrence_more : (s : S) (text : List ℕ) (i : ℕ) → i < length text
+      → recurrence step s (take (i + 1) text) ≡ step (recurrence step s (take i text)) (get_or text i 0)
   recurrence_more s text i below = ap (recurrence step s) (take_more text i 0 below) ∙ recurrence-push s (take i text) (get_or text i 0)
 
   -- a text of one byte
@@ -42,7 +43,8 @@ module _ {S : Type 0} (step : S → ℕ → S) where
   recurrence_one s (byte ∷ more ∷ rest) some few = absurd (omega arith)
 
   -- a text of k chunks, chunk by chunk
-  chunked : (n k : ℕ) (s : S) (text : List ℕ) → length text ≡ k * n → fold (recurrence step) s (first_chunks n k text) ≡ recurrence step s text
+  chunked : (n k : ℕ) (s : S) (text : List ℕ) → length text ≡ k * n
+      → fold (recurrence step) s (first_chunks n k text) ≡ recurrence step s text
   chunked n zero s text whole = rw (nil_from_length text (omega arith)) (sym (recurrence-nil s))
   chunked n (suc k) s text whole =
       chunked n k (recurrence step s (take n text)) (drop n text) (omega (arith, length-drop n text))
@@ -50,7 +52,8 @@ module _ {S : Type 0} (step : S → ℕ → S) where
 
   -- the few bytes that come before the whole eights, and then eight by eight
   pub recurrence_by_eights : (s : S) (text : List ℕ)
-      → fold (recurrence step) (recurrence step s (take (length text % 8) text)) (first_chunks 8 (length text / 8) (drop (length text % 8) text))
+      → fold (recurrence step) (recurrence step s (take (length text % 8) text))
+          (first_chunks 8 (length text / 8) (drop (length text % 8) text))
       ≡ recurrence step s text
   recurrence_by_eights s text =
       let few = length text % 8 in
@@ -77,7 +80,8 @@ pub recurrence-pieces : {S : Type 0} (step : S → ℕ → S) (items : List ℕ 
     → fold (λ t piece. recurrence step t (items piece)) s pieces ≡ recurrence step s (flat_map items pieces)
 recurrence-pieces step items s [] = sym (recurrence-nil step s)
 recurrence-pieces step items s (piece ∷ pieces) =
-    recurrence-pieces step items (recurrence step s (items piece)) pieces ∙ sym (recurrence-append step s (items piece) (flat_map items pieces))
+    recurrence-pieces step items (recurrence step s (items piece)) pieces
+        ∙ sym (recurrence-append step s (items piece) (flat_map items pieces))
 
 -- the form in which laws take it
 pub recurrence_is_fold : (step : ℕ → ℕ → ℕ) (bound s : ℕ) (text : List ℕ) → s < bound → recurrence step s text ≡ fold step s text

@@ -31,15 +31,18 @@ DifferWithin-iff-drop places mask from x y len under first = (
       λ i outside. ⊎_elim (first.same_before i) (λ p.
           let e = ap (λ t. get_or t (i - (from + places)) 0) same in
           let here : from + places + (i - (from + places)) ≡ i = omega arith in
-          rw here at (sym (get_or-drop (from + places) x (i - (from + places)) 0) ∙ e ∙ get_or-drop (from + places) y (i - (from + places)) 0)) outside,
+          rw here at (sym (get_or-drop (from + places) x (i - (from + places)) 0) ∙ e
+              ∙ get_or-drop (from + places) y (i - (from + places)) 0)) outside,
     );
     under_mask = under;
   }),
 )
 
 -- the same, of what `x[from + places..] == y[from + places..]` answers
-pub DifferWithin-iff-eq : (places mask from : ℕ) (x y : List ℕ) (answer : Bool) → length x ≡ length y → AgreeUnder mask x y → IsFirstDifference from x y
-    → answer ≡ pointwise nat_eq (take (length x - (from + places)) (drop (from + places) x)) (take (length y - (from + places)) (drop (from + places) y))
+pub DifferWithin-iff-eq : (places mask from : ℕ) (x y : List ℕ) (answer : Bool) → length x ≡ length y → AgreeUnder mask x y
+    → IsFirstDifference from x y
+    → answer ≡ pointwise nat_eq (take (length x - (from + places)) (drop (from + places) x))
+        (take (length y - (from + places)) (drop (from + places) y))
     → IsTrue answer ↔ DifferWithin places mask x y
 DifferWithin-iff-eq places mask from x y answer len under first eq =
     let window = DifferWithin-iff-drop places mask from x y len under first in
@@ -67,7 +70,8 @@ DifferWithin-one_place x y w =
       place = (
         from,
         (λ e. w.different (ext_get_or 0 x y w.same_length
-            (λ j _. ⊎_elim (λ (q : j ≡ from). ap (λ k. get_or x k 0) q ∙ e ∙ ap (λ k. get_or y k 0) (sym q)) (elsewhere j) (cases_eq j from)))),
+            (λ j _. ⊎_elim (λ (q : j ≡ from). ap (λ k. get_or x k 0) q ∙ e ∙ ap (λ k. get_or y k 0) (sym q)) (elsewhere j)
+                (cases_eq j from)))),
         elsewhere,
       );
     }

@@ -21,10 +21,12 @@ pub record Separates {S : Type 0} (step : S → ℕ → S) (is_state : S → Typ
       → Apart n s t → Apart (suc n) (step s a) (step t b)
   pub apart : (n : ℕ) (s t : S) → Apart n s t → s ≢ t
 
-module _ {S : Type 0} (step : S → ℕ → S) (is_state : S → Type 0) (places mask : ℕ) (Apart : ℕ → S → S → Type 0) (laws : Separates step is_state places mask Apart) where
+module _ {S : Type 0} (step : S → ℕ → S) (is_state : S → Type 0) (places mask : ℕ) (Apart : ℕ → S → S → Type 0)
+    (laws : Separates step is_state places mask Apart) where
   -- equal bytes keep different states different
   fold_differs : (s t : S) (text : List ℕ) → is_state s → is_state t → IsText text → s ≢ t → fold step s text ≢ fold step t text
-  fold_differs s t text ks kt bytes differ same = differ (fold_cancels step is_state IsByte laws.in_range laws.state_injective s t text ks kt bytes same)
+  fold_differs s t text ks kt bytes differ same
+      = differ (fold_cancels step is_state IsByte laws.in_range laws.state_injective s t text ks kt bytes same)
 
   -- one place and n further places of the window have passed, and r are left
   rest_differs : (n r : ℕ) (s t : S) (x y : List ℕ) → suc n + r ≡ places → is_state s → is_state t → IsText x → IsText y
@@ -69,7 +71,8 @@ module _ {S : Type 0} (step : S → ℕ → S) (is_state : S → Type 0) (places
       ]
 
   -- texts that a window separates lead to different states
-  pub DifferWithin-fold : (start : S) (x y : List ℕ) → is_state start → IsText x → IsText y → DifferWithin places mask x y → fold step start x ≢ fold step start y
+  pub DifferWithin-fold : (start : S) (x y : List ℕ) → is_state start → IsText x → IsText y → DifferWithin places mask x y
+      → fold step start x ≢ fold step start y
   DifferWithin-fold start x y known xs ys window =
       window_differs window.within.0 start x y known xs ys window.same_length window.under_mask window.within.1 window.different
 

@@ -17,7 +17,8 @@ pub record FeedsRead {S : Type 0} (after : S → List ℕ → S) (n : ℕ) (left
   pub fed : s' ≡ fold after s (cut n text)
 
 -- so many of the bytes that were left were read, and led from one state in range to another, as one text
-pub record HashesRead {S : Type 0} (in_range : S → Type 0) (after : S → List ℕ → S) (left left' : Option (List ℕ)) (s s' : S) (bytes : ℕ) : Type 0 where
+pub record HashesRead {S : Type 0} (in_range : S → Type 0) (after : S → List ℕ → S) (left left' : Option (List ℕ)) (s s' : S) (bytes : ℕ)
+    : Type 0 where
   pub text : List ℕ
   pub is_text : IsText text
   pub read : Consumes left left' text
@@ -28,7 +29,8 @@ pub record HashesRead {S : Type 0} (in_range : S → Type 0) (after : S → List
 abbrev pub FeedsFirst : {S : Type 0} (after : S → List ℕ → S) (n : ℕ) (left : Option (List ℕ)) (s s' : S) (count : ℕ) → Type 0
 FeedsFirst after n left s s' count = (bytes : List ℕ) → left ≡ Some bytes → s' ≡ fold after s (cut n (take count bytes))
 
-abbrev pub HashesFirst : {S : Type 0} (in_range : S → Type 0) (after : S → List ℕ → S) (left : Option (List ℕ)) (s s' : S) (count : ℕ) → Type 0
+abbrev pub HashesFirst : {S : Type 0} (in_range : S → Type 0) (after : S → List ℕ → S) (left : Option (List ℕ)) (s s' : S)
+    (count : ℕ) → Type 0
 HashesFirst in_range after left s s' count = (bytes : List ℕ) → left ≡ Some bytes → in_range s → s' ≡ after s (take count bytes)
 
 -- where they are known, all of them led there

@@ -1,5 +1,5 @@
 //! Whether two texts differ within a few neighbouring places only.
-ghost use Rattle.std.specs.Prelude.{◌≡◌, ◌↔◌, IsTrue, IfNone, IfSome, length};
+ghost use Rattle.std.specs.Prelude.{◌≡◌, ◌≢◌, ◌≤◌, ◌↔◌, ℕ, List, ◌∷◌, ◌++◌, IsTrue, IfNone, IfSome, length};
 ghost use Rattle.hash_laws.specs.DifferWithin.{DifferWithin, AgreeUnder, DifferAtOnePlace, IsFirstDifference};
 
 /// Whether the texts have one length and differ, but only within `places` neighbouring places, and at every place
@@ -22,6 +22,15 @@ pub fn differ_at_one_place(x: &[u8], y: &[u8]) -> bool
 {
     is_window(x, y, 1, 0)
 }
+
+/// A law with no code, for texts that a caller has in parts: a front, two different middles of one length, and a back
+/// differ within as many places as a middle has. With one byte each in the middle they differ at one place.
+pub fn texts_of_one_frame()
+    ensures within { (places mask : ℕ) (front x y back : List ℕ) → length x ≡ length y → length x ≤ places → x ≢ y
+        → AgreeUnder mask x y → DifferWithin places mask (front ++ (x ++ back)) (front ++ (y ++ back)) }
+    ensures one_place { (front back : List ℕ) (b c : ℕ) → b ≢ c
+        → DifferAtOnePlace (front ++ b ∷ back) (front ++ c ∷ back) }
+{}
 
 /// Whether the bytes of two texts of one length agree, at every place, in the bits of the mask.
 fn agree_under(mask: u8, x: &[u8], y: &[u8]) -> bool

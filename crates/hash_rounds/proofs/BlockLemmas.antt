@@ -69,6 +69,7 @@ module _ (s now next : List ℕ) (blocks : List (List ℕ)) where
       let back : i - 1 + 1 ≡ i = omega arith in
       let first = rw back at (drop_more blocks (i - 1) [] (omega arith)) in
       let last = ap reverse first ∙ reverse-append (b ∷ []) (drop i blocks) in (
-        unmixed ∙ ap (λ h. unmix_block h b) unmade ∙ sym (ap (fold unmix_block s) last ∙ fold-append unmix_block s (reverse (drop i blocks)) (b ∷ [])),
+        unmixed ∙ ap (λ h. unmix_block h b) unmade ∙ sym (ap (fold unmix_block s) last
+            ∙ fold-append unmix_block s (reverse (drop i blocks)) (b ∷ [])),
         ap (fold mix_block next) first ∙ ap (λ h. fold mix_block h (drop i blocks)) mixed ∙ made,
       )

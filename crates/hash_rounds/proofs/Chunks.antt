@@ -4,7 +4,8 @@ use Rattle.std.proofs.Math.Seq.{take-add}
 use Rattle.std.proofs.lemmas.List.{drop-drop, length-drop, drop-append-le, take-append-le, nil_from_length}
 use Rattle.std.specs.Simd.{first_chunks}
 
-pub get_or-first_chunks : {X : Type 0} (n k i : ℕ) (xs : List X) (d : List X) → i < k → get_or (first_chunks n k xs) i d ≡ take n (drop (i * n) xs)
+pub get_or-first_chunks : {X : Type 0} (n k i : ℕ) (xs : List X) (d : List X) → i < k
+    → get_or (first_chunks n k xs) i d ≡ take n (drop (i * n) xs)
 get_or-first_chunks n zero i xs d h = absurd (omega arith)
 get_or-first_chunks n (suc k) zero xs d h = let e : 0 * n ≡ 0 = omega arith in rw e refl
 get_or-first_chunks n (suc k) (suc i) xs d h =
@@ -12,7 +13,8 @@ get_or-first_chunks n (suc k) (suc i) xs d h =
     get_or-first_chunks n k i (drop n xs) d (omega arith) ∙ ap (λ ys. take n ys) (drop-drop (i * n) n xs ∙ ap (λ m. drop m xs) e)
 
 -- the chunks up to i, and then chunk i
-pub take_chunk : {X : Type 0} (n k i : ℕ) (xs : List X) (d : List X) → i < k → take (i * n) xs ++ get_or (first_chunks n k xs) i d ≡ take ((i + 1) * n) xs
+pub take_chunk : {X : Type 0} (n k i : ℕ) (xs : List X) (d : List X) → i < k
+    → take (i * n) xs ++ get_or (first_chunks n k xs) i d ≡ take ((i + 1) * n) xs
 take_chunk n k i xs d h =
     let e : (i + 1) * n ≡ i * n + n = omega arith in
     rw (get_or-first_chunks n k i xs d h, e) (sym (take-add (i * n) n xs))
@@ -27,5 +29,6 @@ first_chunks-append n zero j k a b s e =
 first_chunks-append n (suc i) j zero a b s e = absurd (omega arith)
 first_chunks-append n (suc i) j (suc k) a b s e =
     let fits : n ≤ length a = omega arith in
-    rw (take-append-le n a b fits, drop-append-le n a b fits, first_chunks-append n i j k (drop n a) b (omega arith) (omega (arith, length-drop n a)))
+    rw (take-append-le n a b fits, drop-append-le n a b fits, first_chunks-append n i j k (drop n a) b (omega arith)
+        (omega (arith, length-drop n a)))
     refl

@@ -1,2 +1,3 @@
+pub mod ByteSum
 pub mod Times31
 pub mod Times31Laws

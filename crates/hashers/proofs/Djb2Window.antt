@@ -69,9 +69,11 @@ djb2_separates = record {
     differ = λ e. ne (xor_cancel_left (33 * h % 2 ^ 32) a b e);
     close =
         let w = 33 * h % 2 ^ 32 in
-        let e : djb2_step h a / 32 ≡ djb2_step h b / 32 = xor_shr w a 5 ∙ ap (bit_xor (w / 32)) (same_top a b sa sb top) ∙ sym (xor_shr w b 5) in
+        let e : djb2_step h a / 32 ≡ djb2_step h b / 32 = xor_shr w a 5 ∙ ap (bit_xor (w / 32)) (same_top a b sa sb top)
+            ∙ sym (xor_shr w b 5) in
         omega arith;
   };
-  next = λ n h k a b fits hs ks sa sb top near. Near-next (spread_after n) h k a b (spread_fits n fits) hs ks sa sb (same_top a b sa sb top) near;
+  next = λ n h k a b fits hs ks sa sb top near. Near-next (spread_after n) h k a b (spread_fits n fits) hs ks sa sb
+      (same_top a b sa sb top) near;
   apart = λ n h k near. near.differ;
 }

@@ -3,13 +3,13 @@
 //! After any list of writes a hasher answers its definition: of the joined bytes alone, or for fx and lookup3 of the bytes
 //! of each write. Any list of writes of the seven byte hashers and of fx, and each mixing round, is undone exactly, and the
 //! reverse, from every state. Each sentence is the contract of a function of this module.
-ghost use Rattle.std.specs.Prelude.{◌≡◌, ◌<◌, ◌^◌, ℕ, [], All, fold};
+ghost use Rattle.std.specs.Prelude.{◌≡◌, ◌<◌, ◌^◌, ℕ, [], ◌∷◌, All, fold};
 ghost use Rattle.std.specs.List.{flat_map};
 ghost use Rattle.hash_rounds.specs.Rounds.{lookup3_mix_steps, lookup3_final_steps, spooky_mix_steps, spooky_end_partial_steps, short_mix_steps, short_end_steps};
 ghost use Rattle.hash_rounds.specs.Steps.{apply};
 ghost use Rattle.hash_rounds.specs.Sums.{sdbm_from, loselose_from, passthrough_from};
 ghost use Rattle.hash_laws.specs.Text.{IsText};
-ghost use Rattle.hash_laws.specs.Writes.{all_written, joined_written};
+ghost use Rattle.hash_laws.specs.Writes.{written, all_written, joined_written};
 ghost use Rattle.hash_fx.specs.Fx.{fx32, fx32_step, fx64, fx64_step, words32, words64};
 ghost use Rattle.hash_jenkins.specs.Lookup3.{lookup3_from, lookup3_answer};
 ghost use Rattle.hash_jenkins.specs.Oaat.{oaat_state, oaat_finish};
@@ -22,7 +22,7 @@ use hash_bytes::fnv::{FNV1aHasher32, FNV1aHasher64};
 use hash_bytes::null::{NullHasher, PassThroughHasher};
 use hash_bytes::oz::{DJB2Hasher, LoseLoseHasher, SDBMHasher};
 use hash_bytes::pigeon::Bricolage;
-use hash_fx::{Fx64Rule, FxHasher, FxHasher32, FxHasher64, MachineWord};
+use hash_fx::{FxHasher, FxHasher32, FxHasher64};
 use hash_jenkins::spooky_hash::SpookyHasher;
 use hash_jenkins::{Lookup3Hasher, OAATHasher};
 use hash_laws::traits::{ByteStep, Piecewise, Streamed, Undo};
@@ -34,8 +34,9 @@ use hash_rounds::{
     spooky_end_partial, spooky_mix, spooky_un_end_partial, spooky_unmix, un_short_end,
     un_short_mix,
 };
-use hash_rules::WordHasher;
+use hash_rules::{WordHasher, WordRule};
 use std::hash::Hasher;
+use std::slice;
 
 /// `fnv1a32` of the joined bytes of the writes.
 pub fn fnv1a32_of_writes(writes: &[HasherWrite]) -> u64
@@ -364,27 +365,30 @@ pub fn fxhash64_undone(a: &mut FxHasher64, b: &mut FxHasher64, writes: &[HasherW
     there_and_back::<FxHasher64>(a, b, writes)
 }
 
-/// A number of 64 bits as one word of either type of 64 bits, made and taken back, and taken back and made.
-#[tactic(auto, using(hash_fx::proofs::FixedWidths::words_of_numbers))]
-fn word_there_and_back<Name>(
-    a: &mut WordHasher<Fx64Rule, Name>,
-    b: &mut WordHasher<Fx64Rule, Name>,
-    word: u64,
+/// A write that is one word of an fx type, from any state: made and taken back by `unwrite_word`, and taken back and made.
+/// Which writes are one word `fixed_widths_are_words64` and `fixed_widths_are_words32` say.
+pub fn one_word_undone<R: WordRule, Name>(
+    a: &mut WordHasher<R, Name>,
+    b: &mut WordHasher<R, Name>,
+    write: &HasherWrite,
+    word: R::Word,
 ) -> WayBack
-    ensures before { result.before ≡ a.old }
-    ensures there { result.there ≡ fx64_step a.old word }
-    ensures there_and_back { a.new ≡ a.old }
-    ensures back { fx64_step result.back word ≡ b.old }
-    ensures in_range { result.back < 2 ^ 64 }
-    ensures back_and_there { b.new ≡ b.old }
+    requires { R.words (written write.now) ≡ R.number word ∷ [] }
+    ensures before { result.before ≡ R.number a.old }
+    ensures there { result.there ≡ R.step (R.number a.old) (R.number word) }
+    ensures there_and_back { R.number a.new ≡ R.number a.old }
+    ensures back { R.step result.back (R.number word) ≡ R.number b.old }
+    ensures in_range { result.back < R.bound }
+    ensures back_and_there { R.number b.new ≡ R.number b.old }
 {
+    let writes = slice::from_ref(write);
     let before = a.answer();
-    a.write_u64(word);
+    run_writes(a, writes);
     let there = a.answer();
     a.unwrite_word(word);
     b.unwrite_word(word);
     let back = b.answer();
-    b.write_u64(word);
+    run_writes(b, writes);
     WayBack {
         before,
         there,
@@ -393,6 +397,7 @@ fn word_there_and_back<Name>(
 }
 
 /// `fxhash`, from any state: a number of 64 bits is one word, which `unwrite_word` undoes, both ways.
+#[tactic(auto, using(hash_fx::proofs::FixedWidths::words_of_numbers))]
 pub fn fxhash_word_undone(a: &mut FxHasher, b: &mut FxHasher, word: u64) -> WayBack
     ensures before { result.before ≡ a.old }
     ensures there { result.there ≡ fx64_step a.old word }
@@ -401,7 +406,7 @@ pub fn fxhash_word_undone(a: &mut FxHasher, b: &mut FxHasher, word: u64) -> WayB
     ensures in_range { result.back < 2 ^ 64 }
     ensures back_and_there { b.new ≡ b.old }
 {
-    word_there_and_back::<MachineWord>(a, b, word)
+    one_word_undone(a, b, &HasherWrite::U64(word), word)
 }
 
 /// `fxhash32`, from any state: a number of 32 bits is one word, which `unwrite_word` undoes, both ways.
@@ -414,21 +419,11 @@ pub fn fxhash32_word_undone(a: &mut FxHasher32, b: &mut FxHasher32, word: u32) -
     ensures in_range { result.back < 2 ^ 32 }
     ensures back_and_there { b.new ≡ b.old }
 {
-    let before = a.answer();
-    a.write_u32(word);
-    let there = a.answer();
-    a.unwrite_word(word);
-    b.unwrite_word(word);
-    let back = b.answer();
-    b.write_u32(word);
-    WayBack {
-        before,
-        there,
-        back,
-    }
+    one_word_undone(a, b, &HasherWrite::U32(word), word)
 }
 
 /// `fxhash64`, from any state: a number of 64 bits is one word, which `unwrite_word` undoes, both ways.
+#[tactic(auto, using(hash_fx::proofs::FixedWidths::words_of_numbers))]
 pub fn fxhash64_word_undone(a: &mut FxHasher64, b: &mut FxHasher64, word: u64) -> WayBack
     ensures before { result.before ≡ a.old }
     ensures there { result.there ≡ fx64_step a.old word }
@@ -437,7 +432,7 @@ pub fn fxhash64_word_undone(a: &mut FxHasher64, b: &mut FxHasher64, word: u64) -
     ensures in_range { result.back < 2 ^ 64 }
     ensures back_and_there { b.new ≡ b.old }
 {
-    word_there_and_back::<Fx64Rule>(a, b, word)
+    one_word_undone(a, b, &HasherWrite::U64(word), word)
 }
 
 /// `lookup3_mix` and `lookup3_unmix` undo one another, both ways, on every state: the words in between.

@@ -8,7 +8,8 @@ nothing_left [] e = refl
 nothing_left (x ∷ xs) e = absurd (omega arith)
 
 -- something or nothing, an item, and then none more
-pub two_items : {X Z : Type 0} (s t u v : IntoIter X Z) (first : Option X) (second : X) → into_iter_steps s first t → into_iter_steps t (Some second) u
+pub two_items : {X Z : Type 0} (s t u v : IntoIter X Z) (first : Option X) (second : X) → into_iter_steps s first t
+    → into_iter_steps t (Some second) u
     → into_iter_steps u None v → length (into_iter_items u) ≡ into_iter_len u → (own : X) × (into_iter_items s ≡ own ∷ second ∷ [])
 two_items s t u v None second none one end whole = absurd (omega (arith, none.1, one.1))
 two_items s t u v (Some own) second some one end whole =

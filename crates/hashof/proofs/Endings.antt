@@ -8,7 +8,8 @@ use Rattle.hashof.specs.Line.{line_of}
 use Rattle.hashof.specs.Running.{Run, HashesNamed, EndsNamed, BeginsLine}
 
 -- nothing was written
-pub ended_unread : (hash : Option (List ℕ → ℕ)) (run : Run) (fault : RunFault) → HashesNamed hash run.reading (Err fault) → Keeps run.before run.after
+pub ended_unread : (hash : Option (List ℕ → ℕ)) (run : Run) (fault : RunFault) → HashesNamed hash run.reading (Err fault)
+    → Keeps run.before run.after
     → EndsNamed hash run (Err fault)
 ended_unread None run fault (none, keeps) kept = (search rules, (keeps, kept))
 ended_unread (Some hash) run UnknownName refused kept = refused
@@ -23,7 +24,9 @@ ended_told None run number (none, keeps) appends = absurd (search rules)
 ended_told (Some hash) run number (text, all, is) appends = (text, all, subst (λ n. Appends run.before run.after (line_of n)) is appends)
 
 -- a beginning of the line was written
-pub ended_unwritten : (hash : Option (List ℕ → ℕ)) (run : Run) (number : ℕ) (error : Option Error) → HashesNamed hash run.reading (Ok number)
+pub ended_unwritten : (hash : Option (List ℕ → ℕ)) (run : Run) (number : ℕ) (error : Option Error)
+    → HashesNamed hash run.reading (Ok number)
     → BeginsLine run.before run.after (line_of number) → EndsNamed hash run (Err (WriteFault error))
 ended_unwritten None run number error (none, keeps) begins = absurd (search rules)
-ended_unwritten (Some hash) run number error (text, all, is) begins = (text, all, subst (λ n. BeginsLine run.before run.after (line_of n)) is begins)
+ended_unwritten (Some hash) run number error (text, all, is) begins
+    = (text, all, subst (λ n. BeginsLine run.before run.after (line_of n)) is begins)

@@ -6,7 +6,8 @@ use Rattle.hashof.specs.declared.run.RunFault.TheVariants.{UnknownName, ReadFaul
 use Rattle.hashof.specs.Running.{Reading, Hashes}
 
 -- two hashes that agree on each text
-pub Hashes-agree : (hash same : List ℕ → ℕ) → ((text : List ℕ) → IsText text → hash text ≡ same text) → (reading : Reading) (result : Result ℕ RunFault)
+pub Hashes-agree : (hash same : List ℕ → ℕ) → ((text : List ℕ) → IsText text → hash text ≡ same text)
+    → (reading : Reading) (result : Result ℕ RunFault)
     → Hashes hash reading result → Hashes same reading result
 Hashes-agree hash same agree reading (Ok number) (text, all, is) = (text, all, is ∙ agree text all.is_text)
 Hashes-agree hash same agree reading (Err UnknownName) refused = refused

@@ -22,7 +22,8 @@ pub record Run : Type 0 where
 abbrev pub read : {R : Type 0} (limit : ℕ) (remaining : R → Option (List ℕ)) (r r' : R) → Reading
 read limit remaining r r' = record { limit = limit; before = remaining r; after = remaining r' }
 
-abbrev pub run_of : {R W : Type 0} (limit : ℕ) (remaining : R → Option (List ℕ)) (r r' : R) (contents : W → Option (List ℕ)) (w w' : W) → Run
+abbrev pub run_of : {R W : Type 0} (limit : ℕ) (remaining : R → Option (List ℕ)) (r r' : R) (contents : W → Option (List ℕ))
+    (w w' : W) → Run
 run_of limit remaining r r' contents w w' = record {
   reading = read limit remaining r r';
   before = contents w;
@@ -81,7 +82,8 @@ EndsBy hash run (Ok done) = (text : List ℕ) × ReadsAll run.reading text × Ap
 EndsBy hash run (Err UnknownName) = ⊥
 EndsBy hash run (Err (ReadFault fault)) = ReadsSome run.reading fault.bytes × (fault.bytes < run.reading.limit) × Keeps run.before run.after
 EndsBy hash run (Err TooLong) = ReadsSome run.reading run.reading.limit × Keeps run.before run.after
-EndsBy hash run (Err (WriteFault error)) = (text : List ℕ) × ReadsAll run.reading text × BeginsLine run.before run.after (line_of (hash text))
+EndsBy hash run (Err (WriteFault error)) = (text : List ℕ) × ReadsAll run.reading text
+    × BeginsLine run.before run.after (line_of (hash text))
 
 abbrev pub EndsNamed : Option (List ℕ → ℕ) → Run → Result (Unit {0}) RunFault → Type 0
 EndsNamed None run result = (result ≡ Err UnknownName) × IsUntouched run

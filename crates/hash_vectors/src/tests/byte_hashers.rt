@@ -160,6 +160,13 @@ fn laws_are_calls() {
     hashers::oz::loselose_of_joined_texts();
     hashers::oz::loselose_ignores_order();
     hashers::null::passthrough_of_joined_texts();
+    hashers::window::texts_of_one_frame();
+    hashers::laws::fixed_widths_are_words64();
+    hashers::laws::fixed_widths_are_words32();
+    hashers::laws::cuts_show_in_fx();
+    hashers::laws::cuts_show_in_lookup3();
+    hashers::laws::zeros_do_not_show_in_version_1();
+    hashers::laws::position_of_joined_texts();
 }
 
 /// Hashes of joined texts, from those of the parts and the second one's length.

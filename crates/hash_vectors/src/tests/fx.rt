@@ -2,53 +2,36 @@
 ghost use Rattle.std.specs.Prelude.{◌≡◌, ◌≤◌, ◌%◌, length};
 
 use crate::tests::{all_hold, none_holds, same, same_at};
-use hashers::fx_hash::{FxHasher, FxHasher32, FxHasher64, fxhash, fxhash32, fxhash64};
+use hashers::fx_hash::{Fx64Rule, FxHasher, FxHasher32, FxHasher64, fxhash, fxhash32, fxhash64};
 use hashers::laws::{
-    Piecewise, Undo, apart_by_one_fx, apart_by_one_word_fx32, apart_by_one_word_fx64,
-    fixed_widths_are_words32, fixed_widths_are_words64, run_pair, run_words, run_words32,
-    run_words64,
+    HasherWrite, Piecewise, Undo, apart_by_one_fx, apart_by_one_word_fx32, apart_by_one_word_fx64,
+    run_pair, run_words, run_words32, run_words64,
 };
+use hashers::promises::one_word_undone;
+use hashers::rules::WordHasher;
 use std::hash::Hasher;
 use std::process::Abort;
 
-// A number that is written as one word comes out again, and one that is taken out goes in again.
-fn there_and_back(hasher: &mut FxHasher, number: u64) -> (u64, u64)
-    ensures { hasher.new ≡ hasher.old }
-{
-    fixed_widths_are_words64();
-    let _ = hasher.answer(); // says that the state is in range
-    hasher.write_u64(number);
-    hasher.unwrite_word(number);
-    let between = hasher.finish();
-    hasher.unwrite_word(number);
-    hasher.write_u64(number);
-    (between, hasher.finish())
+// Each number that is one word of 64 bits, made and taken back, and taken back and made: what two hashers of one hash answer
+// before each and after all.
+#[tactic(auto, using(hashers::proofs::FixedWidths::words_of_numbers))]
+fn words_of_64_bits<Name>(
+    a: &mut WordHasher<Fx64Rule, Name>,
+    b: &mut WordHasher<Fx64Rule, Name>,
+) -> [u64; 6] {
+    let byte = one_word_undone(a, b, &HasherWrite::U8(200), 200);
+    let four = one_word_undone(a, b, &HasherWrite::U32(0xfedcba98), 0xfedcba98);
+    let eight = one_word_undone(a, b, &HasherWrite::U64(0xfedcba9876543210), 0xfedcba9876543210);
+    let size = one_word_undone(a, b, &HasherWrite::Usize(76543210), 76543210);
+    [byte.before, four.before, eight.before, size.before, a.finish(), b.finish()]
 }
 
-fn there_and_back64(hasher: &mut FxHasher64, number: u64) -> (u64, u64)
-    ensures { hasher.new ≡ hasher.old }
-{
-    fixed_widths_are_words64();
-    let _ = hasher.answer(); // says that the state is in range
-    hasher.write_u64(number);
-    hasher.unwrite_word(number);
-    let between = hasher.finish();
-    hasher.unwrite_word(number);
-    hasher.write_u64(number);
-    (between, hasher.finish())
-}
-
-fn there_and_back32(hasher: &mut FxHasher32, number: u32) -> (u64, u64)
-    ensures { hasher.new ≡ hasher.old }
-{
-    fixed_widths_are_words32();
-    let _ = hasher.answer(); // says that the state is in range
-    hasher.write_u32(number);
-    hasher.unwrite_word(number);
-    let between = hasher.finish();
-    hasher.unwrite_word(number);
-    hasher.write_u32(number);
-    (between, hasher.finish())
+// The same at 32 bits.
+#[tactic(auto, using(hashers::proofs::FixedWidths::words_of_numbers))]
+fn words_of_32_bits(a: &mut FxHasher32, b: &mut FxHasher32) -> [u64; 4] {
+    let byte = one_word_undone(a, b, &HasherWrite::U8(200), 200);
+    let four = one_word_undone(a, b, &HasherWrite::U32(0xfedcba98), 0xfedcba98);
+    [byte.before, four.before, a.finish(), b.finish()]
 }
 
 // The little-endian word of some bytes at a place, past the end 0.
@@ -156,11 +139,10 @@ fn words_by_place(rt: HostRuntime) {
 fn hold_97(rt: &impl Abort, width: usize, hashers: (FxHasher64, FxHasher, FxHasher32)) {
     let (mut h64, mut h, mut h32) = hashers;
     same_at(rt, width, &[h64.finish(), h.finish(), h32.finish()], &OF_97);
-    let (written64, taken64) = there_and_back64(&mut h64, 0xfedcba9876543210);
-    let (written, taken) = there_and_back(&mut h, 0xfedcba9876543210);
-    let (written32, taken32) = there_and_back32(&mut h32, 0xfedcba98);
-    same_at(rt, width, &[written64, written, written32], &OF_97);
-    same_at(rt, width, &[taken64, taken, taken32], &OF_97);
+    let (mut again64, mut again, mut again32) = (h64.fork(), h.fork(), h32.fork());
+    same_at(rt, width, &words_of_64_bits(&mut h64, &mut again64), &[OF_97[0]; 6]);
+    same_at(rt, width, &words_of_64_bits(&mut h, &mut again), &[OF_97[1]; 6]);
+    same_at(rt, width, &words_of_32_bits(&mut h32, &mut again32), &[OF_97[2]; 4]);
 }
 
 // Three hashers, in the order of their hashes.

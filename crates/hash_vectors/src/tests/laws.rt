@@ -1,7 +1,11 @@
 //! What generic code gives at a type that it has never seen.
+use crate::byte_sum::ByteSum;
 use crate::tests::{all_hold, same};
 use crate::times31::Times31;
-use hashers::laws::{Piecewise, Streamed, Undo, answer_of_pieces, run_pair, run_streamed};
+use hashers::laws::{
+    ByteStep, HasherWrite, Piecewise, Streamed, Undo, answer_of_pieces, apart_by_one, run_pair, run_streamed,
+    run_writes, unrun_writes,
+};
 
 #[test]
 fn a_third_partys_hasher(rt: HostRuntime) {
@@ -22,4 +26,29 @@ fn a_third_partys_hasher(rt: HostRuntime) {
         &[3105, 2112, 2112, 1],
     );
     all_hold(&rt, &[Times31::unfinish(4294967296).is_none(), apart]);
+}
+
+// The traits by hand, with no rule: what generic code gives at such a type.
+#[test]
+fn a_hasher_with_no_rule(rt: HostRuntime) {
+    let mut a = ByteSum::fresh();
+    run_writes(&mut a, &[HasherWrite::Bytes(b"abc"), HasherWrite::U16(0x0201)]);
+    let summed = a.answer();
+    unrun_writes(&mut a, &[HasherWrite::Bytes(b"bc"), HasherWrite::U16(0x0201)]);
+    let back = a.answer();
+    a.step(200);
+    a.unstep(200);
+    same(
+        &rt,
+        &[summed, back, a.answer(), answer_of_pieces::<ByteSum>(&[b"ab", b"c"])],
+        &[41, 97, 97, 38],
+    );
+    all_hold(
+        &rt,
+        &[
+            apart_by_one::<ByteSum>(b"abc", b"abd"),
+            ByteSum::unfinish(256).is_none(),
+            ByteSum::unfinish(255).is_some(),
+        ],
+    );
 }

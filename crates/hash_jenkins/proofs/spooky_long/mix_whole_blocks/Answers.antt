@@ -32,12 +32,14 @@ returns-clause-position c =
     let rest = c.split_at.result.1.now in
     let left = c.split_at-2.result.1.now in
     let all : head ++ rest ≡ c.args.bytes.now = rw (c.split_at.ensures.front, c.split_at.ensures.back) (take-append-drop _ _) in
-    let filled = c.spooky_blocks.ensures.mixed ∙ ap (λ (w : List ℕ). spooky_blocks c.args.words.now (take c.block_end-full.result w)) c.put.ensures in
+    let filled = c.spooky_blocks.ensures.mixed ∙ ap (λ (w : List ℕ). spooky_blocks c.args.words.now (take c.block_end-full.result w))
+        c.put.ensures in
     let led = mixed_whole c.args.words.now b head rest c.args.kept c.block_end-full.result (omega arith) (omega arith) (omega arith) in
     let behind : c.if-not-is_empty.mixed ≡ spooky_blocks c.spooky_blocks.new.s c.split_at-2.result.0.now =
     elim c.if-not-is_empty.branch [
       | then-not-is_empty w ↦ w.mixed-is ∙ w.spooky_blocks-then-not-is_empty.ensures.mixed
-      | else-not-is_empty w ↦ w.mixed-is ∙ sym (spooky_blocks_short _ _ (let none : length c.split_at-2.result.0.now ≡ 0 = grind (arith, nat_tests) in omega arith))
+      | else-not-is_empty w ↦ w.mixed-is
+          ∙ sym (spooky_blocks_short _ _ (let none : length c.split_at-2.result.0.now ≡ 0 = grind (arith, nat_tests) in omega arith))
     ] in
     ap₂ Long (behind ∙ ap₂ spooky_blocks filled c.split_at-2.ensures.front)
     (ap (take (length left)) c.put-2.ensures ∙ take-put_first left c.put.new.buffer ∙ c.split_at-2.ensures.back)

@@ -18,7 +18,8 @@ loop-piece-preserved c =
       alike = λ same. lookup3_alike _ _ _ _ _ fed.in_range_before also.in_range_before (before.alike same) fed.state also.state;
     }
 
-rest_none : (s end : ℕ × ℕ) (pieces : List (Bor (List ℕ))) (i : ℕ) → length pieces ≤ i → fold lookup3_from s (texts (drop i pieces)) ≡ end → s ≡ end
+rest_none : (s end : ℕ × ℕ) (pieces : List (Bor (List ℕ))) (i : ℕ) → length pieces ≤ i
+    → fold lookup3_from s (texts (drop i pieces)) ≡ end → s ≡ end
 rest_none s end pieces i done led = rw (drop_all i pieces done) at led
 
 pub returns-clause-first : goal.returns-clause-first

@@ -18,7 +18,9 @@ returns-in-Err-clause-fault g c =
     let before = c.loop-bytes.invariant in
     let filled = c.fill-filled.ensures in
     let few : c.fill-filled.result.0 ≤ g.row.N = omega (arith, c.fill-filled.auto.buf, c.min-room.ensures) in
-    feeds_front _ _ _ _ _ _ _ _ _ _ _ _ c.requires.not_empty before.so_far (before.whole c.loop-bytes-test.true) filled.read filled.within few c.feed_unless_empty.ensures.text (λ none. ap H.state (c.feed_unless_empty.ensures.untouched none)) c.feed_unless_empty.ensures.fed
+    feeds_front _ _ _ _ _ _ _ _ _ _ _ _ c.requires.not_empty before.so_far (before.whole c.loop-bytes-test.true) filled.read filled.within
+        few c.feed_unless_empty.ensures.text (λ none. ap H.state (c.feed_unless_empty.ensures.untouched none))
+        c.feed_unless_empty.ensures.fed
 
 pub returns-then-filled-room-clause-taken : goal.returns-then-filled-room-clause-taken
 returns-then-filled-room-clause-taken g c =
@@ -26,7 +28,9 @@ returns-then-filled-room-clause-taken g c =
     let before = c.loop-bytes.invariant in
     let filled = c.fill-filled.ensures in
     let few : c.fill-filled.result.0 ≤ g.row.N = omega (arith, c.fill-filled.auto.buf, c.min-room.ensures) in
-    feeds_front _ _ _ _ _ _ _ _ _ _ _ _ c.requires.not_empty before.so_far (before.whole c.loop-bytes-test.true) filled.read filled.within few c.feed_unless_empty.ensures.text (λ none. ap H.state (c.feed_unless_empty.ensures.untouched none)) c.feed_unless_empty.ensures.fed
+    feeds_front _ _ _ _ _ _ _ _ _ _ _ _ c.requires.not_empty before.so_far (before.whole c.loop-bytes-test.true) filled.read filled.within
+        few c.feed_unless_empty.ensures.text (λ none. ap H.state (c.feed_unless_empty.ensures.untouched none))
+        c.feed_unless_empty.ensures.fed
 
 pub loop-bytes-preserved : goal.loop-bytes-preserved
 loop-bytes-preserved g c =
@@ -34,9 +38,12 @@ loop-bytes-preserved g c =
     let before = c.loop-bytes.invariant in
     let filled = c.fill-filled.ensures in
     let few : c.fill-filled.result.0 ≤ g.row.N = omega (arith, c.fill-filled.auto.buf, c.min-room.ensures) in
-    let full : c.fill-filled.result.0 ≡ min (c.args.limit - c.loop-bytes.bytes) g.row.N = omega (arith, c.fill-filled.auto.buf, c.min-room.ensures, c.if-filled-room.false) in
+    let full : c.fill-filled.result.0 ≡ min (c.args.limit - c.loop-bytes.bytes) g.row.N
+        = omega (arith, c.fill-filled.auto.buf, c.min-room.ensures, c.if-filled-room.false) in
     record {
-      so_far = feeds_front _ _ _ _ _ _ _ _ _ _ _ _ c.requires.not_empty before.so_far (before.whole c.loop-bytes-test.true) filled.read filled.within few c.feed_unless_empty.ensures.text (λ none. ap H.state (c.feed_unless_empty.ensures.untouched none)) c.feed_unless_empty.ensures.fed;
+      so_far = feeds_front _ _ _ _ _ _ _ _ _ _ _ _ c.requires.not_empty before.so_far (before.whole c.loop-bytes-test.true) filled.read
+          filled.within few c.feed_unless_empty.ensures.text (λ none. ap H.state (c.feed_unless_empty.ensures.untouched none))
+          c.feed_unless_empty.ensures.fed;
       within = omega arith;
       whole = whole_more _ _ _ _ c.requires.not_empty full (before.whole c.loop-bytes-test.true);
     }

@@ -12,13 +12,15 @@ loop-more-preserved g c =
     let fed = c.feed.ensures in
     let laws = g.met.H.Streamed in
     let none : Bor (List ℕ) = record { ref_ptr = (0, 0); now = [] } in
-    let more = λ (text : List ℕ). joined_more (λ piece. piece.now) text c.args.pieces.now c.loop-more.more-index none c.loop-more-test.true in
+    let more = λ (text : List ℕ). joined_more (λ piece. piece.now) text c.args.pieces.now c.loop-more.more-index none
+        c.loop-more-test.true in
     record {
       none = λ first. absurd (omega arith);
       in_range = λ _. ⊎_elim before.in_range
           (λ first. subst (λ h. H.in_range (H.state h)) (before.none (omega arith)) fed.in_range_before)
           (cases_lt 0 c.loop-more.more-index);
-      stands = λ from text stood. rw (more text) (laws.stands_after c.loop-more.h c.feed.new.self from _ _ fed.text fed.state (before.stands from text stood));
+      stands = λ from text stood. rw (more text) (laws.stands_after c.loop-more.h c.feed.new.self from _ _ fed.text fed.state
+          (before.stands from text stood));
       one = λ known. rw (fed.state, before.one known, more []) (sym (laws.after_joined _ _ _ known before.text fed.text));
       text = rw (more []) (All-append (λ byte. byte < 256) _ _ before.text fed.text);
     }

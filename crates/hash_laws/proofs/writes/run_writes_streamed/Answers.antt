@@ -14,7 +14,8 @@ loop-write-preserved g c =
     let none : Bor (List ℕ) = record { ref_ptr = (0, 0); now = [] } in
     let more = λ (text : List ℕ). joined_more written text c.args.writes.now c.loop-write.write-index (Bytes none) c.loop-write-test.true in
     record {
-      stands = λ from text stood. rw (more text) (laws.stands_after c.loop-write.h c.make.new.h from _ _ made.text made.state (before.stands from text stood));
+      stands = λ from text stood. rw (more text) (laws.stands_after c.loop-write.h c.make.new.h from _ _ made.text made.state
+          (before.stands from text stood));
       one = λ known. rw (made.state, before.one known, more []) (sym (laws.after_joined _ _ _ known before.text made.text));
       text = rw (more []) (All-append (λ byte. byte < 256) _ _ before.text made.text);
     }

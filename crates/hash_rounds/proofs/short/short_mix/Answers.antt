@@ -7,5 +7,6 @@ use Rattle.hash_rounds.proofs.short.short_mix.Goals as goal
 pub returns : goal.returns
 unfolding short_mix_steps
 returns c =
-    let both = rows_made 64 4 0 short_mix_group short_mix_table refl [] c.args.h.now c.mix_group-12.new.h refl (no_words 64) c.told-h c.fits-h (cc) in
+    let both = rows_made 64 4 0 short_mix_group short_mix_table refl [] c.args.h.now c.mix_group-12.new.h refl (no_words 64) c.told-h
+        c.fits-h (cc) in
     record { round = both.0; undone = both.1 }

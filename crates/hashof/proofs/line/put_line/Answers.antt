@@ -20,8 +20,10 @@ loop-rest-preserved c =
     let before = c.loop-rest in
     let step = length-decimal-step before.rest c.loop-rest-test.true (omega arith) in
     record {
-      line = put_front (decimal (before.rest / 10)) before.line before.at (48 + before.rest % 10) (omega (arith, before.invariant.room, step)) (omega (arith, before.invariant.within, before.invariant.whole))
-          ∙ ap (λ t. t ++ drop before.at before.line) (sym (decimal_step before.rest c.loop-rest-test.true (omega arith))) ∙ before.invariant.line;
+      line = put_front (decimal (before.rest / 10)) before.line before.at (48 + before.rest % 10)
+          (omega (arith, before.invariant.room, step)) (omega (arith, before.invariant.within, before.invariant.whole))
+          ∙ ap (λ t. t ++ drop before.at before.line) (sym (decimal_step before.rest c.loop-rest-test.true (omega arith)))
+              ∙ before.invariant.line;
       room = omega (arith, before.invariant.room, step);
       within = omega (arith, before.invariant.within);
       whole = search rules;
@@ -35,5 +37,6 @@ returns c =
     let before = c.loop-rest in
     let digit : before.rest < 10 = omega arith in
     put_whole (slice_set before.line (before.at - 1) (48 + before.rest)) _ (before.at - 1) (search rules)
-    (put_front [] before.line before.at (48 + before.rest) (omega (arith, before.invariant.room, length-decimal-digit before.rest digit)) (omega (arith, before.invariant.within, before.invariant.whole))
+    (put_front [] before.line before.at (48 + before.rest) (omega (arith, before.invariant.room, length-decimal-digit before.rest digit))
+        (omega (arith, before.invariant.within, before.invariant.whole))
     ∙ ap (λ t. t ++ drop before.at before.line) (sym (decimal_digit before.rest digit)) ∙ before.invariant.line)

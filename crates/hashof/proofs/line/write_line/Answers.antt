@@ -7,4 +7,5 @@ pub loop-rest-preserved : goal.loop-rest-preserved
 loop-rest-preserved g c =
     let before = c.loop-rest in
     let (part, is, appends) = before.invariant in
-    (part ++ take c.in-Ok.n before.rest.now, take_more part before.rest.now _ c.in-Ok.n is, Appends-trans _ _ _ _ _ appends c.in-Ok.ensures.bytes)
+    (part ++ take c.in-Ok.n before.rest.now, take_more part before.rest.now _ c.in-Ok.n is, Appends-trans _ _ _ _ _ appends
+        c.in-Ok.ensures.bytes)

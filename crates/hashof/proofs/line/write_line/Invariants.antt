@@ -5,7 +5,8 @@ use Rattle.hashof.proofs.line.write_line.Given as goal
 
 -- what is left of the line, behind what was written
 abbrev pub invariant-loop-rest : goal.invariant-loop-rest
-invariant-loop-rest g l = (part : List ℕ) × (part ++ l.rest ≡ line_of l.number) × Appends (g.W.Write.contents l.initial.w) (g.W.Write.contents l.w) part
+invariant-loop-rest g l = (part : List ℕ) × (part ++ l.rest ≡ line_of l.number)
+    × Appends (g.W.Write.contents l.initial.w) (g.W.Write.contents l.w) part
 
 abbrev pub decreases-loop-rest : goal.decreases-loop-rest
 decreases-loop-rest g l = length l.rest
