@@ -177,6 +177,38 @@ bool hashers_fxhash64_column32(const void *data, size_t n, const uint32_t *offse
 bool hashers_fxhash64_column64(const void *data, size_t n, const uint64_t *offsets, size_t offsets_count,
     uint64_t *hashes, size_t count);
 
+/* ---- the lines of a text in one call. A newline ends a line and is none of its bytes; the last line may have none, and no bytes have no
+ * line. The answer is how many lines there are. The hash of line i goes to hashes[i], as far as there is room: where the answer is more
+ * than room, the hashes of the first lines alone are there, and a second call with so much room has all. */
+size_t hashers_fnv1a32_lines(const void *data, size_t n, uint64_t *hashes, size_t room);
+size_t hashers_fnv1a64_lines(const void *data, size_t n, uint64_t *hashes, size_t room);
+size_t hashers_djb2_lines(const void *data, size_t n, uint64_t *hashes, size_t room);
+size_t hashers_sdbm_lines(const void *data, size_t n, uint64_t *hashes, size_t room);
+size_t hashers_loselose_lines(const void *data, size_t n, uint64_t *hashes, size_t room);
+size_t hashers_bricolage_lines(const void *data, size_t n, uint64_t *hashes, size_t room);
+size_t hashers_oaat_lines(const void *data, size_t n, uint64_t *hashes, size_t room);
+size_t hashers_lookup3_lines(const void *data, size_t n, uint64_t *hashes, size_t room);
+size_t hashers_spooky_lines(const void *data, size_t n, uint64_t *hashes, size_t room);
+size_t hashers_spooky_v1_lines(const void *data, size_t n, uint64_t *hashes, size_t room);
+size_t hashers_null_lines(const void *data, size_t n, uint64_t *hashes, size_t room);
+size_t hashers_passthrough_lines(const void *data, size_t n, uint64_t *hashes, size_t room);
+size_t hashers_fxhash_lines(const void *data, size_t n, uint64_t *hashes, size_t room);
+size_t hashers_fxhash32_lines(const void *data, size_t n, uint64_t *hashes, size_t room);
+size_t hashers_fxhash64_lines(const void *data, size_t n, uint64_t *hashes, size_t room);
+
+/* ---- a Bloom filter in words of the caller's, which begin as zeros. It has so many bits, in at least (bits + 63) / 64 words, and each key
+ * so many probes. About 0.693 * bits / keys probes are best; at 10 bits for each key and 7 probes about 1 of 120 strange keys is found.
+ * A key that was inserted is found, by the same two hashes, and stays so. What insert answers is whether all bits of the key were set
+ * before: false says that it was not inserted before. No bits, no probes or too few words: the answer is false, and nothing changes. */
+bool hashers_bloom_fnv1a64_lookup3_insert(uint64_t *words, size_t count, uint64_t bits, uint32_t probes, const void *key, size_t n);
+bool hashers_bloom_fnv1a64_lookup3_contains(const uint64_t *words, size_t count, uint64_t bits, uint32_t probes, const void *key, size_t n);
+bool hashers_bloom_spooky_lookup3_insert(uint64_t *words, size_t count, uint64_t bits, uint32_t probes, const void *key, size_t n);
+bool hashers_bloom_spooky_lookup3_contains(const uint64_t *words, size_t count, uint64_t bits, uint32_t probes, const void *key, size_t n);
+
+/* Adds another filter's keys, of as many bits and probes and by the same hashes. Where it has more or fewer words, the answer is false, and
+ * nothing changes. */
+bool hashers_bloom_union(uint64_t *words, size_t count, const uint64_t *others, size_t others_count);
+
 #ifdef __cplusplus
 }
 #endif

@@ -146,6 +146,83 @@ static void check_column(const struct column *c) {
     same("what is refused writes nothing", 0, (uint64_t)memcmp(hashes, none, sizeof none));
 }
 
+typedef size_t of_lines(const void *, size_t, uint64_t *, size_t);
+
+static const struct lines {
+    whole *of;
+    of_lines *lines;
+} by_line[] = {
+#define LINES(name) {hashers_##name, hashers_##name##_lines}
+    LINES(fnv1a32), LINES(fnv1a64), LINES(djb2), LINES(sdbm), LINES(loselose), LINES(bricolage), LINES(oaat), LINES(lookup3),
+    LINES(spooky), LINES(spooky_v1), LINES(null), LINES(passthrough), LINES(fxhash), LINES(fxhash32), LINES(fxhash64),
+};
+
+// Lines against a call for each, with more room than lines and with less; and which bytes have which lines.
+static void check_lines(const struct lines *l) {
+    unsigned char data[sizeof text];
+    uint64_t hashes[sizeof text + 1], few[3] = {7, 7, 7};
+    size_t count = 0, from = 0;
+    for (size_t i = 0; i < sizeof data; i++) data[i] = text[i] < 20 ? '\n' : text[i];
+    size_t found = l->lines(data, sizeof data, hashes, sizeof text);
+    for (size_t i = 0; i < sizeof data; i++)
+        if (data[i] == '\n' || i + 1 == sizeof data) {
+            size_t n = i - from + (data[i] != '\n');
+            same("a line", l->of(data + from, n), hashes[count++]);
+            from = i + 1;
+        }
+    same("lines", count, found);
+    same("lines, with too little room", count, l->lines(data, sizeof data, few, 2));
+    same("the first line", hashes[0], few[0]);
+    same("the second line", hashes[1], few[1]);
+    same("past the room", 7, few[2]);
+    same("lines, with no room", count, l->lines(data, sizeof data, NULL, 0));
+    static const struct {
+        const char *text;
+        size_t n, lines;
+    } ends[] = {{"", 0, 0}, {"\n", 1, 1}, {"a", 1, 1}, {"a\n", 2, 1}, {"a\nb", 3, 2}, {"\n\n", 2, 2}, {"a\r\n\0\n", 5, 2}};
+    for (size_t i = 0; i < sizeof ends / sizeof *ends; i++) {
+        few[2] = 7;
+        same("lines at the end", ends[i].lines, l->lines(ends[i].text, ends[i].n, few, 3));
+        same("no hash of no line", 7, few[2]);
+    }
+    l->lines("a\r\n", 3, few, 1);
+    same("a carriage return is of the line", l->of("a\r", 2), few[0]);
+}
+
+typedef bool on_filter(uint64_t *, size_t, uint64_t, uint32_t, const void *, size_t);
+typedef bool in_filter(const uint64_t *, size_t, uint64_t, uint32_t, const void *, size_t);
+
+// A filter against its definition: the place of probe i is (first + i * second) mod bits.
+static void check_filter(whole *first, whole *second, on_filter *insert, in_filter *contains) {
+    enum { BITS = 1000, WORDS = 16, PROBES = 5 };
+    uint64_t words[WORDS + 1] = {0}, wanted[WORDS + 1] = {0}, others[WORDS] = {0};
+    for (size_t n = 0; n < 60; n++) {
+        uint64_t f = first(text, n) % BITS, g = second(text, n) % BITS;
+        bool before = true;
+        for (int i = 0; i < PROBES; i++) {
+            size_t at = (f + (uint64_t)i * g) % BITS;
+            before = before && wanted[at / 64] >> at % 64 & 1;
+            wanted[at / 64] |= (uint64_t)1 << at % 64;
+        }
+        same("contains before", before, contains(words, WORDS, BITS, PROBES, text, n));
+        same("insert", before, insert(words, WORDS, BITS, PROBES, text, n));
+        same("insert again", 1, insert(words, WORDS, BITS, PROBES, text, n));
+        for (size_t k = 0; k <= n; k++) same("contains", 1, contains(words, WORDS, BITS, PROBES, text, k));
+        same("the bits", 0, (uint64_t)memcmp(words, wanted, sizeof words));
+    }
+    same("no bits", 0, insert(words, WORDS, 0, PROBES, "new", 3) | contains(words, WORDS, 0, PROBES, text, 3));
+    same("no probes", 0, insert(words, WORDS, BITS, 0, "new", 3) | contains(words, WORDS, BITS, 0, text, 3));
+    same("too few words", 0, insert(words, WORDS - 1, BITS, PROBES, "new", 3) | contains(words, WORDS - 1, BITS, PROBES, text, 3));
+    same("no words", 0, insert(NULL, 0, BITS, PROBES, "new", 3) | contains(NULL, 0, UINT64_MAX, PROBES, text, 3));
+    same("what is refused changes nothing", 0, (uint64_t)memcmp(words, wanted, sizeof words));
+    insert(others, WORDS, BITS, PROBES, "other", 5);
+    same("union of other sizes", 0, hashers_bloom_union(words, WORDS + 1, others, WORDS));
+    same("a refused union", 0, (uint64_t)memcmp(words, wanted, sizeof words));
+    same("union", 1, hashers_bloom_union(words, WORDS, others, WORDS));
+    for (int i = 0; i < WORDS; i++) same("united bits", wanted[i] | others[i], words[i]);
+    same("contains of a union", 1, contains(words, WORDS, BITS, PROBES, "other", 5) & contains(words, WORDS, BITS, PROBES, text, 9));
+}
+
 // A text of two parts from their hashes.
 static void check_combine(void) {
     for (size_t n = 0; n < 100; n++) {
@@ -201,6 +278,9 @@ int main(void) {
     check_spooky();
     check_combine();
     for (size_t i = 0; i < sizeof columns / sizeof *columns; i++) check_column(columns + i);
+    for (size_t i = 0; i < sizeof by_line / sizeof *by_line; i++) check_lines(by_line + i);
+    check_filter(hashers_fnv1a64, hashers_lookup3, hashers_bloom_fnv1a64_lookup3_insert, hashers_bloom_fnv1a64_lookup3_contains);
+    check_filter(hashers_spooky, hashers_lookup3, hashers_bloom_spooky_lookup3_insert, hashers_bloom_spooky_lookup3_contains);
     check_states_of_any_bytes();
     printf("%d passed, %d failed\n", passed, failed);
     return failed != 0;

@@ -1,6 +1,7 @@
+pub mod Found
 pub mod Reduction
 pub mod OneBit
 pub mod Ones
 pub mod Places
 pub mod Runs
-pub mod Words
+pub mod WordLemmas

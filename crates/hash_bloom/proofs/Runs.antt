@@ -1,10 +1,11 @@
 -- Changes one after another, and what they leave to be found.
 use Rattle.std.proofs.Common.{ℕ, ◌≡◌, ◌⊎◌, ◌↔◌, ◌<◌, List, [], ◌∷◌, ◌++◌, refl, sym, ap, ◌∙◌, subst, ⊎_elim, inl, inr, length, append_assoc}
 use Rattle.std.proofs.lemmas.List.{append-nil, nil_from_length}
-use Rattle.hash_bloom.specs.Filter.{Filter, IsSet, HasBit, IsProbe, IsCovered, Passes, Fits, Adds, place}
+use Rattle.hash_bloom.specs.Filter.{Filter, IsProbe, IsSet, Passes, Fits, Adds, place}
 use Rattle.hash_bloom.specs.Commands.{SetsBit, AnySetsBit, Inserts}
 use Rattle.hash_bloom.specs.declared.commands.Command.{Command}
 use Rattle.hash_bloom.specs.declared.commands.Command.TheVariants.{Insert, Union, Store}
+use Rattle.hash_bloom.proofs.Found.{passes_added}
 
 -- where a list that is gone over is split, one item later and at the end
 pub split_more : {X : Type 0} (all done rest after : List X) (x : X) → all ≡ done ++ rest → rest ≡ x ∷ after → all ≡ (done ++ x ∷ []) ++ after
@@ -14,26 +15,6 @@ pub split_end : {X : Type 0} (all done rest : List X) → all ≡ done ++ rest �
 split_end all done rest split none = sym (split ∙ ap (λ t. done ++ t) (nil_from_length rest none) ∙ append-nil done)
 
 module _ (f g : List ℕ → ℕ) where
-  -- a key is found exactly where its probes were set or are added
-  pub found_exactly : (old new : Filter) (more : ℕ → Type 0) (key : List ℕ) → Adds old new more
-      → Passes f g new key ↔ IsCovered f g old key more
-  found_exactly old new more key adds = (
-    λ found j probe.
-        let less : probe.0 < new.probes = subst (λ (n : ℕ). probe.0 < n) (sym adds.shape.1) probe.1 in
-        let at : place new.bits (f key) (g key) probe.0 ≡ j = ap (λ bits. place bits (f key) (g key) probe.0) adds.shape.0 ∙ probe.2 in
-        (adds.set j).0 (subst (HasBit new.words) at (found probe.0 less)),
-    λ covered i less.
-        let less' : i < old.probes = subst (λ (n : ℕ). i < n) adds.shape.1 less in
-        subst (λ (bits : ℕ). HasBit new.words (place bits (f key) (g key) i)) (sym adds.shape.0)
-        ((adds.set (place old.bits (f key) (g key) i)).1 (covered _ (i, less', refl))),
-  )
-
-  -- what another filter of as many bits and probes finds is covered by its bits
-  pub covered_by : (old other : Filter) (key : List ℕ) → Fits old other → Passes f g other key → IsCovered f g old key (IsSet other)
-  covered_by old other key fits found j probe =
-      let less : probe.0 < other.probes = subst (λ (n : ℕ). probe.0 < n) (sym fits.1) probe.1 in
-      inr (subst (HasBit other.words) (ap (λ bits. place bits (f key) (g key) probe.0) fits.0 ∙ probe.2) (found probe.0 less))
-
   module _ {F G : Type 0} where
     -- which bits a command sets depends on the number of bits and probes alone
     sets_same : (a b : Filter) → Fits a b → (command : Command F G) (j : ℕ) → SetsBit f g b command j ↔ SetsBit f g a command j
@@ -87,4 +68,4 @@ module _ (f g : List ℕ → ℕ) where
     pub inserted_found : (a new : Filter) (commands : List (Command F G)) → Adds a new (AnySetsBit f g a commands)
         → (key : List ℕ) → Inserts commands key → Passes f g new key
     inserted_found a new commands adds key inserts =
-        (found_exactly a new (AnySetsBit f g a commands) key adds).1 (λ j probe. inr (inserts_set a commands key inserts j probe))
+        passes_added f g a new (AnySetsBit f g a commands) key adds (λ j probe. inserts_set a commands key inserts j probe)

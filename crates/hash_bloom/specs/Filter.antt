@@ -26,11 +26,15 @@ count_set words n = sum_by (bit words) (range_with_len 0 n)
 abbrev pub IsSet : Filter → ℕ → Type 0
 IsSet filter i = HasBit filter.words i
 
--- there are a bit and a probe at least, as many words as the bits need, and no bit beyond is set
-pub record IsFilter (filter : Filter) : Type 0 where
+-- there are a bit and a probe at least, and as many words as the bits need
+pub record HasRoom (filter : Filter) : Type 0 where
   pub bits : 1 ≤ filter.bits
   pub probes : 1 ≤ filter.probes
   pub enough : filter.bits ≤ 64 * length filter.words
+
+-- and there are no more words, and no bit beyond is set
+pub record IsFilter (filter : Filter) : Type 0 where
+  pub room : HasRoom filter
   pub no_more : 64 * length filter.words < filter.bits + 64
   pub within : (i : ℕ) → IsSet filter i → i < filter.bits
 
@@ -79,6 +83,10 @@ Fits a b = HasShape a.bits a.probes b
 pub record Adds (old new : Filter) (more : ℕ → Type 0) : Type 0 where
   pub shape : Fits old new
   pub set : (j : ℕ) → IsSet new j ↔ (IsSet old j ⊎ more j)
+
+-- each key that passes in the one filter passes in the other
+abbrev pub AllPassIn : (f g : List ℕ → ℕ) → Filter → Filter → Type 0
+AllPassIn f g one other = (key : List ℕ) → Passes f g one key → Passes f g other key
 
 -- how many probes let few strange keys pass, at so many bits a key: about ln 2 of them, to the nearest whole number
 abbrev pub best_probes : ℕ → ℕ

@@ -80,16 +80,6 @@ pub fn has_all(words: &[u64], bits: u64, probes: u32, first: u64, second: u64) -
     true
 }
 
-/// Sets the bits that are set in the others, of as many words.
-pub fn unite(words: &mut [u64], others: &[u64])
-    requires { length words.old ≡ length others.now }
-    ensures { (j : ℕ) → HasBit words.new j ↔ (HasBit words.old j ⊎ HasBit others.now j) }
-{
-    for i in 0..words.len() {
-        words[i] |= others[i];
-    }
-}
-
 /// Whether no bit from place `bits` on is set, which is in the last word.
 pub fn no_bits_beyond(words: &[u64], bits: u64) -> bool
     requires enough { bits ≤ 64 * length words.now }

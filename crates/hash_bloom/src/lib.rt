@@ -7,15 +7,16 @@
 
 ghost use Rattle.std.specs.Prelude.{◌≡◌, ◌*◌, ◌≤◌, ◌↔◌, IfOk, IfErr, IsOk, IsTrue, max};
 ghost use Rattle.hashers.specs.Text.{joined};
-ghost use Rattle.hash_bloom.specs.Filter.{Filter, IsFilter, Passes, PassesNone, IsProbe, IsSet, IsEmpty, HasShape, Fits, Adds, IsForKeys, count_set, filter_of};
+ghost use Rattle.hash_bloom.specs.Filter.{Filter, IsFilter, Passes, PassesNone, IsProbe, IsSet, IsEmpty, HasShape, Fits, Adds, AllPassIn, IsForKeys, count_set, filter_of};
 
 mod bits;
 pub mod commands;
 #[cfg(test)]
 mod tests;
+pub mod words;
 
-use crate::bits::{has_all, no_bits_beyond, ones, set_all, unite};
-use hashers::laws::{Piecewise, Streamed, answer_of_pieces, hash_of};
+use crate::bits::{has_all, no_bits_beyond, ones};
+use hashers::laws::{Piecewise, Streamed, answer_of_pieces};
 use std::alloc::{AllocError, Global};
 use std::error::Error as StdError;
 use std::fmt;
@@ -116,21 +117,22 @@ impl<F: Piecewise, G: Piecewise> Bloom<F, G> {
     }
 
     /// Inserts the key: sets the bits at its places, and clears none. It answers whether all of them were set before: `false`
-    /// says that this key was not inserted before, and `true` that it possibly was. It takes no memory.
+    /// says that this key was not inserted before, and `true` that it possibly was. Afterwards this key is found, and each that
+    /// was found before. It takes no memory.
     pub fn insert(&mut self, key: &[u8]) -> bool
         ensures inserted { Adds self.old self.new (IsProbe F.hash_of G.hash_of self.old key.now) }
         ensures before { IsTrue result ↔ Passes F.hash_of G.hash_of self.old key.now }
+        ensures passes { Passes F.hash_of G.hash_of self.new key.now }
+        ensures kept { AllPassIn F.hash_of G.hash_of self.old self.new }
     {
-        let (first, second) = (hash_of::<F>(key), hash_of::<G>(key));
-        set_all(&mut self.words, self.bits, self.probes, first, second)
+        words::insert::<F, G>(&mut self.words, self.bits, self.probes, key)
     }
 
     /// Whether the key is found: the bits at all of its places are set. It is found if it was inserted, and possibly if not.
     pub fn contains(&self, key: &[u8]) -> bool
         ensures { IsTrue result ↔ Passes F.hash_of G.hash_of self.now key.now }
     {
-        let (first, second) = (hash_of::<F>(key), hash_of::<G>(key));
-        has_all(&self.words, self.bits, self.probes, first, second)
+        words::contains::<F, G>(&self.words, self.bits, self.probes, key)
     }
 
     /// Whether the other filter has as many bits and as many probes, as `union` asks.
@@ -143,9 +145,11 @@ impl<F: Piecewise, G: Piecewise> Bloom<F, G> {
     /// Adds the bits of the other filter, of as many bits and probes. Afterwards each key is found that either found.
     pub fn union(&mut self, other: &Self)
         requires { Fits self.old other.now }
-        ensures { Adds self.old self.new (IsSet other.now) }
+        ensures united { Adds self.old self.new (IsSet other.now) }
+        ensures kept { AllPassIn F.hash_of G.hash_of self.old self.new }
+        ensures taken { AllPassIn F.hash_of G.hash_of other.now self.new }
     {
-        unite(&mut self.words, &other.words);
+        words::union(&mut self.words, &other.words);
     }
 
     /// Clears all bits. No key is found then. The numbers of bits and probes stay.

@@ -6,7 +6,7 @@ ghost use Rattle.hash_bloom.specs.Filter.{Filter, HasShape};
 use crate::commands::{
     Command, empty_finds_nothing, found_after, found_in_union, known_after, obey, obey_all,
 };
-use crate::{Bloom, NoFilter};
+use crate::{Bloom, NoFilter, words};
 use hashers::fnv::{FNV1aHasher64, FnvBuildHasher, FnvHashSet};
 use hashers::fx_hash::FxHasher;
 use hashers::jenkins::Lookup3Hasher;
@@ -85,6 +85,36 @@ fn places_at_a_power_of_two(rt: HostRuntime) {
     let fresh = filter.insert(&[40]);
     all_hold(&rt, &[!fresh, filter.contains(&[40])]);
     same(&rt, filter.words(), &[1 | 1 << 40 | 1 << 16 | 1 << 56]);
+}
+
+/// The words and the answers are those of `places_by_hand`, in a slice of the caller's with a word to spare.
+#[test]
+fn words_of_the_caller(rt: HostRuntime) {
+    let mut kept: [u64; 3] = [0, 0, 0];
+    let others: [u64; 3] = [1 << 50, 0, 0];
+    let mut answers = [false; 3];
+    if words::has_room(&kept, 100, 4) {
+        answers[0] = words::insert::<NullHasher, LoseLoseHasher>(&mut kept, 100, 4, &[33]);
+    }
+    if words::has_room(&kept, 100, 4) {
+        answers[1] = words::insert::<NullHasher, LoseLoseHasher>(&mut kept, 100, 4, &[33]);
+    }
+    words::union(&mut kept, &others);
+    if words::has_room(&kept, 100, 4) {
+        answers[2] = words::contains::<NullHasher, LoseLoseHasher>(&kept, 100, 4, &[50]);
+    }
+    all_hold(
+        &rt,
+        &[
+            !answers[0],
+            answers[1],
+            answers[2],
+            !words::has_room(&kept, 193, 4),
+            !words::has_room(&kept, 0, 4),
+            !words::has_room(&kept, 100, 0),
+        ],
+    );
+    same(&rt, &kept, &[1 | 1 << 33 | 1 << 50, 1 << 2 | 1 << 35, 0]);
 }
 
 /// The words that a program in another language made of the keys ``, `a` and `abc`.

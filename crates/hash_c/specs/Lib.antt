@@ -1,2 +1,4 @@
+pub mod Blooms
 pub mod Columns
+pub mod Lines
 pub mod SpookyState

@@ -1,8 +1,9 @@
-//! The hashes of many texts in one call, as one body for every hash and for offsets of 32 and of 64 bits.
-ghost use Rattle.std.specs.Prelude.{◌≡◌, ◌+◌, ◌<◌, ◌≤◌, ◌↔◌, ℕ, List, length, map, slice_index, IsTrue};
+//! The hashes of many texts in one call, as one body for every hash: of texts between offsets of 32 or of 64 bits, and of lines.
+ghost use Rattle.std.specs.Prelude.{◌≡◌, ◌+◌, ◌<◌, ◌≤◌, ◌↔◌, ◌∷◌, ℕ, List, length, map, slice_index, IsTrue};
 ghost use Rattle.std.specs.Bool.{OnTrue, OnFalse};
 ghost use Rattle.hashers.specs.Spooky.{spooky_v1};
 ghost use Rattle.hash_c.specs.Columns.{AreHashes, AreOffsets};
+ghost use Rattle.hash_c.specs.Lines.{laid_over, line_texts};
 
 use hashers::jenkins::spooky_hash;
 use hashers::laws::{Piecewise, hash_of};
@@ -132,4 +133,35 @@ pub fn column64<T: TextHash>(bytes: &[u8], offsets: &[u64], hashes: &mut [u64]) 
     ensures refused { OnFalse result (hashes.new ≡ hashes.old) }
 {
     column::<T, u64>(bytes, offsets, hashes)
+}
+
+/// The first line, and what is behind its newline.
+fn first_line(bytes: &[u8]) -> (&[u8], &[u8])
+    requires { 0 < length bytes.now }
+    ensures first { line_texts bytes.now ≡ result.0.now ∷ line_texts result.1.now }
+    ensures shorter { length result.1.now < length bytes.now }
+{
+    match bytes.iter().position(|byte| *byte == b'\n') {
+        Some(n) => (&bytes[..n], &bytes[n + 1..]),
+        None => (bytes, &[]),
+    }
+}
+
+/// Writes the hash of each line, as far as there is room, and answers how many lines there are.
+#[inline(always)]
+pub fn hash_lines<T: TextHash>(bytes: &[u8], hashes: &mut [u64]) -> usize
+    ensures count { result ≡ length (line_texts bytes.now) }
+    ensures written { hashes.new ≡ laid_over (map T.hash (line_texts bytes.now)) hashes.old }
+{
+    let mut count = 0;
+    let mut rest = bytes;
+    while !rest.is_empty() {
+        let (line, later) = first_line(rest);
+        if count < hashes.len() {
+            hashes[count] = T::hash(line);
+        }
+        count += 1;
+        rest = later;
+    }
+    count
 }

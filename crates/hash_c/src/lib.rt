@@ -4,9 +4,11 @@
 
 ghost use Rattle.std.specs.Prelude.{◌≡◌};
 
+mod bloom;
 mod column;
 mod columns;
 mod combine;
+mod lines;
 mod parts;
 mod spooky;
 mod whole;

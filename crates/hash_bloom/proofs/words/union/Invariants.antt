@@ -1,5 +1,5 @@
 use Rattle.std.proofs.Common.{ℕ, ◌≡◌, ◌<◌, ◌≤◌, get_or, bit_or}
-use Rattle.hash_bloom.proofs.bits.unite.Given as goal
+use Rattle.hash_bloom.proofs.words.union.Given as goal
 
 abbrev pub invariant-loop-i : goal.invariant-loop-i
 invariant-loop-i l = record {

@@ -1,0 +1,55 @@
+-- What passes once bits are added.
+use Rattle.std.proofs.Common.{ℕ, ◌≡◌, ◌↔◌, ◌<◌, List, length, refl, sym, ap, ◌∙◌, subst, ⊎_elim, inl, inr, arith}
+use Rattle.hash_bloom.specs.Filter.{Filter, IsFilter, IsSet, HasBit, IsProbe, IsCovered, Passes, AllPassIn, Fits, Adds, place}
+
+-- two joined filters are a filter
+pub joined_is_filter : (old other new : Filter) → IsFilter old → IsFilter other → Fits old other → Adds old new (IsSet other)
+    → length new.words ≡ length old.words → IsFilter new
+joined_is_filter old other new is is_other fits adds same = record {
+  room = record {
+    bits = omega (arith, adds.shape.0, is.room.bits);
+    probes = omega (arith, adds.shape.1, is.room.probes);
+    enough = omega (arith, adds.shape.0, same, is.room.enough);
+  };
+  no_more = omega (arith, adds.shape.0, same, is.no_more);
+  within = λ i set. ⊎_elim
+      (λ (was : IsSet old i). let below : i < old.bits = is.within i was in omega (arith, adds.shape.0, below))
+      (λ (more : IsSet other i). let below : i < other.bits = is_other.within i more in omega (arith, adds.shape.0, fits.0, below))
+      ((adds.set i).0 set);
+}
+
+module _ (f g : List ℕ → ℕ) where
+  -- a key is found exactly where its probes were set or are added
+  pub found_exactly : (old new : Filter) (more : ℕ → Type 0) (key : List ℕ) → Adds old new more
+      → Passes f g new key ↔ IsCovered f g old key more
+  found_exactly old new more key adds = (
+    λ found j probe.
+        let less : probe.0 < new.probes = subst (λ (n : ℕ). probe.0 < n) (sym adds.shape.1) probe.1 in
+        let at : place new.bits (f key) (g key) probe.0 ≡ j = ap (λ bits. place bits (f key) (g key) probe.0) adds.shape.0 ∙ probe.2 in
+        (adds.set j).0 (subst (HasBit new.words) at (found probe.0 less)),
+    λ covered i less.
+        let less' : i < old.probes = subst (λ (n : ℕ). i < n) adds.shape.1 less in
+        subst (λ (bits : ℕ). HasBit new.words (place bits (f key) (g key) i)) (sym adds.shape.0)
+        ((adds.set (place old.bits (f key) (g key) i)).1 (covered _ (i, less', refl))),
+  )
+
+  -- what another filter of as many bits and probes finds is covered by its bits
+  pub covered_by : (old other : Filter) (key : List ℕ) → Fits old other → Passes f g other key → IsCovered f g old key (IsSet other)
+  covered_by old other key fits found j probe =
+      let less : probe.0 < other.probes = subst (λ (n : ℕ). probe.0 < n) (sym fits.1) probe.1 in
+      inr (subst (HasBit other.words) (ap (λ bits. place bits (f key) (g key) probe.0) fits.0 ∙ probe.2) (found probe.0 less))
+
+  -- all that passed still do
+  pub passes_still : (old new : Filter) (more : ℕ → Type 0) → Adds old new more → AllPassIn f g old new
+  passes_still old new more adds key passed =
+      (found_exactly old new more key adds).1 (λ j probe. inl (subst (HasBit old.words) probe.2 (passed probe.0 probe.1)))
+
+  -- a key passes whose probes are added
+  pub passes_added : (old new : Filter) (more : ℕ → Type 0) (key : List ℕ) → Adds old new more
+      → ((j : ℕ) → IsProbe f g old key j → more j) → Passes f g new key
+  passes_added old new more key adds probes = (found_exactly old new more key adds).1 (λ j probe. inr (probes j probe))
+
+  -- all that passed in the other of two joined filters do
+  pub passes_joined : (old other new : Filter) → Fits old other → Adds old new (IsSet other) → AllPassIn f g other new
+  passes_joined old other new fits adds key passed =
+      (found_exactly old new (IsSet other) key adds).1 (covered_by old other key fits passed)
