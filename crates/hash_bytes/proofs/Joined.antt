@@ -48,7 +48,7 @@ module _ (a m period : ℕ) (one : a ^ period % m ≡ 1 % m) where
       let r = n % period in
       let once : a ^ r ≡ 1 * a ^ r = omega arith in
       ap (λ k. k % m) once ∙ sym (mul-mod_first 1 (a ^ r) m) ∙ ap (λ k. (k * a ^ r) % m) (sym (whole_periods q))
-          ∙ mul-mod_first (a ^ (period * q)) (a ^ r) m
+      ∙ mul-mod_first (a ^ (period * q)) (a ^ r) m
       ∙ ap (λ k. k % m) (sym (pow-add a (period * q) r)) ∙ ap (λ k. a ^ k % m) (div-add-mod n period)
 
 -- a long power by short ones

@@ -70,9 +70,9 @@ module _ {X : Type 0} (f : X → ℕ) (x y : List X) (i : ℕ) (d : X) (in_x : i
   differences-more =
       let same : length (map f (take i x)) ≡ length (map f (take i y)) =
       length-map (take i x) f ∙ length-take-le i x (omega (arith, in_x))
-          ∙ sym (length-map (take i y) f ∙ length-take-le i y (omega (arith, in_y))) in
+      ∙ sym (length-map (take i y) f ∙ length-take-le i y (omega (arith, in_y))) in
       ap₂ differences (map_more f x i d in_x) (map_more f y i d in_y)
-          ∙ differences-append (map f (take i x)) (map f (take i y)) (f (get_or x i d) ∷ []) (f (get_or y i d) ∷ []) same
+      ∙ differences-append (map f (take i x)) (map f (take i y)) (f (get_or x i d) ∷ []) (f (get_or y i d) ∷ []) same
       ∙ ap (λ n. differences (map f (take i x)) (map f (take i y)) + n) (add-zero (place (f (get_or x i d)) (f (get_or y i d))))
 
   pub more-same : f (get_or x i d) ≡ f (get_or y i d) → differences (map f (take (i + 1) x)) (map f (take (i + 1) y))
@@ -88,9 +88,9 @@ module _ (x y : List ℕ) (i d : ℕ) (in_x : i < length x) (in_y : i < length y
   bytes-more : differences (take (i + 1) x) (take (i + 1) y) ≡ differences (take i x) (take i y) + place (get_or x i d) (get_or y i d)
   bytes-more =
       let same : length (take i x) ≡ length (take i y) = length-take-le i x (omega (arith, in_x))
-          ∙ sym (length-take-le i y (omega (arith, in_y))) in
+      ∙ sym (length-take-le i y (omega (arith, in_y))) in
       ap₂ differences (take_more x i d in_x) (take_more y i d in_y)
-          ∙ differences-append (take i x) (take i y) (get_or x i d ∷ []) (get_or y i d ∷ []) same
+      ∙ differences-append (take i x) (take i y) (get_or x i d ∷ []) (get_or y i d ∷ []) same
       ∙ ap (λ n. differences (take i x) (take i y) + n) (add-zero (place (get_or x i d) (get_or y i d)))
 
   pub byte-same : get_or x i d ≡ get_or y i d → differences (take (i + 1) x) (take (i + 1) y) ≡ differences (take i x) (take i y)

@@ -59,6 +59,6 @@ fx32_of_eight h v below =
     let low : le (take 4 (le_bytes 8 v)) ≡ v % 2 ^ 32 = le-4 (take 4 (le_bytes 8 v)) refl ∙ omega arith in
     let high : le (drop 4 (le_bytes 8 v)) ≡ v / 2 ^ 32 = le-4 (drop 4 (le_bytes 8 v)) refl ∙ omega arith in
     recurrence-fold fx32_step h (le (take 4 (le_bytes 8 v)) ∷ le (drop 4 (le_bytes 8 v)) ∷ [])
-        ∙ ap₂ (λ a b. fx32_step (fx32_step h a) b) low high
+    ∙ ap₂ (λ a b. fx32_step (fx32_step h a) b) low high
 
 pub ruleset words_of_numbers = (words64-byte, words64-four, words64-eight, words32-byte, words32-four)

@@ -43,8 +43,11 @@ from_place (a ∷ x) [] i len ne same = absurd (omega (arith, len))
 from_place (a ∷ x) (b ∷ y) zero len ne same =
     inl (ne, ext_get_or 0 x y (omega (arith, len)) (λ j _. same (suc j) (λ (e : suc j ≡ 0). omega (arith, e))))
 from_place (a ∷ x) (b ∷ y) (suc i) len ne same =
-    inr (same 0 (λ (e : 0 ≡ suc i). omega (arith, e)), from_place x y i (omega (arith, len)) ne
-        (λ j other. same (suc j) (λ (e : suc j ≡ suc i). other (omega (arith, e)))))
+    inr (
+      same 0 (λ (e : 0 ≡ suc i). omega (arith, e)),
+      from_place x y i (omega (arith, len)) ne
+          (λ j other. same (suc j) (λ (e : suc j ≡ suc i). other (omega (arith, e)))),
+    )
 
 pub one_from_DifferAtOnePlace : (x y : List ℕ) → DifferAtOnePlace x y → OneApart x y
 one_from_DifferAtOnePlace x y d = from_place x y d.place.0 d.same_length d.place.1 d.place.2

@@ -47,7 +47,7 @@ words-apart words tells (p ∷ x) (q ∷ y) cuts xs ys one =
       | inr back ↦
           subst (λ t. OneApart (flat_map words (texts (p ∷ x))) (words t ++ flat_map words (texts y))) back.0
           (OneApart-append_right (words p.now) _ _ (words-apart words tells x y later (All-tail IsText p.now (texts x) xs)
-              (All-tail IsText q.now (texts y) ys) back.1))
+          (All-tail IsText q.now (texts y) ys) back.1))
     ]
 
 module _ (w : ℕ) (step : ℕ → ℕ → ℕ) (loses : StepFacts step (2 ^ w) (2 ^ w)) where
@@ -64,7 +64,7 @@ module _ (w : ℕ) (step : ℕ → ℕ → ℕ) (loses : StepFacts step (2 ^ w) 
         | inl here ↦
             λ same. here.0 (loses.item_injective s a b known first second
             (fold_cancels step (IsWord w) (IsWord w) loses.in_range loses.state_injective (step s a) (step s b) u
-                (loses.in_range s a known first) (loses.in_range s b known second) rest
+            (loses.in_range s a known first) (loses.in_range s b known second) rest
             (same ∙ ap (fold step (step s b)) (sym here.1))))
         | inr later ↦
             λ same. fold-apart (step s a) u v (loses.in_range s a known first) rest (All-tail (IsWord w) b v vs) later.1

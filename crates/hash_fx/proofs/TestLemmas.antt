@@ -68,7 +68,7 @@ module _ (P : Type 0) (x y : Pieces) (i : ℕ) (d : Bor (List ℕ)) (cuts : Same
   left_equal apart same left =
       let turn = at_turn apart left in
       let step = RestApart-equal (get_or x i d) (get_or y i d) (drop (i + 1) x) (drop (i + 1) y) (SameCuts-at x y i d cuts below)
-          apart same in
+      apart same in
       ((λ p. step.0 (turn.0 p)), λ rest. turn.1 (step.1 rest))
 
   pub left_first : (apart : Bool) → apart ≡ false → OneApart (get_or x i d).now (get_or y i d).now
@@ -84,7 +84,7 @@ module _ (P : Type 0) (x y : Pieces) (i : ℕ) (d : Bor (List ℕ)) (cuts : Same
       → P ↔ RestApart apart (drop i x) (drop i y) → P → ⊥
   left_second true some ne left =
       λ p. RestApart-second (get_or x i d) (get_or y i d) (drop (i + 1) x) (drop (i + 1) y) (SameCuts-at x y i d cuts below) ne
-          ((at_turn true left).0 p)
+      ((at_turn true left).0 p)
   left_second false some ne left = cc
 
   pub left_many : (apart : Bool) → apart ≡ false → (get_or x i d).now ≢ (get_or y i d).now
@@ -93,7 +93,7 @@ module _ (P : Type 0) (x y : Pieces) (i : ℕ) (d : Bor (List ℕ)) (cuts : Same
   left_many true none ne many left = cc
   left_many false none ne many left =
       λ p. RestApart-many (get_or x i d) (get_or y i d) (drop (i + 1) x) (drop (i + 1) y) (SameCuts-at x y i d cuts below) ne many
-          ((at_turn false left).0 p)
+      ((at_turn false left).0 p)
 
 -- no pieces are left
 at_end : (P : Type 0) (apart : Bool) → P ↔ RestApart apart [] [] → IsTrue apart ↔ P

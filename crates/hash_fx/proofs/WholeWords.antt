@@ -28,21 +28,21 @@ words-append n rest a b i j k none sum whole places =
     let no_rest : map le (first_chunks n i a) ++ rest (drop (i * n) a) ≡ map le (first_chunks n i a) =
     ap (λ t. map le (first_chunks n i a) ++ t) (ap rest (drop_all (i * n) a (omega arith)) ∙ none) ∙ append-nil _ in
     ap₂ (λ s t. s ++ rest t) words left ∙ append_assoc (map le (first_chunks n i a)) (map le (first_chunks n j b)) (rest (drop (j * n) b))
-        ∙ ap (λ s. s ++ (map le (first_chunks n j b) ++ rest (drop (j * n) b))) (sym no_rest)
+    ∙ ap (λ s. s ++ (map le (first_chunks n j b) ++ rest (drop (j * n) b))) (sym no_rest)
 
 pub words32-append : (a b : List ℕ) → length a % 4 ≡ 0 → words32 (a ++ b) ≡ words32 a ++ words32 b
 unfolding pieces
 words32-append a b whole =
     let size = length-append a b in
     words-append 4 (λ t. t) a b (length a / 4) (length b / 4) (length (a ++ b) / 4) refl (omega (arith, size)) (omega arith)
-        (omega (arith, size))
+    (omega (arith, size))
 
 pub words64-append : (a b : List ℕ) → length a % 8 ≡ 0 → words64 (a ++ b) ≡ words64 a ++ words64 b
 unfolding pieces
 words64-append a b whole =
     let size = length-append a b in
     words-append 8 words32 a b (length a / 8) (length b / 8) (length (a ++ b) / 8) refl (omega (arith, size)) (omega arith)
-        (omega (arith, size))
+    (omega (arith, size))
 
 -- ---- one piece more
 
@@ -68,7 +68,7 @@ module _ (step : ℕ → ℕ → ℕ) (words : List ℕ → List ℕ) (n : ℕ)
   at_more : (start state next i : ℕ) (pieces : Pieces) → AreWhole n pieces → i < length pieces
       → next ≡ recurrence step state (words (get_or pieces i no_piece).now)
       → IsAt (λ s text. recurrence step s (words text)) n start state i pieces
-          → IsAt (λ s text. recurrence step s (words text)) n start next (i + 1) pieces
+      → IsAt (λ s text. recurrence step s (words text)) n start next (i + 1) pieces
   at_more start state next i pieces whole below led before =
       let so_far = joined (take i pieces) in
       let piece = (get_or pieces i no_piece).now in
@@ -77,10 +77,10 @@ module _ (step : ℕ → ℕ → ℕ) (words : List ℕ → List ℕ) (n : ℕ)
         there = led ∙ ap (λ s. recurrence step s (words piece)) before.there
             ∙ sym (recurrence-append step start (words so_far) (words piece))
             ∙ ap (recurrence step start) (sym (joins so_far piece (before.whole below)))
-                ∙ ap (λ t. recurrence step start (words t)) (sym more);
+            ∙ ap (λ t. recurrence step start (words t)) (sym more);
         whole = λ left.
             rw (more, length-append so_far piece) (sums (length so_far) (length piece) (before.whole below)
-                (piece_whole n pieces i no_piece whole left));
+            (piece_whole n pieces i no_piece whole left));
       }
 
 pub at_more64 : (start state next i : ℕ) (pieces : Pieces) → AreWhole 8 pieces → i < length pieces

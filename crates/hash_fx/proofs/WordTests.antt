@@ -26,13 +26,13 @@ module _ (words : List ℕ → List ℕ) (long : (x y : List ℕ) → length x �
 
   first-and-rest : (p q : Bor (List ℕ)) (x y : Pieces) → length p.now ≡ length q.now
       → differences (words_of words (p ∷ x)) (words_of words (q ∷ y))
-          ≡ differences (words p.now) (words q.now) + differences (words_of words x) (words_of words y)
+      ≡ differences (words p.now) (words q.now) + differences (words_of words x) (words_of words y)
   first-and-rest p q x y len = differences-append (words p.now) (words q.now) (words_of words x) (words_of words y) (long p.now q.now len)
 
   one-more : (x y : Pieces) (i : ℕ) (d : Bor (List ℕ)) → SameCuts x y → i < length x
       → differences (words_of words (take (suc i) x)) (words_of words (take (suc i) y))
       ≡ differences (words_of words (take i x)) (words_of words (take i y))
-          + differences (words (get_or x i d).now) (words (get_or y i d).now)
+      + differences (words (get_or x i d).now) (words (get_or y i d).now)
   one-more [] y i d cuts below = absurd (omega (arith, below))
   one-more (p ∷ x) [] i d cuts below = cc
   one-more (p ∷ x) (q ∷ y) zero d cuts below =
@@ -51,7 +51,7 @@ module _ (words : List ℕ → List ℕ) (long : (x y : List ℕ) → length x �
   pub more-words : (x y : Pieces) (i : ℕ) (d : Bor (List ℕ)) → SameCuts x y → i < length x
       → differences (words_of words (take (i + 1) x)) (words_of words (take (i + 1) y))
       ≡ differences (words_of words (take i x)) (words_of words (take i y))
-          + differences (words (get_or x i d).now) (words (get_or y i d).now)
+      + differences (words (get_or x i d).now) (words (get_or y i d).now)
   more-words x y i d cuts below =
       let next : i + 1 ≡ suc i = omega arith in
       ap (λ k. differences (words_of words (take k x)) (words_of words (take k y))) next ∙ one-more x y i d cuts below
@@ -59,7 +59,7 @@ module _ (words : List ℕ → List ℕ) (long : (x y : List ℕ) → length x �
   in-two : (x y : Pieces) (i : ℕ) → SameCuts x y
       → differences (words_of words x) (words_of words y)
       ≡ differences (words_of words (take i x)) (words_of words (take i y))
-          + differences (words_of words (drop i x)) (words_of words (drop i y))
+      + differences (words_of words (drop i x)) (words_of words (drop i y))
   in-two x y zero cuts = omega arith
   in-two [] [] (suc i) cuts = refl
   in-two [] (q ∷ y) (suc i) cuts = cc
@@ -90,4 +90,4 @@ module _ (words : List ℕ → List ℕ) (long : (x y : List ℕ) → length x �
       → differences (words_of words (take i x)) (words_of words (take i y)) ≡ differences (words_of words x) (words_of words y)
   at-the-end x y i cuts end =
       ap₂ (λ u v. differences (words_of words u) (words_of words v)) (take_all i x end)
-          (take_all i y (omega (arith, end, SameCuts-length x y cuts)))
+      (take_all i y (omega (arith, end, SameCuts-length x y cuts)))

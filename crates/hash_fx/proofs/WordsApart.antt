@@ -40,11 +40,17 @@ with_rest-apart rest tells n (suc k) x y len xs ys one =
     let later : length (drop n x) ≡ length (drop n y) = omega (arith, length-drop n x, length-drop n y, len) in
     elim (OneApart-split (take n x) (take n y) (drop n x) (drop n y) first parts) [
       | inl front ↦
-          inl (λ same. itself (le-same (take n x) (take n y) (All-take IsByte n x xs) (All-take IsByte n y ys) first same) front.0, ap
-              (with_rest rest n k) front.1)
+          inl (
+            λ same. itself (le-same (take n x) (take n y) (All-take IsByte n x xs) (All-take IsByte n y ys) first same) front.0,
+            ap
+                (with_rest rest n k) front.1,
+          )
       | inr back ↦
-          inr (ap le back.0, with_rest-apart rest tells n k (drop n x) (drop n y) later (All-drop IsByte n x xs)
-              (All-drop IsByte n y ys) back.1)
+          inr (
+            ap le back.0,
+            with_rest-apart rest tells n k (drop n x) (drop n y) later (All-drop IsByte n x xs)
+                (All-drop IsByte n y ys) back.1,
+          )
     ]
 
 pub words32-apart : TellApart words32

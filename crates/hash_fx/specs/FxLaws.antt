@@ -24,10 +24,15 @@ chunk_words w n zero text fits bytes = All-nil (IsWord w)
 chunk_words w n (suc k) text fits bytes =
     let first = take n text in
     let short : length first ≤ n = omega (arith, length-take n text) in
-    let below : le first < 2 ^ w = omega (arith, fits, le-lt first (All-take IsByte n text bytes), pow-le-pow_right {n = 256}
-        (lit< tt) short) in
+    let below : le first < 2 ^ w = omega (
+      arith,
+      fits,
+      le-lt first (All-take IsByte n text bytes),
+      pow-le-pow_right {n = 256}
+          (lit< tt) short,
+    ) in
     All-cons (IsWord w) (le first) (map le (first_chunks n k (drop n text))) below
-        (chunk_words w n k (drop n text) fits (All-drop IsByte n text bytes))
+    (chunk_words w n k (drop n text) fits (All-drop IsByte n text bytes))
 
 whole_words : (w n : ℕ) (text : List ℕ) → 256 ^ n ≤ 2 ^ w → IsText text → All (IsWord w) (map le (pieces n text))
 unfolding pieces
@@ -86,5 +91,5 @@ words64-length x y len =
     let same : length y / 8 ≡ k = ap (λ m. m / 8) (sym len) in
     let rest : length (drop (k * 8) x) ≡ length (drop (k * 8) y) = omega (arith, length-drop (k * 8) x, length-drop (k * 8) y, len) in
     rw same (length-append (map le (first_chunks 8 k x)) (words32 (drop (k * 8) x))
-        ∙ ap₂ (λ a b. a + b) (chunks_length 8 k x y) (words32-length _ _ rest)
+    ∙ ap₂ (λ a b. a + b) (chunks_length 8 k x y) (words32-length _ _ rest)
     ∙ sym (length-append (map le (first_chunks 8 k y)) (words32 (drop (k * 8) y))))

@@ -51,7 +51,7 @@ long_words-tail s q r s_in qs rs few len same =
     let q_len : length (zero_filled 95 q) ≡ 95 = (filled-piece 95 q qs (omega (arith, few))).1 in
     let r_len : length (zero_filled 95 r) ≡ 95 = (filled-piece 95 r rs (omega (arith, few, len))).1 in
     filled-same 95 q r len (sym (take_at (zero_filled 95 q) (length q ∷ []) 95 q_len) ∙ ap (take 95) whole
-        ∙ take_at (zero_filled 95 r) (length r ∷ []) 95 r_len)
+    ∙ take_at (zero_filled 95 r) (length r ∷ []) 95 r_len)
 
 -- ---- texts
 
@@ -87,11 +87,11 @@ module _ (seed1 seed2 : ℕ) (x y : List ℕ) (s1 : seed1 < 2 ^ 64) (s2 : seed2 
       let len = differ.same_length in
       let k = length x / 96 in
       let rest : drop (k * 96) x ≡ drop (k * 96) y = rest-same (k * 96) x y len
-          (λ i. differ.outside (k * 96 + i) (inr (omega (arith, within)))) in
+      (λ i. differ.outside (k * 96 + i) (inr (omega (arith, within)))) in
       let count : length y / 96 ≡ k = ap (λ n. n / 96) (sym len) in
       let tails : tail x ≡ tail y = tail-is x ∙ rest ∙ ap (λ n. drop (n * 96) y) (sym count) ∙ sym (tail-is y) in
       let states = long_words-same _ _ (tail x) (after_in x) (after_in y) (tail-text x xs) (tail-lt x)
-          (same ∙ ap (long_words (spooky_blocks start y)) (sym tails)) in
+      (same ∙ ap (long_words (spooky_blocks start y)) (sym tails)) in
       let blocks : fold mix_block start (first_chunks 96 k x) ≡ fold mix_block start (first_chunks 96 k y) =
       sym (blocks-are start x) ∙ states ∙ blocks-are start y ∙ ap (λ n. fold mix_block start (first_chunks 96 n y)) count in
       differ.different (blocks-window k w x y start start_in xs ys len (omega arith) (λ i out. differ.outside i out) rest blocks)
@@ -104,10 +104,10 @@ module _ (seed1 seed2 : ℕ) (x y : List ℕ) (s1 : seed1 < 2 ^ 64) (s2 : seed2 
       let front : take n x ≡ take n y = part-same n 0 x y len (λ i i_in. differ.outside (0 + i) (inl (omega (arith, i_in)))) in
       let blocks : spooky_blocks start x ≡ spooky_blocks start y =
       sym (spooky_blocks-take start x n refl) ∙ ap (spooky_blocks start) front
-          ∙ spooky_blocks-take start y n (ap (λ m. m * 96) (sym count)) in
+      ∙ spooky_blocks-take start y n (ap (λ m. m * 96) (sym count)) in
       let long : length (tail x) ≡ length (tail y) = omega (arith, len, tail-long x, tail-long y) in
       let tails : tail x ≡ tail y = long_words-tail (spooky_blocks start x) (tail x) (tail y) (after_in x) (tail-text x xs)
-          (tail-text y ys) (tail-lt x) long
+      (tail-text y ys) (tail-lt x) long
       (same ∙ ap (λ s. long_words s (tail y)) (sym blocks)) in
       let rest : drop n x ≡ drop n y = sym (tail-is x) ∙ tails ∙ tail-is y ∙ ap (λ m. drop (m * 96) y) count in
       differ.different (sym (take-append-drop n x) ∙ ap₂ (λ (a b : List ℕ). a ++ b) front rest ∙ take-append-drop n y)

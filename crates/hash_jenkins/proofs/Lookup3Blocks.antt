@@ -79,8 +79,11 @@ module _ (c : List ℕ) (is : IsPiece 12 c) where
   long_at i i_in = length-take-le 4 (drop i c) (omega (arith, length-drop i c, is.1))
 
   block-Added : Added (block_words c)
-  block-Added = (word-lt (piece_at 0) (text_at 0) (long_at 0 (omega arith)), word-lt (piece_at 4) (text_at 4) (long_at 4 (omega arith)),
-      word-lt (piece_at 8) (text_at 8) (long_at 8 (omega arith)))
+  block-Added = (
+    word-lt (piece_at 0) (text_at 0) (long_at 0 (omega arith)),
+    word-lt (piece_at 4) (text_at 4) (long_at 4 (omega arith)),
+    word-lt (piece_at 8) (text_at 8) (long_at 8 (omega arith)),
+  )
 
 block_words-same : (c e : List ℕ) → IsPiece 12 c → IsPiece 12 e → block_words c ≡ block_words e → c ≡ e
 block_words-same c e c_is e_is same =
@@ -119,9 +122,9 @@ lookup3_words-differ pc pb x y xs ys differ = λ same.
     let k = length x / 12 in
     let g = differ.one.0 in
     let led : end (fold mix_block (start pc pb (length x)) (first_chunks 12 k x)) (drop (k * 12) x)
-        ≡ end (fold mix_block (start pc pb (length x)) (first_chunks 12 k y)) (drop (k * 12) y) =
+    ≡ end (fold mix_block (start pc pb (length x)) (first_chunks 12 k y)) (drop (k * 12) y) =
     sym (words-end pc pb x) ∙ same ∙ words-end pc pb y
-        ∙ ap (λ n. end (fold mix_block (start pc pb n) (first_chunks 12 (n / 12) y)) (drop (n / 12 * 12) y)) (sym differ.same_length) in
+    ∙ ap (λ n. end (fold mix_block (start pc pb n) (first_chunks 12 (n / 12) y)) (drop (n / 12 * 12) y)) (sym differ.same_length) in
     differ.different (texts-same AreThreeWords (IsPiece 12) mix_block
     (λ s c s_in c_is. apply-AreThreeWords rounds.lookup3_mix_steps _ lookup3_mix-steps (add_block-AreThreeWords s c s_in))
     (λ s t c s_in t_in c_is e. added_states s t s_in t_in (block_words c) (block-Added c c_is)
@@ -131,17 +134,24 @@ lookup3_words-differ pc pb x y xs ys differ = λ same.
     (round-same rounds.lookup3_mix_steps lookup3_mix-steps _ _ (add_block-AreThreeWords s c s_in) (add_block-AreThreeWords s e s_in) eq))
     12 end (λ c is. is)
     (λ s t r s_in t_in text few e. added_states s t s_in t_in (block_words (zero_filled 12 r))
-        (block-Added (zero_filled 12 r) (filled-piece 12 r text (omega (arith, few))))
+    (block-Added (zero_filled 12 r) (filled-piece 12 r text (omega (arith, few))))
     (round-same rounds.lookup3_final_steps lookup3_final-steps _ _ (add_block-AreThreeWords s _ s_in) (add_block-AreThreeWords t _ t_in) e))
     (λ s q r s_in qs rs few long e. filled-same 12 q r long (add_block-same s _ _ s_in (filled-piece 12 q qs (omega (arith, few)))
-        (filled-piece 12 r rs (omega (arith, few, long)))
+    (filled-piece 12 r rs (omega (arith, few, long)))
     (round-same rounds.lookup3_final_steps lookup3_final-steps _ _ (add_block-AreThreeWords s _ s_in)
-        (add_block-AreThreeWords s _ s_in) e)))
+    (add_block-AreThreeWords s _ s_in) e)))
     k g x y (start pc pb (length x)) (start-AreThreeWords pc pb (length x)) xs ys differ.same_length (omega arith) (omega arith)
     (λ i i_in other. part-same 12 (i * 12) x y differ.same_length
-        (λ j j_in. differ.one.1 (i * 12 + j) (λ (e : (i * 12 + j) / 12 ≡ g). other (omega (arith, e, j_in)))))
+    (λ j j_in. differ.one.1 (i * 12 + j) (λ (e : (i * 12 + j) / 12 ≡ g). other (omega (arith, e, j_in)))))
     (λ g_in. rest-same (k * 12) x y differ.same_length (λ j. differ.one.1 (k * 12 + j)
-        (λ (e : (k * 12 + j) / 12 ≡ g). omega (arith, e, g_in))))
-    (λ g_in. omega (arith, length-take 12 (drop (g * 12) x), length-take 12 (drop (g * 12) y), length-drop (g * 12) x, length-drop
-        (g * 12) y, differ.same_length))
+    (λ (e : (k * 12 + j) / 12 ≡ g). omega (arith, e, g_in))))
+    (λ g_in. omega (
+      arith,
+      length-take 12 (drop (g * 12) x),
+      length-take 12 (drop (g * 12) y),
+      length-drop (g * 12) x,
+      length-drop
+          (g * 12) y,
+      differ.same_length,
+    ))
     led)

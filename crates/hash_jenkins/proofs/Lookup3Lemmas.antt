@@ -91,16 +91,16 @@ added_filled n s added t words are of = are ∙ ap (add_words s) (of ∙ words_o
 pub lookup3_piece_from : (pc pb i : ℕ) (piece first s rest added end : List ℕ) (blocks : List (List ℕ))
     → blocks ≡ first_chunks 12 (length piece / 12) piece
     → rest ≡ drop (length piece / 12 * 12) piece → length blocks ≤ i → s ≡ mix_blocks first (take i blocks)
-        → added ≡ add_block s (zero_filled 12 rest)
+    → added ≡ add_block s (zero_filled 12 rest)
     → end ≡ apply 32 rounds.lookup3_final_steps [] added → first ≡ start pc pb (length piece)
-        → (slice_index end 2, slice_index end 1) ≡ lookup3_piece pc pb piece
+    → (slice_index end 2, slice_index end 1) ≡ lookup3_piece pc pb piece
 unfolding last_block pieces
 lookup3_piece_from pc pb i piece first s rest added end blocks all left done mixed filled last began =
     let whole : take i blocks ≡ blocks = take_all i blocks done in
     let blocked : s ≡ mix_blocks (start pc pb (length piece)) (first_chunks 12 (length piece / 12) piece)
-        = rw (mixed, whole, all, began) refl in
+    = rw (mixed, whole, all, began) refl in
     let ended : end ≡ lookup3_words pc pb piece = last ∙ ap (apply 32 rounds.lookup3_final_steps [])
-        (filled ∙ ap₂ add_block blocked (ap (zero_filled 12) left)) in
+    (filled ∙ ap₂ add_block blocked (ap (zero_filled 12) left)) in
     ap (λ (w : List ℕ). (slice_index w 2, slice_index w 1)) ended
 
 -- the words after some bytes

@@ -28,7 +28,7 @@ mixed_part s b p k fits part =
 -- bytes that complete a block go on from its end
 pub mixed_whole : (s b head rest : List ℕ) (k full : ℕ) → k ≤ length b → full ≡ k + length head → full % 96 ≡ 0
     → mixed s (take k b ++ (head ++ rest)) ≡ Long (spooky_blocks (spooky_blocks s (take full (put_at k head b)))
-        (take (length rest / 96 * 96) rest)) (drop (length rest / 96 * 96) rest)
+    (take (length rest / 96 * 96) rest)) (drop (length rest / 96 * 96) rest)
 mixed_whole s b head rest k full fits ends edge =
     let filled = take-put_at k head b full ends fits in
     let whole : length (take k b ++ head) % 96 ≡ 0 = omega (arith, length-append (take k b) head, length-take-le k b fits) in
@@ -37,21 +37,28 @@ mixed_whole s b head rest k full fits ends edge =
 -- a piece that completes one block, put as a whole, and what is behind the block copied to the front
 pub mixed_piece : (s b p : List ℕ) (k n : ℕ) → k ≤ length b → n ≡ k + length p → n ≤ length b → 96 ≤ n → n < 192
     → mixed s (take k b ++ p) ≡ Long (spooky_blocks s (take 96 (put_at k p b)))
-        (take (n - 96) (put_at 0 (drop 96 (put_at k p b)) (put_at k p b)))
+    (take (n - 96) (put_at 0 (drop 96 (put_at k p b)) (put_at k p b)))
 mixed_piece s b p k n fits ends within some few =
     let w : List ℕ = put_at k p b in
     let all : List ℕ = take k b ++ p in
     let filled : take n w ≡ all = take-put_at k p b n ends fits in
     let size : length all ≡ n = omega (arith, ends, length-append (take k b) p, length-take-le k b fits) in
     let size_w : length w ≡ length b
-        = omega (arith, ends, within, length-append (take k b) (p ++ drop (k + length p) b), length-append p (drop (k + length p) b),
-        length-take-le k b fits, length-drop (k + length p) b) in
+    = omega (
+      arith,
+      ends,
+      within,
+      length-append (take k b) (p ++ drop (k + length p) b),
+      length-append p (drop (k + length p) b),
+      length-take-le k b fits,
+      length-drop (k + length p) b,
+    ) in
     let front : take 96 w ≡ take 96 all = sym (take-take 96 n w some) ∙ ap (take 96) filled in
     let enough : n - 96 ≤ length (drop 96 w) = omega (arith, size_w, within, length-drop 96 w) in
     let whole : 96 + (n - 96) ≡ n = omega (arith, some) in
     let behind : take (n - 96) (put_at 0 (drop 96 w) w) ≡ drop 96 all =
     take-append-le (n - 96) (drop 96 w) (drop (0 + length (drop 96 w)) w) enough ∙ sym (drop-take 96 (n - 96) w)
-        ∙ ap (λ i. drop 96 (take i w)) whole ∙ ap (drop 96) filled in
+    ∙ ap (λ i. drop 96 (take i w)) whole ∙ ap (drop 96) filled in
     let rest : length (drop 96 all) ≡ n - 96 = length-drop 96 all ∙ ap (λ i. i - 96) size in
     let block : length (take 96 all) % 96 ≡ 0 = omega (arith, size, length-take-le 96 all (omega (arith, size, some))) in
     rw (front, behind) (ap (mixed s) (sym (take-append-drop 96 all)) ∙ mixed-append s (take 96 all) (drop 96 all) block

@@ -8,7 +8,7 @@ front a p d m n e fits =
     let size : length (a ++ take m p) ≡ n = omega (arith, length-append a (take m p), length-take-le m p fits) in
     let cut : a ++ (p ++ d) ≡ (a ++ take m p) ++ (drop m p ++ d) =
     sym (append_assoc a (take m p) (drop m p ++ d) ∙ ap (λ (x : List ℕ). a ++ x)
-        (sym (append_assoc (take m p) (drop m p) d) ∙ ap (λ (x : List ℕ). x ++ d) (take-append-drop m p))) in
+    (sym (append_assoc (take m p) (drop m p) d) ∙ ap (λ (x : List ℕ). x ++ d) (take-append-drop m p))) in
     rw cut (take_at (a ++ take m p) (drop m p ++ d) n size)
 
 back : (a p d : List ℕ) (j n : ℕ) → length a + length p + j ≡ n → drop n (a ++ (p ++ d)) ≡ drop j d
@@ -29,8 +29,17 @@ put_at-put_at at m k t w mk kt fits =
     let head = front a p d m (at + m) (omega arith) (omega arith) in
     let rest = back a p d (length t - k) (at + m + length (drop m t)) (omega arith) in
     let end : at + length p + (length t - k) ≡ at + length t = omega arith in
-    rw (head, rest, take-take m k t mk, drop-drop (length t - k) (at + length p) w, end, append_assoc a (take m t)
-        (drop m t ++ drop (at + length t) w), ← append_assoc (take m t) (drop m t) (drop (at + length t) w), take-append-drop m t) refl
+    rw (
+      head,
+      rest,
+      take-take m k t mk,
+      drop-drop (length t - k) (at + length p) w,
+      end,
+      append_assoc a (take m t)
+          (drop m t ++ drop (at + length t) w),
+      ← append_assoc (take m t) (drop m t) (drop (at + length t) w),
+      take-append-drop m t,
+    ) refl
 
 -- what stands up to a text's end, once it is written
 pub take-put_at : (at : ℕ) (t w : List ℕ) (n : ℕ) → n ≡ at + length t → at ≤ length w → take n (put_at at t w) ≡ take at w ++ t

@@ -72,18 +72,24 @@ add_chunk-before h k w v h_in k_in e2 e3 same =
     let led : added_two m 0 (slice_index w 2) 1 (slice_index w 3) ≡ added_two n 0 (slice_index w 2) 1 (slice_index w 3) =
     same ∙ ap₂ (λ x y. added_two n 0 x 1 y) (sym e2) (sym e3) in
     let read : (i : ℕ) → slice_index (added_two m 0 (slice_index w 2) 1 (slice_index w 3)) i
-        ≡ slice_index (added_two n 0 (slice_index w 2) 1 (slice_index w 3)) i =
+    ≡ slice_index (added_two n 0 (slice_index w 2) 1 (slice_index w 3)) i =
     λ i. ap (λ (s : List ℕ). slice_index s i) led in
-    let first = rw (first_sum m m_in 0 (slice_index w 2) 1 (slice_index w 3) (omega arith) (omega arith) (omega arith), first_sum n n_in 0
-        (slice_index w 2) 1 (slice_index w 3) (omega arith) (omega arith) (omega arith)) at (read 0) in
-    let second = rw (second_sum m m_in 0 (slice_index w 2) 1 (slice_index w 3) (omega arith) (omega arith) (omega arith), second_sum n
-        n_in 0 (slice_index w 2) 1 (slice_index w 3) (omega arith) (omega arith) (omega arith)) at (read 1) in
+    let first = rw (
+      first_sum m m_in 0 (slice_index w 2) 1 (slice_index w 3) (omega arith) (omega arith) (omega arith),
+      first_sum n n_in 0
+          (slice_index w 2) 1 (slice_index w 3) (omega arith) (omega arith) (omega arith),
+    ) at (read 0) in
+    let second = rw (
+      second_sum m m_in 0 (slice_index w 2) 1 (slice_index w 3) (omega arith) (omega arith) (omega arith),
+      second_sum n
+          n_in 0 (slice_index w 2) 1 (slice_index w 3) (omega arith) (omega arith) (omega arith),
+    ) at (read 1) in
     let other : (i : ℕ) → i ≢ 0 → i ≢ 1 → slice_index m i ≡ slice_index n i =
     λ i i0 i1. sym (third_word m m_in 0 (slice_index w 2) 1 (slice_index w 3) (omega arith) (omega arith) (omega arith) i i0 i1) ∙ read i
-        ∙ third_word n n_in 0 (slice_index w 2) 1 (slice_index w 3) (omega arith) (omega arith) (omega arith) i i0 i1 in
+    ∙ third_word n n_in 0 (slice_index w 2) 1 (slice_index w 3) (omega arith) (omega arith) (omega arith) i i0 i1 in
     short_mix-same _ _ (before-AreFourWords h w h_in) (before-AreFourWords k v k_in)
     (four-same m n m_in n_in (word-same _ _ _ (m_in.1 0) (n_in.1 0) first) (word-same _ _ _ (m_in.1 1) (n_in.1 1) second)
-        (other 2 (omega arith) (omega arith)) (other 3 (omega arith) (omega arith)))
+    (other 2 (omega arith) (omega arith)) (other 3 (omega arith) (omega arith)))
 
 -- ---- chunks
 
@@ -162,9 +168,9 @@ module _ (s t c e : List ℕ) (s_in : AreFourWords s) (t_in : AreFourWords t) (c
   both-same s2 s3 =
       let states = four-same s t s_in t_in (kept 0 (omega arith) (omega arith)) (kept 1 (omega arith) (omega arith)) s2 s3 in
       let w0 : word c 0 ≡ word e 0 = added-same (slice_index s 2) _ _ (word-lt c 0 c_is (omega arith)) (word-lt e 0 e_is (omega arith))
-          (sums_2 ∙ ap (λ v. (v + word e 0) % 2 ^ 64) (sym s2)) in
+      (sums_2 ∙ ap (λ v. (v + word e 0) % 2 ^ 64) (sym s2)) in
       let w1 : word c 1 ≡ word e 1 = added-same (slice_index s 3) _ _ (word-lt c 1 c_is (omega arith)) (word-lt e 1 e_is (omega arith))
-          (sums_3 ∙ ap (λ v. (v + word e 1) % 2 ^ 64) (sym s3)) in
+      (sums_3 ∙ ap (λ v. (v + word e 1) % 2 ^ 64) (sym s3)) in
       (states, chunk-same c e c_is e_is (w0, w1) back)
 
 -- the state is known by what one chunk leads to
@@ -195,22 +201,24 @@ module _ (s c e : List ℕ) (s_in : AreFourWords s) (c_is : IsPiece 32 c) (e_is 
   others : (i : ℕ) → i ≢ 0 → i ≢ 1 → slice_index (f s c) i ≡ slice_index (f s e) i
   others i i0 i1 =
       ap (λ (u : List ℕ). slice_index u i) f-c ∙ third_word m m_in 0 (word c 2) 1 (word c 3) (omega arith) (omega arith)
-          (omega arith) i i0 i1
+      (omega arith) i i0 i1
       ∙ sym (ap (λ (u : List ℕ). slice_index u i) f-e ∙ third_word m m_in 0 (word e 2) 1 (word e 3) (omega arith) (omega arith)
-          (omega arith) i i0 i1)
+      (omega arith) i i0 i1)
 
   behind-same : f s c ≡ f s e → c ≡ e
   behind-same same =
       let led = sym f-c ∙ same ∙ f-e in
       let sum_0 = sym (first_sum m m_in 0 (word c 2) 1 (word c 3) (omega arith) (omega arith) (omega arith))
-          ∙ ap (λ (u : List ℕ). slice_index u 0) led ∙ first_sum m m_in 0 (word e 2) 1 (word e 3) (omega arith) (omega arith)
-          (omega arith) in
+      ∙ ap (λ (u : List ℕ). slice_index u 0) led ∙ first_sum m m_in 0 (word e 2) 1 (word e 3) (omega arith) (omega arith)
+      (omega arith) in
       let sum_1 = sym (second_sum m m_in 0 (word c 2) 1 (word c 3) (omega arith) (omega arith) (omega arith))
-          ∙ ap (λ (u : List ℕ). slice_index u 1) led ∙ second_sum m m_in 0 (word e 2) 1 (word e 3) (omega arith) (omega arith)
-          (omega arith) in
-      chunk-same c e c_is e_is front
-      (added-same (slice_index m 0) _ _ (word-lt c 2 c_is (omega arith)) (word-lt e 2 e_is (omega arith)) sum_0, added-same
-          (slice_index m 1) _ _ (word-lt c 3 c_is (omega arith)) (word-lt e 3 e_is (omega arith)) sum_1)
+      ∙ ap (λ (u : List ℕ). slice_index u 1) led ∙ second_sum m m_in 0 (word e 2) 1 (word e 3) (omega arith) (omega arith)
+      (omega arith) in
+      chunk-same c e c_is e_is front (
+        added-same (slice_index m 0) _ _ (word-lt c 2 c_is (omega arith)) (word-lt e 2 e_is (omega arith)) sum_0,
+        added-same
+            (slice_index m 1) _ _ (word-lt c 3 c_is (omega arith)) (word-lt e 3 e_is (omega arith)) sum_1,
+      )
 
 -- chunks that differ only in stretch g: behind the mix of chunk g - 1 and before that of chunk g
 stretches : (g : ℕ) (cs es : List (List ℕ)) (s t : List ℕ) → AreFourWords s → AreFourWords t → All (IsPiece 32) cs → All (IsPiece 32) es
@@ -231,7 +239,7 @@ stretches zero (c ∷ cs) (e ∷ es) s t s_in t_in are be len st s2 s3 fronts ba
     let below : suc i < length (c ∷ cs) = omega (arith, i_in) in
     let also : i < length es = omega (arith, i_in, len) in
     chunk-same _ _ (rest_c i [] i_in) (rest_e i [] also) (fronts (suc i) below (λ (z : suc i ≡ 0). omega (arith, z)))
-        (backs (suc i) below (λ (z : suc (suc i) ≡ 0). omega (arith, z)))) in
+    (backs (suc i) below (λ (z : suc (suc i) ≡ 0). omega (arith, z)))) in
     let led : fold f (f s c) cs ≡ fold f (f t e) cs = same ∙ ap (fold f (f t e)) (sym later) in
     let here = fold-same AreFourWords (IsPiece 32) f f-in f-state cs (f s c) (f t e) (f-in s c s_in c_is) (f-in t e t_in e_is) rest_c led in
     let two = both-same s t c e s_in t_in c_is e_is (backs 0 (omega arith) (λ (z : suc 0 ≡ 0). omega (arith, z))) here s2 s3 in
@@ -243,7 +251,7 @@ stretches (suc g) (c ∷ cs) (e ∷ es) s t s_in t_in are be len st s2 s3 fronts
     let front = fronts 0 (omega arith) (λ (z : 0 ≡ suc g). omega (arith, z)) in
     let led : fold f (f s c) cs ≡ fold f (f s e) es = same ∙ ap (λ (u : List ℕ). fold f (f u e) es) (sym states) in
     let rest = stretches g cs es (f s c) (f s e) (f-in s c s_in c_is) (f-in s e s_in e_is) (All-tail (IsPiece 32) c cs are)
-        (All-tail (IsPiece 32) e es be) (omega (arith, len))
+    (All-tail (IsPiece 32) e es be) (omega (arith, len))
     (λ some. ap (f s) (chunk-same c e c_is e_is front (backs 0 (omega arith) (λ (z : suc 0 ≡ suc g). some (omega (arith, z))))))
     (others s c e s_in c_is e_is front 2 (omega arith) (omega arith)) (others s c e s_in c_is e_is front 3 (omega arith) (omega arith))
     (λ i i_in other. fronts (suc i) (omega (arith, i_in)) (λ (z : suc i ≡ suc g). other (omega (arith, z))))
@@ -276,7 +284,7 @@ word-agree x z i k x_len z_len i_in k_in agree =
 
 starts-are : (seed1 seed2 : ℕ) (x : List ℕ) → length (zero_filled 192 x) ≡ 192
     → short_start seed1 seed2 x ≡ fold f (seed1 ∷ seed2 ∷ 0xdeadbeefdeadbeef ∷ 0xdeadbeefdeadbeef ∷ [])
-        (first_chunks 32 6 (zero_filled 192 x))
+    (first_chunks 32 6 (zero_filled 192 x))
 unfolding add_chunks pieces
 starts-are seed1 seed2 x len = rw len refl
 
@@ -290,37 +298,40 @@ start-same seed1 seed2 x y s1 s2 xs ys few differ same =
     let a = zero_filled 192 x in
     let b = zero_filled 192 y in
     let at : (i k j : ℕ) → (i * 32 + (k * 8 + j) + 16) / 32 ≢ g
-        → slice_index a (i * 32 + (k * 8 + j)) ≡ slice_index b (i * 32 + (k * 8 + j)) =
+    → slice_index a (i * 32 + (k * 8 + j)) ≡ slice_index b (i * 32 + (k * 8 + j)) =
     λ i k j other. filled-at 192 x y (i * 32 + (k * 8 + j)) len (differ.one.1 (i * 32 + (k * 8 + j)) other) in
     let front : (i k : ℕ) → i < 6 → k < 2 → i ≢ g → word (get_or (first_chunks 32 6 a) i []) k
-        ≡ word (get_or (first_chunks 32 6 b) i []) k =
+    ≡ word (get_or (first_chunks 32 6 b) i []) k =
     λ i k i_in k_in other. word-agree a b i k x_is.1 y_is.1 i_in (omega (arith, k_in))
-        (λ j j_in. at i k j (λ (e : (i * 32 + (k * 8 + j) + 16) / 32 ≡ g). other (omega (arith, e, j_in, k_in)))) in
+    (λ j j_in. at i k j (λ (e : (i * 32 + (k * 8 + j) + 16) / 32 ≡ g). other (omega (arith, e, j_in, k_in)))) in
     let back : (i k : ℕ) → i < 6 → 2 ≤ k → k < 4 → suc i ≢ g
-        → word (get_or (first_chunks 32 6 a) i []) k ≡ word (get_or (first_chunks 32 6 b) i []) k =
+    → word (get_or (first_chunks 32 6 a) i []) k ≡ word (get_or (first_chunks 32 6 b) i []) k =
     λ i k i_in from k_in other. word-agree a b i k x_is.1 y_is.1 i_in k_in
-        (λ j j_in. at i k j (λ (e : (i * 32 + (k * 8 + j) + 16) / 32 ≡ g). other (omega (arith, e, j_in, k_in, from)))) in
+    (λ j j_in. at i k j (λ (e : (i * 32 + (k * 8 + j) + 16) / 32 ≡ g). other (omega (arith, e, j_in, k_in, from)))) in
     let start : List ℕ = seed1 ∷ seed2 ∷ 0xdeadbeefdeadbeef ∷ 0xdeadbeefdeadbeef ∷ [] in
     let start_in : AreFourWords start = (refl, start_below seed1 seed2 s1 s2) in
     let led = sym (starts-are seed1 seed2 x x_is.1) ∙ same ∙ starts-are seed1 seed2 y y_is.1 in
     let chunks = (stretches g (first_chunks 32 6 a) (first_chunks 32 6 b) start start start_in start_in
     (first_chunks-pieces 32 6 a x_is.0 (omega (arith, x_is.1))) (first_chunks-pieces 32 6 b y_is.0 (omega (arith, y_is.1))) refl
-        (λ _. refl) refl refl
+    (λ _. refl) refl refl
     (λ i i_in other. (front i 0 i_in (omega arith) other, front i 1 i_in (omega arith) other))
     (λ i i_in other. (back i 2 i_in (omega arith) (omega arith) other, back i 3 i_in (omega arith) (omega arith) other)) led).1 in
     filled-same 192 x y len (first_chunks-same 32 6 a b chunks
-        (drop_all 192 a (omega (arith, x_is.1)) ∙ sym (drop_all 192 b (omega (arith, y_is.1)))))
+    (drop_all 192 a (omega (arith, x_is.1)) ∙ sym (drop_all 192 b (omega (arith, y_is.1)))))
 
 -- a word is added to the last
 add_length-same : (h k : List ℕ) (x : ℕ) → AreFourWords h → AreFourWords k → add_at h 3 x ≡ add_at k 3 x → h ≡ k
 add_length-same h k x h_in k_in same =
     let read : (i : ℕ) → slice_index (add_at h 3 x) i ≡ slice_index (add_at k 3 x) i = λ i. ap (λ (u : List ℕ). slice_index u i) same in
-    let last = rw (get_or-set_same h 3 ((slice_index h 3 + x) % 2 ^ 64) 0 (omega (arith, h_in.0)), get_or-set_same k 3
-        ((slice_index k 3 + x) % 2 ^ 64) 0 (omega (arith, k_in.0))) at (read 3) in
+    let last = rw (
+      get_or-set_same h 3 ((slice_index h 3 + x) % 2 ^ 64) 0 (omega (arith, h_in.0)),
+      get_or-set_same k 3
+          ((slice_index k 3 + x) % 2 ^ 64) 0 (omega (arith, k_in.0)),
+    ) at (read 3) in
     let other : (i : ℕ) → i ≢ 3 → slice_index h i ≡ slice_index k i = λ i i3. sym (get_or-set_other h 3 i _ 0 i3) ∙ read i
-        ∙ get_or-set_other k 3 i _ 0 i3 in
+    ∙ get_or-set_other k 3 i _ 0 i3 in
     four-same h k h_in k_in (other 0 (omega arith)) (other 1 (omega arith)) (other 2 (omega arith))
-        (word-same _ _ x (h_in.1 3) (k_in.1 3) last)
+    (word-same _ _ x (h_in.1 3) (k_in.1 3) last)
 
 module _ (seed1 seed2 : ℕ) (x y : List ℕ) (s1 : seed1 < 2 ^ 64) (s2 : seed2 < 2 ^ 64) (xs : IsText x) (ys : IsText y) (few : length x < 192)
     (differ : DifferInOne (λ i. (i + 16) / 32) x y) where
@@ -335,7 +346,7 @@ module _ (seed1 seed2 : ℕ) (x y : List ℕ) (s1 : seed1 < 2 ^ 64) (s2 : seed2 
       let n = length y * 2 ^ 56 in
       let led = short_end-same _ _ (add_at-AreFourWords _ 3 (length x * 2 ^ 56) x_in) (add_at-AreFourWords _ 3 n y_in) same in
       let one : add_at (short_start seed1 seed2 x) 3 n ≡ add_at (short_start seed1 seed2 y) 3 n
-          = ap (λ l. add_at (short_start seed1 seed2 x) 3 (l * 2 ^ 56)) (sym differ.same_length) ∙ led in
+      = ap (λ l. add_at (short_start seed1 seed2 x) 3 (l * 2 ^ 56)) (sym differ.same_length) ∙ led in
       differ.different (start-same seed1 seed2 x y s1 s2 xs ys few differ (add_length-same _ _ n x_in y_in one))
 
   pub short_words_v1-differ : short_words_v1 seed1 seed2 x ≢ short_words_v1 seed1 seed2 y

@@ -26,7 +26,7 @@ zero_filled_more x n fits =
 pub take-zero_filled : (n m : ℕ) (x : List ℕ) → length x ≤ n → n ≤ m → take n (zero_filled m x) ≡ zero_filled n x
 take-zero_filled n m x fits le =
     let size : length (zero_filled n x) ≡ n
-        = omega (arith, length-append x (replicate (n - length x) 0), length-replicate {A = ℕ} (n - length x) 0) in
+    = omega (arith, length-append x (replicate (n - length x) 0), length-replicate {A = ℕ} (n - length x) 0) in
     let count : m - length x ≡ (n - length x) + (m - n) = omega arith in
     let more : zero_filled m x ≡ zero_filled n x ++ replicate (m - n) 0 =
     rw (append_assoc, replicate-append-replicate, count) refl in
@@ -82,6 +82,9 @@ other_words x y h = λ seed1 seed2 s1 s2 same.
     let more = start-same x y h seed1 seed2 in
     let one : add_at s 3 (length x * 2 ^ 56) ≡ add_at s 3 (length y * 2 ^ 56) =
     short_end-same _ _ (add_at-AreFourWords s 3 _ w) (add_at-AreFourWords s 3 _ w) (rw more at same) in
-    let word = rw (get_or-set_same s 3 ((slice_index s 3 + length x * 2 ^ 56) % 2 ^ 64) 0 (omega (arith, w.0)), get_or-set_same s 3
-        ((slice_index s 3 + length y * 2 ^ 56) % 2 ^ 64) 0 (omega (arith, w.0))) at (ap (λ (k : List ℕ). get_or k 3 0) one) in
+    let word = rw (
+      get_or-set_same s 3 ((slice_index s 3 + length x * 2 ^ 56) % 2 ^ 64) 0 (omega (arith, w.0)),
+      get_or-set_same s 3
+          ((slice_index s 3 + length y * 2 ^ 56) % 2 ^ 64) 0 (omega (arith, w.0)),
+    ) at (ap (λ (k : List ℕ). get_or k 3 0) one) in
     absurd (omega (arith, lengths_apart (slice_index s 3) (length x) (length y) (omega arith) (omega arith) word))

@@ -43,7 +43,7 @@ mix_blocks-AreThreeWords : (blocks : List (List ℕ)) (s : List ℕ) → AreThre
 mix_blocks-AreThreeWords [] s known = known
 mix_blocks-AreThreeWords (block ∷ blocks) s known =
     mix_blocks-AreThreeWords blocks (mix_block s block) (apply-AreThreeWords rounds.lookup3_mix_steps _ lookup3_mix-steps
-        (add_block-AreThreeWords s block known))
+    (add_block-AreThreeWords s block known))
 
 pub start-AreThreeWords : (pc pb n : ℕ) → AreThreeWords (start pc pb n)
 start-AreThreeWords pc pb n = (refl, below) where

@@ -9,7 +9,7 @@ use Rattle.hash_jenkins.specs.Oaat.{oaat_step, oaat_finish}
 oaat_same_sum : (h k b a : ℕ) → oaat_step h b ≡ oaat_step k a → (h + b) % 2 ^ 64 ≡ (k + a) % 2 ^ 64
 oaat_same_sum h k b a e =
     let mixed = same_from_xorshift (1025 * ((h + b) % 2 ^ 64) % 2 ^ 64) (1025 * ((k + a) % 2 ^ 64) % 2 ^ 64) 6 (omega arith) (omega arith)
-        (omega arith) e in
+    (omega arith) e in
     omega arith
 
 pub oaat_facts : StepFacts oaat_step (2 ^ 64) 256

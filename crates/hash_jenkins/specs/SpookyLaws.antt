@@ -25,7 +25,7 @@ whole_then : (t p : List ℕ) → take (length t / 96 * 96) t ++ (tail t ++ p) �
 unfolding tail
 whole_then t p =
     sym (append_assoc (take (length t / 96 * 96) t) (drop (length t / 96 * 96) t) p)
-        ∙ ap (λ (x : List ℕ). x ++ p) (take-append-drop (length t / 96 * 96) t)
+    ∙ ap (λ (x : List ℕ). x ++ p) (take-append-drop (length t / 96 * 96) t)
 
 -- whole blocks first, and then the rest
 pub mixed-append : (s a b : List ℕ) → length a % 96 ≡ 0 → mixed s (a ++ b) ≡ mixed (spooky_blocks s a) b

@@ -69,7 +69,7 @@ module _ (step : ℕ → ℕ → ℕ) (bound : ℕ) (after : ℕ → List ℕ �
         → (s t : ℕ) (text : List ℕ) → s < bound → t < bound → IsText text → after s text ≡ after t text → s ≡ t
     after_injective state_injective s t text ks kt bytes same =
         fold_cancels step (λ u. u < bound) IsByte in_range state_injective s t text ks kt bytes
-            (sym (is_fold s text ks) ∙ same ∙ is_fold t text kt)
+        (sym (is_fold s text ks) ∙ same ∙ is_fold t text kt)
 
     -- a state from which a text leads to another is the only one
     pub undone : ((s t b : ℕ) → s < bound → t < bound → b < 256 → step s b ≡ step t b → s ≡ t)
@@ -89,8 +89,12 @@ module _ (step : ℕ → ℕ → ℕ) (bound : ℕ) (after : ℕ → List ℕ �
     (is_fold : (s : ℕ) (text : List ℕ) → s < bound → after s text ≡ fold step s text) where
   -- nothing was taken out yet
   pub undoing_none : (state : ℕ) (left piece : List ℕ) → left ≡ piece → state < bound → Undoing after bound state state left piece
-  undoing_none state left piece whole known = record { taken = []; split = sym whole ∙ sym (append-nil left);
-      back = is_fold state [] known; in_range = known }
+  undoing_none state left piece whole known = record {
+    taken = [];
+    split = sym whole ∙ sym (append-nil left);
+    back = is_fold state [] known;
+    in_range = known;
+  }
 
   -- one byte more is taken out
   pub undoing_more : (old state before byte : ℕ) (left front piece : List ℕ) → left ≡ front ++ byte ∷ [] → before < bound

@@ -19,4 +19,4 @@ module _ {S : Type 0} (step : S → ℕ → S) (is_state : S → Type 0) (IsItem
       let here = All-head IsItem item items all in
       state_injective s t item ks kt here
       (fold_cancels state_injective (step s item) (step t item) items (in_range s item ks here) (in_range t item kt here)
-          (All-tail IsItem item items all) same)
+      (All-tail IsItem item items all) same)

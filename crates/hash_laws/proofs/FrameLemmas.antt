@@ -24,18 +24,27 @@ same_outside front x y back i len outside = ⊎_elim
 pub middles-DifferWithin : (places mask : ℕ) (front x y back : List ℕ) → length x ≡ length y → length x ≤ places → x ≢ y
     → AgreeUnder mask x y → DifferWithin places mask (front ++ (x ++ back)) (front ++ (y ++ back))
 middles-DifferWithin places mask front x y back len fits different under = record {
-  same_length = omega (arith, len, length-append front (x ++ back), length-append front (y ++ back), length-append x back,
-      length-append y back);
+  same_length = omega (
+    arith,
+    len,
+    length-append front (x ++ back),
+    length-append front (y ++ back),
+    length-append x back,
+    length-append y back,
+  );
   different = λ e. different (append_cancel_right x y back (append_cancel_left front (x ++ back) (y ++ back) e));
-  within = (length front, λ i outside. same_outside front x y back i len
-      (⊎_elim (λ before. inl before) (λ behind. inr (omega (arith, behind, fits))) outside));
+  within = (
+    length front,
+    λ i outside. same_outside front x y back i len
+        (⊎_elim (λ before. inl before) (λ behind. inr (omega (arith, behind, fits))) outside),
+  );
   under_mask = λ i. ⊎_elim
       (λ before. ap (λ b. bit_and b mask) (same_outside front x y back i len (inl before)))
       (λ from. ⊎_elim
-          (λ below. ap (λ b. bit_and b mask) (in_middle front x back i from below) ∙ under (i - length front)
-              ∙ sym (ap (λ b. bit_and b mask) (in_middle front y back i from (omega (arith, below, len)))))
-          (λ behind. ap (λ b. bit_and b mask) (same_outside front x y back i len (inr behind)))
-          (cases_lt i (length front + length x)))
+      (λ below. ap (λ b. bit_and b mask) (in_middle front x back i from below) ∙ under (i - length front)
+      ∙ sym (ap (λ b. bit_and b mask) (in_middle front y back i from (omega (arith, below, len)))))
+      (λ behind. ap (λ b. bit_and b mask) (same_outside front x y back i len (inr behind)))
+      (cases_lt i (length front + length x)))
       (cases_lt i (length front));
 }
 

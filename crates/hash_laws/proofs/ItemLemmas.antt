@@ -20,7 +20,7 @@ module _ (step : ℕ → ℕ → ℕ) (bound : ℕ) (after : ℕ → List ℕ �
     pub piece_in_range : (s : ℕ) (piece : List ℕ) → s < bound → IsText piece → after s piece < bound
     piece_in_range s piece known bytes =
         rw (is_fold s piece) (fold_in_range step (IsBelow bound) (IsBelow bound) in_range s (items piece) known
-            (items_in_range piece bytes))
+        (items_in_range piece bytes))
 
     -- where each step is injective, so is a piece
     pub piece_injective : ((s t v : ℕ) → s < bound → t < bound → v < bound → step s v ≡ step t v → s ≡ t)

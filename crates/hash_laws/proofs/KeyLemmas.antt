@@ -47,7 +47,7 @@ byte_texts : (bytes : List ℕ) → IsText bytes → All IsText (flat_map (λ b.
 byte_texts [] texts = All-nil IsText
 byte_texts (b ∷ bytes) texts =
     All-cons IsText (b ∷ []) (flat_map (λ c. (c ∷ []) ∷ []) bytes) (IsText-one b (All-head IsByte b bytes texts))
-        (byte_texts bytes (All-tail IsByte b bytes texts))
+    (byte_texts bytes (All-tail IsByte b bytes texts))
 
 -- the writes of a number, of two, and of a slice of bytes are texts
 pub one_text : (n : ℕ) → All IsText (le_bytes 8 n ∷ [])

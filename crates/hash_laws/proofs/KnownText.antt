@@ -29,7 +29,7 @@ module _ {S : Type 0} (after : S → List ℕ → S) (n : ℕ) (left left' : Opt
   pub FeedsAll-fed : IsAtEnd left' → FeedsAll after n left s s'
   FeedsAll-fed end = λ bytes known.
       fed.fed ∙ ap (λ text. fold after s (cut n text)) (all_read left' bytes fed.text
-          (subst (λ l. Consumes l left' fed.text) known fed.read) end)
+      (subst (λ l. Consumes l left' fed.text) known fed.read) end)
 
 module _ {S : Type 0} (in_range : S → Type 0) (after : S → List ℕ → S) (left left' : Option (List ℕ)) (s s' : S) (count : ℕ)
     (read : HashesRead in_range after left left' s s' count) where

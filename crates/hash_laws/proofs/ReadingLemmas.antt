@@ -62,9 +62,9 @@ cut_more n k text piece some whole filled fits =
     ap (λ m. map (piece_at n both) (range_with_len 0 m)) (one_piece_more n k text piece whole filled fits)
     ∙ map-range_with_len_more (piece_at n both) 0 k k (omega arith)
     ∙ ap (λ ps. ps ++ piece_at n both k ∷ []) (same_map (piece_at n both) (piece_at n text) 0 k
-        (λ i below. piece_before n k text piece whole i (omega arith)))
+    (λ i below. piece_before n k text piece whole i (omega arith)))
     ∙ ap (λ p. map (piece_at n text) (range_with_len 0 k) ++ p ∷ [])
-        (ap (take n) (drop_at text piece (k * n) whole) ∙ take_all n piece fits)
+    (ap (take n) (drop_at text piece (k * n) whole) ∙ take_all n piece fits)
     ∙ ap (λ m. map (piece_at n text) (range_with_len 0 m) ++ piece ∷ []) (sym (whole_pieces n k text some whole))
 
 module _ {S : Type 0} (after : S → List ℕ → S) where
@@ -92,7 +92,7 @@ module _ {S : Type 0} (after : S → List ℕ → S) where
         count = length-append before.text piece ∙ ap (λ m. m + length piece) before.count;
         fed = fed filled ∙ ap (λ v. after v piece) before.fed
             ∙ sym (ap (fold after s) (cut_more n (bytes / n) before.text piece some pieces filled fits)
-                ∙ fold-append after s (cut n before.text) (piece ∷ []));
+            ∙ fold-append after s (cut n before.text) (piece ∷ []));
       }
 
   -- the same for the front of a buffer
@@ -100,7 +100,7 @@ module _ {S : Type 0} (after : S → List ℕ → S) where
       → FeedsRead after n a b s t bytes → bytes % n ≡ 0
       → Consumes b c (take filled buf) → filled ≤ length buf → filled ≤ n
       → IsText (take filled (buf ++ rest)) → (length (take filled (buf ++ rest)) ≡ 0 → u ≡ t)
-          → (0 < length (take filled (buf ++ rest)) → u ≡ after t (take filled (buf ++ rest)))
+      → (0 < length (take filled (buf ++ rest)) → u ≡ after t (take filled (buf ++ rest)))
       → FeedsRead after n a c s u (bytes + filled)
   feeds_front n a b c s t u bytes filled buf rest some before whole read within fits bytes_read empty fed =
       let same = take-append-le filled buf rest within in
@@ -108,7 +108,7 @@ module _ {S : Type 0} (after : S → List ℕ → S) where
       let few : length (take filled buf) ≤ n = omega (arith, count) in
       subst (λ m. FeedsRead after n a c s u (bytes + m)) count
       (feeds_more n a b c s t u bytes (take filled buf) some before whole read (rw same at bytes_read) few (rw same at empty)
-          (rw same at fed))
+      (rw same at fed))
 
   -- before the first read
   pub feeds_none : (n : ℕ) (a : Option (List ℕ)) (s : S) → 0 < n → FeedsRead after n a a s s 0
@@ -144,7 +144,7 @@ joined_cut n (suc k) text =
 pub flat_map-cut : (n : ℕ) (text : List ℕ) → 0 < n → flat_map (λ p. p) (cut n text) ≡ text
 flat_map-cut n text some =
     let enough : length text ≤ pieces_in n text * n
-        = omega (arith, div-add-mod' (length text + (n - 1)) n, mod_below (length text + (n - 1)) n some) in
+    = omega (arith, div-add-mod' (length text + (n - 1)) n, mod_below (length text + (n - 1)) n some) in
     joined_cut n (pieces_in n text) text ∙ take_all (pieces_in n text * n) text enough
 
 -- each piece of a cut text is a text
@@ -152,22 +152,24 @@ cut_texts : (n : ℕ) (text : List ℕ) → IsText text → All IsText (cut n te
 cut_texts n text bytes =
     All-map IsText (piece_at n text) (range_with_len 0 (pieces_in n text))
     (λ k d below. All-take IsByte n (drop (slice_index_or (range_with_len 0 (pieces_in n text)) k d * n) text)
-        (All-drop IsByte _ text bytes))
+    (All-drop IsByte _ text bytes))
 
 -- where a text in two pieces leads to where it leads whole, so does one in any pieces
 module _ {S : Type 0} (is_state : S → Type 0) (after : S → List ℕ → S)
     (after_in_range : (s : S) (piece : List ℕ) → is_state s → IsText piece → is_state (after s piece))
     (after_nothing : (s : S) → is_state s → after s [] ≡ s)
     (after_joined : (s : S) (text more : List ℕ) → is_state s → IsText text → IsText more
-        → after s (text ++ more) ≡ after (after s text) more) where
+    → after s (text ++ more) ≡ after (after s text) more) where
   pub fold-pieces : (s : S) (pieces : List (List ℕ)) → is_state s → All IsText pieces
       → (fold after s pieces ≡ after s (flat_map (λ p. p) pieces)) × IsText (flat_map (λ p. p) pieces)
   fold-pieces s [] known texts = (sym (after_nothing s known), All-nil IsByte)
   fold-pieces s (piece ∷ pieces) known texts =
       let bytes = All-head IsText piece pieces texts in
-      let rest = fold-pieces (after s piece) pieces (after_in_range s piece known bytes) (All-tail IsText piece pieces texts) in
-      (rest.0 ∙ sym (after_joined s piece (flat_map (λ p. p) pieces) known bytes rest.1), All-append IsByte piece
-          (flat_map (λ p. p) pieces) bytes rest.1)
+      let rest = fold-pieces (after s piece) pieces (after_in_range s piece known bytes) (All-tail IsText piece pieces texts) in (
+        rest.0 ∙ sym (after_joined s piece (flat_map (λ p. p) pieces) known bytes rest.1),
+        All-append IsByte piece
+            (flat_map (λ p. p) pieces) bytes rest.1,
+      )
 
   -- a cut text leads to where the text leads
   pub fold-cut : (n : ℕ) (s : S) (text : List ℕ) → 0 < n → is_state s → IsText text → fold after s (cut n text) ≡ after s text
@@ -203,7 +205,7 @@ module _ {S : Type 0} (after : S → List ℕ → S) (s : S) (n : ℕ) (some : 0
       let enough : k * n ≤ length text = omega (arith, sum, within) in
       let count : length (take (k * n) text) ≡ k * n = length-take-le (k * n) text enough in
       let whole : length (take (k * n) text) % n ≡ 0 = ap (λ m. m % n) (count ∙ sym (zero-add (k * n))) ∙ add-mul-mod_self_right 0 k n
-          ∙ zero-mod n in
+      ∙ zero-mod n in
       ap (λ m. fold after s (map (piece_at n text) (range_with_len 0 m))) (sym next)
       ∙ ap (fold after s) (map-range_with_len_more (piece_at n text) 0 k k (omega arith))
       ∙ fold-append after s (map (piece_at n text) (range_with_len 0 k)) (piece_at n text k ∷ [])

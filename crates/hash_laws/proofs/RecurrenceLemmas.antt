@@ -53,7 +53,7 @@ module _ {S : Type 0} (step : S → ℕ → S) where
   -- the few bytes that come before the whole eights, and then eight by eight
   pub recurrence_by_eights : (s : S) (text : List ℕ)
       → fold (recurrence step) (recurrence step s (take (length text % 8) text))
-          (first_chunks 8 (length text / 8) (drop (length text % 8) text))
+      (first_chunks 8 (length text / 8) (drop (length text % 8) text))
       ≡ recurrence step s text
   recurrence_by_eights s text =
       let few = length text % 8 in
@@ -81,7 +81,7 @@ pub recurrence-pieces : {S : Type 0} (step : S → ℕ → S) (items : List ℕ 
 recurrence-pieces step items s [] = sym (recurrence-nil step s)
 recurrence-pieces step items s (piece ∷ pieces) =
     recurrence-pieces step items (recurrence step s (items piece)) pieces
-        ∙ sym (recurrence-append step s (items piece) (flat_map items pieces))
+    ∙ sym (recurrence-append step s (items piece) (flat_map items pieces))
 
 -- the form in which laws take it
 pub recurrence_is_fold : (step : ℕ → ℕ → ℕ) (bound s : ℕ) (text : List ℕ) → s < bound → recurrence step s text ≡ fold step s text

@@ -32,7 +32,7 @@ DifferWithin-iff-drop places mask from x y len under first = (
           let e = ap (λ t. get_or t (i - (from + places)) 0) same in
           let here : from + places + (i - (from + places)) ≡ i = omega arith in
           rw here at (sym (get_or-drop (from + places) x (i - (from + places)) 0) ∙ e
-              ∙ get_or-drop (from + places) y (i - (from + places)) 0)) outside,
+          ∙ get_or-drop (from + places) y (i - (from + places)) 0)) outside,
     );
     under_mask = under;
   }),
@@ -42,7 +42,7 @@ DifferWithin-iff-drop places mask from x y len under first = (
 pub DifferWithin-iff-eq : (places mask from : ℕ) (x y : List ℕ) (answer : Bool) → length x ≡ length y → AgreeUnder mask x y
     → IsFirstDifference from x y
     → answer ≡ pointwise nat_eq (take (length x - (from + places)) (drop (from + places) x))
-        (take (length y - (from + places)) (drop (from + places) y))
+    (take (length y - (from + places)) (drop (from + places) y))
     → IsTrue answer ↔ DifferWithin places mask x y
 DifferWithin-iff-eq places mask from x y answer len under first eq =
     let window = DifferWithin-iff-drop places mask from x y len under first in
@@ -71,7 +71,7 @@ DifferWithin-one_place x y w =
         from,
         (λ e. w.different (ext_get_or 0 x y w.same_length
             (λ j _. ⊎_elim (λ (q : j ≡ from). ap (λ k. get_or x k 0) q ∙ e ∙ ap (λ k. get_or y k 0) (sym q)) (elsewhere j)
-                (cases_eq j from)))),
+            (cases_eq j from)))),
         elsewhere,
       );
     }

@@ -20,8 +20,13 @@ pub record TakenBack {A S : Type 0} (text_of : A → List ℕ) (in_range : S →
 module _ {A S : Type 0} (text_of : A → List ℕ) (in_range : S → Type 0) (after : S → List ℕ → S) where
   -- nothing was taken back yet
   pub none_taken : (state : S) (left all : List A) → left ≡ all → TakenBack text_of in_range after state state left all
-  none_taken state left all whole = record { taken = []; split = sym whole ∙ sym (append-nil left); texts = All-nil IsText; back = refl;
-      undone = λ s known led. sym led }
+  none_taken state left all whole = record {
+    taken = [];
+    split = sym whole ∙ sym (append-nil left);
+    texts = All-nil IsText;
+    back = refl;
+    undone = λ s known led. sym led;
+  }
 
   -- one item more is taken back
   pub one_more_taken : ((s : S) (piece : List ℕ) → in_range s → IsText piece → in_range (after s piece))
@@ -39,7 +44,7 @@ module _ {A S : Type 0} (text_of : A → List ℕ) (in_range : S → Type 0) (af
   -- all were taken back
   pub all_taken : (old state : S) (left all : List A) → length left ≡ 0 → TakenBack text_of in_range after old state left all
       → (fold after state (map text_of all) ≡ old) × ((s : S) → in_range s → fold after s (map text_of all) ≡ old → state ≡ s)
-          × All IsText (map text_of all)
+      × All IsText (map text_of all)
   all_taken old state [] all none taken = (
     ap (λ items. fold after state (map text_of items)) taken.split ∙ taken.back,
     (λ s known led. taken.undone s known (sym (ap (λ items. fold after s (map text_of items)) taken.split) ∙ led)),
@@ -57,6 +62,6 @@ pub fold-joined : {A S : Type 0} (text_of : A → List ℕ) (in_range : S → Ty
     → ((s : S) → in_range s → after s [] ≡ s)
     → ((s : S) (text more : List ℕ) → in_range s → IsText text → IsText more → after s (text ++ more) ≡ after (after s text) more)
     → (s : S) (items : List A) → in_range s → All IsText (map text_of items)
-        → fold after s (map text_of items) ≡ after s (flat_map text_of items)
+    → fold after s (map text_of items) ≡ after s (flat_map text_of items)
 fold-joined text_of in_range after stays nothing joins s items known texts =
     (fold-pieces in_range after stays nothing joins s (map text_of items) known texts).0 ∙ ap (after s) (flat_map-map text_of items)

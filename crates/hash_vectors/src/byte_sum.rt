@@ -58,7 +58,9 @@ impl Hasher for ByteSum {
         ensures in_range_before { self.old < 256 }
         ensures in_range_after { self.new < 256 }
     {
-        self.sum = bytes.iter().fold(self.sum, |sum, byte| sum.wrapping_add(*byte));
+        self.sum = bytes
+            .iter()
+            .fold(self.sum, |sum, byte| sum.wrapping_add(*byte));
     }
 }
 

@@ -70,7 +70,7 @@ djb2_separates = record {
     close =
         let w = 33 * h % 2 ^ 32 in
         let e : djb2_step h a / 32 ≡ djb2_step h b / 32 = xor_shr w a 5 ∙ ap (bit_xor (w / 32)) (same_top a b sa sb top)
-            ∙ sym (xor_shr w b 5) in
+        ∙ sym (xor_shr w b 5) in
         omega arith;
   };
   next = λ n h k a b fits hs ks sa sb top near. Near-next (spread_after n) h k a b (spread_fits n fits) hs ks sa sb

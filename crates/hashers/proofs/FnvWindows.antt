@@ -19,8 +19,14 @@ Fnv32Apart (suc n) = λ h k. h ≢ k
 -- in plain numbers: y and z are the states after the bytes' `^`
 first_32 : (h y z : ℕ) → y / 256 ≡ h / 256 → z / 256 ≡ h / 256 → y ≢ z
     → OneByte (2 ^ 32) 16777619 (y * 16777619 % 2 ^ 32) (z * 16777619 % 2 ^ 32)
-first_32 h y z yh zh ne = record { c = y % 256; d = z % 256; c_byte = omega arith; d_byte = omega arith; differ = omega arith;
-    apart = omega arith }
+first_32 h y z yh zh ne = record {
+  c = y % 256;
+  d = z % 256;
+  c_byte = omega arith;
+  d_byte = omega arith;
+  differ = omega arith;
+  apart = omega arith;
+}
 
 second_32 : (h k y z : ℕ) → y / 256 ≡ h / 256 → z / 256 ≡ k / 256 → OneByte (2 ^ 32) 16777619 h k → y ≢ z
 second_32 h k y z yh zk far = λ e. far.differ (omega (arith, far.apart))
@@ -32,8 +38,14 @@ Fnv64Apart (suc (suc n)) = λ h k. h ≢ k
 
 first_64 : (h y z : ℕ) → y / 256 ≡ h / 256 → z / 256 ≡ h / 256 → y ≢ z
     → OneByte (2 ^ 64) 1099511628211 (y * 1099511628211 % 2 ^ 64) (z * 1099511628211 % 2 ^ 64)
-first_64 h y z yh zh ne = record { c = y % 256; d = z % 256; c_byte = omega arith; d_byte = omega arith; differ = omega arith;
-    apart = omega arith }
+first_64 h y z yh zh ne = record {
+  c = y % 256;
+  d = z % 256;
+  c_byte = omega arith;
+  d_byte = omega arith;
+  differ = omega arith;
+  apart = omega arith;
+}
 
 second_64 : (h k y z : ℕ) → y / 256 ≡ h / 256 → z / 256 ≡ k / 256 → OneByte (2 ^ 64) 1099511628211 h k
     → TwoBytes (2 ^ 64) (870 * 2 ^ 40 + 189225) 1099511628211 511 (y * 1099511628211 % 2 ^ 64) (z * 1099511628211 % 2 ^ 64)

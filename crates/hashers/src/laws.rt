@@ -5,9 +5,9 @@ pub use crate::windows::{
 };
 pub use hash_fx::pieces::{
     apart_by_one_fx, apart_by_one_word_fx32, apart_by_one_word_fx64, cuts_show_in_fx,
-    fixed_widths_are_words32, fixed_widths_are_words64, low_bits_of_a_word, one_changed_byte_shows_fx,
-    one_changed_word_shows_fx, pieces_are_their_words, run_words, run_words32, run_words64,
-    words_by_place32, words_by_place64,
+    fixed_widths_are_words32, fixed_widths_are_words64, low_bits_of_a_word,
+    one_changed_byte_shows_fx, one_changed_word_shows_fx, pieces_are_their_words, run_words,
+    run_words32, run_words64, words_by_place32, words_by_place64,
 };
 pub use hash_jenkins::two_texts::{
     apart_by_zeros, cuts_show_in_lookup3, neighbouring_words_show, one_changed_block_shows,

@@ -21,9 +21,21 @@ fn words_of_64_bits<Name>(
 ) -> [u64; 6] {
     let byte = one_word_undone(a, b, &HasherWrite::U8(200), 200);
     let four = one_word_undone(a, b, &HasherWrite::U32(0xfedcba98), 0xfedcba98);
-    let eight = one_word_undone(a, b, &HasherWrite::U64(0xfedcba9876543210), 0xfedcba9876543210);
+    let eight = one_word_undone(
+        a,
+        b,
+        &HasherWrite::U64(0xfedcba9876543210),
+        0xfedcba9876543210,
+    );
     let size = one_word_undone(a, b, &HasherWrite::Usize(76543210), 76543210);
-    [byte.before, four.before, eight.before, size.before, a.finish(), b.finish()]
+    [
+        byte.before,
+        four.before,
+        eight.before,
+        size.before,
+        a.finish(),
+        b.finish(),
+    ]
 }
 
 // The same at 32 bits.
@@ -140,9 +152,24 @@ fn hold_97(rt: &impl Abort, width: usize, hashers: (FxHasher64, FxHasher, FxHash
     let (mut h64, mut h, mut h32) = hashers;
     same_at(rt, width, &[h64.finish(), h.finish(), h32.finish()], &OF_97);
     let (mut again64, mut again, mut again32) = (h64.fork(), h.fork(), h32.fork());
-    same_at(rt, width, &words_of_64_bits(&mut h64, &mut again64), &[OF_97[0]; 6]);
-    same_at(rt, width, &words_of_64_bits(&mut h, &mut again), &[OF_97[1]; 6]);
-    same_at(rt, width, &words_of_32_bits(&mut h32, &mut again32), &[OF_97[2]; 4]);
+    same_at(
+        rt,
+        width,
+        &words_of_64_bits(&mut h64, &mut again64),
+        &[OF_97[0]; 6],
+    );
+    same_at(
+        rt,
+        width,
+        &words_of_64_bits(&mut h, &mut again),
+        &[OF_97[1]; 6],
+    );
+    same_at(
+        rt,
+        width,
+        &words_of_32_bits(&mut h32, &mut again32),
+        &[OF_97[2]; 4],
+    );
 }
 
 // Three hashers, in the order of their hashes.

@@ -3,8 +3,8 @@ use crate::byte_sum::ByteSum;
 use crate::tests::{all_hold, same};
 use crate::times31::Times31;
 use hashers::laws::{
-    ByteStep, HasherWrite, Piecewise, Streamed, Undo, answer_of_pieces, apart_by_one, run_pair, run_streamed,
-    run_writes, unrun_writes,
+    ByteStep, HasherWrite, Piecewise, Streamed, Undo, answer_of_pieces, apart_by_one, run_pair,
+    run_streamed, run_writes, unrun_writes,
 };
 
 #[test]
@@ -32,15 +32,26 @@ fn a_third_partys_hasher(rt: HostRuntime) {
 #[test]
 fn a_hasher_with_no_rule(rt: HostRuntime) {
     let mut a = ByteSum::fresh();
-    run_writes(&mut a, &[HasherWrite::Bytes(b"abc"), HasherWrite::U16(0x0201)]);
+    run_writes(
+        &mut a,
+        &[HasherWrite::Bytes(b"abc"), HasherWrite::U16(0x0201)],
+    );
     let summed = a.answer();
-    unrun_writes(&mut a, &[HasherWrite::Bytes(b"bc"), HasherWrite::U16(0x0201)]);
+    unrun_writes(
+        &mut a,
+        &[HasherWrite::Bytes(b"bc"), HasherWrite::U16(0x0201)],
+    );
     let back = a.answer();
     a.step(200);
     a.unstep(200);
     same(
         &rt,
-        &[summed, back, a.answer(), answer_of_pieces::<ByteSum>(&[b"ab", b"c"])],
+        &[
+            summed,
+            back,
+            a.answer(),
+            answer_of_pieces::<ByteSum>(&[b"ab", b"c"]),
+        ],
         &[41, 97, 97, 38],
     );
     all_hold(

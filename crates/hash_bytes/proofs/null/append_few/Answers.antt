@@ -15,4 +15,4 @@ loop-byte-preserved c =
     c.append_byte-state.ensures ∙ ap (λ s. passthrough_step s (get_or bytes i 0)) c.loop-byte.invariant
     ∙ sym (passthrough-one (passthrough_from c.args.state (take i bytes)) (get_or bytes i 0))
     ∙ passthrough-append c.args.state (take i bytes) _ ∙ ap (passthrough_from c.args.state)
-        (sym (take_more bytes i 0 c.loop-byte-test.true))
+    (sym (take_more bytes i 0 c.loop-byte-test.true))

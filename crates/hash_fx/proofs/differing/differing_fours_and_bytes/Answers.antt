@@ -20,6 +20,6 @@ returns-clause-value c =
     let y_parts : map le second ++ y_rest ≡ words32 c.args.y.now = rw (c.as_chunks-2.ensures.front, c.as_chunks-2.ensures.back) refl in
     let many : length (map le first) ≡ length (map le second) =
     length-map first le ∙ omega (arith, c.as_chunks.ensures.front_len, c.as_chunks-2.ensures.front_len, c.requires)
-        ∙ sym (length-map second le) in
+    ∙ sym (length-map second le) in
     ap₂ (λ m n. m + n) c.differing_fours.ensures.value c.differing_bytes.ensures.value
     ∙ sym (differences-append (map le first) (map le second) x_rest y_rest many) ∙ ap₂ differences x_parts y_parts

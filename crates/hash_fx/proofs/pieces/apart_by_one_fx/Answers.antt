@@ -24,7 +24,7 @@ returns-then-apart-clause-exactly c =
       | then-apart-via-else-apart+then-not-differ_at_one_place w ↦
           let many : OneApart p q → ⊥ = λ one.
           both_ways w.differ_at_one_place.result w.if-not-differ_at_one_place.true
-              (w.differ_at_one_place.ensures.1 (DifferAtOnePlace-from_one p q one)) in
+          (w.differ_at_one_place.ensures.1 (DifferAtOnePlace-from_one p q one)) in
           left_many P x y c.loop-i.i no_piece cuts c.loop-i-test.true c.loop-i.apart w.if-apart.false ne many c.loop-i.invariant
     ] in
     ((λ (e : false ≡ true). cc), λ d. absurd (never ((DifferByOneByte-iff x y cuts).1 d)))
@@ -42,10 +42,10 @@ loop-i-preserved c =
       | then-ne+else-apart+else-not-differ_at_one_place w ↦
           let one = one_from_DifferAtOnePlace p q (w.differ_at_one_place.ensures.0 w.if-not-differ_at_one_place.false) in
           rw w.apart-is (left_first P x y c.loop-i.i no_piece cuts c.loop-i-test.true c.loop-i.apart w.if-apart.false one
-              c.loop-i.invariant)
+          c.loop-i.invariant)
       | else-ne w ↦
           rw w.apart-is (left_equal P x y c.loop-i.i no_piece cuts c.loop-i-test.true c.loop-i.apart
-              (pieces_equal p q c.ne.result c.ne.ensures w.if-ne.false) c.loop-i.invariant)
+          (pieces_equal p q c.ne.result c.ne.ensures w.if-ne.false) c.loop-i.invariant)
     ]
 
 pub returns-clause-exactly : goal.returns-clause-exactly
@@ -60,13 +60,13 @@ returns-clause-exactly c =
 pub returns-clause-differ_64 : goal.returns-clause-differ_64
 returns-clause-differ_64 c =
     OnTrue_from c.loop-i.apart _ (λ yes. fx64_pieces-differ c.args.x.now c.args.y.now
-        (OnTrue_at c.if-not-same_cuts.false c.same_cuts.ensures.first)
+    (OnTrue_at c.if-not-same_cuts.false c.same_cuts.ensures.first)
     (OnTrue_at c.if-not-same_cuts.false c.same_cuts.ensures.second) ((returns-clause-exactly c).0 yes))
 
 pub returns-clause-differ_32 : goal.returns-clause-differ_32
 returns-clause-differ_32 c =
     OnTrue_from c.loop-i.apart _ (λ yes. fx32_pieces-differ c.args.x.now c.args.y.now
-        (OnTrue_at c.if-not-same_cuts.false c.same_cuts.ensures.first)
+    (OnTrue_at c.if-not-same_cuts.false c.same_cuts.ensures.first)
     (OnTrue_at c.if-not-same_cuts.false c.same_cuts.ensures.second) ((returns-clause-exactly c).0 yes))
 
 pub returns-then-not-same_cuts-clause-exactly : goal.returns-then-not-same_cuts-clause-exactly

@@ -6,5 +6,11 @@ use Rattle.hash_fx.proofs.pieces.fixed_widths_are_words32.Goals as goal
 
 pub returns : goal.returns
 unfolding pieces le_bytes
-returns c = record { one_byte = words32-byte; one_of_four = words32-four; byte = λ h v below. of_byte fx32_step h v; two_bytes = of_two fx32_step; four_bytes = fx32_of_four;
-    eight_bytes = fx32_of_eight }
+returns c = record {
+  one_byte = words32-byte;
+  one_of_four = words32-four;
+  byte = λ h v below. of_byte fx32_step h v;
+  two_bytes = of_two fx32_step;
+  four_bytes = fx32_of_four;
+  eight_bytes = fx32_of_eight;
+}

@@ -9,4 +9,4 @@ loop-piece-init g c = record { there = sym (fx64_nothing c.args.h.now); whole = 
 pub loop-piece-preserved : goal.loop-piece-preserved
 loop-piece-preserved g c =
     at_more64 c.args.h.now c.loop-piece.h c.write.new.self c.loop-piece.piece-index c.args.pieces.now c.requires c.loop-piece-test.true
-        c.write.ensures.state c.loop-piece.invariant
+    c.write.ensures.state c.loop-piece.invariant

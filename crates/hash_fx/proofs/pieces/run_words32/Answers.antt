@@ -9,4 +9,4 @@ loop-part-init c = record { there = sym (fx32_nothing c.args.h.now); whole = λ 
 pub loop-part-preserved : goal.loop-part-preserved
 loop-part-preserved c =
     at_more32 c.args.h.now c.loop-part.h c.write.new.self c.loop-part.part-index c.args.pieces.now c.requires c.loop-part-test.true
-        c.write.ensures.state c.loop-part.invariant
+    c.write.ensures.state c.loop-part.invariant

@@ -15,5 +15,5 @@ returns g c =
     let bytes = c.as_chunks.result.1.now in
     let parts : fours ++ bytes ≡ words32 c.args.piece.now = rw (c.as_chunks.ensures.front, c.as_chunks.ensures.back) refl in
     recurrence-fold step before (words32 c.args.piece.now) ∙ ap (fold step before) (sym parts) ∙ fold-append step before fours bytes
-        ∙ ap (λ s. fold step s bytes) c.fours_out.ensures
+    ∙ ap (λ s. fold step s bytes) c.fours_out.ensures
     ∙ c.bytes_out.ensures

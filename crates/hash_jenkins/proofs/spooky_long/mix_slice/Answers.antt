@@ -11,7 +11,7 @@ returns-clause-position c =
     let left = c.split_at.result.1.now in
     ap₂ Long
     (c.spooky_blocks.ensures.mixed ∙ ap (spooky_blocks c.args.words.now) c.split_at.ensures.front
-        ∙ whole_blocks c.args.words.now c.args.bytes.now)
+    ∙ whole_blocks c.args.words.now c.args.bytes.now)
     (ap (take (length left)) c.put.ensures ∙ take-put_first left c.args.buffer.now ∙ c.split_at.ensures.back)
 
 pub returns-clause-turns : goal.returns-clause-turns

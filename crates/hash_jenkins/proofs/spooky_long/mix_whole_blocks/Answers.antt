@@ -33,7 +33,7 @@ returns-clause-position c =
     let left = c.split_at-2.result.1.now in
     let all : head ++ rest ≡ c.args.bytes.now = rw (c.split_at.ensures.front, c.split_at.ensures.back) (take-append-drop _ _) in
     let filled = c.spooky_blocks.ensures.mixed ∙ ap (λ (w : List ℕ). spooky_blocks c.args.words.now (take c.block_end-full.result w))
-        c.put.ensures in
+    c.put.ensures in
     let led = mixed_whole c.args.words.now b head rest c.args.kept c.block_end-full.result (omega arith) (omega arith) (omega arith) in
     let behind : c.if-not-is_empty.mixed ≡ spooky_blocks c.spooky_blocks.new.s c.split_at-2.result.0.now =
     elim c.if-not-is_empty.branch [

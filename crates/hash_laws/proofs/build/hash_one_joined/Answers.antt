@@ -8,5 +8,5 @@ returns g c = λ texts.
     let laws = g.met.H.Piecewise in
     c.hash_one.ensures.defined
     ∙ ap H.answer (fold-concat H.in_range H.after laws.after_in_range laws.after_nothing g.met.H.Streamed.after_joined H.fresh _
-        laws.fresh_in_range texts)
+    laws.fresh_in_range texts)
     ∙ sym (laws.hash_of_is _)

@@ -19,8 +19,8 @@ returns-in-Err-clause-fault g c =
     let filled = c.fill-filled.ensures in
     let few : c.fill-filled.result.0 ≤ g.row.N = omega (arith, c.fill-filled.auto.buf, c.min-room.ensures) in
     feeds_front _ _ _ _ _ _ _ _ _ _ _ _ c.requires.not_empty before.so_far (before.whole c.loop-bytes-test.true) filled.read filled.within
-        few c.feed_unless_empty.ensures.text (λ none. ap H.state (c.feed_unless_empty.ensures.untouched none))
-        c.feed_unless_empty.ensures.fed
+    few c.feed_unless_empty.ensures.text (λ none. ap H.state (c.feed_unless_empty.ensures.untouched none))
+    c.feed_unless_empty.ensures.fed
 
 pub returns-then-filled-room-clause-taken : goal.returns-then-filled-room-clause-taken
 returns-then-filled-room-clause-taken g c =
@@ -29,8 +29,8 @@ returns-then-filled-room-clause-taken g c =
     let filled = c.fill-filled.ensures in
     let few : c.fill-filled.result.0 ≤ g.row.N = omega (arith, c.fill-filled.auto.buf, c.min-room.ensures) in
     feeds_front _ _ _ _ _ _ _ _ _ _ _ _ c.requires.not_empty before.so_far (before.whole c.loop-bytes-test.true) filled.read filled.within
-        few c.feed_unless_empty.ensures.text (λ none. ap H.state (c.feed_unless_empty.ensures.untouched none))
-        c.feed_unless_empty.ensures.fed
+    few c.feed_unless_empty.ensures.text (λ none. ap H.state (c.feed_unless_empty.ensures.untouched none))
+    c.feed_unless_empty.ensures.fed
 
 pub loop-bytes-preserved : goal.loop-bytes-preserved
 loop-bytes-preserved g c =
@@ -39,7 +39,7 @@ loop-bytes-preserved g c =
     let filled = c.fill-filled.ensures in
     let few : c.fill-filled.result.0 ≤ g.row.N = omega (arith, c.fill-filled.auto.buf, c.min-room.ensures) in
     let full : c.fill-filled.result.0 ≡ min (c.args.limit - c.loop-bytes.bytes) g.row.N
-        = omega (arith, c.fill-filled.auto.buf, c.min-room.ensures, c.if-filled-room.false) in
+    = omega (arith, c.fill-filled.auto.buf, c.min-room.ensures, c.if-filled-room.false) in
     record {
       so_far = feeds_front _ _ _ _ _ _ _ _ _ _ _ _ c.requires.not_empty before.so_far (before.whole c.loop-bytes-test.true) filled.read
           filled.within few c.feed_unless_empty.ensures.text (λ none. ap H.state (c.feed_unless_empty.ensures.untouched none))

@@ -9,7 +9,7 @@ returns-clause-taken g c =
     let laws = g.met.H.Piecewise in
     IfOk-weaker c.hash_reader.result _ _
     (λ taken fed. HashesRead-fed H.in_range H.after laws.after_in_range laws.after_nothing g.met.H.Streamed.after_joined _ _ _ _ _ _
-        c.requires.not_empty fed)
+    c.requires.not_empty fed)
     c.hash_reader.ensures.taken
 
 pub returns-clause-fault : goal.returns-clause-fault
@@ -18,7 +18,7 @@ returns-clause-fault g c =
     let laws = g.met.H.Piecewise in
     IfErr-weaker c.hash_reader.result _ _
     (λ fault fed. HashesRead-fed H.in_range H.after laws.after_in_range laws.after_nothing g.met.H.Streamed.after_joined _ _ _ _ _ _
-        c.requires.not_empty fed)
+    c.requires.not_empty fed)
     c.hash_reader.ensures.fault
 
 pub returns-clause-first_taken : goal.returns-clause-first_taken

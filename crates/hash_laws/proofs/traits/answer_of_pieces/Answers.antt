@@ -6,7 +6,7 @@ pub returns-clause-defined : goal.returns-clause-defined
 returns-clause-defined g c =
     let H = g.H.Streamed in
     c.answer.ensures.value ∙ c.run_streamed.ensures.answers H.start []
-        (g.met.H.Streamed.stands_at_start c.fresh-hasher.result c.fresh-hasher.ensures.state)
+    (g.met.H.Streamed.stands_at_start c.fresh-hasher.result c.fresh-hasher.ensures.state)
 
 pub returns-clause-value : goal.returns-clause-value
 returns-clause-value g c =

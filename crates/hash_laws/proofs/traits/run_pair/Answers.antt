@@ -11,7 +11,7 @@ loop-piece-preserved g c =
     let also = c.feed-in-loop-piece.ensures in
     let before = c.loop-piece.invariant in
     let kept = alike_after H.in_range H.after H.answer laws.after_injective laws.answer_injective _ _ _ _ _ fed.in_range_before
-        also.in_range_before fed.in_range_after also.in_range_after fed.text fed.state also.state in
+    also.in_range_before fed.in_range_after also.in_range_after fed.text fed.state also.state in
     record {
       first = rest_more (λ piece. piece.now) H.after _ _ _ _ _ _ c.loop-piece-test.true fed.state before.first;
       second = rest_more (λ piece. piece.now) H.after _ _ _ _ _ _ c.loop-piece-test.true also.state before.second;

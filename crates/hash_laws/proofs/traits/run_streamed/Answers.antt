@@ -13,7 +13,7 @@ loop-more-preserved g c =
     let laws = g.met.H.Streamed in
     let none : Bor (List ℕ) = record { ref_ptr = (0, 0); now = [] } in
     let more = λ (text : List ℕ). joined_more (λ piece. piece.now) text c.args.pieces.now c.loop-more.more-index none
-        c.loop-more-test.true in
+    c.loop-more-test.true in
     record {
       none = λ first. absurd (omega arith);
       in_range = λ _. ⊎_elim before.in_range

@@ -15,7 +15,7 @@ pub loop-write-preserved : goal.loop-write-preserved
 loop-write-preserved g c =
     let H = g.H.Piecewise in
     one_more_taken written H.in_range H.after g.met.H.Piecewise.after_in_range _ _ _ _ _ _ _ c.in-Some.ensures.steps c.take_back.ensures
-        c.loop-write.invariant
+    c.loop-write.invariant
 
 pub returns : goal.returns
 returns g c =

@@ -30,7 +30,7 @@ returns-clause-limit_met g c =
     let left = g.R.Read.remaining in
     let read = c.in_ok-taken.ensures in
     let reads = λ (from bytes : ℕ). FeedsRead fnv1a64_from 4096 (left c.args.r.now) (left c.hash_reader.new.r) from
-        c.hash_reader.new.h bytes in
+    c.hash_reader.new.h bytes in
     elim c.if-taken.branch [
       | then-taken w ↦ rw w.result-is tt
       | else-taken w ↦

@@ -12,7 +12,7 @@ loop-eight-preserved c =
     let eight = get_or c.as_chunks.result.0.now i [] in
     let here : i < length bytes / 8 = omega arith in
     let more : take (i * 8) bytes ++ eight ≡ take ((i + 1) * 8) bytes
-        = rw c.as_chunks.ensures.front (take_chunk 8 (length bytes / 8) i bytes [] here) in (
+    = rw c.as_chunks.ensures.front (take_chunk 8 (length bytes / 8) i bytes [] here) in (
       rw (c.sum_of_eight-sum.ensures.value, c.loop-eight.invariant.0)
           (loselose-add _ eight ∙ loselose-append s (take (i * 8) bytes) eight ∙ ap (loselose_from s) more),
       omega arith,
@@ -25,8 +25,13 @@ returns-clause-state c =
     let s = c.state.inside.state in
     let eights : c.loop-eight.eight-index ≡ length bytes / 8 = omega arith in
     c.loselose_bytes_in-state-inside-2.ensures
-    ∙ rw (c.loop-eight.invariant.0, loselose-append s (take (c.loop-eight.eight-index * 8) bytes) rest, c.as_chunks.ensures.back, eights,
-        take-append-drop (length bytes / 8 * 8) bytes)
+    ∙ rw (
+      c.loop-eight.invariant.0,
+      loselose-append s (take (c.loop-eight.eight-index * 8) bytes) rest,
+      c.as_chunks.ensures.back,
+      eights,
+      take-append-drop (length bytes / 8 * 8) bytes,
+    )
     (ap (λ v. loselose_from v.state bytes) c.state.view_is)
 
 pub returns-clause-turns : goal.returns-clause-turns
@@ -47,5 +52,7 @@ returns-then-bytes-lt8-clause-turns c =
     ap (λ v. v.turns) c.state.view_is ∙ none
 
 pub returns-then-bytes-lt8-clause-value : goal.returns-then-bytes-lt8-clause-value
-returns-then-bytes-lt8-clause-value c = λ i. record { state = returns-then-bytes-lt8-clause-state c i;
-    turns = returns-then-bytes-lt8-clause-turns c i }
+returns-then-bytes-lt8-clause-value c = λ i. record {
+  state = returns-then-bytes-lt8-clause-state c i;
+  turns = returns-then-bytes-lt8-clause-turns c i;
+}

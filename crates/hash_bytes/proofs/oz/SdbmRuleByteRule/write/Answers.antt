@@ -17,7 +17,7 @@ loop-four-preserved c =
       c.sdbm4-state-inside.type_inv,
       c.sdbm4-state-inside.ensures.value ∙ ap (λ s. sdbm_from s four) inv.1 ∙ sdbm-append _ _ four
           ∙ ap (λ t. sdbm_from c.state.inside.state t) (rw c.as_chunks.ensures.front
-              (take_chunk 4 (length c.args.bytes.now / 4) _ c.args.bytes.now [] here)),
+          (take_chunk 4 (length c.args.bytes.now / 4) _ c.args.bytes.now [] here)),
       omega arith,
     )
 
@@ -34,9 +34,12 @@ loop-byte-preserved c =
     let byte = get_or rest j 0 in
     let step : (65599 * before + byte) % 2 ^ 32 ≡ (before * 65599 % 2 ^ 32 + byte) % 2 ^ 32 = omega arith in
     let value : (before * 65599 % 2 ^ 32 + byte) % 2 ^ 32 ≡ sdbm_from s (take (j + 1) rest) =
-    rw (inv.1, take_more rest j 0 c.loop-byte-test.true) (sdbm_push s (take j rest) byte) in
-    (rw c.sdbm_step-state-inside-in-loop-byte.ensures (mod-lt _ (lit< tt)), c.sdbm_step-state-inside-in-loop-byte.ensures ∙ step
-        ∙ value, inv.2)
+    rw (inv.1, take_more rest j 0 c.loop-byte-test.true) (sdbm_push s (take j rest) byte) in (
+      rw c.sdbm_step-state-inside-in-loop-byte.ensures (mod-lt _ (lit< tt)),
+      c.sdbm_step-state-inside-in-loop-byte.ensures ∙ step
+          ∙ value,
+      inv.2,
+    )
 
 pub returns-clause-state : goal.returns-clause-state
 returns-clause-state c =
@@ -45,8 +48,15 @@ returns-clause-state c =
     let s = c.state.inside.state in
     let fours : c.loop-four.four-index ≡ length bytes / 4 = omega arith in
     c.loop-byte.invariant.1
-    ∙ rw (take_all c.loop-byte.byte-index rest c.loop-byte-test.false, c.loop-four.invariant.1, sdbm-append s
-        (take (c.loop-four.four-index * 4) bytes) rest, c.as_chunks.ensures.back, fours, take-append-drop (length bytes / 4 * 4) bytes)
+    ∙ rw (
+      take_all c.loop-byte.byte-index rest c.loop-byte-test.false,
+      c.loop-four.invariant.1,
+      sdbm-append s
+          (take (c.loop-four.four-index * 4) bytes) rest,
+      c.as_chunks.ensures.back,
+      fours,
+      take-append-drop (length bytes / 4 * 4) bytes,
+    )
     (ap (λ v. sdbm_from v.state bytes) c.state.view_is)
 
 pub returns-clause-turns : goal.returns-clause-turns

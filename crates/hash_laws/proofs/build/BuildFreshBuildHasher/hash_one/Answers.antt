@@ -7,4 +7,4 @@ returns-clause-defined g c =
     let H = g.H.Piecewise in
     c.answer.ensures.value
     ∙ ap H.answer (ap H.state c.hash.ensures ∙ state_after_writes g.H.Hasher.write H.state H.after g.met.H.Piecewise.write_feeds _ _
-        (g.T.Hash.hash_input c.args.x) c.fresh-hasher.ensures.state)
+    (g.T.Hash.hash_input c.args.x) c.fresh-hasher.ensures.state)
