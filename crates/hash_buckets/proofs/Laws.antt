@@ -29,7 +29,7 @@ at_each : (t : Table) (k q : List ℕ) (v w : ℕ) → k ≢ q → (x : List ℕ
     → cond (same x q) (Some w) (cond (same x k) (Some v) (get t x)) ≡ cond (same x k) (Some v) (cond (same x q) (Some w) (get t x))
 at_each t k q v w apart x =
     elim (same x k) as (λ b. same x k ≡ b → cond (same x q) (Some w) (cond b (Some v) (get t x))
-        ≡ cond b (Some v) (cond (same x q) (Some w) (get t x))) [
+    ≡ cond b (Some v) (cond (same x q) (Some w) (get t x))) [
       | true ↦ λ e. ap (λ b. cond b (Some w) (Some v)) (not_same x q (λ is. apart (sym (same_key x k e) ∙ is)))
       | false ↦ λ e. refl
     ] refl

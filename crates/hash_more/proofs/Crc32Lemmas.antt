@@ -58,7 +58,7 @@ low_and_rest x =
     let low_low : x % 256 % 256 ≡ x % 256 = omega arith in
     let both = bit_xor (x % 256) (256 * (x / 256)) in
     let high : both / 256 ≡ x / 256 = xor_shr (x % 256) (256 * (x / 256)) 8 ∙ ap₂ bit_xor low rest ∙ xor_comm 0 (x / 256)
-        ∙ xor_zero_r (x / 256) in
+    ∙ xor_zero_r (x / 256) in
     let end : both % 256 ≡ x % 256 = xor_mod (x % 256) (256 * (x / 256)) 8 ∙ ap₂ bit_xor low_low low_rest ∙ xor_zero_r (x % 256) in
     omega (arith, high, end)
 

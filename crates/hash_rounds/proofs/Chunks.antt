@@ -29,6 +29,10 @@ first_chunks-append n zero j k a b s e =
 first_chunks-append n (suc i) j zero a b s e = absurd (omega arith)
 first_chunks-append n (suc i) j (suc k) a b s e =
     let fits : n ≤ length a = omega arith in
-    rw (take-append-le n a b fits, drop-append-le n a b fits, first_chunks-append n i j k (drop n a) b (omega arith)
-        (omega (arith, length-drop n a)))
+    rw (
+      take-append-le n a b fits,
+      drop-append-le n a b fits,
+      first_chunks-append n i j k (drop n a) b (omega arith)
+          (omega (arith, length-drop n a)),
+    )
     refl

@@ -39,8 +39,8 @@ sums-at zero from k d s fits reached within = absurd (omega (arith, reached, wit
 sums-at (suc n) from k d s fits reached within = ap (λ (t : List ℕ). slice_index t k) (sums-more from n d s) ∙ elim (cases_lt from k) [
   | inl later ↦
       sums-at n (from + 1) k d (one_sum from d s)
-          (omega (arith, fits, length-set s from (add 64 (slice_index s from) (slice_index d from)))) (omega (arith, later))
-          (omega (arith, within))
+      (omega (arith, fits, length-set s from (add 64 (slice_index s from) (slice_index d from)))) (omega (arith, later))
+      (omega (arith, within))
       ∙ ap (λ v. add 64 v (slice_index d k)) (get_or-set_other s from k _ 0 (λ (e : k ≡ from). omega (arith, e, later)))
   | inr here ↦
       let e : k ≡ from = omega (arith, reached, here) in
@@ -97,4 +97,4 @@ spooky_end-data d e s d_in e_in s_in same =
     let y = sums-in e s s_in in
     sums-same d e s s_in.0 d_in e_in
     (apply-same 64 [] (AreWords-from 64 [] (no_words 64)) thrice _ _ (y.0 ∙ sym x.0) (rw x.0 thrice-steps) x.1 y.1
-        (end-is d s ∙ same ∙ sym (end-is e s)))
+    (end-is d s ∙ same ∙ sym (end-is e s)))

@@ -73,13 +73,13 @@ module _ (a b c p n r : ℕ) (s : List ℕ) (v : ℕ) (len : length s ≡ 12) (a
   unfolding five
   five-kept k ka kb kp =
       get_or-set_other s4 p k _ 0 kp ∙ get_or-set_other s3 a k _ 0 ka ∙ get_or-set_other s2 p k _ 0 kp ∙ get_or-set_other s1 b k _ 0 kb
-          ∙ get_or-set_other s a k _ 0 ka
+      ∙ get_or-set_other s a k _ 0 ka
 
   five-xor : slice_index (five a b c p n r s v) b ≡ bit_xor (slice_index s b) (slice_index s c)
   unfolding five
   five-xor =
       get_or-set_other s4 p b _ 0 bp ∙ get_or-set_other s3 a b _ 0 ba ∙ get_or-set_other s2 p b _ 0 bp
-          ∙ get_or-set_same s1 b _ 0 (omega (arith, len1, b_in))
+      ∙ get_or-set_same s1 b _ 0 (omega (arith, len1, b_in))
       ∙ ap₂ bit_xor (get_or-set_other s a b _ 0 ba) (get_or-set_other s a c _ 0 ca)
 
   -- where the data shows
@@ -87,13 +87,13 @@ module _ (a b c p n r : ℕ) (s : List ℕ) (v : ℕ) (len : length s ≡ 12) (a
   unfolding five
   five-shows =
       let data_in : slice_index s2 a ≡ add 64 (slice_index s a) v = get_or-set_other s1 b a _ 0 ab
-          ∙ get_or-set_same s a _ 0 (omega (arith, len, a_in)) in
+      ∙ get_or-set_same s a _ 0 (omega (arith, len, a_in)) in
       let before : slice_index s2 p ≡ slice_index s p = get_or-set_other s1 b p _ 0 pb ∙ get_or-set_other s a p _ 0 pa in
       let next : slice_index s4 n ≡ slice_index s n = get_or-set_other s3 a n _ 0 na ∙ get_or-set_other s2 p n _ 0 np
-          ∙ get_or-set_other s1 b n _ 0 nb ∙ get_or-set_other s a n _ 0 na in
+      ∙ get_or-set_other s1 b n _ 0 nb ∙ get_or-set_other s a n _ 0 na in
       get_or-set_same s4 p _ 0 (omega (arith, len4, p_in))
       ∙ ap₂ (add 64) (get_or-set_other s3 a p _ 0 pa ∙ get_or-set_same s2 p _ 0 (omega (arith, len2, p_in))
-          ∙ ap₂ bit_xor before data_in) next
+      ∙ ap₂ bit_xor before data_in) next
 
 -- ---- row j of a run, where the rows of the table come again and again
 
@@ -134,7 +134,7 @@ module _ (i : ℕ) (i_in : i < 12) where
   unfolding row_at
   row_at-steps s v =
       row-is i (turn_of i) (replicate 12 v) s
-          ∙ ap (λ x. five i ((i + 2) % 12) ((i + 10) % 12) ((i + 11) % 12) ((i + 1) % 12) (turn_of i) s x) (get_or-replicate 12 i v 0 i_in)
+      ∙ ap (λ x. five i ((i + 2) % 12) ((i + 10) % 12) ((i + 11) % 12) ((i + 1) % 12) (turn_of i) s x) (get_or-replicate 12 i v 0 i_in)
 
   row_at-in : (s : List ℕ) (v : ℕ) → AreTwelve s → AreTwelve (row_at i s v)
   row_at-in s v s_in =
@@ -153,14 +153,14 @@ module _ (i : ℕ) (i_in : i < 12) where
     row_at-kept =
         five-kept i ((i + 2) % 12) ((i + 10) % 12) ((i + 11) % 12) ((i + 1) % 12) (turn_of i) s v len i_in (omega arith) (omega arith)
         (λ e. omega (arith, e)) (λ e. omega (arith, e)) (λ e. omega (arith, e)) (λ e. omega (arith, e)) (λ e. omega (arith, e))
-            (λ e. omega (arith, e)) (λ e. omega (arith, e))
+        (λ e. omega (arith, e)) (λ e. omega (arith, e))
 
     row_at-xor : slice_index (row_at i s v) ((i + 2) % 12) ≡ bit_xor (slice_index s ((i + 2) % 12)) (slice_index s ((i + 10) % 12))
     unfolding row_at
     row_at-xor =
         five-xor i ((i + 2) % 12) ((i + 10) % 12) ((i + 11) % 12) ((i + 1) % 12) (turn_of i) s v len i_in (omega arith) (omega arith)
         (λ e. omega (arith, e)) (λ e. omega (arith, e)) (λ e. omega (arith, e)) (λ e. omega (arith, e)) (λ e. omega (arith, e))
-            (λ e. omega (arith, e)) (λ e. omega (arith, e))
+        (λ e. omega (arith, e)) (λ e. omega (arith, e))
 
     row_at-shows : slice_index (row_at i s v) ((i + 11) % 12)
         ≡ add 64 (bit_xor (slice_index s ((i + 11) % 12)) (add 64 (slice_index s i) v)) (slice_index s ((i + 1) % 12))
@@ -168,7 +168,7 @@ module _ (i : ℕ) (i_in : i < 12) where
     row_at-shows =
         five-shows i ((i + 2) % 12) ((i + 10) % 12) ((i + 11) % 12) ((i + 1) % 12) (turn_of i) s v len i_in (omega arith) (omega arith)
         (λ e. omega (arith, e)) (λ e. omega (arith, e)) (λ e. omega (arith, e)) (λ e. omega (arith, e)) (λ e. omega (arith, e))
-            (λ e. omega (arith, e)) (λ e. omega (arith, e))
+        (λ e. omega (arith, e)) (λ e. omega (arith, e))
 
 in_row : (j : ℕ) → j % 12 < 12
 in_row j = omega arith
@@ -190,7 +190,7 @@ row-shows j s v w s_in v_in w_in same =
     let y = add 64 (slice_index s i) w in
     let sums = sym (row_at-shows i (in_row j) s v s_in.0) ∙ same ∙ row_at-shows i (in_row j) s w s_in.0 in
     let xors = word-same (bit_xor old x) (bit_xor old y) (slice_index s ((i + 1) % 12))
-        (xor_lt 64 old x old_in (mod_below _ (2 ^ 64) (pow_pos 64))) (xor_lt 64 old y old_in (mod_below _ (2 ^ 64) (pow_pos 64))) sums in
+    (xor_lt 64 old x old_in (mod_below _ (2 ^ 64) (pow_pos 64))) (xor_lt 64 old y old_in (mod_below _ (2 ^ 64) (pow_pos 64))) sums in
     added-same (slice_index s i) v w v_in w_in (xor_cancel_left old x y xors)
 
 -- ---- a run of rows
@@ -269,7 +269,7 @@ module _ (j : ℕ) where
   before_ninth s t v w s_in t_in at_p at_q =
       let misses = q-stays (j + 9) (omega arith) (omega arith) in
       let same_q : slice_index s q ≡ slice_index t q = sym (row-kept (j + 9) s v q s_in.0 misses) ∙ at_q
-          ∙ row-kept (j + 9) t w q t_in.0 misses in
+      ∙ row-kept (j + 9) t w q t_in.0 misses in
       xor_cancel _ _ (slice_index t q)
       (ap (bit_xor (slice_index s p)) (sym same_q) ∙ sym (ninth s v s_in.0) ∙ at_p ∙ ninth t w t_in.0)
 
@@ -306,7 +306,7 @@ module _ (j : ℕ) where
     before_ten ws vs few len same = elim (cases_lt (length ws) 9) [
       | inl short ↦
           sym (kept8 ws x x_in (omega (arith, short))) ∙ ap (λ (u : List ℕ). slice_index u p) same
-              ∙ kept8 vs y y_in (omega (arith, short, len))
+          ∙ kept8 vs y y_in (omega (arith, short, len))
       | inr long ↦
           let x_len : length (take 8 ws) ≡ 8 = length-take-le 8 ws (omega (arith, long)) in
           let y_len : length (take 8 vs) ≡ 8 = length-take-le 8 vs (omega (arith, long, len)) in
@@ -314,12 +314,12 @@ module _ (j : ℕ) where
           let y_at : suc j + length (take 8 vs) ≡ j + 9 = omega (arith, y_len) in
           let x_cut : run (suc j) x ws ≡ run (j + 9) (run (suc j) x (take 8 ws)) (drop 8 ws) =
           ap (run (suc j) x) (sym (take-append-drop 8 ws)) ∙ run-append (take 8 ws) (drop 8 ws) (suc j) x
-              ∙ ap (λ i. run i (run (suc j) x (take 8 ws)) (drop 8 ws)) x_at in
+          ∙ ap (λ i. run i (run (suc j) x (take 8 ws)) (drop 8 ws)) x_at in
           let y_cut : run (suc j) y vs ≡ run (j + 9) (run (suc j) y (take 8 vs)) (drop 8 vs) =
           ap (run (suc j) y) (sym (take-append-drop 8 vs)) ∙ run-append (take 8 vs) (drop 8 vs) (suc j) y
-              ∙ ap (λ i. run i (run (suc j) y (take 8 vs)) (drop 8 vs)) y_at in
+          ∙ ap (λ i. run i (run (suc j) y (take 8 vs)) (drop 8 vs)) y_at in
           let at = before_two (drop 8 ws) (drop 8 vs) _ _ (omega (arith, few, length-drop 8 ws))
-              (omega (arith, len, length-drop 8 ws, length-drop 8 vs))
+          (omega (arith, len, length-drop 8 ws, length-drop 8 vs))
           (run-in (take 8 ws) (suc j) x x_in) (run-in (take 8 vs) (suc j) y y_in) (sym x_cut ∙ same ∙ y_cut) in
           sym (kept8 (take 8 ws) x x_in (omega (arith, x_len))) ∙ at ∙ kept8 (take 8 vs) y y_in (omega (arith, y_len))
     ]
@@ -359,14 +359,14 @@ run-window (v ∷ ws) (w ∷ vs) j from s s_in words others len agree same =
           ext_get_or 0 _ _ (omega (arith, tails, length-drop 10 ws, length-drop 10 vs)) (λ u _.
           get_or-drop 10 ws u 0 ∙ agree (suc (10 + u)) (inr (omega (arith, reached))) ∙ sym (get_or-drop 10 vs u 0)) in
           first-same j s v w ws vs s_in (All-head IsWord v ws words) (All-head IsWord w vs others) (All-tail IsWord v ws words)
-              tails later same
+          tails later same
     ] in
     let led : run (suc j) (row j s v) ws ≡ run (suc j) (row j s v) vs = same ∙ ap (λ x. run (suc j) (row j s x) vs) (sym first) in
     let rest : (u : ℕ) → (suc j + u < from) ⊎ (from + 11 ≤ suc j + u) → slice_index ws u ≡ slice_index vs u = λ u out.
     agree (suc u) (elim out [ inl a ↦ inl (omega (arith, a)) | inr b ↦ inr (omega (arith, b)) ]) in
     ap₂ (λ (x : ℕ) (us : List ℕ). x ∷ us) first
     (run-window ws vs (suc j) from (row j s v) (row-in j s v s_in) (All-tail IsWord v ws words) (All-tail IsWord w vs others)
-        tails rest led)
+    tails rest led)
 
 -- ---- blocks as a run
 
@@ -387,7 +387,7 @@ mix-rows : (d s : List ℕ) → apply 64 spooky_mix_steps d s ≡ fold (by_table
 unfolding spooky_mix_steps
 mix-rows d s =
     apply_rows 64 spooky_mix_row spooky_mix_rows d s ∙ fold-alike (λ t r. apply 64 (spooky_mix_row r) d t) (by_table d) (rows-are d)
-        spooky_mix_rows s
+    spooky_mix_rows s
 
 twelve-rows : (c s : List ℕ) → fold (by_table (words_of 12 c)) s spooky_mix_rows ≡ run 0 s (words_of 12 c)
 unfolding row_at
@@ -408,13 +408,13 @@ blocks-run (suc k) x s fits =
     let c_len : length c ≡ 96 = length-take-le 96 x (omega (arith, fits)) in
     let cut : first_chunks 8 (12 * suc k) x ≡ first_chunks 8 12 c ++ first_chunks 8 (12 * k) rest =
     ap (first_chunks 8 (12 * suc k)) (sym (take-append-drop 96 x))
-        ∙ first_chunks-append 8 12 (12 * k) (12 * suc k) c rest (omega arith) (omega (arith, c_len)) in
+    ∙ first_chunks-append 8 12 (12 * k) (12 * suc k) c rest (omega arith) (omega (arith, c_len)) in
     let all : words_of (12 * suc k) x ≡ words_of 12 c ++ words_of (12 * k) rest = ap (map le) cut
-        ∙ map-append le (first_chunks 8 12 c) (first_chunks 8 (12 * k) rest) in
+    ∙ map-append le (first_chunks 8 12 c) (first_chunks 8 (12 * k) rest) in
     blocks-run k rest (mix_block s c) (omega (arith, fits, length-drop 96 x))
     ∙ ap (λ t. run 0 t (words_of (12 * k) rest)) (mix_block-run c s c_len)
     ∙ sym (ap (run 0 s) all ∙ run-append (words_of 12 c) (words_of (12 * k) rest) 0 s
-        ∙ run-again (words_of (12 * k) rest) 0 (run 0 s (words_of 12 c)))
+    ∙ run-again (words_of (12 * k) rest) 0 (run 0 s (words_of 12 c)))
 
 pub length-words_of : (n : ℕ) (x : List ℕ) → length (map le (first_chunks 8 n x)) ≡ n
 length-words_of zero x = refl
@@ -435,7 +435,7 @@ word-agree n u x y len agree = elim (cases_lt u n) [
       let parts : take 8 (drop (u * 8) x) ≡ take 8 (drop (u * 8) y) = part-same 8 (u * 8) x y len agree in
       let at : (z : List ℕ) → slice_index (words_of n z) u ≡ le (take 8 (drop (u * 8) z)) = λ z.
       get_or-map le (first_chunks 8 n z) u [] 0 (omega (arith, within, length-first_chunks 8 n z))
-          ∙ ap le (get_or-first_chunks 8 n u z [] within) in
+      ∙ ap le (get_or-first_chunks 8 n u z [] within) in
       at x ∙ ap le parts ∙ sym (at y)
   | inr past ↦
       let none : (z : List ℕ) → slice_index (words_of n z) u ≡ 0 = λ z.
@@ -450,10 +450,10 @@ pub blocks-window : (k from : ℕ) (x y s : List ℕ) → AreTwelve s → AreByt
 blocks-window k from x y s s_in xs ys len fits agree rest same =
     let n = 12 * k in
     let words = run-window (words_of n x) (words_of n y) 0 from s s_in (words_of-fit n x xs (omega (arith, fits)))
-        (words_of-fit n y ys (omega (arith, fits, len)))
+    (words_of-fit n y ys (omega (arith, fits, len)))
     (length-words_of n x ∙ sym (length-words_of n y))
     (λ u out. word-agree n u x y len (λ i i_in. agree (u * 8 + i)
-        (elim out [ inl a ↦ inl (omega (arith, a, i_in)) | inr b ↦ inr (omega (arith, b, i_in)) ])))
+    (elim out [ inl a ↦ inl (omega (arith, a, i_in)) | inr b ↦ inr (omega (arith, b, i_in)) ])))
     (sym (blocks-run k x s fits) ∙ same ∙ blocks-run k y s (omega (arith, fits, len))) in
     let places : n * 8 ≡ k * 96 = omega arith in
     first_chunks-same 8 n x y (words-same 8 n x y xs ys len words) (rw places rest)

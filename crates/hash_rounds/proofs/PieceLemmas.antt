@@ -50,14 +50,14 @@ part-same n from x y len agree =
     ext_get_or 0 _ _ long (λ i i_in.
     let within : i < n = omega (arith, i_in, length-take n (drop from x)) in
     get_or-take n (drop from x) i 0 within ∙ get_or-drop from x i 0 ∙ agree i within
-        ∙ sym (get_or-take n (drop from y) i 0 within ∙ get_or-drop from y i 0))
+    ∙ sym (get_or-take n (drop from y) i 0 within ∙ get_or-drop from y i 0))
 
 -- texts that agree from a place on
 pub rest-same : (from : ℕ) (x y : List ℕ) → length x ≡ length y → ((i : ℕ) → slice_index x (from + i) ≡ slice_index y (from + i))
     → drop from x ≡ drop from y
 rest-same from x y len agree =
     ext_get_or 0 _ _ (omega (arith, len, length-drop from x, length-drop from y))
-        (λ i _. get_or-drop from x i 0 ∙ agree i ∙ sym (get_or-drop from y i 0))
+    (λ i _. get_or-drop from x i 0 ∙ agree i ∙ sym (get_or-drop from y i 0))
 
 pub length-first_chunks : {X : Type 0} (n k : ℕ) (xs : List X) → length (first_chunks n k xs) ≡ k
 length-first_chunks n zero xs = refl
@@ -73,7 +73,7 @@ first_chunks-same n (suc k) x y same rest =
     let left : drop (k * n) (drop n x) ≡ drop (k * n) (drop n y) =
     drop-drop (k * n) n x ∙ ap (λ m. drop m x) (sym places) ∙ rest ∙ ap (λ m. drop m y) places ∙ sym (drop-drop (k * n) n y) in
     sym (take-append-drop n x) ∙ ap₂ (λ (a b : List ℕ). a ++ b) first (first_chunks-same n k (drop n x) (drop n y) others left)
-        ∙ take-append-drop n y
+    ∙ take-append-drop n y
 
 -- a whole piece of bytes
 abbrev pub IsPiece : ℕ → List ℕ → Type 0
@@ -98,7 +98,7 @@ words-same n (suc k) x y xs ys len same =
     let long : length (take n x) ≡ length (take n y) = length-take n x ∙ ap (λ m. min n m) len ∙ sym (length-take n y) in
     ap₂ (λ (c : List ℕ) (cs : List (List ℕ)). c ∷ cs) (le-same _ _ (All-take IsByte n x xs) (All-take IsByte n y ys) long value)
     (words-same n k (drop n x) (drop n y) (All-drop IsByte n x xs) (All-drop IsByte n y ys)
-        (omega (arith, len, length-drop n x, length-drop n y)) others)
+    (omega (arith, len, length-drop n x, length-drop n y)) others)
 
 no_rest : (n : ℕ) (x : List ℕ) → length x ≡ n → drop n x ≡ []
 no_rest n x len = drop_all n x (omega (arith, len))
@@ -146,14 +146,14 @@ module _ {S : Type 0} (in_range : S → Type 0) (is_piece : List ℕ → Type 0)
         let led : fold f (f s c) cs ≡ fold f (f s c) es = same ∙ ap (λ (d : List ℕ). fold f (f s d) es) (sym first) in
         ap₂ (λ (a : List ℕ) (b : List (List ℕ)). a ∷ b) first
         (fold-one g cs es (f s c) (kept s c s_in (All-head is_piece c cs are)) (All-tail is_piece c cs are) (All-tail is_piece e es be)
-            (omega (arith, len))
+        (omega (arith, len))
         (λ i other. agree (suc i) (λ (z : suc i ≡ suc g). other (omega (arith, z)))) (λ g_in. like (omega arith)) led)
 
     -- the same of texts, where `end` takes the state after the whole pieces and what is left behind them
     module _ {E : Type 0} (n : ℕ) (end : S → List ℕ → E) (whole : (c : List ℕ) → IsPiece n c → is_piece c)
         (end_state : (s t : S) (r : List ℕ) → in_range s → in_range t → AreBytes r → length r < n → end s r ≡ end t r → s ≡ t)
         (end_rest : (s : S) (q r : List ℕ) → in_range s → AreBytes q → AreBytes r → length q < n → length q ≡ length r → end s q ≡ end s r
-            → q ≡ r) where
+        → q ≡ r) where
       module _ (k g : ℕ) (x y : List ℕ) (s : S) (s_in : in_range s) (xs : AreBytes x) (ys : AreBytes y) (len : length x ≡ length y)
           (fits : k * n ≤ length x) (left : length x < k * n + n)
           (agree : (i : ℕ) → i < k → i ≢ g → take n (drop (i * n) x) ≡ take n (drop (i * n) y))
@@ -194,15 +194,15 @@ module _ {S : Type 0} (in_range : S → Type 0) (is_piece : List ℕ → Type 0)
               rw (get_or-first_chunks n k g x [] in_piece, get_or-first_chunks n k g y [] in_piece) (like in_piece) in
               first_chunks-same n k x y
               (fold-one g (first_chunks n k x) (first_chunks n k y) s s_in (all_whole x xs fits) (all_whole y ys y_fits)
-                  (count x ∙ sym (count y)) anywhere (λ _. two) states)
+              (count x ∙ sym (count y)) anywhere (λ _. two) states)
               (rest in_piece)
           | inr past ↦
               let chunks : first_chunks n k x ≡ first_chunks n k y =
               ext_get_or [] _ _ (count x ∙ sym (count y)) (λ i i_in. let below : i
-                  < k = omega (arith, i_in, count x) in at i below (λ (e : i ≡ g). omega (arith, e, below, past))) in
+              < k = omega (arith, i_in, count x) in at i below (λ (e : i ≡ g). omega (arith, e, below, past))) in
               let led = same ∙ ap (λ (cs : List (List ℕ)). end (fold f s cs) (drop (k * n) y)) (sym chunks) in
               let long : length (drop (k * n) x) ≡ length (drop (k * n) y)
-                  = omega (arith, len, length-drop (k * n) x, length-drop (k * n) y) in
+              = omega (arith, len, length-drop (k * n) x, length-drop (k * n) y) in
               first_chunks-same n k x y chunks
               (end_rest _ _ _ (end_in x xs fits) (All-drop IsByte (k * n) x xs) (All-drop IsByte (k * n) y ys) few long led)
         ]

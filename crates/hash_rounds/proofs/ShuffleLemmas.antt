@@ -74,7 +74,7 @@ module _ (x mask k : ℕ) (apart : bit_and mask (mask * 2 ^ k) ≡ 0) where
       ≡ ((bit_at x j + min ((bit_at x j + bit_at x (j + k)) % 2) (bit_at mask j)) % 2 + bit_at (moved * 2 ^ k) j) % 2
   parts j j_in =
       rw (bit_at_xor (bit_xor x moved) (moved * 2 ^ k % 2 ^ 64) j, bit_at_xor x moved j, moved_at j, bit_at-low (moved * 2 ^ k) 64 j j_in)
-          refl
+      refl
 
   exchange_below : (j : ℕ) → j < 64 → j < k → bit_at (bit_xor (bit_xor x moved) (moved * 2 ^ k % 2 ^ 64)) j ≡ bit_at x (exchanged mask k j)
   exchange_below j j_in below =
@@ -120,7 +120,7 @@ module _ (x mask k : ℕ) (apart : bit_and mask (mask * 2 ^ k) ≡ 0) where
 
   pub bit_at-exchange : (j : ℕ) → j < 64
       → bit_at (bit_xor (bit_xor x (bit_and (bit_xor x (x / 2 ^ k)) mask)) (bit_and (bit_xor x (x / 2 ^ k)) mask * 2 ^ k % 2 ^ 64)) j
-          ≡ bit_at x (exchanged mask k j)
+      ≡ bit_at x (exchanged mask k j)
   unfolding moved
   bit_at-exchange j j_in = elim (cases_lt j k) [
     | inl below ↦ exchange_below j j_in below
@@ -262,10 +262,10 @@ pub unshuffle-shuffle : (x : ℕ) → x < 2 ^ 64 → unshuffle (shuffle x) ≡ x
 unshuffle-shuffle x x_in =
     sym (is_from_bits (λ j. bit_at (shuffle x) (shuffle_to j)) 64 x (λ j. bit_at-lt (shuffle x) (shuffle_to j)) x_in (λ j j_in.
     sym (bit_at-from_bits (λ i. bit_at x (shuffle_from i)) (λ i. bit_at-lt x (shuffle_from i)) 64 (shuffle_to j) (shuffle_to-lt j j_in)
-        ∙ ap (bit_at x) (from_to j j_in))))
+    ∙ ap (bit_at x) (from_to j j_in))))
 
 pub shuffle-unshuffle : (x : ℕ) → x < 2 ^ 64 → shuffle (unshuffle x) ≡ x
 shuffle-unshuffle x x_in =
     sym (is_from_bits (λ j. bit_at (unshuffle x) (shuffle_from j)) 64 x (λ j. bit_at-lt (unshuffle x) (shuffle_from j)) x_in (λ j j_in.
     sym (bit_at-from_bits (λ i. bit_at x (shuffle_to i)) (λ i. bit_at-lt x (shuffle_to i)) 64 (shuffle_from j) (shuffle_from-lt j j_in)
-        ∙ ap (bit_at x) (to_from j j_in))))
+    ∙ ap (bit_at x) (to_from j j_in))))

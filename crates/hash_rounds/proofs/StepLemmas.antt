@@ -127,23 +127,23 @@ module _ (w : ℕ) (d s : List ℕ) (s_in : AreWords w s) where
       let parts = and_parts (are_apart (length s) x y) (is_turn w k) h in
       let turn = turn_facts w k parts.1 in
       back x y (λ a b. add w a (rotl w b k)) (λ a b. sub w a (rotl w b k)) parts.0
-          (λ a b a_in b_in. sub-add w a _ a_in (rotl-lt w b k (omega arith) b_in))
+      (λ a b a_in b_in. sub-add w a _ a_in (rotl-lt w b k (omega arith) b_in))
   step_back d_in (SubRotated x y k) h =
       let parts = and_parts (are_apart (length s) x y) (is_turn w k) h in
       let turn = turn_facts w k parts.1 in
       back x y (λ a b. sub w a (rotl w b k)) (λ a b. add w a (rotl w b k)) parts.0
-          (λ a b a_in b_in. add-sub w a _ a_in (rotl-lt w b k (omega arith) b_in))
+      (λ a b a_in b_in. add-sub w a _ a_in (rotl-lt w b k (omega arith) b_in))
   step_back d_in (XorRotated x y k) h =
       back x y (λ a b. bit_xor a (rotl w b k)) (λ a b. bit_xor a (rotl w b k)) (and_parts (are_apart (length s) x y) (is_turn w k) h).0
-          (λ a b _ _. xor_twice a (rotl w b k))
+      (λ a b _ _. xor_twice a (rotl w b k))
   step_back d_in (AddData x i) h =
       let parts = and_parts (nat_lt x (length s)) (nat_lt i (length d)) h in
       back_alone x (λ a. add w a (slice_index d i)) (λ a. sub w a (slice_index d i)) (grind (arith, nat_tests))
-          (λ a a_in. sub-add w a _ a_in (d_in i 0 (grind (arith, nat_tests))))
+      (λ a a_in. sub-add w a _ a_in (d_in i 0 (grind (arith, nat_tests))))
   step_back d_in (SubData x i) h =
       let parts = and_parts (nat_lt x (length s)) (nat_lt i (length d)) h in
       back_alone x (λ a. sub w a (slice_index d i)) (λ a. add w a (slice_index d i)) (grind (arith, nat_tests))
-          (λ a a_in. add-sub w a _ a_in (d_in i 0 (grind (arith, nat_tests))))
+      (λ a a_in. add-sub w a _ a_in (d_in i 0 (grind (arith, nat_tests))))
 
   put : (x v : ℕ) → v < 2 ^ w → AreWords w (slice_set s x v)
   put x v v_in = All-set (λ a. a < 2 ^ w) s x v v_in s_in
@@ -212,8 +212,13 @@ module _ (w n m : ℕ) where
   undo-undo [] h = rw (undo-nil w, undo-nil w) refl
   undo-undo (t ∷ ts) h =
       let parts = and_parts (is_step w n m t) (list_all (is_step w n m) ts) h in
-      rw (undo-cons w t ts, undo-append w (undo w ts) (opposite w t ∷ []), undo-one w (opposite w t), opposite-opposite w n m t parts.0,
-          undo-undo ts parts.1) refl
+      rw (
+        undo-cons w t ts,
+        undo-append w (undo w ts) (opposite w t ∷ []),
+        undo-one w (opposite w t),
+        opposite-opposite w n m t parts.0,
+        undo-undo ts parts.1,
+      ) refl
 
 -- the steps after the opposites
 pub undo_apply : (w : ℕ) (d : List ℕ) → AreWords w d → (ts : List Step) (s : List ℕ) → AreSteps w (length s) (length d) ts → AreWords w s
@@ -236,8 +241,14 @@ pub undo_rows : {R : Type 0} (w : ℕ) (row : R → List Step) (rows : List R) (
     → apply w (undo w (flat_map row rows)) d s ≡ fold (λ s' r. apply w (undo w (row r)) d s') s (reverse rows)
 undo_rows w row [] d s = rw (undo-nil w, apply-nil w d s) refl
 undo_rows w row (r ∷ rows) d s =
-    rw (undo-append w (row r) (flat_map row rows), apply-append w (undo w (flat_map row rows)) (undo w (row r)) d s, undo_rows w row rows
-        d s, reverse-append (r ∷ []) rows, fold-append _ s (reverse rows) (r ∷ [])) refl
+    rw (
+      undo-append w (row r) (flat_map row rows),
+      apply-append w (undo w (flat_map row rows)) (undo w (row r)) d s,
+      undo_rows w row rows
+          d s,
+      reverse-append (r ∷ []) rows,
+      fold-append _ s (reverse rows) (r ∷ []),
+    ) refl
 
 -- ---- steps that read no data
 

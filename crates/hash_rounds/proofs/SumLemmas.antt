@@ -58,7 +58,7 @@ module _ (x m : ℕ) where
   number_push : (s : ℕ) (t : List ℕ) (b : ℕ) → (number s t * x % m + b) % m ≡ number s (t ++ b ∷ [])
   number_push s t b =
       mod-add-mod (number s t * x) m b ∙ ap (λ n. (n + b) % m) (mul_comm (number s t) x) ∙ sym (number-one (number s t) b)
-          ∙ number-append s t (b ∷ [])
+      ∙ number-append s t (b ∷ [])
 
   number-fold : (s : ℕ) (t : List ℕ) → s < m → number s t ≡ fold (λ h b. (x * h + b) % m) s t
   number-fold s [] s_in = number-nil s s_in
@@ -102,7 +102,7 @@ sdbm-fold = number-fold 65599 (2 ^ 32)
 -- four bytes at once, in lanes, the powers of 65599 taken mod 2^32
 pub sdbm_of_four : (h : ℕ) (t : List ℕ) → length t ≡ 4 →
     (h * 1139564289 % 2 ^ 32 + fold_l (λ a x. (a + x) % 2 ^ 32) 0
-        (zip2 (λ x y. x * y % 2 ^ 32) (map (λ x. x) t) (780587199 ∷ 8261505 ∷ 65599 ∷ 1 ∷ []))) % 2 ^ 32
+    (zip2 (λ x y. x * y % 2 ^ 32) (map (λ x. x) t) (780587199 ∷ 8261505 ∷ 65599 ∷ 1 ∷ []))) % 2 ^ 32
     ≡ sdbm_from h t
 unfolding sdbm_from
 sdbm_of_four h [] n = absurd (omega arith)
@@ -111,8 +111,8 @@ sdbm_of_four h (a ∷ b ∷ []) n = absurd (omega arith)
 sdbm_of_four h (a ∷ b ∷ c ∷ []) n = absurd (omega arith)
 sdbm_of_four h (a ∷ b ∷ c ∷ d ∷ []) n =
     let whole : h * 65599 ^ 4 + digit_sum 65599 (a ∷ b ∷ c ∷ d ∷ [])
-        ≡ (h * 1139564289 + (0 + a * 780587199 + b * 8261505 + c * 65599 + d * 1)) + 2 ^ 32 * (h * 4311506197 + a * 65725 + b)
-        = omega arith in
+    ≡ (h * 1139564289 + (0 + a * 780587199 + b * 8261505 + c * 65599 + d * 1)) + 2 ^ 32 * (h * 4311506197 + a * 65725 + b)
+    = omega arith in
     simp (mod-add-mod, add-mod-mod) (sym (ap (λ n. n % 2 ^ 32) whole ∙ add-mul-mod_self_left _ _ _))
 sdbm_of_four h (a ∷ b ∷ c ∷ d ∷ e ∷ xs) n = absurd (omega arith)
 
@@ -177,4 +177,4 @@ passthrough_of_last s t n bytes =
     let last = drop front t in
     sym (ap (passthrough_from s) (take-append-drop front t)) ∙ sym (passthrough-append s (take front t) last)
     ∙ passthrough_of_eight (passthrough_from s (take front t)) last (omega (arith, length-drop front t))
-        (All-drop (λ b. b < 256) front t bytes)
+    (All-drop (λ b. b < 256) front t bytes)

@@ -17,7 +17,7 @@ module _ (m x y : ℕ) (x_in : x < m) (y_in : y < m) where
         let a : (x + y) % m ≡ x + y = mod-eq_of_lt small in
         let b : x + y + (m - y) ≡ x + m = omega arith in
         rw (a, b) (mod-eq-sub-mod {n = x + m} {m = m} (omega arith) ∙ ap (λ n. n % m) (let e : x + m - m ≡ x = omega arith in e)
-            ∙ mod-eq_of_lt x_in)
+        ∙ mod-eq_of_lt x_in)
     | inr large ↦
         let a : (x + y) % m ≡ x + y - m = mod-eq-sub-mod large ∙ mod-eq_of_lt (omega arith) in
         let b : x + y - m + (m - y) ≡ x = omega arith in
@@ -30,7 +30,7 @@ module _ (m x y : ℕ) (x_in : x < m) (y_in : y < m) where
         let a : (x + (m - y)) % m ≡ x + (m - y) = mod-eq_of_lt (omega arith) in
         let b : x + (m - y) + y ≡ x + m = omega arith in
         rw (a, b) (mod-eq-sub-mod {n = x + m} {m = m} (omega arith) ∙ ap (λ n. n % m) (let e : x + m - m ≡ x = omega arith in e)
-            ∙ mod-eq_of_lt x_in)
+        ∙ mod-eq_of_lt x_in)
     | inr above ↦
         let a : (x + (m - y)) % m ≡ x + (m - y) - m = mod-eq-sub-mod {n = x + (m - y)} {m = m} (omega arith) ∙ mod-eq_of_lt (omega arith) in
         let b : x + (m - y) - m + y ≡ x = omega arith in
@@ -70,13 +70,18 @@ module _ (j k x : ℕ) (x_in : x < 2 ^ (j + k)) where
 
   rotl_back : rotl (j + k) (rotl (j + k) x k) j ≡ x
   rotl_back =
-      rw (rotl_split j k x, add_comm j k, rotl_split k j (x % 2 ^ j * 2 ^ k + x / 2 ^ j), mod_low (x % 2 ^ j) k (x / 2 ^ j) high_in,
-          shr_high (x % 2 ^ j) k (x / 2 ^ j) high_in) (shr_split x j)
+      rw (
+        rotl_split j k x,
+        add_comm j k,
+        rotl_split k j (x % 2 ^ j * 2 ^ k + x / 2 ^ j),
+        mod_low (x % 2 ^ j) k (x / 2 ^ j) high_in,
+        shr_high (x % 2 ^ j) k (x / 2 ^ j) high_in,
+      ) (shr_split x j)
 
   rotl_joined : bit_or (x * 2 ^ k % 2 ^ (j + k)) (x / 2 ^ j) ≡ rotl (j + k) x k
   rotl_joined =
       rw (rotl_split j k x, mod-pow-add (x * 2 ^ k) j k, shl-shr x k, mul-mod_left x (2 ^ k), add-zero)
-          (or_shifted (x % 2 ^ j) k (x / 2 ^ j) high_in)
+      (or_shifted (x % 2 ^ j) k (x / 2 ^ j) high_in)
 
 module _ (w x k : ℕ) (within : k ≤ w) (x_in : x < 2 ^ w) where
   parts_of : w - k + k ≡ w

@@ -16,13 +16,26 @@ xor_left a b = rw (← xor_assoc a a b, xor_self a) (xor_zero_l b)
 xorshift-twice : (x k : ℕ) → xorshift (xorshift x k) k ≡ xorshift x (2 * k)
 xorshift-twice x k =
     let double : k + k ≡ 2 * k = omega arith in
-    rw (xor_shr x (x / 2 ^ k) k, xor_assoc x (x / 2 ^ k) (bit_xor (x / 2 ^ k) (x / 2 ^ k / 2 ^ k)), xor_left (x / 2 ^ k)
-        (x / 2 ^ k / 2 ^ k), shr-shr x k k, double) refl
+    rw (
+      xor_shr x (x / 2 ^ k) k,
+      xor_assoc x (x / 2 ^ k) (bit_xor (x / 2 ^ k) (x / 2 ^ k / 2 ^ k)),
+      xor_left (x / 2 ^ k)
+          (x / 2 ^ k / 2 ^ k),
+      shr-shr x k k,
+      double,
+    ) refl
 
 xorshift-swap : (x j k : ℕ) → xorshift (xorshift x j) k ≡ xorshift (xorshift x k) j
 xorshift-swap x j k =
-    rw (xor_shr x (x / 2 ^ j) k, xor_shr x (x / 2 ^ k) j, xor_swap x (x / 2 ^ j) (x / 2 ^ k) (x / 2 ^ j / 2 ^ k), shr-shr x j k, shr-shr x
-        k j, add_comm j k) refl
+    rw (
+      xor_shr x (x / 2 ^ j) k,
+      xor_shr x (x / 2 ^ k) j,
+      xor_swap x (x / 2 ^ j) (x / 2 ^ k) (x / 2 ^ j / 2 ^ k),
+      shr-shr x j k,
+      shr-shr x
+          k j,
+      add_comm j k,
+    ) refl
 
 pub xorshift-past : (x k : ℕ) → x < 2 ^ 64 → 64 ≤ k → xorshift x k ≡ x
 xorshift-past x k x_in past =

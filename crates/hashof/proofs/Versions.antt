@@ -11,4 +11,4 @@ use Rattle.hash_names.specs.Named.{pieced}
 pub position_of_pieces : (text : List ℕ) → IsText text → pieced after (position 0 0 []) (λ s. s) text ≡ position 0 0 text
 position_of_pieces text bytes =
     fold-cut IsPosition after IsPosition-after after-nil after-append 4096 (position 0 0 []) text (lit< tt) (IsPosition-fresh) bytes
-        ∙ after-position 0 0 [] text
+    ∙ after-position 0 0 [] text

@@ -8,4 +8,4 @@ returns-in-Ok g c = λ text left.
     let fresh = c.fresh-hasher.ensures in
     c.finish128.ensures.of_text 0 0 text
     (c.in-Ok.ensures.all c.if-hash_stream.true text left fresh.in_range ∙ ap (λ (at : Position). after at text) fresh.state
-        ∙ after-position 0 0 [] text)
+    ∙ after-position 0 0 [] text)

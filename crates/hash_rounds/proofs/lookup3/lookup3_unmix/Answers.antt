@@ -8,5 +8,5 @@ pub returns : goal.returns
 unfolding lookup3_mix_steps
 returns c =
     let both = rows_unmade 32 3 0 lookup3_mix_group lookup3_mix_table refl [] c.args.s.now c.unmix_group-6.new.s refl (no_words 32)
-        c.told-s c.fits-s (cc) in
+    c.told-s c.fits-s (cc) in
     record { round = both.0; undone = both.1 }

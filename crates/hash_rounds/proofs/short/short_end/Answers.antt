@@ -8,5 +8,5 @@ pub returns : goal.returns
 unfolding short_end_steps
 returns c =
     let both = rows_made 64 4 0 short_end_group short_end_table refl [] c.args.h.now c.end_group-11.new.h refl (no_words 64) c.told-h
-        c.fits-h (cc) in
+    c.fits-h (cc) in
     record { round = both.0; undone = both.1 }

@@ -8,5 +8,5 @@ pub returns : goal.returns
 unfolding short_mix_steps
 returns c =
     let both = rows_unmade 64 4 0 short_mix_group short_mix_table refl [] c.args.h.now c.unmix_group-12.new.h refl (no_words 64) c.told-h
-        c.fits-h (cc) in
+    c.fits-h (cc) in
     record { round = both.0; undone = both.1 }

@@ -7,5 +7,5 @@ pub returns : goal.returns
 unfolding IsMoved
 returns c =
     let value = unshuffle_by c.args.x _ _ _ _ c.swap_halves.result (omega arith) (omega arith) c.exchange-pairs.ensures
-        c.exchange-nibbles.ensures c.exchange-bytes.ensures c.exchange-halves.ensures (search rules) in
+    c.exchange-nibbles.ensures c.exchange-bytes.ensures c.exchange-halves.ensures (search rules) in
     record { value = value; undone = ap shuffle value ∙ shuffle-unshuffle c.args.x (omega arith) }

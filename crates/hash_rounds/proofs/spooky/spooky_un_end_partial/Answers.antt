@@ -8,5 +8,5 @@ pub returns : goal.returns
 unfolding spooky_end_partial_steps
 returns c =
     let both = rows_unmade 64 12 0 spooky_end_partial_row spooky_end_partial_rows refl [] c.args.s.now c.un_end_partial_row-12.new.s refl
-        (no_words 64) c.told-s c.fits-s (cc) in
+    (no_words 64) c.told-s c.fits-s (cc) in
     record { round = both.0; undone = both.1 }

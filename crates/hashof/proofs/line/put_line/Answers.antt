@@ -23,7 +23,7 @@ loop-rest-preserved c =
       line = put_front (decimal (before.rest / 10)) before.line before.at (48 + before.rest % 10)
           (omega (arith, before.invariant.room, step)) (omega (arith, before.invariant.within, before.invariant.whole))
           ∙ ap (λ t. t ++ drop before.at before.line) (sym (decimal_step before.rest c.loop-rest-test.true (omega arith)))
-              ∙ before.invariant.line;
+          ∙ before.invariant.line;
       room = omega (arith, before.invariant.room, step);
       within = omega (arith, before.invariant.within);
       whole = search rules;
@@ -38,5 +38,5 @@ returns c =
     let digit : before.rest < 10 = omega arith in
     put_whole (slice_set before.line (before.at - 1) (48 + before.rest)) _ (before.at - 1) (search rules)
     (put_front [] before.line before.at (48 + before.rest) (omega (arith, before.invariant.room, length-decimal-digit before.rest digit))
-        (omega (arith, before.invariant.within, before.invariant.whole))
+    (omega (arith, before.invariant.within, before.invariant.whole))
     ∙ ap (λ t. t ++ drop before.at before.line) (sym (decimal_digit before.rest digit)) ∙ before.invariant.line)

@@ -10,6 +10,6 @@ returns g c =
     let first = g.met.H.Piecewise in
     let stream = g.met.H.Streamed in
     let agree = answer-cut H.in_range H.after first.after_in_range first.after_nothing stream.after_joined H.answer H.fresh
-        first.fresh_in_range
+    first.fresh_in_range
     (g.H.Streamed.hash g.H.Streamed.start) stream.hash_from_start 4096 (lit< tt) in
     Hashes-agree _ _ agree _ _ c.hash_of_pieces.ensures

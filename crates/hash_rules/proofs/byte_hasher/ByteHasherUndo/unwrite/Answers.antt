@@ -18,7 +18,7 @@ loop-byte-preserved g c =
 pub returns-clause-back : goal.returns-clause-back
 returns-clause-back g c =
     undoing_all g.R.ByteRule.after g.R.StepRule.bound _ _ _ _ c.in-None.ensures.steps.0 c.loop-byte.invariant
-        ∙ ap g.R.StepRule.number c.self.view_is
+    ∙ ap g.R.StepRule.number c.self.view_is
 
 pub returns-clause-undone : goal.returns-clause-undone
 returns-clause-undone g c =
