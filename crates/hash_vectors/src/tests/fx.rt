@@ -14,7 +14,7 @@ use std::process::Abort;
 
 // Each number that is one word of 64 bits, made and taken back, and taken back and made: what two hashers of one hash answer
 // before each and after all.
-#[tactic(auto, using(hashers::proofs::FixedWidths::words_of_numbers))]
+#[tactic(auto, using(hash_fx::proofs::FixedWidths::words_of_numbers))]
 fn words_of_64_bits<Name>(
     a: &mut WordHasher<Fx64Rule, Name>,
     b: &mut WordHasher<Fx64Rule, Name>,
@@ -39,7 +39,7 @@ fn words_of_64_bits<Name>(
 }
 
 // The same at 32 bits.
-#[tactic(auto, using(hashers::proofs::FixedWidths::words_of_numbers))]
+#[tactic(auto, using(hash_fx::proofs::FixedWidths::words_of_numbers))]
 fn words_of_32_bits(a: &mut FxHasher32, b: &mut FxHasher32) -> [u64; 4] {
     let byte = one_word_undone(a, b, &HasherWrite::U8(200), 200);
     let four = one_word_undone(a, b, &HasherWrite::U32(0xfedcba98), 0xfedcba98);
