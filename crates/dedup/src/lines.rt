@@ -79,11 +79,12 @@ pub fn put_line<W: Write>(w: &mut W, text: &[u8]) -> Result<(), Fault>
 }
 
 /// Writes the text of the line and a newline if it is new, and takes it into the set. After a fault a beginning of that
-/// was written, if it is new.
+/// was written, if it is new. The guess is where its text may stand in the set.
 #[inline(always)]
 pub fn write_new<S: BuildHasher + Drop, W: Write>(
     seen: &mut Texts<S>,
     line: &[u8],
+    guess: usize,
     w: &mut W,
 ) -> Result<(), Fault>
     ensures written { OnOk result (Appends (W.contents w.old) (W.contents w.new)
@@ -93,7 +94,7 @@ pub fn write_new<S: BuildHasher + Drop, W: Write>(
     ensures begun { OnErr result (AppendsPart (W.contents w.old) (W.contents w.new) (if_new seen.old line.now)) }
 {
     let text = text_of(line);
-    if seen.see(text)?.is_new {
+    if seen.see_at(text, guess)?.is_new {
         put_line(w, text)?;
     }
     Ok(())
@@ -111,7 +112,7 @@ pub fn write_at_once<S: BuildHasher + Drop, W: Write>(
         ≡ (bytes_eq other (strip_last 10 line.now) || has seen.old other)) }
     ensures begun { OnErr result (AppendsPart (W.contents w.old) (W.contents w.new) (if_new seen.old line.now)) }
 {
-    write_new(seen, line, w)?;
+    write_new(seen, line, 0, w)?;
     finish(w)
 }
 
@@ -160,6 +161,28 @@ fn newline(bytes: &[u8]) -> Option<usize>
     None
 }
 
+/// How many lines are guessed at before the first of them is looked up, so that the waits for memory overlap.
+const AHEAD: usize = 16;
+
+/// Where the texts of the first lines may stand in the set.
+fn guesses<S: BuildHasher + Drop>(seen: &Texts<S>, bytes: &[u8]) -> [usize; AHEAD] {
+    let mut guesses = [0; AHEAD];
+    let mut rest = bytes;
+    for guess in &mut guesses {
+        match newline(rest) {
+            Some(n) => {
+                let (text, later) = rest.split_at(n);
+                *guess = seen.guess(text);
+                if let [_, more @ ..] = later {
+                    rest = more;
+                }
+            }
+            None => return guesses,
+        }
+    }
+    guesses
+}
+
 /// Writes those of the first lines whose texts are new, up to so many, and takes their texts into the set. Answers how
 /// many lines it took, each with its newline, and how many bytes they have together.
 fn write_lines<S: BuildHasher + Drop, W: Write>(
@@ -175,11 +198,16 @@ fn write_lines<S: BuildHasher + Drop, W: Write>(
     ensures begun { OnErr result (BreaksOff bytes.now (has seen.old) (W.contents w.old) (W.contents w.new)) }
 {
     let mut rest = bytes;
+    let mut ahead = [0; AHEAD];
     for count in 0..most {
+        let turn = (count % AHEAD as u64) as usize;
+        if turn == 0 {
+            ahead = guesses(seen, rest);
+        }
         match newline(rest) {
             Some(n) => {
                 let (line, later) = rest.split_at(n + 1);
-                write_new(seen, line, w)?;
+                write_new(seen, line, ahead[turn], w)?;
                 rest = later;
             }
             None => return Ok((count, bytes.len() - rest.len())),

@@ -9,8 +9,8 @@ mod tally;
 #[cfg(test)]
 mod tests;
 
+use hash_texts::RandomKeys;
 use outcome::{Outcome, USAGE, outcome_line, outcome_of, outcome_status};
-use std::hash::RandomState;
 use std::io::{BufReader, BufWriter};
 use std::process::ExitCode;
 use std::{env, io};
@@ -21,7 +21,7 @@ const BUFFER: usize = 65536;
 /// What came of the call, over standard input and output.
 fn called(rt: &HostRuntime) -> io::Result<Outcome> {
     let alloc = rt.alloc();
-    let hasher = RandomState::new(rt)?;
+    let hasher = RandomKeys::new(rt)?;
     let mut input = BufReader::with_capacity(alloc, BUFFER, rt.stdin())?;
     let mut output = BufWriter::with_capacity(alloc, BUFFER, rt.stdout())?;
     let args = env::args(rt);

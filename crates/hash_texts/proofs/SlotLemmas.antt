@@ -390,6 +390,10 @@ module _ {tag : List ℕ → ℕ} {texts : List (List ℕ)} {slots : List Slot} 
     table_more {new} made = table_put tag texts slots room s.table text place s.first.0 (at_place ∙ sym free) new made.1 made.0 (all_taken tag texts slots room s.table text place s.first)
 
 -- a text that is there changes nothing, and one that is not stands behind the others
+-- a text that stands somewhere is there
+pub has_there : (texts : List (List ℕ)) (text : List ℕ) (place : ℕ) → StandsAt texts text place → has texts text ≡ true
+has_there texts text place (below, is) = list_any_at (bytes_eq text) texts place [] below ((bytes_eq-Decides text (get_or texts place [])).1 (sym is))
+
 pub with_old : (texts : List (List ℕ)) (text : List ℕ) → has texts text ≡ true → with_text texts text ≡ texts
 with_old texts text there = ap (λ b. cond b texts (texts ++ text ∷ [])) there
 

@@ -1,3 +1,4 @@
+pub mod Keyed
 pub mod Slots
 pub mod Store
 pub mod Texts

@@ -3,10 +3,12 @@
 //! It is an index as well: the place of a text is where a caller's own list has what belongs to it, as a count.
 #![tactic(auto)]
 
+mod keyed;
 mod slots;
 mod store;
 #[cfg(test)]
 mod tests;
 mod texts;
 
+pub use keyed::{KeyedHasher, RandomKeys};
 pub use texts::{Full, Seen, Texts};

@@ -26,6 +26,7 @@ const EMPTY: Slot = Slot {
 
 impl Slot {
     /// Whether there is a text.
+    #[inline(always)]
     pub fn is_taken(self) -> bool
         ensures { result ≡ is_taken self }
     {
@@ -34,6 +35,7 @@ impl Slot {
 }
 
 /// The tag of a text.
+#[inline(always)]
 pub fn tag_of<S: BuildHasher>(hasher: &S, text: &[u8]) -> u32
     ensures { result ≡ tag_by (S.Hasher.finish (S.Hasher.write (S.build_hasher hasher.now) text.now)) }
 {
@@ -44,7 +46,8 @@ pub fn tag_of<S: BuildHasher>(hasher: &S, text: &[u8]) -> u32
 }
 
 /// The place where the search for texts with this tag begins, among so many.
-fn home_of(count: usize, tag: u32) -> usize
+#[inline(always)]
+pub fn home_of(count: usize, tag: u32) -> usize
     requires { 0 < count }
     ensures value { result ≡ home_of count tag }
     ensures below { result < count }
@@ -53,6 +56,7 @@ fn home_of(count: usize, tag: u32) -> usize
 }
 
 /// Whether the search for a text ends at this slot: it has no text, or this one.
+#[inline(always)]
 fn stops(texts: &Store, slot: Slot, tag: u32, text: &[u8]) -> bool
     requires { Names texts.now slot }
     ensures { result ≡ stops texts.now tag text.now slot }
@@ -85,12 +89,16 @@ fn stop_between(
 }
 
 /// The first place, round from the home of the tag, at which the search for a text ends.
+#[inline(always)]
 pub fn stop(texts: &Store, slots: &[Slot], tag: u32, text: &[u8]) -> Option<usize>
     requires named { All (Names texts.now) slots.now }
     requires some { 0 < length slots.now }
     ensures { FirstRound (stops texts.now tag text.now) slots.now (home_of (length slots.now) tag) result }
 {
     let home = home_of(slots.len(), tag);
+    if stops(texts, slots[home], tag, text) {
+        return Some(home);
+    }
     match stop_between(texts, slots, tag, text, home, slots.len()) {
         Some(place) => Some(place),
         None => stop_between(texts, slots, tag, text, 0, home),

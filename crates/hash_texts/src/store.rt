@@ -21,6 +21,7 @@ impl Model for Store {
 }
 
 /// Where the text at a place begins.
+#[inline(always)]
 fn start_of(ends: &[usize], place: usize) -> usize
     requires { place ≤ length ends.now }
     ensures { result ≡ start_of ends.now place }
@@ -29,6 +30,7 @@ fn start_of(ends: &[usize], place: usize) -> usize
 }
 
 /// The text that begins and ends at these bytes.
+#[inline(always)]
 fn text_between(bytes: &[u8], start: usize, end: usize) -> &[u8]
     requires rises { start ≤ end }
     requires within { end ≤ length bytes.now }
@@ -49,6 +51,7 @@ impl Store {
     }
 
     /// How many texts there are.
+    #[inline(always)]
     pub fn len(&self) -> usize
         ensures value { result ≡ length self.now }
         ensures small { result < 2 ^ 63 }
@@ -57,6 +60,7 @@ impl Store {
     }
 
     /// The text at a place.
+    #[inline(always)]
     pub fn get(&self, place: usize) -> &[u8]
         requires { place < length self.now }
         ensures { result.now ≡ slice_index_or self.now place [] }

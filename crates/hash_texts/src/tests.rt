@@ -1,8 +1,8 @@
 //! Tests of the set of texts, beside a set of std.
-use crate::Texts;
+use crate::{RandomKeys, Texts};
 use std::alloc::{AllocError, Global};
 use std::collections::HashSet;
-use std::hash::{BuildHasher, RandomState};
+use std::hash::{BuildHasher, Hasher, RandomState};
 use std::process::Abort;
 
 /// That all claims hold.
@@ -27,8 +27,9 @@ fn disagreements<S: BuildHasher + Drop>(
     for number in 0..count {
         let bytes = (number / 3).to_le_bytes();
         let text = &bytes[..(number % 7) as usize];
+        let guess = texts.guess(text);
         let is_new = set.insert(Vec::from_slice(alloc, text)?)?;
-        let Ok(seen) = texts.see(text) else {
+        let Ok(seen) = texts.see_at(text, guess) else {
             return Err(AllocError);
         };
         if seen.is_new != is_new || !is_known(texts, text, seen.place) {
@@ -47,6 +48,49 @@ fn texts_are_those_of_a_set(rt: HostRuntime) {
             all_hold(&rt, &[found == Ok(0)]);
         }
         Err(_) => all_hold(&rt, &[false]),
+    }
+}
+
+#[test]
+fn texts_are_those_of_a_set_under_random_keys(rt: HostRuntime) {
+    match RandomKeys::new(&rt) {
+        Ok(hasher) => {
+            let mut texts = Texts::new(rt.alloc(), hasher);
+            let found = disagreements(rt.alloc(), &mut texts, 20000);
+            all_hold(&rt, &[found == Ok(0)]);
+        }
+        Err(_) => all_hold(&rt, &[false]),
+    }
+}
+
+/// The hash of a text under these keys.
+fn hash_of(first: u64, second: u64, text: &[u8]) -> u64 {
+    let mut hasher = RandomKeys::with_keys(first, second).build_hasher();
+    hasher.write(text);
+    hasher.finish()
+}
+
+#[test]
+fn each_key_matters(rt: HostRuntime) {
+    for text in &[
+        "",
+        "a",
+        "word",
+        "a longer text",
+        "a text of more than two blocks, with a rest",
+    ] {
+        let hash = hash_of(3, 5, text.as_bytes());
+        let others = [
+            hash_of(4, 5, text.as_bytes()),
+            hash_of(3, 6, text.as_bytes()),
+        ];
+        all_hold(
+            &rt,
+            &[
+                hash == hash_of(3, 5, text.as_bytes()),
+                !others.contains(&hash),
+            ],
+        );
     }
 }
 

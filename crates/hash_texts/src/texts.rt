@@ -3,7 +3,7 @@ ghost use Rattle.std.specs.Prelude.{◌≡◌, ◌<◌, ℕ, List, [], IfOk, IfS
 ghost use Rattle.hash_texts.specs.Slots.{IsTable, tag_by};
 ghost use Rattle.hash_texts.specs.Texts.{EachOnce, StandsAt, has, with_text};
 
-use crate::slots::{NOWHERE, Slot, make_room, stop, tag_of};
+use crate::slots::{NOWHERE, Slot, home_of, make_room, stop, tag_of};
 use crate::store::Store;
 use std::alloc::{AllocError, Global};
 use std::hash::BuildHasher;
@@ -39,8 +39,8 @@ impl From<AllocError> for Full {
 /// the first slot that was free, round from where its hash points. So the time of a call depends on the hasher, and the
 /// answers do not. A text costs its bytes, 8 bytes, and 11 to 22 bytes of the table.
 ///
-/// Where somebody else chooses the texts, take std's `RandomState` as the hasher: whoever does not know its keys cannot
-/// choose texts that collide.
+/// Where somebody else chooses the texts, take `RandomKeys` as the hasher, or std's `RandomState`, which is slower: whoever does
+/// not know its keys cannot choose texts that collide.
 #[derive(Drop)]
 pub struct Texts<S: BuildHasher + Drop> {
     alloc: Global,
@@ -85,6 +85,7 @@ impl<S: BuildHasher + Drop> Texts<S> {
     }
 
     /// How many texts there are. No text stands twice.
+    #[inline(always)]
     pub fn len(&self) -> usize
         ensures value { result ≡ length self.now }
         ensures once { EachOnce self.now }
@@ -93,6 +94,7 @@ impl<S: BuildHasher + Drop> Texts<S> {
     }
 
     /// The text at a place.
+    #[inline(always)]
     pub fn text_at(&self, place: usize) -> &[u8]
         requires { place < length self.now }
         ensures { result.now ≡ slice_index_or self.now place [] }
@@ -122,8 +124,41 @@ impl<S: BuildHasher + Drop> Texts<S> {
         }
     }
 
+    /// Where the text may stand: the place that the first slot of its search names under its tag. It is no more than a guess for
+    /// `see_at`, and waits for the table alone, so that a caller may guess for several texts before it sees the first.
+    #[inline(always)]
+    pub fn guess(&self, text: &[u8]) -> usize {
+        if self.slots.is_empty() {
+            return 0;
+        }
+        let tag = tag_of(&self.hasher, text);
+        let slot = self.slots[home_of(self.slots.len(), tag)];
+        // No branch: where the tags differ, no text has this place.
+        slot.place as usize | ((slot.tag ^ tag) as usize) << 32
+    }
+
+    /// Does what `see` does, whatever the guess is. Where the text stands at that place, this is faster.
+    #[inline(always)]
+    pub fn see_at(&mut self, text: &[u8], guess: usize) -> Result<Seen, Full>
+        ensures new { IfOk result (λ seen. seen.is_new ≡ not (has self.old text.now)) }
+        ensures texts { OnOk result (self.new ≡ with_text self.old text.now) }
+        ensures place { IfOk result (λ seen. StandsAt self.new text.now seen.place) }
+        ensures kept { OnErr result (self.new ≡ self.old) }
+    {
+        if guess < self.len() {
+            if self.text_at(guess) == text {
+                return Ok(Seen {
+                    place: guess,
+                    is_new: false,
+                });
+            }
+        }
+        self.see(text)
+    }
+
     /// Takes a text into the set, behind the others, unless it is there, and answers its place and whether it is new. Where
     /// that fails, the set stays as it was.
+    #[inline(never)]
     pub fn see(&mut self, text: &[u8]) -> Result<Seen, Full>
         ensures new { IfOk result (λ seen. seen.is_new ≡ not (has self.old text.now)) }
         ensures texts { OnOk result (self.new ≡ with_text self.old text.now) }

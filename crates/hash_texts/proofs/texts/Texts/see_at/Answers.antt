@@ -1,0 +1,14 @@
+use Rattle.std.proofs.Common.{rules, arith, not, sym, ap}
+use Rattle.hash_texts.specs.Texts.{StandsAt}
+use Rattle.hash_texts.proofs.SlotLemmas.{has_there, with_old}
+use Rattle.hash_texts.proofs.texts.Texts.see_at.Goals as goal
+
+pub returns-then-eq-clause-new : goal.returns-then-eq-clause-new
+returns-then-eq-clause-new g c =
+    let stands : StandsAt c.args.self.now c.args.text.now c.args.guess = search (rules, arith) in
+    sym (ap not (has_there c.args.self.now c.args.text.now c.args.guess stands))
+
+pub returns-then-eq-clause-texts : goal.returns-then-eq-clause-texts
+returns-then-eq-clause-texts g c =
+    let stands : StandsAt c.args.self.now c.args.text.now c.args.guess = search (rules, arith) in
+    sym (with_old c.args.self.now c.args.text.now (has_there c.args.self.now c.args.text.now c.args.guess stands))
