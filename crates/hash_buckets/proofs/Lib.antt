@@ -3,4 +3,3 @@ pub mod Changes
 pub mod Tables
 pub mod Runs
 pub mod Empty
-pub mod Laws

@@ -6,7 +6,8 @@ ghost use Rattle.std.specs.Coded.{coded_list, coded_ℕ};
 ghost use Rattle.std.specs.FinMap as map;
 ghost use Rattle.std.specs.List.{position, sum_by};
 ghost use Rattle.std.specs.Str.{bytes_eq};
-ghost use Rattle.hash_buckets.specs.Table.{Table, table_of, pairs, held, pairs_of_each, number_by, AreBuckets, IsBucket, IsChange, HasEachKeyOnce, InsertsCommute, OthersStay, value_at};
+ghost use Rattle.hashers.specs.TextMaps.{InsertsCommute, OthersStay};
+ghost use Rattle.hash_buckets.specs.Table.{Table, table_of, pairs, held, pairs_of_each, number_by, AreBuckets, IsBucket, IsChange, HasEachKeyOnce, value_at};
 ghost use Rattle.hash_buckets.specs.Commands.{reply_to, replies_to, content_after, NeedsMemory, StopsAt};
 
 use hashers::laws::{Piecewise, bucket_of};
@@ -224,6 +225,12 @@ pub fn get_after_remove()
 /// Inserts of different keys commute, with no code.
 pub fn inserts_commute()
     ensures { (t : Table) (k q : List ℕ) (v w : ℕ) → k ≢ q → InsertsCommute t k v q w }
+{}
+
+/// To insert a new key and to remove it again leaves the table as it was, with no code.
+pub fn removal_undoes_insert()
+    ensures { (t : Table) (k : List ℕ) (v : ℕ) → map.get t k ≡ None
+        → map.remove (map.insert t k v) k ≡ t }
 {}
 
 /// A step of a run on a table.

@@ -10,10 +10,11 @@ use Rattle.std.specs.Cmp.Lexicographic.{slice_cmp, nat_list_cmp_total}
 use Rattle.std.specs.FinMap as fin
 use Rattle.std.specs.FinMap.{find, put, is_sorted, slice_cmp-IsAntisymmetric, nat_cmp-IsAntisymmetric}
 use Rattle.std.specs.FinMap.Entries.{below_all, where_key, by_order, is_sorted-put, is_sorted-where_key, find-where_key}
-use Rattle.std.proofs.lemmas.Bool.{cases_lt, cases_order}
+use Rattle.std.proofs.lemmas.Bool.{cases_lt}
 use Rattle.std.proofs.lemmas.Cmp.{tied_itself, eq_by_cmp_equiv}
 use Rattle.std.proofs.lemmas.List.{length-map, get_or-map}
 use Rattle.std.proofs.lemmas.List.Sorted.{searchable_from_sorted}
+use Rattle.hashers.proofs.TextMapLemmas.{removal_of_nothing, same_key}
 use Rattle.hash_ring.specs.declared.Node.{Node}
 use Rattle.hash_ring.specs.Ring.{Nodes}
 use Rattle.hash_ring.specs.Points.{IsGapAt, IsNamedAt, node_at, nodes_of, pair_of, pairs}
@@ -23,15 +24,6 @@ Pairs = List (List ℕ × ℕ)
 
 abbrev pub by_bytes : List ℕ → List ℕ → Ordering
 by_bytes = slice_cmp nat_cmp
-
-is_equal : (r : Ordering) → is_eq r ≡ true → r ≡ Equal
-is_equal Less e = cc
-is_equal Equal e = refl
-is_equal Greater e = cc
-
--- keys that tie are the same
-pub same_name : (q k : List ℕ) → is_eq (by_bytes q k) ≡ true → q ≡ k
-same_name q k e = slice_cmp-IsAntisymmetric nat_cmp-IsAntisymmetric q k (is_equal _ e)
 
 pub itself : (k : List ℕ) → by_bytes k k ≡ Equal
 itself k = tied_itself nat_list_cmp_total k
@@ -81,7 +73,7 @@ pub found_where : (es : Pairs) (q : List ℕ) (w : ℕ) → find by_bytes q es �
 found_where [] q w e = cc
 found_where (x ∷ es) q w e =
     elim (is_eq (by_bytes q x.0)) as (λ b. is_eq (by_bytes q x.0) ≡ b → cond b (Some x.1) (find by_bytes q es) ≡ Some w → IsFoundAt (x ∷ es) q w) [
-      | true ↦ λ t s. let value : x.1 ≡ w = cc in let name : q ≡ x.0 = same_name q x.0 t in record { i = 0; below = omega arith; is = λ j. (sym name j, value j) }
+      | true ↦ λ t s. let value : x.1 ≡ w = cc in let name : q ≡ x.0 = same_key q x.0 t in record { i = 0; below = omega arith; is = λ j. (sym name j, value j) }
       | false ↦ λ t s. let r = found_where es q w s in record { i = suc r.i; below = omega (arith, r.below); is = r.is }
     ] refl e
 
@@ -118,7 +110,7 @@ named_or_gap (d ∷ ds) name (Ok i) h below is =
     let long = length-map nodes pair_of in
     record {
       below = omega arith;
-      is = read nodes d i below ∙ same_name (get_or nodes i d).name.items name (ap is_eq (is d));
+      is = read nodes d i below ∙ same_key (get_or nodes i d).name.items name (ap is_eq (is d));
     }
 named_or_gap (d ∷ ds) name (Err i) h within is =
     let nodes = d ∷ ds in
@@ -220,15 +212,6 @@ module _ (es : Pairs) (h : T (is_sorted by_bytes es)) where
       ∙ swapped (eq_by_cmp by_bytes name q) (find by_bytes q es) None
       ∙ sym (fin.get-remove nat_list_cmp_total (nodes_of es) name q ∙ (λ j. cond ((eq_by_cmp_equiv nat_list_cmp_total).symm q name j) None (get_is q j))))
 
-  pub unchanged : (name : List ℕ) → fin.get (nodes_of es) name ≡ None → fin.remove (nodes_of es) name ≡ nodes_of es
-  unchanged name none =
-      fin.same_map nat_list_cmp_total (slice_cmp-IsAntisymmetric nat_cmp-IsAntisymmetric) _ _
-      (λ q. fin.get-remove nat_list_cmp_total (nodes_of es) name q
-      ∙ elim (eq_by_cmp by_bytes q name) as (λ b. eq_by_cmp by_bytes q name ≡ b → cond b None (fin.get (nodes_of es) q) ≡ fin.get (nodes_of es) q) [
-        | true ↦ λ e. sym (ap (fin.get (nodes_of es)) (same_name q name e) ∙ none)
-        | false ↦ λ e. refl
-      ] refl)
-
 pub no_nodes : nodes_of [] ≡ fin.empty
 no_nodes =
     fin.same_map nat_list_cmp_total (slice_cmp-IsAntisymmetric nat_cmp-IsAntisymmetric) _ _
@@ -251,4 +234,4 @@ module _ (nodes now : List Node) (name text : List ℕ) (m : Nodes) (h : T (is_s
       ap (λ n. fin.get n name) (sym view) ∙ get_is (pairs nodes) h name ∙ ap (λ q. find by_bytes q (pairs nodes)) (sym p.is) ∙ found_at (pairs nodes) h i p.below
 
   pub none_unchanged : (i : ℕ) → IsGapAt (pairs now) text i → m ≡ fin.remove m name
-  none_unchanged i gap = sym (ap (λ n. fin.remove n name) (sym view) ∙ unchanged (pairs nodes) h name (new_name (pairs nodes) h name i (gap_read i gap)) ∙ view)
+  none_unchanged i gap = sym (ap (λ n. fin.remove n name) (sym view) ∙ removal_of_nothing (nodes_of (pairs nodes)) name (new_name (pairs nodes) h name i (gap_read i gap)) ∙ view)

@@ -14,12 +14,13 @@ use Rattle.std.proofs.lemmas.Bool.{cases_lt, lt-ltb, le-ltb}
 use Rattle.std.proofs.lemmas.List.Elements.{All-cons, All-nil, Contains-append_left, Contains-push}
 use Rattle.std.proofs.lemmas.List.{get_or_default, length-map}
 use Rattle.std.proofs.lemmas.List.Kept.{AllPairs-cons}
+use Rattle.hashers.proofs.TextMapLemmas.{get_remove, same_key}
 use Rattle.hash_ring.specs.declared.Node.{Node}
 use Rattle.hash_ring.specs.declared.Point.{Point}
 use Rattle.hash_ring.specs.Ring.{AreOwners, without, HasPoint, IsOwner, IsPointOf, Nodes, point, turn}
 use Rattle.hash_ring.specs.Points.{IsBefore, IsRing, IsStart, index_round, node_at, nodes_of, pair_of, pairs}
 use Rattle.hash_ring.proofs.Points.{is_there}
-use Rattle.hash_ring.proofs.Names.{Pairs, by_bytes, found_at, found_where, get_is, itself, no_greater, read, same_name}
+use Rattle.hash_ring.proofs.Names.{Pairs, by_bytes, found_at, found_where, get_is, itself, no_greater, read}
 
 -- ---- one owner alone
 not_both : (r s : Ordering) → s ≡ ordering_reverse r → is_gt r ≡ false → is_gt s ≡ false → r ≡ Equal
@@ -38,16 +39,20 @@ one_owner hash nodes at a b p q =
     let same : p.place ≡ q.place = omega (arith, f.nearer same_turn, g.nearer (sym same_turn)) in
     neither_greater a b (f.lesser same) (g.lesser (sym same))
 
--- ---- a node that has gone
-pub get_without : (nodes : Nodes) (gone q : List ℕ) → fin.get (fin.remove nodes gone) q ≡ cond (is_eq (by_bytes q gone)) None (fin.get nodes q)
-get_without nodes gone q = fin.get-remove nat_list_cmp_total nodes gone q
+pub no_owner : (hash : List ℕ → ℕ) (at : ℕ) (a : List ℕ) → ¬ IsOwner hash fin.empty at a
+no_owner hash at a o =
+    let nothing : Nodes = fin.empty in
+    let none : fin.get nothing a ≡ None = fin.get-empty by_bytes a in
+    let some : fin.get nothing a ≡ Some o.has.weight = o.has.there in
+    cc
 
+-- ---- a node that has gone
 kept : (hash : List ℕ → ℕ) (nodes : Nodes) (gone name : List ℕ) (place : ℕ) → name ≢ gone → HasPoint hash nodes name place → HasPoint hash (fin.remove nodes gone) name place
 kept hash nodes gone name place ne p = record {
   weight = p.weight;
-  there = get_without nodes gone name
+  there = get_remove nodes gone name
       ∙ elim (is_eq (by_bytes name gone)) as (λ b. is_eq (by_bytes name gone) ≡ b → cond b None (fin.get nodes name) ≡ Some p.weight) [
-        | true ↦ λ e. absurd (ne (same_name name gone e))
+        | true ↦ λ e. absurd (ne (same_key name gone e))
         | false ↦ λ e. p.there
       ] refl;
   point = p.point;
@@ -66,7 +71,7 @@ was_there hash nodes gone name place p =
         other = λ is. let no : is_eq (by_bytes gone gone) ≡ false = subst (λ n. is_eq (by_bytes n gone) ≡ false) is e in let yes : is_eq (by_bytes gone gone) ≡ true = ap is_eq (itself gone) in cc;
         has = record { weight = p.weight; there = s; point = p.point };
       }
-    ] refl (sym (get_without nodes gone name) ∙ p.there)
+    ] refl (sym (get_remove nodes gone name) ∙ p.there)
 
 pub not_gone : (hash : List ℕ → ℕ) (nodes : Nodes) (at : ℕ) (gone a : List ℕ) → IsOwner hash (fin.remove nodes gone) at a → a ≢ gone
 not_gone hash nodes at gone a o = (was_there hash nodes gone a o.place o.has).other
@@ -88,12 +93,12 @@ left nodes (name ∷ names) = left (fin.remove nodes name) names
 remove_comm : (nodes : Nodes) (a b : List ℕ) → fin.remove (fin.remove nodes a) b ≡ fin.remove (fin.remove nodes b) a
 remove_comm nodes a b =
     fin.same_map nat_list_cmp_total (slice_cmp-IsAntisymmetric nat_cmp-IsAntisymmetric) _ _
-    (λ q. get_without (fin.remove nodes a) b q ∙ ap (cond (is_eq (by_bytes q b)) None) (get_without nodes a q)
+    (λ q. get_remove (fin.remove nodes a) b q ∙ ap (cond (is_eq (by_bytes q b)) None) (get_remove nodes a q)
     ∙ elim (is_eq (by_bytes q a)) as (λ x. cond (is_eq (by_bytes q b)) None (cond x None (fin.get nodes q)) ≡ cond x None (cond (is_eq (by_bytes q b)) None (fin.get nodes q))) [
       | true ↦ elim (is_eq (by_bytes q b)) as (λ y. cond {A = Option ℕ} y None None ≡ None) [ true ↦ refl | false ↦ refl ]
       | false ↦ refl
     ]
-    ∙ sym (get_without (fin.remove nodes b) a q ∙ ap (cond (is_eq (by_bytes q a)) None) (get_without nodes b q)))
+    ∙ sym (get_remove (fin.remove nodes b) a q ∙ ap (cond (is_eq (by_bytes q a)) None) (get_remove nodes b q)))
 
 -- names that aren't this one
 abbrev pub AreOther : List ℕ → List (List ℕ) → Type 0
@@ -106,18 +111,18 @@ not_there hash nodes at gone [] none o = tt
 not_there hash nodes at gone (a ∷ names) none o = (
   λ is. let has = o.0.has in let there : fin.get nodes a ≡ Some has.weight = has.there in let no : fin.get nodes a ≡ None = ap (fin.get nodes) is ∙ none in cc,
   not_there hash (fin.remove nodes a) at gone names
-      (get_without nodes a gone ∙ elim (is_eq (by_bytes gone a)) as (λ b. cond b None (fin.get nodes gone) ≡ None) [ true ↦ refl | false ↦ none ])
+      (get_remove nodes a gone ∙ elim (is_eq (by_bytes gone a)) as (λ b. cond b None (fin.get nodes gone) ≡ None) [ true ↦ refl | false ↦ none ])
       o.1,
 )
 
 gone_is_none : (nodes : Nodes) (gone : List ℕ) → fin.get (fin.remove nodes gone) gone ≡ None
-gone_is_none nodes gone = get_without nodes gone gone ∙ ap (λ r. cond (is_eq r) None (fin.get nodes gone)) (itself gone)
+gone_is_none nodes gone = get_remove nodes gone gone ∙ ap (λ r. cond (is_eq r) None (fin.get nodes gone)) (itself gone)
 
 other_kept : (gone : List ℕ) (names : List (List ℕ)) → AreOther gone names → without gone names ≡ names
 other_kept gone [] o = refl
 other_kept gone (a ∷ names) o =
     elim (is_eq (by_bytes a gone)) as (λ b. is_eq (by_bytes a gone) ≡ b → cond (not b) (a ∷ without gone names) (without gone names) ≡ a ∷ names) [
-      | true ↦ λ e. absurd (o.0 (same_name a gone e))
+      | true ↦ λ e. absurd (o.0 (same_key a gone e))
       | false ↦ λ e. ap (λ rest. a ∷ rest) (other_kept gone names o.1)
     ] refl
 
@@ -128,7 +133,7 @@ keep_order hash nodes at gone [] o = tt
 keep_order hash nodes at gone (a ∷ names) o =
     elim (is_eq (by_bytes a gone)) as (λ b. is_eq (by_bytes a gone) ≡ b → AreOwners hash (fin.remove nodes gone) at (cond (not b) (a ∷ without gone names) (without gone names))) [
       | true ↦ λ e.
-          let is : a ≡ gone = same_name a gone e in
+          let is : a ≡ gone = same_key a gone e in
           let rest : AreOwners hash (fin.remove nodes gone) at names = subst (λ n. AreOwners hash (fin.remove nodes n) at names) is o.1 in
           subst (AreOwners hash (fin.remove nodes gone) at) (sym (other_kept gone names (not_there hash (fin.remove nodes gone) at gone names (gone_is_none nodes gone) rest))) rest
       | false ↦ λ e. (
@@ -169,9 +174,7 @@ count hash nodes at (a ∷ names) o =
     ⊎_elim
     (λ (low : 0 < fin.len nodes). low)
     (λ (no : fin.len nodes ≤ 0).
-    let none : fin.get nodes a ≡ None = ap (λ m. fin.get m a) (fin.empty_of_len nodes (omega arith)) ∙ fin.get-empty by_bytes a in
-    let some : fin.get nodes a ≡ Some has.weight = has.there in
-    cc)
+    absurd (no_owner hash at a (subst (λ m. IsOwner hash m at a) (fin.empty_of_len nodes (omega arith)) o.0)))
     (cases_lt 0 (fin.len nodes)) in
     omega (arith, count hash (fin.remove nodes a) at names o.1)
 
@@ -280,7 +283,7 @@ left_get nodes (a ∷ names) name w e =
         (λ is. let no : is_eq (by_bytes name name) ≡ false = subst (λ n. is_eq (by_bytes name n) ≡ false) is t in let yes : is_eq (by_bytes name name) ≡ true = ap is_eq (itself name) in cc, rest.0),
         s,
       )
-    ] refl (sym (get_without nodes a name) ∙ rest.1)
+    ] refl (sym (get_remove nodes a name) ∙ rest.1)
 
 -- the name of the node of the point some steps after the first
 abbrev pub name_round : Pairs → List Point → ℕ → ℕ → Point → List ℕ

@@ -7,11 +7,12 @@ use Rattle.std.specs.Hash.{le_bytes}
 use Rattle.std.specs.Global.{Vec}
 use Rattle.hash_ring.specs.declared.Refused.{Refused}
 use Rattle.hash_ring.specs.declared.Refused.TheVariants.{IsThere, NoRoom}
-use Rattle.std.specs.FinMap.{FinMap, get, insert, remove}
+use Rattle.std.specs.FinMap.{get, remove}
+use Rattle.hashers.specs.TextMaps.{TextMap}
 
 -- the nodes: names with their weights
 abbrev pub Nodes : Type 0
-Nodes = FinMap (slice_cmp nat_cmp) ℕ
+Nodes = TextMap
 
 -- the place of a node's point: the hash of the name, followed by the point's number in 8 bytes
 abbrev pub point : (List ℕ → ℕ) → List ℕ → ℕ → ℕ
@@ -88,10 +89,6 @@ abbrev pub BeginAlike : (List ℕ → ℕ) → Nodes → ℕ → List (List ℕ)
 BeginAlike hash nodes at xs ys =
     AreOwners hash nodes at xs → AreOwners hash nodes at ys → length xs ≤ length ys
     → xs ≡ take (length xs) ys
-
--- two nodes that come in either order make the same nodes
-abbrev pub ComeInAnyOrder : Nodes → List ℕ → ℕ → List ℕ → ℕ → Type 0
-ComeInAnyOrder nodes k v q w = insert (insert nodes k v) q w ≡ insert (insert nodes q w) k v
 
 -- a refusal hands the name back, and tells a name that is there from want of memory
 abbrev pub HandsBack : Nodes → Vec ℕ → Refused → Type 0

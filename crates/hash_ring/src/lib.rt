@@ -9,15 +9,17 @@
 //! keys fall depends on the hasher: see docs/RING.md.
 #![tactic(auto)]
 
-ghost use Rattle.std.specs.Prelude.{◌≡◌, ◌≢◌, ◌↔◌, ◌<◌, ◌≤◌, ◌^◌, if◌then◌else◌, ℕ, List, IfOk, IfErr, IfSome, IfNone, OnOk, OnErr, IsTrue, MatchResult, None, T, length, map, min};
+ghost use Rattle.std.specs.Prelude.{◌≡◌, ◌≢◌, ◌↔◌, ◌<◌, ◌≤◌, ◌^◌, if◌then◌else◌, ℕ, List, IfOk, IfErr, IfSome, IfNone, OnOk, OnErr, OnSome, IsTrue, MatchResult, None, T, length, map, min};
 ghost use Rattle.std.specs.Cmp.Lexicographic.{slice_cmp};
 ghost use Rattle.std.specs.Coded.{coded_list, coded_ℕ};
 ghost use Rattle.std.specs.FinMap as map;
 ghost use Rattle.std.specs.FinMap.Entries.{is_sorted};
 ghost use Rattle.std.specs.List.{AllPairs, Contains};
 ghost use Rattle.std.specs.Ordering.{nat_cmp};
+ghost use Rattle.std.specs.List.Sorted.{IsPermutation};
 ghost use Rattle.hashers.specs.Text.{texts};
-ghost use Rattle.hash_ring.specs.Ring.{Nodes, AreOwners, BeginAlike, ComeInAnyOrder, HandsBack, IsOwner, KeepOrder, MovesOnlyFrom, MovesOnlyTo, OthersKeep, OwnsNothing};
+ghost use Rattle.hashers.specs.TextMaps.{InsertsCommute, KeysDiffer, OthersStay, with_all};
+ghost use Rattle.hash_ring.specs.Ring.{Nodes, AreOwners, BeginAlike, HandsBack, IsOwner, KeepOrder, MovesOnlyFrom, MovesOnlyTo, OthersKeep, OwnsNothing};
 ghost use Rattle.hash_ring.specs.Points.{AddsPoints, ArePoints, IsBefore, IsGapAt, IsNamedAt, IsRing, IsStart, closed_up, index_round, left_without, pairs, ring_of};
 
 use hashers::laws::{Piecewise, hash_of};
@@ -315,11 +317,12 @@ impl<H: Piecewise> Ring<H> {
         Some(self.nodes.remove(gone).weight)
     }
 
-    /// The name of the node that owns the key: that of the first point at or after the key's hash, round the ring. `None` where there
-    /// are no nodes. It is a binary search, and takes no memory.
+    /// The name of the node that owns the key: that of the first point at or after the key's hash, round the ring. `None` just where
+    /// there are no nodes. It is a binary search, and takes no memory.
     pub fn owner(&self, key: &[u8]) -> Option<&[u8]>
         ensures owns { IfSome result (λ x. IsOwner H.hash_of self.now (H.hash_of key.now) x.now) }
         ensures none { IfNone result (self.now ≡ map.empty) }
+        ensures some { OnSome result (self.now ≢ map.empty) }
     {
         if self.points.is_empty() {
             return None;
@@ -347,6 +350,11 @@ pub fn one_owner_alone<H: Piecewise>()
         → IsOwner H.hash_of m at a → IsOwner H.hash_of m at b → a ≡ b }
 {}
 
+/// Where there are no nodes, no node owns a key, with no code.
+pub fn no_owner_without_nodes<H: Piecewise>()
+    ensures { (at : ℕ) (a : List ℕ) → ¬ IsOwner H.hash_of map.empty at a }
+{}
+
 /// What a removal moves, with no code: only the keys that the node owned, and no key to that node.
 pub fn removal_moves_only_its_keys<H: Piecewise>()
     ensures moves { (m : Nodes) (gone : List ℕ)
@@ -367,10 +375,25 @@ pub fn removal_undoes_adding()
         → map.remove (map.insert m k w) k ≡ m }
 {}
 
-/// The order in which nodes came doesn't show, with no code: two orders lead to the same nodes, and so to the same owners.
+/// The order in which nodes came doesn't show, with no code: two orders, and all orders of a list of nodes with different names, lead to
+/// the same nodes, and so to the same owners.
 pub fn order_does_not_show()
-    ensures { (m : Nodes) (k : List ℕ) (v : ℕ) (q : List ℕ) (w : ℕ) → k ≢ q
-        → ComeInAnyOrder m k v q w }
+    ensures two { (m : Nodes) (k : List ℕ) (v : ℕ) (q : List ℕ) (w : ℕ) → k ≢ q
+        → InsertsCommute m k v q w }
+    ensures all { (m : Nodes) (xs ys : List (List ℕ × ℕ)) → KeysDiffer xs → IsPermutation xs ys
+        → with_all m xs ≡ with_all m ys }
+{}
+
+/// The weights after a node came, with no code: its own is the one that it came with, and every other node keeps its own.
+pub fn weights_after_adding()
+    ensures its { (m : Nodes) (k : List ℕ) (w : ℕ) → map.get (map.insert m k w) k ≡ Some w }
+    ensures others { (m : Nodes) (k : List ℕ) (w : ℕ) → OthersStay m (map.insert m k w) k }
+{}
+
+/// The weights after a node went, with no code: it has none, and every other node keeps its own.
+pub fn weights_after_removal()
+    ensures its { (m : Nodes) (k : List ℕ) → map.get (map.remove m k) k ≡ None }
+    ensures others { (m : Nodes) (k : List ℕ) → OthersStay m (map.remove m k) k }
 {}
 
 /// What the loss of a node does to the owners of a key, with no code. The others are the first owners then, in the order that they

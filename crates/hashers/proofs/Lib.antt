@@ -3,6 +3,7 @@ pub mod Djb2Window
 pub mod FnvWindows
 pub mod SdbmWindow
 pub mod ShortWords
+pub mod TextMapLemmas
 pub mod WindowSpreads
 pub use Rattle.hash_laws.proofs.RecurrenceLemmas
 pub use Rattle.hash_laws.proofs.ReadingLemmas

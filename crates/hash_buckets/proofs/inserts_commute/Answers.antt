@@ -1,5 +1,5 @@
-use Rattle.hash_buckets.proofs.Laws.{inserts_commute as commute}
+use Rattle.hashers.proofs.TextMapLemmas as lemmas
 use Rattle.hash_buckets.proofs.inserts_commute.Goals as goal
 
 pub returns : goal.returns
-returns c = commute
+returns c = lemmas.inserts_commute

@@ -1,5 +1,5 @@
-use Rattle.hash_ring.proofs.Laws.{any_order}
+use Rattle.hashers.proofs.TextMapLemmas as lemmas
 use Rattle.hash_ring.proofs.order_does_not_show.Goals as goal
 
 pub returns : goal.returns
-returns c = any_order
+returns c = record { two = λ m k v q w. lemmas.inserts_commute m k q v w; all = lemmas.order_does_not_show }

@@ -1,5 +1,5 @@
-use Rattle.hash_ring.proofs.Laws.{undone}
+use Rattle.hashers.proofs.TextMapLemmas.{removal_undoes_insert}
 use Rattle.hash_ring.proofs.removal_undoes_adding.Goals as goal
 
 pub returns : goal.returns
-returns c = undone
+returns c = removal_undoes_insert

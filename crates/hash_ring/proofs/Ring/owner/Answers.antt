@@ -3,7 +3,7 @@ use Rattle.std.specs.List.{AllPairs}
 use borrow.Author.Tests.{eqb-true}
 use Rattle.hash_ring.specs.Ring.{IsOwner}
 use Rattle.hash_ring.specs.Points.{IsBefore, IsStart, index_round, pairs}
-use Rattle.hash_ring.proofs.Owners.{no_points, owner_read}
+use Rattle.hash_ring.proofs.Owners.{no_owner, no_points, owner_read}
 use Rattle.hash_ring.proofs.Ring.owner.Goals as goal
 
 pub returns-then-is_empty-clause-none : goal.returns-then-is_empty-clause-none
@@ -29,3 +29,8 @@ returns-clause-owns g c =
     subst (IsOwner hash c.args.self.now (hash c.args.key.now)) (sym c.deref-2.ensures.value)
     (subst (λ (at : ℕ). IsOwner hash c.args.self.now at c.index.result.now.name.items) c.hash_of.ensures.value
     (subst (λ nodes. IsOwner hash nodes c.hash_of.result c.index.result.now.name.items) c.self.view_is owns))
+
+pub returns-clause-some : goal.returns-clause-some
+returns-clause-some g c =
+    let hash = g.H.Piecewise.hash_of in
+    λ none. no_owner hash (hash c.args.key.now) (c.deref-2.result.now) (subst (λ nodes. IsOwner hash nodes (hash c.args.key.now) c.deref-2.result.now) none (returns-clause-owns g c))
