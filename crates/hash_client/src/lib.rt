@@ -1,9 +1,10 @@
-//! A client of the library: it calls what the library shows, and proves what follows, over `hashers` alone and with no
-//! lemma of its own.
+//! A client of the libraries: it calls what they show, and proves what follows, with no lemma of its own.
 #![tactic(auto)]
 
 pub mod answers;
 pub mod generic;
 pub mod laws;
 pub mod pages;
+pub mod servers;
 pub mod undone;
+pub mod words;

@@ -9,9 +9,10 @@ use hashers::laws::{ByteStep, Piecewise, Streamed, Undo};
 use std::hash::Hasher;
 use std::marker::Model;
 
-/// The sum of the bytes, modulo 256: contracts see the hasher as that number.
+/// The sum of the bytes, modulo 256: contracts see the hasher as that number. It counts its writes beside, which no law sees.
 pub struct ByteSum {
     sum: u8,
+    pub(crate) writes: u64,
 }
 
 impl Model for ByteSum {
@@ -26,7 +27,7 @@ impl Model for ByteSum {
 
 impl Drop for ByteSum {
     fn drop(self) {
-        let Self { sum: _ } = self;
+        let Self { sum: _, writes: _ } = self;
     }
 }
 
@@ -35,7 +36,7 @@ impl Default for ByteSum {
 
     /// The sum of no bytes.
     fn default() -> ByteSum {
-        ByteSum { sum: 0 }
+        ByteSum { sum: 0, writes: 0 }
     }
 }
 
@@ -61,6 +62,7 @@ impl Hasher for ByteSum {
         self.sum = bytes
             .iter()
             .fold(self.sum, |sum, byte| sum.wrapping_add(*byte));
+        self.writes = self.writes.saturating_add(1);
     }
 }
 
@@ -94,7 +96,10 @@ impl Piecewise for ByteSum {
     }
 
     fn fork(&self) -> ByteSum {
-        ByteSum { sum: self.sum }
+        ByteSum {
+            sum: self.sum,
+            writes: self.writes,
+        }
     }
 
     ghost default_is_first = { λ h same. same };
@@ -143,7 +148,7 @@ impl Undo for ByteSum {
 
     fn unfinish(answer: u64) -> Option<ByteSum> {
         let sum = u8::try_from(answer).ok()?;
-        Some(ByteSum { sum })
+        Some(ByteSum { sum, writes: 0 })
     }
 
     ghost after_injective = { bytewise.after_injective byte_sum_step 256 byte_sum_from (λ s text known. refl)

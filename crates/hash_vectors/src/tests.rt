@@ -16,6 +16,7 @@ mod readers;
 mod rounds;
 mod sample;
 mod spooky;
+mod streams;
 mod tables;
 mod vectors;
 

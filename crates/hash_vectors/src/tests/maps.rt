@@ -2,11 +2,13 @@
 use crate::maps::{count_words, map_by_its_builder, map_by_its_type, see};
 use crate::tests::{all_hold, all_hold_at, same, same_at};
 use hashers::build::{BuildFresh, hash_one_number, hash_one_pair, hash_one_slice};
-use hashers::fnv::{FNV1aHasher64, FnvBuildHasher, FnvHashSet, fnv1a64};
+use hashers::fnv::{FNV1aHasher64, FnvBuildHasher, FnvHashMap, FnvHashSet, fnv1a64};
+use hashers::fx_hash::{FxBuildHasher, FxHashMap, FxHashSet, FxHasher};
 use hashers::laws::Piecewise;
 use hashers::null::NullHasher;
 use std::alloc::Global;
-use std::hash::BuildHasher;
+use std::collections::{HashMap, HashSet};
+use std::hash::{BuildHasher, Hasher};
 
 #[test]
 fn maps_find_what_was_inserted(rt: HostRuntime) {
@@ -48,6 +50,39 @@ fn keys_are_seen_once(rt: HostRuntime) {
         let answer = is_new(&mut seen);
         all_hold_at(&rt, turn, &[answer == Some(*new), seen.len() == 1]);
     }
+}
+
+/// A key's number under the builders of the maps' names, and maps that take no other builder.
+#[test]
+fn names_of_maps(rt: HostRuntime) {
+    let mut h = FxHasher::fresh();
+    h.write(b"a");
+    h.write_u8(255);
+    let got = [
+        FnvBuildHasher::new().hash_one("a"),
+        FxBuildHasher::new().hash_one("a"),
+    ];
+    same(&rt, &got, &[fnv1a64(&[97, 255]), h.finish()]);
+    let alloc = rt.alloc();
+    let by_fnv: FnvHashMap<u8, u8> = HashMap::with_hasher(
+        alloc,
+        BuildFresh::<FNV1aHasher64>::new(),
+    );
+    let seen_by_fnv: FnvHashSet<u8> = HashSet::with_hasher(
+        alloc,
+        BuildFresh::<FNV1aHasher64>::new(),
+    );
+    let by_fx: FxHashMap<u8, u8> = HashMap::with_hasher(alloc, BuildFresh::<FxHasher>::new());
+    let seen_by_fx: FxHashSet<u8> = HashSet::with_hasher(alloc, BuildFresh::<FxHasher>::new());
+    all_hold(
+        &rt,
+        &[
+            by_fnv.is_empty(),
+            seen_by_fnv.is_empty(),
+            by_fx.is_empty(),
+            seen_by_fx.is_empty(),
+        ],
+    );
 }
 
 #[test]

@@ -13,19 +13,20 @@ use std::process::Abort;
 
 /// Gives its text over and over or once, at most so many bytes a read, and fails once after some bytes.
 #[derive(Drop)]
-struct Script<'a> {
+pub(super) struct Script<'a> {
     text: &'a [u8],
     left: &'a [u8],
     endless: bool,
     most: usize,
     until_fault: Option<usize>,
     kind: ErrorKind,
-    reads: u64,
+    pub(super) reads: u64,
+    pub(super) most_asked: usize,
     asked_for_nothing: bool,
 }
 
 impl<'a> Script<'a> {
-    fn new(text: &'a [u8], most: usize, until_fault: Option<usize>) -> Script<'a> {
+    pub(super) fn new(text: &'a [u8], most: usize, until_fault: Option<usize>) -> Script<'a> {
         Script {
             text,
             left: text,
@@ -34,6 +35,7 @@ impl<'a> Script<'a> {
             until_fault,
             kind: ErrorKind::BrokenPipe,
             reads: 0,
+            most_asked: 0,
             asked_for_nothing: false,
         }
     }
@@ -42,6 +44,7 @@ impl<'a> Script<'a> {
 impl Read for Script<'_> {
     fn read(&mut self, buf: &mut [u8]) -> io::Result<usize> {
         self.reads = self.reads.saturating_add(1);
+        self.most_asked = self.most_asked.max(buf.len());
         if buf.is_empty() {
             self.asked_for_nothing = true;
         }
@@ -70,12 +73,12 @@ impl Read for Script<'_> {
 
 /// What came of a call: the bytes and whether the end was seen, or the bytes and the kind of the error.
 #[derive(Clone, Copy, PartialEq, Eq, Debug)]
-enum End {
+pub(super) enum End {
     Taken(u64, bool),
     Fault(u64, ErrorKind),
 }
 
-fn end_of(outcome: Result<Taken, Fault>) -> End {
+pub(super) fn end_of(outcome: Result<Taken, Fault>) -> End {
     match outcome {
         Ok(taken) => End::Taken(taken.bytes, taken.ended),
         Err(fault) => End::Fault(fault.bytes, fault.error.kind()),
@@ -83,7 +86,7 @@ fn end_of(outcome: Result<Taken, Fault>) -> End {
 }
 
 /// That a call ended as wanted, in one turn of a loop.
-fn same_end(rt: &impl Abort, turn: usize, got: End, want: End) {
+pub(super) fn same_end(rt: &impl Abort, turn: usize, got: End, want: End) {
     assert_eq!(rt; got, want, "at {turn}");
 }
 
@@ -101,7 +104,7 @@ fn reads_on<const N: usize>(rt: &impl Abort, r: &mut Script, steps: &[(u64, End,
 }
 
 /// The hashes of nothing, `a`, `ab`, `abc`, `abcd` and `abcdefg`.
-const OF_NOTHING: u64 = 14695981039346656037;
+pub(super) const OF_NOTHING: u64 = 14695981039346656037;
 
 const OF_A: u64 = 12638187200555641996;
 

@@ -252,6 +252,21 @@ fn full_buckets(rt: HostRuntime) {
     numbered::<500>(&rt, alloc, 1000, 2);
 }
 
+/// Keys of no byte, of 255 and 256, and of 70,000 bytes, each the beginning of the next.
+#[test]
+fn long_keys(rt: HostRuntime) {
+    let alloc = rt.alloc();
+    let mut table = new_table::<FNV1aHasher64, 3>(&rt, alloc);
+    let text = [7; 70_000];
+    for (turn, len) in [0, 1, 255, 256, 70_000usize].iter().enumerate() {
+        let name = key(&rt, alloc, &text[..*len]);
+        let old = insert(&rt, &mut table, name, turn as u64);
+        same_reply_at(&rt, turn, old, None);
+        same_reply_at(&rt, turn, table.get(&text[..*len]), Some(turn as u64));
+    }
+    all_hold(&rt, &[table.len() == 5]);
+}
+
 /// The replies to 1001 commands.
 #[test]
 fn a_thousand_and_one_commands(rt: HostRuntime) {

@@ -1,0 +1,22 @@
+//! A list of words that is kept as a filter.
+ghost use Rattle.std.specs.Prelude.{IfSome, All};
+ghost use Rattle.hash_bloom.specs.Filter.{Passes};
+
+use hash_bloom::Bloom;
+use hashers::laws::Piecewise;
+use std::alloc::Global;
+
+/// A filter of the words, stored and read back: each word passes. `None` where memory is short.
+pub fn words_read_back<F: Piecewise, G: Piecewise>(
+    alloc: Global,
+    words: &[&[u8]],
+) -> Option<Bloom<F, G>>
+    ensures { IfSome result (λ filter. All (λ word. Passes F.hash_of G.hash_of filter word.now) words.now) }
+{
+    let mut filter = Bloom::<F, G>::for_keys(alloc, words.len() as u64, 10).ok()?;
+    for word in words {
+        filter.insert(word);
+    }
+    let (bits, probes) = (filter.bits(), filter.probes());
+    Bloom::from_words(filter.into_words(), bits, probes).ok()
+}
