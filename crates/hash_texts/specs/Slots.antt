@@ -61,6 +61,10 @@ free_count slots = count_by (λ slot. not (is_taken slot)) slots
 abbrev pub IsTagged : (List ℕ → ℕ) → List (List ℕ) → Slot → Type 0
 IsTagged tag texts slot = is_taken slot ≡ true → slot.tag ≡ tag (text_of texts slot)
 
+-- where a text stands at the place, it has the tag of this one
+abbrev pub SharesTag : (List ℕ → ℕ) → List (List ℕ) → List ℕ → ℕ → Type 0
+SharesTag tag texts text place = place < length texts → tag (slice_index_or texts place []) ≡ tag text
+
 -- whether a slot with a text passes the test
 abbrev pub some_taken : (Slot → Bool) → List Slot → Bool
 some_taken test slots = list_any (λ slot. is_taken slot && test slot) slots

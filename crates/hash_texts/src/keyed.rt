@@ -7,7 +7,11 @@ use std::hash::{BuildHasher, Hasher};
 use std::io;
 use std::random::RandomSource;
 
-/// Two random keys, and the hashers that start from them. Whoever does not know the keys cannot choose texts that collide.
+/// Two random keys, and the hashers that start from them, for texts that somebody else chooses.
+///
+/// Nobody is known to make texts that collide who does not know the keys. That is no proof: the step is made for speed and no
+/// cipher, and whoever measures times or sees hashes may learn the keys. std's `RandomState` rests on a function that was made to
+/// keep its keys, and is slower.
 #[derive(Clone, Copy)]
 pub struct RandomKeys {
     first: u64,
@@ -47,6 +51,9 @@ impl BuildHasher for RandomKeys {
 /// A hasher by folded multiplication under two keys: it multiplies 16 bytes at a time, each half under a key, and joins the
 /// halves of the product by xor. So std's `FoldHasher` hashes, under one known key; the step is wyhash's (Wang Yi, in the
 /// public domain). A cut between two writes shows.
+///
+/// The first key and a text's length are added, so texts of near lengths collide under a share of all keys. Of texts of up to 8
+/// bytes at most nine, one of each length, meet in one factor, whatever the keys are.
 #[derive(Clone, Copy)]
 pub struct KeyedHasher {
     state: u64,

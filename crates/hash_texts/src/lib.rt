@@ -11,4 +11,4 @@ mod tests;
 mod texts;
 
 pub use keyed::{KeyedHasher, RandomKeys};
-pub use texts::{Full, Seen, Texts};
+pub use texts::{Full, Iter, Seen, Texts};

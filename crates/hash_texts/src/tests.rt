@@ -1,5 +1,5 @@
 //! Tests of the set of texts, beside a set of std.
-use crate::{RandomKeys, Texts};
+use crate::{Full, RandomKeys, Texts};
 use std::alloc::{AllocError, Global};
 use std::collections::HashSet;
 use std::hash::{BuildHasher, Hasher, RandomState};
@@ -94,6 +94,23 @@ fn each_key_matters(rt: HostRuntime) {
     }
 }
 
+#[test]
+fn each_error_is_told(rt: HostRuntime) {
+    let told = [
+        (Full::NoMemory, "there is no memory for a text more"),
+        (
+            Full::TooManyTexts,
+            "there are 2^32 - 1 texts, and a set has no more",
+        ),
+    ];
+    for (full, text) in told {
+        match format!(in rt.alloc(); "{full}") {
+            Ok(line) => all_hold(&rt, &[line.as_str() == text]),
+            Err(_) => all_hold(&rt, &[false]),
+        }
+    }
+}
+
 /// The empty text, texts that begin others, and the place of each.
 const SEEN: [(&[u8], usize, bool); 9] = [
     (b"ab", 0, true),
@@ -120,6 +137,11 @@ fn places_in_the_order_of_texts(rt: HostRuntime) {
                 }
             }
             all_hold(&rt, &[texts.len() == 5, texts.place_of(b"c") == None]);
+            let mut all = Vec::new(rt.alloc());
+            for text in texts.iter() {
+                all_hold(&rt, &[all.extend_from_slice(text).is_ok()]);
+            }
+            all_hold(&rt, &[all.as_slice() == b"abaabcb".as_slice()]);
         }
         Err(_) => all_hold(&rt, &[false]),
     }

@@ -1,11 +1,15 @@
 //! The set of texts.
-ghost use Rattle.std.specs.Prelude.{◌≡◌, ◌<◌, ℕ, List, [], IfOk, IfSome, IfNone, OnOk, OnErr, not, false, length, slice_index_or};
-ghost use Rattle.hash_texts.specs.Slots.{IsTable, tag_by};
+ghost use Rattle.std.specs.Prelude.{◌≡◌, ◌<◌, ℕ, List, [], IfOk, IfSome, IfNone, OnOk, OnErr, not, false, length, slice_index_or, drop};
+ghost use Rattle.std.specs.Iterator.{YieldsFirstRef, item_count};
+ghost use Rattle.hash_texts.specs.Slots.{IsTable, SharesTag, tag_by};
 ghost use Rattle.hash_texts.specs.Texts.{EachOnce, StandsAt, has, with_text};
 
 use crate::slots::{NOWHERE, Slot, home_of, make_room, stop, tag_of};
 use crate::store::Store;
 use std::alloc::{AllocError, Global};
+use std::error::Error;
+use std::fmt;
+use std::fmt::{Display, Formatter};
 use std::hash::BuildHasher;
 use std::marker::Model;
 
@@ -19,13 +23,24 @@ pub struct Seen {
 }
 
 /// Why a text could not be taken in.
-#[derive(Clone, Copy, PartialEq, Eq)]
+#[derive(Clone, Copy, Debug, PartialEq, Eq)]
 pub enum Full {
     /// There was no memory.
     NoMemory,
     /// There were 2^32 - 1 texts, and a set has no more.
     TooManyTexts,
 }
+
+impl Display for Full {
+    fn fmt<W: fmt::Write>(&self, f: &mut Formatter<W>) -> fmt::Result {
+        match self {
+            Full::NoMemory => write!(f, "there is no memory for a text more"),
+            Full::TooManyTexts => write!(f, "there are 2^32 - 1 texts, and a set has no more"),
+        }
+    }
+}
+
+impl Error for Full {}
 
 impl From<AllocError> for Full {
     fn from(_error: AllocError) -> Full {
@@ -39,8 +54,7 @@ impl From<AllocError> for Full {
 /// the first slot that was free, round from where its hash points. So the time of a call depends on the hasher, and the
 /// answers do not. A text costs its bytes, 8 bytes, and 11 to 22 bytes of the table.
 ///
-/// Where somebody else chooses the texts, take `RandomKeys` as the hasher, or std's `RandomState`, which is slower: whoever does
-/// not know its keys cannot choose texts that collide.
+/// Where somebody else chooses the texts, take `RandomKeys` as the hasher, or std's `RandomState`, which is slower.
 #[derive(Drop)]
 pub struct Texts<S: BuildHasher + Drop> {
     alloc: Global,
@@ -102,6 +116,16 @@ impl<S: BuildHasher + Drop> Texts<S> {
         self.texts.get(place)
     }
 
+    /// The texts in the order in which they came.
+    pub fn iter(&self) -> Iter<'_>
+        ensures { result ≡ self.now }
+    {
+        Iter {
+            texts: &self.texts,
+            place: 0,
+        }
+    }
+
     /// The place of a text, if it is there.
     pub fn place_of(&self, text: &[u8]) -> Option<usize>
         ensures there { IfSome result (λ place. StandsAt self.now text.now place) }
@@ -124,17 +148,23 @@ impl<S: BuildHasher + Drop> Texts<S> {
         }
     }
 
-    /// Where the text may stand: the place that the first slot of its search names under its tag. It is no more than a guess for
-    /// `see_at`, and waits for the table alone, so that a caller may guess for several texts before it sees the first.
+    /// Where the text may stand: the place that the first slot of its search names, where that has the text's tag, and else
+    /// no text's. So the text that stands there has 32 bits of its hash in common with this one, and is mostly the same. It waits for
+    /// the table alone, so that a caller may guess for several texts before it sees the first by `see_at`.
     #[inline(always)]
-    pub fn guess(&self, text: &[u8]) -> usize {
+    pub fn guess(&self, text: &[u8]) -> usize
+        ensures { (hasher : S) × SharesTag (λ text. tag_by (S.Hasher.finish (S.Hasher.write (S.build_hasher hasher) text))) self.now text.now result }
+    {
         if self.slots.is_empty() {
-            return 0;
+            return self.len();
         }
         let tag = tag_of(&self.hasher, text);
         let slot = self.slots[home_of(self.slots.len(), tag)];
-        // No branch: where the tags differ, no text has this place.
-        slot.place as usize | ((slot.tag ^ tag) as usize) << 32
+        if slot.tag == tag && slot.is_taken() {
+            slot.place as usize
+        } else {
+            self.len()
+        }
     }
 
     /// Does what `see` does, whatever the guess is. Where the text stands at that place, this is faster.
@@ -186,5 +216,35 @@ impl<S: BuildHasher + Drop> Texts<S> {
             place,
             is_new: true,
         })
+    }
+}
+
+/// The texts of a set from a place on, in the order in which they came.
+#[derive(Drop)]
+pub struct Iter<'a> {
+    texts: &'a Store,
+    place: usize,
+}
+
+impl<'a> Model for Iter<'a> {
+    ghost Value = { List (List ℕ) };
+
+    ghost view = { λ iter. drop iter.place iter.texts.now };
+}
+
+impl<'a> Iterator for Iter<'a> {
+    type Item = &'a [u8];
+
+    ghost next_gives = { YieldsFirstRef (λ iter. iter) };
+
+    ghost remaining = { item_count (λ iter. iter) };
+
+    fn next(&mut self) -> Option<&'a [u8]> {
+        if self.place >= self.texts.len() {
+            return None;
+        }
+        let text = self.texts.get(self.place);
+        self.place += 1;
+        Some(text)
     }
 }
