@@ -3,7 +3,7 @@ use Rattle.std.proofs.Common.{ℕ, zero, suc, ◌≡◌, ◌+◌, ◌*◌, ◌/�
 use Rattle.std.proofs.Math.Nat.{pow-zero, pow-suc, add-mod-mod, mod-add-mod, mul-add-mod_self_left, div-add-mod}
 use Rattle.std.proofs.lemmas.Nat.{pow-mod, pow-add, mul-mod, mul-mod_first}
 use Rattle.hash_rounds.specs.Sums.{digit_sum, sdbm_from, loselose_from, passthrough_from}
-use Rattle.hash_rounds.proofs.SumLemmas.{sdbm-append, loselose-append, loselose-add, passthrough-append}
+use Rattle.hash_rounds.proofs.SumLemmas.{sdbm_sums, loselose-append, loselose-add, passthrough_sums}
 
 -- a number by itself, and behind a number: for each base and modulus
 module _ (x m : ℕ) where
@@ -14,12 +14,12 @@ module _ (x m : ℕ) where
 
 pub sdbm_joined : (x y : List ℕ) → sdbm_from 0 (x ++ y) ≡ (sdbm_from 0 x * 65599 ^ length y + sdbm_from 0 y) % 2 ^ 32
 unfolding sdbm_from
-sdbm_joined x y = sym (sdbm-append 0 x y) ∙ behind 65599 (2 ^ 32) (sdbm_from 0 x * 65599 ^ length y) y
+sdbm_joined x y = sym (sdbm_sums.joined 0 x y) ∙ behind 65599 (2 ^ 32) (sdbm_from 0 x * 65599 ^ length y) y
 
 pub passthrough_joined : (x y : List ℕ) → passthrough_from 0 (x ++ y)
     ≡ (passthrough_from 0 x * 256 ^ length y + passthrough_from 0 y) % 2 ^ 64
 unfolding passthrough_from
-passthrough_joined x y = sym (passthrough-append 0 x y) ∙ behind 256 (2 ^ 64) (passthrough_from 0 x * 256 ^ length y) y
+passthrough_joined x y = sym (passthrough_sums.joined 0 x y) ∙ behind 256 (2 ^ 64) (passthrough_from 0 x * 256 ^ length y) y
 
 pub loselose_joined : (x y : List ℕ) → loselose_from 0 (x ++ y) ≡ (loselose_from 0 x + loselose_from 0 y) % 2 ^ 64
 loselose_joined x y = sym (loselose-append 0 x y) ∙ sym (loselose-add (loselose_from 0 x) y)

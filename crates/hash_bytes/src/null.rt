@@ -3,7 +3,7 @@ ghost use Rattle.std.specs.Prelude.{◌≡◌, ◌<◌, ◌^◌, ◌-◌, ◌+�
 ghost use Rattle.std.proofs.Common.{lit<, sym};
 ghost use Rattle.std.proofs.Math.Nat.{mod-lt};
 ghost use Rattle.hash_rounds.specs.Sums.{digit_sum, passthrough_from, passthrough_step};
-ghost use Rattle.hash_rounds.proofs.SumLemmas.{passthrough-fold, passthrough-lt, passthrough-nil, passthrough-append};
+ghost use Rattle.hash_rounds.proofs.SumLemmas.{passthrough_sums, passthrough-lt};
 ghost use Rattle.hash_laws.specs.Standing.{StandsAt};
 ghost use Rattle.hash_laws.proofs.ByteLemmas as bytewise;
 
@@ -65,19 +65,8 @@ impl Piecewise for NullHasher {
 
     ghost first = { record {} };
 
-    fn fresh() -> NullHasher {
-        NullHasher
-    }
-
     #[inline(always)]
-    fn feed(&mut self, piece: &[u8]) {
-        self.write(piece);
-    }
-
-    #[inline(always)]
-    fn answer(&self) -> u64 {
-        self.finish()
-    }
+    fn state_in_range(&self) {}
 
     #[inline(always)]
     fn fork(&self) -> NullHasher {
@@ -209,7 +198,7 @@ impl ByteRule for PassThroughRule {
         *state
     }
 
-    ghost is_fold = { passthrough-fold };
+    ghost is_fold = { passthrough_sums.is_fold };
 
     ghost write_is_after = { λ s text. refl };
 }

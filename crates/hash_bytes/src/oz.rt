@@ -5,7 +5,7 @@ ghost use Rattle.hash_rounds.specs.Sums.{sdbm_from, loselose_from, sdbm_step, lo
 ghost use Rattle.hash_bytes.specs.Oz.{djb2_step, djb2_from};
 ghost use Rattle.hash_bytes.specs.OzLaws.{djb2_facts};
 ghost use Rattle.hash_rounds.proofs.SumStepLemmas.{sdbm_facts, loselose_facts};
-ghost use Rattle.hash_rounds.proofs.SumLemmas.{sdbm-fold, loselose-fold};
+ghost use Rattle.hash_rounds.proofs.SumLemmas.{sdbm_sums, loselose-fold};
 ghost use Rattle.hash_laws.proofs.RecurrenceLemmas.{recurrence_is_fold};
 ghost use Rattle.hash_bytes.specs.CountedSum.{sdbm_write, loselose_write};
 
@@ -242,7 +242,7 @@ impl ByteRule for SdbmRule {
         u64::from(state.state)
     }
 
-    ghost is_fold = { sdbm-fold };
+    ghost is_fold = { sdbm_sums.is_fold };
 
     ghost write_is_after = { λ s text. refl };
 }

@@ -2,7 +2,7 @@
 use Rattle.std.proofs.Common.{◌≡◌, ◌≢◌, ◌⊎◌, ℕ, zero, suc, ◌+◌, ◌<◌, ◌≤◌, ◌==◌, if◌then◌else◌, List, [], ◌∷◌, ◌++◌, length, map, take, get_or, zero-add, add-zero, arith, refl, sym, ap, ◌∙◌, inl, inr}
 use Rattle.std.proofs.Math.Path.{ap₂}
 use Rattle.std.proofs.lemmas.Bool.{cases_eq, eq-eqb, ne_eqb}
-use Rattle.std.proofs.lemmas.List.{length-map, length-take-le, map_more, take_more}
+use Rattle.std.proofs.lemmas.List.{length-map, length-take-le, map_more}
 use Rattle.hash_fx.specs.Differences.{differences}
 use Rattle.hash_fx.proofs.OneApart.{OneApart}
 
@@ -63,38 +63,31 @@ OneApart-one (a ∷ x) (b ∷ y) one = elim one [
   | inr later ↦ omega (arith, place-same a b later.0, OneApart-one x y later.1)
 ]
 
--- one place more, of lists that are made from others
-module _ {X : Type 0} (f : X → ℕ) (x y : List X) (i : ℕ) (d : X) (in_x : i < length x) (in_y : i < length y) where
+-- of the parts of two lists, the first parts being as long
+pub differences-parts : {X : Type 0} (f : X → ℕ) (p q : List X) (x y all_x all_y : List ℕ) → length p ≡ length q
+    → map f p ++ x ≡ all_x → map f q ++ y ≡ all_y → differences (map f p) (map f q) + differences x y ≡ differences all_x all_y
+differences-parts f p q x y all_x all_y len parts_x parts_y =
+    sym (differences-append (map f p) (map f q) x y (length-map p f ∙ len ∙ sym (length-map q f)))
+    ∙ ap₂ differences parts_x parts_y
+
+-- one place more, of lists that are made from others: a and b stand there
+module _ {X : Type 0} (f : X → ℕ) (x y : List X) (i : ℕ) (a b : X) (a_is : a ≡ get_or x i a) (b_is : b ≡ get_or y i b)
+    (in_x : i < length x) (in_y : i < length y) where
   differences-more : differences (map f (take (i + 1) x)) (map f (take (i + 1) y))
-      ≡ differences (map f (take i x)) (map f (take i y)) + place (f (get_or x i d)) (f (get_or y i d))
+      ≡ differences (map f (take i x)) (map f (take i y)) + place (f a) (f b)
   differences-more =
       let same : length (map f (take i x)) ≡ length (map f (take i y)) =
       length-map (take i x) f ∙ length-take-le i x (omega (arith, in_x))
       ∙ sym (length-map (take i y) f ∙ length-take-le i y (omega (arith, in_y))) in
-      ap₂ differences (map_more f x i d in_x) (map_more f y i d in_y)
-      ∙ differences-append (map f (take i x)) (map f (take i y)) (f (get_or x i d) ∷ []) (f (get_or y i d) ∷ []) same
-      ∙ ap (λ n. differences (map f (take i x)) (map f (take i y)) + n) (add-zero (place (f (get_or x i d)) (f (get_or y i d))))
+      ap₂ differences (map_more f x i a in_x ∙ ap (λ v. map f (take i x) ++ f v ∷ []) (sym a_is))
+      (map_more f y i b in_y ∙ ap (λ v. map f (take i y) ++ f v ∷ []) (sym b_is))
+      ∙ differences-append (map f (take i x)) (map f (take i y)) (f a ∷ []) (f b ∷ []) same
+      ∙ ap (λ n. differences (map f (take i x)) (map f (take i y)) + n) (add-zero (place (f a) (f b)))
 
-  pub more-same : f (get_or x i d) ≡ f (get_or y i d) → differences (map f (take (i + 1) x)) (map f (take (i + 1) y))
-      ≡ differences (map f (take i x)) (map f (take i y))
-  more-same same = omega (arith, differences-more, place-same _ _ same)
+  pub more-same : (n : ℕ) → n ≡ differences (map f (take i x)) (map f (take i y)) → f a ≡ f b
+      → n ≡ differences (map f (take (i + 1) x)) (map f (take (i + 1) y))
+  more-same n so_far same = omega (arith, differences-more, place-same _ _ same)
 
-  pub more-differ : f (get_or x i d) ≢ f (get_or y i d) → differences (map f (take (i + 1) x)) (map f (take (i + 1) y))
-      ≡ differences (map f (take i x)) (map f (take i y)) + 1
-  more-differ differ = omega (arith, differences-more, place-differ _ _ differ)
-
--- the same of bytes
-module _ (x y : List ℕ) (i d : ℕ) (in_x : i < length x) (in_y : i < length y) where
-  bytes-more : differences (take (i + 1) x) (take (i + 1) y) ≡ differences (take i x) (take i y) + place (get_or x i d) (get_or y i d)
-  bytes-more =
-      let same : length (take i x) ≡ length (take i y) = length-take-le i x (omega (arith, in_x))
-      ∙ sym (length-take-le i y (omega (arith, in_y))) in
-      ap₂ differences (take_more x i d in_x) (take_more y i d in_y)
-      ∙ differences-append (take i x) (take i y) (get_or x i d ∷ []) (get_or y i d ∷ []) same
-      ∙ ap (λ n. differences (take i x) (take i y) + n) (add-zero (place (get_or x i d) (get_or y i d)))
-
-  pub byte-same : get_or x i d ≡ get_or y i d → differences (take (i + 1) x) (take (i + 1) y) ≡ differences (take i x) (take i y)
-  byte-same same = omega (arith, bytes-more, place-same _ _ same)
-
-  pub byte-differ : get_or x i d ≢ get_or y i d → differences (take (i + 1) x) (take (i + 1) y) ≡ differences (take i x) (take i y) + 1
-  byte-differ differ = omega (arith, bytes-more, place-differ _ _ differ)
+  pub more-differ : (n : ℕ) → n ≡ differences (map f (take i x)) (map f (take i y)) → f a ≢ f b
+      → n + 1 ≡ differences (map f (take (i + 1) x)) (map f (take (i + 1) y))
+  more-differ n so_far differ = omega (arith, differences-more, place-differ _ _ differ)

@@ -9,3 +9,4 @@ pub mod WholeWords
 pub mod WordsApart
 pub mod DifferencesLemmas
 pub mod WordTests
+pub mod WordParts

@@ -75,21 +75,26 @@ chunks_length : (n k : ℕ) (x y : List ℕ) → length (map le (first_chunks n 
 chunks_length n zero x y = refl
 chunks_length n (suc k) x y = ap suc (chunks_length n k (drop n x) (drop n y))
 
+-- and as many bytes behind them
+rest_length : (n : ℕ) (x y : List ℕ) → length x ≡ length y
+    → (length y / n ≡ length x / n) × (length (drop (length x / n * n) x) ≡ length (drop (length x / n * n) y))
+rest_length n x y len =
+    let k = length x / n in
+    (ap (λ m. m / n) (sym len), omega (arith, length-drop (k * n) x, length-drop (k * n) y, len))
+
 pub words32-length : (x y : List ℕ) → length x ≡ length y → length (words32 x) ≡ length (words32 y)
 unfolding pieces
 words32-length x y len =
     let k = length x / 4 in
-    let same : length y / 4 ≡ k = ap (λ m. m / 4) (sym len) in
-    let rest : length (drop (k * 4) x) ≡ length (drop (k * 4) y) = omega (arith, length-drop (k * 4) x, length-drop (k * 4) y, len) in
-    rw same (length-append (map le (first_chunks 4 k x)) (drop (k * 4) x) ∙ ap₂ (λ a b. a + b) (chunks_length 4 k x y) rest
+    let rest = rest_length 4 x y len in
+    rw rest.0 (length-append (map le (first_chunks 4 k x)) (drop (k * 4) x) ∙ ap₂ (λ a b. a + b) (chunks_length 4 k x y) rest.1
     ∙ sym (length-append (map le (first_chunks 4 k y)) (drop (k * 4) y)))
 
 pub words64-length : (x y : List ℕ) → length x ≡ length y → length (words64 x) ≡ length (words64 y)
 unfolding pieces
 words64-length x y len =
     let k = length x / 8 in
-    let same : length y / 8 ≡ k = ap (λ m. m / 8) (sym len) in
-    let rest : length (drop (k * 8) x) ≡ length (drop (k * 8) y) = omega (arith, length-drop (k * 8) x, length-drop (k * 8) y, len) in
-    rw same (length-append (map le (first_chunks 8 k x)) (words32 (drop (k * 8) x))
-    ∙ ap₂ (λ a b. a + b) (chunks_length 8 k x y) (words32-length _ _ rest)
+    let rest = rest_length 8 x y len in
+    rw rest.0 (length-append (map le (first_chunks 8 k x)) (words32 (drop (k * 8) x))
+    ∙ ap₂ (λ a b. a + b) (chunks_length 8 k x y) (words32-length _ _ rest.1)
     ∙ sym (length-append (map le (first_chunks 8 k y)) (words32 (drop (k * 8) y))))

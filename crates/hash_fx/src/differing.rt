@@ -1,50 +1,57 @@
 //! At how many places the words of two pieces of one length differ.
-ghost use Rattle.std.specs.Prelude.{◌≡◌, ◌≤◌, length, map};
+ghost use Rattle.std.specs.Prelude.{◌≡◌, ◌≤◌, ◌↔◌, ℕ, IsTrue, length, map};
 ghost use Rattle.hash_rounds.specs.Words.{le};
 ghost use Rattle.hash_fx.specs.Differences.{differences};
 ghost use Rattle.hash_fx.specs.Fx.{words32};
 
 use hash_rounds::{le_four, le64};
 
-/// Of words of eight bytes.
-pub fn differing_eights(x: &[[u8; 8]], y: &[[u8; 8]]) -> usize
-    requires { length x.now ≡ length y.now }
-    ensures value { result ≡ differences (map le x.now) (map le y.now) }
-    ensures few { result ≤ length x.now }
-{
-    let mut count = 0;
-    for i in 0..x.len() {
-        if le64(&x[i]) != le64(&y[i]) {
-            count += 1;
-        }
-    }
-    count
+/// Bytes that are one word.
+pub trait WordBytes {
+    /// The word.
+    ghost word: { Self → ℕ };
+
+    /// Whether the words are equal.
+    fn same(&self, other: &Self) -> bool
+        ensures { IsTrue result ↔ (word self.now ≡ word other.now) };
 }
 
-/// Of words of four bytes.
-fn differing_fours(x: &[[u8; 4]], y: &[[u8; 4]]) -> usize
-    requires { length x.now ≡ length y.now }
-    ensures value { result ≡ differences (map le x.now) (map le y.now) }
-    ensures few { result ≤ length x.now }
-{
-    let mut count = 0;
-    for i in 0..x.len() {
-        if le_four(&x[i]) != le_four(&y[i]) {
-            count += 1;
-        }
+impl WordBytes for [u8; 8] {
+    ghost word = { le };
+
+    #[inline(always)]
+    fn same(&self, other: &[u8; 8]) -> bool {
+        le64(self) == le64(other)
     }
-    count
 }
 
-/// Of single bytes.
-fn differing_bytes(x: &[u8], y: &[u8]) -> usize
+impl WordBytes for [u8; 4] {
+    ghost word = { le };
+
+    #[inline(always)]
+    fn same(&self, other: &[u8; 4]) -> bool {
+        le_four(self) == le_four(other)
+    }
+}
+
+impl WordBytes for u8 {
+    ghost word = { λ byte. byte };
+
+    #[inline(always)]
+    fn same(&self, other: &u8) -> bool {
+        *self == *other
+    }
+}
+
+/// Of words that lie one behind the other.
+pub fn differing_words<B: WordBytes>(x: &[B], y: &[B]) -> usize
     requires { length x.now ≡ length y.now }
-    ensures value { result ≡ differences x.now y.now }
+    ensures value { result ≡ differences (map B.word x.now) (map B.word y.now) }
     ensures few { result ≤ length x.now }
 {
     let mut count = 0;
     for i in 0..x.len() {
-        if x[i] != y[i] {
+        if !x[i].same(&y[i]) {
             count += 1;
         }
     }
@@ -59,5 +66,5 @@ pub fn differing_fours_and_bytes(x: &[u8], y: &[u8]) -> usize
 {
     let (x_fours, x_bytes) = x.as_chunks::<4>();
     let (y_fours, y_bytes) = y.as_chunks::<4>();
-    differing_fours(x_fours, y_fours) + differing_bytes(x_bytes, y_bytes)
+    differing_words(x_fours, y_fours) + differing_words(x_bytes, y_bytes)
 }

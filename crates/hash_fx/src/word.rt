@@ -9,7 +9,7 @@ ghost use Rattle.hash_fx.specs.FxLaws.{words32-fit, words32-length, words32-nil,
 ghost use Rattle.hash_fx.specs.Differences.{differences};
 ghost use Rattle.hash_fx.specs.FxStepLaws.{fx32_facts, fx64_facts};
 
-use crate::differing::{differing_eights, differing_fours_and_bytes};
+use crate::differing::{differing_fours_and_bytes, differing_words};
 use crate::words::{eights_in, eights_out, fours_and_bytes_in, fours_and_bytes_out};
 use hash_rounds::{le_four, rotl32, rotl64};
 
@@ -238,7 +238,7 @@ impl FxSplit for u64 {
     fn differing(x: &[u8], y: &[u8]) -> usize {
         let (x_eights, x_rest) = x.as_chunks::<8>();
         let (y_eights, y_rest) = y.as_chunks::<8>();
-        differing_eights(x_eights, y_eights) + differing_fours_and_bytes(x_rest, y_rest)
+        differing_words(x_eights, y_eights) + differing_fours_and_bytes(x_rest, y_rest)
     }
 
     ghost words_length = { words64-length };

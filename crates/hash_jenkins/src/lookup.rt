@@ -181,18 +181,10 @@ impl Piecewise for Lookup3Hasher {
 
     ghost first = { (0, 0) };
 
-    fn fresh() -> Lookup3Hasher {
-        Lookup3Hasher::default()
-    }
-
     #[inline(always)]
-    fn feed(&mut self, piece: &[u8]) {
-        self.write(piece);
-    }
-
-    #[inline(always)]
-    fn answer(&self) -> u64 {
-        self.finish()
+    fn state_in_range(&self) {
+        let _pc = self.pc;
+        let _pb = self.pb;
     }
 
     #[inline(always)]

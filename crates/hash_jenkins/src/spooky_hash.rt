@@ -159,18 +159,9 @@ impl Piecewise for SpookyHasher {
 
     ghost first = { record { at = position 0 0 []; turns = 0 } };
 
-    fn fresh() -> SpookyHasher {
-        SpookyHasher::default()
-    }
-
     #[inline(always)]
-    fn feed(&mut self, piece: &[u8]) {
-        self.write(piece);
-    }
-
-    #[inline(always)]
-    fn answer(&self) -> u64 {
-        self.finish()
+    fn state_in_range(&self) {
+        let _parts = &self.parts;
     }
 
     fn fork(&self) -> SpookyHasher {

@@ -44,21 +44,38 @@ pub trait Piecewise: Default + Hasher + Drop {
     fn fresh() -> Self
         ensures is_default { Self.is_default result }
         ensures state { state result ≡ fresh }
-        ensures in_range { in_range (state result) };
+        ensures in_range { in_range (state result) }
+    {
+        Self::default()
+    }
+
+    /// A law with no code: a hasher's state is in range.
+    fn state_in_range(&self)
+        ensures { in_range (state self.now) };
 
     /// Takes a piece in: `write` under this trait's contract.
+    #[inline(always)]
     fn feed(&mut self, piece: &[u8])
         ensures written { self.new ≡ Self.write self.old piece.now }
         ensures state { state self.new ≡ after (state self.old) piece.now }
         ensures in_range_before { in_range (state self.old) }
         ensures in_range_after { in_range (state self.new) }
-        ensures text { IsText piece.now };
+        ensures text { IsText piece.now }
+    {
+        self.state_in_range();
+        self.write(piece);
+    }
 
     /// The hash of what was fed so far: `finish` under this trait's contract. Asking changes nothing.
+    #[inline(always)]
     fn answer(&self) -> u64
         ensures finished { result ≡ Self.finish self.now }
         ensures value { result ≡ answer (state self.now) }
-        ensures in_range { in_range (state self.now) };
+        ensures in_range { in_range (state self.now) }
+    {
+        self.state_in_range();
+        self.finish()
+    }
 
     /// Another hasher of the same value: a text's beginning is hashed once, and many endings behind it.
     fn fork(&self) -> Self

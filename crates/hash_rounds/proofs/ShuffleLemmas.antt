@@ -180,26 +180,6 @@ stays f all j j_in = let here = at_below (λ j. nat_lt (f j) 64) 64 j all j_in i
 agree : (f g : ℕ → ℕ) → IsTrue (below (λ j. f j == g j) 64) → (j : ℕ) → j < 64 → f j ≡ g j
 agree f g all j j_in = let here = at_below (λ j. f j == g j) 64 j all j_in in grind (arith, nat_tests)
 
-e8-lt : (j : ℕ) → j < 64 → e8 j < 64
-unfolding below e8
-e8-lt = stays e8 refl
-
-e4-lt : (j : ℕ) → j < 64 → e4 j < 64
-unfolding below e4
-e4-lt = stays e4 refl
-
-e2-lt : (j : ℕ) → j < 64 → e2 j < 64
-unfolding below e2
-e2-lt = stays e2 refl
-
-e1-lt : (j : ℕ) → j < 64 → e1 j < 64
-unfolding below e1
-e1-lt = stays e1 refl
-
-h-lt : (j : ℕ) → j < 64 → h j < 64
-unfolding below h
-h-lt = stays h refl
-
 shuffle_from-lt : (j : ℕ) → j < 64 → shuffle_from j < 64
 unfolding below
 shuffle_from-lt = stays shuffle_from refl
@@ -228,35 +208,43 @@ to_from = agree (λ j. shuffle_to (shuffle_from j)) (λ j. j) refl
 unfoldable pub IsMoved : (ℕ → ℕ) → ℕ → ℕ → Type 0
 IsMoved f x y = (j : ℕ) → j < 64 → bit_at y j ≡ bit_at x (f j)
 
+-- moved twice
+moved_then : (f g : ℕ → ℕ) (x y z : ℕ) → IsTrue (below (λ j. nat_lt (g j) 64) 64) → IsMoved f x y → IsMoved g y z
+    → IsMoved (λ j. f (g j)) x z
+unfolding IsMoved
+moved_then f g x y z stay first second j j_in = second j j_in ∙ first (g j) (stays g stay j j_in)
+
 -- ---- the calls
+
+moved_halves : (x y : ℕ) → x < 2 ^ 64 → y ≡ swap_halves x → IsMoved h x y
+unfolding IsMoved h
+moved_halves x y x_in halves j j_in = ap (λ n. bit_at n j) halves ∙ bit_at-swap_halves x j x_in j_in
 
 pub shuffle_by : (x a b c d r : ℕ) → x < 2 ^ 64 → r < 2 ^ 64
     → a ≡ swap_halves x → IsMoved (exchanged 0x0000_ff00_0000_ff00 8) a b → IsMoved (exchanged 0x00f0_00f0_00f0_00f0 4) b c
     → IsMoved (exchanged 0x0c0c_0c0c_0c0c_0c0c 2) c d → IsMoved (exchanged 0x2222_2222_2222_2222 1) d r
     → r ≡ shuffle x
-unfolding IsMoved e1 e2 e4 e8 h
+unfolding IsMoved below e1 e2 e4 e8 h
 shuffle_by x a b c d r x_in r_in halves bytes nibbles pairs bits =
-    is_from_bits (λ j. bit_at x (shuffle_from j)) 64 r (λ j. bit_at-lt x (shuffle_from j)) r_in (λ j j_in.
-    let in1 = e1-lt j j_in in
-    let in2 = e2-lt (e1 j) in1 in
-    let in4 = e4-lt (e2 (e1 j)) in2 in
-    let in8 = e8-lt (e4 (e2 (e1 j))) in4 in
-    bits j j_in ∙ pairs (e1 j) in1 ∙ nibbles (e2 (e1 j)) in2 ∙ bytes (e4 (e2 (e1 j))) in4
-    ∙ ap (λ n. bit_at n (e8 (e4 (e2 (e1 j))))) halves ∙ bit_at-swap_halves x (e8 (e4 (e2 (e1 j)))) x_in in8 ∙ ap (bit_at x) (forth j j_in))
+    let to_b = moved_then h e8 x a b refl (moved_halves x a x_in halves) bytes in
+    let to_c = moved_then _ e4 x b c refl to_b nibbles in
+    let to_d = moved_then _ e2 x c d refl to_c pairs in
+    let to_r = moved_then _ e1 x d r refl to_d bits in
+    is_from_bits (λ j. bit_at x (shuffle_from j)) 64 r (λ j. bit_at-lt x (shuffle_from j)) r_in
+    (λ j j_in. to_r j j_in ∙ ap (bit_at x) (forth j j_in))
 
 pub unshuffle_by : (x a b c d r : ℕ) → d < 2 ^ 64 → r < 2 ^ 64
     → IsMoved (exchanged 0x2222_2222_2222_2222 1) x a → IsMoved (exchanged 0x0c0c_0c0c_0c0c_0c0c 2) a b
     → IsMoved (exchanged 0x00f0_00f0_00f0_00f0 4) b c → IsMoved (exchanged 0x0000_ff00_0000_ff00 8) c d → r ≡ swap_halves d
     → r ≡ unshuffle x
-unfolding IsMoved e1 e2 e4 e8 h
+unfolding IsMoved below e1 e2 e4 e8 h
 unshuffle_by x a b c d r d_in r_in bits pairs nibbles bytes halves =
-    is_from_bits (λ j. bit_at x (shuffle_to j)) 64 r (λ j. bit_at-lt x (shuffle_to j)) r_in (λ j j_in.
-    let in0 = h-lt j j_in in
-    let in8 = e8-lt (h j) in0 in
-    let in4 = e4-lt (e8 (h j)) in8 in
-    let in2 = e2-lt (e4 (e8 (h j))) in4 in
-    ap (λ n. bit_at n j) halves ∙ bit_at-swap_halves d j d_in j_in ∙ bytes (h j) in0 ∙ nibbles (e8 (h j)) in8
-    ∙ pairs (e4 (e8 (h j))) in4 ∙ bits (e2 (e4 (e8 (h j)))) in2 ∙ ap (bit_at x) (back j j_in))
+    let to_b = moved_then e1 e2 x a b refl bits pairs in
+    let to_c = moved_then _ e4 x b c refl to_b nibbles in
+    let to_d = moved_then _ e8 x c d refl to_c bytes in
+    let to_r = moved_then _ h x d r refl to_d (moved_halves d r d_in halves) in
+    is_from_bits (λ j. bit_at x (shuffle_to j)) 64 r (λ j. bit_at-lt x (shuffle_to j)) r_in
+    (λ j j_in. to_r j j_in ∙ ap (bit_at x) (back j j_in))
 
 pub unshuffle-shuffle : (x : ℕ) → x < 2 ^ 64 → unshuffle (shuffle x) ≡ x
 unshuffle-shuffle x x_in =

@@ -10,7 +10,7 @@ use Rattle.std.proofs.lemmas.List.Folds.{list_all-append}
 use Rattle.std.proofs.lemmas.Nat.{mod_below, pow_pos, xor_lt}
 use Rattle.hash_rounds.specs.Words.{add, sub, rotl, AreWords}
 use Rattle.hash_rounds.specs.Steps.{Step, Add, Sub, Xor, Rotate, AddRotated, SubRotated, XorRotated, AddData, SubData, step, apply, undo, opposite, are_apart, is_turn, is_step, AreSteps}
-use Rattle.hash_rounds.proofs.WordLemmas.{sub-add, add-sub, rotl-lt, rotl-rotl, AreWords-from}
+use Rattle.hash_rounds.proofs.WordLemmas.{sub-add, add-sub, rotl-lt, rotl-rotl, AreWords-from, no_words}
 use Rattle.hash_rounds.proofs.XorLemmas.{xor_twice}
 
 -- ---- one list after another
@@ -54,32 +54,21 @@ turn_facts w k h = grind (arith, nat_tests)
 
 -- ---- one step and its opposite
 
-opposite-opposite : (w n m : ℕ) (t : Step) → IsTrue (is_step w n m t) → opposite w (opposite w t) ≡ t
-opposite-opposite w n m (Rotate x k) h =
-    let turn = turn_facts w k (and_parts (nat_lt x n) (is_turn w k) h).1 in
-    ap (Rotate x) (omega arith)
-opposite-opposite w n m (Add x y) h = refl
-opposite-opposite w n m (Sub x y) h = refl
-opposite-opposite w n m (Xor x y) h = refl
-opposite-opposite w n m (AddRotated x y k) h = refl
-opposite-opposite w n m (SubRotated x y k) h = refl
-opposite-opposite w n m (XorRotated x y k) h = refl
-opposite-opposite w n m (AddData x i) h = refl
-opposite-opposite w n m (SubData x i) h = refl
-
-is_step-opposite : (w n m : ℕ) (t : Step) → IsTrue (is_step w n m t) → IsTrue (is_step w n m (opposite w t))
-is_step-opposite w n m (Rotate x k) h =
+-- the opposite is such a step too, and its opposite is the step
+opposite_facts : (w n m : ℕ) (t : Step) → IsTrue (is_step w n m t)
+    → (opposite w (opposite w t) ≡ t) × IsTrue (is_step w n m (opposite w t))
+opposite_facts w n m (Rotate x k) h =
     let parts = and_parts (nat_lt x n) (is_turn w k) h in
     let turn = turn_facts w k parts.1 in
-    and_from _ _ parts.0 (grind (arith, nat_tests))
-is_step-opposite w n m (Add x y) h = h
-is_step-opposite w n m (Sub x y) h = h
-is_step-opposite w n m (Xor x y) h = h
-is_step-opposite w n m (AddRotated x y k) h = h
-is_step-opposite w n m (SubRotated x y k) h = h
-is_step-opposite w n m (XorRotated x y k) h = h
-is_step-opposite w n m (AddData x i) h = h
-is_step-opposite w n m (SubData x i) h = h
+    (ap (Rotate x) (omega arith), and_from _ _ parts.0 (grind (arith, nat_tests)))
+opposite_facts w n m (Add x y) h = (refl, h)
+opposite_facts w n m (Sub x y) h = (refl, h)
+opposite_facts w n m (Xor x y) h = (refl, h)
+opposite_facts w n m (AddRotated x y k) h = (refl, h)
+opposite_facts w n m (SubRotated x y k) h = (refl, h)
+opposite_facts w n m (XorRotated x y k) h = (refl, h)
+opposite_facts w n m (AddData x i) h = (refl, h)
+opposite_facts w n m (SubData x i) h = (refl, h)
 
 length-step : (w : ℕ) (d : List ℕ) (t : Step) (s : List ℕ) → length (step w d t s) ≡ length s
 length-step w d (Add x y) s = length-set s x _
@@ -205,7 +194,7 @@ module _ (w n m : ℕ) where
   AreSteps-undo [] h = rw (undo-nil w) refl
   AreSteps-undo (t ∷ ts) h =
       let parts = and_parts (is_step w n m t) (list_all (is_step w n m) ts) h in
-      let here = is_step-opposite w n m t parts.0 in
+      let here = (opposite_facts w n m t parts.0).1 in
       rw (undo-cons w t ts, list_all-append (is_step w n m) (undo w ts) (opposite w t ∷ []), AreSteps-undo ts parts.1, here) refl
 
   undo-undo : (ts : List Step) → AreSteps w n m ts → undo w (undo w ts) ≡ ts
@@ -216,7 +205,7 @@ module _ (w n m : ℕ) where
         undo-cons w t ts,
         undo-append w (undo w ts) (opposite w t ∷ []),
         undo-one w (opposite w t),
-        opposite-opposite w n m t parts.0,
+        (opposite_facts w n m t parts.0).0,
         undo-undo ts parts.1,
       ) refl
 
@@ -278,9 +267,9 @@ apply-data w n d e (t ∷ ts) s h =
 
 -- A call that makes the rows of a table one by one makes the table's steps, and their opposites take them
 -- back; and the other way round.
-module _ {R : Type 0} (w n m : ℕ) (row : R → List Step) (rows : List R) (are : AreSteps w n m (flat_map row rows)) (d s s' : List ℕ)
+module _ {R : Type 0} {n m : ℕ} (w : ℕ) (row : R → List Step) (rows : List R) (d s s' : List ℕ)
     (d_len : length d ≡ m) (d_fits : (i : ℕ) → slice_index d i < 2 ^ w)
-    (s_len : length s ≡ n) (s_fits : (i : ℕ) → slice_index s i < 2 ^ w) where
+    (s_len : length s ≡ n) (s_fits : (i : ℕ) → slice_index s i < 2 ^ w) (are : AreSteps w n m (flat_map row rows)) where
   here : AreSteps w (length s) (length d) (flat_map row rows)
   here = rw (s_len, d_len) are
 
@@ -295,3 +284,14 @@ module _ {R : Type 0} (w n m : ℕ) (row : R → List Step) (rows : List R) (are
   rows_unmade made =
       let round = made ∙ sym (undo_rows w row rows d s) in
       (round, rw round (undo_apply w d (AreWords-from w d d_fits) (flat_map row rows) s here (AreWords-from w s s_fits)))
+
+-- the same, of rows that read no data
+module _ {R : Type 0} {n : ℕ} (w : ℕ) (row : R → List Step) (rows : List R) (s s' : List ℕ)
+    (s_len : length s ≡ n) (s_fits : (i : ℕ) → slice_index s i < 2 ^ w) (are : AreSteps w n 0 (flat_map row rows)) where
+  pub made : s' ≡ fold (λ t r. apply w (row r) [] t) s rows
+      → (s' ≡ apply w (flat_map row rows) [] s) × (apply w (undo w (flat_map row rows)) [] s' ≡ s)
+  made = rows_made w row rows [] s s' refl (no_words w) s_len s_fits are
+
+  pub unmade : s' ≡ fold (λ t r. apply w (undo w (row r)) [] t) s (reverse rows)
+      → (s' ≡ apply w (undo w (flat_map row rows)) [] s) × (apply w (flat_map row rows) [] s' ≡ s)
+  unmade = rows_unmade w row rows [] s s' refl (no_words w) s_len s_fits are

@@ -34,6 +34,13 @@ from_be_bytes-8 (a ∷ b ∷ c ∷ d ∷ e ∷ f ∷ g ∷ []) n = absurd (omega
 from_be_bytes-8 (a ∷ b ∷ c ∷ d ∷ e ∷ f ∷ g ∷ h ∷ []) n = omega arith
 from_be_bytes-8 (a ∷ b ∷ c ∷ d ∷ e ∷ f ∷ g ∷ h ∷ i ∷ t) n = absurd (omega arith)
 
+-- the state after a text, of a sum below m whose step is `step`
+pub record SumFacts (from : ℕ → List ℕ → ℕ) (step : ℕ → ℕ → ℕ) (m : ℕ) : Type 0 where
+  pub of_nothing : (s : ℕ) → s < m → from s [] ≡ s
+  pub joined : (s : ℕ) (t u : List ℕ) → from (from s t) u ≡ from s (t ++ u)
+  pub of_one : (s b : ℕ) → from s (b ∷ []) ≡ step s b
+  pub is_fold : (s : ℕ) (t : List ℕ) → s < m → from s t ≡ fold step s t
+
 -- ---- a state and then digits, modulo m
 
 mod_step : (a b k m : ℕ) → (a % m * b + k) % m ≡ (a * b + k) % m
@@ -66,6 +73,9 @@ module _ (x m : ℕ) where
       sym (number-append s (b ∷ []) t) ∙ ap (λ h. number h t) (number-one s b)
       ∙ number-fold ((x * s + b) % m) t (mod-lt (x * s + b) (omega arith))
 
+  number_sums : SumFacts number (λ h b. (x * h + b) % m) m
+  number_sums = record { of_nothing = number-nil; joined = number-append; of_one = number-one; is_fold = number-fold }
+
 -- a text of one byte is that byte
 only_byte : (t : List ℕ) → 1 ≤ length t → length t < 2 → t ≡ get_or t 0 0 ∷ []
 only_byte [] some few = absurd (omega arith)
@@ -74,30 +84,18 @@ only_byte (b ∷ more ∷ rest) some few = absurd (omega arith)
 
 -- ---- sdbm
 
-pub sdbm-nil : (s : ℕ) → s < 2 ^ 32 → sdbm_from s [] ≡ s
+pub sdbm_sums : SumFacts sdbm_from sdbm_step (2 ^ 32)
 unfolding sdbm_from
-sdbm-nil = number-nil 65599 (2 ^ 32)
-
-pub sdbm-append : (s : ℕ) (t u : List ℕ) → sdbm_from (sdbm_from s t) u ≡ sdbm_from s (t ++ u)
-unfolding sdbm_from
-sdbm-append = number-append 65599 (2 ^ 32)
-
-pub sdbm-one : (s b : ℕ) → sdbm_from s (b ∷ []) ≡ sdbm_step s b
-unfolding sdbm_from
-sdbm-one = number-one 65599 (2 ^ 32)
+sdbm_sums = number_sums 65599 (2 ^ 32)
 
 -- a text of one byte
 pub sdbm_of_one : (s : ℕ) (t : List ℕ) → 1 ≤ length t → length t < 2 → sdbm_from s t ≡ (65599 * s + get_or t 0 0) % 2 ^ 32
-sdbm_of_one s t some few = ap (sdbm_from s) (only_byte t some few) ∙ sdbm-one s (get_or t 0 0)
+sdbm_of_one s t some few = ap (sdbm_from s) (only_byte t some few) ∙ sdbm_sums.of_one s (get_or t 0 0)
 
 -- one byte more
 pub sdbm_push : (s : ℕ) (t : List ℕ) (b : ℕ) → (sdbm_from s t * 65599 % 2 ^ 32 + b) % 2 ^ 32 ≡ sdbm_from s (t ++ b ∷ [])
 unfolding sdbm_from
 sdbm_push = number_push 65599 (2 ^ 32)
-
-pub sdbm-fold : (s : ℕ) (t : List ℕ) → s < 2 ^ 32 → sdbm_from s t ≡ fold sdbm_step s t
-unfolding sdbm_from
-sdbm-fold = number-fold 65599 (2 ^ 32)
 
 -- four bytes at once, in lanes, the powers of 65599 taken mod 2^32
 pub sdbm_of_four : (h : ℕ) (t : List ℕ) → length t ≡ 4 →
@@ -144,21 +142,9 @@ pub passthrough-lt : (s : ℕ) (t : List ℕ) → passthrough_from s t < 2 ^ 64
 unfolding passthrough_from
 passthrough-lt s t = mod-lt _ (lit< tt)
 
-pub passthrough-nil : (s : ℕ) → s < 2 ^ 64 → passthrough_from s [] ≡ s
+pub passthrough_sums : SumFacts passthrough_from passthrough_step (2 ^ 64)
 unfolding passthrough_from
-passthrough-nil = number-nil 256 (2 ^ 64)
-
-pub passthrough-append : (s : ℕ) (t u : List ℕ) → passthrough_from (passthrough_from s t) u ≡ passthrough_from s (t ++ u)
-unfolding passthrough_from
-passthrough-append = number-append 256 (2 ^ 64)
-
-pub passthrough-one : (s b : ℕ) → passthrough_from s (b ∷ []) ≡ passthrough_step s b
-unfolding passthrough_from
-passthrough-one = number-one 256 (2 ^ 64)
-
-pub passthrough-fold : (s : ℕ) (t : List ℕ) → s < 2 ^ 64 → passthrough_from s t ≡ fold passthrough_step s t
-unfolding passthrough_from
-passthrough-fold = number-fold 256 (2 ^ 64)
+passthrough_sums = number_sums 256 (2 ^ 64)
 
 -- eight bytes fill the word
 pub passthrough_of_eight : (s : ℕ) (t : List ℕ) → length t ≡ 8 → All (λ b. b < 256) t → passthrough_from s t ≡ digit_sum 256 t
@@ -175,6 +161,6 @@ pub passthrough_of_last : (s : ℕ) (t : List ℕ) → 8 ≤ length t → All (�
 passthrough_of_last s t n bytes =
     let front = length t - 8 in
     let last = drop front t in
-    sym (ap (passthrough_from s) (take-append-drop front t)) ∙ sym (passthrough-append s (take front t) last)
+    sym (ap (passthrough_from s) (take-append-drop front t)) ∙ sym (passthrough_sums.joined s (take front t) last)
     ∙ passthrough_of_eight (passthrough_from s (take front t)) last (omega (arith, length-drop front t))
     (All-drop (λ b. b < 256) front t bytes)

@@ -116,34 +116,36 @@ rotate_left-64 x k x_in some within =
 
 -- ---- little-endian bytes
 
-le-drop : (bs : List ℕ) (i : ℕ) → i < length bs → le (drop i bs) ≡ slice_index bs i + 256 * le (drop (i + 1) bs)
+le-drop : (bs : List ℕ) (i j : ℕ) → j ≡ i + 1 → i < length bs → le (drop i bs) ≡ slice_index bs i + 256 * le (drop j bs)
 unfolding le
-le-drop bs i i_in = ap le (drop_more bs i 0 i_in)
+le-drop bs i j next i_in = rw next (ap le (drop_more bs i 0 i_in))
 
 pub le-drop_all : (bs : List ℕ) (i : ℕ) → length bs ≤ i → le (drop i bs) ≡ 0
 unfolding le
 le-drop_all bs i past = ap le (drop_all i bs past)
 
+-- four bytes, and the bytes behind them
+le-drop_four : (bs : List ℕ) (i : ℕ) → i + 3 < length bs → le (drop i bs)
+    ≡ slice_index bs i + 256 * (slice_index bs (i + 1) + 256 * (slice_index bs (i + 2) + 256 * (slice_index bs (i + 3)
+    + 256 * le (drop (i + 4) bs))))
+le-drop_four bs i i_in =
+    let e0 = le-drop bs i (i + 1) (omega arith) (omega arith) in
+    let e1 = le-drop bs (i + 1) (i + 2) (omega arith) (omega arith) in
+    let e2 = le-drop bs (i + 2) (i + 3) (omega arith) (omega arith) in
+    let e3 = le-drop bs (i + 3) (i + 4) (omega arith) (omega arith) in
+    omega arith
+
 pub from_le_bytes-8 : (bs : List ℕ) → length bs ≡ 8 → from_le_bytes w64 bs ≡ le bs
 from_le_bytes-8 bs len =
-    let e0 = le-drop bs 0 (omega arith) in
-    let e1 = le-drop bs 1 (omega arith) in
-    let e2 = le-drop bs 2 (omega arith) in
-    let e3 = le-drop bs 3 (omega arith) in
-    let e4 = le-drop bs 4 (omega arith) in
-    let e5 = le-drop bs 5 (omega arith) in
-    let e6 = le-drop bs 6 (omega arith) in
-    let e7 = le-drop bs 7 (omega arith) in
-    let e8 = le-drop_all bs 8 (omega arith) in
+    let low = le-drop_four bs 0 (omega arith) in
+    let high = le-drop_four bs 4 (omega arith) in
+    let none = le-drop_all bs 8 (omega arith) in
     omega arith
 
 pub from_le_bytes-4 : (bs : List ℕ) → length bs ≡ 4 → from_le_bytes w32 bs ≡ le bs
 from_le_bytes-4 bs len =
-    let e0 = le-drop bs 0 (omega arith) in
-    let e1 = le-drop bs 1 (omega arith) in
-    let e2 = le-drop bs 2 (omega arith) in
-    let e3 = le-drop bs 3 (omega arith) in
-    let e4 = le-drop_all bs 4 (omega arith) in
+    let all = le-drop_four bs 0 (omega arith) in
+    let none = le-drop_all bs 4 (omega arith) in
     omega arith
 
 -- the values of at most four bytes

@@ -82,18 +82,9 @@ impl<R: ByteRule> Piecewise for ByteHasher<R> {
 
     ghost first = { R.start };
 
-    fn fresh() -> ByteHasher<R> {
-        ByteHasher::default()
-    }
-
     #[inline(always)]
-    fn feed(&mut self, piece: &[u8]) {
-        self.write(piece);
-    }
-
-    #[inline(always)]
-    fn answer(&self) -> u64 {
-        self.finish()
+    fn state_in_range(&self) {
+        let _state = &self.state;
     }
 
     #[inline(always)]

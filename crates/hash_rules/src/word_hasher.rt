@@ -86,18 +86,9 @@ impl<R: WordRule, Name> Piecewise for WordHasher<R, Name> {
 
     ghost first = { R.start };
 
-    fn fresh() -> WordHasher<R, Name> {
-        WordHasher::default()
-    }
-
     #[inline(always)]
-    fn feed(&mut self, piece: &[u8]) {
-        self.write(piece);
-    }
-
-    #[inline(always)]
-    fn answer(&self) -> u64 {
-        self.finish()
+    fn state_in_range(&self) {
+        let _state = &self.state;
     }
 
     #[inline(always)]

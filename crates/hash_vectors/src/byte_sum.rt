@@ -83,16 +83,9 @@ impl Piecewise for ByteSum {
 
     ghost first = { 0 };
 
-    fn fresh() -> ByteSum {
-        ByteSum::default()
-    }
-
-    fn feed(&mut self, piece: &[u8]) {
-        self.write(piece);
-    }
-
-    fn answer(&self) -> u64 {
-        self.finish()
+    #[inline(always)]
+    fn state_in_range(&self) {
+        let _sum = self.sum;
     }
 
     fn fork(&self) -> ByteSum {

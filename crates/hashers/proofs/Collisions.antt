@@ -1,13 +1,16 @@
 -- The hashes of two texts that differ within a window are different.
-use Rattle.std.proofs.Common.{◌≡◌, ◌≢◌, ℕ, ◌^◌, ◌<◌, List, fold, lit<, sym, ◌∙◌}
+use Rattle.std.proofs.Common.{◌≡◌, ◌≢◌, ◌↔◌, ℕ, ◌^◌, ◌<◌, Bool, IsTrue, List, fold, get_or, Fits, w8, lit<, sym, ◌∙◌}
+use Rattle.std.specs.Bool.{OnTrue}
+use Rattle.std.proofs.lemmas.Bool.{OnTrue_from}
 use Rattle.hash_bytes.specs.Oz.{djb2_step}
 use Rattle.hash_bytes.specs.Fnv.{fnv1a32_step, fnv1a64_step}
 use Rattle.hash_rounds.specs.Sums.{sdbm_from}
 use Rattle.hash_rounds.specs.Sums.{sdbm_step}
-use Rattle.hash_rounds.proofs.SumLemmas.{sdbm-fold}
+use Rattle.hash_rounds.proofs.SumLemmas.{sdbm_sums}
 use Rattle.hash_laws.specs.Text.{IsText}
 use Rattle.hash_laws.specs.DifferWithin.{DifferWithin}
 use Rattle.hash_laws.proofs.RecurrenceLemmas.{recurrence_is_fold}
+use Rattle.hash_laws.proofs.TextLemmas.{IsText-from_slice}
 use Rattle.hash_laws.proofs.Windows.{DifferWithin-fold, Separates}
 use Rattle.hash_bytes.specs.Fnv.{fnv1a32_from, fnv1a32_basis, fnv1a64_from, fnv1a64_basis}
 use Rattle.hash_bytes.specs.Oz.{djb2_from}
@@ -28,7 +31,7 @@ djb2_apart x y = hash_apart djb2_step (2 ^ 32) 6 224 (λ n. Near (spread_after n
     (recurrence_is_fold djb2_step (2 ^ 32)) 5381 x y (lit< tt)
 
 pub sdbm_apart : (x y : List ℕ) → IsText x → IsText y → DifferWithin 3 0 x y → sdbm_from 0 x ≢ sdbm_from 0 y
-sdbm_apart x y = hash_apart sdbm_step (2 ^ 32) 3 0 SdbmApart sdbm_separates sdbm_from sdbm-fold 0 x y (lit< tt)
+sdbm_apart x y = hash_apart sdbm_step (2 ^ 32) 3 0 SdbmApart sdbm_separates sdbm_from sdbm_sums.is_fold 0 x y (lit< tt)
 
 pub fnv1a32_apart : (x y : List ℕ) → IsText x → IsText y → DifferWithin 2 0 x y
     → fnv1a32_from fnv1a32_basis x ≢ fnv1a32_from fnv1a32_basis y
@@ -39,3 +42,11 @@ pub fnv1a64_apart : (x y : List ℕ) → IsText x → IsText y → DifferWithin 
     → fnv1a64_from fnv1a64_basis x ≢ fnv1a64_from fnv1a64_basis y
 fnv1a64_apart x y = hash_apart fnv1a64_step (2 ^ 64) 3 0 Fnv64Apart fnv1a64_separates fnv1a64_from
     (recurrence_is_fold fnv1a64_step (2 ^ 64)) fnv1a64_basis x y (lit< tt)
+
+-- a test that is true just where two texts differ within a window tells them apart
+pub window_tells_apart : {places mask : ℕ} {hash : List ℕ → ℕ}
+    → ((x y : List ℕ) → IsText x → IsText y → DifferWithin places mask x y → hash x ≢ hash y)
+    → (x y : List ℕ) → ((i : ℕ) → Fits w8 (get_or x i 0)) → ((i : ℕ) → Fits w8 (get_or y i 0))
+    → (told : Bool) → (IsTrue told ↔ DifferWithin places mask x y) → OnTrue told (hash x ≢ hash y)
+window_tells_apart apart x y xs ys told window =
+    OnTrue_from told _ (λ is. apart x y (IsText-from_slice x xs) (IsText-from_slice y ys) (window.0 is))

@@ -4,7 +4,7 @@ use Rattle.std.specs.Int.Bits.{bit_xor}
 use Rattle.hash_bytes.specs.Fnv.{fnv1a32_step, fnv1a64_step}
 use Rattle.hash_rounds.proofs.XorLemmas.{xored_32, xored_64}
 use Rattle.hash_bytes.specs.FnvLaws.{fnv1a32_same, fnv1a64_same, fnv1a32_facts, fnv1a64_facts}
-use Rattle.hashers.proofs.WindowSpreads.{IsState32, IsState64, OneByte, TwoBytes}
+use Rattle.hashers.proofs.WindowSpreads.{IsState32, IsState64, OneByte, OneByte-times, TwoBytes, separates}
 use Rattle.hash_laws.proofs.Windows.{Separates}
 use Rattle.hash_rounds.proofs.XorLemmas.{xor_cancel_left, xor_block_kept}
 
@@ -12,22 +12,15 @@ use Rattle.hash_rounds.proofs.XorLemmas.{xor_cancel_left, xor_block_kept}
 kept : (h b : ℕ) → b < 256 → bit_xor h b / 256 ≡ h / 256
 kept h b small = xor_block_kept 8 h b small
 
+first : (m p h a b : ℕ) → a < 256 → b < 256 → a ≢ b → OneByte m p (bit_xor h a * p % m) (bit_xor h b * p % m)
+first m p h a b sa sb ne =
+    OneByte-times m p h (bit_xor h a) (bit_xor h b) (kept h a sa) (kept h b sb) (λ e. ne (xor_cancel_left h a b e))
+
 abbrev pub Fnv32Apart : ℕ → ℕ → ℕ → Type 0
 Fnv32Apart zero = OneByte (2 ^ 32) 16777619
 Fnv32Apart (suc n) = λ h k. h ≢ k
 
 -- in plain numbers: y and z are the states after the bytes' `^`
-first_32 : (h y z : ℕ) → y / 256 ≡ h / 256 → z / 256 ≡ h / 256 → y ≢ z
-    → OneByte (2 ^ 32) 16777619 (y * 16777619 % 2 ^ 32) (z * 16777619 % 2 ^ 32)
-first_32 h y z yh zh ne = record {
-  c = y % 256;
-  d = z % 256;
-  c_byte = omega arith;
-  d_byte = omega arith;
-  differ = omega arith;
-  apart = omega arith;
-}
-
 second_32 : (h k y z : ℕ) → y / 256 ≡ h / 256 → z / 256 ≡ k / 256 → OneByte (2 ^ 32) 16777619 h k → y ≢ z
 second_32 h k y z yh zk far = λ e. far.differ (omega (arith, far.apart))
 
@@ -35,17 +28,6 @@ abbrev pub Fnv64Apart : ℕ → ℕ → ℕ → Type 0
 Fnv64Apart zero = OneByte (2 ^ 64) 1099511628211
 Fnv64Apart (suc zero) = TwoBytes (2 ^ 64) (870 * 2 ^ 40 + 189225) 1099511628211 511
 Fnv64Apart (suc (suc n)) = λ h k. h ≢ k
-
-first_64 : (h y z : ℕ) → y / 256 ≡ h / 256 → z / 256 ≡ h / 256 → y ≢ z
-    → OneByte (2 ^ 64) 1099511628211 (y * 1099511628211 % 2 ^ 64) (z * 1099511628211 % 2 ^ 64)
-first_64 h y z yh zh ne = record {
-  c = y % 256;
-  d = z % 256;
-  c_byte = omega arith;
-  d_byte = omega arith;
-  differ = omega arith;
-  apart = omega arith;
-}
 
 second_64 : (h k y z : ℕ) → y / 256 ≡ h / 256 → z / 256 ≡ k / 256 → OneByte (2 ^ 64) 1099511628211 h k
     → TwoBytes (2 ^ 64) (870 * 2 ^ 40 + 189225) 1099511628211 511 (y * 1099511628211 % 2 ^ 64) (z * 1099511628211 % 2 ^ 64)
@@ -79,14 +61,7 @@ different_32 zero h k far = λ e. far.differ (omega (arith, far.apart))
 different_32 (suc n) h k far = far
 
 pub fnv1a32_separates : Separates fnv1a32_step IsState32 2 0 Fnv32Apart
-fnv1a32_separates = record {
-  in_range = fnv1a32_facts.in_range;
-  state_injective = fnv1a32_facts.state_injective;
-  first = λ h a b hs sa sb mask ne.
-      first_32 h (bit_xor h a) (bit_xor h b) (kept h a sa) (kept h b sb) (λ e. ne (xor_cancel_left h a b e));
-  next = λ n h k a b fits hs ks sa sb mask far. next_32 n h k a b fits hs ks sa sb far;
-  apart = different_32;
-}
+fnv1a32_separates = separates fnv1a32_facts (first (2 ^ 32) 16777619) next_32 different_32
 
 next_64 : (n h k a b : ℕ) → suc n < 3 → h < 2 ^ 64 → k < 2 ^ 64 → a < 256 → b < 256 → Fnv64Apart n h k
     → Fnv64Apart (suc n) (fnv1a64_step h a) (fnv1a64_step k b)
@@ -102,11 +77,4 @@ different_64 (suc zero) h k far = λ e. far.differ (omega (arith, far.apart))
 different_64 (suc (suc n)) h k far = far
 
 pub fnv1a64_separates : Separates fnv1a64_step IsState64 3 0 Fnv64Apart
-fnv1a64_separates = record {
-  in_range = fnv1a64_facts.in_range;
-  state_injective = fnv1a64_facts.state_injective;
-  first = λ h a b hs sa sb mask ne.
-      first_64 h (bit_xor h a) (bit_xor h b) (kept h a sa) (kept h b sb) (λ e. ne (xor_cancel_left h a b e));
-  next = λ n h k a b fits hs ks sa sb mask far. next_64 n h k a b fits hs ks sa sb far;
-  apart = different_64;
-}
+fnv1a64_separates = separates fnv1a64_facts (first (2 ^ 64) 1099511628211) next_64 different_64

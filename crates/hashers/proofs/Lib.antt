@@ -5,6 +5,7 @@ pub mod SdbmWindow
 pub mod ShortWords
 pub mod TextMapLemmas
 pub mod WindowSpreads
+pub mod WordsWritten
 pub use Rattle.hash_laws.proofs.RecurrenceLemmas
 pub use Rattle.hash_laws.proofs.ReadingLemmas
 pub use Rattle.hash_laws.proofs.TextLemmas

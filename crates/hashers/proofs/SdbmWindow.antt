@@ -3,7 +3,7 @@ use Rattle.std.proofs.Common.{◌≡◌, ℕ, zero, suc, ◌+◌, ◌*◌, ◌%�
 use Rattle.hash_rounds.specs.Sums.{sdbm_step}
 use Rattle.hash_rounds.proofs.SumStepLemmas.{sdbm_facts}
 use Rattle.hash_laws.proofs.Windows.{Separates}
-use Rattle.hashers.proofs.WindowSpreads.{IsState32, OneByte, TwoBytes}
+use Rattle.hashers.proofs.WindowSpreads.{IsState32, OneByte, TwoBytes, separates}
 
 abbrev pub SdbmApart : ℕ → ℕ → ℕ → Type 0
 SdbmApart zero = OneByte (2 ^ 32) 1
@@ -40,10 +40,6 @@ different (suc zero) h k far = λ e. far.differ (omega (arith, far.apart))
 different (suc (suc n)) h k far = far
 
 pub sdbm_separates : Separates sdbm_step IsState32 3 0 SdbmApart
-sdbm_separates = record {
-  in_range = sdbm_facts.in_range;
-  state_injective = sdbm_facts.state_injective;
-  first = λ h a b hs sa sb mask ne. record { c = a; d = b; c_byte = sa; d_byte = sb; differ = ne; apart = omega arith };
-  next = λ n h k a b fits hs ks sa sb mask far. next_place n h k a b fits sa sb far;
-  apart = different;
-}
+sdbm_separates = separates sdbm_facts
+    (λ h a b sa sb ne. record { c = a; d = b; c_byte = sa; d_byte = sb; differ = ne; apart = omega arith })
+    (λ n h k a b fits hs ks. next_place n h k a b fits) different

@@ -2,17 +2,17 @@ use Rattle.std.proofs.Common.{◌∙◌, ap, sym, arith, take, get_or}
 use Rattle.std.proofs.lemmas.List.{take_more}
 use Rattle.hash_rounds.specs.Sums.{passthrough_from}
 use Rattle.hash_rounds.specs.Sums.{passthrough_step}
-use Rattle.hash_rounds.proofs.SumLemmas.{passthrough-nil, passthrough-one, passthrough-append}
+use Rattle.hash_rounds.proofs.SumLemmas.{passthrough_sums}
 use Rattle.hash_bytes.proofs.null.append_few.Goals as goal
 
 pub loop-byte-init : goal.loop-byte-init
-loop-byte-init c = sym (passthrough-nil c.args.state (omega arith))
+loop-byte-init c = sym (passthrough_sums.of_nothing c.args.state (omega arith))
 
 pub loop-byte-preserved : goal.loop-byte-preserved
 loop-byte-preserved c =
     let bytes = c.args.bytes.now in
     let i = c.loop-byte.byte-index in
     c.append_byte-state.ensures ∙ ap (λ s. passthrough_step s (get_or bytes i 0)) c.loop-byte.invariant
-    ∙ sym (passthrough-one (passthrough_from c.args.state (take i bytes)) (get_or bytes i 0))
-    ∙ passthrough-append c.args.state (take i bytes) _ ∙ ap (passthrough_from c.args.state)
+    ∙ sym (passthrough_sums.of_one (passthrough_from c.args.state (take i bytes)) (get_or bytes i 0))
+    ∙ passthrough_sums.joined c.args.state (take i bytes) _ ∙ ap (passthrough_from c.args.state)
     (sym (take_more bytes i 0 c.loop-byte-test.true))

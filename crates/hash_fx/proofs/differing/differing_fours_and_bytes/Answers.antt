@@ -1,25 +1,20 @@
-use Rattle.std.proofs.Common.{◌≡◌, ◌+◌, ◌++◌, length, map, arith, sym, ◌∙◌, refl}
+use Rattle.std.proofs.Common.{◌≡◌, ◌+◌, length, arith, ap, ◌∙◌}
 use Rattle.std.proofs.Math.Path.{ap₂}
-use Rattle.std.proofs.lemmas.List.{length-map}
+use Rattle.std.proofs.lemmas.List.{map-id}
 use Rattle.hash_rounds.specs.Words.{le}
-use Rattle.hash_rounds.specs.Blocks.{pieces}
 use Rattle.hash_fx.specs.Differences.{differences}
-use Rattle.hash_fx.specs.Fx.{words32}
-use Rattle.hash_fx.proofs.DifferencesLemmas.{differences-append}
+use Rattle.hash_fx.proofs.DifferencesLemmas.{differences-parts}
+use Rattle.hash_fx.proofs.WordParts.{words32-parts}
 use Rattle.hash_fx.proofs.differing.differing_fours_and_bytes.Goals as goal
 
 -- the wide words, and then the others
 pub returns-clause-value : goal.returns-clause-value
-unfolding pieces
 returns-clause-value c =
-    let first = c.as_chunks.result.0.now in
-    let second = c.as_chunks-2.result.0.now in
-    let x_rest = c.as_chunks.result.1.now in
-    let y_rest = c.as_chunks-2.result.1.now in
-    let x_parts : map le first ++ x_rest ≡ words32 c.args.x.now = rw (c.as_chunks.ensures.front, c.as_chunks.ensures.back) refl in
-    let y_parts : map le second ++ y_rest ≡ words32 c.args.y.now = rw (c.as_chunks-2.ensures.front, c.as_chunks-2.ensures.back) refl in
-    let many : length (map le first) ≡ length (map le second) =
-    length-map first le ∙ omega (arith, c.as_chunks.ensures.front_len, c.as_chunks-2.ensures.front_len, c.requires)
-    ∙ sym (length-map second le) in
-    ap₂ (λ m n. m + n) c.differing_fours.ensures.value c.differing_bytes.ensures.value
-    ∙ sym (differences-append (map le first) (map le second) x_rest y_rest many) ∙ ap₂ differences x_parts y_parts
+    let x = c.as_chunks.result in
+    let y = c.as_chunks-2.result in
+    let many : length x.0.now ≡ length y.0.now = omega (arith, c.as_chunks.ensures.front_len, c.as_chunks-2.ensures.front_len, c.requires) in
+    ap₂ (λ m n. m + n) c.differing_words.ensures.value
+    (c.differing_words-2.ensures.value ∙ ap₂ differences (map-id x.1.now) (map-id y.1.now))
+    ∙ differences-parts le x.0.now y.0.now x.1.now y.1.now _ _ many
+    (words32-parts c.args.x.now _ _ c.as_chunks.ensures.front c.as_chunks.ensures.back)
+    (words32-parts c.args.y.now _ _ c.as_chunks-2.ensures.front c.as_chunks-2.ensures.back)

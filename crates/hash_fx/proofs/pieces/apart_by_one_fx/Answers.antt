@@ -13,19 +13,16 @@ pub returns-then-apart-clause-exactly : goal.returns-then-apart-clause-exactly
 returns-then-apart-clause-exactly c =
     let x = c.args.x.now in
     let y = c.args.y.now in
-    let P = OneApart (joined x) (joined y) in
     let cuts : SameCuts x y = c.same_cuts.ensures.exactly.0 c.if-not-same_cuts.false in
-    let p = (get_or x c.loop-i.i no_piece).now in
-    let q = (get_or y c.loop-i.i no_piece).now in
-    let ne = pieces_differ p q c.ne.result c.ne.ensures c.if-ne.true in
-    let never : P → ⊥ = elim c.then-apart.branch as (λ _. P → ⊥) [
-      | then-apart-via-then-apart w ↦ left_second P x y c.loop-i.i no_piece cuts c.loop-i-test.true c.loop-i.apart w.if-apart.true ne
+    let ne = pieces_differ _ _ c.ne.result c.ne.ensures c.if-ne.true in
+    let never : OneApart (joined x) (joined y) → ⊥ = elim c.then-apart.branch as (λ _. OneApart (joined x) (joined y) → ⊥) [
+      | then-apart-via-then-apart w ↦ left_second _ x y c.loop-i.i no_piece cuts c.loop-i-test.true c.loop-i.apart w.if-apart.true ne
           c.loop-i.invariant
       | then-apart-via-else-apart+then-not-differ_at_one_place w ↦
-          let many : OneApart p q → ⊥ = λ one.
-          both_ways w.differ_at_one_place.result w.if-not-differ_at_one_place.true
-          (w.differ_at_one_place.ensures.1 (DifferAtOnePlace-from_one p q one)) in
-          left_many P x y c.loop-i.i no_piece cuts c.loop-i-test.true c.loop-i.apart w.if-apart.false ne many c.loop-i.invariant
+          left_many _ x y c.loop-i.i no_piece cuts c.loop-i-test.true c.loop-i.apart w.if-apart.false ne
+          (λ one. both_ways w.differ_at_one_place.result w.if-not-differ_at_one_place.true
+          (w.differ_at_one_place.ensures.1 (DifferAtOnePlace-from_one _ _ one)))
+          c.loop-i.invariant
     ] in
     ((λ (e : false ≡ true). cc), λ d. absurd (never ((DifferByOneByte-iff x y cuts).1 d)))
 
@@ -34,18 +31,16 @@ pub loop-i-preserved : goal.loop-i-preserved
 loop-i-preserved c =
     let x = c.args.x.now in
     let y = c.args.y.now in
+    let i = c.loop-i.i in
     let P = OneApart (joined x) (joined y) in
     let cuts : SameCuts x y = c.same_cuts.ensures.exactly.0 c.if-not-same_cuts.false in
-    let p = (get_or x c.loop-i.i no_piece).now in
-    let q = (get_or y c.loop-i.i no_piece).now in
-    elim c.if-ne.branch as (λ _. P ↔ RestApart c.if-ne.apart (drop (c.loop-i.i + 1) x) (drop (c.loop-i.i + 1) y)) [
+    elim c.if-ne.branch as (λ _. P ↔ RestApart c.if-ne.apart (drop (i + 1) x) (drop (i + 1) y)) [
       | then-ne+else-apart+else-not-differ_at_one_place w ↦
-          let one = one_from_DifferAtOnePlace p q (w.differ_at_one_place.ensures.0 w.if-not-differ_at_one_place.false) in
-          rw w.apart-is (left_first P x y c.loop-i.i no_piece cuts c.loop-i-test.true c.loop-i.apart w.if-apart.false one
-          c.loop-i.invariant)
+          let one = one_from_DifferAtOnePlace _ _ (w.differ_at_one_place.ensures.0 w.if-not-differ_at_one_place.false) in
+          rw w.apart-is (left_first P x y i no_piece cuts c.loop-i-test.true c.loop-i.apart w.if-apart.false one c.loop-i.invariant)
       | else-ne w ↦
-          rw w.apart-is (left_equal P x y c.loop-i.i no_piece cuts c.loop-i-test.true c.loop-i.apart
-          (pieces_equal p q c.ne.result c.ne.ensures w.if-ne.false) c.loop-i.invariant)
+          rw w.apart-is (left_equal P x y i no_piece cuts c.loop-i-test.true c.loop-i.apart
+          (pieces_equal _ _ c.ne.result c.ne.ensures w.if-ne.false) c.loop-i.invariant)
     ]
 
 pub returns-clause-exactly : goal.returns-clause-exactly

@@ -13,24 +13,17 @@ differing-more-requires g c =
 -- a second word that differs
 pub returns-then-more-apart-clause-exactly : goal.returns-then-more-apart-clause-exactly
 returns-then-more-apart-clause-exactly g c =
-    let words = g.W.FxSplit.words in
-    let long = g.met.W.FxSplit.words_length in
-    let x = c.args.x.now in
-    let y = c.args.y.now in
-    let cuts : SameCuts x y = c.same_cuts.ensures.exactly.0 c.if-not-same_cuts.false in
-    let turn = more-words words long x y c.loop-i.i no_piece cuts c.loop-i-test.true in
-    let many : 1 < differences (words_of words (take (c.loop-i.i + 1) x)) (words_of words (take (c.loop-i.i + 1) y)) =
-    omega (arith, turn, c.differing-more.ensures, c.loop-i.invariant.so_far, c.loop-i.invariant.few, c.if-more-apart.true) in
-    ((λ (e : false ≡ true). cc), λ d. absurd (too-many words long x y (c.loop-i.i + 1) cuts many d))
+    let cuts : SameCuts c.args.x.now c.args.y.now = c.same_cuts.ensures.exactly.0 c.if-not-same_cuts.false in
+    let turn = more-words g.W.FxSplit.words g.met.W.FxSplit.words_length _ _ c.loop-i.i no_piece cuts c.loop-i-test.true in (
+      (λ (e : false ≡ true). cc),
+      λ d. absurd (too-many g.W.FxSplit.words g.met.W.FxSplit.words_length _ _ (c.loop-i.i + 1) cuts
+          (omega (arith, turn, c.differing-more.ensures, c.loop-i.invariant.so_far, c.loop-i.invariant.few, c.if-more-apart.true)) d),
+    )
 
 pub loop-i-preserved : goal.loop-i-preserved
 loop-i-preserved g c =
-    let words = g.W.FxSplit.words in
-    let long = g.met.W.FxSplit.words_length in
-    let x = c.args.x.now in
-    let y = c.args.y.now in
-    let cuts : SameCuts x y = c.same_cuts.ensures.exactly.0 c.if-not-same_cuts.false in
-    let turn = more-words words long x y c.loop-i.i no_piece cuts c.loop-i-test.true in
+    let cuts : SameCuts c.args.x.now c.args.y.now = c.same_cuts.ensures.exactly.0 c.if-not-same_cuts.false in
+    let turn = more-words g.W.FxSplit.words g.met.W.FxSplit.words_length _ _ c.loop-i.i no_piece cuts c.loop-i-test.true in
     record {
       so_far = omega (arith, turn, c.differing-more.ensures, c.loop-i.invariant.so_far);
       few = omega (arith, c.loop-i.invariant.few, c.if-more-apart.false);
@@ -40,11 +33,9 @@ pub returns-clause-exactly : goal.returns-clause-exactly
 returns-clause-exactly g c =
     let words = g.W.FxSplit.words in
     let long = g.met.W.FxSplit.words_length in
-    let x = c.args.x.now in
-    let y = c.args.y.now in
-    let cuts : SameCuts x y = c.same_cuts.ensures.exactly.0 c.if-not-same_cuts.false in
-    let all = at-the-end words long x y c.loop-i.i cuts c.loop-i-test.false in
-    let decides = DifferByOneWord-iff words long x y cuts in
+    let cuts : SameCuts c.args.x.now c.args.y.now = c.same_cuts.ensures.exactly.0 c.if-not-same_cuts.false in
+    let all = at-the-end words long _ _ c.loop-i.i cuts c.loop-i-test.false in
+    let decides = DifferByOneWord-iff words long _ _ cuts in
     let counted = c.loop-i.invariant.so_far in (
       (λ yes. decides.0 (sym all ∙ sym counted ∙ eqb-true c.loop-i.apart 1 yes)),
       λ d. eq-eqb c.loop-i.apart 1 (counted ∙ all ∙ decides.1 d),

@@ -18,30 +18,3 @@ returns-clause-position c =
     mixed_piece_from _ _ _ _ _ _ (omega arith) (omega arith) c.requires.enough (omega arith)
     (c.spooky_blocks.ensures.mixed ∙ ap (λ (x : List ℕ). spooky_blocks c.args.words.now (take 96 x)) c.put.ensures)
     (left ∙ ap (λ (x : List ℕ). put_at 0 (drop 96 x) x) c.put.ensures)
-
-pub overflow_add-end : goal.overflow_add-end
-overflow_add-end c = omega arith
-
-pub put-requires-clause-fits : goal.put-requires-clause-fits
-put-requires-clause-fits c = omega arith
-
-pub put-requires-clause-few : goal.put-requires-clause-few
-put-requires-clause-few c = omega arith
-
-pub spooky_blocks-requires : goal.spooky_blocks-requires
-spooky_blocks-requires c = omega arith
-
-pub last_chunk-requires : goal.last_chunk-requires
-last_chunk-requires c = omega arith
-
-pub put_array-requires : goal.put_array-requires
-put_array-requires c = omega arith
-
-pub overflow_sub-result : goal.overflow_sub-result
-overflow_sub-result c = omega arith
-
-pub returns-clause-part : goal.returns-clause-part
-returns-clause-part c = omega arith
-
-pub returns-clause-turns : goal.returns-clause-turns
-returns-clause-turns c = omega arith

@@ -13,24 +13,3 @@ returns-clause-position c =
     (c.spooky_blocks.ensures.mixed ∙ ap (spooky_blocks c.args.words.now) c.split_at.ensures.front
     ∙ whole_blocks c.args.words.now c.args.bytes.now)
     (ap (take (length left)) c.put.ensures ∙ take-put_first left c.args.buffer.now ∙ c.split_at.ensures.back)
-
-pub returns-clause-turns : goal.returns-clause-turns
-returns-clause-turns c = c.spooky_blocks.ensures.turn
-
-pub overflow_mul-bytes : goal.overflow_mul-bytes
-overflow_mul-bytes c = omega arith
-
-pub split_at-requires : goal.split_at-requires
-split_at-requires c = omega arith
-
-pub spooky_blocks-requires : goal.spooky_blocks-requires
-spooky_blocks-requires c = omega arith
-
-pub put-requires-clause-fits : goal.put-requires-clause-fits
-put-requires-clause-fits c = omega arith
-
-pub put-requires-clause-few : goal.put-requires-clause-few
-put-requires-clause-few c = omega arith
-
-pub returns-clause-part : goal.returns-clause-part
-returns-clause-part c = omega arith

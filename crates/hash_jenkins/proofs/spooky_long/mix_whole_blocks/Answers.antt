@@ -22,9 +22,6 @@ returns-clause-turns c =
           omega (arith, w.turns-is, calls_last k n c.requires.some (omega arith))
     ]
 
-pub returns-clause-part : goal.returns-clause-part
-returns-clause-part c = omega arith
-
 pub returns-clause-position : goal.returns-clause-position
 returns-clause-position c =
     let b = c.args.buffer.now in
@@ -45,38 +42,5 @@ returns-clause-position c =
     (ap (take (length left)) c.put-2.ensures ∙ take-put_first left c.put.new.buffer ∙ c.split_at-2.ensures.back)
     ∙ sym led ∙ ap (λ (x : List ℕ). mixed c.args.words.now (take c.args.kept b ++ x)) all
 
-pub block_end-full-requires-clause-some : goal.block_end-full-requires-clause-some
-block_end-full-requires-clause-some c = omega arith
-
-pub block_end-full-requires-clause-within : goal.block_end-full-requires-clause-within
-block_end-full-requires-clause-within c = omega arith
-
-pub overflow_sub-full : goal.overflow_sub-full
-overflow_sub-full c = omega arith
-
 pub split_at-requires : goal.split_at-requires
 split_at-requires c = rw c.block_end-full.ensures (room_in_block _ _ c.requires.within c.requires.some c.requires.enough)
-
-pub put-requires-clause-fits : goal.put-requires-clause-fits
-put-requires-clause-fits c = omega arith
-
-pub put-requires-clause-few : goal.put-requires-clause-few
-put-requires-clause-few c = omega arith
-
-pub overflow_mul-rest : goal.overflow_mul-rest
-overflow_mul-rest c = omega arith
-
-pub split_at-requires-2 : goal.split_at-requires-2
-split_at-requires-2 c = omega arith
-
-pub spooky_blocks-requires : goal.spooky_blocks-requires
-spooky_blocks-requires c = omega arith
-
-pub spooky_blocks-requires-then-not-is_empty : goal.spooky_blocks-requires-then-not-is_empty
-spooky_blocks-requires-then-not-is_empty c = omega arith
-
-pub put-requires-2-clause-fits : goal.put-requires-2-clause-fits
-put-requires-2-clause-fits c = omega arith
-
-pub put-requires-2-clause-few : goal.put-requires-2-clause-few
-put-requires-2-clause-few c = omega arith

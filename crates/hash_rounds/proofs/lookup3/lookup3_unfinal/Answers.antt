@@ -1,12 +1,10 @@
-use Rattle.std.proofs.Common.{[], refl}
+use Rattle.std.proofs.Common.{refl}
 use Rattle.hash_rounds.specs.Rounds.{lookup3_final_steps, lookup3_final_group, lookup3_final_table}
-use Rattle.hash_rounds.proofs.StepLemmas.{rows_unmade}
-use Rattle.hash_rounds.proofs.WordLemmas.{no_words}
+use Rattle.hash_rounds.proofs.StepLemmas.{unmade}
 use Rattle.hash_rounds.proofs.lookup3.lookup3_unfinal.Goals as goal
 
 pub returns : goal.returns
 unfolding lookup3_final_steps
 returns c =
-    let both = rows_unmade 32 3 0 lookup3_final_group lookup3_final_table refl [] c.args.s.now c.unfinal_group-7.new.s refl (no_words 32)
-    c.told-s c.fits-s (cc) in
+    let both = unmade 32 lookup3_final_group lookup3_final_table _ c.unfinal_group-7.new.s c.told-s c.fits-s refl (cc) in
     record { round = both.0; undone = both.1 }

@@ -1,12 +1,10 @@
-use Rattle.std.proofs.Common.{[], refl}
+use Rattle.std.proofs.Common.{refl}
 use Rattle.hash_rounds.specs.Rounds.{lookup3_mix_steps, lookup3_mix_group, lookup3_mix_table}
-use Rattle.hash_rounds.proofs.StepLemmas.{rows_unmade}
-use Rattle.hash_rounds.proofs.WordLemmas.{no_words}
+use Rattle.hash_rounds.proofs.StepLemmas.{unmade}
 use Rattle.hash_rounds.proofs.lookup3.lookup3_unmix.Goals as goal
 
 pub returns : goal.returns
 unfolding lookup3_mix_steps
 returns c =
-    let both = rows_unmade 32 3 0 lookup3_mix_group lookup3_mix_table refl [] c.args.s.now c.unmix_group-6.new.s refl (no_words 32)
-    c.told-s c.fits-s (cc) in
+    let both = unmade 32 lookup3_mix_group lookup3_mix_table _ c.unmix_group-6.new.s c.told-s c.fits-s refl (cc) in
     record { round = both.0; undone = both.1 }

@@ -1,12 +1,10 @@
-use Rattle.std.proofs.Common.{[], refl}
+use Rattle.std.proofs.Common.{refl}
 use Rattle.hash_rounds.specs.Rounds.{short_mix_steps, short_mix_group, short_mix_table}
-use Rattle.hash_rounds.proofs.StepLemmas.{rows_made}
-use Rattle.hash_rounds.proofs.WordLemmas.{no_words}
+use Rattle.hash_rounds.proofs.StepLemmas.{made}
 use Rattle.hash_rounds.proofs.short.short_mix.Goals as goal
 
 pub returns : goal.returns
 unfolding short_mix_steps
 returns c =
-    let both = rows_made 64 4 0 short_mix_group short_mix_table refl [] c.args.h.now c.mix_group-12.new.h refl (no_words 64) c.told-h
-    c.fits-h (cc) in
+    let both = made 64 short_mix_group short_mix_table _ c.mix_group-12.new.h c.told-h c.fits-h refl (cc) in
     record { round = both.0; undone = both.1 }

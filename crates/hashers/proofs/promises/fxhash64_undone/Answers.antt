@@ -1,8 +1,8 @@
-use Rattle.std.proofs.Common.{◌∙◌, ap, sym}
-use Rattle.std.specs.List.{flat_map}
+use Rattle.std.proofs.Common.{◌∙◌}
 use Rattle.hash_laws.specs.Writes.{all_written}
 use Rattle.hash_laws.proofs.RecurrenceLemmas.{recurrence-pieces}
-use Rattle.hash_fx.specs.Fx.{fx64, fx64_step, words64}
+use Rattle.hash_fx.specs.Fx.{fx64_step, words64}
+use Rattle.hashers.proofs.WordsWritten.{written_from}
 use Rattle.hashers.proofs.promises.fxhash64_undone.Goals as goal
 
 pub returns-clause-there : goal.returns-clause-there
@@ -10,6 +10,4 @@ returns-clause-there c = c.there_and_back.ensures.there ∙ recurrence-pieces fx
 
 pub returns-clause-back : goal.returns-clause-back
 returns-clause-back c =
-    let writes = all_written c.args.writes.now in
-    let back = c.there_and_back.ensures.back in
-    ap (λ s. fx64 s (flat_map words64 writes)) back.3 ∙ sym (recurrence-pieces fx64_step words64 back.0 writes) ∙ back.2
+    let back = c.there_and_back.ensures.back in written_from fx64_step words64 (all_written c.args.writes.now) _ _ _ back.3 back.2

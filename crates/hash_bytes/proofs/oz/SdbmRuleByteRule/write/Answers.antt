@@ -2,12 +2,12 @@ use Rattle.std.proofs.Common.{◌≡◌, ◌+◌, ◌*◌, ◌<◌, ◌/◌, ◌
 use Rattle.std.proofs.Math.Nat.{mod-lt}
 use Rattle.std.proofs.lemmas.List.{take_more}
 use Rattle.hash_rounds.specs.Sums.{sdbm_from}
-use Rattle.hash_rounds.proofs.SumLemmas.{sdbm-nil, sdbm-append, sdbm_of_one, sdbm_push}
+use Rattle.hash_rounds.proofs.SumLemmas.{sdbm_sums, sdbm_of_one, sdbm_push}
 use Rattle.hash_rounds.proofs.Chunks.{take_chunk}
 use Rattle.hash_bytes.proofs.oz.SdbmRuleByteRule.write.Goals as goal
 
 pub loop-four-init : goal.loop-four-init
-loop-four-init c = (c.state.invariant, sym (sdbm-nil _ c.state.invariant), omega arith)
+loop-four-init c = (c.state.invariant, sym (sdbm_sums.of_nothing _ c.state.invariant), omega arith)
 
 pub loop-four-preserved : goal.loop-four-preserved
 loop-four-preserved c =
@@ -15,14 +15,14 @@ loop-four-preserved c =
     let four = get_or c.as_chunks.result.0.now c.loop-four.four-index [] in
     let here : c.loop-four.four-index < length c.args.bytes.now / 4 = omega arith in (
       c.sdbm4-state-inside.type_inv,
-      c.sdbm4-state-inside.ensures.value ∙ ap (λ s. sdbm_from s four) inv.1 ∙ sdbm-append _ _ four
+      c.sdbm4-state-inside.ensures.value ∙ ap (λ s. sdbm_from s four) inv.1 ∙ sdbm_sums.joined _ _ four
           ∙ ap (λ t. sdbm_from c.state.inside.state t) (rw c.as_chunks.ensures.front
           (take_chunk 4 (length c.args.bytes.now / 4) _ c.args.bytes.now [] here)),
       omega arith,
     )
 
 pub loop-byte-init : goal.loop-byte-init
-loop-byte-init c = (c.loop-four.invariant.0, sym (sdbm-nil _ c.loop-four.invariant.0), omega arith)
+loop-byte-init c = (c.loop-four.invariant.0, sym (sdbm_sums.of_nothing _ c.loop-four.invariant.0), omega arith)
 
 pub loop-byte-preserved : goal.loop-byte-preserved
 loop-byte-preserved c =
@@ -51,7 +51,7 @@ returns-clause-state c =
     ∙ rw (
       take_all c.loop-byte.byte-index rest c.loop-byte-test.false,
       c.loop-four.invariant.1,
-      sdbm-append s
+      sdbm_sums.joined s
           (take (c.loop-four.four-index * 4) bytes) rest,
       c.as_chunks.ensures.back,
       fours,

@@ -1,18 +1,14 @@
-use Rattle.std.proofs.Common.{◌≡◌, ◌++◌, ◌∙◌, ap, sym, map, fold, refl}
-use Rattle.std.proofs.lemmas.List.Sums.{fold-append}
+use Rattle.std.proofs.Common.{◌∙◌, ap, sym, map, fold}
 use Rattle.hash_rounds.specs.Words.{le}
-use Rattle.hash_rounds.specs.Blocks.{pieces}
 use Rattle.hash_laws.proofs.RecurrenceLemmas.{recurrence-fold}
-use Rattle.hash_fx.specs.Fx.{fx64_step, words32, words64}
+use Rattle.hash_fx.specs.Fx.{fx64_step, words32}
+use Rattle.hash_fx.proofs.WordParts.{words64-parts, steps-parts}
 use Rattle.hash_fx.proofs.word.U64FxSplit.words_out.Goals as goal
 
 pub returns : goal.returns
-unfolding pieces
 returns c =
-    let before = c.eights_out.result in
-    let eights = map le c.as_chunks.result.0.now in
-    let others = words32 c.as_chunks.result.1.now in
-    let parts : eights ++ others ≡ words64 c.args.piece.now = rw (c.as_chunks.ensures.front, c.as_chunks.ensures.back) refl in
-    recurrence-fold fx64_step before (words64 c.args.piece.now) ∙ ap (fold fx64_step before) (sym parts)
-    ∙ fold-append fx64_step before eights others ∙ ap (λ s. fold fx64_step s others) c.eights_out.ensures
+    let taken = c.as_chunks.result in
+    let others = words32 taken.1.now in
+    let parts = words64-parts c.args.piece.now taken.0.now taken.1.now c.as_chunks.ensures.front c.as_chunks.ensures.back in
+    steps-parts fx64_step _ (map le taken.0.now) others _ parts ∙ ap (λ s. fold fx64_step s others) c.eights_out.ensures
     ∙ sym (recurrence-fold fx64_step c.fours_and_bytes_out.result others) ∙ c.fours_and_bytes_out.ensures

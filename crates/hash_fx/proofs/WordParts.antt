@@ -1,0 +1,25 @@
+-- A piece's words from its wide words and the rest.
+use Rattle.std.proofs.Common.{◌≡◌, ℕ, ◌*◌, ◌/◌, List, ◌++◌, length, drop, map, fold, refl, sym, ap, ◌∙◌}
+use Rattle.std.specs.Simd.{first_chunks}
+use Rattle.std.proofs.lemmas.List.Sums.{fold-append}
+use Rattle.hash_rounds.specs.Words.{le}
+use Rattle.hash_rounds.specs.Blocks.{pieces}
+use Rattle.hash_laws.specs.Recurrence.{recurrence}
+use Rattle.hash_laws.proofs.RecurrenceLemmas.{recurrence-fold}
+use Rattle.hash_fx.specs.Fx.{words32, words64}
+
+pub words32-parts : (piece : List ℕ) (fours : List (List ℕ)) (rest : List ℕ) → fours ≡ first_chunks 4 (length piece / 4) piece
+    → rest ≡ drop (length piece / 4 * 4) piece → map le fours ++ rest ≡ words32 piece
+unfolding pieces
+words32-parts piece fours rest front back = rw (front, back) refl
+
+pub words64-parts : (piece : List ℕ) (eights : List (List ℕ)) (rest : List ℕ) → eights ≡ first_chunks 8 (length piece / 8) piece
+    → rest ≡ drop (length piece / 8 * 8) piece → map le eights ++ words32 rest ≡ words64 piece
+unfolding pieces
+words64-parts piece eights rest front back = rw (front, back) refl
+
+-- the steps over all words are those over the one part, and then over the other
+pub steps-parts : (step : ℕ → ℕ → ℕ) (s : ℕ) (first rest words : List ℕ) → first ++ rest ≡ words
+    → recurrence step s words ≡ fold step (fold step s first) rest
+steps-parts step s first rest words parts =
+    recurrence-fold step s words ∙ ap (fold step s) (sym parts) ∙ fold-append step s first rest
