@@ -348,4 +348,6 @@ fn refused_for_a_filter(rt: HostRuntime) {
             !matches!(none, Ok(true)),
         ],
     );
+    filter.clear();
+    all_hold(&rt, &[filter.ones() == 0]);
 }
