@@ -1,5 +1,5 @@
 -- What was read of a reader whose bytes are known.
-use Rattle.std.proofs.Common.{ℕ, ◌≡◌, List, [], ◌++◌, Option, Some, None, Result, Ok, Err, IfOk, length, take, fold, ap, sym, ◌∙◌, subst, arith}
+use Rattle.std.proofs.Common.{ℕ, ◌≡◌, List, ◌++◌, Option, Some, None, Result, Ok, Err, IfOk, length, take, fold, ap, sym, ◌∙◌, subst, arith}
 use Rattle.std.proofs.lemmas.List.{append-nil, take-append-le, take_all}
 use Rattle.std.specs.Io.KnownBytes.{Consumes, IsAtEnd}
 use Rattle.hash_laws.specs.Reading.{cut, FeedsRead, FeedsFirst, FeedsAll, HashesRead, HashesFirst, HashesAll}

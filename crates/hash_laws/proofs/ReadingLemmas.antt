@@ -96,18 +96,20 @@ module _ {S : Type 0} (after : S → List ℕ → S) where
       }
 
   -- the same for the front of a buffer
-  pub feeds_front : (n : ℕ) (a b c : Option (List ℕ)) (s t u : S) (bytes filled : ℕ) (buf rest : List ℕ) → 0 < n
-      → FeedsRead after n a b s t bytes → bytes % n ≡ 0
+  pub feeds_front : {H : Type 0} {n bytes : ℕ} {a b c : Option (List ℕ)} {s : S} (state : H → S) (h h' : H) (filled : ℕ)
+      (buf rest : List ℕ) → 0 < n
+      → FeedsRead after n a b s (state h) bytes → bytes % n ≡ 0
       → Consumes b c (take filled buf) → filled ≤ length buf → filled ≤ n
-      → IsText (take filled (buf ++ rest)) → (length (take filled (buf ++ rest)) ≡ 0 → u ≡ t)
-      → (0 < length (take filled (buf ++ rest)) → u ≡ after t (take filled (buf ++ rest)))
-      → FeedsRead after n a c s u (bytes + filled)
-  feeds_front n a b c s t u bytes filled buf rest some before whole read within fits bytes_read empty fed =
+      → IsText (take filled (buf ++ rest)) → (length (take filled (buf ++ rest)) ≡ 0 → h' ≡ h)
+      → (0 < length (take filled (buf ++ rest)) → state h' ≡ after (state h) (take filled (buf ++ rest)))
+      → FeedsRead after n a c s (state h') (bytes + filled)
+  feeds_front {H} {n} {bytes} {a} {b} {c} {s} state h h' filled buf rest some before whole read within fits bytes_read empty fed =
       let same = take-append-le filled buf rest within in
       let count = length-take-le filled buf within in
       let few : length (take filled buf) ≤ n = omega (arith, count) in
-      subst (λ m. FeedsRead after n a c s u (bytes + m)) count
-      (feeds_more n a b c s t u bytes (take filled buf) some before whole read (rw same at bytes_read) few (rw same at empty)
+      subst (λ m. FeedsRead after n a c s (state h') (bytes + m)) count
+      (feeds_more n a b c s (state h) (state h') bytes (take filled buf) some before whole read (rw same at bytes_read) few
+      (λ none. ap state ((rw same at empty) none))
       (rw same at fed))
 
   -- before the first read

@@ -1,4 +1,4 @@
-use Rattle.std.proofs.Common.{◌≡◌, ◌+◌, ◌<◌, length, arith}
+use Rattle.std.proofs.Common.{◌<◌, length, arith}
 use Rattle.std.proofs.lemmas.Bool.{both_ways}
 use Rattle.hash_fx.proofs.DifferencesLemmas.{more-same, more-differ}
 use Rattle.hash_fx.proofs.differing.differing_words.Goals as goal

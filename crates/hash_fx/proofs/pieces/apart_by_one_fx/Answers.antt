@@ -1,4 +1,4 @@
-use Rattle.std.proofs.Common.{◌≡◌, ◌↔◌, ◌+◌, true, false, drop, get_or}
+use Rattle.std.proofs.Common.{◌≡◌, ◌↔◌, ◌+◌, true, false, drop}
 use Rattle.std.proofs.lemmas.Bool.{OnTrue_at, OnTrue_from, both_ways}
 use Rattle.hash_laws.specs.Text.{joined}
 use Rattle.hash_fx.proofs.OneApart.{OneApart, one_from_DifferAtOnePlace, DifferAtOnePlace-from_one}

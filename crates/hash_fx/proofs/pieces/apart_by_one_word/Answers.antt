@@ -1,8 +1,7 @@
-use Rattle.std.proofs.Common.{◌≡◌, ◌+◌, ◌<◌, false, true, take, arith, sym, ◌∙◌}
+use Rattle.std.proofs.Common.{◌≡◌, ◌+◌, false, true, arith, sym, ◌∙◌}
 use Rattle.std.proofs.lemmas.Bool.{both_ways, eq-eqb, eqb-true}
-use Rattle.hash_fx.specs.Differences.{differences}
 use Rattle.hash_fx.proofs.CutsLemmas.{SameCuts, SameCuts-at, no_piece}
-use Rattle.hash_fx.proofs.WordTests.{DifferByOneWord-iff, at-the-end, more-words, too-many, words_of}
+use Rattle.hash_fx.proofs.WordTests.{DifferByOneWord-iff, at-the-end, more-words, too-many}
 use Rattle.hash_fx.proofs.pieces.apart_by_one_word.Goals as goal
 
 pub differing-more-requires : goal.differing-more-requires

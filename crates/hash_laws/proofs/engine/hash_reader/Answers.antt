@@ -1,4 +1,4 @@
-use Rattle.std.proofs.Common.{◌≡◌, ◌≤◌, arith, rules, min, refl, ap, ◌-◌}
+use Rattle.std.proofs.Common.{◌≡◌, ◌≤◌, arith, rules, min, refl, ◌-◌}
 use Rattle.std.proofs.Math.Nat.{zero-mod}
 use Rattle.std.proofs.lemmas.Bool.{false≢true}
 use Rattle.hash_laws.proofs.ReadingLemmas.{feeds_none, feeds_front, whole_more}
@@ -14,36 +14,29 @@ loop-bytes-init g c = record {
 
 pub returns-in-Err-clause-fault : goal.returns-in-Err-clause-fault
 returns-in-Err-clause-fault g c =
-    let H = g.H.Piecewise in
-    let before = c.loop-bytes.invariant in
-    let filled = c.fill-filled.ensures in
-    let few : c.fill-filled.result.0 ≤ g.row.N = omega (arith, c.fill-filled.auto.buf, c.min-room.ensures) in
-    feeds_front _ _ _ _ _ _ _ _ _ _ _ _ c.requires.not_empty before.so_far (before.whole c.loop-bytes-test.true) filled.read filled.within
-    few c.feed_unless_empty.ensures.text (λ none. ap H.state (c.feed_unless_empty.ensures.untouched none))
-    c.feed_unless_empty.ensures.fed
+    let fed = c.feed_unless_empty.ensures in
+    feeds_front _ g.H.Piecewise.state _ _ _ _ _ c.requires.not_empty c.loop-bytes.invariant.so_far
+    (c.loop-bytes.invariant.whole c.loop-bytes-test.true) c.fill-filled.ensures.read c.fill-filled.ensures.within
+    (omega (arith, c.fill-filled.auto.buf, c.min-room.ensures)) fed.text fed.untouched fed.fed
 
 pub returns-then-filled-room-clause-taken : goal.returns-then-filled-room-clause-taken
 returns-then-filled-room-clause-taken g c =
-    let H = g.H.Piecewise in
-    let before = c.loop-bytes.invariant in
-    let filled = c.fill-filled.ensures in
-    let few : c.fill-filled.result.0 ≤ g.row.N = omega (arith, c.fill-filled.auto.buf, c.min-room.ensures) in
-    feeds_front _ _ _ _ _ _ _ _ _ _ _ _ c.requires.not_empty before.so_far (before.whole c.loop-bytes-test.true) filled.read filled.within
-    few c.feed_unless_empty.ensures.text (λ none. ap H.state (c.feed_unless_empty.ensures.untouched none))
-    c.feed_unless_empty.ensures.fed
+    let fed = c.feed_unless_empty.ensures in
+    feeds_front _ g.H.Piecewise.state _ _ _ _ _ c.requires.not_empty c.loop-bytes.invariant.so_far
+    (c.loop-bytes.invariant.whole c.loop-bytes-test.true) c.fill-filled.ensures.read c.fill-filled.ensures.within
+    (omega (arith, c.fill-filled.auto.buf, c.min-room.ensures)) fed.text fed.untouched fed.fed
 
 pub loop-bytes-preserved : goal.loop-bytes-preserved
 loop-bytes-preserved g c =
-    let H = g.H.Piecewise in
     let before = c.loop-bytes.invariant in
     let filled = c.fill-filled.ensures in
+    let fed = c.feed_unless_empty.ensures in
     let few : c.fill-filled.result.0 ≤ g.row.N = omega (arith, c.fill-filled.auto.buf, c.min-room.ensures) in
     let full : c.fill-filled.result.0 ≡ min (c.args.limit - c.loop-bytes.bytes) g.row.N
     = omega (arith, c.fill-filled.auto.buf, c.min-room.ensures, c.if-filled-room.false) in
     record {
-      so_far = feeds_front _ _ _ _ _ _ _ _ _ _ _ _ c.requires.not_empty before.so_far (before.whole c.loop-bytes-test.true) filled.read
-          filled.within few c.feed_unless_empty.ensures.text (λ none. ap H.state (c.feed_unless_empty.ensures.untouched none))
-          c.feed_unless_empty.ensures.fed;
+      so_far = feeds_front _ g.H.Piecewise.state _ _ _ _ _ c.requires.not_empty before.so_far (before.whole c.loop-bytes-test.true)
+          filled.read filled.within few fed.text fed.untouched fed.fed;
       within = omega arith;
       whole = whole_more _ _ _ _ c.requires.not_empty full (before.whole c.loop-bytes-test.true);
     }

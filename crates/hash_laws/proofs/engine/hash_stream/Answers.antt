@@ -5,21 +5,13 @@ use Rattle.hash_laws.proofs.engine.hash_stream.Goals as goal
 
 pub returns-clause-taken : goal.returns-clause-taken
 returns-clause-taken g c =
-    let H = g.H.Piecewise in
-    let laws = g.met.H.Piecewise in
-    IfOk-weaker c.hash_reader.result _ _
-    (λ taken fed. HashesRead-fed H.in_range H.after laws.after_in_range laws.after_nothing g.met.H.Streamed.after_joined _ _ _ _ _ _
-    c.requires.not_empty fed)
-    c.hash_reader.ensures.taken
+    IfOk-weaker c.hash_reader.result _ _ (λ taken. HashesRead-fed _ _ g.met.H.Piecewise.after_in_range g.met.H.Piecewise.after_nothing
+    g.met.H.Streamed.after_joined _ _ _ _ _ _ c.requires.not_empty) c.hash_reader.ensures.taken
 
 pub returns-clause-fault : goal.returns-clause-fault
 returns-clause-fault g c =
-    let H = g.H.Piecewise in
-    let laws = g.met.H.Piecewise in
-    IfErr-weaker c.hash_reader.result _ _
-    (λ fault fed. HashesRead-fed H.in_range H.after laws.after_in_range laws.after_nothing g.met.H.Streamed.after_joined _ _ _ _ _ _
-    c.requires.not_empty fed)
-    c.hash_reader.ensures.fault
+    IfErr-weaker c.hash_reader.result _ _ (λ fault. HashesRead-fed _ _ g.met.H.Piecewise.after_in_range g.met.H.Piecewise.after_nothing
+    g.met.H.Streamed.after_joined _ _ _ _ _ _ c.requires.not_empty) c.hash_reader.ensures.fault
 
 pub returns-clause-first_taken : goal.returns-clause-first_taken
 returns-clause-first_taken g c = IfOk-weaker c.hash_reader.result _ _ (λ taken. HashesFirst-read _ _ _ _ _ _ _) (returns-clause-taken g c)
