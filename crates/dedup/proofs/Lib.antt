@@ -4,3 +4,4 @@ pub mod OrderLemmas
 pub mod RunLemmas
 pub mod SeenLemmas
 pub mod TallyLemmas
+pub mod UnreadLemmas

@@ -1,15 +1,15 @@
 -- Lines of a text that grows, and the first of each.
-use Rattle.std.proofs.Common.{suc, subst, Option, Some, None, IfSome, ◌≡◌, ◌≢◌, ℕ, ◌+◌, ◌-◌, ◌<◌, Bool, true, false, cond, not, ◌||◌, ◌&&◌, if◌then◌else◌, ◌==◌, List, [], ◌∷◌, ◌++◌, length, get_or, take, drop, take-append-drop, append_assoc, All, ap, sym, ◌∙◌, refl, arith}
+use Rattle.std.proofs.Common.{suc, subst, Some, ◌≡◌, ◌≢◌, ℕ, ◌+◌, ◌-◌, ◌<◌, Bool, true, false, cond, not, ◌||◌, ◌&&◌, if◌then◌else◌, ◌==◌, List, [], ◌∷◌, ◌++◌, length, get_or, take, drop, take-append-drop, append_assoc, All, ap, sym, ◌∙◌, refl, arith}
 use Rattle.std.specs.Io.{StopsAt}
-use Rattle.std.specs.Io.BufRead.{ends_with_byte, strip_last, take_through}
+use Rattle.std.specs.Io.BufRead.{ends_with_byte, strip_last}
 use Rattle.std.specs.List.{filter, flat_map, list_any, onto_first}
 use Rattle.std.proofs.lemmas.Bool.{ne_eqb, eq-eqb, lt-ltb, false≢true}
 use Rattle.std.proofs.lemmas.Cmp.{nat_list_eq_equiv}
 use Rattle.std.proofs.lemmas.List.{append-nil, take_rest, get_or-take, get_or_default, length-take, length-take-le}
 use Rattle.std.proofs.lemmas.Grind.{flat_map-append, get_or_tail}
 use Rattle.std.proofs.lemmas.List.Elements.{All-head, All-tail, filter-append}
-use Rattle.dedup.specs.Between.{IsNewline}
-use Rattle.dedup.specs.Lines.{lines, same_text, firsts, as_line, each_once}
+use Rattle.dedup.specs.Between.{IsBare, IsNewline}
+use Rattle.dedup.specs.Lines.{lines, same_text, firsts, as_line, once}
 
 pub same_text-symm : (line other : List ℕ) → same_text line other ≡ same_text other line
 same_text-symm line other = nat_list_eq_equiv.symm (strip_last 10 line) (strip_last 10 other)
@@ -99,23 +99,30 @@ one_line (byte ∷ next ∷ line) stops some =
     ap (λ b. cond b ((byte ∷ []) ∷ lines (next ∷ line)) (onto_first byte (lines (next ∷ line)))) (ne_eqb byte 10 other)
     ∙ ap (onto_first byte) (one_line (next ∷ line) later (omega arith))
 
--- where no newline was read, all was read
-pub all_through : (bytes : List ℕ) → ends_with_byte 10 (take_through 10 bytes) ≡ false → bytes ≡ take_through 10 bytes
-all_through [] bare = refl
-all_through (byte ∷ bytes) bare = at (byte == 10) refl bare (all_through bytes)
+-- bytes without a newline are one line
+pub bare_line : (line : List ℕ) → IsBare line → 0 < length line → lines line ≡ line ∷ []
+bare_line [] bare some = absurd (omega arith)
+bare_line (byte ∷ []) bare some = ap (λ b. cond b ((byte ∷ []) ∷ []) (onto_first byte [])) (ne_eqb byte 10 (bare 0 (omega arith)))
+bare_line (byte ∷ next ∷ line) bare some =
+    ap (λ b. cond b ((byte ∷ []) ∷ lines (next ∷ line)) (onto_first byte (lines (next ∷ line)))) (ne_eqb byte 10 (bare 0 (omega arith)))
+    ∙ ap (onto_first byte) (bare_line (next ∷ line) (λ k below. bare (suc k) (omega arith)) (omega arith))
+
+-- bytes without a newline are a text
+pub bare_text : (line : List ℕ) → IsBare line → strip_last 10 line ≡ line
+bare_text [] bare = refl
+bare_text (byte ∷ line) bare =
+    let all : List ℕ = byte ∷ line in
+    ap (λ b. cond b (take (length all - 1) all) all) (ends_some all (omega arith) ∙ ne_eqb _ 10 (bare (length all - 1) (omega arith)))
+
+-- where there are bytes, there is a line
+pub some_line : (text : List ℕ) → 0 < length text → 0 < length (lines text)
+some_line [] some = absurd (omega arith)
+some_line (byte ∷ text) some = at (byte == 10) (lines text)
   where
-    later : (taken : List ℕ) → (byte == 10) ≡ false → ends_with_byte 10 (byte ∷ taken) ≡ false → ends_with_byte 10 taken ≡ false
-    later [] other bare = refl
-    later (next ∷ taken) other bare = sym (ends_tail byte next taken) ∙ bare
-
-    at : (b : Bool) → (byte == 10) ≡ b → ends_with_byte 10 (cond b (byte ∷ []) (byte ∷ take_through 10 bytes)) ≡ false
-        → (ends_with_byte 10 (take_through 10 bytes) ≡ false → bytes ≡ take_through 10 bytes) → byte ∷ bytes ≡ cond b (byte ∷ []) (byte ∷ take_through 10 bytes)
-    at true is bare more = absurd (false≢true (sym bare ∙ is))
-    at false is bare more = ap (λ l. byte ∷ l) (more (later (take_through 10 bytes) is bare))
-
-pub bare_is_all : (old : Option (List ℕ)) (line : List ℕ) → IfSome old (λ bytes. line ≡ take_through 10 bytes) → ends_with_byte 10 line ≡ false → IfSome old (λ bytes. bytes ≡ line)
-bare_is_all None line is bare = tt
-bare_is_all (Some bytes) line is bare = all_through bytes (ap (ends_with_byte 10) (sym is) ∙ bare) ∙ sym is
+    at : (b : Bool) (ls : List (List ℕ)) → 0 < length (cond b ((byte ∷ []) ∷ ls) (onto_first byte ls))
+    at true ls = omega arith
+    at false [] = omega arith
+    at false (line ∷ ls) = omega arith
 
 -- what is written and what is left of some bytes, after more of them
 pub taken_more : (part rest bytes : List ℕ) (n : ℕ) → part ++ rest ≡ bytes → (part ++ take n rest) ++ take (length rest - n) (drop n rest) ≡ bytes
@@ -123,18 +130,18 @@ taken_more part rest bytes n is =
     ap (λ t. (part ++ take n rest) ++ t) (take_rest rest n) ∙ append_assoc part (take n rest) (drop n rest) ∙ ap (λ t. part ++ t) (take-append-drop n rest) ∙ is
 
 -- what a line adds
-pub each_once_more : (text line : List ℕ) → lines (text ++ line) ≡ lines text ++ line ∷ [] → each_once (text ++ line) ≡ each_once text ++ (if list_any (same_text line) (lines text) then [] else as_line line)
-each_once_more text line split = ap (λ all. flat_map as_line (firsts all)) split ∙ ap (flat_map as_line) (firsts_more (lines text) line) ∙ at (list_any (same_text line) (lines text))
+pub once_more : (ls : List (List ℕ)) (line : List ℕ) → once (ls ++ line ∷ []) ≡ once ls ++ (if list_any (same_text line) ls then [] else as_line line)
+once_more ls line = ap (flat_map as_line) (firsts_more ls line) ∙ at (list_any (same_text line) ls)
   where
-    at : (b : Bool) → flat_map as_line (cond b (firsts (lines text)) (firsts (lines text) ++ line ∷ [])) ≡ each_once text ++ cond b [] (as_line line)
+    at : (b : Bool) → flat_map as_line (cond b (firsts ls) (firsts ls ++ line ∷ [])) ≡ once ls ++ cond b [] (as_line line)
     at true = sym (append-nil _)
-    at false = flat_map-append as_line (firsts (lines text)) (line ∷ []) ∙ ap (λ l. each_once text ++ l) (append-nil (as_line line))
+    at false = flat_map-append as_line (firsts ls) (line ∷ []) ∙ ap (λ l. once ls ++ l) (append-nil (as_line line))
 
 -- what further lines add stands behind what was there
-pub each_once_begins : (text more : List ℕ) → lines (text ++ more) ≡ lines text ++ lines more → (rest : List ℕ) × (each_once (text ++ more) ≡ each_once text ++ rest)
-each_once_begins text more split =
-    let (rest, is) = firsts_begins (lines text) (lines more) in
-    (flat_map as_line rest, ap (λ all. flat_map as_line (firsts all)) split ∙ ap (flat_map as_line) is ∙ flat_map-append as_line (firsts (lines text)) rest)
+pub once_begins : (ls more : List (List ℕ)) → (rest : List ℕ) × (once (ls ++ more) ≡ once ls ++ rest)
+once_begins ls more =
+    let (rest, is) = firsts_begins ls more in
+    (flat_map as_line rest, ap (flat_map as_line) is ∙ flat_map-append as_line (firsts ls) rest)
 
 -- the bytes through the first newline are a line
 pub line_through : (rest : List ℕ) (n : ℕ) → IsNewline rest (Some n) → StopsAt (take (n + 1) rest) 10 × (0 < length (take (n + 1) rest)) × (ends_with_byte 10 (take (n + 1) rest) ≡ true)

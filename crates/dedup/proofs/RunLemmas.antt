@@ -1,70 +1,44 @@
 -- A run between two lines, and how it ends.
-use Rattle.std.proofs.Common.{◌≡◌, ℕ, ◌<◌, Bool, true, false, ◌||◌, List, [], ◌∷◌, ◌++◌, length, ap, sym, ◌∙◌, refl, if◌then◌else◌, subst, Option, None, Some, IfSome, Result, Ok, Err, OnOk, OnErr, append_assoc, ◌-◌, take, drop, take-append-drop, length-append, arith}
-use Rattle.std.specs.Io.{StartsWith, StopsAt}
+use Rattle.std.proofs.Common.{◌≡◌, ◌≢◌, ℕ, zero, suc, inl, inr, ◌+◌, ◌<◌, ◌≤◌, Bool, true, false, ◌||◌, List, [], ◌∷◌, ◌++◌, length, ap, sym, ◌∙◌, refl, if◌then◌else◌, subst, Option, None, Some, IfSome, Result, Ok, Err, append_assoc, ◌-◌, take, drop, take-append-drop, length-append, arith}
+use Rattle.std.specs.Io.{StopsAt}
 use Rattle.std.specs.Io.BufRead.{ends_with_byte, strip_last}
-use Rattle.std.specs.Io.KnownBytes.{Consumes, Appends, Keeps}
+use Rattle.std.specs.Io.KnownBytes.{Consumes, Appends, Keeps, IsAtEnd}
 use Rattle.std.specs.Result.{IsErr}
 use Rattle.std.specs.List.{list_any}
 use Rattle.std.specs.Str.{bytes_eq}
 use Rattle.std.proofs.KnownBytes.{Consumes-nil, Consumes-trans, Appends-nil, Appends-trans, Appends-kept}
-use Rattle.std.proofs.lemmas.Bool.{false≢true, true≢false}
-use Rattle.std.proofs.Math.Seq.{take-append_seam}
-use Rattle.std.proofs.lemmas.List.{append-nil}
+use Rattle.std.proofs.lemmas.Bool.{false≢true, cases_lt}
+use Rattle.std.proofs.Math.Seq.{take-append_seam, drop-append_seam, get_or-append_right}
+use Rattle.std.proofs.lemmas.List.{append-nil, get_or_append_left, length-take-le, nil_from_length}
 use Rattle.std.proofs.lemmas.List.Folds.{list_any-append}
-use Rattle.dedup.specs.Between.{Between, BreaksOff, LeadsOn, after}
-use Rattle.dedup.specs.Lines.{lines, as_line, each_once}
-use Rattle.dedup.specs.Running.{Run, WritesAll, WritesPart, Ends}
-use Rattle.dedup.specs.Tallies.{AllCounted, Tallies}
+use Rattle.dedup.specs.Between.{BreaksOff, Filled, IsBare, IsWhole, LeadsOn, Takes, Wrote}
+use Rattle.dedup.specs.Lines.{lines, as_line, each_once, once}
+use Rattle.dedup.specs.Running.{AppendsPart, Run, WritesAll, WritesPart, Ends}
 use Rattle.dedup.specs.declared.run.Fault.{Fault}
-use Rattle.dedup.proofs.LineLemmas.{lines_of_line, one_line, each_once_more, each_once_begins}
+use Rattle.dedup.proofs.LineLemmas.{lines_of_line, one_line, bare_line, some_line, once_more, once_begins}
 
-pub between_start : (left written : Option (List ℕ)) (seen : List ℕ → Bool) → ((other : List ℕ) → seen other ≡ false)
-    → Between (record { left = left; left' = left; written = written; written' = written }) seen
-between_start left written seen none = record {
-  text = [];
-  read = Consumes-nil left;
-  whole = λ more. refl;
-  is_seen = none;
-  written = Appends-nil written;
-}
+-- ---- lines that are written
 
--- how a line splits off behind whole lines
-split_off : (text : List ℕ) → ((more : List ℕ) → lines (text ++ more) ≡ lines text ++ lines more) → (line : List ℕ) → StopsAt line 10 → 0 < length line
-    → lines (text ++ line) ≡ lines text ++ line ∷ []
-split_off text whole line stops some = whole line ∙ ap (λ l. lines text ++ l) (one_line line stops some)
+pub wrote_start : (seen : List ℕ → Bool) (written : Option (List ℕ)) → ((other : List ℕ) → seen other ≡ false) → Wrote [] seen written written
+wrote_start seen written none = record { is_seen = none; appends = Appends-nil written }
 
 -- what the line adds
-adds : (run : Run) (seen : List ℕ → Bool) (before : Between run seen) (line : List ℕ) → StopsAt line 10 → 0 < length line
-    → each_once (before.text ++ line) ≡ each_once before.text ++ (if seen (strip_last 10 line) then [] else as_line line)
-adds run seen before line stops some =
-    each_once_more before.text line (split_off before.text before.whole line stops some)
-    ∙ ap (λ b. each_once before.text ++ (if b then [] else as_line line)) (sym (before.is_seen (strip_last 10 line)))
+adds : (ls : List (List ℕ)) (seen : List ℕ → Bool) (start written : Option (List ℕ)) → Wrote ls seen start written → (line : List ℕ)
+    → once (ls ++ line ∷ []) ≡ once ls ++ (if seen (strip_last 10 line) then [] else as_line line)
+adds ls seen start written wrote line =
+    once_more ls line ∙ ap (λ b. once ls ++ (if b then [] else as_line line)) (sym (wrote.is_seen (strip_last 10 line)))
 
--- what comes behind a line with its newline are other lines
-whole_more : (text : List ℕ) → ((more : List ℕ) → lines (text ++ more) ≡ lines text ++ lines more) → (line : List ℕ) → StopsAt line 10 → 0 < length line
-    → ends_with_byte 10 line ≡ true → (more : List ℕ) → lines ((text ++ line) ++ more) ≡ lines (text ++ line) ++ lines more
-whole_more text whole line stops some ended more =
-    ap lines (append_assoc text line more) ∙ whole (line ++ more) ∙ ap (λ l. lines text ++ l) (lines_of_line line more stops ended)
-    ∙ sym (append_assoc (lines text) (line ∷ []) (lines more)) ∙ ap (λ l. l ++ lines more) (sym (split_off text whole line stops some))
-
--- a whole line more
-pub between_more : (run : Run) (seen seen' : List ℕ → Bool) → Between run seen → (left written : Option (List ℕ)) (line : List ℕ)
-    → Consumes run.left' left line → StopsAt line 10 → 0 < length line → ends_with_byte 10 line ≡ true
-    → Appends run.written' written (if seen (strip_last 10 line) then [] else as_line line)
+-- a line more
+pub wrote_more : (ls : List (List ℕ)) (seen seen' : List ℕ → Bool) (start written written' : Option (List ℕ)) (line : List ℕ) → Wrote ls seen start written
+    → Appends written written' (if seen (strip_last 10 line) then [] else as_line line)
     → ((other : List ℕ) → seen' other ≡ (bytes_eq other (strip_last 10 line) || seen other))
-    → Between (after run left written) seen'
-between_more run seen seen' before left written line read stops some ended appends sees =
-    let split = split_off before.text before.whole line stops some in
-    record {
-      text = before.text ++ line;
-      read = Consumes-trans _ _ _ _ _ before.read read;
-      whole = whole_more before.text before.whole line stops some ended;
-      is_seen = λ other. sees other ∙ ap (λ b. bytes_eq other (strip_last 10 line) || b) (before.is_seen other)
-          ∙ or_last (bytes_eq other (strip_last 10 line)) (list_any (λ l. bytes_eq other (strip_last 10 l)) (lines before.text))
-          ∙ sym (list_any-append (λ l. bytes_eq other (strip_last 10 l)) (lines before.text) (line ∷ []))
-          ∙ ap (list_any (λ l. bytes_eq other (strip_last 10 l))) (sym split);
-      written = subst (Appends run.written written) (sym (adds run seen before line stops some)) (Appends-trans _ _ _ _ _ before.written appends);
-    }
+    → Wrote (ls ++ line ∷ []) seen' start written'
+wrote_more ls seen seen' start written written' line wrote appends sees = record {
+  is_seen = λ other. sees other ∙ ap (λ b. bytes_eq other (strip_last 10 line) || b) (wrote.is_seen other)
+      ∙ or_last (bytes_eq other (strip_last 10 line)) (list_any (λ l. bytes_eq other (strip_last 10 l)) ls)
+      ∙ sym (list_any-append (λ l. bytes_eq other (strip_last 10 l)) ls (line ∷ []));
+  appends = subst (Appends start written') (sym (adds ls seen start written wrote line)) (Appends-trans _ _ _ _ _ wrote.appends appends);
+}
   where
     or_last : (a b : Bool) → (a || b) ≡ (b || (a || false))
     or_last true true = refl
@@ -72,220 +46,262 @@ between_more run seen seen' before left written line read stops some ended appen
     or_last false true = refl
     or_last false false = refl
 
--- what follows what was read is all that was left
-rest_is : (a b : Option (List ℕ)) (text line : List ℕ) → Consumes a b text → IfSome b (λ bytes. bytes ≡ line) → IfSome a (λ bytes. bytes ≡ text ++ line)
-rest_is None b text line read all = tt
-rest_is (Some x) None text line read all = absurd read
-rest_is (Some x) (Some y) text line read all = read ∙ ap (λ l. text ++ l) all
-
--- the last line has no newline
-pub all_at_line : (run : Run) (seen : List ℕ → Bool) → Between run seen → (left written : Option (List ℕ)) (line : List ℕ)
-    → Consumes run.left' left line → StopsAt line 10 → 0 < length line → IfSome run.left' (λ bytes. bytes ≡ line)
-    → Appends run.written' written (if seen (strip_last 10 line) then [] else as_line line)
-    → WritesAll each_once (after run left written)
-all_at_line run seen before left written line read stops some all appends = record {
-  text = before.text ++ line;
-  read = Consumes-trans _ _ _ _ _ before.read read;
-  all = rest_is _ _ _ _ before.read all;
-  written = subst (Appends run.written written) (sym (adds run seen before line stops some)) (Appends-trans _ _ _ _ _ before.written appends);
-}
-
--- there is no further line
-pub all_at_end : (run : Run) (seen : List ℕ → Bool) → Between run seen → (left : Option (List ℕ)) → Consumes run.left' left [] → IfSome run.left' (λ bytes. bytes ≡ [])
-    → WritesAll each_once (after run left run.written')
-all_at_end run seen before left read all = record {
-  text = before.text;
-  read = rw append-nil at (Consumes-trans _ _ _ _ _ before.read read);
-  all = rw append-nil at (rest_is _ _ _ _ before.read all);
-  written = before.written;
-}
-
--- after the last write comes a flush
-pub ends_at_flush : (run : Run) → WritesAll each_once run → (written : Option (List ℕ)) → Keeps run.written' written → (result : Result (Unit {0}) Fault)
-    → Ends each_once (after run run.left' written) result
-ends_at_flush run all written keeps (Ok done) = record {
-  text = all.text;
-  read = all.read;
-  all = all.all;
-  written = Appends-kept _ _ _ _ all.written keeps;
-}
-ends_at_flush run all written keeps (Err fault) = record {
-  part = each_once all.text;
-  written = Appends-kept _ _ _ _ all.written keeps;
-  begins = begins_all run.left all.text all.all;
-}
-  where
-    begins_all : (a : Option (List ℕ)) (text : List ℕ) → IfSome a (λ bytes. bytes ≡ text) → IfSome a (λ bytes. (rest : List ℕ) × (each_once bytes ≡ each_once text ++ rest))
-    begins_all None text is = tt
-    begins_all (Some bytes) text is = ([], ap each_once is ∙ sym (append-nil _))
-
--- a fault between two lines
-pub part_between : (run : Run) (seen : List ℕ → Bool) → Between run seen → (left : Option (List ℕ)) → WritesPart each_once (after run left run.written')
-part_between run seen before left = record {
-  part = each_once before.text;
-  written = before.written;
-  begins = begins run.left run.left' before.text before.read before.whole;
-}
-  where
-    begins : (a b : Option (List ℕ)) (text : List ℕ) → Consumes a b text → ((more : List ℕ) → lines (text ++ more) ≡ lines text ++ lines more)
-        → IfSome a (λ bytes. (rest : List ℕ) × (each_once bytes ≡ each_once text ++ rest))
-    begins None b text read whole = tt
-    begins (Some bytes) None text read whole = absurd read
-    begins (Some bytes) (Some more) text read whole =
-        let (rest, is) = each_once_begins text more (whole more) in
-        (rest, ap each_once read ∙ is)
-
--- a fault at the write of a line
-pub part_at_line : (run : Run) (seen : List ℕ → Bool) → Between run seen → (left written : Option (List ℕ)) (line : List ℕ)
-    → Consumes run.left' left line → StopsAt line 10 → 0 < length line → (ended : Bool) → ended ≡ ends_with_byte 10 line
-    → (ended ≡ false → IfSome run.left' (λ bytes. bytes ≡ line))
-    → (part rest : List ℕ) → part ++ rest ≡ (if seen (strip_last 10 line) then [] else as_line line) → Appends run.written' written part
-    → WritesPart each_once (after run left written)
-part_at_line run seen before left written line read stops some ended is all part rest of appends = record {
-  part = each_once before.text ++ part;
-  written = Appends-trans _ _ _ _ _ before.written appends;
-  begins = begins run.left run.left' left before.read read ended is all;
-}
-  where
-    text : List ℕ
-    text = before.text
-
-    line_adds : each_once (text ++ line) ≡ (each_once text ++ part) ++ rest
-    line_adds = adds run seen before line stops some ∙ ap (λ l. each_once text ++ l) (sym of) ∙ sym (append_assoc (each_once text) part rest)
-
-    begins : (a b c : Option (List ℕ)) → Consumes a b text → Consumes b c line → (ended : Bool) → ended ≡ ends_with_byte 10 line
-        → (ended ≡ false → IfSome b (λ bytes. bytes ≡ line))
-        → IfSome a (λ bytes. (rest : List ℕ) × (each_once bytes ≡ (each_once text ++ part) ++ rest))
-    begins None b c read next ended is all = tt
-    begins (Some x) None c read next ended is all = absurd read
-    begins (Some x) (Some y) None read next ended is all = absurd next
-    begins (Some x) (Some y) (Some z) read next true is all =
-        let (more, begun) = each_once_begins (text ++ line) z (whole_more before.text before.whole line stops some (sym is) z) in (
-          rest ++ more,
-          ap each_once (read ∙ ap (λ l. text ++ l) next ∙ sym (append_assoc text line z)) ∙ begun ∙ ap (λ l. l ++ more) line_adds
-              ∙ append_assoc (each_once text ++ part) rest more,
-        )
-    begins (Some x) (Some y) (Some z) read next false is all = (rest, ap each_once (read ∙ ap (λ l. text ++ l) (all refl)) ∙ line_adds)
-
--- ---- several lines that lie together
-
 pub leads_nowhere : (seen : List ℕ → Bool) (written : Option (List ℕ)) → LeadsOn [] seen seen written written
-leads_nowhere seen written = λ run same before left read. record {
-  text = before.text;
-  read = subst (Consumes run.left left) (append-nil before.text) (Consumes-trans run.left run.left' left before.text [] before.read read);
-  whole = before.whole;
-  is_seen = before.is_seen;
-  written = subst (λ w. Appends run.written w (each_once before.text)) same before.written;
-}
+leads_nowhere seen written = λ ls start wrote. subst (λ all. Wrote all seen start written) (sym (append-nil ls)) wrote
 
--- what is consumed in one is consumed in two
-consumed_in_two : (a c : Option (List ℕ)) (part line : List ℕ) → Consumes a c (part ++ line) → (b : Option (List ℕ)) × Consumes a b part × Consumes b c line
-consumed_in_two None c part line read = (None, tt, tt)
-consumed_in_two (Some x) None part line read = absurd read
-consumed_in_two (Some x) (Some z) part line read = (Some (line ++ z), read ∙ append_assoc part line z, refl)
-
--- a whole line more
-pub leads_further : (seen seen' seen'' : List ℕ → Bool) (written written' written'' : Option (List ℕ)) (part line : List ℕ) → LeadsOn part seen seen' written written'
-    → StopsAt line 10 → 0 < length line → ends_with_byte 10 line ≡ true → Appends written' written'' (if seen' (strip_last 10 line) then [] else as_line line)
+-- a line more behind others
+pub leads_further : (more : List (List ℕ)) (seen seen' seen'' : List ℕ → Bool) (written written' written'' : Option (List ℕ)) (line : List ℕ) → LeadsOn more seen seen' written written'
+    → Appends written' written'' (if seen' (strip_last 10 line) then [] else as_line line)
     → ((other : List ℕ) → seen'' other ≡ (bytes_eq other (strip_last 10 line) || seen' other))
-    → LeadsOn (part ++ line) seen seen'' written written''
-leads_further seen seen' seen'' written written' written'' part line leads stops some ended appends sees = λ run same before left read.
-    let (left', first, second) = consumed_in_two run.left' left part line read in
-    between_more (after run left' written') seen' seen'' (leads run same before left' first) left written'' line second stops some ended appends sees
+    → LeadsOn (more ++ line ∷ []) seen seen'' written written''
+leads_further more seen seen' seen'' written written' written'' line leads appends sees = λ ls start wrote.
+    subst (λ all. Wrote all seen'' start written'') (append_assoc ls more (line ∷ [])) (wrote_more (ls ++ more) seen' seen'' start written' written'' line (leads ls start wrote) appends sees)
 
--- what stands before the rest
-front_is : (part rest bytes : List ℕ) → part ++ rest ≡ bytes → take (length bytes - length rest) bytes ≡ part
+-- a line alone
+pub leads_by_line : (seen seen' : List ℕ → Bool) (written written' : Option (List ℕ)) (line : List ℕ)
+    → Appends written written' (if seen (strip_last 10 line) then [] else as_line line)
+    → ((other : List ℕ) → seen' other ≡ (bytes_eq other (strip_last 10 line) || seen other))
+    → LeadsOn (line ∷ []) seen seen' written written'
+leads_by_line seen seen' written written' line appends sees = λ ls start wrote. wrote_more ls seen seen' start written written' line wrote appends sees
+
+-- a flush changes nothing that was written
+pub wrote_kept : (ls : List (List ℕ)) (seen : List ℕ → Bool) (start written flushed : Option (List ℕ)) → Wrote ls seen start written → Keeps written flushed → Wrote ls seen start flushed
+wrote_kept ls seen start written flushed wrote keeps = record { is_seen = wrote.is_seen; appends = Appends-kept _ _ _ _ wrote.appends keeps }
+
+-- a fault within a line: a beginning of what is written of it is there
+pub stops_within : (ls : List (List ℕ)) (seen : List ℕ → Bool) (start written written' : Option (List ℕ)) (line : List ℕ) → Wrote ls seen start written
+    → (part rest : List ℕ) → part ++ rest ≡ (if seen (strip_last 10 line) then [] else as_line line) → Appends written written' part
+    → Appends start written' (once ls ++ part) × ((once ls ++ part) ++ rest ≡ once (ls ++ line ∷ []))
+stops_within ls seen start written written' line wrote part rest of appends = (
+  Appends-trans _ _ _ _ _ wrote.appends appends,
+  append_assoc (once ls) part rest ∙ ap (λ l. once ls ++ l) of ∙ sym (adds ls seen start written wrote line),
+)
+
+-- ---- text that ends where a line does
+
+pub whole_nothing : IsWhole []
+whole_nothing = λ more. refl
+
+pub whole_line : (line : List ℕ) → StopsAt line 10 → 0 < length line → ends_with_byte 10 line ≡ true → IsWhole line
+whole_line line stops some ended = λ more. lines_of_line line more stops ended ∙ ap (λ ls. ls ++ lines more) (sym (one_line line stops some))
+
+pub whole_both : (text more : List ℕ) → IsWhole text → IsWhole more → IsWhole (text ++ more)
+whole_both text more whole_text whole_more = λ later.
+    ap lines (append_assoc text more later) ∙ whole_text (more ++ later) ∙ ap (λ ls. lines text ++ ls) (whole_more later)
+    ∙ sym (append_assoc (lines text) (lines more) (lines later)) ∙ ap (λ ls. ls ++ lines later) (sym (whole_text more))
+
+-- a line behind text
+pub lines_more : (text line : List ℕ) → IsWhole text → StopsAt line 10 → 0 < length line → lines (text ++ line) ≡ lines text ++ line ∷ []
+lines_more text line whole stops some = whole line ∙ ap (λ ls. lines text ++ ls) (one_line line stops some)
+
+pub counted_more : (text line : List ℕ) (count : ℕ) → lines (text ++ line) ≡ lines text ++ line ∷ [] → count ≡ length (lines text) → count + 1 ≡ length (lines (text ++ line))
+counted_more text line count more counted = omega (arith, counted, ap length more, length-append (lines text) (line ∷ []))
+
+pub together : (front back rest : List ℕ) (n : ℕ) → front ≡ take n rest → back ≡ drop n rest → front ++ back ≡ rest
+together front back rest n is_front is_back = ap (λ l. l ++ back) is_front ∙ ap (λ l. take n rest ++ l) is_back ∙ take-append-drop n rest
+
+-- a fault at the write of a line behind others
+pub breaks_at_line : (seen seen' : List ℕ → Bool) (written written' written'' : Option (List ℕ)) (text line behind : List ℕ) → IsWhole text → IsWhole line → lines line ≡ line ∷ []
+    → LeadsOn (lines text) seen seen' written written'
+    → (part rest : List ℕ) → part ++ rest ≡ (if seen' (strip_last 10 line) then [] else as_line line) → Appends written' written'' part
+    → BreaksOff (text ++ (line ++ behind)) seen written written''
+breaks_at_line seen seen' written written' written'' text line behind whole_text whole_line alone leads part rest of appends = λ ls start wrote.
+    let (there, is) = stops_within (ls ++ lines text) seen' start written' written'' line (leads ls start wrote) part rest of appends in (
+      once (ls ++ lines text) ++ part,
+      there,
+      λ later.
+          let more = lines (behind ++ later) in
+          let split : lines ((text ++ (line ++ behind)) ++ later) ≡ lines text ++ (line ∷ [] ++ more) =
+          ap lines (append_assoc text (line ++ behind) later ∙ ap (λ l. text ++ l) (append_assoc line behind later)) ∙ whole_text (line ++ (behind ++ later))
+          ∙ ap (λ l. lines text ++ l) (whole_line (behind ++ later) ∙ ap (λ l. l ++ more) alone) in
+          let (after, begun) = once_begins ((ls ++ lines text) ++ line ∷ []) more in (
+            rest ++ after,
+            ap (λ l. once (ls ++ l)) split ∙ ap once (sym (append_assoc ls (lines text) (line ∷ [] ++ more)) ∙ sym (append_assoc (ls ++ lines text) (line ∷ []) more))
+                ∙ begun ∙ ap (λ l. l ++ after) (sym is) ∙ append_assoc (once (ls ++ lines text) ++ part) rest after,
+          ),
+    )
+
+-- what stands before the rest, and the rest
+pub front_is : (part rest bytes : List ℕ) → part ++ rest ≡ bytes → take (length bytes - length rest) bytes ≡ part
 front_is part rest bytes is =
     let long : length bytes - length rest ≡ length part = omega (arith, ap length (sym is), length-append part rest) in
     ap (λ n. take n bytes) long ∙ ap (take (length part)) (sym is) ∙ take-append_seam part rest
 
-pub leads_so_far : (seen seen' : List ℕ → Bool) (written written' : Option (List ℕ)) (part rest bytes : List ℕ) → part ++ rest ≡ bytes → LeadsOn part seen seen' written written'
-    → LeadsOn (take (length bytes - length rest) bytes) seen seen' written written'
-leads_so_far seen seen' written written' part rest bytes is leads = subst (λ text. LeadsOn text seen seen' written written') (sym (front_is part rest bytes is)) leads
+back_is : (part rest bytes : List ℕ) → part ++ rest ≡ bytes → drop (length bytes - length rest) bytes ≡ rest
+back_is part rest bytes is =
+    let long : length bytes - length rest ≡ length part = omega (arith, ap length (sym is), length-append part rest) in
+    ap (λ n. drop n bytes) long ∙ ap (drop (length part)) (sym is) ∙ drop-append_seam part rest
 
--- a flush changes nothing that was written
-pub leads_kept : (text : List ℕ) (seen seen' : List ℕ → Bool) (written written' flushed : Option (List ℕ)) → LeadsOn text seen seen' written written' → Keeps written' flushed → LeadsOn text seen seen' written flushed
-leads_kept text seen seen' written written' flushed leads keeps = λ run same before left read.
-    let between = leads run same before left read in
-    record {
-      text = between.text;
-      read = between.read;
-      whole = between.whole;
-      is_seen = between.is_seen;
-      written = Appends-kept _ _ _ _ between.written keeps;
-    }
+-- as many lines are taken as may be, or all
+pub takes_so_far : (part rest bytes : List ℕ) (most count : ℕ) → part ++ rest ≡ bytes → IsWhole part → count ≡ length (lines part) → count ≤ most → (count < most → IsBare rest)
+    → Takes bytes most count (length bytes - length rest)
+takes_so_far part rest bytes most count is whole counted few bare = record {
+  few = few;
+  within = omega arith;
+  whole = subst IsWhole (sym (front_is part rest bytes is)) whole;
+  counted = counted ∙ ap (λ l. length (lines l)) (sym (front_is part rest bytes is));
+  bare = λ below. subst IsBare (sym (back_is part rest bytes is)) (bare below);
+}
 
--- a fault behind whole lines
-pub part_behind : (seen seen' : List ℕ → Bool) (written written' start left' : Option (List ℕ)) (text : List ℕ) → LeadsOn text seen seen' written written' → Consumes start left' text
-    → (run : Run) → run.left' ≡ start → run.written' ≡ written → Between run seen → (left : Option (List ℕ)) → WritesPart each_once (after run left written')
-part_behind seen seen' written written' start left' text leads read run same_left same before left =
-    let read_on : Consumes run.left' left' text = subst (λ a. Consumes a left' text) (sym same_left) read in
-    let part = part_between (after run left' written') seen' (leads run same before left' read_on) left' in
-    record { part = part.part; written = part.written; begins = part.begins }
+-- ---- what was read
 
--- known bytes that begin with some go on behind a part of them
-starts_behind : (a : Option (List ℕ)) (part rest : List ℕ) → IfSome a (λ bytes. StartsWith bytes (part ++ rest)) → (b : Option (List ℕ)) × Consumes a b part × IfSome b (λ bytes. StartsWith bytes rest)
-starts_behind None part rest starts = (None, tt, tt)
-starts_behind (Some x) part rest starts =
-    let all : x ≡ (part ++ rest) ++ drop (length (part ++ rest)) x = sym (take-append-drop (length (part ++ rest)) x) ∙ ap (λ l. l ++ drop (length (part ++ rest)) x) starts in
-    let more : List ℕ = drop (length (part ++ rest)) x in
-    (Some (rest ++ more), all ∙ append_assoc part rest more, take-append_seam rest more)
+-- text that was taken, and bytes behind it that are not
+pub record Reads (limit : ℕ) (start left : Option (List ℕ)) (unread : List ℕ) (most : ℕ) (text : List ℕ) : Type 0 where
+  pub read : Consumes start left (text ++ unread)
+  pub whole : IsWhole text
+  pub counted : length (lines text) + most ≡ limit
+  pub bare : 0 < most → IsBare unread
 
--- a fault at the write of a line
-pub breaks_at_line : (seen seen' : List ℕ → Bool) (written written' written'' : Option (List ℕ)) (part line later : List ℕ) → LeadsOn part seen seen' written written'
-    → StopsAt line 10 → 0 < length line → ends_with_byte 10 line ≡ true
-    → (begun rest : List ℕ) → begun ++ rest ≡ (if seen' (strip_last 10 line) then [] else as_line line) → Appends written' written'' begun
-    → BreaksOff (part ++ (line ++ later)) seen written written''
-breaks_at_line seen seen' written written' written'' part line later leads stops some ended begun rest of appends = λ run same before starts left.
-    let (left', first, goes_on) = starts_behind run.left' part (line ++ later) starts in
-    let (left'', second, _) = starts_behind left' line later goes_on in
-    let broken = part_at_line (after run left' written') seen' (leads run same before left' first) left'' written'' line second stops some true (sym ended) (λ not_ended. absurd (true≢false not_ended)) begun rest of appends in
-    record { part = broken.part; written = broken.written; begins = broken.begins }
+pub reads_start : (limit : ℕ) (start : Option (List ℕ)) (unread : List ℕ) → unread ≡ [] → Reads limit start start unread limit []
+reads_start limit start unread none = record {
+  read = subst (Consumes start start) (sym none) (Consumes-nil start);
+  whole = whole_nothing;
+  counted = omega arith;
+  bare = λ some k below. absurd (omega (arith, below, ap length none));
+}
 
--- ---- lines that are counted
+pub bare_both : (a b : List ℕ) → IsBare a → IsBare b → IsBare (a ++ b)
+bare_both a b bare_a bare_b = λ k below. elim (cases_lt k (length a)) [
+  | inl early ↦ subst (λ x. x ≢ 10) (sym (get_or_append_left a b 0 k early)) (bare_a k early)
+  | inr late ↦ subst (λ x. x ≢ 10) (sym (get_or-append_right a b k 0 late)) (bare_b (k - length a) (omega (arith, below, length-append a b)))
+]
 
--- the lines that were read are whole and counted
-pub record Counting (left left' : Option (List ℕ)) (seen : List (List ℕ)) (times : List ℕ) : Type 0 where
-  pub text : List ℕ
-  pub read : Consumes left left' text
-  pub whole : (more : List ℕ) → lines (text ++ more) ≡ lines text ++ lines more
-  pub counted : Tallies (lines text) seen times
+begins : (a b : Option (List ℕ)) (text : List ℕ) → Consumes a b text → IfSome a (λ bytes. (later : List ℕ) × (bytes ≡ text ++ later))
+begins None b text read = tt
+begins (Some bytes) None text read = absurd read
+begins (Some bytes) (Some later) text read = (later, read)
 
-pub counting_start : (left : Option (List ℕ)) (seen : List (List ℕ)) (times : List ℕ) → Tallies [] seen times → Counting left left seen times
-counting_start left seen times none = record { text = []; read = Consumes-nil left; whole = λ more. refl; counted = none }
+on_some : (a : Option (List ℕ)) (P Q : List ℕ → Type 0) → ((bytes : List ℕ) → P bytes → Q bytes) → IfSome a P → IfSome a Q
+on_some None P Q holds it = tt
+on_some (Some bytes) P Q holds it = holds bytes it
 
-module _ (left left' : Option (List ℕ)) (seen : List (List ℕ)) (times : List ℕ) (before : Counting left left' seen times) (left'' : Option (List ℕ)) where
-  -- there is no further line
-  pub counted_at_end : Consumes left' left'' [] → IfSome left' (λ bytes. bytes ≡ []) → AllCounted left left'' seen times
-  counted_at_end read all = record {
-    text = before.text;
-    read = rw append-nil at (Consumes-trans _ _ _ _ _ before.read read);
-    all = rw append-nil at (rest_is _ _ _ _ before.read all);
-    tallies = before.counted;
+module _ (limit : ℕ) (start left : Option (List ℕ)) (unread : List ℕ) (most : ℕ) (text : List ℕ) (reads : Reads limit start left unread most text) where
+  -- a fault while it is read
+  pub part_of_reads : (run : Run) → run.left ≡ start → (seen : List ℕ → Bool) → Wrote (lines text) seen run.written run.written' → WritesPart each_once run
+  part_of_reads run same seen wrote = record {
+    part = once (lines text);
+    written = wrote.appends;
+    begins = subst (λ a. IfSome a (λ bytes. (rest : List ℕ) × (each_once bytes ≡ once (lines text) ++ rest))) (sym same)
+        (on_some start _ _ (λ bytes it. let (rest, is) = once_begins (lines text) (lines (unread ++ it.0)) in
+        (rest, ap each_once (it.1 ∙ append_assoc text unread it.0) ∙ ap once (reads.whole (unread ++ it.0)) ∙ is)) (begins start left (text ++ unread) reads.read));
   }
 
-  module _ (line : List ℕ) (read : Consumes left' left'' line) (stops : StopsAt line 10) (some : 0 < length line) (seen' : List (List ℕ)) (times' : List ℕ)
-      (more : (ls : List (List ℕ)) → Tallies ls seen times → Tallies (ls ++ line ∷ []) seen' times') where
-    with_line : Tallies (lines (before.text ++ line)) seen' times'
-    with_line = subst (λ ls. Tallies ls seen' times') (sym (split_off before.text before.whole line stops some)) (more (lines before.text) before.counted)
+  module _ (more : Bool) (unread' : List ℕ) (left' : Option (List ℕ)) (filled : Filled more unread unread' left left') where
+    read_on : Consumes start left' (text ++ unread')
+    read_on = subst (Consumes start left') (append_assoc text unread filled.text ∙ ap (λ l. text ++ l) (sym filled.is)) (Consumes-trans _ _ _ _ _ reads.read filled.read)
 
-    -- a whole line more
-    pub counting_more : ends_with_byte 10 line ≡ true → Counting left left'' seen' times'
-    counting_more ended = record {
-      text = before.text ++ line;
-      read = Consumes-trans _ _ _ _ _ before.read read;
-      whole = whole_more before.text before.whole line stops some ended;
-      counted = with_line;
+    -- there are more lines than may be taken
+    pub reads_beyond : most ≡ 0 → 0 < length unread' → IfSome start (λ bytes. limit < length (lines bytes))
+    reads_beyond none some = on_some start _ _ (λ bytes it.
+        let split : lines bytes ≡ lines text ++ lines (unread' ++ it.0) = ap lines (it.1 ∙ append_assoc text unread' it.0) ∙ reads.whole (unread' ++ it.0) in
+        let line : 0 < length (lines (unread' ++ it.0)) = some_line (unread' ++ it.0) (omega (arith, some, length-append unread' it.0)) in
+        omega (arith, reads.counted, none, line, ap length split, length-append (lines text) (lines (unread' ++ it.0)))) (begins start left' (text ++ unread') read_on)
+
+    -- all was read, and the last line has no newline
+    module _ (over : more ≡ false) (fits : most ≡ 0 → unread' ≡ []) where
+      pub last_bare : IsBare unread'
+      last_bare = elim (cases_lt 0 most) [
+        | inl some ↦ subst IsBare (sym filled.is) (bare_both unread filled.text (reads.bare some) (filled.bare over))
+        | inr none ↦ (λ k below. absurd (omega (arith, below, ap length (fits (omega arith)))))
+      ]
+
+      pub last_lines : lines (text ++ unread') ≡ lines text ++ lines unread'
+      last_lines = reads.whole unread'
+
+      pub all_read : IfSome start (λ bytes. bytes ≡ text ++ unread')
+      all_read = at start left' read_on (filled.ended over)
+        where
+          at : (a b : Option (List ℕ)) → Consumes a b (text ++ unread') → IsAtEnd b → IfSome a (λ bytes. bytes ≡ text ++ unread')
+          at None b read ended = tt
+          at (Some x) None read ended = absurd read
+          at (Some x) (Some y) read ended = read ∙ ap (λ l. (text ++ unread') ++ l) ended ∙ append-nil _
+
+      few_lines : length (lines (text ++ unread')) ≤ limit
+      few_lines = elim (cases_lt 0 (length unread')) [
+        | inl some ↦ (let one : lines unread' ≡ unread' ∷ [] = bare_line unread' last_bare some in
+            let most_some : 0 < most = positive most (λ none. omega (arith, some, ap length (fits none))) in
+            omega (arith, reads.counted, most_some, ap length last_lines, length-append (lines text) (lines unread'), ap length one))
+        | inr none ↦ (let nothing : unread' ≡ [] = nil_from_length unread' (omega arith) in
+            omega (arith, reads.counted, ap (λ l. length (lines (text ++ l))) nothing, ap (λ l. length (lines l)) (append-nil text)))
+      ]
+        where
+          positive : (n : ℕ) → ¬ (n ≡ 0) → 0 < n
+          positive zero not_zero = absurd (not_zero refl)
+          positive (suc n) not_zero = omega arith
+
+      pub within_limit : IfSome start (λ bytes. length (lines bytes) ≤ limit)
+      within_limit = on_some start _ _ (λ bytes is. subst (λ l. length (lines l) ≤ limit) (sym is) few_lines) all_read
+
+      pub all_consumed : Consumes start left' (text ++ unread')
+      all_consumed = read_on
+
+      -- all is written
+      pub all_written : (seen' : List ℕ → Bool) (written written' : Option (List ℕ)) → Wrote (lines text ++ lines unread') seen' written written'
+          → WritesAll each_once (record { left = start; left' = left'; written = written; written' = written' }) × IfSome start (λ bytes. length (lines bytes) ≤ limit)
+      all_written seen' written written' wrote = (
+        record {
+          text = text ++ unread';
+          read = read_on;
+          all = all_read;
+          written = subst (λ ls. Appends written written' (once ls)) (sym last_lines) wrote.appends;
+        },
+        within_limit,
+      )
+
+      -- a fault at the last line
+      pub part_at_last : (written written' : Option (List ℕ)) → AppendsPart written written' (once (lines text ++ lines unread'))
+          → WritesPart each_once (record { left = start; left' = left'; written = written; written' = written' })
+      part_at_last written written' (part, rest, is, appends) = record {
+        part = part;
+        written = appends;
+        begins = on_some start _ _ (λ bytes all. (rest, ap each_once all ∙ ap once last_lines ∙ sym is)) all_read;
+      }
+
+    -- a fault among the lines that were read
+    pub part_among : (seen : List ℕ → Bool) (start_written written written' : Option (List ℕ)) → Wrote (lines text) seen start_written written → BreaksOff unread' seen written written'
+        → WritesPart each_once (record { left = start; left' = left'; written = start_written; written' = written' })
+    part_among seen start_written written written' wrote breaks =
+        let (part, there, rest_of) = breaks (lines text) start_written wrote in
+        record {
+          part = part;
+          written = there;
+          begins = on_some start _ _ (λ bytes it. let (rest, is) = rest_of it.0 in
+              (rest, ap each_once (it.1 ∙ append_assoc text unread' it.0) ∙ ap once (reads.whole (unread' ++ it.0)) ∙ is)) (begins start left' (text ++ unread') read_on);
+        }
+
+    -- some lines more are taken
+    pub reads_more : (count len : ℕ) → Takes unread' most count len → Reads limit start left' (drop len unread') (most - count) (text ++ take len unread')
+    reads_more count len takes = record {
+      read = subst (Consumes start left') (sym (append_assoc text (take len unread') (drop len unread') ∙ ap (λ l. text ++ l) (take-append-drop len unread'))) read_on;
+      whole = whole_both text (take len unread') reads.whole takes.whole;
+      counted = omega (arith, reads.counted, takes.few, takes.counted, ap length (reads.whole (take len unread')), length-append (lines text) (lines (take len unread')));
+      bare = λ some. takes.bare (omega (arith, some));
     }
 
-    -- the last line has no newline
-    pub counted_at_line : IfSome left' (λ bytes. bytes ≡ line) → AllCounted left left'' seen' times'
-    counted_at_line all = record {
-      text = before.text ++ line;
-      read = Consumes-trans _ _ _ _ _ before.read read;
-      all = rest_is _ _ _ _ before.read all;
-      tallies = with_line;
-    }
+    -- where a newline came, a line may be taken
+    pub some_left : more ≡ true → (most ≡ 0 → unread' ≡ []) → 0 < most
+    some_left came fits = elim (cases_lt 0 most) [
+      | inl some ↦ some
+      | inr none ↦ absurd (filled.newline came (λ k below. absurd (omega (arith, below, ap length (fits (omega (arith, none)))))))
+    ]
+
+    -- where bytes are left, a line may be taken
+    pub left_for : 0 < length unread' → (most ≡ 0 → unread' ≡ []) → 0 < most
+    left_for bytes fits = elim (cases_lt 0 most) [
+      | inl some ↦ some
+      | inr none ↦ absurd (omega (arith, bytes, ap length (fits (omega (arith, none)))))
+    ]
+
+    -- where a newline came, a line is taken
+    pub takes_some : more ≡ true → 0 < most → (count len : ℕ) → Takes unread' most count len → 0 < count
+    takes_some came some count len takes = elim (cases_lt 0 count) [
+      | inl taken ↦ taken
+      | inr none ↦ (let nothing : len ≡ 0 = elim (cases_lt 0 len) [
+        | inl bytes ↦ absurd (omega (arith, none, takes.counted, some_line (take len unread') (omega (arith, bytes, length-take-le len unread' takes.within))))
+        | inr no_bytes ↦ omega (arith, no_bytes)
+      ] in
+          absurd (filled.newline came (subst (λ n. IsBare (drop n unread')) nothing (takes.bare (omega (arith, some, none))))))
+    ]
 
 -- a fault before anything is written
 pub part_nothing : (output : List ℕ → List ℕ) (left left' written : Option (List ℕ)) → WritesPart output (record { left = left; left' = left'; written = written; written' = written })
@@ -295,22 +311,30 @@ part_nothing output left left' written = record { part = []; written = Appends-n
     all None = tt
     all (Some text) = (output text, refl)
 
--- what is told of the whole input
-pub ends_told : (output : List ℕ → List ℕ) (run : Run) (text : List ℕ) → Consumes run.left run.left' text → IfSome run.left (λ bytes. bytes ≡ text) → (result : Result (Unit {0}) Fault)
-    → OnOk result (Appends run.written run.written' (output text))
-    → OnErr result ((part rest : List ℕ) × (part ++ rest ≡ output text) × Appends run.written run.written' part) → Ends output run result
-ends_told output run text read all (Ok done) told stopped = record { text = text; read = read; all = all; written = told }
-ends_told output run text read all (Err fault) told stopped = record {
-  part = stopped.0;
-  written = stopped.3;
-  begins = begins run.left all;
+-- a beginning of what is told of the whole input
+pub part_told : (output : List ℕ → List ℕ) (run : Run) (text : List ℕ) → IfSome run.left (λ bytes. bytes ≡ text) → AppendsPart run.written run.written' (output text) → WritesPart output run
+part_told output run text all (part, rest, is, appends) = record {
+  part = part;
+  written = appends;
+  begins = on_some run.left _ _ (λ bytes same. (rest, ap output same ∙ sym is)) all;
 }
-  where
-    begins : (a : Option (List ℕ)) → IfSome a (λ bytes. bytes ≡ text) → IfSome a (λ bytes. (rest : List ℕ) × (output bytes ≡ stopped.0 ++ rest))
-    begins None all = tt
-    begins (Some bytes) all = (stopped.1, ap output all ∙ sym stopped.2)
 
 -- an error that is handed on
-pub handed_on : (output : List ℕ → List ℕ) (run : Run) (result : Result (Unit {0}) Fault) → IsErr result → WritesPart output run → Ends output run result
-handed_on output run (Ok done) is part = absurd (false≢true is)
-handed_on output run (Err fault) is part = part
+pub handed_on : (output : List ℕ → List ℕ) (limit : ℕ) (run : Run) (result : Result Bool Fault) → IsErr result → WritesPart output run → Ends output limit run result
+handed_on output limit run (Ok done) is part = absurd (false≢true is)
+handed_on output limit run (Err fault) is part = part
+
+-- after the last write comes a flush
+pub flushed : (output : List ℕ → List ℕ) (limit : ℕ) (run : Run) (whole : Bool) → Ends output limit run (Ok whole) → (written : Option (List ℕ)) → Keeps run.written' written
+    → Ends output limit (record { left = run.left; left' = run.left'; written = run.written; written' = written }) (Ok whole)
+flushed output limit run true (all, few) written keeps =
+    (record { text = all.text; read = all.read; all = all.all; written = Appends-kept _ _ _ _ all.written keeps }, few)
+flushed output limit run false (part, more) written keeps =
+    (record { part = part.part; written = Appends-kept _ _ _ _ part.written keeps; begins = part.begins }, more)
+
+pub part_at_flush : (output : List ℕ → List ℕ) (limit : ℕ) (run : Run) (whole : Bool) → Ends output limit run (Ok whole) → (written : Option (List ℕ)) → Keeps run.written' written
+    → WritesPart output (record { left = run.left; left' = run.left'; written = run.written; written' = written })
+part_at_flush output limit run true (all, few) written keeps =
+    part_told output _ all.text all.all (output all.text, [], append-nil _, Appends-kept _ _ _ _ all.written keeps)
+part_at_flush output limit run false (part, more) written keeps =
+    record { part = part.part; written = Appends-kept _ _ _ _ part.written keeps; begins = part.begins }

@@ -1,12 +1,12 @@
 -- Texts by their places, and how often each came.
-use Rattle.std.proofs.Common.{zero, suc, ◌≡◌, ℕ, ◌+◌, ◌<◌, Bool, true, false, cond, not, ◌||◌, List, [], ◌∷◌, ◌++◌, length, get_or, set, map, ap, sym, ◌∙◌, refl, arith, add-zero, zero-add}
+use Rattle.std.proofs.Common.{zero, suc, ◌≡◌, ℕ, ◌+◌, ◌<◌, ◌≤◌, Bool, true, false, cond, not, ◌||◌, List, [], ◌∷◌, ◌++◌, length, get_or, set, map, ap, sym, ◌∙◌, refl, arith, add-zero, zero-add}
 use Rattle.std.specs.Io.BufRead.{strip_last}
 use Rattle.std.specs.List.{filter, list_any, count_by}
 use Rattle.std.specs.Str.{bytes_eq}
 use Rattle.std.proofs.lemmas.Bool.{or_parts}
 use Rattle.std.proofs.lemmas.Cmp.{nat_list_eq_equiv}
 use Rattle.std.proofs.lemmas.List.{map-append, length-map, get_or-map}
-use Rattle.std.proofs.lemmas.List.Sums.{sum_by-append}
+use Rattle.std.proofs.lemmas.List.Sums.{sum_by-append, count_by-le-length}
 use Rattle.dedup.specs.Lines.{same_text, firsts}
 use Rattle.dedup.specs.Tallies.{texts, Tallies}
 use Rattle.hash_texts.specs.Texts.{StandsAt, has, with_text}
@@ -155,6 +155,14 @@ module _ (ls : List (List ℕ)) (seen : List (List ℕ)) (times : List ℕ) (now
 
   pub as_many : length seen ≡ length times
   as_many = ap length now.places ∙ length-map (firsts ls) (strip_last 10) ∙ sym (ap length now.counts ∙ length-map (firsts ls) (λ line. count_by (same_text line) ls))
+
+  -- no text came more often than there are lines
+  pub few_times : (place : ℕ) → place < length times → get_or times place 0 ≤ length ls
+  few_times place below =
+      let within : place < length (firsts ls) = omega (arith, below, ap length now.counts, length-map (firsts ls) (λ line. count_by (same_text line) ls)) in
+      let is : get_or times place 0 ≡ count_by (same_text (get_or (firsts ls) place [])) ls =
+      ap (λ ns. get_or ns place 0) now.counts ∙ get_or-map (λ line. count_by (same_text line) ls) (firsts ls) place [] 0 within in
+      omega (arith, is, count_by-le-length (same_text (get_or (firsts ls) place [])) ls)
 
   pub tallies_new : (line : List ℕ) (more : List (List ℕ)) → has seen (strip_last 10 line) ≡ false → more ≡ with_text seen (strip_last 10 line) → Tallies (ls ++ line ∷ []) more (times ++ 1 ∷ [])
   tallies_new line more absent is =

@@ -23,9 +23,13 @@ firsts (line ∷ more) = line ∷ filter (λ other. not (same_text line other)) 
 abbrev pub as_line : List ℕ → List ℕ
 as_line line = strip_last 10 line ++ 10 ∷ []
 
--- each line of a text once, where it came first, with a newline behind it
+-- what is written of lines: each once, where it came first, with a newline behind it
+abbrev pub once : List (List ℕ) → List ℕ
+once ls = flat_map as_line (firsts ls)
+
+-- the same of the lines of a text
 abbrev pub each_once : List ℕ → List ℕ
-each_once text = flat_map as_line (firsts (lines text))
+each_once text = once (lines text)
 
 -- what is written of a line behind lines of which these are the texts
 abbrev pub if_new : List (List ℕ) → List ℕ → List ℕ

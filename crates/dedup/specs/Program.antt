@@ -10,10 +10,10 @@ use Rattle.std.specs.declared.io.ErrorKind.TheVariants.{OutOfMemory}
 use Rattle.std.specs.declared.string.String.{String}
 use Rattle.std.specs.declared.vec.IntoIter.{IntoIter}
 use Rattle.dedup.specs.Lines.{each_once}
-use Rattle.dedup.specs.Running.{Run, WritesAll, WritesPart}
+use Rattle.dedup.specs.Running.{IsBeyond, IsWithin, Run, WritesAll, WritesPart}
 use Rattle.dedup.specs.Tallies.{tallied}
 use Rattle.dedup.specs.declared.outcome.Outcome.{Outcome}
-use Rattle.dedup.specs.declared.outcome.Outcome.TheVariants.{Done, Helped, Usage, NoMemory, Failed}
+use Rattle.dedup.specs.declared.outcome.Outcome.TheVariants.{Done, Helped, Usage, NoMemory, TooManyLines, Failed}
 use Rattle.dedup.specs.declared.outcome.Task.{Task}
 use Rattle.dedup.specs.declared.outcome.Task.TheVariants.{Once, Tallied, Help}
 use Rattle.dedup.specs.declared.tally.Which.TheVariants.{Counted, Repeated, Unique}
@@ -40,24 +40,25 @@ Arguments = Result (IntoIter (String Global) Global) Error
 abbrev pub IsUntouched : Run → Type 0
 IsUntouched run = Keeps run.left run.left' × Keeps run.written run.written'
 
--- how a run ends that is to write what `output` makes of its input
-abbrev pub EndsRun : (output : List ℕ → List ℕ) → Run → Outcome → Type 0
-EndsRun output run Done = WritesAll output run
-EndsRun output run Helped = ⊥
-EndsRun output run Usage = ⊥
-EndsRun output run NoMemory = ⊥
-EndsRun output run (Failed fault) = WritesPart output run
+-- how a run ends that is to write what `output` makes of its input, of at most so many lines
+abbrev pub EndsRun : (output : List ℕ → List ℕ) → ℕ → Run → Outcome → Type 0
+EndsRun output limit run Done = WritesAll output run × IsWithin limit run
+EndsRun output limit run Helped = ⊥
+EndsRun output limit run Usage = ⊥
+EndsRun output limit run NoMemory = ⊥
+EndsRun output limit run TooManyLines = WritesPart output run × IsBeyond limit run
+EndsRun output limit run (Failed fault) = WritesPart output run
 
 -- how a task ends; none is a wrong call
-abbrev pub EndsTask : Option Task → Run → Outcome → Type 0
-EndsTask (Some Once) run outcome = EndsRun each_once run outcome
-EndsTask (Some (Tallied which)) run outcome = EndsRun (tallied which) run outcome
-EndsTask (Some Help) run outcome = (outcome ≡ Helped) × IsUntouched run
-EndsTask None run outcome = (outcome ≡ Usage) × IsUntouched run
+abbrev pub EndsTask : Option Task → ℕ → Run → Outcome → Type 0
+EndsTask (Some Once) limit run outcome = EndsRun each_once limit run outcome
+EndsTask (Some (Tallied which)) limit run outcome = EndsRun (tallied which) limit run outcome
+EndsTask (Some Help) limit run outcome = (outcome ≡ Helped) × IsUntouched run
+EndsTask None limit run outcome = (outcome ≡ Usage) × IsUntouched run
 
 -- how the program ends
-abbrev pub Exits : Arguments → Run → Outcome → Type 0
-Exits (Ok arguments) run outcome = EndsTask (task_of (drop 1 (map string_bytes (into_iter_items arguments)))) run outcome
-Exits (Err error) run NoMemory = (error_kind error ≡ OutOfMemory) × IsUntouched run
-Exits (Err error) run Usage = (error_kind error ≢ OutOfMemory) × IsUntouched run
-Exits (Err error) run outcome = ⊥
+abbrev pub Exits : Arguments → ℕ → Run → Outcome → Type 0
+Exits (Ok arguments) limit run outcome = EndsTask (task_of (drop 1 (map string_bytes (into_iter_items arguments)))) limit run outcome
+Exits (Err error) limit run NoMemory = (error_kind error ≡ OutOfMemory) × IsUntouched run
+Exits (Err error) limit run Usage = (error_kind error ≢ OutOfMemory) × IsUntouched run
+Exits (Err error) limit run outcome = ⊥

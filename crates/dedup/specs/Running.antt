@@ -1,6 +1,7 @@
 -- What a run reads and writes, and how it ends.
-use Rattle.std.specs.Prelude.{ℕ, ◌≡◌, List, Option, Result, Ok, Err, ◌++◌, IfSome}
+use Rattle.std.specs.Prelude.{ℕ, ◌≡◌, ◌<◌, ◌≤◌, Bool, true, false, List, Option, Result, Ok, Err, ◌++◌, IfSome, length}
 use Rattle.std.specs.Io.KnownBytes.{Consumes, Appends}
+use Rattle.dedup.specs.Lines.{lines}
 use Rattle.dedup.specs.declared.run.Fault.{Fault}
 
 -- the bytes that are left to be read and those that are written, where they are known, before a run and after it
@@ -35,7 +36,16 @@ pub record WritesPart (output : List ℕ → List ℕ) (run : Run) : Type 0 wher
   pub written : Appends run.written run.written' part
   pub begins : IfSome run.left (λ text. (rest : List ℕ) × (output text ≡ part ++ rest))
 
--- how a run ends that is to write what `output` makes of its input
-abbrev pub Ends : (output : List ℕ → List ℕ) → Run → Result (Unit {0}) Fault → Type 0
-Ends output run (Ok done) = WritesAll output run
-Ends output run (Err fault) = WritesPart output run
+-- there are at most so many lines to read
+abbrev pub IsWithin : ℕ → Run → Type 0
+IsWithin limit run = IfSome run.left (λ text. length (lines text) ≤ limit)
+
+-- there are more lines to read than so many
+abbrev pub IsBeyond : ℕ → Run → Type 0
+IsBeyond limit run = IfSome run.left (λ text. limit < length (lines text))
+
+-- how a run ends that is to write what `output` makes of its input, of at most so many lines: it says whether there were no more
+abbrev pub Ends : (output : List ℕ → List ℕ) → ℕ → Run → Result Bool Fault → Type 0
+Ends output limit run (Ok true) = WritesAll output run × IsWithin limit run
+Ends output limit run (Ok false) = WritesPart output run × IsBeyond limit run
+Ends output limit run (Err fault) = WritesPart output run

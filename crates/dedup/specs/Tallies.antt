@@ -1,5 +1,5 @@
 -- What the program writes of lines that it has counted.
-use Rattle.std.specs.Prelude.{ℕ, ◌≡◌, ◌==◌, ◌-◌, ◌++◌, if◌then◌else◌, nat_lt, List, [], ◌∷◌, Option, IfSome, length, map, decimal}
+use Rattle.std.specs.Prelude.{ℕ, ◌≡◌, ◌<◌, ◌≤◌, ◌==◌, ◌-◌, ◌++◌, Bool, true, false, if◌then◌else◌, nat_lt, List, [], ◌∷◌, Option, IfSome, length, map, decimal}
 use Rattle.std.specs.Io.BufRead.{strip_last}
 use Rattle.std.specs.Io.KnownBytes.{Consumes}
 use Rattle.std.specs.List.{count_by, flat_map, repeat}
@@ -38,9 +38,8 @@ pub record Tallies (ls : List (List ℕ)) (seen : List (List ℕ)) (times : List
   pub places : seen ≡ texts ls
   pub counts : times ≡ map (λ line. count_by (same_text line) ls) (firsts ls)
 
--- all was read, and its lines are counted
-pub record AllCounted (left left' : Option (List ℕ)) (seen : List (List ℕ)) (times : List ℕ) : Type 0 where
-  pub text : List ℕ
-  pub read : Consumes left left' text
-  pub all : IfSome left (λ bytes. bytes ≡ text)
-  pub tallies : Tallies (lines text) seen times
+-- at most so many lines were to be read: all are read and counted, or there are more
+abbrev pub CountedAll : Bool → ℕ → (left left' : Option (List ℕ)) (seen : List (List ℕ)) (times : List ℕ) → Type 0
+CountedAll true limit left left' seen times = (text : List ℕ) × Consumes left left' text × IfSome left (λ bytes. bytes ≡ text)
+    × IfSome left (λ bytes. length (lines bytes) ≤ limit) × Tallies (lines text) seen times
+CountedAll false limit left left' seen times = IfSome left (λ bytes. limit < length (lines bytes))

@@ -1,47 +1,20 @@
-//! Reads and writes lines, and tells which are new.
-ghost use Rattle.std.specs.Prelude.{◌≡◌, ◌≤◌, ◌||◌, ◌++◌, ◌∷◌, [], ℕ, List, Option, length, take, IfSome, IfOk, OnOk, OnErr, false, ◌+◌, ◌==◌, not};
-ghost use Rattle.std.specs.Io.{StopsAt};
-ghost use Rattle.std.specs.Io.BufRead.{ends_with_byte, strip_last};
-ghost use Rattle.std.specs.Io.KnownBytes.{Consumes, Appends, Keeps};
+//! Finds lines and writes them, and tells which are new.
+ghost use Rattle.std.specs.Prelude.{◌≡◌, ◌≤◌, ◌||◌, ◌++◌, ◌∷◌, [], ℕ, List, length, take, IfOk, OnOk, OnErr, ◌+◌, ◌==◌, not};
+ghost use Rattle.std.specs.Io.BufRead.{strip_last};
+ghost use Rattle.std.specs.Io.KnownBytes.{Appends, Keeps};
 ghost use Rattle.std.specs.List.{prefix_len};
 ghost use Rattle.std.specs.Simd.Lanes.{chunk};
 ghost use Rattle.std.specs.Str.{bytes_eq};
-ghost use Rattle.dedup.specs.Between.{Between, BreaksOff, IsNewline, LeadsOn, after};
-ghost use Rattle.dedup.specs.Lines.{each_once, if_new};
+ghost use Rattle.dedup.specs.Between.{BreaksOff, IsNewline, LeadsOn, Takes};
+ghost use Rattle.dedup.specs.Lines.{if_new, lines};
 ghost use Rattle.hash_texts.specs.Texts.{has};
-ghost use Rattle.dedup.specs.Running.{AppendsPart, Run, WritesPart};
+ghost use Rattle.dedup.specs.Running.{AppendsPart};
 
 use crate::run::Fault;
 use hash_texts::Texts;
 use std::hash::BuildHasher;
-use std::io::{BufRead, ErrorKind, Write};
+use std::io::Write;
 use std::simd::prelude::*;
-
-/// Reads the next line into `line`, through its newline, and answers whether it has one. Where it has none, it is all
-/// that was left; where there is no further line, `line` is empty.
-pub fn read_line<R: BufRead>(r: &mut R, line: &mut Vec<u8>) -> Result<bool, Fault>
-    ensures read { OnOk result (Consumes (R.remaining r.old) (R.remaining r.new) line.new.items) }
-    ensures stops { OnOk result (StopsAt line.new.items 10) }
-    ensures ended { IfOk result (λ ended. ended ≡ ends_with_byte 10 line.new.items) }
-    ensures all { IfOk result (λ ended. ended ≡ false
-        → IfSome (R.remaining r.old) (λ bytes. bytes ≡ line.new.items)) }
-{
-    line.clear();
-    match r.read_until(b'\n', line) {
-        Ok(_) => Ok(is_ended(line)),
-        Err(error) => match error.kind() {
-            ErrorKind::OutOfMemory => Err(Fault::NoMemory),
-            _ => Err(Fault::Read(error)),
-        },
-    }
-}
-
-/// Whether a line has its newline.
-fn is_ended(line: &[u8]) -> bool
-    ensures { result ≡ ends_with_byte 10 line.now }
-{
-    matches!(line, [.., b'\n'])
-}
 
 /// A line without its newline.
 pub fn text_of(line: &[u8]) -> &[u8]
@@ -100,22 +73,6 @@ pub fn write_new<S: BuildHasher + Drop, W: Write>(
     Ok(())
 }
 
-/// Does the same, and flushes, so that the line is there before the next one is read.
-pub fn write_at_once<S: BuildHasher + Drop, W: Write>(
-    seen: &mut Texts<S>,
-    line: &[u8],
-    w: &mut W,
-) -> Result<(), Fault>
-    ensures written { OnOk result (Appends (W.contents w.old) (W.contents w.new)
-        (if_new seen.old line.now)) }
-    ensures seen { OnOk result ((other : List ℕ) → has seen.new other
-        ≡ (bytes_eq other (strip_last 10 line.now) || has seen.old other)) }
-    ensures begun { OnErr result (AppendsPart (W.contents w.old) (W.contents w.new) (if_new seen.old line.now)) }
-{
-    write_new(seen, line, 0, w)?;
-    finish(w)
-}
-
 /// Flushes the writer.
 pub fn finish<W: Write>(w: &mut W) -> Result<(), Fault>
     ensures { Keeps (W.contents w.old) (W.contents w.new) }
@@ -142,7 +99,7 @@ fn before_newline(bytes: &[u8], at: usize) -> usize
 }
 
 /// Where the first newline stands.
-fn newline(bytes: &[u8]) -> Option<usize>
+pub fn newline(bytes: &[u8]) -> Option<usize>
     ensures { IsNewline bytes.now result }
 {
     let mut at = 0;
@@ -185,15 +142,14 @@ fn guesses<S: BuildHasher + Drop>(seen: &Texts<S>, bytes: &[u8]) -> [usize; AHEA
 
 /// Writes those of the first lines whose texts are new, up to so many, and takes their texts into the set. Answers how
 /// many lines it took, each with its newline, and how many bytes they have together.
-fn write_lines<S: BuildHasher + Drop, W: Write>(
+pub fn write_lines<S: BuildHasher + Drop, W: Write>(
     seen: &mut Texts<S>,
     bytes: &[u8],
     most: u64,
     w: &mut W,
 ) -> Result<(u64, usize), Fault>
-    ensures most { IfOk result (λ taken. taken.0 ≤ most) }
-    ensures within { IfOk result (λ taken. taken.1 ≤ length bytes.now) }
-    ensures written { IfOk result (λ taken. LeadsOn (take taken.1 bytes.now) (has seen.old) (has seen.new)
+    ensures takes { IfOk result (λ taken. Takes bytes.now most taken.0 taken.1) }
+    ensures written { IfOk result (λ taken. LeadsOn (lines (take taken.1 bytes.now)) (has seen.old) (has seen.new)
         (W.contents w.old) (W.contents w.new)) }
     ensures begun { OnErr result (BreaksOff bytes.now (has seen.old) (W.contents w.old) (W.contents w.new)) }
 {
@@ -214,34 +170,4 @@ fn write_lines<S: BuildHasher + Drop, W: Write>(
         }
     }
     Ok((most, bytes.len() - rest.len()))
-}
-
-/// Does the same with the lines that lie whole in the reader's buffer, which take no copy. Where the buffer is empty,
-/// it reads. Then it flushes, since the next read may wait.
-pub fn write_buffered<S: BuildHasher + Drop, R: BufRead, W: Write>(
-    seen: &mut Texts<S>,
-    r: &mut R,
-    most: u64,
-    w: &mut W,
-) -> Result<u64, Fault>
-    ensures most { IfOk result (λ lines. lines ≤ most) }
-    ensures written { OnOk result ((text : List ℕ) × Consumes (R.remaining r.old) (R.remaining r.new) text
-        × LeadsOn text (has seen.old) (has seen.new) (W.contents w.old) (W.contents w.new)) }
-    ensures begun { OnErr result ((run : Run) → run.left' ≡ R.remaining r.old → run.written' ≡ W.contents w.old
-        → Between run (has seen.old) → (left : Option (List ℕ)) → WritesPart each_once (after run left (W.contents w.new))) }
-{
-    let available = match r.fill_buf() {
-        Ok(available) => available,
-        Err(error) => {
-            return match error.kind() {
-                ErrorKind::Interrupted => Ok(0),
-                ErrorKind::OutOfMemory => Err(Fault::NoMemory),
-                _ => Err(Fault::Read(error)),
-            };
-        }
-    };
-    let (lines, len) = write_lines(seen, available, most, w)?;
-    r.consume(len);
-    finish(w)?;
-    Ok(lines)
 }

@@ -8,21 +8,22 @@ mod run;
 mod tally;
 #[cfg(test)]
 mod tests;
+mod unread;
 
 use hash_texts::RandomKeys;
 use outcome::{Outcome, USAGE, outcome_line, outcome_of, outcome_status};
-use std::io::{BufReader, BufWriter};
+use std::io::BufWriter;
 use std::process::ExitCode;
 use std::{env, io};
 
-/// How many bytes a read may bring, and how many are written at once.
+/// How many bytes are written at once.
 const BUFFER: usize = 65536;
 
 /// What came of the call, over standard input and output.
 fn called(rt: &HostRuntime) -> io::Result<Outcome> {
     let alloc = rt.alloc();
     let hasher = RandomKeys::new(rt)?;
-    let mut input = BufReader::with_capacity(alloc, BUFFER, rt.stdin())?;
+    let mut input = rt.stdin();
     let mut output = BufWriter::with_capacity(alloc, BUFFER, rt.stdout())?;
     let args = env::args(rt);
     Ok(outcome_of(alloc, hasher, args, u64::MAX, &mut input, &mut output))

@@ -11,7 +11,7 @@ use std::alloc::Global;
 use std::env::Args;
 use std::hash::BuildHasher;
 use std::io;
-use std::io::{BufRead, ErrorKind, Write};
+use std::io::{ErrorKind, Read, Write};
 
 /// What a call asks for.
 pub enum Task {
@@ -34,6 +34,8 @@ pub enum Outcome {
     Usage,
     /// There was no memory for the arguments. Nothing was read or written.
     NoMemory,
+    /// There were more lines than the limit. What was written is a beginning of the output.
+    TooManyLines,
     /// The output is not whole: what was written is a beginning of it.
     Failed(Fault),
 }
@@ -66,7 +68,7 @@ fn task_of(args: Args) -> Option<Task>
 
 /// Does what the arguments ask for, as the system gives them, over at most `limit` lines. Where they are wrong, or there
 /// was no memory for them, nothing is read or written.
-pub fn outcome_of<S: BuildHasher + Drop, R: BufRead, W: Write>(
+pub fn outcome_of<S: BuildHasher + Drop, R: Read, W: Write>(
     alloc: Global,
     hasher: S,
     args: io::Result<Args>,
@@ -74,16 +76,18 @@ pub fn outcome_of<S: BuildHasher + Drop, R: BufRead, W: Write>(
     r: &mut R,
     w: &mut W,
 ) -> Outcome
-    ensures { Exits args (run_of R.remaining r.old r.new W.contents w.old w.new) result }
+    ensures { Exits args limit (run_of R.remaining r.old r.new W.contents w.old w.new) result }
 {
     match args {
         Ok(args) => match task_of(args) {
             Some(Task::Once) => match dedup(alloc, hasher, limit, r, w) {
-                Ok(()) => Outcome::Done,
+                Ok(true) => Outcome::Done,
+                Ok(false) => Outcome::TooManyLines,
                 Err(fault) => Outcome::Failed(fault),
             },
             Some(Task::Tallied(which)) => match tally(alloc, hasher, which, limit, r, w) {
-                Ok(()) => Outcome::Done,
+                Ok(true) => Outcome::Done,
+                Ok(false) => Outcome::TooManyLines,
                 Err(fault) => Outcome::Failed(fault),
             },
             Some(Task::Help) => Outcome::Helped,
@@ -109,7 +113,7 @@ pub fn outcome_line(outcome: &Outcome) -> &'static str
         Outcome::NoMemory | Outcome::Failed(Fault::NoMemory) => "dedup: out of memory\n",
         Outcome::Failed(Fault::Read(_)) => "dedup: read fault\n",
         Outcome::Failed(Fault::Write(_)) => "dedup: write fault\n",
-        Outcome::Failed(Fault::TooManyLines) => "dedup: too many lines\n",
+        Outcome::TooManyLines => "dedup: too many lines\n",
         Outcome::Failed(Fault::TooManyTexts) => "dedup: too many different lines\n",
     }
 }

@@ -1,16 +1,22 @@
 //! A run of the program over any reader, writer and hasher.
-ghost use Rattle.std.specs.Prelude.{◌≡◌, []};
-ghost use Rattle.dedup.specs.Lines.{each_once};
-ghost use Rattle.dedup.specs.Running.{Ends, run_of};
+ghost use Rattle.std.specs.Prelude.{◌≡◌, ◌++◌, [], ℕ, List, Option, OnOk, OnErr};
+ghost use Rattle.dedup.specs.Between.{IsBare, LeadsOn, Wrote};
+ghost use Rattle.dedup.specs.Lines.{each_once, lines, once};
+ghost use Rattle.dedup.specs.Running.{AppendsPart, Ends, run_of};
+ghost use Rattle.hash_texts.specs.Texts.{has};
 
-use crate::lines::{finish, read_line, write_at_once, write_buffered};
+use crate::lines::{finish, write_lines, write_new};
+use crate::unread::Unread;
 use hash_texts::{Full, Texts};
 use std::alloc::{AllocError, Global};
+use std::error::Error as StdError;
+use std::fmt;
+use std::fmt::{Display, Formatter};
 use std::hash::BuildHasher;
-use std::io::{BufRead, Error, Write};
+use std::io::{Error, Read, Write};
 
 /// Why a run ended before its output was whole. What was written by then is a beginning of it.
-#[derive(Drop)]
+#[derive(Debug, Drop)]
 pub enum Fault {
     /// A read failed.
     Read(Error),
@@ -18,11 +24,23 @@ pub enum Fault {
     Write(Option<Error>),
     /// There was no memory.
     NoMemory,
-    /// There were more lines than the limit.
-    TooManyLines,
     /// There were 2^32 - 1 texts.
     TooManyTexts,
 }
+
+impl Display for Fault {
+    fn fmt<W: fmt::Write>(&self, f: &mut Formatter<W>) -> fmt::Result {
+        match self {
+            Fault::Read(error) => write!(f, "a read failed: {error}"),
+            Fault::Write(Some(error)) => write!(f, "a write failed: {error}"),
+            Fault::Write(None) => write!(f, "a write took nothing"),
+            Fault::NoMemory => write!(f, "out of memory"),
+            Fault::TooManyTexts => write!(f, "too many different lines"),
+        }
+    }
+}
+
+impl StdError for Fault {}
 
 impl From<AllocError> for Fault {
     fn from(_error: AllocError) -> Fault {
@@ -39,45 +57,67 @@ impl From<Full> for Fault {
     }
 }
 
-/// Writes each line of the input once, where it came first. `line` is room for one.
-fn write_each<S: BuildHasher + Drop, R: BufRead, W: Write>(
+/// Writes the last line, which has no newline, if there is one and its text is new.
+fn write_last<S: BuildHasher + Drop, W: Write>(
     seen: &mut Texts<S>,
-    line: &mut Vec<u8>,
+    line: &[u8],
+    w: &mut W,
+) -> Result<(), Fault>
+    requires { IsBare line.now }
+    ensures written { OnOk result (LeadsOn (lines line.now) (has seen.old) (has seen.new) (W.contents w.old) (W.contents w.new)) }
+    ensures begun { OnErr result ((ls : List (List ℕ)) (start : Option (List ℕ)) → Wrote ls (has seen.old) start (W.contents w.old)
+        → AppendsPart start (W.contents w.new) (once (ls ++ lines line.now))) }
+{
+    if line.is_empty() {
+        return Ok(());
+    }
+    write_new(seen, line, 0, w)?;
+    Ok(())
+}
+
+/// Writes each of at most so many lines of the input once, where it came first, and answers whether there were no more.
+fn write_each<S: BuildHasher + Drop, R: Read, W: Write>(
+    seen: &mut Texts<S>,
+    unread: &mut Unread,
     limit: u64,
     r: &mut R,
     w: &mut W,
-) -> Result<(), Fault>
-    requires { seen.old ≡ [] }
-    ensures { Ends each_once (run_of R.remaining r.old r.new W.contents w.old w.new) result }
+) -> Result<bool, Fault>
+    requires none { seen.old ≡ [] }
+    requires unread { unread.old ≡ [] }
+    ensures { Ends each_once limit (run_of R.remaining r.old r.new W.contents w.old w.new) result }
 {
     let mut left = limit;
-    while left > 0 {
-        left -= write_buffered(seen, r, left - 1, w)?;
-        let ended = read_line(r, line)?;
-        if line.is_empty() {
-            return Ok(());
+    loop {
+        let more = unread.fill(r)?;
+        if unread.is_beyond(left) {
+            return Ok(false);
         }
-        write_at_once(seen, line, w)?;
-        if !ended {
-            return Ok(());
+        if !more {
+            write_last(seen, unread.bytes(), w)?;
+            return Ok(true);
         }
-        left -= 1;
+        let (count, len) = write_lines(seen, unread.bytes(), left, w)?;
+        left -= count;
+        unread.pass(len);
+        finish(w)?;
     }
-    Err(Fault::TooManyLines)
 }
 
-/// Writes each line of the input once, where it came first, and flushes.
-pub fn dedup<S: BuildHasher + Drop, R: BufRead, W: Write>(
+/// Writes each of at most `limit` lines of the input once, where it came first, and flushes. It answers whether there were
+/// no more lines.
+pub fn dedup<S: BuildHasher + Drop, R: Read, W: Write>(
     alloc: Global,
     hasher: S,
     limit: u64,
     r: &mut R,
     w: &mut W,
-) -> Result<(), Fault>
-    ensures { Ends each_once (run_of R.remaining r.old r.new W.contents w.old w.new) result }
+) -> Result<bool, Fault>
+    ensures { Ends each_once limit (run_of R.remaining r.old r.new W.contents w.old w.new) result }
 {
     let mut seen = Texts::new(alloc, hasher);
-    let mut line = Vec::new(alloc);
-    write_each(&mut seen, &mut line, limit, r, w)?;
-    finish(w)
+    let mut unread = Unread::new(alloc);
+    let whole = write_each(&mut seen, &mut unread, limit, r, w)?;
+    finish(w)?;
+    Ok(whole)
 }

@@ -1,16 +1,19 @@
 //! Lines with how often they came.
-ghost use Rattle.std.specs.Prelude.{if◌then◌else◌, nat_lt, ◌≡◌, ◌==◌, ◌++◌, ◌∷◌, [], ℕ, List, OnOk, OnErr, length};
+ghost use Rattle.std.specs.Prelude.{if◌then◌else◌, nat_lt, ◌≡◌, ◌<◌, ◌≤◌, ◌+◌, ◌==◌, ◌++◌, ◌∷◌, [], ℕ, List, IfOk, OnOk, OnErr, length, take};
 ghost use Rattle.std.specs.Io.BufRead.{strip_last};
 ghost use Rattle.std.specs.Io.KnownBytes.{Appends};
+ghost use Rattle.dedup.specs.Between.{IsBare, Takes};
+ghost use Rattle.dedup.specs.Lines.{lines};
 ghost use Rattle.dedup.specs.Running.{AppendsPart, Ends, run_of};
-ghost use Rattle.dedup.specs.Tallies.{AllCounted, Tallies, column, shown, tallied, told};
+ghost use Rattle.dedup.specs.Tallies.{CountedAll, Tallies, column, shown, tallied, told};
 
-use crate::lines::{finish, put, read_line, text_of};
+use crate::lines::{finish, newline, put, text_of};
 use crate::run::Fault;
+use crate::unread::Unread;
 use hash_texts::Texts;
 use std::alloc::{AllocError, Global};
 use std::hash::BuildHasher;
-use std::io::{BufRead, Write};
+use std::io::{Read, Write};
 
 /// Which of the counted lines are written, and how.
 #[derive(Clone, Copy)]
@@ -29,7 +32,7 @@ fn count<S: BuildHasher + Drop>(
     times: &mut Vec<u64>,
     text: &[u8],
 ) -> Result<(), Fault>
-    requires as_many { length texts.old ≡ length times.old.items }
+    requires { (ls : List (List ℕ)) × Tallies ls texts.old times.old.items × (length ls < u64.MAX) }
     ensures { OnOk result ((ls : List (List ℕ)) (line : List ℕ) → strip_last 10 line ≡ text.now
         → Tallies ls texts.old times.old.items
         → Tallies (ls ++ line ∷ []) texts.new times.new.items) }
@@ -41,10 +44,7 @@ fn count<S: BuildHasher + Drop>(
             Err(_) => Err(Fault::NoMemory),
         };
     }
-    match times[seen.place].checked_add(1) {
-        Some(more) => times[seen.place] = more,
-        None => return Err(Fault::TooManyLines),
-    }
+    times[seen.place] += 1;
     Ok(())
 }
 
@@ -123,45 +123,98 @@ fn tell<S: BuildHasher + Drop, W: Write>(
     finish(w)
 }
 
-/// Counts the text of each line of the input.
-fn count_lines<S: BuildHasher + Drop, R: BufRead>(
-    alloc: Global,
-    limit: u64,
-    r: &mut R,
+/// Counts the texts of the first lines, up to so many. Answers how many lines it took, each with its newline, and how many
+/// bytes they have together.
+fn count_lines<S: BuildHasher + Drop>(
     texts: &mut Texts<S>,
     times: &mut Vec<u64>,
-) -> Result<(), Fault>
-    requires { Tallies [] texts.old times.old.items }
-    ensures { OnOk result (AllCounted (R.remaining r.old) (R.remaining r.new) texts.new times.new.items) }
+    bytes: &[u8],
+    most: u64,
+) -> Result<(u64, usize), Fault>
+    requires { (ls : List (List ℕ)) × Tallies ls texts.old times.old.items × (length ls + most ≤ u64.MAX) }
+    ensures takes { IfOk result (λ taken. Takes bytes.now most taken.0 taken.1) }
+    ensures counted { IfOk result (λ taken. (ls : List (List ℕ)) → Tallies ls texts.old times.old.items
+        → Tallies (ls ++ lines (take taken.1 bytes.now)) texts.new times.new.items) }
 {
-    let mut line = Vec::new(alloc);
-    for _ in 0..limit {
-        let ended = read_line(r, &mut line)?;
-        if line.is_empty() {
-            return Ok(());
-        }
-        count(texts, times, text_of(&line))?;
-        if !ended {
-            return Ok(());
+    let mut rest = bytes;
+    for taken in 0..most {
+        match newline(rest) {
+            Some(n) => {
+                let (line, later) = rest.split_at(n + 1);
+                count(texts, times, text_of(line))?;
+                rest = later;
+            }
+            None => return Ok((taken, bytes.len() - rest.len())),
         }
     }
-    Err(Fault::TooManyLines)
+    Ok((most, bytes.len() - rest.len()))
 }
 
-/// Counts the lines of the input, and writes at its end those that are asked for, in the order in which they came
-/// first.
-pub fn tally<S: BuildHasher + Drop, R: BufRead, W: Write>(
+/// Counts the last line, which has no newline, if there is one.
+fn count_last<S: BuildHasher + Drop>(
+    texts: &mut Texts<S>,
+    times: &mut Vec<u64>,
+    line: &[u8],
+) -> Result<(), Fault>
+    requires bare { IsBare line.now }
+    requires few { (ls : List (List ℕ)) × Tallies ls texts.old times.old.items × (0 < length line.now → length ls < u64.MAX) }
+    ensures { OnOk result ((ls : List (List ℕ)) → Tallies ls texts.old times.old.items
+        → Tallies (ls ++ lines line.now) texts.new times.new.items) }
+{
+    if line.is_empty() {
+        return Ok(());
+    }
+    count(texts, times, line)?;
+    Ok(())
+}
+
+/// Counts the text of each of at most so many lines of the input, and answers whether there were no more.
+fn count_each<S: BuildHasher + Drop, R: Read>(
+    texts: &mut Texts<S>,
+    times: &mut Vec<u64>,
+    unread: &mut Unread,
+    limit: u64,
+    r: &mut R,
+) -> Result<bool, Fault>
+    requires none { Tallies [] texts.old times.old.items }
+    requires unread { unread.old ≡ [] }
+    ensures { IfOk result (λ whole. CountedAll whole limit (R.remaining r.old) (R.remaining r.new) texts.new times.new.items) }
+{
+    let mut left = limit;
+    loop {
+        let more = unread.fill(r)?;
+        if unread.is_beyond(left) {
+            return Ok(false);
+        }
+        if !more {
+            count_last(texts, times, unread.bytes())?;
+            return Ok(true);
+        }
+        let (taken, len) = count_lines(texts, times, unread.bytes(), left)?;
+        left -= taken;
+        unread.pass(len);
+    }
+}
+
+/// Counts at most `limit` lines of the input, and writes at its end those that are asked for, in the order in which they came
+/// first. It answers whether there were no more lines; where there were, it writes nothing.
+pub fn tally<S: BuildHasher + Drop, R: Read, W: Write>(
     alloc: Global,
     hasher: S,
     which: Which,
     limit: u64,
     r: &mut R,
     w: &mut W,
-) -> Result<(), Fault>
-    ensures { Ends (tallied which) (run_of R.remaining r.old r.new W.contents w.old w.new) result }
+) -> Result<bool, Fault>
+    ensures { Ends (tallied which) limit (run_of R.remaining r.old r.new W.contents w.old w.new) result }
 {
     let mut texts = Texts::new(alloc, hasher);
     let mut times = Vec::new(alloc);
-    count_lines(alloc, limit, r, &mut texts, &mut times)?;
-    tell(alloc, which, &texts, &times, w)
+    let mut unread = Unread::new(alloc);
+    let whole = count_each(&mut texts, &mut times, &mut unread, limit, r)?;
+    if !whole {
+        return Ok(false);
+    }
+    tell(alloc, which, &texts, &times, w)?;
+    Ok(true)
 }

@@ -12,7 +12,7 @@ use std::alloc::{AllocError, Global};
 use std::collections::HashSet;
 use std::env::Args;
 use std::io;
-use std::io::{BufReader, ErrorKind, Read, Write};
+use std::io::{ErrorKind, Read, Write};
 use std::process::Abort;
 
 /// That the bytes are as wanted.
@@ -41,12 +41,13 @@ fn ended(rt: &impl Abort, got: End, want: End) {
     assert_eq!(rt; got, want);
 }
 
-/// Gives its text, at most so many bytes a read, and fails once so many were given.
+/// Gives its text, at most so many bytes a read, and fails once so many were given. Before that so many reads are interrupted.
 #[derive(Drop)]
 struct Script<'a> {
     left: &'a [u8],
     most: usize,
     until_fault: usize,
+    interrupted: u32,
 }
 
 impl<'a> Script<'a> {
@@ -56,12 +57,17 @@ impl<'a> Script<'a> {
             left,
             most,
             until_fault: usize::MAX,
+            interrupted: 0,
         }
     }
 }
 
 impl Read for Script<'_> {
     fn read(&mut self, buf: &mut [u8]) -> io::Result<usize> {
+        if self.interrupted > 0 {
+            self.interrupted -= 1;
+            return Err(io::Error::from(ErrorKind::Interrupted));
+        }
         if self.until_fault == 0 {
             return Err(io::Error::from(ErrorKind::BrokenPipe));
         }
@@ -143,17 +149,15 @@ fn status(outcome: &Outcome) -> End {
 
 /// Runs the program over a text, read and written so many bytes at a time, onto this paper.
 fn run<H: Piecewise>(alloc: Global, words: &[&str], r: Script<'_>, w: &mut Paper) -> End {
-    match BufReader::with_capacity(alloc, 8, r) {
-        Ok(mut reader) => status(&outcome_of(
-            alloc,
-            BuildFresh::<H>::new(),
-            args(alloc, words),
-            40,
-            &mut reader,
-            w,
-        )),
-        Err(_) => NO_MEMORY,
-    }
+    let mut reader = r;
+    status(&outcome_of(
+        alloc,
+        BuildFresh::<H>::new(),
+        args(alloc, words),
+        40,
+        &mut reader,
+        w,
+    ))
 }
 
 /// That the program ends so, and wrote this.
@@ -277,6 +281,35 @@ fn a_read_fails_at_each_byte(rt: HostRuntime) {
 }
 
 #[test]
+fn interrupted_reads(rt: HostRuntime) {
+    for (interrupted, end) in [(1, WELL), (999, WELL), (u32::MAX, READ_FAULT)] {
+        let mut script = Script::new(TEXT, 64);
+        script.interrupted = interrupted;
+        let output: &[u8] = if end == WELL { ONCE } else { b"" };
+        let paper = Paper::new(64, usize::MAX);
+        ends::<Lookup3Hasher>(&rt, rt.alloc(), &[], script, paper, end, output);
+    }
+}
+
+#[test]
+fn each_fault_is_told(rt: HostRuntime) {
+    let broken = || -> io::Error { io::Error::from(ErrorKind::BrokenPipe) };
+    let told = [
+        (Fault::Read(broken()), "a read failed: broken pipe"),
+        (Fault::Write(Some(broken())), "a write failed: broken pipe"),
+        (Fault::Write(None), "a write took nothing"),
+        (Fault::NoMemory, "out of memory"),
+        (Fault::TooManyTexts, "too many different lines"),
+    ];
+    for (fault, text) in &told {
+        match format!(in rt.alloc(); "{fault}") {
+            Ok(line) => all_hold(&rt, &[line.as_str() == *text]),
+            Err(_) => all_hold(&rt, &[false]),
+        }
+    }
+}
+
+#[test]
 fn a_write_fails_at_each_byte(rt: HostRuntime) {
     for (words, output) in &OUTPUTS {
         for until_fault in 0..output.len() {
@@ -288,7 +321,7 @@ fn a_write_fails_at_each_byte(rt: HostRuntime) {
     }
 }
 
-/// What is written before the first flush, which comes behind the lines of a buffer of 8 bytes, or at the end.
+/// What is written before the first flush, which comes behind the lines that a read brought, or at the end.
 const FLUSHED: [(&[&str], &[u8]); 2] = [(&[], b"b\na\n"), (&["-c"], COUNTED)];
 
 #[test]
@@ -296,7 +329,7 @@ fn a_flush_fails(rt: HostRuntime) {
     for (words, output) in &FLUSHED {
         let mut paper = Paper::new(64, usize::MAX);
         paper.flush_fails = true;
-        let script = Script::new(TEXT, 64);
+        let script = Script::new(TEXT, 8);
         ends::<Lookup3Hasher>(&rt, rt.alloc(), words, script, paper, WRITE_FAULT, output);
     }
 }
@@ -342,14 +375,14 @@ fn arguments_that_are_not_there(rt: HostRuntime) {
     }
 }
 
-/// What became of a run under a limit: whether its output is whole, and whether there were too many lines.
-fn met(end: &Result<(), Fault>) -> (bool, bool) {
-    (end.is_ok(), matches!(end, Err(Fault::TooManyLines)))
+/// Whether a run under a limit ended well, and said that there were no more lines, or that there were.
+fn met(end: &Result<bool, Fault>, fits: bool) -> bool {
+    matches!(end, Ok(whole) if *whole == fits)
 }
 
 #[test]
 fn more_lines_than_the_limit(rt: HostRuntime) {
-    for (limit, fits) in [(5, false), (6, true)] {
+    for (limit, fits) in [(0, false), (4, false), (5, true), (6, true)] {
         let mut paper = Paper::new(64, usize::MAX);
         let once = dedup(
             rt.alloc(),
@@ -368,8 +401,7 @@ fn more_lines_than_the_limit(rt: HostRuntime) {
             &mut &TEXT[..],
             &mut paper,
         );
-        let wanted = (fits, !fits);
-        all_hold(&rt, &[met(&once) == wanted, met(&counted) == wanted]);
+        all_hold(&rt, &[met(&once, fits), met(&counted, fits)]);
     }
 }
 
@@ -407,12 +439,11 @@ fn lines_of_each_length(alloc: Global, count: usize) -> Result<Vec<u8>, AllocErr
     Ok(text)
 }
 
-/// What is written of these lines, which come twice, through a buffer of so many bytes.
+/// What is written of these lines, which come twice, through reads of so many bytes.
 fn written_of_twice(alloc: Global, lines: &[u8], capacity: usize) -> io::Result<Vec<u8>> {
     let mut twice = Vec::from_slice(alloc, lines)?;
     twice.extend_from_slice(lines)?;
-    let script = Script::new(&twice, usize::MAX);
-    let mut reader = BufReader::with_capacity(alloc, capacity, script)?;
+    let mut reader = Script::new(&twice, capacity);
     let mut output = Vec::new(alloc);
     match dedup(
         alloc,
@@ -421,19 +452,19 @@ fn written_of_twice(alloc: Global, lines: &[u8], capacity: usize) -> io::Result<
         &mut reader,
         &mut output,
     ) {
-        Ok(()) => Ok(output),
-        Err(_) => Ok(Vec::new(alloc)),
+        Ok(true) => Ok(output),
+        _ => Ok(Vec::new(alloc)),
     }
 }
 
-/// Whether lines of each length, which come twice, are written once through a buffer of so many bytes.
+/// Whether lines of each length, which come twice, are written once through reads of so many bytes.
 fn come_once(alloc: Global, capacity: usize) -> io::Result<bool> {
     let lines = lines_of_each_length(alloc, 41)?;
     let output = written_of_twice(alloc, &lines, capacity)?;
     Ok(output == lines)
 }
 
-/// Each line ends at another place of the buffer, and of the 16 bytes that are searched at once.
+/// Each line ends at another place of what was read, and of the 16 bytes that are searched at once.
 #[test]
 fn lines_that_end_at_each_place(rt: HostRuntime) {
     for capacity in 1..70 {
@@ -517,8 +548,8 @@ fn long_lines(alloc: Global) -> io::Result<(u64, u64)> {
         &mut reader,
         &mut scale,
     ) {
-        Ok(()) => Ok((scale.bytes, scale.newlines)),
-        Err(_) => Ok((0, 0)),
+        Ok(true) => Ok((scale.bytes, scale.newlines)),
+        _ => Ok((0, 0)),
     }
 }
 

@@ -1,8 +1,14 @@
-use Rattle.dedup.proofs.RunLemmas.{ends_at_flush, handed_on}
+use Rattle.dedup.specs.Lines.{each_once}
+use Rattle.dedup.specs.Running.{run_of}
+use Rattle.dedup.proofs.RunLemmas.{flushed, handed_on, part_at_flush}
 use Rattle.dedup.proofs.run.dedup.Goals as goal
 
-pub returns-in_err-write_each : goal.returns-in_err-write_each
-returns-in_err-write_each g c = handed_on _ _ _ c.from_residual.ensures.0 c.in_err-write_each.ensures
+pub returns-in_err-whole : goal.returns-in_err-whole
+returns-in_err-whole g c = handed_on each_once c.args.limit _ _ c.from_residual.ensures.0 c.in_err-whole.ensures
+
+pub returns-in_err-finish : goal.returns-in_err-finish
+returns-in_err-finish g c = handed_on each_once c.args.limit _ _ c.from_residual-in_err-finish.ensures.0
+    (part_at_flush each_once c.args.limit (run_of g.R.Read.remaining c.args.r.now c.write_each.new.r g.W.Write.contents c.args.w.now c.write_each.new.w) c.in_ok-whole.whole c.in_ok-whole.ensures _ c.finish.ensures)
 
 pub returns : goal.returns
-returns g c = ends_at_flush _ c.in_ok-write_each.ensures _ c.finish.ensures _
+returns g c = flushed each_once c.args.limit (run_of g.R.Read.remaining c.args.r.now c.write_each.new.r g.W.Write.contents c.args.w.now c.write_each.new.w) c.in_ok-whole.whole c.in_ok-whole.ensures _ c.finish.ensures

@@ -1,69 +1,85 @@
-use Rattle.std.proofs.Common.{rules, arith, refl, ◌≡◌, ◌<◌, ap, sym, subst, ◌∙◌, ◌||◌, List, ℕ, [], length, IfSome}
-use Rattle.std.specs.Io.KnownBytes.{Appends, Consumes}
-use Rattle.std.specs.Io.BufRead.{strip_last}
-use Rattle.std.specs.Str.{bytes_eq}
-use Rattle.std.proofs.lemmas.Bool.{eqb-false}
-use Rattle.std.proofs.lemmas.List.{nil_from_length}
+use Rattle.std.proofs.Common.{rules, ℕ, ◌-◌, ◌++◌, [], ap, sym, subst, refl, take, arith}
+use Rattle.dedup.specs.Between.{BreaksOff, IsBare, LeadsOn, Takes, Wrote}
+use Rattle.dedup.specs.Lines.{each_once, lines, once}
+use Rattle.dedup.specs.Running.{AppendsPart, run_of}
 use Rattle.hash_texts.specs.Texts.{has}
-use Rattle.dedup.specs.Lines.{if_new}
-use Rattle.dedup.specs.Running.{run_of}
-use Rattle.dedup.proofs.RunLemmas.{part_between, between_more, all_at_line, all_at_end, handed_on, part_at_line}
+use Rattle.dedup.proofs.RunLemmas.{Reads, all_written, handed_on, last_bare, part_among, part_at_last, part_of_reads, reads_beyond, reads_more, reads_start, some_left, takes_some, wrote_kept, wrote_start}
 use Rattle.dedup.proofs.run.write_each.Goals as goal
 
-pub returns : goal.returns
-returns g c = part_between _ _ c.loop-left.invariant _
+pub loop-more-init : goal.loop-more-init
+loop-more-init g c = ([], reads_start _ _ _ c.requires.unread, wrote_start (has c.args.seen.now) _ (λ other. ap (λ seen. has seen other) c.requires.none))
 
-pub returns-in_err-ended : goal.returns-in_err-ended
-returns-in_err-ended g c =
-    let wrote = c.write_buffered.new in
-    let (read_before, is_read, leads) = c.in_ok-left.ensures.written in
-    let between = leads (run_of g.R.Read.remaining c.args.r.now c.loop-left.r g.W.Write.contents c.args.w.now c.loop-left.w) refl c.loop-left.invariant (g.R.Read.remaining wrote.r) is_read in
-    handed_on _ _ _ c.from_residual-in_err-ended.ensures.0 (part_between _ _ between _)
+pub returns-in_err-more : goal.returns-in_err-more
+returns-in_err-more g c =
+    let (text, reads, wrote) = c.loop-more.invariant in
+    handed_on each_once c.args.limit _ _ c.from_residual.ensures.0
+    (part_of_reads _ _ _ _ _ text reads (run_of g.R.Read.remaining c.args.r.now c.fill.new.r g.W.Write.contents c.args.w.now c.loop-more.w) refl (has c.loop-more.seen) wrote)
 
-pub returns-then-is_empty : goal.returns-then-is_empty
-returns-then-is_empty g c =
-    let wrote = c.write_buffered.new in
-    let (read_before, is_read, leads) = c.in_ok-left.ensures.written in
-    let between = leads (run_of g.R.Read.remaining c.args.r.now c.loop-left.r g.W.Write.contents c.args.w.now c.loop-left.w) refl c.loop-left.invariant (g.R.Read.remaining wrote.r) is_read in
-    let line = c.read_line.new.line in
-    let read = c.in_ok-ended.ensures in
-    let none : line.items ≡ [] = nil_from_length line.items (search (rules, arith, line.ok)) in
-    let bare = subst (λ items. IfSome (g.R.Read.remaining wrote.r) (λ bytes. bytes ≡ items)) none (read.all (search rules)) in
-    all_at_end _ _ between _ (subst (Consumes _ _) none read.read) bare
+pub returns-then-is_beyond : goal.returns-then-is_beyond
+returns-then-is_beyond g c =
+    let (text, reads, wrote) = c.loop-more.invariant in
+    let (none, some) = c.if-is_beyond.ensures.beyond refl in (
+      part_of_reads _ _ _ _ _ text reads (run_of g.R.Read.remaining c.args.r.now c.fill.new.r g.W.Write.contents c.args.w.now c.loop-more.w) refl (has c.loop-more.seen) wrote,
+      reads_beyond _ _ _ _ _ text reads c.in_ok-more.more _ _ c.in_ok-more.ensures none some,
+    )
 
-pub returns-in_err-write_at_once : goal.returns-in_err-write_at_once
-returns-in_err-write_at_once g c =
-    let wrote = c.write_buffered.new in
-    let (read_before, is_read, leads) = c.in_ok-left.ensures.written in
-    let between = leads (run_of g.R.Read.remaining c.args.r.now c.loop-left.r g.W.Write.contents c.args.w.now c.loop-left.w) refl c.loop-left.invariant (g.R.Read.remaining wrote.r) is_read in
-    let line = c.read_line.new.line in
-    let read = c.in_ok-ended.ensures in
-    let some : 0 < length line.items = omega (arith, line.ok.0, eqb-false _ _ (sym c.if-is_empty.ensures)) in
-    let (part, rest, is, written) = c.in_err-write_at_once.ensures.begun in
-    handed_on _ _ _ c.from_residual-in_err-write_at_once.ensures.0 (part_at_line _ _ between _ _ line.items read.read read.stops some _ read.ended read.all part rest (is ∙ ap (if_new wrote.seen) c.deref.ensures.value) written)
+pub write_last-requires : goal.write_last-requires
+write_last-requires g c =
+    let (text, reads, wrote) = c.loop-more.invariant in
+    subst IsBare (sym c.bytes.ensures) (last_bare _ _ _ _ _ text reads c.in_ok-more.more _ _ c.in_ok-more.ensures (search rules) (c.if-is_beyond.ensures.within refl))
 
-pub returns-then-not-ended : goal.returns-then-not-ended
-returns-then-not-ended g c =
-    let wrote = c.write_buffered.new in
-    let (read_before, is_read, leads) = c.in_ok-left.ensures.written in
-    let between = leads (run_of g.R.Read.remaining c.args.r.now c.loop-left.r g.W.Write.contents c.args.w.now c.loop-left.w) refl c.loop-left.invariant (g.R.Read.remaining wrote.r) is_read in
-    let line = c.read_line.new.line in
-    let read = c.in_ok-ended.ensures in
-    let some : 0 < length line.items = omega (arith, line.ok.0, eqb-false _ _ (sym c.if-is_empty.ensures)) in
-    all_at_line _ _ between _ _ line.items read.read read.stops some (read.all (search rules)) (subst (λ items. Appends (g.W.Write.contents wrote.w) (g.W.Write.contents c.write_at_once.new.w) (if_new wrote.seen items)) c.deref.ensures.value c.in_ok-write_at_once.ensures.written)
+pub returns-in_err-write_last : goal.returns-in_err-write_last
+returns-in_err-write_last g c =
+    let (text, reads, wrote) = c.loop-more.invariant in
+    let begun = subst (λ l. AppendsPart (g.W.Write.contents c.args.w.now) (g.W.Write.contents c.write_last.new.w) (once (lines text ++ lines l))) c.bytes.ensures (c.in_err-write_last.ensures.begun (lines text) _ wrote) in
+    handed_on each_once c.args.limit _ _ c.from_residual-in_err-write_last.ensures.0
+    (part_at_last _ _ _ _ _ text reads c.in_ok-more.more _ _ c.in_ok-more.ensures (search rules) (c.if-is_beyond.ensures.within refl) _ _ begun)
 
-pub loop-left-preserved : goal.loop-left-preserved
-loop-left-preserved g c =
-    let wrote = c.write_buffered.new in
-    let (read_before, is_read, leads) = c.in_ok-left.ensures.written in
-    let between = leads (run_of g.R.Read.remaining c.args.r.now c.loop-left.r g.W.Write.contents c.args.w.now c.loop-left.w) refl c.loop-left.invariant (g.R.Read.remaining wrote.r) is_read in
-    let line = c.read_line.new.line in
-    let read = c.in_ok-ended.ensures in
-    let some : 0 < length line.items = omega (arith, line.ok.0, eqb-false _ _ (sym c.if-is_empty.ensures)) in
-    between_more _ _ _ between _ _ line.items read.read read.stops some (search rules)
-    (subst (λ items. Appends (g.W.Write.contents wrote.w) (g.W.Write.contents c.write_at_once.new.w) (if_new wrote.seen items)) c.deref.ensures.value c.in_ok-write_at_once.ensures.written)
-    (subst (λ items. (other : List ℕ) → has c.write_at_once.new.seen other ≡ (bytes_eq other (strip_last 10 items) || has wrote.seen other)) c.deref.ensures.value c.in_ok-write_at_once.ensures.seen)
+pub returns-then-not-more : goal.returns-then-not-more
+returns-then-not-more g c =
+    let (text, reads, wrote) = c.loop-more.invariant in
+    let all = subst (λ l. Wrote (lines text ++ lines l) (has c.write_last.new.seen) (g.W.Write.contents c.args.w.now) (g.W.Write.contents c.write_last.new.w)) c.bytes.ensures (c.in_ok-write_last.ensures.written (lines text) _ wrote) in
+    all_written _ _ _ _ _ text reads c.in_ok-more.more _ _ c.in_ok-more.ensures (search rules) (c.if-is_beyond.ensures.within refl) _ _ _ all
 
-pub returns-in_err-left : goal.returns-in_err-left
-returns-in_err-left g c =
-    handed_on _ _ _ c.from_residual.ensures.0 (c.in_err-left.ensures.begun (run_of g.R.Read.remaining c.args.r.now c.loop-left.r g.W.Write.contents c.args.w.now c.loop-left.w) refl refl c.loop-left.invariant _)
+pub returns-in_err-count : goal.returns-in_err-count
+returns-in_err-count g c =
+    let (text, reads, wrote) = c.loop-more.invariant in
+    let breaks = subst (λ l. BreaksOff l (has c.loop-more.seen) (g.W.Write.contents c.loop-more.w) (g.W.Write.contents c.write_lines.new.w)) c.bytes-in-loop-more.ensures c.in_err-count.ensures.begun in
+    handed_on each_once c.args.limit _ _ c.from_residual-in_err-count.ensures.0
+    (part_among _ _ _ _ _ text reads c.in_ok-more.more _ _ c.in_ok-more.ensures (has c.loop-more.seen) _ _ _ wrote breaks)
+
+pub loop-more-preserved : goal.loop-more-preserved
+loop-more-preserved g c =
+    let (text, reads, wrote) = c.loop-more.invariant in
+    let unread = c.fill.new.self in
+    let count : ℕ = c.in_ok-count.count in
+    let len : ℕ = c.in_ok-count.len in
+    let takes = subst (λ l. Takes l c.loop-more.left count len) c.bytes-in-loop-more.ensures c.in_ok-count.ensures.takes in
+    let leads = subst (λ l. LeadsOn (lines (take len l)) (has c.loop-more.seen) (has c.write_lines.new.seen) (g.W.Write.contents c.loop-more.w) (g.W.Write.contents c.write_lines.new.w)) c.bytes-in-loop-more.ensures c.in_ok-count.ensures.written in
+    let reads_on = reads_more _ _ _ _ _ text reads c.in_ok-more.more _ _ c.in_ok-more.ensures count len takes in (
+      text ++ take len unread,
+      subst (λ u. Reads c.args.limit (g.R.Read.remaining c.args.r.now) (g.R.Read.remaining c.fill.new.r) u (c.loop-more.left - count) (text ++ take len unread)) (sym c.pass.ensures) reads_on,
+      subst (λ ls. Wrote ls (has c.write_lines.new.seen) (g.W.Write.contents c.args.w.now) (g.W.Write.contents c.finish.new.w)) (sym (reads.whole (take len unread))) (wrote_kept _ _ _ _ _ (leads (lines text) _ wrote) c.finish.ensures),
+    )
+
+pub returns-in_err-finish : goal.returns-in_err-finish
+returns-in_err-finish g c =
+    let (text, reads, wrote) = c.loop-more.invariant in
+    let unread = c.fill.new.self in
+    let count : ℕ = c.in_ok-count.count in
+    let len : ℕ = c.in_ok-count.len in
+    let takes = subst (λ l. Takes l c.loop-more.left count len) c.bytes-in-loop-more.ensures c.in_ok-count.ensures.takes in
+    let leads = subst (λ l. LeadsOn (lines (take len l)) (has c.loop-more.seen) (has c.write_lines.new.seen) (g.W.Write.contents c.loop-more.w) (g.W.Write.contents c.write_lines.new.w)) c.bytes-in-loop-more.ensures c.in_ok-count.ensures.written in
+    let reads_on = reads_more _ _ _ _ _ text reads c.in_ok-more.more _ _ c.in_ok-more.ensures count len takes in
+    handed_on each_once c.args.limit _ _ c.from_residual-in_err-finish.ensures.0
+    (part_of_reads _ _ _ _ _ (text ++ take len unread) reads_on (run_of g.R.Read.remaining c.args.r.now c.fill.new.r g.W.Write.contents c.args.w.now c.finish.new.w) refl (has c.write_lines.new.seen)
+    (subst (λ ls. Wrote ls (has c.write_lines.new.seen) (g.W.Write.contents c.args.w.now) (g.W.Write.contents c.finish.new.w)) (sym (reads.whole (take len unread))) (wrote_kept _ _ _ _ _ (leads (lines text) _ wrote) c.finish.ensures)))
+
+pub loop-more-smaller : goal.loop-more-smaller
+loop-more-smaller g c =
+    let (text, reads, wrote) = c.loop-more.invariant in
+    let count : ℕ = c.in_ok-count.count in
+    let takes = subst (λ l. Takes l c.loop-more.left count c.in_ok-count.len) c.bytes-in-loop-more.ensures c.in_ok-count.ensures.takes in
+    let left = some_left _ _ _ _ _ text reads c.in_ok-more.more _ _ c.in_ok-more.ensures (search rules) (c.if-is_beyond.ensures.within refl) in
+    let some = takes_some _ _ _ _ _ text reads c.in_ok-more.more _ _ c.in_ok-more.ensures (search rules) left count c.in_ok-count.len takes in
+    omega (arith, left, some)

@@ -1,10 +1,14 @@
+use Rattle.std.proofs.Common.{ℕ, List}
+use Rattle.dedup.specs.Between.{Wrote}
+use Rattle.dedup.specs.Lines.{lines}
 use Rattle.hash_texts.specs.Texts.{has}
-use Rattle.dedup.specs.Running.{run_of}
-use Rattle.dedup.specs.Between.{Between}
+use Rattle.dedup.proofs.RunLemmas.{Reads}
 use Rattle.dedup.proofs.run.write_each.Given as goal
 
-abbrev pub invariant-loop-left : goal.invariant-loop-left
-invariant-loop-left g l = Between (run_of g.R.Read.remaining l.initial.r l.r g.W.Write.contents l.initial.w l.w) (has l.seen)
+-- the lines that were taken are written
+abbrev pub invariant-loop-more : goal.invariant-loop-more
+invariant-loop-more g l = (text : List ℕ) × Reads l.limit (g.R.Read.remaining l.initial.r) (g.R.Read.remaining l.r) l.unread l.left text
+    × Wrote (lines text) (has l.seen) (g.W.Write.contents l.initial.w) (g.W.Write.contents l.w)
 
-abbrev pub decreases-loop-left : goal.decreases-loop-left
-decreases-loop-left g l = l.left
+abbrev pub decreases-loop-more : goal.decreases-loop-more
+decreases-loop-more g l = l.left

@@ -3,7 +3,7 @@ use Rattle.std.proofs.lemmas.List.{get_or_default}
 use Rattle.hash_texts.specs.Texts.{StandsAt, has, with_text}
 use Rattle.dedup.specs.Tallies.{Tallies}
 use Rattle.dedup.proofs.SeenLemmas.{is_there, not_there}
-use Rattle.dedup.proofs.TallyLemmas.{tallies_again, tallies_new}
+use Rattle.dedup.proofs.TallyLemmas.{as_many, few_times, tallies_again, tallies_new}
 use Rattle.dedup.proofs.tally.count.Goals as goal
 
 pub returns-in-Ok : goal.returns-in-Ok
@@ -20,9 +20,20 @@ returns g c = λ ls line is now.
     let place = c.in_ok-seen.seen.place in
     let there : has old c.args.text.now ≡ true = is_there _ c.in_ok-seen.seen.is_new c.in_ok-seen.ensures.new (search rules) in
     let same : c.see.new.self ≡ old = c.in_ok-seen.ensures.texts ∙ ap (λ b. cond b old (old ++ c.args.text.now ∷ [])) there in
-    let below : place < length times = omega (arith, c.in_ok-seen.ensures.place.0, ap length same, c.requires.as_many) in
-    let was : c.index.result.now ≡ get_or times place 0 = c.index.ensures ∙ get_or_default times place c.index.result.now 0 below in
-    let more : c.in-Some.more ≡ get_or times place 0 + 1 = c.in-Some.ensures.1 ∙ ap (λ n. n + 1) was in
-    subst (λ n. Tallies (ls ++ line ∷ []) c.see.new.self (set times place n)) (sym more)
+    let below : place < length times = omega (arith, c.in_ok-seen.ensures.place.0, ap length same, as_many ls old times now) in
+    let was : c.index_mut.result.now ≡ get_or times place 0 = c.index_mut.ensures.value ∙ get_or_default times place c.index_mut.result.now 0 below in
+    subst (λ n. Tallies (ls ++ line ∷ []) c.see.new.self (set times place (n + 1))) (sym was)
     (tallies_again ls old times now line c.see.new.self place (ap (has old) is ∙ there) (c.in_ok-seen.ensures.texts ∙ ap (with_text old) (sym is))
     (subst (λ t. StandsAt c.see.new.self t place) (sym is) c.in_ok-seen.ensures.place))
+
+pub overflow_add-index_mut : goal.overflow_add-index_mut
+overflow_add-index_mut g c =
+    let (ls, now, few) = c.requires in
+    let old = c.args.texts.now in
+    let times = c.args.times.now.items in
+    let place = c.in_ok-seen.seen.place in
+    let there : has old c.args.text.now ≡ true = is_there _ c.in_ok-seen.seen.is_new c.in_ok-seen.ensures.new (search rules) in
+    let same : c.see.new.self ≡ old = c.in_ok-seen.ensures.texts ∙ ap (λ b. cond b old (old ++ c.args.text.now ∷ [])) there in
+    let below : place < length times = omega (arith, c.in_ok-seen.ensures.place.0, ap length same, as_many ls old times now) in
+    let was : c.index_mut.result.now ≡ get_or times place 0 = c.index_mut.ensures.value ∙ get_or_default times place c.index_mut.result.now 0 below in
+    omega (arith, few, was, few_times ls old times now place below)

@@ -1,38 +1,56 @@
-use Rattle.std.proofs.Common.{rules, arith, ◌≡◌, ◌<◌, ap, sym, subst, ◌∙◌, [], length, IfSome}
-use Rattle.std.specs.Io.BufRead.{strip_last}
-use Rattle.std.specs.Io.KnownBytes.{Consumes}
-use Rattle.std.proofs.lemmas.Bool.{eqb-false}
-use Rattle.std.proofs.lemmas.List.{nil_from_length}
-use Rattle.dedup.proofs.RunLemmas.{counted_at_end, counted_at_line, counting_more, counting_start}
-use Rattle.dedup.proofs.TallyLemmas.{as_many}
+use Rattle.std.proofs.Common.{ℕ, List, [], ◌∷◌, ◌≡◌, ◌<◌, ◌+◌, ◌++◌, ◌∙◌, true, ap, sym, subst, refl, length, append_assoc, length-append, arith}
+use Rattle.std.specs.Io.{StopsAt}
+use Rattle.std.specs.Io.BufRead.{ends_with_byte}
+use Rattle.std.proofs.lemmas.List.{append-nil}
+use Rattle.dedup.specs.Lines.{lines}
+use Rattle.dedup.specs.Tallies.{Tallies}
+use Rattle.dedup.proofs.LineLemmas.{line_through}
+use Rattle.dedup.proofs.RunLemmas.{counted_more, front_is, lines_more, takes_so_far, together, whole_both, whole_line, whole_nothing}
 use Rattle.dedup.proofs.tally.count_lines.Goals as goal
 
-pub loop-init : goal.loop-init
-loop-init g c = counting_start _ _ _ c.requires
+pub loop-taken-init : goal.loop-taken-init
+loop-taken-init g c = ([], refl, whole_nothing, refl, λ ls now. subst (λ l. Tallies l c.args.texts.now c.args.times.now.items) (sym (append-nil ls)) now)
 
 pub count-requires : goal.count-requires
-count-requires g c = record { as_many = as_many _ _ _ c.loop.invariant.counted }
+count-requires g c =
+    let (part, is, whole, counted, tallies) = c.loop-taken.invariant in
+    let (ls, now, few) = c.requires in
+    (ls ++ lines part, tallies ls now, omega (arith, few, counted, length-append ls (lines part)))
 
-pub returns-then-is_empty : goal.returns-then-is_empty
-returns-then-is_empty g c =
-    let line = c.read_line.new.line in
-    let read = c.in_ok-ended.ensures in
-    let none : line.items ≡ [] = nil_from_length line.items (search (rules, arith, line.ok)) in
-    counted_at_end _ _ _ _ c.loop.invariant _ (subst (Consumes _ _) none read.read)
-    (subst (λ items. IfSome (g.R.Read.remaining c.loop.r) (λ bytes. bytes ≡ items)) none (read.all (search rules)))
+pub loop-taken-preserved : goal.loop-taken-preserved
+loop-taken-preserved g c =
+    let (part, is, whole, counted, tallies) = c.loop-taken.invariant in
+    let line : List ℕ = c.split_at.result.0.now in
+    let later : List ℕ = c.split_at.result.1.now in
+    let rest : List ℕ = c.loop-taken.rest.now in
+    let n : ℕ = c.in-Some.n in
+    let (stops, some, ended) = subst (λ l. StopsAt l 10 × (0 < length l) × (ends_with_byte 10 l ≡ true)) (sym c.split_at.ensures.front) (line_through rest n c.in-Some.ensures) in
+    let more = lines_more part line whole stops some in (
+      part ++ line,
+      append_assoc part line later ∙ ap (λ l. part ++ l) (together line later rest (n + 1) c.split_at.ensures.front c.split_at.ensures.back) ∙ is,
+      whole_both part line whole (whole_line line stops some ended),
+      counted_more part line c.loop-taken.taken more counted,
+      λ ls now. subst (λ l. Tallies l c.count.new.texts c.count.new.times.items) (append_assoc ls (lines part) (line ∷ []) ∙ ap (λ l. ls ++ l) (sym more))
+          (c.in_ok-count-in-Some.ensures (ls ++ lines part) line (sym c.text_of.ensures) (tallies ls now)),
+    )
 
-pub returns-then-not-ended : goal.returns-then-not-ended
-returns-then-not-ended g c =
-    let line = c.read_line.new.line in
-    let read = c.in_ok-ended.ensures in
-    let some : 0 < length line.items = omega (arith, line.ok.0, eqb-false _ _ (sym c.if-is_empty.ensures)) in
-    let text_is = ap (strip_last 10) (sym c.deref.ensures.value) ∙ sym c.text_of.ensures in
-    counted_at_line _ _ _ _ c.loop.invariant _ line.items read.read read.stops some _ _ (λ ls now. c.in_ok-count.ensures ls line.items text_is now) (read.all (search rules))
+pub returns-in-None-clause-takes : goal.returns-in-None-clause-takes
+returns-in-None-clause-takes g c =
+    let (part, is, whole, counted, tallies) = c.loop-taken.invariant in
+    takes_so_far part c.loop-taken.rest.now c.args.bytes.now c.args.most c.loop-taken.taken is whole counted (omega arith) (λ below. c.in-None.ensures)
 
-pub loop-preserved : goal.loop-preserved
-loop-preserved g c =
-    let line = c.read_line.new.line in
-    let read = c.in_ok-ended.ensures in
-    let some : 0 < length line.items = omega (arith, line.ok.0, eqb-false _ _ (sym c.if-is_empty.ensures)) in
-    let text_is = ap (strip_last 10) (sym c.deref.ensures.value) ∙ sym c.text_of.ensures in
-    counting_more _ _ _ _ c.loop.invariant _ line.items read.read read.stops some _ _ (λ ls now. c.in_ok-count.ensures ls line.items text_is now) (search rules)
+pub returns-in-None-clause-counted : goal.returns-in-None-clause-counted
+returns-in-None-clause-counted g c =
+    let (part, is, whole, counted, tallies) = c.loop-taken.invariant in
+    λ ls now. subst (λ text. Tallies (ls ++ lines text) c.loop-taken.texts c.loop-taken.times.items) (sym (front_is part c.loop-taken.rest.now c.args.bytes.now is)) (tallies ls now)
+
+pub returns-clause-takes : goal.returns-clause-takes
+returns-clause-takes g c =
+    let (part, is, whole, counted, tallies) = c.loop-taken.invariant in
+    let all : c.loop-taken.taken ≡ c.args.most = omega arith in
+    takes_so_far part c.loop-taken.rest.now c.args.bytes.now c.args.most c.args.most is whole (sym all ∙ counted) (omega arith) (λ below. absurd (omega (arith, below)))
+
+pub returns-clause-counted : goal.returns-clause-counted
+returns-clause-counted g c =
+    let (part, is, whole, counted, tallies) = c.loop-taken.invariant in
+    λ ls now. subst (λ text. Tallies (ls ++ lines text) c.loop-taken.texts c.loop-taken.times.items) (sym (front_is part c.loop-taken.rest.now c.args.bytes.now is)) (tallies ls now)

@@ -1,5 +1,10 @@
-use Rattle.dedup.proofs.RunLemmas.{Counting}
+use Rattle.std.proofs.Common.{ℕ, List, ◌≡◌, ◌++◌, length}
+use Rattle.dedup.specs.Between.{IsWhole}
+use Rattle.dedup.specs.Lines.{lines}
+use Rattle.dedup.specs.Tallies.{Tallies}
 use Rattle.dedup.proofs.tally.count_lines.Given as goal
 
-abbrev pub invariant-loop : goal.invariant-loop
-invariant-loop g l = Counting (g.R.Read.remaining l.initial.r) (g.R.Read.remaining l.r) l.texts l.times.items
+-- what is left of the bytes, behind as many whole lines
+abbrev pub invariant-loop-taken : goal.invariant-loop-taken
+invariant-loop-taken g l = (part : List ℕ) × (part ++ l.rest ≡ l.bytes) × IsWhole part × (l.taken ≡ length (lines part))
+    × ((ls : List (List ℕ)) → Tallies ls l.initial.texts l.initial.times.items → Tallies (ls ++ lines part) l.texts l.times.items)
