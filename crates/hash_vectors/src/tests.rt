@@ -1,4 +1,4 @@
-//! Tests of all crates but the program: values from outside the proofs, and calls that cross the crates.
+//! Tests of the crates of hashes and of the table of buckets: values from outside the proofs, and calls that cross the crates.
 //! What ends a test where it fails stands here, so that it is proved once.
 use std::process::Abort;
 
