@@ -1,4 +1,6 @@
 pub mod ColumnLemmas
+pub mod FirstsLemmas
+pub mod LawLemmas
 pub mod LineLemmas
 pub mod OrderLemmas
 pub mod RunLemmas

@@ -68,7 +68,7 @@ ends_some : (line : List ℕ) → 0 < length line → ends_with_byte 10 line ≡
 ends_some line some = ap (λ b. b && (get_or line (length line - 1) 0 == 10)) (lt-ltb 0 (length line) some)
 
 -- whether bytes end with a newline is told by the later of them
-ends_tail : (byte next : ℕ) (line : List ℕ) → ends_with_byte 10 (byte ∷ next ∷ line) ≡ ends_with_byte 10 (next ∷ line)
+pub ends_tail : (byte next : ℕ) (line : List ℕ) → ends_with_byte 10 (byte ∷ next ∷ line) ≡ ends_with_byte 10 (next ∷ line)
 ends_tail byte next line =
     ends_some (byte ∷ next ∷ line) (omega arith)
     ∙ ap (λ x. x == 10) (get_or_tail byte (next ∷ line) (length (byte ∷ next ∷ line) - 1) 0 (omega arith) ∙ ap (λ k. get_or (next ∷ line) k 0) (the_length (length line)))

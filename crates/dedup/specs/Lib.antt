@@ -1,4 +1,5 @@
 pub mod Between
+pub mod Laws
 pub mod Lines
 pub mod Program
 pub mod Running
