@@ -1,7 +1,6 @@
 //! The hashes of a column of texts, by each name, under offsets of 32 and of 64 bits. Text i lies from offset i to offset i + 1.
-ghost use Rattle.std.specs.Prelude.{◌↔◌, length, IsTrue};
 ghost use Rattle.std.specs.Bool.{OnFalse, OnTrue};
-ghost use Rattle.std.specs.Prelude.{◌≡◌};
+ghost use Rattle.std.specs.Prelude.{◌≡◌, ◌↔◌, length, IsTrue};
 ghost use Rattle.hash_c.specs.Columns.{AreHashes, AreOffsets};
 ghost use Rattle.hashers.specs.Fnv.{fnv1a32_basis, fnv1a32_from, fnv1a64_basis, fnv1a64_from};
 ghost use Rattle.hashers.specs.Fx.{fx32, fx64, words32, words64};

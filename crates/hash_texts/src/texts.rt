@@ -1,5 +1,5 @@
 //! The set of texts.
-ghost use Rattle.std.specs.Prelude.{◌≡◌, ◌<◌, ℕ, List, [], IfOk, IfSome, IfNone, OnOk, OnErr, not, false, length, slice_index_or, drop};
+ghost use Rattle.std.specs.Prelude.{◌≡◌, ◌↔◌, ◌<◌, ℕ, List, [], IfOk, IfSome, IfNone, IsTrue, OnOk, OnErr, not, false, length, slice_index_or, drop};
 ghost use Rattle.std.specs.Iterator.{YieldsFirstRef, item_count};
 ghost use Rattle.hash_texts.specs.Slots.{IsTable, SharesTag, tag_by};
 ghost use Rattle.hash_texts.specs.Texts.{EachOnce, StandsAt, has, with_text};
@@ -105,6 +105,13 @@ impl<S: BuildHasher + Drop> Texts<S> {
         ensures once { EachOnce self.now }
     {
         self.texts.len()
+    }
+
+    /// Whether there is no text.
+    pub fn is_empty(&self) -> bool
+        ensures { IsTrue result ↔ (self.now ≡ []) }
+    {
+        self.len() == 0
     }
 
     /// The text at a place.
