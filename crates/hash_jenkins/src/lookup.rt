@@ -188,6 +188,16 @@ impl Piecewise for Lookup3Hasher {
     }
 
     #[inline(always)]
+    fn feed(&mut self, piece: &[u8]) {
+        self.write(piece);
+    }
+
+    #[inline(always)]
+    fn answer(&self) -> u64 {
+        self.finish()
+    }
+
+    #[inline(always)]
     fn fork(&self) -> Lookup3Hasher {
         Lookup3Hasher {
             pc: self.pc,

@@ -164,6 +164,16 @@ impl Piecewise for SpookyHasher {
         let _parts = &self.parts;
     }
 
+    #[inline(always)]
+    fn feed(&mut self, piece: &[u8]) {
+        self.write(piece);
+    }
+
+    #[inline(always)]
+    fn answer(&self) -> u64 {
+        self.finish()
+    }
+
     fn fork(&self) -> SpookyHasher {
         SpookyHasher {
             parts: self.parts,

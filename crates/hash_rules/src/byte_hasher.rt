@@ -88,6 +88,16 @@ impl<R: ByteRule> Piecewise for ByteHasher<R> {
     }
 
     #[inline(always)]
+    fn feed(&mut self, piece: &[u8]) {
+        self.write(piece);
+    }
+
+    #[inline(always)]
+    fn answer(&self) -> u64 {
+        self.finish()
+    }
+
+    #[inline(always)]
     fn fork(&self) -> ByteHasher<R> {
         ByteHasher {
             state: R::fork(&self.state),

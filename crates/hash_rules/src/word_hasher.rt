@@ -92,6 +92,16 @@ impl<R: WordRule, Name> Piecewise for WordHasher<R, Name> {
     }
 
     #[inline(always)]
+    fn feed(&mut self, piece: &[u8]) {
+        self.write(piece);
+    }
+
+    #[inline(always)]
+    fn answer(&self) -> u64 {
+        self.finish()
+    }
+
+    #[inline(always)]
     fn fork(&self) -> WordHasher<R, Name> {
         WordHasher {
             state: self.state,
