@@ -220,13 +220,19 @@ class Buffers(unittest.TestCase):
         self.assertGreater(turns, 10, f"a call of {spans[0]} seconds")
 
     def test_threads_that_update_one_hash(self) -> None:
-        made, part = hashers.new("spooky"), bytes(1000)
-        threads = [threading.Thread(target=lambda: [made.update(part) for _ in range(200)]) for _ in range(4)]
+        part = bytes(5_000_000)
+
+        def updated(made: hashers.Hash, times: int) -> hashers.Hash:
+            for _ in range(times):
+                made.update(part)
+            return made
+        made = hashers.new("spooky")
+        threads = [threading.Thread(target=updated, args=(made, 20)) for _ in range(4)]
         for thread in threads:
             thread.start()
         for thread in threads:
             thread.join()
-        self.assertEqual(made.words(), hashers.spooky128(bytes(800_000)))
+        self.assertEqual(made.words(), updated(hashers.new("spooky"), 80).words())
 
 
 class ManyTexts(unittest.TestCase):
