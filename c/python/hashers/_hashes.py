@@ -6,7 +6,7 @@ from ctypes import byref
 from threading import Lock
 from typing import TYPE_CHECKING, Callable, Dict, Optional, SupportsIndex, Tuple
 
-from ._library import State, Words, call, has, over, word
+from ._library import Held, State, Words, call, has, over, word
 
 if TYPE_CHECKING:
     from _typeshed import ReadableBuffer as Buffer
@@ -145,16 +145,21 @@ class _NumberHash(Hash):
         super().__init__(name)
         self._write, self._value = call(name + "_write"), value
 
-    def update(self, data: Buffer) -> None:
+    def _go(self, on: Callable[..., int], data: Buffer) -> None:
         with self._lock:
-            self._value = over(lambda text, n: self._write(self._value, text, n), data)
+            if type(data) is bytes:
+                self._value = on(self._value, data, len(data))
+            else:
+                with Held(data) as held:
+                    self._value = on(self._value, held.address, held.length)
+
+    def update(self, data: Buffer) -> None:
+        self._go(self._write, data)
 
     def unwrite(self, data: Buffer) -> None:
         if not has(self._name + "_unwrite"):
             super().unwrite(data)
-        back = call(self._name + "_unwrite")
-        with self._lock:
-            self._value = over(lambda text, n: back(self._value, text, n), data)
+        self._go(call(self._name + "_unwrite"), data)
 
     def copy(self) -> Hash:
         return _NumberHash(self._name, self._value)
@@ -176,8 +181,8 @@ class _SpookyHash(Hash):
         self._state = state
 
     def update(self, data: Buffer) -> None:
-        with self._lock:
-            over(lambda text, n: _spooky_write(byref(self._state), text, n), data)
+        with self._lock, Held(data) as held:
+            _spooky_write(byref(self._state), held.address, held.length)
 
     def words(self) -> Tuple[int, int]:
         with self._lock:

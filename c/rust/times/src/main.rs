@@ -66,7 +66,8 @@ fn measure(works: &[Work], per: usize, turns: usize) -> Vec<f64> {
 }
 
 fn row(name: &str, times: &[Vec<f64>]) {
-    let cell = |sizes: &Vec<f64>| sizes.iter().map(|it| format!("{it:.1}")).collect::<Vec<_>>().join(" / ");
+    let number = |it: &f64| if *it < 1000.0 { format!("{it:.1}") } else { format!("{it:.0}") };
+    let cell = |sides: &Vec<f64>| sides.iter().map(number).collect::<Vec<_>>().join(" / ");
     println!("| `{name}` | {} |", times.iter().map(cell).collect::<Vec<_>>().join(" | "));
 }
 
