@@ -66,7 +66,7 @@ fn unwrite_and_write_undo_one_another() {
 
 #[test]
 fn spooky_in_parts_is_that_of_the_whole() {
-    let bytes: Vec<u8> = (0..500u32).map(|i| (i * 89 >> 2) as u8).collect();
+    let bytes: Vec<u8> = (0..500u32).map(|i| ((i * 89) >> 2) as u8).collect();
     for cut in 0..=bytes.len() {
         let mut hasher = SpookyHasher::new(1, 2);
         hasher.write(&bytes[..cut]);

@@ -57,7 +57,7 @@ fn vectors_by_function_and_by_hasher() {
 
 #[test]
 fn hashers_answer_as_functions_at_each_length() {
-    let bytes: Vec<u8> = (0..400u32).map(|i| (i * 167 >> 3) as u8).collect();
+    let bytes: Vec<u8> = (0..400u32).map(|i| ((i * 167) >> 3) as u8).collect();
     for (name, whole, parts) in NAMES {
         for length in 0..=bytes.len() {
             assert_eq!(whole(&bytes[..length]), parts(&bytes[..length]), "{name} of {length} bytes");
