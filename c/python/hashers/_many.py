@@ -1,0 +1,59 @@
+"""Many texts in one call: the lines of a text, and a column of texts."""
+from __future__ import annotations
+
+from array import array
+from typing import TYPE_CHECKING, Optional, TypeVar, Union, overload
+
+from ._hashes import known
+from ._library import Held, call
+
+if TYPE_CHECKING:
+    from _typeshed import ReadableBuffer as Buffer
+
+Out = TypeVar("Out", bound="Buffer")
+
+
+def hash_lines(name: str, data: Buffer) -> array[int]:
+    """The hash of each line, as an array of 64 bits each. A newline ends a line and is none of its bytes; the last line may have none, and
+    no bytes have no line."""
+    lines = call(known(name) + "_lines")
+    with Held(data) as text:
+        count = lines(text.address, text.length, None, 0)
+        hashes = array("Q", bytes(8 * count))
+        with Held(hashes, writable=True) as room:
+            lines(text.address, text.length, room.address, count)
+    return hashes
+
+
+def _width(offsets: memoryview, length: int) -> int:
+    """The bits of an offset: 32 or 64. A negative one is larger than the data, since signed ones of 32 bits are for data below 2^31."""
+    kind = offsets.format.lstrip("@=<")
+    if kind not in ("I", "i", "L", "l", "Q", "q", "N", "n") or offsets.itemsize not in (4, 8):
+        raise TypeError(f"offsets are whole numbers of 32 or 64 bits, not of the format {offsets.format}")
+    if kind == "i" and length >= 1 << 31:
+        raise ValueError("signed offsets of 32 bits are for less than 2**31 bytes")
+    return 8 * offsets.itemsize
+
+
+@overload
+def hash_column(name: str, offsets: Buffer, data: Buffer, out: None = None) -> array[int]: ...
+@overload
+def hash_column(name: str, offsets: Buffer, data: Buffer, out: Out) -> Out: ...
+def hash_column(name: str, offsets: Buffer, data: Buffer, out: Optional[Out] = None) -> Union[array[int], Out]:
+    """The hash of each text of a column, where text i lies in the data from offset i to offset i + 1, as in Arrow's columns of strings.
+    The offsets are an array of 32 or 64 bits each, one more than there are texts. The hashes go to `out`, a buffer of 8 bytes for each
+    text, or to a new array. ValueError, and nothing is written, where the offsets fall or pass the data."""
+    known(name)
+    with memoryview(offsets) as view, Held(data) as text, Held(offsets) as places:
+        width = _width(view, text.length)
+        count = places.items(width // 8) - 1
+        if count < 0:
+            raise ValueError("there is no offset")
+        hashes: Union[array[int], Out] = array("Q", bytes(8 * count)) if out is None else out
+        with Held(hashes, writable=True) as room:
+            room.apart(text, places)
+            if room.items(8) != count:
+                raise ValueError(f"out has room for {room.items(8)} hashes, not for {count}")
+            if not call(f"{name}_column{width}")(text.address, text.length, places.address, count + 1, room.address, count):
+                raise ValueError("the offsets fall, or pass the data")
+    return hashes
