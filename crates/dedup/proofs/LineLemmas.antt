@@ -53,7 +53,7 @@ module _ (eol : ℕ) where
       let below = firsts_begins before more in
       (filter other below.0, ap (λ kept. first ∷ filter other kept) below.1 ∙ ap (λ kept. first ∷ kept) (filter-append other (firsts_by eol before) below.0))
 
-  -- the first of several bytes before a newline is none, and the others stop there too
+  -- the first of several bytes before an end is none, and the others stop there too
   stops_tail : (byte next : ℕ) (line : List ℕ) → StopsAt (byte ∷ next ∷ line) eol → (byte ≢ eol) × StopsAt (next ∷ line) eol
   stops_tail byte next line stops =
       let whole = byte ∷ next ∷ line in
@@ -68,7 +68,7 @@ module _ (eol : ℕ) where
   ends_some : (line : List ℕ) → 0 < length line → ends_with_byte eol line ≡ (get_or line (length line - 1) 0 == eol)
   ends_some line some = ap (λ b. b && (get_or line (length line - 1) 0 == eol)) (lt-ltb 0 (length line) some)
 
-  -- whether bytes end with a newline is told by the later of them
+  -- whether bytes end with an end is told by the later of them
   ends_tail : (byte next : ℕ) (line : List ℕ) → ends_with_byte eol (byte ∷ next ∷ line) ≡ ends_with_byte eol (next ∷ line)
   ends_tail byte next line =
       ends_some (byte ∷ next ∷ line) (omega arith)
@@ -78,7 +78,7 @@ module _ (eol : ℕ) where
       the_length : (n : ℕ) → suc (suc n) - 1 - 1 ≡ suc n - 1
       the_length n = omega arith
 
-  -- a line with a newline at its end and nowhere else is the first line of what it begins
+  -- a line with what ends it at its end and nowhere else is the first line of what it begins
   pub lines_of_line : (line more : List ℕ) → StopsAt line eol → ends_with_byte eol line ≡ true → lines_by eol (line ++ more) ≡ line ∷ (lines_by eol) more
   lines_of_line [] more stops ends = absurd (false≢true ends)
   lines_of_line (byte ∷ []) more stops ends = ap (λ b. cond b ((byte ∷ []) ∷ (lines_by eol) more) (onto_first byte (lines_by eol more))) ends
@@ -87,7 +87,7 @@ module _ (eol : ℕ) where
       ap (λ b. cond b ((byte ∷ []) ∷ (lines_by eol) (next ∷ line ++ more)) (onto_first byte (lines_by eol (next ∷ line ++ more)))) (ne_eqb byte eol other)
       ∙ ap (onto_first byte) (lines_of_line (next ∷ line) more later (sym (ends_tail byte next line) ∙ ends))
 
-  -- bytes without a newline before the last are one line
+  -- bytes without an end before the last are one line
   pub one_line : (line : List ℕ) → StopsAt line eol → 0 < length line → lines_by eol line ≡ line ∷ []
   one_line [] stops some = absurd (omega arith)
   one_line (byte ∷ []) stops some = at (byte == eol)
@@ -100,7 +100,7 @@ module _ (eol : ℕ) where
       ap (λ b. cond b ((byte ∷ []) ∷ (lines_by eol) (next ∷ line)) (onto_first byte (lines_by eol (next ∷ line)))) (ne_eqb byte eol other)
       ∙ ap (onto_first byte) (one_line (next ∷ line) later (omega arith))
 
-  -- bytes without a newline are one line
+  -- bytes without an end are one line
   pub bare_line : (line : List ℕ) → IsBare eol line → 0 < length line → lines_by eol line ≡ line ∷ []
   bare_line [] bare some = absurd (omega arith)
   bare_line (byte ∷ []) bare some = ap (λ b. cond b ((byte ∷ []) ∷ []) (onto_first byte [])) (ne_eqb byte eol (bare 0 (omega arith)))
@@ -108,7 +108,7 @@ module _ (eol : ℕ) where
       ap (λ b. cond b ((byte ∷ []) ∷ (lines_by eol) (next ∷ line)) (onto_first byte (lines_by eol (next ∷ line)))) (ne_eqb byte eol (bare 0 (omega arith)))
       ∙ ap (onto_first byte) (bare_line (next ∷ line) (λ k below. bare (suc k) (omega arith)) (omega arith))
 
-  -- bytes without a newline are a text
+  -- bytes without an end are a text
   pub bare_text : (line : List ℕ) → IsBare eol line → strip_last eol line ≡ line
   bare_text [] bare = refl
   bare_text (byte ∷ line) bare =
@@ -145,7 +145,7 @@ module _ (eol : ℕ) where
       let (rest, is) = firsts_begins eol ls more in
       (flat_map (as_line_by eol) rest, ap (flat_map (as_line_by eol)) is ∙ flat_map-append (as_line_by eol) (firsts_by eol ls) rest)
 
-  -- the bytes through the first newline are a line
+  -- the bytes through the first end are a line
   pub line_through : (rest : List ℕ) (n : ℕ) → IsLineEnd eol rest (Some n) → StopsAt (take (n + 1) rest) eol × (0 < length (take (n + 1) rest)) × (ends_with_byte eol (take (n + 1) rest) ≡ true)
   line_through rest n (below, is, before) =
       let long : length (take (n + 1) rest) ≡ n + 1 = length-take-le (n + 1) rest (omega arith) in

@@ -202,7 +202,7 @@ module _ (eol : ℕ) where
           let line : 0 < length (lines_by eol (unread' ++ it.0)) = some_line eol (unread' ++ it.0) (omega (arith, some, length-append unread' it.0)) in
           omega (arith, reads.counted, none, line, ap length split, length-append (lines_by eol text) (lines_by eol (unread' ++ it.0)))) (begins start left' (text ++ unread') read_on)
 
-      -- all was read, and the last line has no newline
+      -- all was read, and the last line has no end
       module _ (over : more ≡ false) (fits : most ≡ 0 → unread' ≡ []) where
         pub last_bare : IsBare eol unread'
         last_bare = elim (cases_lt 0 most) [
@@ -283,7 +283,7 @@ module _ (eol : ℕ) where
         bare = λ some. takes.bare (omega (arith, some));
       }
 
-      -- where a newline came, a line may be taken
+      -- where an end came, a line may be taken
       pub some_left : more ≡ true → (most ≡ 0 → unread' ≡ []) → 0 < most
       some_left came fits = elim (cases_lt 0 most) [
         | inl some ↦ some
@@ -297,7 +297,7 @@ module _ (eol : ℕ) where
         | inr none ↦ absurd (omega (arith, bytes, ap length (fits (omega (arith, none)))))
       ]
 
-      -- where a newline came, a line is taken
+      -- where an end came, a line is taken
       pub takes_some : more ≡ true → 0 < most → (count len : ℕ) → Takes eol unread' most count len → 0 < count
       takes_some came some count len takes = elim (cases_lt 0 count) [
         | inl taken ↦ taken

@@ -19,7 +19,7 @@ has_already seen text there other = at (bytes_eq other text) refl
     at false same = refl
 
 module _ (eol : ℕ) where
-  -- of a line whose text is new all is written, and a newline
+  -- of a line whose text is new all is written, and its end
   pub new_is_line : (seen : List (List ℕ)) (line : List ℕ) → true ≡ not (has seen (strip_last eol line)) → as_line_by eol line ≡ if_new_by eol seen line
   new_is_line seen line new = at (has seen (strip_last eol line)) new
     where

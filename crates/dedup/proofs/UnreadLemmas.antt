@@ -17,7 +17,7 @@ tail_is : (bytes : List ℕ) (n : ℕ) → take (length bytes - n) (drop n bytes
 tail_is bytes n = take_all (length bytes - n) (drop n bytes) (omega (arith, length-drop n bytes))
 
 module _ (eol : ℕ) where
-  -- where a newline is found behind so many bytes, there is one
+  -- where an end is found behind so many bytes, there is one
   pub found_end : (bytes : List ℕ) (n : ℕ) (result : Option ℕ) → IsLineEnd eol (take (length bytes - n) (drop n bytes)) result → is_some result ≡ true → ¬ (IsBare eol) bytes
   found_end bytes n result at found = there result (subst (λ rest. IsLineEnd eol rest result) (tail_is bytes n) at) found
     where

@@ -1,7 +1,7 @@
 use Rattle.std.proofs.Common.{ℕ, ◌≢◌, ◌<◌, ◌≤◌, ◌-◌, length, get_or}
 use Rattle.dedup.proofs.lines.line_end.Given as goal
 
--- no byte so far is a newline
+-- no byte so far is an end
 abbrev pub invariant-loop-at : goal.invariant-loop-at
 invariant-loop-at l = (l.at ≤ length l.bytes) × ((k : ℕ) → k < l.at → get_or l.bytes k 0 ≢ l.eol)
 
