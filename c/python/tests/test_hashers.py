@@ -102,8 +102,6 @@ class AgainstTheHeader(unittest.TestCase):
         project = (C / "python" / "pyproject.toml").read_text(encoding="utf-8")
         self.assertEqual(hashers.__version__, wanted)
         self.assertEqual(re.findall(r'^version = "(.*)"', project, re.M), [wanted])
-        project = (Path(__file__).parents[1] / "pyproject.toml").read_text(encoding="utf-8")
-        self.assertIn(f'\nversion = "{wanted}"\n', project)
         self.assertIn(f'HASHERS_VERSION_STRING "{wanted}"', HEADER)
 
 

@@ -8,154 +8,156 @@ use Rattle.std.proofs.lemmas.Cmp.{nat_list_eq_equiv}
 use Rattle.std.proofs.lemmas.List.{append-nil, take_rest, get_or-take, get_or_default, length-take, length-take-le}
 use Rattle.std.proofs.lemmas.Grind.{flat_map-append, get_or_tail}
 use Rattle.std.proofs.lemmas.List.Elements.{All-head, All-tail, filter-append}
-use Rattle.dedup.specs.Between.{IsBare, IsNewline}
-use Rattle.dedup.specs.Lines.{lines, same_text, firsts, as_line, once}
+use Rattle.dedup.specs.Between.{IsBare, IsLineEnd}
+use Rattle.dedup.specs.Lines.{lines_by, same_text_by, firsts_by, as_line_by, once_by}
 
-pub same_text-symm : (line other : List ℕ) → same_text line other ≡ same_text other line
-same_text-symm line other = nat_list_eq_equiv.symm (strip_last 10 line) (strip_last 10 other)
+module _ (eol : ℕ) where
+  pub same_text-symm : (line other : List ℕ) → same_text_by eol line other ≡ same_text_by eol other line
+  same_text-symm line other = nat_list_eq_equiv.symm (strip_last eol line) (strip_last eol other)
 
--- a line more is kept where none before it has its text
-pub firsts_more : (before : List (List ℕ)) (line : List ℕ)
-    → firsts (before ++ line ∷ []) ≡ cond (list_any (same_text line) before) (firsts before) (firsts before ++ line ∷ [])
-firsts_more [] line = refl
-firsts_more (first ∷ before) line =
-    ap (λ more. first ∷ filter other more) (firsts_more before line)
-    ∙ at (list_any (same_text line) before) (same_text line first) (same_text-symm first line)
-  where
-    other : List ℕ → Bool
-    other x = not (same_text first x)
+  -- a line more is kept where none before it has its text
+  pub firsts_more : (before : List (List ℕ)) (line : List ℕ)
+      → firsts_by eol (before ++ line ∷ []) ≡ cond (list_any (same_text_by eol line) before) (firsts_by eol before) (firsts_by eol before ++ line ∷ [])
+  firsts_more [] line = refl
+  firsts_more (first ∷ before) line =
+      ap (λ more. first ∷ filter other more) (firsts_more before line)
+      ∙ at (list_any (same_text_by eol line) before) (same_text_by eol line first) (same_text-symm first line)
+    where
+      other : List ℕ → Bool
+      other x = not (same_text_by eol first x)
 
-    end : (is : Bool) → first ∷ (filter other (firsts before) ++ cond (not is) (line ∷ []) []) ≡ cond (is || false) (first ∷ filter other (firsts before)) (first ∷ filter other (firsts before) ++ line ∷ [])
-    end true = ap (λ kept. first ∷ kept) (append-nil _)
-    end false = refl
+      end : (is : Bool) → first ∷ (filter other (firsts_by eol before) ++ cond (not is) (line ∷ []) []) ≡ cond (is || false) (first ∷ filter other (firsts_by eol before)) (first ∷ filter other (firsts_by eol before) ++ line ∷ [])
+      end true = ap (λ kept. first ∷ kept) (append-nil _)
+      end false = refl
 
-    at : (among is : Bool) → same_text first line ≡ is
-        → first ∷ filter other (cond among (firsts before) (firsts before ++ line ∷ []))
-        ≡ cond (is || among) (first ∷ filter other (firsts before)) (first ∷ filter other (firsts before) ++ line ∷ [])
-    at true true same = refl
-    at true false same = refl
-    at false is same = ap (λ kept. first ∷ kept) (filter-append other (firsts before) (line ∷ []) ∙ ap (λ b. filter other (firsts before) ++ cond (not b) (line ∷ []) []) same) ∙ end is
+      at : (among is : Bool) → same_text_by eol first line ≡ is
+          → first ∷ filter other (cond among (firsts_by eol before) (firsts_by eol before ++ line ∷ []))
+          ≡ cond (is || among) (first ∷ filter other (firsts_by eol before)) (first ∷ filter other (firsts_by eol before) ++ line ∷ [])
+      at true true same = refl
+      at true false same = refl
+      at false is same = ap (λ kept. first ∷ kept) (filter-append other (firsts_by eol before) (line ∷ []) ∙ ap (λ b. filter other (firsts_by eol before) ++ cond (not b) (line ∷ []) []) same) ∙ end is
 
--- a line with a new text is one line more
-pub firsts_with_new : (ls : List (List ℕ)) (line : List ℕ) → list_any (same_text line) ls ≡ false → firsts (ls ++ line ∷ []) ≡ firsts ls ++ line ∷ []
-firsts_with_new ls line new = firsts_more ls line ∙ ap (λ b. cond b (firsts ls) (firsts ls ++ line ∷ [])) new
+  -- a line with a new text is one line more
+  pub firsts_with_new : (ls : List (List ℕ)) (line : List ℕ) → list_any (same_text_by eol line) ls ≡ false → firsts_by eol (ls ++ line ∷ []) ≡ firsts_by eol ls ++ line ∷ []
+  firsts_with_new ls line new = firsts_more ls line ∙ ap (λ b. cond b (firsts_by eol ls) (firsts_by eol ls ++ line ∷ [])) new
 
--- a line whose text came before is none
-pub firsts_with_seen : (ls : List (List ℕ)) (line : List ℕ) → list_any (same_text line) ls ≡ true → firsts (ls ++ line ∷ []) ≡ firsts ls
-firsts_with_seen ls line seen = firsts_more ls line ∙ ap (λ b. cond b (firsts ls) (firsts ls ++ line ∷ [])) seen
+  -- a line whose text came before is none
+  pub firsts_with_seen : (ls : List (List ℕ)) (line : List ℕ) → list_any (same_text_by eol line) ls ≡ true → firsts_by eol (ls ++ line ∷ []) ≡ firsts_by eol ls
+  firsts_with_seen ls line seen = firsts_more ls line ∙ ap (λ b. cond b (firsts_by eol ls) (firsts_by eol ls ++ line ∷ [])) seen
 
--- further lines change nothing before them
-pub firsts_begins : (before more : List (List ℕ)) → (rest : List (List ℕ)) × (firsts (before ++ more) ≡ firsts before ++ rest)
-firsts_begins [] more = (firsts more, refl)
-firsts_begins (first ∷ before) more =
-    let other : List ℕ → Bool = λ x. not (same_text first x) in
-    let below = firsts_begins before more in
-    (filter other below.0, ap (λ kept. first ∷ filter other kept) below.1 ∙ ap (λ kept. first ∷ kept) (filter-append other (firsts before) below.0))
+  -- further lines change nothing before them
+  pub firsts_begins : (before more : List (List ℕ)) → (rest : List (List ℕ)) × (firsts_by eol (before ++ more) ≡ firsts_by eol before ++ rest)
+  firsts_begins [] more = (firsts_by eol more, refl)
+  firsts_begins (first ∷ before) more =
+      let other : List ℕ → Bool = λ x. not (same_text_by eol first x) in
+      let below = firsts_begins before more in
+      (filter other below.0, ap (λ kept. first ∷ filter other kept) below.1 ∙ ap (λ kept. first ∷ kept) (filter-append other (firsts_by eol before) below.0))
 
--- the first of several bytes before a newline is none, and the others stop there too
-stops_tail : (byte next : ℕ) (line : List ℕ) → StopsAt (byte ∷ next ∷ line) 10 → (byte ≢ 10) × StopsAt (next ∷ line) 10
-stops_tail byte next line stops =
-    let whole = byte ∷ next ∷ line in
-    let same : take (length whole - 1) whole ≡ byte ∷ take (length (next ∷ line) - 1) (next ∷ line) =
-    ap (λ k. take k whole) (the_length (length line)) in
-    let all = subst (All (λ x. x ≢ 10)) same stops in
-    (All-head (λ x. x ≢ 10) byte _ all, All-tail (λ x. x ≢ 10) byte _ all)
-  where
-    the_length : (n : ℕ) → suc (suc n) - 1 ≡ suc (suc n - 1)
-    the_length n = omega arith
+  -- the first of several bytes before an end is none, and the others stop there too
+  stops_tail : (byte next : ℕ) (line : List ℕ) → StopsAt (byte ∷ next ∷ line) eol → (byte ≢ eol) × StopsAt (next ∷ line) eol
+  stops_tail byte next line stops =
+      let whole = byte ∷ next ∷ line in
+      let same : take (length whole - 1) whole ≡ byte ∷ take (length (next ∷ line) - 1) (next ∷ line) =
+      ap (λ k. take k whole) (the_length (length line)) in
+      let all = subst (All (λ x. x ≢ eol)) same stops in
+      (All-head (λ x. x ≢ eol) byte _ all, All-tail (λ x. x ≢ eol) byte _ all)
+    where
+      the_length : (n : ℕ) → suc (suc n) - 1 ≡ suc (suc n - 1)
+      the_length n = omega arith
 
-ends_some : (line : List ℕ) → 0 < length line → ends_with_byte 10 line ≡ (get_or line (length line - 1) 0 == 10)
-ends_some line some = ap (λ b. b && (get_or line (length line - 1) 0 == 10)) (lt-ltb 0 (length line) some)
+  ends_some : (line : List ℕ) → 0 < length line → ends_with_byte eol line ≡ (get_or line (length line - 1) 0 == eol)
+  ends_some line some = ap (λ b. b && (get_or line (length line - 1) 0 == eol)) (lt-ltb 0 (length line) some)
 
--- whether bytes end with a newline is told by the later of them
-pub ends_tail : (byte next : ℕ) (line : List ℕ) → ends_with_byte 10 (byte ∷ next ∷ line) ≡ ends_with_byte 10 (next ∷ line)
-ends_tail byte next line =
-    ends_some (byte ∷ next ∷ line) (omega arith)
-    ∙ ap (λ x. x == 10) (get_or_tail byte (next ∷ line) (length (byte ∷ next ∷ line) - 1) 0 (omega arith) ∙ ap (λ k. get_or (next ∷ line) k 0) (the_length (length line)))
-    ∙ sym (ends_some (next ∷ line) (omega arith))
-  where
-    the_length : (n : ℕ) → suc (suc n) - 1 - 1 ≡ suc n - 1
-    the_length n = omega arith
+  -- whether bytes end with an end is told by the later of them
+  pub ends_tail : (byte next : ℕ) (line : List ℕ) → ends_with_byte eol (byte ∷ next ∷ line) ≡ ends_with_byte eol (next ∷ line)
+  ends_tail byte next line =
+      ends_some (byte ∷ next ∷ line) (omega arith)
+      ∙ ap (λ x. x == eol) (get_or_tail byte (next ∷ line) (length (byte ∷ next ∷ line) - 1) 0 (omega arith) ∙ ap (λ k. get_or (next ∷ line) k 0) (the_length (length line)))
+      ∙ sym (ends_some (next ∷ line) (omega arith))
+    where
+      the_length : (n : ℕ) → suc (suc n) - 1 - 1 ≡ suc n - 1
+      the_length n = omega arith
 
--- a line with a newline at its end and nowhere else is the first line of what it begins
-pub lines_of_line : (line more : List ℕ) → StopsAt line 10 → ends_with_byte 10 line ≡ true → lines (line ++ more) ≡ line ∷ lines more
-lines_of_line [] more stops ends = absurd (false≢true ends)
-lines_of_line (byte ∷ []) more stops ends = ap (λ b. cond b ((byte ∷ []) ∷ lines more) (onto_first byte (lines more))) ends
-lines_of_line (byte ∷ next ∷ line) more stops ends =
-    let (other, later) = stops_tail byte next line stops in
-    ap (λ b. cond b ((byte ∷ []) ∷ lines (next ∷ line ++ more)) (onto_first byte (lines (next ∷ line ++ more)))) (ne_eqb byte 10 other)
-    ∙ ap (onto_first byte) (lines_of_line (next ∷ line) more later (sym (ends_tail byte next line) ∙ ends))
+  -- a line with what ends it at its end and nowhere else is the first line of what it begins
+  pub lines_of_line : (line more : List ℕ) → StopsAt line eol → ends_with_byte eol line ≡ true → lines_by eol (line ++ more) ≡ line ∷ (lines_by eol) more
+  lines_of_line [] more stops ends = absurd (false≢true ends)
+  lines_of_line (byte ∷ []) more stops ends = ap (λ b. cond b ((byte ∷ []) ∷ (lines_by eol) more) (onto_first byte (lines_by eol more))) ends
+  lines_of_line (byte ∷ next ∷ line) more stops ends =
+      let (other, later) = stops_tail byte next line stops in
+      ap (λ b. cond b ((byte ∷ []) ∷ (lines_by eol) (next ∷ line ++ more)) (onto_first byte (lines_by eol (next ∷ line ++ more)))) (ne_eqb byte eol other)
+      ∙ ap (onto_first byte) (lines_of_line (next ∷ line) more later (sym (ends_tail byte next line) ∙ ends))
 
--- bytes without a newline before the last are one line
-pub one_line : (line : List ℕ) → StopsAt line 10 → 0 < length line → lines line ≡ line ∷ []
-one_line [] stops some = absurd (omega arith)
-one_line (byte ∷ []) stops some = at (byte == 10)
-  where
-    at : (b : Bool) → cond b ((byte ∷ []) ∷ []) (onto_first byte []) ≡ (byte ∷ []) ∷ []
-    at true = refl
-    at false = refl
-one_line (byte ∷ next ∷ line) stops some =
-    let (other, later) = stops_tail byte next line stops in
-    ap (λ b. cond b ((byte ∷ []) ∷ lines (next ∷ line)) (onto_first byte (lines (next ∷ line)))) (ne_eqb byte 10 other)
-    ∙ ap (onto_first byte) (one_line (next ∷ line) later (omega arith))
+  -- bytes without an end before the last are one line
+  pub one_line : (line : List ℕ) → StopsAt line eol → 0 < length line → lines_by eol line ≡ line ∷ []
+  one_line [] stops some = absurd (omega arith)
+  one_line (byte ∷ []) stops some = at (byte == eol)
+    where
+      at : (b : Bool) → cond b ((byte ∷ []) ∷ []) (onto_first byte []) ≡ (byte ∷ []) ∷ []
+      at true = refl
+      at false = refl
+  one_line (byte ∷ next ∷ line) stops some =
+      let (other, later) = stops_tail byte next line stops in
+      ap (λ b. cond b ((byte ∷ []) ∷ (lines_by eol) (next ∷ line)) (onto_first byte (lines_by eol (next ∷ line)))) (ne_eqb byte eol other)
+      ∙ ap (onto_first byte) (one_line (next ∷ line) later (omega arith))
 
--- bytes without a newline are one line
-pub bare_line : (line : List ℕ) → IsBare line → 0 < length line → lines line ≡ line ∷ []
-bare_line [] bare some = absurd (omega arith)
-bare_line (byte ∷ []) bare some = ap (λ b. cond b ((byte ∷ []) ∷ []) (onto_first byte [])) (ne_eqb byte 10 (bare 0 (omega arith)))
-bare_line (byte ∷ next ∷ line) bare some =
-    ap (λ b. cond b ((byte ∷ []) ∷ lines (next ∷ line)) (onto_first byte (lines (next ∷ line)))) (ne_eqb byte 10 (bare 0 (omega arith)))
-    ∙ ap (onto_first byte) (bare_line (next ∷ line) (λ k below. bare (suc k) (omega arith)) (omega arith))
+  -- bytes without an end are one line
+  pub bare_line : (line : List ℕ) → IsBare eol line → 0 < length line → lines_by eol line ≡ line ∷ []
+  bare_line [] bare some = absurd (omega arith)
+  bare_line (byte ∷ []) bare some = ap (λ b. cond b ((byte ∷ []) ∷ []) (onto_first byte [])) (ne_eqb byte eol (bare 0 (omega arith)))
+  bare_line (byte ∷ next ∷ line) bare some =
+      ap (λ b. cond b ((byte ∷ []) ∷ (lines_by eol) (next ∷ line)) (onto_first byte (lines_by eol (next ∷ line)))) (ne_eqb byte eol (bare 0 (omega arith)))
+      ∙ ap (onto_first byte) (bare_line (next ∷ line) (λ k below. bare (suc k) (omega arith)) (omega arith))
 
--- bytes without a newline are a text
-pub bare_text : (line : List ℕ) → IsBare line → strip_last 10 line ≡ line
-bare_text [] bare = refl
-bare_text (byte ∷ line) bare =
-    let all : List ℕ = byte ∷ line in
-    ap (λ b. cond b (take (length all - 1) all) all) (ends_some all (omega arith) ∙ ne_eqb _ 10 (bare (length all - 1) (omega arith)))
+  -- bytes without an end are a text
+  pub bare_text : (line : List ℕ) → IsBare eol line → strip_last eol line ≡ line
+  bare_text [] bare = refl
+  bare_text (byte ∷ line) bare =
+      let all : List ℕ = byte ∷ line in
+      ap (λ b. cond b (take (length all - 1) all) all) (ends_some all (omega arith) ∙ ne_eqb _ eol (bare (length all - 1) (omega arith)))
 
--- where there are bytes, there is a line
-pub some_line : (text : List ℕ) → 0 < length text → 0 < length (lines text)
-some_line [] some = absurd (omega arith)
-some_line (byte ∷ text) some = at (byte == 10) (lines text)
-  where
-    at : (b : Bool) (ls : List (List ℕ)) → 0 < length (cond b ((byte ∷ []) ∷ ls) (onto_first byte ls))
-    at true ls = omega arith
-    at false [] = omega arith
-    at false (line ∷ ls) = omega arith
+  -- where there are bytes, there is a line
+  pub some_line : (text : List ℕ) → 0 < length text → 0 < length (lines_by eol text)
+  some_line [] some = absurd (omega arith)
+  some_line (byte ∷ text) some = at (byte == eol) (lines_by eol text)
+    where
+      at : (b : Bool) (ls : List (List ℕ)) → 0 < length (cond b ((byte ∷ []) ∷ ls) (onto_first byte ls))
+      at true ls = omega arith
+      at false [] = omega arith
+      at false (line ∷ ls) = omega arith
 
 -- what is written and what is left of some bytes, after more of them
 pub taken_more : (part rest bytes : List ℕ) (n : ℕ) → part ++ rest ≡ bytes → (part ++ take n rest) ++ take (length rest - n) (drop n rest) ≡ bytes
 taken_more part rest bytes n is =
     ap (λ t. (part ++ take n rest) ++ t) (take_rest rest n) ∙ append_assoc part (take n rest) (drop n rest) ∙ ap (λ t. part ++ t) (take-append-drop n rest) ∙ is
 
--- what a line adds
-pub once_more : (ls : List (List ℕ)) (line : List ℕ) → once (ls ++ line ∷ []) ≡ once ls ++ (if list_any (same_text line) ls then [] else as_line line)
-once_more ls line = ap (flat_map as_line) (firsts_more ls line) ∙ at (list_any (same_text line) ls)
-  where
-    at : (b : Bool) → flat_map as_line (cond b (firsts ls) (firsts ls ++ line ∷ [])) ≡ once ls ++ cond b [] (as_line line)
-    at true = sym (append-nil _)
-    at false = flat_map-append as_line (firsts ls) (line ∷ []) ∙ ap (λ l. once ls ++ l) (append-nil (as_line line))
+module _ (eol : ℕ) where
+  -- what a line adds
+  pub once_more : (ls : List (List ℕ)) (line : List ℕ) → once_by eol (ls ++ line ∷ []) ≡ once_by eol ls ++ (if list_any (same_text_by eol line) ls then [] else as_line_by eol line)
+  once_more ls line = ap (flat_map (as_line_by eol)) (firsts_more eol ls line) ∙ at (list_any (same_text_by eol line) ls)
+    where
+      at : (b : Bool) → flat_map (as_line_by eol) (cond b (firsts_by eol ls) (firsts_by eol ls ++ line ∷ [])) ≡ once_by eol ls ++ cond b [] (as_line_by eol line)
+      at true = sym (append-nil _)
+      at false = flat_map-append (as_line_by eol) (firsts_by eol ls) (line ∷ []) ∙ ap (λ l. once_by eol ls ++ l) (append-nil (as_line_by eol line))
 
--- what further lines add stands behind what was there
-pub once_begins : (ls more : List (List ℕ)) → (rest : List ℕ) × (once (ls ++ more) ≡ once ls ++ rest)
-once_begins ls more =
-    let (rest, is) = firsts_begins ls more in
-    (flat_map as_line rest, ap (flat_map as_line) is ∙ flat_map-append as_line (firsts ls) rest)
+  -- what further lines add stands behind what was there
+  pub once_begins : (ls more : List (List ℕ)) → (rest : List ℕ) × (once_by eol (ls ++ more) ≡ once_by eol ls ++ rest)
+  once_begins ls more =
+      let (rest, is) = firsts_begins eol ls more in
+      (flat_map (as_line_by eol) rest, ap (flat_map (as_line_by eol)) is ∙ flat_map-append (as_line_by eol) (firsts_by eol ls) rest)
 
--- the bytes through the first newline are a line
-pub line_through : (rest : List ℕ) (n : ℕ) → IsNewline rest (Some n) → StopsAt (take (n + 1) rest) 10 × (0 < length (take (n + 1) rest)) × (ends_with_byte 10 (take (n + 1) rest) ≡ true)
-line_through rest n (below, is, before) =
-    let long : length (take (n + 1) rest) ≡ n + 1 = length-take-le (n + 1) rest (omega arith) in
-    let some : 0 < length (take (n + 1) rest) = omega arith in
-    let last : ℕ = length (take (n + 1) rest) - 1 in (
-      λ k d below_last.
-          let within : k < length (take (n + 1) rest) - 1 = omega (arith, below_last, length-take (length (take (n + 1) rest) - 1) (take (n + 1) rest)) in
-          let short : k < n = omega (arith, long, within) in
-          subst (λ x. x ≢ 10) (sym (get_or-take last (take (n + 1) rest) k d within ∙ get_or-take (n + 1) rest k d (omega arith) ∙ get_or_default rest k d 0 (omega arith))) (before k short),
-      some,
-      ends_some (take (n + 1) rest) some ∙ eq-eqb _ _ (ap (λ m. get_or (take (n + 1) rest) (m - 1) 0) long ∙ get_or-take (n + 1) rest (n + 1 - 1) 0 (omega arith) ∙ ap (λ m. get_or rest m 0) (one_less n) ∙ is),
-    )
-  where
-    one_less : (n : ℕ) → n + 1 - 1 ≡ n
-    one_less n = omega arith
+  -- the bytes through the first end are a line
+  pub line_through : (rest : List ℕ) (n : ℕ) → IsLineEnd eol rest (Some n) → StopsAt (take (n + 1) rest) eol × (0 < length (take (n + 1) rest)) × (ends_with_byte eol (take (n + 1) rest) ≡ true)
+  line_through rest n (below, is, before) =
+      let long : length (take (n + 1) rest) ≡ n + 1 = length-take-le (n + 1) rest (omega arith) in
+      let some : 0 < length (take (n + 1) rest) = omega arith in
+      let last : ℕ = length (take (n + 1) rest) - 1 in (
+        λ k d below_last.
+            let within : k < length (take (n + 1) rest) - 1 = omega (arith, below_last, length-take (length (take (n + 1) rest) - 1) (take (n + 1) rest)) in
+            let short : k < n = omega (arith, long, within) in
+            subst (λ x. x ≢ eol) (sym (get_or-take last (take (n + 1) rest) k d within ∙ get_or-take (n + 1) rest k d (omega arith) ∙ get_or_default rest k d 0 (omega arith))) (before k short),
+        some,
+        ends_some eol (take (n + 1) rest) some ∙ eq-eqb _ _ (ap (λ m. get_or (take (n + 1) rest) (m - 1) 0) long ∙ get_or-take (n + 1) rest (n + 1 - 1) 0 (omega arith) ∙ ap (λ m. get_or rest m 0) (one_less n) ∙ is),
+      )
+    where
+      one_less : (n : ℕ) → n + 1 - 1 ≡ n
+      one_less n = omega arith

@@ -7,7 +7,7 @@ use Rattle.std.proofs.lemmas.Bool.{false≢true}
 use Rattle.std.proofs.lemmas.Cmp.{nat_list_eq_equiv}
 use Rattle.std.proofs.lemmas.List.Folds.{list_any-append}
 use Rattle.std.proofs.lemmas.Map.Steps.{list_any_congr}
-use Rattle.dedup.specs.Lines.{as_line, if_new}
+use Rattle.dedup.specs.Lines.{as_line_by, if_new_by}
 use Rattle.hash_texts.specs.Texts.{has, with_text}
 
 -- a text that is seen adds nothing
@@ -18,21 +18,22 @@ has_already seen text there other = at (bytes_eq other text) refl
     at true same = list_any_congr nat_list_eq_equiv other text seen same ∙ there
     at false same = refl
 
--- of a line whose text is new all is written, and a newline
-pub new_is_line : (seen : List (List ℕ)) (line : List ℕ) → true ≡ not (has seen (strip_last 10 line)) → as_line line ≡ if_new seen line
-new_is_line seen line new = at (has seen (strip_last 10 line)) new
-  where
-    at : (b : Bool) → true ≡ not b → as_line line ≡ (if b then [] else as_line line)
-    at true is = absurd (false≢true (sym is))
-    at false is = refl
+module _ (eol : ℕ) where
+  -- of a line whose text is new all is written, and its end
+  pub new_is_line : (seen : List (List ℕ)) (line : List ℕ) → true ≡ not (has seen (strip_last eol line)) → as_line_by eol line ≡ if_new_by eol seen line
+  new_is_line seen line new = at (has seen (strip_last eol line)) new
+    where
+      at : (b : Bool) → true ≡ not b → as_line_by eol line ≡ (if b then [] else as_line_by eol line)
+      at true is = absurd (false≢true (sym is))
+      at false is = refl
 
--- of a line whose text is there nothing is written
-pub old_is_none : (seen : List (List ℕ)) (line : List ℕ) → false ≡ not (has seen (strip_last 10 line)) → [] ≡ if_new seen line
-old_is_none seen line old = at (has seen (strip_last 10 line)) old
-  where
-    at : (b : Bool) → false ≡ not b → [] ≡ (if b then [] else as_line line)
-    at true is = refl
-    at false is = absurd (false≢true is)
+  -- of a line whose text is there nothing is written
+  pub old_is_none : (seen : List (List ℕ)) (line : List ℕ) → false ≡ not (has seen (strip_last eol line)) → [] ≡ if_new_by eol seen line
+  old_is_none seen line old = at (has seen (strip_last eol line)) old
+    where
+      at : (b : Bool) → false ≡ not b → [] ≡ (if b then [] else as_line_by eol line)
+      at true is = refl
+      at false is = absurd (false≢true is)
 
 -- a set has the text that it saw, and those that it had
 pub has_seen : (seen seen' : List (List ℕ)) (text : List ℕ) → seen' ≡ with_text seen text → (other : List ℕ) → has seen' other ≡ (bytes_eq other text || has seen other)

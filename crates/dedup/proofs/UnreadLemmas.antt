@@ -5,7 +5,7 @@ use Rattle.std.proofs.lemmas.Bool.{false≢true, true≢false}
 use Rattle.std.proofs.lemmas.List.{drop-drop, drop-take, get_or-drop, length-take-le, take-append-le, take_all}
 use Rattle.std.proofs.Math.Seq.{drop-append_seam, take-append-add}
 use borrow.Rule.Slice.PartMut.{put_mid, post_of}
-use Rattle.dedup.specs.Between.{IsBare, IsNewline}
+use Rattle.dedup.specs.Between.{IsBare, IsLineEnd}
 
 -- more bytes from the front are taken
 pub pass_more : (xs : List ℕ) (from to n : ℕ) → n ≤ to - from → take (to - (from + n)) (drop (from + n) xs) ≡ drop n (take (to - from) (drop from xs))
@@ -16,19 +16,20 @@ pass_more xs from to n most =
 tail_is : (bytes : List ℕ) (n : ℕ) → take (length bytes - n) (drop n bytes) ≡ drop n bytes
 tail_is bytes n = take_all (length bytes - n) (drop n bytes) (omega (arith, length-drop n bytes))
 
--- where a newline is found behind so many bytes, there is one
-pub found_newline : (bytes : List ℕ) (n : ℕ) (result : Option ℕ) → IsNewline (take (length bytes - n) (drop n bytes)) result → is_some result ≡ true → ¬ IsBare bytes
-found_newline bytes n result at found = there result (subst (λ rest. IsNewline rest result) (tail_is bytes n) at) found
-  where
-    there : (result : Option ℕ) → IsNewline (drop n bytes) result → is_some result ≡ true → ¬ IsBare bytes
-    there None at found = λ bare. false≢true found
-    there (Some k) at found = λ bare. bare (n + k) (omega (arith, at.0, length-drop n bytes)) (sym (get_or-drop n bytes k 0) ∙ at.1)
+module _ (eol : ℕ) where
+  -- where an end is found behind so many bytes, there is one
+  pub found_end : (bytes : List ℕ) (n : ℕ) (result : Option ℕ) → IsLineEnd eol (take (length bytes - n) (drop n bytes)) result → is_some result ≡ true → ¬ (IsBare eol) bytes
+  found_end bytes n result at found = there result (subst (λ rest. IsLineEnd eol rest result) (tail_is bytes n) at) found
+    where
+      there : (result : Option ℕ) → IsLineEnd eol (drop n bytes) result → is_some result ≡ true → ¬ (IsBare eol) bytes
+      there None at found = λ bare. false≢true found
+      there (Some k) at found = λ bare. bare (n + k) (omega (arith, at.0, length-drop n bytes)) (sym (get_or-drop n bytes k 0) ∙ at.1)
 
--- where none is found behind so many bytes, the rest has none
-pub found_none : (bytes front back : List ℕ) (n : ℕ) (result : Option ℕ) → IsNewline (take (length bytes - n) (drop n bytes)) result → is_some result ≡ false → bytes ≡ front ++ back → n ≡ length front → IsBare back
-found_none bytes front back n (Some k) at none is long = absurd (true≢false none)
-found_none bytes front back n None at none is long =
-    subst IsBare (tail_is bytes n ∙ ap (λ m. drop m bytes) long ∙ ap (drop (length front)) is ∙ drop-append_seam front back) at
+  -- where none is found behind so many bytes, the rest has none
+  pub found_none : (bytes front back : List ℕ) (n : ℕ) (result : Option ℕ) → IsLineEnd eol (take (length bytes - n) (drop n bytes)) result → is_some result ≡ false → bytes ≡ front ++ back → n ≡ length front → IsBare eol back
+  found_none bytes front back n (Some k) at none is long = absurd (true≢false none)
+  found_none bytes front back n None at none is long =
+      subst (IsBare eol) (tail_is bytes n ∙ ap (λ m. drop m bytes) long ∙ ap (drop (length front)) is ∙ drop-append_seam front back) at
 
 -- what was read stands behind what was there
 pub read_put : (xs room : List ℕ) (to k n : ℕ) → to ≤ length xs → n ≤ length room → take (to + n) (put_mid to k xs room) ≡ take to xs ++ take n room

@@ -1,36 +1,55 @@
--- The lines of a text, and what the program makes of them.
+-- The lines of a text, and what the program makes of them. A line ends with a byte, newline or another.
 use Rattle.std.specs.Prelude.{ℕ, ◌==◌, ◌++◌, if◌then◌else◌, Bool, not, List, [], ◌∷◌}
 use Rattle.std.specs.Io.BufRead.{strip_last}
 use Rattle.std.specs.List.{filter, flat_map, onto_first}
 use Rattle.std.specs.Str.{bytes_eq}
 use Rattle.hash_texts.specs.Texts.{has}
 
--- the lines, each through its newline; the last may have none
-abbrev pub lines : List ℕ → List (List ℕ)
-lines [] = []
-lines (byte ∷ text) = if byte == 10 then (byte ∷ []) ∷ lines text else onto_first byte (lines text)
+-- the lines, each through the byte that ends it; the last may have none
+abbrev pub lines_by : (eol : ℕ) → List ℕ → List (List ℕ)
+lines_by eol [] = []
+lines_by eol (byte ∷ text) = if byte == eol then (byte ∷ []) ∷ lines_by eol text else onto_first byte (lines_by eol text)
 
--- whether two lines have the same text, their newlines aside
-abbrev pub same_text : List ℕ → List ℕ → Bool
-same_text line other = bytes_eq (strip_last 10 line) (strip_last 10 other)
+-- whether two lines have the same text, what ends them aside
+abbrev pub same_text_by : (eol : ℕ) → List ℕ → List ℕ → Bool
+same_text_by eol line other = bytes_eq (strip_last eol line) (strip_last eol other)
 
 -- the lines whose text stands in no line before them
-abbrev pub firsts : List (List ℕ) → List (List ℕ)
-firsts [] = []
-firsts (line ∷ more) = line ∷ filter (λ other. not (same_text line other)) (firsts more)
+abbrev pub firsts_by : (eol : ℕ) → List (List ℕ) → List (List ℕ)
+firsts_by eol [] = []
+firsts_by eol (line ∷ more) = line ∷ filter (λ other. not (same_text_by eol line other)) (firsts_by eol more)
 
--- the text of a line, and a newline behind it
-abbrev pub as_line : List ℕ → List ℕ
-as_line line = strip_last 10 line ++ 10 ∷ []
+-- the text of a line, and its end behind it
+abbrev pub as_line_by : (eol : ℕ) → List ℕ → List ℕ
+as_line_by eol line = strip_last eol line ++ eol ∷ []
 
--- what is written of lines: each once, where it came first, with a newline behind it
-abbrev pub once : List (List ℕ) → List ℕ
-once ls = flat_map as_line (firsts ls)
+-- what is written of lines: each once, where it came first, with its end behind it
+abbrev pub once_by : (eol : ℕ) → List (List ℕ) → List ℕ
+once_by eol ls = flat_map (as_line_by eol) (firsts_by eol ls)
 
 -- the same of the lines of a text
-abbrev pub each_once : List ℕ → List ℕ
-each_once text = once (lines text)
+abbrev pub each_once_by : (eol : ℕ) → List ℕ → List ℕ
+each_once_by eol text = once_by eol (lines_by eol text)
 
 -- what is written of a line behind lines of which these are the texts
-abbrev pub if_new : List (List ℕ) → List ℕ → List ℕ
-if_new seen line = if has seen (strip_last 10 line) then [] else as_line line
+abbrev pub if_new_by : (eol : ℕ) → List (List ℕ) → List ℕ → List ℕ
+if_new_by eol seen line = if has seen (strip_last eol line) then [] else as_line_by eol line
+
+-- the same of lines that end with a newline
+abbrev pub lines : List ℕ → List (List ℕ)
+lines = lines_by 10
+
+abbrev pub same_text : List ℕ → List ℕ → Bool
+same_text = same_text_by 10
+
+abbrev pub firsts : List (List ℕ) → List (List ℕ)
+firsts = firsts_by 10
+
+abbrev pub as_line : List ℕ → List ℕ
+as_line = as_line_by 10
+
+abbrev pub once : List (List ℕ) → List ℕ
+once = once_by 10
+
+abbrev pub each_once : List ℕ → List ℕ
+each_once = each_once_by 10

@@ -1,64 +1,79 @@
 -- What the program is asked for, and how it ends.
-use Rattle.std.specs.Prelude.{ℕ, ◌≡◌, ◌≢◌, if◌then◌else◌, List, [], ◌∷◌, Option, Some, None, Result, Ok, Err, map, drop, codes, string_bytes}
-use Rattle.std.specs.IoError.{error_kind}
-use Rattle.std.specs.Io.KnownBytes.{Keeps}
-use Rattle.std.specs.Str.{bytes_eq}
-use Rattle.std.specs.Vec.Iter.{into_iter_items}
-use Rattle.std.specs.declared.alloc.Global.{Global}
-use Rattle.std.specs.declared.io.Error.{Error}
-use Rattle.std.specs.declared.io.ErrorKind.TheVariants.{OutOfMemory}
-use Rattle.std.specs.declared.string.String.{String}
-use Rattle.std.specs.declared.vec.IntoIter.{IntoIter}
-use Rattle.dedup.specs.Lines.{each_once}
+use Rattle.std.specs.Prelude.{ℕ, ◌≡◌, ◌||◌, Bool, if◌then◌else◌, List, [], ◌∷◌, Option, Some, None, Result, Ok, Err, codes}
+use Rattle.std.specs.Io.KnownBytes.{Appends, Keeps}
+use Rattle.hash_program.specs.Call.{given, unknown}
+use Rattle.hash_program.specs.Streams.{AppendsPart}
+use Rattle.dedup.specs.Lines.{each_once_by}
 use Rattle.dedup.specs.Running.{IsBeyond, IsWithin, Run, WritesAll, WritesPart}
 use Rattle.dedup.specs.Tallies.{tallied}
+use Rattle.dedup.specs.declared.run.Fault.{Fault}
 use Rattle.dedup.specs.declared.outcome.Outcome.{Outcome}
-use Rattle.dedup.specs.declared.outcome.Outcome.TheVariants.{Done, Helped, Usage, NoMemory, TooManyLines, Failed}
+use Rattle.dedup.specs.declared.outcome.Outcome.TheVariants.{Done, Usage, NoMemory, TooManyLines, Failed}
 use Rattle.dedup.specs.declared.outcome.Task.{Task}
-use Rattle.dedup.specs.declared.outcome.Task.TheVariants.{Once, Tallied, Help}
-use Rattle.dedup.specs.declared.tally.Which.TheVariants.{Counted, Repeated, Unique}
+use Rattle.dedup.specs.declared.outcome.Task.TheVariants.{Once, Tallied, Help, Version}
+use Rattle.dedup.specs.declared.tally.Which.{Which}
 
--- what one word asks for
-abbrev pub task_named : List ℕ → Option Task
-task_named word =
-    if bytes_eq word (codes "-c") then Some (Tallied Counted) else
-    if bytes_eq word (codes "-d") then Some (Tallied Repeated) else
-    if bytes_eq word (codes "-u") then Some (Tallied Unique) else
-    if bytes_eq word (codes "--help") then Some Help else None
+-- the letters and the names of the options
+abbrev pub letters : List ℕ
+letters = codes "cduz"
+
+abbrev pub names : List (List ℕ)
+names = codes "count" ∷ codes "repeated" ∷ codes "unique" ∷ codes "zero-terminated" ∷ codes "help" ∷ codes "version" ∷ []
+
+-- which of the counted lines are asked for
+abbrev pub which_of : List (List ℕ) → Which
+which_of words = record {
+  counts = given (Some 99) (codes "count") words;
+  repeated = given (Some 100) (codes "repeated") words;
+  unique = given (Some 117) (codes "unique") words;
+}
+
+-- the byte that ends a line
+abbrev pub eol_of : List (List ℕ) → ℕ
+eol_of words = if given (Some 122) (codes "zero-terminated") words then 0 else 10
+
+-- each line once, unless some of the counted ones are asked for
+abbrev pub work_of : List (List ℕ) → Task
+work_of words = if (which_of words).counts || (which_of words).repeated || (which_of words).unique then Tallied (which_of words) (eol_of words) else Once (eol_of words)
+
+-- what words ask for that give these unknown options
+abbrev pub asked : (wrong words : List (List ℕ)) → Option Task
+asked (word ∷ more) words = None
+asked [] words = if given None (codes "help") words then Some Help else if given None (codes "version") words then Some Version else Some (work_of words)
 
 -- what the words behind the program's own name ask for
 abbrev pub task_of : List (List ℕ) → Option Task
-task_of [] = Some Once
-task_of (word ∷ []) = task_named word
-task_of (word ∷ next ∷ more) = None
+task_of words = asked (unknown letters names words) words
 
--- the program's arguments, its own name first, or why they were not had
-abbrev pub Arguments : Type 0
-Arguments = Result (IntoIter (String Global) Global) Error
+-- the text is written, or after a fault a beginning of it
+abbrev pub Tells : (text : List ℕ) (written written' : Option (List ℕ)) → Result (Unit {0}) Fault → Type 0
+Tells text written written' (Ok done) = Appends written written' text
+Tells text written written' (Err fault) = AppendsPart written written' text
 
--- nothing was read or written
-abbrev pub IsUntouched : Run → Type 0
-IsUntouched run = Keeps run.left run.left' × Keeps run.written run.written'
+-- nothing is read, and the text is written
+abbrev pub EndsTelling : (text : List ℕ) → Run → Outcome → Type 0
+EndsTelling text run Done = Keeps run.left run.left' × Appends run.written run.written' text
+EndsTelling text run (Failed fault) = Keeps run.left run.left' × AppendsPart run.written run.written' text
+EndsTelling text run Usage = ⊥
+EndsTelling text run NoMemory = ⊥
+EndsTelling text run TooManyLines = ⊥
 
 -- how a run ends that is to write what `output` makes of its input, of at most so many lines
-abbrev pub EndsRun : (output : List ℕ → List ℕ) → ℕ → Run → Outcome → Type 0
-EndsRun output limit run Done = WritesAll output run × IsWithin limit run
-EndsRun output limit run Helped = ⊥
-EndsRun output limit run Usage = ⊥
-EndsRun output limit run NoMemory = ⊥
-EndsRun output limit run TooManyLines = WritesPart output run × IsBeyond limit run
-EndsRun output limit run (Failed fault) = WritesPart output run
+abbrev pub EndsRun : (eol : ℕ) (output : List ℕ → List ℕ) → ℕ → Run → Outcome → Type 0
+EndsRun eol output limit run Done = WritesAll output run × IsWithin eol limit run
+EndsRun eol output limit run Usage = ⊥
+EndsRun eol output limit run NoMemory = ⊥
+EndsRun eol output limit run TooManyLines = WritesPart output run × IsBeyond eol limit run
+EndsRun eol output limit run (Failed fault) = WritesPart output run
 
--- how a task ends; none is a wrong call
-abbrev pub EndsTask : Option Task → ℕ → Run → Outcome → Type 0
-EndsTask (Some Once) limit run outcome = EndsRun each_once limit run outcome
-EndsTask (Some (Tallied which)) limit run outcome = EndsRun (tallied which) limit run outcome
-EndsTask (Some Help) limit run outcome = (outcome ≡ Helped) × IsUntouched run
-EndsTask None limit run outcome = (outcome ≡ Usage) × IsUntouched run
+-- how a task ends; none is a wrong call, and then nothing is read or written
+abbrev pub EndsTask : Option Task → (help version : List ℕ) → ℕ → Run → Outcome → Type 0
+EndsTask (Some (Once eol)) help version limit run outcome = EndsRun eol (each_once_by eol) limit run outcome
+EndsTask (Some (Tallied which eol)) help version limit run outcome = EndsRun eol (tallied eol which) limit run outcome
+EndsTask (Some Help) help version limit run outcome = EndsTelling help run outcome
+EndsTask (Some Version) help version limit run outcome = EndsTelling version run outcome
+EndsTask None help version limit run outcome = (outcome ≡ Usage) × Keeps run.left run.left' × Keeps run.written run.written'
 
--- how the program ends
-abbrev pub Exits : Arguments → ℕ → Run → Outcome → Type 0
-Exits (Ok arguments) limit run outcome = EndsTask (task_of (drop 1 (map string_bytes (into_iter_items arguments)))) limit run outcome
-Exits (Err error) limit run NoMemory = (error_kind error ≡ OutOfMemory) × IsUntouched run
-Exits (Err error) limit run Usage = (error_kind error ≢ OutOfMemory) × IsUntouched run
-Exits (Err error) limit run outcome = ⊥
+-- how the program ends that was called by these words
+abbrev pub Exits : (words : List (List ℕ)) (help version : List ℕ) → ℕ → Run → Outcome → Type 0
+Exits words help version limit run outcome = EndsTask (task_of words) help version limit run outcome

@@ -1,7 +1,7 @@
 -- What a run reads and writes, and how it ends.
 use Rattle.std.specs.Prelude.{ℕ, ◌≡◌, ◌<◌, ◌≤◌, Bool, true, false, List, Option, Result, Ok, Err, ◌++◌, IfSome, length}
 use Rattle.std.specs.Io.KnownBytes.{Consumes, Appends}
-use Rattle.dedup.specs.Lines.{lines}
+use Rattle.dedup.specs.Lines.{lines_by}
 use Rattle.dedup.specs.declared.run.Fault.{Fault}
 
 -- the bytes that are left to be read and those that are written, where they are known, before a run and after it
@@ -19,10 +19,6 @@ run_of remaining r r' contents w w' = record {
   written' = contents w';
 }
 
--- what is written now is what was written and a beginning of these bytes
-abbrev pub AppendsPart : (before after : Option (List ℕ)) → List ℕ → Type 0
-AppendsPart before after bytes = (part rest : List ℕ) × (part ++ rest ≡ bytes) × Appends before after part
-
 -- all was read, and what the program makes of it was written
 pub record WritesAll (output : List ℕ → List ℕ) (run : Run) : Type 0 where
   pub text : List ℕ
@@ -37,15 +33,15 @@ pub record WritesPart (output : List ℕ → List ℕ) (run : Run) : Type 0 wher
   pub begins : IfSome run.left (λ text. (rest : List ℕ) × (output text ≡ part ++ rest))
 
 -- there are at most so many lines to read
-abbrev pub IsWithin : ℕ → Run → Type 0
-IsWithin limit run = IfSome run.left (λ text. length (lines text) ≤ limit)
+abbrev pub IsWithin : (eol limit : ℕ) → Run → Type 0
+IsWithin eol limit run = IfSome run.left (λ text. length (lines_by eol text) ≤ limit)
 
 -- there are more lines to read than so many
-abbrev pub IsBeyond : ℕ → Run → Type 0
-IsBeyond limit run = IfSome run.left (λ text. limit < length (lines text))
+abbrev pub IsBeyond : (eol limit : ℕ) → Run → Type 0
+IsBeyond eol limit run = IfSome run.left (λ text. limit < length (lines_by eol text))
 
 -- how a run ends that is to write what `output` makes of its input, of at most so many lines: it says whether there were no more
-abbrev pub Ends : (output : List ℕ → List ℕ) → ℕ → Run → Result Bool Fault → Type 0
-Ends output limit run (Ok true) = WritesAll output run × IsWithin limit run
-Ends output limit run (Ok false) = WritesPart output run × IsBeyond limit run
-Ends output limit run (Err fault) = WritesPart output run
+abbrev pub Ends : (eol : ℕ) (output : List ℕ → List ℕ) → ℕ → Run → Result Bool Fault → Type 0
+Ends eol output limit run (Ok true) = WritesAll output run × IsWithin eol limit run
+Ends eol output limit run (Ok false) = WritesPart output run × IsBeyond eol limit run
+Ends eol output limit run (Err fault) = WritesPart output run

@@ -1,24 +1,34 @@
--- The status that each outcome ends with, and its line on standard error.
-use Rattle.std.specs.Prelude.{ℕ, List, [], ◌∷◌, ◌++◌, codes}
+-- The status that each outcome ends with, and what it says on standard error.
+use Rattle.std.specs.Prelude.{ℕ, List, [], codes, Some, None}
+use Rattle.std.specs.IoError.{error_kind}
+use Rattle.std.specs.declared.io.ErrorKind.{ErrorKind}
+use Rattle.std.specs.declared.io.ErrorKind.TheVariants.{BrokenPipe}
 use Rattle.dedup.specs.declared.run.Fault.TheVariants.{Read, Write, NoMemory, TooManyTexts}
 use Rattle.dedup.specs.declared.outcome.Outcome.{Outcome}
 use Rattle.dedup.specs.declared.outcome.Outcome.TheVariants as outcome
 
+-- 141 is what a shell tells of a program that a write to a closed pipe ended
+abbrev pub write_status : ErrorKind → ℕ
+write_status BrokenPipe = 141
+write_status kind = 1
+
 abbrev pub status_of : Outcome → ℕ
 status_of outcome.Done = 0
-status_of outcome.Helped = 0
 status_of outcome.Usage = 2
+status_of (outcome.Failed (Write (Some error))) = write_status (error_kind error)
+status_of (outcome.Failed (Write None)) = 1
+status_of (outcome.Failed (Read error)) = 1
+status_of (outcome.Failed NoMemory) = 1
+status_of (outcome.Failed TooManyTexts) = 1
 status_of outcome.NoMemory = 1
 status_of outcome.TooManyLines = 1
-status_of (outcome.Failed fault) = 1
 
-abbrev pub complaint_of : Outcome → List ℕ
-complaint_of outcome.Done = []
-complaint_of outcome.Helped = []
-complaint_of outcome.Usage = codes "usage: dedup [-c | -d | -u | --help]" ++ 10 ∷ []
-complaint_of outcome.NoMemory = codes "dedup: out of memory" ++ 10 ∷ []
-complaint_of outcome.TooManyLines = codes "dedup: too many lines" ++ 10 ∷ []
-complaint_of (outcome.Failed (Read error)) = codes "dedup: read fault" ++ 10 ∷ []
-complaint_of (outcome.Failed (Write error)) = codes "dedup: write fault" ++ 10 ∷ []
-complaint_of (outcome.Failed NoMemory) = codes "dedup: out of memory" ++ 10 ∷ []
-complaint_of (outcome.Failed TooManyTexts) = codes "dedup: too many different lines" ++ 10 ∷ []
+abbrev pub failure_of : Outcome → List ℕ
+failure_of outcome.Done = []
+failure_of outcome.Usage = codes "unknown option"
+failure_of outcome.NoMemory = codes "out of memory"
+failure_of outcome.TooManyLines = codes "too many lines"
+failure_of (outcome.Failed (Read error)) = codes "read error"
+failure_of (outcome.Failed (Write error)) = codes "write error"
+failure_of (outcome.Failed NoMemory) = codes "out of memory"
+failure_of (outcome.Failed TooManyTexts) = codes "too many different lines"

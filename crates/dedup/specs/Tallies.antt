@@ -1,45 +1,46 @@
 -- What the program writes of lines that it has counted.
-use Rattle.std.specs.Prelude.{ℕ, ◌≡◌, ◌<◌, ◌≤◌, ◌==◌, ◌-◌, ◌++◌, Bool, true, false, if◌then◌else◌, nat_lt, List, [], ◌∷◌, Option, IfSome, length, map, decimal}
+use Rattle.std.specs.Prelude.{ℕ, ◌&&◌, not, ◌≡◌, ◌<◌, ◌≤◌, ◌==◌, ◌-◌, ◌++◌, Bool, true, false, if◌then◌else◌, nat_lt, List, [], ◌∷◌, Option, IfSome, length, map, decimal}
 use Rattle.std.specs.Io.BufRead.{strip_last}
 use Rattle.std.specs.Io.KnownBytes.{Consumes}
 use Rattle.std.specs.List.{count_by, flat_map, repeat}
-use Rattle.dedup.specs.Lines.{lines, same_text, firsts}
+use Rattle.dedup.specs.Lines.{lines_by, same_text_by, firsts_by}
 use Rattle.dedup.specs.declared.tally.Which.{Which}
-use Rattle.dedup.specs.declared.tally.Which.TheVariants.{Counted, Repeated, Unique}
 
 -- a number on the right of a column of seven, and a space
 abbrev pub column : ℕ → List ℕ
 column n = repeat (7 - length (decimal n)) (32 ∷ []) ++ (decimal n ++ 32 ∷ [])
 
+-- whether a text that came so often is written
+abbrev pub is_shown : Which → ℕ → Bool
+is_shown which times = not (which.repeated && times == 1) && not (which.unique && nat_lt 1 times)
+
 -- what is written of a text that came so often
-abbrev pub shown : Which → ℕ → List ℕ → List ℕ
-shown Counted times text = column times ++ (text ++ 10 ∷ [])
-shown Repeated times text = if nat_lt 1 times then text ++ 10 ∷ [] else []
-shown Unique times text = if times == 1 then text ++ 10 ∷ [] else []
+abbrev pub shown : (eol : ℕ) → Which → ℕ → List ℕ → List ℕ
+shown eol which times text = if is_shown which times then (if which.counts then column times else []) ++ (text ++ eol ∷ []) else []
 
 -- what is written of one of these lines
-abbrev pub shown_line : Which → (ls : List (List ℕ)) → List ℕ → List ℕ
-shown_line which ls line = shown which (count_by (same_text line) ls) (strip_last 10 line)
+abbrev pub shown_line : (eol : ℕ) → Which → (ls : List (List ℕ)) → List ℕ → List ℕ
+shown_line eol which ls line = shown eol which (count_by (same_text_by eol line) ls) (strip_last eol line)
 
--- what is written of lines: each with how often it came, those that came more than once, or those that came once, in the order in which they came first
-abbrev pub told : Which → List (List ℕ) → List ℕ
-told which ls = flat_map (shown_line which ls) (firsts ls)
+-- what is written of lines: those that came more than once, or once, or all, with how often they came or without, in the order in which they came first
+abbrev pub told : (eol : ℕ) → Which → List (List ℕ) → List ℕ
+told eol which ls = flat_map (shown_line eol which ls) (firsts_by eol ls)
 
 -- the same of the lines of a text
-abbrev pub tallied : Which → List ℕ → List ℕ
-tallied which text = told which (lines text)
+abbrev pub tallied : (eol : ℕ) → Which → List ℕ → List ℕ
+tallied eol which text = told eol which (lines_by eol text)
 
 -- the texts of lines, each once
-abbrev pub texts : List (List ℕ) → List (List ℕ)
-texts ls = map (strip_last 10) (firsts ls)
+abbrev pub texts : (eol : ℕ) → List (List ℕ) → List (List ℕ)
+texts eol ls = map (strip_last eol) (firsts_by eol ls)
 
 -- the texts of the lines in their order, and how often the text at each place came
-pub record Tallies (ls : List (List ℕ)) (seen : List (List ℕ)) (times : List ℕ) : Type 0 where
-  pub places : seen ≡ texts ls
-  pub counts : times ≡ map (λ line. count_by (same_text line) ls) (firsts ls)
+pub record Tallies (eol : ℕ) (ls : List (List ℕ)) (seen : List (List ℕ)) (times : List ℕ) : Type 0 where
+  pub places : seen ≡ texts eol ls
+  pub counts : times ≡ map (λ line. count_by (same_text_by eol line) ls) (firsts_by eol ls)
 
 -- at most so many lines were to be read: all are read and counted, or there are more
-abbrev pub CountedAll : Bool → ℕ → (left left' : Option (List ℕ)) (seen : List (List ℕ)) (times : List ℕ) → Type 0
-CountedAll true limit left left' seen times = (text : List ℕ) × Consumes left left' text × IfSome left (λ bytes. bytes ≡ text)
-    × IfSome left (λ bytes. length (lines bytes) ≤ limit) × Tallies (lines text) seen times
-CountedAll false limit left left' seen times = IfSome left (λ bytes. limit < length (lines bytes))
+abbrev pub CountedAll : (eol : ℕ) → Bool → ℕ → (left left' : Option (List ℕ)) (seen : List (List ℕ)) (times : List ℕ) → Type 0
+CountedAll eol true limit left left' seen times = (text : List ℕ) × Consumes left left' text × IfSome left (λ bytes. bytes ≡ text)
+    × IfSome left (λ bytes. length (lines_by eol bytes) ≤ limit) × Tallies eol (lines_by eol text) seen times
+CountedAll eol false limit left left' seen times = IfSome left (λ bytes. limit < length (lines_by eol bytes))

@@ -1,32 +1,32 @@
-//! The laws of what the program writes of its lines, with no code.
+//! The laws of what the program writes of its lines, with no code. A line ends with a byte, newline or another.
 ghost use Rattle.std.specs.Prelude.{◌≡◌, ◌++◌, ℕ, List};
 ghost use Rattle.dedup.specs.Laws.{ComesBefore, line_texts};
-ghost use Rattle.dedup.specs.Lines.{each_once, lines};
+ghost use Rattle.dedup.specs.Lines.{each_once_by, lines_by};
 ghost use Rattle.hash_texts.specs.Texts.{EachOnce, has};
 
 /// No two lines that are written have the same text.
 pub fn each_text_stands_once()
-    ensures { (text : List ℕ) → EachOnce (line_texts (each_once text)) }
+    ensures { (eol : ℕ) (text : List ℕ) → EachOnce (line_texts eol (each_once_by eol text)) }
 {}
 
 /// The texts that are written are those of the input: none is lost, and none is made up.
 pub fn exactly_the_texts_of_the_input()
-    ensures { (text line : List ℕ) → has (line_texts (each_once text)) line ≡ has (line_texts text) line }
+    ensures { (eol : ℕ) (text line : List ℕ) → has (line_texts eol (each_once_by eol text)) line ≡ has (line_texts eol text) line }
 {}
 
 /// The texts are written in the order in which they came first.
 pub fn texts_keep_their_order()
-    ensures { (text line other : List ℕ) → ComesBefore (line_texts text) line other
-        → ComesBefore (line_texts (each_once text)) line other }
+    ensures { (eol : ℕ) (text line other : List ℕ) → ComesBefore (line_texts eol text) line other
+        → ComesBefore (line_texts eol (each_once_by eol text)) line other }
 {}
 
 /// What is written is written once more as it stands.
 pub fn twice_changes_nothing()
-    ensures { (text : List ℕ) → each_once (each_once text) ≡ each_once text }
+    ensures { (eol : ℕ) (text : List ℕ) → each_once_by eol (each_once_by eol text) ≡ each_once_by eol text }
 {}
 
 /// What is written of the first lines is a beginning of what is written of all.
 pub fn more_lines_add_behind()
-    ensures { (text more : List ℕ) → lines (text ++ more) ≡ lines text ++ lines more
-        → (rest : List ℕ) × (each_once (text ++ more) ≡ each_once text ++ rest) }
+    ensures { (eol : ℕ) (text more : List ℕ) → lines_by eol (text ++ more) ≡ lines_by eol text ++ lines_by eol more
+        → (rest : List ℕ) × (each_once_by eol (text ++ more) ≡ each_once_by eol text ++ rest) }
 {}

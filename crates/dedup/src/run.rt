@@ -1,8 +1,9 @@
 //! A run of the program over any reader, writer and hasher.
 ghost use Rattle.std.specs.Prelude.{◌≡◌, ◌++◌, [], ℕ, List, Option, OnOk, OnErr};
 ghost use Rattle.dedup.specs.Between.{IsBare, LeadsOn, Wrote};
-ghost use Rattle.dedup.specs.Lines.{each_once, lines, once};
-ghost use Rattle.dedup.specs.Running.{AppendsPart, Ends, run_of};
+ghost use Rattle.dedup.specs.Lines.{each_once_by, lines_by, once_by};
+ghost use Rattle.dedup.specs.Running.{Ends, run_of};
+ghost use Rattle.hash_program.specs.Streams.{AppendsPart};
 ghost use Rattle.hash_texts.specs.Texts.{has};
 
 use crate::lines::{finish, write_lines, write_new};
@@ -57,21 +58,22 @@ impl From<Full> for Fault {
     }
 }
 
-/// Writes the last line, which has no newline, if there is one and its text is new.
+/// Writes the last line, which has no end, if there is one and its text is new.
 fn write_last<S: BuildHasher + Drop, W: Write>(
     seen: &mut Texts<S>,
     line: &[u8],
+    eol: u8,
     w: &mut W,
 ) -> Result<(), Fault>
-    requires { IsBare line.now }
-    ensures written { OnOk result (LeadsOn (lines line.now) (has seen.old) (has seen.new) (W.contents w.old) (W.contents w.new)) }
-    ensures begun { OnErr result ((ls : List (List ℕ)) (start : Option (List ℕ)) → Wrote ls (has seen.old) start (W.contents w.old)
-        → AppendsPart start (W.contents w.new) (once (ls ++ lines line.now))) }
+    requires { IsBare eol line.now }
+    ensures written { OnOk result (LeadsOn eol (lines_by eol line.now) (has seen.old) (has seen.new) (W.contents w.old) (W.contents w.new)) }
+    ensures begun { OnErr result ((ls : List (List ℕ)) (start : Option (List ℕ)) → Wrote eol ls (has seen.old) start (W.contents w.old)
+        → AppendsPart start (W.contents w.new) (once_by eol (ls ++ lines_by eol line.now))) }
 {
     if line.is_empty() {
         return Ok(());
     }
-    write_new(seen, line, 0, w)?;
+    write_new(seen, line, eol, 0, w)?;
     Ok(())
 }
 
@@ -79,45 +81,47 @@ fn write_last<S: BuildHasher + Drop, W: Write>(
 fn write_each<S: BuildHasher + Drop, R: Read, W: Write>(
     seen: &mut Texts<S>,
     unread: &mut Unread,
+    eol: u8,
     limit: u64,
     r: &mut R,
     w: &mut W,
 ) -> Result<bool, Fault>
     requires none { seen.old ≡ [] }
     requires unread { unread.old ≡ [] }
-    ensures { Ends each_once limit (run_of R.remaining r.old r.new W.contents w.old w.new) result }
+    ensures { Ends eol (each_once_by eol) limit (run_of R.remaining r.old r.new W.contents w.old w.new) result }
 {
     let mut left = limit;
     loop {
-        let more = unread.fill(r)?;
+        let more = unread.fill(eol, r)?;
         if unread.is_beyond(left) {
             return Ok(false);
         }
         if !more {
-            write_last(seen, unread.bytes(), w)?;
+            write_last(seen, unread.bytes(), eol, w)?;
             return Ok(true);
         }
-        let (count, len) = write_lines(seen, unread.bytes(), left, w)?;
+        let (count, len) = write_lines(seen, unread.bytes(), eol, left, w)?;
         left -= count;
         unread.pass(len);
         finish(w)?;
     }
 }
 
-/// Writes each of at most `limit` lines of the input once, where it came first, and flushes. It answers whether there were
-/// no more lines.
+/// Writes each of at most `limit` lines of the input, each of which ends with the byte `eol`, once, where it came first, and
+/// flushes. It answers whether there were no more lines.
 pub fn dedup<S: BuildHasher + Drop, R: Read, W: Write>(
     alloc: Global,
     hasher: S,
+    eol: u8,
     limit: u64,
     r: &mut R,
     w: &mut W,
 ) -> Result<bool, Fault>
-    ensures { Ends each_once limit (run_of R.remaining r.old r.new W.contents w.old w.new) result }
+    ensures { Ends eol (each_once_by eol) limit (run_of R.remaining r.old r.new W.contents w.old w.new) result }
 {
     let mut seen = Texts::new(alloc, hasher);
     let mut unread = Unread::new(alloc);
-    let whole = write_each(&mut seen, &mut unread, limit, r, w)?;
+    let whole = write_each(&mut seen, &mut unread, eol, limit, r, w)?;
     finish(w)?;
     Ok(whole)
 }

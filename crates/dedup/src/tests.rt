@@ -1,5 +1,5 @@
 //! Tests of the program, over readers and writers that cut, fail, and refuse.
-use crate::outcome::{Outcome, USAGE, outcome_line, outcome_of, outcome_status};
+use crate::outcome::{Outcome, outcome_failure, outcome_of, outcome_status};
 use crate::run::{Fault, dedup};
 use crate::tally::{Which, tally};
 use hash_texts::Texts;
@@ -10,7 +10,6 @@ use hashers::laws::Piecewise;
 use hashers::null::NullHasher;
 use std::alloc::{AllocError, Global};
 use std::collections::HashSet;
-use std::env::Args;
 use std::io;
 use std::io::{ErrorKind, Read, Write};
 use std::process::Abort;
@@ -25,16 +24,16 @@ fn all_hold(rt: &impl Abort, claims: &[bool]) {
     assert!(rt; !claims.contains(&false), "not all hold: {claims:?}");
 }
 
-/// How the program ends: its status, and its line on standard error.
+/// How the program ends: its status, and what it says that failed.
 type End = (u8, &'static str);
 
 const WELL: End = (0, "");
 
-const NO_MEMORY: End = (1, "dedup: out of memory\n");
+const NO_MEMORY: End = (1, "out of memory");
 
-const READ_FAULT: End = (1, "dedup: read fault\n");
+const READ_FAULT: End = (1, "read error");
 
-const WRITE_FAULT: End = (1, "dedup: write fault\n");
+const WRITE_FAULT: End = (1, "write error");
 
 /// That the program ended as wanted.
 fn ended(rt: &impl Abort, got: End, want: End) {
@@ -111,7 +110,7 @@ impl Write for Paper {
     fn write(&mut self, buf: &[u8]) -> io::Result<usize> {
         let room = self.until_fault.min(self.most).min(64 - self.len.min(64));
         if room == 0 {
-            return Err(io::Error::from(ErrorKind::BrokenPipe));
+            return Err(io::Error::from(ErrorKind::PermissionDenied));
         }
         let n = room.min(buf.len());
         for byte in &buf[..n] {
@@ -126,34 +125,42 @@ impl Write for Paper {
 
     fn flush(&mut self) -> io::Result<()> {
         if self.flush_fails {
-            return Err(io::Error::from(ErrorKind::BrokenPipe));
+            return Err(io::Error::from(ErrorKind::PermissionDenied));
         }
         Ok(())
     }
 }
 
-/// What the words ask for, as `env::args` gives them behind the program's own name.
-fn args(alloc: Global, words: &[&str]) -> io::Result<Args> {
+/// The words of a call.
+fn call_of(alloc: Global, words: &[&str]) -> Result<Vec<Vec<u8>>, AllocError> {
     let mut all = Vec::new(alloc);
-    all.push(String::from_str(alloc, "dedup")?)?;
     for word in words {
-        all.push(String::from_str(alloc, word)?)?;
+        let word = Vec::from_slice(alloc, word.as_bytes())?;
+        match all.push(word) {
+            Ok(()) => {}
+            Err(_) => return Err(AllocError),
+        }
     }
-    Ok(all.into_iter())
+    Ok(all)
 }
 
 /// What became of a call, without the error itself.
 fn status(outcome: &Outcome) -> End {
-    (outcome_status(outcome), outcome_line(outcome))
+    (outcome_status(outcome), outcome_failure(outcome))
 }
 
 /// Runs the program over a text, read and written so many bytes at a time, onto this paper.
 fn run<H: Piecewise>(alloc: Global, words: &[&str], r: Script<'_>, w: &mut Paper) -> End {
+    let Ok(words) = call_of(alloc, words) else {
+        return NO_MEMORY;
+    };
     let mut reader = r;
     status(&outcome_of(
         alloc,
         BuildFresh::<H>::new(),
-        args(alloc, words),
+        &words,
+        "help\n",
+        "version\n",
         40,
         &mut reader,
         w,
@@ -334,45 +341,69 @@ fn a_flush_fails(rt: HostRuntime) {
     }
 }
 
-/// Calls that read and write nothing.
-const CALLS: [(&[&str], End); 5] = [
-    (&["--help"], WELL),
-    (&["-x"], (2, USAGE)),
-    (&[""], (2, USAGE)),
-    (&["-c", "-d"], (2, USAGE)),
-    (&["-c", "-c"], (2, USAGE)),
+/// Calls that read nothing, how they end, and what they write.
+const CALLS: [(&[&str], End, &[u8]); 8] = [
+    (&["--help"], WELL, b"help\n"),
+    (&["-c", "--version"], WELL, b"version\n"),
+    (&["--version", "--help"], WELL, b"help\n"),
+    (&["-x"], WRONG, b""),
+    (&["-cx", "--help"], WRONG, b""),
+    (&["--counts"], WRONG, b""),
+    (&["--coun"], WRONG, b""),
+    (&["-c-"], WRONG, b""),
 ];
 
+const WRONG: End = (2, "unknown option");
+
 #[test]
-fn arguments_that_are_wrong(rt: HostRuntime) {
-    for (words, end) in &CALLS {
+fn calls_that_read_nothing(rt: HostRuntime) {
+    for (words, end, output) in &CALLS {
         let mut script = Script::new(TEXT, 64);
         script.until_fault = 0;
         let paper = Paper::new(64, usize::MAX);
-        ends::<Lookup3Hasher>(&rt, rt.alloc(), words, script, paper, *end, b"");
+        ends::<Lookup3Hasher>(&rt, rt.alloc(), words, script, paper, *end, output);
+    }
+}
+
+/// Calls with options that go together, and what they write.
+const TOGETHER: [(&[&str], &[u8]); 9] = [
+    (&["-cd"], b"      2 b\n      2 a\n"),
+    (&["--count", "--repeated"], b"      2 b\n      2 a\n"),
+    (&["-c", "-u"], b"      1 c\n"),
+    (&["--unique"], b"c\n"),
+    (&["-du"], b""),
+    (&["-cdu"], b""),
+    (&["-cc"], COUNTED),
+    (&["x", "--", "-c"], ONCE),
+    (&["-", "-d"], b"b\na\n"),
+];
+
+#[test]
+fn options_that_go_together(rt: HostRuntime) {
+    for (words, output) in &TOGETHER {
+        writes::<Lookup3Hasher>(&rt, rt.alloc(), words, TEXT, 3, output);
     }
 }
 
 #[test]
-fn arguments_that_are_not_there(rt: HostRuntime) {
-    for (kind, end) in [
-        (ErrorKind::OutOfMemory, NO_MEMORY),
-        (ErrorKind::InvalidData, (2, USAGE)),
-    ] {
-        let mut reader = TEXT;
-        let mut paper = Paper::new(64, usize::MAX);
-        let error = Err(io::Error::from(kind));
-        let outcome = outcome_of(
-            rt.alloc(),
-            BuildFresh::<NullHasher>::new(),
-            error,
-            40,
-            &mut reader,
-            &mut paper,
-        );
-        ended(&rt, status(&outcome), end);
-        same(&rt, paper.line(), b"");
-    }
+fn lines_that_end_with_a_zero_byte(rt: HostRuntime) {
+    let text = b"a\nb\0c\0a\nb\0\0c".as_slice();
+    writes::<Lookup3Hasher>(&rt, rt.alloc(), &["-z"], text, 3, b"a\nb\0c\0\0");
+    let counted = b"      2 a\nb\0      2 c\0      1 \0".as_slice();
+    writes::<Lookup3Hasher>(&rt, rt.alloc(), &["-cz"], text, 64, counted);
+}
+
+#[test]
+fn nobody_reads_any_more(rt: HostRuntime) {
+    let closed = Outcome::Failed(Fault::Write(Some(io::Error::from(ErrorKind::BrokenPipe))));
+    let nothing = Outcome::Failed(Fault::Write(None));
+    all_hold(
+        &rt,
+        &[
+            outcome_status(&closed) == 141,
+            outcome_status(&nothing) == 1,
+        ],
+    );
 }
 
 /// Whether a run under a limit ended well, and said that there were no more lines, or that there were.
@@ -387,16 +418,22 @@ fn more_lines_than_the_limit(rt: HostRuntime) {
         let once = dedup(
             rt.alloc(),
             BuildFresh::<NullHasher>::new(),
+            b'\n',
             limit,
             &mut &TEXT[..],
             &mut paper,
         );
         let mut paper = Paper::new(64, usize::MAX);
-        let which = Which::Counted;
+        let which = Which {
+            counts: true,
+            repeated: false,
+            unique: false,
+        };
         let counted = tally(
             rt.alloc(),
             BuildFresh::<NullHasher>::new(),
             which,
+            b'\n',
             limit,
             &mut &TEXT[..],
             &mut paper,
@@ -448,6 +485,7 @@ fn written_of_twice(alloc: Global, lines: &[u8], capacity: usize) -> io::Result<
     match dedup(
         alloc,
         BuildFresh::<FNV1aHasher64>::new(),
+        b'\n',
         200,
         &mut reader,
         &mut output,
@@ -544,6 +582,7 @@ fn long_lines(alloc: Global) -> io::Result<(u64, u64)> {
     match dedup(
         alloc,
         BuildFresh::<Lookup3Hasher>::new(),
+        b'\n',
         4,
         &mut reader,
         &mut scale,

@@ -4,17 +4,15 @@ ghost use Rattle.std.specs.Io.{ReadsAtMost};
 ghost use Rattle.std.specs.Io.KnownBytes.{Consumes, IsAtEnd, ReadConsumes};
 ghost use Rattle.dedup.specs.Between.{Filled};
 
-use crate::lines::newline;
+use crate::lines::line_end;
 use crate::run::Fault;
+use hash_program::streams::{TRIES, read_some};
 use std::alloc::Global;
-use std::io::{ErrorKind, Read};
+use std::io::Read;
 use std::marker::Model;
 
 /// How many bytes are there at most, unless a line is longer than half of them.
 pub const BUFFER: usize = 65536;
-
-/// How often a read that was interrupted is tried again.
-const TRIES: u32 = 1000000;
 
 /// Bytes that were read and are not taken yet: what is left of the last line, and what was read behind it.
 #[derive(Drop)]
@@ -30,25 +28,6 @@ impl Model for Unread {
     ghost view = { λ unread. take (unread.to - unread.from) (drop unread.from unread.bytes.items) };
 
     ghost invariant = { λ unread. (unread.from ≤ unread.to) × (unread.to ≤ length unread.bytes.items) };
-}
-
-/// Reads once, and again where that was interrupted.
-fn read_some<R: Read>(r: &mut R, room: &mut [u8]) -> Result<usize, Fault>
-    ensures most { IfOk result (λ n. n ≤ length room.new) }
-    ensures read { IfOk result (λ n. Consumes (R.remaining r.old) (R.remaining r.new) (take n room.new) × (n ≡ 0 → 0 < length room.new → IsAtEnd (R.remaining r.new))) }
-{
-    let mut tries = TRIES;
-    loop {
-        match r.read(room) {
-            Ok(n) => return Ok(n),
-            Err(error) => {
-                if tries == 0 || error.kind() != ErrorKind::Interrupted {
-                    return Err(Fault::Read(error));
-                }
-            }
-        }
-        tries -= 1;
-    }
 }
 
 /// Moves the bytes of a range to the front.
@@ -87,8 +66,10 @@ fn read_behind<R: Read>(bytes: &mut [u8], to: usize, r: &mut R) -> Result<usize,
     ensures read { IfOk result (λ n. (text : List ℕ) × (take (to + n) bytes.new ≡ take to bytes.old ++ text) × (length text ≡ n)
         × Consumes (R.remaining r.old) (R.remaining r.new) text × (n ≡ 0 → IsAtEnd (R.remaining r.new))) }
 {
-    let n = read_some(r, &mut bytes[to..])?;
-    Ok(n)
+    match read_some(r, &mut bytes[to..], TRIES) {
+        Ok(n) => Ok(n),
+        Err(error) => Err(Fault::Read(error)),
+    }
 }
 
 impl Unread {
@@ -140,16 +121,16 @@ impl Unread {
         Ok(n)
     }
 
-    /// Reads until a newline came, or to the end, and answers whether one came. What was there is kept at the front.
-    pub fn fill<R: Read>(&mut self, r: &mut R) -> Result<bool, Fault>
-        ensures { IfOk result (λ more. Filled more self.old self.new (R.remaining r.old) (R.remaining r.new)) }
+    /// Reads until the end of a line came, or to the end, and answers whether one came. What was there is kept at the front.
+    pub fn fill<R: Read>(&mut self, eol: u8, r: &mut R) -> Result<bool, Fault>
+        ensures { IfOk result (λ more. Filled eol more self.old self.new (R.remaining r.old) (R.remaining r.new)) }
     {
         loop {
             let len = self.bytes().len();
             if self.read(r)? == 0 {
                 return Ok(false);
             }
-            if newline(&self.bytes()[len..]).is_some() {
+            if line_end(&self.bytes()[len..], eol).is_some() {
                 return Ok(true);
             }
         }

@@ -7,7 +7,7 @@ use Rattle.dedup.proofs.lines.put_line.Goals as goal
 pub returns-in_err-put-clause-err : goal.returns-in_err-put-clause-err
 returns-in_err-put-clause-err g c =
     let (part, rest, is, written) = c.in_err-put.ensures.err in
-    on_err _ c.from_residual.result (part, rest ++ 10 ∷ [], sym (append_assoc part rest (10 ∷ [])) ∙ ap (λ l. l ++ 10 ∷ []) is, written)
+    on_err _ c.from_residual.result (part, rest ++ c.args.eol ∷ [], sym (append_assoc part rest (c.args.eol ∷ [])) ∙ ap (λ l. l ++ c.args.eol ∷ []) is, written)
 
 pub returns-clause-err : goal.returns-clause-err
 returns-clause-err g c = on_err_weaker c.put-2.result

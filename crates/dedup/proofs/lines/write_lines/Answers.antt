@@ -2,7 +2,7 @@ use Rattle.std.proofs.Common.{ℕ, List, [], ◌≡◌, ◌<◌, ◌+◌, ◌++�
 use Rattle.std.specs.Io.{StopsAt}
 use Rattle.std.specs.Io.BufRead.{ends_with_byte}
 use Rattle.dedup.specs.Between.{BreaksOff, LeadsOn}
-use Rattle.dedup.specs.Lines.{lines}
+use Rattle.dedup.specs.Lines.{lines_by}
 use Rattle.hash_texts.specs.Texts.{has}
 use Rattle.dedup.proofs.LineLemmas.{line_through, one_line}
 use Rattle.dedup.proofs.RunLemmas.{breaks_at_line, counted_more, front_is, leads_further, leads_nowhere, lines_more, takes_so_far, together, whole_both, whole_line, whole_nothing}
@@ -10,7 +10,7 @@ use Rattle.dedup.proofs.SeenLemmas.{on_err}
 use Rattle.dedup.proofs.lines.write_lines.Goals as goal
 
 pub loop-count-init : goal.loop-count-init
-loop-count-init g c = ([], refl, whole_nothing, refl, leads_nowhere _ _)
+loop-count-init g c = ([], refl, (whole_nothing c.args.eol), refl, leads_nowhere c.args.eol _ _)
 
 pub loop-count-preserved : goal.loop-count-preserved
 loop-count-preserved g c =
@@ -19,15 +19,15 @@ loop-count-preserved g c =
     let later : List ℕ = c.split_at.result.1.now in
     let rest : List ℕ = c.loop-count.rest.now in
     let n : ℕ = c.in-Some.n in
-    let (stops, some, ended) = subst (λ l. StopsAt l 10 × (0 < length l) × (ends_with_byte 10 l ≡ true)) (sym c.split_at.ensures.front) (line_through rest n c.in-Some.ensures) in
+    let (stops, some, ended) = subst (λ l. StopsAt l c.args.eol × (0 < length l) × (ends_with_byte c.args.eol l ≡ true)) (sym c.split_at.ensures.front) (line_through c.args.eol rest n c.in-Some.ensures) in
     let wrote = c.in_ok-write_new-in-Some.ensures in
-    let more = lines_more part line whole stops some in (
+    let more = lines_more c.args.eol part line whole stops some in (
       part ++ line,
       append_assoc part line later ∙ ap (λ l. part ++ l) (together line later rest (n + 1) c.split_at.ensures.front c.split_at.ensures.back) ∙ is,
-      whole_both part line whole (whole_line line stops some ended),
-      counted_more part line c.loop-count.count more counted,
-      subst (λ ls. LeadsOn ls (has c.args.seen.now) (has c.write_new.new.seen) (g.W.Write.contents c.args.w.now) (g.W.Write.contents c.write_new.new.w)) (sym more)
-          (leads_further (lines part) (has c.args.seen.now) (has c.loop-count.seen) (has c.write_new.new.seen) (g.W.Write.contents c.args.w.now) (g.W.Write.contents c.loop-count.w) (g.W.Write.contents c.write_new.new.w) line leads wrote.written wrote.seen),
+      whole_both c.args.eol part line whole (whole_line c.args.eol line stops some ended),
+      counted_more c.args.eol part line c.loop-count.count more counted,
+      subst (λ ls. LeadsOn c.args.eol ls (has c.args.seen.now) (has c.write_new.new.seen) (g.W.Write.contents c.args.w.now) (g.W.Write.contents c.write_new.new.w)) (sym more)
+          (leads_further c.args.eol (lines_by c.args.eol part) (has c.args.seen.now) (has c.loop-count.seen) (has c.write_new.new.seen) (g.W.Write.contents c.args.w.now) (g.W.Write.contents c.loop-count.w) (g.W.Write.contents c.write_new.new.w) line leads wrote.written wrote.seen),
     )
 
 pub returns-in_err-write_new-in-Some-clause-begun : goal.returns-in_err-write_new-in-Some-clause-begun
@@ -37,30 +37,30 @@ returns-in_err-write_new-in-Some-clause-begun g c =
     let later : List ℕ = c.split_at.result.1.now in
     let rest : List ℕ = c.loop-count.rest.now in
     let n : ℕ = c.in-Some.n in
-    let (stops, some, ended) = subst (λ l. StopsAt l 10 × (0 < length l) × (ends_with_byte 10 l ≡ true)) (sym c.split_at.ensures.front) (line_through rest n c.in-Some.ensures) in
+    let (stops, some, ended) = subst (λ l. StopsAt l c.args.eol × (0 < length l) × (ends_with_byte c.args.eol l ≡ true)) (sym c.split_at.ensures.front) (line_through c.args.eol rest n c.in-Some.ensures) in
     let (begun, more, of, appends) = c.in_err-write_new-in-Some.ensures.begun in
     let all : part ++ (line ++ later) ≡ c.args.bytes.now = ap (λ l. part ++ l) (together line later rest (n + 1) c.split_at.ensures.front c.split_at.ensures.back) ∙ is in
     on_err _ c.from_residual.result
-    (subst (λ l. BreaksOff l (has c.args.seen.now) (g.W.Write.contents c.args.w.now) (g.W.Write.contents c.write_new.new.w)) all
-    (breaks_at_line (has c.args.seen.now) (has c.loop-count.seen) (g.W.Write.contents c.args.w.now) (g.W.Write.contents c.loop-count.w) (g.W.Write.contents c.write_new.new.w) part line later whole (whole_line line stops some ended) (one_line line stops some) leads begun more of appends))
+    (subst (λ l. BreaksOff c.args.eol l (has c.args.seen.now) (g.W.Write.contents c.args.w.now) (g.W.Write.contents c.write_new.new.w)) all
+    (breaks_at_line c.args.eol (has c.args.seen.now) (has c.loop-count.seen) (g.W.Write.contents c.args.w.now) (g.W.Write.contents c.loop-count.w) (g.W.Write.contents c.write_new.new.w) part line later whole (whole_line c.args.eol line stops some ended) (one_line c.args.eol line stops some) leads begun more of appends))
 
 pub returns-in-None-clause-takes : goal.returns-in-None-clause-takes
 returns-in-None-clause-takes g c =
     let (part, is, whole, counted, leads) = c.loop-count.invariant in
-    takes_so_far part c.loop-count.rest.now c.args.bytes.now c.args.most c.loop-count.count is whole counted (omega arith) (λ below. c.in-None.ensures)
+    takes_so_far c.args.eol part c.loop-count.rest.now c.args.bytes.now c.args.most c.loop-count.count is whole counted (omega arith) (λ below. c.in-None.ensures)
 
 pub returns-in-None-clause-written : goal.returns-in-None-clause-written
 returns-in-None-clause-written g c =
     let (part, is, whole, counted, leads) = c.loop-count.invariant in
-    subst (λ text. LeadsOn (lines text) (has c.args.seen.now) (has c.loop-count.seen) (g.W.Write.contents c.args.w.now) (g.W.Write.contents c.loop-count.w)) (sym (front_is part c.loop-count.rest.now c.args.bytes.now is)) leads
+    subst (λ text. LeadsOn c.args.eol (lines_by c.args.eol text) (has c.args.seen.now) (has c.loop-count.seen) (g.W.Write.contents c.args.w.now) (g.W.Write.contents c.loop-count.w)) (sym (front_is part c.loop-count.rest.now c.args.bytes.now is)) leads
 
 pub returns-clause-takes : goal.returns-clause-takes
 returns-clause-takes g c =
     let (part, is, whole, counted, leads) = c.loop-count.invariant in
     let all : c.loop-count.count ≡ c.args.most = omega arith in
-    takes_so_far part c.loop-count.rest.now c.args.bytes.now c.args.most c.args.most is whole (sym all ∙ counted) (omega arith) (λ below. absurd (omega (arith, below)))
+    takes_so_far c.args.eol part c.loop-count.rest.now c.args.bytes.now c.args.most c.args.most is whole (sym all ∙ counted) (omega arith) (λ below. absurd (omega (arith, below)))
 
 pub returns-clause-written : goal.returns-clause-written
 returns-clause-written g c =
     let (part, is, whole, counted, leads) = c.loop-count.invariant in
-    subst (λ text. LeadsOn (lines text) (has c.args.seen.now) (has c.loop-count.seen) (g.W.Write.contents c.args.w.now) (g.W.Write.contents c.loop-count.w)) (sym (front_is part c.loop-count.rest.now c.args.bytes.now is)) leads
+    subst (λ text. LeadsOn c.args.eol (lines_by c.args.eol text) (has c.args.seen.now) (has c.loop-count.seen) (g.W.Write.contents c.args.w.now) (g.W.Write.contents c.loop-count.w)) (sym (front_is part c.loop-count.rest.now c.args.bytes.now is)) leads

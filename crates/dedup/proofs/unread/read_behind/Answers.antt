@@ -3,17 +3,16 @@ use Rattle.std.proofs.lemmas.List.{length-take-le}
 use Rattle.dedup.proofs.UnreadLemmas.{read_put}
 use Rattle.dedup.proofs.unread.read_behind.Goals as goal
 
-pub returns-clause-read : goal.returns-clause-read
-returns-clause-read g c =
+pub returns-in-Ok-clause-read : goal.returns-in-Ok-clause-read
+returns-in-Ok-clause-read g c =
     let room = c.read_some.new.room in
-    let n : ℕ = c.in_ok-n.n in
-    let (read, ended) = c.in_ok-n.ensures.read in
+    let n : ℕ = c.in-Ok.n in
     let bytes = c.args.bytes.now in
     let to = c.args.to in
     let some : 0 < length room = omega (arith, c.requires, c.read_some.auto.room, length-take (length bytes - to) (drop to bytes), length-drop to bytes) in (
       take n room,
-      read_put c.args.bytes.now room c.args.to (length c.args.bytes.now - c.args.to) n (omega (arith, c.requires)) c.in_ok-n.ensures.most,
-      length-take-le n room c.in_ok-n.ensures.most,
-      read,
-      λ none. ended none some,
+      read_put c.args.bytes.now room c.args.to (length c.args.bytes.now - c.args.to) n (omega (arith, c.requires)) c.in-Ok.ensures.most,
+      length-take-le n room c.in-Ok.ensures.most,
+      c.in-Ok.ensures.read,
+      λ none. c.in-Ok.ensures.end none some,
     )

@@ -3,7 +3,7 @@ use Rattle.std.proofs.KnownBytes.{Consumes-trans}
 use Rattle.std.proofs.lemmas.Bool.{true≢false}
 use Rattle.dedup.specs.Between.{IsBare}
 use Rattle.dedup.proofs.RunLemmas.{bare_both}
-use Rattle.dedup.proofs.UnreadLemmas.{found_newline, found_none}
+use Rattle.dedup.proofs.UnreadLemmas.{found_end, found_none}
 use Rattle.dedup.proofs.unread.Unread.fill.Goals as goal
 
 pub returns-then-is_some : goal.returns-then-is_some
@@ -14,7 +14,7 @@ returns-then-is_some g c =
       text = text ++ piece;
       is = is_more ∙ ap (λ l. l ++ piece) is ∙ append_assoc c.args.self.now text piece;
       read = Consumes-trans _ _ _ _ _ read read_more;
-      newline = λ more bare. found_newline c.bytes.result.now _ _ c.newline.ensures (sym c.if-is_some.ensures) (subst IsBare (sym c.bytes.ensures) bare);
+      ended_line = λ more bare. found_end c.args.eol c.bytes.result.now _ _ c.line_end.ensures (sym c.if-is_some.ensures) (subst (IsBare c.args.eol) (sym c.bytes.ensures) bare);
       bare = λ same. absurd (true≢false same);
       ended = λ same. absurd (true≢false same);
     }
@@ -25,6 +25,6 @@ loop-self-preserved g c =
     let (piece, is_more, long, read_more, ended) = c.in_ok-read.ensures in (
       text ++ piece,
       is_more ∙ ap (λ l. l ++ piece) is ∙ append_assoc c.args.self.now text piece,
-      bare_both text piece bare (found_none c.bytes.result.now c.loop-self.self piece _ _ c.newline.ensures (sym c.if-is_some.ensures) (c.bytes.ensures ∙ is_more) (ap length c.bytes-len.ensures)),
+      bare_both c.args.eol text piece bare (found_none c.args.eol c.bytes.result.now c.loop-self.self piece _ _ c.line_end.ensures (sym c.if-is_some.ensures) (c.bytes.ensures ∙ is_more) (ap length c.bytes-len.ensures)),
       Consumes-trans _ _ _ _ _ read read_more,
     )

@@ -3,9 +3,9 @@ use Rattle.std.specs.Io.KnownBytes.{Consumes}
 use Rattle.dedup.specs.Between.{IsBare}
 use Rattle.dedup.proofs.unread.Unread.fill.Given as goal
 
--- what was read so far has no newline
+-- what was read so far has no end
 abbrev pub invariant-loop-self : goal.invariant-loop-self
-invariant-loop-self g l = (text : List ℕ) × (l.self ≡ l.initial.self ++ text) × IsBare text
+invariant-loop-self g l = (text : List ℕ) × (l.self ≡ l.initial.self ++ text) × IsBare l.eol text
     × Consumes (g.R.Read.remaining l.initial.r) (g.R.Read.remaining l.r) text
 
 abbrev pub decreases-loop-self : goal.decreases-loop-self

@@ -1,0 +1,36 @@
+//! The words of the call, as bytes.
+use std::alloc::AllocError;
+use std::env::{Env, FillError};
+
+/// The call's word at that place, the program's own name first.
+fn word(rt: &HostRuntime, place: usize) -> Result<Option<Vec<u8>>, AllocError> {
+    let mut room = 256usize;
+    for _ in 0..usize::BITS {
+        let mut bytes = Vec::new(rt.alloc());
+        bytes.resize(room, 0)?;
+        match rt.arg(place, &mut bytes) {
+            Ok(len) => {
+                bytes.truncate(len);
+                return Ok(Some(bytes));
+            }
+            Err(FillError::NotPresent) => return Ok(None),
+            Err(FillError::TooLong) => room = room.saturating_mul(2),
+        }
+    }
+    Err(AllocError)
+}
+
+/// The words behind the program's own name.
+pub fn words(rt: &HostRuntime) -> Result<Vec<Vec<u8>>, AllocError> {
+    let mut words = Vec::new(rt.alloc());
+    for place in 1..usize::MAX {
+        match word(rt, place)? {
+            Some(word) => match words.push(word) {
+                Ok(()) => {}
+                Err(_) => return Err(AllocError),
+            },
+            None => break,
+        }
+    }
+    Ok(words)
+}

@@ -1,0 +1,10 @@
+use Rattle.std.proofs.Common.{take, ◌++◌}
+use Rattle.std.proofs.KnownBytes.{Appends-trans}
+use Rattle.hash_program.proofs.StreamLemmas.{taken_more}
+use Rattle.hash_program.proofs.streams.put.Goals as goal
+
+pub loop-rest-preserved-in-Ok : goal.loop-rest-preserved-in-Ok
+loop-rest-preserved-in-Ok g c =
+    let before = c.loop-rest in
+    let (part, is, appends) = before.invariant in
+    (part ++ take c.in-Ok.n before.rest.now, taken_more part before.rest.now _ c.in-Ok.n is, Appends-trans _ _ _ _ _ appends c.in-Ok.ensures.bytes)

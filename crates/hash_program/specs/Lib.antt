@@ -1,0 +1,3 @@
+pub mod Call
+pub mod Reason
+pub mod Streams
