@@ -1,5 +1,6 @@
 pub mod ColumnLemmas
 pub mod FirstsLemmas
+pub mod InputLemmas
 pub mod LawLemmas
 pub mod LineLemmas
 pub mod OrderLemmas

@@ -1,11 +1,11 @@
 -- Lines of a text that grows, and the first of each.
-use Rattle.std.proofs.Common.{suc, subst, Some, ◌≡◌, ◌≢◌, ℕ, ◌+◌, ◌-◌, ◌<◌, Bool, true, false, cond, not, ◌||◌, ◌&&◌, if◌then◌else◌, ◌==◌, List, [], ◌∷◌, ◌++◌, length, get_or, take, drop, take-append-drop, append_assoc, All, ap, sym, ◌∙◌, refl, arith}
+use Rattle.std.proofs.Common.{suc, subst, Some, ◌≡◌, ◌≢◌, ℕ, ◌+◌, ◌-◌, ◌<◌, ◌≤◌, Bool, true, false, cond, not, ◌||◌, ◌&&◌, if◌then◌else◌, ◌==◌, List, [], ◌∷◌, ◌++◌, length, get_or, take, drop, take-append-drop, append_assoc, All, ap, sym, ◌∙◌, refl, arith}
 use Rattle.std.specs.Io.{StopsAt}
 use Rattle.std.specs.Io.BufRead.{ends_with_byte, strip_last}
 use Rattle.std.specs.List.{filter, flat_map, list_any, onto_first}
-use Rattle.std.proofs.lemmas.Bool.{ne_eqb, eq-eqb, lt-ltb, false≢true}
+use Rattle.std.proofs.lemmas.Bool.{eqb-true, ne_eqb, eq-eqb, lt-ltb, false≢true}
 use Rattle.std.proofs.lemmas.Cmp.{nat_list_eq_equiv}
-use Rattle.std.proofs.lemmas.List.{append-nil, take_rest, get_or-take, get_or_default, length-take, length-take-le}
+use Rattle.std.proofs.lemmas.List.{append-nil, take_all, take_more, take_rest, get_or-take, get_or_default, length-take, length-take-le}
 use Rattle.std.proofs.lemmas.Grind.{flat_map-append, get_or_tail}
 use Rattle.std.proofs.lemmas.List.Elements.{All-head, All-tail, filter-append}
 use Rattle.dedup.specs.Between.{IsBare, IsLineEnd}
@@ -108,12 +108,39 @@ module _ (eol : ℕ) where
       ap (λ b. cond b ((byte ∷ []) ∷ (lines_by eol) (next ∷ line)) (onto_first byte (lines_by eol (next ∷ line)))) (ne_eqb byte eol (bare 0 (omega arith)))
       ∙ ap (onto_first byte) (bare_line (next ∷ line) (λ k below. bare (suc k) (omega arith)) (omega arith))
 
-  -- bytes without an end are a text
-  pub bare_text : (line : List ℕ) → IsBare eol line → strip_last eol line ≡ line
-  bare_text [] bare = refl
-  bare_text (byte ∷ line) bare =
+  -- bytes without an end do not end with one, and are a text
+  pub bare_end : (line : List ℕ) → IsBare eol line → ends_with_byte eol line ≡ false
+  bare_end [] bare = refl
+  bare_end (byte ∷ line) bare =
       let all : List ℕ = byte ∷ line in
-      ap (λ b. cond b (take (length all - 1) all) all) (ends_some all (omega arith) ∙ ne_eqb _ eol (bare (length all - 1) (omega arith)))
+      ends_some all (omega arith) ∙ ne_eqb _ eol (bare (length all - 1) (omega arith))
+
+  pub bare_text : (line : List ℕ) → IsBare eol line → strip_last eol line ≡ line
+  bare_text line bare = ap (λ b. cond b (take (length line - 1) line) line) (bare_end line bare)
+
+  -- a line that is longer than its text has its end
+  pub line_with_end : (line : List ℕ) → length (strip_last eol line) < length line → as_line_by eol line ≡ line
+  line_with_end line longer = at (ends_with_byte eol line) refl longer
+    where
+      at : (b : Bool) → ends_with_byte eol line ≡ b → length (cond b (take (length line - 1) line) line) < length line
+          → cond b (take (length line - 1) line) line ++ eol ∷ [] ≡ line
+      at true ends below =
+          let some : 0 < length line = omega (arith, below) in
+          let last : (get_or line (length line - 1) 0 == eol) ≡ true = sym (ends_some line some) ∙ ends in
+          ap (λ byte. take (length line - 1) line ++ byte ∷ []) (sym (eqb-true _ _ last))
+          ∙ sym (take_more line (length line - 1) 0 (omega (arith, some)))
+          ∙ take_all (length line - 1 + 1) line (omega (arith, some))
+      at false ends below = absurd (omega (arith, below))
+
+  -- a line that is not has none
+  pub line_without_end : (line : List ℕ) → length line ≤ length (strip_last eol line) → strip_last eol line ≡ line
+  line_without_end [] all = refl
+  line_without_end (byte ∷ line) all = at (ends_with_byte eol (byte ∷ line)) all
+    where
+      at : (b : Bool) → length (byte ∷ line) ≤ length (cond b (take (length (byte ∷ line) - 1) (byte ∷ line)) (byte ∷ line))
+          → cond b (take (length (byte ∷ line) - 1) (byte ∷ line)) (byte ∷ line) ≡ byte ∷ line
+      at true below = absurd (omega (arith, below, length-take (length (byte ∷ line) - 1) (byte ∷ line)))
+      at false below = refl
 
   -- where there are bytes, there is a line
   pub some_line : (text : List ℕ) → 0 < length text → 0 < length (lines_by eol text)

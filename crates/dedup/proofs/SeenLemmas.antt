@@ -1,5 +1,5 @@
 -- The set of the texts that were seen.
-use Rattle.std.proofs.Common.{◌≡◌, ℕ, Result, Ok, Err, OnOk, OnErr, Bool, true, false, not, ◌||◌, cond, List, [], ◌∷◌, ◌++◌, ap, sym, ◌∙◌, refl, if◌then◌else◌}
+use Rattle.std.proofs.Common.{◌≡◌, ℕ, Result, Ok, Err, OnOk, OnErr, Bool, true, false, not, ◌||◌, cond, List, [], ◌∷◌, ◌++◌, ap, sym, ◌∙◌, refl, if◌then◌else◌, Option, append_assoc, subst}
 use Rattle.std.specs.Io.BufRead.{strip_last}
 use Rattle.std.specs.Result.{is_ok}
 use Rattle.std.specs.Str.{bytes_eq}
@@ -7,7 +7,13 @@ use Rattle.std.proofs.lemmas.Bool.{false≢true}
 use Rattle.std.proofs.lemmas.Cmp.{nat_list_eq_equiv}
 use Rattle.std.proofs.lemmas.List.Folds.{list_any-append}
 use Rattle.std.proofs.lemmas.Map.Steps.{list_any_congr}
-use Rattle.dedup.specs.Lines.{as_line_by, if_new_by}
+use Rattle.std.proofs.KnownBytes.{Appends-trans}
+use Rattle.std.specs.Io.KnownBytes.{Appends}
+use Rattle.std.specs.List.{list_any}
+use Rattle.hash_program.specs.Streams.{AppendsPart}
+use Rattle.dedup.specs.Lines.{AreSeen, as_line_by, once_by}
+use Rattle.dedup.specs.Taking.{LeadsOn, StopsWithin}
+use Rattle.dedup.proofs.LineLemmas.{once_more}
 use Rattle.hash_texts.specs.Texts.{has, with_text}
 
 -- a text that is seen adds nothing
@@ -17,23 +23,6 @@ has_already seen text there other = at (bytes_eq other text) refl
     at : (b : Bool) → bytes_eq other text ≡ b → has seen other ≡ (b || has seen other)
     at true same = list_any_congr nat_list_eq_equiv other text seen same ∙ there
     at false same = refl
-
-module _ (eol : ℕ) where
-  -- of a line whose text is new all is written, and its end
-  pub new_is_line : (seen : List (List ℕ)) (line : List ℕ) → true ≡ not (has seen (strip_last eol line)) → as_line_by eol line ≡ if_new_by eol seen line
-  new_is_line seen line new = at (has seen (strip_last eol line)) new
-    where
-      at : (b : Bool) → true ≡ not b → as_line_by eol line ≡ (if b then [] else as_line_by eol line)
-      at true is = absurd (false≢true (sym is))
-      at false is = refl
-
-  -- of a line whose text is there nothing is written
-  pub old_is_none : (seen : List (List ℕ)) (line : List ℕ) → false ≡ not (has seen (strip_last eol line)) → [] ≡ if_new_by eol seen line
-  old_is_none seen line old = at (has seen (strip_last eol line)) old
-    where
-      at : (b : Bool) → false ≡ not b → [] ≡ (if b then [] else as_line_by eol line)
-      at true is = refl
-      at false is = absurd (false≢true is)
 
 -- a set has the text that it saw, and those that it had
 pub has_seen : (seen seen' : List (List ℕ)) (text : List ℕ) → seen' ≡ with_text seen text → (other : List ℕ) → has seen' other ≡ (bytes_eq other text || has seen other)
@@ -49,6 +38,58 @@ has_seen seen seen' text is other = ap (λ s. has s other) is ∙ at (has seen t
     at true there = has_already seen text there other
     at false new = list_any-append (bytes_eq other) seen (text ∷ []) ∙ swapped (has seen other) (bytes_eq other text)
 
+-- what is told to be new is not there, and what is told to be old is
+pub not_there : (there new : Bool) → new ≡ not there → new ≡ true → there ≡ false
+not_there true new is told = absurd (false≢true (sym is ∙ told))
+not_there false new is told = refl
+
+pub is_there : (there new : Bool) → new ≡ not there → new ≡ false → there ≡ true
+is_there true new is told = refl
+is_there false new is told = absurd (false≢true (sym told ∙ is))
+
+module _ (eol : ℕ) (seen : List (List ℕ)) (line : List ℕ) where
+  -- what is written of a line behind lines with these texts
+  adds : (ls : List (List ℕ)) → AreSeen eol ls seen → once_by eol (ls ++ line ∷ []) ≡ once_by eol ls ++ (if has seen (strip_last eol line) then [] else as_line_by eol line)
+  adds ls before = once_more eol ls line ∙ ap (λ b. once_by eol ls ++ (if b then [] else as_line_by eol line)) (sym (before (strip_last eol line)))
+
+  -- of a line whose text is new all is written, and its end
+  pub adds_new : (ls : List (List ℕ)) → AreSeen eol ls seen → true ≡ not (has seen (strip_last eol line)) → once_by eol (ls ++ line ∷ []) ≡ once_by eol ls ++ as_line_by eol line
+  adds_new ls before new = adds ls before ∙ ap (λ b. once_by eol ls ++ (if b then [] else as_line_by eol line)) (not_there (has seen (strip_last eol line)) true new refl)
+
+  -- of a line whose text is there nothing is written
+  pub adds_nothing : (ls : List (List ℕ)) → AreSeen eol ls seen → false ≡ not (has seen (strip_last eol line)) → once_by eol (ls ++ line ∷ []) ≡ once_by eol ls ++ []
+  adds_nothing ls before old = adds ls before ∙ ap (λ b. once_by eol ls ++ (if b then [] else as_line_by eol line)) (is_there (has seen (strip_last eol line)) false old refl)
+
+  -- the text of the line is among those that are seen then
+  pub seen_more : (seen' : List (List ℕ)) → seen' ≡ with_text seen (strip_last eol line) → (ls : List (List ℕ)) → AreSeen eol ls seen → AreSeen eol (ls ++ line ∷ []) seen'
+  seen_more seen' is ls before = λ other.
+      has_seen seen seen' (strip_last eol line) is other ∙ ap (λ b. bytes_eq other (strip_last eol line) || b) (before other)
+      ∙ or_last (bytes_eq other (strip_last eol line)) (list_any (λ l. bytes_eq other (strip_last eol l)) ls)
+      ∙ sym (list_any-append (λ l. bytes_eq other (strip_last eol l)) ls (line ∷ []))
+    where
+      or_last : (a b : Bool) → (a || b) ≡ (b || (a || false))
+      or_last true true = refl
+      or_last true false = refl
+      or_last false true = refl
+      or_last false false = refl
+
+  -- a line is taken by a set that has its text then, and what is due of it is written
+  pub takes_line : (seen' : List (List ℕ)) → seen' ≡ with_text seen (strip_last eol line) → (due : List ℕ) → ((ls : List (List ℕ)) → AreSeen eol ls seen → once_by eol (ls ++ line ∷ []) ≡ once_by eol ls ++ due)
+      → (w w' : Option (List ℕ)) → Appends w w' due → LeadsOn (once_by eol) (λ ls. AreSeen eol ls seen) (λ ls. AreSeen eol ls seen') (line ∷ []) w w'
+  takes_line seen' is due adds_due w w' appends = record {
+    stands = λ ls before. seen_more seen' is ls before;
+    writes = λ ls start before written. subst (Appends start w') (sym (adds_due ls before)) (Appends-trans _ _ _ _ _ written appends);
+  }
+
+  -- a fault within a new line
+  pub stops_in_line : true ≡ not (has seen (strip_last eol line)) → (w w' : Option (List ℕ)) → AppendsPart w w' (as_line_by eol line) → StopsWithin (once_by eol) (λ ls. AreSeen eol ls seen) (line ∷ []) w w'
+  stops_in_line new w w' (part, rest, is, appends) = λ ls start before written. (
+    once_by eol ls ++ part,
+    rest,
+    append_assoc (once_by eol ls) part rest ∙ ap (λ l. once_by eol ls ++ l) is ∙ sym (adds_new ls before new),
+    Appends-trans _ _ _ _ _ written appends,
+  )
+
 -- what holds holds after an error
 pub on_err : {A E : Type 0} (P : Type 0) (result : Result A E) → P → OnErr result P
 on_err P (Ok it) holds = tt
@@ -63,12 +104,3 @@ on_ok P (Err error) holds = tt
 pub at_ok : {A E : Type 0} (P : Type 0) (result : Result A E) → is_ok result ≡ true → OnOk result P → P
 at_ok P (Ok it) is holds = holds
 at_ok P (Err error) is holds = absurd (false≢true is)
-
--- what is told to be new is not there, and what is told to be old is
-pub not_there : (there new : Bool) → new ≡ not there → new ≡ true → there ≡ false
-not_there true new is told = absurd (false≢true (sym is ∙ told))
-not_there false new is told = refl
-
-pub is_there : (there new : Bool) → new ≡ not there → new ≡ false → there ≡ true
-is_there true new is told = refl
-is_there false new is told = absurd (false≢true (sym told ∙ is))

@@ -1,7 +1,7 @@
 -- Texts by their places, and how often each came.
-use Rattle.std.proofs.Common.{zero, suc, ◌≡◌, ℕ, ◌+◌, ◌<◌, ◌≤◌, Bool, true, false, cond, not, ◌||◌, List, [], ◌∷◌, ◌++◌, length, get_or, set, map, ap, sym, ◌∙◌, refl, arith, add-zero, zero-add}
+use Rattle.std.proofs.Common.{zero, suc, ◌≡◌, ℕ, ◌+◌, ◌<◌, ◌≤◌, Bool, true, false, cond, List, [], ◌∷◌, ◌++◌, length, get_or, set, map, ap, sym, ◌∙◌, refl, arith, add-zero, zero-add}
 use Rattle.std.specs.Io.BufRead.{strip_last}
-use Rattle.std.specs.List.{filter, list_any, count_by}
+use Rattle.std.specs.List.{list_any, count_by}
 use Rattle.std.specs.Str.{bytes_eq}
 use Rattle.std.proofs.lemmas.Bool.{or_parts}
 use Rattle.std.proofs.lemmas.Cmp.{nat_list_eq_equiv}

@@ -1,10 +1,10 @@
--- A run between two lines of its input.
-use Rattle.std.specs.Prelude.{ℕ, ◌≡◌, ◌≢◌, ◌<◌, Bool, true, false, Option, None, Some, List, ◌++◌, ◌≤◌, length, take, drop, slice_index}
-use Rattle.std.specs.Io.BufRead.{strip_last}
-use Rattle.std.specs.Io.KnownBytes.{Consumes, Appends, IsAtEnd}
-use Rattle.std.specs.List.{list_any}
-use Rattle.std.specs.Str.{bytes_eq}
-use Rattle.dedup.specs.Lines.{lines_by, once_by}
+-- Lines among the bytes that were read.
+use Rattle.std.specs.Prelude.{ℕ, ◌≡◌, ◌≢◌, ◌<◌, Option, None, Some, List, ◌++◌, ◌≤◌, length, take, drop, slice_index}
+use Rattle.std.specs.Io.KnownBytes.{Consumes, IsAtEnd}
+use Rattle.dedup.specs.Inputs.{whole_lines}
+use Rattle.dedup.specs.Lines.{lines_by}
+use Rattle.dedup.specs.declared.unread.Came.{Came}
+use Rattle.dedup.specs.declared.unread.Came.TheVariants.{Line, End, Fault}
 
 -- no byte ends a line
 abbrev pub IsBare : (eol : ℕ) → List ℕ → Type 0
@@ -15,32 +15,23 @@ abbrev pub IsLineEnd : (eol : ℕ) → List ℕ → Option ℕ → Type 0
 IsLineEnd eol bytes None = IsBare eol bytes
 IsLineEnd eol bytes (Some n) = (n < length bytes) × (slice_index bytes n ≡ eol) × ((k : ℕ) → k < n → slice_index bytes k ≢ eol)
 
--- what comes behind the text are other lines
-abbrev pub IsWhole : (eol : ℕ) → List ℕ → Type 0
-IsWhole eol text = (more : List ℕ) → lines_by eol (text ++ more) ≡ lines_by eol text ++ lines_by eol more
+-- what comes behind the text are other lines, and each of its own has its end
+pub record IsWhole (eol : ℕ) (text : List ℕ) : Type 0 where
+  pub splits : (more : List ℕ) → lines_by eol (text ++ more) ≡ lines_by eol text ++ lines_by eol more
+  pub ends : whole_lines eol text ≡ lines_by eol text
 
--- some bytes more were read, up to the end of a line among them or else to the end
-pub record Filled (eol : ℕ) (more : Bool) (unread unread' : List ℕ) (left left' : Option (List ℕ)) : Type 0 where
+-- what came of reading on: an end of a line among the bytes, or none in what was read until the input ended or failed
+abbrev pub HasCome : (eol : ℕ) (text unread : List ℕ) (left : Option (List ℕ)) → Came → Type 0
+HasCome eol text unread left Line = ¬ IsBare eol unread
+HasCome eol text unread left End = IsBare eol text × IsAtEnd left
+HasCome eol text unread left (Fault error) = IsBare eol text
+
+-- some bytes more were read
+pub record Filled (eol : ℕ) (unread unread' : List ℕ) (left left' : Option (List ℕ)) (came : Came) : Type 0 where
   pub text : List ℕ
   pub is : unread' ≡ unread ++ text
   pub read : Consumes left left' text
-  pub ended_line : more ≡ true → ¬ IsBare eol unread'
-  pub bare : more ≡ false → IsBare eol text
-  pub ended : more ≡ false → IsAtEnd left'
-
--- the texts of these lines are seen, and each is written once
-pub record Wrote (eol : ℕ) (ls : List (List ℕ)) (seen : List ℕ → Bool) (written written' : Option (List ℕ)) : Type 0 where
-  pub is_seen : (other : List ℕ) → seen other ≡ list_any (λ line. bytes_eq other (strip_last eol line)) ls
-  pub appends : Appends written written' (once_by eol ls)
-
--- these lines come next
-abbrev pub LeadsOn : (eol : ℕ) → List (List ℕ) → (seen seen' : List ℕ → Bool) → (written written' : Option (List ℕ)) → Type 0
-LeadsOn eol more seen seen' written written' = (ls : List (List ℕ)) (start : Option (List ℕ)) → Wrote eol ls seen start written → Wrote eol (ls ++ more) seen' start written'
-
--- bytes come next, and a beginning of what is to be written of them was written
-abbrev pub BreaksOff : (eol : ℕ) → List ℕ → (seen : List ℕ → Bool) → (written written' : Option (List ℕ)) → Type 0
-BreaksOff eol bytes seen written written' = (ls : List (List ℕ)) (start : Option (List ℕ)) → Wrote eol ls seen start written
-    → (part : List ℕ) × Appends start written' part × ((later : List ℕ) → (rest : List ℕ) × (once_by eol (ls ++ lines_by eol (bytes ++ later)) ≡ part ++ rest))
+  pub has_come : HasCome eol text unread' left' came
 
 -- so many lines and bytes of these are taken: all lines that are whole, or as many as may be
 pub record Takes (eol : ℕ) (bytes : List ℕ) (most count len : ℕ) : Type 0 where

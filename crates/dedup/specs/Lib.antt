@@ -1,7 +1,9 @@
 pub mod Between
+pub mod Inputs
 pub mod Laws
 pub mod Lines
 pub mod Program
 pub mod Running
 pub mod Status
+pub mod Taking
 pub mod Tallies

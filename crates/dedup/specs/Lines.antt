@@ -1,7 +1,7 @@
 -- The lines of a text, and what the program makes of them. A line ends with a byte, newline or another.
-use Rattle.std.specs.Prelude.{ℕ, ◌==◌, ◌++◌, if◌then◌else◌, Bool, not, List, [], ◌∷◌}
+use Rattle.std.specs.Prelude.{ℕ, ◌≡◌, ◌==◌, ◌++◌, if◌then◌else◌, Bool, not, List, [], ◌∷◌}
 use Rattle.std.specs.Io.BufRead.{strip_last}
-use Rattle.std.specs.List.{filter, flat_map, onto_first}
+use Rattle.std.specs.List.{filter, flat_map, list_any, onto_first}
 use Rattle.std.specs.Str.{bytes_eq}
 use Rattle.hash_texts.specs.Texts.{has}
 
@@ -31,9 +31,9 @@ once_by eol ls = flat_map (as_line_by eol) (firsts_by eol ls)
 abbrev pub each_once_by : (eol : ℕ) → List ℕ → List ℕ
 each_once_by eol text = once_by eol (lines_by eol text)
 
--- what is written of a line behind lines of which these are the texts
-abbrev pub if_new_by : (eol : ℕ) → List (List ℕ) → List ℕ → List ℕ
-if_new_by eol seen line = if has seen (strip_last eol line) then [] else as_line_by eol line
+-- these texts are those of the lines
+abbrev pub AreSeen : (eol : ℕ) → List (List ℕ) → (seen : List (List ℕ)) → Type 0
+AreSeen eol ls seen = (other : List ℕ) → has seen other ≡ list_any (λ line. bytes_eq other (strip_last eol line)) ls
 
 -- the same of lines that end with a newline
 abbrev pub lines : List ℕ → List (List ℕ)

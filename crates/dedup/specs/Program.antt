@@ -1,14 +1,17 @@
 -- What the program is asked for, and how it ends.
-use Rattle.std.specs.Prelude.{ℕ, ◌≡◌, ◌||◌, Bool, if◌then◌else◌, List, [], ◌∷◌, Option, Some, None, Result, Ok, Err, codes}
+use Rattle.std.specs.Prelude.{ℕ, ◌≡◌, ◌||◌, if◌then◌else◌, List, [], ◌∷◌, Option, Some, None, Result, Ok, Err, codes}
 use Rattle.std.specs.Io.KnownBytes.{Appends, Keeps}
 use Rattle.hash_program.specs.Call.{given, unknown}
 use Rattle.hash_program.specs.Streams.{AppendsPart}
-use Rattle.dedup.specs.Lines.{each_once_by}
-use Rattle.dedup.specs.Running.{IsBeyond, IsWithin, Run, WritesAll, WritesPart}
-use Rattle.dedup.specs.Tallies.{tallied}
-use Rattle.dedup.specs.declared.run.Fault.{Fault}
+use Rattle.dedup.specs.Lines.{once_by}
+use Rattle.dedup.specs.Running.{Ends, Run}
+use Rattle.dedup.specs.Tallies.{told}
+use Rattle.dedup.specs.declared.fault.Fault.{Fault}
 use Rattle.dedup.specs.declared.outcome.Outcome.{Outcome}
-use Rattle.dedup.specs.declared.outcome.Outcome.TheVariants.{Done, Usage, NoMemory, TooManyLines, Failed}
+use Rattle.dedup.specs.declared.outcome.Outcome.TheVariants.{Done, Usage, Failed}
+use Rattle.dedup.specs.declared.outcome.Outcome.TheVariants as outcome
+use Rattle.dedup.specs.declared.run.Ended.{Ended}
+use Rattle.dedup.specs.declared.run.Ended.TheVariants.{Whole, InputFailed, TooManyLines}
 use Rattle.dedup.specs.declared.outcome.Task.{Task}
 use Rattle.dedup.specs.declared.outcome.Task.TheVariants.{Once, Tallied, Help, Version}
 use Rattle.dedup.specs.declared.tally.Which.{Which}
@@ -50,30 +53,34 @@ abbrev pub Tells : (text : List ℕ) (written written' : Option (List ℕ)) → 
 Tells text written written' (Ok done) = Appends written written' text
 Tells text written written' (Err fault) = AppendsPart written written' text
 
+-- what came of a run
+abbrev pub of_run : Result Ended Fault → Outcome
+of_run (Ok Whole) = Done
+of_run (Ok InputFailed) = outcome.InputFailed
+of_run (Ok TooManyLines) = outcome.TooManyLines
+of_run (Err fault) = Failed fault
+
+-- what came of telling a text
+abbrev pub of_telling : Result (Unit {0}) Fault → Outcome
+of_telling (Ok done) = Done
+of_telling (Err fault) = Failed fault
+
 -- nothing is read, and the text is written
 abbrev pub EndsTelling : (text : List ℕ) → Run → Outcome → Type 0
-EndsTelling text run Done = Keeps run.left run.left' × Appends run.written run.written' text
-EndsTelling text run (Failed fault) = Keeps run.left run.left' × AppendsPart run.written run.written' text
-EndsTelling text run Usage = ⊥
-EndsTelling text run NoMemory = ⊥
-EndsTelling text run TooManyLines = ⊥
+EndsTelling text run result = (run.left' ≡ run.left) × (told : Result (Unit {0}) Fault) × Tells text run.written run.written' told × (result ≡ of_telling told)
 
--- how a run ends that is to write what `output` makes of its input, of at most so many lines
-abbrev pub EndsRun : (eol : ℕ) (output : List ℕ → List ℕ) → ℕ → Run → Outcome → Type 0
-EndsRun eol output limit run Done = WritesAll output run × IsWithin eol limit run
-EndsRun eol output limit run Usage = ⊥
-EndsRun eol output limit run NoMemory = ⊥
-EndsRun eol output limit run TooManyLines = WritesPart output run × IsBeyond eol limit run
-EndsRun eol output limit run (Failed fault) = WritesPart output run
+-- how a run ends that is to write what `output` makes of the lines of its inputs, of at most so many
+abbrev pub EndsRun : (output : List (List ℕ) → List ℕ) (eol limit : ℕ) → Run → Outcome → Type 0
+EndsRun output eol limit run result = (ended : Result Ended Fault) × Ends output eol limit run ended × (result ≡ of_run ended)
 
 -- how a task ends; none is a wrong call, and then nothing is read or written
 abbrev pub EndsTask : Option Task → (help version : List ℕ) → ℕ → Run → Outcome → Type 0
-EndsTask (Some (Once eol)) help version limit run outcome = EndsRun eol (each_once_by eol) limit run outcome
-EndsTask (Some (Tallied which eol)) help version limit run outcome = EndsRun eol (tallied eol which) limit run outcome
-EndsTask (Some Help) help version limit run outcome = EndsTelling help run outcome
-EndsTask (Some Version) help version limit run outcome = EndsTelling version run outcome
-EndsTask None help version limit run outcome = (outcome ≡ Usage) × Keeps run.left run.left' × Keeps run.written run.written'
+EndsTask (Some (Once eol)) help version limit run result = EndsRun (once_by eol) eol limit run result
+EndsTask (Some (Tallied which eol)) help version limit run result = EndsRun (told eol which) eol limit run result
+EndsTask (Some Help) help version limit run result = EndsTelling help run result
+EndsTask (Some Version) help version limit run result = EndsTelling version run result
+EndsTask None help version limit run result = (result ≡ Usage) × (run.left' ≡ run.left) × Keeps run.written run.written'
 
 -- how the program ends that was called by these words
 abbrev pub Exits : (words : List (List ℕ)) (help version : List ℕ) → ℕ → Run → Outcome → Type 0
-Exits words help version limit run outcome = EndsTask (task_of words) help version limit run outcome
+Exits words = EndsTask (task_of words)

@@ -3,7 +3,7 @@ use Rattle.std.specs.Prelude.{ℕ, List, [], codes, Some, None}
 use Rattle.std.specs.IoError.{error_kind}
 use Rattle.std.specs.declared.io.ErrorKind.{ErrorKind}
 use Rattle.std.specs.declared.io.ErrorKind.TheVariants.{BrokenPipe}
-use Rattle.dedup.specs.declared.run.Fault.TheVariants.{Read, Write, NoMemory, TooManyTexts}
+use Rattle.dedup.specs.declared.fault.Fault.TheVariants.{Write, NoMemory, TooManyTexts}
 use Rattle.dedup.specs.declared.outcome.Outcome.{Outcome}
 use Rattle.dedup.specs.declared.outcome.Outcome.TheVariants as outcome
 
@@ -17,18 +17,18 @@ status_of outcome.Done = 0
 status_of outcome.Usage = 2
 status_of (outcome.Failed (Write (Some error))) = write_status (error_kind error)
 status_of (outcome.Failed (Write None)) = 1
-status_of (outcome.Failed (Read error)) = 1
 status_of (outcome.Failed NoMemory) = 1
 status_of (outcome.Failed TooManyTexts) = 1
 status_of outcome.NoMemory = 1
+status_of outcome.InputFailed = 1
 status_of outcome.TooManyLines = 1
 
 abbrev pub failure_of : Outcome → List ℕ
 failure_of outcome.Done = []
+failure_of outcome.InputFailed = []
 failure_of outcome.Usage = codes "unknown option"
 failure_of outcome.NoMemory = codes "out of memory"
 failure_of outcome.TooManyLines = codes "too many lines"
-failure_of (outcome.Failed (Read error)) = codes "read error"
 failure_of (outcome.Failed (Write error)) = codes "write error"
 failure_of (outcome.Failed NoMemory) = codes "out of memory"
 failure_of (outcome.Failed TooManyTexts) = codes "too many different lines"

@@ -1,7 +1,6 @@
 -- What the program writes of lines that it has counted.
-use Rattle.std.specs.Prelude.{ℕ, ◌&&◌, not, ◌≡◌, ◌<◌, ◌≤◌, ◌==◌, ◌-◌, ◌++◌, Bool, true, false, if◌then◌else◌, nat_lt, List, [], ◌∷◌, Option, IfSome, length, map, decimal}
+use Rattle.std.specs.Prelude.{ℕ, ◌&&◌, not, ◌≡◌, ◌==◌, ◌-◌, ◌++◌, Bool, if◌then◌else◌, nat_lt, List, [], ◌∷◌, length, map, decimal}
 use Rattle.std.specs.Io.BufRead.{strip_last}
-use Rattle.std.specs.Io.KnownBytes.{Consumes}
 use Rattle.std.specs.List.{count_by, flat_map, repeat}
 use Rattle.dedup.specs.Lines.{lines_by, same_text_by, firsts_by}
 use Rattle.dedup.specs.declared.tally.Which.{Which}
@@ -38,9 +37,3 @@ texts eol ls = map (strip_last eol) (firsts_by eol ls)
 pub record Tallies (eol : ℕ) (ls : List (List ℕ)) (seen : List (List ℕ)) (times : List ℕ) : Type 0 where
   pub places : seen ≡ texts eol ls
   pub counts : times ≡ map (λ line. count_by (same_text_by eol line) ls) (firsts_by eol ls)
-
--- at most so many lines were to be read: all are read and counted, or there are more
-abbrev pub CountedAll : (eol : ℕ) → Bool → ℕ → (left left' : Option (List ℕ)) (seen : List (List ℕ)) (times : List ℕ) → Type 0
-CountedAll eol true limit left left' seen times = (text : List ℕ) × Consumes left left' text × IfSome left (λ bytes. bytes ≡ text)
-    × IfSome left (λ bytes. length (lines_by eol bytes) ≤ limit) × Tallies eol (lines_by eol text) seen times
-CountedAll eol false limit left left' seen times = IfSome left (λ bytes. limit < length (lines_by eol bytes))

@@ -1,21 +1,20 @@
-//! Finds lines and writes them, and tells which are new.
-ghost use Rattle.std.specs.Prelude.{◌≡◌, ◌≤◌, ◌||◌, ◌++◌, ◌∷◌, [], ℕ, List, length, take, IfOk, OnOk, OnErr, ◌+◌, ◌==◌, not};
+//! Finds lines and has them taken.
+ghost use Rattle.std.specs.Prelude.{◌≡◌, ◌≤◌, ◌++◌, ◌∷◌, [], ℕ, List, length, take, IfOk, OnOk, OnErr, ◌+◌, ◌==◌, not};
 ghost use Rattle.std.specs.Io.BufRead.{strip_last};
+ghost use Rattle.std.specs.Io.Buffered.{writer_buffer, writer_contents};
 ghost use Rattle.std.specs.Io.KnownBytes.{Appends, Keeps};
 ghost use Rattle.std.specs.List.{prefix_len};
 ghost use Rattle.std.specs.Simd.Lanes.{chunk};
-ghost use Rattle.std.specs.Str.{bytes_eq};
-ghost use Rattle.dedup.specs.Between.{BreaksOff, IsLineEnd, LeadsOn, Takes};
-ghost use Rattle.dedup.specs.Lines.{if_new_by, lines_by};
-ghost use Rattle.hash_texts.specs.Texts.{has};
+ghost use Rattle.dedup.specs.Between.{IsLineEnd, Takes};
+ghost use Rattle.dedup.specs.Lines.{as_line_by, lines_by};
+ghost use Rattle.dedup.specs.Taking.{BreaksOff, Grows, LeadsOn};
 ghost use Rattle.hash_program.specs.Streams.{AppendsPart};
 
-use crate::run::Fault;
+use crate::fault::Fault;
+use crate::task::LineTask;
 use hash_program::streams;
 use hash_program::streams::TRIES;
-use hash_texts::Texts;
-use std::hash::BuildHasher;
-use std::io::Write;
+use std::io::{BufWriter, Write};
 use std::simd::prelude::*;
 
 /// A line without its end.
@@ -39,41 +38,22 @@ pub fn put<W: Write>(w: &mut W, bytes: &[u8]) -> Result<(), Fault>
     }
 }
 
-/// Writes a text and the end of its line. After a fault a beginning of that was written.
-pub fn put_line<W: Write>(w: &mut W, text: &[u8], eol: u8) -> Result<(), Fault>
-    ensures ok { OnOk result (Appends (W.contents w.old) (W.contents w.new) (text.now ++ eol ∷ [])) }
-    ensures err { OnErr result (AppendsPart (W.contents w.old) (W.contents w.new) (text.now ++ eol ∷ [])) }
+/// Writes a line, and its end behind it where it has none. After a fault a beginning of that was written.
+pub fn put_line<W: Write>(w: &mut W, line: &[u8], eol: u8) -> Result<(), Fault>
+    ensures ok { OnOk result (Appends (W.contents w.old) (W.contents w.new) (as_line_by eol line.now)) }
+    ensures err { OnErr result (AppendsPart (W.contents w.old) (W.contents w.new) (as_line_by eol line.now)) }
 {
-    put(w, text)?;
+    if text_of(line, eol).len() < line.len() {
+        return put(w, line);
+    }
+    put(w, line)?;
     put(w, &[eol])
 }
 
-/// Writes the text of the line and its end if it is new, and takes it into the set. After a fault a beginning of that
-/// was written, if it is new. The guess is where its text may stand in the set.
-#[inline(always)]
-pub fn write_new<S: BuildHasher + Drop, W: Write>(
-    seen: &mut Texts<S>,
-    line: &[u8],
-    eol: u8,
-    guess: usize,
-    w: &mut W,
-) -> Result<(), Fault>
-    ensures written { OnOk result (Appends (W.contents w.old) (W.contents w.new)
-        (if_new_by eol seen.old line.now)) }
-    ensures seen { OnOk result ((other : List ℕ) → has seen.new other
-        ≡ (bytes_eq other (strip_last eol line.now) || has seen.old other)) }
-    ensures begun { OnErr result (AppendsPart (W.contents w.old) (W.contents w.new) (if_new_by eol seen.old line.now)) }
-{
-    let text = text_of(line, eol);
-    if seen.see_at(text, guess)?.is_new {
-        put_line(w, text, eol)?;
-    }
-    Ok(())
-}
-
-/// Flushes the writer.
-pub fn finish<W: Write>(w: &mut W) -> Result<(), Fault>
-    ensures { Keeps (W.contents w.old) (W.contents w.new) }
+/// Flushes the writer, so that nothing is held back.
+pub fn finish<W: Write + Drop>(w: &mut BufWriter<W>) -> Result<(), Fault>
+    ensures kept { Keeps (writer_contents W.contents w.old) (writer_contents W.contents w.new) }
+    ensures flushed { OnOk result (writer_buffer w.new ≡ []) }
 {
     match streams::finish(w, TRIES) {
         Ok(()) => Ok(()),
@@ -116,18 +96,18 @@ pub fn line_end(bytes: &[u8], eol: u8) -> Option<usize>
     None
 }
 
-/// How many lines are guessed at before the first of them is looked up, so that the waits for memory overlap.
+/// How many lines are guessed at before the first of them is taken, so that the waits for memory overlap.
 const AHEAD: usize = 16;
 
-/// Where the texts of the first lines may stand in the set.
-fn guesses<S: BuildHasher + Drop>(seen: &Texts<S>, bytes: &[u8], eol: u8) -> [usize; AHEAD] {
+/// Where the texts of the first lines may be known.
+fn guesses<T: LineTask>(task: &T, bytes: &[u8], eol: u8) -> [usize; AHEAD] {
     let mut guesses = [0; AHEAD];
     let mut rest = bytes;
     for guess in &mut guesses {
         match line_end(rest, eol) {
             Some(n) => {
                 let (text, later) = rest.split_at(n);
-                *guess = seen.guess(text);
+                *guess = task.guess(text);
                 if let [_, more @ ..] = later {
                     rest = more;
                 }
@@ -138,31 +118,34 @@ fn guesses<S: BuildHasher + Drop>(seen: &Texts<S>, bytes: &[u8], eol: u8) -> [us
     guesses
 }
 
-/// Writes those of the first lines whose texts are new, up to so many, and takes their texts into the set. Answers how
-/// many lines it took, each with its end, and how many bytes they have together.
-pub fn write_lines<S: BuildHasher + Drop, W: Write>(
-    seen: &mut Texts<S>,
+/// Has the first lines taken, up to so many. Answers how many lines those are, each with its end, and how many bytes they
+/// have together.
+pub fn take_lines<T: LineTask, W: Write>(
+    task: &mut T,
     bytes: &[u8],
     eol: u8,
     most: u64,
     w: &mut W,
 ) -> Result<(u64, usize), Fault>
+    requires grows { Grows (T.output eol) }
+    requires room { (ls : List (List ℕ)) × T.taken eol ls task.old × (length ls + most ≤ u64.MAX) }
     ensures takes { IfOk result (λ taken. Takes eol bytes.now most taken.0 taken.1) }
-    ensures written { IfOk result (λ taken. LeadsOn eol (lines_by eol (take taken.1 bytes.now)) (has seen.old) (has seen.new)
+    ensures led { IfOk result (λ taken. LeadsOn (T.output eol) (λ ls. T.taken eol ls task.old) (λ ls. T.taken eol ls task.new)
+        (lines_by eol (take taken.1 bytes.now)) (W.contents w.old) (W.contents w.new)) }
+    ensures broke { OnErr result (BreaksOff (T.output eol) (λ ls. T.taken eol ls task.old) eol bytes.now
         (W.contents w.old) (W.contents w.new)) }
-    ensures begun { OnErr result (BreaksOff eol bytes.now (has seen.old) (W.contents w.old) (W.contents w.new)) }
 {
     let mut rest = bytes;
     let mut ahead = [0; AHEAD];
     for count in 0..most {
         let turn = (count % AHEAD as u64) as usize;
         if turn == 0 {
-            ahead = guesses(seen, rest, eol);
+            ahead = guesses(task, rest, eol);
         }
         match line_end(rest, eol) {
             Some(n) => {
                 let (line, later) = rest.split_at(n + 1);
-                write_new(seen, line, eol, ahead[turn], w)?;
+                task.take_line(line, eol, ahead[turn], w)?;
                 rest = later;
             }
             None => return Ok((count, bytes.len() - rest.len())),

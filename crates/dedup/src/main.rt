@@ -2,25 +2,26 @@
 //! often it came, `dedup -d` those that came more than once, and `dedup -u` those that came once.
 #![tactic(auto)]
 
+mod fault;
 mod inputs;
 mod laws;
 mod lines;
+mod once;
 mod outcome;
 mod run;
 mod tally;
+mod task;
 #[cfg(test)]
 mod tests;
 mod unread;
 mod words;
 
+use fault::Fault;
 use hash_program::call::operands;
 use hash_program::reason::reason;
 use hash_texts::RandomKeys;
-use inputs::Inputs;
-use outcome::{
-    Outcome, Task, outcome_failure, outcome_of, outcome_status, task_of, unknown_option,
-};
-use run::Fault;
+use inputs::{Told, inputs};
+use outcome::{About, Outcome, outcome_failure, outcome_of, outcome_status, unknown_option};
 use std::io;
 use std::io::BufWriter;
 use std::process::ExitCode;
@@ -50,32 +51,24 @@ const VERSION: &str = "dedup of hashers 1.0.1
 License: MIT
 ";
 
-/// The byte that ends a line for what the words ask.
-fn eol_of(words: &[Vec<u8>]) -> u8 {
-    match task_of(words) {
-        Some(Task::Once(eol)) | Some(Task::Tallied(_, eol)) => eol,
-        _ => b'\n',
-    }
-}
-
-/// What came of the call, and whether an input failed.
-fn called(rt: &HostRuntime, words: &[Vec<u8>]) -> io::Result<(Outcome, bool)> {
+/// What came of the call.
+fn called(rt: &HostRuntime, words: &[Vec<u8>]) -> io::Result<Outcome> {
     let alloc = rt.alloc();
-    let hasher = RandomKeys::new(rt)?;
     let names = operands(alloc, words)?;
-    let mut input = Inputs::new(rt, &names, eol_of(words));
-    let mut output = BufWriter::with_capacity(alloc, BUFFER, rt.stdout())?;
-    let outcome = outcome_of(
+    let about = About {
+        help: HELP,
+        version: VERSION,
+    };
+    Ok(outcome_of(
         alloc,
-        hasher,
+        RandomKeys::new(rt)?,
         words,
-        HELP,
-        VERSION,
+        about,
         u64::MAX,
-        &mut input,
-        &mut output,
-    );
-    Ok((outcome, input.failed()))
+        &mut inputs(rt, &names)?,
+        &mut Told { rt, names: &names },
+        &mut BufWriter::with_capacity(alloc, BUFFER, rt.stdout())?,
+    ))
 }
 
 /// Why it failed: the option that there is not, or the system's reason.
@@ -97,16 +90,13 @@ fn why(rt: &HostRuntime, words: &[Vec<u8>], outcome: &Outcome) -> Option<String>
     }
 }
 
-/// Says what failed and why, unless an input did, which is told already, or nobody reads any more.
+/// Says what failed and why, unless that is told already, or nobody reads any more.
 fn complain(rt: &HostRuntime, words: &[Vec<u8>], outcome: &Outcome) {
     let status = outcome_status(outcome);
-    if let Outcome::Failed(Fault::Read(_)) = outcome {
-        return;
-    }
-    if status == 0 || status == 141 {
-        return;
-    }
     let failure = outcome_failure(outcome);
+    if failure.is_empty() || status == 141 {
+        return;
+    }
     let _ = match why(rt, words, outcome) {
         Some(reason) => eprintln!(rt; "dedup: {failure}: {reason}"),
         None => eprintln!(rt; "dedup: {failure}"),
@@ -122,19 +112,9 @@ fn status(rt: &HostRuntime) -> u8 {
         complain(rt, &[], &Outcome::NoMemory);
         return outcome_status(&Outcome::NoMemory);
     };
-    match called(rt, &words) {
-        Ok((outcome, failed)) => {
-            complain(rt, &words, &outcome);
-            match outcome {
-                Outcome::Done if failed => 1,
-                _ => outcome_status(&outcome),
-            }
-        }
-        Err(_) => {
-            complain(rt, &words, &Outcome::NoMemory);
-            outcome_status(&Outcome::NoMemory)
-        }
-    }
+    let outcome = called(rt, &words).unwrap_or(Outcome::NoMemory);
+    complain(rt, &words, &outcome);
+    outcome_status(&outcome)
 }
 
 fn main(rt: HostRuntime) -> ExitCode {

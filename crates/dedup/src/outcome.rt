@@ -1,17 +1,20 @@
 //! What the program is asked for, and how it ends.
 ghost use Rattle.std.specs.Prelude.{◌≡◌, ◌∷◌, [], ℕ, List, map, MatchOption};
 ghost use Rattle.hash_program.specs.Call.{texts, unknown};
-ghost use Rattle.dedup.specs.Program.{Exits, Tells, letters, names, task_of, work_of};
+ghost use Rattle.std.specs.Io.Buffered.{writer_contents};
+ghost use Rattle.dedup.specs.Program.{Exits, Tells, letters, names, of_run, of_telling, task_of, work_of};
 ghost use Rattle.dedup.specs.Running.{run_of};
 ghost use Rattle.dedup.specs.Status.{failure_of, status_of, write_status};
 
+use crate::fault::Fault;
 use crate::lines::{finish, put};
-use crate::run::{Fault, dedup};
+use crate::once::dedup;
+use crate::run::{Complaints, Ended};
 use crate::tally::{Which, tally};
 use hash_program::call::{first_unknown, is_given};
 use std::alloc::Global;
 use std::hash::BuildHasher;
-use std::io::{ErrorKind, Read, Write};
+use std::io::{BufWriter, ErrorKind, Read, Write};
 
 /// What a call asks for.
 #[derive(Clone, Copy)]
@@ -35,6 +38,8 @@ pub enum Outcome {
     Usage,
     /// There was no memory for the call's words. Nothing was read or written.
     NoMemory,
+    /// An input failed, and that was told. What is due of the lines that came whole was written.
+    InputFailed,
     /// There were more lines than the limit. What was written is a beginning of the output.
     TooManyLines,
     /// The output is not whole: what was written is a beginning of it.
@@ -95,60 +100,78 @@ pub fn task_of(words: &[Vec<u8>]) -> Option<Task>
 }
 
 /// Writes the text and flushes.
-fn tell<W: Write>(text: &str, w: &mut W) -> Result<(), Fault>
-    ensures { Tells text.now (W.contents w.old) (W.contents w.new) result }
+fn tell<W: Write + Drop>(text: &str, w: &mut BufWriter<W>) -> Result<(), Fault>
+    ensures { Tells text.now (writer_contents W.contents w.old) (writer_contents W.contents w.new) result }
 {
     put(w, text.as_bytes())?;
     finish(w)
 }
 
-/// Does what the words behind the program's own name ask for, over at most `limit` lines. `help` tells how the program is
-/// called, and `version` which it is. Where the call is wrong nothing is read or written.
-pub fn outcome_of<S: BuildHasher + Drop, R: Read, W: Write>(
+/// What the program says of itself.
+#[derive(Clone, Copy)]
+pub struct About<'a> {
+    /// How it is called.
+    pub help: &'a str,
+    /// Which version it is.
+    pub version: &'a str,
+}
+
+/// What came of a run.
+fn of_run(ended: Result<Ended, Fault>) -> Outcome
+    ensures { result ≡ of_run ended }
+{
+    match ended {
+        Ok(Ended::Whole) => Outcome::Done,
+        Ok(Ended::InputFailed) => Outcome::InputFailed,
+        Ok(Ended::TooManyLines) => Outcome::TooManyLines,
+        Err(fault) => Outcome::Failed(fault),
+    }
+}
+
+/// What came of telling a text.
+fn of_telling(told: Result<(), Fault>) -> Outcome
+    ensures { result ≡ of_telling told }
+{
+    match told {
+        Ok(()) => Outcome::Done,
+        Err(fault) => Outcome::Failed(fault),
+    }
+}
+
+/// Does what the words behind the program's own name ask for, over at most `limit` lines of the inputs. `help` tells how the
+/// program is called, and `version` which it is. Where the call is wrong nothing is read or written.
+pub fn outcome_of<S: BuildHasher + Drop, R: Read, C: Complaints, W: Write + Drop>(
     alloc: Global,
     hasher: S,
     words: &[Vec<u8>],
-    help: &str,
-    version: &str,
+    about: About<'_>,
     limit: u64,
-    r: &mut R,
-    w: &mut W,
+    inputs: &mut [R],
+    complaints: &mut C,
+    w: &mut BufWriter<W>,
 ) -> Outcome
-    ensures { Exits (texts words.now) help.now version.now limit
-        (run_of R.remaining r.old r.new W.contents w.old w.new) result }
+    ensures { Exits (texts words.now) about.entry.help.now about.entry.version.now limit
+        (run_of R.remaining inputs.old inputs.new (writer_contents W.contents) w.old w.new) result }
 {
     match task_of(words) {
-        Some(Task::Once(eol)) => match dedup(alloc, hasher, eol, limit, r, w) {
-            Ok(true) => Outcome::Done,
-            Ok(false) => Outcome::TooManyLines,
-            Err(fault) => Outcome::Failed(fault),
-        },
-        Some(Task::Tallied(which, eol)) => match tally(alloc, hasher, which, eol, limit, r, w) {
-            Ok(true) => Outcome::Done,
-            Ok(false) => Outcome::TooManyLines,
-            Err(fault) => Outcome::Failed(fault),
-        },
-        Some(Task::Help) => match tell(help, w) {
-            Ok(()) => Outcome::Done,
-            Err(fault) => Outcome::Failed(fault),
-        },
-        Some(Task::Version) => match tell(version, w) {
-            Ok(()) => Outcome::Done,
-            Err(fault) => Outcome::Failed(fault),
-        },
+        Some(Task::Once(eol)) => { of_run(dedup(alloc, hasher, eol, limit, inputs, complaints, w)) }
+        Some(Task::Tallied(which, eol)) => {
+            of_run(tally(alloc, hasher, which, eol, limit, inputs, complaints, w))
+        }
+        Some(Task::Help) => of_telling(tell(about.help, w)),
+        Some(Task::Version) => of_telling(tell(about.version, w)),
         None => Outcome::Usage,
     }
 }
 
-/// What failed, in words; nothing where all went well.
+/// What failed, in words; nothing where all went well, or where it is told already.
 pub fn outcome_failure(outcome: &Outcome) -> &'static str
     ensures { result.now ≡ failure_of outcome.now }
 {
     match outcome {
-        Outcome::Done => "",
+        Outcome::Done | Outcome::InputFailed => "",
         Outcome::Usage => "unknown option",
         Outcome::NoMemory | Outcome::Failed(Fault::NoMemory) => "out of memory",
-        Outcome::Failed(Fault::Read(_)) => "read error",
         Outcome::Failed(Fault::Write(_)) => "write error",
         Outcome::TooManyLines => "too many lines",
         Outcome::Failed(Fault::TooManyTexts) => "too many different lines",

@@ -1,127 +1,157 @@
-//! A run of the program over any reader, writer and hasher.
-ghost use Rattle.std.specs.Prelude.{◌≡◌, ◌++◌, [], ℕ, List, Option, OnOk, OnErr};
-ghost use Rattle.dedup.specs.Between.{IsBare, LeadsOn, Wrote};
-ghost use Rattle.dedup.specs.Lines.{each_once_by, lines_by, once_by};
-ghost use Rattle.dedup.specs.Running.{Ends, run_of};
-ghost use Rattle.hash_program.specs.Streams.{AppendsPart};
-ghost use Rattle.hash_texts.specs.Texts.{has};
+//! A run over inputs, one behind the other.
+ghost use Rattle.std.specs.Prelude.{◌≡◌, ◌+◌, ◌≤◌, [], ℕ, List, Option, IfOk, OnOk, OnErr, length};
+ghost use Rattle.std.specs.Io.Buffered.{writer_buffer, writer_contents};
+ghost use Rattle.dedup.specs.Between.{IsBare};
+ghost use Rattle.dedup.specs.Lines.{lines_by};
+ghost use Rattle.dedup.specs.Running.{EndsTaking, run_of};
+ghost use Rattle.dedup.specs.Taking.{BreaksInput, EndsInput, Grows, LeavesInput, StopsWithin};
 
-use crate::lines::{finish, write_lines, write_new};
-use crate::unread::Unread;
-use hash_texts::{Full, Texts};
-use std::alloc::{AllocError, Global};
-use std::error::Error as StdError;
-use std::fmt;
-use std::fmt::{Display, Formatter};
-use std::hash::BuildHasher;
-use std::io::{Error, Read, Write};
+use crate::fault::Fault;
+use crate::lines::{finish, take_lines};
+use crate::task::LineTask;
+use crate::unread::{Came, Unread};
+use std::alloc::Global;
+use std::io::{BufWriter, Error, Read, Write};
 
-/// Why a run ended before its output was whole. What was written by then is a beginning of it.
-#[derive(Debug, Drop)]
-pub enum Fault {
+/// How a run ended that met no fault of its own.
+#[derive(Clone, Copy)]
+pub enum Ended {
+    /// Each input was read to its end.
+    Whole,
+    /// At least one input failed. Of such an input the lines were taken that came whole.
+    InputFailed,
+    /// There were more lines than the limit. As many as the limit were taken.
+    TooManyLines,
+}
+
+/// Who is told of each input that fails.
+pub trait Complaints {
+    /// The input at that place failed with this error.
+    fn failed(&mut self, place: usize, error: &Error);
+}
+
+/// How an input was left.
+#[derive(Drop)]
+pub enum Left {
+    /// It was read to its end.
+    Done,
     /// A read failed.
-    Read(Error),
-    /// A write or the flush failed with this error, or a write took nothing.
-    Write(Option<Error>),
-    /// There was no memory.
-    NoMemory,
-    /// There were 2^32 - 1 texts.
-    TooManyTexts,
+    Failed(Error),
+    /// It has more lines than may be taken.
+    Beyond,
 }
 
-impl Display for Fault {
-    fn fmt<W: fmt::Write>(&self, f: &mut Formatter<W>) -> fmt::Result {
-        match self {
-            Fault::Read(error) => write!(f, "a read failed: {error}"),
-            Fault::Write(Some(error)) => write!(f, "a write failed: {error}"),
-            Fault::Write(None) => write!(f, "a write took nothing"),
-            Fault::NoMemory => write!(f, "out of memory"),
-            Fault::TooManyTexts => write!(f, "too many different lines"),
-        }
-    }
-}
-
-impl StdError for Fault {}
-
-impl From<AllocError> for Fault {
-    fn from(_error: AllocError) -> Fault {
-        Fault::NoMemory
-    }
-}
-
-impl From<Full> for Fault {
-    fn from(full: Full) -> Fault {
-        match full {
-            Full::NoMemory => Fault::NoMemory,
-            Full::TooManyTexts => Fault::TooManyTexts,
-        }
-    }
-}
-
-/// Writes the last line, which has no end, if there is one and its text is new.
-fn write_last<S: BuildHasher + Drop, W: Write>(
-    seen: &mut Texts<S>,
+/// Takes the last line of an input, which has no end, if there is one.
+fn take_last<T: LineTask, W: Write + Drop>(
+    task: &mut T,
     line: &[u8],
     eol: u8,
-    w: &mut W,
-) -> Result<(), Fault>
-    requires { IsBare eol line.now }
-    ensures written { OnOk result (LeadsOn eol (lines_by eol line.now) (has seen.old) (has seen.new) (W.contents w.old) (W.contents w.new)) }
-    ensures begun { OnErr result ((ls : List (List ℕ)) (start : Option (List ℕ)) → Wrote eol ls (has seen.old) start (W.contents w.old)
-        → AppendsPart start (W.contents w.new) (once_by eol (ls ++ lines_by eol line.now))) }
+    most: &mut u64,
+    w: &mut BufWriter<W>,
+) -> Result<Left, Fault>
+    requires grows { Grows (T.output eol) }
+    requires room { (ls : List (List ℕ)) × T.taken eol ls task.old × (length ls + most.old ≤ u64.MAX) }
+    requires bare { IsBare eol line.now }
+    requires flushed { writer_buffer w.old ≡ [] }
+    ensures left { IfOk result (EndsInput (T.output eol) (λ ls. T.taken eol ls task.old) (λ ls. T.taken eol ls task.new)
+        (lines_by eol line.now) most.old most.new (writer_contents W.contents w.old) (writer_contents W.contents w.new)) }
+    ensures flushed { OnOk result (writer_buffer w.new ≡ []) }
+    ensures broke { OnErr result (StopsWithin (T.output eol) (λ ls. T.taken eol ls task.old) (lines_by eol line.now)
+        (writer_contents W.contents w.old) (writer_contents W.contents w.new)) }
 {
     if line.is_empty() {
-        return Ok(());
+        return Ok(Left::Done);
     }
-    write_new(seen, line, eol, 0, w)?;
-    Ok(())
+    if *most == 0 {
+        return Ok(Left::Beyond);
+    }
+    task.take_line(line, eol, task.guess(line), w)?;
+    *most -= 1;
+    finish(w)?;
+    Ok(Left::Done)
 }
 
-/// Writes each of at most so many lines of the input once, where it came first, and answers whether there were no more.
-fn write_each<S: BuildHasher + Drop, R: Read, W: Write>(
-    seen: &mut Texts<S>,
+/// Has the lines of an input taken, at most so many, and leaves in `most` how many more may be taken. Whenever it reads,
+/// nothing is held back.
+fn take_input<T: LineTask, R: Read, W: Write + Drop>(
+    task: &mut T,
     unread: &mut Unread,
     eol: u8,
-    limit: u64,
+    most: &mut u64,
     r: &mut R,
-    w: &mut W,
-) -> Result<bool, Fault>
-    requires none { seen.old ≡ [] }
+    w: &mut BufWriter<W>,
+) -> Result<Left, Fault>
+    requires grows { Grows (T.output eol) }
+    requires room { (ls : List (List ℕ)) × T.taken eol ls task.old × (length ls + most.old ≤ u64.MAX) }
     requires unread { unread.old ≡ [] }
-    ensures { Ends eol (each_once_by eol) limit (run_of R.remaining r.old r.new W.contents w.old w.new) result }
+    requires flushed { writer_buffer w.old ≡ [] }
+    ensures left { IfOk result (LeavesInput (T.output eol) (λ ls. T.taken eol ls task.old) (λ ls. T.taken eol ls task.new)
+        eol most.old most.new (R.remaining r.old) (R.remaining r.new) (writer_contents W.contents w.old) (writer_contents W.contents w.new)) }
+    ensures unread { OnOk result (unread.new ≡ []) }
+    ensures flushed { OnOk result (writer_buffer w.new ≡ []) }
+    ensures broke { OnErr result (BreaksInput (T.output eol) (λ ls. T.taken eol ls task.old) eol (R.remaining r.old)
+        (writer_contents W.contents w.old) (writer_contents W.contents w.new)) }
 {
-    let mut left = limit;
     loop {
-        let more = unread.fill(eol, r)?;
-        if unread.is_beyond(left) {
-            return Ok(false);
+        match unread.fill(eol, r, w)? {
+            Came::Line => {
+                let (count, len) = take_lines(task, unread.bytes(), eol, *most, w)?;
+                *most -= count;
+                unread.pass(len);
+                finish(w)?;
+                if unread.is_beyond(*most) {
+                    unread.clear();
+                    return Ok(Left::Beyond);
+                }
+            }
+            Came::End => {
+                let left = take_last(task, unread.bytes(), eol, most, w)?;
+                unread.clear();
+                return Ok(left);
+            }
+            Came::Fault(error) => {
+                unread.clear();
+                return Ok(Left::Failed(error));
+            }
         }
-        if !more {
-            write_last(seen, unread.bytes(), eol, w)?;
-            return Ok(true);
-        }
-        let (count, len) = write_lines(seen, unread.bytes(), eol, left, w)?;
-        left -= count;
-        unread.pass(len);
-        finish(w)?;
     }
 }
 
-/// Writes each of at most `limit` lines of the input, each of which ends with the byte `eol`, once, where it came first, and
-/// flushes. It answers whether there were no more lines.
-pub fn dedup<S: BuildHasher + Drop, R: Read, W: Write>(
+/// Has the lines of the inputs taken, which end with the byte `eol`, at most `limit` of them. An input that fails is told,
+/// and the others are read. Whenever it reads, and at the end, nothing is held back.
+pub fn take_inputs<T: LineTask, R: Read, C: Complaints, W: Write + Drop>(
     alloc: Global,
-    hasher: S,
+    task: &mut T,
     eol: u8,
     limit: u64,
-    r: &mut R,
-    w: &mut W,
-) -> Result<bool, Fault>
-    ensures { Ends eol (each_once_by eol) limit (run_of R.remaining r.old r.new W.contents w.old w.new) result }
+    inputs: &mut [R],
+    complaints: &mut C,
+    w: &mut BufWriter<W>,
+) -> Result<Ended, Fault>
+    requires grows { Grows (T.output eol) }
+    requires begun { T.taken eol [] task.old }
+    requires nothing { T.output eol [] ≡ [] }
+    ensures ended { EndsTaking (T.output eol) (λ ls. T.taken eol ls task.new) eol limit
+        (run_of R.remaining inputs.old inputs.new (writer_contents W.contents) w.old w.new) result }
+    ensures flushed { OnOk result (writer_buffer w.new ≡ []) }
 {
-    let mut seen = Texts::new(alloc, hasher);
     let mut unread = Unread::new(alloc);
-    let whole = write_each(&mut seen, &mut unread, eol, limit, r, w)?;
+    let mut most = limit;
+    let mut whole = true;
     finish(w)?;
-    Ok(whole)
+    for place in 0..inputs.len() {
+        match take_input(task, &mut unread, eol, &mut most, &mut inputs[place], w)? {
+            Left::Done => {}
+            Left::Failed(error) => {
+                complaints.failed(place, &error);
+                whole = false;
+            }
+            Left::Beyond => return Ok(Ended::TooManyLines),
+        }
+    }
+    if whole {
+        Ok(Ended::Whole)
+    } else {
+        Ok(Ended::InputFailed)
+    }
 }

@@ -1,20 +1,20 @@
 //! Lines with how often they came.
-ghost use Rattle.std.specs.Prelude.{if◌then◌else◌, nat_lt, ◌≡◌, ◌<◌, ◌≤◌, ◌+◌, ◌==◌, ◌++◌, ◌∷◌, [], ℕ, List, IfOk, OnOk, OnErr, length, take};
+ghost use Rattle.std.specs.Prelude.{if◌then◌else◌, nat_lt, ◌≡◌, ◌<◌, ◌≤◌, ◌+◌, ◌==◌, ◌++◌, ◌∷◌, [], ℕ, List, OnOk, OnErr, length};
 ghost use Rattle.std.specs.Io.BufRead.{strip_last};
+ghost use Rattle.std.specs.Io.Buffered.{writer_buffer, writer_contents};
 ghost use Rattle.std.specs.Io.KnownBytes.{Appends};
-ghost use Rattle.dedup.specs.Between.{IsBare, Takes};
-ghost use Rattle.dedup.specs.Lines.{lines_by};
 ghost use Rattle.dedup.specs.Running.{Ends, run_of};
+ghost use Rattle.dedup.specs.Tallies.{Tallies, column, is_shown, shown, told};
 ghost use Rattle.hash_program.specs.Streams.{AppendsPart};
-ghost use Rattle.dedup.specs.Tallies.{CountedAll, Tallies, column, is_shown, shown, tallied, told};
 
-use crate::lines::{finish, line_end, put, text_of};
-use crate::run::Fault;
-use crate::unread::Unread;
+use crate::fault::Fault;
+use crate::lines::{finish, put, text_of};
+use crate::run::{Complaints, Ended, take_inputs};
+use crate::task::LineTask;
 use hash_texts::Texts;
 use std::alloc::{AllocError, Global};
 use std::hash::BuildHasher;
-use std::io::{Read, Write};
+use std::io::{BufWriter, Read, Write};
 
 /// Which of the counted lines are written, and how.
 #[derive(Clone, Copy)]
@@ -27,18 +27,40 @@ pub struct Which {
     pub unique: bool,
 }
 
-/// Counts a text: `times` has how often the text at each place came.
+/// The texts of lines, and how often each came.
+#[derive(Drop)]
+pub struct Counts<S: BuildHasher + Drop> {
+    texts: Texts<S>,
+    times: Vec<u64>, // how often the text at each place came
+}
+
+impl<S: BuildHasher + Drop> Counts<S> {
+    /// No lines.
+    fn new(alloc: Global, hasher: S) -> Self
+        ensures texts { result.texts ≡ [] }
+        ensures times { result.times.items ≡ [] }
+    {
+        Counts {
+            texts: Texts::new(alloc, hasher),
+            times: Vec::new(alloc),
+        }
+    }
+}
+
+/// Counts a text.
+#[inline(always)]
 fn count<S: BuildHasher + Drop>(
     texts: &mut Texts<S>,
     times: &mut Vec<u64>,
     text: &[u8],
+    guess: usize,
 ) -> Result<(), Fault>
     requires { (eol : ℕ) × (ls : List (List ℕ)) × Tallies eol ls texts.old times.old.items × (length ls < u64.MAX) }
     ensures { OnOk result ((eol : ℕ) (ls : List (List ℕ)) (line : List ℕ) → strip_last eol line ≡ text.now
         → Tallies eol ls texts.old times.old.items
         → Tallies eol (ls ++ line ∷ []) texts.new times.new.items) }
 {
-    let seen = texts.see(text)?;
+    let seen = texts.see_at(text, guess)?;
     if seen.is_new {
         return match times.push(1) {
             Ok(()) => Ok(()),
@@ -47,6 +69,28 @@ fn count<S: BuildHasher + Drop>(
     }
     times[seen.place] += 1;
     Ok(())
+}
+
+impl<S: BuildHasher + Drop> LineTask for Counts<S> {
+    ghost taken = { λ eol ls counts. Tallies eol ls counts.texts counts.times.items };
+
+    ghost output = { λ eol ls. [] };
+
+    #[inline(always)]
+    fn guess(&self, text: &[u8]) -> usize {
+        self.texts.guess(text)
+    }
+
+    #[inline(always)]
+    fn take_line<W: Write>(
+        &mut self,
+        line: &[u8],
+        eol: u8,
+        guess: usize,
+        _w: &mut W,
+    ) -> Result<(), Fault> {
+        count(&mut self.texts, &mut self.times, text_of(line, eol), guess)
+    }
 }
 
 /// Puts a text and the end of its line behind the bytes.
@@ -120,103 +164,32 @@ fn tell<S: BuildHasher + Drop, W: Write>(
         show(which, times[i], texts.text_at(i), eol, &mut out)?;
         put(w, &out)?;
     }
-    finish(w)
-}
-
-/// Counts the texts of the first lines, up to so many. Answers how many lines it took, each with its end, and how many
-/// bytes they have together.
-fn count_lines<S: BuildHasher + Drop>(
-    texts: &mut Texts<S>,
-    times: &mut Vec<u64>,
-    bytes: &[u8],
-    eol: u8,
-    most: u64,
-) -> Result<(u64, usize), Fault>
-    requires { (ls : List (List ℕ)) × Tallies eol ls texts.old times.old.items × (length ls + most ≤ u64.MAX) }
-    ensures takes { IfOk result (λ taken. Takes eol bytes.now most taken.0 taken.1) }
-    ensures counted { IfOk result (λ taken. (ls : List (List ℕ)) → Tallies eol ls texts.old times.old.items
-        → Tallies eol (ls ++ lines_by eol (take taken.1 bytes.now)) texts.new times.new.items) }
-{
-    let mut rest = bytes;
-    for taken in 0..most {
-        match line_end(rest, eol) {
-            Some(n) => {
-                let (line, later) = rest.split_at(n + 1);
-                count(texts, times, text_of(line, eol))?;
-                rest = later;
-            }
-            None => return Ok((taken, bytes.len() - rest.len())),
-        }
-    }
-    Ok((most, bytes.len() - rest.len()))
-}
-
-/// Counts the last line, which has no end, if there is one.
-fn count_last<S: BuildHasher + Drop>(
-    texts: &mut Texts<S>,
-    times: &mut Vec<u64>,
-    line: &[u8],
-) -> Result<(), Fault>
-    requires { (eol : ℕ) × (ls : List (List ℕ)) × IsBare eol line.now × Tallies eol ls texts.old times.old.items × (0 < length line.now → length ls < u64.MAX) }
-    ensures { OnOk result ((eol : ℕ) (ls : List (List ℕ)) → IsBare eol line.now → Tallies eol ls texts.old times.old.items
-        → Tallies eol (ls ++ lines_by eol line.now) texts.new times.new.items) }
-{
-    if line.is_empty() {
-        return Ok(());
-    }
-    count(texts, times, line)?;
     Ok(())
 }
 
-/// Counts the text of each of at most so many lines of the input, and answers whether there were no more.
-fn count_each<S: BuildHasher + Drop, R: Read>(
-    texts: &mut Texts<S>,
-    times: &mut Vec<u64>,
-    unread: &mut Unread,
-    eol: u8,
-    limit: u64,
-    r: &mut R,
-) -> Result<bool, Fault>
-    requires none { Tallies eol [] texts.old times.old.items }
-    requires unread { unread.old ≡ [] }
-    ensures { IfOk result (λ whole. CountedAll eol whole limit (R.remaining r.old) (R.remaining r.new) texts.new times.new.items) }
-{
-    let mut left = limit;
-    loop {
-        let more = unread.fill(eol, r)?;
-        if unread.is_beyond(left) {
-            return Ok(false);
-        }
-        if !more {
-            count_last(texts, times, unread.bytes())?;
-            return Ok(true);
-        }
-        let (taken, len) = count_lines(texts, times, unread.bytes(), eol, left)?;
-        left -= taken;
-        unread.pass(len);
-    }
-}
-
-/// Counts at most `limit` lines of the input, each of which ends with the byte `eol`, and writes at its end those that are asked for, in the order in which they came
-/// first. It answers whether there were no more lines; where there were, it writes nothing.
-pub fn tally<S: BuildHasher + Drop, R: Read, W: Write>(
+/// Counts at most `limit` lines of the inputs, each of which ends with the byte `eol`, and writes behind the last those that
+/// are asked for, in the order in which they came first. An input that fails is told, and the others are read. Where there
+/// are more lines than the limit, none is written. At the end nothing is held back.
+pub fn tally<S: BuildHasher + Drop, R: Read, C: Complaints, W: Write + Drop>(
     alloc: Global,
     hasher: S,
     which: Which,
     eol: u8,
     limit: u64,
-    r: &mut R,
-    w: &mut W,
-) -> Result<bool, Fault>
-    ensures { Ends eol (tallied eol which) limit (run_of R.remaining r.old r.new W.contents w.old w.new) result }
+    inputs: &mut [R],
+    complaints: &mut C,
+    w: &mut BufWriter<W>,
+) -> Result<Ended, Fault>
+    ensures ended { Ends (told eol which) eol limit
+        (run_of R.remaining inputs.old inputs.new (writer_contents W.contents) w.old w.new) result }
+    ensures flushed { OnOk result (writer_buffer w.new ≡ []) }
 {
-    let mut texts = Texts::new(alloc, hasher);
-    let mut times = Vec::new(alloc);
-    let mut unread = Unread::new(alloc);
-    let whole = count_each(&mut texts, &mut times, &mut unread, eol, limit, r)?;
-    if !whole {
-        return Ok(false);
+    let mut counts = Counts::new(alloc, hasher);
+    let ended = take_inputs(alloc, &mut counts, eol, limit, inputs, complaints, w)?;
+    if let Ended::TooManyLines = ended {
+        return Ok(ended);
     }
-    tell(alloc, which, eol, &texts, &times, w)?;
-    Ok(true)
+    tell(alloc, which, eol, &counts.texts, &counts.times, w)?;
+    finish(w)?;
+    Ok(ended)
 }

@@ -1,6 +1,8 @@
 //! Tests of the program, over readers and writers that cut, fail, and refuse.
-use crate::outcome::{Outcome, outcome_failure, outcome_of, outcome_status};
-use crate::run::{Fault, dedup};
+use crate::fault::Fault;
+use crate::once::dedup;
+use crate::outcome::{About, Outcome, outcome_failure, outcome_of, outcome_status};
+use crate::run::{Complaints, Ended};
 use crate::tally::{Which, tally};
 use hash_texts::Texts;
 use hashers::build::BuildFresh;
@@ -11,7 +13,7 @@ use hashers::null::NullHasher;
 use std::alloc::{AllocError, Global};
 use std::collections::HashSet;
 use std::io;
-use std::io::{ErrorKind, Read, Write};
+use std::io::{BufWriter, ErrorKind, Read, Write};
 use std::process::Abort;
 
 /// That the bytes are as wanted.
@@ -31,7 +33,8 @@ const WELL: End = (0, "");
 
 const NO_MEMORY: End = (1, "out of memory");
 
-const READ_FAULT: End = (1, "read error");
+/// An input failed, which was told when it did.
+const INPUT_FAILED: End = (1, "");
 
 const WRITE_FAULT: End = (1, "write error");
 
@@ -80,14 +83,39 @@ impl Read for Script<'_> {
     }
 }
 
-/// Keeps what is written, at most so many bytes a call, and fails once so many are there.
+/// Which inputs failed, as bits, and how often one did with the error that these tests' readers make.
+#[derive(Drop)]
+struct Failures {
+    inputs: u64,
+    count: u64,
+}
+
+impl Failures {
+    fn new() -> Failures {
+        Failures {
+            inputs: 0,
+            count: 0,
+        }
+    }
+}
+
+impl Complaints for Failures {
+    fn failed(&mut self, place: usize, error: &io::Error) {
+        if error.kind() == ErrorKind::BrokenPipe && place < 64 {
+            self.inputs |= 1 << place;
+            self.count = self.count.saturating_add(1);
+        }
+    }
+}
+
+/// Keeps what is written, at most so many bytes a call, and fails once so many are there, or once it was flushed so often.
 #[derive(Drop)]
 struct Paper {
     text: [u8; 64],
     len: usize,
     most: usize,
     until_fault: usize,
-    flush_fails: bool,
+    flushes: usize,
 }
 
 impl Paper {
@@ -97,7 +125,7 @@ impl Paper {
             len: 0,
             most,
             until_fault,
-            flush_fails: false,
+            flushes: usize::MAX,
         }
     }
 
@@ -124,9 +152,10 @@ impl Write for Paper {
     }
 
     fn flush(&mut self) -> io::Result<()> {
-        if self.flush_fails {
+        if self.flushes == 0 {
             return Err(io::Error::from(ErrorKind::PermissionDenied));
         }
+        self.flushes -= 1;
         Ok(())
     }
 }
@@ -149,22 +178,41 @@ fn status(outcome: &Outcome) -> End {
     (outcome_status(outcome), outcome_failure(outcome))
 }
 
-/// Runs the program over a text, read and written so many bytes at a time, onto this paper.
-fn run<H: Piecewise>(alloc: Global, words: &[&str], r: Script<'_>, w: &mut Paper) -> End {
+/// How many bytes the writer keeps before it writes them.
+const HELD: usize = 8;
+
+/// Runs the program over inputs, onto this paper.
+fn run_all<H: Piecewise>(
+    alloc: Global,
+    words: &[&str],
+    inputs: &mut [Script<'_>],
+    failures: &mut Failures,
+    w: &mut Paper,
+) -> End {
     let Ok(words) = call_of(alloc, words) else {
         return NO_MEMORY;
     };
-    let mut reader = r;
+    let Ok(mut output) = BufWriter::with_capacity(alloc, HELD, w) else {
+        return NO_MEMORY;
+    };
     status(&outcome_of(
         alloc,
         BuildFresh::<H>::new(),
         &words,
-        "help\n",
-        "version\n",
+        About {
+            help: "help\n",
+            version: "version\n",
+        },
         40,
-        &mut reader,
-        w,
+        inputs,
+        failures,
+        &mut output,
     ))
+}
+
+/// Runs the program over a text, onto this paper.
+fn run<H: Piecewise>(alloc: Global, words: &[&str], r: Script<'_>, w: &mut Paper) -> End {
+    run_all::<H>(alloc, words, &mut [r], &mut Failures::new(), w)
 }
 
 /// That the program ends so, and wrote this.
@@ -275,21 +323,58 @@ const COUNTED: &[u8] = b"      2 b\n      2 a\n      1 c\n";
 /// What is written of it with no argument and with `-c`.
 const OUTPUTS: [(&[&str], &[u8]); 2] = [(&[], ONCE), (&["-c"], COUNTED)];
 
+/// How many bytes are written of the text where its reading fails behind so many bytes.
+const WRITTEN: [usize; 11] = [0, 0, 2, 2, 4, 4, 4, 4, 4, 4, 6];
+
 #[test]
 fn a_read_fails_at_each_byte(rt: HostRuntime) {
-    for until_fault in 0..TEXT.len() {
+    for until_fault in 0..11 {
         let mut script = Script::new(TEXT, 3);
         script.until_fault = until_fault;
         let mut paper = Paper::new(64, usize::MAX);
         let end = run::<Lookup3Hasher>(rt.alloc(), &[], script, &mut paper);
-        ended(&rt, end, READ_FAULT);
-        all_hold(&rt, &[ONCE.starts_with(paper.line())]);
+        ended(&rt, end, INPUT_FAILED);
+        same(&rt, paper.line(), &ONCE[..WRITTEN[until_fault]]);
+    }
+}
+
+/// Inputs of which the second fails within a line, and the third ends without an end of its line.
+fn three_inputs() -> [Script<'static>; 4] {
+    let mut broken = Script::new(b"a\nc\nlost\n", 64);
+    broken.until_fault = 6;
+    [
+        Script::new(b"b\na", 64),
+        broken,
+        Script::new(b"a\nlo", 2),
+        Script::new(b"st\nlo", 64),
+    ]
+}
+
+#[test]
+fn inputs_one_behind_the_other(rt: HostRuntime) {
+    let calls: [(&[&str], &[u8]); 2] = [
+        (&[], b"b\na\nc\nlo\nst\n"),
+        (&["-cd"], b"      3 a\n      2 lo\n"),
+    ];
+    for (words, output) in &calls {
+        let mut paper = Paper::new(64, usize::MAX);
+        let mut failures = Failures::new();
+        let end = run_all::<Lookup3Hasher>(
+            rt.alloc(),
+            words,
+            &mut three_inputs(),
+            &mut failures,
+            &mut paper,
+        );
+        ended(&rt, end, INPUT_FAILED);
+        same(&rt, paper.line(), output);
+        all_hold(&rt, &[failures.inputs == 2, failures.count == 1]);
     }
 }
 
 #[test]
 fn interrupted_reads(rt: HostRuntime) {
-    for (interrupted, end) in [(1, WELL), (999, WELL), (u32::MAX, READ_FAULT)] {
+    for (interrupted, end) in [(1, WELL), (999, WELL), (u32::MAX, INPUT_FAILED)] {
         let mut script = Script::new(TEXT, 64);
         script.interrupted = interrupted;
         let output: &[u8] = if end == WELL { ONCE } else { b"" };
@@ -302,7 +387,6 @@ fn interrupted_reads(rt: HostRuntime) {
 fn each_fault_is_told(rt: HostRuntime) {
     let broken = || -> io::Error { io::Error::from(ErrorKind::BrokenPipe) };
     let told = [
-        (Fault::Read(broken()), "a read failed: broken pipe"),
         (Fault::Write(Some(broken())), "a write failed: broken pipe"),
         (Fault::Write(None), "a write took nothing"),
         (Fault::NoMemory, "out of memory"),
@@ -328,16 +412,20 @@ fn a_write_fails_at_each_byte(rt: HostRuntime) {
     }
 }
 
-/// What is written before the first flush, which comes behind the lines that a read brought, or at the end.
-const FLUSHED: [(&[&str], &[u8]); 2] = [(&[], b"b\na\n"), (&["-c"], COUNTED)];
+/// How often a run flushes: at first, behind the lines of each of two reads, and with `-c` behind the last count.
+const FLUSHES: [usize; 2] = [3, 4];
 
 #[test]
 fn a_flush_fails(rt: HostRuntime) {
-    for (words, output) in &FLUSHED {
-        let mut paper = Paper::new(64, usize::MAX);
-        paper.flush_fails = true;
-        let script = Script::new(TEXT, 8);
-        ends::<Lookup3Hasher>(&rt, rt.alloc(), words, script, paper, WRITE_FAULT, output);
+    for ((words, output), all) in OUTPUTS.iter().zip(&FLUSHES) {
+        for flushes in 0..5 {
+            let mut paper = Paper::new(64, usize::MAX);
+            paper.flushes = flushes;
+            let end = run::<Lookup3Hasher>(rt.alloc(), words, Script::new(TEXT, 8), &mut paper);
+            let wanted = if flushes < *all { WRITE_FAULT } else { WELL };
+            ended(&rt, end, wanted);
+            all_hold(&rt, &[output.starts_with(paper.line())]);
+        }
     }
 }
 
@@ -407,38 +495,49 @@ fn nobody_reads_any_more(rt: HostRuntime) {
 }
 
 /// Whether a run under a limit ended well, and said that there were no more lines, or that there were.
-fn met(end: &Result<bool, Fault>, fits: bool) -> bool {
-    matches!(end, Ok(whole) if *whole == fits)
+fn met(end: &Result<Ended, Fault>, fits: bool) -> bool {
+    match end {
+        Ok(Ended::Whole) => fits,
+        Ok(Ended::TooManyLines) => !fits,
+        _ => false,
+    }
+}
+
+/// Whether runs over two inputs under a limit say so of the lines.
+fn limited(alloc: Global, limit: u64, fits: bool) -> io::Result<bool> {
+    let mut output = BufWriter::with_capacity(alloc, HELD, Vec::new(alloc))?;
+    let (front, back) = TEXT.split_at(4);
+    let once = dedup(
+        alloc,
+        BuildFresh::<NullHasher>::new(),
+        b'\n',
+        limit,
+        &mut [front, back],
+        &mut Failures::new(),
+        &mut output,
+    );
+    let which = Which {
+        counts: true,
+        repeated: false,
+        unique: false,
+    };
+    let counted = tally(
+        alloc,
+        BuildFresh::<NullHasher>::new(),
+        which,
+        b'\n',
+        limit,
+        &mut [TEXT],
+        &mut Failures::new(),
+        &mut output,
+    );
+    Ok(met(&once, fits) && met(&counted, fits))
 }
 
 #[test]
 fn more_lines_than_the_limit(rt: HostRuntime) {
     for (limit, fits) in [(0, false), (4, false), (5, true), (6, true)] {
-        let mut paper = Paper::new(64, usize::MAX);
-        let once = dedup(
-            rt.alloc(),
-            BuildFresh::<NullHasher>::new(),
-            b'\n',
-            limit,
-            &mut &TEXT[..],
-            &mut paper,
-        );
-        let mut paper = Paper::new(64, usize::MAX);
-        let which = Which {
-            counts: true,
-            repeated: false,
-            unique: false,
-        };
-        let counted = tally(
-            rt.alloc(),
-            BuildFresh::<NullHasher>::new(),
-            which,
-            b'\n',
-            limit,
-            &mut &TEXT[..],
-            &mut paper,
-        );
-        all_hold(&rt, &[met(&once, fits), met(&counted, fits)]);
+        all_hold(&rt, &[limited(rt.alloc(), limit, fits).unwrap_or(false)]);
     }
 }
 
@@ -480,17 +579,17 @@ fn lines_of_each_length(alloc: Global, count: usize) -> Result<Vec<u8>, AllocErr
 fn written_of_twice(alloc: Global, lines: &[u8], capacity: usize) -> io::Result<Vec<u8>> {
     let mut twice = Vec::from_slice(alloc, lines)?;
     twice.extend_from_slice(lines)?;
-    let mut reader = Script::new(&twice, capacity);
-    let mut output = Vec::new(alloc);
+    let mut output = BufWriter::with_capacity(alloc, HELD, Vec::new(alloc))?;
     match dedup(
         alloc,
         BuildFresh::<FNV1aHasher64>::new(),
         b'\n',
         200,
-        &mut reader,
+        &mut [Script::new(&twice, capacity)],
+        &mut Failures::new(),
         &mut output,
     ) {
-        Ok(true) => Ok(output),
+        Ok(Ended::Whole) => Ok(output.into_parts().0),
         _ => Ok(Vec::new(alloc)),
     }
 }
@@ -574,20 +673,21 @@ fn long_lines(alloc: Global) -> io::Result<(u64, u64)> {
         text.resize(len + 1048575, b'x')?;
         text.extend_from_slice(&[last, b'\n'])?;
     }
-    let mut reader = text.as_slice();
-    let mut scale = Scale {
+    let scale = Scale {
         bytes: 0,
         newlines: 0,
     };
+    let mut output = BufWriter::with_capacity(alloc, HELD, scale)?;
     match dedup(
         alloc,
         BuildFresh::<Lookup3Hasher>::new(),
         b'\n',
         4,
-        &mut reader,
-        &mut scale,
+        &mut [text.as_slice()],
+        &mut Failures::new(),
+        &mut output,
     ) {
-        Ok(true) => Ok((scale.bytes, scale.newlines)),
+        Ok(Ended::Whole) => Ok((output.get_ref().bytes, output.get_ref().newlines)),
         _ => Ok((0, 0)),
     }
 }

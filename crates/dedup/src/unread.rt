@@ -1,18 +1,30 @@
 //! The bytes that were read and are not taken yet.
-ghost use Rattle.std.specs.Prelude.{◌≡◌, ◌<◌, ◌≤◌, ◌+◌, ◌-◌, ◌++◌, [], ℕ, List, IfOk, OnOk, OnErr, true, false, length, take, drop};
-ghost use Rattle.std.specs.Io.{ReadsAtMost};
-ghost use Rattle.std.specs.Io.KnownBytes.{Consumes, IsAtEnd, ReadConsumes};
+ghost use Rattle.std.specs.Prelude.{◌≡◌, ◌<◌, ◌≤◌, ◌+◌, ◌-◌, ◌++◌, [], ℕ, List, IfOk, OnOk, OnErr, MatchResult, true, false, length, take, drop};
+ghost use Rattle.std.specs.Io.Buffered.{writer_buffer};
+ghost use Rattle.std.specs.Io.KnownBytes.{Consumes, IsAtEnd, Keeps};
 ghost use Rattle.dedup.specs.Between.{Filled};
 
+use crate::fault::Fault;
 use crate::lines::line_end;
-use crate::run::Fault;
 use hash_program::streams::{TRIES, read_some};
 use std::alloc::Global;
-use std::io::Read;
+use std::io;
+use std::io::{BufWriter, Error, Read, Write};
 use std::marker::Model;
 
 /// How many bytes are there at most, unless a line is longer than half of them.
 pub const BUFFER: usize = 65536;
+
+/// What came of reading on.
+#[derive(Drop)]
+pub enum Came {
+    /// The end of a line, which is among the bytes.
+    Line,
+    /// The end of the input. The bytes are its last line, which has no end, or none.
+    End,
+    /// A fault. The bytes are a line that it broke, or none.
+    Fault(Error),
+}
 
 /// Bytes that were read and are not taken yet: what is left of the last line, and what was read behind it.
 #[derive(Drop)]
@@ -60,16 +72,15 @@ fn make_room(bytes: &mut Vec<u8>, to: usize) -> Result<(), Fault>
 }
 
 /// Reads once, and puts what was read behind so many bytes.
-fn read_behind<R: Read>(bytes: &mut [u8], to: usize, r: &mut R) -> Result<usize, Fault>
+fn read_behind<R: Read>(bytes: &mut [u8], to: usize, r: &mut R) -> io::Result<usize>
     requires { to < length bytes.old }
     ensures within { IfOk result (λ n. to + n ≤ length bytes.new) }
     ensures read { IfOk result (λ n. (text : List ℕ) × (take (to + n) bytes.new ≡ take to bytes.old ++ text) × (length text ≡ n)
         × Consumes (R.remaining r.old) (R.remaining r.new) text × (n ≡ 0 → IsAtEnd (R.remaining r.new))) }
+    ensures kept { OnErr result (take to bytes.new ≡ take to bytes.old) }
+    ensures err { OnErr result (Keeps (R.remaining r.old) (R.remaining r.new)) }
 {
-    match read_some(r, &mut bytes[to..], TRIES) {
-        Ok(n) => Ok(n),
-        Err(error) => Err(Fault::Read(error)),
-    }
+    read_some(r, &mut bytes[to..], TRIES)
 }
 
 impl Unread {
@@ -107,31 +118,53 @@ impl Unread {
         self.from += n;
     }
 
+    /// Takes all bytes.
+    pub fn clear(&mut self)
+        ensures { self.new ≡ [] }
+    {
+        self.from = self.to;
+    }
+
     /// Reads once.
-    fn read<R: Read>(&mut self, r: &mut R) -> Result<usize, Fault>
-        ensures { IfOk result (λ n. (text : List ℕ) × (self.new ≡ self.old ++ text) × (length text ≡ n)
-            × Consumes (R.remaining r.old) (R.remaining r.new) text × (n ≡ 0 → IsAtEnd (R.remaining r.new))) }
+    fn read<R: Read>(&mut self, r: &mut R) -> Result<io::Result<usize>, Fault>
+        ensures { IfOk result (λ read. MatchResult read
+            (λ n. (text : List ℕ) × (self.new ≡ self.old ++ text) × (length text ≡ n)
+            × Consumes (R.remaining r.old) (R.remaining r.new) text × (n ≡ 0 → IsAtEnd (R.remaining r.new)))
+            (λ _. (self.new ≡ self.old) × Keeps (R.remaining r.old) (R.remaining r.new))) }
     {
         to_front(&mut self.bytes, self.from, self.to);
         self.to -= self.from;
         self.from = 0;
         make_room(&mut self.bytes, self.to)?;
-        let n = read_behind(self.bytes.as_mut_slice(), self.to, r)?;
-        self.to += n;
-        Ok(n)
+        match read_behind(self.bytes.as_mut_slice(), self.to, r) {
+            Ok(n) => {
+                self.to += n;
+                Ok(Ok(n))
+            }
+            Err(error) => Ok(Err(error)),
+        }
     }
 
-    /// Reads until the end of a line came, or to the end, and answers whether one came. What was there is kept at the front.
-    pub fn fill<R: Read>(&mut self, eol: u8, r: &mut R) -> Result<bool, Fault>
-        ensures { IfOk result (λ more. Filled eol more self.old self.new (R.remaining r.old) (R.remaining r.new)) }
+    /// Reads until the end of a line came, or to the end or a fault of the input, where nothing that is due is held back.
+    /// What was there is kept at the front.
+    pub fn fill<R: Read, W: Write + Drop>(
+        &mut self,
+        eol: u8,
+        r: &mut R,
+        due: &BufWriter<W>,
+    ) -> Result<Came, Fault>
+        requires { writer_buffer due.now ≡ [] }
+        ensures { IfOk result (Filled eol self.old self.new (R.remaining r.old) (R.remaining r.new)) }
     {
         loop {
             let len = self.bytes().len();
-            if self.read(r)? == 0 {
-                return Ok(false);
+            match self.read(r)? {
+                Ok(0) => return Ok(Came::End),
+                Ok(_) => {}
+                Err(error) => return Ok(Came::Fault(error)),
             }
             if line_end(&self.bytes()[len..], eol).is_some() {
-                return Ok(true);
+                return Ok(Came::Line);
             }
         }
     }

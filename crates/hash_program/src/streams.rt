@@ -1,10 +1,11 @@
 //! Reads and writes, tried again where they were interrupted.
-ghost use Rattle.std.specs.Prelude.{◌≡◌, ◌<◌, ◌≤◌, IfOk, OnOk, OnErr, length, take};
+ghost use Rattle.std.specs.Prelude.{◌≡◌, ◌<◌, ◌≤◌, [], IfOk, OnOk, OnErr, length, take};
+ghost use Rattle.std.specs.Io.Buffered.{writer_buffer, writer_contents};
 ghost use Rattle.std.specs.Io.KnownBytes.{Appends, Consumes, IsAtEnd, Keeps};
 ghost use Rattle.hash_program.specs.Streams.{AppendsPart};
 
 use std::io;
-use std::io::{Error, ErrorKind, Read, Write};
+use std::io::{BufWriter, Error, ErrorKind, Read, Write};
 
 /// How often a read or a write that was interrupted is tried again, unless a program says otherwise.
 pub const TRIES: u32 = 1000000;
@@ -53,9 +54,10 @@ pub fn put<W: Write>(w: &mut W, bytes: &[u8], tries: u32) -> Result<(), Option<E
     Ok(())
 }
 
-/// Flushes the writer, and tries up to so many times again where that was interrupted.
-pub fn finish<W: Write>(w: &mut W, tries: u32) -> io::Result<()>
-    ensures { Keeps (W.contents w.old) (W.contents w.new) }
+/// Flushes the writer, so that nothing is held back, and tries up to so many times again where that was interrupted.
+pub fn finish<W: Write + Drop>(w: &mut BufWriter<W>, tries: u32) -> io::Result<()>
+    ensures kept { Keeps (writer_contents W.contents w.old) (writer_contents W.contents w.new) }
+    ensures flushed { OnOk result (writer_buffer w.new ≡ []) }
 {
     let mut left = tries;
     loop {

@@ -1,15 +1,41 @@
-use Rattle.std.proofs.Common.{◌∷◌, ◌++◌, [], ap, sym, ◌∙◌, append_assoc}
+use Rattle.std.proofs.Common.{◌<◌, ◌≤◌, ◌∷◌, ◌++◌, [], OnErr, length, ap, sym, subst, ◌∙◌, append_assoc, arith}
+use Rattle.std.specs.Io.KnownBytes.{Appends}
 use Rattle.std.proofs.KnownBytes.{Appends-trans}
-use Rattle.std.proofs.lemmas.Result.{on_err_weaker}
+use Rattle.std.proofs.lemmas.Result.{on_err_weaker, on_ok_weaker}
+use Rattle.hash_program.specs.Streams.{AppendsPart}
+use Rattle.dedup.proofs.LineLemmas.{line_with_end, line_without_end}
 use Rattle.dedup.proofs.SeenLemmas.{on_err}
 use Rattle.dedup.proofs.lines.put_line.Goals as goal
 
+pub returns-then-text_of-line-clause-err : goal.returns-then-text_of-line-clause-err
+returns-then-text_of-line-clause-err g c =
+    let longer = subst (λ text. length text < length c.args.line.now) c.text_of.ensures c.if-text_of-line.true in
+    subst (λ l. OnErr c.put.result (AppendsPart (g.W.Write.contents c.args.w.now) (g.W.Write.contents c.put.new.w) l))
+    (sym (line_with_end c.args.eol c.args.line.now longer)) c.put.ensures.err
+
 pub returns-in_err-put-clause-err : goal.returns-in_err-put-clause-err
 returns-in_err-put-clause-err g c =
+    let same = line_without_end c.args.eol c.args.line.now (subst (λ text. length c.args.line.now ≤ length text) c.text_of.ensures (omega (arith, c.if-text_of-line.false))) in
     let (part, rest, is, written) = c.in_err-put.ensures.err in
-    on_err _ c.from_residual.result (part, rest ++ c.args.eol ∷ [], sym (append_assoc part rest (c.args.eol ∷ [])) ∙ ap (λ l. l ++ c.args.eol ∷ []) is, written)
+    on_err _ c.from_residual.result
+    (part, rest ++ c.args.eol ∷ [], sym (append_assoc part rest (c.args.eol ∷ [])) ∙ ap (λ l. l ++ c.args.eol ∷ []) (is ∙ sym same), written)
+
+pub returns-clause-ok : goal.returns-clause-ok
+returns-clause-ok g c =
+    let same = line_without_end c.args.eol c.args.line.now (subst (λ text. length c.args.line.now ≤ length text) c.text_of.ensures (omega (arith, c.if-text_of-line.false))) in
+    on_ok_weaker c.put-3.result
+    (λ end. subst (Appends (g.W.Write.contents c.args.w.now) (g.W.Write.contents c.put-3.new.w)) (ap (λ l. l ++ c.args.eol ∷ []) (sym same))
+    (Appends-trans _ _ _ _ _ c.in_ok-put.ensures.ok end))
+    c.put-3.ensures.ok
 
 pub returns-clause-err : goal.returns-clause-err
-returns-clause-err g c = on_err_weaker c.put-2.result
-    (λ begun. (c.args.text.now ++ begun.0, begun.1, append_assoc c.args.text.now begun.0 begun.1 ∙ ap (λ l. c.args.text.now ++ l) begun.2, Appends-trans _ _ _ _ _ c.in_ok-put.ensures.ok begun.3))
-    c.put-2.ensures.err
+returns-clause-err g c =
+    let same = line_without_end c.args.eol c.args.line.now (subst (λ text. length c.args.line.now ≤ length text) c.text_of.ensures (omega (arith, c.if-text_of-line.false))) in
+    on_err_weaker c.put-3.result
+    (λ begun. (
+      c.args.line.now ++ begun.0,
+      begun.1,
+      append_assoc c.args.line.now begun.0 begun.1 ∙ ap (λ l. c.args.line.now ++ l) begun.2 ∙ ap (λ l. l ++ c.args.eol ∷ []) (sym same),
+      Appends-trans _ _ _ _ _ c.in_ok-put.ensures.ok begun.3,
+    ))
+    c.put-3.ensures.err

@@ -2,7 +2,7 @@ use Rattle.std.proofs.Common.{rules, arith, ap, ◌∙◌, get_or}
 use Rattle.std.proofs.KnownBytes.{Keeps-refl}
 use Rattle.dedup.specs.Tallies.{shown}
 use Rattle.dedup.proofs.OrderLemmas.{telling_ends, telling_more, telling_stops, telling_stops_within}
-use Rattle.dedup.proofs.SeenLemmas.{on_err, on_ok}
+use Rattle.dedup.proofs.SeenLemmas.{on_err}
 use Rattle.dedup.proofs.tally.tell.Goals as goal
 
 pub returns-in_err-show-clause-err : goal.returns-in_err-show-clause-err
@@ -14,11 +14,8 @@ returns-in_err-put-clause-err g c =
     on_err _ c.from_residual-in_err-put.result
     (λ ls now. telling_stops_within c.args.eol _ _ _ _ _ _ c.loop-i.invariant _ _ (search (rules, arith)) (c.deref.ensures.value ∙ c.in_ok-show.ensures ∙ ap (shown c.args.eol c.args.which (get_or c.args.times.now c.loop-i.i 0)) c.text_at.ensures) part rest is written ls now.places now.counts)
 
-pub returns-clause-err : goal.returns-clause-err
-returns-clause-err g c = on_err _ c.finish.result (λ ls now. telling_stops c.args.eol _ _ _ _ _ _ c.loop-i.invariant _ c.finish.ensures ls now.places now.counts)
-
 pub returns-clause-ok : goal.returns-clause-ok
-returns-clause-ok g c = on_ok _ c.finish.result (λ ls now. telling_ends c.args.eol _ _ _ _ _ _ c.loop-i.invariant (omega arith) _ c.finish.ensures ls now.places now.counts)
+returns-clause-ok g c = λ ls now. telling_ends c.args.eol _ _ _ _ _ _ c.loop-i.invariant (omega arith) _ (Keeps-refl _) ls now.places now.counts
 
 pub loop-i-preserved : goal.loop-i-preserved
 loop-i-preserved g c =

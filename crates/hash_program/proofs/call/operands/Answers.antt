@@ -1,7 +1,6 @@
 use Rattle.std.proofs.Common.{Bool, true, false, ◌≡◌, ◌+◌, ◌++◌, ◌∷◌, [], ◌∙◌, ap, sym, drop, map, append_assoc, if◌then◌else◌}
-use Rattle.std.specs.Str.{bytes_eq}
 use Rattle.std.proofs.lemmas.List.{drop_more, map-append}
-use Rattle.hash_program.specs.Call.{dashes, is_operand, operands, texts}
+use Rattle.hash_program.specs.Call.{is_operand, operands, texts}
 use Rattle.hash_program.proofs.CallLemmas.{operands_first}
 use Rattle.hash_program.proofs.call.operands.Goals.{then-is_operand+in_ok-push, else-is_operand}
 use Rattle.hash_program.proofs.call.operands.Goals as goal

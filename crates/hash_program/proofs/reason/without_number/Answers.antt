@@ -1,4 +1,4 @@
-use Rattle.std.proofs.Common.{◌∙◌, ap, sym, subst, refl, ◌<◌, ◌++◌, [], drop, take, take-append-drop, arith}
+use Rattle.std.proofs.Common.{◌∙◌, ap, sym, subst, refl, ◌<◌, ◌++◌, [], drop, take-append-drop, arith}
 use Rattle.std.proofs.lemmas.List.{append-nil}
 use Rattle.hash_program.proofs.reason.without_number.Goals as goal
 

@@ -1,16 +1,21 @@
-use Rattle.std.proofs.Common.{ℕ, List, [], ◌≡◌, ◌<◌, ◌+◌, ◌++◌, ◌∙◌, true, ap, sym, subst, refl, length, append_assoc, arith}
+use Rattle.std.proofs.Common.{ℕ, List, [], ◌≡◌, ◌<◌, ◌+◌, ◌++◌, ◌∙◌, true, ap, sym, subst, refl, length, append_assoc, length-append, arith}
 use Rattle.std.specs.Io.{StopsAt}
 use Rattle.std.specs.Io.BufRead.{ends_with_byte}
-use Rattle.dedup.specs.Between.{BreaksOff, LeadsOn}
 use Rattle.dedup.specs.Lines.{lines_by}
-use Rattle.hash_texts.specs.Texts.{has}
+use Rattle.dedup.specs.Taking.{BreaksOff, LeadsOn}
 use Rattle.dedup.proofs.LineLemmas.{line_through, one_line}
-use Rattle.dedup.proofs.RunLemmas.{breaks_at_line, counted_more, front_is, leads_further, leads_nowhere, lines_more, takes_so_far, together, whole_both, whole_line, whole_nothing}
+use Rattle.dedup.proofs.RunLemmas.{breaks_at_line, counted_more, front_is, leads_both, leads_nowhere, lines_more, takes_so_far, together, whole_both, whole_line, whole_nothing}
 use Rattle.dedup.proofs.SeenLemmas.{on_err}
-use Rattle.dedup.proofs.lines.write_lines.Goals as goal
+use Rattle.dedup.proofs.lines.take_lines.Goals as goal
 
 pub loop-count-init : goal.loop-count-init
-loop-count-init g c = ([], refl, (whole_nothing c.args.eol), refl, leads_nowhere c.args.eol _ _)
+loop-count-init g c = ([], refl, whole_nothing c.args.eol, refl, leads_nowhere (g.T.LineTask.output c.args.eol) _ _)
+
+pub take_line-requires : goal.take_line-requires
+take_line-requires g c =
+    let (part, is, whole, counted, leads) = c.loop-count.invariant in
+    let (ls, now, few) = c.requires.room in
+    (ls ++ lines_by c.args.eol part, leads.stands ls now, omega (arith, few, counted, length-append ls (lines_by c.args.eol part)))
 
 pub loop-count-preserved : goal.loop-count-preserved
 loop-count-preserved g c =
@@ -20,39 +25,40 @@ loop-count-preserved g c =
     let rest : List ℕ = c.loop-count.rest.now in
     let n : ℕ = c.in-Some.n in
     let (stops, some, ended) = subst (λ l. StopsAt l c.args.eol × (0 < length l) × (ends_with_byte c.args.eol l ≡ true)) (sym c.split_at.ensures.front) (line_through c.args.eol rest n c.in-Some.ensures) in
-    let wrote = c.in_ok-write_new-in-Some.ensures in
     let more = lines_more c.args.eol part line whole stops some in (
       part ++ line,
       append_assoc part line later ∙ ap (λ l. part ++ l) (together line later rest (n + 1) c.split_at.ensures.front c.split_at.ensures.back) ∙ is,
       whole_both c.args.eol part line whole (whole_line c.args.eol line stops some ended),
       counted_more c.args.eol part line c.loop-count.count more counted,
-      subst (λ ls. LeadsOn c.args.eol ls (has c.args.seen.now) (has c.write_new.new.seen) (g.W.Write.contents c.args.w.now) (g.W.Write.contents c.write_new.new.w)) (sym more)
-          (leads_further c.args.eol (lines_by c.args.eol part) (has c.args.seen.now) (has c.loop-count.seen) (has c.write_new.new.seen) (g.W.Write.contents c.args.w.now) (g.W.Write.contents c.loop-count.w) (g.W.Write.contents c.write_new.new.w) line leads wrote.written wrote.seen),
+      subst (λ ls. LeadsOn (g.T.LineTask.output c.args.eol) (λ l. g.T.LineTask.taken c.args.eol l c.args.task.now) (λ l. g.T.LineTask.taken c.args.eol l c.take_line.new.self) ls
+          (g.W.Write.contents c.args.w.now) (g.W.Write.contents c.take_line.new.w)) (sym more)
+          (leads_both (g.T.LineTask.output c.args.eol) _ _ _ _ _ _ _ _ leads c.in_ok-take_line-in-Some.ensures.ok),
     )
 
-pub returns-in_err-write_new-in-Some-clause-begun : goal.returns-in_err-write_new-in-Some-clause-begun
-returns-in_err-write_new-in-Some-clause-begun g c =
+pub returns-in_err-take_line-in-Some-clause-broke : goal.returns-in_err-take_line-in-Some-clause-broke
+returns-in_err-take_line-in-Some-clause-broke g c =
     let (part, is, whole, counted, leads) = c.loop-count.invariant in
     let line : List ℕ = c.split_at.result.0.now in
     let later : List ℕ = c.split_at.result.1.now in
     let rest : List ℕ = c.loop-count.rest.now in
     let n : ℕ = c.in-Some.n in
     let (stops, some, ended) = subst (λ l. StopsAt l c.args.eol × (0 < length l) × (ends_with_byte c.args.eol l ≡ true)) (sym c.split_at.ensures.front) (line_through c.args.eol rest n c.in-Some.ensures) in
-    let (begun, more, of, appends) = c.in_err-write_new-in-Some.ensures.begun in
     let all : part ++ (line ++ later) ≡ c.args.bytes.now = ap (λ l. part ++ l) (together line later rest (n + 1) c.split_at.ensures.front c.split_at.ensures.back) ∙ is in
     on_err _ c.from_residual.result
-    (subst (λ l. BreaksOff c.args.eol l (has c.args.seen.now) (g.W.Write.contents c.args.w.now) (g.W.Write.contents c.write_new.new.w)) all
-    (breaks_at_line c.args.eol (has c.args.seen.now) (has c.loop-count.seen) (g.W.Write.contents c.args.w.now) (g.W.Write.contents c.loop-count.w) (g.W.Write.contents c.write_new.new.w) part line later whole (whole_line c.args.eol line stops some ended) (one_line c.args.eol line stops some) leads begun more of appends))
+    (subst (λ l. BreaksOff (g.T.LineTask.output c.args.eol) (λ ls. g.T.LineTask.taken c.args.eol ls c.args.task.now) c.args.eol l (g.W.Write.contents c.args.w.now) (g.W.Write.contents c.take_line.new.w)) all
+    (breaks_at_line c.args.eol (g.T.LineTask.output c.args.eol) c.requires.grows _ _ _ _ _ part line later whole (whole_line c.args.eol line stops some ended)
+    (one_line c.args.eol line stops some) leads c.in_err-take_line-in-Some.ensures.err))
 
 pub returns-in-None-clause-takes : goal.returns-in-None-clause-takes
 returns-in-None-clause-takes g c =
     let (part, is, whole, counted, leads) = c.loop-count.invariant in
     takes_so_far c.args.eol part c.loop-count.rest.now c.args.bytes.now c.args.most c.loop-count.count is whole counted (omega arith) (λ below. c.in-None.ensures)
 
-pub returns-in-None-clause-written : goal.returns-in-None-clause-written
-returns-in-None-clause-written g c =
+pub returns-in-None-clause-led : goal.returns-in-None-clause-led
+returns-in-None-clause-led g c =
     let (part, is, whole, counted, leads) = c.loop-count.invariant in
-    subst (λ text. LeadsOn c.args.eol (lines_by c.args.eol text) (has c.args.seen.now) (has c.loop-count.seen) (g.W.Write.contents c.args.w.now) (g.W.Write.contents c.loop-count.w)) (sym (front_is part c.loop-count.rest.now c.args.bytes.now is)) leads
+    subst (λ text. LeadsOn (g.T.LineTask.output c.args.eol) (λ l. g.T.LineTask.taken c.args.eol l c.args.task.now) (λ l. g.T.LineTask.taken c.args.eol l c.loop-count.task) (lines_by c.args.eol text)
+    (g.W.Write.contents c.args.w.now) (g.W.Write.contents c.loop-count.w)) (sym (front_is part c.loop-count.rest.now c.args.bytes.now is)) leads
 
 pub returns-clause-takes : goal.returns-clause-takes
 returns-clause-takes g c =
@@ -60,7 +66,8 @@ returns-clause-takes g c =
     let all : c.loop-count.count ≡ c.args.most = omega arith in
     takes_so_far c.args.eol part c.loop-count.rest.now c.args.bytes.now c.args.most c.args.most is whole (sym all ∙ counted) (omega arith) (λ below. absurd (omega (arith, below)))
 
-pub returns-clause-written : goal.returns-clause-written
-returns-clause-written g c =
+pub returns-clause-led : goal.returns-clause-led
+returns-clause-led g c =
     let (part, is, whole, counted, leads) = c.loop-count.invariant in
-    subst (λ text. LeadsOn c.args.eol (lines_by c.args.eol text) (has c.args.seen.now) (has c.loop-count.seen) (g.W.Write.contents c.args.w.now) (g.W.Write.contents c.loop-count.w)) (sym (front_is part c.loop-count.rest.now c.args.bytes.now is)) leads
+    subst (λ text. LeadsOn (g.T.LineTask.output c.args.eol) (λ l. g.T.LineTask.taken c.args.eol l c.args.task.now) (λ l. g.T.LineTask.taken c.args.eol l c.loop-count.task) (lines_by c.args.eol text)
+    (g.W.Write.contents c.args.w.now) (g.W.Write.contents c.loop-count.w)) (sym (front_is part c.loop-count.rest.now c.args.bytes.now is)) leads

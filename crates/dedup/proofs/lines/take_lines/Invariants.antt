@@ -1,10 +1,11 @@
 use Rattle.std.proofs.Common.{ℕ, List, ◌≡◌, ◌++◌, length}
-use Rattle.dedup.specs.Between.{IsWhole, LeadsOn}
+use Rattle.dedup.specs.Between.{IsWhole}
 use Rattle.dedup.specs.Lines.{lines_by}
-use Rattle.hash_texts.specs.Texts.{has}
-use Rattle.dedup.proofs.lines.write_lines.Given as goal
+use Rattle.dedup.specs.Taking.{LeadsOn}
+use Rattle.dedup.proofs.lines.take_lines.Given as goal
 
 -- what is left of the bytes, behind as many whole lines
 abbrev pub invariant-loop-count : goal.invariant-loop-count
 invariant-loop-count g l = (part : List ℕ) × (part ++ l.rest ≡ l.bytes) × IsWhole l.eol part × (l.count ≡ length (lines_by l.eol part))
-    × LeadsOn l.eol (lines_by l.eol part) (has l.initial.seen) (has l.seen) (g.W.Write.contents l.initial.w) (g.W.Write.contents l.w)
+    × LeadsOn (g.T.LineTask.output l.eol) (λ ls. g.T.LineTask.taken l.eol ls l.initial.task) (λ ls. g.T.LineTask.taken l.eol ls l.task) (lines_by l.eol part)
+    (g.W.Write.contents l.initial.w) (g.W.Write.contents l.w)

@@ -1,0 +1,66 @@
+//! Lines, each once.
+ghost use Rattle.std.specs.Prelude.{◌≡◌, [], ℕ, List, OnOk};
+ghost use Rattle.std.specs.Io.Buffered.{writer_buffer, writer_contents};
+ghost use Rattle.dedup.specs.Lines.{AreSeen, once_by};
+ghost use Rattle.dedup.specs.Running.{Ends, run_of};
+
+use crate::fault::Fault;
+use crate::lines::{put_line, text_of};
+use crate::run::{Complaints, Ended, take_inputs};
+use crate::task::LineTask;
+use hash_texts::Texts;
+use std::alloc::Global;
+use std::hash::BuildHasher;
+use std::io::{BufWriter, Read, Write};
+
+/// The texts of the lines that came.
+#[derive(Drop)]
+pub struct Once<S: BuildHasher + Drop> {
+    seen: Texts<S>,
+}
+
+impl<S: BuildHasher + Drop> LineTask for Once<S> {
+    ghost taken = { λ eol ls once. AreSeen eol ls once.seen };
+
+    ghost output = { once_by };
+
+    #[inline(always)]
+    fn guess(&self, text: &[u8]) -> usize {
+        self.seen.guess(text)
+    }
+
+    #[inline(always)]
+    fn take_line<W: Write>(
+        &mut self,
+        line: &[u8],
+        eol: u8,
+        guess: usize,
+        w: &mut W,
+    ) -> Result<(), Fault> {
+        if self.seen.see_at(text_of(line, eol), guess)?.is_new {
+            put_line(w, line, eol)?;
+        }
+        Ok(())
+    }
+}
+
+/// Writes each of at most `limit` lines of the inputs, each of which ends with the byte `eol`, once, where it came first. An
+/// input that fails is told, and the others are read. Whenever it reads, and at the end, nothing is held back.
+pub fn dedup<S: BuildHasher + Drop, R: Read, C: Complaints, W: Write + Drop>(
+    alloc: Global,
+    hasher: S,
+    eol: u8,
+    limit: u64,
+    inputs: &mut [R],
+    complaints: &mut C,
+    w: &mut BufWriter<W>,
+) -> Result<Ended, Fault>
+    ensures ended { Ends (once_by eol) eol limit
+        (run_of R.remaining inputs.old inputs.new (writer_contents W.contents) w.old w.new) result }
+    ensures flushed { OnOk result (writer_buffer w.new ≡ []) }
+{
+    let mut once = Once {
+        seen: Texts::new(alloc, hasher),
+    };
+    take_inputs(alloc, &mut once, eol, limit, inputs, complaints, w)
+}
