@@ -1,5 +1,5 @@
 // Measures the filter of hash_bloom beside libbloom, by turns, and counts how many strange keys each pair of hashes takes for
-// known ones. It writes the two tables of docs/FILTERS.md to standard output.
+// known ones. It writes one of the two tables of docs/FILTERS.md to standard output.
 #include <bloom.h>
 #include <stdbool.h>
 #include <stdint.h>
@@ -106,15 +106,16 @@ static double strange_share(call *found, size_t count, bool random, uint64_t bit
     return 100.0 * (double)strange / (double)count;
 }
 
-static void strange_keys(void) {
-    printf("| pair | random keys, 10000000 bits | random keys, 10000019 bits | counters, 10000000 bits "
-           "| counters, 10000019 bits |\n|---|---:|---:|---:|---:|\n");
+static void strange_keys(size_t count) {
+    const uint64_t bits[] = {10 * count, 10 * count + 19};
+    printf("| pair | random keys, %lu bits | random keys, %lu bits | counters, %lu bits | counters, %lu bits |\n"
+           "|---|---:|---:|---:|---:|\n",
+           bits[0], bits[1], bits[0], bits[1]);
     for (int i = 0; i < PAIRS; i++) {
         printf("| %s |", pairs[i].name);
-        for (int random = 1; random >= 0; random--) {
-            printf(" %.2f |", strange_share(pairs[i].found, 1000000, random, 10000000));
-            printf(" %.2f |", strange_share(pairs[i].found, 1000000, random, 10000019));
-        }
+        for (int random = 1; random >= 0; random--)
+            for (int j = 0; j < 2; j++)
+                printf(" %.2f |", strange_share(pairs[i].found, count, random, bits[j]));
         printf("\n");
     }
 }
@@ -159,29 +160,38 @@ static double median(double *of, int turns) {
 static const struct timed {
     const char *name;
     call *found;
-    uint64_t bits[2]; // or 0 for ten bits a key
+    bool rounded; // ten bits a key, or the power of two at or above that
 } timed[] = {
-    {"fxhash, fnv1a64", measure_filters_fxhash_fnv1a64, {0, 0}},
-    {"fxhash, lookup3", measure_filters_fxhash_lookup3, {0, 0}},
-    {"fnv1a64, lookup3", measure_filters_fnv1a64_lookup3, {0, 0}},
-    {"fxhash, fnv1a64 at 2^14 and 2^27 bits", measure_filters_fxhash_fnv1a64, {1 << 14, 1 << 27}},
-    {"libbloom", by_libbloom, {0, 0}},
+    {"fxhash, fnv1a64", measure_filters_fxhash_fnv1a64, false},
+    {"fxhash, lookup3", measure_filters_fxhash_lookup3, false},
+    {"fnv1a64, lookup3", measure_filters_fnv1a64_lookup3, false},
+    {"fxhash, fnv1a64 at a power of two", measure_filters_fxhash_fnv1a64, true},
+    {"libbloom", by_libbloom, false},
 };
 enum { TIMED = sizeof timed / sizeof *timed };
 
-static void times(void) {
-    static const size_t counts[] = {1000, 10000000}, rounds[] = {4, 1};
+static uint64_t bits_for(size_t count, bool rounded) {
+    uint64_t bits = 1;
+    while (bits < 10 * count)
+        bits *= 2;
+    return rounded ? bits : 10 * count;
+}
+
+static void times(size_t most) {
+    const size_t counts[] = {1000, most}, rounds[] = {4, 1};
     static const int turns[] = {TURNS, 3}, calls[] = {100, 1};
     static struct times got[TIMED][2];
-    printf("| | insert, 10^3 | there, 10^3 | strange, 10^3 | insert, 10^7 | there, 10^7 | strange, 10^7 |\n"
-           "|---|---:|---:|---:|---:|---:|---:|\n");
+    printf("|");
+    for (int j = 0; j < 2; j++)
+        printf(" | insert, %zu | there, %zu | strange, %zu", counts[j], counts[j], counts[j]);
+    printf(" |\n|---|---:|---:|---:|---:|---:|---:|\n");
     for (int j = 0; j < 2; j++) {
         size_t count = counts[j];
         random_state = 2;
         uint8_t *there = keys(count, 16, true, 0), *strange = keys(count, 16, true, 0);
         for (int turn = 0; turn < turns[j]; turn++)
             for (int i = 0; i < TIMED; i++) {
-                uint64_t bits = timed[i].bits[j] == 0 ? 10 * count : timed[i].bits[j];
+                uint64_t bits = bits_for(count, timed[i].rounded);
                 measure(&got[i][j], turn, timed[i].found, there, strange, count, bits, calls[j], rounds[j]);
             }
         free(there);
@@ -197,11 +207,11 @@ static void times(void) {
 }
 
 int main(int count, char **words) {
-    if (count == 2 && strcmp(words[1], "strange") == 0)
-        strange_keys();
-    else if (count == 2 && strcmp(words[1], "times") == 0)
-        times();
+    if (count == 3 && strcmp(words[1], "strange") == 0)
+        strange_keys(strtoul(words[2], NULL, 10));
+    else if (count == 3 && strcmp(words[1], "times") == 0)
+        times(strtoul(words[2], NULL, 10));
     else
-        return fprintf(stderr, "usage: measure strange|times\n"), 2;
+        return fprintf(stderr, "usage: filters strange|times KEYS\n"), 2;
     return 0;
 }

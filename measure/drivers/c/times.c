@@ -1,5 +1,6 @@
-// Times of a call of libhashers beside the original crate behind a C call and XXH3, by turns in one process. Writes rows of docs/C.md's
-// tables: the least of 41 runs, in nanoseconds a key.
+// times RUNS: the times of a call of libhashers beside the original crate behind a C call and XXH3, by turns in one process. Writes the
+// tables of docs/C.md, with an empty line between two: the least of so many runs, at most 41, in nanoseconds a key. The macro NAMES, which
+// measure/c defines, has an X(name) for each name.
 #define _GNU_SOURCE
 #define XXH_NO_INLINE_HINTS 1
 #include "hashers.h"
@@ -11,8 +12,6 @@
 typedef uint64_t whole(const void *, size_t);
 typedef uint64_t on(uint64_t, const void *, size_t);
 
-#define NAMES(X) X(fnv1a32) X(fnv1a64) X(djb2) X(sdbm) X(loselose) X(bricolage) X(oaat) X(lookup3) X(spooky_v1) X(null) X(passthrough) \
-    X(fxhash) X(fxhash32) X(fxhash64)
 #define DECLARED(name) uint64_t original_##name(const void *text, size_t n);
 NAMES(DECLARED)
 
@@ -21,14 +20,14 @@ static uint64_t xxh3(const void *text, size_t n) { return XXH3_64bits(text, n); 
 static const struct row {
     const char *name;
     whole *ours, *other;
-    on *write;
 } rows[] = {
-#define ROW(name) {#name, hashers_##name, original_##name, NULL},
+#define ROW(name) {#name, hashers_##name, original_##name},
     NAMES(ROW)
-    {"spooky", hashers_spooky, original_spooky_v1, NULL},
-    {"xxh3 of libxxhash", xxh3, NULL, NULL},
+    {"xxh3 of libxxhash", xxh3, NULL},
 };
 enum { ROWS = sizeof rows / sizeof *rows, RUNS = 41, KEYS = 1 << 20 };
+
+static int runs;
 
 static unsigned char *keys;
 static volatile uint64_t kept;
@@ -63,15 +62,15 @@ static void row(const struct row *r) {
     printf("| `%s` |", r->name);
     for (int s = 0; s < 4; s++) {
         size_t count = sizes[s] > 64 ? 4 : 100000 / (sizes[s] / 8);
-        for (int run = 0; run < RUNS; run++)
+        for (int run = 0; run < runs; run++)
             for (int which = 0; which < (r->other ? 2 : 1); which++)
                 times[which][run] = time_of(which ? r->other : r->ours, sizes[s], sizes[s] > 64 && KEYS / sizes[s] < count ? 1 : count);
-        double ours = least(times[0], RUNS);
+        double ours = least(times[0], runs);
         const char *digits = ours < 1000 ? "%.1f" : "%.0f";
         putchar(' ');
         printf(digits, ours);
         if (r->other) {
-            double other = least(times[1], RUNS);
+            double other = least(times[1], runs);
             printf(" (");
             printf(digits, other);
             printf(")%s", ours > 1.10 * other ? " over" : "");
@@ -84,14 +83,14 @@ static void row(const struct row *r) {
 // Writes of 16 bytes behind one another, by the hash alone.
 static void writes(const char *name, on *write) {
     static double times[RUNS];
-    for (int run = 0; run < RUNS; run++) {
+    for (int run = 0; run < runs; run++) {
         uint64_t hash = 1;
         double begin = now();
         for (size_t i = 0; i < 50000; i++) hash = write(hash, keys + i * 16, 16);
         times[run] = (now() - begin) / 50000;
         kept = hash;
     }
-    printf("| `%s_write` | %.1f |\n", name, least(times, RUNS));
+    printf("| `%s_write` | %.1f |\n", name, least(times, runs));
 }
 
 static void column(const char *name, bool (*of)(const void *, size_t, const uint64_t *, size_t, uint64_t *, size_t), whole *one) {
@@ -101,7 +100,8 @@ static void column(const char *name, bool (*of)(const void *, size_t, const uint
     unsigned char *texts = malloc((size_t)COUNT * 16);
     for (size_t i = 0; i < (size_t)COUNT * 16; i++) texts[i] = keys[i % KEYS];
     for (size_t i = 0; i <= COUNT; i++) offsets[i] = i * 16;
-    for (int run = 0; run < 9; run++) {
+    int few = runs < 9 ? runs : 9;
+    for (int run = 0; run < few; run++) {
         double begin = now();
         kept = of(texts, (size_t)COUNT * 16, offsets, COUNT + 1, hashes, COUNT);
         times[0][run] = (now() - begin) / COUNT;
@@ -109,22 +109,25 @@ static void column(const char *name, bool (*of)(const void *, size_t, const uint
         for (size_t i = 0; i < COUNT; i++) hashes[i] = one(texts + offsets[i], offsets[i + 1] - offsets[i]);
         times[1][run] = (now() - begin) / COUNT;
     }
-    printf("| `%s` | %.1f | %.1f |\n", name, least(times[0], 9), least(times[1], 9));
+    printf("| `%s` | %.1f | %.1f |\n", name, least(times[0], few), least(times[1], few));
     free(texts);
 }
 
-int main(void) {
+int main(int count, char **words) {
+    runs = count == 2 ? atoi(words[1]) : 0;
+    if (runs < 1 || runs > RUNS) return fprintf(stderr, "usage: times RUNS\n"), 2;
     keys = aligned_alloc(64, KEYS);
     uint64_t state = 88172645463325252u;
     for (size_t i = 0; i < KEYS; i++) {
         state ^= state << 13, state ^= state >> 7, state ^= state << 17;
         keys[i] = (unsigned char)(state >> 32);
     }
+    puts("| hash | 8 bytes | 16 bytes | 64 bytes | 1 MiB |\n|---|---:|---:|---:|---:|");
     for (size_t i = 0; i < ROWS; i++) row(rows + i);
-    puts("--");
+    puts("\n| call | ns |\n|---|---:|");
 #define WRITE(name) writes(#name, hashers_##name##_write);
     WRITE(fnv1a64) WRITE(djb2) WRITE(sdbm) WRITE(loselose) WRITE(bricolage) WRITE(oaat) WRITE(lookup3) WRITE(fxhash)
-    puts("--");
+    puts("\n| hash | one call | 10^6 calls |\n|---|---:|---:|");
 #define COLUMN(name) column(#name, hashers_##name##_column64, hashers_##name);
     COLUMN(fnv1a64) COLUMN(fxhash) COLUMN(loselose) COLUMN(lookup3) COLUMN(spooky)
     return 0;

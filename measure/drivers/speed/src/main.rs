@@ -6,10 +6,10 @@
 //!
 //! A linker puts a function at a multiple of 16 bytes, as it comes. Some processors take a short loop with a jump over a
 //! multiple of 32 bytes at half its speed, and where a process's pages lie has as much effect on loops of a few cycles. Both
-//! are chance. So this program is linked at four placements and run several times: `measure FILE` writes its medians to the
-//! file, and `tables FILE` measures as well and prints for each side the least median of all.
+//! are chance. So this program is linked at four placements and run several times: `measure` writes its medians to a file, and
+//! `tables` measures as well and prints for each side the least median of all.
 
-include!(concat!(env!("OUT_DIR"), "/names.rs"));
+include!(env!("HASHER_NAMES"));
 
 mod heap;
 mod maps;
@@ -17,13 +17,11 @@ mod measure;
 mod original;
 mod ours;
 
-use hashers::fnv::{FNV1aHasher32, FNV1aHasher64};
+use hashers::fnv::FNV1aHasher64;
 use hashers::fx_hash::{FxHasher, FxHasher32, FxHasher64};
 use hashers::jenkins::spooky_hash::SpookyHasher;
-use hashers::jenkins::{Lookup3Hasher, OAATHasher};
-use hashers::null::{NullHasher, PassThroughHasher};
+use hashers::jenkins::Lookup3Hasher;
 use hashers::oz::{DJB2Hasher, LoseLoseHasher, SDBMHasher};
-use hashers::pigeon::Bricolage;
 use measure::{gigahertz, Pair, Sheet};
 use std::fs::OpenOptions;
 use std::hint::black_box;
@@ -100,14 +98,14 @@ struct Name {
 }
 
 macro_rules! table {
-    ($($name:ident $hasher:ident $alike_from:literal)*) => {
+    ($($name:ident $($hasher:ident)::+ $alike_from:literal)*) => {
         vec![$(Name {
             name: stringify!($name),
             alike_from: $alike_from,
-            whole: [original::whole::<$hasher>, ours::whole::$name],
-            keys: [original::keys::<$hasher>, ours::keys::$name],
-            pieces: [original::pieces::<$hasher>, ours::pieces::$name],
-            input: original::input::<$hasher>,
+            whole: [original::whole::<hashers::$($hasher)::+>, ours::whole::$name],
+            keys: [original::keys::<hashers::$($hasher)::+>, ours::keys::$name],
+            pieces: [original::pieces::<hashers::$($hasher)::+>, ours::pieces::$name],
+            input: original::input::<hashers::$($hasher)::+>,
         }),*]
     };
 }
@@ -422,7 +420,7 @@ fn hash_input(name: &str) -> u64 {
 
 /// The pairs of each process that wrote to the file.
 fn read_pairs(file: &str) -> Vec<Vec<Pair>> {
-    let text = std::fs::read_to_string(file).expect("the times of other processes");
+    let text = std::fs::read_to_string(file).unwrap_or_default();
     let pairs = |line: &str| {
         let time = |it: &str| it.parse().expect("a time");
         let times: Vec<f64> = line.split_whitespace().map(time).collect();
@@ -449,31 +447,34 @@ fn write_pairs(file: &str, pairs: &[Pair]) {
     writeln!(file, "{line}").expect("the times written");
 }
 
-/// Measures all whose name has `only` in it; that of the tables of buckets is `Buckets`, and of std's maps `Maps`.
-fn measure_all(sheet: &mut Sheet, only: &str) {
+/// Measures the functions, those alone whose name has `only` in it.
+fn functions(sheet: &mut Sheet, only: &str) {
     let mut names = names();
     names.retain(|n| n.name.contains(only));
     let text = bytes(LONGEST);
-    let gigahertz = gigahertz();
-    sheet.line(&format!(
-        "{gigahertz:.2} GHz; a cell is the original's time / ours = **the ratio**, and a side's time the least of {} processes' medians of {} runs by turns",
-        sheet.processes(),
-        measure::RUNS
-    ));
     keys(sheet, &names, &text);
     pieces(sheet, &names, &text);
-    texts(sheet, &names, &text, gigahertz);
+    texts(sheet, &names, &text, gigahertz());
     if only.is_empty() {
         numbers(sheet, &text);
         behind(sheet, &text);
         readers(sheet, &text);
         unwrites(sheet, &text);
     }
-    if "Buckets".contains(only) {
-        maps::tables(sheet, &text);
-    }
-    if "Maps".contains(only) {
-        maps::maps(sheet);
+}
+
+/// Measures the functions, the maps of std or the tables of buckets.
+fn measure_all(sheet: &mut Sheet, kind: &str, only: &str) {
+    sheet.line(&format!(
+        "{:.2} GHz; a cell is the original's time / ours = **the ratio**, and a side's time the least of {} processes' medians of {} runs by turns.",
+        gigahertz(),
+        sheet.processes(),
+        sheet.runs()
+    ));
+    match kind {
+        "maps" => maps::maps(sheet),
+        "buckets" => maps::tables(sheet, &bytes(LONGEST)),
+        _ => functions(sheet, only),
     }
 }
 
@@ -483,14 +484,16 @@ fn main() {
     let words: Vec<&str> = words.iter().map(String::as_str).collect();
     match words[..] {
         ["hash", name] => println!("{}", hash_input(name)),
-        ["measure", file, only] => {
-            let mut sheet = Sheet::new(Vec::new(), false);
-            measure_all(&mut sheet, only);
+        ["measure", file, runs, kind, only] => {
+            let mut sheet = Sheet::new(runs, Vec::new(), false);
+            measure_all(&mut sheet, kind, only);
             write_pairs(file, sheet.pairs());
         }
-        ["tables", file, only] => measure_all(&mut Sheet::new(read_pairs(file), true), only),
+        ["tables", file, runs, kind, only] => {
+            measure_all(&mut Sheet::new(runs, read_pairs(file), true), kind, only)
+        }
         _ => {
-            eprintln!("usage: bench hash NAME | measure FILE NAME | tables FILE NAME");
+            eprintln!("usage: speed hash NAME | measure|tables FILE RUNS KIND NAME");
             std::process::exit(2);
         }
     }

@@ -2,9 +2,6 @@
 use std::hint::black_box;
 use std::time::Instant;
 
-/// How many runs each side has.
-pub const RUNS: usize = 31;
-
 /// How long a run takes, about, in nanoseconds.
 const RUN_NANOSECONDS: f64 = 0.3e6;
 
@@ -34,14 +31,14 @@ fn median(times: &mut [f64]) -> f64 {
     times[times.len() / 2]
 }
 
-/// The median times of both, of runs by turns; which side begins a turn changes with each.
-fn side_by_side(original: &dyn Fn() -> u64, ours: &dyn Fn() -> u64) -> Pair {
+/// The median times of both, of so many runs by turns; which side begins a turn changes with each.
+fn side_by_side(runs: usize, original: &dyn Fn() -> u64, ours: &dyn Fn() -> u64) -> Pair {
     let first = time(1, original)
         .max(time(1, ours))
         .min(time(3, original).max(time(3, ours)));
     let calls = (RUN_NANOSECONDS / first).ceil().max(1.0) as usize;
     let (mut theirs, mut own) = (Vec::new(), Vec::new());
-    for turn in 0..RUNS {
+    for turn in 0..runs {
         if turn % 2 == 0 {
             theirs.push(time(calls, original));
             own.push(time(calls, ours));
@@ -58,15 +55,17 @@ fn side_by_side(original: &dyn Fn() -> u64, ours: &dyn Fn() -> u64) -> Pair {
 
 /// The pairs of this process, in one order, beside those of the processes before it.
 pub struct Sheet {
+    runs: usize,
     before: Vec<Vec<Pair>>,
     now: Vec<Pair>,
     prints: bool,
 }
 
 impl Sheet {
-    /// A sheet that prints where `prints`.
-    pub fn new(before: Vec<Vec<Pair>>, prints: bool) -> Self {
+    /// A sheet of so many runs a side, which prints where `prints`.
+    pub fn new(runs: &str, before: Vec<Vec<Pair>>, prints: bool) -> Self {
         Self {
+            runs: runs.parse().expect("a number of runs"),
             before,
             now: Vec::new(),
             prints,
@@ -82,7 +81,7 @@ impl Sheet {
     /// Measures both, and answers for each side the least median of all processes.
     pub fn pair(&mut self, original: &dyn Fn() -> u64, ours: &dyn Fn() -> u64) -> Pair {
         let place = self.now.len();
-        let now = side_by_side(original, ours);
+        let now = side_by_side(self.runs, original, ours);
         self.now.push(now);
         let before = self.before.iter().map(|process| process[place]);
         before.fold(now, |a, b| Pair {
@@ -94,6 +93,11 @@ impl Sheet {
     /// How many processes there are, this one among them.
     pub fn processes(&self) -> usize {
         self.before.len() + 1
+    }
+
+    /// How many runs each side has in each.
+    pub fn runs(&self) -> usize {
+        self.runs
     }
 
     /// What this process measured.

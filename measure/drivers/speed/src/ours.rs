@@ -20,7 +20,7 @@ macro_rules! calls {
 }
 
 macro_rules! calls_of_each_name {
-    ($($name:ident $hasher:ident $alike_from:literal)*) => {
+    ($($name:ident $($hasher:ident)::+ $alike_from:literal)*) => {
         calls! {
             whole (at: *const u8, len: usize): $($name)*;
             keys (at: *const u8, len: usize, size: usize): $($name)*;

@@ -1,7 +1,6 @@
 //! Times of the crate over libhashers beside the original inlined, the original behind a C call, and the crates fnv and fxhash, by turns
-//! in one process. Writes rows of docs/C.md's tables: the least of 41 runs, in nanoseconds a key.
-use hashers::fx_hash as their_fx;
-use hashers::jenkins as theirs;
+//! in one process. `times RUNS NAME..` writes the tables of docs/C.md, the first with a row for each name: the least of so many runs, in
+//! nanoseconds a key.
 use hashers_proved as ours;
 use std::collections::hash_map::DefaultHasher;
 use std::collections::HashMap;
@@ -9,7 +8,11 @@ use std::hash::{BuildHasherDefault, Hash, Hasher};
 use std::hint::black_box;
 use std::time::Instant;
 
-const RUNS: usize = 41;
+include!(env!("HASHER_NAMES"));
+
+fn runs() -> usize {
+    std::env::args().nth(1).and_then(|it| it.parse().ok()).expect("a number of runs")
+}
 
 /// The hashes of the keys of that size, folded in order.
 #[inline(never)]
@@ -53,7 +56,7 @@ type Work<'a> = Box<dyn Fn() -> u64 + 'a>;
 /// The least time of each over `per` keys, by turns.
 fn measure(works: &[Work], per: usize, turns: usize) -> Vec<f64> {
     let mut least = vec![f64::INFINITY; works.len()];
-    for _ in 0..RUNS {
+    for _ in 0..runs() {
         for (work, least) in works.iter().zip(&mut least) {
             let start = Instant::now();
             for _ in 0..turns {
@@ -96,25 +99,37 @@ fn lookups<'a, K: Hash + Eq + Clone, H: Hasher + Default + 'a>(keys: &'a [K]) ->
 /// A row of lookups in std's map.
 fn maps<K: Hash + Eq + Clone>(name: &str, keys: &[K]) {
     let fnv = [lookups::<K, ours::fnv::FNV1aHasher64>(keys), lookups::<K, hashers::fnv::FNV1aHasher64>(keys), lookups::<K, fnv::FnvHasher>(keys)];
-    let fx = [lookups::<K, ours::fx_hash::FxHasher>(keys), lookups::<K, their_fx::FxHasher>(keys), lookups::<K, fxhash::FxHasher64>(keys)];
+    let fx = [lookups::<K, ours::fx_hash::FxHasher>(keys), lookups::<K, hashers::fx_hash::FxHasher>(keys), lookups::<K, fxhash::FxHasher64>(keys)];
     let std = [lookups::<K, DefaultHasher>(keys)];
     row(name, &[measure(&fnv, keys.len(), 20), measure(&fx, keys.len(), 20), measure(&std, keys.len(), 20)]);
 }
 
+/// The crate that has the hash of that name too, inlined.
+fn third(name: &str) -> Option<OfKeys> {
+    match name {
+        "fnv1a64" => Some(inlined::<fnv::FnvHasher>),
+        "fxhash" => Some(inlined::<fxhash::FxHasher64>),
+        "fxhash32" => Some(inlined::<fxhash::FxHasher32>),
+        _ => None,
+    }
+}
+
+macro_rules! rows {
+    ($($name:ident $($hasher:ident)::+ $alike_from:literal)*) => {
+        /// A row for each of these names.
+        fn rows(chosen: &[String]) {
+            $(if chosen.iter().any(|it| it == stringify!($name)) {
+                keys_of::<ours::$($hasher)::+, hashers::$($hasher)::+>(stringify!($name), third(stringify!($name)));
+            })*
+        }
+    };
+}
+
+with_names!(rows);
+
 fn main() {
     println!("| hash | 8 bytes | 16 bytes | 64 bytes | 1 MiB |\n|---|---:|---:|---:|---:|");
-    keys_of::<ours::fnv::FNV1aHasher32, hashers::fnv::FNV1aHasher32>("fnv1a32", None);
-    keys_of::<ours::fnv::FNV1aHasher64, hashers::fnv::FNV1aHasher64>("fnv1a64", Some(inlined::<fnv::FnvHasher>));
-    keys_of::<ours::oz::DJB2Hasher, hashers::oz::DJB2Hasher>("djb2", None);
-    keys_of::<ours::oz::SDBMHasher, hashers::oz::SDBMHasher>("sdbm", None);
-    keys_of::<ours::oz::LoseLoseHasher, hashers::oz::LoseLoseHasher>("loselose", None);
-    keys_of::<ours::pigeon::Bricolage, hashers::pigeon::Bricolage>("bricolage", None);
-    keys_of::<ours::jenkins::OAATHasher, theirs::OAATHasher>("oaat", None);
-    keys_of::<ours::jenkins::Lookup3Hasher, theirs::Lookup3Hasher>("lookup3", None);
-    keys_of::<ours::jenkins::spooky_hash::SpookyHasher, theirs::spooky_hash::SpookyHasher>("spooky", None);
-    keys_of::<ours::null::PassThroughHasher, hashers::null::PassThroughHasher>("passthrough", None);
-    keys_of::<ours::fx_hash::FxHasher, their_fx::FxHasher>("fxhash", Some(inlined::<fxhash::FxHasher64>));
-    keys_of::<ours::fx_hash::FxHasher32, their_fx::FxHasher32>("fxhash32", Some(inlined::<fxhash::FxHasher32>));
+    rows(&std::env::args().skip(2).collect::<Vec<_>>());
     println!("\n| keys | FNV-1a of 64 bits | fx | std's DefaultHasher |\n|---|---:|---:|---:|");
     let numbers: Vec<u64> = bytes(8000).chunks_exact(8).map(|it| u64::from_le_bytes(it.try_into().unwrap())).collect();
     let texts: Vec<String> = numbers.iter().map(|it| format!("{it:016x}")).collect();
