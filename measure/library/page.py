@@ -84,7 +84,8 @@ def cells(text):
 
 
 def figures(cell):
-    return [float(found) for found in re.findall(r"\d+(?:\.\d+)?", cell)]
+    """The numbers of a cell, but not those of a name in back quotes."""
+    return [] if "`" in cell else [float(found) for found in re.findall(r"\d+(?:\.\d+)?", cell)]
 
 
 def moved(before, now):
