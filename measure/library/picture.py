@@ -46,8 +46,8 @@ def shaded_cells(groups, columns, names, limits, cell, caption):
     return drawing(width, height, [*parts, text(left, height - 10, caption)])
 
 
-def squares(columns, panels, limits, caption):
-    """A picture of panels, each a name and its rows of values: a small square for each value."""
+def squares(columns, panels, limits, captions):
+    """A picture of panels, each a name and its rows of values: a small square for each value. Below stand lines of text."""
     size, side = 2, max(len(rows) for _, rows in panels)
     step = size * max(side, max(len(rows[0]) for _, rows in panels)) + 20
     parts = []
@@ -58,8 +58,9 @@ def squares(columns, panels, limits, caption):
             path = "".join(strokes(rows, colour, limits, size, x0, y0))
             if path:
                 parts.append(f'<path d="{path}" stroke="{colour}" stroke-width="{size}"/>')
-    height = 24 + -(-len(panels) // columns) * (step + 10) + 16
-    return drawing(10 + columns * step, height, [*parts, text(10, height - 8, caption)])
+    bottom = 24 + -(-len(panels) // columns) * (step + 10)
+    parts += [text(10, bottom + 16 * number, caption) for number, caption in enumerate(captions)]
+    return drawing(10 + columns * step, bottom + 16 * len(captions), parts)
 
 
 def strokes(rows, colour, limits, size, x0, y0):
