@@ -32,10 +32,15 @@ def done(command, folder=ROOT, wants="", **environment):
     return told.stdout
 
 
+def built(*command):
+    """Runs a command that builds, and tells its progress itself."""
+    if subprocess.run(command, cwd=ROOT, stdin=subprocess.DEVNULL, stdout=sys.stderr, check=False).returncode:
+        sys.exit(f"{shlex.join(command)} did not build it")
+
+
 def by_run(crate, *flags):
-    """Has the script run prove and build a crate, which tells its progress itself."""
-    if subprocess.run([os.path.join(ROOT, "run"), "--build", crate, *flags], stdin=subprocess.DEVNULL, check=False).returncode:
-        sys.exit(f"{crate} was not built")
+    """Has the script run prove and build a crate, and answers the folder of what it built."""
+    built("./run", "--build", crate, *flags)
     return os.path.join(ROOT, "crates", crate, "out")
 
 
@@ -66,8 +71,10 @@ def file_of_names():
     path = os.path.join(TARGET, "names.rs")
     os.makedirs(TARGET, exist_ok=True)
     # what cargo built stays where the names are as they were
-    if not os.path.isfile(path) or open(path, encoding="utf-8").read() != text:
-        with open(path, "w", encoding="utf-8") as file:
+    with open(path, "a+", encoding="utf-8") as file:
+        file.seek(0)
+        if file.read() != text:
+            file.truncate(0)
             file.write(text)
     return path
 
@@ -90,5 +97,5 @@ def by_gcc(source, *words, wants):
     need("gcc", "gcc")
     os.makedirs(TARGET, exist_ok=True)
     made = os.path.join(TARGET, os.path.splitext(os.path.basename(source))[0])
-    done(["gcc", "-std=gnu11", "-O3", "-Wall", "-Wextra", "-o", made, os.path.join(DRIVERS, source), *words], wants=wants)
+    done(["gcc", "-std=gnu11", "-Wall", "-Wextra", "-o", made, os.path.join(DRIVERS, source), *words], wants=wants)
     return made

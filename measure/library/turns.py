@@ -1,6 +1,5 @@
 """Running by turns, and what is told of the machine."""
 import os
-from statistics import median
 
 
 def processor():
@@ -23,8 +22,3 @@ def by_turns(calls, turns):
             answers[at].append(calls[at]())
         order.reverse()
     return answers
-
-
-def medians(rows):
-    """The median of each place of rows of one length."""
-    return [median(column) for column in zip(*rows)]
