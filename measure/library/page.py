@@ -1,6 +1,7 @@
 """What programs write into documents: each table stands between two marks, which name the program and the table."""
 import os
 import re
+from itertools import takewhile
 from typing import NamedTuple
 
 from library.names import ROOT
@@ -68,7 +69,7 @@ def draw(picture):
 
 
 def cells(text):
-    """Each cell of a text's tables, by the number of its table, its row and its column."""
+    """Each cell of a text's tables, by the number of its table, its row, which the cells up to the first figure name, and its column."""
     found, number, heads = {}, 0, None
     for line in text.split("\n"):
         told = [cell.strip() for cell in line.strip("|").split("|")]
@@ -77,9 +78,9 @@ def cells(text):
         elif heads is None:
             number, heads = number + 1, told
         elif set(line) - set("|-: "):
-            front = [cell for cell in told[1:] if not re.search(r"\d", cell)]
-            for head, cell in zip(heads[1:], told[1:]):
-                found[number, " ".join([told[0], *front]), head] = cell
+            front = takewhile(lambda cell: not re.search(r"\d", cell), told[1:])
+            label = " ".join([told[0], *front])
+            found.update({(number, label, head): cell for head, cell in zip(heads[1:], told[1:])})
     return found
 
 
