@@ -466,7 +466,7 @@ fn functions(sheet: &mut Sheet, only: &str) {
 /// Measures the functions, the maps of std or the tables of buckets.
 fn measure_all(sheet: &mut Sheet, kind: &str, only: &str) {
     sheet.line(&format!(
-        "{:.2} GHz; a cell is the original's time / ours = **the ratio**, and a side's time the least of {} processes' medians of {} runs by turns.",
+        "{:.2} GHz; a cell is the original's time / ours = **the ratio**, and a side's time\nthe least of {} processes' medians of {} runs by turns.",
         gigahertz(),
         sheet.processes(),
         sheet.runs()
