@@ -1,4 +1,4 @@
-//! Answers of the Rust crate hashers 1.0.1, written by compare/sample.py from that crate's own program.
+//! Answers of the Rust crate hashers 1.0.1, written by measure/against-original from that crate's own program.
 
 /// A text's length, what fills it, the length of its pieces (0: one piece), and the answers in the order of the names:
 /// fnv1a32, fnv1a64, djb2, sdbm, loselose, bricolage, oaat, lookup3.

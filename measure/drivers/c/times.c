@@ -1,0 +1,134 @@
+// times RUNS: the times of a call of libhashers beside the original crate behind a C call and XXH3, by turns in one process. Writes the
+// tables of docs/C.md, with an empty line between two: the least of so many runs, at most 41, in nanoseconds a key. The macro NAMES, which
+// measure/c defines, has an X(name) for each name.
+#define _GNU_SOURCE
+#define XXH_NO_INLINE_HINTS 1
+#include "hashers.h"
+#include <stdio.h>
+#include <stdlib.h>
+#include <time.h>
+#include <xxhash.h>
+
+typedef uint64_t whole(const void *, size_t);
+typedef uint64_t on(uint64_t, const void *, size_t);
+
+#define DECLARED(name) uint64_t original_##name(const void *text, size_t n);
+NAMES(DECLARED)
+
+static uint64_t xxh3(const void *text, size_t n) { return XXH3_64bits(text, n); }
+
+static const struct row {
+    const char *name;
+    whole *ours, *other;
+} rows[] = {
+#define ROW(name) {#name, hashers_##name, original_##name},
+    NAMES(ROW)
+    {"xxh3 of libxxhash", xxh3, NULL},
+};
+enum { ROWS = sizeof rows / sizeof *rows, RUNS = 41, KEYS = 1 << 20 };
+
+static int runs;
+
+static unsigned char *keys;
+static volatile uint64_t kept;
+
+static double now(void) {
+    struct timespec t;
+    clock_gettime(CLOCK_MONOTONIC, &t);
+    return t.tv_sec * 1e9 + t.tv_nsec;
+}
+
+static int by_number(const void *a, const void *b) {
+    double x = *(const double *)a, y = *(const double *)b;
+    return (x > y) - (x < y);
+}
+
+static double least(double *times, int count) {
+    qsort(times, count, sizeof *times, by_number);
+    return times[0];
+}
+
+static __attribute__((noinline)) double time_of(whole *of, size_t size, size_t count) {
+    uint64_t all = 0;
+    double begin = now();
+    for (size_t i = 0; i < count; i++) all = (all << 1 | all >> 63) ^ of(keys + i * size, size);
+    kept = all;
+    return (now() - begin) / count;
+}
+
+static void row(const struct row *r) {
+    static const size_t sizes[] = {8, 16, 64, 1 << 20};
+    static double times[2][RUNS];
+    printf("| `%s` |", r->name);
+    for (int s = 0; s < 4; s++) {
+        size_t count = sizes[s] > 64 ? 4 : 100000 / (sizes[s] / 8);
+        for (int run = 0; run < runs; run++)
+            for (int which = 0; which < (r->other ? 2 : 1); which++)
+                times[which][run] = time_of(which ? r->other : r->ours, sizes[s], sizes[s] > 64 && KEYS / sizes[s] < count ? 1 : count);
+        double ours = least(times[0], runs);
+        const char *digits = ours < 1000 ? "%.1f" : "%.0f";
+        putchar(' ');
+        printf(digits, ours);
+        if (r->other) {
+            double other = least(times[1], runs);
+            printf(" (");
+            printf(digits, other);
+            printf(")%s", ours > 1.10 * other ? " over" : "");
+        }
+        printf(" |");
+    }
+    putchar('\n');
+}
+
+// Writes of 16 bytes behind one another, by the hash alone.
+static void writes(const char *name, on *write) {
+    static double times[RUNS];
+    for (int run = 0; run < runs; run++) {
+        uint64_t hash = 1;
+        double begin = now();
+        for (size_t i = 0; i < 50000; i++) hash = write(hash, keys + i * 16, 16);
+        times[run] = (now() - begin) / 50000;
+        kept = hash;
+    }
+    printf("| `%s_write` | %.1f |\n", name, least(times, runs));
+}
+
+static void column(const char *name, bool (*of)(const void *, size_t, const uint64_t *, size_t, uint64_t *, size_t), whole *one) {
+    enum { COUNT = 1000000 };
+    static uint64_t offsets[COUNT + 1], hashes[COUNT];
+    static double times[2][9];
+    unsigned char *texts = malloc((size_t)COUNT * 16);
+    for (size_t i = 0; i < (size_t)COUNT * 16; i++) texts[i] = keys[i % KEYS];
+    for (size_t i = 0; i <= COUNT; i++) offsets[i] = i * 16;
+    int few = runs < 9 ? runs : 9;
+    for (int run = 0; run < few; run++) {
+        double begin = now();
+        kept = of(texts, (size_t)COUNT * 16, offsets, COUNT + 1, hashes, COUNT);
+        times[0][run] = (now() - begin) / COUNT;
+        begin = now();
+        for (size_t i = 0; i < COUNT; i++) hashes[i] = one(texts + offsets[i], offsets[i + 1] - offsets[i]);
+        times[1][run] = (now() - begin) / COUNT;
+    }
+    printf("| `%s` | %.1f | %.1f |\n", name, least(times[0], few), least(times[1], few));
+    free(texts);
+}
+
+int main(int count, char **words) {
+    runs = count == 2 ? atoi(words[1]) : 0;
+    if (runs < 1 || runs > RUNS) return fprintf(stderr, "usage: times RUNS\n"), 2;
+    keys = aligned_alloc(64, KEYS);
+    uint64_t state = 88172645463325252u;
+    for (size_t i = 0; i < KEYS; i++) {
+        state ^= state << 13, state ^= state >> 7, state ^= state << 17;
+        keys[i] = (unsigned char)(state >> 32);
+    }
+    puts("| hash | 8 bytes | 16 bytes | 64 bytes | 1 MiB |\n|---|---:|---:|---:|---:|");
+    for (size_t i = 0; i < ROWS; i++) row(rows + i);
+    puts("\n| call | ns |\n|---|---:|");
+#define WRITE(name) writes(#name, hashers_##name##_write);
+    WRITE(fnv1a64) WRITE(djb2) WRITE(sdbm) WRITE(loselose) WRITE(bricolage) WRITE(oaat) WRITE(lookup3) WRITE(fxhash)
+    puts("\n| hash | one call | 10^6 calls |\n|---|---:|---:|");
+#define COLUMN(name) column(#name, hashers_##name##_column64, hashers_##name);
+    COLUMN(fnv1a64) COLUMN(fxhash) COLUMN(loselose) COLUMN(lookup3) COLUMN(spooky)
+    return 0;
+}

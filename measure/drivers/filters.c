@@ -1,0 +1,217 @@
+// Measures the filter of hash_bloom beside libbloom, by turns, and counts how many strange keys each pair of hashes takes for
+// known ones. It writes one of the two tables of docs/FILTERS.md to standard output.
+#include <bloom.h>
+#include <stdbool.h>
+#include <stdint.h>
+#include <stdio.h>
+#include <stdlib.h>
+#include <string.h>
+#include <time.h>
+
+// ---- the heap that the static library asks for
+struct tried {
+    bool ok;
+    void *at;
+};
+
+static struct tried tried(void *at) {
+    return (struct tried){at != NULL, at != NULL ? at : (void *)16};
+}
+
+struct tried rattle_alloc(size_t size, size_t align) { return tried(malloc(size == 0 ? align : size)); }
+
+struct tried rattle_realloc(void *at, size_t kept, size_t size, size_t align) {
+    (void)kept;
+    return tried(realloc(at, size == 0 ? align : size));
+}
+
+void rattle_dealloc(void *at) { free(at); }
+
+// ---- the calls
+typedef uint64_t call(const uint8_t *there, size_t there_len, const uint8_t *asked, size_t asked_len, size_t size,
+                      size_t rounds, uint64_t bits);
+
+call measure_filters_djb2_sdbm, measure_filters_fnv1a64_djb2, measure_filters_fnv1a64_lookup3, measure_filters_fxhash_fnv1a64,
+    measure_filters_fxhash_lookup3, measure_filters_spooky_lookup3;
+
+static const struct pair {
+    const char *name;
+    call *found;
+} pairs[] = {
+    {"djb2, sdbm", measure_filters_djb2_sdbm},           {"fnv1a64, djb2", measure_filters_fnv1a64_djb2},
+    {"fnv1a64, lookup3", measure_filters_fnv1a64_lookup3}, {"fxhash, fnv1a64", measure_filters_fxhash_fnv1a64},
+    {"fxhash, lookup3", measure_filters_fxhash_lookup3}, {"spooky, lookup3", measure_filters_spooky_lookup3},
+};
+enum { PAIRS = sizeof pairs / sizeof *pairs };
+
+// The same by libbloom, at 10 bits a key: it takes the share of strange keys, and makes 7 probes of it.
+static uint64_t by_libbloom(const uint8_t *there, size_t there_len, const uint8_t *asked, size_t asked_len, size_t size,
+                            size_t rounds, uint64_t bits) {
+    struct bloom bloom;
+    (void)bits;
+    memset(&bloom, 0, sizeof bloom);
+    if (bloom_init(&bloom, (int)(there_len / size), 0.0081925) != 0 || bloom.hashes != 7)
+        return UINT64_MAX;
+    uint64_t count = 0;
+    for (size_t at = 0; at < there_len; at += size)
+        bloom_add(&bloom, there + at, (int)size);
+    for (size_t round = 0; round < rounds; round++)
+        for (size_t at = 0; at < asked_len; at += size)
+            count += bloom_check(&bloom, asked + at, (int)size) == 1;
+    bloom_free(&bloom);
+    return count;
+}
+
+// ---- keys
+static uint64_t random_state;
+
+static uint64_t random_word(void) { // splitmix64
+    uint64_t z = random_state += 0x9e3779b97f4a7c15;
+    z = (z ^ z >> 30) * 0xbf58476d1ce4e5b9;
+    z = (z ^ z >> 27) * 0x94d049bb133111eb;
+    return z ^ z >> 31;
+}
+
+// `count` keys of `size` bytes, at least 8: random, or the number from `from` on in 8 bytes, the lowest first, and zeros
+static uint8_t *keys(size_t count, size_t size, bool random, uint64_t from) {
+    uint8_t *at = calloc(count, size);
+    if (at == NULL)
+        exit(1);
+    for (size_t i = 0; i < count; i++)
+        for (size_t k = 0; k + 8 <= size; k += 8) {
+            uint64_t word = random ? random_word() : k == 0 ? from + i : 0;
+            memcpy(at + i * size + k, &word, 8);
+        }
+    return at;
+}
+
+// The processor time so far, in nanoseconds.
+static double now(void) {
+    struct timespec t;
+    clock_gettime(CLOCK_PROCESS_CPUTIME_ID, &t);
+    return (double)t.tv_sec * 1e9 + (double)t.tv_nsec;
+}
+
+// ---- false positives
+// How many of `count` strange keys are found in a filter of as many keys, in percent, of random keys or of counters.
+static double strange_share(call *found, size_t count, bool random, uint64_t bits) {
+    size_t size = random ? 16 : 8;
+    random_state = 1;
+    uint8_t *there = keys(count, size, random, 0), *asked = keys(count, size, random, count);
+    if (found(there, count * size, there, count * size, size, 1, bits) != count)
+        exit(1); // a key was forgotten, or there is no memory
+    uint64_t strange = found(there, count * size, asked, count * size, size, 1, bits);
+    free(there);
+    free(asked);
+    return 100.0 * (double)strange / (double)count;
+}
+
+static void strange_keys(size_t count) {
+    const uint64_t bits[] = {10 * count, 10 * count + 19};
+    printf("| pair | random keys, %lu bits | random keys, %lu bits | counters, %lu bits | counters, %lu bits |\n"
+           "|---|---:|---:|---:|---:|\n",
+           bits[0], bits[1], bits[0], bits[1]);
+    for (int i = 0; i < PAIRS; i++) {
+        printf("| %s |", pairs[i].name);
+        for (int random = 1; random >= 0; random--)
+            for (int j = 0; j < 2; j++)
+                printf(" %.2f |", strange_share(pairs[i].found, count, random, bits[j]));
+        printf("\n");
+    }
+}
+
+// ---- times
+// The time of a call over `calls` calls, in nanoseconds.
+static double time_of(call *found, const uint8_t *there, const uint8_t *asked, size_t len, size_t rounds, uint64_t bits,
+                      int calls) {
+    double start = now();
+    for (int i = 0; i < calls; i++)
+        if (found(there, len, asked, rounds == 0 ? 0 : len, 16, rounds, bits) == UINT64_MAX)
+            exit(1);
+    return (now() - start) / calls;
+}
+
+// Nanoseconds a key in each turn: of an insert, of a question for a key that is there, and for a strange one: [0], [1], [2].
+enum { TURNS = 21 };
+struct times {
+    double of[3][TURNS];
+};
+
+static void measure(struct times *times, int turn, call *found, const uint8_t *there, const uint8_t *strange, size_t count,
+                    uint64_t bits, int calls, size_t rounds) {
+    double insert = time_of(found, there, there, count * 16, 0, bits, calls);
+    double with_there = time_of(found, there, there, count * 16, rounds, bits, calls);
+    double with_strange = time_of(found, there, strange, count * 16, rounds, bits, calls);
+    times->of[0][turn] = insert / (double)count;
+    times->of[1][turn] = (with_there - insert) / (double)(rounds * count);
+    times->of[2][turn] = (with_strange - insert) / (double)(rounds * count);
+}
+
+static int by_size(const void *a, const void *b) {
+    double x = *(const double *)a, y = *(const double *)b;
+    return (x > y) - (x < y);
+}
+
+static double median(double *of, int turns) {
+    qsort(of, (size_t)turns, sizeof *of, by_size);
+    return of[turns / 2];
+}
+
+static const struct timed {
+    const char *name;
+    call *found;
+    bool rounded; // ten bits a key, or the power of two at or above that
+} timed[] = {
+    {"fxhash, fnv1a64", measure_filters_fxhash_fnv1a64, false},
+    {"fxhash, lookup3", measure_filters_fxhash_lookup3, false},
+    {"fnv1a64, lookup3", measure_filters_fnv1a64_lookup3, false},
+    {"fxhash, fnv1a64 at a power of two", measure_filters_fxhash_fnv1a64, true},
+    {"libbloom", by_libbloom, false},
+};
+enum { TIMED = sizeof timed / sizeof *timed };
+
+static uint64_t bits_for(size_t count, bool rounded) {
+    uint64_t bits = 1;
+    while (bits < 10 * count)
+        bits *= 2;
+    return rounded ? bits : 10 * count;
+}
+
+static void times(size_t most) {
+    const size_t counts[] = {1000, most}, rounds[] = {4, 1};
+    static const int turns[] = {TURNS, 3}, calls[] = {100, 1};
+    static struct times got[TIMED][2];
+    printf("|");
+    for (int j = 0; j < 2; j++)
+        printf(" | insert, %zu | there, %zu | strange, %zu", counts[j], counts[j], counts[j]);
+    printf(" |\n|---|---:|---:|---:|---:|---:|---:|\n");
+    for (int j = 0; j < 2; j++) {
+        size_t count = counts[j];
+        random_state = 2;
+        uint8_t *there = keys(count, 16, true, 0), *strange = keys(count, 16, true, 0);
+        for (int turn = 0; turn < turns[j]; turn++)
+            for (int i = 0; i < TIMED; i++) {
+                uint64_t bits = bits_for(count, timed[i].rounded);
+                measure(&got[i][j], turn, timed[i].found, there, strange, count, bits, calls[j], rounds[j]);
+            }
+        free(there);
+        free(strange);
+    }
+    for (int i = 0; i < TIMED; i++) {
+        printf("| %s |", timed[i].name);
+        for (int j = 0; j < 2; j++)
+            for (int what = 0; what < 3; what++)
+                printf("%s%.0f%s", what == 0 ? " " : " | ", median(got[i][j].of[what], turns[j]), what == 2 ? " |" : "");
+        printf("\n");
+    }
+}
+
+int main(int count, char **words) {
+    if (count == 3 && strcmp(words[1], "strange") == 0)
+        strange_keys(strtoul(words[2], NULL, 10));
+    else if (count == 3 && strcmp(words[1], "times") == 0)
+        times(strtoul(words[2], NULL, 10));
+    else
+        return fprintf(stderr, "usage: filters strange|times KEYS\n"), 2;
+    return 0;
+}

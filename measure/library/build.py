@@ -1,0 +1,101 @@
+"""Builds what is measured: our crates by the script run, and the drivers, which stand in measure/drivers, by cargo or gcc."""
+import os
+import shlex
+import shutil
+import subprocess
+import sys
+
+from library.names import ROOT, rows_of_original
+
+DRIVERS = os.path.join(ROOT, "measure", "drivers")
+TARGET = os.path.join(ROOT, "measure", "target")
+
+
+def say(words):
+    """Progress, on standard error."""
+    print(words, file=sys.stderr, flush=True)
+
+
+def need(command, package):
+    """Ends where there is no such command."""
+    if shutil.which(command) is None:
+        sys.exit(f"the command {command} is not on the PATH: Debian's package {package} has it")
+
+
+def done(command, folder=ROOT, wants="", **environment):
+    """Runs a command that is to end well, and ends with what it said where it does not, and with the packages that it wants."""
+    told = subprocess.run(command, cwd=folder, env={**os.environ, **environment}, stdin=subprocess.DEVNULL,
+                          stdout=subprocess.PIPE, stderr=subprocess.STDOUT, text=True, check=False)
+    if told.returncode:
+        packages = f"; it needs Debian's {wants}" if wants else ""
+        sys.exit(f"{told.stdout}\n{shlex.join(command)} ended with {told.returncode}{packages}")
+    return told.stdout
+
+
+def built(*command):
+    """Runs a command that builds, and tells its progress itself."""
+    if subprocess.run(command, cwd=ROOT, stdin=subprocess.DEVNULL, stdout=sys.stderr, check=False).returncode:
+        sys.exit(f"{shlex.join(command)} did not build it")
+
+
+def by_run(crate, *flags):
+    """Has the script run prove and build a crate, and answers the folder of what it built."""
+    built("./run", "--build", crate, *flags)
+    return os.path.join(ROOT, "crates", crate, "out")
+
+
+def program(crate):
+    """Proves and builds one of our programs, and answers its path."""
+    return os.path.join(by_run(crate), crate)
+
+
+def static_library(crate, folder, *flags):
+    """Proves and builds one of our static libraries by these flags of rt lib, and copies it into the folder."""
+    os.makedirs(folder, exist_ok=True)
+    shutil.copy(os.path.join(by_run(crate, *flags), f"lib{crate}.a"), folder)
+
+
+def original():
+    """The folder with the sources of the Rust crate hashers 1.0.1, which ORIGINAL names."""
+    folder = os.environ.get("ORIGINAL", "")
+    if not os.path.isfile(os.path.join(folder, "Cargo.toml")):
+        sys.exit("ORIGINAL=FOLDER names the folder with the Rust crate hashers 1.0.1: its Cargo.toml, its src, and .cargo/config.toml\n"
+                 "where its dependencies are to be taken from a folder")
+    return os.path.abspath(folder)
+
+
+def file_of_names():
+    """A macro in Rust that hands another one each row of rows_of_original, in a file."""
+    rows = "".join("%s %s %d\n" % row for row in rows_of_original())
+    text = "macro_rules! with_names { ($then:ident) => { $then! {\n%s} } }\n" % rows
+    path = os.path.join(TARGET, "names.rs")
+    os.makedirs(TARGET, exist_ok=True)
+    # what cargo built stays where the names are as they were
+    with open(path, "a+", encoding="utf-8") as file:
+        file.seek(0)
+        if file.read() != text:
+            file.truncate(0)
+            file.write(text)
+    return path
+
+
+def over_original(driver, target="original", **environment):
+    """Has cargo build a driver over the original crate, and answers the folder of what it built."""
+    need("cargo", "cargo")
+    folder, target, crate = os.path.join(DRIVERS, driver), os.path.join(TARGET, target), original()
+    words = ["cargo", "build", "--quiet", "--release", "--target-dir", target, "--config", f'patch.crates-io.hashers.path="{crate}"']
+    config = os.path.join(crate, ".cargo", "config.toml")
+    if os.path.isfile(config):
+        words += ["--offline", "--config", config]
+    done(words, folder, HASHER_NAMES=file_of_names(), **environment)
+    os.remove(os.path.join(folder, "Cargo.lock"))
+    return os.path.join(target, "release")
+
+
+def by_gcc(source, *words, wants):
+    """Has gcc build a driver in C, which wants these packages, and answers its path."""
+    need("gcc", "gcc")
+    os.makedirs(TARGET, exist_ok=True)
+    made = os.path.join(TARGET, os.path.splitext(os.path.basename(source))[0])
+    done(["gcc", "-std=gnu11", "-Wall", "-Wextra", "-o", made, os.path.join(DRIVERS, source), *words], wants=wants)
+    return made

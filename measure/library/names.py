@@ -1,0 +1,42 @@
+"""The names of the hashes: ours from the table that all programs share, the original's from the oracle over it."""
+import os
+import re
+
+ROOT = os.path.dirname(os.path.dirname(os.path.dirname(os.path.abspath(__file__))))
+
+
+def rows_in(path, row):
+    """What a source has of a row, in its order; each first word once."""
+    with open(os.path.join(ROOT, path), encoding="utf-8") as source:
+        found = re.findall(row, source.read(), re.M)
+    if not found or len(dict.fromkeys(found)) < len(found):
+        raise SystemExit(f"{path}: no list of names is found there")
+    return found
+
+
+def names():
+    """In the order of the table."""
+    return rows_in("crates/hash_names/src/lib.rt", r'^ *"(\w+)" => ')
+
+
+def unlike_names():
+    """Those of which no two spread alike: fxhash64 answers as fxhash, and version 1 of SpookyHash spreads as SpookyHash does."""
+    return [name for name in names() if name not in ("fxhash64", "spooky_v1")]
+
+
+def hashers_of_original():
+    """The original's hasher of each name that it has: its SpookyHash is our version 1."""
+    return dict(rows_in("measure/drivers/oracle/src/main.rs", r'^ *"(\w+)" => answer::<([\w:]+)>'))
+
+
+def original_of(name):
+    """The original's name of one of ours, and from how many bytes on the two agree; None where the original has no such hash."""
+    alike = {"spooky": ("spooky_v1", 192)}.get(name, (name, 0))
+    return alike if alike[0] in hashers_of_original() else None
+
+
+def rows_of_original():
+    """Each of our names that the original has, with its hasher there, and from how many bytes on the two agree."""
+    hashers = hashers_of_original()
+    found = ((name, original_of(name)) for name in names())
+    return [(name, hashers[alike[0]], alike[1]) for name, alike in found if alike]
