@@ -5,7 +5,8 @@ use Rattle.std.specs.declared.io.Error.{Error}
 use Rattle.hashof.specs.declared.run.RunFault.{RunFault}
 use Rattle.hashof.specs.declared.run.RunFault.TheVariants.{UnknownName, ReadFault, TooLong, WriteFault}
 use Rattle.hashof.specs.Line.{line_of}
-use Rattle.hashof.specs.Running.{Run, HashesNamed, EndsNamed, BeginsLine}
+use Rattle.hash_program.specs.Streams.{AppendsPart}
+use Rattle.hashof.specs.Running.{Run, HashesNamed, EndsNamed}
 
 -- nothing was written
 pub ended_unread : (hash : Option (List ℕ → ℕ)) (run : Run) (fault : RunFault) → HashesNamed hash run.reading (Err fault)
@@ -26,7 +27,7 @@ ended_told (Some hash) run number (text, all, is) appends = (text, all, subst (�
 -- a beginning of the line was written
 pub ended_unwritten : (hash : Option (List ℕ → ℕ)) (run : Run) (number : ℕ) (error : Option Error)
     → HashesNamed hash run.reading (Ok number)
-    → BeginsLine run.before run.after (line_of number) → EndsNamed hash run (Err (WriteFault error))
+    → AppendsPart run.before run.after (line_of number) → EndsNamed hash run (Err (WriteFault error))
 ended_unwritten None run number error (none, keeps) begins = absurd (search rules)
 ended_unwritten (Some hash) run number error (text, all, is) begins
-    = (text, all, subst (λ n. BeginsLine run.before run.after (line_of n)) is begins)
+    = (text, all, subst (λ n. AppendsPart run.before run.after (line_of n)) is begins)

@@ -1,10 +1,11 @@
 -- What a run reads and writes, and how it ends.
-use Rattle.std.specs.Prelude.{ℕ, ◌≡◌, ◌<◌, List, Option, Some, None, Result, Ok, Err, ◌++◌, length}
+use Rattle.std.specs.Prelude.{ℕ, ◌≡◌, ◌<◌, List, Option, Some, None, Result, Ok, Err, length}
 use Rattle.std.specs.Io.KnownBytes.{Consumes, Appends, Keeps, IsAtEnd}
 use Rattle.hashers.specs.Text.{IsText}
 use Rattle.hashof.specs.declared.run.RunFault.{RunFault}
 use Rattle.hashof.specs.declared.run.RunFault.TheVariants.{UnknownName, ReadFault, TooLong, WriteFault}
 use Rattle.hash_names.specs.Named.{named, pieced}
+use Rattle.hash_program.specs.Streams.{AppendsPart}
 use Rattle.hashof.specs.Line.{line_of}
 
 -- how many bytes are too many to be read, and those that are left to be read before and after
@@ -64,13 +65,6 @@ abbrev pub HashesNamed : Option (List ℕ → ℕ) → Reading → Result ℕ Ru
 HashesNamed None reading result = (result ≡ Err UnknownName) × Keeps reading.before reading.after
 HashesNamed (Some hash) reading result = Hashes hash reading result
 
--- a beginning of the line was written
-pub record BeginsLine (before after : Option (List ℕ)) (line : List ℕ) : Type 0 where
-  pub part : List ℕ
-  pub rest : List ℕ
-  pub is : part ++ rest ≡ line
-  pub written : Appends before after part
-
 -- nothing was read or written
 abbrev pub IsUntouched : Run → Type 0
 IsUntouched run = Keeps run.reading.before run.reading.after × Keeps run.before run.after
@@ -83,7 +77,7 @@ EndsBy hash run (Err UnknownName) = ⊥
 EndsBy hash run (Err (ReadFault fault)) = ReadsSome run.reading fault.bytes × (fault.bytes < run.reading.limit) × Keeps run.before run.after
 EndsBy hash run (Err TooLong) = ReadsSome run.reading run.reading.limit × Keeps run.before run.after
 EndsBy hash run (Err (WriteFault error)) = (text : List ℕ) × ReadsAll run.reading text
-    × BeginsLine run.before run.after (line_of (hash text))
+    × AppendsPart run.before run.after (line_of (hash text))
 
 abbrev pub EndsNamed : Option (List ℕ → ℕ) → Run → Result (Unit {0}) RunFault → Type 0
 EndsNamed None run result = (result ≡ Err UnknownName) × IsUntouched run

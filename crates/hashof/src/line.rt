@@ -2,8 +2,9 @@
 ghost use Rattle.std.specs.Prelude.{◌≡◌, OnOk, OnErr};
 ghost use Rattle.std.specs.Io.KnownBytes.{Appends};
 ghost use Rattle.hashof.specs.Line.{line_of};
-ghost use Rattle.hashof.specs.Running.{BeginsLine};
+ghost use Rattle.hash_program.specs.Streams.{AppendsPart};
 
+use hash_program::streams::put;
 use std::io::{Error, Write};
 
 /// The most bytes of a line: twenty digits and a newline.
@@ -29,17 +30,10 @@ fn put_line(number: u64, line: &mut [u8; LINE]) -> &[u8]
 /// Writes the line of a number and flushes. The first error, `Interrupted` too, or a write that takes nothing ends it.
 pub fn write_line<W: Write>(w: &mut W, number: u64) -> Result<(), Option<Error>>
     ensures ok { OnOk result (Appends (W.contents w.old) (W.contents w.new) (line_of number)) }
-    ensures err { OnErr result (BeginsLine (W.contents w.old) (W.contents w.new) (line_of number)) }
+    ensures err { OnErr result (AppendsPart (W.contents w.old) (W.contents w.new) (line_of number)) }
 {
     let mut line = [0u8; LINE];
-    let mut rest = put_line(number, &mut line);
-    while !rest.is_empty() {
-        match w.write(rest) {
-            Ok(0) => return Err(None),
-            Ok(n) => rest = &rest[n..],
-            Err(error) => return Err(Some(error)),
-        }
-    }
+    put(w, put_line(number, &mut line), 0)?;
     match w.flush() {
         Ok(()) => Ok(()),
         Err(error) => Err(Some(error)),
