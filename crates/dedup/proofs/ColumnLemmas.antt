@@ -13,7 +13,8 @@ column_is n =
     let digits = decimal n in
     let spaces : ℕ → List ℕ = λ k. repeat k (32 ∷ []) in
     let room = 7 - length digits - 0 - 0 in
-    ap (λ fill. ((((repeat room fill ++ []) ++ []) ++ []) ++ (digits ++ repeat (room - room) fill)) ++ 32 ∷ []) (encode_ascii 32 (omega arith))
+    ap (λ fill. ((((repeat room fill ++ []) ++ []) ++ []) ++ (digits ++ repeat (room - room) fill)) ++ 32 ∷ [])
+    (encode_ascii 32 (omega arith))
     ∙ ap (λ k. ((((spaces room ++ []) ++ []) ++ []) ++ (digits ++ spaces k)) ++ 32 ∷ []) (nothing room)
     ∙ ap (λ l. ((((spaces room ++ []) ++ []) ++ []) ++ l) ++ 32 ∷ []) (append-nil digits)
     ∙ append_assoc (((spaces room ++ []) ++ []) ++ []) digits (32 ∷ [])

@@ -12,9 +12,11 @@ module _ (eol : ℕ) where
   pub same-congr : (x y z : List ℕ) → same_text_by eol x y ≡ true → same_text_by eol x z ≡ same_text_by eol y z
   same-congr x y z = nat_list_eq_equiv.congr (strip_last eol x) (strip_last eol y) (strip_last eol z)
 
-  pub any-same : (x y : List ℕ) → same_text_by eol x y ≡ true → (ls : List (List ℕ)) → list_any (same_text_by eol x) ls ≡ list_any (same_text_by eol y) ls
+  pub any-same : (x y : List ℕ) → same_text_by eol x y ≡ true → (ls : List (List ℕ))
+      → list_any (same_text_by eol x) ls ≡ list_any (same_text_by eol y) ls
   any-same x y same [] = refl
-  any-same x y same (z ∷ ls) = ap (λ b. b || list_any (same_text_by eol x) ls) (same-congr x y z same) ∙ ap (λ b. same_text_by eol y z || b) (any-same x y same ls)
+  any-same x y same (z ∷ ls) =
+      ap (λ b. b || list_any (same_text_by eol x) ls) (same-congr x y z same) ∙ ap (λ b. same_text_by eol y z || b) (any-same x y same ls)
 
   -- a filter that leaves out the lines with another text keeps those with this one
   any_filter : (line x : List ℕ) → same_text_by eol x line ≡ false → (ls : List (List ℕ))
@@ -22,18 +24,25 @@ module _ (eol : ℕ) where
   any_filter line x other [] = refl
   any_filter line x other (y ∷ ls) = at (same_text_by eol x y) refl (any_filter line x other ls)
     where
-      at : (b : Bool) → same_text_by eol x y ≡ b → list_any (same_text_by eol line) (filter (λ y. not (same_text_by eol x y)) ls) ≡ list_any (same_text_by eol line) ls
-          → list_any (same_text_by eol line) (cond (not b) (y ∷ filter (λ y. not (same_text_by eol x y)) ls) (filter (λ y. not (same_text_by eol x y)) ls)) ≡ (same_text_by eol line y || list_any (same_text_by eol line) ls)
-      at true is more = more ∙ ap (λ b. b || list_any (same_text_by eol line) ls) (sym (same_text-symm eol line y ∙ sym (same-congr x y line is) ∙ other))
+      at : (b : Bool) → same_text_by eol x y ≡ b
+          → list_any (same_text_by eol line) (filter (λ y. not (same_text_by eol x y)) ls) ≡ list_any (same_text_by eol line) ls
+          → list_any (same_text_by eol line)
+          (cond (not b) (y ∷ filter (λ y. not (same_text_by eol x y)) ls) (filter (λ y. not (same_text_by eol x y)) ls)) ≡
+          (same_text_by eol line y || list_any (same_text_by eol line) ls)
+      at true is more = more ∙ ap (λ b. b || list_any (same_text_by eol line) ls)
+          (sym (same_text-symm eol line y ∙ sym (same-congr x y line is) ∙ other))
       at false is more = ap (λ b. same_text_by eol line y || b) more
 
   -- the first lines have the same texts as all
-  pub any_firsts : (line : List ℕ) (ls : List (List ℕ)) → list_any (same_text_by eol line) (firsts_by eol ls) ≡ list_any (same_text_by eol line) ls
+  pub any_firsts : (line : List ℕ) (ls : List (List ℕ))
+      → list_any (same_text_by eol line) (firsts_by eol ls) ≡ list_any (same_text_by eol line) ls
   any_firsts line [] = refl
   any_firsts line (x ∷ ls) = at (same_text_by eol line x) refl (any_firsts line ls)
     where
-      at : (b : Bool) → same_text_by eol line x ≡ b → list_any (same_text_by eol line) (firsts_by eol ls) ≡ list_any (same_text_by eol line) ls
-          → (b || list_any (same_text_by eol line) (filter (λ y. not (same_text_by eol x y)) (firsts_by eol ls))) ≡ (b || list_any (same_text_by eol line) ls)
+      at : (b : Bool) → same_text_by eol line x ≡ b
+          → list_any (same_text_by eol line) (firsts_by eol ls) ≡ list_any (same_text_by eol line) ls
+          → (b || list_any (same_text_by eol line) (filter (λ y. not (same_text_by eol x y)) (firsts_by eol ls))) ≡
+          (b || list_any (same_text_by eol line) ls)
       at true is more = refl
       at false is more = any_filter line x (same_text-symm eol x line ∙ is) (firsts_by eol ls) ∙ more
 
@@ -64,15 +73,18 @@ module _ (eol : ℕ) where
   left_out x (y ∷ ls) = at (same_text_by eol x y) refl (left_out x ls)
     where
       at : (b : Bool) → same_text_by eol x y ≡ b → list_any (same_text_by eol x) (filter (λ y. not (same_text_by eol x y)) ls) ≡ false
-          → list_any (same_text_by eol x) (cond (not b) (y ∷ filter (λ y. not (same_text_by eol x y)) ls) (filter (λ y. not (same_text_by eol x y)) ls)) ≡ false
+          → list_any (same_text_by eol x)
+          (cond (not b) (y ∷ filter (λ y. not (same_text_by eol x y)) ls) (filter (λ y. not (same_text_by eol x y)) ls)) ≡ false
       at true is more = more
       at false is more = ap (λ b. b || list_any (same_text_by eol x) (filter (λ y. not (same_text_by eol x y)) ls)) is ∙ more
 
   pub firsts_apart : (ls : List (List ℕ)) → Apart eol (firsts_by eol ls)
   firsts_apart [] = tt
-  firsts_apart (x ∷ ls) = (left_out x (firsts_by eol ls), apart_filtered (λ y. not (same_text_by eol x y)) (firsts_by eol ls) (firsts_apart ls))
+  firsts_apart (x ∷ ls) =
+      (left_out x (firsts_by eol ls), apart_filtered (λ y. not (same_text_by eol x y)) (firsts_by eol ls) (firsts_apart ls))
 
   -- a text is among those of lines where a line has it
-  pub any_texts : (line : List ℕ) (ls : List (List ℕ)) → list_any (bytes_eq (strip_last eol line)) (map (strip_last eol) ls) ≡ list_any (same_text_by eol line) ls
+  pub any_texts : (line : List ℕ) (ls : List (List ℕ))
+      → list_any (bytes_eq (strip_last eol line)) (map (strip_last eol) ls) ≡ list_any (same_text_by eol line) ls
   any_texts line [] = refl
   any_texts line (x ∷ ls) = ap (λ b. same_text_by eol line x || b) (any_texts line ls)

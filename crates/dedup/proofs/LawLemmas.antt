@@ -101,14 +101,16 @@ module _ (eol : ℕ) where
   line_of_bare : (text more : List ℕ) → HasNone text → lines_by eol ((text ++ eol ∷ []) ++ more) ≡ (text ++ eol ∷ []) ∷ lines_by eol more
   line_of_bare [] more bare = ap (λ b. cond b ((eol ∷ []) ∷ lines_by eol more) (onto_first eol (lines_by eol more))) (eq-eqb eol eol refl)
   line_of_bare (byte ∷ text) more bare =
-      ap (λ b. cond b ((byte ∷ []) ∷ lines_by eol ((text ++ eol ∷ []) ++ more)) (onto_first byte (lines_by eol ((text ++ eol ∷ []) ++ more)))) (ne_eqb byte eol bare.0)
+      ap (λ b. cond b ((byte ∷ []) ∷ lines_by eol ((text ++ eol ∷ []) ++ more))
+      (onto_first byte (lines_by eol ((text ++ eol ∷ []) ++ more)))) (ne_eqb byte eol bare.0)
       ∙ ap (onto_first byte) (line_of_bare text more bare.1)
 
   -- what is written of lines has these lines, each with its end
   lines_as_written : (ls : List (List ℕ)) → AreBare ls → lines_by eol (flat_map (as_line_by eol) ls) ≡ map (as_line_by eol) ls
   lines_as_written [] bare = refl
   lines_as_written (line ∷ ls) bare =
-      line_of_bare (strip_last eol line) (flat_map (as_line_by eol) ls) bare.0 ∙ ap (λ more. as_line_by eol line ∷ more) (lines_as_written ls bare.1)
+      line_of_bare (strip_last eol line) (flat_map (as_line_by eol) ls) bare.0
+      ∙ ap (λ more. as_line_by eol line ∷ more) (lines_as_written ls bare.1)
 
   filter_bare : (p : List ℕ → Bool) (ls : List (List ℕ)) → AreBare ls → AreBare (filter p ls)
   filter_bare p [] bare = tt
@@ -148,14 +150,17 @@ module _ (eol : ℕ) where
   apart_once (line ∷ ls) apart (suc i) (suc k) below_i below_k same = ap suc (apart_once ls apart.1 i k (omega arith) (omega arith) same)
 
   pub written_once : (text : List ℕ) → EachOnce (line_texts eol (each_once_by eol text))
-  written_once text = subst EachOnce (sym (texts_written text)) (apart_once (firsts_by eol (lines_by eol text)) (firsts_apart eol (lines_by eol text)))
+  written_once text = subst EachOnce (sym (texts_written text))
+      (apart_once (firsts_by eol (lines_by eol text)) (firsts_apart eol (lines_by eol text)))
 
   -- ---- which texts
 
-  firsts_have : (ls : List (List ℕ)) (text : List ℕ) → has (map (strip_last eol) (firsts_by eol ls)) text ≡ has (map (strip_last eol) ls) text
+  firsts_have : (ls : List (List ℕ)) (text : List ℕ)
+      → has (map (strip_last eol) (firsts_by eol ls)) text ≡ has (map (strip_last eol) ls) text
   firsts_have ls text =
       subst (λ t. has (map (strip_last eol) (firsts_by eol ls)) t ≡ has (map (strip_last eol) ls) t) (strip_as_line text)
-      (any_texts eol (text ++ eol ∷ []) (firsts_by eol ls) ∙ any_firsts eol (text ++ eol ∷ []) ls ∙ sym (any_texts eol (text ++ eol ∷ []) ls))
+      (any_texts eol (text ++ eol ∷ []) (firsts_by eol ls) ∙ any_firsts eol (text ++ eol ∷ []) ls
+      ∙ sym (any_texts eol (text ++ eol ∷ []) ls))
 
   pub written_texts : (text line : List ℕ) → has (line_texts eol (each_once_by eol text)) line ≡ has (line_texts eol text) line
   written_texts text line = ap (λ texts. has texts line) (texts_written text) ∙ firsts_have (lines_by eol text) line
@@ -169,8 +174,10 @@ module _ (eol : ℕ) where
   map_filter line (x ∷ ls) = at (not (same_text_by eol line x))
       ∙ ap (λ more. cond (not (same_text_by eol line x)) (strip_last eol x ∷ more) more) (map_filter line ls)
     where
-      at : (b : Bool) → map (strip_last eol) (cond b (x ∷ filter (λ other. not (same_text_by eol line other)) ls) (filter (λ other. not (same_text_by eol line other)) ls))
-          ≡ cond b (strip_last eol x ∷ map (strip_last eol) (filter (λ other. not (same_text_by eol line other)) ls)) (map (strip_last eol) (filter (λ other. not (same_text_by eol line other)) ls))
+      at : (b : Bool) → map (strip_last eol)
+          (cond b (x ∷ filter (λ other. not (same_text_by eol line other)) ls) (filter (λ other. not (same_text_by eol line other)) ls))
+          ≡ cond b (strip_last eol x ∷ map (strip_last eol) (filter (λ other. not (same_text_by eol line other)) ls))
+          (map (strip_last eol) (filter (λ other. not (same_text_by eol line other)) ls))
       at true = refl
       at false = refl
 
@@ -198,7 +205,8 @@ module _ (eol : ℕ) where
 
   pub written_in_order : (text line other : List ℕ) → ComesBefore (line_texts eol text) line other
       → ComesBefore (line_texts eol (each_once_by eol text)) line other
-  written_in_order text line other before = subst (λ texts. ComesBefore texts line other) (sym (texts_written text)) (firsts_before (lines_by eol text) line other before)
+  written_in_order text line other before =
+      subst (λ texts. ComesBefore texts line other) (sym (texts_written text)) (firsts_before (lines_by eol text) line other before)
 
   -- ---- twice
 
@@ -210,7 +218,8 @@ module _ (eol : ℕ) where
       || list_any (λ z. not (not (same_text_by eol (as_line_by eol x) z))) (map (as_line_by eol) ls)) (strip_as_line (strip_last eol x))
       ∙ ap (λ t. not (not (bytes_eq (strip_last eol x) t))
       || list_any (λ z. not (not (same_text_by eol (as_line_by eol x) z))) (map (as_line_by eol) ls)) (strip_as_line (strip_last eol y))
-      ∙ ap (λ b. not (not b) || list_any (λ z. not (not (same_text_by eol (as_line_by eol x) z))) (map (as_line_by eol) ls)) (or_parts _ _ none).0
+      ∙ ap (λ b. not (not b) || list_any (λ z. not (not (same_text_by eol (as_line_by eol x) z))) (map (as_line_by eol) ls))
+      (or_parts _ _ none).0
       ∙ same_as_written x ls (or_parts _ _ none).1
 
   -- lines of different texts are the first of each
@@ -218,7 +227,8 @@ module _ (eol : ℕ) where
   firsts_of_apart [] apart = refl
   firsts_of_apart (x ∷ ls) apart =
       ap (λ more. as_line_by eol x ∷ filter (λ y. not (same_text_by eol (as_line_by eol x) y)) more) (firsts_of_apart ls apart.1)
-      ∙ ap (λ more. as_line_by eol x ∷ more) (filter_all (λ y. not (same_text_by eol (as_line_by eol x) y)) (map (as_line_by eol) ls) (same_as_written x ls apart.0))
+      ∙ ap (λ more. as_line_by eol x ∷ more)
+      (filter_all (λ y. not (same_text_by eol (as_line_by eol x) y)) (map (as_line_by eol) ls) (same_as_written x ls apart.0))
 
   written_as_line : (ls : List (List ℕ)) → flat_map (as_line_by eol) (map (as_line_by eol) ls) ≡ flat_map (as_line_by eol) ls
   written_as_line [] = refl

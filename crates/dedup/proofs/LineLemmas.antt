@@ -17,7 +17,8 @@ module _ (eol : ℕ) where
 
   -- a line more is kept where none before it has its text
   pub firsts_more : (before : List (List ℕ)) (line : List ℕ)
-      → firsts_by eol (before ++ line ∷ []) ≡ cond (list_any (same_text_by eol line) before) (firsts_by eol before) (firsts_by eol before ++ line ∷ [])
+      → firsts_by eol (before ++ line ∷ []) ≡ cond (list_any (same_text_by eol line) before) (firsts_by eol before)
+      (firsts_by eol before ++ line ∷ [])
   firsts_more [] line = refl
   firsts_more (first ∷ before) line =
       ap (λ more. first ∷ filter other more) (firsts_more before line)
@@ -26,7 +27,8 @@ module _ (eol : ℕ) where
       other : List ℕ → Bool
       other x = not (same_text_by eol first x)
 
-      end : (is : Bool) → first ∷ (filter other (firsts_by eol before) ++ cond (not is) (line ∷ []) []) ≡ cond (is || false) (first ∷ filter other (firsts_by eol before)) (first ∷ filter other (firsts_by eol before) ++ line ∷ [])
+      end : (is : Bool) → first ∷ (filter other (firsts_by eol before) ++ cond (not is) (line ∷ []) []) ≡ cond (is || false)
+          (first ∷ filter other (firsts_by eol before)) (first ∷ filter other (firsts_by eol before) ++ line ∷ [])
       end true = ap (λ kept. first ∷ kept) (append-nil _)
       end false = refl
 
@@ -35,23 +37,31 @@ module _ (eol : ℕ) where
           ≡ cond (is || among) (first ∷ filter other (firsts_by eol before)) (first ∷ filter other (firsts_by eol before) ++ line ∷ [])
       at true true same = refl
       at true false same = refl
-      at false is same = ap (λ kept. first ∷ kept) (filter-append other (firsts_by eol before) (line ∷ []) ∙ ap (λ b. filter other (firsts_by eol before) ++ cond (not b) (line ∷ []) []) same) ∙ end is
+      at false is same = ap (λ kept. first ∷ kept)
+          (filter-append other (firsts_by eol before) (line ∷ [])
+          ∙ ap (λ b. filter other (firsts_by eol before) ++ cond (not b) (line ∷ []) []) same) ∙ end is
 
   -- a line with a new text is one line more
-  pub firsts_with_new : (ls : List (List ℕ)) (line : List ℕ) → list_any (same_text_by eol line) ls ≡ false → firsts_by eol (ls ++ line ∷ []) ≡ firsts_by eol ls ++ line ∷ []
+  pub firsts_with_new : (ls : List (List ℕ)) (line : List ℕ) → list_any (same_text_by eol line) ls ≡ false
+      → firsts_by eol (ls ++ line ∷ []) ≡ firsts_by eol ls ++ line ∷ []
   firsts_with_new ls line new = firsts_more ls line ∙ ap (λ b. cond b (firsts_by eol ls) (firsts_by eol ls ++ line ∷ [])) new
 
   -- a line whose text came before is none
-  pub firsts_with_seen : (ls : List (List ℕ)) (line : List ℕ) → list_any (same_text_by eol line) ls ≡ true → firsts_by eol (ls ++ line ∷ []) ≡ firsts_by eol ls
+  pub firsts_with_seen : (ls : List (List ℕ)) (line : List ℕ) → list_any (same_text_by eol line) ls ≡ true
+      → firsts_by eol (ls ++ line ∷ []) ≡ firsts_by eol ls
   firsts_with_seen ls line seen = firsts_more ls line ∙ ap (λ b. cond b (firsts_by eol ls) (firsts_by eol ls ++ line ∷ [])) seen
 
   -- further lines change nothing before them
-  pub firsts_begins : (before more : List (List ℕ)) → (rest : List (List ℕ)) × (firsts_by eol (before ++ more) ≡ firsts_by eol before ++ rest)
+  pub firsts_begins : (before more : List (List ℕ)) → (rest : List (List ℕ))
+      × (firsts_by eol (before ++ more) ≡ firsts_by eol before ++ rest)
   firsts_begins [] more = (firsts_by eol more, refl)
   firsts_begins (first ∷ before) more =
       let other : List ℕ → Bool = λ x. not (same_text_by eol first x) in
-      let below = firsts_begins before more in
-      (filter other below.0, ap (λ kept. first ∷ filter other kept) below.1 ∙ ap (λ kept. first ∷ kept) (filter-append other (firsts_by eol before) below.0))
+      let below = firsts_begins before more in (
+        filter other below.0,
+        ap (λ kept. first ∷ filter other kept) below.1
+            ∙ ap (λ kept. first ∷ kept) (filter-append other (firsts_by eol before) below.0),
+      )
 
   -- the first of several bytes before an end is none, and the others stop there too
   stops_tail : (byte next : ℕ) (line : List ℕ) → StopsAt (byte ∷ next ∷ line) eol → (byte ≢ eol) × StopsAt (next ∷ line) eol
@@ -72,19 +82,24 @@ module _ (eol : ℕ) where
   pub ends_tail : (byte next : ℕ) (line : List ℕ) → ends_with_byte eol (byte ∷ next ∷ line) ≡ ends_with_byte eol (next ∷ line)
   ends_tail byte next line =
       ends_some (byte ∷ next ∷ line) (omega arith)
-      ∙ ap (λ x. x == eol) (get_or_tail byte (next ∷ line) (length (byte ∷ next ∷ line) - 1) 0 (omega arith) ∙ ap (λ k. get_or (next ∷ line) k 0) (the_length (length line)))
+      ∙ ap (λ x. x == eol)
+      (get_or_tail byte (next ∷ line) (length (byte ∷ next ∷ line) - 1) 0 (omega arith)
+      ∙ ap (λ k. get_or (next ∷ line) k 0) (the_length (length line)))
       ∙ sym (ends_some (next ∷ line) (omega arith))
     where
       the_length : (n : ℕ) → suc (suc n) - 1 - 1 ≡ suc n - 1
       the_length n = omega arith
 
   -- a line with what ends it at its end and nowhere else is the first line of what it begins
-  pub lines_of_line : (line more : List ℕ) → StopsAt line eol → ends_with_byte eol line ≡ true → lines_by eol (line ++ more) ≡ line ∷ (lines_by eol) more
+  pub lines_of_line : (line more : List ℕ) → StopsAt line eol → ends_with_byte eol line ≡ true
+      → lines_by eol (line ++ more) ≡ line ∷ (lines_by eol) more
   lines_of_line [] more stops ends = absurd (false≢true ends)
-  lines_of_line (byte ∷ []) more stops ends = ap (λ b. cond b ((byte ∷ []) ∷ (lines_by eol) more) (onto_first byte (lines_by eol more))) ends
+  lines_of_line (byte ∷ []) more stops ends =
+      ap (λ b. cond b ((byte ∷ []) ∷ (lines_by eol) more) (onto_first byte (lines_by eol more))) ends
   lines_of_line (byte ∷ next ∷ line) more stops ends =
       let (other, later) = stops_tail byte next line stops in
-      ap (λ b. cond b ((byte ∷ []) ∷ (lines_by eol) (next ∷ line ++ more)) (onto_first byte (lines_by eol (next ∷ line ++ more)))) (ne_eqb byte eol other)
+      ap (λ b. cond b ((byte ∷ []) ∷ (lines_by eol) (next ∷ line ++ more)) (onto_first byte (lines_by eol (next ∷ line ++ more))))
+      (ne_eqb byte eol other)
       ∙ ap (onto_first byte) (lines_of_line (next ∷ line) more later (sym (ends_tail byte next line) ∙ ends))
 
   -- bytes without an end before the last are one line
@@ -105,7 +120,8 @@ module _ (eol : ℕ) where
   bare_line [] bare some = absurd (omega arith)
   bare_line (byte ∷ []) bare some = ap (λ b. cond b ((byte ∷ []) ∷ []) (onto_first byte [])) (ne_eqb byte eol (bare 0 (omega arith)))
   bare_line (byte ∷ next ∷ line) bare some =
-      ap (λ b. cond b ((byte ∷ []) ∷ (lines_by eol) (next ∷ line)) (onto_first byte (lines_by eol (next ∷ line)))) (ne_eqb byte eol (bare 0 (omega arith)))
+      ap (λ b. cond b ((byte ∷ []) ∷ (lines_by eol) (next ∷ line)) (onto_first byte (lines_by eol (next ∷ line))))
+      (ne_eqb byte eol (bare 0 (omega arith)))
       ∙ ap (onto_first byte) (bare_line (next ∷ line) (λ k below. bare (suc k) (omega arith)) (omega arith))
 
   -- bytes without an end do not end with one, and are a text
@@ -153,18 +169,23 @@ module _ (eol : ℕ) where
       at false (line ∷ ls) = omega arith
 
 -- what is written and what is left of some bytes, after more of them
-pub taken_more : (part rest bytes : List ℕ) (n : ℕ) → part ++ rest ≡ bytes → (part ++ take n rest) ++ take (length rest - n) (drop n rest) ≡ bytes
+pub taken_more : (part rest bytes : List ℕ) (n : ℕ) → part ++ rest ≡ bytes
+    → (part ++ take n rest) ++ take (length rest - n) (drop n rest) ≡ bytes
 taken_more part rest bytes n is =
-    ap (λ t. (part ++ take n rest) ++ t) (take_rest rest n) ∙ append_assoc part (take n rest) (drop n rest) ∙ ap (λ t. part ++ t) (take-append-drop n rest) ∙ is
+    ap (λ t. (part ++ take n rest) ++ t) (take_rest rest n) ∙ append_assoc part (take n rest) (drop n rest)
+    ∙ ap (λ t. part ++ t) (take-append-drop n rest) ∙ is
 
 module _ (eol : ℕ) where
   -- what a line adds
-  pub once_more : (ls : List (List ℕ)) (line : List ℕ) → once_by eol (ls ++ line ∷ []) ≡ once_by eol ls ++ (if list_any (same_text_by eol line) ls then [] else as_line_by eol line)
+  pub once_more : (ls : List (List ℕ)) (line : List ℕ)
+      → once_by eol (ls ++ line ∷ []) ≡ once_by eol ls ++ (if list_any (same_text_by eol line) ls then [] else as_line_by eol line)
   once_more ls line = ap (flat_map (as_line_by eol)) (firsts_more eol ls line) ∙ at (list_any (same_text_by eol line) ls)
     where
-      at : (b : Bool) → flat_map (as_line_by eol) (cond b (firsts_by eol ls) (firsts_by eol ls ++ line ∷ [])) ≡ once_by eol ls ++ cond b [] (as_line_by eol line)
+      at : (b : Bool) → flat_map (as_line_by eol) (cond b (firsts_by eol ls) (firsts_by eol ls ++ line ∷ [])) ≡ once_by eol ls
+          ++ cond b [] (as_line_by eol line)
       at true = sym (append-nil _)
-      at false = flat_map-append (as_line_by eol) (firsts_by eol ls) (line ∷ []) ∙ ap (λ l. once_by eol ls ++ l) (append-nil (as_line_by eol line))
+      at false = flat_map-append (as_line_by eol) (firsts_by eol ls) (line ∷ [])
+          ∙ ap (λ l. once_by eol ls ++ l) (append-nil (as_line_by eol line))
 
   -- what further lines add stands behind what was there
   pub once_begins : (ls more : List (List ℕ)) → (rest : List ℕ) × (once_by eol (ls ++ more) ≡ once_by eol ls ++ rest)
@@ -173,17 +194,23 @@ module _ (eol : ℕ) where
       (flat_map (as_line_by eol) rest, ap (flat_map (as_line_by eol)) is ∙ flat_map-append (as_line_by eol) (firsts_by eol ls) rest)
 
   -- the bytes through the first end are a line
-  pub line_through : (rest : List ℕ) (n : ℕ) → IsLineEnd eol rest (Some n) → StopsAt (take (n + 1) rest) eol × (0 < length (take (n + 1) rest)) × (ends_with_byte eol (take (n + 1) rest) ≡ true)
+  pub line_through : (rest : List ℕ) (n : ℕ) → IsLineEnd eol rest (Some n) → StopsAt (take (n + 1) rest) eol
+      × (0 < length (take (n + 1) rest)) × (ends_with_byte eol (take (n + 1) rest) ≡ true)
   line_through rest n (below, is, before) =
       let long : length (take (n + 1) rest) ≡ n + 1 = length-take-le (n + 1) rest (omega arith) in
       let some : 0 < length (take (n + 1) rest) = omega arith in
       let last : ℕ = length (take (n + 1) rest) - 1 in (
         λ k d below_last.
-            let within : k < length (take (n + 1) rest) - 1 = omega (arith, below_last, length-take (length (take (n + 1) rest) - 1) (take (n + 1) rest)) in
+            let within : k < length (take (n + 1) rest) - 1 =
+            omega (arith, below_last, length-take (length (take (n + 1) rest) - 1) (take (n + 1) rest)) in
             let short : k < n = omega (arith, long, within) in
-            subst (λ x. x ≢ eol) (sym (get_or-take last (take (n + 1) rest) k d within ∙ get_or-take (n + 1) rest k d (omega arith) ∙ get_or_default rest k d 0 (omega arith))) (before k short),
+            subst (λ x. x ≢ eol)
+            (sym (get_or-take last (take (n + 1) rest) k d within ∙ get_or-take (n + 1) rest k d (omega arith)
+            ∙ get_or_default rest k d 0 (omega arith))) (before k short),
         some,
-        ends_some eol (take (n + 1) rest) some ∙ eq-eqb _ _ (ap (λ m. get_or (take (n + 1) rest) (m - 1) 0) long ∙ get_or-take (n + 1) rest (n + 1 - 1) 0 (omega arith) ∙ ap (λ m. get_or rest m 0) (one_less n) ∙ is),
+        ends_some eol (take (n + 1) rest) some
+            ∙ eq-eqb _ _ (ap (λ m. get_or (take (n + 1) rest) (m - 1) 0) long ∙ get_or-take (n + 1) rest (n + 1 - 1) 0 (omega arith)
+            ∙ ap (λ m. get_or rest m 0) (one_less n) ∙ is),
       )
     where
       one_less : (n : ℕ) → n + 1 - 1 ≡ n

@@ -38,20 +38,24 @@ module _ (output : List (List ℕ) → List ℕ) where
   }
 
   -- a flush changes nothing that was written
-  pub leads_kept : (a b : List (List ℕ) → Type 0) (more : List (List ℕ)) (w w' w'' : Option (List ℕ)) → LeadsOn output a b more w w' → Keeps w' w'' → LeadsOn output a b more w w''
+  pub leads_kept : (a b : List (List ℕ) → Type 0) (more : List (List ℕ)) (w w' w'' : Option (List ℕ)) → LeadsOn output a b more w w'
+      → Keeps w' w'' → LeadsOn output a b more w w''
   leads_kept a b more w w' w'' leads keeps = record {
     stands = leads.stands;
     writes = λ ls start before appends. Appends-kept _ _ _ _ (leads.writes ls start before appends) keeps;
   }
 
   -- a fault behind lines that are taken
-  pub stops_behind : (a b : List (List ℕ) → Type 0) (more last : List (List ℕ)) (w w' w'' : Option (List ℕ)) → LeadsOn output a b more w w' → StopsWithin output b last w' w''
+  pub stops_behind : (a b : List (List ℕ) → Type 0) (more last : List (List ℕ)) (w w' w'' : Option (List ℕ))
+      → LeadsOn output a b more w w' → StopsWithin output b last w' w''
       → StopsWithin output a (more ++ last) w w''
   stops_behind a b more last w w' w'' leads stops = λ ls start before appends.
-      subst (λ l. AppendsPart start w'' (output l)) (append_assoc ls more last) (stops (ls ++ more) start (leads.stands ls before) (leads.writes ls start before appends))
+      subst (λ l. AppendsPart start w'' (output l)) (append_assoc ls more last)
+      (stops (ls ++ more) start (leads.stands ls before) (leads.writes ls start before appends))
 
   -- a fault behind lines of which all is written
-  pub stops_after : (a b : List (List ℕ) → Type 0) (more : List (List ℕ)) (w w' w'' : Option (List ℕ)) → LeadsOn output a b more w w' → Keeps w' w'' → StopsWithin output a more w w''
+  pub stops_after : (a b : List (List ℕ) → Type 0) (more : List (List ℕ)) (w w' w'' : Option (List ℕ)) → LeadsOn output a b more w w'
+      → Keeps w' w'' → StopsWithin output a more w w''
   stops_after a b more w w' w'' leads keeps = λ ls start before appends.
       (output (ls ++ more), [], append-nil _, Appends-kept _ _ _ _ (leads.writes ls start before appends) keeps)
 
@@ -72,17 +76,23 @@ module _ (eol : ℕ) where
   pub whole_both : (text more : List ℕ) → IsWhole eol text → IsWhole eol more → IsWhole eol (text ++ more)
   whole_both text more whole_text whole_more = record {
     splits = λ later.
-        ap (lines_by eol) (append_assoc text more later) ∙ whole_text.splits (more ++ later) ∙ ap (λ ls. lines_by eol text ++ ls) (whole_more.splits later)
-        ∙ sym (append_assoc (lines_by eol text) (lines_by eol more) (lines_by eol later)) ∙ ap (λ ls. ls ++ lines_by eol later) (sym (whole_text.splits more));
-    ends = ap (filter (ends_with_byte eol)) (whole_text.splits more) ∙ filter-append (ends_with_byte eol) (lines_by eol text) (lines_by eol more)
-        ∙ ap (λ ls. ls ++ whole_lines eol more) whole_text.ends ∙ ap (λ ls. lines_by eol text ++ ls) whole_more.ends ∙ sym (whole_text.splits more);
+        ap (lines_by eol) (append_assoc text more later) ∙ whole_text.splits (more ++ later)
+        ∙ ap (λ ls. lines_by eol text ++ ls) (whole_more.splits later)
+        ∙ sym (append_assoc (lines_by eol text) (lines_by eol more) (lines_by eol later))
+        ∙ ap (λ ls. ls ++ lines_by eol later) (sym (whole_text.splits more));
+    ends = ap (filter (ends_with_byte eol)) (whole_text.splits more)
+        ∙ filter-append (ends_with_byte eol) (lines_by eol text) (lines_by eol more)
+        ∙ ap (λ ls. ls ++ whole_lines eol more) whole_text.ends ∙ ap (λ ls. lines_by eol text ++ ls) whole_more.ends
+        ∙ sym (whole_text.splits more);
   }
 
   -- a line behind text
-  pub lines_more : (text line : List ℕ) → IsWhole eol text → StopsAt line eol → 0 < length line → lines_by eol (text ++ line) ≡ lines_by eol text ++ line ∷ []
+  pub lines_more : (text line : List ℕ) → IsWhole eol text → StopsAt line eol → 0 < length line
+      → lines_by eol (text ++ line) ≡ lines_by eol text ++ line ∷ []
   lines_more text line whole stops some = whole.splits line ∙ ap (λ ls. lines_by eol text ++ ls) (one_line eol line stops some)
 
-  pub counted_more : (text line : List ℕ) (count : ℕ) → lines_by eol (text ++ line) ≡ lines_by eol text ++ line ∷ [] → count ≡ length (lines_by eol text) → count + 1 ≡ length (lines_by eol (text ++ line))
+  pub counted_more : (text line : List ℕ) (count : ℕ) → lines_by eol (text ++ line) ≡ lines_by eol text ++ line ∷ []
+      → count ≡ length (lines_by eol text) → count + 1 ≡ length (lines_by eol (text ++ line))
   counted_more text line count more counted = omega (arith, counted, ap length more, length-append (lines_by eol text) (line ∷ []))
 
   -- a text that breaks off within a line has the lines before it
@@ -93,7 +103,9 @@ module _ (eol : ℕ) where
     where
       no_line : (line : List ℕ) → IsBare eol line → whole_lines eol line ≡ []
       no_line [] bare = refl
-      no_line (byte ∷ line) bare = ap (filter (ends_with_byte eol)) (bare_line eol (byte ∷ line) bare (omega arith)) ∙ ap (λ b. cond b ((byte ∷ line) ∷ []) []) (bare_end eol (byte ∷ line) bare)
+      no_line (byte ∷ line) bare =
+          ap (filter (ends_with_byte eol)) (bare_line eol (byte ∷ line) bare (omega arith))
+          ∙ ap (λ b. cond b ((byte ∷ line) ∷ []) []) (bare_end eol (byte ∷ line) bare)
 
 pub together : (front back rest : List ℕ) (n : ℕ) → front ≡ take n rest → back ≡ drop n rest → front ++ back ≡ rest
 together front back rest n is_front is_back = ap (λ l. l ++ back) is_front ∙ ap (λ l. take n rest ++ l) is_back ∙ take-append-drop n rest
@@ -110,35 +122,42 @@ back_is part rest bytes is =
     ap (λ n. drop n bytes) long ∙ ap (drop (length part)) (sym is) ∙ drop-append_seam part rest
 
 -- a fault before anything is written of the next lines
-pub stops_before : (output : List (List ℕ) → List ℕ) (grows : Grows output) (before : List (List ℕ) → Type 0) (more : List (List ℕ)) (w : Option (List ℕ)) → StopsWithin output before more w w
+pub stops_before : (output : List (List ℕ) → List ℕ) (grows : Grows output) (before : List (List ℕ) → Type 0) (more : List (List ℕ))
+    (w : Option (List ℕ)) → StopsWithin output before more w w
 stops_before output grows before more w = λ ls start stood appends.
     let (rest, is) = grows ls more in
     (output ls, rest, sym is, appends)
 
 module _ (eol : ℕ) (output : List (List ℕ) → List ℕ) (grows : Grows output) where
   -- a fault at a line behind others
-  pub breaks_at_line : (a b : List (List ℕ) → Type 0) (w w' w'' : Option (List ℕ)) (text line behind : List ℕ) → IsWhole eol text → IsWhole eol line → lines_by eol line ≡ line ∷ []
+  pub breaks_at_line : (a b : List (List ℕ) → Type 0) (w w' w'' : Option (List ℕ)) (text line behind : List ℕ) → IsWhole eol text
+      → IsWhole eol line → lines_by eol line ≡ line ∷ []
       → LeadsOn output a b (lines_by eol text) w w' → StopsWithin output b (line ∷ []) w' w''
       → BreaksOff output a eol (text ++ (line ++ behind)) w w''
   breaks_at_line a b w w' w'' text line behind whole_text whole_line alone leads stops = λ ls start before appends.
-      let (part, rest, is, there) = stops (ls ++ lines_by eol text) start (leads.stands ls before) (leads.writes ls start before appends) in (
+      let (part, rest, is, there) =
+      stops (ls ++ lines_by eol text) start (leads.stands ls before) (leads.writes ls start before appends) in (
         part,
         there,
         λ later.
             let more = lines_by eol (behind ++ later) in
             let split : lines_by eol ((text ++ (line ++ behind)) ++ later) ≡ lines_by eol text ++ (line ∷ [] ++ more) =
-            ap (lines_by eol) (append_assoc text (line ++ behind) later ∙ ap (λ l. text ++ l) (append_assoc line behind later)) ∙ whole_text.splits (line ++ (behind ++ later))
+            ap (lines_by eol) (append_assoc text (line ++ behind) later ∙ ap (λ l. text ++ l) (append_assoc line behind later))
+            ∙ whole_text.splits (line ++ (behind ++ later))
             ∙ ap (λ l. lines_by eol text ++ l) (whole_line.splits (behind ++ later) ∙ ap (λ l. l ++ more) alone) in
             let (after, begun) = grows ((ls ++ lines_by eol text) ++ line ∷ []) more in (
               rest ++ after,
-              ap (λ l. output (ls ++ l)) split ∙ ap output (sym (append_assoc ls (lines_by eol text) (line ∷ [] ++ more)) ∙ sym (append_assoc (ls ++ lines_by eol text) (line ∷ []) more))
+              ap (λ l. output (ls ++ l)) split
+                  ∙ ap output (sym (append_assoc ls (lines_by eol text) (line ∷ [] ++ more))
+                  ∙ sym (append_assoc (ls ++ lines_by eol text) (line ∷ []) more))
                   ∙ begun ∙ ap (λ l. l ++ after) (sym is) ∙ append_assoc part rest after,
             ),
       )
 
 module _ (eol : ℕ) where
   -- as many lines are taken as may be, or all
-  pub takes_so_far : (part rest bytes : List ℕ) (most count : ℕ) → part ++ rest ≡ bytes → IsWhole eol part → count ≡ length (lines_by eol part) → count ≤ most → (count < most → IsBare eol rest)
+  pub takes_so_far : (part rest bytes : List ℕ) (most count : ℕ) → part ++ rest ≡ bytes → IsWhole eol part
+      → count ≡ length (lines_by eol part) → count ≤ most → (count < most → IsBare eol rest)
       → Takes eol bytes most count (length bytes - length rest)
   takes_so_far part rest bytes most count is whole counted few bare = record {
     few = few;
@@ -171,11 +190,13 @@ module _ (eol : ℕ) where
   pub bare_both : (a b : List ℕ) → IsBare eol a → IsBare eol b → IsBare eol (a ++ b)
   bare_both a b bare_a bare_b = λ k below. elim (cases_lt k (length a)) [
     | inl early ↦ subst (λ x. x ≢ eol) (sym (get_or_append_left a b 0 k early)) (bare_a k early)
-    | inr late ↦ subst (λ x. x ≢ eol) (sym (get_or-append_right a b k 0 late)) (bare_b (k - length a) (omega (arith, below, length-append a b)))
+    | inr late ↦ subst (λ x. x ≢ eol) (sym (get_or-append_right a b k 0 late))
+        (bare_b (k - length a) (omega (arith, below, length-append a b)))
   ]
 
 -- what was read is known where the input is, with what is behind it
-known : (start left : Option (List ℕ)) (text : List ℕ) → Consumes start left text → (later : List ℕ) × IfSome start (λ bytes. bytes ≡ text ++ later)
+known : (start left : Option (List ℕ)) (text : List ℕ) → Consumes start left text → (later : List ℕ)
+    × IfSome start (λ bytes. bytes ≡ text ++ later)
 known None left text read = ([], tt)
 known (Some bytes) None text read = absurd read
 known (Some bytes) (Some later) text read = (later, read)
@@ -191,18 +212,22 @@ at_end (Some x) (Some y) text read ended = read ∙ ap (λ l. text ++ l) ended �
 
 module _ (eol : ℕ) where
   -- the lines of an input begin with those of what comes first in it, up to the end of a line
-  begins_whole : (start : Option (List ℕ)) (front later : List ℕ) → IsWhole eol front → IfSome start (λ bytes. bytes ≡ front ++ later) → BeginWith eol start (lines_by eol front)
-  begins_whole start front later whole all = on_some start _ _ (λ bytes is. (lines_by eol later, ap (lines_by eol) is ∙ whole.splits later)) all
+  begins_whole : (start : Option (List ℕ)) (front later : List ℕ) → IsWhole eol front → IfSome start (λ bytes. bytes ≡ front ++ later)
+      → BeginWith eol start (lines_by eol front)
+  begins_whole start front later whole all =
+      on_some start _ _ (λ bytes is. (lines_by eol later, ap (lines_by eol) is ∙ whole.splits later)) all
 
   begins_all : (start : Option (List ℕ)) (all : List ℕ) → IfSome start (λ bytes. bytes ≡ all) → BeginWith eol start (lines_by eol all)
   begins_all start all is_all = on_some start _ _ (λ bytes is. ([], ap (lines_by eol) is ∙ sym (append-nil _))) is_all
 
   -- what stops at lines with which the input begins breaks it
-  pub breaks_at : (output : List (List ℕ) → List ℕ) (before : List (List ℕ) → Type 0) (start w w' : Option (List ℕ)) (more : List (List ℕ)) → BeginWith eol start more
+  pub breaks_at : (output : List (List ℕ) → List ℕ) (before : List (List ℕ) → Type 0) (start w w' : Option (List ℕ))
+      (more : List (List ℕ)) → BeginWith eol start more
       → StopsWithin output before more w w' → BreaksInput output before eol start w w'
   breaks_at output before start w w' more begins stops = λ ls from stood appends. (more, begins, stops ls from stood appends)
 
-  module _ (limit : ℕ) (start left : Option (List ℕ)) (unread : List ℕ) (most : ℕ) (text : List ℕ) (reads : Reads eol limit start left unread most text) where
+  module _ (limit : ℕ) (start left : Option (List ℕ)) (unread : List ℕ) (most : ℕ) (text : List ℕ)
+      (reads : Reads eol limit start left unread most text) where
     -- the lines that are taken are the first of the input
     pub taken_first : BeginWith eol start (lines_by eol text)
     taken_first =
@@ -211,43 +236,74 @@ module _ (eol : ℕ) where
 
     module _ (unread' : List ℕ) (left' : Option (List ℕ)) (came : Came) (filled : Filled eol unread unread' left left' came) where
       read_on : Consumes start left' (text ++ unread')
-      read_on = subst (Consumes start left') (append_assoc text unread filled.text ∙ ap (λ l. text ++ l) (sym filled.is)) (Consumes-trans _ _ _ _ _ reads.read filled.read)
+      read_on = subst (Consumes start left') (append_assoc text unread filled.text ∙ ap (λ l. text ++ l) (sym filled.is))
+          (Consumes-trans _ _ _ _ _ reads.read filled.read)
 
       pub bare_on : IsBare eol filled.text → IsBare eol unread'
       bare_on bare = subst (IsBare eol) (sym filled.is) (bare_both eol unread filled.text reads.bare bare)
 
       -- the input has ended
       pub read_to_end : IsAtEnd left' → ReadsInput eol true start left' (lines_by eol text ++ lines_by eol unread')
-      read_to_end ended = record { text = text ++ unread'; read = read_on; all = λ yes. at_end start left' (text ++ unread') read_on ended; lines = sym (reads.whole.splits unread') }
+      read_to_end ended = record {
+        text = text ++ unread';
+        read = read_on;
+        all = λ yes. at_end start left'
+            (text ++ unread') read_on ended;
+        lines = sym (reads.whole.splits unread');
+      }
 
       pub all_first : IsAtEnd left' → BeginWith eol start (lines_by eol text ++ lines_by eol unread')
-      all_first ended = subst (BeginWith eol start) (reads.whole.splits unread') (begins_all start (text ++ unread') (at_end start left' (text ++ unread') read_on ended))
+      all_first ended = subst (BeginWith eol start) (reads.whole.splits unread')
+          (begins_all start (text ++ unread') (at_end start left' (text ++ unread') read_on ended))
 
       -- the input has failed
       pub read_to_fault : IsBare eol filled.text → ReadsInput eol false start left' (lines_by eol text)
-      read_to_fault bare = record { text = text ++ unread'; read = read_on; all = λ yes. absurd (false≢true yes); lines = sym (lines_before eol text unread' reads.whole (bare_on bare)) }
+      read_to_fault bare =
+          record {
+            text = text ++ unread';
+            read = read_on;
+            all = λ yes. absurd (false≢true yes);
+            lines = sym
+                (lines_before eol text unread' reads.whole (bare_on bare));
+          }
 
       -- a fault among the lines that were read
-      pub breaks_among : (output : List (List ℕ) → List ℕ) (a b : List (List ℕ) → Type 0) (w w' w'' : Option (List ℕ)) → LeadsOn output a b (lines_by eol text) w w'
+      pub breaks_among : (output : List (List ℕ) → List ℕ) (a b : List (List ℕ) → Type 0) (w w' w'' : Option (List ℕ))
+          → LeadsOn output a b (lines_by eol text) w w'
           → BreaksOff output b eol unread' w' w'' → BreaksInput output a eol start w w''
       breaks_among output a b w w' w'' leads breaks = λ ls from before appends.
           let (later, all) = known start left' (text ++ unread') read_on in
-          let (part, there, rest_of) = breaks (ls ++ lines_by eol text) from (leads.stands ls before) (leads.writes ls from before appends) in
+          let (part, there, rest_of) =
+          breaks (ls ++ lines_by eol text) from (leads.stands ls before) (leads.writes ls from before appends) in
           let (rest, is) = rest_of later in
           let split : lines_by eol ((text ++ unread') ++ later) ≡ lines_by eol text ++ lines_by eol (unread' ++ later) =
           ap (lines_by eol) (append_assoc text unread' later) ∙ reads.whole.splits (unread' ++ later) in (
             lines_by eol ((text ++ unread') ++ later),
             begins_all start ((text ++ unread') ++ later) all,
-            (part, rest, sym is ∙ ap output (append_assoc ls (lines_by eol text) (lines_by eol (unread' ++ later)) ∙ ap (λ l. ls ++ l) (sym split)), there),
+            (
+              part,
+              rest,
+              sym is ∙ ap output
+                  (append_assoc ls (lines_by eol text) (lines_by eol (unread' ++ later)) ∙ ap (λ l. ls ++ l) (sym split)),
+              there,
+            ),
           )
 
       -- some lines more are taken
       pub reads_more : (count len : ℕ) → Takes eol unread' most count len → (most - count ≡ 0 → drop len unread' ≡ [])
           → Reads eol limit start left' (drop len unread') (most - count) (text ++ take len unread')
       reads_more count len takes none = record {
-        read = subst (Consumes start left') (sym (append_assoc text (take len unread') (drop len unread') ∙ ap (λ l. text ++ l) (take-append-drop len unread'))) read_on;
+        read = subst (Consumes start left')
+            (sym (append_assoc text (take len unread') (drop len unread') ∙ ap (λ l. text ++ l) (take-append-drop len unread'))) read_on;
         whole = whole_both eol text (take len unread') reads.whole takes.whole;
-        counted = omega (arith, reads.counted, takes.few, takes.counted, ap length (reads.whole.splits (take len unread')), length-append (lines_by eol text) (lines_by eol (take len unread')));
+        counted = omega (
+          arith,
+          reads.counted,
+          takes.few,
+          takes.counted,
+          ap length (reads.whole.splits (take len unread')),
+          length-append (lines_by eol text) (lines_by eol (take len unread')),
+        );
         bare = elim (cases_lt count most) [
           | inl some ↦ takes.bare some
           | inr over ↦ bare_nothing eol (drop len unread') (none (omega (arith, over)))
@@ -260,7 +316,8 @@ module _ (eol : ℕ) where
 
         behind : (later : List ℕ) → (text ++ unread') ++ later ≡ (text ++ take len unread') ++ (drop len unread' ++ later)
         behind later =
-            append_assoc text unread' later ∙ ap (λ l. text ++ (l ++ later)) (sym (take-append-drop len unread')) ∙ ap (λ l. text ++ l) (append_assoc (take len unread') (drop len unread') later)
+            append_assoc text unread' later ∙ ap (λ l. text ++ (l ++ later)) (sym (take-append-drop len unread'))
+            ∙ ap (λ l. text ++ l) (append_assoc (take len unread') (drop len unread') later)
             ∙ sym (append_assoc text (take len unread') (drop len unread' ++ later))
 
         -- the lines that are taken now are the next
@@ -268,15 +325,19 @@ module _ (eol : ℕ) where
         more_first =
             let (later, all) = known start left' (text ++ unread') read_on in
             subst (BeginWith eol start) (reads.whole.splits (take len unread'))
-            (begins_whole start (text ++ take len unread') (drop len unread' ++ later) both_whole (on_some start _ _ (λ bytes is. is ∙ behind later) all))
+            (begins_whole start (text ++ take len unread') (drop len unread' ++ later) both_whole
+            (on_some start _ _ (λ bytes is. is ∙ behind later) all))
 
         -- where no more may be taken and bytes are left, there are more lines
-        pub more_left : most - count ≡ 0 → 0 < length (drop len unread') → (all : List (List ℕ)) × BeginWith eol start all × (limit < length all)
+        pub more_left : most - count ≡ 0 → 0 < length (drop len unread') → (all : List (List ℕ)) × BeginWith eol start all
+            × (limit < length all)
         more_left none some =
             let (later, all) = known start left' (text ++ unread') read_on in
-            let split : lines_by eol ((text ++ unread') ++ later) ≡ lines_by eol (text ++ take len unread') ++ lines_by eol (drop len unread' ++ later) =
+            let split : lines_by eol ((text ++ unread') ++ later) ≡ lines_by eol (text ++ take len unread') ++ lines_by eol
+            (drop len unread' ++ later) =
             ap (lines_by eol) (behind later) ∙ both_whole.splits (drop len unread' ++ later) in
-            let line : 0 < length (lines_by eol (drop len unread' ++ later)) = some_line eol (drop len unread' ++ later) (omega (arith, some, length-append (drop len unread') later)) in (
+            let line : 0 < length (lines_by eol (drop len unread' ++ later)) =
+            some_line eol (drop len unread' ++ later) (omega (arith, some, length-append (drop len unread') later)) in (
               lines_by eol ((text ++ unread') ++ later),
               begins_all start ((text ++ unread') ++ later) all,
               omega (
@@ -298,7 +359,13 @@ module _ (eol : ℕ) where
         takes_some came some = elim (cases_lt 0 count) [
           | inl taken ↦ taken
           | inr none ↦ (let nothing : len ≡ 0 = elim (cases_lt 0 len) [
-            | inl bytes ↦ absurd (omega (arith, none, takes.counted, some_line eol (take len unread') (omega (arith, bytes, length-take-le len unread' takes.within))))
+            | inl bytes ↦ absurd
+                (omega (
+                  arith,
+                  none,
+                  takes.counted,
+                  some_line eol (take len unread') (omega (arith, bytes, length-take-le len unread' takes.within)),
+                ))
             | inr no_bytes ↦ omega (arith, no_bytes)
           ] in
               absurd (came (subst (λ n. IsBare eol (drop n unread')) nothing (takes.bare (omega (arith, some, none))))))
@@ -309,10 +376,18 @@ module _ (eol : ℕ) where
         left_over came none = elim (cases_lt 0 (length (drop len unread'))) [
           | inl some ↦ some
           | inr over ↦ (let nothing : len ≡ 0 = elim (cases_lt 0 len) [
-            | inl bytes ↦ absurd (omega (arith, none, takes.few, takes.counted, some_line eol (take len unread') (omega (arith, bytes, length-take-le len unread' takes.within))))
+            | inl bytes ↦ absurd
+                (omega (
+                  arith,
+                  none,
+                  takes.few,
+                  takes.counted,
+                  some_line eol (take len unread') (omega (arith, bytes, length-take-le len unread' takes.within)),
+                ))
             | inr no_bytes ↦ omega (arith, no_bytes)
           ] in
-              absurd (came (bare_nothing eol unread' (nil_from_length unread' (omega (arith, ap (λ n. length (drop n unread')) nothing, over))))))
+              absurd (came (bare_nothing eol unread'
+              (nil_from_length unread' (omega (arith, ap (λ n. length (drop n unread')) nothing, over))))))
         ]
 
         -- where the reading goes on, a line could be taken
@@ -323,8 +398,11 @@ module _ (eol : ℕ) where
         ]
 
       -- how an input is left whose last line is taken
-      pub ends_left : IsAtEnd left' → (output : List (List ℕ) → List ℕ) (a b c : List (List ℕ) → Type 0) (w w' w'' : Option (List ℕ)) (most' : ℕ) → LeadsOn output a b (lines_by eol text) w w'
-          → (how : Left) → EndsInput output b c (lines_by eol unread') most most' w' w'' how → LeavesInput output a c eol limit most' start left' w w'' how
+      pub ends_left : IsAtEnd left'
+          → (output : List (List ℕ) → List ℕ) (a b c : List (List ℕ) → Type 0) (w w' w'' : Option (List ℕ)) (most' : ℕ)
+          → LeadsOn output a b (lines_by eol text) w w'
+          → (how : Left) → EndsInput output b c (lines_by eol unread') most most' w' w'' how
+          → LeavesInput output a c eol limit most' start left' w w'' how
       ends_left ended output a b c w w' w'' most' leads Done (more, counted) = (
         lines_by eol text ++ lines_by eol unread',
         read_to_end ended,

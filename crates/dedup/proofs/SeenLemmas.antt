@@ -17,7 +17,8 @@ use Rattle.dedup.proofs.LineLemmas.{once_more}
 use Rattle.hash_texts.specs.Texts.{has, with_text}
 
 -- a text that is seen adds nothing
-pub has_already : (seen : List (List ℕ)) (text : List ℕ) → has seen text ≡ true → (other : List ℕ) → has seen other ≡ (bytes_eq other text || has seen other)
+pub has_already : (seen : List (List ℕ)) (text : List ℕ) → has seen text ≡ true → (other : List ℕ)
+    → has seen other ≡ (bytes_eq other text || has seen other)
 has_already seen text there other = at (bytes_eq other text) refl
   where
     at : (b : Bool) → bytes_eq other text ≡ b → has seen other ≡ (b || has seen other)
@@ -25,7 +26,8 @@ has_already seen text there other = at (bytes_eq other text) refl
     at false same = refl
 
 -- a set has the text that it saw, and those that it had
-pub has_seen : (seen seen' : List (List ℕ)) (text : List ℕ) → seen' ≡ with_text seen text → (other : List ℕ) → has seen' other ≡ (bytes_eq other text || has seen other)
+pub has_seen : (seen seen' : List (List ℕ)) (text : List ℕ) → seen' ≡ with_text seen text → (other : List ℕ)
+    → has seen' other ≡ (bytes_eq other text || has seen other)
 has_seen seen seen' text is other = ap (λ s. has s other) is ∙ at (has seen text) refl
   where
     swapped : (a b : Bool) → (a || (b || false)) ≡ (b || a)
@@ -49,19 +51,28 @@ is_there false new is told = absurd (false≢true (sym told ∙ is))
 
 module _ (eol : ℕ) (seen : List (List ℕ)) (line : List ℕ) where
   -- what is written of a line behind lines with these texts
-  adds : (ls : List (List ℕ)) → AreSeen eol ls seen → once_by eol (ls ++ line ∷ []) ≡ once_by eol ls ++ (if has seen (strip_last eol line) then [] else as_line_by eol line)
-  adds ls before = once_more eol ls line ∙ ap (λ b. once_by eol ls ++ (if b then [] else as_line_by eol line)) (sym (before (strip_last eol line)))
+  adds : (ls : List (List ℕ)) → AreSeen eol ls seen
+      → once_by eol (ls ++ line ∷ []) ≡ once_by eol ls ++ (if has seen (strip_last eol line) then [] else as_line_by eol line)
+  adds ls before = once_more eol ls line
+      ∙ ap (λ b. once_by eol ls ++ (if b then [] else as_line_by eol line)) (sym (before (strip_last eol line)))
 
   -- of a line whose text is new all is written, and its end
-  pub adds_new : (ls : List (List ℕ)) → AreSeen eol ls seen → true ≡ not (has seen (strip_last eol line)) → once_by eol (ls ++ line ∷ []) ≡ once_by eol ls ++ as_line_by eol line
-  adds_new ls before new = adds ls before ∙ ap (λ b. once_by eol ls ++ (if b then [] else as_line_by eol line)) (not_there (has seen (strip_last eol line)) true new refl)
+  pub adds_new : (ls : List (List ℕ)) → AreSeen eol ls seen → true ≡ not (has seen (strip_last eol line))
+      → once_by eol (ls ++ line ∷ []) ≡ once_by eol ls ++ as_line_by eol line
+  adds_new ls before new =
+      adds ls before ∙ ap (λ b. once_by eol ls ++ (if b then [] else as_line_by eol line))
+      (not_there (has seen (strip_last eol line)) true new refl)
 
   -- of a line whose text is there nothing is written
-  pub adds_nothing : (ls : List (List ℕ)) → AreSeen eol ls seen → false ≡ not (has seen (strip_last eol line)) → once_by eol (ls ++ line ∷ []) ≡ once_by eol ls ++ []
-  adds_nothing ls before old = adds ls before ∙ ap (λ b. once_by eol ls ++ (if b then [] else as_line_by eol line)) (is_there (has seen (strip_last eol line)) false old refl)
+  pub adds_nothing : (ls : List (List ℕ)) → AreSeen eol ls seen → false ≡ not (has seen (strip_last eol line))
+      → once_by eol (ls ++ line ∷ []) ≡ once_by eol ls ++ []
+  adds_nothing ls before old =
+      adds ls before ∙ ap (λ b. once_by eol ls ++ (if b then [] else as_line_by eol line))
+      (is_there (has seen (strip_last eol line)) false old refl)
 
   -- the text of the line is among those that are seen then
-  pub seen_more : (seen' : List (List ℕ)) → seen' ≡ with_text seen (strip_last eol line) → (ls : List (List ℕ)) → AreSeen eol ls seen → AreSeen eol (ls ++ line ∷ []) seen'
+  pub seen_more : (seen' : List (List ℕ)) → seen' ≡ with_text seen (strip_last eol line) → (ls : List (List ℕ)) → AreSeen eol ls seen
+      → AreSeen eol (ls ++ line ∷ []) seen'
   seen_more seen' is ls before = λ other.
       has_seen seen seen' (strip_last eol line) is other ∙ ap (λ b. bytes_eq other (strip_last eol line) || b) (before other)
       ∙ or_last (bytes_eq other (strip_last eol line)) (list_any (λ l. bytes_eq other (strip_last eol l)) ls)
@@ -74,15 +85,18 @@ module _ (eol : ℕ) (seen : List (List ℕ)) (line : List ℕ) where
       or_last false false = refl
 
   -- a line is taken by a set that has its text then, and what is due of it is written
-  pub takes_line : (seen' : List (List ℕ)) → seen' ≡ with_text seen (strip_last eol line) → (due : List ℕ) → ((ls : List (List ℕ)) → AreSeen eol ls seen → once_by eol (ls ++ line ∷ []) ≡ once_by eol ls ++ due)
-      → (w w' : Option (List ℕ)) → Appends w w' due → LeadsOn (once_by eol) (λ ls. AreSeen eol ls seen) (λ ls. AreSeen eol ls seen') (line ∷ []) w w'
+  pub takes_line : (seen' : List (List ℕ)) → seen' ≡ with_text seen (strip_last eol line) → (due : List ℕ)
+      → ((ls : List (List ℕ)) → AreSeen eol ls seen → once_by eol (ls ++ line ∷ []) ≡ once_by eol ls ++ due)
+      → (w w' : Option (List ℕ)) → Appends w w' due
+      → LeadsOn (once_by eol) (λ ls. AreSeen eol ls seen) (λ ls. AreSeen eol ls seen') (line ∷ []) w w'
   takes_line seen' is due adds_due w w' appends = record {
     stands = λ ls before. seen_more seen' is ls before;
     writes = λ ls start before written. subst (Appends start w') (sym (adds_due ls before)) (Appends-trans _ _ _ _ _ written appends);
   }
 
   -- a fault within a new line
-  pub stops_in_line : true ≡ not (has seen (strip_last eol line)) → (w w' : Option (List ℕ)) → AppendsPart w w' (as_line_by eol line) → StopsWithin (once_by eol) (λ ls. AreSeen eol ls seen) (line ∷ []) w w'
+  pub stops_in_line : true ≡ not (has seen (strip_last eol line)) → (w w' : Option (List ℕ)) → AppendsPart w w' (as_line_by eol line)
+      → StopsWithin (once_by eol) (λ ls. AreSeen eol ls seen) (line ∷ []) w w'
   stops_in_line new w w' (part, rest, is, appends) = λ ls start before written. (
     once_by eol ls ++ part,
     rest,

@@ -34,22 +34,3 @@ each_once_by eol text = once_by eol (lines_by eol text)
 -- these texts are those of the lines
 abbrev pub AreSeen : (eol : ℕ) → List (List ℕ) → (seen : List (List ℕ)) → Type 0
 AreSeen eol ls seen = (other : List ℕ) → has seen other ≡ list_any (λ line. bytes_eq other (strip_last eol line)) ls
-
--- the same of lines that end with a newline
-abbrev pub lines : List ℕ → List (List ℕ)
-lines = lines_by 10
-
-abbrev pub same_text : List ℕ → List ℕ → Bool
-same_text = same_text_by 10
-
-abbrev pub firsts : List (List ℕ) → List (List ℕ)
-firsts = firsts_by 10
-
-abbrev pub as_line : List ℕ → List ℕ
-as_line = as_line_by 10
-
-abbrev pub once : List (List ℕ) → List ℕ
-once = once_by 10
-
-abbrev pub each_once : List ℕ → List ℕ
-each_once = each_once_by 10

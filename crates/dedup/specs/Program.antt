@@ -37,12 +37,14 @@ eol_of words = if given (Some 122) (codes "zero-terminated") words then 0 else 1
 
 -- each line once, unless some of the counted ones are asked for
 abbrev pub work_of : List (List ℕ) → Task
-work_of words = if (which_of words).counts || (which_of words).repeated || (which_of words).unique then Tallied (which_of words) (eol_of words) else Once (eol_of words)
+work_of words = if (which_of words).counts || (which_of words).repeated || (which_of words).unique then Tallied (which_of words)
+    (eol_of words) else Once (eol_of words)
 
 -- what words ask for that give these unknown options
 abbrev pub asked : (wrong words : List (List ℕ)) → Option Task
 asked (word ∷ more) words = None
-asked [] words = if given None (codes "help") words then Some Help else if given None (codes "version") words then Some Version else Some (work_of words)
+asked [] words = if given None (codes "help") words then Some Help else if given None (codes "version") words then Some Version else Some
+    (work_of words)
 
 -- what the words behind the program's own name ask for
 abbrev pub task_of : List (List ℕ) → Option Task
@@ -67,7 +69,8 @@ of_telling (Err fault) = Failed fault
 
 -- nothing is read, and the text is written
 abbrev pub EndsTelling : (text : List ℕ) → Run → Outcome → Type 0
-EndsTelling text run result = (run.left' ≡ run.left) × (told : Result (Unit {0}) Fault) × Tells text run.written run.written' told × (result ≡ of_telling told)
+EndsTelling text run result =
+    (run.left' ≡ run.left) × (told : Result (Unit {0}) Fault) × Tells text run.written run.written' told × (result ≡ of_telling told)
 
 -- how a run ends that is to write what `output` makes of the lines of its inputs, of at most so many
 abbrev pub EndsRun : (output : List (List ℕ) → List ℕ) (eol limit : ℕ) → Run → Outcome → Type 0

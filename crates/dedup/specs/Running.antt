@@ -15,7 +15,8 @@ pub record Run : Type 0 where
   pub written : Option (List ℕ)
   pub written' : Option (List ℕ)
 
-abbrev pub run_of : {R W : Type 0} (remaining : R → Option (List ℕ)) (inputs inputs' : List R) (contents : W → Option (List ℕ)) (w w' : W) → Run
+abbrev pub run_of : {R W : Type 0} (remaining : R → Option (List ℕ)) (inputs inputs' : List R) (contents : W → Option (List ℕ)) (w w' : W)
+    → Run
 run_of remaining inputs inputs' contents w w' = record {
   left = map remaining inputs;
   left' = map remaining inputs';
@@ -51,15 +52,18 @@ abbrev pub IsBeyond : (eol limit : ℕ) → Run → Type 0
 IsBeyond eol limit run = (ls : List (List ℕ)) × AllBeginWith eol run.left ls × (limit < length ls)
 
 -- what is due of all lines of the inputs was written, and so it stands once they are taken
-abbrev pub WritesAll : (output : List (List ℕ) → List ℕ) (after : List (List ℕ) → Type 0) (eol : ℕ) (ended : Bool) (limit : ℕ) → Run → Type 0
-WritesAll output after eol ended limit run = (ls : List (List ℕ)) × IsWithin eol ended limit run ls × Appends run.written run.written' (output ls) × after ls
+abbrev pub WritesAll : (output : List (List ℕ) → List ℕ) (after : List (List ℕ) → Type 0) (eol : ℕ) (ended : Bool) (limit : ℕ) → Run
+    → Type 0
+WritesAll output after eol ended limit run =
+    (ls : List (List ℕ)) × IsWithin eol ended limit run ls × Appends run.written run.written' (output ls) × after ls
 
 -- a beginning of what is due of the first lines of the inputs was written
 abbrev pub WritesPart : (output : List (List ℕ) → List ℕ) (eol : ℕ) → Run → Type 0
 WritesPart output eol run = (ls : List (List ℕ)) × AllBeginWith eol run.left ls × AppendsPart run.written run.written' (output ls)
 
 -- how a run ends that writes what `output` makes of the lines of its inputs, of at most so many
-abbrev pub EndsTaking : (output : List (List ℕ) → List ℕ) (after : List (List ℕ) → Type 0) (eol limit : ℕ) → Run → Result Ended Fault → Type 0
+abbrev pub EndsTaking : (output : List (List ℕ) → List ℕ) (after : List (List ℕ) → Type 0) (eol limit : ℕ) → Run → Result Ended Fault
+    → Type 0
 EndsTaking output after eol limit run (Ok Whole) = WritesAll output after eol true limit run
 EndsTaking output after eol limit run (Ok InputFailed) = WritesAll output after eol false limit run
 EndsTaking output after eol limit run (Ok TooManyLines) = WritesPart output eol run × IsBeyond eol limit run

@@ -2,7 +2,7 @@
 use Rattle.std.specs.Prelude.{ℕ, ◌&&◌, not, ◌≡◌, ◌==◌, ◌-◌, ◌++◌, Bool, if◌then◌else◌, nat_lt, List, [], ◌∷◌, length, map, decimal}
 use Rattle.std.specs.Io.BufRead.{strip_last}
 use Rattle.std.specs.List.{count_by, flat_map, repeat}
-use Rattle.dedup.specs.Lines.{lines_by, same_text_by, firsts_by}
+use Rattle.dedup.specs.Lines.{same_text_by, firsts_by}
 use Rattle.dedup.specs.declared.tally.Which.{Which}
 
 -- a number on the right of a column of seven, and a space
@@ -24,10 +24,6 @@ shown_line eol which ls line = shown eol which (count_by (same_text_by eol line)
 -- what is written of lines: those that came more than once, or once, or all, with how often they came or without, in the order in which they came first
 abbrev pub told : (eol : ℕ) → Which → List (List ℕ) → List ℕ
 told eol which ls = flat_map (shown_line eol which ls) (firsts_by eol ls)
-
--- the same of the lines of a text
-abbrev pub tallied : (eol : ℕ) → Which → List ℕ → List ℕ
-tallied eol which text = told eol which (lines_by eol text)
 
 -- the texts of lines, each once
 abbrev pub texts : (eol : ℕ) → List (List ℕ) → List (List ℕ)

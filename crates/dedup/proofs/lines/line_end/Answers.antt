@@ -9,12 +9,14 @@ returns-then-before-lt16 c =
     let at : ℕ = c.loop-at.at in
     let n : ℕ = c.before_end-before.result in
     let room : at + 16 ≤ length bytes = omega arith in
-    let is = eqb-true _ c.args.eol (run_in_chunk_stops (λ byte. byte == c.args.eol) bytes at 16 n 0 room c.before_end-before.ensures c.if-before-lt16.true) in (
+    let is = eqb-true _ c.args.eol
+    (run_in_chunk_stops (λ byte. byte == c.args.eol) bytes at 16 n 0 room c.before_end-before.ensures c.if-before-lt16.true) in (
       omega arith,
       is,
       λ k below. elim (cases_lt k at) [
         | inl early ↦ c.loop-at.invariant.1 k early
-        | inr late ↦ eqb-false _ c.args.eol (run_in_chunk_fails (λ byte. byte == c.args.eol) bytes at 16 n 0 room c.before_end-before.ensures k late below)
+        | inr late ↦ eqb-false _ c.args.eol
+            (run_in_chunk_fails (λ byte. byte == c.args.eol) bytes at 16 n 0 room c.before_end-before.ensures k late below)
       ],
     )
 
@@ -27,6 +29,7 @@ loop-at-preserved c =
       room,
       λ k below. elim (cases_lt k at) [
         | inl early ↦ c.loop-at.invariant.1 k early
-        | inr late ↦ eqb-false _ c.args.eol (run_in_chunk_fails (λ byte. byte == c.args.eol) bytes at 16 n 0 room c.before_end-before.ensures k late (omega arith))
+        | inr late ↦ eqb-false _ c.args.eol
+            (run_in_chunk_fails (λ byte. byte == c.args.eol) bytes at 16 n 0 room c.before_end-before.ensures k late (omega arith))
       ],
     )

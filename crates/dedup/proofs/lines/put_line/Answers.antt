@@ -15,14 +15,20 @@ returns-then-text_of-line-clause-err g c =
 
 pub returns-in_err-put-clause-err : goal.returns-in_err-put-clause-err
 returns-in_err-put-clause-err g c =
-    let same = line_without_end c.args.eol c.args.line.now (subst (λ text. length c.args.line.now ≤ length text) c.text_of.ensures (omega (arith, c.if-text_of-line.false))) in
+    let same = line_without_end c.args.eol c.args.line.now
+    (subst (λ text. length c.args.line.now ≤ length text) c.text_of.ensures (omega (arith, c.if-text_of-line.false))) in
     let (part, rest, is, written) = c.in_err-put.ensures.err in
-    on_err _ c.from_residual.result
-    (part, rest ++ c.args.eol ∷ [], sym (append_assoc part rest (c.args.eol ∷ [])) ∙ ap (λ l. l ++ c.args.eol ∷ []) (is ∙ sym same), written)
+    on_err _ c.from_residual.result (
+      part,
+      rest ++ c.args.eol ∷ [],
+      sym (append_assoc part rest (c.args.eol ∷ [])) ∙ ap (λ l. l ++ c.args.eol ∷ []) (is ∙ sym same),
+      written,
+    )
 
 pub returns-clause-ok : goal.returns-clause-ok
 returns-clause-ok g c =
-    let same = line_without_end c.args.eol c.args.line.now (subst (λ text. length c.args.line.now ≤ length text) c.text_of.ensures (omega (arith, c.if-text_of-line.false))) in
+    let same = line_without_end c.args.eol c.args.line.now
+    (subst (λ text. length c.args.line.now ≤ length text) c.text_of.ensures (omega (arith, c.if-text_of-line.false))) in
     on_ok_weaker c.put-3.result
     (λ end. subst (Appends (g.W.Write.contents c.args.w.now) (g.W.Write.contents c.put-3.new.w)) (ap (λ l. l ++ c.args.eol ∷ []) (sym same))
     (Appends-trans _ _ _ _ _ c.in_ok-put.ensures.ok end))
@@ -30,7 +36,8 @@ returns-clause-ok g c =
 
 pub returns-clause-err : goal.returns-clause-err
 returns-clause-err g c =
-    let same = line_without_end c.args.eol c.args.line.now (subst (λ text. length c.args.line.now ≤ length text) c.text_of.ensures (omega (arith, c.if-text_of-line.false))) in
+    let same = line_without_end c.args.eol c.args.line.now
+    (subst (λ text. length c.args.line.now ≤ length text) c.text_of.ensures (omega (arith, c.if-text_of-line.false))) in
     on_err_weaker c.put-3.result
     (λ begun. (
       c.args.line.now ++ begun.0,

@@ -24,13 +24,17 @@ loop-count-preserved g c =
     let later : List ℕ = c.split_at.result.1.now in
     let rest : List ℕ = c.loop-count.rest.now in
     let n : ℕ = c.in-Some.n in
-    let (stops, some, ended) = subst (λ l. StopsAt l c.args.eol × (0 < length l) × (ends_with_byte c.args.eol l ≡ true)) (sym c.split_at.ensures.front) (line_through c.args.eol rest n c.in-Some.ensures) in
+    let (stops, some, ended) =
+    subst (λ l. StopsAt l c.args.eol × (0 < length l) × (ends_with_byte c.args.eol l ≡ true)) (sym c.split_at.ensures.front)
+    (line_through c.args.eol rest n c.in-Some.ensures) in
     let more = lines_more c.args.eol part line whole stops some in (
       part ++ line,
-      append_assoc part line later ∙ ap (λ l. part ++ l) (together line later rest (n + 1) c.split_at.ensures.front c.split_at.ensures.back) ∙ is,
+      append_assoc part line later
+          ∙ ap (λ l. part ++ l) (together line later rest (n + 1) c.split_at.ensures.front c.split_at.ensures.back) ∙ is,
       whole_both c.args.eol part line whole (whole_line c.args.eol line stops some ended),
       counted_more c.args.eol part line c.loop-count.count more counted,
-      subst (λ ls. LeadsOn (g.T.LineTask.output c.args.eol) (λ l. g.T.LineTask.taken c.args.eol l c.args.task.now) (λ l. g.T.LineTask.taken c.args.eol l c.take_line.new.self) ls
+      subst (λ ls. LeadsOn (g.T.LineTask.output c.args.eol) (λ l. g.T.LineTask.taken c.args.eol l c.args.task.now)
+          (λ l. g.T.LineTask.taken c.args.eol l c.take_line.new.self) ls
           (g.W.Write.contents c.args.w.now) (g.W.Write.contents c.take_line.new.w)) (sym more)
           (leads_both (g.T.LineTask.output c.args.eol) _ _ _ _ _ _ _ _ leads c.in_ok-take_line-in-Some.ensures.ok),
     )
@@ -42,32 +46,43 @@ returns-in_err-take_line-in-Some-clause-broke g c =
     let later : List ℕ = c.split_at.result.1.now in
     let rest : List ℕ = c.loop-count.rest.now in
     let n : ℕ = c.in-Some.n in
-    let (stops, some, ended) = subst (λ l. StopsAt l c.args.eol × (0 < length l) × (ends_with_byte c.args.eol l ≡ true)) (sym c.split_at.ensures.front) (line_through c.args.eol rest n c.in-Some.ensures) in
-    let all : part ++ (line ++ later) ≡ c.args.bytes.now = ap (λ l. part ++ l) (together line later rest (n + 1) c.split_at.ensures.front c.split_at.ensures.back) ∙ is in
+    let (stops, some, ended) =
+    subst (λ l. StopsAt l c.args.eol × (0 < length l) × (ends_with_byte c.args.eol l ≡ true)) (sym c.split_at.ensures.front)
+    (line_through c.args.eol rest n c.in-Some.ensures) in
+    let all : part ++ (line ++ later) ≡ c.args.bytes.now =
+    ap (λ l. part ++ l) (together line later rest (n + 1) c.split_at.ensures.front c.split_at.ensures.back) ∙ is in
     on_err _ c.from_residual.result
-    (subst (λ l. BreaksOff (g.T.LineTask.output c.args.eol) (λ ls. g.T.LineTask.taken c.args.eol ls c.args.task.now) c.args.eol l (g.W.Write.contents c.args.w.now) (g.W.Write.contents c.take_line.new.w)) all
-    (breaks_at_line c.args.eol (g.T.LineTask.output c.args.eol) c.requires.grows _ _ _ _ _ part line later whole (whole_line c.args.eol line stops some ended)
+    (subst (λ l. BreaksOff (g.T.LineTask.output c.args.eol) (λ ls. g.T.LineTask.taken c.args.eol ls c.args.task.now) c.args.eol l
+    (g.W.Write.contents c.args.w.now) (g.W.Write.contents c.take_line.new.w)) all
+    (breaks_at_line c.args.eol (g.T.LineTask.output c.args.eol) c.requires.grows _ _ _ _ _ part line later whole
+    (whole_line c.args.eol line stops some ended)
     (one_line c.args.eol line stops some) leads c.in_err-take_line-in-Some.ensures.err))
 
 pub returns-in-None-clause-takes : goal.returns-in-None-clause-takes
 returns-in-None-clause-takes g c =
     let (part, is, whole, counted, leads) = c.loop-count.invariant in
-    takes_so_far c.args.eol part c.loop-count.rest.now c.args.bytes.now c.args.most c.loop-count.count is whole counted (omega arith) (λ below. c.in-None.ensures)
+    takes_so_far c.args.eol part c.loop-count.rest.now c.args.bytes.now c.args.most c.loop-count.count is whole counted (omega arith)
+    (λ below. c.in-None.ensures)
 
 pub returns-in-None-clause-led : goal.returns-in-None-clause-led
 returns-in-None-clause-led g c =
     let (part, is, whole, counted, leads) = c.loop-count.invariant in
-    subst (λ text. LeadsOn (g.T.LineTask.output c.args.eol) (λ l. g.T.LineTask.taken c.args.eol l c.args.task.now) (λ l. g.T.LineTask.taken c.args.eol l c.loop-count.task) (lines_by c.args.eol text)
-    (g.W.Write.contents c.args.w.now) (g.W.Write.contents c.loop-count.w)) (sym (front_is part c.loop-count.rest.now c.args.bytes.now is)) leads
+    subst (λ text. LeadsOn (g.T.LineTask.output c.args.eol) (λ l. g.T.LineTask.taken c.args.eol l c.args.task.now)
+    (λ l. g.T.LineTask.taken c.args.eol l c.loop-count.task) (lines_by c.args.eol text)
+    (g.W.Write.contents c.args.w.now) (g.W.Write.contents c.loop-count.w))
+    (sym (front_is part c.loop-count.rest.now c.args.bytes.now is)) leads
 
 pub returns-clause-takes : goal.returns-clause-takes
 returns-clause-takes g c =
     let (part, is, whole, counted, leads) = c.loop-count.invariant in
     let all : c.loop-count.count ≡ c.args.most = omega arith in
-    takes_so_far c.args.eol part c.loop-count.rest.now c.args.bytes.now c.args.most c.args.most is whole (sym all ∙ counted) (omega arith) (λ below. absurd (omega (arith, below)))
+    takes_so_far c.args.eol part c.loop-count.rest.now c.args.bytes.now c.args.most c.args.most is whole (sym all ∙ counted) (omega arith)
+    (λ below. absurd (omega (arith, below)))
 
 pub returns-clause-led : goal.returns-clause-led
 returns-clause-led g c =
     let (part, is, whole, counted, leads) = c.loop-count.invariant in
-    subst (λ text. LeadsOn (g.T.LineTask.output c.args.eol) (λ l. g.T.LineTask.taken c.args.eol l c.args.task.now) (λ l. g.T.LineTask.taken c.args.eol l c.loop-count.task) (lines_by c.args.eol text)
-    (g.W.Write.contents c.args.w.now) (g.W.Write.contents c.loop-count.w)) (sym (front_is part c.loop-count.rest.now c.args.bytes.now is)) leads
+    subst (λ text. LeadsOn (g.T.LineTask.output c.args.eol) (λ l. g.T.LineTask.taken c.args.eol l c.args.task.now)
+    (λ l. g.T.LineTask.taken c.args.eol l c.loop-count.task) (lines_by c.args.eol text)
+    (g.W.Write.contents c.args.w.now) (g.W.Write.contents c.loop-count.w))
+    (sym (front_is part c.loop-count.rest.now c.args.bytes.now is)) leads

@@ -13,13 +13,15 @@ returns-in_err-fill-clause-broke g c =
     let (text, reads, leads, flushed) = c.loop-task.invariant in
     let output = g.T.LineTask.output c.args.eol in
     on_err _ c.from_residual.result
-    (breaks_at c.args.eol output _ _ _ _ (lines_by c.args.eol text) (taken_first c.args.eol _ _ _ _ _ text reads) (stops_after output _ _ _ _ _ _ leads (Keeps-refl _)))
+    (breaks_at c.args.eol output _ _ _ _ (lines_by c.args.eol text) (taken_first c.args.eol _ _ _ _ _ text reads)
+    (stops_after output _ _ _ _ _ _ leads (Keeps-refl _)))
 
 pub returns-in_err-count-in-Line-clause-broke : goal.returns-in_err-count-in-Line-clause-broke
 returns-in_err-count-in-Line-clause-broke g c =
     let (text, reads, leads, flushed) = c.loop-task.invariant in
     let output = g.T.LineTask.output c.args.eol in
-    let breaks = subst (λ l. BreaksOff output (λ ls. g.T.LineTask.taken c.args.eol ls c.loop-task.task) c.args.eol l (writer_contents g.W.Write.contents c.loop-task.w) (writer_contents g.W.Write.contents c.take_lines.new.w))
+    let breaks = subst (λ l. BreaksOff output (λ ls. g.T.LineTask.taken c.args.eol ls c.loop-task.task) c.args.eol l
+    (writer_contents g.W.Write.contents c.loop-task.w) (writer_contents g.W.Write.contents c.take_lines.new.w))
     c.bytes.ensures c.in_err-count-in-Line.ensures.broke in
     on_err _ c.from_residual-in_err-count-in-Line.result
     (breaks_among c.args.eol _ _ _ _ _ text reads _ _ _ c.in_ok-fill.ensures output _ _ _ _ _ leads breaks)
@@ -31,8 +33,10 @@ returns-in_err-finish-in-Line-clause-broke g c =
     let count : ℕ = c.in_ok-count-in-Line.count in
     let len : ℕ = c.in_ok-count-in-Line.len in
     let takes = subst (λ l. Takes c.args.eol l c.loop-task.most count len) c.bytes.ensures c.in_ok-count-in-Line.ensures.takes in
-    let led = subst (λ l. LeadsOn output (λ ls. g.T.LineTask.taken c.args.eol ls c.loop-task.task) (λ ls. g.T.LineTask.taken c.args.eol ls c.take_lines.new.task) (lines_by c.args.eol (take len l))
-    (writer_contents g.W.Write.contents c.loop-task.w) (writer_contents g.W.Write.contents c.take_lines.new.w)) c.bytes.ensures c.in_ok-count-in-Line.ensures.led in
+    let led = subst (λ l. LeadsOn output (λ ls. g.T.LineTask.taken c.args.eol ls c.loop-task.task)
+    (λ ls. g.T.LineTask.taken c.args.eol ls c.take_lines.new.task) (lines_by c.args.eol (take len l))
+    (writer_contents g.W.Write.contents c.loop-task.w)
+    (writer_contents g.W.Write.contents c.take_lines.new.w)) c.bytes.ensures c.in_ok-count-in-Line.ensures.led in
     on_err _ c.from_residual-in_err-finish-in-Line.result
     (breaks_at c.args.eol output _ _ _ _ _ (more_first c.args.eol _ _ _ _ _ text reads _ _ _ c.in_ok-fill.ensures count len takes)
     (stops_after output _ _ _ _ _ _ (leads_both output _ _ _ _ _ _ _ _ leads led) c.finish.ensures.kept))
@@ -44,9 +48,12 @@ returns-then-is_beyond-clause-left g c =
     let count : ℕ = c.in_ok-count-in-Line.count in
     let len : ℕ = c.in_ok-count-in-Line.len in
     let takes = subst (λ l. Takes c.args.eol l c.loop-task.most count len) c.bytes.ensures c.in_ok-count-in-Line.ensures.takes in
-    let led = subst (λ l. LeadsOn output (λ ls. g.T.LineTask.taken c.args.eol ls c.loop-task.task) (λ ls. g.T.LineTask.taken c.args.eol ls c.take_lines.new.task) (lines_by c.args.eol (take len l))
-    (writer_contents g.W.Write.contents c.loop-task.w) (writer_contents g.W.Write.contents c.take_lines.new.w)) c.bytes.ensures c.in_ok-count-in-Line.ensures.led in
-    let (all, begins, over) = more_left c.args.eol _ _ _ _ _ text reads _ _ _ c.in_ok-fill.ensures count len takes (c.if-is_beyond.ensures.beyond refl).0
+    let led = subst (λ l. LeadsOn output (λ ls. g.T.LineTask.taken c.args.eol ls c.loop-task.task)
+    (λ ls. g.T.LineTask.taken c.args.eol ls c.take_lines.new.task) (lines_by c.args.eol (take len l))
+    (writer_contents g.W.Write.contents c.loop-task.w)
+    (writer_contents g.W.Write.contents c.take_lines.new.w)) c.bytes.ensures c.in_ok-count-in-Line.ensures.led in
+    let (all, begins, over) =
+    more_left c.args.eol _ _ _ _ _ text reads _ _ _ c.in_ok-fill.ensures count len takes (c.if-is_beyond.ensures.beyond refl).0
     (subst (λ l. 0 < length l) c.pass.ensures (c.if-is_beyond.ensures.beyond refl).1) in (
       _,
       all,
@@ -61,9 +68,11 @@ loop-task-smaller g c =
     let (text, reads, leads, flushed) = c.loop-task.invariant in
     let count : ℕ = c.in_ok-count-in-Line.count in
     let len : ℕ = c.in_ok-count-in-Line.len in
-    let came = subst (HasCome c.args.eol c.in_ok-fill.ensures.text c.fill.new.self (g.R.Read.remaining c.fill.new.r)) c.in-Line.is c.in_ok-fill.ensures.has_come in
+    let came = subst (HasCome c.args.eol c.in_ok-fill.ensures.text c.fill.new.self
+    (g.R.Read.remaining c.fill.new.r)) c.in-Line.is c.in_ok-fill.ensures.has_come in
     let takes = subst (λ l. Takes c.args.eol l c.loop-task.most count len) c.bytes.ensures c.in_ok-count-in-Line.ensures.takes in
-    let none : c.loop-task.most - count ≡ 0 → drop len c.fill.new.self ≡ [] = λ zero. sym c.pass.ensures ∙ c.if-is_beyond.ensures.within refl zero in
+    let none : c.loop-task.most - count ≡ 0 → drop len c.fill.new.self ≡ [] =
+    λ zero. sym c.pass.ensures ∙ c.if-is_beyond.ensures.within refl zero in
     let some = some_most c.args.eol _ _ _ _ _ text reads _ _ _ c.in_ok-fill.ensures count len takes came none in
     omega (arith, some, takes_some c.args.eol _ _ _ _ _ text reads _ _ _ c.in_ok-fill.ensures count len takes came some)
 
@@ -74,14 +83,20 @@ loop-task-preserved g c =
     let count : ℕ = c.in_ok-count-in-Line.count in
     let len : ℕ = c.in_ok-count-in-Line.len in
     let takes = subst (λ l. Takes c.args.eol l c.loop-task.most count len) c.bytes.ensures c.in_ok-count-in-Line.ensures.takes in
-    let led = subst (λ l. LeadsOn output (λ ls. g.T.LineTask.taken c.args.eol ls c.loop-task.task) (λ ls. g.T.LineTask.taken c.args.eol ls c.take_lines.new.task) (lines_by c.args.eol (take len l))
-    (writer_contents g.W.Write.contents c.loop-task.w) (writer_contents g.W.Write.contents c.take_lines.new.w)) c.bytes.ensures c.in_ok-count-in-Line.ensures.led in
-    let none : c.loop-task.most - count ≡ 0 → drop len c.fill.new.self ≡ [] = λ zero. sym c.pass.ensures ∙ c.if-is_beyond.ensures.within refl zero in
+    let led = subst (λ l. LeadsOn output (λ ls. g.T.LineTask.taken c.args.eol ls c.loop-task.task)
+    (λ ls. g.T.LineTask.taken c.args.eol ls c.take_lines.new.task) (lines_by c.args.eol (take len l))
+    (writer_contents g.W.Write.contents c.loop-task.w)
+    (writer_contents g.W.Write.contents c.take_lines.new.w)) c.bytes.ensures c.in_ok-count-in-Line.ensures.led in
+    let none : c.loop-task.most - count ≡ 0 → drop len c.fill.new.self ≡ [] =
+    λ zero. sym c.pass.ensures ∙ c.if-is_beyond.ensures.within refl zero in
     let reads_on = reads_more c.args.eol _ _ _ _ _ text reads _ _ _ c.in_ok-fill.ensures count len takes none in (
       text ++ take len c.fill.new.self,
-      subst (λ u. Reads c.args.eol c.args.most.now (g.R.Read.remaining c.args.r.now) (g.R.Read.remaining c.fill.new.r) u (c.loop-task.most - count) (text ++ take len c.fill.new.self)) (sym c.pass.ensures) reads_on,
-      subst (λ ls. LeadsOn output (λ l. g.T.LineTask.taken c.args.eol l c.args.task.now) (λ l. g.T.LineTask.taken c.args.eol l c.take_lines.new.task) ls
-          (writer_contents g.W.Write.contents c.args.w.now) (writer_contents g.W.Write.contents c.finish.new.w)) (sym (reads.whole.splits (take len c.fill.new.self)))
+      subst (λ u. Reads c.args.eol c.args.most.now (g.R.Read.remaining c.args.r.now) (g.R.Read.remaining c.fill.new.r) u
+          (c.loop-task.most - count) (text ++ take len c.fill.new.self)) (sym c.pass.ensures) reads_on,
+      subst (λ ls. LeadsOn output (λ l. g.T.LineTask.taken c.args.eol l c.args.task.now)
+          (λ l. g.T.LineTask.taken c.args.eol l c.take_lines.new.task) ls
+          (writer_contents g.W.Write.contents c.args.w.now) (writer_contents g.W.Write.contents c.finish.new.w))
+          (sym (reads.whole.splits (take len c.fill.new.self)))
           (leads_kept output _ _ _ _ _ _ (leads_both output _ _ _ _ _ _ _ _ leads led) c.finish.ensures.kept),
       c.in_ok-finish-in-Line.ensures.flushed,
     )
@@ -90,18 +105,23 @@ pub returns-in_err-left-in-End-clause-broke : goal.returns-in_err-left-in-End-cl
 returns-in_err-left-in-End-clause-broke g c =
     let (text, reads, leads, flushed) = c.loop-task.invariant in
     let output = g.T.LineTask.output c.args.eol in
-    let (bare, ended) = subst (HasCome c.args.eol c.in_ok-fill.ensures.text c.fill.new.self (g.R.Read.remaining c.fill.new.r)) c.in-End.is c.in_ok-fill.ensures.has_come in
-    let stops = subst (λ l. StopsWithin output (λ ls. g.T.LineTask.taken c.args.eol ls c.loop-task.task) (lines_by c.args.eol l) (writer_contents g.W.Write.contents c.loop-task.w) (writer_contents g.W.Write.contents c.take_last.new.w))
+    let (bare, ended) = subst (HasCome c.args.eol c.in_ok-fill.ensures.text c.fill.new.self
+    (g.R.Read.remaining c.fill.new.r)) c.in-End.is c.in_ok-fill.ensures.has_come in
+    let stops = subst (λ l. StopsWithin output (λ ls. g.T.LineTask.taken c.args.eol ls c.loop-task.task) (lines_by c.args.eol l)
+    (writer_contents g.W.Write.contents c.loop-task.w) (writer_contents g.W.Write.contents c.take_last.new.w))
     c.bytes-in-End.ensures c.in_err-left-in-End.ensures.broke in
     on_err _ c.from_residual-in_err-left-in-End.result
-    (breaks_at c.args.eol output _ _ _ _ _ (all_first c.args.eol _ _ _ _ _ text reads _ _ _ c.in_ok-fill.ensures ended) (stops_behind output _ _ _ _ _ _ _ leads stops))
+    (breaks_at c.args.eol output _ _ _ _ _ (all_first c.args.eol _ _ _ _ _ text reads _ _ _ c.in_ok-fill.ensures ended)
+    (stops_behind output _ _ _ _ _ _ _ leads stops))
 
 pub returns-in-End-clause-left : goal.returns-in-End-clause-left
 returns-in-End-clause-left g c =
     let (text, reads, leads, flushed) = c.loop-task.invariant in
     let output = g.T.LineTask.output c.args.eol in
-    let (bare, ended) = subst (HasCome c.args.eol c.in_ok-fill.ensures.text c.fill.new.self (g.R.Read.remaining c.fill.new.r)) c.in-End.is c.in_ok-fill.ensures.has_come in
-    let ends = subst (λ l. EndsInput output (λ ls. g.T.LineTask.taken c.args.eol ls c.loop-task.task) (λ ls. g.T.LineTask.taken c.args.eol ls c.take_last.new.task) (lines_by c.args.eol l) c.loop-task.most c.take_last.new.most
+    let (bare, ended) = subst (HasCome c.args.eol c.in_ok-fill.ensures.text c.fill.new.self
+    (g.R.Read.remaining c.fill.new.r)) c.in-End.is c.in_ok-fill.ensures.has_come in
+    let ends = subst (λ l. EndsInput output (λ ls. g.T.LineTask.taken c.args.eol ls c.loop-task.task)
+    (λ ls. g.T.LineTask.taken c.args.eol ls c.take_last.new.task) (lines_by c.args.eol l) c.loop-task.most c.take_last.new.most
     (writer_contents g.W.Write.contents c.loop-task.w) (writer_contents g.W.Write.contents c.take_last.new.w) c.in_ok-left-in-End.left)
     c.bytes-in-End.ensures c.in_ok-left-in-End.ensures.left in
     ends_left c.args.eol _ _ _ _ _ text reads _ _ _ c.in_ok-fill.ensures ended output _ _ _ _ _ _ _ leads c.in_ok-left-in-End.left ends
@@ -109,5 +129,6 @@ returns-in-End-clause-left g c =
 pub returns-in-Fault-clause-left : goal.returns-in-Fault-clause-left
 returns-in-Fault-clause-left g c =
     let (text, reads, leads, flushed) = c.loop-task.invariant in
-    let bare = subst (HasCome c.args.eol c.in_ok-fill.ensures.text c.fill.new.self (g.R.Read.remaining c.fill.new.r)) c.in-Fault.is c.in_ok-fill.ensures.has_come in
+    let bare = subst (HasCome c.args.eol c.in_ok-fill.ensures.text c.fill.new.self
+    (g.R.Read.remaining c.fill.new.r)) c.in-Fault.is c.in_ok-fill.ensures.has_come in
     (lines_by c.args.eol text, read_to_fault c.args.eol _ _ _ _ _ text reads _ _ _ c.in_ok-fill.ensures bare, leads, reads.counted)

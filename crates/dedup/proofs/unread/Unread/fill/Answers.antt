@@ -12,13 +12,15 @@ returns-then-is_some g c =
     let (text, is, bare, read) = c.loop-error.invariant in
     let (piece, is_more, long, read_more, ended) = MatchResult-at_ok
     (λ n. (piece : List ℕ) × (c.read.new.self ≡ c.loop-error.self ++ piece) × (length piece ≡ n)
-    × Consumes (g.R.Read.remaining c.loop-error.r) (g.R.Read.remaining c.read.new.r) piece × (n ≡ 0 → IsAtEnd (g.R.Read.remaining c.read.new.r)))
+    × Consumes (g.R.Read.remaining c.loop-error.r) (g.R.Read.remaining c.read.new.r) piece
+    × (n ≡ 0 → IsAtEnd (g.R.Read.remaining c.read.new.r)))
     _ c.in-Ok.field-0 c.in-Ok.is c.in_ok-read.ensures in
     record {
       text = text ++ piece;
       is = is_more ∙ ap (λ l. l ++ piece) is ∙ append_assoc c.args.self.now text piece;
       read = Consumes-trans _ _ _ _ _ read read_more;
-      has_come = λ bare. found_end c.args.eol c.bytes.result.now _ _ c.line_end.ensures (sym c.if-is_some.ensures) (subst (IsBare c.args.eol) (sym c.bytes.ensures) bare);
+      has_come = λ bare. found_end c.args.eol c.bytes.result.now _ _ c.line_end.ensures (sym c.if-is_some.ensures)
+          (subst (IsBare c.args.eol) (sym c.bytes.ensures) bare);
     }
 
 pub loop-error-preserved : goal.loop-error-preserved
@@ -26,10 +28,13 @@ loop-error-preserved g c =
     let (text, is, bare, read) = c.loop-error.invariant in
     let (piece, is_more, long, read_more, ended) = MatchResult-at_ok
     (λ n. (piece : List ℕ) × (c.read.new.self ≡ c.loop-error.self ++ piece) × (length piece ≡ n)
-    × Consumes (g.R.Read.remaining c.loop-error.r) (g.R.Read.remaining c.read.new.r) piece × (n ≡ 0 → IsAtEnd (g.R.Read.remaining c.read.new.r)))
+    × Consumes (g.R.Read.remaining c.loop-error.r) (g.R.Read.remaining c.read.new.r) piece
+    × (n ≡ 0 → IsAtEnd (g.R.Read.remaining c.read.new.r)))
     _ c.in-Ok.field-0 c.in-Ok.is c.in_ok-read.ensures in (
       text ++ piece,
       is_more ∙ ap (λ l. l ++ piece) is ∙ append_assoc c.args.self.now text piece,
-      bare_both c.args.eol text piece bare (found_none c.args.eol c.bytes.result.now c.loop-error.self piece _ _ c.line_end.ensures (sym c.if-is_some.ensures) (c.bytes.ensures ∙ is_more) (ap length c.bytes-len.ensures)),
+      bare_both c.args.eol text piece bare
+          (found_none c.args.eol c.bytes.result.now c.loop-error.self piece _ _ c.line_end.ensures (sym c.if-is_some.ensures)
+          (c.bytes.ensures ∙ is_more) (ap length c.bytes-len.ensures)),
       Consumes-trans _ _ _ _ _ read read_more,
     )
