@@ -154,14 +154,22 @@ fn sizes_for_keys(rt: HostRuntime) {
         }
     }
     let none = ByStep::for_keys(rt.alloc(), 0, 10);
-    let too_many = ByStep::for_keys(rt.alloc(), u64::MAX, 10);
-    all_hold(
-        &rt,
-        &[
-            none.is_ok_and(|filter| filter.bits() == 1),
-            too_many.is_err(),
-        ],
-    );
+    all_hold(&rt, &[none.is_ok_and(|filter| filter.bits() == 1)]);
+}
+
+/// The fewest bits a key whose share in the table of `for_keys` is at most one in 2^k, for k from 1 to 22.
+const FEWEST: [u64; 22] = [
+    2, 3, 5, 6, 8, 9, 11, 12, 13, 15, 16, 18, 19, 21, 22, 24, 25, 26, 28, 29, 31, 32,
+];
+
+#[test]
+fn sizes_for_shares(rt: HostRuntime) {
+    for i in 0..22 {
+        match ByStep::for_share(rt.alloc(), 1000, i as u32 + 1) {
+            Ok(filter) => all_hold_at(&rt, i, &[filter.bits() == 1000 * FEWEST[i]]),
+            Err(AllocError) => panic!(rt; "no memory for the filter"),
+        }
+    }
 }
 
 /// The words that were refused.
