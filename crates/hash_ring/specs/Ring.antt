@@ -91,6 +91,6 @@ BeginAlike hash nodes at xs ys =
     → xs ≡ take (length xs) ys
 
 -- a refusal hands the name back, and tells a name that is there from want of memory
-abbrev pub HandsBack : Nodes → Vec ℕ → Refused → Type 0
+abbrev pub HandsBack : Nodes → Vec ℕ → Refused (Vec ℕ) → Type 0
 HandsBack nodes name (IsThere back) = (back ≡ name) × (get nodes name.items ≢ None)
 HandsBack nodes name (NoRoom back) = (back ≡ name) × (get nodes name.items ≡ None)
