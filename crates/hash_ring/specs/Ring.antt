@@ -1,6 +1,6 @@
 -- Nodes on a ring of 2^64 places, and which of them owns a key.
-use Rattle.std.specs.Prelude.{ℕ, ◌≡◌, ◌≢◌, ◌≤◌, ◌<◌, nat_lt, if◌then◌else◌, List, [], ◌∷◌, ◌++◌, length, take, Some, None, not, false}
-use Rattle.std.specs.List.{filter}
+use Rattle.std.specs.Prelude.{ℕ, ◌≡◌, ◌≢◌, ◌≤◌, ◌<◌, nat_lt, if◌then◌else◌, List, [], ◌∷◌, ◌++◌, length, take, Some, None, Bool, not, true, false}
+use Rattle.std.specs.List.{All, filter}
 use Rattle.std.specs.Ordering.{nat_cmp, eq_by_cmp, is_gt}
 use Rattle.std.specs.Cmp.Lexicographic.{slice_cmp}
 use Rattle.std.specs.Hash.{le_bytes}
@@ -54,6 +54,13 @@ abbrev pub AreOwners : (List ℕ → ℕ) → Nodes → ℕ → List (List ℕ) 
 AreOwners hash nodes at [] = Unit {0}
 AreOwners hash nodes at (name ∷ names) =
     IsOwner hash nodes at name × AreOwners hash (remove nodes name) at names
+
+-- the first owner of the key whom a test passes: it refuses those before
+pub record IsFirstToPass (hash : List ℕ → ℕ) (nodes : Nodes) (at : ℕ) (answers : List ℕ → Bool → Type 0) (name : List ℕ) : Type 0 where
+  pub before : List (List ℕ)
+  pub owners : AreOwners hash nodes at (before ++ name ∷ [])
+  pub refused : All (λ other. answers other false) before
+  pub passes : answers name true
 
 -- a key has another owner only where this one owned it before
 abbrev pub MovesOnlyFrom : (List ℕ → ℕ) → Nodes → Nodes → List ℕ → Type 0

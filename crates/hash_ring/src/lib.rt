@@ -9,17 +9,18 @@
 //! keys fall depends on the hasher: see docs/RING.md.
 #![tactic(auto)]
 
-ghost use Rattle.std.specs.Prelude.{◌≡◌, ◌≢◌, ◌↔◌, ◌+◌, ◌<◌, ◌≤◌, ◌^◌, ◌++◌, if◌then◌else◌, ℕ, List, IfOk, IfErr, IfSome, IfNone, OnOk, OnErr, OnSome, IsTrue, MatchResult, None, T, length, map, min, take};
+ghost use Rattle.std.specs.Prelude.{◌≡◌, ◌≢◌, ◌↔◌, ◌+◌, ◌<◌, ◌≤◌, ◌^◌, ◌++◌, if◌then◌else◌, ℕ, List, IfOk, IfErr, IfSome, IfNone, OnOk, OnErr, OnSome, IsTrue, MatchResult, None, T, false, length, map, min, take};
 ghost use Rattle.std.specs.Cmp.Lexicographic.{slice_cmp};
 ghost use Rattle.std.specs.Coded.{coded_list, coded_ℕ};
 ghost use Rattle.std.specs.FinMap as map;
+ghost use Rattle.std.specs.Fn.{FnReturnsAt};
 ghost use Rattle.std.specs.FinMap.Entries.{is_sorted};
 ghost use Rattle.std.specs.List.{All, AllPairs, Contains};
 ghost use Rattle.std.specs.Ordering.{nat_cmp};
 ghost use Rattle.std.specs.List.Sorted.{IsPermutation};
 ghost use Rattle.hashers.specs.Text.{texts};
 ghost use Rattle.hashers.specs.TextMaps.{InsertsCommute, KeysDiffer, OthersStay, with_all};
-ghost use Rattle.hash_ring.specs.Ring.{Nodes, AreOwners, BeginAlike, HandsBack, IsOwner, KeepOrder, MovesOnlyFrom, MovesOnlyTo, OthersKeep, OwnsNothing};
+ghost use Rattle.hash_ring.specs.Ring.{Nodes, AreOwners, BeginAlike, HandsBack, IsFirstToPass, IsOwner, KeepOrder, MovesOnlyFrom, MovesOnlyTo, OthersKeep, OwnsNothing};
 ghost use Rattle.hash_ring.specs.Points.{AddsPoints, ArePoints, HandsAllBack, IsBefore, IsGapAt, IsNamedAt, IsRing, IsStart, closed_up, index_round, left_without, opened_up, pair_of, pairs, points_of, ring_of};
 
 use hashers::laws::{Piecewise, hash_of};
@@ -314,6 +315,31 @@ fn names_round<'a, H: Piecewise>(
     Ok(names)
 }
 
+/// The name of the first node round from the place whom the test passes. A node is asked again at each of its points.
+fn first_with_room<'a, H: Piecewise, F: Fn(&[u8]) -> bool>(
+    nodes: &'a [Node],
+    points: &[Point],
+    place: u64,
+    has_room: F,
+) -> Option<&'a [u8]>
+    requires ring { IsRing H.hash_of (pairs nodes.now) points.now }
+    requires callable { F.IsAlwaysCallable has_room }
+    ensures some { IfSome result (λ x. IsFirstToPass H.hash_of (ring_of nodes.now) place
+        (FnReturnsAt F.Fn has_room) x.now) }
+    ensures none { IfNone result ((name : List ℕ) → map.get (ring_of nodes.now) name ≢ None
+        → FnReturnsAt F.Fn has_room name false) }
+{
+    let first = first_from(points, place);
+    for steps in 0..points.len() {
+        let point = points[index_round(points.len(), first, steps)];
+        let name = nodes[point.node].name.as_slice();
+        if has_room(name) {
+            return Some(name);
+        }
+    }
+    None
+}
+
 impl<H: Piecewise> Ring<H> {
     /// The ring of no nodes.
     pub fn new(alloc: Global) -> Self
@@ -441,6 +467,21 @@ impl<H: Piecewise> Ring<H> {
         ensures different { IfOk result (λ xs. AllPairs (λ a b. a ≢ b) (texts xs.items)) }
     {
         names_round::<H>(alloc, &self.nodes, &self.points, hash_of::<H>(key), n)
+    }
+
+    /// The name of the first of the key's `owners` whom the test passes, or `None` where it passes no node. It takes no memory, and
+    /// asks a node again at each of its points.
+    ///
+    /// With a test of how much a node carries, as "fewer keys than 1.25 times the mean", these are consistent hashes with bounded loads:
+    /// Vahab Mirrokni, Mikkel Thorup, Morteza Zadimoghaddam, "Consistent Hashing with Bounded Loads", 2016.
+    pub fn owner_below<F: Fn(&[u8]) -> bool>(&self, key: &[u8], has_room: F) -> Option<&[u8]>
+        requires { F.IsAlwaysCallable has_room }
+        ensures some { IfSome result (λ x. IsFirstToPass H.hash_of self.now (H.hash_of key.now)
+            (FnReturnsAt F.Fn has_room) x.now) }
+        ensures none { IfNone result ((name : List ℕ) → map.get self.now name ≢ None
+            → FnReturnsAt F.Fn has_room name false) }
+    {
+        first_with_room::<H, F>(&self.nodes, &self.points, hash_of::<H>(key), has_room)
     }
 }
 
