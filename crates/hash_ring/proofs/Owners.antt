@@ -196,10 +196,10 @@ turn_low at place h = ap (λ b. cond b 1 0) (le-ltb place at h)
 turn_high : (at place : ℕ) → place < at → turn at place ≡ 1
 turn_high at place h = ap (λ b. cond b 1 0) (lt-ltb place at h)
 
-index_low : (n first s : ℕ) → s < n - first → index_round n first s ≡ first + s
+pub index_low : (n first s : ℕ) → s < n - first → index_round n first s ≡ first + s
 index_low n first s h = ap (λ b. cond b (first + s) (s - (n - first))) (lt-ltb s (n - first) h)
 
-index_high : (n first s : ℕ) → n - first ≤ s → index_round n first s ≡ s - (n - first)
+pub index_high : (n first s : ℕ) → n - first ≤ s → index_round n first s ≡ s - (n - first)
 index_high n first s h = ap (λ b. cond b (first + s) (s - (n - first))) (le-ltb s (n - first) h)
 
 index_below : (n first s : ℕ) → first ≤ n → s < n → index_round n first s < n
@@ -208,7 +208,7 @@ index_below n first s within below = ⊎_elim
     (λ (high : n - first ≤ s). let e = index_high n first s high in omega arith)
     (cases_lt s (n - first))
 
-upto : (points : List Point) → AllPairs IsBefore points → (i j : ℕ) (d : Point) → i ≤ j → j < length points → IsBefore (get_or points i d) (get_or points j d)
+pub upto : (points : List Point) → AllPairs IsBefore points → (i j : ℕ) (d : Point) → i ≤ j → j < length points → IsBefore (get_or points i d) (get_or points j d)
 upto points before i j d le within = ⊎_elim
     (λ (less : i < j). before i j d less within)
     (λ (same : j ≤ i). let e : i ≡ j = omega arith in subst (λ (k : ℕ). IsBefore (get_or points i d) (get_or points k d)) e (record { place = omega arith; node = λ f. omega arith }))

@@ -9,7 +9,7 @@
 //! keys fall depends on the hasher: see docs/RING.md.
 #![tactic(auto)]
 
-ghost use Rattle.std.specs.Prelude.{◌≡◌, ◌≢◌, ◌↔◌, ◌+◌, ◌<◌, ◌≤◌, ◌^◌, ◌++◌, if◌then◌else◌, ℕ, List, IfOk, IfErr, IfSome, IfNone, OnOk, OnErr, OnSome, IsTrue, MatchResult, None, T, false, length, map, min, take};
+ghost use Rattle.std.specs.Prelude.{◌≡◌, ◌≢◌, ◌↔◌, ◌+◌, ◌<◌, ◌≤◌, ◌^◌, ◌++◌, if◌then◌else◌, ℕ, List, IfOk, IfErr, IfSome, IfNone, OnOk, OnErr, OnSome, IsTrue, MatchResult, None, T, false, length, map, min, sum, take};
 ghost use Rattle.std.specs.Cmp.Lexicographic.{slice_cmp};
 ghost use Rattle.std.specs.Coded.{coded_list, coded_ℕ};
 ghost use Rattle.std.specs.FinMap as map;
@@ -20,7 +20,7 @@ ghost use Rattle.std.specs.Ordering.{nat_cmp};
 ghost use Rattle.std.specs.List.Sorted.{IsPermutation};
 ghost use Rattle.hashers.specs.Text.{texts};
 ghost use Rattle.hashers.specs.TextMaps.{InsertsCommute, KeysDiffer, OthersStay, with_all};
-ghost use Rattle.hash_ring.specs.Ring.{Nodes, AreOwners, BeginAlike, HandsBack, IsFirstToPass, IsOwner, KeepOrder, MovesOnlyFrom, MovesOnlyTo, OthersKeep, OwnsNothing};
+ghost use Rattle.hash_ring.specs.Ring.{Nodes, AreOwners, AreShares, BeginAlike, HandsBack, IsFirstToPass, IsOwner, KeepOrder, MovesOnlyFrom, MovesOnlyTo, OthersKeep, OwnsNothing};
 ghost use Rattle.hash_ring.specs.Points.{AddsPoints, ArePoints, HandsAllBack, IsBefore, IsGapAt, IsNamedAt, IsRing, IsStart, closed_up, index_round, left_without, opened_up, pair_of, pairs, points_of, ring_of};
 
 use hashers::laws::{Piecewise, hash_of};
@@ -340,6 +340,33 @@ fn first_with_room<'a, H: Piecewise, F: Fn(&[u8]) -> bool>(
     None
 }
 
+/// How many places each node owns: those behind one point up to the next one are of the next one's node, and those behind the
+/// last point of the first one's.
+fn shares_of<H: Piecewise>(
+    alloc: Global,
+    nodes: &[Node],
+    points: &[Point],
+) -> Result<Vec<u128>, AllocError>
+    requires { IsRing H.hash_of (pairs nodes.now) points.now }
+    ensures each { IfOk result (λ xs. 0 < length points.now
+        → AreShares H.hash_of (ring_of nodes.now) xs.items) }
+    ensures all { IfOk result (λ xs. 0 < length points.now → sum xs.items ≡ 2 ^ 64) }
+    ensures count { IfOk result (λ xs. length xs.items ≡ length nodes.now) }
+{
+    let mut shares = vec![in alloc; 0u128; nodes.len()]?;
+    let mut from: u128 = 0;
+    for point in points {
+        let to = u128::from(point.place) + 1;
+        shares[point.node] += to - from;
+        from = to;
+    }
+    let Some(first) = points.first() else {
+        return Ok(shares);
+    };
+    shares[first.node] += (1 << 64) - from;
+    Ok(shares)
+}
+
 impl<H: Piecewise> Ring<H> {
     /// The ring of no nodes.
     pub fn new(alloc: Global) -> Self
@@ -467,6 +494,17 @@ impl<H: Piecewise> Ring<H> {
         ensures different { IfOk result (λ xs. AllPairs (λ a b. a ≢ b) (texts xs.items)) }
     {
         names_round::<H>(alloc, &self.nodes, &self.points, hash_of::<H>(key), n)
+    }
+
+    /// How much of the ring each node owns, in the order of `nodes`: how many of the 2^64 places. Where there is a node they sum up to
+    /// 2^64. It refuses only for want of memory.
+    pub fn shares(&self, alloc: Global) -> Result<Vec<u128>, AllocError>
+        ensures each { IfOk result (λ xs. self.now ≢ map.empty → AreShares H.hash_of self.now xs.items) }
+        ensures all { IfOk result (λ xs. self.now ≢ map.empty → sum xs.items ≡ 2 ^ 64) }
+        ensures count { IfOk result (λ xs. length xs.items ≡ map.len self.now) }
+    {
+        let shares = shares_of::<H>(alloc, &self.nodes, &self.points)?;
+        Ok(shares)
     }
 
     /// The name of the first of the key's `owners` whom the test passes, or `None` where it passes no node. It takes no memory, and
