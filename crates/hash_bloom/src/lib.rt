@@ -5,17 +5,20 @@
 //! Adam Kirsch and Michael Mitzenmacher, "Less Hashing, Same Performance: Building a Better Bloom Filter", 2006.
 #![tactic(auto)]
 
-ghost use Rattle.std.specs.Prelude.{◌≡◌, ◌*◌, ◌^◌, ◌<◌, ◌≤◌, ◌↔◌, IfOk, IfErr, IsOk, IsTrue, max};
+ghost use Rattle.std.specs.Prelude.{◌≡◌, ◌*◌, ◌^◌, ◌<◌, ◌≤◌, ◌↔◌, IfOk, IfErr, IfSome, IsNone, IsOk, IsTrue, max};
 ghost use Rattle.hashers.specs.Text.{joined};
+ghost use Rattle.hash_bloom.specs.Estimate.{IsEstimate};
 ghost use Rattle.hash_bloom.specs.Filter.{Filter, IsFilter, Passes, PassesNone, IsProbe, IsSet, IsEmpty, HasShape, Fits, Adds, AllPassIn, IsForKeys, bits_for_share, count_set, filter_of};
 
 mod bits;
 pub mod commands;
+mod estimate;
 #[cfg(test)]
 mod tests;
 pub mod words;
 
 use crate::bits::{has_all, no_bits_beyond, ones};
+use crate::estimate::{DIGITS, log2_of_ratio};
 use hashers::laws::{Piecewise, Streamed, answer_of_pieces};
 use std::alloc::{AllocError, Global};
 use std::error::Error as StdError;
@@ -181,6 +184,26 @@ impl<F: Piecewise, G: Piecewise> Bloom<F, G> {
         ensures { result ≡ count_set self.now.words self.now.bits }
     {
         ones(&self.words, self.bits)
+    }
+
+    /// How many keys were inserted, as the ones tell it: bits / probes * ln(bits / zeros), for good hashes (S. Joshua Swamidass, Pierre
+    /// Baldi, "Mathematical Correction for Fingerprint Similarity Measures to Improve Chemical Retrieval", 2007). `None` exactly where
+    /// all bits are set, which tells nothing.
+    ///
+    /// It is computed in whole numbers. The logarithm to base 2 is taken in parts of 2^28, at most two parts too low, times 0.693147181.
+    /// The answer is rounded to the nearest whole number, and at most 2^64 - 1. It goes over all words.
+    pub fn estimate(&self) -> Option<u64>
+        ensures none { IsNone result ↔ (count_set self.now.words self.now.bits ≡ self.now.bits) }
+        ensures some { IfSome result (IsEstimate self.now) }
+    {
+        let zeros = self.bits - self.ones();
+        if zeros == 0 {
+            return None;
+        }
+        let log = log2_of_ratio(self.bits, zeros);
+        let half = u128::from(self.probes) * ((1 << (DIGITS - 1)) * 1_000_000_000);
+        let keys = (u128::from(self.bits) * u128::from(log) * 693_147_181 + half) / (2 * half);
+        Some(keys.min(u128::from(u64::MAX)) as u64)
     }
 
     /// How many bits the filter has, at least 1.

@@ -1,10 +1,9 @@
 -- How many places of the ring each node owns.
-use Rattle.std.proofs.Common.{ℕ, zero, suc, ◌≡◌, ◌≢◌, ◌+◌, ◌-◌, ◌<◌, ◌≤◌, ◌^◌, cond, true, false, sum, T, slice_get, Some, List, [], ◌∷◌, ◌++◌, map, length, get_or, set, take, drop, arith, sym, ap, ◌∙◌, subst, refl, ⊎_elim, get_or-set_same, get_or-set_other}
+use Rattle.std.proofs.Common.{ℕ, ◌≡◌, ◌≢◌, ◌+◌, ◌-◌, ◌<◌, ◌≤◌, ◌^◌, cond, sum, T, slice_get, Some, List, [], ◌∷◌, ◌++◌, map, length, get_or, set, take, drop, arith, sym, ap, ◌∙◌, subst, refl, ⊎_elim, get_or-set_same, get_or-set_other}
 use Rattle.std.specs.List.{AllPairs, sum_by}
-use Rattle.std.specs.FinMap as fin
 use Rattle.std.specs.FinMap.{is_sorted}
 use Rattle.std.proofs.lemmas.Bool.{cases_eq, cases_lt}
-use Rattle.std.proofs.lemmas.List.{append_assoc, drop_more, get_or-map, get_or_default, length-drop, length-map, length-set, same_lists, take_all, take_more}
+use Rattle.std.proofs.lemmas.List.{drop_more, get_or-map, get_or_default, length-drop, length-map, length-set, same_lists, take_all, take_more}
 use Rattle.std.proofs.lemmas.List.Sums.{sum_by-append, sum_by-cons, sum_by-set}
 use Rattle.hashers.proofs.TextMapLemmas.{not_same, same, same_itself}
 use Rattle.hash_ring.specs.declared.Point.{Point}
@@ -100,8 +99,7 @@ module _ (hash : List ℕ → ℕ) (es : Pairs) (points : List Point) (ring : Is
       let split : get_or points i p ∷ drop (i + 1) points ≡ p ∷ ps = sym (drop_more points i p below) ∙ is in
       let here : p ≡ get_or points i p = cc in
       let next : drop (i + 1) points ≡ ps = cc in
-      let place : (get_or points i p).place ≡ p.place = ap (λ (q : Point). q.place) (sym here) in
-      (
+      let place : (get_or points i p).place ≡ p.place = ap (λ (q : Point). q.place) (sym here) in (
         refl,
         omega (arith, ahead i p (omega arith) below, place),
         λ at low high. owned i at p below here (λ k d l. let b = before k d l in omega arith) (omega arith),
@@ -179,7 +177,7 @@ pub last_places : (es : Pairs) → T (is_sorted by_bytes es) → (points : List 
     → p.node < length es → AreSharesOf es (arcs es 0 (take i points)) shares from → from ≡ end_of 0 (take i points) → from ≤ 2 ^ 64
     → was ≡ get_or shares p.node was → next ≡ set shares p.node (was + (2 ^ 64 - from))
     → (end_of 0 points ≤ 2 ^ 64)
-      × AreSharesOf es (arcs es 0 points ++ record { owner = (node_at es p.node).0; from = end_of 0 points; to = 2 ^ 64 } ∷ []) next (2 ^ 64)
+    × AreSharesOf es (arcs es 0 points ++ record { owner = (node_at es p.node).0; from = end_of 0 points; to = 2 ^ 64 } ∷ []) next (2 ^ 64)
 last_places es sorted points i p shares next from was all there so_far from_is small read is =
     let whole : take i points ≡ points = take_all i points all in
     let end : from ≡ end_of 0 points = from_is ∙ ap (end_of 0) whole in

@@ -1,4 +1,4 @@
-use Rattle.std.proofs.Common.{◌≡◌, ◌∙◌, ap, sym, length, map, take, arith}
+use Rattle.std.proofs.Common.{◌≡◌, ◌∙◌, ap, sym, length, map, take}
 use Rattle.std.proofs.lemmas.List.{length-map}
 use Rattle.hash_ring.specs.Points.{closed_up, opened_up}
 use Rattle.hash_ring.proofs.Edits.{all_opened_and_closed, over}

@@ -1,4 +1,4 @@
-use Rattle.std.proofs.Common.{◌≡◌, ◌+◌, ◌<◌, ℕ, suc}
+use Rattle.std.proofs.Common.{◌≡◌, ◌<◌, ℕ, suc}
 use Rattle.std.specs.declared.cmp.Ordering.TheVariants.{Less}
 use Rattle.hash_ring.specs.Points.{node_at, pairs}
 use Rattle.hash_ring.proofs.Names.{by_bytes}

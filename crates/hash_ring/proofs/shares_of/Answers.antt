@@ -1,7 +1,6 @@
-use Rattle.std.proofs.Common.{◌≡◌, ◌<◌, ◌+◌, ◌∙◌, ap, sym, refl, length, get_or, arith}
-use Rattle.std.proofs.lemmas.List.{length-map}
+use Rattle.std.proofs.Common.{◌+◌, ◌∙◌, ap, sym, refl, arith}
 use Rattle.hash_ring.specs.declared.Point.{Point}
-use Rattle.hash_ring.specs.Points.{pair_of, pairs}
+use Rattle.hash_ring.specs.Points.{pairs}
 use Rattle.hash_ring.proofs.Points.{is_there}
 use Rattle.hash_ring.proofs.Shares.{end_low, first_read, last_end, last_places, next_point, node_there, whole_ring}
 use Rattle.hash_ring.proofs.shares_of.Goals as goal

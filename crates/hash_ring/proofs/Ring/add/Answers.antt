@@ -5,7 +5,6 @@ use Rattle.std.proofs.lemmas.List.{length-map}
 use Rattle.std.proofs.lemmas.List.Edits.{get_or-insert_at}
 use Rattle.hash_ring.specs.declared.Node.{Node}
 use Rattle.std.specs.List.Sorted.{IsPermutation}
-use Rattle.hash_ring.specs.declared.Point.{Point}
 use Rattle.hash_ring.specs.Points.{IsRing, nodes_of, opened_up, pair_of, pairs, points_of}
 use Rattle.hash_ring.proofs.Points.{ArePoints-permutation, is_there}
 use Rattle.hash_ring.proofs.Names.{absent_read, found_read, gap_read, inserted}
