@@ -158,7 +158,7 @@ fn if_so(is: bool, n: usize) -> usize
 }
 
 /// How many points a search without jumps is faster over: so many lie in a processor's caches.
-const FEW: usize = 1 << 15;
+const FEW: usize = 1 << 17;
 
 /// Where the first point at or after the place stands, or the points' end. Over many points each step waits for memory, and
 /// jumps that are guessed fetch points early.
