@@ -1,5 +1,6 @@
 pub mod Found
 pub mod Reduction
+pub mod Log
 pub mod OneBit
 pub mod Ones
 pub mod Places

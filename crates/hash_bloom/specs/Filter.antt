@@ -95,3 +95,7 @@ best_probes bits_per_key = max 1 ((693 * bits_per_key + 500) / 1000)
 -- a filter for so many keys: at least one bit
 abbrev pub IsForKeys : ℕ → ℕ → Filter → Type 0
 IsForKeys keys bits_per_key filter = HasShape (max 1 (keys * bits_per_key)) (best_probes bits_per_key) filter
+
+-- how many bits a key let at most one strange key in 2^k pass, at the best number of probes: about k / ln 2, rounded up
+abbrev pub bits_for_share : ℕ → ℕ
+bits_for_share k = (1443 * k + 999) / 1000

@@ -1,2 +1,3 @@
 pub mod Commands
+pub mod Estimate
 pub mod Filter

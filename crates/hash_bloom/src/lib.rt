@@ -5,17 +5,20 @@
 //! Adam Kirsch and Michael Mitzenmacher, "Less Hashing, Same Performance: Building a Better Bloom Filter", 2006.
 #![tactic(auto)]
 
-ghost use Rattle.std.specs.Prelude.{◌≡◌, ◌*◌, ◌≤◌, ◌↔◌, IfOk, IfErr, IsOk, IsTrue, max};
+ghost use Rattle.std.specs.Prelude.{◌≡◌, ◌*◌, ◌^◌, ◌<◌, ◌≤◌, ◌↔◌, IfOk, IfErr, IfSome, IsNone, IsOk, IsTrue, max};
 ghost use Rattle.hashers.specs.Text.{joined};
-ghost use Rattle.hash_bloom.specs.Filter.{Filter, IsFilter, Passes, PassesNone, IsProbe, IsSet, IsEmpty, HasShape, Fits, Adds, AllPassIn, IsForKeys, count_set, filter_of};
+ghost use Rattle.hash_bloom.specs.Estimate.{IsEstimate};
+ghost use Rattle.hash_bloom.specs.Filter.{Filter, IsFilter, Passes, PassesNone, IsProbe, IsSet, IsEmpty, HasShape, Fits, Adds, AllPassIn, IsForKeys, bits_for_share, count_set, filter_of};
 
 mod bits;
 pub mod commands;
+mod estimate;
 #[cfg(test)]
 mod tests;
 pub mod words;
 
 use crate::bits::{has_all, no_bits_beyond, ones};
+use crate::estimate::{DIGITS, log2_of_ratio};
 use hashers::laws::{Piecewise, Streamed, answer_of_pieces};
 use std::alloc::{AllocError, Global};
 use std::error::Error as StdError;
@@ -90,8 +93,8 @@ impl<F: Piecewise, G: Piecewise> Bloom<F, G> {
 
     /// The filter of no keys, for about so many keys, with so many bits for each (at least one bit in all). The number of probes
     /// is 0.693 for each of `bits_per_key`, rounded, and at least 1: that is about ln 2, and from 1 to 32 bits the number that
-    /// lets the fewest strange keys pass. It refuses only where there is no memory, which is so too where the number of bits
-    /// is 2^64 or more.
+    /// lets the fewest strange keys pass. The number of bits has to be below 2^64, as `keys.checked_mul(..)` tells. It refuses
+    /// only where there is no memory.
     ///
     /// By the formula above these shares of strange keys pass, in percent, once all keys are in:
     ///
@@ -106,14 +109,29 @@ impl<F: Piecewise, G: Piecewise> Bloom<F, G> {
     /// | 7 | 5 | 3.47 | 15 | 10 | 0.0744 | 23 | 16 | 0.00159 | 31 | 21 | 0.0000341 |
     /// | 8 | 6 | 2.16 | 16 | 11 | 0.0459 | 24 | 17 | 0.000984 | 32 | 22 | 0.000021 |
     pub fn for_keys(alloc: Global, keys: u64, bits_per_key: u32) -> Result<Self, AllocError>
-        requires { 1 ≤ bits_per_key }
+        requires some { 1 ≤ bits_per_key }
+        requires fits { keys * bits_per_key < 2 ^ 64 }
         ensures shape { IfOk result (IsForKeys keys bits_per_key) }
         ensures empty { IfOk result IsEmpty }
         ensures none { IfOk result (PassesNone F.hash_of G.hash_of) }
     {
-        let bits = keys.checked_mul(u64::from(bits_per_key)).ok_or(AllocError)?;
+        let bits = keys * u64::from(bits_per_key);
         let probes = ((693 * u64::from(bits_per_key) + 500) / 1000).max(1);
         Self::new(alloc, bits.max(1), probes as u32)
+    }
+
+    /// The filter of no keys, for about so many keys, of which one strange key in 2^k passes at most, by the formula above: that
+    /// of `for_keys` at 1.443 bits a key for each halving, rounded up. These are the fewest bits a key that the table has for the
+    /// share. The number of bits has to be below 2^64. It refuses only where there is no memory.
+    pub fn for_share(alloc: Global, keys: u64, k: u32) -> Result<Self, AllocError>
+        requires some { 1 ≤ k }
+        requires in_the_table { k ≤ 22 }
+        requires fits { keys * bits_for_share k < 2 ^ 64 }
+        ensures shape { IfOk result (IsForKeys keys (bits_for_share k)) }
+        ensures empty { IfOk result IsEmpty }
+        ensures none { IfOk result (PassesNone F.hash_of G.hash_of) }
+    {
+        Self::for_keys(alloc, keys, (1443 * k).div_ceil(1000))
     }
 
     /// Inserts the key: sets the bits at its places, and clears none. It answers whether all of them were set before: `false`
@@ -166,6 +184,26 @@ impl<F: Piecewise, G: Piecewise> Bloom<F, G> {
         ensures { result ≡ count_set self.now.words self.now.bits }
     {
         ones(&self.words, self.bits)
+    }
+
+    /// How many keys were inserted, as the ones tell it: bits / probes * ln(bits / zeros), for good hashes (S. Joshua Swamidass, Pierre
+    /// Baldi, "Mathematical Correction for Fingerprint Similarity Measures to Improve Chemical Retrieval", 2007). `None` exactly where
+    /// all bits are set, which tells nothing.
+    ///
+    /// It is computed in whole numbers. The logarithm to base 2 is taken in parts of 2^28, at most two parts too low, times 0.693147181.
+    /// The answer is rounded to the nearest whole number, and at most 2^64 - 1. It goes over all words.
+    pub fn estimate(&self) -> Option<u64>
+        ensures none { IsNone result ↔ (count_set self.now.words self.now.bits ≡ self.now.bits) }
+        ensures some { IfSome result (IsEstimate self.now) }
+    {
+        let zeros = self.bits - self.ones();
+        if zeros == 0 {
+            return None;
+        }
+        let log = log2_of_ratio(self.bits, zeros);
+        let half = u128::from(self.probes) * ((1 << (DIGITS - 1)) * 1_000_000_000);
+        let keys = (u128::from(self.bits) * u128::from(log) * 693_147_181 + half) / (2 * half);
+        Some(keys.min(u128::from(u64::MAX)) as u64)
     }
 
     /// How many bits the filter has, at least 1.

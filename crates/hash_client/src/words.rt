@@ -13,7 +13,9 @@ pub fn words_read_back<F: Piecewise, G: Piecewise>(
 ) -> Option<Bloom<F, G>>
     ensures { IfSome result (λ filter. All (λ word. Passes F.hash_of G.hash_of filter word.now) words.now) }
 {
-    let mut filter = Bloom::<F, G>::for_keys(alloc, words.len() as u64, 10).ok()?;
+    let keys = words.len() as u64;
+    keys.checked_mul(10)?;
+    let mut filter = Bloom::<F, G>::for_keys(alloc, keys, 10).ok()?;
     for word in words {
         filter.insert(word);
     }

@@ -1,5 +1,5 @@
 -- Numbers of fixed widths, as words.
-use Rattle.std.proofs.Common.{ℕ, ◌≡◌, ◌<◌, ◌∙◌, ap, sym, refl, [], ◌∷◌, ◌%◌, ◌/◌, ◌^◌, take, drop, arith}
+use Rattle.std.proofs.Common.{ℕ, List, fold, ◌≡◌, ◌<◌, ◌∙◌, ap, sym, refl, [], ◌∷◌, ◌%◌, ◌/◌, ◌^◌, take, drop, arith}
 use Rattle.std.proofs.Math.Path.{ap₂}
 use Rattle.std.proofs.lemmas.Nat.{from_le_bytes-to_le_bytes_4, from_le_bytes-to_le_bytes_8}
 use Rattle.std.specs.Hash.{le_bytes}
@@ -60,5 +60,23 @@ fx32_of_eight h v below =
     let high : le (drop 4 (le_bytes 8 v)) ≡ v / 2 ^ 32 = le-4 (drop 4 (le_bytes 8 v)) refl ∙ omega arith in
     recurrence-fold fx32_step h (le (take 4 (le_bytes 8 v)) ∷ le (drop 4 (le_bytes 8 v)) ∷ [])
     ∙ ap₂ (λ a b. fx32_step (fx32_step h a) b) low high
+
+-- ---- keys of maps
+after_each : (s : ℕ) (bytes : List ℕ) → fold (λ s b. fx64 s (words64 (b ∷ []))) s bytes ≡ fold fx64_step s bytes
+after_each s [] = refl
+after_each s (b ∷ bytes) =
+    ap (λ t. fold (λ s b. fx64 s (words64 (b ∷ []))) t bytes) (ap (fx64 s) (words64-byte b) ∙ of_byte fx64_step s b) ∙ after_each (fx64_step s b) bytes
+
+pub fx64_number : (n : ℕ) → n < 2 ^ 64 → fx64 0 (words64 (le_bytes 8 n)) ≡ fx64 0 (n ∷ [])
+fx64_number n below = ap (fx64 0) (words64-eight n below)
+
+pub fx64_slice : (n : ℕ) (bytes : List ℕ) → n < 2 ^ 64
+    → fold (λ s b. fx64 s (words64 (b ∷ []))) (fx64 0 (words64 (le_bytes 8 n))) bytes ≡ fx64 0 (n ∷ bytes)
+fx64_slice n bytes below =
+    after_each _ bytes ∙ ap (λ s. fold fx64_step s bytes) (fx64_of_eight 0 n below) ∙ sym (recurrence-fold fx64_step 0 (n ∷ bytes))
+
+pub fx64_pair : (a b : ℕ) → a < 2 ^ 64 → b < 2 ^ 64 → fx64 (fx64 0 (words64 (le_bytes 8 a))) (words64 (le_bytes 8 b)) ≡ fx64 0 (a ∷ b ∷ [])
+fx64_pair a b below below' =
+    ap (λ s. fx64 s (words64 (le_bytes 8 b))) (fx64_of_eight 0 a below) ∙ fx64_of_eight (fx64_step 0 a) b below' ∙ sym (recurrence-fold fx64_step 0 (a ∷ b ∷ []))
 
 pub ruleset words_of_numbers = (words64-byte, words64-four, words64-eight, words32-byte, words32-four)

@@ -13,5 +13,7 @@ pub use fx::{
     Fx32Rule, Fx64Rule, FxHasher, FxHasher32, FxHasher64, FxRule, MachineWord, fxhash, fxhash32,
     fxhash64,
 };
-pub use maps::{FxBuildHasher, FxHashMap, FxHashSet};
+pub use maps::{
+    FxBuildHasher, FxHashMap, FxHashSet, hash_one_number_fx, hash_one_pair_fx, hash_one_slice_fx,
+};
 pub use word::{FxSplit, FxWord};

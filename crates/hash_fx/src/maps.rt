@@ -1,7 +1,11 @@
 //! std's maps and sets by the fx hash, under the names that users know from the crate fxhash.
+ghost use Rattle.std.specs.Prelude.{◌≡◌, ◌∷◌, [], length};
+ghost use Rattle.hash_fx.specs.Fx.{fx64};
 
 use crate::fx::FxHasher;
-use hash_laws::build::BuildFresh;
+use hash_laws::build::{
+    BuildFresh, hash_one_number, hash_one_pair_in_writes, hash_one_slice_in_writes,
+};
 use std::collections::{HashMap, HashSet};
 
 /// Makes an [`FxHasher`] for each key.
@@ -12,3 +16,27 @@ pub type FxHashMap<K, V> = HashMap<K, V, FxBuildHasher>;
 
 /// A set of std by [`FxHasher`].
 pub type FxHashSet<K> = HashSet<K, FxBuildHasher>;
+
+/// The hash of a number as a key of such a map: that of the number as one word.
+#[inline(always)]
+pub fn hash_one_number_fx(key: u64) -> u64
+    ensures { result ≡ fx64 0 (key ∷ []) }
+{
+    hash_one_number::<FxHasher>(key)
+}
+
+/// The hash of a slice of bytes as a key of such a map: that of its length as a word, and then each byte as one.
+#[inline(always)]
+pub fn hash_one_slice_fx(key: &[u8]) -> u64
+    ensures { result ≡ fx64 0 (length key.now ∷ key.now) }
+{
+    hash_one_slice_in_writes::<FxHasher>(key)
+}
+
+/// The hash of a pair of numbers as a key of such a map: that of the two as words.
+#[inline(always)]
+pub fn hash_one_pair_fx(key: (u64, u64)) -> u64
+    ensures { result ≡ fx64 0 (key.0 ∷ key.1 ∷ []) }
+{
+    hash_one_pair_in_writes::<FxHasher>(key)
+}

@@ -1,6 +1,6 @@
 -- A position, and how many calls have mixed blocks on the way to it.
-use Rattle.std.specs.Prelude.{ℕ, ◌+◌, ◌*◌, ◌/◌, ◌≤◌, ◌&&◌, nat_lt, nat_le, List, ◌++◌, length, if◌then◌else◌}
-use Rattle.hash_jenkins.specs.Spooky.{Position, Short, Long, after}
+use Rattle.std.specs.Prelude.{ℕ, [], ◌+◌, ◌*◌, ◌/◌, ◌≤◌, ◌&&◌, nat_lt, nat_le, List, ◌++◌, length, if◌then◌else◌}
+use Rattle.hash_jenkins.specs.Spooky.{Position, Short, Long, after, position}
 
 pub record Counted : Type 0 where
   pub at : Position
@@ -32,3 +32,7 @@ mixing_calls (Long words t) bytes = calls_over (length t) (length bytes)
 -- a position after more bytes, with the calls counted
 abbrev pub after_write : Counted → List ℕ → Counted
 after_write s bytes = record { at = after s.at bytes; turns = s.turns + mixing_calls s.at bytes }
+
+-- no bytes under two seeds, and no call
+abbrev pub begun : ℕ → ℕ → Counted
+begun seed1 seed2 = record { at = position seed1 seed2 []; turns = 0 }

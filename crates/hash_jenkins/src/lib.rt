@@ -1,6 +1,7 @@
 //! Bob Jenkins' hash functions: one-at-a-time, lookup3 and SpookyHash. None of them is cryptographic.
 #![tactic(auto)]
 
+mod build_spooky;
 mod lookup;
 mod one_at_a_time;
 mod put;
@@ -10,5 +11,6 @@ pub mod spooky_parts;
 mod spooky_short;
 pub mod two_texts;
 
+pub use build_spooky::BuildSpooky;
 pub use lookup::{Lookup3Hasher, lookup3};
 pub use one_at_a_time::{OAATHasher, oaat, origin_of_constants};

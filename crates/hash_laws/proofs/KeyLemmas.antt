@@ -43,6 +43,12 @@ pub slice_writes : (length_bytes bytes : List ℕ) → concat (length_bytes ∷ 
 slice_writes length_bytes bytes = concat_is (length_bytes ∷ flat_map (λ b. (b ∷ []) ∷ []) bytes)
     ∙ ap (λ t. length_bytes ++ t) (each_byte bytes)
 
+-- a write for each byte is a step for each
+pub fold-byte_writes : {S : Type 0} (after : S → List ℕ → S) (s : S) (bytes : List ℕ)
+    → fold after s (flat_map (λ b. (b ∷ []) ∷ []) bytes) ≡ fold (λ s b. after s (b ∷ [])) s bytes
+fold-byte_writes after s [] = refl
+fold-byte_writes after s (b ∷ bytes) = fold-byte_writes after (after s (b ∷ [])) bytes
+
 byte_texts : (bytes : List ℕ) → IsText bytes → All IsText (flat_map (λ b. (b ∷ []) ∷ []) bytes)
 byte_texts [] texts = All-nil IsText
 byte_texts (b ∷ bytes) texts =

@@ -15,7 +15,8 @@ use std::marker::PhantomData;
 /// Makes the default hasher of `H` for each key, as std's `BuildHasherDefault` does for types that can be copied. It takes
 /// no memory, and each one makes the same hashers.
 ///
-/// `HashMap::<K, V, BuildFresh<H>>::with_hasher(alloc, BuildFresh::new())` is a map of std over `H`.
+/// `HashMap::<K, V, BuildFresh<H>>::with_hasher(alloc, BuildFresh::new())` is a map of std over `H`. It keeps no secret: for the
+/// keys of strangers take std's `RandomState`.
 #[derive(Clone, Copy, Default)]
 pub struct BuildFresh<H> {
     hasher: PhantomData<H>,
@@ -69,12 +70,12 @@ pub fn hash_one_slice<H: Streamed>(key: &[u8]) -> u64
     hash_one_joined::<H, &[u8]>(key)
 }
 
-/// The hash of a number as a key: that of its 8 bytes, the lowest first.
+/// The hash of a number as a key: that of its 8 bytes, the lowest first. It is one write, so this holds where cuts show, too.
 #[inline(always)]
-pub fn hash_one_number<H: Streamed>(key: u64) -> u64
+pub fn hash_one_number<H: Piecewise>(key: u64) -> u64
     ensures { result ≡ H.hash_of (le_bytes 8 key) }
 {
-    hash_one_joined::<H, u64>(key)
+    BuildFresh::<H>::new().hash_one::<u64>(key)
 }
 
 /// The hash of a pair of numbers as a key: that of the 8 bytes of the first, followed by those of the second.
@@ -83,6 +84,25 @@ pub fn hash_one_pair<H: Streamed>(key: (u64, u64)) -> u64
     ensures { result ≡ H.hash_of (le_bytes 8 key.0 ++ le_bytes 8 key.1) }
 {
     hash_one_joined::<H, (u64, u64)>(key)
+}
+
+/// The hash of a slice of bytes as a key, also where cuts show: the answer after its length in 8 bytes as one write, and then
+/// each of its bytes as a write of its own.
+#[inline(always)]
+pub fn hash_one_slice_in_writes<H: Piecewise>(key: &[u8]) -> u64
+    ensures { result ≡ H.answer (fold (λ s byte. H.after s (byte ∷ []))
+        (H.after H.fresh (le_bytes 8 (length key.now))) key.now) }
+{
+    BuildFresh::<H>::new().hash_one::<&[u8]>(key)
+}
+
+/// The hash of a pair of numbers as a key, also where cuts show: the answer after the 8 bytes of the first as one write, and then
+/// those of the second.
+#[inline(always)]
+pub fn hash_one_pair_in_writes<H: Piecewise>(key: (u64, u64)) -> u64
+    ensures { result ≡ H.answer (H.after (H.after H.fresh (le_bytes 8 key.0)) (le_bytes 8 key.1)) }
+{
+    BuildFresh::<H>::new().hash_one::<(u64, u64)>(key)
 }
 
 /// The hash of a string as a key: that of its bytes in UTF-8, followed by 0xFF.

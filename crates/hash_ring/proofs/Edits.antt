@@ -3,14 +3,15 @@ use Rattle.std.proofs.Common.{ℕ, zero, suc, ◌≡◌, ◌≢◌, ◌+◌, ◌
 use Rattle.std.specs.List.{AllPairs, Contains, filter, insert, remove}
 use Rattle.std.proofs.lemmas.Bool.{cases_lt, lt-ltb, le-ltb}
 use Rattle.std.proofs.lemmas.Bool.Decides.{Decides-eqb}
-use Rattle.std.proofs.lemmas.List.{map-append, take-map, drop-map, get_or-map, length-map, get_or_default}
-use Rattle.std.proofs.lemmas.List.Edits.{map_over_more, get_or-remove_below, get_or-remove_above}
-use Rattle.std.proofs.lemmas.List.Elements.{All-append, All-cons, All-drop, All-filter, All-map, All-take, filter_passes}
+use Rattle.std.proofs.lemmas.List.{map-append, append-nil, drop_all, take-map, take_all, drop-map, get_or-map, length-map, get_or_default}
+use Rattle.std.proofs.lemmas.List.Edits.{map_over_more, get_or-remove_below, get_or-remove_above, get_or-insert_below, get_or-insert_at, get_or-insert_above}
+use Rattle.std.proofs.lemmas.List.Elements.{Contains-append_left, Contains-append_right, All-append, All-cons, All-drop, All-filter, All-map, All-take, filter_passes}
 use Rattle.std.proofs.lemmas.List.Kept.{AllPairs-filter}
 use Rattle.hash_ring.specs.declared.Node.{Node}
 use Rattle.hash_ring.specs.declared.Point.{Point}
 use Rattle.hash_ring.specs.Ring.{IsPointOf}
-use Rattle.hash_ring.specs.Points.{ArePoints, IsBefore, IsGapAt, IsRing, IsPointOfItsNode, closed_up, left_without, node_at, pair_of, pairs}
+use Rattle.hash_ring.specs.Points.{ArePoints, IsBefore, IsGapAt, IsRing, IsPointOfItsNode, closed_up, left_without, node_at, opened_up, pair_of, pairs, points_of}
+use Rattle.hash_ring.proofs.Points.{among, each}
 use Rattle.hash_ring.proofs.Names.{Pairs, inserted_sorted, removed_sorted}
 
 -- what `closed_up` makes of the later indices, and of the earlier
@@ -32,6 +33,11 @@ remove_insert [] (suc i) x h = absurd (omega arith)
 remove_insert (y ∷ xs) zero x h = refl
 remove_insert (y ∷ xs) (suc i) x h = ap (λ rest. y ∷ rest) (remove_insert xs i x (omega arith))
 
+-- a list that was written over whole
+pub over : (new old : List Point) (n : ℕ) → length new ≡ length old → n ≡ length old → take n (new ++ drop (length new) old) ≡ new
+over new old n same is =
+    ap (λ rest. take n (new ++ rest)) (drop_all (length new) old (omega arith)) ∙ ap (take n) (append-nil new) ∙ take_all n new (omega arith)
+
 -- one point more is counted anew
 abbrev closing : ℕ → List Point → ℕ → List Point
 closing gone old i = map (closed_up gone) (take i old) ++ drop i old
@@ -48,6 +54,40 @@ module _ (gone i : ℕ) (old now next : List Point) (d : Point) (below : i < len
 
   pub closes_low : x.node ≤ gone → next ≡ set now i x → next ≡ closing gone old (i + 1)
   closes_low h is = closes (is ∙ ap (set now i) (sym (up_low gone x h)))
+
+-- what `opened_up` makes of the later indices, and of the earlier
+open_high : (come : ℕ) (p : Point) → come ≤ p.node → opened_up come p ≡ record { place = p.place; node = p.node + 1 }
+open_high come p h = λ i. record { place = p.place; node = cond (le-ltb p.node come h i) p.node (p.node + 1) }
+
+open_low : (come : ℕ) (p : Point) → p.node < come → opened_up come p ≡ p
+open_low come p h = λ i. record { place = p.place; node = cond (lt-ltb p.node come h i) p.node (p.node + 1) }
+
+pub opened_and_closed : (at : ℕ) (p : Point) → closed_up at (opened_up at p) ≡ p
+opened_and_closed at p = ⊎_elim
+    (λ (low : p.node < at). ap (closed_up at) (open_low at p low) ∙ up_low at p (omega arith))
+    (λ (high : at ≤ p.node).
+    let back : p.node + 1 - 1 ≡ p.node = omega arith in
+    ap (closed_up at) (open_high at p high) ∙ up_high at (record { place = p.place; node = p.node + 1 }) (omega arith) ∙ (λ i. record { place = p.place; node = back i }))
+    (cases_lt p.node at)
+
+pub all_opened_and_closed : (at : ℕ) (points : List Point) → map (closed_up at) (map (opened_up at) points) ≡ points
+all_opened_and_closed at [] = refl
+all_opened_and_closed at (p ∷ points) = λ i. opened_and_closed at p i ∷ all_opened_and_closed at points i
+
+-- one point more makes way
+module _ (come i : ℕ) (old now next : List Point) (d : Point) (below : i < length old) (long : length now ≡ length old)
+    (so_far : now ≡ map (opened_up come) (take i old) ++ drop i old) where
+  abbrev y : Point
+  y = get_or now i d
+
+  opens : next ≡ set now i (opened_up come y) → next ≡ map (opened_up come) (take (i + 1) old) ++ drop (i + 1) old
+  opens is = is ∙ map_over_more (opened_up come) old now i y below so_far (get_or_default now i d y (omega arith))
+
+  pub opens_high : come ≤ y.node → next ≡ set now i (record { place = y.place; node = y.node + 1 }) → next ≡ map (opened_up come) (take (i + 1) old) ++ drop (i + 1) old
+  opens_high h is = opens (is ∙ ap (set now i) (sym (open_high come y h)))
+
+  pub opens_low : y.node < come → next ≡ set now i y → next ≡ map (opened_up come) (take (i + 1) old) ++ drop (i + 1) old
+  opens_low h is = opens (is ∙ ap (set now i) (sym (open_low come y h)))
 
 -- ---- the points of a ring with a node less
 rises : (gone i j : ℕ) → i ≤ j → cond (ltb gone i) (i - 1) i ≤ cond (ltb gone j) (j - 1) j
@@ -147,7 +187,52 @@ module _ (hash : List ℕ → ℕ) (es : Pairs) (gone : ℕ) (below : gone < len
     ordered = still_before gone (filter (λ p. not (p.node == gone)) points) (AllPairs-filter IsBefore (λ p. not (p.node == gone)) points ring.ordered);
   }
 
--- a ring with a node more, whose points are made anew
+-- ---- the points of a ring with a node more
+module _ (hash : List ℕ → ℕ) (es : Pairs) (come : ℕ) (node : List ℕ × ℕ) (within : come ≤ length es) where
+  abbrev more : Pairs
+  more = insert es come node
+
+  shifted : (p : Point) → node_at more (opened_up come p).node ≡ node_at es p.node
+  shifted p = ⊎_elim
+      (λ (low : p.node < come). ap (λ (q : Point). node_at more q.node) (open_low come p low) ∙ get_or-insert_below es come node ([], 0) p.node low within)
+      (λ (high : come ≤ p.node). ap (λ (q : Point). node_at more q.node) (open_high come p high) ∙ get_or-insert_above es come node ([], 0) p.node high within)
+      (cases_lt p.node come)
+
+  pub ArePoints-insert : (points : List Point) → ArePoints hash es points
+      → ArePoints hash more (map (opened_up come) points ++ points_of hash node come)
+  ArePoints-insert points just =
+      let new : node_at more come ≡ node = get_or-insert_at es come node ([], 0) within in
+      let others = map (opened_up come) points in
+      let its = points_of hash node come in
+      let old_at : (i place : ℕ) (p : Point) → opened_up come p ≡ record { place = place; node = i } → p.place ≡ place → IsPointOf hash (node_at more i) place
+      → Contains (others ++ its) (record { place = place; node = i }) =
+      λ i place p e same of.
+      let was : node_at es p.node ≡ node_at more i = sym (shifted p) ∙ ap (λ (q : Point). node_at more q.node) e in
+      let there = just.all p.node place (subst (λ node. IsPointOf hash node place) (sym was) of) in
+      Contains-append_left others its _ (subst (Contains others) (ap (opened_up come) (λ j. record { place = sym same j; node = p.node }) ∙ e) (in_map (opened_up come) points _ there)) in
+      record {
+        real = All-append (IsPointOfItsNode hash more) others its
+            (All-map (IsPointOfItsNode hash more) (opened_up come) points
+            (λ k d l. let p = get_or points k d in subst (λ node. IsPointOf hash node p.place) (sym (shifted p)) (just.real k d l)))
+            (λ k d l. let p = get_or its k d in let of = each hash node come k d l in
+            subst (λ n. IsPointOf hash n p.place) (sym (ap (node_at more) of.0 ∙ new)) of.1);
+        all = λ i place of. ⊎_elim
+            (λ (low : i < come). old_at i place (record { place = place; node = i }) (open_low come (record { place = place; node = i }) low) refl of)
+            (λ (high : come ≤ i). ⊎_elim
+            (λ (above : come < i).
+            let back : i - 1 + 1 ≡ i = omega arith in
+            let p : Point = record { place = place; node = i - 1 } in
+            old_at i place p (open_high come p (omega arith) ∙ (λ j. record { place = place; node = back j })) refl of)
+            (λ (here : i ≤ come).
+            let is : come ≡ i = omega arith in
+            Contains-append_right others its _
+            (subst (λ (j : ℕ). Contains its (record { place = place; node = j })) is
+            (among hash node come place (subst (λ n. IsPointOf hash n place) (ap (node_at more) (sym is) ∙ new) of))))
+            (cases_lt come i))
+            (cases_lt i come);
+      }
+
+-- a ring with a node more
 pub ring_with : (hash : List ℕ → ℕ) (es : Pairs) (name : List ℕ) (w i : ℕ) (old points : List Point) → IsRing hash es old → IsGapAt es name i → 1 ≤ w
     → ArePoints hash (insert es i (name, w)) points → AllPairs IsBefore points → IsRing hash (insert es i (name, w)) points
 ring_with hash es name w i old points ring gap some just ordered = record {

@@ -3,3 +3,4 @@ pub mod Names
 pub mod Owners
 pub mod Edits
 pub mod Laws
+pub mod Shares

@@ -1,9 +1,9 @@
 -- Nodes in the order of their names.
-use Rattle.std.proofs.Common.{ℕ, zero, suc, ◌≡◌, ◌+◌, ◌<◌, ◌≤◌, T, Bool, true, false, not, cond, ◌&&◌, List, [], ◌∷◌, length, get_or, Some, None, Result, Ok, Err, arith, sym, ap, ◌∙◌, subst, refl, ⊎_elim}
+use Rattle.std.proofs.Common.{ℕ, zero, suc, ◌≡◌, ◌≢◌, ◌+◌, ◌-◌, ◌<◌, ◌≤◌, T, Bool, true, false, not, cond, ◌&&◌, List, [], ◌∷◌, length, get_or, Option, Some, None, Result, Ok, Err, arith, sym, ap, ◌∙◌, subst, refl, ⊎_elim}
 use Rattle.std.specs.List.{insert, remove}
-use Rattle.std.specs.List.Sorted.{IsBinarySearchResult, IsSearchInRange, IsSortedBy}
+use Rattle.std.specs.List.Sorted.{IsSorted, IsBinarySearchResult, IsSearchInRange, IsSortedBy}
 use Rattle.std.specs.Result.{MatchResult}
-use Rattle.std.specs.Ordering.{nat_cmp, is_lt, is_eq, is_gt, eq_by_cmp, ordering_reverse}
+use Rattle.std.specs.Ordering.{nat_cmp, is_lt, is_eq, is_ge, is_gt, eq_by_cmp, ordering_reverse, ordering_then}
 use Rattle.std.specs.declared.cmp.Ordering.{Ordering}
 use Rattle.std.specs.declared.cmp.Ordering.TheVariants.{Less, Equal, Greater}
 use Rattle.std.specs.Cmp.Lexicographic.{slice_cmp, nat_list_cmp_total}
@@ -12,9 +12,10 @@ use Rattle.std.specs.FinMap.{find, put, is_sorted, slice_cmp-IsAntisymmetric, na
 use Rattle.std.specs.FinMap.Entries.{below_all, where_key, by_order, is_sorted-put, is_sorted-where_key, find-where_key}
 use Rattle.std.proofs.lemmas.Bool.{cases_lt}
 use Rattle.std.proofs.lemmas.Cmp.{tied_itself, eq_by_cmp_equiv}
-use Rattle.std.proofs.lemmas.List.{length-map, get_or-map}
+use Rattle.std.proofs.lemmas.List.{length-map, get_or-map, get_or_default}
 use Rattle.std.proofs.lemmas.List.Sorted.{searchable_from_sorted}
-use Rattle.hashers.proofs.TextMapLemmas.{removal_of_nothing, same_key}
+use Rattle.hashers.proofs.TextMapLemmas.{alike, get_insert, removal_of_nothing, same_key}
+use Rattle.hashers.specs.TextMaps.{KeysDiffer, with_all}
 use Rattle.hash_ring.specs.declared.Node.{Node}
 use Rattle.hash_ring.specs.Ring.{Nodes}
 use Rattle.hash_ring.specs.Points.{IsGapAt, IsNamedAt, node_at, nodes_of, pair_of, pairs}
@@ -55,6 +56,87 @@ names_rise (e ∷ es) h i zero l m = absurd (omega arith)
 names_rise (e ∷ es) h zero (suc j) l m = below_at e.0 es j (both_parts _ _ h).0 (omega arith)
 names_rise (e ∷ es) h (suc i) (suc j) l m = names_rise es (both_parts _ _ h).1 i j (omega arith) (omega arith)
 
+-- and where each is less than the next, each is less than those after it
+both_from : (a b : Bool) → T a → T b → T (a && b)
+both_from true b h k = k
+both_from false b h k = h
+
+pub not_ge : (r : Ordering) → is_ge r ≡ false → r ≡ Less
+not_ge Less e = refl
+not_ge Equal e = cc
+not_ge Greater e = cc
+
+is_less : (r : Ordering) → r ≡ Less → T (is_lt r)
+is_less r e = subst (λ r. T (is_lt r)) (sym e) tt
+
+below_too : (x y : List ℕ) (es : Pairs) → by_bytes x y ≡ Less → T (below_all by_bytes y es) → T (below_all by_bytes x es)
+below_too x y [] less h = tt
+below_too x y (e ∷ es) less h =
+    let parts = both_parts _ _ h in
+    both_from _ _ (is_less _ (nat_list_cmp_total.trans x y e.0 less (less_is _ parts.0))) (below_too x y es less parts.1)
+
+below_next : (x : List ℕ) (es : Pairs) → T (is_sorted by_bytes es) → (0 < length es → by_bytes x (node_at es 0).0 ≡ Less) → T (below_all by_bytes x es)
+below_next x [] h less = tt
+below_next x (e ∷ es) h less =
+    let first = less (omega arith) in
+    both_from _ _ (is_less _ first) (below_too x e.0 es first (both_parts _ _ h).0)
+
+pub rises_from : (es : Pairs) → ((k : ℕ) → suc k < length es → by_bytes (node_at es k).0 (node_at es (suc k)).0 ≡ Less) → T (is_sorted by_bytes es)
+rises_from [] next = tt
+rises_from (e ∷ es) next =
+    let rest = rises_from es (λ k l. next (suc k) (omega arith)) in
+    both_from _ _ (below_next e.0 es rest (λ some. next 0 (omega arith))) rest
+
+pub read : (nodes : List Node) (d : Node) (k : ℕ) → k < length nodes → (node_at (pairs nodes) k).0 ≡ (get_or nodes k d).name.items
+read nodes d k l = ap (λ node. node.0) (get_or-map pair_of nodes k d ([], 0) l)
+
+-- what a comparison says of two neighbours
+pub neighbours : (nodes : List Node) (k i : ℕ) (a b : Node) (r : Ordering) → i ≡ suc k → i < length nodes
+    → r ≡ by_bytes (get_or nodes (i - 1) a).name.items (get_or nodes i b).name.items
+    → by_bytes (node_at (pairs nodes) k).0 (node_at (pairs nodes) (suc k)).0 ≡ r
+neighbours nodes k i a b r is below told =
+    let before : i - 1 ≡ k = omega arith in
+    let name_a : (node_at (pairs nodes) k).0 ≡ (get_or nodes (i - 1) a).name.items =
+    read nodes a k (omega arith) ∙ ap (λ (j : ℕ). (get_or nodes j a).name.items) (sym before) in
+    let name_b : (node_at (pairs nodes) (suc k)).0 ≡ (get_or nodes i b).name.items =
+    read nodes b (suc k) (omega arith) ∙ ap (λ (j : ℕ). (get_or nodes j b).name.items) (sym is) in
+    (λ j. by_bytes (name_a j) (name_b j)) ∙ sym told
+
+-- names that rise differ
+pub rising_differ : (es : Pairs) → T (is_sorted by_bytes es) → KeysDiffer es
+rising_differ es h i j d low m same =
+    let here : (k : ℕ) → k < length es → get_or es k d ≡ node_at es k = λ k l. get_or_default es k d ([], 0) l in
+    let less : by_bytes (node_at es i).0 (node_at es j).0 ≡ Less = names_rise es h i j low m in
+    let tied : (node_at es i).0 ≡ (node_at es j).0 = sym (ap (λ e. e.0) (here i (omega arith))) ∙ same ∙ ap (λ e. e.0) (here j m) in
+    let equal : by_bytes (node_at es i).0 (node_at es j).0 ≡ Equal = ap (by_bytes (node_at es i).0) (sym tied) ∙ itself (node_at es i).0 in
+    cc
+
+-- nodes in order rise where their names differ
+abbrev by_name : Node → Node → Ordering
+by_name a b = ordering_then (by_bytes a.name.items b.name.items) (nat_cmp a.weight b.weight)
+
+less_of_two : (a b : Node) (r : Ordering) → by_bytes a.name.items b.name.items ≡ r → is_lt (by_name b a) ≡ false → a.name.items ≢ b.name.items → r ≡ Less
+less_of_two a b Less e h ne = refl
+less_of_two a b Equal e h ne = absurd (ne (same_key a.name.items b.name.items (ap is_eq e)))
+less_of_two a b Greater e h ne =
+    let back : is_lt (by_name b a) ≡ true = ap (λ r. is_lt (ordering_then r (nat_cmp b.weight a.weight))) (back_greater a.name.items b.name.items e) in
+    cc
+
+pub sorted_rise : (nodes : List Node) → IsSorted by_name nodes → KeysDiffer (pairs nodes) → T (is_sorted by_bytes (pairs nodes))
+sorted_rise [] sorted differ = tt
+sorted_rise (n ∷ ns) sorted differ = rises_from (pairs (n ∷ ns))
+    (λ k l.
+    let nodes = n ∷ ns in
+    let long = length-map nodes pair_of in
+    let next : k + 1 ≡ suc k = omega arith in
+    let a = get_or nodes k n in
+    let b = get_or nodes (suc k) n in
+    let name_a = read nodes n k (omega arith) in
+    let name_b = read nodes n (suc k) (omega arith) in
+    let in_order : is_lt (by_name b a) ≡ false = subst (λ (j : ℕ). is_lt (by_name (get_or nodes j n) a) ≡ false) next (sorted k n (omega arith) (omega arith)) in
+    let ne : a.name.items ≢ b.name.items = λ same. differ k (suc k) ([], 0) (omega arith) l (name_a ∙ same ∙ sym name_b) in
+    (λ j. by_bytes (name_a j) (name_b j)) ∙ less_of_two a b (by_bytes a.name.items b.name.items) refl in_order ne)
+
 -- a node at an index is found
 pub found_at : (es : Pairs) → T (is_sorted by_bytes es) → (i : ℕ) → i < length es → find by_bytes (node_at es i).0 es ≡ Some (node_at es i).1
 found_at [] h i l = absurd (omega arith)
@@ -93,9 +175,6 @@ sorted_nodes nodes h k d low next =
     let here : (i : ℕ) → i < length nodes → (get_or nodes i d).name.items ≡ (node_at (pairs nodes) i).0 = λ i l. sym (ap (λ node. node.0) (get_or-map pair_of nodes i d ([], 0) l)) in
     let rise : by_bytes a b ≡ Less = names_rise (pairs nodes) h k (k + 1) (omega arith) (omega arith) in
     ap is_lt ((λ j. by_bytes (here (k + 1) next j) (here k (omega arith) j)) ∙ back_less a b rise)
-
-pub read : (nodes : List Node) (d : Node) (k : ℕ) → k < length nodes → (node_at (pairs nodes) k).0 ≡ (get_or nodes k d).name.items
-read nodes d k l = ap (λ node. node.0) (get_or-map pair_of nodes k d ([], 0) l)
 
 pub named_or_gap : (nodes : List Node) (name : List ℕ) (r : Result ℕ ℕ) → T (is_sorted by_bytes (pairs nodes)) → IsSearchInRange r (length nodes)
     → IsBinarySearchResult (λ node. by_bytes node.name.items name) nodes r → MatchResult r (IsNamedAt (pairs nodes) name) (IsGapAt (pairs nodes) name)
@@ -216,6 +295,36 @@ pub no_nodes : nodes_of [] ≡ fin.empty
 no_nodes =
     fin.same_map nat_list_cmp_total (slice_cmp-IsAntisymmetric nat_cmp-IsAntisymmetric) _ _
     (λ q. fin.get-from_sorted by_bytes [] q tt ∙ sym (fin.get-empty by_bytes q))
+
+-- all nodes put in one after the other
+abbrev found_or : Option ℕ → Option ℕ → Option ℕ
+found_or None before = before
+found_or (Some w) before = Some w
+
+none_above : (q x : List ℕ) (es : Pairs) → q ≡ x → T (below_all by_bytes x es) → find by_bytes q es ≡ None
+none_above q x [] is h = refl
+none_above q x (e ∷ es) is h =
+    let parts = both_parts _ _ h in
+    let less : by_bytes q e.0 ≡ Less = ap (λ k. by_bytes k e.0) is ∙ less_is _ parts.0 in
+    ap (λ r. cond (is_eq r) (Some e.1) (find by_bytes q es)) less ∙ none_above q x es is parts.1
+
+get_with_all : (m : Nodes) (es : Pairs) (q : List ℕ) → T (is_sorted by_bytes es) → fin.get (with_all m es) q ≡ found_or (find by_bytes q es) (fin.get m q)
+get_with_all m [] q h = refl
+get_with_all m (e ∷ es) q h =
+    let parts = both_parts _ _ h in
+    get_with_all (fin.insert m e.0 e.1) es q parts.1 ∙ ap (found_or (find by_bytes q es)) (get_insert m e.0 q e.1)
+    ∙ elim (is_eq (by_bytes q e.0)) as (λ b. is_eq (by_bytes q e.0) ≡ b → found_or (find by_bytes q es) (cond b (Some e.1) (fin.get m q)) ≡ found_or (cond b (Some e.1) (find by_bytes q es)) (fin.get m q)) [
+      | true ↦ λ t. ap (λ o. found_or o (Some e.1)) (none_above q e.0 es (same_key q e.0 t) parts.0)
+      | false ↦ λ t. refl
+    ] refl
+
+found_or_none : (o : Option ℕ) → found_or o None ≡ o
+found_or_none None = refl
+found_or_none (Some w) = refl
+
+pub all_put_in : (es : Pairs) → T (is_sorted by_bytes es) → with_all fin.empty es ≡ nodes_of es
+all_put_in es h = alike _ _
+    (λ q. get_with_all fin.empty es q h ∙ ap (found_or (find by_bytes q es)) (fin.get-empty by_bytes q) ∙ found_or_none (find by_bytes q es) ∙ sym (get_is es h q))
 
 -- ---- what a search by name says of the map
 module _ (nodes now : List Node) (name text : List ℕ) (m : Nodes) (h : T (is_sorted by_bytes (pairs nodes))) (view : nodes_of (pairs nodes) ≡ m) (read_nodes : now ≡ nodes) (read_name : text ≡ name) where

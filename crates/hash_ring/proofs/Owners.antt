@@ -1,5 +1,5 @@
 -- Who owns a key, and how a ring's points tell it.
-use Rattle.std.proofs.Common.{ℕ, zero, suc, min, is_some, take, ◌≡◌, ◌≢◌, ◌+◌, ◌-◌, ◌<◌, ◌≤◌, Bool, true, false, not, cond, List, [], ◌∷◌, ◌++◌, length, get_or, Option, Some, None, arith, sym, ap, ◌∙◌, subst, refl, ⊎_elim}
+use Rattle.std.proofs.Common.{ℕ, zero, suc, min, is_some, take, ◌≡◌, ◌≢◌, ◌+◌, ◌-◌, ◌<◌, ◌≤◌, Bool, true, false, not, cond, List, [], ◌∷◌, ◌++◌, length, get_or, Option, Some, None, arith, sym, ap, ◌∙◌, subst, refl, ⊎_elim, inl, inr, ◌⊎◌}
 use Rattle.std.specs.Prelude.{◌↔◌, IsTrue, ◌||◌, nat_eq}
 use Rattle.std.specs.Borrow.{Bor}
 use Rattle.std.specs.List.{All, AllPairs, Contains, list_any}
@@ -11,13 +11,13 @@ use Rattle.std.specs.Cmp.Lexicographic.{nat_list_cmp_total, pointwise, bytes_dec
 use Rattle.std.specs.FinMap as fin
 use Rattle.std.specs.FinMap.{slice_cmp-IsAntisymmetric, nat_cmp-IsAntisymmetric}
 use Rattle.std.proofs.lemmas.Bool.{cases_lt, lt-ltb, le-ltb}
-use Rattle.std.proofs.lemmas.List.Elements.{All-cons, All-nil, Contains-append_left, Contains-push}
-use Rattle.std.proofs.lemmas.List.{get_or_default, length-map}
+use Rattle.std.proofs.lemmas.List.Elements.{All-append, All-cons, All-nil, All-take, Contains-append_left, Contains-push}
+use Rattle.std.proofs.lemmas.List.{get_or_default, length-map, take_more}
 use Rattle.std.proofs.lemmas.List.Kept.{AllPairs-cons}
 use Rattle.hashers.proofs.TextMapLemmas.{get_remove, same_key}
 use Rattle.hash_ring.specs.declared.Node.{Node}
 use Rattle.hash_ring.specs.declared.Point.{Point}
-use Rattle.hash_ring.specs.Ring.{AreOwners, without, HasPoint, IsOwner, IsPointOf, Nodes, point, turn}
+use Rattle.hash_ring.specs.Ring.{AreOwners, IsFirstToPass, without, HasPoint, IsOwner, IsPointOf, Nodes, point, turn}
 use Rattle.hash_ring.specs.Points.{IsBefore, IsRing, IsStart, index_round, node_at, nodes_of, pair_of, pairs}
 use Rattle.hash_ring.proofs.Points.{is_there}
 use Rattle.hash_ring.proofs.Names.{Pairs, by_bytes, found_at, found_where, get_is, itself, no_greater, read}
@@ -196,10 +196,10 @@ turn_low at place h = ap (λ b. cond b 1 0) (le-ltb place at h)
 turn_high : (at place : ℕ) → place < at → turn at place ≡ 1
 turn_high at place h = ap (λ b. cond b 1 0) (lt-ltb place at h)
 
-index_low : (n first s : ℕ) → s < n - first → index_round n first s ≡ first + s
+pub index_low : (n first s : ℕ) → s < n - first → index_round n first s ≡ first + s
 index_low n first s h = ap (λ b. cond b (first + s) (s - (n - first))) (lt-ltb s (n - first) h)
 
-index_high : (n first s : ℕ) → n - first ≤ s → index_round n first s ≡ s - (n - first)
+pub index_high : (n first s : ℕ) → n - first ≤ s → index_round n first s ≡ s - (n - first)
 index_high n first s h = ap (λ b. cond b (first + s) (s - (n - first))) (le-ltb s (n - first) h)
 
 index_below : (n first s : ℕ) → first ≤ n → s < n → index_round n first s < n
@@ -208,7 +208,7 @@ index_below n first s within below = ⊎_elim
     (λ (high : n - first ≤ s). let e = index_high n first s high in omega arith)
     (cases_lt s (n - first))
 
-upto : (points : List Point) → AllPairs IsBefore points → (i j : ℕ) (d : Point) → i ≤ j → j < length points → IsBefore (get_or points i d) (get_or points j d)
+pub upto : (points : List Point) → AllPairs IsBefore points → (i j : ℕ) (d : Point) → i ≤ j → j < length points → IsBefore (get_or points i d) (get_or points j d)
 upto points before i j d le within = ⊎_elim
     (λ (less : i < j). before i j d less within)
     (λ (same : j ≤ i). let e : i ≡ j = omega arith in subst (λ (k : ℕ). IsBefore (get_or points i d) (get_or points k d)) e (record { place = omega arith; node = λ f. omega arith }))
@@ -467,6 +467,84 @@ module _ (hash : List ℕ → ℕ) (nodes : List Node) (points : List Point) (ri
               subst (λ (t : ℕ). Contains (names ++ name ∷ []) (name_round es points first t none)) e (subst (Contains (names ++ name ∷ [])) (sym name_is) (Contains-push names name)))
               (cases_lt t steps);
         }
+
+-- ---- a round on which a test refuses
+among_or_other : (name : List ℕ) (names : List (List ℕ)) → Contains names name ⊎ AreOther name names
+among_or_other name [] = inr tt
+among_or_other name (a ∷ names) = ⊎_elim
+    (λ c. inl (suc c.0, omega (arith, c.1), c.2))
+    (λ o. elim (is_eq (by_bytes a name)) as (λ b. is_eq (by_bytes a name) ≡ b → Contains (a ∷ names) name ⊎ AreOther name (a ∷ names)) [
+      | true ↦ λ e. inl (0, omega arith, same_key a name e)
+      | false ↦ λ e. inr (λ is. let equal : is_eq (by_bytes a name) ≡ true = ap (λ k. is_eq (by_bytes a k)) (sym is) ∙ ap is_eq (itself a) in cc, o)
+    ] refl)
+    (among_or_other name names)
+
+owners_take : (hash : List ℕ → ℕ) (nodes : Nodes) (at : ℕ) (names : List (List ℕ)) (n : ℕ) → AreOwners hash nodes at names → AreOwners hash nodes at (take n names)
+owners_take hash nodes at [] zero o = tt
+owners_take hash nodes at [] (suc n) o = tt
+owners_take hash nodes at (a ∷ names) zero o = tt
+owners_take hash nodes at (a ∷ names) (suc n) o = (o.0, owners_take hash (fin.remove nodes a) at names n o.1)
+
+-- the names so far, all of them refused
+pub record AreRefusedRound (hash : List ℕ → ℕ) (nodes : List Node) (points : List Point) (at first : ℕ) (refuses : List ℕ → Type 0) (steps : ℕ) : Type 0 where
+  pub names : List (List ℕ)
+  pub round : AreNamesRound hash nodes points at first names steps
+  pub refused : All refuses names
+
+module _ (hash : List ℕ → ℕ) (nodes : List Node) (points : List Point) (ring : IsRing hash (pairs nodes) points) (at first : ℕ) (start : IsStart points at first) (answers : List ℕ → Bool → Type 0) where
+  abbrev Refuses : List ℕ → Type 0
+  Refuses name = answers name false
+
+  pub refused_start : AreRefusedRound hash nodes points at first Refuses 0
+  refused_start = record { names = []; round = round_start hash nodes points ring at first start []; refused = All-nil Refuses }
+
+  pub refused_all : (steps : ℕ) → AreRefusedRound hash nodes points at first Refuses steps → length points ≤ steps
+      → (name : List ℕ) → fin.get (nodes_of (pairs nodes)) name ≢ None → Refuses name
+  refused_all steps so_far end name there = met (fin.get (nodes_of (pairs nodes)) name) refl
+    where
+      met : (o : Option ℕ) → fin.get (nodes_of (pairs nodes)) name ≡ o → Refuses name
+      met None e = absurd (there e)
+      met (Some w) e =
+          let f = found_where (pairs nodes) name w (sym (get_is (pairs nodes) ring.named name) ∙ e) in
+          let some : 1 ≤ w = subst (λ node. 1 ≤ node.1) f.is (ring.weighed f.i ([], 0) f.below) in
+          let r = reached hash (pairs nodes) points ring at first start none name (point hash name 0) (record { weight = w; there = e; point = record { number = 0; below = some; is = refl } }) in
+          let c = subst (Contains so_far.names) r.node (so_far.round.passed r.s (omega (arith, r.below))) in
+          subst Refuses c.2 (so_far.refused c.0 name c.1)
+
+  module _ (steps k : ℕ) (p : Point) (node : Node) (below : steps < length points) (index : k ≡ index_round (length points) first steps) (point : p ≡ get_or points k p) (is : node ≡ get_or nodes p.node node)
+      (so_far : AreRefusedRound hash nodes points at first Refuses steps) where
+    pub refused_more : Refuses node.name.items → AreRefusedRound hash nodes points at first Refuses (steps + 1)
+    refused_more refusal = ⊎_elim
+        (λ (old : Contains so_far.names node.name.items). record {
+          names = so_far.names;
+          round = round_old hash nodes points ring at first start so_far.names steps k p node below index point is so_far.round old;
+          refused = so_far.refused;
+        })
+        (λ (new : AreOther node.name.items so_far.names). record {
+          names = so_far.names ++ node.name.items ∷ [];
+          round = round_new hash nodes points ring at first start so_far.names steps k p node below index point is so_far.round (not_among node.name.items so_far.names new);
+          refused = All-append Refuses so_far.names (node.name.items ∷ []) so_far.refused (All-cons Refuses node.name.items [] refusal (All-nil Refuses));
+        })
+        (among_or_other node.name.items so_far.names)
+
+    pub first_to_pass : answers node.name.items true → IsFirstToPass hash (nodes_of (pairs nodes)) at answers node.name.items
+    first_to_pass pass = ⊎_elim
+        (λ (old : Contains so_far.names node.name.items).
+        let cut : take (old.0 + 1) so_far.names ≡ take old.0 so_far.names ++ node.name.items ∷ [] =
+        take_more so_far.names old.0 node.name.items old.1 ∙ ap (λ name. take old.0 so_far.names ++ name ∷ []) old.2 in
+        record {
+          before = take old.0 so_far.names;
+          owners = subst (AreOwners hash (nodes_of (pairs nodes)) at) cut (owners_take hash (nodes_of (pairs nodes)) at so_far.names (old.0 + 1) so_far.round.own);
+          refused = All-take Refuses old.0 so_far.names so_far.refused;
+          passes = pass;
+        })
+        (λ (new : AreOther node.name.items so_far.names). record {
+          before = so_far.names;
+          owners = (round_new hash nodes points ring at first start so_far.names steps k p node below index point is so_far.round (not_among node.name.items so_far.names new)).own;
+          refused = so_far.refused;
+          passes = pass;
+        })
+        (among_or_other node.name.items so_far.names)
 
 -- ---- a name among names
 abbrev is_name : List ℕ → Bor (List ℕ) → Bool

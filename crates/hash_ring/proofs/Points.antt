@@ -41,7 +41,7 @@ module _ (hash : List ℕ → ℕ) where
       λ d. get_or-map-range_with_len nth 0 node.1 of.number of.number d of.below (omega arith) ∙ (λ j. record { place = sym of.is j; node = i }) in
       (of.number, omega (arith, of.below, length-map-range_with_len nth 0 node.1), here _)
 
-  each : (node : List ℕ × ℕ) (i : ℕ) → All (λ p. (p.node ≡ i) × IsPointOf hash node p.place) (points_of hash node i)
+  pub each : (node : List ℕ × ℕ) (i : ℕ) → All (λ p. (p.node ≡ i) × IsPointOf hash node p.place) (points_of hash node i)
   each node i k d below =
       let nth = λ (j : ℕ). let p : Point = record { place = point hash node.0 j; node = i } in p in
       let less : k < node.1 = omega (arith, length-map-range_with_len nth 0 node.1) in

@@ -6,8 +6,13 @@ use Rattle.std.specs.declared.cmp.Ordering.TheVariants.{Less, Greater}
 use Rattle.std.specs.Cmp.Lexicographic.{slice_cmp}
 use Rattle.std.specs.FinMap.{from_sorted}
 use Rattle.std.specs.FinMap.Entries.{is_sorted}
+use Rattle.std.specs.Global.{Vec}
+use Rattle.std.specs.List.Sorted.{IsPermutation}
+use Rattle.hashers.specs.TextMaps.{KeysDiffer}
 use Rattle.hash_ring.specs.declared.Node.{Node}
 use Rattle.hash_ring.specs.declared.Point.{Point}
+use Rattle.hash_ring.specs.declared.Refused.{Refused}
+use Rattle.hash_ring.specs.declared.Refused.TheVariants.{IsThere, NoRoom}
 use Rattle.hash_ring.specs.Ring.{Nodes, IsPointOf, point}
 
 -- a node's name with its weight
@@ -77,6 +82,10 @@ pub record IsGapAt (nodes : List (List ℕ × ℕ)) (name : List ℕ) (i : ℕ) 
 abbrev pub closed_up : ℕ → Point → Point
 closed_up gone p = record { place = p.place; node = if nat_lt gone p.node then p.node - 1 else p.node }
 
+-- the node of an index, where one has come at another
+abbrev pub opened_up : ℕ → Point → Point
+opened_up come p = record { place = p.place; node = if nat_lt p.node come then p.node else p.node + 1 }
+
 -- the points of the other nodes
 abbrev pub left_without : ℕ → List Point → List Point
 left_without gone points = map (closed_up gone) (filter (λ p. not (p.node == gone)) points)
@@ -91,3 +100,8 @@ pub record IsStart (points : List Point) (at i : ℕ) : Type 0 where
 -- the index some steps after the first one, round a list of n
 abbrev pub index_round : ℕ → ℕ → ℕ → ℕ
 index_round n first steps = if nat_lt steps (n - first) then first + steps else steps - (n - first)
+
+-- a refusal hands all nodes back, in whatever order, and tells that two have one name from want of memory
+abbrev pub HandsAllBack : List Node → Refused (Vec Node) → Type 0
+HandsAllBack nodes (IsThere back) = IsPermutation nodes back.items × (KeysDiffer (pairs back.items) → ⊥)
+HandsAllBack nodes (NoRoom back) = IsPermutation nodes back.items × KeysDiffer (pairs back.items)

@@ -1,13 +1,13 @@
 -- Nodes on a ring of 2^64 places, and which of them owns a key.
-use Rattle.std.specs.Prelude.{ℕ, ◌≡◌, ◌≢◌, ◌≤◌, ◌<◌, nat_lt, if◌then◌else◌, List, [], ◌∷◌, ◌++◌, length, take, Some, None, not, false}
-use Rattle.std.specs.List.{filter}
+use Rattle.std.specs.Prelude.{ℕ, ◌≡◌, ◌≢◌, ◌≤◌, ◌<◌, ◌-◌, ◌^◌, nat_lt, if◌then◌else◌, List, [], ◌∷◌, ◌++◌, length, map, take, Some, None, Bool, not, true, false}
+use Rattle.std.specs.List.{All, filter, sum_by}
 use Rattle.std.specs.Ordering.{nat_cmp, eq_by_cmp, is_gt}
 use Rattle.std.specs.Cmp.Lexicographic.{slice_cmp}
 use Rattle.std.specs.Hash.{le_bytes}
 use Rattle.std.specs.Global.{Vec}
 use Rattle.hash_ring.specs.declared.Refused.{Refused}
 use Rattle.hash_ring.specs.declared.Refused.TheVariants.{IsThere, NoRoom}
-use Rattle.std.specs.FinMap.{get, remove}
+use Rattle.std.specs.FinMap.{entries, get, remove}
 use Rattle.hashers.specs.TextMaps.{TextMap}
 
 -- the nodes: names with their weights
@@ -55,6 +55,37 @@ AreOwners hash nodes at [] = Unit {0}
 AreOwners hash nodes at (name ∷ names) =
     IsOwner hash nodes at name × AreOwners hash (remove nodes name) at names
 
+-- the first owner of the key whom a test passes: it refuses those before
+pub record IsFirstToPass (hash : List ℕ → ℕ) (nodes : Nodes) (at : ℕ) (answers : List ℕ → Bool → Type 0) (name : List ℕ) : Type 0 where
+  pub before : List (List ℕ)
+  pub owners : AreOwners hash nodes at (before ++ name ∷ [])
+  pub refused : All (λ other. answers other false) before
+  pub passes : answers name true
+
+-- places of the ring, from one on and before another
+pub record Stretch : Type 0 where
+  pub owner : List ℕ
+  pub from : ℕ
+  pub to : ℕ
+
+-- stretches one behind the other from a place to another, each with the node that owns its places
+abbrev pub AreStretches : (List ℕ → ℕ) → Nodes → ℕ → ℕ → List Stretch → Type 0
+AreStretches hash nodes from to [] = from ≡ to
+AreStretches hash nodes from to (s ∷ rest) =
+    (s.from ≡ from) × (from ≤ s.to) × ((at : ℕ) → from ≤ at → at < s.to → IsOwner hash nodes at s.owner)
+    × AreStretches hash nodes s.to to rest
+
+-- how many places of the stretches the node owns
+abbrev pub share_of : List Stretch → List ℕ → ℕ
+share_of stretches name =
+    sum_by (λ s. if eq_by_cmp (slice_cmp nat_cmp) name s.owner then s.to - s.from else 0) stretches
+
+-- how many of the ring's 2 ^ 64 places each node owns, in the order of their names
+pub record AreShares (hash : List ℕ → ℕ) (nodes : Nodes) (shares : List ℕ) : Type 0 where
+  pub stretches : List Stretch
+  pub whole : AreStretches hash nodes 0 (2 ^ 64) stretches
+  pub each : shares ≡ map (λ node. share_of stretches node.0) (entries nodes)
+
 -- a key has another owner only where this one owned it before
 abbrev pub MovesOnlyFrom : (List ℕ → ℕ) → Nodes → Nodes → List ℕ → Type 0
 MovesOnlyFrom hash old new gone =
@@ -91,6 +122,6 @@ BeginAlike hash nodes at xs ys =
     → xs ≡ take (length xs) ys
 
 -- a refusal hands the name back, and tells a name that is there from want of memory
-abbrev pub HandsBack : Nodes → Vec ℕ → Refused → Type 0
+abbrev pub HandsBack : Nodes → Vec ℕ → Refused (Vec ℕ) → Type 0
 HandsBack nodes name (IsThere back) = (back ≡ name) × (get nodes name.items ≢ None)
 HandsBack nodes name (NoRoom back) = (back ≡ name) × (get nodes name.items ≡ None)

@@ -9,31 +9,33 @@
 //! keys fall depends on the hasher: see docs/RING.md.
 #![tactic(auto)]
 
-ghost use Rattle.std.specs.Prelude.{◌≡◌, ◌≢◌, ◌↔◌, ◌<◌, ◌≤◌, ◌^◌, if◌then◌else◌, ℕ, List, IfOk, IfErr, IfSome, IfNone, OnOk, OnErr, OnSome, IsTrue, MatchResult, None, T, length, map, min};
+ghost use Rattle.std.specs.Prelude.{◌≡◌, ◌≢◌, ◌↔◌, ◌+◌, ◌<◌, ◌≤◌, ◌^◌, ◌++◌, if◌then◌else◌, ℕ, List, IfOk, IfErr, IfSome, IfNone, OnOk, OnErr, OnSome, IsTrue, MatchResult, None, T, false, length, map, min, sum, take};
 ghost use Rattle.std.specs.Cmp.Lexicographic.{slice_cmp};
 ghost use Rattle.std.specs.Coded.{coded_list, coded_ℕ};
 ghost use Rattle.std.specs.FinMap as map;
+ghost use Rattle.std.specs.Fn.{FnReturnsAt};
 ghost use Rattle.std.specs.FinMap.Entries.{is_sorted};
-ghost use Rattle.std.specs.List.{AllPairs, Contains};
+ghost use Rattle.std.specs.List.{All, AllPairs, Contains};
 ghost use Rattle.std.specs.Ordering.{nat_cmp};
 ghost use Rattle.std.specs.List.Sorted.{IsPermutation};
 ghost use Rattle.hashers.specs.Text.{texts};
 ghost use Rattle.hashers.specs.TextMaps.{InsertsCommute, KeysDiffer, OthersStay, with_all};
-ghost use Rattle.hash_ring.specs.Ring.{Nodes, AreOwners, BeginAlike, HandsBack, IsOwner, KeepOrder, MovesOnlyFrom, MovesOnlyTo, OthersKeep, OwnsNothing};
-ghost use Rattle.hash_ring.specs.Points.{AddsPoints, ArePoints, IsBefore, IsGapAt, IsNamedAt, IsRing, IsStart, closed_up, index_round, left_without, pairs, ring_of};
+ghost use Rattle.hash_ring.specs.Ring.{Nodes, AreOwners, AreShares, BeginAlike, HandsBack, IsFirstToPass, IsOwner, KeepOrder, MovesOnlyFrom, MovesOnlyTo, OthersKeep, OwnsNothing};
+ghost use Rattle.hash_ring.specs.Points.{AddsPoints, ArePoints, HandsAllBack, IsBefore, IsGapAt, IsNamedAt, IsRing, IsStart, closed_up, index_round, left_without, opened_up, pair_of, pairs, points_of, ring_of};
 
 use hashers::laws::{Piecewise, hash_of};
 use std::alloc::{AllocError, AllocFailed, Global};
 use std::error::Error as StdError;
 use std::fmt;
-use std::fmt::{Display, Formatter};
+use std::fmt::{Debug, Display, Formatter};
 use std::marker::{Model, PhantomData};
 
 #[cfg(test)]
 mod tests;
 
-/// A node: its name, and its weight, which is how many points it has on the ring.
-#[derive(Drop)]
+/// A node: its name, and its weight, which is how many points it has on the ring. Nodes are in the order of their names, byte by
+/// byte, and of one name in that of their weights.
+#[derive(Debug, PartialEq, Eq, PartialOrd, Ord, Drop)]
 pub struct Node {
     pub name: Vec<u8>,
     pub weight: u64,
@@ -46,25 +48,25 @@ struct Point {
     node: usize,
 }
 
-/// Why a node was not added. Its name comes back, and the ring is as it was.
+/// Why a node was not added, or a ring was not built. What was handed over comes back: the name, or all nodes.
 #[derive(Debug, Drop)]
-pub enum Refused {
-    /// A node of this name is on the ring.
-    IsThere(Vec<u8>),
-    /// There is no memory for the node and the points.
-    NoRoom(Vec<u8>),
+pub enum Refused<T> {
+    /// A node of this name is on the ring; or two of the nodes have one name.
+    IsThere(T),
+    /// There is no memory for the nodes and the points.
+    NoRoom(T),
 }
 
-impl Display for Refused {
+impl<T> Display for Refused<T> {
     fn fmt<W: fmt::Write>(&self, f: &mut Formatter<W>) -> fmt::Result {
         match self {
-            Refused::IsThere(_) => write!(f, "a node of this name is on the ring"),
-            Refused::NoRoom(_) => write!(f, "there is no memory for the node and its points"),
+            Refused::IsThere(_) => write!(f, "two nodes would have one name"),
+            Refused::NoRoom(_) => write!(f, "there is no memory for the nodes and their points"),
         }
     }
 }
 
-impl StdError for Refused {}
+impl<T: Debug + Drop> StdError for Refused<T> {}
 
 /// Nodes on a ring of 2^64 places. Contracts see the finite map from the nodes' names to their weights.
 ///
@@ -97,7 +99,8 @@ fn push_points<H: Piecewise>(
     node: &Node,
     index: usize,
 ) -> Result<(), AllocError>
-    ensures { OnOk result (AddsPoints H.hash_of node.now index points.old.items points.new.items) }
+    ensures ok { OnOk result (AddsPoints H.hash_of node.now index points.old.items points.new.items) }
+    ensures err { OnErr result (take (length points.old.items) points.new.items ≡ points.old.items) }
 {
     let name = node.name.as_slice();
     let mut text = Vec::from_slice(alloc, name)?;
@@ -125,6 +128,18 @@ fn all_points<H: Piecewise>(alloc: Global, nodes: &[Node]) -> Result<Vec<Point>,
     Ok(points)
 }
 
+/// Whether each name is less than those after it.
+fn names_rise(nodes: &[Node]) -> bool
+    ensures { IsTrue result ↔ T (is_sorted (slice_cmp nat_cmp) (pairs nodes.now)) }
+{
+    for i in 1..nodes.len() {
+        if nodes[i - 1].name.cmp(&nodes[i].name).is_ge() {
+            return false;
+        }
+    }
+    true
+}
+
 /// Where the node of this name stands, or where it would.
 fn place_of(nodes: &[Node], name: &[u8]) -> Result<usize, usize>
     requires { T (is_sorted (slice_cmp nat_cmp) (pairs nodes.now)) }
@@ -143,7 +158,7 @@ fn if_so(is: bool, n: usize) -> usize
 }
 
 /// How many points a search without jumps is faster over: so many lie in a processor's caches.
-const FEW: usize = 1 << 15;
+const FEW: usize = 1 << 17;
 
 /// Where the first point at or after the place stands, or the points' end. Over many points each step waits for memory, and
 /// jumps that are guessed fetch points early.
@@ -188,6 +203,61 @@ fn index_round(n: usize, first: usize, steps: usize) -> usize
     } else {
         steps - (n - first)
     }
+}
+
+/// Counts the nodes of the points anew, where one comes at an index.
+fn make_way(points: &mut [Point], at: usize)
+    requires { All (λ p. p.node + 1 < 2 ^ 64) points.old }
+    ensures { points.new ≡ map (opened_up at) points.old }
+{
+    for point in points.iter_mut() {
+        if point.node >= at {
+            point.node += 1;
+        }
+    }
+}
+
+/// Puts the points of the node among the others. Where the others are in order, the sort is little more than a merge. Where there
+/// is no memory the others stay in front.
+fn push_in_order<H: Piecewise>(
+    alloc: Global,
+    points: &mut Vec<Point>,
+    node: &Node,
+    index: usize,
+) -> Result<(), AllocError>
+    ensures merged { OnOk result (IsPermutation
+        (points.old.items ++ points_of H.hash_of (pair_of node.now) index) points.new.items) }
+    ensures ordered { OnOk result (AllPairs IsBefore points.new.items) }
+    ensures err { OnErr result (take (length points.old.items) points.new.items ≡ points.old.items) }
+{
+    push_points::<H>(alloc, points, node, index)?;
+    points.sort()?;
+    Ok(())
+}
+
+/// Puts the points of a new node among the others, of whose nodes those from its index on stand one further then. Where there is no
+/// memory the points stay as they were.
+fn merge_points<H: Piecewise>(
+    alloc: Global,
+    points: &mut Vec<Point>,
+    node: &Node,
+    index: usize,
+) -> Result<(), AllocError>
+    requires { All (λ p. p.node + 1 < 2 ^ 64) points.old.items }
+    ensures merged { OnOk result (IsPermutation
+        (map (opened_up index) points.old.items ++ points_of H.hash_of (pair_of node.now) index)
+        points.new.items) }
+    ensures ordered { OnOk result (AllPairs IsBefore points.new.items) }
+    ensures err { OnErr result (points.new.items ≡ points.old.items) }
+{
+    let others = points.len();
+    make_way(points, index);
+    if let Err(AllocError) = push_in_order::<H>(alloc, points, node, index) {
+        points.truncate(others);
+        close_up(points, index);
+        return Err(AllocError);
+    }
+    Ok(())
 }
 
 /// Counts the nodes of the points anew, where the one at an index has gone.
@@ -245,6 +315,58 @@ fn names_round<'a, H: Piecewise>(
     Ok(names)
 }
 
+/// The name of the first node round from the place whom the test passes. A node is asked again at each of its points.
+fn first_with_room<'a, H: Piecewise, F: Fn(&[u8]) -> bool>(
+    nodes: &'a [Node],
+    points: &[Point],
+    place: u64,
+    has_room: F,
+) -> Option<&'a [u8]>
+    requires ring { IsRing H.hash_of (pairs nodes.now) points.now }
+    requires callable { F.IsAlwaysCallable has_room }
+    ensures some { IfSome result (λ x. IsFirstToPass H.hash_of (ring_of nodes.now) place
+        (FnReturnsAt F.Fn has_room) x.now) }
+    ensures none { IfNone result ((name : List ℕ) → map.get (ring_of nodes.now) name ≢ None
+        → FnReturnsAt F.Fn has_room name false) }
+{
+    let first = first_from(points, place);
+    for steps in 0..points.len() {
+        let point = points[index_round(points.len(), first, steps)];
+        let name = nodes[point.node].name.as_slice();
+        if has_room(name) {
+            return Some(name);
+        }
+    }
+    None
+}
+
+/// How many places each node owns: those behind one point up to the next one are of the next one's node, and those behind the
+/// last point of the first one's.
+fn shares_of<H: Piecewise>(
+    alloc: Global,
+    nodes: &[Node],
+    points: &[Point],
+) -> Result<Vec<u128>, AllocError>
+    requires { IsRing H.hash_of (pairs nodes.now) points.now }
+    ensures each { IfOk result (λ xs. 0 < length points.now
+        → AreShares H.hash_of (ring_of nodes.now) xs.items) }
+    ensures all { IfOk result (λ xs. 0 < length points.now → sum xs.items ≡ 2 ^ 64) }
+    ensures count { IfOk result (λ xs. length xs.items ≡ length nodes.now) }
+{
+    let mut shares = vec![in alloc; 0u128; nodes.len()]?;
+    let mut from: u128 = 0;
+    for point in points {
+        let to = u128::from(point.place) + 1;
+        shares[point.node] += to - from;
+        from = to;
+    }
+    let Some(first) = points.first() else {
+        return Ok(shares);
+    };
+    shares[first.node] += (1 << 64) - from;
+    Ok(shares)
+}
+
 impl<H: Piecewise> Ring<H> {
     /// The ring of no nodes.
     pub fn new(alloc: Global) -> Self
@@ -278,11 +400,34 @@ impl<H: Piecewise> Ring<H> {
         &self.nodes
     }
 
+    /// The ring of these nodes, in whatever order they come, by one sort of all points. Where two have one name, or where there is no
+    /// memory, the nodes come back, in the order of their names.
+    pub fn from_nodes(alloc: Global, mut nodes: Vec<Node>) -> Result<Self, Refused<Vec<Node>>>
+        requires { All (λ node. 1 ≤ node.weight) nodes.items }
+        ensures built { IfOk result (λ ring. ring ≡ with_all map.empty (pairs nodes.items)) }
+        ensures count { IfOk result (λ ring. map.len ring ≡ length nodes.items) }
+        ensures err { IfErr result (HandsAllBack nodes.items) }
+    {
+        nodes.sort_unstable();
+        if !names_rise(&nodes) {
+            return Err(Refused::IsThere(nodes));
+        }
+        match all_points::<H>(alloc, &nodes) {
+            Ok(points) => Ok(Ring {
+                nodes,
+                points,
+                hasher: PhantomData,
+            }),
+            Err(AllocError) => Err(Refused::NoRoom(nodes)),
+        }
+    }
+
     /// Puts a node of `weight` points on the ring. Where a node of this name is there, or where there is no memory, the ring stays as it
     /// was, and the name comes back.
     ///
-    /// All points are made and sorted anew, so the time grows with all weights together.
-    pub fn add(&mut self, name: Vec<u8>, weight: u64) -> Result<(), Refused>
+    /// The new points are merged with the others, so the time grows with all weights together. To build a ring of many nodes at once
+    /// take `from_nodes`.
+    pub fn add(&mut self, name: Vec<u8>, weight: u64) -> Result<(), Refused<Vec<u8>>>
         requires { 1 ≤ weight }
         ensures added { OnOk result (self.new ≡ map.insert self.old name.items weight) }
         ensures new { OnOk result (map.get self.old name.items ≡ None) }
@@ -296,11 +441,9 @@ impl<H: Piecewise> Ring<H> {
         if let Err(AllocFailed { value }) = self.nodes.insert(at, Node { name, weight }) {
             return Err(Refused::NoRoom(value.name));
         }
-        match all_points::<H>(*self.nodes.allocator(), &self.nodes) {
-            Ok(points) => {
-                self.points = points;
-                Ok(())
-            }
+        let alloc = *self.nodes.allocator();
+        match merge_points::<H>(alloc, &mut self.points, &self.nodes[at], at) {
+            Ok(()) => Ok(()),
             Err(AllocError) => Err(Refused::NoRoom(self.nodes.remove(at).name)),
         }
     }
@@ -324,10 +467,20 @@ impl<H: Piecewise> Ring<H> {
         ensures none { IfNone result (self.now ≡ map.empty) }
         ensures some { OnSome result (self.now ≢ map.empty) }
     {
+        self.owner_at(hash_of::<H>(key))
+    }
+
+    /// The name of the node that owns this place of the ring: that of the first point at or after it, round the ring. `None` just where
+    /// there are no nodes. It is a binary search, and takes no memory.
+    pub fn owner_at(&self, place: u64) -> Option<&[u8]>
+        ensures owns { IfSome result (λ x. IsOwner H.hash_of self.now place x.now) }
+        ensures none { IfNone result (self.now ≡ map.empty) }
+        ensures some { OnSome result (self.now ≢ map.empty) }
+    {
         if self.points.is_empty() {
             return None;
         }
-        let first = first_from(&self.points, hash_of::<H>(key));
+        let first = first_from(&self.points, place);
         let point = self.points[index_round(self.points.len(), first, 0)];
         Some(&self.nodes[point.node].name)
     }
@@ -341,6 +494,32 @@ impl<H: Piecewise> Ring<H> {
         ensures different { IfOk result (λ xs. AllPairs (λ a b. a ≢ b) (texts xs.items)) }
     {
         names_round::<H>(alloc, &self.nodes, &self.points, hash_of::<H>(key), n)
+    }
+
+    /// How much of the ring each node owns, in the order of `nodes`: how many of the 2^64 places. Where there is a node they sum up to
+    /// 2^64. It refuses only for want of memory.
+    pub fn shares(&self, alloc: Global) -> Result<Vec<u128>, AllocError>
+        ensures each { IfOk result (λ xs. self.now ≢ map.empty → AreShares H.hash_of self.now xs.items) }
+        ensures all { IfOk result (λ xs. self.now ≢ map.empty → sum xs.items ≡ 2 ^ 64) }
+        ensures count { IfOk result (λ xs. length xs.items ≡ map.len self.now) }
+    {
+        let shares = shares_of::<H>(alloc, &self.nodes, &self.points)?;
+        Ok(shares)
+    }
+
+    /// The name of the first of the key's `owners` whom the test passes, or `None` where it passes no node. It takes no memory, and
+    /// asks a node again at each of its points.
+    ///
+    /// With a test of how much a node carries, as "fewer keys than 1.25 times the mean", these are consistent hashes with bounded loads:
+    /// Vahab Mirrokni, Mikkel Thorup, Morteza Zadimoghaddam, "Consistent Hashing with Bounded Loads", 2016.
+    pub fn owner_below<F: Fn(&[u8]) -> bool>(&self, key: &[u8], has_room: F) -> Option<&[u8]>
+        requires { F.IsAlwaysCallable has_room }
+        ensures some { IfSome result (λ x. IsFirstToPass H.hash_of self.now (H.hash_of key.now)
+            (FnReturnsAt F.Fn has_room) x.now) }
+        ensures none { IfNone result ((name : List ℕ) → map.get self.now name ≢ None
+            → FnReturnsAt F.Fn has_room name false) }
+    {
+        first_with_room::<H, F>(&self.nodes, &self.points, hash_of::<H>(key), has_room)
     }
 }
 

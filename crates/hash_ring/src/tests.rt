@@ -1,9 +1,11 @@
 //! Rings of a few nodes, by values that a plain program in another language gave, and where memory is refused.
-use crate::{Refused, Ring, other_owners_keep_their_order, removal_undoes_adding};
+ghost use Rattle.std.specs.Prelude.{◌≤◌, All, IfOk};
+
+use crate::{Node, Refused, Ring, other_owners_keep_their_order, removal_undoes_adding};
 use hashers::fnv::FNV1aHasher64;
 use hashers::laws::Piecewise;
 use hashers::null::NullHasher;
-use std::alloc::Global;
+use std::alloc::{AllocError, Global};
 use std::process::Abort;
 
 /// That all claims hold.
@@ -119,6 +121,121 @@ fn few_nodes(rt: HostRuntime) {
     same(&rt, &nothing, &[]);
     all_hold(&rt, &none);
     all_hold(&rt, &[added]);
+}
+
+/// A node.
+fn node(alloc: Global, name: &[u8], weight: u64) -> Result<Node, AllocError>
+    requires { 1 ≤ weight }
+    ensures { IfOk result (λ node. 1 ≤ node.weight) }
+{
+    let name = Vec::from_slice(alloc, name)?;
+    Ok(Node { name, weight })
+}
+
+/// The nodes of `trees`, and one more.
+fn four_nodes(alloc: Global, last: &[u8]) -> Result<Vec<Node>, AllocError>
+    ensures { IfOk result (λ nodes. All (λ node. 1 ≤ node.weight) nodes.items) }
+{
+    let oak = node(alloc, b"oak", 2)?;
+    let elm = node(alloc, b"elm", 1)?;
+    let ash = node(alloc, b"ash", 3)?;
+    let last = node(alloc, last, 1)?;
+    Ok(vec![in alloc; oak, elm, ash, last]?)
+}
+
+/// All at once, as one after the other; and two of one name, which are told.
+#[test]
+fn all_nodes_at_once(rt: HostRuntime) {
+    let alloc = rt.alloc();
+    let nodes = four_nodes(alloc, b"fir").expect(&rt, "memory for the nodes");
+    match Ring::<FNV1aHasher64>::from_nodes(alloc, nodes) {
+        Ok(mut ring) => {
+            let fir = ring.remove(b"fir");
+            check_owners(&rt, alloc, &ring, b"a", &[b"oak", b"ash", b"elm"]);
+            check_owners(&rt, alloc, &ring, b"one", &[b"elm", b"ash", b"oak"]);
+            all_hold(&rt, &[fir == Some(1), ring.len() == 3]);
+        }
+        Err(_) => panic!(rt; "four nodes are no ring"),
+    }
+    let twins = four_nodes(alloc, b"elm").expect(&rt, "memory for the nodes");
+    match Ring::<FNV1aHasher64>::from_nodes(alloc, twins) {
+        Err(Refused::IsThere(nodes)) => all_hold(&rt, &[nodes.len() == 4]),
+        _ => panic!(rt; "two nodes of one name are a ring"),
+    }
+}
+
+/// How much of the ring each node owns, and who owns its places, by a plain program.
+#[test]
+fn shares_and_owners_of_places(rt: HostRuntime) {
+    let alloc = rt.alloc();
+    let ring = trees::<FNV1aHasher64>(&rt, alloc, false);
+    let shares = ring.shares(alloc).expect(&rt, "memory for the shares");
+    assert_eq!(rt;
+        shares.as_slice(),
+        [
+            3337199519089381728,
+            11756901173466240504,
+            3352643381153929384
+        ]
+        .as_slice()
+    );
+    let places: [u64; 6] = [
+        0,
+        8283681994398982667,
+        8283681994398982668,
+        11064887797097739678,
+        11064887797097739679,
+        u64::MAX,
+    ];
+    let wanted: [&[u8]; 6] = [b"elm", b"elm", b"ash", b"ash", b"oak", b"elm"];
+    for (place, want) in places.iter().zip(wanted) {
+        all_hold(&rt, &[ring.owner_at(*place) == Some(want)]);
+    }
+    let none = Ring::<FNV1aHasher64>::new(alloc);
+    let no_shares = none.shares(alloc).expect(&rt, "memory for no shares");
+    all_hold(&rt, &[no_shares.is_empty(), none.owner_at(0).is_none()]);
+}
+
+/// The first owner whom a test passes: of `a` the owners are oak, ash and elm.
+#[test]
+fn owners_with_room(rt: HostRuntime) {
+    let ring = trees::<FNV1aHasher64>(&rt, rt.alloc(), false);
+    let (oak, elm): (&[u8], &[u8]) = (b"oak", b"elm");
+    let second = ring.owner_below(b"a", |name| name != oak);
+    let last = ring.owner_below(b"a", |name| name == elm);
+    let first = ring.owner_below(b"a", |_| true);
+    let none = ring.owner_below(b"a", |_| false);
+    same(
+        &rt,
+        &[
+            first.unwrap_or(b""),
+            second.unwrap_or(b""),
+            last.unwrap_or(b""),
+        ],
+        &[b"oak", b"ash", b"elm"],
+    );
+    all_hold(&rt, &[none.is_none()]);
+}
+
+/// Where memory is refused all nodes come back, or no shares; the next call makes them.
+#[test]
+fn refused_nodes_come_back(rt: HostRuntime) {
+    let alloc = rt.alloc();
+    let Ok(nodes) = four_nodes(alloc, b"fir") else {
+        return;
+    };
+    let ring = match Ring::<FNV1aHasher64>::from_nodes(alloc, nodes) {
+        Ok(ring) => ring,
+        Err(Refused::NoRoom(nodes)) => {
+            all_hold(&rt, &[nodes.len() == 4]);
+            return;
+        }
+        Err(Refused::IsThere(_)) => panic!(rt; "four names are three"),
+    };
+    match ring.shares(alloc) {
+        Ok(shares) => all_hold(&rt, &[shares.len() == 4]),
+        Err(AllocError) => all_hold(&rt, &[ring.len() == 4]),
+    }
 }
 
 /// A name that is there is refused, and comes back; so it does where memory is refused, and the ring is as before.

@@ -1,15 +1,10 @@
-use Rattle.std.proofs.Common.{◌≡◌, ◌++◌, ℕ, List, map, take, drop, length, not, ◌==◌, arith, ap, ◌∙◌, rules}
+use Rattle.std.proofs.Common.{◌≡◌, map, length, not, ◌==◌, ap, ◌∙◌, rules}
 use Rattle.std.specs.List.{filter}
-use Rattle.std.proofs.lemmas.List.{take_all, length-map, drop_all, append-nil}
+use Rattle.std.proofs.lemmas.List.{length-map}
 use Rattle.std.proofs.lemmas.Fn.{filter_same}
-use Rattle.hash_ring.specs.declared.Point.{Point}
 use Rattle.hash_ring.specs.Points.{closed_up}
+use Rattle.hash_ring.proofs.Edits.{over}
 use Rattle.hash_ring.proofs.take_points.Goals as goal
-
--- a list that was written over whole
-over : (new old : List Point) (n : ℕ) → length new ≡ length old → n ≡ length old → take n (new ++ drop (length new) old) ≡ new
-over new old n same is =
-    ap (λ rest. take n (new ++ rest)) (drop_all (length new) old (omega arith)) ∙ ap (take n) (append-nil new) ∙ take_all n new (omega arith)
 
 pub returns : goal.returns
 returns c =

@@ -1,9 +1,17 @@
 //! std's maps and sets over the hashers, and the numbers that keys have there.
 use crate::maps::{count_words, map_by_its_builder, map_by_its_type, see};
 use crate::tests::{all_hold, all_hold_at, same, same_at};
-use hashers::build::{BuildFresh, hash_one_number, hash_one_pair, hash_one_slice};
+use hashers::build::{
+    BuildFresh, hash_one_number, hash_one_pair, hash_one_pair_in_writes, hash_one_slice,
+    hash_one_slice_in_writes,
+};
 use hashers::fnv::{FNV1aHasher64, FnvBuildHasher, FnvHashMap, FnvHashSet, fnv1a64};
-use hashers::fx_hash::{FxBuildHasher, FxHashMap, FxHashSet, FxHasher};
+use hashers::fx_hash::{
+    FxBuildHasher, FxHashMap, FxHashSet, FxHasher, hash_one_number_fx, hash_one_pair_fx,
+    hash_one_slice_fx,
+};
+use hashers::jenkins::BuildSpooky;
+use hashers::jenkins::spooky_hash::SpookyHasher;
 use hashers::laws::Piecewise;
 use hashers::null::NullHasher;
 use std::alloc::Global;
@@ -100,4 +108,30 @@ fn numbers_of_keys(rt: HostRuntime) {
         fnv1a64(&[97, 255]),
     ];
     same(&rt, &got, &want);
+}
+
+/// The words 1 and 97 under fx, by a program in another language: `a` as a slice is the same two words.
+#[test]
+fn numbers_of_keys_by_words(rt: HostRuntime) {
+    let got = [
+        hash_one_number_fx(1),
+        hash_one_slice_fx(b"a"),
+        hash_one_pair_fx((1, 97)),
+        hash_one_number::<FxHasher>(1),
+        hash_one_slice_in_writes::<FxHasher>(b"a"),
+        hash_one_pair_in_writes::<FxHasher>((1, 97)),
+    ];
+    let (one, two) = (5871781006564002453, 10257619447530855975);
+    same(&rt, &got, &[one, two, two, one, two, two]);
+}
+
+#[test]
+fn keys_under_seeds(rt: HostRuntime) {
+    let seeds = BuildSpooky { seed1: 1, seed2: 2 };
+    let mut h = SpookyHasher::new(1, 2);
+    h.write_u64(7);
+    same(&rt, &[seeds.hash_one(7u64)], &[h.finish()]);
+    let mut map = HashMap::with_hasher(rt.alloc(), seeds);
+    let put = map.insert(7u64, 3u8).is_ok();
+    all_hold(&rt, &[put == map.contains_key(&7)]);
 }

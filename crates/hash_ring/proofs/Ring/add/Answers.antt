@@ -1,12 +1,14 @@
-use Rattle.std.proofs.Common.{◌≡◌, ◌∙◌, ◌≤◌, ap, sym, subst, refl, length, get_or, arith}
+use Rattle.std.proofs.Common.{ℕ, ◌≡◌, ◌∙◌, ◌≤◌, ◌++◌, List, map, ap, sym, subst, refl, length, get_or, arith}
 use Rattle.std.specs.List.{insert}
 use Rattle.std.specs.FinMap as fin
 use Rattle.std.proofs.lemmas.List.{length-map}
 use Rattle.std.proofs.lemmas.List.Edits.{get_or-insert_at}
 use Rattle.hash_ring.specs.declared.Node.{Node}
-use Rattle.hash_ring.specs.Points.{ArePoints, IsRing, nodes_of, pair_of, pairs}
+use Rattle.std.specs.List.Sorted.{IsPermutation}
+use Rattle.hash_ring.specs.Points.{IsRing, nodes_of, opened_up, pair_of, pairs, points_of}
+use Rattle.hash_ring.proofs.Points.{ArePoints-permutation, is_there}
 use Rattle.hash_ring.proofs.Names.{absent_read, found_read, gap_read, inserted}
-use Rattle.hash_ring.proofs.Edits.{pairs_insert, ring_with}
+use Rattle.hash_ring.proofs.Edits.{ArePoints-insert, pairs_insert, ring_with}
 use Rattle.hash_ring.proofs.Ring.add.Goals as goal
 
 pub returns-in-Ok-clause-err : goal.returns-in-Ok-clause-err
@@ -23,21 +25,38 @@ returns-in-Err-insert-clause-err g c = (
   absent_read c.self.inside.nodes.items _ c.args.name.items _ c.args.self.now c.self.invariant.named c.self.view_is c.deref.ensures.value c.deref-2.ensures.value c.in-Err.at c.in-Err.ensures,
 )
 
-pub invariant_of-self-in-Ok-all_points : goal.invariant_of-self-in-Ok-all_points
-invariant_of-self-in-Ok-all_points g c =
+-- the node where it was put in
+put_in : (nodes : List Node) (at : ℕ) (node read : Node) → at ≤ length nodes → read ≡ get_or (insert nodes at node) at read → read ≡ node
+put_in nodes at node read within is = is ∙ get_or-insert_at nodes at node read within
+
+pub merge_points-requires : goal.merge_points-requires
+merge_points-requires g c = λ k d below.
+    let nodes = c.self.inside.nodes in
+    let of = c.self.invariant.just.real k d below in
+    let there = is_there g.H.Piecewise.hash_of (pairs nodes.items) _ _ of in
+    omega (arith, there, length-map nodes.items pair_of, nodes.ok.0, c.in_default.ensures.len)
+
+pub invariant_of-self-in-Ok-merge_points : goal.invariant_of-self-in-Ok-merge_points
+invariant_of-self-in-Ok-merge_points g c =
     let hash = g.H.Piecewise.hash_of in
     let nodes = c.self.inside.nodes.items in
     let name = c.args.name.items in
     let at = c.in-Err.at in
+    let node : Node = record { name = c.args.name; weight = c.args.weight } in
     let gap = gap_read nodes _ name _ c.args.self.now c.self.invariant.named c.self.view_is c.deref.ensures.value c.deref-2.ensures.value at c.in-Err.ensures in
-    let all : pairs c.insert.new.self.items ≡ insert (pairs nodes) at (name, c.args.weight) = ap pairs c.in_default.ensures.items ∙ pairs_insert nodes at (record { name = c.args.name; weight = c.args.weight }) in
-    let points = c.in-Ok-all_points.points.items in
+    let within : at ≤ length nodes = omega (arith, gap.within, length-map nodes pair_of) in
+    let all : pairs c.insert.new.self.items ≡ insert (pairs nodes) at (name, c.args.weight) = ap pairs c.in_default.ensures.items ∙ pairs_insert nodes at node in
+    let its : c.index.result.now ≡ node = put_in nodes at node c.index.result.now within (c.index.ensures ∙ ap (λ ns. get_or ns at c.index.result.now) c.in_default.ensures.items) in
+    let old = c.self.inside.points.items in
+    let points = c.merge_points.new.points.items in
+    let merged = subst (λ (n : Node). IsPermutation (map (opened_up at) old ++ points_of hash (pair_of n) at) points) its c.in-Ok-merge_points.ensures.merged in
     subst (λ es. IsRing hash es points) (sym all)
-    (ring_with hash (pairs nodes) name c.args.weight at c.self.inside.points.items points c.self.invariant gap c.requires
-    (subst (λ es. ArePoints hash es points) (ap pairs c.deref-3.ensures.value ∙ all) c.in-Ok-all_points.ensures.just) c.in-Ok-all_points.ensures.ordered)
+    (ring_with hash (pairs nodes) name c.args.weight at old points c.self.invariant gap c.requires
+    (ArePoints-permutation hash _ _ points merged (ArePoints-insert hash (pairs nodes) at (name, c.args.weight) gap.within old c.self.invariant.just))
+    c.in-Ok-merge_points.ensures.ordered)
 
-pub returns-in-Ok-all_points-clause-added : goal.returns-in-Ok-all_points-clause-added
-returns-in-Ok-all_points-clause-added g c =
+pub returns-in-Ok-merge_points-clause-added : goal.returns-in-Ok-merge_points-clause-added
+returns-in-Ok-merge_points-clause-added g c =
     let nodes = c.self.inside.nodes.items in
     let name = c.args.name.items in
     let w = c.args.weight in
@@ -46,12 +65,12 @@ returns-in-Ok-all_points-clause-added g c =
     let all : pairs c.insert.new.self.items ≡ insert (pairs nodes) at (name, w) = ap pairs c.in_default.ensures.items ∙ pairs_insert nodes at (record { name = c.args.name; weight = w }) in
     ap nodes_of all ∙ inserted (pairs nodes) c.self.invariant.named name w at gap ∙ ap (λ m. fin.insert m name w) c.self.view_is
 
-pub returns-in-Ok-all_points-clause-new : goal.returns-in-Ok-all_points-clause-new
-returns-in-Ok-all_points-clause-new g c =
+pub returns-in-Ok-merge_points-clause-new : goal.returns-in-Ok-merge_points-clause-new
+returns-in-Ok-merge_points-clause-new g c =
     absent_read c.self.inside.nodes.items _ c.args.name.items _ c.args.self.now c.self.invariant.named c.self.view_is c.deref.ensures.value c.deref-2.ensures.value c.in-Err.at c.in-Err.ensures
 
-pub returns-in-Err-all_points-clause-err : goal.returns-in-Err-all_points-clause-err
-returns-in-Err-all_points-clause-err g c =
+pub returns-in-Err-merge_points-clause-err : goal.returns-in-Err-merge_points-clause-err
+returns-in-Err-merge_points-clause-err g c =
     let nodes = c.self.inside.nodes.items in
     let node : Node = record { name = c.args.name; weight = c.args.weight } in
     let at = c.in-Err.at in

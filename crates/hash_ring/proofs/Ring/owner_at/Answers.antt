@@ -4,7 +4,7 @@ use borrow.Author.Tests.{eqb-true}
 use Rattle.hash_ring.specs.Ring.{IsOwner}
 use Rattle.hash_ring.specs.Points.{IsBefore, IsStart, index_round, pairs}
 use Rattle.hash_ring.proofs.Owners.{no_owner, no_points, owner_read}
-use Rattle.hash_ring.proofs.Ring.owner.Goals as goal
+use Rattle.hash_ring.proofs.Ring.owner_at.Goals as goal
 
 pub returns-then-is_empty-clause-none : goal.returns-then-is_empty-clause-none
 returns-then-is_empty-clause-none g c =
@@ -21,16 +21,15 @@ returns-clause-owns g c =
     let nodes = c.self.inside.nodes.items in
     let points = c.self.inside.points.items in
     let first = c.first_from-first.result in
-    let start = subst (λ ps. IsStart ps c.hash_of.result first) c.deref.ensures.value c.first_from-first.ensures in
+    let start = subst (λ ps. IsStart ps c.args.place first) c.deref.ensures.value c.first_from-first.ensures in
     let long : c.len.result ≡ length points = c.len.ensures ∙ c.self.inside.points.ok.0 in
     let index : c.index_round.result ≡ index_round (length points) first 0 = c.index_round.ensures.value ∙ ap (λ (n : ℕ). index_round n first 0) long in
     let some : 0 < length points = omega (arith, c.index_round.ensures.in_range) in
-    let owns = owner_read hash nodes points c.self.invariant c.hash_of.result first start 0 c.index_round.result c.index-point.result.now c.index.result.now some index c.index-point.ensures c.index.ensures [] (λ t l. absurd (omega arith)) tt in
-    subst (IsOwner hash c.args.self.now (hash c.args.key.now)) (sym c.deref-2.ensures.value)
-    (subst (λ (at : ℕ). IsOwner hash c.args.self.now at c.index.result.now.name.items) c.hash_of.ensures.value
-    (subst (λ nodes. IsOwner hash nodes c.hash_of.result c.index.result.now.name.items) c.self.view_is owns))
+    let owns = owner_read hash nodes points c.self.invariant c.args.place first start 0 c.index_round.result c.index-point.result.now c.index.result.now some index c.index-point.ensures c.index.ensures [] (λ t l. absurd (omega arith)) tt in
+    subst (IsOwner hash c.args.self.now c.args.place) (sym c.deref-2.ensures.value)
+    (subst (λ nodes. IsOwner hash nodes c.args.place c.index.result.now.name.items) c.self.view_is owns)
 
 pub returns-clause-some : goal.returns-clause-some
 returns-clause-some g c =
     let hash = g.H.Piecewise.hash_of in
-    λ none. no_owner hash (hash c.args.key.now) (c.deref-2.result.now) (subst (λ nodes. IsOwner hash nodes (hash c.args.key.now) c.deref-2.result.now) none (returns-clause-owns g c))
+    λ none. no_owner hash c.args.place (c.deref-2.result.now) (subst (λ nodes. IsOwner hash nodes c.args.place c.deref-2.result.now) none (returns-clause-owns g c))
