@@ -142,8 +142,7 @@ log_of_near t a b p m r some low high small there positive near =
     let four : p * b * ((m + 1) * (t + r)) ≡ p * m * (t + r) * b + p * b * (t + r) = grind arith in
     let five : p * b * ((2 * t) * (2 * t)) ≡ p * 4 * b * t * t = grind arith in
     let pb : 1 * 1 ≤ p * b = products 1 1 p b positive there in
-    let six : 1 * 1 ≤ p * b * (t + r) = products 1 1 (p * b) (t + r) pb (omega arith) in
-    (
+    let six : 1 * 1 ≤ p * b * (t + r) = products 1 1 (p * b) (t + r) pb (omega arith) in (
       cancelled t (p * b) a some (omega (arith, one, e, near.lower)),
       less_cancelled t a (p * 4 * b) (omega (arith, near.upper, three, four, five, six)),
     )

@@ -1,7 +1,7 @@
 -- Changes one after another, and what they leave to be found.
-use Rattle.std.proofs.Common.{ℕ, ◌≡◌, ◌⊎◌, ◌↔◌, ◌<◌, List, [], ◌∷◌, ◌++◌, refl, sym, ap, ◌∙◌, subst, ⊎_elim, inl, inr, length, append_assoc}
+use Rattle.std.proofs.Common.{ℕ, ◌≡◌, ◌⊎◌, ◌↔◌, ◌<◌, List, [], ◌∷◌, ◌++◌, sym, ap, ◌∙◌, subst, ⊎_elim, inl, inr, length, append_assoc}
 use Rattle.std.proofs.lemmas.List.{append-nil, nil_from_length}
-use Rattle.hash_bloom.specs.Filter.{Filter, IsProbe, IsSet, Passes, Fits, Adds, place}
+use Rattle.hash_bloom.specs.Filter.{Filter, IsProbe, Passes, Fits, Adds, place}
 use Rattle.hash_bloom.specs.Commands.{SetsBit, AnySetsBit, Inserts}
 use Rattle.hash_bloom.specs.declared.commands.Command.{Command}
 use Rattle.hash_bloom.specs.declared.commands.Command.TheVariants.{Insert, Union, Store}

@@ -360,7 +360,10 @@ fn estimates(rt: HostRuntime) {
     let two = told(one_of_two, 2, 1);
     all_hold(
         &rt,
-        &[got == [Some(634), Some(91), Some(2), Some(0), None], two == Some(1)],
+        &[
+            got == [Some(634), Some(91), Some(2), Some(0), None],
+            two == Some(1),
+        ],
     );
     let mut many: Bloom<FxHasher, Lookup3Hasher> = made(&rt, alloc, 100_000, 7);
     for number in 0..5000u64 {

@@ -1,6 +1,6 @@
-use Rattle.std.proofs.Common.{ℕ, ◌≡◌, ◌+◌, ◌-◌, ◌*◌, ◌/◌, ◌%◌, ◌^◌, ◌<◌, ◌≤◌, ◌∙◌, ap, lit≤, sym, subst, arith}
+use Rattle.std.proofs.Common.{◌≡◌, ◌+◌, ◌*◌, ◌/◌, ◌%◌, ◌^◌, ap, lit≤, arith}
 use Rattle.std.proofs.lemmas.Nat.{pow-add}
-use Rattle.hash_bloom.proofs.Log.{IsNear, log_at, near_next, near_start}
+use Rattle.hash_bloom.proofs.Log.{log_at, near_next, near_start}
 use Rattle.hash_bloom.proofs.estimate.log2_of_ratio.Goals as goal
 
 pub loop-init : goal.loop-init

@@ -1,4 +1,4 @@
-use Rattle.std.proofs.Common.{◌≡◌, ◌+◌, ◌*◌, ◌^◌, ◌<◌, ◌≤◌}
+use Rattle.std.proofs.Common.{◌+◌, ◌*◌, ◌^◌, ◌<◌, ◌≤◌}
 use Rattle.hash_bloom.proofs.estimate.normalised.Given as goal
 
 abbrev pub invariant-loop-halvings : goal.invariant-loop-halvings
