@@ -1,5 +1,5 @@
 //! Values from outside the proofs.
-use crate::crc32::{Crc32Hasher, crc32};
+use crate::crc32::{Crc32Hasher, Crc32cHasher, crc32, crc32c};
 use crate::elf::{ElfHasher, elf};
 use hashers::laws::{Piecewise, Undo, answer_of_pieces, apart_by_one};
 use std::process::Abort;
@@ -30,6 +30,34 @@ fn crc32_of_texts(rt: HostRuntime) {
     let again = Crc32Hasher::unfinish(before).expect(&rt, "a state");
     same(&rt, &[hasher.answer(), again.answer()], &[before, before]);
     assert!(rt; apart_by_one::<Crc32Hasher>(b"abc", b"abd"));
+}
+
+#[test]
+fn crc32c_of_texts(rt: HostRuntime) {
+    let counting: [u8; 32] = std::array::from_fn(|i| i as u8);
+    let mut falling = counting;
+    falling.reverse();
+    same(
+        &rt,
+        &[
+            crc32c(b"123456789"),
+            crc32c(b""),
+            crc32c(&[0; 32]),
+            crc32c(&[255; 32]),
+            crc32c(&counting),
+            crc32c(&falling),
+            answer_of_pieces::<Crc32cHasher>(&[b"1234", b"", b"56789"]),
+        ],
+        &[
+            0xE3069283, 0, 0x8A9136AA, 0x62A8AB43, 0x46DD794E, 0x113FDB5C, 0xE3069283,
+        ],
+    );
+    let mut hasher = Crc32cHasher::fresh();
+    hasher.feed(b"12345678");
+    let before = hasher.answer();
+    hasher.feed(b"9");
+    hasher.unwrite(b"9");
+    same(&rt, &[hasher.answer()], &[before]);
 }
 
 #[test]
