@@ -1,1 +1,2 @@
 pub mod Crc32Lemmas
+pub mod JoaatLemmas
