@@ -1,6 +1,6 @@
 -- The step and the last mix of one-at-a-time at 32 bits stay in range and are injective, and what undoes them.
-use Rattle.std.proofs.Common.{◌≡◌, ℕ, ◌+◌, ◌-◌, ◌*◌, ◌/◌, ◌%◌, ◌^◌, ◌<◌, ap, sym, ◌∙◌, lit<, arith}
-use Rattle.std.proofs.lemmas.Nat.{xor_lt, xor_shr, shr-shr, shr_le}
+use Rattle.std.proofs.Common.{◌≡◌, ℕ, ◌+◌, ◌-◌, ◌*◌, ◌/◌, ◌%◌, ◌^◌, ◌<◌, ap, ◌∙◌, arith}
+use Rattle.std.proofs.lemmas.Nat.{xor_lt, shr_le}
 use Rattle.hashers.specs.StepFacts.{StepFacts}
 use Rattle.hashers.specs.Words.{xorshift}
 use Rattle.hashers.proofs.XorshiftLemmas.{same_from_xorshift}

@@ -9,3 +9,4 @@ pub mod fnv1;
 pub mod joaat;
 #[cfg(test)]
 mod tests;
+pub mod windows;

@@ -4,6 +4,7 @@ use crate::djb2_add::{Djb2AddHasher, djb2_add};
 use crate::elf::{ElfHasher, elf};
 use crate::fnv1::{Fnv1Hasher32, Fnv1Hasher64, fnv1_32, fnv1_64};
 use crate::joaat::{JoaatHasher, joaat};
+use crate::windows::{apart_crc32, apart_crc32c, apart_djb2_add, apart_fnv1_32, apart_fnv1_64};
 use hashers::laws::{Piecewise, Undo, answer_of_pieces, apart_by_one};
 use std::process::Abort;
 
@@ -141,4 +142,22 @@ fn joaat_of_texts(rt: HostRuntime) {
         &[0, 0xca2e9442, 0x519e91f5, 0x519e91f5],
     );
     comes_back::<JoaatHasher>(&rt);
+}
+
+#[test]
+fn windows_of_relatives(rt: HostRuntime) {
+    let zeros = [0; 6];
+    // what the polynomial is as a text: 33 bits, in five places
+    let ieee = [0x41, 0x06, 0x71, 0xDB, 0x01, 0];
+    let castagnoli = [0xF1, 0x76, 0xEC, 0x05, 0x01, 0];
+    assert!(rt; crc32(&zeros) == crc32(&ieee) && crc32c(&zeros) == crc32c(&castagnoli));
+    assert!(rt; !apart_crc32(&zeros, &ieee) && !apart_crc32c(&zeros, &castagnoli));
+    let near = [0, 0x06, 0x71, 0xDB, 0x01, 0];
+    assert!(rt; apart_crc32(&zeros, &near) && apart_crc32c(&zeros, &near));
+    assert!(rt; crc32(&zeros) != crc32(&near) && crc32c(&zeros) != crc32c(&near));
+    assert!(rt; djb2_add(b"Ab") == djb2_add(b"BA") && !apart_djb2_add(b"Ab", b"BA"));
+    assert!(rt; apart_djb2_add(b"printf", b"scanfs") && !apart_djb2_add(b"printfs", b"scanfst"));
+    assert!(rt; apart_fnv1_64(b"abcd", b"axyd") && apart_fnv1_64(b"abcd", b"xyzd"));
+    assert!(rt; !apart_fnv1_64(b"abcd", b"wxyz") && !apart_fnv1_64(b"abcd", b"abcd"));
+    assert!(rt; apart_fnv1_32(b"abcd", b"axyd") && !apart_fnv1_32(b"abcd", b"xyzd"));
 }
