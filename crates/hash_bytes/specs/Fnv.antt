@@ -23,6 +23,10 @@ fnv1a32_from = recurrence fnv1a32_step
 abbrev pub fnv1a64_from : ℕ → List ℕ → ℕ
 fnv1a64_from = recurrence fnv1a64_step
 
--- the oldest variant, FNV-0, by its width and prime: from 0, for each byte a product, and then an exclusive or
+-- one byte of the variants 0 and 1, by width and prime: a product, and then it is xored in
+abbrev pub fnv1_step : ℕ → ℕ → ℕ → ℕ → ℕ
+fnv1_step width prime h b = bit_xor (h * prime % 2 ^ width) b
+
+-- the oldest variant, FNV-0: from 0, by the same step
 abbrev pub fnv0 : ℕ → ℕ → List ℕ → ℕ
-fnv0 width prime = recurrence (λ h byte. bit_xor (h * prime % 2 ^ width) byte) 0
+fnv0 width prime = recurrence (fnv1_step width prime) 0

@@ -12,22 +12,22 @@ use std::collections::{HashMap, HashSet};
 use std::hash::Hasher;
 
 /// The start at 32 bits, which the authors call the offset basis.
-const BASIS_32: u32 = 2166136261;
+pub const BASIS_32: u32 = 2166136261;
 
 /// 2^24 + 2^8 + 0x93.
-const PRIME_32: u32 = 16777619;
+pub const PRIME_32: u32 = 16777619;
 
 /// What undoes the product by `PRIME_32`.
-const UNPRIME_32: u32 = 899433627;
+pub const UNPRIME_32: u32 = 899433627;
 
 /// The start at 64 bits.
-const BASIS_64: u64 = 14695981039346656037;
+pub const BASIS_64: u64 = 14695981039346656037;
 
 /// 2^40 + 2^8 + 0xb3.
-const PRIME_64: u64 = 1099511628211;
+pub const PRIME_64: u64 = 1099511628211;
 
 /// What undoes the product by `PRIME_64`.
-const UNPRIME_64: u64 = 0xce965057aff6957b;
+pub const UNPRIME_64: u64 = 0xce965057aff6957b;
 
 /// The 32 bytes of which the authors took the starts: a line of Noll's signature.
 const SIGNATURE: [u8; 32] = *b"chongo <Landon Curt Noll> /\\../\\";

@@ -16,7 +16,7 @@ use std::marker::Model;
 use std::simd::prelude::*;
 
 /// What undoes a product by 33.
-const UNPRODUCT_33: u32 = 1041204193;
+pub const UNPRODUCT_33: u32 = 1041204193;
 
 /// What undoes a product by 65599.
 const UNPRODUCT_65599: u32 = 2390421439;

@@ -1,4 +1,10 @@
 pub mod Crc32
 pub mod Crc32Laws
+pub mod Djb2Add
+pub mod Djb2AddLaws
 pub mod Elf
 pub mod ElfLaws
+pub mod Fnv1
+pub mod Fnv1Laws
+pub mod Joaat
+pub mod JoaatLaws

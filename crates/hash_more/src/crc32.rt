@@ -1,50 +1,93 @@
-//! CRC-32, as zlib, gzip, PNG and Ethernet compute it (ISO-HDLC: RFC 1952, section 8; ITU-T V.42), a byte a step by a table.
-mod table;
+//! CRCs of 32 bits, a byte a step by a table: CRC-32, as zlib, gzip, PNG and Ethernet compute it (ISO-HDLC: RFC 1952, section 8;
+//! ITU-T V.42), and CRC-32C, as iSCSI, ext4 and SCTP do (RFC 3720, section 12.1). They differ in the polynomial alone.
+mod tables;
 
 ghost use Rattle.std.specs.Prelude.{◌≡◌, ◌^◌, ◌<◌, ◌/◌, ℕ, bit_xor, refl};
 ghost use Rattle.std.proofs.Common.{lit<};
 ghost use Rattle.hashers.proofs.RecurrenceLemmas.{recurrence_is_fold};
-ghost use Rattle.hash_more.specs.Crc32.{all_ones, bits_out, bit_out, crc32_step, crc32_from, crc32_answer};
-ghost use Rattle.hash_more.specs.Crc32Laws.{crc32_facts, crc32_answer_same};
+ghost use Rattle.hash_more.specs.Crc32.{ieee, castagnoli, all_ones, bits_out, bit_out, crc_step, crc_from, crc_answer};
+ghost use Rattle.hash_more.specs.Crc32Laws.{crc_facts, crc_answer_same};
 
 use hashers::rules::{ByteHasher, ByteRule, StepRule, UndoRule, in_eights};
 use std::hash::Hasher;
-use table::BITS_OUT;
+use std::marker::PhantomData;
+use tables::{CASTAGNOLI, IEEE};
 
-/// The polynomial, with its bits in reverse order.
-const POLYNOMIAL: u32 = 0xEDB88320;
+/// A polynomial of degree 32 with the term 1, without its first term, and with its bits in reverse order. The implementing
+/// type is a name for it, and no value of it is made.
+pub trait Polynomial {
+    /// The polynomial.
+    ghost POLYNOMIAL: { ℕ };
 
-/// The eight bits of a byte, gone out.
-#[inline(always)]
-fn byte_out(byte: u8) -> u32
-    ensures { result ≡ bits_out 8 byte }
-{
-    BITS_OUT[usize::from(byte)]
+    /// The polynomial.
+    const POLYNOMIAL: u32;
+
+    /// The eight bits of a byte, gone out.
+    fn byte_out(byte: u8) -> u32
+        ensures { result ≡ bits_out POLYNOMIAL 8 byte };
+
+    /// The term 1 is the highest bit.
+    ghost highest: { POLYNOMIAL / 2 ^ 31 ≡ 1 };
+}
+
+/// The polynomial of IEEE 802.3, which CRC-32 takes.
+pub struct Ieee;
+
+impl Polynomial for Ieee {
+    ghost POLYNOMIAL = { ieee };
+
+    const POLYNOMIAL: u32 = 0xEDB88320;
+
+    #[inline(always)]
+    fn byte_out(byte: u8) -> u32 {
+        IEEE[usize::from(byte)]
+    }
+
+    ghost highest = { refl };
+}
+
+/// The polynomial of Castagnoli, Bräuer and Herrmann, which CRC-32C takes.
+pub struct Castagnoli;
+
+impl Polynomial for Castagnoli {
+    ghost POLYNOMIAL = { castagnoli };
+
+    const POLYNOMIAL: u32 = 0x82F63B78;
+
+    #[inline(always)]
+    fn byte_out(byte: u8) -> u32 {
+        CASTAGNOLI[usize::from(byte)]
+    }
+
+    ghost highest = { refl };
 }
 
 /// The word that one bit goes out of.
-#[tactic(auto, using(crate::proofs::Crc32Lemmas::bit_in_set))]
-fn bit_in(word: u32) -> u32
-    ensures { bit_out result ≡ word }
+#[tactic(auto, using(crate::proofs::Crc32Lemmas::bit_in_set, crate::proofs::Crc32Lemmas::bit_in_unset))]
+fn bit_in<P: Polynomial>(word: u32) -> u32
+    ensures { bit_out P.POLYNOMIAL result ≡ word }
 {
     if word >> 31 == 1 {
-        ((word ^ POLYNOMIAL) << 1) + 1
+        ((word ^ P::POLYNOMIAL) << 1) + 1
     } else {
         word << 1
     }
 }
 
 /// The word that eight bits go out of.
-fn byte_in(word: u32) -> u32
-    ensures { bits_out 8 result ≡ word }
+fn byte_in<P: Polynomial>(word: u32) -> u32
+    ensures { bits_out P.POLYNOMIAL 8 result ≡ word }
 {
-    bit_in(bit_in(bit_in(bit_in(bit_in(bit_in(bit_in(bit_in(word))))))))
+    let nibble = bit_in::<P>(bit_in::<P>(bit_in::<P>(bit_in::<P>(word))));
+    bit_in::<P>(bit_in::<P>(bit_in::<P>(bit_in::<P>(nibble))))
 }
 
-/// The rule of CRC-32.
-pub struct Crc32Rule;
+/// The rule of a CRC by its polynomial.
+pub struct CrcRule<P: Polynomial> {
+    polynomial: PhantomData<P>,
+}
 
-impl StepRule for Crc32Rule {
+impl<P: Polynomial> StepRule for CrcRule<P> {
     type State = u32;
 
     ghost number = { λ s. s };
@@ -53,7 +96,7 @@ impl StepRule for Crc32Rule {
 
     ghost start = { all_ones };
 
-    ghost step = { crc32_step };
+    ghost step = { crc_step P.POLYNOMIAL };
 
     fn start() -> u32 {
         0xFFFFFFFF
@@ -68,24 +111,24 @@ impl StepRule for Crc32Rule {
     #[tactic(auto, using(crate::proofs::Crc32Lemmas::by_table))]
     fn step(state: &mut u32, byte: u8) {
         let word = *state ^ u32::from(byte);
-        *state = byte_out((word % 256) as u8) ^ (word >> 8);
+        *state = P::byte_out((word % 256) as u8) ^ (word >> 8);
     }
 
     ghost start_in_range = { lit< tt };
 
-    ghost step_in_range = { crc32_facts.in_range };
+    ghost step_in_range = { (crc_facts P.POLYNOMIAL P.highest).in_range };
 }
 
-impl ByteRule for Crc32Rule {
-    ghost after = { crc32_from };
+impl<P: Polynomial> ByteRule for CrcRule<P> {
+    ghost after = { crc_from P.POLYNOMIAL };
 
-    ghost write = { crc32_from };
+    ghost write = { crc_from P.POLYNOMIAL };
 
-    ghost answer = { crc32_answer };
+    ghost answer = { crc_answer };
 
     #[inline(always)]
     fn write(state: &mut u32, bytes: &[u8]) {
-        in_eights::<Crc32Rule>(state, bytes);
+        in_eights::<CrcRule<P>>(state, bytes);
     }
 
     #[inline(always)]
@@ -93,16 +136,16 @@ impl ByteRule for Crc32Rule {
         u64::from(*state ^ 0xFFFFFFFF)
     }
 
-    ghost is_fold = { recurrence_is_fold crc32_step (2 ^ 32) };
+    ghost is_fold = { recurrence_is_fold (crc_step P.POLYNOMIAL) (2 ^ 32) };
 
     ghost write_is_after = { λ s text. refl };
 }
 
-impl UndoRule for Crc32Rule {
+impl<P: Polynomial> UndoRule for CrcRule<P> {
     #[inline(always)]
-    #[tactic(auto, using(crate::specs::Crc32Laws::crc32_back))]
+    #[tactic(auto, using(crate::specs::Crc32Laws::crc_back))]
     fn unstep(state: &mut u32, byte: u8) {
-        *state = byte_in(*state) ^ u32::from(byte);
+        *state = byte_in::<P>(*state) ^ u32::from(byte);
     }
 
     fn unanswer(hash: u64) -> Option<u32> {
@@ -110,9 +153,9 @@ impl UndoRule for Crc32Rule {
         Some(word ^ 0xFFFFFFFF)
     }
 
-    ghost facts = { crc32_facts };
+    ghost facts = { crc_facts P.POLYNOMIAL P.highest };
 
-    ghost answer_injective = { crc32_answer_same };
+    ghost answer_injective = { crc_answer_same };
 }
 
 /// CRC-32 (RFC 1952, section 8).
@@ -121,15 +164,30 @@ impl UndoRule for Crc32Rule {
 /// a bit that goes out is set, 0xEDB88320 is xored in. `finish` answers the state with all bits inverted, widened. Cuts don't
 /// show, each write can be undone, and texts that differ in one byte never collide.
 ///
-/// Contracts see the hasher as its state, a number below 2^32: `write` gives `h.new ≡ crc32_from h.old bytes.now`, and
-/// `finish` answers `crc32_answer h.now`. Of `123456789` the hash is 0xCBF43926.
-pub type Crc32Hasher = ByteHasher<Crc32Rule>;
+/// Contracts see the hasher as its state, a number below 2^32: `write` gives `h.new ≡ crc_from ieee h.old bytes.now`, and
+/// `finish` answers `crc_answer h.now`. Of `123456789` the hash is 0xCBF43926.
+pub type Crc32Hasher = ByteHasher<CrcRule<Ieee>>;
+
+/// CRC-32C (RFC 3720, section 12.1): as [`Crc32Hasher`], with 0x82F63B78 in the place of 0xEDB88320.
+///
+/// Contracts see the hasher as its state, a number below 2^32: `write` gives `h.new ≡ crc_from castagnoli h.old bytes.now`, and
+/// `finish` answers `crc_answer h.now`. Of `123456789` the hash is 0xE3069283.
+pub type Crc32cHasher = ByteHasher<CrcRule<Castagnoli>>;
 
 /// CRC-32 of the bytes.
 pub fn crc32(bytes: &[u8]) -> u64
-    ensures { result ≡ crc32_answer (crc32_from all_ones bytes.now) }
+    ensures { result ≡ crc_answer (crc_from ieee all_ones bytes.now) }
 {
     let mut hasher = Crc32Hasher::default();
+    hasher.write(bytes);
+    hasher.finish()
+}
+
+/// CRC-32C of the bytes.
+pub fn crc32c(bytes: &[u8]) -> u64
+    ensures { result ≡ crc_answer (crc_from castagnoli all_ones bytes.now) }
+{
+    let mut hasher = Crc32cHasher::default();
     hasher.write(bytes);
     hasher.finish()
 }

@@ -1,12 +1,27 @@
 //! Values from outside the proofs.
-use crate::crc32::{Crc32Hasher, crc32};
+use crate::crc32::{Crc32Hasher, Crc32cHasher, crc32, crc32c};
+use crate::djb2_add::{Djb2AddHasher, djb2_add};
 use crate::elf::{ElfHasher, elf};
+use crate::fnv1::{Fnv1Hasher32, Fnv1Hasher64, fnv1_32, fnv1_64};
+use crate::joaat::{JoaatHasher, joaat};
+use crate::windows::{apart_crc32, apart_crc32c, apart_djb2_add, apart_fnv1_32, apart_fnv1_64};
 use hashers::laws::{Piecewise, Undo, answer_of_pieces, apart_by_one};
 use std::process::Abort;
 
 /// That each number is as wanted.
 fn same(rt: &impl Abort, got: &[u64], want: &[u64]) {
     assert_eq!(rt; got, want);
+}
+
+/// That a piece is undone, and that an answer leads back to its state.
+fn comes_back<H: Piecewise + Undo>(rt: &impl Abort) {
+    let mut hasher = H::fresh();
+    hasher.feed(b"12345678");
+    let before = hasher.answer();
+    hasher.feed(b"9");
+    hasher.unwrite(b"9");
+    let again = H::unfinish(before).expect(rt, "a state");
+    same(rt, &[hasher.answer(), again.answer()], &[before, before]);
 }
 
 #[test]
@@ -22,14 +37,31 @@ fn crc32_of_texts(rt: HostRuntime) {
         ],
         &[0xCBF43926, 0, 0xE8B7BE43, 0x414FA339, 0xCBF43926],
     );
-    let mut hasher = Crc32Hasher::fresh();
-    hasher.feed(b"12345678");
-    let before = hasher.answer();
-    hasher.feed(b"9");
-    hasher.unwrite(b"9");
-    let again = Crc32Hasher::unfinish(before).expect(&rt, "a state");
-    same(&rt, &[hasher.answer(), again.answer()], &[before, before]);
+    comes_back::<Crc32Hasher>(&rt);
     assert!(rt; apart_by_one::<Crc32Hasher>(b"abc", b"abd"));
+}
+
+#[test]
+fn crc32c_of_texts(rt: HostRuntime) {
+    let counting: [u8; 32] = std::array::from_fn(|i| i as u8);
+    let mut falling = counting;
+    falling.reverse();
+    same(
+        &rt,
+        &[
+            crc32c(b"123456789"),
+            crc32c(b""),
+            crc32c(&[0; 32]),
+            crc32c(&[255; 32]),
+            crc32c(&counting),
+            crc32c(&falling),
+            answer_of_pieces::<Crc32cHasher>(&[b"1234", b"", b"56789"]),
+        ],
+        &[
+            0xE3069283, 0, 0x8A9136AA, 0x62A8AB43, 0x46DD794E, 0x113FDB5C, 0xE3069283,
+        ],
+    );
+    comes_back::<Crc32cHasher>(&rt);
 }
 
 #[test]
@@ -45,4 +77,87 @@ fn elf_of_names(rt: HostRuntime) {
         ],
         &[0, 0x077905a6, 0x0006cf04, 0x0b09985c, 0x077905a6],
     );
+}
+
+#[test]
+fn fnv1_of_texts(rt: HostRuntime) {
+    same(
+        &rt,
+        &[
+            fnv1_32(b""),
+            fnv1_32(b"a"),
+            fnv1_32(b"b"),
+            fnv1_32(b"foobar"),
+            answer_of_pieces::<Fnv1Hasher32>(&[b"foo", b"bar"]),
+        ],
+        &[0x811c9dc5, 0x050c5d7e, 0x050c5d7d, 0x31f0b262, 0x31f0b262],
+    );
+    same(
+        &rt,
+        &[
+            fnv1_64(b""),
+            fnv1_64(b"a"),
+            fnv1_64(b"b"),
+            fnv1_64(b"foobar"),
+            answer_of_pieces::<Fnv1Hasher64>(&[b"foo", b"bar"]),
+        ],
+        &[
+            0xcbf29ce484222325,
+            0xaf63bd4c8601b7be,
+            0xaf63bd4c8601b7bd,
+            0x340d8765a4dda9c2,
+            0x340d8765a4dda9c2,
+        ],
+    );
+    comes_back::<Fnv1Hasher32>(&rt);
+    comes_back::<Fnv1Hasher64>(&rt);
+}
+
+#[test]
+fn djb2_add_of_names(rt: HostRuntime) {
+    same(
+        &rt,
+        &[
+            djb2_add(b""),
+            djb2_add(b"printf"),
+            djb2_add(b"exit"),
+            djb2_add(b"syscall"),
+            answer_of_pieces::<Djb2AddHasher>(&[b"pri", b"ntf"]),
+        ],
+        &[0x1505, 0x156b2bb8, 0x7c967e3f, 0xbac212a0, 0x156b2bb8],
+    );
+    comes_back::<Djb2AddHasher>(&rt);
+}
+
+#[test]
+fn joaat_of_texts(rt: HostRuntime) {
+    same(
+        &rt,
+        &[
+            joaat(b""),
+            joaat(b"a"),
+            joaat(b"The quick brown fox jumps over the lazy dog"),
+            answer_of_pieces::<JoaatHasher>(&[b"The quick brown fox", b" jumps over the lazy dog"]),
+        ],
+        &[0, 0xca2e9442, 0x519e91f5, 0x519e91f5],
+    );
+    comes_back::<JoaatHasher>(&rt);
+}
+
+#[test]
+fn windows_of_relatives(rt: HostRuntime) {
+    let zeros = [0; 6];
+    // what the polynomial is as a text: 33 bits, in five places
+    let ieee = [0x41, 0x06, 0x71, 0xDB, 0x01, 0];
+    let castagnoli = [0xF1, 0x76, 0xEC, 0x05, 0x01, 0];
+    assert!(rt; crc32(&zeros) == crc32(&ieee) && crc32c(&zeros) == crc32c(&castagnoli));
+    assert!(rt; !apart_crc32(&zeros, &ieee) && !apart_crc32c(&zeros, &castagnoli));
+    let near = [0, 0x06, 0x71, 0xDB, 0x01, 0];
+    assert!(rt; apart_crc32(&zeros, &near) && apart_crc32c(&zeros, &near));
+    assert!(rt; crc32(&zeros) != crc32(&near) && crc32c(&zeros) != crc32c(&near));
+    assert!(rt; djb2_add(b"Ab") == djb2_add(b"BA") && !apart_djb2_add(b"Ab", b"BA"));
+    assert!(rt; apart_djb2_add(b"printf", b"scanfs") && !apart_djb2_add(b"printfs", b"scanfst"));
+    assert!(rt; apart_fnv1_64(b"abcd", b"axyd") && apart_fnv1_64(b"abcd", b"xyzd"));
+    assert!(rt; !apart_fnv1_64(b"abcd", b"wxyz") && !apart_fnv1_64(b"abcd", b"abcd"));
+    assert!(rt; apart_fnv1_32(b"abcd", b"axyd") && !apart_fnv1_32(b"abcd", b"xyzd"));
 }

@@ -19,7 +19,7 @@ use Rattle.hashers.proofs.SdbmWindow.{sdbm_separates, SdbmApart}
 use Rattle.hashers.proofs.FnvWindows.{fnv1a32_separates, fnv1a64_separates, Fnv32Apart, Fnv64Apart}
 
 -- where the hash is the fold of a step that separates two texts, it tells them apart
-hash_apart : (step : ℕ → ℕ → ℕ) (bound places mask : ℕ) (Apart : ℕ → ℕ → ℕ → Type 0) → Separates step (λ s. s < bound) places mask Apart
+pub hash_apart : (step : ℕ → ℕ → ℕ) (bound places mask : ℕ) (Apart : ℕ → ℕ → ℕ → Type 0) → Separates step (λ s. s < bound) places mask Apart
     → (hash : ℕ → List ℕ → ℕ) → ((s : ℕ) (text : List ℕ) → s < bound → hash s text ≡ fold step s text)
     → (start : ℕ) (x y : List ℕ) → start < bound → IsText x → IsText y → DifferWithin places mask x y → hash start x ≢ hash start y
 hash_apart step bound places mask Apart laws hash is_fold start x y known xs ys window same =

@@ -10,7 +10,9 @@ pub use Rattle.hash_laws.proofs.RecurrenceLemmas
 pub use Rattle.hash_laws.proofs.ReadingLemmas
 pub use Rattle.hash_laws.proofs.TextLemmas
 pub use Rattle.hash_laws.proofs.WriteLemmas
+pub use Rattle.hash_laws.proofs.Windows
 pub use Rattle.hash_rounds.proofs.XorLemmas
+pub use Rattle.hash_rounds.proofs.XorshiftLemmas
 pub use Rattle.hash_fx.proofs.FixedWidths
 pub use Rattle.hash_laws.proofs.ByteLemmas
 pub use Rattle.hash_fx.proofs.WholeWords

@@ -1,0 +1,103 @@
+//! djb2 in its form with a sum, which is Dan Bernstein's first, and which the section `.gnu.hash` of ELF files takes.
+ghost use Rattle.std.specs.Prelude.{◌≡◌, ◌^◌, refl};
+ghost use Rattle.std.proofs.Common.{lit<};
+ghost use Rattle.hashers.proofs.RecurrenceLemmas.{recurrence_is_fold};
+ghost use Rattle.hash_more.specs.Djb2Add.{djb2_add_step, djb2_add_from};
+ghost use Rattle.hash_more.specs.Djb2AddLaws.{djb2_add_facts};
+
+use hashers::oz::UNPRODUCT_33;
+use hashers::rules::{ByteHasher, ByteRule, StepRule, UndoRule, alone_or_in_eights};
+use std::hash::Hasher;
+
+/// The rule of djb2 with a sum.
+pub struct Djb2AddRule;
+
+impl StepRule for Djb2AddRule {
+    type State = u32;
+
+    ghost number = { λ s. s };
+
+    ghost bound = { 2 ^ 32 };
+
+    ghost start = { 5381 };
+
+    ghost step = { djb2_add_step };
+
+    fn start() -> u32 {
+        5381
+    }
+
+    #[inline(always)]
+    fn fork(state: &u32) -> u32 {
+        *state
+    }
+
+    #[inline(always)]
+    fn step(state: &mut u32, byte: u8) {
+        *state = (*state << 5)
+            .wrapping_add(*state)
+            .wrapping_add(u32::from(byte));
+    }
+
+    ghost start_in_range = { lit< tt };
+
+    ghost step_in_range = { djb2_add_facts.in_range };
+}
+
+impl ByteRule for Djb2AddRule {
+    ghost after = { djb2_add_from };
+
+    ghost write = { djb2_add_from };
+
+    ghost answer = { λ s. s };
+
+    #[inline(always)]
+    fn write(state: &mut u32, bytes: &[u8]) {
+        alone_or_in_eights::<Djb2AddRule>(state, bytes);
+    }
+
+    #[inline(always)]
+    fn answer(state: &u32) -> u64 {
+        u64::from(*state)
+    }
+
+    ghost is_fold = { recurrence_is_fold djb2_add_step (2 ^ 32) };
+
+    ghost write_is_after = { λ s text. refl };
+}
+
+impl UndoRule for Djb2AddRule {
+    #[inline(always)]
+    #[tactic(auto, using(crate::specs::Djb2AddLaws::djb2_add_back))]
+    fn unstep(state: &mut u32, byte: u8) {
+        *state = state
+            .wrapping_sub(u32::from(byte))
+            .wrapping_mul(UNPRODUCT_33);
+    }
+
+    fn unanswer(hash: u64) -> Option<u32> {
+        u32::try_from(hash).ok()
+    }
+
+    ghost facts = { djb2_add_facts };
+
+    ghost answer_injective = { λ s t ks kt same. same };
+}
+
+/// djb2 with a sum (Oz' page of hash functions, www.cse.yorku.ca/~oz/hash.html; `dl_new_hash` of the GNU C library).
+///
+/// From 5381, a byte `b` takes the state `h` to `33 * h + b`, modulo 2^32; `finish` answers `h`, widened. Cuts don't show, and
+/// each write can be undone. Texts that differ in the low five bits of at most six neighbouring bytes never collide.
+///
+/// Contracts see the hasher as its state, a number below 2^32: `write` gives `h.new ≡ djb2_add_from h.old bytes.now`, and
+/// `finish` answers `h.now`. Of `printf` the hash is 0x156b2bb8.
+pub type Djb2AddHasher = ByteHasher<Djb2AddRule>;
+
+/// djb2 with a sum of the bytes, from 5381.
+pub fn djb2_add(bytes: &[u8]) -> u64
+    ensures { result ≡ djb2_add_from 5381 bytes.now }
+{
+    let mut hasher = Djb2AddHasher::default();
+    hasher.write(bytes);
+    hasher.finish()
+}

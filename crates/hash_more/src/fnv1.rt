@@ -1,0 +1,191 @@
+//! The hash functions of Glenn Fowler, Landon Curt Noll and Kiem-Phong Vo in the variant 1: for each byte a product by a prime,
+//! and then an exclusive or. The starts and the primes are those of the variant 1a, `hashers::fnv`.
+ghost use Rattle.std.specs.Prelude.{◌≡◌, ◌^◌, refl};
+ghost use Rattle.std.proofs.Common.{lit<};
+ghost use Rattle.hashers.specs.Fnv.{fnv1a32_basis, fnv1a64_basis};
+ghost use Rattle.hashers.proofs.RecurrenceLemmas.{recurrence_is_fold};
+ghost use Rattle.hash_more.specs.Fnv1.{fnv1_32_step, fnv1_64_step, fnv1_32_from, fnv1_64_from};
+ghost use Rattle.hash_more.specs.Fnv1Laws.{fnv1_32_facts, fnv1_64_facts};
+
+use hashers::fnv::{BASIS_32, BASIS_64, PRIME_32, PRIME_64, UNPRIME_32, UNPRIME_64};
+use hashers::rules::{ByteHasher, ByteRule, StepRule, UndoRule, alone_or_in_eights};
+use std::hash::Hasher;
+
+/// The rule of FNV-1 at 32 bits.
+pub struct Fnv1Rule32;
+
+impl StepRule for Fnv1Rule32 {
+    type State = u32;
+
+    ghost number = { λ s. s };
+
+    ghost bound = { 2 ^ 32 };
+
+    ghost start = { fnv1a32_basis };
+
+    ghost step = { fnv1_32_step };
+
+    fn start() -> u32 {
+        BASIS_32
+    }
+
+    #[inline(always)]
+    fn fork(state: &u32) -> u32 {
+        *state
+    }
+
+    #[inline(always)]
+    fn step(state: &mut u32, byte: u8) {
+        *state = state.wrapping_mul(PRIME_32) ^ u32::from(byte);
+    }
+
+    ghost start_in_range = { lit< tt };
+
+    ghost step_in_range = { fnv1_32_facts.in_range };
+}
+
+impl ByteRule for Fnv1Rule32 {
+    ghost after = { fnv1_32_from };
+
+    ghost write = { fnv1_32_from };
+
+    ghost answer = { λ s. s };
+
+    #[inline(always)]
+    fn write(state: &mut u32, bytes: &[u8]) {
+        alone_or_in_eights::<Fnv1Rule32>(state, bytes);
+    }
+
+    #[inline(always)]
+    fn answer(state: &u32) -> u64 {
+        u64::from(*state)
+    }
+
+    ghost is_fold = { recurrence_is_fold fnv1_32_step (2 ^ 32) };
+
+    ghost write_is_after = { λ s text. refl };
+}
+
+impl UndoRule for Fnv1Rule32 {
+    #[inline(always)]
+    #[tactic(auto, using(crate::specs::Fnv1Laws::fnv1_32_back))]
+    fn unstep(state: &mut u32, byte: u8) {
+        *state = (*state ^ u32::from(byte)).wrapping_mul(UNPRIME_32);
+    }
+
+    fn unanswer(hash: u64) -> Option<u32> {
+        u32::try_from(hash).ok()
+    }
+
+    ghost facts = { fnv1_32_facts };
+
+    ghost answer_injective = { λ s t ks kt same. same };
+}
+
+/// FNV-1 at 32 bits (the FNV authors' page, www.isthe.com/chongo/tech/comp/fnv).
+///
+/// From 2166136261, a byte `b` takes the state `h` to `(h * 16777619) ^ b`, the product modulo 2^32; `finish` answers
+/// `h`, widened. Cuts don't show, and each write can be undone. Texts that differ in at most two neighbouring bytes never collide.
+///
+/// Contracts see the hasher as its state, a number below 2^32: `write` gives `h.new ≡ fnv1_32_from h.old bytes.now`, and
+/// `finish` answers `h.now`. Of `a` the hash is 0x050c5d7e.
+pub type Fnv1Hasher32 = ByteHasher<Fnv1Rule32>;
+
+/// FNV-1 at 32 bits of the bytes.
+pub fn fnv1_32(bytes: &[u8]) -> u64
+    ensures { result ≡ fnv1_32_from fnv1a32_basis bytes.now }
+{
+    let mut hasher = Fnv1Hasher32::default();
+    hasher.write(bytes);
+    hasher.finish()
+}
+
+/// The rule of FNV-1 at 64 bits.
+pub struct Fnv1Rule64;
+
+impl StepRule for Fnv1Rule64 {
+    type State = u64;
+
+    ghost number = { λ s. s };
+
+    ghost bound = { 2 ^ 64 };
+
+    ghost start = { fnv1a64_basis };
+
+    ghost step = { fnv1_64_step };
+
+    fn start() -> u64 {
+        BASIS_64
+    }
+
+    #[inline(always)]
+    fn fork(state: &u64) -> u64 {
+        *state
+    }
+
+    #[inline(always)]
+    #[tactic(auto, using(crate::specs::Fnv1Laws::fnv1_64_in_range))]
+    fn step(state: &mut u64, byte: u8) {
+        *state = state.wrapping_mul(PRIME_64) ^ u64::from(byte);
+    }
+
+    ghost start_in_range = { lit< tt };
+
+    ghost step_in_range = { fnv1_64_facts.in_range };
+}
+
+impl ByteRule for Fnv1Rule64 {
+    ghost after = { fnv1_64_from };
+
+    ghost write = { fnv1_64_from };
+
+    ghost answer = { λ s. s };
+
+    #[inline(always)]
+    fn write(state: &mut u64, bytes: &[u8]) {
+        alone_or_in_eights::<Fnv1Rule64>(state, bytes);
+    }
+
+    #[inline(always)]
+    fn answer(state: &u64) -> u64 {
+        *state
+    }
+
+    ghost is_fold = { recurrence_is_fold fnv1_64_step (2 ^ 64) };
+
+    ghost write_is_after = { λ s text. refl };
+}
+
+impl UndoRule for Fnv1Rule64 {
+    #[inline(always)]
+    #[tactic(auto, using(crate::specs::Fnv1Laws::fnv1_64_back))]
+    fn unstep(state: &mut u64, byte: u8) {
+        *state = (*state ^ u64::from(byte)).wrapping_mul(UNPRIME_64);
+    }
+
+    fn unanswer(hash: u64) -> Option<u64> {
+        Some(hash)
+    }
+
+    ghost facts = { fnv1_64_facts };
+
+    ghost answer_injective = { λ s t ks kt same. same };
+}
+
+/// FNV-1 at 64 bits (the FNV authors' page, www.isthe.com/chongo/tech/comp/fnv).
+///
+/// From 14695981039346656037, a byte `b` takes the state `h` to `(h * 1099511628211) ^ b`, the product modulo 2^64; `finish` answers
+/// `h`. Cuts don't show, and each write can be undone. Texts that differ in at most three neighbouring bytes never collide.
+///
+/// Contracts see the hasher as its state, a number below 2^64: `write` gives `h.new ≡ fnv1_64_from h.old bytes.now`, and
+/// `finish` answers `h.now`. Of `a` the hash is 0xaf63bd4c8601b7be.
+pub type Fnv1Hasher64 = ByteHasher<Fnv1Rule64>;
+
+/// FNV-1 at 64 bits of the bytes.
+pub fn fnv1_64(bytes: &[u8]) -> u64
+    ensures { result ≡ fnv1_64_from fnv1a64_basis bytes.now }
+{
+    let mut hasher = Fnv1Hasher64::default();
+    hasher.write(bytes);
+    hasher.finish()
+}

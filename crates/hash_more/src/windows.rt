@@ -1,0 +1,81 @@
+//! Tests on two texts that differ within a few neighbouring places: where one answers true, a hash tells the texts apart.
+//! None of them computes a hash.
+ghost use Rattle.std.specs.Prelude.{◌≡◌, ◌≢◌, ◌↔◌, ℕ, List, IsTrue};
+ghost use Rattle.std.specs.Bool.{OnTrue};
+ghost use Rattle.hashers.specs.Text.{IsText};
+ghost use Rattle.hashers.specs.DifferWithin.{DifferWithin};
+ghost use Rattle.hashers.specs.Fnv.{fnv1a32_basis, fnv1a64_basis};
+ghost use Rattle.hash_more.specs.Crc32.{ieee, castagnoli, all_ones, crc_from, crc_answer};
+ghost use Rattle.hash_more.specs.Djb2Add.{djb2_add_from};
+ghost use Rattle.hash_more.specs.Fnv1.{fnv1_32_from, fnv1_64_from};
+
+use hashers::window::is_window;
+
+// In how many neighbouring places two texts may differ.
+const CRC_PLACES: usize = 4;
+
+const DJB2_ADD_PLACES: usize = 6;
+
+const FNV1_64_PLACES: usize = 3;
+
+const FNV1_32_PLACES: usize = 2;
+
+/// Whether the texts have one length and differ, but only within four neighbouring places. Their `crc32` then differs.
+pub fn apart_crc32(x: &[u8], y: &[u8]) -> bool
+    ensures exactly { IsTrue result ↔ DifferWithin 4 0 x.now y.now }
+    ensures differ { OnTrue result
+        (crc_answer (crc_from ieee all_ones x.now) ≢ crc_answer (crc_from ieee all_ones y.now)) }
+{
+    is_window(x, y, CRC_PLACES, 0)
+}
+
+/// Whether the texts have one length and differ, but only within four neighbouring places. Their `crc32c` then differs.
+pub fn apart_crc32c(x: &[u8], y: &[u8]) -> bool
+    ensures exactly { IsTrue result ↔ DifferWithin 4 0 x.now y.now }
+    ensures differ { OnTrue result
+        (crc_answer (crc_from castagnoli all_ones x.now) ≢ crc_answer (crc_from castagnoli all_ones y.now)) }
+{
+    is_window(x, y, CRC_PLACES, 0)
+}
+
+/// Whether the texts have one length and differ, but only within six neighbouring places, and everywhere only in the low
+/// five bits of a byte. Their `djb2_add` hashes then differ.
+pub fn apart_djb2_add(x: &[u8], y: &[u8]) -> bool
+    ensures exactly { IsTrue result ↔ DifferWithin 6 0xE0 x.now y.now }
+    ensures differ { OnTrue result (djb2_add_from 5381 x.now ≢ djb2_add_from 5381 y.now) }
+{
+    is_window(x, y, DJB2_ADD_PLACES, 0xE0)
+}
+
+/// Whether the texts have one length and differ, but only within three neighbouring places. Their `fnv1_64` hashes then
+/// differ.
+pub fn apart_fnv1_64(x: &[u8], y: &[u8]) -> bool
+    ensures exactly { IsTrue result ↔ DifferWithin 3 0 x.now y.now }
+    ensures differ { OnTrue result (fnv1_64_from fnv1a64_basis x.now ≢ fnv1_64_from fnv1a64_basis y.now) }
+{
+    is_window(x, y, FNV1_64_PLACES, 0)
+}
+
+/// Whether the texts have one length and differ, but only within two neighbouring places. Their `fnv1_32` hashes then
+/// differ.
+pub fn apart_fnv1_32(x: &[u8], y: &[u8]) -> bool
+    ensures exactly { IsTrue result ↔ DifferWithin 2 0 x.now y.now }
+    ensures differ { OnTrue result (fnv1_32_from fnv1a32_basis x.now ≢ fnv1_32_from fnv1a32_basis y.now) }
+{
+    is_window(x, y, FNV1_32_PLACES, 0)
+}
+
+/// The windows as laws, with no code: where two texts have one length and differ, but only within so many neighbouring places
+/// and in bits outside the mask, the named hashes differ.
+pub fn windows_tell_apart()
+    ensures crc32 { (x y : List ℕ) → IsText x → IsText y → DifferWithin 4 0 x y
+        → crc_answer (crc_from ieee all_ones x) ≢ crc_answer (crc_from ieee all_ones y) }
+    ensures crc32c { (x y : List ℕ) → IsText x → IsText y → DifferWithin 4 0 x y
+        → crc_answer (crc_from castagnoli all_ones x) ≢ crc_answer (crc_from castagnoli all_ones y) }
+    ensures djb2_add { (x y : List ℕ) → IsText x → IsText y → DifferWithin 6 0xE0 x y
+        → djb2_add_from 5381 x ≢ djb2_add_from 5381 y }
+    ensures fnv1_64 { (x y : List ℕ) → IsText x → IsText y → DifferWithin 3 0 x y
+        → fnv1_64_from fnv1a64_basis x ≢ fnv1_64_from fnv1a64_basis y }
+    ensures fnv1_32 { (x y : List ℕ) → IsText x → IsText y → DifferWithin 2 0 x y
+        → fnv1_32_from fnv1a32_basis x ≢ fnv1_32_from fnv1a32_basis y }
+{}
