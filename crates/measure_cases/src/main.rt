@@ -1,10 +1,15 @@
 //! The hashes of cases: each line of standard input is the pieces of a text in hexadecimal, with commas between them, and
-//! each line of standard output the hashes of the names that are the arguments, in their order. For comparing with other
-//! programs.
+//! each line of standard output the hashes of the names that are the arguments, in their order: names of the table that all
+//! programs share, and of the relatives. For comparing with other programs.
 #![tactic(auto)]
 
 ghost use Rattle.std.specs.Prelude.{⊤};
 
+use hash_more::crc32::{Crc32Hasher, Crc32cHasher};
+use hash_more::djb2_add::Djb2AddHasher;
+use hash_more::elf::ElfHasher;
+use hash_more::fnv1::{Fnv1Hasher32, Fnv1Hasher64};
+use hash_more::joaat::JoaatHasher;
 use hash_names::{HashTask, by_name};
 use hashers::jenkins::spooky_hash::SpookyHasher;
 use hashers::laws::{Piecewise, Streamed};
@@ -77,6 +82,20 @@ impl HashTask for HashPieces {
     ghost by_same = { λ hash same agree told before after outcome done. done };
 }
 
+/// The hash of pieces by the name of a relative.
+fn by_relative(name: &str, pieces: &[Vec<u8>]) -> Option<u64> {
+    match name {
+        "crc32" => Some(fed::<Crc32Hasher>(pieces).answer()),
+        "crc32c" => Some(fed::<Crc32cHasher>(pieces).answer()),
+        "fnv1_32" => Some(fed::<Fnv1Hasher32>(pieces).answer()),
+        "fnv1_64" => Some(fed::<Fnv1Hasher64>(pieces).answer()),
+        "djb2_add" => Some(fed::<Djb2AddHasher>(pieces).answer()),
+        "joaat" => Some(fed::<JoaatHasher>(pieces).answer()),
+        "elf" => Some(fed::<ElfHasher>(pieces).answer()),
+        _ => None,
+    }
+}
+
 fn main(rt: HostRuntime) -> io::Result<()> {
     let alloc = rt.alloc();
     let mut names = Vec::new(alloc);
@@ -88,7 +107,11 @@ fn main(rt: HostRuntime) -> io::Result<()> {
     for line in input.lines(alloc) {
         let mut pieces = pieces_of(alloc, &line?)?;
         for name in &names {
-            match by_name::<HashPieces>(name, (), &mut pieces) {
+            let found = match by_relative(name, &pieces) {
+                Some(hash) => Some(hash),
+                None => by_name::<HashPieces>(name, (), &mut pieces),
+            };
+            match found {
                 Some(hash) => write!(output, "{hash} ")?,
                 None => return Err(Error::from(ErrorKind::InvalidInput)),
             }
