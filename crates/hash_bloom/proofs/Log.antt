@@ -56,7 +56,8 @@ module _ (t a b p m r c n : ℕ) (some : 2 ≤ t) (small : r * r ≤ t) (quarter
   -- the same with n + 1 over n for the first factor
   rounded : (n + 1) * ((t + r) * (t + r)) ≤ n * (t * (t + (2 * r + 3)))
   rounded =
-      let one : (n + 1) * t ≤ n * (t + 1) = let e : n * (t + 1) ≡ n * t + n = grind arith in let f : (n + 1) * t ≡ n * t + t = grind arith in omega (arith, e, f, low) in
+      let one : (n + 1) * t ≤ n * (t + 1) = let e : n * (t + 1) ≡ n * t + n = grind arith in let f : (n + 1) * t ≡ n * t + t =
+      grind arith in omega (arith, e, f, low) in
       let two : (n + 1) * t * ((t + r) * (t + r)) ≤ n * (t + 1) * ((t + r) * (t + r)) = mul-le-mul_right ((t + r) * (t + r)) one in
       let three : n * ((t + 1) * ((t + r) * (t + r))) ≤ n * (t * t * (t + (2 * r + 3))) = mul-le-mul_left n error in
       let e : (n + 1) * t * ((t + r) * (t + r)) ≡ (n + 1) * ((t + r) * (t + r)) * t = grind arith in
@@ -81,13 +82,15 @@ module _ (t a b p m r c n : ℕ) (some : 2 ≤ t) (small : r * r ≤ t) (quarter
   near_squared = record { lower = squared_lower; upper = squared_upper }
 
 -- the ratio itself, halved so often
-pub near_first : (t a b d p m : ℕ) → 1 ≤ t → t ≤ m → d * b ≤ a * t → a * t ≤ (d + 1) * b → p * m ≤ d → d + 1 ≤ p * (m + 1) → IsNear t a b p m 1
+pub near_first : (t a b d p m : ℕ) → 1 ≤ t → t ≤ m → d * b ≤ a * t → a * t ≤ (d + 1) * b → p * m ≤ d → d + 1 ≤ p * (m + 1)
+    → IsNear t a b p m 1
 near_first t a b d p m some low floor ceiling under over = record {
   lower = omega (arith, mul-le-mul_right b under, floor);
   upper =
       let one : (d + 1) * b ≤ p * (m + 1) * b = mul-le-mul_right b over in
       let two : a * t * t ≤ p * (m + 1) * b * t = mul-le-mul_right t (omega (arith, one, ceiling)) in
-      let three : (m + 1) * t ≤ m * (t + 1) = let e : m * (t + 1) ≡ m * t + m = grind arith in let f : (m + 1) * t ≡ m * t + t = grind arith in omega (arith, e, f, low) in
+      let three : (m + 1) * t ≤ m * (t + 1) = let e : m * (t + 1) ≡ m * t + m = grind arith in let f : (m + 1) * t ≡ m * t + t =
+      grind arith in omega (arith, e, f, low) in
       let four : p * b * ((m + 1) * t) ≤ p * b * (m * (t + 1)) = mul-le-mul_left (p * b) three in
       let e : p * (m + 1) * b * t ≡ p * b * ((m + 1) * t) = grind arith in
       let f : p * b * (m * (t + 1)) ≡ p * m * (t + 1) * b = grind arith in
@@ -95,7 +98,8 @@ near_first t a b d p m some low floor ceiling under over = record {
 }
 
 -- one digit more, at t = 2 ^ 62
-module _ (above below i log m halved n : ℕ) (early : i < 28) (low : 2 ^ 62 ≤ n) (floor : 2 ^ halved * (2 ^ 62 * n) ≤ m * m) (ceiling : m * m < 2 ^ halved * (2 ^ 62 * (n + 1)))
+module _ (above below i log m halved n : ℕ) (early : i < 28) (low : 2 ^ 62 ≤ n) (floor : 2 ^ halved * (2 ^ 62 * n) ≤ m * m)
+    (ceiling : m * m < 2 ^ halved * (2 ^ 62 * (n + 1)))
     (near : IsNear (2 ^ 62) (above ^ (2 ^ i)) (below ^ (2 ^ i)) (2 ^ log) m (4 * 2 ^ i - 3)) where
   abbrev err : ℕ
   err = 4 * 2 ^ i - 3
@@ -119,18 +123,21 @@ module _ (above below i log m halved n : ℕ) (early : i < 28) (low : 2 ^ 62 ≤
   error_is : 2 * err + 3 ≡ 4 * 2 ^ (i + 1) - 3
   error_is = omega (arith, twice, pow_pos i)
 
-  squared_near : IsNear (2 ^ 62) (above ^ (2 ^ i) * above ^ (2 ^ i)) (below ^ (2 ^ i) * below ^ (2 ^ i)) (2 ^ halved * (2 ^ log * 2 ^ log)) n (2 * err + 3)
+  squared_near : IsNear (2 ^ 62) (above ^ (2 ^ i) * above ^ (2 ^ i)) (below ^ (2 ^ i) * below ^ (2 ^ i))
+      (2 ^ halved * (2 ^ log * 2 ^ log)) n (2 * err + 3)
   squared_near =
       let upper : err ≤ 2 ^ 29 = omega (arith, low_power) in
       let square : err * err ≤ 2 ^ 29 * 2 ^ 29 = products err err (2 ^ 29) (2 ^ 29) upper upper in
-      near_squared (2 ^ 62) (above ^ (2 ^ i)) (below ^ (2 ^ i)) (2 ^ log) m err (2 ^ halved) n (lit≤ tt) (omega (arith, square)) (omega (arith, upper)) low floor (omega (arith, ceiling)) near
+      near_squared (2 ^ 62) (above ^ (2 ^ i)) (below ^ (2 ^ i)) (2 ^ log) m err (2 ^ halved) n (lit≤ tt) (omega (arith, square))
+      (omega (arith, upper)) low floor (omega (arith, ceiling)) near
 
   pub near_next : IsNear (2 ^ 62) (above ^ (2 ^ (i + 1))) (below ^ (2 ^ (i + 1))) (2 ^ (2 * log + halved)) n (4 * 2 ^ (i + 1) - 3)
   near_next =
       subst (λ e. IsNear (2 ^ 62) (above ^ (2 ^ (i + 1))) (below ^ (2 ^ (i + 1))) (2 ^ (2 * log + halved)) n e) error_is
       (subst (λ p. IsNear (2 ^ 62) (above ^ (2 ^ (i + 1))) (below ^ (2 ^ (i + 1))) p n (2 * err + 3)) log_is
       (subst (λ b. IsNear (2 ^ 62) (above ^ (2 ^ (i + 1))) b (2 ^ halved * (2 ^ log * 2 ^ log)) n (2 * err + 3)) (power below)
-      (subst (λ a. IsNear (2 ^ 62) a (below ^ (2 ^ i) * below ^ (2 ^ i)) (2 ^ halved * (2 ^ log * 2 ^ log)) n (2 * err + 3)) (power above) squared_near)))
+      (subst (λ a. IsNear (2 ^ 62) a (below ^ (2 ^ i) * below ^ (2 ^ i)) (2 ^ halved * (2 ^ log * 2 ^ log)) n (2 * err + 3))
+      (power above) squared_near)))
 
 -- what a near number tells of the logarithm
 log_of_near : (t a b p m r : ℕ) → 1 ≤ t → t ≤ m → m + 1 ≤ 2 * t → r ≤ t → 1 ≤ b → 1 ≤ p → IsNear t a b p m r → (p * b ≤ a) × (a < p * 4 * b)
@@ -151,14 +158,16 @@ pub log_at : (above below i parts log m : ℕ) → 2 ^ i ≡ parts → parts ≤
     → IsNear (2 ^ 62) (above ^ (2 ^ i)) (below ^ (2 ^ i)) (2 ^ log) m (4 * 2 ^ i - 3) → IsLog2 parts above below log
 log_at above below i parts log m is few some low high near =
     let near' = subst (λ n. IsNear (2 ^ 62) (above ^ n) (below ^ n) (2 ^ log) m (4 * n - 3)) is near in
-    let found = log_of_near (2 ^ 62) (above ^ parts) (below ^ parts) (2 ^ log) m (4 * parts - 3) (lit≤ tt) low (omega (arith, high)) (omega arith) (one-le-pow parts below some) (pow_pos log) near' in
+    let found = log_of_near (2 ^ 62) (above ^ parts) (below ^ parts) (2 ^ log) m (4 * parts - 3) (lit≤ tt) low (omega (arith, high))
+    (omega arith) (one-le-pow parts below some) (pow_pos log) near' in
     let power : 2 ^ (log + 2) ≡ 2 ^ log * 4 = pow-add 2 log 2 in
     record { reached = found.0; nearly = subst (λ p. above ^ parts < p * below ^ parts) (sym power) found.1 }
 
 pow_one : (x : ℕ) → x ^ 1 ≡ x
 pow_one x = let e : x ^ 1 ≡ x ^ 0 * x = pow-suc x 0 in let f : x ^ 0 * x ≡ 1 * x = ap (λ n. n * x) (pow-zero x) in e ∙ f ∙ omega arith
 
-pub near_start : (above below h d q m : ℕ) → above < 2 ^ 64 → 1 ≤ below → h ≡ above → d ≡ h * 2 ^ 62 % 2 ^ 128 / below → 2 ^ 62 ≤ m → 2 ^ q * m ≤ d → d < 2 ^ q * (m + 1)
+pub near_start : (above below h d q m : ℕ) → above < 2 ^ 64 → 1 ≤ below → h ≡ above → d ≡ h * 2 ^ 62 % 2 ^ 128 / below → 2 ^ 62 ≤ m
+    → 2 ^ q * m ≤ d → d < 2 ^ q * (m + 1)
     → IsNear (2 ^ 62) (above ^ 1) (below ^ 1) (2 ^ q) m 1
 near_start above below h d q m fits some is number low under over =
     let whole : h * 2 ^ 62 % 2 ^ 128 ≡ above * 2 ^ 62 = omega (arith, is, fits) in
@@ -167,4 +176,5 @@ near_start above below h d q m fits some is number low under over =
     let ceiling : above * 2 ^ 62 < d * below + below = subst (λ n. above * 2 ^ 62 < n * below + below) (sym e) (lt-div-mul-add some) in
     let more : (d + 1) * below ≡ d * below + below = grind arith in
     let near = near_first (2 ^ 62) above below d (2 ^ q) m (lit≤ tt) low floor (omega (arith, more, ceiling)) under (omega (arith, over)) in
-    subst (λ b. IsNear (2 ^ 62) (above ^ 1) b (2 ^ q) m 1) (sym (pow_one below)) (subst (λ a. IsNear (2 ^ 62) a below (2 ^ q) m 1) (sym (pow_one above)) near)
+    subst (λ b. IsNear (2 ^ 62) (above ^ 1) b (2 ^ q) m 1) (sym (pow_one below))
+    (subst (λ a. IsNear (2 ^ 62) a below (2 ^ q) m 1) (sym (pow_one above)) near)

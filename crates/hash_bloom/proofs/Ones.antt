@@ -18,13 +18,16 @@ next f a n = sum_by-cons f a (range_with_len (a + 1) n)
 
 same_sum : (f g : ℕ → ℕ) (a n : ℕ) → ((i : ℕ) → a ≤ i → i < a + n → f i ≡ g i) → sum_from f a n ≡ sum_from g a n
 same_sum f g a zero same = refl
-same_sum f g a (suc n) same = next f a n ∙ ap₂ (λ x y. x + y) (same a (omega arith) (omega arith)) (same_sum f g (a + 1) n (λ i low high. same i (omega arith) (omega arith))) ∙ sym (next g a n)
+same_sum f g a (suc n) same =
+    next f a n ∙ ap₂ (λ x y. x + y) (same a (omega arith) (omega arith))
+    (same_sum f g (a + 1) n (λ i low high. same i (omega arith) (omega arith))) ∙ sym (next g a n)
 
 shifted_sum : (f : ℕ → ℕ) (by a n : ℕ) → sum_from f (by + a) n ≡ sum_from (λ i. f (by + i)) a n
 shifted_sum f by a zero = refl
 shifted_sum f by a (suc n) =
     let e : by + a + 1 ≡ by + (a + 1) = omega arith in
-    next f (by + a) n ∙ ap (λ s. f (by + a) + s) (ap (λ b. sum_from f b n) e ∙ shifted_sum f by (a + 1) n) ∙ sym (next (λ i. f (by + i)) a n)
+    next f (by + a) n ∙ ap (λ s. f (by + a) + s) (ap (λ b. sum_from f b n) e ∙ shifted_sum f by (a + 1) n)
+    ∙ sym (next (λ i. f (by + i)) a n)
 
 split_sum : (f : ℕ → ℕ) (a m n : ℕ) → sum_from f a (m + n) ≡ sum_from f a m + sum_from f (a + m) n
 split_sum f a zero n =
@@ -63,7 +66,9 @@ ones_are (suc k) w low =
     let r : ℕ = w % 2 in
     let whole : w / 2 * 2 ^ 1 + r ≡ w = omega arith in
     let rest : sum_from (bit_at w) (1 + 0) k ≡ sum_from (bit_at (w / 2)) 0 k =
-    shifted_sum (bit_at w) 1 0 k ∙ same_sum (λ i. bit_at w (1 + i)) (bit_at (w / 2)) 0 k (λ i a b. let e : 1 + i ≡ suc i = omega arith in ap (bit_at w) e ∙ bit_at-suc w i) in
+    shifted_sum (bit_at w) 1 0 k
+    ∙ same_sum (λ i. bit_at w (1 + i)) (bit_at (w / 2)) 0 k
+    (λ i a b. let e : 1 + i ≡ suc i = omega arith in ap (bit_at w) e ∙ bit_at-suc w i) in
     let ih = ones_are k (w / 2) half in
     let cat : count_ones (w / 2 * 2 ^ 1 + r) ≡ count_ones (w / 2) + count_ones r = ones_cat 1 (w / 2) r (omega arith) in
     let lowest : bit_at w 0 ≡ r = bit_at_lowest w in
@@ -89,7 +94,8 @@ sum_words (w ∷ words) fits =
     let ih = sum_words words (λ i. fits (suc i)) in
     let here = ones_are 64 w (fits 0) in
     let split = split_sum (bit (w ∷ words)) 0 64 (64 * length words) in
-    sum_by-cons count_ones w words ∙ sym (ap (sum_from (bit (w ∷ words)) 0) more ∙ split ∙ ap₂ (λ x y. x + y) (first ∙ sym here) (others ∙ sym ih))
+    sum_by-cons count_ones w words
+    ∙ sym (ap (sum_from (bit (w ∷ words)) 0) more ∙ split ∙ ap₂ (λ x y. x + y) (first ∙ sym here) (others ∙ sym ih))
 
 -- no bit beyond is set, so the words' ones are those of the bits
 pub ones_of_words : (words : List ℕ) (bits : ℕ) → ((i : ℕ) → get_or words i 0 < 2 ^ 64) → bits ≤ 64 * length words

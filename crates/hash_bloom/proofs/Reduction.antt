@@ -6,8 +6,10 @@ use Rattle.std.proofs.Math.Nat.{add-mul-mod_self_right, mod-eq_of_lt, div-mul-le
 pub reduced : (hash bits inverse times : ℕ) → hash < 2 ^ 64 → 1 ≤ bits → inverse ≡ (2 ^ 64 - 1) / bits
     → times ≡ hash * inverse / 2 ^ 64 → (times * bits ≤ hash) × (hash < times * bits + 2 * bits)
 reduced hash bits inverse times low some is_inverse is_times =
-    let under : inverse * bits < 2 ^ 64 = omega (arith, subst (λ i. i * bits ≤ 2 ^ 64 - 1) (sym is_inverse) (div-mul-le_self (2 ^ 64 - 1) bits)) in
-    let over : 2 ^ 64 ≤ inverse * bits + bits = omega (arith, subst (λ i. 2 ^ 64 - 1 < i * bits + bits) (sym is_inverse) (lt-div-mul-add some)) in
+    let under : inverse * bits < 2 ^ 64 =
+    omega (arith, subst (λ i. i * bits ≤ 2 ^ 64 - 1) (sym is_inverse) (div-mul-le_self (2 ^ 64 - 1) bits)) in
+    let over : 2 ^ 64 ≤ inverse * bits + bits =
+    omega (arith, subst (λ i. 2 ^ 64 - 1 < i * bits + bits) (sym is_inverse) (lt-div-mul-add some)) in
     let floor : times * 2 ^ 64 ≤ hash * inverse = omega (arith, is_times) in
     let ceil : hash * inverse + 1 ≤ times * 2 ^ 64 + 2 ^ 64 = omega (arith, is_times) in
     let floors : times * 2 ^ 64 * bits ≤ hash * inverse * bits = mul-le-mul_right bits floor in

@@ -8,7 +8,8 @@ use Rattle.hash_bloom.specs.declared.commands.Command.TheVariants.{Insert, Union
 use Rattle.hash_bloom.proofs.Found.{passes_added}
 
 -- where a list that is gone over is split, one item later and at the end
-pub split_more : {X : Type 0} (all done rest after : List X) (x : X) → all ≡ done ++ rest → rest ≡ x ∷ after → all ≡ (done ++ x ∷ []) ++ after
+pub split_more : {X : Type 0} (all done rest after : List X) (x : X) → all ≡ done ++ rest → rest ≡ x ∷ after
+    → all ≡ (done ++ x ∷ []) ++ after
 split_more all done rest after x split next = split ∙ ap (λ t. done ++ t) next ∙ sym (append_assoc done (x ∷ []) after)
 
 pub split_end : {X : Type 0} (all done rest : List X) → all ≡ done ++ rest → length rest ≡ 0 → done ≡ all
@@ -19,18 +20,29 @@ module _ (f g : List ℕ → ℕ) where
     -- which bits a command sets depends on the number of bits and probes alone
     sets_same : (a b : Filter) → Fits a b → (command : Command F G) (j : ℕ) → SetsBit f g b command j ↔ SetsBit f g a command j
     sets_same a b fits (Insert key) j = (
-      λ probe. (probe.0, subst (λ (n : ℕ). probe.0 < n) fits.1 probe.1, ap (λ bits. place bits (f key.items) (g key.items) probe.0) (sym fits.0) ∙ probe.2),
-      λ probe. (probe.0, subst (λ (n : ℕ). probe.0 < n) (sym fits.1) probe.1, ap (λ bits. place bits (f key.items) (g key.items) probe.0) fits.0 ∙ probe.2),
+      λ probe. (
+        probe.0,
+        subst (λ (n : ℕ). probe.0 < n) fits.1 probe.1,
+        ap (λ bits. place bits (f key.items) (g key.items) probe.0) (sym fits.0) ∙ probe.2,
+      ),
+      λ probe. (
+        probe.0,
+        subst (λ (n : ℕ). probe.0 < n) (sym fits.1) probe.1,
+        ap (λ bits. place bits (f key.items) (g key.items) probe.0) fits.0 ∙ probe.2,
+      ),
     )
     sets_same a b fits (Union other) j = (λ set. set, λ set. set)
     sets_same a b fits Store j = (λ set. set, λ set. set)
 
     any_more : (a : Filter) (done : List (Command F G)) (command : Command F G) (j : ℕ)
         → AnySetsBit f g a (done ++ command ∷ []) j ↔ (AnySetsBit f g a done j ⊎ SetsBit f g a command j)
-    any_more a [] command j = (λ set. ⊎_elim (λ here. inr here) (λ none. absurd none) set, λ set. ⊎_elim (λ none. absurd none) (λ here. inl here) set)
+    any_more a [] command j =
+        (λ set. ⊎_elim (λ here. inr here) (λ none. absurd none) set, λ set. ⊎_elim (λ none. absurd none) (λ here. inl here) set)
     any_more a (first ∷ done) command j = (
-      λ set. ⊎_elim (λ here. inl (inl here)) (λ later. ⊎_elim (λ m. inl (inr m)) (λ last. inr last) ((any_more a done command j).0 later)) set,
-      λ set. ⊎_elim (λ any. ⊎_elim (λ here. inl here) (λ m. inr ((any_more a done command j).1 (inl m))) any) (λ last. inr ((any_more a done command j).1 (inr last))) set,
+      λ set. ⊎_elim (λ here. inl (inl here))
+          (λ later. ⊎_elim (λ m. inl (inr m)) (λ last. inr last) ((any_more a done command j).0 later)) set,
+      λ set. ⊎_elim (λ any. ⊎_elim (λ here. inl here) (λ m. inr ((any_more a done command j).1 (inl m))) any)
+          (λ last. inr ((any_more a done command j).1 (inr last))) set,
     )
 
     -- one command more

@@ -17,11 +17,14 @@ united old others new each j =
     let low : a < 2 = bit_at-lt (get_or old (j / 64) 0) (j % 64) in
     let low' : b < 2 = bit_at-lt (get_or others (j / 64) 0) (j % 64) in (
       λ (h : HasBit new j). ⊎_elim (λ (e : a ≡ 1). inl e) (λ (ne : a ≢ 1). inr (omega (arith, is, h, ne, low, low'))) (cases_eq a 1),
-      λ (h : HasBit old j ⊎ HasBit others j). is ∙ ⊎_elim (λ (e : a ≡ 1). let r : max a b ≡ 1 = omega (arith, e, low') in r) (λ (e : b ≡ 1). let r : max a b ≡ 1 = omega (arith, e, low) in r) h,
+      λ (h : HasBit old j ⊎ HasBit others j). is
+          ∙ ⊎_elim (λ (e : a ≡ 1). let r : max a b ≡ 1 = omega (arith, e, low') in r)
+          (λ (e : b ≡ 1). let r : max a b ≡ 1 = omega (arith, e, low) in r) h,
     )
 
 -- beyond the bits lies the rest of the last word alone
-module _ (words : List ℕ) (bits : ℕ) (enough : bits ≤ 64 * length words) (no_more : 64 * length words < bits + 64) (inside : bits % 64 ≢ 0) where
+module _ (words : List ℕ) (bits : ℕ) (enough : bits ≤ 64 * length words) (no_more : 64 * length words < bits + 64)
+    (inside : bits % 64 ≢ 0) where
   abbrev pub last : ℕ
   last = get_or words (bits / 64) 0
 
@@ -38,7 +41,8 @@ module _ (words : List ℕ) (bits : ℕ) (enough : bits ≤ 64 * length words) (
       absurd (omega (arith, none, one)))
       (λ (other : j / 64 ≢ bits / 64).
       let past : length words ≤ j / 64 = omega arith in
-      let none : bit_at (get_or words (j / 64) 0) (j % 64) ≡ 0 = ap (λ w. bit_at w (j % 64)) (get_or_past words (j / 64) 0 past) ∙ bit_at-zero (j % 64) in
+      let none : bit_at (get_or words (j / 64) 0) (j % 64) ≡ 0 =
+      ap (λ w. bit_at w (j % 64)) (get_or_past words (j / 64) 0 past) ∙ bit_at-zero (j % 64) in
       absurd (omega (arith, none, has)))
       (cases_eq (j / 64) (bits / 64)))
       (cases_lt j bits)

@@ -6,7 +6,8 @@ use Rattle.std.proofs.lemmas.List.{length-map, map-append}
 use Rattle.hash_c.specs.Lines.{laid_over, line_texts}
 
 -- what the first byte makes of the lines behind it
-by_first : (byte : ℕ) (bytes : List ℕ) (b : Bool) → (byte == 10) ≡ b → line_texts (byte ∷ bytes) ≡ cond b ([] ∷ line_texts bytes) (onto_first byte (line_texts bytes))
+by_first : (byte : ℕ) (bytes : List ℕ) (b : Bool) → (byte == 10) ≡ b
+    → line_texts (byte ∷ bytes) ≡ cond b ([] ∷ line_texts bytes) (onto_first byte (line_texts bytes))
 by_first byte bytes b is = ap (λ t. cond t ([] ∷ line_texts bytes) (onto_first byte (line_texts bytes))) is
 
 -- a newline at place n, the first one, ends the first line
@@ -38,7 +39,8 @@ laid_one_more [] (other ∷ next ∷ others) x room = refl
 laid_one_more (number ∷ numbers) (other ∷ others) x room = ap (λ l. number ∷ l) (laid_one_more numbers others x (omega arith))
 
 -- and where there is none
-pub laid_no_more : (numbers others : List ℕ) (x : ℕ) → length others ≤ length numbers → laid_over (numbers ++ x ∷ []) others ≡ laid_over numbers others
+pub laid_no_more : (numbers others : List ℕ) (x : ℕ) → length others ≤ length numbers
+    → laid_over (numbers ++ x ∷ []) others ≡ laid_over numbers others
 laid_no_more [] [] x full = refl
 laid_no_more (number ∷ numbers) [] x full = refl
 laid_no_more [] (other ∷ others) x full = absurd (omega arith)

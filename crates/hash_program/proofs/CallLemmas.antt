@@ -5,7 +5,8 @@ use Rattle.std.specs.Str.{bytes_eq}
 use Rattle.hash_program.specs.Call.{dashes, is_known, is_operand, operands, options, unknown}
 
 -- a word that gives an unknown option comes first
-pub unknown_first : (letters : List ℕ) (names : List (List ℕ)) (word : List ℕ) (more : List (List ℕ)) → bytes_eq word dashes ≡ false → is_known letters names word ≡ false
+pub unknown_first : (letters : List ℕ) (names : List (List ℕ)) (word : List ℕ) (more : List (List ℕ)) → bytes_eq word dashes ≡ false
+    → is_known letters names word ≡ false
     → unknown letters names (word ∷ more) ≡ word ∷ unknown letters names more
 unknown_first letters names word more goes_on new =
     ap (λ b. filter (λ w. not (is_known letters names w)) (if b then [] else word ∷ options more)) goes_on

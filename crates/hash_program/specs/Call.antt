@@ -31,7 +31,8 @@ abbrev pub is_known : (letters : List ℕ) (names : List (List ℕ)) → List �
 is_known letters names [] = true
 is_known letters names (first ∷ []) = true
 is_known letters names (first ∷ next ∷ more) =
-    if first == 45 then (if next == 45 then list_any (λ name. bytes_eq name more) names else list_all (λ x. list_any (λ y. y == x) letters) (next ∷ more)) else true
+    if first == 45 then (if next == 45 then list_any (λ name. bytes_eq name more) names else list_all
+    (λ x. list_any (λ y. y == x) letters) (next ∷ more)) else true
 
 -- the words in front of the first `--`
 abbrev pub options : List (List ℕ) → List (List ℕ)

@@ -22,10 +22,14 @@ up_low : (gone : ℕ) (p : Point) → p.node ≤ gone → closed_up gone p ≡ p
 up_low gone p h = λ i. record { place = p.place; node = cond (le-ltb gone p.node h i) (p.node - 1) p.node }
 
 pub pairs_insert : (nodes : List Node) (i : ℕ) (node : Node) → pairs (insert nodes i node) ≡ insert (pairs nodes) i (pair_of node)
-pairs_insert nodes i node = map-append pair_of (take i nodes) (node ∷ drop i nodes) ∙ (λ j. sym (take-map pair_of i nodes) j ++ pair_of node ∷ sym (drop-map pair_of i nodes) j)
+pairs_insert nodes i node =
+    map-append pair_of (take i nodes) (node ∷ drop i nodes)
+    ∙ (λ j. sym (take-map pair_of i nodes) j ++ pair_of node ∷ sym (drop-map pair_of i nodes) j)
 
 pub pairs_remove : (nodes : List Node) (i : ℕ) → pairs (remove nodes i) ≡ remove (pairs nodes) i
-pairs_remove nodes i = map-append pair_of (take i nodes) (drop (suc i) nodes) ∙ (λ j. sym (take-map pair_of i nodes) j ++ sym (drop-map pair_of (suc i) nodes) j)
+pairs_remove nodes i =
+    map-append pair_of (take i nodes) (drop (suc i) nodes)
+    ∙ (λ j. sym (take-map pair_of i nodes) j ++ sym (drop-map pair_of (suc i) nodes) j)
 
 pub remove_insert : {X : Type 0} (xs : List X) (i : ℕ) (x : X) → i ≤ length xs → remove (insert xs i x) i ≡ xs
 remove_insert [] zero x h = refl
@@ -36,13 +40,15 @@ remove_insert (y ∷ xs) (suc i) x h = ap (λ rest. y ∷ rest) (remove_insert x
 -- a list that was written over whole
 pub over : (new old : List Point) (n : ℕ) → length new ≡ length old → n ≡ length old → take n (new ++ drop (length new) old) ≡ new
 over new old n same is =
-    ap (λ rest. take n (new ++ rest)) (drop_all (length new) old (omega arith)) ∙ ap (take n) (append-nil new) ∙ take_all n new (omega arith)
+    ap (λ rest. take n (new ++ rest)) (drop_all (length new) old (omega arith)) ∙ ap (take n) (append-nil new)
+    ∙ take_all n new (omega arith)
 
 -- one point more is counted anew
 abbrev closing : ℕ → List Point → ℕ → List Point
 closing gone old i = map (closed_up gone) (take i old) ++ drop i old
 
-module _ (gone i : ℕ) (old now next : List Point) (d : Point) (below : i < length old) (long : length now ≡ length old) (so_far : now ≡ closing gone old i) where
+module _ (gone i : ℕ) (old now next : List Point) (d : Point) (below : i < length old) (long : length now ≡ length old)
+    (so_far : now ≡ closing gone old i) where
   abbrev x : Point
   x = get_or now i d
 
@@ -67,7 +73,8 @@ opened_and_closed at p = ⊎_elim
     (λ (low : p.node < at). ap (closed_up at) (open_low at p low) ∙ up_low at p (omega arith))
     (λ (high : at ≤ p.node).
     let back : p.node + 1 - 1 ≡ p.node = omega arith in
-    ap (closed_up at) (open_high at p high) ∙ up_high at (record { place = p.place; node = p.node + 1 }) (omega arith) ∙ (λ i. record { place = p.place; node = back i }))
+    ap (closed_up at) (open_high at p high) ∙ up_high at (record { place = p.place; node = p.node + 1 }) (omega arith)
+    ∙ (λ i. record { place = p.place; node = back i }))
     (cases_lt p.node at)
 
 pub all_opened_and_closed : (at : ℕ) (points : List Point) → map (closed_up at) (map (opened_up at) points) ≡ points
@@ -83,7 +90,8 @@ module _ (come i : ℕ) (old now next : List Point) (d : Point) (below : i < len
   opens : next ≡ set now i (opened_up come y) → next ≡ map (opened_up come) (take (i + 1) old) ++ drop (i + 1) old
   opens is = is ∙ map_over_more (opened_up come) old now i y below so_far (get_or_default now i d y (omega arith))
 
-  pub opens_high : come ≤ y.node → next ≡ set now i (record { place = y.place; node = y.node + 1 }) → next ≡ map (opened_up come) (take (i + 1) old) ++ drop (i + 1) old
+  pub opens_high : come ≤ y.node → next ≡ set now i (record { place = y.place; node = y.node + 1 })
+      → next ≡ map (opened_up come) (take (i + 1) old) ++ drop (i + 1) old
   opens_high h is = opens (is ∙ ap (set now i) (sym (open_high come y h)))
 
   pub opens_low : y.node < come → next ≡ set now i y → next ≡ map (opened_up come) (take (i + 1) old) ++ drop (i + 1) old
@@ -106,7 +114,8 @@ still_before gone points before i j d less within =
     let f = closed_up gone in
     let l : j < length points = omega (arith, length-map points f) in
     let b = before i j d less l in
-    let both : IsBefore (f (get_or points i d)) (f (get_or points j d)) = record { place = b.place; node = λ e. rises gone _ _ (b.node e) } in
+    let both : IsBefore (f (get_or points i d)) (f (get_or points j d)) =
+    record { place = b.place; node = λ e. rises gone _ _ (b.node e) } in
     subst (λ (p : Point). IsBefore p (get_or (map f points) j d)) (sym (get_or-map f points i d d (omega arith)))
     (subst (λ (q : Point). IsBefore (f (get_or points i d)) q) (sym (get_or-map f points j d d l)) both)
 
@@ -117,7 +126,11 @@ in_filter p (y ∷ xs) x e (zero, l, is) =
     subst (λ b. Contains (cond b (y ∷ filter p xs) (filter p xs)) x) (sym h) (0, omega arith, is)
 in_filter p (y ∷ xs) x e (suc k, l, is) =
     let rest = in_filter p xs x e (k, omega arith, is) in
-    elim (p y) as (λ b. Contains (cond b (y ∷ filter p xs) (filter p xs)) x) [ true ↦ (suc rest.0, omega (arith, rest.1), rest.2) | false ↦ rest ]
+    elim (p y) as (λ b. Contains (cond b (y ∷ filter p xs) (filter p xs)) x) [
+      | true ↦
+          (suc rest.0, omega (arith, rest.1), rest.2)
+      | false ↦ rest
+    ]
 
 in_map : (f : Point → Point) (xs : List Point) (x : Point) → Contains xs x → Contains (map f xs) (f x)
 in_map f xs x c = (c.0, omega (arith, c.1, length-map xs f), get_or-map f xs c.0 x (f x) c.1 ∙ ap f c.2)
@@ -134,15 +147,18 @@ module _ (hash : List ℕ → ℕ) (es : Pairs) (gone : ℕ) (below : gone < len
   moved p other = ⊎_elim
       (λ (high : gone < p.node).
       let back : p.node - 1 + 1 ≡ p.node = omega arith in
-      ap (λ (q : Point). node_at rest q.node) (up_high gone p high) ∙ get_or-remove_above es gone ([], 0) (p.node - 1) (omega arith) below ∙ ap (λ (i : ℕ). node_at es i) back)
-      (λ (low : p.node ≤ gone). ap (λ (q : Point). node_at rest q.node) (up_low gone p low) ∙ get_or-remove_below es gone ([], 0) p.node (omega arith) below)
+      ap (λ (q : Point). node_at rest q.node) (up_high gone p high) ∙ get_or-remove_above es gone ([], 0) (p.node - 1) (omega arith) below
+      ∙ ap (λ (i : ℕ). node_at es i) back)
+      (λ (low : p.node ≤ gone). ap (λ (q : Point). node_at rest q.node) (up_low gone p low)
+      ∙ get_or-remove_below es gone ([], 0) p.node (omega arith) below)
       (cases_lt gone p.node)
 
   other_node : (p : Point) → not (p.node == gone) ≡ true → p.node ≢ gone
   other_node p e is = let f : (p.node == gone) ≡ true = (Decides-eqb p.node gone).1 is in cc
 
   test_of : (p : Point) → p.node ≢ gone → not (p.node == gone) ≡ true
-  test_of p ne = elim (p.node == gone) as (λ b. (p.node == gone) ≡ b → not b ≡ true) [ true ↦ λ e. absurd (ne ((Decides-eqb p.node gone).0 e)) | false ↦ λ e. refl ] refl
+  test_of p ne = elim (p.node == gone) as
+      (λ b. (p.node == gone) ≡ b → not b ≡ true) [ true ↦ λ e. absurd (ne ((Decides-eqb p.node gone).0 e)) | false ↦ λ e. refl ] refl
 
   -- the index before of a node that is left
   record Before (i : ℕ) : Type 0 where
@@ -153,12 +169,20 @@ module _ (hash : List ℕ → ℕ) (es : Pairs) (gone : ℕ) (below : gone < len
 
   before : (i : ℕ) → Before i
   before i = ⊎_elim
-      (λ (low : i < gone). record { j = i; other = λ e. omega arith; same = get_or-remove_below es gone ([], 0) i low below; back = λ place. up_low gone (record { place = place; node = i }) (omega arith) })
+      (λ (low : i < gone). record {
+        j = i;
+        other = λ e. omega arith;
+        same = get_or-remove_below es gone
+            ([], 0) i low below;
+        back = λ place. up_low gone (record { place = place; node = i }) (omega arith);
+      })
       (λ (high : gone ≤ i). record {
         j = i + 1;
         other = λ e. omega arith;
         same = get_or-remove_above es gone ([], 0) i high below;
-        back = λ place. let e : i + 1 - 1 ≡ i = omega arith in up_high gone (record { place = place; node = i + 1 }) (omega arith) ∙ (λ k. record { place = place; node = e k });
+        back = λ place. let e : i + 1 - 1 ≡ i =
+            omega arith in up_high gone (record { place = place; node = i + 1 }) (omega arith)
+            ∙ (λ k. record { place = place; node = e k });
       })
       (cases_lt i gone)
 
@@ -176,15 +200,18 @@ module _ (hash : List ℕ → ℕ) (es : Pairs) (gone : ℕ) (below : gone < len
         let p : Point = record { place = place; node = b.j } in
         let was = just.all b.j place (subst (λ node. IsPointOf hash node place) b.same of) in
         subst (Contains (left_points points)) (b.back place)
-        (in_map (closed_up gone) (filter (λ p. not (p.node == gone)) points) p (in_filter (λ p. not (p.node == gone)) points p (test_of p b.other) was));
+        (in_map (closed_up gone) (filter (λ p. not (p.node == gone)) points) p
+        (in_filter (λ p. not (p.node == gone)) points p (test_of p b.other) was));
   }
 
   pub ring_without : (points : List Point) → IsRing hash es points → IsRing hash rest (left_points points)
   ring_without points ring = record {
     named = removed_sorted es ring.named gone below;
-    weighed = All-append (λ node. 1 ≤ node.1) (take gone es) (drop (suc gone) es) (All-take (λ node. 1 ≤ node.1) gone es ring.weighed) (All-drop (λ node. 1 ≤ node.1) (suc gone) es ring.weighed);
+    weighed = All-append (λ node. 1 ≤ node.1) (take gone es) (drop (suc gone) es) (All-take (λ node. 1 ≤ node.1) gone es ring.weighed)
+        (All-drop (λ node. 1 ≤ node.1) (suc gone) es ring.weighed);
     just = still_just points ring.just;
-    ordered = still_before gone (filter (λ p. not (p.node == gone)) points) (AllPairs-filter IsBefore (λ p. not (p.node == gone)) points ring.ordered);
+    ordered = still_before gone (filter (λ p. not (p.node == gone)) points)
+        (AllPairs-filter IsBefore (λ p. not (p.node == gone)) points ring.ordered);
   }
 
 -- ---- the points of a ring with a node more
@@ -194,8 +221,10 @@ module _ (hash : List ℕ → ℕ) (es : Pairs) (come : ℕ) (node : List ℕ ×
 
   shifted : (p : Point) → node_at more (opened_up come p).node ≡ node_at es p.node
   shifted p = ⊎_elim
-      (λ (low : p.node < come). ap (λ (q : Point). node_at more q.node) (open_low come p low) ∙ get_or-insert_below es come node ([], 0) p.node low within)
-      (λ (high : come ≤ p.node). ap (λ (q : Point). node_at more q.node) (open_high come p high) ∙ get_or-insert_above es come node ([], 0) p.node high within)
+      (λ (low : p.node < come). ap (λ (q : Point). node_at more q.node) (open_low come p low)
+      ∙ get_or-insert_below es come node ([], 0) p.node low within)
+      (λ (high : come ≤ p.node). ap (λ (q : Point). node_at more q.node) (open_high come p high)
+      ∙ get_or-insert_above es come node ([], 0) p.node high within)
       (cases_lt p.node come)
 
   pub ArePoints-insert : (points : List Point) → ArePoints hash es points
@@ -204,12 +233,15 @@ module _ (hash : List ℕ → ℕ) (es : Pairs) (come : ℕ) (node : List ℕ ×
       let new : node_at more come ≡ node = get_or-insert_at es come node ([], 0) within in
       let others = map (opened_up come) points in
       let its = points_of hash node come in
-      let old_at : (i place : ℕ) (p : Point) → opened_up come p ≡ record { place = place; node = i } → p.place ≡ place → IsPointOf hash (node_at more i) place
+      let old_at : (i place : ℕ) (p : Point) → opened_up come p ≡ record { place = place; node = i } → p.place ≡ place
+      → IsPointOf hash (node_at more i) place
       → Contains (others ++ its) (record { place = place; node = i }) =
       λ i place p e same of.
       let was : node_at es p.node ≡ node_at more i = sym (shifted p) ∙ ap (λ (q : Point). node_at more q.node) e in
       let there = just.all p.node place (subst (λ node. IsPointOf hash node place) (sym was) of) in
-      Contains-append_left others its _ (subst (Contains others) (ap (opened_up come) (λ j. record { place = sym same j; node = p.node }) ∙ e) (in_map (opened_up come) points _ there)) in
+      Contains-append_left others its _
+      (subst (Contains others) (ap (opened_up come) (λ j. record { place = sym same j; node = p.node }) ∙ e)
+      (in_map (opened_up come) points _ there)) in
       record {
         real = All-append (IsPointOfItsNode hash more) others its
             (All-map (IsPointOfItsNode hash more) (opened_up come) points
@@ -217,7 +249,8 @@ module _ (hash : List ℕ → ℕ) (es : Pairs) (come : ℕ) (node : List ℕ ×
             (λ k d l. let p = get_or its k d in let of = each hash node come k d l in
             subst (λ n. IsPointOf hash n p.place) (sym (ap (node_at more) of.0 ∙ new)) of.1);
         all = λ i place of. ⊎_elim
-            (λ (low : i < come). old_at i place (record { place = place; node = i }) (open_low come (record { place = place; node = i }) low) refl of)
+            (λ (low : i < come). old_at i place (record { place = place; node = i })
+            (open_low come (record { place = place; node = i }) low) refl of)
             (λ (high : come ≤ i). ⊎_elim
             (λ (above : come < i).
             let back : i - 1 + 1 ≡ i = omega arith in
@@ -233,7 +266,8 @@ module _ (hash : List ℕ → ℕ) (es : Pairs) (come : ℕ) (node : List ℕ ×
       }
 
 -- a ring with a node more
-pub ring_with : (hash : List ℕ → ℕ) (es : Pairs) (name : List ℕ) (w i : ℕ) (old points : List Point) → IsRing hash es old → IsGapAt es name i → 1 ≤ w
+pub ring_with : (hash : List ℕ → ℕ) (es : Pairs) (name : List ℕ) (w i : ℕ) (old points : List Point) → IsRing hash es old
+    → IsGapAt es name i → 1 ≤ w
     → ArePoints hash (insert es i (name, w)) points → AllPairs IsBefore points → IsRing hash (insert es i (name, w)) points
 ring_with hash es name w i old points ring gap some just ordered = record {
   named = inserted_sorted es ring.named name w i gap;

@@ -13,5 +13,6 @@ pub moves_to : (hash : List ℕ → ℕ) (nodes : Nodes) (come : List ℕ) (w : 
     → MovesOnlyTo hash nodes (fin.insert nodes come w) come
 moves_to hash nodes come w none = λ at a b before after ne.
     let back : IsOwner hash nodes at b
-    = subst (λ m. IsOwner hash m at b) (removal_undoes_insert nodes come w none) (stays hash (fin.insert nodes come w) at come b after ne) in
+    = subst (λ m. IsOwner hash m at b) (removal_undoes_insert nodes come w none)
+    (stays hash (fin.insert nodes come w) at come b after ne) in
     one_owner hash nodes at b a back before

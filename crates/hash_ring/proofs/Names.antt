@@ -50,7 +50,8 @@ below_at x (e ∷ es) zero h l = less_is _ (both_parts _ _ h).0
 below_at x (e ∷ es) (suc j) h l = below_at x es j (both_parts _ _ h).1 (omega arith)
 
 -- each name is less than those after it
-pub names_rise : (es : Pairs) → T (is_sorted by_bytes es) → (i j : ℕ) → i < j → j < length es → by_bytes (node_at es i).0 (node_at es j).0 ≡ Less
+pub names_rise : (es : Pairs) → T (is_sorted by_bytes es) → (i j : ℕ) → i < j → j < length es
+    → by_bytes (node_at es i).0 (node_at es j).0 ≡ Less
 names_rise [] h i j l m = absurd (omega arith)
 names_rise (e ∷ es) h i zero l m = absurd (omega arith)
 names_rise (e ∷ es) h zero (suc j) l m = below_at e.0 es j (both_parts _ _ h).0 (omega arith)
@@ -75,13 +76,15 @@ below_too x y (e ∷ es) less h =
     let parts = both_parts _ _ h in
     both_from _ _ (is_less _ (nat_list_cmp_total.trans x y e.0 less (less_is _ parts.0))) (below_too x y es less parts.1)
 
-below_next : (x : List ℕ) (es : Pairs) → T (is_sorted by_bytes es) → (0 < length es → by_bytes x (node_at es 0).0 ≡ Less) → T (below_all by_bytes x es)
+below_next : (x : List ℕ) (es : Pairs) → T (is_sorted by_bytes es) → (0 < length es → by_bytes x (node_at es 0).0 ≡ Less)
+    → T (below_all by_bytes x es)
 below_next x [] h less = tt
 below_next x (e ∷ es) h less =
     let first = less (omega arith) in
     both_from _ _ (is_less _ first) (below_too x e.0 es first (both_parts _ _ h).0)
 
-pub rises_from : (es : Pairs) → ((k : ℕ) → suc k < length es → by_bytes (node_at es k).0 (node_at es (suc k)).0 ≡ Less) → T (is_sorted by_bytes es)
+pub rises_from : (es : Pairs) → ((k : ℕ) → suc k < length es → by_bytes (node_at es k).0 (node_at es (suc k)).0 ≡ Less)
+    → T (is_sorted by_bytes es)
 rises_from [] next = tt
 rises_from (e ∷ es) next =
     let rest = rises_from es (λ k l. next (suc k) (omega arith)) in
@@ -115,11 +118,13 @@ rising_differ es h i j d low m same =
 abbrev by_name : Node → Node → Ordering
 by_name a b = ordering_then (by_bytes a.name.items b.name.items) (nat_cmp a.weight b.weight)
 
-less_of_two : (a b : Node) (r : Ordering) → by_bytes a.name.items b.name.items ≡ r → is_lt (by_name b a) ≡ false → a.name.items ≢ b.name.items → r ≡ Less
+less_of_two : (a b : Node) (r : Ordering) → by_bytes a.name.items b.name.items ≡ r → is_lt (by_name b a) ≡ false
+    → a.name.items ≢ b.name.items → r ≡ Less
 less_of_two a b Less e h ne = refl
 less_of_two a b Equal e h ne = absurd (ne (same_key a.name.items b.name.items (ap is_eq e)))
 less_of_two a b Greater e h ne =
-    let back : is_lt (by_name b a) ≡ true = ap (λ r. is_lt (ordering_then r (nat_cmp b.weight a.weight))) (back_greater a.name.items b.name.items e) in
+    let back : is_lt (by_name b a) ≡ true =
+    ap (λ r. is_lt (ordering_then r (nat_cmp b.weight a.weight))) (back_greater a.name.items b.name.items e) in
     cc
 
 pub sorted_rise : (nodes : List Node) → IsSorted by_name nodes → KeysDiffer (pairs nodes) → T (is_sorted by_bytes (pairs nodes))
@@ -133,16 +138,19 @@ sorted_rise (n ∷ ns) sorted differ = rises_from (pairs (n ∷ ns))
     let b = get_or nodes (suc k) n in
     let name_a = read nodes n k (omega arith) in
     let name_b = read nodes n (suc k) (omega arith) in
-    let in_order : is_lt (by_name b a) ≡ false = subst (λ (j : ℕ). is_lt (by_name (get_or nodes j n) a) ≡ false) next (sorted k n (omega arith) (omega arith)) in
+    let in_order : is_lt (by_name b a) ≡ false =
+    subst (λ (j : ℕ). is_lt (by_name (get_or nodes j n) a) ≡ false) next (sorted k n (omega arith) (omega arith)) in
     let ne : a.name.items ≢ b.name.items = λ same. differ k (suc k) ([], 0) (omega arith) l (name_a ∙ same ∙ sym name_b) in
     (λ j. by_bytes (name_a j) (name_b j)) ∙ less_of_two a b (by_bytes a.name.items b.name.items) refl in_order ne)
 
 -- a node at an index is found
-pub found_at : (es : Pairs) → T (is_sorted by_bytes es) → (i : ℕ) → i < length es → find by_bytes (node_at es i).0 es ≡ Some (node_at es i).1
+pub found_at : (es : Pairs) → T (is_sorted by_bytes es) → (i : ℕ) → i < length es
+    → find by_bytes (node_at es i).0 es ≡ Some (node_at es i).1
 found_at [] h i l = absurd (omega arith)
 found_at (e ∷ es) h zero l = ap (λ r. cond (is_eq r) (Some e.1) (find by_bytes e.0 es)) (itself e.0)
 found_at (e ∷ es) h (suc i) l =
-    let later : by_bytes (node_at es i).0 e.0 ≡ Greater = back_less e.0 (node_at es i).0 (below_at e.0 es i (both_parts _ _ h).0 (omega arith)) in
+    let later : by_bytes (node_at es i).0 e.0 ≡ Greater =
+    back_less e.0 (node_at es i).0 (below_at e.0 es i (both_parts _ _ h).0 (omega arith)) in
     ap (λ r. cond (is_eq r) (Some e.1) (find by_bytes (node_at es i).0 es)) later ∙ found_at es (both_parts _ _ h).1 i (omega arith)
 
 -- where a node that is found stands
@@ -154,30 +162,38 @@ pub record IsFoundAt (es : Pairs) (q : List ℕ) (w : ℕ) : Type 0 where
 pub found_where : (es : Pairs) (q : List ℕ) (w : ℕ) → find by_bytes q es ≡ Some w → IsFoundAt es q w
 found_where [] q w e = cc
 found_where (x ∷ es) q w e =
-    elim (is_eq (by_bytes q x.0)) as (λ b. is_eq (by_bytes q x.0) ≡ b → cond b (Some x.1) (find by_bytes q es) ≡ Some w → IsFoundAt (x ∷ es) q w) [
-      | true ↦ λ t s. let value : x.1 ≡ w = cc in let name : q ≡ x.0 = same_key q x.0 t in record { i = 0; below = omega arith; is = λ j. (sym name j, value j) }
+    elim (is_eq (by_bytes q x.0)) as
+    (λ b. is_eq (by_bytes q x.0) ≡ b → cond b (Some x.1) (find by_bytes q es) ≡ Some w → IsFoundAt (x ∷ es) q w) [
+      | true ↦ λ t s. let value : x.1 ≡ w = cc in let name : q ≡ x.0 =
+          same_key q x.0 t in record { i = 0; below = omega arith; is = λ j. (sym name j, value j) }
       | false ↦ λ t s. let r = found_where es q w s in record { i = suc r.i; below = omega (arith, r.below); is = r.is }
     ] refl e
 
 -- the name at an index is no greater than at a later one
-pub no_greater : (es : Pairs) → T (is_sorted by_bytes es) → (i j : ℕ) → i ≤ j → j < length es → is_gt (by_bytes (node_at es i).0 (node_at es j).0) ≡ false
+pub no_greater : (es : Pairs) → T (is_sorted by_bytes es) → (i j : ℕ) → i ≤ j → j < length es
+    → is_gt (by_bytes (node_at es i).0 (node_at es j).0) ≡ false
 no_greater es h i j upto m = ⊎_elim
     (λ (low : i < j). ap is_gt (names_rise es h i j low m))
-    (λ (same : j ≤ i). let e : i ≡ j = omega arith in ap is_gt (ap (λ k. by_bytes (node_at es i).0 (node_at es k).0) (sym e) ∙ itself (node_at es i).0))
+    (λ (same : j ≤ i). let e : i ≡ j = omega arith in ap is_gt
+    (ap (λ k. by_bytes (node_at es i).0 (node_at es k).0) (sym e) ∙ itself (node_at es i).0))
     (cases_lt i j)
 
 -- ---- a search by name
-sorted_nodes : (nodes : List Node) → T (is_sorted by_bytes (pairs nodes)) → IsSortedBy (λ a b. is_lt (by_bytes a.name.items b.name.items)) nodes
+sorted_nodes : (nodes : List Node) → T (is_sorted by_bytes (pairs nodes))
+    → IsSortedBy (λ a b. is_lt (by_bytes a.name.items b.name.items)) nodes
 sorted_nodes nodes h k d low next =
     let long = length-map nodes pair_of in
     let a = (node_at (pairs nodes) k).0 in
     let b = (node_at (pairs nodes) (k + 1)).0 in
-    let here : (i : ℕ) → i < length nodes → (get_or nodes i d).name.items ≡ (node_at (pairs nodes) i).0 = λ i l. sym (ap (λ node. node.0) (get_or-map pair_of nodes i d ([], 0) l)) in
+    let here : (i : ℕ) → i < length nodes → (get_or nodes i d).name.items ≡ (node_at (pairs nodes) i).0 =
+    λ i l. sym (ap (λ node. node.0) (get_or-map pair_of nodes i d ([], 0) l)) in
     let rise : by_bytes a b ≡ Less = names_rise (pairs nodes) h k (k + 1) (omega arith) (omega arith) in
     ap is_lt ((λ j. by_bytes (here (k + 1) next j) (here k (omega arith) j)) ∙ back_less a b rise)
 
-pub named_or_gap : (nodes : List Node) (name : List ℕ) (r : Result ℕ ℕ) → T (is_sorted by_bytes (pairs nodes)) → IsSearchInRange r (length nodes)
-    → IsBinarySearchResult (λ node. by_bytes node.name.items name) nodes r → MatchResult r (IsNamedAt (pairs nodes) name) (IsGapAt (pairs nodes) name)
+pub named_or_gap : (nodes : List Node) (name : List ℕ) (r : Result ℕ ℕ) → T (is_sorted by_bytes (pairs nodes))
+    → IsSearchInRange r (length nodes)
+    → IsBinarySearchResult (λ node. by_bytes node.name.items name) nodes r
+    → MatchResult r (IsNamedAt (pairs nodes) name) (IsGapAt (pairs nodes) name)
 named_or_gap [] name (Ok i) h below is = absurd (omega arith)
 named_or_gap [] name (Err i) h within is = record {
   within = omega arith;
@@ -224,7 +240,8 @@ put_at (e ∷ es) name w zero gap =
     ap (λ r. by_order r ((name, w) ∷ e ∷ es) ((e.0, w) ∷ es) (e ∷ put by_bytes name w es)) less
 put_at (e ∷ es) name w (suc i) gap =
     let more : by_bytes name e.0 ≡ Greater = back_less e.0 name (gap.less 0 (omega arith)) in
-    ap (λ r. by_order r ((name, w) ∷ e ∷ es) ((e.0, w) ∷ es) (e ∷ put by_bytes name w es)) more ∙ ap (λ rest. e ∷ rest) (put_at es name w i (tail_gap e es name i gap))
+    ap (λ r. by_order r ((name, w) ∷ e ∷ es) ((e.0, w) ∷ es) (e ∷ put by_bytes name w es)) more
+    ∙ ap (λ rest. e ∷ rest) (put_at es name w i (tail_gap e es name i gap))
 
 not_found : (es : Pairs) (name : List ℕ) (i : ℕ) → IsGapAt es name i → find by_bytes name es ≡ None
 not_found [] name i gap = refl
@@ -243,16 +260,20 @@ all_kept : (name : List ℕ) (es : Pairs) → T (below_all by_bytes name es) →
 all_kept name [] h = refl
 all_kept name (e ∷ es) h =
     let less : by_bytes name e.0 ≡ Less = less_is _ (both_parts _ _ h).0 in
-    ap (λ r. cond (not (is_eq r)) (e ∷ where_key by_bytes (other name) es) (where_key by_bytes (other name) es)) less ∙ ap (λ rest. e ∷ rest) (all_kept name es (both_parts _ _ h).1)
+    ap (λ r. cond (not (is_eq r)) (e ∷ where_key by_bytes (other name) es) (where_key by_bytes (other name) es)) less
+    ∙ ap (λ rest. e ∷ rest) (all_kept name es (both_parts _ _ h).1)
 
-removed_at : (es : Pairs) → T (is_sorted by_bytes es) → (i : ℕ) → i < length es → where_key by_bytes (other (node_at es i).0) es ≡ remove es i
+removed_at : (es : Pairs) → T (is_sorted by_bytes es) → (i : ℕ) → i < length es
+    → where_key by_bytes (other (node_at es i).0) es ≡ remove es i
 removed_at [] h i l = absurd (omega arith)
 removed_at (e ∷ es) h zero l =
-    ap (λ r. cond (not (is_eq r)) (e ∷ where_key by_bytes (other e.0) es) (where_key by_bytes (other e.0) es)) (itself e.0) ∙ all_kept e.0 es (both_parts _ _ h).0
+    ap (λ r. cond (not (is_eq r)) (e ∷ where_key by_bytes (other e.0) es) (where_key by_bytes (other e.0) es)) (itself e.0)
+    ∙ all_kept e.0 es (both_parts _ _ h).0
 removed_at (e ∷ es) h (suc i) l =
     let name = (node_at es i).0 in
     let later : by_bytes name e.0 ≡ Greater = back_less e.0 name (below_at e.0 es i (both_parts _ _ h).0 (omega arith)) in
-    ap (λ r. cond (not (is_eq r)) (e ∷ where_key by_bytes (other name) es) (where_key by_bytes (other name) es)) later ∙ ap (λ rest. e ∷ rest) (removed_at es (both_parts _ _ h).1 i (omega arith))
+    ap (λ r. cond (not (is_eq r)) (e ∷ where_key by_bytes (other name) es) (where_key by_bytes (other name) es)) later
+    ∙ ap (λ rest. e ∷ rest) (removed_at es (both_parts _ _ h).1 i (omega arith))
 
 swapped : {A : Type 0} (b : Bool) (x y : A) → cond (not b) x y ≡ cond b y x
 swapped true x y = refl
@@ -267,7 +288,8 @@ module _ (es : Pairs) (h : T (is_sorted by_bytes es)) where
   get_is q = fin.get-from_sorted by_bytes es q h
 
   pub inserted_sorted : (name : List ℕ) (w i : ℕ) → IsGapAt es name i → T (is_sorted by_bytes (insert es i (name, w)))
-  inserted_sorted name w i gap = subst (λ es. T (is_sorted by_bytes es)) (put_at es name w i gap) (is_sorted-put by_bytes nat_list_cmp_total name w es h)
+  inserted_sorted name w i gap =
+      subst (λ es. T (is_sorted by_bytes es)) (put_at es name w i gap) (is_sorted-put by_bytes nat_list_cmp_total name w es h)
 
   pub inserted : (name : List ℕ) (w i : ℕ) → IsGapAt es name i → nodes_of (insert es i (name, w)) ≡ fin.insert (nodes_of es) name w
   inserted name w i gap =
@@ -279,7 +301,8 @@ module _ (es : Pairs) (h : T (is_sorted by_bytes es)) where
   new_name name i gap = get_is name ∙ not_found es name i gap
 
   pub removed_sorted : (i : ℕ) → i < length es → T (is_sorted by_bytes (remove es i))
-  removed_sorted i l = subst (λ es. T (is_sorted by_bytes es)) (removed_at es h i l) (is_sorted-where_key by_bytes (other (node_at es i).0) es h)
+  removed_sorted i l =
+      subst (λ es. T (is_sorted by_bytes es)) (removed_at es h i l) (is_sorted-where_key by_bytes (other (node_at es i).0) es h)
 
   pub removed : (i : ℕ) → i < length es → nodes_of (remove es i) ≡ fin.remove (nodes_of es) (node_at es i).0
   removed i l =
@@ -289,7 +312,8 @@ module _ (es : Pairs) (h : T (is_sorted by_bytes es)) where
       ∙ ap (find by_bytes q) (sym (removed_at es h i l))
       ∙ find-where_key by_bytes (other name) q (λ x e. ap (other name) (sym (slice_cmp-IsAntisymmetric nat_cmp-IsAntisymmetric q x e))) es
       ∙ swapped (eq_by_cmp by_bytes name q) (find by_bytes q es) None
-      ∙ sym (fin.get-remove nat_list_cmp_total (nodes_of es) name q ∙ (λ j. cond ((eq_by_cmp_equiv nat_list_cmp_total).symm q name j) None (get_is q j))))
+      ∙ sym (fin.get-remove nat_list_cmp_total (nodes_of es) name q
+      ∙ (λ j. cond ((eq_by_cmp_equiv nat_list_cmp_total).symm q name j) None (get_is q j))))
 
 pub no_nodes : nodes_of [] ≡ fin.empty
 no_nodes =
@@ -308,12 +332,16 @@ none_above q x (e ∷ es) is h =
     let less : by_bytes q e.0 ≡ Less = ap (λ k. by_bytes k e.0) is ∙ less_is _ parts.0 in
     ap (λ r. cond (is_eq r) (Some e.1) (find by_bytes q es)) less ∙ none_above q x es is parts.1
 
-get_with_all : (m : Nodes) (es : Pairs) (q : List ℕ) → T (is_sorted by_bytes es) → fin.get (with_all m es) q ≡ found_or (find by_bytes q es) (fin.get m q)
+get_with_all : (m : Nodes) (es : Pairs) (q : List ℕ) → T (is_sorted by_bytes es)
+    → fin.get (with_all m es) q ≡ found_or (find by_bytes q es) (fin.get m q)
 get_with_all m [] q h = refl
 get_with_all m (e ∷ es) q h =
     let parts = both_parts _ _ h in
     get_with_all (fin.insert m e.0 e.1) es q parts.1 ∙ ap (found_or (find by_bytes q es)) (get_insert m e.0 q e.1)
-    ∙ elim (is_eq (by_bytes q e.0)) as (λ b. is_eq (by_bytes q e.0) ≡ b → found_or (find by_bytes q es) (cond b (Some e.1) (fin.get m q)) ≡ found_or (cond b (Some e.1) (find by_bytes q es)) (fin.get m q)) [
+    ∙ elim (is_eq (by_bytes q e.0)) as
+    (λ b. is_eq (by_bytes q e.0) ≡ b
+    → found_or (find by_bytes q es) (cond b (Some e.1) (fin.get m q)) ≡ found_or (cond b (Some e.1) (find by_bytes q es))
+    (fin.get m q)) [
       | true ↦ λ t. ap (λ o. found_or o (Some e.1)) (none_above q e.0 es (same_key q e.0 t) parts.0)
       | false ↦ λ t. refl
     ] refl
@@ -324,10 +352,12 @@ found_or_none (Some w) = refl
 
 pub all_put_in : (es : Pairs) → T (is_sorted by_bytes es) → with_all fin.empty es ≡ nodes_of es
 all_put_in es h = alike _ _
-    (λ q. get_with_all fin.empty es q h ∙ ap (found_or (find by_bytes q es)) (fin.get-empty by_bytes q) ∙ found_or_none (find by_bytes q es) ∙ sym (get_is es h q))
+    (λ q. get_with_all fin.empty es q h ∙ ap (found_or (find by_bytes q es)) (fin.get-empty by_bytes q)
+    ∙ found_or_none (find by_bytes q es) ∙ sym (get_is es h q))
 
 -- ---- what a search by name says of the map
-module _ (nodes now : List Node) (name text : List ℕ) (m : Nodes) (h : T (is_sorted by_bytes (pairs nodes))) (view : nodes_of (pairs nodes) ≡ m) (read_nodes : now ≡ nodes) (read_name : text ≡ name) where
+module _ (nodes now : List Node) (name text : List ℕ) (m : Nodes) (h : T (is_sorted by_bytes (pairs nodes)))
+    (view : nodes_of (pairs nodes) ≡ m) (read_nodes : now ≡ nodes) (read_name : text ≡ name) where
   pub gap_read : (i : ℕ) → IsGapAt (pairs now) text i → IsGapAt (pairs nodes) name i
   gap_read i gap = subst (λ t. IsGapAt (pairs nodes) t i) read_name (subst (λ ns. IsGapAt (pairs ns) text i) read_nodes gap)
 
@@ -340,7 +370,10 @@ module _ (nodes now : List Node) (name text : List ℕ) (m : Nodes) (h : T (is_s
   pub found_read : (i : ℕ) → IsNamedAt (pairs now) text i → fin.get m name ≡ Some (node_at (pairs nodes) i).1
   found_read i place =
       let p = place_read i place in
-      ap (λ n. fin.get n name) (sym view) ∙ get_is (pairs nodes) h name ∙ ap (λ q. find by_bytes q (pairs nodes)) (sym p.is) ∙ found_at (pairs nodes) h i p.below
+      ap (λ n. fin.get n name) (sym view) ∙ get_is (pairs nodes) h name ∙ ap (λ q. find by_bytes q (pairs nodes)) (sym p.is)
+      ∙ found_at (pairs nodes) h i p.below
 
   pub none_unchanged : (i : ℕ) → IsGapAt (pairs now) text i → m ≡ fin.remove m name
-  none_unchanged i gap = sym (ap (λ n. fin.remove n name) (sym view) ∙ removal_of_nothing (nodes_of (pairs nodes)) name (new_name (pairs nodes) h name i (gap_read i gap)) ∙ view)
+  none_unchanged i gap =
+      sym (ap (λ n. fin.remove n name) (sym view)
+      ∙ removal_of_nothing (nodes_of (pairs nodes)) name (new_name (pairs nodes) h name i (gap_read i gap)) ∙ view)

@@ -29,7 +29,8 @@ not_both Equal s e h k = refl
 not_both Greater s e h k = cc
 
 neither_greater : (a b : List ℕ) → is_gt (by_bytes a b) ≡ false → is_gt (by_bytes b a) ≡ false → a ≡ b
-neither_greater a b h k = slice_cmp-IsAntisymmetric nat_cmp-IsAntisymmetric a b (not_both (by_bytes a b) (by_bytes b a) (nat_list_cmp_total.antisymm b a) h k)
+neither_greater a b h k =
+    slice_cmp-IsAntisymmetric nat_cmp-IsAntisymmetric a b (not_both (by_bytes a b) (by_bytes b a) (nat_list_cmp_total.antisymm b a) h k)
 
 pub one_owner : (hash : List ℕ → ℕ) (nodes : Nodes) (at : ℕ) (a b : List ℕ) → IsOwner hash nodes at a → IsOwner hash nodes at b → a ≡ b
 one_owner hash nodes at a b p q =
@@ -47,7 +48,8 @@ no_owner hash at a o =
     cc
 
 -- ---- a node that has gone
-kept : (hash : List ℕ → ℕ) (nodes : Nodes) (gone name : List ℕ) (place : ℕ) → name ≢ gone → HasPoint hash nodes name place → HasPoint hash (fin.remove nodes gone) name place
+kept : (hash : List ℕ → ℕ) (nodes : Nodes) (gone name : List ℕ) (place : ℕ) → name ≢ gone → HasPoint hash nodes name place
+    → HasPoint hash (fin.remove nodes gone) name place
 kept hash nodes gone name place ne p = record {
   weight = p.weight;
   there = get_remove nodes gone name
@@ -63,12 +65,15 @@ record WasThere (hash : List ℕ → ℕ) (nodes : Nodes) (gone name : List ℕ)
   other : name ≢ gone
   has : HasPoint hash nodes name place
 
-was_there : (hash : List ℕ → ℕ) (nodes : Nodes) (gone name : List ℕ) (place : ℕ) → HasPoint hash (fin.remove nodes gone) name place → WasThere hash nodes gone name place
+was_there : (hash : List ℕ → ℕ) (nodes : Nodes) (gone name : List ℕ) (place : ℕ) → HasPoint hash (fin.remove nodes gone) name place
+    → WasThere hash nodes gone name place
 was_there hash nodes gone name place p =
-    elim (is_eq (by_bytes name gone)) as (λ b. is_eq (by_bytes name gone) ≡ b → cond b None (fin.get nodes name) ≡ Some p.weight → WasThere hash nodes gone name place) [
+    elim (is_eq (by_bytes name gone)) as
+    (λ b. is_eq (by_bytes name gone) ≡ b → cond b None (fin.get nodes name) ≡ Some p.weight → WasThere hash nodes gone name place) [
       | true ↦ λ e s. cc
       | false ↦ λ e s. record {
-        other = λ is. let no : is_eq (by_bytes gone gone) ≡ false = subst (λ n. is_eq (by_bytes n gone) ≡ false) is e in let yes : is_eq (by_bytes gone gone) ≡ true = ap is_eq (itself gone) in cc;
+        other = λ is. let no : is_eq (by_bytes gone gone) ≡ false =
+            subst (λ n. is_eq (by_bytes n gone) ≡ false) is e in let yes : is_eq (by_bytes gone gone) ≡ true = ap is_eq (itself gone) in cc;
         has = record { weight = p.weight; there = s; point = p.point };
       }
     ] refl (sym (get_remove nodes gone name) ∙ p.there)
@@ -77,7 +82,8 @@ pub not_gone : (hash : List ℕ → ℕ) (nodes : Nodes) (at : ℕ) (gone a : Li
 not_gone hash nodes at gone a o = (was_there hash nodes gone a o.place o.has).other
 
 -- an owner that is left owns the key still
-pub stays : (hash : List ℕ → ℕ) (nodes : Nodes) (at : ℕ) (gone a : List ℕ) → IsOwner hash nodes at a → a ≢ gone → IsOwner hash (fin.remove nodes gone) at a
+pub stays : (hash : List ℕ → ℕ) (nodes : Nodes) (at : ℕ) (gone a : List ℕ) → IsOwner hash nodes at a → a ≢ gone
+    → IsOwner hash (fin.remove nodes gone) at a
 stays hash nodes at gone a o ne = record {
   place = o.place;
   has = kept hash nodes gone a o.place ne o.has;
@@ -94,7 +100,9 @@ remove_comm : (nodes : Nodes) (a b : List ℕ) → fin.remove (fin.remove nodes 
 remove_comm nodes a b =
     fin.same_map nat_list_cmp_total (slice_cmp-IsAntisymmetric nat_cmp-IsAntisymmetric) _ _
     (λ q. get_remove (fin.remove nodes a) b q ∙ ap (cond (is_eq (by_bytes q b)) None) (get_remove nodes a q)
-    ∙ elim (is_eq (by_bytes q a)) as (λ x. cond (is_eq (by_bytes q b)) None (cond x None (fin.get nodes q)) ≡ cond x None (cond (is_eq (by_bytes q b)) None (fin.get nodes q))) [
+    ∙ elim (is_eq (by_bytes q a)) as
+    (λ x. cond (is_eq (by_bytes q b)) None (cond x None (fin.get nodes q)) ≡ cond x None
+    (cond (is_eq (by_bytes q b)) None (fin.get nodes q))) [
       | true ↦ elim (is_eq (by_bytes q b)) as (λ y. cond {A = Option ℕ} y None None ≡ None) [ true ↦ refl | false ↦ refl ]
       | false ↦ refl
     ]
@@ -109,9 +117,11 @@ not_there : (hash : List ℕ → ℕ) (nodes : Nodes) (at : ℕ) (gone : List �
     → AreOwners hash nodes at names → AreOther gone names
 not_there hash nodes at gone [] none o = tt
 not_there hash nodes at gone (a ∷ names) none o = (
-  λ is. let has = o.0.has in let there : fin.get nodes a ≡ Some has.weight = has.there in let no : fin.get nodes a ≡ None = ap (fin.get nodes) is ∙ none in cc,
+  λ is. let has = o.0.has in let there : fin.get nodes a ≡ Some has.weight = has.there in let no : fin.get nodes a ≡ None =
+      ap (fin.get nodes) is ∙ none in cc,
   not_there hash (fin.remove nodes a) at gone names
-      (get_remove nodes a gone ∙ elim (is_eq (by_bytes gone a)) as (λ b. cond b None (fin.get nodes gone) ≡ None) [ true ↦ refl | false ↦ none ])
+      (get_remove nodes a gone
+      ∙ elim (is_eq (by_bytes gone a)) as (λ b. cond b None (fin.get nodes gone) ≡ None) [ true ↦ refl | false ↦ none ])
       o.1,
 )
 
@@ -121,7 +131,8 @@ gone_is_none nodes gone = get_remove nodes gone gone ∙ ap (λ r. cond (is_eq r
 other_kept : (gone : List ℕ) (names : List (List ℕ)) → AreOther gone names → without gone names ≡ names
 other_kept gone [] o = refl
 other_kept gone (a ∷ names) o =
-    elim (is_eq (by_bytes a gone)) as (λ b. is_eq (by_bytes a gone) ≡ b → cond (not b) (a ∷ without gone names) (without gone names) ≡ a ∷ names) [
+    elim (is_eq (by_bytes a gone)) as
+    (λ b. is_eq (by_bytes a gone) ≡ b → cond (not b) (a ∷ without gone names) (without gone names) ≡ a ∷ names) [
       | true ↦ λ e. absurd (o.0 (same_key a gone e))
       | false ↦ λ e. ap (λ rest. a ∷ rest) (other_kept gone names o.1)
     ] refl
@@ -131,14 +142,19 @@ pub keep_order : (hash : List ℕ → ℕ) (nodes : Nodes) (at : ℕ) (gone : Li
     → AreOwners hash (fin.remove nodes gone) at (without gone names)
 keep_order hash nodes at gone [] o = tt
 keep_order hash nodes at gone (a ∷ names) o =
-    elim (is_eq (by_bytes a gone)) as (λ b. is_eq (by_bytes a gone) ≡ b → AreOwners hash (fin.remove nodes gone) at (cond (not b) (a ∷ without gone names) (without gone names))) [
+    elim (is_eq (by_bytes a gone)) as
+    (λ b. is_eq (by_bytes a gone) ≡ b
+    → AreOwners hash (fin.remove nodes gone) at (cond (not b) (a ∷ without gone names) (without gone names))) [
       | true ↦ λ e.
           let is : a ≡ gone = same_key a gone e in
           let rest : AreOwners hash (fin.remove nodes gone) at names = subst (λ n. AreOwners hash (fin.remove nodes n) at names) is o.1 in
-          subst (AreOwners hash (fin.remove nodes gone) at) (sym (other_kept gone names (not_there hash (fin.remove nodes gone) at gone names (gone_is_none nodes gone) rest))) rest
+          subst (AreOwners hash (fin.remove nodes gone) at)
+          (sym (other_kept gone names (not_there hash (fin.remove nodes gone) at gone names (gone_is_none nodes gone) rest))) rest
       | false ↦ λ e. (
-        stays hash nodes at gone a o.0 (λ is. let yes : is_eq (by_bytes a gone) ≡ true = ap (λ k. is_eq (by_bytes a k)) (sym is) ∙ ap is_eq (itself a) in cc),
-        subst (λ m. AreOwners hash m at (without gone names)) (remove_comm nodes a gone) (keep_order hash (fin.remove nodes a) at gone names o.1),
+        stays hash nodes at gone a o.0
+            (λ is. let yes : is_eq (by_bytes a gone) ≡ true = ap (λ k. is_eq (by_bytes a k)) (sym is) ∙ ap is_eq (itself a) in cc),
+        subst (λ m. AreOwners hash m at (without gone names)) (remove_comm nodes a gone)
+            (keep_order hash (fin.remove nodes a) at gone names o.1),
       )
     ] refl
 
@@ -157,10 +173,12 @@ all_other gone [] o = All-nil (λ x. gone ≢ x)
 all_other gone (a ∷ names) o = All-cons (λ x. gone ≢ x) a names (λ e. o.0 (sym e)) (all_other gone names o.1)
 
 -- owners one after another are different
-pub different : (hash : List ℕ → ℕ) (nodes : Nodes) (at : ℕ) (names : List (List ℕ)) → AreOwners hash nodes at names → AllPairs (λ a b. a ≢ b) names
+pub different : (hash : List ℕ → ℕ) (nodes : Nodes) (at : ℕ) (names : List (List ℕ)) → AreOwners hash nodes at names
+    → AllPairs (λ a b. a ≢ b) names
 different hash nodes at [] o = λ i j d l m. absurd (omega arith)
 different hash nodes at (a ∷ names) o =
-    AllPairs-cons (λ a b. a ≢ b) a names (all_other a names (not_there hash (fin.remove nodes a) at a names (gone_is_none nodes a) o.1)) (different hash (fin.remove nodes a) at names o.1)
+    AllPairs-cons (λ a b. a ≢ b) a names (all_other a names (not_there hash (fin.remove nodes a) at a names (gone_is_none nodes a) o.1))
+    (different hash (fin.remove nodes a) at names o.1)
 
 -- with those that are left they are all nodes
 pub count : (hash : List ℕ → ℕ) (nodes : Nodes) (at : ℕ) (names : List (List ℕ)) → AreOwners hash nodes at names
@@ -169,7 +187,8 @@ count hash nodes at [] o = omega arith
 count hash nodes at (a ∷ names) o =
     let has = o.0.has in
     let there : is_some (fin.get nodes a) ≡ true = ap is_some has.there in
-    let less : fin.len (fin.remove nodes a) ≡ fin.len nodes - 1 = fin.len-remove nat_list_cmp_total nodes a ∙ ap (λ b. cond b (fin.len nodes - 1) (fin.len nodes)) there in
+    let less : fin.len (fin.remove nodes a) ≡ fin.len nodes - 1 =
+    fin.len-remove nat_list_cmp_total nodes a ∙ ap (λ b. cond b (fin.len nodes - 1) (fin.len nodes)) there in
     let some : 0 < fin.len nodes =
     ⊎_elim
     (λ (low : 0 < fin.len nodes). low)
@@ -208,10 +227,12 @@ index_below n first s within below = ⊎_elim
     (λ (high : n - first ≤ s). let e = index_high n first s high in omega arith)
     (cases_lt s (n - first))
 
-pub upto : (points : List Point) → AllPairs IsBefore points → (i j : ℕ) (d : Point) → i ≤ j → j < length points → IsBefore (get_or points i d) (get_or points j d)
+pub upto : (points : List Point) → AllPairs IsBefore points → (i j : ℕ) (d : Point) → i ≤ j → j < length points
+    → IsBefore (get_or points i d) (get_or points j d)
 upto points before i j d le within = ⊎_elim
     (λ (less : i < j). before i j d less within)
-    (λ (same : j ≤ i). let e : i ≡ j = omega arith in subst (λ (k : ℕ). IsBefore (get_or points i d) (get_or points k d)) e (record { place = omega arith; node = λ f. omega arith }))
+    (λ (same : j ≤ i). let e : i ≡ j = omega arith in subst (λ (k : ℕ). IsBefore (get_or points i d) (get_or points k d)) e
+    (record { place = omega arith; node = λ f. omega arith }))
     (cases_lt i j)
 
 module _ (points : List Point) (ordered : AllPairs IsBefore points) (at first : ℕ) (start : IsStart points at first) (d : Point) where
@@ -219,8 +240,11 @@ module _ (points : List Point) (ordered : AllPairs IsBefore points) (at first : 
   abbrev pub nth : ℕ → Point
   nth s = get_or points (index_round (length points) first s) d
 
-  at_indices : (s t i j : ℕ) → index_round (length points) first s ≡ i → index_round (length points) first t ≡ j → InTurn at (get_or points i d) (get_or points j d) → InTurn at (nth s) (nth t)
-  at_indices s t i j e f h = subst (λ (k : ℕ). InTurn at (get_or points k d) (nth t)) (sym e) (subst (λ (k : ℕ). InTurn at (get_or points i d) (get_or points k d)) (sym f) h)
+  at_indices : (s t i j : ℕ) → index_round (length points) first s ≡ i → index_round (length points) first t ≡ j
+      → InTurn at (get_or points i d) (get_or points j d) → InTurn at (nth s) (nth t)
+  at_indices s t i j e f h =
+      subst (λ (k : ℕ). InTurn at (get_or points k d) (nth t)) (sym e)
+      (subst (λ (k : ℕ). InTurn at (get_or points i d) (get_or points k d)) (sym f) h)
 
   in_turn : (s t : ℕ) → s ≤ t → t < length points → InTurn at (nth s) (nth t)
   in_turn s t le below =
@@ -233,7 +257,8 @@ module _ (points : List Point) (ordered : AllPairs IsBefore points) (at first : 
       let low_j = start.after j d (omega arith) (omega arith) in
       let b = upto points ordered i j d (omega arith) (omega arith) in
       let u = turn_low at _ low_i in let v = turn_low at _ low_j in
-      at_indices s t i j (index_low n first s (omega arith)) (index_low n first t t_low) (record { sooner = omega arith; nearer = λ e. b.place; lesser = b.node }))
+      at_indices s t i j (index_low n first s (omega arith)) (index_low n first t t_low)
+      (record { sooner = omega arith; nearer = λ e. b.place; lesser = b.node }))
       (λ (t_high : n - first ≤ t).
       let j = t - (n - first) in
       let high_j = start.before j d (omega arith) in
@@ -243,13 +268,15 @@ module _ (points : List Point) (ordered : AllPairs IsBefore points) (at first : 
       let i = first + s in
       let low_i = start.after i d (omega arith) (omega arith) in
       let u = turn_low at _ low_i in
-      at_indices s t i j (index_low n first s s_low) (index_high n first t t_high) (record { sooner = omega arith; nearer = λ e. absurd (omega arith); lesser = λ e. absurd (omega arith) }))
+      at_indices s t i j (index_low n first s s_low) (index_high n first t t_high)
+      (record { sooner = omega arith; nearer = λ e. absurd (omega arith); lesser = λ e. absurd (omega arith) }))
       (λ (s_high : n - first ≤ s).
       let i = s - (n - first) in
       let high_i = start.before i d (omega arith) in
       let b = upto points ordered i j d (omega arith) (omega arith) in
       let u = turn_high at _ high_i in
-      at_indices s t i j (index_high n first s s_high) (index_high n first t t_high) (record { sooner = omega arith; nearer = λ e. b.place; lesser = b.node }))
+      at_indices s t i j (index_high n first s s_high) (index_high n first t t_high)
+      (record { sooner = omega arith; nearer = λ e. b.place; lesser = b.node }))
       (cases_lt s (n - first)))
       (cases_lt t (n - first))
 
@@ -259,28 +286,38 @@ record IsLeft (hash : List ℕ → ℕ) (nodes : Nodes) (names : List (List ℕ)
   new : AreOther name names
   has : HasPoint hash nodes name place
 
-is_left : (hash : List ℕ → ℕ) (nodes : Nodes) (names : List (List ℕ)) (name : List ℕ) (place : ℕ) → HasPoint hash (left nodes names) name place → IsLeft hash nodes names name place
+is_left : (hash : List ℕ → ℕ) (nodes : Nodes) (names : List (List ℕ)) (name : List ℕ) (place : ℕ)
+    → HasPoint hash (left nodes names) name place → IsLeft hash nodes names name place
 is_left hash nodes [] name place p = record { new = tt; has = p }
 is_left hash nodes (a ∷ names) name place p =
     let rest = is_left hash (fin.remove nodes a) names name place p in
     let here = was_there hash nodes a name place rest.has in
     record { new = (λ e. here.other (sym e), rest.new); has = here.has }
 
-left_is : (hash : List ℕ → ℕ) (nodes : Nodes) (names : List (List ℕ)) (name : List ℕ) (place : ℕ) → AreOther name names → HasPoint hash nodes name place → HasPoint hash (left nodes names) name place
+left_is : (hash : List ℕ → ℕ) (nodes : Nodes) (names : List (List ℕ)) (name : List ℕ) (place : ℕ) → AreOther name names
+    → HasPoint hash nodes name place → HasPoint hash (left nodes names) name place
 left_is hash nodes [] name place new p = p
-left_is hash nodes (a ∷ names) name place new p = left_is hash (fin.remove nodes a) names name place new.1 (kept hash nodes a name place (λ e. new.0 (sym e)) p)
+left_is hash nodes (a ∷ names) name place new p =
+    left_is hash (fin.remove nodes a) names name place new.1 (kept hash nodes a name place (λ e. new.0 (sym e)) p)
 
 not_among : (name : List ℕ) (names : List (List ℕ)) → AreOther name names → Contains names name → ⊥
 not_among name names new c = all_other name names new c.0 name c.1 (sym c.2)
 
-left_get : (nodes : Nodes) (names : List (List ℕ)) (name : List ℕ) (w : ℕ) → fin.get (left nodes names) name ≡ Some w → AreOther name names × (fin.get nodes name ≡ Some w)
+left_get : (nodes : Nodes) (names : List (List ℕ)) (name : List ℕ) (w : ℕ) → fin.get (left nodes names) name ≡ Some w
+    → AreOther name names × (fin.get nodes name ≡ Some w)
 left_get nodes [] name w e = (tt, e)
 left_get nodes (a ∷ names) name w e =
     let rest = left_get (fin.remove nodes a) names name w e in
-    elim (is_eq (by_bytes name a)) as (λ b. is_eq (by_bytes name a) ≡ b → cond b None (fin.get nodes name) ≡ Some w → AreOther name (a ∷ names) × (fin.get nodes name ≡ Some w)) [
+    elim (is_eq (by_bytes name a)) as
+    (λ b. is_eq (by_bytes name a) ≡ b → cond b None (fin.get nodes name) ≡ Some w → AreOther name (a ∷ names)
+    × (fin.get nodes name ≡ Some w)) [
       | true ↦ λ t s. cc
       | false ↦ λ t s. (
-        (λ is. let no : is_eq (by_bytes name name) ≡ false = subst (λ n. is_eq (by_bytes name n) ≡ false) is t in let yes : is_eq (by_bytes name name) ≡ true = ap is_eq (itself name) in cc, rest.0),
+        (
+          λ is. let no : is_eq (by_bytes name name) ≡ false = subst (λ n. is_eq (by_bytes name n) ≡ false) is t in let yes : is_eq
+              (by_bytes name name) ≡ true = ap is_eq (itself name) in cc,
+          rest.0,
+        ),
         s,
       )
     ] refl (sym (get_remove nodes a name) ∙ rest.1)
@@ -289,7 +326,8 @@ left_get nodes (a ∷ names) name w e =
 abbrev pub name_round : Pairs → List Point → ℕ → ℕ → Point → List ℕ
 name_round es points first s d = (node_at es (get_or points (index_round (length points) first s) d).node).0
 
-module _ (hash : List ℕ → ℕ) (es : Pairs) (points : List Point) (ring : IsRing hash es points) (at first : ℕ) (start : IsStart points at first) (d : Point) where
+module _ (hash : List ℕ → ℕ) (es : Pairs) (points : List Point) (ring : IsRing hash es points) (at first : ℕ)
+    (start : IsStart points at first) (d : Point) where
   abbrev pub the : ℕ → Point
   the s = nth points ring.ordered at first start d s
 
@@ -319,7 +357,8 @@ module _ (hash : List ℕ → ℕ) (es : Pairs) (points : List Point) (ring : Is
       let f = found_where es name p.weight (sym (get_is es ring.named name) ∙ p.there) in
       let c = ring.just.all f.i place (subst (λ node. IsPointOf hash node place) (sym f.is) p.point) in
       let t = steps_to c.0 c.1 in
-      let here : the t.0 ≡ record { place = place; node = f.i } = ap (λ (k : ℕ). get_or points k d) t.2 ∙ get_or_default points c.0 d (record { place = place; node = f.i }) c.1 ∙ c.2 in
+      let here : the t.0 ≡ record { place = place; node = f.i } =
+      ap (λ (k : ℕ). get_or points k d) t.2 ∙ get_or_default points c.0 d (record { place = place; node = f.i }) c.1 ∙ c.2 in
       record {
         s = t.0;
         below = t.1;
@@ -342,7 +381,8 @@ module _ (hash : List ℕ → ℕ) (es : Pairs) (points : List Point) (ring : Is
   }
 
   -- the first point whose node is none of these is the owner's
-  pub next_owner : (names : List (List ℕ)) (s : ℕ) → s < length points → ((t : ℕ) → t < s → Contains names (named t)) → AreOther (named s) names
+  pub next_owner : (names : List (List ℕ)) (s : ℕ) → s < length points → ((t : ℕ) → t < s → Contains names (named t))
+      → AreOther (named s) names
       → IsOwner hash (left (nodes_of es) names) at (named s)
   next_owner names s below passed new = record {
     place = (the s).place;
@@ -380,8 +420,10 @@ module _ (hash : List ℕ → ℕ) (es : Pairs) (points : List Point) (ring : Is
           absurd (not_among q names g.0 (subst (Contains names) r.node (passed r.s r.below)))
 
 -- ---- the same of the values that the code reads
-module _ (hash : List ℕ → ℕ) (nodes : List Node) (points : List Point) (ring : IsRing hash (pairs nodes) points) (at first : ℕ) (start : IsStart points at first)
-    (steps k : ℕ) (p : Point) (node : Node) (below : steps < length points) (index : k ≡ index_round (length points) first steps) (point : p ≡ get_or points k p) (is : node ≡ get_or nodes p.node node) where
+module _ (hash : List ℕ → ℕ) (nodes : List Node) (points : List Point) (ring : IsRing hash (pairs nodes) points) (at first : ℕ)
+    (start : IsStart points at first)
+    (steps k : ℕ) (p : Point) (node : Node) (below : steps < length points) (index : k ≡ index_round (length points) first steps)
+    (point : p ≡ get_or points k p) (is : node ≡ get_or nodes p.node node) where
   abbrev pub the_name : ℕ → List ℕ
   the_name s = named hash (pairs nodes) points ring at first start p s
 
@@ -389,19 +431,23 @@ module _ (hash : List ℕ → ℕ) (nodes : List Node) (points : List Point) (ri
   name_read =
       let e : the hash (pairs nodes) points ring at first start p steps ≡ p = ap (λ (k : ℕ). get_or points k p) (sym index) ∙ sym point in
       let there : p.node < length nodes =
-      subst (λ (n : ℕ). p.node < n) (length-map nodes pair_of) (subst (λ (q : Point). q.node < length (pairs nodes)) e (own_there hash (pairs nodes) points ring at first start p steps below)) in
+      subst (λ (n : ℕ). p.node < n) (length-map nodes pair_of)
+      (subst (λ (q : Point). q.node < length (pairs nodes)) e
+      (own_there hash (pairs nodes) points ring at first start p steps below)) in
       ap (λ (q : Point). (node_at (pairs nodes) q.node).0) e ∙ read nodes node p.node there ∙ ap (λ (n : Node). n.name.items) (sym is)
 
   pub owner_read : (names : List (List ℕ)) → ((t : ℕ) → t < steps → Contains names (the_name t)) → AreOther node.name.items names
       → IsOwner hash (left (nodes_of (pairs nodes)) names) at node.name.items
   owner_read names passed new =
       subst (IsOwner hash (left (nodes_of (pairs nodes)) names) at) name_read
-      (next_owner hash (pairs nodes) points ring at first start p names steps below passed (subst (λ name. AreOther name names) (sym name_read) new))
+      (next_owner hash (pairs nodes) points ring at first start p names steps below passed
+      (subst (λ name. AreOther name names) (sym name_read) new))
 
 -- a ring of no points has no nodes
 pub no_points : (hash : List ℕ → ℕ) (es : Pairs) (points : List Point) → IsRing hash es points → length points ≡ 0 → nodes_of es ≡ fin.empty
 no_points hash es points ring none =
-    let start : IsStart points 0 0 = record { within = omega arith; before = λ k d l. absurd (omega arith); after = λ k d l m. absurd (omega arith) } in
+    let start : IsStart points 0 0 =
+    record { within = omega arith; before = λ k d l. absurd (omega arith); after = λ k d l m. absurd (omega arith) } in
     none_left hash es points ring 0 0 start (record { place = 0; node = 0 }) [] (λ t l. absurd (omega arith))
 
 -- ---- a step of the way round
@@ -413,11 +459,13 @@ abbrev none : Point
 none = record { place = 0; node = 0 }
 
 -- what the names are, after some steps
-pub record AreNamesRound (hash : List ℕ → ℕ) (nodes : List Node) (points : List Point) (at first : ℕ) (names : List (List ℕ)) (steps : ℕ) : Type 0 where
+pub record AreNamesRound (hash : List ℕ → ℕ) (nodes : List Node) (points : List Point) (at first : ℕ) (names : List (List ℕ))
+    (steps : ℕ) : Type 0 where
   pub own : AreOwners hash (nodes_of (pairs nodes)) at names
   pub passed : (t : ℕ) → t < steps → Contains names (name_round (pairs nodes) points first t none)
 
-module _ (hash : List ℕ → ℕ) (nodes : List Node) (points : List Point) (ring : IsRing hash (pairs nodes) points) (at first : ℕ) (start : IsStart points at first) (names : List (List ℕ)) where
+module _ (hash : List ℕ → ℕ) (nodes : List Node) (points : List Point) (ring : IsRing hash (pairs nodes) points) (at first : ℕ)
+    (start : IsStart points at first) (names : List (List ℕ)) where
   pub round_start : AreNamesRound hash nodes points at first [] 0
   round_start = record { own = tt; passed = λ t l. absurd (omega arith) }
 
@@ -425,9 +473,11 @@ module _ (hash : List ℕ → ℕ) (nodes : List Node) (points : List Point) (ri
   es = pairs nodes
 
   -- the names when the way round has come to its end
-  pub round_all : (n steps : ℕ) → AreNamesRound hash nodes points at first names steps → length points ≤ steps → length names ≤ n → length names ≡ min n (fin.len (nodes_of es))
+  pub round_all : (n steps : ℕ) → AreNamesRound hash nodes points at first names steps → length points ≤ steps → length names ≤ n
+      → length names ≡ min n (fin.len (nodes_of es))
   round_all n steps so_far end few =
-      let empty : left (nodes_of es) names ≡ fin.empty = none_left hash es points ring at first start none names (λ t l. so_far.passed t (omega arith)) in
+      let empty : left (nodes_of es) names ≡ fin.empty =
+      none_left hash es points ring at first start none names (λ t l. so_far.passed t (omega arith)) in
       let no : fin.len (left (nodes_of es) names) ≡ 0 = ap fin.len empty ∙ fin.len-empty by_bytes ℕ in
       omega (arith, count hash (nodes_of es) at names so_far.own)
 
@@ -435,10 +485,12 @@ module _ (hash : List ℕ → ℕ) (nodes : List Node) (points : List Point) (ri
   pub round_full : (n : ℕ) → AreOwners hash (nodes_of es) at names → length names ≡ n → length names ≡ min n (fin.len (nodes_of es))
   round_full n own full = omega (arith, count hash (nodes_of es) at names own)
 
-  module _ (steps k : ℕ) (p : Point) (node : Node) (below : steps < length points) (index : k ≡ index_round (length points) first steps) (point : p ≡ get_or points k p) (is : node ≡ get_or nodes p.node node)
+  module _ (steps k : ℕ) (p : Point) (node : Node) (below : steps < length points) (index : k ≡ index_round (length points) first steps)
+      (point : p ≡ get_or points k p) (is : node ≡ get_or nodes p.node node)
       (so_far : AreNamesRound hash nodes points at first names steps) where
     any_default : (t : ℕ) → t < length points → name_round es points first t none ≡ name_round es points first t p
-    any_default t l = ap (λ (q : Point). (node_at es q.node).0) (get_or_default points (index_round (length points) first t) none p (index_below (length points) first t start.within l))
+    any_default t l = ap (λ (q : Point). (node_at es q.node).0)
+        (get_or_default points (index_round (length points) first t) none p (index_below (length points) first t start.within l))
 
     name_is : name_round es points first steps none ≡ node.name.items
     name_is = any_default steps below ∙ name_read hash nodes points ring at first start steps k p node below index point is
@@ -449,12 +501,14 @@ module _ (hash : List ℕ → ℕ) (nodes : List Node) (points : List Point) (ri
       own = so_far.own;
       passed = λ t l. ⊎_elim
           (λ (low : t < steps). so_far.passed t low)
-          (λ (high : steps ≤ t). let e : steps ≡ t = omega arith in subst (λ (t : ℕ). Contains names (name_round es points first t none)) e (subst (Contains names) (sym name_is) old))
+          (λ (high : steps ≤ t). let e : steps ≡ t = omega arith in subst
+          (λ (t : ℕ). Contains names (name_round es points first t none)) e (subst (Contains names) (sym name_is) old))
           (cases_lt t steps);
     }
 
     -- a new one
-    pub round_new : (Contains names node.name.items → ⊥) → AreNamesRound hash nodes points at first (names ++ node.name.items ∷ []) (steps + 1)
+    pub round_new : (Contains names node.name.items → ⊥)
+        → AreNamesRound hash nodes points at first (names ++ node.name.items ∷ []) (steps + 1)
     round_new new =
         let name = node.name.items in
         let owner = owner_read hash nodes points ring at first start steps k p node below index point is names
@@ -464,7 +518,8 @@ module _ (hash : List ℕ → ℕ) (nodes : List Node) (points : List Point) (ri
           passed = λ t l. ⊎_elim
               (λ (low : t < steps). Contains-append_left names (name ∷ []) _ (so_far.passed t low))
               (λ (high : steps ≤ t). let e : steps ≡ t = omega arith in
-              subst (λ (t : ℕ). Contains (names ++ name ∷ []) (name_round es points first t none)) e (subst (Contains (names ++ name ∷ [])) (sym name_is) (Contains-push names name)))
+              subst (λ (t : ℕ). Contains (names ++ name ∷ []) (name_round es points first t none)) e
+              (subst (Contains (names ++ name ∷ [])) (sym name_is) (Contains-push names name)))
               (cases_lt t steps);
         }
 
@@ -475,23 +530,30 @@ among_or_other name (a ∷ names) = ⊎_elim
     (λ c. inl (suc c.0, omega (arith, c.1), c.2))
     (λ o. elim (is_eq (by_bytes a name)) as (λ b. is_eq (by_bytes a name) ≡ b → Contains (a ∷ names) name ⊎ AreOther name (a ∷ names)) [
       | true ↦ λ e. inl (0, omega arith, same_key a name e)
-      | false ↦ λ e. inr (λ is. let equal : is_eq (by_bytes a name) ≡ true = ap (λ k. is_eq (by_bytes a k)) (sym is) ∙ ap is_eq (itself a) in cc, o)
+      | false ↦ λ e. inr (
+        λ is. let equal : is_eq (by_bytes a name) ≡ true = ap (λ k. is_eq (by_bytes a k)) (sym is)
+            ∙ ap is_eq (itself a) in cc,
+        o,
+      )
     ] refl)
     (among_or_other name names)
 
-owners_take : (hash : List ℕ → ℕ) (nodes : Nodes) (at : ℕ) (names : List (List ℕ)) (n : ℕ) → AreOwners hash nodes at names → AreOwners hash nodes at (take n names)
+owners_take : (hash : List ℕ → ℕ) (nodes : Nodes) (at : ℕ) (names : List (List ℕ)) (n : ℕ) → AreOwners hash nodes at names
+    → AreOwners hash nodes at (take n names)
 owners_take hash nodes at [] zero o = tt
 owners_take hash nodes at [] (suc n) o = tt
 owners_take hash nodes at (a ∷ names) zero o = tt
 owners_take hash nodes at (a ∷ names) (suc n) o = (o.0, owners_take hash (fin.remove nodes a) at names n o.1)
 
 -- the names so far, all of them refused
-pub record AreRefusedRound (hash : List ℕ → ℕ) (nodes : List Node) (points : List Point) (at first : ℕ) (refuses : List ℕ → Type 0) (steps : ℕ) : Type 0 where
+pub record AreRefusedRound (hash : List ℕ → ℕ) (nodes : List Node) (points : List Point) (at first : ℕ) (refuses : List ℕ → Type 0)
+    (steps : ℕ) : Type 0 where
   pub names : List (List ℕ)
   pub round : AreNamesRound hash nodes points at first names steps
   pub refused : All refuses names
 
-module _ (hash : List ℕ → ℕ) (nodes : List Node) (points : List Point) (ring : IsRing hash (pairs nodes) points) (at first : ℕ) (start : IsStart points at first) (answers : List ℕ → Bool → Type 0) where
+module _ (hash : List ℕ → ℕ) (nodes : List Node) (points : List Point) (ring : IsRing hash (pairs nodes) points) (at first : ℕ)
+    (start : IsStart points at first) (answers : List ℕ → Bool → Type 0) where
   abbrev Refuses : List ℕ → Type 0
   Refuses name = answers name false
 
@@ -507,11 +569,13 @@ module _ (hash : List ℕ → ℕ) (nodes : List Node) (points : List Point) (ri
       met (Some w) e =
           let f = found_where (pairs nodes) name w (sym (get_is (pairs nodes) ring.named name) ∙ e) in
           let some : 1 ≤ w = subst (λ node. 1 ≤ node.1) f.is (ring.weighed f.i ([], 0) f.below) in
-          let r = reached hash (pairs nodes) points ring at first start none name (point hash name 0) (record { weight = w; there = e; point = record { number = 0; below = some; is = refl } }) in
+          let r = reached hash (pairs nodes) points ring at first start none name (point hash name 0)
+          (record { weight = w; there = e; point = record { number = 0; below = some; is = refl } }) in
           let c = subst (Contains so_far.names) r.node (so_far.round.passed r.s (omega (arith, r.below))) in
           subst Refuses c.2 (so_far.refused c.0 name c.1)
 
-  module _ (steps k : ℕ) (p : Point) (node : Node) (below : steps < length points) (index : k ≡ index_round (length points) first steps) (point : p ≡ get_or points k p) (is : node ≡ get_or nodes p.node node)
+  module _ (steps k : ℕ) (p : Point) (node : Node) (below : steps < length points) (index : k ≡ index_round (length points) first steps)
+      (point : p ≡ get_or points k p) (is : node ≡ get_or nodes p.node node)
       (so_far : AreRefusedRound hash nodes points at first Refuses steps) where
     pub refused_more : Refuses node.name.items → AreRefusedRound hash nodes points at first Refuses (steps + 1)
     refused_more refusal = ⊎_elim
@@ -522,8 +586,10 @@ module _ (hash : List ℕ → ℕ) (nodes : List Node) (points : List Point) (ri
         })
         (λ (new : AreOther node.name.items so_far.names). record {
           names = so_far.names ++ node.name.items ∷ [];
-          round = round_new hash nodes points ring at first start so_far.names steps k p node below index point is so_far.round (not_among node.name.items so_far.names new);
-          refused = All-append Refuses so_far.names (node.name.items ∷ []) so_far.refused (All-cons Refuses node.name.items [] refusal (All-nil Refuses));
+          round = round_new hash nodes points ring at first start so_far.names steps k p node below index point is so_far.round
+              (not_among node.name.items so_far.names new);
+          refused = All-append Refuses so_far.names (node.name.items ∷ []) so_far.refused
+              (All-cons Refuses node.name.items [] refusal (All-nil Refuses));
         })
         (among_or_other node.name.items so_far.names)
 
@@ -534,13 +600,15 @@ module _ (hash : List ℕ → ℕ) (nodes : List Node) (points : List Point) (ri
         take_more so_far.names old.0 node.name.items old.1 ∙ ap (λ name. take old.0 so_far.names ++ name ∷ []) old.2 in
         record {
           before = take old.0 so_far.names;
-          owners = subst (AreOwners hash (nodes_of (pairs nodes)) at) cut (owners_take hash (nodes_of (pairs nodes)) at so_far.names (old.0 + 1) so_far.round.own);
+          owners = subst (AreOwners hash (nodes_of (pairs nodes)) at) cut
+              (owners_take hash (nodes_of (pairs nodes)) at so_far.names (old.0 + 1) so_far.round.own);
           refused = All-take Refuses old.0 so_far.names so_far.refused;
           passes = pass;
         })
         (λ (new : AreOther node.name.items so_far.names). record {
           before = so_far.names;
-          owners = (round_new hash nodes points ring at first start so_far.names steps k p node below index point is so_far.round (not_among node.name.items so_far.names new)).own;
+          owners = (round_new hash nodes points ring at first start so_far.names steps k p node below index point is so_far.round
+              (not_among node.name.items so_far.names new)).own;
           refused = so_far.refused;
           passes = pass;
         })
@@ -565,7 +633,8 @@ among_to (x ∷ names) name (suc k, l, is) =
     let rest = among_to names name (k, omega arith, is) in
     elim (is_name name x) as (λ b. (b || list_any (is_name name) names) ≡ true) [ true ↦ refl | false ↦ rest ]
 
-pub among_exactly : (names : List (Bor (List ℕ))) (name : List ℕ) (b : Bool) → b ≡ list_any (is_name name) names → IsTrue b ↔ Contains (texts names) name
+pub among_exactly : (names : List (Bor (List ℕ))) (name : List ℕ) (b : Bool) → b ≡ list_any (is_name name) names
+    → IsTrue b ↔ Contains (texts names) name
 among_exactly names name b e = (
   λ h. among_from names name (sym e ∙ h),
   λ c. e ∙ among_to names name c,

@@ -31,14 +31,20 @@ is_there hash nodes i place of = ⊎_elim
 
 module _ (hash : List ℕ → ℕ) where
   pub ArePoints-nil : ArePoints hash [] []
-  ArePoints-nil = record { real = All-nil (IsPointOfItsNode hash []); all = λ i place of. absurd (omega (arith, is_there hash [] i place of)) }
+  ArePoints-nil = record {
+    real = All-nil (IsPointOfItsNode hash []);
+    all = λ i place of. absurd
+        (omega (arith, is_there hash [] i place of));
+  }
 
   -- a point of a node is among the node's points, and only such are
-  pub among : (node : List ℕ × ℕ) (i place : ℕ) → IsPointOf hash node place → Contains (points_of hash node i) (record { place = place; node = i })
+  pub among : (node : List ℕ × ℕ) (i place : ℕ) → IsPointOf hash node place
+      → Contains (points_of hash node i) (record { place = place; node = i })
   among node i place of =
       let nth = λ (k : ℕ). let p : Point = record { place = point hash node.0 k; node = i } in p in
       let here : (d : Point) → get_or (points_of hash node i) of.number d ≡ record { place = place; node = i } =
-      λ d. get_or-map-range_with_len nth 0 node.1 of.number of.number d of.below (omega arith) ∙ (λ j. record { place = sym of.is j; node = i }) in
+      λ d. get_or-map-range_with_len nth 0 node.1 of.number of.number d of.below (omega arith)
+      ∙ (λ j. record { place = sym of.is j; node = i }) in
       (of.number, omega (arith, of.below, length-map-range_with_len nth 0 node.1), here _)
 
   pub each : (node : List ℕ × ℕ) (i : ℕ) → All (λ p. (p.node ≡ i) × IsPointOf hash node p.place) (points_of hash node i)
@@ -55,7 +61,8 @@ module _ (hash : List ℕ → ℕ) where
       let more = nodes ++ node ∷ [] in
       let new = length nodes in
       let last : node_at more new ≡ node = get_or-append_seam nodes node [] ([], 0) in
-      let before : (i : ℕ) → i < length nodes → node_at more i ≡ node_at nodes i = λ i low. get_or_append_left nodes (node ∷ []) ([], 0) i low in
+      let before : (i : ℕ) → i < length nodes → node_at more i ≡ node_at nodes i =
+      λ i low. get_or_append_left nodes (node ∷ []) ([], 0) i low in
       record {
         real = All-append (IsPointOfItsNode hash more) points (points_of hash node new)
             (λ k d below. let p = get_or points k d in let of = so_far.real k d below in
@@ -63,7 +70,8 @@ module _ (hash : List ℕ → ℕ) where
             (λ k d below. let p = get_or (points_of hash node new) k d in let of = each node new k d below in
             subst (λ n. IsPointOf hash n p.place) (sym (ap (node_at more) of.0 ∙ last)) of.1);
         all = λ i place of. ⊎_elim
-            (λ (low : i < length nodes). Contains-append_left points (points_of hash node new) _ (so_far.all i place (subst (λ n. IsPointOf hash n place) (before i low) of)))
+            (λ (low : i < length nodes). Contains-append_left points (points_of hash node new) _
+            (so_far.all i place (subst (λ n. IsPointOf hash n place) (before i low) of)))
             (λ (high : length nodes ≤ i).
             let there : i < length more = is_there hash more i place of in
             let is : length nodes ≡ i = omega (arith, length-append nodes (node ∷ [])) in
@@ -74,7 +82,8 @@ module _ (hash : List ℕ → ℕ) where
       }
 
   -- in whatever order the points stand
-  pub ArePoints-permutation : (nodes : Pairs) (points moved : List Point) → IsPermutation points moved → ArePoints hash nodes points → ArePoints hash nodes moved
+  pub ArePoints-permutation : (nodes : Pairs) (points moved : List Point) → IsPermutation points moved → ArePoints hash nodes points
+      → ArePoints hash nodes moved
   ArePoints-permutation nodes points moved same are = record {
     real = All-permutation (IsPointOfItsNode hash nodes) points moved same are.real;
     all = λ i place of. Contains-permutation points moved _ same (are.all i place of);
@@ -92,16 +101,19 @@ not_less_by a b Greater s h k e = record { place = omega arith; node = λ same. 
 not_less : (a b : Point) → is_lt (ordering_then (nat_cmp b.place a.place) (nat_cmp b.node a.node)) ≡ false → IsBefore a b
 not_less a b = not_less_by a b _ _ (ranked b.place a.place _ refl) (ranked b.node a.node _ refl)
 
-pub in_order : (points : List Point) → IsSorted (λ a b. ordering_then (nat_cmp a.place b.place) (nat_cmp a.node b.node)) points → AllPairs IsBefore points
+pub in_order : (points : List Point) → IsSorted (λ a b. ordering_then (nat_cmp a.place b.place) (nat_cmp a.node b.node)) points
+    → AllPairs IsBefore points
 in_order points sorted i j d less within =
-    let o = ranks_by (then_total (on_total (λ (p : Point). p.place) nat_cmp_total) (on_total (λ (p : Point). p.node) nat_cmp_total)) (λ (p : Point). p) in
+    let o = ranks_by (then_total (on_total (λ (p : Point). p.place) nat_cmp_total) (on_total (λ (p : Point). p.node) nat_cmp_total))
+    (λ (p : Point). p) in
     not_less _ _ (sorted_far _ o points sorted i j d (omega arith) within)
 
 -- no place is above a later one
 pub places_rise : (points : List Point) → AllPairs IsBefore points → IsNonDecreasingBy (λ p. p.place) points
 places_rise points before i j d upto within = ⊎_elim
     (λ (less : i < j). (before i j d less within).place)
-    (λ (same : j ≤ i). let e : i ≡ j = omega arith in subst (λ (k : ℕ). (get_or points i d).place ≤ (get_or points k d).place) e (omega arith))
+    (λ (same : j ≤ i). let e : i ≡ j = omega arith in subst (λ (k : ℕ). (get_or points i d).place ≤ (get_or points k d).place) e
+    (omega arith))
     (cases_lt i j)
 
 -- the points below `first` come before the place, and those behind the `size` ones after them don't
@@ -111,7 +123,9 @@ pub record IsWindow (points : List Point) (at first size : ℕ) : Type 0 where
   pub after : (k : ℕ) (d : Point) → first + size ≤ k → k < length points → at ≤ (get_or points k d).place
 
 -- a point in the middle tells which half the place is in
-pub narrowed : (points : List Point) (at first size half : ℕ) (d : Point) (is : Bool) → AllPairs IsBefore points → IsWindow points at first size → half < size → half + half ≤ size → is ≡ ltb (get_or points (first + half) d).place at → IsWindow points at (first + (if is then half else 0)) (size - half)
+pub narrowed : (points : List Point) (at first size half : ℕ) (d : Point) (is : Bool) → AllPairs IsBefore points
+    → IsWindow points at first size → half < size → half + half ≤ size → is ≡ ltb (get_or points (first + half) d).place at
+    → IsWindow points at (first + (if is then half else 0)) (size - half)
 narrowed points at first size half d true ordered old less twice is =
     let upto : first + size ≤ length points = old.within in
     let there : first + half < length points = omega arith in
@@ -119,8 +133,10 @@ narrowed points at first size half d true ordered old less twice is =
     record {
       within = omega arith;
       before = λ k e below.
-          let rises : (get_or points k e).place ≤ (get_or points (first + half) e).place = places_rise points ordered k (first + half) e (omega arith) there in
-          let same : (get_or points (first + half) e).place ≡ (get_or points (first + half) d).place = ap (λ p. p.place) (get_or_default points (first + half) e d there) in
+          let rises : (get_or points k e).place ≤ (get_or points (first + half) e).place =
+          places_rise points ordered k (first + half) e (omega arith) there in
+          let same : (get_or points (first + half) e).place ≡ (get_or points (first + half) d).place =
+          ap (λ p. p.place) (get_or_default points (first + half) e d there) in
           omega arith;
       after = λ k e from low. old.after k e (omega arith) low;
     }
@@ -132,7 +148,9 @@ narrowed points at first size half d false ordered old less twice is =
       within = omega arith;
       before = λ k e below. old.before k e (omega arith);
       after = λ k e from low.
-          let rises : (get_or points (first + half) e).place ≤ (get_or points k e).place = places_rise points ordered (first + half) k e (omega arith) low in
-          let same : (get_or points (first + half) e).place ≡ (get_or points (first + half) d).place = ap (λ p. p.place) (get_or_default points (first + half) e d there) in
+          let rises : (get_or points (first + half) e).place ≤ (get_or points k e).place =
+          places_rise points ordered (first + half) k e (omega arith) low in
+          let same : (get_or points (first + half) e).place ≡ (get_or points (first + half) d).place =
+          ap (λ p. p.place) (get_or_default points (first + half) e d there) in
           omega arith;
     }

@@ -23,19 +23,23 @@ end_of from [] = from
 end_of from (p ∷ ps) = end_of (p.place + 1) ps
 
 pub arcs_push : (es : Pairs) (from : ℕ) (ps : List Point) (p : Point)
-    → arcs es from (ps ++ p ∷ []) ≡ arcs es from ps ++ record { owner = (node_at es p.node).0; from = end_of from ps; to = p.place + 1 } ∷ []
+    → arcs es from (ps ++ p ∷ []) ≡ arcs es from ps
+    ++ record { owner = (node_at es p.node).0; from = end_of from ps; to = p.place + 1 } ∷ []
 arcs_push es from [] p = refl
-arcs_push es from (q ∷ ps) p = ap (λ rest. record { owner = (node_at es q.node).0; from = from; to = q.place + 1 } ∷ rest) (arcs_push es (q.place + 1) ps p)
+arcs_push es from (q ∷ ps) p =
+    ap (λ rest. record { owner = (node_at es q.node).0; from = from; to = q.place + 1 } ∷ rest) (arcs_push es (q.place + 1) ps p)
 
 pub end_push : (from : ℕ) (ps : List Point) (p : Point) → end_of from (ps ++ p ∷ []) ≡ p.place + 1
 end_push from [] p = refl
 end_push from (q ∷ ps) p = end_push (q.place + 1) ps p
 
 -- where the last of some points ends, which is not behind the next, and behind all
-pub last_end : (points : List Point) (i : ℕ) (d : Point) → i < length points → end_of 0 (take (i + 1) points) ≡ (get_or points i d).place + 1
+pub last_end : (points : List Point) (i : ℕ) (d : Point) → i < length points
+    → end_of 0 (take (i + 1) points) ≡ (get_or points i d).place + 1
 last_end points i d below = ap (end_of 0) (take_more points i d below) ∙ end_push 0 (take i points) (get_or points i d)
 
-pub end_low : (points : List Point) → AllPairs IsBefore points → (i : ℕ) (d : Point) → i < length points → end_of 0 (take i points) ≤ (get_or points i d).place + 1
+pub end_low : (points : List Point) → AllPairs IsBefore points → (i : ℕ) (d : Point) → i < length points
+    → end_of 0 (take i points) ≤ (get_or points i d).place + 1
 end_low points ordered i d below = ⊎_elim
     (λ (first : i ≡ 0). let e : end_of 0 (take i points) ≡ 0 = ap (λ k. end_of 0 (take k points)) first in omega (arith, e))
     (λ (later : i ≢ 0).
@@ -45,7 +49,8 @@ end_low points ordered i d below = ⊎_elim
     omega (arith, e, b.place))
     (cases_eq i 0)
 
-behind : (points : List Point) → AllPairs IsBefore points → (k : ℕ) (d : Point) → k < length points → (get_or points k d).place < end_of 0 points
+behind : (points : List Point) → AllPairs IsBefore points → (k : ℕ) (d : Point) → k < length points
+    → (get_or points k d).place < end_of 0 points
 behind points ordered k d l =
     let i : ℕ = length points - 1 in
     let all : take (i + 1) points ≡ points = take_all (i + 1) points (omega arith) in
@@ -53,7 +58,8 @@ behind points ordered k d l =
     let b = upto points ordered k i d (omega arith) (omega arith) in
     omega (arith, e, b.place)
 
-stretches_append : (hash : List ℕ → ℕ) (m : Nodes) (from mid to : ℕ) (xs ys : List Stretch) → AreStretches hash m from mid xs → AreStretches hash m mid to ys
+stretches_append : (hash : List ℕ → ℕ) (m : Nodes) (from mid to : ℕ) (xs ys : List Stretch) → AreStretches hash m from mid xs
+    → AreStretches hash m mid to ys
     → AreStretches hash m from to (xs ++ ys)
 stretches_append hash m from mid to [] ys a b = subst (λ (n : ℕ). AreStretches hash m n to ys) (sym a) b
 stretches_append hash m from mid to (s ∷ xs) ys a b = (a.0, a.1, a.2, stretches_append hash m s.to mid to xs ys a.3 b)
@@ -104,8 +110,10 @@ module _ (hash : List ℕ → ℕ) (es : Pairs) (points : List Point) (ring : Is
         omega (arith, ahead i p (omega arith) below, place),
         λ at low high. owned i at p below here (λ k d l. let b = before k d l in omega arith) (omega arith),
         arcs_cover ps (i + 1) (p.place + 1) (omega arith) next
-            (λ k d l. let b = upto points ring.ordered k i d (omega arith) below in let q = ap (λ (q : Point). q.place) (get_or_default points i d p below) in omega (arith, b.place, q, place))
-            (λ k d low l. let b = upto points ring.ordered i k d (omega arith) l in let q = ap (λ (q : Point). q.place) (get_or_default points i d p below) in omega (arith, b.place, q, place)),
+            (λ k d l. let b = upto points ring.ordered k i d (omega arith) below in let q = ap (λ (q : Point). q.place)
+            (get_or_default points i d p below) in omega (arith, b.place, q, place))
+            (λ k d low l. let b = upto points ring.ordered i k d (omega arith) l in let q = ap (λ (q : Point). q.place)
+            (get_or_default points i d p below) in omega (arith, b.place, q, place)),
       )
 
 -- ---- the shares so far
@@ -118,7 +126,8 @@ pub record AreSharesOf (es : Pairs) (stretches : List Stretch) (shares : List �
 abbrev its : List ℕ → Stretch → ℕ
 its name s = cond (same name s.owner) (s.to - s.from) 0
 
-share_push : (stretches : List Stretch) (s : Stretch) (name : List ℕ) → share_of (stretches ++ s ∷ []) name ≡ share_of stretches name + its name s
+share_push : (stretches : List Stretch) (s : Stretch) (name : List ℕ)
+    → share_of (stretches ++ s ∷ []) name ≡ share_of stretches name + its name s
 share_push stretches s name =
     let one : sum_by (its name) (s ∷ []) ≡ its name s + 0 = sum_by-cons (its name) s [] in
     sum_by-append (its name) stretches (s ∷ []) ∙ omega (arith, one)
@@ -131,12 +140,15 @@ one_stretch_more es sorted stretches shares next n from to so_far below upto_it 
     let there : n < length shares = omega (arith, so_far.long) in
     let differ = rising_differ es sorted in
     let at_n : get_or next n 0 ≡ get_or shares n 0 + (to - from) = ap (λ xs. get_or xs n 0) is ∙ get_or-set_same shares n _ 0 there in
-    let at_other : (j : ℕ) → j ≢ n → get_or next j 0 ≡ get_or shares j 0 = λ j ne. ap (λ xs. get_or xs j 0) is ∙ get_or-set_other shares n j _ 0 ne in
+    let at_other : (j : ℕ) → j ≢ n → get_or next j 0 ≡ get_or shares j 0 =
+    λ j ne. ap (λ xs. get_or xs j 0) is ∙ get_or-set_other shares n j _ 0 ne in
     record {
       long = ap length is ∙ length-set shares n _ ∙ so_far.long;
       each = λ j l. ⊎_elim
           (λ (here : j ≡ n).
-          let mine : its (node_at es j).0 s ≡ to - from = ap (λ b. cond b (to - from) 0) (ap (λ (k : ℕ). same (node_at es j).0 (node_at es k).0) (sym here) ∙ same_itself (node_at es j).0) in
+          let mine : its (node_at es j).0 s ≡ to - from =
+          ap (λ b. cond b (to - from) 0)
+          (ap (λ (k : ℕ). same (node_at es j).0 (node_at es k).0) (sym here) ∙ same_itself (node_at es j).0) in
           ap (λ (k : ℕ). get_or next k 0) here ∙ at_n ∙ ap (λ (k : ℕ). get_or shares k 0 + (to - from)) (sym here)
           ∙ omega (arith, so_far.each j l, mine, share_push stretches s (node_at es j).0))
           (λ (ne : j ≢ n).
@@ -152,28 +164,35 @@ one_stretch_more es sorted stretches shares next n from to so_far below upto_it 
           (λ (ne : j ≢ n). omega (arith, at_other j ne, so_far.low j l))
           (cases_eq j n);
       total =
-          let moved : sum_by (λ x. x) (set shares n (get_or shares n 0 + (to - from))) + get_or shares n 0 ≡ sum_by (λ x. x) shares + (get_or shares n 0 + (to - from)) =
+          let moved : sum_by (λ x. x) (set shares n (get_or shares n 0 + (to - from))) + get_or shares n 0 ≡ sum_by (λ x. x) shares +
+          (get_or shares n 0 + (to - from)) =
           sum_by-set (λ x. x) shares n (get_or shares n 0 + (to - from)) 0 there in
           let whole : sum next ≡ sum_by (λ x. x) (set shares n (get_or shares n 0 + (to - from))) = ap sum is in
           omega (arith, whole, moved, so_far.total);
     }
 
 -- those of one point more
-pub next_point : (es : Pairs) → T (is_sorted by_bytes es) → (points : List Point) (i : ℕ) (d : Point) (shares next : List ℕ) (from to was : ℕ) → i < length points
-    → (get_or points i d).node < length es → AreSharesOf es (arcs es 0 (take i points)) shares from → from ≡ end_of 0 (take i points) → from ≤ to
-    → to ≡ (get_or points i d).place + 1 → was ≡ get_or shares (get_or points i d).node was → next ≡ set shares (get_or points i d).node (was + (to - from))
+pub next_point : (es : Pairs) → T (is_sorted by_bytes es)
+    → (points : List Point) (i : ℕ) (d : Point) (shares next : List ℕ) (from to was : ℕ) → i < length points
+    → (get_or points i d).node < length es → AreSharesOf es (arcs es 0 (take i points)) shares from → from ≡ end_of 0 (take i points)
+    → from ≤ to
+    → to ≡ (get_or points i d).place + 1 → was ≡ get_or shares (get_or points i d).node was
+    → next ≡ set shares (get_or points i d).node (was + (to - from))
     → AreSharesOf es (arcs es 0 (take (i + 1) points)) next to
 next_point es sorted points i d shares next from to was below there so_far from_is rises to_is read is =
     let p = get_or points i d in
     let now : was ≡ get_or shares p.node 0 = read ∙ get_or_default shares p.node was 0 (omega (arith, so_far.long)) in
-    let more = one_stretch_more es sorted (arcs es 0 (take i points)) shares next p.node from to so_far there rises (is ∙ ap (λ n. set shares p.node (n + (to - from))) now) in
-    let stretch : arcs es 0 (take (i + 1) points) ≡ arcs es 0 (take i points) ++ record { owner = (node_at es p.node).0; from = from; to = to } ∷ [] =
+    let more = one_stretch_more es sorted (arcs es 0 (take i points)) shares next p.node from to so_far there rises
+    (is ∙ ap (λ n. set shares p.node (n + (to - from))) now) in
+    let stretch : arcs es 0 (take (i + 1) points) ≡ arcs es 0 (take i points)
+    ++ record { owner = (node_at es p.node).0; from = from; to = to } ∷ [] =
     ap (arcs es 0) (take_more points i d below) ∙ arcs_push es 0 (take i points) p
     ∙ (λ j. arcs es 0 (take i points) ++ record { owner = (node_at es p.node).0; from = sym from_is j; to = sym to_is j } ∷ []) in
     subst (λ stretches. AreSharesOf es stretches next to) (sym stretch) more
 
 -- those of the places behind all points
-pub last_places : (es : Pairs) → T (is_sorted by_bytes es) → (points : List Point) (i : ℕ) (p : Point) (shares next : List ℕ) (from was : ℕ) → length points ≤ i
+pub last_places : (es : Pairs) → T (is_sorted by_bytes es)
+    → (points : List Point) (i : ℕ) (p : Point) (shares next : List ℕ) (from was : ℕ) → length points ≤ i
     → p.node < length es → AreSharesOf es (arcs es 0 (take i points)) shares from → from ≡ end_of 0 (take i points) → from ≤ 2 ^ 64
     → was ≡ get_or shares p.node was → next ≡ set shares p.node (was + (2 ^ 64 - from))
     → (end_of 0 points ≤ 2 ^ 64)
@@ -183,9 +202,11 @@ last_places es sorted points i p shares next from was all there so_far from_is s
     let end : from ≡ end_of 0 points = from_is ∙ ap (end_of 0) whole in
     let now : was ≡ get_or shares p.node 0 = read ∙ get_or_default shares p.node was 0 (omega (arith, so_far.long)) in
     let so_far' = subst (λ ps. AreSharesOf es (arcs es 0 ps) shares from) whole so_far in
-    let more = one_stretch_more es sorted (arcs es 0 points) shares next p.node from (2 ^ 64) so_far' there small (is ∙ ap (λ n. set shares p.node (n + (2 ^ 64 - from))) now) in (
+    let more = one_stretch_more es sorted (arcs es 0 points) shares next p.node from (2 ^ 64) so_far' there small
+    (is ∙ ap (λ n. set shares p.node (n + (2 ^ 64 - from))) now) in (
       omega (arith, end, small),
-      subst (λ (n : ℕ). AreSharesOf es (arcs es 0 points ++ record { owner = (node_at es p.node).0; from = n; to = 2 ^ 64 } ∷ []) next (2 ^ 64)) end more,
+      subst (λ (n : ℕ). AreSharesOf es (arcs es 0 points ++ record { owner = (node_at es p.node).0; from = n; to = 2 ^ 64 } ∷ []) next
+          (2 ^ 64)) end more,
     )
 
 pub first_read : (points : List Point) (p : Point) → Some p ≡ slice_get points 0 → (0 < length points) × (p ≡ get_or points 0 p)
@@ -193,15 +214,18 @@ first_read [] p e = cc
 first_read (q ∷ points) p e = (omega arith, cc)
 
 -- the node of a first point is there
-pub node_there : (hash : List ℕ → ℕ) (es : Pairs) (points : List Point) → IsRing hash es points → (p : Point) → 0 < length points → p ≡ get_or points 0 p → p.node < length es
+pub node_there : (hash : List ℕ → ℕ) (es : Pairs) (points : List Point) → IsRing hash es points → (p : Point) → 0 < length points
+    → p ≡ get_or points 0 p → p.node < length es
 node_there hash es points ring p some is =
     let there = is_there hash es (get_or points 0 p).node (get_or points 0 p).place (ring.just.real 0 p some) in
     subst (λ (q : Point). q.node < length es) (sym is) there
 
 -- ---- the shares of a ring
-pub whole_ring : (hash : List ℕ → ℕ) (es : Pairs) (points : List Point) → IsRing hash es points → (p : Point) → 0 < length points → p ≡ get_or points 0 p
+pub whole_ring : (hash : List ℕ → ℕ) (es : Pairs) (points : List Point) → IsRing hash es points → (p : Point) → 0 < length points
+    → p ≡ get_or points 0 p
     → (shares : List ℕ) → end_of 0 points ≤ 2 ^ 64
-    → AreSharesOf es (arcs es 0 points ++ record { owner = (node_at es p.node).0; from = end_of 0 points; to = 2 ^ 64 } ∷ []) shares (2 ^ 64)
+    → AreSharesOf es (arcs es 0 points ++ record { owner = (node_at es p.node).0; from = end_of 0 points; to = 2 ^ 64 } ∷ []) shares
+    (2 ^ 64)
     → AreShares hash (nodes_of es) shares
 whole_ring hash es points ring p some is shares small of =
     let last : Stretch = record { owner = (node_at es p.node).0; from = end_of 0 points; to = 2 ^ 64 } in
@@ -210,10 +234,16 @@ whole_ring hash es points ring p some is shares small of =
     record {
       stretches = stretches;
       whole = stretches_append hash (nodes_of es) 0 (end_of 0 points) (2 ^ 64) (arcs es 0 points) (last ∷ [])
-          (arcs_cover hash es points ring points 0 0 (omega arith) refl (λ k d l. absurd (omega arith)) (λ k d low l. omega arith))
-          (refl, small, (λ at low high. owned_behind hash es points ring at p some is (λ k d l. omega (arith, low, behind points ring.ordered k d l))), refl);
+          (arcs_cover hash es points ring points 0 0 (omega arith) refl (λ k d l. absurd (omega arith)) (λ k d low l. omega arith)) (
+            refl,
+            small,
+            (λ at low high. owned_behind hash es points ring at p some is
+                (λ k d l. omega (arith, low, behind points ring.ordered k d l))),
+            refl,
+          );
       each = same_lists shares (map f es)
           (of.long ∙ sym (length-map es f))
-          (λ j d l. get_or_default shares j d 0 l ∙ of.each j (omega (arith, of.long)) ∙ sym (get_or-map f es j ([], 0) d (omega (arith, of.long))))
+          (λ j d l. get_or_default shares j d 0 l ∙ of.each j (omega (arith, of.long))
+          ∙ sym (get_or-map f es j ([], 0) d (omega (arith, of.long))))
           ∙ ap (map f) (sym (entries_are es ring.named));
     }

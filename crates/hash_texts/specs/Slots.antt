@@ -51,7 +51,8 @@ FirstRound test slots home (Some i) = (i < length slots) × (test (slice_index_o
 -- each slot with a text is found: no slot before it, round from its home, is free
 abbrev pub AreFound : List Slot → Type 0
 AreFound slots = (i : ℕ) → i < length slots → is_taken (slice_index_or slots i EMPTY) ≡ true
-    → HoldsUpTo (λ j. is_taken (slice_index_or slots j EMPTY) ≡ true) (length slots) (home_of (length slots) (slice_index_or slots i EMPTY).tag) i
+    → HoldsUpTo (λ j. is_taken (slice_index_or slots j EMPTY) ≡ true) (length slots)
+    (home_of (length slots) (slice_index_or slots i EMPTY).tag) i
 
 -- how many slots are free
 abbrev pub free_count : List Slot → ℕ

@@ -7,7 +7,8 @@ use Rattle.hash_ring.proofs.first_from.Goals as goal
 pub returns : goal.returns
 returns c =
     let points = c.args.points.now in
-    let at = IsPartitionPoint-from_clause (λ p. ltb p.place c.args.place) points c.partition_point.result c.partition_point.ensures.partitioned
+    let at = IsPartitionPoint-from_clause
+    (λ p. ltb p.place c.args.place) points c.partition_point.result c.partition_point.ensures.partitioned
     (IsPartitionedBy-ltb (λ p. p.place) points c.args.place (places_rise points c.requires)) (λ a r q k. search rules) in
     record {
       within = c.partition_point.ensures.bound;

@@ -32,6 +32,7 @@ loop-i-preserved c = λ k l. ⊎_elim
 
 pub returns : goal.returns
 returns c = (
-  λ _. names.rises_from (pairs c.args.nodes.now) (λ k l. let long = length-map c.args.nodes.now pair_of in c.loop-i.invariant k (omega arith)),
+  λ _. names.rises_from (pairs c.args.nodes.now)
+      (λ k l. let long = length-map c.args.nodes.now pair_of in c.loop-i.invariant k (omega arith)),
   λ _. refl,
 )

@@ -13,7 +13,8 @@ one_more : (hash : List ℕ → ℕ) (name : List ℕ) (k i : ℕ) (points now :
 one_more hash name k i points now place so_far is =
     let nth = λ (j : ℕ). let p : Point = record { place = point hash name j; node = i } in p in
     let same : (p : Point) → p ≡ nth k → now ++ p ∷ [] ≡ points ++ points_of hash (name, k + 1) i =
-    λ p e. (λ j. so_far j ++ e j ∷ []) ∙ append_assoc points (points_of hash (name, k) i) (nth k ∷ []) ∙ ap (λ ps. points ++ ps) (sym (map-range_with_len_more nth 0 k k (omega arith))) in
+    λ p e. (λ j. so_far j ++ e j ∷ []) ∙ append_assoc points (points_of hash (name, k) i) (nth k ∷ [])
+    ∙ ap (λ ps. points ++ ps) (sym (map-range_with_len_more nth 0 k k (omega arith))) in
     same (record { place = place; node = i }) (λ j. record { place = is j; node = i })
 
 pub loop-number-preserved : goal.loop-number-preserved
@@ -23,9 +24,11 @@ loop-number-preserved g c =
     let k = c.loop-number.number in
     let hash = g.H.Piecewise.hash_of in
     let text : c.extend_from_slice.new.self.items ≡ name ++ le_bytes 8 k =
-    c.in_ok-extend_from_slice.ensures.items ∙ (λ i. (c.truncate.ensures.items ∙ c.loop-number.invariant.begins) i ++ c.to_le_bytes.ensures i) in
+    c.in_ok-extend_from_slice.ensures.items
+    ∙ (λ i. (c.truncate.ensures.items ∙ c.loop-number.invariant.begins) i ++ c.to_le_bytes.ensures i) in
     let place : c.hash_of.result ≡ point hash name k = c.hash_of.ensures.value ∙ ap hash (c.deref.ensures.value ∙ text) in
     record {
       begins = ap (take (length name)) text ∙ take-append_seam name (le_bytes 8 k);
-      pushed = c.in_ok-push.ensures.items ∙ one_more hash name k c.args.index c.args.points.now.items _ _ c.loop-number.invariant.pushed place;
+      pushed = c.in_ok-push.ensures.items
+          ∙ one_more hash name k c.args.index c.args.points.now.items _ _ c.loop-number.invariant.pushed place;
     }

@@ -10,7 +10,12 @@ none = record { place = 0; node = 0 }
 
 pub overflow_sub-to : goal.overflow_sub-to
 overflow_sub-to g c =
-    omega (arith, c.loop-point.invariant.from_is, c.from-to.ensures, end_low c.args.points.now c.requires.ordered c.loop-point.point-index none c.loop-point-test.true)
+    omega (
+      arith,
+      c.loop-point.invariant.from_is,
+      c.from-to.ensures,
+      end_low c.args.points.now c.requires.ordered c.loop-point.point-index none c.loop-point-test.true,
+    )
 
 pub loop-point-preserved : goal.loop-point-preserved
 loop-point-preserved g c =
@@ -20,7 +25,8 @@ loop-point-preserved g c =
     let there = is_there g.H.Piecewise.hash_of (pairs c.args.nodes.now) _ _ (c.requires.just.real i none c.loop-point-test.true) in
     let low = end_low points c.requires.ordered i none c.loop-point-test.true in
     record {
-      so_far = next_point (pairs c.args.nodes.now) c.requires.named points i none c.loop-point.shares.items _ c.loop-point.from _ c.index_mut.result.now
+      so_far = next_point
+          (pairs c.args.nodes.now) c.requires.named points i none c.loop-point.shares.items _ c.loop-point.from _ c.index_mut.result.now
           c.loop-point-test.true there so_far.so_far so_far.from_is (omega (arith, so_far.from_is, c.from-to.ensures, low))
           (ap (λ n. n + 1) c.from-to.ensures) c.index_mut.ensures.value refl;
       from_is = ap (λ n. n + 1) c.from-to.ensures ∙ sym (last_end points i none c.loop-point-test.true);
@@ -33,7 +39,8 @@ returns-clause-each g c = λ _.
     let so_far = c.loop-point.invariant in
     let first = first_read points c.in-Some.first.now c.in-Some.ensures.value in
     let there = node_there g.H.Piecewise.hash_of (pairs c.args.nodes.now) points c.requires c.in-Some.first.now first.0 first.1 in
-    let last = last_places (pairs c.args.nodes.now) c.requires.named points c.loop-point.point-index c.in-Some.first.now c.loop-point.shares.items _ c.loop-point.from c.index_mut-2.result.now
+    let last = last_places
+    (pairs c.args.nodes.now) c.requires.named points c.loop-point.point-index c.in-Some.first.now c.loop-point.shares.items _ c.loop-point.from c.index_mut-2.result.now
     c.loop-point-test.false there so_far.so_far so_far.from_is so_far.small c.index_mut-2.ensures.value refl in
     whole_ring g.H.Piecewise.hash_of (pairs c.args.nodes.now) points c.requires c.in-Some.first.now first.0 first.1 _ last.0 last.1
 
@@ -43,5 +50,6 @@ returns-clause-all g c = λ _.
     let so_far = c.loop-point.invariant in
     let first = first_read points c.in-Some.first.now c.in-Some.ensures.value in
     let there = node_there g.H.Piecewise.hash_of (pairs c.args.nodes.now) points c.requires c.in-Some.first.now first.0 first.1 in
-    (last_places (pairs c.args.nodes.now) c.requires.named points c.loop-point.point-index c.in-Some.first.now c.loop-point.shares.items _ c.loop-point.from c.index_mut-2.result.now
+    (last_places
+    (pairs c.args.nodes.now) c.requires.named points c.loop-point.point-index c.in-Some.first.now c.loop-point.shares.items _ c.loop-point.from c.index_mut-2.result.now
     c.loop-point-test.false there so_far.so_far so_far.from_is so_far.small c.index_mut-2.ensures.value refl).1.total

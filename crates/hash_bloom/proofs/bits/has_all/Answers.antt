@@ -8,6 +8,8 @@ loop-preserved c =
     let so_far = c.loop.invariant in
     record {
       below = omega arith;
-      at = c.next_place-at.ensures ∙ next_probe c.args.bits c.args.first c.args.second c.loop.counter _ _ c.remainder-step.ensures so_far.at;
-      all = all_more (place c.args.bits c.args.first c.args.second) c.loop.counter c.loop.at so_far.at c.args.words.now so_far.all (search rules);
+      at = c.next_place-at.ensures
+          ∙ next_probe c.args.bits c.args.first c.args.second c.loop.counter _ _ c.remainder-step.ensures so_far.at;
+      all = all_more (place c.args.bits c.args.first c.args.second) c.loop.counter c.loop.at so_far.at c.args.words.now so_far.all
+          (search rules);
     }

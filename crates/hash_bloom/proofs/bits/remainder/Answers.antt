@@ -10,16 +10,19 @@ at_128_bits hash bits inverse h i low some is_inverse is_h is_i =
 
 pub overflow_sub-rest : goal.overflow_sub-rest
 overflow_sub-rest c =
-    (at_128_bits c.args.hash c.args.bits c.args.inverse _ _ (omega arith) c.requires.some c.requires.inverse c.from.ensures c.from-2.ensures).0
+    (at_128_bits c.args.hash c.args.bits c.args.inverse _ _
+    (omega arith) c.requires.some c.requires.inverse c.from.ensures c.from-2.ensures).0
 
 pub returns-then-rest-bits : goal.returns-then-rest-bits
 returns-then-rest-bits c =
-    let near = at_128_bits c.args.hash c.args.bits c.args.inverse _ _ (omega arith) c.requires.some c.requires.inverse c.from.ensures c.from-2.ensures in
+    let near = at_128_bits c.args.hash c.args.bits c.args.inverse _ _
+    (omega arith) c.requires.some c.requires.inverse c.from.ensures c.from-2.ensures in
     rest_is_remainder c.args.hash c.args.bits (c.from.result * c.from-2.result / 2 ^ 64) _ (omega (arith, near.0)) c.if-rest-bits.true
 
 pub returns-else-rest-bits : goal.returns-else-rest-bits
 returns-else-rest-bits c =
-    let near = at_128_bits c.args.hash c.args.bits c.args.inverse _ _ (omega arith) c.requires.some c.requires.inverse c.from.ensures c.from-2.ensures in
+    let near = at_128_bits c.args.hash c.args.bits c.args.inverse _ _
+    (omega arith) c.requires.some c.requires.inverse c.from.ensures c.from-2.ensures in
     let times : ℕ = c.from.result * c.from-2.result / 2 ^ 64 in
     let more : (times + 1) * c.args.bits ≡ times * c.args.bits + c.args.bits = grind arith in
     rest_is_remainder c.args.hash c.args.bits (times + 1) _

@@ -11,7 +11,8 @@ loop-init c =
     record {
       low = first.low;
       high = first.high;
-      near = near_start c.args.above c.args.below c.from.result d c.normalised-mantissa.result.1 c.normalised-mantissa.result.0 (omega arith) c.requires.some c.from.ensures
+      near = near_start c.args.above c.args.below c.from.result d c.normalised-mantissa.result.1 c.normalised-mantissa.result.0
+          (omega arith) c.requires.some c.from.ensures
           (ap (λ b. c.from.result * 2 ^ 62 % 2 ^ 128 / b) below) first.low first.floor first.ceiling;
       few = first.few;
     }
@@ -33,4 +34,5 @@ pub returns-clause-log : goal.returns-clause-log
 returns-clause-log c =
     let so_far = c.loop.invariant in
     let done : c.loop.counter ≡ 28 = omega arith in
-    log_at c.args.above c.args.below c.loop.counter (2 ^ 28) c.loop.log c.loop.mantissa (ap (λ i. 2 ^ i) done) (lit≤ tt) c.requires.some so_far.low so_far.high so_far.near
+    log_at c.args.above c.args.below c.loop.counter (2 ^ 28) c.loop.log c.loop.mantissa (ap (λ i. 2 ^ i) done)
+    (lit≤ tt) c.requires.some so_far.low so_far.high so_far.near

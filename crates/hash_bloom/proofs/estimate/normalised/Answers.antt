@@ -5,7 +5,8 @@ use Rattle.hash_bloom.proofs.estimate.normalised.Goals as goal
 
 -- half of a number, for twice as high a power
 halved : (p m : ℕ) → p * 2 * (m / 2) ≤ p * m
-halved p m = let h : p * (2 * (m / 2)) ≤ p * m = mul-le-mul_left p (omega arith) in let e : p * 2 * (m / 2) ≡ p * (2 * (m / 2)) = grind arith in omega (arith, h, e)
+halved p m = let h : p * (2 * (m / 2)) ≤ p * m = mul-le-mul_left p (omega arith) in let e : p * 2 * (m / 2) ≡ p * (2 * (m / 2)) =
+    grind arith in omega (arith, h, e)
 
 halved_up : (p m : ℕ) → p * (m + 1) ≤ p * 2 * (m / 2 + 1)
 halved_up p m =

@@ -8,6 +8,8 @@ use Rattle.hash_c.proofs.bloom.hashers_bloom_spooky_lookup3_insert.Goals as goal
 
 pub returns : goal.returns
 returns c = subst
-    (λ (f : List ℕ → ℕ). IsInserted f (λ text. lookup3_answer (lookup3_from (0, 0) text)) (filter_of c.args.bits c.args.probes c.args.words.now) (filter_of c.args.bits c.args.probes c.insert.new.words) c.args.key.now c.insert.result)
+    (λ (f : List ℕ → ℕ). IsInserted f (λ text. lookup3_answer (lookup3_from (0, 0) text))
+    (filter_of c.args.bits c.args.probes c.args.words.now)
+    (filter_of c.args.bits c.args.probes c.insert.new.words) c.args.key.now c.insert.result)
     (fun_ext (λ text. search rules))
     c.insert.ensures

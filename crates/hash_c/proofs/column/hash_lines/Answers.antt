@@ -11,15 +11,18 @@ loop-rest-preserved g c =
     let line = c.first_line.result.0.now in
     record {
       so_far = before.so_far ++ line ∷ [];
-      split = before.split ∙ ap (λ l. before.so_far ++ l) c.first_line.ensures.first ∙ sym (append_assoc before.so_far (line ∷ []) (line_texts c.first_line.result.1.now));
+      split = before.split ∙ ap (λ l. before.so_far ++ l) c.first_line.ensures.first
+          ∙ sym (append_assoc before.so_far (line ∷ []) (line_texts c.first_line.result.1.now));
       count = omega (arith, before.count, length_push before.so_far line);
       few = omega (arith, before.few, c.first_line.ensures.shorter);
       written = elim c.if-count-hashes.branch [
         | then-count-hashes w ↦
             w.hashes-is ∙ ap₂ (λ l h. set l c.loop-rest.count h) before.written w.hash.ensures
-            ∙ hashed_one_more g.T.TextHash.hash before.so_far line c.args.hashes.now c.loop-rest.count before.count (omega (arith, w.if-count-hashes.true, c.loop-rest.auto.hashes))
+            ∙ hashed_one_more g.T.TextHash.hash before.so_far line c.args.hashes.now c.loop-rest.count before.count
+            (omega (arith, w.if-count-hashes.true, c.loop-rest.auto.hashes))
         | else-count-hashes w ↦
             w.hashes-is ∙ before.written
-            ∙ hashed_no_more g.T.TextHash.hash before.so_far line c.args.hashes.now c.loop-rest.count before.count (omega (arith, w.if-count-hashes.false, c.loop-rest.auto.hashes))
+            ∙ hashed_no_more g.T.TextHash.hash before.so_far line c.args.hashes.now c.loop-rest.count before.count
+            (omega (arith, w.if-count-hashes.false, c.loop-rest.auto.hashes))
       ];
     }

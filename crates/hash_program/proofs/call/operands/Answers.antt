@@ -18,7 +18,8 @@ loop-i-preserved c =
     ∙ ap (λ w. operands (w.items ∷ later)) (sym c.index-words-i.is)
     ∙ ap (λ t. operands (t ∷ later)) (sym c.as_slice-word.ensures.value)
     ∙ operands_first word.now later (sym c.is_end.ensures ∙ c.if-is_end.false) in
-    let when : (b : Bool) → is_operand word.now ≡ b → operands (texts (drop at words)) ≡ (if b then word.now ∷ operands later else operands later) =
+    let when : (b : Bool) → is_operand word.now ≡ b
+    → operands (texts (drop at words)) ≡ (if b then word.now ∷ operands later else operands later) =
     λ b is. first ∙ ap (λ b. if b then word.now ∷ operands later else operands later) is in
     elim c.if-is_operand.branch [
       | then-is_operand+in_ok-push w ↦

@@ -6,5 +6,8 @@ use Rattle.hash_program.proofs.streams.put.Goals as goal
 pub loop-rest-preserved-in-Ok : goal.loop-rest-preserved-in-Ok
 loop-rest-preserved-in-Ok g c =
     let before = c.loop-rest in
-    let (part, is, appends) = before.invariant in
-    (part ++ take c.in-Ok.n before.rest.now, taken_more part before.rest.now _ c.in-Ok.n is, Appends-trans _ _ _ _ _ appends c.in-Ok.ensures.bytes)
+    let (part, is, appends) = before.invariant in (
+      part ++ take c.in-Ok.n before.rest.now,
+      taken_more part before.rest.now _ c.in-Ok.n is,
+      Appends-trans _ _ _ _ _ appends c.in-Ok.ensures.bytes,
+    )

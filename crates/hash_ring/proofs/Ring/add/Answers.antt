@@ -15,7 +15,8 @@ pub returns-in-Ok-clause-err : goal.returns-in-Ok-clause-err
 returns-in-Ok-clause-err g c = (
   refl,
   λ none.
-      let found = found_read c.self.inside.nodes.items _ c.args.name.items _ c.args.self.now c.self.invariant.named c.self.view_is c.deref.ensures.value c.deref-2.ensures.value c.in-Ok.field-0 c.in-Ok.ensures in
+      let found =
+      found_read c.self.inside.nodes.items _ c.args.name.items _ c.args.self.now c.self.invariant.named c.self.view_is c.deref.ensures.value c.deref-2.ensures.value c.in-Ok.field-0 c.in-Ok.ensures in
       cc,
 )
 
@@ -45,14 +46,19 @@ invariant_of-self-in-Ok-merge_points g c =
     let node : Node = record { name = c.args.name; weight = c.args.weight } in
     let gap = gap_read nodes _ name _ c.args.self.now c.self.invariant.named c.self.view_is c.deref.ensures.value c.deref-2.ensures.value at c.in-Err.ensures in
     let within : at ≤ length nodes = omega (arith, gap.within, length-map nodes pair_of) in
-    let all : pairs c.insert.new.self.items ≡ insert (pairs nodes) at (name, c.args.weight) = ap pairs c.in_default.ensures.items ∙ pairs_insert nodes at node in
-    let its : c.index.result.now ≡ node = put_in nodes at node c.index.result.now within (c.index.ensures ∙ ap (λ ns. get_or ns at c.index.result.now) c.in_default.ensures.items) in
+    let all : pairs c.insert.new.self.items ≡ insert (pairs nodes) at (name, c.args.weight) =
+    ap pairs c.in_default.ensures.items ∙ pairs_insert nodes at node in
+    let its : c.index.result.now ≡ node =
+    put_in nodes at node c.index.result.now within
+    (c.index.ensures ∙ ap (λ ns. get_or ns at c.index.result.now) c.in_default.ensures.items) in
     let old = c.self.inside.points.items in
     let points = c.merge_points.new.points.items in
-    let merged = subst (λ (n : Node). IsPermutation (map (opened_up at) old ++ points_of hash (pair_of n) at) points) its c.in-Ok-merge_points.ensures.merged in
+    let merged = subst (λ (n : Node). IsPermutation
+    (map (opened_up at) old ++ points_of hash (pair_of n) at) points) its c.in-Ok-merge_points.ensures.merged in
     subst (λ es. IsRing hash es points) (sym all)
     (ring_with hash (pairs nodes) name c.args.weight at old points c.self.invariant gap c.requires
-    (ArePoints-permutation hash _ _ points merged (ArePoints-insert hash (pairs nodes) at (name, c.args.weight) gap.within old c.self.invariant.just))
+    (ArePoints-permutation hash _ _ points merged
+    (ArePoints-insert hash (pairs nodes) at (name, c.args.weight) gap.within old c.self.invariant.just))
     c.in-Ok-merge_points.ensures.ordered)
 
 pub returns-in-Ok-merge_points-clause-added : goal.returns-in-Ok-merge_points-clause-added
@@ -62,7 +68,8 @@ returns-in-Ok-merge_points-clause-added g c =
     let w = c.args.weight in
     let at = c.in-Err.at in
     let gap = gap_read nodes _ name _ c.args.self.now c.self.invariant.named c.self.view_is c.deref.ensures.value c.deref-2.ensures.value at c.in-Err.ensures in
-    let all : pairs c.insert.new.self.items ≡ insert (pairs nodes) at (name, w) = ap pairs c.in_default.ensures.items ∙ pairs_insert nodes at (record { name = c.args.name; weight = w }) in
+    let all : pairs c.insert.new.self.items ≡ insert (pairs nodes) at (name, w) =
+    ap pairs c.in_default.ensures.items ∙ pairs_insert nodes at (record { name = c.args.name; weight = w }) in
     ap nodes_of all ∙ inserted (pairs nodes) c.self.invariant.named name w at gap ∙ ap (λ m. fin.insert m name w) c.self.view_is
 
 pub returns-in-Ok-merge_points-clause-new : goal.returns-in-Ok-merge_points-clause-new
@@ -76,6 +83,8 @@ returns-in-Err-merge_points-clause-err g c =
     let at = c.in-Err.at in
     let gap = gap_read nodes _ c.args.name.items _ c.args.self.now c.self.invariant.named c.self.view_is c.deref.ensures.value c.deref-2.ensures.value at c.in-Err.ensures in
     let within : at ≤ length nodes = omega (arith, gap.within, length-map nodes pair_of) in (
-      ap (λ (node : Node). node.name) (c.remove.ensures.value ∙ ap (λ ns. get_or ns at c.remove.result) c.in_default.ensures.items ∙ get_or-insert_at nodes at node c.remove.result within),
+      ap (λ (node : Node). node.name)
+          (c.remove.ensures.value ∙ ap (λ ns. get_or ns at c.remove.result) c.in_default.ensures.items
+          ∙ get_or-insert_at nodes at node c.remove.result within),
       absent_read nodes _ c.args.name.items _ c.args.self.now c.self.invariant.named c.self.view_is c.deref.ensures.value c.deref-2.ensures.value at c.in-Err.ensures,
     )

@@ -8,4 +8,5 @@ use Rattle.hash_ring.proofs.Ring.len.Goals as goal
 pub returns : goal.returns
 returns g c =
     let nodes = c.self.inside.nodes in
-    c.len.ensures ∙ nodes.ok.0 ∙ sym (length-map nodes.items pair_of) ∙ sym (ap length (entries_are _ c.self.invariant.named)) ∙ sym (fin.len-entries _) ∙ ap fin.len c.self.view_is
+    c.len.ensures ∙ nodes.ok.0 ∙ sym (length-map nodes.items pair_of) ∙ sym (ap length (entries_are _ c.self.invariant.named))
+    ∙ sym (fin.len-entries _) ∙ ap fin.len c.self.view_is

@@ -8,10 +8,12 @@ use Rattle.hash_ring.proofs.Edits.{pairs_remove, ring_without}
 use Rattle.hash_ring.proofs.Ring.remove.Goals as goal
 
 pub returns-in_default-clause-value : goal.returns-in_default-clause-value
-returns-in_default-clause-value g c = sym (absent_read c.self.inside.nodes.items _ c.args.name.now _ c.args.self.now c.self.invariant.named c.self.view_is c.deref.ensures.value refl c.in_default.field-0 c.in_default.ensures)
+returns-in_default-clause-value g c =
+    sym (absent_read c.self.inside.nodes.items _ c.args.name.now _ c.args.self.now c.self.invariant.named c.self.view_is c.deref.ensures.value refl c.in_default.field-0 c.in_default.ensures)
 
 pub returns-in_default-clause-removed : goal.returns-in_default-clause-removed
-returns-in_default-clause-removed g c = none_unchanged c.self.inside.nodes.items _ c.args.name.now _ c.args.self.now c.self.invariant.named c.self.view_is c.deref.ensures.value refl c.in_default.field-0 c.in_default.ensures
+returns-in_default-clause-removed g c =
+    none_unchanged c.self.inside.nodes.items _ c.args.name.now _ c.args.self.now c.self.invariant.named c.self.view_is c.deref.ensures.value refl c.in_default.field-0 c.in_default.ensures
 
 pub invariant_of-self : goal.invariant_of-self
 invariant_of-self g c =
@@ -19,24 +21,29 @@ invariant_of-self g c =
     let nodes = c.self.inside.nodes.items in
     let points = c.self.inside.points.items in
     let gone = c.in-Ok.gone in
-    let place = place_read nodes _ c.args.name.now _ c.args.self.now c.self.invariant.named c.self.view_is c.deref.ensures.value refl gone c.in-Ok.ensures in
+    let place =
+    place_read nodes _ c.args.name.now _ c.args.self.now c.self.invariant.named c.self.view_is c.deref.ensures.value refl gone c.in-Ok.ensures in
     subst (λ es. IsRing hash es c.take_points.new.points.items) (sym (ap pairs c.remove.ensures.items ∙ pairs_remove nodes gone))
-    (subst (IsRing hash (remove (pairs nodes) gone)) (sym c.take_points.ensures) (ring_without hash (pairs nodes) gone place.below points c.self.invariant))
+    (subst (IsRing hash (remove (pairs nodes) gone)) (sym c.take_points.ensures)
+    (ring_without hash (pairs nodes) gone place.below points c.self.invariant))
 
 pub returns-clause-value : goal.returns-clause-value
 returns-clause-value g c =
     let nodes = c.self.inside.nodes.items in
     let gone = c.in-Ok.gone in
-    let place = place_read nodes _ c.args.name.now _ c.args.self.now c.self.invariant.named c.self.view_is c.deref.ensures.value refl gone c.in-Ok.ensures in
+    let place =
+    place_read nodes _ c.args.name.now _ c.args.self.now c.self.invariant.named c.self.view_is c.deref.ensures.value refl gone c.in-Ok.ensures in
     let node = c.remove.result in
     let below : gone < length nodes = omega (arith, place.below, length-map nodes pair_of) in
-    let read : node_at (pairs nodes) gone ≡ pair_of node = get_or-map pair_of nodes gone node ([], 0) below ∙ ap pair_of (sym c.remove.ensures.value) in
+    let read : node_at (pairs nodes) gone ≡ pair_of node =
+    get_or-map pair_of nodes gone node ([], 0) below ∙ ap pair_of (sym c.remove.ensures.value) in
     sym (found_read nodes _ c.args.name.now _ c.args.self.now c.self.invariant.named c.self.view_is c.deref.ensures.value refl gone c.in-Ok.ensures ∙ ap (λ node. Some node.1) read)
 
 pub returns-clause-removed : goal.returns-clause-removed
 returns-clause-removed g c =
     let nodes = c.self.inside.nodes.items in
     let gone = c.in-Ok.gone in
-    let place = place_read nodes _ c.args.name.now _ c.args.self.now c.self.invariant.named c.self.view_is c.deref.ensures.value refl gone c.in-Ok.ensures in
+    let place =
+    place_read nodes _ c.args.name.now _ c.args.self.now c.self.invariant.named c.self.view_is c.deref.ensures.value refl gone c.in-Ok.ensures in
     ap nodes_of (ap pairs c.remove.ensures.items ∙ pairs_remove nodes gone) ∙ removed (pairs nodes) c.self.invariant.named gone place.below
     ∙ (λ i. fin.remove (c.self.view_is i) (place.is i))

@@ -10,17 +10,20 @@ use Rattle.hash_ring.proofs.Owners.{no_points}
 use Rattle.hash_ring.proofs.Ring.shares.Goals as goal
 
 -- where there is a node there is a point
-some_point : (hash : List ℕ → ℕ) (es : Pairs) (points read : List Point) (m : Nodes) → IsRing hash es points → nodes_of es ≡ m → read ≡ points → m ≢ fin.empty → 0 < length read
+some_point : (hash : List ℕ → ℕ) (es : Pairs) (points read : List Point) (m : Nodes) → IsRing hash es points → nodes_of es ≡ m
+    → read ≡ points → m ≢ fin.empty → 0 < length read
 some_point hash es points read m ring view is some = ⊎_elim
     (λ (low : 0 < length read). low)
-    (λ (high : length read ≤ 0). let same = ap length is in absurd (some (sym view ∙ no_points hash es points ring (omega (arith, high, same)))))
+    (λ (high : length read ≤ 0). let same = ap length is in absurd
+    (some (sym view ∙ no_points hash es points ring (omega (arith, high, same)))))
     (cases_lt 0 (length read))
 
 pub returns-clause-each : goal.returns-clause-each
 returns-clause-each g c = λ some.
     let hash = g.H.Piecewise.hash_of in
     let there = some_point hash _ _ _ _ c.self.invariant c.self.view_is c.deref-2.ensures.value some in
-    subst (λ m. AreShares hash m c.in_ok-shares.shares.items) (ap (λ nodes. nodes_of (pairs nodes)) c.deref.ensures.value ∙ c.self.view_is) (c.in_ok-shares.ensures.each there)
+    subst (λ m. AreShares hash m c.in_ok-shares.shares.items)
+    (ap (λ nodes. nodes_of (pairs nodes)) c.deref.ensures.value ∙ c.self.view_is) (c.in_ok-shares.ensures.each there)
 
 pub returns-clause-all : goal.returns-clause-all
 returns-clause-all g c = λ some.
@@ -29,5 +32,6 @@ returns-clause-all g c = λ some.
 pub returns-clause-count : goal.returns-clause-count
 returns-clause-count g c =
     let nodes = c.self.inside.nodes in
-    c.in_ok-shares.ensures.count ∙ ap length c.deref.ensures.value ∙ sym (length-map nodes.items pair_of) ∙ sym (ap length (entries_are _ c.self.invariant.named))
+    c.in_ok-shares.ensures.count ∙ ap length c.deref.ensures.value ∙ sym (length-map nodes.items pair_of)
+    ∙ sym (ap length (entries_are _ c.self.invariant.named))
     ∙ sym (fin.len-entries _) ∙ ap fin.len c.self.view_is

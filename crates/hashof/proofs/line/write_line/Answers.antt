@@ -9,4 +9,5 @@ on_err P (Err error) holds = holds
 
 pub returns-in_err-put-clause-err : goal.returns-in_err-put-clause-err
 returns-in_err-put-clause-err g c =
-    on_err _ c.from_residual.result (subst (AppendsPart (g.W.Write.contents c.args.w.now) (g.W.Write.contents c.put.new.w)) c.put_line.ensures c.in_err-put.ensures.err)
+    on_err _ c.from_residual.result
+    (subst (AppendsPart (g.W.Write.contents c.args.w.now) (g.W.Write.contents c.put.new.w)) c.put_line.ensures c.in_err-put.ensures.err)

@@ -11,7 +11,8 @@ returns-in-None-clause-absent g c =
 pub returns-then-is_taken-clause-there : goal.returns-then-is_taken-clause-there
 returns-then-is_taken-clause-there g c =
     let s = searched c.args.text.now c.in-Some.at c.self.invariant.1 c.deref.ensures.value c.tag_of-tag.ensures c.in-Some.ensures in
-    subst (λ texts. StandsAt texts c.args.text.now c.index-found.result.now.place) c.self.view_is (seen_at s c.index-found.ensures c.if-is_taken.ensures)
+    subst (λ texts. StandsAt texts c.args.text.now c.index-found.result.now.place) c.self.view_is
+    (seen_at s c.index-found.ensures c.if-is_taken.ensures)
 
 pub returns-else-is_taken-clause-absent : goal.returns-else-is_taken-clause-absent
 returns-else-is_taken-clause-absent g c =
