@@ -1,16 +1,10 @@
 -- The status that each outcome ends with, and what it says on standard error.
 use Rattle.std.specs.Prelude.{ℕ, List, [], codes, Some, None}
 use Rattle.std.specs.IoError.{error_kind}
-use Rattle.std.specs.declared.io.ErrorKind.{ErrorKind}
-use Rattle.std.specs.declared.io.ErrorKind.TheVariants.{BrokenPipe}
+use Rattle.hash_program.specs.About.{write_status}
 use Rattle.dedup.specs.declared.fault.Fault.TheVariants.{Write, NoMemory, TooManyTexts}
 use Rattle.dedup.specs.declared.outcome.Outcome.{Outcome}
 use Rattle.dedup.specs.declared.outcome.Outcome.TheVariants as outcome
-
--- 141 is what a shell tells of a program that a write to a closed pipe ended
-abbrev pub write_status : ErrorKind → ℕ
-write_status BrokenPipe = 141
-write_status kind = 1
 
 abbrev pub status_of : Outcome → ℕ
 status_of outcome.Done = 0

@@ -3,7 +3,6 @@
 #![tactic(auto)]
 
 mod fault;
-mod inputs;
 mod laws;
 mod lines;
 mod once;
@@ -14,14 +13,15 @@ mod task;
 #[cfg(test)]
 mod tests;
 mod unread;
-mod words;
 
 use fault::Fault;
+use hash_program::about::About;
 use hash_program::call::operands;
+use hash_program::inputs::{Told, inputs};
 use hash_program::reason::reason;
+use hash_program::words::words;
 use hash_texts::RandomKeys;
-use inputs::{Told, inputs};
-use outcome::{About, Outcome, outcome_failure, outcome_of, outcome_status, unknown_option};
+use outcome::{Outcome, outcome_failure, outcome_of, outcome_status, unknown_option};
 use std::io;
 use std::io::BufWriter;
 use std::process::ExitCode;
@@ -66,7 +66,11 @@ fn called(rt: &HostRuntime, words: &[Vec<u8>]) -> io::Result<Outcome> {
         about,
         u64::MAX,
         &mut inputs(rt, &names)?,
-        &mut Told { rt, names: &names },
+        &mut Told {
+            rt,
+            program: "dedup",
+            names: &names,
+        },
         &mut BufWriter::with_capacity(alloc, BUFFER, rt.stdout())?,
     ))
 }
@@ -108,7 +112,7 @@ fn complain(rt: &HostRuntime, words: &[Vec<u8>], outcome: &Outcome) {
 
 /// The status of the call.
 fn status(rt: &HostRuntime) -> u8 {
-    let Ok(words) = words::words(rt) else {
+    let Ok(words) = words(rt) else {
         complain(rt, &[], &Outcome::NoMemory);
         return outcome_status(&Outcome::NoMemory);
     };

@@ -6,8 +6,9 @@ ghost use Rattle.dedup.specs.Running.{Ends, run_of};
 
 use crate::fault::Fault;
 use crate::lines::{put_line, text_of};
-use crate::run::{Complaints, Ended, take_inputs};
+use crate::run::{Ended, take_inputs};
 use crate::task::LineTask;
+use hash_program::inputs::Complaints;
 use hash_texts::Texts;
 use std::alloc::Global;
 use std::hash::BuildHasher;

@@ -4,17 +4,20 @@ ghost use Rattle.hash_program.specs.Call.{texts, unknown};
 ghost use Rattle.std.specs.Io.Buffered.{writer_contents};
 ghost use Rattle.dedup.specs.Program.{Exits, Tells, letters, names, of_run, of_telling, task_of, work_of};
 ghost use Rattle.dedup.specs.Running.{run_of};
-ghost use Rattle.dedup.specs.Status.{failure_of, status_of, write_status};
+ghost use Rattle.dedup.specs.Status.{failure_of, status_of};
 
 use crate::fault::Fault;
-use crate::lines::{finish, put};
 use crate::once::dedup;
-use crate::run::{Complaints, Ended};
+use crate::run::Ended;
 use crate::tally::{Which, tally};
+use hash_program::about;
+use hash_program::about::{About, write_status};
 use hash_program::call::{first_unknown, is_given};
+use hash_program::inputs::Complaints;
+use hash_program::streams::TRIES;
 use std::alloc::Global;
 use std::hash::BuildHasher;
-use std::io::{BufWriter, ErrorKind, Read, Write};
+use std::io::{BufWriter, Read, Write};
 
 /// What a call asks for.
 #[derive(Clone, Copy)]
@@ -103,17 +106,10 @@ pub fn task_of(words: &[Vec<u8>]) -> Option<Task>
 fn tell<W: Write + Drop>(text: &str, w: &mut BufWriter<W>) -> Result<(), Fault>
     ensures { Tells text.now (writer_contents W.contents w.old) (writer_contents W.contents w.new) result }
 {
-    put(w, text.as_bytes())?;
-    finish(w)
-}
-
-/// What the program says of itself.
-#[derive(Clone, Copy)]
-pub struct About<'a> {
-    /// How it is called.
-    pub help: &'a str,
-    /// Which version it is.
-    pub version: &'a str,
+    match about::tell(text, w, TRIES) {
+        Ok(()) => Ok(()),
+        Err(error) => Err(Fault::Write(error)),
+    }
 }
 
 /// What came of a run.
@@ -175,16 +171,6 @@ pub fn outcome_failure(outcome: &Outcome) -> &'static str
         Outcome::Failed(Fault::Write(_)) => "write error",
         Outcome::TooManyLines => "too many lines",
         Outcome::Failed(Fault::TooManyTexts) => "too many different lines",
-    }
-}
-
-/// The status of a failed write: 141 where nobody reads any more, as a shell tells of a program that such a write ended.
-fn write_status(kind: ErrorKind) -> u8
-    ensures { result ≡ write_status kind }
-{
-    match kind {
-        ErrorKind::BrokenPipe => 141,
-        _ => 1,
     }
 }
 

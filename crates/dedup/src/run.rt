@@ -10,6 +10,7 @@ use crate::fault::Fault;
 use crate::lines::{finish, take_lines};
 use crate::task::LineTask;
 use crate::unread::{Came, Unread};
+use hash_program::inputs::Complaints;
 use std::alloc::Global;
 use std::io::{BufWriter, Error, Read, Write};
 
@@ -22,12 +23,6 @@ pub enum Ended {
     InputFailed,
     /// There were more lines than the limit. As many as the limit were taken.
     TooManyLines,
-}
-
-/// Who is told of each input that fails.
-pub trait Complaints {
-    /// The input at that place failed with this error.
-    fn failed(&mut self, place: usize, error: &Error);
 }
 
 /// How an input was left.

@@ -9,8 +9,9 @@ ghost use Rattle.hash_program.specs.Streams.{AppendsPart};
 
 use crate::fault::Fault;
 use crate::lines::{finish, put, text_of};
-use crate::run::{Complaints, Ended, take_inputs};
+use crate::run::{Ended, take_inputs};
 use crate::task::LineTask;
+use hash_program::inputs::Complaints;
 use hash_texts::Texts;
 use std::alloc::{AllocError, Global};
 use std::hash::BuildHasher;

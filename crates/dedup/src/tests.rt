@@ -1,9 +1,11 @@
 //! Tests of the program, over readers and writers that cut, fail, and refuse.
 use crate::fault::Fault;
 use crate::once::dedup;
-use crate::outcome::{About, Outcome, outcome_failure, outcome_of, outcome_status};
-use crate::run::{Complaints, Ended};
+use crate::outcome::{Outcome, outcome_failure, outcome_of, outcome_status};
+use crate::run::Ended;
 use crate::tally::{Which, tally};
+use hash_program::about::About;
+use hash_program::inputs::Complaints;
 use hash_texts::Texts;
 use hashers::build::BuildFresh;
 use hashers::fnv::FNV1aHasher64;

@@ -1,3 +1,4 @@
+pub mod About
 pub mod Call
 pub mod Reason
 pub mod Streams

@@ -1,7 +1,10 @@
-//! What a program of this repository needs once: the words of its call, reading and writing that is tried again where it
-//! was interrupted, and the words of an error.
+//! What a program of this repository needs once: the words of its call, what it says of itself, its inputs in order, reading and
+//! writing that is tried again where it was interrupted, the words of an error, and the status of a failed write.
 #![tactic(auto)]
 
+pub mod about;
 pub mod call;
+pub mod inputs;
 pub mod reason;
 pub mod streams;
+pub mod words;

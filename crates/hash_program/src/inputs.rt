@@ -1,12 +1,17 @@
-//! The inputs of a call.
+//! The inputs of a call, in their order: files by their names, and standard input. Each that fails is told by its name and with the reason.
 ghost use Rattle.std.specs.Io.{ReadsAtMost};
 
-use crate::run::Complaints;
-use hash_program::reason::reason;
+use crate::reason::reason;
 use std::alloc::AllocError;
 use std::fs::File;
 use std::io;
 use std::io::{Error, ErrorKind, Read, Stdin};
+
+/// Who is told of each input that fails.
+pub trait Complaints {
+    /// The input at that place failed with this error.
+    fn failed(&mut self, place: usize, error: &Error);
+}
 
 /// What is read of an input.
 #[derive(Drop)]
@@ -103,10 +108,14 @@ impl Read for Input<'_> {
     }
 }
 
-/// Says on standard error which input failed, and why.
+/// Says on standard error which input failed, and why, behind the program's name.
 #[derive(Drop)]
 pub struct Told<'r, 'n> {
+    /// The runtime.
     pub rt: &'r HostRuntime,
+    /// The program's name.
+    pub program: &'static str,
+    /// The names of the inputs.
     pub names: &'n [&'n [u8]],
 }
 
@@ -119,9 +128,9 @@ impl Complaints for Told<'_, '_> {
         let alloc = self.rt.alloc();
         let (Ok(name), Ok(why)) = (String::from_utf8_lossy(alloc, name), reason(alloc, error))
         else {
-            let _ = eprintln!(self.rt; "dedup: out of memory");
+            let _ = eprintln!(self.rt; "{}: out of memory", self.program);
             return;
         };
-        let _ = eprintln!(self.rt; "dedup: {name}: {why}");
+        let _ = eprintln!(self.rt; "{}: {name}: {why}", self.program);
     }
 }
