@@ -139,7 +139,7 @@ pub fn take_lines<T: LineTask, W: Write>(
     let mut ahead = [0; AHEAD];
     for count in 0..most {
         let turn = (count % AHEAD as u64) as usize;
-        if turn == 0 {
+        if T::GUESSES && turn == 0 {
             ahead = guesses(task, rest, eol);
         }
         match line_end(rest, eol) {

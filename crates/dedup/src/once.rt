@@ -25,6 +25,8 @@ impl<S: BuildHasher + Drop> LineTask for Once<S> {
 
     ghost output = { once_by };
 
+    const GUESSES: bool = true;
+
     #[inline(always)]
     fn guess(&self, text: &[u8]) -> usize {
         self.seen.guess(text)
