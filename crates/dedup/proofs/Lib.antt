@@ -8,3 +8,4 @@ pub mod RunLemmas
 pub mod SeenLemmas
 pub mod TallyLemmas
 pub mod UnreadLemmas
+mod AheadLemmas

@@ -1,11 +1,11 @@
 -- Lines of a text that grows, and the first of each.
-use Rattle.std.proofs.Common.{suc, subst, Some, ◌≡◌, ◌≢◌, ℕ, ◌+◌, ◌-◌, ◌<◌, ◌≤◌, Bool, true, false, cond, not, ◌||◌, ◌&&◌, if◌then◌else◌, ◌==◌, List, [], ◌∷◌, ◌++◌, length, get_or, take, drop, take-append-drop, append_assoc, All, ap, sym, ◌∙◌, refl, arith}
+use Rattle.std.proofs.Common.{suc, subst, Some, ◌≡◌, ◌≢◌, ℕ, ◌+◌, ◌-◌, ◌<◌, ◌≤◌, Bool, true, false, cond, not, ◌||◌, ◌&&◌, if◌then◌else◌, ◌==◌, List, [], ◌∷◌, ◌++◌, length, get_or, take, All, ap, sym, ◌∙◌, refl, arith}
 use Rattle.std.specs.Io.{StopsAt}
 use Rattle.std.specs.Io.BufRead.{ends_with_byte, strip_last}
 use Rattle.std.specs.List.{filter, flat_map, list_any, onto_first}
 use Rattle.std.proofs.lemmas.Bool.{eqb-true, ne_eqb, eq-eqb, lt-ltb, false≢true}
 use Rattle.std.proofs.lemmas.Cmp.{nat_list_eq_equiv}
-use Rattle.std.proofs.lemmas.List.{append-nil, take_all, take_more, take_rest, get_or-take, get_or_default, length-take, length-take-le}
+use Rattle.std.proofs.lemmas.List.{append-nil, take_all, take_more, get_or-take, get_or_default, length-take, length-take-le}
 use Rattle.std.proofs.lemmas.Grind.{flat_map-append, get_or_tail}
 use Rattle.std.proofs.lemmas.List.Elements.{All-head, All-tail, filter-append}
 use Rattle.dedup.specs.Between.{IsBare, IsLineEnd}
@@ -168,13 +168,6 @@ module _ (eol : ℕ) where
       at false [] = omega arith
       at false (line ∷ ls) = omega arith
 
--- what is written and what is left of some bytes, after more of them
-pub taken_more : (part rest bytes : List ℕ) (n : ℕ) → part ++ rest ≡ bytes
-    → (part ++ take n rest) ++ take (length rest - n) (drop n rest) ≡ bytes
-taken_more part rest bytes n is =
-    ap (λ t. (part ++ take n rest) ++ t) (take_rest rest n) ∙ append_assoc part (take n rest) (drop n rest)
-    ∙ ap (λ t. part ++ t) (take-append-drop n rest) ∙ is
-
 module _ (eol : ℕ) where
   -- what a line adds
   pub once_more : (ls : List (List ℕ)) (line : List ℕ)
@@ -194,7 +187,7 @@ module _ (eol : ℕ) where
       (flat_map (as_line_by eol) rest, ap (flat_map (as_line_by eol)) is ∙ flat_map-append (as_line_by eol) (firsts_by eol ls) rest)
 
   -- the bytes through the first end are a line
-  pub line_through : (rest : List ℕ) (n : ℕ) → IsLineEnd eol rest (Some n) → StopsAt (take (n + 1) rest) eol
+  line_through : (rest : List ℕ) (n : ℕ) → IsLineEnd eol rest (Some n) → StopsAt (take (n + 1) rest) eol
       × (0 < length (take (n + 1) rest)) × (ends_with_byte eol (take (n + 1) rest) ≡ true)
   line_through rest n (below, is, before) =
       let long : length (take (n + 1) rest) ≡ n + 1 = length-take-le (n + 1) rest (omega arith) in
@@ -215,3 +208,8 @@ module _ (eol : ℕ) where
     where
       one_less : (n : ℕ) → n + 1 - 1 ≡ n
       one_less n = omega arith
+
+  pub line_before : (rest line : List ℕ) (n : ℕ) → line ≡ take (n + 1) rest → IsLineEnd eol rest (Some n)
+      → StopsAt line eol × (0 < length line) × (ends_with_byte eol line ≡ true)
+  line_before rest line n front end =
+      subst (λ l. StopsAt l eol × (0 < length l) × (ends_with_byte eol l ≡ true)) (sym front) (line_through rest n end)

@@ -15,6 +15,7 @@ use Rattle.dedup.specs.Lines.{AreSeen, as_line_by, once_by}
 use Rattle.dedup.specs.Taking.{LeadsOn, StopsWithin}
 use Rattle.dedup.proofs.LineLemmas.{once_more}
 use Rattle.hash_texts.specs.Texts.{has, with_text}
+use Rattle.hash_texts.proofs.SlotLemmas.{has_more}
 
 -- a text that is seen adds nothing
 pub has_already : (seen : List (List ℕ)) (text : List ℕ) → has seen text ≡ true → (other : List ℕ)
@@ -30,15 +31,9 @@ pub has_seen : (seen seen' : List (List ℕ)) (text : List ℕ) → seen' ≡ wi
     → has seen' other ≡ (bytes_eq other text || has seen other)
 has_seen seen seen' text is other = ap (λ s. has s other) is ∙ at (has seen text) refl
   where
-    swapped : (a b : Bool) → (a || (b || false)) ≡ (b || a)
-    swapped true true = refl
-    swapped true false = refl
-    swapped false true = refl
-    swapped false false = refl
-
     at : (b : Bool) → has seen text ≡ b → has (cond b seen (seen ++ text ∷ [])) other ≡ (bytes_eq other text || has seen other)
     at true there = has_already seen text there other
-    at false new = list_any-append (bytes_eq other) seen (text ∷ []) ∙ swapped (has seen other) (bytes_eq other text)
+    at false new = has_more seen text other
 
 -- what is told to be new is not there, and what is told to be old is
 pub not_there : (there new : Bool) → new ≡ not there → new ≡ true → there ≡ false

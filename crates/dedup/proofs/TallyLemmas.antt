@@ -1,17 +1,26 @@
 -- Texts by their places, and how often each came.
-use Rattle.std.proofs.Common.{zero, suc, ◌≡◌, ℕ, ◌+◌, ◌<◌, ◌≤◌, Bool, true, false, cond, List, [], ◌∷◌, ◌++◌, length, get_or, set, map, ap, sym, ◌∙◌, refl, arith, add-zero, zero-add}
+use Rattle.std.proofs.Common.{zero, suc, ◌≡◌, ℕ, ◌+◌, ◌<◌, ◌≤◌, Bool, true, false, cond, List, [], ◌∷◌, ◌++◌, length, get_or, slice_index_or, set, map, ap, sym, ◌∙◌, refl, arith, add-zero, zero-add}
 use Rattle.std.specs.Io.BufRead.{strip_last}
 use Rattle.std.specs.List.{list_any, count_by}
 use Rattle.std.specs.Str.{bytes_eq}
 use Rattle.std.proofs.lemmas.Bool.{or_parts}
 use Rattle.std.proofs.lemmas.Cmp.{nat_list_eq_equiv}
-use Rattle.std.proofs.lemmas.List.{map-append, length-map, get_or-map}
+use Rattle.std.proofs.lemmas.List.{map-append, length-map, get_or-map, get_or_default}
 use Rattle.std.proofs.lemmas.List.Sums.{sum_by-append, count_by-le-length}
 use Rattle.dedup.specs.Lines.{same_text_by, firsts_by}
 use Rattle.dedup.specs.Tallies.{texts, Tallies}
 use Rattle.hash_texts.specs.Texts.{StandsAt, has, with_text}
 use Rattle.dedup.proofs.FirstsLemmas.{Apart, any-same, any_firsts, any_texts, firsts_apart, same-congr}
 use Rattle.dedup.proofs.LineLemmas.{firsts_with_new, firsts_with_seen, same_text-symm}
+
+-- the count that is read at the place of a text that was there
+pub counted_place : (old new : List (List ℕ)) (text times : List ℕ) (place count : ℕ) → has old text ≡ true → new ≡ with_text old text
+    → StandsAt new text place → length old ≡ length times → count ≡ slice_index_or times place count
+    → (place < length times) × (count ≡ get_or times place 0)
+counted_place old new text times place count there is stands many read =
+    let same : new ≡ old = is ∙ ap (λ b. cond b old (old ++ text ∷ [])) there in
+    let below : place < length times = omega (arith, stands.0, ap length same, many) in
+    (below, read ∙ get_or_default times place count 0 below)
 
 -- ---- how often a text comes
 

@@ -1,5 +1,5 @@
 -- Lines among the bytes that were read.
-use Rattle.std.specs.Prelude.{ℕ, ◌≡◌, ◌≢◌, ◌<◌, Option, None, Some, List, ◌++◌, ◌≤◌, length, take, drop, slice_index}
+use Rattle.std.specs.Prelude.{ℕ, ◌≡◌, ◌≢◌, ◌<◌, ◌+◌, Option, None, Some, List, [], ◌∷◌, ◌++◌, ◌≤◌, length, take, drop, slice_index}
 use Rattle.std.specs.Io.KnownBytes.{Consumes, IsAtEnd}
 use Rattle.dedup.specs.Inputs.{whole_lines}
 use Rattle.dedup.specs.Lines.{lines_by}
@@ -14,6 +14,11 @@ IsBare eol bytes = (k : ℕ) → k < length bytes → slice_index bytes k ≢ eo
 abbrev pub IsLineEnd : (eol : ℕ) → List ℕ → Option ℕ → Type 0
 IsLineEnd eol bytes None = IsBare eol bytes
 IsLineEnd eol bytes (Some n) = (n < length bytes) × (slice_index bytes n ≡ eol) × ((k : ℕ) → k < n → slice_index bytes k ≢ eol)
+
+-- the first lines of the bytes have so many bytes before their ends
+abbrev pub AreNext : (eol : ℕ) → (bytes : List ℕ) → (lens : List ℕ) → Type 0
+AreNext eol bytes [] = Unit {0}
+AreNext eol bytes (len ∷ more) = IsLineEnd eol bytes (Some len) × AreNext eol (drop (len + 1) bytes) more
 
 -- what comes behind the text are other lines, and each of its own has its end
 pub record IsWhole (eol : ℕ) (text : List ℕ) : Type 0 where

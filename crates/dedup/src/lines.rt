@@ -10,6 +10,7 @@ ghost use Rattle.dedup.specs.Lines.{as_line_by, lines_by};
 ghost use Rattle.dedup.specs.Taking.{BreaksOff, Grows, LeadsOn};
 ghost use Rattle.hash_program.specs.Streams.{AppendsPart};
 
+use crate::ahead::Ahead;
 use crate::fault::Fault;
 use crate::task::LineTask;
 use hash_program::streams;
@@ -96,28 +97,6 @@ pub fn line_end(bytes: &[u8], eol: u8) -> Option<usize>
     None
 }
 
-/// How many lines are guessed at before the first of them is taken, so that the waits for memory overlap.
-const AHEAD: usize = 16;
-
-/// Where the texts of the first lines may be known.
-fn guesses<T: LineTask>(task: &T, bytes: &[u8], eol: u8) -> [usize; AHEAD] {
-    let mut guesses = [0; AHEAD];
-    let mut rest = bytes;
-    for guess in &mut guesses {
-        match line_end(rest, eol) {
-            Some(n) => {
-                let (text, later) = rest.split_at(n);
-                *guess = task.guess(text);
-                if let [_, more @ ..] = later {
-                    rest = more;
-                }
-            }
-            None => return guesses,
-        }
-    }
-    guesses
-}
-
 /// Has the first lines taken, up to so many. Answers how many lines those are, each with its end, and how many bytes they
 /// have together.
 pub fn take_lines<T: LineTask, W: Write>(
@@ -136,16 +115,12 @@ pub fn take_lines<T: LineTask, W: Write>(
         (W.contents w.old) (W.contents w.new)) }
 {
     let mut rest = bytes;
-    let mut ahead = [0; AHEAD];
+    let mut ahead = Ahead::new();
     for count in 0..most {
-        let turn = (count % AHEAD as u64) as usize;
-        if T::GUESSES && turn == 0 {
-            ahead = guesses(task, rest, eol);
-        }
-        match line_end(rest, eol) {
-            Some(n) => {
-                let (line, later) = rest.split_at(n + 1);
-                task.take_line(line, eol, ahead[turn], w)?;
+        match ahead.next(task, rest, eol) {
+            Some(found) => {
+                let (line, later) = rest.split_at(found.len + 1);
+                task.take_line(line, eol, found.guess, w)?;
                 rest = later;
             }
             None => return Ok((count, bytes.len() - rest.len())),

@@ -2,6 +2,7 @@
 //! often it came, `dedup -d` those that came more than once, and `dedup -u` those that came once.
 #![tactic(auto)]
 
+mod ahead;
 mod fault;
 mod laws;
 mod lines;

@@ -25,7 +25,10 @@ impl<S: BuildHasher + Drop> LineTask for Once<S> {
 
     ghost output = { once_by };
 
-    const GUESSES: bool = true;
+    #[inline(always)]
+    fn waits_for_memory(&self) -> bool {
+        self.seen.waits_for_memory()
+    }
 
     #[inline(always)]
     fn guess(&self, text: &[u8]) -> usize {

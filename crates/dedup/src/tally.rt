@@ -54,13 +54,14 @@ fn count<S: BuildHasher + Drop>(
     texts: &mut Texts<S>,
     times: &mut Vec<u64>,
     text: &[u8],
+    guess: usize,
 ) -> Result<(), Fault>
     requires { (eol : ℕ) × (ls : List (List ℕ)) × Tallies eol ls texts.old times.old.items × (length ls < u64.MAX) }
     ensures { OnOk result ((eol : ℕ) (ls : List (List ℕ)) (line : List ℕ) → strip_last eol line ≡ text.now
         → Tallies eol ls texts.old times.old.items
         → Tallies eol (ls ++ line ∷ []) texts.new times.new.items) }
 {
-    let seen = texts.see(text)?;
+    let seen = texts.see_at(text, guess)?;
     if seen.is_new {
         return match times.push(1) {
             Ok(()) => Ok(()),
@@ -76,11 +77,14 @@ impl<S: BuildHasher + Drop> LineTask for Counts<S> {
 
     ghost output = { λ eol ls. [] };
 
-    const GUESSES: bool = false;
+    #[inline(always)]
+    fn waits_for_memory(&self) -> bool {
+        self.texts.waits_for_memory()
+    }
 
     #[inline(always)]
-    fn guess(&self, _text: &[u8]) -> usize {
-        0
+    fn guess(&self, text: &[u8]) -> usize {
+        self.texts.guess(text)
     }
 
     #[inline(always)]
@@ -88,10 +92,10 @@ impl<S: BuildHasher + Drop> LineTask for Counts<S> {
         &mut self,
         line: &[u8],
         eol: u8,
-        _guess: usize,
+        guess: usize,
         _w: &mut W,
     ) -> Result<(), Fault> {
-        count(&mut self.texts, &mut self.times, text_of(line, eol))
+        count(&mut self.texts, &mut self.times, text_of(line, eol), guess)
     }
 }
 

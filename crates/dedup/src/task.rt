@@ -13,8 +13,8 @@ pub trait LineTask {
     /// What it has written by then.
     ghost output: { (eol : ℕ) → List (List ℕ) → List ℕ };
 
-    /// Whether it pays to guess for some lines ahead, so that the waits for memory overlap.
-    const GUESSES: bool;
+    /// Whether it pays to guess for some lines before the first of them is taken. No result depends on it.
+    fn waits_for_memory(&self) -> bool;
 
     /// A place at which the text may be known. No result depends on it.
     fn guess(&self, text: &[u8]) -> usize;

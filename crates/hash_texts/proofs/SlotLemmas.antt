@@ -150,6 +150,34 @@ some_more test slots place slot within free taken =
 
 -- ---- what a search for a text finds
 
+-- where a slot has the text, a search would end at one that is taken and has the text's tag
+stops_somewhere : (tag : List ℕ → ℕ) (texts : List (List ℕ)) (slots : List Slot) (room : ℕ) → IsTable tag texts slots room
+    → (text : List ℕ)
+    → list_any (λ s. is_taken s && bytes_eq text (text_of texts s)) slots ≡ true
+    → (k : ℕ) × (k < length slots) × (is_taken (get_or slots k EMPTY) ≡ true) × ((get_or slots k EMPTY).tag ≡ tag text)
+    × (stops texts (tag text) text (get_or slots k EMPTY) ≡ true)
+stops_somewhere tag texts slots room table text there = at (Any-from_list_any (λ s. is_taken s && bytes_eq text (text_of texts s)) slots there)
+  where
+    at : Any (λ s. (is_taken s && bytes_eq text (text_of texts s)) ≡ true) slots
+        → (k : ℕ) × (k < length slots) × (is_taken (get_or slots k EMPTY) ≡ true) × ((get_or slots k EMPTY).tag ≡ tag text)
+        × (stops texts (tag text) text (get_or slots k EMPTY) ≡ true)
+    at (k, d, below, is, passes) =
+        let slot : Slot = get_or slots k EMPTY in
+        let it : slot ≡ d = get_or_default slots k EMPTY d below ∙ is in
+        let passed : (is_taken slot && bytes_eq text (text_of texts slot)) ≡ true =
+        ap (λ s. is_taken s && bytes_eq text (text_of texts s)) it ∙ passes in
+        let taken : is_taken slot ≡ true = (and_parts _ _ passed).0 in
+        let same : bytes_eq text (text_of texts slot) ≡ true = (and_parts _ _ passed).1 in
+        let tagged : slot.tag ≡ tag text =
+        table.tagged k EMPTY below taken ∙ ap tag (sym ((bytes_eq-Decides text (text_of texts slot)).0 same)) in (
+          k,
+          below,
+          taken,
+          tagged,
+          ap (λ b. not b || ((slot.tag == tag text) && bytes_eq text (text_of texts slot))) taken
+              ∙ ap (λ b. b && bytes_eq text (text_of texts slot)) (eq-eqb _ _ tagged) ∙ same,
+        )
+
 module _ (tag : List ℕ → ℕ) (texts : List (List ℕ)) (slots : List Slot) (room : ℕ) (table : IsTable tag texts slots room) (text : List ℕ)
     (place : ℕ)
     (first : FirstRound (stops texts (tag text) text) slots (home_of (length slots) (tag text)) (Some place)) where
@@ -176,31 +204,18 @@ module _ (tag : List ℕ → ℕ) (texts : List (List ℕ)) (slots : List Slot) 
   pub has_not_found : is_taken (get_or slots place EMPTY) ≡ false → has texts text ≡ false
   has_not_found free =
       table.holds text ∙ false_from_ne_true _
-      (λ there. at (Any-from_list_any (λ s. is_taken s && bytes_eq text (text_of texts s)) slots there))
-    where
-      at : Any (λ s. (is_taken s && bytes_eq text (text_of texts s)) ≡ true) slots → ⊥
-      at (k, d, below, is, passes) =
-          let slot : Slot = get_or slots k EMPTY in
-          let it : slot ≡ d = get_or_default slots k EMPTY d below ∙ is in
-          let passed : (is_taken slot && bytes_eq text (text_of texts slot)) ≡ true =
-          ap (λ s. is_taken s && bytes_eq text (text_of texts s)) it ∙ passes in
-          let taken : is_taken slot ≡ true = (and_parts _ _ passed).0 in
-          let same : bytes_eq text (text_of texts slot) ≡ true = (and_parts _ _ passed).1 in
-          let tagged : slot.tag ≡ tag text =
-          table.tagged k EMPTY below taken ∙ ap tag (sym ((bytes_eq-Decides text (text_of texts slot)).0 same)) in
-          let found : HoldsUpTo (λ j. is_taken (get_or slots j EMPTY) ≡ true) (length slots) (home_of (length slots) (tag text)) k =
-          subst (λ t. HoldsUpTo (λ j. is_taken (get_or slots j EMPTY) ≡ true) (length slots) (home_of (length slots) t) k) tagged
-          (table.found k below taken) in
-          let ends : stops texts (tag text) text slot ≡ true =
-          ap (λ b. not b || ((slot.tag == tag text) && bytes_eq text (text_of texts slot))) taken
-          ∙ ap (λ b. b && bytes_eq text (text_of texts slot)) (eq-eqb _ _ tagged) ∙ same in
-          elim (one_comes_first (λ j. stops texts (tag text) text (get_or slots j EMPTY) ≡ false)
-          (λ j. is_taken (get_or slots j EMPTY) ≡ true) (length slots)
-          (home_of (length slots) (tag text)) place k first.2 found first.0 below) [
-            | inl same_place ↦ both_ways _ free (ap (λ j. is_taken (get_or slots j EMPTY)) (sym same_place) ∙ taken)
-            | inr (inl goes_on) ↦ both_ways _ goes_on ends
-            | inr (inr there) ↦ both_ways _ free there
-          ]
+      (λ there.
+      let (k, below, taken, tagged, ends) = stops_somewhere tag texts slots room table text there in
+      let found : HoldsUpTo (λ j. is_taken (get_or slots j EMPTY) ≡ true) (length slots) (home_of (length slots) (tag text)) k =
+      subst (λ t. HoldsUpTo (λ j. is_taken (get_or slots j EMPTY) ≡ true) (length slots) (home_of (length slots) t) k) tagged
+      (table.found k below taken) in
+      elim (one_comes_first (λ j. stops texts (tag text) text (get_or slots j EMPTY) ≡ false)
+      (λ j. is_taken (get_or slots j EMPTY) ≡ true) (length slots)
+      (home_of (length slots) (tag text)) place k first.2 found first.0 below) [
+        | inl same_place ↦ both_ways _ free (ap (λ j. is_taken (get_or slots j EMPTY)) (sym same_place) ∙ taken)
+        | inr (inl goes_on) ↦ both_ways _ goes_on ends
+        | inr (inr there) ↦ both_ways _ free there
+      ])
 
   -- no slot before the one where the search ends is free
   pub all_taken : HoldsUpTo (λ j. is_taken (get_or slots j EMPTY) ≡ true) (length slots) (home_of (length slots) (tag text)) place
@@ -213,25 +228,14 @@ pub has_nowhere : (tag : List ℕ → ℕ) (texts : List (List ℕ)) (slots : Li
     → FirstRound (stops texts (tag text) text) slots home None → has texts text ≡ false
 has_nowhere tag texts slots room table text home none =
     table.holds text ∙ false_from_ne_true _
-    (λ there. at (Any-from_list_any (λ s. is_taken s && bytes_eq text (text_of texts s)) slots there))
-  where
-    at : Any (λ s. (is_taken s && bytes_eq text (text_of texts s)) ≡ true) slots → ⊥
-    at (k, d, below, is, passes) =
-        let slot : Slot = get_or slots k EMPTY in
-        let it : slot ≡ d = get_or_default slots k EMPTY d below ∙ is in
-        let passed : (is_taken slot && bytes_eq text (text_of texts slot)) ≡ true =
-        ap (λ s. is_taken s && bytes_eq text (text_of texts s)) it ∙ passes in
-        let taken : is_taken slot ≡ true = (and_parts _ _ passed).0 in
-        let same : bytes_eq text (text_of texts slot) ≡ true = (and_parts _ _ passed).1 in
-        let tagged : slot.tag ≡ tag text =
-        table.tagged k EMPTY below taken ∙ ap tag (sym ((bytes_eq-Decides text (text_of texts slot)).0 same)) in
-        both_ways _ (none k below)
-        (ap (λ b. not b || ((slot.tag == tag text) && bytes_eq text (text_of texts slot))) taken
-        ∙ ap (λ b. b && bytes_eq text (text_of texts slot)) (eq-eqb _ _ tagged) ∙ same)
+    (λ there.
+    let (k, below, taken, tagged, ends) = stops_somewhere tag texts slots room table text there in
+    both_ways _ (none k below) ends)
 
 -- ---- a text more
 
-has_more : (texts : List (List ℕ)) (text other : List ℕ) → has (texts ++ text ∷ []) other ≡ (bytes_eq other text || has texts other)
+-- a text more is there, and those that were
+pub has_more : (texts : List (List ℕ)) (text other : List ℕ) → has (texts ++ text ∷ []) other ≡ (bytes_eq other text || has texts other)
 has_more texts text other = list_any-append (bytes_eq other) texts (text ∷ []) ∙ swapped (has texts other) (bytes_eq other text)
   where
     swapped : (a b : Bool) → (a || (b || false)) ≡ (b || a)

@@ -59,6 +59,12 @@ impl Store {
         self.ends.len()
     }
 
+    /// How many bytes all texts have.
+    #[inline(always)]
+    pub fn size(&self) -> usize {
+        self.bytes.len()
+    }
+
     /// The text at a place.
     #[inline(always)]
     pub fn get(&self, place: usize) -> &[u8]

@@ -13,6 +13,9 @@ use std::fmt::{Display, Formatter};
 use std::hash::BuildHasher;
 use std::marker::Model;
 
+/// So many bytes of texts mostly stay at hand: with what goes with them they fill the caches of common processors.
+const AT_HAND: usize = 1 << 21;
+
 /// A text that was seen.
 #[derive(Clone, Copy)]
 pub struct Seen {
@@ -172,6 +175,13 @@ impl<S: BuildHasher + Drop> Texts<S> {
         } else {
             self.len()
         }
+    }
+
+    /// Whether the texts are so many that a processor waits for most of them. Then it pays to guess for some texts before the first of
+    /// them is seen, so that the waits overlap. No answer depends on it.
+    #[inline(always)]
+    pub fn waits_for_memory(&self) -> bool {
+        self.texts.size() >= AT_HAND
     }
 
     /// Does what `see` does, whatever the guess is. Where the text stands at that place, this is faster.

@@ -1,32 +1,36 @@
-use Rattle.std.proofs.Common.{ℕ, List, [], ◌≡◌, ◌<◌, ◌+◌, ◌++◌, ◌∙◌, true, ap, sym, subst, refl, length, append_assoc, length-append, arith}
-use Rattle.std.specs.Io.{StopsAt}
-use Rattle.std.specs.Io.BufRead.{ends_with_byte}
+use Rattle.std.proofs.Common.{ℕ, List, [], ◌≡◌, ◌+◌, ◌++◌, ◌∙◌, ap, sym, subst, refl, append_assoc, length-append, arith}
+use Rattle.dedup.specs.Between.{AreNext}
 use Rattle.dedup.specs.Lines.{lines_by}
 use Rattle.dedup.specs.Taking.{BreaksOff, LeadsOn}
-use Rattle.dedup.proofs.LineLemmas.{line_through, one_line}
+use Rattle.dedup.proofs.LineLemmas.{line_before, one_line}
 use Rattle.dedup.proofs.RunLemmas.{breaks_at_line, counted_more, front_is, leads_both, leads_nowhere, lines_more, takes_so_far, together, whole_both, whole_line, whole_nothing}
 use Rattle.dedup.proofs.SeenLemmas.{on_err}
 use Rattle.dedup.proofs.lines.take_lines.Goals as goal
 
 pub loop-count-init : goal.loop-count-init
-loop-count-init g c = ([], refl, whole_nothing c.args.eol, refl, leads_nowhere (g.T.LineTask.output c.args.eol) _ _)
+loop-count-init g c = (
+  [],
+  refl,
+  whole_nothing c.args.eol,
+  refl,
+  leads_nowhere (g.T.LineTask.output c.args.eol) _ _,
+  subst (AreNext c.args.eol c.args.bytes.now) (sym c.new-ahead.ensures) tt,
+)
 
 pub take_line-requires : goal.take_line-requires
 take_line-requires g c =
-    let (part, is, whole, counted, leads) = c.loop-count.invariant in
+    let (part, is, whole, counted, leads, next) = c.loop-count.invariant in
     let (ls, now, few) = c.requires.room in
     (ls ++ lines_by c.args.eol part, leads.stands ls now, omega (arith, few, counted, length-append ls (lines_by c.args.eol part)))
 
 pub loop-count-preserved : goal.loop-count-preserved
 loop-count-preserved g c =
-    let (part, is, whole, counted, leads) = c.loop-count.invariant in
+    let (part, is, whole, counted, leads, next) = c.loop-count.invariant in
     let line : List ℕ = c.split_at.result.0.now in
     let later : List ℕ = c.split_at.result.1.now in
     let rest : List ℕ = c.loop-count.rest.now in
-    let n : ℕ = c.in-Some.n in
-    let (stops, some, ended) =
-    subst (λ l. StopsAt l c.args.eol × (0 < length l) × (ends_with_byte c.args.eol l ≡ true)) (sym c.split_at.ensures.front)
-    (line_through c.args.eol rest n c.in-Some.ensures) in
+    let n : ℕ = c.in-Some.found.len in
+    let (stops, some, ended) = line_before c.args.eol rest line n c.split_at.ensures.front c.in-Some.ensures.end in
     let more = lines_more c.args.eol part line whole stops some in (
       part ++ line,
       append_assoc part line later
@@ -37,18 +41,17 @@ loop-count-preserved g c =
           (λ l. g.T.LineTask.taken c.args.eol l c.take_line.new.self) ls
           (g.W.Write.contents c.args.w.now) (g.W.Write.contents c.take_line.new.w)) (sym more)
           (leads_both (g.T.LineTask.output c.args.eol) _ _ _ _ _ _ _ _ leads c.in_ok-take_line-in-Some.ensures.ok),
+      subst (λ l. AreNext c.args.eol l c.next.new.self) (sym c.split_at.ensures.back) c.in-Some.ensures.next,
     )
 
 pub returns-in_err-take_line-in-Some-clause-broke : goal.returns-in_err-take_line-in-Some-clause-broke
 returns-in_err-take_line-in-Some-clause-broke g c =
-    let (part, is, whole, counted, leads) = c.loop-count.invariant in
+    let (part, is, whole, counted, leads, next) = c.loop-count.invariant in
     let line : List ℕ = c.split_at.result.0.now in
     let later : List ℕ = c.split_at.result.1.now in
     let rest : List ℕ = c.loop-count.rest.now in
-    let n : ℕ = c.in-Some.n in
-    let (stops, some, ended) =
-    subst (λ l. StopsAt l c.args.eol × (0 < length l) × (ends_with_byte c.args.eol l ≡ true)) (sym c.split_at.ensures.front)
-    (line_through c.args.eol rest n c.in-Some.ensures) in
+    let n : ℕ = c.in-Some.found.len in
+    let (stops, some, ended) = line_before c.args.eol rest line n c.split_at.ensures.front c.in-Some.ensures.end in
     let all : part ++ (line ++ later) ≡ c.args.bytes.now =
     ap (λ l. part ++ l) (together line later rest (n + 1) c.split_at.ensures.front c.split_at.ensures.back) ∙ is in
     on_err _ c.from_residual.result
@@ -60,13 +63,13 @@ returns-in_err-take_line-in-Some-clause-broke g c =
 
 pub returns-in-None-clause-takes : goal.returns-in-None-clause-takes
 returns-in-None-clause-takes g c =
-    let (part, is, whole, counted, leads) = c.loop-count.invariant in
+    let (part, is, whole, counted, leads, next) = c.loop-count.invariant in
     takes_so_far c.args.eol part c.loop-count.rest.now c.args.bytes.now c.args.most c.loop-count.count is whole counted (omega arith)
-    (λ below. c.in-None.ensures)
+    (λ below. c.in-None.ensures.none)
 
 pub returns-in-None-clause-led : goal.returns-in-None-clause-led
 returns-in-None-clause-led g c =
-    let (part, is, whole, counted, leads) = c.loop-count.invariant in
+    let (part, is, whole, counted, leads, next) = c.loop-count.invariant in
     subst (λ text. LeadsOn (g.T.LineTask.output c.args.eol) (λ l. g.T.LineTask.taken c.args.eol l c.args.task.now)
     (λ l. g.T.LineTask.taken c.args.eol l c.loop-count.task) (lines_by c.args.eol text)
     (g.W.Write.contents c.args.w.now) (g.W.Write.contents c.loop-count.w))
@@ -74,14 +77,14 @@ returns-in-None-clause-led g c =
 
 pub returns-clause-takes : goal.returns-clause-takes
 returns-clause-takes g c =
-    let (part, is, whole, counted, leads) = c.loop-count.invariant in
+    let (part, is, whole, counted, leads, next) = c.loop-count.invariant in
     let all : c.loop-count.count ≡ c.args.most = omega arith in
     takes_so_far c.args.eol part c.loop-count.rest.now c.args.bytes.now c.args.most c.args.most is whole (sym all ∙ counted) (omega arith)
     (λ below. absurd (omega (arith, below)))
 
 pub returns-clause-led : goal.returns-clause-led
 returns-clause-led g c =
-    let (part, is, whole, counted, leads) = c.loop-count.invariant in
+    let (part, is, whole, counted, leads, next) = c.loop-count.invariant in
     subst (λ text. LeadsOn (g.T.LineTask.output c.args.eol) (λ l. g.T.LineTask.taken c.args.eol l c.args.task.now)
     (λ l. g.T.LineTask.taken c.args.eol l c.loop-count.task) (lines_by c.args.eol text)
     (g.W.Write.contents c.args.w.now) (g.W.Write.contents c.loop-count.w))

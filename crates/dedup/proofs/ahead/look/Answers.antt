@@ -1,0 +1,19 @@
+use Rattle.std.proofs.Common.{◌≡◌, take, ap, length, sym, subst, ◌∙◌, arith}
+use Rattle.std.proofs.lemmas.List.{take_more_set}
+use Rattle.dedup.specs.Between.{AreNext}
+use Rattle.dedup.proofs.AheadLemmas.{behind, behind_more, behind_within, found_more}
+use Rattle.dedup.proofs.ahead.look.Goals as goal
+
+pub loop-i-preserved : goal.loop-i-preserved
+loop-i-preserved g c =
+    let (is, next) = c.loop-i.invariant in
+    let more = take_more_set c.loop-i.lens c.loop-i.i c.in-Some.found.len (omega arith) in (
+      subst (λ lens. c.split_at.result.1.now ≡ behind lens c.args.bytes.now) (sym more)
+          (c.split_at.ensures.back ∙ behind_more (take c.loop-i.i c.loop-i.lens) c.args.bytes.now c.loop-i.rest.now c.in-Some.found.len is),
+      subst (AreNext c.args.eol c.args.bytes.now) (sym more) (found_more c.args.eol _ _ _ c.in-Some.found.len next is c.in-Some.ensures.some),
+    )
+
+pub overflow_add-found : goal.overflow_add-found
+overflow_add-found g c =
+    let within = behind_within (take c.loop-i.i c.loop-i.lens) c.args.bytes.now in
+    omega (arith, within, ap length c.loop-i.invariant.0, c.in-Some.ensures.some.0)
