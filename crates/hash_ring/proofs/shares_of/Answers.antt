@@ -1,4 +1,5 @@
 use Rattle.std.proofs.Common.{◌+◌, ◌∙◌, ap, sym, refl, arith}
+use Rattle.std.proofs.lemmas.Grind.{common_steps}
 use Rattle.hash_ring.specs.declared.Point.{Point}
 use Rattle.hash_ring.specs.Points.{pairs}
 use Rattle.hash_ring.proofs.Points.{is_there}
@@ -33,23 +34,18 @@ loop-point-preserved g c =
       small = omega arith;
     }
 
-pub returns-clause-each : goal.returns-clause-each
-returns-clause-each g c = λ _.
+pub returns : goal.returns
+returns g c =
     let points = c.args.points.now in
     let so_far = c.loop-point.invariant in
     let first = first_read points c.in-Some.first.now c.in-Some.ensures.value in
     let there = node_there g.H.Piecewise.hash_of (pairs c.args.nodes.now) points c.requires c.in-Some.first.now first.0 first.1 in
     let last = last_places
-    (pairs c.args.nodes.now) c.requires.named points c.loop-point.point-index c.in-Some.first.now c.loop-point.shares.items _ c.loop-point.from c.index_mut-2.result.now
-    c.loop-point-test.false there so_far.so_far so_far.from_is so_far.small c.index_mut-2.ensures.value refl in
-    whole_ring g.H.Piecewise.hash_of (pairs c.args.nodes.now) points c.requires c.in-Some.first.now first.0 first.1 _ last.0 last.1
-
-pub returns-clause-all : goal.returns-clause-all
-returns-clause-all g c = λ _.
-    let points = c.args.points.now in
-    let so_far = c.loop-point.invariant in
-    let first = first_read points c.in-Some.first.now c.in-Some.ensures.value in
-    let there = node_there g.H.Piecewise.hash_of (pairs c.args.nodes.now) points c.requires c.in-Some.first.now first.0 first.1 in
-    (last_places
-    (pairs c.args.nodes.now) c.requires.named points c.loop-point.point-index c.in-Some.first.now c.loop-point.shares.items _ c.loop-point.from c.index_mut-2.result.now
-    c.loop-point-test.false there so_far.so_far so_far.from_is so_far.small c.index_mut-2.ensures.value refl).1.total
+    (pairs c.args.nodes.now) c.requires.named points c.loop-point.point-index c.in-Some.first.now c.loop-point.shares.items _ c.loop-point.from
+    c.index_mut-2.result.now c.loop-point-test.false there so_far.so_far so_far.from_is so_far.small c.index_mut-2.ensures.value refl in
+    record {
+      each = λ some. whole_ring g.H.Piecewise.hash_of (pairs c.args.nodes.now) points c.requires c.in-Some.first.now first.0 first.1 _
+          last.0 last.1;
+      all = λ some. last.1.total;
+      count = grind (arith, common_steps);
+    }

@@ -27,8 +27,8 @@ invariant_of-self g c =
     (subst (IsRing hash (remove (pairs nodes) gone)) (sym c.take_points.ensures)
     (ring_without hash (pairs nodes) gone place.below points c.self.invariant))
 
-pub returns-clause-value : goal.returns-clause-value
-returns-clause-value g c =
+pub returns : goal.returns
+returns g c =
     let nodes = c.self.inside.nodes.items in
     let gone = c.in-Ok.gone in
     let place =
@@ -37,13 +37,10 @@ returns-clause-value g c =
     let below : gone < length nodes = omega (arith, place.below, length-map nodes pair_of) in
     let read : node_at (pairs nodes) gone ≡ pair_of node =
     get_or-map pair_of nodes gone node ([], 0) below ∙ ap pair_of (sym c.remove.ensures.value) in
-    sym (found_read nodes _ c.args.name.now _ c.args.self.now c.self.invariant.named c.self.view_is c.deref.ensures.value refl gone c.in-Ok.ensures ∙ ap (λ node. Some node.1) read)
-
-pub returns-clause-removed : goal.returns-clause-removed
-returns-clause-removed g c =
-    let nodes = c.self.inside.nodes.items in
-    let gone = c.in-Ok.gone in
-    let place =
-    place_read nodes _ c.args.name.now _ c.args.self.now c.self.invariant.named c.self.view_is c.deref.ensures.value refl gone c.in-Ok.ensures in
-    ap nodes_of (ap pairs c.remove.ensures.items ∙ pairs_remove nodes gone) ∙ removed (pairs nodes) c.self.invariant.named gone place.below
-    ∙ (λ i. fin.remove (c.self.view_is i) (place.is i))
+    record {
+      value = sym (found_read nodes _ c.args.name.now _ c.args.self.now c.self.invariant.named c.self.view_is c.deref.ensures.value refl gone
+          c.in-Ok.ensures
+          ∙ ap (λ node. Some node.1) read);
+      removed = ap nodes_of (ap pairs c.remove.ensures.items ∙ pairs_remove nodes gone)
+          ∙ removed (pairs nodes) c.self.invariant.named gone place.below ∙ (λ i. fin.remove (c.self.view_is i) (place.is i));
+    }
