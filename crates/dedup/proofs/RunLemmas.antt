@@ -167,6 +167,14 @@ module _ (eol : ℕ) where
     bare = λ below. subst (IsBare eol) (sym (back_is part rest bytes is)) (bare below);
   }
 
+  -- lines that are taken of bytes are taken of the unread ones, where these are the same
+  pub taken_of : (output : List (List ℕ) → List ℕ) (a b : List (List ℕ) → Type 0) (bytes unread : List ℕ) (most count len : ℕ)
+      (w w' : Option (List ℕ)) → bytes ≡ unread → Takes eol bytes most count len
+      → LeadsOn output a b (lines_by eol (take len bytes)) w w'
+      → Takes eol unread most count len × LeadsOn output a b (lines_by eol (take len unread)) w w'
+  taken_of output a b bytes unread most count len w w' same takes led =
+      subst (λ l. Takes eol l most count len × LeadsOn output a b (lines_by eol (take len l)) w w') same (takes, led)
+
   -- ---- what was read
 
   -- text that was taken, and bytes behind it that are not

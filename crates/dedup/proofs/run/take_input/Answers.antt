@@ -4,7 +4,7 @@ use Rattle.std.proofs.KnownBytes.{Keeps-refl}
 use Rattle.dedup.specs.Between.{HasCome, Takes}
 use Rattle.dedup.specs.Lines.{lines_by}
 use Rattle.dedup.specs.Taking.{BreaksOff, EndsInput, LeadsOn, StopsWithin}
-use Rattle.dedup.proofs.RunLemmas.{Reads, all_first, breaks_among, breaks_at, ends_left, leads_both, leads_kept, more_first, more_left, read_to_fault, reads_more, some_most, stops_after, stops_behind, taken_first, takes_some}
+use Rattle.dedup.proofs.RunLemmas.{Reads, all_first, breaks_among, breaks_at, ends_left, leads_both, leads_kept, more_first, more_left, read_to_fault, reads_more, some_most, stops_after, stops_behind, taken_first, taken_of, takes_some}
 use Rattle.dedup.proofs.SeenLemmas.{on_err}
 use Rattle.dedup.proofs.run.take_input.Goals as goal
 
@@ -32,11 +32,8 @@ returns-in_err-finish-in-Line-clause-broke g c =
     let output = g.T.LineTask.output c.args.eol in
     let count : ℕ = c.in_ok-count-in-Line.count in
     let len : ℕ = c.in_ok-count-in-Line.len in
-    let takes = subst (λ l. Takes c.args.eol l c.loop-task.most count len) c.bytes.ensures c.in_ok-count-in-Line.ensures.takes in
-    let led = subst (λ l. LeadsOn output (λ ls. g.T.LineTask.taken c.args.eol ls c.loop-task.task)
-    (λ ls. g.T.LineTask.taken c.args.eol ls c.take_lines.new.task) (lines_by c.args.eol (take len l))
-    (writer_contents g.W.Write.contents c.loop-task.w)
-    (writer_contents g.W.Write.contents c.take_lines.new.w)) c.bytes.ensures c.in_ok-count-in-Line.ensures.led in
+    let (takes, led) = taken_of c.args.eol output _ _ _ _ c.loop-task.most count len _ _ c.bytes.ensures c.in_ok-count-in-Line.ensures.takes
+    c.in_ok-count-in-Line.ensures.led in
     on_err _ c.from_residual-in_err-finish-in-Line.result
     (breaks_at c.args.eol output _ _ _ _ _ (more_first c.args.eol _ _ _ _ _ text reads _ _ _ c.in_ok-fill.ensures count len takes)
     (stops_after output _ _ _ _ _ _ (leads_both output _ _ _ _ _ _ _ _ leads led) c.finish.ensures.kept))
@@ -47,11 +44,8 @@ returns-then-is_beyond-clause-left g c =
     let output = g.T.LineTask.output c.args.eol in
     let count : ℕ = c.in_ok-count-in-Line.count in
     let len : ℕ = c.in_ok-count-in-Line.len in
-    let takes = subst (λ l. Takes c.args.eol l c.loop-task.most count len) c.bytes.ensures c.in_ok-count-in-Line.ensures.takes in
-    let led = subst (λ l. LeadsOn output (λ ls. g.T.LineTask.taken c.args.eol ls c.loop-task.task)
-    (λ ls. g.T.LineTask.taken c.args.eol ls c.take_lines.new.task) (lines_by c.args.eol (take len l))
-    (writer_contents g.W.Write.contents c.loop-task.w)
-    (writer_contents g.W.Write.contents c.take_lines.new.w)) c.bytes.ensures c.in_ok-count-in-Line.ensures.led in
+    let (takes, led) = taken_of c.args.eol output _ _ _ _ c.loop-task.most count len _ _ c.bytes.ensures c.in_ok-count-in-Line.ensures.takes
+    c.in_ok-count-in-Line.ensures.led in
     let (all, begins, over) =
     more_left c.args.eol _ _ _ _ _ text reads _ _ _ c.in_ok-fill.ensures count len takes (c.if-is_beyond.ensures.beyond refl).0
     (subst (λ l. 0 < length l) c.pass.ensures (c.if-is_beyond.ensures.beyond refl).1) in (
@@ -82,11 +76,8 @@ loop-task-preserved g c =
     let output = g.T.LineTask.output c.args.eol in
     let count : ℕ = c.in_ok-count-in-Line.count in
     let len : ℕ = c.in_ok-count-in-Line.len in
-    let takes = subst (λ l. Takes c.args.eol l c.loop-task.most count len) c.bytes.ensures c.in_ok-count-in-Line.ensures.takes in
-    let led = subst (λ l. LeadsOn output (λ ls. g.T.LineTask.taken c.args.eol ls c.loop-task.task)
-    (λ ls. g.T.LineTask.taken c.args.eol ls c.take_lines.new.task) (lines_by c.args.eol (take len l))
-    (writer_contents g.W.Write.contents c.loop-task.w)
-    (writer_contents g.W.Write.contents c.take_lines.new.w)) c.bytes.ensures c.in_ok-count-in-Line.ensures.led in
+    let (takes, led) = taken_of c.args.eol output _ _ _ _ c.loop-task.most count len _ _ c.bytes.ensures c.in_ok-count-in-Line.ensures.takes
+    c.in_ok-count-in-Line.ensures.led in
     let none : c.loop-task.most - count ≡ 0 → drop len c.fill.new.self ≡ [] =
     λ zero. sym c.pass.ensures ∙ c.if-is_beyond.ensures.within refl zero in
     let reads_on = reads_more c.args.eol _ _ _ _ _ text reads _ _ _ c.in_ok-fill.ensures count len takes none in (
