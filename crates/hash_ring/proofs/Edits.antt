@@ -44,22 +44,12 @@ over new old n same is =
     ∙ take_all n new (omega arith)
 
 -- one point more is counted anew
-abbrev closing : ℕ → List Point → ℕ → List Point
-closing gone old i = map (closed_up gone) (take i old) ++ drop i old
-
-module _ (gone i : ℕ) (old now next : List Point) (d : Point) (below : i < length old) (long : length now ≡ length old)
-    (so_far : now ≡ closing gone old i) where
-  abbrev x : Point
-  x = get_or now i d
-
-  closes : next ≡ set now i (closed_up gone x) → next ≡ closing gone old (i + 1)
-  closes is = is ∙ map_over_more (closed_up gone) old now i x below so_far (get_or_default now i d x (omega arith))
-
-  pub closes_high : gone < x.node → next ≡ set now i (record { place = x.place; node = x.node - 1 }) → next ≡ closing gone old (i + 1)
-  closes_high h is = closes (is ∙ ap (set now i) (sym (up_high gone x h)))
-
-  pub closes_low : x.node ≤ gone → next ≡ set now i x → next ≡ closing gone old (i + 1)
-  closes_low h is = closes (is ∙ ap (set now i) (sym (up_low gone x h)))
+pub mapped_more : (f : Point → Point) (old now : List Point) (i : ℕ) (d y : Point) → i < length old → length now ≡ length old
+    → now ≡ map f (take i old) ++ drop i old → y ≡ f (get_or now i d)
+    → set now i y ≡ map f (take (i + 1) old) ++ drop (i + 1) old
+mapped_more f old now i d y below long so_far made =
+    let x : Point = get_or now i d in
+    ap (set now i) made ∙ map_over_more f old now i x below so_far (get_or_default now i d x (omega arith))
 
 -- what `opened_up` makes of the later indices, and of the earlier
 open_high : (come : ℕ) (p : Point) → come ≤ p.node → opened_up come p ≡ record { place = p.place; node = p.node + 1 }
@@ -80,22 +70,6 @@ opened_and_closed at p = ⊎_elim
 pub all_opened_and_closed : (at : ℕ) (points : List Point) → map (closed_up at) (map (opened_up at) points) ≡ points
 all_opened_and_closed at [] = refl
 all_opened_and_closed at (p ∷ points) = λ i. opened_and_closed at p i ∷ all_opened_and_closed at points i
-
--- one point more makes way
-module _ (come i : ℕ) (old now next : List Point) (d : Point) (below : i < length old) (long : length now ≡ length old)
-    (so_far : now ≡ map (opened_up come) (take i old) ++ drop i old) where
-  abbrev y : Point
-  y = get_or now i d
-
-  opens : next ≡ set now i (opened_up come y) → next ≡ map (opened_up come) (take (i + 1) old) ++ drop (i + 1) old
-  opens is = is ∙ map_over_more (opened_up come) old now i y below so_far (get_or_default now i d y (omega arith))
-
-  pub opens_high : come ≤ y.node → next ≡ set now i (record { place = y.place; node = y.node + 1 })
-      → next ≡ map (opened_up come) (take (i + 1) old) ++ drop (i + 1) old
-  opens_high h is = opens (is ∙ ap (set now i) (sym (open_high come y h)))
-
-  pub opens_low : y.node < come → next ≡ set now i y → next ≡ map (opened_up come) (take (i + 1) old) ++ drop (i + 1) old
-  opens_low h is = opens (is ∙ ap (set now i) (sym (open_low come y h)))
 
 -- ---- the points of a ring with a node less
 rises : (gone i j : ℕ) → i ≤ j → cond (ltb gone i) (i - 1) i ≤ cond (ltb gone j) (j - 1) j

@@ -205,15 +205,30 @@ fn index_round(n: usize, first: usize, steps: usize) -> usize
     }
 }
 
+/// The point, where a node comes at an index.
+#[inline(always)]
+fn opened_up(come: usize, point: Point) -> Point
+    requires { point.node + 1 < 2 ^ 64 }
+    ensures { result ≡ opened_up come point }
+{
+    let Point { place, node } = point;
+    if node < come {
+        point
+    } else {
+        Point {
+            place,
+            node: node + 1,
+        }
+    }
+}
+
 /// Counts the nodes of the points anew, where one comes at an index.
 fn make_way(points: &mut [Point], at: usize)
     requires { All (λ p. p.node + 1 < 2 ^ 64) points.old }
     ensures { points.new ≡ map (opened_up at) points.old }
 {
     for point in points.iter_mut() {
-        if point.node >= at {
-            point.node += 1;
-        }
+        *point = opened_up(at, *point);
     }
 }
 
@@ -260,14 +275,28 @@ fn merge_points<H: Piecewise>(
     Ok(())
 }
 
+/// The point, where the node at an index has gone.
+#[inline(always)]
+fn closed_up(gone: usize, point: Point) -> Point
+    ensures { result ≡ closed_up gone point }
+{
+    let Point { place, node } = point;
+    if node > gone {
+        Point {
+            place,
+            node: node - 1,
+        }
+    } else {
+        point
+    }
+}
+
 /// Counts the nodes of the points anew, where the one at an index has gone.
 fn close_up(points: &mut [Point], gone: usize)
     ensures { points.new ≡ map (closed_up gone) points.old }
 {
     for point in points.iter_mut() {
-        if point.node > gone {
-            point.node -= 1;
-        }
+        *point = closed_up(gone, *point);
     }
 }
 
