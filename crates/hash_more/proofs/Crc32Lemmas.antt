@@ -1,10 +1,8 @@
 -- A CRC by a table: of a word the low byte's bits go out by themselves, and the others move down.
-use Rattle.std.proofs.Common.{◌≡◌, ◌≢◌, ℕ, zero, suc, ◌+◌, ◌*◌, ◌/◌, ◌%◌, ◌^◌, ◌<◌, List, map, get_or, bit_xor, sym, ap, ◌∙◌, refl, arith}
+use Rattle.std.proofs.Common.{◌≡◌, ◌≢◌, ℕ, zero, suc, ◌+◌, ◌*◌, ◌/◌, ◌%◌, ◌^◌, ◌<◌, bit_xor, sym, ap, ◌∙◌, refl, arith}
 use Rattle.std.proofs.Math.Path.{ap₂}
-use Rattle.std.specs.List.{range_with_len}
-use Rattle.std.proofs.lemmas.List.FromFn.{get_or-map-range_with_len}
-use Rattle.std.proofs.Math.Nat.{pow-succ', mul_assoc}
-use Rattle.std.proofs.lemmas.Nat.{xor_shr, xor_mod, xor_comm}
+use Rattle.std.proofs.Math.Nat.{pow-succ', mul_assoc, mul_comm, mul-div_cancel, mul-mod_right, div-eq_of_lt, mod-eq_of_lt, mod-add-div}
+use Rattle.std.proofs.lemmas.Nat.{xor_shr, xor_mod, xor_comm, pow_pos}
 use Rattle.std.specs.Int.Bits.{xor_assoc, xor_self, xor_zero_l, xor_zero_r}
 use Rattle.hashers.proofs.XorLemmas.{xor_twice}
 use Rattle.hash_more.specs.Crc32.{bit_out, bits_out}
@@ -27,7 +25,7 @@ exchanged a b c d =
     xor_assoc a b (bit_xor c d) ∙ ap (bit_xor a) (sym (xor_assoc b c d) ∙ ap (λ x. bit_xor x d) (xor_comm b c) ∙ xor_assoc c b d)
     ∙ sym (xor_assoc a c (bit_xor b d))
 
-bit_out-xor : (p a b : ℕ) → bit_out p (bit_xor a b) ≡ bit_xor (bit_out p a) (bit_out p b)
+pub bit_out-xor : (p a b : ℕ) → bit_out p (bit_xor a b) ≡ bit_xor (bit_out p a) (bit_out p b)
 bit_out-xor p a b =
     let low = one_bit p (a % 2) (b % 2) (omega arith) (omega arith) in
     ap (λ x. bit_xor x (bit_xor a b % 2 * p)) (xor_shr a b 1)
@@ -40,11 +38,16 @@ bits_out-xor p zero a b = refl
 bits_out-xor p (suc n) a b = ap (bits_out p n) (bit_out-xor p a b) ∙ bits_out-xor p n (bit_out p a) (bit_out p b)
 
 -- bits that are not set go out without a trace
-bit_out-even : (p y : ℕ) → bit_out p (2 * y) ≡ y
+pub bit_out-even : (p y : ℕ) → bit_out p (2 * y) ≡ y
 bit_out-even p y =
     let half : 2 * y / 2 ≡ y = omega arith in
     let low : 2 * y % 2 ≡ 0 = omega arith in
     ap (λ bit. bit_xor (2 * y / 2) (bit * p)) low ∙ ap (bit_xor (2 * y / 2)) (nothing p) ∙ xor_zero_r (2 * y / 2) ∙ half
+
+pub unset_out : (p word : ℕ) → word % 2 ≢ 1 → word / 2 ≡ bit_out p word
+unset_out p word unset =
+    let low : word % 2 ≡ 0 = omega arith in
+    sym (ap (λ bit. bit_xor (word / 2) (bit * p)) low ∙ ap (bit_xor (word / 2)) (nothing p) ∙ xor_zero_r (word / 2))
 
 pub moved_down : (p n h : ℕ) → bits_out p n (2 ^ n * h) ≡ h
 moved_down p zero h = omega arith
@@ -52,28 +55,27 @@ moved_down p (suc n) h =
     let twice = ap (λ m. m * h) (pow-succ' 2 n) ∙ mul_assoc 2 (2 ^ n) h in
     ap (bits_out p n) (ap (bit_out p) twice ∙ bit_out-even p (2 ^ n * h)) ∙ moved_down p n h
 
+-- a number below a power of two is xored into the multiples of that power as it is added
+pub low_and_high : (k low high : ℕ) → low < 2 ^ k → bit_xor low (2 ^ k * high) ≡ low + 2 ^ k * high
+low_and_high k low high small =
+    let both = bit_xor low (2 ^ k * high) in
+    let back : 2 ^ k * high / 2 ^ k ≡ high = ap (λ n. n / 2 ^ k) (mul_comm (2 ^ k) high) ∙ mul-div_cancel high (pow_pos k) in
+    let above : both / 2 ^ k ≡ high = xor_shr low (2 ^ k * high) k ∙ ap₂ bit_xor (div-eq_of_lt small) back ∙ xor_zero_l high in
+    let below : both % 2 ^ k ≡ low =
+    xor_mod low (2 ^ k * high) k ∙ ap₂ bit_xor (mod-eq_of_lt small) (mul-mod_right (2 ^ k) high) ∙ xor_zero_r low in
+    sym (mod-add-div both (2 ^ k)) ∙ ap₂ (λ l h. l + 2 ^ k * h) below above
+
 -- a word is its low byte and the rest
 low_and_rest : (x : ℕ) → x ≡ bit_xor (x % 256) (256 * (x / 256))
 low_and_rest x =
-    let low : x % 256 / 256 ≡ 0 = omega arith in
-    let rest : 256 * (x / 256) / 256 ≡ x / 256 = omega arith in
-    let low_rest : 256 * (x / 256) % 256 ≡ 0 = omega arith in
-    let low_low : x % 256 % 256 ≡ x % 256 = omega arith in
-    let both = bit_xor (x % 256) (256 * (x / 256)) in
-    let high : both / 256 ≡ x / 256 = xor_shr (x % 256) (256 * (x / 256)) 8 ∙ ap₂ bit_xor low rest ∙ xor_zero_l (x / 256) in
-    let end : both % 256 ≡ x % 256 = xor_mod (x % 256) (256 * (x / 256)) 8 ∙ ap₂ bit_xor low_low low_rest ∙ xor_zero_r (x % 256) in
-    omega (arith, high, end)
+    let parts : x ≡ x % 256 + 256 * (x / 256) = omega arith in
+    parts ∙ sym (low_and_high 8 (x % 256) (x / 256) (omega arith))
 
 -- a word's eight low bits go out by themselves, and the others move down
 pub by_table : (p x : ℕ) → bit_xor (bits_out p 8 (x % 256)) (x / 256) ≡ bits_out p 8 x
 by_table p x =
     ap (bit_xor (bits_out p 8 (x % 256))) (sym (moved_down p 8 (x / 256)))
     ∙ sym (bits_out-xor p 8 (x % 256) (256 * (x / 256))) ∙ ap (bits_out p 8) (sym (low_and_rest x))
-
--- an entry of the table is its place with eight bits gone out
-pub entry : (p b : ℕ) (table : List ℕ) → table ≡ map (bits_out p 8) (range_with_len 0 256) → b < 256 → get_or table b 0 ≡ bits_out p 8 b
-entry p b table is known =
-    ap (λ (t : List ℕ). get_or t b 0) is ∙ get_or-map-range_with_len (bits_out p 8) 0 256 b b 0 (omega arith) (omega arith)
 
 -- the word that a set bit went out of: its highest bit is the polynomial's, so there is room for one more
 pub bit_in_set : (p x : ℕ) → p / 2 ^ 31 ≡ 1 → x < 2 ^ 32 → x / 2 ^ 31 ≡ 1 → bit_out p (bit_xor x p * 2 % 2 ^ 32 + 1) ≡ x

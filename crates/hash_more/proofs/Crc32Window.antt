@@ -1,6 +1,6 @@
 -- Why two texts that differ within four places have different CRCs: the difference of the states is what is left of the difference
 -- of the bytes, a word that is not 0, when its bits have gone out.
-use Rattle.std.proofs.Common.{◌≡◌, ◌≢◌, ℕ, zero, suc, ◌+◌, ◌*◌, ◌/◌, ◌%◌, ◌^◌, ◌<◌, ◌≤◌, List, bit_xor, sym, ap, ◌∙◌, lit<, arith}
+use Rattle.std.proofs.Common.{◌≡◌, ◌≢◌, ℕ, suc, ◌+◌, ◌*◌, ◌/◌, ◌%◌, ◌^◌, ◌<◌, ◌≤◌, List, bit_xor, sym, ap, ◌∙◌, lit<, arith}
 use Rattle.std.proofs.Math.Nat.{pow-le-pow_right, mul-lt-mul_of_pos_left, mod-eq_of_lt, mul-mod_right}
 use Rattle.std.proofs.lemmas.Nat.{xor_lt, pow-add, pow_pos}
 use Rattle.std.specs.Int.Bits.{xor_self, xor_zero_l}
@@ -11,9 +11,10 @@ use Rattle.hashers.proofs.XorLemmas.{xor_cancel}
 use Rattle.hashers.proofs.Windows.{Separates}
 use Rattle.hashers.proofs.WindowSpreads.{separates}
 use Rattle.hashers.proofs.Collisions.{hash_apart}
-use Rattle.hash_more.specs.Crc32.{all_ones, bits_out, bit_out, crc_step, crc_from, crc_answer}
+use Rattle.hash_more.specs.Crc32.{all_ones, bits_out, crc_step, crc_from, crc_answer}
 use Rattle.hash_more.specs.Crc32Laws.{bits_out-same, crc_facts}
 use Rattle.hash_more.proofs.Crc32Lemmas.{exchanged, bits_out-xor, moved_down}
+use Rattle.hash_more.proofs.Crc32Texts.{bits_out-more, bits_out-none}
 
 -- after a place and n further ones the states differ by what is left of a number of so many bytes
 pub record LeftOf (p n s t : ℕ) : Type 0 where
@@ -28,19 +29,6 @@ same_from_none : (x y : ℕ) → bit_xor x y ≡ 0 → x ≡ y
 same_from_none x y e = xor_cancel x y y (e ∙ sym (xor_self y))
 
 module _ (p : ℕ) where
-  bits_out-more : (m k y : ℕ) → bits_out p k (bits_out p m y) ≡ bits_out p (m + k) y
-  bits_out-more zero k y =
-      let all : k ≡ zero + k = omega arith in
-      ap (λ j. bits_out p j y) all
-  bits_out-more (suc m) k y =
-      let more : suc (m + k) ≡ suc m + k = omega arith in
-      bits_out-more m k (bit_out p y) ∙ ap (λ j. bits_out p j y) more
-
-  bits_out-none : (n : ℕ) → bits_out p n 0 ≡ 0
-  bits_out-none n =
-      let none : 0 ≡ 2 ^ n * 0 = omega arith in
-      ap (bits_out p n) none ∙ moved_down p n 0
-
   -- one place takes a byte's difference into that of the states
   step_differs : (s t a b : ℕ) → bit_xor (crc_step p s a) (crc_step p t b) ≡ bits_out p 8 (bit_xor (bit_xor s t) (bit_xor a b))
   step_differs s t a b = sym (bits_out-xor p 8 (bit_xor s a) (bit_xor t b)) ∙ ap (bits_out p 8) (exchanged s a t b)
@@ -72,7 +60,7 @@ module _ (p : ℕ) where
         left = step_differs s t a b ∙ ap (λ z. bits_out p 8 (bit_xor z d)) far.left
             ∙ ap (λ z. bits_out p 8 (bit_xor (bits_out p m far.number) z)) (sym (moved_down p m d))
             ∙ ap (bits_out p 8) (sym (bits_out-xor p m far.number (2 ^ m * d)))
-            ∙ bits_out-more m 8 (bit_xor far.number (2 ^ m * d))
+            ∙ bits_out-more p m 8 (bit_xor far.number (2 ^ m * d))
             ∙ ap (λ j. bits_out p j (bit_xor far.number (2 ^ m * d))) more;
       }
 
@@ -81,7 +69,7 @@ module _ (p : ℕ) where
     different n s t far e =
         let in_word : far.number < 2 ^ 32 = omega (arith, far.below, pow-le-pow_right {n = 2} (lit< tt) {i = 8 * suc n} {j = 32} far.fits) in
         far.some (bits_out-same p highest (8 * suc n) far.number 0 in_word (lit< tt)
-        (sym far.left ∙ ap (λ z. bit_xor z t) e ∙ xor_self t ∙ sym (bits_out-none (8 * suc n))))
+        (sym far.left ∙ ap (λ z. bit_xor z t) e ∙ xor_self t ∙ sym (bits_out-none p (8 * suc n))))
 
     crc_separates : Separates (crc_step p) (λ h. h < 2 ^ 32) 4 0 (LeftOf p)
     crc_separates = separates (crc_facts p highest) first (λ n h k a b fits hs ks. next n h k a b fits) different

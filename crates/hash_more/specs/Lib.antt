@@ -1,3 +1,4 @@
+pub mod Bursts
 pub mod Crc32
 pub mod Crc32Laws
 pub mod Djb2Add

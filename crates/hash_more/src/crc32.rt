@@ -1,17 +1,21 @@
 //! CRCs of 32 bits, a byte a step by a table: CRC-32, as zlib, gzip, PNG and Ethernet compute it (ISO-HDLC: RFC 1952, section 8;
 //! ITU-T V.42), and CRC-32C, as iSCSI, ext4 and SCTP do (RFC 3720, section 12.1). They differ in the polynomial alone.
-mod tables;
+mod castagnoli_rows;
+mod ieee_rows;
 
-ghost use Rattle.std.specs.Prelude.{◌≡◌, ◌^◌, ◌<◌, ◌/◌, ℕ, bit_xor, refl};
+ghost use Rattle.std.specs.Prelude.{◌≡◌, ◌+◌, ◌*◌, ◌^◌, ◌<◌, ◌≤◌, ◌/◌, ◌%◌, ◌++◌, ℕ, List, length, bit_xor, refl};
 ghost use Rattle.std.proofs.Common.{lit<};
+ghost use Rattle.hashers.specs.Text.{IsText};
 ghost use Rattle.hashers.proofs.RecurrenceLemmas.{recurrence_is_fold};
 ghost use Rattle.hash_more.specs.Crc32.{ieee, castagnoli, all_ones, bits_out, bit_out, crc_step, crc_from, crc_answer};
 ghost use Rattle.hash_more.specs.Crc32Laws.{crc_facts, crc_answer_same};
 
+use castagnoli_rows::CASTAGNOLI;
+use hashers::rounds::le_four;
 use hashers::rules::{ByteHasher, ByteRule, StepRule, UndoRule, in_eights};
+use ieee_rows::IEEE;
 use std::hash::Hasher;
 use std::marker::PhantomData;
-use tables::{CASTAGNOLI, IEEE};
 
 /// A polynomial of degree 32 with the term 1, without its first term, and with its bits in reverse order. The implementing
 /// type is a name for it, and no value of it is made.
@@ -22,9 +26,10 @@ pub trait Polynomial {
     /// The polynomial.
     const POLYNOMIAL: u32;
 
-    /// The eight bits of a byte, gone out.
-    fn byte_out(byte: u8) -> u32
-        ensures { result ≡ bits_out POLYNOMIAL 8 byte };
+    /// What is left of a byte when its eight bits have gone out, and those of so many bytes of zeros behind it.
+    fn byte_out(zeros: usize, byte: u8) -> u32
+        requires { zeros < 16 }
+        ensures { result ≡ bits_out POLYNOMIAL (8 * (zeros + 1)) byte };
 
     /// The term 1 is the highest bit.
     ghost highest: { POLYNOMIAL / 2 ^ 31 ≡ 1 };
@@ -39,8 +44,8 @@ impl Polynomial for Ieee {
     const POLYNOMIAL: u32 = 0xEDB88320;
 
     #[inline(always)]
-    fn byte_out(byte: u8) -> u32 {
-        IEEE[usize::from(byte)]
+    fn byte_out(zeros: usize, byte: u8) -> u32 {
+        IEEE[zeros][usize::from(byte)]
     }
 
     ghost highest = { refl };
@@ -55,8 +60,8 @@ impl Polynomial for Castagnoli {
     const POLYNOMIAL: u32 = 0x82F63B78;
 
     #[inline(always)]
-    fn byte_out(byte: u8) -> u32 {
-        CASTAGNOLI[usize::from(byte)]
+    fn byte_out(zeros: usize, byte: u8) -> u32 {
+        CASTAGNOLI[zeros][usize::from(byte)]
     }
 
     ghost highest = { refl };
@@ -80,6 +85,30 @@ fn byte_in<P: Polynomial>(word: u32) -> u32
 {
     let nibble = bit_in::<P>(bit_in::<P>(bit_in::<P>(bit_in::<P>(word))));
     bit_in::<P>(bit_in::<P>(bit_in::<P>(bit_in::<P>(nibble))))
+}
+
+/// What is left of a word when its bits have gone out, and those of so many bytes of zeros behind it.
+#[inline(always)]
+fn word_out<P: Polynomial>(zeros: usize, word: u32) -> u32
+    requires { zeros ≤ 12 }
+    ensures { result ≡ bits_out P.POLYNOMIAL (8 * (zeros + 4)) word }
+{
+    P::byte_out(zeros + 3, (word % 256) as u8)
+        ^ P::byte_out(zeros + 2, (word / 256 % 256) as u8)
+        ^ P::byte_out(zeros + 1, (word / 65536 % 256) as u8)
+        ^ P::byte_out(zeros, (word / 16777216) as u8)
+}
+
+/// Sixteen bytes in, by a look into the table for each: none waits for another.
+#[inline(always)]
+fn sixteen_in<P: Polynomial>(state: u32, bytes: &[u8; 16]) -> u32
+    ensures { result ≡ crc_from P.POLYNOMIAL state bytes.now }
+{
+    let (fours, _) = bytes.as_chunks::<4>();
+    word_out::<P>(12, state ^ le_four(&fours[0]))
+        ^ word_out::<P>(8, le_four(&fours[1]))
+        ^ word_out::<P>(4, le_four(&fours[2]))
+        ^ word_out::<P>(0, le_four(&fours[3]))
 }
 
 /// The rule of a CRC by its polynomial.
@@ -111,7 +140,7 @@ impl<P: Polynomial> StepRule for CrcRule<P> {
     #[tactic(auto, using(crate::proofs::Crc32Lemmas::by_table))]
     fn step(state: &mut u32, byte: u8) {
         let word = *state ^ u32::from(byte);
-        *state = P::byte_out((word % 256) as u8) ^ (word >> 8);
+        *state = P::byte_out(0, (word % 256) as u8) ^ (word >> 8);
     }
 
     ghost start_in_range = { lit< tt };
@@ -128,7 +157,13 @@ impl<P: Polynomial> ByteRule for CrcRule<P> {
 
     #[inline(always)]
     fn write(state: &mut u32, bytes: &[u8]) {
-        in_eights::<CrcRule<P>>(state, bytes);
+        let (few, sixteens) = bytes.as_rchunks::<16>();
+        let mut word = *state;
+        in_eights::<CrcRule<P>>(&mut word, few);
+        for sixteen in sixteens {
+            word = sixteen_in::<P>(word, sixteen);
+        }
+        *state = word;
     }
 
     #[inline(always)]
@@ -190,4 +225,80 @@ pub fn crc32c(bytes: &[u8]) -> u64
     let mut hasher = Crc32cHasher::default();
     hasher.write(bytes);
     hasher.finish()
+}
+
+/// The word with one bit gone out.
+#[inline(always)]
+#[tactic(auto, using(crate::proofs::Crc32Lemmas::unset_out))]
+fn one_out<P: Polynomial>(word: u32) -> u32
+    ensures { result ≡ bit_out P.POLYNOMIAL word }
+{
+    if word % 2 == 1 {
+        word / 2 ^ P::POLYNOMIAL
+    } else {
+        word / 2
+    }
+}
+
+/// The product of two words as polynomials, by the remainder of a division by the polynomial: where the first is 1 with some
+/// bits gone out, as many go out of the second.
+fn times<P: Polynomial>(left: u32, right: u32) -> u32
+    ensures { (k : ℕ) → left ≡ bits_out P.POLYNOMIAL k (2 ^ 31) → result ≡ bits_out P.POLYNOMIAL k right }
+{
+    let mut product = 0;
+    for place in 0u32..32 {
+        let term = if (left >> place) % 2 == 1 { right } else { 0 };
+        product = one_out::<P>(product) ^ term;
+    }
+    product
+}
+
+/// The word when the bits of so many bytes of zeros have gone out of it.
+fn zeros_in<P: Polynomial>(word: u32, count: u64) -> u32
+    ensures { result ≡ bits_out P.POLYNOMIAL (8 * count) word }
+{
+    let mut moved = word;
+    let mut power = 0x800000; // 1 with the bits of a byte gone out
+    let mut rest = count;
+    while rest > 0 {
+        if rest % 2 == 1 {
+            moved = times::<P>(power, moved);
+        }
+        power = times::<P>(power, power);
+        rest /= 2;
+    }
+    moved
+}
+
+/// The CRC of a joined text from those of its two parts.
+fn combine<P: Polynomial>(hash1: u64, hash2: u64, length2: u64) -> u64
+    ensures { result ≡ bit_xor (bits_out P.POLYNOMIAL (8 * length2) (hash1 % 2 ^ 32)) (hash2 % 2 ^ 32) }
+{
+    let first = (hash1 % 4294967296) as u32;
+    let second = (hash2 % 4294967296) as u32;
+    u64::from(zeros_in::<P>(first, length2) ^ second)
+}
+
+/// CRC-32 of a joined text from the hashes of its two parts and the second one's length in bytes, in a time that grows with
+/// the number of that length's digits. Of each hash the low 32 bits count.
+///
+/// The hash is linear: the second part pushes the bits of the first one's hash out as zeros would, which is a product by a power
+/// of two modulo the polynomial, found by squaring, as in zlib's function of this name.
+pub fn crc32_combine(hash1: u64, hash2: u64, length2: u64) -> u64
+    ensures value { result ≡ bit_xor (bits_out ieee (8 * length2) (hash1 % 2 ^ 32)) (hash2 % 2 ^ 32) }
+    ensures joined { (x y : List ℕ) → IsText x → IsText y → length y ≡ length2
+        → hash1 ≡ crc_answer (crc_from ieee all_ones x) → hash2 ≡ crc_answer (crc_from ieee all_ones y)
+        → result ≡ crc_answer (crc_from ieee all_ones (x ++ y)) }
+{
+    combine::<Ieee>(hash1, hash2, length2)
+}
+
+/// CRC-32C of a joined text, as [`crc32_combine`] does it.
+pub fn crc32c_combine(hash1: u64, hash2: u64, length2: u64) -> u64
+    ensures value { result ≡ bit_xor (bits_out castagnoli (8 * length2) (hash1 % 2 ^ 32)) (hash2 % 2 ^ 32) }
+    ensures joined { (x y : List ℕ) → IsText x → IsText y → length y ≡ length2
+        → hash1 ≡ crc_answer (crc_from castagnoli all_ones x) → hash2 ≡ crc_answer (crc_from castagnoli all_ones y)
+        → result ≡ crc_answer (crc_from castagnoli all_ones (x ++ y)) }
+{
+    combine::<Castagnoli>(hash1, hash2, length2)
 }

@@ -1,5 +1,5 @@
 //! Values from outside the proofs.
-use crate::crc32::{Crc32Hasher, Crc32cHasher, crc32, crc32c};
+use crate::crc32::{Crc32Hasher, Crc32cHasher, crc32, crc32_combine, crc32c, crc32c_combine};
 use crate::djb2_add::{Djb2AddHasher, djb2_add};
 use crate::elf::{ElfHasher, elf};
 use crate::fnv1::{Fnv1Hasher32, Fnv1Hasher64, fnv1_32, fnv1_64};
@@ -62,6 +62,43 @@ fn crc32c_of_texts(rt: HostRuntime) {
         ],
     );
     comes_back::<Crc32cHasher>(&rt);
+}
+
+#[test]
+fn crcs_combined(rt: HostRuntime) {
+    same(
+        &rt,
+        &[
+            crc32_combine(crc32(b"1234"), crc32(b"56789"), 5),
+            crc32_combine(
+                crc32(b"The quick brown fox"),
+                crc32(b" jumps over the lazy dog"),
+                24,
+            ),
+            crc32_combine(0xCBF43926, 0, 0),
+            crc32_combine(0xCBF43926, 0x12345678, 8589934597),
+            crc32_combine(0xCBF43926, 0x12345678, 0x7FFFFFFFFFFF),
+            crc32c_combine(crc32c(b"1234"), crc32c(b"56789"), 5),
+            crc32c_combine(crc32c(b""), crc32c(b"123456789"), 9),
+        ],
+        &[
+            0xCBF43926, 0x414FA339, 0xCBF43926, 0x81D49321, 0xDCC659CD, 0xE3069283, 0xE3069283,
+        ],
+    );
+}
+
+#[test]
+fn crcs_of_lengths(rt: HostRuntime) {
+    let text: [u8; 100] = std::array::from_fn(|i| (i * 7 % 256) as u8);
+    let mut all = 0;
+    let mut all_c = 0;
+    for length in 0..101 {
+        let whole = &text[..length];
+        let (start, end) = whole.split_at(length / 3);
+        all ^= answer_of_pieces::<Crc32Hasher>(&[start, end]);
+        all_c ^= crc32c(whole);
+    }
+    same(&rt, &[all, all_c], &[0xb8873f0e, 0xba58e377]);
 }
 
 #[test]

@@ -5,6 +5,7 @@ ghost use Rattle.std.specs.Bool.{OnTrue};
 ghost use Rattle.hashers.specs.Text.{IsText};
 ghost use Rattle.hashers.specs.DifferWithin.{DifferWithin};
 ghost use Rattle.hashers.specs.Fnv.{fnv1a32_basis, fnv1a64_basis};
+ghost use Rattle.hash_more.specs.Bursts.{DifferWithinBits};
 ghost use Rattle.hash_more.specs.Crc32.{ieee, castagnoli, all_ones, crc_from, crc_answer};
 ghost use Rattle.hash_more.specs.Djb2Add.{djb2_add_from};
 ghost use Rattle.hash_more.specs.Fnv1.{fnv1_32_from, fnv1_64_from};
@@ -66,11 +67,16 @@ pub fn apart_fnv1_32(x: &[u8], y: &[u8]) -> bool
 }
 
 /// The windows as laws, with no code: where two texts have one length and differ, but only within so many neighbouring places
-/// and in bits outside the mask, the named hashes differ.
+/// and in bits outside the mask, the named hashes differ. Of CRCs so do those of texts that differ within 32 neighbouring bits,
+/// which may lie in five bytes: no burst of errors of up to 32 bits passes.
 pub fn windows_tell_apart()
     ensures crc32 { (x y : List ℕ) → IsText x → IsText y → DifferWithin 4 0 x y
         → crc_answer (crc_from ieee all_ones x) ≢ crc_answer (crc_from ieee all_ones y) }
     ensures crc32c { (x y : List ℕ) → IsText x → IsText y → DifferWithin 4 0 x y
+        → crc_answer (crc_from castagnoli all_ones x) ≢ crc_answer (crc_from castagnoli all_ones y) }
+    ensures crc32_bits { (x y : List ℕ) → IsText x → IsText y → DifferWithinBits 32 x y
+        → crc_answer (crc_from ieee all_ones x) ≢ crc_answer (crc_from ieee all_ones y) }
+    ensures crc32c_bits { (x y : List ℕ) → IsText x → IsText y → DifferWithinBits 32 x y
         → crc_answer (crc_from castagnoli all_ones x) ≢ crc_answer (crc_from castagnoli all_ones y) }
     ensures djb2_add { (x y : List ℕ) → IsText x → IsText y → DifferWithin 6 0xE0 x y
         → djb2_add_from 5381 x ≢ djb2_add_from 5381 y }

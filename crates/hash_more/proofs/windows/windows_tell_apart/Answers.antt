@@ -1,5 +1,6 @@
 use Rattle.std.proofs.Common.{refl}
 use Rattle.hash_more.specs.Crc32.{ieee, castagnoli}
+use Rattle.hash_more.proofs.Crc32Bursts.{burst_apart}
 use Rattle.hash_more.proofs.Crc32Window.{crc_apart}
 use Rattle.hash_more.proofs.Djb2AddWindow.{djb2_add_apart}
 use Rattle.hash_more.proofs.Fnv1Windows.{fnv1_32_apart, fnv1_64_apart}
@@ -9,6 +10,8 @@ pub returns : goal.returns
 returns c = record {
   crc32 = crc_apart ieee refl;
   crc32c = crc_apart castagnoli refl;
+  crc32_bits = burst_apart ieee refl;
+  crc32c_bits = burst_apart castagnoli refl;
   djb2_add = djb2_add_apart;
   fnv1_64 = fnv1_64_apart;
   fnv1_32 = fnv1_32_apart;

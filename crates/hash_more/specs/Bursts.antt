@@ -1,0 +1,13 @@
+-- Texts that differ in a few neighbouring bits. The bits of a text are those of its little-endian number: its first is the low bit of the
+-- first byte.
+use Rattle.std.specs.Prelude.{ℕ, ◌≡◌, ◌*◌, ◌^◌, ◌<◌, List, length, bit_xor}
+use Rattle.hashers.specs.Words.{le}
+
+-- the lengths are equal, and the bits in which the texts differ, of which there are some, are a pattern of so many bits from a place on
+pub record DifferWithinBits (bits : ℕ) (x y : List ℕ) : Type 0 where
+  pub same_length : length x ≡ length y
+  pub from : ℕ
+  pub pattern : ℕ
+  pub some : 0 < pattern
+  pub fits : pattern < 2 ^ bits
+  pub are : bit_xor (le x) (le y) ≡ 2 ^ from * pattern
