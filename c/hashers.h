@@ -35,8 +35,9 @@ extern "C" {
 /* ---- the version of the library, to be compared with HASHERS_VERSION */
 uint32_t hashers_version(void);
 
-/* ---- the hash of a whole text. Those of 32 bits are below 2^32. spooky is the form of SpookyHash that mixes the length in, and
- * spooky_v1 the one of the crate hashers 1.0.1. */
+/* ---- the hash of a whole text. Those of 32 bits are below 2^32, and elf below 2^28. spooky is the form of SpookyHash that mixes the
+ * length in, and spooky_v1 the one of the crate hashers 1.0.1. crc32 is zlib's, crc32c the one of iSCSI, joaat PHP's, djb2_add and elf
+ * are those of .gnu.hash and .hash in ELF files. */
 uint64_t hashers_fnv1a32(const void *text, size_t n);
 uint64_t hashers_fnv1a64(const void *text, size_t n);
 uint64_t hashers_djb2(const void *text, size_t n);
@@ -52,15 +53,22 @@ uint64_t hashers_passthrough(const void *text, size_t n);
 uint64_t hashers_fxhash(const void *text, size_t n);
 uint64_t hashers_fxhash32(const void *text, size_t n);
 uint64_t hashers_fxhash64(const void *text, size_t n);
+uint64_t hashers_crc32(const void *text, size_t n);
+uint64_t hashers_crc32c(const void *text, size_t n);
+uint64_t hashers_fnv1_32(const void *text, size_t n);
+uint64_t hashers_fnv1_64(const void *text, size_t n);
+uint64_t hashers_djb2_add(const void *text, size_t n);
+uint64_t hashers_joaat(const void *text, size_t n);
+uint64_t hashers_elf(const void *text, size_t n);
 
 /* ---- a text that comes in parts. The hash so far is all there is to keep:
  *
  *     uint64_t hash = hashers_djb2(first, n1);
  *     hash = hashers_djb2_write(hash, second, n2);
  *
- * Of fnv1a32, fnv1a64, djb2, sdbm, loselose, bricolage, oaat, passthrough and null it is then the hash of both parts joined. fxhash,
- * fxhash32, fxhash64 and lookup3 split each part into words by itself, so there the cut may show. The hash of no bytes is where a text
- * begins. Every number is a hash so far; of one of 32 bits the low 32 are taken. */
+ * It is then the hash of both parts joined, but for fxhash, fxhash32, fxhash64 and lookup3, which split each part into words by itself,
+ * so that the cut may show. The hash of no bytes is where a text begins. Every number is a hash so far; of one of 32 bits the low 32 are
+ * taken, and of elf the low 28. */
 uint64_t hashers_fnv1a32_write(uint64_t hash, const void *text, size_t n);
 uint64_t hashers_fnv1a64_write(uint64_t hash, const void *text, size_t n);
 uint64_t hashers_djb2_write(uint64_t hash, const void *text, size_t n);
@@ -74,6 +82,13 @@ uint64_t hashers_passthrough_write(uint64_t hash, const void *text, size_t n);
 uint64_t hashers_fxhash_write(uint64_t hash, const void *text, size_t n);
 uint64_t hashers_fxhash32_write(uint64_t hash, const void *text, size_t n);
 uint64_t hashers_fxhash64_write(uint64_t hash, const void *text, size_t n);
+uint64_t hashers_crc32_write(uint64_t hash, const void *text, size_t n);
+uint64_t hashers_crc32c_write(uint64_t hash, const void *text, size_t n);
+uint64_t hashers_fnv1_32_write(uint64_t hash, const void *text, size_t n);
+uint64_t hashers_fnv1_64_write(uint64_t hash, const void *text, size_t n);
+uint64_t hashers_djb2_add_write(uint64_t hash, const void *text, size_t n);
+uint64_t hashers_joaat_write(uint64_t hash, const void *text, size_t n);
+uint64_t hashers_elf_write(uint64_t hash, const void *text, size_t n);
 
 /* ---- the last part taken out again: of every hash (of 32 bits, where the type has 32) hashers_X_unwrite(hashers_X_write(hash, text, n),
  * text, n) is that hash, and hashers_X_write(hashers_X_unwrite(hash, text, n), text, n) too. */
@@ -87,6 +102,12 @@ uint64_t hashers_oaat_unwrite(uint64_t hash, const void *text, size_t n);
 uint64_t hashers_fxhash_unwrite(uint64_t hash, const void *text, size_t n);
 uint64_t hashers_fxhash32_unwrite(uint64_t hash, const void *text, size_t n);
 uint64_t hashers_fxhash64_unwrite(uint64_t hash, const void *text, size_t n);
+uint64_t hashers_crc32_unwrite(uint64_t hash, const void *text, size_t n);
+uint64_t hashers_crc32c_unwrite(uint64_t hash, const void *text, size_t n);
+uint64_t hashers_fnv1_32_unwrite(uint64_t hash, const void *text, size_t n);
+uint64_t hashers_fnv1_64_unwrite(uint64_t hash, const void *text, size_t n);
+uint64_t hashers_djb2_add_unwrite(uint64_t hash, const void *text, size_t n);
+uint64_t hashers_joaat_unwrite(uint64_t hash, const void *text, size_t n);
 
 /* ---- SpookyHash under two seeds */
 typedef struct hashers_words {
@@ -112,6 +133,8 @@ hashers_words hashers_spooky_finish_v1(const hashers_spooky_state *state);
 uint64_t hashers_sdbm_combine(uint64_t hash1, uint64_t hash2, uint64_t n2);
 uint64_t hashers_loselose_combine(uint64_t hash1, uint64_t hash2, uint64_t n2);
 uint64_t hashers_passthrough_combine(uint64_t hash1, uint64_t hash2, uint64_t n2);
+uint64_t hashers_crc32_combine(uint64_t hash1, uint64_t hash2, uint64_t n2);
+uint64_t hashers_crc32c_combine(uint64_t hash1, uint64_t hash2, uint64_t n2);
 
 /* ---- many texts in one call. Text i of a column lies in data from offsets[i] to offsets[i + 1], as Arrow's columns of strings lie,
  * and its hash goes to hashes[i]. There are count hashes and count + 1 offsets. Where there are more or fewer offsets, or they fall or
@@ -176,6 +199,34 @@ bool hashers_fxhash64_column32(const void *data, size_t n, const uint32_t *offse
     uint64_t *hashes, size_t count);
 bool hashers_fxhash64_column64(const void *data, size_t n, const uint64_t *offsets, size_t offsets_count,
     uint64_t *hashes, size_t count);
+bool hashers_crc32_column32(const void *data, size_t n, const uint32_t *offsets, size_t offsets_count,
+    uint64_t *hashes, size_t count);
+bool hashers_crc32_column64(const void *data, size_t n, const uint64_t *offsets, size_t offsets_count,
+    uint64_t *hashes, size_t count);
+bool hashers_crc32c_column32(const void *data, size_t n, const uint32_t *offsets, size_t offsets_count,
+    uint64_t *hashes, size_t count);
+bool hashers_crc32c_column64(const void *data, size_t n, const uint64_t *offsets, size_t offsets_count,
+    uint64_t *hashes, size_t count);
+bool hashers_fnv1_32_column32(const void *data, size_t n, const uint32_t *offsets, size_t offsets_count,
+    uint64_t *hashes, size_t count);
+bool hashers_fnv1_32_column64(const void *data, size_t n, const uint64_t *offsets, size_t offsets_count,
+    uint64_t *hashes, size_t count);
+bool hashers_fnv1_64_column32(const void *data, size_t n, const uint32_t *offsets, size_t offsets_count,
+    uint64_t *hashes, size_t count);
+bool hashers_fnv1_64_column64(const void *data, size_t n, const uint64_t *offsets, size_t offsets_count,
+    uint64_t *hashes, size_t count);
+bool hashers_djb2_add_column32(const void *data, size_t n, const uint32_t *offsets, size_t offsets_count,
+    uint64_t *hashes, size_t count);
+bool hashers_djb2_add_column64(const void *data, size_t n, const uint64_t *offsets, size_t offsets_count,
+    uint64_t *hashes, size_t count);
+bool hashers_joaat_column32(const void *data, size_t n, const uint32_t *offsets, size_t offsets_count,
+    uint64_t *hashes, size_t count);
+bool hashers_joaat_column64(const void *data, size_t n, const uint64_t *offsets, size_t offsets_count,
+    uint64_t *hashes, size_t count);
+bool hashers_elf_column32(const void *data, size_t n, const uint32_t *offsets, size_t offsets_count,
+    uint64_t *hashes, size_t count);
+bool hashers_elf_column64(const void *data, size_t n, const uint64_t *offsets, size_t offsets_count,
+    uint64_t *hashes, size_t count);
 
 /* ---- the lines of a text in one call. A newline ends a line and is none of its bytes; the last line may have none, and no bytes have no
  * line. The answer is how many lines there are. The hash of line i goes to hashes[i], as far as there is room: where the answer is more
@@ -195,6 +246,13 @@ size_t hashers_passthrough_lines(const void *data, size_t n, uint64_t *hashes, s
 size_t hashers_fxhash_lines(const void *data, size_t n, uint64_t *hashes, size_t room);
 size_t hashers_fxhash32_lines(const void *data, size_t n, uint64_t *hashes, size_t room);
 size_t hashers_fxhash64_lines(const void *data, size_t n, uint64_t *hashes, size_t room);
+size_t hashers_crc32_lines(const void *data, size_t n, uint64_t *hashes, size_t room);
+size_t hashers_crc32c_lines(const void *data, size_t n, uint64_t *hashes, size_t room);
+size_t hashers_fnv1_32_lines(const void *data, size_t n, uint64_t *hashes, size_t room);
+size_t hashers_fnv1_64_lines(const void *data, size_t n, uint64_t *hashes, size_t room);
+size_t hashers_djb2_add_lines(const void *data, size_t n, uint64_t *hashes, size_t room);
+size_t hashers_joaat_lines(const void *data, size_t n, uint64_t *hashes, size_t room);
+size_t hashers_elf_lines(const void *data, size_t n, uint64_t *hashes, size_t room);
 
 /* ---- a Bloom filter in words of the caller's, which begin as zeros. It has so many bits, in at least (bits + 63) / 64 words, and each key
  * so many probes. About 0.693 * bits / keys probes are best; at 10 bits for each key and 7 probes about 1 of 120 strange keys is found.

@@ -46,7 +46,8 @@ static const struct kind {
 #define WHOLE(name) {#name, hashers_##name, NULL, NULL, 1, UINT64_MAX}
     UNDONE(fnv1a32, 1, 32), UNDONE(fnv1a64, 1, 64), UNDONE(djb2, 1, 32), UNDONE(sdbm, 1, 32), UNDONE(loselose, 1, 64),
     UNDONE(bricolage, 1, 64), UNDONE(oaat, 1, 64), UNDONE(fxhash, 0, 64), UNDONE(fxhash32, 0, 32), UNDONE(fxhash64, 0, 64),
-    WRITTEN(lookup3, 0), WRITTEN(null, 1), WRITTEN(passthrough, 1),
+    UNDONE(crc32, 1, 32), UNDONE(crc32c, 1, 32), UNDONE(fnv1_32, 1, 32), UNDONE(fnv1_64, 1, 64), UNDONE(djb2_add, 1, 32), UNDONE(joaat, 1, 32),
+    WRITTEN(lookup3, 0), WRITTEN(null, 1), WRITTEN(passthrough, 1), WRITTEN(elf, 1),
     WHOLE(spooky), WHOLE(spooky_v1),
 };
 enum { KINDS = sizeof kinds / sizeof *kinds };
@@ -120,6 +121,7 @@ static const struct column {
 #define COLUMN(name) {hashers_##name, hashers_##name##_column32, hashers_##name##_column64}
     COLUMN(fnv1a32), COLUMN(fnv1a64), COLUMN(djb2), COLUMN(sdbm), COLUMN(loselose), COLUMN(bricolage), COLUMN(oaat), COLUMN(lookup3),
     COLUMN(spooky), COLUMN(spooky_v1), COLUMN(null), COLUMN(passthrough), COLUMN(fxhash), COLUMN(fxhash32), COLUMN(fxhash64),
+    COLUMN(crc32), COLUMN(crc32c), COLUMN(fnv1_32), COLUMN(fnv1_64), COLUMN(djb2_add), COLUMN(joaat), COLUMN(elf),
 };
 
 enum { TEXTS = 40 };
@@ -155,6 +157,7 @@ static const struct lines {
 #define LINES(name) {hashers_##name, hashers_##name##_lines}
     LINES(fnv1a32), LINES(fnv1a64), LINES(djb2), LINES(sdbm), LINES(loselose), LINES(bricolage), LINES(oaat), LINES(lookup3),
     LINES(spooky), LINES(spooky_v1), LINES(null), LINES(passthrough), LINES(fxhash), LINES(fxhash32), LINES(fxhash64),
+    LINES(crc32), LINES(crc32c), LINES(fnv1_32), LINES(fnv1_64), LINES(djb2_add), LINES(joaat), LINES(elf),
 };
 
 // Lines against a call for each, with more room than lines and with less; and which bytes have which lines.
@@ -233,6 +236,8 @@ static void check_combine(void) {
              hashers_loselose_combine(hashers_loselose(text, n), hashers_loselose(second, n2), n2));
         same("passthrough_combine", hashers_passthrough(text, n + n2),
              hashers_passthrough_combine(hashers_passthrough(text, n), hashers_passthrough(second, n2), n2));
+        same("crc32_combine", hashers_crc32(text, n + n2), hashers_crc32_combine(hashers_crc32(text, n), hashers_crc32(second, n2), n2));
+        same("crc32c_combine", hashers_crc32c(text, n + n2), hashers_crc32c_combine(hashers_crc32c(text, n), hashers_crc32c(second, n2), n2));
     }
 }
 

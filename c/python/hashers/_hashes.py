@@ -51,6 +51,13 @@ passthrough = _function("passthrough", 64)
 fxhash = _function("fxhash", 64)
 fxhash32 = _function("fxhash32", 32)
 fxhash64 = _function("fxhash64", 64)
+crc32 = _function("crc32", 32)
+crc32c = _function("crc32c", 32)
+fnv1_32 = _function("fnv1_32", 32)
+fnv1_64 = _function("fnv1_64", 64)
+djb2_add = _function("djb2_add", 32)
+joaat = _function("joaat", 32)
+elf = _function("elf", 28)
 
 algorithms_available = frozenset(_functions)
 
@@ -82,7 +89,7 @@ def spooky128_v1(data: Buffer, seed1: SupportsIndex = 0, seed2: SupportsIndex = 
 
 def combine(name: str, hash1: SupportsIndex, hash2: SupportsIndex, length2: SupportsIndex) -> int:
     """The hash of two texts joined, from the hash of each and the length of the second in bytes. ValueError where the hash has no such
-    law: sdbm, loselose and passthrough have."""
+    law: sdbm, loselose, passthrough, crc32 and crc32c have."""
     if not has(known(name) + "_combine"):
         raise ValueError(f"{name} of two texts joined does not follow from their hashes")
     answer: int = call(name + "_combine")(word(hash1), word(hash2), word(length2))
@@ -106,7 +113,7 @@ class Hash(ABC):
     @property
     def digest_size(self) -> int:
         """How many bytes the digest has: 4 or 8."""
-        return _bits[self._name] // 8
+        return (_bits[self._name] + 7) // 8
 
     @abstractmethod
     def update(self, data: Buffer) -> None:
@@ -114,7 +121,7 @@ class Hash(ABC):
 
     def unwrite(self, data: Buffer) -> None:
         """Takes the last bytes out again: from every state, update and unwrite of the same bytes lead back to it, in either order.
-        ValueError for lookup3, the two of SpookyHash, null and passthrough, which cannot."""
+        ValueError for lookup3, the two of SpookyHash, null, passthrough and elf, which cannot."""
         raise ValueError(f"{self._name} cannot be unwritten")
 
     def words(self) -> Tuple[int, int]:

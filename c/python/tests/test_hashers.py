@@ -88,11 +88,15 @@ class AgainstTheHeader(unittest.TestCase):
                 self.assertRaises(ValueError, hashers.combine, name, 1, 2, 3)
 
     def test_which_have_32_bits(self) -> None:
-        # Of those that lose nothing every number of their bits is a hash so far, and a write of nothing keeps it. Others mix, but null.
+        # Of those that lose nothing every number of their bits is a hash so far, and a write of nothing keeps it. Others mix, but null; elf
+        # has 28 bits.
         for name in NAMES:
             if name in ending("_unwrite"):
                 top = _library.call(name + "_write")(TOP, b"", 0)
                 self.assertEqual(top, (1 << 8 * hashers.new(name).digest_size) - 1, name)
+            elif name == "elf":
+                self.assertEqual(_library.call("elf_write")(TOP, b"", 0), (1 << 28) - 1)
+                self.assertEqual(hashers.new(name).digest_size, 4)
             elif name != "null":
                 self.assertEqual(hashers.new(name).digest_size, 8)
                 self.assertGreater(hashers.new(name, TEXT).intdigest(), 1 << 32)

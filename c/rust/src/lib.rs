@@ -1,4 +1,5 @@
-//! The hash functions of the crate hashers 1.0.1, by its names and paths, from `libhashers.a`, whose code is proved.
+//! The hash functions of the crate hashers 1.0.1, by its names and paths, and seven relatives in [`more`], from `libhashers.a`, whose code is
+//! proved.
 //!
 //! Each type has std's `Default` and `Hasher`, so `BuildHasherDefault` takes it for a map:
 //!
@@ -96,7 +97,7 @@ pub mod fnv {
 /// The hashes that Oz Yigit's page lists.
 pub mod oz {
     number_hashers! {
-        /// djb2, with addition, of 32 bits.
+        /// djb2, with an exclusive or, of 32 bits.
         DJB2Hasher, djb2, 5381, hashers_djb2, hashers_djb2_write, hashers_djb2_unwrite;
         /// sdbm, of 32 bits.
         SDBMHasher, sdbm, 0, hashers_sdbm, hashers_sdbm_write, hashers_sdbm_unwrite;
@@ -151,5 +152,29 @@ pub mod jenkins {
         OAATHasher, oaat, 0, hashers_oaat, hashers_oaat_write, hashers_oaat_unwrite;
         /// lookup3, both words as one of 64 bits. Each write is split into words by itself, so the cut between two writes may show.
         Lookup3Hasher, lookup3, 0, hashers_lookup3, hashers_lookup3_write;
+    }
+}
+
+/// Relatives that other programs compute, which the crate hashers 1.0.1 does not have.
+pub mod more {
+    number_hashers! {
+        /// CRC-32, as zlib, gzip and PNG compute it, of 32 bits.
+        Crc32Hasher, crc32, 0, hashers_crc32, hashers_crc32_write, hashers_crc32_unwrite;
+        /// CRC-32C, as iSCSI and ext4 compute it, of 32 bits.
+        Crc32cHasher, crc32c, 0, hashers_crc32c, hashers_crc32c_write, hashers_crc32c_unwrite;
+        /// FNV-1 of 32 bits.
+        Fnv1Hasher32, fnv1_32, 2166136261, hashers_fnv1_32, hashers_fnv1_32_write, hashers_fnv1_32_unwrite;
+        /// FNV-1 of 64 bits.
+        Fnv1Hasher64, fnv1_64, 14695981039346656037, hashers_fnv1_64, hashers_fnv1_64_write, hashers_fnv1_64_unwrite;
+        /// djb2 with addition, of 32 bits, as `.gnu.hash` of ELF files has it.
+        Djb2AddHasher, djb2_add, 5381, hashers_djb2_add, hashers_djb2_add_write, hashers_djb2_add_unwrite;
+        /// One-at-a-time of 32 bits, which PHP calls joaat.
+        JoaatHasher, joaat, 0, hashers_joaat, hashers_joaat_write, hashers_joaat_unwrite;
+        /// The hash of `.hash` in ELF files, of 28 bits.
+        ElfHasher, elf, 0, hashers_elf, hashers_elf_write;
+    }
+    combines! {
+        crc32_combine, hashers_crc32_combine;
+        crc32c_combine, hashers_crc32c_combine;
     }
 }

@@ -1,6 +1,6 @@
 //! What a caller does: maps, parts, undoing, two texts joined.
 use hashers_proved::jenkins::spooky_hash::{spooky128, spooky128_v1, SpookyHasher};
-use hashers_proved::{c, fnv::*, fx_hash::*, jenkins::*, null::*, oz::*, pigeon::*};
+use hashers_proved::{c, fnv::*, fx_hash::*, jenkins::*, more::*, null::*, oz::*, pigeon::*};
 use std::collections::{HashMap, HashSet};
 use std::fmt::Debug;
 use std::hash::{BuildHasherDefault, Hash, Hasher};
@@ -87,6 +87,8 @@ fn two_texts_are_combined() {
     assert_eq!(sdbm_combine(sdbm(first), sdbm(second), length), sdbm(&whole));
     assert_eq!(loselose_combine(loselose(first), loselose(second), length), loselose(&whole));
     assert_eq!(passthrough_combine(passthrough(first), passthrough(second), length), passthrough(&whole));
+    assert_eq!(crc32_combine(crc32(first), crc32(second), length), crc32(&whole));
+    assert_eq!(crc32c_combine(crc32c(first), crc32c(second), length), crc32c(&whole));
 }
 
 #[test]

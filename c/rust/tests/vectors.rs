@@ -1,6 +1,6 @@
 //! The vectors of `c/vectors.inc`, by function and by hasher.
 use hashers_proved::jenkins::spooky_hash::{spooky, spooky_v1, SpookyHasher};
-use hashers_proved::{fnv::*, fx_hash::*, jenkins::*, null::*, oz::*, pigeon::*};
+use hashers_proved::{fnv::*, fx_hash::*, jenkins::*, more::*, null::*, oz::*, pigeon::*};
 use std::hash::Hasher;
 
 fn by<H: Default + Hasher>(bytes: &[u8]) -> u64 {
@@ -18,7 +18,7 @@ fn spooky_v1_in_parts(bytes: &[u8]) -> u64 {
 type Hash = fn(&[u8]) -> u64;
 
 /// Each name, its function, and the same by its hasher.
-const NAMES: [(&str, Hash, Hash); 15] = [
+const NAMES: [(&str, Hash, Hash); 22] = [
     ("fnv1a32", fnv1a32, by::<FNV1aHasher32>),
     ("fnv1a64", fnv1a64, by::<FNV1aHasher64>),
     ("djb2", djb2, by::<DJB2Hasher>),
@@ -34,6 +34,13 @@ const NAMES: [(&str, Hash, Hash); 15] = [
     ("fxhash", fxhash, by::<FxHasher>),
     ("fxhash32", fxhash32, by::<FxHasher32>),
     ("fxhash64", fxhash64, by::<FxHasher64>),
+    ("crc32", crc32, by::<Crc32Hasher>),
+    ("crc32c", crc32c, by::<Crc32cHasher>),
+    ("fnv1_32", fnv1_32, by::<Fnv1Hasher32>),
+    ("fnv1_64", fnv1_64, by::<Fnv1Hasher64>),
+    ("djb2_add", djb2_add, by::<Djb2AddHasher>),
+    ("joaat", joaat, by::<JoaatHasher>),
+    ("elf", elf, by::<ElfHasher>),
 ];
 
 /// A row of the table, as `{hashers_djb2, "a", 177604u},`.

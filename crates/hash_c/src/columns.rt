@@ -2,6 +2,11 @@
 ghost use Rattle.std.specs.Bool.{OnFalse, OnTrue};
 ghost use Rattle.std.specs.Prelude.{◌≡◌, ◌↔◌, length, IsTrue};
 ghost use Rattle.hash_c.specs.Columns.{AreHashes, AreOffsets};
+ghost use Rattle.hash_more.specs.Crc32.{ieee, castagnoli, all_ones, crc_from, crc_answer};
+ghost use Rattle.hash_more.specs.Djb2Add.{djb2_add_from};
+ghost use Rattle.hash_more.specs.Elf.{elf_from};
+ghost use Rattle.hash_more.specs.Fnv1.{fnv1_32_from, fnv1_64_from};
+ghost use Rattle.hash_more.specs.Joaat.{joaat_from, joaat_answer};
 ghost use Rattle.hashers.specs.Fnv.{fnv1a32_basis, fnv1a32_from, fnv1a64_basis, fnv1a64_from};
 ghost use Rattle.hashers.specs.Fx.{fx32, fx64, words32, words64};
 ghost use Rattle.hashers.specs.Lookup3.{lookup3_from, lookup3_answer};
@@ -12,6 +17,11 @@ ghost use Rattle.hashers.specs.Spooky.{spooky, spooky_v1};
 ghost use Rattle.hashers.specs.Sums.{loselose_from, passthrough_from, sdbm_from};
 
 use crate::column::{Default, SpookyV1, column32, column64};
+use hash_more::crc32::{Crc32Hasher, Crc32cHasher};
+use hash_more::djb2_add::Djb2AddHasher;
+use hash_more::elf::ElfHasher;
+use hash_more::fnv1::{Fnv1Hasher32, Fnv1Hasher64};
+use hash_more::joaat::JoaatHasher;
 use hashers::fnv::{FNV1aHasher32, FNV1aHasher64};
 use hashers::fx_hash::{FxHasher, FxHasher32, FxHasher64};
 use hashers::jenkins::spooky_hash::SpookyHasher;
@@ -390,4 +400,182 @@ pub extern "C" fn hashers_fxhash64_column64(
     ensures refused { OnFalse result (hashes.new ≡ hashes.old) }
 {
     column64::<Default<FxHasher64>>(bytes, offsets, hashes)
+}
+
+/// CRC-32 of each text, under offsets of 32 bits. Where they are no such offsets, nothing is written.
+#[unsafe(no_mangle)]
+pub extern "C" fn hashers_crc32_column32(bytes: &[u8], offsets: &[u32], hashes: &mut [u64]) -> bool
+    ensures exactly { IsTrue result ↔ AreOffsets (length bytes.now) (length hashes.old) offsets.now }
+    ensures written { OnTrue result
+        (AreHashes (λ text. crc_answer (crc_from ieee all_ones text)) bytes.now offsets.now hashes.new) }
+    ensures refused { OnFalse result (hashes.new ≡ hashes.old) }
+{
+    column32::<Default<Crc32Hasher>>(bytes, offsets, hashes)
+}
+
+/// CRC-32 of each text, under offsets of 64 bits. Where they are no such offsets, nothing is written.
+#[unsafe(no_mangle)]
+pub extern "C" fn hashers_crc32_column64(bytes: &[u8], offsets: &[u64], hashes: &mut [u64]) -> bool
+    ensures exactly { IsTrue result ↔ AreOffsets (length bytes.now) (length hashes.old) offsets.now }
+    ensures written { OnTrue result
+        (AreHashes (λ text. crc_answer (crc_from ieee all_ones text)) bytes.now offsets.now hashes.new) }
+    ensures refused { OnFalse result (hashes.new ≡ hashes.old) }
+{
+    column64::<Default<Crc32Hasher>>(bytes, offsets, hashes)
+}
+
+/// CRC-32C of each text, under offsets of 32 bits. Where they are no such offsets, nothing is written.
+#[unsafe(no_mangle)]
+pub extern "C" fn hashers_crc32c_column32(bytes: &[u8], offsets: &[u32], hashes: &mut [u64]) -> bool
+    ensures exactly { IsTrue result ↔ AreOffsets (length bytes.now) (length hashes.old) offsets.now }
+    ensures written { OnTrue result
+        (AreHashes (λ text. crc_answer (crc_from castagnoli all_ones text)) bytes.now offsets.now hashes.new) }
+    ensures refused { OnFalse result (hashes.new ≡ hashes.old) }
+{
+    column32::<Default<Crc32cHasher>>(bytes, offsets, hashes)
+}
+
+/// CRC-32C of each text, under offsets of 64 bits. Where they are no such offsets, nothing is written.
+#[unsafe(no_mangle)]
+pub extern "C" fn hashers_crc32c_column64(bytes: &[u8], offsets: &[u64], hashes: &mut [u64]) -> bool
+    ensures exactly { IsTrue result ↔ AreOffsets (length bytes.now) (length hashes.old) offsets.now }
+    ensures written { OnTrue result
+        (AreHashes (λ text. crc_answer (crc_from castagnoli all_ones text)) bytes.now offsets.now hashes.new) }
+    ensures refused { OnFalse result (hashes.new ≡ hashes.old) }
+{
+    column64::<Default<Crc32cHasher>>(bytes, offsets, hashes)
+}
+
+/// FNV-1 at 32 bits of each text, under offsets of 32 bits. Where they are no such offsets, nothing is written.
+#[unsafe(no_mangle)]
+pub extern "C" fn hashers_fnv1_32_column32(
+    bytes: &[u8],
+    offsets: &[u32],
+    hashes: &mut [u64],
+) -> bool
+    ensures exactly { IsTrue result ↔ AreOffsets (length bytes.now) (length hashes.old) offsets.now }
+    ensures written { OnTrue result
+        (AreHashes (fnv1_32_from fnv1a32_basis) bytes.now offsets.now hashes.new) }
+    ensures refused { OnFalse result (hashes.new ≡ hashes.old) }
+{
+    column32::<Default<Fnv1Hasher32>>(bytes, offsets, hashes)
+}
+
+/// FNV-1 at 32 bits of each text, under offsets of 64 bits. Where they are no such offsets, nothing is written.
+#[unsafe(no_mangle)]
+pub extern "C" fn hashers_fnv1_32_column64(
+    bytes: &[u8],
+    offsets: &[u64],
+    hashes: &mut [u64],
+) -> bool
+    ensures exactly { IsTrue result ↔ AreOffsets (length bytes.now) (length hashes.old) offsets.now }
+    ensures written { OnTrue result
+        (AreHashes (fnv1_32_from fnv1a32_basis) bytes.now offsets.now hashes.new) }
+    ensures refused { OnFalse result (hashes.new ≡ hashes.old) }
+{
+    column64::<Default<Fnv1Hasher32>>(bytes, offsets, hashes)
+}
+
+/// FNV-1 at 64 bits of each text, under offsets of 32 bits. Where they are no such offsets, nothing is written.
+#[unsafe(no_mangle)]
+pub extern "C" fn hashers_fnv1_64_column32(
+    bytes: &[u8],
+    offsets: &[u32],
+    hashes: &mut [u64],
+) -> bool
+    ensures exactly { IsTrue result ↔ AreOffsets (length bytes.now) (length hashes.old) offsets.now }
+    ensures written { OnTrue result
+        (AreHashes (fnv1_64_from fnv1a64_basis) bytes.now offsets.now hashes.new) }
+    ensures refused { OnFalse result (hashes.new ≡ hashes.old) }
+{
+    column32::<Default<Fnv1Hasher64>>(bytes, offsets, hashes)
+}
+
+/// FNV-1 at 64 bits of each text, under offsets of 64 bits. Where they are no such offsets, nothing is written.
+#[unsafe(no_mangle)]
+pub extern "C" fn hashers_fnv1_64_column64(
+    bytes: &[u8],
+    offsets: &[u64],
+    hashes: &mut [u64],
+) -> bool
+    ensures exactly { IsTrue result ↔ AreOffsets (length bytes.now) (length hashes.old) offsets.now }
+    ensures written { OnTrue result
+        (AreHashes (fnv1_64_from fnv1a64_basis) bytes.now offsets.now hashes.new) }
+    ensures refused { OnFalse result (hashes.new ≡ hashes.old) }
+{
+    column64::<Default<Fnv1Hasher64>>(bytes, offsets, hashes)
+}
+
+/// djb2 with a sum of each text, under offsets of 32 bits. Where they are no such offsets, nothing is written.
+#[unsafe(no_mangle)]
+pub extern "C" fn hashers_djb2_add_column32(
+    bytes: &[u8],
+    offsets: &[u32],
+    hashes: &mut [u64],
+) -> bool
+    ensures exactly { IsTrue result ↔ AreOffsets (length bytes.now) (length hashes.old) offsets.now }
+    ensures written { OnTrue result
+        (AreHashes (djb2_add_from 5381) bytes.now offsets.now hashes.new) }
+    ensures refused { OnFalse result (hashes.new ≡ hashes.old) }
+{
+    column32::<Default<Djb2AddHasher>>(bytes, offsets, hashes)
+}
+
+/// djb2 with a sum of each text, under offsets of 64 bits. Where they are no such offsets, nothing is written.
+#[unsafe(no_mangle)]
+pub extern "C" fn hashers_djb2_add_column64(
+    bytes: &[u8],
+    offsets: &[u64],
+    hashes: &mut [u64],
+) -> bool
+    ensures exactly { IsTrue result ↔ AreOffsets (length bytes.now) (length hashes.old) offsets.now }
+    ensures written { OnTrue result
+        (AreHashes (djb2_add_from 5381) bytes.now offsets.now hashes.new) }
+    ensures refused { OnFalse result (hashes.new ≡ hashes.old) }
+{
+    column64::<Default<Djb2AddHasher>>(bytes, offsets, hashes)
+}
+
+/// one-at-a-time at 32 bits of each text, under offsets of 32 bits. Where they are no such offsets, nothing is written.
+#[unsafe(no_mangle)]
+pub extern "C" fn hashers_joaat_column32(bytes: &[u8], offsets: &[u32], hashes: &mut [u64]) -> bool
+    ensures exactly { IsTrue result ↔ AreOffsets (length bytes.now) (length hashes.old) offsets.now }
+    ensures written { OnTrue result
+        (AreHashes (λ text. joaat_answer (joaat_from 0 text)) bytes.now offsets.now hashes.new) }
+    ensures refused { OnFalse result (hashes.new ≡ hashes.old) }
+{
+    column32::<Default<JoaatHasher>>(bytes, offsets, hashes)
+}
+
+/// one-at-a-time at 32 bits of each text, under offsets of 64 bits. Where they are no such offsets, nothing is written.
+#[unsafe(no_mangle)]
+pub extern "C" fn hashers_joaat_column64(bytes: &[u8], offsets: &[u64], hashes: &mut [u64]) -> bool
+    ensures exactly { IsTrue result ↔ AreOffsets (length bytes.now) (length hashes.old) offsets.now }
+    ensures written { OnTrue result
+        (AreHashes (λ text. joaat_answer (joaat_from 0 text)) bytes.now offsets.now hashes.new) }
+    ensures refused { OnFalse result (hashes.new ≡ hashes.old) }
+{
+    column64::<Default<JoaatHasher>>(bytes, offsets, hashes)
+}
+
+/// ELF's hash of each text, under offsets of 32 bits. Where they are no such offsets, nothing is written.
+#[unsafe(no_mangle)]
+pub extern "C" fn hashers_elf_column32(bytes: &[u8], offsets: &[u32], hashes: &mut [u64]) -> bool
+    ensures exactly { IsTrue result ↔ AreOffsets (length bytes.now) (length hashes.old) offsets.now }
+    ensures written { OnTrue result
+        (AreHashes (elf_from 0) bytes.now offsets.now hashes.new) }
+    ensures refused { OnFalse result (hashes.new ≡ hashes.old) }
+{
+    column32::<Default<ElfHasher>>(bytes, offsets, hashes)
+}
+
+/// ELF's hash of each text, under offsets of 64 bits. Where they are no such offsets, nothing is written.
+#[unsafe(no_mangle)]
+pub extern "C" fn hashers_elf_column64(bytes: &[u8], offsets: &[u64], hashes: &mut [u64]) -> bool
+    ensures exactly { IsTrue result ↔ AreOffsets (length bytes.now) (length hashes.old) offsets.now }
+    ensures written { OnTrue result
+        (AreHashes (elf_from 0) bytes.now offsets.now hashes.new) }
+    ensures refused { OnFalse result (hashes.new ≡ hashes.old) }
+{
+    column64::<Default<ElfHasher>>(bytes, offsets, hashes)
 }

@@ -1,7 +1,10 @@
 //! The hash of two texts joined, from their hashes and the second one's length.
-ghost use Rattle.std.specs.Prelude.{◌≡◌, ◌+◌, ◌*◌, ◌%◌, ◌^◌, List, ℕ, ◌++◌, length};
+ghost use Rattle.std.specs.Prelude.{◌≡◌, ◌+◌, ◌*◌, ◌%◌, ◌^◌, List, ℕ, ◌++◌, length, bit_xor};
+ghost use Rattle.hash_more.specs.Crc32.{ieee, castagnoli, all_ones, bits_out, crc_from, crc_answer};
 ghost use Rattle.hashers.specs.Sums.{loselose_from, passthrough_from, sdbm_from};
+ghost use Rattle.hashers.specs.Text.{IsText};
 
+use hash_more::crc32;
 use hashers::{null, oz};
 
 /// sdbm of a joined text from the hashes of its two parts and the second one's length in bytes.
@@ -32,4 +35,26 @@ pub extern "C" fn hashers_passthrough_combine(hash1: u64, hash2: u64, n2: u64) -
         → result ≡ passthrough_from 0 (x ++ y) }
 {
     null::passthrough_combine(hash1, hash2, n2)
+}
+
+/// The same of CRC-32, in a time that grows with the number of digits of the second text's length.
+#[unsafe(no_mangle)]
+pub extern "C" fn hashers_crc32_combine(hash1: u64, hash2: u64, n2: u64) -> u64
+    ensures value { result ≡ bit_xor (bits_out ieee (8 * n2) (hash1 % 2 ^ 32)) (hash2 % 2 ^ 32) }
+    ensures joined { (x y : List ℕ) → IsText x → IsText y → length y ≡ n2
+        → hash1 ≡ crc_answer (crc_from ieee all_ones x) → hash2 ≡ crc_answer (crc_from ieee all_ones y)
+        → result ≡ crc_answer (crc_from ieee all_ones (x ++ y)) }
+{
+    crc32::crc32_combine(hash1, hash2, n2)
+}
+
+/// The same of CRC-32C.
+#[unsafe(no_mangle)]
+pub extern "C" fn hashers_crc32c_combine(hash1: u64, hash2: u64, n2: u64) -> u64
+    ensures value { result ≡ bit_xor (bits_out castagnoli (8 * n2) (hash1 % 2 ^ 32)) (hash2 % 2 ^ 32) }
+    ensures joined { (x y : List ℕ) → IsText x → IsText y → length y ≡ n2
+        → hash1 ≡ crc_answer (crc_from castagnoli all_ones x) → hash2 ≡ crc_answer (crc_from castagnoli all_ones y)
+        → result ≡ crc_answer (crc_from castagnoli all_ones (x ++ y)) }
+{
+    crc32::crc32c_combine(hash1, hash2, n2)
 }

@@ -2,6 +2,11 @@
 //! The answer is how many lines there are: where there is room for fewer hashes, those of the first lines are written.
 ghost use Rattle.std.specs.Prelude.{◌≡◌, length, map};
 ghost use Rattle.hash_c.specs.Lines.{laid_over, line_texts};
+ghost use Rattle.hash_more.specs.Crc32.{ieee, castagnoli, all_ones, crc_from, crc_answer};
+ghost use Rattle.hash_more.specs.Djb2Add.{djb2_add_from};
+ghost use Rattle.hash_more.specs.Elf.{elf_from};
+ghost use Rattle.hash_more.specs.Fnv1.{fnv1_32_from, fnv1_64_from};
+ghost use Rattle.hash_more.specs.Joaat.{joaat_from, joaat_answer};
 ghost use Rattle.hashers.specs.Fnv.{fnv1a32_basis, fnv1a32_from, fnv1a64_basis, fnv1a64_from};
 ghost use Rattle.hashers.specs.Fx.{fx32, fx64, words32, words64};
 ghost use Rattle.hashers.specs.Lookup3.{lookup3_from, lookup3_answer};
@@ -12,6 +17,11 @@ ghost use Rattle.hashers.specs.Spooky.{spooky, spooky_v1};
 ghost use Rattle.hashers.specs.Sums.{loselose_from, passthrough_from, sdbm_from};
 
 use crate::column::{Default, SpookyV1, hash_lines};
+use hash_more::crc32::{Crc32Hasher, Crc32cHasher};
+use hash_more::djb2_add::Djb2AddHasher;
+use hash_more::elf::ElfHasher;
+use hash_more::fnv1::{Fnv1Hasher32, Fnv1Hasher64};
+use hash_more::joaat::JoaatHasher;
 use hashers::fnv::{FNV1aHasher32, FNV1aHasher64};
 use hashers::fx_hash::{FxHasher, FxHasher32, FxHasher64};
 use hashers::jenkins::spooky_hash::SpookyHasher;
@@ -153,4 +163,74 @@ pub extern "C" fn hashers_fxhash64_lines(bytes: &[u8], hashes: &mut [u64]) -> us
     ensures written { hashes.new ≡ laid_over (map (λ text. fx64 0 (words64 text)) (line_texts bytes.now)) hashes.old }
 {
     hash_lines::<Default<FxHasher64>>(bytes, hashes)
+}
+
+/// CRC-32 of each line.
+#[unsafe(no_mangle)]
+pub extern "C" fn hashers_crc32_lines(bytes: &[u8], hashes: &mut [u64]) -> usize
+    ensures count { result ≡ length (line_texts bytes.now) }
+    ensures written { hashes.new
+        ≡ laid_over (map (λ text. crc_answer (crc_from ieee all_ones text)) (line_texts bytes.now)) hashes.old }
+{
+    hash_lines::<Default<Crc32Hasher>>(bytes, hashes)
+}
+
+/// CRC-32C of each line.
+#[unsafe(no_mangle)]
+pub extern "C" fn hashers_crc32c_lines(bytes: &[u8], hashes: &mut [u64]) -> usize
+    ensures count { result ≡ length (line_texts bytes.now) }
+    ensures written { hashes.new
+        ≡ laid_over (map (λ text. crc_answer (crc_from castagnoli all_ones text)) (line_texts bytes.now)) hashes.old }
+{
+    hash_lines::<Default<Crc32cHasher>>(bytes, hashes)
+}
+
+/// FNV-1 at 32 bits of each line.
+#[unsafe(no_mangle)]
+pub extern "C" fn hashers_fnv1_32_lines(bytes: &[u8], hashes: &mut [u64]) -> usize
+    ensures count { result ≡ length (line_texts bytes.now) }
+    ensures written { hashes.new
+        ≡ laid_over (map (fnv1_32_from fnv1a32_basis) (line_texts bytes.now)) hashes.old }
+{
+    hash_lines::<Default<Fnv1Hasher32>>(bytes, hashes)
+}
+
+/// FNV-1 at 64 bits of each line.
+#[unsafe(no_mangle)]
+pub extern "C" fn hashers_fnv1_64_lines(bytes: &[u8], hashes: &mut [u64]) -> usize
+    ensures count { result ≡ length (line_texts bytes.now) }
+    ensures written { hashes.new
+        ≡ laid_over (map (fnv1_64_from fnv1a64_basis) (line_texts bytes.now)) hashes.old }
+{
+    hash_lines::<Default<Fnv1Hasher64>>(bytes, hashes)
+}
+
+/// djb2 with a sum of each line.
+#[unsafe(no_mangle)]
+pub extern "C" fn hashers_djb2_add_lines(bytes: &[u8], hashes: &mut [u64]) -> usize
+    ensures count { result ≡ length (line_texts bytes.now) }
+    ensures written { hashes.new
+        ≡ laid_over (map (djb2_add_from 5381) (line_texts bytes.now)) hashes.old }
+{
+    hash_lines::<Default<Djb2AddHasher>>(bytes, hashes)
+}
+
+/// one-at-a-time at 32 bits of each line.
+#[unsafe(no_mangle)]
+pub extern "C" fn hashers_joaat_lines(bytes: &[u8], hashes: &mut [u64]) -> usize
+    ensures count { result ≡ length (line_texts bytes.now) }
+    ensures written { hashes.new
+        ≡ laid_over (map (λ text. joaat_answer (joaat_from 0 text)) (line_texts bytes.now)) hashes.old }
+{
+    hash_lines::<Default<JoaatHasher>>(bytes, hashes)
+}
+
+/// ELF's hash of each line.
+#[unsafe(no_mangle)]
+pub extern "C" fn hashers_elf_lines(bytes: &[u8], hashes: &mut [u64]) -> usize
+    ensures count { result ≡ length (line_texts bytes.now) }
+    ensures written { hashes.new
+        ≡ laid_over (map (elf_from 0) (line_texts bytes.now)) hashes.old }
+{
+    hash_lines::<Default<ElfHasher>>(bytes, hashes)
 }

@@ -2,6 +2,11 @@
 //! behind, and `unwrite` to the hash without the last ones. The hash of no bytes is where a text begins. Every number is a hash so
 //! far: of one of 32 bits the low 32 are taken.
 ghost use Rattle.std.specs.Prelude.{◌≡◌, ◌<◌, ◌^◌, ◌/◌, ◌%◌, ℕ};
+ghost use Rattle.hash_more.specs.Crc32.{ieee, castagnoli, all_ones, crc_from, crc_answer};
+ghost use Rattle.hash_more.specs.Djb2Add.{djb2_add_from};
+ghost use Rattle.hash_more.specs.Elf.{elf_from};
+ghost use Rattle.hash_more.specs.Fnv1.{fnv1_32_from, fnv1_64_from};
+ghost use Rattle.hash_more.specs.Joaat.{joaat_from, joaat_answer};
 ghost use Rattle.hashers.specs.Fnv.{fnv1a32_from, fnv1a64_from};
 ghost use Rattle.hashers.specs.Fx.{fx32, fx64, words32, words64};
 ghost use Rattle.hashers.specs.Lookup3.{lookup3_from, lookup3_answer};
@@ -10,6 +15,11 @@ ghost use Rattle.hashers.specs.Oz.{djb2_from};
 ghost use Rattle.hashers.specs.Pigeon.{bricolage_from};
 ghost use Rattle.hashers.specs.Sums.{loselose_from, passthrough_from, sdbm_from};
 
+use hash_more::crc32::{Crc32Hasher, Crc32cHasher};
+use hash_more::djb2_add::Djb2AddHasher;
+use hash_more::elf::ElfRule;
+use hash_more::fnv1::{Fnv1Hasher32, Fnv1Hasher64};
+use hash_more::joaat::JoaatHasher;
 use hashers::fnv::{FNV1aHasher32, FNV1aHasher64};
 use hashers::fx_hash::{FxHasher, FxHasher32, FxHasher64};
 use hashers::jenkins::{Lookup3Hasher, OAATHasher};
@@ -17,6 +27,7 @@ use hashers::laws::Undo;
 use hashers::null::{null, passthrough_from};
 use hashers::oz::{DJB2Hasher, LoseLoseHasher, SDBMHasher};
 use hashers::pigeon::Bricolage;
+use hashers::rules::ByteRule;
 use std::hash::Hasher;
 
 /// The hasher whose hash so far is this one.
@@ -252,4 +263,119 @@ pub extern "C" fn hashers_null_write(_hash: u64, bytes: &[u8]) -> u64
     ensures { result ≡ 0 }
 {
     null(bytes)
+}
+
+/// The hash of fnv1_32 with more bytes behind.
+#[unsafe(no_mangle)]
+pub extern "C" fn hashers_fnv1_32_write(hash: u64, bytes: &[u8]) -> u64
+    ensures { result ≡ fnv1_32_from (hash % 2 ^ 32) bytes.now }
+{
+    written::<Fnv1Hasher32>(hash % 4294967296, bytes)
+}
+
+/// The hash of fnv1_32 without the last bytes.
+#[unsafe(no_mangle)]
+pub extern "C" fn hashers_fnv1_32_unwrite(hash: u64, bytes: &[u8]) -> u64
+    ensures back { fnv1_32_from result bytes.now ≡ hash % 2 ^ 32 }
+    ensures undone { (s : ℕ) → s < 2 ^ 32 → fnv1_32_from s bytes.now ≡ hash % 2 ^ 32 → result ≡ s }
+{
+    unwritten::<Fnv1Hasher32>(hash % 4294967296, bytes)
+}
+
+/// The hash of djb2_add with more bytes behind.
+#[unsafe(no_mangle)]
+pub extern "C" fn hashers_djb2_add_write(hash: u64, bytes: &[u8]) -> u64
+    ensures { result ≡ djb2_add_from (hash % 2 ^ 32) bytes.now }
+{
+    written::<Djb2AddHasher>(hash % 4294967296, bytes)
+}
+
+/// The hash of djb2_add without the last bytes.
+#[unsafe(no_mangle)]
+pub extern "C" fn hashers_djb2_add_unwrite(hash: u64, bytes: &[u8]) -> u64
+    ensures back { djb2_add_from result bytes.now ≡ hash % 2 ^ 32 }
+    ensures undone { (s : ℕ) → s < 2 ^ 32 → djb2_add_from s bytes.now ≡ hash % 2 ^ 32 → result ≡ s }
+{
+    unwritten::<Djb2AddHasher>(hash % 4294967296, bytes)
+}
+
+/// The hash of fnv1_64 with more bytes behind.
+#[unsafe(no_mangle)]
+pub extern "C" fn hashers_fnv1_64_write(hash: u64, bytes: &[u8]) -> u64
+    ensures { result ≡ fnv1_64_from hash bytes.now }
+{
+    written::<Fnv1Hasher64>(hash, bytes)
+}
+
+/// The hash of fnv1_64 without the last bytes.
+#[unsafe(no_mangle)]
+pub extern "C" fn hashers_fnv1_64_unwrite(hash: u64, bytes: &[u8]) -> u64
+    ensures back { fnv1_64_from result bytes.now ≡ hash }
+    ensures undone { (s : ℕ) → s < 2 ^ 64 → fnv1_64_from s bytes.now ≡ hash → result ≡ s }
+{
+    unwritten::<Fnv1Hasher64>(hash, bytes)
+}
+
+/// The hash of joaat with more bytes behind.
+#[unsafe(no_mangle)]
+pub extern "C" fn hashers_joaat_write(hash: u64, bytes: &[u8]) -> u64
+    ensures { (s : ℕ) → s < 2 ^ 32 → joaat_answer s ≡ hash % 2 ^ 32 → result ≡ joaat_answer (joaat_from s bytes.now) }
+{
+    written::<JoaatHasher>(hash % 4294967296, bytes)
+}
+
+/// The hash of joaat without the last bytes.
+#[unsafe(no_mangle)]
+pub extern "C" fn hashers_joaat_unwrite(hash: u64, bytes: &[u8]) -> u64
+    ensures back { (s : ℕ) → s < 2 ^ 32 → joaat_answer s ≡ result → joaat_answer (joaat_from s bytes.now) ≡ hash % 2 ^ 32 }
+    ensures undone { (s : ℕ) → s < 2 ^ 32 → joaat_answer (joaat_from s bytes.now) ≡ hash % 2 ^ 32
+        → result ≡ joaat_answer s }
+{
+    unwritten::<JoaatHasher>(hash % 4294967296, bytes)
+}
+
+/// The hash of crc32 with more bytes behind.
+#[unsafe(no_mangle)]
+pub extern "C" fn hashers_crc32_write(hash: u64, bytes: &[u8]) -> u64
+    ensures { (s : ℕ) → s < 2 ^ 32 → crc_answer s ≡ hash % 2 ^ 32 → result ≡ crc_answer (crc_from ieee s bytes.now) }
+{
+    written::<Crc32Hasher>(hash % 4294967296, bytes)
+}
+
+/// The hash of crc32 without the last bytes.
+#[unsafe(no_mangle)]
+pub extern "C" fn hashers_crc32_unwrite(hash: u64, bytes: &[u8]) -> u64
+    ensures back { (s : ℕ) → s < 2 ^ 32 → crc_answer s ≡ result → crc_answer (crc_from ieee s bytes.now) ≡ hash % 2 ^ 32 }
+    ensures undone { (s : ℕ) → s < 2 ^ 32 → crc_answer (crc_from ieee s bytes.now) ≡ hash % 2 ^ 32
+        → result ≡ crc_answer s }
+{
+    unwritten::<Crc32Hasher>(hash % 4294967296, bytes)
+}
+
+/// The hash of crc32c with more bytes behind.
+#[unsafe(no_mangle)]
+pub extern "C" fn hashers_crc32c_write(hash: u64, bytes: &[u8]) -> u64
+    ensures { (s : ℕ) → s < 2 ^ 32 → crc_answer s ≡ hash % 2 ^ 32 → result ≡ crc_answer (crc_from castagnoli s bytes.now) }
+{
+    written::<Crc32cHasher>(hash % 4294967296, bytes)
+}
+
+/// The hash of crc32c without the last bytes.
+#[unsafe(no_mangle)]
+pub extern "C" fn hashers_crc32c_unwrite(hash: u64, bytes: &[u8]) -> u64
+    ensures back { (s : ℕ) → s < 2 ^ 32 → crc_answer s ≡ result → crc_answer (crc_from castagnoli s bytes.now) ≡ hash % 2 ^ 32 }
+    ensures undone { (s : ℕ) → s < 2 ^ 32 → crc_answer (crc_from castagnoli s bytes.now) ≡ hash % 2 ^ 32
+        → result ≡ crc_answer s }
+{
+    unwritten::<Crc32cHasher>(hash % 4294967296, bytes)
+}
+
+/// The hash of ELF with more bytes behind. It loses information, and so there is no way back.
+#[unsafe(no_mangle)]
+pub extern "C" fn hashers_elf_write(hash: u64, bytes: &[u8]) -> u64
+    ensures { result ≡ elf_from (hash % 2 ^ 28) bytes.now }
+{
+    let mut state = (hash % 268435456) as u32;
+    ElfRule::write(&mut state, bytes);
+    u64::from(state)
 }

@@ -1,5 +1,10 @@
 //! One call over a whole text.
 ghost use Rattle.std.specs.Prelude.{◌≡◌};
+ghost use Rattle.hash_more.specs.Crc32.{ieee, castagnoli, all_ones, crc_from, crc_answer};
+ghost use Rattle.hash_more.specs.Djb2Add.{djb2_add_from};
+ghost use Rattle.hash_more.specs.Elf.{elf_from};
+ghost use Rattle.hash_more.specs.Fnv1.{fnv1_32_from, fnv1_64_from};
+ghost use Rattle.hash_more.specs.Joaat.{joaat_from, joaat_answer};
 ghost use Rattle.hashers.specs.Fnv.{fnv1a32_basis, fnv1a32_from, fnv1a64_basis, fnv1a64_from};
 ghost use Rattle.hashers.specs.Fx.{fx32, fx64, words32, words64};
 ghost use Rattle.hashers.specs.Lookup3.{lookup3_from, lookup3_answer};
@@ -9,6 +14,7 @@ ghost use Rattle.hashers.specs.Pigeon.{bricolage_from};
 ghost use Rattle.hashers.specs.Spooky.{spooky, spooky_v1};
 ghost use Rattle.hashers.specs.Sums.{loselose_from, passthrough_from, sdbm_from};
 
+use hash_more::{crc32, djb2_add, elf, fnv1, joaat};
 use hashers::jenkins::spooky_hash;
 use hashers::{fnv, fx_hash, jenkins, null, oz, pigeon};
 
@@ -139,4 +145,60 @@ pub extern "C" fn hashers_passthrough(text: &[u8]) -> u64
     ensures { result ≡ passthrough_from 0 text.now }
 {
     null::passthrough(text)
+}
+
+/// CRC-32 of the text.
+#[unsafe(no_mangle)]
+pub extern "C" fn hashers_crc32(text: &[u8]) -> u64
+    ensures { result ≡ crc_answer (crc_from ieee all_ones text.now) }
+{
+    crc32::crc32(text)
+}
+
+/// CRC-32C of the text.
+#[unsafe(no_mangle)]
+pub extern "C" fn hashers_crc32c(text: &[u8]) -> u64
+    ensures { result ≡ crc_answer (crc_from castagnoli all_ones text.now) }
+{
+    crc32::crc32c(text)
+}
+
+/// FNV-1 at 32 bits of the text.
+#[unsafe(no_mangle)]
+pub extern "C" fn hashers_fnv1_32(text: &[u8]) -> u64
+    ensures { result ≡ fnv1_32_from fnv1a32_basis text.now }
+{
+    fnv1::fnv1_32(text)
+}
+
+/// FNV-1 at 64 bits of the text.
+#[unsafe(no_mangle)]
+pub extern "C" fn hashers_fnv1_64(text: &[u8]) -> u64
+    ensures { result ≡ fnv1_64_from fnv1a64_basis text.now }
+{
+    fnv1::fnv1_64(text)
+}
+
+/// djb2 with a sum of the text.
+#[unsafe(no_mangle)]
+pub extern "C" fn hashers_djb2_add(text: &[u8]) -> u64
+    ensures { result ≡ djb2_add_from 5381 text.now }
+{
+    djb2_add::djb2_add(text)
+}
+
+/// one-at-a-time at 32 bits of the text.
+#[unsafe(no_mangle)]
+pub extern "C" fn hashers_joaat(text: &[u8]) -> u64
+    ensures { result ≡ joaat_answer (joaat_from 0 text.now) }
+{
+    joaat::joaat(text)
+}
+
+/// ELF's hash of the text.
+#[unsafe(no_mangle)]
+pub extern "C" fn hashers_elf(text: &[u8]) -> u64
+    ensures { result ≡ elf_from 0 text.now }
+{
+    elf::elf(text)
 }

@@ -1,4 +1,4 @@
-use Rattle.std.proofs.Common.{◌≡◌, ◌+◌, ◌∙◌, ◌++◌, ◌∷◌, [], ℕ, length, set, ap, ap₂, sym, append_assoc, arith}
+use Rattle.std.proofs.Common.{◌∙◌, ◌++◌, ◌∷◌, [], set, ap, ap₂, sym, append_assoc, arith}
 use Rattle.std.proofs.lemmas.List.{length_push}
 use Rattle.hash_c.specs.Lines.{line_texts}
 use Rattle.hash_c.proofs.LineLemmas.{hashed_one_more, hashed_no_more}
