@@ -92,6 +92,20 @@ def over_original(driver, target="original", **environment):
     return os.path.join(target, "release")
 
 
+# where Debian's packages of crates lie
+CRATES = "/usr/share/cargo/registry"
+
+
+def over_debian(driver):
+    """Has cargo build a driver over crates of Debian's packages, and answers its path."""
+    need("cargo", "cargo")
+    folder, target = os.path.join(DRIVERS, driver), os.path.join(TARGET, driver)
+    done(["cargo", "build", "--quiet", "--release", "--offline", "--target-dir", target, "--config", 'source.crates-io.replace-with="debian"',
+          "--config", f'source.debian.directory="{CRATES}"'], folder, wants="librust-fnv-dev and librust-fxhash-dev")
+    os.remove(os.path.join(folder, "Cargo.lock"))
+    return os.path.join(target, "release", driver)
+
+
 def by_gcc(source, *words, wants):
     """Has gcc build a driver in C, which wants these packages, and answers its path."""
     need("gcc", "gcc")

@@ -5,7 +5,7 @@
 
 ghost use Rattle.std.specs.Prelude.{⊤};
 
-use hash_more::crc32::{Crc32Hasher, Crc32cHasher};
+use hash_more::crc32::{Crc32Hasher, Crc32cHasher, crc32, crc32_combine};
 use hash_more::djb2_add::Djb2AddHasher;
 use hash_more::elf::ElfHasher;
 use hash_more::fnv1::{Fnv1Hasher32, Fnv1Hasher64};
@@ -82,10 +82,20 @@ impl HashTask for HashPieces {
     ghost by_same = { λ hash same agree told before after outcome done. done };
 }
 
+/// CRC-32 of pieces, from that of each.
+fn combined(pieces: &[Vec<u8>]) -> u64 {
+    let mut hash = crc32(&[]);
+    for piece in pieces {
+        hash = crc32_combine(hash, crc32(piece), piece.len() as u64);
+    }
+    hash
+}
+
 /// The hash of pieces by the name of a relative.
 fn by_relative(name: &str, pieces: &[Vec<u8>]) -> Option<u64> {
     match name {
         "crc32" => Some(fed::<Crc32Hasher>(pieces).answer()),
+        "crc32_combine" => Some(combined(pieces)),
         "crc32c" => Some(fed::<Crc32cHasher>(pieces).answer()),
         "fnv1_32" => Some(fed::<Fnv1Hasher32>(pieces).answer()),
         "fnv1_64" => Some(fed::<Fnv1Hasher64>(pieces).answer()),
