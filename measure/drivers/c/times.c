@@ -1,4 +1,4 @@
-// times RUNS: the times of a call of libhashers beside the original crate behind a C call and XXH3, by turns in one process. Writes the
+// times RUNS: the times of a call of libhashers beside the original crate behind a C call, XXH3 and zlib's CRC-32, by turns in one process. Writes the
 // tables of docs/C.md, with an empty line between two: the least of so many runs, at most 41, in nanoseconds a key. The macro NAMES, which
 // measure/c defines, has an X(name) for each name.
 #define _GNU_SOURCE
@@ -8,6 +8,7 @@
 #include <stdlib.h>
 #include <time.h>
 #include <xxhash.h>
+#include <zlib.h>
 
 typedef uint64_t whole(const void *, size_t);
 typedef uint64_t on(uint64_t, const void *, size_t);
@@ -17,6 +18,8 @@ NAMES(DECLARED)
 
 static uint64_t xxh3(const void *text, size_t n) { return XXH3_64bits(text, n); }
 
+static uint64_t zlib_crc32(const void *text, size_t n) { return crc32(0, text, n); }
+
 static const struct row {
     const char *name;
     whole *ours, *other;
@@ -25,7 +28,12 @@ static const struct row {
     NAMES(ROW)
     {"xxh3 of libxxhash", xxh3, NULL},
 };
-enum { ROWS = sizeof rows / sizeof *rows, RUNS = 41, KEYS = 1 << 20 };
+static const struct row relatives[] = {
+#define RELATIVE(name) {#name, hashers_##name, NULL},
+    RELATIVE(crc32) RELATIVE(crc32c) RELATIVE(fnv1_32) RELATIVE(fnv1_64) RELATIVE(djb2_add) RELATIVE(joaat) RELATIVE(elf)
+    {"crc32 of zlib", zlib_crc32, NULL},
+};
+enum { ROWS = sizeof rows / sizeof *rows, RELATIVES = sizeof relatives / sizeof *relatives, RUNS = 41, KEYS = 1 << 20 };
 
 static int runs;
 
@@ -124,6 +132,8 @@ int main(int count, char **words) {
     }
     puts("| hash | 8 bytes | 16 bytes | 64 bytes | 1 MiB |\n|---|---:|---:|---:|---:|");
     for (size_t i = 0; i < ROWS; i++) row(rows + i);
+    puts("\n| hash | 8 bytes | 16 bytes | 64 bytes | 1 MiB |\n|---|---:|---:|---:|---:|");
+    for (size_t i = 0; i < RELATIVES; i++) row(relatives + i);
     puts("\n| call | ns |\n|---|---:|");
 #define WRITE(name) writes(#name, hashers_##name##_write);
     WRITE(fnv1a64) WRITE(djb2) WRITE(sdbm) WRITE(loselose) WRITE(bricolage) WRITE(oaat) WRITE(lookup3) WRITE(fxhash)
