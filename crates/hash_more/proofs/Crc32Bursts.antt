@@ -41,13 +41,14 @@ module _ (p : ℕ) (highest : p / 2 ^ 31 ≡ 1) where
       → crc_answer (crc_from p all_ones x) ≢ crc_answer (crc_from p all_ones y)
   burst_apart x y xs ys burst same =
       let n = 8 * length x in
-      let states : crc_from p all_ones x ≡ crc_from p all_ones y = xor_cancel (crc_from p all_ones x) (crc_from p all_ones y) all_ones same in
+      let states : crc_from p all_ones x ≡ crc_from p all_ones y = xor_cancel (crc_from p all_ones x)
+      (crc_from p all_ones y) all_ones same in
       let of_y : crc_from p all_ones y ≡ bits_out p n (bit_xor all_ones (le y)) =
       crc_from-number p y all_ones ys ∙ ap (λ k. bits_out p (8 * k) (bit_xor all_ones (le y))) (sym burst.same_length) in
-      let difference : bits_out p n (2 ^ burst.from * burst.pattern) ≡ bit_xor (crc_from p all_ones x) (crc_from p all_ones y) =
+      let difference : bits_out p n (2 ^ burst.burst.from * burst.burst.pattern) ≡ bit_xor (crc_from p all_ones x) (crc_from p all_ones y) =
       sym (ap₂ bit_xor (crc_from-number p x all_ones xs) of_y
       ∙ sym (bits_out-xor p n (bit_xor all_ones (le x)) (bit_xor all_ones (le y)))
       ∙ ap (bits_out p n) (exchanged all_ones (le x) all_ones (le y)
-      ∙ ap (λ z. bit_xor z (bit_xor (le x) (le y))) (xor_self all_ones) ∙ xor_zero_l (bit_xor (le x) (le y)) ∙ burst.are)) in
-      stays n burst.from burst.pattern burst.some burst.fits
+      ∙ ap (λ z. bit_xor z (bit_xor (le x) (le y))) (xor_self all_ones) ∙ xor_zero_l (bit_xor (le x) (le y)) ∙ burst.burst.is)) in
+      stays n burst.burst.from burst.burst.pattern burst.burst.some burst.burst.fits
       (difference ∙ ap (λ s. bit_xor s (crc_from p all_ones y)) states ∙ xor_self (crc_from p all_ones y))

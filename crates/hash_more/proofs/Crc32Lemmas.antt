@@ -1,9 +1,9 @@
 -- A CRC by a table: of a word the low byte's bits go out by themselves, and the others move down.
 use Rattle.std.proofs.Common.{◌≡◌, ◌≢◌, ℕ, zero, suc, ◌+◌, ◌*◌, ◌/◌, ◌%◌, ◌^◌, ◌<◌, bit_xor, sym, ap, ◌∙◌, refl, arith}
 use Rattle.std.proofs.Math.Path.{ap₂}
-use Rattle.std.proofs.Math.Nat.{pow-succ', mul_assoc, mul_comm, mul-div_cancel, mul-mod_right, div-eq_of_lt, mod-eq_of_lt, mod-add-div}
-use Rattle.std.proofs.lemmas.Nat.{xor_shr, xor_mod, xor_comm, pow_pos}
-use Rattle.std.specs.Int.Bits.{xor_assoc, xor_self, xor_zero_l, xor_zero_r}
+use Rattle.std.proofs.Math.Nat.{pow-succ', mul_assoc, mul_comm}
+use Rattle.std.proofs.lemmas.Nat.{xor_shr, xor_mod, xor_comm}
+use Rattle.std.specs.Int.Bits.{xor_shifted, xor_assoc, xor_self, xor_zero_l, xor_zero_r}
 use Rattle.hashers.proofs.XorLemmas.{xor_twice}
 use Rattle.hash_more.specs.Crc32.{bit_out, bits_out}
 
@@ -58,12 +58,9 @@ moved_down p (suc n) h =
 -- a number below a power of two is xored into the multiples of that power as it is added
 pub low_and_high : (k low high : ℕ) → low < 2 ^ k → bit_xor low (2 ^ k * high) ≡ low + 2 ^ k * high
 low_and_high k low high small =
-    let both = bit_xor low (2 ^ k * high) in
-    let back : 2 ^ k * high / 2 ^ k ≡ high = ap (λ n. n / 2 ^ k) (mul_comm (2 ^ k) high) ∙ mul-div_cancel high (pow_pos k) in
-    let above : both / 2 ^ k ≡ high = xor_shr low (2 ^ k * high) k ∙ ap₂ bit_xor (div-eq_of_lt small) back ∙ xor_zero_l high in
-    let below : both % 2 ^ k ≡ low =
-    xor_mod low (2 ^ k * high) k ∙ ap₂ bit_xor (mod-eq_of_lt small) (mul-mod_right (2 ^ k) high) ∙ xor_zero_r low in
-    sym (mod-add-div both (2 ^ k)) ∙ ap₂ (λ l h. l + 2 ^ k * h) below above
+    let turned : 2 ^ k * high ≡ high * 2 ^ k = mul_comm (2 ^ k) high in
+    let sum : high * 2 ^ k + low ≡ low + 2 ^ k * high = omega (arith, turned) in
+    xor_comm low (2 ^ k * high) ∙ ap (λ n. bit_xor n low) turned ∙ xor_shifted high k low small ∙ sum
 
 -- a word is its low byte and the rest
 low_and_rest : (x : ℕ) → x ≡ bit_xor (x % 256) (256 * (x / 256))

@@ -43,7 +43,8 @@ module _ (p : ℕ) where
   product-xor zero a c d = sym (xor_self 0)
   product-xor (suc n) a c d =
       let t = a / 2 ^ n % 2 in
-      ap₂ bit_xor (ap (bit_out p) (product-xor n a c d) ∙ bit_out-xor p (product p n a c) (product p n a d)) (scaled-xor t c d (omega arith))
+      ap₂ bit_xor (ap (bit_out p) (product-xor n a c d)
+      ∙ bit_out-xor p (product p n a c) (product p n a d)) (scaled-xor t c d (omega arith))
       ∙ exchanged (bit_out p (product p n a c)) (bit_out p (product p n a d)) (t * c) (t * d)
 
   product-out : (n a c : ℕ) → product p n a (bit_out p c) ≡ bit_out p (product p n a c)

@@ -55,10 +55,12 @@ module _ (p : ℕ) where
       ∙ ap (λ n. bits_out p n (bit_xor h (b + 256 * m))) bits
 
   -- a difference of the states goes out behind the text
-  pub crc_from-xor : (text : List ℕ) (s d : ℕ) → crc_from p (bit_xor s d) text ≡ bit_xor (crc_from p s text) (bits_out p (8 * length text) d)
+  pub crc_from-xor : (text : List ℕ) (s d : ℕ)
+      → crc_from p (bit_xor s d) text ≡ bit_xor (crc_from p s text) (bits_out p (8 * length text) d)
   crc_from-xor [] s d = recurrence-nil (crc_step p) (bit_xor s d) ∙ ap (λ n. bit_xor n d) (sym (recurrence-nil (crc_step p) s))
   crc_from-xor (b ∷ text) s d =
-      let turned : bit_xor (bit_xor s d) b ≡ bit_xor (bit_xor s b) d = xor_assoc s d b ∙ ap (bit_xor s) (xor_comm d b) ∙ sym (xor_assoc s b d) in
+      let turned : bit_xor (bit_xor s d) b ≡ bit_xor (bit_xor s b) d = xor_assoc s d b ∙ ap (bit_xor s) (xor_comm d b)
+      ∙ sym (xor_assoc s b d) in
       let bits : 8 + 8 * length text ≡ 8 * suc (length text) = omega arith in
       crc_from-cons (bit_xor s d) b text
       ∙ ap (λ t. crc_from p t text) (ap (bits_out p 8) turned ∙ bits_out-xor p 8 (bit_xor s b) d)
@@ -68,7 +70,8 @@ module _ (p : ℕ) where
   -- the state before goes out behind the text, and beside it the text by itself
   pub crc_from-apart : (text : List ℕ) (s : ℕ) → crc_from p s text ≡ bit_xor (bits_out p (8 * length text) s) (crc_from p 0 text)
   crc_from-apart text s =
-      ap (λ t. crc_from p t text) (sym (xor_zero_l s)) ∙ crc_from-xor text 0 s ∙ xor_comm (crc_from p 0 text) (bits_out p (8 * length text) s)
+      ap (λ t. crc_from p t text) (sym (xor_zero_l s)) ∙ crc_from-xor text 0 s
+      ∙ xor_comm (crc_from p 0 text) (bits_out p (8 * length text) s)
 
   -- a text's first four bytes by themselves
   four_front : (h : ℕ) (text : List ℕ) → IsText text → 4 ≤ length text
@@ -108,7 +111,8 @@ module _ (p : ℕ) where
       let of_third : crc_from p 0 third ≡ bit_xor (bits_out p 64 (le (take 4 third))) (bits_out p 32 (le (take 4 last))) =
       four_front 0 third (is_text second (is_text text known)) (omega (arith, eight)) ∙ at third 8 eight 0
       ∙ ap₂ bit_xor (plain 64 (le (take 4 third))) of_last in
-      let of_second : crc_from p 0 second ≡ bit_xor (bits_out p 96 (le (take 4 second))) (bit_xor (bits_out p 64 (le (take 4 third))) (bits_out p 32 (le (take 4 last)))) =
+      let of_second : crc_from p 0 second ≡ bit_xor (bits_out p 96 (le (take 4 second))) (bit_xor (bits_out p 64 (le (take 4 third)))
+      (bits_out p 32 (le (take 4 last)))) =
       four_front 0 second (is_text text known) (omega (arith, twelve)) ∙ at second 12 twelve 0
       ∙ ap₂ bit_xor (plain 96 (le (take 4 second))) of_third in
       four_front h text known (omega (arith, whole)) ∙ at text 16 whole h
@@ -192,8 +196,10 @@ word_by_bytes p n x a b c d first second third last =
     ∙ ap₂ bit_xor (out (suc (suc (suc (suc n)))) (n + 3 + 1) (x % 256) (omega arith) ∙ sym first) of_second)
 
 -- sixteen bytes by four words
-pub sixteen_by_words : (p h : ℕ) (text : List ℕ) (fours : List (List ℕ)) (a b c d : ℕ) → IsText text → length text ≡ 16 → fours ≡ first_chunks 4 (length text / 4) text
-    → a ≡ bits_out p 128 (bit_xor h (le (get_or fours 0 []))) → b ≡ bits_out p 96 (le (get_or fours 1 [])) → c ≡ bits_out p 64 (le (get_or fours 2 []))
+pub sixteen_by_words : (p h : ℕ) (text : List ℕ) (fours : List (List ℕ)) (a b c d : ℕ) → IsText text → length text ≡ 16
+    → fours ≡ first_chunks 4 (length text / 4) text
+    → a ≡ bits_out p 128 (bit_xor h (le (get_or fours 0 []))) → b ≡ bits_out p 96 (le (get_or fours 1 []))
+    → c ≡ bits_out p 64 (le (get_or fours 2 []))
     → d ≡ bits_out p 32 (le (get_or fours 3 [])) → bit_xor (bit_xor (bit_xor a b) c) d ≡ crc_from p h text
 sixteen_by_words p h text fours a b c d known whole are first second third last =
     let four : fours ≡ first_chunks 4 4 text = are ∙ ap (λ n. first_chunks 4 (n / 4) text) whole in

@@ -67,7 +67,12 @@ module _ (p : ℕ) where
   module _ (highest : p / 2 ^ 31 ≡ 1) where
     different : (n s t : ℕ) → LeftOf p n s t → s ≢ t
     different n s t far e =
-        let in_word : far.number < 2 ^ 32 = omega (arith, far.below, pow-le-pow_right {n = 2} (lit< tt) {i = 8 * suc n} {j = 32} far.fits) in
+        let in_word : far.number < 2 ^ 32 = omega (
+          arith,
+          far.below,
+          pow-le-pow_right {n = 2}
+              (lit< tt) {i = 8 * suc n} {j = 32} far.fits,
+        ) in
         far.some (bits_out-same p highest (8 * suc n) far.number 0 in_word (lit< tt)
         (sym far.left ∙ ap (λ z. bit_xor z t) e ∙ xor_self t ∙ sym (bits_out-none p (8 * suc n))))
 

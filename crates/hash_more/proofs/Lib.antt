@@ -1,3 +1,4 @@
+pub mod BurstLemmas
 pub mod Crc32Bursts
 pub mod Crc32Lemmas
 pub mod Crc32Products

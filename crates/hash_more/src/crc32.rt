@@ -240,8 +240,8 @@ fn one_out<P: Polynomial>(word: u32) -> u32
     }
 }
 
-/// The product of two words as polynomials, by the remainder of a division by the polynomial: where the first is 1 with some
-/// bits gone out, as many go out of the second.
+/// The product of two words as polynomials, by the remainder of a division by the polynomial: where the first is 1 with
+/// some bits gone out, as many go out of the second.
 fn times<P: Polynomial>(left: u32, right: u32) -> u32
     ensures { (k : ℕ) → left ≡ bits_out P.POLYNOMIAL k (2 ^ 31) → result ≡ bits_out P.POLYNOMIAL k right }
 {
@@ -279,11 +279,11 @@ fn combine<P: Polynomial>(hash1: u64, hash2: u64, length2: u64) -> u64
     u64::from(zeros_in::<P>(first, length2) ^ second)
 }
 
-/// CRC-32 of a joined text from the hashes of its two parts and the second one's length in bytes, in a time that grows with
-/// the number of that length's digits. Of each hash the low 32 bits count.
+/// CRC-32 of a joined text from the hashes of its two parts and the second one's length in bytes, in a time that grows
+/// with the number of that length's digits. Of each hash the low 32 bits count.
 ///
-/// The hash is linear: the second part pushes the bits of the first one's hash out as zeros would, which is a product by a power
-/// of two modulo the polynomial, found by squaring, as in zlib's function of this name.
+/// The hash is linear: the second part pushes the bits of the first one's hash out as zeros would. That is a product by a
+/// power of the polynomial x, modulo the hash's polynomial, and squaring finds it, as zlib's function of this name does.
 pub fn crc32_combine(hash1: u64, hash2: u64, length2: u64) -> u64
     ensures value { result ≡ bit_xor (bits_out ieee (8 * length2) (hash1 % 2 ^ 32)) (hash2 % 2 ^ 32) }
     ensures joined { (x y : List ℕ) → IsText x → IsText y → length y ≡ length2

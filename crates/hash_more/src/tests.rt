@@ -4,7 +4,10 @@ use crate::djb2_add::{Djb2AddHasher, djb2_add};
 use crate::elf::{ElfHasher, elf};
 use crate::fnv1::{Fnv1Hasher32, Fnv1Hasher64, fnv1_32, fnv1_64};
 use crate::joaat::{JoaatHasher, joaat};
-use crate::windows::{apart_crc32, apart_crc32c, apart_djb2_add, apart_fnv1_32, apart_fnv1_64};
+use crate::windows::{
+    apart_crc32, apart_crc32_bits, apart_crc32c, apart_crc32c_bits, apart_djb2_add, apart_fnv1_32,
+    apart_fnv1_64,
+};
 use hashers::laws::{Piecewise, Undo, answer_of_pieces, apart_by_one};
 use std::process::Abort;
 
@@ -197,4 +200,22 @@ fn windows_of_relatives(rt: HostRuntime) {
     assert!(rt; apart_fnv1_64(b"abcd", b"axyd") && apart_fnv1_64(b"abcd", b"xyzd"));
     assert!(rt; !apart_fnv1_64(b"abcd", b"wxyz") && !apart_fnv1_64(b"abcd", b"abcd"));
     assert!(rt; apart_fnv1_32(b"abcd", b"axyd") && !apart_fnv1_32(b"abcd", b"xyzd"));
+}
+
+#[test]
+fn bursts_of_bits(rt: HostRuntime) {
+    let zeros = [0; 6];
+    // 32 bits in five bytes, and one more
+    let burst = [0, 0x80, 0, 0, 0, 0x7F];
+    let longer = [0, 0x80, 0, 0, 0, 0x80];
+    assert!(rt; apart_crc32_bits(&zeros, &burst) && apart_crc32c_bits(&zeros, &burst));
+    assert!(rt; crc32(&zeros) != crc32(&burst) && crc32c(&zeros) != crc32c(&burst));
+    assert!(rt; !apart_crc32_bits(&zeros, &longer) && !apart_crc32c_bits(&zeros, &longer));
+    // the polynomial has 33 bits
+    assert!(rt; !apart_crc32_bits(&zeros, &[0x41, 0x06, 0x71, 0xDB, 0x01, 0]));
+    assert!(rt;
+        !apart_crc32_bits(&zeros, &[1, 0, 0, 0, 0, 1]) && !apart_crc32_bits(&zeros, &zeros)
+    );
+    assert!(rt; apart_crc32_bits(b"abc", b"abd") && apart_crc32_bits(b"abcdefgh", b"wxyzefgh"));
+    assert!(rt; !apart_crc32_bits(b"abc", b"ab") && !apart_crc32_bits(b"", b""));
 }
