@@ -8,7 +8,7 @@ use Rattle.std.proofs.lemmas.Bool.{cases_lt}
 use Rattle.std.specs.Int.Bits.{xor_self}
 use Rattle.std.proofs.lemmas.List.Elements.{All-head, All-tail, All-drop}
 use Rattle.std.proofs.Math.Seq.{drop-cons}
-use Rattle.std.proofs.lemmas.List.{length-drop, take_all}
+use Rattle.std.proofs.lemmas.List.{length-drop, take_all, get_or-drop, get_or_past}
 use Rattle.std.proofs.lemmas.Bool.Decides.{Decides-eqb}
 use Rattle.std.specs.Cmp.Lexicographic.{pointwise}
 use Rattle.std.proofs.lemmas.Slice.Eq.{slice_eq-Decides}
@@ -17,7 +17,7 @@ use Rattle.std.specs.Int.{trailing_zeros, w8}
 use Rattle.hashers.specs.Text.{IsText}
 use Rattle.hashers.specs.Words.{le}
 use Rattle.hashers.proofs.XorLemmas.{xor_cancel}
-use Rattle.hashers.specs.DifferWithin.{IsFirstDifference}
+use Rattle.hashers.specs.DifferWithin.{DifferWithin, IsFirstDifference}
 use Rattle.hash_more.specs.Bursts.{IsBurst, DifferWithinBits}
 use Rattle.hash_more.proofs.Crc32Lemmas.{exchanged, low_and_high}
 
@@ -85,21 +85,6 @@ head_is a x known = All-head (λ byte. byte < 256) a x known
 tail_is : (a : ℕ) (x : List ℕ) → IsText (a ∷ x) → IsText x
 tail_is a x known = All-tail (λ byte. byte < 256) a x known
 
--- it is below what so many bytes can tell
-difference-lt : (x y : List ℕ) → IsText x → IsText y → length x ≡ length y → bit_xor (le x) (le y) < 2 ^ (8 * length x)
-unfolding le
-difference-lt [] [] xs ys same = lit< tt
-difference-lt [] (b ∷ y) xs ys same = absurd (omega (arith, same))
-difference-lt (a ∷ x) [] xs ys same = absurd (omega (arith, same))
-difference-lt (a ∷ x) (b ∷ y) xs ys same =
-    let small_a = head_is a x xs in
-    let small_b = head_is b y ys in
-    let rest : bit_xor (le x) (le y) < 2 ^ (8 * length x) = difference-lt x y (tail_is a x xs) (tail_is b y ys) (omega (arith, same)) in
-    let low : bit_xor a b < 256 = xor_lt 8 a b small_a small_b in
-    let bits : 8 * suc (length x) ≡ 8 + 8 * length x = omega arith in
-    let power : 2 ^ (8 * suc (length x)) ≡ 256 * 2 ^ (8 * length x) = ap (λ n. 2 ^ n) bits ∙ pow-add 2 8 (8 * length x) in
-    rw (difference-cons a b x y small_a small_b, power) (omega (arith, rest, low))
-
 -- where it is nothing, the texts are one
 difference-none : (x y : List ℕ) → IsText x → IsText y → length x ≡ length y → bit_xor (le x) (le y) ≡ 0 → x ≡ y
 difference-none [] [] xs ys same none = refl
@@ -113,27 +98,83 @@ difference-none (a ∷ x) (b ∷ y) xs ys same none =
     ∙ sym (xor_self b))) (difference-none x y (tail_is a x xs) (tail_is b y ys) (omega (arith, same)) rest)
 
 -- a front that is the same doesn't matter
-pub front_dropped : (first : ℕ) (x y : List ℕ) → IsText x → IsText y → length x ≡ length y
+front-shifted : (first : ℕ) (x y : List ℕ) → IsText x → IsText y → length x ≡ length y
     → ((i : ℕ) → i < first → get_or x i 0 ≡ get_or y i 0)
-    → DifferWithinBits 32 x y ↔ DifferWithinBits 32 (drop first x) (drop first y)
-front_dropped zero x y xs ys same alike = ((λ d. d), (λ d. d))
-front_dropped (suc first) [] [] xs ys same alike = ((λ d. d), (λ d. d))
-front_dropped (suc first) [] (b ∷ y) xs ys same alike = absurd (omega (arith, same))
-front_dropped (suc first) (a ∷ x) [] xs ys same alike = absurd (omega (arith, same))
-front_dropped (suc first) (a ∷ x) (b ∷ y) xs ys same alike =
+    → bit_xor (le x) (le y) ≡ 2 ^ (8 * first) * bit_xor (le (drop first x)) (le (drop first y))
+unfolding le
+front-shifted zero x y xs ys same alike = omega arith
+front-shifted (suc first) [] [] xs ys same alike =
+    let nothing : 0 ≡ 2 ^ (8 * suc first) * 0 = omega arith in
+    nothing
+front-shifted (suc first) [] (b ∷ y) xs ys same alike = absurd (omega (arith, same))
+front-shifted (suc first) (a ∷ x) [] xs ys same alike = absurd (omega (arith, same))
+front-shifted (suc first) (a ∷ x) (b ∷ y) xs ys same alike =
     let heads : a ≡ b = alike 0 (omega arith) in
-    let tails : length x ≡ length y = omega (arith, same) in
-    let rest = front_dropped first x y (tail_is a x xs) (tail_is b y ys) tails (λ i below. alike (suc i) (omega arith)) in
+    let rest = front-shifted first x y (tail_is a x xs) (tail_is b y ys) (omega (arith, same)) (λ i below. alike (suc i) (omega arith)) in
     let none : bit_xor a b ≡ 0 = ap (λ n. bit_xor n b) heads ∙ xor_self b in
     let d = bit_xor (le x) (le y) in
     let sum : 0 + 256 * d ≡ 256 * d = omega arith in
-    let shifted : bit_xor (le (a ∷ x)) (le (b ∷ y)) ≡ 256 * d =
-    difference-cons a b x y (head_is a x xs) (head_is b y ys) ∙ ap (λ n. n + 256 * d) none ∙ sum in
+    let bits : 8 + 8 * first ≡ 8 * suc first = omega arith in
+    let power : 256 * 2 ^ (8 * first) ≡ 2 ^ (8 * suc first) = sym (pow-add 2 8 (8 * first)) ∙ ap (λ n. 2 ^ n) bits in
+    let more = bit_xor (le (drop first x)) (le (drop first y)) in
+    difference-cons a b x y (head_is a x xs) (head_is b y ys) ∙ ap (λ n. n + 256 * d) none ∙ sum ∙ ap (λ n. 256 * n) rest
+    ∙ sym (mul_assoc 256 (2 ^ (8 * first)) more) ∙ ap (λ n. n * more) power
+
+dropped_length : (n : ℕ) (x y : List ℕ) → length x ≡ length y → length (drop n x) ≡ length (drop n y)
+dropped_length n x y same = length-drop n x ∙ ap (λ k. k - n) same ∙ sym (length-drop n y)
+
+front_dropped : (first : ℕ) (x y : List ℕ) → IsText x → IsText y → length x ≡ length y
+    → ((i : ℕ) → i < first → get_or x i 0 ≡ get_or y i 0)
+    → DifferWithinBits 32 x y ↔ DifferWithinBits 32 (drop first x) (drop first y)
+front_dropped first x y xs ys same alike =
+    let shifted = front-shifted first x y xs ys same alike in
     let P : ℕ → Type 0 = IsBurst 32 in
-    let both = IsBurst-shifted 32 8 d in (
-      (λ differ. rest.0 (record { same_length = tails; burst = both.0 (subst P shifted differ.burst) })),
-      (λ differ. record { same_length = same; burst = subst P (sym shifted) (both.1 (rest.1 differ).burst) }),
+    let both = IsBurst-shifted 32 (8 * first) (bit_xor (le (drop first x)) (le (drop first y))) in (
+      (λ differ. record { same_length = dropped_length first x y same; burst = both.0 (subst P shifted differ.burst) }),
+      (λ differ. record { same_length = same; burst = subst P (sym shifted) (both.1 differ.burst) }),
     )
+
+-- texts that are the same from a place on differ in a number of so many bytes
+few_places : (n : ℕ) (x y : List ℕ) → IsText x → IsText y → length x ≡ length y → ((i : ℕ) → n ≤ i → get_or x i 0 ≡ get_or y i 0)
+    → bit_xor (le x) (le y) < 2 ^ (8 * n)
+unfolding le
+few_places n [] [] xs ys same alike = pow_pos (8 * n)
+few_places n [] (b ∷ y) xs ys same alike = absurd (omega (arith, same))
+few_places n (a ∷ x) [] xs ys same alike = absurd (omega (arith, same))
+few_places zero (a ∷ x) (b ∷ y) xs ys same alike =
+    let rest : bit_xor (le x) (le y) < 1 =
+    few_places zero x y (tail_is a x xs) (tail_is b y ys) (omega (arith, same)) (λ i above. alike (suc i) (omega arith)) in
+    let none : bit_xor a b ≡ 0 = ap (λ n. bit_xor n b) (alike 0 (omega arith)) ∙ xor_self b in
+    rw (difference-cons a b x y (head_is a x xs) (head_is b y ys)) (omega (arith, rest, none))
+few_places (suc n) (a ∷ x) (b ∷ y) xs ys same alike =
+    let small_a = head_is a x xs in
+    let small_b = head_is b y ys in
+    let rest : bit_xor (le x) (le y) < 2 ^ (8 * n) =
+    few_places n x y (tail_is a x xs) (tail_is b y ys) (omega (arith, same)) (λ i above. alike (suc i) (omega arith)) in
+    let low : bit_xor a b < 256 = xor_lt 8 a b small_a small_b in
+    let bits : 8 * suc n ≡ 8 + 8 * n = omega arith in
+    let power : 2 ^ (8 * suc n) ≡ 256 * 2 ^ (8 * n) = ap (λ k. 2 ^ k) bits ∙ pow-add 2 8 (8 * n) in
+    rw (difference-cons a b x y small_a small_b, power) (omega (arith, rest, low))
+
+-- within four places they are within 32 bits
+pub within_four : (x y : List ℕ) → IsText x → IsText y → DifferWithin 4 0 x y → DifferWithinBits 32 x y
+within_four x y xs ys window =
+    let same = window.same_length in
+    let from = window.within.0 in
+    let agree = window.within.1 in
+    let is_byte = λ (byte : ℕ). byte < 256 in
+    let d = bit_xor (le (drop from x)) (le (drop from y)) in
+    let shifted = front-shifted from x y xs ys same (λ i below. agree i (inl below)) in
+    let below : d < 2 ^ 32 =
+    few_places 4 (drop from x) (drop from y) (All-drop is_byte from x xs) (All-drop is_byte from y ys) (dropped_length from x y same)
+    (λ i above. get_or-drop from x i 0 ∙ agree (from + i) (inr (omega arith)) ∙ sym (get_or-drop from y i 0)) in
+    let nothing : 2 ^ (8 * from) * 0 ≡ 0 = omega arith in
+    let some : d ≢ 0 = λ none. window.different
+    (difference-none x y xs ys same (shifted ∙ ap (λ n. 2 ^ (8 * from) * n) none ∙ nothing)) in
+    record {
+      same_length = same;
+      burst = record { from = 8 * from; pattern = d; some = omega (arith, some); fits = below; is = shifted };
+    }
 
 -- ---- the first byte and the fifth
 
@@ -217,7 +258,8 @@ pub short_text : (x y : List ℕ) → IsText x → IsText y → length x ≡ len
 short_text x y xs ys same some few differ =
     let d = bit_xor (le x) (le y) in
     let sum = difference_at 0 x y xs ys same some in
-    let below : d < 2 ^ (8 * length x) = difference-lt x y xs ys same in
+    let below : d < 2 ^ (8 * length x) = few_places (length x) x y xs ys same (λ i above. get_or_past x i 0 above
+    ∙ sym (get_or_past y i 0 (omega (arith, same)))) in
     let bits : 8 * length x ≤ 32 = omega (arith, few) in
     let word : d < 2 ^ 32 = omega (arith, below, pow-le-pow_right {n = 2} (lit< tt) {i = 8 * length x} {j = 32} bits) in
     let first : bit_xor (get_or x 0 0) (get_or y 0 0) ≢ 0 = λ none. differ (xor_cancel (get_or x 0 0) (get_or y 0 0) (get_or y 0 0)
@@ -284,7 +326,7 @@ long_text x y t xs ys same long small odd none =
           let below = told.1 differ.burst in
           let nothing : far ≡ 0 = omega (arith, below, limit) in
           let fits : fifth < 2 ^ t = omega (arith, below) in
-          let ends : length (drop 5 x) ≡ length (drop 5 y) = length-drop 5 x ∙ ap (λ n. n - 5) same ∙ sym (length-drop 5 y) in (
+          let ends = dropped_length 5 x y same in (
             div-eq_of_lt fits,
             difference-none (drop 5 x) (drop 5 y) (All-drop (λ byte. byte < 256) 5 x xs) (All-drop
                 (λ byte. byte < 256) 5 y ys) ends nothing,

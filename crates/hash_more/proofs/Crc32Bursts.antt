@@ -9,9 +9,11 @@ use Rattle.std.specs.Int.Bits.{xor_self, xor_zero_l}
 use Rattle.hashers.specs.Text.{IsText}
 use Rattle.hashers.specs.Words.{le}
 use Rattle.hashers.proofs.XorLemmas.{xor_cancel}
+use Rattle.hashers.specs.DifferWithin.{DifferWithin}
 use Rattle.hash_more.specs.Bursts.{DifferWithinBits}
 use Rattle.hash_more.specs.Crc32.{all_ones, bits_out, crc_from, crc_answer}
 use Rattle.hash_more.specs.Crc32Laws.{bits_out-same}
+use Rattle.hash_more.proofs.BurstLemmas.{within_four}
 use Rattle.hash_more.proofs.Crc32Lemmas.{exchanged, bits_out-xor, moved_down}
 use Rattle.hash_more.proofs.Crc32Texts.{bits_out-more, bits_out-none, crc_from-number}
 
@@ -52,3 +54,7 @@ module _ (p : ℕ) (highest : p / 2 ^ 31 ≡ 1) where
       ∙ ap (λ z. bit_xor z (bit_xor (le x) (le y))) (xor_self all_ones) ∙ xor_zero_l (bit_xor (le x) (le y)) ∙ burst.burst.is)) in
       stays n burst.burst.from burst.burst.pattern burst.burst.some burst.burst.fits
       (difference ∙ ap (λ s. bit_xor s (crc_from p all_ones y)) states ∙ xor_self (crc_from p all_ones y))
+
+  pub crc_apart : (x y : List ℕ) → IsText x → IsText y → DifferWithin 4 0 x y
+      → crc_answer (crc_from p all_ones x) ≢ crc_answer (crc_from p all_ones y)
+  crc_apart x y xs ys window = burst_apart x y xs ys (within_four x y xs ys window)

@@ -3,7 +3,6 @@ pub mod Crc32Bursts
 pub mod Crc32Lemmas
 pub mod Crc32Products
 pub mod Crc32Texts
-pub mod Crc32Window
 pub mod Djb2AddWindow
 pub mod Fnv1Windows
 pub mod JoaatLemmas
