@@ -1,5 +1,7 @@
-//! CRCs of 32 bits, a byte a step by a table: CRC-32, as zlib, gzip, PNG and Ethernet compute it (ISO-HDLC: RFC 1952, section 8;
-//! ITU-T V.42), and CRC-32C, as iSCSI, ext4 and SCTP do (RFC 3720, section 12.1). They differ in the polynomial alone.
+//! CRCs of 32 bits: CRC-32, as zlib, gzip, PNG and Ethernet compute it (ISO-HDLC: RFC 1952, section 8; ITU-T V.42), and
+//! CRC-32C, as iSCSI, ext4 and SCTP do (RFC 3720, section 12.1). They differ in the polynomial alone. Sixteen bytes are taken
+//! at a time by tables ("slicing": M. Kounavis and F. Berry, "Novel Table Lookup-Based Algorithms for High-Performance CRC
+//! Generation", 2008), and the few that come before by one table, a byte a step.
 mod castagnoli_rows;
 mod ieee_rows;
 
@@ -240,8 +242,8 @@ fn one_out<P: Polynomial>(word: u32) -> u32
     }
 }
 
-/// The product of two words as polynomials, by the remainder of a division by the polynomial: where the first is 1 with
-/// some bits gone out, as many go out of the second.
+/// The product of two words as polynomials modulo the polynomial, where the word of 1 is the highest bit: where the first is
+/// 1 with some bits gone out, as many go out of the second.
 fn times<P: Polynomial>(left: u32, right: u32) -> u32
     ensures { (k : ℕ) → left ≡ bits_out P.POLYNOMIAL k (2 ^ 31) → result ≡ bits_out P.POLYNOMIAL k right }
 {
