@@ -2,6 +2,8 @@
 //! the hasher.
 #![tactic(auto)]
 
+pub mod reading;
+
 ghost use Rattle.std.specs.Prelude.{◌≡◌, ℕ, List};
 ghost use Rattle.hashers.specs.Text.{IsText};
 ghost use Rattle.hashers.specs.Spooky.{spooky_v1};

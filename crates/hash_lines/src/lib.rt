@@ -1,0 +1,6 @@
+//! Lines that tell the hash of a file: how they are written, and how they are read again.
+#![tactic(auto)]
+
+pub mod escape;
+pub mod hex;
+pub mod line;

@@ -1,0 +1,14 @@
+use Rattle.hashers.proofs.ReadingLemmas.{answer-cut}
+use Rattle.hash_names.specs.ReadingLaws.{Hashes-agree}
+use Rattle.hash_names.proofs.reading.hash_of_text.Goals as goal
+
+-- the pieces of a text, fed in order, are the text
+pub returns : goal.returns
+returns g c =
+    let H = g.H.Piecewise in
+    let first = g.met.H.Piecewise in
+    let stream = g.met.H.Streamed in
+    let agree = answer-cut H.in_range H.after first.after_in_range first.after_nothing stream.after_joined H.answer H.fresh
+    first.fresh_in_range
+    (g.H.Streamed.hash g.H.Streamed.start) stream.hash_from_start g.row.N c.requires.not_empty in
+    Hashes-agree _ _ agree _ _ c.hash_of_pieces.ensures
