@@ -1,2 +1,4 @@
 pub mod EscapeLemmas
 pub mod HexLemmas
+pub mod LineLemmas
+pub mod TellsLemmas

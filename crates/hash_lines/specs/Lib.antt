@@ -1,3 +1,4 @@
 pub mod Escape
 pub mod Hex
 pub mod Line
+pub mod Told

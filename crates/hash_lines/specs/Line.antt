@@ -14,14 +14,14 @@ abbrev pub mark : Bool → List ℕ
 mark escapes = if escapes then 92 ∷ [] else []
 
 abbrev pub tagged : (tag shown digits : List ℕ) → List ℕ
-tagged tag shown digits = tag ++ codes " (" ++ shown ++ codes ") = " ++ digits
+tagged tag shown digits = tag ++ (codes " (" ++ (shown ++ (codes ") = " ++ digits)))
 
 abbrev pub untagged : (shown digits : List ℕ) → List ℕ
-untagged shown digits = digits ++ codes "  " ++ shown
+untagged shown digits = digits ++ (codes "  " ++ shown)
 
 -- the same with the mark of a binary file
 abbrev pub starred : (shown digits : List ℕ) → List ℕ
-starred shown digits = digits ++ codes " *" ++ shown
+starred shown digits = digits ++ (codes " *" ++ shown)
 
 -- the line without its mark
 abbrev pub body : Form → (tag shown digits : List ℕ) → List ℕ

@@ -4,3 +4,4 @@
 pub mod escape;
 pub mod hex;
 pub mod line;
+pub mod parse;

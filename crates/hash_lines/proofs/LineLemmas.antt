@@ -1,0 +1,133 @@
+-- The parts of a line.
+use Rattle.std.proofs.Common.{◌≡◌, ◌≢◌, ◌⊎◌, inl, inr, ℕ, suc, ◌+◌, ◌<◌, ◌≤◌, IfOk, Result, Ok, Err, Bool, true, false, List, [], ◌∷◌, ◌++◌, Option, Some, None, MatchOption, length, take, drop, codes, refl, sym, ap, ◌∙◌, subst, append_assoc, arith}
+use Rattle.std.proofs.Math.Seq.{take-append_seam, drop-append_seam}
+use Rattle.std.proofs.lemmas.List.{append_cancel_left, length-append}
+use Rattle.std.specs.Str.{bytes_eq}
+use lib.Pointwise.{bytes_decides}
+use denote.Ref.{Bor}
+use Rattle.hash_lines.specs.Line.{ShowsNumber, ShowsTagged, ShowsUntagged}
+
+-- two texts that are told apart are not the same
+pub told_apart : (xs ys : List ℕ) → false ≡ bytes_eq xs ys → xs ≢ ys
+told_apart xs ys apart same = let clash : false ≡ true = apart ∙ (bytes_decides xs ys).1 same in cc
+
+-- a text that is cut at the same place from its end in two ways
+pub same_ends : (xs ys us vs : List ℕ) → xs ++ ys ≡ us ++ vs → length ys ≡ length vs → (xs ≡ us) × (ys ≡ vs)
+same_ends xs ys us vs same ends =
+    let begins : length xs ≡ length us = omega (arith, length-append xs ys, length-append us vs, ap length same) in (
+      sym (take-append_seam xs ys) ∙ ap (take (length xs)) same ∙ ap (λ n. take n (us ++ vs)) begins ∙ take-append_seam us vs,
+      sym (drop-append_seam xs ys) ∙ ap (drop (length xs)) same ∙ ap (λ n. drop n (us ++ vs)) begins ∙ drop-append_seam us vs,
+    )
+
+-- the same from its beginning
+pub same_begins : (xs ys us vs : List ℕ) → xs ++ ys ≡ us ++ vs → length xs ≡ length us → (xs ≡ us) × (ys ≡ vs)
+same_begins xs ys us vs same begins =
+    same_ends xs ys us vs same (omega (arith, length-append xs ys, length-append us vs, ap length same))
+
+-- the front of a text that begins with another
+pub front_is : (front rest bytes : List ℕ) → front ++ rest ≡ bytes → take (length front) bytes ≡ front
+front_is front rest bytes is = ap (take (length front)) (sym is) ∙ take-append_seam front rest
+
+-- what stands behind two texts, one behind the other
+pub behind_both : (result : Option (Bor (List ℕ))) (front next middle bytes : List ℕ) → front ++ middle ≡ bytes
+    → MatchOption result ((rest : List ℕ) → next ++ rest ≢ middle) (λ rest. next ++ rest.now ≡ middle)
+    → MatchOption result ((rest : List ℕ) → front ++ (next ++ rest) ≢ bytes) (λ rest. front ++ (next ++ rest.now) ≡ bytes)
+behind_both None front next middle bytes begins none =
+    λ rest is. none rest (append_cancel_left front (next ++ rest) middle (is ∙ sym begins))
+behind_both (Some rest) front next middle bytes begins is = ap (λ t. front ++ t) is ∙ begins
+
+-- three texts that are joined in two steps
+pub joined_three : (xs ys zs front rest : List ℕ) → xs ++ ys ≡ front → front ++ zs ≡ rest → xs ++ (ys ++ zs) ≡ rest
+joined_three xs ys zs front rest first second = sym (append_assoc xs ys zs) ∙ ap (λ t. t ++ zs) first ∙ second
+
+-- the middle of three texts, where the last two have their lengths
+pub middle_is : (xs ys zs us vs ws rest : List ℕ) → xs ++ (ys ++ zs) ≡ rest → us ++ (vs ++ ws) ≡ rest → length ys ≡ length vs
+    → length zs ≡ length ws → ys ≡ vs
+middle_is xs ys zs us vs ws rest one other middles ends =
+    let fronts = same_ends (xs ++ ys) zs (us ++ vs) ws (append_assoc xs ys zs ∙ one ∙ sym (append_assoc us vs ws ∙ other)) ends in
+    (same_ends xs ys us vs fronts.0 middles).1
+
+-- the last of three texts
+last_is : (xs ys zs us vs ws rest : List ℕ) → xs ++ (ys ++ zs) ≡ rest → us ++ (vs ++ ws) ≡ rest → length zs ≡ length ws → zs ≡ ws
+last_is xs ys zs us vs ws rest one other ends =
+    (same_ends (xs ++ ys) zs (us ++ vs) ws (append_assoc xs ys zs ∙ one ∙ sym (append_assoc us vs ws ∙ other)) ends).1
+
+inner_is : (tag mark inner rest body : List ℕ) → tag ++ (mark ++ inner) ≡ body → tag ++ (mark ++ rest) ≡ body → inner ≡ rest
+inner_is tag mark inner rest body one other =
+    append_cancel_left mark inner rest (append_cancel_left tag (mark ++ inner) (mark ++ rest) (one ∙ sym other))
+
+-- no tagged line, without the mark in front of the digits
+pub no_mark : (tag : List ℕ) (count : ℕ) (rest body : List ℕ) → tag ++ (codes " (" ++ rest) ≡ body
+    → ((shown digits : List ℕ) → length digits ≡ count → shown ++ (codes ") = " ++ digits) ≢ rest)
+    → (shown : List ℕ) (number : ℕ) → ¬ (ShowsTagged tag count shown number body)
+no_mark tag count rest body begins none shown number (digits, shows, is) =
+    none shown digits shows.0 (inner_is tag (codes " (") (shown ++ (codes ") = " ++ digits)) rest body is begins)
+
+-- no tagged line, where the last bytes are no digits
+pub no_digits : (tag : List ℕ) (count : ℕ) (rest body front last : List ℕ) → tag ++ (codes " (" ++ rest) ≡ body → length last ≡ count
+    → front ++ (codes ") = " ++ last) ≡ rest → ((number : ℕ) → ¬ (ShowsNumber count number last))
+    → (shown : List ℕ) (number : ℕ) → ¬ (ShowsTagged tag count shown number body)
+no_digits tag count rest body front last begins whole ends none shown number (digits, shows, is) =
+    let here = inner_is tag (codes " (") (shown ++ (codes ") = " ++ digits)) rest body is begins in
+    none number (subst (ShowsNumber count number)
+    (last_is shown (codes ") = ") digits front (codes ") = ") last rest here ends (shows.0 ∙ sym whole)) shows)
+
+-- no untagged line, without the spaces behind the digits
+pub no_spaces : (count : ℕ) (first rest body : List ℕ) → first ++ rest ≡ body → length first ≡ count
+    → ((shown : List ℕ) → ¬ ((codes "  " ++ shown ≡ rest) ⊎ (codes " *" ++ shown ≡ rest)))
+    → (shown : List ℕ) (number : ℕ) → ¬ (ShowsUntagged count shown number body)
+no_spaces count first rest body begins whole none shown number (digits, shows, inl is) =
+    none shown (inl (same_begins digits (codes "  " ++ shown) first rest (is ∙ sym begins) (shows.0 ∙ sym whole)).1)
+no_spaces count first rest body begins whole none shown number (digits, shows, inr is) =
+    none shown (inr (same_begins digits (codes " *" ++ shown) first rest (is ∙ sym begins) (shows.0 ∙ sym whole)).1)
+
+-- no untagged line, where the first bytes are no digits
+pub no_first_digits : (count : ℕ) (first rest body : List ℕ) → first ++ rest ≡ body → length first ≡ count
+    → ((number : ℕ) → ¬ (ShowsNumber count number first)) → (shown : List ℕ) (number : ℕ) → ¬ (ShowsUntagged count shown number body)
+no_first_digits count first rest body begins whole none shown number (digits, shows, inl is) =
+    none number (subst (ShowsNumber count number)
+    (same_begins digits (codes "  " ++ shown) first rest (is ∙ sym begins) (shows.0 ∙ sym whole)).0 shows)
+no_first_digits count first rest body begins whole none shown number (digits, shows, inr is) =
+    none number (subst (ShowsNumber count number)
+    (same_begins digits (codes " *" ++ shown) first rest (is ∙ sym begins) (shows.0 ∙ sym whole)).0 shows)
+
+-- the name that a tagged line shows
+pub tagged_shown : (tag : List ℕ) (count number other : ℕ) (shown more body : List ℕ) → ShowsTagged tag count shown number body
+    → ShowsTagged tag count more other body → shown ≡ more
+tagged_shown tag count number other shown more body (digits, shows, is) (others, same, also) =
+    let inner = inner_is tag (codes " (") (shown ++ (codes ") = " ++ digits)) (more ++ (codes ") = " ++ others)) body is also in
+    (same_ends shown (codes ") = " ++ digits) more (codes ") = " ++ others) inner (ap (λ n. suc (suc (suc (suc n)))) (shows.0 ∙ sym same.0))).0
+
+-- the name that an untagged line shows
+pub untagged_shown : (count number other : ℕ) (shown more body : List ℕ) → ShowsUntagged count shown number body
+    → ShowsUntagged count more other body → shown ≡ more
+untagged_shown count number other shown more body (digits, shows, one) (others, same, two) = at one two
+  where
+    at : ((digits ++ (codes "  " ++ shown) ≡ body) ⊎ (digits ++ (codes " *" ++ shown) ≡ body))
+        → ((others ++ (codes "  " ++ more) ≡ body) ⊎ (others ++ (codes " *" ++ more) ≡ body)) → shown ≡ more
+    at (inl is) (inl also) =
+        append_cancel_left (codes "  ") shown more (same_begins digits (codes "  " ++ shown) others (codes "  " ++ more)
+        (is ∙ sym also) (shows.0 ∙ sym same.0)).1
+    at (inl is) (inr also) =
+        let e : codes "  " ++ shown ≡ codes " *" ++ more = (same_begins digits (codes "  " ++ shown) others (codes " *" ++ more)
+        (is ∙ sym also) (shows.0 ∙ sym same.0)).1 in cc
+    at (inr is) (inl also) =
+        let e : codes " *" ++ shown ≡ codes "  " ++ more = (same_begins digits (codes " *" ++ shown) others (codes "  " ++ more)
+        (is ∙ sym also) (shows.0 ∙ sym same.0)).1 in cc
+    at (inr is) (inr also) =
+        append_cancel_left (codes " *") shown more (same_begins digits (codes " *" ++ shown) others (codes " *" ++ more)
+        (is ∙ sym also) (shows.0 ∙ sym same.0)).1
+
+-- what is found where a name is shown so, by parts that show one name alone
+pub found_by : {E X : Type 0} (is_kind : E → Type 0) (text : E → List ℕ) (told : E → ℕ) (show : List ℕ → List ℕ)
+    (shows : List ℕ → ℕ → Type 0) → ((xs ys : List ℕ) (a b : ℕ) → shows xs a → shows ys b → xs ≡ ys)
+    → (shown : List ℕ) (number : ℕ) → shows shown number → (result : Result (Option E) X)
+    → IfOk result (λ found. MatchOption found ((name : List ℕ) → show name ≢ shown)
+    (λ e. is_kind e × (told e ≡ number) × (show (text e) ≡ shown)))
+    → IfOk result (λ found. MatchOption found ((name : List ℕ) (number : ℕ) → ¬ (shows (show name) number))
+    (λ e. is_kind e × shows (show (text e)) (told e)))
+found_by is_kind text told show shows one shown number here (Err e) found = tt
+found_by is_kind text told show shows one shown number here (Ok None) none =
+    λ name other tells. none name (one (show name) shown other number tells here)
+found_by is_kind text told show shows one shown number here (Ok (Some e)) (kind, is_number, is_name) =
+    (kind, subst (λ s. shows s (told e)) (sym is_name) (subst (λ n. shows shown n) (sym is_number) here))

@@ -1,0 +1,81 @@
+-- What a line tells, or does not.
+use Rattle.std.proofs.Common.{◌≡◌, ◌⊎◌, inl, inr, ℕ, ◌<◌, Bool, true, false, List, ◌∷◌, Option, Some, None, MatchOption, IfOk, Result, Ok, Err, Contains, length, get_or, sym, ap, ◌∙◌, subst}
+use Rattle.hash_lines.specs.declared.line.Kind.{Kind}
+use Rattle.hash_lines.specs.declared.parse.Entry.{Entry}
+use Rattle.hash_lines.specs.Line.{name_shown, ShowsTagged, ShowsUntagged}
+use Rattle.hash_lines.specs.Told.{Tells, TellsBody, TellsEscaped, TellsTagged, TellsUntagged}
+use Rattle.hash_lines.proofs.LineLemmas.{found_by, tagged_shown, untagged_shown}
+
+pub tagged_found : {X : Type 0} (kind : Kind) (escapes : Bool) (shown body : List ℕ) (number : ℕ)
+    → ShowsTagged kind.name.now kind.digits shown number body → (result : Result (Option Entry) X)
+    → IfOk result (λ found. MatchOption found ((name : List ℕ) → name_shown escapes name ≡ shown → ⊥)
+    (λ entry. (entry.kind ≡ kind) × (entry.number ≡ number) × (name_shown escapes entry.name.items ≡ shown)))
+    → IfOk result (λ found. MatchOption found ((name : List ℕ) (number : ℕ) → ¬ (TellsTagged kind escapes name number body))
+    (λ entry. (entry.kind ≡ kind) × TellsTagged kind escapes entry.name.items entry.number body))
+tagged_found kind escapes shown body number shows result found =
+    found_by (λ (entry : Entry). entry.kind ≡ kind) (λ entry. entry.name.items) (λ entry. entry.number) (name_shown escapes)
+    (λ s n. ShowsTagged kind.name.now kind.digits s n body)
+    (λ xs ys a b one other. tagged_shown kind.name.now kind.digits a b xs ys body one other) shown number shows result found
+
+pub untagged_found : {X : Type 0} (kind : Kind) (escapes : Bool) (shown body : List ℕ) (number : ℕ)
+    → ShowsUntagged kind.digits shown number body → (result : Result (Option Entry) X)
+    → IfOk result (λ found. MatchOption found ((name : List ℕ) → name_shown escapes name ≡ shown → ⊥)
+    (λ entry. (entry.kind ≡ kind) × (entry.number ≡ number) × (name_shown escapes entry.name.items ≡ shown)))
+    → IfOk result (λ found. MatchOption found ((name : List ℕ) (number : ℕ) → ¬ (TellsUntagged kind escapes name number body))
+    (λ entry. (entry.kind ≡ kind) × TellsUntagged kind escapes entry.name.items entry.number body))
+untagged_found kind escapes shown body number shows result found =
+    found_by (λ (entry : Entry). entry.kind ≡ kind) (λ entry. entry.name.items) (λ entry. entry.number) (name_shown escapes)
+    (λ s n. ShowsUntagged kind.digits s n body)
+    (λ xs ys a b one other. untagged_shown kind.digits a b xs ys body one other) shown number shows result found
+
+-- where no tagged line of one of the kinds is told
+pub body_found : {X : Type 0} (kinds : List Kind) (default : Kind) (escapes : Bool) (body : List ℕ)
+    → ((other : Kind) → Contains kinds other → (name : List ℕ) (number : ℕ) → ¬ (TellsTagged other escapes name number body))
+    → (result : Result (Option Entry) X)
+    → IfOk result (λ found. MatchOption found ((name : List ℕ) (number : ℕ) → ¬ (TellsUntagged default escapes name number body))
+    (λ entry. (entry.kind ≡ default) × TellsUntagged default escapes entry.name.items entry.number body))
+    → IfOk result (λ found. MatchOption found
+    ((other : Kind) (name : List ℕ) (number : ℕ) → ¬ (TellsBody kinds default escapes other name number body))
+    (λ entry. TellsBody kinds default escapes entry.kind entry.name.items entry.number body))
+body_found kinds default escapes body untold (Err e) found = tt
+body_found kinds default escapes body untold (Ok None) none = at
+  where
+    at : (other : Kind) (name : List ℕ) (number : ℕ) → ¬ (TellsBody kinds default escapes other name number body)
+    at other name number (inl (one, tells)) = untold other one name number tells
+    at other name number (inr (is, tells)) = none name number (subst (λ k. TellsUntagged k escapes name number body) is tells)
+body_found kinds default escapes body untold (Ok (Some entry)) (is, tells) =
+    inr (is, subst (λ k. TellsUntagged k escapes entry.name.items entry.number body) (sym is) tells)
+
+-- behind the backslash
+pub escaped_found : {X : Type 0} (kinds : List Kind) (default : Kind) (line body : List ℕ) → 92 ∷ body ≡ line
+    → (result : Result (Option Entry) X)
+    → IfOk result (λ found. MatchOption found
+    ((other : Kind) (name : List ℕ) (number : ℕ) → ¬ (TellsBody kinds default true other name number body))
+    (λ entry. TellsBody kinds default true entry.kind entry.name.items entry.number body))
+    → IfOk result (λ found. MatchOption found
+    ((other : Kind) (name : List ℕ) (number : ℕ) → ¬ (TellsEscaped kinds default other name number line))
+    (λ entry. TellsEscaped kinds default entry.kind entry.name.items entry.number line))
+escaped_found kinds default line body is (Err e) found = tt
+escaped_found kinds default line body is (Ok None) none =
+    λ other name number tells.
+    let same : tells.0 ≡ body = let both : 92 ∷ tells.0 ≡ 92 ∷ body = tells.1 ∙ sym is in cc in
+    none other name number (subst (λ b. TellsBody kinds default true other name number b) same tells.2)
+escaped_found kinds default line body is (Ok (Some entry)) tells = (body, is, tells)
+
+-- where no line with escapes is told
+pub line_found : {X : Type 0} (kinds : List Kind) (default : Kind) (line : List ℕ)
+    → ((other : Kind) (name : List ℕ) (number : ℕ) → ¬ (TellsEscaped kinds default other name number line))
+    → (result : Result (Option Entry) X)
+    → IfOk result (λ found. MatchOption found
+    ((other : Kind) (name : List ℕ) (number : ℕ) → ¬ (TellsBody kinds default false other name number line))
+    (λ entry. TellsBody kinds default false entry.kind entry.name.items entry.number line))
+    → IfOk result (λ found. MatchOption found
+    ((other : Kind) (name : List ℕ) (number : ℕ) → ¬ (Tells kinds default other name number line))
+    (λ entry. Tells kinds default entry.kind entry.name.items entry.number line))
+line_found kinds default line untold (Err e) found = tt
+line_found kinds default line untold (Ok None) none = at
+  where
+    at : (other : Kind) (name : List ℕ) (number : ℕ) → ¬ (Tells kinds default other name number line)
+    at other name number (inl tells) = none other name number tells
+    at other name number (inr tells) = untold other name number tells
+line_found kinds default line untold (Ok (Some entry)) tells = inl tells

@@ -1,0 +1,25 @@
+use Rattle.std.proofs.Common.{codes, sym, ap, ◌∙◌, ◌++◌, length}
+use lib.Pointwise.{bytes_decides}
+use Rattle.hash_lines.proofs.LineLemmas.{joined_three, middle_is, told_apart}
+use Rattle.hash_lines.proofs.parse.around_mark.Goals as goal
+
+pub returns-then-eq : goal.returns-then-eq
+returns-then-eq c =
+    let shown = c.in_ok-shown.shown.now in
+    let mark = c.in_ok-shown.mark.now in
+    let digits = c.in_ok-front.digits.now in
+    let is = (bytes_decides mark c.as_slice.result.now).0 (sym c.if-eq.ensures) ∙ c.as_slice.ensures in (
+      c.in_ok-front.ensures.1,
+      ap (λ t. shown ++ (t ++ digits)) (sym is)
+          ∙ joined_three shown mark digits c.in_ok-front.front.now c.args.rest.now c.in_ok-shown.ensures.0 c.in_ok-front.ensures.0,
+    )
+
+pub returns-else-eq : goal.returns-else-eq
+returns-else-eq c other more count is =
+    let shown = c.in_ok-shown.shown.now in
+    let mark = c.in_ok-shown.mark.now in
+    let digits = c.in_ok-front.digits.now in
+    told_apart mark c.as_slice.result.now c.if-eq.ensures
+    (middle_is shown mark digits other (codes ") = ") more c.args.rest.now
+    (joined_three shown mark digits c.in_ok-front.front.now c.args.rest.now c.in_ok-shown.ensures.0 c.in_ok-front.ensures.0)
+    is c.in_ok-shown.ensures.1 (c.in_ok-front.ensures.1 ∙ sym count) ∙ sym c.as_slice.ensures)

@@ -1,0 +1,26 @@
+-- What a line tells.
+use Rattle.std.specs.Prelude.{ℕ, ◌≡◌, ◌⊎◌, Bool, true, false, List, [], ◌∷◌, Contains}
+use Rattle.hash_lines.specs.declared.line.Kind.{Kind}
+use Rattle.hash_lines.specs.Line.{name_shown, ShowsTagged, ShowsUntagged}
+
+-- a tagged line of this kind without its mark, with escapes or without
+abbrev pub TellsTagged : Kind → Bool → (name : List ℕ) (number : ℕ) → List ℕ → Type 0
+TellsTagged kind escapes name number body = ShowsTagged kind.name.now kind.digits (name_shown escapes name) number body
+
+abbrev pub TellsUntagged : Kind → Bool → (name : List ℕ) (number : ℕ) → List ℕ → Type 0
+TellsUntagged kind escapes name number body = ShowsUntagged kind.digits (name_shown escapes name) number body
+
+-- a line without its mark: a tagged one of one of these kinds, or an untagged one of the default
+abbrev pub TellsBody : List Kind → (default : Kind) → Bool → Kind → (name : List ℕ) (number : ℕ) → List ℕ → Type 0
+TellsBody kinds default escapes kind name number body =
+    (Contains kinds kind × TellsTagged kind escapes name number body) ⊎ ((kind ≡ default) × TellsUntagged kind escapes name number body)
+
+-- a line with escapes, behind a backslash
+abbrev pub TellsEscaped : List Kind → (default : Kind) → Kind → (name : List ℕ) (number : ℕ) → List ℕ → Type 0
+TellsEscaped kinds default kind name number line =
+    (body : List ℕ) × (92 ∷ body ≡ line) × TellsBody kinds default true kind name number body
+
+-- a line, with escapes or without
+abbrev pub Tells : List Kind → (default : Kind) → Kind → (name : List ℕ) (number : ℕ) → List ℕ → Type 0
+Tells kinds default kind name number line =
+    TellsBody kinds default false kind name number line ⊎ TellsEscaped kinds default kind name number line

@@ -1,0 +1,236 @@
+//! Lines that tell the hash of a file, as they are read.
+ghost use Rattle.std.specs.Prelude.{◌≡◌, ◌≢◌, ◌⊎◌, ◌++◌, ◌<◌, ℕ, List, length, codes, IfOk, MatchOption};
+ghost use Rattle.hash_lines.specs.Line.{name_shown, ShowsNumber, ShowsTagged, ShowsUntagged};
+ghost use Rattle.hash_lines.specs.Told.{Tells, TellsBody, TellsEscaped, TellsTagged, TellsUntagged};
+ghost use Rattle.hash_lines.specs.declared.line.Kind.{Kind};
+
+use crate::escape::unescaped;
+use crate::hex::hex_number;
+use crate::line::Kind;
+use std::alloc::{AllocError, Global};
+
+/// What a line tells.
+#[derive(Drop)]
+pub struct Entry<'k> {
+    /// Which hash.
+    pub kind: Kind<'k>,
+    /// Of which file.
+    pub name: Vec<u8>,
+    /// What it is.
+    pub number: u128,
+}
+
+/// What stands behind the front in the bytes; `None` exactly where they do not begin with it.
+fn behind<'a>(bytes: &'a [u8], front: &[u8]) -> Option<&'a [u8]>
+    ensures { MatchOption result ((rest : List ℕ) → front.now ++ rest ≢ bytes.now) (λ rest. front.now ++ rest.now ≡ bytes.now) }
+{
+    if bytes.len() < front.len() {
+        return None;
+    }
+    let (begin, rest) = bytes.split_at(front.len());
+    if begin == front { Some(rest) } else { None }
+}
+
+/// The first so many bytes, and what stands behind them; `None` exactly where there are fewer.
+fn split_first(bytes: &[u8], count: usize) -> Option<(&[u8], &[u8])>
+    ensures { MatchOption result (length bytes.now < count)
+        (λ parts. (parts.0.now ++ parts.1.now ≡ bytes.now) × (length parts.0.now ≡ count)) }
+{
+    if bytes.len() < count {
+        return None;
+    }
+    Some(bytes.split_at(count))
+}
+
+/// What stands in front of the last so many bytes, and these; `None` exactly where there are fewer.
+fn split_last(bytes: &[u8], count: usize) -> Option<(&[u8], &[u8])>
+    ensures { MatchOption result (length bytes.now < count)
+        (λ parts. (parts.0.now ++ parts.1.now ≡ bytes.now) × (length parts.1.now ≡ count)) }
+{
+    if bytes.len() < count {
+        return None;
+    }
+    Some(bytes.split_at(bytes.len() - count))
+}
+
+/// The digits' number, where there are as many as the kind has.
+fn number_of(kind: Kind<'_>, digits: &[u8]) -> Option<u128>
+    ensures { MatchOption result ((number : ℕ) → ¬ (ShowsNumber kind.entry.digits number digits.now))
+        (λ number. ShowsNumber kind.entry.digits number digits.now) }
+{
+    if digits.len() != kind.digits {
+        return None;
+    }
+    hex_number(digits)
+}
+
+/// What stands behind the tag and ` (`.
+fn behind_tag<'a>(tag: &[u8], body: &'a [u8]) -> Option<&'a [u8]>
+    ensures { MatchOption result ((rest : List ℕ) → tag.now ++ (codes " (" ++ rest) ≢ body.now)
+        (λ rest. tag.now ++ (codes " (" ++ rest.now) ≡ body.now) }
+{
+    behind(behind(body, tag)?, b" (")
+}
+
+/// What stands in front of `) = `, and so many digits behind it.
+fn around_mark(rest: &[u8], count: usize) -> Option<(&[u8], &[u8])>
+    ensures { MatchOption result ((shown digits : List ℕ) → length digits ≡ count → shown ++ (codes ") = " ++ digits) ≢ rest.now)
+        (λ parts. (length parts.1.now ≡ count) × (parts.0.now ++ (codes ") = " ++ parts.1.now) ≡ rest.now)) }
+{
+    let (front, digits) = split_last(rest, count)?;
+    let (shown, mark) = split_last(front, 4)?;
+    if mark == b") = ".as_slice() {
+        Some((shown, digits))
+    } else {
+        None
+    }
+}
+
+/// What stands behind two spaces, or a space and a star.
+fn behind_spaces(rest: &[u8]) -> Option<&[u8]>
+    ensures { MatchOption result ((shown : List ℕ) → ¬ ((codes "  " ++ shown ≡ rest.now) ⊎ (codes " *" ++ shown ≡ rest.now)))
+        (λ shown. (codes "  " ++ shown.now ≡ rest.now) ⊎ (codes " *" ++ shown.now ≡ rest.now)) }
+{
+    if let Some(shown) = behind(rest, b"  ") {
+        return Some(shown);
+    }
+    behind(rest, b" *")
+}
+
+/// The name as it is shown, and the number, in a tagged line of this kind without its mark.
+fn tagged_parts<'a>(kind: Kind<'_>, body: &'a [u8]) -> Option<(&'a [u8], u128)>
+    ensures { MatchOption result ((shown : List ℕ) (number : ℕ) → ¬ (ShowsTagged kind.entry.name.now kind.entry.digits shown number body.now))
+        (λ parts. ShowsTagged kind.entry.name.now kind.entry.digits parts.0.now parts.1 body.now) }
+{
+    let (shown, digits) = around_mark(behind_tag(kind.name.as_bytes(), body)?, kind.digits)?;
+    Some((shown, number_of(kind, digits)?))
+}
+
+/// The name as it is shown, and the number, in an untagged line of this kind without its mark.
+fn untagged_parts<'a>(kind: Kind<'_>, body: &'a [u8]) -> Option<(&'a [u8], u128)>
+    ensures { MatchOption result ((shown : List ℕ) (number : ℕ) → ¬ (ShowsUntagged kind.entry.digits shown number body.now))
+        (λ parts. ShowsUntagged kind.entry.digits parts.0.now parts.1 body.now) }
+{
+    let (digits, rest) = split_first(body, kind.digits)?;
+    let shown = behind_spaces(rest)?;
+    Some((shown, number_of(kind, digits)?))
+}
+
+/// The name that is shown so, with escapes or without.
+fn name_of(alloc: Global, escapes: bool, shown: &[u8]) -> Result<Option<Vec<u8>>, AllocError>
+    ensures { IfOk result (λ found. MatchOption found ((name : List ℕ) → name_shown escapes name ≢ shown.now)
+        (λ name. name_shown escapes name.items ≡ shown.now)) }
+{
+    if escapes {
+        unescaped(alloc, shown)
+    } else {
+        Ok(Some(Vec::from_slice(alloc, shown)?))
+    }
+}
+
+/// What these parts of a line tell.
+fn entry_of<'k>(
+    alloc: Global,
+    kind: Kind<'k>,
+    escapes: bool,
+    shown: &[u8],
+    number: u128,
+) -> Result<Option<Entry<'k>>, AllocError>
+    ensures { IfOk result (λ found. MatchOption found ((name : List ℕ) → name_shown escapes name ≢ shown.now)
+        (λ entry. (entry.kind ≡ kind.entry) × (entry.number ≡ number) × (name_shown escapes entry.name.items ≡ shown.now))) }
+{
+    match name_of(alloc, escapes, shown)? {
+        Some(name) => Ok(Some(Entry { kind, name, number })),
+        None => Ok(None),
+    }
+}
+
+/// What a tagged line of this kind tells, without its mark.
+fn tagged_entry<'k>(
+    alloc: Global,
+    kind: Kind<'k>,
+    escapes: bool,
+    body: &[u8],
+) -> Result<Option<Entry<'k>>, AllocError>
+    ensures { IfOk result (λ found. MatchOption found
+        ((name : List ℕ) (number : ℕ) → ¬ (TellsTagged kind.entry escapes name number body.now))
+        (λ entry. (entry.kind ≡ kind.entry) × TellsTagged kind.entry escapes entry.name.items entry.number body.now)) }
+{
+    match tagged_parts(kind, body) {
+        Some((shown, number)) => entry_of(alloc, kind, escapes, shown, number),
+        None => Ok(None),
+    }
+}
+
+/// What an untagged line of this kind tells, without its mark.
+fn untagged_entry<'k>(
+    alloc: Global,
+    kind: Kind<'k>,
+    escapes: bool,
+    body: &[u8],
+) -> Result<Option<Entry<'k>>, AllocError>
+    ensures { IfOk result (λ found. MatchOption found
+        ((name : List ℕ) (number : ℕ) → ¬ (TellsUntagged kind.entry escapes name number body.now))
+        (λ entry. (entry.kind ≡ kind.entry) × TellsUntagged kind.entry escapes entry.name.items entry.number body.now)) }
+{
+    match untagged_parts(kind, body) {
+        Some((shown, number)) => entry_of(alloc, kind, escapes, shown, number),
+        None => Ok(None),
+    }
+}
+
+/// What a line tells, without its mark.
+fn body_entry<'k>(
+    alloc: Global,
+    kinds: &[Kind<'k>],
+    kind: Kind<'k>,
+    escapes: bool,
+    body: &[u8],
+) -> Result<Option<Entry<'k>>, AllocError>
+    ensures { IfOk result (λ found. MatchOption found
+        ((other : Kind) (name : List ℕ) (number : ℕ) → ¬ (TellsBody kinds.entry.now kind.entry escapes other name number body.now))
+        (λ entry. TellsBody kinds.entry.now kind.entry escapes entry.kind entry.name.items entry.number body.now)) }
+{
+    for tagged in kinds {
+        if let Some(entry) = tagged_entry(alloc, *tagged, escapes, body)? {
+            return Ok(Some(entry));
+        }
+    }
+    untagged_entry(alloc, kind, escapes, body)
+}
+
+/// What a line tells that begins with a backslash.
+fn escaped_entry<'k>(
+    alloc: Global,
+    kinds: &[Kind<'k>],
+    kind: Kind<'k>,
+    line: &[u8],
+) -> Result<Option<Entry<'k>>, AllocError>
+    ensures { IfOk result (λ found. MatchOption found
+        ((other : Kind) (name : List ℕ) (number : ℕ) → ¬ (TellsEscaped kinds.entry.now kind.entry other name number line.now))
+        (λ entry. TellsEscaped kinds.entry.now kind.entry entry.kind entry.name.items entry.number line.now)) }
+{
+    match behind(line, b"\\") {
+        Some(body) => body_entry(alloc, kinds, kind, true, body),
+        None => Ok(None),
+    }
+}
+
+/// What a line tells, without its end: of which file the hash of one of these kinds is which number. In a line that is not tagged
+/// it is the one kind. `None` exactly where it is no such line. The digits may be of either case, and a line that is not tagged
+/// may have a star for its second space, as sha256sum writes it. A line that begins with a backslash has escapes.
+pub fn parse_line<'k>(
+    alloc: Global,
+    kinds: &[Kind<'k>],
+    kind: Kind<'k>,
+    line: &[u8],
+) -> Result<Option<Entry<'k>>, AllocError>
+    ensures { IfOk result (λ found. MatchOption found
+        ((other : Kind) (name : List ℕ) (number : ℕ) → ¬ (Tells kinds.entry.now kind.entry other name number line.now))
+        (λ entry. Tells kinds.entry.now kind.entry entry.kind entry.name.items entry.number line.now)) }
+{
+    match escaped_entry(alloc, kinds, kind, line)? {
+        Some(entry) => Ok(Some(entry)),
+        None => body_entry(alloc, kinds, kind, false, line),
+    }
+}
