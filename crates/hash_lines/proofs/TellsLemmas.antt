@@ -2,31 +2,31 @@
 use Rattle.std.proofs.Common.{◌≡◌, ◌⊎◌, inl, inr, ℕ, ◌<◌, Bool, true, false, List, ◌∷◌, Option, Some, None, MatchOption, IfOk, Result, Ok, Err, Contains, length, get_or, sym, ap, ◌∙◌, subst}
 use Rattle.hash_lines.specs.declared.line.Kind.{Kind}
 use Rattle.hash_lines.specs.declared.parse.Entry.{Entry}
-use Rattle.hash_lines.specs.Line.{name_shown, ShowsTagged, ShowsUntagged}
+use Rattle.hash_lines.specs.Line.{digits_of, name_shown, ShowsTagged, ShowsUntagged}
 use Rattle.hash_lines.specs.Told.{Tells, TellsBody, TellsEscaped, TellsTagged, TellsUntagged}
 use Rattle.hash_lines.proofs.LineLemmas.{found_by, tagged_shown, untagged_shown}
 
 pub tagged_found : {X : Type 0} (kind : Kind) (escapes : Bool) (shown body : List ℕ) (number : ℕ)
-    → ShowsTagged kind.name.now kind.digits shown number body → (result : Result (Option Entry) X)
+    → ShowsTagged kind.name.now (digits_of kind.width) shown number body → (result : Result (Option Entry) X)
     → IfOk result (λ found. MatchOption found ((name : List ℕ) → name_shown escapes name ≡ shown → ⊥)
     (λ entry. (entry.kind ≡ kind) × (entry.number ≡ number) × (name_shown escapes entry.name.items ≡ shown)))
     → IfOk result (λ found. MatchOption found ((name : List ℕ) (number : ℕ) → ¬ (TellsTagged kind escapes name number body))
     (λ entry. (entry.kind ≡ kind) × TellsTagged kind escapes entry.name.items entry.number body))
 tagged_found kind escapes shown body number shows result found =
     found_by (λ (entry : Entry). entry.kind ≡ kind) (λ entry. entry.name.items) (λ entry. entry.number) (name_shown escapes)
-    (λ s n. ShowsTagged kind.name.now kind.digits s n body)
-    (λ xs ys a b one other. tagged_shown kind.name.now kind.digits a b xs ys body one other) shown number shows result found
+    (λ s n. ShowsTagged kind.name.now (digits_of kind.width) s n body)
+    (λ xs ys a b one other. tagged_shown kind.name.now (digits_of kind.width) a b xs ys body one other) shown number shows result found
 
 pub untagged_found : {X : Type 0} (kind : Kind) (escapes : Bool) (shown body : List ℕ) (number : ℕ)
-    → ShowsUntagged kind.digits shown number body → (result : Result (Option Entry) X)
+    → ShowsUntagged (digits_of kind.width) shown number body → (result : Result (Option Entry) X)
     → IfOk result (λ found. MatchOption found ((name : List ℕ) → name_shown escapes name ≡ shown → ⊥)
     (λ entry. (entry.kind ≡ kind) × (entry.number ≡ number) × (name_shown escapes entry.name.items ≡ shown)))
     → IfOk result (λ found. MatchOption found ((name : List ℕ) (number : ℕ) → ¬ (TellsUntagged kind escapes name number body))
     (λ entry. (entry.kind ≡ kind) × TellsUntagged kind escapes entry.name.items entry.number body))
 untagged_found kind escapes shown body number shows result found =
     found_by (λ (entry : Entry). entry.kind ≡ kind) (λ entry. entry.name.items) (λ entry. entry.number) (name_shown escapes)
-    (λ s n. ShowsUntagged kind.digits s n body)
-    (λ xs ys a b one other. untagged_shown kind.digits a b xs ys body one other) shown number shows result found
+    (λ s n. ShowsUntagged (digits_of kind.width) s n body)
+    (λ xs ys a b one other. untagged_shown (digits_of kind.width) a b xs ys body one other) shown number shows result found
 
 -- where no tagged line of one of the kinds is told
 pub body_found : {X : Type 0} (kinds : List Kind) (default : Kind) (escapes : Bool) (body : List ℕ)

@@ -4,6 +4,8 @@ use Rattle.hash_lines.specs.Escape.{escape, needs_escape}
 use Rattle.hash_lines.specs.Hex.{hex, hex_value}
 use Rattle.hash_lines.specs.declared.line.Form.{Form}
 use Rattle.hash_lines.specs.declared.line.Form.TheVariants as form
+use Rattle.hash_lines.specs.declared.line.Width.{Width}
+use Rattle.hash_lines.specs.declared.line.Width.TheVariants as width
 
 -- a name in a line, with escapes or without
 abbrev pub name_shown : Bool → List ℕ → List ℕ
@@ -28,10 +30,16 @@ abbrev pub body : Form → (tag shown digits : List ℕ) → List ℕ
 body form.Tagged tag shown digits = tagged tag shown digits
 body form.Untagged tag shown digits = untagged shown digits
 
+-- how many digits
+abbrev pub digits_of : Width → ℕ
+digits_of width.Eight = 8
+digits_of width.Sixteen = 16
+digits_of width.ThirtyTwo = 32
+
 -- the line of a file's hash; with escapes only where the name needs them
-abbrev pub line_of : Form → (escapes : Bool) (tag : List ℕ) (digits : ℕ) (name : List ℕ) (number : ℕ) → List ℕ
-line_of form escapes tag digits name number =
-    mark (escapes && needs_escape name) ++ body form tag (name_shown (escapes && needs_escape name) name) (hex digits number)
+abbrev pub line_of : Form → (escapes : Bool) (tag : List ℕ) → Width → (name : List ℕ) (number : ℕ) → List ℕ
+line_of form escapes tag width name number =
+    mark (escapes && needs_escape name) ++ body form tag (name_shown (escapes && needs_escape name) name) (hex (digits_of width) number)
 
 -- digits of either case, so many, of this number
 abbrev pub ShowsNumber : (count number : ℕ) → List ℕ → Type 0

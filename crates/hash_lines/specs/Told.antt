@@ -1,14 +1,14 @@
 -- What a line tells.
 use Rattle.std.specs.Prelude.{ℕ, ◌≡◌, ◌⊎◌, Bool, true, false, List, [], ◌∷◌, Contains}
 use Rattle.hash_lines.specs.declared.line.Kind.{Kind}
-use Rattle.hash_lines.specs.Line.{name_shown, ShowsTagged, ShowsUntagged}
+use Rattle.hash_lines.specs.Line.{digits_of, name_shown, ShowsTagged, ShowsUntagged}
 
 -- a tagged line of this kind without its mark, with escapes or without
 abbrev pub TellsTagged : Kind → Bool → (name : List ℕ) (number : ℕ) → List ℕ → Type 0
-TellsTagged kind escapes name number body = ShowsTagged kind.name.now kind.digits (name_shown escapes name) number body
+TellsTagged kind escapes name number body = ShowsTagged kind.name.now (digits_of kind.width) (name_shown escapes name) number body
 
 abbrev pub TellsUntagged : Kind → Bool → (name : List ℕ) (number : ℕ) → List ℕ → Type 0
-TellsUntagged kind escapes name number body = ShowsUntagged kind.digits (name_shown escapes name) number body
+TellsUntagged kind escapes name number body = ShowsUntagged (digits_of kind.width) (name_shown escapes name) number body
 
 -- a line without its mark: a tagged one of one of these kinds, or an untagged one of the default
 abbrev pub TellsBody : List Kind → (default : Kind) → Bool → Kind → (name : List ℕ) (number : ℕ) → List ℕ → Type 0

@@ -1,19 +1,43 @@
 //! Lines that tell the hash of a file, as they are written: `NAME (file) = hexadecimal`, and `hexadecimal  file`.
 ghost use Rattle.std.specs.Prelude.{◌≡◌, ◌++◌, ◌≤◌, OnOk};
-ghost use Rattle.hash_lines.specs.Line.{line_of, name_shown};
+ghost use Rattle.hash_lines.specs.Line.{digits_of, line_of, name_shown};
 
 use crate::escape::{needs_escape, push_escaped};
-use crate::hex::push_hex;
+use crate::hex::{MOST_DIGITS, push_hex};
 use std::alloc::AllocError;
 
-/// A hash that a line may tell: its name, and how many hexadecimal digits its numbers have.
+/// How many hexadecimal digits the numbers of a hash have.
+#[derive(Clone, Copy)]
+pub enum Width {
+    /// Eight.
+    Eight,
+    /// Sixteen.
+    Sixteen,
+    /// Thirty-two.
+    ThirtyTwo,
+}
+
+impl Width {
+    /// As a number.
+    pub fn digits(self) -> usize
+        ensures value { result ≡ digits_of self }
+        ensures most { result ≤ MOST_DIGITS }
+    {
+        match self {
+            Width::Eight => 8,
+            Width::Sixteen => 16,
+            Width::ThirtyTwo => 32,
+        }
+    }
+}
+
+/// A hash that a line may tell: its name, and how many digits its numbers have.
 #[derive(Clone, Copy)]
 pub struct Kind<'a> {
     /// The name.
     pub name: &'a str,
     /// How many digits its numbers have.
-    pub digits: usize,
-    ghost few: { digits ≤ 32 },
+    pub width: Width,
 }
 
 /// How a line is written.
@@ -47,7 +71,7 @@ pub fn push_line(
     number: u128,
 ) -> Result<(), AllocError>
     ensures { OnOk result (text.new.items ≡ text.old.items
-        ++ line_of form escapes kind.entry.name.now kind.entry.digits name.now number) }
+        ++ line_of form escapes kind.entry.name.now kind.entry.width name.now number) }
 {
     let escapes = escapes && needs_escape(name);
     if escapes {
@@ -59,10 +83,10 @@ pub fn push_line(
             text.extend_from_slice(b" (")?;
             push_name(text, escapes, name)?;
             text.extend_from_slice(b") = ")?;
-            push_hex(text, kind.digits, number)
+            push_hex(text, kind.width.digits(), number)
         }
         Form::Untagged => {
-            push_hex(text, kind.digits, number)?;
+            push_hex(text, kind.width.digits(), number)?;
             text.extend_from_slice(b"  ")?;
             push_name(text, escapes, name)
         }

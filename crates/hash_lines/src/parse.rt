@@ -1,11 +1,11 @@
 //! Lines that tell the hash of a file, as they are read.
-ghost use Rattle.std.specs.Prelude.{◌≡◌, ◌≢◌, ◌⊎◌, ◌++◌, ◌<◌, ℕ, List, length, codes, IfOk, MatchOption};
+ghost use Rattle.std.specs.Prelude.{◌≡◌, ◌≢◌, ◌⊎◌, ◌++◌, ◌<◌, ◌≤◌, ℕ, List, length, codes, IfOk, MatchOption};
 ghost use Rattle.hash_lines.specs.Line.{name_shown, ShowsNumber, ShowsTagged, ShowsUntagged};
 ghost use Rattle.hash_lines.specs.Told.{Tells, TellsBody, TellsEscaped, TellsTagged, TellsUntagged};
 ghost use Rattle.hash_lines.specs.declared.line.Kind.{Kind};
 
 use crate::escape::unescaped;
-use crate::hex::hex_number;
+use crate::hex::{MOST_DIGITS, hex_number};
 use crate::line::Kind;
 use std::alloc::{AllocError, Global};
 
@@ -53,12 +53,13 @@ fn split_last(bytes: &[u8], count: usize) -> Option<(&[u8], &[u8])>
     Some(bytes.split_at(bytes.len() - count))
 }
 
-/// The digits' number, where there are as many as the kind has.
-fn number_of(kind: Kind<'_>, digits: &[u8]) -> Option<u128>
-    ensures { MatchOption result ((number : ℕ) → ¬ (ShowsNumber kind.entry.digits number digits.now))
-        (λ number. ShowsNumber kind.entry.digits number digits.now) }
+/// The number of so many digits.
+fn number_of(count: usize, digits: &[u8]) -> Option<u128>
+    requires { count ≤ MOST_DIGITS }
+    ensures { MatchOption result ((number : ℕ) → ¬ (ShowsNumber count number digits.now))
+        (λ number. ShowsNumber count number digits.now) }
 {
-    if digits.len() != kind.digits {
+    if digits.len() != count {
         return None;
     }
     hex_number(digits)
@@ -97,23 +98,25 @@ fn behind_spaces(rest: &[u8]) -> Option<&[u8]>
     behind(rest, b" *")
 }
 
-/// The name as it is shown, and the number, in a tagged line of this kind without its mark.
-fn tagged_parts<'a>(kind: Kind<'_>, body: &'a [u8]) -> Option<(&'a [u8], u128)>
-    ensures { MatchOption result ((shown : List ℕ) (number : ℕ) → ¬ (ShowsTagged kind.entry.name.now kind.entry.digits shown number body.now))
-        (λ parts. ShowsTagged kind.entry.name.now kind.entry.digits parts.0.now parts.1 body.now) }
+/// The name as it is shown, and the number of so many digits, in a tagged line without its mark.
+fn tagged_parts<'a>(tag: &[u8], count: usize, body: &'a [u8]) -> Option<(&'a [u8], u128)>
+    requires { count ≤ MOST_DIGITS }
+    ensures { MatchOption result ((shown : List ℕ) (number : ℕ) → ¬ (ShowsTagged tag.now count shown number body.now))
+        (λ parts. ShowsTagged tag.now count parts.0.now parts.1 body.now) }
 {
-    let (shown, digits) = around_mark(behind_tag(kind.name.as_bytes(), body)?, kind.digits)?;
-    Some((shown, number_of(kind, digits)?))
+    let (shown, digits) = around_mark(behind_tag(tag, body)?, count)?;
+    Some((shown, number_of(count, digits)?))
 }
 
-/// The name as it is shown, and the number, in an untagged line of this kind without its mark.
-fn untagged_parts<'a>(kind: Kind<'_>, body: &'a [u8]) -> Option<(&'a [u8], u128)>
-    ensures { MatchOption result ((shown : List ℕ) (number : ℕ) → ¬ (ShowsUntagged kind.entry.digits shown number body.now))
-        (λ parts. ShowsUntagged kind.entry.digits parts.0.now parts.1 body.now) }
+/// The name as it is shown, and the number of so many digits, in an untagged line without its mark.
+fn untagged_parts(count: usize, body: &[u8]) -> Option<(&[u8], u128)>
+    requires { count ≤ MOST_DIGITS }
+    ensures { MatchOption result ((shown : List ℕ) (number : ℕ) → ¬ (ShowsUntagged count shown number body.now))
+        (λ parts. ShowsUntagged count parts.0.now parts.1 body.now) }
 {
-    let (digits, rest) = split_first(body, kind.digits)?;
+    let (digits, rest) = split_first(body, count)?;
     let shown = behind_spaces(rest)?;
-    Some((shown, number_of(kind, digits)?))
+    Some((shown, number_of(count, digits)?))
 }
 
 /// The name that is shown so, with escapes or without.
@@ -156,7 +159,7 @@ fn tagged_entry<'k>(
         ((name : List ℕ) (number : ℕ) → ¬ (TellsTagged kind.entry escapes name number body.now))
         (λ entry. (entry.kind ≡ kind.entry) × TellsTagged kind.entry escapes entry.name.items entry.number body.now)) }
 {
-    match tagged_parts(kind, body) {
+    match tagged_parts(kind.name.as_bytes(), kind.width.digits(), body) {
         Some((shown, number)) => entry_of(alloc, kind, escapes, shown, number),
         None => Ok(None),
     }
@@ -173,7 +176,7 @@ fn untagged_entry<'k>(
         ((name : List ℕ) (number : ℕ) → ¬ (TellsUntagged kind.entry escapes name number body.now))
         (λ entry. (entry.kind ≡ kind.entry) × TellsUntagged kind.entry escapes entry.name.items entry.number body.now)) }
 {
-    match untagged_parts(kind, body) {
+    match untagged_parts(kind.width.digits(), body) {
         Some((shown, number)) => entry_of(alloc, kind, escapes, shown, number),
         None => Ok(None),
     }

@@ -1,5 +1,5 @@
 -- The hashes by their names.
-use Rattle.std.specs.Prelude.{ℕ, ◌≡◌, List, Option, Some, None, [], ◌∷◌, codes, fold}
+use Rattle.std.specs.Prelude.{ℕ, ◌≡◌, ◌+◌, ◌*◌, ◌^◌, List, Option, Some, None, [], ◌∷◌, codes, fold}
 use Rattle.std.specs.Map.{lookup}
 use Rattle.std.specs.Str.{bytes_eq}
 use Rattle.hashers.specs.Reading.{cut}
@@ -35,6 +35,10 @@ hashes =
     ∷ (codes "fxhash32", λ text. fx32 0 (words32 text))
     ∷ (codes "fxhash64", λ text. fx64 0 (words64 text))
     ∷ []
+
+-- the 128 bits of SpookyHash under two seeds of 0, the first word above the second
+abbrev pub spooky128 : List ℕ → ℕ
+spooky128 text = (spooky 0 0 text).0 * 2 ^ 64 + (spooky 0 0 text).1
 
 -- the hash of that name, if there is one
 abbrev pub named : List ℕ → Option (List ℕ → ℕ)

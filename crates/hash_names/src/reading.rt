@@ -1,9 +1,12 @@
 //! The hash of all that a reader gives.
 ghost use Rattle.std.specs.Prelude.{◌<◌, ◌≤◌, fold};
 ghost use Rattle.hashers.specs.Reading.{cut};
+ghost use Rattle.hashers.specs.Spooky.{spooky_v1};
+ghost use Rattle.hash_names.specs.Named.{spooky128};
 ghost use Rattle.hash_names.specs.Reading.{Feeds, Hashes, read};
 
 use hashers::engine::{Fault, hash_reader};
+use hashers::jenkins::spooky_hash::SpookyHasher;
 use hashers::laws::{Piecewise, Streamed};
 use std::error::Error as StdError;
 use std::fmt;
@@ -75,4 +78,25 @@ pub fn hash_of_text<H: Streamed, R: Read, const N: usize>(
     ensures { Hashes (H.hash H.start) (read limit R.remaining r.old r.new) result }
 {
     hash_of_pieces::<H, R, N>(limit, r)
+}
+
+/// The hash by version 1 of SpookyHash of what is read.
+pub fn hash_of_spooky_v1<R: Read, const N: usize>(limit: u64, r: &mut R) -> Result<u64, Unhashed>
+    requires not_empty { 0 < N }
+    requires small { N ≤ 65536 }
+    ensures { Hashes (λ text. (spooky_v1 0 0 text).0) (read limit R.remaining r.old r.new) result }
+{
+    let hasher = fed::<SpookyHasher, R, N>(limit, r)?;
+    Ok(hasher.finish128_v1().0)
+}
+
+/// The 128 bits of SpookyHash under two seeds of 0 of what is read, the first word above the second.
+pub fn hash_of_spooky128<R: Read, const N: usize>(limit: u64, r: &mut R) -> Result<u128, Unhashed>
+    requires not_empty { 0 < N }
+    requires small { N ≤ 65536 }
+    ensures { Hashes spooky128 (read limit R.remaining r.old r.new) result }
+{
+    let hasher = fed::<SpookyHasher, R, N>(limit, r)?;
+    let (high, low) = hasher.finish128();
+    Ok(u128::from(high) * (1 << 64) + u128::from(low))
 }

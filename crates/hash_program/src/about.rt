@@ -1,9 +1,10 @@
 //! What a program says of itself, and how it ends where a write failed.
 ghost use Rattle.std.specs.Prelude.{◌≡◌};
-ghost use Rattle.std.specs.Io.Buffered.{writer_buffer, writer_contents};
-ghost use Rattle.hash_program.specs.About.{Tells, write_status};
+ghost use Rattle.std.specs.Io.Buffered.{writer_contents};
+ghost use Rattle.hash_program.specs.About.{write_status};
+ghost use Rattle.hash_program.specs.Streams.{PutsOut};
 
-use crate::streams::{finish, put};
+use crate::streams::put_out;
 use std::io::{BufWriter, Error, ErrorKind, Write};
 
 /// What a program says of itself.
@@ -22,13 +23,9 @@ pub fn tell<W: Write + Drop>(
     w: &mut BufWriter<W>,
     tries: u32,
 ) -> Result<(), Option<Error>>
-    ensures { Tells text.now (writer_contents W.contents w.old) (writer_contents W.contents w.new) result }
+    ensures { PutsOut text.now (writer_contents W.contents w.old) (writer_contents W.contents w.new) result }
 {
-    put(w, text.as_bytes(), tries)?;
-    match finish(w, tries) {
-        Ok(()) => Ok(()),
-        Err(error) => Err(Some(error)),
-    }
+    put_out(w, text.as_bytes(), tries)
 }
 
 /// The status of a failed write: 141 where nobody reads any more, as a shell tells of a program that such a write ended, and else 1.

@@ -13,15 +13,55 @@ pub trait Complaints {
     fn failed(&mut self, place: usize, error: &Error);
 }
 
+/// What is read of a name: a file, or standard input.
+#[derive(Drop)]
+pub enum Opened {
+    /// Standard input.
+    Standard(Stdin),
+    /// A file.
+    File(File),
+}
+
+impl Opened {
+    /// How many bytes a file has, as far as the system says so; a pipe has no size.
+    pub fn size(&self) -> Option<u64> {
+        match self {
+            Opened::Standard(_) => None,
+            Opened::File(file) => match file.metadata() {
+                Ok(data) if data.is_file() => Some(data.len()),
+                _ => None,
+            },
+        }
+    }
+}
+
+impl Read for Opened {
+    fn read(&mut self, buf: &mut [u8]) -> io::Result<usize> {
+        match self {
+            Opened::Standard(stdin) => stdin.read(buf),
+            Opened::File(file) => file.read(buf),
+        }
+    }
+}
+
+/// Opens the file of that name; `-` is standard input.
+pub fn open(rt: &HostRuntime, name: &[u8]) -> io::Result<Opened> {
+    if name == STANDARD {
+        return Ok(Opened::Standard(rt.stdin()));
+    }
+    match str::from_utf8(name) {
+        Ok(path) => Ok(Opened::File(File::open(rt, path)?)),
+        Err(_) => Err(Error::new(ErrorKind::InvalidInput, NO_TEXT)),
+    }
+}
+
 /// What is read of an input.
 #[derive(Drop)]
 enum Source {
     /// It is not opened yet.
     Unopened,
-    /// Standard input.
-    Standard(Stdin),
-    /// A file.
-    File(File),
+    /// It is open.
+    Open(Opened),
     /// It has ended, or failed.
     Closed,
 }
@@ -69,27 +109,12 @@ impl<'a> Input<'a> {
         }
     }
 
-    /// Opens it.
-    fn open(&mut self) -> io::Result<()> {
-        self.source = Source::Closed;
-        self.source = if self.name == STANDARD {
-            Source::Standard(self.rt.stdin())
-        } else {
-            match str::from_utf8(self.name) {
-                Ok(path) => Source::File(File::open(self.rt, path)?),
-                Err(_) => return Err(Error::new(ErrorKind::InvalidInput, NO_TEXT)),
-            }
-        };
-        Ok(())
-    }
-
     /// Reads once from what is open.
     fn read_open(&mut self, buf: &mut [u8]) -> io::Result<usize>
         ensures { ReadsAtMost result buf.new }
     {
         match &mut self.source {
-            Source::Standard(stdin) => stdin.read(buf),
-            Source::File(file) => file.read(buf),
+            Source::Open(opened) => opened.read(buf),
             _ => Ok(0),
         }
     }
@@ -98,7 +123,8 @@ impl<'a> Input<'a> {
 impl Read for Input<'_> {
     fn read(&mut self, buf: &mut [u8]) -> io::Result<usize> {
         if let Source::Unopened = self.source {
-            self.open()?;
+            self.source = Source::Closed;
+            self.source = Source::Open(open(self.rt, self.name)?);
         }
         let read = self.read_open(buf);
         if let Ok(0) = read {
@@ -125,12 +151,16 @@ impl Complaints for Told<'_, '_> {
             Some(name) => *name,
             None => STANDARD,
         };
-        let alloc = self.rt.alloc();
-        let (Ok(name), Ok(why)) = (String::from_utf8_lossy(alloc, name), reason(alloc, error))
-        else {
-            let _ = eprintln!(self.rt; "{}: out of memory", self.program);
-            return;
-        };
-        let _ = eprintln!(self.rt; "{}: {name}: {why}", self.program);
+        tell_failure(self.rt, self.program, name, error);
     }
+}
+
+/// Says on standard error that the file of that name failed, and why, behind the program's name.
+pub fn tell_failure(rt: &HostRuntime, program: &str, name: &[u8], error: &Error) {
+    let alloc = rt.alloc();
+    let (Ok(name), Ok(why)) = (String::from_utf8_lossy(alloc, name), reason(alloc, error)) else {
+        let _ = eprintln!(rt; "{program}: out of memory");
+        return;
+    };
+    let _ = eprintln!(rt; "{program}: {name}: {why}");
 }

@@ -7,4 +7,5 @@ pub mod call;
 pub mod inputs;
 pub mod reason;
 pub mod streams;
+pub mod valued;
 pub mod words;

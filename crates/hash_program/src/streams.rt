@@ -2,7 +2,7 @@
 ghost use Rattle.std.specs.Prelude.{◌≡◌, ◌<◌, ◌≤◌, [], IfOk, OnOk, OnErr, length, take};
 ghost use Rattle.std.specs.Io.Buffered.{writer_buffer, writer_contents};
 ghost use Rattle.std.specs.Io.KnownBytes.{Appends, Consumes, IsAtEnd, Keeps};
-ghost use Rattle.hash_program.specs.Streams.{AppendsPart};
+ghost use Rattle.hash_program.specs.Streams.{AppendsPart, PutsOut};
 
 use std::io;
 use std::io::{BufWriter, Error, ErrorKind, Read, Write};
@@ -70,5 +70,21 @@ pub fn finish<W: Write + Drop>(w: &mut BufWriter<W>, tries: u32) -> io::Result<(
             }
         }
         left -= 1;
+    }
+}
+
+/// Writes all of the bytes and flushes, each tried up to so many times again where it was interrupted. After a failure, which has
+/// no error where a write took nothing, a beginning of them was written.
+pub fn put_out<W: Write + Drop>(
+    w: &mut BufWriter<W>,
+    bytes: &[u8],
+    tries: u32,
+) -> Result<(), Option<Error>>
+    ensures { PutsOut bytes.now (writer_contents W.contents w.old) (writer_contents W.contents w.new) result }
+{
+    put(w, bytes, tries)?;
+    match finish(w, tries) {
+        Ok(()) => Ok(()),
+        Err(error) => Err(Some(error)),
     }
 }

@@ -11,8 +11,7 @@ pub loop-tagged-preserved : goal.loop-tagged-preserved
 loop-tagged-preserved c =
     below_more _ c.loop-tagged.tagged-index c.loop-tagged.invariant
     (λ other is name number tells.
-    let item = sym is ∙ get_or_default c.args.kinds.now c.loop-tagged.tagged-index other c.tagged-item.result (omega arith)
-    ∙ sym c.tagged-item.is in
+    let item = sym is ∙ get_or_default c.args.kinds.now c.loop-tagged.tagged-index other _ (omega arith) in
     let untold = rw c.in_default.is at c.in_ok-entry.ensures in
     untold name number (subst (λ k. TellsTagged k c.args.escapes name number c.args.body.now) item tells))
 

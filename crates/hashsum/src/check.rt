@@ -1,0 +1,265 @@
+//! Whether files have the hashes that lines tell.
+use crate::fault::Fault;
+use crate::folder::Folder;
+use crate::sum::error_of;
+use crate::sums::number_named;
+use hash_lines::escape::needs_escape;
+use hash_lines::line::{Kind, push_name};
+use hash_lines::parse::{Entry, parse_line};
+use hash_program::streams::{TRIES, put_out};
+use std::alloc::{AllocError, Global};
+use std::io::{BufRead, BufReader, BufWriter, ErrorKind, Read, Write};
+
+/// How lines are checked.
+#[derive(Clone, Copy)]
+pub struct Checking {
+    /// By which hash lines that are not tagged are checked.
+    pub kind: Kind<'static>,
+    /// Whether files that have the hash are left out.
+    pub quiet: bool,
+    /// Whether nothing is written.
+    pub status: bool,
+    /// Whether improper lines fail the check.
+    pub strict: bool,
+    /// Whether files that are not there are left out.
+    pub ignore_missing: bool,
+    /// Whether each improper line is told.
+    pub warn: bool,
+}
+
+/// What came of a file that a line tells of.
+#[derive(Clone, Copy)]
+pub enum Verdict {
+    /// It has the hash.
+    Same,
+    /// It has another hash.
+    Different,
+    /// It could not be opened or read.
+    Unread,
+    /// It is not there, and such files are to be left out.
+    Missing,
+}
+
+/// What came of a line.
+#[derive(Drop)]
+pub enum Came<'k> {
+    /// It is empty, or a comment.
+    Skipped,
+    /// It tells no hash.
+    Improper,
+    /// The file that it tells of was looked at.
+    Checked(Entry<'k>, Verdict),
+}
+
+/// How often each came of the lines of a list.
+#[derive(Clone, Copy)]
+pub struct Counts {
+    /// Lines that tell no hash.
+    pub improper: u64,
+    /// Files that have the hash.
+    pub same: u64,
+    /// Files that have another.
+    pub different: u64,
+    /// Files that could not be opened or read.
+    pub unread: u64,
+    /// Files that are not there, and were left out.
+    pub missing: u64,
+}
+
+/// Whether the lines of a list pass: some file has the hash that is told of it, and none has another or could not be read.
+pub fn passes(strict: bool, counts: &Counts) -> bool {
+    counts.same > 0
+        && counts.different == 0
+        && counts.unread == 0
+        && !(strict && counts.improper > 0)
+}
+
+/// Counts what came of a line more.
+fn count(counts: Counts, came: &Came<'_>) -> Counts {
+    match came {
+        Came::Skipped => counts,
+        Came::Improper => Counts {
+            improper: counts.improper.saturating_add(1),
+            ..counts
+        },
+        Came::Checked(_, Verdict::Same) => Counts {
+            same: counts.same.saturating_add(1),
+            ..counts
+        },
+        Came::Checked(_, Verdict::Different) => Counts {
+            different: counts.different.saturating_add(1),
+            ..counts
+        },
+        Came::Checked(_, Verdict::Unread) => Counts {
+            unread: counts.unread.saturating_add(1),
+            ..counts
+        },
+        Came::Checked(_, Verdict::Missing) => Counts {
+            missing: counts.missing.saturating_add(1),
+            ..counts
+        },
+    }
+}
+
+/// Whether the file of an entry has the hash that it tells. A file that fails is told.
+fn verdict_on<R: Read + Drop, F: Folder<R>>(
+    folder: &F,
+    entry: &Entry<'_>,
+    ignore_missing: bool,
+) -> Verdict {
+    let error = match folder.open(&entry.name) {
+        Ok(mut file) => match number_named(entry.kind.name, u64::MAX, &mut file) {
+            Ok(number) if number == entry.number => return Verdict::Same,
+            Ok(_) => return Verdict::Different,
+            Err(unhashed) => error_of(unhashed),
+        },
+        Err(error) if ignore_missing && error.kind() == ErrorKind::NotFound =>
+            return Verdict::Missing,
+        Err(error) => error,
+    };
+    folder.failed(&entry.name, &error);
+    Verdict::Unread
+}
+
+/// What comes of a line without its end.
+fn check_line<'k, R: Read + Drop, F: Folder<R>>(
+    alloc: Global,
+    folder: &F,
+    kinds: &[Kind<'k>],
+    kind: Kind<'k>,
+    ignore_missing: bool,
+    line: &[u8],
+) -> Result<Came<'k>, AllocError> {
+    match line {
+        [] | [b'#', ..] => return Ok(Came::Skipped),
+        _ => {}
+    }
+    match parse_line(alloc, kinds, kind, line)? {
+        Some(entry) => {
+            let verdict = verdict_on(folder, &entry, ignore_missing);
+            Ok(Came::Checked(entry, verdict))
+        }
+        None => Ok(Came::Improper),
+    }
+}
+
+/// What is said of a verdict behind the name; nothing where nothing is to be written.
+fn words(verdict: Verdict, quiet: bool, status: bool) -> &'static [u8] {
+    match verdict {
+        _ if status => b"",
+        Verdict::Same if quiet => b"",
+        Verdict::Same => b": OK\n",
+        Verdict::Different => b": FAILED\n",
+        Verdict::Unread => b": FAILED open or read\n",
+        Verdict::Missing => b"",
+    }
+}
+
+/// Writes what came of a line behind a text.
+fn push_came(
+    text: &mut Vec<u8>,
+    came: &Came<'_>,
+    quiet: bool,
+    status: bool,
+) -> Result<(), AllocError> {
+    if let Came::Checked(entry, verdict) = came {
+        let words = words(*verdict, quiet, status);
+        if !words.is_empty() {
+            let escapes = needs_escape(&entry.name);
+            if escapes {
+                text.push(b'\\')?;
+            }
+            push_name(text, escapes, &entry.name)?;
+            text.extend_from_slice(words)?;
+        }
+    }
+    Ok(())
+}
+
+/// The line without its newline, if it has one.
+fn without_end(line: &[u8]) -> &[u8] {
+    match line {
+        [text @ .., b'\n'] => text,
+        _ => line,
+    }
+}
+
+/// Checks the lines of the list of that name, and tells whether they pass.
+fn check_list<R: Read + Drop, F: Folder<R>, W: Write + Drop>(
+    alloc: Global,
+    folder: &F,
+    kinds: &[Kind<'_>],
+    checking: Checking,
+    list: &[u8],
+    w: &mut BufWriter<W>,
+) -> Result<bool, Fault> {
+    let mut lines = match folder.open(list) {
+        Ok(file) => match BufReader::with_capacity(alloc, 65536, file) {
+            Ok(lines) => lines,
+            Err(_) => return Err(Fault::NoMemory),
+        },
+        Err(error) => {
+            folder.failed(list, &error);
+            return Ok(false);
+        }
+    };
+    let mut counts = Counts {
+        improper: 0,
+        same: 0,
+        different: 0,
+        unread: 0,
+        missing: 0,
+    };
+    let mut line = Vec::new(alloc);
+    for number in 1..u64::MAX {
+        line.clear();
+        match lines.read_until(b'\n', &mut line) {
+            Ok(0) => break,
+            Ok(_) => {}
+            Err(error) => {
+                folder.failed(list, &error);
+                return Ok(false);
+            }
+        }
+        let came = check_line(
+            alloc,
+            folder,
+            kinds,
+            checking.kind,
+            checking.ignore_missing,
+            without_end(&line),
+        )?;
+        counts = count(counts, &came);
+        if let Came::Improper = came {
+            if checking.warn {
+                folder.improper(list, number);
+            }
+        }
+        let mut text = Vec::new(alloc);
+        push_came(&mut text, &came, checking.quiet, checking.status)?;
+        match put_out(w, &text, TRIES) {
+            Ok(()) => {}
+            Err(error) => return Err(Fault::Write(error)),
+        }
+    }
+    folder.ended(list, &counts);
+    Ok(passes(checking.strict, &counts))
+}
+
+/// Checks the lines of the lists of these names, in their order, and tells whether all pass.
+pub fn check_lists<R: Read + Drop, F: Folder<R>, W: Write + Drop>(
+    alloc: Global,
+    folder: &F,
+    kinds: &[Kind<'_>],
+    checking: Checking,
+    lists: &[&[u8]],
+    w: &mut BufWriter<W>,
+) -> Result<bool, Fault> {
+    let mut all = true;
+    for list in lists {
+        if !check_list(alloc, folder, kinds, checking, list, w)? {
+            all = false;
+        }
+    }
+    Ok(all)
+}

@@ -1,0 +1,101 @@
+//! The line of each file.
+ghost use Rattle.std.specs.Io.Buffered.{writer_contents};
+
+use crate::fault::Fault;
+use crate::folder::Folder;
+use crate::sums::number_named;
+use hash_lines::line::{Form, Kind, push_line};
+use hash_names::reading::Unhashed;
+use hash_program::streams::{TRIES, put_out};
+use std::alloc::{AllocError, Global};
+use std::io::{BufWriter, Error, ErrorKind, Read, Write};
+
+/// How files are summed: by which hash, and in lines of which form.
+#[derive(Clone, Copy)]
+pub struct Summing {
+    /// By which hash.
+    pub kind: Kind<'static>,
+    /// In lines of which form.
+    pub form: Form,
+    /// Whether lines end with a zero byte and have no escapes.
+    pub zero: bool,
+}
+
+/// Why a file has no number, as an error of the system.
+pub fn error_of(unhashed: Unhashed) -> Error {
+    match unhashed {
+        Unhashed::ReadFault(fault) => fault.error,
+        Unhashed::TooLong => Error::new(ErrorKind::FileTooLarge, "the file is too long"),
+        Unhashed::UnknownName => Error::new(ErrorKind::InvalidInput, "no hash has this name"),
+    }
+}
+
+/// The number of the file of that name, or nothing where it fails, which is told.
+fn number_of<R: Read + Drop, F: Folder<R>>(
+    folder: &F,
+    kind: Kind<'_>,
+    name: &[u8],
+) -> Option<u128> {
+    let error = match folder.open(name) {
+        Ok(mut file) => match number_named(kind.name, u64::MAX, &mut file) {
+            Ok(number) => return Some(number),
+            Err(unhashed) => error_of(unhashed),
+        },
+        Err(error) => error,
+    };
+    folder.failed(name, &error);
+    None
+}
+
+/// The line of a file, with its end.
+fn sum_line(
+    alloc: Global,
+    summing: Summing,
+    name: &[u8],
+    number: u128,
+) -> Result<Vec<u8>, AllocError> {
+    let mut line = Vec::new(alloc);
+    push_line(
+        &mut line,
+        summing.form,
+        !summing.zero,
+        summing.kind,
+        name,
+        number,
+    )?;
+    line.push(if summing.zero { 0 } else { b'\n' })?;
+    Ok(line)
+}
+
+/// Writes the line of a file.
+fn tell_sum<W: Write + Drop>(
+    alloc: Global,
+    summing: Summing,
+    name: &[u8],
+    number: u128,
+    w: &mut BufWriter<W>,
+) -> Result<(), Fault> {
+    let line = sum_line(alloc, summing, name, number)?;
+    match put_out(w, &line, TRIES) {
+        Ok(()) => Ok(()),
+        Err(error) => Err(Fault::Write(error)),
+    }
+}
+
+/// Writes the line of each file, in their order, and tells whether each was read.
+pub fn sum_files<R: Read + Drop, F: Folder<R>, W: Write + Drop>(
+    alloc: Global,
+    folder: &F,
+    summing: Summing,
+    names: &[&[u8]],
+    w: &mut BufWriter<W>,
+) -> Result<bool, Fault> {
+    let mut whole = true;
+    for name in names {
+        match number_of(folder, summing.kind, name) {
+            Some(number) => tell_sum(alloc, summing, name, number, w)?,
+            None => whole = false,
+        }
+    }
+    Ok(whole)
+}
