@@ -9,5 +9,5 @@ abbrev pub sums : List (List ℕ × (List ℕ → ℕ))
 sums = (codes "spooky128", spooky128) ∷ hashes
 
 -- the hash of that name, if there is one
-abbrev pub number_named : List ℕ → Option (List ℕ → ℕ)
+unfoldable pub number_named : List ℕ → Option (List ℕ → ℕ)
 number_named name = lookup (bytes_eq name) sums

@@ -1,12 +1,15 @@
 //! Whether files have the hashes that lines tell.
-use crate::fault::Fault;
+ghost use Rattle.std.specs.Prelude.{◌≡◌, IfOk};
+ghost use Rattle.hashsum.specs.Checking.{behind_name, counted, is_skipped, passes, said, verdict_on, words, IsCame, IsVerdict};
+ghost use Rattle.hashsum.specs.Sums.{number_named};
+
+use crate::fault::{Fault, write};
 use crate::folder::Folder;
 use crate::sum::error_of;
 use crate::sums::number_named;
 use hash_lines::escape::needs_escape;
 use hash_lines::line::{Kind, push_name};
 use hash_lines::parse::{Entry, parse_line};
-use hash_program::streams::{TRIES, put_out};
 use std::alloc::{AllocError, Global};
 use std::io::{BufRead, BufReader, BufWriter, ErrorKind, Read, Write};
 
@@ -67,7 +70,9 @@ pub struct Counts {
 }
 
 /// Whether the lines of a list pass: some file has the hash that is told of it, and none has another or could not be read.
-pub fn passes(strict: bool, counts: &Counts) -> bool {
+pub fn passes(strict: bool, counts: &Counts) -> bool
+    ensures { result ≡ passes strict counts.now }
+{
     counts.same > 0
         && counts.different == 0
         && counts.unread == 0
@@ -75,7 +80,9 @@ pub fn passes(strict: bool, counts: &Counts) -> bool {
 }
 
 /// Counts what came of a line more.
-fn count(counts: Counts, came: &Came<'_>) -> Counts {
+fn count(counts: Counts, came: &Came<'_>) -> Counts
+    ensures { result ≡ counted counts came.entry.now }
+{
     match came {
         Came::Skipped => counts,
         Came::Improper => Counts {
@@ -101,24 +108,50 @@ fn count(counts: Counts, came: &Came<'_>) -> Counts {
     }
 }
 
+/// Whether a number is the one that is told.
+fn verdict_of(told: u128, number: u128) -> Verdict
+    ensures { result ≡ verdict_on told number }
+{
+    if number == told {
+        Verdict::Same
+    } else {
+        Verdict::Different
+    }
+}
+
 /// Whether the file of an entry has the hash that it tells. A file that fails is told.
-fn verdict_on<R: Read + Drop, F: Folder<R>>(
+fn check_file<R: Read + Drop, F: Folder<R>>(
     folder: &F,
     entry: &Entry<'_>,
     ignore_missing: bool,
-) -> Verdict {
+) -> Verdict
+    ensures { IsVerdict (number_named entry.entry.now.kind.name.now) (F.holds folder.now entry.entry.now.name.items)
+        entry.entry.now.number result }
+{
     let error = match folder.open(&entry.name) {
         Ok(mut file) => match number_named(entry.kind.name, u64::MAX, &mut file) {
-            Ok(number) if number == entry.number => return Verdict::Same,
-            Ok(_) => return Verdict::Different,
+            Ok(number) => return verdict_of(entry.number, number),
             Err(unhashed) => error_of(unhashed),
         },
-        Err(error) if ignore_missing && error.kind() == ErrorKind::NotFound =>
-            return Verdict::Missing,
-        Err(error) => error,
+        Err(error) => {
+            if ignore_missing && error.kind() == ErrorKind::NotFound {
+                return Verdict::Missing;
+            }
+            error
+        }
     };
     folder.failed(&entry.name, &error);
     Verdict::Unread
+}
+
+/// Whether a line is empty or a comment.
+fn is_skipped(line: &[u8]) -> bool
+    ensures { result ≡ is_skipped line.now }
+{
+    match line {
+        [] | [b'#', ..] => true,
+        _ => false,
+    }
 }
 
 /// What comes of a line without its end.
@@ -129,14 +162,15 @@ fn check_line<'k, R: Read + Drop, F: Folder<R>>(
     kind: Kind<'k>,
     ignore_missing: bool,
     line: &[u8],
-) -> Result<Came<'k>, AllocError> {
-    match line {
-        [] | [b'#', ..] => return Ok(Came::Skipped),
-        _ => {}
+) -> Result<Came<'k>, AllocError>
+    ensures { IfOk result (IsCame kinds.entry.now kind.entry (F.holds folder.now) line.now) }
+{
+    if is_skipped(line) {
+        return Ok(Came::Skipped);
     }
     match parse_line(alloc, kinds, kind, line)? {
         Some(entry) => {
-            let verdict = verdict_on(folder, &entry, ignore_missing);
+            let verdict = check_file(folder, &entry, ignore_missing);
             Ok(Came::Checked(entry, verdict))
         }
         None => Ok(Came::Improper),
@@ -144,36 +178,47 @@ fn check_line<'k, R: Read + Drop, F: Folder<R>>(
 }
 
 /// What is said of a verdict behind the name; nothing where nothing is to be written.
-fn words(verdict: Verdict, quiet: bool, status: bool) -> &'static [u8] {
+fn words(verdict: Verdict, quiet: bool, status: bool) -> &'static [u8]
+    ensures { result.now ≡ words quiet status verdict }
+{
+    if status {
+        return b"";
+    }
     match verdict {
-        _ if status => b"",
-        Verdict::Same if quiet => b"",
-        Verdict::Same => b": OK\n",
+        Verdict::Same => { if quiet { b"" } else { b": OK\n" } }
         Verdict::Different => b": FAILED\n",
         Verdict::Unread => b": FAILED open or read\n",
         Verdict::Missing => b"",
     }
 }
 
-/// Writes what came of a line behind a text.
-fn push_came(
-    text: &mut Vec<u8>,
-    came: &Came<'_>,
-    quiet: bool,
-    status: bool,
-) -> Result<(), AllocError> {
-    if let Came::Checked(entry, verdict) = came {
-        let words = words(*verdict, quiet, status);
-        if !words.is_empty() {
-            let escapes = needs_escape(&entry.name);
-            if escapes {
-                text.push(b'\\')?;
-            }
-            push_name(text, escapes, &entry.name)?;
-            text.extend_from_slice(words)?;
-        }
+/// A name and the words behind it; nothing where there are no words.
+fn behind_name(alloc: Global, name: &[u8], words: &[u8]) -> Result<Vec<u8>, AllocError>
+    ensures { IfOk result (λ text. text.items ≡ behind_name name.now words.now) }
+{
+    let mut text = Vec::new(alloc);
+    if words.is_empty() {
+        return Ok(text);
     }
-    Ok(())
+    let escapes = needs_escape(name);
+    if escapes {
+        text.push(b'\\')?;
+    }
+    push_name(&mut text, escapes, name)?;
+    text.extend_from_slice(words)?;
+    Ok(text)
+}
+
+/// The line that is written of what came.
+fn said(alloc: Global, came: &Came<'_>, quiet: bool, status: bool) -> Result<Vec<u8>, AllocError>
+    ensures { IfOk result (λ text. text.items ≡ said quiet status came.entry.now) }
+{
+    match came {
+        Came::Checked(entry, verdict) => {
+            behind_name(alloc, &entry.name, words(*verdict, quiet, status))
+        }
+        _ => Ok(Vec::new(alloc)),
+    }
 }
 
 /// The line without its newline, if it has one.
@@ -235,12 +280,8 @@ fn check_list<R: Read + Drop, F: Folder<R>, W: Write + Drop>(
                 folder.improper(list, number);
             }
         }
-        let mut text = Vec::new(alloc);
-        push_came(&mut text, &came, checking.quiet, checking.status)?;
-        match put_out(w, &text, TRIES) {
-            Ok(()) => {}
-            Err(error) => return Err(Fault::Write(error)),
-        }
+        let text = said(alloc, &came, checking.quiet, checking.status)?;
+        write(&text, w)?;
     }
     folder.ended(list, &counts);
     Ok(passes(checking.strict, &counts))

@@ -1,15 +1,21 @@
 //! What ends a run before its output is whole.
+ghost use Rattle.std.specs.Prelude.{OnOk, OnErr};
+ghost use Rattle.std.specs.Io.Buffered.{writer_contents};
+ghost use Rattle.std.specs.Io.KnownBytes.{Appends};
+ghost use Rattle.hash_program.specs.Streams.{AppendsPart};
+
+use hash_program::streams::{TRIES, put_out};
 use std::alloc::AllocError;
 use std::error::Error as StdError;
 use std::fmt;
 use std::fmt::{Display, Formatter};
-use std::io::Error;
+use std::io::{BufWriter, Error, Write};
 
 /// Why a run ended before its output was whole. What was written by then is a beginning of it.
 #[derive(Debug, Drop)]
 pub enum Fault {
     /// A write or the flush failed with this error, or a write took nothing.
-    Write(Option<Error>),
+    Unwritten(Option<Error>),
     /// There was no memory.
     NoMemory,
 }
@@ -17,8 +23,8 @@ pub enum Fault {
 impl Display for Fault {
     fn fmt<W: fmt::Write>(&self, f: &mut Formatter<W>) -> fmt::Result {
         match self {
-            Fault::Write(Some(error)) => write!(f, "a write failed: {error}"),
-            Fault::Write(None) => write!(f, "a write took nothing"),
+            Fault::Unwritten(Some(error)) => write!(f, "a write failed: {error}"),
+            Fault::Unwritten(None) => write!(f, "a write took nothing"),
             Fault::NoMemory => write!(f, "out of memory"),
         }
     }
@@ -29,5 +35,16 @@ impl StdError for Fault {}
 impl From<AllocError> for Fault {
     fn from(_error: AllocError) -> Fault {
         Fault::NoMemory
+    }
+}
+
+/// Writes the text and flushes. After a fault a beginning of it was written.
+pub fn write<W: Write + Drop>(text: &[u8], w: &mut BufWriter<W>) -> Result<(), Fault>
+    ensures ok { OnOk result (Appends (writer_contents W.contents w.old) (writer_contents W.contents w.new) text.now) }
+    ensures err { OnErr result (AppendsPart (writer_contents W.contents w.old) (writer_contents W.contents w.new) text.now) }
+{
+    match put_out(w, text, TRIES) {
+        Ok(()) => Ok(()),
+        Err(error) => Err(Fault::Unwritten(error)),
     }
 }

@@ -181,7 +181,7 @@ pub fn task_of(kinds: &[Kind<'static>], call: Call<'_>) -> Result<Task, Wrong> {
 fn of_telling(told: Result<(), Option<std::io::Error>>) -> Outcome {
     match told {
         Ok(()) => Outcome::Done,
-        Err(error) => Outcome::Failed(Fault::Write(error)),
+        Err(error) => Outcome::Failed(Fault::Unwritten(error)),
     }
 }
 
@@ -236,7 +236,7 @@ pub fn outcome_failure(outcome: &Outcome) -> &'static str {
         Outcome::Usage(Wrong::OnlyWithCheck) =>
             "--status, --strict, --ignore-missing and -w go with -c alone",
         Outcome::NoMemory | Outcome::Failed(Fault::NoMemory) => "out of memory",
-        Outcome::Failed(Fault::Write(_)) => "write error",
+        Outcome::Failed(Fault::Unwritten(_)) => "write error",
     }
 }
 
@@ -246,7 +246,7 @@ pub fn outcome_status(outcome: &Outcome) -> u8 {
     match outcome {
         Outcome::Done => 0,
         Outcome::Usage(_) => 2,
-        Outcome::Failed(Fault::Write(Some(error))) => write_status(error.kind()),
+        Outcome::Failed(Fault::Unwritten(Some(error))) => write_status(error.kind()),
         _ => 1,
     }
 }

@@ -1,12 +1,17 @@
 //! The line of each file.
+ghost use Rattle.std.specs.Prelude.{◌≡◌, map, IfOk, IfSome, OnOk, OnErr};
 ghost use Rattle.std.specs.Io.Buffered.{writer_contents};
+ghost use Rattle.std.specs.Io.KnownBytes.{Appends};
+ghost use Rattle.hash_program.specs.Streams.{AppendsPart};
+ghost use Rattle.hashsum.specs.Files.{IsNumber};
+ghost use Rattle.hashsum.specs.Summing.{EndsSum, EndsSums, sum_line};
+ghost use Rattle.hashsum.specs.Sums.{number_named};
 
-use crate::fault::Fault;
+use crate::fault::{Fault, write};
 use crate::folder::Folder;
 use crate::sums::number_named;
 use hash_lines::line::{Form, Kind, push_line};
 use hash_names::reading::Unhashed;
-use hash_program::streams::{TRIES, put_out};
 use std::alloc::{AllocError, Global};
 use std::io::{BufWriter, Error, ErrorKind, Read, Write};
 
@@ -31,11 +36,9 @@ pub fn error_of(unhashed: Unhashed) -> Error {
 }
 
 /// The number of the file of that name, or nothing where it fails, which is told.
-fn number_of<R: Read + Drop, F: Folder<R>>(
-    folder: &F,
-    kind: Kind<'_>,
-    name: &[u8],
-) -> Option<u128> {
+fn number_of<R: Read + Drop, F: Folder<R>>(folder: &F, kind: Kind<'_>, name: &[u8]) -> Option<u128>
+    ensures { IfSome result (IsNumber (number_named kind.entry.name.now) (F.holds folder.now name.now)) }
+{
     let error = match folder.open(name) {
         Ok(mut file) => match number_named(kind.name, u64::MAX, &mut file) {
             Ok(number) => return Some(number),
@@ -53,7 +56,9 @@ fn sum_line(
     summing: Summing,
     name: &[u8],
     number: u128,
-) -> Result<Vec<u8>, AllocError> {
+) -> Result<Vec<u8>, AllocError>
+    ensures { IfOk result (λ line. line.items ≡ sum_line summing name.now number) }
+{
     let mut line = Vec::new(alloc);
     push_line(
         &mut line,
@@ -74,27 +79,54 @@ fn tell_sum<W: Write + Drop>(
     name: &[u8],
     number: u128,
     w: &mut BufWriter<W>,
-) -> Result<(), Fault> {
-    let line = sum_line(alloc, summing, name, number)?;
-    match put_out(w, &line, TRIES) {
-        Ok(()) => Ok(()),
-        Err(error) => Err(Fault::Write(error)),
+) -> Result<(), Fault>
+    ensures ok { OnOk result (Appends (writer_contents W.contents w.old) (writer_contents W.contents w.new)
+        (sum_line summing name.now number)) }
+    ensures err { OnErr result (AppendsPart (writer_contents W.contents w.old) (writer_contents W.contents w.new)
+        (sum_line summing name.now number)) }
+{
+    match sum_line(alloc, summing, name, number) {
+        Ok(line) => write(&line, w),
+        Err(_) => Err(Fault::NoMemory),
     }
 }
 
-/// Writes the line of each file, in their order, and tells whether each was read.
+/// Writes the line of a file, and tells whether it was read.
+fn sum_file<R: Read + Drop, F: Folder<R>, W: Write + Drop>(
+    alloc: Global,
+    folder: &F,
+    summing: Summing,
+    name: &[u8],
+    w: &mut BufWriter<W>,
+) -> Result<bool, Fault>
+    ensures { EndsSum summing (F.holds folder.now) name.now
+        (writer_contents W.contents w.old) (writer_contents W.contents w.new) result }
+{
+    match number_of(folder, summing.kind, name) {
+        Some(number) => match tell_sum(alloc, summing, name, number, w) {
+            Ok(()) => Ok(true),
+            Err(fault) => Err(fault),
+        },
+        None => Ok(false),
+    }
+}
+
+/// Writes the line of each file, in their order, and tells whether each was read. A file that fails is told, and has no line.
 pub fn sum_files<R: Read + Drop, F: Folder<R>, W: Write + Drop>(
     alloc: Global,
     folder: &F,
     summing: Summing,
     names: &[&[u8]],
     w: &mut BufWriter<W>,
-) -> Result<bool, Fault> {
+) -> Result<bool, Fault>
+    ensures { EndsSums summing (F.holds folder.now) (map (λ name. name.now) names.now)
+        (writer_contents W.contents w.old) (writer_contents W.contents w.new) result }
+{
     let mut whole = true;
     for name in names {
-        match number_of(folder, summing.kind, name) {
-            Some(number) => tell_sum(alloc, summing, name, number, w)?,
-            None => whole = false,
+        match sum_file(alloc, folder, summing, name, w) {
+            Ok(read) => whole = whole & read,
+            Err(fault) => return Err(fault),
         }
     }
     Ok(whole)

@@ -88,6 +88,7 @@ fn widened(number: Result<u64, Unhashed>) -> Result<u128, Unhashed>
 }
 
 /// The number by the hash of that name of all that is read, if that is less than `limit` bytes.
+#[tactic(auto, unfolding(crate::specs::Sums::number_named))]
 pub fn number_named<R: Read>(name: &str, limit: u64, r: &mut R) -> Result<u128, Unhashed>
     ensures { HashesNamed (number_named name.now) (read limit R.remaining r.old r.new) result }
 {
