@@ -1,1 +1,3 @@
 pub mod ToldLemmas
+pub mod ListLemmas
+pub mod LawLemmas

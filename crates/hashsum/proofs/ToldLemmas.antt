@@ -1,8 +1,8 @@
 -- Things that are told one after the other.
 use Rattle.std.proofs.Common.{◌≡◌, ℕ, ◌+◌, ◌<◌, suc, length, take, drop, get_or, arith, take-append-drop, Bool, true, false, ◌&&◌, List, [], ◌∷◌, ◌++◌, Option, Some, None, map, All, refl, sym, ap, ◌∙◌, subst, append_assoc, append-nil}
 use Rattle.std.specs.List.{flat_map, list_all}
-use Rattle.std.specs.Io.KnownBytes.{Appends}
-use Rattle.std.proofs.KnownBytes.{Appends-nil, Appends-trans}
+use Rattle.std.specs.Io.KnownBytes.{Appends, Keeps}
+use Rattle.std.proofs.KnownBytes.{Appends-kept, Appends-nil, Appends-trans}
 use Rattle.std.proofs.lemmas.Grind.{flat_map-append}
 use Rattle.std.proofs.lemmas.List.{get_or-map, length-map, map-append}
 use Rattle.std.proofs.Math.Seq.{take-suc}
@@ -45,49 +45,50 @@ always true = refl
 always false = refl
 
 module _ {X : Type 0} (name : X → List ℕ) (Holds : X → Type 0) (out : X → List ℕ) (good : X → Bool) where
-  pub told_start : (w : Option (List ℕ)) → AreTold name Holds out good [] w w true
-  told_start w = record { told = []; names_are = refl; each = All-nil Holds; written_is = Appends-nil w; all_is = refl }
+  pub told_start : (w : Option (List ℕ)) → AreTold name Holds out good [] [] w w true
+  told_start w = record { names_are = refl; each = All-nil Holds; written_is = Appends-nil w; all_is = refl }
 
-  pub told_more : (names : List (List ℕ)) (w w' w'' : Option (List ℕ)) (all : Bool) (x : X) → AreTold name Holds out good names w w' all → Holds x
-      → Appends w' w'' (out x) → AreTold name Holds out good (names ++ name x ∷ []) w w'' (all && good x)
-  told_more names w w' w'' all x told holds appends = record {
-    told = told.told ++ x ∷ [];
-    names_are = map-append name told.told (x ∷ []) ∙ ap (λ ns. ns ++ name x ∷ []) told.names_are;
-    each = All-push Holds told.told x told.each holds;
-    written_is = subst (Appends w w'') (sym (flat_map-append out told.told (x ∷ []) ∙ ap (λ t. flat_map out told.told ++ t) (append-nil (out x))))
-        (Appends-trans w w' w'' (flat_map out told.told) (out x) told.written_is appends);
-    all_is = ap (λ b. b && good x) told.all_is ∙ sym (list_all-append good told.told (x ∷ []) ∙ ap (λ b. list_all good told.told && b) (always (good x)));
+  pub told_more : (names : List (List ℕ)) (told : List X) (w w' w'' : Option (List ℕ)) (all : Bool) (x : X) → AreTold name Holds out good names told w w' all → Holds x
+      → Appends w' w'' (out x) → AreTold name Holds out good (names ++ name x ∷ []) (told ++ x ∷ []) w w'' (all && good x)
+  told_more names told w w' w'' all x so_far holds appends = record {
+    names_are = map-append name told (x ∷ []) ∙ ap (λ ns. ns ++ name x ∷ []) so_far.names_are;
+    each = All-push Holds told x so_far.each holds;
+    written_is = subst (Appends w w'') (sym (flat_map-append out told (x ∷ []) ∙ ap (λ t. flat_map out told ++ t) (append-nil (out x))))
+        (Appends-trans w w' w'' (flat_map out told) (out x) so_far.written_is appends);
+    all_is = ap (λ b. b && good x) so_far.all_is ∙ sym (list_all-append good told (x ∷ []) ∙ ap (λ b. list_all good told && b) (always (good x)));
   }
 
   -- the same of names and of a test that are so much longer
-  pub told_next : (names names' : List (List ℕ)) (w w' w'' : Option (List ℕ)) (all all' : Bool) (x : X) → AreTold name Holds out good names w w' all
+  pub told_next : (names names' : List (List ℕ)) (told : List X) (w w' w'' : Option (List ℕ)) (all all' : Bool) (x : X) → AreTold name Holds out good names told w w' all
       → Holds x → Appends w' w'' (out x) → names ++ name x ∷ [] ≡ names' → (all && good x) ≡ all'
-      → AreTold name Holds out good names' w w'' all'
-  told_next names names' w w' w'' all all' x told holds appends more both =
-      subst (λ ns. AreTold name Holds out good ns w w'' all') more
-      (subst (λ b. AreTold name Holds out good (names ++ name x ∷ []) w w'' b) both (told_more names w w' w'' all x told holds appends))
-
-  -- nothing more was written
-  pub torn_here : (names untold all_names : List (List ℕ)) (w w' : Option (List ℕ)) (all : Bool) → AreTold name Holds out good names w w' all
-      → names ++ untold ≡ all_names → AreTornOff name Holds out good all_names w w'
-  torn_here names untold all_names w w' all told rest = record {
-    told = told.told;
-    untold = untold;
-    names_are = ap (λ ns. ns ++ untold) told.names_are ∙ rest;
-    each = told.each;
-    part_is = part_whole w w' (flat_map out told.told) told.written_is;
-  }
+      → AreTold name Holds out good names' (told ++ x ∷ []) w w'' all'
+  told_next names names' told w w' w'' all all' x so_far holds appends more both =
+      subst (λ ns. AreTold name Holds out good ns (told ++ x ∷ []) w w'' all') more
+      (subst (λ b. AreTold name Holds out good (names ++ name x ∷ []) (told ++ x ∷ []) w w'' b) both
+      (told_more names told w w' w'' all x so_far holds appends))
 
   -- a beginning of the next was written
-  pub torn_within : (names untold all_names : List (List ℕ)) (w w' w'' : Option (List ℕ)) (all : Bool) (x : X)
-      → AreTold name Holds out good names w w' all → Holds x
+  pub torn_within : (names untold all_names : List (List ℕ)) (told : List X) (w w' w'' : Option (List ℕ)) (all : Bool) (x : X)
+      → AreTold name Holds out good names told w w' all → Holds x
       → AppendsPart w' w'' (out x) → names ++ (name x ∷ untold) ≡ all_names → AreTornOff name Holds out good all_names w w''
-  torn_within names untold all_names w w' w'' all x told holds part rest = record {
-    told = told.told ++ x ∷ [];
+  torn_within names untold all_names told w w' w'' all x so_far holds part rest = record {
+    told = told ++ x ∷ [];
     untold = untold;
-    names_are = ap (λ ns. ns ++ untold) (map-append name told.told (x ∷ []) ∙ ap (λ ns. ns ++ name x ∷ []) told.names_are)
+    names_are = ap (λ ns. ns ++ untold) (map-append name told (x ∷ []) ∙ ap (λ ns. ns ++ name x ∷ []) so_far.names_are)
         ∙ append_assoc names (name x ∷ []) untold ∙ rest;
-    each = All-push Holds told.told x told.each holds;
-    part_is = subst (AppendsPart w w'') (sym (flat_map-append out told.told (x ∷ []) ∙ ap (λ t. flat_map out told.told ++ t) (append-nil (out x))))
-        (part_behind w w' w'' (flat_map out told.told) (out x) told.written_is part);
+    each = All-push Holds told x so_far.each holds;
+    part_is = subst (AppendsPart w w'') (sym (flat_map-append out told (x ∷ []) ∙ ap (λ t. flat_map out told ++ t) (append-nil (out x))))
+        (part_behind w w' w'' (flat_map out told) (out x) so_far.written_is part);
+  }
+
+  -- the same where the writer kept what was written
+  pub torn_kept : (names untold all_names : List (List ℕ)) (told : List X) (w w' w'' : Option (List ℕ)) (all : Bool)
+      → AreTold name Holds out good names told w w' all → Keeps w' w'' → names ++ untold ≡ all_names
+      → AreTornOff name Holds out good all_names w w''
+  torn_kept names untold all_names told w w' w'' all so_far kept rest = record {
+    told = told;
+    untold = untold;
+    names_are = ap (λ ns. ns ++ untold) so_far.names_are ∙ rest;
+    each = so_far.each;
+    part_is = part_whole w w'' (flat_map out told) (Appends-kept w w' w'' (flat_map out told) so_far.written_is kept);
   }

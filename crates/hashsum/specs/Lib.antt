@@ -1,5 +1,8 @@
 pub mod Checking
 pub mod Files
+pub mod Laws
+pub mod Lists
+pub mod Program
 pub mod Summing
 pub mod Sums
 pub mod Told

@@ -35,7 +35,7 @@ EndsSum summing holds name written written' (Err fault) = (number : Option ℕ) 
 -- how a run over the files of these names ends: their lines were written, in their order, or a beginning of them
 abbrev pub EndsSums : Summing → (holds : List ℕ → Option (List ℕ)) (names : List (List ℕ)) (written written' : Option (List ℕ))
     → Result Bool Fault → Type 0
-EndsSums summing holds names written written' (Ok whole) =
-    AreTold (λ file. file.0) (IsSummed summing holds) (line_told summing) (λ file. is_some file.1) names written written' whole
+EndsSums summing holds names written written' (Ok whole) = (told : List (List ℕ × Option ℕ)) × AreTold (λ file. file.0)
+    (IsSummed summing holds) (line_told summing) (λ file. is_some file.1) names told written written' whole
 EndsSums summing holds names written written' (Err fault) =
     AreTornOff (λ file. file.0) (IsSummed summing holds) (line_told summing) (λ file. is_some file.1) names written written'

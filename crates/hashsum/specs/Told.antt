@@ -6,8 +6,7 @@ use Rattle.hash_program.specs.Streams.{AppendsPart}
 
 module _ {X : Type 0} (name : X → List ℕ) (Holds : X → Type 0) (out : X → List ℕ) (good : X → Bool) where
   -- this came of the things of these names, what is due of each was written, and whether all are good
-  pub record AreTold (names : List (List ℕ)) (written written' : Option (List ℕ)) (all : Bool) : Type 0 where
-    pub told : List X
+  pub record AreTold (names : List (List ℕ)) (told : List X) (written written' : Option (List ℕ)) (all : Bool) : Type 0 where
     pub names_are : map name told ≡ names
     pub each : All Holds told
     pub written_is : Appends written written' (flat_map out told)

@@ -1,7 +1,11 @@
 //! Whether files have the hashes that lines tell.
-ghost use Rattle.std.specs.Prelude.{◌≡◌, IfOk};
+ghost use Rattle.std.specs.Prelude.{◌≡◌, true, false, map, IfOk};
 ghost use Rattle.hashsum.specs.Checking.{behind_name, counted, is_skipped, passes, said, verdict_on, words, IsCame, IsVerdict};
+ghost use Rattle.hashsum.specs.Lists.{EndsLine, EndsList, EndsListOf, EndsLists, IsNext};
 ghost use Rattle.hashsum.specs.Sums.{number_named};
+ghost use Rattle.std.specs.Io.BufRead.{strip_last};
+ghost use Rattle.std.specs.Io.Buffered.{writer_contents};
+ghost use Rattle.std.specs.Io.KnownBytes.{IsAtEnd};
 
 use crate::fault::{Fault, write};
 use crate::folder::Folder;
@@ -11,13 +15,17 @@ use hash_lines::escape::needs_escape;
 use hash_lines::line::{Kind, push_name};
 use hash_lines::parse::{Entry, parse_line};
 use std::alloc::{AllocError, Global};
+use std::io;
 use std::io::{BufRead, BufReader, BufWriter, ErrorKind, Read, Write};
+
+/// How many bytes of a list are read at once.
+const BUFFER: usize = 65536;
 
 /// How lines are checked.
 #[derive(Clone, Copy)]
-pub struct Checking {
+pub struct Checking<'k> {
     /// By which hash lines that are not tagged are checked.
-    pub kind: Kind<'static>,
+    pub kind: Kind<'k>,
     /// Whether files that have the hash are left out.
     pub quiet: bool,
     /// Whether nothing is written.
@@ -222,24 +230,127 @@ fn said(alloc: Global, came: &Came<'_>, quiet: bool, status: bool) -> Result<Vec
 }
 
 /// The line without its newline, if it has one.
-fn without_end(line: &[u8]) -> &[u8] {
+fn without_end(line: &[u8]) -> &[u8]
+    ensures { result.now ≡ strip_last 10 line.now }
+{
     match line {
         [text @ .., b'\n'] => text,
         _ => line,
     }
 }
 
-/// Checks the lines of the list of that name, and tells whether they pass.
+/// Reads the next line, with its newline if it has one, and tells whether there is one.
+fn next_line<B: BufRead>(lines: &mut B, line: &mut Vec<u8>) -> io::Result<bool>
+    ensures more { IfOk result (λ more. more ≡ true → IsNext (B.remaining lines.old) line.new.items (B.remaining lines.new)) }
+    ensures end { IfOk result (λ more. more ≡ false → IsAtEnd (B.remaining lines.old)) }
+{
+    line.clear();
+    let count = lines.read_until(b'\n', line)?;
+    Ok(count > 0)
+}
+
+/// Checks a line, with its newline if it has one, and writes what came of it.
+fn tell_line<'k, R: Read + Drop, F: Folder<R>, W: Write + Drop>(
+    alloc: Global,
+    folder: &F,
+    kinds: &[Kind<'k>],
+    checking: Checking<'k>,
+    line: &[u8],
+    w: &mut BufWriter<W>,
+) -> Result<Came<'k>, Fault>
+    ensures { EndsLine kinds.entry.now checking.entry (F.holds folder.now) line.now
+        (writer_contents W.contents w.old) (writer_contents W.contents w.new) result }
+{
+    let text = without_end(line);
+    let came = match check_line(
+        alloc,
+        folder,
+        kinds,
+        checking.kind,
+        checking.ignore_missing,
+        text,
+    ) {
+        Ok(came) => came,
+        Err(_) => return Err(Fault::NoMemory),
+    };
+    let said = match said(alloc, &came, checking.quiet, checking.status) {
+        Ok(said) => said,
+        Err(_) => return Err(Fault::NoMemory),
+    };
+    match write(&said, w) {
+        Ok(()) => Ok(came),
+        Err(fault) => Err(fault),
+    }
+}
+
+/// No line is counted yet.
+const UNCOUNTED: Counts = Counts {
+    improper: 0,
+    same: 0,
+    different: 0,
+    unread: 0,
+    missing: 0,
+};
+
+/// Checks the lines of the list of that name, which are read here, and writes what comes of each. Answers the counts; nothing where
+/// the list fails, which is told.
+fn check_lines<B: BufRead, R: Read + Drop, F: Folder<R>, W: Write + Drop>(
+    alloc: Global,
+    folder: &F,
+    kinds: &[Kind<'static>],
+    checking: Checking<'static>,
+    list: &[u8],
+    lines: &mut B,
+    w: &mut BufWriter<W>,
+) -> Result<Option<Counts>, Fault>
+    ensures { EndsList kinds.now checking.entry (F.holds folder.now) (B.remaining lines.old)
+        (writer_contents W.contents w.old) (writer_contents W.contents w.new) result }
+{
+    let mut counts = UNCOUNTED;
+    let mut line = Vec::new(alloc);
+    for number in 1..u64::MAX {
+        match next_line(lines, &mut line) {
+            Ok(true) => {}
+            Ok(false) => return Ok(Some(counts)),
+            Err(error) => {
+                folder.failed(list, &error);
+                return Ok(None);
+            }
+        }
+        match tell_line(alloc, folder, kinds, checking, &line, w) {
+            Ok(came) => {
+                counts = count(counts, &came);
+                warn(folder, checking.warn, list, number, &came);
+            }
+            Err(fault) => return Err(fault),
+        }
+    }
+    Ok(None)
+}
+
+/// Tells an improper line, where that is asked for.
+fn warn<R: Read, F: Folder<R>>(folder: &F, warn: bool, list: &[u8], number: u64, came: &Came<'_>) {
+    if let Came::Improper = came {
+        if warn {
+            folder.improper(list, number);
+        }
+    }
+}
+
+/// Checks the lines of the list of that name, and tells whether they pass. A list that fails is told, and does not.
 fn check_list<R: Read + Drop, F: Folder<R>, W: Write + Drop>(
     alloc: Global,
     folder: &F,
-    kinds: &[Kind<'_>],
-    checking: Checking,
+    kinds: &[Kind<'static>],
+    checking: Checking<'static>,
     list: &[u8],
     w: &mut BufWriter<W>,
-) -> Result<bool, Fault> {
+) -> Result<bool, Fault>
+    ensures { EndsListOf kinds.now checking.entry (F.holds folder.now) list.now
+        (writer_contents W.contents w.old) (writer_contents W.contents w.new) result }
+{
     let mut lines = match folder.open(list) {
-        Ok(file) => match BufReader::with_capacity(alloc, 65536, file) {
+        Ok(file) => match BufReader::with_capacity(alloc, BUFFER, file) {
             Ok(lines) => lines,
             Err(_) => return Err(Fault::NoMemory),
         },
@@ -248,58 +359,33 @@ fn check_list<R: Read + Drop, F: Folder<R>, W: Write + Drop>(
             return Ok(false);
         }
     };
-    let mut counts = Counts {
-        improper: 0,
-        same: 0,
-        different: 0,
-        unread: 0,
-        missing: 0,
-    };
-    let mut line = Vec::new(alloc);
-    for number in 1..u64::MAX {
-        line.clear();
-        match lines.read_until(b'\n', &mut line) {
-            Ok(0) => break,
-            Ok(_) => {}
-            Err(error) => {
-                folder.failed(list, &error);
-                return Ok(false);
-            }
+    match check_lines(alloc, folder, kinds, checking, list, &mut lines, w) {
+        Ok(Some(counts)) => {
+            folder.ended(list, &counts);
+            Ok(passes(checking.strict, &counts))
         }
-        let came = check_line(
-            alloc,
-            folder,
-            kinds,
-            checking.kind,
-            checking.ignore_missing,
-            without_end(&line),
-        )?;
-        counts = count(counts, &came);
-        if let Came::Improper = came {
-            if checking.warn {
-                folder.improper(list, number);
-            }
-        }
-        let text = said(alloc, &came, checking.quiet, checking.status)?;
-        write(&text, w)?;
+        Ok(None) => Ok(false),
+        Err(fault) => Err(fault),
     }
-    folder.ended(list, &counts);
-    Ok(passes(checking.strict, &counts))
 }
 
 /// Checks the lines of the lists of these names, in their order, and tells whether all pass.
 pub fn check_lists<R: Read + Drop, F: Folder<R>, W: Write + Drop>(
     alloc: Global,
     folder: &F,
-    kinds: &[Kind<'_>],
-    checking: Checking,
+    kinds: &[Kind<'static>],
+    checking: Checking<'static>,
     lists: &[&[u8]],
     w: &mut BufWriter<W>,
-) -> Result<bool, Fault> {
+) -> Result<bool, Fault>
+    ensures { EndsLists kinds.now checking.entry (F.holds folder.now) (map (λ list. list.now) lists.now)
+        (writer_contents W.contents w.old) (writer_contents W.contents w.new) result }
+{
     let mut all = true;
     for list in lists {
-        if !check_list(alloc, folder, kinds, checking, list, w)? {
-            all = false;
+        match check_list(alloc, folder, kinds, checking, list, w) {
+            Ok(passed) => all = all & passed,
+            Err(fault) => return Err(fault),
         }
     }
     Ok(all)

@@ -1,15 +1,23 @@
 //! What the program is asked for, and how it ends.
+ghost use Rattle.std.specs.Prelude.{◌≡◌, ◌⊎◌, ◌∷◌, [], ℕ, List, Option, Ok, Err, map, IfOk, MatchOption};
+ghost use Rattle.std.specs.List.{find};
+ghost use Rattle.std.specs.Option.{option_map};
+ghost use Rattle.std.specs.Str.{bytes_eq};
+ghost use Rattle.std.specs.Io.Buffered.{writer_contents};
+ghost use Rattle.std.specs.Io.KnownBytes.{Keeps};
+ghost use Rattle.hash_program.specs.Call.{operands, texts, unknown};
+ghost use Rattle.hashsum.specs.Program.{checking_of, files_or, gives_writing, kind_of, letters, names, of_run, of_telling, status_of, summing_of, task_of, work_of, EndsTask};
+
 use crate::check::{Checking, check_lists};
 use crate::fault::Fault;
 use crate::folder::Folder;
 use crate::sum::{Summing, sum_files};
 use hash_lines::line::{Form, Kind};
-use hash_program::about;
-use hash_program::about::{About, write_status};
+use hash_program::about::{About, tell, write_status};
 use hash_program::call::{first_unknown, is_given, operands};
 use hash_program::streams::TRIES;
-use std::alloc::Global;
-use std::io::{BufWriter, Read, Write};
+use std::alloc::{AllocError, Global};
+use std::io::{BufWriter, Error, Read, Write};
 
 /// What a call asks for.
 #[derive(Clone, Copy)]
@@ -17,7 +25,7 @@ pub enum Task {
     /// The line of each file.
     Sum(Summing),
     /// Whether files have the hashes that lines tell.
-    Check(Checking),
+    Check(Checking<'static>),
     /// Which hashes there are.
     List,
     /// How the program is called.
@@ -77,7 +85,10 @@ pub struct Texts<'a> {
 }
 
 /// The first word that gives an option that there is not.
-pub fn unknown_option(words: &[Vec<u8>]) -> Option<&[u8]> {
+pub fn unknown_option(words: &[Vec<u8>]) -> Option<&[u8]>
+    ensures { MatchOption result (unknown letters names (texts words.now) ≡ [])
+        (λ word. (more : List (List ℕ)) × (unknown letters names (texts words.now) ≡ word.now ∷ more)) }
+{
     let names: [&[u8]; 12] = [
         b"check",
         b"tag",
@@ -95,19 +106,35 @@ pub fn unknown_option(words: &[Vec<u8>]) -> Option<&[u8]> {
     first_unknown(words, b"cwz", &names)
 }
 
-/// The kind of the name, or the first.
-fn kind_of<'k>(kinds: &[Kind<'k>], name: Option<&[u8]>) -> Option<Kind<'k>> {
+/// The kind of the name.
+fn kind_named<'k>(kinds: &[Kind<'k>], name: &[u8]) -> Option<Kind<'k>>
+    ensures { result ≡ find (λ kind. bytes_eq kind.name.now name.now) kinds.entry.now }
+{
     for kind in kinds {
-        match name {
-            Some(name) if kind.name.as_bytes() != name => {}
-            _ => return Some(*kind),
+        if kind.name.as_bytes() == name {
+            return Some(*kind);
         }
     }
     None
 }
 
+/// The kind of the name, or the first.
+fn kind_of<'k>(kinds: &[Kind<'k>], name: Option<&[u8]>) -> Option<Kind<'k>>
+    ensures { result ≡ kind_of kinds.entry.now (option_map (λ name. name.now) name.entry) }
+{
+    match name {
+        Some(name) => kind_named(kinds, name),
+        None => match kinds {
+            [first, ..] => Some(*first),
+            [] => None,
+        },
+    }
+}
+
 /// How lines are checked.
-fn checking_of(words: &[Vec<u8>], kind: Kind<'static>) -> Checking {
+fn checking_of(words: &[Vec<u8>], kind: Kind<'static>) -> Checking<'static>
+    ensures { result ≡ checking_of (texts words.now) kind.entry }
+{
     Checking {
         kind,
         quiet: is_given(words, None, b"quiet"),
@@ -119,7 +146,9 @@ fn checking_of(words: &[Vec<u8>], kind: Kind<'static>) -> Checking {
 }
 
 /// How files are summed.
-fn summing_of(words: &[Vec<u8>], kind: Kind<'static>) -> Summing {
+fn summing_of(words: &[Vec<u8>], kind: Kind<'static>) -> Summing
+    ensures { result ≡ summing_of (texts words.now) kind.entry }
+{
     Summing {
         kind,
         form: if is_given(words, None, b"untagged") {
@@ -132,14 +161,18 @@ fn summing_of(words: &[Vec<u8>], kind: Kind<'static>) -> Summing {
 }
 
 /// Whether the words give an option on how lines are written.
-fn gives_writing(words: &[Vec<u8>]) -> bool {
+fn gives_writing(words: &[Vec<u8>]) -> bool
+    ensures { result ≡ gives_writing (texts words.now) }
+{
     is_given(words, Some(b'z'), b"zero")
         || is_given(words, None, b"tag")
         || is_given(words, None, b"untagged")
 }
 
 /// What is to be done by a hash of this kind.
-fn work_of(words: &[Vec<u8>], kind: Kind<'static>) -> Result<Task, Wrong> {
+fn work_of(words: &[Vec<u8>], kind: Kind<'static>) -> Result<Task, Wrong>
+    ensures { result ≡ work_of (texts words.now) kind.entry }
+{
     let checking = checking_of(words, kind);
     if is_given(words, Some(b'c'), b"check") {
         return if gives_writing(words) {
@@ -155,7 +188,10 @@ fn work_of(words: &[Vec<u8>], kind: Kind<'static>) -> Result<Task, Wrong> {
 }
 
 /// What the words behind the program's own name ask for.
-pub fn task_of(kinds: &[Kind<'static>], call: Call<'_>) -> Result<Task, Wrong> {
+pub fn task_of(kinds: &[Kind<'static>], call: Call<'_>) -> Result<Task, Wrong>
+    ensures { result ≡ task_of kinds.now (texts call.entry.words.now) (option_map (λ name. name.now) call.entry.name)
+        call.entry.lacks_name }
+{
     if unknown_option(call.words).is_some() {
         return Err(Wrong::UnknownOption);
     }
@@ -178,7 +214,9 @@ pub fn task_of(kinds: &[Kind<'static>], call: Call<'_>) -> Result<Task, Wrong> {
 }
 
 /// What came of telling a text.
-fn of_telling(told: Result<(), Option<std::io::Error>>) -> Outcome {
+fn of_telling(told: Result<(), Option<Error>>) -> Outcome
+    ensures { result ≡ of_telling told }
+{
     match told {
         Ok(()) => Outcome::Done,
         Err(error) => Outcome::Failed(Fault::Unwritten(error)),
@@ -186,7 +224,9 @@ fn of_telling(told: Result<(), Option<std::io::Error>>) -> Outcome {
 }
 
 /// What came of a run.
-fn of_run(well: Result<bool, Fault>) -> Outcome {
+fn of_run(well: Result<bool, Fault>) -> Outcome
+    ensures { result ≡ of_run well }
+{
     match well {
         Ok(true) => Outcome::Done,
         Ok(false) => Outcome::FileFailed,
@@ -197,31 +237,60 @@ fn of_run(well: Result<bool, Fault>) -> Outcome {
 /// Standard input's name.
 const STANDARD: &[u8] = b"-";
 
-/// Does what the call asks for.
+/// The files of a call: its operands, or standard input.
+fn files<'a>(alloc: Global, words: &'a [Vec<u8>]) -> Result<Vec<&'a [u8]>, AllocError>
+    ensures { IfOk result (λ files. map (λ file. file.now) files.items ≡ files_or (operands (texts words.now))) }
+{
+    let mut files = operands(alloc, words)?;
+    if files.is_empty() {
+        files.push(STANDARD)?;
+    }
+    Ok(files)
+}
+
+/// Does a task over these files.
+fn ended<R: Read + Drop, F: Folder<R>, W: Write + Drop>(
+    alloc: Global,
+    folder: &F,
+    kinds: &[Kind<'static>],
+    files: &[&[u8]],
+    about: Texts<'_>,
+    task: Result<Task, Wrong>,
+    w: &mut BufWriter<W>,
+) -> Outcome
+    ensures { EndsTask kinds.now (F.holds folder.now) (map (λ file. file.now) files.now)
+        about.entry.about.help.now about.entry.about.version.now about.entry.list.now
+        (writer_contents W.contents w.old) (writer_contents W.contents w.new) task result }
+{
+    match task {
+        Ok(Task::Sum(summing)) => of_run(sum_files(alloc, folder, summing, files, w)),
+        Ok(Task::Check(checking)) => of_run(check_lists(alloc, folder, kinds, checking, files, w)),
+        Ok(Task::List) => of_telling(tell(about.list, w, TRIES)),
+        Ok(Task::Help) => of_telling(tell(about.about.help, w, TRIES)),
+        Ok(Task::Version) => of_telling(tell(about.about.version, w, TRIES)),
+        Err(wrong) => Outcome::Usage(wrong),
+    }
+}
+
+/// Does what the call asks for, by hashes of these kinds. Where the call is wrong, or there is no memory for its words, nothing is
+/// read or written.
 pub fn outcome_of<R: Read + Drop, F: Folder<R>, W: Write + Drop>(
     alloc: Global,
     folder: &F,
     kinds: &[Kind<'static>],
     call: Call<'_>,
-    texts: Texts<'_>,
+    about: Texts<'_>,
     w: &mut BufWriter<W>,
-) -> Outcome {
-    let Ok(mut names) = operands(alloc, call.words) else {
-        return Outcome::NoMemory;
-    };
-    if names.is_empty() {
-        match names.push(STANDARD) {
-            Ok(()) => {}
-            Err(_) => return Outcome::NoMemory,
-        }
-    }
-    match task_of(kinds, call) {
-        Ok(Task::Sum(summing)) => of_run(sum_files(alloc, folder, summing, &names, w)),
-        Ok(Task::Check(checking)) => of_run(check_lists(alloc, folder, kinds, checking, &names, w)),
-        Ok(Task::List) => of_telling(about::tell(texts.list, w, TRIES)),
-        Ok(Task::Help) => of_telling(about::tell(texts.about.help, w, TRIES)),
-        Ok(Task::Version) => of_telling(about::tell(texts.about.version, w, TRIES)),
-        Err(wrong) => Outcome::Usage(wrong),
+) -> Outcome
+    ensures { EndsTask kinds.now (F.holds folder.now) (files_or (operands (texts call.entry.words.now)))
+        about.entry.about.help.now about.entry.about.version.now about.entry.list.now
+        (writer_contents W.contents w.old) (writer_contents W.contents w.new)
+        (task_of kinds.now (texts call.entry.words.now) (option_map (λ name. name.now) call.entry.name) call.entry.lacks_name) result
+        ⊎ ((result ≡ Outcome.NoMemory) × Keeps (writer_contents W.contents w.old) (writer_contents W.contents w.new)) }
+{
+    match files(alloc, call.words) {
+        Ok(files) => ended(alloc, folder, kinds, &files, about, task_of(kinds, call), w),
+        Err(_) => Outcome::NoMemory,
     }
 }
 
@@ -242,7 +311,9 @@ pub fn outcome_failure(outcome: &Outcome) -> &'static str {
 
 /// The status that the program ends with: 0 where all went well, 2 where the call was wrong, 141 where nobody reads its
 /// output any more, and 1 where a check or something else failed.
-pub fn outcome_status(outcome: &Outcome) -> u8 {
+pub fn outcome_status(outcome: &Outcome) -> u8
+    ensures { result ≡ status_of outcome.now }
+{
     match outcome {
         Outcome::Done => 0,
         Outcome::Usage(_) => 2,

@@ -1,0 +1,127 @@
+-- What the program is asked for, and how it ends.
+use Rattle.std.specs.Prelude.{ℕ, ◌≡◌, ◌⊎◌, ◌||◌, if◌then◌else◌, Bool, true, false, List, [], ◌∷◌, Option, Some, None, Result, Ok, Err, codes}
+use Rattle.std.specs.Io.KnownBytes.{Keeps}
+use Rattle.std.specs.IoError.{error_kind}
+use Rattle.std.specs.List.{find}
+use Rattle.std.specs.Str.{bytes_eq}
+use Rattle.std.specs.declared.io.Error.{Error}
+use Rattle.hash_lines.specs.declared.line.Form.TheVariants.{Tagged, Untagged}
+use Rattle.hash_lines.specs.declared.line.Kind.{Kind}
+use Rattle.hash_program.specs.About.{write_status}
+use Rattle.hash_program.specs.Call.{given, operands, unknown}
+use Rattle.hash_program.specs.Streams.{PutsOut}
+use Rattle.hashsum.specs.declared.check.Checking.{Checking}
+use Rattle.hashsum.specs.declared.fault.Fault.{Fault}
+use Rattle.hashsum.specs.declared.fault.Fault.TheVariants.{Unwritten, NoMemory}
+use Rattle.hashsum.specs.declared.outcome.Outcome.{Outcome}
+use Rattle.hashsum.specs.declared.outcome.Outcome.TheVariants as outcome
+use Rattle.hashsum.specs.declared.outcome.Task.{Task}
+use Rattle.hashsum.specs.declared.outcome.Task.TheVariants as task
+use Rattle.hashsum.specs.declared.outcome.Wrong.{Wrong}
+use Rattle.hashsum.specs.declared.outcome.Wrong.TheVariants as wrong
+use Rattle.hashsum.specs.declared.sum.Summing.{Summing}
+use Rattle.hashsum.specs.Lists.{EndsLists}
+use Rattle.hashsum.specs.Summing.{EndsSums}
+
+-- the letters and the names of the options, but for the one that names a hash
+abbrev pub letters : List ℕ
+letters = codes "cwz"
+
+abbrev pub names : List (List ℕ)
+names = codes "check" ∷ codes "tag" ∷ codes "untagged" ∷ codes "zero" ∷ codes "quiet" ∷ codes "status" ∷ codes "strict"
+    ∷ codes "ignore-missing" ∷ codes "warn" ∷ codes "list" ∷ codes "help" ∷ codes "version" ∷ []
+
+-- the kind of that name, or the first
+abbrev pub kind_of : List Kind → Option (List ℕ) → Option Kind
+kind_of [] None = None
+kind_of (kind ∷ more) None = Some kind
+kind_of kinds (Some name) = find (λ kind. bytes_eq kind.name.now name) kinds
+
+-- how lines are checked by a hash
+abbrev pub checking_of : List (List ℕ) → Kind → Checking
+checking_of words kind = record {
+  kind = kind;
+  quiet = given None (codes "quiet") words;
+  status = given None (codes "status") words;
+  strict = given None (codes "strict") words;
+  ignore_missing = given None (codes "ignore-missing") words;
+  warn = given (Some 119) (codes "warn") words;
+}
+
+-- how files are summed by a hash
+abbrev pub summing_of : List (List ℕ) → Kind → Summing
+summing_of words kind = record {
+  kind = kind;
+  form = if given None (codes "untagged") words then Untagged else Tagged;
+  zero = given (Some 122) (codes "zero") words;
+}
+
+-- whether an option is given on how lines are written, or on how they are checked
+abbrev pub gives_writing : List (List ℕ) → Bool
+gives_writing words = given (Some 122) (codes "zero") words || given None (codes "tag") words || given None (codes "untagged") words
+
+abbrev pub gives_checking : List (List ℕ) → Bool
+gives_checking words = given None (codes "status") words || given None (codes "strict") words || given None (codes "ignore-missing") words
+    || given (Some 119) (codes "warn") words
+
+-- what is to be done by a hash
+abbrev pub work_of : List (List ℕ) → Kind → Result Task Wrong
+work_of words kind = if given (Some 99) (codes "check") words then (if gives_writing words then Err wrong.NotWithCheck else Ok
+    (task.Check (checking_of words kind))) else (if gives_checking words then Err wrong.OnlyWithCheck else Ok (task.Sum (summing_of words kind)))
+
+-- the same, where there is such a hash
+abbrev pub work_by : List (List ℕ) → Option Kind → Result Task Wrong
+work_by words None = Err wrong.UnknownName
+work_by words (Some kind) = work_of words kind
+
+-- what words ask for that give these unknown options
+abbrev pub asked : (new words : List (List ℕ)) (lacks_name : Bool) → Option Kind → Result Task Wrong
+asked (word ∷ more) words lacks_name kind = Err wrong.UnknownOption
+asked [] words lacks_name kind = if given None (codes "help") words then Ok task.Help else if given None (codes "version") words then Ok
+    task.Version else if given None (codes "list") words then Ok task.List else if lacks_name then Err wrong.NoName else work_by words kind
+
+-- what the words of a call ask for, by a hash of that name
+abbrev pub task_of : List Kind → (words : List (List ℕ)) (name : Option (List ℕ)) (lacks_name : Bool) → Result Task Wrong
+task_of kinds words name lacks_name = asked (unknown letters names words) words lacks_name (kind_of kinds name)
+
+-- the files of a call: its operands, or standard input
+abbrev pub files_or : (operands : List (List ℕ)) → List (List ℕ)
+files_or [] = codes "-" ∷ []
+files_or (name ∷ more) = name ∷ more
+
+-- what came of a run, and of telling a text
+abbrev pub of_run : Result Bool Fault → Outcome
+of_run (Ok true) = outcome.Done
+of_run (Ok false) = outcome.FileFailed
+of_run (Err fault) = outcome.Failed fault
+
+abbrev pub of_telling : Result (Unit {0}) (Option Error) → Outcome
+of_telling (Ok done) = outcome.Done
+of_telling (Err error) = outcome.Failed (Unwritten error)
+
+-- a text is written
+abbrev pub Tells : (text : List ℕ) (written written' : Option (List ℕ)) → Outcome → Type 0
+Tells text written written' result = (told : Result (Unit {0}) (Option Error)) × PutsOut text written written' told
+    × (result ≡ of_telling told)
+
+-- how a task ends over the files of these names; a wrong call writes nothing
+abbrev pub EndsTask : List Kind → (holds : List ℕ → Option (List ℕ)) (files : List (List ℕ)) (help version list : List ℕ)
+    (written written' : Option (List ℕ)) → Result Task Wrong → Outcome → Type 0
+EndsTask kinds holds files help version list written written' (Ok (task.Sum summing)) result =
+    (ended : Result Bool Fault) × EndsSums summing holds files written written' ended × (result ≡ of_run ended)
+EndsTask kinds holds files help version list written written' (Ok (task.Check checking)) result =
+    (ended : Result Bool Fault) × EndsLists kinds checking holds files written written' ended × (result ≡ of_run ended)
+EndsTask kinds holds files help version list written written' (Ok task.List) result = Tells list written written' result
+EndsTask kinds holds files help version list written written' (Ok task.Help) result = Tells help written written' result
+EndsTask kinds holds files help version list written written' (Ok task.Version) result = Tells version written written' result
+EndsTask kinds holds files help version list written written' (Err wrong) result = (result ≡ outcome.Usage wrong) × Keeps written written'
+
+-- the status that each outcome ends with
+abbrev pub status_of : Outcome → ℕ
+status_of outcome.Done = 0
+status_of (outcome.Usage wrong) = 2
+status_of outcome.NoMemory = 1
+status_of outcome.FileFailed = 1
+status_of (outcome.Failed (Unwritten (Some error))) = write_status (error_kind error)
+status_of (outcome.Failed (Unwritten None)) = 1
+status_of (outcome.Failed NoMemory) = 1
