@@ -2,11 +2,26 @@
 use Rattle.std.specs.Prelude.{ℕ, List, Option, [], ◌∷◌, codes}
 use Rattle.std.specs.Map.{lookup}
 use Rattle.std.specs.Str.{bytes_eq}
+use Rattle.hashers.specs.Fnv.{fnv1a32_basis, fnv1a64_basis}
+use Rattle.hash_more.specs.Crc32.{all_ones, castagnoli, crc_answer, crc_from, ieee}
+use Rattle.hash_more.specs.Djb2Add.{djb2_add_from}
+use Rattle.hash_more.specs.Elf.{elf_from}
+use Rattle.hash_more.specs.Fnv1.{fnv1_32_from, fnv1_64_from}
+use Rattle.hash_more.specs.Joaat.{joaat_answer, joaat_from}
 use Rattle.hash_names.specs.Named.{hashes, spooky128}
 
--- each name, with the number of a text
+-- each name, with the number of a text; the names of hash_names, and others
 abbrev pub sums : List (List ℕ × (List ℕ → ℕ))
-sums = (codes "spooky128", spooky128) ∷ hashes
+sums =
+    (codes "spooky128", spooky128)
+    ∷ (codes "crc32", λ text. crc_answer (crc_from ieee all_ones text))
+    ∷ (codes "crc32c", λ text. crc_answer (crc_from castagnoli all_ones text))
+    ∷ (codes "fnv1_32", fnv1_32_from fnv1a32_basis)
+    ∷ (codes "fnv1_64", fnv1_64_from fnv1a64_basis)
+    ∷ (codes "djb2_add", djb2_add_from 5381)
+    ∷ (codes "joaat", λ text. joaat_answer (joaat_from 0 text))
+    ∷ (codes "elf", elf_from 0)
+    ∷ hashes
 
 -- the hash of that name, if there is one
 unfoldable pub number_named : List ℕ → Option (List ℕ → ℕ)

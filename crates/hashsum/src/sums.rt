@@ -5,6 +5,11 @@ ghost use Rattle.hash_names.specs.ReadingLaws.{Hashes-agree};
 ghost use Rattle.hashsum.specs.Sums.{number_named};
 
 use hash_lines::line::{Kind, Width};
+use hash_more::crc32::{Crc32Hasher, Crc32cHasher};
+use hash_more::djb2_add::Djb2AddHasher;
+use hash_more::elf::ElfHasher;
+use hash_more::fnv1::{Fnv1Hasher32, Fnv1Hasher64};
+use hash_more::joaat::JoaatHasher;
 use hash_names::reading::{
     Unhashed, hash_of_pieces, hash_of_spooky_v1, hash_of_spooky128, hash_of_text,
 };
@@ -28,7 +33,7 @@ const fn kind(name: &'static str, width: Width) -> Kind<'static>
 }
 
 /// The hashes that can be told, the default first.
-pub fn kinds() -> [Kind<'static>; 15] {
+pub fn kinds() -> [Kind<'static>; 22] {
     [
         kind("spooky128", Width::ThirtyTwo),
         kind("fnv1a32", Width::Eight),
@@ -45,6 +50,13 @@ pub fn kinds() -> [Kind<'static>; 15] {
         kind("fxhash", Width::Sixteen),
         kind("fxhash32", Width::Eight),
         kind("fxhash64", Width::Sixteen),
+        kind("crc32", Width::Eight),
+        kind("crc32c", Width::Eight),
+        kind("fnv1_32", Width::Eight),
+        kind("fnv1_64", Width::Sixteen),
+        kind("djb2_add", Width::Eight),
+        kind("joaat", Width::Eight),
+        kind("elf", Width::Eight),
     ]
 }
 
@@ -94,6 +106,13 @@ pub fn number_named<R: Read>(name: &str, limit: u64, r: &mut R) -> Result<u128, 
 {
     match name {
         "spooky128" => hash_of_spooky128::<R, BUFFER>(limit, r),
+        "crc32" => widened(hash_of_text::<Crc32Hasher, R, BUFFER>(limit, r)),
+        "crc32c" => widened(hash_of_text::<Crc32cHasher, R, BUFFER>(limit, r)),
+        "fnv1_32" => widened(hash_of_text::<Fnv1Hasher32, R, BUFFER>(limit, r)),
+        "fnv1_64" => widened(hash_of_text::<Fnv1Hasher64, R, BUFFER>(limit, r)),
+        "djb2_add" => widened(hash_of_text::<Djb2AddHasher, R, BUFFER>(limit, r)),
+        "joaat" => widened(hash_of_text::<JoaatHasher, R, BUFFER>(limit, r)),
+        "elf" => widened(hash_of_text::<ElfHasher, R, BUFFER>(limit, r)),
         _ => match by_name::<SumRead<R>>(name, limit, r) {
             Some(number) => widened(number),
             None => Err(Unhashed::UnknownName),

@@ -3,6 +3,7 @@ use Rattle.hashers.specs.Oaat.{oaat_finish, oaat_state}
 use Rattle.hashers.specs.Oz.{djb2_from}
 use Rattle.hashers.specs.Pigeon.{bricolage_from}
 use Rattle.hashers.specs.Sums.{loselose_from, sdbm_from}
+use Rattle.hash_more.specs.Joaat.{joaat_answer, joaat_from}
 use Rattle.hashsum.specs.Sums.{number_named}
 use Rattle.hashsum.proofs.LawLemmas.{never_passes}
 use Rattle.hashsum.proofs.laws.a_changed_byte_never_passes.Goals as goal
@@ -41,3 +42,8 @@ pub returns-clause-oaat : goal.returns-clause-oaat
 unfolding number_named
 returns-clause-oaat c x y is_text also differ =
     never_passes (λ text. oaat_finish (oaat_state 0 text)) x y (c.one_changed_byte_shows-7.ensures x y is_text also differ)
+
+pub returns-clause-joaat : goal.returns-clause-joaat
+unfolding number_named
+returns-clause-joaat c x y is_text also differ =
+    never_passes (λ text. joaat_answer (joaat_from 0 text)) x y (c.one_changed_byte_shows-8.ensures x y is_text also differ)
