@@ -125,3 +125,16 @@ status_of outcome.FileFailed = 1
 status_of (outcome.Failed (Unwritten (Some error))) = write_status (error_kind error)
 status_of (outcome.Failed (Unwritten None)) = 1
 status_of (outcome.Failed NoMemory) = 1
+
+-- what it says on standard error that failed
+abbrev pub failure_of : Outcome → List ℕ
+failure_of outcome.Done = []
+failure_of outcome.FileFailed = []
+failure_of (outcome.Usage wrong.UnknownOption) = codes "unknown option"
+failure_of (outcome.Usage wrong.NoName) = codes "-a wants the name of a hash"
+failure_of (outcome.Usage wrong.UnknownName) = codes "unknown name"
+failure_of (outcome.Usage wrong.NotWithCheck) = codes "-z, --tag and --untagged do not go with -c"
+failure_of (outcome.Usage wrong.OnlyWithCheck) = codes "--status, --strict, --ignore-missing and -w go with -c alone"
+failure_of outcome.NoMemory = codes "out of memory"
+failure_of (outcome.Failed (Unwritten error)) = codes "write error"
+failure_of (outcome.Failed NoMemory) = codes "out of memory"

@@ -6,7 +6,7 @@ ghost use Rattle.std.specs.Str.{bytes_eq};
 ghost use Rattle.std.specs.Io.Buffered.{writer_contents};
 ghost use Rattle.std.specs.Io.KnownBytes.{Keeps};
 ghost use Rattle.hash_program.specs.Call.{operands, texts, unknown};
-ghost use Rattle.hashsum.specs.Program.{checking_of, files_or, gives_writing, kind_of, letters, names, of_run, of_telling, status_of, summing_of, task_of, work_of, EndsTask};
+ghost use Rattle.hashsum.specs.Program.{checking_of, failure_of, files_or, gives_writing, kind_of, letters, names, of_run, of_telling, status_of, summing_of, task_of, work_of, EndsTask};
 
 use crate::check::{Checking, check_lists};
 use crate::fault::Fault;
@@ -295,7 +295,9 @@ pub fn outcome_of<R: Read + Drop, F: Folder<R>, W: Write + Drop>(
 }
 
 /// What failed, in words; nothing where all went well, or where it is told already.
-pub fn outcome_failure(outcome: &Outcome) -> &'static str {
+pub fn outcome_failure(outcome: &Outcome) -> &'static str
+    ensures { result.now ≡ failure_of outcome.now }
+{
     match outcome {
         Outcome::Done | Outcome::FileFailed => "",
         Outcome::Usage(Wrong::UnknownOption) => "unknown option",

@@ -1,0 +1,406 @@
+//! Tests of the program over files in memory.
+use crate::check::Counts;
+use crate::folder::Folder;
+use crate::outcome::{Call, Outcome, Texts, outcome_failure, outcome_of, outcome_status};
+use crate::sums::kinds;
+use hash_program::about::About;
+use hash_program::valued::{Valued, take_value};
+use std::alloc::{AllocError, Global};
+use std::io;
+use std::io::{BufWriter, Error, ErrorKind, Read, Write};
+use std::process::Abort;
+
+/// A file of a name, which may fail once so many bytes were read.
+#[derive(Clone, Copy)]
+struct File<'a> {
+    name: &'a [u8],
+    text: &'a [u8],
+    until_fault: usize,
+}
+
+/// A file that is whole.
+fn whole<'a>(name: &'a [u8], text: &'a [u8]) -> File<'a> {
+    File {
+        name,
+        text,
+        until_fault: usize::MAX,
+    }
+}
+
+/// What is read of a file, at most three bytes a call.
+#[derive(Drop)]
+struct Page<'a> {
+    left: &'a [u8],
+    until_fault: usize,
+}
+
+impl Read for Page<'_> {
+    fn read(&mut self, buf: &mut [u8]) -> io::Result<usize> {
+        if self.until_fault == 0 {
+            return Err(Error::from(ErrorKind::BrokenPipe));
+        }
+        let n = buf.len().min(self.left.len()).min(self.until_fault).min(3);
+        let (now, later) = self.left.split_at(n);
+        buf[..n].copy_from_slice(now);
+        self.left = later;
+        self.until_fault = self.until_fault.saturating_sub(n);
+        Ok(n)
+    }
+}
+
+/// Files in memory.
+#[derive(Drop)]
+struct Shelf<'a> {
+    files: &'a [File<'a>],
+}
+
+impl<'a> Folder<Page<'a>> for Shelf<'a> {
+    ghost use Rattle.std.specs.Prelude.{None};
+
+    ghost holds = { λ shelf name. None };
+
+    fn open(&self, name: &[u8]) -> io::Result<Page<'a>> {
+        for file in self.files {
+            if file.name == name {
+                return Ok(Page {
+                    left: file.text,
+                    until_fault: file.until_fault,
+                });
+            }
+        }
+        Err(Error::from(ErrorKind::NotFound))
+    }
+
+    fn failed(&self, _name: &[u8], _error: &Error) {}
+
+    fn improper(&self, _list: &[u8], _line: u64) {}
+
+    fn ended(&self, _list: &[u8], _counts: &Counts) {}
+}
+
+/// Keeps what is written, and fails once so many bytes are there.
+#[derive(Drop)]
+struct Paper {
+    text: Vec<u8>,
+    room: usize,
+}
+
+impl Write for Paper {
+    fn write(&mut self, buf: &[u8]) -> io::Result<usize> {
+        let n = buf.len().min(self.room);
+        if n == 0 {
+            return Err(Error::from(ErrorKind::BrokenPipe));
+        }
+        self.text.extend_from_slice(&buf[..n])?;
+        self.room -= n;
+        Ok(n)
+    }
+
+    fn flush(&mut self) -> io::Result<()> {
+        Ok(())
+    }
+}
+
+/// The words of a call.
+fn call_of(alloc: Global, words: &[&str]) -> Result<Valued, AllocError> {
+    let mut all = Vec::new(alloc);
+    for word in words {
+        match all.push(Vec::from_slice(alloc, word.as_bytes())?) {
+            Ok(()) => {}
+            Err(_) => return Err(AllocError),
+        }
+    }
+    take_value(alloc, &all, b'a', b"algorithm")
+}
+
+/// What became of a call: its status, what failed, and what was written.
+fn run(
+    alloc: Global,
+    words: &[&str],
+    files: &[File<'_>],
+    room: usize,
+) -> io::Result<(u8, &'static str, Vec<u8>)> {
+    let valued = call_of(alloc, words)?;
+    let mut paper = Paper {
+        text: Vec::new(alloc),
+        room,
+    };
+    let mut output = BufWriter::with_capacity(alloc, 16, &mut paper)?;
+    let call = Call {
+        words: &valued.words,
+        name: valued.value.as_deref(),
+        lacks_name: valued.lacks,
+    };
+    let texts = Texts {
+        about: About {
+            help: "help\n",
+            version: "version\n",
+        },
+        list: "list\n",
+    };
+    let outcome = outcome_of(alloc, &Shelf { files }, &kinds(), call, texts, &mut output);
+    drop(output);
+    Ok((
+        outcome_status(&outcome),
+        outcome_failure(&outcome),
+        paper.text,
+    ))
+}
+
+/// That a call ends so, and writes this.
+fn ends(
+    rt: &impl Abort,
+    alloc: Global,
+    words: &[&str],
+    files: &[File<'_>],
+    status: u8,
+    output: &str,
+) {
+    match run(alloc, words, files, usize::MAX) {
+        Ok((got, _, text)) => {
+            assert_eq!(rt; text.as_slice(), output.as_bytes());
+            assert_eq!(rt; got, status);
+        }
+        Err(_) => assert!(rt; false, "no memory"),
+    }
+}
+
+/// Published numbers: of FNV by its authors, and the check values of the CRCs.
+#[test]
+fn lines_of_published_numbers(rt: HostRuntime) {
+    let alloc = rt.alloc();
+    let files = [
+        whole(b"-", b"foobar"),
+        whole(b"digits", b"123456789"),
+        whole(b"b\\\n\r", b"a"),
+    ];
+    ends(
+        &rt,
+        alloc,
+        &["-a", "fnv1a64"],
+        &files,
+        0,
+        "fnv1a64 (-) = 85944171f73967e8\n",
+    );
+    ends(
+        &rt,
+        alloc,
+        &["-afnv1a32", "-"],
+        &files,
+        0,
+        "fnv1a32 (-) = bf9cf968\n",
+    );
+    ends(
+        &rt,
+        alloc,
+        &["--algorithm=crc32", "digits"],
+        &files,
+        0,
+        "crc32 (digits) = cbf43926\n",
+    );
+    ends(
+        &rt,
+        alloc,
+        &["--untagged", "-a", "crc32c", "digits"],
+        &files,
+        0,
+        "e3069283  digits\n",
+    );
+    ends(
+        &rt,
+        alloc,
+        &["-a", "fnv1a32", "b\\\n\r", "none", "-"],
+        &files,
+        1,
+        "\\fnv1a32 (b\\\\\\n\\r) = e40c292c\nfnv1a32 (-) = bf9cf968\n",
+    );
+    ends(
+        &rt,
+        alloc,
+        &["-za", "fnv1a32", "b\\\n\r"],
+        &files,
+        0,
+        "fnv1a32 (b\\\n\r) = e40c292c\0",
+    );
+}
+
+/// The lines of a list, and what comes of each.
+#[test]
+fn lists_are_checked(rt: HostRuntime) {
+    let alloc = rt.alloc();
+    let list =
+        b"# a comment\n\nfnv1a64 (foo) = 85944171f73967e8\nBF9CF968  foo\nbf9cf968 *foo\n\\e40c292c  b\\n\ncrc32 (foo) = 00000000\nno line\ncrc32 (none) = 00000000\nbf9cf968  foo";
+    let said =
+        "foo: OK\nfoo: OK\nfoo: OK\n\\b\\n: OK\nfoo: FAILED\nnone: FAILED open or read\nfoo: OK\n";
+    let files = [
+        whole(b"foo", b"foobar"),
+        whole(b"b\n", b"a"),
+        whole(b"list", list),
+    ];
+    ends(
+        &rt,
+        alloc,
+        &["-c", "-a", "fnv1a32", "list"],
+        &files,
+        1,
+        said,
+    );
+    ends(
+        &rt,
+        alloc,
+        &["-ca", "fnv1a32", "--quiet", "list"],
+        &files,
+        1,
+        "foo: FAILED\nnone: FAILED open or read\n",
+    );
+    ends(&rt, alloc, &["-c", "--status", "list"], &files, 1, "");
+    ends(&rt, alloc, &["-c", "none"], &files, 1, "");
+    let good = [
+        whole(b"foo", b"foobar"),
+        whole(
+            b"-",
+            b"fnv1a64 (foo) = 85944171f73967e8\nno line\nelf (none) = 00000000\n",
+        ),
+    ];
+    ends(
+        &rt,
+        alloc,
+        &["-c", "--ignore-missing"],
+        &good,
+        0,
+        "foo: OK\n",
+    );
+    ends(
+        &rt,
+        alloc,
+        &["-c", "--ignore-missing", "--strict"],
+        &good,
+        1,
+        "foo: OK\n",
+    );
+    ends(
+        &rt,
+        alloc,
+        &["-c"],
+        &good,
+        1,
+        "foo: OK\nnone: FAILED open or read\n",
+    );
+    let missing = [whole(b"-", b"elf (none) = 00000000\n")];
+    ends(&rt, alloc, &["-c", "--ignore-missing"], &missing, 1, "");
+}
+
+/// Wrong calls, and calls that read nothing.
+#[test]
+fn calls_end_by_the_table(rt: HostRuntime) {
+    let alloc = rt.alloc();
+    for words in [
+        ["-x", "a"],
+        ["-a", "null"],
+        ["a", "-a"],
+        ["-cz", "a"],
+        ["-c", "--tag"],
+        ["--strict", "a"],
+        ["-w", "a"],
+    ] {
+        ends(&rt, alloc, &words, &[], 2, "");
+    }
+    ends(&rt, alloc, &["--help"], &[], 0, "help\n");
+    ends(&rt, alloc, &["--version", "a"], &[], 0, "version\n");
+    ends(&rt, alloc, &["--list"], &[], 0, "list\n");
+    ends(
+        &rt,
+        alloc,
+        &["-a", "spooky", "--", "-a"],
+        &[whole(b"-a", b"")],
+        0,
+        "spooky (-a) = c0f8a8f45543d50a\n",
+    );
+}
+
+/// Reads that fail at each byte: nothing is told of such a file.
+#[test]
+fn a_read_fails_at_each_byte(rt: HostRuntime) {
+    let alloc = rt.alloc();
+    for until_fault in 0..6 {
+        let bad = File {
+            name: b"bad",
+            text: b"foobar",
+            until_fault,
+        };
+        let files = [
+            bad,
+            whole(b"a", b"a"),
+            whole(b"list", b"elf (bad) = 00000000\nelf (a) = 00000061\n"),
+        ];
+        ends(
+            &rt,
+            alloc,
+            &["-a", "elf", "bad", "a"],
+            &files,
+            1,
+            "elf (a) = 00000061\n",
+        );
+        ends(
+            &rt,
+            alloc,
+            &["-c", "list"],
+            &files,
+            1,
+            "bad: FAILED open or read\na: OK\n",
+        );
+    }
+}
+
+/// Writes that fail at each byte: a beginning of the output stands.
+#[test]
+fn a_write_fails_at_each_byte(rt: HostRuntime) {
+    let alloc = rt.alloc();
+    let files = [whole(b"a", b"a")];
+    let line = b"elf (a) = 00000061\n";
+    for room in 0..19usize {
+        match run(alloc, &["-a", "elf", "a"], &files, room) {
+            Ok((status, _, text)) => {
+                assert_eq!(rt; status, 141);
+                assert_eq!(rt; text.as_slice(), &line[..room]);
+            }
+            Err(_) => assert!(rt; false, "no memory"),
+        }
+    }
+}
+
+/// A file in which one byte changed fails, at each byte, by each of the byte hashers.
+#[test]
+fn one_changed_byte_fails(rt: HostRuntime) -> Result<(), std::test::Fail> {
+    let alloc = rt.alloc();
+    let text = b"a small file";
+    for name in [
+        "fnv1a32",
+        "fnv1a64",
+        "djb2",
+        "sdbm",
+        "loselose",
+        "bricolage",
+        "oaat",
+    ] {
+        let (_, _, line) = run(alloc, &["-a", name, "f"], &[whole(b"f", text)], usize::MAX)?;
+        for at in 0..text.len() {
+            for change in [1u8, 2, 64, 128, 255] {
+                let mut changed = [0u8; 12];
+                changed.copy_from_slice(text);
+                changed[at] ^= change;
+                let files = [whole(b"f", &changed), whole(b"-", &line)];
+                ends(&rt, alloc, &["-c"], &files, 1, "f: FAILED\n");
+            }
+        }
+        ends(
+            &rt,
+            alloc,
+            &["-c"],
+            &[whole(b"f", text), whole(b"-", &line)],
+            0,
+            "f: OK\n",
+        );
+    }
+    Ok(())
+}
