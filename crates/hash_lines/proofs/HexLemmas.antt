@@ -1,7 +1,7 @@
 -- Digits one by one.
-use Rattle.std.proofs.Common.{◌≡◌, ℕ, ◌+◌, ◌-◌, ◌*◌, ◌/◌, ◌%◌, ◌^◌, ◌<◌, ◌≤◌, suc, zero, Bool, true, false, List, [], ◌∷◌, ◌++◌, length, drop, get_or, set, Option, Some, None, refl, sym, ap, ◌∙◌, lit<, lit≤, append_assoc, append-nil, add-one, arith}
+use Rattle.std.proofs.Common.{◌≡◌, ℕ, ◌+◌, ◌-◌, ◌*◌, ◌/◌, ◌%◌, ◌^◌, ◌<◌, ◌≤◌, suc, zero, Bool, true, false, List, [], ◌∷◌, ◌++◌, length, drop, get_or, set, Option, Some, None, refl, sym, ap, ◌∙◌, lit<, lit≤, append_assoc, append-nil, add-one, mul_assoc, arith}
 use Rattle.std.specs.Prelude.{option_and_then}
-use Rattle.std.proofs.lemmas.List.{drop-set, drop_all}
+use Rattle.std.proofs.lemmas.List.{drop-set, drop_all, length-append}
 use Rattle.std.proofs.Math.Nat.{pow-le-pow_right}
 use Rattle.hash_lines.specs.Hex.{digit, digit_value, hex, hex_value, value_behind}
 
@@ -32,3 +32,62 @@ next_fits number place value small early low =
     let all : 16 ^ 32 ≡ 2 ^ 128 = refl in
     let step : 16 ^ (place + 1) ≡ 16 ^ place * 16 = pow_step place in
     omega arith
+
+-- so many digits
+pub length-hex : (digits number : ℕ) → length (hex digits number) ≡ digits
+length-hex zero number = refl
+length-hex (suc digits) number =
+    length-append (hex digits (number / 16)) (digit (number % 16) ∷ []) ∙ ap (λ n. n + 1) (length-hex digits (number / 16)) ∙ add-one digits
+
+digit_value-digit : (value : ℕ) → value < 16 → digit_value (digit value) ≡ Some value
+digit_value-digit zero low = refl
+digit_value-digit (suc zero) low = refl
+digit_value-digit (suc (suc zero)) low = refl
+digit_value-digit (suc (suc (suc zero))) low = refl
+digit_value-digit (suc (suc (suc (suc zero)))) low = refl
+digit_value-digit (suc (suc (suc (suc (suc zero))))) low = refl
+digit_value-digit (suc (suc (suc (suc (suc (suc zero)))))) low = refl
+digit_value-digit (suc (suc (suc (suc (suc (suc (suc zero))))))) low = refl
+digit_value-digit (suc (suc (suc (suc (suc (suc (suc (suc zero)))))))) low = refl
+digit_value-digit (suc (suc (suc (suc (suc (suc (suc (suc (suc zero))))))))) low = refl
+digit_value-digit (suc (suc (suc (suc (suc (suc (suc (suc (suc (suc zero)))))))))) low = refl
+digit_value-digit (suc (suc (suc (suc (suc (suc (suc (suc (suc (suc (suc zero))))))))))) low = refl
+digit_value-digit (suc (suc (suc (suc (suc (suc (suc (suc (suc (suc (suc (suc zero)))))))))))) low = refl
+digit_value-digit (suc (suc (suc (suc (suc (suc (suc (suc (suc (suc (suc (suc (suc zero))))))))))))) low = refl
+digit_value-digit (suc (suc (suc (suc (suc (suc (suc (suc (suc (suc (suc (suc (suc (suc zero)))))))))))))) low = refl
+digit_value-digit (suc (suc (suc (suc (suc (suc (suc (suc (suc (suc (suc (suc (suc (suc (suc zero))))))))))))))) low = refl
+digit_value-digit (suc (suc (suc (suc (suc (suc (suc (suc (suc (suc (suc (suc (suc (suc (suc (suc more)))))))))))))))) low = absurd (omega arith)
+
+-- a digit behind others
+value-push : (front : List ℕ) (before number byte value : ℕ) → value_behind before front ≡ Some number → digit_value byte ≡ Some value
+    → value_behind before (front ++ byte ∷ []) ≡ Some (number * 16 + value)
+value-push [] before number byte value is one =
+    let same : before ≡ number = cc in
+    ap (option_and_then (λ v. Some (before * 16 + v))) one ∙ ap (λ n. Some (n * 16 + value)) same
+value-push (first ∷ front) before number byte value is one =
+    at (λ b here. value-push front b number byte value here one) (digit_value first) refl
+  where
+    at : ((b : ℕ) → value_behind b front ≡ Some number → value_behind b (front ++ byte ∷ []) ≡ Some (number * 16 + value))
+        → (v : Option ℕ) → digit_value first ≡ v → value_behind before ((first ∷ front) ++ byte ∷ []) ≡ Some (number * 16 + value)
+    at again None none =
+        let clash : None ≡ Some number = sym (ap (option_and_then (λ v. value_behind (before * 16 + v) front)) none) ∙ is in cc
+    at again (Some v) some =
+        ap (option_and_then (λ v. value_behind (before * 16 + v) (front ++ byte ∷ []))) some
+        ∙ again (before * 16 + v) (sym (ap (option_and_then (λ v. value_behind (before * 16 + v) front)) some) ∙ is)
+
+-- the number of its digits
+value-hex : (digits number before : ℕ) → number < 16 ^ digits → value_behind before (hex digits number) ≡ Some (before * 16 ^ digits + number)
+value-hex zero number before small =
+    let none : number < 1 = small in let same : before ≡ before * 1 + number = omega arith in ap Some same
+value-hex (suc digits) number before small =
+    let step : 16 ^ suc digits ≡ 16 ^ digits * 16 = ap (λ n. 16 ^ n) (sym (add-one digits)) ∙ pow_step digits in
+    let fits : number / 16 < 16 ^ digits = omega arith in
+    let low : number % 16 < 16 = omega arith in
+    let all : before * 16 ^ suc digits ≡ before * 16 ^ digits * 16 = ap (λ t. before * t) step ∙ sym (mul_assoc before (16 ^ digits) 16) in
+    let same : (before * 16 ^ digits + number / 16) * 16 + number % 16 ≡ before * 16 ^ suc digits + number = omega arith in
+    value-push (hex digits (number / 16)) before (before * 16 ^ digits + number / 16) (digit (number % 16)) (number % 16)
+    (value-hex digits (number / 16) before fits) (digit_value-digit (number % 16) low) ∙ ap Some same
+
+pub hex_value-hex : (digits number : ℕ) → number < 16 ^ digits → hex_value (hex digits number) ≡ Some number
+hex_value-hex digits number small =
+    let same : 0 * 16 ^ digits + number ≡ number = omega arith in value-hex digits number 0 small ∙ ap Some same

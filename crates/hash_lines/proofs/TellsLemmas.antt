@@ -1,9 +1,14 @@
 -- What a line tells, or does not.
-use Rattle.std.proofs.Common.{◌≡◌, ◌⊎◌, inl, inr, ℕ, ◌<◌, Bool, true, false, List, ◌∷◌, Option, Some, None, MatchOption, IfOk, Result, Ok, Err, Contains, length, get_or, sym, ap, ◌∙◌, subst}
+use Rattle.std.proofs.Common.{◌≡◌, ◌⊎◌, inl, inr, ℕ, ◌<◌, ◌^◌, ◌&&◌, ◌++◌, refl, Bool, true, false, List, ◌∷◌, Option, Some, None, MatchOption, IfOk, Result, Ok, Err, Contains, length, get_or, sym, ap, ◌∙◌, subst}
 use Rattle.hash_lines.specs.declared.line.Kind.{Kind}
 use Rattle.hash_lines.specs.declared.parse.Entry.{Entry}
-use Rattle.hash_lines.specs.Line.{digits_of, name_shown, ShowsTagged, ShowsUntagged}
-use Rattle.hash_lines.specs.Told.{Tells, TellsBody, TellsEscaped, TellsTagged, TellsUntagged}
+use Rattle.hash_lines.specs.Escape.{needs_escape}
+use Rattle.hash_lines.specs.Hex.{hex}
+use Rattle.hash_lines.specs.declared.line.Form.{Form}
+use Rattle.hash_lines.specs.declared.line.Form.TheVariants as form
+use Rattle.hash_lines.specs.Line.{body, digits_of, line_of, mark, name_shown, ShowsTagged, ShowsUntagged}
+use Rattle.hash_lines.specs.Told.{MayBeTold, Tells, TellsBody, TellsEscaped, TellsTagged, TellsUntagged}
+use Rattle.hash_lines.proofs.HexLemmas.{hex_value-hex, length-hex}
 use Rattle.hash_lines.proofs.LineLemmas.{found_by, tagged_shown, untagged_shown}
 
 pub tagged_found : {X : Type 0} (kind : Kind) (escapes : Bool) (shown body : List ℕ) (number : ℕ)
@@ -79,3 +84,29 @@ line_found kinds default line untold (Ok None) none = at
     at other name number (inl tells) = none other name number tells
     at other name number (inr tells) = untold other name number tells
 line_found kinds default line untold (Ok (Some entry)) tells = inl tells
+
+-- a line without its mark that is written tells what it was written of
+body_told : (kinds : List Kind) (default kind : Kind) (form : Form) → MayBeTold kinds default form kind
+    → (escapes : Bool) (name : List ℕ) (number : ℕ) → number < 16 ^ digits_of kind.width
+    → TellsBody kinds default escapes kind name number (body form kind.name.now (name_shown escapes name) (hex (digits_of kind.width) number))
+body_told kinds default kind form.Tagged may escapes name number small =
+    let digits = hex (digits_of kind.width) number in
+    inl (may, (digits, (length-hex (digits_of kind.width) number, hex_value-hex (digits_of kind.width) number small), refl))
+body_told kinds default kind form.Untagged may escapes name number small =
+    let digits = hex (digits_of kind.width) number in
+    inr (may, (digits, (length-hex (digits_of kind.width) number, hex_value-hex (digits_of kind.width) number small), inl refl))
+
+-- the same of a line
+pub line_told : (kinds : List Kind) (default kind : Kind) (form : Form) → MayBeTold kinds default form kind
+    → (escapes : Bool) (name : List ℕ) (number : ℕ) → number < 16 ^ digits_of kind.width
+    → Tells kinds default kind name number (line_of form escapes kind.name.now kind.width name number)
+line_told kinds default kind form may escapes name number small = at (escapes && needs_escape name)
+  where
+    at : (marked : Bool) → Tells kinds default kind name number
+        (mark marked ++ body form kind.name.now (name_shown marked name) (hex (digits_of kind.width) number))
+    at true = inr (
+      body form kind.name.now (name_shown true name) (hex (digits_of kind.width) number),
+      refl,
+      body_told kinds default kind form may true name number small,
+    )
+    at false = inl (body_told kinds default kind form may false name number small)

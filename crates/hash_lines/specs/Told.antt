@@ -1,5 +1,7 @@
 -- What a line tells.
 use Rattle.std.specs.Prelude.{ℕ, ◌≡◌, ◌⊎◌, Bool, true, false, List, [], ◌∷◌, Contains}
+use Rattle.hash_lines.specs.declared.line.Form.{Form}
+use Rattle.hash_lines.specs.declared.line.Form.TheVariants as form
 use Rattle.hash_lines.specs.declared.line.Kind.{Kind}
 use Rattle.hash_lines.specs.Line.{digits_of, name_shown, ShowsTagged, ShowsUntagged}
 
@@ -24,3 +26,8 @@ TellsEscaped kinds default kind name number line =
 abbrev pub Tells : List Kind → (default : Kind) → Kind → (name : List ℕ) (number : ℕ) → List ℕ → Type 0
 Tells kinds default kind name number line =
     TellsBody kinds default false kind name number line ⊎ TellsEscaped kinds default kind name number line
+
+-- a kind that a line of this form may tell: tagged one of these, untagged the default
+abbrev pub MayBeTold : List Kind → (default : Kind) → Form → Kind → Type 0
+MayBeTold kinds default form.Tagged kind = Contains kinds kind
+MayBeTold kinds default form.Untagged kind = kind ≡ default

@@ -3,5 +3,6 @@
 
 pub mod escape;
 pub mod hex;
+pub mod laws;
 pub mod line;
 pub mod parse;

@@ -1,0 +1,14 @@
+//! Laws of lines, with no code.
+ghost use Rattle.std.specs.Prelude.{◌^◌, ◌<◌, ℕ, Bool, List};
+ghost use Rattle.hash_lines.specs.Line.{digits_of, line_of};
+ghost use Rattle.hash_lines.specs.Told.{MayBeTold, Tells};
+ghost use Rattle.hash_lines.specs.declared.line.Form.{Form};
+ghost use Rattle.hash_lines.specs.declared.line.Kind.{Kind};
+
+/// A line that is written of a file's hash tells this hash of this file, in either form, with escapes or without, whatever the name
+/// is. The number is one of as many digits as the kind has.
+pub fn written_lines_tell()
+    ensures { (kinds : List Kind) (default kind : Kind) (form : Form) → MayBeTold kinds default form kind
+        → (escapes : Bool) (name : List ℕ) (number : ℕ) → number < 16 ^ digits_of kind.width
+        → Tells kinds default kind name number (line_of form escapes kind.name.now kind.width name number) }
+{}
