@@ -50,7 +50,7 @@ pub first_rest : (byte other : ℕ) (xs ys : List ℕ) → escaped_byte byte ++ 
 first_rest byte other xs ys same =
     append_cancel_left (escaped_byte byte) xs ys (same ∙ ap (λ b. escaped_byte b ++ ys) (sym (first_same byte other xs ys same)))
 
-nothing_first : (byte : ℕ) (more : List ℕ) → escaped_byte byte ++ more ≢ []
+pub nothing_first : (byte : ℕ) (more : List ℕ) → escaped_byte byte ++ more ≢ []
 unfolding first_of
 nothing_first byte more none = let some : Some byte ≡ None = sym (first_of-escaped byte more) ∙ ap first_of none in cc
 

@@ -2,3 +2,4 @@ pub mod EscapeLemmas
 pub mod HexLemmas
 pub mod LineLemmas
 pub mod TellsLemmas
+pub mod OneLemmas

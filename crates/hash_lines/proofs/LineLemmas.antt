@@ -48,11 +48,11 @@ middle_is xs ys zs us vs ws rest one other middles ends =
     (same_ends xs ys us vs fronts.0 middles).1
 
 -- the last of three texts
-last_is : (xs ys zs us vs ws rest : List ℕ) → xs ++ (ys ++ zs) ≡ rest → us ++ (vs ++ ws) ≡ rest → length zs ≡ length ws → zs ≡ ws
+pub last_is : (xs ys zs us vs ws rest : List ℕ) → xs ++ (ys ++ zs) ≡ rest → us ++ (vs ++ ws) ≡ rest → length zs ≡ length ws → zs ≡ ws
 last_is xs ys zs us vs ws rest one other ends =
     (same_ends (xs ++ ys) zs (us ++ vs) ws (append_assoc xs ys zs ∙ one ∙ sym (append_assoc us vs ws ∙ other)) ends).1
 
-inner_is : (tag mark inner rest body : List ℕ) → tag ++ (mark ++ inner) ≡ body → tag ++ (mark ++ rest) ≡ body → inner ≡ rest
+pub inner_is : (tag mark inner rest body : List ℕ) → tag ++ (mark ++ inner) ≡ body → tag ++ (mark ++ rest) ≡ body → inner ≡ rest
 inner_is tag mark inner rest body one other =
     append_cancel_left mark inner rest (append_cancel_left tag (mark ++ inner) (mark ++ rest) (one ∙ sym other))
 

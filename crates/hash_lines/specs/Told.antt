@@ -1,5 +1,6 @@
 -- What a line tells.
-use Rattle.std.specs.Prelude.{ℕ, ◌≡◌, ◌⊎◌, Bool, true, false, List, [], ◌∷◌, Contains}
+use Rattle.std.specs.Prelude.{ℕ, ◌≡◌, ◌≢◌, ◌⊎◌, Bool, true, false, List, [], ◌∷◌, Contains}
+use Rattle.std.specs.List.{AllByRecursion}
 use Rattle.hash_lines.specs.declared.line.Form.{Form}
 use Rattle.hash_lines.specs.declared.line.Form.TheVariants as form
 use Rattle.hash_lines.specs.declared.line.Kind.{Kind}
@@ -31,3 +32,12 @@ Tells kinds default kind name number line =
 abbrev pub MayBeTold : List Kind → (default : Kind) → Form → Kind → Type 0
 MayBeTold kinds default form.Tagged kind = Contains kinds kind
 MayBeTold kinds default form.Untagged kind = kind ≡ default
+
+-- a tag has no space and no backslash
+abbrev pub IsTag : List ℕ → Type 0
+IsTag tag = AllByRecursion (λ byte. (byte ≢ 32) × (byte ≢ 92)) tag
+
+-- the kinds have tags, and no two have the same
+pub record AreTags (kinds : List Kind) (default : Kind) : Type 0 where
+  pub each : (kind : Kind) → Contains kinds kind → IsTag kind.name.now
+  pub apart : (kind other : Kind) → Contains kinds kind → Contains kinds other → kind.name.now ≡ other.name.now → kind ≡ other

@@ -1,7 +1,7 @@
 //! Laws of lines, with no code.
-ghost use Rattle.std.specs.Prelude.{◌^◌, ◌<◌, ℕ, Bool, List};
+ghost use Rattle.std.specs.Prelude.{◌≡◌, ◌^◌, ◌<◌, ℕ, Bool, List};
 ghost use Rattle.hash_lines.specs.Line.{digits_of, line_of};
-ghost use Rattle.hash_lines.specs.Told.{MayBeTold, Tells};
+ghost use Rattle.hash_lines.specs.Told.{AreTags, MayBeTold, Tells};
 ghost use Rattle.hash_lines.specs.declared.line.Form.{Form};
 ghost use Rattle.hash_lines.specs.declared.line.Kind.{Kind};
 
@@ -11,4 +11,13 @@ pub fn written_lines_tell()
     ensures { (kinds : List Kind) (default kind : Kind) (form : Form) → MayBeTold kinds default form kind
         → (escapes : Bool) (name : List ℕ) (number : ℕ) → number < 16 ^ digits_of kind.width
         → Tells kinds default kind name number (line_of form escapes kind.name.now kind.width name number) }
+{}
+
+/// A line tells one thing at most, where the kinds' names have no space and no backslash, and no two have the same name: so what
+/// `parse_line` finds in a written line is what the line was written of.
+pub fn a_line_tells_one_thing()
+    ensures { (kinds : List Kind) (default : Kind) → AreTags kinds default
+        → (kind other : Kind) (name more : List ℕ) (number count : ℕ) (line : List ℕ)
+        → Tells kinds default kind name number line → Tells kinds default other more count line
+        → (kind ≡ other) × (name ≡ more) × (number ≡ count) }
 {}
