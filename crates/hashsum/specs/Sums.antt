@@ -2,6 +2,8 @@
 use Rattle.std.specs.Prelude.{ℕ, List, Option, [], ◌∷◌, codes}
 use Rattle.std.specs.Map.{lookup}
 use Rattle.std.specs.Str.{bytes_eq}
+use Rattle.hash_lines.specs.declared.line.Width.{Width}
+use Rattle.hash_lines.specs.declared.line.Width.TheVariants.{Eight, Sixteen, ThirtyTwo}
 use Rattle.hashers.specs.Fnv.{fnv1a32_basis, fnv1a64_basis}
 use Rattle.hash_more.specs.Crc32.{all_ones, castagnoli, crc_answer, crc_from, ieee}
 use Rattle.hash_more.specs.Djb2Add.{djb2_add_from}
@@ -26,3 +28,30 @@ sums =
 -- the hash of that name, if there is one
 unfoldable pub number_named : List ℕ → Option (List ℕ → ℕ)
 number_named name = lookup (bytes_eq name) sums
+
+-- the names that can be told, the default first, and how many digits the numbers of each have
+unfoldable pub kinds : List (List ℕ × Width)
+kinds =
+    (codes "spooky128", ThirtyTwo)
+    ∷ (codes "fnv1a32", Eight)
+    ∷ (codes "fnv1a64", Sixteen)
+    ∷ (codes "djb2", Eight)
+    ∷ (codes "sdbm", Eight)
+    ∷ (codes "loselose", Sixteen)
+    ∷ (codes "bricolage", Sixteen)
+    ∷ (codes "oaat", Sixteen)
+    ∷ (codes "lookup3", Sixteen)
+    ∷ (codes "spooky", Sixteen)
+    ∷ (codes "spooky_v1", Sixteen)
+    ∷ (codes "passthrough", Sixteen)
+    ∷ (codes "fxhash", Sixteen)
+    ∷ (codes "fxhash32", Eight)
+    ∷ (codes "fxhash64", Sixteen)
+    ∷ (codes "crc32", Eight)
+    ∷ (codes "crc32c", Eight)
+    ∷ (codes "fnv1_32", Eight)
+    ∷ (codes "fnv1_64", Sixteen)
+    ∷ (codes "djb2_add", Eight)
+    ∷ (codes "joaat", Eight)
+    ∷ (codes "elf", Eight)
+    ∷ []

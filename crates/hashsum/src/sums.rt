@@ -1,8 +1,8 @@
 //! The hashes by their names: how many digits the numbers of each have, and the number of what a reader gives.
-ghost use Rattle.std.specs.Prelude.{◌≡◌};
+ghost use Rattle.std.specs.Prelude.{◌≡◌, map};
 ghost use Rattle.hash_names.specs.Reading.{Hashes, HashesNamed, read};
 ghost use Rattle.hash_names.specs.ReadingLaws.{Hashes-agree};
-ghost use Rattle.hashsum.specs.Sums.{number_named};
+ghost use Rattle.hashsum.specs.Sums.{kinds, number_named};
 
 use hash_lines::line::{Kind, Width};
 use hash_more::crc32::{Crc32Hasher, Crc32cHasher};
@@ -33,7 +33,10 @@ const fn kind(name: &'static str, width: Width) -> Kind<'static>
 }
 
 /// The hashes that can be told, the default first.
-pub fn kinds() -> [Kind<'static>; 22] {
+#[tactic(auto, unfolding(crate::specs::Sums::kinds))]
+pub fn kinds() -> [Kind<'static>; 22]
+    ensures { map (λ kind. (kind.name.now, kind.width)) result ≡ kinds }
+{
     [
         kind("spooky128", Width::ThirtyTwo),
         kind("fnv1a32", Width::Eight),

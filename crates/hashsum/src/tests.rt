@@ -404,3 +404,34 @@ fn one_changed_byte_fails(rt: HostRuntime) -> Result<(), std::test::Fail> {
     }
     Ok(())
 }
+
+/// A request for memory that is refused is told, or nothing was asked for.
+#[test]
+fn refused_memory(rt: HostRuntime) {
+    let alloc = rt.alloc();
+    let files = [
+        whole(b"foo", b"foobar"),
+        whole(b"b\n", b"a"),
+        whole(
+            b"list",
+            b"\\e40c292c  b\\n\nfnv1a64 (foo) = 85944171f73967e8\n",
+        ),
+    ];
+    for (words, said) in [
+        (["-a", "fnv1a32", "b\n"], "\\fnv1a32 (b\\n) = e40c292c\n"),
+        (["-ca", "fnv1a32", "list"], "\\b\\n: OK\nfoo: OK\n"),
+    ] {
+        match run(alloc, &words, &files, usize::MAX) {
+            Ok((0, failure, text)) => {
+                assert_eq!(rt; failure, "");
+                assert_eq!(rt; text.as_slice(), said.as_bytes());
+            }
+            Ok((status, failure, text)) => {
+                assert_eq!(rt; status, 1);
+                assert!(rt; failure == "out of memory" || failure == "write error");
+                assert!(rt; said.as_bytes().starts_with(&text));
+            }
+            Err(error) => assert!(rt; error.kind() == ErrorKind::OutOfMemory),
+        }
+    }
+}
