@@ -1,6 +1,7 @@
 //! What a check is proved to see, as laws with no code of their own. A text's length is that of its file.
-ghost use Rattle.std.specs.Prelude.{ℕ, List, codes};
+ghost use Rattle.std.specs.Prelude.{◌≡◌, ℕ, List, codes, length};
 ghost use Rattle.hashers.specs.DifferWithin.{DifferAtOnePlace, DifferWithin};
+ghost use Rattle.hashers.specs.Fx.{words32, words64};
 ghost use Rattle.hashers.specs.Text.{IsText};
 ghost use Rattle.hashsum.specs.Laws.{NeverPasses};
 
@@ -8,7 +9,7 @@ use hash_more::joaat::JoaatHasher;
 use hash_more::windows::windows_tell_apart as relatives_tell_apart;
 use hashers::fnv::{FNV1aHasher32, FNV1aHasher64};
 use hashers::jenkins::OAATHasher;
-use hashers::laws::{one_changed_byte_shows, windows_tell_apart};
+use hashers::laws::{one_changed_byte_shows, one_changed_word_shows_fx, windows_tell_apart};
 use hashers::oz::{DJB2Hasher, LoseLoseHasher, SDBMHasher};
 use hashers::pigeon::Bricolage;
 
@@ -48,4 +49,17 @@ pub fn a_changed_byte_never_passes()
     one_changed_byte_shows::<Bricolage>();
     one_changed_byte_shows::<OAATHasher>();
     one_changed_byte_shows::<JoaatHasher>();
+}
+
+/// A file of the text's length that differs from the text of its line in exactly one word, of eight bytes (four for fxhash32) or of
+/// what is left behind these, never passes the check.
+pub fn a_changed_word_never_passes()
+    ensures fxhash { (x y : List ℕ) → IsText x → IsText y → length x ≡ length y
+        → DifferAtOnePlace (words64 x) (words64 y) → NeverPasses (codes "fxhash") x y }
+    ensures fxhash64 { (x y : List ℕ) → IsText x → IsText y → length x ≡ length y
+        → DifferAtOnePlace (words64 x) (words64 y) → NeverPasses (codes "fxhash64") x y }
+    ensures fxhash32 { (x y : List ℕ) → IsText x → IsText y → length x ≡ length y
+        → DifferAtOnePlace (words32 x) (words32 y) → NeverPasses (codes "fxhash32") x y }
+{
+    one_changed_word_shows_fx();
 }
