@@ -1,12 +1,11 @@
 -- A line tells one thing.
-use Rattle.std.proofs.Common.{◌≡◌, ◌≢◌, ◌⊎◌, inl, inr, ℕ, ◌+◌, ◌*◌, ◌<◌, Bool, true, false, List, [], ◌∷◌, ◌++◌, Option, Some, None, Contains, All, length, get_or, codes, refl, ap, sym, ◌∙◌, subst, arith, lit<}
+use Rattle.std.proofs.Common.{◌≡◌, ◌≢◌, ◌⊎◌, inl, inr, ℕ, ◌+◌, ◌*◌, ◌<◌, Bool, true, false, List, [], ◌∷◌, ◌++◌, Option, Some, None, length, get_or, codes, refl, ap, sym, ◌∙◌, subst, arith, lit<}
 use Rattle.std.specs.Prelude.{option_and_then}
 use Rattle.std.specs.List.{AllByRecursion}
-use Rattle.std.proofs.lemmas.List.{append_cancel_left}
 use Rattle.hash_lines.specs.declared.line.Kind.{Kind}
 use Rattle.hash_lines.specs.declared.line.Width.{Width}
 use Rattle.hash_lines.specs.declared.line.Width.TheVariants as width
-use Rattle.hash_lines.specs.Escape.{escape, escaped_byte}
+use Rattle.hash_lines.specs.Escape.{escape}
 use Rattle.hash_lines.specs.Hex.{digit_value, hex_value, value_behind}
 use Rattle.hash_lines.specs.Line.{digits_of, name_shown, ShowsTagged, ShowsUntagged}
 use Rattle.hash_lines.specs.Told.{AreTags, IsTag, Tells, TellsBody, TellsTagged, TellsUntagged}

@@ -1,5 +1,5 @@
 -- What a line tells, or does not.
-use Rattle.std.proofs.Common.{◌≡◌, ◌⊎◌, inl, inr, ℕ, ◌<◌, ◌^◌, ◌&&◌, ◌++◌, refl, Bool, true, false, List, ◌∷◌, Option, Some, None, MatchOption, IfOk, Result, Ok, Err, Contains, length, get_or, sym, ap, ◌∙◌, subst}
+use Rattle.std.proofs.Common.{◌≡◌, inl, inr, ℕ, ◌<◌, ◌^◌, ◌&&◌, ◌++◌, refl, Bool, true, false, List, ◌∷◌, Option, Some, None, MatchOption, IfOk, Result, Ok, Err, Contains, sym, ◌∙◌, subst}
 use Rattle.hash_lines.specs.declared.line.Kind.{Kind}
 use Rattle.hash_lines.specs.declared.parse.Entry.{Entry}
 use Rattle.hash_lines.specs.Escape.{needs_escape}

@@ -1,5 +1,5 @@
 -- Lines that tell the hash of a file.
-use Rattle.std.specs.Prelude.{ℕ, ◌≡◌, ◌⊎◌, ◌&&◌, if◌then◌else◌, Bool, List, [], ◌∷◌, ◌++◌, Option, Some, None, length, codes}
+use Rattle.std.specs.Prelude.{ℕ, ◌≡◌, ◌⊎◌, ◌&&◌, if◌then◌else◌, Bool, List, [], ◌∷◌, ◌++◌, Some, length, codes}
 use Rattle.hash_lines.specs.Escape.{escape, needs_escape}
 use Rattle.hash_lines.specs.Hex.{hex, hex_value}
 use Rattle.hash_lines.specs.declared.line.Form.{Form}

@@ -1,5 +1,5 @@
 -- What a line tells.
-use Rattle.std.specs.Prelude.{ℕ, ◌≡◌, ◌≢◌, ◌⊎◌, Bool, true, false, List, [], ◌∷◌, Contains}
+use Rattle.std.specs.Prelude.{ℕ, ◌≡◌, ◌≢◌, ◌⊎◌, Bool, true, false, List, ◌∷◌, Contains}
 use Rattle.std.specs.List.{AllByRecursion}
 use Rattle.hash_lines.specs.declared.line.Form.{Form}
 use Rattle.hash_lines.specs.declared.line.Form.TheVariants as form

@@ -1,4 +1,4 @@
-use Rattle.std.proofs.Common.{◌≡◌, ◌<◌, ◌≤◌, arith, rules, length, get_or, below_more, sym, ap, subst, ◌∙◌}
+use Rattle.std.proofs.Common.{arith, below_more, sym, subst, ◌∙◌}
 use Rattle.std.proofs.lemmas.List.{get_or_default}
 use Rattle.hash_lines.specs.Told.{TellsTagged}
 use Rattle.hash_lines.proofs.TellsLemmas.{body_found}

@@ -1,4 +1,4 @@
-use Rattle.std.proofs.Common.{ℕ, ◌+◌, ◌*◌, ◌^◌, ap, ◌∙◌}
+use Rattle.std.proofs.Common.{ℕ, ◌+◌, ◌*◌, ap, ◌∙◌}
 use Rattle.hash_names.proofs.Versions.{position_of_cut}
 use Rattle.hash_names.proofs.reading.hash_of_spooky128.Goals as goal
 
