@@ -1,22 +1,25 @@
 -- How a run ends, by what came of reading and of writing.
-use Rattle.std.proofs.Common.{ℕ, List, Option, Some, None, Ok, Err, subst, rules}
+use Rattle.std.proofs.Common.{ℕ, List, Option, Some, None, Ok, Err, refl, subst, rules}
 use Rattle.std.specs.Io.KnownBytes.{Appends, Keeps}
 use Rattle.std.specs.declared.io.Error.{Error}
-use Rattle.hashof.specs.declared.run.RunFault.{RunFault}
-use Rattle.hashof.specs.declared.run.RunFault.TheVariants.{UnknownName, ReadFault, TooLong, WriteFault}
+use Rattle.hashof.specs.declared.run.RunFault.TheVariants.{WriteFault}
 use Rattle.hashof.specs.Line.{line_of}
 use Rattle.hash_program.specs.Streams.{AppendsPart}
-use Rattle.hashof.specs.Running.{Run, HashesNamed, EndsNamed}
+use Rattle.hash_names.specs.Reading.{HashesNamed}
+use Rattle.hash_names.specs.declared.reading.Unhashed.{Unhashed}
+use Rattle.hash_names.specs.declared.reading.Unhashed.TheVariants as unhashed
+use Rattle.hashof.specs.Running.{Run, EndsNamed, fault_of}
 
 -- nothing was written
-pub ended_unread : (hash : Option (List ℕ → ℕ)) (run : Run) (fault : RunFault) → HashesNamed hash run.reading (Err fault)
+pub ended_unread : (hash : Option (List ℕ → ℕ)) (run : Run) (why : Unhashed) → HashesNamed hash run.reading (Err why)
     → Keeps run.before run.after
-    → EndsNamed hash run (Err fault)
-ended_unread None run fault (none, keeps) kept = (search rules, (keeps, kept))
-ended_unread (Some hash) run UnknownName refused kept = refused
-ended_unread (Some hash) run (ReadFault fault) (some, below) kept = (some, below, kept)
-ended_unread (Some hash) run TooLong some kept = (some, kept)
-ended_unread (Some hash) run (WriteFault error) refused kept = absurd refused
+    → EndsNamed hash run (Err (fault_of why))
+ended_unread None run unhashed.UnknownName (none, keeps) kept = (refl, (keeps, kept))
+ended_unread None run (unhashed.ReadFault fault) (none, keeps) kept = absurd (search rules)
+ended_unread None run unhashed.TooLong (none, keeps) kept = absurd (search rules)
+ended_unread (Some hash) run unhashed.UnknownName refused kept = refused
+ended_unread (Some hash) run (unhashed.ReadFault fault) (some, below) kept = (some, below, kept)
+ended_unread (Some hash) run unhashed.TooLong some kept = (some, kept)
 
 -- the line was written
 pub ended_told : (hash : Option (List ℕ → ℕ)) (run : Run) (number : ℕ) → HashesNamed hash run.reading (Ok number)

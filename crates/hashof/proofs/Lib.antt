@@ -1,4 +1,3 @@
 pub mod Calls
 pub mod Endings
 pub mod Lines
-pub mod Versions

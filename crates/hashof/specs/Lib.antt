@@ -2,4 +2,3 @@ pub mod Line
 pub mod Program
 pub mod Running
 pub mod Status
-pub mod ReadingLaws

@@ -1,8 +1,10 @@
 //! The line of a named hash of what a reader gives.
-ghost use Rattle.hashof.specs.Running.{Ends, run_of};
+ghost use Rattle.std.specs.Prelude.{◌≡◌};
+ghost use Rattle.hashof.specs.Running.{Ends, fault_of, run_of};
 
 use crate::line::write_line;
 use crate::named::hash_named;
+use hash_names::reading::Unhashed;
 use hashers::engine::Fault;
 use std::error::Error as StdError;
 use std::fmt;
@@ -36,6 +38,19 @@ impl Display for RunFault {
 }
 
 impl StdError for RunFault {}
+
+/// Why there is no hash, as the fault of a run.
+impl From<Unhashed> for RunFault {
+    ghost from_gives = { λ unhashed fault. fault ≡ fault_of unhashed };
+
+    fn from(unhashed: Unhashed) -> RunFault {
+        match unhashed {
+            Unhashed::UnknownName => RunFault::UnknownName,
+            Unhashed::ReadFault(fault) => RunFault::ReadFault(fault),
+            Unhashed::TooLong => RunFault::TooLong,
+        }
+    }
+}
 
 /// The bytes from which on an input is too long: 2^40.
 pub const LIMIT: u64 = 1 << 40;
