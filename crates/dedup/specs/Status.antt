@@ -2,6 +2,9 @@
 use Rattle.std.specs.Prelude.{ℕ, List, [], codes, Some, None}
 use Rattle.std.specs.IoError.{error_kind}
 use Rattle.hash_program.specs.About.{write_status}
+use Rattle.hash_texts.specs.declared.texts.Full.{Full}
+use Rattle.hash_texts.specs.declared.texts.Full.TheVariants as full
+use Rattle.dedup.specs.declared.fault.Fault.{Fault}
 use Rattle.dedup.specs.declared.fault.Fault.TheVariants.{Write, NoMemory, TooManyTexts}
 use Rattle.dedup.specs.declared.outcome.Outcome.{Outcome}
 use Rattle.dedup.specs.declared.outcome.Outcome.TheVariants as outcome
@@ -26,3 +29,8 @@ failure_of outcome.TooManyLines = codes "too many lines"
 failure_of (outcome.Failed (Write error)) = codes "write error"
 failure_of (outcome.Failed NoMemory) = codes "out of memory"
 failure_of (outcome.Failed TooManyTexts) = codes "too many different lines"
+
+-- why a text could not be taken in, as the fault of a run
+abbrev pub fault_of : Full → Fault
+fault_of full.NoMemory = NoMemory
+fault_of full.TooManyTexts = TooManyTexts

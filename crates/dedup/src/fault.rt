@@ -1,4 +1,7 @@
 //! What ends a run before its output is whole.
+ghost use Rattle.std.specs.Prelude.{◌≡◌};
+ghost use Rattle.dedup.specs.Status.{fault_of};
+
 use hash_texts::Full;
 use std::alloc::AllocError;
 use std::error::Error as StdError;
@@ -31,12 +34,18 @@ impl Display for Fault {
 impl StdError for Fault {}
 
 impl From<AllocError> for Fault {
+    ghost use Rattle.dedup.specs.declared.fault.Fault.TheVariants.{NoMemory};
+
+    ghost from_gives = { λ error fault. fault ≡ NoMemory };
+
     fn from(_error: AllocError) -> Fault {
         Fault::NoMemory
     }
 }
 
 impl From<Full> for Fault {
+    ghost from_gives = { λ full fault. fault ≡ fault_of full };
+
     fn from(full: Full) -> Fault {
         match full {
             Full::NoMemory => Fault::NoMemory,

@@ -1,5 +1,5 @@
 //! Numbers in hexadecimal digits.
-ghost use Rattle.std.specs.Prelude.{◌≡◌, ◌++◌, ◌<◌, ◌≤◌, IfSome, OnOk, length};
+ghost use Rattle.std.specs.Prelude.{◌≡◌, ◌++◌, ◌^◌, ◌<◌, ◌≤◌, IfSome, OnOk, length};
 ghost use Rattle.hash_lines.specs.Hex.{digit, digit_value, hex, hex_value};
 
 use std::alloc::AllocError;
@@ -33,7 +33,7 @@ fn digit_value(byte: u8) -> Option<u8>
 }
 
 /// So many digits of a number, made at the end of the array.
-fn put_hex(digits: usize, number: u128, places: &mut [u8; MOST_DIGITS]) -> &[u8]
+pub fn put_hex(digits: usize, number: u128, places: &mut [u8; MOST_DIGITS]) -> &[u8]
     requires { digits ≤ MOST_DIGITS }
     ensures { result.now ≡ hex digits number }
 {
@@ -61,7 +61,8 @@ pub fn push_hex(text: &mut Vec<u8>, digits: usize, number: u128) -> Result<(), A
 /// The number of these hexadecimal digits, of either case; `None` exactly where one of the bytes is none.
 pub fn hex_number(digits: &[u8]) -> Option<u128>
     requires { length digits.now ≤ MOST_DIGITS }
-    ensures { result ≡ hex_value digits.now }
+    ensures value { result ≡ hex_value digits.now }
+    ensures small { IfSome result (λ number. number < 16 ^ length digits.now) }
 {
     let mut number = 0u128;
     for byte in digits {

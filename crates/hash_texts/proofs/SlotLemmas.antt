@@ -1,5 +1,5 @@
 -- Tables of slots: what a search finds, and what a slot more changes.
-use Rattle.std.proofs.Common.{ℕ, zero, suc, ◌≡◌, ◌+◌, ◌-◌, ◌<◌, ◌≤◌, ◌==◌, ◌⊎◌, inl, inr, Bool, true, false, not, cond, ◌&&◌, ◌||◌, Option, Some, None, List, [], ◌∷◌, ◌++◌, length, get_or, take, replicate, All, Contains, arith, sym, ap, ◌∙◌, subst, refl, length-append}
+use Rattle.std.proofs.Common.{ℕ, zero, suc, ◌≡◌, ◌+◌, ◌-◌, ◌^◌, ◌<◌, ◌≤◌, ◌==◌, ◌⊎◌, inl, inr, Bool, true, false, not, cond, ◌&&◌, ◌||◌, Option, Some, None, List, [], ◌∷◌, ◌++◌, length, get_or, take, replicate, All, Contains, arith, sym, ap, ◌∙◌, subst, refl, length-append}
 use Rattle.std.specs.List.{count_by, list_any, Any}
 use Rattle.std.specs.Str.{bytes_eq}
 use Rattle.std.proofs.Math.ListN.{set}
@@ -10,7 +10,9 @@ use Rattle.std.proofs.lemmas.List.Elements.{All-set, All-contains, All-contains_
 use Rattle.std.proofs.lemmas.List.Folds.{list_any_none, list_any_at, list_any_more, list_any-append, Any-from_list_any, sum_by-replicate}
 use Rattle.std.proofs.lemmas.List.Sums.{sum_by-cons, sum_by-set}
 use Rattle.std.proofs.lemmas.Slice.Eq.{bytes_eq-Decides}
-use Rattle.hash_texts.specs.Texts.{EachOnce, StandsAt, has, with_text}
+use Rattle.hash_texts.specs.Texts.{EachOnce, IsFullOnlyAt, StandsAt, has, with_text}
+use Rattle.hash_texts.specs.declared.texts.Full.{Full}
+use Rattle.hash_texts.specs.declared.texts.Full.TheVariants as why
 use Rattle.hash_texts.specs.Slots.{AreFound, FirstBetween, FirstRound, HoldsUpTo, IsRefilled, IsTable, IsTagged, Names, free_count, home_of, is_taken, some_taken, stops, text_of}
 use Rattle.hash_texts.specs.declared.slots.Slot.{Slot}
 use Rattle.hash_texts.specs.declared.slots.TheConstants.{EMPTY, NOWHERE}
@@ -492,3 +494,8 @@ pub set_made : {tag : List ℕ → ℕ} (texts : List (List ℕ)) {new : List (L
     → IsTable tag (texts ++ text ∷ []) slots room → EachOnce new × IsTable tag new slots room
 set_made {tag} texts {new} {slots} {room} text is once absent table =
     subst (λ ts. EachOnce ts × IsTable tag ts slots room) (sym is) (once_more texts text once absent, table)
+
+-- a set that has as many texts as it may
+pub is_full : (texts : List (List ℕ)) (why : Full) → 2 ^ 32 - 1 ≤ length texts → IsFullOnlyAt texts why
+is_full texts why.NoMemory many = tt
+is_full texts why.TooManyTexts many = many

@@ -1,7 +1,9 @@
 -- Texts of which each stands once.
-use Rattle.std.specs.Prelude.{ℕ, ◌≡◌, ◌<◌, ◌++◌, if◌then◌else◌, Bool, List, [], ◌∷◌, length, slice_index_or}
+use Rattle.std.specs.Prelude.{ℕ, ◌≡◌, ◌-◌, ◌^◌, ◌<◌, ◌≤◌, ◌++◌, ⊤, if◌then◌else◌, Bool, List, [], ◌∷◌, length, slice_index_or}
 use Rattle.std.specs.List.{list_any}
 use Rattle.std.specs.Str.{bytes_eq}
+use Rattle.hash_texts.specs.declared.texts.Full.{Full}
+use Rattle.hash_texts.specs.declared.texts.Full.TheVariants as why
 
 -- whether a text is among these
 abbrev pub has : List (List ℕ) → List ℕ → Bool
@@ -18,3 +20,8 @@ StandsAt texts text place = (place < length texts) × (slice_index_or texts plac
 -- no text stands at two places
 abbrev pub EachOnce : List (List ℕ) → Type 0
 EachOnce texts = (i k : ℕ) → i < length texts → k < length texts → slice_index_or texts i [] ≡ slice_index_or texts k [] → i ≡ k
+
+-- there are as many texts as a set has at most, where that is why
+abbrev pub IsFullOnlyAt : List (List ℕ) → Full → Type 0
+IsFullOnlyAt texts why.NoMemory = ⊤
+IsFullOnlyAt texts why.TooManyTexts = 2 ^ 32 - 1 ≤ length texts

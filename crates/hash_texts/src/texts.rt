@@ -1,8 +1,8 @@
 //! The set of texts.
-ghost use Rattle.std.specs.Prelude.{◌≡◌, ◌↔◌, ◌<◌, ℕ, List, [], IfOk, IfSome, IfNone, IsTrue, OnOk, OnErr, not, false, length, slice_index_or, drop};
+ghost use Rattle.std.specs.Prelude.{◌≡◌, ◌↔◌, ◌-◌, ◌^◌, ◌<◌, ◌≤◌, ℕ, List, [], IfOk, IfErr, IfSome, IfNone, IsTrue, OnOk, OnErr, not, false, length, slice_index_or, drop};
 ghost use Rattle.std.specs.Iterator.{YieldsFirstRef, item_count};
 ghost use Rattle.hash_texts.specs.Slots.{IsTable, SharesTag, tag_by};
-ghost use Rattle.hash_texts.specs.Texts.{EachOnce, StandsAt, has, with_text};
+ghost use Rattle.hash_texts.specs.Texts.{EachOnce, IsFullOnlyAt, StandsAt, has, with_text};
 
 use crate::slots::{NOWHERE, Slot, home_of, make_room, stop, tag_of};
 use crate::store::Store;
@@ -46,6 +46,10 @@ impl Display for Full {
 impl Error for Full {}
 
 impl From<AllocError> for Full {
+    ghost use Rattle.hash_texts.specs.declared.texts.Full.TheVariants as why;
+
+    ghost from_gives = { λ error full. full ≡ why.NoMemory };
+
     fn from(_error: AllocError) -> Full {
         Full::NoMemory
     }
@@ -80,6 +84,7 @@ impl<S: BuildHasher + Drop> Model for Texts<S> {
 fn slot_of(tag: u32, place: usize) -> Result<Slot, Full>
     ensures slot { IfOk result (λ slot. slot ≡ record { tag = tag; place = place }) }
     ensures below { OnOk result (place < NOWHERE) }
+    ensures full { OnErr result (2 ^ 32 - 1 ≤ place) }
 {
     match u32::try_from(place) {
         Ok(place) if place < NOWHERE => Ok(Slot { tag, place }),
@@ -191,6 +196,7 @@ impl<S: BuildHasher + Drop> Texts<S> {
         ensures texts { OnOk result (self.new ≡ with_text self.old text.now) }
         ensures place { IfOk result (λ seen. StandsAt self.new text.now seen.place) }
         ensures kept { OnErr result (self.new ≡ self.old) }
+        ensures full { IfErr result (IsFullOnlyAt self.old) }
     {
         if guess < self.len() {
             if self.text_at(guess) == text {
@@ -211,6 +217,7 @@ impl<S: BuildHasher + Drop> Texts<S> {
         ensures texts { OnOk result (self.new ≡ with_text self.old text.now) }
         ensures place { IfOk result (λ seen. StandsAt self.new text.now seen.place) }
         ensures kept { OnErr result (self.new ≡ self.old) }
+        ensures full { IfErr result (IsFullOnlyAt self.old) }
     {
         make_room(self.alloc, &mut self.slots, &mut self.room)?;
         let tag = tag_of(&self.hasher, text);

@@ -1,8 +1,7 @@
 -- What a check sees.
-use Rattle.std.proofs.Common.{◌≡◌, ◌≢◌, ℕ, Bool, true, false, nat_eq, List, Option, Some, None, if◌then◌else◌, refl, sym, ap, ◌∙◌}
+use Rattle.std.proofs.Common.{◌≡◌, ◌≢◌, ℕ, Bool, true, false, nat_eq, List, Some, if◌then◌else◌, refl, sym, ap, ◌∙◌}
 use Rattle.std.proofs.KnownBytes.{Consumes-whole}
 use Rattle.std.proofs.lemmas.Bool.{eqb-true}
-use Rattle.hash_names.specs.Reading.{ReadsAll}
 use Rattle.hashsum.specs.declared.check.Verdict.{Verdict}
 use Rattle.hashsum.specs.declared.check.Verdict.TheVariants.{Same, Different, Unread, Missing}
 use Rattle.hashsum.specs.Checking.{verdict_on, IsVerdict}

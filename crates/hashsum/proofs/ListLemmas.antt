@@ -1,16 +1,13 @@
 -- Lists whose lines are checked.
-use Rattle.std.proofs.Common.{◌≡◌, ◌⊎◌, inl, inr, ℕ, true, List, [], ◌∷◌, ◌++◌, Option, None, Ok, Err, refl, ap, sym, ◌∙◌, subst, fold}
+use Rattle.std.proofs.Common.{◌≡◌, inl, inr, ℕ, true, List, [], ◌∷◌, ◌++◌, Option, None, Ok, Err, refl, ap, sym, ◌∙◌, subst}
 use Rattle.std.proofs.KnownBytes.{Keeps-refl}
 use Rattle.std.proofs.lemmas.List.Sums.{fold-append}
-use Rattle.std.specs.Io.BufRead.{strip_last}
-use Rattle.std.specs.Io.KnownBytes.{Appends, Keeps}
 use Rattle.hash_lines.specs.declared.line.Kind.{Kind}
-use Rattle.hash_program.specs.Streams.{AppendsPart}
 use Rattle.hashsum.specs.declared.check.Came.{Came}
 use Rattle.hashsum.specs.declared.check.Checking.{Checking}
 use Rattle.hashsum.specs.declared.check.Counts.{Counts}
 use Rattle.hashsum.specs.declared.fault.Fault.{Fault}
-use Rattle.hashsum.specs.Checking.{counted, IsCame}
+use Rattle.hashsum.specs.Checking.{counted}
 use Rattle.hashsum.specs.Lists.{counts_of, said_of, uncounted, AreLines, EndsLine, EndsList, IsCameOf, IsNext}
 use Rattle.hashsum.specs.Lists.AreLines.{behind, none}
 use Rattle.hashsum.specs.Told.{AreTold}

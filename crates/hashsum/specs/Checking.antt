@@ -1,5 +1,5 @@
 -- What comes of the lines that are checked.
-use Rattle.std.specs.Prelude.{ℕ, ◌≡◌, ◌≢◌, ◌+◌, ◌-◌, ◌^◌, ◌==◌, ◌&&◌, if◌then◌else◌, min, nat_lt, not, Bool, true, false, List, [], ◌∷◌, ◌++◌, Option, Result, Ok, Err, codes, fold, map}
+use Rattle.std.specs.Prelude.{ℕ, ◌≡◌, ◌+◌, ◌-◌, ◌^◌, ◌==◌, ◌&&◌, if◌then◌else◌, min, nat_lt, not, Bool, true, false, List, [], ◌∷◌, ◌++◌, Option, codes}
 use Rattle.hash_lines.specs.Escape.{needs_escape}
 use Rattle.hash_lines.specs.Line.{mark, name_shown}
 use Rattle.hash_lines.specs.Told.{Tells}

@@ -1,5 +1,5 @@
 -- The numbers of files.
-use Rattle.std.specs.Prelude.{ℕ, ◌≡◌, ◌≢◌, ◌-◌, ◌^◌, List, Option, Some, None}
+use Rattle.std.specs.Prelude.{ℕ, ◌≡◌, ◌-◌, ◌^◌, List, Option, Some, None}
 use Rattle.hash_names.specs.Reading.{ReadsAll}
 
 -- all that a file holds was read, and is this text, where it is known what it holds

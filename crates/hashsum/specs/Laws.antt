@@ -1,5 +1,5 @@
 -- What a check is proved to see.
-use Rattle.std.specs.Prelude.{ℕ, ◌≢◌, List, Option, Some, IfSome}
+use Rattle.std.specs.Prelude.{ℕ, ◌≢◌, List, Some, IfSome}
 use Rattle.hashsum.specs.declared.check.Verdict.{Verdict}
 use Rattle.hashsum.specs.declared.check.Verdict.TheVariants.{Same}
 use Rattle.hashsum.specs.Checking.{IsVerdict}

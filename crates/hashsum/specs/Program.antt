@@ -1,5 +1,5 @@
 -- What the program is asked for, and how it ends.
-use Rattle.std.specs.Prelude.{ℕ, ◌≡◌, ◌⊎◌, ◌||◌, if◌then◌else◌, Bool, true, false, List, [], ◌∷◌, Option, Some, None, Result, Ok, Err, codes}
+use Rattle.std.specs.Prelude.{ℕ, ◌≡◌, ◌||◌, if◌then◌else◌, Bool, true, false, List, [], ◌∷◌, Option, Some, None, Result, Ok, Err, codes}
 use Rattle.std.specs.Io.KnownBytes.{Keeps}
 use Rattle.std.specs.IoError.{error_kind}
 use Rattle.std.specs.List.{find}
@@ -8,7 +8,7 @@ use Rattle.std.specs.declared.io.Error.{Error}
 use Rattle.hash_lines.specs.declared.line.Form.TheVariants.{Tagged, Untagged}
 use Rattle.hash_lines.specs.declared.line.Kind.{Kind}
 use Rattle.hash_program.specs.About.{write_status}
-use Rattle.hash_program.specs.Call.{given, operands, unknown}
+use Rattle.hash_program.specs.Call.{given, unknown}
 use Rattle.hash_program.specs.Streams.{PutsOut}
 use Rattle.hashsum.specs.declared.check.Checking.{Checking}
 use Rattle.hashsum.specs.declared.fault.Fault.{Fault}

@@ -33,6 +33,11 @@ impl Display for Fault {
 impl StdError for Fault {}
 
 impl From<AllocError> for Fault {
+    ghost use Rattle.std.specs.Prelude.{◌≡◌};
+    ghost use Rattle.hashsum.specs.declared.fault.Fault.TheVariants.{NoMemory};
+
+    ghost from_gives = { λ error fault. fault ≡ NoMemory };
+
     fn from(_error: AllocError) -> Fault {
         Fault::NoMemory
     }

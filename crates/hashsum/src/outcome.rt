@@ -254,20 +254,20 @@ fn ended<R: Read + Drop, F: Folder<R>, W: Write + Drop>(
     folder: &F,
     kinds: &[Kind<'static>],
     files: &[&[u8]],
-    about: Texts<'_>,
+    said: Texts<'_>,
     task: Result<Task, Wrong>,
     w: &mut BufWriter<W>,
 ) -> Outcome
     ensures { EndsTask kinds.now (F.holds folder.now) (map (λ file. file.now) files.now)
-        about.entry.about.help.now about.entry.about.version.now about.entry.list.now
+        said.entry.about.help.now said.entry.about.version.now said.entry.list.now
         (writer_contents W.contents w.old) (writer_contents W.contents w.new) task result }
 {
     match task {
         Ok(Task::Sum(summing)) => of_run(sum_files(alloc, folder, summing, files, w)),
         Ok(Task::Check(checking)) => of_run(check_lists(alloc, folder, kinds, checking, files, w)),
-        Ok(Task::List) => of_telling(tell(about.list, w, TRIES)),
-        Ok(Task::Help) => of_telling(tell(about.about.help, w, TRIES)),
-        Ok(Task::Version) => of_telling(tell(about.about.version, w, TRIES)),
+        Ok(Task::List) => of_telling(tell(said.list, w, TRIES)),
+        Ok(Task::Help) => of_telling(tell(said.about.help, w, TRIES)),
+        Ok(Task::Version) => of_telling(tell(said.about.version, w, TRIES)),
         Err(wrong) => Outcome::Usage(wrong),
     }
 }
@@ -279,17 +279,17 @@ pub fn outcome_of<R: Read + Drop, F: Folder<R>, W: Write + Drop>(
     folder: &F,
     kinds: &[Kind<'static>],
     call: Call<'_>,
-    about: Texts<'_>,
+    said: Texts<'_>,
     w: &mut BufWriter<W>,
 ) -> Outcome
     ensures { EndsTask kinds.now (F.holds folder.now) (files_or (operands (texts call.entry.words.now)))
-        about.entry.about.help.now about.entry.about.version.now about.entry.list.now
+        said.entry.about.help.now said.entry.about.version.now said.entry.list.now
         (writer_contents W.contents w.old) (writer_contents W.contents w.new)
         (task_of kinds.now (texts call.entry.words.now) (option_map (λ name. name.now) call.entry.name) call.entry.lacks_name) result
         ⊎ ((result ≡ Outcome.NoMemory) × Keeps (writer_contents W.contents w.old) (writer_contents W.contents w.new)) }
 {
     match files(alloc, call.words) {
-        Ok(files) => ended(alloc, folder, kinds, &files, about, task_of(kinds, call), w),
+        Ok(files) => ended(alloc, folder, kinds, &files, said, task_of(kinds, call), w),
         Err(_) => Outcome::NoMemory,
     }
 }

@@ -1,6 +1,5 @@
 use Rattle.std.proofs.Common.{OnErr, subst, ◌∙◌}
 use Rattle.std.specs.Io.Buffered.{writer_contents}
-use Rattle.std.proofs.KnownBytes.{Appends-nil}
 use Rattle.hash_program.specs.Streams.{AppendsPart}
 use Rattle.hashsum.proofs.ToldLemmas.{part_none}
 use Rattle.hashsum.proofs.sum.tell_sum.Goals as goal

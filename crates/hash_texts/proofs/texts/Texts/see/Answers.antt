@@ -1,7 +1,7 @@
-use Rattle.std.proofs.Common.{◌≡◌, ◌++◌, ◌∷◌, [], not, arith, sym, ap, ◌∙◌, subst, length}
+use Rattle.std.proofs.Common.{rules, Err, ◌≡◌, ◌-◌, ◌^◌, ◌≤◌, ◌++◌, ◌∷◌, [], not, arith, sym, ap, ◌∙◌, subst, length}
 use Rattle.hash_texts.specs.Slots.{free_count, home_of}
 use Rattle.hash_texts.specs.Texts.{StandsAt, has}
-use Rattle.hash_texts.proofs.SlotLemmas.{none_stops, searched, seen_at, seen_found, seen_not, set_made, slot_made, stands_behind, table_kept, table_more, with_new, with_old}
+use Rattle.hash_texts.proofs.SlotLemmas.{none_stops, is_full, searched, seen_at, seen_found, seen_not, set_made, slot_made, stands_behind, table_kept, table_more, with_new, with_old}
 use Rattle.hash_texts.proofs.texts.Texts.see.Goals as goal
 
 pub unreachable-requires : goal.unreachable-requires
@@ -59,3 +59,9 @@ returns-clause-place g c =
     subst (λ texts. StandsAt texts c.args.text.now c.len-place.result) (sym c.in_ok-push.ensures.ok)
     (subst (StandsAt (c.self.inside.texts ++ c.args.text.now ∷ []) c.args.text.now) (sym c.len-place.ensures.value)
     (stands_behind c.self.inside.texts c.args.text.now))
+
+pub returns-in_err-slot-clause-full : goal.returns-in_err-slot-clause-full
+returns-in_err-slot-clause-full g c =
+    let is : c.from_residual-in_err-slot.result ≡ Err c.in_err-slot.field-0.0 = search rules in
+    let many : 2 ^ 32 - 1 ≤ length c.args.self.now = search rules in
+    rw is (is_full c.args.self.now c.in_err-slot.field-0.0 many)
