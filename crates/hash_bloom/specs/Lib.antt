@@ -1,3 +1,4 @@
 pub mod Commands
 pub mod Estimate
+pub mod File
 pub mod Filter

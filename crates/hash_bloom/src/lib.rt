@@ -13,6 +13,7 @@ ghost use Rattle.hash_bloom.specs.Filter.{Filter, IsFilter, Passes, PassesNone, 
 mod bits;
 pub mod commands;
 mod estimate;
+pub mod file;
 #[cfg(test)]
 mod tests;
 pub mod words;

@@ -1,8 +1,10 @@
 //! A list of words that is kept as a filter.
-ghost use Rattle.std.specs.Prelude.{IfSome, All};
+ghost use Rattle.std.specs.Prelude.{◌≡◌, IfOk, IfErr, IfSome, All};
+ghost use Rattle.hash_bloom.specs.File.{IsRefusal};
 ghost use Rattle.hash_bloom.specs.Filter.{Passes};
 
 use hash_bloom::Bloom;
+use hash_bloom::file::Unread;
 use hashers::laws::Piecewise;
 use std::alloc::Global;
 
@@ -21,4 +23,19 @@ pub fn words_read_back<F: Piecewise, G: Piecewise>(
     }
     let (bits, probes) = (filter.bits(), filter.probes());
     Bloom::from_words(filter.into_words(), bits, probes).ok()
+}
+
+/// A filter, written to a file and read back: it is the same. Only want of memory can be in the way.
+pub fn file_read_back<F: Piecewise, G: Piecewise>(
+    alloc: Global,
+    filter: &Bloom<F, G>,
+    pair: &str,
+) -> Result<Bloom<F, G>, Unread>
+    ensures same { IfOk result (λ back. back ≡ filter.now) }
+    ensures never_refused { IfErr result (λ why. IsRefusal why → ⊥) }
+{
+    let mut file = Vec::new(alloc);
+    filter.write_to(&mut file, pair)?;
+    let back = Bloom::read_from(alloc, &mut file.as_slice(), pair)?;
+    Ok(back)
 }

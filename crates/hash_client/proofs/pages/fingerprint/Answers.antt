@@ -1,6 +1,6 @@
 use Rattle.std.proofs.Common.{[], ◌∙◌, ap}
 use Rattle.hashers.specs.Spooky.{Position, after}
-use Rattle.hashers.specs.SpookyLaws.{IsPosition-fresh, after-position}
+use Rattle.hashers.specs.SpookyLaws.{after-position}
 use Rattle.hash_client.proofs.pages.fingerprint.Goals as goal
 
 pub returns-in-Ok : goal.returns-in-Ok

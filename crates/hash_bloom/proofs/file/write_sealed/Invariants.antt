@@ -1,0 +1,7 @@
+use Rattle.std.proofs.Common.{◌++◌, take}
+use Rattle.std.specs.Io.KnownBytes.{Appends}
+use Rattle.hash_bloom.specs.File.{bytes_of}
+use Rattle.hash_bloom.proofs.file.write_sealed.Given as goal
+
+abbrev pub invariant-loop-word : goal.invariant-loop-word
+invariant-loop-word g l = Appends (g.W.Write.contents l.fn.w) (g.W.Write.contents l.w) (l.fn.line ++ bytes_of (take l.word-index l.fn.words))

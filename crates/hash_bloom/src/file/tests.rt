@@ -1,0 +1,175 @@
+//! Files of filters: by hand, read back, changed, cut, and where memory or a reader fails.
+ghost use Rattle.std.specs.Prelude.{◌≤◌};
+
+use crate::Bloom;
+use crate::file::Unread;
+use hashers::null::NullHasher;
+use hashers::oz::LoseLoseHasher;
+use std::alloc::Global;
+use std::io;
+use std::io::{Error, ErrorKind, Read};
+use std::process::Abort;
+
+/// The probes of the key of one byte b are 0, b, 2b, ..: `null` answers 0, and `loselose` the sum of the bytes.
+type ByStep = Bloom<NullHasher, LoseLoseHasher>;
+
+const PAIR: &str = "null loselose";
+
+/// The file of the filter of 100 bits and 4 probes that has the key of the byte 33. The hash is one that another language computed.
+const FILE: [u8; 80] = *b"hashers-bloom 1 0000000000000064 00000004 null loselose\n\
+    \x01\0\0\0\x02\0\0\0\x04\0\0\0\x08\0\0\0\x7c\x9e\xc1\x2a\x41\x98\x79\xaf";
+
+/// How a read ends.
+fn ended<R: Read>(alloc: Global, r: &mut R, pair: &str) -> &'static str {
+    match ByStep::read_from(alloc, r, pair) {
+        Ok(_) => "read",
+        Err(Unread::Form) => "form",
+        Err(Unread::Pair) => "pair",
+        Err(Unread::Hash) => "hash",
+        Err(Unread::Failed(error)) => match error.kind() {
+            ErrorKind::UnexpectedEof => "cut",
+            ErrorKind::OutOfMemory => "memory",
+            _ => "fault",
+        },
+    }
+}
+
+#[test]
+fn by_hand(rt: HostRuntime) {
+    let alloc = rt.alloc();
+    let mut filter = ByStep::new(alloc, 100, 4).expect(&rt, "memory for the filter");
+    filter.insert(&[33]);
+    let mut file = Vec::new(alloc);
+    filter
+        .write_to(&mut file, PAIR)
+        .expect(&rt, "memory for the file");
+    assert_eq!(rt; file.as_slice(), FILE.as_slice());
+    file.push(b'!').expect(&rt, "memory for a byte");
+    let mut left = file.as_slice();
+    let back = ByStep::read_from(alloc, &mut left, PAIR).expect(&rt, "the filter");
+    assert!(rt; back.fits(&filter) && back.words() == filter.words());
+    assert_eq!(rt; left, b"!".as_slice());
+}
+
+/// Filters of 1 to 200 bits, and a pair whose name has lines and any letters, are read back.
+#[test]
+fn read_back(rt: HostRuntime) {
+    let alloc = rt.alloc();
+    for bits in 1..=200 {
+        let mut filter = ByStep::new(alloc, bits, 3).expect(&rt, "memory for the filter");
+        filter.insert(&[bits as u8, 7]);
+        for pair in ["", "a\nb", "fnv1a64 lookup3", "\u{e9} \0"] {
+            let mut file = Vec::new(alloc);
+            filter
+                .write_to(&mut file, pair)
+                .expect(&rt, "memory for the file");
+            let back = ByStep::read_from(alloc, &mut file.as_slice(), pair).expect(
+                &rt,
+                "the filter",
+            );
+            assert!(rt; back.fits(&filter) && back.words() == filter.words());
+        }
+    }
+}
+
+/// A file that is cut anywhere, or has any one byte changed in any one bit, is not read.
+#[test]
+fn cut_and_changed(rt: HostRuntime) {
+    let alloc = rt.alloc();
+    for n in 0..FILE.len() {
+        assert_eq!(rt; ended(alloc, &mut &FILE[..n], PAIR), "cut");
+    }
+    for at in 0..FILE.len() {
+        for bit in [1u8, 2, 4, 8, 16, 32, 64, 128] {
+            let mut changed = FILE;
+            changed[at] ^= bit;
+            let end = ended(alloc, &mut changed.as_slice(), PAIR);
+            let wanted = match at {
+                0..=15 | 32 | 41 => end == "form",
+                42..=55 => end == "pair",
+                16..=40 => end == "form" || end == "hash" || end == "cut",
+                _ => end == "hash",
+            };
+            assert!(rt; wanted, "byte {at}, bit {bit}: {end}");
+        }
+    }
+}
+
+#[test]
+fn refused_with_a_reason(rt: HostRuntime) {
+    let alloc = rt.alloc();
+    assert_eq!(rt; ended(alloc, &mut FILE.as_slice(), "null loselos"), "pair");
+    assert_eq!(rt;
+        ended(alloc, &mut FILE.as_slice(), "null loselose "),
+        "pair"
+    );
+    assert_eq!(rt; ended(alloc, &mut FILE.as_slice(), "loselose null"), "pair");
+    let digits = b"hashers-bloom 1 000000000000006A 00000004 null loselose\n";
+    assert_eq!(rt; ended(alloc, &mut digits.as_slice(), PAIR), "form");
+    let version = b"hashers-bloom 2 0000000000000064 00000004 null loselose\n";
+    assert_eq!(rt; ended(alloc, &mut version.as_slice(), PAIR), "form");
+    let lies = b"hashers-bloom 1 ffffffffffffffff 00000004 null loselose\n12345678";
+    assert_eq!(rt; ended(alloc, &mut lies.as_slice(), PAIR), "cut");
+    // These have the right hash, and are files of no filter: no bit, no probe, a bit beyond.
+    let none = b"hashers-bloom 1 0000000000000000 00000004 p\n\x5c\x07\x9b\x77\x9f\x08\xcb\x45";
+    assert_eq!(rt; ended(alloc, &mut none.as_slice(), "p"), "form");
+    let idle =
+        b"hashers-bloom 1 0000000000000001 00000000 p\n\x01\0\0\0\0\0\0\0\x02\x62\x09\x3f\xf8\x4a\xc4\x11";
+    assert_eq!(rt; ended(alloc, &mut idle.as_slice(), "p"), "form");
+    let beyond =
+        b"hashers-bloom 1 0000000000000001 00000001 p\n\x02\0\0\0\0\0\0\0\xac\x03\xce\x56\xb5\xec\x33\x2a";
+    assert_eq!(rt; ended(alloc, &mut beyond.as_slice(), "p"), "form");
+}
+
+/// A reader that gives a byte at a time, is interrupted at each, and fails after so many.
+#[derive(Drop)]
+struct Slow<'a> {
+    left: &'a [u8],
+    interrupted: bool,
+}
+
+impl Read for Slow<'_> {
+    fn read(&mut self, buf: &mut [u8]) -> io::Result<usize> {
+        self.interrupted = !self.interrupted;
+        if self.interrupted {
+            return Err(Error::from(ErrorKind::Interrupted));
+        }
+        if self.left.is_empty() {
+            return Err(Error::from(ErrorKind::BrokenPipe));
+        }
+        if buf.is_empty() {
+            return Ok(0);
+        }
+        buf[0] = self.left[0];
+        self.left = &self.left[1..];
+        Ok(1)
+    }
+}
+
+#[test]
+fn slow_and_failing_readers(rt: HostRuntime) {
+    let alloc = rt.alloc();
+    for n in 0..=FILE.len() {
+        let mut slow = Slow {
+            left: &FILE[..n],
+            interrupted: false,
+        };
+        let wanted = if n < FILE.len() { "fault" } else { "read" };
+        assert_eq!(rt; ended(alloc, &mut slow, PAIR), wanted);
+    }
+}
+
+/// Where a request for memory is refused, the write or the read says so.
+#[test]
+fn refused_for_a_file(rt: HostRuntime) {
+    let alloc = rt.alloc();
+    let end = ended(alloc, &mut FILE.as_slice(), PAIR);
+    assert!(rt; end == "read" || end == "memory");
+    if let Ok(filter) = ByStep::read_from(alloc, &mut FILE.as_slice(), PAIR) {
+        let mut file = Vec::new(alloc);
+        match filter.write_to(&mut file, PAIR) {
+            Ok(()) => assert_eq!(rt; file.as_slice(), FILE.as_slice()),
+            Err(error) => assert!(rt; error.kind() == ErrorKind::OutOfMemory),
+        }
+    }
+}
