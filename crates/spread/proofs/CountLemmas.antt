@@ -1,0 +1,136 @@
+-- How hashes fall into buckets.
+use Rattle.std.proofs.Common.{◌≡◌, ◌<◌, ◌≤◌, ◌+◌, ◌-◌, ◌*◌, ◌%◌, ◌^◌, ℕ, zero, suc, Bool, true, false, cond, eqb, List, [], ◌∷◌, length, take, get_or, All, Contains, refl, ap, sym, ◌∙◌, arith}
+use Rattle.std.specs.List.{range_with_len, sum, sum_by}
+use Rattle.std.proofs.Math.ListN.{set}
+use Rattle.std.proofs.Math.Nat.{mul-le-mul_left}
+use Rattle.std.proofs.lemmas.Bool.{eqb-true, eqb-false, ne_eqb}
+use Rattle.std.proofs.lemmas.List.{get_or-set_same, get_or-set_other}
+use Rattle.std.proofs.lemmas.List.FromFn.{get_or-map-range_with_len, length-map-range_with_len}
+use Rattle.std.proofs.lemmas.List.Sums.{sum_by-cons, sum_by_more_le, sum-map, count_by_more_yes, count_by_more_no}
+use Rattle.spread.specs.Counts.{IsFullest, in_bucket, bucket_counts}
+
+-- a sum of sums
+pub sum_by-add : {X : Type 0} (f g : X → ℕ) (xs : List X) → sum_by (λ x. f x + g x) xs ≡ sum_by f xs + sum_by g xs
+sum_by-add f g [] = refl
+sum_by-add f g (x ∷ xs) =
+    let here = sum_by-cons (λ y. f y + g y) x xs in
+    let left = sum_by-cons f x xs in
+    let right = sum_by-cons g x xs in
+    let rest = sum_by-add f g xs in
+    omega (arith, here, left, right, rest)
+
+-- equal terms have equal sums
+pub sum_by-same : {X : Type 0} (f g : X → ℕ) → ((x : X) → f x ≡ g x) → (xs : List X) → sum_by f xs ≡ sum_by g xs
+sum_by-same f g same [] = refl
+sum_by-same f g same (x ∷ xs) =
+    let here = sum_by-cons f x xs in
+    let there = sum_by-cons g x xs in
+    let rest = sum_by-same f g same xs in
+    omega (arith, here, there, rest, same x)
+
+sum_by-zero : {X : Type 0} (xs : List X) → sum_by (λ x. 0) xs ≡ 0
+sum_by-zero [] = refl
+sum_by-zero (x ∷ xs) =
+    let here = sum_by-cons (λ y. 0) x xs in
+    let rest = sum_by-zero xs in
+    omega (arith, here, rest)
+
+-- a number stands in no range that begins behind it, and once in one that has it
+none_of_range : (r a n : ℕ) → r < a → sum_by (λ b. cond (eqb r b) 1 0) (range_with_len a n) ≡ 0
+none_of_range r a zero below = refl
+none_of_range r a (suc n) below =
+    let here = sum_by-cons (λ b. cond (eqb r b) 1 0) a (range_with_len (a + 1) n) in
+    let other = ap {B = ℕ} (λ t. cond t 1 0) (ne_eqb r a (λ is. omega (arith, is))) in
+    let rest = none_of_range r (a + 1) n (omega arith) in
+    omega (arith, here, other, rest)
+
+one_of_range : (r a n : ℕ) → a ≤ r → r < a + n → sum_by (λ b. cond (eqb r b) 1 0) (range_with_len a n) ≡ 1
+one_of_range r a zero from below = absurd (omega arith)
+one_of_range r a (suc n) from below =
+    at (eqb r a) refl (λ other. one_of_range r (a + 1) n (omega (arith, other)) (omega arith))
+  where
+    at : (t : Bool) → eqb r a ≡ t → ((r ≡ a → ⊥) → sum_by (λ b. cond (eqb r b) 1 0) (range_with_len (a + 1) n) ≡ 1)
+        → sum_by (λ b. cond (eqb r b) 1 0) (range_with_len a (suc n)) ≡ 1
+    at true is later =
+        let same = eqb-true r a is in
+        let here = sum_by-cons (λ b. cond (eqb r b) 1 0) a (range_with_len (a + 1) n) in
+        let counted = ap {B = ℕ} (λ t. cond t 1 0) is in
+        let rest = none_of_range r (a + 1) n (omega arith) in
+        omega (arith, here, counted, rest)
+    at false is later =
+        let here = sum_by-cons (λ b. cond (eqb r b) 1 0) a (range_with_len (a + 1) n) in
+        let counted = ap {B = ℕ} (λ t. cond t 1 0) is in
+        let rest = later (eqb-false r a is) in
+        omega (arith, here, counted, rest)
+
+-- all buckets together have each hash once
+all_hashes : (m : ℕ) → 0 < m → (hashes : List ℕ) → sum_by (λ b. in_bucket m b hashes) (range_with_len 0 m) ≡ length hashes
+all_hashes m some [] = sum_by-zero (range_with_len 0 m)
+all_hashes m some (hash ∷ hashes) =
+    let one = one_of_range (hash % m) 0 m (omega arith) (omega arith) in
+    let rest = all_hashes m some hashes in
+    let split = sum_by-same (λ b. in_bucket m b (hash ∷ hashes)) (λ b. cond (eqb (hash % m) b) 1 0 + in_bucket m b hashes)
+    (λ b. sum_by-cons (λ x. cond (eqb (x % m) b) 1 0) hash hashes) (range_with_len 0 m) in
+    let added = sum_by-add (λ b. cond (eqb (hash % m) b) 1 0) (λ b. in_bucket m b hashes) (range_with_len 0 m) in
+    omega (arith, one, rest, split, added)
+
+pub sum-bucket_counts : (m : ℕ) (hashes : List ℕ) → 0 < m → sum (bucket_counts m hashes) ≡ length hashes
+sum-bucket_counts m hashes some = sum-map (λ b. in_bucket m b hashes) (range_with_len 0 m) ∙ all_hashes m some hashes
+
+-- a hash more is counted in its bucket, and in no other
+pub bucket_more : (m : ℕ) (hashes counts : List ℕ) (i : ℕ) → i < length hashes → length counts ≡ m
+    → ((b : ℕ) → b < m → get_or counts b 0 ≡ in_bucket m b (take i hashes))
+    → (b : ℕ) → b < m → get_or (set counts (get_or hashes i 0 % m) (get_or counts (get_or hashes i 0 % m) 0 + 1)) b 0
+    ≡ in_bucket m b (take (i + 1) hashes)
+bucket_more m hashes counts i below len each b b_in = at (eqb r b) refl
+  where
+    r : ℕ
+    r = get_or hashes i 0 % m
+
+    at : (t : Bool) → eqb r b ≡ t → get_or (set counts r (get_or counts r 0 + 1)) b 0 ≡ in_bucket m b (take (i + 1) hashes)
+    at true is =
+        let same = eqb-true r b is in
+        let there = ap (λ k. get_or (set counts r (get_or counts r 0 + 1)) k 0) (sym same) in
+        let put = get_or-set_same counts r (get_or counts r 0 + 1) 0 (omega arith) in
+        let was = ap (λ k. get_or counts k 0) same ∙ each b b_in in
+        let more = count_by_more_yes (λ hash. eqb (hash % m) b) hashes i 0 below is in
+        omega (arith, there, put, was, more)
+    at false is =
+        let kept = get_or-set_other counts r b (get_or counts r 0 + 1) 0 (λ same. eqb-false r b is (sym same)) in
+        let more = count_by_more_no (λ hash. eqb (hash % m) b) hashes i 0 below is in
+        kept ∙ each b b_in ∙ sym more
+
+-- the greatest of the buckets' counts
+pub fullest_of : (m : ℕ) (hashes counts : List ℕ) (most : ℕ) → 0 < m → counts ≡ bucket_counts m hashes → All (λ count. count ≤ most) counts
+    → (0 < length counts → Contains counts most) → IsFullest m hashes most
+fullest_of m hashes counts most some is all reached =
+    let f : ℕ → ℕ = λ b. in_bucket m b hashes in
+    let len : length counts ≡ m = ap length is ∙ length-map-range_with_len f 0 m in
+    let at : (b d : ℕ) → b < m → get_or counts b d ≡ f b =
+    λ b d b_in. ap (λ l. get_or l b d) is ∙ get_or-map-range_with_len f 0 m b b d b_in (omega arith) in
+    let (k, k_in, found) = reached (omega arith) in
+    record {
+      most = λ b b_in. let low = all b 0 (omega arith) in let here = at b 0 b_in in omega (arith, low, here);
+      reached = (k, omega arith, sym (at k most (omega arith)) ∙ found);
+    }
+
+-- squares add up to no more than the square of the sum
+squares-le : (xs : List ℕ) → sum_by (λ x. x * x) xs ≤ sum xs * sum xs
+squares-le [] = omega arith
+squares-le (x ∷ xs) =
+    let here = sum_by-cons (λ y. y * y) x xs in
+    let whole = sum_by-cons (λ y. y) x xs in
+    let rest = squares-le xs in
+    let wide = ap (λ s. s * s) whole in
+    omega (arith, here, rest, wide)
+
+-- the squares so far and the next fit into 128 bits
+pub squares_fit : (xs : List ℕ) (i : ℕ) → i < length xs → sum xs < 2 ^ 64
+    → sum_by (λ x. x * x) (take i xs) + get_or xs i 0 * get_or xs i 0 < 2 ^ 128
+squares_fit xs i below small =
+    let part = sum_by_more_le (λ x. x * x) xs i 0 below in
+    let all = squares-le xs in
+    let low : sum xs ≤ 2 ^ 64 - 1 = omega arith in
+    let first = mul-le-mul_left (sum xs) low in
+    let second = mul-le-mul_left (2 ^ 64 - 1) low in
+    omega (arith, part, all, first, second)

@@ -1,0 +1,185 @@
+-- The keys of a text that is read line by line.
+use Rattle.std.proofs.Common.{◌≡◌, ◌≢◌, ◌<◌, ◌+◌, ◌-◌, ℕ, Bool, true, false, cond, eqb, List, [], ◌∷◌, ◌++◌, Option, Some, None, IfSome, All, length, take, drop, get_or, fold, refl, ap, sym, ◌∙◌, arith, append_assoc}
+use Rattle.std.specs.Io.{StopsAt, appended_bytes}
+use Rattle.std.specs.Io.BufRead.{ends_with_byte, strip_last, take_through}
+use Rattle.std.specs.Io.KnownBytes.{Consumes}
+use Rattle.std.specs.List.{onto_first}
+use Rattle.std.proofs.KnownBytes.{Consumes-trans}
+use Rattle.std.proofs.lemmas.Bool.{eq-eqb, ne_eqb, eqb-true, ltb-true, lt-ltb, and_from, and_parts, false≢true}
+use Rattle.std.proofs.lemmas.List.{take_all, take_more}
+use Rattle.std.proofs.lemmas.List.Elements.{All-head, All-tail, All-push, All-same}
+use Rattle.std.proofs.lemmas.List.Sums.{fold-append}
+use Rattle.hash_texts.specs.Texts.{with_text}
+use Rattle.spread.specs.Keys.{keys_in, with_keys, TakesKeys, ReadsKeys, ReadsKey, IsWhole}
+
+module _ (eol : ℕ) where
+  -- text with no end in it is one key
+  keys_in_bare : (text : List ℕ) → All (λ x. x ≢ eol) text → 0 < length text → keys_in eol text ≡ text ∷ []
+  keys_in_bare [] bare some = absurd (omega arith)
+  keys_in_bare (x ∷ []) bare some = ap (λ b. cond b ([] ∷ []) ((x ∷ []) ∷ [])) (ne_eqb x eol (All-head (λ y. y ≢ eol) x [] bare))
+  keys_in_bare (x ∷ y ∷ more) bare some =
+      ap (λ b. cond b ([] ∷ keys_in eol (y ∷ more)) (onto_first x (keys_in eol (y ∷ more))))
+      (ne_eqb x eol (All-head (λ z. z ≢ eol) x (y ∷ more) bare))
+      ∙ ap (onto_first x) (keys_in_bare (y ∷ more) (All-tail (λ z. z ≢ eol) x (y ∷ more) bare) (omega arith))
+
+  -- and with its end one key before those of the rest
+  keys_in_ended : (text later : List ℕ) → All (λ x. x ≢ eol) text → keys_in eol (text ++ eol ∷ later) ≡ text ∷ keys_in eol later
+  keys_in_ended [] later bare =
+      ap (λ b. cond b ([] ∷ keys_in eol later) (onto_first eol (keys_in eol later))) (eq-eqb eol eol refl)
+  keys_in_ended (x ∷ text) later bare =
+      ap (λ b. cond b ([] ∷ keys_in eol (text ++ eol ∷ later)) (onto_first x (keys_in eol (text ++ eol ∷ later))))
+      (ne_eqb x eol (All-head (λ z. z ≢ eol) x text bare))
+      ∙ ap (onto_first x) (keys_in_ended text later (All-tail (λ z. z ≢ eol) x text bare))
+
+  -- a line is what stands before its last byte, and that
+  line_parts : (line : List ℕ) → 0 < length line → line ≡ take (length line - 1) line ++ get_or line (length line - 1) 0 ∷ []
+  line_parts line some =
+      sym (take_all (length line - 1 + 1) line (omega arith)) ∙ take_more line (length line - 1) 0 (omega arith)
+
+  ended_parts : (line : List ℕ) → ends_with_byte eol line ≡ true → line ≡ take (length line - 1) line ++ eol ∷ []
+  ended_parts line ended =
+      let parts = and_parts _ _ ended in
+      line_parts line (ltb-true 0 (length line) parts.0)
+      ∙ ap (λ x. take (length line - 1) line ++ x ∷ []) (eqb-true (get_or line (length line - 1) 0) eol parts.1)
+
+  -- a line with no end at its last byte has none
+  bare_line : (line : List ℕ) → StopsAt line eol → ends_with_byte eol line ≡ false → 0 < length line → All (λ x. x ≢ eol) line
+  bare_line line stops bare_end some =
+      All-same (λ x. x ≢ eol) line _ (line_parts line some)
+      (All-push (λ x. x ≢ eol) (take (length line - 1) line) (get_or line (length line - 1) 0) stops
+      (λ same. false≢true (sym bare_end ∙ ends same)))
+    where
+      ends : get_or line (length line - 1) 0 ≡ eol → ends_with_byte eol line ≡ true
+      ends same =
+          and_from _ _ (lt-ltb 0 (length line) some) (eq-eqb (get_or line (length line - 1) 0) eol same)
+
+  -- the key of a line with its end, and of one without
+  key_of_ended : (line : List ℕ) → StopsAt line eol → ends_with_byte eol line ≡ true → keys_in eol line ≡ strip_last eol line ∷ []
+  key_of_ended line stops ended =
+      ap (keys_in eol) (ended_parts line ended) ∙ keys_in_ended (take (length line - 1) line) [] stops
+      ∙ ap (λ b. cond b (take (length line - 1) line) line ∷ []) (sym ended)
+
+  key_of_bare : (line : List ℕ) → StopsAt line eol → ends_with_byte eol line ≡ false → 0 < length line
+      → keys_in eol line ≡ strip_last eol line ∷ []
+  key_of_bare line stops bare_end some =
+      keys_in_bare line (bare_line line stops bare_end some) some
+      ∙ ap (λ b. cond b (take (length line - 1) line) line ∷ []) (sym bare_end)
+
+  -- a line with its end is whole
+  ended_is_whole : (line : List ℕ) → StopsAt line eol → ends_with_byte eol line ≡ true → IsWhole eol line
+  ended_is_whole line stops ended = λ later.
+      let front = take (length line - 1) line in
+      let parts = ended_parts line ended in
+      ap (λ l. keys_in eol (l ++ later)) parts ∙ ap (keys_in eol) (append_assoc front (eol ∷ []) later)
+      ∙ keys_in_ended front later stops
+      ∙ ap (λ ks. ks ++ keys_in eol later) (sym (keys_in_ended front [] stops) ∙ sym (ap (keys_in eol) parts))
+
+  -- what is taken through an end that is not there is all
+  through_bare : (bytes : List ℕ) → All (λ x. x ≢ eol) (take_through eol bytes) → take_through eol bytes ≡ bytes
+  through_bare [] bare = refl
+  through_bare (x ∷ bytes) bare = at (eqb x eol) refl (through_bare bytes)
+    where
+      at : (b : Bool) → eqb x eol ≡ b → (All (λ x. x ≢ eol) (take_through eol bytes) → take_through eol bytes ≡ bytes)
+          → take_through eol (x ∷ bytes) ≡ x ∷ bytes
+      at true is more =
+          let taken : take_through eol (x ∷ bytes) ≡ x ∷ [] = ap (λ b. cond b (x ∷ []) (x ∷ take_through eol bytes)) is in
+          absurd (All-head (λ y. y ≢ eol) x [] (All-same (λ y. y ≢ eol) (x ∷ []) _ (sym taken) bare) (eqb-true x eol is))
+      at false is more =
+          let taken : take_through eol (x ∷ bytes) ≡ x ∷ take_through eol bytes = ap (λ b. cond b (x ∷ []) (x ∷ take_through eol bytes)) is in
+          taken ∙ ap (λ l. x ∷ l)
+          (more (All-tail (λ y. y ≢ eol) x _ (All-same (λ y. y ≢ eol) (x ∷ take_through eol bytes) _ (sym taken) bare)))
+
+  -- a read that brought a line with no end brought all
+  pub all_read : (left : Option (List ℕ)) (line : List ℕ) → IfSome left (λ bytes. line ≡ take_through eol bytes) → StopsAt line eol
+      → ends_with_byte eol line ≡ false → IfSome left (λ bytes. bytes ≡ line)
+  all_read None line is stops bare_end = tt
+  all_read (Some bytes) [] is stops bare_end =
+      sym (through_bare bytes (All-same (λ x. x ≢ eol) (take_through eol bytes) [] (sym is) (λ k d below. absurd (omega arith)))) ∙ sym is
+  all_read (Some bytes) (x ∷ line) is stops bare_end =
+      sym (through_bare bytes (All-same (λ y. y ≢ eol) (take_through eol bytes) (x ∷ line) (sym is)
+      (bare_line (x ∷ line) stops bare_end (omega arith)))) ∙ sym is
+
+  -- the key of a line is taken
+  pub takes_ended : (keys keys' : List (List ℕ)) (left left' : Option (List ℕ)) (line : List ℕ) → Consumes left left' line → StopsAt line eol
+      → ends_with_byte eol line ≡ true → keys' ≡ with_text keys (strip_last eol line) → ReadsKey eol keys keys' left left' true
+  takes_ended keys keys' left left' line read stops ended is = (
+    line,
+    record { read = read; taken = is ∙ ap (fold with_text keys) (sym (key_of_ended line stops ended)) },
+    ended_is_whole line stops ended,
+  )
+
+  pub takes_bare : (keys keys' : List (List ℕ)) (left left' : Option (List ℕ)) (line : List ℕ) → Consumes left left' line → StopsAt line eol
+      → ends_with_byte eol line ≡ false → 0 < length line → IfSome left (λ bytes. line ≡ take_through eol bytes)
+      → keys' ≡ with_text keys (strip_last eol line) → ReadsKey eol keys keys' left left' false
+  takes_bare keys keys' left left' line read stops bare_end some through is = (
+    line,
+    record { read = read; taken = is ∙ ap (fold with_text keys) (sym (key_of_bare line stops bare_end some)) },
+    all_read left line through stops bare_end,
+  )
+
+  -- of keys with their ends, and then more
+  pub takes_more : (keys keys' keys'' : List (List ℕ)) (a b c : Option (List ℕ)) (text more : List ℕ) → TakesKeys eol keys keys' a b text
+      → IsWhole eol text → TakesKeys eol keys' keys'' b c more → TakesKeys eol keys keys'' a c (text ++ more)
+  takes_more keys keys' keys'' a b c text more first whole second = record {
+    read = Consumes-trans a b c text more first.read second.read;
+    taken =
+        second.taken ∙ ap (λ ks. with_keys eol ks more) first.taken
+        ∙ sym (fold-append with_text keys (keys_in eol text) (keys_in eol more)) ∙ ap (fold with_text keys) (sym (whole more));
+  }
+
+  pub whole_more : (text more : List ℕ) → IsWhole eol text → IsWhole eol more → IsWhole eol (text ++ more)
+  whole_more text more first second = λ later.
+      ap (keys_in eol) (append_assoc text more later) ∙ first (more ++ later) ∙ ap (λ ks. keys_in eol text ++ ks) (second later)
+      ∙ sym (append_assoc (keys_in eol text) (keys_in eol more) (keys_in eol later))
+      ∙ ap (λ ks. ks ++ keys_in eol later) (sym (first more))
+
+  -- all that is left behind what was read
+  pub all_behind : (a b c : Option (List ℕ)) (text more : List ℕ) → Consumes a b text → Consumes b c more → IfSome b (λ bytes. bytes ≡ more)
+      → IfSome a (λ bytes. bytes ≡ text ++ more)
+  all_behind None b c text more first second all = tt
+  all_behind (Some x) None c text more first second all = absurd first
+  all_behind (Some x) (Some y) c text more first second all = first ∙ ap (λ l. text ++ l) all
+
+  -- what comes of a line, whether or not it has its end
+  pub takes_line : (keys keys' : List (List ℕ)) (left left' : Option (List ℕ)) (before line : List ℕ) → before ≡ []
+      → Consumes left left' (appended_bytes before line) → StopsAt (appended_bytes before line) eol → 0 < length line
+      → IfSome left (λ bytes. line ≡ before ++ take_through eol bytes) → keys' ≡ with_text keys (strip_last eol line)
+      → (ended : Bool) → ended ≡ ends_with_byte eol line → ReadsKey eol keys keys' left left' ended
+  takes_line keys keys' left left' before line none read stops some through is ended told = at ended told
+    where
+      same : appended_bytes before line ≡ line
+      same = ap (λ b. drop (length b) line) none
+
+      read' : Consumes left left' line
+      read' = rw same at read
+
+      stops' : StopsAt line eol
+      stops' = rw same at stops
+
+      through' : IfSome left (λ bytes. line ≡ take_through eol bytes)
+      through' = rw none at through
+
+      at : (ended : Bool) → ended ≡ ends_with_byte eol line → ReadsKey eol keys keys' left left' ended
+      at true told = takes_ended keys keys' left left' line read' stops' (sym told) is
+      at false told = takes_bare keys keys' left left' line read' stops' (sym told) some through' is
+
+  -- whole lines and behind them one more, or the last
+  pub goes_on : (keys keys' keys'' : List (List ℕ)) (a b c : Option (List ℕ))
+      → (text : List ℕ) × TakesKeys eol keys keys' a b text × IsWhole eol text → (ended : Bool) → ended ≡ true
+      → ReadsKey eol keys' keys'' b c ended → (text : List ℕ) × TakesKeys eol keys keys'' a c text × IsWhole eol text
+  goes_on keys keys' keys'' a b c (text, first, whole) true is (more, second, ends) = (
+    text ++ more,
+    takes_more keys keys' keys'' a b c text more first whole second,
+    whole_more text more whole ends,
+  )
+  goes_on keys keys' keys'' a b c before false is second = absurd (false≢true is)
+
+  pub ends_all : (keys keys' keys'' : List (List ℕ)) (a b c : Option (List ℕ))
+      → (text : List ℕ) × TakesKeys eol keys keys' a b text × IsWhole eol text → (ended : Bool) → ended ≡ false
+      → ReadsKey eol keys' keys'' b c ended → ReadsKeys eol keys keys'' a c
+  ends_all keys keys' keys'' a b c before true is second = absurd (false≢true (sym is))
+  ends_all keys keys' keys'' a b c (text, first, whole) false is (more, second, all) = (
+    text ++ more,
+    takes_more keys keys' keys'' a b c text more first whole second,
+    all_behind a b c text more first.read second.read all,
+  )

@@ -1,0 +1,4 @@
+pub mod CollisionLemmas
+pub mod CountLemmas
+pub mod KeyLemmas
+pub mod NamedLemmas

@@ -1,0 +1,5 @@
+pub mod Call
+pub mod Counts
+pub mod Keys
+pub mod Named
+pub mod NamedLaws

@@ -1,0 +1,202 @@
+//! What the program is asked for, and how it ends.
+ghost use Rattle.std.specs.Prelude.{◌≡◌, ◌∷◌, [], ℕ, List, map, MatchOption};
+ghost use Rattle.hash_program.specs.Call.{texts, unknown};
+ghost use Rattle.spread.specs.Call.{failure_of, letters, names, status_of};
+
+use crate::fault::Fault;
+use crate::names::{Hasher, all_hashers};
+use hash_program::about::write_status;
+use hash_program::call::{first_unknown, is_given, operands};
+use hash_program::valued::take_value;
+use std::alloc::{AllocError, Global};
+
+/// The words of a call, without the options that have a value, and those values.
+#[derive(Drop)]
+pub struct Call {
+    /// The other words.
+    pub words: Vec<Vec<u8>>,
+    /// The number of buckets that was given last.
+    pub buckets: Option<Vec<u8>>,
+    /// The name of the picture's file that was given last.
+    pub plot: Option<Vec<u8>>,
+    /// Whether the last word is an option that wants a value.
+    pub lacks: bool,
+}
+
+/// How the table is to be made.
+#[derive(Clone, Copy)]
+pub struct Settings {
+    /// The number of buckets, in place of those by the number of keys.
+    pub buckets: Option<u64>,
+    /// The byte that ends a key.
+    pub eol: u8,
+    /// Whether times are measured.
+    pub times: bool,
+}
+
+/// What a call asks for.
+#[derive(Clone, Copy)]
+pub enum Task {
+    /// The table.
+    Table(Settings),
+    /// How the program is called.
+    Help,
+    /// Which version of the program this is.
+    Version,
+}
+
+/// What is wrong with a call.
+#[derive(Clone, Copy)]
+pub enum Wrong {
+    /// It gives an option that there is not.
+    UnknownOption,
+    /// It gives no value behind an option that wants one.
+    NoValue,
+    /// It gives a number of buckets that is none from 1 on.
+    NoNumber,
+    /// It names a hash that there is not.
+    UnknownName,
+}
+
+/// What came of a call.
+#[derive(Drop)]
+pub enum Outcome {
+    /// All went well.
+    Done,
+    /// The call was wrong. Nothing was read or written.
+    Usage(Wrong),
+    /// The output is not whole.
+    Failed(Fault),
+}
+
+/// Takes the options with a value out of the words behind the program's own name. `--plot` has no letter: no word has a zero byte.
+pub fn call_of(alloc: Global, words: &[Vec<u8>]) -> Result<Call, AllocError> {
+    let buckets = take_value(alloc, words, b'b', b"buckets")?;
+    let plot = take_value(alloc, &buckets.words, 0, b"plot")?;
+    Ok(Call {
+        words: plot.words,
+        buckets: buckets.value,
+        plot: plot.value,
+        lacks: buckets.lacks || plot.lacks,
+    })
+}
+
+/// The first word that gives an option that there is not.
+pub fn unknown_option(words: &[Vec<u8>]) -> Option<&[u8]>
+    ensures { MatchOption result (unknown letters names (texts words.now) ≡ [])
+        (λ word. (more : List (List ℕ)) × (unknown letters names (texts words.now) ≡ word.now ∷ more)) }
+{
+    let names: [&[u8]; 4] = [b"zero-terminated", b"no-times", b"help", b"version"];
+    first_unknown(words, b"z", &names)
+}
+
+/// The number from 1 on that the digits tell.
+fn number_of(digits: &[u8]) -> Option<u64> {
+    let text = str::from_utf8(digits).ok()?;
+    match text.parse::<u64>() {
+        Ok(number) if number > 0 && !text.starts_with('+') => Some(number),
+        _ => None,
+    }
+}
+
+/// What the call asks for.
+pub fn task_of(call: &Call) -> Result<Task, Wrong> {
+    if unknown_option(&call.words).is_some() {
+        return Err(Wrong::UnknownOption);
+    }
+    if is_given(&call.words, None, b"help") {
+        return Ok(Task::Help);
+    }
+    if is_given(&call.words, None, b"version") {
+        return Ok(Task::Version);
+    }
+    if call.lacks {
+        return Err(Wrong::NoValue);
+    }
+    let mut settings = Settings {
+        buckets: None,
+        eol: b'\n',
+        times: !is_given(&call.words, None, b"no-times"),
+    };
+    if is_given(&call.words, Some(b'z'), b"zero-terminated") {
+        settings.eol = 0;
+    }
+    if let Some(digits) = &call.buckets {
+        settings.buckets = number_of(digits);
+        if settings.buckets.is_none() {
+            return Err(Wrong::NoNumber);
+        }
+    }
+    Ok(Task::Table(settings))
+}
+
+/// The hasher of that name.
+fn hasher_named(name: &[u8]) -> Option<Hasher> {
+    for hasher in all_hashers() {
+        if hasher.name.as_bytes() == name {
+            return Some(hasher);
+        }
+    }
+    None
+}
+
+/// The first operand that no hash has as its name.
+pub fn unknown_name(alloc: Global, words: &[Vec<u8>]) -> Result<Option<&[u8]>, AllocError> {
+    for name in operands(alloc, words)? {
+        if hasher_named(name).is_none() {
+            return Ok(Some(name));
+        }
+    }
+    Ok(None)
+}
+
+/// The hashers that the operands name, in their order; the usual ones where there is none. An unknown name has none.
+pub fn hashers_of(alloc: Global, words: &[Vec<u8>]) -> Result<Vec<Hasher>, AllocError> {
+    let mut chosen = Vec::new(alloc);
+    let names = operands(alloc, words)?;
+    for name in &names {
+        if let Some(hasher) = hasher_named(name) {
+            chosen.push(hasher)?;
+        }
+    }
+    if names.is_empty() {
+        for hasher in all_hashers() {
+            if hasher.is_usual {
+                chosen.push(hasher)?;
+            }
+        }
+    }
+    Ok(chosen)
+}
+
+/// What failed, in words; nothing where all went well.
+pub fn outcome_failure(outcome: &Outcome) -> &'static str
+    ensures { result.now ≡ failure_of outcome.now }
+{
+    match outcome {
+        Outcome::Done => "",
+        Outcome::Usage(Wrong::UnknownOption) => "unknown option",
+        Outcome::Usage(Wrong::NoValue) => "-b wants a number, and --plot a file",
+        Outcome::Usage(Wrong::NoNumber) => "-b wants a number from 1 on",
+        Outcome::Usage(Wrong::UnknownName) => "unknown name",
+        Outcome::Failed(Fault::Unread(_)) => "-",
+        Outcome::Failed(Fault::Unwritten(_)) => "write error",
+        Outcome::Failed(Fault::Undrawn(_)) => "the picture was not written",
+        Outcome::Failed(Fault::NoMemory) => "out of memory",
+        Outcome::Failed(Fault::TooManyKeys) => "too many different keys",
+        Outcome::Failed(Fault::NoKeys) => "there are no keys",
+    }
+}
+
+/// The status that the program ends with: 0 where all went well, 2 where the call was wrong, 141 where nobody reads its output any
+/// more, and 1 where it failed otherwise.
+pub fn outcome_status(outcome: &Outcome) -> u8
+    ensures { result ≡ status_of outcome.now }
+{
+    match outcome {
+        Outcome::Done => 0,
+        Outcome::Usage(_) => 2,
+        Outcome::Failed(Fault::Unwritten(Some(error))) => write_status(error.kind()),
+        _ => 1,
+    }
+}

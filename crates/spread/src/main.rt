@@ -1,0 +1,151 @@
+//! `spread` tells how evenly each hasher spreads the keys that are the lines of standard input, beside chance, how fast it is, and which
+//! one to take.
+#![tactic(auto)]
+
+mod call;
+mod chance;
+mod clock;
+mod counts;
+mod fault;
+mod keys;
+mod laws;
+mod named;
+mod names;
+mod picture;
+mod progress;
+mod run;
+mod sizes;
+mod table;
+#[cfg(test)]
+mod tests;
+
+use call::{
+    Call, Outcome, Task, Wrong, call_of, hashers_of, outcome_failure, outcome_status, task_of,
+    unknown_name, unknown_option,
+};
+use fault::Fault;
+use hash_program::about::tell;
+use hash_program::inputs::tell_failure;
+use hash_program::reason::reason;
+use hash_program::streams::TRIES;
+use hash_program::words::words;
+use run::tell_table;
+use std::io::{BufWriter, Stdout};
+use std::process::ExitCode;
+
+/// How many bytes are written at once.
+const BUFFER: usize = 65536;
+
+/// How the program is called.
+const HELP: &str = "usage: spread [-b BUCKETS] [-z] [--no-times] [--plot FILE.svg] [NAME..] < KEYS
+
+Tells which hash suits keys. Each line of standard input is a key, and each
+different key counts once. For each NAME, or each hash that makes sense, it
+writes how many pairs of keys have equal hashes, how many keys the fullest
+bucket has, how many buckets are empty, the sum of the squares of what the
+buckets have, and nanoseconds for a key; then what chance would give; and at
+last the fastest hash whose squares lie within three standard deviations of
+chance.
+
+The buckets are as many as the power of two at or above the number of keys,
+and as the next odd number above that.
+
+  -b, --buckets BUCKETS  so many buckets instead
+  -z, --zero-terminated  keys end with a zero byte, not with a newline
+      --no-times         measure no times and recommend nothing
+      --plot FILE.svg    draw the table, too
+      --help             write this and end
+      --version          write the version and end
+";
+
+/// Which version this is.
+const VERSION: &str = "spread of hashers 1.0.1
+License: MIT
+";
+
+/// What came of a run, or of telling a text.
+fn of_run(ended: Result<(), Fault>) -> Outcome {
+    match ended {
+        Ok(()) => Outcome::Done,
+        Err(fault) => Outcome::Failed(fault),
+    }
+}
+
+/// Writes a text that the program tells of itself.
+fn told(text: &str, w: &mut BufWriter<Stdout>) -> Outcome {
+    match tell(text, w, TRIES) {
+        Ok(()) => Outcome::Done,
+        Err(error) => Outcome::Failed(Fault::Unwritten(error)),
+    }
+}
+
+/// What came of the call.
+fn called(rt: &HostRuntime, call: &Call) -> Result<Outcome, Fault> {
+    let alloc = rt.alloc();
+    let Ok(mut w) = BufWriter::with_capacity(alloc, BUFFER, rt.stdout()) else {
+        return Err(Fault::NoMemory);
+    };
+    match task_of(call) {
+        Err(wrong) => Ok(Outcome::Usage(wrong)),
+        Ok(Task::Help) => Ok(told(HELP, &mut w)),
+        Ok(Task::Version) => Ok(told(VERSION, &mut w)),
+        Ok(Task::Table(settings)) => {
+            if unknown_name(alloc, &call.words)?.is_some() {
+                return Ok(Outcome::Usage(Wrong::UnknownName));
+            }
+            let hashers = hashers_of(alloc, &call.words)?;
+            Ok(of_run(tell_table(rt, &settings, &hashers, call.plot.as_deref(), &mut w)))
+        }
+    }
+}
+
+/// Why it failed: the word that is wrong, or the system's reason.
+fn why(rt: &HostRuntime, call: &Call, outcome: &Outcome) -> Option<String> {
+    let alloc = rt.alloc();
+    let word = match outcome {
+        Outcome::Usage(Wrong::UnknownOption) => unknown_option(&call.words),
+        Outcome::Usage(Wrong::UnknownName) => unknown_name(alloc, &call.words).ok()?,
+        Outcome::Usage(Wrong::NoNumber) => call.buckets.as_deref(),
+        Outcome::Failed(Fault::Unread(error))
+        | Outcome::Failed(Fault::Unwritten(Some(error)))
+        | Outcome::Failed(Fault::Undrawn(error)) => return reason(alloc, error).ok(),
+        _ => None,
+    };
+    String::from_utf8_lossy(alloc, word?).ok()
+}
+
+/// Says what failed and why, unless nobody reads any more.
+fn complain(rt: &HostRuntime, call: &Call, outcome: &Outcome) {
+    let status = outcome_status(outcome);
+    let failure = outcome_failure(outcome);
+    if failure.is_empty() || status == 141 {
+        return;
+    }
+    let _ = match why(rt, call, outcome) {
+        Some(reason) => eprintln!(rt; "spread: {failure}: {reason}"),
+        None => eprintln!(rt; "spread: {failure}"),
+    };
+    if status == 2 {
+        let _ = eprintln!(rt; "spread --help says how it is called");
+    }
+}
+
+/// The call of the words behind the program's own name.
+fn call_words(rt: &HostRuntime) -> Result<Call, Fault> {
+    Ok(call_of(rt.alloc(), &words(rt)?)?)
+}
+
+/// The status of the call.
+fn status(rt: &HostRuntime) -> u8 {
+    let Ok(call) = call_words(rt) else {
+        let _ = eprintln!(rt; "spread: out of memory");
+        return outcome_status(&Outcome::Failed(Fault::NoMemory));
+    };
+    let outcome = called(rt, &call).unwrap_or(Outcome::Failed(Fault::NoMemory));
+    complain(rt, &call, &outcome);
+    outcome_status(&outcome)
+}
+
+fn main(rt: HostRuntime) -> ExitCode {
+    ExitCode::from(status(&rt))
+}

@@ -1,0 +1,285 @@
+//! Tests of the numbers over keys in memory.
+use crate::call::{Call, Task, call_of, hashers_of, task_of, unknown_name};
+use crate::chance::{Chance, equal_pairs};
+use crate::counts::{Counts, Spread, collisions, spread_of};
+use crate::fault::Fault;
+use crate::keys::read_keys;
+use crate::named::{Hashed, counts_named};
+use crate::names::all_hashers;
+use crate::sizes::{Sizes, sizes_of};
+use hash_texts::{RandomKeys, Texts};
+use std::alloc::{AllocError, Global};
+use std::io;
+use std::io::{BufReader, Error, ErrorKind, Read};
+use std::process::Abort;
+
+/// That all claims hold.
+fn all_hold(rt: &impl Abort, claims: &[bool]) {
+    assert!(rt; !claims.contains(&false), "not all hold: {claims:?}");
+}
+
+/// Gives a text, two bytes a read, and fails once so many were read.
+#[derive(Drop)]
+struct Page<'a> {
+    left: &'a [u8],
+    until_fault: usize,
+}
+
+impl Read for Page<'_> {
+    fn read(&mut self, buf: &mut [u8]) -> io::Result<usize> {
+        if self.until_fault == 0 {
+            return Err(Error::from(ErrorKind::BrokenPipe));
+        }
+        let n = buf.len().min(self.left.len()).min(self.until_fault).min(2);
+        let (now, later) = self.left.split_at(n);
+        buf[..n].copy_from_slice(now);
+        self.left = later;
+        self.until_fault = self.until_fault.saturating_sub(n);
+        Ok(n)
+    }
+}
+
+/// The keys of a text.
+fn keys_of(
+    alloc: Global,
+    text: &[u8],
+    eol: u8,
+    until_fault: usize,
+) -> Result<Texts<RandomKeys>, Fault> {
+    let mut keys = Texts::new(alloc, RandomKeys::with_keys(1, 2));
+    let page = Page {
+        left: text,
+        until_fault,
+    };
+    match BufReader::with_capacity(alloc, 3, page) {
+        Ok(mut reader) => read_keys(alloc, &mut keys, eol, &mut reader)?,
+        Err(_) => return Err(Fault::NoMemory),
+    }
+    Ok(keys)
+}
+
+/// Whether these are the keys of a text, in their order.
+fn are_keys(alloc: Global, text: &[u8], eol: u8, wanted: &[&[u8]]) -> bool {
+    match keys_of(alloc, text, eol, usize::MAX) {
+        Ok(keys) => {
+            let mut same = keys.len() == wanted.len();
+            for (key, other) in keys.iter().zip(wanted.iter()) {
+                same = same && key == *other;
+            }
+            same
+        }
+        Err(_) => false,
+    }
+}
+
+#[test]
+fn keys_come_once(rt: HostRuntime) {
+    let alloc = rt.alloc();
+    all_hold(
+        &rt,
+        &[
+            are_keys(alloc, b"", b'\n', &[]),
+            are_keys(alloc, b"\n\n", b'\n', &[b""]),
+            are_keys(alloc, b"b\na\nb\nab", b'\n', &[b"b", b"a", b"ab"]),
+            are_keys(alloc, b"long key\n\nlong key\n", b'\n', &[b"long key", b""]),
+            are_keys(alloc, b"x\ny\0y\0x\ny", 0, &[b"x\ny", b"y"]),
+        ],
+    );
+}
+
+/// Whether the read that fails at that byte is told.
+fn tells_fault(alloc: Global, until_fault: usize) -> bool {
+    match keys_of(alloc, b"b\na\nb", b'\n', until_fault) {
+        Err(Fault::Unread(error)) => error.kind() == ErrorKind::BrokenPipe,
+        _ => false,
+    }
+}
+
+#[test]
+fn a_read_fails_at_each_byte(rt: HostRuntime) {
+    for until_fault in 0..6 {
+        all_hold(&rt, &[tells_fault(rt.alloc(), until_fault)]);
+    }
+}
+
+#[test]
+fn numbers_by_hand(rt: HostRuntime) {
+    let mut hashes = [5, 1, 5, 9, 1, 5];
+    let four = Spread {
+        buckets: 4,
+        fullest: 6,
+        empty: 3,
+        squares: 36,
+    };
+    let five = Spread {
+        buckets: 5,
+        fullest: 3,
+        empty: 2,
+        squares: 14,
+    };
+    all_hold(
+        &rt,
+        &[
+            spread_of(rt.alloc(), &hashes, 4) == Ok(four),
+            spread_of(rt.alloc(), &hashes, 5) == Ok(five),
+            collisions(&mut hashes) == 4,
+            collisions(&mut []) == 0,
+            hashes == [1, 1, 5, 5, 5, 9],
+        ],
+    );
+}
+
+/// The numbers of three keys by a hash, in four buckets and in five.
+fn counts_of_three(alloc: Global, name: &str) -> Option<Result<Counts, AllocError>> {
+    let sizes = Sizes {
+        first: 4,
+        second: Some(5),
+    };
+    let keys = keys_of(alloc, b"ab\nba\nc", b'\n', usize::MAX).ok()?;
+    let mut hashed = Hashed {
+        keys,
+        hashes: Vec::new(alloc),
+    };
+    counts_named(alloc, name, sizes, &mut hashed)
+}
+
+/// How many pairs are equal, and the sums of squares.
+fn short(counts: Option<Result<Counts, AllocError>>) -> (u128, u128, u128) {
+    match counts {
+        Some(Ok(counts)) => match counts.second {
+            Some(second) => (counts.collisions, counts.first.squares, second.squares),
+            None => (0, 0, 0),
+        },
+        _ => (0, 0, 0),
+    }
+}
+
+#[test]
+fn numbers_of_names(rt: HostRuntime) {
+    let alloc = rt.alloc();
+    for hasher in all_hashers() {
+        let counts = counts_of_three(alloc, hasher.name);
+        all_hold(&rt, &[counts.is_some(), short(counts).1 >= 3]);
+    }
+    all_hold(
+        &rt,
+        &[
+            counts_of_three(alloc, "md5").is_none(),
+            short(counts_of_three(alloc, "null")) == (3, 9, 9),
+            short(counts_of_three(alloc, "loselose")) == (1, 9, 5),
+        ],
+    );
+}
+
+/// Whether two numbers are the same but for rounding.
+fn are_near(number: f64, wanted: f64) -> bool {
+    let apart = number - wanted;
+    apart < 0.0001 && apart > -0.0001
+}
+
+/// Numbers by a program in Python.
+#[test]
+fn numbers_by_chance(rt: HostRuntime) {
+    let even = Chance::of(4096, 4096);
+    let few = Chance::of(3, 1000000);
+    let many = Chance::of(100000, 7);
+    all_hold(
+        &rt,
+        &[
+            even.fullest == 7 && are_near(even.empty, 1506.6502326),
+            are_near(even.squares, 8191.0) && are_near(even.deviation, 90.4875709),
+            even.is_near(8462) && !even.is_near(8463),
+            even.is_near(7920) && !even.is_near(7919),
+            few.fullest == 2 && are_near(few.squares, 3.000006),
+            are_near(many.deviation, 49486.9184941) && are_near(many.empty, 0.0),
+            are_near(equal_pairs(65536, 32), 0.4999924),
+            are_near(equal_pairs(3, 0), 3.0),
+        ],
+    );
+}
+
+/// The call of these words.
+fn call(alloc: Global, words: &[&str]) -> Result<Call, AllocError> {
+    let mut all = Vec::new(alloc);
+    for word in words {
+        match all.push(Vec::from_slice(alloc, word.as_bytes())?) {
+            Ok(()) => {}
+            Err(_) => return Err(AllocError),
+        }
+    }
+    call_of(alloc, &all)
+}
+
+/// What the words ask for: the number of buckets, the byte that ends a key, and whether times are measured.
+fn asked(alloc: Global, words: &[&str]) -> Option<(Option<u64>, u8, bool)> {
+    match task_of(&call(alloc, words).ok()?) {
+        Ok(Task::Table(settings)) => Some((settings.buckets, settings.eol, settings.times)),
+        _ => None,
+    }
+}
+
+/// How many hashers the words name.
+fn chosen(alloc: Global, words: &[&str]) -> Option<usize> {
+    let call = call(alloc, words).ok()?;
+    match unknown_name(alloc, &call.words) {
+        Ok(None) => Some(hashers_of(alloc, &call.words).ok()?.len()),
+        _ => None,
+    }
+}
+
+#[test]
+fn calls_by_the_table(rt: HostRuntime) {
+    let alloc = rt.alloc();
+    all_hold(
+        &rt,
+        &[
+            asked(alloc, &[]) == Some((None, b'\n', true)),
+            asked(alloc, &["-zb", "7", "--no-times"]) == Some((Some(7), 0, false)),
+            asked(alloc, &["--buckets=7", "--plot", "x"]) == Some((Some(7), b'\n', true)),
+            asked(alloc, &["-b0"]).is_none() && asked(alloc, &["-b", "+1"]).is_none(),
+            asked(alloc, &["-b"]).is_none() && asked(alloc, &["--plot"]).is_none(),
+            asked(alloc, &["-x"]).is_none() && asked(alloc, &["--help"]).is_none(),
+            chosen(alloc, &[]) == Some(12) && chosen(alloc, &["null", "-z"]) == Some(1),
+            chosen(alloc, &["md5"]).is_none(),
+        ],
+    );
+}
+
+#[test]
+fn buckets_by_the_number_of_keys(rt: HostRuntime) {
+    let of = |keys: u64| {
+        let sizes = sizes_of(keys, None);
+        (sizes.first, sizes.second.unwrap_or(0))
+    };
+    all_hold(
+        &rt,
+        &[
+            of(1) == (1, 3) && of(2) == (2, 3) && of(5) == (8, 9),
+            of(4096) == (4096, 4097) && of(4097) == (8192, 8193),
+            sizes_of(5, Some(7)).first == 7 && sizes_of(5, Some(7)).second.is_none(),
+        ],
+    );
+}
+
+/// Where a request for memory is refused, there are no numbers, and else the right ones.
+#[test]
+fn refused_memory(rt: HostRuntime) {
+    let alloc = rt.alloc();
+    let sizes = Sizes {
+        first: 4,
+        second: Some(5),
+    };
+    match keys_of(alloc, b"ab\nba\nc", b'\n', usize::MAX) {
+        Ok(keys) => {
+            let mut hashed = Hashed {
+                keys,
+                hashes: Vec::new(alloc),
+            };
+            let counts = counts_named(alloc, "loselose", sizes, &mut hashed);
+            let refused = counts == Some(Err(AllocError));
+            all_hold(&rt, &[refused || short(counts) == (1, 9, 5)]);
+        }
+        Err(Fault::NoMemory) => {}
+        Err(_) => all_hold(&rt, &[false]),
+    }
+}
