@@ -8,8 +8,9 @@ use Rattle.std.proofs.lemmas.Cmp.{nat_list_eq_equiv}
 use Rattle.std.proofs.lemmas.List.{length-append}
 use Rattle.std.proofs.lemmas.Slice.Eq.{bytes_eq-Decides}
 use Rattle.std.proofs.lemmas.List.Elements.{filter-append}
-use Rattle.dedup.specs.Laws.{ComesBefore, line_texts}
+use Rattle.dedup.specs.Laws.{ComesBefore}
 use Rattle.dedup.specs.Lines.{as_line_by, each_once_by, firsts_by, lines_by, once_by, same_text_by}
+use Rattle.hash_lines.specs.Lines.{line_texts}
 use Rattle.hash_texts.specs.Texts.{EachOnce, has}
 use Rattle.dedup.proofs.FirstsLemmas.{Apart, any_firsts, any_texts, firsts_apart, none_filtered}
 use Rattle.dedup.proofs.LineLemmas.{ends_tail, once_begins}
@@ -69,6 +70,27 @@ module _ (eol : ℕ) where
 
   strip_end : strip_last eol (eol ∷ []) ≡ []
   strip_end = strip_is eol [] ∙ ap (λ b. cond b [] (eol ∷ [])) (eq-eqb eol eol refl)
+
+  strip_onto : (byte : ℕ) → byte ≢ eol → (ls : List (List ℕ))
+      → map (strip_last eol) (onto_first byte ls) ≡ onto_first byte (map (strip_last eol) ls)
+  strip_onto byte other [] = ap (λ line. line ∷ []) (strip_one byte other)
+  strip_onto byte other ([] ∷ ls) = ap (λ line. line ∷ map (strip_last eol) ls) (strip_one byte other)
+  strip_onto byte other ((next ∷ line) ∷ ls) = ap (λ line. line ∷ map (strip_last eol) ls) (strip_more byte next line)
+
+  -- the lines with their ends, and those ends taken away
+  texts_of_lines : (text : List ℕ) → line_texts eol text ≡ map (strip_last eol) (lines_by eol text)
+  texts_of_lines [] = refl
+  texts_of_lines (byte ∷ text) = at (byte == eol) refl (texts_of_lines text)
+    where
+      at : (b : Bool) → (byte == eol) ≡ b → line_texts eol text ≡ map (strip_last eol) (lines_by eol text)
+          → cond b ([] ∷ line_texts eol text) (onto_first byte (line_texts eol text))
+          ≡ map (strip_last eol) (cond b ((byte ∷ []) ∷ lines_by eol text) (onto_first byte (lines_by eol text)))
+      at true is more =
+          ap (λ ls. [] ∷ ls) more
+          ∙ ap (λ line. line ∷ map (strip_last eol) (lines_by eol text)) (sym (strip_is byte [] ∙ ap (λ b. cond b [] (byte ∷ [])) is))
+      at false is more =
+          ap (onto_first byte) more
+          ∙ sym (strip_onto byte (λ same. false≢true (sym is ∙ eq-eqb byte eol same)) (lines_by eol text))
 
   -- a text is the text of the line that it makes
   pub strip_as_line : (text : List ℕ) → strip_last eol (text ++ eol ∷ []) ≡ text
@@ -136,7 +158,8 @@ module _ (eol : ℕ) where
   lines_written text = lines_as_written (firsts_by eol (lines_by eol text)) (firsts_bare (lines_by eol text) (lines_are_bare text))
 
   pub texts_written : (text : List ℕ) → line_texts eol (each_once_by eol text) ≡ map (strip_last eol) (firsts_by eol (lines_by eol text))
-  texts_written text = ap (map (strip_last eol)) (lines_written text) ∙ texts_as_written (firsts_by eol (lines_by eol text))
+  texts_written text =
+      texts_of_lines (each_once_by eol text) ∙ ap (map (strip_last eol)) (lines_written text) ∙ texts_as_written (firsts_by eol (lines_by eol text))
 
   -- ---- each once
 
@@ -163,7 +186,9 @@ module _ (eol : ℕ) where
       ∙ sym (any_texts eol (text ++ eol ∷ []) ls))
 
   pub written_texts : (text line : List ℕ) → has (line_texts eol (each_once_by eol text)) line ≡ has (line_texts eol text) line
-  written_texts text line = ap (λ texts. has texts line) (texts_written text) ∙ firsts_have (lines_by eol text) line
+  written_texts text line =
+      ap (λ texts. has texts line) (texts_written text) ∙ firsts_have (lines_by eol text) line
+      ∙ ap (λ texts. has texts line) (sym (texts_of_lines text))
 
   -- ---- their order
 
@@ -206,7 +231,8 @@ module _ (eol : ℕ) where
   pub written_in_order : (text line other : List ℕ) → ComesBefore (line_texts eol text) line other
       → ComesBefore (line_texts eol (each_once_by eol text)) line other
   written_in_order text line other before =
-      subst (λ texts. ComesBefore texts line other) (sym (texts_written text)) (firsts_before (lines_by eol text) line other before)
+      subst (λ texts. ComesBefore texts line other) (sym (texts_written text))
+      (firsts_before (lines_by eol text) line other (subst (λ texts. ComesBefore texts line other) (texts_of_lines text) before))
 
   -- ---- twice
 

@@ -1,9 +1,10 @@
 //! The hashes of many texts in one call, as one body for every hash: of texts between offsets of 32 or of 64 bits, and of lines.
-ghost use Rattle.std.specs.Prelude.{◌≡◌, ◌+◌, ◌<◌, ◌≤◌, ◌↔◌, ◌∷◌, ℕ, List, length, map, slice_index, IsTrue};
+ghost use Rattle.std.specs.Prelude.{◌≡◌, ◌+◌, ◌<◌, ◌↔◌, ◌∷◌, ℕ, List, length, map, slice_index, IsTrue};
 ghost use Rattle.std.specs.Bool.{OnTrue, OnFalse};
 ghost use Rattle.hashers.specs.Spooky.{spooky_v1};
 ghost use Rattle.hash_c.specs.Columns.{AreHashes, AreOffsets};
-ghost use Rattle.hash_c.specs.Lines.{laid_over, line_texts};
+ghost use Rattle.hash_c.specs.Lines.{laid_over};
+ghost use Rattle.hash_lines.specs.Lines.{line_texts};
 
 use hashers::jenkins::spooky_hash;
 use hashers::laws::{Piecewise, hash_of};
@@ -138,7 +139,7 @@ pub fn column64<T: TextHash>(bytes: &[u8], offsets: &[u64], hashes: &mut [u64]) 
 /// The first line, and what is behind its newline.
 fn first_line(bytes: &[u8]) -> (&[u8], &[u8])
     requires { 0 < length bytes.now }
-    ensures first { line_texts bytes.now ≡ result.0.now ∷ line_texts result.1.now }
+    ensures first { line_texts 10 bytes.now ≡ result.0.now ∷ line_texts 10 result.1.now }
     ensures shorter { length result.1.now < length bytes.now }
 {
     match bytes.iter().position(|byte| *byte == b'\n') {
@@ -150,8 +151,8 @@ fn first_line(bytes: &[u8]) -> (&[u8], &[u8])
 /// Writes the hash of each line, as far as there is room, and answers how many lines there are.
 #[inline(always)]
 pub fn hash_lines<T: TextHash>(bytes: &[u8], hashes: &mut [u64]) -> usize
-    ensures count { result ≡ length (line_texts bytes.now) }
-    ensures written { hashes.new ≡ laid_over (map T.hash (line_texts bytes.now)) hashes.old }
+    ensures count { result ≡ length (line_texts 10 bytes.now) }
+    ensures written { hashes.new ≡ laid_over (map T.hash (line_texts 10 bytes.now)) hashes.old }
 {
     let mut count = 0;
     let mut rest = bytes;

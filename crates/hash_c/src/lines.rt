@@ -1,7 +1,8 @@
 //! The hashes of the lines of a text, by each name. A newline ends a line and is none of its bytes; the last line may have none.
 //! The answer is how many lines there are: where there is room for fewer hashes, those of the first lines are written.
 ghost use Rattle.std.specs.Prelude.{◌≡◌, length, map};
-ghost use Rattle.hash_c.specs.Lines.{laid_over, line_texts};
+ghost use Rattle.hash_c.specs.Lines.{laid_over};
+ghost use Rattle.hash_lines.specs.Lines.{line_texts};
 ghost use Rattle.hash_more.specs.Crc32.{ieee, castagnoli, all_ones, crc_from, crc_answer};
 ghost use Rattle.hash_more.specs.Djb2Add.{djb2_add_from};
 ghost use Rattle.hash_more.specs.Elf.{elf_from};
@@ -33,8 +34,8 @@ use hashers::pigeon::Bricolage;
 /// FNV-1a at 32 bits of each line.
 #[unsafe(no_mangle)]
 pub extern "C" fn hashers_fnv1a32_lines(bytes: &[u8], hashes: &mut [u64]) -> usize
-    ensures count { result ≡ length (line_texts bytes.now) }
-    ensures written { hashes.new ≡ laid_over (map (fnv1a32_from fnv1a32_basis) (line_texts bytes.now)) hashes.old }
+    ensures count { result ≡ length (line_texts 10 bytes.now) }
+    ensures written { hashes.new ≡ laid_over (map (fnv1a32_from fnv1a32_basis) (line_texts 10 bytes.now)) hashes.old }
 {
     hash_lines::<Default<FNV1aHasher32>>(bytes, hashes)
 }
@@ -42,8 +43,8 @@ pub extern "C" fn hashers_fnv1a32_lines(bytes: &[u8], hashes: &mut [u64]) -> usi
 /// FNV-1a at 64 bits of each line.
 #[unsafe(no_mangle)]
 pub extern "C" fn hashers_fnv1a64_lines(bytes: &[u8], hashes: &mut [u64]) -> usize
-    ensures count { result ≡ length (line_texts bytes.now) }
-    ensures written { hashes.new ≡ laid_over (map (fnv1a64_from fnv1a64_basis) (line_texts bytes.now)) hashes.old }
+    ensures count { result ≡ length (line_texts 10 bytes.now) }
+    ensures written { hashes.new ≡ laid_over (map (fnv1a64_from fnv1a64_basis) (line_texts 10 bytes.now)) hashes.old }
 {
     hash_lines::<Default<FNV1aHasher64>>(bytes, hashes)
 }
@@ -51,8 +52,8 @@ pub extern "C" fn hashers_fnv1a64_lines(bytes: &[u8], hashes: &mut [u64]) -> usi
 /// djb2 of each line.
 #[unsafe(no_mangle)]
 pub extern "C" fn hashers_djb2_lines(bytes: &[u8], hashes: &mut [u64]) -> usize
-    ensures count { result ≡ length (line_texts bytes.now) }
-    ensures written { hashes.new ≡ laid_over (map (djb2_from 5381) (line_texts bytes.now)) hashes.old }
+    ensures count { result ≡ length (line_texts 10 bytes.now) }
+    ensures written { hashes.new ≡ laid_over (map (djb2_from 5381) (line_texts 10 bytes.now)) hashes.old }
 {
     hash_lines::<Default<DJB2Hasher>>(bytes, hashes)
 }
@@ -60,8 +61,8 @@ pub extern "C" fn hashers_djb2_lines(bytes: &[u8], hashes: &mut [u64]) -> usize
 /// sdbm of each line.
 #[unsafe(no_mangle)]
 pub extern "C" fn hashers_sdbm_lines(bytes: &[u8], hashes: &mut [u64]) -> usize
-    ensures count { result ≡ length (line_texts bytes.now) }
-    ensures written { hashes.new ≡ laid_over (map (sdbm_from 0) (line_texts bytes.now)) hashes.old }
+    ensures count { result ≡ length (line_texts 10 bytes.now) }
+    ensures written { hashes.new ≡ laid_over (map (sdbm_from 0) (line_texts 10 bytes.now)) hashes.old }
 {
     hash_lines::<Default<SDBMHasher>>(bytes, hashes)
 }
@@ -69,8 +70,8 @@ pub extern "C" fn hashers_sdbm_lines(bytes: &[u8], hashes: &mut [u64]) -> usize
 /// lose lose of each line.
 #[unsafe(no_mangle)]
 pub extern "C" fn hashers_loselose_lines(bytes: &[u8], hashes: &mut [u64]) -> usize
-    ensures count { result ≡ length (line_texts bytes.now) }
-    ensures written { hashes.new ≡ laid_over (map (loselose_from 0) (line_texts bytes.now)) hashes.old }
+    ensures count { result ≡ length (line_texts 10 bytes.now) }
+    ensures written { hashes.new ≡ laid_over (map (loselose_from 0) (line_texts 10 bytes.now)) hashes.old }
 {
     hash_lines::<Default<LoseLoseHasher>>(bytes, hashes)
 }
@@ -78,8 +79,8 @@ pub extern "C" fn hashers_loselose_lines(bytes: &[u8], hashes: &mut [u64]) -> us
 /// Bricolage of each line.
 #[unsafe(no_mangle)]
 pub extern "C" fn hashers_bricolage_lines(bytes: &[u8], hashes: &mut [u64]) -> usize
-    ensures count { result ≡ length (line_texts bytes.now) }
-    ensures written { hashes.new ≡ laid_over (map (bricolage_from 0) (line_texts bytes.now)) hashes.old }
+    ensures count { result ≡ length (line_texts 10 bytes.now) }
+    ensures written { hashes.new ≡ laid_over (map (bricolage_from 0) (line_texts 10 bytes.now)) hashes.old }
 {
     hash_lines::<Default<Bricolage>>(bytes, hashes)
 }
@@ -87,8 +88,8 @@ pub extern "C" fn hashers_bricolage_lines(bytes: &[u8], hashes: &mut [u64]) -> u
 /// one-at-a-time of each line.
 #[unsafe(no_mangle)]
 pub extern "C" fn hashers_oaat_lines(bytes: &[u8], hashes: &mut [u64]) -> usize
-    ensures count { result ≡ length (line_texts bytes.now) }
-    ensures written { hashes.new ≡ laid_over (map (λ text. oaat_finish (oaat_state 0 text)) (line_texts bytes.now)) hashes.old }
+    ensures count { result ≡ length (line_texts 10 bytes.now) }
+    ensures written { hashes.new ≡ laid_over (map (λ text. oaat_finish (oaat_state 0 text)) (line_texts 10 bytes.now)) hashes.old }
 {
     hash_lines::<Default<OAATHasher>>(bytes, hashes)
 }
@@ -96,8 +97,8 @@ pub extern "C" fn hashers_oaat_lines(bytes: &[u8], hashes: &mut [u64]) -> usize
 /// lookup3 of each line.
 #[unsafe(no_mangle)]
 pub extern "C" fn hashers_lookup3_lines(bytes: &[u8], hashes: &mut [u64]) -> usize
-    ensures count { result ≡ length (line_texts bytes.now) }
-    ensures written { hashes.new ≡ laid_over (map (λ text. lookup3_answer (lookup3_from (0, 0) text)) (line_texts bytes.now)) hashes.old }
+    ensures count { result ≡ length (line_texts 10 bytes.now) }
+    ensures written { hashes.new ≡ laid_over (map (λ text. lookup3_answer (lookup3_from (0, 0) text)) (line_texts 10 bytes.now)) hashes.old }
 {
     hash_lines::<Default<Lookup3Hasher>>(bytes, hashes)
 }
@@ -105,8 +106,8 @@ pub extern "C" fn hashers_lookup3_lines(bytes: &[u8], hashes: &mut [u64]) -> usi
 /// SpookyHash of each line.
 #[unsafe(no_mangle)]
 pub extern "C" fn hashers_spooky_lines(bytes: &[u8], hashes: &mut [u64]) -> usize
-    ensures count { result ≡ length (line_texts bytes.now) }
-    ensures written { hashes.new ≡ laid_over (map (λ text. (spooky 0 0 text).0) (line_texts bytes.now)) hashes.old }
+    ensures count { result ≡ length (line_texts 10 bytes.now) }
+    ensures written { hashes.new ≡ laid_over (map (λ text. (spooky 0 0 text).0) (line_texts 10 bytes.now)) hashes.old }
 {
     hash_lines::<Default<SpookyHasher>>(bytes, hashes)
 }
@@ -114,8 +115,8 @@ pub extern "C" fn hashers_spooky_lines(bytes: &[u8], hashes: &mut [u64]) -> usiz
 /// SpookyHash by version 1 of each line.
 #[unsafe(no_mangle)]
 pub extern "C" fn hashers_spooky_v1_lines(bytes: &[u8], hashes: &mut [u64]) -> usize
-    ensures count { result ≡ length (line_texts bytes.now) }
-    ensures written { hashes.new ≡ laid_over (map (λ text. (spooky_v1 0 0 text).0) (line_texts bytes.now)) hashes.old }
+    ensures count { result ≡ length (line_texts 10 bytes.now) }
+    ensures written { hashes.new ≡ laid_over (map (λ text. (spooky_v1 0 0 text).0) (line_texts 10 bytes.now)) hashes.old }
 {
     hash_lines::<SpookyV1>(bytes, hashes)
 }
@@ -123,8 +124,8 @@ pub extern "C" fn hashers_spooky_v1_lines(bytes: &[u8], hashes: &mut [u64]) -> u
 /// null of each line.
 #[unsafe(no_mangle)]
 pub extern "C" fn hashers_null_lines(bytes: &[u8], hashes: &mut [u64]) -> usize
-    ensures count { result ≡ length (line_texts bytes.now) }
-    ensures written { hashes.new ≡ laid_over (map (λ text. 0) (line_texts bytes.now)) hashes.old }
+    ensures count { result ≡ length (line_texts 10 bytes.now) }
+    ensures written { hashes.new ≡ laid_over (map (λ text. 0) (line_texts 10 bytes.now)) hashes.old }
 {
     hash_lines::<Default<NullHasher>>(bytes, hashes)
 }
@@ -132,8 +133,8 @@ pub extern "C" fn hashers_null_lines(bytes: &[u8], hashes: &mut [u64]) -> usize
 /// passthrough of each line.
 #[unsafe(no_mangle)]
 pub extern "C" fn hashers_passthrough_lines(bytes: &[u8], hashes: &mut [u64]) -> usize
-    ensures count { result ≡ length (line_texts bytes.now) }
-    ensures written { hashes.new ≡ laid_over (map (passthrough_from 0) (line_texts bytes.now)) hashes.old }
+    ensures count { result ≡ length (line_texts 10 bytes.now) }
+    ensures written { hashes.new ≡ laid_over (map (passthrough_from 0) (line_texts 10 bytes.now)) hashes.old }
 {
     hash_lines::<Default<PassThroughHasher>>(bytes, hashes)
 }
@@ -141,8 +142,8 @@ pub extern "C" fn hashers_passthrough_lines(bytes: &[u8], hashes: &mut [u64]) ->
 /// fx at the width of a machine word of each line.
 #[unsafe(no_mangle)]
 pub extern "C" fn hashers_fxhash_lines(bytes: &[u8], hashes: &mut [u64]) -> usize
-    ensures count { result ≡ length (line_texts bytes.now) }
-    ensures written { hashes.new ≡ laid_over (map (λ text. fx64 0 (words64 text)) (line_texts bytes.now)) hashes.old }
+    ensures count { result ≡ length (line_texts 10 bytes.now) }
+    ensures written { hashes.new ≡ laid_over (map (λ text. fx64 0 (words64 text)) (line_texts 10 bytes.now)) hashes.old }
 {
     hash_lines::<Default<FxHasher>>(bytes, hashes)
 }
@@ -150,8 +151,8 @@ pub extern "C" fn hashers_fxhash_lines(bytes: &[u8], hashes: &mut [u64]) -> usiz
 /// fx at 32 bits of each line.
 #[unsafe(no_mangle)]
 pub extern "C" fn hashers_fxhash32_lines(bytes: &[u8], hashes: &mut [u64]) -> usize
-    ensures count { result ≡ length (line_texts bytes.now) }
-    ensures written { hashes.new ≡ laid_over (map (λ text. fx32 0 (words32 text)) (line_texts bytes.now)) hashes.old }
+    ensures count { result ≡ length (line_texts 10 bytes.now) }
+    ensures written { hashes.new ≡ laid_over (map (λ text. fx32 0 (words32 text)) (line_texts 10 bytes.now)) hashes.old }
 {
     hash_lines::<Default<FxHasher32>>(bytes, hashes)
 }
@@ -159,8 +160,8 @@ pub extern "C" fn hashers_fxhash32_lines(bytes: &[u8], hashes: &mut [u64]) -> us
 /// fx at 64 bits of each line.
 #[unsafe(no_mangle)]
 pub extern "C" fn hashers_fxhash64_lines(bytes: &[u8], hashes: &mut [u64]) -> usize
-    ensures count { result ≡ length (line_texts bytes.now) }
-    ensures written { hashes.new ≡ laid_over (map (λ text. fx64 0 (words64 text)) (line_texts bytes.now)) hashes.old }
+    ensures count { result ≡ length (line_texts 10 bytes.now) }
+    ensures written { hashes.new ≡ laid_over (map (λ text. fx64 0 (words64 text)) (line_texts 10 bytes.now)) hashes.old }
 {
     hash_lines::<Default<FxHasher64>>(bytes, hashes)
 }
@@ -168,9 +169,9 @@ pub extern "C" fn hashers_fxhash64_lines(bytes: &[u8], hashes: &mut [u64]) -> us
 /// CRC-32 of each line.
 #[unsafe(no_mangle)]
 pub extern "C" fn hashers_crc32_lines(bytes: &[u8], hashes: &mut [u64]) -> usize
-    ensures count { result ≡ length (line_texts bytes.now) }
+    ensures count { result ≡ length (line_texts 10 bytes.now) }
     ensures written { hashes.new
-        ≡ laid_over (map (λ text. crc_answer (crc_from ieee all_ones text)) (line_texts bytes.now)) hashes.old }
+        ≡ laid_over (map (λ text. crc_answer (crc_from ieee all_ones text)) (line_texts 10 bytes.now)) hashes.old }
 {
     hash_lines::<Default<Crc32Hasher>>(bytes, hashes)
 }
@@ -178,9 +179,9 @@ pub extern "C" fn hashers_crc32_lines(bytes: &[u8], hashes: &mut [u64]) -> usize
 /// CRC-32C of each line.
 #[unsafe(no_mangle)]
 pub extern "C" fn hashers_crc32c_lines(bytes: &[u8], hashes: &mut [u64]) -> usize
-    ensures count { result ≡ length (line_texts bytes.now) }
+    ensures count { result ≡ length (line_texts 10 bytes.now) }
     ensures written { hashes.new
-        ≡ laid_over (map (λ text. crc_answer (crc_from castagnoli all_ones text)) (line_texts bytes.now)) hashes.old }
+        ≡ laid_over (map (λ text. crc_answer (crc_from castagnoli all_ones text)) (line_texts 10 bytes.now)) hashes.old }
 {
     hash_lines::<Default<Crc32cHasher>>(bytes, hashes)
 }
@@ -188,9 +189,9 @@ pub extern "C" fn hashers_crc32c_lines(bytes: &[u8], hashes: &mut [u64]) -> usiz
 /// FNV-1 at 32 bits of each line.
 #[unsafe(no_mangle)]
 pub extern "C" fn hashers_fnv1_32_lines(bytes: &[u8], hashes: &mut [u64]) -> usize
-    ensures count { result ≡ length (line_texts bytes.now) }
+    ensures count { result ≡ length (line_texts 10 bytes.now) }
     ensures written { hashes.new
-        ≡ laid_over (map (fnv1_32_from fnv1a32_basis) (line_texts bytes.now)) hashes.old }
+        ≡ laid_over (map (fnv1_32_from fnv1a32_basis) (line_texts 10 bytes.now)) hashes.old }
 {
     hash_lines::<Default<Fnv1Hasher32>>(bytes, hashes)
 }
@@ -198,9 +199,9 @@ pub extern "C" fn hashers_fnv1_32_lines(bytes: &[u8], hashes: &mut [u64]) -> usi
 /// FNV-1 at 64 bits of each line.
 #[unsafe(no_mangle)]
 pub extern "C" fn hashers_fnv1_64_lines(bytes: &[u8], hashes: &mut [u64]) -> usize
-    ensures count { result ≡ length (line_texts bytes.now) }
+    ensures count { result ≡ length (line_texts 10 bytes.now) }
     ensures written { hashes.new
-        ≡ laid_over (map (fnv1_64_from fnv1a64_basis) (line_texts bytes.now)) hashes.old }
+        ≡ laid_over (map (fnv1_64_from fnv1a64_basis) (line_texts 10 bytes.now)) hashes.old }
 {
     hash_lines::<Default<Fnv1Hasher64>>(bytes, hashes)
 }
@@ -208,9 +209,9 @@ pub extern "C" fn hashers_fnv1_64_lines(bytes: &[u8], hashes: &mut [u64]) -> usi
 /// djb2 with a sum of each line.
 #[unsafe(no_mangle)]
 pub extern "C" fn hashers_djb2_add_lines(bytes: &[u8], hashes: &mut [u64]) -> usize
-    ensures count { result ≡ length (line_texts bytes.now) }
+    ensures count { result ≡ length (line_texts 10 bytes.now) }
     ensures written { hashes.new
-        ≡ laid_over (map (djb2_add_from 5381) (line_texts bytes.now)) hashes.old }
+        ≡ laid_over (map (djb2_add_from 5381) (line_texts 10 bytes.now)) hashes.old }
 {
     hash_lines::<Default<Djb2AddHasher>>(bytes, hashes)
 }
@@ -218,9 +219,9 @@ pub extern "C" fn hashers_djb2_add_lines(bytes: &[u8], hashes: &mut [u64]) -> us
 /// one-at-a-time at 32 bits of each line.
 #[unsafe(no_mangle)]
 pub extern "C" fn hashers_joaat_lines(bytes: &[u8], hashes: &mut [u64]) -> usize
-    ensures count { result ≡ length (line_texts bytes.now) }
+    ensures count { result ≡ length (line_texts 10 bytes.now) }
     ensures written { hashes.new
-        ≡ laid_over (map (λ text. joaat_answer (joaat_from 0 text)) (line_texts bytes.now)) hashes.old }
+        ≡ laid_over (map (λ text. joaat_answer (joaat_from 0 text)) (line_texts 10 bytes.now)) hashes.old }
 {
     hash_lines::<Default<JoaatHasher>>(bytes, hashes)
 }
@@ -228,9 +229,9 @@ pub extern "C" fn hashers_joaat_lines(bytes: &[u8], hashes: &mut [u64]) -> usize
 /// ELF's hash of each line.
 #[unsafe(no_mangle)]
 pub extern "C" fn hashers_elf_lines(bytes: &[u8], hashes: &mut [u64]) -> usize
-    ensures count { result ≡ length (line_texts bytes.now) }
+    ensures count { result ≡ length (line_texts 10 bytes.now) }
     ensures written { hashes.new
-        ≡ laid_over (map (elf_from 0) (line_texts bytes.now)) hashes.old }
+        ≡ laid_over (map (elf_from 0) (line_texts 10 bytes.now)) hashes.old }
 {
     hash_lines::<Default<ElfHasher>>(bytes, hashes)
 }

@@ -1,7 +1,7 @@
 use Rattle.std.proofs.Common.{◌≡◌, ◌≢◌, ◌+◌, ◌∷◌, ◌∙◌, ℕ, take, ap, sym, arith, rules, tests}
 use Rattle.std.proofs.lemmas.Iterator.{IsFirst-from_position, YieldsList-from_slice}
 use Rattle.std.proofs.lemmas.List.{take_rest}
-use Rattle.hash_c.specs.Lines.{line_texts}
+use Rattle.hash_lines.specs.Lines.{line_texts}
 use Rattle.hash_c.proofs.LineLemmas.{line_ends, line_is_all}
 use Rattle.hash_c.proofs.column.first_line.Goals as goal
 
@@ -13,7 +13,7 @@ returns-in-Some-clause-first c =
     (YieldsList-from_slice bytes c.iter.ensures.rest) (λ x q k. search (rules, tests)) (λ x q k. search (rules, tests)) in
     let (within, is, before) = rw c.in-Some.is at first in
     line_ends bytes n within (is 0) (λ k less. before k 0 (omega arith) less)
-    ∙ sym (ap (λ l. take n bytes ∷ line_texts l) (take_rest bytes (n + 1)))
+    ∙ sym (ap (λ l. take n bytes ∷ line_texts 10 l) (take_rest bytes (n + 1)))
 
 pub returns-in-None-clause-first : goal.returns-in-None-clause-first
 returns-in-None-clause-first c =

@@ -1,6 +1,6 @@
 use Rattle.std.proofs.Common.{◌∙◌, ◌++◌, ◌∷◌, [], set, ap, ap₂, sym, append_assoc, arith}
 use Rattle.std.proofs.lemmas.List.{length_push}
-use Rattle.hash_c.specs.Lines.{line_texts}
+use Rattle.hash_lines.specs.Lines.{line_texts}
 use Rattle.hash_c.proofs.LineLemmas.{hashed_one_more, hashed_no_more}
 use Rattle.hash_c.proofs.column.hash_lines.Goals.{then-count-hashes, else-count-hashes}
 use Rattle.hash_c.proofs.column.hash_lines.Goals as goal
@@ -12,7 +12,7 @@ loop-rest-preserved g c =
     record {
       so_far = before.so_far ++ line ∷ [];
       split = before.split ∙ ap (λ l. before.so_far ++ l) c.first_line.ensures.first
-          ∙ sym (append_assoc before.so_far (line ∷ []) (line_texts c.first_line.result.1.now));
+          ∙ sym (append_assoc before.so_far (line ∷ []) (line_texts 10 c.first_line.result.1.now));
       count = omega (arith, before.count, length_push before.so_far line);
       few = omega (arith, before.few, c.first_line.ensures.shorter);
       written = elim c.if-count-hashes.branch [

@@ -1,12 +1,13 @@
 use Rattle.std.proofs.Common.{◌≡◌, ◌+◌, ◌≤◌, ◌++◌, ℕ, List, length, map}
-use Rattle.hash_c.specs.Lines.{laid_over, line_texts}
+use Rattle.hash_c.specs.Lines.{laid_over}
+use Rattle.hash_lines.specs.Lines.{line_texts}
 use Rattle.hash_c.proofs.column.hash_lines.Given as goal
 
 -- the hashes of the lines so far are written, as far as there is room
 abbrev pub invariant-loop-rest : goal.invariant-loop-rest
 invariant-loop-rest g l = record {
   so_far : List (List ℕ);
-  split : line_texts l.bytes ≡ so_far ++ line_texts l.rest;
+  split : line_texts 10 l.bytes ≡ so_far ++ line_texts 10 l.rest;
   count : l.count ≡ length so_far;
   few : l.count + length l.rest ≤ length l.bytes;
   written : l.hashes ≡ laid_over (map g.T.TextHash.hash so_far) l.initial.hashes;

@@ -1,0 +1,8 @@
+-- The lines of a text.
+use Rattle.std.specs.Prelude.{ℕ, ◌==◌, if◌then◌else◌, List, [], ◌∷◌}
+use Rattle.std.specs.List.{onto_first}
+
+-- the lines without the byte that ends each, newline or another; the last may have no end
+abbrev pub line_texts : (eol : ℕ) → List ℕ → List (List ℕ)
+line_texts eol [] = []
+line_texts eol (byte ∷ text) = if byte == eol then [] ∷ line_texts eol text else onto_first byte (line_texts eol text)
