@@ -36,6 +36,5 @@ pub fn file_read_back<F: Piecewise, G: Piecewise>(
 {
     let mut file = Vec::new(alloc);
     filter.write_to(&mut file, pair)?;
-    let back = Bloom::read_from(alloc, &mut file.as_slice(), pair)?;
-    Ok(back)
+    Bloom::read_from(alloc, &mut file.as_slice(), pair)
 }
