@@ -18,6 +18,10 @@ text_of texts slot = slice_index_or texts slot.place []
 abbrev pub tag_by : ℕ → ℕ
 tag_by hash = bit_xor hash (hash / 2 ^ 32) % 2 ^ 32
 
+-- the tag of a text, by a hasher as it is built
+abbrev pub tag_under : {H : Type 0} → (write : H → List ℕ → H) (finish : H → ℕ) (start : H) → List ℕ → ℕ
+tag_under write finish start text = tag_by (finish (write start text))
+
 -- where the search for texts with a tag begins, among so many places
 abbrev pub home_of : ℕ → ℕ → ℕ
 home_of count tag = bit_and tag (count - 1)

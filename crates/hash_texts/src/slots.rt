@@ -1,6 +1,6 @@
 //! A table of slots, which tells the places of texts by their hashes.
 ghost use Rattle.std.specs.Prelude.{◌≡◌, ◌<◌, ◌≤◌, ◌-◌, All, OnOk, OnErr, IfOk, not, length};
-ghost use Rattle.hash_texts.specs.Slots.{AreFound, FirstBetween, FirstRound, IsRefilled, Names, free_count, home_of, is_taken, stops, tag_by};
+ghost use Rattle.hash_texts.specs.Slots.{AreFound, FirstBetween, FirstRound, IsRefilled, Names, free_count, home_of, is_taken, stops, tag_under};
 
 use crate::store::Store;
 use std::alloc::{AllocError, Global};
@@ -37,7 +37,7 @@ impl Slot {
 /// The tag of a text.
 #[inline(always)]
 pub fn tag_of<S: BuildHasher>(hasher: &S, text: &[u8]) -> u32
-    ensures { result ≡ tag_by (S.Hasher.finish (S.Hasher.write (S.build_hasher hasher.now) text.now)) }
+    ensures { result ≡ tag_under S.Hasher.write S.Hasher.finish (S.build_hasher hasher.now) text.now }
 {
     let mut hasher = hasher.build_hasher();
     hasher.write(text);

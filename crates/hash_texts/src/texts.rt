@@ -1,7 +1,7 @@
 //! The set of texts.
 ghost use Rattle.std.specs.Prelude.{◌≡◌, ◌↔◌, ◌-◌, ◌^◌, ◌<◌, ◌≤◌, ℕ, List, [], IfOk, IfErr, IfSome, IfNone, IsTrue, OnOk, OnErr, not, false, length, slice_index_or, drop};
 ghost use Rattle.std.specs.Iterator.{YieldsFirstRef, item_count};
-ghost use Rattle.hash_texts.specs.Slots.{IsTable, SharesTag, tag_by};
+ghost use Rattle.hash_texts.specs.Slots.{IsTable, SharesTag, tag_under};
 ghost use Rattle.hash_texts.specs.Texts.{EachOnce, IsFullOnlyAt, StandsAt, has, with_text};
 
 use crate::slots::{NOWHERE, Slot, home_of, make_room, stop, tag_of};
@@ -77,7 +77,7 @@ impl<S: BuildHasher + Drop> Model for Texts<S> {
     ghost view = { λ set. set.texts };
 
     ghost invariant = { λ set. EachOnce set.texts
-        × IsTable (λ text. tag_by (S.Hasher.finish (S.Hasher.write (S.build_hasher set.hasher) text))) set.texts set.slots.items set.room };
+        × IsTable (tag_under S.Hasher.write S.Hasher.finish (S.build_hasher set.hasher)) set.texts set.slots.items set.room };
 }
 
 /// The slot of a text at this place. It fails where slots have no such place.
@@ -168,7 +168,8 @@ impl<S: BuildHasher + Drop> Texts<S> {
     /// the table alone, so that a caller may guess for several texts before it sees the first by `see_at`.
     #[inline(always)]
     pub fn guess(&self, text: &[u8]) -> usize
-        ensures { (hasher : S) × SharesTag (λ text. tag_by (S.Hasher.finish (S.Hasher.write (S.build_hasher hasher) text))) self.now text.now result }
+        ensures { (hasher : S) × SharesTag
+            (tag_under S.Hasher.write S.Hasher.finish (S.build_hasher hasher)) self.now text.now result }
     {
         if self.slots.is_empty() {
             return self.len();
