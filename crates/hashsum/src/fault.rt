@@ -46,7 +46,8 @@ impl From<AllocError> for Fault {
 /// Writes the text and flushes. After a fault a beginning of it was written.
 pub fn write<W: Write + Drop>(text: &[u8], w: &mut BufWriter<W>) -> Result<(), Fault>
     ensures ok { OnOk result (Appends (writer_contents W.contents w.old) (writer_contents W.contents w.new) text.now) }
-    ensures err { OnErr result (AppendsPart (writer_contents W.contents w.old) (writer_contents W.contents w.new) text.now) }
+    ensures err { OnErr result
+        (AppendsPart (writer_contents W.contents w.old) (writer_contents W.contents w.new) text.now) }
 {
     match put_out(w, text, TRIES) {
         Ok(()) => Ok(()),

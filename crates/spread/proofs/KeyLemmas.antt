@@ -1,35 +1,52 @@
 -- The keys of a text that is read line by line.
-use Rattle.std.proofs.Common.{◌≡◌, ◌≢◌, ◌<◌, ◌+◌, ◌-◌, ℕ, Bool, true, false, cond, eqb, List, [], ◌∷◌, ◌++◌, Option, Some, None, IfSome, All, length, take, drop, get_or, fold, refl, ap, sym, ◌∙◌, arith, append_assoc}
+use Rattle.std.proofs.Common.{◌≡◌, ◌≢◌, ◌<◌, ◌+◌, ◌-◌, ℕ, Bool, true, false, cond, eqb, List, [], ◌∷◌, ◌++◌, Option, Some, None, IfSome, All, length, take, drop, get_or, fold, refl, ap, sym, subst, append-nil, ◌∙◌, arith, append_assoc}
 use Rattle.std.specs.Io.{StopsAt, appended_bytes}
 use Rattle.std.specs.Io.BufRead.{ends_with_byte, strip_last, take_through}
 use Rattle.std.specs.Io.KnownBytes.{Consumes}
-use Rattle.std.specs.List.{onto_first}
+use Rattle.std.specs.List.{concat, onto_first}
 use Rattle.std.proofs.KnownBytes.{Consumes-trans}
 use Rattle.std.proofs.lemmas.Bool.{eq-eqb, ne_eqb, eqb-true, ltb-true, lt-ltb, and_from, and_parts, false≢true}
 use Rattle.std.proofs.lemmas.List.{take_all, take_more}
 use Rattle.std.proofs.lemmas.List.Elements.{All-head, All-tail, All-push, All-same}
+use Rattle.std.proofs.lemmas.List.Folds.{concat-append}
 use Rattle.std.proofs.lemmas.List.Sums.{fold-append}
 use Rattle.hash_texts.specs.Texts.{with_text}
-use Rattle.spread.specs.Keys.{keys_in, with_keys, TakesKeys, ReadsKeys, ReadsKey, IsWhole}
+use Rattle.hash_lines.specs.Lines.{line_texts}
+use Rattle.spread.specs.Keys.{IsWhole, ReadsFixed, ReadsLine, ReadsLines, ReadsOne, TakesFixed, TakesKeys}
+
+-- keys that were read, and behind them more
+takes_both : (keys keys' keys'' : List (List ℕ)) (a b c : Option (List ℕ)) (text more : List ℕ) (read later : List (List ℕ))
+    → TakesKeys keys keys' a b text read → TakesKeys keys' keys'' b c more later → TakesKeys keys keys'' a c (text ++ more) (read ++ later)
+takes_both keys keys' keys'' a b c text more read later first second = record {
+  consumed = Consumes-trans a b c text more first.consumed second.consumed;
+  taken = second.taken ∙ ap (λ ks. fold with_text ks later) first.taken ∙ sym (fold-append with_text keys read later);
+}
+
+-- all that is left behind what was read
+all_behind : (a b c : Option (List ℕ)) (text more : List ℕ) → Consumes a b text → Consumes b c more → IfSome b (λ bytes. bytes ≡ more)
+    → IfSome a (λ bytes. bytes ≡ text ++ more)
+all_behind None b c text more first second all = tt
+all_behind (Some x) None c text more first second all = absurd first
+all_behind (Some x) (Some y) c text more first second all = first ∙ ap (λ l. text ++ l) all
 
 module _ (eol : ℕ) where
   -- text with no end in it is one key
-  keys_in_bare : (text : List ℕ) → All (λ x. x ≢ eol) text → 0 < length text → keys_in eol text ≡ text ∷ []
-  keys_in_bare [] bare some = absurd (omega arith)
-  keys_in_bare (x ∷ []) bare some = ap (λ b. cond b ([] ∷ []) ((x ∷ []) ∷ [])) (ne_eqb x eol (All-head (λ y. y ≢ eol) x [] bare))
-  keys_in_bare (x ∷ y ∷ more) bare some =
-      ap (λ b. cond b ([] ∷ keys_in eol (y ∷ more)) (onto_first x (keys_in eol (y ∷ more))))
+  line_texts_bare : (text : List ℕ) → All (λ x. x ≢ eol) text → 0 < length text → line_texts eol text ≡ text ∷ []
+  line_texts_bare [] bare some = absurd (omega arith)
+  line_texts_bare (x ∷ []) bare some = ap (λ b. cond b ([] ∷ []) ((x ∷ []) ∷ [])) (ne_eqb x eol (All-head (λ y. y ≢ eol) x [] bare))
+  line_texts_bare (x ∷ y ∷ more) bare some =
+      ap (λ b. cond b ([] ∷ line_texts eol (y ∷ more)) (onto_first x (line_texts eol (y ∷ more))))
       (ne_eqb x eol (All-head (λ z. z ≢ eol) x (y ∷ more) bare))
-      ∙ ap (onto_first x) (keys_in_bare (y ∷ more) (All-tail (λ z. z ≢ eol) x (y ∷ more) bare) (omega arith))
+      ∙ ap (onto_first x) (line_texts_bare (y ∷ more) (All-tail (λ z. z ≢ eol) x (y ∷ more) bare) (omega arith))
 
   -- and with its end one key before those of the rest
-  keys_in_ended : (text later : List ℕ) → All (λ x. x ≢ eol) text → keys_in eol (text ++ eol ∷ later) ≡ text ∷ keys_in eol later
-  keys_in_ended [] later bare =
-      ap (λ b. cond b ([] ∷ keys_in eol later) (onto_first eol (keys_in eol later))) (eq-eqb eol eol refl)
-  keys_in_ended (x ∷ text) later bare =
-      ap (λ b. cond b ([] ∷ keys_in eol (text ++ eol ∷ later)) (onto_first x (keys_in eol (text ++ eol ∷ later))))
+  line_texts_ended : (text later : List ℕ) → All (λ x. x ≢ eol) text → line_texts eol (text ++ eol ∷ later) ≡ text ∷ line_texts eol later
+  line_texts_ended [] later bare =
+      ap (λ b. cond b ([] ∷ line_texts eol later) (onto_first eol (line_texts eol later))) (eq-eqb eol eol refl)
+  line_texts_ended (x ∷ text) later bare =
+      ap (λ b. cond b ([] ∷ line_texts eol (text ++ eol ∷ later)) (onto_first x (line_texts eol (text ++ eol ∷ later))))
       (ne_eqb x eol (All-head (λ z. z ≢ eol) x text bare))
-      ∙ ap (onto_first x) (keys_in_ended text later (All-tail (λ z. z ≢ eol) x text bare))
+      ∙ ap (onto_first x) (line_texts_ended text later (All-tail (λ z. z ≢ eol) x text bare))
 
   -- a line is what stands before its last byte, and that
   line_parts : (line : List ℕ) → 0 < length line → line ≡ take (length line - 1) line ++ get_or line (length line - 1) 0 ∷ []
@@ -54,15 +71,15 @@ module _ (eol : ℕ) where
           and_from _ _ (lt-ltb 0 (length line) some) (eq-eqb (get_or line (length line - 1) 0) eol same)
 
   -- the key of a line with its end, and of one without
-  key_of_ended : (line : List ℕ) → StopsAt line eol → ends_with_byte eol line ≡ true → keys_in eol line ≡ strip_last eol line ∷ []
+  key_of_ended : (line : List ℕ) → StopsAt line eol → ends_with_byte eol line ≡ true → line_texts eol line ≡ strip_last eol line ∷ []
   key_of_ended line stops ended =
-      ap (keys_in eol) (ended_parts line ended) ∙ keys_in_ended (take (length line - 1) line) [] stops
+      ap (line_texts eol) (ended_parts line ended) ∙ line_texts_ended (take (length line - 1) line) [] stops
       ∙ ap (λ b. cond b (take (length line - 1) line) line ∷ []) (sym ended)
 
   key_of_bare : (line : List ℕ) → StopsAt line eol → ends_with_byte eol line ≡ false → 0 < length line
-      → keys_in eol line ≡ strip_last eol line ∷ []
+      → line_texts eol line ≡ strip_last eol line ∷ []
   key_of_bare line stops bare_end some =
-      keys_in_bare line (bare_line line stops bare_end some) some
+      line_texts_bare line (bare_line line stops bare_end some) some
       ∙ ap (λ b. cond b (take (length line - 1) line) line ∷ []) (sym bare_end)
 
   -- a line with its end is whole
@@ -70,9 +87,9 @@ module _ (eol : ℕ) where
   ended_is_whole line stops ended = λ later.
       let front = take (length line - 1) line in
       let parts = ended_parts line ended in
-      ap (λ l. keys_in eol (l ++ later)) parts ∙ ap (keys_in eol) (append_assoc front (eol ∷ []) later)
-      ∙ keys_in_ended front later stops
-      ∙ ap (λ ks. ks ++ keys_in eol later) (sym (keys_in_ended front [] stops) ∙ sym (ap (keys_in eol) parts))
+      ap (λ l. line_texts eol (l ++ later)) parts ∙ ap (line_texts eol) (append_assoc front (eol ∷ []) later)
+      ∙ line_texts_ended front later stops
+      ∙ ap (λ ks. ks ++ line_texts eol later) (sym (line_texts_ended front [] stops) ∙ sym (ap (line_texts eol) parts))
 
   -- what is taken through an end that is not there is all
   through_bare : (bytes : List ℕ) → All (λ x. x ≢ eol) (take_through eol bytes) → take_through eol bytes ≡ bytes
@@ -101,50 +118,43 @@ module _ (eol : ℕ) where
 
   -- the key of a line is taken
   pub takes_ended : (keys keys' : List (List ℕ)) (left left' : Option (List ℕ)) (line : List ℕ) → Consumes left left' line → StopsAt line eol
-      → ends_with_byte eol line ≡ true → keys' ≡ with_text keys (strip_last eol line) → ReadsKey eol keys keys' left left' true
+      → ends_with_byte eol line ≡ true → keys' ≡ with_text keys (strip_last eol line) → ReadsLine eol keys keys' left left' true
   takes_ended keys keys' left left' line read stops ended is = (
     line,
-    record { read = read; taken = is ∙ ap (fold with_text keys) (sym (key_of_ended line stops ended)) },
+    record { consumed = read; taken = is ∙ ap (fold with_text keys) (sym (key_of_ended line stops ended)) },
     ended_is_whole line stops ended,
   )
 
   pub takes_bare : (keys keys' : List (List ℕ)) (left left' : Option (List ℕ)) (line : List ℕ) → Consumes left left' line → StopsAt line eol
       → ends_with_byte eol line ≡ false → 0 < length line → IfSome left (λ bytes. line ≡ take_through eol bytes)
-      → keys' ≡ with_text keys (strip_last eol line) → ReadsKey eol keys keys' left left' false
+      → keys' ≡ with_text keys (strip_last eol line) → ReadsLine eol keys keys' left left' false
   takes_bare keys keys' left left' line read stops bare_end some through is = (
     line,
-    record { read = read; taken = is ∙ ap (fold with_text keys) (sym (key_of_bare line stops bare_end some)) },
-    all_read left line through stops bare_end,
+    record {
+      takes = record { consumed = read; taken = is ∙ ap (fold with_text keys) (sym (key_of_bare line stops bare_end some)) };
+      all = all_read left line through stops bare_end;
+    },
   )
 
-  -- of keys with their ends, and then more
-  pub takes_more : (keys keys' keys'' : List (List ℕ)) (a b c : Option (List ℕ)) (text more : List ℕ) → TakesKeys eol keys keys' a b text
-      → IsWhole eol text → TakesKeys eol keys' keys'' b c more → TakesKeys eol keys keys'' a c (text ++ more)
-  takes_more keys keys' keys'' a b c text more first whole second = record {
-    read = Consumes-trans a b c text more first.read second.read;
-    taken =
-        second.taken ∙ ap (λ ks. with_keys eol ks more) first.taken
-        ∙ sym (fold-append with_text keys (keys_in eol text) (keys_in eol more)) ∙ ap (fold with_text keys) (sym (whole more));
-  }
+  -- of lines with their ends, and then more
+  pub takes_more : (keys keys' keys'' : List (List ℕ)) (a b c : Option (List ℕ)) (text more : List ℕ)
+      → TakesKeys keys keys' a b text (line_texts eol text) → IsWhole eol text → TakesKeys keys' keys'' b c more (line_texts eol more)
+      → TakesKeys keys keys'' a c (text ++ more) (line_texts eol (text ++ more))
+  takes_more keys keys' keys'' a b c text more first whole second =
+      subst (TakesKeys keys keys'' a c (text ++ more)) (sym (whole more))
+      (takes_both keys keys' keys'' a b c text more (line_texts eol text) (line_texts eol more) first second)
 
   pub whole_more : (text more : List ℕ) → IsWhole eol text → IsWhole eol more → IsWhole eol (text ++ more)
   whole_more text more first second = λ later.
-      ap (keys_in eol) (append_assoc text more later) ∙ first (more ++ later) ∙ ap (λ ks. keys_in eol text ++ ks) (second later)
-      ∙ sym (append_assoc (keys_in eol text) (keys_in eol more) (keys_in eol later))
-      ∙ ap (λ ks. ks ++ keys_in eol later) (sym (first more))
-
-  -- all that is left behind what was read
-  pub all_behind : (a b c : Option (List ℕ)) (text more : List ℕ) → Consumes a b text → Consumes b c more → IfSome b (λ bytes. bytes ≡ more)
-      → IfSome a (λ bytes. bytes ≡ text ++ more)
-  all_behind None b c text more first second all = tt
-  all_behind (Some x) None c text more first second all = absurd first
-  all_behind (Some x) (Some y) c text more first second all = first ∙ ap (λ l. text ++ l) all
+      ap (line_texts eol) (append_assoc text more later) ∙ first (more ++ later) ∙ ap (λ ks. line_texts eol text ++ ks) (second later)
+      ∙ sym (append_assoc (line_texts eol text) (line_texts eol more) (line_texts eol later))
+      ∙ ap (λ ks. ks ++ line_texts eol later) (sym (first more))
 
   -- what comes of a line, whether or not it has its end
   pub takes_line : (keys keys' : List (List ℕ)) (left left' : Option (List ℕ)) (before line : List ℕ) → before ≡ []
       → Consumes left left' (appended_bytes before line) → StopsAt (appended_bytes before line) eol → 0 < length line
       → IfSome left (λ bytes. line ≡ before ++ take_through eol bytes) → keys' ≡ with_text keys (strip_last eol line)
-      → (ended : Bool) → ended ≡ ends_with_byte eol line → ReadsKey eol keys keys' left left' ended
+      → (ended : Bool) → ended ≡ ends_with_byte eol line → ReadsLine eol keys keys' left left' ended
   takes_line keys keys' left left' before line none read stops some through is ended told = at ended told
     where
       same : appended_bytes before line ≡ line
@@ -159,14 +169,13 @@ module _ (eol : ℕ) where
       through' : IfSome left (λ bytes. line ≡ take_through eol bytes)
       through' = rw none at through
 
-      at : (ended : Bool) → ended ≡ ends_with_byte eol line → ReadsKey eol keys keys' left left' ended
+      at : (ended : Bool) → ended ≡ ends_with_byte eol line → ReadsLine eol keys keys' left left' ended
       at true told = takes_ended keys keys' left left' line read' stops' (sym told) is
       at false told = takes_bare keys keys' left left' line read' stops' (sym told) some through' is
 
   -- whole lines and behind them one more, or the last
-  pub goes_on : (keys keys' keys'' : List (List ℕ)) (a b c : Option (List ℕ))
-      → (text : List ℕ) × TakesKeys eol keys keys' a b text × IsWhole eol text → (ended : Bool) → ended ≡ true
-      → ReadsKey eol keys' keys'' b c ended → (text : List ℕ) × TakesKeys eol keys keys'' a c text × IsWhole eol text
+  pub goes_on : (keys keys' keys'' : List (List ℕ)) (a b c : Option (List ℕ)) → ReadsLine eol keys keys' a b true
+      → (ended : Bool) → ended ≡ true → ReadsLine eol keys' keys'' b c ended → ReadsLine eol keys keys'' a c true
   goes_on keys keys' keys'' a b c (text, first, whole) true is (more, second, ends) = (
     text ++ more,
     takes_more keys keys' keys'' a b c text more first whole second,
@@ -174,12 +183,43 @@ module _ (eol : ℕ) where
   )
   goes_on keys keys' keys'' a b c before false is second = absurd (false≢true is)
 
-  pub ends_all : (keys keys' keys'' : List (List ℕ)) (a b c : Option (List ℕ))
-      → (text : List ℕ) × TakesKeys eol keys keys' a b text × IsWhole eol text → (ended : Bool) → ended ≡ false
-      → ReadsKey eol keys' keys'' b c ended → ReadsKeys eol keys keys'' a c
+  pub ends_all : (keys keys' keys'' : List (List ℕ)) (a b c : Option (List ℕ)) → ReadsLine eol keys keys' a b true
+      → (ended : Bool) → ended ≡ false → ReadsLine eol keys' keys'' b c ended → ReadsLines eol keys keys'' a c
   ends_all keys keys' keys'' a b c before true is second = absurd (false≢true (sym is))
-  ends_all keys keys' keys'' a b c (text, first, whole) false is (more, second, all) = (
+  ends_all keys keys' keys'' a b c (text, first, whole) false is (more, second) = (
     text ++ more,
-    takes_more keys keys' keys'' a b c text more first whole second,
-    all_behind a b c text more first.read second.read all,
+    record {
+      takes = takes_more keys keys' keys'' a b c text more first whole second.takes;
+      all = all_behind a b c text more first.consumed second.takes.consumed second.all;
+    },
   )
+
+-- ---- keys of so many bytes
+
+-- keys of so many bytes and behind them one more, or all
+pub fixed_more : (width : ℕ) (keys keys' keys'' : List (List ℕ)) (a b c : Option (List ℕ)) → TakesFixed width keys keys' a b
+    → (is_one : Bool) → is_one ≡ true → ReadsOne width keys' keys'' b c is_one → TakesFixed width keys keys'' a c
+fixed_more width keys keys' keys'' a b c (read, first, wide) true is (key, second, long) = (
+  read ++ key ∷ [],
+  subst (λ text. TakesKeys keys keys'' a c text (read ++ key ∷ []))
+      (sym (concat-append read (key ∷ []) ∙ ap (λ t. concat read ++ t) (append-nil key)))
+      (takes_both keys keys' keys'' a b c (concat read) key read (key ∷ []) first second),
+  All-push (λ k. length k ≡ width) read key wide long,
+)
+fixed_more width keys keys' keys'' a b c before false is second = absurd (false≢true is)
+
+pub fixed_all : (width : ℕ) (keys keys' keys'' : List (List ℕ)) (a b c : Option (List ℕ)) → TakesFixed width keys keys' a b
+    → (is_one : Bool) → is_one ≡ false → ReadsOne width keys' keys'' b c is_one → ReadsFixed width keys keys'' a c
+fixed_all width keys keys' keys'' a b c before true is second = absurd (false≢true (sym is))
+fixed_all width keys keys' keys'' a b c (read, first, wide) false is second = (
+  read,
+  record {
+    takes = record {
+      consumed = subst (Consumes a c) (append-nil (concat read)) (Consumes-trans a b c (concat read) [] first.consumed second.takes.consumed);
+      taken = second.takes.taken ∙ first.taken;
+    };
+    all = subst (λ t. IfSome a (λ bytes. bytes ≡ t)) (append-nil (concat read))
+        (all_behind a b c (concat read) [] first.consumed second.takes.consumed second.all);
+  },
+  wide,
+)

@@ -8,7 +8,7 @@ use Rattle.spread.specs.declared.call.Wrong.TheVariants as wrong
 use Rattle.hash_texts.specs.declared.texts.Full.{Full}
 use Rattle.hash_texts.specs.declared.texts.Full.TheVariants as full
 use Rattle.spread.specs.declared.fault.Fault.{Fault}
-use Rattle.spread.specs.declared.fault.Fault.TheVariants.{Unread, Unwritten, Undrawn, NoMemory, TooManyKeys, NoKeys}
+use Rattle.spread.specs.declared.fault.Fault.TheVariants.{Unread, Unwritten, Undrawn, NoMemory, TooManyKeys, NoKeys, ShortKey}
 
 -- the letters and the names of the options, but for those with a value
 abbrev pub letters : List ℕ
@@ -21,8 +21,8 @@ names = codes "zero-terminated" ∷ codes "no-times" ∷ codes "help" ∷ codes 
 abbrev pub failure_of : Outcome → List ℕ
 failure_of Done = []
 failure_of (Usage wrong.UnknownOption) = codes "unknown option"
-failure_of (Usage wrong.NoValue) = codes "-b wants a number, and --plot a file"
-failure_of (Usage wrong.NoNumber) = codes "-b wants a number from 1 on"
+failure_of (Usage wrong.NoValue) = codes "-b and -w want a number, and --plot a file"
+failure_of (Usage wrong.NoNumber) = codes "-b and -w want a number from 1 on"
 failure_of (Usage wrong.UnknownName) = codes "unknown name"
 failure_of (Failed (Unread error)) = codes "-"
 failure_of (Failed (Unwritten error)) = codes "write error"
@@ -30,6 +30,7 @@ failure_of (Failed (Undrawn error)) = codes "the picture was not written"
 failure_of (Failed NoMemory) = codes "out of memory"
 failure_of (Failed TooManyKeys) = codes "too many different keys"
 failure_of (Failed NoKeys) = codes "there are no keys"
+failure_of (Failed ShortKey) = codes "the input ends within a key"
 
 -- 0 where all went well, 2 where the call was wrong, and else 1, but for a write that nobody reads
 abbrev pub status_of : Outcome → ℕ

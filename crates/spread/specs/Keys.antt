@@ -1,32 +1,52 @@
--- The keys of a text, each of which ends with a byte, newline or another, and what a set has once they are read.
-use Rattle.std.specs.Prelude.{ℕ, ◌≡◌, ◌==◌, ◌++◌, if◌then◌else◌, Bool, true, false, Option, List, [], ◌∷◌, IfSome, fold}
+-- The keys of a text, and what a set has once they are read.
+use Rattle.std.specs.Prelude.{ℕ, ◌≡◌, ◌++◌, Bool, true, false, Option, List, All, IfSome, fold, length, [], ◌∷◌}
+use Rattle.std.specs.Int.NonZero.{non_zero_usize_get}
 use Rattle.std.specs.Io.KnownBytes.{Consumes}
-use Rattle.std.specs.List.{onto_first}
+use Rattle.std.specs.List.{concat}
+use Rattle.hash_lines.specs.Lines.{line_texts}
 use Rattle.hash_texts.specs.Texts.{with_text}
+use Rattle.spread.specs.declared.keys.Layout.{Layout}
+use Rattle.spread.specs.declared.keys.Layout.TheVariants.{Lines, Fixed}
 
--- the keys: what stands before each end, and behind the last end, if that is something
-abbrev pub keys_in : (eol : ℕ) → List ℕ → List (List ℕ)
-keys_in eol [] = []
-keys_in eol (byte ∷ text) = if byte == eol then [] ∷ keys_in eol text else onto_first byte (keys_in eol text)
-
--- these keys, and behind them those of the text, each once
-abbrev pub with_keys : (eol : ℕ) → List (List ℕ) → List ℕ → List (List ℕ)
-with_keys eol keys text = fold with_text keys (keys_in eol text)
-
--- a text was read, and its keys are there
-pub record TakesKeys (eol : ℕ) (keys keys' : List (List ℕ)) (left left' : Option (List ℕ)) (text : List ℕ) : Type 0 where
-  pub read : Consumes left left' text
-  pub taken : keys' ≡ with_keys eol keys text
+-- a text was read, and its keys are there, behind those that were there, each once
+pub record TakesKeys (keys keys' : List (List ℕ)) (left left' : Option (List ℕ)) (text : List ℕ) (read : List (List ℕ)) : Type 0 where
+  pub consumed : Consumes left left' text
+  pub taken : keys' ≡ fold with_text keys read
 
 -- all that was left was read, and its keys are there
-abbrev pub ReadsKeys : (eol : ℕ) (keys keys' : List (List ℕ)) (left left' : Option (List ℕ)) → Type 0
-ReadsKeys eol keys keys' left left' = (text : List ℕ) × TakesKeys eol keys keys' left left' text × IfSome left (λ bytes. bytes ≡ text)
+pub record TakesAll (keys keys' : List (List ℕ)) (left left' : Option (List ℕ)) (text : List ℕ) (read : List (List ℕ)) : Type 0 where
+  pub takes : TakesKeys keys keys' left left' text read
+  pub all : IfSome left (λ bytes. bytes ≡ text)
 
--- the text is whole keys with their ends
+-- the keys are the lines of all that was left
+abbrev pub ReadsLines : (eol : ℕ) (keys keys' : List (List ℕ)) (left left' : Option (List ℕ)) → Type 0
+ReadsLines eol keys keys' left left' = (text : List ℕ) × TakesAll keys keys' left left' text (line_texts eol text)
+
+-- keys of so many bytes were read, and are there
+abbrev pub TakesFixed : (width : ℕ) (keys keys' : List (List ℕ)) (left left' : Option (List ℕ)) → Type 0
+TakesFixed width keys keys' left left' = (read : List (List ℕ)) × TakesKeys keys keys' left left' (concat read) read
+    × All (λ key. length key ≡ width) read
+
+-- the keys, joined, are all that was left, and each has so many bytes
+abbrev pub ReadsFixed : (width : ℕ) (keys keys' : List (List ℕ)) (left left' : Option (List ℕ)) → Type 0
+ReadsFixed width keys keys' left left' = (read : List (List ℕ)) × TakesAll keys keys' left left' (concat read) read
+    × All (λ key. length key ≡ width) read
+
+-- all keys that were left were read
+abbrev pub ReadsKeys : Layout → (keys keys' : List (List ℕ)) (left left' : Option (List ℕ)) → Type 0
+ReadsKeys (Lines eol) = ReadsLines eol
+ReadsKeys (Fixed width) = ReadsFixed (non_zero_usize_get width)
+
+-- the text is whole lines with their ends
 abbrev pub IsWhole : (eol : ℕ) → List ℕ → Type 0
-IsWhole eol text = (later : List ℕ) → keys_in eol (text ++ later) ≡ keys_in eol text ++ keys_in eol later
+IsWhole eol text = (later : List ℕ) → line_texts eol (text ++ later) ≡ line_texts eol text ++ line_texts eol later
 
 -- a line was read, and its key is there: one with its end, or all that was left
-abbrev pub ReadsKey : (eol : ℕ) (keys keys' : List (List ℕ)) (left left' : Option (List ℕ)) → (has_end : Bool) → Type 0
-ReadsKey eol keys keys' left left' true = (text : List ℕ) × TakesKeys eol keys keys' left left' text × IsWhole eol text
-ReadsKey eol keys keys' left left' false = ReadsKeys eol keys keys' left left'
+abbrev pub ReadsLine : (eol : ℕ) (keys keys' : List (List ℕ)) (left left' : Option (List ℕ)) → (has_end : Bool) → Type 0
+ReadsLine eol keys keys' left left' true = (text : List ℕ) × TakesKeys keys keys' left left' text (line_texts eol text) × IsWhole eol text
+ReadsLine eol keys keys' left left' false = ReadsLines eol keys keys' left left'
+
+-- a key of so many bytes was read, and is there; or none was left
+abbrev pub ReadsOne : (width : ℕ) (keys keys' : List (List ℕ)) (left left' : Option (List ℕ)) → (is_one : Bool) → Type 0
+ReadsOne width keys keys' left left' true = (key : List ℕ) × TakesKeys keys keys' left left' key (key ∷ []) × (length key ≡ width)
+ReadsOne width keys keys' left left' false = TakesAll keys keys' left left' [] []

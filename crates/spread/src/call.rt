@@ -4,11 +4,13 @@ ghost use Rattle.hash_program.specs.Call.{texts, unknown};
 ghost use Rattle.spread.specs.Call.{failure_of, letters, names, status_of};
 
 use crate::fault::Fault;
+use crate::keys::Layout;
 use crate::names::{Hasher, all_hashers};
 use hash_program::about::write_status;
 use hash_program::call::{first_unknown, is_given, operands};
 use hash_program::valued::take_value;
 use std::alloc::{AllocError, Global};
+use std::num::NonZeroUsize;
 
 /// The words of a call, without the options that have a value, and those values.
 #[derive(Drop)]
@@ -17,6 +19,8 @@ pub struct Call {
     pub words: Vec<Vec<u8>>,
     /// The number of buckets that was given last.
     pub buckets: Option<Vec<u8>>,
+    /// The number of bytes of a key that was given last.
+    pub width: Option<Vec<u8>>,
     /// The name of the picture's file that was given last.
     pub plot: Option<Vec<u8>>,
     /// Whether the last word is an option that wants a value.
@@ -28,8 +32,8 @@ pub struct Call {
 pub struct Settings {
     /// The number of buckets, in place of those by the number of keys.
     pub buckets: Option<u64>,
-    /// The byte that ends a key.
-    pub eol: u8,
+    /// How the keys lie in the input.
+    pub layout: Layout,
     /// Whether times are measured.
     pub times: bool,
 }
@@ -52,7 +56,7 @@ pub enum Wrong {
     UnknownOption,
     /// It gives no value behind an option that wants one.
     NoValue,
-    /// It gives a number of buckets that is none from 1 on.
+    /// It gives a number of buckets or bytes that is none from 1 on.
     NoNumber,
     /// It names a hash that there is not.
     UnknownName,
@@ -72,12 +76,14 @@ pub enum Outcome {
 /// Takes the options with a value out of the words behind the program's own name. `--plot` has no letter: no word has a zero byte.
 pub fn call_of(alloc: Global, words: &[Vec<u8>]) -> Result<Call, AllocError> {
     let buckets = take_value(alloc, words, b'b', b"buckets")?;
-    let plot = take_value(alloc, &buckets.words, 0, b"plot")?;
+    let width = take_value(alloc, &buckets.words, b'w', b"width")?;
+    let plot = take_value(alloc, &width.words, 0, b"plot")?;
     Ok(Call {
         words: plot.words,
         buckets: buckets.value,
+        width: width.value,
         plot: plot.value,
-        lacks: buckets.lacks || plot.lacks,
+        lacks: buckets.lacks || width.lacks || plot.lacks,
     })
 }
 
@@ -91,11 +97,32 @@ pub fn unknown_option(words: &[Vec<u8>]) -> Option<&[u8]>
 }
 
 /// The number from 1 on that the digits tell.
-fn number_of(digits: &[u8]) -> Option<u64> {
+fn number_of(digits: &[u8]) -> Option<NonZeroUsize> {
     let text = str::from_utf8(digits).ok()?;
-    match text.parse::<u64>() {
-        Ok(number) if number > 0 && !text.starts_with('+') => Some(number),
-        _ => None,
+    if text.starts_with('+') {
+        return None;
+    }
+    text.parse::<NonZeroUsize>().ok()
+}
+
+/// The first value that has to be a number from 1 on, and is none.
+pub fn no_number(call: &Call) -> Option<&[u8]> {
+    for value in [&call.buckets, &call.width] {
+        let digits = value.as_deref().unwrap_or(b"1");
+        if number_of(digits).is_none() {
+            return Some(digits);
+        }
+    }
+    None
+}
+
+/// How the keys lie in the input.
+fn layout_of(call: &Call) -> Layout {
+    let width = call.width.as_deref().and_then(number_of);
+    match width {
+        Some(width) => Layout::Fixed(width),
+        None if is_given(&call.words, Some(b'z'), b"zero-terminated") => Layout::Lines(0),
+        None => Layout::Lines(b'\n'),
     }
 }
 
@@ -113,21 +140,15 @@ pub fn task_of(call: &Call) -> Result<Task, Wrong> {
     if call.lacks {
         return Err(Wrong::NoValue);
     }
-    let mut settings = Settings {
-        buckets: None,
-        eol: b'\n',
+    if no_number(call).is_some() {
+        return Err(Wrong::NoNumber);
+    }
+    let buckets = call.buckets.as_deref().and_then(number_of);
+    Ok(Task::Table(Settings {
+        buckets: buckets.map(|number| number.get() as u64),
+        layout: layout_of(call),
         times: !is_given(&call.words, None, b"no-times"),
-    };
-    if is_given(&call.words, Some(b'z'), b"zero-terminated") {
-        settings.eol = 0;
-    }
-    if let Some(digits) = &call.buckets {
-        settings.buckets = number_of(digits);
-        if settings.buckets.is_none() {
-            return Err(Wrong::NoNumber);
-        }
-    }
-    Ok(Task::Table(settings))
+    }))
 }
 
 /// The hasher of that name.
@@ -176,8 +197,8 @@ pub fn outcome_failure(outcome: &Outcome) -> &'static str
     match outcome {
         Outcome::Done => "",
         Outcome::Usage(Wrong::UnknownOption) => "unknown option",
-        Outcome::Usage(Wrong::NoValue) => "-b wants a number, and --plot a file",
-        Outcome::Usage(Wrong::NoNumber) => "-b wants a number from 1 on",
+        Outcome::Usage(Wrong::NoValue) => "-b and -w want a number, and --plot a file",
+        Outcome::Usage(Wrong::NoNumber) => "-b and -w want a number from 1 on",
         Outcome::Usage(Wrong::UnknownName) => "unknown name",
         Outcome::Failed(Fault::Unread(_)) => "-",
         Outcome::Failed(Fault::Unwritten(_)) => "write error",
@@ -185,6 +206,7 @@ pub fn outcome_failure(outcome: &Outcome) -> &'static str
         Outcome::Failed(Fault::NoMemory) => "out of memory",
         Outcome::Failed(Fault::TooManyKeys) => "too many different keys",
         Outcome::Failed(Fault::NoKeys) => "there are no keys",
+        Outcome::Failed(Fault::ShortKey) => "the input ends within a key",
     }
 }
 

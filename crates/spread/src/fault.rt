@@ -21,6 +21,8 @@ pub enum Fault {
     TooManyKeys,
     /// There was no key.
     NoKeys,
+    /// The input ended within a key that has a fixed width.
+    ShortKey,
 }
 
 impl Display for Fault {
@@ -33,6 +35,7 @@ impl Display for Fault {
             Fault::NoMemory => write!(f, "out of memory"),
             Fault::TooManyKeys => write!(f, "too many keys"),
             Fault::NoKeys => write!(f, "there are no keys"),
+            Fault::ShortKey => write!(f, "the input ends within a key"),
         }
     }
 }

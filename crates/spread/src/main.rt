@@ -12,7 +12,6 @@ mod laws;
 mod named;
 mod names;
 mod picture;
-mod progress;
 mod run;
 mod sizes;
 mod table;
@@ -20,8 +19,8 @@ mod table;
 mod tests;
 
 use call::{
-    Call, Outcome, Task, Wrong, call_of, hashers_of, outcome_failure, outcome_status, task_of,
-    unknown_name, unknown_option,
+    Call, Outcome, Task, Wrong, call_of, hashers_of, no_number, outcome_failure, outcome_status,
+    task_of, unknown_name, unknown_option,
 };
 use fault::Fault;
 use hash_program::about::tell;
@@ -37,7 +36,8 @@ use std::process::ExitCode;
 const BUFFER: usize = 65536;
 
 /// How the program is called.
-const HELP: &str = "usage: spread [-b BUCKETS] [-z] [--no-times] [--plot FILE.svg] [NAME..] < KEYS
+const HELP: &str = "usage: spread [-b BUCKETS] [-w BYTES | -z] [--no-times] [--plot FILE.svg]
+              [NAME..] < KEYS
 
 Tells which hash suits keys. Each line of standard input is a key, and each
 different key counts once. For each NAME, or each hash that makes sense, it
@@ -51,6 +51,7 @@ The buckets are as many as the power of two at or above the number of keys,
 and as the next odd number above that.
 
   -b, --buckets BUCKETS  so many buckets instead
+  -w, --width BYTES      keys are so many bytes each, with nothing between two
   -z, --zero-terminated  keys end with a zero byte, not with a newline
       --no-times         measure no times and recommend nothing
       --plot FILE.svg    draw the table, too
@@ -105,7 +106,7 @@ fn why(rt: &HostRuntime, call: &Call, outcome: &Outcome) -> Option<String> {
     let word = match outcome {
         Outcome::Usage(Wrong::UnknownOption) => unknown_option(&call.words),
         Outcome::Usage(Wrong::UnknownName) => unknown_name(alloc, &call.words).ok()?,
-        Outcome::Usage(Wrong::NoNumber) => call.buckets.as_deref(),
+        Outcome::Usage(Wrong::NoNumber) => no_number(call),
         Outcome::Failed(Fault::Unread(error))
         | Outcome::Failed(Fault::Unwritten(Some(error)))
         | Outcome::Failed(Fault::Undrawn(error)) => return reason(alloc, error).ok(),

@@ -115,7 +115,8 @@ pub fn counts_named(
     sizes: Sizes,
     hashed: &mut Hashed,
 ) -> Option<Result<Counts, AllocError>>
-    ensures { ComesOf (λ hash result. (hashed.new.keys ≡ hashed.old.keys) × AreCounted hash sizes hashed.old.keys result)
+    ensures { ComesOf
+        (λ hash result. (hashed.new.keys ≡ hashed.old.keys) × AreCounted hash sizes hashed.old.keys result)
         (hashed.new ≡ hashed.old) (named name.now) result }
 {
     match hash_named(name, 1, hashed) {

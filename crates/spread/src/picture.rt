@@ -1,7 +1,7 @@
 //! The table as a picture, in SVG: a row for each hasher, and a shaded cell for each number.
 use crate::chance::{Chance, nearest};
 use crate::counts::Spread;
-use crate::table::{Frame, Row};
+use crate::table::{Frame, Row, digits};
 use std::alloc::{AllocError, Global};
 
 /// From green, for a number near chance or below, to red.
@@ -130,16 +130,9 @@ fn x_of(group: u64, wide: u64) -> u64 {
 /// How wide a column is, by the greatest number that may stand in it.
 fn width_of(frame: &Frame) -> u64 {
     let keys = u128::from(frame.keys);
-    let mut wide = 2 * DIGIT;
-    let mut rest = keys.saturating_mul(keys).max(frame.sizes.first.into());
-    for _ in 0..40 {
-        if rest == 0 {
-            break;
-        }
-        wide = wide.saturating_add(DIGIT);
-        rest /= 10;
-    }
-    wide.max(NARROW)
+    let greatest = keys.saturating_mul(keys).max(frame.sizes.first.into());
+    let letters = u64::from(digits(greatest)).saturating_add(2);
+    letters.saturating_mul(DIGIT).max(NARROW)
 }
 
 /// Draws the cells of each row, in the group of columns of one number of buckets.

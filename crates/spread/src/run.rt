@@ -2,19 +2,19 @@
 use crate::call::Settings;
 use crate::clock::time_of;
 use crate::fault::Fault;
-use crate::keys::read_keys;
+use crate::keys::{Layout, read_keys};
 use crate::named::{Hashed, counts_named};
 use crate::names::Hasher;
 use crate::picture::picture;
-use crate::progress::{Progress, Watched};
 use crate::sizes::sizes_of;
 use crate::table::{Frame, Row};
 use hash_program::inputs::open;
+use hash_program::progress::{Progress, Watched};
 use hash_program::streams::{TRIES, put, put_out};
 use hash_texts::{RandomKeys, Texts};
 use std::fs::File;
 use std::io;
-use std::io::{BufReader, BufWriter, Error, ErrorKind, Stdout};
+use std::io::{BufReader, BufWriter, Error, ErrorKind, IsTerminal, Stdout};
 
 /// How many bytes are read at once.
 const BUFFER: usize = 65536;
@@ -28,11 +28,7 @@ fn tell(w: &mut BufWriter<Stdout>, line: &str) -> Result<(), Fault> {
 }
 
 /// The keys of standard input, each once.
-fn keys_of_input(
-    rt: &HostRuntime,
-    eol: u8,
-    progress: &mut Progress<'_>,
-) -> Result<Texts<RandomKeys>, Fault> {
+fn keys_of_input(rt: &HostRuntime, layout: Layout) -> Result<Texts<RandomKeys>, Fault> {
     let alloc = rt.alloc();
     let hasher = match RandomKeys::new(rt) {
         Ok(hasher) => hasher,
@@ -43,13 +39,9 @@ fn keys_of_input(
         Ok(input) => input,
         Err(error) => return Err(Fault::Unread(error)),
     };
-    let watched = Watched {
-        input,
-        progress,
-        bytes: 0,
-    };
+    let watched = Watched::new(input, Progress::new(rt, rt.stderr().is_terminal()));
     match BufReader::with_capacity(alloc, BUFFER, watched) {
-        Ok(mut reader) => read_keys(alloc, &mut keys, eol, &mut reader)?,
+        Ok(mut reader) => read_keys(alloc, &mut keys, layout, &mut reader)?,
         Err(_) => return Err(Fault::NoMemory),
     }
     Ok(keys)
@@ -84,9 +76,9 @@ fn tell_rows(
     hashers: &[Hasher],
     frame: &Frame,
     hashed: &mut Hashed,
-    progress: &mut Progress<'_>,
     w: &mut BufWriter<Stdout>,
 ) -> Result<Vec<Row>, Fault> {
+    let mut progress = Progress::new(rt, rt.stderr().is_terminal());
     let mut rows = Vec::new(rt.alloc());
     for (done, hasher) in hashers.iter().enumerate() {
         progress.show(done as u64, "hashers done");
@@ -157,9 +149,7 @@ pub fn tell_table(
     plot: Option<&[u8]>,
     w: &mut BufWriter<Stdout>,
 ) -> Result<(), Fault> {
-    let mut progress = Progress::new(rt);
-    let keys = keys_of_input(rt, settings.eol, &mut progress)?;
-    progress.clear();
+    let keys = keys_of_input(rt, settings.layout)?;
     if keys.is_empty() {
         return Err(Fault::NoKeys);
     }
@@ -173,7 +163,7 @@ pub fn tell_table(
         hashes: Vec::new(rt.alloc()),
     };
     tell(w, frame.head(rt.alloc())?.as_str())?;
-    let rows = tell_rows(rt, hashers, &frame, &mut hashed, &mut progress, w)?;
+    let rows = tell_rows(rt, hashers, &frame, &mut hashed, w)?;
     tell_chance(rt, &rows, &frame, w)?;
     if settings.times {
         tell_best(rt, &rows, &frame, w)?;

@@ -63,17 +63,16 @@ fn line_of(alloc: Global, cells: &[Cell]) -> Result<String, AllocError> {
 }
 
 /// How many digits a number has.
-fn digits(number: u128) -> usize {
-    let mut count: usize = 1;
-    let mut rest = number / 10;
-    for _ in 0..40 {
-        if rest == 0 {
-            break;
-        }
-        count = count.saturating_add(1);
-        rest /= 10;
+pub fn digits(number: u128) -> u32 {
+    match number.checked_ilog10() {
+        Some(power) => power.saturating_add(1),
+        None => 1,
     }
-    count
+}
+
+/// How wide a column of numbers up to this one is, whose head has so many letters.
+fn wide_for(greatest: u128, head: usize) -> usize {
+    (digits(greatest) as usize).max(head).saturating_add(2)
 }
 
 /// How wide the columns are.
@@ -96,12 +95,10 @@ fn widths_of(frame: &Frame) -> Widths {
     Widths {
         name: 11,
         bits: 6,
-        equal: digits(squares / 2).max(7).saturating_add(2),
-        fullest: digits(keys).max(7).saturating_add(2),
-        empty: digits(u128::from(frame.sizes.first.max(second)))
-            .max(5)
-            .saturating_add(2),
-        squares: digits(squares).max(7).saturating_add(2),
+        equal: wide_for(squares / 2, 7),
+        fullest: wide_for(keys, 7),
+        empty: wide_for(u128::from(frame.sizes.first.max(second)), 5),
+        squares: wide_for(squares, 7),
         time: 8,
     }
 }

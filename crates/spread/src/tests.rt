@@ -3,7 +3,7 @@ use crate::call::{Call, Task, call_of, hashers_of, task_of, unknown_name};
 use crate::chance::{Chance, equal_pairs};
 use crate::counts::{Counts, Spread, collisions, spread_of};
 use crate::fault::Fault;
-use crate::keys::read_keys;
+use crate::keys::{Layout, read_keys};
 use crate::named::{Hashed, counts_named};
 use crate::names::all_hashers;
 use crate::sizes::{Sizes, sizes_of};
@@ -11,7 +11,16 @@ use hash_texts::{RandomKeys, Texts};
 use std::alloc::{AllocError, Global};
 use std::io;
 use std::io::{BufReader, Error, ErrorKind, Read};
+use std::num::NonZeroUsize;
 use std::process::Abort;
+
+/// Lines as most files have them.
+const LINES: Layout = Layout::Lines(b'\n');
+
+/// Keys of so many bytes.
+fn fixed(width: usize) -> Layout {
+    Layout::Fixed(NonZeroUsize::new(width).unwrap_or(NonZeroUsize::MAX))
+}
 
 /// That all claims hold.
 fn all_hold(rt: &impl Abort, claims: &[bool]) {
@@ -43,7 +52,7 @@ impl Read for Page<'_> {
 fn keys_of(
     alloc: Global,
     text: &[u8],
-    eol: u8,
+    layout: Layout,
     until_fault: usize,
 ) -> Result<Texts<RandomKeys>, Fault> {
     let mut keys = Texts::new(alloc, RandomKeys::with_keys(1, 2));
@@ -52,15 +61,15 @@ fn keys_of(
         until_fault,
     };
     match BufReader::with_capacity(alloc, 3, page) {
-        Ok(mut reader) => read_keys(alloc, &mut keys, eol, &mut reader)?,
+        Ok(mut reader) => read_keys(alloc, &mut keys, layout, &mut reader)?,
         Err(_) => return Err(Fault::NoMemory),
     }
     Ok(keys)
 }
 
 /// Whether these are the keys of a text, in their order.
-fn are_keys(alloc: Global, text: &[u8], eol: u8, wanted: &[&[u8]]) -> bool {
-    match keys_of(alloc, text, eol, usize::MAX) {
+fn are_keys(alloc: Global, text: &[u8], layout: Layout, wanted: &[&[u8]]) -> bool {
+    match keys_of(alloc, text, layout, usize::MAX) {
         Ok(keys) => {
             let mut same = keys.len() == wanted.len();
             for (key, other) in keys.iter().zip(wanted.iter()) {
@@ -78,18 +87,26 @@ fn keys_come_once(rt: HostRuntime) {
     all_hold(
         &rt,
         &[
-            are_keys(alloc, b"", b'\n', &[]),
-            are_keys(alloc, b"\n\n", b'\n', &[b""]),
-            are_keys(alloc, b"b\na\nb\nab", b'\n', &[b"b", b"a", b"ab"]),
-            are_keys(alloc, b"long key\n\nlong key\n", b'\n', &[b"long key", b""]),
-            are_keys(alloc, b"x\ny\0y\0x\ny", 0, &[b"x\ny", b"y"]),
+            are_keys(alloc, b"", LINES, &[]),
+            are_keys(alloc, b"\n\n", LINES, &[b""]),
+            are_keys(alloc, b"b\na\nb\nab", LINES, &[b"b", b"a", b"ab"]),
+            are_keys(alloc, b"long key\n\nlong key\n", LINES, &[b"long key", b""]),
+            are_keys(alloc, b"x\ny\0y\0x\ny", Layout::Lines(0), &[b"x\ny", b"y"]),
+            are_keys(alloc, b"", fixed(5), &[]),
+            are_keys(alloc, b"aba\n", fixed(1), &[b"a", b"b", b"\n"]),
+            are_keys(
+                alloc,
+                b"01234\n\0\n\n\n01234",
+                fixed(5),
+                &[b"01234", b"\n\0\n\n\n"],
+            ),
         ],
     );
 }
 
 /// Whether the read that fails at that byte is told.
-fn tells_fault(alloc: Global, until_fault: usize) -> bool {
-    match keys_of(alloc, b"b\na\nb", b'\n', until_fault) {
+fn tells_fault(alloc: Global, layout: Layout, until_fault: usize) -> bool {
+    match keys_of(alloc, b"b\na\nbc", layout, until_fault) {
         Err(Fault::Unread(error)) => error.kind() == ErrorKind::BrokenPipe,
         _ => false,
     }
@@ -97,9 +114,38 @@ fn tells_fault(alloc: Global, until_fault: usize) -> bool {
 
 #[test]
 fn a_read_fails_at_each_byte(rt: HostRuntime) {
-    for until_fault in 0..6 {
-        all_hold(&rt, &[tells_fault(rt.alloc(), until_fault)]);
+    for until_fault in 0..7 {
+        all_hold(
+            &rt,
+            &[
+                tells_fault(rt.alloc(), LINES, until_fault),
+                tells_fault(rt.alloc(), fixed(2), until_fault),
+                tells_fault(rt.alloc(), fixed(3), until_fault),
+            ],
+        );
     }
+}
+
+/// Whether it is told that the last key has fewer bytes than that.
+fn tells_short_key(alloc: Global, text: &[u8], width: usize) -> bool {
+    matches!(
+        keys_of(alloc, text, fixed(width), usize::MAX),
+        Err(Fault::ShortKey)
+    )
+}
+
+#[test]
+fn the_input_ends_within_a_key(rt: HostRuntime) {
+    let alloc = rt.alloc();
+    all_hold(
+        &rt,
+        &[
+            tells_short_key(alloc, b"a", 2),
+            tells_short_key(alloc, b"abcdefg", 4),
+            tells_short_key(alloc, b"abcdabcdabc", 4),
+            !tells_short_key(alloc, b"abcdabcd", 4),
+        ],
+    );
 }
 
 #[test]
@@ -210,10 +256,10 @@ fn call(alloc: Global, words: &[&str]) -> Result<Call, AllocError> {
     call_of(alloc, &all)
 }
 
-/// What the words ask for: the number of buckets, the byte that ends a key, and whether times are measured.
-fn asked(alloc: Global, words: &[&str]) -> Option<(Option<u64>, u8, bool)> {
+/// What the words ask for: the number of buckets, how the keys lie, and whether times are measured.
+fn asked(alloc: Global, words: &[&str]) -> Option<(Option<u64>, Layout, bool)> {
     match task_of(&call(alloc, words).ok()?) {
-        Ok(Task::Table(settings)) => Some((settings.buckets, settings.eol, settings.times)),
+        Ok(Task::Table(settings)) => Some((settings.buckets, settings.layout, settings.times)),
         _ => None,
     }
 }
@@ -233,10 +279,12 @@ fn calls_by_the_table(rt: HostRuntime) {
     all_hold(
         &rt,
         &[
-            asked(alloc, &[]) == Some((None, b'\n', true)),
-            asked(alloc, &["-zb", "7", "--no-times"]) == Some((Some(7), 0, false)),
-            asked(alloc, &["--buckets=7", "--plot", "x"]) == Some((Some(7), b'\n', true)),
+            asked(alloc, &[]) == Some((None, LINES, true)),
+            asked(alloc, &["-zb", "7", "--no-times"]) == Some((Some(7), Layout::Lines(0), false)),
+            asked(alloc, &["--buckets=7", "--plot", "x"]) == Some((Some(7), LINES, true)),
+            asked(alloc, &["-zw3"]) == Some((None, fixed(3), true)),
             asked(alloc, &["-b0"]).is_none() && asked(alloc, &["-b", "+1"]).is_none(),
+            asked(alloc, &["-w0"]).is_none() && asked(alloc, &["--width=x"]).is_none(),
             asked(alloc, &["-b"]).is_none() && asked(alloc, &["--plot"]).is_none(),
             asked(alloc, &["-x"]).is_none() && asked(alloc, &["--help"]).is_none(),
             chosen(alloc, &[]) == Some(12) && chosen(alloc, &["null", "-z"]) == Some(1),

@@ -1,20 +1,13 @@
-//! The files of the disk, and how far one is read.
+//! The files of the disk.
 use crate::check::Counts;
 use crate::folder::Folder;
-use hash_program::inputs::{Opened, open, tell_failure};
-use hash_program::streams::{TRIES, read_some};
+use hash_program::inputs::{open, tell_failure};
+use hash_program::progress::{Progress, Watched};
 use std::io;
-use std::io::{Error, IsTerminal, Read};
-use std::time::Instant;
+use std::io::{Error, IsTerminal};
 
 /// The program's name.
 const PROGRAM: &str = "hashsum";
-
-/// How many milliseconds a file is read before its progress is shown.
-const PATIENCE: u64 = 1000;
-
-/// How many milliseconds later it is shown again.
-const PAUSE: u64 = 200;
 
 /// The files of the disk. What fails is told on standard error, and progress where that is a terminal.
 #[derive(Drop)]
@@ -44,63 +37,6 @@ impl<'r> Disk<'r> {
     }
 }
 
-/// How far a file is read.
-#[derive(Drop)]
-pub struct Progress {
-    begun: Instant,
-    shown: u64,
-    bytes: u64,
-    size: Option<u64>,
-}
-
-/// A file that is read, and how far.
-#[derive(Drop)]
-pub struct Watched<'r> {
-    rt: &'r HostRuntime,
-    file: Opened,
-    progress: Option<Progress>,
-}
-
-impl Progress {
-    /// The line that shows it after so many milliseconds.
-    fn show(&self, rt: &HostRuntime, passed: u64) {
-        let mega = self.bytes / 1000000;
-        let speed = self.bytes / 1000 / passed.max(1);
-        let _ = match self.size {
-            Some(size) if self.bytes > 0 && size > self.bytes => {
-                let left = (size - self.bytes) / 1000 / speed.max(1) / 1000;
-                eprint!(rt; "\r{mega} MB, {speed} MB/s, {left} s left  ")
-            }
-            _ => eprint!(rt; "\r{mega} MB, {speed} MB/s  "),
-        };
-    }
-
-    /// So many bytes more were read; none is the end.
-    fn more(&mut self, rt: &HostRuntime, count: usize) {
-        self.bytes = self.bytes.saturating_add(count as u64);
-        let Ok(passed) = self.begun.elapsed(rt) else {
-            return;
-        };
-        let passed = u64::try_from(passed.as_millis()).unwrap_or(u64::MAX);
-        if count == 0 && self.shown > 0 {
-            let _ = eprint!(rt; "\r                                        \r");
-        } else if count > 0 && passed >= self.shown.saturating_add(PAUSE).max(PATIENCE) {
-            self.shown = passed;
-            self.show(rt, passed);
-        }
-    }
-}
-
-impl Read for Watched<'_> {
-    fn read(&mut self, buf: &mut [u8]) -> io::Result<usize> {
-        let count = read_some(&mut self.file, buf, TRIES)?;
-        if let Some(progress) = &mut self.progress {
-            progress.more(self.rt, count);
-        }
-        Ok(count)
-    }
-}
-
 impl<'r> Folder<Watched<'r>> for Disk<'r> {
     ghost use Rattle.std.specs.Prelude.{None};
 
@@ -108,20 +44,7 @@ impl<'r> Folder<Watched<'r>> for Disk<'r> {
 
     fn open(&self, name: &[u8]) -> io::Result<Watched<'r>> {
         let file = open(self.rt, name)?;
-        let progress = match Instant::now(self.rt) {
-            Ok(begun) if self.shows => Some(Progress {
-                begun,
-                shown: 0,
-                bytes: 0,
-                size: file.size(),
-            }),
-            _ => None,
-        };
-        Ok(Watched {
-            rt: self.rt,
-            file,
-            progress,
-        })
+        Ok(Watched::new(file, Progress::new(self.rt, self.shows)))
     }
 
     fn failed(&self, name: &[u8], error: &Error) {

@@ -3,7 +3,7 @@ use Rattle.std.specs.Io.BufRead.{ends_with_byte, strip_last}
 use Rattle.std.proofs.lemmas.Bool.{eqb-false}
 use Rattle.hash_texts.specs.Texts.{with_text}
 use Rattle.spread.proofs.KeyLemmas.{takes_line}
-use Rattle.spread.proofs.keys.read_key.Goals as goal
+use Rattle.spread.proofs.keys.read_line.Goals as goal
 
 pub returns : goal.returns
 returns g c =
