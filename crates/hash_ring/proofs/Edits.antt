@@ -11,7 +11,7 @@ use Rattle.hash_ring.specs.declared.Node.{Node}
 use Rattle.hash_ring.specs.declared.Point.{Point}
 use Rattle.hash_ring.specs.Ring.{IsPointOf}
 use Rattle.hash_ring.specs.Points.{ArePoints, IsBefore, IsGapAt, IsRing, IsPointOfItsNode, closed_up, left_without, node_at, opened_up, pair_of, pairs, points_of}
-use Rattle.hash_ring.proofs.Points.{among, each}
+use Rattle.hash_ring.proofs.Points.{among, each, mapped_in_order}
 use Rattle.hash_ring.proofs.Names.{Pairs, inserted_sorted, removed_sorted}
 
 -- what `closed_up` makes of the later indices, and of the earlier
@@ -58,18 +58,20 @@ open_high come p h = λ i. record { place = p.place; node = cond (le-ltb p.node 
 open_low : (come : ℕ) (p : Point) → p.node < come → opened_up come p ≡ p
 open_low come p h = λ i. record { place = p.place; node = cond (lt-ltb p.node come h i) p.node (p.node + 1) }
 
-pub opened_and_closed : (at : ℕ) (p : Point) → closed_up at (opened_up at p) ≡ p
-opened_and_closed at p = ⊎_elim
-    (λ (low : p.node < at). ap (closed_up at) (open_low at p low) ∙ up_low at p (omega arith))
-    (λ (high : at ≤ p.node).
-    let back : p.node + 1 - 1 ≡ p.node = omega arith in
-    ap (closed_up at) (open_high at p high) ∙ up_high at (record { place = p.place; node = p.node + 1 }) (omega arith)
-    ∙ (λ i. record { place = p.place; node = back i }))
-    (cases_lt p.node at)
+opens_in_order : (come i j : ℕ) → i ≤ j → cond (ltb i come) i (i + 1) ≤ cond (ltb j come) j (j + 1)
+opens_in_order come i j h = ⊎_elim
+    (λ (low : j < come). let e = lt-ltb i come (omega arith) in let f = lt-ltb j come low in rw (e, f) h)
+    (λ (high : come ≤ j).
+    let f = le-ltb j come high in
+    ⊎_elim
+    (λ (below : i < come). let e = lt-ltb i come below in rw (e, f) (omega arith))
+    (λ (above : come ≤ i). let e = le-ltb i come above in rw (e, f) (omega arith))
+    (cases_lt i come))
+    (cases_lt j come)
 
-pub all_opened_and_closed : (at : ℕ) (points : List Point) → map (closed_up at) (map (opened_up at) points) ≡ points
-all_opened_and_closed at [] = refl
-all_opened_and_closed at (p ∷ points) = λ i. opened_and_closed at p i ∷ all_opened_and_closed at points i
+pub opened_in_order : (come : ℕ) (points : List Point) → AllPairs IsBefore points → AllPairs IsBefore (map (opened_up come) points)
+opened_in_order come = mapped_in_order (opened_up come)
+    (λ p q b. record { place = b.place; node = λ e. opens_in_order come p.node q.node (b.node e) })
 
 -- ---- the points of a ring with a node less
 rises : (gone i j : ℕ) → i ≤ j → cond (ltb gone i) (i - 1) i ≤ cond (ltb gone j) (j - 1) j
@@ -84,14 +86,8 @@ rises gone i j h = ⊎_elim
     (cases_lt gone i)
 
 still_before : (gone : ℕ) (points : List Point) → AllPairs IsBefore points → AllPairs IsBefore (map (closed_up gone) points)
-still_before gone points before i j d less within =
-    let f = closed_up gone in
-    let l : j < length points = omega (arith, length-map points f) in
-    let b = before i j d less l in
-    let both : IsBefore (f (get_or points i d)) (f (get_or points j d)) =
-    record { place = b.place; node = λ e. rises gone _ _ (b.node e) } in
-    subst (λ (p : Point). IsBefore p (get_or (map f points) j d)) (sym (get_or-map f points i d d (omega arith)))
-    (subst (λ (q : Point). IsBefore (f (get_or points i d)) q) (sym (get_or-map f points j d d l)) both)
+still_before gone = mapped_in_order (closed_up gone)
+    (λ p q b. record { place = b.place; node = λ e. rises gone p.node q.node (b.node e) })
 
 in_filter : (p : Point → Bool) (xs : List Point) (x : Point) → p x ≡ true → Contains xs x → Contains (filter p xs) x
 in_filter p [] x e c = absurd (omega (arith, c.1))

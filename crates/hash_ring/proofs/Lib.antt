@@ -4,3 +4,4 @@ pub mod Owners
 pub mod Edits
 pub mod Laws
 pub mod Shares
+pub mod Merge

@@ -222,32 +222,46 @@ fn opened_up(come: usize, point: Point) -> Point
     }
 }
 
-/// Counts the nodes of the points anew, where one comes at an index.
-fn make_way(points: &mut [Point], at: usize)
-    requires { All (λ p. p.node + 1 < 2 ^ 64) points.old }
-    ensures { points.new ≡ map (opened_up at) points.old }
-{
-    for point in points.iter_mut() {
-        *point = opened_up(at, *point);
-    }
-}
-
-/// Puts the points of the node among the others. Where the others are in order, the sort is little more than a merge. Where there
-/// is no memory the others stay in front.
-fn push_in_order<H: Piecewise>(
+/// The points of the node, in order.
+fn points_in_order<H: Piecewise>(
     alloc: Global,
-    points: &mut Vec<Point>,
     node: &Node,
     index: usize,
-) -> Result<(), AllocError>
-    ensures merged { OnOk result (IsPermutation
-        (points.old.items ++ points_of H.hash_of (pair_of node.now) index) points.new.items) }
-    ensures ordered { OnOk result (AllPairs IsBefore points.new.items) }
-    ensures err { OnErr result (take (length points.old.items) points.new.items ≡ points.old.items) }
+) -> Result<Vec<Point>, AllocError>
+    ensures just { IfOk result (λ added. IsPermutation
+        (points_of H.hash_of (pair_of node.now) index) added.items) }
+    ensures ordered { IfOk result (λ added. AllPairs IsBefore added.items) }
 {
-    push_points::<H>(alloc, points, node, index)?;
-    points.sort()?;
-    Ok(())
+    let mut added = Vec::with_capacity(alloc, node.weight as usize)?;
+    push_points::<H>(alloc, &mut added, node, index)?;
+    added.sort_unstable();
+    Ok(added)
+}
+
+/// Merges the points of a new node with the others, the first ones of `points`, of whose nodes those from its index on stand one
+/// further then. The array fills from the end, so that no point is written over before it is read.
+fn merge_backward(points: &mut [Point], others: usize, added: &[Point], index: usize)
+    requires room { length points.old ≡ others + length added.now }
+    requires in_range { All (λ p. p.node + 1 < 2 ^ 64) (take others points.old) }
+    requires others_ordered { AllPairs IsBefore (take others points.old) }
+    requires added_ordered { AllPairs IsBefore added.now }
+    ensures merged { IsPermutation
+        (map (opened_up index) (take others points.old) ++ added.now) points.new }
+    ensures ordered { AllPairs IsBefore points.new }
+{
+    let mut left = others;
+    let mut right = added.len();
+    while left > 0 {
+        let point = opened_up(index, points[left - 1]);
+        if right > 0 && point < added[right - 1] {
+            right -= 1;
+            points[left + right] = added[right];
+        } else {
+            left -= 1;
+            points[left + right] = point;
+        }
+    }
+    points[..right].copy_from_slice(&added[..right]);
 }
 
 /// Puts the points of a new node among the others, of whose nodes those from its index on stand one further then. Where there is no
@@ -258,20 +272,18 @@ fn merge_points<H: Piecewise>(
     node: &Node,
     index: usize,
 ) -> Result<(), AllocError>
-    requires { All (λ p. p.node + 1 < 2 ^ 64) points.old.items }
+    requires in_range { All (λ p. p.node + 1 < 2 ^ 64) points.old.items }
+    requires ordered { AllPairs IsBefore points.old.items }
     ensures merged { OnOk result (IsPermutation
         (map (opened_up index) points.old.items ++ points_of H.hash_of (pair_of node.now) index)
         points.new.items) }
     ensures ordered { OnOk result (AllPairs IsBefore points.new.items) }
     ensures err { OnErr result (points.new.items ≡ points.old.items) }
 {
+    let added = points_in_order::<H>(alloc, node, index)?;
     let others = points.len();
-    make_way(points, index);
-    if let Err(AllocError) = push_in_order::<H>(alloc, points, node, index) {
-        points.truncate(others);
-        close_up(points, index);
-        return Err(AllocError);
-    }
+    points.extend_from_slice(&added)?;
+    merge_backward(points, others, &added, index);
     Ok(())
 }
 

@@ -1,22 +1,29 @@
-use Rattle.std.proofs.Common.{◌≡◌, ◌∙◌, ap, sym, length, map, take}
-use Rattle.std.proofs.lemmas.List.{length-map}
-use Rattle.hash_ring.specs.Points.{closed_up, opened_up}
-use Rattle.hash_ring.proofs.Edits.{all_opened_and_closed, over}
+use Rattle.std.proofs.Common.{◌≡◌, ◌∙◌, ◌++◌, List, ap, sym, subst, length, map, take}
+use Rattle.std.specs.List.Sorted.{IsPermutation}
+use Rattle.std.proofs.lemmas.List.{take_at}
+use Rattle.std.proofs.lemmas.List.Sorted.{IsPermutation-append_right, IsPermutation-trans}
+use Rattle.hash_ring.specs.declared.Point.{Point}
+use Rattle.hash_ring.specs.Points.{opened_up, pair_of, points_of}
+use Rattle.hash_ring.proofs.Edits.{over}
 use Rattle.hash_ring.proofs.merge_points.Goals as goal
 
-pub returns-in-Err-clause-err : goal.returns-in-Err-clause-err
-returns-in-Err-clause-err g c =
+pub returns-clause-merged : goal.returns-clause-merged
+returns-clause-merged g c =
     let old = c.args.points.now in
-    let at = c.args.index in
-    let opened : c.make_way.new.points ≡ map (opened_up at) old.items =
-    c.make_way.ensures ∙ ap (map (opened_up at)) c.deref_mut.ensures.value in
-    let long : length c.make_way.new.points ≡ length old.items = ap length opened ∙ length-map old.items (opened_up at) in
-    let written = over c.make_way.new.points old.items old.len long old.ok.0 in
-    let others : c.len-others.result ≡ length c.make_way.new.points = c.len-others.ensures ∙ old.ok.0 ∙ sym long in
-    let cut : c.truncate.new.self.items ≡ c.make_way.new.points =
-    c.truncate.ensures.items ∙ ap (λ n. take n c.push_in_order.new.points.items) (others ∙ sym (ap length written)) ∙ c.in-Err.ensures.err
-    ∙ written in
-    let closed : c.close_up.new.points ≡ old.items =
-    c.close_up.ensures ∙ ap (map (closed_up at)) (c.deref_mut-in-Err.ensures.value ∙ cut ∙ opened) ∙ all_opened_and_closed at old.items in
-    over c.close_up.new.points c.truncate.new.self.items c.truncate.new.self.len
-    (ap length closed ∙ sym long ∙ sym (ap length cut)) c.truncate.new.self.ok.0 ∙ closed
+    let its = points_of g.H.Piecewise.hash_of (pair_of c.args.node.now) c.args.index in
+    let added = c.in_ok-added.added.items in
+    let both = c.extend_from_slice.new.self in
+    let merged = c.merge_backward.new.points in
+    let others = map (opened_up c.args.index) old.items in
+    let behind : both.items ≡ old.items ++ added =
+    c.in_ok-extend_from_slice.ensures.items ∙ ap (λ (ps : List Point). old.items ++ ps) c.deref.ensures.value in
+    let front : take c.len-others.result c.deref_mut.result.now ≡ old.items =
+    ap (take c.len-others.result) (c.deref_mut.ensures.value ∙ behind)
+    ∙ take_at old.items added c.len-others.result (sym (c.len-others.ensures ∙ old.ok.0)) in
+    let long : length merged ≡ length both.items = c.merge_backward.auto.points ∙ ap length c.deref_mut.ensures.value in
+    let all : IsPermutation (others ++ added) merged =
+    subst (λ (ps : List Point). IsPermutation (map (opened_up c.args.index) ps ++ added) merged) front
+    (subst (λ (ps : List Point). IsPermutation (map (opened_up c.args.index) (take c.len-others.result c.deref_mut.result.now) ++ ps) merged) c.deref-2.ensures.value
+    c.merge_backward.ensures.merged) in
+    subst (λ (ps : List Point). IsPermutation (others ++ its) ps) (sym (over merged both.items both.len long both.ok.0))
+    (IsPermutation-trans (others ++ its) (others ++ added) merged (IsPermutation-append_right others its added c.in_ok-added.ensures.just) all)

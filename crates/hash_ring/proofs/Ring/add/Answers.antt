@@ -30,8 +30,8 @@ returns-in-Err-insert-clause-err g c = (
 put_in : (nodes : List Node) (at : ℕ) (node read : Node) → at ≤ length nodes → read ≡ get_or (insert nodes at node) at read → read ≡ node
 put_in nodes at node read within is = is ∙ get_or-insert_at nodes at node read within
 
-pub merge_points-requires : goal.merge_points-requires
-merge_points-requires g c = λ k d below.
+pub merge_points-requires-clause-in_range : goal.merge_points-requires-clause-in_range
+merge_points-requires-clause-in_range g c = λ k d below.
     let nodes = c.self.inside.nodes in
     let of = c.self.invariant.just.real k d below in
     let there = is_there g.H.Piecewise.hash_of (pairs nodes.items) _ _ of in

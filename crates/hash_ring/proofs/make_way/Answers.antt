@@ -1,8 +1,0 @@
-use Rattle.hash_ring.specs.Points.{opened_up}
-use Rattle.hash_ring.proofs.Edits.{mapped_more}
-use Rattle.hash_ring.proofs.make_way.Goals as goal
-
-pub loop-point-preserved : goal.loop-point-preserved
-loop-point-preserved c =
-    mapped_more (opened_up c.args.at) c.args.points.now c.loop-point.points c.loop-point.point-index _ _ c.loop-point-test.true c.loop-point.auto.points
-    c.loop-point.invariant c.opened_up.ensures

@@ -1,5 +1,0 @@
-use Rattle.hash_ring.proofs.Points.{in_order}
-use Rattle.hash_ring.proofs.push_in_order.Goals as goal
-
-pub returns-clause-ordered : goal.returns-clause-ordered
-returns-clause-ordered g c = in_order _ c.in_ok-sort.ensures.sorted
