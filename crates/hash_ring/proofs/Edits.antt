@@ -2,7 +2,7 @@
 use Rattle.std.proofs.Common.{ℕ, zero, suc, ◌≡◌, ◌≢◌, ◌+◌, ◌-◌, ◌<◌, ◌≤◌, Bool, true, false, not, cond, ltb, ◌==◌, List, [], ◌∷◌, ◌++◌, map, length, get_or, set, take, drop, arith, sym, ap, ◌∙◌, subst, refl, ⊎_elim}
 use Rattle.std.specs.List.{AllPairs, Contains, filter, insert, remove}
 use Rattle.std.proofs.lemmas.Bool.{cases_lt, lt-ltb, le-ltb}
-use Rattle.std.proofs.lemmas.Bool.Decides.{Decides-eqb}
+use Rattle.std.proofs.lemmas.Bool.Decides.{Decides-eqb, nat_tests}
 use Rattle.std.proofs.lemmas.List.{map-append, append-nil, drop_all, take-map, take_all, drop-map, get_or-map, length-map, get_or_default}
 use Rattle.std.proofs.lemmas.List.Edits.{map_over_more, get_or-remove_below, get_or-remove_above, get_or-insert_below, get_or-insert_at, get_or-insert_above}
 use Rattle.std.proofs.lemmas.List.Elements.{Contains-append_left, Contains-append_right, All-append, All-cons, All-drop, All-filter, All-map, All-take, filter_passes}
@@ -59,15 +59,7 @@ open_low : (come : ℕ) (p : Point) → p.node < come → opened_up come p ≡ p
 open_low come p h = λ i. record { place = p.place; node = cond (lt-ltb p.node come h i) p.node (p.node + 1) }
 
 opens_in_order : (come i j : ℕ) → i ≤ j → cond (ltb i come) i (i + 1) ≤ cond (ltb j come) j (j + 1)
-opens_in_order come i j h = ⊎_elim
-    (λ (low : j < come). let e = lt-ltb i come (omega arith) in let f = lt-ltb j come low in rw (e, f) h)
-    (λ (high : come ≤ j).
-    let f = le-ltb j come high in
-    ⊎_elim
-    (λ (below : i < come). let e = lt-ltb i come below in rw (e, f) (omega arith))
-    (λ (above : come ≤ i). let e = le-ltb i come above in rw (e, f) (omega arith))
-    (cases_lt i come))
-    (cases_lt j come)
+opens_in_order come i j h = grind (arith, nat_tests)
 
 pub opened_in_order : (come : ℕ) (points : List Point) → AllPairs IsBefore points → AllPairs IsBefore (map (opened_up come) points)
 opened_in_order come = mapped_in_order (opened_up come)
@@ -75,15 +67,7 @@ opened_in_order come = mapped_in_order (opened_up come)
 
 -- ---- the points of a ring with a node less
 rises : (gone i j : ℕ) → i ≤ j → cond (ltb gone i) (i - 1) i ≤ cond (ltb gone j) (j - 1) j
-rises gone i j h = ⊎_elim
-    (λ (high : gone < i). let e = lt-ltb gone i high in let f = lt-ltb gone j (omega arith) in rw (e, f) (omega arith))
-    (λ (low : i ≤ gone).
-    let e = le-ltb gone i low in
-    ⊎_elim
-    (λ (above : gone < j). let f = lt-ltb gone j above in rw (e, f) (omega arith))
-    (λ (below : j ≤ gone). let f = le-ltb gone j below in rw (e, f) h)
-    (cases_lt gone j))
-    (cases_lt gone i)
+rises gone i j h = grind (arith, nat_tests)
 
 still_before : (gone : ℕ) (points : List Point) → AllPairs IsBefore points → AllPairs IsBefore (map (closed_up gone) points)
 still_before gone = mapped_in_order (closed_up gone)
