@@ -109,7 +109,8 @@ pub fn take_lines<T: LineTask, W: Write>(
     requires grows { Grows (T.output eol) }
     requires room { (ls : List (List ℕ)) × T.taken eol ls task.old × (length ls + most ≤ u64.MAX) }
     ensures takes { IfOk result (λ taken. Takes eol bytes.now most taken.0 taken.1) }
-    ensures led { IfOk result (λ taken. LeadsOn (T.output eol) (λ ls. T.taken eol ls task.old) (λ ls. T.taken eol ls task.new)
+    ensures led { IfOk result (λ taken. LeadsOn (T.output eol) (λ ls. T.taken eol ls task.old)
+        (λ ls. T.taken eol ls task.new)
         (lines_by eol (take taken.1 bytes.now)) (W.contents w.old) (W.contents w.new)) }
     ensures broke { OnErr result (BreaksOff (T.output eol) (λ ls. T.taken eol ls task.old) eol bytes.now
         (W.contents w.old) (W.contents w.new)) }

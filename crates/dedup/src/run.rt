@@ -49,7 +49,8 @@ fn take_last<T: LineTask, W: Write + Drop>(
     requires bare { IsBare eol line.now }
     requires flushed { writer_buffer w.old ≡ [] }
     ensures left { IfOk result (EndsInput (T.output eol) (λ ls. T.taken eol ls task.old) (λ ls. T.taken eol ls task.new)
-        (lines_by eol line.now) most.old most.new (writer_contents W.contents w.old) (writer_contents W.contents w.new)) }
+        (lines_by eol line.now) most.old most.new (writer_contents W.contents w.old)
+        (writer_contents W.contents w.new)) }
     ensures flushed { OnOk result (writer_buffer w.new ≡ []) }
     ensures broke { OnErr result (StopsWithin (T.output eol) (λ ls. T.taken eol ls task.old) (lines_by eol line.now)
         (writer_contents W.contents w.old) (writer_contents W.contents w.new)) }
@@ -80,8 +81,10 @@ fn take_input<T: LineTask, R: Read, W: Write + Drop>(
     requires room { (ls : List (List ℕ)) × T.taken eol ls task.old × (length ls + most.old ≤ u64.MAX) }
     requires unread { unread.old ≡ [] }
     requires flushed { writer_buffer w.old ≡ [] }
-    ensures left { IfOk result (LeavesInput (T.output eol) (λ ls. T.taken eol ls task.old) (λ ls. T.taken eol ls task.new)
-        eol most.old most.new (R.remaining r.old) (R.remaining r.new) (writer_contents W.contents w.old) (writer_contents W.contents w.new)) }
+    ensures left { IfOk result (LeavesInput (T.output eol) (λ ls. T.taken eol ls task.old)
+        (λ ls. T.taken eol ls task.new)
+        eol most.old most.new (R.remaining r.old) (R.remaining r.new) (writer_contents W.contents w.old)
+        (writer_contents W.contents w.new)) }
     ensures unread { OnOk result (unread.new ≡ []) }
     ensures flushed { OnOk result (writer_buffer w.new ≡ []) }
     ensures broke { OnErr result (BreaksInput (T.output eol) (λ ls. T.taken eol ls task.old) eol (R.remaining r.old)

@@ -29,7 +29,8 @@ pub trait LineTask {
         w: &mut W,
     ) -> Result<(), Fault>
         requires { (ls : List (List ℕ)) × taken eol ls self.old × (length ls < u64.MAX) }
-        ensures ok { OnOk result (LeadsOn (output eol) (λ ls. taken eol ls self.old) (λ ls. taken eol ls self.new) (line.now ∷ [])
+        ensures ok { OnOk result (LeadsOn (output eol) (λ ls. taken eol ls self.old) (λ ls. taken eol ls self.new)
+            (line.now ∷ [])
             (W.contents w.old) (W.contents w.new)) }
         ensures err { OnErr result (StopsWithin (output eol) (λ ls. taken eol ls self.old) (line.now ∷ [])
             (W.contents w.old) (W.contents w.new)) };

@@ -75,7 +75,8 @@ fn make_room(bytes: &mut Vec<u8>, to: usize) -> Result<(), Fault>
 fn read_behind<R: Read>(bytes: &mut [u8], to: usize, r: &mut R) -> io::Result<usize>
     requires { to < length bytes.old }
     ensures within { IfOk result (λ n. to + n ≤ length bytes.new) }
-    ensures read { IfOk result (λ n. (text : List ℕ) × (take (to + n) bytes.new ≡ take to bytes.old ++ text) × (length text ≡ n)
+    ensures read { IfOk result (λ n. (text : List ℕ) × (take (to + n) bytes.new ≡ take to bytes.old ++ text)
+        × (length text ≡ n)
         × Consumes (R.remaining r.old) (R.remaining r.new) text × (n ≡ 0 → IsAtEnd (R.remaining r.new))) }
     ensures kept { OnErr result (take to bytes.new ≡ take to bytes.old) }
     ensures err { OnErr result (Keeps (R.remaining r.old) (R.remaining r.new)) }

@@ -17,7 +17,8 @@ use hashers::laws::Piecewise;
 /// Inserts the key, and answers whether the bits at all of its places were set before.
 #[inline(always)]
 fn insert<F: Piecewise, G: Piecewise>(words: &mut [u64], bits: u64, probes: u32, key: &[u8]) -> bool
-    ensures { IsInserted F.hash_of G.hash_of (filter_of bits probes words.old) (filter_of bits probes words.new) key.now result }
+    ensures { IsInserted F.hash_of G.hash_of
+        (filter_of bits probes words.old) (filter_of bits probes words.new) key.now result }
 {
     words::has_room(words, bits, probes) && words::insert::<F, G>(words, bits, probes, key)
 }
@@ -94,7 +95,8 @@ pub extern "C" fn hashers_bloom_spooky_lookup3_contains(
 pub extern "C" fn hashers_bloom_union(words: &mut [u64], others: &[u64]) -> bool
     ensures exactly { IsTrue result ↔ (length words.old ≡ length others.now) }
     ensures united { OnTrue result ((bits probes : ℕ)
-        → Adds (filter_of bits probes words.old) (filter_of bits probes words.new) (IsSet (filter_of bits probes others.now))) }
+        → Adds (filter_of bits probes words.old) (filter_of bits probes words.new)
+        (IsSet (filter_of bits probes others.now))) }
     ensures taken { OnTrue result ((f g : List ℕ → ℕ) (bits probes : ℕ)
         → AllPassIn f g (filter_of bits probes others.now) (filter_of bits probes words.new)) }
     ensures kept { (f g : List ℕ → ℕ) (bits probes : ℕ)

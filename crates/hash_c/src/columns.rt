@@ -186,7 +186,8 @@ pub extern "C" fn hashers_bricolage_column64(
 #[unsafe(no_mangle)]
 pub extern "C" fn hashers_oaat_column32(bytes: &[u8], offsets: &[u32], hashes: &mut [u64]) -> bool
     ensures exactly { IsTrue result ↔ AreOffsets (length bytes.now) (length hashes.old) offsets.now }
-    ensures written { OnTrue result (AreHashes (λ text. oaat_finish (oaat_state 0 text)) bytes.now offsets.now hashes.new) }
+    ensures written { OnTrue result (AreHashes (λ text. oaat_finish (oaat_state 0 text))
+        bytes.now offsets.now hashes.new) }
     ensures refused { OnFalse result (hashes.new ≡ hashes.old) }
 {
     column32::<Default<OAATHasher>>(bytes, offsets, hashes)
@@ -196,7 +197,8 @@ pub extern "C" fn hashers_oaat_column32(bytes: &[u8], offsets: &[u32], hashes: &
 #[unsafe(no_mangle)]
 pub extern "C" fn hashers_oaat_column64(bytes: &[u8], offsets: &[u64], hashes: &mut [u64]) -> bool
     ensures exactly { IsTrue result ↔ AreOffsets (length bytes.now) (length hashes.old) offsets.now }
-    ensures written { OnTrue result (AreHashes (λ text. oaat_finish (oaat_state 0 text)) bytes.now offsets.now hashes.new) }
+    ensures written { OnTrue result (AreHashes (λ text. oaat_finish (oaat_state 0 text))
+        bytes.now offsets.now hashes.new) }
     ensures refused { OnFalse result (hashes.new ≡ hashes.old) }
 {
     column64::<Default<OAATHasher>>(bytes, offsets, hashes)
@@ -210,7 +212,8 @@ pub extern "C" fn hashers_lookup3_column32(
     hashes: &mut [u64],
 ) -> bool
     ensures exactly { IsTrue result ↔ AreOffsets (length bytes.now) (length hashes.old) offsets.now }
-    ensures written { OnTrue result (AreHashes (λ text. lookup3_answer (lookup3_from (0, 0) text)) bytes.now offsets.now hashes.new) }
+    ensures written { OnTrue result (AreHashes (λ text. lookup3_answer (lookup3_from (0, 0) text))
+        bytes.now offsets.now hashes.new) }
     ensures refused { OnFalse result (hashes.new ≡ hashes.old) }
 {
     column32::<Default<Lookup3Hasher>>(bytes, offsets, hashes)
@@ -224,7 +227,8 @@ pub extern "C" fn hashers_lookup3_column64(
     hashes: &mut [u64],
 ) -> bool
     ensures exactly { IsTrue result ↔ AreOffsets (length bytes.now) (length hashes.old) offsets.now }
-    ensures written { OnTrue result (AreHashes (λ text. lookup3_answer (lookup3_from (0, 0) text)) bytes.now offsets.now hashes.new) }
+    ensures written { OnTrue result (AreHashes (λ text. lookup3_answer (lookup3_from (0, 0) text))
+        bytes.now offsets.now hashes.new) }
     ensures refused { OnFalse result (hashes.new ≡ hashes.old) }
 {
     column64::<Default<Lookup3Hasher>>(bytes, offsets, hashes)

@@ -89,7 +89,8 @@ pub extern "C" fn hashers_bricolage_lines(bytes: &[u8], hashes: &mut [u64]) -> u
 #[unsafe(no_mangle)]
 pub extern "C" fn hashers_oaat_lines(bytes: &[u8], hashes: &mut [u64]) -> usize
     ensures count { result ≡ length (line_texts 10 bytes.now) }
-    ensures written { hashes.new ≡ laid_over (map (λ text. oaat_finish (oaat_state 0 text)) (line_texts 10 bytes.now)) hashes.old }
+    ensures written { hashes.new
+        ≡ laid_over (map (λ text. oaat_finish (oaat_state 0 text)) (line_texts 10 bytes.now)) hashes.old }
 {
     hash_lines::<Default<OAATHasher>>(bytes, hashes)
 }
@@ -98,7 +99,8 @@ pub extern "C" fn hashers_oaat_lines(bytes: &[u8], hashes: &mut [u64]) -> usize
 #[unsafe(no_mangle)]
 pub extern "C" fn hashers_lookup3_lines(bytes: &[u8], hashes: &mut [u64]) -> usize
     ensures count { result ≡ length (line_texts 10 bytes.now) }
-    ensures written { hashes.new ≡ laid_over (map (λ text. lookup3_answer (lookup3_from (0, 0) text)) (line_texts 10 bytes.now)) hashes.old }
+    ensures written { hashes.new
+        ≡ laid_over (map (λ text. lookup3_answer (lookup3_from (0, 0) text)) (line_texts 10 bytes.now)) hashes.old }
 {
     hash_lines::<Default<Lookup3Hasher>>(bytes, hashes)
 }
@@ -116,7 +118,8 @@ pub extern "C" fn hashers_spooky_lines(bytes: &[u8], hashes: &mut [u64]) -> usiz
 #[unsafe(no_mangle)]
 pub extern "C" fn hashers_spooky_v1_lines(bytes: &[u8], hashes: &mut [u64]) -> usize
     ensures count { result ≡ length (line_texts 10 bytes.now) }
-    ensures written { hashes.new ≡ laid_over (map (λ text. (spooky_v1 0 0 text).0) (line_texts 10 bytes.now)) hashes.old }
+    ensures written { hashes.new
+        ≡ laid_over (map (λ text. (spooky_v1 0 0 text).0) (line_texts 10 bytes.now)) hashes.old }
 {
     hash_lines::<SpookyV1>(bytes, hashes)
 }
@@ -143,7 +146,8 @@ pub extern "C" fn hashers_passthrough_lines(bytes: &[u8], hashes: &mut [u64]) ->
 #[unsafe(no_mangle)]
 pub extern "C" fn hashers_fxhash_lines(bytes: &[u8], hashes: &mut [u64]) -> usize
     ensures count { result ≡ length (line_texts 10 bytes.now) }
-    ensures written { hashes.new ≡ laid_over (map (λ text. fx64 0 (words64 text)) (line_texts 10 bytes.now)) hashes.old }
+    ensures written { hashes.new
+        ≡ laid_over (map (λ text. fx64 0 (words64 text)) (line_texts 10 bytes.now)) hashes.old }
 {
     hash_lines::<Default<FxHasher>>(bytes, hashes)
 }
@@ -152,7 +156,8 @@ pub extern "C" fn hashers_fxhash_lines(bytes: &[u8], hashes: &mut [u64]) -> usiz
 #[unsafe(no_mangle)]
 pub extern "C" fn hashers_fxhash32_lines(bytes: &[u8], hashes: &mut [u64]) -> usize
     ensures count { result ≡ length (line_texts 10 bytes.now) }
-    ensures written { hashes.new ≡ laid_over (map (λ text. fx32 0 (words32 text)) (line_texts 10 bytes.now)) hashes.old }
+    ensures written { hashes.new
+        ≡ laid_over (map (λ text. fx32 0 (words32 text)) (line_texts 10 bytes.now)) hashes.old }
 {
     hash_lines::<Default<FxHasher32>>(bytes, hashes)
 }
@@ -161,7 +166,8 @@ pub extern "C" fn hashers_fxhash32_lines(bytes: &[u8], hashes: &mut [u64]) -> us
 #[unsafe(no_mangle)]
 pub extern "C" fn hashers_fxhash64_lines(bytes: &[u8], hashes: &mut [u64]) -> usize
     ensures count { result ≡ length (line_texts 10 bytes.now) }
-    ensures written { hashes.new ≡ laid_over (map (λ text. fx64 0 (words64 text)) (line_texts 10 bytes.now)) hashes.old }
+    ensures written { hashes.new
+        ≡ laid_over (map (λ text. fx64 0 (words64 text)) (line_texts 10 bytes.now)) hashes.old }
 {
     hash_lines::<Default<FxHasher64>>(bytes, hashes)
 }
@@ -181,7 +187,8 @@ pub extern "C" fn hashers_crc32_lines(bytes: &[u8], hashes: &mut [u64]) -> usize
 pub extern "C" fn hashers_crc32c_lines(bytes: &[u8], hashes: &mut [u64]) -> usize
     ensures count { result ≡ length (line_texts 10 bytes.now) }
     ensures written { hashes.new
-        ≡ laid_over (map (λ text. crc_answer (crc_from castagnoli all_ones text)) (line_texts 10 bytes.now)) hashes.old }
+        ≡ laid_over (map (λ text. crc_answer (crc_from castagnoli all_ones text)) (line_texts 10 bytes.now))
+        hashes.old }
 {
     hash_lines::<Default<Crc32cHasher>>(bytes, hashes)
 }

@@ -327,7 +327,8 @@ pub extern "C" fn hashers_joaat_write(hash: u64, bytes: &[u8]) -> u64
 /// The hash of joaat without the last bytes.
 #[unsafe(no_mangle)]
 pub extern "C" fn hashers_joaat_unwrite(hash: u64, bytes: &[u8]) -> u64
-    ensures back { (s : ℕ) → s < 2 ^ 32 → joaat_answer s ≡ result → joaat_answer (joaat_from s bytes.now) ≡ hash % 2 ^ 32 }
+    ensures back { (s : ℕ) → s < 2 ^ 32 → joaat_answer s ≡ result
+        → joaat_answer (joaat_from s bytes.now) ≡ hash % 2 ^ 32 }
     ensures undone { (s : ℕ) → s < 2 ^ 32 → joaat_answer (joaat_from s bytes.now) ≡ hash % 2 ^ 32
         → result ≡ joaat_answer s }
 {
@@ -345,7 +346,8 @@ pub extern "C" fn hashers_crc32_write(hash: u64, bytes: &[u8]) -> u64
 /// The hash of crc32 without the last bytes.
 #[unsafe(no_mangle)]
 pub extern "C" fn hashers_crc32_unwrite(hash: u64, bytes: &[u8]) -> u64
-    ensures back { (s : ℕ) → s < 2 ^ 32 → crc_answer s ≡ result → crc_answer (crc_from ieee s bytes.now) ≡ hash % 2 ^ 32 }
+    ensures back { (s : ℕ) → s < 2 ^ 32 → crc_answer s ≡ result
+        → crc_answer (crc_from ieee s bytes.now) ≡ hash % 2 ^ 32 }
     ensures undone { (s : ℕ) → s < 2 ^ 32 → crc_answer (crc_from ieee s bytes.now) ≡ hash % 2 ^ 32
         → result ≡ crc_answer s }
 {
@@ -355,7 +357,8 @@ pub extern "C" fn hashers_crc32_unwrite(hash: u64, bytes: &[u8]) -> u64
 /// The hash of crc32c with more bytes behind.
 #[unsafe(no_mangle)]
 pub extern "C" fn hashers_crc32c_write(hash: u64, bytes: &[u8]) -> u64
-    ensures { (s : ℕ) → s < 2 ^ 32 → crc_answer s ≡ hash % 2 ^ 32 → result ≡ crc_answer (crc_from castagnoli s bytes.now) }
+    ensures { (s : ℕ) → s < 2 ^ 32 → crc_answer s ≡ hash % 2 ^ 32
+        → result ≡ crc_answer (crc_from castagnoli s bytes.now) }
 {
     written::<Crc32cHasher>(hash % 4294967296, bytes)
 }
@@ -363,7 +366,8 @@ pub extern "C" fn hashers_crc32c_write(hash: u64, bytes: &[u8]) -> u64
 /// The hash of crc32c without the last bytes.
 #[unsafe(no_mangle)]
 pub extern "C" fn hashers_crc32c_unwrite(hash: u64, bytes: &[u8]) -> u64
-    ensures back { (s : ℕ) → s < 2 ^ 32 → crc_answer s ≡ result → crc_answer (crc_from castagnoli s bytes.now) ≡ hash % 2 ^ 32 }
+    ensures back { (s : ℕ) → s < 2 ^ 32 → crc_answer s ≡ result
+        → crc_answer (crc_from castagnoli s bytes.now) ≡ hash % 2 ^ 32 }
     ensures undone { (s : ℕ) → s < 2 ^ 32 → crc_answer (crc_from castagnoli s bytes.now) ≡ hash % 2 ^ 32
         → result ≡ crc_answer s }
 {

@@ -238,8 +238,8 @@ fn points_in_order<H: Piecewise>(
     Ok(added)
 }
 
-/// Merges the points of a new node with the others, the first ones of `points`, of whose nodes those from its index on stand one
-/// further then. The array fills from the end, so that no point is written over before it is read.
+/// Merges the points of a new node with the others, the first `others` ones, of whose nodes those from its index on stand one further
+/// then. The array fills from the end, so that no point is written over before it is read.
 fn merge_backward(points: &mut [Point], others: usize, added: &[Point], index: usize)
     requires room { length points.old ≡ others + length added.now }
     requires in_range { All (λ p. p.node + 1 < 2 ^ 64) (take others points.old) }

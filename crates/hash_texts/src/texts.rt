@@ -77,7 +77,8 @@ impl<S: BuildHasher + Drop> Model for Texts<S> {
     ghost view = { λ set. set.texts };
 
     ghost invariant = { λ set. EachOnce set.texts
-        × IsTable (tag_under S.Hasher.write S.Hasher.finish (S.build_hasher set.hasher)) set.texts set.slots.items set.room };
+        × IsTable (tag_under S.Hasher.write S.Hasher.finish (S.build_hasher set.hasher))
+        set.texts set.slots.items set.room };
 }
 
 /// The slot of a text at this place. It fails where slots have no such place.

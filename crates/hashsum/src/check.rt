@@ -241,7 +241,8 @@ fn without_end(line: &[u8]) -> &[u8]
 
 /// Reads the next line, with its newline if it has one, and tells whether there is one.
 fn next_line<B: BufRead>(lines: &mut B, line: &mut Vec<u8>) -> io::Result<bool>
-    ensures more { IfOk result (λ more. more ≡ true → IsNext (B.remaining lines.old) line.new.items (B.remaining lines.new)) }
+    ensures more { IfOk result (λ more. more ≡ true
+        → IsNext (B.remaining lines.old) line.new.items (B.remaining lines.new)) }
     ensures end { IfOk result (λ more. more ≡ false → IsAtEnd (B.remaining lines.old)) }
 {
     line.clear();

@@ -22,7 +22,8 @@ pub fn a_changed_stretch_never_passes()
     ensures fnv32 { (x y : List ℕ) → IsText x → IsText y → DifferWithin 2 0 x y → NeverPasses (codes "fnv1a32") x y }
     ensures crc32 { (x y : List ℕ) → IsText x → IsText y → DifferWithin 4 0 x y → NeverPasses (codes "crc32") x y }
     ensures crc32c { (x y : List ℕ) → IsText x → IsText y → DifferWithin 4 0 x y → NeverPasses (codes "crc32c") x y }
-    ensures djb2_add { (x y : List ℕ) → IsText x → IsText y → DifferWithin 6 0xE0 x y → NeverPasses (codes "djb2_add") x y }
+    ensures djb2_add { (x y : List ℕ) → IsText x → IsText y → DifferWithin 6 0xE0 x y
+        → NeverPasses (codes "djb2_add") x y }
     ensures fnv1_64 { (x y : List ℕ) → IsText x → IsText y → DifferWithin 3 0 x y → NeverPasses (codes "fnv1_64") x y }
     ensures fnv1_32 { (x y : List ℕ) → IsText x → IsText y → DifferWithin 2 0 x y → NeverPasses (codes "fnv1_32") x y }
 {
@@ -36,8 +37,10 @@ pub fn a_changed_byte_never_passes()
     ensures fnv64 { (x y : List ℕ) → IsText x → IsText y → DifferAtOnePlace x y → NeverPasses (codes "fnv1a64") x y }
     ensures djb2 { (x y : List ℕ) → IsText x → IsText y → DifferAtOnePlace x y → NeverPasses (codes "djb2") x y }
     ensures sdbm { (x y : List ℕ) → IsText x → IsText y → DifferAtOnePlace x y → NeverPasses (codes "sdbm") x y }
-    ensures loselose { (x y : List ℕ) → IsText x → IsText y → DifferAtOnePlace x y → NeverPasses (codes "loselose") x y }
-    ensures bricolage { (x y : List ℕ) → IsText x → IsText y → DifferAtOnePlace x y → NeverPasses (codes "bricolage") x y }
+    ensures loselose { (x y : List ℕ) → IsText x → IsText y → DifferAtOnePlace x y
+        → NeverPasses (codes "loselose") x y }
+    ensures bricolage { (x y : List ℕ) → IsText x → IsText y → DifferAtOnePlace x y
+        → NeverPasses (codes "bricolage") x y }
     ensures oaat { (x y : List ℕ) → IsText x → IsText y → DifferAtOnePlace x y → NeverPasses (codes "oaat") x y }
     ensures joaat { (x y : List ℕ) → IsText x → IsText y → DifferAtOnePlace x y → NeverPasses (codes "joaat") x y }
 {

@@ -285,7 +285,8 @@ pub fn outcome_of<R: Read + Drop, F: Folder<R>, W: Write + Drop>(
     ensures { EndsTask kinds.now (F.holds folder.now) (files_or (operands (texts call.entry.words.now)))
         said.entry.about.help.now said.entry.about.version.now said.entry.list.now
         (writer_contents W.contents w.old) (writer_contents W.contents w.new)
-        (task_of kinds.now (texts call.entry.words.now) (option_map (λ name. name.now) call.entry.name) call.entry.lacks_name) result
+        (task_of kinds.now (texts call.entry.words.now) (option_map (λ name. name.now) call.entry.name)
+        call.entry.lacks_name) result
         ⊎ ((result ≡ Outcome.NoMemory) × Keeps (writer_contents W.contents w.old) (writer_contents W.contents w.new)) }
 {
     match files(alloc, call.words) {
