@@ -181,7 +181,7 @@ fn counts_of_three(alloc: Global, name: &str) -> Option<Result<Counts, AllocErro
         first: 4,
         second: Some(5),
     };
-    let keys = keys_of(alloc, b"ab\nba\nc", b'\n', usize::MAX).ok()?;
+    let keys = keys_of(alloc, b"ab\nba\nc", LINES, usize::MAX).ok()?;
     let mut hashed = Hashed {
         keys,
         hashes: Vec::new(alloc),
@@ -317,7 +317,7 @@ fn refused_memory(rt: HostRuntime) {
         first: 4,
         second: Some(5),
     };
-    match keys_of(alloc, b"ab\nba\nc", b'\n', usize::MAX) {
+    match keys_of(alloc, b"ab\nba\nc", LINES, usize::MAX) {
         Ok(keys) => {
             let mut hashed = Hashed {
                 keys,

@@ -1,6 +1,7 @@
-// times RUNS: the times of a call of libhashers beside the original crate behind a C call, XXH3 and zlib's CRC-32, by turns in one process. Writes the
-// tables of docs/C.md, with an empty line between two: the least of so many runs, at most 41, in nanoseconds a key. The macro NAMES, which
-// measure/c defines, has an X(name) for each name.
+// times RUNS: the times of a call of libhashers beside the original crate behind a C call, XXH3 and zlib's CRC-32, by turns in one process.
+// Writes a line for each row of the tables of docs/C.md, and an empty line between two tables: the name, and behind a tab for each cell the
+// least of so many runs, at most 41, in nanoseconds a key, ours and, behind a space, the original's. measure/c defines NAMES, which has an
+// X(name) for each name, and BEHIND, how many bytes stand before all code.
 #define _GNU_SOURCE
 #define XXH_NO_INLINE_HINTS 1
 #include "hashers.h"
@@ -9,6 +10,10 @@
 #include <time.h>
 #include <xxhash.h>
 #include <zlib.h>
+
+#define TEXT_OF(number) #number
+#define SKIPPED(number) ".text\n.skip " TEXT_OF(number) ", 0x90\n"
+__asm__(SKIPPED(BEHIND));
 
 typedef uint64_t whole(const void *, size_t);
 typedef uint64_t on(uint64_t, const void *, size_t);
@@ -67,23 +72,14 @@ static __attribute__((noinline)) double time_of(whole *of, size_t size, size_t c
 static void row(const struct row *r) {
     static const size_t sizes[] = {8, 16, 64, 1 << 20};
     static double times[2][RUNS];
-    printf("| `%s` |", r->name);
+    printf("%s", r->name);
     for (int s = 0; s < 4; s++) {
         size_t count = sizes[s] > 64 ? 4 : 100000 / (sizes[s] / 8);
         for (int run = 0; run < runs; run++)
             for (int which = 0; which < (r->other ? 2 : 1); which++)
                 times[which][run] = time_of(which ? r->other : r->ours, sizes[s], sizes[s] > 64 && KEYS / sizes[s] < count ? 1 : count);
-        double ours = least(times[0], runs);
-        const char *digits = ours < 1000 ? "%.1f" : "%.0f";
-        putchar(' ');
-        printf(digits, ours);
-        if (r->other) {
-            double other = least(times[1], runs);
-            printf(" (");
-            printf(digits, other);
-            printf(")%s", ours > 1.10 * other ? " over" : "");
-        }
-        printf(" |");
+        printf("\t%f", least(times[0], runs));
+        if (r->other) printf(" %f", least(times[1], runs));
     }
     putchar('\n');
 }
@@ -98,7 +94,7 @@ static void writes(const char *name, on *write) {
         times[run] = (now() - begin) / 50000;
         kept = hash;
     }
-    printf("| `%s_write` | %.1f |\n", name, least(times, runs));
+    printf("%s_write\t%f\n", name, least(times, runs));
 }
 
 static void column(const char *name, bool (*of)(const void *, size_t, const uint64_t *, size_t, uint64_t *, size_t), whole *one) {
@@ -117,7 +113,7 @@ static void column(const char *name, bool (*of)(const void *, size_t, const uint
         for (size_t i = 0; i < COUNT; i++) hashes[i] = one(texts + offsets[i], offsets[i + 1] - offsets[i]);
         times[1][run] = (now() - begin) / COUNT;
     }
-    printf("| `%s` | %.1f | %.1f |\n", name, least(times[0], few), least(times[1], few));
+    printf("%s\t%f\t%f\n", name, least(times[0], few), least(times[1], few));
     free(texts);
 }
 
@@ -130,14 +126,13 @@ int main(int count, char **words) {
         state ^= state << 13, state ^= state >> 7, state ^= state << 17;
         keys[i] = (unsigned char)(state >> 32);
     }
-    puts("| hash | 8 bytes | 16 bytes | 64 bytes | 1 MiB |\n|---|---:|---:|---:|---:|");
     for (size_t i = 0; i < ROWS; i++) row(rows + i);
-    puts("\n| hash | 8 bytes | 16 bytes | 64 bytes | 1 MiB |\n|---|---:|---:|---:|---:|");
+    putchar('\n');
     for (size_t i = 0; i < RELATIVES; i++) row(relatives + i);
-    puts("\n| call | ns |\n|---|---:|");
+    putchar('\n');
 #define WRITE(name) writes(#name, hashers_##name##_write);
     WRITE(fnv1a64) WRITE(djb2) WRITE(sdbm) WRITE(loselose) WRITE(bricolage) WRITE(oaat) WRITE(lookup3) WRITE(fxhash)
-    puts("\n| hash | one call | 10^6 calls |\n|---|---:|---:|");
+    putchar('\n');
 #define COLUMN(name) column(#name, hashers_##name##_column64, hashers_##name);
     COLUMN(fnv1a64) COLUMN(fxhash) COLUMN(loselose) COLUMN(lookup3) COLUMN(spooky)
     return 0;
