@@ -15,7 +15,8 @@ def processor():
 
 def machine():
     """What is told in front of a table of times."""
-    return f"Processor: {processor()}, {os.cpu_count()} of them, with {os.getloadavg()[0]:.0f} programs at work in the last minute."
+    load = round(os.getloadavg()[0])
+    return f"Processor: {processor()}, {os.cpu_count()} of them, with {load} program{'s' * (load != 1)} at work in the last minute."
 
 
 def by_turns(calls, turns):
