@@ -1,5 +1,5 @@
 //! A run over inputs, one behind the other.
-ghost use Rattle.std.specs.Prelude.{◌≡◌, ◌+◌, ◌≤◌, [], ℕ, List, Option, IfOk, OnOk, OnErr, length};
+ghost use Rattle.std.specs.Prelude.{◌≡◌, ◌+◌, ◌≤◌, [], ℕ, List, IfOk, OnOk, OnErr, length};
 ghost use Rattle.std.specs.Io.Buffered.{writer_buffer, writer_contents};
 ghost use Rattle.dedup.specs.Between.{IsBare};
 ghost use Rattle.dedup.specs.Lines.{lines_by};

@@ -2,7 +2,7 @@
 //! behind, and `unwrite` to the hash without the last ones. The hash of no bytes is where a text begins. Every number is a hash so
 //! far: of one of 32 bits the low 32 are taken.
 ghost use Rattle.std.specs.Prelude.{◌≡◌, ◌<◌, ◌^◌, ◌/◌, ◌%◌, ℕ};
-ghost use Rattle.hash_more.specs.Crc32.{ieee, castagnoli, all_ones, crc_from, crc_answer};
+ghost use Rattle.hash_more.specs.Crc32.{ieee, castagnoli, crc_from, crc_answer};
 ghost use Rattle.hash_more.specs.Djb2Add.{djb2_add_from};
 ghost use Rattle.hash_more.specs.Elf.{elf_from};
 ghost use Rattle.hash_more.specs.Fnv1.{fnv1_32_from, fnv1_64_from};

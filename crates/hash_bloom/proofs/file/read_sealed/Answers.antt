@@ -1,8 +1,5 @@
 use Rattle.std.proofs.Common.{rules, ◌≡◌, ◌++◌, ◌<◌, ◌^◌, ℕ, ap, arith, sym, subst, get_or, ◌∙◌, Some, Err}
-use mir.Syntax.{w64}
-use Rattle.std.specs.Int.{to_le_bytes}
 use Rattle.std.specs.Io.KnownBytes.{Consumes}
-use Rattle.hashers.specs.Fnv.{fnv1a64_basis, fnv1a64_from}
 use Rattle.hash_bloom.specs.File.{bytes_of, header, seal}
 use Rattle.hash_bloom.specs.Filter.{filter_of}
 use Rattle.hash_bloom.proofs.FileLemmas.{bytes_tell_words, file_left, file_parts, file_read}
