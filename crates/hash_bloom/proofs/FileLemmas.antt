@@ -18,7 +18,8 @@ use Rattle.hash_bloom.specs.Filter.{Filter, filter_of}
 pub bytes_more : (header words : List ℕ) (i : ℕ) → i < length words
     → (header ++ bytes_of (take i words)) ++ to_le_bytes w64 (get_or words i 0) ≡ header ++ bytes_of (take (i + 1) words)
 bytes_more header words i below =
-    flat_map_more (to_le_bytes w64) header (take i words) (get_or words i 0) ∙ ap (λ l. header ++ bytes_of l) (sym (take_more words i 0 below))
+    flat_map_more (to_le_bytes w64) header (take i words) (get_or words i 0)
+    ∙ ap (λ l. header ++ bytes_of l) (sym (take_more words i 0 below))
 
 -- the hash so far, and one word more
 pub hash_more : (s : ℕ) (header words : List ℕ) (i : ℕ) → i < length words
@@ -38,7 +39,8 @@ front_is None new read front rest took long known = absurd (none known)
 front_is (Some xs) None read front rest took long known = absurd took
 front_is (Some xs) (Some ys) read front rest took long known =
     let same : read ++ ys ≡ front ++ rest = let whole : xs ≡ front ++ rest = cc in sym took ∙ whole in
-    let first : read ≡ front = sym (take-append_seam read ys) ∙ ap (take (length read)) same ∙ ap (λ n. take n (front ++ rest)) long ∙ take-append_seam front rest in
+    let first : read ≡ front =
+    sym (take-append_seam read ys) ∙ ap (take (length read)) same ∙ ap (λ n. take n (front ++ rest)) long ∙ take-append_seam front rest in
     (first, ap Some (append_cancel_left front ys rest (ap (λ t. t ++ ys) (sym first) ∙ same)))
 
 -- what is left behind a front that was read
@@ -92,7 +94,8 @@ behind_title old new bits probes pair rest took known =
 
 -- and behind its numbers, which are those that were read
 pub behind_numbers : (old mid new : Option (List ℕ)) (b p bits probes : ℕ) (rest : List ℕ) → b < 2 ^ 64 → p < 2 ^ 32 → bits < 2 ^ 64
-    → probes < 2 ^ 32 → Consumes old mid (field 16 b) → Consumes mid new (field 8 p) → old ≡ Some (field 16 bits ++ (field 8 probes ++ rest))
+    → probes < 2 ^ 32 → Consumes old mid (field 16 b) → Consumes mid new (field 8 p)
+    → old ≡ Some (field 16 bits ++ (field 8 probes ++ rest))
     → (b ≡ bits) × (p ≡ probes) × (new ≡ Some rest)
 behind_numbers old mid new b p bits probes rest few low few' low' first second known =
     let (one, at_probes) = same_field old mid 16 b bits (field 8 probes ++ rest) few few' first known in
@@ -117,13 +120,16 @@ word_read a b c words next bytes word before now is grown =
     subst (Consumes a c) all (Consumes-trans a b c (bytes_of words) bytes before now)
 
 -- one word more was written behind the header
-pub word_written : (a b c : Option (List ℕ)) (line words : List ℕ) (i : ℕ) → i < length words → Appends a b (line ++ bytes_of (take i words))
+pub word_written : (a b c : Option (List ℕ)) (line words : List ℕ) (i : ℕ) → i < length words
+    → Appends a b (line ++ bytes_of (take i words))
     → Appends b c (to_le_bytes w64 (get_or words i 0)) → Appends a c (line ++ bytes_of (take (i + 1) words))
 word_written a b c line words i below before now =
-    subst (Appends a c) (bytes_more line words i below) (Appends-trans a b c (line ++ bytes_of (take i words)) (to_le_bytes w64 (get_or words i 0)) before now)
+    subst (Appends a c) (bytes_more line words i below)
+    (Appends-trans a b c (line ++ bytes_of (take i words)) (to_le_bytes w64 (get_or words i 0)) before now)
 
 -- all words, and the hash behind them
-pub file_written : (a b c : Option (List ℕ)) (line words : List ℕ) (i : ℕ) → length words ≤ i → Appends a b (line ++ bytes_of (take i words))
+pub file_written : (a b c : Option (List ℕ)) (line words : List ℕ) (i : ℕ) → length words ≤ i
+    → Appends a b (line ++ bytes_of (take i words))
     → Appends b c (seal (line ++ bytes_of words)) → Appends a c (sealed (line ++ bytes_of words))
 unfolding sealed
 file_written a b c line words i all before now =
@@ -139,8 +145,8 @@ file_read a b c d line words one two three =
     (Consumes-trans a b c line (bytes_of words) one two) three
 
 -- headers of one pair that stand in front of the same bytes
-pub same_header : (old new : Option (List ℕ)) (b p bits probes : ℕ) (pair rest : List ℕ) → b < 2 ^ 64 → p < 2 ^ 32 → bits < 2 ^ 64 → probes < 2 ^ 32
-    → Consumes old new (header b p pair) → old ≡ Some (header bits probes pair ++ rest) → (b ≡ bits) × (p ≡ probes) × (new ≡ Some rest)
+pub same_header : (old new : Option (List ℕ)) (b p bits probes : ℕ) (pair rest : List ℕ) → b < 2 ^ 64 → p < 2 ^ 32
+    → bits < 2 ^ 64 → probes < 2 ^ 32 → Consumes old new (header b p pair) → old ≡ Some (header bits probes pair ++ rest) → (b ≡ bits) × (p ≡ probes) × (new ≡ Some rest)
 same_header None new b p bits probes pair rest few low few' low' took known = absurd (none known)
   where
     none : None ≡ Some (header bits probes pair ++ rest) → ⊥
@@ -182,7 +188,8 @@ pub file_parts : (pair : List ℕ) (filter : Filter) (rest : List ℕ)
 unfolding sealed
 file_parts pair filter rest =
     let head = header filter.bits filter.probes pair in
-    append_assoc (head ++ bytes_of filter.words) (seal_of pair filter) rest ∙ append_assoc head (bytes_of filter.words) (seal_of pair filter ++ rest)
+    append_assoc (head ++ bytes_of filter.words) (seal_of pair filter) rest
+    ∙ append_assoc head (bytes_of filter.words) (seal_of pair filter ++ rest)
 
 -- what was read of a filter's file in front of its hash
 pub record Left (left : Option (List ℕ)) (b p : ℕ) (pair words : List ℕ) (filter : Filter) (rest : List ℕ) : Type 0 where

@@ -24,7 +24,8 @@ line_ends (byte ∷ bytes) (suc n) within is before =
     ∙ ap (λ k. take (suc n) (byte ∷ bytes) ∷ line_texts 10 (drop k (byte ∷ bytes))) one_more
 
 -- bytes with no newline are one line
-pub line_is_all : (bytes : List ℕ) → 0 < length bytes → ((k : ℕ) → k < length bytes → get_or bytes k 0 ≢ 10) → line_texts 10 bytes ≡ bytes ∷ []
+pub line_is_all : (bytes : List ℕ) → 0 < length bytes → ((k : ℕ) → k < length bytes → get_or bytes k 0 ≢ 10)
+    → line_texts 10 bytes ≡ bytes ∷ []
 line_is_all [] some none = absurd (omega arith)
 line_is_all (byte ∷ []) some none = by_first byte [] false (ne_eqb byte 10 (none 0 (omega arith)))
 line_is_all (byte ∷ next ∷ bytes) some none =

@@ -102,7 +102,8 @@ module _ (eol : ℕ) where
           let taken : take_through eol (x ∷ bytes) ≡ x ∷ [] = ap (λ b. cond b (x ∷ []) (x ∷ take_through eol bytes)) is in
           absurd (All-head (λ y. y ≢ eol) x [] (All-same (λ y. y ≢ eol) (x ∷ []) _ (sym taken) bare) (eqb-true x eol is))
       at false is more =
-          let taken : take_through eol (x ∷ bytes) ≡ x ∷ take_through eol bytes = ap (λ b. cond b (x ∷ []) (x ∷ take_through eol bytes)) is in
+          let taken : take_through eol (x ∷ bytes) ≡ x ∷ take_through eol bytes =
+          ap (λ b. cond b (x ∷ []) (x ∷ take_through eol bytes)) is in
           taken ∙ ap (λ l. x ∷ l)
           (more (All-tail (λ y. y ≢ eol) x _ (All-same (λ y. y ≢ eol) (x ∷ take_through eol bytes) _ (sym taken) bare)))
 
@@ -117,8 +118,8 @@ module _ (eol : ℕ) where
       (bare_line (x ∷ line) stops bare_end (omega arith)))) ∙ sym is
 
   -- the key of a line is taken
-  pub takes_ended : (keys keys' : List (List ℕ)) (left left' : Option (List ℕ)) (line : List ℕ) → Consumes left left' line → StopsAt line eol
-      → ends_with_byte eol line ≡ true → keys' ≡ with_text keys (strip_last eol line) → ReadsLine eol keys keys' left left' true
+  pub takes_ended : (keys keys' : List (List ℕ)) (left left' : Option (List ℕ)) (line : List ℕ) → Consumes left left' line
+      → StopsAt line eol → ends_with_byte eol line ≡ true → keys' ≡ with_text keys (strip_last eol line) → ReadsLine eol keys keys' left left' true
   takes_ended keys keys' left left' line read stops ended is = (
     line,
     record { consumed = read; taken = is ∙ ap (fold with_text keys) (sym (key_of_ended line stops ended)) },
@@ -215,7 +216,8 @@ fixed_all width keys keys' keys'' a b c (read, first, wide) false is second = (
   read,
   record {
     takes = record {
-      consumed = subst (Consumes a c) (append-nil (concat read)) (Consumes-trans a b c (concat read) [] first.consumed second.takes.consumed);
+      consumed = subst (Consumes a c) (append-nil (concat read))
+          (Consumes-trans a b c (concat read) [] first.consumed second.takes.consumed);
       taken = second.takes.taken ∙ first.taken;
     };
     all = subst (λ t. IfSome a (λ bytes. bytes ≡ t)) (append-nil (concat read))

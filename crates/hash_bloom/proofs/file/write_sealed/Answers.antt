@@ -17,4 +17,5 @@ loop-word-preserved g c =
 pub returns-clause-ok : goal.returns-clause-ok
 returns-clause-ok g c = on_ok_weaker c.write_all-2.result (λ wrote.
     file_written _ _ _ c.args.line.now c.args.words.now c.loop-word.word-index c.loop-word-test.false c.loop-word.invariant
-    (subst (Appends (g.W.Write.contents c.loop-word.w) (g.W.Write.contents c.write_all-2.new.self)) c.seal.ensures.value wrote)) c.write_all-2.ensures.bytes
+    (subst (Appends (g.W.Write.contents c.loop-word.w) (g.W.Write.contents c.write_all-2.new.self)) c.seal.ensures.value wrote))
+    c.write_all-2.ensures.bytes

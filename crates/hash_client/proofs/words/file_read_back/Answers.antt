@@ -15,6 +15,7 @@ same_filter pair file left filter (Err why) stored wrote read is_stored = tt
 pub returns-clause-same : goal.returns-clause-same
 returns-clause-same g c =
     let wrote : c.write_to.new.w.items ≡ file_of c.args.pair.now c.args.filter.now = search rules in
-    let read : IfOk c.read_from.result (λ back. c.write_to.new.w.items ≡ file_of c.args.pair.now back ++ c.read_from.new.r.now) = search rules in
+    let read : IfOk c.read_from.result (λ back. c.write_to.new.w.items ≡ file_of c.args.pair.now back ++ c.read_from.new.r.now) =
+    search rules in
     same_filter c.args.pair.now c.write_to.new.w.items c.read_from.new.r.now c.args.filter.now c.read_from.result
     c.in_ok-write_to.ensures.stored wrote read c.read_from.ensures.stored
