@@ -1,6 +1,6 @@
 -- What is written of lines, read again as lines.
-use Rattle.std.proofs.Common.{zero, suc, ◌≡◌, ◌≢◌, ℕ, ◌-◌, ◌<◌, Bool, true, false, cond, not, ◌||◌, ◌==◌, List, [], ◌∷◌, ◌++◌, length, get_or, take, drop, map, ap, sym, subst, ◌∙◌, refl, arith}
-use Rattle.std.specs.Io.BufRead.{ends_with_byte, strip_last}
+use Rattle.std.proofs.Common.{zero, suc, ◌≡◌, ◌≢◌, ℕ, ◌-◌, ◌<◌, Bool, true, false, cond, not, ◌||◌, ◌==◌, List, [], ◌∷◌, ◌++◌, length, get_or, drop, map, ap, sym, subst, ◌∙◌, refl, arith}
+use Rattle.std.specs.Io.BufRead.{strip_last}
 use Rattle.std.specs.List.{AllByRecursion, filter, flat_map, list_any, onto_first}
 use Rattle.std.specs.Str.{bytes_eq}
 use Rattle.std.proofs.lemmas.Bool.{eq-eqb, false≢true, ne_eqb, or_parts}
@@ -9,14 +9,12 @@ use Rattle.std.proofs.lemmas.List.{length-append}
 use Rattle.std.proofs.lemmas.Slice.Eq.{bytes_eq-Decides}
 use Rattle.std.proofs.lemmas.List.Elements.{filter-append}
 use Rattle.dedup.specs.Laws.{ComesBefore}
-use Rattle.dedup.specs.Lines.{as_line_by, each_once_by, firsts_by, lines_by, once_by, same_text_by}
-use Rattle.hash_lines.specs.Lines.{line_texts}
+use Rattle.dedup.specs.Lines.{as_line_by, each_once_by, firsts_by, once_by, same_text_by}
+use Rattle.hash_lines.specs.Lines.{line_texts, lines_by}
 use Rattle.hash_texts.specs.Texts.{EachOnce, has}
 use Rattle.dedup.proofs.FirstsLemmas.{Apart, any_firsts, any_texts, firsts_apart, none_filtered}
-use Rattle.dedup.proofs.LineLemmas.{ends_tail, once_begins}
-
-one_less : (n : ℕ) → suc n - 1 ≡ n
-one_less n = omega arith
+use Rattle.hash_lines.proofs.LinesOfText.{strip_end, strip_is, strip_more, strip_one, texts_of_lines}
+use Rattle.dedup.proofs.LineLemmas.{once_begins}
 
 absent_at : (text : List ℕ) (texts : List (List ℕ)) → has texts text ≡ false → (i : ℕ) → i < length texts → text ≢ get_or texts i []
 absent_at text [] absent i below same = omega arith
@@ -45,58 +43,11 @@ filter_all p (x ∷ ls) all = at (p x) (or_parts _ _ all).0 (filter_all p ls (or
     at false is more = absurd (false≢true (sym is))
 
 module _ (eol : ℕ) where
-  -- ---- a text with an end behind it
-
-  strip_is : (byte : ℕ) (line : List ℕ)
-      → strip_last eol (byte ∷ line) ≡ cond (ends_with_byte eol (byte ∷ line)) (take (length line) (byte ∷ line)) (byte ∷ line)
-  strip_is byte line = ap (λ k. cond (ends_with_byte eol (byte ∷ line)) (take k (byte ∷ line)) (byte ∷ line)) (one_less (length line))
-
-  -- a byte more before a line is a byte more before its text
-  strip_more : (byte next : ℕ) (line : List ℕ) → strip_last eol (byte ∷ next ∷ line) ≡ byte ∷ strip_last eol (next ∷ line)
-  strip_more byte next line =
-      strip_is byte (next ∷ line)
-      ∙ ap (λ b. cond b (take (length (next ∷ line)) (byte ∷ next ∷ line)) (byte ∷ next ∷ line)) (ends_tail eol byte next line)
-      ∙ at (ends_with_byte eol (next ∷ line))
-      ∙ ap (λ l. byte ∷ l) (sym (strip_is next line))
-    where
-      at : (b : Bool) → cond b (take (length (next ∷ line)) (byte ∷ next ∷ line)) (byte ∷ next ∷ line)
-          ≡ byte ∷ cond b (take (length line) (next ∷ line)) (next ∷ line)
-      at true = refl
-      at false = refl
-
-  -- the text of a line that is another byte alone is that byte
-  strip_one : (byte : ℕ) → byte ≢ eol → strip_last eol (byte ∷ []) ≡ byte ∷ []
-  strip_one byte other = strip_is byte [] ∙ ap (λ b. cond b [] (byte ∷ [])) (ne_eqb byte eol other)
-
-  strip_end : strip_last eol (eol ∷ []) ≡ []
-  strip_end = strip_is eol [] ∙ ap (λ b. cond b [] (eol ∷ [])) (eq-eqb eol eol refl)
-
-  strip_onto : (byte : ℕ) → byte ≢ eol → (ls : List (List ℕ))
-      → map (strip_last eol) (onto_first byte ls) ≡ onto_first byte (map (strip_last eol) ls)
-  strip_onto byte other [] = ap (λ line. line ∷ []) (strip_one byte other)
-  strip_onto byte other ([] ∷ ls) = ap (λ line. line ∷ map (strip_last eol) ls) (strip_one byte other)
-  strip_onto byte other ((next ∷ line) ∷ ls) = ap (λ line. line ∷ map (strip_last eol) ls) (strip_more byte next line)
-
-  -- the lines with their ends, and those ends taken away
-  texts_of_lines : (text : List ℕ) → line_texts eol text ≡ map (strip_last eol) (lines_by eol text)
-  texts_of_lines [] = refl
-  texts_of_lines (byte ∷ text) = at (byte == eol) refl (texts_of_lines text)
-    where
-      at : (b : Bool) → (byte == eol) ≡ b → line_texts eol text ≡ map (strip_last eol) (lines_by eol text)
-          → cond b ([] ∷ line_texts eol text) (onto_first byte (line_texts eol text))
-          ≡ map (strip_last eol) (cond b ((byte ∷ []) ∷ lines_by eol text) (onto_first byte (lines_by eol text)))
-      at true is more =
-          ap (λ ls. [] ∷ ls) more
-          ∙ ap (λ line. line ∷ map (strip_last eol) (lines_by eol text)) (sym (strip_is byte [] ∙ ap (λ b. cond b [] (byte ∷ [])) is))
-      at false is more =
-          ap (onto_first byte) more
-          ∙ sym (strip_onto byte (λ same. false≢true (sym is ∙ eq-eqb byte eol same)) (lines_by eol text))
-
   -- a text is the text of the line that it makes
   pub strip_as_line : (text : List ℕ) → strip_last eol (text ++ eol ∷ []) ≡ text
-  strip_as_line [] = strip_end
-  strip_as_line (byte ∷ []) = strip_more byte eol [] ∙ ap (λ l. byte ∷ l) strip_end
-  strip_as_line (byte ∷ next ∷ text) = strip_more byte next (text ++ eol ∷ []) ∙ ap (λ l. byte ∷ l) (strip_as_line (next ∷ text))
+  strip_as_line [] = strip_end eol
+  strip_as_line (byte ∷ []) = strip_more eol byte eol [] ∙ ap (λ l. byte ∷ l) (strip_end eol)
+  strip_as_line (byte ∷ next ∷ text) = strip_more eol byte next (text ++ eol ∷ []) ∙ ap (λ l. byte ∷ l) (strip_as_line (next ∷ text))
 
   -- no byte ends a line
   abbrev HasNone : List ℕ → Type 0
@@ -107,16 +58,16 @@ module _ (eol : ℕ) where
   AreBare ls = AllByRecursion (λ line. HasNone (strip_last eol line)) ls
 
   onto_bare : (byte : ℕ) → byte ≢ eol → (ls : List (List ℕ)) → AreBare ls → AreBare (onto_first byte ls)
-  onto_bare byte other [] bare = (subst HasNone (sym (strip_one byte other)) (other, tt), tt)
-  onto_bare byte other ([] ∷ ls) bare = (subst HasNone (sym (strip_one byte other)) (other, tt), bare.1)
-  onto_bare byte other ((next ∷ line) ∷ ls) bare = (subst HasNone (sym (strip_more byte next line)) (other, bare.0), bare.1)
+  onto_bare byte other [] bare = (subst HasNone (sym (strip_one eol byte other)) (other, tt), tt)
+  onto_bare byte other ([] ∷ ls) bare = (subst HasNone (sym (strip_one eol byte other)) (other, tt), bare.1)
+  onto_bare byte other ((next ∷ line) ∷ ls) bare = (subst HasNone (sym (strip_more eol byte next line)) (other, bare.0), bare.1)
 
   pub lines_are_bare : (text : List ℕ) → AreBare (lines_by eol text)
   lines_are_bare [] = tt
   lines_are_bare (byte ∷ text) = at (byte == eol) refl (lines_by eol text) (lines_are_bare text)
     where
       at : (b : Bool) → (byte == eol) ≡ b → (ls : List (List ℕ)) → AreBare ls → AreBare (cond b ((byte ∷ []) ∷ ls) (onto_first byte ls))
-      at true is ls bare = (subst HasNone (sym (strip_is byte [] ∙ ap (λ b. cond b [] (byte ∷ [])) is)) tt, bare)
+      at true is ls bare = (subst HasNone (sym (strip_is eol byte [] ∙ ap (λ b. cond b [] (byte ∷ [])) is)) tt, bare)
       at false is ls bare = onto_bare byte (λ same. false≢true (sym is ∙ eq-eqb byte eol same)) ls bare
 
   -- a text without ends and an end behind it are one line
@@ -159,7 +110,7 @@ module _ (eol : ℕ) where
 
   pub texts_written : (text : List ℕ) → line_texts eol (each_once_by eol text) ≡ map (strip_last eol) (firsts_by eol (lines_by eol text))
   texts_written text =
-      texts_of_lines (each_once_by eol text) ∙ ap (map (strip_last eol)) (lines_written text) ∙ texts_as_written (firsts_by eol (lines_by eol text))
+      texts_of_lines eol (each_once_by eol text) ∙ ap (map (strip_last eol)) (lines_written text) ∙ texts_as_written (firsts_by eol (lines_by eol text))
 
   -- ---- each once
 
@@ -188,7 +139,7 @@ module _ (eol : ℕ) where
   pub written_texts : (text line : List ℕ) → has (line_texts eol (each_once_by eol text)) line ≡ has (line_texts eol text) line
   written_texts text line =
       ap (λ texts. has texts line) (texts_written text) ∙ firsts_have (lines_by eol text) line
-      ∙ ap (λ texts. has texts line) (sym (texts_of_lines text))
+      ∙ ap (λ texts. has texts line) (sym (texts_of_lines eol text))
 
   -- ---- their order
 
@@ -232,7 +183,7 @@ module _ (eol : ℕ) where
       → ComesBefore (line_texts eol (each_once_by eol text)) line other
   written_in_order text line other before =
       subst (λ texts. ComesBefore texts line other) (sym (texts_written text))
-      (firsts_before (lines_by eol text) line other (subst (λ texts. ComesBefore texts line other) (texts_of_lines text) before))
+      (firsts_before (lines_by eol text) line other (subst (λ texts. ComesBefore texts line other) (texts_of_lines eol text) before))
 
   -- ---- twice
 

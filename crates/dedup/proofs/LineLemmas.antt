@@ -1,15 +1,17 @@
 -- Lines of a text that grows, and the first of each.
-use Rattle.std.proofs.Common.{suc, subst, Some, ◌≡◌, ◌≢◌, ℕ, ◌+◌, ◌-◌, ◌<◌, ◌≤◌, Bool, true, false, cond, not, ◌||◌, ◌&&◌, if◌then◌else◌, ◌==◌, List, [], ◌∷◌, ◌++◌, length, get_or, take, All, ap, sym, ◌∙◌, refl, arith}
+use Rattle.std.proofs.Common.{suc, subst, Some, ◌≡◌, ◌≢◌, ℕ, ◌+◌, ◌-◌, ◌<◌, ◌≤◌, Bool, true, false, cond, not, ◌||◌, if◌then◌else◌, ◌==◌, List, [], ◌∷◌, ◌++◌, length, get_or, take, ap, sym, ◌∙◌, refl, arith}
 use Rattle.std.specs.Io.{StopsAt}
 use Rattle.std.specs.Io.BufRead.{ends_with_byte, strip_last}
 use Rattle.std.specs.List.{filter, flat_map, list_any, onto_first}
-use Rattle.std.proofs.lemmas.Bool.{eqb-true, ne_eqb, eq-eqb, lt-ltb, false≢true}
+use Rattle.std.proofs.lemmas.Bool.{eqb-true, ne_eqb, eq-eqb}
 use Rattle.std.proofs.lemmas.Cmp.{nat_list_eq_equiv}
 use Rattle.std.proofs.lemmas.List.{append-nil, take_all, take_more, get_or-take, get_or_default, length-take, length-take-le}
-use Rattle.std.proofs.lemmas.Grind.{flat_map-append, get_or_tail}
-use Rattle.std.proofs.lemmas.List.Elements.{All-head, All-tail, filter-append}
+use Rattle.std.proofs.lemmas.Grind.{flat_map-append}
+use Rattle.std.proofs.lemmas.List.Elements.{filter-append}
+use Rattle.hash_lines.proofs.LinesOfText.{ends_some}
 use Rattle.dedup.specs.Between.{IsBare, IsLineEnd}
-use Rattle.dedup.specs.Lines.{lines_by, same_text_by, firsts_by, as_line_by, once_by}
+use Rattle.dedup.specs.Lines.{same_text_by, firsts_by, as_line_by, once_by}
+use Rattle.hash_lines.specs.Lines.{lines_by}
 
 module _ (eol : ℕ) where
   pub same_text-symm : (line other : List ℕ) → same_text_by eol line other ≡ same_text_by eol other line
@@ -63,58 +65,6 @@ module _ (eol : ℕ) where
             ∙ ap (λ kept. first ∷ kept) (filter-append other (firsts_by eol before) below.0),
       )
 
-  -- the first of several bytes before an end is none, and the others stop there too
-  stops_tail : (byte next : ℕ) (line : List ℕ) → StopsAt (byte ∷ next ∷ line) eol → (byte ≢ eol) × StopsAt (next ∷ line) eol
-  stops_tail byte next line stops =
-      let whole = byte ∷ next ∷ line in
-      let same : take (length whole - 1) whole ≡ byte ∷ take (length (next ∷ line) - 1) (next ∷ line) =
-      ap (λ k. take k whole) (the_length (length line)) in
-      let all = subst (All (λ x. x ≢ eol)) same stops in
-      (All-head (λ x. x ≢ eol) byte _ all, All-tail (λ x. x ≢ eol) byte _ all)
-    where
-      the_length : (n : ℕ) → suc (suc n) - 1 ≡ suc (suc n - 1)
-      the_length n = omega arith
-
-  ends_some : (line : List ℕ) → 0 < length line → ends_with_byte eol line ≡ (get_or line (length line - 1) 0 == eol)
-  ends_some line some = ap (λ b. b && (get_or line (length line - 1) 0 == eol)) (lt-ltb 0 (length line) some)
-
-  -- whether bytes end with an end is told by the later of them
-  pub ends_tail : (byte next : ℕ) (line : List ℕ) → ends_with_byte eol (byte ∷ next ∷ line) ≡ ends_with_byte eol (next ∷ line)
-  ends_tail byte next line =
-      ends_some (byte ∷ next ∷ line) (omega arith)
-      ∙ ap (λ x. x == eol)
-      (get_or_tail byte (next ∷ line) (length (byte ∷ next ∷ line) - 1) 0 (omega arith)
-      ∙ ap (λ k. get_or (next ∷ line) k 0) (the_length (length line)))
-      ∙ sym (ends_some (next ∷ line) (omega arith))
-    where
-      the_length : (n : ℕ) → suc (suc n) - 1 - 1 ≡ suc n - 1
-      the_length n = omega arith
-
-  -- a line with what ends it at its end and nowhere else is the first line of what it begins
-  pub lines_of_line : (line more : List ℕ) → StopsAt line eol → ends_with_byte eol line ≡ true
-      → lines_by eol (line ++ more) ≡ line ∷ (lines_by eol) more
-  lines_of_line [] more stops ends = absurd (false≢true ends)
-  lines_of_line (byte ∷ []) more stops ends =
-      ap (λ b. cond b ((byte ∷ []) ∷ (lines_by eol) more) (onto_first byte (lines_by eol more))) ends
-  lines_of_line (byte ∷ next ∷ line) more stops ends =
-      let (other, later) = stops_tail byte next line stops in
-      ap (λ b. cond b ((byte ∷ []) ∷ (lines_by eol) (next ∷ line ++ more)) (onto_first byte (lines_by eol (next ∷ line ++ more))))
-      (ne_eqb byte eol other)
-      ∙ ap (onto_first byte) (lines_of_line (next ∷ line) more later (sym (ends_tail byte next line) ∙ ends))
-
-  -- bytes without an end before the last are one line
-  pub one_line : (line : List ℕ) → StopsAt line eol → 0 < length line → lines_by eol line ≡ line ∷ []
-  one_line [] stops some = absurd (omega arith)
-  one_line (byte ∷ []) stops some = at (byte == eol)
-    where
-      at : (b : Bool) → cond b ((byte ∷ []) ∷ []) (onto_first byte []) ≡ (byte ∷ []) ∷ []
-      at true = refl
-      at false = refl
-  one_line (byte ∷ next ∷ line) stops some =
-      let (other, later) = stops_tail byte next line stops in
-      ap (λ b. cond b ((byte ∷ []) ∷ (lines_by eol) (next ∷ line)) (onto_first byte (lines_by eol (next ∷ line)))) (ne_eqb byte eol other)
-      ∙ ap (onto_first byte) (one_line (next ∷ line) later (omega arith))
-
   -- bytes without an end are one line
   pub bare_line : (line : List ℕ) → IsBare eol line → 0 < length line → lines_by eol line ≡ line ∷ []
   bare_line [] bare some = absurd (omega arith)
@@ -129,7 +79,7 @@ module _ (eol : ℕ) where
   bare_end [] bare = refl
   bare_end (byte ∷ line) bare =
       let all : List ℕ = byte ∷ line in
-      ends_some all (omega arith) ∙ ne_eqb _ eol (bare (length all - 1) (omega arith))
+      ends_some eol all (omega arith) ∙ ne_eqb _ eol (bare (length all - 1) (omega arith))
 
   pub bare_text : (line : List ℕ) → IsBare eol line → strip_last eol line ≡ line
   bare_text line bare = ap (λ b. cond b (take (length line - 1) line) line) (bare_end line bare)
@@ -142,7 +92,7 @@ module _ (eol : ℕ) where
           → cond b (take (length line - 1) line) line ++ eol ∷ [] ≡ line
       at true ends below =
           let some : 0 < length line = omega (arith, below) in
-          let last : (get_or line (length line - 1) 0 == eol) ≡ true = sym (ends_some line some) ∙ ends in
+          let last : (get_or line (length line - 1) 0 == eol) ≡ true = sym (ends_some eol line some) ∙ ends in
           ap (λ byte. take (length line - 1) line ++ byte ∷ []) (sym (eqb-true _ _ last))
           ∙ sym (take_more line (length line - 1) 0 (omega (arith, some)))
           ∙ take_all (length line - 1 + 1) line (omega (arith, some))

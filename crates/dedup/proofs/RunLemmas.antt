@@ -12,12 +12,13 @@ use Rattle.std.proofs.lemmas.List.Elements.{filter-append}
 use Rattle.hash_program.specs.Streams.{AppendsPart}
 use Rattle.dedup.specs.Between.{Filled, IsBare, IsWhole, Takes}
 use Rattle.dedup.specs.Inputs.{ReadsInput, whole_lines}
-use Rattle.dedup.specs.Lines.{lines_by}
+use Rattle.hash_lines.specs.Lines.{lines_by}
 use Rattle.dedup.specs.Taking.{BeginWith, BreaksInput, BreaksOff, EndsInput, Grows, LeadsOn, LeavesInput, StopsWithin}
 use Rattle.dedup.specs.declared.run.Left.{Left}
 use Rattle.dedup.specs.declared.run.Left.TheVariants.{Done, Failed, Beyond}
 use Rattle.dedup.specs.declared.unread.Came.{Came}
-use Rattle.dedup.proofs.LineLemmas.{bare_end, lines_of_line, one_line, bare_line, some_line}
+use Rattle.hash_lines.proofs.LinesOfText.{lines_of_line, one_line}
+use Rattle.dedup.proofs.LineLemmas.{bare_end, bare_line, some_line}
 
 -- ---- lines that are taken
 

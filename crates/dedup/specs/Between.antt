@@ -2,7 +2,7 @@
 use Rattle.std.specs.Prelude.{ℕ, ◌≡◌, ◌≢◌, ◌<◌, ◌+◌, Option, None, Some, List, [], ◌∷◌, ◌++◌, ◌≤◌, length, take, drop, slice_index}
 use Rattle.std.specs.Io.KnownBytes.{Consumes, IsAtEnd}
 use Rattle.dedup.specs.Inputs.{whole_lines}
-use Rattle.dedup.specs.Lines.{lines_by}
+use Rattle.hash_lines.specs.Lines.{lines_by}
 use Rattle.dedup.specs.declared.unread.Came.{Came}
 use Rattle.dedup.specs.declared.unread.Came.TheVariants.{Line, End, Fault}
 

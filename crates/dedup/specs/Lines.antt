@@ -1,14 +1,10 @@
--- The lines of a text, and what the program makes of them. A line ends with a byte, newline or another.
-use Rattle.std.specs.Prelude.{ℕ, ◌≡◌, ◌==◌, ◌++◌, if◌then◌else◌, Bool, not, List, [], ◌∷◌}
+-- What the program makes of the lines of a text. A line ends with a byte, newline or another.
+use Rattle.std.specs.Prelude.{ℕ, ◌≡◌, ◌++◌, Bool, not, List, [], ◌∷◌}
 use Rattle.std.specs.Io.BufRead.{strip_last}
-use Rattle.std.specs.List.{filter, flat_map, list_any, onto_first}
+use Rattle.std.specs.List.{filter, flat_map, list_any}
 use Rattle.std.specs.Str.{bytes_eq}
+use Rattle.hash_lines.specs.Lines.{lines_by}
 use Rattle.hash_texts.specs.Texts.{has}
-
--- the lines, each through the byte that ends it; the last may have none
-abbrev pub lines_by : (eol : ℕ) → List ℕ → List (List ℕ)
-lines_by eol [] = []
-lines_by eol (byte ∷ text) = if byte == eol then (byte ∷ []) ∷ lines_by eol text else onto_first byte (lines_by eol text)
 
 -- whether two lines have the same text, what ends them aside
 abbrev pub same_text_by : (eol : ℕ) → List ℕ → List ℕ → Bool

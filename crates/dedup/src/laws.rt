@@ -3,8 +3,8 @@ ghost use Rattle.std.specs.Prelude.{◌≡◌, ◌++◌, true, ℕ, List, Option
 ghost use Rattle.std.specs.List.{flat_map};
 ghost use Rattle.dedup.specs.Inputs.{AreRead};
 ghost use Rattle.dedup.specs.Laws.{ComesBefore};
-ghost use Rattle.dedup.specs.Lines.{each_once_by, lines_by};
-ghost use Rattle.hash_lines.specs.Lines.{line_texts};
+ghost use Rattle.dedup.specs.Lines.{each_once_by};
+ghost use Rattle.hash_lines.specs.Lines.{line_texts, lines_by};
 ghost use Rattle.hash_texts.specs.Texts.{EachOnce, has};
 
 /// No two lines that are written have the same text.

@@ -6,7 +6,8 @@ ghost use Rattle.std.specs.Io.KnownBytes.{Appends, Keeps};
 ghost use Rattle.std.specs.List.{prefix_len};
 ghost use Rattle.std.specs.Simd.Lanes.{chunk};
 ghost use Rattle.dedup.specs.Between.{IsLineEnd, Takes};
-ghost use Rattle.dedup.specs.Lines.{as_line_by, lines_by};
+ghost use Rattle.dedup.specs.Lines.{as_line_by};
+ghost use Rattle.hash_lines.specs.Lines.{lines_by};
 ghost use Rattle.dedup.specs.Taking.{BreaksOff, Grows, LeadsOn};
 ghost use Rattle.hash_program.specs.Streams.{AppendsPart};
 

@@ -3,15 +3,16 @@ use Rattle.std.proofs.Common.{◌≡◌, ◌≢◌, ◌<◌, ◌+◌, ◌-◌, �
 use Rattle.std.specs.Io.{StopsAt, appended_bytes}
 use Rattle.std.specs.Io.BufRead.{ends_with_byte, strip_last, take_through}
 use Rattle.std.specs.Io.KnownBytes.{Consumes}
-use Rattle.std.specs.List.{concat, onto_first}
+use Rattle.std.specs.List.{concat}
 use Rattle.std.proofs.KnownBytes.{Consumes-trans}
-use Rattle.std.proofs.lemmas.Bool.{eq-eqb, ne_eqb, eqb-true, ltb-true, lt-ltb, and_from, and_parts, false≢true}
+use Rattle.std.proofs.lemmas.Bool.{eq-eqb, eqb-true, lt-ltb, and_from, false≢true}
 use Rattle.std.proofs.lemmas.List.{take_all, take_more}
 use Rattle.std.proofs.lemmas.List.Elements.{All-head, All-tail, All-push, All-same}
 use Rattle.std.proofs.lemmas.List.Folds.{concat-append}
 use Rattle.std.proofs.lemmas.List.Sums.{fold-append}
 use Rattle.hash_texts.specs.Texts.{with_text}
 use Rattle.hash_lines.specs.Lines.{line_texts}
+use Rattle.hash_lines.proofs.LinesOfText.{text_of_line, texts_of_line}
 use Rattle.spread.specs.Keys.{IsWhole, ReadsFixed, ReadsLine, ReadsLines, ReadsOne, TakesFixed, TakesKeys}
 
 -- keys that were read, and behind them more
@@ -30,34 +31,10 @@ all_behind (Some x) None c text more first second all = absurd first
 all_behind (Some x) (Some y) c text more first second all = first ∙ ap (λ l. text ++ l) all
 
 module _ (eol : ℕ) where
-  -- text with no end in it is one key
-  line_texts_bare : (text : List ℕ) → All (λ x. x ≢ eol) text → 0 < length text → line_texts eol text ≡ text ∷ []
-  line_texts_bare [] bare some = absurd (omega arith)
-  line_texts_bare (x ∷ []) bare some = ap (λ b. cond b ([] ∷ []) ((x ∷ []) ∷ [])) (ne_eqb x eol (All-head (λ y. y ≢ eol) x [] bare))
-  line_texts_bare (x ∷ y ∷ more) bare some =
-      ap (λ b. cond b ([] ∷ line_texts eol (y ∷ more)) (onto_first x (line_texts eol (y ∷ more))))
-      (ne_eqb x eol (All-head (λ z. z ≢ eol) x (y ∷ more) bare))
-      ∙ ap (onto_first x) (line_texts_bare (y ∷ more) (All-tail (λ z. z ≢ eol) x (y ∷ more) bare) (omega arith))
-
-  -- and with its end one key before those of the rest
-  line_texts_ended : (text later : List ℕ) → All (λ x. x ≢ eol) text → line_texts eol (text ++ eol ∷ later) ≡ text ∷ line_texts eol later
-  line_texts_ended [] later bare =
-      ap (λ b. cond b ([] ∷ line_texts eol later) (onto_first eol (line_texts eol later))) (eq-eqb eol eol refl)
-  line_texts_ended (x ∷ text) later bare =
-      ap (λ b. cond b ([] ∷ line_texts eol (text ++ eol ∷ later)) (onto_first x (line_texts eol (text ++ eol ∷ later))))
-      (ne_eqb x eol (All-head (λ z. z ≢ eol) x text bare))
-      ∙ ap (onto_first x) (line_texts_ended text later (All-tail (λ z. z ≢ eol) x text bare))
-
   -- a line is what stands before its last byte, and that
   line_parts : (line : List ℕ) → 0 < length line → line ≡ take (length line - 1) line ++ get_or line (length line - 1) 0 ∷ []
   line_parts line some =
       sym (take_all (length line - 1 + 1) line (omega arith)) ∙ take_more line (length line - 1) 0 (omega arith)
-
-  ended_parts : (line : List ℕ) → ends_with_byte eol line ≡ true → line ≡ take (length line - 1) line ++ eol ∷ []
-  ended_parts line ended =
-      let parts = and_parts _ _ ended in
-      line_parts line (ltb-true 0 (length line) parts.0)
-      ∙ ap (λ x. take (length line - 1) line ++ x ∷ []) (eqb-true (get_or line (length line - 1) 0) eol parts.1)
 
   -- a line with no end at its last byte has none
   bare_line : (line : List ℕ) → StopsAt line eol → ends_with_byte eol line ≡ false → 0 < length line → All (λ x. x ≢ eol) line
@@ -70,26 +47,10 @@ module _ (eol : ℕ) where
       ends same =
           and_from _ _ (lt-ltb 0 (length line) some) (eq-eqb (get_or line (length line - 1) 0) eol same)
 
-  -- the key of a line with its end, and of one without
-  key_of_ended : (line : List ℕ) → StopsAt line eol → ends_with_byte eol line ≡ true → line_texts eol line ≡ strip_last eol line ∷ []
-  key_of_ended line stops ended =
-      ap (line_texts eol) (ended_parts line ended) ∙ line_texts_ended (take (length line - 1) line) [] stops
-      ∙ ap (λ b. cond b (take (length line - 1) line) line ∷ []) (sym ended)
-
-  key_of_bare : (line : List ℕ) → StopsAt line eol → ends_with_byte eol line ≡ false → 0 < length line
-      → line_texts eol line ≡ strip_last eol line ∷ []
-  key_of_bare line stops bare_end some =
-      line_texts_bare line (bare_line line stops bare_end some) some
-      ∙ ap (λ b. cond b (take (length line - 1) line) line ∷ []) (sym bare_end)
-
   -- a line with its end is whole
-  ended_is_whole : (line : List ℕ) → StopsAt line eol → ends_with_byte eol line ≡ true → IsWhole eol line
-  ended_is_whole line stops ended = λ later.
-      let front = take (length line - 1) line in
-      let parts = ended_parts line ended in
-      ap (λ l. line_texts eol (l ++ later)) parts ∙ ap (line_texts eol) (append_assoc front (eol ∷ []) later)
-      ∙ line_texts_ended front later stops
-      ∙ ap (λ ks. ks ++ line_texts eol later) (sym (line_texts_ended front [] stops) ∙ sym (ap (line_texts eol) parts))
+  ended_is_whole : (line : List ℕ) → StopsAt line eol → ends_with_byte eol line ≡ true → 0 < length line → IsWhole eol line
+  ended_is_whole line stops ended some = λ later.
+      texts_of_line eol line later stops ended ∙ ap (λ ks. ks ++ line_texts eol later) (sym (text_of_line eol line stops some))
 
   -- what is taken through an end that is not there is all
   through_bare : (bytes : List ℕ) → All (λ x. x ≢ eol) (take_through eol bytes) → take_through eol bytes ≡ bytes
@@ -116,26 +77,6 @@ module _ (eol : ℕ) where
   all_read (Some bytes) (x ∷ line) is stops bare_end =
       sym (through_bare bytes (All-same (λ y. y ≢ eol) (take_through eol bytes) (x ∷ line) (sym is)
       (bare_line (x ∷ line) stops bare_end (omega arith)))) ∙ sym is
-
-  -- the key of a line is taken
-  pub takes_ended : (keys keys' : List (List ℕ)) (left left' : Option (List ℕ)) (line : List ℕ) → Consumes left left' line
-      → StopsAt line eol → ends_with_byte eol line ≡ true → keys' ≡ with_text keys (strip_last eol line) → ReadsLine eol keys keys' left left' true
-  takes_ended keys keys' left left' line read stops ended is = (
-    line,
-    record { consumed = read; taken = is ∙ ap (fold with_text keys) (sym (key_of_ended line stops ended)) },
-    ended_is_whole line stops ended,
-  )
-
-  pub takes_bare : (keys keys' : List (List ℕ)) (left left' : Option (List ℕ)) (line : List ℕ) → Consumes left left' line → StopsAt line eol
-      → ends_with_byte eol line ≡ false → 0 < length line → IfSome left (λ bytes. line ≡ take_through eol bytes)
-      → keys' ≡ with_text keys (strip_last eol line) → ReadsLine eol keys keys' left left' false
-  takes_bare keys keys' left left' line read stops bare_end some through is = (
-    line,
-    record {
-      takes = record { consumed = read; taken = is ∙ ap (fold with_text keys) (sym (key_of_bare line stops bare_end some)) };
-      all = all_read left line through stops bare_end;
-    },
-  )
 
   -- of lines with their ends, and then more
   pub takes_more : (keys keys' keys'' : List (List ℕ)) (a b c : Option (List ℕ)) (text more : List ℕ)
@@ -170,9 +111,12 @@ module _ (eol : ℕ) where
       through' : IfSome left (λ bytes. line ≡ take_through eol bytes)
       through' = rw none at through
 
+      takes : TakesKeys keys keys' left left' line (line_texts eol line)
+      takes = record { consumed = read'; taken = is ∙ ap (fold with_text keys) (sym (text_of_line eol line stops' some)) }
+
       at : (ended : Bool) → ended ≡ ends_with_byte eol line → ReadsLine eol keys keys' left left' ended
-      at true told = takes_ended keys keys' left left' line read' stops' (sym told) is
-      at false told = takes_bare keys keys' left left' line read' stops' (sym told) some through' is
+      at true told = (line, takes, ended_is_whole line stops' (sym told) some)
+      at false told = (line, record { takes = takes; all = all_read left line through' stops' (sym told) })
 
   -- whole lines and behind them one more, or the last
   pub goes_on : (keys keys' keys'' : List (List ℕ)) (a b c : Option (List ℕ)) → ReadsLine eol keys keys' a b true
