@@ -110,7 +110,8 @@ module _ (eol : ℕ) where
 
   pub texts_written : (text : List ℕ) → line_texts eol (each_once_by eol text) ≡ map (strip_last eol) (firsts_by eol (lines_by eol text))
   texts_written text =
-      texts_of_lines eol (each_once_by eol text) ∙ ap (map (strip_last eol)) (lines_written text) ∙ texts_as_written (firsts_by eol (lines_by eol text))
+      texts_of_lines eol (each_once_by eol text) ∙ ap (map (strip_last eol)) (lines_written text)
+      ∙ texts_as_written (firsts_by eol (lines_by eol text))
 
   -- ---- each once
 

@@ -10,7 +10,7 @@ use Rattle.std.proofs.Math.Seq.{take-append_seam, drop-append_seam, get_or-appen
 use Rattle.std.proofs.lemmas.List.{append-nil, get_or_append_left, length-take-le, nil_from_length}
 use Rattle.std.proofs.lemmas.List.Elements.{filter-append}
 use Rattle.hash_program.specs.Streams.{AppendsPart}
-use Rattle.dedup.specs.Between.{Filled, IsBare, IsWhole, Takes}
+use Rattle.dedup.specs.Between.{Filled, IsBare, IsLineEnd, IsWhole, Takes}
 use Rattle.dedup.specs.Inputs.{ReadsInput, whole_lines}
 use Rattle.hash_lines.specs.Lines.{lines_by}
 use Rattle.dedup.specs.Taking.{BeginWith, BreaksInput, BreaksOff, EndsInput, Grows, LeadsOn, LeavesInput, StopsWithin}
@@ -18,7 +18,7 @@ use Rattle.dedup.specs.declared.run.Left.{Left}
 use Rattle.dedup.specs.declared.run.Left.TheVariants.{Done, Failed, Beyond}
 use Rattle.dedup.specs.declared.unread.Came.{Came}
 use Rattle.hash_lines.proofs.LinesOfText.{lines_of_line, one_line}
-use Rattle.dedup.proofs.LineLemmas.{bare_end, bare_line, some_line}
+use Rattle.dedup.proofs.LineLemmas.{bare_end, bare_line, line_before, some_line}
 
 -- ---- lines that are taken
 
@@ -130,12 +130,11 @@ stops_before output grows before more w = λ ls start stood appends.
     (output ls, rest, sym is, appends)
 
 module _ (eol : ℕ) (output : List (List ℕ) → List ℕ) (grows : Grows output) where
-  -- a fault at a line behind others
-  pub breaks_at_line : (a b : List (List ℕ) → Type 0) (w w' w'' : Option (List ℕ)) (text line behind : List ℕ) → IsWhole eol text
+  breaks_within : (a b : List (List ℕ) → Type 0) (w w' w'' : Option (List ℕ)) (text line behind : List ℕ) → IsWhole eol text
       → IsWhole eol line → lines_by eol line ≡ line ∷ []
       → LeadsOn output a b (lines_by eol text) w w' → StopsWithin output b (line ∷ []) w' w''
       → BreaksOff output a eol (text ++ (line ++ behind)) w w''
-  breaks_at_line a b w w' w'' text line behind whole_text whole_line alone leads stops = λ ls start before appends.
+  breaks_within a b w w' w'' text line behind whole_text whole_line alone leads stops = λ ls start before appends.
       let (part, rest, is, there) =
       stops (ls ++ lines_by eol text) start (leads.stands ls before) (leads.writes ls start before appends) in (
         part,
@@ -154,6 +153,16 @@ module _ (eol : ℕ) (output : List (List ℕ) → List ℕ) (grows : Grows outp
                   ∙ begun ∙ ap (λ l. l ++ after) (sym is) ∙ append_assoc part rest after,
             ),
       )
+
+  -- a fault at the first line of the rest
+  pub breaks_at_line : (a b : List (List ℕ) → Type 0) (w w' w'' : Option (List ℕ)) (text rest bytes line behind : List ℕ) (n : ℕ)
+      → IsWhole eol text → text ++ rest ≡ bytes → line ≡ take (n + 1) rest → behind ≡ drop (n + 1) rest → IsLineEnd eol rest (Some n)
+      → LeadsOn output a b (lines_by eol text) w w' → StopsWithin output b (line ∷ []) w' w'' → BreaksOff output a eol bytes w w''
+  breaks_at_line a b w w' w'' text rest bytes line behind n whole is front back end leads stops =
+      let (ends_there, some, ended) = line_before eol rest line n front end in
+      subst (λ l. BreaksOff output a eol l w w'') (ap (λ l. text ++ l) (together line behind rest (n + 1) front back) ∙ is)
+      (breaks_within a b w w' w'' text line behind whole (whole_line eol line ends_there some ended) (one_line eol line ends_there some)
+      leads stops)
 
 module _ (eol : ℕ) where
   -- as many lines are taken as may be, or all

@@ -31,6 +31,11 @@ HasCome eol text unread left Line = ¬ IsBare eol unread
 HasCome eol text unread left End = IsBare eol text × IsAtEnd left
 HasCome eol text unread left (Fault error) = IsBare eol text
 
+-- so many bytes were read, and stand behind those before them; none were at the end alone
+abbrev pub ReadsBehind : (before after : List ℕ) (left left' : Option (List ℕ)) → ℕ → Type 0
+ReadsBehind before after left left' n =
+    (text : List ℕ) × (after ≡ before ++ text) × (length text ≡ n) × Consumes left left' text × (n ≡ 0 → IsAtEnd left')
+
 -- some bytes more were read
 pub record Filled (eol : ℕ) (unread unread' : List ℕ) (left left' : Option (List ℕ)) (came : Came) : Type 0 where
   pub text : List ℕ

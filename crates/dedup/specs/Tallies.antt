@@ -21,7 +21,8 @@ shown eol which times text = if is_shown which times then (if which.counts then 
 abbrev pub shown_line : (eol : ℕ) → Which → (ls : List (List ℕ)) → List ℕ → List ℕ
 shown_line eol which ls line = shown eol which (count_by (same_text_by eol line) ls) (strip_last eol line)
 
--- what is written of lines: those that came more than once, or once, or all, with how often they came or without, in the order in which they came first
+-- what is written of lines: those that came more than once, or once, or all, with how often they came or without, in the order in which
+-- they came first
 abbrev pub told : (eol : ℕ) → Which → List (List ℕ) → List ℕ
 told eol which ls = flat_map (shown_line eol which ls) (firsts_by eol ls)
 

@@ -1,8 +1,8 @@
 //! The bytes that were read and are not taken yet.
 ghost use Rattle.std.specs.Prelude.{◌≡◌, ◌<◌, ◌≤◌, ◌+◌, ◌-◌, ◌++◌, [], ℕ, List, IfOk, OnOk, OnErr, MatchResult, true, false, length, take, drop};
 ghost use Rattle.std.specs.Io.Buffered.{writer_buffer};
-ghost use Rattle.std.specs.Io.KnownBytes.{Consumes, IsAtEnd, Keeps};
-ghost use Rattle.dedup.specs.Between.{Filled};
+ghost use Rattle.std.specs.Io.KnownBytes.{Keeps};
+ghost use Rattle.dedup.specs.Between.{Filled, ReadsBehind};
 
 use crate::fault::Fault;
 use crate::lines::line_end;
@@ -75,9 +75,8 @@ fn make_room(bytes: &mut Vec<u8>, to: usize) -> Result<(), Fault>
 fn read_behind<R: Read>(bytes: &mut [u8], to: usize, r: &mut R) -> io::Result<usize>
     requires { to < length bytes.old }
     ensures within { IfOk result (λ n. to + n ≤ length bytes.new) }
-    ensures read { IfOk result (λ n. (text : List ℕ) × (take (to + n) bytes.new ≡ take to bytes.old ++ text)
-        × (length text ≡ n)
-        × Consumes (R.remaining r.old) (R.remaining r.new) text × (n ≡ 0 → IsAtEnd (R.remaining r.new))) }
+    ensures read { IfOk result (λ n. ReadsBehind (take to bytes.old) (take (to + n) bytes.new)
+        (R.remaining r.old) (R.remaining r.new) n) }
     ensures kept { OnErr result (take to bytes.new ≡ take to bytes.old) }
     ensures err { OnErr result (Keeps (R.remaining r.old) (R.remaining r.new)) }
 {
@@ -129,8 +128,7 @@ impl Unread {
     /// Reads once.
     fn read<R: Read>(&mut self, r: &mut R) -> Result<io::Result<usize>, Fault>
         ensures { IfOk result (λ read. MatchResult read
-            (λ n. (text : List ℕ) × (self.new ≡ self.old ++ text) × (length text ≡ n)
-            × Consumes (R.remaining r.old) (R.remaining r.new) text × (n ≡ 0 → IsAtEnd (R.remaining r.new)))
+            (ReadsBehind self.old self.new (R.remaining r.old) (R.remaining r.new))
             (λ _. (self.new ≡ self.old) × Keeps (R.remaining r.old) (R.remaining r.new))) }
     {
         to_front(&mut self.bytes, self.from, self.to);

@@ -146,7 +146,8 @@ file_read a b c d line words one two three =
 
 -- headers of one pair that stand in front of the same bytes
 pub same_header : (old new : Option (List ℕ)) (b p bits probes : ℕ) (pair rest : List ℕ) → b < 2 ^ 64 → p < 2 ^ 32
-    → bits < 2 ^ 64 → probes < 2 ^ 32 → Consumes old new (header b p pair) → old ≡ Some (header bits probes pair ++ rest) → (b ≡ bits) × (p ≡ probes) × (new ≡ Some rest)
+    → bits < 2 ^ 64 → probes < 2 ^ 32 → Consumes old new (header b p pair)
+    → old ≡ Some (header bits probes pair ++ rest) → (b ≡ bits) × (p ≡ probes) × (new ≡ Some rest)
 same_header None new b p bits probes pair rest few low few' low' took known = absurd (none known)
   where
     none : None ≡ Some (header bits probes pair ++ rest) → ⊥

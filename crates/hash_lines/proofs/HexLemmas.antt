@@ -56,7 +56,8 @@ digit_value-digit (suc (suc (suc (suc (suc (suc (suc (suc (suc (suc (suc (suc ze
 digit_value-digit (suc (suc (suc (suc (suc (suc (suc (suc (suc (suc (suc (suc (suc zero))))))))))))) low = refl
 digit_value-digit (suc (suc (suc (suc (suc (suc (suc (suc (suc (suc (suc (suc (suc (suc zero)))))))))))))) low = refl
 digit_value-digit (suc (suc (suc (suc (suc (suc (suc (suc (suc (suc (suc (suc (suc (suc (suc zero))))))))))))))) low = refl
-digit_value-digit (suc (suc (suc (suc (suc (suc (suc (suc (suc (suc (suc (suc (suc (suc (suc (suc more)))))))))))))))) low = absurd (omega arith)
+digit_value-digit (suc (suc (suc (suc (suc (suc (suc (suc (suc (suc (suc (suc (suc (suc (suc (suc more)))))))))))))))) low = absurd
+    (omega arith)
 
 -- a digit behind others
 value-push : (front : List ℕ) (before number byte value : ℕ) → value_behind before front ≡ Some number → digit_value byte ≡ Some value
@@ -76,7 +77,8 @@ value-push (first ∷ front) before number byte value is one =
         ∙ again (before * 16 + v) (sym (ap (option_and_then (λ v. value_behind (before * 16 + v) front)) some) ∙ is)
 
 -- the number of its digits
-value-hex : (digits number before : ℕ) → number < 16 ^ digits → value_behind before (hex digits number) ≡ Some (before * 16 ^ digits + number)
+value-hex : (digits number before : ℕ) → number < 16 ^ digits → value_behind before (hex digits number)
+    ≡ Some (before * 16 ^ digits + number)
 value-hex zero number before small =
     let none : number < 1 = small in let same : before ≡ before * 1 + number = omega arith in ap Some same
 value-hex (suc digits) number before small =

@@ -96,7 +96,8 @@ pub tagged_shown : (tag : List ℕ) (count number other : ℕ) (shown more body 
     → ShowsTagged tag count more other body → shown ≡ more
 tagged_shown tag count number other shown more body (digits, shows, is) (others, same, also) =
     let inner = inner_is tag (codes " (") (shown ++ (codes ") = " ++ digits)) (more ++ (codes ") = " ++ others)) body is also in
-    (same_ends shown (codes ") = " ++ digits) more (codes ") = " ++ others) inner (ap (λ n. suc (suc (suc (suc n)))) (shows.0 ∙ sym same.0))).0
+    (same_ends shown (codes ") = " ++ digits) more (codes ") = " ++ others) inner
+    (ap (λ n. suc (suc (suc (suc n)))) (shows.0 ∙ sym same.0))).0
 
 -- the name that an untagged line shows
 pub untagged_shown : (count number other : ℕ) (shown more body : List ℕ) → ShowsUntagged count shown number body

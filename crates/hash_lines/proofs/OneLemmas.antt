@@ -27,7 +27,8 @@ shown_one true name more same = escape_one name more same
 shown_one false name more same = same
 
 -- two texts without a space that a space stands behind
-before_space : (xs ys us vs : List ℕ) → AllByRecursion (λ x. x ≢ 32) xs → AllByRecursion (λ x. x ≢ 32) ys → xs ++ (32 ∷ us) ≡ ys ++ (32 ∷ vs)
+before_space : (xs ys us vs : List ℕ) → AllByRecursion (λ x. x ≢ 32) xs → AllByRecursion (λ x. x ≢ 32) ys
+    → xs ++ (32 ∷ us) ≡ ys ++ (32 ∷ vs)
     → (xs ≡ ys) × (us ≡ vs)
 before_space [] [] us vs none other same = (refl, cc)
 before_space [] (y ∷ ys) us vs none other same = let space : y ≡ 32 = cc in absurd (other.0 space)
@@ -62,10 +63,12 @@ same_digits : (count n m : ℕ) (xs ys : List ℕ) → hex_value xs ≡ Some n �
 same_digits count n m xs ys one other same = let both : Some n ≡ Some m = sym one ∙ ap hex_value same ∙ other in cc
 
 -- two tagged lines of one tag
-tagged_one : (escapes : Bool) (tag : List ℕ) (count n m : ℕ) (name more body : List ℕ) → ShowsTagged tag count (name_shown escapes name) n body
+tagged_one : (escapes : Bool) (tag : List ℕ) (count n m : ℕ) (name more body : List ℕ)
+    → ShowsTagged tag count (name_shown escapes name) n body
     → ShowsTagged tag count (name_shown escapes more) m body → (name ≡ more) × (n ≡ m)
 tagged_one escapes tag count n m name more body (xs, shows, is) (ys, also, too) =
-    let inner = inner_is tag (codes " (") (name_shown escapes name ++ (codes ") = " ++ xs)) (name_shown escapes more ++ (codes ") = " ++ ys)) body
+    let inner = inner_is tag (codes " (") (name_shown escapes name ++ (codes ") = " ++ xs))
+    (name_shown escapes more ++ (codes ") = " ++ ys)) body
     is too in (
       shown_one escapes name more
           (tagged_shown tag count n m (name_shown escapes name) (name_shown escapes more) body (xs, shows, is) (ys, also, too)),
@@ -112,14 +115,16 @@ never_both tag count width n m shown more body is_tag (xs, shows, is) untagged =
         let clash : ◌≡◌ {A = ℕ} 40 42 = ap (λ l. get_or l 0 0) same.1 in omega arith
 
 -- two tagged lines
-tags_one : (tag other : List ℕ) (count width n m : ℕ) (shown more body : List ℕ) → IsTag tag → IsTag other → ShowsTagged tag count shown n body
+tags_one : (tag other : List ℕ) (count width n m : ℕ) (shown more body : List ℕ) → IsTag tag → IsTag other
+    → ShowsTagged tag count shown n body
     → ShowsTagged other width more m body → tag ≡ other
 tags_one tag other count width n m shown more body is_tag also_tag (xs, shows, is) (ys, also, too) =
     (before_space tag other (40 ∷ shown ++ (codes ") = " ++ xs)) (40 ∷ more ++ (codes ") = " ++ ys)) (tag_no_space tag is_tag)
     (tag_no_space other also_tag) (is ∙ sym too)).0
 
 -- a line without its mark
-body_one : (kinds : List Kind) (default : Kind) → AreTags kinds default → (escapes : Bool) (kind other : Kind) (name more : List ℕ) (n m : ℕ)
+body_one : (kinds : List Kind) (default : Kind) → AreTags kinds default
+    → (escapes : Bool) (kind other : Kind) (name more : List ℕ) (n m : ℕ)
     (body : List ℕ) → TellsBody kinds default escapes kind name n body → TellsBody kinds default escapes other more m body
     → (kind ≡ other) × (name ≡ more) × (n ≡ m)
 body_one kinds default are escapes kind other name more n m body (inl (has, tells)) (inl (also, too)) =
@@ -129,10 +134,12 @@ body_one kinds default are escapes kind other name more n m body (inl (has, tell
     let rest = tagged_one escapes kind.name.now (digits_of kind.width) n m name more body tells
     (subst (λ k. TellsTagged k escapes more m body) (sym same) too) in (same, rest.0, rest.1)
 body_one kinds default are escapes kind other name more n m body (inl (has, tells)) (inr (is, too)) =
-    absurd (never_both kind.name.now (digits_of kind.width) (digits_of other.width) n m (name_shown escapes name) (name_shown escapes more) body
+    absurd (never_both kind.name.now (digits_of kind.width) (digits_of other.width) n m (name_shown escapes name)
+    (name_shown escapes more) body
     (are.each kind has) tells too)
 body_one kinds default are escapes kind other name more n m body (inr (is, tells)) (inl (also, too)) =
-    absurd (never_both other.name.now (digits_of other.width) (digits_of kind.width) m n (name_shown escapes more) (name_shown escapes name) body
+    absurd (never_both other.name.now (digits_of other.width) (digits_of kind.width) m n (name_shown escapes more)
+    (name_shown escapes name) body
     (are.each other also) too tells)
 body_one kinds default are escapes kind other name more n m body (inr (is, tells)) (inr (also, too)) =
     let same = is ∙ sym also in

@@ -88,7 +88,8 @@ line_found kinds default line untold (Ok (Some entry)) tells = inl tells
 -- a line without its mark that is written tells what it was written of
 body_told : (kinds : List Kind) (default kind : Kind) (form : Form) → MayBeTold kinds default form kind
     → (escapes : Bool) (name : List ℕ) (number : ℕ) → number < 16 ^ digits_of kind.width
-    → TellsBody kinds default escapes kind name number (body form kind.name.now (name_shown escapes name) (hex (digits_of kind.width) number))
+    → TellsBody kinds default escapes kind name number
+    (body form kind.name.now (name_shown escapes name) (hex (digits_of kind.width) number))
 body_told kinds default kind form.Tagged may escapes name number small =
     let digits = hex (digits_of kind.width) number in
     inl (may, (digits, (length-hex (digits_of kind.width) number, hex_value-hex (digits_of kind.width) number small), refl))

@@ -42,4 +42,5 @@ undone_64 : (x : ℕ) → x < 2 ^ 64 → x * 0xce965057aff6957b % 2 ^ 64 * 10995
 undone_64 x known = omega arith
 
 pub fnv1_64_back : (h b : ℕ) → h < 2 ^ 64 → b < 256 → fnv1_64_step (bit_xor h b * 0xce965057aff6957b % 2 ^ 64) b ≡ h
-fnv1_64_back h b hs sb = fnv1_back 64 1099511628211 (bit_xor h b * 0xce965057aff6957b % 2 ^ 64) h b (undone_64 (bit_xor h b) (xored_64 h b hs sb))
+fnv1_64_back h b hs sb = fnv1_back 64 1099511628211 (bit_xor h b * 0xce965057aff6957b % 2 ^ 64) h b
+    (undone_64 (bit_xor h b) (xored_64 h b hs sb))

@@ -1,4 +1,5 @@
--- Bob Jenkins' one-at-a-time hash at 32 bits, as he published it (Dr. Dobb's Journal, September 1997; burtleburtle.net/bob/hash/doobs.html).
+-- Bob Jenkins' one-at-a-time hash at 32 bits, as he published it (Dr. Dobb's Journal, September 1997;
+-- burtleburtle.net/bob/hash/doobs.html).
 use Rattle.std.specs.Prelude.{ℕ, ◌+◌, ◌*◌, ◌%◌, ◌^◌, List}
 use Rattle.hashers.specs.Recurrence.{recurrence}
 use Rattle.hashers.specs.Words.{xorshift}

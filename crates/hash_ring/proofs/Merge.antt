@@ -78,12 +78,14 @@ right_more xs ys done left right next y xs_rise ys_rise so_far one is later =
     (left_more ys xs done right next left y ys_rise xs_rise (turned xs ys done left next so_far) one is later)
 
 -- where the first list is used up, the rest of the second one goes in front
-module _ (xs ys points : List Point) (left right : ℕ) (so_far : IsMerged xs ys (drop (left + right) points) left right) (none : left ≤ 0) where
+module _ (xs ys points : List Point) (left right : ℕ)
+    (so_far : IsMerged xs ys (drop (left + right) points) left right) (none : left ≤ 0) where
   used_up : IsMerged xs ys (drop right points) 0 right
   used_up =
       let here : left ≡ 0 = omega arith in
       let last : left + right ≡ right = omega arith in
-      subst (λ (k : ℕ). IsMerged xs ys (drop right points) k right) here (subst (λ (k : ℕ). IsMerged xs ys (drop k points) left right) last so_far)
+      subst (λ (k : ℕ). IsMerged xs ys (drop right points) k right) here
+      (subst (λ (k : ℕ). IsMerged xs ys (drop k points) left right) last so_far)
 
   pub all_merged : IsPermutation (xs ++ ys) (take right ys ++ drop right points)
   all_merged =

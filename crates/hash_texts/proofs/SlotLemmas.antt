@@ -158,7 +158,8 @@ stops_somewhere : (tag : List ℕ → ℕ) (texts : List (List ℕ)) (slots : Li
     → list_any (λ s. is_taken s && bytes_eq text (text_of texts s)) slots ≡ true
     → (k : ℕ) × (k < length slots) × (is_taken (get_or slots k EMPTY) ≡ true) × ((get_or slots k EMPTY).tag ≡ tag text)
     × (stops texts (tag text) text (get_or slots k EMPTY) ≡ true)
-stops_somewhere tag texts slots room table text there = at (Any-from_list_any (λ s. is_taken s && bytes_eq text (text_of texts s)) slots there)
+stops_somewhere tag texts slots room table text there = at
+    (Any-from_list_any (λ s. is_taken s && bytes_eq text (text_of texts s)) slots there)
   where
     at : Any (λ s. (is_taken s && bytes_eq text (text_of texts s)) ≡ true) slots
         → (k : ℕ) × (k < length slots) × (is_taken (get_or slots k EMPTY) ≡ true) × ((get_or slots k EMPTY).tag ≡ tag text)

@@ -14,7 +14,8 @@ use Rattle.hashsum.specs.Told.{AreTold}
 use Rattle.hashsum.proofs.ToldLemmas.{told_more, told_start, torn_kept, torn_within}
 
 -- what came of the first lines is written and counted
-abbrev pub SoFar : List Kind → Checking → (holds : List ℕ → Option (List ℕ)) (left left' written written' : Option (List ℕ)) → Counts → Type 0
+abbrev pub SoFar : List Kind → Checking → (holds : List ℕ → Option (List ℕ)) (left left' written written' : Option (List ℕ))
+    → Counts → Type 0
 SoFar kinds checking holds left left' written written' counts =
     (ls : List (List ℕ)) × AreLines left ls left' × (told : List (List ℕ × Came))
     × AreTold (λ line. line.0) (IsCameOf kinds checking holds) (said_of checking) (λ line. true) ls told written written' true
@@ -53,7 +54,8 @@ torn_off kinds checking holds left here left' written between written' counts li
       ls ++ line ∷ [],
       left',
       behind line are next,
-      torn_kept (λ l. l.0) (IsCameOf kinds checking holds) (said_of checking) (λ l. true) ls (line ∷ []) (ls ++ line ∷ []) told written between
+      torn_kept (λ l. l.0) (IsCameOf kinds checking holds) (said_of checking) (λ l. true) ls (line ∷ []) (ls ++ line ∷ []) told written
+      between
           written' true so_far kept refl,
     )
 torn_off kinds checking holds left here left' written between written' counts line given fault (ls, are, told, so_far, counts_are)

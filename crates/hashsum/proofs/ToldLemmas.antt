@@ -48,18 +48,21 @@ module _ {X : Type 0} (name : X → List ℕ) (Holds : X → Type 0) (out : X �
   pub told_start : (w : Option (List ℕ)) → AreTold name Holds out good [] [] w w true
   told_start w = record { names_are = refl; each = All-nil Holds; written_is = Appends-nil w; all_is = refl }
 
-  pub told_more : (names : List (List ℕ)) (told : List X) (w w' w'' : Option (List ℕ)) (all : Bool) (x : X) → AreTold name Holds out good names told w w' all → Holds x
+  pub told_more : (names : List (List ℕ)) (told : List X) (w w' w'' : Option (List ℕ)) (all : Bool) (x : X)
+      → AreTold name Holds out good names told w w' all → Holds x
       → Appends w' w'' (out x) → AreTold name Holds out good (names ++ name x ∷ []) (told ++ x ∷ []) w w'' (all && good x)
   told_more names told w w' w'' all x so_far holds appends = record {
     names_are = map-append name told (x ∷ []) ∙ ap (λ ns. ns ++ name x ∷ []) so_far.names_are;
     each = All-push Holds told x so_far.each holds;
     written_is = subst (Appends w w'') (sym (flat_map-append out told (x ∷ []) ∙ ap (λ t. flat_map out told ++ t) (append-nil (out x))))
         (Appends-trans w w' w'' (flat_map out told) (out x) so_far.written_is appends);
-    all_is = ap (λ b. b && good x) so_far.all_is ∙ sym (list_all-append good told (x ∷ []) ∙ ap (λ b. list_all good told && b) (always (good x)));
+    all_is = ap (λ b. b && good x) so_far.all_is
+        ∙ sym (list_all-append good told (x ∷ []) ∙ ap (λ b. list_all good told && b) (always (good x)));
   }
 
   -- the same of names and of a test that are so much longer
-  pub told_next : (names names' : List (List ℕ)) (told : List X) (w w' w'' : Option (List ℕ)) (all all' : Bool) (x : X) → AreTold name Holds out good names told w w' all
+  pub told_next : (names names' : List (List ℕ)) (told : List X) (w w' w'' : Option (List ℕ)) (all all' : Bool) (x : X)
+      → AreTold name Holds out good names told w w' all
       → Holds x → Appends w' w'' (out x) → names ++ name x ∷ [] ≡ names' → (all && good x) ≡ all'
       → AreTold name Holds out good names' (told ++ x ∷ []) w w'' all'
   told_next names names' told w w' w'' all all' x so_far holds appends more both =

@@ -67,7 +67,8 @@ gives_checking words = given None (codes "status") words || given None (codes "s
 -- what is to be done by a hash
 abbrev pub work_of : List (List ℕ) → Kind → Result Task Wrong
 work_of words kind = if given (Some 99) (codes "check") words then (if gives_writing words then Err wrong.NotWithCheck else Ok
-    (task.Check (checking_of words kind))) else (if gives_checking words then Err wrong.OnlyWithCheck else Ok (task.Sum (summing_of words kind)))
+    (task.Check (checking_of words kind))) else
+    (if gives_checking words then Err wrong.OnlyWithCheck else Ok (task.Sum (summing_of words kind)))
 
 -- the same, where there is such a hash
 abbrev pub work_by : List (List ℕ) → Option Kind → Result Task Wrong

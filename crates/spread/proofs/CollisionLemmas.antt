@@ -76,7 +76,8 @@ pub equal_more : (hashes : List ℕ) (i k : ℕ) → k + 1 ≡ i → i < length 
 equal_more hashes i k next below same =
     ap (λ h. times h (take i hashes)) same
     ∙ ap (λ n. times (get_or hashes k 0) (take n hashes)) (sym next)
-    ∙ count_by_more_yes (λ other. eqb other (get_or hashes k 0)) hashes k 0 (omega arith) (eq-eqb (get_or hashes k 0) (get_or hashes k 0) refl)
+    ∙ count_by_more_yes (λ other. eqb other (get_or hashes k 0)) hashes k 0 (omega arith)
+    (eq-eqb (get_or hashes k 0) (get_or hashes k 0) refl)
 
 -- and none where they differ
 pub equal_none : (hashes : List ℕ) (i k : ℕ) → IsNonDecreasing hashes → k + 1 ≡ i → i < length hashes

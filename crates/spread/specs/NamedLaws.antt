@@ -21,6 +21,7 @@ hashes_same hash same agree keys hashes are = record {
 }
 
 pub hashed_same : (hash same : List ℕ → ℕ) → ((text : List ℕ) → IsText text → hash text ≡ same text)
-    → (before after : Hashed) (result : Result (Unit {0}) AllocError) → IsHashed hash before after result → IsHashed same before after result
+    → (before after : Hashed) (result : Result (Unit {0}) AllocError) → IsHashed hash before after result
+    → IsHashed same before after result
 hashed_same hash same agree before after (Ok done) (kept, hashes) = (kept, hashes_same hash same agree _ _ hashes)
 hashed_same hash same agree before after (Err error) (kept, none) = (kept, tt)

@@ -24,7 +24,8 @@ next hash nodes i node points now below read so_far is =
 
 pub loop-index-preserved : goal.loop-index-preserved
 loop-index-preserved g c =
-    next g.H.Piecewise.hash_of c.args.nodes.now c.loop-index.index c.index-nodes-index.result _ _ c.loop-index-test.true c.index-nodes-index.is c.loop-index.invariant c.in_ok-push_points.ensures.ok
+    next g.H.Piecewise.hash_of c.args.nodes.now c.loop-index.index c.index-nodes-index.result _ _ c.loop-index-test.true
+    c.index-nodes-index.is c.loop-index.invariant c.in_ok-push_points.ensures.ok
 
 pub returns-clause-just : goal.returns-clause-just
 returns-clause-just g c =

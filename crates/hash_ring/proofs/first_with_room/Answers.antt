@@ -21,7 +21,8 @@ loop-steps-preserved g c =
     c.as_slice-name.ensures.value ∙ ap (λ (n : Node). n.name.items) (sym c.index-nodes-point.is) in
     refused_more g.H.Piecewise.hash_of c.args.nodes.now c.args.points.now c.requires.ring c.args.place _ c.first_from-first.ensures
     (FnReturnsAt g.F.Fn c.args.has_room)
-    c.loop-steps.steps c.index_round.result point node c.loop-steps-test.true c.index_round.ensures.value here c.index-nodes-point.is c.loop-steps.invariant
+    c.loop-steps.steps c.index_round.result point node c.loop-steps-test.true c.index_round.ensures.value here c.index-nodes-point.is
+    c.loop-steps.invariant
     (record { shown = c.as_slice-name.result; shows = text; says = record { met = c.if-has_room.ensures } })
 
 pub returns-then-has_room-clause-some : goal.returns-then-has_room-clause-some
@@ -35,7 +36,8 @@ returns-then-has_room-clause-some g c =
     subst (IsFirstToPass hash (ring_of c.args.nodes.now) c.args.place (FnReturnsAt g.F.Fn c.args.has_room)) (sym text)
     (first_to_pass hash c.args.nodes.now c.args.points.now c.requires.ring c.args.place _ c.first_from-first.ensures
     (FnReturnsAt g.F.Fn c.args.has_room)
-    c.loop-steps.steps c.index_round.result point node c.loop-steps-test.true c.index_round.ensures.value here c.index-nodes-point.is c.loop-steps.invariant
+    c.loop-steps.steps c.index_round.result point node c.loop-steps-test.true c.index_round.ensures.value here c.index-nodes-point.is
+    c.loop-steps.invariant
     (record { shown = c.as_slice-name.result; shows = text; says = record { met = c.if-has_room.ensures } }))
 
 pub returns-clause-none : goal.returns-clause-none

@@ -23,7 +23,9 @@ returns-clause-merged g c =
     let long : length merged ≡ length both.items = c.merge_backward.auto.points ∙ ap length c.deref_mut.ensures.value in
     let all : IsPermutation (others ++ added) merged =
     subst (λ (ps : List Point). IsPermutation (map (opened_up c.args.index) ps ++ added) merged) front
-    (subst (λ (ps : List Point). IsPermutation (map (opened_up c.args.index) (take c.len-others.result c.deref_mut.result.now) ++ ps) merged) c.deref-2.ensures.value
+    (subst (λ (ps : List Point). IsPermutation (map (opened_up c.args.index) (take c.len-others.result c.deref_mut.result.now) ++ ps)
+    merged) c.deref-2.ensures.value
     c.merge_backward.ensures.merged) in
     subst (λ (ps : List Point). IsPermutation (others ++ its) ps) (sym (over merged both.items both.len long both.ok.0))
-    (IsPermutation-trans (others ++ its) (others ++ added) merged (IsPermutation-append_right others its added c.in_ok-added.ensures.just) all)
+    (IsPermutation-trans (others ++ its) (others ++ added) merged (IsPermutation-append_right others its added c.in_ok-added.ensures.just)
+    all)

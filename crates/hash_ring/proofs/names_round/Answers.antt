@@ -13,7 +13,8 @@ pub returns-then-len-n-clause-count : goal.returns-then-len-n-clause-count
 returns-then-len-n-clause-count g c =
     let names = c.loop-steps.names in
     let long = length-map names.items (λ name. name.now) in
-    sym long ∙ round_full g.H.Piecewise.hash_of c.args.nodes.now c.args.points.now c.requires c.args.place c.first_from-first.result c.first_from-first.ensures (texts names.items) c.args.n
+    sym long ∙ round_full g.H.Piecewise.hash_of c.args.nodes.now c.args.points.now c.requires c.args.place c.first_from-first.result
+    c.first_from-first.ensures (texts names.items) c.args.n
     c.loop-steps.invariant.round.own (long ∙ sym names.ok.0 ∙ sym c.len.ensures ∙ c.if-len-n.true)
 
 pub returns-then-len-n-clause-different : goal.returns-then-len-n-clause-different
@@ -53,7 +54,8 @@ loop-steps-preserved g c =
           record {
             round = subst (λ names. AreNamesRound hash c.args.nodes.now c.args.points.now c.args.place first names
                 (c.loop-steps.steps + 1)) (sym now)
-                (round_new hash c.args.nodes.now c.args.points.now c.requires c.args.place first c.first_from-first.ensures names c.loop-steps.steps c.index_round.result point node c.loop-steps-test.true
+                (round_new hash c.args.nodes.now c.args.points.now c.requires c.args.place first c.first_from-first.ensures names
+                c.loop-steps.steps c.index_round.result point node c.loop-steps-test.true
                 c.index_round.ensures.value here c.index-nodes-point.is so_far.round new);
             few = subst (λ names. length names ≤ c.args.n) (sym now)
                 (omega (
@@ -71,7 +73,8 @@ loop-steps-preserved g c =
           record {
             round = subst (λ names. AreNamesRound hash c.args.nodes.now c.args.points.now c.args.place first names
                 (c.loop-steps.steps + 1)) (sym now)
-                (round_old hash c.args.nodes.now c.args.points.now c.requires c.args.place first c.first_from-first.ensures names c.loop-steps.steps c.index_round.result point node c.loop-steps-test.true
+                (round_old hash c.args.nodes.now c.args.points.now c.requires c.args.place first c.first_from-first.ensures names
+                c.loop-steps.steps c.index_round.result point node c.loop-steps-test.true
                 c.index_round.ensures.value here c.index-nodes-point.is so_far.round there);
             few = subst (λ names. length names ≤ c.args.n) (sym now) so_far.few;
           }
@@ -81,7 +84,8 @@ pub returns-clause-count : goal.returns-clause-count
 returns-clause-count g c =
     let names = c.loop-steps.names in
     let long = length-map names.items (λ name. name.now) in
-    sym long ∙ round_all g.H.Piecewise.hash_of c.args.nodes.now c.args.points.now c.requires c.args.place c.first_from-first.result c.first_from-first.ensures (texts names.items) c.args.n
+    sym long ∙ round_all g.H.Piecewise.hash_of c.args.nodes.now c.args.points.now c.requires c.args.place c.first_from-first.result
+    c.first_from-first.ensures (texts names.items) c.args.n
     c.loop-steps.steps c.loop-steps.invariant.round c.loop-steps-test.false c.loop-steps.invariant.few
 
 pub returns-clause-different : goal.returns-clause-different

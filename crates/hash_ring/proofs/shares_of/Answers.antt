@@ -41,7 +41,8 @@ returns g c =
     let first = first_read points c.in-Some.first.now c.in-Some.ensures.value in
     let there = node_there g.H.Piecewise.hash_of (pairs c.args.nodes.now) points c.requires c.in-Some.first.now first.0 first.1 in
     let last = last_places
-    (pairs c.args.nodes.now) c.requires.named points c.loop-point.point-index c.in-Some.first.now c.loop-point.shares.items _ c.loop-point.from
+    (pairs c.args.nodes.now) c.requires.named points c.loop-point.point-index c.in-Some.first.now c.loop-point.shares.items _
+    c.loop-point.from
     c.index_mut-2.result.now c.loop-point-test.false there so_far.so_far so_far.from_is so_far.small c.index_mut-2.ensures.value refl in
     record {
       each = λ some. whole_ring g.H.Piecewise.hash_of (pairs c.args.nodes.now) points c.requires c.in-Some.first.now first.0 first.1 _

@@ -48,19 +48,10 @@ loop-count-preserved g c =
 pub returns-in_err-take_line-in-Some-clause-broke : goal.returns-in_err-take_line-in-Some-clause-broke
 returns-in_err-take_line-in-Some-clause-broke g c =
     let (part, is, whole, counted, leads, next) = c.loop-count.invariant in
-    let line : List ℕ = c.split_at.result.0.now in
-    let later : List ℕ = c.split_at.result.1.now in
-    let rest : List ℕ = c.loop-count.rest.now in
-    let n : ℕ = c.in-Some.found.len in
-    let (stops, some, ended) = line_before c.args.eol rest line n c.split_at.ensures.front c.in-Some.ensures.end in
-    let all : part ++ (line ++ later) ≡ c.args.bytes.now =
-    ap (λ l. part ++ l) (together line later rest (n + 1) c.split_at.ensures.front c.split_at.ensures.back) ∙ is in
     on_err _ c.from_residual.result
-    (subst (λ l. BreaksOff (g.T.LineTask.output c.args.eol) (λ ls. g.T.LineTask.taken c.args.eol ls c.args.task.now) c.args.eol l
-    (g.W.Write.contents c.args.w.now) (g.W.Write.contents c.take_line.new.w)) all
-    (breaks_at_line c.args.eol (g.T.LineTask.output c.args.eol) c.requires.grows _ _ _ _ _ part line later whole
-    (whole_line c.args.eol line stops some ended)
-    (one_line c.args.eol line stops some) leads c.in_err-take_line-in-Some.ensures.err))
+    (breaks_at_line c.args.eol (g.T.LineTask.output c.args.eol) c.requires.grows _ _ _ _ _ part c.loop-count.rest.now c.args.bytes.now _ _
+    c.in-Some.found.len whole is c.split_at.ensures.front c.split_at.ensures.back c.in-Some.ensures.end leads
+    c.in_err-take_line-in-Some.ensures.err)
 
 pub returns-in-None-clause-takes : goal.returns-in-None-clause-takes
 returns-in-None-clause-takes g c =

@@ -30,28 +30,24 @@ pub returns-in_err-finish-in-Line-clause-broke : goal.returns-in_err-finish-in-L
 returns-in_err-finish-in-Line-clause-broke g c =
     let (text, reads, leads, flushed) = c.loop-task.invariant in
     let output = g.T.LineTask.output c.args.eol in
-    let count : ℕ = c.in_ok-count-in-Line.count in
-    let len : ℕ = c.in_ok-count-in-Line.len in
-    let (takes, led) = taken_of c.args.eol output _ _ _ _ c.loop-task.most count len _ _ c.bytes.ensures c.in_ok-count-in-Line.ensures.takes
+    let (takes, led) = taken_of c.args.eol output _ _ _ _ _ _ _ _ _ c.bytes.ensures c.in_ok-count-in-Line.ensures.takes
     c.in_ok-count-in-Line.ensures.led in
     on_err _ c.from_residual-in_err-finish-in-Line.result
-    (breaks_at c.args.eol output _ _ _ _ _ (more_first c.args.eol _ _ _ _ _ text reads _ _ _ c.in_ok-fill.ensures count len takes)
+    (breaks_at c.args.eol output _ _ _ _ _ (more_first c.args.eol _ _ _ _ _ text reads _ _ _ c.in_ok-fill.ensures _ _ takes)
     (stops_after output _ _ _ _ _ _ (leads_both output _ _ _ _ _ _ _ _ leads led) c.finish.ensures.kept))
 
 pub returns-then-is_beyond-clause-left : goal.returns-then-is_beyond-clause-left
 returns-then-is_beyond-clause-left g c =
     let (text, reads, leads, flushed) = c.loop-task.invariant in
     let output = g.T.LineTask.output c.args.eol in
-    let count : ℕ = c.in_ok-count-in-Line.count in
-    let len : ℕ = c.in_ok-count-in-Line.len in
-    let (takes, led) = taken_of c.args.eol output _ _ _ _ c.loop-task.most count len _ _ c.bytes.ensures c.in_ok-count-in-Line.ensures.takes
+    let (takes, led) = taken_of c.args.eol output _ _ _ _ _ _ _ _ _ c.bytes.ensures c.in_ok-count-in-Line.ensures.takes
     c.in_ok-count-in-Line.ensures.led in
     let (all, begins, over) =
-    more_left c.args.eol _ _ _ _ _ text reads _ _ _ c.in_ok-fill.ensures count len takes (c.if-is_beyond.ensures.beyond refl).0
+    more_left c.args.eol _ _ _ _ _ text reads _ _ _ c.in_ok-fill.ensures _ _ takes (c.if-is_beyond.ensures.beyond refl).0
     (subst (λ l. 0 < length l) c.pass.ensures (c.if-is_beyond.ensures.beyond refl).1) in (
       _,
       all,
-      more_first c.args.eol _ _ _ _ _ text reads _ _ _ c.in_ok-fill.ensures count len takes,
+      more_first c.args.eol _ _ _ _ _ text reads _ _ _ c.in_ok-fill.ensures _ _ takes,
       leads_kept output _ _ _ _ _ _ (leads_both output _ _ _ _ _ _ _ _ leads led) c.finish.ensures.kept,
       begins,
       over,
@@ -74,20 +70,19 @@ pub loop-task-preserved : goal.loop-task-preserved
 loop-task-preserved g c =
     let (text, reads, leads, flushed) = c.loop-task.invariant in
     let output = g.T.LineTask.output c.args.eol in
-    let count : ℕ = c.in_ok-count-in-Line.count in
-    let len : ℕ = c.in_ok-count-in-Line.len in
-    let (takes, led) = taken_of c.args.eol output _ _ _ _ c.loop-task.most count len _ _ c.bytes.ensures c.in_ok-count-in-Line.ensures.takes
+    let (takes, led) = taken_of c.args.eol output _ _ _ _ _ _ _ _ _ c.bytes.ensures c.in_ok-count-in-Line.ensures.takes
     c.in_ok-count-in-Line.ensures.led in
-    let none : c.loop-task.most - count ≡ 0 → drop len c.fill.new.self ≡ [] =
+    let none : c.loop-task.most - c.in_ok-count-in-Line.count ≡ 0 → drop c.in_ok-count-in-Line.len c.fill.new.self ≡ [] =
     λ zero. sym c.pass.ensures ∙ c.if-is_beyond.ensures.within refl zero in
-    let reads_on = reads_more c.args.eol _ _ _ _ _ text reads _ _ _ c.in_ok-fill.ensures count len takes none in (
-      text ++ take len c.fill.new.self,
+    let reads_on = reads_more c.args.eol _ _ _ _ _ text reads _ _ _ c.in_ok-fill.ensures _ _ takes none in (
+      text ++ take c.in_ok-count-in-Line.len c.fill.new.self,
       subst (λ u. Reads c.args.eol c.args.most.now (g.R.Read.remaining c.args.r.now) (g.R.Read.remaining c.fill.new.r) u
-          (c.loop-task.most - count) (text ++ take len c.fill.new.self)) (sym c.pass.ensures) reads_on,
+          (c.loop-task.most - c.in_ok-count-in-Line.count) (text ++ take c.in_ok-count-in-Line.len c.fill.new.self)) (sym c.pass.ensures)
+          reads_on,
       subst (λ ls. LeadsOn output (λ l. g.T.LineTask.taken c.args.eol l c.args.task.now)
           (λ l. g.T.LineTask.taken c.args.eol l c.take_lines.new.task) ls
           (writer_contents g.W.Write.contents c.args.w.now) (writer_contents g.W.Write.contents c.finish.new.w))
-          (sym (reads.whole.splits (take len c.fill.new.self)))
+          (sym (reads.whole.splits (take c.in_ok-count-in-Line.len c.fill.new.self)))
           (leads_kept output _ _ _ _ _ _ (leads_both output _ _ _ _ _ _ _ _ leads led) c.finish.ensures.kept),
       c.in_ok-finish-in-Line.ensures.flushed,
     )

@@ -29,10 +29,8 @@ returns g c = λ eol ls line is now.
 pub overflow_add-index_mut : goal.overflow_add-index_mut
 overflow_add-index_mut g c =
     let (eol, ls, now, few) = c.requires in
-    let old = c.args.texts.now in
-    let times = c.args.times.now.items in
-    let place = c.in_ok-seen.seen.place in
-    let there : has old c.args.text.now ≡ true = is_there _ c.in_ok-seen.seen.is_new c.in_ok-seen.ensures.new (search rules) in
-    let (below, was) = counted_place old _ c.args.text.now times place c.index_mut.result.now there c.in_ok-seen.ensures.texts
-    c.in_ok-seen.ensures.place (as_many eol ls old times now) c.index_mut.ensures.value in
-    omega (arith, few, was, few_times eol ls old times now place below)
+    let (below, was) = counted_place c.args.texts.now _ c.args.text.now c.args.times.now.items c.in_ok-seen.seen.place
+    c.index_mut.result.now
+    (is_there _ c.in_ok-seen.seen.is_new c.in_ok-seen.ensures.new (search rules)) c.in_ok-seen.ensures.texts
+    c.in_ok-seen.ensures.place (as_many eol ls _ _ now) c.index_mut.ensures.value in
+    omega (arith, few, was, few_times eol ls _ _ now _ below)

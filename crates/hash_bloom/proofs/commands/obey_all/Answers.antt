@@ -11,8 +11,10 @@ loop-command-preserved g c =
     let F = g.F.Piecewise in
     let G = g.G.Piecewise in
     record {
-      so_far = run_more F.hash_of G.hash_of c.args.filter c.loop-command.filter c.obey-filter.result done c.in-Some.command before.so_far c.obey-filter.ensures;
-      split = split_more c.args.commands.items done c.loop-command.command-iterator.rest.items c.next.new.self.rest.items c.in-Some.command before.split c.in-Some.ensures.steps.0;
+      so_far = run_more F.hash_of G.hash_of c.args.filter c.loop-command.filter c.obey-filter.result done c.in-Some.command before.so_far
+          c.obey-filter.ensures;
+      split = split_more c.args.commands.items done c.loop-command.command-iterator.rest.items c.next.new.self.rest.items
+          c.in-Some.command before.split c.in-Some.ensures.steps.0;
     }
 
 pub returns-clause-found : goal.returns-clause-found

@@ -26,7 +26,8 @@ loop-preserved c =
     record {
       low = square.low;
       high = square.high;
-      near = near_next c.args.above c.args.below i c.loop.log c.loop.mantissa c.squared-square.result.1 c.squared-square.result.0 c.loop-test.true square.low square.floor square.ceiling so_far.near;
+      near = near_next c.args.above c.args.below i c.loop.log c.loop.mantissa c.squared-square.result.1 c.squared-square.result.0
+          c.loop-test.true square.low square.floor square.ceiling so_far.near;
       few = omega (arith, so_far.few, square.few, twice);
     }
 

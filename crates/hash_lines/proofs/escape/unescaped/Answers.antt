@@ -8,5 +8,6 @@ returns-in_default c name is =
 
 pub loop-rest-preserved : goal.loop-rest-preserved
 loop-rest-preserved c =
-    rw c.in_ok-push.ensures.items (escape_more c.loop-rest.name.items c.in-Some.byte c.in-Some.more.now c.loop-rest.rest.now c.args.shown.now
+    rw c.in_ok-push.ensures.items
+    (escape_more c.loop-rest.name.items c.in-Some.byte c.in-Some.more.now c.loop-rest.rest.now c.args.shown.now
     c.in-Some.ensures.0 c.loop-rest.invariant)

@@ -16,14 +16,16 @@ returns-in-Ok-clause-err g c = (
   refl,
   λ none.
       let found =
-      found_read c.self.inside.nodes.items _ c.args.name.items _ c.args.self.now c.self.invariant.named c.self.view_is c.deref.ensures.value c.deref-2.ensures.value c.in-Ok.field-0 c.in-Ok.ensures in
+      found_read c.self.inside.nodes.items _ c.args.name.items _ c.args.self.now c.self.invariant.named c.self.view_is
+      c.deref.ensures.value c.deref-2.ensures.value c.in-Ok.field-0 c.in-Ok.ensures in
       cc,
 )
 
 pub returns-in-Err-insert-clause-err : goal.returns-in-Err-insert-clause-err
 returns-in-Err-insert-clause-err g c = (
   ap (λ (node : Node). node.name) c.in-Err-insert.ensures.value_returned,
-  absent_read c.self.inside.nodes.items _ c.args.name.items _ c.args.self.now c.self.invariant.named c.self.view_is c.deref.ensures.value c.deref-2.ensures.value c.in-Err.at c.in-Err.ensures,
+  absent_read c.self.inside.nodes.items _ c.args.name.items _ c.args.self.now c.self.invariant.named c.self.view_is c.deref.ensures.value
+      c.deref-2.ensures.value c.in-Err.at c.in-Err.ensures,
 )
 
 -- the node where it was put in
@@ -44,7 +46,8 @@ invariant_of-self-in-Ok-merge_points g c =
     let name = c.args.name.items in
     let at = c.in-Err.at in
     let node : Node = record { name = c.args.name; weight = c.args.weight } in
-    let gap = gap_read nodes _ name _ c.args.self.now c.self.invariant.named c.self.view_is c.deref.ensures.value c.deref-2.ensures.value at c.in-Err.ensures in
+    let gap = gap_read nodes _ name _ c.args.self.now c.self.invariant.named c.self.view_is c.deref.ensures.value c.deref-2.ensures.value
+    at c.in-Err.ensures in
     let within : at ≤ length nodes = omega (arith, gap.within, length-map nodes pair_of) in
     let all : pairs c.insert.new.self.items ≡ insert (pairs nodes) at (name, c.args.weight) =
     ap pairs c.in_default.ensures.items ∙ pairs_insert nodes at node in
@@ -67,24 +70,28 @@ returns-in-Ok-merge_points-clause-added g c =
     let name = c.args.name.items in
     let w = c.args.weight in
     let at = c.in-Err.at in
-    let gap = gap_read nodes _ name _ c.args.self.now c.self.invariant.named c.self.view_is c.deref.ensures.value c.deref-2.ensures.value at c.in-Err.ensures in
+    let gap = gap_read nodes _ name _ c.args.self.now c.self.invariant.named c.self.view_is c.deref.ensures.value c.deref-2.ensures.value
+    at c.in-Err.ensures in
     let all : pairs c.insert.new.self.items ≡ insert (pairs nodes) at (name, w) =
     ap pairs c.in_default.ensures.items ∙ pairs_insert nodes at (record { name = c.args.name; weight = w }) in
     ap nodes_of all ∙ inserted (pairs nodes) c.self.invariant.named name w at gap ∙ ap (λ m. fin.insert m name w) c.self.view_is
 
 pub returns-in-Ok-merge_points-clause-new : goal.returns-in-Ok-merge_points-clause-new
 returns-in-Ok-merge_points-clause-new g c =
-    absent_read c.self.inside.nodes.items _ c.args.name.items _ c.args.self.now c.self.invariant.named c.self.view_is c.deref.ensures.value c.deref-2.ensures.value c.in-Err.at c.in-Err.ensures
+    absent_read c.self.inside.nodes.items _ c.args.name.items _ c.args.self.now c.self.invariant.named c.self.view_is
+    c.deref.ensures.value c.deref-2.ensures.value c.in-Err.at c.in-Err.ensures
 
 pub returns-in-Err-merge_points-clause-err : goal.returns-in-Err-merge_points-clause-err
 returns-in-Err-merge_points-clause-err g c =
     let nodes = c.self.inside.nodes.items in
     let node : Node = record { name = c.args.name; weight = c.args.weight } in
     let at = c.in-Err.at in
-    let gap = gap_read nodes _ c.args.name.items _ c.args.self.now c.self.invariant.named c.self.view_is c.deref.ensures.value c.deref-2.ensures.value at c.in-Err.ensures in
+    let gap = gap_read nodes _ c.args.name.items _ c.args.self.now c.self.invariant.named c.self.view_is c.deref.ensures.value
+    c.deref-2.ensures.value at c.in-Err.ensures in
     let within : at ≤ length nodes = omega (arith, gap.within, length-map nodes pair_of) in (
       ap (λ (node : Node). node.name)
           (c.remove.ensures.value ∙ ap (λ ns. get_or ns at c.remove.result) c.in_default.ensures.items
           ∙ get_or-insert_at nodes at node c.remove.result within),
-      absent_read nodes _ c.args.name.items _ c.args.self.now c.self.invariant.named c.self.view_is c.deref.ensures.value c.deref-2.ensures.value at c.in-Err.ensures,
+      absent_read nodes _ c.args.name.items _ c.args.self.now c.self.invariant.named c.self.view_is c.deref.ensures.value
+          c.deref-2.ensures.value at c.in-Err.ensures,
     )

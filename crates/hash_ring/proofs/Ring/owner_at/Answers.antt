@@ -27,7 +27,8 @@ returns-clause-owns g c =
     let index : c.index_round.result ≡ index_round (length points) first 0 =
     c.index_round.ensures.value ∙ ap (λ (n : ℕ). index_round n first 0) long in
     let some : 0 < length points = omega (arith, c.index_round.ensures.in_range) in
-    let owns = owner_read hash nodes points c.self.invariant c.args.place first start 0 c.index_round.result c.index-point.result.now c.index.result.now some index c.index-point.ensures c.index.ensures [] (λ t l. absurd (omega arith)) tt in
+    let owns = owner_read hash nodes points c.self.invariant c.args.place first start 0 c.index_round.result c.index-point.result.now
+    c.index.result.now some index c.index-point.ensures c.index.ensures [] (λ t l. absurd (omega arith)) tt in
     subst (IsOwner hash c.args.self.now c.args.place) (sym c.deref-2.ensures.value)
     (subst (λ nodes. IsOwner hash nodes c.args.place c.index.result.now.name.items) c.self.view_is owns)
 

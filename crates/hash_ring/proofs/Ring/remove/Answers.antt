@@ -9,11 +9,13 @@ use Rattle.hash_ring.proofs.Ring.remove.Goals as goal
 
 pub returns-in_default-clause-value : goal.returns-in_default-clause-value
 returns-in_default-clause-value g c =
-    sym (absent_read c.self.inside.nodes.items _ c.args.name.now _ c.args.self.now c.self.invariant.named c.self.view_is c.deref.ensures.value refl c.in_default.field-0 c.in_default.ensures)
+    sym (absent_read c.self.inside.nodes.items _ c.args.name.now _ c.args.self.now c.self.invariant.named c.self.view_is
+    c.deref.ensures.value refl c.in_default.field-0 c.in_default.ensures)
 
 pub returns-in_default-clause-removed : goal.returns-in_default-clause-removed
 returns-in_default-clause-removed g c =
-    none_unchanged c.self.inside.nodes.items _ c.args.name.now _ c.args.self.now c.self.invariant.named c.self.view_is c.deref.ensures.value refl c.in_default.field-0 c.in_default.ensures
+    none_unchanged c.self.inside.nodes.items _ c.args.name.now _ c.args.self.now c.self.invariant.named c.self.view_is
+    c.deref.ensures.value refl c.in_default.field-0 c.in_default.ensures
 
 pub invariant_of-self : goal.invariant_of-self
 invariant_of-self g c =
@@ -22,7 +24,8 @@ invariant_of-self g c =
     let points = c.self.inside.points.items in
     let gone = c.in-Ok.gone in
     let place =
-    place_read nodes _ c.args.name.now _ c.args.self.now c.self.invariant.named c.self.view_is c.deref.ensures.value refl gone c.in-Ok.ensures in
+    place_read nodes _ c.args.name.now _ c.args.self.now c.self.invariant.named c.self.view_is c.deref.ensures.value refl gone
+    c.in-Ok.ensures in
     subst (λ es. IsRing hash es c.take_points.new.points.items) (sym (ap pairs c.remove.ensures.items ∙ pairs_remove nodes gone))
     (subst (IsRing hash (remove (pairs nodes) gone)) (sym c.take_points.ensures)
     (ring_without hash (pairs nodes) gone place.below points c.self.invariant))
@@ -32,13 +35,15 @@ returns g c =
     let nodes = c.self.inside.nodes.items in
     let gone = c.in-Ok.gone in
     let place =
-    place_read nodes _ c.args.name.now _ c.args.self.now c.self.invariant.named c.self.view_is c.deref.ensures.value refl gone c.in-Ok.ensures in
+    place_read nodes _ c.args.name.now _ c.args.self.now c.self.invariant.named c.self.view_is c.deref.ensures.value refl gone
+    c.in-Ok.ensures in
     let node = c.remove.result in
     let below : gone < length nodes = omega (arith, place.below, length-map nodes pair_of) in
     let read : node_at (pairs nodes) gone ≡ pair_of node =
     get_or-map pair_of nodes gone node ([], 0) below ∙ ap pair_of (sym c.remove.ensures.value) in
     record {
-      value = sym (found_read nodes _ c.args.name.now _ c.args.self.now c.self.invariant.named c.self.view_is c.deref.ensures.value refl gone
+      value = sym (found_read nodes _ c.args.name.now _ c.args.self.now c.self.invariant.named c.self.view_is c.deref.ensures.value refl
+          gone
           c.in-Ok.ensures
           ∙ ap (λ node. Some node.1) read);
       removed = ap nodes_of (ap pairs c.remove.ensures.items ∙ pairs_remove nodes gone)

@@ -39,7 +39,8 @@ loop-slot-preserved c =
     let below : c.loop-slot.slot-index < length c.args.slots.now = omega arith in
     elim c.if-is_taken.branch [
       | then-is_taken+in-Some w ↦ subst (Refilling c.args.slots.now (done + 1) c.args.count) (sym (ap (λ v. v.items) w.more-is))
-          (refilling_put c.args.slots.now done c.args.count c.loop-slot.more.items c.loop-slot.invariant slot nothing below refl w.in-Some.place (sym w.if-is_taken.ensures)
+          (refilling_put c.args.slots.now done c.args.count c.loop-slot.more.items c.loop-slot.invariant slot nothing below refl
+          w.in-Some.place (sym w.if-is_taken.ensures)
           (subst (λ (slots : List Slot). FirstRound (λ s. not (is_taken s)) slots (home_of (length slots) slot.tag)
           (Some w.in-Some.place)) w.deref.ensures.value w.in-Some.ensures))
       | else-is_taken w ↦ subst (Refilling c.args.slots.now (done + 1) c.args.count) (sym (ap (λ v. v.items) w.more-is))

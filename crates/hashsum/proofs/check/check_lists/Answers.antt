@@ -30,6 +30,7 @@ loop-list-preserved g c =
     let i = c.loop-list.list-index in
     let lists = c.args.lists.now in
     subst (λ ls. AreListed c.args.kinds.now c.args.checking (g.F.Folder.holds c.args.folder.now) ls
-    (writer_contents g.W.Write.contents c.args.w.now) (writer_contents g.W.Write.contents c.check_list.new.w) (c.loop-list.all && c.in-Ok.passed))
+    (writer_contents g.W.Write.contents c.args.w.now) (writer_contents g.W.Write.contents c.check_list.new.w)
+    (c.loop-list.all && c.in-Ok.passed))
     (sym (names_more (λ (n : Bor (List ℕ)). n.now) lists i d c.loop-list-test.true))
     (next_list (get_or lists i d).now c.in-Ok.passed c.loop-list.invariant c.in-Ok.ensures)

@@ -7,5 +7,7 @@ use Rattle.hashsum.proofs.sum.sum_files.Given as goal
 -- the lines of the files so far are written
 abbrev pub invariant-loop-name : goal.invariant-loop-name
 invariant-loop-name g l =
-    (told : List (List ℕ × Option ℕ)) × AreTold (λ file. file.0) (IsSummed l.summing (g.F.Folder.holds l.folder)) (line_told l.summing) (λ file. is_some file.1)
-    (take l.name-index (map (λ n. n.now) l.names)) told (writer_contents g.W.Write.contents l.fn.w) (writer_contents g.W.Write.contents l.w) l.whole
+    (told : List (List ℕ × Option ℕ))
+    × AreTold (λ file. file.0) (IsSummed l.summing (g.F.Folder.holds l.folder)) (line_told l.summing) (λ file. is_some file.1)
+    (take l.name-index (map (λ n. n.now) l.names)) told (writer_contents g.W.Write.contents l.fn.w)
+    (writer_contents g.W.Write.contents l.w) l.whole

@@ -15,7 +15,8 @@ overflow_add-index_mut c =
     let r : ℕ = get_or c.args.hashes.now i 0 % m in
     let at : c.index_mut.result.now ≡ get_or c.loop-hash.counts.items r 0 =
     get_or_read c.loop-hash.counts.items r c.index_mut.result.now (omega arith) c.index_mut.ensures.value 0 in
-    let each : get_or c.loop-hash.counts.items r 0 ≡ in_bucket m r (take i c.args.hashes.now) = c.loop-hash.invariant.each r (omega arith) in
+    let each : get_or c.loop-hash.counts.items r 0 ≡ in_bucket m r (take i c.args.hashes.now) =
+    c.loop-hash.invariant.each r (omega arith) in
     let few : in_bucket m r (take i c.args.hashes.now) ≤ length (take i c.args.hashes.now) =
     count_by-le-length (λ hash. eqb (hash % m) r) (take i c.args.hashes.now) in
     omega (arith, at, each, few, length-take i c.args.hashes.now)
@@ -26,7 +27,8 @@ loop-hash-preserved c =
     let i = c.loop-hash.hash-index in
     let r : ℕ = get_or c.args.hashes.now i 0 % m in
     let items = c.loop-hash.counts.items in
-    let at : c.index_mut.result.now ≡ get_or items r 0 = get_or_read items r c.index_mut.result.now (omega arith) c.index_mut.ensures.value 0 in
+    let at : c.index_mut.result.now ≡ get_or items r 0 =
+    get_or_read items r c.index_mut.result.now (omega arith) c.index_mut.ensures.value 0 in
     record {
       len = length-set items r (c.index_mut.result.now + 1) ∙ c.loop-hash.invariant.len;
       each = λ b b_in. ap (λ v. get_or (set items r (v + 1)) b 0) at

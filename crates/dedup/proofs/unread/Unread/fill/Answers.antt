@@ -2,7 +2,7 @@ use Rattle.std.proofs.Common.{ℕ, List, ◌≡◌, ◌++◌, ap, sym, subst, �
 use Rattle.std.specs.Io.KnownBytes.{Consumes, IsAtEnd}
 use Rattle.std.proofs.KnownBytes.{Consumes-trans}
 use Rattle.std.proofs.lemmas.Result.{MatchResult-at_ok}
-use Rattle.dedup.specs.Between.{IsBare}
+use Rattle.dedup.specs.Between.{IsBare, ReadsBehind}
 use Rattle.dedup.proofs.RunLemmas.{bare_both}
 use Rattle.dedup.proofs.UnreadLemmas.{found_end, found_none}
 use Rattle.dedup.proofs.unread.Unread.fill.Goals as goal
@@ -11,9 +11,7 @@ pub returns-then-is_some : goal.returns-then-is_some
 returns-then-is_some g c =
     let (text, is, bare, read) = c.loop-error.invariant in
     let (piece, is_more, long, read_more, ended) = MatchResult-at_ok
-    (λ n. (piece : List ℕ) × (c.read.new.self ≡ c.loop-error.self ++ piece) × (length piece ≡ n)
-    × Consumes (g.R.Read.remaining c.loop-error.r) (g.R.Read.remaining c.read.new.r) piece
-    × (n ≡ 0 → IsAtEnd (g.R.Read.remaining c.read.new.r)))
+    (ReadsBehind c.loop-error.self c.read.new.self (g.R.Read.remaining c.loop-error.r) (g.R.Read.remaining c.read.new.r))
     _ c.in-Ok.field-0 c.in-Ok.is c.in_ok-read.ensures in
     record {
       text = text ++ piece;
@@ -27,9 +25,7 @@ pub loop-error-preserved : goal.loop-error-preserved
 loop-error-preserved g c =
     let (text, is, bare, read) = c.loop-error.invariant in
     let (piece, is_more, long, read_more, ended) = MatchResult-at_ok
-    (λ n. (piece : List ℕ) × (c.read.new.self ≡ c.loop-error.self ++ piece) × (length piece ≡ n)
-    × Consumes (g.R.Read.remaining c.loop-error.r) (g.R.Read.remaining c.read.new.r) piece
-    × (n ≡ 0 → IsAtEnd (g.R.Read.remaining c.read.new.r)))
+    (ReadsBehind c.loop-error.self c.read.new.self (g.R.Read.remaining c.loop-error.r) (g.R.Read.remaining c.read.new.r))
     _ c.in-Ok.field-0 c.in-Ok.is c.in_ok-read.ensures in (
       text ++ piece,
       is_more ∙ ap (λ l. l ++ piece) is ∙ append_assoc c.args.self.now text piece,

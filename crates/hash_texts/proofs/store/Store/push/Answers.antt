@@ -17,11 +17,13 @@ made old bytes text olds ends end rises is_bytes is_end is_ends =
 
 pub invariant_of-self-2 : goal.invariant_of-self-2
 invariant_of-self-2 c =
-    (made c.self.inside.bytes.items c.extend_from_slice.new.self.items c.args.text.now c.self.inside.ends.items c.push.new.self.items c.len-end.result c.self.invariant
+    (made c.self.inside.bytes.items c.extend_from_slice.new.self.items c.args.text.now c.self.inside.ends.items c.push.new.self.items
+    c.len-end.result c.self.invariant
     c.in_ok-extend_from_slice.ensures.items (omega (arith, c.len-end.ensures, c.extend_from_slice.new.self.ok.0)) (search rules)).0
 
 pub returns-clause-ok : goal.returns-clause-ok
 returns-clause-ok c =
-    (made c.self.inside.bytes.items c.extend_from_slice.new.self.items c.args.text.now c.self.inside.ends.items c.push.new.self.items c.len-end.result c.self.invariant
+    (made c.self.inside.bytes.items c.extend_from_slice.new.self.items c.args.text.now c.self.inside.ends.items c.push.new.self.items
+    c.len-end.result c.self.invariant
     c.in_ok-extend_from_slice.ensures.items (omega (arith, c.len-end.ensures, c.extend_from_slice.new.self.ok.0)) (search rules)).1
     ∙ ap (λ texts. texts ++ c.args.text.now ∷ []) c.self.view_is
