@@ -65,7 +65,8 @@ fx32_of_eight h v below =
 after_each : (s : ℕ) (bytes : List ℕ) → fold (λ s b. fx64 s (words64 (b ∷ []))) s bytes ≡ fold fx64_step s bytes
 after_each s [] = refl
 after_each s (b ∷ bytes) =
-    ap (λ t. fold (λ s b. fx64 s (words64 (b ∷ []))) t bytes) (ap (fx64 s) (words64-byte b) ∙ of_byte fx64_step s b) ∙ after_each (fx64_step s b) bytes
+    ap (λ t. fold (λ s b. fx64 s (words64 (b ∷ []))) t bytes) (ap (fx64 s) (words64-byte b) ∙ of_byte fx64_step s b)
+    ∙ after_each (fx64_step s b) bytes
 
 pub fx64_number : (n : ℕ) → n < 2 ^ 64 → fx64 0 (words64 (le_bytes 8 n)) ≡ fx64 0 (n ∷ [])
 fx64_number n below = ap (fx64 0) (words64-eight n below)
@@ -77,6 +78,7 @@ fx64_slice n bytes below =
 
 pub fx64_pair : (a b : ℕ) → a < 2 ^ 64 → b < 2 ^ 64 → fx64 (fx64 0 (words64 (le_bytes 8 a))) (words64 (le_bytes 8 b)) ≡ fx64 0 (a ∷ b ∷ [])
 fx64_pair a b below below' =
-    ap (λ s. fx64 s (words64 (le_bytes 8 b))) (fx64_of_eight 0 a below) ∙ fx64_of_eight (fx64_step 0 a) b below' ∙ sym (recurrence-fold fx64_step 0 (a ∷ b ∷ []))
+    ap (λ s. fx64 s (words64 (le_bytes 8 b))) (fx64_of_eight 0 a below) ∙ fx64_of_eight (fx64_step 0 a) b below'
+    ∙ sym (recurrence-fold fx64_step 0 (a ∷ b ∷ []))
 
 pub ruleset words_of_numbers = (words64-byte, words64-four, words64-eight, words32-byte, words32-four)

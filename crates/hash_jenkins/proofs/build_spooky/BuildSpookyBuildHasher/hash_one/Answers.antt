@@ -13,7 +13,10 @@ returns-clause-defined g c = λ texts.
     let start = position seeds.seed1 seeds.seed2 [] in
     let writes = g.T.Hash.hash_input c.args.x in
     let at : c.hash.new.state.at ≡ position seeds.seed1 seeds.seed2 (concat writes) =
-    ap (λ s. s.at) c.hash.ensures ∙ state_after_writes after_write (λ s. s.at) after (λ h piece. refl) c.new-hasher.result start writes c.new-hasher.ensures.position
-    ∙ fold-concat IsPosition after IsPosition-after after-nil after-append start writes (subst IsPosition c.new-hasher.ensures.position c.new-hasher.ensures.in_range) texts
+    ap (λ s. s.at) c.hash.ensures ∙ state_after_writes after_write (λ s. s.at) after (λ h piece. refl) c.new-hasher.result start writes
+    c.new-hasher.ensures.position
+    ∙ fold-concat IsPosition after IsPosition-after after-nil after-append start writes
+    (subst IsPosition c.new-hasher.ensures.position c.new-hasher.ensures.in_range) texts
     ∙ after-position seeds.seed1 seeds.seed2 [] (concat writes) in
-    c.finish.ensures.value ∙ ap (λ (a : Position). (hash a).0) at ∙ ap (λ (r : ℕ × ℕ). r.0) (hash-position seeds.seed1 seeds.seed2 (concat writes))
+    c.finish.ensures.value ∙ ap (λ (a : Position). (hash a).0) at
+    ∙ ap (λ (r : ℕ × ℕ). r.0) (hash-position seeds.seed1 seeds.seed2 (concat writes))
