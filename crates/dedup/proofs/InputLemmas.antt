@@ -72,8 +72,18 @@ module _ (output : List (List ℕ) → List ℕ) (eol limit : ℕ) where
 
   pub begins_nowhere : (lefts : List (Option (List ℕ))) → AllBeginWith eol lefts []
   begins_nowhere lefts =
-      record { done = []; done' = []; ended = true; before = []; read = none; more = lefts; is = refl; now = []; next = at lefts;
-          lines = refl }
+      record {
+        done = [];
+        done' = [];
+        ended = true;
+        before = [];
+        read = none;
+        more = lefts;
+        is = refl;
+        now = [];
+        next = at lefts;
+        lines = refl;
+      }
     where
       at_one : (left : Option (List ℕ)) → BeginWith eol left []
       at_one None = tt

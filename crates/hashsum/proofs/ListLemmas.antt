@@ -55,7 +55,7 @@ torn_off kinds checking holds left here left' written between written' counts li
       left',
       behind line are next,
       torn_kept (λ l. l.0) (IsCameOf kinds checking holds) (said_of checking) (λ l. true) ls (line ∷ []) (ls ++ line ∷ []) told written
-      between
+          between
           written' true so_far kept refl,
     )
 torn_off kinds checking holds left here left' written between written' counts line given fault (ls, are, told, so_far, counts_are)

@@ -54,7 +54,7 @@ loop-left-preserved c =
     let later : 0 < right → IsBefore (get_or ys (right - 1) (record { place = 0; node = 0 })) y = λ some.
     elim c.else-right-gt0.branch [
       | else-right-gt0-via-then-right-gt0+else-lt w ↦ before_if_not_less y (get_or ys (right - 1) (record { place = 0; node = 0 }))
-      (sym w.lt.ensures ∙ w.if-lt.false)
+          (sym w.lt.ensures ∙ w.if-lt.false)
       | else-right-gt0-via-else-right-gt0 w ↦ absurd (omega (arith, w.if-right-gt0.false))
     ] in
     record {

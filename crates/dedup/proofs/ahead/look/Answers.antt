@@ -11,7 +11,7 @@ loop-i-preserved g c =
       subst (λ lens. c.split_at.result.1.now ≡ behind lens c.args.bytes.now) (sym more)
           (c.split_at.ensures.back ∙ behind_more (take c.loop-i.i c.loop-i.lens) c.args.bytes.now c.loop-i.rest.now c.in-Some.found.len is),
       subst (AreNext c.args.eol c.args.bytes.now) (sym more)
-      (found_more c.args.eol _ _ _ c.in-Some.found.len next is c.in-Some.ensures.some),
+          (found_more c.args.eol _ _ _ c.in-Some.found.len next is c.in-Some.ensures.some),
     )
 
 pub overflow_add-found : goal.overflow_add-found
