@@ -1,5 +1,5 @@
 //! The hashers that the table may have, with how many bits their hashes have.
-ghost use Rattle.std.specs.Prelude.{◌≡◌, map};
+ghost use Rattle.std.specs.Prelude.{◌≡◌, true, false, map};
 ghost use Rattle.hash_names.specs.Named.{hashes};
 
 /// A hasher of the table.
@@ -15,7 +15,9 @@ pub struct Hasher {
 
 /// A hasher that stands in the table where none is named.
 const fn usual(name: &'static str, bits: u32) -> Hasher
-    ensures { result.name.now ≡ name.now }
+    ensures named { result.name.now ≡ name.now }
+    ensures wide { result.bits ≡ bits }
+    ensures usual { result.is_usual ≡ true }
 {
     Hasher {
         name,
@@ -26,7 +28,9 @@ const fn usual(name: &'static str, bits: u32) -> Hasher
 
 /// One that has to be named: it spreads as another does, or not at all.
 const fn unusual(name: &'static str, bits: u32) -> Hasher
-    ensures { result.name.now ≡ name.now }
+    ensures named { result.name.now ≡ name.now }
+    ensures wide { result.bits ≡ bits }
+    ensures unusual { result.is_usual ≡ false }
 {
     Hasher {
         name,
