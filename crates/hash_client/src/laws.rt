@@ -21,6 +21,7 @@ pub fn apart_under_all(x: &[u8], y: &[u8]) -> bool
 
 /// Whether two texts are apart within three neighbouring bytes; sdbm and FNV-1a at 64 bits then tell them apart.
 pub fn apart_within_three(x: &[u8], y: &[u8]) -> bool
+    ensures exactly { IsTrue result ↔ DifferWithin 3 0 x.now y.now }
     ensures sdbm { OnTrue result (sdbm_from 0 x.now ≢ sdbm_from 0 y.now) }
     ensures fnv64 { OnTrue result (fnv1a64_from fnv1a64_basis x.now ≢ fnv1a64_from fnv1a64_basis y.now) }
 {
