@@ -1,5 +1,5 @@
 -- What is written of lines, read again as lines.
-use Rattle.std.proofs.Common.{zero, suc, ◌≡◌, ◌≢◌, ℕ, ◌-◌, ◌<◌, Bool, true, false, cond, not, ◌||◌, ◌==◌, List, [], ◌∷◌, ◌++◌, length, get_or, drop, map, ap, sym, subst, ◌∙◌, refl, arith}
+use Rattle.std.proofs.Common.{zero, suc, ◌≡◌, ◌≢◌, ℕ, ◌<◌, Bool, true, false, cond, not, ◌||◌, ◌==◌, List, [], ◌∷◌, ◌++◌, length, get_or, drop, map, ap, sym, subst, ◌∙◌, refl, arith}
 use Rattle.std.specs.Io.BufRead.{strip_last}
 use Rattle.std.specs.List.{AllByRecursion, filter, flat_map, list_any, onto_first}
 use Rattle.std.specs.Str.{bytes_eq}
