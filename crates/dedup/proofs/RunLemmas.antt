@@ -130,6 +130,7 @@ stops_before output grows before more w = λ ls start stood appends.
     (output ls, rest, sym is, appends)
 
 module _ (eol : ℕ) (output : List (List ℕ) → List ℕ) (grows : Grows output) where
+  -- a fault at a line behind others
   breaks_within : (a b : List (List ℕ) → Type 0) (w w' w'' : Option (List ℕ)) (text line behind : List ℕ) → IsWhole eol text
       → IsWhole eol line → lines_by eol line ≡ line ∷ []
       → LeadsOn output a b (lines_by eol text) w w' → StopsWithin output b (line ∷ []) w' w''
