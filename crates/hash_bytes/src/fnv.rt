@@ -7,9 +7,8 @@ ghost use Rattle.hash_bytes.specs.FnvLaws.{fnv1a32_facts, fnv1a64_facts};
 ghost use Rattle.hash_laws.proofs.RecurrenceLemmas.{recurrence_is_fold};
 
 use hash_laws::build::BuildFresh;
-use hash_rules::{ByteHasher, ByteRule, StepRule, UndoRule, alone_or_in_eights};
+use hash_rules::{ByteHasher, ByteRule, StepRule, UndoRule, alone_or_in_eights, whole_text};
 use std::collections::{HashMap, HashSet};
-use std::hash::Hasher;
 
 /// The start at 32 bits, which the authors call the offset basis.
 pub const BASIS_32: u32 = 2166136261;
@@ -128,9 +127,7 @@ pub type FNV1aHasher32 = ByteHasher<Fnv1aRule32>;
 pub fn fnv1a32(bytes: &[u8]) -> u64
     ensures { result ≡ fnv1a32_from fnv1a32_basis bytes.now }
 {
-    let mut hasher = FNV1aHasher32::default();
-    hasher.write(bytes);
-    hasher.finish()
+    whole_text::<Fnv1aRule32>(bytes)
 }
 
 /// The rule of FNV-1a at 64 bits.
@@ -217,9 +214,7 @@ pub type FNV1aHasher64 = ByteHasher<Fnv1aRule64>;
 pub fn fnv1a64(bytes: &[u8]) -> u64
     ensures { result ≡ fnv1a64_from fnv1a64_basis bytes.now }
 {
-    let mut hasher = FNV1aHasher64::default();
-    hasher.write(bytes);
-    hasher.finish()
+    whole_text::<Fnv1aRule64>(bytes)
 }
 
 /// Makes an [`FNV1aHasher64`] for each key of a map or a set, as the type of this name in the crate fnv does.

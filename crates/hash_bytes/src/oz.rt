@@ -10,7 +10,7 @@ ghost use Rattle.hash_laws.proofs.RecurrenceLemmas.{recurrence_is_fold};
 ghost use Rattle.hash_bytes.specs.CountedSum.{sdbm_write, loselose_write};
 
 use hash_rounds::{Turns, lose8, sdbm4};
-use hash_rules::{ByteHasher, ByteRule, StepRule, UndoRule, in_eights};
+use hash_rules::{ByteHasher, ByteRule, StepRule, UndoRule, in_eights, whole_text};
 use std::hash::Hasher;
 use std::marker::Model;
 use std::simd::prelude::*;
@@ -128,9 +128,7 @@ pub type DJB2Hasher = ByteHasher<Djb2Rule>;
 pub fn djb2(bytes: &[u8]) -> u64
     ensures { result ≡ djb2_from 5381 bytes.now }
 {
-    let mut hasher = DJB2Hasher::default();
-    hasher.write(bytes);
-    hasher.finish()
+    whole_text::<Djb2Rule>(bytes)
 }
 
 /// One byte of sdbm on.

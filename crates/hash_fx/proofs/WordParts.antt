@@ -6,7 +6,7 @@ use Rattle.hash_rounds.specs.Words.{le}
 use Rattle.hash_rounds.specs.Blocks.{pieces}
 use Rattle.hash_laws.specs.Recurrence.{recurrence}
 use Rattle.hash_laws.proofs.RecurrenceLemmas.{recurrence-fold}
-use Rattle.hash_fx.specs.Fx.{words32, words64}
+use Rattle.hash_fx.specs.Fx.{fx64_step, words32, words64}
 
 pub words32-parts : (piece : List ℕ) (fours : List (List ℕ)) (rest : List ℕ) → fours ≡ first_chunks 4 (length piece / 4) piece
     → rest ≡ drop (length piece / 4 * 4) piece → map le fours ++ rest ≡ words32 piece
@@ -23,3 +23,12 @@ pub steps-parts : (step : ℕ → ℕ → ℕ) (s : ℕ) (first rest words : Lis
     → recurrence step s words ≡ fold step (fold step s first) rest
 steps-parts step s first rest words parts =
     recurrence-fold step s words ∙ ap (fold step s) (sym parts) ∙ fold-append step s first rest
+
+-- the words of eight bytes in, and then the others
+pub words64_in : (s first end : ℕ) (piece : List ℕ) (eights : List (List ℕ)) (rest : List ℕ)
+    → eights ≡ first_chunks 8 (length piece / 8) piece → rest ≡ drop (length piece / 8 * 8) piece
+    → first ≡ fold fx64_step s (map le eights) → end ≡ recurrence fx64_step first (words32 rest)
+    → end ≡ recurrence fx64_step s (words64 piece)
+words64_in s first end piece eights rest front back begun others =
+    others ∙ recurrence-fold fx64_step first (words32 rest) ∙ ap (λ t. fold fx64_step t (words32 rest)) begun
+    ∙ sym (steps-parts fx64_step s (map le eights) (words32 rest) _ (words64-parts piece eights rest front back))

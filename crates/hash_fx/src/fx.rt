@@ -7,6 +7,7 @@ ghost use Rattle.hash_laws.proofs.RecurrenceLemmas.{recurrence-fold};
 ghost use Rattle.hash_fx.specs.Fx.{fx32, fx64, words32, words64};
 
 use crate::word::{FxSplit, FxWord};
+use crate::words::{eights_in, fours_and_bytes_in};
 use hash_rules::{WordHasher, WordRule};
 use std::hash::Hasher;
 use std::marker::PhantomData;
@@ -117,14 +118,19 @@ pub fn fxhash32(bytes: &[u8]) -> u64
     hasher.finish()
 }
 
-/// The answer of a default `FxHasher64` to the bytes as one write.
+/// The answer of a default `FxHasher64` to the bytes as one write. Whole words alone have a way of their own, with nothing else
+/// on it.
 #[inline(always)]
 pub fn fxhash64(bytes: &[u8]) -> u64
     ensures { result ≡ fx64 0 (words64 bytes.now) }
 {
-    let mut hasher = FxHasher64::default();
-    hasher.write(bytes);
-    hasher.finish()
+    let (eights, rest) = bytes.as_chunks::<8>();
+    let state = eights_in(0, eights);
+    if rest.is_empty() {
+        state
+    } else {
+        fours_and_bytes_in(state, rest)
+    }
 }
 
 /// The answer of a default `FxHasher` to the bytes as one write.
@@ -132,7 +138,5 @@ pub fn fxhash64(bytes: &[u8]) -> u64
 pub fn fxhash(bytes: &[u8]) -> u64
     ensures { result ≡ fx64 0 (words64 bytes.now) }
 {
-    let mut hasher = FxHasher::default();
-    hasher.write(bytes);
-    hasher.finish()
+    fxhash64(bytes)
 }

@@ -1,7 +1,7 @@
 -- Words of blocks, whole and filled with zeros.
 use Rattle.std.specs.Bool.{◌==◌}
 use Rattle.std.proofs.Common.{◌≡◌, false, ℕ, zero, suc, ◌+◌, ◌-◌, ◌*◌, ◌/◌, ◌≤◌, List, [], ◌∷◌, ◌++◌, ◌<◌, length, slice_index, take, drop, replicate, refl, ap, sym, ◌∙◌, arith}
-use Rattle.std.proofs.lemmas.List.{drop-drop, take_all, drop_all}
+use Rattle.std.proofs.lemmas.List.{drop-drop, take_all, drop_all, length-drop}
 use Rattle.std.specs.Simd.{first_chunks}
 use Rattle.std.proofs.Math.Path.{ap₂}
 use Rattle.hash_rounds.specs.Words.{le}
@@ -9,7 +9,7 @@ use Rattle.hash_rounds.specs.Blocks.{pieces}
 use Rattle.hash_rounds.specs.Rounds as rounds
 use Rattle.hash_rounds.specs.Steps.{apply}
 use Rattle.hash_jenkins.specs.Filled.{zero_filled}
-use Rattle.hash_jenkins.specs.Lookup3.{add_words, add_block, block_words, mix_blocks, start, last_block, lookup3_words, lookup3_piece, lookup3_from, lookup3_answer, AreTwoWords}
+use Rattle.hash_jenkins.specs.Lookup3.{add_words, add_block, block_words, mix_block, mix_blocks, start, last_block, lookup3_words, lookup3_piece, lookup3_from, lookup3_answer, AreTwoWords}
 
 pub drop_eight : (xs : List ℕ) → drop 4 (drop 4 xs) ≡ drop 8 xs
 drop_eight xs = drop-drop 4 4 xs
@@ -87,20 +87,34 @@ pub added_filled : (n : ℕ) (s added t : List ℕ) (words : ℕ × ℕ × ℕ) 
     → added ≡ add_block s (zero_filled n t)
 added_filled n s added t words are of = are ∙ ap (add_words s) (of ∙ words_of_filled n t)
 
--- a piece from its whole blocks and what is left behind them
-pub lookup3_piece_from : (pc pb i : ℕ) (piece first s rest added end : List ℕ) (blocks : List (List ℕ))
-    → blocks ≡ first_chunks 12 (length piece / 12) piece
-    → rest ≡ drop (length piece / 12 * 12) piece → length blocks ≤ i → s ≡ mix_blocks first (take i blocks)
-    → added ≡ add_block s (zero_filled 12 rest)
-    → end ≡ apply 32 rounds.lookup3_final_steps [] added → first ≡ start pc pb (length piece)
-    → (slice_index end 2, slice_index end 1) ≡ lookup3_piece pc pb piece
+-- a, b and c before the last mixing, of a piece that is still to come
+abbrev pub blocks_in : List ℕ → List ℕ → List ℕ
+blocks_in s piece = add_block (mix_blocks s (pieces 12 piece)) (last_block piece)
+
+-- less than a block
+pub few_in : (s piece : List ℕ) → length piece < 12 → add_block s (zero_filled 12 piece) ≡ blocks_in s piece
 unfolding last_block pieces
-lookup3_piece_from pc pb i piece first s rest added end blocks all left done mixed filled last began =
-    let whole : take i blocks ≡ blocks = take_all i blocks done in
-    let blocked : s ≡ mix_blocks (start pc pb (length piece)) (first_chunks 12 (length piece / 12) piece)
-    = rw (mixed, whole, all, began) refl in
-    let ended : end ≡ lookup3_words pc pb piece = last ∙ ap (apply 32 rounds.lookup3_final_steps [])
-    (filled ∙ ap₂ add_block blocked (ap (zero_filled 12) left)) in
+few_in s piece few =
+    let none : length piece / 12 ≡ 0 = omega (arith, few) in
+    rw (none) refl
+
+-- the first block mixed, and the rest
+pub block_in : (s piece : List ℕ) → 12 ≤ length piece → blocks_in (mix_block s (take 12 piece)) (drop 12 piece) ≡ blocks_in s piece
+unfolding last_block pieces
+block_in s piece some =
+    let k = length (drop 12 piece) / 12 in
+    let count : suc k ≡ length piece / 12 = omega (arith, length-drop 12 piece) in
+    let behind : drop (k * 12) (drop 12 piece) ≡ drop (length piece / 12 * 12) piece
+    = drop-drop (k * 12) 12 piece ∙ ap (λ n. drop n piece) (omega (arith, count)) in
+    ap₂ add_block (ap (λ n. mix_blocks s (first_chunks 12 n piece)) count) (ap (zero_filled 12) behind)
+
+-- the two words after the last mixing
+pub lookup3_piece_from : (pc pb : ℕ) (piece first added end : List ℕ) → first ≡ start pc pb (length piece)
+    → added ≡ blocks_in first piece → end ≡ apply 32 rounds.lookup3_final_steps [] added
+    → (slice_index end 2, slice_index end 1) ≡ lookup3_piece pc pb piece
+lookup3_piece_from pc pb piece first added end began filled last =
+    let ended : end ≡ lookup3_words pc pb piece
+    = last ∙ ap (apply 32 rounds.lookup3_final_steps []) (filled ∙ ap (λ s. blocks_in s piece) began) in
     ap (λ (w : List ℕ). (slice_index w 2, slice_index w 1)) ended
 
 -- the words after some bytes

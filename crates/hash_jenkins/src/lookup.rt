@@ -70,18 +70,24 @@ fn add_rest(s: &mut [u32; 3], rest: &[u8])
     }
 }
 
-// The two words after a piece that has some bytes.
+// The two words after a piece that has some bytes. Less than a block goes a way of its own, with no loop on it, and no length
+// is divided, which takes as long as half a mixing.
 #[inline(always)]
 fn lookup3_piece(pc: u32, pb: u32, piece: &[u8]) -> (u32, u32)
     ensures { result ≡ lookup3_piece pc pb piece.now }
 {
     let mut s = start(pc, pb, piece.len());
-    let (blocks, rest) = piece.as_chunks::<12>();
-    for block in blocks {
-        add_words(&mut s, block_words(block));
-        lookup3_mix(&mut s);
+    if piece.len() < 12 {
+        add_rest(&mut s, piece);
+    } else {
+        let mut rest = piece;
+        while let Some((block, more)) = rest.split_first_chunk::<12>() {
+            add_words(&mut s, block_words(block));
+            lookup3_mix(&mut s);
+            rest = more;
+        }
+        add_rest(&mut s, rest);
     }
-    add_rest(&mut s, rest);
     lookup3_final(&mut s);
     (s[2], s[1])
 }

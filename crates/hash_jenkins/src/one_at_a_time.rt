@@ -7,8 +7,7 @@ ghost use Rattle.hash_jenkins.specs.OaatLaws.{oaat_facts, oaat_finish_same};
 ghost use Rattle.hash_laws.proofs.RecurrenceLemmas.{recurrence_is_fold};
 
 use hash_rounds::{unxorshift, xorshift};
-use hash_rules::{ByteHasher, ByteRule, StepRule, UndoRule, alone_or_in_eights};
-use std::hash::Hasher;
+use hash_rules::{ByteHasher, ByteRule, StepRule, UndoRule, alone_or_in_eights, whole_text};
 
 /// What undoes a product by 1025.
 const UN_1025: u64 = 1151796703138937857;
@@ -117,7 +116,5 @@ pub type OAATHasher = ByteHasher<OaatRule>;
 pub fn oaat(bytes: &[u8]) -> u64
     ensures { result ≡ oaat_finish (oaat_state 0 bytes.now) }
 {
-    let mut hasher = OAATHasher::default();
-    hasher.write(bytes);
-    hasher.finish()
+    whole_text::<OaatRule>(bytes)
 }

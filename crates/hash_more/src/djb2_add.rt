@@ -6,8 +6,7 @@ ghost use Rattle.hash_more.specs.Djb2Add.{djb2_add_step, djb2_add_from};
 ghost use Rattle.hash_more.specs.Djb2AddLaws.{djb2_add_facts};
 
 use hashers::oz::UNPRODUCT_33;
-use hashers::rules::{ByteHasher, ByteRule, StepRule, UndoRule, alone_or_in_eights};
-use std::hash::Hasher;
+use hashers::rules::{ByteHasher, ByteRule, StepRule, UndoRule, alone_or_in_eights, whole_text};
 
 /// The rule of djb2 with a sum.
 pub struct Djb2AddRule;
@@ -97,7 +96,5 @@ pub type Djb2AddHasher = ByteHasher<Djb2AddRule>;
 pub fn djb2_add(bytes: &[u8]) -> u64
     ensures { result ≡ djb2_add_from 5381 bytes.now }
 {
-    let mut hasher = Djb2AddHasher::default();
-    hasher.write(bytes);
-    hasher.finish()
+    whole_text::<Djb2AddRule>(bytes)
 }

@@ -6,8 +6,7 @@ ghost use Rattle.hashers.proofs.RecurrenceLemmas.{recurrence_is_fold};
 ghost use Rattle.hash_more.specs.Elf.{elf_step, elf_from};
 ghost use Rattle.hash_more.specs.ElfLaws.{elf_in_range};
 
-use hashers::rules::{ByteHasher, ByteRule, StepRule, in_eights};
-use std::hash::Hasher;
+use hashers::rules::{ByteHasher, ByteRule, StepRule, in_eights, whole_text};
 
 /// The rule of ELF's hash. Its steps lose information, so there is no way back.
 pub struct ElfRule;
@@ -78,7 +77,5 @@ pub type ElfHasher = ByteHasher<ElfRule>;
 pub fn elf(bytes: &[u8]) -> u64
     ensures { result ≡ elf_from 0 bytes.now }
 {
-    let mut hasher = ElfHasher::default();
-    hasher.write(bytes);
-    hasher.finish()
+    whole_text::<ElfRule>(bytes)
 }

@@ -8,8 +8,7 @@ ghost use Rattle.hash_more.specs.Fnv1.{fnv1_32_step, fnv1_64_step, fnv1_32_from,
 ghost use Rattle.hash_more.specs.Fnv1Laws.{fnv1_32_facts, fnv1_64_facts};
 
 use hashers::fnv::{BASIS_32, BASIS_64, PRIME_32, PRIME_64, UNPRIME_32, UNPRIME_64};
-use hashers::rules::{ByteHasher, ByteRule, StepRule, UndoRule, alone_or_in_eights};
-use std::hash::Hasher;
+use hashers::rules::{ByteHasher, ByteRule, StepRule, UndoRule, alone_or_in_eights, whole_text};
 
 /// The rule of FNV-1 at 32 bits.
 pub struct Fnv1Rule32;
@@ -95,9 +94,7 @@ pub type Fnv1Hasher32 = ByteHasher<Fnv1Rule32>;
 pub fn fnv1_32(bytes: &[u8]) -> u64
     ensures { result ≡ fnv1_32_from fnv1a32_basis bytes.now }
 {
-    let mut hasher = Fnv1Hasher32::default();
-    hasher.write(bytes);
-    hasher.finish()
+    whole_text::<Fnv1Rule32>(bytes)
 }
 
 /// The rule of FNV-1 at 64 bits.
@@ -185,7 +182,5 @@ pub type Fnv1Hasher64 = ByteHasher<Fnv1Rule64>;
 pub fn fnv1_64(bytes: &[u8]) -> u64
     ensures { result ≡ fnv1_64_from fnv1a64_basis bytes.now }
 {
-    let mut hasher = Fnv1Hasher64::default();
-    hasher.write(bytes);
-    hasher.finish()
+    whole_text::<Fnv1Rule64>(bytes)
 }

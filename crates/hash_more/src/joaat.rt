@@ -7,8 +7,7 @@ ghost use Rattle.hash_more.specs.Joaat.{joaat_step, joaat_from, joaat_answer};
 ghost use Rattle.hash_more.specs.JoaatLaws.{joaat_facts, joaat_answer_same};
 
 use hashers::rounds::unxorshift;
-use hashers::rules::{ByteHasher, ByteRule, StepRule, UndoRule, alone_or_in_eights};
-use std::hash::Hasher;
+use hashers::rules::{ByteHasher, ByteRule, StepRule, UndoRule, alone_or_in_eights, whole_text};
 
 /// What undoes a product by 1025.
 const UN_1025: u32 = 3222273025;
@@ -135,7 +134,5 @@ pub type JoaatHasher = ByteHasher<JoaatRule>;
 pub fn joaat(bytes: &[u8]) -> u64
     ensures { result ≡ joaat_answer (joaat_from 0 bytes.now) }
 {
-    let mut hasher = JoaatHasher::default();
-    hasher.write(bytes);
-    hasher.finish()
+    whole_text::<JoaatRule>(bytes)
 }

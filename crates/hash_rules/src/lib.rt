@@ -10,6 +10,6 @@ mod word_rule;
 
 pub use byte_hasher::ByteHasher;
 pub use byte_rule::{ByteRule, StepRule, UndoRule};
-pub use texts::{alone_or_in_eights, in_eights};
+pub use texts::{alone_or_in_eights, in_eights, whole_text};
 pub use word_hasher::WordHasher;
 pub use word_rule::WordRule;

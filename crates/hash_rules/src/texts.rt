@@ -2,7 +2,7 @@
 ghost use Rattle.std.specs.Prelude.{◌≡◌};
 ghost use Rattle.hash_laws.specs.Recurrence.{recurrence};
 
-use crate::byte_rule::StepRule;
+use crate::byte_rule::{ByteRule, StepRule};
 
 /// The bytes in, one step for each.
 #[inline(always)]
@@ -42,4 +42,22 @@ where
         [byte] => R::step(state, *byte),
         _ => in_eights::<R>(state, bytes),
     }
+}
+
+/// The hash of a whole text by a rule. The first eight bytes have no loop round them, so a call with a short key waits for none.
+#[inline(always)]
+pub fn whole_text<R: ByteRule>(text: &[u8]) -> u64
+where
+    R::State: Copy,
+    ensures { result ≡ R.answer (recurrence R.step (R.number R.start) text.now) }
+{
+    let mut state = R::start();
+    match text.split_first_chunk::<8>() {
+        None => in_turn::<R>(&mut state, text),
+        Some((first, rest)) => {
+            in_turn::<R>(&mut state, first);
+            in_eights::<R>(&mut state, rest);
+        }
+    }
+    R::answer(&state)
 }

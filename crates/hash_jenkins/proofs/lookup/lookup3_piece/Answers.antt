@@ -1,19 +1,28 @@
-use Rattle.std.proofs.Common.{◌∙◌, [], refl, sym, ap, arith}
+use Rattle.std.proofs.Common.{◌∙◌, [], ap, arith}
 use Rattle.std.proofs.Math.Path.{ap₂}
-use Rattle.std.proofs.lemmas.List.Sums.{fold_more}
 use Rattle.hash_rounds.specs.Rounds as rounds
 use Rattle.hash_rounds.specs.Steps.{apply}
-use Rattle.hash_jenkins.specs.Lookup3.{add_words, mix_block}
-use Rattle.hash_jenkins.proofs.Lookup3Lemmas.{lookup3_piece_from}
+use Rattle.hash_jenkins.specs.Lookup3.{add_words, block_words}
+use Rattle.hash_jenkins.proofs.Lookup3Lemmas.{blocks_in, few_in, block_in, lookup3_piece_from}
 use Rattle.hash_jenkins.proofs.lookup.lookup3_piece.Goals as goal
+use Rattle.hash_jenkins.proofs.lookup.lookup3_piece.Goals.{then-piece-lt12, else-piece-lt12+in_default}
 
 pub returns : goal.returns
 returns c =
-    lookup3_piece_from _ _ _ _ _ _ _ _ _ _ c.as_chunks.ensures.front c.as_chunks.ensures.back c.loop-block-test.false c.loop-block.invariant
-    c.add_rest.ensures c.lookup3_final.ensures.round (assumption)
+    let piece = c.args.piece.now in
+    let mixed = lookup3_piece_from _ _ piece _ _ _ c.start-s.ensures in
+    elim c.if-piece-lt12.branch [
+      | then-piece-lt12 w ↦
+          mixed (w.s-is ∙ w.add_rest.ensures ∙ few_in _ piece w.if-piece-lt12.true) c.lookup3_final.ensures.round
+      | else-piece-lt12+in_default w ↦
+          let rest = w.loop-block.rest.now in
+          mixed (w.s-is ∙ w.add_rest-else-piece-lt12.ensures ∙ few_in _ rest w.in_default.ensures.cases ∙ w.loop-block.invariant)
+          c.lookup3_final.ensures.round
+    ]
 
 pub loop-block-preserved : goal.loop-block-preserved
 loop-block-preserved c =
-    let led = c.add_words.ensures ∙ ap₂ add_words c.loop-block.invariant c.block_words.ensures in
-    c.lookup3_mix.ensures.round ∙ ap (apply 32 rounds.lookup3_mix_steps []) led
-    ∙ sym (fold_more mix_block _ c.as_chunks.result.0.now c.loop-block.block-index [] c.loop-block-test.true)
+    let split = c.in-Some.ensures.cases in
+    let words = c.block_words.ensures ∙ ap block_words split.0 in
+    let led = c.lookup3_mix.ensures.round ∙ ap (apply 32 rounds.lookup3_mix_steps []) (c.add_words.ensures ∙ ap (add_words _) words) in
+    ap₂ blocks_in led split.1 ∙ block_in _ c.loop-block.rest.now (omega (arith, split.2)) ∙ c.loop-block.invariant

@@ -1,6 +1,9 @@
-use Rattle.std.proofs.Common.{◌≡◌, take}
-use Rattle.hash_jenkins.specs.Lookup3.{mix_blocks}
+use Rattle.std.proofs.Common.{◌≡◌, length}
+use Rattle.hash_jenkins.proofs.Lookup3Lemmas.{blocks_in}
 use Rattle.hash_jenkins.proofs.lookup.lookup3_piece.Given as goal
 
 abbrev pub invariant-loop-block : goal.invariant-loop-block
-invariant-loop-block l = l.s ≡ mix_blocks l.initial.s (take l.block-index l.blocks)
+invariant-loop-block l = blocks_in l.s l.rest ≡ blocks_in l.initial.s l.piece
+
+abbrev pub decreases-loop-block : goal.decreases-loop-block
+decreases-loop-block l = length l.rest

@@ -1,0 +1,22 @@
+use Rattle.std.proofs.Common.{ap, sym, ◌∙◌, take, drop}
+use Rattle.std.proofs.lemmas.List.{take-append-drop}
+use Rattle.hash_laws.specs.Recurrence.{recurrence}
+use Rattle.hash_laws.proofs.RecurrenceLemmas.{recurrence-append}
+use Rattle.hash_rules.proofs.texts.whole_text.Goals as goal
+use Rattle.hash_rules.proofs.texts.whole_text.Goals.{in-None, in-Some}
+
+pub returns : goal.returns
+returns g c =
+    let text = c.args.text.now in
+    let number = g.R.StepRule.number in
+    let from = recurrence g.R.StepRule.step in
+    elim c.match-split_first_chunk.branch [
+      | in-None w ↦
+          let all = w.in_turn.ensures ∙ ap (λ s. from (number s) text) c.start-state.ensures in
+          c.answer.ensures ∙ ap g.R.ByteRule.answer (ap number w.state-is ∙ all)
+      | in-Some w ↦
+          let split = w.in-Some.ensures.cases in
+          let first = w.in_turn-in-Some.ensures ∙ ap (λ s. from (number s) w.in-Some.first.now) c.start-state.ensures in
+          let whole = sym (recurrence-append g.R.StepRule.step _ (take 8 text) (drop 8 text)) ∙ ap (from _) (take-append-drop 8 text) in
+          c.answer.ensures ∙ ap g.R.ByteRule.answer (ap number w.state-is ∙ w.in_eights.ensures ∙ rw (first, split.0, split.1) whole)
+    ]
