@@ -1,7 +1,7 @@
 //! The table as a picture, in SVG: a row for each hasher, and a shaded cell for each number.
 use crate::chance::{Chance, nearest};
 use crate::counts::Spread;
-use crate::table::{Frame, Row, digits};
+use crate::table::{Frame, Row, counted, digits};
 use std::alloc::{AllocError, Global};
 
 /// From green, for a number near chance or below, to red.
@@ -105,7 +105,9 @@ impl Drawing {
 
     /// Puts what stands above a group of columns.
     fn head(&mut self, x: u64, keys: u64, buckets: u64) -> Result<(), AllocError> {
-        let told = format!(in self.alloc; "{keys} keys in {buckets} buckets")?;
+        let keys = counted(self.alloc, keys, "key")?;
+        let buckets = counted(self.alloc, buckets, "bucket")?;
+        let told = format!(in self.alloc; "{keys} in {buckets}")?;
         self.text(x, 16, " font-weight=\"bold\"", told.as_str())?;
         let mut middle = x.saturating_add(self.wide / 2);
         for name in ["fullest", "empty", "squares"] {

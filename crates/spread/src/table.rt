@@ -75,6 +75,12 @@ fn wide_for(greatest: u128, head: usize) -> usize {
     (digits(greatest) as usize).max(head).saturating_add(2)
 }
 
+/// So many things of this name, with an s where it isn't one.
+pub fn counted(alloc: Global, count: u64, thing: &str) -> Result<String, AllocError> {
+    let s = if count == 1 { "" } else { "s" };
+    format!(in alloc; "{count} {thing}{s}")
+}
+
 /// How wide the columns are.
 #[derive(Clone, Copy)]
 struct Widths {
@@ -115,19 +121,15 @@ impl Frame {
     fn groups(&self, alloc: Global) -> Result<String, AllocError> {
         let wide = widths_of(self);
         let mut cells = Vec::new(alloc);
-        let keys = self.keys;
-        push(&mut cells, format!(in alloc; "{keys} keys")?, wide.name)?;
+        push(&mut cells, counted(alloc, self.keys, "key")?, wide.name)?;
         push(&mut cells, String::new(alloc), wide.bits)?;
         push(&mut cells, String::new(alloc), wide.equal)?;
         for buckets in [Some(self.sizes.first), self.sizes.second] {
             if let Some(buckets) = buckets {
+                let buckets = counted(alloc, buckets, "bucket")?;
                 push(&mut cells, String::new(alloc), wide.fullest)?;
                 push(&mut cells, String::new(alloc), wide.empty)?;
-                push(
-                    &mut cells,
-                    format!(in alloc; "in {buckets} buckets")?,
-                    wide.squares,
-                )?;
+                push(&mut cells, format!(in alloc; "in {buckets}")?, wide.squares)?;
             }
         }
         line_of(alloc, &cells)
