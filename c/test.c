@@ -72,6 +72,20 @@ static void check_vectors(void) {
     same("a high half", hashers_djb2_write(5381, "a", 1), hashers_djb2_write(5381 | (uint64_t)7 << 32, "a", 1));
 }
 
+// One-at-a-time by its state, and by its hash from the same state.
+static void check_oaat_state(void) {
+    for (size_t n = 0; n < 300; n++) {
+        size_t more = n % 37;
+        uint64_t any = random_number(), state = hashers_oaat_state_write(0, text, n);
+        same("oaat by its state", hashers_oaat(text, n), hashers_oaat_state_finish(state));
+        state = hashers_oaat_state_write(state, text + n, more);
+        same("oaat by its state in parts", hashers_oaat(text, n + more), hashers_oaat_state_finish(state));
+        same("oaat from any state", hashers_oaat_write(hashers_oaat_state_finish(any), text, n),
+             hashers_oaat_state_finish(hashers_oaat_state_write(any, text, n)));
+        same("oaat's state after nothing", any, hashers_oaat_state_write(any, NULL, 0));
+    }
+}
+
 // The parts of a text against the whole, and the way back, from hashes of texts and from any number.
 static void check_parts(const struct kind *k) {
     uint64_t start = k->of(NULL, 0);
@@ -280,6 +294,7 @@ int main(void) {
         same(k->name, k->of(text, 0), k->of(NULL, 0));
         check_parts(k);
     }
+    check_oaat_state();
     check_spooky();
     check_combine();
     for (size_t i = 0; i < sizeof columns / sizeof *columns; i++) check_column(columns + i);

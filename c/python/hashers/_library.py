@@ -30,6 +30,7 @@ FORMS: Dict[str, Any] = {
     "_column64": (c_bool, *_TEXT, *_TEXT, *_TEXT),
     "_lines": (c_size_t, *_TEXT, *_TEXT),
     "_write": (c_uint64, c_uint64, *_TEXT),
+    "_state_finish": (c_uint64, c_uint64),
     "_unwrite": (c_uint64, c_uint64, *_TEXT),
     "_combine": (c_uint64, c_uint64, c_uint64, c_uint64),
     "_insert": (c_bool, *_TEXT, c_uint64, c_uint32, *_TEXT),

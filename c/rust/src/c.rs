@@ -64,6 +64,8 @@ extern "C" {
     pub fn hashers_djb2_add_write(hash: u64, text: *const u8, n: usize) -> u64;
     pub fn hashers_joaat_write(hash: u64, text: *const u8, n: usize) -> u64;
     pub fn hashers_elf_write(hash: u64, text: *const u8, n: usize) -> u64;
+    pub fn hashers_oaat_state_write(state: u64, text: *const u8, n: usize) -> u64;
+    pub fn hashers_oaat_state_finish(state: u64) -> u64;
     pub fn hashers_fnv1a32_unwrite(hash: u64, text: *const u8, n: usize) -> u64;
     pub fn hashers_fnv1a64_unwrite(hash: u64, text: *const u8, n: usize) -> u64;
     pub fn hashers_djb2_unwrite(hash: u64, text: *const u8, n: usize) -> u64;

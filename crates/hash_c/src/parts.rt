@@ -22,7 +22,7 @@ use hash_more::fnv1::{Fnv1Hasher32, Fnv1Hasher64};
 use hash_more::joaat::JoaatHasher;
 use hashers::fnv::{FNV1aHasher32, FNV1aHasher64};
 use hashers::fx_hash::{FxHasher, FxHasher32, FxHasher64};
-use hashers::jenkins::{Lookup3Hasher, OAATHasher};
+use hashers::jenkins::{Lookup3Hasher, OAATHasher, OaatRule};
 use hashers::laws::Undo;
 use hashers::null::{null, passthrough_from};
 use hashers::oz::{DJB2Hasher, LoseLoseHasher, SDBMHasher};
@@ -226,6 +226,25 @@ pub extern "C" fn hashers_oaat_write(hash: u64, bytes: &[u8]) -> u64
     ensures { (s : ℕ) → s < 2 ^ 64 → oaat_finish s ≡ hash → result ≡ oaat_finish (oaat_state s bytes.now) }
 {
     written::<OAATHasher>(hash, bytes)
+}
+
+/// The state of one-at-a-time after more bytes. A text in many parts costs less by its state than by its hash, of which each write
+/// finds the state again. Every number is a state, and 0 the one of no bytes.
+#[unsafe(no_mangle)]
+pub extern "C" fn hashers_oaat_state_write(state: u64, bytes: &[u8]) -> u64
+    ensures { result ≡ oaat_state state bytes.now }
+{
+    let mut state = state;
+    OaatRule::write(&mut state, bytes);
+    state
+}
+
+/// The hash of one-at-a-time whose state this is.
+#[unsafe(no_mangle)]
+pub extern "C" fn hashers_oaat_state_finish(state: u64) -> u64
+    ensures { result ≡ oaat_finish state }
+{
+    OaatRule::answer(&state)
 }
 
 /// The hash of one-at-a-time without the last bytes.

@@ -13,4 +13,4 @@ pub mod two_texts;
 
 pub use build_spooky::BuildSpooky;
 pub use lookup::{Lookup3Hasher, lookup3};
-pub use one_at_a_time::{OAATHasher, oaat, origin_of_constants};
+pub use one_at_a_time::{OAATHasher, OaatRule, oaat, origin_of_constants};

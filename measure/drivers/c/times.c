@@ -84,7 +84,7 @@ static void row(const struct row *r) {
     putchar('\n');
 }
 
-// Writes of 16 bytes behind one another, by the hash alone.
+// Writes of 16 bytes behind one another, by the hash or the state alone.
 static void writes(const char *name, on *write) {
     static double times[RUNS];
     for (int run = 0; run < runs; run++) {
@@ -131,7 +131,7 @@ int main(int count, char **words) {
     for (size_t i = 0; i < RELATIVES; i++) row(relatives + i);
     putchar('\n');
 #define WRITE(name) writes(#name, hashers_##name##_write);
-    WRITE(fnv1a64) WRITE(djb2) WRITE(sdbm) WRITE(loselose) WRITE(bricolage) WRITE(oaat) WRITE(lookup3) WRITE(fxhash)
+    WRITE(fnv1a64) WRITE(djb2) WRITE(sdbm) WRITE(loselose) WRITE(bricolage) WRITE(oaat) WRITE(oaat_state) WRITE(lookup3) WRITE(fxhash)
     putchar('\n');
 #define COLUMN(name) column(#name, hashers_##name##_column64, hashers_##name);
     COLUMN(fnv1a64) COLUMN(fxhash) COLUMN(loselose) COLUMN(lookup3) COLUMN(spooky)
