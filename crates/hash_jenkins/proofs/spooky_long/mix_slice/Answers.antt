@@ -1,4 +1,4 @@
-use Rattle.std.proofs.Common.{arith, ◌∙◌, ap, take, length}
+use Rattle.std.proofs.Common.{◌∙◌, ap, take, length}
 use Rattle.std.proofs.Math.Path.{ap₂}
 use Rattle.hash_rounds.specs.Blocks.{spooky_blocks}
 use Rattle.hash_jenkins.specs.Spooky.{Long, tail}
