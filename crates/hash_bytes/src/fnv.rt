@@ -1,13 +1,12 @@
 //! The hash functions of Glenn Fowler, Landon Curt Noll and Kiem-Phong Vo, in the variant 1a: for each byte an exclusive
 //! or, and then a product by a prime. They were published on the authors' page, and are short and widely used.
-ghost use Rattle.std.specs.Prelude.{◌≡◌, ◌^◌, ◌+◌, ◌*◌, ◌%◌, refl};
+ghost use Rattle.std.specs.Prelude.{◌≡◌, ◌^◌, ◌+◌, ◌*◌, ◌%◌};
 ghost use Rattle.std.proofs.Common.{lit<};
 ghost use Rattle.hash_bytes.specs.Fnv.{fnv1a32_step, fnv1a64_step, fnv0, fnv1a32_basis, fnv1a32_from, fnv1a64_basis, fnv1a64_from};
 ghost use Rattle.hash_bytes.specs.FnvLaws.{fnv1a32_facts, fnv1a64_facts};
-ghost use Rattle.hash_laws.proofs.RecurrenceLemmas.{recurrence_is_fold};
 
 use hash_laws::build::BuildFresh;
-use hash_rules::{ByteHasher, ByteRule, StepRule, UndoRule, alone_or_in_eights, whole_text};
+use hash_rules::{ByteHasher, Plain, PlainRule, PlainUndo, whole_text};
 use std::collections::{HashMap, HashSet};
 
 /// The start at 32 bits, which the authors call the offset basis.
@@ -46,10 +45,8 @@ pub fn origin_of_constants()
 /// The rule of FNV-1a at 32 bits.
 pub struct Fnv1aRule32;
 
-impl StepRule for Fnv1aRule32 {
-    type State = u32;
-
-    ghost number = { λ s. s };
+impl PlainRule for Fnv1aRule32 {
+    type Word = u32;
 
     ghost bound = { 2 ^ 32 };
 
@@ -57,18 +54,20 @@ impl StepRule for Fnv1aRule32 {
 
     ghost step = { fnv1a32_step };
 
+    ghost answer = { λ s. s };
+
     fn start() -> u32 {
         BASIS_32
     }
 
     #[inline(always)]
-    fn fork(state: &u32) -> u32 {
-        *state
+    fn step(word: u32, byte: u8) -> u32 {
+        (word ^ u32::from(byte)).wrapping_mul(PRIME_32)
     }
 
     #[inline(always)]
-    fn step(state: &mut u32, byte: u8) {
-        *state = (*state ^ u32::from(byte)).wrapping_mul(PRIME_32);
+    fn answer(word: u32) -> u64 {
+        u64::from(word)
     }
 
     ghost start_in_range = { lit< tt };
@@ -76,33 +75,11 @@ impl StepRule for Fnv1aRule32 {
     ghost step_in_range = { fnv1a32_facts.in_range };
 }
 
-impl ByteRule for Fnv1aRule32 {
-    ghost after = { fnv1a32_from };
-
-    ghost write = { fnv1a32_from };
-
-    ghost answer = { λ s. s };
-
-    #[inline(always)]
-    fn write(state: &mut u32, bytes: &[u8]) {
-        alone_or_in_eights::<Fnv1aRule32>(state, bytes);
-    }
-
-    #[inline(always)]
-    fn answer(state: &u32) -> u64 {
-        u64::from(*state)
-    }
-
-    ghost is_fold = { recurrence_is_fold fnv1a32_step (2 ^ 32) };
-
-    ghost write_is_after = { λ s text. refl };
-}
-
-impl UndoRule for Fnv1aRule32 {
+impl PlainUndo for Fnv1aRule32 {
     #[inline(always)]
     #[tactic(auto, using(crate::specs::FnvLaws::fnv1a32_back))]
-    fn unstep(state: &mut u32, byte: u8) {
-        *state = state.wrapping_mul(UNPRIME_32) ^ u32::from(byte);
+    fn unstep(word: u32, byte: u8) -> u32 {
+        word.wrapping_mul(UNPRIME_32) ^ u32::from(byte)
     }
 
     fn unanswer(hash: u64) -> Option<u32> {
@@ -121,7 +98,7 @@ impl UndoRule for Fnv1aRule32 {
 ///
 /// Contracts see the hasher as its state, a number below 2^32: `write` gives `h.new ≡ fnv1a32_from h.old bytes.now`, and
 /// `finish` answers `h.now`. Of `a` the hash is 3826002220.
-pub type FNV1aHasher32 = ByteHasher<Fnv1aRule32>;
+pub type FNV1aHasher32 = ByteHasher<Plain<Fnv1aRule32>>;
 
 /// FNV-1a at 32 bits of the bytes.
 pub fn fnv1a32(bytes: &[u8]) -> u64
@@ -133,10 +110,8 @@ pub fn fnv1a32(bytes: &[u8]) -> u64
 /// The rule of FNV-1a at 64 bits.
 pub struct Fnv1aRule64;
 
-impl StepRule for Fnv1aRule64 {
-    type State = u64;
-
-    ghost number = { λ s. s };
+impl PlainRule for Fnv1aRule64 {
+    type Word = u64;
 
     ghost bound = { 2 ^ 64 };
 
@@ -144,18 +119,20 @@ impl StepRule for Fnv1aRule64 {
 
     ghost step = { fnv1a64_step };
 
+    ghost answer = { λ s. s };
+
     fn start() -> u64 {
         BASIS_64
     }
 
     #[inline(always)]
-    fn fork(state: &u64) -> u64 {
-        *state
+    fn step(word: u64, byte: u8) -> u64 {
+        (word ^ u64::from(byte)).wrapping_mul(PRIME_64)
     }
 
     #[inline(always)]
-    fn step(state: &mut u64, byte: u8) {
-        *state = (*state ^ u64::from(byte)).wrapping_mul(PRIME_64);
+    fn answer(word: u64) -> u64 {
+        word
     }
 
     ghost start_in_range = { lit< tt };
@@ -163,33 +140,11 @@ impl StepRule for Fnv1aRule64 {
     ghost step_in_range = { fnv1a64_facts.in_range };
 }
 
-impl ByteRule for Fnv1aRule64 {
-    ghost after = { fnv1a64_from };
-
-    ghost write = { fnv1a64_from };
-
-    ghost answer = { λ s. s };
-
-    #[inline(always)]
-    fn write(state: &mut u64, bytes: &[u8]) {
-        alone_or_in_eights::<Fnv1aRule64>(state, bytes);
-    }
-
-    #[inline(always)]
-    fn answer(state: &u64) -> u64 {
-        *state
-    }
-
-    ghost is_fold = { recurrence_is_fold fnv1a64_step (2 ^ 64) };
-
-    ghost write_is_after = { λ s text. refl };
-}
-
-impl UndoRule for Fnv1aRule64 {
+impl PlainUndo for Fnv1aRule64 {
     #[inline(always)]
     #[tactic(auto, using(crate::specs::FnvLaws::fnv1a64_back, hash_rounds::proofs::XorLemmas::xored_64))]
-    fn unstep(state: &mut u64, byte: u8) {
-        *state = state.wrapping_mul(UNPRIME_64) ^ u64::from(byte);
+    fn unstep(word: u64, byte: u8) -> u64 {
+        word.wrapping_mul(UNPRIME_64) ^ u64::from(byte)
     }
 
     fn unanswer(hash: u64) -> Option<u64> {
@@ -208,7 +163,7 @@ impl UndoRule for Fnv1aRule64 {
 ///
 /// Contracts see the hasher as its state, a number below 2^64: `write` gives `h.new ≡ fnv1a64_from h.old bytes.now`, and
 /// `finish` answers `h.now`. Of `a` the hash is 12638187200555641996.
-pub type FNV1aHasher64 = ByteHasher<Fnv1aRule64>;
+pub type FNV1aHasher64 = ByteHasher<Plain<Fnv1aRule64>>;
 
 /// FNV-1a at 64 bits of the bytes.
 pub fn fnv1a64(bytes: &[u8]) -> u64

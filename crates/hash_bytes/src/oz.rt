@@ -6,11 +6,10 @@ ghost use Rattle.hash_bytes.specs.Oz.{djb2_step, djb2_from};
 ghost use Rattle.hash_bytes.specs.OzLaws.{djb2_facts};
 ghost use Rattle.hash_rounds.proofs.SumStepLemmas.{sdbm_facts, loselose_facts};
 ghost use Rattle.hash_rounds.proofs.SumLemmas.{sdbm_sums, loselose-fold};
-ghost use Rattle.hash_laws.proofs.RecurrenceLemmas.{recurrence_is_fold};
 ghost use Rattle.hash_bytes.specs.CountedSum.{sdbm_write, loselose_write};
 
 use hash_rounds::{Turns, lose8, sdbm4};
-use hash_rules::{ByteHasher, ByteRule, StepRule, UndoRule, in_eights, whole_text};
+use hash_rules::{ByteHasher, ByteRule, Plain, PlainRule, PlainUndo, StepRule, UndoRule, whole_text};
 use std::hash::Hasher;
 use std::marker::Model;
 use std::simd::prelude::*;
@@ -47,10 +46,8 @@ pub fn loselose_ignores_order()
 /// The rule of Dan Bernstein's hash in its form with an exclusive or.
 pub struct Djb2Rule;
 
-impl StepRule for Djb2Rule {
-    type State = u32;
-
-    ghost number = { λ s. s };
+impl PlainRule for Djb2Rule {
+    type Word = u32;
 
     ghost bound = { 2 ^ 32 };
 
@@ -58,18 +55,20 @@ impl StepRule for Djb2Rule {
 
     ghost step = { djb2_step };
 
+    ghost answer = { λ s. s };
+
     fn start() -> u32 {
         5381
     }
 
     #[inline(always)]
-    fn fork(state: &u32) -> u32 {
-        *state
+    fn step(word: u32, byte: u8) -> u32 {
+        (word << 5).wrapping_add(word) ^ u32::from(byte)
     }
 
     #[inline(always)]
-    fn step(state: &mut u32, byte: u8) {
-        *state = (*state << 5).wrapping_add(*state) ^ u32::from(byte);
+    fn answer(word: u32) -> u64 {
+        u64::from(word)
     }
 
     ghost start_in_range = { lit< tt };
@@ -77,33 +76,11 @@ impl StepRule for Djb2Rule {
     ghost step_in_range = { djb2_facts.in_range };
 }
 
-impl ByteRule for Djb2Rule {
-    ghost after = { djb2_from };
-
-    ghost write = { djb2_from };
-
-    ghost answer = { λ s. s };
-
-    #[inline(always)]
-    fn write(state: &mut u32, bytes: &[u8]) {
-        in_eights::<Djb2Rule>(state, bytes);
-    }
-
-    #[inline(always)]
-    fn answer(state: &u32) -> u64 {
-        u64::from(*state)
-    }
-
-    ghost is_fold = { recurrence_is_fold djb2_step (2 ^ 32) };
-
-    ghost write_is_after = { λ s text. refl };
-}
-
-impl UndoRule for Djb2Rule {
+impl PlainUndo for Djb2Rule {
     #[inline(always)]
     #[tactic(auto, using(crate::specs::OzLaws::djb2_back))]
-    fn unstep(state: &mut u32, byte: u8) {
-        *state = (*state ^ u32::from(byte)).wrapping_mul(UNPRODUCT_33);
+    fn unstep(word: u32, byte: u8) -> u32 {
+        (word ^ u32::from(byte)).wrapping_mul(UNPRODUCT_33)
     }
 
     fn unanswer(hash: u64) -> Option<u32> {
@@ -122,7 +99,7 @@ impl UndoRule for Djb2Rule {
 ///
 /// Contracts see the hasher as its state, a number below 2^32: `write` gives `h.new ≡ djb2_from h.old bytes.now`, and `finish`
 /// answers `h.now`. Of `a` the hash is 177604.
-pub type DJB2Hasher = ByteHasher<Djb2Rule>;
+pub type DJB2Hasher = ByteHasher<Plain<Djb2Rule>>;
 
 /// djb2 of the bytes, from 5381.
 pub fn djb2(bytes: &[u8]) -> u64

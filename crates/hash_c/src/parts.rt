@@ -27,7 +27,7 @@ use hashers::laws::Undo;
 use hashers::null::{null, passthrough_from};
 use hashers::oz::{DJB2Hasher, LoseLoseHasher, SDBMHasher};
 use hashers::pigeon::Bricolage;
-use hashers::rules::ByteRule;
+use hashers::rules::{ByteRule, Plain, PlainRule};
 use std::hash::Hasher;
 
 /// The hasher whose hash so far is this one.
@@ -235,7 +235,7 @@ pub extern "C" fn hashers_oaat_state_write(state: u64, bytes: &[u8]) -> u64
     ensures { result ≡ oaat_state state bytes.now }
 {
     let mut state = state;
-    OaatRule::write(&mut state, bytes);
+    Plain::<OaatRule>::write(&mut state, bytes);
     state
 }
 
@@ -244,7 +244,7 @@ pub extern "C" fn hashers_oaat_state_write(state: u64, bytes: &[u8]) -> u64
 pub extern "C" fn hashers_oaat_state_finish(state: u64) -> u64
     ensures { result ≡ oaat_finish state }
 {
-    OaatRule::answer(&state)
+    OaatRule::answer(state)
 }
 
 /// The hash of one-at-a-time without the last bytes.
@@ -399,6 +399,6 @@ pub extern "C" fn hashers_elf_write(hash: u64, bytes: &[u8]) -> u64
     ensures { result ≡ elf_from (hash % 2 ^ 28) bytes.now }
 {
     let mut state = (hash % 268435456) as u32;
-    ElfRule::write(&mut state, bytes);
+    Plain::<ElfRule>::write(&mut state, bytes);
     u64::from(state)
 }

@@ -12,15 +12,10 @@ ghost use Rattle.hash_fx.specs.FxStepLaws.{fx32_facts, fx64_facts};
 use crate::differing::{differing_fours_and_bytes, differing_words};
 use crate::words::{eights_in, eights_out, fours_and_bytes_in, fours_and_bytes_out};
 use hash_rounds::{le_four, rotl32, rotl64};
+use hash_rules::Word;
 
 /// A word of fx: a state, or what takes a state one step.
-pub trait FxWord: Copy + Drop {
-    /// The number that a word is.
-    ghost number: { Self → ℕ };
-
-    /// The word that a number is.
-    ghost word_of: { ℕ → Self };
-
+pub trait FxWord: Word {
     /// The numbers have so many bits.
     ghost bits: { ℕ };
 
@@ -30,39 +25,33 @@ pub trait FxWord: Copy + Drop {
     /// The word itself, of which generic code learns here that it is in range.
     fn known(self) -> Self
         ensures same { result ≡ self }
-        ensures in_range { number self < 2 ^ bits };
+        ensures in_range { Self.number self < 2 ^ bits };
 
     /// One word in: the state turned by five bits, the word xored in, times the key of the width.
     fn word_in(self, word: Self) -> Self
-        ensures { number result ≡ step (number self) (number word) };
+        ensures { Self.number result ≡ step (Self.number self) (Self.number word) };
 
     /// One word out again: times what undoes the key, the word xored out, turned back.
     fn word_out(self, word: Self) -> Self
-        ensures back { step (number result) (number word) ≡ number self }
-        ensures in_range { number result < 2 ^ bits };
+        ensures back { step (Self.number result) (Self.number word) ≡ Self.number self }
+        ensures in_range { Self.number result < 2 ^ bits };
 
     /// A byte as a word.
     fn byte(byte: u8) -> Self
-        ensures { number result ≡ byte };
+        ensures { Self.number result ≡ byte };
 
     /// Four bytes as a word, the lowest first.
     fn four(bytes: &[u8; 4]) -> Self
-        ensures { number result ≡ le bytes.now };
+        ensures { Self.number result ≡ le bytes.now };
 
     /// The word, widened.
     fn widened(self) -> u64
-        ensures { result ≡ number self };
+        ensures { result ≡ Self.number self };
 
     /// The word that is so when widened, or `None` exactly where there is none.
     fn narrowed(hash: u64) -> Option<Self>
         ensures exact { IsSome result ↔ (hash < 2 ^ bits) }
-        ensures some { IfSome result (λ s. number s ≡ hash) };
-
-    /// A word is that of its number.
-    ghost word_of_number: { (s : Self) → word_of (number s) ≡ s };
-
-    /// A number is that of its word.
-    ghost number_of_word: { (n : ℕ) → number (word_of n) ≡ n };
+        ensures some { IfSome result (λ s. Self.number s ≡ hash) };
 
     /// The step stays in range and is injective, in the state and in the word.
     ghost facts: { StepFacts step (2 ^ bits) (2 ^ bits) };
@@ -97,10 +86,6 @@ pub trait FxSplit: FxWord {
 }
 
 impl FxWord for u32 {
-    ghost number = { λ s. s };
-
-    ghost word_of = { λ n. n };
-
     ghost bits = { 32 };
 
     ghost step = { fx32_step };
@@ -139,18 +124,10 @@ impl FxWord for u32 {
         u32::try_from(hash).ok()
     }
 
-    ghost word_of_number = { λ s. refl };
-
-    ghost number_of_word = { λ n. refl };
-
     ghost facts = { fx32_facts };
 }
 
 impl FxWord for u64 {
-    ghost number = { λ s. s };
-
-    ghost word_of = { λ n. n };
-
     ghost bits = { 64 };
 
     ghost step = { fx64_step };
@@ -188,10 +165,6 @@ impl FxWord for u64 {
     fn narrowed(hash: u64) -> Option<u64> {
         Some(hash)
     }
-
-    ghost word_of_number = { λ s. refl };
-
-    ghost number_of_word = { λ n. refl };
 
     ghost facts = { fx64_facts };
 }

@@ -1,13 +1,12 @@
 //! One-at-a-time, from Bob Jenkins' page on hash functions, here at 64 bits: a byte is added, and the state is mixed by a
 //! product and a shift. Each write can be undone.
-ghost use Rattle.std.specs.Prelude.{◌≡◌, ◌+◌, ◌*◌, ◌%◌, ◌^◌, refl};
+ghost use Rattle.std.specs.Prelude.{◌≡◌, ◌+◌, ◌*◌, ◌%◌, ◌^◌};
 ghost use Rattle.std.proofs.Common.{lit<};
 ghost use Rattle.hash_jenkins.specs.Oaat.{oaat_step, oaat_finish, oaat_state};
 ghost use Rattle.hash_jenkins.specs.OaatLaws.{oaat_facts, oaat_finish_same};
-ghost use Rattle.hash_laws.proofs.RecurrenceLemmas.{recurrence_is_fold};
 
 use hash_rounds::{unxorshift, xorshift};
-use hash_rules::{ByteHasher, ByteRule, StepRule, UndoRule, alone_or_in_eights, whole_text};
+use hash_rules::{ByteHasher, Plain, PlainRule, PlainUndo, whole_text};
 
 /// What undoes a product by 1025.
 const UN_1025: u64 = 1151796703138937857;
@@ -32,10 +31,8 @@ pub fn origin_of_constants()
 /// The rule of one-at-a-time at 64 bits.
 pub struct OaatRule;
 
-impl StepRule for OaatRule {
-    type State = u64;
-
-    ghost number = { λ s. s };
+impl PlainRule for OaatRule {
+    type Word = u64;
 
     ghost bound = { 2 ^ 64 };
 
@@ -43,18 +40,20 @@ impl StepRule for OaatRule {
 
     ghost step = { oaat_step };
 
+    ghost answer = { oaat_finish };
+
     fn start() -> u64 {
         0
     }
 
     #[inline(always)]
-    fn fork(state: &u64) -> u64 {
-        *state
+    fn step(word: u64, byte: u8) -> u64 {
+        xorshift(word.wrapping_add(u64::from(byte)).wrapping_mul(1025), 6)
     }
 
     #[inline(always)]
-    fn step(state: &mut u64, byte: u8) {
-        *state = xorshift(state.wrapping_add(u64::from(byte)).wrapping_mul(1025), 6);
+    fn answer(word: u64) -> u64 {
+        xorshift(word.wrapping_mul(9), 11).wrapping_mul(32769)
     }
 
     ghost start_in_range = { lit< tt };
@@ -62,35 +61,13 @@ impl StepRule for OaatRule {
     ghost step_in_range = { oaat_facts.in_range };
 }
 
-impl ByteRule for OaatRule {
-    ghost after = { oaat_state };
-
-    ghost write = { oaat_state };
-
-    ghost answer = { oaat_finish };
-
-    #[inline(always)]
-    fn write(state: &mut u64, bytes: &[u8]) {
-        alone_or_in_eights::<OaatRule>(state, bytes);
-    }
-
-    #[inline(always)]
-    fn answer(state: &u64) -> u64 {
-        xorshift(state.wrapping_mul(9), 11).wrapping_mul(32769)
-    }
-
-    ghost is_fold = { recurrence_is_fold oaat_step (2 ^ 64) };
-
-    ghost write_is_after = { λ s text. refl };
-}
-
-impl UndoRule for OaatRule {
+impl PlainUndo for OaatRule {
     #[inline(always)]
     #[tactic(auto, using(crate::specs::OaatLaws::oaat_back))]
-    fn unstep(state: &mut u64, byte: u8) {
-        *state = unxorshift(*state, 6)
+    fn unstep(word: u64, byte: u8) -> u64 {
+        unxorshift(word, 6)
             .wrapping_mul(UN_1025)
-            .wrapping_sub(u64::from(byte));
+            .wrapping_sub(u64::from(byte))
     }
 
     #[tactic(auto, using(crate::specs::OaatLaws::oaat_unfinish_back))]
@@ -110,7 +87,7 @@ impl UndoRule for OaatRule {
 ///
 /// Contracts see the hasher as its state, a number below 2^64: `write` gives `h.new ≡ oaat_state h.old bytes.now`, and `finish`
 /// answers `oaat_finish h.now`. Of `a` the hash is 29161854018.
-pub type OAATHasher = ByteHasher<OaatRule>;
+pub type OAATHasher = ByteHasher<Plain<OaatRule>>;
 
 /// One-at-a-time at 64 bits of the bytes.
 pub fn oaat(bytes: &[u8]) -> u64

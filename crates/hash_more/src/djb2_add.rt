@@ -1,20 +1,17 @@
 //! djb2 in its form with a sum, which is Dan Bernstein's first, and which the section `.gnu.hash` of ELF files takes.
-ghost use Rattle.std.specs.Prelude.{◌≡◌, ◌^◌, refl};
+ghost use Rattle.std.specs.Prelude.{◌≡◌, ◌^◌};
 ghost use Rattle.std.proofs.Common.{lit<};
-ghost use Rattle.hashers.proofs.RecurrenceLemmas.{recurrence_is_fold};
 ghost use Rattle.hash_more.specs.Djb2Add.{djb2_add_step, djb2_add_from};
 ghost use Rattle.hash_more.specs.Djb2AddLaws.{djb2_add_facts};
 
 use hashers::oz::UNPRODUCT_33;
-use hashers::rules::{ByteHasher, ByteRule, StepRule, UndoRule, alone_or_in_eights, whole_text};
+use hashers::rules::{ByteHasher, Plain, PlainRule, PlainUndo, whole_text};
 
 /// The rule of djb2 with a sum.
 pub struct Djb2AddRule;
 
-impl StepRule for Djb2AddRule {
-    type State = u32;
-
-    ghost number = { λ s. s };
+impl PlainRule for Djb2AddRule {
+    type Word = u32;
 
     ghost bound = { 2 ^ 32 };
 
@@ -22,20 +19,22 @@ impl StepRule for Djb2AddRule {
 
     ghost step = { djb2_add_step };
 
+    ghost answer = { λ s. s };
+
     fn start() -> u32 {
         5381
     }
 
     #[inline(always)]
-    fn fork(state: &u32) -> u32 {
-        *state
+    fn step(word: u32, byte: u8) -> u32 {
+        (word << 5)
+            .wrapping_add(word)
+            .wrapping_add(u32::from(byte))
     }
 
     #[inline(always)]
-    fn step(state: &mut u32, byte: u8) {
-        *state = (*state << 5)
-            .wrapping_add(*state)
-            .wrapping_add(u32::from(byte));
+    fn answer(word: u32) -> u64 {
+        u64::from(word)
     }
 
     ghost start_in_range = { lit< tt };
@@ -43,35 +42,13 @@ impl StepRule for Djb2AddRule {
     ghost step_in_range = { djb2_add_facts.in_range };
 }
 
-impl ByteRule for Djb2AddRule {
-    ghost after = { djb2_add_from };
-
-    ghost write = { djb2_add_from };
-
-    ghost answer = { λ s. s };
-
-    #[inline(always)]
-    fn write(state: &mut u32, bytes: &[u8]) {
-        alone_or_in_eights::<Djb2AddRule>(state, bytes);
-    }
-
-    #[inline(always)]
-    fn answer(state: &u32) -> u64 {
-        u64::from(*state)
-    }
-
-    ghost is_fold = { recurrence_is_fold djb2_add_step (2 ^ 32) };
-
-    ghost write_is_after = { λ s text. refl };
-}
-
-impl UndoRule for Djb2AddRule {
+impl PlainUndo for Djb2AddRule {
     #[inline(always)]
     #[tactic(auto, using(crate::specs::Djb2AddLaws::djb2_add_back))]
-    fn unstep(state: &mut u32, byte: u8) {
-        *state = state
+    fn unstep(word: u32, byte: u8) -> u32 {
+        word
             .wrapping_sub(u32::from(byte))
-            .wrapping_mul(UNPRODUCT_33);
+            .wrapping_mul(UNPRODUCT_33)
     }
 
     fn unanswer(hash: u64) -> Option<u32> {
@@ -90,7 +67,7 @@ impl UndoRule for Djb2AddRule {
 ///
 /// Contracts see the hasher as its state, a number below 2^32: `write` gives `h.new ≡ djb2_add_from h.old bytes.now`, and
 /// `finish` answers `h.now`. Of `printf` the hash is 0x156b2bb8.
-pub type Djb2AddHasher = ByteHasher<Djb2AddRule>;
+pub type Djb2AddHasher = ByteHasher<Plain<Djb2AddRule>>;
 
 /// djb2 with a sum of the bytes, from 5381.
 pub fn djb2_add(bytes: &[u8]) -> u64

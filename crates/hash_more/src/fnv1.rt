@@ -1,22 +1,19 @@
 //! The hash functions of Glenn Fowler, Landon Curt Noll and Kiem-Phong Vo in the variant 1: for each byte a product by a prime,
 //! and then an exclusive or. The starts and the primes are those of the variant 1a, `hashers::fnv`.
-ghost use Rattle.std.specs.Prelude.{◌≡◌, ◌^◌, refl};
+ghost use Rattle.std.specs.Prelude.{◌≡◌, ◌^◌};
 ghost use Rattle.std.proofs.Common.{lit<};
 ghost use Rattle.hashers.specs.Fnv.{fnv1a32_basis, fnv1a64_basis};
-ghost use Rattle.hashers.proofs.RecurrenceLemmas.{recurrence_is_fold};
 ghost use Rattle.hash_more.specs.Fnv1.{fnv1_32_step, fnv1_64_step, fnv1_32_from, fnv1_64_from};
 ghost use Rattle.hash_more.specs.Fnv1Laws.{fnv1_32_facts, fnv1_64_facts};
 
 use hashers::fnv::{BASIS_32, BASIS_64, PRIME_32, PRIME_64, UNPRIME_32, UNPRIME_64};
-use hashers::rules::{ByteHasher, ByteRule, StepRule, UndoRule, alone_or_in_eights, whole_text};
+use hashers::rules::{ByteHasher, Plain, PlainRule, PlainUndo, whole_text};
 
 /// The rule of FNV-1 at 32 bits.
 pub struct Fnv1Rule32;
 
-impl StepRule for Fnv1Rule32 {
-    type State = u32;
-
-    ghost number = { λ s. s };
+impl PlainRule for Fnv1Rule32 {
+    type Word = u32;
 
     ghost bound = { 2 ^ 32 };
 
@@ -24,18 +21,20 @@ impl StepRule for Fnv1Rule32 {
 
     ghost step = { fnv1_32_step };
 
+    ghost answer = { λ s. s };
+
     fn start() -> u32 {
         BASIS_32
     }
 
     #[inline(always)]
-    fn fork(state: &u32) -> u32 {
-        *state
+    fn step(word: u32, byte: u8) -> u32 {
+        word.wrapping_mul(PRIME_32) ^ u32::from(byte)
     }
 
     #[inline(always)]
-    fn step(state: &mut u32, byte: u8) {
-        *state = state.wrapping_mul(PRIME_32) ^ u32::from(byte);
+    fn answer(word: u32) -> u64 {
+        u64::from(word)
     }
 
     ghost start_in_range = { lit< tt };
@@ -43,33 +42,11 @@ impl StepRule for Fnv1Rule32 {
     ghost step_in_range = { fnv1_32_facts.in_range };
 }
 
-impl ByteRule for Fnv1Rule32 {
-    ghost after = { fnv1_32_from };
-
-    ghost write = { fnv1_32_from };
-
-    ghost answer = { λ s. s };
-
-    #[inline(always)]
-    fn write(state: &mut u32, bytes: &[u8]) {
-        alone_or_in_eights::<Fnv1Rule32>(state, bytes);
-    }
-
-    #[inline(always)]
-    fn answer(state: &u32) -> u64 {
-        u64::from(*state)
-    }
-
-    ghost is_fold = { recurrence_is_fold fnv1_32_step (2 ^ 32) };
-
-    ghost write_is_after = { λ s text. refl };
-}
-
-impl UndoRule for Fnv1Rule32 {
+impl PlainUndo for Fnv1Rule32 {
     #[inline(always)]
     #[tactic(auto, using(crate::specs::Fnv1Laws::fnv1_32_back))]
-    fn unstep(state: &mut u32, byte: u8) {
-        *state = (*state ^ u32::from(byte)).wrapping_mul(UNPRIME_32);
+    fn unstep(word: u32, byte: u8) -> u32 {
+        (word ^ u32::from(byte)).wrapping_mul(UNPRIME_32)
     }
 
     fn unanswer(hash: u64) -> Option<u32> {
@@ -88,7 +65,7 @@ impl UndoRule for Fnv1Rule32 {
 ///
 /// Contracts see the hasher as its state, a number below 2^32: `write` gives `h.new ≡ fnv1_32_from h.old bytes.now`, and
 /// `finish` answers `h.now`. Of `a` the hash is 0x050c5d7e.
-pub type Fnv1Hasher32 = ByteHasher<Fnv1Rule32>;
+pub type Fnv1Hasher32 = ByteHasher<Plain<Fnv1Rule32>>;
 
 /// FNV-1 at 32 bits of the bytes.
 pub fn fnv1_32(bytes: &[u8]) -> u64
@@ -100,10 +77,8 @@ pub fn fnv1_32(bytes: &[u8]) -> u64
 /// The rule of FNV-1 at 64 bits.
 pub struct Fnv1Rule64;
 
-impl StepRule for Fnv1Rule64 {
-    type State = u64;
-
-    ghost number = { λ s. s };
+impl PlainRule for Fnv1Rule64 {
+    type Word = u64;
 
     ghost bound = { 2 ^ 64 };
 
@@ -111,19 +86,21 @@ impl StepRule for Fnv1Rule64 {
 
     ghost step = { fnv1_64_step };
 
+    ghost answer = { λ s. s };
+
     fn start() -> u64 {
         BASIS_64
     }
 
     #[inline(always)]
-    fn fork(state: &u64) -> u64 {
-        *state
+    #[tactic(auto, using(crate::specs::Fnv1Laws::fnv1_64_in_range))]
+    fn step(word: u64, byte: u8) -> u64 {
+        word.wrapping_mul(PRIME_64) ^ u64::from(byte)
     }
 
     #[inline(always)]
-    #[tactic(auto, using(crate::specs::Fnv1Laws::fnv1_64_in_range))]
-    fn step(state: &mut u64, byte: u8) {
-        *state = state.wrapping_mul(PRIME_64) ^ u64::from(byte);
+    fn answer(word: u64) -> u64 {
+        word
     }
 
     ghost start_in_range = { lit< tt };
@@ -131,33 +108,11 @@ impl StepRule for Fnv1Rule64 {
     ghost step_in_range = { fnv1_64_facts.in_range };
 }
 
-impl ByteRule for Fnv1Rule64 {
-    ghost after = { fnv1_64_from };
-
-    ghost write = { fnv1_64_from };
-
-    ghost answer = { λ s. s };
-
-    #[inline(always)]
-    fn write(state: &mut u64, bytes: &[u8]) {
-        alone_or_in_eights::<Fnv1Rule64>(state, bytes);
-    }
-
-    #[inline(always)]
-    fn answer(state: &u64) -> u64 {
-        *state
-    }
-
-    ghost is_fold = { recurrence_is_fold fnv1_64_step (2 ^ 64) };
-
-    ghost write_is_after = { λ s text. refl };
-}
-
-impl UndoRule for Fnv1Rule64 {
+impl PlainUndo for Fnv1Rule64 {
     #[inline(always)]
     #[tactic(auto, using(crate::specs::Fnv1Laws::fnv1_64_back))]
-    fn unstep(state: &mut u64, byte: u8) {
-        *state = (*state ^ u64::from(byte)).wrapping_mul(UNPRIME_64);
+    fn unstep(word: u64, byte: u8) -> u64 {
+        (word ^ u64::from(byte)).wrapping_mul(UNPRIME_64)
     }
 
     fn unanswer(hash: u64) -> Option<u64> {
@@ -176,7 +131,7 @@ impl UndoRule for Fnv1Rule64 {
 ///
 /// Contracts see the hasher as its state, a number below 2^64: `write` gives `h.new ≡ fnv1_64_from h.old bytes.now`, and
 /// `finish` answers `h.now`. Of `a` the hash is 0xaf63bd4c8601b7be.
-pub type Fnv1Hasher64 = ByteHasher<Fnv1Rule64>;
+pub type Fnv1Hasher64 = ByteHasher<Plain<Fnv1Rule64>>;
 
 /// FNV-1 at 64 bits of the bytes.
 pub fn fnv1_64(bytes: &[u8]) -> u64

@@ -1,13 +1,12 @@
 //! One-at-a-time, from Bob Jenkins' page on hash functions, at 32 bits as he published it.
-ghost use Rattle.std.specs.Prelude.{◌≡◌, ◌+◌, ◌*◌, ◌%◌, ◌^◌, ◌<◌, refl};
+ghost use Rattle.std.specs.Prelude.{◌≡◌, ◌+◌, ◌*◌, ◌%◌, ◌^◌, ◌<◌};
 ghost use Rattle.std.proofs.Common.{lit<};
 ghost use Rattle.hashers.specs.Words.{xorshift};
-ghost use Rattle.hashers.proofs.RecurrenceLemmas.{recurrence_is_fold};
 ghost use Rattle.hash_more.specs.Joaat.{joaat_step, joaat_from, joaat_answer};
 ghost use Rattle.hash_more.specs.JoaatLaws.{joaat_facts, joaat_answer_same};
 
 use hashers::rounds::unxorshift;
-use hashers::rules::{ByteHasher, ByteRule, StepRule, UndoRule, alone_or_in_eights, whole_text};
+use hashers::rules::{ByteHasher, Plain, PlainRule, PlainUndo, whole_text};
 
 /// What undoes a product by 1025.
 const UN_1025: u32 = 3222273025;
@@ -47,10 +46,8 @@ fn unshift(word: u32, bits: u32) -> u32
 /// The rule of one-at-a-time at 32 bits.
 pub struct JoaatRule;
 
-impl StepRule for JoaatRule {
-    type State = u32;
-
-    ghost number = { λ s. s };
+impl PlainRule for JoaatRule {
+    type Word = u32;
 
     ghost bound = { 2 ^ 32 };
 
@@ -58,18 +55,20 @@ impl StepRule for JoaatRule {
 
     ghost step = { joaat_step };
 
+    ghost answer = { joaat_answer };
+
     fn start() -> u32 {
         0
     }
 
     #[inline(always)]
-    fn fork(state: &u32) -> u32 {
-        *state
+    fn step(word: u32, byte: u8) -> u32 {
+        shift(word.wrapping_add(u32::from(byte)).wrapping_mul(1025), 6)
     }
 
     #[inline(always)]
-    fn step(state: &mut u32, byte: u8) {
-        *state = shift(state.wrapping_add(u32::from(byte)).wrapping_mul(1025), 6);
+    fn answer(word: u32) -> u64 {
+        u64::from(shift(word.wrapping_mul(9), 11).wrapping_mul(32769))
     }
 
     ghost start_in_range = { lit< tt };
@@ -77,35 +76,13 @@ impl StepRule for JoaatRule {
     ghost step_in_range = { joaat_facts.in_range };
 }
 
-impl ByteRule for JoaatRule {
-    ghost after = { joaat_from };
-
-    ghost write = { joaat_from };
-
-    ghost answer = { joaat_answer };
-
-    #[inline(always)]
-    fn write(state: &mut u32, bytes: &[u8]) {
-        alone_or_in_eights::<JoaatRule>(state, bytes);
-    }
-
-    #[inline(always)]
-    fn answer(state: &u32) -> u64 {
-        u64::from(shift(state.wrapping_mul(9), 11).wrapping_mul(32769))
-    }
-
-    ghost is_fold = { recurrence_is_fold joaat_step (2 ^ 32) };
-
-    ghost write_is_after = { λ s text. refl };
-}
-
-impl UndoRule for JoaatRule {
+impl PlainUndo for JoaatRule {
     #[inline(always)]
     #[tactic(auto, using(crate::specs::JoaatLaws::joaat_back))]
-    fn unstep(state: &mut u32, byte: u8) {
-        *state = unshift(*state, 6)
+    fn unstep(word: u32, byte: u8) -> u32 {
+        unshift(word, 6)
             .wrapping_mul(UN_1025)
-            .wrapping_sub(u32::from(byte));
+            .wrapping_sub(u32::from(byte))
     }
 
     #[tactic(auto, using(crate::specs::JoaatLaws::joaat_unanswer_back, crate::specs::JoaatLaws::joaat_answer_below))]
@@ -128,7 +105,7 @@ impl UndoRule for JoaatRule {
 ///
 /// Contracts see the hasher as its state, a number below 2^32: `write` gives `h.new ≡ joaat_from h.old bytes.now`, and
 /// `finish` answers `joaat_answer h.now`. Of `a` the hash is 0xca2e9442.
-pub type JoaatHasher = ByteHasher<JoaatRule>;
+pub type JoaatHasher = ByteHasher<Plain<JoaatRule>>;
 
 /// One-at-a-time at 32 bits of the bytes.
 pub fn joaat(bytes: &[u8]) -> u64

@@ -4,12 +4,14 @@
 
 mod byte_hasher;
 mod byte_rule;
+mod plain_rule;
 mod texts;
 mod word_hasher;
 mod word_rule;
 
 pub use byte_hasher::ByteHasher;
 pub use byte_rule::{ByteRule, StepRule, UndoRule};
+pub use plain_rule::{Plain, PlainRule, PlainUndo, Word};
 pub use texts::{alone_or_in_eights, in_eights, whole_text};
 pub use word_hasher::WordHasher;
 pub use word_rule::WordRule;

@@ -2,7 +2,8 @@
 ghost use Rattle.std.specs.Prelude.{◌≡◌};
 ghost use Rattle.hash_laws.specs.Recurrence.{recurrence};
 
-use crate::byte_rule::{ByteRule, StepRule};
+use crate::byte_rule::StepRule;
+use crate::plain_rule::{Plain, PlainRule};
 
 /// The bytes in, one step for each.
 #[inline(always)]
@@ -44,20 +45,19 @@ where
     }
 }
 
-/// The hash of a whole text by a rule. The first eight bytes have no loop round them, so a call with a short key waits for none.
+/// The hash of a whole text by a plain rule. The first eight bytes have no loop round them, so a call with a short key waits for
+/// none.
 #[inline(always)]
-pub fn whole_text<R: ByteRule>(text: &[u8]) -> u64
-where
-    R::State: Copy,
-    ensures { result ≡ R.answer (recurrence R.step (R.number R.start) text.now) }
+pub fn whole_text<R: PlainRule>(text: &[u8]) -> u64
+    ensures { result ≡ R.answer (recurrence R.step R.start text.now) }
 {
-    let mut state = R::start();
+    let mut word = R::start();
     match text.split_first_chunk::<8>() {
-        None => in_turn::<R>(&mut state, text),
+        None => in_turn::<Plain<R>>(&mut word, text),
         Some((first, rest)) => {
-            in_turn::<R>(&mut state, first);
-            in_eights::<R>(&mut state, rest);
+            in_turn::<Plain<R>>(&mut word, first);
+            in_eights::<Plain<R>>(&mut word, rest);
         }
     }
-    R::answer(&state)
+    R::answer(word)
 }

@@ -1,11 +1,10 @@
 //! A third party's hasher, which is a rule of its own: whatever generic code gives at it follows from the laws alone.
-ghost use Rattle.std.specs.Prelude.{◌≡◌, ◌^◌, refl};
+ghost use Rattle.std.specs.Prelude.{◌≡◌, ◌^◌};
 ghost use Rattle.std.proofs.Common.{lit<};
-ghost use Rattle.hashers.proofs.RecurrenceLemmas.{recurrence_is_fold};
 ghost use Rattle.hash_vectors.specs.Times31.{times31_step, times31};
 ghost use Rattle.hash_vectors.specs.Times31Laws.{times31_facts};
 
-use hashers::rules::{ByteHasher, ByteRule, StepRule, UndoRule, in_eights};
+use hashers::rules::{ByteHasher, Plain, PlainRule, PlainUndo};
 
 /// What undoes a product by 31.
 const UNPRODUCT_31: u32 = 3186588639;
@@ -13,10 +12,8 @@ const UNPRODUCT_31: u32 = 3186588639;
 /// The rule of Java's hash of strings, over bytes.
 pub struct Times31Rule;
 
-impl StepRule for Times31Rule {
-    type State = u32;
-
-    ghost number = { λ s. s };
+impl PlainRule for Times31Rule {
+    type Word = u32;
 
     ghost bound = { 2 ^ 32 };
 
@@ -24,16 +21,18 @@ impl StepRule for Times31Rule {
 
     ghost step = { times31_step };
 
+    ghost answer = { λ s. s };
+
     fn start() -> u32 {
         0
     }
 
-    fn fork(state: &u32) -> u32 {
-        *state
+    fn step(word: u32, byte: u8) -> u32 {
+        word.wrapping_mul(31).wrapping_add(u32::from(byte))
     }
 
-    fn step(state: &mut u32, byte: u8) {
-        *state = state.wrapping_mul(31).wrapping_add(u32::from(byte));
+    fn answer(word: u32) -> u64 {
+        u64::from(word)
     }
 
     ghost start_in_range = { lit< tt };
@@ -41,31 +40,11 @@ impl StepRule for Times31Rule {
     ghost step_in_range = { times31_facts.in_range };
 }
 
-impl ByteRule for Times31Rule {
-    ghost after = { times31 };
-
-    ghost write = { times31 };
-
-    ghost answer = { λ s. s };
-
-    fn write(state: &mut u32, bytes: &[u8]) {
-        in_eights::<Times31Rule>(state, bytes);
-    }
-
-    fn answer(state: &u32) -> u64 {
-        u64::from(*state)
-    }
-
-    ghost is_fold = { recurrence_is_fold times31_step (2 ^ 32) };
-
-    ghost write_is_after = { λ s text. refl };
-}
-
-impl UndoRule for Times31Rule {
-    fn unstep(state: &mut u32, byte: u8) {
-        *state = state
+impl PlainUndo for Times31Rule {
+    fn unstep(word: u32, byte: u8) -> u32 {
+        word
             .wrapping_sub(u32::from(byte))
-            .wrapping_mul(UNPRODUCT_31);
+            .wrapping_mul(UNPRODUCT_31)
     }
 
     fn unanswer(hash: u64) -> Option<u32> {
@@ -78,4 +57,4 @@ impl UndoRule for Times31Rule {
 }
 
 /// From 0, a byte `b` takes the state `h` to `31 * h + b`, at 32 bits; `finish` answers `h`, widened.
-pub type Times31 = ByteHasher<Times31Rule>;
+pub type Times31 = ByteHasher<Plain<Times31Rule>>;

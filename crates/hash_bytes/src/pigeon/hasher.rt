@@ -1,14 +1,13 @@
 //! The hasher.
-ghost use Rattle.std.specs.Prelude.{◌≡◌, ◌^◌, ◌*◌, ◌%◌, refl};
+ghost use Rattle.std.specs.Prelude.{◌≡◌, ◌^◌, ◌*◌, ◌%◌};
 ghost use Rattle.std.proofs.Common.{lit<};
 ghost use Rattle.hash_rounds.specs.Shuffle.{shuffle};
 ghost use Rattle.hash_bytes.specs.Pigeon.{bricolage_step, bricolage_from};
 ghost use Rattle.hash_bytes.specs.PigeonLaws.{bricolage_facts};
-ghost use Rattle.hash_laws.proofs.RecurrenceLemmas.{recurrence_is_fold};
 
 use super::table::SHUFFLED_PRODUCTS;
 use hash_rounds::swap_halves;
-use hash_rules::{ByteHasher, ByteRule, StepRule, UndoRule, in_eights};
+use hash_rules::{ByteHasher, Plain, PlainRule, PlainUndo};
 
 /// The shuffled product of a byte.
 #[inline(always)]
@@ -21,10 +20,8 @@ fn shuffled_product(byte: u8) -> u64
 /// The rule of Pigeon's hash.
 pub struct BricolageRule;
 
-impl StepRule for BricolageRule {
-    type State = u64;
-
-    ghost number = { λ s. s };
+impl PlainRule for BricolageRule {
+    type Word = u64;
 
     ghost bound = { 2 ^ 64 };
 
@@ -32,18 +29,20 @@ impl StepRule for BricolageRule {
 
     ghost step = { bricolage_step };
 
+    ghost answer = { λ s. s };
+
     fn start() -> u64 {
         0
     }
 
     #[inline(always)]
-    fn fork(state: &u64) -> u64 {
-        *state
+    fn step(word: u64, byte: u8) -> u64 {
+        swap_halves(word.wrapping_add(shuffled_product(byte)))
     }
 
     #[inline(always)]
-    fn step(state: &mut u64, byte: u8) {
-        *state = swap_halves(state.wrapping_add(shuffled_product(byte)));
+    fn answer(word: u64) -> u64 {
+        word
     }
 
     ghost start_in_range = { lit< tt };
@@ -51,33 +50,11 @@ impl StepRule for BricolageRule {
     ghost step_in_range = { bricolage_facts.in_range };
 }
 
-impl ByteRule for BricolageRule {
-    ghost after = { bricolage_from };
-
-    ghost write = { bricolage_from };
-
-    ghost answer = { λ s. s };
-
-    #[inline(always)]
-    fn write(state: &mut u64, bytes: &[u8]) {
-        in_eights::<BricolageRule>(state, bytes);
-    }
-
-    #[inline(always)]
-    fn answer(state: &u64) -> u64 {
-        *state
-    }
-
-    ghost is_fold = { recurrence_is_fold bricolage_step (2 ^ 64) };
-
-    ghost write_is_after = { λ s text. refl };
-}
-
-impl UndoRule for BricolageRule {
+impl PlainUndo for BricolageRule {
     #[inline(always)]
     #[tactic(auto, using(crate::specs::PigeonLaws::bricolage_back))]
-    fn unstep(state: &mut u64, byte: u8) {
-        *state = swap_halves(*state).wrapping_sub(shuffled_product(byte));
+    fn unstep(word: u64, byte: u8) -> u64 {
+        swap_halves(word).wrapping_sub(shuffled_product(byte))
     }
 
     fn unanswer(hash: u64) -> Option<u64> {
@@ -96,4 +73,4 @@ impl UndoRule for BricolageRule {
 ///
 /// Contracts see the hasher as its state, a number below 2^64: `write` gives `h.new ≡ bricolage_from h.old bytes.now`, and
 /// `finish` answers `h.now`. Of `a` the hash is 17926483712435944715.
-pub type Bricolage = ByteHasher<BricolageRule>;
+pub type Bricolage = ByteHasher<Plain<BricolageRule>>;

@@ -7,4 +7,5 @@ use Rattle.hash_fx.proofs.words.bytes_out.Given as goal
 abbrev pub invariant-loop-byte : goal.invariant-loop-byte
 invariant-loop-byte g l =
     let word = g.W.FxWord in
-    Undoing (fold word.step) (2 ^ word.bits) (word.number l.initial.h) (word.number l.h) (iter_rest (rev_source l.byte-iterator)) l.fn.bytes
+    let number = g.W.Word.number in
+    Undoing (fold word.step) (2 ^ word.bits) (number l.initial.h) (number l.h) (iter_rest (rev_source l.byte-iterator)) l.fn.bytes
