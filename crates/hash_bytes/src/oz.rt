@@ -9,7 +9,9 @@ ghost use Rattle.hash_rounds.proofs.SumLemmas.{sdbm_sums, loselose-fold};
 ghost use Rattle.hash_bytes.specs.CountedSum.{sdbm_write, loselose_write};
 
 use hash_rounds::{Turns, lose8, sdbm4};
-use hash_rules::{ByteHasher, ByteRule, Plain, PlainRule, PlainUndo, StepRule, UndoRule, whole_text};
+use hash_rules::{
+    ByteHasher, ByteRule, Plain, PlainRule, PlainUndo, StepRule, UndoRule, whole_text,
+};
 use std::hash::Hasher;
 use std::marker::Model;
 use std::simd::prelude::*;

@@ -27,9 +27,7 @@ impl PlainRule for Djb2AddRule {
 
     #[inline(always)]
     fn step(word: u32, byte: u8) -> u32 {
-        (word << 5)
-            .wrapping_add(word)
-            .wrapping_add(u32::from(byte))
+        (word << 5).wrapping_add(word).wrapping_add(u32::from(byte))
     }
 
     #[inline(always)]
@@ -46,8 +44,7 @@ impl PlainUndo for Djb2AddRule {
     #[inline(always)]
     #[tactic(auto, using(crate::specs::Djb2AddLaws::djb2_add_back))]
     fn unstep(word: u32, byte: u8) -> u32 {
-        word
-            .wrapping_sub(u32::from(byte))
+        word.wrapping_sub(u32::from(byte))
             .wrapping_mul(UNPRODUCT_33)
     }
 

@@ -42,8 +42,7 @@ impl PlainRule for Times31Rule {
 
 impl PlainUndo for Times31Rule {
     fn unstep(word: u32, byte: u8) -> u32 {
-        word
-            .wrapping_sub(u32::from(byte))
+        word.wrapping_sub(u32::from(byte))
             .wrapping_mul(UNPRODUCT_31)
     }
 
