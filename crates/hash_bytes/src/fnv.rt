@@ -48,6 +48,8 @@ pub struct Fnv1aRule32;
 impl PlainRule for Fnv1aRule32 {
     type Word = u32;
 
+    const ALONE: bool = true;
+
     ghost bound = { 2 ^ 32 };
 
     ghost start = { fnv1a32_basis };
@@ -112,6 +114,8 @@ pub struct Fnv1aRule64;
 
 impl PlainRule for Fnv1aRule64 {
     type Word = u64;
+
+    const ALONE: bool = true;
 
     ghost bound = { 2 ^ 64 };
 

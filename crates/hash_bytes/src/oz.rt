@@ -51,6 +51,8 @@ pub struct Djb2Rule;
 impl PlainRule for Djb2Rule {
     type Word = u32;
 
+    const ALONE: bool = false;
+
     ghost bound = { 2 ^ 32 };
 
     ghost start = { 5381 };

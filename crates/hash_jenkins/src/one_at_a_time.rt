@@ -34,6 +34,8 @@ pub struct OaatRule;
 impl PlainRule for OaatRule {
     type Word = u64;
 
+    const ALONE: bool = true;
+
     ghost bound = { 2 ^ 64 };
 
     ghost start = { 0 };

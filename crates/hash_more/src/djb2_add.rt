@@ -13,6 +13,8 @@ pub struct Djb2AddRule;
 impl PlainRule for Djb2AddRule {
     type Word = u32;
 
+    const ALONE: bool = true;
+
     ghost bound = { 2 ^ 32 };
 
     ghost start = { 5381 };

@@ -13,6 +13,8 @@ pub struct ElfRule;
 impl PlainRule for ElfRule {
     type Word = u32;
 
+    const ALONE: bool = false;
+
     ghost bound = { 2 ^ 28 };
 
     ghost start = { 0 };

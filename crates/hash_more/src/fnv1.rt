@@ -15,6 +15,8 @@ pub struct Fnv1Rule32;
 impl PlainRule for Fnv1Rule32 {
     type Word = u32;
 
+    const ALONE: bool = true;
+
     ghost bound = { 2 ^ 32 };
 
     ghost start = { fnv1a32_basis };
@@ -79,6 +81,8 @@ pub struct Fnv1Rule64;
 
 impl PlainRule for Fnv1Rule64 {
     type Word = u64;
+
+    const ALONE: bool = true;
 
     ghost bound = { 2 ^ 64 };
 

@@ -49,6 +49,8 @@ pub struct JoaatRule;
 impl PlainRule for JoaatRule {
     type Word = u32;
 
+    const ALONE: bool = true;
+
     ghost bound = { 2 ^ 32 };
 
     ghost start = { 0 };

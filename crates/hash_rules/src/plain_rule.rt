@@ -6,7 +6,7 @@ ghost use Rattle.hash_laws.specs.Recurrence.{recurrence};
 ghost use Rattle.hash_laws.proofs.RecurrenceLemmas.{recurrence_is_fold};
 
 use crate::byte_rule::{ByteRule, StepRule, UndoRule};
-use crate::texts::alone_or_in_eights;
+use crate::texts::{alone_or_in_eights, in_eights};
 use std::marker::PhantomData;
 
 /// A word that is kept.
@@ -49,6 +49,10 @@ impl Word for u64 {
 pub trait PlainRule {
     /// What is kept.
     type Word: Word;
+
+    /// Whether a `write` of a single byte has a way of its own. No result depends on it: where single bytes come often it saves
+    /// the loop, and other lengths pay a test.
+    const ALONE: bool;
 
     /// The numbers are below it.
     ghost bound: { ℕ };
@@ -148,7 +152,11 @@ impl<R: PlainRule> ByteRule for Plain<R> {
 
     #[inline(always)]
     fn write(state: &mut R::Word, bytes: &[u8]) {
-        alone_or_in_eights::<Plain<R>>(state, bytes);
+        if R::ALONE {
+            alone_or_in_eights::<Plain<R>>(state, bytes);
+        } else {
+            in_eights::<Plain<R>>(state, bytes);
+        }
     }
 
     #[inline(always)]

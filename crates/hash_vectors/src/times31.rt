@@ -15,6 +15,8 @@ pub struct Times31Rule;
 impl PlainRule for Times31Rule {
     type Word = u32;
 
+    const ALONE: bool = false;
+
     ghost bound = { 2 ^ 32 };
 
     ghost start = { 0 };

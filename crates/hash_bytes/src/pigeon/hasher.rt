@@ -23,6 +23,8 @@ pub struct BricolageRule;
 impl PlainRule for BricolageRule {
     type Word = u64;
 
+    const ALONE: bool = false;
+
     ghost bound = { 2 ^ 64 };
 
     ghost start = { 0 };
