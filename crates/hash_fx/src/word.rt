@@ -1,5 +1,5 @@
 //! A word of fx, and what of it hangs on its width.
-ghost use Rattle.std.specs.Prelude.{◌≡◌, ◌<◌, ◌^◌, ◌↔◌, ℕ, List, [], All, refl, length, IsSome, IfSome};
+ghost use Rattle.std.specs.Prelude.{◌≡◌, ◌<◌, ◌^◌, ◌↔◌, ℕ, List, [], All, length, IsSome, IfSome};
 ghost use Rattle.hash_rounds.specs.Words.{le};
 ghost use Rattle.hash_rounds.specs.StepFacts.{StepFacts};
 ghost use Rattle.hash_laws.specs.Recurrence.{recurrence};

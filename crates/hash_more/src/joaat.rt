@@ -1,5 +1,5 @@
 //! One-at-a-time, from Bob Jenkins' page on hash functions, at 32 bits as he published it.
-ghost use Rattle.std.specs.Prelude.{◌≡◌, ◌+◌, ◌*◌, ◌%◌, ◌^◌, ◌<◌};
+ghost use Rattle.std.specs.Prelude.{◌≡◌, ◌*◌, ◌%◌, ◌^◌, ◌<◌};
 ghost use Rattle.std.proofs.Common.{lit<};
 ghost use Rattle.hashers.specs.Words.{xorshift};
 ghost use Rattle.hash_more.specs.Joaat.{joaat_step, joaat_from, joaat_answer};

@@ -1,7 +1,7 @@
 //! A third party's hasher, which is a rule of its own: whatever generic code gives at it follows from the laws alone.
-ghost use Rattle.std.specs.Prelude.{◌≡◌, ◌^◌};
+ghost use Rattle.std.specs.Prelude.{◌^◌};
 ghost use Rattle.std.proofs.Common.{lit<};
-ghost use Rattle.hash_vectors.specs.Times31.{times31_step, times31};
+ghost use Rattle.hash_vectors.specs.Times31.{times31_step};
 ghost use Rattle.hash_vectors.specs.Times31Laws.{times31_facts};
 
 use hashers::rules::{ByteHasher, Plain, PlainRule, PlainUndo};

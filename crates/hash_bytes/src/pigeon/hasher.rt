@@ -2,7 +2,7 @@
 ghost use Rattle.std.specs.Prelude.{◌≡◌, ◌^◌, ◌*◌, ◌%◌};
 ghost use Rattle.std.proofs.Common.{lit<};
 ghost use Rattle.hash_rounds.specs.Shuffle.{shuffle};
-ghost use Rattle.hash_bytes.specs.Pigeon.{bricolage_step, bricolage_from};
+ghost use Rattle.hash_bytes.specs.Pigeon.{bricolage_step};
 ghost use Rattle.hash_bytes.specs.PigeonLaws.{bricolage_facts};
 
 use super::table::SHUFFLED_PRODUCTS;
