@@ -124,86 +124,60 @@ static void check_spooky(void) {
     }
 }
 
-typedef bool of_column32(const void *, size_t, const uint32_t *, size_t, uint64_t *, size_t);
-typedef bool of_column64(const void *, size_t, const uint64_t *, size_t, uint64_t *, size_t);
-
-static const struct column {
-    whole *of;
-    of_column32 *by32;
-    of_column64 *by64;
-} columns[] = {
-#define COLUMN(name) {hashers_##name, hashers_##name##_column32, hashers_##name##_column64}
-    COLUMN(fnv1a32), COLUMN(fnv1a64), COLUMN(djb2), COLUMN(sdbm), COLUMN(loselose), COLUMN(bricolage), COLUMN(oaat), COLUMN(lookup3),
-    COLUMN(spooky), COLUMN(spooky_v1), COLUMN(null), COLUMN(passthrough), COLUMN(fxhash), COLUMN(fxhash32), COLUMN(fxhash64),
-    COLUMN(crc32), COLUMN(crc32c), COLUMN(fnv1_32), COLUMN(fnv1_64), COLUMN(djb2_add), COLUMN(joaat), COLUMN(elf),
-};
-
 enum { TEXTS = 40 };
 
 // A column against a call for each text; and offsets that fall, pass the end, or are too many or too few, which write nothing.
-static void check_column(const struct column *c) {
+static void check_column(whole *of, uint32_t number) {
     uint32_t offsets32[TEXTS + 1];
     uint64_t offsets64[TEXTS + 1], hashes[TEXTS], none[TEXTS] = {0};
     for (uint32_t i = 0; i <= TEXTS; i++) offsets64[i] = offsets32[i] = i * (i + 1) / 2;
-    same("column32", 1, c->by32(text, sizeof text, offsets32, TEXTS + 1, hashes, TEXTS));
-    for (size_t i = 0; i < TEXTS; i++) same("column32", c->of(text + offsets32[i], i + 1), hashes[i]);
+    same("column32", 1, hashers_column32(number, text, sizeof text, offsets32, TEXTS + 1, hashes, TEXTS));
+    for (size_t i = 0; i < TEXTS; i++) same("column32", of(text + offsets32[i], i + 1), hashes[i]);
     memset(hashes, 0, sizeof hashes);
-    same("column64", 1, c->by64(text, offsets64[TEXTS], offsets64, TEXTS + 1, hashes, TEXTS));
-    for (size_t i = 0; i < TEXTS; i++) same("column64", c->of(text + offsets64[i], i + 1), hashes[i]);
-    same("a column of no texts", 1, c->by64(NULL, 0, offsets64, 1, NULL, 0));
+    same("column64", 1, hashers_column64(number, text, offsets64[TEXTS], offsets64, TEXTS + 1, hashes, TEXTS));
+    for (size_t i = 0; i < TEXTS; i++) same("column64", of(text + offsets64[i], i + 1), hashes[i]);
+    same("a column of no texts", 1, hashers_column64(number, NULL, 0, offsets64, 1, NULL, 0));
     memset(hashes, 0, sizeof hashes);
-    same("past the end", 0, c->by64(text, offsets64[TEXTS] - 1, offsets64, TEXTS + 1, hashes, TEXTS));
-    same("too few offsets", 0, c->by64(text, sizeof text, offsets64, TEXTS, hashes, TEXTS));
-    same("too many offsets", 0, c->by32(text, sizeof text, offsets32, TEXTS + 1, hashes, TEXTS - 1));
-    same("no offsets", 0, c->by32(text, sizeof text, NULL, 0, NULL, 0));
+    same("past the end", 0, hashers_column64(number, text, offsets64[TEXTS] - 1, offsets64, TEXTS + 1, hashes, TEXTS));
+    same("too few offsets", 0, hashers_column64(number, text, sizeof text, offsets64, TEXTS, hashes, TEXTS));
+    same("too many offsets", 0, hashers_column32(number, text, sizeof text, offsets32, TEXTS + 1, hashes, TEXTS - 1));
+    same("no offsets", 0, hashers_column32(number, text, sizeof text, NULL, 0, NULL, 0));
     offsets32[7] = 0, offsets64[9] = UINT64_MAX;
-    same("offsets that fall", 0, c->by32(text, sizeof text, offsets32, TEXTS + 1, hashes, TEXTS));
-    same("a huge offset", 0, c->by64(text, sizeof text, offsets64, TEXTS + 1, hashes, TEXTS));
+    same("offsets that fall", 0, hashers_column32(number, text, sizeof text, offsets32, TEXTS + 1, hashes, TEXTS));
+    same("a huge offset", 0, hashers_column64(number, text, sizeof text, offsets64, TEXTS + 1, hashes, TEXTS));
     same("what is refused writes nothing", 0, (uint64_t)memcmp(hashes, none, sizeof none));
 }
 
-typedef size_t of_lines(const void *, size_t, uint64_t *, size_t);
-
-static const struct lines {
-    whole *of;
-    of_lines *lines;
-} by_line[] = {
-#define LINES(name) {hashers_##name, hashers_##name##_lines}
-    LINES(fnv1a32), LINES(fnv1a64), LINES(djb2), LINES(sdbm), LINES(loselose), LINES(bricolage), LINES(oaat), LINES(lookup3),
-    LINES(spooky), LINES(spooky_v1), LINES(null), LINES(passthrough), LINES(fxhash), LINES(fxhash32), LINES(fxhash64),
-    LINES(crc32), LINES(crc32c), LINES(fnv1_32), LINES(fnv1_64), LINES(djb2_add), LINES(joaat), LINES(elf),
-};
-
 // Lines against a call for each, with more room than lines and with less; and which bytes have which lines.
-static void check_lines(const struct lines *l) {
+static void check_lines(whole *of, uint32_t number) {
     unsigned char data[sizeof text];
     uint64_t hashes[sizeof text + 1], few[3] = {7, 7, 7};
     size_t count = 0, from = 0;
     for (size_t i = 0; i < sizeof data; i++) data[i] = text[i] < 20 ? '\n' : text[i];
-    size_t found = l->lines(data, sizeof data, hashes, sizeof text);
+    size_t found = hashers_lines(number, data, sizeof data, hashes, sizeof text);
     for (size_t i = 0; i < sizeof data; i++)
         if (data[i] == '\n' || i + 1 == sizeof data) {
             size_t n = i - from + (data[i] != '\n');
-            same("a line", l->of(data + from, n), hashes[count++]);
+            same("a line", of(data + from, n), hashes[count++]);
             from = i + 1;
         }
     same("lines", count, found);
-    same("lines, with too little room", count, l->lines(data, sizeof data, few, 2));
+    same("lines, with too little room", count, hashers_lines(number, data, sizeof data, few, 2));
     same("the first line", hashes[0], few[0]);
     same("the second line", hashes[1], few[1]);
     same("past the room", 7, few[2]);
-    same("lines, with no room", count, l->lines(data, sizeof data, NULL, 0));
+    same("lines, with no room", count, hashers_lines(number, data, sizeof data, NULL, 0));
     static const struct {
         const char *text;
         size_t n, lines;
     } ends[] = {{"", 0, 0}, {"\n", 1, 1}, {"a", 1, 1}, {"a\n", 2, 1}, {"a\nb", 3, 2}, {"\n\n", 2, 2}, {"a\r\n\0\n", 5, 2}};
     for (size_t i = 0; i < sizeof ends / sizeof *ends; i++) {
         few[2] = 7;
-        same("lines at the end", ends[i].lines, l->lines(ends[i].text, ends[i].n, few, 3));
+        same("lines at the end", ends[i].lines, hashers_lines(number, ends[i].text, ends[i].n, few, 3));
         same("no hash of no line", 7, few[2]);
     }
-    l->lines("a\r\n", 3, few, 1);
-    same("a carriage return is of the line", l->of("a\r", 2), few[0]);
+    hashers_lines(number, "a\r\n", 3, few, 1);
+    same("a carriage return is of the line", of("a\r", 2), few[0]);
 }
 
 typedef bool on_filter(uint64_t *, size_t, uint64_t, uint32_t, const void *, size_t);
@@ -286,6 +260,38 @@ static void check_states_of_any_bytes(void) {
     munmap(room, 3 * page);
 }
 
+// A hash by its number: found by its name, which the number has, and the same in each call that takes a number.
+static void check_number(const struct kind *k) {
+    size_t n = strlen(k->name);
+    uint32_t number = hashers_kind(k->name, n);
+    char name[32] = {0};
+    same("the length of a name", n, hashers_name(number, name, sizeof name));
+    same("a name", 0, (uint64_t)strcmp(k->name, name));
+    name[2] = '~';
+    same("the length of a name without room", n, hashers_name(number, name, 2));
+    same("a name without room", '~', (unsigned char)name[2]);
+    same("a hash by number", k->of(text, 100), hashers_hash(number, text, 100));
+    check_column(k->of, number);
+    check_lines(k->of, number);
+}
+
+// There are as many hashes as the header says, and no others.
+static void check_numbers(void) {
+    uint64_t kept = 7;
+    same("as many hashes as the header says", KINDS, HASHERS_KINDS);
+    static const char *const order[] = {"fnv1a32", "fnv1a64", "djb2", "sdbm", "loselose", "bricolage", "oaat", "lookup3", "spooky", "spooky_v1",
+        "passthrough", "fxhash", "fxhash32", "fxhash64", "crc32", "crc32c", "fnv1_32", "fnv1_64", "djb2_add", "joaat", "elf", "null"};
+    for (uint32_t i = 0; i < KINDS; i++) same("a number that never changes", i, hashers_kind(order[i], strlen(order[i])));
+    same("a constant", HASHERS_ELF, hashers_kind("elf", 3));
+    same("a number of no hash has no name", 0, hashers_name(HASHERS_KINDS, NULL, 0));
+    same("a name of no hash has a number of none", 1, hashers_kind("fnv", 3) >= HASHERS_KINDS && hashers_kind(NULL, 0) >= HASHERS_KINDS);
+    same("a hash by a number of no hash", 0, hashers_hash(HASHERS_KINDS, text, 1));
+    same("a column by a number of no hash", 0, hashers_column64(HASHERS_KINDS, NULL, 0, (uint64_t[]){0, 0}, 2, &kept, 1));
+    same("lines by a number of no hash", 0, hashers_lines(UINT32_MAX, "a\n", 2, &kept, 1));
+    same("which writes nothing", 7, kept);
+    same("no texts from a place past the end", 0, hashers_column64(HASHERS_FNV1A64, "", 0, (uint64_t[]){5}, 1, NULL, 0));
+}
+
 int main(void) {
     for (size_t i = 0; i < sizeof text; i++) text[i] = (unsigned char)(random_number() >> 32);
     same("version", HASHERS_VERSION, hashers_version());
@@ -297,8 +303,8 @@ int main(void) {
     check_oaat_state();
     check_spooky();
     check_combine();
-    for (size_t i = 0; i < sizeof columns / sizeof *columns; i++) check_column(columns + i);
-    for (size_t i = 0; i < sizeof by_line / sizeof *by_line; i++) check_lines(by_line + i);
+    for (const struct kind *k = kinds; k < kinds + KINDS; k++) check_number(k);
+    check_numbers();
     check_filter(hashers_fnv1a64, hashers_lookup3, hashers_bloom_fnv1a64_lookup3_insert, hashers_bloom_fnv1a64_lookup3_contains);
     check_filter(hashers_spooky, hashers_lookup3, hashers_bloom_spooky_lookup3_insert, hashers_bloom_spooky_lookup3_contains);
     check_states_of_any_bytes();

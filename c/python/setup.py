@@ -1,10 +1,19 @@
 """Puts libhashers.so.1 into the package: from the folder HASHERS_LIB_DIR, or from where `make -C c TARGET=x86-64` leaves it."""
 import os
 import shutil
+import sys
 
 from setuptools import setup
 from setuptools.command.build_py import build_py
-from wheel.bdist_wheel import bdist_wheel
+
+try:
+    # setuptools has it from 70.1 on
+    from setuptools.command.bdist_wheel import bdist_wheel
+except ImportError:
+    try:
+        from wheel.bdist_wheel import bdist_wheel
+    except ImportError:
+        sys.exit("setup.py: the package wheel is not installed (Debian's python3-wheel)")
 
 HERE = os.path.dirname(os.path.abspath(__file__))
 LIBRARY = os.path.join(os.environ.get("HASHERS_LIB_DIR", os.path.join(HERE, "..", "target", "x86-64")), "libhashers.so.1")

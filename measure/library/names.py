@@ -16,12 +16,12 @@ def rows_in(path, row):
 
 def names():
     """In the order of the table."""
-    return rows_in("crates/hash_names/src/lib.rt", r'^ *"(\w+)" => ')
+    return rows_in("crates/hash_names/src/table.rt", r'^ *Kind::\w+ => entry\("(\w+)"')
 
 
 def unlike_names():
-    """Those of which no two spread alike: fxhash64 answers as fxhash, and version 1 of SpookyHash spreads as SpookyHash does."""
-    return [name for name in names() if name not in ("fxhash64", "spooky_v1")]
+    """The original's, of which no two spread alike: fxhash64 answers as fxhash, and version 1 of SpookyHash spreads as SpookyHash does."""
+    return [name for name in names() if original_of(name) and name not in ("fxhash64", "spooky_v1")]
 
 
 def hashers_of_original():

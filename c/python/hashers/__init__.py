@@ -7,6 +7,8 @@
     >>> h.update(b"b")
     >>> h.intdigest(), h.hexdigest()
     (5860902, '00596e26')
+    >>> hashers.djb2(b"b", hash=hashers.djb2(b"a"))
+    5860902
 
 Data is any object with a contiguous buffer: bytes, bytearray, memoryview, array, mmap, an array of numpy. It is read where it lies, and
 may not be written while a call runs. The GIL is let go meanwhile. None of the functions protects against chosen keys.

@@ -2,71 +2,101 @@
 from __future__ import annotations
 
 from abc import ABC, abstractmethod
-from ctypes import byref
-from threading import Lock
-from typing import TYPE_CHECKING, Callable, Dict, Optional, SupportsIndex, Tuple
+from ctypes import byref, sizeof
+from threading import RLock
+from typing import TYPE_CHECKING, Any, Callable, Dict, List, Optional, Protocol, SupportsIndex, Tuple
 
 from ._library import Held, State, Words, call, has, over, word
 
 if TYPE_CHECKING:
     from _typeshed import ReadableBuffer as Buffer
 
-    Function = Callable[[Buffer], int]
-else:
-    Function = Callable[..., int]
+
+class Function(Protocol):
+    """A function of the data that answers its hash; where `hash` is given, the hash so far with the data behind."""
+    __name__: str
+
+    def __call__(self, data: Buffer, *, hash: Optional[SupportsIndex] = None) -> int: ...
+
 
 _functions: Dict[str, Function] = {}
-_bits: Dict[str, int] = {}
+_bits: Dict[str, int] = {"spooky128": 128}
+# the hash of no bytes
+_starts: Dict[str, int] = {}
+# how many bytes are taken at a time, where it is not one
+_blocks = {"lookup3": 12, "spooky": 96, "spooky_v1": 96, "spooky128": 96, "fxhash": 8, "fxhash32": 4, "fxhash64": 8}
+_spooky_finish = {"spooky": call("spooky_finish"), "spooky_v1": call("spooky_finish_v1"), "spooky128": call("spooky_finish")}
+numbers: Dict[str, int] = {}
 
 
-def _function(name: str, bits: int) -> Function:
+def _write_of(name: str) -> Callable[..., int]:
+    """The call that goes on from a hash; ValueError where a hash does not tell its state."""
+    if name in _spooky_finish:
+        raise ValueError(f"{name} does not go on from a number")
+    return call(name + "_write")
+
+
+def _function(name: str, bits: int, number: int) -> Function:
     """The function of that name, which is then one of the algorithms."""
     whole = call(name)
 
-    def function(data: Buffer) -> int:
-        if type(data) is bytes:
-            answer: int = whole(data, len(data))
+    def function(data: Buffer, *, hash: Optional[SupportsIndex] = None) -> int:
+        if hash is not None:
+            answer: int = over(_write_of(name), data, before=(word(hash),))
+        elif type(data) is bytes:
+            answer = whole(data, len(data))
         else:
             answer = over(whole, data)
         return answer
 
     function.__name__ = function.__qualname__ = name
-    function.__doc__ = f"The hash {name} of the data, of {bits} bits."
-    _functions[name], _bits[name] = function, bits
+    function.__doc__ = f"The hash {name} of the data, of {bits} bits; where `hash` is given, the hash so far with the data behind."
+    _functions[name], _bits[name], _starts[name], numbers[name] = function, bits, whole(b"", 0), number
     return function
 
 
-fnv1a32 = _function("fnv1a32", 32)
-fnv1a64 = _function("fnv1a64", 64)
-djb2 = _function("djb2", 32)
-sdbm = _function("sdbm", 32)
-loselose = _function("loselose", 64)
-bricolage = _function("bricolage", 64)
-oaat = _function("oaat", 64)
-lookup3 = _function("lookup3", 64)
-spooky = _function("spooky", 64)
-spooky_v1 = _function("spooky_v1", 64)
-null = _function("null", 64)
-passthrough = _function("passthrough", 64)
-fxhash = _function("fxhash", 64)
-fxhash32 = _function("fxhash32", 32)
-fxhash64 = _function("fxhash64", 64)
-crc32 = _function("crc32", 32)
-crc32c = _function("crc32c", 32)
-fnv1_32 = _function("fnv1_32", 32)
-fnv1_64 = _function("fnv1_64", 64)
-djb2_add = _function("djb2_add", 32)
-joaat = _function("joaat", 32)
-elf = _function("elf", 28)
+# declared: functions
+fnv1a32 = _function("fnv1a32", 32, 0)
+fnv1a64 = _function("fnv1a64", 64, 1)
+djb2 = _function("djb2", 32, 2)
+sdbm = _function("sdbm", 32, 3)
+loselose = _function("loselose", 64, 4)
+bricolage = _function("bricolage", 64, 5)
+oaat = _function("oaat", 64, 6)
+lookup3 = _function("lookup3", 64, 7)
+spooky = _function("spooky", 64, 8)
+spooky_v1 = _function("spooky_v1", 64, 9)
+passthrough = _function("passthrough", 64, 10)
+fxhash = _function("fxhash", 64, 11)
+fxhash32 = _function("fxhash32", 32, 12)
+fxhash64 = _function("fxhash64", 64, 13)
+crc32 = _function("crc32", 32, 14)
+crc32c = _function("crc32c", 32, 15)
+fnv1_32 = _function("fnv1_32", 32, 16)
+fnv1_64 = _function("fnv1_64", 64, 17)
+djb2_add = _function("djb2_add", 32, 18)
+joaat = _function("joaat", 32, 19)
+elf = _function("elf", 28, 20)
+null = _function("null", 64, 21)
+# end of declared
 
-algorithms_available = frozenset(_functions)
+algorithms_available = frozenset(_bits)
 
 
 def known(name: str) -> str:
-    """The name, if it is one of the algorithms; else a ValueError."""
-    if name not in _functions:
+    """The name in small letters, if it is one of the algorithms; else a ValueError."""
+    if not isinstance(name, str):
+        raise TypeError(f"the name of a hash is a str, not {type(name).__name__}")
+    if name.lower() not in algorithms_available:
         raise ValueError(f"unsupported hash type {name}")
-    return name
+    return name.lower()
+
+
+def number_of(name: str) -> int:
+    """The number by which the library knows the hash of that name; ValueError for spooky128, whose hashes fit no 64 bits."""
+    if known(name) not in numbers:
+        raise ValueError(f"{name} has more than 64 bits")
+    return numbers[known(name)]
 
 
 def _pair(words: Words) -> Tuple[int, int]:
@@ -92,18 +122,22 @@ def combine(name: str, hash1: SupportsIndex, hash2: SupportsIndex, length2: Supp
     law: sdbm, loselose, passthrough, crc32 and crc32c have."""
     if not has(known(name) + "_combine"):
         raise ValueError(f"{name} of two texts joined does not follow from their hashes")
-    answer: int = call(name + "_combine")(word(hash1), word(hash2), word(length2))
+    answer: int = call(known(name) + "_combine")(word(hash1), word(hash2), word(length2))
     return answer
 
 
 class Hash(ABC):
-    """The hash of a text that comes in parts, as `new` makes it. A thread that updates it keeps other threads waiting."""
+    """The hash of a text that comes in parts, as `new` makes it. A thread that updates it keeps other threads waiting; a signal's handler
+    may update it too. A copy, by `copy` or the module of that name, goes on by itself, and so does what pickle brings elsewhere."""
 
     def __init__(self, name: str) -> None:
-        self._name, self._lock = known(name), Lock()
+        self._name, self._lock = known(name), RLock()
 
     def __repr__(self) -> str:
         return f"<{self._name} hash of hashers>"
+
+    @abstractmethod
+    def __reduce__(self) -> Tuple[Callable[..., Hash], Tuple[Any, ...]]: ...
 
     @property
     def name(self) -> str:
@@ -112,8 +146,13 @@ class Hash(ABC):
 
     @property
     def digest_size(self) -> int:
-        """How many bytes the digest has: 4 or 8."""
+        """How many bytes the digest has: 4, 8 or 16."""
         return (_bits[self._name] + 7) // 8
+
+    @property
+    def block_size(self) -> int:
+        """How many bytes the hash function takes at a time; of SpookyHash, where the text is long."""
+        return _blocks.get(self._name, 1)
 
     @abstractmethod
     def update(self, data: Buffer) -> None:
@@ -121,12 +160,16 @@ class Hash(ABC):
 
     def unwrite(self, data: Buffer) -> None:
         """Takes the last bytes out again: from every state, update and unwrite of the same bytes lead back to it, in either order.
-        ValueError for lookup3, the two of SpookyHash, null, passthrough and elf, which cannot."""
+        ValueError for lookup3, those of SpookyHash, null, passthrough and elf, which cannot."""
         raise ValueError(f"{self._name} cannot be unwritten")
 
     def words(self) -> Tuple[int, int]:
-        """Both words of the hash of 128 bits. ValueError but for the two of SpookyHash."""
+        """Both words of the hash of 128 bits. ValueError but for those of SpookyHash."""
         raise ValueError(f"{self._name} has no 128 bits")
+
+    @abstractmethod
+    def reset(self) -> None:
+        """Goes back to where it began: to no bytes, under the seeds or from the hash that `new` was given."""
 
     @abstractmethod
     def copy(self) -> Hash:
@@ -146,19 +189,23 @@ class Hash(ABC):
 
 
 class _NumberHash(Hash):
-    """A hash whose value is all that it keeps."""
+    """A hash whose value is all that it keeps: where it began, and where it is."""
 
-    def __init__(self, name: str, value: int) -> None:
+    def __init__(self, name: str, start: int, now: int) -> None:
         super().__init__(name)
-        self._write, self._value = call(name + "_write"), value
+        self._write, self._start, self._now = _write_of(self._name), start, [now]
+
+    def __reduce__(self) -> Tuple[Callable[..., Hash], Tuple[Any, ...]]:
+        return _NumberHash, (self._name, self._start, self._now[0])
 
     def _go(self, on: Callable[..., int], data: Buffer) -> None:
+        # The list takes the new number by one step of the interpreter, so a signal's handler sees the one before or the one behind.
         with self._lock:
             if type(data) is bytes:
-                self._value = on(self._value, data, len(data))
+                self._now[:] = map(on, self._now, (data,), (len(data),))
             else:
                 with Held(data) as held:
-                    self._value = on(self._value, held.address, held.length)
+                    self._now[:] = map(on, self._now, (held.address,), (held.length,))
 
     def update(self, data: Buffer) -> None:
         self._go(self._write, data)
@@ -168,24 +215,34 @@ class _NumberHash(Hash):
             super().unwrite(data)
         self._go(call(self._name + "_unwrite"), data)
 
+    def reset(self) -> None:
+        with self._lock:
+            self._now[:] = [self._start]
+
     def copy(self) -> Hash:
-        return _NumberHash(self._name, self._value)
+        return _NumberHash(self._name, self._start, self._now[0])
 
     def intdigest(self) -> int:
-        return self._value
+        return self._now[0]
 
 
 _spooky_begin = call("spooky_begin")
 _spooky_write = call("spooky_write")
-_spooky_finish = {"spooky": call("spooky_finish"), "spooky_v1": call("spooky_finish_v1")}
 
 
 class _SpookyHash(Hash):
     """SpookyHash, whose state is of 312 bytes."""
 
-    def __init__(self, name: str, state: State) -> None:
+    def __init__(self, name: str, seeds: Tuple[int, int], state: Optional[bytes] = None) -> None:
         super().__init__(name)
-        self._state = state
+        if state is not None and len(state) != sizeof(State):
+            raise ValueError(f"a state has {sizeof(State)} bytes, not {len(state)}")
+        self._seeds = seeds
+        self._state: State = _spooky_begin(*seeds) if state is None else State.from_buffer_copy(state)
+
+    def __reduce__(self) -> Tuple[Callable[..., Hash], Tuple[Any, ...]]:
+        with self._lock:
+            return _SpookyHash, (self._name, self._seeds, bytes(self._state))
 
     def update(self, data: Buffer) -> None:
         with self._lock, Held(data) as held:
@@ -195,23 +252,36 @@ class _SpookyHash(Hash):
         with self._lock:
             return _pair(_spooky_finish[self._name](byref(self._state)))
 
+    def reset(self) -> None:
+        with self._lock:
+            self._state = _spooky_begin(*self._seeds)
+
     def copy(self) -> Hash:
         with self._lock:
-            return _SpookyHash(self._name, State.from_buffer_copy(self._state))
+            return _SpookyHash(self._name, self._seeds, bytes(self._state))
 
     def intdigest(self) -> int:
-        return self.words()[0]
+        first, second = self.words()
+        return first << 64 | second if _bits[self._name] == 128 else first
 
 
-def new(name: str, data: Buffer = b"", *, seeds: Optional[Tuple[SupportsIndex, SupportsIndex]] = None) -> Hash:
-    """A hash of the data, to be updated. ValueError for an unknown name; `algorithms_available` has the names. Only the two of SpookyHash
-    take seeds, two numbers below 2^64."""
-    known(name)
+def new(name: str, data: Buffer = b"", *, hash: Optional[SupportsIndex] = None, usedforsecurity: bool = False,
+        seeds: Optional[Tuple[SupportsIndex, SupportsIndex]] = None) -> Hash:
+    """A hash of the data, to be updated. ValueError for an unknown name; `algorithms_available` has the names, and letters may be of either
+    case. Where `hash` is given, it goes on from there, and the data comes behind; those of SpookyHash cannot. They alone take seeds, two
+    numbers below 2^64. No hash here is for security."""
+    name = known(name)
+    if usedforsecurity:
+        raise ValueError("none of these hashes is for security")
     if name in _spooky_finish:
-        seed1, seed2 = seeds or (0, 0)
-        spooky_hash = _SpookyHash(name, _spooky_begin(word(seed1), word(seed2)))
-        spooky_hash.update(data)
-        return spooky_hash
-    if seeds is not None:
-        raise ValueError(f"{name} takes no seeds")
-    return _NumberHash(name, _functions[name](data))
+        if hash is not None:
+            raise ValueError(f"{name} does not go on from a number")
+        seed1, seed2 = (0, 0) if seeds is None else seeds
+        made: Hash = _SpookyHash(name, (word(seed1), word(seed2)))
+    else:
+        if seeds is not None:
+            raise ValueError(f"{name} takes no seeds")
+        start = _starts[name] if hash is None else _functions[name](b"", hash=hash)
+        made = _NumberHash(name, start, start)
+    made.update(data)
+    return made

@@ -7,7 +7,7 @@ from functools import lru_cache
 from operator import index
 from pathlib import Path
 from types import TracebackType
-from typing import Any, Callable, Dict, Optional, SupportsIndex, Type
+from typing import Any, Callable, Dict, Optional, SupportsIndex, Tuple, Type
 
 _beside = Path(__file__).with_name("libhashers.so.1")
 _library = ctypes.CDLL(str(_beside) if _beside.exists() else _beside.name)
@@ -24,11 +24,14 @@ class State(ctypes.Structure):
 
 
 _TEXT = (c_void_p, c_size_t)
-# How the calls end, what they answer, and what they take. Where several fit, the longest end is the call's.
+# The calls by their names, or by how these end, with what they answer and what they take. If several ends fit, the longest is the call's.
 FORMS: Dict[str, Any] = {
-    "_column32": (c_bool, *_TEXT, *_TEXT, *_TEXT),
-    "_column64": (c_bool, *_TEXT, *_TEXT, *_TEXT),
-    "_lines": (c_size_t, *_TEXT, *_TEXT),
+    "kind": (c_uint32, *_TEXT),
+    "name": (c_size_t, c_uint32, *_TEXT),
+    "hash": (c_uint64, c_uint32, *_TEXT),
+    "column32": (c_bool, c_uint32, *_TEXT, *_TEXT, *_TEXT),
+    "column64": (c_bool, c_uint32, *_TEXT, *_TEXT, *_TEXT),
+    "lines": (c_size_t, c_uint32, *_TEXT, *_TEXT),
     "_write": (c_uint64, c_uint64, *_TEXT),
     "_state_finish": (c_uint64, c_uint64),
     "_unwrite": (c_uint64, c_uint64, *_TEXT),
@@ -51,8 +54,8 @@ FORMS: Dict[str, Any] = {
 def call(name: str) -> Callable[..., Any]:
     """The library's call hashers_NAME; AttributeError where it has none. The GIL is let go while it runs."""
     function = _library["hashers_" + name]
-    ending = max((it for it in FORMS if name.endswith(it)), key=len)
-    function.restype, *function.argtypes = FORMS[ending]
+    ending = max((it for it in FORMS if it.startswith("_") and name.endswith(it)), key=len, default="")
+    function.restype, *function.argtypes = FORMS.get(name, FORMS[ending])
     return function
 
 
@@ -113,9 +116,9 @@ class Held:
                 raise ValueError("a buffer that is written overlaps one that is read")
 
 
-def over(function: Callable[..., Any], data: object, *rest: object) -> Any:
-    """What the call answers over the data and the rest."""
+def over(function: Callable[..., Any], data: object, *rest: object, before: Tuple[object, ...] = ()) -> Any:
+    """What the call answers over the data, with what comes before it and the rest."""
     if type(data) is bytes:
-        return function(data, len(data), *rest)
+        return function(*before, data, len(data), *rest)
     with Held(data) as held:
-        return function(held.address, held.length, *rest)
+        return function(*before, held.address, held.length, *rest)

@@ -4,7 +4,7 @@ from __future__ import annotations
 from array import array
 from typing import TYPE_CHECKING, Optional, TypeVar, Union, overload
 
-from ._hashes import known
+from ._hashes import number_of
 from ._library import Held, call
 
 if TYPE_CHECKING:
@@ -16,12 +16,12 @@ Out = TypeVar("Out", bound="Buffer")
 def hash_lines(name: str, data: Buffer) -> array[int]:
     """The hash of each line, as an array of 64 bits each. A newline ends a line and is none of its bytes; the last line may have none, and
     no bytes have no line."""
-    lines = call(known(name) + "_lines")
+    lines, number = call("lines"), number_of(name)
     with Held(data) as text:
-        count = lines(text.address, text.length, None, 0)
+        count = lines(number, text.address, text.length, None, 0)
         hashes = array("Q", bytes(8 * count))
         with Held(hashes, writable=True) as room:
-            lines(text.address, text.length, room.address, count)
+            lines(number, text.address, text.length, room.address, count)
     return hashes
 
 
@@ -43,7 +43,7 @@ def hash_column(name: str, offsets: Buffer, data: Buffer, out: Optional[Out] = N
     """The hash of each text of a column, where text i lies in the data from offset i to offset i + 1, as in Arrow's columns of strings.
     The offsets are an array of 32 or 64 bits each, one more than there are texts. The hashes go to `out`, a buffer of 8 bytes for each
     text, or to a new array. ValueError, and nothing is written, where the offsets fall or pass the data."""
-    known(name)
+    number = number_of(name)
     with memoryview(offsets) as view, Held(data) as text, Held(offsets) as places:
         width = _width(view, text.length)
         count = places.items(width // 8) - 1
@@ -54,6 +54,6 @@ def hash_column(name: str, offsets: Buffer, data: Buffer, out: Optional[Out] = N
             room.apart(text, places)
             if room.items(8) != count:
                 raise ValueError(f"out has room for {room.items(8)} hashes, not for {count}")
-            if not call(f"{name}_column{width}")(text.address, text.length, places.address, count + 1, room.address, count):
+            if not call(f"column{width}")(number, text.address, text.length, places.address, count + 1, room.address, count):
                 raise ValueError("the offsets fall, or pass the data")
     return hashes

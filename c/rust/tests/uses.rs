@@ -95,7 +95,7 @@ fn two_texts_are_combined() {
 fn lines_and_a_filter_by_the_calls_of_c() {
     let mut hashes = [0; 3];
     // SAFETY: the text has four bytes, and there is room for three hashes.
-    let lines = unsafe { c::hashers_fnv1a64_lines(b"a\n\nb".as_ptr(), 4, hashes.as_mut_ptr(), 3) };
+    let lines = unsafe { c::hashers_lines(c::FNV1A64, b"a\n\nb".as_ptr(), 4, hashes.as_mut_ptr(), 3) };
     assert_eq!((lines, hashes), (3, [fnv1a64(b"a"), fnv1a64(b""), fnv1a64(b"b")]));
     let mut words = [0u64; 16];
     // SAFETY: there are 16 words and a key of three bytes.

@@ -4,7 +4,7 @@ use Rattle.std.specs.Io.KnownBytes.{Appends, Keeps}
 use Rattle.std.specs.Result.{IsErr}
 use Rattle.std.proofs.KnownBytes.{Appends-kept, Appends-nil, Appends-trans}
 use Rattle.std.proofs.lemmas.Bool.{false≢true}
-use Rattle.std.proofs.lemmas.List.{append-nil, nil_from_length, drop-drop, drop-set-lt, get_or-drop, get_or-map, length-map, map-set, take_all, take_more, take_more_set}
+use Rattle.std.proofs.lemmas.List.{append-nil, nil_from_length, drop-drop, drop-set-lt, get_or-drop, get_or-map, length-map, map-set, take_more, take_more_set}
 use Rattle.std.proofs.Math.Seq.{drop-cons}
 use Rattle.hash_program.specs.Streams.{AppendsPart}
 use Rattle.std.specs.Option.{is_some}
@@ -161,15 +161,6 @@ module _ (output : List (List ℕ) → List ℕ) (eol limit : ℕ) where
         ),
         (so_far.ls ++ all, begins_next all begins_all, omega (arith, so_far.counted, over, length-append so_far.ls all)),
       )
-
-    -- all inputs are read
-    pub all_taken : length lefts ≡ place → length lefts' ≡ place
-        → IsWithin eol whole limit (record { left = lefts; left' = lefts'; written = w; written' = w' }) so_far.ls
-    all_taken long long' = record {
-      read = subst (λ l. AreRead eol whole l lefts' so_far.ls) (take_all place lefts (omega (arith, long)))
-          (subst (λ l. AreRead eol whole (take place lefts) l so_far.ls) (take_all place lefts' (omega (arith, long'))) so_far.read);
-      few = omega (arith, so_far.counted);
-    }
 
 -- an error that is handed on
 pub handed_on : (output : List (List ℕ) → List ℕ) (after : List (List ℕ) → Type 0) (eol limit : ℕ) (run : Run)

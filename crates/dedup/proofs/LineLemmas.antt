@@ -81,9 +81,6 @@ module _ (eol : ℕ) where
       let all : List ℕ = byte ∷ line in
       ends_some eol all (omega arith) ∙ ne_eqb _ eol (bare (length all - 1) (omega arith))
 
-  pub bare_text : (line : List ℕ) → IsBare eol line → strip_last eol line ≡ line
-  bare_text line bare = ap (λ b. cond b (take (length line - 1) line) line) (bare_end line bare)
-
   -- a line that is longer than its text has its end
   pub line_with_end : (line : List ℕ) → length (strip_last eol line) < length line → as_line_by eol line ≡ line
   line_with_end line longer = at (ends_with_byte eol line) refl longer

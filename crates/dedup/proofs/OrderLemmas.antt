@@ -1,8 +1,8 @@
 -- Texts that are written in order, with how often each came.
-use Rattle.std.proofs.Common.{◌≡◌, ℕ, ◌+◌, ◌<◌, ◌≤◌, List, [], ◌∷◌, ◌++◌, length, get_or, take, drop, map, ap, sym, subst, ◌∙◌, refl, arith, append_assoc, take-append-drop, Option}
+use Rattle.std.proofs.Common.{◌≡◌, ℕ, ◌+◌, ◌<◌, ◌≤◌, List, [], ◌∷◌, ◌++◌, length, get_or, take, drop, map, ap, sym, subst, ◌∙◌, arith, append_assoc, take-append-drop, Option}
 use Rattle.std.specs.Io.BufRead.{strip_last}
 use Rattle.std.specs.Io.KnownBytes.{Appends, Keeps}
-use Rattle.std.proofs.KnownBytes.{Appends-nil, Appends-trans, Appends-kept}
+use Rattle.std.proofs.KnownBytes.{Appends-trans, Appends-kept}
 use Rattle.std.specs.List.{count_by, flat_map}
 use Rattle.std.proofs.lemmas.List.{append-nil, length-map, get_or-map, take_more, take_all}
 use Rattle.std.proofs.lemmas.Grind.{flat_map-append}
@@ -49,10 +49,6 @@ module _ (eol : ℕ) where
         (take i (firsts_by eol ls)) ++ flat_map (shown_line eol which ls) (drop i (firsts_by eol ls))
     told_rest i = ap (flat_map (shown_line eol which ls)) (sym (take-append-drop i (firsts_by eol ls)))
         ∙ flat_map-append (shown_line eol which ls) (take i (firsts_by eol ls)) (drop i (firsts_by eol ls))
-
-  pub telling_start : (which : Which) (order : List (List ℕ)) (times : List ℕ) (before : Option (List ℕ))
-      → Telling which order times before before 0
-  telling_start which order times before = record { part = []; written = Appends-nil before; is = λ ls in_order counted. refl }
 
   module _ (which : Which) (order : List (List ℕ)) (times : List ℕ) (before after : Option (List ℕ)) (i : ℕ)
       (told : Telling which order times before after i) where

@@ -4,7 +4,7 @@ use Rattle.std.specs.Io.{StopsAt}
 use Rattle.std.specs.Io.BufRead.{ends_with_byte}
 use Rattle.std.specs.Io.KnownBytes.{Consumes, Appends, Keeps, IsAtEnd}
 use Rattle.std.specs.List.{filter}
-use Rattle.std.proofs.KnownBytes.{Consumes-nil, Consumes-trans, Appends-kept}
+use Rattle.std.proofs.KnownBytes.{Consumes-trans, Appends-kept}
 use Rattle.std.proofs.lemmas.Bool.{cases_lt, false≢true}
 use Rattle.std.proofs.Math.Seq.{take-append_seam, drop-append_seam, get_or-append_right}
 use Rattle.std.proofs.lemmas.List.{append-nil, get_or_append_left, length-take-le, nil_from_length}
@@ -197,14 +197,6 @@ module _ (eol : ℕ) where
 
   pub bare_nothing : (bytes : List ℕ) → bytes ≡ [] → IsBare eol bytes
   bare_nothing bytes none = λ k below. absurd (omega (arith, below, ap length none))
-
-  pub reads_start : (limit : ℕ) (start : Option (List ℕ)) (unread : List ℕ) → unread ≡ [] → Reads limit start start unread limit []
-  reads_start limit start unread none = record {
-    read = subst (Consumes start start) (sym none) (Consumes-nil start);
-    whole = whole_nothing eol;
-    counted = omega arith;
-    bare = bare_nothing unread none;
-  }
 
   pub bare_both : (a b : List ℕ) → IsBare eol a → IsBare eol b → IsBare eol (a ++ b)
   bare_both a b bare_a bare_b = λ k below. elim (cases_lt k (length a)) [

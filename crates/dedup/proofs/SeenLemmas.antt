@@ -104,11 +104,6 @@ pub on_err : {A E : Type 0} (P : Type 0) (result : Result A E) → P → OnErr r
 on_err P (Ok it) holds = tt
 on_err P (Err error) holds = holds
 
--- what holds holds at a success
-pub on_ok : {A E : Type 0} (P : Type 0) (result : Result A E) → P → OnOk result P
-on_ok P (Ok it) holds = holds
-on_ok P (Err error) holds = tt
-
 -- what holds at a success holds where there is one
 pub at_ok : {A E : Type 0} (P : Type 0) (result : Result A E) → is_ok result ≡ true → OnOk result P → P
 at_ok P (Ok it) is holds = holds

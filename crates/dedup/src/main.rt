@@ -19,6 +19,7 @@ use fault::Fault;
 use hash_program::about::About;
 use hash_program::call::operands;
 use hash_program::inputs::{Told, inputs};
+use hash_program::quoted::quoted;
 use hash_program::reason::reason;
 use hash_program::words::words;
 use hash_texts::RandomKeys;
@@ -81,7 +82,7 @@ fn why(rt: &HostRuntime, words: &[Vec<u8>], outcome: &Outcome) -> Option<String>
     let alloc = rt.alloc();
     match outcome {
         Outcome::Usage => match unknown_option(words) {
-            Some(word) => match String::from_utf8_lossy(alloc, word) {
+            Some(word) => match quoted(alloc, word) {
                 Ok(text) => Some(text),
                 Err(_) => None,
             },

@@ -54,7 +54,8 @@ fn to_front(bytes: &mut Vec<u8>, from: usize, to: usize)
     }
 }
 
-/// Makes room behind so many bytes: half of `BUFFER` at least.
+/// Makes room behind so many bytes: half of `BUFFER` at least. What it adds is filled with zero bytes, so it adds little: a long line then
+/// takes its own length in memory, and `Vec` sees to it that few of these calls move it.
 fn make_room(bytes: &mut Vec<u8>, to: usize) -> Result<(), Fault>
     requires { to ≤ length bytes.old.items }
     ensures room { OnOk result (to < length bytes.new.items) }
@@ -63,7 +64,7 @@ fn make_room(bytes: &mut Vec<u8>, to: usize) -> Result<(), Fault>
 {
     let len = bytes.len();
     if len - to < BUFFER / 2 {
-        match len.checked_add(len.max(BUFFER)) {
+        match len.checked_add(BUFFER) {
             Some(more) => bytes.resize(more, 0)?,
             None => return Err(Fault::NoMemory),
         }

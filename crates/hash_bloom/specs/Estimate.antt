@@ -7,7 +7,7 @@ pub record IsLog2 (parts above below log : ℕ) : Type 0 where
   pub reached : 2 ^ log * below ^ parts ≤ above ^ parts
   pub nearly : above ^ parts < 2 ^ (log + 2) * below ^ parts
 
--- bits / probes * ln (bits / zeros), by ln 2 as 0.693147181, to the nearest whole number, and at most 2 ^ 64 - 1
+-- bits / probes * ln (bits / zeros), by ln 2 as 0.693147181, rounded to a whole number, and at most 2 ^ 64 - 1
 pub record IsEstimate (filter : Filter) (keys : ℕ) : Type 0 where
   pub log : ℕ
   pub is_log : IsLog2 (2 ^ 28) filter.bits (filter.bits - count_set filter.words filter.bits) log

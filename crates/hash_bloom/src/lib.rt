@@ -191,8 +191,9 @@ impl<F: Piecewise, G: Piecewise> Bloom<F, G> {
     /// Baldi, "Mathematical Correction for Fingerprint Similarity Measures to Improve Chemical Retrieval", 2007). `None` exactly where
     /// all bits are set, which tells nothing.
     ///
-    /// It is computed in whole numbers. The logarithm to base 2 is taken in parts of 2^28, at most two parts too low, times 0.693147181.
-    /// The answer is rounded to the nearest whole number, and at most 2^64 - 1. It goes over all words.
+    /// It is computed in whole numbers: the logarithm to base 2 in parts of 2^28, at most two parts too low, times 0.693147181. The result
+    /// is rounded, and need not be the nearest whole number: at 7 probes it may be off by one key at 10^9 bits, and by 811 at 2^40. It is
+    /// at most 2^64 - 1. It goes over all words.
     pub fn estimate(&self) -> Option<u64>
         ensures none { IsNone result ↔ (count_set self.now.words self.now.bits ≡ self.now.bits) }
         ensures some { IfSome result (IsEstimate self.now) }

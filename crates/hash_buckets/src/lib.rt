@@ -14,7 +14,7 @@ use hashers::laws::{Piecewise, bucket_of};
 use std::alloc::{AllocError, AllocFailed, Global};
 use std::error::Error as StdError;
 use std::fmt;
-use std::fmt::{Display, Formatter};
+use std::fmt::{Debug, Display, Formatter};
 use std::marker::{Model, PhantomData};
 
 /// A finite map from byte texts to numbers: `N` lists of pairs in one `Vec`. A key stands in the list whose number is its hash
@@ -38,8 +38,19 @@ impl<H: Piecewise, const N: usize> Model for Buckets<H, N> {
 }
 
 /// There is no memory for a table's lists.
-#[derive(Debug, Drop)]
 pub struct NoTable;
+
+impl Drop for NoTable {
+    fn drop(self) {
+        let Self = self;
+    }
+}
+
+impl Debug for NoTable {
+    fn fmt<W: fmt::Write>(&self, f: &mut Formatter<W>) -> fmt::Result {
+        write!(f, "NoTable")
+    }
+}
 
 impl Display for NoTable {
     fn fmt<W: fmt::Write>(&self, f: &mut Formatter<W>) -> fmt::Result {
@@ -50,10 +61,33 @@ impl Display for NoTable {
 impl StdError for NoTable {}
 
 /// There is no memory for a new key: the key and its value come back.
-#[derive(Debug, Drop)]
 pub struct NoRoom {
+    /// The key.
     pub key: Vec<u8>,
+    /// Its value.
     pub value: u64,
+}
+
+impl NoRoom {
+    /// The key and its value.
+    pub fn into_parts(self) -> (Vec<u8>, u64)
+        ensures { result ≡ (self.key, self.value) }
+    {
+        let Self { key, value } = self;
+        (key, value)
+    }
+}
+
+impl Drop for NoRoom {
+    fn drop(self) {
+        let Self { key: _, value: _ } = self;
+    }
+}
+
+impl Debug for NoRoom {
+    fn fmt<W: fmt::Write>(&self, f: &mut Formatter<W>) -> fmt::Result {
+        write!(f, "NoRoom {{ key: {:?}, value: {} }}", self.key, self.value)
+    }
 }
 
 impl Display for NoRoom {
@@ -278,7 +312,7 @@ pub fn obey_all<H: Piecewise, const N: usize>(
     for command in commands {
         match obey(table, command) {
             Ok(reply) => replies.push(reply)?,
-            Err(NoRoom { key: _, value: _ }) => return Err(AllocError),
+            Err(NoRoom { .. }) => return Err(AllocError),
         }
     }
     Ok(replies)

@@ -6,7 +6,8 @@ ghost use Rattle.hash_bytes.specs.Fnv.{fnv1a32_step, fnv1a64_step, fnv0, fnv1a32
 ghost use Rattle.hash_bytes.specs.FnvLaws.{fnv1a32_facts, fnv1a64_facts};
 
 use hash_laws::build::BuildFresh;
-use hash_rules::{ByteHasher, Plain, PlainRule, PlainUndo, whole_text};
+use hash_laws::traits::hash_of;
+use hash_rules::{ByteHasher, Plain, PlainRule, PlainUndo};
 use std::collections::{HashMap, HashSet};
 
 /// The start at 32 bits, which the authors call the offset basis.
@@ -106,7 +107,7 @@ pub type FNV1aHasher32 = ByteHasher<Plain<Fnv1aRule32>>;
 pub fn fnv1a32(bytes: &[u8]) -> u64
     ensures { result ≡ fnv1a32_from fnv1a32_basis bytes.now }
 {
-    whole_text::<Fnv1aRule32>(bytes)
+    hash_of::<FNV1aHasher32>(bytes)
 }
 
 /// The rule of FNV-1a at 64 bits.
@@ -173,7 +174,7 @@ pub type FNV1aHasher64 = ByteHasher<Plain<Fnv1aRule64>>;
 pub fn fnv1a64(bytes: &[u8]) -> u64
     ensures { result ≡ fnv1a64_from fnv1a64_basis bytes.now }
 {
-    whole_text::<Fnv1aRule64>(bytes)
+    hash_of::<FNV1aHasher64>(bytes)
 }
 
 /// Makes an [`FNV1aHasher64`] for each key of a map or a set, as the type of this name in the crate fnv does.

@@ -3,11 +3,11 @@ ghost use Rattle.std.specs.Prelude.{◌≡◌, ◌<◌, ◌^◌, ◌-◌, ◌+�
 ghost use Rattle.std.proofs.Common.{lit<, sym};
 ghost use Rattle.std.proofs.Math.Nat.{mod-lt};
 ghost use Rattle.hash_rounds.specs.Sums.{digit_sum, passthrough_from, passthrough_step};
-ghost use Rattle.hash_rounds.proofs.SumLemmas.{passthrough_sums, passthrough-lt};
+ghost use Rattle.hash_rounds.proofs.SumLemmas.{passthrough_sums};
 ghost use Rattle.hash_laws.specs.Standing.{StandsAt};
 ghost use Rattle.hash_laws.proofs.ByteLemmas as bytewise;
 
-use hash_laws::traits::{Piecewise, Streamed};
+use hash_laws::traits::{Piecewise, Streamed, hash_of};
 use hash_rules::{ByteHasher, ByteRule, StepRule};
 use std::hash::Hasher;
 
@@ -79,6 +79,11 @@ impl Piecewise for NullHasher {
     }
 
     #[inline(always)]
+    fn whole(_text: &[u8]) -> u64 {
+        0
+    }
+
+    #[inline(always)]
     fn fork(&self) -> NullHasher {
         NullHasher
     }
@@ -122,9 +127,7 @@ impl Streamed for NullHasher {
 pub fn null(bytes: &[u8]) -> u64
     ensures { result ≡ 0 }
 {
-    let mut hasher = NullHasher;
-    hasher.write(bytes);
-    hasher.finish()
+    hash_of::<NullHasher>(bytes)
 }
 
 /// One byte behind the state, as a digit in base 256.
@@ -208,6 +211,13 @@ impl ByteRule for PassThroughRule {
         *state
     }
 
+    #[inline(always)]
+    fn whole(text: &[u8]) -> u64 {
+        let mut state = Self::start();
+        Self::write(&mut state, text);
+        Self::answer(&state)
+    }
+
     ghost is_fold = { passthrough_sums.is_fold };
 
     ghost write_is_after = { λ s text. refl };
@@ -225,9 +235,7 @@ pub fn passthrough(bytes: &[u8]) -> u64
     ensures value { result ≡ passthrough_from 0 bytes.now }
     ensures last { result ≡ digit_sum 256 (drop (length bytes.now - 8) bytes.now) }
 {
-    let mut hasher = PassThroughHasher::default();
-    hasher.write(bytes);
-    hasher.finish()
+    hash_of::<PassThroughHasher>(bytes)
 }
 
 /// The law of passthrough of a joined text, with no code: the second part's bytes stand behind the first part's, as digits in

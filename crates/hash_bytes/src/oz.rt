@@ -8,10 +8,9 @@ ghost use Rattle.hash_rounds.proofs.SumStepLemmas.{sdbm_facts, loselose_facts};
 ghost use Rattle.hash_rounds.proofs.SumLemmas.{sdbm_sums, loselose-fold};
 ghost use Rattle.hash_bytes.specs.CountedSum.{sdbm_write, loselose_write};
 
+use hash_laws::traits::hash_of;
 use hash_rounds::{Turns, lose8, sdbm4};
-use hash_rules::{
-    ByteHasher, ByteRule, Plain, PlainRule, PlainUndo, StepRule, UndoRule, whole_text,
-};
+use hash_rules::{ByteHasher, ByteRule, Plain, PlainRule, PlainUndo, StepRule, UndoRule};
 use std::hash::Hasher;
 use std::marker::Model;
 use std::simd::prelude::*;
@@ -109,7 +108,7 @@ pub type DJB2Hasher = ByteHasher<Plain<Djb2Rule>>;
 pub fn djb2(bytes: &[u8]) -> u64
     ensures { result ≡ djb2_from 5381 bytes.now }
 {
-    whole_text::<Djb2Rule>(bytes)
+    hash_of::<DJB2Hasher>(bytes)
 }
 
 /// One byte of sdbm on.
@@ -221,6 +220,13 @@ impl ByteRule for SdbmRule {
         u64::from(state.state)
     }
 
+    #[inline(always)]
+    fn whole(text: &[u8]) -> u64 {
+        let mut state = Self::start();
+        Self::write(&mut state, text);
+        Self::answer(&state)
+    }
+
     ghost is_fold = { sdbm_sums.is_fold };
 
     ghost write_is_after = { λ s text. refl };
@@ -260,9 +266,7 @@ pub type SDBMHasher = ByteHasher<SdbmRule>;
 pub fn sdbm(bytes: &[u8]) -> u64
     ensures { result ≡ sdbm_from 0 bytes.now }
 {
-    let mut hasher = SDBMHasher::default();
-    hasher.write(bytes);
-    hasher.finish()
+    hash_of::<SDBMHasher>(bytes)
 }
 
 /// sdbm of a joined text from the hashes of its two parts and the second one's length in bytes, in a time that grows with
@@ -410,6 +414,13 @@ impl ByteRule for LoseLoseRule {
         state.state
     }
 
+    #[inline(always)]
+    fn whole(text: &[u8]) -> u64 {
+        let mut state = Self::start();
+        Self::write(&mut state, text);
+        Self::answer(&state)
+    }
+
     ghost is_fold = { loselose-fold };
 
     ghost write_is_after = { λ s text. refl };
@@ -448,9 +459,7 @@ pub type LoseLoseHasher = ByteHasher<LoseLoseRule>;
 pub fn loselose(bytes: &[u8]) -> u64
     ensures { result ≡ loselose_from 0 bytes.now }
 {
-    let mut hasher = LoseLoseHasher::default();
-    hasher.write(bytes);
-    hasher.finish()
+    hash_of::<LoseLoseHasher>(bytes)
 }
 
 /// lose lose of a joined text from the hashes of its two parts. The second one's length does not matter: the parameter

@@ -1,9 +1,11 @@
 -- Many texts that lie behind one another.
-use Rattle.std.specs.Prelude.{ℕ, ◌≡◌, ◌+◌, ◌<◌, ◌≤◌, List, length, slice_index, slice_range}
+use Rattle.std.specs.Prelude.{ℕ, Bool, IsTrue, ◌≡◌, ◌↔◌, ◌+◌, ◌<◌, ◌≤◌, List, length, slice_index, slice_range}
+use Rattle.std.specs.Bool.{OnTrue, OnFalse}
 
--- there is one place more than texts, none falls, and none that begins or ends a text passes the data's end
+-- there is one place more than texts, none falls, and none passes the data's end
 pub record AreOffsets (size count : ℕ) (offsets : List ℕ) : Type 0 where
   pub one_more : length offsets ≡ count + 1
+  pub first : slice_index offsets 0 ≤ size
   pub rise : (i : ℕ) → i < count → slice_index offsets i ≤ slice_index offsets (i + 1)
   pub within : (i : ℕ) → i < count → slice_index offsets (i + 1) ≤ size
 
@@ -15,3 +17,9 @@ text_at bytes offsets i = slice_range bytes (slice_index offsets i) (slice_index
 abbrev pub AreHashes : (List ℕ → ℕ) → List ℕ → List ℕ → List ℕ → Type 0
 AreHashes hash bytes offsets hashes =
     (i : ℕ) → i < length hashes → slice_index hashes i ≡ hash (text_at bytes offsets i)
+
+-- the hashes of the texts are written, exactly where these are places of texts; else nothing is
+pub record IsColumn (hash : List ℕ → ℕ) (bytes offsets before after : List ℕ) (result : Bool) : Type 0 where
+  pub exactly : IsTrue result ↔ AreOffsets (length bytes) (length before) offsets
+  pub written : OnTrue result (AreHashes hash bytes offsets after)
+  pub refused : OnFalse result (after ≡ before)

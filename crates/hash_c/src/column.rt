@@ -1,13 +1,16 @@
 //! The hashes of many texts in one call, as one body for every hash: of texts between offsets of 32 or of 64 bits, and of lines.
-ghost use Rattle.std.specs.Prelude.{◌≡◌, ◌+◌, ◌<◌, ◌↔◌, ◌∷◌, ℕ, List, length, map, slice_index, IsTrue};
+ghost use Rattle.std.specs.Prelude.{◌≡◌, ◌+◌, ◌<◌, ◌↔◌, ◌∷◌, ℕ, List, length, map, slice_index, IsSome, IsTrue};
 ghost use Rattle.std.specs.Bool.{OnTrue, OnFalse};
 ghost use Rattle.hashers.specs.Spooky.{spooky_v1};
-ghost use Rattle.hash_c.specs.Columns.{AreHashes, AreOffsets};
+ghost use Rattle.hash_c.specs.Columns.{AreHashes, AreOffsets, IsColumn};
 ghost use Rattle.hash_c.specs.Lines.{laid_over};
 ghost use Rattle.hash_lines.specs.Lines.{line_texts};
+ghost use Rattle.hash_names.specs.Named.{hash_at, hash_of, kind_at};
 
+use hash_names::table::{Kind, by_kind, kind_at};
+use hash_names::task::HashTask;
 use hashers::jenkins::spooky_hash;
-use hashers::laws::{Piecewise, hash_of};
+use hashers::laws::{Piecewise, Streamed, hash_of};
 use std::marker::PhantomData;
 
 /// A hash of a whole text. The implementing type is a name for it, and no value of it is made.
@@ -72,14 +75,13 @@ impl Offset for u64 {
     }
 }
 
-/// Where text i begins and ends.
+/// The place of that number.
 #[inline(always)]
-fn ends_of<O: Offset>(offsets: &[O], i: usize) -> (u64, u64)
-    requires { i + 1 < length offsets.now }
-    ensures from { result.0 ≡ slice_index (map O.number offsets.now) i }
-    ensures to { result.1 ≡ slice_index (map O.number offsets.now) (i + 1) }
+fn place<O: Offset>(offsets: &[O], i: usize) -> u64
+    requires { i < length offsets.now }
+    ensures { result ≡ slice_index (map O.number offsets.now) i }
 {
-    (offsets[i].number(), offsets[i + 1].number())
+    offsets[i].number()
 }
 
 /// Whether the offsets are those of so many texts in so many bytes.
@@ -87,12 +89,12 @@ fn ends_of<O: Offset>(offsets: &[O], i: usize) -> (u64, u64)
 fn are_offsets<O: Offset>(offsets: &[O], size: usize, count: usize) -> bool
     ensures { IsTrue result ↔ AreOffsets size count (map O.number offsets.now) }
 {
-    if count == usize::MAX || offsets.len() != count + 1 {
+    if count == usize::MAX || offsets.len() != count + 1 || place(offsets, 0) > size as u64 {
         return false;
     }
     for i in 0..count {
-        let (from, to) = ends_of(offsets, i);
-        if to < from || to > size as u64 {
+        let to = place(offsets, i + 1);
+        if to < place(offsets, i) || to > size as u64 {
             return false;
         }
     }
@@ -100,40 +102,85 @@ fn are_offsets<O: Offset>(offsets: &[O], size: usize, count: usize) -> bool
 }
 
 /// Writes the hash of each text, and answers that the offsets are those of texts; else nothing is written.
-#[inline(always)]
 fn column<T: TextHash, O: Offset>(bytes: &[u8], offsets: &[O], hashes: &mut [u64]) -> bool
-    ensures exactly { IsTrue result ↔ AreOffsets (length bytes.now) (length hashes.old) (map O.number offsets.now) }
-    ensures written { OnTrue result (AreHashes T.hash bytes.now (map O.number offsets.now) hashes.new) }
-    ensures refused { OnFalse result (hashes.new ≡ hashes.old) }
+    ensures { IsColumn T.hash bytes.now (map O.number offsets.now) hashes.old hashes.new result }
 {
     if !are_offsets(offsets, bytes.len(), hashes.len()) {
         return false;
     }
     for i in 0..hashes.len() {
-        let (from, to) = ends_of(offsets, i);
-        hashes[i] = T::hash(&bytes[from as usize..to as usize]);
+        let from = place(offsets, i) as usize;
+        let to = place(offsets, i + 1) as usize;
+        hashes[i] = T::hash(&bytes[from..to]);
     }
     true
 }
 
-/// The same of offsets of 32 bits.
-#[inline(always)]
-pub fn column32<T: TextHash>(bytes: &[u8], offsets: &[u32], hashes: &mut [u64]) -> bool
-    ensures exactly { IsTrue result ↔ AreOffsets (length bytes.now) (length hashes.old) offsets.now }
-    ensures written { OnTrue result (AreHashes T.hash bytes.now offsets.now hashes.new) }
-    ensures refused { OnFalse result (hashes.new ≡ hashes.old) }
-{
-    column::<T, u32>(bytes, offsets, hashes)
+/// Where hashes are written.
+#[derive(Drop)]
+struct Room<'b> {
+    hashes: &'b mut [u64],
 }
 
-/// The same of offsets of 64 bits.
-#[inline(always)]
-pub fn column64<T: TextHash>(bytes: &[u8], offsets: &[u64], hashes: &mut [u64]) -> bool
-    ensures exactly { IsTrue result ↔ AreOffsets (length bytes.now) (length hashes.old) offsets.now }
-    ensures written { OnTrue result (AreHashes T.hash bytes.now offsets.now hashes.new) }
+/// To write the hashes of a column of texts.
+struct InColumn<'a, 'b, O> {
+    texts: PhantomData<&'a O>,
+    hashes: PhantomData<&'b u64>,
+}
+
+impl<'a, 'b, O: Offset> HashTask for InColumn<'a, 'b, O> {
+    type Told = (&'a [u8], &'a [O]);
+
+    type Input = Room<'b>;
+
+    type Outcome = bool;
+
+    ghost by = { λ hash read texts before after result. (after.hashes.ghost_name ≡ before.hashes.ghost_name)
+        × IsColumn hash texts.0.now (map O.number texts.1.now) before.hashes.now after.hashes.now result };
+
+    fn by_text<H: Streamed>(texts: (&'a [u8], &'a [O]), room: &mut Room<'b>) -> bool {
+        column::<Default<H>, O>(texts.0, texts.1, room.hashes)
+    }
+
+    fn by_pieces<H: Piecewise>(texts: (&'a [u8], &'a [O]), room: &mut Room<'b>) -> bool {
+        column::<Default<H>, O>(texts.0, texts.1, room.hashes)
+    }
+
+    fn by_spooky_v1(texts: (&'a [u8], &'a [O]), room: &mut Room<'b>) -> bool {
+        column::<SpookyV1, O>(texts.0, texts.1, room.hashes)
+    }
+
+    ghost by_same = { λ hash read same agree texts before after result done. done };
+}
+
+/// Writes the hash of each text by that hash.
+fn in_column<'a, 'b, O: Offset>(kind: Kind, texts: (&'a [u8], &'a [O]), room: &mut Room<'b>) -> bool
+    ensures same { room.new.hashes.ghost_name ≡ room.old.hashes.ghost_name }
+    ensures done { IsColumn (hash_of kind) texts.entry.0.now (map O.number texts.entry.1.now) room.old.hashes.now room.new.hashes.now result }
+{
+    by_kind::<InColumn<'a, 'b, O>>(kind, texts, room)
+}
+
+/// Writes the hash of each text by the hash of that number, and answers that there is one and the offsets are those of texts; else
+/// nothing is written.
+pub fn column_by<'a, O: Offset>(
+    kind: u32,
+    bytes: &'a [u8],
+    offsets: &'a [O],
+    hashes: &mut [u64],
+) -> bool
+    ensures exactly { IsTrue result ↔ (IsSome (kind_at kind)
+        × AreOffsets (length bytes.now) (length hashes.old) (map O.number offsets.now)) }
+    ensures written { OnTrue result (AreHashes (hash_at kind) bytes.now (map O.number offsets.now) hashes.new) }
     ensures refused { OnFalse result (hashes.new ≡ hashes.old) }
 {
-    column::<T, u64>(bytes, offsets, hashes)
+    match kind_at(kind) {
+        Some(kind) => {
+            let mut room = Room { hashes };
+            in_column::<O>(kind, (bytes, offsets), &mut room)
+        }
+        None => false,
+    }
 }
 
 /// The first line, and what is behind its newline.
@@ -149,8 +196,7 @@ fn first_line(bytes: &[u8]) -> (&[u8], &[u8])
 }
 
 /// Writes the hash of each line, as far as there is room, and answers how many lines there are.
-#[inline(always)]
-pub fn hash_lines<T: TextHash>(bytes: &[u8], hashes: &mut [u64]) -> usize
+fn hash_lines<T: TextHash>(bytes: &[u8], hashes: &mut [u64]) -> usize
     ensures count { result ≡ length (line_texts 10 bytes.now) }
     ensures written { hashes.new ≡ laid_over (map T.hash (line_texts 10 bytes.now)) hashes.old }
 {
@@ -165,4 +211,61 @@ pub fn hash_lines<T: TextHash>(bytes: &[u8], hashes: &mut [u64]) -> usize
         rest = later;
     }
     count
+}
+
+/// To write the hashes of lines.
+struct InLines<'a, 'b> {
+    text: PhantomData<&'a u8>,
+    hashes: PhantomData<&'b u64>,
+}
+
+impl<'a, 'b> HashTask for InLines<'a, 'b> {
+    type Told = &'a [u8];
+
+    type Input = Room<'b>;
+
+    type Outcome = usize;
+
+    ghost by = { λ hash read text before after result. (after.hashes.ghost_name ≡ before.hashes.ghost_name)
+        × (result ≡ length (line_texts 10 text.now))
+        × (after.hashes.now ≡ laid_over (map hash (line_texts 10 text.now)) before.hashes.now) };
+
+    fn by_text<H: Streamed>(text: &'a [u8], room: &mut Room<'b>) -> usize {
+        hash_lines::<Default<H>>(text, room.hashes)
+    }
+
+    fn by_pieces<H: Piecewise>(text: &'a [u8], room: &mut Room<'b>) -> usize {
+        hash_lines::<Default<H>>(text, room.hashes)
+    }
+
+    fn by_spooky_v1(text: &'a [u8], room: &mut Room<'b>) -> usize {
+        hash_lines::<SpookyV1>(text, room.hashes)
+    }
+
+    ghost by_same = { λ hash read same agree text before after result done. done };
+}
+
+/// Writes the hash of each line by that hash.
+fn in_lines<'a, 'b>(kind: Kind, text: &'a [u8], room: &mut Room<'b>) -> usize
+    ensures same { room.new.hashes.ghost_name ≡ room.old.hashes.ghost_name }
+    ensures count { result ≡ length (line_texts 10 text.now) }
+    ensures written { room.new.hashes.now ≡ laid_over (map (hash_of kind) (line_texts 10 text.now)) room.old.hashes.now }
+{
+    by_kind::<InLines<'a, 'b>>(kind, text, room)
+}
+
+/// Writes the hash of each line by the hash of that number, as far as there is room, and answers how many lines there are; 0 where
+/// no hash has the number, and nothing is written.
+pub fn lines_by(kind: u32, bytes: &[u8], hashes: &mut [u64]) -> usize
+    ensures known { IsSome (kind_at kind) → (result ≡ length (line_texts 10 bytes.now))
+        × (hashes.new ≡ laid_over (map (hash_at kind) (line_texts 10 bytes.now)) hashes.old) }
+    ensures unknown { kind_at kind ≡ None → (result ≡ 0) × (hashes.new ≡ hashes.old) }
+{
+    match kind_at(kind) {
+        Some(kind) => {
+            let mut room = Room { hashes };
+            in_lines(kind, bytes, &mut room)
+        }
+        None => 0,
+    }
 }

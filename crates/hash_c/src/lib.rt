@@ -8,6 +8,7 @@ mod bloom;
 mod column;
 mod columns;
 mod combine;
+mod kinds;
 mod lines;
 mod parts;
 mod spooky;

@@ -1,5 +1,5 @@
 -- Differences add up, and one of them is one place.
-use Rattle.std.proofs.Common.{◌≡◌, ◌≢◌, ℕ, ◌+◌, ◌<◌, ◌≤◌, ◌==◌, if◌then◌else◌, List, [], ◌∷◌, ◌++◌, length, map, take, get_or, zero-add, add-zero, arith, refl, sym, ap, ◌∙◌, inl, inr}
+use Rattle.std.proofs.Common.{◌≡◌, ◌≢◌, ℕ, ◌+◌, ◌<◌, ◌==◌, if◌then◌else◌, List, [], ◌∷◌, ◌++◌, length, map, take, get_or, zero-add, add-zero, arith, refl, sym, ap, ◌∙◌, inl, inr}
 use Rattle.std.proofs.Math.Path.{ap₂}
 use Rattle.std.proofs.lemmas.Bool.{cases_eq, eq-eqb, ne_eqb}
 use Rattle.std.proofs.lemmas.List.{length-map, length-take-le, map_more}
@@ -23,14 +23,6 @@ differences-append (a ∷ p) [] x y len = absurd (omega (arith, len))
 differences-append (a ∷ p) (b ∷ q) x y len =
     let rest = differences-append p q x y (omega (arith, len)) in
     omega (arith, rest)
-
-pub differences-few : (x y : List ℕ) → differences x y ≤ length x
-differences-few [] y = omega arith
-differences-few (a ∷ x) [] = omega arith
-differences-few (a ∷ x) (b ∷ y) = elim (cases_eq a b) [
-  | inl same ↦ omega (arith, place-same a b same, differences-few x y)
-  | inr differ ↦ omega (arith, place-differ a b differ, differences-few x y)
-]
 
 pub none-same : (x y : List ℕ) → length x ≡ length y → differences x y ≡ 0 → x ≡ y
 none-same [] [] len none = refl

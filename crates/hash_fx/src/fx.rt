@@ -7,9 +7,8 @@ ghost use Rattle.hash_laws.proofs.RecurrenceLemmas.{recurrence-fold};
 ghost use Rattle.hash_fx.specs.Fx.{fx32, fx64, words32, words64};
 
 use crate::word::{FxSplit, FxWord};
-use crate::words::{eights_in, fours_and_bytes_in};
+use hash_laws::traits::hash_of;
 use hash_rules::{WordHasher, WordRule};
-use std::hash::Hasher;
 use std::marker::PhantomData;
 
 /// The rule of fx by words of a width.
@@ -47,6 +46,11 @@ impl<W: FxSplit> WordRule for FxRule<W> {
     #[inline(always)]
     fn write(state: W, piece: &[u8]) -> W {
         state.words_in(piece).known()
+    }
+
+    #[inline(always)]
+    fn whole(text: &[u8]) -> u64 {
+        W::whole(text)
     }
 
     #[inline(always)]
@@ -113,24 +117,15 @@ pub type FxHasher = WordHasher<Fx64Rule, MachineWord>;
 pub fn fxhash32(bytes: &[u8]) -> u64
     ensures { result ≡ fx32 0 (words32 bytes.now) }
 {
-    let mut hasher = FxHasher32::default();
-    hasher.write(bytes);
-    hasher.finish()
+    hash_of::<FxHasher32>(bytes)
 }
 
-/// The answer of a default `FxHasher64` to the bytes as one write. Whole words alone have a way of their own, with nothing else
-/// on it.
+/// The answer of a default `FxHasher64` to the bytes as one write.
 #[inline(always)]
 pub fn fxhash64(bytes: &[u8]) -> u64
     ensures { result ≡ fx64 0 (words64 bytes.now) }
 {
-    let (eights, rest) = bytes.as_chunks::<8>();
-    let state = eights_in(0, eights);
-    if rest.is_empty() {
-        state
-    } else {
-        fours_and_bytes_in(state, rest)
-    }
+    hash_of::<FxHasher64>(bytes)
 }
 
 /// The answer of a default `FxHasher` to the bytes as one write.
@@ -138,5 +133,5 @@ pub fn fxhash64(bytes: &[u8]) -> u64
 pub fn fxhash(bytes: &[u8]) -> u64
     ensures { result ≡ fx64 0 (words64 bytes.now) }
 {
-    fxhash64(bytes)
+    hash_of::<FxHasher>(bytes)
 }

@@ -66,6 +66,10 @@ pub trait FxSplit: FxWord {
     fn words_in(self, piece: &[u8]) -> Self
         ensures { Self.number result ≡ recurrence Self.step (Self.number self) (words piece.now) };
 
+    /// The answer to a whole text.
+    fn whole(text: &[u8]) -> u64
+        ensures { result ≡ recurrence Self.step 0 (words text.now) };
+
     /// The words of a piece out again, from the last to the first.
     fn words_out(self, piece: &[u8]) -> Self
         ensures { recurrence Self.step (Self.number result) (words piece.now) ≡ Self.number self };
@@ -178,6 +182,11 @@ impl FxSplit for u32 {
     }
 
     #[inline(always)]
+    fn whole(text: &[u8]) -> u64 {
+        u64::from(fours_and_bytes_in(0u32, text))
+    }
+
+    #[inline(always)]
     fn words_out(self, piece: &[u8]) -> u32 {
         fours_and_bytes_out(self, piece)
     }
@@ -200,6 +209,18 @@ impl FxSplit for u64 {
     fn words_in(self, piece: &[u8]) -> u64 {
         let (eights, rest) = piece.as_chunks::<8>();
         fours_and_bytes_in(eights_in(self, eights), rest)
+    }
+
+    /// Whole words alone have a way of their own, with nothing else on it.
+    #[inline(always)]
+    fn whole(text: &[u8]) -> u64 {
+        let (eights, rest) = text.as_chunks::<8>();
+        let state = eights_in(0, eights);
+        if rest.is_empty() {
+            state
+        } else {
+            fours_and_bytes_in(state, rest)
+        }
     }
 
     #[inline(always)]

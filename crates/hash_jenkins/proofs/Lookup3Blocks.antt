@@ -27,9 +27,6 @@ Added w = (w.0 < 2 ^ 32) × (w.1 < 2 ^ 32) × (w.2 < 2 ^ 32)
 cancel : (a x y : ℕ) → x < 2 ^ 32 → y < 2 ^ 32 → (a + x) % 2 ^ 32 ≡ (a + y) % 2 ^ 32 → x ≡ y
 cancel a x y x_in y_in same = omega arith
 
-cancel_left : (a b x : ℕ) → a < 2 ^ 32 → b < 2 ^ 32 → (a + x) % 2 ^ 32 ≡ (b + x) % 2 ^ 32 → a ≡ b
-cancel_left a b x a_in b_in same = omega arith
-
 added_words : (s : List ℕ) → length s ≡ 3 → (w v : ℕ × ℕ × ℕ) → Added w → Added v → add_words s w ≡ add_words s v → w ≡ v
 added_words [] len w v w_in v_in same = absurd (omega arith)
 added_words (a ∷ []) len w v w_in v_in same = absurd (omega arith)

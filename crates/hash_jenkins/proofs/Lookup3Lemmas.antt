@@ -1,6 +1,5 @@
 -- Words of blocks, whole and filled with zeros.
-use Rattle.std.specs.Bool.{◌==◌}
-use Rattle.std.proofs.Common.{◌≡◌, false, ℕ, zero, suc, ◌+◌, ◌-◌, ◌*◌, ◌/◌, ◌≤◌, List, [], ◌∷◌, ◌++◌, ◌<◌, length, slice_index, take, drop, replicate, refl, ap, sym, ◌∙◌, arith}
+use Rattle.std.proofs.Common.{◌≡◌, ℕ, zero, suc, ◌+◌, ◌-◌, ◌*◌, ◌/◌, ◌≤◌, List, [], ◌∷◌, ◌++◌, ◌<◌, length, slice_index, take, drop, replicate, refl, ap, sym, ◌∙◌, arith}
 use Rattle.std.proofs.lemmas.List.{drop-drop, take_all, drop_all, length-drop}
 use Rattle.std.specs.Simd.{first_chunks}
 use Rattle.std.proofs.Math.Path.{ap₂}
@@ -116,11 +115,6 @@ lookup3_piece_from pc pb piece first added end began filled last =
     let ended : end ≡ lookup3_words pc pb piece
     = last ∙ ap (apply 32 rounds.lookup3_final_steps []) (filled ∙ ap (λ s. blocks_in s piece) began) in
     ap (λ (w : List ℕ). (slice_index w 2, slice_index w 1)) ended
-
--- the words after some bytes
-pub lookup3_some : (s : ℕ × ℕ) (piece : List ℕ) → false ≡ (length piece == 0) → lookup3_from s piece ≡ lookup3_piece s.0 s.1 piece
-lookup3_some s [] none = absurd (cc)
-lookup3_some s (byte ∷ piece) some = refl
 
 -- the answer tells all of two words
 pub lookup3_answer-same : (s t : ℕ × ℕ) → AreTwoWords s → AreTwoWords t → lookup3_answer s ≡ lookup3_answer t → s ≡ t

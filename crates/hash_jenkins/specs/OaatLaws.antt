@@ -1,6 +1,5 @@
 -- The step and the last mix of one-at-a-time stay in range and are injective, and what undoes them.
 use Rattle.std.proofs.Common.{◌≡◌, ℕ, ◌+◌, ◌-◌, ◌*◌, ◌%◌, ◌^◌, ◌<◌, ap, ◌∙◌, arith}
-use Rattle.std.proofs.lemmas.Nat.{mod_below, pow_pos}
 use Rattle.hash_rounds.specs.StepFacts.{StepFacts}
 use Rattle.hash_rounds.specs.Words.{xorshift}
 use Rattle.hash_rounds.proofs.XorshiftLemmas.{xorshift-lt, same_from_xorshift}
@@ -25,9 +24,6 @@ pub oaat_back : (h b y : ℕ) → y < 2 ^ 64 → b < 256 → xorshift y 6 ≡ h
 oaat_back h b y ys sb solves =
     let undone : 1025 * (((y * 1151796703138937857 % 2 ^ 64 + (2 ^ 64 - b)) % 2 ^ 64 + b) % 2 ^ 64) % 2 ^ 64 ≡ y = omega arith in
     ap (λ z. xorshift z 6) undone ∙ solves
-
-pub oaat_finish_range : (h : ℕ) → oaat_finish h < 2 ^ 64
-oaat_finish_range h = mod_below _ (2 ^ 64) (pow_pos 64)
 
 oaat_finish_same_shift : (y z : ℕ) → y < 2 ^ 64 → z < 2 ^ 64 → 32769 * y % 2 ^ 64 ≡ 32769 * z % 2 ^ 64 → y ≡ z
 oaat_finish_same_shift y z ys zs e = omega arith

@@ -8,7 +8,7 @@ use Rattle.hash_rounds.specs.Words.{AreWords}
 use Rattle.hash_rounds.proofs.BlockLemmas.{spooky_blocks-append, spooky_blocks_short, spooky_blocks-take, spooky_blocks-words}
 use Rattle.hash_laws.specs.Text.{IsText}
 use Rattle.hash_laws.proofs.TextLemmas.{IsByte}
-use Rattle.hash_jenkins.specs.Spooky.{Position, Short, Long, position, after, mixed, tail, long_start, hash, hash_v1, short_words_at, spooky, spooky_v1, short_words_of}
+use Rattle.hash_jenkins.specs.Spooky.{Position, Short, Long, position, after, mixed, tail, long_start, hash, spooky}
 use Rattle.hash_jenkins.specs.SpookyStanding.{IsPosition, SpookyStandsAt, spooky_from}
 
 abbrev IsWord : ℕ → Type 0
@@ -74,20 +74,6 @@ module _ (seed1 seed2 : ℕ) (m : List ℕ) where
 
   pub hash-position : hash (position seed1 seed2 m) ≡ spooky seed1 seed2 m
   hash-position = hash_by_length (nat_lt (length m) 192) refl
-
-  hash_v1_by_length : (b : Bool) → nat_lt (length m) 192 ≡ b → hash_v1 (position seed1 seed2 m) ≡ spooky_v1 seed1 seed2 m
-  hash_v1_by_length true short = rw short refl
-  hash_v1_by_length false long = rw long refl
-
-  pub hash_v1-position : hash_v1 (position seed1 seed2 m) ≡ spooky_v1 seed1 seed2 m
-  hash_v1-position = hash_v1_by_length (nat_lt (length m) 192) refl
-
-  words_by_length : (b : Bool) → nat_lt (length m) 192 ≡ b → short_words_at (position seed1 seed2 m) ≡ short_words_of seed1 seed2 m
-  words_by_length true short = rw short refl
-  words_by_length false long = rw long refl
-
-  pub short_words_at-position : short_words_at (position seed1 seed2 m) ≡ short_words_of seed1 seed2 m
-  short_words_at-position = words_by_length (nat_lt (length m) 192) refl
 
 -- a text's blocks lead from twelve words to twelve words
 IsPosition-mixed : (words t : List ℕ) → length words ≡ 12 → AreWords 64 words → IsText t → IsPosition (mixed words t)

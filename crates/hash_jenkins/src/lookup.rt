@@ -6,7 +6,7 @@ ghost use Rattle.hash_jenkins.specs.Filled.{zero_filled};
 ghost use Rattle.hash_jenkins.specs.Lookup3.{add_words, add_block, block_words, start, lookup3_piece, lookup3_from, lookup3_answer, AreTwoWords};
 ghost use Rattle.hash_jenkins.specs.Lookup3Laws.{lookup3-AreTwoWords};
 
-use hash_laws::traits::Piecewise;
+use hash_laws::traits::{Piecewise, hash_of};
 use hash_rounds::{le_four, lookup3_final, lookup3_mix};
 use std::hash::Hasher;
 use std::marker::Model;
@@ -204,6 +204,13 @@ impl Piecewise for Lookup3Hasher {
     }
 
     #[inline(always)]
+    fn whole(text: &[u8]) -> u64 {
+        let mut hasher = Lookup3Hasher::default();
+        hasher.write(text);
+        hasher.finish()
+    }
+
+    #[inline(always)]
     fn fork(&self) -> Lookup3Hasher {
         Lookup3Hasher {
             pc: self.pc,
@@ -232,7 +239,5 @@ impl Piecewise for Lookup3Hasher {
 pub fn lookup3(bytes: &[u8]) -> u64
     ensures { result ≡ lookup3_answer (lookup3_from (0, 0) bytes.now) }
 {
-    let mut hasher = Lookup3Hasher::default();
-    hasher.write(bytes);
-    hasher.finish()
+    hash_of::<Lookup3Hasher>(bytes)
 }

@@ -5,8 +5,9 @@ ghost use Rattle.std.proofs.Common.{lit<};
 ghost use Rattle.hash_jenkins.specs.Oaat.{oaat_step, oaat_finish, oaat_state};
 ghost use Rattle.hash_jenkins.specs.OaatLaws.{oaat_facts, oaat_finish_same};
 
+use hash_laws::traits::hash_of;
 use hash_rounds::{unxorshift, xorshift};
-use hash_rules::{ByteHasher, Plain, PlainRule, PlainUndo, whole_text};
+use hash_rules::{ByteHasher, Plain, PlainRule, PlainUndo};
 
 /// What undoes a product by 1025.
 const UN_1025: u64 = 1151796703138937857;
@@ -95,5 +96,5 @@ pub type OAATHasher = ByteHasher<Plain<OaatRule>>;
 pub fn oaat(bytes: &[u8]) -> u64
     ensures { result ≡ oaat_finish (oaat_state 0 bytes.now) }
 {
-    whole_text::<OaatRule>(bytes)
+    hash_of::<OAATHasher>(bytes)
 }

@@ -13,7 +13,7 @@ ghost use Rattle.hash_jenkins.specs.SpookyStanding.{IsPosition, SpookyStandsAt, 
 ghost use Rattle.hash_jenkins.specs.SpookyLaws.{IsPosition-fresh, IsPosition-after, after-nil, after-append, stands_at_seeds, stands_after, hash_from_seeds, answer_where_stands};
 
 use crate::spooky_parts::SpookyParts;
-use hash_laws::traits::{Piecewise, Streamed};
+use hash_laws::traits::{Piecewise, Streamed, hash_of};
 use hash_rounds::Turns;
 use std::hash::Hasher;
 use std::marker::Model;
@@ -174,6 +174,13 @@ impl Piecewise for SpookyHasher {
         self.finish()
     }
 
+    #[inline(always)]
+    fn whole(text: &[u8]) -> u64 {
+        let mut hasher = SpookyHasher::default();
+        hasher.write(text);
+        hasher.finish()
+    }
+
     fn fork(&self) -> SpookyHasher {
         SpookyHasher {
             parts: self.parts,
@@ -220,9 +227,7 @@ impl Streamed for SpookyHasher {
 pub fn spooky(bytes: &[u8]) -> u64
     ensures { result ≡ (spooky 0 0 bytes.now).0 }
 {
-    let mut hasher = SpookyHasher::default();
-    hasher.write(bytes);
-    hasher.finish()
+    hash_of::<SpookyHasher>(bytes)
 }
 
 /// The same by version 1, which leaves the length of a text below 192 bytes out.

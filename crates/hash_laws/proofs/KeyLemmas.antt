@@ -27,10 +27,7 @@ pub fold-concat : {S : Type 0} (in_range : S → Type 0) (after : S → List ℕ
 fold-concat in_range after stays nothing joins s writes known texts =
     (fold-pieces in_range after stays nothing joins s writes known texts).0 ∙ ap (after s) (sym (concat_is writes))
 
--- a number's writes, joined
-pub one_write : (bytes : List ℕ) → concat (bytes ∷ []) ≡ bytes
-one_write bytes = concat_is (bytes ∷ []) ∙ append-nil bytes
-
+-- two writes, joined
 pub two_writes : (first second : List ℕ) → concat (first ∷ second ∷ []) ≡ first ++ second
 two_writes first second = concat_is (first ∷ second ∷ []) ∙ ap (λ t. first ++ t) (append-nil second)
 

@@ -1,7 +1,6 @@
 -- Recurrences by the last byte, from the front too.
-use Rattle.std.proofs.Common.{ℕ, zero, suc, ◌≡◌, ◌+◌, ◌-◌, ◌*◌, ◌/◌, ◌%◌, ◌<◌, ◌≤◌, arith, List, [], ◌∷◌, ◌++◌, length, take, drop, get_or, fold, reverse, refl, ap, sym, ◌∙◌}
-use Rattle.std.proofs.lemmas.List.{reverse-append, append-nil, append_assoc, take_more, drop_more, take_all, take-append-drop, length-drop, nil_from_length}
-use Rattle.std.proofs.lemmas.List.Sums.{fold_more}
+use Rattle.std.proofs.Common.{ℕ, zero, suc, ◌≡◌, ◌+◌, ◌-◌, ◌*◌, ◌/◌, ◌%◌, ◌<◌, ◌≤◌, arith, List, [], ◌∷◌, ◌++◌, length, take, drop, get_or, fold, refl, ap, sym, ◌∙◌}
+use Rattle.std.proofs.lemmas.List.{reverse-append, append-nil, append_assoc, take_more, take_all, take-append-drop, length-drop, nil_from_length}
 use Rattle.std.specs.List.{flat_map}
 use Rattle.std.specs.Simd.{first_chunks}
 use Rattle.hash_laws.specs.Recurrence.{from_last, recurrence}
@@ -59,13 +58,6 @@ module _ {S : Type 0} (step : S → ℕ → S) where
       let few = length text % 8 in
       chunked 8 (length text / 8) (recurrence step s (take few text)) (drop few text) (omega (arith, length-drop few text))
       ∙ sym (recurrence-append s (take few text) (drop few text)) ∙ ap (recurrence step s) (take-append-drop few text)
-
-  -- one eight more
-  pub one_eight_more : (start state next : S) (i : ℕ) (eights : List (List ℕ)) → i < length eights
-      → state ≡ fold (recurrence step) start (take i eights) → next ≡ recurrence step state (get_or eights i [])
-      → next ≡ fold (recurrence step) start (take (i + 1) eights)
-  one_eight_more start state next i eights below so_far led =
-      led ∙ ap (λ s. recurrence step s (get_or eights i [])) so_far ∙ sym (fold_more (recurrence step) start eights i [] below)
 
   -- the few first bytes and all eights
   pub all_eights : (s start state : S) (i : ℕ) (text few : List ℕ) (eights : List (List ℕ)) → length eights ≤ i

@@ -77,6 +77,16 @@ pub trait Piecewise: Default + Hasher + Drop {
         self.finish()
     }
 
+    /// The hash of a text in one call. A type with a shorter way than a default hasher, `feed` and `answer` takes it here, and
+    /// whatever hashes whole texts goes that way.
+    fn whole(text: &[u8]) -> u64
+        ensures { result ≡ hash_of text.now }
+    {
+        let mut hasher = Self::fresh();
+        hasher.feed(text);
+        hasher.answer()
+    }
+
     /// Another hasher of the same value: a text's beginning is hashed once, and many endings behind it.
     fn fork(&self) -> Self
         ensures { result ≡ self.now };
@@ -271,9 +281,8 @@ pub fn hash_of<H: Piecewise>(text: &[u8]) -> u64
     ensures defined { result ≡ H.answer (H.after H.fresh text.now) }
     ensures text { IsText text.now }
 {
-    let mut hasher = H::fresh();
-    hasher.feed(text);
-    hasher.answer()
+    bytes_are_a_text(text);
+    H::whole(text)
 }
 
 /// The bucket of a key among `n`: the hash of the key, mod `n`. Takes no memory.

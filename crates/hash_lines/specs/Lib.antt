@@ -3,3 +3,4 @@ pub mod Hex
 pub mod Line
 pub mod Lines
 pub mod Told
+pub mod Forms

@@ -2,6 +2,7 @@
 #![tactic(auto)]
 
 pub mod escape;
+pub mod forms;
 pub mod hex;
 pub mod laws;
 pub mod line;

@@ -38,6 +38,8 @@ pub struct Kind<'a> {
     pub name: &'a str,
     /// How many digits its numbers have.
     pub width: Width,
+    /// Which hash it is, by a number of the caller's.
+    pub which: u32,
 }
 
 /// How a line is written.

@@ -21,7 +21,7 @@ pub struct Entry<'k> {
 }
 
 /// What stands behind the front in the bytes; `None` exactly where they do not begin with it.
-fn behind<'a>(bytes: &'a [u8], front: &[u8]) -> Option<&'a [u8]>
+pub fn behind<'a>(bytes: &'a [u8], front: &[u8]) -> Option<&'a [u8]>
     ensures { MatchOption result ((rest : List ℕ) → front.now ++ rest ≢ bytes.now) (λ rest. front.now ++ rest.now ≡ bytes.now) }
 {
     if bytes.len() < front.len() {

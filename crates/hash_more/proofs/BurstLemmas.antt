@@ -14,10 +14,10 @@ use Rattle.std.specs.Cmp.Lexicographic.{pointwise}
 use Rattle.std.proofs.lemmas.Slice.Eq.{slice_eq-Decides}
 use Rattle.std.proofs.lemmas.Nat.Bits.{bit_at-trailing_zeros}
 use Rattle.std.specs.Int.{trailing_zeros, w8}
-use Rattle.hashers.specs.Text.{IsText}
-use Rattle.hashers.specs.Words.{le}
-use Rattle.hashers.proofs.XorLemmas.{xor_cancel}
-use Rattle.hashers.specs.DifferWithin.{DifferWithin, IsFirstDifference}
+use Rattle.hash_laws.specs.Text.{IsText}
+use Rattle.hash_rounds.specs.Words.{le}
+use Rattle.hash_rounds.proofs.XorLemmas.{xor_cancel}
+use Rattle.hash_laws.specs.DifferWithin.{DifferWithin, IsFirstDifference}
 use Rattle.hash_more.specs.Bursts.{IsBurst, DifferWithinBits}
 use Rattle.hash_more.proofs.Crc32Lemmas.{exchanged, low_and_high}
 

@@ -1,7 +1,7 @@
 -- CRCs of 32 bits by the polynomial, whose bits and the word's are in reverse order, as all programs keep them: CRC-32
 -- (RFC 1952, section 8) and CRC-32C (RFC 3720, sections 12.1 and B.4).
 use Rattle.std.specs.Prelude.{ℕ, zero, suc, ◌*◌, ◌/◌, ◌%◌, List, bit_xor}
-use Rattle.hashers.specs.Recurrence.{recurrence}
+use Rattle.hash_laws.specs.Recurrence.{recurrence}
 
 -- the polynomials: of IEEE 802.3, and of Castagnoli
 abbrev pub ieee : ℕ

@@ -1,7 +1,7 @@
 -- djb2 in its form with a sum, Dan Bernstein's first (Oz' page of hash functions, www.cse.yorku.ca/~oz/hash.html), which the section
 -- .gnu.hash of ELF files takes too.
 use Rattle.std.specs.Prelude.{ℕ, ◌+◌, ◌*◌, ◌%◌, ◌^◌, List}
-use Rattle.hashers.specs.Recurrence.{recurrence}
+use Rattle.hash_laws.specs.Recurrence.{recurrence}
 
 -- one byte: a product by 33, and then the byte is added
 abbrev pub djb2_add_step : ℕ → ℕ → ℕ

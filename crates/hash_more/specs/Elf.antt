@@ -1,6 +1,6 @@
 -- The hash of symbol names in ELF files (System V Application Binary Interface, edition 4.1, figure 5-13).
 use Rattle.std.specs.Prelude.{ℕ, ◌+◌, ◌*◌, ◌/◌, ◌%◌, ◌^◌, List, bit_xor}
-use Rattle.hashers.specs.Recurrence.{recurrence}
+use Rattle.hash_laws.specs.Recurrence.{recurrence}
 
 -- one byte: four bits further and the byte; the four high bits are xored in behind the four low ones, and taken off
 abbrev pub elf_step : ℕ → ℕ → ℕ

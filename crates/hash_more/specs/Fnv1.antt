@@ -1,8 +1,8 @@
 -- The hash of Fowler, Noll and Vo in the variant 1 (the FNV authors' page, www.isthe.com/chongo/tech/comp/fnv): from the offset basis,
 -- for each byte a product by the FNV prime, and then the byte is xored in.
 use Rattle.std.specs.Prelude.{ℕ, List}
-use Rattle.hashers.specs.Recurrence.{recurrence}
-use Rattle.hashers.specs.Fnv.{fnv1_step}
+use Rattle.hash_laws.specs.Recurrence.{recurrence}
+use Rattle.hash_bytes.specs.Fnv.{fnv1_step}
 
 -- one byte
 abbrev pub fnv1_32_step : ℕ → ℕ → ℕ

@@ -1,8 +1,8 @@
 -- Bob Jenkins' one-at-a-time hash at 32 bits, as he published it (Dr. Dobb's Journal, September 1997;
 -- burtleburtle.net/bob/hash/doobs.html).
 use Rattle.std.specs.Prelude.{ℕ, ◌+◌, ◌*◌, ◌%◌, ◌^◌, List}
-use Rattle.hashers.specs.Recurrence.{recurrence}
-use Rattle.hashers.specs.Words.{xorshift}
+use Rattle.hash_laws.specs.Recurrence.{recurrence}
+use Rattle.hash_rounds.specs.Words.{xorshift}
 
 -- one byte: it is added, then a product, then a shift folded on
 abbrev pub joaat_step : ℕ → ℕ → ℕ

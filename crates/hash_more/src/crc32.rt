@@ -7,14 +7,15 @@ mod ieee_rows;
 
 ghost use Rattle.std.specs.Prelude.{◌≡◌, ◌+◌, ◌*◌, ◌^◌, ◌<◌, ◌≤◌, ◌/◌, ◌%◌, ◌++◌, ℕ, List, length, bit_xor, refl};
 ghost use Rattle.std.proofs.Common.{lit<};
-ghost use Rattle.hashers.specs.Text.{IsText};
-ghost use Rattle.hashers.proofs.RecurrenceLemmas.{recurrence_is_fold};
+ghost use Rattle.hash_laws.specs.Text.{IsText};
+ghost use Rattle.hash_laws.proofs.RecurrenceLemmas.{recurrence_is_fold};
 ghost use Rattle.hash_more.specs.Crc32.{ieee, castagnoli, all_ones, bits_out, bit_out, crc_step, crc_from, crc_answer};
 ghost use Rattle.hash_more.specs.Crc32Laws.{crc_facts, crc_answer_same};
 
 use castagnoli_rows::CASTAGNOLI;
-use hashers::rounds::le_four;
-use hashers::rules::{ByteHasher, ByteRule, StepRule, UndoRule, in_eights};
+use hash_laws::traits::hash_of;
+use hash_rounds::le_four;
+use hash_rules::{ByteHasher, ByteRule, StepRule, UndoRule, in_eights};
 use ieee_rows::IEEE;
 use std::hash::Hasher;
 use std::marker::PhantomData;
@@ -173,6 +174,13 @@ impl<P: Polynomial> ByteRule for CrcRule<P> {
         u64::from(*state ^ 0xFFFFFFFF)
     }
 
+    #[inline(always)]
+    fn whole(text: &[u8]) -> u64 {
+        let mut state = Self::start();
+        Self::write(&mut state, text);
+        Self::answer(&state)
+    }
+
     ghost is_fold = { recurrence_is_fold (crc_step P.POLYNOMIAL) (2 ^ 32) };
 
     ghost write_is_after = { λ s text. refl };
@@ -215,18 +223,14 @@ pub type Crc32cHasher = ByteHasher<CrcRule<Castagnoli>>;
 pub fn crc32(bytes: &[u8]) -> u64
     ensures { result ≡ crc_answer (crc_from ieee all_ones bytes.now) }
 {
-    let mut hasher = Crc32Hasher::default();
-    hasher.write(bytes);
-    hasher.finish()
+    hash_of::<Crc32Hasher>(bytes)
 }
 
 /// CRC-32C of the bytes.
 pub fn crc32c(bytes: &[u8]) -> u64
     ensures { result ≡ crc_answer (crc_from castagnoli all_ones bytes.now) }
 {
-    let mut hasher = Crc32cHasher::default();
-    hasher.write(bytes);
-    hasher.finish()
+    hash_of::<Crc32cHasher>(bytes)
 }
 
 /// The word with one bit gone out.

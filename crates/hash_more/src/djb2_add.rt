@@ -4,8 +4,9 @@ ghost use Rattle.std.proofs.Common.{lit<};
 ghost use Rattle.hash_more.specs.Djb2Add.{djb2_add_step, djb2_add_from};
 ghost use Rattle.hash_more.specs.Djb2AddLaws.{djb2_add_facts};
 
-use hashers::oz::UNPRODUCT_33;
-use hashers::rules::{ByteHasher, Plain, PlainRule, PlainUndo, whole_text};
+use hash_bytes::oz::UNPRODUCT_33;
+use hash_laws::traits::hash_of;
+use hash_rules::{ByteHasher, Plain, PlainRule, PlainUndo};
 
 /// The rule of djb2 with a sum.
 pub struct Djb2AddRule;
@@ -72,5 +73,5 @@ pub type Djb2AddHasher = ByteHasher<Plain<Djb2AddRule>>;
 pub fn djb2_add(bytes: &[u8]) -> u64
     ensures { result ≡ djb2_add_from 5381 bytes.now }
 {
-    whole_text::<Djb2AddRule>(bytes)
+    hash_of::<Djb2AddHasher>(bytes)
 }

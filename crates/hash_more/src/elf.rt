@@ -5,7 +5,8 @@ ghost use Rattle.std.proofs.Common.{lit<};
 ghost use Rattle.hash_more.specs.Elf.{elf_step, elf_from};
 ghost use Rattle.hash_more.specs.ElfLaws.{elf_in_range};
 
-use hashers::rules::{ByteHasher, Plain, PlainRule, whole_text};
+use hash_laws::traits::hash_of;
+use hash_rules::{ByteHasher, Plain, PlainRule};
 
 /// The rule of ELF's hash. Its steps lose information, so there is no way back.
 pub struct ElfRule;
@@ -56,5 +57,5 @@ pub type ElfHasher = ByteHasher<Plain<ElfRule>>;
 pub fn elf(bytes: &[u8]) -> u64
     ensures { result ≡ elf_from 0 bytes.now }
 {
-    whole_text::<ElfRule>(bytes)
+    hash_of::<ElfHasher>(bytes)
 }

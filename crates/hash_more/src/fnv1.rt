@@ -1,13 +1,14 @@
 //! The hash functions of Glenn Fowler, Landon Curt Noll and Kiem-Phong Vo in the variant 1: for each byte a product by a prime,
-//! and then an exclusive or. The starts and the primes are those of the variant 1a, `hashers::fnv`.
+//! and then an exclusive or. The starts and the primes are those of the variant 1a, `hash_bytes::fnv`.
 ghost use Rattle.std.specs.Prelude.{◌≡◌, ◌^◌};
 ghost use Rattle.std.proofs.Common.{lit<};
-ghost use Rattle.hashers.specs.Fnv.{fnv1a32_basis, fnv1a64_basis};
+ghost use Rattle.hash_bytes.specs.Fnv.{fnv1a32_basis, fnv1a64_basis};
 ghost use Rattle.hash_more.specs.Fnv1.{fnv1_32_step, fnv1_64_step, fnv1_32_from, fnv1_64_from};
 ghost use Rattle.hash_more.specs.Fnv1Laws.{fnv1_32_facts, fnv1_64_facts};
 
-use hashers::fnv::{BASIS_32, BASIS_64, PRIME_32, PRIME_64, UNPRIME_32, UNPRIME_64};
-use hashers::rules::{ByteHasher, Plain, PlainRule, PlainUndo, whole_text};
+use hash_bytes::fnv::{BASIS_32, BASIS_64, PRIME_32, PRIME_64, UNPRIME_32, UNPRIME_64};
+use hash_laws::traits::hash_of;
+use hash_rules::{ByteHasher, Plain, PlainRule, PlainUndo};
 
 /// The rule of FNV-1 at 32 bits.
 pub struct Fnv1Rule32;
@@ -73,7 +74,7 @@ pub type Fnv1Hasher32 = ByteHasher<Plain<Fnv1Rule32>>;
 pub fn fnv1_32(bytes: &[u8]) -> u64
     ensures { result ≡ fnv1_32_from fnv1a32_basis bytes.now }
 {
-    whole_text::<Fnv1Rule32>(bytes)
+    hash_of::<Fnv1Hasher32>(bytes)
 }
 
 /// The rule of FNV-1 at 64 bits.
@@ -141,5 +142,5 @@ pub type Fnv1Hasher64 = ByteHasher<Plain<Fnv1Rule64>>;
 pub fn fnv1_64(bytes: &[u8]) -> u64
     ensures { result ≡ fnv1_64_from fnv1a64_basis bytes.now }
 {
-    whole_text::<Fnv1Rule64>(bytes)
+    hash_of::<Fnv1Hasher64>(bytes)
 }

@@ -1,12 +1,13 @@
 //! One-at-a-time, from Bob Jenkins' page on hash functions, at 32 bits as he published it.
 ghost use Rattle.std.specs.Prelude.{◌≡◌, ◌*◌, ◌%◌, ◌^◌, ◌<◌};
 ghost use Rattle.std.proofs.Common.{lit<};
-ghost use Rattle.hashers.specs.Words.{xorshift};
+ghost use Rattle.hash_rounds.specs.Words.{xorshift};
 ghost use Rattle.hash_more.specs.Joaat.{joaat_step, joaat_from, joaat_answer};
 ghost use Rattle.hash_more.specs.JoaatLaws.{joaat_facts, joaat_answer_same};
 
-use hashers::rounds::unxorshift;
-use hashers::rules::{ByteHasher, Plain, PlainRule, PlainUndo, whole_text};
+use hash_laws::traits::hash_of;
+use hash_rounds::unxorshift;
+use hash_rules::{ByteHasher, Plain, PlainRule, PlainUndo};
 
 /// What undoes a product by 1025.
 const UN_1025: u32 = 3222273025;
@@ -113,5 +114,5 @@ pub type JoaatHasher = ByteHasher<Plain<JoaatRule>>;
 pub fn joaat(bytes: &[u8]) -> u64
     ensures { result ≡ joaat_answer (joaat_from 0 bytes.now) }
 {
-    whole_text::<JoaatRule>(bytes)
+    hash_of::<JoaatHasher>(bytes)
 }

@@ -8,7 +8,7 @@ use crate::windows::{
     apart_crc32, apart_crc32_bits, apart_crc32c, apart_crc32c_bits, apart_djb2_add, apart_fnv1_32,
     apart_fnv1_64,
 };
-use hashers::laws::{Piecewise, Undo, answer_of_pieces, apart_by_one};
+use hash_laws::traits::{Piecewise, Undo, answer_of_pieces, apart_by_one};
 use std::process::Abort;
 
 /// That each number is as wanted.

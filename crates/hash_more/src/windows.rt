@@ -3,15 +3,15 @@
 //! None of them computes a hash.
 ghost use Rattle.std.specs.Prelude.{◌≡◌, ◌≢◌, ◌<◌, ◌↔◌, ℕ, List, length, slice_index, IsTrue, IfNone, IfSome};
 ghost use Rattle.std.specs.Bool.{OnTrue};
-ghost use Rattle.hashers.specs.Text.{IsText};
-ghost use Rattle.hashers.specs.DifferWithin.{DifferWithin, IsFirstDifference};
-ghost use Rattle.hashers.specs.Fnv.{fnv1a32_basis, fnv1a64_basis};
+ghost use Rattle.hash_laws.specs.Text.{IsText};
+ghost use Rattle.hash_laws.specs.DifferWithin.{DifferWithin, IsFirstDifference};
+ghost use Rattle.hash_bytes.specs.Fnv.{fnv1a32_basis, fnv1a64_basis};
 ghost use Rattle.hash_more.specs.Bursts.{DifferWithinBits};
 ghost use Rattle.hash_more.specs.Crc32.{ieee, castagnoli, all_ones, crc_from, crc_answer};
 ghost use Rattle.hash_more.specs.Djb2Add.{djb2_add_from};
 ghost use Rattle.hash_more.specs.Fnv1.{fnv1_32_from, fnv1_64_from};
 
-use hashers::window::is_window;
+use hash_laws::window::is_window;
 
 // In how many neighbouring places two texts may differ.
 const CRC_PLACES: usize = 4;

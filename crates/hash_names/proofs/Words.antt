@@ -1,11 +1,11 @@
 -- fx of a text in pieces of 4096 bytes, which are whole words.
 use Rattle.std.proofs.Common.{◌≡◌, ◌%◌, ℕ, List, ◌++◌, length, fold, lit<, arith, ap, ◌∙◌}
-use Rattle.hashers.specs.Reading.{cut}
-use Rattle.hashers.proofs.ReadingLemmas.{fold-cut_whole}
-use Rattle.hashers.proofs.RecurrenceLemmas.{recurrence-append}
-use Rattle.hashers.specs.Fx.{fx32_step, fx64_step, fx32, fx64, words32, words64}
-use Rattle.hashers.specs.FxLaws.{fx32_nothing, fx64_nothing}
-use Rattle.hashers.proofs.WholeWords.{words32-append, words64-append}
+use Rattle.hash_laws.specs.Reading.{cut}
+use Rattle.hash_laws.proofs.ReadingLemmas.{fold-cut_whole}
+use Rattle.hash_laws.proofs.RecurrenceLemmas.{recurrence-append}
+use Rattle.hash_fx.specs.Fx.{fx32_step, fx64_step, fx32, fx64, words32, words64}
+use Rattle.hash_fx.specs.FxLaws.{fx32_nothing, fx64_nothing}
+use Rattle.hash_fx.proofs.WholeWords.{words32-append, words64-append}
 
 after32 : (text more : List ℕ) → length text % 4096 ≡ 0 → fx32 0 (words32 (text ++ more)) ≡ fx32 (fx32 0 (words32 text)) (words32 more)
 after32 text more whole = ap (fx32 0) (words32-append text more (omega (arith, whole)))

@@ -1,50 +1,107 @@
--- The hashes by their names.
-use Rattle.std.specs.Prelude.{ℕ, ◌≡◌, ◌+◌, ◌*◌, ◌^◌, List, Option, Some, None, [], ◌∷◌, codes, fold}
-use Rattle.std.specs.Map.{lookup}
+-- The hashes of the table.
+use Rattle.std.specs.Prelude.{ℕ, ◌+◌, ◌*◌, ◌^◌, Bool, true, false, List, Option, Some, None, codes, fold, option_map, slice_get}
+use Rattle.std.specs.List.{find}
 use Rattle.std.specs.Str.{bytes_eq}
-use Rattle.hashers.specs.Reading.{cut}
-use Rattle.hashers.specs.Fnv.{fnv1a32_from, fnv1a32_basis, fnv1a64_from, fnv1a64_basis}
-use Rattle.hashers.specs.Fx.{fx32, fx64, words32, words64}
-use Rattle.hashers.specs.Lookup3.{lookup3_from, lookup3_answer}
-use Rattle.hashers.specs.Oaat.{oaat_finish, oaat_state}
-use Rattle.hashers.specs.Oz.{djb2_from}
-use Rattle.hashers.specs.Pigeon.{bricolage_from}
-use Rattle.hashers.specs.Spooky.{spooky, spooky_v1}
-use Rattle.hashers.specs.Sums.{sdbm_from, loselose_from, passthrough_from}
+use Rattle.hash_more.specs.Crc32.{all_ones, castagnoli, crc_answer, crc_from, ieee}
+use Rattle.hash_more.specs.Djb2Add.{djb2_add_from}
+use Rattle.hash_more.specs.Elf.{elf_from}
+use Rattle.hash_more.specs.Fnv1.{fnv1_32_from, fnv1_64_from}
+use Rattle.hash_more.specs.Joaat.{joaat_answer, joaat_from}
+use Rattle.hash_names.specs.declared.table.Kind.{Kind}
+use Rattle.hash_names.specs.declared.table.Kind.TheVariants.{Fnv1a32, Fnv1a64, Djb2, Sdbm, LoseLose, Bricolage, Oaat, Lookup3, Spooky, SpookyV1, PassThrough, FxHash, FxHash32, FxHash64, Crc32, Crc32c, Fnv1At32, Fnv1At64, Djb2Add, Joaat, Elf, Null}
+use Rattle.hash_names.specs.declared.table.TheConstants.{KINDS}
+use Rattle.hash_laws.specs.Reading.{cut}
+use Rattle.hash_bytes.specs.Fnv.{fnv1a32_from, fnv1a32_basis, fnv1a64_from, fnv1a64_basis}
+use Rattle.hash_fx.specs.Fx.{fx32, fx64, words32, words64}
+use Rattle.hash_jenkins.specs.Lookup3.{lookup3_from, lookup3_answer}
+use Rattle.hash_jenkins.specs.Oaat.{oaat_finish, oaat_state}
+use Rattle.hash_bytes.specs.Oz.{djb2_from}
+use Rattle.hash_bytes.specs.Pigeon.{bricolage_from}
+use Rattle.hash_jenkins.specs.Spooky.{spooky, spooky_v1}
+use Rattle.hash_rounds.specs.Sums.{sdbm_from, loselose_from, passthrough_from}
+
+-- what is said of a hash: its number, which never changes, its name, how many bits its numbers have, whether cuts between writes show, and what it makes of a text in
+-- one call, from the default start
+pub record Row : Type 0 where
+  pub number : ℕ
+  pub name : List ℕ
+  pub bits : ℕ
+  pub cuts : Bool
+  pub hash : List ℕ → ℕ
+
+abbrev pub row : (number : ℕ) (name : List ℕ) (bits : ℕ) (cuts : Bool) (hash : List ℕ → ℕ) → Row
+row number name bits cuts hash = record { number = number; name = name; bits = bits; cuts = cuts; hash = hash }
+
+-- the table
+abbrev pub row_of : Kind → Row
+row_of Fnv1a32 = row 0 (codes "fnv1a32") 32 false (fnv1a32_from fnv1a32_basis)
+row_of Fnv1a64 = row 1 (codes "fnv1a64") 64 false (fnv1a64_from fnv1a64_basis)
+row_of Djb2 = row 2 (codes "djb2") 32 false (djb2_from 5381)
+row_of Sdbm = row 3 (codes "sdbm") 32 false (sdbm_from 0)
+row_of LoseLose = row 4 (codes "loselose") 64 false (loselose_from 0)
+row_of Bricolage = row 5 (codes "bricolage") 64 false (bricolage_from 0)
+row_of Oaat = row 6 (codes "oaat") 64 false (λ text. oaat_finish (oaat_state 0 text))
+row_of Lookup3 = row 7 (codes "lookup3") 64 true (λ text. lookup3_answer (lookup3_from (0, 0) text))
+row_of Spooky = row 8 (codes "spooky") 64 false (λ text. (spooky 0 0 text).0)
+row_of SpookyV1 = row 9 (codes "spooky_v1") 64 false (λ text. (spooky_v1 0 0 text).0)
+row_of PassThrough = row 10 (codes "passthrough") 64 false (passthrough_from 0)
+row_of FxHash = row 11 (codes "fxhash") 64 true (λ text. fx64 0 (words64 text))
+row_of FxHash32 = row 12 (codes "fxhash32") 32 true (λ text. fx32 0 (words32 text))
+row_of FxHash64 = row 13 (codes "fxhash64") 64 true (λ text. fx64 0 (words64 text))
+row_of Crc32 = row 14 (codes "crc32") 32 false (λ text. crc_answer (crc_from ieee all_ones text))
+row_of Crc32c = row 15 (codes "crc32c") 32 false (λ text. crc_answer (crc_from castagnoli all_ones text))
+row_of Fnv1At32 = row 16 (codes "fnv1_32") 32 false (fnv1_32_from fnv1a32_basis)
+row_of Fnv1At64 = row 17 (codes "fnv1_64") 64 false (fnv1_64_from fnv1a64_basis)
+row_of Djb2Add = row 18 (codes "djb2_add") 32 false (djb2_add_from 5381)
+row_of Joaat = row 19 (codes "joaat") 32 false (λ text. joaat_answer (joaat_from 0 text))
+row_of Elf = row 20 (codes "elf") 28 false (elf_from 0)
+row_of Null = row 21 (codes "null") 0 false (λ text. 0)
+
+abbrev pub number_of : Kind → ℕ
+number_of kind = (row_of kind).number
+
+abbrev pub name_of : Kind → List ℕ
+name_of kind = (row_of kind).name
+
+abbrev pub bits_of : Kind → ℕ
+bits_of kind = (row_of kind).bits
+
+abbrev pub shows_cuts : Kind → Bool
+shows_cuts kind = (row_of kind).cuts
+
+-- the hash of a text in one call
+abbrev pub hash_of : Kind → List ℕ → ℕ
+hash_of kind = (row_of kind).hash
+
+-- the hash of that number, if there is one
+unfoldable pub kind_at : ℕ → Option Kind
+kind_at number = slice_get KINDS number
+
+-- what it makes of a text in one call; 0 where there is none
+abbrev pub hash_of_option : Option Kind → List ℕ → ℕ
+hash_of_option (Some kind) = hash_of kind
+hash_of_option None = λ text. 0
+
+abbrev pub hash_at : ℕ → List ℕ → ℕ
+hash_at number = hash_of_option (kind_at number)
 
 -- what a hasher makes of a text in pieces of 4096 bytes
 abbrev pub pieced : {S A : Type 0} (after : S → List ℕ → S) (fresh : S) (answer : S → A) → List ℕ → A
 pieced after fresh answer text = answer (fold after fresh (cut 4096 text))
 
--- each name, with the hash of a text from the default start; lookup3's is that of pieces of 4096 bytes
-abbrev pub hashes : List (List ℕ × (List ℕ → ℕ))
-hashes =
-    (codes "fnv1a32", fnv1a32_from fnv1a32_basis)
-    ∷ (codes "fnv1a64", fnv1a64_from fnv1a64_basis)
-    ∷ (codes "djb2", djb2_from 5381)
-    ∷ (codes "sdbm", sdbm_from 0)
-    ∷ (codes "loselose", loselose_from 0)
-    ∷ (codes "bricolage", bricolage_from 0)
-    ∷ (codes "oaat", λ text. oaat_finish (oaat_state 0 text))
-    ∷ (codes "lookup3", pieced lookup3_from (0, 0) lookup3_answer)
-    ∷ (codes "spooky", λ text. (spooky 0 0 text).0)
-    ∷ (codes "spooky_v1", λ text. (spooky_v1 0 0 text).0)
-    ∷ (codes "null", λ text. 0)
-    ∷ (codes "passthrough", passthrough_from 0)
-    ∷ (codes "fxhash", λ text. fx64 0 (words64 text))
-    ∷ (codes "fxhash32", λ text. fx32 0 (words32 text))
-    ∷ (codes "fxhash64", λ text. fx64 0 (words64 text))
-    ∷ []
+-- the hash of a text that is read: the same, but of lookup3 that of pieces of 4096 bytes
+abbrev pub read_of : Kind → List ℕ → ℕ
+read_of Lookup3 = pieced lookup3_from (0, 0) lookup3_answer
+read_of kind = hash_of kind
+
+-- the hash of that name, if there is one
+unfoldable pub kind_named : List ℕ → Option Kind
+kind_named name = find (λ kind. bytes_eq (name_of kind) name) KINDS
+
+-- the same, as what it makes of a text that is read
+abbrev pub named : List ℕ → Option (List ℕ → ℕ)
+named name = option_map read_of (kind_named name)
 
 -- the 128 bits of SpookyHash under two seeds of 0, the first word above the second
 abbrev pub spooky128 : List ℕ → ℕ
 spooky128 text = (spooky 0 0 text).0 * 2 ^ 64 + (spooky 0 0 text).1
-
--- the hash of that name, if there is one
-abbrev pub named : List ℕ → Option (List ℕ → ℕ)
-named name = lookup (bytes_eq name) hashes
-
--- what came of something that is done by the hash of a name: that, or nothing where no hash has the name
-abbrev pub ComesOf : {A : Type 0} (by : (List ℕ → ℕ) → A → Type 0) (untouched : Type 0) → Option (List ℕ → ℕ) → Option A → Type 0
-ComesOf {A = A} by untouched None result = (result ≡ None) × untouched
-ComesOf {A = A} by untouched (Some hash) result = (outcome : A) × (result ≡ Some outcome) × by hash outcome

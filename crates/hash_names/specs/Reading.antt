@@ -1,8 +1,8 @@
 -- What came of hashing all that a reader gives.
 use Rattle.std.specs.Prelude.{ℕ, ◌≡◌, ◌<◌, List, Option, Some, None, Result, Ok, Err, length, fold}
 use Rattle.std.specs.Io.KnownBytes.{Consumes, IsAtEnd, Keeps}
-use Rattle.hashers.specs.Reading.{cut}
-use Rattle.hashers.specs.Text.{IsText}
+use Rattle.hash_laws.specs.Reading.{cut}
+use Rattle.hash_laws.specs.Text.{IsText}
 use Rattle.hash_names.specs.declared.reading.Unhashed.{Unhashed}
 use Rattle.hash_names.specs.declared.reading.Unhashed.TheVariants.{UnknownName, ReadFault, TooLong}
 

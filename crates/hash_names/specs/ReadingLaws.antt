@@ -1,6 +1,6 @@
 -- What came of reading, by hashes that agree.
 use Rattle.std.proofs.Common.{ℕ, ◌≡◌, ◌∙◌, List, Result, Ok, Err}
-use Rattle.hashers.specs.Text.{IsText}
+use Rattle.hash_laws.specs.Text.{IsText}
 use Rattle.hash_names.specs.declared.reading.Unhashed.{Unhashed}
 use Rattle.hash_names.specs.declared.reading.Unhashed.TheVariants.{UnknownName, ReadFault, TooLong}
 use Rattle.hash_names.specs.Reading.{Reading, Hashes}

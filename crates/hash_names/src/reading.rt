@@ -1,13 +1,13 @@
 //! The hash of all that a reader gives.
 ghost use Rattle.std.specs.Prelude.{◌<◌, ◌≤◌, fold};
-ghost use Rattle.hashers.specs.Reading.{cut};
-ghost use Rattle.hashers.specs.Spooky.{spooky_v1};
+ghost use Rattle.hash_laws.specs.Reading.{cut};
+ghost use Rattle.hash_jenkins.specs.Spooky.{spooky_v1};
 ghost use Rattle.hash_names.specs.Named.{spooky128};
 ghost use Rattle.hash_names.specs.Reading.{Feeds, Hashes, read};
 
-use hashers::engine::{Fault, hash_reader};
-use hashers::jenkins::spooky_hash::SpookyHasher;
-use hashers::laws::{Piecewise, Streamed};
+use hash_jenkins::spooky_hash::SpookyHasher;
+use hash_laws::engine::{Fault, hash_reader};
+use hash_laws::traits::{Piecewise, Streamed};
 use std::error::Error as StdError;
 use std::fmt;
 use std::fmt::{Display, Formatter};

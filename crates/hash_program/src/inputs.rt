@@ -1,6 +1,7 @@
 //! The inputs of a call, in their order: files by their names, and standard input. Each that fails is told by its name and with the reason.
 ghost use Rattle.std.specs.Io.{ReadsAtMost};
 
+use crate::quoted::quoted;
 use crate::reason::reason;
 use std::alloc::AllocError;
 use std::fs::File;
@@ -158,7 +159,7 @@ impl Complaints for Told<'_, '_> {
 /// Says on standard error that the file of that name failed, and why, behind the program's name.
 pub fn tell_failure(rt: &HostRuntime, program: &str, name: &[u8], error: &Error) {
     let alloc = rt.alloc();
-    let (Ok(name), Ok(why)) = (String::from_utf8_lossy(alloc, name), reason(alloc, error)) else {
+    let (Ok(name), Ok(why)) = (quoted(alloc, name), reason(alloc, error)) else {
         let _ = eprintln!(rt; "{program}: out of memory");
         return;
     };

@@ -31,12 +31,6 @@ pairs_remove nodes i =
     map-append pair_of (take i nodes) (drop (suc i) nodes)
     ∙ (λ j. sym (take-map pair_of i nodes) j ++ sym (drop-map pair_of (suc i) nodes) j)
 
-pub remove_insert : {X : Type 0} (xs : List X) (i : ℕ) (x : X) → i ≤ length xs → remove (insert xs i x) i ≡ xs
-remove_insert [] zero x h = refl
-remove_insert [] (suc i) x h = absurd (omega arith)
-remove_insert (y ∷ xs) zero x h = refl
-remove_insert (y ∷ xs) (suc i) x h = ap (λ rest. y ∷ rest) (remove_insert xs i x (omega arith))
-
 -- a list that was written over whole
 pub over : (new old : List Point) (n : ℕ) → length new ≡ length old → n ≡ length old → take n (new ++ drop (length new) old) ≡ new
 over new old n same is =

@@ -8,7 +8,7 @@ use Rattle.std.specs.declared.cmp.Ordering.TheVariants.{Less, Equal, Greater}
 use Rattle.std.proofs.lemmas.Bool.{cases_lt}
 use Rattle.std.proofs.lemmas.Cmp.{then_total, on_total, nat_cmp_total, ranked}
 use Rattle.std.proofs.lemmas.List.{get_or_default, get_or_past, get_or-map, length-append, length-map, get_or_append_left}
-use Rattle.std.proofs.lemmas.List.Elements.{All-append, All-nil, Contains-append_left, Contains-append_right}
+use Rattle.std.proofs.lemmas.List.Elements.{All-append, Contains-append_left, Contains-append_right}
 use Rattle.std.proofs.lemmas.List.Sorted.{All-permutation, Contains-permutation, sorted_far, ranks_by}
 use Rattle.std.proofs.lemmas.List.FromFn.{length-map-range_with_len, get_or-map-range_with_len}
 use Rattle.std.proofs.Math.Seq.{get_or-append_seam}
@@ -30,13 +30,6 @@ is_there hash nodes i place of = ⊎_elim
     (cases_lt i (length nodes))
 
 module _ (hash : List ℕ → ℕ) where
-  pub ArePoints-nil : ArePoints hash [] []
-  ArePoints-nil = record {
-    real = All-nil (IsPointOfItsNode hash []);
-    all = λ i place of. absurd
-        (omega (arith, is_there hash [] i place of));
-  }
-
   -- a point of a node is among the node's points, and only such are
   pub among : (node : List ℕ × ℕ) (i place : ℕ) → IsPointOf hash node place
       → Contains (points_of hash node i) (record { place = place; node = i })

@@ -1,12 +1,11 @@
 -- Blocks of joined texts.
-use Rattle.std.proofs.Common.{◌≡◌, ℕ, ◌+◌, ◌-◌, ◌*◌, ◌/◌, ◌%◌, ◌<◌, ◌≤◌, List, [], ◌∷◌, ◌++◌, length, get_or, fold, take, drop, reverse, refl, sym, ap, ◌∙◌, arith, length-append, length-drop}
+use Rattle.std.proofs.Common.{◌≡◌, ℕ, ◌+◌, ◌-◌, ◌*◌, ◌/◌, ◌%◌, ◌<◌, List, [], ◌∷◌, ◌++◌, length, fold, take, drop, refl, sym, ◌∙◌, arith, length-append, length-drop}
 use Rattle.std.specs.Simd.{first_chunks}
-use Rattle.std.proofs.lemmas.List.{take-append-drop, length-take-le, take_more, drop_more, reverse-append}
-use Rattle.std.proofs.lemmas.List.Sums.{fold_more}
+use Rattle.std.proofs.lemmas.List.{take-append-drop, length-take-le}
 use Rattle.std.proofs.lemmas.Grind.{fold-append}
 use Rattle.hash_rounds.specs.Words.{AreWords}
 use Rattle.hash_rounds.specs.Rounds.{spooky_mix_steps}
-use Rattle.hash_rounds.specs.Blocks.{pieces, le_words, mix_block, unmix_block, spooky_blocks}
+use Rattle.hash_rounds.specs.Blocks.{pieces, le_words, mix_block, spooky_blocks}
 use Rattle.hash_rounds.proofs.Chunks.{first_chunks-append}
 use Rattle.hash_rounds.proofs.StepLemmas.{apply-words}
 use Rattle.hash_rounds.proofs.RoundLemmas.{spooky_mix-steps}
@@ -45,31 +44,3 @@ pub spooky_blocks-words : (s bytes : List ℕ) → length s ≡ 12 → AreWords 
     → (length (spooky_blocks s bytes) ≡ 12) × AreWords 64 (spooky_blocks s bytes)
 unfolding spooky_blocks
 spooky_blocks-words s bytes twelve s_in = fold-words s (pieces 96 bytes) twelve s_in
-
--- ---- one block more, which can be taken out again
-
-module _ (s now next : List ℕ) (blocks : List (List ℕ)) where
-  pub mix_block-more : (i : ℕ) → i < length blocks
-      → now ≡ fold mix_block s (take i blocks) → fold unmix_block now (reverse (take i blocks)) ≡ s
-      → next ≡ mix_block now (get_or blocks i []) → unmix_block next (get_or blocks i []) ≡ now
-      → (next ≡ fold mix_block s (take (i + 1) blocks)) × (fold unmix_block next (reverse (take (i + 1) blocks)) ≡ s)
-  mix_block-more i i_in made unmade mixed unmixed =
-      let b = get_or blocks i [] in
-      let last = ap reverse (take_more blocks i [] i_in) ∙ reverse-append (take i blocks) (b ∷ []) in (
-        mixed ∙ ap (λ h. mix_block h b) made ∙ sym (fold_more mix_block s blocks i [] i_in),
-        ap (fold unmix_block next) last ∙ ap (λ h. fold unmix_block h (reverse (take i blocks))) unmixed ∙ unmade,
-      )
-
-  pub unmix_block-more : (i : ℕ) → 0 < i → i ≤ length blocks
-      → now ≡ fold unmix_block s (reverse (drop i blocks)) → fold mix_block now (drop i blocks) ≡ s
-      → next ≡ unmix_block now (get_or blocks (i - 1) []) → mix_block next (get_or blocks (i - 1) []) ≡ now
-      → (next ≡ fold unmix_block s (reverse (drop (i - 1) blocks))) × (fold mix_block next (drop (i - 1) blocks) ≡ s)
-  unmix_block-more i some i_in unmade made unmixed mixed =
-      let b = get_or blocks (i - 1) [] in
-      let back : i - 1 + 1 ≡ i = omega arith in
-      let first = rw back at (drop_more blocks (i - 1) [] (omega arith)) in
-      let last = ap reverse first ∙ reverse-append (b ∷ []) (drop i blocks) in (
-        unmixed ∙ ap (λ h. unmix_block h b) unmade ∙ sym (ap (fold unmix_block s) last
-            ∙ fold-append unmix_block s (reverse (drop i blocks)) (b ∷ [])),
-        ap (fold mix_block next) first ∙ ap (λ h. fold mix_block h (drop i blocks)) mixed ∙ made,
-      )

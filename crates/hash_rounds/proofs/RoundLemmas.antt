@@ -39,11 +39,6 @@ module _ (h : List ℕ) (are : AreFourWords h) where
       let kept = apply-words 64 0 rounds.short_mix_steps [] h (rw are.0 short_mix-steps) words in
       (kept.0 ∙ are.0, AreWords-at 64 (short_mix h) kept.1)
 
-  pub short_end-AreFourWords : AreFourWords (short_end h)
-  short_end-AreFourWords =
-      let kept = apply-words 64 0 rounds.short_end_steps [] h (rw are.0 short_end-steps) words in
-      (kept.0 ∙ are.0, AreWords-at 64 (short_end h) kept.1)
-
 -- no two states of four words are mixed alike, or end alike
 pub short_mix-same : (h k : List ℕ) → AreFourWords h → AreFourWords k → short_mix h ≡ short_mix k → h ≡ k
 short_mix-same h k h_in k_in same =

@@ -138,10 +138,6 @@ loselose-fold s (b ∷ t) s_in =
 
 -- ---- bytes behind a word
 
-pub passthrough-lt : (s : ℕ) (t : List ℕ) → passthrough_from s t < 2 ^ 64
-unfolding passthrough_from
-passthrough-lt s t = mod-lt _ (lit< tt)
-
 pub passthrough_sums : SumFacts passthrough_from passthrough_step (2 ^ 64)
 unfolding passthrough_from
 passthrough_sums = number_sums 256 (2 ^ 64)

@@ -98,6 +98,11 @@ impl<R: ByteRule> Piecewise for ByteHasher<R> {
     }
 
     #[inline(always)]
+    fn whole(text: &[u8]) -> u64 {
+        R::whole(text)
+    }
+
+    #[inline(always)]
     fn fork(&self) -> ByteHasher<R> {
         ByteHasher {
             state: R::fork(&self.state),

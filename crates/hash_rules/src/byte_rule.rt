@@ -59,6 +59,10 @@ pub trait ByteRule: StepRule {
     fn answer(state: &Self::State) -> u64
         ensures { result ≡ answer (Self.number state.now) };
 
+    /// The answer to a whole text.
+    fn whole(text: &[u8]) -> u64
+        ensures { result ≡ answer (after (Self.number Self.start) text.now) };
+
     /// The number after a text is the fold of the step.
     ghost is_fold: { (s : ℕ) (text : List ℕ) → s < Self.bound → after s text ≡ fold Self.step s text };
 

@@ -12,6 +12,6 @@ mod word_rule;
 pub use byte_hasher::ByteHasher;
 pub use byte_rule::{ByteRule, StepRule, UndoRule};
 pub use plain_rule::{Plain, PlainRule, PlainUndo, Word};
-pub use texts::{alone_or_in_eights, in_eights, whole_text};
+pub use texts::{alone_or_in_eights, in_eights};
 pub use word_hasher::WordHasher;
 pub use word_rule::WordRule;

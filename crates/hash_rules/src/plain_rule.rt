@@ -6,7 +6,7 @@ ghost use Rattle.hash_laws.specs.Recurrence.{recurrence};
 ghost use Rattle.hash_laws.proofs.RecurrenceLemmas.{recurrence_is_fold};
 
 use crate::byte_rule::{ByteRule, StepRule, UndoRule};
-use crate::texts::{alone_or_in_eights, in_eights};
+use crate::texts::{alone_or_in_eights, in_eights, whole_text};
 use std::marker::PhantomData;
 
 /// A word that is kept.
@@ -162,6 +162,11 @@ impl<R: PlainRule> ByteRule for Plain<R> {
     #[inline(always)]
     fn answer(state: &R::Word) -> u64 {
         R::answer(*state)
+    }
+
+    #[inline(always)]
+    fn whole(text: &[u8]) -> u64 {
+        whole_text::<R>(text)
     }
 
     ghost is_fold = { recurrence_is_fold R.step R.bound };

@@ -102,6 +102,11 @@ impl<R: WordRule, Name> Piecewise for WordHasher<R, Name> {
     }
 
     #[inline(always)]
+    fn whole(text: &[u8]) -> u64 {
+        R::whole(text)
+    }
+
+    #[inline(always)]
     fn fork(&self) -> WordHasher<R, Name> {
         WordHasher {
             state: self.state,

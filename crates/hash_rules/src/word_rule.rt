@@ -39,6 +39,10 @@ pub trait WordRule {
         ensures written { result ≡ write state piece.now }
         ensures in_range { number result < bound };
 
+    /// The answer to a whole text.
+    fn whole(text: &[u8]) -> u64
+        ensures { result ≡ after (number start) text.now };
+
     /// The words of a piece out again, from the last to the first.
     fn unwrite(state: Self::Word, piece: &[u8]) -> Self::Word
         ensures back { after (number result) piece.now ≡ number state }

@@ -1,19 +1,19 @@
 -- Tables of slots: what a search finds, and what a slot more changes.
-use Rattle.std.proofs.Common.{ℕ, zero, suc, ◌≡◌, ◌+◌, ◌-◌, ◌^◌, ◌<◌, ◌≤◌, ◌==◌, ◌⊎◌, inl, inr, Bool, true, false, not, cond, ◌&&◌, ◌||◌, Option, Some, None, List, [], ◌∷◌, ◌++◌, length, get_or, take, replicate, All, Contains, arith, sym, ap, ◌∙◌, subst, refl, length-append}
+use Rattle.std.proofs.Common.{ℕ, zero, suc, ◌≡◌, ◌+◌, ◌-◌, ◌^◌, ◌<◌, ◌≤◌, ◌==◌, ◌⊎◌, inl, inr, Bool, true, false, not, cond, ◌&&◌, ◌||◌, Some, None, List, [], ◌∷◌, ◌++◌, length, get_or, take, replicate, All, Contains, arith, sym, ap, ◌∙◌, subst, refl, length-append}
 use Rattle.std.specs.List.{count_by, list_any, Any}
 use Rattle.std.specs.Str.{bytes_eq}
 use Rattle.std.proofs.Math.ListN.{set}
-use Rattle.std.proofs.Math.Seq.{take-length, get_or-append_seam}
+use Rattle.std.proofs.Math.Seq.{get_or-append_seam}
 use Rattle.std.proofs.lemmas.Bool.{cases_Bool, cases_eq, cases_lt, cases_order, both_ways, false_from_ne_true, not-true, not-false, or_parts, and_parts, and_left, eq-eqb, ne_eqb}
 use Rattle.std.proofs.lemmas.List.{length-set, get_or-set_same, get_or-set_other, get_or_default, get_or_append_left}
-use Rattle.std.proofs.lemmas.List.Elements.{All-set, All-contains, All-contains_itself, All-replicate, All-tail, All-head}
+use Rattle.std.proofs.lemmas.List.Elements.{All-set, All-contains, All-replicate, All-tail, All-head}
 use Rattle.std.proofs.lemmas.List.Folds.{list_any_none, list_any_at, list_any_more, list_any-append, Any-from_list_any, sum_by-replicate}
 use Rattle.std.proofs.lemmas.List.Sums.{sum_by-cons, sum_by-set}
 use Rattle.std.proofs.lemmas.Slice.Eq.{bytes_eq-Decides}
 use Rattle.hash_texts.specs.Texts.{EachOnce, IsFullOnlyAt, StandsAt, has, with_text}
 use Rattle.hash_texts.specs.declared.texts.Full.{Full}
 use Rattle.hash_texts.specs.declared.texts.Full.TheVariants as why
-use Rattle.hash_texts.specs.Slots.{AreFound, FirstBetween, FirstRound, HoldsUpTo, IsRefilled, IsTable, IsTagged, Names, free_count, home_of, is_taken, some_taken, stops, text_of}
+use Rattle.hash_texts.specs.Slots.{AreFound, FirstRound, HoldsUpTo, IsRefilled, IsTable, IsTagged, Names, free_count, home_of, is_taken, some_taken, stops, text_of}
 use Rattle.hash_texts.specs.declared.slots.Slot.{Slot}
 use Rattle.hash_texts.specs.declared.slots.TheConstants.{EMPTY, NOWHERE}
 
@@ -44,29 +44,6 @@ one_comes_first P Q n home i k p q i_in k_in = elim (cases_order k i) [
     | inr from ↦ inr (q.near i from after)
   ])
 ]
-
-pub round_late : (test : Slot → Bool) (slots : List Slot) (home place : ℕ) → FirstBetween test slots home (length slots) (Some place)
-    → FirstRound test slots home (Some place)
-round_late test slots home place (from, below, passes, before) = (
-  below,
-  passes,
-  record { near = before; to_the_end = λ turns j _ _. absurd (omega arith); from_the_start = λ turns j _. absurd (omega arith) },
-)
-
-pub round_early : (test : Slot → Bool) (slots : List Slot) (home : ℕ) (result : Option ℕ) → home ≤ length slots
-    → FirstBetween test slots home (length slots) None → FirstBetween test slots 0 home result → FirstRound test slots home result
-round_early test slots home None within late early =
-    λ j below. elim (cases_lt j home) [ inl less ↦ early j (omega arith) less | inr from ↦ late j from below ]
-round_early test slots home (Some place) within late (from, below, passes, before) = (
-  omega arith,
-  passes,
-  record {
-    near = λ j home_first j_below. absurd (omega arith);
-    to_the_end = λ turns. late;
-    from_the_start = λ turns j j_below. before j
-        (omega arith) j_below;
-  },
-)
 
 -- ---- a slot more
 
@@ -387,31 +364,6 @@ module _ (slots : List Slot) (done count : ℕ) (more : List Slot) (before : Ref
       swapped true false = refl
       swapped false true = refl
       swapped false false = refl
-
-pub refilled_all : (slots : List Slot) (count : ℕ) (more : List Slot) → Refilling slots (length slots) count more
-    → IsRefilled slots (count - length slots) more
-refilled_all slots count more all = record {
-  found = all.found;
-  roomy = omega (arith, all.roomy);
-  kept = λ test. all.kept test ∙ ap (some_taken test) (take-length slots);
-  among = all.among;
-}
-
-pub refilled_same : (slots : List Slot) (room : ℕ) → AreFound slots → room ≤ free_count slots → IsRefilled slots room slots
-refilled_same slots room found roomy = record {
-  found = found;
-  roomy = roomy;
-  kept = λ test. refl;
-  among = λ k d below _. All-contains_itself slots k d below;
-}
-
-pub refilled_less : (slots more : List Slot) (room less : ℕ) → less ≤ room → IsRefilled slots room more → IsRefilled slots less more
-refilled_less slots more room less within refilled = record {
-  found = refilled.found;
-  roomy = omega (arith, refilled.roomy);
-  kept = refilled.kept;
-  among = refilled.among;
-}
 
 -- where no search for a text ends, there are no free slots
 pub none_stops : (texts : List (List ℕ)) (text : List ℕ) (slots : List Slot) (tag home : ℕ)

@@ -59,7 +59,8 @@ impl From<AllocError> for Full {
 ///
 /// The bytes of all texts lie one behind the other in one buffer. A table of slots says at which place each text stands: in
 /// the first slot that was free, round from where its hash points. So the time of a call depends on the hasher, and the
-/// answers do not. A text costs its bytes, 8 bytes, and 11 to 22 bytes of the table.
+/// answers do not. A text costs its bytes, 8 bytes for its end (room for 16 just after these have doubled), and 11 to 22 bytes of the
+/// table.
 ///
 /// Where somebody else chooses the texts, take `RandomKeys` as the hasher, or std's `RandomState`, which is slower.
 #[derive(Drop)]

@@ -1,10 +1,5 @@
-pub mod Collisions
-pub mod Djb2Window
-pub mod FnvWindows
-pub mod SdbmWindow
 pub mod ShortWords
 pub mod TextMapLemmas
-pub mod WindowSpreads
 pub mod WordsWritten
 pub use Rattle.hash_laws.proofs.RecurrenceLemmas
 pub use Rattle.hash_laws.proofs.ReadingLemmas
@@ -16,3 +11,8 @@ pub use Rattle.hash_rounds.proofs.XorshiftLemmas
 pub use Rattle.hash_fx.proofs.FixedWidths
 pub use Rattle.hash_laws.proofs.ByteLemmas
 pub use Rattle.hash_fx.proofs.WholeWords
+pub use Rattle.hash_bytes.proofs.Collisions
+pub use Rattle.hash_bytes.proofs.FnvWindows
+pub use Rattle.hash_bytes.proofs.WindowSpreads
+pub use Rattle.hash_bytes.proofs.Djb2Window
+pub use Rattle.hash_bytes.proofs.SdbmWindow

@@ -3,9 +3,10 @@ ghost use Rattle.hash_names.specs.Named.{named};
 ghost use Rattle.hash_names.specs.Reading.{Hashes, HashesNamed, read};
 ghost use Rattle.hash_names.specs.ReadingLaws.{Hashes-agree};
 
+use hash_laws::traits::{Piecewise, Streamed};
 use hash_names::reading::{Unhashed, hash_of_pieces, hash_of_spooky_v1, hash_of_text};
-use hash_names::{HashTask, by_name};
-use hashers::laws::{Piecewise, Streamed};
+use hash_names::table::{by_kind, kind_named};
+use hash_names::task::HashTask;
 use std::io::Read;
 use std::marker::PhantomData;
 
@@ -24,7 +25,7 @@ impl<R: Read> HashTask for HashRead<R> {
 
     type Outcome = Result<u64, Unhashed>;
 
-    ghost by = { λ hash limit r s result. Hashes hash (read limit R.remaining r s) result };
+    ghost by = { λ hash of_read limit r s result. Hashes of_read (read limit R.remaining r s) result };
 
     fn by_text<H: Streamed>(limit: u64, r: &mut R) -> Result<u64, Unhashed> {
         hash_of_text::<H, R, PIECE>(limit, r)
@@ -38,7 +39,7 @@ impl<R: Read> HashTask for HashRead<R> {
         hash_of_spooky_v1::<R, PIECE>(limit, r)
     }
 
-    ghost by_same = { λ hash same agree limit r s. Hashes-agree hash same agree (read limit R.remaining r s) };
+    ghost by_same = { λ hash of_read same agree limit r s. Hashes-agree of_read same agree (read limit R.remaining r s) };
 }
 
 /// The hash of that name of what is read, if that is less than `limit` bytes. An unknown name is refused before anything is
@@ -46,8 +47,8 @@ impl<R: Read> HashTask for HashRead<R> {
 pub fn hash_named<R: Read>(name: &str, limit: u64, r: &mut R) -> Result<u64, Unhashed>
     ensures { HashesNamed (named name.now) (read limit R.remaining r.old r.new) result }
 {
-    match by_name::<HashRead<R>>(name, limit, r) {
-        Some(result) => result,
+    match kind_named(name.as_bytes()) {
+        Some(kind) => by_kind::<HashRead<R>>(kind, limit, r),
         None => Err(Unhashed::UnknownName),
     }
 }

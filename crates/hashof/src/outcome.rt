@@ -11,7 +11,6 @@ use std::io;
 use std::io::{ErrorKind, Read, Write};
 
 /// What came of a run of the program.
-#[derive(Drop)]
 pub enum Outcome {
     /// The hash was told.
     Done,
@@ -21,6 +20,15 @@ pub enum Outcome {
     NoMemory,
     /// No hash was told.
     Failed(RunFault),
+}
+
+impl Drop for Outcome {
+    fn drop(self) {
+        match self {
+            Outcome::Done | Outcome::Usage | Outcome::NoMemory => {}
+            Outcome::Failed(_) => {}
+        }
+    }
 }
 
 /// Does what the arguments ask for, as the system gives them, the program's own name first: tells the hash of the one

@@ -4,15 +4,14 @@ ghost use Rattle.hashof.specs.Running.{Ends, fault_of, run_of};
 
 use crate::line::write_line;
 use crate::named::hash_named;
+use hash_laws::engine::Fault;
 use hash_names::reading::Unhashed;
-use hashers::engine::Fault;
 use std::error::Error as StdError;
 use std::fmt;
-use std::fmt::{Display, Formatter};
+use std::fmt::{Debug, Display, Formatter};
 use std::io::{Error, Read, Write};
 
 /// Why no hash was told. The cases are tried in this order.
-#[derive(Debug, Drop)]
 pub enum RunFault {
     /// The name isn't known. Nothing was read or written.
     UnknownName,
@@ -23,6 +22,28 @@ pub enum RunFault {
     /// A write or the flush answered this error, or a write took nothing. A beginning of the line was written, the
     /// whole line where the flush failed.
     WriteFault(Option<Error>),
+}
+
+impl Drop for RunFault {
+    fn drop(self) {
+        match self {
+            RunFault::UnknownName | RunFault::TooLong => {}
+            RunFault::ReadFault(_) => {}
+            RunFault::WriteFault(_) => {}
+        }
+    }
+}
+
+/// Names the case, with the error in its own form for programmers.
+impl Debug for RunFault {
+    fn fmt<W: fmt::Write>(&self, f: &mut Formatter<W>) -> fmt::Result {
+        match self {
+            RunFault::UnknownName => write!(f, "UnknownName"),
+            RunFault::ReadFault(fault) => write!(f, "ReadFault({fault:?})"),
+            RunFault::TooLong => write!(f, "TooLong"),
+            RunFault::WriteFault(error) => write!(f, "WriteFault({error:?})"),
+        }
+    }
 }
 
 impl Display for RunFault {

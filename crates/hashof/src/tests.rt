@@ -3,9 +3,9 @@ mod program;
 
 use crate::outcome::{Outcome, outcome_line, outcome_status};
 use crate::run::{RunFault, run, run_limited};
-use hashers::engine::{Fault, hash_reader};
-use hashers::fnv::FNV1aHasher64;
-use hashers::jenkins::Lookup3Hasher;
+use hash_bytes::fnv::FNV1aHasher64;
+use hash_jenkins::Lookup3Hasher;
+use hash_laws::engine::{Fault, hash_reader};
 use std::hash::Hasher;
 use std::io;
 use std::io::{ErrorKind, Read, Write};
@@ -145,7 +145,7 @@ enum End {
 }
 
 fn end_of(outcome: Result<(), RunFault>) -> End {
-    match outcome {
+    match &outcome {
         Ok(()) => End::Told,
         Err(RunFault::UnknownName) => End::Unknown,
         Err(RunFault::ReadFault(fault)) => End::Read(fault.bytes, fault.error.kind()),
@@ -187,7 +187,7 @@ fn tells(rt: &impl Abort, turn: usize, name: &str, text: &[u8], most: usize, lin
 }
 
 /// A name, a text, and the line of its hash.
-const LINES: [(&str, &[u8], &[u8]); 20] = [
+const LINES: [(&str, &[u8], &[u8]); 27] = [
     ("fnv1a64", b"", b"14695981039346656037\n"),
     ("fnv1a64", b"a", b"12638187200555641996\n"),
     ("fnv1a64", b"b", b"12638190499090526629\n"),
@@ -208,6 +208,13 @@ const LINES: [(&str, &[u8], &[u8]); 20] = [
     ("fxhash64", b"a", b"16160435425421689461\n"),
     ("null", b"ab", b"0\n"),
     ("passthrough", b"a", b"97\n"),
+    ("crc32", b"123456789", b"3421780262\n"),
+    ("crc32c", b"123456789", b"3808858755\n"),
+    ("fnv1_32", b"a", b"84696446\n"),
+    ("fnv1_64", b"a", b"12638153115695167422\n"),
+    ("djb2_add", b"a", b"177670\n"),
+    ("joaat", b"a", b"3392050242\n"),
+    ("elf", b"a", b"97\n"),
 ];
 
 #[test]

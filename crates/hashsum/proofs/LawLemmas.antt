@@ -1,29 +1,37 @@
 -- What a check sees.
-use Rattle.std.proofs.Common.{◌≡◌, ◌≢◌, ℕ, Bool, true, false, nat_eq, List, Some, if◌then◌else◌, refl, sym, ap, ◌∙◌}
-use Rattle.std.proofs.KnownBytes.{Consumes-whole}
+use Rattle.std.proofs.Common.{◌≡◌, ◌≢◌, ℕ, Bool, true, false, ◌&&◌, nat_eq, List, Option, Result, Ok, Err, if◌then◌else◌, refl, sym, ap, ◌∙◌}
 use Rattle.std.proofs.lemmas.Bool.{eqb-true}
-use Rattle.hashsum.specs.declared.check.Verdict.{Verdict}
+use Rattle.std.specs.IoError.{error_kind}
+use Rattle.std.specs.declared.io.Error.{Error}
+use Rattle.hashers.specs.Text.{IsText}
 use Rattle.hashsum.specs.declared.check.Verdict.TheVariants.{Same, Different, Unread, Missing}
-use Rattle.hashsum.specs.Checking.{verdict_on, IsVerdict}
+use Rattle.hashsum.specs.declared.sum.Unsummed.TheVariants.{Unhashed, Unopened}
+use Rattle.hashsum.specs.Checking.{is_not_found, IsVerdict}
 use Rattle.hashsum.specs.Files.{ReadsFile}
 
--- the text that was read of a file is what it holds
-held_is : (second text : List ℕ) → ReadsFile (Some second) text → second ≡ text
-held_is second text (left, all) = Consumes-whole (Some second) left text (λ held. held ≡ text) all.read all.end refl
-
 -- a number that is said to be the same is the same
-same_number : (told number : ℕ) → verdict_on told number ≡ Same → number ≡ told
+same_number : (told number : ℕ) → (if nat_eq number told then Same else Different) ≡ Same → number ≡ told
 same_number told number says = at (nat_eq number told) refl
   where
     at : (b : Bool) → nat_eq number told ≡ b → number ≡ told
     at true is = eqb-true number told is
     at false is = let other : Different ≡ Same = sym (ap (λ b. if b then Same else Different) is) ∙ says in cc
 
+-- a file that was not opened is not the same
+not_same : (missing : Bool) → (if missing then Missing else Unread) ≡ Same → ⊥
+not_same true says = cc
+not_same false says = cc
+
 -- a hash that tells the texts apart
-pub never_passes : (hash : List ℕ → ℕ) (first second : List ℕ) → hash first ≢ hash second → (verdict : Verdict)
-    → IsVerdict (Some hash) (Some second) (hash first) verdict → verdict ≢ Same
-never_passes hash first second apart Same (number, (text, file, is), says) same =
-    apart (sym (same_number (hash first) number says) ∙ is ∙ ap hash (sym (held_is second text file)))
-never_passes hash first second apart Different judged same = cc
-never_passes hash first second apart Unread judged same = cc
-never_passes hash first second apart Missing judged same = cc
+pub never_passes : (opens : Result (Option (List ℕ)) Error → Type 0) (hash : List ℕ → ℕ) (Changed : (first second : List ℕ) → Type 0)
+    → ((x y : List ℕ) → IsText x → IsText y → Changed x y → hash x ≢ hash y)
+    → (ignore_missing : Bool) (first : List ℕ) → IsText first
+    → IsVerdict opens hash ignore_missing (hash first) Same
+    → (held : Option (List ℕ)) × opens (Ok held)
+    × (text : List ℕ) × ReadsFile held text × (hash text ≡ hash first) × ¬ (Changed first text)
+never_passes opens hash Changed apart ignore_missing first is_text (Ok number, (held, can, (text, file, is)), says) =
+    let same : hash text ≡ hash first = sym is ∙ same_number (hash first) number says in
+    (held, can, text, file, same, λ changed. apart first text is_text file.1.is_text changed (sym same))
+never_passes opens hash Changed apart ignore_missing first is_text (Err (Unopened error), can, says) =
+    absurd (not_same (ignore_missing && is_not_found (error_kind error)) says)
+never_passes opens hash Changed apart ignore_missing first is_text (Err (Unhashed why), can, says) = cc

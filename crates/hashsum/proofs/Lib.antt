@@ -1,3 +1,4 @@
 pub mod ToldLemmas
 pub mod ListLemmas
 pub mod LawLemmas
+pub mod PassLemmas

@@ -1,7 +1,12 @@
 -- What comes of the lines that are checked.
-use Rattle.std.specs.Prelude.{ℕ, ◌≡◌, ◌+◌, ◌-◌, ◌^◌, ◌==◌, ◌&&◌, if◌then◌else◌, min, nat_lt, not, Bool, true, false, List, [], ◌∷◌, ◌++◌, Option, codes}
+use Rattle.std.specs.Prelude.{ℕ, ◌≡◌, ◌+◌, ◌-◌, ◌^◌, ◌==◌, ◌&&◌, ◌||◌, ◌⊎◌, if◌then◌else◌, min, nat_lt, not, Bool, true, false, List, [], ◌∷◌, ◌++◌, Option, Result, Ok, Err, codes}
+use Rattle.std.specs.IoError.{error_kind}
+use Rattle.std.specs.declared.io.Error.{Error}
+use Rattle.std.specs.declared.io.ErrorKind.{ErrorKind}
+use Rattle.std.specs.declared.io.ErrorKind.TheVariants.{NotFound}
 use Rattle.hash_lines.specs.Escape.{needs_escape}
 use Rattle.hash_lines.specs.Line.{mark, name_shown}
+use Rattle.hash_lines.specs.Forms.{TellsSo}
 use Rattle.hash_lines.specs.Told.{Tells}
 use Rattle.hash_lines.specs.declared.line.Kind.{Kind}
 use Rattle.hashsum.specs.declared.check.Came.{Came}
@@ -9,33 +14,51 @@ use Rattle.hashsum.specs.declared.check.Came.TheVariants.{Skipped, Improper, Che
 use Rattle.hashsum.specs.declared.check.Counts.{Counts}
 use Rattle.hashsum.specs.declared.check.Verdict.{Verdict}
 use Rattle.hashsum.specs.declared.check.Verdict.TheVariants.{Same, Different, Unread, Missing}
-use Rattle.hashsum.specs.Files.{IsNumber}
-use Rattle.hashsum.specs.Sums.{number_named}
+use Rattle.hashsum.specs.declared.sum.Unsummed.{Unsummed}
+use Rattle.hashsum.specs.declared.sum.Unsummed.TheVariants.{Unhashed, Unopened}
+use Rattle.hashsum.specs.Files.{Opens, SumsFile}
+use Rattle.hashsum.specs.Sums.{sum_at}
 
--- the verdict on a file that was read: whether its number is the one that is told
-abbrev pub verdict_on : (told number : ℕ) → Verdict
-verdict_on told number = if number == told then Same else Different
+-- whether a file is not there
+abbrev pub is_not_found : ErrorKind → Bool
+is_not_found NotFound = true
+is_not_found kind = false
 
--- a verdict on a file: that of the number of the text that was read, or the file could not be read, or is not there
-abbrev pub IsVerdict : Option (List ℕ → ℕ) → (held : Option (List ℕ)) (told : ℕ) → Verdict → Type 0
-IsVerdict hash held told Same = (number : ℕ) × IsNumber hash held number × (verdict_on told number ≡ Same)
-IsVerdict hash held told Different = (number : ℕ) × IsNumber hash held number × (verdict_on told number ≡ Different)
-IsVerdict hash held told Unread = Unit {0}
-IsVerdict hash held told Missing = Unit {0}
+-- the verdict on what came of a file: whether its number is the one that is told; or it has none, since it is not there and such
+-- files are to be left out, or for another reason
+abbrev pub verdict_on : (ignore_missing : Bool) (told : ℕ) → Result ℕ Unsummed → Verdict
+verdict_on ignore_missing told (Ok number) = if number == told then Same else Different
+verdict_on ignore_missing told (Err (Unopened error)) =
+    if ignore_missing && is_not_found (error_kind error) then Missing else Unread
+verdict_on ignore_missing told (Err (Unhashed why)) = Unread
 
--- an empty line, or a comment
+-- a verdict on a file: that on what came of it
+abbrev pub IsVerdict : (opens : Result (Option (List ℕ)) Error → Type 0) → (List ℕ → ℕ) → (ignore_missing : Bool) (told : ℕ)
+    → Verdict → Type 0
+IsVerdict opens hash ignore_missing told verdict =
+    (came : Result ℕ Unsummed) × SumsFile opens hash came × (verdict_on ignore_missing told came ≡ verdict)
+
+-- an empty line, or a comment, which begins with # or, in an SFV file, with a semicolon
 abbrev pub is_skipped : List ℕ → Bool
 is_skipped [] = true
-is_skipped (first ∷ more) = first == 35
+is_skipped (first ∷ more) = first == 35 || first == 59
 
--- what came of a line
-abbrev pub IsCame : List Kind → Kind → (holds : List ℕ → Option (List ℕ)) → (line : List ℕ) → Came → Type 0
-IsCame kinds kind holds line Skipped = is_skipped line ≡ true
-IsCame kinds kind holds line Improper = (is_skipped line ≡ false)
-    × ((other : Kind) (name : List ℕ) (number : ℕ) → ¬ (Tells kinds kind other name number line))
-IsCame kinds kind holds line (Checked entry verdict) = (is_skipped line ≡ false)
-    × Tells kinds kind entry.kind entry.name.items entry.number line
-    × IsVerdict (number_named entry.kind.name.now) (holds entry.name.items) entry.number verdict
+-- a line is none of ours
+abbrev pub TellsNothing : List Kind → Kind → (line : List ℕ) → Type 0
+TellsNothing kinds kind line = (other : Kind) (name : List ℕ) (number : ℕ) → ¬ (Tells kinds kind other name number line)
+
+-- a line tells this: as one of ours, or, where it is none of ours, in another program's form
+abbrev pub TellsAny : List Kind → (default : Kind) → Kind → (name : List ℕ) (number : ℕ) → List ℕ → Type 0
+TellsAny kinds default kind name number line = Tells kinds default kind name number line
+    ⊎ (TellsNothing kinds default line × TellsSo kinds default kind name number line)
+
+-- what came of a line. One is improper only if it is none of ours; one in another program's form may be read as such
+abbrev pub IsCame : List Kind → Kind → Opens → (ignore_missing : Bool) (line : List ℕ) → Came → Type 0
+IsCame kinds kind opens ignore_missing line Skipped = is_skipped line ≡ true
+IsCame kinds kind opens ignore_missing line Improper = (is_skipped line ≡ false) × TellsNothing kinds kind line
+IsCame kinds kind opens ignore_missing line (Checked entry verdict) = (is_skipped line ≡ false)
+    × TellsAny kinds kind entry.kind entry.name.items entry.number line
+    × IsVerdict (opens entry.name.items) (sum_at entry.kind.which) ignore_missing entry.number verdict
 
 -- what is said of a verdict, behind the name
 abbrev pub words : (quiet status : Bool) → Verdict → List ℕ

@@ -1,7 +1,8 @@
 -- What the program is asked for, and how it ends.
-use Rattle.std.specs.Prelude.{ℕ, ◌≡◌, ◌||◌, if◌then◌else◌, Bool, true, false, List, [], ◌∷◌, Option, Some, None, Result, Ok, Err, codes}
+use Rattle.std.specs.Prelude.{ℕ, ◌≡◌, ◌||◌, if◌then◌else◌, Bool, true, false, List, [], ◌∷◌, Option, Some, None, Result, Ok, Err, map, codes}
 use Rattle.std.specs.Io.KnownBytes.{Keeps}
 use Rattle.std.specs.IoError.{error_kind}
+use Rattle.std.specs.Char.{to_ascii_lowercase}
 use Rattle.std.specs.List.{find}
 use Rattle.std.specs.Str.{bytes_eq}
 use Rattle.std.specs.declared.io.Error.{Error}
@@ -20,22 +21,27 @@ use Rattle.hashsum.specs.declared.outcome.Task.TheVariants as task
 use Rattle.hashsum.specs.declared.outcome.Wrong.{Wrong}
 use Rattle.hashsum.specs.declared.outcome.Wrong.TheVariants as wrong
 use Rattle.hashsum.specs.declared.sum.Summing.{Summing}
+use Rattle.hashsum.specs.Files.{Opens}
 use Rattle.hashsum.specs.Lists.{EndsLists}
 use Rattle.hashsum.specs.Summing.{EndsSums}
 
 -- the letters and the names of the options, but for the one that names a hash
 abbrev pub letters : List ℕ
-letters = codes "cwz"
+letters = codes "cwzbt"
 
 abbrev pub names : List (List ℕ)
 names = codes "check" ∷ codes "tag" ∷ codes "untagged" ∷ codes "zero" ∷ codes "quiet" ∷ codes "status" ∷ codes "strict"
-    ∷ codes "ignore-missing" ∷ codes "warn" ∷ codes "list" ∷ codes "help" ∷ codes "version" ∷ []
+    ∷ codes "ignore-missing" ∷ codes "warn" ∷ codes "binary" ∷ codes "text" ∷ codes "list" ∷ codes "help" ∷ codes "version" ∷ []
+
+-- whether a name is this one, in letters of either case
+abbrev pub is_named : (word name : List ℕ) → Bool
+is_named word name = bytes_eq (map to_ascii_lowercase name) (map to_ascii_lowercase word)
 
 -- the kind of that name, or the first
 abbrev pub kind_of : List Kind → Option (List ℕ) → Option Kind
 kind_of [] None = None
 kind_of (kind ∷ more) None = Some kind
-kind_of kinds (Some name) = find (λ kind. bytes_eq kind.name.now name) kinds
+kind_of kinds (Some name) = find (λ kind. is_named name kind.name.now) kinds
 
 -- how lines are checked by a hash
 abbrev pub checking_of : List (List ℕ) → Kind → Checking
@@ -106,16 +112,16 @@ Tells text written written' result = (told : Result (Unit {0}) (Option Error)) �
     × (result ≡ of_telling told)
 
 -- how a task ends over the files of these names; a wrong call writes nothing
-abbrev pub EndsTask : List Kind → (holds : List ℕ → Option (List ℕ)) (files : List (List ℕ)) (help version list : List ℕ)
+abbrev pub EndsTask : List Kind → Opens → (files : List (List ℕ)) (help version list : List ℕ)
     (written written' : Option (List ℕ)) → Result Task Wrong → Outcome → Type 0
-EndsTask kinds holds files help version list written written' (Ok (task.Sum summing)) result =
-    (ended : Result Bool Fault) × EndsSums summing holds files written written' ended × (result ≡ of_run ended)
-EndsTask kinds holds files help version list written written' (Ok (task.Check checking)) result =
-    (ended : Result Bool Fault) × EndsLists kinds checking holds files written written' ended × (result ≡ of_run ended)
-EndsTask kinds holds files help version list written written' (Ok task.List) result = Tells list written written' result
-EndsTask kinds holds files help version list written written' (Ok task.Help) result = Tells help written written' result
-EndsTask kinds holds files help version list written written' (Ok task.Version) result = Tells version written written' result
-EndsTask kinds holds files help version list written written' (Err wrong) result = (result ≡ outcome.Usage wrong) × Keeps written written'
+EndsTask kinds opens files help version list written written' (Ok (task.Sum summing)) result =
+    (ended : Result Bool Fault) × EndsSums summing opens files written written' ended × (result ≡ of_run ended)
+EndsTask kinds opens files help version list written written' (Ok (task.Check checking)) result =
+    (ended : Result Bool Fault) × EndsLists kinds checking opens files written written' ended × (result ≡ of_run ended)
+EndsTask kinds opens files help version list written written' (Ok task.List) result = Tells list written written' result
+EndsTask kinds opens files help version list written written' (Ok task.Help) result = Tells help written written' result
+EndsTask kinds opens files help version list written written' (Ok task.Version) result = Tells version written written' result
+EndsTask kinds opens files help version list written written' (Err wrong) result = (result ≡ outcome.Usage wrong) × Keeps written written'
 
 -- the status that each outcome ends with
 abbrev pub status_of : Outcome → ℕ

@@ -1,12 +1,13 @@
 -- The lines of files.
-use Rattle.std.specs.Prelude.{ℕ, ◌≡◌, if◌then◌else◌, not, Bool, List, [], ◌∷◌, ◌++◌, Option, Some, None, Result, Ok, Err, IfSome, is_some}
+use Rattle.std.specs.Prelude.{ℕ, ◌≡◌, if◌then◌else◌, not, Bool, List, [], ◌∷◌, ◌++◌, Option, Some, None, Result, Ok, Err, MatchOption, is_some}
 use Rattle.std.specs.Io.KnownBytes.{Appends}
 use Rattle.hash_lines.specs.Line.{line_of}
 use Rattle.hash_program.specs.Streams.{AppendsPart}
 use Rattle.hashsum.specs.declared.fault.Fault.{Fault}
 use Rattle.hashsum.specs.declared.sum.Summing.{Summing}
-use Rattle.hashsum.specs.Files.{IsNumber}
-use Rattle.hashsum.specs.Sums.{number_named}
+use Rattle.hashsum.specs.declared.sum.Unsummed.{Unsummed}
+use Rattle.hashsum.specs.Files.{Opens, SumsFile}
+use Rattle.hashsum.specs.Sums.{sum_at}
 use Rattle.hashsum.specs.Told.{AreTold, AreTornOff}
 
 -- the line of a file, with its end
@@ -21,21 +22,22 @@ line_told summing (name, None) = []
 line_told summing (name, Some number) = sum_line summing name number
 
 -- a file has its number, or it failed
-abbrev pub IsSummed : Summing → (holds : List ℕ → Option (List ℕ)) → List ℕ × Option ℕ → Type 0
-IsSummed summing holds file = IfSome file.1 (IsNumber (number_named summing.kind.name.now) (holds file.0))
+abbrev pub IsSummed : Summing → Opens → List ℕ × Option ℕ → Type 0
+IsSummed summing opens file = let sums = SumsFile (opens file.0) (sum_at summing.kind.which) in
+    MatchOption file.1 ((why : Unsummed) × sums (Err why)) (λ number. sums (Ok number))
 
 -- how the line of a file is told: it was written, or a beginning of it, or the file failed
-abbrev pub EndsSum : Summing → (holds : List ℕ → Option (List ℕ)) (name : List ℕ) (written written' : Option (List ℕ))
+abbrev pub EndsSum : Summing → Opens → (name : List ℕ) (written written' : Option (List ℕ))
     → Result Bool Fault → Type 0
-EndsSum summing holds name written written' (Ok read) = (number : Option ℕ) × IsSummed summing holds (name, number)
+EndsSum summing opens name written written' (Ok read) = (number : Option ℕ) × IsSummed summing opens (name, number)
     × Appends written written' (line_told summing (name, number)) × (read ≡ is_some number)
-EndsSum summing holds name written written' (Err fault) = (number : Option ℕ) × IsSummed summing holds (name, number)
+EndsSum summing opens name written written' (Err fault) = (number : Option ℕ) × IsSummed summing opens (name, number)
     × AppendsPart written written' (line_told summing (name, number))
 
 -- how a run over the files of these names ends: their lines were written, in their order, or a beginning of them
-abbrev pub EndsSums : Summing → (holds : List ℕ → Option (List ℕ)) (names : List (List ℕ)) (written written' : Option (List ℕ))
+abbrev pub EndsSums : Summing → Opens → (names : List (List ℕ)) (written written' : Option (List ℕ))
     → Result Bool Fault → Type 0
-EndsSums summing holds names written written' (Ok whole) = (told : List (List ℕ × Option ℕ)) × AreTold (λ file. file.0)
-    (IsSummed summing holds) (line_told summing) (λ file. is_some file.1) names told written written' whole
-EndsSums summing holds names written written' (Err fault) =
-    AreTornOff (λ file. file.0) (IsSummed summing holds) (line_told summing) (λ file. is_some file.1) names written written'
+EndsSums summing opens names written written' (Ok whole) = (told : List (List ℕ × Option ℕ)) × AreTold (λ file. file.0)
+    (IsSummed summing opens) (line_told summing) (λ file. is_some file.1) names told written written' whole
+EndsSums summing opens names written written' (Err fault) =
+    AreTornOff (λ file. file.0) (IsSummed summing opens) (line_told summing) (λ file. is_some file.1) names written written'

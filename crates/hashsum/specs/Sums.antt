@@ -1,57 +1,45 @@
--- The hashes by their names.
-use Rattle.std.specs.Prelude.{ℕ, List, Option, [], ◌∷◌, codes}
-use Rattle.std.specs.Map.{lookup}
+-- The hashes that are told, over the table of hashes.
+use Rattle.std.specs.Prelude.{ℕ, List, Option, Some, None, [], ◌∷◌, if◌then◌else◌, map, nat_lt, codes}
 use Rattle.std.specs.Str.{bytes_eq}
 use Rattle.hash_lines.specs.declared.line.Width.{Width}
 use Rattle.hash_lines.specs.declared.line.Width.TheVariants.{Eight, Sixteen, ThirtyTwo}
-use Rattle.hashers.specs.Fnv.{fnv1a32_basis, fnv1a64_basis}
-use Rattle.hash_more.specs.Crc32.{all_ones, castagnoli, crc_answer, crc_from, ieee}
-use Rattle.hash_more.specs.Djb2Add.{djb2_add_from}
-use Rattle.hash_more.specs.Elf.{elf_from}
-use Rattle.hash_more.specs.Fnv1.{fnv1_32_from, fnv1_64_from}
-use Rattle.hash_more.specs.Joaat.{joaat_answer, joaat_from}
-use Rattle.hash_names.specs.Named.{hashes, spooky128}
+use Rattle.hash_names.specs.declared.table.Kind.{Kind}
+use Rattle.hash_names.specs.Named.{bits_of, kind_at, name_of, named, read_of, spooky128}
 
--- each name, with the number of a text; the names of hash_names, and others
-abbrev pub sums : List (List ℕ × (List ℕ → ℕ))
-sums =
-    (codes "spooky128", spooky128)
-    ∷ (codes "crc32", λ text. crc_answer (crc_from ieee all_ones text))
-    ∷ (codes "crc32c", λ text. crc_answer (crc_from castagnoli all_ones text))
-    ∷ (codes "fnv1_32", fnv1_32_from fnv1a32_basis)
-    ∷ (codes "fnv1_64", fnv1_64_from fnv1a64_basis)
-    ∷ (codes "djb2_add", djb2_add_from 5381)
-    ∷ (codes "joaat", λ text. joaat_answer (joaat_from 0 text))
-    ∷ (codes "elf", elf_from 0)
-    ∷ hashes
+-- how many digits so many bits have
+abbrev pub width_of : ℕ → Width
+width_of bits = if nat_lt bits 33 then Eight else Sixteen
+
+-- a hash in a line
+pub record Told : Type 0 where
+  pub name : List ℕ
+  pub width : Width
+  pub which : ℕ
+
+-- that of a row of the table, or spooky128 behind it
+abbrev pub name_in : Option Kind → List ℕ
+name_in (Some kind) = name_of kind
+name_in None = codes "spooky128"
+
+abbrev pub width_in : Option Kind → Width
+width_in (Some kind) = width_of (bits_of kind)
+width_in None = ThirtyTwo
+
+abbrev pub told_at : ℕ → Told
+told_at which = record { name = name_in (kind_at which); width = width_in (kind_at which); which = which }
+
+-- what it makes of a text
+abbrev pub sum_of : Option Kind → List ℕ → ℕ
+sum_of (Some kind) = read_of kind
+sum_of None = spooky128
+
+abbrev pub sum_at : ℕ → List ℕ → ℕ
+sum_at which = sum_of (kind_at which)
+
+-- the hashes that can be told, the default first: spooky128, which no row of the table is, and the rows but for null, which is no hash
+abbrev pub kinds : List Told
+kinds = map told_at (4294967295 ∷ 0 ∷ 1 ∷ 2 ∷ 3 ∷ 4 ∷ 5 ∷ 6 ∷ 7 ∷ 8 ∷ 9 ∷ 10 ∷ 11 ∷ 12 ∷ 13 ∷ 14 ∷ 15 ∷ 16 ∷ 17 ∷ 18 ∷ 19 ∷ 20 ∷ [])
 
 -- the hash of that name, if there is one
 unfoldable pub number_named : List ℕ → Option (List ℕ → ℕ)
-number_named name = lookup (bytes_eq name) sums
-
--- the names that can be told, the default first, and how many digits the numbers of each have
-unfoldable pub kinds : List (List ℕ × Width)
-kinds =
-    (codes "spooky128", ThirtyTwo)
-    ∷ (codes "fnv1a32", Eight)
-    ∷ (codes "fnv1a64", Sixteen)
-    ∷ (codes "djb2", Eight)
-    ∷ (codes "sdbm", Eight)
-    ∷ (codes "loselose", Sixteen)
-    ∷ (codes "bricolage", Sixteen)
-    ∷ (codes "oaat", Sixteen)
-    ∷ (codes "lookup3", Sixteen)
-    ∷ (codes "spooky", Sixteen)
-    ∷ (codes "spooky_v1", Sixteen)
-    ∷ (codes "passthrough", Sixteen)
-    ∷ (codes "fxhash", Sixteen)
-    ∷ (codes "fxhash32", Eight)
-    ∷ (codes "fxhash64", Sixteen)
-    ∷ (codes "crc32", Eight)
-    ∷ (codes "crc32c", Eight)
-    ∷ (codes "fnv1_32", Eight)
-    ∷ (codes "fnv1_64", Sixteen)
-    ∷ (codes "djb2_add", Eight)
-    ∷ (codes "joaat", Eight)
-    ∷ (codes "elf", Eight)
-    ∷ []
+number_named name = if bytes_eq name (codes "spooky128") then Some spooky128 else named name

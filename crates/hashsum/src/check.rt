@@ -1,22 +1,23 @@
 //! Whether files have the hashes that lines tell.
-ghost use Rattle.std.specs.Prelude.{◌≡◌, true, false, map, IfOk};
-ghost use Rattle.hashsum.specs.Checking.{behind_name, counted, is_skipped, passes, said, verdict_on, words, IsCame, IsVerdict};
-ghost use Rattle.hashsum.specs.Lists.{EndsLine, EndsList, EndsListOf, EndsLists, IsNext};
-ghost use Rattle.hashsum.specs.Sums.{number_named};
+ghost use Rattle.std.specs.Prelude.{◌≡◌, true, false, map, IfOk, MatchOption};
+ghost use Rattle.std.specs.IoError.{error_kind};
+ghost use Rattle.hashsum.specs.Checking.{behind_name, counted, is_not_found, is_skipped, passes, said, verdict_on, words, IsCame, IsVerdict, TellsAny, TellsNothing};
+ghost use Rattle.hashsum.specs.Lists.{bare, EndsLine, EndsList, EndsListOf, EndsLists, IsNext};
+ghost use Rattle.hashsum.specs.Sums.{sum_at};
 ghost use Rattle.std.specs.Io.BufRead.{strip_last};
 ghost use Rattle.std.specs.Io.Buffered.{writer_contents};
 ghost use Rattle.std.specs.Io.KnownBytes.{IsAtEnd};
 
 use crate::fault::{Fault, write};
 use crate::folder::Folder;
-use crate::sum::error_of;
-use crate::sums::number_named;
+use crate::sum::{Unsummed, error_of, number_of};
 use hash_lines::escape::needs_escape;
+use hash_lines::forms::parse_form;
 use hash_lines::line::{Kind, push_name};
 use hash_lines::parse::{Entry, parse_line};
 use std::alloc::{AllocError, Global};
 use std::io;
-use std::io::{BufRead, BufReader, BufWriter, ErrorKind, Read, Write};
+use std::io::{BufRead, BufReader, BufWriter, Error, ErrorKind, Read, Write};
 
 /// How many bytes of a list are read at once.
 const BUFFER: usize = 65536;
@@ -116,14 +117,36 @@ fn count(counts: Counts, came: &Came<'_>) -> Counts
     }
 }
 
-/// Whether a number is the one that is told.
-fn verdict_of(told: u128, number: u128) -> Verdict
-    ensures { result ≡ verdict_on told number }
+/// Whether an error tells that a file is not there.
+fn is_not_found(error: &Error) -> bool
+    ensures { result ≡ is_not_found (error_kind error.now) }
 {
-    if number == told {
-        Verdict::Same
-    } else {
-        Verdict::Different
+    match error.kind() {
+        ErrorKind::NotFound => true,
+        _ => false,
+    }
+}
+
+/// The verdict on what came of a file: whether its number is the one that is told.
+fn verdict_of(ignore_missing: bool, told: u128, came: &Result<u128, Unsummed>) -> Verdict
+    ensures { result ≡ verdict_on ignore_missing told came.now }
+{
+    match came {
+        Ok(number) => {
+            if *number == told {
+                Verdict::Same
+            } else {
+                Verdict::Different
+            }
+        }
+        Err(Unsummed::Unopened(error)) => {
+            if ignore_missing && is_not_found(error) {
+                Verdict::Missing
+            } else {
+                Verdict::Unread
+            }
+        }
+        Err(Unsummed::Unhashed(_)) => Verdict::Unread,
     }
 }
 
@@ -133,23 +156,17 @@ fn check_file<R: Read + Drop, F: Folder<R>>(
     entry: &Entry<'_>,
     ignore_missing: bool,
 ) -> Verdict
-    ensures { IsVerdict (number_named entry.entry.now.kind.name.now) (F.holds folder.now entry.entry.now.name.items)
-        entry.entry.now.number result }
+    ensures { IsVerdict (F.opens folder.now entry.entry.now.name.items) (sum_at entry.entry.now.kind.which)
+        ignore_missing entry.entry.now.number result }
 {
-    let error = match folder.open(&entry.name) {
-        Ok(mut file) => match number_named(entry.kind.name, u64::MAX, &mut file) {
-            Ok(number) => return verdict_of(entry.number, number),
-            Err(unhashed) => error_of(unhashed),
-        },
-        Err(error) => {
-            if ignore_missing && error.kind() == ErrorKind::NotFound {
-                return Verdict::Missing;
-            }
-            error
+    let came = number_of(folder, entry.kind.which, &entry.name);
+    let verdict = verdict_of(ignore_missing, entry.number, &came);
+    if let Verdict::Unread = verdict {
+        if let Err(unsummed) = came {
+            folder.failed(&entry.name, &error_of(unsummed));
         }
-    };
-    folder.failed(&entry.name, &error);
-    Verdict::Unread
+    }
+    verdict
 }
 
 /// Whether a line is empty or a comment.
@@ -157,9 +174,25 @@ fn is_skipped(line: &[u8]) -> bool
     ensures { result ≡ is_skipped line.now }
 {
     match line {
-        [] | [b'#', ..] => true,
+        [] | [b'#' | b';', ..] => true,
         _ => false,
     }
+}
+
+/// What a line tells: as one of ours, or else in another program's form.
+fn entry_of<'k>(
+    alloc: Global,
+    kinds: &[Kind<'k>],
+    kind: Kind<'k>,
+    line: &[u8],
+) -> Result<Option<Entry<'k>>, AllocError>
+    ensures { IfOk result (λ found. MatchOption found (TellsNothing kinds.entry.now kind.entry line.now)
+        (λ entry. TellsAny kinds.entry.now kind.entry entry.kind entry.name.items entry.number line.now)) }
+{
+    if let Some(entry) = parse_line(alloc, kinds, kind, line)? {
+        return Ok(Some(entry));
+    }
+    parse_form(alloc, kinds, kind, line)
 }
 
 /// What comes of a line without its end.
@@ -171,12 +204,12 @@ fn check_line<'k, R: Read + Drop, F: Folder<R>>(
     ignore_missing: bool,
     line: &[u8],
 ) -> Result<Came<'k>, AllocError>
-    ensures { IfOk result (IsCame kinds.entry.now kind.entry (F.holds folder.now) line.now) }
+    ensures { IfOk result (IsCame kinds.entry.now kind.entry (F.opens folder.now) ignore_missing line.now) }
 {
     if is_skipped(line) {
         return Ok(Came::Skipped);
     }
-    match parse_line(alloc, kinds, kind, line)? {
+    match entry_of(alloc, kinds, kind, line)? {
         Some(entry) => {
             let verdict = check_file(folder, &entry, ignore_missing);
             Ok(Came::Checked(entry, verdict))
@@ -229,14 +262,21 @@ fn said(alloc: Global, came: &Came<'_>, quiet: bool, status: bool) -> Result<Vec
     }
 }
 
-/// The line without its newline, if it has one.
-fn without_end(line: &[u8]) -> &[u8]
-    ensures { result.now ≡ strip_last 10 line.now }
+/// The bytes without the last one, if it is this one.
+fn without(bytes: &[u8], last: u8) -> &[u8]
+    ensures { result.now ≡ strip_last last bytes.now }
 {
-    match line {
-        [text @ .., b'\n'] => text,
-        _ => line,
+    match bytes {
+        [front @ .., byte] if *byte == last => front,
+        _ => bytes,
     }
+}
+
+/// The line without its end, if it has one: a newline, or a carriage return and a newline.
+fn without_end(line: &[u8]) -> &[u8]
+    ensures { result.now ≡ bare line.now }
+{
+    without(without(line, b'\n'), b'\r')
 }
 
 /// Reads the next line, with its newline if it has one, and tells whether there is one.
@@ -259,7 +299,7 @@ fn tell_line<'k, R: Read + Drop, F: Folder<R>, W: Write + Drop>(
     line: &[u8],
     w: &mut BufWriter<W>,
 ) -> Result<Came<'k>, Fault>
-    ensures { EndsLine kinds.entry.now checking.entry (F.holds folder.now) line.now
+    ensures { EndsLine kinds.entry.now checking.entry (F.opens folder.now) line.now
         (writer_contents W.contents w.old) (writer_contents W.contents w.new) result }
 {
     let text = without_end(line);
@@ -304,7 +344,7 @@ fn check_lines<B: BufRead, R: Read + Drop, F: Folder<R>, W: Write + Drop>(
     lines: &mut B,
     w: &mut BufWriter<W>,
 ) -> Result<Option<Counts>, Fault>
-    ensures { EndsList kinds.now checking.entry (F.holds folder.now) (B.remaining lines.old)
+    ensures { EndsList kinds.now checking.entry (F.opens folder.now) (B.remaining lines.old)
         (writer_contents W.contents w.old) (writer_contents W.contents w.new) result }
 {
     let mut counts = UNCOUNTED;
@@ -347,7 +387,7 @@ fn check_list<R: Read + Drop, F: Folder<R>, W: Write + Drop>(
     list: &[u8],
     w: &mut BufWriter<W>,
 ) -> Result<bool, Fault>
-    ensures { EndsListOf kinds.now checking.entry (F.holds folder.now) list.now
+    ensures { EndsListOf kinds.now checking.entry (F.opens folder.now) list.now
         (writer_contents W.contents w.old) (writer_contents W.contents w.new) result }
 {
     let mut lines = match folder.open(list) {
@@ -379,7 +419,7 @@ pub fn check_lists<R: Read + Drop, F: Folder<R>, W: Write + Drop>(
     lists: &[&[u8]],
     w: &mut BufWriter<W>,
 ) -> Result<bool, Fault>
-    ensures { EndsLists kinds.now checking.entry (F.holds folder.now) (map (λ list. list.now) lists.now)
+    ensures { EndsLists kinds.now checking.entry (F.opens folder.now) (map (λ list. list.now) lists.now)
         (writer_contents W.contents w.old) (writer_contents W.contents w.new) result }
 {
     let mut all = true;

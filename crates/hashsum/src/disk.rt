@@ -3,6 +3,7 @@ use crate::check::Counts;
 use crate::folder::Folder;
 use hash_program::inputs::{open, tell_failure};
 use hash_program::progress::{Progress, Watched};
+use hash_program::quoted::quoted;
 use std::io;
 use std::io::{Error, IsTerminal};
 
@@ -38,9 +39,7 @@ impl<'r> Disk<'r> {
 }
 
 impl<'r> Folder<Watched<'r>> for Disk<'r> {
-    ghost use Rattle.std.specs.Prelude.{None};
-
-    ghost holds = { λ disk name. None };
+    ghost opens = { λ disk name opened. Unit {0} };
 
     fn open(&self, name: &[u8]) -> io::Result<Watched<'r>> {
         let file = open(self.rt, name)?;
@@ -52,22 +51,22 @@ impl<'r> Folder<Watched<'r>> for Disk<'r> {
     }
 
     fn improper(&self, list: &[u8], line: u64) {
-        if let Ok(list) = String::from_utf8_lossy(self.rt.alloc(), list) {
+        if let Ok(list) = quoted(self.rt.alloc(), list) {
             let _ = eprintln!(self.rt; "{PROGRAM}: {list}: {line}: improperly formatted line");
         }
     }
 
     fn ended(&self, list: &[u8], counts: &Counts) {
-        if self.status {
-            return;
-        }
         let proper = counts.same > 0
             || counts.different > 0
             || counts.unread > 0
             || counts.missing > 0;
-        if let Ok(list) = String::from_utf8_lossy(self.rt.alloc(), list) {
+        if let Ok(list) = quoted(self.rt.alloc(), list) {
             if !proper {
                 let _ = eprintln!(self.rt; "{PROGRAM}: {list}: no properly formatted lines found");
+                return;
+            }
+            if self.status {
                 return;
             }
             self.warn(

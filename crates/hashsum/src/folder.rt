@@ -1,5 +1,5 @@
 //! The files that a run reads, and who is told of what fails.
-ghost use Rattle.std.specs.Prelude.{◌≡◌, ℕ, List, Option, IfOk};
+ghost use Rattle.hashsum.specs.Files.{Opens, opened};
 
 use crate::check::Counts;
 use std::io;
@@ -7,12 +7,12 @@ use std::io::{Error, Read};
 
 /// The files that a run reads, and who is told of what fails.
 pub trait Folder<R: Read> {
-    /// What the file of a name holds, where that is known.
-    ghost holds: { Self → List ℕ → Option (List ℕ) };
+    /// What comes of opening the file of a name: what it holds, where that is known, or an error.
+    ghost opens: { Self → Opens };
 
     /// Opens the file of that name.
     fn open(&self, name: &[u8]) -> io::Result<R>
-        ensures { IfOk result (λ file. R.remaining file ≡ holds self.now name.now) };
+        ensures { opens self.now name.now (opened R.remaining result) };
 
     /// The file of that name failed with this error.
     fn failed(&self, name: &[u8], error: &Error);

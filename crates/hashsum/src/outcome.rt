@@ -2,11 +2,10 @@
 ghost use Rattle.std.specs.Prelude.{◌≡◌, ◌⊎◌, ◌∷◌, [], ℕ, List, Option, Ok, Err, map, IfOk, MatchOption};
 ghost use Rattle.std.specs.List.{find};
 ghost use Rattle.std.specs.Option.{option_map};
-ghost use Rattle.std.specs.Str.{bytes_eq};
 ghost use Rattle.std.specs.Io.Buffered.{writer_contents};
 ghost use Rattle.std.specs.Io.KnownBytes.{Keeps};
 ghost use Rattle.hash_program.specs.Call.{operands, texts, unknown};
-ghost use Rattle.hashsum.specs.Program.{checking_of, failure_of, files_or, gives_writing, kind_of, letters, names, of_run, of_telling, status_of, summing_of, task_of, work_of, EndsTask};
+ghost use Rattle.hashsum.specs.Program.{checking_of, failure_of, files_or, gives_writing, is_named, kind_of, letters, names, of_run, of_telling, status_of, summing_of, task_of, work_of, EndsTask};
 
 use crate::check::{Checking, check_lists};
 use crate::fault::Fault;
@@ -89,7 +88,7 @@ pub fn unknown_option(words: &[Vec<u8>]) -> Option<&[u8]>
     ensures { MatchOption result (unknown letters names (texts words.now) ≡ [])
         (λ word. (more : List (List ℕ)) × (unknown letters names (texts words.now) ≡ word.now ∷ more)) }
 {
-    let names: [&[u8]; 12] = [
+    let names: [&[u8]; 14] = [
         b"check",
         b"tag",
         b"untagged",
@@ -99,19 +98,28 @@ pub fn unknown_option(words: &[Vec<u8>]) -> Option<&[u8]>
         b"strict",
         b"ignore-missing",
         b"warn",
+        b"binary",
+        b"text",
         b"list",
         b"help",
         b"version",
     ];
-    first_unknown(words, b"cwz", &names)
+    first_unknown(words, b"cwzbt", &names)
+}
+
+/// Whether a name is this one, in letters of either case.
+fn is_named(word: &[u8], name: &[u8]) -> bool
+    ensures { result ≡ is_named word.now name.now }
+{
+    name.eq_ignore_ascii_case(word)
 }
 
 /// The kind of the name.
 fn kind_named<'k>(kinds: &[Kind<'k>], name: &[u8]) -> Option<Kind<'k>>
-    ensures { result ≡ find (λ kind. bytes_eq kind.name.now name.now) kinds.entry.now }
+    ensures { result ≡ find (λ kind. is_named name.now kind.name.now) kinds.entry.now }
 {
     for kind in kinds {
-        if kind.name.as_bytes() == name {
+        if is_named(name, kind.name.as_bytes()) {
             return Some(*kind);
         }
     }
@@ -258,7 +266,7 @@ fn ended<R: Read + Drop, F: Folder<R>, W: Write + Drop>(
     task: Result<Task, Wrong>,
     w: &mut BufWriter<W>,
 ) -> Outcome
-    ensures { EndsTask kinds.now (F.holds folder.now) (map (λ file. file.now) files.now)
+    ensures { EndsTask kinds.now (F.opens folder.now) (map (λ file. file.now) files.now)
         said.entry.about.help.now said.entry.about.version.now said.entry.list.now
         (writer_contents W.contents w.old) (writer_contents W.contents w.new) task result }
 {
@@ -282,7 +290,7 @@ pub fn outcome_of<R: Read + Drop, F: Folder<R>, W: Write + Drop>(
     said: Texts<'_>,
     w: &mut BufWriter<W>,
 ) -> Outcome
-    ensures { EndsTask kinds.now (F.holds folder.now) (files_or (operands (texts call.entry.words.now)))
+    ensures { EndsTask kinds.now (F.opens folder.now) (files_or (operands (texts call.entry.words.now)))
         said.entry.about.help.now said.entry.about.version.now said.entry.list.now
         (writer_contents W.contents w.old) (writer_contents W.contents w.new)
         (task_of kinds.now (texts call.entry.words.now) (option_map (λ name. name.now) call.entry.name)

@@ -1,15 +1,15 @@
 //! The line of each file.
-ghost use Rattle.std.specs.Prelude.{◌≡◌, map, IfOk, IfSome, OnOk, OnErr};
+ghost use Rattle.std.specs.Prelude.{◌≡◌, map, IfOk, OnOk, OnErr};
 ghost use Rattle.std.specs.Io.Buffered.{writer_contents};
 ghost use Rattle.std.specs.Io.KnownBytes.{Appends};
 ghost use Rattle.hash_program.specs.Streams.{AppendsPart};
-ghost use Rattle.hashsum.specs.Files.{IsNumber};
+ghost use Rattle.hashsum.specs.Files.{SumsFile};
 ghost use Rattle.hashsum.specs.Summing.{EndsSum, EndsSums, sum_line};
-ghost use Rattle.hashsum.specs.Sums.{number_named};
+ghost use Rattle.hashsum.specs.Sums.{sum_at};
 
 use crate::fault::{Fault, write};
 use crate::folder::Folder;
-use crate::sums::number_named;
+use crate::sums::number_by;
 use hash_lines::line::{Form, Kind, push_line};
 use hash_names::reading::Unhashed;
 use std::alloc::{AllocError, Global};
@@ -26,28 +26,46 @@ pub struct Summing {
     pub zero: bool,
 }
 
+/// Why a file has no number.
+#[derive(Drop)]
+pub enum Unsummed {
+    /// It could not be opened.
+    Unopened(Error),
+    /// It was opened, and could not be read to its end.
+    Unhashed(Unhashed),
+}
+
 /// Why a file has no number, as an error of the system.
-pub fn error_of(unhashed: Unhashed) -> Error {
-    match unhashed {
-        Unhashed::ReadFault(fault) => fault.error,
-        Unhashed::TooLong => Error::new(ErrorKind::FileTooLarge, "the file is too long"),
-        Unhashed::UnknownName => Error::new(ErrorKind::InvalidInput, "no hash has this name"),
+pub fn error_of(unsummed: Unsummed) -> Error {
+    match unsummed {
+        Unsummed::Unopened(error) => error,
+        Unsummed::Unhashed(Unhashed::ReadFault(fault)) => fault.error,
+        Unsummed::Unhashed(Unhashed::TooLong) => Error::new(
+            ErrorKind::FileTooLarge,
+            "the file is too long",
+        ),
+        Unsummed::Unhashed(Unhashed::UnknownName) => Error::new(
+            ErrorKind::InvalidInput,
+            "no hash has this name",
+        ),
     }
 }
 
-/// The number of the file of that name, or nothing where it fails, which is told.
-fn number_of<R: Read + Drop, F: Folder<R>>(folder: &F, kind: Kind<'_>, name: &[u8]) -> Option<u128>
-    ensures { IfSome result (IsNumber (number_named kind.entry.name.now) (F.holds folder.now name.now)) }
+/// The number of the file of that name, by a hash.
+pub fn number_of<R: Read + Drop, F: Folder<R>>(
+    folder: &F,
+    which: u32,
+    name: &[u8],
+) -> Result<u128, Unsummed>
+    ensures { SumsFile (F.opens folder.now name.now) (sum_at which) result }
 {
-    let error = match folder.open(name) {
-        Ok(mut file) => match number_named(kind.name, u64::MAX, &mut file) {
-            Ok(number) => return Some(number),
-            Err(unhashed) => error_of(unhashed),
+    match folder.open(name) {
+        Ok(mut file) => match number_by(which, u64::MAX, &mut file) {
+            Ok(number) => Ok(number),
+            Err(unhashed) => Err(Unsummed::Unhashed(unhashed)),
         },
-        Err(error) => error,
-    };
-    folder.failed(name, &error);
-    None
+        Err(error) => Err(Unsummed::Unopened(error)),
+    }
 }
 
 /// The line of a file, with its end.
@@ -99,15 +117,18 @@ fn sum_file<R: Read + Drop, F: Folder<R>, W: Write + Drop>(
     name: &[u8],
     w: &mut BufWriter<W>,
 ) -> Result<bool, Fault>
-    ensures { EndsSum summing (F.holds folder.now) name.now
+    ensures { EndsSum summing (F.opens folder.now) name.now
         (writer_contents W.contents w.old) (writer_contents W.contents w.new) result }
 {
-    match number_of(folder, summing.kind, name) {
-        Some(number) => match tell_sum(alloc, summing, name, number, w) {
+    match number_of(folder, summing.kind.which, name) {
+        Ok(number) => match tell_sum(alloc, summing, name, number, w) {
             Ok(()) => Ok(true),
             Err(fault) => Err(fault),
         },
-        None => Ok(false),
+        Err(unsummed) => {
+            folder.failed(name, &error_of(unsummed));
+            Ok(false)
+        }
     }
 }
 
@@ -119,7 +140,7 @@ pub fn sum_files<R: Read + Drop, F: Folder<R>, W: Write + Drop>(
     names: &[&[u8]],
     w: &mut BufWriter<W>,
 ) -> Result<bool, Fault>
-    ensures { EndsSums summing (F.holds folder.now) (map (λ name. name.now) names.now)
+    ensures { EndsSums summing (F.opens folder.now) (map (λ name. name.now) names.now)
         (writer_contents W.contents w.old) (writer_contents W.contents w.new) result }
 {
     let mut whole = true;

@@ -1,19 +1,15 @@
 //! The hashes by their names: how many digits the numbers of each have, and the number of what a reader gives.
 ghost use Rattle.std.specs.Prelude.{◌≡◌, map};
-ghost use Rattle.hash_names.specs.Reading.{Hashes, HashesNamed, read};
+ghost use Rattle.hash_names.specs.Reading.{Hashes, read};
 ghost use Rattle.hash_names.specs.ReadingLaws.{Hashes-agree};
-ghost use Rattle.hashsum.specs.Sums.{kinds, number_named};
+ghost use Rattle.hashsum.specs.Sums.{kinds, sum_at, told_at, width_of};
 
 use hash_lines::line::{Kind, Width};
-use hash_more::crc32::{Crc32Hasher, Crc32cHasher};
-use hash_more::djb2_add::Djb2AddHasher;
-use hash_more::elf::ElfHasher;
-use hash_more::fnv1::{Fnv1Hasher32, Fnv1Hasher64};
-use hash_more::joaat::JoaatHasher;
 use hash_names::reading::{
     Unhashed, hash_of_pieces, hash_of_spooky_v1, hash_of_spooky128, hash_of_text,
 };
-use hash_names::{HashTask, by_name};
+use hash_names::table::{by_kind, kind_at};
+use hash_names::task::HashTask;
 use hashers::laws::{Piecewise, Streamed};
 use std::io::Read;
 use std::marker::PhantomData;
@@ -24,42 +20,70 @@ const BUFFER: usize = 65536;
 /// How many bytes are fed at once to a hasher to which cuts show.
 const PIECE: usize = 4096;
 
-/// The kind of this name and width.
-const fn kind(name: &'static str, width: Width) -> Kind<'static>
-    ensures name { result.name.now ≡ name.now }
-    ensures width { result.width ≡ width }
+/// Which hash is that of 128 bits: a number that no row of the table has.
+const SPOOKY128: u32 = u32::MAX;
+
+/// How many digits so many bits have.
+fn width_of(bits: u32) -> Width
+    ensures { result ≡ width_of bits }
 {
-    Kind { name, width }
+    if bits <= 32 {
+        Width::Eight
+    } else {
+        Width::Sixteen
+    }
 }
 
-/// The hashes that can be told, the default first.
-#[tactic(auto, unfolding(crate::specs::Sums::kinds))]
+/// The kind of that number.
+fn told_at(which: u32) -> Kind<'static>
+    ensures name { result.name.now ≡ (told_at which).name }
+    ensures width { result.width ≡ (told_at which).width }
+    ensures which { result.which ≡ which }
+{
+    match kind_at(which) {
+        Some(kind) => {
+            let row = kind.row();
+            Kind {
+                name: row.name,
+                width: width_of(row.bits),
+                which,
+            }
+        }
+        None => Kind {
+            name: "spooky128",
+            width: Width::ThirtyTwo,
+            which,
+        },
+    }
+}
+
+/// The hashes that can be told, the default first: that of 128 bits, and the rows of the table but for null, which is no hash.
 pub fn kinds() -> [Kind<'static>; 22]
-    ensures { map (λ kind. (kind.name.now, kind.width)) result ≡ kinds }
+    ensures { map (λ kind. record { name = kind.name.now; width = kind.width; which = kind.which }) result ≡ kinds }
 {
     [
-        kind("spooky128", Width::ThirtyTwo),
-        kind("fnv1a32", Width::Eight),
-        kind("fnv1a64", Width::Sixteen),
-        kind("djb2", Width::Eight),
-        kind("sdbm", Width::Eight),
-        kind("loselose", Width::Sixteen),
-        kind("bricolage", Width::Sixteen),
-        kind("oaat", Width::Sixteen),
-        kind("lookup3", Width::Sixteen),
-        kind("spooky", Width::Sixteen),
-        kind("spooky_v1", Width::Sixteen),
-        kind("passthrough", Width::Sixteen),
-        kind("fxhash", Width::Sixteen),
-        kind("fxhash32", Width::Eight),
-        kind("fxhash64", Width::Sixteen),
-        kind("crc32", Width::Eight),
-        kind("crc32c", Width::Eight),
-        kind("fnv1_32", Width::Eight),
-        kind("fnv1_64", Width::Sixteen),
-        kind("djb2_add", Width::Eight),
-        kind("joaat", Width::Eight),
-        kind("elf", Width::Eight),
+        told_at(SPOOKY128),
+        told_at(0),
+        told_at(1),
+        told_at(2),
+        told_at(3),
+        told_at(4),
+        told_at(5),
+        told_at(6),
+        told_at(7),
+        told_at(8),
+        told_at(9),
+        told_at(10),
+        told_at(11),
+        told_at(12),
+        told_at(13),
+        told_at(14),
+        told_at(15),
+        told_at(16),
+        told_at(17),
+        told_at(18),
+        told_at(19),
+        told_at(20),
     ]
 }
 
@@ -75,7 +99,7 @@ impl<R: Read> HashTask for SumRead<R> {
 
     type Outcome = Result<u64, Unhashed>;
 
-    ghost by = { λ hash limit r s result. Hashes hash (read limit R.remaining r s) result };
+    ghost by = { λ hash of_read limit r s result. Hashes of_read (read limit R.remaining r s) result };
 
     fn by_text<H: Streamed>(limit: u64, r: &mut R) -> Result<u64, Unhashed> {
         hash_of_text::<H, R, BUFFER>(limit, r)
@@ -89,7 +113,7 @@ impl<R: Read> HashTask for SumRead<R> {
         hash_of_spooky_v1::<R, BUFFER>(limit, r)
     }
 
-    ghost by_same = { λ hash same agree limit r s. Hashes-agree hash same agree (read limit R.remaining r s) };
+    ghost by_same = { λ hash of_read same agree limit r s. Hashes-agree of_read same agree (read limit R.remaining r s) };
 }
 
 /// The same number, or no number for the same reason.
@@ -102,23 +126,12 @@ fn widened(number: Result<u64, Unhashed>) -> Result<u128, Unhashed>
     }
 }
 
-/// The number by the hash of that name of all that is read, if that is less than `limit` bytes.
-#[tactic(auto, unfolding(crate::specs::Sums::number_named))]
-pub fn number_named<R: Read>(name: &str, limit: u64, r: &mut R) -> Result<u128, Unhashed>
-    ensures { HashesNamed (number_named name.now) (read limit R.remaining r.old r.new) result }
+/// The number by that hash of all that is read, if that is less than `limit` bytes.
+pub fn number_by<R: Read>(which: u32, limit: u64, r: &mut R) -> Result<u128, Unhashed>
+    ensures { Hashes (sum_at which) (read limit R.remaining r.old r.new) result }
 {
-    match name {
-        "spooky128" => hash_of_spooky128::<R, BUFFER>(limit, r),
-        "crc32" => widened(hash_of_text::<Crc32Hasher, R, BUFFER>(limit, r)),
-        "crc32c" => widened(hash_of_text::<Crc32cHasher, R, BUFFER>(limit, r)),
-        "fnv1_32" => widened(hash_of_text::<Fnv1Hasher32, R, BUFFER>(limit, r)),
-        "fnv1_64" => widened(hash_of_text::<Fnv1Hasher64, R, BUFFER>(limit, r)),
-        "djb2_add" => widened(hash_of_text::<Djb2AddHasher, R, BUFFER>(limit, r)),
-        "joaat" => widened(hash_of_text::<JoaatHasher, R, BUFFER>(limit, r)),
-        "elf" => widened(hash_of_text::<ElfHasher, R, BUFFER>(limit, r)),
-        _ => match by_name::<SumRead<R>>(name, limit, r) {
-            Some(number) => widened(number),
-            None => Err(Unhashed::UnknownName),
-        },
+    match kind_at(which) {
+        Some(kind) => widened(by_kind::<SumRead<R>>(kind, limit, r)),
+        None => hash_of_spooky128::<R, BUFFER>(limit, r),
     }
 }

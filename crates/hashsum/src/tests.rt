@@ -55,9 +55,7 @@ struct Shelf<'a> {
 }
 
 impl<'a> Folder<Page<'a>> for Shelf<'a> {
-    ghost use Rattle.std.specs.Prelude.{None};
-
-    ghost holds = { λ shelf name. None };
+    ghost opens = { λ shelf name opened. Unit {0} };
 
     fn open(&self, name: &[u8]) -> io::Result<Page<'a>> {
         for file in self.files {

@@ -1,16 +1,13 @@
 //! The hashes of cases: each line of standard input is the pieces of a text in hexadecimal, with commas between them, and
 //! each line of standard output the hashes of the names that are the arguments, in their order: names of the table that all
-//! programs share, and of the relatives. For comparing with other programs.
+//! programs share, and `crc32_combine`. For comparing with other programs.
 #![tactic(auto)]
 
 ghost use Rattle.std.specs.Prelude.{⊤};
 
-use hash_more::crc32::{Crc32Hasher, Crc32cHasher, crc32, crc32_combine};
-use hash_more::djb2_add::Djb2AddHasher;
-use hash_more::elf::ElfHasher;
-use hash_more::fnv1::{Fnv1Hasher32, Fnv1Hasher64};
-use hash_more::joaat::JoaatHasher;
-use hash_names::{HashTask, by_name};
+use hash_more::crc32::{crc32, crc32_combine};
+use hash_names::table::{by_kind, kind_named};
+use hash_names::task::HashTask;
 use hashers::jenkins::spooky_hash::SpookyHasher;
 use hashers::laws::{Piecewise, Streamed};
 use std::alloc::{AllocError, Global};
@@ -65,7 +62,7 @@ impl HashTask for HashPieces {
 
     type Outcome = u64;
 
-    ghost by = { λ hash told before after outcome. ⊤ };
+    ghost by = { λ hash of_read told before after outcome. ⊤ };
 
     fn by_text<H: Streamed>(_told: (), pieces: &mut Vec<Vec<u8>>) -> u64 {
         fed::<H>(pieces).answer()
@@ -79,7 +76,7 @@ impl HashTask for HashPieces {
         fed::<SpookyHasher>(pieces).finish128_v1().0
     }
 
-    ghost by_same = { λ hash same agree told before after outcome done. done };
+    ghost by_same = { λ hash of_read same agree told before after outcome done. done };
 }
 
 /// CRC-32 of pieces, from that of each.
@@ -91,19 +88,13 @@ fn combined(pieces: &[Vec<u8>]) -> u64 {
     hash
 }
 
-/// The hash of pieces by the name of a relative.
-fn by_relative(name: &str, pieces: &[Vec<u8>]) -> Option<u64> {
-    match name {
-        "crc32" => Some(fed::<Crc32Hasher>(pieces).answer()),
-        "crc32_combine" => Some(combined(pieces)),
-        "crc32c" => Some(fed::<Crc32cHasher>(pieces).answer()),
-        "fnv1_32" => Some(fed::<Fnv1Hasher32>(pieces).answer()),
-        "fnv1_64" => Some(fed::<Fnv1Hasher64>(pieces).answer()),
-        "djb2_add" => Some(fed::<Djb2AddHasher>(pieces).answer()),
-        "joaat" => Some(fed::<JoaatHasher>(pieces).answer()),
-        "elf" => Some(fed::<ElfHasher>(pieces).answer()),
-        _ => None,
+/// The hash of pieces by a name of the table, or by `crc32_combine`.
+fn hash_named(name: &str, pieces: &mut Vec<Vec<u8>>) -> Option<u64> {
+    if name == "crc32_combine" {
+        return Some(combined(pieces));
     }
+    let kind = kind_named(name.as_bytes())?;
+    Some(by_kind::<HashPieces>(kind, (), pieces))
 }
 
 fn main(rt: HostRuntime) -> io::Result<()> {
@@ -117,11 +108,7 @@ fn main(rt: HostRuntime) -> io::Result<()> {
     for line in input.lines(alloc) {
         let mut pieces = pieces_of(alloc, &line?)?;
         for name in &names {
-            let found = match by_relative(name, &pieces) {
-                Some(hash) => Some(hash),
-                None => by_name::<HashPieces>(name, (), &mut pieces),
-            };
-            match found {
+            match hash_named(name, &mut pieces) {
                 Some(hash) => write!(output, "{hash} ")?,
                 None => return Err(Error::from(ErrorKind::InvalidInput)),
             }

@@ -5,7 +5,7 @@ use Rattle.std.specs.List.Sorted.{IsNonDecreasing, IsPermutation}
 use Rattle.std.proofs.lemmas.Bool.{eqb-true, eqb-false, ne_eqb, eq-eqb}
 use Rattle.std.proofs.lemmas.List.{get_or-take, length-take}
 use Rattle.std.proofs.lemmas.List.Sorted.{length_permutation, sum_by-IsPermutation}
-use Rattle.std.proofs.lemmas.List.Sums.{sum_by-cons, sum_by_push, count_by_more_yes}
+use Rattle.std.proofs.lemmas.List.Sums.{sum_by-cons, sum_by_push}
 use Rattle.spread.specs.Counts.{collisions, times}
 use Rattle.spread.proofs.CountLemmas.{sum_by-add, sum_by-same}
 
@@ -70,16 +70,7 @@ count_by_none p (x ∷ xs) fails =
     let rest = count_by_none p xs (λ k below. fails (suc k) (omega arith)) in
     omega (arith, here, first, rest)
 
--- of hashes in order, the one at a place equals one more before it than the one before, where these two are equal
-pub equal_more : (hashes : List ℕ) (i k : ℕ) → k + 1 ≡ i → i < length hashes → get_or hashes i 0 ≡ get_or hashes k 0
-    → times (get_or hashes i 0) (take i hashes) ≡ times (get_or hashes k 0) (take k hashes) + 1
-equal_more hashes i k next below same =
-    ap (λ h. times h (take i hashes)) same
-    ∙ ap (λ n. times (get_or hashes k 0) (take n hashes)) (sym next)
-    ∙ count_by_more_yes (λ other. eqb other (get_or hashes k 0)) hashes k 0 (omega arith)
-    (eq-eqb (get_or hashes k 0) (get_or hashes k 0) refl)
-
--- and none where they differ
+-- of hashes in order, the one at a place equals none before it where it differs from the one before
 pub equal_none : (hashes : List ℕ) (i k : ℕ) → IsNonDecreasing hashes → k + 1 ≡ i → i < length hashes
     → (get_or hashes i 0 ≡ get_or hashes k 0 → ⊥) → times (get_or hashes i 0) (take i hashes) ≡ 0
 equal_none hashes i k order next below differ = count_by_none (λ other. eqb other (get_or hashes i 0)) (take i hashes) (λ j j_in.

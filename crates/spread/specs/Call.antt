@@ -1,7 +1,8 @@
 -- Which options there are, and how the program ends.
-use Rattle.std.specs.Prelude.{ℕ, List, [], ◌∷◌, Some, codes}
+use Rattle.std.specs.Prelude.{ℕ, Bool, List, [], ◌∷◌, Some, codes}
 use Rattle.std.specs.IoError.{error_kind}
 use Rattle.hash_program.specs.About.{write_status}
+use Rattle.hash_program.specs.Call.{given}
 use Rattle.spread.specs.declared.call.Outcome.{Outcome}
 use Rattle.spread.specs.declared.call.Outcome.TheVariants.{Done, Usage, Failed}
 use Rattle.spread.specs.declared.call.Wrong.TheVariants as wrong
@@ -15,7 +16,11 @@ abbrev pub letters : List ℕ
 letters = codes "z"
 
 abbrev pub names : List (List ℕ)
-names = codes "zero-terminated" ∷ codes "no-times" ∷ codes "help" ∷ codes "version" ∷ []
+names = codes "zero-terminated" ∷ codes "no-times" ∷ codes "list" ∷ codes "help" ∷ codes "version" ∷ []
+
+-- whether the words say that zero bytes end keys
+abbrev pub wants_zeros : List (List ℕ) → Bool
+wants_zeros words = given (Some 122) (codes "zero-terminated") words
 
 -- what failed, in words
 abbrev pub failure_of : Outcome → List ℕ
@@ -23,6 +28,7 @@ failure_of Done = []
 failure_of (Usage wrong.UnknownOption) = codes "unknown option"
 failure_of (Usage wrong.NoValue) = codes "-b and -w want a number, and --plot a file"
 failure_of (Usage wrong.NoNumber) = codes "-b and -w want a number from 1 on"
+failure_of (Usage wrong.TwoLayouts) = codes "-z does not go with -w"
 failure_of (Usage wrong.UnknownName) = codes "unknown name"
 failure_of (Failed (Unread error)) = codes "-"
 failure_of (Failed (Unwritten error)) = codes "write error"

@@ -1,7 +1,7 @@
 -- The keys of a text, and what a set has once they are read.
 use Rattle.std.specs.Prelude.{ℕ, ◌≡◌, ◌++◌, Bool, true, false, Option, List, All, IfSome, fold, length, [], ◌∷◌}
 use Rattle.std.specs.Int.NonZero.{non_zero_usize_get}
-use Rattle.std.specs.Io.KnownBytes.{Consumes}
+use Rattle.std.specs.Io.KnownBytes.{Consumes, IsAtEnd}
 use Rattle.std.specs.List.{concat}
 use Rattle.hash_lines.specs.Lines.{line_texts}
 use Rattle.hash_texts.specs.Texts.{with_text}
@@ -45,6 +45,16 @@ IsWhole eol text = (later : List ℕ) → line_texts eol (text ++ later) ≡ lin
 abbrev pub ReadsLine : (eol : ℕ) (keys keys' : List (List ℕ)) (left left' : Option (List ℕ)) → (has_end : Bool) → Type 0
 ReadsLine eol keys keys' left left' true = (text : List ℕ) × TakesKeys keys keys' left left' text (line_texts eol text) × IsWhole eol text
 ReadsLine eol keys keys' left left' false = ReadsLines eol keys keys' left left'
+
+-- some bytes were read, and stand behind those before them; none were at the end alone
+abbrev pub ReadsPiece : (before after : List ℕ) (left left' : Option (List ℕ)) → (count : ℕ) → Type 0
+ReadsPiece before after left left' count = (text : List ℕ) × (after ≡ before ++ text) × (length text ≡ count)
+    × Consumes left left' text × (count ≡ 0 → IsAtEnd left')
+
+-- a key of so many bytes was read; or none was left
+abbrev pub ReadsKey : (width : ℕ) (key : List ℕ) (left left' : Option (List ℕ)) → (is_one : Bool) → Type 0
+ReadsKey width key left left' true = Consumes left left' key × (length key ≡ width)
+ReadsKey width key left left' false = Consumes left left' [] × IfSome left (λ bytes. bytes ≡ [])
 
 -- a key of so many bytes was read, and is there; or none was left
 abbrev pub ReadsOne : (width : ℕ) (keys keys' : List (List ℕ)) (left left' : Option (List ℕ)) → (is_one : Bool) → Type 0

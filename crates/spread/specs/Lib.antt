@@ -2,4 +2,4 @@ pub mod Call
 pub mod Counts
 pub mod Keys
 pub mod Named
-pub mod NamedLaws
+pub mod Table

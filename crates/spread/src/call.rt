@@ -1,11 +1,11 @@
 //! What the program is asked for, and how it ends.
-ghost use Rattle.std.specs.Prelude.{◌≡◌, ◌∷◌, [], ℕ, List, map, MatchOption};
+ghost use Rattle.std.specs.Prelude.{◌≡◌, ◌∷◌, [], ℕ, List, None, map, true, MatchOption, OnErr, OnOk};
 ghost use Rattle.hash_program.specs.Call.{texts, unknown};
-ghost use Rattle.spread.specs.Call.{failure_of, letters, names, status_of};
+ghost use Rattle.spread.specs.Call.{failure_of, letters, names, status_of, wants_zeros};
 
 use crate::fault::Fault;
 use crate::keys::Layout;
-use crate::names::{Hasher, all_hashers};
+use hash_names::table::{KINDS, Kind, kind_named};
 use hash_program::about::write_status;
 use hash_program::call::{first_unknown, is_given, operands};
 use hash_program::valued::take_value;
@@ -43,6 +43,8 @@ pub struct Settings {
 pub enum Task {
     /// The table.
     Table(Settings),
+    /// The names of the hashes.
+    List,
     /// How the program is called.
     Help,
     /// Which version of the program this is.
@@ -58,6 +60,8 @@ pub enum Wrong {
     NoValue,
     /// It gives a number of buckets or bytes that is none from 1 on.
     NoNumber,
+    /// It says that keys have a fixed width, and that zero bytes end them.
+    TwoLayouts,
     /// It names a hash that there is not.
     UnknownName,
 }
@@ -92,7 +96,13 @@ pub fn unknown_option(words: &[Vec<u8>]) -> Option<&[u8]>
     ensures { MatchOption result (unknown letters names (texts words.now) ≡ [])
         (λ word. (more : List (List ℕ)) × (unknown letters names (texts words.now) ≡ word.now ∷ more)) }
 {
-    let names: [&[u8]; 4] = [b"zero-terminated", b"no-times", b"help", b"version"];
+    let names: [&[u8]; 5] = [
+        b"zero-terminated",
+        b"no-times",
+        b"list",
+        b"help",
+        b"version",
+    ];
     first_unknown(words, b"z", &names)
 }
 
@@ -116,13 +126,19 @@ pub fn no_number(call: &Call) -> Option<&[u8]> {
     None
 }
 
-/// How the keys lie in the input.
-fn layout_of(call: &Call) -> Layout {
-    let width = call.width.as_deref().and_then(number_of);
-    match width {
-        Some(width) => Layout::Fixed(width),
-        None if is_given(&call.words, Some(b'z'), b"zero-terminated") => Layout::Lines(0),
-        None => Layout::Lines(b'\n'),
+/// How the keys lie in the input: with a fixed width, or with an end, which is a newline where nothing is said.
+fn layout_of(call: &Call) -> Result<Layout, Wrong>
+    ensures ok { OnOk result (wants_zeros (texts call.now.words.items) ≡ true → call.now.width ≡ None) }
+    ensures err { OnErr result (wants_zeros (texts call.now.words.items) ≡ true) }
+{
+    let zeros = is_given(&call.words, Some(b'z'), b"zero-terminated");
+    if zeros && call.width.is_some() {
+        return Err(Wrong::TwoLayouts);
+    }
+    match call.width.as_deref().and_then(number_of) {
+        Some(width) => Ok(Layout::Fixed(width)),
+        None if zeros => Ok(Layout::Lines(0)),
+        None => Ok(Layout::Lines(b'\n')),
     }
 }
 
@@ -137,6 +153,9 @@ pub fn task_of(call: &Call) -> Result<Task, Wrong> {
     if is_given(&call.words, None, b"version") {
         return Ok(Task::Version);
     }
+    if is_given(&call.words, None, b"list") {
+        return Ok(Task::List);
+    }
     if call.lacks {
         return Err(Wrong::NoValue);
     }
@@ -146,44 +165,51 @@ pub fn task_of(call: &Call) -> Result<Task, Wrong> {
     let buckets = call.buckets.as_deref().and_then(number_of);
     Ok(Task::Table(Settings {
         buckets: buckets.map(|number| number.get() as u64),
-        layout: layout_of(call),
+        layout: layout_of(call)?,
         times: !is_given(&call.words, None, b"no-times"),
     }))
-}
-
-/// The hasher of that name.
-fn hasher_named(name: &[u8]) -> Option<Hasher> {
-    for hasher in all_hashers() {
-        if hasher.name.as_bytes() == name {
-            return Some(hasher);
-        }
-    }
-    None
 }
 
 /// The first operand that no hash has as its name.
 pub fn unknown_name(alloc: Global, words: &[Vec<u8>]) -> Result<Option<&[u8]>, AllocError> {
     for name in operands(alloc, words)? {
-        if hasher_named(name).is_none() {
+        if kind_named(name).is_none() {
             return Ok(Some(name));
         }
     }
     Ok(None)
 }
 
-/// The hashers that the operands name, in their order; the usual ones where there is none. An unknown name has none.
-pub fn hashers_of(alloc: Global, words: &[Vec<u8>]) -> Result<Vec<Hasher>, AllocError> {
+/// Whether the hash stands in the table where none is named. The others spread as another does, not at all, or are for files.
+fn is_usual(kind: Kind) -> bool {
+    !matches!(
+        kind,
+        Kind::SpookyV1
+            | Kind::Null
+            | Kind::FxHash64
+            | Kind::Crc32
+            | Kind::Crc32c
+            | Kind::Fnv1At32
+            | Kind::Fnv1At64
+            | Kind::Djb2Add
+            | Kind::Joaat
+            | Kind::Elf
+    )
+}
+
+/// The hashes that the operands name, in their order; the usual ones where there is none. An unknown name has none.
+pub fn kinds_of(alloc: Global, words: &[Vec<u8>]) -> Result<Vec<Kind>, AllocError> {
     let mut chosen = Vec::new(alloc);
     let names = operands(alloc, words)?;
     for name in &names {
-        if let Some(hasher) = hasher_named(name) {
-            chosen.push(hasher)?;
+        if let Some(kind) = kind_named(name) {
+            chosen.push(kind)?;
         }
     }
     if names.is_empty() {
-        for hasher in all_hashers() {
-            if hasher.is_usual {
-                chosen.push(hasher)?;
+        for kind in KINDS {
+            if is_usual(kind) {
+                chosen.push(kind)?;
             }
         }
     }
@@ -199,6 +225,7 @@ pub fn outcome_failure(outcome: &Outcome) -> &'static str
         Outcome::Usage(Wrong::UnknownOption) => "unknown option",
         Outcome::Usage(Wrong::NoValue) => "-b and -w want a number, and --plot a file",
         Outcome::Usage(Wrong::NoNumber) => "-b and -w want a number from 1 on",
+        Outcome::Usage(Wrong::TwoLayouts) => "-z does not go with -w",
         Outcome::Usage(Wrong::UnknownName) => "unknown name",
         Outcome::Failed(Fault::Unread(_)) => "-",
         Outcome::Failed(Fault::Unwritten(_)) => "write error",

@@ -1,5 +1,8 @@
 //! How long hashing takes.
-use crate::named::{Hashed, hash_named};
+ghost use Rattle.std.specs.Prelude.{◌≡◌};
+
+use crate::named::{Hashed, hash_by};
+use hash_names::table::Kind;
 use std::alloc::AllocError;
 use std::num::{nearest_u64_to_f64, nearest_usize_to_f64};
 use std::time::Instant;
@@ -13,38 +16,36 @@ const TIMES: u32 = 3;
 /// How many rounds a measurement has at most.
 const MOST: u64 = 1000000;
 
-/// How many nanoseconds so many rounds take, if there is a clock and a hash of that name.
+/// How many nanoseconds so many rounds take, if there is a clock.
 fn span_of(
     rt: &HostRuntime,
-    name: &str,
+    kind: Kind,
     rounds: u32,
     hashed: &mut Hashed,
-) -> Result<Option<u64>, AllocError> {
+) -> Result<Option<u64>, AllocError>
+    ensures { hashed.new.keys ≡ hashed.old.keys }
+{
     let Ok(begun) = Instant::now(rt) else {
         return Ok(None);
     };
-    if let Some(Err(error)) = hash_named(name, rounds, hashed) {
-        return Err(error);
-    }
+    hash_by(kind, rounds, hashed)?;
     match begun.elapsed(rt) {
         Ok(passed) => Ok(Some(u64::try_from(passed.as_nanos()).unwrap_or(u64::MAX))),
         Err(_) => Ok(None),
     }
 }
 
-/// How many nanoseconds hashing takes for a key by the hasher of that name: the least of some measurements.
-pub fn time_of(
-    rt: &HostRuntime,
-    name: &str,
-    hashed: &mut Hashed,
-) -> Result<Option<f64>, AllocError> {
-    let Some(first) = span_of(rt, name, 1, hashed)? else {
+/// How many nanoseconds hashing takes for a key by that hash: the least of some measurements.
+pub fn time_of(rt: &HostRuntime, kind: Kind, hashed: &mut Hashed) -> Result<Option<f64>, AllocError>
+    ensures { hashed.new.keys ≡ hashed.old.keys }
+{
+    let Some(first) = span_of(rt, kind, 1, hashed)? else {
         return Ok(None);
     };
     let rounds = (SPAN / first.max(1)).max(1).min(MOST);
     let mut least: Option<u64> = None;
-    for _ in 0..TIMES {
-        match (span_of(rt, name, rounds as u32, hashed)?, least) {
+    'again: for _ in 0..TIMES {
+        match (span_of(rt, kind, rounds as u32, hashed)?, least) {
             (Some(span), Some(other)) => least = Some(span.min(other)),
             (Some(span), None) => least = Some(span),
             (None, _) => {}

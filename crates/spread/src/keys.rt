@@ -1,15 +1,18 @@
 //! Reads keys: lines, which end with newline or another byte, or so many bytes each.
-ghost use Rattle.std.specs.Prelude.{◌≡◌, ◌<◌, IfOk, OnOk, length, true};
+ghost use Rattle.std.specs.Prelude.{◌≡◌, ◌<◌, ◌≤◌, IfOk, OnOk, length, true};
 ghost use Rattle.std.specs.Io.BufRead.{ends_with_byte, strip_last};
 ghost use Rattle.hash_texts.specs.Texts.{with_text};
-ghost use Rattle.spread.specs.Keys.{ReadsFixed, ReadsKeys, ReadsLine, ReadsLines, ReadsOne};
+ghost use Rattle.spread.specs.Keys.{ReadsFixed, ReadsKey, ReadsKeys, ReadsLine, ReadsLines, ReadsOne, ReadsPiece};
 
 use crate::fault::Fault;
 use hash_program::streams::{TRIES, read_some};
 use hash_texts::{RandomKeys, Texts};
 use std::alloc::Global;
-use std::io::{BufRead, ErrorKind, Read};
+use std::io::{BufRead, Read};
 use std::num::NonZeroUsize;
+
+/// How many bytes of a key of fixed width are read at once at most.
+const PIECE: usize = 65536;
 
 /// How the keys lie in what is read.
 #[derive(Clone, Copy, PartialEq)]
@@ -87,44 +90,86 @@ fn read_lines<R: BufRead>(
     Ok(false)
 }
 
-/// Reads a key that fills the room, takes it in, and tells whether there was one.
-fn read_one<R: Read>(
-    keys: &mut Texts<RandomKeys>,
-    room: &mut [u8],
+/// Reads some bytes more of a key and puts them behind the others, and tells how many: none at the end.
+fn read_piece<R: Read>(key: &mut Vec<u8>, piece: &mut [u8], r: &mut R) -> Result<usize, Fault>
+    requires { 0 < length piece.old }
+    ensures most { IfOk result (λ n. n ≤ length piece.old) }
+    ensures read { IfOk result (ReadsPiece key.old.items key.new.items (R.remaining r.old) (R.remaining r.new)) }
+{
+    match read_some(r, piece, TRIES) {
+        Ok(n) => {
+            key.extend_from_slice(&piece[..n])?;
+            Ok(n)
+        }
+        Err(error) => Err(Fault::of_read(error)),
+    }
+}
+
+/// Reads a key of so many bytes, and tells whether there was one. The memory for it grows as its bytes come.
+fn read_key<R: Read>(
+    width: usize,
+    key: &mut Vec<u8>,
+    piece: &mut [u8],
     r: &mut R,
 ) -> Result<bool, Fault>
-    requires { 0 < length room.old }
-    ensures { IfOk result (ReadsOne (length room.old) keys.old keys.new (R.remaining r.old) (R.remaining r.new)) }
+    requires { 0 < length piece.old }
+    ensures { IfOk result (ReadsKey width key.new.items (R.remaining r.old) (R.remaining r.new)) }
 {
-    let begun = match read_some(r, room, TRIES) {
-        Ok(begun) => begun,
-        Err(error) => return Err(Fault::of_read(error)),
-    };
-    if begun == 0 {
-        return Ok(false);
+    key.clear();
+    'pieces: while key.len() < width {
+        let most = piece.len().min(width - key.len());
+        if read_piece(key, &mut piece[..most], r)? == 0 {
+            return if key.is_empty() {
+                Ok(false)
+            } else {
+                Err(Fault::ShortKey)
+            };
+        }
     }
-    if let Err(error) = r.read_exact(&mut room[begun..]) {
-        return match error.kind() {
-            ErrorKind::UnexpectedEof => Err(Fault::ShortKey),
-            _ => Err(Fault::of_read(error)),
-        };
-    }
-    take_key(keys, room)?;
     Ok(true)
 }
 
-/// Reads keys that fill the room and takes them in, and tells whether all were read.
-fn read_fixed<R: Read>(
+/// Reads a key of so many bytes, takes it in, and tells whether there was one.
+fn read_one<R: Read>(
     keys: &mut Texts<RandomKeys>,
-    room: &mut [u8],
+    width: usize,
+    key: &mut Vec<u8>,
+    piece: &mut [u8],
     r: &mut R,
 ) -> Result<bool, Fault>
-    requires { 0 < length room.old }
-    ensures { IfOk result (λ all. all ≡ true
-        → ReadsFixed (length room.old) keys.old keys.new (R.remaining r.old) (R.remaining r.new)) }
+    requires { 0 < length piece.old }
+    ensures { IfOk result (ReadsOne width keys.old keys.new (R.remaining r.old) (R.remaining r.new)) }
 {
+    if !read_key(width, key, piece, r)? {
+        return Ok(false);
+    }
+    take_key(keys, key)?;
+    Ok(true)
+}
+
+/// How many bytes of a key of that width are read at once.
+fn piece_len(width: usize) -> usize
+    requires { 0 < width }
+    ensures { 0 < result }
+{
+    width.min(PIECE)
+}
+
+/// Reads keys of so many bytes and takes them in, and tells whether all were read.
+fn read_fixed<R: Read>(
+    alloc: Global,
+    keys: &mut Texts<RandomKeys>,
+    width: usize,
+    r: &mut R,
+) -> Result<bool, Fault>
+    requires { 0 < width }
+    ensures { IfOk result (λ all. all ≡ true
+        → ReadsFixed width keys.old keys.new (R.remaining r.old) (R.remaining r.new)) }
+{
+    let mut key = Vec::new(alloc);
+    let mut piece = vec![in alloc; 0u8; piece_len(width)]?;
     'keys: for _ in 0..u64::MAX {
-        if !read_one(keys, room, r)? {
+        if !read_one(keys, width, &mut key, &mut piece, r)? {
             return Ok(true);
         }
     }
@@ -142,10 +187,7 @@ pub fn read_keys<R: BufRead>(
 {
     let all = match layout {
         Layout::Lines(eol) => read_lines(alloc, keys, eol, r)?,
-        Layout::Fixed(width) => {
-            let mut room = vec![in alloc; 0u8; width.get()]?;
-            read_fixed(keys, &mut room, r)?
-        }
+        Layout::Fixed(width) => read_fixed(alloc, keys, width.get(), r)?,
     };
     if all { Ok(()) } else { Err(Fault::TooManyKeys) }
 }

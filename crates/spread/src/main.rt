@@ -10,7 +10,6 @@ mod fault;
 mod keys;
 mod laws;
 mod named;
-mod names;
 mod picture;
 mod run;
 mod sizes;
@@ -19,16 +18,18 @@ mod table;
 mod tests;
 
 use call::{
-    Call, Outcome, Task, Wrong, call_of, hashers_of, no_number, outcome_failure, outcome_status,
+    Call, Outcome, Task, Wrong, call_of, kinds_of, no_number, outcome_failure, outcome_status,
     task_of, unknown_name, unknown_option,
 };
 use fault::Fault;
+use hash_names::table::KINDS;
 use hash_program::about::tell;
-use hash_program::inputs::tell_failure;
+use hash_program::quoted::quoted;
 use hash_program::reason::reason;
 use hash_program::streams::TRIES;
 use hash_program::words::words;
 use run::tell_table;
+use std::alloc::{AllocError, Global};
 use std::io::{BufWriter, Stdout};
 use std::process::ExitCode;
 
@@ -54,15 +55,48 @@ and as the next odd number above that.
   -w, --width BYTES      keys are so many bytes each, with nothing between two
   -z, --zero-terminated  keys end with a zero byte, not with a newline
       --no-times         measure no times and recommend nothing
-      --plot FILE.svg    draw the table, too
-      --help             write this and end
-      --version          write the version and end
+      --plot FILE.svg    draw the table, too; - is standard output, behind it
+      --list, --help, --version   write this and end
+
 ";
 
 /// Which version this is.
 const VERSION: &str = "spread of hashers 1.0.1
 License: MIT
 ";
+
+/// How wide a line of the help is at most.
+const WIDE: usize = 79;
+
+/// How the program is called, and the names of the hashes.
+fn help(alloc: Global) -> Result<String, AllocError> {
+    let mut help = String::from_str(alloc, HELP)?;
+    help.push_str("The names:")?;
+    let mut wide: usize = 10;
+    for kind in KINDS {
+        let name = kind.row().name;
+        wide = wide.saturating_add(name.len()).saturating_add(1);
+        if wide > WIDE {
+            help.push('\n')?;
+            wide = name.len();
+        } else {
+            help.push(' ')?;
+        }
+        help.push_str(name)?;
+    }
+    help.push('\n')?;
+    Ok(help)
+}
+
+/// Which hashes there are, and how many bits each has.
+fn list(alloc: Global) -> Result<String, AllocError> {
+    let mut list = String::from_str(alloc, "NAME        BITS\n")?;
+    for kind in KINDS {
+        let row = kind.row();
+        list.push_str(format!(in alloc; "{:<12} {:>3}\n", row.name, row.bits)?.as_str())?;
+    }
+    Ok(list)
+}
 
 /// What came of a run, or of telling a text.
 fn of_run(ended: Result<(), Fault>) -> Outcome {
@@ -88,14 +122,15 @@ fn called(rt: &HostRuntime, call: &Call) -> Result<Outcome, Fault> {
     };
     match task_of(call) {
         Err(wrong) => Ok(Outcome::Usage(wrong)),
-        Ok(Task::Help) => Ok(told(HELP, &mut w)),
+        Ok(Task::Help) => Ok(told(help(alloc)?.as_str(), &mut w)),
+        Ok(Task::List) => Ok(told(list(alloc)?.as_str(), &mut w)),
         Ok(Task::Version) => Ok(told(VERSION, &mut w)),
         Ok(Task::Table(settings)) => {
             if unknown_name(alloc, &call.words)?.is_some() {
                 return Ok(Outcome::Usage(Wrong::UnknownName));
             }
-            let hashers = hashers_of(alloc, &call.words)?;
-            Ok(of_run(tell_table(rt, &settings, &hashers, call.plot.as_deref(), &mut w)))
+            let kinds = kinds_of(alloc, &call.words)?;
+            Ok(of_run(tell_table(rt, &settings, &kinds, call.plot.as_deref(), &mut w)))
         }
     }
 }
@@ -107,12 +142,16 @@ fn why(rt: &HostRuntime, call: &Call, outcome: &Outcome) -> Option<String> {
         Outcome::Usage(Wrong::UnknownOption) => unknown_option(&call.words),
         Outcome::Usage(Wrong::UnknownName) => unknown_name(alloc, &call.words).ok()?,
         Outcome::Usage(Wrong::NoNumber) => no_number(call),
-        Outcome::Failed(Fault::Unread(error))
-        | Outcome::Failed(Fault::Unwritten(Some(error)))
-        | Outcome::Failed(Fault::Undrawn(error)) => return reason(alloc, error).ok(),
+        Outcome::Failed(Fault::Unread(error)) | Outcome::Failed(Fault::Unwritten(Some(error))) =>
+            return reason(alloc, error).ok(),
+        Outcome::Failed(Fault::Undrawn(error)) => {
+            let name = quoted(alloc, call.plot.as_deref()?).ok()?;
+            let reason = reason(alloc, error).ok()?;
+            return format!(in alloc; "{name}: {reason}").ok();
+        }
         _ => None,
     };
-    String::from_utf8_lossy(alloc, word?).ok()
+    quoted(alloc, word?).ok()
 }
 
 /// Says what failed and why, unless nobody reads any more.

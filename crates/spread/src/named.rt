@@ -1,14 +1,15 @@
 //! The hashes of keys, by a hasher or by its name.
-ghost use Rattle.std.specs.Prelude.{◌≡◌, All, OnOk, length, map};
-ghost use Rattle.hash_names.specs.Named.{ComesOf, named};
+ghost use Rattle.std.specs.Prelude.{◌≡◌, All, IfOk, OnOk, length, map};
+ghost use Rattle.hash_names.specs.Named.{hash_of};
 ghost use Rattle.hashers.specs.Spooky.{spooky_v1};
 ghost use Rattle.hashers.specs.Text.{IsText};
-ghost use Rattle.spread.specs.Named.{AreCounted, IsHashed};
-ghost use Rattle.spread.specs.NamedLaws.{hashed_same};
+ghost use Rattle.spread.specs.Counts.{IsCounts};
+ghost use Rattle.spread.specs.Named.{IsHashed};
 
 use crate::counts::{Counts, counts_of};
 use crate::sizes::Sizes;
-use hash_names::{HashTask, by_name};
+use hash_names::table::{Kind, by_kind};
+use hash_names::task::HashTask;
 use hash_texts::{RandomKeys, Texts};
 use hashers::jenkins::spooky_hash::spooky_v1;
 use hashers::laws::{Piecewise, Streamed, bytes_are_a_text, hash_of};
@@ -78,7 +79,7 @@ impl HashTask for HashKeys {
 
     type Outcome = Result<(), AllocError>;
 
-    ghost by = { λ hash rounds. IsHashed hash };
+    ghost by = { λ hash of_read rounds. IsHashed hash };
 
     fn by_text<H: Streamed>(rounds: u32, hashed: &mut Hashed) -> Result<(), AllocError> {
         hash_often::<H>(rounds, hashed)
@@ -97,31 +98,26 @@ impl HashTask for HashKeys {
         Ok(())
     }
 
-    ghost by_same = { λ hash same agree rounds before after. hashed_same hash same agree before after };
+    ghost by_same = { λ hash of_read same agree rounds before after outcome done. done };
 }
 
-/// Hashes the keys by the hasher of that name, so many times, and once at least. A key is one piece. `None` exactly where no hash
-/// has the name; the keys stay.
-pub fn hash_named(name: &str, rounds: u32, hashed: &mut Hashed) -> Option<Result<(), AllocError>>
-    ensures { ComesOf (λ hash. IsHashed hash hashed.old hashed.new) (hashed.new ≡ hashed.old) (named name.now) result }
+/// Hashes the keys by that hash, so many times, and once at least. A key is one piece; the keys stay.
+pub fn hash_by(kind: Kind, rounds: u32, hashed: &mut Hashed) -> Result<(), AllocError>
+    ensures { IsHashed (hash_of kind) hashed.old hashed.new result }
 {
-    by_name::<HashKeys>(name, rounds, hashed)
+    by_kind::<HashKeys>(kind, rounds, hashed)
 }
 
-/// The numbers of the hashes of the keys by the hasher of that name; `None` exactly where no hash has the name. The keys stay.
-pub fn counts_named(
+/// The numbers of the hashes of the keys by that hash. The keys stay.
+pub fn counts_by(
     alloc: Global,
-    name: &str,
+    kind: Kind,
     sizes: Sizes,
     hashed: &mut Hashed,
-) -> Option<Result<Counts, AllocError>>
-    ensures { ComesOf
-        (λ hash result. (hashed.new.keys ≡ hashed.old.keys) × AreCounted hash sizes hashed.old.keys result)
-        (hashed.new ≡ hashed.old) (named name.now) result }
+) -> Result<Counts, AllocError>
+    ensures keys { hashed.new.keys ≡ hashed.old.keys }
+    ensures counts { IfOk result (IsCounts sizes (map (hash_of kind) hashed.old.keys)) }
 {
-    match hash_named(name, 1, hashed) {
-        Some(Ok(())) => Some(counts_of(alloc, &mut hashed.hashes, sizes)),
-        Some(Err(error)) => Some(Err(error)),
-        None => None,
-    }
+    hash_by(kind, 1, hashed)?;
+    counts_of(alloc, &mut hashed.hashes, sizes)
 }

@@ -176,7 +176,7 @@ pub fn picture(alloc: Global, frame: &Frame, rows: &[Row]) -> Result<String, All
             second.push(spread)?;
         }
         let y = y_of(place).saturating_add(15);
-        drawing.text(LEFT - 8, y, " text-anchor=\"end\"", row.hasher.name)?;
+        drawing.text(LEFT - 8, y, " text-anchor=\"end\"", row.kind.row().name)?;
     }
     draw_group(&mut drawing, frame, 0, &first)?;
     draw_group(&mut drawing, frame, 1, &second)?;

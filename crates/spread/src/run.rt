@@ -1,23 +1,30 @@
 //! A run: reads the keys, and writes the table.
+ghost use Rattle.std.specs.Prelude.{◌≡◌, IfOk, map};
+ghost use Rattle.hash_names.specs.Named.{hash_of};
+ghost use Rattle.spread.specs.Counts.{IsCounts};
+
 use crate::call::Settings;
 use crate::clock::time_of;
 use crate::fault::Fault;
 use crate::keys::{Layout, read_keys};
-use crate::named::{Hashed, counts_named};
-use crate::names::Hasher;
+use crate::named::{Hashed, counts_by};
 use crate::picture::picture;
 use crate::sizes::sizes_of;
 use crate::table::{Frame, Row};
+use hash_names::table::Kind;
 use hash_program::inputs::open;
 use hash_program::progress::{Progress, Watched};
 use hash_program::streams::{TRIES, put, put_out};
 use hash_texts::{RandomKeys, Texts};
-use std::fs::File;
+use std::fs::{File, OpenOptions};
 use std::io;
 use std::io::{BufReader, BufWriter, Error, ErrorKind, IsTerminal, Stdout};
 
 /// How many bytes are read at once.
 const BUFFER: usize = 65536;
+
+/// The name of standard input, and of standard output.
+const STANDARD: &[u8] = b"-";
 
 /// Writes a line and flushes.
 fn tell(w: &mut BufWriter<Stdout>, line: &str) -> Result<(), Fault> {
@@ -35,7 +42,7 @@ fn keys_of_input(rt: &HostRuntime, layout: Layout) -> Result<Texts<RandomKeys>, 
         Err(error) => return Err(Fault::Unread(error)),
     };
     let mut keys = Texts::new(alloc, hasher);
-    let input = match open(rt, b"-") {
+    let input = match open(rt, STANDARD) {
         Ok(input) => input,
         Err(error) => return Err(Fault::Unread(error)),
     };
@@ -47,47 +54,42 @@ fn keys_of_input(rt: &HostRuntime, layout: Layout) -> Result<Texts<RandomKeys>, 
     Ok(keys)
 }
 
-/// The row of a hasher.
-fn row_of(
-    rt: &HostRuntime,
-    hasher: Hasher,
-    frame: &Frame,
-    hashed: &mut Hashed,
-) -> Result<Option<Row>, Fault> {
+/// The row of a hash: the numbers of the hashes of the keys, which stay.
+fn row_of(rt: &HostRuntime, kind: Kind, frame: &Frame, hashed: &mut Hashed) -> Result<Row, Fault>
+    ensures keys { hashed.new.keys ≡ hashed.old.keys }
+    ensures kind { IfOk result (λ row. row.kind ≡ kind) }
+    ensures counts { IfOk result (λ row. IsCounts frame.now.sizes (map (hash_of kind) hashed.old.keys) row.counts) }
+{
     let time = if frame.times {
-        time_of(rt, hasher.name, hashed)?
+        time_of(rt, kind, hashed)?
     } else {
         None
     };
-    match counts_named(rt.alloc(), hasher.name, frame.sizes, hashed) {
-        Some(Ok(counts)) => Ok(Some(Row {
-            hasher,
-            counts,
-            time,
-        })),
-        Some(Err(error)) => Err(Fault::from(error)),
-        None => Ok(None),
-    }
+    let counts = counts_by(rt.alloc(), kind, frame.sizes, hashed)?;
+    Ok(Row { kind, counts, time })
 }
 
-/// Writes the row of each hasher as soon as it is done.
+/// Writes the row of each hasher as soon as it is done, and the head in front of the first: where there is no memory for that row,
+/// nothing is written.
 fn tell_rows(
     rt: &HostRuntime,
-    hashers: &[Hasher],
+    kinds: &[Kind],
     frame: &Frame,
     hashed: &mut Hashed,
     w: &mut BufWriter<Stdout>,
 ) -> Result<Vec<Row>, Fault> {
     let mut progress = Progress::new(rt, rt.stderr().is_terminal());
     let mut rows = Vec::new(rt.alloc());
-    for (done, hasher) in hashers.iter().enumerate() {
+    for (done, kind) in kinds.iter().enumerate() {
         progress.show(done as u64, "hashers done");
-        if let Some(row) = row_of(rt, *hasher, frame, hashed)? {
-            progress.clear();
-            tell(w, frame.row(rt.alloc(), &row)?.as_str())?;
-            if rows.push(row).is_err() {
-                return Err(Fault::NoMemory);
-            }
+        let row = row_of(rt, *kind, frame, hashed)?;
+        progress.clear();
+        if done == 0 {
+            tell(w, frame.head(rt.alloc())?.as_str())?;
+        }
+        tell(w, frame.row(rt.alloc(), &row)?.as_str())?;
+        if rows.push(row).is_err() {
+            return Err(Fault::NoMemory);
         }
     }
     progress.clear();
@@ -101,8 +103,8 @@ fn tell_chance(
     frame: &Frame,
     w: &mut BufWriter<Stdout>,
 ) -> Result<(), Fault> {
-    for bits in [0, 32, 64] {
-        if rows.iter().any(|row| row.hasher.bits == bits) {
+    for bits in [0, 28, 32, 64] {
+        if rows.iter().any(|row| row.kind.row().bits == bits) {
             tell(w, frame.chance(rt.alloc(), bits)?.as_str())?;
         }
     }
@@ -118,7 +120,7 @@ fn tell_best(
 ) -> Result<(), Fault> {
     match frame.best(rows) {
         Some(best) => {
-            let name = best.hasher.name;
+            let name = best.kind.row().name;
             let line = format!(in rt.alloc();
                 "Take {name}: the fastest of those that spread these keys as chance does.\n"
             )?;
@@ -128,27 +130,71 @@ fn tell_best(
     }
 }
 
-/// Writes the picture into the file of that name.
-fn draw(rt: &HostRuntime, name: &[u8], text: &str) -> io::Result<()> {
+/// Where the picture goes.
+#[derive(Drop)]
+enum Canvas {
+    /// To standard output, behind the table.
+    Standard,
+    /// Into a file.
+    File(File),
+}
+
+/// Opens the file of that name for the picture, and leaves what it has until that is drawn; `-` is standard output.
+fn open_canvas(rt: &HostRuntime, name: &[u8]) -> io::Result<Canvas> {
+    if name == STANDARD {
+        return Ok(Canvas::Standard);
+    }
     let Ok(path) = str::from_utf8(name) else {
         return Err(Error::new(ErrorKind::InvalidInput, "its name is no UTF-8"));
     };
-    let mut file = File::create(rt, path)?;
-    match put(&mut file, text.as_bytes(), TRIES) {
+    let mut options = OpenOptions::new();
+    options.write(true).create(true);
+    Ok(Canvas::File(options.open(rt, path)?))
+}
+
+/// Where the picture goes, if one is asked for.
+fn canvas_of(rt: &HostRuntime, plot: Option<&[u8]>) -> Result<Option<Canvas>, Fault> {
+    let Some(name) = plot else {
+        return Ok(None);
+    };
+    match open_canvas(rt, name) {
+        Ok(canvas) => Ok(Some(canvas)),
+        Err(error) => Err(Fault::Undrawn(error)),
+    }
+}
+
+/// Writes a text into the file, in place of what it has.
+fn fill(file: &mut File, text: &str) -> io::Result<()> {
+    if file.metadata()?.is_file() {
+        file.set_len(0)?;
+    }
+    match put(file, text.as_bytes(), TRIES) {
         Ok(()) => Ok(()),
         Err(Some(error)) => Err(error),
         Err(None) => Err(Error::new(ErrorKind::WriteZero, "a write took nothing")),
     }
 }
 
-/// Reads the keys, and writes the table and the picture that are asked for.
+/// Draws the picture.
+fn draw(canvas: Canvas, text: &str, w: &mut BufWriter<Stdout>) -> Result<(), Fault> {
+    match canvas {
+        Canvas::Standard => tell(w, text),
+        Canvas::File(mut file) => match fill(&mut file, text) {
+            Ok(()) => Ok(()),
+            Err(error) => Err(Fault::Undrawn(error)),
+        },
+    }
+}
+
+/// Opens the picture's file if one is asked for, reads the keys, and writes the table and the picture.
 pub fn tell_table(
     rt: &HostRuntime,
     settings: &Settings,
-    hashers: &[Hasher],
+    kinds: &[Kind],
     plot: Option<&[u8]>,
     w: &mut BufWriter<Stdout>,
 ) -> Result<(), Fault> {
+    let canvas = canvas_of(rt, plot)?;
     let keys = keys_of_input(rt, settings.layout)?;
     if keys.is_empty() {
         return Err(Fault::NoKeys);
@@ -162,17 +208,13 @@ pub fn tell_table(
         keys,
         hashes: Vec::new(rt.alloc()),
     };
-    tell(w, frame.head(rt.alloc())?.as_str())?;
-    let rows = tell_rows(rt, hashers, &frame, &mut hashed, w)?;
+    let rows = tell_rows(rt, kinds, &frame, &mut hashed, w)?;
     tell_chance(rt, &rows, &frame, w)?;
     if settings.times {
         tell_best(rt, &rows, &frame, w)?;
     }
-    if let Some(name) = plot {
-        let text = picture(rt.alloc(), &frame, &rows)?;
-        if let Err(error) = draw(rt, name, text.as_str()) {
-            return Err(Fault::Undrawn(error));
-        }
+    match canvas {
+        Some(canvas) => draw(canvas, picture(rt.alloc(), &frame, &rows)?.as_str(), w),
+        None => Ok(()),
     }
-    Ok(())
 }

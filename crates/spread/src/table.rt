@@ -1,19 +1,60 @@
 //! The table, in lines of text.
+ghost use Rattle.std.specs.Prelude.{◌≡◌, ◌++◌, IfOk, OnOk, decimal, map, string_bytes};
+ghost use Rattle.spread.specs.Table.{row_numbers, spread_numbers};
+
 use crate::chance::{Chance, equal_pairs};
 use crate::counts::{Counts, Spread};
-use crate::names::Hasher;
 use crate::sizes::Sizes;
+use hash_names::table::Kind;
 use std::alloc::{AllocError, Global};
 
 /// A row of the table.
 #[derive(Clone, Copy)]
 pub struct Row {
-    /// The hasher.
-    pub hasher: Hasher,
+    /// The hash.
+    pub kind: Kind,
     /// The numbers of the hashes of the keys.
     pub counts: Counts,
     /// How many nanoseconds it takes for a key, if that was measured.
     pub time: Option<f64>,
+}
+
+/// Puts the numbers of so many buckets behind the others.
+fn push_spread(numbers: &mut Vec<u128>, spread: &Spread) -> Result<(), AllocError>
+    ensures { OnOk result (numbers.new.items ≡ numbers.old.items ++ spread_numbers spread.now) }
+{
+    numbers.push(u128::from(spread.fullest))?;
+    numbers.push(u128::from(spread.empty))?;
+    numbers.push(spread.squares)?;
+    Ok(())
+}
+
+impl Row {
+    /// The numbers of the row, in the order of their columns: the bits of a hash, the pairs of equal hashes, and for each number of
+    /// buckets the fullest one, the empty ones and the squares.
+    pub fn numbers(&self, alloc: Global) -> Result<Vec<u128>, AllocError>
+        ensures { IfOk result (λ numbers. numbers.items ≡ row_numbers self.now.kind self.now.counts) }
+    {
+        let mut numbers = Vec::new(alloc);
+        numbers.push(u128::from(self.kind.row().bits))?;
+        numbers.push(self.counts.collisions)?;
+        push_spread(&mut numbers, &self.counts.first)?;
+        if let Some(second) = &self.counts.second {
+            push_spread(&mut numbers, second)?;
+        }
+        Ok(numbers)
+    }
+}
+
+/// The digits of each number.
+fn cells_of(alloc: Global, numbers: &[u128]) -> Result<Vec<String>, AllocError>
+    ensures { IfOk result (λ cells. map string_bytes cells.items ≡ map decimal numbers.now) }
+{
+    let mut cells = Vec::new(alloc);
+    for number in numbers {
+        cells.push(format!(in alloc; "{number}")?)?;
+    }
+    Ok(cells)
 }
 
 /// What the table is of.
@@ -27,39 +68,61 @@ pub struct Frame {
     pub times: bool,
 }
 
-/// A cell of a line: what it tells, and how wide its column is.
-#[derive(Drop)]
-struct Cell {
-    text: String,
+/// A column of numbers: what stands at its head, and how wide it is.
+#[derive(Clone, Copy)]
+struct Column {
+    name: &'static str,
     width: usize,
 }
 
-/// Puts a cell behind the others.
-fn push(cells: &mut Vec<Cell>, text: String, width: usize) -> Result<(), AllocError> {
-    match cells.push(Cell { text, width }) {
-        Ok(()) => Ok(()),
-        Err(_) => Err(AllocError),
-    }
+/// How wide the column of names is, and that of times.
+const NAMES: usize = 11;
+
+const TIMES: usize = 8;
+
+/// A line: a text at the left, and others each at the right of its column, or as far left as it has to begin.
+#[derive(Drop)]
+struct Line {
+    text: String,
+    end: usize,
 }
 
-/// The line of the cells: the first at the left, and the others each at the right of its column, or as far left as it has to begin.
-fn line_of(alloc: Global, cells: &[Cell]) -> Result<String, AllocError> {
-    let mut line = String::new(alloc);
-    let mut end: usize = 0;
-    for (i, cell) in cells.iter().enumerate() {
-        end = end.saturating_add(cell.width);
-        if i > 0 && !cell.text.is_empty() {
-            let spaces = end
-                .saturating_sub(line.len())
-                .saturating_sub(cell.text.len());
-            for _ in 0..spaces.max(1) {
-                line.push(' ')?;
-            }
-        }
-        line.push_str(cell.text.as_str())?;
+impl Line {
+    /// The line that begins with this text.
+    fn new(alloc: Global, text: &str) -> Result<Line, AllocError> {
+        let text = String::from_str(alloc, text)?;
+        Ok(Line { text, end: NAMES })
     }
-    line.push('\n')?;
-    Ok(line)
+
+    /// Puts a text at the right of the next column, which is so wide.
+    fn push(&mut self, text: &str, width: usize) -> Result<(), AllocError> {
+        self.end = self.end.saturating_add(width);
+        if text.is_empty() {
+            return Ok(());
+        }
+        let spaces = self
+            .end
+            .saturating_sub(self.text.len())
+            .saturating_sub(text.len());
+        for _ in 0..spaces.max(1) {
+            self.text.push(' ')?;
+        }
+        self.text.push_str(text)
+    }
+
+    /// Puts a cell into each column.
+    fn push_cells(&mut self, cells: &[String], columns: &[Column]) -> Result<(), AllocError> {
+        for (cell, column) in cells.iter().zip(columns) {
+            self.push(cell.as_str(), column.width)?;
+        }
+        Ok(())
+    }
+
+    /// The line, with its end.
+    fn ended(mut self) -> Result<String, AllocError> {
+        self.text.push('\n')?;
+        Ok(self.text)
+    }
 }
 
 /// How many digits a number has.
@@ -70,9 +133,13 @@ pub fn digits(number: u128) -> u32 {
     }
 }
 
-/// How wide a column of numbers up to this one is, whose head has so many letters.
-fn wide_for(greatest: u128, head: usize) -> usize {
-    (digits(greatest) as usize).max(head).saturating_add(2)
+/// The column of that name for numbers up to this one; it begins with two spaces at least.
+fn column_for(name: &'static str, greatest: u128) -> Column {
+    let width = (digits(greatest) as usize).max(name.len());
+    Column {
+        name,
+        width: width.saturating_add(2),
+    }
 }
 
 /// So many things of this name, with an s where it isn't one.
@@ -81,130 +148,85 @@ pub fn counted(alloc: Global, count: u64, thing: &str) -> Result<String, AllocEr
     format!(in alloc; "{count} {thing}{s}")
 }
 
-/// How wide the columns are.
-#[derive(Clone, Copy)]
-struct Widths {
-    name: usize,
-    bits: usize,
-    equal: usize,
-    fullest: usize,
-    empty: usize,
-    squares: usize,
-    time: usize,
-}
-
-/// The widths of the columns of a table; each but the first begins with two spaces at least.
-fn widths_of(frame: &Frame) -> Widths {
-    let keys = u128::from(frame.keys);
-    let second = frame.sizes.second.unwrap_or(0);
-    let squares = keys.saturating_mul(keys);
-    Widths {
-        name: 11,
-        bits: 6,
-        equal: wide_for(squares / 2, 7),
-        fullest: wide_for(keys, 7),
-        empty: wide_for(u128::from(frame.sizes.first.max(second)), 5),
-        squares: wide_for(squares, 7),
-        time: 8,
-    }
-}
-
 impl Frame {
+    /// The columns of numbers, in the order of a row's.
+    fn columns(&self, alloc: Global) -> Result<Vec<Column>, AllocError> {
+        let keys = u128::from(self.keys);
+        let pairs = keys.saturating_mul(keys);
+        let buckets = u128::from(self.sizes.first.max(self.sizes.second.unwrap_or(0)));
+        let mut columns = Vec::new(alloc);
+        columns.push(column_for("bits", 128))?;
+        // Chance has three digits behind its point.
+        columns.push(column_for("equal", (pairs / 2).max(9999999)))?;
+        for size in [Some(self.sizes.first), self.sizes.second] {
+            if size.is_some() {
+                columns.push(column_for("fullest", keys))?;
+                columns.push(column_for("empty", buckets))?;
+                columns.push(column_for("squares", pairs))?;
+            }
+        }
+        Ok(columns)
+    }
+
     /// The first lines of the table, which name its columns.
     pub fn head(&self, alloc: Global) -> Result<String, AllocError> {
         let mut head = self.groups(alloc)?;
-        head.push_str(self.columns(alloc)?.as_str())?;
+        let mut line = Line::new(alloc, "hash")?;
+        for column in &self.columns(alloc)? {
+            line.push(column.name, column.width)?;
+        }
+        if self.times {
+            line.push("ns", TIMES)?;
+        }
+        head.push_str(line.ended()?.as_str())?;
         Ok(head)
     }
 
-    /// The line that tells how many keys and buckets there are.
+    /// The line that tells how many keys and buckets there are: the buckets above the last column of each number of them.
     fn groups(&self, alloc: Global) -> Result<String, AllocError> {
-        let wide = widths_of(self);
-        let mut cells = Vec::new(alloc);
-        push(&mut cells, counted(alloc, self.keys, "key")?, wide.name)?;
-        push(&mut cells, String::new(alloc), wide.bits)?;
-        push(&mut cells, String::new(alloc), wide.equal)?;
-        for buckets in [Some(self.sizes.first), self.sizes.second] {
-            if let Some(buckets) = buckets {
-                let buckets = counted(alloc, buckets, "bucket")?;
-                push(&mut cells, String::new(alloc), wide.fullest)?;
-                push(&mut cells, String::new(alloc), wide.empty)?;
-                push(&mut cells, format!(in alloc; "in {buckets}")?, wide.squares)?;
+        let mut line = Line::new(alloc, counted(alloc, self.keys, "key")?.as_str())?;
+        let mut buckets = Some(self.sizes.first);
+        for column in &self.columns(alloc)? {
+            let mut above = String::new(alloc);
+            if let ("squares", Some(size)) = (column.name, buckets) {
+                let size = counted(alloc, size, "bucket")?;
+                above = format!(in alloc; "in {size}")?;
+                buckets = self.sizes.second;
             }
+            line.push(above.as_str(), column.width)?;
         }
-        line_of(alloc, &cells)
-    }
-
-    /// The line that names each column.
-    fn columns(&self, alloc: Global) -> Result<String, AllocError> {
-        let wide = widths_of(self);
-        let mut cells = Vec::new(alloc);
-        push(&mut cells, String::from_str(alloc, "hash")?, wide.name)?;
-        push(&mut cells, String::from_str(alloc, "bits")?, wide.bits)?;
-        push(&mut cells, String::from_str(alloc, "equal")?, wide.equal)?;
-        for buckets in [Some(self.sizes.first), self.sizes.second] {
-            if buckets.is_some() {
-                push(
-                    &mut cells,
-                    String::from_str(alloc, "fullest")?,
-                    wide.fullest,
-                )?;
-                push(&mut cells, String::from_str(alloc, "empty")?, wide.empty)?;
-                push(
-                    &mut cells,
-                    String::from_str(alloc, "squares")?,
-                    wide.squares,
-                )?;
-            }
-        }
-        if self.times {
-            push(&mut cells, String::from_str(alloc, "ns")?, wide.time)?;
-        }
-        line_of(alloc, &cells)
+        line.ended()
     }
 
     /// The line of a row.
     pub fn row(&self, alloc: Global, row: &Row) -> Result<String, AllocError> {
-        let wide = widths_of(self);
-        let mut cells = Vec::new(alloc);
-        push(
-            &mut cells,
-            String::from_str(alloc, row.hasher.name)?,
-            wide.name,
-        )?;
-        let bits = row.hasher.bits;
-        push(&mut cells, format!(in alloc; "{bits}")?, wide.bits)?;
-        let equal = row.counts.collisions;
-        push(&mut cells, format!(in alloc; "{equal}")?, wide.equal)?;
-        for spread in [Some(row.counts.first), row.counts.second] {
-            if let Some(spread) = spread {
-                push_spread(alloc, &mut cells, &spread, &wide)?;
-            }
-        }
+        let mut line = Line::new(alloc, row.kind.row().name)?;
+        let cells = cells_of(alloc, &row.numbers(alloc)?)?;
+        line.push_cells(&cells, &self.columns(alloc)?)?;
         if let Some(time) = row.time {
-            push(&mut cells, format!(in alloc; "{time:.1}")?, wide.time)?;
+            line.push(format!(in alloc; "{time:.1}")?.as_str(), TIMES)?;
         }
-        line_of(alloc, &cells)
+        line.ended()
     }
 
     /// The line that tells what chance gives to hashes of so many bits.
     pub fn chance(&self, alloc: Global, bits: u32) -> Result<String, AllocError> {
-        let wide = widths_of(self);
         let mut cells = Vec::new(alloc);
-        push(&mut cells, String::from_str(alloc, "by chance")?, wide.name)?;
-        push(&mut cells, format!(in alloc; "{bits}")?, wide.bits)?;
+        cells.push(format!(in alloc; "{bits}")?)?;
         let equal = equal_pairs(self.keys, bits);
-        push(&mut cells, format!(in alloc; "{equal:.3}")?, wide.equal)?;
+        cells.push(format!(in alloc; "{equal:.3}")?)?;
         for buckets in [Some(self.sizes.first), self.sizes.second] {
             if let Some(buckets) = buckets {
                 let chance = Chance::of(self.keys, buckets);
                 let (fullest, empty, squares) = (chance.fullest, chance.empty, chance.squares);
-                push(&mut cells, format!(in alloc; "{fullest}")?, wide.fullest)?;
-                push(&mut cells, format!(in alloc; "{empty:.0}")?, wide.empty)?;
-                push(&mut cells, format!(in alloc; "{squares:.0}")?, wide.squares)?;
+                cells.push(format!(in alloc; "{fullest}")?)?;
+                cells.push(format!(in alloc; "{empty:.0}")?)?;
+                cells.push(format!(in alloc; "{squares:.0}")?)?;
             }
         }
-        line_of(alloc, &cells)
+        let mut line = Line::new(alloc, "by chance")?;
+        line.push_cells(&cells, &self.columns(alloc)?)?;
+        line.ended()
     }
 
     /// The fastest hasher of those whose sum of squares lies within three standard deviations of chance, at each number of buckets.
@@ -229,19 +251,6 @@ impl Frame {
         }
         true
     }
-}
-
-/// Puts the numbers of so many buckets behind the other cells.
-fn push_spread(
-    alloc: Global,
-    cells: &mut Vec<Cell>,
-    spread: &Spread,
-    wide: &Widths,
-) -> Result<(), AllocError> {
-    let (fullest, empty, squares) = (spread.fullest, spread.empty, spread.squares);
-    push(cells, format!(in alloc; "{fullest}")?, wide.fullest)?;
-    push(cells, format!(in alloc; "{empty}")?, wide.empty)?;
-    push(cells, format!(in alloc; "{squares}")?, wide.squares)
 }
 
 /// Whether a row has a time, and the other has none or a longer one.

@@ -1,12 +1,12 @@
 //! Tests of the numbers over keys in memory.
-use crate::call::{Call, Task, call_of, hashers_of, task_of, unknown_name};
+use crate::call::{Call, Task, call_of, kinds_of, task_of, unknown_name};
 use crate::chance::{Chance, equal_pairs};
 use crate::counts::{Counts, Spread, collisions, spread_of};
 use crate::fault::Fault;
 use crate::keys::{Layout, read_keys};
-use crate::named::{Hashed, counts_named};
-use crate::names::all_hashers;
+use crate::named::{Hashed, counts_by};
 use crate::sizes::{Sizes, sizes_of};
+use hash_names::table::{KINDS, Kind};
 use hash_texts::{RandomKeys, Texts};
 use std::alloc::{AllocError, Global};
 use std::io;
@@ -144,6 +144,7 @@ fn the_input_ends_within_a_key(rt: HostRuntime) {
             tells_short_key(alloc, b"abcdefg", 4),
             tells_short_key(alloc, b"abcdabcdabc", 4),
             !tells_short_key(alloc, b"abcdabcd", 4),
+            tells_short_key(alloc, b"abcdabcd", usize::MAX),
         ],
     );
 }
@@ -176,23 +177,25 @@ fn numbers_by_hand(rt: HostRuntime) {
 }
 
 /// The numbers of three keys by a hash, in four buckets and in five.
-fn counts_of_three(alloc: Global, name: &str) -> Option<Result<Counts, AllocError>> {
+fn counts_of_three(alloc: Global, kind: Kind) -> Result<Counts, AllocError> {
     let sizes = Sizes {
         first: 4,
         second: Some(5),
     };
-    let keys = keys_of(alloc, b"ab\nba\nc", LINES, usize::MAX).ok()?;
+    let Ok(keys) = keys_of(alloc, b"ab\nba\nc", LINES, usize::MAX) else {
+        return Err(AllocError);
+    };
     let mut hashed = Hashed {
         keys,
         hashes: Vec::new(alloc),
     };
-    counts_named(alloc, name, sizes, &mut hashed)
+    counts_by(alloc, kind, sizes, &mut hashed)
 }
 
 /// How many pairs are equal, and the sums of squares.
-fn short(counts: Option<Result<Counts, AllocError>>) -> (u128, u128, u128) {
+fn short(counts: Result<Counts, AllocError>) -> (u128, u128, u128) {
     match counts {
-        Some(Ok(counts)) => match counts.second {
+        Ok(counts) => match counts.second {
             Some(second) => (counts.collisions, counts.first.squares, second.squares),
             None => (0, 0, 0),
         },
@@ -203,16 +206,15 @@ fn short(counts: Option<Result<Counts, AllocError>>) -> (u128, u128, u128) {
 #[test]
 fn numbers_of_names(rt: HostRuntime) {
     let alloc = rt.alloc();
-    for hasher in all_hashers() {
-        let counts = counts_of_three(alloc, hasher.name);
-        all_hold(&rt, &[counts.is_some(), short(counts).1 >= 3]);
+    for kind in KINDS {
+        let counts = counts_of_three(alloc, kind);
+        all_hold(&rt, &[counts.is_ok(), short(counts).1 >= 3]);
     }
     all_hold(
         &rt,
         &[
-            counts_of_three(alloc, "md5").is_none(),
-            short(counts_of_three(alloc, "null")) == (3, 9, 9),
-            short(counts_of_three(alloc, "loselose")) == (1, 9, 5),
+            short(counts_of_three(alloc, Kind::Null)) == (3, 9, 9),
+            short(counts_of_three(alloc, Kind::LoseLose)) == (1, 9, 5),
         ],
     );
 }
@@ -268,7 +270,7 @@ fn asked(alloc: Global, words: &[&str]) -> Option<(Option<u64>, Layout, bool)> {
 fn chosen(alloc: Global, words: &[&str]) -> Option<usize> {
     let call = call(alloc, words).ok()?;
     match unknown_name(alloc, &call.words) {
-        Ok(None) => Some(hashers_of(alloc, &call.words).ok()?.len()),
+        Ok(None) => Some(kinds_of(alloc, &call.words).ok()?.len()),
         _ => None,
     }
 }
@@ -282,7 +284,8 @@ fn calls_by_the_table(rt: HostRuntime) {
             asked(alloc, &[]) == Some((None, LINES, true)),
             asked(alloc, &["-zb", "7", "--no-times"]) == Some((Some(7), Layout::Lines(0), false)),
             asked(alloc, &["--buckets=7", "--plot", "x"]) == Some((Some(7), LINES, true)),
-            asked(alloc, &["-zw3"]) == Some((None, fixed(3), true)),
+            asked(alloc, &["-w3"]) == Some((None, fixed(3), true)),
+            asked(alloc, &["-zw3"]).is_none() && asked(alloc, &["--list"]).is_none(),
             asked(alloc, &["-b0"]).is_none() && asked(alloc, &["-b", "+1"]).is_none(),
             asked(alloc, &["-w0"]).is_none() && asked(alloc, &["--width=x"]).is_none(),
             asked(alloc, &["-b"]).is_none() && asked(alloc, &["--plot"]).is_none(),
@@ -323,8 +326,8 @@ fn refused_memory(rt: HostRuntime) {
                 keys,
                 hashes: Vec::new(alloc),
             };
-            let counts = counts_named(alloc, "loselose", sizes, &mut hashed);
-            let refused = counts == Some(Err(AllocError));
+            let counts = counts_by(alloc, Kind::LoseLose, sizes, &mut hashed);
+            let refused = counts == Err(AllocError);
             all_hold(&rt, &[refused || short(counts) == (1, 9, 5)]);
         }
         Err(Fault::NoMemory) => {}

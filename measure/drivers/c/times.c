@@ -1,12 +1,14 @@
 // times RUNS: the times of a call of libhashers beside the original crate behind a C call, XXH3 and zlib's CRC-32, by turns in one process.
 // Writes a line for each row of the tables of docs/C.md, and an empty line between two tables: the name, and behind a tab for each cell the
-// least of so many runs, at most 41, in nanoseconds a key, ours and, behind a space, the original's. measure/c defines NAMES, which has an
-// X(name) for each name, and BEHIND, how many bytes stand before all code.
+// least of so many runs, at most 41, in nanoseconds a key, ours and, behind a space, the original's; of a column, that of a call for each
+// text. measure/c defines NAMES, which has an X(name) for each name that the original has, RELATIVES, which has one for each other name,
+// and BEHIND, how many bytes stand before all code.
 #define _GNU_SOURCE
 #define XXH_NO_INLINE_HINTS 1
 #include "hashers.h"
 #include <stdio.h>
 #include <stdlib.h>
+#include <string.h>
 #include <time.h>
 #include <xxhash.h>
 #include <zlib.h>
@@ -35,7 +37,7 @@ static const struct row {
 };
 static const struct row relatives[] = {
 #define RELATIVE(name) {#name, hashers_##name, NULL},
-    RELATIVE(crc32) RELATIVE(crc32c) RELATIVE(fnv1_32) RELATIVE(fnv1_64) RELATIVE(djb2_add) RELATIVE(joaat) RELATIVE(elf)
+    RELATIVES(RELATIVE)
     {"crc32 of zlib", zlib_crc32, NULL},
 };
 enum { ROWS = sizeof rows / sizeof *rows, RELATIVES = sizeof relatives / sizeof *relatives, RUNS = 41, KEYS = 1 << 20 };
@@ -97,24 +99,29 @@ static void writes(const char *name, on *write) {
     printf("%s_write\t%f\n", name, least(times, runs));
 }
 
-static void column(const char *name, bool (*of)(const void *, size_t, const uint64_t *, size_t, uint64_t *, size_t), whole *one) {
-    enum { COUNT = 1000000 };
+// A column of texts in one call, and a call for each.
+static void column(const char *name, whole *one) {
+    enum { COUNT = 100000, LONGEST = 64 };
+    static const size_t sizes[] = {8, 16, LONGEST};
     static uint64_t offsets[COUNT + 1], hashes[COUNT];
-    static double times[2][9];
-    unsigned char *texts = malloc((size_t)COUNT * 16);
-    for (size_t i = 0; i < (size_t)COUNT * 16; i++) texts[i] = keys[i % KEYS];
-    for (size_t i = 0; i <= COUNT; i++) offsets[i] = i * 16;
-    int few = runs < 9 ? runs : 9;
-    for (int run = 0; run < few; run++) {
-        double begin = now();
-        kept = of(texts, (size_t)COUNT * 16, offsets, COUNT + 1, hashes, COUNT);
-        times[0][run] = (now() - begin) / COUNT;
-        begin = now();
-        for (size_t i = 0; i < COUNT; i++) hashes[i] = one(texts + offsets[i], offsets[i + 1] - offsets[i]);
-        times[1][run] = (now() - begin) / COUNT;
+    static unsigned char texts[COUNT * LONGEST];
+    static double times[2][RUNS];
+    uint32_t kind = hashers_kind(name, strlen(name));
+    for (size_t i = 0; i < sizeof texts; i++) texts[i] = keys[i % KEYS];
+    printf("%s", name);
+    for (int s = 0; s < 3; s++) {
+        for (size_t i = 0; i <= COUNT; i++) offsets[i] = i * sizes[s];
+        for (int run = 0; run < runs; run++) {
+            double begin = now();
+            kept = hashers_column64(kind, texts, sizeof texts, offsets, COUNT + 1, hashes, COUNT);
+            times[0][run] = (now() - begin) / COUNT;
+            begin = now();
+            for (size_t i = 0; i < COUNT; i++) hashes[i] = one(texts + offsets[i], offsets[i + 1] - offsets[i]);
+            times[1][run] = (now() - begin) / COUNT;
+        }
+        printf("\t%f %f", least(times[0], runs), least(times[1], runs));
     }
-    printf("%s\t%f\t%f\n", name, least(times[0], few), least(times[1], few));
-    free(texts);
+    putchar('\n');
 }
 
 int main(int count, char **words) {
@@ -133,7 +140,7 @@ int main(int count, char **words) {
 #define WRITE(name) writes(#name, hashers_##name##_write);
     WRITE(fnv1a64) WRITE(djb2) WRITE(sdbm) WRITE(loselose) WRITE(bricolage) WRITE(oaat) WRITE(oaat_state) WRITE(lookup3) WRITE(fxhash)
     putchar('\n');
-#define COLUMN(name) column(#name, hashers_##name##_column64, hashers_##name);
-    COLUMN(fnv1a64) COLUMN(fxhash) COLUMN(loselose) COLUMN(lookup3) COLUMN(spooky)
+#define COLUMN(name) column(#name, hashers_##name);
+    NAMES(COLUMN) RELATIVES(COLUMN)
     return 0;
 }

@@ -5,8 +5,8 @@ fn main() {
     println!("cargo:rerun-if-env-changed=MEASURE_SPEED_BEHIND");
     let behind = std::env::var("MEASURE_SPEED_BEHIND").unwrap_or("0".into());
     println!("cargo:rustc-env=MEASURE_SPEED_BEHIND={behind}");
-    let folder = std::env::var("MEASURE_SPEED").expect("the folder of libmeasure_speed.a");
-    println!("cargo:rerun-if-changed={folder}/libmeasure_speed.a");
+    let folder = std::env::var("MEASURE_SPEED").expect("the folder of libmeasure_calls.a");
+    println!("cargo:rerun-if-changed={folder}/libmeasure_calls.a");
     println!("cargo:rustc-link-search=native={folder}");
-    println!("cargo:rustc-link-lib=static=measure_speed");
+    println!("cargo:rustc-link-lib=static=measure_calls");
 }

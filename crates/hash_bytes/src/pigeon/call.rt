@@ -2,12 +2,12 @@
 ghost use Rattle.std.specs.Prelude.{◌≡◌};
 ghost use Rattle.hash_bytes.specs.Pigeon.{bricolage_from};
 
-use super::hasher::BricolageRule;
-use hash_rules::whole_text;
+use super::hasher::Bricolage;
+use hash_laws::traits::hash_of;
 
 /// Bricolage of the bytes.
 pub fn bricolage(bytes: &[u8]) -> u64
     ensures { result ≡ bricolage_from 0 bytes.now }
 {
-    whole_text::<BricolageRule>(bytes)
+    hash_of::<Bricolage>(bytes)
 }

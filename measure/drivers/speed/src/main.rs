@@ -1,4 +1,4 @@
-//! Measures the exported calls of `measure_speed` beside the original crate, and prints tables. `measure/speed` builds and runs it.
+//! Measures the exported calls of `measure_calls` beside the original crate, and prints tables. `measure/speed` builds and runs it.
 //!
 //! With the words `hash NAME` it prints the original's hash of standard input instead.
 //!

@@ -1,6 +1,6 @@
 use Rattle.std.proofs.Common.{refl}
 use Rattle.hash_more.specs.Crc32.{ieee}
-use Rattle.hashers.proofs.Collisions.{window_tells_apart}
+use Rattle.hash_bytes.proofs.Collisions.{window_tells_apart}
 use Rattle.hash_more.proofs.Crc32Bursts.{crc_apart}
 use Rattle.hash_more.proofs.windows.apart_crc32.Goals as goal
 

@@ -1,6 +1,6 @@
 use Rattle.std.proofs.Common.{refl}
 use Rattle.std.proofs.lemmas.Bool.{OnTrue_from}
-use Rattle.hashers.proofs.TextLemmas.{IsText-from_slice}
+use Rattle.hash_laws.proofs.TextLemmas.{IsText-from_slice}
 use Rattle.hash_more.specs.Crc32.{ieee}
 use Rattle.hash_more.proofs.Crc32Bursts.{burst_apart}
 use Rattle.hash_more.proofs.windows.apart_crc32_bits.Goals as goal

@@ -1,4 +1,4 @@
-use Rattle.hashers.proofs.TextLemmas.{IsText-from_slice}
+use Rattle.hash_laws.proofs.TextLemmas.{IsText-from_slice}
 use Rattle.hash_more.proofs.BurstLemmas.{front_told, no_burst}
 use Rattle.hash_more.proofs.windows.is_burst.Goals as goal
 

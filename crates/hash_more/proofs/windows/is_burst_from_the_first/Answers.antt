@@ -1,6 +1,6 @@
 use Rattle.std.proofs.Common.{refl, ◌<◌, length, get_or, arith}
 use Rattle.std.proofs.lemmas.Bool.Decides.{Decides-eqb}
-use Rattle.hashers.proofs.TextLemmas.{IsText-from_slice}
+use Rattle.hash_laws.proofs.TextLemmas.{IsText-from_slice}
 use Rattle.hash_more.proofs.BurstLemmas.{short_text, lowest_of, fifth_allows, fifth_refuses}
 use Rattle.hash_more.proofs.windows.is_burst_from_the_first.Goals as goal
 

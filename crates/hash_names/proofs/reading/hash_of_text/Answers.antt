@@ -1,4 +1,4 @@
-use Rattle.hashers.proofs.ReadingLemmas.{answer-cut}
+use Rattle.hash_laws.proofs.ReadingLemmas.{answer-cut}
 use Rattle.hash_names.specs.ReadingLaws.{Hashes-agree}
 use Rattle.hash_names.proofs.reading.hash_of_text.Goals as goal
 

@@ -29,7 +29,7 @@ loop-list-preserved g c =
     let d : Bor (List ℕ) = record { ref_ptr = (0, 0); now = [] } in
     let i = c.loop-list.list-index in
     let lists = c.args.lists.now in
-    subst (λ ls. AreListed c.args.kinds.now c.args.checking (g.F.Folder.holds c.args.folder.now) ls
+    subst (λ ls. AreListed c.args.kinds.now c.args.checking (g.F.Folder.opens c.args.folder.now) ls
     (writer_contents g.W.Write.contents c.args.w.now) (writer_contents g.W.Write.contents c.check_list.new.w)
     (c.loop-list.all && c.in-Ok.passed))
     (sym (names_more (λ (n : Bor (List ℕ)). n.now) lists i d c.loop-list-test.true))

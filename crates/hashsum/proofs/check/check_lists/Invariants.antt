@@ -6,5 +6,5 @@ use Rattle.hashsum.proofs.check.check_lists.Given as goal
 -- the lists so far ended
 abbrev pub invariant-loop-list : goal.invariant-loop-list
 invariant-loop-list g l =
-    AreListed l.kinds l.checking (g.F.Folder.holds l.folder) (take l.list-index (map (λ n. n.now) l.lists))
+    AreListed l.kinds l.checking (g.F.Folder.opens l.folder) (take l.list-index (map (λ n. n.now) l.lists))
     (writer_contents g.W.Write.contents l.fn.w) (writer_contents g.W.Write.contents l.w) l.all

@@ -7,7 +7,8 @@ use Rattle.hashsum.proofs.check.tell_line.Goals as goal
 
 pub returns-in-Ok-write : goal.returns-in-Ok-write
 returns-in-Ok-write g c = (
-  subst (λ t. IsCame c.args.kinds.now c.args.checking.kind (g.F.Folder.holds c.args.folder.now) t c.in-Ok.came) c.without_end-text.ensures
+  subst (λ t. IsCame c.args.kinds.now c.args.checking.kind (g.F.Folder.opens c.args.folder.now)
+      c.args.checking.ignore_missing t c.in-Ok.came) c.without_end-text.ensures
       c.in-Ok.ensures,
   subst (Appends (writer_contents g.W.Write.contents c.args.w.now) (writer_contents g.W.Write.contents c.write.new.w))
       (c.deref.ensures.value ∙ c.in-Ok-said.ensures) c.in-Ok-write.ensures.ok,
@@ -16,7 +17,8 @@ returns-in-Ok-write g c = (
 pub returns : goal.returns
 returns g c = inr (
   c.in-Ok.came,
-  subst (λ t. IsCame c.args.kinds.now c.args.checking.kind (g.F.Folder.holds c.args.folder.now) t c.in-Ok.came) c.without_end-text.ensures
+  subst (λ t. IsCame c.args.kinds.now c.args.checking.kind (g.F.Folder.opens c.args.folder.now)
+      c.args.checking.ignore_missing t c.in-Ok.came) c.without_end-text.ensures
       c.in-Ok.ensures,
   subst (AppendsPart (writer_contents g.W.Write.contents c.args.w.now) (writer_contents g.W.Write.contents c.write.new.w))
       (c.deref.ensures.value ∙ c.in-Ok-said.ensures) c.in-Err-write.ensures.err,

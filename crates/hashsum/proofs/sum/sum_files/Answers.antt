@@ -11,7 +11,7 @@ returns-in-Err g c =
     let names = c.args.names.now in
     let (told, so_far) = c.loop-name.invariant in
     let (number, summed, part) = c.in-Err.ensures in
-    torn_within (λ (file : List ℕ × Option ℕ). file.0) (IsSummed c.args.summing (g.F.Folder.holds c.args.folder.now))
+    torn_within (λ (file : List ℕ × Option ℕ). file.0) (IsSummed c.args.summing (g.F.Folder.opens c.args.folder.now))
     (line_told c.args.summing) (λ file. is_some file.1) (take i (map (λ n. n.now) names)) (drop (i + 1) (map (λ n. n.now) names)) _ told
     _ _ _ c.loop-name.whole ((get_or names i d).now, number) so_far summed part
     (names_rest (λ (n : Bor (List ℕ)). n.now) names i d c.loop-name-test.true)
@@ -24,7 +24,7 @@ loop-name-preserved g c =
     let (told, so_far) = c.loop-name.invariant in
     let (number, summed, appends, is) = c.in-Ok.ensures in (
       told ++ ((get_or names i d).now, number) ∷ [],
-      told_next (λ (file : List ℕ × Option ℕ). file.0) (IsSummed c.args.summing (g.F.Folder.holds c.args.folder.now))
+      told_next (λ (file : List ℕ × Option ℕ). file.0) (IsSummed c.args.summing (g.F.Folder.opens c.args.folder.now))
           (line_told c.args.summing) (λ file. is_some file.1) (take i (map (λ n. n.now) names)) _ told _ _ _ c.loop-name.whole _
           ((get_or names i d).now, number) so_far summed appends
           (sym (names_more (λ (n : Bor (List ℕ)). n.now) names i d c.loop-name-test.true)) (ap (λ b. c.loop-name.whole && b) (sym is)),

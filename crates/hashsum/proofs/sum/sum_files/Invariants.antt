@@ -8,6 +8,6 @@ use Rattle.hashsum.proofs.sum.sum_files.Given as goal
 abbrev pub invariant-loop-name : goal.invariant-loop-name
 invariant-loop-name g l =
     (told : List (List ℕ × Option ℕ))
-    × AreTold (λ file. file.0) (IsSummed l.summing (g.F.Folder.holds l.folder)) (line_told l.summing) (λ file. is_some file.1)
+    × AreTold (λ file. file.0) (IsSummed l.summing (g.F.Folder.opens l.folder)) (line_told l.summing) (λ file. is_some file.1)
     (take l.name-index (map (λ n. n.now) l.names)) told (writer_contents g.W.Write.contents l.fn.w)
     (writer_contents g.W.Write.contents l.w) l.whole

@@ -1,0 +1,86 @@
+//! Hashes by their numbers, for callers that choose at run time: the number of a name, the name of a number, and the hash of a text.
+ghost use Rattle.std.specs.Prelude.{◌≡◌, length};
+ghost use Rattle.hashers.specs.Spooky.{spooky_v1};
+ghost use Rattle.hash_c.specs.Kinds.{name_at};
+ghost use Rattle.hash_c.specs.Lines.{laid_over};
+ghost use Rattle.hash_names.specs.Named.{hash_at, kind_at, kind_named};
+
+use hash_names::table::{by_kind, kind_at, number_named};
+use hash_names::task::HashTask;
+use hashers::jenkins::spooky_hash::spooky_v1;
+use hashers::laws::{Piecewise, Streamed, hash_of};
+use std::marker::PhantomData;
+
+/// The number of the hash of that name; where no hash has the name, a number that no hash has.
+#[unsafe(no_mangle)]
+pub extern "C" fn hashers_kind(name: &[u8]) -> u32
+    ensures { kind_at result ≡ kind_named name.now }
+{
+    number_named(name)
+}
+
+/// The name of the hash of that number.
+fn name_of(kind: u32) -> &'static [u8]
+    ensures { result.now ≡ name_at kind }
+{
+    match kind_at(kind) {
+        Some(kind) => kind.row().name.as_bytes(),
+        None => b"",
+    }
+}
+
+/// Writes the name of the hash of that number, as far as there is room, and answers how many bytes it has; 0 where no hash has the
+/// number.
+#[unsafe(no_mangle)]
+pub extern "C" fn hashers_name(kind: u32, name: &mut [u8]) -> usize
+    ensures count { result ≡ length (name_at kind) }
+    ensures written { name.new ≡ laid_over (name_at kind) name.old }
+{
+    let told = name_of(kind);
+    let count = told.len().min(name.len());
+    name[..count].copy_from_slice(&told[..count]);
+    told.len()
+}
+
+/// To hash a text in one call.
+struct HashText<'a> {
+    text: PhantomData<&'a u8>,
+}
+
+impl<'a> HashTask for HashText<'a> {
+    type Told = &'a [u8];
+
+    type Input = ();
+
+    type Outcome = u64;
+
+    ghost by = { λ hash read text before after result. result ≡ hash text.now };
+
+    #[inline(always)]
+    fn by_text<H: Streamed>(text: &'a [u8], _nothing: &mut ()) -> u64 {
+        hash_of::<H>(text)
+    }
+
+    #[inline(always)]
+    fn by_pieces<H: Piecewise>(text: &'a [u8], _nothing: &mut ()) -> u64 {
+        hash_of::<H>(text)
+    }
+
+    #[inline(always)]
+    fn by_spooky_v1(text: &'a [u8], _nothing: &mut ()) -> u64 {
+        spooky_v1(text)
+    }
+
+    ghost by_same = { λ hash read same agree text before after result done. done };
+}
+
+/// The hash of the text by the hash of that number; 0 where no hash has the number.
+#[unsafe(no_mangle)]
+pub extern "C" fn hashers_hash(kind: u32, text: &[u8]) -> u64
+    ensures { result ≡ hash_at kind text.now }
+{
+    match kind_at(kind) {
+        Some(kind) => by_kind::<HashText<'_>>(kind, text, &mut ()),
+        None => 0,
+    }
+}

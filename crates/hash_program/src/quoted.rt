@@ -1,0 +1,53 @@
+//! Names as they stand on standard error.
+use std::alloc::{AllocError, Global};
+
+/// Whether a text has control characters.
+fn has_control(text: &str) -> bool {
+    text.chars().any(|c| c.is_control())
+}
+
+/// Puts a control character as it stands between `$'` and `'`: by its letter, or else by its bytes in octal.
+fn push_control(out: &mut String, alloc: Global, c: char) -> Result<(), AllocError> {
+    match c {
+        '\u{7}' => return out.push_str("\\a"),
+        '\u{8}' => return out.push_str("\\b"),
+        '\t' => return out.push_str("\\t"),
+        '\n' => return out.push_str("\\n"),
+        '\u{b}' => return out.push_str("\\v"),
+        '\u{c}' => return out.push_str("\\f"),
+        '\r' => return out.push_str("\\r"),
+        _ => {}
+    }
+    let mut bytes = [0u8; 4];
+    for byte in c.encode_utf8(&mut bytes).bytes() {
+        out.push_str(format!(in alloc; "\\{byte:03o}")?.as_str())?;
+    }
+    Ok(())
+}
+
+/// A name for standard error, with � for what is no UTF-8. One with control characters is quoted as a shell reads it, and as coreutils
+/// writes it: `'no'$'\n''such'`. So it can't pass for another line, nor colour a terminal.
+pub fn quoted(alloc: Global, name: &[u8]) -> Result<String, AllocError> {
+    let text = String::from_utf8_lossy(alloc, name)?;
+    if !has_control(text.as_str()) {
+        return Ok(text);
+    }
+    let mut out = String::from_str(alloc, "'")?;
+    let mut escapes = false;
+    for c in text.as_str().chars() {
+        let is_quote = c == '\'';
+        if c.is_control() != escapes && !is_quote {
+            out.push_str(if escapes { "''" } else { "'$'" })?;
+        }
+        if is_quote {
+            out.push_str("'\\''")?;
+        } else if c.is_control() {
+            push_control(&mut out, alloc, c)?;
+        } else {
+            out.push(c)?;
+        }
+        escapes = c.is_control();
+    }
+    out.push('\'')?;
+    Ok(out)
+}

@@ -1,0 +1,17 @@
+//! Tests that cross the crates, their readers, a third party's hasher, examples, and a caller's functions, which prove what follows
+//! from what the libraries show, with no lemma of their own.
+#![tactic(auto)]
+
+pub mod answers;
+pub mod byte_sum;
+pub mod generic;
+pub mod laws;
+pub mod maps;
+pub mod pages;
+pub mod servers;
+#[cfg(test)]
+mod tests;
+pub mod times31;
+pub mod undone;
+pub mod uses;
+pub mod words;

@@ -1,0 +1,119 @@
+//! Calls of the Bloom filter; what it answers is promised by hash_bloom.
+//!
+//! A call makes a filter of so many bits and seven probes, inserts each key of `there`, and then asks `rounds` times for each
+//! of `asked`. Keys have `size` bytes each. It answers how many of those that were asked for were found, and `u64::MAX` where
+//! memory is short.
+
+use hash_bloom::Bloom;
+use hashers::fnv::FNV1aHasher64;
+use hashers::fx_hash::FxHasher;
+use hashers::jenkins::Lookup3Hasher;
+use hashers::jenkins::spooky_hash::SpookyHasher;
+use hashers::laws::Piecewise;
+use hashers::oz::{DJB2Hasher, SDBMHasher};
+use std::alloc::Global;
+
+/// What a call does, by the two hashers.
+#[inline(always)]
+fn found<F: Piecewise, G: Piecewise>(
+    alloc: Global,
+    there: &[u8],
+    asked: &[u8],
+    size: usize,
+    rounds: usize,
+    bits: u64,
+) -> u64 {
+    let Ok(mut filter) = Bloom::<F, G>::new(alloc, bits.max(1), 7) else {
+        return u64::MAX;
+    };
+    let mut count: u64 = 0;
+    if size > 0 {
+        for key in there.chunks_exact(size) {
+            filter.insert(key);
+        }
+        for _ in 0..rounds {
+            for key in asked.chunks_exact(size) {
+                count = count.wrapping_add(u64::from(filter.contains(key)));
+            }
+        }
+    }
+    count
+}
+
+/// By djb2 and sdbm.
+#[unsafe(no_mangle)]
+pub extern "C" fn measure_filters_djb2_sdbm(
+    alloc: Global,
+    there: &[u8],
+    asked: &[u8],
+    size: usize,
+    rounds: usize,
+    bits: u64,
+) -> u64 {
+    found::<DJB2Hasher, SDBMHasher>(alloc, there, asked, size, rounds, bits)
+}
+
+/// By fnv1a64 and djb2.
+#[unsafe(no_mangle)]
+pub extern "C" fn measure_filters_fnv1a64_djb2(
+    alloc: Global,
+    there: &[u8],
+    asked: &[u8],
+    size: usize,
+    rounds: usize,
+    bits: u64,
+) -> u64 {
+    found::<FNV1aHasher64, DJB2Hasher>(alloc, there, asked, size, rounds, bits)
+}
+
+/// By fnv1a64 and lookup3.
+#[unsafe(no_mangle)]
+pub extern "C" fn measure_filters_fnv1a64_lookup3(
+    alloc: Global,
+    there: &[u8],
+    asked: &[u8],
+    size: usize,
+    rounds: usize,
+    bits: u64,
+) -> u64 {
+    found::<FNV1aHasher64, Lookup3Hasher>(alloc, there, asked, size, rounds, bits)
+}
+
+/// By fxhash and fnv1a64.
+#[unsafe(no_mangle)]
+pub extern "C" fn measure_filters_fxhash_fnv1a64(
+    alloc: Global,
+    there: &[u8],
+    asked: &[u8],
+    size: usize,
+    rounds: usize,
+    bits: u64,
+) -> u64 {
+    found::<FxHasher, FNV1aHasher64>(alloc, there, asked, size, rounds, bits)
+}
+
+/// By fxhash and lookup3.
+#[unsafe(no_mangle)]
+pub extern "C" fn measure_filters_fxhash_lookup3(
+    alloc: Global,
+    there: &[u8],
+    asked: &[u8],
+    size: usize,
+    rounds: usize,
+    bits: u64,
+) -> u64 {
+    found::<FxHasher, Lookup3Hasher>(alloc, there, asked, size, rounds, bits)
+}
+
+/// By spooky and lookup3.
+#[unsafe(no_mangle)]
+pub extern "C" fn measure_filters_spooky_lookup3(
+    alloc: Global,
+    there: &[u8],
+    asked: &[u8],
+    size: usize,
+    rounds: usize,
+    bits: u64,
+) -> u64 {
+    found::<SpookyHasher, Lookup3Hasher>(alloc, there, asked, size, rounds, bits)
+}
