@@ -33,22 +33,19 @@ static uint64_t random_number(void) {
 typedef uint64_t whole(const void *, size_t);
 typedef uint64_t on(uint64_t, const void *, size_t);
 
-// What is the same for each name: the whole, the parts, the way back, whether cuts show, and the greatest hash.
+// What is the same for each name: the whole, the parts, the way back, whether cuts show, and the greatest number of its bits.
 static const struct kind {
     const char *name;
     whole *of;
     on *write, *unwrite;
-    int joins;
+    bool cuts;
     uint64_t greatest;
 } kinds[] = {
-#define UNDONE(name, joins, bits) {#name, hashers_##name, hashers_##name##_write, hashers_##name##_unwrite, joins, UINT##bits##_MAX}
-#define WRITTEN(name, joins) {#name, hashers_##name, hashers_##name##_write, NULL, joins, UINT64_MAX}
-#define WHOLE(name) {#name, hashers_##name, NULL, NULL, 1, UINT64_MAX}
-    UNDONE(fnv1a32, 1, 32), UNDONE(fnv1a64, 1, 64), UNDONE(djb2, 1, 32), UNDONE(sdbm, 1, 32), UNDONE(loselose, 1, 64),
-    UNDONE(bricolage, 1, 64), UNDONE(oaat, 1, 64), UNDONE(fxhash, 0, 64), UNDONE(fxhash32, 0, 32), UNDONE(fxhash64, 0, 64),
-    UNDONE(crc32, 1, 32), UNDONE(crc32c, 1, 32), UNDONE(fnv1_32, 1, 32), UNDONE(fnv1_64, 1, 64), UNDONE(djb2_add, 1, 32), UNDONE(joaat, 1, 32),
-    WRITTEN(lookup3, 0), WRITTEN(null, 1), WRITTEN(passthrough, 1), WRITTEN(elf, 1),
-    WHOLE(spooky), WHOLE(spooky_v1),
+#define NAME(call) (&#call[sizeof "hashers"])
+#define UNDONE(call, cuts, bits) {NAME(call), call, call##_write, call##_unwrite, cuts, UINT##bits##_MAX},
+#define WRITTEN(call, cuts, bits) {NAME(call), call, call##_write, NULL, cuts, UINT64_MAX},
+#define WHOLE(call, cuts, bits) {NAME(call), call, NULL, NULL, cuts, UINT64_MAX},
+#include "hashes.inc"
 };
 enum { KINDS = sizeof kinds / sizeof *kinds };
 
@@ -86,15 +83,20 @@ static void check_oaat_state(void) {
     }
 }
 
-// The parts of a text against the whole, and the way back, from hashes of texts and from any number.
+// The parts of a text against the whole, and the way back, from hashes of texts and from any number. Where a write can be undone, each
+// number of the bits is a hash so far; and where cuts show, some text in two parts has another hash.
 static void check_parts(const struct kind *k) {
     uint64_t start = k->of(NULL, 0);
+    bool shown = false;
+    if (k->unwrite)
+        same(k->name, k->greatest, k->write(UINT64_MAX, NULL, 0));
     for (size_t n = 0; n < 300 && k->write; n++) {
         size_t more = n % 37;
         uint64_t parts = k->write(k->of(text, n), text + n, more);
         same(k->name, k->of(text, n), k->write(start, text, n));
         same(k->name, k->of(text, n), k->write(k->of(text, n), NULL, 0));
-        if (k->joins)
+        shown = shown || parts != k->of(text, n + more);
+        if (!k->cuts)
             same(k->name, k->of(text, n + more), parts);
         if (k->unwrite) {
             uint64_t any = random_number(), bits = k->greatest;
@@ -103,6 +105,7 @@ static void check_parts(const struct kind *k) {
             same(k->name, any & bits, k->unwrite(k->write(any, text, n), text, n) & bits);
         }
     }
+    same("whether cuts show", k->cuts, shown);
 }
 
 static void check_spooky(void) {
@@ -278,10 +281,13 @@ static void check_number(const struct kind *k) {
 // There are as many hashes as the header says, and no others.
 static void check_numbers(void) {
     uint64_t kept = 7;
+    char names[300];
+    size_t n = 0;
     same("as many hashes as the header says", KINDS, HASHERS_KINDS);
-    static const char *const order[] = {"fnv1a32", "fnv1a64", "djb2", "sdbm", "loselose", "bricolage", "oaat", "lookup3", "spooky", "spooky_v1",
-        "passthrough", "fxhash", "fxhash32", "fxhash64", "crc32", "crc32c", "fnv1_32", "fnv1_64", "djb2_add", "joaat", "elf", "null"};
-    for (uint32_t i = 0; i < KINDS; i++) same("a number that never changes", i, hashers_kind(order[i], strlen(order[i])));
+    for (uint32_t i = 0; i < KINDS; i++) same("the order of the header", i, hashers_kind(kinds[i].name, strlen(kinds[i].name)));
+    // the first 22 names, a blank behind each
+    for (uint32_t i = 0; i < 22; i++) n += hashers_name(i, names + n, sizeof names - n), names[n++] = ' ';
+    same("numbers that never change", 9225073705146799726u, hashers_fnv1a64(names, n));
     same("a constant", HASHERS_ELF, hashers_kind("elf", 3));
     same("a number of no hash has no name", 0, hashers_name(HASHERS_KINDS, NULL, 0));
     same("a name of no hash has a number of none", 1, hashers_kind("fnv", 3) >= HASHERS_KINDS && hashers_kind(NULL, 0) >= HASHERS_KINDS);

@@ -3,6 +3,7 @@
 \i hashers.sql
 SELECT hashers_fnv1a64('a')::numeric = 12638187200555641996 - 18446744073709551616, hashers_djb2('ab') = 5860902,
        hashers_oaat('abcdefg') = 3103867595652801641, hashers_spooky_v1('abcd') = 4142038200967391753,
+       hashers_crc32('123456789') = 3421780262,
        (SELECT hashers_fnv1a64_all(x ORDER BY i) FROM (VALUES (1, 'ab'::bytea), (2, ''), (3, 'cd'), (4, 'efg')) AS t (i, x))
            = hashers_fnv1a64('abcdefg'),
        (SELECT hashers_oaat_all(x ORDER BY i) FROM (VALUES (1, 'ab'::bytea), (2, ''), (3, 'cd'), (4, 'efg')) AS t (i, x))

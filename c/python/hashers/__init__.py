@@ -15,15 +15,13 @@ may not be written while a call runs. The GIL is let go meanwhile. None of the f
 """
 from __future__ import annotations
 
+from . import _hashes
 from ._bloom import Bloom
-from ._hashes import (Function, Hash, algorithms_available, bricolage, combine, crc32, crc32c, djb2, djb2_add, elf, fnv1_32, fnv1_64, fnv1a32,
-                      fnv1a64, fxhash, fxhash32, fxhash64, joaat, loselose, lookup3, new, null, oaat, passthrough, sdbm, spooky, spooky128,
-                      spooky128_v1, spooky_v1)
+from ._hashes import *
 from ._library import call as _call
 from ._many import hash_column, hash_lines
 
-__all__ = ["Bloom", "Function", "Hash", "algorithms_available", "bricolage", "combine", "crc32", "crc32c", "djb2", "djb2_add", "elf", "fnv1_32",
-           "fnv1_64", "fnv1a32", "fnv1a64", "fxhash", "fxhash32", "fxhash64", "hash_column", "hash_lines", "joaat", "loselose", "lookup3", "new",
-           "null", "oaat", "passthrough", "sdbm", "spooky", "spooky128", "spooky128_v1", "spooky_v1"]
+__all__ = ["Bloom", "hash_column", "hash_lines"]
+__all__ += _hashes.__all__
 _number: int = _call("version")()
 __version__ = f"{_number // 10000}.{_number // 100 % 100}.{_number % 100}"

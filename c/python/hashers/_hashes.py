@@ -11,6 +11,14 @@ from ._library import Held, State, Words, call, has, over, word
 if TYPE_CHECKING:
     from _typeshed import ReadableBuffer as Buffer
 
+__all__ = ["Function", "Hash", "algorithms_available", "combine", "new", "spooky128", "spooky128_v1"]
+# declared: names
+__all__ += [
+    "fnv1a32", "fnv1a64", "djb2", "sdbm", "loselose", "bricolage", "oaat", "lookup3", "spooky", "spooky_v1", "passthrough", "fxhash",
+    "fxhash32", "fxhash64", "crc32", "crc32c", "fnv1_32", "fnv1_64", "djb2_add", "joaat", "elf", "null"
+]
+# end of declared
+
 
 class Function(Protocol):
     """A function of the data that answers its hash; where `hash` is given, the hash so far with the data behind."""

@@ -136,7 +136,7 @@ class Hashes(unittest.TestCase):
     def test_digests(self) -> None:
         self.assertEqual(hashers.new("fnv1a64", b"a").hexdigest(), "af63dc4c8601ec8c")
         self.assertEqual(hashers.new("fnv1a32", b"a").digest(), bytes.fromhex("e40c292c"))
-        self.assertEqual(hashers.new("loselose", b"a").hexdigest(), "0000000000000061")
+        self.assertEqual(hashers.new("passthrough", b"a").hexdigest(), "0000000000000061")
         for name in NAMES:
             made = hashers.new(name, TEXT)
             self.assertEqual(made.name, name)

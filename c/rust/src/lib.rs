@@ -69,7 +69,23 @@ macro_rules! number_hashers {
             // SAFETY: as in `write`.
             unsafe { crate::c::$whole(bytes.as_ptr(), bytes.len()) }
         }
-    )*};
+    )*
+
+        /// What tests call of each hasher of the module: the name of its function, the function, and the hash by the hasher.
+        #[doc(hidden)]
+        pub const HASHES: &[crate::Named] = &[$((stringify!($name), $name, crate::hash_by::<$hasher>)),*];
+    };
+}
+
+/// A hash by its name: its function, and the same by its hasher.
+#[doc(hidden)]
+pub type Named = (&'static str, fn(&[u8]) -> u64, fn(&[u8]) -> u64);
+
+/// The hash of the bytes by a hasher that is given them in one write.
+fn hash_by<H: Default + core::hash::Hasher>(bytes: &[u8]) -> u64 {
+    let mut hasher = H::default();
+    hasher.write(bytes);
+    hasher.finish()
 }
 
 /// Hashes that can be told of two texts joined: a function, and the library's call.

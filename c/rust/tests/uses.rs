@@ -79,16 +79,24 @@ fn spooky_in_parts_is_that_of_the_whole() {
     }
 }
 
+/// The hash of two texts joined is that of the whole.
+fn combined<H: Hasher + Default>(combine: fn(u64, u64, u64) -> u64) {
+    let hash = |bytes: &[u8]| {
+        let mut hasher = H::default();
+        hasher.write(bytes);
+        hasher.finish()
+    };
+    let (first, second) = (b"the first text, ".as_slice(), b"and one of another length".as_slice());
+    assert_eq!(combine(hash(first), hash(second), second.len() as u64), hash(&[first, second].concat()));
+}
+
 #[test]
 fn two_texts_are_combined() {
-    let (first, second) = (b"the first text, ".as_slice(), b"and one of another length".as_slice());
-    let whole = [first, second].concat();
-    let length = second.len() as u64;
-    assert_eq!(sdbm_combine(sdbm(first), sdbm(second), length), sdbm(&whole));
-    assert_eq!(loselose_combine(loselose(first), loselose(second), length), loselose(&whole));
-    assert_eq!(passthrough_combine(passthrough(first), passthrough(second), length), passthrough(&whole));
-    assert_eq!(crc32_combine(crc32(first), crc32(second), length), crc32(&whole));
-    assert_eq!(crc32c_combine(crc32c(first), crc32c(second), length), crc32c(&whole));
+    combined::<SDBMHasher>(sdbm_combine);
+    combined::<LoseLoseHasher>(loselose_combine);
+    combined::<PassThroughHasher>(passthrough_combine);
+    combined::<Crc32Hasher>(crc32_combine);
+    combined::<Crc32cHasher>(crc32c_combine);
 }
 
 #[test]

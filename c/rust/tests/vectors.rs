@@ -1,47 +1,24 @@
 //! The vectors of `c/vectors.inc`, by function and by hasher.
 use hashers_proved::jenkins::spooky_hash::{spooky, spooky_v1, SpookyHasher};
-use hashers_proved::{fnv::*, fx_hash::*, jenkins::*, more::*, null::*, oz::*, pigeon::*};
+use hashers_proved::{fnv, fx_hash, jenkins, more, null, oz, pigeon, Named};
 use std::hash::Hasher;
 
-fn by<H: Default + Hasher>(bytes: &[u8]) -> u64 {
-    let mut hasher = H::default();
-    hasher.write(bytes);
-    hasher.finish()
-}
-
-fn spooky_v1_in_parts(bytes: &[u8]) -> u64 {
+fn spooky_in_parts(bytes: &[u8]) -> SpookyHasher {
     let mut hasher = SpookyHasher::default();
     hasher.write(bytes);
-    hasher.finish128_v1().0
+    hasher
 }
 
-type Hash = fn(&[u8]) -> u64;
+/// SpookyHash, which is no number so far.
+const SPOOKY: &[Named] = &[
+    ("spooky", spooky, |bytes| spooky_in_parts(bytes).finish()),
+    ("spooky_v1", spooky_v1, |bytes| spooky_in_parts(bytes).finish128_v1().0),
+];
 
 /// Each name, its function, and the same by its hasher.
-const NAMES: [(&str, Hash, Hash); 22] = [
-    ("fnv1a32", fnv1a32, by::<FNV1aHasher32>),
-    ("fnv1a64", fnv1a64, by::<FNV1aHasher64>),
-    ("djb2", djb2, by::<DJB2Hasher>),
-    ("sdbm", sdbm, by::<SDBMHasher>),
-    ("loselose", loselose, by::<LoseLoseHasher>),
-    ("bricolage", bricolage, by::<Bricolage>),
-    ("oaat", oaat, by::<OAATHasher>),
-    ("lookup3", lookup3, by::<Lookup3Hasher>),
-    ("spooky", spooky, by::<SpookyHasher>),
-    ("spooky_v1", spooky_v1, spooky_v1_in_parts),
-    ("null", null, by::<NullHasher>),
-    ("passthrough", passthrough, by::<PassThroughHasher>),
-    ("fxhash", fxhash, by::<FxHasher>),
-    ("fxhash32", fxhash32, by::<FxHasher32>),
-    ("fxhash64", fxhash64, by::<FxHasher64>),
-    ("crc32", crc32, by::<Crc32Hasher>),
-    ("crc32c", crc32c, by::<Crc32cHasher>),
-    ("fnv1_32", fnv1_32, by::<Fnv1Hasher32>),
-    ("fnv1_64", fnv1_64, by::<Fnv1Hasher64>),
-    ("djb2_add", djb2_add, by::<Djb2AddHasher>),
-    ("joaat", joaat, by::<JoaatHasher>),
-    ("elf", elf, by::<ElfHasher>),
-];
+fn names() -> Vec<Named> {
+    [fnv::HASHES, oz::HASHES, pigeon::HASHES, null::HASHES, fx_hash::HASHES, jenkins::HASHES, more::HASHES, SPOOKY].concat()
+}
 
 /// A row of the table, as `{hashers_djb2, "a", 177604u},`.
 fn row(line: &str) -> (&str, &str, u64) {
@@ -52,9 +29,9 @@ fn row(line: &str) -> (&str, &str, u64) {
 
 #[test]
 fn vectors_by_function_and_by_hasher() {
-    let mut rows = 0;
+    let (names, mut rows) = (names(), 0);
     for (name, text, wanted) in include_str!("../../vectors.inc").lines().map(row) {
-        let (_, whole, parts) = NAMES.iter().find(|it| it.0 == name).expect(name);
+        let (_, whole, parts) = names.iter().find(|it| it.0 == name).expect(name);
         assert_eq!(whole(text.as_bytes()), wanted, "{name} of {text:?}");
         assert_eq!(parts(text.as_bytes()), wanted, "the hasher of {name} over {text:?}");
         rows += 1;
@@ -65,7 +42,7 @@ fn vectors_by_function_and_by_hasher() {
 #[test]
 fn hashers_answer_as_functions_at_each_length() {
     let bytes: Vec<u8> = (0..400u32).map(|i| ((i * 167) >> 3) as u8).collect();
-    for (name, whole, parts) in NAMES {
+    for (name, whole, parts) in names() {
         for length in 0..=bytes.len() {
             assert_eq!(whole(&bytes[..length]), parts(&bytes[..length]), "{name} of {length} bytes");
         }
@@ -77,7 +54,7 @@ fn names_are_those_of_the_header() {
     let header = include_str!("../../hashers.h");
     let mut declared: Vec<&str> =
         header.lines().filter_map(|line| line.strip_prefix("uint64_t hashers_")?.strip_suffix("(const void *text, size_t n);")).collect();
-    let mut names: Vec<&str> = NAMES.iter().map(|it| it.0).collect();
+    let mut names: Vec<&str> = names().iter().map(|it| it.0).collect();
     declared.sort_unstable();
     names.sort_unstable();
     assert_eq!(declared, names);
