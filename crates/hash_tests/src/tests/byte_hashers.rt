@@ -2,12 +2,12 @@
 use crate::tests::{all_hold, none_holds, same};
 use hashers::fnv::{FNV1aHasher32, FNV1aHasher64};
 use hashers::laws::{
-    ByteStep, Piecewise, Streamed, Undo, answer_of_pieces, bucket_of, run_pair, run_pieces,
-    run_streamed, same_word,
+    ByteStep, Piecewise, Streamed, Undo, answer_of_pieces, bucket_of, hash_of, run_pair,
+    run_pieces, run_streamed, same_word,
 };
 use hashers::null::{NullHasher, PassThroughHasher, passthrough, passthrough_combine};
 use hashers::oz::{
-    DJB2Hasher, LoseLoseHasher, SDBMHasher, djb2, loselose, loselose_combine, sdbm, sdbm_combine,
+    DJB2Hasher, LoseLoseHasher, SDBMHasher, djb2, loselose_combine, sdbm, sdbm_combine,
 };
 use hashers::pigeon::Bricolage;
 use std::hash::Hasher;
@@ -24,7 +24,11 @@ fn worked_examples(rt: HostRuntime) {
     hasher.write_u16(25185);
     same(
         &rt,
-        &[loselose(&all), hasher.finish(), NullHasher.answer()],
+        &[
+            hash_of::<LoseLoseHasher>(&all),
+            hasher.finish(),
+            NullHasher.answer(),
+        ],
         &[32640, 5860902, 0],
     );
 }
@@ -178,7 +182,11 @@ fn combined(rt: HostRuntime) {
             sdbm_combine(sdbm(b"a"), sdbm(b"bcd"), 3),
             sdbm_combine(sdbm(b"a"), 0, 8589934597),
             sdbm_combine(4294967393, 0, 0),
-            loselose_combine(loselose(b"ab"), loselose(b"c"), 1),
+            loselose_combine(
+                hash_of::<LoseLoseHasher>(b"ab"),
+                hash_of::<LoseLoseHasher>(b"c"),
+                1,
+            ),
             passthrough_combine(passthrough(b"ab"), passthrough(b"c"), 1),
             passthrough_combine(passthrough(b"abcdefgh"), passthrough(b"i"), 1),
             passthrough_combine(passthrough(b"ab"), passthrough(b"01234567"), 8),
@@ -187,7 +195,7 @@ fn combined(rt: HostRuntime) {
             sdbm(b"abcd"),
             1724963039,
             97,
-            loselose(b"abc"),
+            hash_of::<LoseLoseHasher>(b"abc"),
             passthrough(b"abc"),
             passthrough(b"bcdefghi"),
             passthrough(b"01234567"),

@@ -1,16 +1,14 @@
 //! Vectors of the one-call functions, and of the tests of two texts.
+use crate::answers::{byte_hashes, other_hashes};
 use crate::tests::{all_hold, all_hold_at, same_at};
 use crate::times31::Times31;
-use hashers::fnv::{FNV1aHasher64, fnv1a32, fnv1a64};
-use hashers::fx_hash::{fxhash, fxhash32, fxhash64};
+use hashers::fnv::FNV1aHasher64;
+use hashers::jenkins::OAATHasher;
 use hashers::jenkins::spooky_hash::{spooky, spooky_v1};
-use hashers::jenkins::{OAATHasher, lookup3, oaat};
 use hashers::laws::{
     apart_by_one, apart_by_zeros, apart_djb2, apart_fnv32, apart_fnv64, apart_sdbm,
 };
-use hashers::null::{null, passthrough};
-use hashers::oz::{djb2, loselose, sdbm};
-use hashers::pigeon::bricolage;
+use hashers::oz::{djb2, sdbm};
 
 /// The one-call functions.
 #[derive(Clone, Copy)]
@@ -32,21 +30,23 @@ enum Hash {
 }
 
 fn hash_of(hash: Hash, text: &[u8]) -> u64 {
+    let [fnv32, fnv64, djb2, sdbm, lose_lose, bricolage, oaat] = byte_hashes(text);
+    let [lookup3, _, spooky_v1, null, pass_through, fx, fx32, fx64] = other_hashes(text);
     match hash {
-        Hash::Fnv32 => fnv1a32(text),
-        Hash::Fnv64 => fnv1a64(text),
-        Hash::Djb2 => djb2(text),
-        Hash::Sdbm => sdbm(text),
-        Hash::LoseLose => loselose(text),
-        Hash::Bricolage => bricolage(text),
-        Hash::Oaat => oaat(text),
-        Hash::Lookup3 => lookup3(text),
-        Hash::SpookyV1 => spooky_v1(text),
-        Hash::Null => null(text),
-        Hash::PassThrough => passthrough(text),
-        Hash::Fx => fxhash(text),
-        Hash::Fx32 => fxhash32(text),
-        Hash::Fx64 => fxhash64(text),
+        Hash::Fnv32 => fnv32,
+        Hash::Fnv64 => fnv64,
+        Hash::Djb2 => djb2,
+        Hash::Sdbm => sdbm,
+        Hash::LoseLose => lose_lose,
+        Hash::Bricolage => bricolage,
+        Hash::Oaat => oaat,
+        Hash::Lookup3 => lookup3,
+        Hash::SpookyV1 => spooky_v1,
+        Hash::Null => null,
+        Hash::PassThrough => pass_through,
+        Hash::Fx => fx,
+        Hash::Fx32 => fx32,
+        Hash::Fx64 => fx64,
     }
 }
 
