@@ -51,7 +51,7 @@ fn made<F: Piecewise, G: Piecewise>(
     }
 }
 
-/// The probes of the key of one byte b are 0, b, 2b, ..: `null` answers 0, and `loselose` the sum of the bytes.
+/// The probes of the key of one byte b are 0, b, 2b, ..: `null` answers 0, and lose lose the sum of the bytes.
 type ByStep = Bloom<NullHasher, LoseLoseHasher>;
 
 #[test]
