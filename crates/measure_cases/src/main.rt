@@ -1,12 +1,12 @@
 //! The hashes of cases: each line of standard input is the pieces of a text in hexadecimal, with commas between them, and
 //! each line of standard output the hashes of the names that are the arguments, in their order: names of the table that all
-//! programs share, and `crc32_combine`. For comparing with other programs.
+//! programs share, `crc32_combine`, and `--all` for each name of the table. For comparing with other programs.
 #![tactic(auto)]
 
 ghost use Rattle.std.specs.Prelude.{⊤};
 
 use hash_more::crc32::{crc32, crc32_combine};
-use hash_names::table::{by_kind, kind_named};
+use hash_names::table::{KINDS, by_kind, kind_named};
 use hash_names::task::HashTask;
 use hashers::jenkins::spooky_hash::SpookyHasher;
 use hashers::laws::{Piecewise, Streamed};
@@ -101,7 +101,13 @@ fn main(rt: HostRuntime) -> io::Result<()> {
     let alloc = rt.alloc();
     let mut names = Vec::new(alloc);
     for name in env::args(&rt)?.skip(1) {
-        names.push(name)?;
+        if name.as_str() == "--all" {
+            for kind in KINDS {
+                names.push(String::from_str(alloc, kind.row().name)?)?;
+            }
+        } else {
+            names.push(name)?;
+        }
     }
     let input = BufReader::new(alloc, rt.stdin())?;
     let mut output = BufWriter::new(alloc, rt.stdout())?;
