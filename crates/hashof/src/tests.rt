@@ -6,6 +6,7 @@ use crate::run::{RunFault, run, run_limited};
 use hash_bytes::fnv::FNV1aHasher64;
 use hash_jenkins::Lookup3Hasher;
 use hash_laws::engine::{Fault, hash_reader};
+use hash_names::table::Kind;
 use std::hash::Hasher;
 use std::io;
 use std::io::{ErrorKind, Read, Write};
@@ -186,41 +187,41 @@ fn tells(rt: &impl Abort, turn: usize, name: &str, text: &[u8], most: usize, lin
     ended(rt, turn, outcome, &paper, (End::Told, line, [1, 1]));
 }
 
-/// A name, a text, and the line of its hash.
-const LINES: [(&str, &[u8], &[u8]); 27] = [
-    ("fnv1a64", b"", b"14695981039346656037\n"),
-    ("fnv1a64", b"a", b"12638187200555641996\n"),
-    ("fnv1a64", b"b", b"12638190499090526629\n"),
-    ("fnv1a64", b"ab", b"620445648566982762\n"),
-    ("fnv1a64", b"abcd", b"18165163011005162717\n"),
-    ("fnv1a64", b"abcdefg", b"4642726675185563447\n"),
-    ("fnv1a32", b"a", b"3826002220\n"),
-    ("djb2", b"", b"5381\n"),
-    ("sdbm", b"ab", b"6363201\n"),
-    ("loselose", b"ab", b"195\n"),
-    ("bricolage", b"a", b"17926483712435944715\n"),
-    ("oaat", b"a", b"29161854018\n"),
-    ("lookup3", b"a", b"6351843130003064584\n"),
-    ("spooky", b"", b"13905049616862401802\n"),
-    ("spooky_v1", b"a", b"16932945748884078726\n"),
-    ("fxhash", b"a", b"16160435425421689461\n"),
-    ("fxhash32", b"a", b"3555066485\n"),
-    ("fxhash64", b"a", b"16160435425421689461\n"),
-    ("null", b"ab", b"0\n"),
-    ("passthrough", b"a", b"97\n"),
-    ("crc32", b"123456789", b"3421780262\n"),
-    ("crc32c", b"123456789", b"3808858755\n"),
-    ("fnv1_32", b"a", b"84696446\n"),
-    ("fnv1_64", b"a", b"12638153115695167422\n"),
-    ("djb2_add", b"a", b"177670\n"),
-    ("joaat", b"a", b"3392050242\n"),
-    ("elf", b"a", b"97\n"),
+/// A hash, a text, and the line that is told of it.
+const LINES: [(Kind, &[u8], &[u8]); 27] = [
+    (Kind::Fnv1a64, b"", b"14695981039346656037\n"),
+    (Kind::Fnv1a64, b"a", b"12638187200555641996\n"),
+    (Kind::Fnv1a64, b"b", b"12638190499090526629\n"),
+    (Kind::Fnv1a64, b"ab", b"620445648566982762\n"),
+    (Kind::Fnv1a64, b"abcd", b"18165163011005162717\n"),
+    (Kind::Fnv1a64, b"abcdefg", b"4642726675185563447\n"),
+    (Kind::Fnv1a32, b"a", b"3826002220\n"),
+    (Kind::Djb2, b"", b"5381\n"),
+    (Kind::Sdbm, b"ab", b"6363201\n"),
+    (Kind::LoseLose, b"ab", b"195\n"),
+    (Kind::Bricolage, b"a", b"17926483712435944715\n"),
+    (Kind::Oaat, b"a", b"29161854018\n"),
+    (Kind::Lookup3, b"a", b"6351843130003064584\n"),
+    (Kind::Spooky, b"", b"13905049616862401802\n"),
+    (Kind::SpookyV1, b"a", b"16932945748884078726\n"),
+    (Kind::FxHash, b"a", b"16160435425421689461\n"),
+    (Kind::FxHash32, b"a", b"3555066485\n"),
+    (Kind::FxHash64, b"a", b"16160435425421689461\n"),
+    (Kind::Null, b"ab", b"0\n"),
+    (Kind::PassThrough, b"a", b"97\n"),
+    (Kind::Crc32, b"123456789", b"3421780262\n"),
+    (Kind::Crc32c, b"123456789", b"3808858755\n"),
+    (Kind::Fnv1At32, b"a", b"84696446\n"),
+    (Kind::Fnv1At64, b"a", b"12638153115695167422\n"),
+    (Kind::Djb2Add, b"a", b"177670\n"),
+    (Kind::Joaat, b"a", b"3392050242\n"),
+    (Kind::Elf, b"a", b"97\n"),
 ];
 
 #[test]
 fn tells_by_name(rt: HostRuntime) {
-    for (turn, (name, text, line)) in LINES.iter().enumerate() {
-        tells(&rt, turn, name, text, 32, line);
+    for (turn, (kind, text, line)) in LINES.iter().enumerate() {
+        tells(&rt, turn, kind.row().name, text, 32, line);
     }
 }
 
