@@ -135,7 +135,7 @@ pub extern "C" fn hashers_sdbm_unwrite(hash: u64, bytes: &[u8]) -> u64
     unwritten::<SDBMHasher>(hash % 4294967296, bytes)
 }
 
-/// The hash of loselose with more bytes behind.
+/// The hash of lose lose with more bytes behind.
 #[unsafe(no_mangle)]
 pub extern "C" fn hashers_loselose_write(hash: u64, bytes: &[u8]) -> u64
     ensures { result ≡ loselose_from hash bytes.now }
@@ -143,7 +143,7 @@ pub extern "C" fn hashers_loselose_write(hash: u64, bytes: &[u8]) -> u64
     written::<LoseLoseHasher>(hash, bytes)
 }
 
-/// The hash of loselose without the last bytes.
+/// The hash of lose lose without the last bytes.
 #[unsafe(no_mangle)]
 pub extern "C" fn hashers_loselose_unwrite(hash: u64, bytes: &[u8]) -> u64
     ensures back { loselose_from result bytes.now ≡ hash }
