@@ -5,7 +5,7 @@ import shutil
 import subprocess
 import sys
 
-from library.names import ROOT, rows_of_original
+from library.names import ROOT, measured, rows_of_original
 
 DRIVERS = os.path.join(ROOT, "measure", "drivers")
 TARGET = os.path.join(ROOT, "measure", "target")
@@ -64,10 +64,16 @@ def original():
     return os.path.abspath(folder)
 
 
+# a macro in Rust that hands another one the words that it is given, and each row
+HANDS_ON = "#[allow(unused_macros)]\nmacro_rules! with_%s { ($then:ident $($before:tt)*) => { $then! { $($before)*\n%s} } }\n"
+
+
 def file_of_names():
-    """A macro in Rust that hands another one each row of rows_of_original, in a file."""
-    rows = "".join("%s %s %d\n" % row for row in rows_of_original())
-    text = "macro_rules! with_names { ($then:ident) => { $then! {\n%s} } }\n" % rows
+    """A file with macros in Rust: with_names has each row of rows_of_original, others those of the names that measure_calls has for a kind."""
+    rows, text = rows_of_original(), ""
+    for kind in ("names", "numbers", "behind", "reader", "unwrite"):
+        there = [row for row in rows if kind == "names" or row[0] in measured(kind)]
+        text += HANDS_ON % (kind, "".join("%s %s %d\n" % row for row in there))
     path = os.path.join(TARGET, "names.rs")
     os.makedirs(TARGET, exist_ok=True)
     # what cargo built stays where the names are as they were

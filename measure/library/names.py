@@ -1,4 +1,4 @@
-"""The names of the hashes: ours from the table that all programs share, the original's from the oracle over it."""
+"""The names of the hashes: ours from the table that all programs share, the original's from the crate in c/rust, which has its paths."""
 import os
 import re
 
@@ -25,14 +25,26 @@ def unlike_names():
 
 
 def hashers_of_original():
-    """The original's hasher of each name that it has: its SpookyHash is our version 1."""
-    return dict(rows_in("measure/drivers/oracle/src/main.rs", r'^ *"(\w+)" => answer::<([\w:]+)>'))
+    """The original's hasher of each name that it has, in the order of the table. The crate in c/rust has the original's types and paths, but
+    for the module more; the original's SpookyHasher is our version 1."""
+    found = {"spooky_v1": "jenkins::spooky_hash::SpookyHasher"}
+    with open(os.path.join(ROOT, "c/rust/src/lib.rs"), encoding="utf-8") as source:
+        modules = dict(re.findall(r"^pub mod (\w+) \{\n(.*?)^\}", source.read(), re.M | re.S))
+    for module in modules.keys() - {"more"}:
+        found.update((name, f"{module}::{hasher}") for hasher, name in re.findall(r"^ {8}(\w+), (\w+), \d+,", modules[module], re.M))
+    return {name: found[name] for name in names() if name in found}
 
 
 def original_of(name):
     """The original's name of one of ours, and from how many bytes on the two agree; None where the original has no such hash."""
     alike = {"spooky": ("spooky_v1", 192)}.get(name, (name, 0))
     return alike if alike[0] in hashers_of_original() else None
+
+
+def measured(kind):
+    """The names for which measure_calls has a call of that kind."""
+    source = {"behind": "numbers"}.get(kind, kind)
+    return rows_in(f"crates/measure_calls/src/{source}.rt", rf"fn measure_speed_{kind}_(\w+)\(")
 
 
 def rows_of_original():

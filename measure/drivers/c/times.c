@@ -2,7 +2,7 @@
 // Writes a line for each row of the tables of docs/C.md, and an empty line between two tables: the name, and behind a tab for each cell the
 // least of so many runs, at most 41, in nanoseconds a key, ours and, behind a space, the original's; of a column, that of a call for each
 // text. measure/c defines NAMES, which has an X(name) for each name that the original has, RELATIVES, which has one for each other name,
-// and BEHIND, how many bytes stand before all code.
+// WRITES, which has one for each of the original's that goes on from a number, and BEHIND, how many bytes stand before all code.
 #define _GNU_SOURCE
 #define XXH_NO_INLINE_HINTS 1
 #include "hashers.h"
@@ -138,7 +138,7 @@ int main(int count, char **words) {
     for (size_t i = 0; i < RELATIVES; i++) row(relatives + i);
     putchar('\n');
 #define WRITE(name) writes(#name, hashers_##name##_write);
-    WRITE(fnv1a64) WRITE(djb2) WRITE(sdbm) WRITE(loselose) WRITE(bricolage) WRITE(oaat) WRITE(oaat_state) WRITE(lookup3) WRITE(fxhash)
+    WRITES(WRITE) WRITE(oaat_state)
     putchar('\n');
 #define COLUMN(name) column(#name, hashers_##name);
     NAMES(COLUMN) RELATIVES(COLUMN)

@@ -2,9 +2,10 @@
 //! commas between them, and each line `answer` of standard output the hash of that name of the pieces. Other lines are the
 //! original's own, which its `SpookyHasher` prints.
 
-use hashers::{fnv, fx_hash, jenkins, null, oz, pigeon};
 use std::hash::Hasher;
 use std::io::BufRead;
+
+include!(env!("HASHER_NAMES"));
 
 /// What a default hasher answers to the pieces.
 fn answer<H: Default + Hasher>(pieces: &[Vec<u8>]) -> u64 {
@@ -15,25 +16,19 @@ fn answer<H: Default + Hasher>(pieces: &[Vec<u8>]) -> u64 {
     hasher.finish()
 }
 
-fn answer_by_name(name: &str, pieces: &[Vec<u8>]) -> u64 {
-    match name {
-        "fnv1a32" => answer::<fnv::FNV1aHasher32>(pieces),
-        "fnv1a64" => answer::<fnv::FNV1aHasher64>(pieces),
-        "djb2" => answer::<oz::DJB2Hasher>(pieces),
-        "sdbm" => answer::<oz::SDBMHasher>(pieces),
-        "loselose" => answer::<oz::LoseLoseHasher>(pieces),
-        "bricolage" => answer::<pigeon::Bricolage>(pieces),
-        "oaat" => answer::<jenkins::OAATHasher>(pieces),
-        "lookup3" => answer::<jenkins::Lookup3Hasher>(pieces),
-        "spooky_v1" => answer::<jenkins::spooky_hash::SpookyHasher>(pieces),
-        "null" => answer::<null::NullHasher>(pieces),
-        "passthrough" => answer::<null::PassThroughHasher>(pieces),
-        "fxhash" => answer::<fx_hash::FxHasher>(pieces),
-        "fxhash32" => answer::<fx_hash::FxHasher32>(pieces),
-        "fxhash64" => answer::<fx_hash::FxHasher64>(pieces),
-        _ => panic!("the original has no {name}"),
-    }
+macro_rules! by_name {
+    ($($name:ident $($hasher:ident)::+ $alike_from:literal)*) => {
+        /// The answer by the hasher of that name. One that agrees with ours from some bytes on has its own name beside.
+        fn answer_by_name(name: &str, pieces: &[Vec<u8>]) -> u64 {
+            $(if name == stringify!($name) && $alike_from == 0 {
+                return answer::<hashers::$($hasher)::+>(pieces);
+            })*
+            panic!("the original has no {name}")
+        }
+    };
 }
+
+with_names!(by_name);
 
 /// The bytes of a piece in hexadecimal.
 fn bytes(hex: &str) -> Vec<u8> {

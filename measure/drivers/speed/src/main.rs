@@ -17,11 +17,6 @@ mod measure;
 mod original;
 mod ours;
 
-use hashers::fnv::FNV1aHasher64;
-use hashers::fx_hash::{FxHasher, FxHasher32, FxHasher64};
-use hashers::jenkins::spooky_hash::SpookyHasher;
-use hashers::jenkins::Lookup3Hasher;
-use hashers::oz::{DJB2Hasher, LoseLoseHasher, SDBMHasher};
 use measure::{gigahertz, Pair, Sheet};
 use std::fs::OpenOptions;
 use std::hint::black_box;
@@ -112,6 +107,20 @@ macro_rules! table {
 
 fn names() -> Vec<Name> {
     with_names!(table)
+}
+
+/// The calls of one kind, the original's and ours, of the name of each row.
+macro_rules! pairs {
+    ($kind:ident $($name:ident $($hasher:ident)::+ $alike_from:literal)*) => {
+        &[$((stringify!($name), [original::$kind::<hashers::$($hasher)::+>, ours::$kind::$name])),*]
+    };
+}
+
+/// Our calls of two kinds, of the name of each row.
+macro_rules! ours_alone {
+    ($first:ident $second:ident $($name:ident $($hasher:ident)::+ $alike_from:literal)*) => {
+        &[$((stringify!($name), [ours::$first::$name, ours::$second::$name])),*]
+    };
 }
 
 /// Bytes that look like nothing, the same in each run.
@@ -265,32 +274,7 @@ fn pieces(sheet: &mut Sheet, names: &[Name], text: &[u8]) {
 }
 
 fn numbers(sheet: &mut Sheet, text: &[u8]) {
-    let rows: [(&str, [CallOfSize; 2]); 6] = [
-        (
-            "fnv1a64",
-            [original::numbers::<FNV1aHasher64>, ours::numbers::fnv1a64],
-        ),
-        (
-            "djb2",
-            [original::numbers::<DJB2Hasher>, ours::numbers::djb2],
-        ),
-        (
-            "lookup3",
-            [original::numbers::<Lookup3Hasher>, ours::numbers::lookup3],
-        ),
-        (
-            "fxhash",
-            [original::numbers::<FxHasher>, ours::numbers::fxhash],
-        ),
-        (
-            "fxhash32",
-            [original::numbers::<FxHasher32>, ours::numbers::fxhash32],
-        ),
-        (
-            "fxhash64",
-            [original::numbers::<FxHasher64>, ours::numbers::fxhash64],
-        ),
-    ];
+    let rows: &[(&str, [CallOfSize; 2])] = with_numbers!(pairs numbers);
     Cut {
         title: "A number as a key, by `write_u8`, `write_u16`, `write_u32` and `write_u64`, nanoseconds a key:",
         sizes: &[1, 2, 4, 8],
@@ -298,7 +282,7 @@ fn numbers(sheet: &mut Sheet, text: &[u8]) {
         count: |_| KEYS,
     }
     // the original's fx takes 16 bits as one word, ours as the two words of its bytes
-    .table(sheet, &rows, &|name, size| size != 2 || !name.starts_with("fx"));
+    .table(sheet, rows, &|name, size| size != 2 || !name.starts_with("fx"));
 }
 
 fn texts(sheet: &mut Sheet, names: &[Name], text: &[u8], gigahertz: f64) {
@@ -328,54 +312,19 @@ fn texts(sheet: &mut Sheet, names: &[Name], text: &[u8], gigahertz: f64) {
 }
 
 fn readers(sheet: &mut Sheet, text: &[u8]) {
-    let rows: [(&str, [Call; 2]); 6] = [
-        (
-            "fnv1a64",
-            [original::reader::<FNV1aHasher64>, ours::reader::fnv1a64],
-        ),
-        ("sdbm", [original::reader::<SDBMHasher>, ours::reader::sdbm]),
-        (
-            "loselose",
-            [original::reader::<LoseLoseHasher>, ours::reader::loselose],
-        ),
-        (
-            "lookup3",
-            [original::reader::<Lookup3Hasher>, ours::reader::lookup3],
-        ),
-        (
-            "spooky",
-            [original::reader::<SpookyHasher>, ours::reader::spooky],
-        ),
-        (
-            "fxhash",
-            [original::reader::<FxHasher>, ours::reader::fxhash],
-        ),
-    ];
+    let rows: &[(&str, [Call; 2])] = with_reader!(pairs reader);
     let title = "A reader of 1 MiB in memory, through an array of 4096 bytes, µs:";
-    column(sheet, title, "hash_reader", &rows, text, 1000.0, true);
+    column(sheet, title, "hash_reader", rows, text, 1000.0, true);
 }
 
 fn behind(sheet: &mut Sheet, text: &[u8]) {
-    let rows: [(&str, [Call; 2]); 3] = [
-        (
-            "fxhash",
-            [original::behind::<FxHasher>, ours::behind::fxhash],
-        ),
-        (
-            "fxhash32",
-            [original::behind::<FxHasher32>, ours::behind::fxhash32],
-        ),
-        (
-            "fxhash64",
-            [original::behind::<FxHasher64>, ours::behind::fxhash64],
-        ),
-    ];
+    let rows: &[(&str, [Call; 2])] = with_behind!(pairs behind);
     let title = "512 numbers written to one hasher, nanoseconds a number:";
     column(
         sheet,
         title,
         "write_u64",
-        &rows,
+        rows,
         &text[..8 * KEYS],
         KEYS as f64,
         true,
@@ -383,27 +332,13 @@ fn behind(sheet: &mut Sheet, text: &[u8]) {
 }
 
 fn unwrites(sheet: &mut Sheet, text: &[u8]) {
-    let rows: [(&str, [Call; 2]); 10] = [
-        ("fnv1a32", [ours::whole::fnv1a32, ours::unwrite::fnv1a32]),
-        ("fnv1a64", [ours::whole::fnv1a64, ours::unwrite::fnv1a64]),
-        ("djb2", [ours::whole::djb2, ours::unwrite::djb2]),
-        ("sdbm", [ours::whole::sdbm, ours::unwrite::sdbm]),
-        ("loselose", [ours::whole::loselose, ours::unwrite::loselose]),
-        (
-            "bricolage",
-            [ours::whole::bricolage, ours::unwrite::bricolage],
-        ),
-        ("oaat", [ours::whole::oaat, ours::unwrite::oaat]),
-        ("fxhash", [ours::whole::fxhash, ours::unwrite::fxhash]),
-        ("fxhash32", [ours::whole::fxhash32, ours::unwrite::fxhash32]),
-        ("fxhash64", [ours::whole::fxhash64, ours::unwrite::fxhash64]),
-    ];
+    let rows: &[(&str, [Call; 2])] = with_unwrite!(ours_alone whole unwrite);
     let title = "Ours alone, `write` / `unwrite` of a text of 4 KiB, ns:";
     column(
         sheet,
         title,
         "write / unwrite",
-        &rows,
+        rows,
         &text[..4096],
         1.0,
         false,

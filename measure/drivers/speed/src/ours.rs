@@ -19,23 +19,22 @@ macro_rules! calls {
     };
 }
 
-macro_rules! calls_of_each_name {
-    ($($name:ident $($hasher:ident)::+ $alike_from:literal)*) => {
-        calls! {
-            whole (at: *const u8, len: usize): $($name)*;
-            keys (at: *const u8, len: usize, size: usize): $($name)*;
-            pieces (at: *const u8, len: usize, size: usize): $($name)*;
-        }
+/// The calls of one kind, of the name of each row.
+macro_rules! calls_of {
+    ($kind:ident $parameters:tt: $($name:ident $($hasher:ident)::+ $alike_from:literal)*) => {
+        calls!(in $kind $parameters: $($name)*);
     };
 }
 
-with_names!(calls_of_each_name);
+with_names!(calls_of whole (at: *const u8, len: usize):);
+with_names!(calls_of keys (at: *const u8, len: usize, size: usize):);
+with_names!(calls_of pieces (at: *const u8, len: usize, size: usize):);
+with_reader!(calls_of reader (at: *const u8, len: usize):);
+with_unwrite!(calls_of unwrite (at: *const u8, len: usize):);
+with_numbers!(calls_of numbers (at: *const u8, len: usize, width: usize):);
+with_behind!(calls_of behind (at: *const u8, len: usize):);
 
 calls! {
-    reader (at: *const u8, len: usize): fnv1a64 sdbm loselose lookup3 spooky fxhash;
-    unwrite (at: *const u8, len: usize): fnv1a32 fnv1a64 djb2 sdbm loselose bricolage oaat fxhash fxhash32 fxhash64;
-    numbers (at: *const u8, len: usize, width: usize): fnv1a64 djb2 lookup3 fxhash fxhash32 fxhash64;
-    behind (at: *const u8, len: usize): fxhash fxhash32 fxhash64;
     buckets (at: *const u8, len: usize, size: usize, rounds: usize): fnv1a64 fxhash;
     missed (at: *const u8, len: usize, size: usize, rounds: usize): fnv1a64 fxhash;
     emptied (at: *const u8, len: usize, size: usize): fnv1a64 fxhash;
