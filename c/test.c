@@ -41,6 +41,7 @@ static const struct kind {
     bool cuts;
     uint64_t greatest;
 } kinds[] = {
+// what stands behind hashers_
 #define NAME(call) (&#call[sizeof "hashers"])
 #define UNDONE(call, cuts, bits) {NAME(call), call, call##_write, call##_unwrite, cuts, UINT##bits##_MAX},
 #define WRITTEN(call, cuts, bits) {NAME(call), call, call##_write, NULL, cuts, UINT64_MAX},

@@ -69,7 +69,8 @@ HANDS_ON = "#[allow(unused_macros)]\nmacro_rules! with_%s { ($then:ident $($befo
 
 
 def file_of_names():
-    """A file with macros in Rust: with_names has each row of rows_of_original, others those of the names that measure_calls has for a kind."""
+    """A file with macros in Rust: with_names has each row of rows_of_original, the others those for which measure_calls has a call of
+    their kind."""
     rows, text = rows_of_original(), ""
     for kind in ("names", "numbers", "behind", "reader", "unwrite"):
         there = [row for row in rows if kind == "names" or row[0] in measured(kind)]

@@ -25,8 +25,8 @@ def unlike_names():
 
 
 def hashers_of_original():
-    """The original's hasher of each name that it has, in the order of the table. The crate in c/rust has the original's types and paths, but
-    for the module more; the original's SpookyHasher is our version 1."""
+    """The original's hasher of each name that it has, in the order of the table. The crate in c/rust has the original's types and paths,
+    but for the module more; the original's SpookyHasher is our version 1."""
     found = {"spooky_v1": "jenkins::spooky_hash::SpookyHasher"}
     with open(os.path.join(ROOT, "c/rust/src/lib.rs"), encoding="utf-8") as source:
         modules = dict(re.findall(r"^pub mod (\w+) \{\n(.*?)^\}", source.read(), re.M | re.S))
