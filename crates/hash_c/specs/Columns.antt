@@ -1,6 +1,7 @@
 -- Many texts that lie behind one another.
-use Rattle.std.specs.Prelude.{ℕ, Bool, IsTrue, ◌≡◌, ◌↔◌, ◌+◌, ◌<◌, ◌≤◌, List, length, slice_index, slice_range}
+use Rattle.std.specs.Prelude.{ℕ, Bool, IsSome, IsTrue, ◌≡◌, ◌↔◌, ◌+◌, ◌<◌, ◌≤◌, List, length, slice_index, slice_range}
 use Rattle.std.specs.Bool.{OnTrue, OnFalse}
+use Rattle.hash_names.specs.Named.{hash_at, kind_at}
 
 -- there is one place more than texts, none falls, and none passes the data's end
 pub record AreOffsets (size count : ℕ) (offsets : List ℕ) : Type 0 where
@@ -22,4 +23,10 @@ AreHashes hash bytes offsets hashes =
 pub record IsColumn (hash : List ℕ → ℕ) (bytes offsets before after : List ℕ) (result : Bool) : Type 0 where
   pub exactly : IsTrue result ↔ AreOffsets (length bytes) (length before) offsets
   pub written : OnTrue result (AreHashes hash bytes offsets after)
+  pub refused : OnFalse result (after ≡ before)
+
+-- the same by the hash of that number, exactly where there is one too
+pub record IsColumnBy (number : ℕ) (bytes offsets before after : List ℕ) (result : Bool) : Type 0 where
+  pub exactly : IsTrue result ↔ (IsSome (kind_at number) × AreOffsets (length bytes) (length before) offsets)
+  pub written : OnTrue result (AreHashes (hash_at number) bytes offsets after)
   pub refused : OnFalse result (after ≡ before)

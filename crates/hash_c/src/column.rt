@@ -1,8 +1,7 @@
 //! The hashes of many texts in one call, as one body for every hash: of texts between offsets of 32 or of 64 bits, and of lines.
 ghost use Rattle.std.specs.Prelude.{◌≡◌, ◌+◌, ◌<◌, ◌↔◌, ◌∷◌, ℕ, List, length, map, slice_index, IsSome, IsTrue};
-ghost use Rattle.std.specs.Bool.{OnTrue, OnFalse};
 ghost use Rattle.hashers.specs.Spooky.{spooky_v1};
-ghost use Rattle.hash_c.specs.Columns.{AreHashes, AreOffsets, IsColumn};
+ghost use Rattle.hash_c.specs.Columns.{AreOffsets, IsColumn, IsColumnBy};
 ghost use Rattle.hash_c.specs.Lines.{laid_over};
 ghost use Rattle.hash_lines.specs.Lines.{line_texts};
 ghost use Rattle.hash_names.specs.Named.{hash_at, hash_of, kind_at};
@@ -156,7 +155,8 @@ impl<'a, 'b, O: Offset> HashTask for InColumn<'a, 'b, O> {
 /// Writes the hash of each text by that hash.
 fn in_column<'a, 'b, O: Offset>(kind: Kind, texts: (&'a [u8], &'a [O]), room: &mut Room<'b>) -> bool
     ensures same { room.new.hashes.ghost_name ≡ room.old.hashes.ghost_name }
-    ensures done { IsColumn (hash_of kind) texts.entry.0.now (map O.number texts.entry.1.now) room.old.hashes.now room.new.hashes.now result }
+    ensures done { IsColumn (hash_of kind) texts.entry.0.now (map O.number texts.entry.1.now)
+        room.old.hashes.now room.new.hashes.now result }
 {
     by_kind::<InColumn<'a, 'b, O>>(kind, texts, room)
 }
@@ -169,10 +169,7 @@ pub fn column_by<'a, O: Offset>(
     offsets: &'a [O],
     hashes: &mut [u64],
 ) -> bool
-    ensures exactly { IsTrue result ↔ (IsSome (kind_at kind)
-        × AreOffsets (length bytes.now) (length hashes.old) (map O.number offsets.now)) }
-    ensures written { OnTrue result (AreHashes (hash_at kind) bytes.now (map O.number offsets.now) hashes.new) }
-    ensures refused { OnFalse result (hashes.new ≡ hashes.old) }
+    ensures { IsColumnBy kind bytes.now (map O.number offsets.now) hashes.old hashes.new result }
 {
     match kind_at(kind) {
         Some(kind) => {
@@ -249,7 +246,8 @@ impl<'a, 'b> HashTask for InLines<'a, 'b> {
 fn in_lines<'a, 'b>(kind: Kind, text: &'a [u8], room: &mut Room<'b>) -> usize
     ensures same { room.new.hashes.ghost_name ≡ room.old.hashes.ghost_name }
     ensures count { result ≡ length (line_texts 10 text.now) }
-    ensures written { room.new.hashes.now ≡ laid_over (map (hash_of kind) (line_texts 10 text.now)) room.old.hashes.now }
+    ensures written { room.new.hashes.now
+        ≡ laid_over (map (hash_of kind) (line_texts 10 text.now)) room.old.hashes.now }
 {
     by_kind::<InLines<'a, 'b>>(kind, text, room)
 }

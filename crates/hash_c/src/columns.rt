@@ -1,9 +1,6 @@
 //! The hashes of a column of texts, by the number of a hash, under offsets of 32 and of 64 bits. Text i lies from offset i to offset
 //! i + 1.
-ghost use Rattle.std.specs.Bool.{OnFalse, OnTrue};
-ghost use Rattle.std.specs.Prelude.{◌≡◌, ◌↔◌, length, IsSome, IsTrue};
-ghost use Rattle.hash_c.specs.Columns.{AreHashes, AreOffsets};
-ghost use Rattle.hash_names.specs.Named.{hash_at, kind_at};
+ghost use Rattle.hash_c.specs.Columns.{IsColumnBy};
 
 use crate::column::column_by;
 
@@ -15,9 +12,7 @@ pub extern "C" fn hashers_column32(
     offsets: &[u32],
     hashes: &mut [u64],
 ) -> bool
-    ensures exactly { IsTrue result ↔ (IsSome (kind_at kind) × AreOffsets (length bytes.now) (length hashes.old) offsets.now) }
-    ensures written { OnTrue result (AreHashes (hash_at kind) bytes.now offsets.now hashes.new) }
-    ensures refused { OnFalse result (hashes.new ≡ hashes.old) }
+    ensures { IsColumnBy kind bytes.now offsets.now hashes.old hashes.new result }
 {
     column_by::<u32>(kind, bytes, offsets, hashes)
 }
@@ -30,9 +25,7 @@ pub extern "C" fn hashers_column64(
     offsets: &[u64],
     hashes: &mut [u64],
 ) -> bool
-    ensures exactly { IsTrue result ↔ (IsSome (kind_at kind) × AreOffsets (length bytes.now) (length hashes.old) offsets.now) }
-    ensures written { OnTrue result (AreHashes (hash_at kind) bytes.now offsets.now hashes.new) }
-    ensures refused { OnFalse result (hashes.new ≡ hashes.old) }
+    ensures { IsColumnBy kind bytes.now offsets.now hashes.old hashes.new result }
 {
     column_by::<u64>(kind, bytes, offsets, hashes)
 }

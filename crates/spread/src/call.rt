@@ -1,5 +1,5 @@
 //! What the program is asked for, and how it ends.
-ghost use Rattle.std.specs.Prelude.{◌≡◌, ◌∷◌, [], ℕ, List, None, map, true, MatchOption, OnErr, OnOk};
+ghost use Rattle.std.specs.Prelude.{◌≡◌, ◌∷◌, [], ℕ, List, None, map, true, IsSome, MatchOption, OnErr, OnOk};
 ghost use Rattle.hash_program.specs.Call.{texts, unknown};
 ghost use Rattle.spread.specs.Call.{failure_of, letters, names, status_of, wants_zeros};
 
@@ -129,7 +129,7 @@ pub fn no_number(call: &Call) -> Option<&[u8]> {
 /// How the keys lie in the input: with a fixed width, or with an end, which is a newline where nothing is said.
 fn layout_of(call: &Call) -> Result<Layout, Wrong>
     ensures ok { OnOk result (wants_zeros (texts call.now.words.items) ≡ true → call.now.width ≡ None) }
-    ensures err { OnErr result (wants_zeros (texts call.now.words.items) ≡ true) }
+    ensures err { OnErr result ((wants_zeros (texts call.now.words.items) ≡ true) × IsSome call.now.width) }
 {
     let zeros = is_given(&call.words, Some(b'z'), b"zero-terminated");
     if zeros && call.width.is_some() {
