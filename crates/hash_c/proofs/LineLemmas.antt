@@ -48,6 +48,18 @@ laid_no_more (number ∷ numbers) [] x full = refl
 laid_no_more [] (other ∷ others) x full = absurd (omega arith)
 laid_no_more (number ∷ numbers) (other ∷ others) x full = ap (λ l. number ∷ l) (laid_no_more numbers others x (omega arith))
 
+-- the next of the numbers, where there is room
+pub laid_next : (numbers others : List ℕ) (i : ℕ) → i < length numbers → i < length others
+    → set (laid_over (take i numbers) others) i (get_or numbers i 0) ≡ laid_over (take (i + 1) numbers) others
+laid_next [] others i within room = absurd (omega arith)
+laid_next (number ∷ numbers) [] i within room = absurd (omega arith)
+laid_next (number ∷ numbers) (other ∷ []) zero within room = refl
+laid_next (number ∷ numbers) (other ∷ next ∷ others) zero within room = refl
+laid_next (number ∷ numbers) (other ∷ others) (suc i) within room =
+    let one_more : suc (i + 1) ≡ suc i + 1 = omega arith in
+    ap (λ l. number ∷ l) (laid_next numbers others i (omega arith) (omega arith))
+    ∙ ap (λ k. laid_over (take k (number ∷ numbers)) (other ∷ others)) one_more
+
 -- the hashes of one line more
 module _ (hash : List ℕ → ℕ) (so_far : List (List ℕ)) (line others : List ℕ) (count : ℕ) (is : count ≡ length so_far) where
   pub hashed_one_more : count < length others

@@ -37,8 +37,9 @@ pub extern "C" fn hashers_name(kind: u32, name: &mut [u8]) -> usize
     ensures written { name.new ≡ laid_over (name_at kind) name.old }
 {
     let told = name_of(kind);
-    let count = told.len().min(name.len());
-    name[..count].copy_from_slice(&told[..count]);
+    for i in 0..told.len().min(name.len()) {
+        name[i] = told[i];
+    }
     told.len()
 }
 
