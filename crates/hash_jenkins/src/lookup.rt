@@ -50,7 +50,7 @@ fn le_few(bytes: &[u8]) -> u32
 fn start(pc: u32, pb: u32, len: usize) -> [u32; 3]
     ensures { result ≡ start pc pb len }
 {
-    let low = (len % 4294967296) as u32;
+    let low = (len as u64 % 4294967296) as u32;
     let first = 0xdeadbeefu32.wrapping_add(low).wrapping_add(pc);
     [first, first, first.wrapping_add(pb)]
 }
