@@ -1,0 +1,45 @@
+//! A random key, and the hashers at it.
+ghost use Rattle.std.specs.Prelude.{◌≡◌, ◌%◌};
+ghost use Rattle.hash_keyed.specs.Poly61.{prime61};
+ghost use Rattle.hash_keyed.specs.Poly61State.{start_at};
+
+use crate::poly61::Poly61Hasher;
+use std::hash::BuildHasher;
+use std::io;
+use std::random::RandomSource;
+
+/// A random key, and the hashers that start from it, for texts that somebody else chooses, as long as they don't hang on the key:
+/// of the laws of `laws`, each says of how many keys something holds that were not known when the texts were made. Whoever sees
+/// hashes can compute the key.
+#[derive(Clone, Copy)]
+pub struct Poly61Keys {
+    key: u64,
+}
+
+impl Poly61Keys {
+    /// A key from the system's source of randomness: 64 bits, of which each remainder modulo the prime has 8 or 9 numbers. It
+    /// fails where the source does.
+    pub fn new(rt: &impl RandomSource) -> io::Result<Poly61Keys> {
+        let mut bytes = [0; 8];
+        rt.fill_bytes(&mut bytes)?;
+        Ok(Poly61Keys::with_key(u64::from_le_bytes(bytes)))
+    }
+
+    /// This key.
+    pub fn with_key(key: u64) -> Poly61Keys
+        ensures { result ≡ record { key = key } }
+    {
+        Poly61Keys { key }
+    }
+}
+
+impl BuildHasher for Poly61Keys {
+    type Hasher = Poly61Hasher;
+
+    ghost build_hasher = { λ k. start_at (k.key % prime61) };
+
+    #[inline(always)]
+    fn build_hasher(&self) -> Poly61Hasher {
+        Poly61Hasher::new(self.key)
+    }
+}

@@ -1,0 +1,89 @@
+//! Numbers modulo the prime 2^61 - 1.
+ghost use Rattle.std.specs.Prelude.{◌≡◌, ◌+◌, ◌*◌, ◌%◌, ◌^◌, ◌<◌, ◌≤◌};
+ghost use Rattle.hash_keyed.specs.Poly61.{prime61, poly_step};
+ghost use Rattle.hash_keyed.specs.Poly61State.{poly_end, as_word};
+
+/// The prime 2^61 - 1.
+const PRIME: u64 = 2305843009213693951;
+
+/// The product of two numbers.
+#[inline(always)]
+pub(crate) fn product(a: u64, b: u64) -> u128
+    ensures { result ≡ a * b }
+{
+    u128::from(a) * u128::from(b)
+}
+
+/// A number that is equal modulo the prime: the high bits are added to the low 61.
+#[inline(always)]
+pub(crate) fn once(x: u128) -> u64
+    requires { x < 2 ^ 122 }
+    ensures same { result % prime61 ≡ x % prime61 }
+    ensures small { result < 2 ^ 62 }
+{
+    (x % 2305843009213693952) as u64 + (x / 2305843009213693952) as u64
+}
+
+/// A number that is equal modulo the prime and is little more than it: the high bits are added to the low 61, twice.
+#[inline(always)]
+pub(crate) fn folded(x: u128) -> u64
+    requires { x < 2 ^ 124 }
+    ensures same { result % prime61 ≡ x % prime61 }
+    ensures small { result < 2 ^ 61 + 8 }
+{
+    let once = (x % 2305843009213693952) as u64 + (x / 2305843009213693952) as u64;
+    once % 2305843009213693952 + once / 2305843009213693952
+}
+
+/// The remainder of a number that is little more than the prime.
+#[inline(always)]
+pub(crate) fn reduced(x: u64) -> u64
+    requires { x < 2 ^ 61 + 8 }
+    ensures { result ≡ x % prime61 }
+{
+    if x >= PRIME { x - PRIME } else { x }
+}
+
+/// The remainder of any number.
+#[inline(always)]
+pub(crate) fn remainder(x: u64) -> u64
+    ensures { result ≡ x % prime61 }
+{
+    reduced(x % 2305843009213693952 + x / 2305843009213693952)
+}
+
+/// One word more.
+#[inline(always)]
+pub(crate) fn step(key: u64, state: u64, word: u64) -> u64
+    requires key_in { key < prime61 }
+    requires state_in { state < 2 ^ 61 + 8 }
+    requires word_in { word < 2 ^ 57 }
+    ensures same { result % prime61 ≡ poly_step prime61 key state word }
+    ensures small { result < 2 ^ 61 + 8 }
+{
+    folded(product(state, key) + u128::from(word))
+}
+
+/// A byte at its place in a word.
+#[inline(always)]
+pub(crate) fn placed(byte: u64, count: u32) -> u64
+    requires byte_in { byte < 256 }
+    requires count_in { count < 7 }
+    ensures { result ≡ byte * 2 ^ (8 * count) }
+{
+    byte << (8 * count)
+}
+
+/// The answer: the last word in, once more by the key, and the low three bits once more as the highest.
+#[inline(always)]
+pub(crate) fn ended(key: u64, state: u64, word: u64, count: u32) -> u64
+    requires key_in { key < prime61 }
+    requires state_in { state < 2 ^ 61 + 8 }
+    requires word_in { word < 2 ^ (8 * count) }
+    requires count_in { count < 7 }
+    ensures { result ≡ as_word (poly_end (record { key = key; state = state % prime61; word = word; count = count })) }
+{
+    let last = word + placed(1, count);
+    let value = reduced(folded(product(step(key, state, last), key)));
+    value + value % 8 * 2305843009213693952
+}

@@ -1,0 +1,217 @@
+//! The hash of a text by its polynomial over the prime 2^61 - 1, at a key.
+ghost use Rattle.std.specs.Prelude.{◌≡◌, ◌+◌, ◌*◌, ◌%◌, ◌^◌, ◌<◌, ℕ, List, [], ◌∷◌, ◌++◌, slice_index, refl};
+ghost use Rattle.std.proofs.Common.{lit<};
+ghost use Rattle.hashers.specs.Text.{IsText};
+ghost use Rattle.hash_keyed.specs.Poly61.{prime61, poly_step, poly_hash};
+ghost use Rattle.hash_keyed.specs.Poly61State.{Position, start_at, byte_in, after, poly_end, as_word, poly61, IsPosition, PolyStandsAt, poly61_from, default_key};
+ghost use Rattle.hash_keyed.specs.Poly61Laws.{IsPosition-start, IsPosition-after, after-nil, after-append, stands_at_key, stands_after, answer_where_stands, hash_from_key, poly61-is};
+
+use crate::modular::{ended, placed, remainder, step};
+use crate::words::{few, full_words};
+use hashers::laws::{Piecewise, Streamed};
+use std::hash::Hasher;
+use std::marker::Model;
+
+/// The key of a default hasher. Everybody knows it, so it is of use where nobody chooses the texts.
+const DEFAULT_KEY: u64 = 1234567890123456789;
+
+/// The hash of a text by its polynomial, at a key.
+pub struct Poly61Hasher {
+    key: u64,
+    state: u64,
+    word: u64,
+    count: u32,
+}
+
+impl Model for Poly61Hasher {
+    ghost use Rattle.hash_keyed.specs.Poly61State.{Position};
+
+    ghost Value = { Position };
+
+    ghost use Rattle.hash_keyed.specs.Poly61Inside.{position_of, IsInside};
+
+    ghost view = { position_of };
+
+    ghost invariant = { IsInside };
+}
+
+impl Drop for Poly61Hasher {
+    fn drop(self) {
+        let Self {
+            key: _,
+            state: _,
+            word: _,
+            count: _,
+        } = self;
+    }
+}
+
+impl Poly61Hasher {
+    /// A hasher of no bytes, at a key: any number, of which the remainder modulo the prime counts.
+    #[inline(always)]
+    pub fn new(key: u64) -> Poly61Hasher
+        ensures position { result ≡ start_at (key % prime61) }
+        ensures stands { PolyStandsAt result ((key % prime61) ∷ []) [] }
+        ensures in_range { IsPosition result }
+    {
+        Poly61Hasher {
+            key: remainder(key),
+            state: 1,
+            word: 0,
+            count: 0,
+        }
+    }
+
+    // One byte in.
+    #[inline(always)]
+    fn byte_in(&mut self, byte: u8)
+        ensures { self.new ≡ byte_in self.old byte }
+    {
+        let word = self.word + placed(u64::from(byte), self.count);
+        if self.count < 6 {
+            self.word = word;
+            self.count += 1;
+        } else {
+            self.state = step(self.key, self.state, word);
+            self.word = 0;
+            self.count = 0;
+        }
+    }
+}
+
+impl Default for Poly61Hasher {
+    ghost is_default = { λ h. h ≡ start_at default_key };
+
+    /// The hasher of no bytes, at a fixed key.
+    fn default() -> Poly61Hasher {
+        Poly61Hasher::new(DEFAULT_KEY)
+    }
+}
+
+impl Hasher for Poly61Hasher {
+    ghost write = { after };
+
+    ghost finish = { λ at. as_word (poly_end at) };
+
+    /// The value of the polynomial in the low 61 bits; the top three are the low three once more.
+    #[inline(always)]
+    fn finish(&self) -> u64
+        ensures value { result ≡ as_word (poly_end self.now) }
+        ensures in_range { IsPosition self.now }
+    {
+        ended(self.key, self.state, self.word, self.count)
+    }
+
+    /// Takes the bytes in.
+    fn write(&mut self, bytes: &[u8])
+        ensures written { self.new ≡ after self.old bytes.now }
+        ensures in_range_before { IsPosition self.old }
+        ensures in_range_after { IsPosition self.new }
+    {
+        let _key = &self.key;
+        let mut rest = bytes;
+        while self.count > 0 {
+            match rest.split_first() {
+                None => return,
+                Some((byte, more)) => {
+                    self.byte_in(*byte);
+                    rest = more;
+                }
+            }
+        }
+        let (state, last) = full_words(self.key, self.state, rest);
+        self.state = state;
+        self.word = few(last);
+        self.count = last.len() as u32;
+    }
+}
+
+impl Piecewise for Poly61Hasher {
+    ghost State = { Position };
+
+    ghost state = { λ h. h };
+
+    ghost in_range = { IsPosition };
+
+    ghost fresh = { start_at default_key };
+
+    ghost after = { after };
+
+    ghost answer = { λ at. as_word (poly_end at) };
+
+    ghost hash_of = { poly61 default_key };
+
+    ghost first = { start_at default_key };
+
+    #[inline(always)]
+    fn state_in_range(&self) {
+        let _key = &self.key;
+    }
+
+    #[inline(always)]
+    fn feed(&mut self, piece: &[u8]) {
+        self.write(piece);
+    }
+
+    #[inline(always)]
+    fn answer(&self) -> u64 {
+        self.finish()
+    }
+
+    #[inline(always)]
+    fn whole(text: &[u8]) -> u64 {
+        poly61(DEFAULT_KEY, text)
+    }
+
+    fn fork(&self) -> Poly61Hasher {
+        Poly61Hasher {
+            key: self.key,
+            state: self.state,
+            word: self.word,
+            count: self.count,
+        }
+    }
+
+    ghost default_is_first = { λ h same. same };
+
+    ghost first_is_fresh = { refl };
+
+    ghost hash_of_is = { poly61-is default_key };
+
+    ghost write_feeds = { λ h piece. refl };
+
+    ghost finish_answers = { λ h. refl };
+
+    ghost fresh_in_range = { IsPosition-start default_key (lit< tt) };
+
+    ghost after_in_range = { IsPosition-after };
+
+    ghost after_nothing = { after-nil };
+}
+
+impl Streamed for Poly61Hasher {
+    ghost start = { default_key ∷ [] };
+
+    ghost stands_at = { PolyStandsAt };
+
+    ghost hash = { poly61_from };
+
+    ghost stands_at_start = { λ h same. stands_at_key h default_key (lit< tt) same };
+
+    ghost stands_after = { stands_after };
+
+    ghost after_joined = { after-append };
+
+    ghost hash_from_start = { hash_from_key default_key };
+
+    ghost stands_answers = { answer_where_stands };
+}
+
+/// The hash of a text by its polynomial, at a key: what [`Poly61Hasher`] answers to the text.
+pub fn poly61(key: u64, bytes: &[u8]) -> u64
+    ensures { result ≡ poly61 (key % prime61) bytes.now }
+{
+    let key = remainder(key);
+    let (state, last) = full_words(key, 1, bytes);
+    ended(key, state, few(last), last.len() as u32)
+}
