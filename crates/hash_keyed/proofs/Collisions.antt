@@ -87,7 +87,7 @@ unfolding Few
 few_none p [] are pass = omega arith
 few_none p (key ∷ keys) are pass = absurd (false≢true (pass 0 0 (omega arith)))
 
-filtered_keys : (p : ℕ) (test : ℕ → Bool) (keys : List ℕ) → AreKeys p keys → AreKeys p (filter test keys)
+pub filtered_keys : (p : ℕ) (test : ℕ → Bool) (keys : List ℕ) → AreKeys p keys → AreKeys p (filter test keys)
 filtered_keys p test keys are = record {
   below = All-filter test (λ key. key < p) keys are.below;
   differ = AllPairs-filter ◌≢◌ test keys are.differ;
@@ -121,7 +121,7 @@ some_meet p [] key = false
 some_meet p (t ∷ texts) key = meets_some p t texts key || some_meet p texts key
 
 -- how many pairs there are of n
-pairs : ℕ → ℕ
+unfoldable pub pairs : ℕ → ℕ
 pairs zero = 0
 pairs (suc n) = n + pairs n
 
@@ -134,7 +134,7 @@ pairs_twice (suc (suc n)) =
     let less2 : suc (suc n) - 1 ≡ suc n = omega arith in
     rw less2 (omega (arith, rw less at (pairs_twice (suc n))))
 
-pairs-is : (n : ℕ) → pairs n ≡ n * (n - 1) / 2
+pub pairs-is : (n : ℕ) → pairs n ≡ n * (n - 1) / 2
 pairs-is n = let e = pairs_twice n in omega arith
 
 meets_at : (p key : ℕ) (s : List ℕ) (texts : List (List ℕ)) (j : ℕ) → j < length texts

@@ -7,7 +7,7 @@ use Rattle.std.proofs.lemmas.Nat.{pow-add, mul-le}
 use Rattle.hashers.specs.Text.{IsText}
 use Rattle.hashers.specs.Words.{le}
 use Rattle.hashers.proofs.TextLemmas.{IsByte}
-use Rattle.hash_keyed.specs.Poly61.{prime61, poly_step, poly_hash, words_from}
+use Rattle.hash_keyed.specs.Poly61.{prime61, poly_step, poly_hash, words, words_from}
 use Rattle.hash_keyed.specs.Poly61State.{Position, start_at, byte_in, after, poly_end, as_word, poly61, IsPosition, PolyStandsAt, poly61_from}
 
 -- eight bits more
@@ -87,6 +87,19 @@ part_at key state w n = record { key = key; state = state; word = w; count = n }
 abbrev pub behind : ℕ → ℕ → List ℕ → Position
 behind key state kept = record { key = key; state = state; word = le kept; count = length kept }
 
+-- a byte behind six fills their word, and one behind fewer goes behind them
+pub byte_fills : (key state : ℕ) (kept : List ℕ) (byte : ℕ) → length kept ≡ 6
+    → byte_in (behind key state kept) byte ≡ behind key (poly_step prime61 key state (le (kept ++ byte ∷ []))) []
+unfolding le
+byte_fills key state kept byte six =
+    byte_in-full (behind key state kept) byte (omega arith) ∙ ap (λ w. full_at key state w) (sym (le-push kept byte))
+
+pub byte_behind : (key state : ℕ) (kept : List ℕ) (byte : ℕ) → length kept < 6
+    → byte_in (behind key state kept) byte ≡ behind key state (kept ++ byte ∷ [])
+byte_behind key state kept byte few =
+    byte_in-part (behind key state kept) byte few
+    ∙ ap₂ (λ w n. part_at key state w n) (sym (le-push kept byte)) (sym (length-append kept (byte ∷ [])))
+
 -- the state after all words of a text is where its bytes lead, with the last word
 by_words : (r key state : ℕ) (kept text : List ℕ) → r + length kept ≡ 6
     → fold (poly_step prime61 key) state (words_from r kept text) ≡ end_word (after (behind key state kept) text)
@@ -95,15 +108,11 @@ by_words r key state kept [] room =
     let one : le kept + 1 * 2 ^ (8 * length kept) ≡ le kept + 2 ^ (8 * length kept) = omega arith in
     ap (poly_step prime61 key state) (le-push kept 1 ∙ one)
 by_words zero key state kept (byte ∷ text) room =
-    let next = poly_step prime61 key state (le (kept ++ byte ∷ [])) in
-    let full : behind key next [] ≡ byte_in (behind key state kept) byte =
-    ap (λ w. full_at key state w) (le-push kept byte) ∙ sym (byte_in-full (behind key state kept) byte (omega arith)) in
-    by_words 6 key next [] text (omega arith) ∙ ap (λ a. end_word (after a text)) full
+    by_words 6 key (poly_step prime61 key state (le (kept ++ byte ∷ []))) [] text (omega arith)
+    ∙ ap (λ a. end_word (after a text)) (sym (byte_fills key state kept byte (omega arith)))
 by_words (suc r) key state kept (byte ∷ text) room =
-    let more : behind key state (kept ++ byte ∷ []) ≡ byte_in (behind key state kept) byte =
-    ap₂ (λ w n. part_at key state w n) (le-push kept byte) (length-append kept (byte ∷ []))
-    ∙ sym (byte_in-part (behind key state kept) byte (omega arith)) in
-    by_words r key state (kept ++ byte ∷ []) text (omega (arith, length-append kept (byte ∷ []))) ∙ ap (λ a. end_word (after a text)) more
+    by_words r key state (kept ++ byte ∷ []) text (omega (arith, length-append kept (byte ∷ [])))
+    ∙ ap (λ a. end_word (after a text)) (sym (byte_behind key state kept byte (omega arith)))
 
 -- no byte changes the key
 after-key : (at : Position) (text : List ℕ) → (after at text).key ≡ at.key
@@ -113,11 +122,17 @@ after-key at (byte ∷ text) = after-key (byte_in at byte) text ∙ elim (cases_
   | inr full ↦ ap (λ (a : Position). a.key) (byte_in-full at byte full)
 ]
 
--- the value where a text leads from its start is that of its polynomial
+-- the value where a text leads from a state
+pub poly_end-from : (key state : ℕ) (text : List ℕ)
+    → poly_end (after (behind key state []) text) ≡ (fold (poly_step prime61 key) state (words text) * key) % prime61
+unfolding end_word
+poly_end-from key state text =
+    ap₂ (λ e k. (e * k) % prime61) (sym (by_words 6 key state [] text (omega arith))) (after-key (behind key state []) text)
+
+-- from the start it is that of the text's polynomial
 pub poly_end-is : (key : ℕ) (text : List ℕ) → poly_end (after (start_at key) text) ≡ poly_hash prime61 key text
-unfolding end_word le
-poly_end-is key text =
-    ap₂ (λ e k. (e * k) % prime61) (sym (by_words 6 key 1 [] text (omega arith))) (after-key (start_at key) text)
+unfolding le
+poly_end-is key text = poly_end-from key 1 text
 
 pub poly61-is : (key : ℕ) (text : List ℕ) → poly61 key text ≡ as_word (poly_end (after (start_at key) text))
 poly61-is key text = ap as_word (sym (poly_end-is key text))

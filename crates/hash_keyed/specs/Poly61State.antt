@@ -1,5 +1,5 @@
 -- Where a hasher by the polynomial stands, a step for each byte.
-use Rattle.std.specs.Prelude.{ℕ, ◌≡◌, ◌+◌, ◌*◌, ◌%◌, ◌^◌, ◌<◌, List, [], ◌∷◌, fold, length, take, drop, if◌then◌else◌, nat_lt, slice_index, slice_index_or}
+use Rattle.std.specs.Prelude.{ℕ, ◌≡◌, ◌+◌, ◌-◌, ◌*◌, ◌/◌, ◌%◌, ◌^◌, ◌<◌, List, [], ◌∷◌, fold, length, take, drop, if◌then◌else◌, Bool, nat_eq, nat_lt, slice_index, slice_index_or}
 use Rattle.hashers.specs.Text.{IsText}
 use Rattle.hashers.specs.Words.{le}
 use Rattle.hash_keyed.specs.Poly61.{prime61, poly_step, poly_hash}
@@ -63,11 +63,24 @@ as_word value = value + value % 8 * 2 ^ 61
 abbrev pub poly61 : ℕ → List ℕ → ℕ
 poly61 key text = as_word (poly_hash prime61 key text)
 
+-- the value of two texts joined, from the state behind the first, and the hash and the length in bytes of the second: what the second
+-- has at the start 1 it has at the first one's state
+abbrev pub joined_value : ℕ → ℕ → ℕ → ℕ → ℕ
+joined_value key state1 hash2 length2 = ((state1 + (prime61 - 1)) * key ^ (length2 / 7 + 2) + hash2 % 2 ^ 61) % prime61
+
 -- at the key some two of the texts have one hash
 abbrev pub SomeTwoMeet : List (List ℕ) → ℕ → Type 0
 SomeTwoMeet texts key =
     (i : ℕ) × (j : ℕ) × (i < j) × (j < length texts)
     × (poly61 key (slice_index_or texts i []) ≡ poly61 key (slice_index_or texts j []))
+
+-- two texts have one hash at both keys of a pair
+abbrev pub MeetAtBoth : List ℕ → List ℕ → ℕ × ℕ → Type 0
+MeetAtBoth s t pair = (poly61 pair.0 s ≡ poly61 pair.0 t) × (poly61 pair.1 s ≡ poly61 pair.1 t)
+
+-- the low bits of the hashes at a key, of which a table of 2^bits places takes the place, are the same
+abbrev pub share_place : (bits key : ℕ) → List ℕ → List ℕ → Bool
+share_place bits key s t = nat_eq (poly61 key s % 2 ^ bits) (poly61 key t % 2 ^ bits)
 
 -- a position whose numbers are below their bounds
 pub record IsPosition (at : Position) : Type 0 where

@@ -74,6 +74,15 @@ pub(crate) fn placed(byte: u64, count: u32) -> u64
     byte << (8 * count)
 }
 
+/// A value as a word of 64 bits: the low three bits once more as the highest.
+#[inline(always)]
+pub(crate) fn word_of(value: u64) -> u64
+    requires { value < prime61 }
+    ensures { result ≡ as_word value }
+{
+    value + value % 8 * 2305843009213693952
+}
+
 /// The answer: the last word in, once more by the key, and the low three bits once more as the highest.
 #[inline(always)]
 pub(crate) fn ended(key: u64, state: u64, word: u64, count: u32) -> u64
@@ -84,6 +93,5 @@ pub(crate) fn ended(key: u64, state: u64, word: u64, count: u32) -> u64
     ensures { result ≡ as_word (poly_end (record { key = key; state = state % prime61; word = word; count = count })) }
 {
     let last = word + placed(1, count);
-    let value = reduced(folded(product(step(key, state, last), key)));
-    value + value % 8 * 2305843009213693952
+    word_of(reduced(folded(product(step(key, state, last), key))))
 }

@@ -1,0 +1,74 @@
+-- Over all keys together, few pairs of texts meet.
+use Rattle.std.proofs.Common.{ℕ, suc, ◌≡◌, ◌≢◌, ◌+◌, ◌-◌, ◌*◌, ◌/◌, ◌%◌, ◌^◌, ◌≤◌, max, Bool, true, cond, eqb, List, [], ◌∷◌, length, get_or, filter, All, AllPairs, refl, sym, ap, ap₂, ◌∙◌, le_refl, arith}
+use Rattle.std.specs.List.{count_by, sum_by}
+use Rattle.std.proofs.lemmas.Bool.{eqb-true}
+use Rattle.std.proofs.lemmas.Nat.{mul-le}
+use Rattle.std.proofs.lemmas.List.Elements.{All-tail, filter_passes}
+use Rattle.std.proofs.lemmas.List.Sums.{length-filter, sum_by-cons}
+use Rattle.hashers.specs.Text.{IsText}
+use Rattle.hash_keyed.specs.Poly61.{prime61, word_count, meetings, AreKeys}
+use Rattle.hash_keyed.specs.Poly61State.{poly61, share_place}
+use Rattle.hash_keyed.proofs.Buckets.{few_keys_share_bits}
+use Rattle.hash_keyed.proofs.Collisions.{filtered_keys, pairs, pairs-is}
+
+sum_by-both : {X : Type 0} (f g : X → ℕ) (xs : List X) → sum_by (λ x. f x + g x) xs ≡ sum_by f xs + sum_by g xs
+sum_by-both f g [] = refl
+sum_by-both f g (x ∷ xs) =
+    omega (arith, sum_by-cons (λ x. f x + g x) x xs, sum_by-cons f x xs, sum_by-cons g x xs, sum_by-both f g xs)
+
+sum_by-same : {X : Type 0} (f g : X → ℕ) (xs : List X) → ((x : X) → f x ≡ g x) → sum_by f xs ≡ sum_by g xs
+sum_by-same f g [] same = refl
+sum_by-same f g (x ∷ xs) same = omega (arith, sum_by-cons f x xs, sum_by-cons g x xs, same x, sum_by-same f g xs same)
+
+sum_by-zero : {X : Type 0} (xs : List X) → sum_by (λ (x : X). 0) xs ≡ 0
+sum_by-zero [] = refl
+sum_by-zero (x ∷ xs) = omega (arith, sum_by-cons (λ y. 0) x xs, sum_by-zero xs)
+
+module _ (bits most : ℕ) (within : bits ≤ 61) (keys : List ℕ) (are : AreKeys prime61 keys) where
+  bound : ℕ
+  bound = (2 * (prime61 / 2 ^ bits) + 1) * (most + 1)
+
+  -- the keys at which two texts meet
+  few_meet : (s t : List ℕ) → IsText s → IsText t → s ≢ t → word_count s ≤ most → word_count t ≤ most
+      → sum_by (λ key. cond (share_place bits key s t) 1 0) keys ≤ bound
+  unfolding bound
+  few_meet s t s_is t_is differ s_few t_few =
+      let test = λ (key : ℕ). share_place bits key s t in
+      let kept = filter test keys in
+      let few = few_keys_share_bits s t bits kept s_is t_is differ within (filtered_keys prime61 test keys are)
+      (λ i d h. eqb-true (poly61 (get_or kept i d) s % 2 ^ bits) (poly61 (get_or kept i d) t % 2 ^ bits) (filter_passes test keys i d h)) in
+      let wide : (2 * (prime61 / 2 ^ bits) + 1) * (max (word_count s) (word_count t) + 1) ≤ (2 * (prime61 / 2 ^ bits) + 1) * (most + 1) =
+      mul-le (2 * (prime61 / 2 ^ bits) + 1) (max (word_count s) (word_count t) + 1) (2 * (prime61 / 2 ^ bits) + 1) (most + 1)
+      (le_refl (2 * (prime61 / 2 ^ bits) + 1)) (omega arith) in
+      omega (arith, few, wide, length-filter test keys)
+
+  -- and one text with each of others
+  few_meet_one : (s : List ℕ) (texts : List (List ℕ)) → IsText s → word_count s ≤ most → All IsText texts → All (λ t. s ≢ t) texts
+      → All (λ t. word_count t ≤ most) texts
+      → sum_by (λ key. count_by (share_place bits key s) texts) keys ≤ length texts * bound
+  few_meet_one s [] s_is s_few are_texts differ few = omega (arith, sum_by-zero keys)
+  few_meet_one s (t ∷ texts) s_is s_few are_texts differ few =
+      omega (arith, few_meet s t s_is (are_texts 0 [] (omega arith)) (differ 0 [] (omega arith)) s_few (few 0 [] (omega arith)),
+      few_meet_one s texts s_is s_few (All-tail IsText t texts are_texts) (All-tail (λ u. s ≢ u) t texts differ)
+      (All-tail (λ u. word_count u ≤ most) t texts few),
+      sum_by-same (λ key. count_by (share_place bits key s) (t ∷ texts))
+      (λ key. cond (share_place bits key s t) 1 0 + count_by (share_place bits key s) texts) keys
+      (λ key. sum_by-cons (λ u. cond (share_place bits key s u) 1 0) t texts),
+      sum_by-both (λ key. cond (share_place bits key s t) 1 0) (λ key. count_by (share_place bits key s) texts) keys)
+
+  few_pairs_of : (texts : List (List ℕ)) → All IsText texts → AllPairs ◌≢◌ texts → All (λ t. word_count t ≤ most) texts
+      → sum_by (λ key. meetings (share_place bits key) texts) keys ≤ pairs (length texts) * bound
+  unfolding meetings pairs
+  few_pairs_of [] are_texts differ few = omega (arith, sum_by-zero keys)
+  few_pairs_of (t ∷ texts) are_texts differ few =
+      omega (arith, few_meet_one t texts (are_texts 0 [] (omega arith)) (few 0 [] (omega arith)) (All-tail IsText t texts are_texts)
+      (λ k d h. differ 0 (suc k) d (omega arith) (omega arith)) (All-tail (λ u. word_count u ≤ most) t texts few),
+      few_pairs_of texts (All-tail IsText t texts are_texts) (λ i j d i_in j_in. differ (suc i) (suc j) d (omega arith) (omega arith))
+      (All-tail (λ u. word_count u ≤ most) t texts few),
+      sum_by-both (λ key. count_by (share_place bits key t) texts) (λ key. meetings (share_place bits key) texts) keys)
+
+  pub few_meetings_of : (texts : List (List ℕ)) → All IsText texts → AllPairs ◌≢◌ texts → All (λ t. word_count t ≤ most) texts
+      → sum_by (λ key. meetings (share_place bits key) texts) keys
+      ≤ length texts * (length texts - 1) / 2 * ((2 * (prime61 / 2 ^ bits) + 1) * (most + 1))
+  unfolding bound
+  few_meetings_of texts are_texts differ few = rw (← (pairs-is (length texts))) (few_pairs_of texts are_texts differ few)

@@ -1,0 +1,147 @@
+-- A text in parts: powers by squares, the state behind whole words, and two texts joined.
+use Rattle.std.proofs.Common.{ℕ, zero, suc, ◌≡◌, ◌≢◌, ◌+◌, ◌-◌, ◌*◌, ◌/◌, ◌%◌, ◌^◌, ◌<◌, List, [], ◌∷◌, ◌++◌, length, take, fold, refl, sym, ap, ap₂, ◌∙◌, inl, inr, arith, pow-suc, length-append, mod-lt, lit<}
+use Rattle.std.proofs.Math.Nat.{mod-mod, mod-add-mod, add-mul-mod_self_left, pow-zero}
+use Rattle.std.proofs.lemmas.Bool.{cases_lt}
+use Rattle.std.proofs.lemmas.List.Sums.{fold-append}
+use Rattle.std.proofs.lemmas.Nat.{mul-pow, pow-add, pow-mod}
+use Rattle.hashers.specs.Words.{le}
+use Rattle.hash_keyed.specs.Poly61.{prime61, words, words_from, poly_step, poly_hash, poly_state}
+use Rattle.hash_keyed.specs.Poly61State.{Position, byte_in, start_at, after, full_words, poly_end, as_word, joined_value, poly61}
+use Rattle.hash_keyed.specs.Poly61Laws.{part_at, behind, byte_behind, byte_fills, byte_in-full, byte_in-part, poly_end-from, poly_end-is}
+use Rattle.hash_keyed.proofs.ByWords.{after-few, same_product, same_sum}
+use Rattle.hash_keyed.proofs.Collisions.{value-lt}
+use Rattle.hash_keyed.proofs.Encoding.{length-words}
+
+-- ---- powers
+
+-- the square to a power
+square-pow : (p s t k : ℕ) → t % p ≡ (s * s) % p → t ^ k % p ≡ s ^ (k + k) % p
+square-pow p s t k same =
+    sym (pow-mod t k p) ∙ ap (λ z. z ^ k % p) same ∙ pow-mod (s * s) k p
+    ∙ ap (λ z. z % p) (mul-pow s s k ∙ sym (pow-add s k k))
+
+-- one digit of the exponent
+pub power_odd : (p r q s t l : ℕ) → l % 2 ≡ 1 → q % p ≡ (r * s) % p → t % p ≡ (s * s) % p → (q * t ^ (l / 2)) % p ≡ (r * s ^ l) % p
+power_odd p r q s t l odd product square =
+    let k = l / 2 in
+    let e : suc (k + k) ≡ l = omega arith in
+    same_product p q (r * s) (t ^ k) (s ^ (k + k)) product (square-pow p s t k square)
+    ∙ ap (λ z. z % p) (let m : r * s * s ^ (k + k) ≡ r * (s ^ (k + k) * s) = omega arith in m)
+    ∙ ap (λ z. (r * z) % p) (sym (pow-suc s (k + k)) ∙ ap (λ n. s ^ n) e)
+
+pub power_even : (p r s t l : ℕ) → l % 2 ≢ 1 → t % p ≡ (s * s) % p → (r * t ^ (l / 2)) % p ≡ (r * s ^ l) % p
+power_even p r s t l even square =
+    let k = l / 2 in
+    let e : k + k ≡ l = omega (arith, even) in
+    same_product p r r (t ^ k) (s ^ (k + k)) refl (square-pow p s t k square) ∙ ap (λ n. (r * s ^ n) % p) e
+
+-- ---- whole words
+
+-- behind whole words, all bytes are in the state
+whole_there : (r key state : ℕ) (kept text : List ℕ) → r + length kept ≡ 6 → (length kept + length text) % 7 ≡ 0
+    → after (behind key state kept) text
+    ≡ behind key (fold (poly_step prime61 key) state (take ((length kept + length text) / 7) (words_from r kept text))) []
+unfolding words_from
+whole_there r key state [] [] room whole = refl
+whole_there r key state (k ∷ kept) [] room whole = absurd (omega arith)
+whole_there zero key state kept (byte ∷ text) room whole =
+    let word = le (kept ++ byte ∷ []) in
+    let count : suc ((0 + length text) / 7) ≡ (length kept + suc (length text)) / 7 = omega arith in
+    ap (λ a. after a text) (byte_fills key state kept byte (omega arith))
+    ∙ whole_there 6 key (poly_step prime61 key state word) [] text (omega arith) (omega arith)
+    ∙ ap (λ n. behind key (fold (poly_step prime61 key) state (take n (word ∷ words_from 6 [] text))) []) count
+whole_there (suc r) key state kept (byte ∷ text) room whole =
+    let more = length-append kept (byte ∷ []) in
+    let count : (length (kept ++ byte ∷ []) + length text) / 7 ≡ (length kept + suc (length text)) / 7 = omega (arith, more) in
+    ap (λ a. after a text) (byte_behind key state kept byte (omega arith))
+    ∙ whole_there r key state (kept ++ byte ∷ []) text (omega (arith, more)) (omega (arith, more))
+    ∙ ap (λ n. behind key (fold (poly_step prime61 key) state (take n (words_from r (kept ++ byte ∷ []) text))) []) count
+
+pub after-whole : (key : ℕ) (text : List ℕ) → length text % 7 ≡ 0 → after (start_at key) text ≡ behind key (poly_state prime61 key text) []
+unfolding le
+after-whole key text whole =
+    whole_there 6 key 1 [] text (omega arith) (omega arith)
+    ∙ ap (λ n. behind key (fold (poly_step prime61 key) 1 (take n (words text))) []) (let e : (0 + length text) / 7 ≡ length text / 7 = omega arith in e)
+
+-- how many bytes are behind the full words
+after-count : (at : Position) (text : List ℕ) → at.count < 7 → (after at text).count ≡ (at.count + length text) % 7
+after-count at [] few = omega arith
+after-count at (byte ∷ text) few = elim (cases_lt at.count 6) [
+  | inl part ↦
+      let one = ap (λ (a : Position). a.count) (byte_in-part at byte part) in
+      omega (arith, one, after-count (byte_in at byte) text (omega (arith, one)))
+  | inr full ↦
+      let one = ap (λ (a : Position). a.count) (byte_in-full at byte full) in
+      omega (arith, one, after-count (byte_in at byte) text (omega (arith, one)))
+]
+
+module _ (key t : ℕ) (text last : List ℕ) (led : after (full_words key 1) text ≡ after (full_words key t) last) (few : length last < 7) where
+  pub rest-length : length text % 7 ≡ length last
+  rest-length =
+      omega (arith, after-count (full_words key 1) text (lit< tt),
+      ap (λ (a : Position). a.count) (led ∙ after-few key t last few))
+
+  pub state_is : length last ≡ 0 → t % prime61 ≡ poly_state prime61 key text
+  state_is none =
+      ap (λ (a : Position). a.state) (sym (led ∙ after-few key t last few) ∙ after-whole key text (omega (arith, rest-length, none)))
+
+-- ---- two texts joined
+
+-- the state after words from any start
+fold-from : (p key s : ℕ) (ws : List ℕ)
+    → fold (poly_step p key) s ws % p ≡ (s * key ^ length ws + fold (poly_step p key) 0 ws) % p
+fold-from p key s [] = ap (λ z. z % p) (let e : s ≡ s * 1 + 0 = omega arith in e ∙ ap (λ k. s * k + 0) (sym (pow-zero key)))
+fold-from p key s (w ∷ ws) =
+    let k = key ^ length ws in
+    let rest = fold (poly_step p key) 0 ws in
+    let high : (poly_step p key s w * k) % p ≡ ((s * key + w) * k) % p =
+    same_product p (poly_step p key s w) (s * key + w) k k (mod-mod (s * key + w) p) refl in
+    let low : (w * k + rest) % p ≡ fold (poly_step p key) 0 (w ∷ ws) % p =
+    same_sum p (w * k) (poly_step p key 0 w * k) rest rest (same_product p w (poly_step p key 0 w) k k (sym (mod-mod w p) ∙ ap (λ z. z % p % p) (let e : w ≡ 0 * key + w = omega arith in e)) refl) refl
+    ∙ sym (fold-from p key (poly_step p key 0 w) ws) in
+    fold-from p key (poly_step p key s w) ws
+    ∙ same_sum p (poly_step p key s w * k) ((s * key + w) * k) rest rest high refl
+    ∙ ap (λ z. z % p) (let e : (s * key + w) * k + rest ≡ s * (k * key) + (w * k + rest) = omega arith in e)
+    ∙ same_sum p (s * (k * key)) (s * (k * key)) (w * k + rest) (fold (poly_step p key) 0 (w ∷ ws)) refl low
+    ∙ ap (λ z. (s * z + fold (poly_step p key) 0 (w ∷ ws)) % p) (sym (pow-suc key (length ws)))
+
+-- the low 61 bits of a hash are its value
+value_in : (v : ℕ) → v < 2 ^ 61 → as_word v % 2 ^ 61 ≡ v
+value_in v small = omega arith
+
+-- what the second text has at the start 1, it has at the first one's state
+pub joined-value : (key : ℕ) (x y : List ℕ) → length x % 7 ≡ 0
+    → joined_value key (poly_state prime61 key x) (poly61 key y) (length y) ≡ poly_hash prime61 key (x ++ y)
+unfolding le
+joined-value key x y whole =
+    let p = prime61 in
+    let ws = words y in
+    let n = length ws in
+    let s = poly_state p key x in
+    let rest = fold (poly_step p key) 0 ws in
+    let k = key ^ n in
+    let count : length y / 7 + 2 ≡ suc n = omega (arith, length-words y) in
+    let power : key ^ (length y / 7 + 2) ≡ k * key = ap (λ e. key ^ e) count ∙ pow-suc key n in
+    let second : poly61 key y % 2 ^ 61 ≡ poly_hash p key y = value_in (poly_hash p key y) (value-lt key y) in
+    let at_one : poly_hash p key y % p ≡ ((1 * k + rest) * key) % p =
+    mod-mod (fold (poly_step p key) 1 ws * key) p ∙ same_product p (fold (poly_step p key) 1 ws) (1 * k + rest) key key (fold-from p key 1 ws) refl in
+    let ring : (s + (p - 1)) * (k * key) + (1 * k + rest) * key ≡ (s * k + rest) * key + p * (k * key) = omega arith in
+    ap₂ (λ a b. ((s + (p - 1)) * a + b) % p) power second
+    ∙ same_sum p ((s + (p - 1)) * (k * key)) ((s + (p - 1)) * (k * key)) (poly_hash p key y) ((1 * k + rest) * key) refl at_one
+    ∙ ap (λ z. z % p) ring ∙ add-mul-mod_self_left ((s * k + rest) * key) p (k * key)
+    ∙ sym (same_product p (fold (poly_step p key) s ws) (s * k + rest) key key (fold-from p key s ws) refl)
+    ∙ sym (poly_end-from key s y) ∙ ap (λ a. poly_end (after a y)) (sym (after-whole key x whole))
+    ∙ ap poly_end (sym (fold-append byte_in (start_at key) x y)) ∙ poly_end-is key (x ++ y)
+
+-- the code's sum, of reduced numbers
+pub joined_is : (key state1 before power value hash2 e r : ℕ) → before ≡ (state1 % prime61 + (prime61 - 1)) % prime61
+    → power % prime61 ≡ (key ^ e) % prime61 → value ≡ hash2 % 2 ^ 61 % prime61 → r ≡ (before * power + value) % prime61
+    → r ≡ ((state1 + (prime61 - 1)) * key ^ e + hash2 % 2 ^ 61) % prime61
+joined_is key state1 before power value hash2 e r before_is power_is value_is r_is =
+    let p = prime61 in
+    let first : before % p ≡ (state1 + (p - 1)) % p =
+    ap (λ z. z % p) before_is ∙ mod-mod (state1 % p + (p - 1)) p ∙ mod-add-mod state1 p (p - 1) in
+    let last : value % p ≡ hash2 % 2 ^ 61 % p = ap (λ z. z % p) value_is ∙ mod-mod (hash2 % 2 ^ 61) p in
+    r_is
+    ∙ same_sum p (before * power) ((state1 + (p - 1)) * key ^ e) value (hash2 % 2 ^ 61)
+    (same_product p before (state1 + (p - 1)) power (key ^ e) first power_is) last
