@@ -48,8 +48,12 @@ module _ (p b : ℕ) (one two : ℕ → Bool) (few_one : Few p one b) (few_two :
   few_of_first : (key : ℕ) (pairs : List Pair) → ArePairs p pairs → Pass pairs → All (λ pair. pair.0 ≡ key) pairs → length pairs ≤ b
   unfolding Few
   few_of_first key pairs are pass first =
-      omega (arith, few_two (map (λ (pair : Pair). pair.1) pairs) (seconds p key pairs are first)
-      (All-map (λ k. two k ≡ true) (λ (pair : Pair). pair.1) pairs (λ i d h. (pass i d h).1)), length-map pairs (λ (pair : Pair). pair.1))
+      omega (
+        arith,
+        few_two (map (λ (pair : Pair). pair.1) pairs) (seconds p key pairs are first)
+            (All-map (λ k. two k ≡ true) (λ (pair : Pair). pair.1) pairs (λ i d h. (pass i d h).1)),
+        length-map pairs (λ (pair : Pair). pair.1),
+      )
 
   -- pairs whose first keys are none of some that pass the test: for each of these there are b pairs less
   by_firsts : (n : ℕ) (firsts : List ℕ) (pairs : List Pair) → length pairs ≤ n → AreKeys p firsts → All (λ k. one k ≡ true) firsts
@@ -89,8 +93,12 @@ module _ (p b : ℕ) (one two : ℕ → Bool) (few_one : Few p one b) (few_two :
   pub few_pairs : (pairs : List Pair) → ArePairs p pairs → Pass pairs → length pairs ≤ b * b
   few_pairs pairs are pass =
       let none : b - 0 ≡ b = omega arith in
-      omega (arith, ap (λ z. z * b) none, by_firsts (length pairs) [] pairs (omega arith) (record { below = All-nil (λ k. k < p); differ = λ i j d less within. absurd (omega arith) })
-      (All-nil (λ k. one k ≡ true)) (All-nil (λ k. All (λ pair. k ≢ pair.0) pairs)) are pass)
+      omega (
+        arith,
+        ap (λ z. z * b) none,
+        by_firsts (length pairs) [] pairs (omega arith) (record { below = All-nil (λ k. k < p); differ = λ i j d less within. absurd (omega arith) })
+            (All-nil (λ k. one k ≡ true)) (All-nil (λ k. All (λ pair. k ≢ pair.0) pairs)) are pass,
+      )
 
 square : (b : ℕ) → b * b ≡ b ^ 2
 square b =
@@ -105,6 +113,12 @@ few_pairs_meet s t pairs s_is t_is differ are meet =
     let test = λ (key : ℕ). eqb (poly61 key s) (poly61 key t) in
     let few : Few prime61 test b = λ keys keys_are pass.
     few_keys_meet s t keys s_is t_is differ keys_are (λ i d h. eqb-true (poly61 (get_or keys i d) s) (poly61 (get_or keys i d) t) (pass i d h)) in
-    omega (arith, square b, few_pairs prime61 b test test few few pairs are
-    (λ i d h. (eq-eqb (poly61 ((get_or pairs i d).0) s) (poly61 ((get_or pairs i d).0) t) ((meet i d h).0),
-    eq-eqb (poly61 ((get_or pairs i d).1) s) (poly61 ((get_or pairs i d).1) t) ((meet i d h).1))))
+    omega (
+      arith,
+      square b,
+      few_pairs prime61 b test test few few pairs are
+          (λ i d h. (
+            eq-eqb (poly61 ((get_or pairs i d).0) s) (poly61 ((get_or pairs i d).0) t) ((meet i d h).0),
+            eq-eqb (poly61 ((get_or pairs i d).1) s) (poly61 ((get_or pairs i d).1) t) ((meet i d h).1),
+          )),
+    )

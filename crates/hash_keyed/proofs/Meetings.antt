@@ -48,24 +48,30 @@ module _ (bits most : ℕ) (within : bits ≤ 61) (keys : List ℕ) (are : AreKe
       → sum_by (λ key. count_by (share_place bits key s) texts) keys ≤ length texts * bound
   few_meet_one s [] s_is s_few are_texts differ few = omega (arith, sum_by-zero keys)
   few_meet_one s (t ∷ texts) s_is s_few are_texts differ few =
-      omega (arith, few_meet s t s_is (are_texts 0 [] (omega arith)) (differ 0 [] (omega arith)) s_few (few 0 [] (omega arith)),
-      few_meet_one s texts s_is s_few (All-tail IsText t texts are_texts) (All-tail (λ u. s ≢ u) t texts differ)
-      (All-tail (λ u. word_count u ≤ most) t texts few),
-      sum_by-same (λ key. count_by (share_place bits key s) (t ∷ texts))
-      (λ key. cond (share_place bits key s t) 1 0 + count_by (share_place bits key s) texts) keys
-      (λ key. sum_by-cons (λ u. cond (share_place bits key s u) 1 0) t texts),
-      sum_by-both (λ key. cond (share_place bits key s t) 1 0) (λ key. count_by (share_place bits key s) texts) keys)
+      omega (
+        arith,
+        few_meet s t s_is (are_texts 0 [] (omega arith)) (differ 0 [] (omega arith)) s_few (few 0 [] (omega arith)),
+        few_meet_one s texts s_is s_few (All-tail IsText t texts are_texts) (All-tail (λ u. s ≢ u) t texts differ)
+            (All-tail (λ u. word_count u ≤ most) t texts few),
+        sum_by-same (λ key. count_by (share_place bits key s) (t ∷ texts))
+            (λ key. cond (share_place bits key s t) 1 0 + count_by (share_place bits key s) texts) keys
+            (λ key. sum_by-cons (λ u. cond (share_place bits key s u) 1 0) t texts),
+        sum_by-both (λ key. cond (share_place bits key s t) 1 0) (λ key. count_by (share_place bits key s) texts) keys,
+      )
 
   few_pairs_of : (texts : List (List ℕ)) → All IsText texts → AllPairs ◌≢◌ texts → All (λ t. word_count t ≤ most) texts
       → sum_by (λ key. meetings (share_place bits key) texts) keys ≤ pairs (length texts) * bound
   unfolding meetings pairs
   few_pairs_of [] are_texts differ few = omega (arith, sum_by-zero keys)
   few_pairs_of (t ∷ texts) are_texts differ few =
-      omega (arith, few_meet_one t texts (are_texts 0 [] (omega arith)) (few 0 [] (omega arith)) (All-tail IsText t texts are_texts)
-      (λ k d h. differ 0 (suc k) d (omega arith) (omega arith)) (All-tail (λ u. word_count u ≤ most) t texts few),
-      few_pairs_of texts (All-tail IsText t texts are_texts) (λ i j d i_in j_in. differ (suc i) (suc j) d (omega arith) (omega arith))
-      (All-tail (λ u. word_count u ≤ most) t texts few),
-      sum_by-both (λ key. count_by (share_place bits key t) texts) (λ key. meetings (share_place bits key) texts) keys)
+      omega (
+        arith,
+        few_meet_one t texts (are_texts 0 [] (omega arith)) (few 0 [] (omega arith)) (All-tail IsText t texts are_texts)
+            (λ k d h. differ 0 (suc k) d (omega arith) (omega arith)) (All-tail (λ u. word_count u ≤ most) t texts few),
+        few_pairs_of texts (All-tail IsText t texts are_texts) (λ i j d i_in j_in. differ (suc i) (suc j) d (omega arith) (omega arith))
+            (All-tail (λ u. word_count u ≤ most) t texts few),
+        sum_by-both (λ key. count_by (share_place bits key t) texts) (λ key. meetings (share_place bits key) texts) keys,
+      )
 
   pub few_meetings_of : (texts : List (List ℕ)) → All IsText texts → AllPairs ◌≢◌ texts → All (λ t. word_count t ≤ most) texts
       → sum_by (λ key. meetings (share_place bits key) texts) keys

@@ -78,8 +78,11 @@ after-count at (byte ∷ text) few = elim (cases_lt at.count 6) [
 module _ (key t : ℕ) (text last : List ℕ) (led : after (full_words key 1) text ≡ after (full_words key t) last) (few : length last < 7) where
   pub rest-length : length text % 7 ≡ length last
   rest-length =
-      omega (arith, after-count (full_words key 1) text (lit< tt),
-      ap (λ (a : Position). a.count) (led ∙ after-few key t last few))
+      omega (
+        arith,
+        after-count (full_words key 1) text (lit< tt),
+        ap (λ (a : Position). a.count) (led ∙ after-few key t last few),
+      )
 
   pub state_is : length last ≡ 0 → t % prime61 ≡ poly_state prime61 key text
   state_is none =

@@ -7,6 +7,7 @@ mod byte_hashers;
 mod collision;
 mod fx;
 mod jenkins;
+mod keyed;
 mod laws;
 mod maps;
 mod original;

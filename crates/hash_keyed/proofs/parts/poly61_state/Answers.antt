@@ -10,10 +10,11 @@ returns-then-is_empty c =
     let cut = c.full_words-state.ensures in
     let state = c.full_words-state.result.0 in
     let rest = c.full_words-state.result.1.now in
-    let none : length rest ≡ 0 = eqb-true (length rest) 0 (sym c.is_empty.ensures ∙ c.if-is_empty.true) in
-    (omega (arith, rest-length c.remainder.result state c.args.text.now rest cut.there cut.few, none),
-    c.reduced.ensures ∙ state_is c.remainder.result state c.args.text.now rest cut.there cut.few none
-    ∙ ap (λ key. poly_state prime61 key c.args.text.now) c.remainder.ensures)
+    let none : length rest ≡ 0 = eqb-true (length rest) 0 (sym c.is_empty.ensures ∙ c.if-is_empty.true) in (
+      omega (arith, rest-length c.remainder.result state c.args.text.now rest cut.there cut.few, none),
+      c.reduced.ensures ∙ state_is c.remainder.result state c.args.text.now rest cut.there cut.few none
+          ∙ ap (λ key. poly_state prime61 key c.args.text.now) c.remainder.ensures,
+    )
 
 pub returns-else-is_empty : goal.returns-else-is_empty
 returns-else-is_empty c = λ whole.
