@@ -233,6 +233,41 @@ static void check_combine(void) {
     }
 }
 
+__extension__ typedef unsigned __int128 wide;
+
+// The polynomial hash by its definition, a word of seven bytes at a time, and the state behind the whole words.
+static uint64_t poly61_by_words(uint64_t key, const unsigned char *bytes, size_t n, uint64_t *state) {
+    const uint64_t prime = (UINT64_C(1) << 61) - 1;
+    *state = 1, key %= prime;
+    for (; n >= 7; bytes += 7, n -= 7) {
+        uint64_t word = 0;
+        for (int i = 7; i--;) word = word << 8 | bytes[i];
+        *state = (uint64_t)(((wide)*state * key + word) % prime);
+    }
+    uint64_t last = 1;
+    for (size_t i = n; i--;) last = last << 8 | bytes[i];
+    last = (uint64_t)(((wide)*state * key + last) % prime);
+    last = (uint64_t)((wide)last * key % prime);
+    return last + (last % 8 << 61);
+}
+
+static void check_keyed(void) {
+    const uint64_t prime = (UINT64_C(1) << 61) - 1, keys[] = {0, 1, 7, prime - 1, prime, UINT64_MAX, random_number(), random_number()};
+    for (const uint64_t *key = keys; key < keys + 8; key++) {
+        for (size_t n = 0; n < 300; n++) {
+            uint64_t state, all = poly61_by_words(*key, text, n, &state);
+            hashers_words pair = hashers_poly61_pair(*key, keys[6], text, n);
+            same("poly61", all, hashers_poly61(*key, text, n));
+            same_words("poly61_pair", (hashers_words){all, hashers_poly61(keys[6], text, n)}, pair);
+            same("poly61_state", n % 7 ? UINT64_MAX : state, hashers_poly61_state(*key, text, n));
+            size_t first = n * 3 % (n + 1) / 7 * 7;
+            same("poly61_combine", all, hashers_poly61_combine(*key, hashers_poly61_state(*key, text, first),
+                                                                hashers_poly61(*key, text + first, n - first), n - first));
+        }
+    }
+    same("poly61 of no bytes", hashers_poly61(7, text, 0), hashers_poly61(7, NULL, 0));
+}
+
 // A state at the very end of what can be read, so that a call that reaches past it ends the test; and one at the very beginning.
 static void check_states_of_any_bytes(void) {
     size_t page = 65536;
@@ -310,6 +345,7 @@ int main(void) {
     check_oaat_state();
     check_spooky();
     check_combine();
+    check_keyed();
     for (const struct kind *k = kinds; k < kinds + KINDS; k++) check_number(k);
     check_numbers();
     check_filter(hashers_fnv1a64, hashers_lookup3, hashers_bloom_fnv1a64_lookup3_insert, hashers_bloom_fnv1a64_lookup3_contains);

@@ -26,6 +26,7 @@ import unittest.mock
 import zlib
 from array import array
 from pathlib import Path
+from random import Random
 from typing import Any, Callable, Dict, List, Tuple, cast
 
 import hashers
@@ -63,6 +64,20 @@ def kind(parameter: str) -> str:
 KINDS: Dict[Any, str] = {ctypes.c_void_p: "pointer", ctypes.c_uint64: "64", ctypes.c_uint32: "32", ctypes.POINTER(_library.State): "state"}
 RESULTS: Dict[str, Any] = {"uint64_t": ctypes.c_uint64, "uint32_t": ctypes.c_uint32, "size_t": ctypes.c_size_t, "bool": ctypes.c_bool,
                            "hashers_words": _library.Words, "hashers_spooky_state": _library.State, "void": None}
+
+
+
+PRIME = (1 << 61) - 1
+
+
+def poly61_by_definition(text: bytes, key: int) -> Tuple[int, int]:
+    """The state behind the whole words of seven bytes, and the hash, by Python's whole numbers."""
+    whole = len(text) // 7 * 7
+    state = 1
+    for at in range(0, whole, 7):
+        state = (state * key + int.from_bytes(text[at:at + 7], "little")) % PRIME
+    value = (state * key + int.from_bytes(text[whole:] + b"\1", "little")) * key % PRIME
+    return state, value + (value % 8 << 61)
 
 
 class AgainstTheHeader(unittest.TestCase):
@@ -639,6 +654,33 @@ class Program(unittest.TestCase):
             running.send_signal(signal.SIGINT)
             self.assertEqual(running.wait(60), -signal.SIGINT)
             self.assertEqual((running.stdout.read(), running.stderr.read()), (b"", b""))
+
+
+class Keyed(unittest.TestCase):
+    """The polynomial hash at a key."""
+
+    def test_by_definition(self) -> None:
+        random = Random(61)
+        for turn in range(100_000):
+            key = random.choice((0, 1, PRIME - 1, PRIME, TOP, random.getrandbits(64)))
+            text = random.randbytes(random.randrange(80))
+            state, wanted = poly61_by_definition(text, key % PRIME)
+            self.assertEqual(hashers.poly61(text, key), wanted)
+            if len(text) % 7 == 0:
+                self.assertEqual(hashers.poly61_state(text, key), state)
+
+    def test_parts_and_pairs(self) -> None:
+        key = hashers.random_key()
+        self.assertEqual(hashers.poly61_pair(TEXT, key, 7), (hashers.poly61(TEXT, key), hashers.poly61(TEXT, 7)))
+        for cut in range(0, len(TEXT), 7):
+            state, end = hashers.poly61_state(TEXT[:cut], key), TEXT[cut:]
+            self.assertEqual(hashers.poly61_combine(key, state, hashers.poly61(end, key), len(end)), hashers.poly61(TEXT, key))
+        self.assertRaises(ValueError, hashers.poly61_state, b"a", key)
+        self.assertRaises(ValueError, hashers.poly61, b"a", -1)
+
+    def test_keys(self) -> None:
+        keys = {hashers.random_key() for _ in range(100)}
+        self.assertTrue(len(keys) > 90 and all(0 <= key < PRIME for key in keys))
 
 
 if __name__ == "__main__":

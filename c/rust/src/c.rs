@@ -56,6 +56,10 @@ extern "C" {
     pub fn hashers_column64(kind: u32, bytes: *const u8, n: usize, offsets: *const u64, offsets_count: usize, hashes: *mut u64, hashes_count: usize) -> bool;
     pub fn hashers_lines(kind: u32, bytes: *const u8, n: usize, hashes: *mut u64, hashes_count: usize) -> usize;
     pub fn hashers_bloom_union(words: *mut u64, words_count: usize, others: *const u64, others_count: usize) -> bool;
+    pub fn hashers_poly61(key: u64, text: *const u8, n: usize) -> u64;
+    pub fn hashers_poly61_pair(key1: u64, key2: u64, text: *const u8, n: usize) -> Words;
+    pub fn hashers_poly61_state(key: u64, text: *const u8, n: usize) -> u64;
+    pub fn hashers_poly61_combine(key: u64, state1: u64, hash2: u64, n2: u64) -> u64;
     pub fn hashers_bloom_fnv1a64_lookup3_insert(words: *mut u64, words_count: usize, bits: u64, probes: u32, key: *const u8, n: usize) -> bool;
     pub fn hashers_bloom_fnv1a64_lookup3_contains(words: *const u64, words_count: usize, bits: u64, probes: u32, key: *const u8, n: usize) -> bool;
     pub fn hashers_bloom_spooky_lookup3_insert(words: *mut u64, words_count: usize, bits: u64, probes: u32, key: *const u8, n: usize) -> bool;

@@ -1,0 +1,45 @@
+//! The polynomial hash at a key of the caller's: of a whole text, at two keys, and of two texts joined. A key is any number, of which the
+//! remainder modulo 2^61 - 1 counts.
+ghost use Rattle.std.specs.Prelude.{◌≡◌, ◌≢◌, ◌%◌, ℕ, List, ◌++◌, length};
+ghost use Rattle.hash_keyed.specs.Poly61.{poly_state, prime61};
+ghost use Rattle.hash_keyed.specs.Poly61State.{as_word, joined_value, poly61};
+
+use crate::spooky::{Words, two_words};
+use hash_keyed::{pair, parts, poly61};
+
+/// The polynomial hash of the text at a key.
+#[unsafe(no_mangle)]
+pub extern "C" fn hashers_poly61(key: u64, text: &[u8]) -> u64
+    ensures { result ≡ poly61 (key % prime61) text.now }
+{
+    poly61::poly61(key, text)
+}
+
+/// The same at two keys.
+#[unsafe(no_mangle)]
+pub extern "C" fn hashers_poly61_pair(key1: u64, key2: u64, text: &[u8]) -> Words
+    ensures first { result.first ≡ poly61 (key1 % prime61) text.now }
+    ensures second { result.second ≡ poly61 (key2 % prime61) text.now }
+{
+    two_words(pair::poly61_pair(key1, key2, text))
+}
+
+/// The state behind a text of a multiple of seven bytes, a number below 2^61 - 1; 2^64 - 1 for a text of another length.
+#[unsafe(no_mangle)]
+pub extern "C" fn hashers_poly61_state(key: u64, text: &[u8]) -> u64
+    ensures state { length text.now % 7 ≡ 0 → result ≡ poly_state prime61 (key % prime61) text.now }
+    ensures none { length text.now % 7 ≢ 0 → result ≡ u64.MAX }
+{
+    parts::poly61_state(key, text).unwrap_or(u64::MAX)
+}
+
+/// The hash of two texts joined, from the state behind the first, and the hash and the length in bytes of the second.
+#[unsafe(no_mangle)]
+pub extern "C" fn hashers_poly61_combine(key: u64, state1: u64, hash2: u64, n2: u64) -> u64
+    ensures value { result ≡ as_word (joined_value (key % prime61) state1 hash2 n2) }
+    ensures joined { (x y : List ℕ) → length x % 7 ≡ 0 → length y ≡ n2
+        → state1 ≡ poly_state prime61 (key % prime61) x → hash2 ≡ poly61 (key % prime61) y
+        → result ≡ poly61 (key % prime61) (x ++ y) }
+{
+    parts::poly61_combine(key, state1, hash2, n2)
+}
