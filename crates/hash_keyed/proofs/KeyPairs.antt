@@ -1,5 +1,5 @@
 -- Under few pairs of keys two different texts have one pair of hashes.
-use Rattle.std.proofs.Common.{ℕ, zero, suc, ◌≡◌, ◌≢◌, ◌+◌, ◌-◌, ◌*◌, ◌^◌, ◌<◌, ◌≤◌, max, Bool, true, not, cond, eqb, List, [], ◌∷◌, length, get_or, map, filter, All, AllPairs, refl, sym, ap, ap₂, ◌∙◌, arith, pow-suc}
+use Rattle.std.proofs.Common.{ℕ, zero, suc, ◌≡◌, ◌≢◌, ◌+◌, ◌-◌, ◌*◌, ◌^◌, ◌<◌, ◌≤◌, max, Bool, true, not, cond, eqb, List, [], ◌∷◌, length, get_or, map, filter, All, refl, sym, ap, ap₂, ◌∙◌, arith, pow-suc}
 use Rattle.std.proofs.Math.Nat.{pow-zero}
 use Rattle.std.proofs.lemmas.Bool.{eq-eqb, eqb-true, eqb-false, not-true}
 use Rattle.std.proofs.lemmas.List.{length-map, get_or-map}
