@@ -1,0 +1,124 @@
+"""What is added: the crate's name in paths, `#[inline]`, clauses as documentation, and the prelude."""
+import re
+import textwrap
+
+from .tables import ALLOW, CRATES, DOC_WORDS, MARK, NOTES
+
+# A function of at most so many tokens in its body is small.
+SMALL = 200
+
+
+def paths(s):
+    """The crate's name behind a path's `crate`."""
+    for k in range(len(s.toks)):
+        if k not in s.gone and s.is_(k, "crate") and s.is_(k + 1, ":") and s.is_(k + 2, ":"):
+            s.behind[k] = "::" + s.crate
+
+
+def heads(s):
+    """Each function that stays: its `fn`, the first token of its item with its attributes, and its `{` or `;`."""
+    for k in range(len(s.toks)):
+        if k in s.gone or not (s.is_(k, "fn") and s.is_id(k + 1)):
+            continue
+        first = k
+        while s.is_(first - 1, "pub", "const", ")", "crate", "(", "super") and not s.is_(first - 1, ")", "(") or s.is_(first - 1, ")") \
+                and s.is_(s.match[first - 1] - 1, "pub"):
+            first = s.match[first - 1] if s.is_(first - 1, ")") else first - 1
+        yield k, s.attributed(first), first, s.body_of(k)
+
+
+def indent_of(s, k):
+    line = s.text[:s.toks[k].start].rsplit("\n", 1)[-1]
+    if line.strip():
+        s.stop(k, "a function that does not begin its line")
+    return line
+
+
+def functions(s):
+    """`#[inline]` before small functions that have no hint, and the clauses of each function behind its documentation."""
+    for k, head, first, body in heads(s):
+        indent = indent_of(s, head)
+        hinted = any(s.is_(i, "inline", "cold") for i in range(head, first))
+        if s.is_(body, "{") and not hinted and s.match[body] - body - 1 <= SMALL:
+            add(s, first, "#[inline]\n" + indent)
+        lines = clauses(s, k, body)
+        if lines:
+            if documented(s, head):
+                lines.insert(0, "///")
+            add(s, head, "".join(line + "\n" + indent for line in lines), front=True)
+
+
+def add(s, k, text, front=False):
+    s.before[k] = text + s.before.get(k, "") if front else s.before.get(k, "") + text
+
+
+def documented(s, k):
+    before = [t for t in s.all if t.end <= s.toks[k].start]
+    return bool(before) and before[-1].kind == "doc"
+
+
+def clauses(s, k, body):
+    """The lines of documentation that say what the clauses of a function say."""
+    lines = []
+    for what, title in (("requires", "The caller has to see to it that:"), ("ensures", "Proved:")):
+        texts = [clause(s.toks[i].text, what) for i in range(k, body) if s.is_ghost(i, what)]
+        if texts:
+            lines += ["///"] * bool(lines) + ["/// " + title, "///", "/// ```text"]
+            lines += [("/// " + line).rstrip() for text in texts for line in text] + ["/// ```"]
+    return lines
+
+
+def clause(text, what):
+    """The lines of a clause: its name, if it has one, and its text."""
+    name, inner = re.fullmatch(what + r"\s*(\w*)\s*\{(.*)\}", text, re.S).groups()
+    first, *rest = inner.strip().split("\n")
+    rest = textwrap.indent(textwrap.dedent("\n".join(rest)), "    ").split("\n") if rest else []
+    return [(name + ": " if name else "") + first] + [line.rstrip() for line in rest]
+
+
+def doc_edits(s):
+    """In documentation: links name the crate, and calls are Rust's. Pairs of a place, its end and the new text."""
+    for i, t in enumerate(s.all):
+        if t.kind not in ("doc", "idoc") or i in s.docs_gone:
+            continue
+        for found in re.finditer(r"\]\(crate(?=::)", t.text):
+            yield t.start + found.end(), t.start + found.end(), "::" + s.crate
+        for old, new in DOC_WORDS:
+            for found in re.finditer(re.escape(old), t.text):
+                yield t.start + found.start(), t.start + found.end(), new
+
+
+def reexports(s):
+    """Whether the file exports a whole crate, as `pub use hash_fx as fx_hash;`: then its prelude is public."""
+    return any(s.is_(k, "pub") and s.is_(k + 1, "use") and s.is_(k + 2, *CRATES) and s.is_(k + 3, ";", "as") for k in range(len(s.toks)))
+
+
+def crates_named(s):
+    """The crates, and std, that the file names at the head of a path."""
+    found = set()
+    for k in range(len(s.toks)):
+        if k in s.gone or not s.is_(k, "std", *CRATES) or s.is_(k - 1, ":"):
+            continue
+        if (s.is_(k + 1, ":") and s.is_(k + 2, ":")) or s.is_(k - 1, "use"):
+            found.add(s.toks[k].text)
+    return sorted(found)
+
+
+def prelude(s, text):
+    """The text with the prelude behind its inner documentation."""
+    lines = text.split("\n")
+    at = next(n for n, line in enumerate(lines) if not line.startswith("//!"))
+    docs, body = lines[:at], "\n".join(lines[at:]).lstrip("\n")
+    if s.module in NOTES:
+        docs += ["//!"] + ["//! " + line for line in NOTES[s.module].split("\n")]
+    head = ["", MARK % s.path]
+    if s.module in ALLOW:
+        head += ["// %s." % ALLOW[s.module][1], "#![allow(%s)]" % ALLOW[s.module][0]]
+    names = crates_named(s)
+    if names:
+        if reexports(s):
+            head.append("#[doc(hidden)]")
+        elif any("cfg(" in it for it in s.before.values()):
+            head.append("#[allow(unused_imports)]")
+        head.append("%suse crate::%s;" % ("pub " if reexports(s) else "", "{%s}" % ", ".join(names) if len(names) > 1 else names[0]))
+    return "\n".join(docs + head + ["", body])

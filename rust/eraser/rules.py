@@ -1,0 +1,199 @@
+"""The rules of what goes. Each takes a Source, and stops at a form that it does not know."""
+import re
+
+from .tables import ATTRIBUTES, DERIVES, KEYWORDS, LEFT_OUT, UNKNOWN
+
+WHY = {"use": "ghost use", "member": "ghost member", "field": "ghost field", "value": "ghost value", "requires": "requires",
+       "ensures": "ensures"}
+
+
+def ghost_text(s):
+    """Ghost items and clauses."""
+    for k, t in enumerate(s.toks):
+        if t.kind != "ghost":
+            continue
+        first = k
+        if t.what == "field" and s.is_(k - 1, "pub"):
+            first = k - 1
+        elif t.what in ("member", "use"):
+            if not (k == 0 or s.is_(k - 1, ";", "{", "}", "]") or s.toks[k - 1].kind == "ghost"):
+                s.stop(k, "a ghost item in an unknown place")
+        elif t.what in ("requires", "ensures"):
+            clause(s, k)
+        elif t.what == "value" and not s.is_(k + 1, "{", ";"):
+            s.stop(k, "a ghost value with something unknown behind it")
+        s.erase(first, k, WHY[t.what], docs=True)
+
+
+def clause(s, k):
+    """A clause ends a function's head: other clauses, or the body or a semicolon, are behind it, and `fn` before it."""
+    if not (s.is_(k + 1, "{", ";") or s.is_ghost(k + 1, "requires", "ensures")):
+        s.stop(k, "a clause with something unknown behind it")
+    i = k - 1
+    while i >= 0 and not s.is_(i, "fn"):
+        if s.is_(i, ")", "]"):
+            i = s.match[i]
+        elif s.is_(i, "{", "}", ";", "=") or s.toks[i].kind == "ghost" and not s.is_ghost(i, "requires", "ensures"):
+            s.stop(k, "a clause that ends no function's head")
+        i -= 1
+    if i < 0:
+        s.stop(k, "a clause that ends no function's head")
+
+
+def attributes(s):
+    """`#[tactic]` and `#[cycle]` go, and Drop out of a derive."""
+    for k in range(len(s.toks)):
+        if not s.is_(k, "#"):
+            continue
+        o = k + 1 + s.is_(k + 1, "!")
+        if not s.is_(o, "["):
+            s.stop(k, "a # that is no attribute")
+        name = s.toks[o + 1].text
+        if name in ("tactic", "cycle"):
+            s.erase(k, s.match[o], "#[%s]" % name)
+        elif name == "derive":
+            derive(s, k, o)
+        elif name == "cfg":
+            test_module(s, k)
+        elif name not in ATTRIBUTES:
+            s.stop(k, "an unknown attribute")
+
+
+def derive(s, k, o):
+    names = [x for x in range(o + 3, s.match[o] - 1) if s.is_id(x)]
+    texts = [s.toks[x].text for x in names]
+    if not set(texts) <= DERIVES:
+        s.stop(k, "an unknown derive")
+    if "Clone" in texts and "Copy" not in texts:
+        s.stop(k, "Clone without Copy, which returns a Result in Rattle")
+    if texts == ["Drop"]:
+        s.erase(k, s.match[o], "derive(Drop)")
+    elif "Drop" in texts:
+        x = names[texts.index("Drop")]
+        if s.is_(x - 1, ","):
+            s.erase(x - 1, x, "derive(Drop)")
+        elif s.is_(x + 1, ","):
+            s.erase(x, x + 1, "derive(Drop)")
+        else:
+            s.stop(x, "a derive of an unknown form")
+
+
+def test_module(s, k):
+    """`#[cfg(test)] mod x;` goes: tests take handles."""
+    if s.texts(k, k + 7) != ["#", "[", "cfg", "(", "test", ")", "]", "mod"] or not s.is_(k + 9, ";", "{"):
+        s.stop(k, "an unknown cfg")
+    s.erase(k, s.match.get(k + 9, k + 9), "tests", docs=True)
+
+
+def impls(s):
+    """`impl Model`, which is ghost, goes, and an `impl Drop` that says only that a value may be dropped."""
+    for k in range(len(s.toks)):
+        if not s.is_(k, "impl") or k in s.gone or s.is_(k - 1, "&", "(", ",", ":", ">"):
+            continue
+        body = s.body_of(k)
+        if not s.is_(body, "{"):
+            s.stop(k, "an impl of an unknown form")
+        angle, of = 0, None
+        for i in range(k + 1, body):
+            angle += s.is_(i, "<") - (s.is_(i, ">") and not s.is_(i - 1, "-"))
+            if s.is_(i, "for") and angle == 0:
+                of = i - 1
+        if of is None:
+            continue
+        inside = range(body + 1, s.match[body])
+        if s.is_(of, "Model"):
+            for i in inside:
+                if s.toks[i].kind != "ghost":
+                    s.stop(i, "an impl Model with code")
+            s.erase(k, s.match[body], "impl Model", docs=True)
+        elif s.is_(of, "Drop"):
+            plain_drop(s, body, [s.toks[i].text for i in inside if s.toks[i].kind != "ghost"])
+            s.erase(k, s.match[body], "impl Drop", docs=True)
+        elif s.is_(of, "Clone", "Iterator", "Deref", "DerefMut", "Owns"):
+            s.stop(of, "an impl of a trait that differs in Rattle")
+
+
+def plain_drop(s, body, words):
+    """The block is `fn drop(self) { let Self { x: _, .. } = self; }`: nothing happens."""
+    field = r"\w+ : _"
+    fields = r"(?: \{ %s(?: , %s)*(?: ,)? \}| \( _(?: , _)* \))?" % (field, field)
+    if not re.fullmatch(r"fn drop \( self \) \{ let Self%s = self ; \}" % fields, " ".join(words)):
+        s.stop(body, "a drop that does something")
+
+
+def functions(s):
+    """Finds the laws, functions with clauses and nothing else, and what is left out, at the top of the module."""
+    depth = 0
+    for k in range(len(s.toks)):
+        depth += s.is_(k, "{") - s.is_(k, "}")
+        if depth or not s.is_id(k + 1) or not s.is_(k, "fn", "struct", "enum", "const", "static", "trait", "type", "mod"):
+            continue
+        name = s.toks[k + 1].text
+        if s.is_(k, "fn") and (name in LEFT_OUT or is_law(s, k)):
+            s.laws.add(name)
+            first = k
+            while s.is_(first - 1, "pub"):
+                first -= 1
+            s.erase(first, s.match[s.body_of(k)], "left out" if name in LEFT_OUT else "law", docs=True)
+        else:
+            s.items.add(name)
+
+
+def is_law(s, k):
+    """No parameter, no result, no body: only `ensures`."""
+    i = s.past_generics(k + 2)
+    if not (s.is_(i, "(") and s.is_(i + 1, ")")):
+        return False
+    i += 2
+    first = i
+    while s.is_ghost(i, "ensures"):
+        i += 1
+    return i > first and s.is_(i, "{") and s.is_(i + 1, "}")
+
+
+def bounds(s):
+    """`Drop` as a bound says in Rattle that a value may be dropped."""
+    for k in range(len(s.toks)):
+        if k in s.gone or not s.is_(k, "Drop"):
+            continue
+        if s.is_(k - 1, "+"):
+            s.erase(k - 1, k, "bound Drop")
+        elif s.is_(k + 1, "+"):
+            s.erase(k, k + 1, "bound Drop")
+        elif s.is_(k - 1, ":") and not s.is_(k - 2, ":") and s.is_(k + 1, ",", ">", ";", "{"):
+            s.erase(k - 1, k, "bound Drop")
+        else:
+            s.stop(k, "a Drop of an unknown form")
+
+
+def formatters(s):
+    """`fn fmt<W: fmt::Write>(&self, f: &mut Formatter<W>)`: Rust's Formatter has no parameter."""
+    head = ["fn", "fmt", "<", "W", ":", "fmt", ":", ":", "Write", ">", "(", "&", "self", ",", "f", ":", "&", "mut"]
+    for k in range(len(s.toks)):
+        if s.texts(k, k + 2) != head[:3]:
+            continue
+        i = k + 18 + 3 * (s.texts(k + 18, k + 20) == ["fmt", ":", ":"])
+        if s.texts(k, k + 17) != head or s.texts(i, i + 3) != ["Formatter", "<", "W", ">"]:
+            s.stop(k, "a fmt of an unknown form")
+        s.erase(k + 2, k + 9, "Formatter's parameter")
+        s.erase(i + 1, i + 3, "Formatter's parameter")
+
+
+def unknown(s):
+    """Stops at what no rule took."""
+    for k, t in enumerate(s.toks):
+        if k in s.gone:
+            continue
+        if t.kind == "ghost":
+            s.stop(k, "ghost text that no rule took")
+        if t.kind == "id" and t.text in UNKNOWN:
+            s.stop(k, "no rule for %s" % UNKNOWN[t.text])
+        if s.is_(k, "!") and s.is_(k + 1, "(", "[") and s.is_id(k + 2) and (s.is_(k + 3, ";") or s.is_(k + 2, "in")):
+            s.stop(k, "a macro that takes a handle")
+        if s.is_(k, "fn") and s.is_id(k + 1):
+            body = s.body_of(k)
+            if s.is_(body, "{") and s.is_(s.match[body] + 1, "{"):
+                s.stop(body, "a head with something unknown")
+        if s.is_id(k + 1) and s.toks[k + 1].text not in KEYWORDS and k + 1 not in s.gone:
+            if t.kind == "id" and t.text not in KEYWORDS or s.is_(k, ")") and not s.is_(s.match[k] - 1, "pub"):
+                s.stop(k + 1, "a word that the eraser does not know")

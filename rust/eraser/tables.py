@@ -1,0 +1,65 @@
+"""What the eraser knows by name: the crates, what std alone has, what is left out and why, and the words at which it stops."""
+
+# The crates in the order in which they stand on one another. Each becomes a module of one Rust crate.
+CRATES = ["hash_rounds", "hash_laws", "hash_rules", "hash_fx", "hash_jenkins", "hash_bytes", "hashers", "hash_more"]
+
+# Names that are std's alone, or of what stands on it: an import, alias or module of such a name is there with the feature std.
+STD_NAMES = {"HashMap", "HashSet", "FxHashMap", "FxHashSet", "engine"}
+
+# Files with an item or an import that only clauses read: the lint that is silent there, and why.
+ALLOW = {
+    "hash_bytes/fnv": ("dead_code", "The law origin_of_constants alone reads SIGNATURE, the text of which the starts are the hash"),
+    "hash_bytes/oz": ("unused_imports", "Clauses name Hasher"),
+    "hash_rounds/turns": ("dead_code", "The counter of calls is ghost: nothing of it is kept at run time, and clauses alone read it"),
+    "hash_fx/fx": ("unused_imports", "Clauses name FxWord"),
+    "hash_jenkins/spooky_short": ("unused_variables", "The clauses of short_words_v1 name len"),
+    "hash_laws/build": ("unused_imports", "The clauses of hash_one name Hasher"),
+    "hash_more/crc32": ("unused_imports", "Clauses name Hasher"),
+}
+
+# Functions whose contracts would be false in Rust, and why. They go, and so do their names in imports.
+LEFT_OUT = {
+    "hash_one_slice_in_writes": "std of Rattle writes each byte of a slice by itself, and std of Rust all at once",
+    "hash_one_slice_fx": "std of Rattle writes each byte of a slice by itself, and std of Rust all at once",
+}
+
+# Paragraphs that a module's documentation has more in Rust.
+NOTES = {
+    "hash_laws/build": """\
+That is Rattle's std, where each item is a write of its own. Rust's std feeds the same bytes, but those of a slice of bytes at once.
+Where cuts don't show, both hashes are one, and [`hash_one_slice`] holds. Where they show, under fx and lookup3, they differ, so
+`hash_one_slice_in_writes` and `hash_one_slice_fx` of the Rattle text are left out here. The proofs also take numbers to be fed as
+little-endian bytes, and `usize` to have 64 bits.""",
+}
+
+# In documentation alone: what a Rattle call has and a Rust call has not.
+DOC_WORDS = [("with_hasher(alloc, ", "with_hasher(")]
+
+# Types of Rattle's std that are ghost: their imports go.
+GHOST_IMPORTS = {("std", "marker", "Model")}
+
+# Identifiers that Rattle gives another meaning, or that Rust does not have.
+UNKNOWN = {
+    "HostRuntime": "a handle", "rt": "a handle", "final": "a final fn", "forever": "a loop that may not end",
+    "derive_where": "a derive of Rattle", "derived": "a derive of Rattle", "clone": "a clone, which returns a Result in Rattle",
+    "Global": "an allocator", "AllocError": "an allocator's error", "alloc": "an allocator", "unsafe": "unsafe code",
+    "try_clone": "std of Rattle alone", "expect": "a stop by a handle", "Abort": "a handle", "Wait": "a handle", "Threads": "a handle",
+    "also_owns": "a model of an owner", "dyn": "a trait object, whose drop Rattle writes out", "f32": "a float", "f64": "a float",
+    "as_ref": "std of Rust alone", "size_of_val": "a layout", "transmute": "a layout", "extern": "an extern", "asm": "assembly",
+    "macro_rules": "a macro's definition",
+}
+
+# Attributes that stay, and derives that mean the same.
+ATTRIBUTES = {"inline", "cold", "test", "repr", "allow", "must_use", "non_exhaustive", "derive", "cfg"}
+DERIVES = {"Drop", "Clone", "Copy", "Default", "Debug", "PartialEq", "Eq", "Hash", "PartialOrd", "Ord"}
+
+# Rust's keywords: of two words side by side one is a keyword, or the eraser does not know them.
+KEYWORDS = set("""as async await break const continue crate else enum extern false fn for if impl in let loop match mod move mut pub ref
+    return self Self static struct super trait true type unsafe use where while""".split())
+
+MARK = "// What follows is the proved text of %s without its contracts."
+SPLIT_OFF = "// Of the import above what wants std:"
+
+
+class Trouble(Exception):
+    """The eraser stops, and says where and why."""

@@ -1,0 +1,126 @@
+//! What Rust's users expect of the types and Rattle's text does not say: copies, comparison, `Debug`, `unwrite` as a method, both words of
+//! SpookyHash in one call. It is written by hand, and trusted; each function calls proved functions alone. Equality goes by what `finish`
+//! answers: different states answer differently by the law `answer_injective` of `Undo`, or the answer is the whole state.
+use crate::hash_bytes::null::{NullHasher, PassThroughRule};
+use crate::hash_bytes::oz::{LoseLoseState, SdbmState};
+use crate::hash_jenkins::spooky_hash::SpookyHasher;
+use crate::hash_jenkins::spooky_parts::SpookyParts;
+use crate::hash_jenkins::{BuildSpooky, Lookup3Hasher};
+use crate::hash_laws::build::BuildFresh;
+use crate::hash_laws::traits::Undo;
+use crate::hash_more::elf::ElfHasher;
+use crate::hash_rounds::Turns;
+use crate::hash_rules::{ByteHasher, ByteRule, UndoRule, WordHasher, WordRule};
+use core::fmt;
+use core::hash::Hasher;
+
+/// `Clone` as `Copy` has it.
+macro_rules! copies {
+    ($([$($bound:tt)*] $type:ty $(, $condition:ty)?;)*) => {$(
+        impl<$($bound)*> Clone for $type $(where $condition: Copy)? {
+            #[inline(always)]
+            fn clone(&self) -> Self {
+                *self
+            }
+        }
+
+        impl<$($bound)*> Copy for $type $(where $condition: Copy)? {}
+    )*};
+}
+
+copies! {
+    [] Turns;
+    [] SdbmState;
+    [] LoseLoseState;
+    [R: ByteRule] ByteHasher<R>, R::State;
+    [R: WordRule, Name] WordHasher<R, Name>;
+    [] Lookup3Hasher;
+    [] NullHasher;
+    [] SpookyHasher;
+}
+
+/// Equality and `Debug` by what `finish` answers.
+macro_rules! by_answer {
+    ($([$($bound:tt)*] $type:ty, $name:literal;)*) => {$(
+        impl<$($bound)*> PartialEq for $type {
+            #[inline]
+            fn eq(&self, other: &Self) -> bool {
+                self.finish() == other.finish()
+            }
+        }
+
+        impl<$($bound)*> Eq for $type {}
+
+        impl<$($bound)*> fmt::Debug for $type {
+            fn fmt(&self, f: &mut fmt::Formatter) -> fmt::Result {
+                f.debug_tuple($name).field(&self.finish()).finish()
+            }
+        }
+    )*};
+}
+
+by_answer! {
+    [R: UndoRule] ByteHasher<R>, "ByteHasher";
+    [R: WordRule, Name] WordHasher<R, Name>, "WordHasher";
+    [] ByteHasher<PassThroughRule>, "PassThroughHasher";
+    [] Lookup3Hasher, "Lookup3Hasher";
+    [] NullHasher, "NullHasher";
+    [] ElfHasher, "ElfHasher";
+}
+
+impl fmt::Debug for SpookyHasher {
+    fn fmt(&self, f: &mut fmt::Formatter) -> fmt::Result {
+        f.debug_tuple("SpookyHasher").field(&self.finish128()).finish()
+    }
+}
+
+impl<R: UndoRule> ByteHasher<R> {
+    /// Takes the last bytes out again: [`Undo::unwrite`], with no import.
+    #[inline]
+    pub fn unwrite(&mut self, bytes: &[u8]) {
+        Undo::unwrite(self, bytes);
+    }
+}
+
+impl<R: WordRule, Name> WordHasher<R, Name> {
+    /// Takes the last bytes out again: [`Undo::unwrite`], with no import.
+    #[inline]
+    pub fn unwrite(&mut self, bytes: &[u8]) {
+        Undo::unwrite(self, bytes);
+    }
+}
+
+/// SpookyHash of the bytes under two seeds, as two words.
+#[inline]
+pub fn spooky128(bytes: &[u8], seed1: u64, seed2: u64) -> (u64, u64) {
+    let mut parts = SpookyParts::new(seed1, seed2);
+    parts.write(bytes);
+    parts.finish128()
+}
+
+/// The same by version 1, the form of the crate hashers 1.0.1.
+#[inline]
+pub fn spooky128_v1(bytes: &[u8], seed1: u64, seed2: u64) -> (u64, u64) {
+    let mut parts = SpookyParts::new(seed1, seed2);
+    parts.write(bytes);
+    parts.finish128_v1()
+}
+
+impl<H> fmt::Debug for BuildFresh<H> {
+    fn fmt(&self, f: &mut fmt::Formatter) -> fmt::Result {
+        f.write_str("BuildFresh")
+    }
+}
+
+impl fmt::Debug for BuildSpooky {
+    fn fmt(&self, f: &mut fmt::Formatter) -> fmt::Result {
+        f.write_str("BuildSpooky")
+    }
+}
+
+#[cfg(feature = "std")]
+impl fmt::Debug for crate::engine::Taken {
+    fn fmt(&self, f: &mut fmt::Formatter) -> fmt::Result {
+        f.debug_struct("Taken").field("bytes", &self.bytes).field("ended", &self.ended).finish()
+    }
+}

@@ -1,0 +1,23 @@
+//! The fx hash of the hash tables of Firefox and rustc, in three types: a piece is split into words, and each word takes
+//! the state one step. The split and the key of 32 bits are this project's own choice.
+
+// What follows is the proved text of crates/hash_fx/src/lib.rt without its contracts.
+
+mod differing;
+mod fx;
+mod maps;
+pub mod pieces;
+mod word;
+mod words;
+
+pub use fx::{
+    Fx32Rule, Fx64Rule, FxHasher, FxHasher32, FxHasher64, FxRule, MachineWord, fxhash, fxhash32,
+    fxhash64,
+};
+pub use maps::{
+    FxBuildHasher, hash_one_number_fx, hash_one_pair_fx,
+};
+// Of the import above what wants std:
+#[cfg(feature = "std")]
+pub use maps::{FxHashMap, FxHashSet};
+pub use word::{FxSplit, FxWord};

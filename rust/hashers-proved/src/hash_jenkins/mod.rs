@@ -1,0 +1,17 @@
+//! Bob Jenkins' hash functions: one-at-a-time, lookup3 and SpookyHash. None of them is cryptographic.
+
+// What follows is the proved text of crates/hash_jenkins/src/lib.rt without its contracts.
+
+mod build_spooky;
+mod lookup;
+mod one_at_a_time;
+mod put;
+pub mod spooky_hash;
+mod spooky_long;
+pub mod spooky_parts;
+mod spooky_short;
+pub mod two_texts;
+
+pub use build_spooky::BuildSpooky;
+pub use lookup::{Lookup3Hasher, lookup3};
+pub use one_at_a_time::{OAATHasher, OaatRule, oaat};

@@ -1,0 +1,205 @@
+//! SpookyHash, by Bob Jenkins (his SpookyV2.cpp): a hash of 128 bits of all the bytes that were written, under two seeds
+//! of 64 bits. How the bytes were cut into pieces doesn't show.
+//!
+//! A text below 192 bytes is hashed on four words by chunks of 32 bytes, and its length is mixed in. From 192 bytes on
+//! twelve words take blocks of 96 bytes, and the tail of 0 to 95 bytes ends in its own length. Version 1 is an older form,
+//! kept for values that were stored: it leaves the length of a text below 192 bytes out, so that zeros at its end don't
+//! show.
+
+// What follows is the proved text of crates/hash_jenkins/src/spooky_hash.rt without its contracts.
+use crate::{hash_laws, hash_rounds, std};
+
+use crate::hash_jenkins::spooky_parts::SpookyParts;
+use hash_laws::traits::{Piecewise, Streamed, hash_of};
+use hash_rounds::Turns;
+use std::hash::Hasher;
+
+/// SpookyHash of a text that comes piece by piece (Bob Jenkins, burtleburtle.net/bob/hash/spooky.html).
+///
+/// `finish` answers the first word of the hash of all bytes so far, and `finish128` both. The cuts between writes don't
+/// show. No write can be undone.
+///
+/// Contracts see where the hasher stands, its `Position` (`at`), and the `turns`: how many calls that mix blocks were
+/// charged to its counter on the way there. The position is the two seeds and the text so far below 192 bytes, and from
+/// then on the twelve words after all whole blocks and the tail behind them: two seeds below 2^64 and less than 192 bytes,
+/// or twelve words below 2^64 and less than 96 bytes. At most 191 bytes are kept. The count of bytes stays at its greatest
+/// value once it is there, so no length is refused.
+///
+/// The turns show the calls of `spooky_blocks` that were charged to this hasher's counter, and no more: a body could
+/// charge another counter, call it on no bytes, or mix a block by `spooky_mix`, which counts nothing.
+///
+/// Of `a` under two seeds of 0 the hash is 16681426114058726960.
+pub struct SpookyHasher {
+    parts: SpookyParts,
+    turns: Turns,
+}
+
+impl SpookyHasher {
+    /// A hasher of no bytes, under two seeds: it stands at ((seed1, seed2), no bytes).
+    ///
+    /// Proved:
+    ///
+    /// ```text
+    /// position: result.at ≡ position seed1 seed2 []
+    /// stands: SpookyStandsAt result.at (seed1 ∷ seed2 ∷ []) []
+    /// in_range: IsPosition result.at
+    /// turns: result.turns ≡ 0
+    /// ```
+    #[inline]
+    pub fn new(seed1: u64, seed2: u64) -> SpookyHasher {
+        SpookyHasher {
+            parts: SpookyParts::new(seed1, seed2),
+            turns: Turns::new(),
+        }
+    }
+
+    /// The hash of the bytes so far, as two words. More bytes may be written afterwards.
+    ///
+    /// Proved:
+    ///
+    /// ```text
+    /// here: result ≡ hash self.now.at
+    /// of_text: (seed1 seed2 : ℕ) (text : List ℕ) → self.now.at ≡ position seed1 seed2 text
+    ///     → result ≡ spooky seed1 seed2 text
+    /// where_it_stands: (from text : List ℕ) → SpookyStandsAt self.now.at from text
+    ///     → result ≡ spooky (slice_index from 0) (slice_index from 1) text
+    /// in_range: IsPosition self.now.at
+    /// ```
+    #[inline]
+    pub fn finish128(&self) -> (u64, u64) {
+        self.parts.finish128()
+    }
+
+    /// The hash of the bytes so far by version 1, for values that were stored before the length was mixed in: it leaves
+    /// the length of a text below 192 bytes out, and from 192 bytes on it is `finish128`.
+    ///
+    /// Proved:
+    ///
+    /// ```text
+    /// here: result ≡ hash_v1 self.now.at
+    /// of_text: (seed1 seed2 : ℕ) (text : List ℕ) → self.now.at ≡ position seed1 seed2 text
+    ///     → result ≡ spooky_v1 seed1 seed2 text
+    /// ```
+    #[inline]
+    pub fn finish128_v1(&self) -> (u64, u64) {
+        self.parts.finish128_v1()
+    }
+
+    /// The four words that a text below 192 bytes ends in, the first two of which are its hash; `None` exactly from 192
+    /// bytes on.
+    ///
+    /// Proved:
+    ///
+    /// ```text
+    /// here: result ≡ short_words_at self.now.at
+    /// of_text: (seed1 seed2 : ℕ) (text : List ℕ) → self.now.at ≡ position seed1 seed2 text
+    ///     → result ≡ short_words_of seed1 seed2 text
+    /// ```
+    #[inline]
+    pub fn short_words(&self) -> Option<[u64; 4]> {
+        self.parts.short_words()
+    }
+}
+
+impl Default for SpookyHasher {
+    /// The hasher of no bytes under the seeds 0 and 0.
+    #[inline]
+    fn default() -> SpookyHasher {
+        SpookyHasher::new(0, 0)
+    }
+}
+
+impl Hasher for SpookyHasher {
+    /// The first word of `finish128`.
+    ///
+    /// Proved:
+    ///
+    /// ```text
+    /// value: result ≡ (hash self.now.at).0
+    /// in_range: IsPosition self.now.at
+    /// ```
+    #[inline]
+    fn finish(&self) -> u64 {
+        self.finish128().0
+    }
+
+    /// Goes on over the bytes. Where they complete blocks, these are mixed in by one call where nothing was kept or no
+    /// block follows the one that the kept bytes end in, and by two else: one for the kept bytes' blocks, and one for
+    /// those behind, which are read where they stand in `bytes`.
+    ///
+    /// Proved:
+    ///
+    /// ```text
+    /// written: self.new ≡ after_write self.old bytes.now
+    /// few: self.new.turns ≤ self.old.turns + 3
+    /// counted: MixesBlock self.old.at bytes.now → self.old.turns < self.new.turns
+    /// stands: (seed1 seed2 : ℕ) (text : List ℕ) → self.old.at ≡ position seed1 seed2 text
+    ///     → self.new.at ≡ position seed1 seed2 (text ++ bytes.now)
+    /// in_range_before: IsPosition self.old.at
+    /// in_range_after: IsPosition self.new.at
+    /// ```
+    #[inline(always)]
+    fn write(&mut self, bytes: &[u8]) {
+        self.parts.write_counted(bytes, &mut self.turns);
+    }
+}
+
+impl Piecewise for SpookyHasher {
+    #[inline(always)]
+    fn state_in_range(&self) {
+        let _parts = &self.parts;
+    }
+
+    #[inline(always)]
+    fn feed(&mut self, piece: &[u8]) {
+        self.write(piece);
+    }
+
+    #[inline(always)]
+    fn answer(&self) -> u64 {
+        self.finish()
+    }
+
+    #[inline(always)]
+    fn whole(text: &[u8]) -> u64 {
+        let mut hasher = SpookyHasher::default();
+        hasher.write(text);
+        hasher.finish()
+    }
+
+    #[inline]
+    fn fork(&self) -> SpookyHasher {
+        SpookyHasher {
+            parts: self.parts,
+            turns: self.turns.fork(),
+        }
+    }
+}
+
+impl Streamed for SpookyHasher {}
+
+/// SpookyHash of the bytes under the seeds 0 and 0: the first of its two words.
+///
+/// Proved:
+///
+/// ```text
+/// result ≡ (spooky 0 0 bytes.now).0
+/// ```
+#[inline]
+pub fn spooky(bytes: &[u8]) -> u64 {
+    hash_of::<SpookyHasher>(bytes)
+}
+
+/// The same by version 1, which leaves the length of a text below 192 bytes out.
+///
+/// Proved:
+///
+/// ```text
+/// result ≡ (spooky_v1 0 0 bytes.now).0
+/// ```
+#[inline]
+pub fn spooky_v1(bytes: &[u8]) -> u64 {
+    let mut hasher = SpookyHasher::default();
+    hasher.write(bytes);
+    hasher.finish128_v1().0
+}

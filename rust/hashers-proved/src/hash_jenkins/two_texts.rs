@@ -1,0 +1,63 @@
+//! Laws of lookup3 and of SpookyHash alone.
+
+// What follows is the proved text of crates/hash_jenkins/src/two_texts.rt without its contracts.
+use crate::hash_laws;
+
+use crate::hash_jenkins::lookup::Lookup3Hasher;
+use crate::hash_jenkins::spooky_short::{LONG, zero_filled};
+use hash_laws::traits::Piecewise;
+
+// Whether `y` is `x` and zeros behind it.
+/// The caller has to see to it that:
+///
+/// ```text
+/// longer: length x.now ≤ length y.now
+/// within: length y.now ≤ 192
+/// ```
+///
+/// Proved:
+///
+/// ```text
+/// IsTrue result ↔ (y.now ≡ zero_filled (length y.now) x.now)
+/// ```
+#[inline]
+fn is_filled(x: &[u8], y: &[u8]) -> bool {
+    let filled: [u8; LONG] = zero_filled(x);
+    y == &filled[..y.len()]
+}
+
+/// Whether `y` is `x` followed by at least one zero byte, and has fewer than 192 bytes. Where so, the four `short_words`
+/// of the two texts differ under all seeds; of the two words of the hash alone nothing is said. Computes no hash.
+///
+/// Proved:
+///
+/// ```text
+/// exactly: IsTrue result ↔ AddsZeros x.now y.now
+/// differ: OnTrue result (HaveOtherWords x.now y.now)
+/// ```
+#[inline]
+pub fn apart_by_zeros(x: &[u8], y: &[u8]) -> bool {
+    if y.len() <= x.len() || y.len() >= LONG {
+        return false;
+    }
+    is_filled(x, y)
+}
+
+/// Feeds the pieces to both hashers, in order. Where their answers were equal before, they are equal afterwards: what
+/// `finish` answers is the whole state.
+///
+/// Proved:
+///
+/// ```text
+/// first: a.new ≡ fold lookup3_from a.old (texts pieces.now)
+/// second: b.new ≡ fold lookup3_from b.old (texts pieces.now)
+/// alike: lookup3_answer a.old ≡ lookup3_answer b.old
+///     → lookup3_answer a.new ≡ lookup3_answer b.new
+/// ```
+#[inline]
+pub fn same_answers_later(a: &mut Lookup3Hasher, b: &mut Lookup3Hasher, pieces: &[&[u8]]) {
+    for piece in pieces {
+        a.feed(piece);
+        b.feed(piece);
+    }
+}

@@ -1,0 +1,10 @@
+//! What hash functions promise, what follows for all of them, and the hash of what a reader gives.
+
+// What follows is the proved text of crates/hash_laws/src/lib.rt without its contracts.
+
+pub mod build;
+#[cfg(feature = "std")]
+pub mod engine;
+pub mod traits;
+pub mod window;
+pub mod writes;

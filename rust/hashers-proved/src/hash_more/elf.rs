@@ -1,0 +1,54 @@
+//! The hash of symbol names in ELF files (System V Application Binary Interface, edition 4.1, figure 5-13), which is P. J.
+//! Weinberger's.
+
+// What follows is the proved text of crates/hash_more/src/elf.rt without its contracts.
+use crate::{hash_laws, hash_rules};
+
+use hash_laws::traits::hash_of;
+use hash_rules::{ByteHasher, Plain, PlainRule};
+
+/// The rule of ELF's hash. Its steps lose information, so there is no way back.
+pub struct ElfRule;
+
+impl PlainRule for ElfRule {
+    type Word = u32;
+
+    const ALONE: bool = false;
+
+    #[inline]
+    fn start() -> u32 {
+        0
+    }
+
+    #[inline(always)]
+    fn step(word: u32, byte: u8) -> u32 {
+        let word = (word << 4).wrapping_add(u32::from(byte));
+        (word % 268435456) ^ ((word >> 28) * 16)
+    }
+
+    #[inline(always)]
+    fn answer(word: u32) -> u64 {
+        u64::from(word)
+    }
+}
+
+/// The hash of ELF's symbol tables (System V Application Binary Interface, figure 5-13).
+///
+/// From 0, a byte `b` takes the state `h` to `16 * h + b` at 32 bits, of which the four high bits are then xored in four
+/// bits from the low end and taken off. `finish` answers `h`, below 2^28, widened. Cuts don't show; no write can be undone.
+///
+/// Contracts see the hasher as its state, a number below 2^28: `write` gives `h.new ≡ elf_from h.old bytes.now`, and `finish`
+/// answers `h.now`. Of `printf` the hash is 0x077905a6.
+pub type ElfHasher = ByteHasher<Plain<ElfRule>>;
+
+/// ELF's hash of the bytes.
+///
+/// Proved:
+///
+/// ```text
+/// result ≡ elf_from 0 bytes.now
+/// ```
+#[inline]
+pub fn elf(bytes: &[u8]) -> u64 {
+    hash_of::<ElfHasher>(bytes)
+}

@@ -1,0 +1,180 @@
+//! The rounds of Bob Jenkins' SpookyHash for short texts (burtleburtle.net/bob/hash/spooky.html, SpookyV2.cpp), on
+//! four words of 64 bits, and what takes them back. All sums and differences are modulo 2^64.
+
+// What follows is the proved text of crates/hash_rounds/src/short.rt without its contracts.
+
+use crate::hash_rounds::words::rotl64;
+
+/// Mixes four words: twelve groups of three steps.
+///
+/// Proved:
+///
+/// ```text
+/// round: h.new ≡ apply 64 short_mix_steps [] h.old
+/// undone: apply 64 (undo 64 short_mix_steps) [] h.new ≡ h.old
+/// ```
+#[inline]
+pub fn short_mix(h: &mut [u64; 4]) {
+    mix_group(h, 2, 50);
+    mix_group(h, 3, 52);
+    mix_group(h, 0, 30);
+    mix_group(h, 1, 41);
+    mix_group(h, 2, 54);
+    mix_group(h, 3, 48);
+    mix_group(h, 0, 38);
+    mix_group(h, 1, 37);
+    mix_group(h, 2, 62);
+    mix_group(h, 3, 34);
+    mix_group(h, 0, 5);
+    mix_group(h, 1, 36);
+}
+
+/// Takes `short_mix` back, on any four words.
+///
+/// Proved:
+///
+/// ```text
+/// round: h.new ≡ apply 64 (undo 64 short_mix_steps) [] h.old
+/// undone: apply 64 short_mix_steps [] h.new ≡ h.old
+/// ```
+#[inline]
+pub fn un_short_mix(h: &mut [u64; 4]) {
+    unmix_group(h, 1, 36);
+    unmix_group(h, 0, 5);
+    unmix_group(h, 3, 34);
+    unmix_group(h, 2, 62);
+    unmix_group(h, 1, 37);
+    unmix_group(h, 0, 38);
+    unmix_group(h, 3, 48);
+    unmix_group(h, 2, 54);
+    unmix_group(h, 1, 41);
+    unmix_group(h, 0, 30);
+    unmix_group(h, 3, 52);
+    unmix_group(h, 2, 50);
+}
+
+/// The last mix of four words: eleven groups of three steps.
+///
+/// Proved:
+///
+/// ```text
+/// round: h.new ≡ apply 64 short_end_steps [] h.old
+/// undone: apply 64 (undo 64 short_end_steps) [] h.new ≡ h.old
+/// ```
+#[inline]
+pub fn short_end(h: &mut [u64; 4]) {
+    end_group(h, 2, 15);
+    end_group(h, 3, 52);
+    end_group(h, 0, 26);
+    end_group(h, 1, 51);
+    end_group(h, 2, 28);
+    end_group(h, 3, 9);
+    end_group(h, 0, 47);
+    end_group(h, 1, 54);
+    end_group(h, 2, 32);
+    end_group(h, 3, 25);
+    end_group(h, 0, 63);
+}
+
+/// Takes `short_end` back, on any four words.
+///
+/// Proved:
+///
+/// ```text
+/// round: h.new ≡ apply 64 (undo 64 short_end_steps) [] h.old
+/// undone: apply 64 short_end_steps [] h.new ≡ h.old
+/// ```
+#[inline]
+pub fn un_short_end(h: &mut [u64; 4]) {
+    unend_group(h, 0, 63);
+    unend_group(h, 3, 25);
+    unend_group(h, 2, 32);
+    unend_group(h, 1, 54);
+    unend_group(h, 0, 47);
+    unend_group(h, 3, 9);
+    unend_group(h, 2, 28);
+    unend_group(h, 1, 51);
+    unend_group(h, 0, 26);
+    unend_group(h, 3, 52);
+    unend_group(h, 2, 15);
+}
+
+/// The caller has to see to it that:
+///
+/// ```text
+/// p_in: p < 4
+/// some: 0 < r
+/// within: r < 64
+/// ```
+///
+/// Proved:
+///
+/// ```text
+/// h.new ≡ apply 64 (short_mix_group (p, r)) [] h.old
+/// ```
+#[inline(always)]
+fn mix_group(h: &mut [u64; 4], p: usize, r: u32) {
+    h[p] = rotl64(h[p], r);
+    h[p] = h[p].wrapping_add(h[(p + 1) % 4]);
+    h[(p + 2) % 4] ^= h[p];
+}
+
+/// The caller has to see to it that:
+///
+/// ```text
+/// p_in: p < 4
+/// some: 0 < r
+/// within: r < 64
+/// ```
+///
+/// Proved:
+///
+/// ```text
+/// h.new ≡ apply 64 (undo 64 (short_mix_group (p, r))) [] h.old
+/// ```
+#[inline(always)]
+fn unmix_group(h: &mut [u64; 4], p: usize, r: u32) {
+    h[(p + 2) % 4] ^= h[p];
+    h[p] = h[p].wrapping_sub(h[(p + 1) % 4]);
+    h[p] = rotl64(h[p], 64 - r);
+}
+
+/// The caller has to see to it that:
+///
+/// ```text
+/// p_in: p < 4
+/// some: 0 < r
+/// within: r < 64
+/// ```
+///
+/// Proved:
+///
+/// ```text
+/// h.new ≡ apply 64 (short_end_group (p, r)) [] h.old
+/// ```
+#[inline(always)]
+fn end_group(h: &mut [u64; 4], p: usize, r: u32) {
+    h[(p + 1) % 4] ^= h[p];
+    h[p] = rotl64(h[p], r);
+    h[(p + 1) % 4] = h[(p + 1) % 4].wrapping_add(h[p]);
+}
+
+/// The caller has to see to it that:
+///
+/// ```text
+/// p_in: p < 4
+/// some: 0 < r
+/// within: r < 64
+/// ```
+///
+/// Proved:
+///
+/// ```text
+/// h.new ≡ apply 64 (undo 64 (short_end_group (p, r))) [] h.old
+/// ```
+#[inline(always)]
+fn unend_group(h: &mut [u64; 4], p: usize, r: u32) {
+    h[(p + 1) % 4] = h[(p + 1) % 4].wrapping_sub(h[p]);
+    h[p] = rotl64(h[p], 64 - r);
+    h[(p + 1) % 4] ^= h[p];
+}

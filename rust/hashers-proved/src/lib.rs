@@ -1,0 +1,89 @@
+#![doc = include_str!("../README.md")]
+#![no_std]
+#![forbid(unsafe_code)]
+// In the proved text, whose language has no such lints.
+#![allow(clippy::new_without_default, clippy::precedence)]
+
+#[cfg(target_endian = "big")]
+compile_error!("hashers-proved is for little-endian hosts: std feeds numbers in the host's order, and little-endian is what is proved");
+#[cfg(not(any(target_pointer_width = "32", target_pointer_width = "64")))]
+compile_error!("hashers-proved is for hosts of 64 bits, and of 32");
+
+#[cfg(feature = "std")]
+extern crate std as real_std;
+
+// The sources name `std`: core's items, or std's, and the two modules of Rattle's std that stable Rust has not.
+mod std {
+    #[cfg(not(feature = "std"))]
+    pub use core::*;
+    #[cfg(feature = "std")]
+    pub use real_std::*;
+
+    pub use crate::shim::{simd, snapshot};
+}
+
+#[macro_use]
+mod shim;
+mod extras;
+
+// One module for each Rattle crate, the lowest first.
+#[doc(hidden)]
+pub mod hash_rounds;
+#[doc(hidden)]
+pub mod hash_laws;
+#[doc(hidden)]
+pub mod hash_rules;
+#[doc(hidden)]
+pub mod hash_fx;
+#[doc(hidden)]
+pub mod hash_jenkins;
+#[doc(hidden)]
+pub mod hash_bytes;
+#[doc(hidden)]
+pub mod hashers;
+#[doc(hidden)]
+pub mod hash_more;
+
+#[cfg(feature = "std")]
+#[doc(inline)]
+pub use hashers::engine;
+#[doc(inline)]
+pub use hashers::{build, fnv, fx_hash, laws, null, oz, pigeon, promises, rounds, rules, window};
+
+/// Bob Jenkins' hash functions: one-at-a-time, lookup3 and SpookyHash.
+pub mod jenkins {
+    #[doc(inline)]
+    pub use crate::hash_jenkins::*;
+
+    /// SpookyHash under two seeds, of 64 or 128 bits, of a text at once or in parts.
+    pub mod spooky_hash {
+        #[doc(inline)]
+        pub use crate::extras::{spooky128, spooky128_v1};
+        #[doc(inline)]
+        pub use crate::hash_jenkins::spooky_hash::*;
+    }
+}
+
+/// Relatives that other programs compute, which the crate hashers 1.0.1 does not have.
+pub mod more {
+    #[doc(inline)]
+    pub use crate::hash_more::*;
+    #[doc(inline)]
+    pub use crate::hash_more::{crc32::*, djb2_add::*, elf::*, fnv1::*, joaat::*};
+}
+
+/// std's own hasher, under the path that the crate hashers 1.0.1 gives it. It is no part of the proof.
+#[cfg(feature = "std")]
+pub mod builtin {
+    use core::hash::Hasher;
+
+    #[doc(no_inline)]
+    pub use real_std::collections::hash_map::DefaultHasher;
+
+    /// The hash of the bytes by [`DefaultHasher`], in one write. std may change it.
+    pub fn default(bytes: &[u8]) -> u64 {
+        let mut hasher = DefaultHasher::new();
+        hasher.write(bytes);
+        hasher.finish()
+    }
+}

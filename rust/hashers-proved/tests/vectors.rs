@@ -1,0 +1,84 @@
+//! The vectors of `c/vectors.inc`, by function and by hasher.
+use hashers_proved::jenkins::spooky_hash::{spooky, spooky_v1, SpookyHasher};
+use hashers_proved::{fnv::*, fx_hash::*, jenkins::*, more::*, null::*, oz::*, pigeon::*};
+use std::hash::Hasher;
+
+fn by<H: Default + Hasher>(bytes: &[u8]) -> u64 {
+    let mut hasher = H::default();
+    hasher.write(bytes);
+    hasher.finish()
+}
+
+fn spooky_v1_in_parts(bytes: &[u8]) -> u64 {
+    let mut hasher = SpookyHasher::default();
+    hasher.write(bytes);
+    hasher.finish128_v1().0
+}
+
+type Hash = fn(&[u8]) -> u64;
+
+/// Each name, its function, and the same by its hasher.
+const NAMES: [(&str, Hash, Hash); 22] = [
+    ("fnv1a32", fnv1a32, by::<FNV1aHasher32>),
+    ("fnv1a64", fnv1a64, by::<FNV1aHasher64>),
+    ("djb2", djb2, by::<DJB2Hasher>),
+    ("sdbm", sdbm, by::<SDBMHasher>),
+    ("loselose", loselose, by::<LoseLoseHasher>),
+    ("bricolage", bricolage, by::<Bricolage>),
+    ("oaat", oaat, by::<OAATHasher>),
+    ("lookup3", lookup3, by::<Lookup3Hasher>),
+    ("spooky", spooky, by::<SpookyHasher>),
+    ("spooky_v1", spooky_v1, spooky_v1_in_parts),
+    ("null", null, by::<NullHasher>),
+    ("passthrough", passthrough, by::<PassThroughHasher>),
+    ("fxhash", fxhash, by::<FxHasher>),
+    ("fxhash32", fxhash32, by::<FxHasher32>),
+    ("fxhash64", fxhash64, by::<FxHasher64>),
+    ("crc32", crc32, by::<Crc32Hasher>),
+    ("crc32c", crc32c, by::<Crc32cHasher>),
+    ("fnv1_32", fnv1_32, by::<Fnv1Hasher32>),
+    ("fnv1_64", fnv1_64, by::<Fnv1Hasher64>),
+    ("djb2_add", djb2_add, by::<Djb2AddHasher>),
+    ("joaat", joaat, by::<JoaatHasher>),
+    ("elf", elf, by::<ElfHasher>),
+];
+
+/// A row of the table, as `{hashers_djb2, "a", 177604u},`.
+fn row(line: &str) -> (&str, &str, u64) {
+    let row = line.trim().strip_prefix("{hashers_").and_then(|row| row.strip_suffix("u},")).expect(line);
+    let parts: Vec<&str> = row.split(", ").collect();
+    (parts[0], parts[1].trim_matches('"'), parts[2].parse().expect(line))
+}
+
+#[test]
+fn vectors_by_function_and_by_hasher() {
+    let mut rows = 0;
+    for (name, text, wanted) in include_str!("../../../c/vectors.inc").lines().map(row) {
+        let (_, whole, parts) = NAMES.iter().find(|it| it.0 == name).expect(name);
+        assert_eq!(whole(text.as_bytes()), wanted, "{name} of {text:?}");
+        assert_eq!(parts(text.as_bytes()), wanted, "the hasher of {name} over {text:?}");
+        rows += 1;
+    }
+    assert!(rows >= 50, "only {rows} rows");
+}
+
+#[test]
+fn hashers_answer_as_functions_at_each_length() {
+    let bytes: Vec<u8> = (0..400u32).map(|i| ((i * 167) >> 3) as u8).collect();
+    for (name, whole, parts) in NAMES {
+        for length in 0..=bytes.len() {
+            assert_eq!(whole(&bytes[..length]), parts(&bytes[..length]), "{name} of {length} bytes");
+        }
+    }
+}
+
+#[test]
+fn names_are_those_of_the_header() {
+    let header = include_str!("../../../c/hashers.h");
+    let mut declared: Vec<&str> =
+        header.lines().filter_map(|line| line.strip_prefix("uint64_t hashers_")?.strip_suffix("(const void *text, size_t n);")).collect();
+    let mut names: Vec<&str> = NAMES.iter().map(|it| it.0).collect();
+    declared.sort_unstable();
+    names.sort_unstable();
+    assert_eq!(declared, names);
+}
