@@ -53,7 +53,7 @@ fn row(line: &str) -> (&str, &str, u64) {
 #[test]
 fn vectors_by_function_and_by_hasher() {
     let mut rows = 0;
-    for (name, text, wanted) in include_str!("../../../c/vectors.inc").lines().map(row) {
+    for (name, text, wanted) in include_str!("../../../../c/vectors.inc").lines().map(row) {
         let (_, whole, parts) = NAMES.iter().find(|it| it.0 == name).expect(name);
         assert_eq!(whole(text.as_bytes()), wanted, "{name} of {text:?}");
         assert_eq!(parts(text.as_bytes()), wanted, "the hasher of {name} over {text:?}");
@@ -74,7 +74,7 @@ fn hashers_answer_as_functions_at_each_length() {
 
 #[test]
 fn names_are_those_of_the_header() {
-    let header = include_str!("../../../c/hashers.h");
+    let header = include_str!("../../../../c/hashers.h");
     let mut declared: Vec<&str> =
         header.lines().filter_map(|line| line.strip_prefix("uint64_t hashers_")?.strip_suffix("(const void *text, size_t n);")).collect();
     let mut names: Vec<&str> = NAMES.iter().map(|it| it.0).collect();

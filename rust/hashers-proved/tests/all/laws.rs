@@ -1,5 +1,4 @@
 //! The laws, windows, promises and rounds on random values, against definitions written here.
-#![cfg(feature = "std")]
 use hashers_proved::engine::hash_reader;
 use hashers_proved::jenkins::spooky_hash::SpookyHasher;
 use hashers_proved::jenkins::{oaat, BuildSpooky, Lookup3Hasher, OAATHasher};
@@ -81,7 +80,7 @@ fn pair(r: &mut Random) -> (Vec<u8>, Vec<u8>) {
 fn windows() {
     let mut r = Random(88172645463325252);
     let mut said = [0; 9];
-    for _ in 0..60_000 {
+    for _ in 0..20_000 {
         let (x, y) = pair(&mut r);
         let rows: [(bool, bool, bool); 9] = [
             (laws::apart_djb2(&x, &y), differ_within(6, 0xE0, &x, &y), djb2(&x) != djb2(&y)),
@@ -105,7 +104,7 @@ fn windows() {
         let filled = y.len() > x.len() && y.len() < 192 && y[..x.len()] == x && y[x.len()..].iter().all(|&b| b == 0);
         assert_eq!(laws::apart_by_zeros(&x, &y), filled);
     }
-    assert!(said.iter().all(|&n| n > 500), "{said:?}");
+    assert!(said.iter().all(|&n| n > 150), "{said:?}");
     assert!(laws::same_word(b"abcdef", b"abcdef") && !laws::same_word(b"abcdef", b"abcdeg"));
 }
 
@@ -216,8 +215,6 @@ fn steps_and_writes() {
         h.write(b"");
         assert_eq!(h.fork().finish(), (x & 0xffffffff) | (y << 32));
     }
-    assert!(FNV1aHasher32::unfinish(1 << 32).is_none() && JoaatHasher::unfinish(1 << 32).is_none());
-    assert!(FxHasher32::unfinish(1 << 32).is_none());
 }
 
 /// Gives at most so many bytes a read, and then fails.
@@ -259,4 +256,40 @@ fn readers() {
         }
         assert_eq!(reader.0.len(), n - read);
     }
+}
+
+#[test]
+fn a_limit_of_nothing_reads_nothing() {
+    struct Never;
+    impl Read for Never {
+        fn read(&mut self, _buf: &mut [u8]) -> Result<usize, Error> {
+            panic!("a read")
+        }
+    }
+    let mut h = FNV1aHasher64::default();
+    let taken = hash_reader::<_, _, 16>(&mut h, &mut Never, 0).unwrap();
+    assert_eq!((taken.bytes, taken.ended, h.finish()), (0, false, fnv1a64(b"")));
+    let taken = hashers_proved::engine::hash_stream::<_, _, 16>(&mut h, &mut b"abcd".as_slice(), 3).unwrap();
+    assert_eq!((taken.bytes, taken.ended, h.finish()), (3, false, fnv1a64(b"abc")));
+}
+
+/// Of a hasher of 32 bits no state answers more, and each number below is some state's answer.
+fn unfinishes_32_bits<H: Undo>() {
+    assert!(H::unfinish(1 << 32).is_none() && H::unfinish((1 << 32) + 5).is_none() && H::unfinish(u64::MAX).is_none());
+    for answer in [0, 5, u64::from(u32::MAX)] {
+        assert_eq!(H::unfinish(answer).unwrap().answer(), answer);
+    }
+}
+
+#[test]
+fn hashers_of_32_bits_unfinish_no_more() {
+    unfinishes_32_bits::<FNV1aHasher32>();
+    unfinishes_32_bits::<DJB2Hasher>();
+    unfinishes_32_bits::<SDBMHasher>();
+    unfinishes_32_bits::<FxHasher32>();
+    unfinishes_32_bits::<Crc32Hasher>();
+    unfinishes_32_bits::<Crc32cHasher>();
+    unfinishes_32_bits::<Fnv1Hasher32>();
+    unfinishes_32_bits::<Djb2AddHasher>();
+    unfinishes_32_bits::<JoaatHasher>();
 }

@@ -1,5 +1,4 @@
 //! What std feeds of a key: where Rust's std does as Rattle's, and where it does not.
-#![cfg(feature = "std")]
 use hashers_proved::build::*;
 use hashers_proved::fx_hash::*;
 use hashers_proved::jenkins::Lookup3Hasher;

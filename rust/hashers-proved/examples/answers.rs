@@ -1,0 +1,156 @@
+//! Reads lines `NAME HEX,HEX,..`, and prints for each the hash after the pieces, by a hasher. On the way it asserts, from the same bytes:
+//! what the function of the name answers to a single piece; that `unwrite` undoes `write` and the reverse; that `unfinish` finds the state;
+//! that the generic functions of `laws` answer the same; and that combined hashes are those of the joined text.
+use hashers_proved::jenkins::spooky_hash::{spooky, spooky_v1, SpookyHasher};
+use hashers_proved::laws::{self, HasherWrite, Piecewise, Streamed, Undo};
+use hashers_proved::more::{crc32::*, djb2_add::*, elf::*, fnv1::*, joaat::*};
+use hashers_proved::{fnv::*, fx_hash::*, jenkins::*, null::*, oz::*, pigeon::*};
+use std::hash::Hasher;
+use std::io::{BufRead, Write};
+
+type Pieces = [Vec<u8>];
+
+fn fed<H: Piecewise>(pieces: &Pieces, whole: fn(&[u8]) -> u64) -> u64 {
+    let mut h = H::default();
+    for p in pieces {
+        h.write(p);
+    }
+    let slices: Vec<&[u8]> = pieces.iter().map(|p| p.as_slice()).collect();
+    let mut again = H::fresh();
+    laws::run_pieces(&mut again, &slices);
+    assert_eq!(again.answer(), h.finish());
+    let fork = h.fork();
+    assert_eq!(fork.finish(), h.finish());
+    if let [one] = pieces {
+        assert_eq!(whole(one), h.finish());
+        assert_eq!(laws::hash_of::<H>(one), h.finish());
+        assert_eq!(laws::bucket_of::<H>(one, 1009), h.finish() % 1009);
+    }
+    h.finish()
+}
+
+fn streamed<H: Streamed>(pieces: &Pieces, whole: fn(&[u8]) -> u64) -> u64 {
+    let answer = fed::<H>(pieces, whole);
+    let joined = pieces.concat();
+    assert_eq!(whole(&joined), answer);
+    let slices: Vec<&[u8]> = pieces.iter().map(|p| p.as_slice()).collect();
+    assert_eq!(laws::answer_of_pieces::<H>(&slices), answer);
+    let writes: Vec<HasherWrite> = slices.iter().map(|p| HasherWrite::Bytes(p)).collect();
+    assert_eq!(laws::answer_of_writes::<H>(&writes), answer);
+    by_a_reader::<H>(&joined, answer);
+    answer
+}
+
+/// The hash of what a reader gives, read by 7 bytes.
+#[cfg(feature = "std")]
+fn by_a_reader<H: Streamed>(text: &[u8], answer: u64) {
+    let mut h = H::fresh();
+    let taken = hashers_proved::engine::hash_stream::<H, _, 7>(&mut h, &mut &text[..], u64::MAX).unwrap();
+    assert_eq!((taken.bytes, taken.ended, h.answer()), (text.len() as u64, true, answer));
+}
+
+#[cfg(not(feature = "std"))]
+fn by_a_reader<H: Streamed>(_text: &[u8], _answer: u64) {}
+
+fn undone<H: Undo>(pieces: &Pieces) {
+    // forth and back
+    let mut h = H::fresh();
+    let mut states = vec![];
+    for p in pieces {
+        states.push(h.answer());
+        h.feed(p);
+    }
+    let end = h.answer();
+    for p in pieces.iter().rev() {
+        h.unwrite(p);
+        assert_eq!(Some(h.answer()), states.pop());
+    }
+    // back and forth, from a state that the pieces did not lead to
+    let mut h = H::unfinish(end).unwrap();
+    assert_eq!(h.answer(), end);
+    for p in pieces.iter().rev() {
+        h.unwrite(p);
+    }
+    for p in pieces {
+        h.feed(p);
+    }
+    assert_eq!(h.answer(), end);
+    let numbers = [HasherWrite::U16(0xfedc), HasherWrite::U64(end)];
+    let writes: Vec<HasherWrite> = pieces.iter().map(|p| HasherWrite::Bytes(p)).chain(numbers).collect();
+    laws::run_writes(&mut h, &writes);
+    laws::unrun_writes(&mut h, &writes);
+    assert_eq!(h.answer(), end);
+}
+
+fn combined(pieces: &Pieces, whole: fn(&[u8]) -> u64, combine: fn(u64, u64, u64) -> u64) {
+    let hash = pieces.iter().fold(whole(b""), |hash, p| combine(hash, whole(p), p.len() as u64));
+    assert_eq!(hash, whole(&pieces.concat()));
+}
+
+fn answer(name: &str, p: &Pieces) -> u64 {
+    macro_rules! undo {
+        ($h:ty, $f:expr) => {{
+            undone::<$h>(p);
+            streamed::<$h>(p, $f)
+        }};
+        ($h:ty, $f:expr, $c:expr) => {{
+            combined(p, $f, $c);
+            undo!($h, $f)
+        }};
+    }
+    macro_rules! words {
+        ($h:ty, $f:expr) => {{
+            undone::<$h>(p);
+            fed::<$h>(p, $f)
+        }};
+    }
+    match name {
+        "fnv1a32" => undo!(FNV1aHasher32, fnv1a32),
+        "fnv1a64" => undo!(FNV1aHasher64, fnv1a64),
+        "djb2" => undo!(DJB2Hasher, djb2),
+        "sdbm" => undo!(SDBMHasher, sdbm, sdbm_combine),
+        "loselose" => undo!(LoseLoseHasher, loselose, loselose_combine),
+        "bricolage" => undo!(Bricolage, bricolage),
+        "oaat" => undo!(OAATHasher, oaat),
+        "lookup3" => fed::<Lookup3Hasher>(p, lookup3),
+        "spooky" => streamed::<SpookyHasher>(p, spooky),
+        "spooky_v1" => {
+            let mut h = SpookyHasher::default();
+            for x in p {
+                h.write(x);
+            }
+            assert_eq!(spooky_v1(&p.concat()), h.finish128_v1().0);
+            h.finish128_v1().0
+        }
+        "null" => streamed::<NullHasher>(p, null),
+        "passthrough" => {
+            combined(p, passthrough, passthrough_combine);
+            streamed::<PassThroughHasher>(p, passthrough)
+        }
+        "fxhash" => words!(FxHasher, fxhash),
+        "fxhash32" => words!(FxHasher32, fxhash32),
+        "fxhash64" => words!(FxHasher64, fxhash64),
+        "crc32" => undo!(Crc32Hasher, crc32, crc32_combine),
+        "crc32c" => undo!(Crc32cHasher, crc32c, crc32c_combine),
+        "fnv1_32" => undo!(Fnv1Hasher32, fnv1_32),
+        "fnv1_64" => undo!(Fnv1Hasher64, fnv1_64),
+        "djb2_add" => undo!(Djb2AddHasher, djb2_add),
+        "joaat" => undo!(JoaatHasher, joaat),
+        "elf" => streamed::<ElfHasher>(p, elf),
+        _ => panic!("no such name: {name}"),
+    }
+}
+
+fn hex(s: &str) -> Vec<u8> {
+    (0..s.len() / 2).map(|i| u8::from_str_radix(&s[2 * i..2 * i + 2], 16).unwrap()).collect()
+}
+
+fn main() {
+    let mut out = std::io::BufWriter::new(std::io::stdout().lock());
+    for line in std::io::stdin().lock().lines() {
+        let line = line.unwrap();
+        let (name, rest) = line.split_once(' ').unwrap();
+        let pieces: Vec<Vec<u8>> = rest.split(',').map(hex).collect();
+        writeln!(out, "{}", answer(name, &pieces)).unwrap();
+    }
+}

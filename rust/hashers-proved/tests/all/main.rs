@@ -1,0 +1,10 @@
+//! All tests in one program.
+mod documents;
+#[cfg(feature = "std")]
+mod keys;
+#[cfg(feature = "std")]
+mod laws;
+#[cfg(feature = "std")]
+mod promises;
+mod uses;
+mod vectors;
