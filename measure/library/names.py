@@ -1,8 +1,15 @@
-"""The names of the hashes: ours from the table that all programs share, the original's from the crate in c/rust, which has its paths."""
+"""The names of the hashes: ours from the table that all programs share, and the original's hashers."""
 import os
 import re
 
 ROOT = os.path.dirname(os.path.dirname(os.path.dirname(os.path.abspath(__file__))))
+# the hashers of the crate hashers 1.0.1, by our names; its SpookyHasher is our version 1
+ORIGINAL = {
+    "fnv1a32": "fnv::FNV1aHasher32", "fnv1a64": "fnv::FNV1aHasher64", "djb2": "oz::DJB2Hasher", "sdbm": "oz::SDBMHasher",
+    "loselose": "oz::LoseLoseHasher", "bricolage": "pigeon::Bricolage", "oaat": "jenkins::OAATHasher", "lookup3": "jenkins::Lookup3Hasher",
+    "spooky_v1": "jenkins::spooky_hash::SpookyHasher", "null": "null::NullHasher", "passthrough": "null::PassThroughHasher",
+    "fxhash": "fx_hash::FxHasher", "fxhash32": "fx_hash::FxHasher32", "fxhash64": "fx_hash::FxHasher64",
+}
 
 
 def rows_in(path, row):
@@ -25,14 +32,8 @@ def unlike_names():
 
 
 def hashers_of_original():
-    """The original's hasher of each name that it has, in the order of the table. The crate in c/rust has the original's types and paths,
-    but for the module more; the original's SpookyHasher is our version 1."""
-    found = {"spooky_v1": "jenkins::spooky_hash::SpookyHasher"}
-    with open(os.path.join(ROOT, "c/rust/src/lib.rs"), encoding="utf-8") as source:
-        modules = dict(re.findall(r"^pub mod (\w+) \{\n(.*?)^\}", source.read(), re.M | re.S))
-    for module in modules.keys() - {"more"}:
-        found.update((name, f"{module}::{hasher}") for hasher, name in re.findall(r"^ {8}(\w+), (\w+), \d+,", modules[module], re.M))
-    return {name: found[name] for name in names() if name in found}
+    """The original's hasher of each name that it has, in the order of the table."""
+    return {name: ORIGINAL[name] for name in names() if name in ORIGINAL}
 
 
 def original_of(name):

@@ -1,6 +1,6 @@
-//! Times of the crate over libhashers beside the original inlined, the original behind a C call, and the crates fnv and fxhash, by turns
-//! in one process. `times RUNS NAME..` writes the tables of docs/C.md, the first with a row for each name: the least of so many runs, in
-//! nanoseconds a key.
+//! Times of the crate in rust/hashers-proved beside the original and the crates fnv and fxhash, all inlined, by turns in one process.
+//! `times RUNS NAME..` prints a line for each name, then an empty line, and then a line for each sort of keys of maps: behind a tab each a
+//! cell, the times of its sides in nanoseconds a key, of each the least of so many runs.
 use hashers_proved as ours;
 use std::collections::hash_map::DefaultHasher;
 use std::collections::HashMap;
@@ -9,6 +9,13 @@ use std::hint::black_box;
 use std::time::Instant;
 
 include!(env!("HASHER_NAMES"));
+
+std::arch::global_asm!(concat!(".globl placed\nplaced: .skip ", env!("MEASURE_RUST_BEHIND")));
+
+extern "C" {
+    /// Stands before all code, with the bytes of its own that this placement has.
+    fn placed();
+}
 
 fn runs() -> usize {
     std::env::args().nth(1).and_then(|it| it.parse().ok()).expect("a number of runs")
@@ -22,20 +29,6 @@ fn inlined<H: Hasher + Default>(keys: &[u8], size: usize) -> u64 {
         hasher.write(key);
         all.rotate_left(1) ^ hasher.finish()
     })
-}
-
-extern "C" fn behind_a_call<H: Hasher + Default>(text: *const u8, n: usize) -> u64 {
-    let mut hasher = H::default();
-    // SAFETY: `called` gives a slice's pointer and length.
-    hasher.write(unsafe { std::slice::from_raw_parts(text, n) });
-    hasher.finish()
-}
-
-/// The same by a call that the compiler does not see through.
-#[inline(never)]
-fn called<H: Hasher + Default>(keys: &[u8], size: usize) -> u64 {
-    let hash: extern "C" fn(*const u8, usize) -> u64 = black_box(behind_a_call::<H>);
-    keys.chunks_exact(size).fold(0, |all: u64, key| all.rotate_left(1) ^ hash(key.as_ptr(), key.len()))
 }
 
 /// Bytes by a xorshift.
@@ -69,16 +62,15 @@ fn measure(works: &[Work], per: usize, turns: usize) -> Vec<f64> {
 }
 
 fn row(name: &str, times: &[Vec<f64>]) {
-    let number = |it: &f64| if *it < 1000.0 { format!("{it:.1}") } else { format!("{it:.0}") };
-    let cell = |sides: &Vec<f64>| sides.iter().map(number).collect::<Vec<_>>().join(" / ");
-    println!("| `{name}` | {} |", times.iter().map(cell).collect::<Vec<_>>().join(" | "));
+    let cell = |sides: &Vec<f64>| sides.iter().map(|it| format!("{it:.2}")).collect::<Vec<_>>().join(" ");
+    println!("{name}\t{}", times.iter().map(cell).collect::<Vec<_>>().join("\t"));
 }
 
 type OfKeys = fn(&[u8], usize) -> u64;
 
-/// A row: at each size the crate over libhashers, the original inlined, the original behind a call, and a third crate where there is one.
+/// A row: at each size our crate, the original, and a third crate where there is one.
 fn keys_of<Ours: Hasher + Default, Theirs: Hasher + Default>(name: &str, third: Option<OfKeys>) {
-    let mut sides: Vec<OfKeys> = vec![inlined::<Ours>, inlined::<Theirs>, called::<Theirs>];
+    let mut sides: Vec<OfKeys> = vec![inlined::<Ours>, inlined::<Theirs>];
     sides.extend(third);
     let times: Vec<Vec<f64>> = [(8, 512, 20), (16, 512, 20), (64, 512, 20), (1 << 20, 1, 1)]
         .iter()
@@ -104,7 +96,7 @@ fn maps<K: Hash + Eq + Clone>(name: &str, keys: &[K]) {
     row(name, &[measure(&fnv, keys.len(), 20), measure(&fx, keys.len(), 20), measure(&std, keys.len(), 20)]);
 }
 
-/// The crate that has the hash of that name too, inlined.
+/// The crate that has the hash of that name too.
 fn third(name: &str) -> Option<OfKeys> {
     match name {
         "fnv1a64" => Some(inlined::<fnv::FnvHasher>),
@@ -128,9 +120,9 @@ macro_rules! rows {
 with_names!(rows);
 
 fn main() {
-    println!("| hash | 8 bytes | 16 bytes | 64 bytes | 1 MiB |\n|---|---:|---:|---:|---:|");
+    black_box(placed as unsafe extern "C" fn());
     rows(&std::env::args().skip(2).collect::<Vec<_>>());
-    println!("\n| keys | FNV-1a of 64 bits | fx | std's DefaultHasher |\n|---|---:|---:|---:|");
+    println!();
     let numbers: Vec<u64> = bytes(8000).chunks_exact(8).map(|it| u64::from_le_bytes(it.try_into().unwrap())).collect();
     let texts: Vec<String> = numbers.iter().map(|it| format!("{it:016x}")).collect();
     maps("u64", &numbers);
