@@ -16,7 +16,8 @@ use Rattle.dedup.specs.Inputs.AreRead.{behind, none}
 use Rattle.hash_lines.specs.Lines.{lines_by}
 use Rattle.dedup.specs.Running.{AllBeginWith, EndsTaking, IsBeyond, IsWithin, NextBeginsWith, Run, WritesPart}
 use Rattle.dedup.specs.Taking.{BeginWith, BreaksInput, LeadsOn}
-use Rattle.dedup.specs.declared.fault.Fault.{Fault}
+use Rattle.hash_program.specs.declared.fault.Fault.{Fault}
+use Rattle.dedup.specs.declared.fault.TooMany.{TooMany}
 use Rattle.dedup.specs.declared.run.Ended.{Ended}
 use Rattle.dedup.specs.declared.run.Ended.TheVariants.{Whole, InputFailed, TooManyLines}
 
@@ -164,7 +165,7 @@ module _ (output : List (List ℕ) → List ℕ) (eol limit : ℕ) where
 
 -- an error that is handed on
 pub handed_on : (output : List (List ℕ) → List ℕ) (after : List (List ℕ) → Type 0) (eol limit : ℕ) (run : Run)
-    (result : Result Ended Fault) → IsErr result → WritesPart output eol run → EndsTaking output after eol limit run result
+    (result : Result Ended (Fault TooMany)) → IsErr result → WritesPart output eol run → EndsTaking output after eol limit run result
 handed_on output after eol limit run (Ok ended) is part = absurd (false≢true is)
 handed_on output after eol limit run (Err fault) is part = part
 

@@ -1,15 +1,20 @@
 -- What the program is asked for, and how it ends.
 use Rattle.std.specs.Prelude.{ℕ, ◌≡◌, ◌||◌, if◌then◌else◌, List, [], ◌∷◌, Option, Some, None, Result, Ok, Err, codes}
-use Rattle.std.specs.Io.KnownBytes.{Appends, Keeps}
+use Rattle.std.specs.Io.KnownBytes.{Keeps}
 use Rattle.hash_program.specs.Call.{given, unknown}
-use Rattle.hash_program.specs.Streams.{AppendsPart}
+use Rattle.hash_program.specs.Outcome.{of_telling}
+use Rattle.hash_program.specs.Streams.{PutsOut}
+use Rattle.hash_program.specs.declared.fault.Fault.{Fault}
+use Rattle.hash_program.specs.declared.fault.Fault.TheVariants.{Own}
+use Rattle.hash_program.specs.declared.outcome.Nothing.{Nothing}
+use Rattle.hash_program.specs.declared.outcome.Outcome.{Outcome}
+use Rattle.hash_program.specs.declared.outcome.Outcome.TheVariants.{Done, Usage, Reported, Failed}
+use Rattle.hash_program.specs.declared.outcome.Wrong.TheVariants.{UnknownOption}
 use Rattle.dedup.specs.Lines.{once_by}
 use Rattle.dedup.specs.Running.{Ends, Run}
 use Rattle.dedup.specs.Tallies.{told}
-use Rattle.dedup.specs.declared.fault.Fault.{Fault}
-use Rattle.dedup.specs.declared.outcome.Outcome.{Outcome}
-use Rattle.dedup.specs.declared.outcome.Outcome.TheVariants.{Done, Usage, Failed}
-use Rattle.dedup.specs.declared.outcome.Outcome.TheVariants as outcome
+use Rattle.dedup.specs.declared.fault.TooMany.{TooMany}
+use Rattle.dedup.specs.declared.fault.TooMany.TheVariants as too_many
 use Rattle.dedup.specs.declared.run.Ended.{Ended}
 use Rattle.dedup.specs.declared.run.Ended.TheVariants.{Whole, InputFailed, TooManyLines}
 use Rattle.dedup.specs.declared.outcome.Task.{Task}
@@ -50,40 +55,30 @@ asked [] words = if given None (codes "help") words then Some Help else if given
 abbrev pub task_of : List (List ℕ) → Option Task
 task_of words = asked (unknown letters names words) words
 
--- the text is written, or after a fault a beginning of it
-abbrev pub Tells : (text : List ℕ) (written written' : Option (List ℕ)) → Result (Unit {0}) Fault → Type 0
-Tells text written written' (Ok done) = Appends written written' text
-Tells text written written' (Err fault) = AppendsPart written written' text
-
 -- what came of a run
-abbrev pub of_run : Result Ended Fault → Outcome
+abbrev pub of_run : Result Ended (Fault TooMany) → Outcome Nothing TooMany
 of_run (Ok Whole) = Done
-of_run (Ok InputFailed) = outcome.InputFailed
-of_run (Ok TooManyLines) = outcome.TooManyLines
+of_run (Ok InputFailed) = Reported
+of_run (Ok TooManyLines) = Failed (Own too_many.Lines)
 of_run (Err fault) = Failed fault
 
--- what came of telling a text
-abbrev pub of_telling : Result (Unit {0}) Fault → Outcome
-of_telling (Ok done) = Done
-of_telling (Err fault) = Failed fault
-
 -- nothing is read, and the text is written
-abbrev pub EndsTelling : (text : List ℕ) → Run → Outcome → Type 0
+abbrev pub EndsTelling : (text : List ℕ) → Run → Outcome Nothing TooMany → Type 0
 EndsTelling text run result =
-    (run.left' ≡ run.left) × (told : Result (Unit {0}) Fault) × Tells text run.written run.written' told × (result ≡ of_telling told)
+    (run.left' ≡ run.left) × (told : Result (Unit {0}) (Fault TooMany)) × PutsOut text run.written run.written' told × (result ≡ of_telling told)
 
 -- how a run ends that is to write what `output` makes of the lines of its inputs, of at most so many
-abbrev pub EndsRun : (output : List (List ℕ) → List ℕ) (eol limit : ℕ) → Run → Outcome → Type 0
-EndsRun output eol limit run result = (ended : Result Ended Fault) × Ends output eol limit run ended × (result ≡ of_run ended)
+abbrev pub EndsRun : (output : List (List ℕ) → List ℕ) (eol limit : ℕ) → Run → Outcome Nothing TooMany → Type 0
+EndsRun output eol limit run result = (ended : Result Ended (Fault TooMany)) × Ends output eol limit run ended × (result ≡ of_run ended)
 
 -- how a task ends; none is a wrong call, and then nothing is read or written
-abbrev pub EndsTask : Option Task → (help version : List ℕ) → ℕ → Run → Outcome → Type 0
+abbrev pub EndsTask : Option Task → (help version : List ℕ) → ℕ → Run → Outcome Nothing TooMany → Type 0
 EndsTask (Some (Once eol)) help version limit run result = EndsRun (once_by eol) eol limit run result
 EndsTask (Some (Tallied which eol)) help version limit run result = EndsRun (told eol which) eol limit run result
 EndsTask (Some Help) help version limit run result = EndsTelling help run result
 EndsTask (Some Version) help version limit run result = EndsTelling version run result
-EndsTask None help version limit run result = (result ≡ Usage) × (run.left' ≡ run.left) × Keeps run.written run.written'
+EndsTask None help version limit run result = (result ≡ Usage UnknownOption) × (run.left' ≡ run.left) × Keeps run.written run.written'
 
 -- how the program ends that was called by these words
-abbrev pub Exits : (words : List (List ℕ)) (help version : List ℕ) → ℕ → Run → Outcome → Type 0
+abbrev pub Exits : (words : List (List ℕ)) (help version : List ℕ) → ℕ → Run → Outcome Nothing TooMany → Type 0
 Exits words = EndsTask (task_of words)

@@ -4,7 +4,8 @@ use Rattle.std.specs.Io.KnownBytes.{Appends}
 use Rattle.hash_program.specs.Streams.{AppendsPart}
 use Rattle.dedup.specs.Inputs.{AreRead}
 use Rattle.dedup.specs.Taking.{BeginWith}
-use Rattle.dedup.specs.declared.fault.Fault.{Fault}
+use Rattle.hash_program.specs.declared.fault.Fault.{Fault}
+use Rattle.dedup.specs.declared.fault.TooMany.{TooMany}
 use Rattle.dedup.specs.declared.run.Ended.{Ended}
 use Rattle.dedup.specs.declared.run.Ended.TheVariants.{Whole, InputFailed, TooManyLines}
 
@@ -62,7 +63,7 @@ abbrev pub WritesPart : (output : List (List ℕ) → List ℕ) (eol : ℕ) → 
 WritesPart output eol run = (ls : List (List ℕ)) × AllBeginWith eol run.left ls × AppendsPart run.written run.written' (output ls)
 
 -- how a run ends that writes what `output` makes of the lines of its inputs, of at most so many
-abbrev pub EndsTaking : (output : List (List ℕ) → List ℕ) (after : List (List ℕ) → Type 0) (eol limit : ℕ) → Run → Result Ended Fault
+abbrev pub EndsTaking : (output : List (List ℕ) → List ℕ) (after : List (List ℕ) → Type 0) (eol limit : ℕ) → Run → Result Ended (Fault TooMany)
     → Type 0
 EndsTaking output after eol limit run (Ok Whole) = WritesAll output after eol true limit run
 EndsTaking output after eol limit run (Ok InputFailed) = WritesAll output after eol false limit run
@@ -70,5 +71,5 @@ EndsTaking output after eol limit run (Ok TooManyLines) = WritesPart output eol 
 EndsTaking output after eol limit run (Err fault) = WritesPart output eol run
 
 -- the same where only what is written counts
-abbrev pub Ends : (output : List (List ℕ) → List ℕ) (eol limit : ℕ) → Run → Result Ended Fault → Type 0
+abbrev pub Ends : (output : List (List ℕ) → List ℕ) (eol limit : ℕ) → Run → Result Ended (Fault TooMany) → Type 0
 Ends output = EndsTaking output (λ ls. Unit {0})

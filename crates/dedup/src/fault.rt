@@ -1,55 +1,51 @@
-//! What ends a run before its output is whole.
-ghost use Rattle.std.specs.Prelude.{◌≡◌};
-ghost use Rattle.dedup.specs.Status.{fault_of};
+//! What ends a run of this program before its output is whole.
+ghost use Rattle.std.specs.Prelude.{◌≡◌, not, IfOk, OnOk, OnErr};
+ghost use Rattle.dedup.specs.Status.{words_of};
+ghost use Rattle.hash_texts.specs.Texts.{StandsAt, has, with_text};
 
-use hash_texts::Full;
-use std::alloc::AllocError;
-use std::error::Error as StdError;
-use std::fmt;
-use std::fmt::{Display, Formatter};
-use std::io::Error;
+use hash_program::fault;
+use hash_program::outcome::Words;
+use hash_texts::{Full, Seen, Texts};
+use std::hash::BuildHasher;
 
-/// Why a run ended before its output was whole. What was written by then is a beginning of it.
+/// More than can be taken.
 #[derive(Debug, Drop)]
-pub enum Fault {
-    /// A write or the flush failed with this error, or a write took nothing.
-    Write(Option<Error>),
-    /// There was no memory.
-    NoMemory,
+pub enum TooMany {
     /// There were 2^32 - 1 texts.
-    TooManyTexts,
+    Texts,
+    /// There were more lines than the limit. What was written is a beginning of the output.
+    Lines,
 }
 
-impl Display for Fault {
-    fn fmt<W: fmt::Write>(&self, f: &mut Formatter<W>) -> fmt::Result {
+/// Why a run ended before its output was whole.
+pub type Fault = fault::Fault<TooMany>;
+
+impl Words for TooMany {
+    ghost words = { words_of };
+
+    fn words(&self) -> &'static str {
         match self {
-            Fault::Write(Some(error)) => write!(f, "a write failed: {error}"),
-            Fault::Write(None) => write!(f, "a write took nothing"),
-            Fault::NoMemory => write!(f, "out of memory"),
-            Fault::TooManyTexts => write!(f, "too many different lines"),
+            TooMany::Texts => "too many different lines",
+            TooMany::Lines => "too many lines",
         }
     }
 }
 
-impl StdError for Fault {}
-
-impl From<AllocError> for Fault {
-    ghost use Rattle.dedup.specs.declared.fault.Fault.TheVariants.{NoMemory};
-
-    ghost from_gives = { λ error fault. fault ≡ NoMemory };
-
-    fn from(_error: AllocError) -> Fault {
-        Fault::NoMemory
-    }
-}
-
-impl From<Full> for Fault {
-    ghost from_gives = { λ full fault. fault ≡ fault_of full };
-
-    fn from(full: Full) -> Fault {
-        match full {
-            Full::NoMemory => Fault::NoMemory,
-            Full::TooManyTexts => Fault::TooManyTexts,
-        }
+/// Takes a text into a set, which stays as it was after a fault.
+#[inline(always)]
+pub fn see<S: BuildHasher + Drop>(
+    texts: &mut Texts<S>,
+    text: &[u8],
+    guess: usize,
+) -> Result<Seen, Fault>
+    ensures new { IfOk result (λ seen. seen.is_new ≡ not (has texts.old text.now)) }
+    ensures texts { OnOk result (texts.new ≡ with_text texts.old text.now) }
+    ensures place { IfOk result (λ seen. StandsAt texts.new text.now seen.place) }
+    ensures kept { OnErr result (texts.new ≡ texts.old) }
+{
+    match texts.see_at(text, guess) {
+        Ok(seen) => Ok(seen),
+        Err(Full::NoMemory) => Err(Fault::NoMemory),
+        Err(Full::TooManyTexts) => Err(Fault::Own(TooMany::Texts)),
     }
 }

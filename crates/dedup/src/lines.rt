@@ -1,8 +1,7 @@
 //! Finds lines and has them taken.
-ghost use Rattle.std.specs.Prelude.{◌≡◌, ◌≤◌, [], ℕ, List, length, take, IfOk, OnOk, OnErr, ◌+◌, ◌==◌, not};
+ghost use Rattle.std.specs.Prelude.{◌≡◌, ◌≤◌, ℕ, List, length, take, IfOk, OnOk, OnErr, ◌+◌, ◌==◌, not};
 ghost use Rattle.std.specs.Io.BufRead.{strip_last};
-ghost use Rattle.std.specs.Io.Buffered.{writer_buffer, writer_contents};
-ghost use Rattle.std.specs.Io.KnownBytes.{Appends, Keeps};
+ghost use Rattle.std.specs.Io.KnownBytes.{Appends};
 ghost use Rattle.std.specs.List.{prefix_len};
 ghost use Rattle.std.specs.Simd.Lanes.{chunk};
 ghost use Rattle.dedup.specs.Between.{IsLineEnd, Takes};
@@ -14,9 +13,8 @@ ghost use Rattle.hash_program.specs.Streams.{AppendsPart};
 use crate::ahead::Ahead;
 use crate::fault::Fault;
 use crate::task::LineTask;
-use hash_program::streams;
-use hash_program::streams::TRIES;
-use std::io::{BufWriter, Write};
+use hash_program::streams::{TRIES, put};
+use std::io::Write;
 use std::simd::prelude::*;
 
 /// A line without its end.
@@ -29,38 +27,16 @@ pub fn text_of(line: &[u8], eol: u8) -> &[u8]
     }
 }
 
-/// Writes the bytes. After a fault a beginning of them was written.
-pub fn put<W: Write>(w: &mut W, bytes: &[u8]) -> Result<(), Fault>
-    ensures ok { OnOk result (Appends (W.contents w.old) (W.contents w.new) bytes.now) }
-    ensures err { OnErr result (AppendsPart (W.contents w.old) (W.contents w.new) bytes.now) }
-{
-    match streams::put(w, bytes, TRIES) {
-        Ok(()) => Ok(()),
-        Err(error) => Err(Fault::Write(error)),
-    }
-}
-
 /// Writes a line, and its end behind it where it has none. After a fault a beginning of that was written.
 pub fn put_line<W: Write>(w: &mut W, line: &[u8], eol: u8) -> Result<(), Fault>
     ensures ok { OnOk result (Appends (W.contents w.old) (W.contents w.new) (as_line_by eol line.now)) }
     ensures err { OnErr result (AppendsPart (W.contents w.old) (W.contents w.new) (as_line_by eol line.now)) }
 {
     if text_of(line, eol).len() < line.len() {
-        return put(w, line);
+        return put(w, line, TRIES);
     }
-    put(w, line)?;
-    put(w, &[eol])
-}
-
-/// Flushes the writer, so that nothing is held back.
-pub fn finish<W: Write + Drop>(w: &mut BufWriter<W>) -> Result<(), Fault>
-    ensures kept { Keeps (writer_contents W.contents w.old) (writer_contents W.contents w.new) }
-    ensures flushed { OnOk result (writer_buffer w.new ≡ []) }
-{
-    match streams::finish(w, TRIES) {
-        Ok(()) => Ok(()),
-        Err(error) => Err(Fault::Write(Some(error))),
-    }
+    put(w, line, TRIES)?;
+    put(w, &[eol], TRIES)
 }
 
 /// How many of the 16 bytes from a place on come before the first that ends a line among them.

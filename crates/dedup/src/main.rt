@@ -16,14 +16,14 @@ mod tests;
 mod unread;
 
 use fault::Fault;
-use hash_program::about::About;
 use hash_program::call::operands;
 use hash_program::inputs::{Told, inputs};
+use hash_program::outcome::{About, failure_of, status_of};
 use hash_program::quoted::quoted;
 use hash_program::reason::reason;
 use hash_program::words::words;
 use hash_texts::RandomKeys;
-use outcome::{Outcome, outcome_failure, outcome_of, outcome_status, unknown_option};
+use outcome::{Outcome, outcome_of, unknown_option};
 use std::io;
 use std::io::BufWriter;
 use std::process::ExitCode;
@@ -81,14 +81,14 @@ fn called(rt: &HostRuntime, words: &[Vec<u8>]) -> io::Result<Outcome> {
 fn why(rt: &HostRuntime, words: &[Vec<u8>], outcome: &Outcome) -> Option<String> {
     let alloc = rt.alloc();
     match outcome {
-        Outcome::Usage => match unknown_option(words) {
+        Outcome::Usage(_) => match unknown_option(words) {
             Some(word) => match quoted(alloc, word) {
                 Ok(text) => Some(text),
                 Err(_) => None,
             },
             None => None,
         },
-        Outcome::Failed(Fault::Write(Some(error))) => match reason(alloc, error) {
+        Outcome::Failed(Fault::Unwritten(Some(error))) => match reason(alloc, error) {
             Ok(text) => Some(text),
             Err(_) => None,
         },
@@ -98,8 +98,8 @@ fn why(rt: &HostRuntime, words: &[Vec<u8>], outcome: &Outcome) -> Option<String>
 
 /// Says what failed and why, unless that is told already, or nobody reads any more.
 fn complain(rt: &HostRuntime, words: &[Vec<u8>], outcome: &Outcome) {
-    let status = outcome_status(outcome);
-    let failure = outcome_failure(outcome);
+    let status = status_of(outcome);
+    let failure = failure_of(outcome);
     if failure.is_empty() || status == 141 {
         return;
     }
@@ -115,12 +115,12 @@ fn complain(rt: &HostRuntime, words: &[Vec<u8>], outcome: &Outcome) {
 /// The status of the call.
 fn status(rt: &HostRuntime) -> u8 {
     let Ok(words) = words(rt) else {
-        complain(rt, &[], &Outcome::NoMemory);
-        return outcome_status(&Outcome::NoMemory);
+        complain(rt, &[], &Outcome::Failed(Fault::NoMemory));
+        return status_of(&Outcome::Failed(Fault::NoMemory));
     };
-    let outcome = called(rt, &words).unwrap_or(Outcome::NoMemory);
+    let outcome = called(rt, &words).unwrap_or(Outcome::Failed(Fault::NoMemory));
     complain(rt, &words, &outcome);
-    outcome_status(&outcome)
+    status_of(&outcome)
 }
 
 fn main(rt: HostRuntime) -> ExitCode {

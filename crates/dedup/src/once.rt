@@ -4,7 +4,7 @@ ghost use Rattle.std.specs.Io.Buffered.{writer_buffer, writer_contents};
 ghost use Rattle.dedup.specs.Lines.{AreSeen, once_by};
 ghost use Rattle.dedup.specs.Running.{Ends, run_of};
 
-use crate::fault::Fault;
+use crate::fault::{Fault, see};
 use crate::lines::{put_line, text_of};
 use crate::run::{Ended, take_inputs};
 use crate::task::LineTask;
@@ -43,7 +43,7 @@ impl<S: BuildHasher + Drop> LineTask for Once<S> {
         guess: usize,
         w: &mut W,
     ) -> Result<(), Fault> {
-        if self.seen.see_at(text_of(line, eol), guess)?.is_new {
+        if see(&mut self.seen, text_of(line, eol), guess)?.is_new {
             put_line(w, line, eol)?;
         }
         Ok(())

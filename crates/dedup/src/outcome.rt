@@ -2,19 +2,18 @@
 ghost use Rattle.std.specs.Prelude.{◌≡◌, ◌∷◌, [], ℕ, List, map, MatchOption};
 ghost use Rattle.hash_program.specs.Call.{texts, unknown};
 ghost use Rattle.std.specs.Io.Buffered.{writer_contents};
-ghost use Rattle.dedup.specs.Program.{Exits, Tells, letters, names, of_run, of_telling, task_of, work_of};
+ghost use Rattle.dedup.specs.Program.{Exits, letters, names, of_run, task_of, work_of};
 ghost use Rattle.dedup.specs.Running.{run_of};
-ghost use Rattle.dedup.specs.Status.{failure_of, status_of};
 
-use crate::fault::Fault;
+use crate::fault::{Fault, TooMany};
 use crate::once::dedup;
 use crate::run::Ended;
 use crate::tally::{Which, tally};
-use hash_program::about;
-use hash_program::about::{About, write_status};
 use hash_program::call::{first_unknown, is_given};
 use hash_program::inputs::Complaints;
-use hash_program::streams::TRIES;
+use hash_program::outcome;
+use hash_program::outcome::{About, Nothing, Wrong, of_telling};
+use hash_program::streams::put_out;
 use std::alloc::Global;
 use std::hash::BuildHasher;
 use std::io::{BufWriter, Read, Write};
@@ -33,21 +32,7 @@ pub enum Task {
 }
 
 /// What came of a call.
-#[derive(Drop)]
-pub enum Outcome {
-    /// The output is whole.
-    Done,
-    /// The call gave an option that there is not. Nothing was read or written.
-    Usage,
-    /// There was no memory for the call's words. Nothing was read or written.
-    NoMemory,
-    /// An input failed, and that was told. What is due of the lines that came whole was written.
-    InputFailed,
-    /// There were more lines than the limit. What was written is a beginning of the output.
-    TooManyLines,
-    /// The output is not whole: what was written is a beginning of it.
-    Failed(Fault),
-}
+pub type Outcome = outcome::Outcome<Nothing, TooMany>;
 
 /// The first word that gives an option that there is not.
 pub fn unknown_option(words: &[Vec<u8>]) -> Option<&[u8]>
@@ -102,34 +87,14 @@ pub fn task_of(words: &[Vec<u8>]) -> Option<Task>
     Some(work_of(words))
 }
 
-/// Writes the text and flushes.
-fn tell<W: Write + Drop>(text: &str, w: &mut BufWriter<W>) -> Result<(), Fault>
-    ensures { Tells text.now (writer_contents W.contents w.old) (writer_contents W.contents w.new) result }
-{
-    match about::tell(text, w, TRIES) {
-        Ok(()) => Ok(()),
-        Err(error) => Err(Fault::Write(error)),
-    }
-}
-
 /// What came of a run.
 fn of_run(ended: Result<Ended, Fault>) -> Outcome
     ensures { result ≡ of_run ended }
 {
     match ended {
         Ok(Ended::Whole) => Outcome::Done,
-        Ok(Ended::InputFailed) => Outcome::InputFailed,
-        Ok(Ended::TooManyLines) => Outcome::TooManyLines,
-        Err(fault) => Outcome::Failed(fault),
-    }
-}
-
-/// What came of telling a text.
-fn of_telling(told: Result<(), Fault>) -> Outcome
-    ensures { result ≡ of_telling told }
-{
-    match told {
-        Ok(()) => Outcome::Done,
+        Ok(Ended::InputFailed) => Outcome::Reported,
+        Ok(Ended::TooManyLines) => Outcome::Failed(Fault::Own(TooMany::Lines)),
         Err(fault) => Outcome::Failed(fault),
     }
 }
@@ -154,35 +119,8 @@ pub fn outcome_of<S: BuildHasher + Drop, R: Read, C: Complaints, W: Write + Drop
         Some(Task::Tallied(which, eol)) => {
             of_run(tally(alloc, hasher, which, eol, limit, inputs, complaints, w))
         }
-        Some(Task::Help) => of_telling(tell(about.help, w)),
-        Some(Task::Version) => of_telling(tell(about.version, w)),
-        None => Outcome::Usage,
-    }
-}
-
-/// What failed, in words; nothing where all went well, or where it is told already.
-pub fn outcome_failure(outcome: &Outcome) -> &'static str
-    ensures { result.now ≡ failure_of outcome.now }
-{
-    match outcome {
-        Outcome::Done | Outcome::InputFailed => "",
-        Outcome::Usage => "unknown option",
-        Outcome::NoMemory | Outcome::Failed(Fault::NoMemory) => "out of memory",
-        Outcome::Failed(Fault::Write(_)) => "write error",
-        Outcome::TooManyLines => "too many lines",
-        Outcome::Failed(Fault::TooManyTexts) => "too many different lines",
-    }
-}
-
-/// The status that the program ends with: 0 where all went well, 2 where the call was wrong, 141 where nobody reads its
-/// output any more, and 1 where it failed otherwise.
-pub fn outcome_status(outcome: &Outcome) -> u8
-    ensures { result ≡ status_of outcome.now }
-{
-    match outcome {
-        Outcome::Done => 0,
-        Outcome::Usage => 2,
-        Outcome::Failed(Fault::Write(Some(error))) => write_status(error.kind()),
-        _ => 1,
+        Some(Task::Help) => of_telling(put_out(w, about.help.as_bytes())),
+        Some(Task::Version) => of_telling(put_out(w, about.version.as_bytes())),
+        None => Outcome::Usage(Wrong::UnknownOption),
     }
 }

@@ -7,10 +7,11 @@ ghost use Rattle.dedup.specs.Running.{EndsTaking, run_of};
 ghost use Rattle.dedup.specs.Taking.{BreaksInput, EndsInput, Grows, LeavesInput, StopsWithin};
 
 use crate::fault::Fault;
-use crate::lines::{finish, take_lines};
+use crate::lines::take_lines;
 use crate::task::LineTask;
 use crate::unread::{Came, Unread};
 use hash_program::inputs::Complaints;
+use hash_program::streams::{TRIES, flush};
 use std::alloc::Global;
 use std::io::{BufWriter, Error, Read, Write};
 
@@ -63,7 +64,7 @@ fn take_last<T: LineTask, W: Write + Drop>(
     }
     task.take_line(line, eol, task.guess(line), w)?;
     *most -= 1;
-    finish(w)?;
+    flush(w, TRIES)?;
     Ok(Left::Done)
 }
 
@@ -96,7 +97,7 @@ fn take_input<T: LineTask, R: Read, W: Write + Drop>(
                 let (count, len) = take_lines(task, unread.bytes(), eol, *most, w)?;
                 *most -= count;
                 unread.pass(len);
-                finish(w)?;
+                flush(w, TRIES)?;
                 if unread.is_beyond(*most) {
                     unread.clear();
                     return Ok(Left::Beyond);
@@ -136,7 +137,7 @@ pub fn take_inputs<T: LineTask, R: Read, C: Complaints, W: Write + Drop>(
     let mut unread = Unread::new(alloc);
     let mut most = limit;
     let mut whole = true;
-    finish(w)?;
+    flush(w, TRIES)?;
     for place in 0..inputs.len() {
         match take_input(task, &mut unread, eol, &mut most, &mut inputs[place], w)? {
             Left::Done => {}

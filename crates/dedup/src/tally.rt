@@ -7,11 +7,12 @@ ghost use Rattle.dedup.specs.Running.{Ends, run_of};
 ghost use Rattle.dedup.specs.Tallies.{Tallies, column, is_shown, shown, told};
 ghost use Rattle.hash_program.specs.Streams.{AppendsPart};
 
-use crate::fault::Fault;
-use crate::lines::{finish, put, text_of};
+use crate::fault::{Fault, see};
+use crate::lines::text_of;
 use crate::run::{Ended, take_inputs};
 use crate::task::LineTask;
 use hash_program::inputs::Complaints;
+use hash_program::streams::{TRIES, flush, put};
 use hash_texts::Texts;
 use std::alloc::{AllocError, Global};
 use std::hash::BuildHasher;
@@ -61,7 +62,7 @@ fn count<S: BuildHasher + Drop>(
         → Tallies eol ls texts.old times.old.items
         → Tallies eol (ls ++ line ∷ []) texts.new times.new.items) }
 {
-    let seen = texts.see_at(text, guess)?;
+    let seen = see(texts, text, guess)?;
     if seen.is_new {
         return match times.push(1) {
             Ok(()) => Ok(()),
@@ -168,7 +169,7 @@ fn tell<S: BuildHasher + Drop, W: Write>(
     let mut out = Vec::new(alloc);
     for i in 0..times.len() {
         show(which, times[i], texts.text_at(i), eol, &mut out)?;
-        put(w, &out)?;
+        put(w, &out, TRIES)?;
     }
     Ok(())
 }
@@ -196,6 +197,6 @@ pub fn tally<S: BuildHasher + Drop, R: Read, C: Complaints, W: Write + Drop>(
         return Ok(ended);
     }
     tell(alloc, which, eol, &counts.texts, &counts.times, w)?;
-    finish(w)?;
+    flush(w, TRIES)?;
     Ok(ended)
 }

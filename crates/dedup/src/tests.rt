@@ -1,11 +1,11 @@
 //! Tests of the program, over readers and writers that cut, fail, and refuse.
-use crate::fault::Fault;
+use crate::fault::{Fault, TooMany};
 use crate::once::dedup;
-use crate::outcome::{Outcome, outcome_failure, outcome_of, outcome_status};
+use crate::outcome::{Outcome, outcome_of};
 use crate::run::Ended;
 use crate::tally::{Which, tally};
-use hash_program::about::About;
 use hash_program::inputs::Complaints;
+use hash_program::outcome::{About, failure_of, status_of};
 use hash_texts::Texts;
 use hashers::build::BuildFresh;
 use hashers::fnv::FNV1aHasher64;
@@ -177,7 +177,7 @@ fn call_of(alloc: Global, words: &[&str]) -> Result<Vec<Vec<u8>>, AllocError> {
 
 /// What became of a call, without the error itself.
 fn status(outcome: &Outcome) -> End {
-    (outcome_status(outcome), outcome_failure(outcome))
+    (status_of(outcome), failure_of(outcome))
 }
 
 /// How many bytes the writer keeps before it writes them.
@@ -389,10 +389,13 @@ fn interrupted_reads(rt: HostRuntime) {
 fn each_fault_is_told(rt: HostRuntime) {
     let broken = || -> io::Error { io::Error::from(ErrorKind::BrokenPipe) };
     let told = [
-        (Fault::Write(Some(broken())), "a write failed: broken pipe"),
-        (Fault::Write(None), "a write took nothing"),
+        (
+            Fault::Unwritten(Some(broken())),
+            "a write failed: broken pipe",
+        ),
+        (Fault::Unwritten(None), "a write took nothing"),
         (Fault::NoMemory, "out of memory"),
-        (Fault::TooManyTexts, "too many different lines"),
+        (Fault::Own(TooMany::Texts), "too many different lines"),
     ];
     for (fault, text) in &told {
         match format!(in rt.alloc(); "{fault}") {
@@ -485,15 +488,9 @@ fn lines_that_end_with_a_zero_byte(rt: HostRuntime) {
 
 #[test]
 fn nobody_reads_any_more(rt: HostRuntime) {
-    let closed = Outcome::Failed(Fault::Write(Some(io::Error::from(ErrorKind::BrokenPipe))));
-    let nothing = Outcome::Failed(Fault::Write(None));
-    all_hold(
-        &rt,
-        &[
-            outcome_status(&closed) == 141,
-            outcome_status(&nothing) == 1,
-        ],
-    );
+    let closed = Outcome::Failed(Fault::Unwritten(Some(io::Error::from(ErrorKind::BrokenPipe))));
+    let nothing = Outcome::Failed(Fault::Unwritten(None));
+    all_hold(&rt, &[status_of(&closed) == 141, status_of(&nothing) == 1]);
 }
 
 /// Whether a run under a limit ended well, and said that there were no more lines, or that there were.

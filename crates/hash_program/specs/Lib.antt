@@ -1,4 +1,4 @@
-pub mod About
 pub mod Call
+pub mod Outcome
 pub mod Reason
 pub mod Streams

@@ -3,9 +3,10 @@
 //! of a failed write.
 #![tactic(auto)]
 
-pub mod about;
 pub mod call;
+pub mod fault;
 pub mod inputs;
+pub mod outcome;
 pub mod progress;
 pub mod quoted;
 pub mod reason;

@@ -1,11 +1,12 @@
 //! Reads and writes, tried again where they were interrupted.
-ghost use Rattle.std.specs.Prelude.{◌≡◌, ◌<◌, ◌≤◌, [], IfOk, OnOk, OnErr, length, take};
+ghost use Rattle.std.specs.Prelude.{◌≡◌, ◌<◌, ◌≤◌, [], IfOk, IfErr, OnOk, OnErr, length, take};
 ghost use Rattle.std.specs.Io.Buffered.{writer_buffer, writer_contents};
 ghost use Rattle.std.specs.Io.KnownBytes.{Appends, Consumes, IsAtEnd, Keeps};
-ghost use Rattle.hash_program.specs.Streams.{AppendsPart, PutsOut};
+ghost use Rattle.hash_program.specs.Streams.{AppendsPart, IsUnwritten, PutsOut};
 
+use crate::fault::Fault;
 use std::io;
-use std::io::{BufWriter, Error, ErrorKind, Read, Write};
+use std::io::{BufWriter, ErrorKind, Read, Write};
 
 /// How often a read or a write that was interrupted is tried again, unless a program says otherwise.
 pub const TRIES: u32 = 1000000;
@@ -31,21 +32,22 @@ pub fn read_some<R: Read>(r: &mut R, room: &mut [u8], tries: u32) -> io::Result<
     }
 }
 
-/// Writes all of the bytes, and tries up to so many times again where a write was interrupted. After a failure, which has
-/// no error where a write took nothing, a beginning of them was written.
-pub fn put<W: Write>(w: &mut W, bytes: &[u8], tries: u32) -> Result<(), Option<Error>>
+/// Writes all of the bytes, and tries up to so many times again where a write was interrupted. After a fault a beginning of them was
+/// written.
+pub fn put<W: Write, Own>(w: &mut W, bytes: &[u8], tries: u32) -> Result<(), Fault<Own>>
     ensures ok { OnOk result (Appends (W.contents w.old) (W.contents w.new) bytes.now) }
     ensures err { OnErr result (AppendsPart (W.contents w.old) (W.contents w.new) bytes.now) }
+    ensures unwritten { IfErr result IsUnwritten }
 {
     let mut rest = bytes;
     let mut left = tries;
     while !rest.is_empty() {
         match w.write(rest) {
-            Ok(0) => return Err(None),
+            Ok(0) => return Err(Fault::Unwritten(None)),
             Ok(n) => rest = &rest[n..],
             Err(error) => {
                 if left == 0 || error.kind() != ErrorKind::Interrupted {
-                    return Err(Some(error));
+                    return Err(Fault::Unwritten(Some(error)));
                 }
                 left -= 1;
             }
@@ -55,9 +57,10 @@ pub fn put<W: Write>(w: &mut W, bytes: &[u8], tries: u32) -> Result<(), Option<E
 }
 
 /// Flushes the writer, so that nothing is held back, and tries up to so many times again where that was interrupted.
-pub fn finish<W: Write + Drop>(w: &mut BufWriter<W>, tries: u32) -> io::Result<()>
+pub fn flush<W: Write + Drop, Own>(w: &mut BufWriter<W>, tries: u32) -> Result<(), Fault<Own>>
     ensures kept { Keeps (writer_contents W.contents w.old) (writer_contents W.contents w.new) }
     ensures flushed { OnOk result (writer_buffer w.new ≡ []) }
+    ensures unwritten { IfErr result IsUnwritten }
 {
     let mut left = tries;
     loop {
@@ -65,7 +68,7 @@ pub fn finish<W: Write + Drop>(w: &mut BufWriter<W>, tries: u32) -> io::Result<(
             Ok(()) => return Ok(()),
             Err(error) => {
                 if left == 0 || error.kind() != ErrorKind::Interrupted {
-                    return Err(error);
+                    return Err(Fault::Unwritten(Some(error)));
                 }
             }
         }
@@ -73,18 +76,10 @@ pub fn finish<W: Write + Drop>(w: &mut BufWriter<W>, tries: u32) -> io::Result<(
     }
 }
 
-/// Writes all of the bytes and flushes, each tried up to so many times again where it was interrupted. After a failure, which has
-/// no error where a write took nothing, a beginning of them was written.
-pub fn put_out<W: Write + Drop>(
-    w: &mut BufWriter<W>,
-    bytes: &[u8],
-    tries: u32,
-) -> Result<(), Option<Error>>
+/// Writes all of the bytes and flushes, each tried again where it was interrupted. After a fault a beginning of them was written.
+pub fn put_out<W: Write + Drop, Own>(w: &mut BufWriter<W>, bytes: &[u8]) -> Result<(), Fault<Own>>
     ensures { PutsOut bytes.now (writer_contents W.contents w.old) (writer_contents W.contents w.new) result }
 {
-    put(w, bytes, tries)?;
-    match finish(w, tries) {
-        Ok(()) => Ok(()),
-        Err(error) => Err(Some(error)),
-    }
+    put(w, bytes, TRIES)?;
+    flush(w, TRIES)
 }

@@ -1,11 +1,11 @@
 //! A number as a line.
-ghost use Rattle.std.specs.Prelude.{◌≡◌, OnOk, OnErr};
-ghost use Rattle.std.specs.Io.KnownBytes.{Appends};
+ghost use Rattle.std.specs.Prelude.{◌≡◌};
 ghost use Rattle.hashof.specs.Line.{line_of};
-ghost use Rattle.hash_program.specs.Streams.{AppendsPart};
+ghost use Rattle.hash_program.specs.Streams.{PutsOut};
 
+use hash_program::fault::Fault;
 use hash_program::streams::put;
-use std::io::{Error, Write};
+use std::io::Write;
 
 /// The most bytes of a line: twenty digits and a newline.
 const LINE: usize = 21;
@@ -28,14 +28,13 @@ fn put_line(number: u64, line: &mut [u8; LINE]) -> &[u8]
 }
 
 /// Writes the line of a number and flushes. The first error, `Interrupted` too, or a write that takes nothing ends it.
-pub fn write_line<W: Write>(w: &mut W, number: u64) -> Result<(), Option<Error>>
-    ensures ok { OnOk result (Appends (W.contents w.old) (W.contents w.new) (line_of number)) }
-    ensures err { OnErr result (AppendsPart (W.contents w.old) (W.contents w.new) (line_of number)) }
+pub fn write_line<W: Write, Own: Drop>(w: &mut W, number: u64) -> Result<(), Fault<Own>>
+    ensures { PutsOut (line_of number) (W.contents w.old) (W.contents w.new) result }
 {
     let mut line = [0u8; LINE];
     put(w, put_line(number, &mut line), 0)?;
     match w.flush() {
         Ok(()) => Ok(()),
-        Err(error) => Err(Some(error)),
+        Err(error) => Err(Fault::Unwritten(Some(error))),
     }
 }

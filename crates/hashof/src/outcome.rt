@@ -6,11 +6,14 @@ ghost use Rattle.hashof.specs.Running.{run_of};
 ghost use Rattle.hashof.specs.Status.{complaint_of, status_of};
 
 use crate::run::{LIMIT, RunFault, run_limited};
+use hash_names::reading::Unhashed;
+use hash_program::fault::Fault;
 use std::env::Args;
 use std::io;
 use std::io::{ErrorKind, Read, Write};
 
 /// What came of a run of the program.
+#[derive(Drop)]
 pub enum Outcome {
     /// The hash was told.
     Done,
@@ -20,15 +23,6 @@ pub enum Outcome {
     NoMemory,
     /// No hash was told.
     Failed(RunFault),
-}
-
-impl Drop for Outcome {
-    fn drop(self) {
-        match self {
-            Outcome::Done | Outcome::Usage | Outcome::NoMemory => {}
-            Outcome::Failed(_) => {}
-        }
-    }
 }
 
 /// Does what the arguments ask for, as the system gives them, the program's own name first: tells the hash of the one
@@ -74,11 +68,12 @@ pub fn outcome_line(outcome: &Outcome) -> &'static str
     match outcome {
         Outcome::Done => "",
         Outcome::Usage => "usage: hashof NAME\n",
-        Outcome::NoMemory => "hashof: out of memory\n",
-        Outcome::Failed(RunFault::UnknownName) => "hashof: unknown name\n",
-        Outcome::Failed(RunFault::ReadFault(_)) => "hashof: read fault\n",
-        Outcome::Failed(RunFault::TooLong) => "hashof: input too long\n",
-        Outcome::Failed(RunFault::WriteFault(_)) => "hashof: write fault\n",
+        Outcome::NoMemory | Outcome::Failed(Fault::NoMemory) => "hashof: out of memory\n",
+        Outcome::Failed(Fault::Own(Unhashed::UnknownName)) => "hashof: unknown name\n",
+        Outcome::Failed(Fault::Own(Unhashed::TooLong)) => "hashof: input too long\n",
+        Outcome::Failed(Fault::Own(Unhashed::ReadFault(_)) | Fault::Unread(_)) =>
+            "hashof: read fault\n",
+        Outcome::Failed(Fault::Unwritten(_)) => "hashof: write fault\n",
     }
 }
 
@@ -88,7 +83,7 @@ pub fn outcome_status(outcome: &Outcome) -> u8
 {
     match outcome {
         Outcome::Done => 0,
-        Outcome::Usage | Outcome::Failed(RunFault::UnknownName) => 2,
+        Outcome::Usage | Outcome::Failed(Fault::Own(Unhashed::UnknownName)) => 2,
         _ => 1,
     }
 }

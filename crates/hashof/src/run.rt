@@ -1,77 +1,15 @@
 //! The line of a named hash of what a reader gives.
-ghost use Rattle.std.specs.Prelude.{◌≡◌};
-ghost use Rattle.hashof.specs.Running.{Ends, fault_of, run_of};
+ghost use Rattle.hashof.specs.Running.{Ends, run_of};
 
 use crate::line::write_line;
 use crate::named::hash_named;
-use hash_laws::engine::Fault;
 use hash_names::reading::Unhashed;
-use std::error::Error as StdError;
-use std::fmt;
-use std::fmt::{Debug, Display, Formatter};
-use std::io::{Error, Read, Write};
+use hash_program::fault::Fault;
+use std::io::{Read, Write};
 
-/// Why no hash was told. The cases are tried in this order.
-pub enum RunFault {
-    /// The name isn't known. Nothing was read or written.
-    UnknownName,
-    /// A read failed. Nothing was written.
-    ReadFault(Fault),
-    /// As many bytes were read as the limit allows, and no end was seen. Nothing was written.
-    TooLong,
-    /// A write or the flush answered this error, or a write took nothing. A beginning of the line was written, the
-    /// whole line where the flush failed.
-    WriteFault(Option<Error>),
-}
-
-impl Drop for RunFault {
-    fn drop(self) {
-        match self {
-            RunFault::UnknownName | RunFault::TooLong => {}
-            RunFault::ReadFault(_) => {}
-            RunFault::WriteFault(_) => {}
-        }
-    }
-}
-
-/// Names the case, with the error in its own form for programmers.
-impl Debug for RunFault {
-    fn fmt<W: fmt::Write>(&self, f: &mut Formatter<W>) -> fmt::Result {
-        match self {
-            RunFault::UnknownName => write!(f, "UnknownName"),
-            RunFault::ReadFault(fault) => write!(f, "ReadFault({fault:?})"),
-            RunFault::TooLong => write!(f, "TooLong"),
-            RunFault::WriteFault(error) => write!(f, "WriteFault({error:?})"),
-        }
-    }
-}
-
-impl Display for RunFault {
-    fn fmt<W: fmt::Write>(&self, f: &mut Formatter<W>) -> fmt::Result {
-        match self {
-            RunFault::UnknownName => write!(f, "no hash has this name"),
-            RunFault::ReadFault(fault) => write!(f, "{fault}"),
-            RunFault::TooLong => write!(f, "the input is too long"),
-            RunFault::WriteFault(Some(error)) => write!(f, "a write failed: {error}"),
-            RunFault::WriteFault(None) => write!(f, "a write took nothing"),
-        }
-    }
-}
-
-impl StdError for RunFault {}
-
-/// Why there is no hash, as the fault of a run.
-impl From<Unhashed> for RunFault {
-    ghost from_gives = { λ unhashed fault. fault ≡ fault_of unhashed };
-
-    fn from(unhashed: Unhashed) -> RunFault {
-        match unhashed {
-            Unhashed::UnknownName => RunFault::UnknownName,
-            Unhashed::ReadFault(fault) => RunFault::ReadFault(fault),
-            Unhashed::TooLong => RunFault::TooLong,
-        }
-    }
-}
+/// Why no hash was told. What is read may have none: then nothing was written, and of an unknown name nothing was read. Or a write or
+/// the flush failed, or a write took nothing: then a beginning of the line was written, the whole line where the flush failed.
+pub type RunFault = Fault<Unhashed>;
 
 /// The bytes from which on an input is too long: 2^40.
 pub const LIMIT: u64 = 1 << 40;
@@ -90,10 +28,9 @@ pub fn run_limited<R: Read, W: Write>(
 ) -> Result<(), RunFault>
     ensures { Ends name.now (run_of limit R.remaining r.old r.new W.contents w.old w.new) result }
 {
-    let hash = hash_named(name, limit, r)?;
-    match write_line(w, hash) {
-        Ok(()) => Ok(()),
-        Err(error) => Err(RunFault::WriteFault(error)),
+    match hash_named(name, limit, r) {
+        Ok(hash) => write_line(w, hash),
+        Err(unhashed) => Err(Fault::Own(unhashed)),
     }
 }
 

@@ -5,8 +5,11 @@ use crate::outcome::{Outcome, outcome_line, outcome_status};
 use crate::run::{RunFault, run, run_limited};
 use hash_bytes::fnv::FNV1aHasher64;
 use hash_jenkins::Lookup3Hasher;
-use hash_laws::engine::{Fault, hash_reader};
+use hash_laws::engine;
+use hash_laws::engine::hash_reader;
+use hash_names::reading::Unhashed;
 use hash_names::table::Kind;
+use hash_program::fault::Fault;
 use std::hash::Hasher;
 use std::io;
 use std::io::{ErrorKind, Read, Write};
@@ -148,11 +151,11 @@ enum End {
 fn end_of(outcome: Result<(), RunFault>) -> End {
     match &outcome {
         Ok(()) => End::Told,
-        Err(RunFault::UnknownName) => End::Unknown,
-        Err(RunFault::ReadFault(fault)) => End::Read(fault.bytes, fault.error.kind()),
-        Err(RunFault::TooLong) => End::Long,
-        Err(RunFault::WriteFault(Some(error))) => End::Write(Some(error.kind())),
-        Err(RunFault::WriteFault(None)) => End::Write(None),
+        Err(Fault::Own(Unhashed::UnknownName)) => End::Unknown,
+        Err(Fault::Own(Unhashed::ReadFault(fault))) => End::Read(fault.bytes, fault.error.kind()),
+        Err(Fault::Own(Unhashed::TooLong)) => End::Long,
+        Err(Fault::Unwritten(Some(error))) => End::Write(Some(error.kind())),
+        Err(_) => End::Write(None),
     }
 }
 
@@ -461,7 +464,7 @@ const ENDS: [(&str, u8); 7] = [
 
 #[test]
 fn ends_by_the_table(rt: HostRuntime) {
-    let fault = Fault {
+    let fault = engine::Fault {
         bytes: 3,
         error: io::Error::from(ErrorKind::BrokenPipe),
     };
@@ -469,10 +472,10 @@ fn ends_by_the_table(rt: HostRuntime) {
         Outcome::Done,
         Outcome::Usage,
         Outcome::NoMemory,
-        Outcome::Failed(RunFault::UnknownName),
-        Outcome::Failed(RunFault::ReadFault(fault)),
-        Outcome::Failed(RunFault::TooLong),
-        Outcome::Failed(RunFault::WriteFault(None)),
+        Outcome::Failed(Fault::Own(Unhashed::UnknownName)),
+        Outcome::Failed(Fault::Own(Unhashed::ReadFault(fault))),
+        Outcome::Failed(Fault::Own(Unhashed::TooLong)),
+        Outcome::Failed(Fault::Unwritten(None)),
     ];
     for (turn, (line, status)) in ENDS.iter().enumerate() {
         let outcome = &outcomes[turn];

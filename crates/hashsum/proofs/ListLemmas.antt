@@ -1,12 +1,13 @@
 -- Lists whose lines are checked.
-use Rattle.std.proofs.Common.{◌≡◌, inl, inr, ℕ, true, List, [], ◌∷◌, ◌++◌, Option, None, Ok, Err, refl, ap, sym, ◌∙◌, subst}
+use Rattle.std.proofs.Common.{◌≡◌, inl, inr, ℕ, true, List, [], ◌∷◌, ◌++◌, Option, Ok, Err, refl, ap, sym, ◌∙◌, subst}
 use Rattle.std.proofs.KnownBytes.{Keeps-refl}
 use Rattle.std.proofs.lemmas.List.Sums.{fold-append}
 use Rattle.hash_lines.specs.declared.line.Kind.{Kind}
 use Rattle.hashsum.specs.declared.check.Came.{Came}
 use Rattle.hashsum.specs.declared.check.Checking.{Checking}
 use Rattle.hashsum.specs.declared.check.Counts.{Counts}
-use Rattle.hashsum.specs.declared.fault.Fault.{Fault}
+use Rattle.hash_program.specs.declared.fault.Fault.{Fault}
+use Rattle.hash_program.specs.declared.outcome.Nothing.{Nothing}
 use Rattle.hashsum.specs.Checking.{counted}
 use Rattle.hashsum.specs.Files.{Opens}
 use Rattle.hashsum.specs.Lists.{counts_of, said_of, uncounted, AreLines, EndsLine, EndsList, IsCameOf, IsNext}
@@ -46,7 +47,7 @@ so_far_more kinds checking opens left here left' written between written' counts
 
 -- a line of which a beginning of what came was written
 pub torn_off : (kinds : List Kind) (checking : Checking) (opens : Opens)
-    (left here left' written between written' : Option (List ℕ)) (counts : Counts) (line given : List ℕ) (fault : Fault)
+    (left here left' written between written' : Option (List ℕ)) (counts : Counts) (line given : List ℕ) (fault : Fault Nothing)
     → SoFar kinds checking opens left here written between counts → IsNext here line left' → given ≡ line
     → EndsLine kinds checking opens given between written' (Err fault)
     → EndsList kinds checking opens left written written' (Err fault)
@@ -70,7 +71,7 @@ torn_off kinds checking opens left here left' written between written' counts li
 
 -- nothing is read or written
 pub list_torn_off : (kinds : List Kind) (checking : Checking) (opens : Opens) (left written : Option (List ℕ))
-    (fault : Fault) → EndsList kinds checking opens left written written (Err fault)
+    (fault : Fault Nothing) → EndsList kinds checking opens left written written (Err fault)
 list_torn_off kinds checking opens left written fault = (
   [],
   left,

@@ -7,22 +7,24 @@ use Rattle.std.specs.IoError.{error_kind}
 use Rattle.std.specs.declared.io.ErrorKind.{ErrorKind}
 use Rattle.std.specs.declared.io.ErrorKind.TheVariants.{BrokenPipe}
 use Rattle.hash_lines.specs.declared.line.Kind.{Kind}
-use Rattle.hash_program.specs.About.{write_status}
 use Rattle.hashsum.specs.declared.check.Came.{Came}
 use Rattle.hashsum.specs.declared.check.Came.TheVariants.{Skipped, Improper, Checked}
 use Rattle.hashsum.specs.declared.check.Checking.{Checking}
 use Rattle.hashsum.specs.declared.check.Counts.{Counts}
 use Rattle.hashsum.specs.declared.check.Verdict.TheVariants.{Same, Different, Unread, Missing}
-use Rattle.hashsum.specs.declared.fault.Fault.{Fault}
-use Rattle.hashsum.specs.declared.fault.Fault.TheVariants.{Unwritten, NoMemory}
-use Rattle.hashsum.specs.declared.outcome.Outcome.{Outcome}
+use Rattle.hash_program.specs.declared.fault.Fault.{Fault}
+use Rattle.hash_program.specs.declared.outcome.Nothing.{Nothing}
+use Rattle.hash_program.specs.declared.fault.Fault.TheVariants.{Unwritten}
+use Rattle.hash_program.specs.declared.outcome.Outcome.{Outcome}
+use Rattle.hashsum.specs.declared.outcome.Misuse.{Misuse}
 use Rattle.hashsum.specs.declared.outcome.Task.TheVariants.{Check}
 use Rattle.hashsum.specs.Checking.{counted, one_more, passes}
 use Rattle.hashsum.specs.Files.{Opens}
 use Rattle.hashsum.specs.Lists.{counts_of, uncounted, AreLines, AreListed, EndsListOf, EndsLists}
 use Rattle.hashsum.specs.Lists.AreListed.{next_list, no_list}
 use Rattle.hashsum.specs.Passed.{fails, is_same, HasPassed}
-use Rattle.hashsum.specs.Program.{of_run, status_of, EndsTask}
+use Rattle.hash_program.specs.Outcome.{status_of, write_status}
+use Rattle.hashsum.specs.Program.{of_run, EndsTask}
 
 -- one of some is one of more
 Any-later : {X : Type 0} (P : X → Type 0) (x : X) (xs : List X) → Any P xs → Any P (x ∷ xs)
@@ -201,14 +203,14 @@ module _ (kinds : List Kind) (checking : Checking) (opens : Opens) where
   fails_badly BrokenPipe is = omega arith
   fails_badly kind is = omega arith
 
-  ends_well : (ended : Result Bool Fault) → status_of (of_run ended) ≡ 0 → ended ≡ Ok true
+  ends_well : (ended : Result Bool (Fault Nothing)) → status_of (of_run ended) ≡ 0 → ended ≡ Ok true
   ends_well (Ok true) is = refl
   ends_well (Ok false) is = absurd (omega arith)
   ends_well (Err (Unwritten (Some error))) is = absurd (fails_badly (error_kind error) is)
   ends_well (Err (Unwritten None)) is = absurd (omega arith)
-  ends_well (Err NoMemory) is = absurd (omega arith)
+  ends_well (Err fault) is = absurd (omega arith)
 
-  pub check_passed : (lists : List (List ℕ)) (help version list : List ℕ) (w w' : Option (List ℕ)) (outcome : Outcome)
+  pub check_passed : (lists : List (List ℕ)) (help version list : List ℕ) (w w' : Option (List ℕ)) (outcome : Outcome Misuse Nothing)
       → EndsTask kinds opens lists help version list w w' (Ok (Check checking)) outcome → status_of outcome ≡ 0
       → All (HasPassed kinds checking opens) lists
   check_passed lists help version list w w' outcome (ended, ends, is) zero =

@@ -8,7 +8,8 @@ use Rattle.hash_program.specs.Streams.{AppendsPart}
 use Rattle.hashsum.specs.declared.check.Came.{Came}
 use Rattle.hashsum.specs.declared.check.Checking.{Checking}
 use Rattle.hashsum.specs.declared.check.Counts.{Counts}
-use Rattle.hashsum.specs.declared.fault.Fault.{Fault}
+use Rattle.hash_program.specs.declared.fault.Fault.{Fault}
+use Rattle.hash_program.specs.declared.outcome.Nothing.{Nothing}
 use Rattle.hashsum.specs.Checking.{counted, passes, said, IsCame}
 use Rattle.hashsum.specs.Files.{Opens}
 use Rattle.hashsum.specs.Told.{AreTold, AreTornOff}
@@ -46,7 +47,7 @@ counts_of lines = fold (λ counts line. counted counts line.1) uncounted lines
 
 -- how a line ends: what came of it was written, or a beginning of that, or nothing
 abbrev pub EndsLine : List Kind → Checking → Opens → (line : List ℕ) (written written' : Option (List ℕ))
-    → Result Came Fault → Type 0
+    → Result Came (Fault Nothing) → Type 0
 EndsLine kinds checking opens line written written' (Ok came) =
     IsCameOf kinds checking opens (line, came) × Appends written written' (said_of checking (line, came))
 EndsLine kinds checking opens line written written' (Err fault) = Keeps written written' ⊎ ((came : Came)
@@ -55,7 +56,7 @@ EndsLine kinds checking opens line written written' (Err fault) = Keeps written 
 -- how a list ends of which these bytes are left: what came of all its lines was written, and the counts are theirs; or it failed,
 -- and the same holds of its first lines; or a beginning of this was written
 abbrev pub EndsList : List Kind → Checking → Opens → (left : Option (List ℕ))
-    (written written' : Option (List ℕ)) → Result (Option Counts) Fault → Type 0
+    (written written' : Option (List ℕ)) → Result (Option Counts) (Fault Nothing) → Type 0
 EndsList kinds checking opens left written written' (Ok (Some counts)) =
     (lines : List (List ℕ)) × (left' : Option (List ℕ)) × AreLines left lines left' × IsAtEnd left'
     × (told : List (List ℕ × Came))
@@ -70,7 +71,7 @@ EndsList kinds checking opens left written written' (Err fault) =
     × AreTornOff (λ line. line.0) (IsCameOf kinds checking opens) (said_of checking) (λ line. true) lines written written'
 
 -- how a list ends that was opened: its lines pass or do not, or it failed; or a beginning of what is due was written
-abbrev pub EndsOpened : List Kind → Checking → Opens → (left written written' : Option (List ℕ)) → Result Bool Fault → Type 0
+abbrev pub EndsOpened : List Kind → Checking → Opens → (left written written' : Option (List ℕ)) → Result Bool (Fault Nothing) → Type 0
 EndsOpened kinds checking opens left written written' (Ok passed) =
     ((counts : Counts) × EndsList kinds checking opens left written written' (Ok (Some counts))
     × (passed ≡ passes checking.strict counts))
@@ -79,7 +80,7 @@ EndsOpened kinds checking opens left written written' (Err fault) = EndsList kin
 
 -- how the list of a name ends: as what it opens does; or it could not be opened, and does not pass
 abbrev pub EndsListOf : List Kind → Checking → Opens → (list : List ℕ) (written written' : Option (List ℕ))
-    → Result Bool Fault → Type 0
+    → Result Bool (Fault Nothing) → Type 0
 EndsListOf kinds checking opens list written written' ended =
     ((held : Option (List ℕ)) × opens list (Ok held) × EndsOpened kinds checking opens held written written' ended)
     ⊎ ((error : Error) × opens list (Err error) × Keeps written written' × (ended ≡ Ok false))
@@ -94,7 +95,7 @@ pub data AreListed (kinds : List Kind) (checking : Checking) (opens : Opens) : (
 
 -- how a run over the lists of these names ends: all ended, or some did and of the next a beginning of what is due was written
 abbrev pub EndsLists : List Kind → Checking → Opens → (lists : List (List ℕ))
-    (written written' : Option (List ℕ)) → Result Bool Fault → Type 0
+    (written written' : Option (List ℕ)) → Result Bool (Fault Nothing) → Type 0
 EndsLists kinds checking opens lists written written' (Ok all) = AreListed kinds checking opens lists written written' all
 EndsLists kinds checking opens lists written written' (Err fault) =
     (before after : List (List ℕ)) × (list : List ℕ) × (before ++ list ∷ after ≡ lists) × (between : Option (List ℕ)) × (all : Bool)

@@ -1,25 +1,25 @@
 -- What the program is asked for, and how it ends.
 use Rattle.std.specs.Prelude.{ℕ, ◌≡◌, ◌||◌, if◌then◌else◌, Bool, true, false, List, [], ◌∷◌, Option, Some, None, Result, Ok, Err, map, codes}
 use Rattle.std.specs.Io.KnownBytes.{Keeps}
-use Rattle.std.specs.IoError.{error_kind}
 use Rattle.std.specs.Char.{to_ascii_lowercase}
 use Rattle.std.specs.List.{find}
 use Rattle.std.specs.Str.{bytes_eq}
-use Rattle.std.specs.declared.io.Error.{Error}
 use Rattle.hash_lines.specs.declared.line.Form.TheVariants.{Tagged, Untagged}
 use Rattle.hash_lines.specs.declared.line.Kind.{Kind}
-use Rattle.hash_program.specs.About.{write_status}
 use Rattle.hash_program.specs.Call.{given, unknown}
+use Rattle.hash_program.specs.Outcome.{of_telling}
 use Rattle.hash_program.specs.Streams.{PutsOut}
+use Rattle.hash_program.specs.declared.fault.Fault.{Fault}
+use Rattle.hash_program.specs.declared.outcome.Nothing.{Nothing}
+use Rattle.hash_program.specs.declared.outcome.Outcome.{Outcome}
+use Rattle.hash_program.specs.declared.outcome.Outcome.TheVariants.{Done, Usage, Reported, Failed}
+use Rattle.hash_program.specs.declared.outcome.Wrong.{Wrong}
+use Rattle.hash_program.specs.declared.outcome.Wrong.TheVariants.{UnknownOption, UnknownName, Own}
 use Rattle.hashsum.specs.declared.check.Checking.{Checking}
-use Rattle.hashsum.specs.declared.fault.Fault.{Fault}
-use Rattle.hashsum.specs.declared.fault.Fault.TheVariants.{Unwritten, NoMemory}
-use Rattle.hashsum.specs.declared.outcome.Outcome.{Outcome}
-use Rattle.hashsum.specs.declared.outcome.Outcome.TheVariants as outcome
+use Rattle.hashsum.specs.declared.outcome.Misuse.{Misuse}
+use Rattle.hashsum.specs.declared.outcome.Misuse.TheVariants as misuse
 use Rattle.hashsum.specs.declared.outcome.Task.{Task}
 use Rattle.hashsum.specs.declared.outcome.Task.TheVariants as task
-use Rattle.hashsum.specs.declared.outcome.Wrong.{Wrong}
-use Rattle.hashsum.specs.declared.outcome.Wrong.TheVariants as wrong
 use Rattle.hashsum.specs.declared.sum.Summing.{Summing}
 use Rattle.hashsum.specs.Files.{Opens}
 use Rattle.hashsum.specs.Lists.{EndsLists}
@@ -71,24 +71,24 @@ gives_checking words = given None (codes "status") words || given None (codes "s
     || given (Some 119) (codes "warn") words
 
 -- what is to be done by a hash
-abbrev pub work_of : List (List ℕ) → Kind → Result Task Wrong
-work_of words kind = if given (Some 99) (codes "check") words then (if gives_writing words then Err wrong.NotWithCheck else Ok
+abbrev pub work_of : List (List ℕ) → Kind → Result Task (Wrong Misuse)
+work_of words kind = if given (Some 99) (codes "check") words then (if gives_writing words then Err (Own misuse.NotWithCheck) else Ok
     (task.Check (checking_of words kind))) else
-    (if gives_checking words then Err wrong.OnlyWithCheck else Ok (task.Sum (summing_of words kind)))
+    (if gives_checking words then Err (Own misuse.OnlyWithCheck) else Ok (task.Sum (summing_of words kind)))
 
 -- the same, where there is such a hash
-abbrev pub work_by : List (List ℕ) → Option Kind → Result Task Wrong
-work_by words None = Err wrong.UnknownName
+abbrev pub work_by : List (List ℕ) → Option Kind → Result Task (Wrong Misuse)
+work_by words None = Err UnknownName
 work_by words (Some kind) = work_of words kind
 
 -- what words ask for that give these unknown options
-abbrev pub asked : (new words : List (List ℕ)) (lacks_name : Bool) → Option Kind → Result Task Wrong
-asked (word ∷ more) words lacks_name kind = Err wrong.UnknownOption
+abbrev pub asked : (new words : List (List ℕ)) (lacks_name : Bool) → Option Kind → Result Task (Wrong Misuse)
+asked (word ∷ more) words lacks_name kind = Err UnknownOption
 asked [] words lacks_name kind = if given None (codes "help") words then Ok task.Help else if given None (codes "version") words then Ok
-    task.Version else if given None (codes "list") words then Ok task.List else if lacks_name then Err wrong.NoName else work_by words kind
+    task.Version else if given None (codes "list") words then Ok task.List else if lacks_name then Err (Own misuse.NoName) else work_by words kind
 
 -- what the words of a call ask for, by a hash of that name
-abbrev pub task_of : List Kind → (words : List (List ℕ)) (name : Option (List ℕ)) (lacks_name : Bool) → Result Task Wrong
+abbrev pub task_of : List Kind → (words : List (List ℕ)) (name : Option (List ℕ)) (lacks_name : Bool) → Result Task (Wrong Misuse)
 task_of kinds words name lacks_name = asked (unknown letters names words) words lacks_name (kind_of kinds name)
 
 -- the files of a call: its operands, or standard input
@@ -96,52 +96,31 @@ abbrev pub files_or : (operands : List (List ℕ)) → List (List ℕ)
 files_or [] = codes "-" ∷ []
 files_or (name ∷ more) = name ∷ more
 
--- what came of a run, and of telling a text
-abbrev pub of_run : Result Bool Fault → Outcome
-of_run (Ok true) = outcome.Done
-of_run (Ok false) = outcome.FileFailed
-of_run (Err fault) = outcome.Failed fault
-
-abbrev pub of_telling : Result (Unit {0}) (Option Error) → Outcome
-of_telling (Ok done) = outcome.Done
-of_telling (Err error) = outcome.Failed (Unwritten error)
+-- what came of a run
+abbrev pub of_run : Result Bool (Fault Nothing) → Outcome Misuse Nothing
+of_run (Ok true) = Done
+of_run (Ok false) = Reported
+of_run (Err fault) = Failed fault
 
 -- a text is written
-abbrev pub Tells : (text : List ℕ) (written written' : Option (List ℕ)) → Outcome → Type 0
-Tells text written written' result = (told : Result (Unit {0}) (Option Error)) × PutsOut text written written' told
+abbrev pub Tells : (text : List ℕ) (written written' : Option (List ℕ)) → Outcome Misuse Nothing → Type 0
+Tells text written written' result = (told : Result (Unit {0}) (Fault Nothing)) × PutsOut text written written' told
     × (result ≡ of_telling told)
 
 -- how a task ends over the files of these names; a wrong call writes nothing
 abbrev pub EndsTask : List Kind → Opens → (files : List (List ℕ)) (help version list : List ℕ)
-    (written written' : Option (List ℕ)) → Result Task Wrong → Outcome → Type 0
+    (written written' : Option (List ℕ)) → Result Task (Wrong Misuse) → Outcome Misuse Nothing → Type 0
 EndsTask kinds opens files help version list written written' (Ok (task.Sum summing)) result =
-    (ended : Result Bool Fault) × EndsSums summing opens files written written' ended × (result ≡ of_run ended)
+    (ended : Result Bool (Fault Nothing)) × EndsSums summing opens files written written' ended × (result ≡ of_run ended)
 EndsTask kinds opens files help version list written written' (Ok (task.Check checking)) result =
-    (ended : Result Bool Fault) × EndsLists kinds checking opens files written written' ended × (result ≡ of_run ended)
+    (ended : Result Bool (Fault Nothing)) × EndsLists kinds checking opens files written written' ended × (result ≡ of_run ended)
 EndsTask kinds opens files help version list written written' (Ok task.List) result = Tells list written written' result
 EndsTask kinds opens files help version list written written' (Ok task.Help) result = Tells help written written' result
 EndsTask kinds opens files help version list written written' (Ok task.Version) result = Tells version written written' result
-EndsTask kinds opens files help version list written written' (Err wrong) result = (result ≡ outcome.Usage wrong) × Keeps written written'
+EndsTask kinds opens files help version list written written' (Err wrong) result = (result ≡ Usage wrong) × Keeps written written'
 
--- the status that each outcome ends with
-abbrev pub status_of : Outcome → ℕ
-status_of outcome.Done = 0
-status_of (outcome.Usage wrong) = 2
-status_of outcome.NoMemory = 1
-status_of outcome.FileFailed = 1
-status_of (outcome.Failed (Unwritten (Some error))) = write_status (error_kind error)
-status_of (outcome.Failed (Unwritten None)) = 1
-status_of (outcome.Failed NoMemory) = 1
-
--- what it says on standard error that failed
-abbrev pub failure_of : Outcome → List ℕ
-failure_of outcome.Done = []
-failure_of outcome.FileFailed = []
-failure_of (outcome.Usage wrong.UnknownOption) = codes "unknown option"
-failure_of (outcome.Usage wrong.NoName) = codes "-a wants the name of a hash"
-failure_of (outcome.Usage wrong.UnknownName) = codes "unknown name"
-failure_of (outcome.Usage wrong.NotWithCheck) = codes "-z, --tag and --untagged do not go with -c"
-failure_of (outcome.Usage wrong.OnlyWithCheck) = codes "--status, --strict, --ignore-missing and -w go with -c alone"
-failure_of outcome.NoMemory = codes "out of memory"
-failure_of (outcome.Failed (Unwritten error)) = codes "write error"
-failure_of (outcome.Failed NoMemory) = codes "out of memory"
+-- what it says on standard error of what else is wrong with a call
+abbrev pub words_of : Misuse → List ℕ
+words_of misuse.NoName = codes "-a wants the name of a hash"
+words_of misuse.NotWithCheck = codes "-z, --tag and --untagged do not go with -c"
+words_of misuse.OnlyWithCheck = codes "--status, --strict, --ignore-missing and -w go with -c alone"

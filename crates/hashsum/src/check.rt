@@ -8,13 +8,14 @@ ghost use Rattle.std.specs.Io.BufRead.{strip_last};
 ghost use Rattle.std.specs.Io.Buffered.{writer_contents};
 ghost use Rattle.std.specs.Io.KnownBytes.{IsAtEnd};
 
-use crate::fault::{Fault, write};
+use crate::fault::Fault;
 use crate::folder::Folder;
 use crate::sum::{Unsummed, error_of, number_of};
 use hash_lines::escape::needs_escape;
 use hash_lines::forms::parse_form;
 use hash_lines::line::{Kind, push_name};
 use hash_lines::parse::{Entry, parse_line};
+use hash_program::streams::put_out;
 use std::alloc::{AllocError, Global};
 use std::io;
 use std::io::{BufRead, BufReader, BufWriter, Error, ErrorKind, Read, Write};
@@ -318,7 +319,7 @@ fn tell_line<'k, R: Read + Drop, F: Folder<R>, W: Write + Drop>(
         Ok(said) => said,
         Err(_) => return Err(Fault::NoMemory),
     };
-    match write(&said, w) {
+    match put_out(w, &said) {
         Ok(()) => Ok(came),
         Err(fault) => Err(fault),
     }

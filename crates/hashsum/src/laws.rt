@@ -6,11 +6,14 @@ ghost use Rattle.hashers.specs.Fx.{words32, words64};
 ghost use Rattle.hash_lines.specs.declared.line.Kind.{Kind as LineKind};
 ghost use Rattle.hash_more.specs.Bursts.{DifferWithinBits};
 ghost use Rattle.hashsum.specs.declared.check.Checking.{Checking};
-ghost use Rattle.hashsum.specs.declared.outcome.Outcome.{Outcome};
+ghost use Rattle.hashsum.specs.declared.outcome.Misuse.{Misuse};
 ghost use Rattle.hashsum.specs.declared.outcome.Task.TheVariants.{Check};
 ghost use Rattle.hashsum.specs.Laws.{DifferAtOneWord, NeverPasses};
 ghost use Rattle.hashsum.specs.Passed.{HasPassed};
-ghost use Rattle.hashsum.specs.Program.{EndsTask, status_of};
+ghost use Rattle.hash_program.specs.Outcome.{status_of};
+ghost use Rattle.hash_program.specs.declared.outcome.Nothing.{Nothing};
+ghost use Rattle.hash_program.specs.declared.outcome.Outcome.{Outcome};
+ghost use Rattle.hashsum.specs.Program.{EndsTask};
 ghost use Rattle.hashsum.specs.Sums.{number_named, sum_at, told_at};
 
 use crate::folder::Folder;
@@ -97,7 +100,7 @@ pub fn a_changed_word_never_passes<R: Read, F: Folder<R>>()
 /// at least one line of each list, the file has the hash.
 pub fn a_check_that_ends_well<R: Read, F: Folder<R>>()
     ensures { (folder : F) (kinds : List LineKind) (checking : Checking) (lists : List (List ℕ)) (help version list : List ℕ)
-        (written written' : Option (List ℕ)) (outcome : Outcome)
+        (written written' : Option (List ℕ)) (outcome : Outcome Misuse Nothing)
         → EndsTask kinds (F.opens folder) lists help version list written written' (Ok (Check checking)) outcome
         → status_of outcome ≡ 0 → All (HasPassed kinds checking (F.opens folder)) lists }
 {}

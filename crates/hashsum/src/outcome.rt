@@ -4,19 +4,22 @@ ghost use Rattle.std.specs.List.{find};
 ghost use Rattle.std.specs.Option.{option_map};
 ghost use Rattle.std.specs.Io.Buffered.{writer_contents};
 ghost use Rattle.std.specs.Io.KnownBytes.{Keeps};
+ghost use Rattle.hash_program.specs.declared.fault.Fault.TheVariants.{NoMemory};
+ghost use Rattle.hash_program.specs.declared.outcome.Outcome.TheVariants.{Failed};
 ghost use Rattle.hash_program.specs.Call.{operands, texts, unknown};
-ghost use Rattle.hashsum.specs.Program.{checking_of, failure_of, files_or, gives_writing, is_named, kind_of, letters, names, of_run, of_telling, status_of, summing_of, task_of, work_of, EndsTask};
+ghost use Rattle.hashsum.specs.Program.{checking_of, files_or, gives_writing, is_named, kind_of, letters, names, of_run, summing_of, task_of, words_of, work_of, EndsTask};
 
 use crate::check::{Checking, check_lists};
 use crate::fault::Fault;
 use crate::folder::Folder;
 use crate::sum::{Summing, sum_files};
 use hash_lines::line::{Form, Kind};
-use hash_program::about::{About, tell, write_status};
 use hash_program::call::{first_unknown, is_given, operands};
-use hash_program::streams::TRIES;
+use hash_program::outcome;
+use hash_program::outcome::{About, Nothing, Words, of_telling};
+use hash_program::streams::put_out;
 use std::alloc::{AllocError, Global};
-use std::io::{BufWriter, Error, Read, Write};
+use std::io::{BufWriter, Read, Write};
 
 /// What a call asks for.
 #[derive(Clone, Copy)]
@@ -33,35 +36,34 @@ pub enum Task {
     Version,
 }
 
-/// What is wrong with a call.
-#[derive(Clone, Copy)]
-pub enum Wrong {
-    /// It gives an option that there is not.
-    UnknownOption,
+/// What else is wrong with a call.
+#[derive(Clone, Copy, Debug, Drop)]
+pub enum Misuse {
     /// It names no hash behind `-a`.
     NoName,
-    /// It names a hash that there is not.
-    UnknownName,
     /// It gives, beside `-c`, an option on how lines are written.
     NotWithCheck,
     /// It gives, without `-c`, an option on how lines are checked.
     OnlyWithCheck,
 }
 
-/// What came of a call.
-#[derive(Drop)]
-pub enum Outcome {
-    /// All went well.
-    Done,
-    /// The call was wrong. Nothing was read or written.
-    Usage(Wrong),
-    /// There was no memory for the call's words. Nothing was read or written.
-    NoMemory,
-    /// A file failed, or a check, and that was told.
-    FileFailed,
-    /// The output is not whole: what was written is a beginning of it.
-    Failed(Fault),
+impl Words for Misuse {
+    ghost words = { words_of };
+
+    fn words(&self) -> &'static str {
+        match self {
+            Misuse::NoName => "-a wants the name of a hash",
+            Misuse::NotWithCheck => "-z, --tag and --untagged do not go with -c",
+            Misuse::OnlyWithCheck => "--status, --strict, --ignore-missing and -w go with -c alone",
+        }
+    }
 }
+
+/// What is wrong with a call.
+pub type Wrong = outcome::Wrong<Misuse>;
+
+/// What came of a call.
+pub type Outcome = outcome::Outcome<Misuse, Nothing>;
 
 /// The words of a call without the name of a hash, and that name.
 #[derive(Clone, Copy)]
@@ -184,13 +186,13 @@ fn work_of(words: &[Vec<u8>], kind: Kind<'static>) -> Result<Task, Wrong>
     let checking = checking_of(words, kind);
     if is_given(words, Some(b'c'), b"check") {
         return if gives_writing(words) {
-            Err(Wrong::NotWithCheck)
+            Err(Wrong::Own(Misuse::NotWithCheck))
         } else {
             Ok(Task::Check(checking))
         };
     }
     if checking.status || checking.strict || checking.ignore_missing || checking.warn {
-        return Err(Wrong::OnlyWithCheck);
+        return Err(Wrong::Own(Misuse::OnlyWithCheck));
     }
     Ok(Task::Sum(summing_of(words, kind)))
 }
@@ -213,21 +215,11 @@ pub fn task_of(kinds: &[Kind<'static>], call: Call<'_>) -> Result<Task, Wrong>
         return Ok(Task::List);
     }
     if call.lacks_name {
-        return Err(Wrong::NoName);
+        return Err(Wrong::Own(Misuse::NoName));
     }
     match kind_of(kinds, call.name) {
         Some(kind) => work_of(call.words, kind),
         None => Err(Wrong::UnknownName),
-    }
-}
-
-/// What came of telling a text.
-fn of_telling(told: Result<(), Option<Error>>) -> Outcome
-    ensures { result ≡ of_telling told }
-{
-    match told {
-        Ok(()) => Outcome::Done,
-        Err(error) => Outcome::Failed(Fault::Unwritten(error)),
     }
 }
 
@@ -237,7 +229,7 @@ fn of_run(well: Result<bool, Fault>) -> Outcome
 {
     match well {
         Ok(true) => Outcome::Done,
-        Ok(false) => Outcome::FileFailed,
+        Ok(false) => Outcome::Reported,
         Err(fault) => Outcome::Failed(fault),
     }
 }
@@ -273,9 +265,9 @@ fn ended<R: Read + Drop, F: Folder<R>, W: Write + Drop>(
     match task {
         Ok(Task::Sum(summing)) => of_run(sum_files(alloc, folder, summing, files, w)),
         Ok(Task::Check(checking)) => of_run(check_lists(alloc, folder, kinds, checking, files, w)),
-        Ok(Task::List) => of_telling(tell(said.list, w, TRIES)),
-        Ok(Task::Help) => of_telling(tell(said.about.help, w, TRIES)),
-        Ok(Task::Version) => of_telling(tell(said.about.version, w, TRIES)),
+        Ok(Task::List) => of_telling(put_out(w, said.list.as_bytes())),
+        Ok(Task::Help) => of_telling(put_out(w, said.about.help.as_bytes())),
+        Ok(Task::Version) => of_telling(put_out(w, said.about.version.as_bytes())),
         Err(wrong) => Outcome::Usage(wrong),
     }
 }
@@ -295,40 +287,10 @@ pub fn outcome_of<R: Read + Drop, F: Folder<R>, W: Write + Drop>(
         (writer_contents W.contents w.old) (writer_contents W.contents w.new)
         (task_of kinds.now (texts call.entry.words.now) (option_map (λ name. name.now) call.entry.name)
         call.entry.lacks_name) result
-        ⊎ ((result ≡ Outcome.NoMemory) × Keeps (writer_contents W.contents w.old) (writer_contents W.contents w.new)) }
+        ⊎ ((result ≡ Failed NoMemory) × Keeps (writer_contents W.contents w.old) (writer_contents W.contents w.new)) }
 {
     match files(alloc, call.words) {
         Ok(files) => ended(alloc, folder, kinds, &files, said, task_of(kinds, call), w),
-        Err(_) => Outcome::NoMemory,
-    }
-}
-
-/// What failed, in words; nothing where all went well, or where it is told already.
-pub fn outcome_failure(outcome: &Outcome) -> &'static str
-    ensures { result.now ≡ failure_of outcome.now }
-{
-    match outcome {
-        Outcome::Done | Outcome::FileFailed => "",
-        Outcome::Usage(Wrong::UnknownOption) => "unknown option",
-        Outcome::Usage(Wrong::NoName) => "-a wants the name of a hash",
-        Outcome::Usage(Wrong::UnknownName) => "unknown name",
-        Outcome::Usage(Wrong::NotWithCheck) => "-z, --tag and --untagged do not go with -c",
-        Outcome::Usage(Wrong::OnlyWithCheck) =>
-            "--status, --strict, --ignore-missing and -w go with -c alone",
-        Outcome::NoMemory | Outcome::Failed(Fault::NoMemory) => "out of memory",
-        Outcome::Failed(Fault::Unwritten(_)) => "write error",
-    }
-}
-
-/// The status that the program ends with: 0 where all went well, 2 where the call was wrong, 141 where nobody reads its
-/// output any more, and 1 where a check or something else failed.
-pub fn outcome_status(outcome: &Outcome) -> u8
-    ensures { result ≡ status_of outcome.now }
-{
-    match outcome {
-        Outcome::Done => 0,
-        Outcome::Usage(_) => 2,
-        Outcome::Failed(Fault::Unwritten(Some(error))) => write_status(error.kind()),
-        _ => 1,
+        Err(_) => Outcome::Failed(Fault::NoMemory),
     }
 }

@@ -7,11 +7,12 @@ ghost use Rattle.hashsum.specs.Files.{SumsFile};
 ghost use Rattle.hashsum.specs.Summing.{EndsSum, EndsSums, sum_line};
 ghost use Rattle.hashsum.specs.Sums.{sum_at};
 
-use crate::fault::{Fault, write};
+use crate::fault::Fault;
 use crate::folder::Folder;
 use crate::sums::number_by;
 use hash_lines::line::{Form, Kind, push_line};
 use hash_names::reading::Unhashed;
+use hash_program::streams::put_out;
 use std::alloc::{AllocError, Global};
 use std::io::{BufWriter, Error, ErrorKind, Read, Write};
 
@@ -104,7 +105,7 @@ fn tell_sum<W: Write + Drop>(
         (sum_line summing name.now number)) }
 {
     match sum_line(alloc, summing, name, number) {
-        Ok(line) => write(&line, w),
+        Ok(line) => put_out(w, &line),
         Err(_) => Err(Fault::NoMemory),
     }
 }

@@ -1,10 +1,10 @@
 //! Tests of the program over files in memory.
 use crate::check::Counts;
 use crate::folder::Folder;
-use crate::outcome::{Call, Outcome, Texts, outcome_failure, outcome_of, outcome_status};
+use crate::outcome::{Call, Outcome, Texts, outcome_of};
 use crate::sums::kinds;
 use hash_names::table::KINDS;
-use hash_program::about::About;
+use hash_program::outcome::{About, failure_of, status_of};
 use hash_program::valued::{Valued, take_value};
 use std::alloc::{AllocError, Global};
 use std::io;
@@ -139,11 +139,7 @@ fn run(
     };
     let outcome = outcome_of(alloc, &Shelf { files }, &kinds(), call, texts, &mut output);
     drop(output);
-    Ok((
-        outcome_status(&outcome),
-        outcome_failure(&outcome),
-        paper.text,
-    ))
+    Ok((status_of(&outcome), failure_of(&outcome), paper.text))
 }
 
 /// That a call ends so, and writes this.

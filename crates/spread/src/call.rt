@@ -1,13 +1,14 @@
 //! What the program is asked for, and how it ends.
 ghost use Rattle.std.specs.Prelude.{◌≡◌, ◌∷◌, [], ℕ, List, None, map, true, IsSome, MatchOption, OnErr, OnOk};
 ghost use Rattle.hash_program.specs.Call.{texts, unknown};
-ghost use Rattle.spread.specs.Call.{failure_of, letters, names, status_of, wants_zeros};
+ghost use Rattle.spread.specs.Call.{letters, names, wants_zeros, words_of};
 
-use crate::fault::Fault;
+use crate::fault::NoTable;
 use crate::keys::Layout;
 use hash_names::table::{KINDS, Kind, kind_named};
-use hash_program::about::write_status;
 use hash_program::call::{first_unknown, is_given, operands};
+use hash_program::outcome;
+use hash_program::outcome::Words;
 use hash_program::valued::take_value;
 use std::alloc::{AllocError, Global};
 use std::num::NonZeroUsize;
@@ -51,30 +52,33 @@ pub enum Task {
     Version,
 }
 
-/// What is wrong with a call.
-#[derive(Clone, Copy)]
-pub enum Wrong {
-    /// It gives an option that there is not.
-    UnknownOption,
+/// What only this program finds wrong with a call.
+#[derive(Clone, Copy, Debug, Drop)]
+pub enum Misuse {
     /// It gives no value behind an option that wants one.
     NoValue,
     /// It gives a number of buckets or bytes that is none from 1 on.
     NoNumber,
     /// It says that keys have a fixed width, and that zero bytes end them.
     TwoLayouts,
-    /// It names a hash that there is not.
-    UnknownName,
 }
 
+/// What is wrong with a call.
+pub type Wrong = outcome::Wrong<Misuse>;
+
 /// What came of a call.
-#[derive(Drop)]
-pub enum Outcome {
-    /// All went well.
-    Done,
-    /// The call was wrong. Nothing was read or written.
-    Usage(Wrong),
-    /// The output is not whole.
-    Failed(Fault),
+pub type Outcome = outcome::Outcome<Misuse, NoTable>;
+
+impl Words for Misuse {
+    ghost words = { words_of };
+
+    fn words(&self) -> &'static str {
+        match self {
+            Misuse::NoValue => "-b and -w want a number, and --plot a file",
+            Misuse::NoNumber => "-b and -w want a number from 1 on",
+            Misuse::TwoLayouts => "-z does not go with -w",
+        }
+    }
 }
 
 /// Takes the options with a value out of the words behind the program's own name. `--plot` has no letter: no word has a zero byte.
@@ -133,7 +137,7 @@ fn layout_of(call: &Call) -> Result<Layout, Wrong>
 {
     let zeros = is_given(&call.words, Some(b'z'), b"zero-terminated");
     if zeros && call.width.is_some() {
-        return Err(Wrong::TwoLayouts);
+        return Err(Wrong::Own(Misuse::TwoLayouts));
     }
     match call.width.as_deref().and_then(number_of) {
         Some(width) => Ok(Layout::Fixed(width)),
@@ -157,10 +161,10 @@ pub fn task_of(call: &Call) -> Result<Task, Wrong> {
         return Ok(Task::List);
     }
     if call.lacks {
-        return Err(Wrong::NoValue);
+        return Err(Wrong::Own(Misuse::NoValue));
     }
     if no_number(call).is_some() {
-        return Err(Wrong::NoNumber);
+        return Err(Wrong::Own(Misuse::NoNumber));
     }
     let buckets = call.buckets.as_deref().and_then(number_of);
     Ok(Task::Table(Settings {
@@ -214,38 +218,4 @@ pub fn kinds_of(alloc: Global, words: &[Vec<u8>]) -> Result<Vec<Kind>, AllocErro
         }
     }
     Ok(chosen)
-}
-
-/// What failed, in words; nothing where all went well.
-pub fn outcome_failure(outcome: &Outcome) -> &'static str
-    ensures { result.now ≡ failure_of outcome.now }
-{
-    match outcome {
-        Outcome::Done => "",
-        Outcome::Usage(Wrong::UnknownOption) => "unknown option",
-        Outcome::Usage(Wrong::NoValue) => "-b and -w want a number, and --plot a file",
-        Outcome::Usage(Wrong::NoNumber) => "-b and -w want a number from 1 on",
-        Outcome::Usage(Wrong::TwoLayouts) => "-z does not go with -w",
-        Outcome::Usage(Wrong::UnknownName) => "unknown name",
-        Outcome::Failed(Fault::Unread(_)) => "-",
-        Outcome::Failed(Fault::Unwritten(_)) => "write error",
-        Outcome::Failed(Fault::Undrawn(_)) => "the picture was not written",
-        Outcome::Failed(Fault::NoMemory) => "out of memory",
-        Outcome::Failed(Fault::TooManyKeys) => "too many different keys",
-        Outcome::Failed(Fault::NoKeys) => "there are no keys",
-        Outcome::Failed(Fault::ShortKey) => "the input ends within a key",
-    }
-}
-
-/// The status that the program ends with: 0 where all went well, 2 where the call was wrong, 141 where nobody reads its output any
-/// more, and 1 where it failed otherwise.
-pub fn outcome_status(outcome: &Outcome) -> u8
-    ensures { result ≡ status_of outcome.now }
-{
-    match outcome {
-        Outcome::Done => 0,
-        Outcome::Usage(_) => 2,
-        Outcome::Failed(Fault::Unwritten(Some(error))) => write_status(error.kind()),
-        _ => 1,
-    }
 }

@@ -1,22 +1,15 @@
-//! What ends a run before its output is whole.
-use hash_texts::Full;
-use std::alloc::AllocError;
-use std::error::Error as StdError;
-use std::fmt;
-use std::fmt::{Display, Formatter};
+//! What ends a run of this program before its output is whole.
+ghost use Rattle.spread.specs.Call.{words_of_fault};
+
+use hash_program::fault;
+use hash_program::outcome::Words;
 use std::io::{Error, ErrorKind};
 
-/// Why a run ended before its output was whole.
+/// Why there is no table, or no picture, of the keys.
 #[derive(Debug, Drop)]
-pub enum Fault {
-    /// A read of the keys failed.
-    Unread(Error),
-    /// A write or the flush failed with this error, or a write took nothing.
-    Unwritten(Option<Error>),
+pub enum NoTable {
     /// The picture could not be written.
     Undrawn(Error),
-    /// There was no memory.
-    NoMemory,
     /// There were 2^32 - 1 different keys, or 2^64 - 1 keys.
     TooManyKeys,
     /// There was no key.
@@ -25,54 +18,26 @@ pub enum Fault {
     ShortKey,
 }
 
-impl Display for Fault {
-    fn fmt<W: fmt::Write>(&self, f: &mut Formatter<W>) -> fmt::Result {
+/// Why a run ended before its output was whole.
+pub type Fault = fault::Fault<NoTable>;
+
+impl Words for NoTable {
+    ghost words = { words_of_fault };
+
+    fn words(&self) -> &'static str {
         match self {
-            Fault::Unread(error) => write!(f, "a read failed: {error}"),
-            Fault::Unwritten(Some(error)) => write!(f, "a write failed: {error}"),
-            Fault::Unwritten(None) => write!(f, "a write took nothing"),
-            Fault::Undrawn(error) => write!(f, "the picture was not written: {error}"),
-            Fault::NoMemory => write!(f, "out of memory"),
-            Fault::TooManyKeys => write!(f, "too many keys"),
-            Fault::NoKeys => write!(f, "there are no keys"),
-            Fault::ShortKey => write!(f, "the input ends within a key"),
+            NoTable::Undrawn(_) => "the picture was not written",
+            NoTable::TooManyKeys => "too many different keys",
+            NoTable::NoKeys => "there are no keys",
+            NoTable::ShortKey => "the input ends within a key",
         }
     }
 }
 
-impl StdError for Fault {}
-
-impl From<AllocError> for Fault {
-    ghost use Rattle.std.specs.Prelude.{◌≡◌};
-    ghost use Rattle.spread.specs.declared.fault.Fault.TheVariants.{NoMemory};
-
-    ghost from_gives = { λ error fault. fault ≡ NoMemory };
-
-    fn from(_error: AllocError) -> Fault {
-        Fault::NoMemory
-    }
-}
-
-impl From<Full> for Fault {
-    ghost use Rattle.std.specs.Prelude.{◌≡◌};
-    ghost use Rattle.spread.specs.Call.{fault_of};
-
-    ghost from_gives = { λ full fault. fault ≡ fault_of full };
-
-    fn from(full: Full) -> Fault {
-        match full {
-            Full::NoMemory => Fault::NoMemory,
-            Full::TooManyTexts => Fault::TooManyKeys,
-        }
-    }
-}
-
-impl Fault {
-    /// What a failed read of the keys tells: the system's error, or want of memory for a key.
-    pub fn of_read(error: Error) -> Fault {
-        match error.kind() {
-            ErrorKind::OutOfMemory => Fault::NoMemory,
-            _ => Fault::Unread(error),
-        }
+/// What a failed read of the keys tells: the system's error, or want of memory for a key.
+pub fn fault_of_read(error: Error) -> Fault {
+    match error.kind() {
+        ErrorKind::OutOfMemory => Fault::NoMemory,
+        _ => Fault::Unread(error),
     }
 }

@@ -4,9 +4,9 @@ ghost use Rattle.std.specs.Io.BufRead.{ends_with_byte, strip_last};
 ghost use Rattle.hash_texts.specs.Texts.{with_text};
 ghost use Rattle.spread.specs.Keys.{ReadsFixed, ReadsKey, ReadsKeys, ReadsLine, ReadsLines, ReadsOne, ReadsPiece};
 
-use crate::fault::Fault;
+use crate::fault::{Fault, NoTable, fault_of_read};
 use hash_program::streams::{TRIES, read_some};
-use hash_texts::{RandomKeys, Texts};
+use hash_texts::{Full, RandomKeys, Texts};
 use std::alloc::Global;
 use std::io::{BufRead, Read};
 use std::num::NonZeroUsize;
@@ -47,8 +47,11 @@ fn key_of(line: &[u8], eol: u8) -> &[u8]
 fn take_key(keys: &mut Texts<RandomKeys>, key: &[u8]) -> Result<(), Fault>
     ensures { OnOk result (keys.new ≡ with_text keys.old key.now) }
 {
-    keys.see(key)?;
-    Ok(())
+    match keys.see(key) {
+        Ok(_) => Ok(()),
+        Err(Full::NoMemory) => Err(Fault::NoMemory),
+        Err(Full::TooManyTexts) => Err(Fault::Own(NoTable::TooManyKeys)),
+    }
 }
 
 /// Reads a line, takes its key in, and tells whether the line has its end. One without is the last; it has no key where it is empty.
@@ -62,7 +65,7 @@ fn read_line<R: BufRead>(
 {
     line.clear();
     if let Err(error) = r.read_until(eol, line) {
-        return Err(Fault::of_read(error));
+        return Err(fault_of_read(error));
     }
     if line.is_empty() {
         return Ok(false);
@@ -101,7 +104,7 @@ fn read_piece<R: Read>(key: &mut Vec<u8>, piece: &mut [u8], r: &mut R) -> Result
             key.extend_from_slice(&piece[..n])?;
             Ok(n)
         }
-        Err(error) => Err(Fault::of_read(error)),
+        Err(error) => Err(fault_of_read(error)),
     }
 }
 
@@ -122,7 +125,7 @@ fn read_key<R: Read>(
             return if key.is_empty() {
                 Ok(false)
             } else {
-                Err(Fault::ShortKey)
+                Err(Fault::Own(NoTable::ShortKey))
             };
         }
     }
@@ -189,5 +192,9 @@ pub fn read_keys<R: BufRead>(
         Layout::Lines(eol) => read_lines(alloc, keys, eol, r)?,
         Layout::Fixed(width) => read_fixed(alloc, keys, width.get(), r)?,
     };
-    if all { Ok(()) } else { Err(Fault::TooManyKeys) }
+    if all {
+        Ok(())
+    } else {
+        Err(Fault::Own(NoTable::TooManyKeys))
+    }
 }

@@ -18,19 +18,19 @@ mod table;
 mod tests;
 
 use call::{
-    Call, Outcome, Task, Wrong, call_of, kinds_of, no_number, outcome_failure, outcome_status,
-    task_of, unknown_name, unknown_option,
+    Call, Misuse, Outcome, Task, Wrong, call_of, kinds_of, no_number, task_of, unknown_name,
+    unknown_option,
 };
-use fault::Fault;
+use fault::{Fault, NoTable};
 use hash_names::table::KINDS;
-use hash_program::about::tell;
+use hash_program::outcome::{failure_of, of_telling, status_of};
 use hash_program::quoted::quoted;
 use hash_program::reason::reason;
-use hash_program::streams::TRIES;
+use hash_program::streams::put_out;
 use hash_program::words::words;
 use run::tell_table;
 use std::alloc::{AllocError, Global};
-use std::io::{BufWriter, Stdout};
+use std::io::BufWriter;
 use std::process::ExitCode;
 
 /// How many bytes are written at once.
@@ -98,22 +98,6 @@ fn list(alloc: Global) -> Result<String, AllocError> {
     Ok(list)
 }
 
-/// What came of a run, or of telling a text.
-fn of_run(ended: Result<(), Fault>) -> Outcome {
-    match ended {
-        Ok(()) => Outcome::Done,
-        Err(fault) => Outcome::Failed(fault),
-    }
-}
-
-/// Writes a text that the program tells of itself.
-fn told(text: &str, w: &mut BufWriter<Stdout>) -> Outcome {
-    match tell(text, w, TRIES) {
-        Ok(()) => Outcome::Done,
-        Err(error) => Outcome::Failed(Fault::Unwritten(error)),
-    }
-}
-
 /// What came of the call.
 fn called(rt: &HostRuntime, call: &Call) -> Result<Outcome, Fault> {
     let alloc = rt.alloc();
@@ -122,15 +106,15 @@ fn called(rt: &HostRuntime, call: &Call) -> Result<Outcome, Fault> {
     };
     match task_of(call) {
         Err(wrong) => Ok(Outcome::Usage(wrong)),
-        Ok(Task::Help) => Ok(told(help(alloc)?.as_str(), &mut w)),
-        Ok(Task::List) => Ok(told(list(alloc)?.as_str(), &mut w)),
-        Ok(Task::Version) => Ok(told(VERSION, &mut w)),
+        Ok(Task::Help) => Ok(of_telling(put_out(&mut w, help(alloc)?.as_bytes()))),
+        Ok(Task::List) => Ok(of_telling(put_out(&mut w, list(alloc)?.as_bytes()))),
+        Ok(Task::Version) => Ok(of_telling(put_out(&mut w, VERSION.as_bytes()))),
         Ok(Task::Table(settings)) => {
             if unknown_name(alloc, &call.words)?.is_some() {
                 return Ok(Outcome::Usage(Wrong::UnknownName));
             }
             let kinds = kinds_of(alloc, &call.words)?;
-            Ok(of_run(tell_table(rt, &settings, &kinds, call.plot.as_deref(), &mut w)))
+            Ok(of_telling(tell_table(rt, &settings, &kinds, call.plot.as_deref(), &mut w)))
         }
     }
 }
@@ -141,10 +125,10 @@ fn why(rt: &HostRuntime, call: &Call, outcome: &Outcome) -> Option<String> {
     let word = match outcome {
         Outcome::Usage(Wrong::UnknownOption) => unknown_option(&call.words),
         Outcome::Usage(Wrong::UnknownName) => unknown_name(alloc, &call.words).ok()?,
-        Outcome::Usage(Wrong::NoNumber) => no_number(call),
+        Outcome::Usage(Wrong::Own(Misuse::NoNumber)) => no_number(call),
         Outcome::Failed(Fault::Unread(error)) | Outcome::Failed(Fault::Unwritten(Some(error))) =>
             return reason(alloc, error).ok(),
-        Outcome::Failed(Fault::Undrawn(error)) => {
+        Outcome::Failed(Fault::Own(NoTable::Undrawn(error))) => {
             let name = quoted(alloc, call.plot.as_deref()?).ok()?;
             let reason = reason(alloc, error).ok()?;
             return format!(in alloc; "{name}: {reason}").ok();
@@ -156,8 +140,8 @@ fn why(rt: &HostRuntime, call: &Call, outcome: &Outcome) -> Option<String> {
 
 /// Says what failed and why, unless nobody reads any more.
 fn complain(rt: &HostRuntime, call: &Call, outcome: &Outcome) {
-    let status = outcome_status(outcome);
-    let failure = outcome_failure(outcome);
+    let status = status_of(outcome);
+    let failure = failure_of(outcome);
     if failure.is_empty() || status == 141 {
         return;
     }
@@ -179,11 +163,11 @@ fn call_words(rt: &HostRuntime) -> Result<Call, Fault> {
 fn status(rt: &HostRuntime) -> u8 {
     let Ok(call) = call_words(rt) else {
         let _ = eprintln!(rt; "spread: out of memory");
-        return outcome_status(&Outcome::Failed(Fault::NoMemory));
+        return status_of(&Outcome::Failed(Fault::NoMemory));
     };
     let outcome = called(rt, &call).unwrap_or(Outcome::Failed(Fault::NoMemory));
     complain(rt, &call, &outcome);
-    outcome_status(&outcome)
+    status_of(&outcome)
 }
 
 fn main(rt: HostRuntime) -> ExitCode {

@@ -5,7 +5,7 @@ ghost use Rattle.spread.specs.Counts.{IsCounts};
 
 use crate::call::Settings;
 use crate::clock::time_of;
-use crate::fault::Fault;
+use crate::fault::{Fault, NoTable};
 use crate::keys::{Layout, read_keys};
 use crate::named::{Hashed, counts_by};
 use crate::picture::picture;
@@ -25,14 +25,6 @@ const BUFFER: usize = 65536;
 
 /// The name of standard input, and of standard output.
 const STANDARD: &[u8] = b"-";
-
-/// Writes a line and flushes.
-fn tell(w: &mut BufWriter<Stdout>, line: &str) -> Result<(), Fault> {
-    match put_out(w, line.as_bytes(), TRIES) {
-        Ok(()) => Ok(()),
-        Err(error) => Err(Fault::Unwritten(error)),
-    }
-}
 
 /// The keys of standard input, each once.
 fn keys_of_input(rt: &HostRuntime, layout: Layout) -> Result<Texts<RandomKeys>, Fault> {
@@ -85,9 +77,9 @@ fn tell_rows(
         let row = row_of(rt, *kind, frame, hashed)?;
         progress.clear();
         if done == 0 {
-            tell(w, frame.head(rt.alloc())?.as_str())?;
+            put_out(w, frame.head(rt.alloc())?.as_bytes())?;
         }
-        tell(w, frame.row(rt.alloc(), &row)?.as_str())?;
+        put_out(w, frame.row(rt.alloc(), &row)?.as_bytes())?;
         if rows.push(row).is_err() {
             return Err(Fault::NoMemory);
         }
@@ -105,7 +97,7 @@ fn tell_chance(
 ) -> Result<(), Fault> {
     for bits in [0, 28, 32, 64] {
         if rows.iter().any(|row| row.kind.row().bits == bits) {
-            tell(w, frame.chance(rt.alloc(), bits)?.as_str())?;
+            put_out(w, frame.chance(rt.alloc(), bits)?.as_bytes())?;
         }
     }
     Ok(())
@@ -124,9 +116,9 @@ fn tell_best(
             let line = format!(in rt.alloc();
                 "Take {name}: the fastest of those that spread these keys as chance does.\n"
             )?;
-            tell(w, line.as_str())
+            put_out(w, line.as_bytes())
         }
-        None => tell(w, "None of these spreads these keys as chance does.\n"),
+        None => put_out(w, b"None of these spreads these keys as chance does.\n"),
     }
 }
 
@@ -159,7 +151,7 @@ fn canvas_of(rt: &HostRuntime, plot: Option<&[u8]>) -> Result<Option<Canvas>, Fa
     };
     match open_canvas(rt, name) {
         Ok(canvas) => Ok(Some(canvas)),
-        Err(error) => Err(Fault::Undrawn(error)),
+        Err(error) => Err(Fault::Own(NoTable::Undrawn(error))),
     }
 }
 
@@ -168,20 +160,21 @@ fn fill(file: &mut File, text: &str) -> io::Result<()> {
     if file.metadata()?.is_file() {
         file.set_len(0)?;
     }
-    match put(file, text.as_bytes(), TRIES) {
+    let filled: Result<(), Fault> = put(file, text.as_bytes(), TRIES);
+    match filled {
         Ok(()) => Ok(()),
-        Err(Some(error)) => Err(error),
-        Err(None) => Err(Error::new(ErrorKind::WriteZero, "a write took nothing")),
+        Err(Fault::Unwritten(Some(error))) => Err(error),
+        Err(_) => Err(Error::new(ErrorKind::WriteZero, "a write took nothing")),
     }
 }
 
 /// Draws the picture.
 fn draw(canvas: Canvas, text: &str, w: &mut BufWriter<Stdout>) -> Result<(), Fault> {
     match canvas {
-        Canvas::Standard => tell(w, text),
+        Canvas::Standard => put_out(w, text.as_bytes()),
         Canvas::File(mut file) => match fill(&mut file, text) {
             Ok(()) => Ok(()),
-            Err(error) => Err(Fault::Undrawn(error)),
+            Err(error) => Err(Fault::Own(NoTable::Undrawn(error))),
         },
     }
 }
@@ -197,7 +190,7 @@ pub fn tell_table(
     let canvas = canvas_of(rt, plot)?;
     let keys = keys_of_input(rt, settings.layout)?;
     if keys.is_empty() {
-        return Err(Fault::NoKeys);
+        return Err(Fault::Own(NoTable::NoKeys));
     }
     let frame = Frame {
         keys: keys.len() as u64,

@@ -2,7 +2,7 @@
 use crate::call::{Call, Task, call_of, kinds_of, task_of, unknown_name};
 use crate::chance::{Chance, equal_pairs};
 use crate::counts::{Counts, Spread, collisions, spread_of};
-use crate::fault::Fault;
+use crate::fault::{Fault, NoTable};
 use crate::keys::{Layout, read_keys};
 use crate::named::{Hashed, counts_by};
 use crate::sizes::{Sizes, sizes_of};
@@ -130,7 +130,7 @@ fn a_read_fails_at_each_byte(rt: HostRuntime) {
 fn tells_short_key(alloc: Global, text: &[u8], width: usize) -> bool {
     matches!(
         keys_of(alloc, text, fixed(width), usize::MAX),
-        Err(Fault::ShortKey)
+        Err(Fault::Own(NoTable::ShortKey))
     )
 }
 

@@ -26,15 +26,15 @@ returns-in_err-count-in-Line-clause-broke g c =
     on_err _ c.from_residual-in_err-count-in-Line.result
     (breaks_among c.args.eol _ _ _ _ _ text reads _ _ _ c.in_ok-fill.ensures output _ _ _ _ _ leads breaks)
 
-pub returns-in_err-finish-in-Line-clause-broke : goal.returns-in_err-finish-in-Line-clause-broke
-returns-in_err-finish-in-Line-clause-broke g c =
+pub returns-in_err-flush-in-Line-clause-broke : goal.returns-in_err-flush-in-Line-clause-broke
+returns-in_err-flush-in-Line-clause-broke g c =
     let (text, reads, leads, flushed) = c.loop-task.invariant in
     let output = g.T.LineTask.output c.args.eol in
     let (takes, led) = taken_of c.args.eol output _ _ _ _ _ _ _ _ _ c.bytes.ensures c.in_ok-count-in-Line.ensures.takes
     c.in_ok-count-in-Line.ensures.led in
-    on_err _ c.from_residual-in_err-finish-in-Line.result
+    on_err _ c.from_residual-in_err-flush-in-Line.result
     (breaks_at c.args.eol output _ _ _ _ _ (more_first c.args.eol _ _ _ _ _ text reads _ _ _ c.in_ok-fill.ensures _ _ takes)
-    (stops_after output _ _ _ _ _ _ (leads_both output _ _ _ _ _ _ _ _ leads led) c.finish.ensures.kept))
+    (stops_after output _ _ _ _ _ _ (leads_both output _ _ _ _ _ _ _ _ leads led) c.flush.ensures.kept))
 
 pub returns-then-is_beyond-clause-left : goal.returns-then-is_beyond-clause-left
 returns-then-is_beyond-clause-left g c =
@@ -48,7 +48,7 @@ returns-then-is_beyond-clause-left g c =
       _,
       all,
       more_first c.args.eol _ _ _ _ _ text reads _ _ _ c.in_ok-fill.ensures _ _ takes,
-      leads_kept output _ _ _ _ _ _ (leads_both output _ _ _ _ _ _ _ _ leads led) c.finish.ensures.kept,
+      leads_kept output _ _ _ _ _ _ (leads_both output _ _ _ _ _ _ _ _ leads led) c.flush.ensures.kept,
       begins,
       over,
     )
@@ -81,10 +81,10 @@ loop-task-preserved g c =
           reads_on,
       subst (λ ls. LeadsOn output (λ l. g.T.LineTask.taken c.args.eol l c.args.task.now)
           (λ l. g.T.LineTask.taken c.args.eol l c.take_lines.new.task) ls
-          (writer_contents g.W.Write.contents c.args.w.now) (writer_contents g.W.Write.contents c.finish.new.w))
+          (writer_contents g.W.Write.contents c.args.w.now) (writer_contents g.W.Write.contents c.flush.new.w))
           (sym (reads.whole.splits (take c.in_ok-count-in-Line.len c.fill.new.self)))
-          (leads_kept output _ _ _ _ _ _ (leads_both output _ _ _ _ _ _ _ _ leads led) c.finish.ensures.kept),
-      c.in_ok-finish-in-Line.ensures.flushed,
+          (leads_kept output _ _ _ _ _ _ (leads_both output _ _ _ _ _ _ _ _ leads led) c.flush.ensures.kept),
+      c.in_ok-flush-in-Line.ensures.flushed,
     )
 
 pub returns-in_err-left-in-End-clause-broke : goal.returns-in_err-left-in-End-clause-broke

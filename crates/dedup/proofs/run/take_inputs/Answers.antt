@@ -6,19 +6,19 @@ use Rattle.dedup.proofs.InputLemmas.{handed_on, next_of, next_set, part_at_start
 use Rattle.dedup.proofs.run.take_inputs.Goals as goal
 use Rattle.dedup.proofs.run.take_inputs.Goals.{in-Done, in-Failed}
 
-pub returns-in_err-finish-clause-ended : goal.returns-in_err-finish-clause-ended
-returns-in_err-finish-clause-ended g c =
+pub returns-in_err-flush-clause-ended : goal.returns-in_err-flush-clause-ended
+returns-in_err-flush-clause-ended g c =
     let output = g.T.LineTask.output c.args.eol in
     handed_on output _ c.args.eol c.args.limit _ _ c.from_residual.ensures.0
     (part_at_start output c.args.eol c.args.limit
-    (map g.R.Read.remaining c.args.inputs.now) [] _ _ c.requires.nothing c.finish.ensures.kept)
+    (map g.R.Read.remaining c.args.inputs.now) [] _ _ c.requires.nothing c.flush.ensures.kept)
 
 pub loop-place-init : goal.loop-place-init
 loop-place-init g c =
     let output = g.T.LineTask.output c.args.eol in (
-      so_far_start output c.args.eol c.args.limit _ _ _ _ c.requires.begun c.requires.nothing c.finish.ensures.kept,
+      so_far_start output c.args.eol c.args.limit _ _ _ _ c.requires.begun c.requires.nothing c.flush.ensures.kept,
       c.new-unread.ensures,
-      c.in_ok-finish.ensures.flushed,
+      c.in_ok-flush.ensures.flushed,
     )
 
 pub returns-in_err-take_input-clause-ended : goal.returns-in_err-take_input-clause-ended

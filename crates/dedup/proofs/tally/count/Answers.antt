@@ -9,8 +9,8 @@ pub returns-in-Ok : goal.returns-in-Ok
 returns-in-Ok g c = λ eol ls line is now.
     let old = c.args.texts.now in
     let absent : has old c.args.text.now ≡ false = not_there _ c.in_ok-seen.seen.is_new c.in_ok-seen.ensures.new (search rules) in
-    subst (Tallies eol (ls ++ line ∷ []) c.see_at.new.self) (sym c.in-Ok.ensures.items)
-    (tallies_new eol ls old c.args.times.now.items now line c.see_at.new.self (ap (has old) is ∙ absent)
+    subst (Tallies eol (ls ++ line ∷ []) c.see.new.texts) (sym c.in-Ok.ensures.items)
+    (tallies_new eol ls old c.args.times.now.items now line c.see.new.texts (ap (has old) is ∙ absent)
     (c.in_ok-seen.ensures.texts ∙ ap (with_text old) (sym is)))
 
 pub returns : goal.returns
@@ -21,10 +21,10 @@ returns g c = λ eol ls line is now.
     let there : has old c.args.text.now ≡ true = is_there _ c.in_ok-seen.seen.is_new c.in_ok-seen.ensures.new (search rules) in
     let (below, was) = counted_place old _ c.args.text.now times place c.index_mut.result.now there c.in_ok-seen.ensures.texts
     c.in_ok-seen.ensures.place (as_many eol ls old times now) c.index_mut.ensures.value in
-    subst (λ n. Tallies eol (ls ++ line ∷ []) c.see_at.new.self (set times place (n + 1))) (sym was)
-    (tallies_again eol ls old times now line c.see_at.new.self place (ap (has old) is ∙ there)
+    subst (λ n. Tallies eol (ls ++ line ∷ []) c.see.new.texts (set times place (n + 1))) (sym was)
+    (tallies_again eol ls old times now line c.see.new.texts place (ap (has old) is ∙ there)
     (c.in_ok-seen.ensures.texts ∙ ap (with_text old) (sym is))
-    (subst (λ t. StandsAt c.see_at.new.self t place) (sym is) c.in_ok-seen.ensures.place))
+    (subst (λ t. StandsAt c.see.new.texts t place) (sym is) c.in_ok-seen.ensures.place))
 
 pub overflow_add-index_mut : goal.overflow_add-index_mut
 overflow_add-index_mut g c =

@@ -12,12 +12,12 @@ returns-in_err-ended-clause-ended g c =
     handed_on (told c.args.eol c.args.which) _ c.args.eol c.args.limit run _ c.from_residual.ensures.0
     (part_silent (told c.args.eol c.args.which) c.args.eol run c.in_err-ended.ensures.ended)
 
-pub returns-in_err-finish-clause-ended : goal.returns-in_err-finish-clause-ended
-returns-in_err-finish-clause-ended g c =
+pub returns-in_err-flush-clause-ended : goal.returns-in_err-flush-clause-ended
+returns-in_err-flush-clause-ended g c =
     let output = told c.args.eol c.args.which in
     let left' = map g.R.Read.remaining c.take_inputs.new.inputs in
-    handed_on output _ c.args.eol c.args.limit _ _ c.from_residual-in_err-finish.ensures.0
+    handed_on output _ c.args.eol c.args.limit _ _ c.from_residual-in_err-flush.ensures.0
     (part_told output _ c.args.eol c.args.limit _ left' _ _ _ c.in_ok-ended.ended c.in_default.not-TooManyLines c.in_ok-ended.ensures.ended
     (λ ls now. part_at_flush (output ls) _ _ _
     (c.in_ok-tell.ensures.ok ls
-    (subst (Tallies c.args.eol ls c.take_inputs.new.task.texts) (sym c.deref.ensures.value) now)) c.finish.ensures.kept))
+    (subst (Tallies c.args.eol ls c.take_inputs.new.task.texts) (sym c.deref.ensures.value) now)) c.flush.ensures.kept))

@@ -5,13 +5,13 @@ use Rattle.hash_program.specs.Streams.{AppendsPart}
 use Rattle.hashsum.specs.Checking.{IsCame}
 use Rattle.hashsum.proofs.check.tell_line.Goals as goal
 
-pub returns-in-Ok-write : goal.returns-in-Ok-write
-returns-in-Ok-write g c = (
+pub returns-in-Ok-put_out : goal.returns-in-Ok-put_out
+returns-in-Ok-put_out g c = (
   subst (λ t. IsCame c.args.kinds.now c.args.checking.kind (g.F.Folder.opens c.args.folder.now)
       c.args.checking.ignore_missing t c.in-Ok.came) c.without_end-text.ensures
       c.in-Ok.ensures,
-  subst (Appends (writer_contents g.W.Write.contents c.args.w.now) (writer_contents g.W.Write.contents c.write.new.w))
-      (c.deref.ensures.value ∙ c.in-Ok-said.ensures) c.in-Ok-write.ensures.ok,
+  subst (Appends (writer_contents g.W.Write.contents c.args.w.now) (writer_contents g.W.Write.contents c.put_out.new.w))
+      (c.deref.ensures.value ∙ c.in-Ok-said.ensures) c.in-Ok-put_out.ensures,
 )
 
 pub returns : goal.returns
@@ -20,6 +20,6 @@ returns g c = inr (
   subst (λ t. IsCame c.args.kinds.now c.args.checking.kind (g.F.Folder.opens c.args.folder.now)
       c.args.checking.ignore_missing t c.in-Ok.came) c.without_end-text.ensures
       c.in-Ok.ensures,
-  subst (AppendsPart (writer_contents g.W.Write.contents c.args.w.now) (writer_contents g.W.Write.contents c.write.new.w))
-      (c.deref.ensures.value ∙ c.in-Ok-said.ensures) c.in-Err-write.ensures.err,
+  subst (AppendsPart (writer_contents g.W.Write.contents c.args.w.now) (writer_contents g.W.Write.contents c.put_out.new.w))
+      (c.deref.ensures.value ∙ c.in-Ok-said.ensures) c.in-Err-put_out.ensures.0,
 )

@@ -6,8 +6,8 @@ use Rattle.dedup.proofs.RunLemmas.{stops_before}
 use Rattle.dedup.proofs.SeenLemmas.{adds_new, adds_nothing, on_err, stops_in_line, takes_line}
 use Rattle.dedup.proofs.once.OnceLineTask.take_line.Goals as goal
 
-pub returns-in_err-see_at-clause-err : goal.returns-in_err-see_at-clause-err
-returns-in_err-see_at-clause-err g c = on_err _ c.from_residual.result (stops_before (once_by c.args.eol) (once_begins c.args.eol) _ _ _)
+pub returns-in_err-see-clause-err : goal.returns-in_err-see-clause-err
+returns-in_err-see-clause-err g c = on_err _ c.from_residual.result (stops_before (once_by c.args.eol) (once_begins c.args.eol) _ _ _)
 
 pub returns-in_err-put_line-clause-err : goal.returns-in_err-put_line-clause-err
 returns-in_err-put_line-clause-err g c =

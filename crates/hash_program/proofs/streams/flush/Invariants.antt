@@ -1,6 +1,6 @@
 use Rattle.std.specs.Io.Buffered.{writer_contents}
 use Rattle.std.specs.Io.KnownBytes.{Keeps}
-use Rattle.hash_program.proofs.streams.finish.Given as goal
+use Rattle.hash_program.proofs.streams.flush.Given as goal
 
 abbrev pub invariant-loop-error : goal.invariant-loop-error
 invariant-loop-error g l = Keeps (writer_contents g.W.Write.contents l.initial.w) (writer_contents g.W.Write.contents l.w)
