@@ -2,7 +2,7 @@
 import re
 import textwrap
 
-from .tables import ALLOW, CRATES, DOC_WORDS, MARK, NOTES
+from .tables import ALLOW, CRATES, DOC_WORDS, EXPORTS, MARK, NOTES, SOURCES
 
 # A function of at most so many tokens in its body is small.
 SMALL = 200
@@ -15,16 +15,24 @@ def paths(s):
             s.behind[k] = "::" + s.crate
 
 
+def first_of(s, k):
+    """The first token of the function whose `fn` is at k."""
+    while k:
+        if s.is_(k - 1, ")") and s.is_(s.match[k - 1] - 1, "pub"):
+            k = s.match[k - 1] - 1
+        elif s.is_(k - 1, "pub", "const", "extern") or s.toks[k - 1].text == '"C"':
+            k -= 1
+        else:
+            break
+    return k
+
+
 def heads(s):
-    """Each function that stays: its `fn`, the first token of its item with its attributes, and its `{` or `;`."""
+    """Each function that stays: its `fn`, the first token of its item with its attributes, that without them, and its `{` or `;`."""
     for k in range(len(s.toks)):
-        if k in s.gone or not (s.is_(k, "fn") and s.is_id(k + 1)):
-            continue
-        first = k
-        while s.is_(first - 1, "pub", "const", ")", "crate", "(", "super") and not s.is_(first - 1, ")", "(") or s.is_(first - 1, ")") \
-                and s.is_(s.match[first - 1] - 1, "pub"):
-            first = s.match[first - 1] if s.is_(first - 1, ")") else first - 1
-        yield k, s.attributed(first), first, s.body_of(k)
+        if k not in s.gone and s.is_(k, "fn") and s.is_id(k + 1):
+            first = first_of(s, k)
+            yield k, s.attributed(first), first, s.body_of(k)
 
 
 def indent_of(s, k):
@@ -90,18 +98,29 @@ def doc_edits(s):
 
 def reexports(s):
     """Whether the file exports a whole crate, as `pub use hash_fx as fx_hash;`: then its prelude is public."""
-    return any(s.is_(k, "pub") and s.is_(k + 1, "use") and s.is_(k + 2, *CRATES) and s.is_(k + 3, ";", "as") for k in range(len(s.toks)))
+    return any(s.is_(k, "pub") and s.is_(k + 1, "use") and s.is_(k + 2, *s.siblings) and s.is_(k + 3, ";", "as")
+               for k in range(len(s.toks)))
 
 
 def crates_named(s):
     """The crates, and std, that the file names at the head of a path."""
     found = set()
     for k in range(len(s.toks)):
-        if k in s.gone or not s.is_(k, "std", *CRATES) or s.is_(k - 1, ":"):
+        if k in s.gone or not s.is_(k, "std", *SOURCES) or s.is_(k - 1, ":"):
             continue
         if (s.is_(k + 1, ":") and s.is_(k + 2, ":")) or s.is_(k - 1, "use"):
             found.add(s.toks[k].text)
     return sorted(found)
+
+
+def imports_of(s):
+    """The `use` lines of the prelude: the crates that become modules here, and those of the crate below."""
+    named = crates_named(s)
+    for root, names in (("crate", [it for it in named if it in s.siblings or it == "std"]),
+                        ("hashers_proved", [it for it in named if it in CRATES and it not in s.siblings])):
+        if names:
+            names = "{%s}" % ", ".join(names) if len(names) > 1 else names[0]
+            yield "%suse %s::%s;" % ("pub " if reexports(s) else "", root, names)
 
 
 def prelude(s, text):
@@ -114,11 +133,10 @@ def prelude(s, text):
     head = ["", MARK % s.path]
     if s.module in ALLOW:
         head += ["// %s." % ALLOW[s.module][1], "#![allow(%s)]" % ALLOW[s.module][0]]
-    names = crates_named(s)
-    if names:
-        if reexports(s):
-            head.append("#[doc(hidden)]")
-        elif any("cfg(" in it for it in s.before.values()):
-            head.append("#[allow(unused_imports)]")
-        head.append("%suse crate::%s;" % ("pub " if reexports(s) else "", "{%s}" % ", ".join(names) if len(names) > 1 else names[0]))
+    uses = list(imports_of(s))
+    if uses and reexports(s):
+        head.append("#[doc(hidden)]")
+    elif uses and any("cfg(" in it for it in s.before.values()):
+        head.append("#[allow(unused_imports)]")
+    head += uses + ["#[allow(unsafe_code)]", "mod exports;"] * (s.module == EXPORTS)
     return "\n".join(docs + head + ["", body])

@@ -10,7 +10,8 @@ SECOND = re.compile(r"""
   | (?P<sign>.)
 """, re.X | re.S)
 MARK = re.compile(r"// What follows is the proved text of crates/[\w/]+\.rt without its contracts\.")
-PRELUDE = re.compile(r"// .*|#!?\[allow\(\w+\)\]|#\[doc\(hidden\)\]|(?:pub )?use crate::(?:\w+|\{[\w, ]+\});")
+PRELUDE = re.compile(r"// .*|#!?\[allow\(\w+\)\]|#\[doc\(hidden\)\]|mod exports;"
+                     r"|(?:pub )?use (?:crate|hashers_proved)::(?:\w+|\{[\w, ]+\});")
 APART = re.compile(r"// Of the import above what wants std:\n#\[cfg\(feature = \"std\"\)\]\n"
                    r"(?:pub )?use (\w+)::(\w+(?: as \w+)?|\{[\w, ]+\});")
 CFG = ["#", "[", "cfg", "(", "feature", "=", '"std"', ")", "]"]

@@ -51,12 +51,22 @@ def attributes(s):
         name = s.toks[o + 1].text
         if name in ("tactic", "cycle"):
             s.erase(k, s.match[o], "#[%s]" % name)
+        elif s.texts(o, o + 5) == ["[", "unsafe", "(", "no_mangle", ")", "]"]:
+            exported(s, k, s.match[o])
         elif name == "derive":
             derive(s, k, o)
         elif name == "cfg":
             test_module(s, k)
         elif name not in ATTRIBUTES:
             s.stop(k, "an unknown attribute")
+
+
+def exported(s, first, last):
+    """`#[unsafe(no_mangle)] pub extern "C" fn`: Rust gives a slice no layout in C, so exports.rs has the calls of C."""
+    if s.texts(last + 1, last + 4) != ["pub", "extern", '"C"', "fn"]:
+        s.stop(first, "an export of an unknown form")
+    s.erase(first, last, "#[unsafe(no_mangle)]")
+    s.erase(last + 2, last + 3, 'extern "C"')
 
 
 def derive(s, k, o):

@@ -9,8 +9,10 @@ OPEN, CLOSE = {"(": ")", "[": "]", "{": "}"}, {")", "]", "}"}
 class Source:
     """`gone` says of a token's number why it goes; `before` and `behind` what text is added there. `toks` has no comments, `all` has."""
 
-    def __init__(self, crate, module, path, text):
+    def __init__(self, crate, module, path, text, siblings):
         self.crate, self.module, self.path, self.text = crate, module, path, text
+        # the Rattle crates that become modules of the same Rust crate
+        self.siblings = siblings
         self.scanner = Scanner(path, text)
         self.all = self.scanner.tokens()
         self.toks = [t for t in self.all if t.kind not in ("note", "doc", "idoc")]

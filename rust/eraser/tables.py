@@ -1,7 +1,16 @@
 """What the eraser knows by name: the crates, what std alone has, what is left out and why, and the words at which it stops."""
 
-# The crates in the order in which they stand on one another. Each becomes a module of one Rust crate.
-CRATES = ["hash_rounds", "hash_laws", "hash_rules", "hash_fx", "hash_jenkins", "hash_bytes", "hashers", "hash_more"]
+# Of each Rust crate the Rattle crates whose sources become its modules, in the order in which they stand on one another.
+RUST_CRATES = {
+    "hashers-proved": ["hash_rounds", "hash_laws", "hash_rules", "hash_fx", "hash_jenkins", "hash_bytes", "hashers", "hash_more"],
+    "hashers-c": ["hash_bloom", "hash_names", "hash_c"],
+}
+CRATES = RUST_CRATES["hashers-proved"]
+SOURCES = [crate for crates in RUST_CRATES.values() for crate in crates]
+# Crates of which these files alone are taken: others take memory, or read.
+PARTS = {"hash_bloom": {"bits", "words"}, "hash_names": {"table", "task"}}
+# The file of the exports for C, which are a module of their own.
+EXPORTS = "hash_c/lib"
 
 # Names that are std's alone, or of what stands on it: an import, alias or module of such a name is there with the feature std.
 STD_NAMES = {"HashMap", "HashSet", "FxHashMap", "FxHashSet", "engine"}
@@ -15,6 +24,8 @@ ALLOW = {
     "hash_jenkins/spooky_short": ("unused_variables", "The clauses of short_words_v1 name len"),
     "hash_laws/build": ("unused_imports", "The clauses of hash_one name Hasher"),
     "hash_more/crc32": ("unused_imports", "Clauses name Hasher"),
+    "hash_bloom/bits": ("unused", "Filters that take memory call the rest"),
+    "hash_names/table": ("dead_code", "The programs read the rest of a row"),
 }
 
 # Functions whose contracts would be false in Rust, and why. They go, and so do their names in imports.

@@ -4,20 +4,20 @@ import re
 
 from . import added, imports, rules
 from .source import Source
-from .tables import CRATES, Trouble
+from .tables import PARTS, Trouble
 
 
-def read_all(folder):
-    """Of each source but tests its crate, its module, its path and its text. `folder` is the project's folder crates/."""
-    for crate in CRATES:
+def read_all(folder, crates):
+    """Of each source of these crates but tests its crate, its module, its path and its text. `folder` is the project's folder crates/."""
+    for crate in crates:
         src = os.path.join(folder, crate, "src")
         for place, _, names in sorted(os.walk(src)):
             for name in sorted(names):
                 path = os.path.join(place, name)
-                module = crate + "/" + os.path.relpath(path, src)[:-3]
-                if name.endswith(".rt") and name != "tests.rt":
+                part = os.path.relpath(path, src)[:-3]
+                if name.endswith(".rt") and name != "tests.rt" and part in PARTS.get(crate, {part}):
                     with open(path, encoding="utf-8") as file:
-                        yield crate, module, "crates/" + os.path.relpath(path, folder), file.read()
+                        yield crate, crate + "/" + part, "crates/" + os.path.relpath(path, folder), file.read()
 
 
 def out_path(module):
@@ -25,9 +25,9 @@ def out_path(module):
     return os.path.join("src", crate, "mod.rs" if part == "lib" else part + ".rs")
 
 
-def erased(folder):
+def erased(folder, crates):
     """The sources with marks at what goes and what is added, and the names of the laws."""
-    files = [Source(*it) for it in read_all(folder)]
+    files = [Source(*it, crates) for it in read_all(folder, crates)]
     for s in files:
         for rule in (rules.ghost_text, rules.attributes, rules.functions):
             rule(s)

@@ -1,0 +1,191 @@
+//! Bits in words of 64, and the places of a key's probes among them.
+
+// What follows is the proved text of crates/hash_bloom/src/bits.rt without its contracts.
+// Filters that take memory call the rest.
+#![allow(unused)]
+
+/// Whether the bit is set.
+///
+/// The caller has to see to it that:
+///
+/// ```text
+/// at < 64 * length words.now
+/// ```
+///
+/// Proved:
+///
+/// ```text
+/// IsTrue result ↔ HasBit words.now at
+/// ```
+#[inline]
+fn has_bit(words: &[u64], at: u64) -> bool {
+    words[(at / 64) as usize] >> (at % 64) & 1 == 1
+}
+
+/// Sets the bit.
+///
+/// The caller has to see to it that:
+///
+/// ```text
+/// at < 64 * length words.old
+/// ```
+///
+/// Proved:
+///
+/// ```text
+/// (j : ℕ) → HasBit words.new j ↔ (HasBit words.old j ⊎ (j ≡ at))
+/// ```
+#[inline]
+fn set_bit(words: &mut [u64], at: u64) {
+    words[(at / 64) as usize] |= 1 << (at % 64);
+}
+
+/// The place that lies `step` further, round the bits.
+///
+/// The caller has to see to it that:
+///
+/// ```text
+/// at: at < bits
+/// step: step < bits
+/// ```
+///
+/// Proved:
+///
+/// ```text
+/// result ≡ (at + step) % bits
+/// ```
+#[inline]
+fn next_place(at: u64, step: u64, bits: u64) -> u64 {
+    let left = bits - step;
+    if at < left { at + step } else { at - left }
+}
+
+/// The remainder, by a multiplication with the inverse in place of a division: the quotient comes out right or 1 too low.
+/// Paul Barrett, "Implementing the Rivest Shamir and Adleman Public Key Encryption Algorithm", 1986.
+///
+/// The caller has to see to it that:
+///
+/// ```text
+/// some: 1 ≤ bits
+/// inverse: inverse ≡ (2 ^ 64 - 1) / bits
+/// ```
+///
+/// Proved:
+///
+/// ```text
+/// result ≡ hash % bits
+/// ```
+#[inline]
+fn remainder(hash: u64, bits: u64, inverse: u64) -> u64 {
+    let times = (u128::from(hash) * u128::from(inverse) >> 64) as u64;
+    let rest = hash - times * bits;
+    if rest < bits { rest } else { rest - bits }
+}
+
+/// Sets the bits of all probes, and answers whether all of them were set before.
+///
+/// The caller has to see to it that:
+///
+/// ```text
+/// some: 1 ≤ bits
+/// there: bits ≤ 64 * length words.old
+/// ```
+///
+/// Proved:
+///
+/// ```text
+/// set: (j : ℕ) → HasBit words.new j
+///     ↔ (HasBit words.old j ⊎ IsAmong (place bits first second) probes j)
+/// before: IsTrue result ↔ HasAll words.old (place bits first second) probes
+/// ```
+#[inline]
+pub fn set_all(words: &mut [u64], bits: u64, probes: u32, first: u64, second: u64) -> bool {
+    let inverse = u64::MAX / bits;
+    let step = remainder(second, bits, inverse);
+    let mut at = remainder(first, bits, inverse);
+    let mut before = true;
+    for _ in 0..probes {
+        before &= has_bit(words, at);
+        set_bit(words, at);
+        at = next_place(at, step, bits);
+    }
+    before
+}
+
+/// Whether the bits of all probes are set.
+///
+/// The caller has to see to it that:
+///
+/// ```text
+/// some: 1 ≤ bits
+/// there: bits ≤ 64 * length words.now
+/// ```
+///
+/// Proved:
+///
+/// ```text
+/// IsTrue result ↔ HasAll words.now (place bits first second) probes
+/// ```
+#[inline]
+pub fn has_all(words: &[u64], bits: u64, probes: u32, first: u64, second: u64) -> bool {
+    let inverse = u64::MAX / bits;
+    let step = remainder(second, bits, inverse);
+    let mut at = remainder(first, bits, inverse);
+    for _ in 0..probes {
+        if !has_bit(words, at) {
+            return false;
+        }
+        at = next_place(at, step, bits);
+    }
+    true
+}
+
+/// Whether no bit from place `bits` on is set, which is in the last word.
+///
+/// The caller has to see to it that:
+///
+/// ```text
+/// enough: bits ≤ 64 * length words.now
+/// no_more: 64 * length words.now < bits + 64
+/// ```
+///
+/// Proved:
+///
+/// ```text
+/// IsTrue result ↔ ((j : ℕ) → HasBit words.now j → j < bits)
+/// ```
+#[inline]
+pub fn no_bits_beyond(words: &[u64], bits: u64) -> bool {
+    bits % 64 == 0 || words[(bits / 64) as usize] >> (bits % 64) == 0
+}
+
+/// How many bits of all words are set.
+///
+/// Proved:
+///
+/// ```text
+/// result ≡ sum_by count_ones words.now
+/// ```
+#[inline]
+fn ones_of_words(words: &[u64]) -> u128 {
+    words.iter().map(|word| u128::from(word.count_ones())).sum()
+}
+
+/// How many bits are set, of which none lies beyond the first `bits`.
+///
+/// The caller has to see to it that:
+///
+/// ```text
+/// enough: bits ≤ 64 * length words.now
+/// within: (j : ℕ) → HasBit words.now j → j < bits
+/// ```
+///
+/// Proved:
+///
+/// ```text
+/// result ≡ count_set words.now bits
+/// ```
+#[inline]
+pub fn ones(words: &[u64], bits: u64) -> u64 {
+    ones_of_words(words) as u64
+}

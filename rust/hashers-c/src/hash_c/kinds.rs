@@ -1,0 +1,99 @@
+//! Hashes by their numbers, for callers that choose at run time: the number of a name, the name of a number, and the hash of a text.
+
+// What follows is the proved text of crates/hash_c/src/kinds.rt without its contracts.
+use crate::{hash_names, std};
+use hashers_proved::hashers;
+
+use hash_names::table::{by_kind, kind_at, number_named};
+use hash_names::task::HashTask;
+use hashers::jenkins::spooky_hash::spooky_v1;
+use hashers::laws::{Piecewise, Streamed, hash_of};
+use std::marker::PhantomData;
+
+/// The number of the hash of that name; where no hash has the name, a number that no hash has.
+///
+/// Proved:
+///
+/// ```text
+/// kind_at result ≡ kind_named name.now
+/// ```
+#[inline]
+pub fn hashers_kind(name: &[u8]) -> u32 {
+    number_named(name)
+}
+
+/// The name of the hash of that number.
+///
+/// Proved:
+///
+/// ```text
+/// result.now ≡ name_at kind
+/// ```
+#[inline]
+fn name_of(kind: u32) -> &'static [u8] {
+    match kind_at(kind) {
+        Some(kind) => kind.row().name.as_bytes(),
+        None => b"",
+    }
+}
+
+/// Writes the name of the hash of that number, as far as there is room, and answers how many bytes it has; 0 where no hash has the
+/// number.
+///
+/// Proved:
+///
+/// ```text
+/// count: result ≡ length (name_at kind)
+/// written: name.new ≡ laid_over (name_at kind) name.old
+/// ```
+#[inline]
+pub fn hashers_name(kind: u32, name: &mut [u8]) -> usize {
+    let told = name_of(kind);
+    for i in 0..told.len().min(name.len()) {
+        name[i] = told[i];
+    }
+    told.len()
+}
+
+/// To hash a text in one call.
+struct HashText<'a> {
+    text: PhantomData<&'a u8>,
+}
+
+impl<'a> HashTask for HashText<'a> {
+    type Told = &'a [u8];
+
+    type Input = ();
+
+    type Outcome = u64;
+
+    #[inline(always)]
+    fn by_text<H: Streamed>(text: &'a [u8], _nothing: &mut ()) -> u64 {
+        hash_of::<H>(text)
+    }
+
+    #[inline(always)]
+    fn by_pieces<H: Piecewise>(text: &'a [u8], _nothing: &mut ()) -> u64 {
+        hash_of::<H>(text)
+    }
+
+    #[inline(always)]
+    fn by_spooky_v1(text: &'a [u8], _nothing: &mut ()) -> u64 {
+        spooky_v1(text)
+    }
+}
+
+/// The hash of the text by the hash of that number; 0 where no hash has the number.
+///
+/// Proved:
+///
+/// ```text
+/// result ≡ hash_at kind text.now
+/// ```
+#[inline]
+pub fn hashers_hash(kind: u32, text: &[u8]) -> u64 {
+    match kind_at(kind) {
+        Some(kind) => by_kind::<HashText<'_>>(kind, text, &mut ()),
+        None => 0,
+    }
+}

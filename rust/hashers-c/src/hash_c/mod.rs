@@ -1,0 +1,28 @@
+//! The hash functions of `hashers` for programs in C, and in whatever calls C: exported calls over pointers and lengths, each with
+//! the contract of what it calls. `c/hashers.h` declares them, and says what a caller must see to.
+
+// What follows is the proved text of crates/hash_c/src/lib.rt without its contracts.
+#[allow(unsafe_code)]
+mod exports;
+
+mod bloom;
+mod column;
+mod columns;
+mod combine;
+mod kinds;
+mod lines;
+mod parts;
+mod spooky;
+mod whole;
+
+/// The version of the library, of which VERSION at the top says the three parts: 10000 * major + 100 * minor + patch.
+///
+/// Proved:
+///
+/// ```text
+/// result ≡ 10001
+/// ```
+#[inline]
+pub fn hashers_version() -> u32 {
+    10001
+}
