@@ -2,13 +2,14 @@
 
 # Of each Rust crate the Rattle crates whose sources become its modules, in the order in which they stand on one another.
 RUST_CRATES = {
-    "hashers-proved": ["hash_rounds", "hash_laws", "hash_rules", "hash_fx", "hash_jenkins", "hash_bytes", "hashers", "hash_more"],
+    "hashers-proved": ["hash_rounds", "hash_laws", "hash_rules", "hash_fx", "hash_jenkins", "hash_bytes", "hashers", "hash_more",
+                       "hash_keyed"],
     "hashers-c": ["hash_bloom", "hash_names", "hash_c"],
 }
 CRATES = RUST_CRATES["hashers-proved"]
 SOURCES = [crate for crates in RUST_CRATES.values() for crate in crates]
-# Crates of which these files alone are taken: others take memory, or read.
-PARTS = {"hash_bloom": {"bits", "words"}, "hash_names": {"table", "task"}}
+# Crates of which these files alone are taken: others take memory, read, or have laws alone.
+PARTS = {"hash_bloom": {"bits", "words"}, "hash_keyed": {"modular", "pair", "parts", "poly61", "words"}, "hash_names": {"table", "task"}}
 # The file of the exports for C, which are a module of their own.
 EXPORTS = "hash_c/lib"
 
@@ -24,6 +25,7 @@ ALLOW = {
     "hash_jenkins/spooky_short": ("unused_variables", "The clauses of short_words_v1 name len"),
     "hash_laws/build": ("unused_imports", "The clauses of hash_one name Hasher"),
     "hash_more/crc32": ("unused_imports", "Clauses name Hasher"),
+    "hash_keyed/words": ("unused_labels", "Proofs name the loops"),
     "hash_bloom/bits": ("unused", "Filters that take memory call the rest"),
     "hash_names/table": ("dead_code", "The programs read the rest of a row"),
 }

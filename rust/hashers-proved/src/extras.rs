@@ -6,13 +6,14 @@ use crate::hash_bytes::oz::{LoseLoseState, SdbmState};
 use crate::hash_jenkins::spooky_hash::SpookyHasher;
 use crate::hash_jenkins::spooky_parts::SpookyParts;
 use crate::hash_jenkins::{BuildSpooky, Lookup3Hasher};
+use crate::hash_keyed::poly61::Poly61Hasher;
 use crate::hash_laws::build::BuildFresh;
 use crate::hash_laws::traits::Undo;
 use crate::hash_more::elf::ElfHasher;
 use crate::hash_rounds::Turns;
 use crate::hash_rules::{ByteHasher, ByteRule, UndoRule, WordHasher, WordRule};
 use core::fmt;
-use core::hash::Hasher;
+use core::hash::{BuildHasher, Hasher};
 
 /// `Clone` as `Copy` has it.
 macro_rules! copies {
@@ -37,6 +38,7 @@ copies! {
     [] Lookup3Hasher;
     [] NullHasher;
     [] SpookyHasher;
+    [] Poly61Hasher;
 }
 
 /// Equality and `Debug` by what `finish` answers.
@@ -122,5 +124,33 @@ impl fmt::Debug for BuildSpooky {
 impl fmt::Debug for crate::engine::Taken {
     fn fmt(&self, f: &mut fmt::Formatter) -> fmt::Result {
         f.debug_struct("Taken").field("bytes", &self.bytes).field("ended", &self.ended).finish()
+    }
+}
+
+/// Hashers by the polynomial at one key, for std's maps and sets. Take [`Poly61Keys::random`] for keys that somebody else chooses.
+#[derive(Clone, Copy)]
+pub struct Poly61Keys {
+    key: u64,
+}
+
+impl Poly61Keys {
+    /// This key: any number, of which the remainder modulo 2^61 - 1 counts.
+    pub fn with_key(key: u64) -> Poly61Keys {
+        Poly61Keys { key }
+    }
+
+    /// A key from the randomness of std's `RandomState`.
+    #[cfg(feature = "std")]
+    pub fn random() -> Poly61Keys {
+        Poly61Keys::with_key(real_std::hash::RandomState::new().build_hasher().finish())
+    }
+}
+
+impl BuildHasher for Poly61Keys {
+    type Hasher = Poly61Hasher;
+
+    #[inline]
+    fn build_hasher(&self) -> Poly61Hasher {
+        Poly61Hasher::new(self.key)
     }
 }

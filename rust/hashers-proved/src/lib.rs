@@ -43,6 +43,14 @@ pub mod hash_bytes;
 pub mod hashers;
 #[doc(hidden)]
 pub mod hash_more;
+#[doc(hidden)]
+pub mod hash_keyed {
+    mod modular;
+    pub mod pair;
+    pub mod parts;
+    pub mod poly61;
+    mod words;
+}
 
 #[cfg(feature = "std")]
 #[doc(inline)]
@@ -70,6 +78,15 @@ pub mod more {
     pub use crate::hash_more::*;
     #[doc(inline)]
     pub use crate::hash_more::{crc32::*, djb2_add::*, elf::*, fnv1::*, joaat::*};
+}
+
+/// The polynomial hash of Carter and Wegman over 2^61 - 1, at a key. Of the 2^61 - 1 keys at most n / 7 + 2 give two different texts of up
+/// to n bytes one hash. That is proved of the Rattle text, by laws that have no code. It is no protection against who sees hashes or times.
+pub mod keyed {
+    #[doc(inline)]
+    pub use crate::extras::Poly61Keys;
+    #[doc(inline)]
+    pub use crate::hash_keyed::{pair::*, parts::*, poly61::*};
 }
 
 /// std's own hasher, under the path that the crate hashers 1.0.1 gives it. It is no part of the proof.

@@ -177,6 +177,45 @@ pub extern "C" fn hashers_crc32c_combine(hash1: u64, hash2: u64, n2: u64) -> u64
 ///
 /// Each pointer and its count are so many items that nothing else writes during the call.
 #[no_mangle]
+pub unsafe extern "C" fn hashers_poly61(key: u64, text: *const u8, text_count: usize) -> u64 {
+    // SAFETY: as said above.
+    unsafe { keyed::hashers_poly61(key, slice(text, text_count)) }
+}
+
+/// See `hashers.h`.
+///
+/// # Safety
+///
+/// Each pointer and its count are so many items that nothing else writes during the call.
+#[no_mangle]
+pub unsafe extern "C" fn hashers_poly61_pair(key1: u64, key2: u64, text: *const u8, text_count: usize) -> Words {
+    // SAFETY: as said above.
+    unsafe { keyed::hashers_poly61_pair(key1, key2, slice(text, text_count)) }
+}
+
+/// See `hashers.h`.
+///
+/// # Safety
+///
+/// Each pointer and its count are so many items that nothing else writes during the call.
+#[no_mangle]
+pub unsafe extern "C" fn hashers_poly61_state(key: u64, text: *const u8, text_count: usize) -> u64 {
+    // SAFETY: as said above.
+    unsafe { keyed::hashers_poly61_state(key, slice(text, text_count)) }
+}
+
+/// See `hashers.h`.
+#[no_mangle]
+pub extern "C" fn hashers_poly61_combine(key: u64, state1: u64, hash2: u64, n2: u64) -> u64 {
+    keyed::hashers_poly61_combine(key, state1, hash2, n2)
+}
+
+/// See `hashers.h`.
+///
+/// # Safety
+///
+/// Each pointer and its count are so many items that nothing else writes during the call.
+#[no_mangle]
 pub unsafe extern "C" fn hashers_kind(name: *const u8, name_count: usize) -> u32 {
     // SAFETY: as said above.
     unsafe { kinds::hashers_kind(slice(name, name_count)) }

@@ -1,6 +1,8 @@
 //! All tests in one program.
 mod documents;
 #[cfg(feature = "std")]
+mod keyed;
+#[cfg(feature = "std")]
 mod keys;
 #[cfg(feature = "std")]
 mod laws;

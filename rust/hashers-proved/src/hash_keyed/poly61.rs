@@ -1,0 +1,159 @@
+//! The hash of a text by its polynomial over the prime 2^61 - 1, at a key.
+
+// What follows is the proved text of crates/hash_keyed/src/poly61.rt without its contracts.
+use crate::{hashers, std};
+
+use crate::hash_keyed::modular::{ended, placed, remainder, step};
+use crate::hash_keyed::words::{few, full_words};
+use hashers::laws::{Piecewise, Streamed};
+use std::hash::Hasher;
+
+/// The key of a default hasher. Everybody knows it, so it is of use where nobody chooses the texts.
+const DEFAULT_KEY: u64 = 1234567890123456789;
+
+/// The hash of a text by its polynomial, at a key.
+pub struct Poly61Hasher {
+    key: u64,
+    state: u64,
+    word: u64,
+    count: u32,
+}
+
+impl Poly61Hasher {
+    /// A hasher of no bytes, at a key: any number, of which the remainder modulo the prime counts.
+    ///
+    /// Proved:
+    ///
+    /// ```text
+    /// position: result ≡ start_at (key % prime61)
+    /// stands: PolyStandsAt result ((key % prime61) ∷ []) []
+    /// in_range: IsPosition result
+    /// ```
+    #[inline(always)]
+    pub fn new(key: u64) -> Poly61Hasher {
+        Poly61Hasher {
+            key: remainder(key),
+            state: 1,
+            word: 0,
+            count: 0,
+        }
+    }
+
+    // One byte in.
+    /// Proved:
+    ///
+    /// ```text
+    /// self.new ≡ byte_in self.old byte
+    /// ```
+    #[inline(always)]
+    fn byte_in(&mut self, byte: u8) {
+        let word = self.word + placed(u64::from(byte), self.count);
+        if self.count < 6 {
+            self.word = word;
+            self.count += 1;
+        } else {
+            self.state = step(self.key, self.state, word);
+            self.word = 0;
+            self.count = 0;
+        }
+    }
+}
+
+impl Default for Poly61Hasher {
+    /// The hasher of no bytes, at a fixed key.
+    #[inline]
+    fn default() -> Poly61Hasher {
+        Poly61Hasher::new(DEFAULT_KEY)
+    }
+}
+
+impl Hasher for Poly61Hasher {
+    /// The value of the polynomial in the low 61 bits; the top three are the low three once more.
+    ///
+    /// Proved:
+    ///
+    /// ```text
+    /// value: result ≡ as_word (poly_end self.now)
+    /// in_range: IsPosition self.now
+    /// ```
+    #[inline(always)]
+    fn finish(&self) -> u64 {
+        ended(self.key, self.state, self.word, self.count)
+    }
+
+    /// Takes the bytes in.
+    ///
+    /// Proved:
+    ///
+    /// ```text
+    /// written: self.new ≡ after self.old bytes.now
+    /// in_range_before: IsPosition self.old
+    /// in_range_after: IsPosition self.new
+    /// ```
+    #[inline]
+    fn write(&mut self, bytes: &[u8]) {
+        let _key = &self.key;
+        let mut rest = bytes;
+        while self.count > 0 {
+            match rest.split_first() {
+                None => return,
+                Some((byte, more)) => {
+                    self.byte_in(*byte);
+                    rest = more;
+                }
+            }
+        }
+        let (state, last) = full_words(self.key, self.state, rest);
+        self.state = state;
+        self.word = few(last);
+        self.count = last.len() as u32;
+    }
+}
+
+impl Piecewise for Poly61Hasher {
+    #[inline(always)]
+    fn state_in_range(&self) {
+        let _key = &self.key;
+    }
+
+    #[inline(always)]
+    fn feed(&mut self, piece: &[u8]) {
+        self.write(piece);
+    }
+
+    #[inline(always)]
+    fn answer(&self) -> u64 {
+        self.finish()
+    }
+
+    #[inline(always)]
+    fn whole(text: &[u8]) -> u64 {
+        poly61(DEFAULT_KEY, text)
+    }
+
+    #[inline]
+    fn fork(&self) -> Poly61Hasher {
+        Poly61Hasher {
+            key: self.key,
+            state: self.state,
+            word: self.word,
+            count: self.count,
+        }
+    }
+}
+
+impl Streamed for Poly61Hasher {}
+
+/// The hash of a text by its polynomial, at a key: what [`Poly61Hasher`] answers to the text.
+///
+/// Proved:
+///
+/// ```text
+/// result ≡ poly61 (key % prime61) bytes.now
+/// ```
+#[inline]
+pub fn poly61(key: u64, bytes: &[u8]) -> u64 {
+    let key = remainder(key);
+    let (state, last) = full_words(key, 1, bytes);
+    ended(key, state, few(last), last.len() as u32)
+}
