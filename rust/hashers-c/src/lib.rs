@@ -16,12 +16,6 @@ macro_rules! prove {
 // The sources name `std`: core's items.
 use core as std;
 
-/// Bits and words of a Bloom filter.
-mod hash_bloom {
-    pub mod bits;
-    pub mod words;
-}
-
 /// The table of hashes.
 mod hash_names {
     pub mod table;

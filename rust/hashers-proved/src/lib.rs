@@ -1,8 +1,9 @@
 #![doc = include_str!("../README.md")]
 #![no_std]
 #![forbid(unsafe_code)]
+#![warn(missing_docs)]
 // In the proved text, whose language has no such lints.
-#![allow(clippy::new_without_default, clippy::precedence)]
+#![allow(clippy::manual_is_multiple_of, clippy::new_without_default, clippy::precedence)]
 
 #[cfg(target_endian = "big")]
 compile_error!("hashers-proved is for little-endian hosts: std feeds numbers in the host's order, and little-endian is what is proved");
@@ -51,12 +52,20 @@ pub mod hash_keyed {
     pub mod poly61;
     mod words;
 }
+#[doc(hidden)]
+pub mod hash_bloom {
+    pub mod bits;
+    pub mod words;
+}
 
 #[cfg(feature = "std")]
 #[doc(inline)]
 pub use hashers::engine;
 #[doc(inline)]
 pub use hashers::{build, fnv, fx_hash, laws, null, oz, pigeon, promises, rounds, rules, window};
+
+#[doc(inline)]
+pub use hash_bloom::words as bloom;
 
 /// Bob Jenkins' hash functions: one-at-a-time, lookup3 and SpookyHash.
 pub mod jenkins {

@@ -47,16 +47,30 @@ pub mod simd {
         }
     }
 
+    impl Simd<u32, 4> {
+        /// The sum of the lanes, which wraps.
+        #[inline(always)]
+        pub fn reduce_sum(self) -> u32 {
+            self.0.iter().fold(0, |sum, lane| sum.wrapping_add(*lane))
+        }
+    }
+
+    impl Simd<u64, 8> {
+        /// The sum of the lanes, which wraps. Of bytes it is made in one word, with 16 bits for each two of them: rustc sees where they are
+        /// bytes, and leaves the other way out.
+        #[inline(always)]
+        pub fn reduce_sum(self) -> u64 {
+            const LOW: u64 = 0x00ff_00ff_00ff_00ff;
+            if self.0.iter().fold(0, |all, lane| all | lane) < 256 {
+                let bytes = u64::from_le_bytes(self.0.map(|lane| lane as u8));
+                return ((bytes & LOW) + (bytes >> 8 & LOW)).wrapping_mul(0x0001_0001_0001_0001) >> 48;
+            }
+            self.0.iter().fold(0, |sum, lane| sum.wrapping_add(*lane))
+        }
+    }
+
     macro_rules! lanes {
         ($number:ident) => {
-            impl<const N: usize> Simd<$number, N> {
-                /// The sum of the lanes, which wraps.
-                #[inline(always)]
-                pub fn reduce_sum(self) -> $number {
-                    self.0.iter().fold(0, |sum, lane| $number::wrapping_add(sum, *lane))
-                }
-            }
-
             impl<const N: usize> core::ops::Mul for Simd<$number, N> {
                 type Output = Self;
 
@@ -101,5 +115,23 @@ pub mod snapshot {
         pub fn of(_value: &T) -> Snapshot<T> {
             Snapshot(PhantomData)
         }
+    }
+}
+
+#[cfg(test)]
+mod tests {
+    use super::simd::prelude::*;
+
+    #[test]
+    fn sums_of_lanes_wrap() {
+        for lanes in [[0; 8], [255; 8], [1, 2, 3, 4, 5, 6, 7, 255], [256, 1, 1, 1, 1, 1, 1, 1], [u64::MAX, 2, 0, 0, 1 << 40, 0, 300, 5]] {
+            let sum = lanes.iter().fold(0, |sum: u64, lane| sum.wrapping_add(*lane));
+            assert_eq!(u64x8::from_array(lanes).reduce_sum(), sum);
+        }
+        assert_eq!((u32x4::from_array([u32::MAX, 2, 3, 4]) * u32x4::splat(3)).reduce_sum(), 24);
+        let mut sums = u64x8::splat(u64::MAX);
+        sums += u8x8::from_array([1, 2, 3, 4, 5, 6, 7, 8]).cast::<u64>();
+        assert_eq!(sums.reduce_sum(), 28);
+        assert_eq!(u8x4::from_array([1, 2, 3, 255]).cast::<u32>().reduce_sum(), 261);
     }
 }

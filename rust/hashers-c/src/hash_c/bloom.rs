@@ -2,8 +2,7 @@
 //! and a probe at least, and as many words as the bits need; where there is none, a call answers `false` and changes nothing.
 
 // What follows is the proved text of crates/hash_c/src/bloom.rt without its contracts.
-use crate::hash_bloom;
-use hashers_proved::hashers;
+use hashers_proved::{hash_bloom, hashers};
 
 use hash_bloom::words;
 use hashers::fnv::FNV1aHasher64;

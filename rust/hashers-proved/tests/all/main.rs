@@ -1,4 +1,5 @@
 //! All tests in one program.
+mod bloom;
 mod documents;
 #[cfg(feature = "std")]
 mod keyed;

@@ -90,3 +90,12 @@ fn two_texts_are_combined() {
     assert_eq!(crc32_combine(crc32(first), crc32(second), length), crc32(&whole));
     assert_eq!(crc32c_combine(crc32c(first), crc32c(second), length), crc32c(&whole));
 }
+
+#[test]
+fn hashers_keep_their_states_alone() {
+    use std::mem::size_of;
+    assert_eq!([size_of::<FNV1aHasher32>(), size_of::<DJB2Hasher>(), size_of::<SDBMHasher>(), size_of::<FxHasher32>()], [4; 4]);
+    assert_eq!([size_of::<FNV1aHasher64>(), size_of::<LoseLoseHasher>(), size_of::<Bricolage>(), size_of::<OAATHasher>()], [8; 4]);
+    assert_eq!([size_of::<Lookup3Hasher>(), size_of::<PassThroughHasher>(), size_of::<FxHasher>(), size_of::<FxHasher64>()], [8; 4]);
+    assert_eq!((size_of::<NullHasher>(), size_of::<Crc32Hasher>()), (0, 4));
+}

@@ -1,8 +1,8 @@
 //! Bits in words of 64, and the places of a key's probes among them.
 
 // What follows is the proved text of crates/hash_bloom/src/bits.rt without its contracts.
-// Filters that take memory call the rest.
-#![allow(unused)]
+// The clauses of ones name bits.
+#![allow(unused_variables)]
 
 /// Whether the bit is set.
 ///

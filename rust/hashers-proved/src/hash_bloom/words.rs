@@ -1,7 +1,7 @@
 //! A filter in words that the caller keeps, beside its numbers of bits and probes. Bit i is that of value 2^(i mod 64) in word i / 64.
 
 // What follows is the proved text of crates/hash_bloom/src/words.rt without its contracts.
-use hashers_proved::hashers;
+use crate::hashers;
 
 use crate::hash_bloom::bits::{has_all, set_all};
 use hashers::laws::{Piecewise, hash_of};
