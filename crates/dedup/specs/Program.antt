@@ -1,15 +1,12 @@
 -- What the program is asked for, and how it ends.
-use Rattle.std.specs.Prelude.{ℕ, ◌≡◌, ◌||◌, if◌then◌else◌, List, [], ◌∷◌, Option, Some, None, Result, Ok, Err, codes}
-use Rattle.std.specs.Io.KnownBytes.{Keeps}
-use Rattle.hash_program.specs.Call.{given, unknown}
-use Rattle.hash_program.specs.Outcome.{of_telling}
-use Rattle.hash_program.specs.Streams.{PutsOut}
+use Rattle.std.specs.Prelude.{ℕ, ◌≡◌, ◌||◌, if◌then◌else◌, List, [], ◌∷◌, Some, Result, Ok, Err, codes}
+use Rattle.hash_program.specs.Call.{given}
+use Rattle.hash_program.specs.Frame.{EndsRequest, request_of, text_of}
 use Rattle.hash_program.specs.declared.fault.Fault.{Fault}
 use Rattle.hash_program.specs.declared.fault.Fault.TheVariants.{Own}
 use Rattle.hash_program.specs.declared.outcome.Nothing.{Nothing}
 use Rattle.hash_program.specs.declared.outcome.Outcome.{Outcome}
-use Rattle.hash_program.specs.declared.outcome.Outcome.TheVariants.{Done, Usage, Reported, Failed}
-use Rattle.hash_program.specs.declared.outcome.Wrong.TheVariants.{UnknownOption}
+use Rattle.hash_program.specs.declared.outcome.Outcome.TheVariants.{Done, Reported, Failed}
 use Rattle.dedup.specs.Lines.{once_by}
 use Rattle.dedup.specs.Running.{Ends, Run}
 use Rattle.dedup.specs.Tallies.{told}
@@ -18,7 +15,7 @@ use Rattle.dedup.specs.declared.fault.TooMany.TheVariants as too_many
 use Rattle.dedup.specs.declared.run.Ended.{Ended}
 use Rattle.dedup.specs.declared.run.Ended.TheVariants.{Whole, InputFailed, TooManyLines}
 use Rattle.dedup.specs.declared.outcome.Task.{Task}
-use Rattle.dedup.specs.declared.outcome.Task.TheVariants.{Once, Tallied, Help, Version}
+use Rattle.dedup.specs.declared.outcome.Task.TheVariants.{Once, Tallied}
 use Rattle.dedup.specs.declared.tally.Which.{Which}
 
 -- the letters and the names of the options
@@ -45,16 +42,6 @@ abbrev pub work_of : List (List ℕ) → Task
 work_of words = if (which_of words).counts || (which_of words).repeated || (which_of words).unique then Tallied (which_of words)
     (eol_of words) else Once (eol_of words)
 
--- what words ask for that give these unknown options
-abbrev pub asked : (wrong words : List (List ℕ)) → Option Task
-asked (word ∷ more) words = None
-asked [] words = if given None (codes "help") words then Some Help else if given None (codes "version") words then Some Version else Some
-    (work_of words)
-
--- what the words behind the program's own name ask for
-abbrev pub task_of : List (List ℕ) → Option Task
-task_of words = asked (unknown letters names words) words
-
 -- what came of a run
 abbrev pub of_run : Result Ended (Fault TooMany) → Outcome Nothing TooMany
 of_run (Ok Whole) = Done
@@ -62,23 +49,17 @@ of_run (Ok InputFailed) = Reported
 of_run (Ok TooManyLines) = Failed (Own too_many.Lines)
 of_run (Err fault) = Failed fault
 
--- nothing is read, and the text is written
-abbrev pub EndsTelling : (text : List ℕ) → Run → Outcome Nothing TooMany → Type 0
-EndsTelling text run result =
-    (run.left' ≡ run.left) × (told : Result (Unit {0}) (Fault TooMany)) × PutsOut text run.written run.written' told × (result ≡ of_telling told)
-
 -- how a run ends that is to write what `output` makes of the lines of its inputs, of at most so many
 abbrev pub EndsRun : (output : List (List ℕ) → List ℕ) (eol limit : ℕ) → Run → Outcome Nothing TooMany → Type 0
 EndsRun output eol limit run result = (ended : Result Ended (Fault TooMany)) × Ends output eol limit run ended × (result ≡ of_run ended)
 
--- how a task ends; none is a wrong call, and then nothing is read or written
-abbrev pub EndsTask : Option Task → (help version : List ℕ) → ℕ → Run → Outcome Nothing TooMany → Type 0
-EndsTask (Some (Once eol)) help version limit run result = EndsRun (once_by eol) eol limit run result
-EndsTask (Some (Tallied which eol)) help version limit run result = EndsRun (told eol which) eol limit run result
-EndsTask (Some Help) help version limit run result = EndsTelling help run result
-EndsTask (Some Version) help version limit run result = EndsTelling version run result
-EndsTask None help version limit run result = (result ≡ Usage UnknownOption) × (run.left' ≡ run.left) × Keeps run.written run.written'
+-- how a task ends
+abbrev pub EndsTask : Task → ℕ → Run → Outcome Nothing TooMany → Type 0
+EndsTask (Once eol) limit run result = EndsRun (once_by eol) eol limit run result
+EndsTask (Tallied which eol) limit run result = EndsRun (told eol which) eol limit run result
 
 -- how the program ends that was called by these words
-abbrev pub Exits : (words : List (List ℕ)) (help version : List ℕ) → ℕ → Run → Outcome Nothing TooMany → Type 0
-Exits words = EndsTask (task_of words)
+abbrev pub Exits : (words : List (List ℕ)) (help version list : List ℕ) → ℕ → Run → Outcome Nothing TooMany → Type 0
+Exits words help version list limit run =
+    EndsRequest (request_of letters names words) (text_of help version list) (EndsTask (work_of words) limit run) (run.left' ≡ run.left)
+    run.written run.written'

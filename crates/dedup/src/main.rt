@@ -17,19 +17,20 @@ mod unread;
 
 use fault::Fault;
 use hash_program::call::operands;
+use hash_program::frame::{About, ended, unknown_option};
 use hash_program::inputs::{Told, inputs};
-use hash_program::outcome::{About, failure_of, status_of};
-use hash_program::quoted::quoted;
-use hash_program::reason::reason;
 use hash_program::words::words;
 use hash_texts::RandomKeys;
-use outcome::{Outcome, outcome_of, unknown_option};
+use outcome::{OPTIONS, Outcome, outcome_of};
 use std::io;
 use std::io::BufWriter;
 use std::process::ExitCode;
 
 /// How many bytes are written at once.
 const BUFFER: usize = 65536;
+
+/// The program's name.
+const NAME: &str = "dedup";
 
 /// How the program is called.
 const HELP: &str = "usage: dedup [-cduz] [FILE..]
@@ -60,6 +61,7 @@ fn called(rt: &HostRuntime, words: &[Vec<u8>]) -> io::Result<Outcome> {
     let about = About {
         help: HELP,
         version: VERSION,
+        list: "",
     };
     Ok(outcome_of(
         alloc,
@@ -70,57 +72,20 @@ fn called(rt: &HostRuntime, words: &[Vec<u8>]) -> io::Result<Outcome> {
         &mut inputs(rt, &names)?,
         &mut Told {
             rt,
-            program: "dedup",
+            program: NAME,
             names: &names,
         },
         &mut BufWriter::with_capacity(alloc, BUFFER, rt.stdout())?,
     ))
 }
 
-/// Why it failed: the option that there is not, or the system's reason.
-fn why(rt: &HostRuntime, words: &[Vec<u8>], outcome: &Outcome) -> Option<String> {
-    let alloc = rt.alloc();
-    match outcome {
-        Outcome::Usage(_) => match unknown_option(words) {
-            Some(word) => match quoted(alloc, word) {
-                Ok(text) => Some(text),
-                Err(_) => None,
-            },
-            None => None,
-        },
-        Outcome::Failed(Fault::Unwritten(Some(error))) => match reason(alloc, error) {
-            Ok(text) => Some(text),
-            Err(_) => None,
-        },
-        _ => None,
-    }
-}
-
-/// Says what failed and why, unless that is told already, or nobody reads any more.
-fn complain(rt: &HostRuntime, words: &[Vec<u8>], outcome: &Outcome) {
-    let status = status_of(outcome);
-    let failure = failure_of(outcome);
-    if failure.is_empty() || status == 141 {
-        return;
-    }
-    let _ = match why(rt, words, outcome) {
-        Some(reason) => eprintln!(rt; "dedup: {failure}: {reason}"),
-        None => eprintln!(rt; "dedup: {failure}"),
-    };
-    if status == 2 {
-        let _ = eprintln!(rt; "dedup --help says how it is called");
-    }
-}
-
 /// The status of the call.
 fn status(rt: &HostRuntime) -> u8 {
     let Ok(words) = words(rt) else {
-        complain(rt, &[], &Outcome::Failed(Fault::NoMemory));
-        return status_of(&Outcome::Failed(Fault::NoMemory));
+        return ended(rt, NAME, &Outcome::Failed(Fault::NoMemory), None);
     };
     let outcome = called(rt, &words).unwrap_or(Outcome::Failed(Fault::NoMemory));
-    complain(rt, &words, &outcome);
-    status_of(&outcome)
+    ended(rt, NAME, &outcome, unknown_option(&OPTIONS, &words))
 }
 
 fn main(rt: HostRuntime) -> ExitCode {

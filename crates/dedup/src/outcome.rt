@@ -1,56 +1,50 @@
 //! What the program is asked for, and how it ends.
-ghost use Rattle.std.specs.Prelude.{◌≡◌, ◌∷◌, [], ℕ, List, map, MatchOption};
-ghost use Rattle.hash_program.specs.Call.{texts, unknown};
+ghost use Rattle.std.specs.Prelude.{◌≡◌};
+ghost use Rattle.hash_program.specs.Call.{texts};
 ghost use Rattle.std.specs.Io.Buffered.{writer_contents};
-ghost use Rattle.dedup.specs.Program.{Exits, letters, names, of_run, task_of, work_of};
+ghost use Rattle.dedup.specs.Program.{Exits, of_run, work_of};
 ghost use Rattle.dedup.specs.Running.{run_of};
 
 use crate::fault::{Fault, TooMany};
 use crate::once::dedup;
 use crate::run::Ended;
 use crate::tally::{Which, tally};
-use hash_program::call::{first_unknown, is_given};
+use hash_program::call::is_given;
+use hash_program::frame::{About, Options, Request, request_of, text_of};
 use hash_program::inputs::Complaints;
 use hash_program::outcome;
-use hash_program::outcome::{About, Nothing, Wrong, of_telling};
+use hash_program::outcome::{Nothing, Wrong, of_telling};
 use hash_program::streams::put_out;
 use std::alloc::Global;
 use std::hash::BuildHasher;
 use std::io::{BufWriter, Read, Write};
 
-/// What a call asks for.
+/// What is to be written of the lines.
 #[derive(Clone, Copy)]
 pub enum Task {
     /// Each line once, of lines that end with this byte.
     Once(u8),
     /// The lines that were counted, of lines that end with this byte.
     Tallied(Which, u8),
-    /// How the program is called.
-    Help,
-    /// Which version of the program this is.
-    Version,
 }
 
 /// What came of a call.
 pub type Outcome = outcome::Outcome<Nothing, TooMany>;
 
-/// The first word that gives an option that there is not.
-pub fn unknown_option(words: &[Vec<u8>]) -> Option<&[u8]>
-    ensures { MatchOption result (unknown letters names (texts words.now) ≡ [])
-        (λ word. (more : List (List ℕ)) × (unknown letters names (texts words.now) ≡ word.now ∷ more)) }
-{
-    let names: [&[u8]; 6] = [
+/// The options.
+pub const OPTIONS: Options<'static> = Options {
+    letters: b"cduz",
+    names: &[
         b"count",
         b"repeated",
         b"unique",
         b"zero-terminated",
         b"help",
         b"version",
-    ];
-    first_unknown(words, b"cduz", &names)
-}
+    ],
+};
 
-/// What is to be written of the lines.
+/// What the words behind the program's own name want written of the lines.
 fn work_of(words: &[Vec<u8>]) -> Task
     ensures { result ≡ work_of (texts words.now) }
 {
@@ -69,22 +63,6 @@ fn work_of(words: &[Vec<u8>]) -> Task
     } else {
         Task::Once(eol)
     }
-}
-
-/// What the words behind the program's own name ask for.
-pub fn task_of(words: &[Vec<u8>]) -> Option<Task>
-    ensures { result ≡ task_of (texts words.now) }
-{
-    if unknown_option(words).is_some() {
-        return None;
-    }
-    if is_given(words, None, b"help") {
-        return Some(Task::Help);
-    }
-    if is_given(words, None, b"version") {
-        return Some(Task::Version);
-    }
-    Some(work_of(words))
 }
 
 /// What came of a run.
@@ -111,16 +89,17 @@ pub fn outcome_of<S: BuildHasher + Drop, R: Read, C: Complaints, W: Write + Drop
     complaints: &mut C,
     w: &mut BufWriter<W>,
 ) -> Outcome
-    ensures { Exits (texts words.now) about.entry.help.now about.entry.version.now limit
+    ensures { Exits (texts words.now) about.entry.help.now about.entry.version.now about.entry.list.now limit
         (run_of R.remaining inputs.old inputs.new (writer_contents W.contents) w.old w.new) result }
 {
-    match task_of(words) {
-        Some(Task::Once(eol)) => { of_run(dedup(alloc, hasher, eol, limit, inputs, complaints, w)) }
-        Some(Task::Tallied(which, eol)) => {
-            of_run(tally(alloc, hasher, which, eol, limit, inputs, complaints, w))
-        }
-        Some(Task::Help) => of_telling(put_out(w, about.help.as_bytes())),
-        Some(Task::Version) => of_telling(put_out(w, about.version.as_bytes())),
-        None => Outcome::Usage(Wrong::UnknownOption),
+    match request_of(&OPTIONS, words) {
+        Request::UnknownOption => Outcome::Usage(Wrong::UnknownOption),
+        Request::Text(text) => of_telling(put_out(w, text_of(&about, text))),
+        Request::Work => match work_of(words) {
+            Task::Once(eol) => of_run(dedup(alloc, hasher, eol, limit, inputs, complaints, w)),
+            Task::Tallied(which, eol) => {
+                of_run(tally(alloc, hasher, which, eol, limit, inputs, complaints, w))
+            }
+        },
     }
 }

@@ -4,8 +4,9 @@ use crate::once::dedup;
 use crate::outcome::{Outcome, outcome_of};
 use crate::run::Ended;
 use crate::tally::{Which, tally};
+use hash_program::frame::About;
 use hash_program::inputs::Complaints;
-use hash_program::outcome::{About, failure_of, status_of};
+use hash_program::outcome::{failure_of, status_of};
 use hash_texts::Texts;
 use hashers::build::BuildFresh;
 use hashers::fnv::FNV1aHasher64;
@@ -204,6 +205,7 @@ fn run_all<H: Piecewise>(
         About {
             help: "help\n",
             version: "version\n",
+            list: "",
         },
         40,
         inputs,

@@ -5,6 +5,7 @@
 
 pub mod call;
 pub mod fault;
+pub mod frame;
 pub mod inputs;
 pub mod outcome;
 pub mod progress;

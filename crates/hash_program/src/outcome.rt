@@ -3,16 +3,7 @@ ghost use Rattle.std.specs.Prelude.{◌≡◌, ℕ, List};
 ghost use Rattle.hash_program.specs.Outcome.{failure_of, of_telling, status_of, write_status};
 
 use crate::fault::Fault;
-use std::io::ErrorKind;
-
-/// What a program says of itself.
-#[derive(Clone, Copy)]
-pub struct About<'a> {
-    /// How it is called.
-    pub help: &'a str,
-    /// Which version it is.
-    pub version: &'a str,
-}
+use std::io::{Error, ErrorKind};
 
 /// Something that failed, in words.
 pub trait Words {
@@ -22,6 +13,11 @@ pub trait Words {
     /// The words.
     fn words(&self) -> &'static str
         ensures { result.now ≡ words self.now };
+
+    /// The error of the system behind it, if there is one.
+    fn error(&self) -> Option<&Error> {
+        None
+    }
 }
 
 /// What a program has that has no faults, or no wrong calls, of its own.

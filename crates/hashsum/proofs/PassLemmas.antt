@@ -210,9 +210,9 @@ module _ (kinds : List Kind) (checking : Checking) (opens : Opens) where
   ends_well (Err (Unwritten None)) is = absurd (omega arith)
   ends_well (Err fault) is = absurd (omega arith)
 
-  pub check_passed : (lists : List (List ℕ)) (help version list : List ℕ) (w w' : Option (List ℕ)) (outcome : Outcome Misuse Nothing)
-      → EndsTask kinds opens lists help version list w w' (Ok (Check checking)) outcome → status_of outcome ≡ 0
+  pub check_passed : (lists : List (List ℕ)) (w w' : Option (List ℕ)) (outcome : Outcome Misuse Nothing)
+      → EndsTask kinds opens lists w w' (Ok (Check checking)) outcome → status_of outcome ≡ 0
       → All (HasPassed kinds checking opens) lists
-  check_passed lists help version list w w' outcome (ended, ends, is) zero =
+  check_passed lists w w' outcome (ended, ends, is) zero =
       let well : ended ≡ Ok true = ends_well ended (sym (ap (λ o. status_of o) is) ∙ zero) in
       lists_passed (subst (λ e. EndsLists kinds checking opens lists w w' e) well ends) refl

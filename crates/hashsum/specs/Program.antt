@@ -6,15 +6,15 @@ use Rattle.std.specs.List.{find}
 use Rattle.std.specs.Str.{bytes_eq}
 use Rattle.hash_lines.specs.declared.line.Form.TheVariants.{Tagged, Untagged}
 use Rattle.hash_lines.specs.declared.line.Kind.{Kind}
-use Rattle.hash_program.specs.Call.{given, unknown}
-use Rattle.hash_program.specs.Outcome.{of_telling}
-use Rattle.hash_program.specs.Streams.{PutsOut}
+use Rattle.hash_program.specs.Call.{given, operands}
+use Rattle.hash_program.specs.Frame.{EndsRequest, request_of}
 use Rattle.hash_program.specs.declared.fault.Fault.{Fault}
+use Rattle.hash_program.specs.declared.frame.Text.{Text}
 use Rattle.hash_program.specs.declared.outcome.Nothing.{Nothing}
 use Rattle.hash_program.specs.declared.outcome.Outcome.{Outcome}
 use Rattle.hash_program.specs.declared.outcome.Outcome.TheVariants.{Done, Usage, Reported, Failed}
 use Rattle.hash_program.specs.declared.outcome.Wrong.{Wrong}
-use Rattle.hash_program.specs.declared.outcome.Wrong.TheVariants.{UnknownOption, UnknownName, Own}
+use Rattle.hash_program.specs.declared.outcome.Wrong.TheVariants.{UnknownName, Own}
 use Rattle.hashsum.specs.declared.check.Checking.{Checking}
 use Rattle.hashsum.specs.declared.outcome.Misuse.{Misuse}
 use Rattle.hashsum.specs.declared.outcome.Misuse.TheVariants as misuse
@@ -81,18 +81,12 @@ abbrev pub work_by : List (List ℕ) → Option Kind → Result Task (Wrong Misu
 work_by words None = Err UnknownName
 work_by words (Some kind) = work_of words kind
 
--- what words ask for that give these unknown options
-abbrev pub asked : (new words : List (List ℕ)) (lacks_name : Bool) → Option Kind → Result Task (Wrong Misuse)
-asked (word ∷ more) words lacks_name kind = Err UnknownOption
-asked [] words lacks_name kind = if given None (codes "help") words then Ok task.Help else if given None (codes "version") words then Ok
-    task.Version else if given None (codes "list") words then Ok task.List else if lacks_name then Err (Own misuse.NoName) else work_by words kind
-
--- what the words of a call ask for, by a hash of that name
+-- which work the words of a call ask for, by a hash of that name
 abbrev pub task_of : List Kind → (words : List (List ℕ)) (name : Option (List ℕ)) (lacks_name : Bool) → Result Task (Wrong Misuse)
-task_of kinds words name lacks_name = asked (unknown letters names words) words lacks_name (kind_of kinds name)
+task_of kinds words name lacks_name = if lacks_name then Err (Own misuse.NoName) else work_by words (kind_of kinds name)
 
 -- the files of a call: its operands, or standard input
-abbrev pub files_or : (operands : List (List ℕ)) → List (List ℕ)
+abbrev pub files_or : (names : List (List ℕ)) → List (List ℕ)
 files_or [] = codes "-" ∷ []
 files_or (name ∷ more) = name ∷ more
 
@@ -102,22 +96,21 @@ of_run (Ok true) = Done
 of_run (Ok false) = Reported
 of_run (Err fault) = Failed fault
 
--- a text is written
-abbrev pub Tells : (text : List ℕ) (written written' : Option (List ℕ)) → Outcome Misuse Nothing → Type 0
-Tells text written written' result = (told : Result (Unit {0}) (Fault Nothing)) × PutsOut text written written' told
-    × (result ≡ of_telling told)
-
 -- how a task ends over the files of these names; a wrong call writes nothing
-abbrev pub EndsTask : List Kind → Opens → (files : List (List ℕ)) (help version list : List ℕ)
-    (written written' : Option (List ℕ)) → Result Task (Wrong Misuse) → Outcome Misuse Nothing → Type 0
-EndsTask kinds opens files help version list written written' (Ok (task.Sum summing)) result =
+abbrev pub EndsTask : List Kind → Opens → (files : List (List ℕ)) (written written' : Option (List ℕ)) → Result Task (Wrong Misuse)
+    → Outcome Misuse Nothing → Type 0
+EndsTask kinds opens files written written' (Ok (task.Sum summing)) result =
     (ended : Result Bool (Fault Nothing)) × EndsSums summing opens files written written' ended × (result ≡ of_run ended)
-EndsTask kinds opens files help version list written written' (Ok (task.Check checking)) result =
+EndsTask kinds opens files written written' (Ok (task.Check checking)) result =
     (ended : Result Bool (Fault Nothing)) × EndsLists kinds checking opens files written written' ended × (result ≡ of_run ended)
-EndsTask kinds opens files help version list written written' (Ok task.List) result = Tells list written written' result
-EndsTask kinds opens files help version list written written' (Ok task.Help) result = Tells help written written' result
-EndsTask kinds opens files help version list written written' (Ok task.Version) result = Tells version written written' result
-EndsTask kinds opens files help version list written written' (Err wrong) result = (result ≡ Usage wrong) × Keeps written written'
+EndsTask kinds opens files written written' (Err wrong) result = (result ≡ Usage wrong) × Keeps written written'
+
+-- how the program ends that was called by these words, and this name behind the last -a
+abbrev pub EndsCall : List Kind → Opens → (words : List (List ℕ)) (name : Option (List ℕ)) (lacks_name : Bool) (texts : Text → List ℕ)
+    (written written' : Option (List ℕ)) → Outcome Misuse Nothing → Type 0
+EndsCall kinds opens words name lacks_name texts written written' =
+    EndsRequest (request_of letters names words) texts
+    (EndsTask kinds opens (files_or (operands words)) written written' (task_of kinds words name lacks_name)) (Unit {0}) written written'
 
 -- what it says on standard error of what else is wrong with a call
 abbrev pub words_of : Misuse → List ℕ

@@ -8,7 +8,7 @@ use std::io;
 use std::io::{Error, IsTerminal};
 
 /// The program's name.
-const PROGRAM: &str = "hashsum";
+pub const NAME: &str = "hashsum";
 
 /// The files of the disk. What fails is told on standard error, and progress where that is a terminal.
 #[derive(Drop)]
@@ -32,8 +32,8 @@ impl<'r> Disk<'r> {
     fn warn(&self, count: u64, one: &str, more: &str) {
         let _ = match count {
             0 => return,
-            1 => eprintln!(self.rt; "{PROGRAM}: WARNING: 1 {one}"),
-            _ => eprintln!(self.rt; "{PROGRAM}: WARNING: {count} {more}"),
+            1 => eprintln!(self.rt; "{NAME}: WARNING: 1 {one}"),
+            _ => eprintln!(self.rt; "{NAME}: WARNING: {count} {more}"),
         };
     }
 }
@@ -47,12 +47,12 @@ impl<'r> Folder<Watched<'r>> for Disk<'r> {
     }
 
     fn failed(&self, name: &[u8], error: &Error) {
-        tell_failure(self.rt, PROGRAM, name, error);
+        tell_failure(self.rt, NAME, name, error);
     }
 
     fn improper(&self, list: &[u8], line: u64) {
         if let Ok(list) = quoted(self.rt.alloc(), list) {
-            let _ = eprintln!(self.rt; "{PROGRAM}: {list}: {line}: improperly formatted line");
+            let _ = eprintln!(self.rt; "{NAME}: {list}: {line}: improperly formatted line");
         }
     }
 
@@ -63,7 +63,7 @@ impl<'r> Folder<Watched<'r>> for Disk<'r> {
             || counts.missing > 0;
         if let Ok(list) = quoted(self.rt.alloc(), list) {
             if !proper {
-                let _ = eprintln!(self.rt; "{PROGRAM}: {list}: no properly formatted lines found");
+                let _ = eprintln!(self.rt; "{NAME}: {list}: no properly formatted lines found");
                 return;
             }
             if self.status {
@@ -85,7 +85,7 @@ impl<'r> Folder<Watched<'r>> for Disk<'r> {
                 "computed hashes did NOT match",
             );
             if counts.same == 0 && counts.different == 0 && counts.unread == 0 {
-                let _ = eprintln!(self.rt; "{PROGRAM}: {list}: no file was verified");
+                let _ = eprintln!(self.rt; "{NAME}: {list}: no file was verified");
             }
         }
     }

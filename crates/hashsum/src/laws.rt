@@ -99,9 +99,9 @@ pub fn a_changed_word_never_passes<R: Read, F: Folder<R>>()
 /// tells a hash, the file was opened and the text that was read of it has this hash, or it is not there and such files are left out. Of
 /// at least one line of each list, the file has the hash.
 pub fn a_check_that_ends_well<R: Read, F: Folder<R>>()
-    ensures { (folder : F) (kinds : List LineKind) (checking : Checking) (lists : List (List ℕ)) (help version list : List ℕ)
+    ensures { (folder : F) (kinds : List LineKind) (checking : Checking) (lists : List (List ℕ))
         (written written' : Option (List ℕ)) (outcome : Outcome Misuse Nothing)
-        → EndsTask kinds (F.opens folder) lists help version list written written' (Ok (Check checking)) outcome
+        → EndsTask kinds (F.opens folder) lists written written' (Ok (Check checking)) outcome
         → status_of outcome ≡ 0 → All (HasPassed kinds checking (F.opens folder)) lists }
 {}
 

@@ -1,39 +1,35 @@
 //! What the program is asked for, and how it ends.
-ghost use Rattle.std.specs.Prelude.{◌≡◌, ◌⊎◌, ◌∷◌, [], ℕ, List, Option, Ok, Err, map, IfOk, MatchOption};
+ghost use Rattle.std.specs.Prelude.{◌≡◌, ◌⊎◌, map, IfOk};
 ghost use Rattle.std.specs.List.{find};
 ghost use Rattle.std.specs.Option.{option_map};
 ghost use Rattle.std.specs.Io.Buffered.{writer_contents};
 ghost use Rattle.std.specs.Io.KnownBytes.{Keeps};
 ghost use Rattle.hash_program.specs.declared.fault.Fault.TheVariants.{NoMemory};
 ghost use Rattle.hash_program.specs.declared.outcome.Outcome.TheVariants.{Failed};
-ghost use Rattle.hash_program.specs.Call.{operands, texts, unknown};
-ghost use Rattle.hashsum.specs.Program.{checking_of, files_or, gives_writing, is_named, kind_of, letters, names, of_run, summing_of, task_of, words_of, work_of, EndsTask};
+ghost use Rattle.hash_program.specs.Call.{operands, texts};
+ghost use Rattle.hash_program.specs.Frame.{text_of};
+ghost use Rattle.hashsum.specs.Program.{checking_of, files_or, gives_writing, is_named, kind_of, of_run, summing_of, task_of, words_of, work_of, EndsCall, EndsTask};
 
 use crate::check::{Checking, check_lists};
 use crate::fault::Fault;
 use crate::folder::Folder;
 use crate::sum::{Summing, sum_files};
 use hash_lines::line::{Form, Kind};
-use hash_program::call::{first_unknown, is_given, operands};
+use hash_program::call::{is_given, operands};
+use hash_program::frame::{About, Options, Request, request_of, text_of};
 use hash_program::outcome;
-use hash_program::outcome::{About, Nothing, Words, of_telling};
+use hash_program::outcome::{Nothing, Words, of_telling};
 use hash_program::streams::put_out;
 use std::alloc::{AllocError, Global};
 use std::io::{BufWriter, Read, Write};
 
-/// What a call asks for.
+/// The work that a call asks for.
 #[derive(Clone, Copy)]
 pub enum Task {
     /// The line of each file.
     Sum(Summing),
     /// Whether files have the hashes that lines tell.
     Check(Checking<'static>),
-    /// Which hashes there are.
-    List,
-    /// How the program is called.
-    Help,
-    /// Which version of the program this is.
-    Version,
 }
 
 /// What else is wrong with a call.
@@ -76,21 +72,10 @@ pub struct Call<'a> {
     pub lacks_name: bool,
 }
 
-/// What the program tells of itself.
-#[derive(Clone, Copy)]
-pub struct Texts<'a> {
-    /// How it is called, and which version it is.
-    pub about: About<'a>,
-    /// Which hashes there are.
-    pub list: &'a str,
-}
-
-/// The first word that gives an option that there is not.
-pub fn unknown_option(words: &[Vec<u8>]) -> Option<&[u8]>
-    ensures { MatchOption result (unknown letters names (texts words.now) ≡ [])
-        (λ word. (more : List (List ℕ)) × (unknown letters names (texts words.now) ≡ word.now ∷ more)) }
-{
-    let names: [&[u8]; 14] = [
+/// The options, but for the one that names a hash.
+pub const OPTIONS: Options<'static> = Options {
+    letters: b"cwzbt",
+    names: &[
         b"check",
         b"tag",
         b"untagged",
@@ -105,9 +90,8 @@ pub fn unknown_option(words: &[Vec<u8>]) -> Option<&[u8]>
         b"list",
         b"help",
         b"version",
-    ];
-    first_unknown(words, b"cwzbt", &names)
-}
+    ],
+};
 
 /// Whether a name is this one, in letters of either case.
 fn is_named(word: &[u8], name: &[u8]) -> bool
@@ -197,23 +181,11 @@ fn work_of(words: &[Vec<u8>], kind: Kind<'static>) -> Result<Task, Wrong>
     Ok(Task::Sum(summing_of(words, kind)))
 }
 
-/// What the words behind the program's own name ask for.
+/// Which work the words behind the program's own name ask for.
 pub fn task_of(kinds: &[Kind<'static>], call: Call<'_>) -> Result<Task, Wrong>
     ensures { result ≡ task_of kinds.now (texts call.entry.words.now) (option_map (λ name. name.now) call.entry.name)
         call.entry.lacks_name }
 {
-    if unknown_option(call.words).is_some() {
-        return Err(Wrong::UnknownOption);
-    }
-    if is_given(call.words, None, b"help") {
-        return Ok(Task::Help);
-    }
-    if is_given(call.words, None, b"version") {
-        return Ok(Task::Version);
-    }
-    if is_given(call.words, None, b"list") {
-        return Ok(Task::List);
-    }
     if call.lacks_name {
         return Err(Wrong::Own(Misuse::NoName));
     }
@@ -254,20 +226,15 @@ fn ended<R: Read + Drop, F: Folder<R>, W: Write + Drop>(
     folder: &F,
     kinds: &[Kind<'static>],
     files: &[&[u8]],
-    said: Texts<'_>,
     task: Result<Task, Wrong>,
     w: &mut BufWriter<W>,
 ) -> Outcome
     ensures { EndsTask kinds.now (F.opens folder.now) (map (λ file. file.now) files.now)
-        said.entry.about.help.now said.entry.about.version.now said.entry.list.now
         (writer_contents W.contents w.old) (writer_contents W.contents w.new) task result }
 {
     match task {
         Ok(Task::Sum(summing)) => of_run(sum_files(alloc, folder, summing, files, w)),
         Ok(Task::Check(checking)) => of_run(check_lists(alloc, folder, kinds, checking, files, w)),
-        Ok(Task::List) => of_telling(put_out(w, said.list.as_bytes())),
-        Ok(Task::Help) => of_telling(put_out(w, said.about.help.as_bytes())),
-        Ok(Task::Version) => of_telling(put_out(w, said.about.version.as_bytes())),
         Err(wrong) => Outcome::Usage(wrong),
     }
 }
@@ -279,18 +246,20 @@ pub fn outcome_of<R: Read + Drop, F: Folder<R>, W: Write + Drop>(
     folder: &F,
     kinds: &[Kind<'static>],
     call: Call<'_>,
-    said: Texts<'_>,
+    about: About<'_>,
     w: &mut BufWriter<W>,
 ) -> Outcome
-    ensures { EndsTask kinds.now (F.opens folder.now) (files_or (operands (texts call.entry.words.now)))
-        said.entry.about.help.now said.entry.about.version.now said.entry.list.now
-        (writer_contents W.contents w.old) (writer_contents W.contents w.new)
-        (task_of kinds.now (texts call.entry.words.now) (option_map (λ name. name.now) call.entry.name)
-        call.entry.lacks_name) result
+    ensures { EndsCall kinds.now (F.opens folder.now) (texts call.entry.words.now) (option_map (λ name. name.now) call.entry.name)
+        call.entry.lacks_name (text_of about.entry.help.now about.entry.version.now about.entry.list.now)
+        (writer_contents W.contents w.old) (writer_contents W.contents w.new) result
         ⊎ ((result ≡ Failed NoMemory) × Keeps (writer_contents W.contents w.old) (writer_contents W.contents w.new)) }
 {
-    match files(alloc, call.words) {
-        Ok(files) => ended(alloc, folder, kinds, &files, said, task_of(kinds, call), w),
-        Err(_) => Outcome::Failed(Fault::NoMemory),
+    match request_of(&OPTIONS, call.words) {
+        Request::UnknownOption => Outcome::Usage(Wrong::UnknownOption),
+        Request::Text(text) => of_telling(put_out(w, text_of(&about, text))),
+        Request::Work => match files(alloc, call.words) {
+            Ok(files) => ended(alloc, folder, kinds, &files, task_of(kinds, call), w),
+            Err(_) => Outcome::Failed(Fault::NoMemory),
+        },
     }
 }

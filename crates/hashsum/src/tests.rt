@@ -1,10 +1,11 @@
 //! Tests of the program over files in memory.
 use crate::check::Counts;
 use crate::folder::Folder;
-use crate::outcome::{Call, Outcome, Texts, outcome_of};
+use crate::outcome::{Call, outcome_of};
 use crate::sums::kinds;
 use hash_names::table::KINDS;
-use hash_program::outcome::{About, failure_of, status_of};
+use hash_program::frame::About;
+use hash_program::outcome::{failure_of, status_of};
 use hash_program::valued::{Valued, take_value};
 use std::alloc::{AllocError, Global};
 use std::io;
@@ -130,14 +131,12 @@ fn run(
         name: valued.value.as_deref(),
         lacks_name: valued.lacks,
     };
-    let texts = Texts {
-        about: About {
-            help: "help\n",
-            version: "version\n",
-        },
+    let about = About {
+        help: "help\n",
+        version: "version\n",
         list: "list\n",
     };
-    let outcome = outcome_of(alloc, &Shelf { files }, &kinds(), call, texts, &mut output);
+    let outcome = outcome_of(alloc, &Shelf { files }, &kinds(), call, about, &mut output);
     drop(output);
     Ok((status_of(&outcome), failure_of(&outcome), paper.text))
 }

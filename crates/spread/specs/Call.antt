@@ -1,17 +1,10 @@
 -- Which options there are, and how the program ends.
-use Rattle.std.specs.Prelude.{ℕ, Bool, List, [], ◌∷◌, Some, codes}
+use Rattle.std.specs.Prelude.{ℕ, Bool, List, Some, codes}
 use Rattle.hash_program.specs.Call.{given}
 use Rattle.spread.specs.declared.call.Misuse.{Misuse}
 use Rattle.spread.specs.declared.call.Misuse.TheVariants as misuse
 use Rattle.spread.specs.declared.fault.NoTable.{NoTable}
 use Rattle.spread.specs.declared.fault.NoTable.TheVariants.{Undrawn, TooManyKeys, NoKeys, ShortKey}
-
--- the letters and the names of the options, but for those with a value
-abbrev pub letters : List ℕ
-letters = codes "z"
-
-abbrev pub names : List (List ℕ)
-names = codes "zero-terminated" ∷ codes "no-times" ∷ codes "list" ∷ codes "help" ∷ codes "version" ∷ []
 
 -- whether the words say that zero bytes end keys
 abbrev pub wants_zeros : List (List ℕ) → Bool

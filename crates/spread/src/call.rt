@@ -1,12 +1,13 @@
 //! What the program is asked for, and how it ends.
-ghost use Rattle.std.specs.Prelude.{◌≡◌, ◌∷◌, [], ℕ, List, None, map, true, IsSome, MatchOption, OnErr, OnOk};
-ghost use Rattle.hash_program.specs.Call.{texts, unknown};
-ghost use Rattle.spread.specs.Call.{letters, names, wants_zeros, words_of};
+ghost use Rattle.std.specs.Prelude.{◌≡◌, None, true, IsSome, OnErr, OnOk};
+ghost use Rattle.hash_program.specs.Call.{texts};
+ghost use Rattle.spread.specs.Call.{wants_zeros, words_of};
 
 use crate::fault::NoTable;
 use crate::keys::Layout;
 use hash_names::table::{KINDS, Kind, kind_named};
-use hash_program::call::{first_unknown, is_given, operands};
+use hash_program::call::{is_given, operands};
+use hash_program::frame::Options;
 use hash_program::outcome;
 use hash_program::outcome::Words;
 use hash_program::valued::take_value;
@@ -37,19 +38,6 @@ pub struct Settings {
     pub layout: Layout,
     /// Whether times are measured.
     pub times: bool,
-}
-
-/// What a call asks for.
-#[derive(Clone, Copy)]
-pub enum Task {
-    /// The table.
-    Table(Settings),
-    /// The names of the hashes.
-    List,
-    /// How the program is called.
-    Help,
-    /// Which version of the program this is.
-    Version,
 }
 
 /// What only this program finds wrong with a call.
@@ -95,20 +83,17 @@ pub fn call_of(alloc: Global, words: &[Vec<u8>]) -> Result<Call, AllocError> {
     })
 }
 
-/// The first word that gives an option that there is not.
-pub fn unknown_option(words: &[Vec<u8>]) -> Option<&[u8]>
-    ensures { MatchOption result (unknown letters names (texts words.now) ≡ [])
-        (λ word. (more : List (List ℕ)) × (unknown letters names (texts words.now) ≡ word.now ∷ more)) }
-{
-    let names: [&[u8]; 5] = [
+/// The options, but for those with a value.
+pub const OPTIONS: Options<'static> = Options {
+    letters: b"z",
+    names: &[
         b"zero-terminated",
         b"no-times",
         b"list",
         b"help",
         b"version",
-    ];
-    first_unknown(words, b"z", &names)
-}
+    ],
+};
 
 /// The number from 1 on that the digits tell.
 fn number_of(digits: &[u8]) -> Option<NonZeroUsize> {
@@ -146,20 +131,8 @@ fn layout_of(call: &Call) -> Result<Layout, Wrong>
     }
 }
 
-/// What the call asks for.
-pub fn task_of(call: &Call) -> Result<Task, Wrong> {
-    if unknown_option(&call.words).is_some() {
-        return Err(Wrong::UnknownOption);
-    }
-    if is_given(&call.words, None, b"help") {
-        return Ok(Task::Help);
-    }
-    if is_given(&call.words, None, b"version") {
-        return Ok(Task::Version);
-    }
-    if is_given(&call.words, None, b"list") {
-        return Ok(Task::List);
-    }
+/// How the call wants the table.
+pub fn settings_of(call: &Call) -> Result<Settings, Wrong> {
     if call.lacks {
         return Err(Wrong::Own(Misuse::NoValue));
     }
@@ -167,11 +140,11 @@ pub fn task_of(call: &Call) -> Result<Task, Wrong> {
         return Err(Wrong::Own(Misuse::NoNumber));
     }
     let buckets = call.buckets.as_deref().and_then(number_of);
-    Ok(Task::Table(Settings {
+    Ok(Settings {
         buckets: buckets.map(|number| number.get() as u64),
         layout: layout_of(call)?,
         times: !is_given(&call.words, None, b"no-times"),
-    }))
+    })
 }
 
 /// The first operand that no hash has as its name.

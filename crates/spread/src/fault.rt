@@ -32,6 +32,13 @@ impl Words for NoTable {
             NoTable::ShortKey => "the input ends within a key",
         }
     }
+
+    fn error(&self) -> Option<&Error> {
+        match self {
+            NoTable::Undrawn(error) => Some(error),
+            _ => None,
+        }
+    }
 }
 
 /// What a failed read of the keys tells: the system's error, or want of memory for a key.

@@ -18,23 +18,24 @@ mod table;
 mod tests;
 
 use call::{
-    Call, Misuse, Outcome, Task, Wrong, call_of, kinds_of, no_number, task_of, unknown_name,
-    unknown_option,
+    Call, Misuse, OPTIONS, Outcome, Wrong, call_of, kinds_of, no_number, settings_of, unknown_name,
 };
 use fault::{Fault, NoTable};
 use hash_names::table::KINDS;
-use hash_program::outcome::{failure_of, of_telling, status_of};
-use hash_program::quoted::quoted;
-use hash_program::reason::reason;
+use hash_program::frame::{About, Request, ended, request_of, text_of, unknown_option};
+use hash_program::outcome::of_telling;
 use hash_program::streams::put_out;
 use hash_program::words::words;
 use run::tell_table;
 use std::alloc::{AllocError, Global};
-use std::io::BufWriter;
+use std::io::{BufWriter, Stdout};
 use std::process::ExitCode;
 
 /// How many bytes are written at once.
 const BUFFER: usize = 65536;
+
+/// The program's name.
+const NAME: &str = "spread";
 
 /// How the program is called.
 const HELP: &str = "usage: spread [-b BUCKETS] [-w BYTES | -z] [--no-times] [--plot FILE.svg]
@@ -98,59 +99,52 @@ fn list(alloc: Global) -> Result<String, AllocError> {
     Ok(list)
 }
 
+/// Writes the table that the call asks for.
+fn worked(rt: &HostRuntime, call: &Call, w: &mut BufWriter<Stdout>) -> Result<Outcome, Fault> {
+    let settings = match settings_of(call) {
+        Ok(settings) => settings,
+        Err(wrong) => return Ok(Outcome::Usage(wrong)),
+    };
+    if unknown_name(rt.alloc(), &call.words)?.is_some() {
+        return Ok(Outcome::Usage(Wrong::UnknownName));
+    }
+    let kinds = kinds_of(rt.alloc(), &call.words)?;
+    Ok(of_telling(tell_table(rt, &settings, &kinds, call.plot.as_deref(), w)))
+}
+
 /// What came of the call.
 fn called(rt: &HostRuntime, call: &Call) -> Result<Outcome, Fault> {
     let alloc = rt.alloc();
     let Ok(mut w) = BufWriter::with_capacity(alloc, BUFFER, rt.stdout()) else {
         return Err(Fault::NoMemory);
     };
-    match task_of(call) {
-        Err(wrong) => Ok(Outcome::Usage(wrong)),
-        Ok(Task::Help) => Ok(of_telling(put_out(&mut w, help(alloc)?.as_bytes()))),
-        Ok(Task::List) => Ok(of_telling(put_out(&mut w, list(alloc)?.as_bytes()))),
-        Ok(Task::Version) => Ok(of_telling(put_out(&mut w, VERSION.as_bytes()))),
-        Ok(Task::Table(settings)) => {
-            if unknown_name(alloc, &call.words)?.is_some() {
-                return Ok(Outcome::Usage(Wrong::UnknownName));
-            }
-            let kinds = kinds_of(alloc, &call.words)?;
-            Ok(of_telling(tell_table(rt, &settings, &kinds, call.plot.as_deref(), &mut w)))
+    match request_of(&OPTIONS, &call.words) {
+        Request::UnknownOption => Ok(Outcome::Usage(Wrong::UnknownOption)),
+        Request::Text(text) => {
+            let (help, list) = (help(alloc)?, list(alloc)?);
+            let about = About {
+                help: help.as_str(),
+                version: VERSION,
+                list: list.as_str(),
+            };
+            Ok(of_telling(put_out(&mut w, text_of(&about, text))))
         }
+        Request::Work => worked(rt, call, &mut w),
     }
 }
 
-/// Why it failed: the word that is wrong, or the system's reason.
-fn why(rt: &HostRuntime, call: &Call, outcome: &Outcome) -> Option<String> {
-    let alloc = rt.alloc();
-    let word = match outcome {
-        Outcome::Usage(Wrong::UnknownOption) => unknown_option(&call.words),
-        Outcome::Usage(Wrong::UnknownName) => unknown_name(alloc, &call.words).ok()?,
-        Outcome::Usage(Wrong::Own(Misuse::NoNumber)) => no_number(call),
-        Outcome::Failed(Fault::Unread(error)) | Outcome::Failed(Fault::Unwritten(Some(error))) =>
-            return reason(alloc, error).ok(),
-        Outcome::Failed(Fault::Own(NoTable::Undrawn(error))) => {
-            let name = quoted(alloc, call.plot.as_deref()?).ok()?;
-            let reason = reason(alloc, error).ok()?;
-            return format!(in alloc; "{name}: {reason}").ok();
-        }
-        _ => None,
-    };
-    quoted(alloc, word?).ok()
-}
-
-/// Says what failed and why, unless nobody reads any more.
-fn complain(rt: &HostRuntime, call: &Call, outcome: &Outcome) {
-    let status = status_of(outcome);
-    let failure = failure_of(outcome);
-    if failure.is_empty() || status == 141 {
-        return;
-    }
-    let _ = match why(rt, call, outcome) {
-        Some(reason) => eprintln!(rt; "spread: {failure}: {reason}"),
-        None => eprintln!(rt; "spread: {failure}"),
-    };
-    if status == 2 {
-        let _ = eprintln!(rt; "spread --help says how it is called");
+/// The word that is wrong, or the file that is not drawn, if one is.
+fn wrong_word<'a>(
+    alloc: Global,
+    call: &'a Call,
+    outcome: &Outcome,
+) -> Result<Option<&'a [u8]>, AllocError> {
+    match outcome {
+        Outcome::Usage(Wrong::UnknownOption) => Ok(unknown_option(&OPTIONS, &call.words)),
+        Outcome::Usage(Wrong::UnknownName) => unknown_name(alloc, &call.words),
+        Outcome::Usage(Wrong::Own(Misuse::NoNumber)) => Ok(no_number(call)),
+        Outcome::Failed(Fault::Own(NoTable::Undrawn(_))) => Ok(call.plot.as_deref()),
+        _ => Ok(None),
     }
 }
 
@@ -162,12 +156,11 @@ fn call_words(rt: &HostRuntime) -> Result<Call, Fault> {
 /// The status of the call.
 fn status(rt: &HostRuntime) -> u8 {
     let Ok(call) = call_words(rt) else {
-        let _ = eprintln!(rt; "spread: out of memory");
-        return status_of(&Outcome::Failed(Fault::NoMemory));
+        return ended(rt, NAME, &Outcome::Failed(Fault::NoMemory), None);
     };
     let outcome = called(rt, &call).unwrap_or(Outcome::Failed(Fault::NoMemory));
-    complain(rt, &call, &outcome);
-    status_of(&outcome)
+    let word = wrong_word(rt.alloc(), &call, &outcome).unwrap_or(None);
+    ended(rt, NAME, &outcome, word)
 }
 
 fn main(rt: HostRuntime) -> ExitCode {

@@ -1,5 +1,5 @@
 //! Tests of the numbers over keys in memory.
-use crate::call::{Call, Task, call_of, kinds_of, task_of, unknown_name};
+use crate::call::{Call, OPTIONS, call_of, kinds_of, settings_of, unknown_name};
 use crate::chance::{Chance, equal_pairs};
 use crate::counts::{Counts, Spread, collisions, spread_of};
 use crate::fault::{Fault, NoTable};
@@ -7,6 +7,7 @@ use crate::keys::{Layout, read_keys};
 use crate::named::{Hashed, counts_by};
 use crate::sizes::{Sizes, sizes_of};
 use hash_names::table::{KINDS, Kind};
+use hash_program::frame::{Request, request_of};
 use hash_texts::{RandomKeys, Texts};
 use std::alloc::{AllocError, Global};
 use std::io;
@@ -260,8 +261,11 @@ fn call(alloc: Global, words: &[&str]) -> Result<Call, AllocError> {
 
 /// What the words ask for: the number of buckets, how the keys lie, and whether times are measured.
 fn asked(alloc: Global, words: &[&str]) -> Option<(Option<u64>, Layout, bool)> {
-    match task_of(&call(alloc, words).ok()?) {
-        Ok(Task::Table(settings)) => Some((settings.buckets, settings.layout, settings.times)),
+    let call = call(alloc, words).ok()?;
+    match (request_of(&OPTIONS, &call.words), settings_of(&call)) {
+        (Request::Work, Ok(settings)) => {
+            Some((settings.buckets, settings.layout, settings.times))
+        }
         _ => None,
     }
 }
