@@ -7,14 +7,10 @@ use crate::tally::{Which, tally};
 use hash_program::frame::About;
 use hash_program::inputs::Complaints;
 use hash_program::outcome::{failure_of, status_of};
-use hash_texts::Texts;
-use hashers::build::BuildFresh;
-use hashers::fnv::FNV1aHasher64;
-use hashers::jenkins::Lookup3Hasher;
-use hashers::laws::Piecewise;
-use hashers::null::NullHasher;
+use hash_texts::{RandomKeys, Texts};
 use std::alloc::{AllocError, Global};
 use std::collections::HashSet;
+use std::hash::{BuildHasher, Hasher};
 use std::io;
 use std::io::{BufWriter, ErrorKind, Read, Write};
 use std::process::Abort;
@@ -163,6 +159,49 @@ impl Write for Paper {
     }
 }
 
+/// A hasher that a test takes.
+trait Fresh: BuildHasher + Drop {
+    fn fresh() -> Self;
+}
+
+impl Fresh for RandomKeys {
+    fn fresh() -> RandomKeys {
+        RandomKeys::with_keys(0x9e3779b97f4a7c15, 0xbf58476d1ce4e5b9)
+    }
+}
+
+/// To all texts one hash.
+#[derive(Clone, Copy, Drop)]
+struct Alike;
+
+impl Fresh for Alike {
+    fn fresh() -> Alike {
+        Alike
+    }
+}
+
+impl BuildHasher for Alike {
+    type Hasher = Alike;
+
+    ghost build_hasher = { λ alike. alike };
+
+    fn build_hasher(&self) -> Alike {
+        Alike
+    }
+}
+
+impl Hasher for Alike {
+    ghost write = { λ alike bytes. alike };
+
+    ghost finish = { λ alike. 0 };
+
+    fn finish(&self) -> u64 {
+        0
+    }
+
+    fn write(&mut self, _bytes: &[u8]) {}
+}
+
 /// The words of a call.
 fn call_of(alloc: Global, words: &[&str]) -> Result<Vec<Vec<u8>>, AllocError> {
     let mut all = Vec::new(alloc);
@@ -185,7 +224,7 @@ fn status(outcome: &Outcome) -> End {
 const HELD: usize = 8;
 
 /// Runs the program over inputs, onto this paper.
-fn run_all<H: Piecewise>(
+fn run_all<H: Fresh>(
     alloc: Global,
     words: &[&str],
     inputs: &mut [Script<'_>],
@@ -200,7 +239,7 @@ fn run_all<H: Piecewise>(
     };
     status(&outcome_of(
         alloc,
-        BuildFresh::<H>::new(),
+        H::fresh(),
         &words,
         About {
             help: "help\n",
@@ -215,12 +254,12 @@ fn run_all<H: Piecewise>(
 }
 
 /// Runs the program over a text, onto this paper.
-fn run<H: Piecewise>(alloc: Global, words: &[&str], r: Script<'_>, w: &mut Paper) -> End {
+fn run<H: Fresh>(alloc: Global, words: &[&str], r: Script<'_>, w: &mut Paper) -> End {
     run_all::<H>(alloc, words, &mut [r], &mut Failures::new(), w)
 }
 
 /// That the program ends so, and wrote this.
-fn ends<H: Piecewise>(
+fn ends<H: Fresh>(
     rt: &impl Abort,
     alloc: Global,
     words: &[&str],
@@ -277,7 +316,7 @@ const CASES: [(&[u8], &[u8], &[u8], &[u8], &[u8]); 9] = [
 ];
 
 /// That the program writes this of the text, through a reader and a writer of so many bytes a call.
-fn writes<H: Piecewise>(
+fn writes<H: Fresh>(
     rt: &impl Abort,
     alloc: Global,
     words: &[&str],
@@ -298,7 +337,7 @@ fn writes<H: Piecewise>(
 }
 
 /// Each case through a reader and a writer of so many bytes a call.
-fn writes_each_case<H: Piecewise>(rt: &impl Abort, alloc: Global, most: usize) {
+fn writes_each_case<H: Fresh>(rt: &impl Abort, alloc: Global, most: usize) {
     for (text, once, counted, repeated, unique) in &CASES {
         writes::<H>(rt, alloc, &[], text, most, once);
         writes::<H>(rt, alloc, &["-c"], text, most, counted);
@@ -309,12 +348,12 @@ fn writes_each_case<H: Piecewise>(rt: &impl Abort, alloc: Global, most: usize) {
 
 #[test]
 fn lines_come_once_counted_repeated_and_unique(rt: HostRuntime) {
-    writes_each_case::<Lookup3Hasher>(&rt, rt.alloc(), 64);
+    writes_each_case::<RandomKeys>(&rt, rt.alloc(), 64);
 }
 
 #[test]
 fn a_byte_at_a_time_and_all_with_one_hash(rt: HostRuntime) {
-    writes_each_case::<NullHasher>(&rt, rt.alloc(), 1);
+    writes_each_case::<Alike>(&rt, rt.alloc(), 1);
 }
 
 /// The text of the tests of faults.
@@ -336,7 +375,7 @@ fn a_read_fails_at_each_byte(rt: HostRuntime) {
         let mut script = Script::new(TEXT, 3);
         script.until_fault = until_fault;
         let mut paper = Paper::new(64, usize::MAX);
-        let end = run::<Lookup3Hasher>(rt.alloc(), &[], script, &mut paper);
+        let end = run::<RandomKeys>(rt.alloc(), &[], script, &mut paper);
         ended(&rt, end, INPUT_FAILED);
         same(&rt, paper.line(), &ONCE[..WRITTEN[until_fault]]);
     }
@@ -363,7 +402,7 @@ fn inputs_one_behind_the_other(rt: HostRuntime) {
     for (words, output) in &calls {
         let mut paper = Paper::new(64, usize::MAX);
         let mut failures = Failures::new();
-        let end = run_all::<Lookup3Hasher>(
+        let end = run_all::<RandomKeys>(
             rt.alloc(),
             words,
             &mut three_inputs(),
@@ -383,7 +422,7 @@ fn interrupted_reads(rt: HostRuntime) {
         script.interrupted = interrupted;
         let output: &[u8] = if end == WELL { ONCE } else { b"" };
         let paper = Paper::new(64, usize::MAX);
-        ends::<Lookup3Hasher>(&rt, rt.alloc(), &[], script, paper, end, output);
+        ends::<RandomKeys>(&rt, rt.alloc(), &[], script, paper, end, output);
     }
 }
 
@@ -414,7 +453,7 @@ fn a_write_fails_at_each_byte(rt: HostRuntime) {
             let paper = Paper::new(4, until_fault);
             let written = &output[..until_fault];
             let script = Script::new(TEXT, 3);
-            ends::<Lookup3Hasher>(&rt, rt.alloc(), words, script, paper, WRITE_FAULT, written);
+            ends::<RandomKeys>(&rt, rt.alloc(), words, script, paper, WRITE_FAULT, written);
         }
     }
 }
@@ -428,7 +467,7 @@ fn a_flush_fails(rt: HostRuntime) {
         for flushes in 0..5 {
             let mut paper = Paper::new(64, usize::MAX);
             paper.flushes = flushes;
-            let end = run::<Lookup3Hasher>(rt.alloc(), words, Script::new(TEXT, 8), &mut paper);
+            let end = run::<RandomKeys>(rt.alloc(), words, Script::new(TEXT, 8), &mut paper);
             let wanted = if flushes < *all { WRITE_FAULT } else { WELL };
             ended(&rt, end, wanted);
             all_hold(&rt, &[output.starts_with(paper.line())]);
@@ -456,7 +495,7 @@ fn calls_that_read_nothing(rt: HostRuntime) {
         let mut script = Script::new(TEXT, 64);
         script.until_fault = 0;
         let paper = Paper::new(64, usize::MAX);
-        ends::<Lookup3Hasher>(&rt, rt.alloc(), words, script, paper, *end, output);
+        ends::<RandomKeys>(&rt, rt.alloc(), words, script, paper, *end, output);
     }
 }
 
@@ -476,16 +515,16 @@ const TOGETHER: [(&[&str], &[u8]); 9] = [
 #[test]
 fn options_that_go_together(rt: HostRuntime) {
     for (words, output) in &TOGETHER {
-        writes::<Lookup3Hasher>(&rt, rt.alloc(), words, TEXT, 3, output);
+        writes::<RandomKeys>(&rt, rt.alloc(), words, TEXT, 3, output);
     }
 }
 
 #[test]
 fn lines_that_end_with_a_zero_byte(rt: HostRuntime) {
     let text = b"a\nb\0c\0a\nb\0\0c".as_slice();
-    writes::<Lookup3Hasher>(&rt, rt.alloc(), &["-z"], text, 3, b"a\nb\0c\0\0");
+    writes::<RandomKeys>(&rt, rt.alloc(), &["-z"], text, 3, b"a\nb\0c\0\0");
     let counted = b"      2 a\nb\0      2 c\0      1 \0".as_slice();
-    writes::<Lookup3Hasher>(&rt, rt.alloc(), &["-cz"], text, 64, counted);
+    writes::<RandomKeys>(&rt, rt.alloc(), &["-cz"], text, 64, counted);
 }
 
 #[test]
@@ -510,7 +549,7 @@ fn limited(alloc: Global, limit: u64, fits: bool) -> io::Result<bool> {
     let (front, back) = TEXT.split_at(4);
     let once = dedup(
         alloc,
-        BuildFresh::<NullHasher>::new(),
+        Alike,
         b'\n',
         limit,
         &mut [front, back],
@@ -524,7 +563,7 @@ fn limited(alloc: Global, limit: u64, fits: bool) -> io::Result<bool> {
     };
     let counted = tally(
         alloc,
-        BuildFresh::<NullHasher>::new(),
+        Alike,
         which,
         b'\n',
         limit,
@@ -583,7 +622,7 @@ fn written_of_twice(alloc: Global, lines: &[u8], capacity: usize) -> io::Result<
     let mut output = BufWriter::with_capacity(alloc, HELD, Vec::new(alloc))?;
     match dedup(
         alloc,
-        BuildFresh::<FNV1aHasher64>::new(),
+        RandomKeys::fresh(),
         b'\n',
         200,
         &mut [Script::new(&twice, capacity)],
@@ -613,9 +652,9 @@ fn lines_that_end_at_each_place(rt: HostRuntime) {
 
 /// How often `Texts` and std's set disagree whether a text is new, over so many texts, some of which come again and many
 /// of which begin others.
-fn disagreements<H: Piecewise>(alloc: Global, count: u64) -> Result<u64, AllocError> {
-    let mut texts = Texts::new(alloc, BuildFresh::<H>::new());
-    let mut set = HashSet::with_hasher(alloc, BuildFresh::<Lookup3Hasher>::new());
+fn disagreements<H: Fresh>(alloc: Global, count: u64) -> Result<u64, AllocError> {
+    let mut texts = Texts::new(alloc, H::fresh());
+    let mut set = HashSet::with_hasher(alloc, RandomKeys::fresh());
     let mut disagreements: u64 = 0;
     for number in 0..count {
         let bytes = (number / 3).to_le_bytes();
@@ -635,11 +674,10 @@ fn disagreements<H: Piecewise>(alloc: Global, count: u64) -> Result<u64, AllocEr
 fn texts_are_those_of_a_set(rt: HostRuntime) {
     let alloc = rt.alloc();
     let counts = [
-        disagreements::<FNV1aHasher64>(alloc, 20000).unwrap_or(1),
-        disagreements::<Lookup3Hasher>(alloc, 2000).unwrap_or(1),
-        disagreements::<NullHasher>(alloc, 2000).unwrap_or(1),
+        disagreements::<RandomKeys>(alloc, 20000).unwrap_or(1),
+        disagreements::<Alike>(alloc, 2000).unwrap_or(1),
     ];
-    all_hold(&rt, &[counts == [0, 0, 0]]);
+    all_hold(&rt, &[counts == [0, 0]]);
 }
 
 /// The empty text, texts that begin others, and whether each is new where it comes.
@@ -657,7 +695,7 @@ const SEEN: [(&[u8], bool); 9] = [
 
 #[test]
 fn a_text_that_begins_another(rt: HostRuntime) {
-    let mut texts = Texts::new(rt.alloc(), BuildFresh::<NullHasher>::new());
+    let mut texts = Texts::new(rt.alloc(), Alike);
     for (text, is_new) in &SEEN {
         match texts.see(text) {
             Ok(seen) => all_hold(&rt, &[seen.is_new == *is_new]),
@@ -681,7 +719,7 @@ fn long_lines(alloc: Global) -> io::Result<(u64, u64)> {
     let mut output = BufWriter::with_capacity(alloc, HELD, scale)?;
     match dedup(
         alloc,
-        BuildFresh::<Lookup3Hasher>::new(),
+        RandomKeys::fresh(),
         b'\n',
         4,
         &mut [text.as_slice()],
@@ -705,7 +743,7 @@ fn refused_memory(rt: HostRuntime) {
     for (words, output) in &OUTPUTS {
         let mut paper = Paper::new(64, usize::MAX);
         let script = Script::new(TEXT, 64);
-        let end = run::<Lookup3Hasher>(rt.alloc(), words, script, &mut paper);
+        let end = run::<RandomKeys>(rt.alloc(), words, script, &mut paper);
         let refused = end == NO_MEMORY;
         let claims = [
             refused || end == WELL,
