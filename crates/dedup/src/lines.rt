@@ -1,6 +1,5 @@
 //! Finds lines and has them taken.
 ghost use Rattle.std.specs.Prelude.{◌≡◌, ◌≤◌, ℕ, List, length, take, IfOk, OnOk, OnErr, ◌+◌, ◌==◌, not};
-ghost use Rattle.std.specs.Io.BufRead.{strip_last};
 ghost use Rattle.std.specs.Io.KnownBytes.{Appends};
 ghost use Rattle.std.specs.List.{prefix_len};
 ghost use Rattle.std.specs.Simd.Lanes.{chunk};
@@ -13,26 +12,17 @@ ghost use Rattle.hash_program.specs.Streams.{AppendsPart};
 use crate::ahead::Ahead;
 use crate::fault::Fault;
 use crate::task::LineTask;
+use hash_program::lines::without_end;
 use hash_program::streams::{TRIES, put};
 use std::io::Write;
 use std::simd::prelude::*;
-
-/// A line without its end.
-pub fn text_of(line: &[u8], eol: u8) -> &[u8]
-    ensures { result.now ≡ strip_last eol line.now }
-{
-    match line {
-        [text @ .., last] if *last == eol => text,
-        _ => line,
-    }
-}
 
 /// Writes a line, and its end behind it where it has none. After a fault a beginning of that was written.
 pub fn put_line<W: Write>(w: &mut W, line: &[u8], eol: u8) -> Result<(), Fault>
     ensures ok { OnOk result (Appends (W.contents w.old) (W.contents w.new) (as_line_by eol line.now)) }
     ensures err { OnErr result (AppendsPart (W.contents w.old) (W.contents w.new) (as_line_by eol line.now)) }
 {
-    if text_of(line, eol).len() < line.len() {
+    if without_end(line, eol).len() < line.len() {
         return put(w, line, TRIES);
     }
     put(w, line, TRIES)?;

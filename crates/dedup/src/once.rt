@@ -5,10 +5,11 @@ ghost use Rattle.dedup.specs.Lines.{AreSeen, once_by};
 ghost use Rattle.dedup.specs.Running.{Ends, run_of};
 
 use crate::fault::{Fault, see};
-use crate::lines::{put_line, text_of};
+use crate::lines::put_line;
 use crate::run::{Ended, take_inputs};
 use crate::task::LineTask;
 use hash_program::inputs::Complaints;
+use hash_program::lines::without_end;
 use hash_texts::Texts;
 use std::alloc::Global;
 use std::hash::BuildHasher;
@@ -43,7 +44,7 @@ impl<S: BuildHasher + Drop> LineTask for Once<S> {
         guess: usize,
         w: &mut W,
     ) -> Result<(), Fault> {
-        if see(&mut self.seen, text_of(line, eol), guess)?.is_new {
+        if see(&mut self.seen, without_end(line, eol), guess)?.is_new {
             put_line(w, line, eol)?;
         }
         Ok(())

@@ -8,10 +8,10 @@ ghost use Rattle.dedup.specs.Tallies.{Tallies, column, is_shown, shown, told};
 ghost use Rattle.hash_program.specs.Streams.{AppendsPart};
 
 use crate::fault::{Fault, see};
-use crate::lines::text_of;
 use crate::run::{Ended, take_inputs};
 use crate::task::LineTask;
 use hash_program::inputs::Complaints;
+use hash_program::lines::without_end;
 use hash_program::streams::{TRIES, flush, put};
 use hash_texts::Texts;
 use std::alloc::{AllocError, Global};
@@ -96,7 +96,12 @@ impl<S: BuildHasher + Drop> LineTask for Counts<S> {
         guess: usize,
         _w: &mut W,
     ) -> Result<(), Fault> {
-        count(&mut self.texts, &mut self.times, text_of(line, eol), guess)
+        count(
+            &mut self.texts,
+            &mut self.times,
+            without_end(line, eol),
+            guess,
+        )
     }
 }
 

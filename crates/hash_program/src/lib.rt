@@ -1,12 +1,13 @@
-//! What a program of this repository needs once: the words of its call, what it says of itself, its inputs in order, reading and
-//! writing that is tried again where it was interrupted, progress, names and the words of an error for standard error, and the status
-//! of a failed write.
+//! What a program of this repository needs once: the words of its call and what they ask for, its faults, how it ends and what it says
+//! then, its inputs in order, lines and their ends, reading and writing that is tried again where it was interrupted, progress, and names
+//! and the words of an error for standard error.
 #![tactic(auto)]
 
 pub mod call;
 pub mod fault;
 pub mod frame;
 pub mod inputs;
+pub mod lines;
 pub mod outcome;
 pub mod progress;
 pub mod quoted;

@@ -4,7 +4,6 @@ ghost use Rattle.std.specs.IoError.{error_kind};
 ghost use Rattle.hashsum.specs.Checking.{behind_name, counted, is_not_found, is_skipped, passes, said, verdict_on, words, IsCame, IsVerdict, TellsAny, TellsNothing};
 ghost use Rattle.hashsum.specs.Lists.{bare, EndsLine, EndsList, EndsListOf, EndsLists, IsNext};
 ghost use Rattle.hashsum.specs.Sums.{sum_at};
-ghost use Rattle.std.specs.Io.BufRead.{strip_last};
 ghost use Rattle.std.specs.Io.Buffered.{writer_contents};
 ghost use Rattle.std.specs.Io.KnownBytes.{IsAtEnd};
 
@@ -15,6 +14,7 @@ use hash_lines::escape::needs_escape;
 use hash_lines::forms::parse_form;
 use hash_lines::line::{Kind, push_name};
 use hash_lines::parse::{Entry, parse_line};
+use hash_program::lines;
 use hash_program::streams::put_out;
 use std::alloc::{AllocError, Global};
 use std::io;
@@ -263,21 +263,11 @@ fn said(alloc: Global, came: &Came<'_>, quiet: bool, status: bool) -> Result<Vec
     }
 }
 
-/// The bytes without the last one, if it is this one.
-fn without(bytes: &[u8], last: u8) -> &[u8]
-    ensures { result.now ≡ strip_last last bytes.now }
-{
-    match bytes {
-        [front @ .., byte] if *byte == last => front,
-        _ => bytes,
-    }
-}
-
 /// The line without its end, if it has one: a newline, or a carriage return and a newline.
 fn without_end(line: &[u8]) -> &[u8]
     ensures { result.now ≡ bare line.now }
 {
-    without(without(line, b'\n'), b'\r')
+    lines::without_end(lines::without_end(line, b'\n'), b'\r')
 }
 
 /// Reads the next line, with its newline if it has one, and tells whether there is one.

@@ -1,10 +1,10 @@
 //! Reads keys: lines, which end with newline or another byte, or so many bytes each.
 ghost use Rattle.std.specs.Prelude.{◌≡◌, ◌<◌, ◌≤◌, IfOk, OnOk, length, true};
-ghost use Rattle.std.specs.Io.BufRead.{ends_with_byte, strip_last};
 ghost use Rattle.hash_texts.specs.Texts.{with_text};
 ghost use Rattle.spread.specs.Keys.{ReadsFixed, ReadsKey, ReadsKeys, ReadsLine, ReadsLines, ReadsOne, ReadsPiece};
 
 use crate::fault::{Fault, NoTable, fault_of_read};
+use hash_program::lines::{has_end, without_end};
 use hash_program::streams::{TRIES, read_some};
 use hash_texts::{Full, RandomKeys, Texts};
 use std::alloc::Global;
@@ -21,26 +21,6 @@ pub enum Layout {
     Lines(u8),
     /// Each has so many bytes, with nothing between two.
     Fixed(NonZeroUsize),
-}
-
-/// Whether a line has its end.
-fn has_end(line: &[u8], eol: u8) -> bool
-    ensures { result ≡ ends_with_byte eol line.now }
-{
-    match line {
-        [.., last] => *last == eol,
-        [] => false,
-    }
-}
-
-/// A line without its end.
-fn key_of(line: &[u8], eol: u8) -> &[u8]
-    ensures { result.now ≡ strip_last eol line.now }
-{
-    match line {
-        [key @ .., last] if *last == eol => key,
-        _ => line,
-    }
 }
 
 /// Takes a key in, unless it is there.
@@ -70,7 +50,7 @@ fn read_line<R: BufRead>(
     if line.is_empty() {
         return Ok(false);
     }
-    take_key(keys, key_of(line, eol))?;
+    take_key(keys, without_end(line, eol))?;
     Ok(has_end(line, eol))
 }
 
