@@ -63,8 +63,8 @@ abbrev pub WritesPart : (output : List (List ℕ) → List ℕ) (eol : ℕ) → 
 WritesPart output eol run = (ls : List (List ℕ)) × AllBeginWith eol run.left ls × AppendsPart run.written run.written' (output ls)
 
 -- how a run ends that writes what `output` makes of the lines of its inputs, of at most so many
-abbrev pub EndsTaking : (output : List (List ℕ) → List ℕ) (after : List (List ℕ) → Type 0) (eol limit : ℕ) → Run → Result Ended (Fault TooMany)
-    → Type 0
+abbrev pub EndsTaking : (output : List (List ℕ) → List ℕ) (after : List (List ℕ) → Type 0) (eol limit : ℕ) → Run
+    → Result Ended (Fault TooMany) → Type 0
 EndsTaking output after eol limit run (Ok Whole) = WritesAll output after eol true limit run
 EndsTaking output after eol limit run (Ok InputFailed) = WritesAll output after eol false limit run
 EndsTaking output after eol limit run (Ok TooManyLines) = WritesPart output eol run × IsBeyond eol limit run

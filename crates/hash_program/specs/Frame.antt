@@ -16,8 +16,10 @@ use Rattle.hash_program.specs.Streams.{PutsOut}
 -- what words ask for that give these unknown options
 abbrev pub request_beside : (wrong words : List (List ℕ)) → Request
 request_beside (word ∷ more) words = request.UnknownOption
-request_beside [] words = if given None (codes "help") words then request.Text Help else if given None (codes "version") words then request.Text
-    Version else if given None (codes "list") words then request.Text Listed else request.Work
+request_beside [] words =
+    if given None (codes "help") words then request.Text Help
+    else if given None (codes "version") words then request.Text Version
+    else if given None (codes "list") words then request.Text Listed else request.Work
 
 -- what the words behind the program's own name ask for
 abbrev pub request_of : (letters : List ℕ) (names : List (List ℕ)) → List (List ℕ) → Request
