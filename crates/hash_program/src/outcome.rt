@@ -20,9 +20,9 @@ pub trait Words {
     }
 }
 
-/// What a program has that has no faults, or no wrong calls, of its own.
+/// What a program has that has no faults, or no wrong calls, of its own: none of its outcomes has it.
 #[derive(Debug, Drop)]
-pub enum Nothing {}
+pub struct Nothing;
 
 impl Words for Nothing {
     ghost use Rattle.std.specs.Prelude.{[]};
@@ -30,7 +30,7 @@ impl Words for Nothing {
     ghost words = { λ nothing. [] };
 
     fn words(&self) -> &'static str {
-        match *self {}
+        ""
     }
 }
 
