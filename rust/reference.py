@@ -1,5 +1,5 @@
-"""The 22 hashes from their definitions, in arithmetic on whole numbers: of a text, or of its pieces where cuts show. What rust/check holds
-the crate against; crc32 is zlib's."""
+"""The 22 hashes and poly61 from their definitions, in arithmetic on whole numbers: of a text, or of its pieces where cuts show. What
+rust/check holds the crate against; crc32 is zlib's."""
 import zlib
 
 M32, M64 = 2 ** 32 - 1, 2 ** 64 - 1
@@ -144,6 +144,36 @@ def long_form(text):
 
 def spooky(with_length):
     return lambda text: short_form(text, with_length) if len(text) < 192 else long_form(text)
+
+
+# ---- the polynomial hash at a key
+
+PRIME = 2 ** 61 - 1
+
+
+def poly_fold(key, words):
+    return steps(lambda state, word: (state * key + word) % PRIME, 1, words)
+
+
+def as_word(value):
+    """The low three bits once more as the highest."""
+    return value + value % 8 * 2 ** 61
+
+
+def poly61(key, text):
+    """The words are of seven bytes, and the last has a byte 1 behind it."""
+    whole = len(text) // 7 * 7
+    words = le_words(text[:whole], 7) + [int.from_bytes(text[whole:] + b"\1", "little")]
+    return as_word(poly_fold(key, words) * key % PRIME)
+
+
+def poly61_state(key, text):
+    """The state behind a text of full words."""
+    return None if len(text) % 7 else poly_fold(key, le_words(text, 7))
+
+
+def poly61_combine(key, state1, hash2, length2):
+    return as_word(((state1 - 1) * pow(key, length2 // 7 + 2, PRIME) + hash2 % 2 ** 61) % PRIME)
 
 
 OF_TEXT = {

@@ -1,11 +1,13 @@
 //! Reads lines `NAME HEX,HEX,..`, and prints for each the hash after the pieces, by a hasher. On the way it asserts, from the same bytes:
 //! what the function of the name answers to a single piece; that `unwrite` undoes `write` and the reverse; that `unfinish` finds the state;
-//! that the generic functions of `laws` answer the same; and that combined hashes are those of the joined text.
+//! that the generic functions of `laws` answer the same; and that combined hashes are those of the joined text. `NAME@NUMBER,..` is a
+//! function of the module `keyed`: at keys, or from a state, a hash and a length.
 use hashers_proved::jenkins::spooky_hash::{spooky, spooky_v1, SpookyHasher};
+use hashers_proved::keyed::*;
 use hashers_proved::laws::{self, HasherWrite, Piecewise, Streamed, Undo};
 use hashers_proved::more::{crc32::*, djb2_add::*, elf::*, fnv1::*, joaat::*};
 use hashers_proved::{fnv::*, fx_hash::*, jenkins::*, null::*, oz::*, pigeon::*};
-use std::hash::Hasher;
+use std::hash::{BuildHasher, Hasher};
 use std::io::{BufRead, Write};
 
 type Pieces = [Vec<u8>];
@@ -141,6 +143,39 @@ fn answer(name: &str, p: &Pieces) -> u64 {
     }
 }
 
+/// The hash at a key, by a hasher and its copy, by the generic functions, and by the function.
+fn at_a_key(key: u64, pieces: &Pieces) -> u64 {
+    let mut h = Poly61Keys::with_key(key).build_hasher();
+    let mut again = h.fork();
+    for p in pieces {
+        h.write(p);
+        again = again.fork();
+        again.feed(p);
+    }
+    assert_eq!((again.answer(), poly61(key, &pieces.concat())), (h.finish(), h.finish()));
+    h.finish()
+}
+
+fn at_two_keys(first: u64, second: u64, pieces: &Pieces) -> String {
+    let mut pair = Poly61Pair::new(first, second);
+    pieces.iter().for_each(|p| pair.write(p));
+    assert_eq!(poly61_pair(first, second, &pieces.concat()), pair.finish());
+    format!("{},{}", pair.finish().0, pair.finish().1)
+}
+
+fn keyed(name: &str, numbers: &[u64], p: &Pieces) -> String {
+    match (name, numbers) {
+        ("poly61", &[key]) => {
+            streamed::<Poly61Hasher>(p, Poly61Hasher::whole);
+            at_a_key(key, p).to_string()
+        }
+        ("poly61_pair", &[first, second]) => at_two_keys(first, second, p),
+        ("poly61_state", &[key]) => poly61_state(key, &p.concat()).map_or("None".to_string(), |it| it.to_string()),
+        ("poly61_combine", &[key, state, hash, length]) => poly61_combine(key, state, hash, length).to_string(),
+        _ => panic!("no such name: {name}, or other numbers: {numbers:?}"),
+    }
+}
+
 fn hex(s: &str) -> Vec<u8> {
     (0..s.len() / 2).map(|i| u8::from_str_radix(&s[2 * i..2 * i + 2], 16).unwrap()).collect()
 }
@@ -151,6 +186,10 @@ fn main() {
         let line = line.unwrap();
         let (name, rest) = line.split_once(' ').unwrap();
         let pieces: Vec<Vec<u8>> = rest.split(',').map(hex).collect();
-        writeln!(out, "{}", answer(name, &pieces)).unwrap();
+        let told = match name.split_once('@') {
+            Some((name, numbers)) => keyed(name, &numbers.split(',').map(|it| it.parse().unwrap()).collect::<Vec<_>>(), &pieces),
+            None => answer(name, &pieces).to_string(),
+        };
+        writeln!(out, "{told}").unwrap();
     }
 }

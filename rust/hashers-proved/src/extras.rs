@@ -6,6 +6,7 @@ use crate::hash_bytes::oz::{LoseLoseState, SdbmState};
 use crate::hash_jenkins::spooky_hash::SpookyHasher;
 use crate::hash_jenkins::spooky_parts::SpookyParts;
 use crate::hash_jenkins::{BuildSpooky, Lookup3Hasher};
+use crate::hash_keyed::pair::Poly61Pair;
 use crate::hash_keyed::poly61::Poly61Hasher;
 use crate::hash_laws::build::BuildFresh;
 use crate::hash_laws::traits::Undo;
@@ -39,6 +40,7 @@ copies! {
     [] NullHasher;
     [] SpookyHasher;
     [] Poly61Hasher;
+    [] Poly61Pair;
 }
 
 /// Equality and `Debug` by what `finish` answers.
@@ -127,7 +129,7 @@ impl fmt::Debug for crate::engine::Taken {
     }
 }
 
-/// Hashers by the polynomial at one key, for std's maps and sets. Take [`Poly61Keys::random`] for keys that somebody else chooses.
+/// Hashers by the polynomial at one key, for std's maps and sets. Take [`Poly61Keys::random`] where somebody else chooses what is hashed.
 #[derive(Clone, Copy)]
 pub struct Poly61Keys {
     key: u64,
@@ -135,14 +137,23 @@ pub struct Poly61Keys {
 
 impl Poly61Keys {
     /// This key: any number, of which the remainder modulo 2^61 - 1 counts.
-    pub fn with_key(key: u64) -> Poly61Keys {
+    #[inline]
+    pub const fn with_key(key: u64) -> Poly61Keys {
         Poly61Keys { key }
     }
 
-    /// A key from the randomness of std's `RandomState`.
+    /// A key from the randomness of std's `RandomState`. Each call has another one.
     #[cfg(feature = "std")]
     pub fn random() -> Poly61Keys {
         Poly61Keys::with_key(real_std::hash::RandomState::new().build_hasher().finish())
+    }
+}
+
+/// A random key, as std's `RandomState` has it: so a map by `default()`, and one that is collected, has a key of its own.
+#[cfg(feature = "std")]
+impl Default for Poly61Keys {
+    fn default() -> Poly61Keys {
+        Poly61Keys::random()
     }
 }
 
@@ -154,3 +165,16 @@ impl BuildHasher for Poly61Keys {
         Poly61Hasher::new(self.key)
     }
 }
+
+/// `Debug` by the name alone: neither a key nor a hash, from which the key may come out.
+macro_rules! tells_no_key {
+    ($($type:ident)*) => {$(
+        impl fmt::Debug for $type {
+            fn fmt(&self, f: &mut fmt::Formatter) -> fmt::Result {
+                f.debug_struct(stringify!($type)).finish_non_exhaustive()
+            }
+        }
+    )*};
+}
+
+tells_no_key! { Poly61Hasher Poly61Pair Poly61Keys }

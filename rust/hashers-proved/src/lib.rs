@@ -91,6 +91,22 @@ pub mod more {
 
 /// The polynomial hash of Carter and Wegman over 2^61 - 1, at a key. Of the 2^61 - 1 keys at most n / 7 + 2 give two different texts of up
 /// to n bytes one hash. That is proved of the Rattle text, by laws that have no code. It is no protection against who sees hashes or times.
+/// `Debug` shows no key.
+///
+#[cfg_attr(feature = "std", doc = "```")]
+#[cfg_attr(not(feature = "std"), doc = "```ignore")]
+/// use hashers_proved::keyed::{poly61, Poly61Keys};
+/// use std::collections::HashMap;
+///
+/// // a map under a random key, for words that strangers send
+/// let mut counts: HashMap<&str, u32, Poly61Keys> = HashMap::default();
+/// for word in "to be or not to be".split(' ') {
+///     *counts.entry(word).or_default() += 1;
+/// }
+/// assert_eq!(counts["be"], 2);
+/// // the hash of a text at a key of one's own
+/// assert_eq!(poly61(7, b"a"), 2520);
+/// ```
 pub mod keyed {
     #[doc(inline)]
     pub use crate::extras::Poly61Keys;

@@ -1,21 +1,52 @@
 //! The polynomial hash at a key.
+use hashers_proved::keyed::{poly61, poly61_combine, poly61_pair, poly61_state, Poly61Hasher, Poly61Keys, Poly61Pair};
+use std::hash::{BuildHasher, Hasher};
+
+const FOX: &[u8] = b"The quick brown fox jumps over the lazy dog";
+const KEY: u64 = 1234567890123456789;
+const OF_FOX: u64 = 2910588923001171521;
+
 #[test]
-fn maps_at_a_key() {
-    use hashers_proved::keyed::{poly61, poly61_combine, poly61_pair, poly61_state, Poly61Hasher, Poly61Keys};
-    use std::hash::{BuildHasher, Hasher};
-    const FOX: &[u8] = b"The quick brown fox jumps over the lazy dog";
-    const KEY: u64 = 1234567890123456789;
-    assert_eq!(poly61(KEY, FOX), 2910588923001171521);
-    assert_eq!(poly61_pair(KEY, 7, FOX), (2910588923001171521, 5805623949759481314));
+fn texts_at_a_key() {
+    assert_eq!(poly61(KEY, FOX), OF_FOX);
+    assert_eq!(poly61_pair(KEY, 7, FOX), (OF_FOX, 5805623949759481314));
     let mut hasher = Poly61Hasher::new(KEY);
     FOX.iter().for_each(|byte| hasher.write_u8(*byte));
-    assert_eq!(hasher.finish(), 2910588923001171521);
+    assert_eq!(hasher.finish(), OF_FOX);
     let (front, back) = FOX.split_at(28);
-    assert_eq!(poly61_combine(KEY, poly61_state(KEY, front).unwrap(), poly61(KEY, back), 15), 2910588923001171521);
+    assert_eq!(poly61_combine(KEY, poly61_state(KEY, front).unwrap(), poly61(KEY, back), 15), OF_FOX);
     assert_eq!(poly61_state(KEY, b"abc"), None);
+}
+
+#[test]
+fn copies_go_on_by_themselves() {
+    let (mut hasher, mut pair) = (Poly61Hasher::new(KEY), Poly61Pair::new(KEY, 7));
+    hasher.write(&FOX[..9]);
+    pair.write(&FOX[..9]);
+    let (copy, copies) = (hasher, pair);
+    hasher.write(&FOX[9..]);
+    pair.write(&FOX[9..]);
+    assert_eq!((hasher.finish(), pair.finish()), (OF_FOX, poly61_pair(KEY, 7, FOX)));
+    assert_eq!((copy.finish(), copies.finish()), (poly61(KEY, &FOX[..9]), poly61_pair(KEY, 7, &FOX[..9])));
+}
+
+/// Whoever sees a hash may compute the key.
+#[test]
+fn debug_shows_neither_key_nor_hash() {
+    let keys = Poly61Keys::with_key(KEY);
+    let told = format!("{keys:?}, {:?}, {:?}", keys.build_hasher(), Poly61Pair::new(KEY, 7));
+    assert_eq!(told, "Poly61Keys { .. }, Poly61Hasher { .. }, Poly61Pair { .. }");
+}
+
+#[cfg(feature = "std")]
+#[test]
+fn maps_at_a_key() {
     let keys = Poly61Keys::random();
     let mut ages = std::collections::HashMap::with_hasher(keys);
     ages.insert("Ada", 36);
     assert_eq!((ages.get("Ada"), ages.get("Bob")), (Some(&36), None));
     assert_eq!(keys.hash_one("Ada"), keys.hash_one("Ada"));
+    assert_ne!(keys.hash_one("Ada"), Poly61Keys::default().hash_one("Ada"));
+    let collected: std::collections::HashSet<u32, Poly61Keys> = (0..1000).collect();
+    assert!((0..1000).all(|number| collected.contains(&number)));
 }

@@ -1,7 +1,6 @@
 //! All tests in one program.
 mod bloom;
 mod documents;
-#[cfg(feature = "std")]
 mod keyed;
 #[cfg(feature = "std")]
 mod keys;
