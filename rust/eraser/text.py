@@ -6,6 +6,9 @@ from . import added, imports, rules
 from .source import Source
 from .tables import PARTS, Trouble
 
+# How long a line of documentation may be.
+WIDTH = 140
+
 
 def read_all(folder, crates):
     """Of each source of these crates but tests its crate, its module, its path and its text. `folder` is the project's folder crates/."""
@@ -76,8 +79,17 @@ def tidy(text):
         elif line.strip() in ("{", "{}", ";") and lines and (lines[-1] is None or marked):
             body_joins(lines, line)
         else:
-            lines.append(line)
+            lines += broken(line)
     return blank_lines([line for line in lines if line is not None])
+
+
+def broken(line):
+    """The line, or more where documentation is too long: behind the last sign of a sentence if there is one, or else behind a word."""
+    head = re.match(r" *//[/!] ", line)
+    if not head or len(line) <= WIDTH:
+        return [line]
+    first = re.match(r" *//[/!] .+[.:;] ", line[:WIDTH]) or re.match(r" *//[/!] .+ ", line[:WIDTH + 1])
+    return [first[0].rstrip(), *broken(head[0] + line[first.end():])] if first else [line]
 
 
 def without_marks(line):

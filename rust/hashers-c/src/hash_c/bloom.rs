@@ -35,7 +35,8 @@ fn contains<F: Piecewise, G: Piecewise>(words: &[u64], bits: u64, probes: u32, k
     words::has_room(words, bits, probes) && words::contains::<F, G>(words, bits, probes, key)
 }
 
-/// Inserts the key by fnv1a64 and lookup3. It answers whether the bits at all of its places were set before: `false` says that this key was not
+/// Inserts the key by fnv1a64 and lookup3. It answers whether the bits at all of its places were set before:
+/// `false` says that this key was not
 /// inserted before, and `true` that it possibly was.
 ///
 /// Proved:
@@ -72,7 +73,8 @@ pub fn hashers_bloom_fnv1a64_lookup3_contains(
     contains::<FNV1aHasher64, Lookup3Hasher>(words, bits, probes, key)
 }
 
-/// Inserts the key by spooky and lookup3. It answers whether the bits at all of its places were set before: `false` says that this key was not
+/// Inserts the key by spooky and lookup3. It answers whether the bits at all of its places were set before:
+/// `false` says that this key was not
 /// inserted before, and `true` that it possibly was.
 ///
 /// Proved:

@@ -8,7 +8,8 @@ use crate::hash_jenkins::spooky_long::{BLOCK, long_words, mix_blocks};
 use crate::hash_jenkins::spooky_short::{FILL, LONG, short_words, short_words_v1};
 use hash_rounds::Turns;
 
-/// The numbers that a [`SpookyHasher`](crate::hash_jenkins::spooky_hash::SpookyHasher) keeps. They may be copied: each copy goes on by itself.
+/// The numbers that a [`SpookyHasher`](crate::hash_jenkins::spooky_hash::SpookyHasher) keeps. They may be copied:
+/// each copy goes on by itself.
 ///
 /// The parts of a text come from `new` and go on by `write`: contracts call such parts settled, and see their position. Of other
 /// numbers nothing is promised but that the calls are safe. Each call asks that what is kept fits the buffer, which
