@@ -129,7 +129,7 @@ impl fmt::Debug for crate::engine::Taken {
     }
 }
 
-/// Hashers by the polynomial at one key, for std's maps and sets. Take [`Poly61Keys::random`] where somebody else chooses what is hashed.
+/// Hashers by the polynomial at one key, for std's maps and sets. Take a random one where somebody else chooses what is hashed.
 #[derive(Clone, Copy)]
 pub struct Poly61Keys {
     key: u64,
