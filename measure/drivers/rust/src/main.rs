@@ -1,4 +1,5 @@
-//! Times of the crate in rust/hashers-proved beside the original and the crates fnv and fxhash, all inlined, by turns in one process.
+//! Times of the crate in rust/hashers-proved beside the original and the crates fnv, fxhash, rustc-hash and ahash, all inlined, by turns in
+//! one process.
 //! `times RUNS NAME..` prints a line for each name, then an empty line, and then a line for each sort of keys of maps: behind a tab each a
 //! cell, the times of its sides in nanoseconds a key, of each the least of so many runs.
 use hashers_proved as ours;
@@ -68,10 +69,10 @@ fn row(name: &str, times: &[Vec<f64>]) {
 
 type OfKeys = fn(&[u8], usize) -> u64;
 
-/// A row: at each size our crate, the original, and a third crate where there is one.
-fn keys_of<Ours: Hasher + Default, Theirs: Hasher + Default>(name: &str, third: Option<OfKeys>) {
+/// A row: at each size our crate, the original, and the others.
+fn keys_of<Ours: Hasher + Default, Theirs: Hasher + Default>(name: &str, others: &[OfKeys]) {
     let mut sides: Vec<OfKeys> = vec![inlined::<Ours>, inlined::<Theirs>];
-    sides.extend(third);
+    sides.extend(others);
     let times: Vec<Vec<f64>> = [(8, 512, 20), (16, 512, 20), (64, 512, 20), (1 << 20, 1, 1)]
         .iter()
         .map(|&(size, count, turns)| {
@@ -88,21 +89,30 @@ fn lookups<'a, K: Hash + Eq + Clone, H: Hasher + Default + 'a>(keys: &'a [K]) ->
     Box::new(move || keys.iter().fold(0, |sum, key| sum ^ map[key] as u64))
 }
 
-/// A row of lookups in std's map.
+/// A row of lookups in std's map, all by turns.
 fn maps<K: Hash + Eq + Clone>(name: &str, keys: &[K]) {
-    let fnv = [lookups::<K, ours::fnv::FNV1aHasher64>(keys), lookups::<K, hashers::fnv::FNV1aHasher64>(keys), lookups::<K, fnv::FnvHasher>(keys)];
-    let fx = [lookups::<K, ours::fx_hash::FxHasher>(keys), lookups::<K, hashers::fx_hash::FxHasher>(keys), lookups::<K, fxhash::FxHasher64>(keys)];
-    let std = [lookups::<K, DefaultHasher>(keys)];
-    row(name, &[measure(&fnv, keys.len(), 20), measure(&fx, keys.len(), 20), measure(&std, keys.len(), 20)]);
+    let works = [
+        lookups::<K, ours::fnv::FNV1aHasher64>(keys),
+        lookups::<K, hashers::fnv::FNV1aHasher64>(keys),
+        lookups::<K, fnv::FnvHasher>(keys),
+        lookups::<K, ours::fx_hash::FxHasher>(keys),
+        lookups::<K, hashers::fx_hash::FxHasher>(keys),
+        lookups::<K, fxhash::FxHasher64>(keys),
+        lookups::<K, rustc_hash::FxHasher>(keys),
+        lookups::<K, ahash::AHasher>(keys),
+        lookups::<K, DefaultHasher>(keys),
+    ];
+    let times = measure(&works, keys.len(), 20);
+    row(name, &[times[..3].to_vec(), times[3..7].to_vec(), times[7..8].to_vec(), times[8..].to_vec()]);
 }
 
-/// The crate that has the hash of that name too.
-fn third(name: &str) -> Option<OfKeys> {
+/// The hashers of other crates beside the hash of that name: the same hash, and beside fx ahash, which is another one.
+fn others(name: &str) -> Vec<OfKeys> {
     match name {
-        "fnv1a64" => Some(inlined::<fnv::FnvHasher>),
-        "fxhash" => Some(inlined::<fxhash::FxHasher64>),
-        "fxhash32" => Some(inlined::<fxhash::FxHasher32>),
-        _ => None,
+        "fnv1a64" => vec![inlined::<fnv::FnvHasher>],
+        "fxhash" => vec![inlined::<fxhash::FxHasher64>, inlined::<rustc_hash::FxHasher>, inlined::<ahash::AHasher>],
+        "fxhash32" => vec![inlined::<fxhash::FxHasher32>],
+        _ => vec![],
     }
 }
 
@@ -111,7 +121,7 @@ macro_rules! rows {
         /// A row for each of these names.
         fn rows(chosen: &[String]) {
             $(if chosen.iter().any(|it| it == stringify!($name)) {
-                keys_of::<ours::$($hasher)::+, hashers::$($hasher)::+>(stringify!($name), third(stringify!($name)));
+                keys_of::<ours::$($hasher)::+, hashers::$($hasher)::+>(stringify!($name), &others(stringify!($name)));
             })*
         }
     };
