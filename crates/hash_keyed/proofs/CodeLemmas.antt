@@ -13,7 +13,8 @@ use Rattle.hash_keyed.specs.Poly61.{prime61, poly_step, poly_hash}
 use Rattle.hash_keyed.specs.Poly61State.{Position, after, full_words, poly_end, as_word, ArePowers, block_sum}
 use Rattle.hash_keyed.specs.Poly61Laws.{part_at, le-push, poly_end-is}
 use Rattle.hash_keyed.proofs.Encoding.{le-lt}
-use Rattle.hash_keyed.proofs.ByWords.{same_sum, same_product, same_step, four_steps, after-seven, after-four, after-few}
+use Rattle.hash_keyed.proofs.ByWords.{same_step, four_steps, after-seven, after-four, after-few}
+use Rattle.hash_prime.proofs.Powers.{same-add, same-mul}
 
 -- ---- bytes in a word
 
@@ -100,7 +101,8 @@ four_there key k2 k3 k4 k8 s t block are whole led more =
     (le (take 7 (drop 14 (block ++ more))))) (le (take 7 (drop 21 (block ++ more)))) =
     led ∙ ap (λ n. n % prime61) flat ∙ four_steps prime61 key k2 k3 k4 s a b c d are.second_is are.third_is are.fourth_is
     ∙ ap₂ (λ u v. step (step u v) d) (ap₂ (λ u v. step (step s u) v) wa wb) wc
-    ∙ ap (λ v. step (step (step (step s (le (take 7 (block ++ more)))) (le (take 7 (drop 7 (block ++ more))))) (le (take 7 (drop 14 (block ++ more))))) v) wd in
+    ∙ ap (λ v. step (step (step (step s (le (take 7 (block ++ more)))) (le (take 7 (drop 7 (block ++ more)))))
+    (le (take 7 (drop 14 (block ++ more))))) v) wd in
     after-four key s t (block ++ more) (omega (arith, length-append block more)) same
     ∙ ap (after (full_words key t)) (drop_at block more 28 whole)
 
@@ -121,12 +123,12 @@ eight_there key k2 k3 k4 k8 s t x y block halves are whole cut first second led 
     let y_is : y % prime61 ≡ sum2 % prime61 =
     second ∙ ap (λ l. block_sum key k2 k3 (get_or l 1 []) % prime61) two ∙ ap (λ l. block_sum key k2 k3 l % prime61) all_back in
     let middle = s * k4 + sum1 in
-    let high : (s * k8) % prime61 ≡ (s * (k4 * k4)) % prime61 = same_product prime61 s s k8 (k4 * k4) refl are.eighth_is in
+    let high : (s * k8) % prime61 ≡ (s * (k4 * k4)) % prime61 = same-mul prime61 s k8 s (k4 * k4) refl are.eighth_is in
     let low : (x * k4 + y) % prime61 ≡ (sum1 * k4 + sum2) % prime61 =
-    same_sum prime61 (x * k4) (sum1 * k4) y sum2 (same_product prime61 x sum1 k4 k4 x_is refl) y_is in
+    same-add prime61 (x * k4) y (sum1 * k4) sum2 (same-mul prime61 x k4 sum1 k4 x_is refl) y_is in
     let ring : s * (k4 * k4) + (sum1 * k4 + sum2) ≡ middle * k4 + sum2 = by_square s k4 sum1 sum2 in
     let last : t % prime61 ≡ (middle * k4 + sum2) % prime61 =
-    led ∙ same_sum prime61 (s * k8) (s * (k4 * k4)) (x * k4 + y) (sum1 * k4 + sum2) high low ∙ ap (λ n. n % prime61) ring in
+    led ∙ same-add prime61 (s * k8) (x * k4 + y) (s * (k4 * k4)) (sum1 * k4 + sum2) high low ∙ ap (λ n. n % prime61) ring in
     let join : block ++ more ≡ front ++ (back ++ more) =
     ap (λ l. l ++ more) (sym (take-append-drop 28 block)) ∙ append_assoc front back more in
     ap (after (full_words key s)) join
@@ -141,7 +143,8 @@ chunk_more key s t n rest block more end front back led so_far =
     let whole : block ++ more ≡ rest = ap₂ (λ u v. u ++ v) front back ∙ take-append-drop n rest in
     sym (led more) ∙ ap (after (full_words key s)) whole ∙ so_far
 
-pub seven_more : (key s t w : ℕ) (rest word more : List ℕ) (end : Position) → word ≡ take 7 rest → more ≡ drop 7 rest → length more + 7 ≡ length rest
+pub seven_more : (key s t w : ℕ) (rest word more : List ℕ) (end : Position) → word ≡ take 7 rest → more ≡ drop 7 rest
+    → length more + 7 ≡ length rest
     → w ≡ le word → t % prime61 ≡ poly_step prime61 key s w
     → after (full_words key s) rest ≡ end → after (full_words key t) more ≡ end
 seven_more key s t w rest word more end front back long number led so_far =
@@ -176,7 +179,8 @@ write_is key s t w n end rest last so_far led few word count =
     ap₂ (λ u v. part_at key (t % prime61) u v) word count ∙ sym (after-few key t last few) ∙ sym led ∙ so_far
 
 -- where no byte is kept
-pub nothing_kept : (key s w n : ℕ) (at : Position) → part_at key (s % prime61) w n ≡ at → at.count ≤ 0 → w < 2 ^ (8 * n) → full_words key s ≡ at
+pub nothing_kept : (key s w n : ℕ) (at : Position) → part_at key (s % prime61) w n ≡ at → at.count ≤ 0 → w < 2 ^ (8 * n)
+    → full_words key s ≡ at
 nothing_kept key s w n at same none known =
     let count : n ≡ 0 = omega (arith, ap (λ (a : Position). a.count) same) in
     let one : 2 ^ (8 * n) ≡ 1 = ap (λ k. 2 ^ (8 * k)) count in

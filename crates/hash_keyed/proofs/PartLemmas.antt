@@ -8,9 +8,10 @@ use Rattle.hashers.specs.Words.{le}
 use Rattle.hash_keyed.specs.Poly61.{prime61, words, words_from, poly_step, poly_hash, poly_state}
 use Rattle.hash_keyed.specs.Poly61State.{Position, byte_in, start_at, after, full_words, poly_end, as_word, joined_value, poly61}
 use Rattle.hash_keyed.specs.Poly61Laws.{behind, byte_behind, byte_fills, byte_in-full, byte_in-part, poly_end-from, poly_end-is}
-use Rattle.hash_keyed.proofs.ByWords.{after-few, same_product, same_sum}
+use Rattle.hash_keyed.proofs.ByWords.{after-few}
 use Rattle.hash_keyed.proofs.Collisions.{value-lt}
 use Rattle.hash_keyed.proofs.Encoding.{length-words}
+use Rattle.hash_prime.proofs.Powers.{same-add, same-mul}
 
 -- ---- powers
 
@@ -25,7 +26,7 @@ pub power_odd : (p r q s t l : ℕ) → l % 2 ≡ 1 → q % p ≡ (r * s) % p �
 power_odd p r q s t l odd product square =
     let k = l / 2 in
     let e : suc (k + k) ≡ l = omega arith in
-    same_product p q (r * s) (t ^ k) (s ^ (k + k)) product (square-pow p s t k square)
+    same-mul p q (t ^ k) (r * s) (s ^ (k + k)) product (square-pow p s t k square)
     ∙ ap (λ z. z % p) (let m : r * s * s ^ (k + k) ≡ r * (s ^ (k + k) * s) = omega arith in m)
     ∙ ap (λ z. (r * z) % p) (sym (pow-suc s (k + k)) ∙ ap (λ n. s ^ n) e)
 
@@ -33,7 +34,7 @@ pub power_even : (p r s t l : ℕ) → l % 2 ≢ 1 → t % p ≡ (s * s) % p →
 power_even p r s t l even square =
     let k = l / 2 in
     let e : k + k ≡ l = omega (arith, even) in
-    same_product p r r (t ^ k) (s ^ (k + k)) refl (square-pow p s t k square) ∙ ap (λ n. (r * s ^ n) % p) e
+    same-mul p r (t ^ k) r (s ^ (k + k)) refl (square-pow p s t k square) ∙ ap (λ n. (r * s ^ n) % p) e
 
 -- ---- whole words
 
@@ -61,7 +62,8 @@ pub after-whole : (key : ℕ) (text : List ℕ) → length text % 7 ≡ 0 → af
 unfolding le
 after-whole key text whole =
     whole_there 6 key 1 [] text (omega arith) (omega arith)
-    ∙ ap (λ n. behind key (fold (poly_step prime61 key) 1 (take n (words text))) []) (let e : (0 + length text) / 7 ≡ length text / 7 = omega arith in e)
+    ∙ ap (λ n. behind key (fold (poly_step prime61 key) 1 (take n (words text))) []) (let e : (0 + length text) / 7
+    ≡ length text / 7 = omega arith in e)
 
 -- how many bytes are behind the full words
 after-count : (at : Position) (text : List ℕ) → at.count < 7 → (after at text).count ≡ (at.count + length text) % 7
@@ -75,7 +77,8 @@ after-count at (byte ∷ text) few = elim (cases_lt at.count 6) [
       omega (arith, one, after-count (byte_in at byte) text (omega (arith, one)))
 ]
 
-module _ (key t : ℕ) (text last : List ℕ) (led : after (full_words key 1) text ≡ after (full_words key t) last) (few : length last < 7) where
+module _ (key t : ℕ) (text last : List ℕ) (led : after (full_words key 1) text
+    ≡ after (full_words key t) last) (few : length last < 7) where
   pub rest-length : length text % 7 ≡ length last
   rest-length =
       omega (
@@ -98,14 +101,15 @@ fold-from p key s (w ∷ ws) =
     let k = key ^ length ws in
     let rest = fold (poly_step p key) 0 ws in
     let high : (poly_step p key s w * k) % p ≡ ((s * key + w) * k) % p =
-    same_product p (poly_step p key s w) (s * key + w) k k (mod-mod (s * key + w) p) refl in
+    same-mul p (poly_step p key s w) k (s * key + w) k (mod-mod (s * key + w) p) refl in
     let low : (w * k + rest) % p ≡ fold (poly_step p key) 0 (w ∷ ws) % p =
-    same_sum p (w * k) (poly_step p key 0 w * k) rest rest (same_product p w (poly_step p key 0 w) k k (sym (mod-mod w p) ∙ ap (λ z. z % p % p) (let e : w ≡ 0 * key + w = omega arith in e)) refl) refl
+    same-add p (w * k) rest (poly_step p key 0 w * k) rest (same-mul p w k (poly_step p key 0 w) k (sym (mod-mod w p)
+    ∙ ap (λ z. z % p % p) (let e : w ≡ 0 * key + w = omega arith in e)) refl) refl
     ∙ sym (fold-from p key (poly_step p key 0 w) ws) in
     fold-from p key (poly_step p key s w) ws
-    ∙ same_sum p (poly_step p key s w * k) ((s * key + w) * k) rest rest high refl
+    ∙ same-add p (poly_step p key s w * k) rest ((s * key + w) * k) rest high refl
     ∙ ap (λ z. z % p) (let e : (s * key + w) * k + rest ≡ s * (k * key) + (w * k + rest) = omega arith in e)
-    ∙ same_sum p (s * (k * key)) (s * (k * key)) (w * k + rest) (fold (poly_step p key) 0 (w ∷ ws)) refl low
+    ∙ same-add p (s * (k * key)) (w * k + rest) (s * (k * key)) (fold (poly_step p key) 0 (w ∷ ws)) refl low
     ∙ ap (λ z. (s * z + fold (poly_step p key) 0 (w ∷ ws)) % p) (sym (pow-suc key (length ws)))
 
 -- the low 61 bits of a hash are its value
@@ -127,12 +131,13 @@ joined-value key x y whole =
     let power : key ^ (length y / 7 + 2) ≡ k * key = ap (λ e. key ^ e) count ∙ pow-suc key n in
     let second : poly61 key y % 2 ^ 61 ≡ poly_hash p key y = value_in (poly_hash p key y) (value-lt key y) in
     let at_one : poly_hash p key y % p ≡ ((1 * k + rest) * key) % p =
-    mod-mod (fold (poly_step p key) 1 ws * key) p ∙ same_product p (fold (poly_step p key) 1 ws) (1 * k + rest) key key (fold-from p key 1 ws) refl in
+    mod-mod (fold (poly_step p key) 1 ws * key) p
+    ∙ same-mul p (fold (poly_step p key) 1 ws) key (1 * k + rest) key (fold-from p key 1 ws) refl in
     let ring : (s + (p - 1)) * (k * key) + (1 * k + rest) * key ≡ (s * k + rest) * key + p * (k * key) = omega arith in
     ap₂ (λ a b. ((s + (p - 1)) * a + b) % p) power second
-    ∙ same_sum p ((s + (p - 1)) * (k * key)) ((s + (p - 1)) * (k * key)) (poly_hash p key y) ((1 * k + rest) * key) refl at_one
+    ∙ same-add p ((s + (p - 1)) * (k * key)) (poly_hash p key y) ((s + (p - 1)) * (k * key)) ((1 * k + rest) * key) refl at_one
     ∙ ap (λ z. z % p) ring ∙ add-mul-mod_self_left ((s * k + rest) * key) p (k * key)
-    ∙ sym (same_product p (fold (poly_step p key) s ws) (s * k + rest) key key (fold-from p key s ws) refl)
+    ∙ sym (same-mul p (fold (poly_step p key) s ws) key (s * k + rest) key (fold-from p key s ws) refl)
     ∙ sym (poly_end-from key s y) ∙ ap (λ a. poly_end (after a y)) (sym (after-whole key x whole))
     ∙ ap poly_end (sym (fold-append byte_in (start_at key) x y)) ∙ poly_end-is key (x ++ y)
 
@@ -146,5 +151,5 @@ joined_is key state1 before power value hash2 e r before_is power_is value_is r_
     ap (λ z. z % p) before_is ∙ mod-mod (state1 % p + (p - 1)) p ∙ mod-add-mod state1 p (p - 1) in
     let last : value % p ≡ hash2 % 2 ^ 61 % p = ap (λ z. z % p) value_is ∙ mod-mod (hash2 % 2 ^ 61) p in
     r_is
-    ∙ same_sum p (before * power) ((state1 + (p - 1)) * key ^ e) value (hash2 % 2 ^ 61)
-    (same_product p before (state1 + (p - 1)) power (key ^ e) first power_is) last
+    ∙ same-add p (before * power) value ((state1 + (p - 1)) * key ^ e) (hash2 % 2 ^ 61)
+    (same-mul p before power (state1 + (p - 1)) (key ^ e) first power_is) last
