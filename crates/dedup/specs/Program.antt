@@ -1,6 +1,6 @@
 -- What the program is asked for, and how it ends.
-use Rattle.std.specs.Prelude.{ℕ, ◌≡◌, ◌||◌, if◌then◌else◌, List, [], ◌∷◌, Some, Result, Ok, Err, codes}
-use Rattle.hash_program.specs.Call.{given}
+use Rattle.std.specs.Prelude.{ℕ, ◌≡◌, ◌||◌, if◌then◌else◌, List, [], ◌∷◌, Some, None, Result, Ok, Err, codes}
+use Rattle.hash_program.specs.Call.{Choice, Saying, flag, given}
 use Rattle.hash_program.specs.Frame.{EndsRequest, request_of, text_of}
 use Rattle.hash_program.specs.declared.fault.Fault.{Fault}
 use Rattle.hash_program.specs.declared.fault.Fault.TheVariants.{Own}
@@ -18,29 +18,27 @@ use Rattle.dedup.specs.declared.outcome.Task.{Task}
 use Rattle.dedup.specs.declared.outcome.Task.TheVariants.{Once, Tallied}
 use Rattle.dedup.specs.declared.tally.Which.{Which}
 
--- the letters and the names of the options
-abbrev pub letters : List ℕ
-letters = codes "cduz"
+-- the options
+abbrev pub options : List Choice
+options = flag (Some 99) (codes "count") ∷ flag (Some 100) (codes "repeated") ∷ flag (Some 117) (codes "unique")
+    ∷ flag (Some 122) (codes "zero-terminated") ∷ flag None (codes "help") ∷ flag None (codes "version") ∷ []
 
-abbrev pub names : List (List ℕ)
-names = codes "count" ∷ codes "repeated" ∷ codes "unique" ∷ codes "zero-terminated" ∷ codes "help" ∷ codes "version" ∷ []
-
--- which of the counted lines are asked for
-abbrev pub which_of : List (List ℕ) → Which
-which_of words = record {
-  counts = given (Some 99) (codes "count") words;
-  repeated = given (Some 100) (codes "repeated") words;
-  unique = given (Some 117) (codes "unique") words;
+-- which of the counted lines a call asks for
+abbrev pub which_of : (call : List Saying) → Which
+which_of call = record {
+  counts = given (codes "count") call;
+  repeated = given (codes "repeated") call;
+  unique = given (codes "unique") call;
 }
 
 -- the byte that ends a line
-abbrev pub eol_of : List (List ℕ) → ℕ
-eol_of words = if given (Some 122) (codes "zero-terminated") words then 0 else 10
+abbrev pub eol_of : (call : List Saying) → ℕ
+eol_of call = if given (codes "zero-terminated") call then 0 else 10
 
 -- each line once, unless some of the counted ones are asked for
-abbrev pub work_of : List (List ℕ) → Task
-work_of words = if (which_of words).counts || (which_of words).repeated || (which_of words).unique then Tallied (which_of words)
-    (eol_of words) else Once (eol_of words)
+abbrev pub work_of : (call : List Saying) → Task
+work_of call = if (which_of call).counts || (which_of call).repeated || (which_of call).unique then Tallied (which_of call)
+    (eol_of call) else Once (eol_of call)
 
 -- what came of a run
 abbrev pub of_run : Result Ended (Fault TooMany) → Outcome Nothing TooMany
@@ -58,8 +56,8 @@ abbrev pub EndsTask : Task → ℕ → Run → Outcome Nothing TooMany → Type 
 EndsTask (Once eol) limit run result = EndsRun (once_by eol) eol limit run result
 EndsTask (Tallied which eol) limit run result = EndsRun (told eol which) eol limit run result
 
--- how the program ends that was called by these words
-abbrev pub Exits : (words : List (List ℕ)) (help version list : List ℕ) → ℕ → Run → Outcome Nothing TooMany → Type 0
-Exits words help version list limit run =
-    EndsRequest (request_of letters names words) (text_of help version list) (EndsTask (work_of words) limit run) (run.left' ≡ run.left)
+-- how the program ends whose call says this
+abbrev pub Exits : (call : List Saying) (help version list : List ℕ) → ℕ → Run → Outcome Nothing TooMany → Type 0
+Exits call help version list limit run =
+    EndsRequest (request_of call) (text_of help version list) (EndsTask (work_of call) limit run) (run.left' ≡ run.left)
     run.written run.written'

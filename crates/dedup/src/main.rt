@@ -16,12 +16,12 @@ mod tests;
 mod unread;
 
 use fault::Fault;
-use hash_program::call::operands;
-use hash_program::frame::{About, ended, unknown_option};
+use hash_program::call::Call;
+use hash_program::frame::{About, ended, wrong_word};
 use hash_program::inputs::{Told, inputs};
 use hash_program::words::words;
 use hash_texts::RandomKeys;
-use outcome::{OPTIONS, Outcome, outcome_of};
+use outcome::{Outcome, call_of, outcome_of};
 use std::io;
 use std::io::BufWriter;
 use std::process::ExitCode;
@@ -54,10 +54,13 @@ const VERSION: &str = "dedup of hashers 1.0.1
 License: MIT
 ";
 
+/// How the program ends if there is no memory for its call.
+const NO_MEMORY: Outcome = Outcome::Failed(Fault::NoMemory);
+
 /// What came of the call.
-fn called(rt: &HostRuntime, words: &[Vec<u8>]) -> io::Result<Outcome> {
+fn called<'a>(rt: &'a HostRuntime, call: &Call<'a>) -> io::Result<Outcome> {
     let alloc = rt.alloc();
-    let names = operands(alloc, words)?;
+    let names = call.operands(alloc)?;
     let about = About {
         help: HELP,
         version: VERSION,
@@ -66,7 +69,7 @@ fn called(rt: &HostRuntime, words: &[Vec<u8>]) -> io::Result<Outcome> {
     Ok(outcome_of(
         alloc,
         RandomKeys::new(rt)?,
-        words,
+        call,
         about,
         u64::MAX,
         &mut inputs(rt, &names)?,
@@ -79,15 +82,18 @@ fn called(rt: &HostRuntime, words: &[Vec<u8>]) -> io::Result<Outcome> {
     ))
 }
 
-/// The status of the call.
-fn status(rt: &HostRuntime) -> u8 {
-    let Ok(words) = words(rt) else {
-        return ended(rt, NAME, &Outcome::Failed(Fault::NoMemory), None);
+/// The status of the program that was called by these words.
+fn status(rt: &HostRuntime, words: &[Vec<u8>]) -> u8 {
+    let Ok(call) = call_of(rt.alloc(), words) else {
+        return ended(rt, NAME, &NO_MEMORY, None);
     };
-    let outcome = called(rt, &words).unwrap_or(Outcome::Failed(Fault::NoMemory));
-    ended(rt, NAME, &outcome, unknown_option(&OPTIONS, &words))
+    let outcome = called(rt, &call).unwrap_or(NO_MEMORY);
+    ended(rt, NAME, &outcome, wrong_word(&call))
 }
 
 fn main(rt: HostRuntime) -> ExitCode {
-    ExitCode::from(status(&rt))
+    match words(&rt) {
+        Ok(words) => ExitCode::from(status(&rt, &words)),
+        Err(_) => ExitCode::from(ended(&rt, NAME, &NO_MEMORY, None)),
+    }
 }

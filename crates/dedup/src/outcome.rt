@@ -1,21 +1,21 @@
 //! What the program is asked for, and how it ends.
-ghost use Rattle.std.specs.Prelude.{◌≡◌};
-ghost use Rattle.hash_program.specs.Call.{texts};
+ghost use Rattle.std.specs.Prelude.{◌≡◌, IfOk};
+ghost use Rattle.hash_program.specs.Call.{call_of, choices, sayings, texts};
 ghost use Rattle.std.specs.Io.Buffered.{writer_contents};
-ghost use Rattle.dedup.specs.Program.{Exits, of_run, work_of};
+ghost use Rattle.dedup.specs.Program.{Exits, of_run, options, work_of};
 ghost use Rattle.dedup.specs.Running.{run_of};
 
 use crate::fault::{Fault, TooMany};
 use crate::once::dedup;
 use crate::run::Ended;
 use crate::tally::{Which, tally};
-use hash_program::call::is_given;
-use hash_program::frame::{About, Options, Request, request_of, text_of};
+use hash_program::call::{Call, Opt, flag};
+use hash_program::frame::{About, Request, request_of, text_of};
 use hash_program::inputs::Complaints;
 use hash_program::outcome;
 use hash_program::outcome::{Nothing, Wrong, of_telling};
 use hash_program::streams::put_out;
-use std::alloc::Global;
+use std::alloc::{AllocError, Global};
 use std::hash::BuildHasher;
 use std::io::{BufWriter, Read, Write};
 
@@ -32,28 +32,36 @@ pub enum Task {
 pub type Outcome = outcome::Outcome<Nothing, TooMany>;
 
 /// The options.
-pub const OPTIONS: Options<'static> = Options {
-    letters: b"cduz",
-    names: &[
-        b"count",
-        b"repeated",
-        b"unique",
-        b"zero-terminated",
-        b"help",
-        b"version",
-    ],
-};
+fn options() -> [Opt; 6]
+    ensures { choices result ≡ options }
+{
+    [
+        flag(Some(b'c'), b"count"),
+        flag(Some(b'd'), b"repeated"),
+        flag(Some(b'u'), b"unique"),
+        flag(Some(b'z'), b"zero-terminated"),
+        flag(None, b"help"),
+        flag(None, b"version"),
+    ]
+}
 
-/// What the words behind the program's own name want written of the lines.
-fn work_of(words: &[Vec<u8>]) -> Task
-    ensures { result ≡ work_of (texts words.now) }
+/// What the words behind the program's own name say.
+pub fn call_of<'a>(alloc: Global, words: &'a [Vec<u8>]) -> Result<Call<'a>, AllocError>
+    ensures { IfOk result (λ call. sayings call.said.items ≡ call_of options (texts words.now)) }
+{
+    hash_program::call::call_of(alloc, &options(), words)
+}
+
+/// What a call wants written of the lines.
+fn work_of(call: &Call<'_>) -> Task
+    ensures { result ≡ work_of (sayings call.now.said.items) }
 {
     let which = Which {
-        counts: is_given(words, Some(b'c'), b"count"),
-        repeated: is_given(words, Some(b'd'), b"repeated"),
-        unique: is_given(words, Some(b'u'), b"unique"),
+        counts: call.gives(b"count"),
+        repeated: call.gives(b"repeated"),
+        unique: call.gives(b"unique"),
     };
-    let eol = if is_given(words, Some(b'z'), b"zero-terminated") {
+    let eol = if call.gives(b"zero-terminated") {
         0
     } else {
         b'\n'
@@ -77,25 +85,24 @@ fn of_run(ended: Result<Ended, Fault>) -> Outcome
     }
 }
 
-/// Does what the words behind the program's own name ask for, over at most `limit` lines of the inputs. `help` tells how the
-/// program is called, and `version` which it is. Where the call is wrong nothing is read or written.
+/// Does what the call asks for, over at most `limit` lines of the inputs. If the call is wrong, nothing is read or written.
 pub fn outcome_of<S: BuildHasher + Drop, R: Read, C: Complaints, W: Write + Drop>(
     alloc: Global,
     hasher: S,
-    words: &[Vec<u8>],
+    call: &Call<'_>,
     about: About<'_>,
     limit: u64,
     inputs: &mut [R],
     complaints: &mut C,
     w: &mut BufWriter<W>,
 ) -> Outcome
-    ensures { Exits (texts words.now) about.entry.help.now about.entry.version.now about.entry.list.now limit
+    ensures { Exits (sayings call.now.said.items) about.entry.help.now about.entry.version.now about.entry.list.now limit
         (run_of R.remaining inputs.old inputs.new (writer_contents W.contents) w.old w.new) result }
 {
-    match request_of(&OPTIONS, words) {
-        Request::UnknownOption => Outcome::Usage(Wrong::UnknownOption),
+    match request_of(call) {
+        Request::Misgiven(misgiven) => Outcome::Usage(Wrong::Option(misgiven)),
         Request::Text(text) => of_telling(put_out(w, text_of(&about, text))),
-        Request::Work => match work_of(words) {
+        Request::Work => match work_of(call) {
             Task::Once(eol) => of_run(dedup(alloc, hasher, eol, limit, inputs, complaints, w)),
             Task::Tallied(which, eol) => {
                 of_run(tally(alloc, hasher, which, eol, limit, inputs, complaints, w))

@@ -1,7 +1,7 @@
 //! Tests of the program, over readers and writers that cut, fail, and refuse.
 use crate::fault::{Fault, TooMany};
 use crate::once::dedup;
-use crate::outcome::{Outcome, outcome_of};
+use crate::outcome::{Outcome, call_of, outcome_of};
 use crate::run::Ended;
 use crate::tally::{Which, tally};
 use hash_program::frame::About;
@@ -203,7 +203,7 @@ impl Hasher for Alike {
 }
 
 /// The words of a call.
-fn call_of(alloc: Global, words: &[&str]) -> Result<Vec<Vec<u8>>, AllocError> {
+fn texts_of(alloc: Global, words: &[&str]) -> Result<Vec<Vec<u8>>, AllocError> {
     let mut all = Vec::new(alloc);
     for word in words {
         let word = Vec::from_slice(alloc, word.as_bytes())?;
@@ -231,7 +231,10 @@ fn run_all<H: Fresh>(
     failures: &mut Failures,
     w: &mut Paper,
 ) -> End {
-    let Ok(words) = call_of(alloc, words) else {
+    let Ok(words) = texts_of(alloc, words) else {
+        return NO_MEMORY;
+    };
+    let Ok(call) = call_of(alloc, &words) else {
         return NO_MEMORY;
     };
     let Ok(mut output) = BufWriter::with_capacity(alloc, HELD, w) else {
@@ -240,7 +243,7 @@ fn run_all<H: Fresh>(
     status(&outcome_of(
         alloc,
         H::fresh(),
-        &words,
+        &call,
         About {
             help: "help\n",
             version: "version\n",
@@ -487,7 +490,7 @@ const CALLS: [(&[&str], End, &[u8]); 8] = [
     (&["-c-"], WRONG, b""),
 ];
 
-const WRONG: End = (2, "unknown option");
+const WRONG: End = (2, "unrecognized option");
 
 #[test]
 fn calls_that_read_nothing(rt: HostRuntime) {

@@ -1,5 +1,5 @@
 -- What a call asks for, how it ends, and what is said of a failure.
-use Rattle.std.specs.Prelude.{ℕ, ◌≡◌, ◌++◌, if◌then◌else◌, Bool, List, [], ◌∷◌, Option, Some, None, Result, codes}
+use Rattle.std.specs.Prelude.{ℕ, ◌≡◌, ◌++◌, if◌then◌else◌, Bool, List, [], Option, Some, None, Result, codes}
 use Rattle.std.specs.Io.KnownBytes.{Keeps}
 use Rattle.hash_program.specs.declared.fault.Fault.{Fault}
 use Rattle.hash_program.specs.declared.frame.Request.{Request}
@@ -8,22 +8,23 @@ use Rattle.hash_program.specs.declared.frame.Text.{Text}
 use Rattle.hash_program.specs.declared.frame.Text.TheVariants.{Help, Version, List as Listed}
 use Rattle.hash_program.specs.declared.outcome.Outcome.{Outcome}
 use Rattle.hash_program.specs.declared.outcome.Outcome.TheVariants.{Usage}
-use Rattle.hash_program.specs.declared.outcome.Wrong.TheVariants.{UnknownOption}
-use Rattle.hash_program.specs.Call.{given, unknown}
+use Rattle.hash_program.specs.declared.outcome.Wrong.TheVariants as wrong
+use Rattle.hash_program.specs.declared.call.Misgiven.{Misgiven}
+use Rattle.hash_program.specs.Call.{Saying, first_of, given, wrongs}
 use Rattle.hash_program.specs.Outcome.{of_telling}
 use Rattle.hash_program.specs.Streams.{PutsOut}
 
--- what words ask for that give these unknown options
-abbrev pub request_beside : (wrong words : List (List ℕ)) → Request
-request_beside (word ∷ more) words = request.UnknownOption
-request_beside [] words =
-    if given None (codes "help") words then request.Text Help
-    else if given None (codes "version") words then request.Text Version
-    else if given None (codes "list") words then request.Text Listed else request.Work
+-- what a call asks for in which this is wrong
+abbrev pub request_beside : (wrong : Option (Misgiven × List ℕ)) → (call : List Saying) → Request
+request_beside (Some wrong) call = request.Misgiven wrong.0
+request_beside None call =
+    if given (codes "help") call then request.Text Help
+    else if given (codes "version") call then request.Text Version
+    else if given (codes "list") call then request.Text Listed else request.Work
 
--- what the words behind the program's own name ask for
-abbrev pub request_of : (letters : List ℕ) (names : List (List ℕ)) → List (List ℕ) → Request
-request_of letters names words = request_beside (unknown letters names words) words
+-- what a call asks for
+abbrev pub request_of : (call : List Saying) → Request
+request_of call = request_beside (first_of (wrongs call)) call
 
 -- one of the program's texts
 abbrev pub text_of : (help version list : List ℕ) → Text → List ℕ
@@ -38,19 +39,21 @@ abbrev pub EndsRequest : {Misuse Own : Type 0} → Request → (texts : Text →
 EndsRequest request.Work texts work unread written written' result = work result
 EndsRequest {Own = Own} (request.Text text) texts work unread written written' result =
     unread × (told : Result (Unit {0}) (Fault Own)) × PutsOut (texts text) written written' told × (result ≡ of_telling told)
-EndsRequest request.UnknownOption texts work unread written written' result =
-    (result ≡ Usage UnknownOption) × unread × Keeps written written'
+EndsRequest (request.Misgiven misgiven) texts work unread written written' result =
+    (result ≡ Usage (wrong.Option misgiven)) × unread × Keeps written written'
 
--- a part behind a colon, if there is one
-abbrev pub behind_colon : Option (List ℕ) → List ℕ
-behind_colon None = []
-behind_colon (Some part) = codes ": " ++ part
+-- a part behind a mark, if there is one
+abbrev pub part_of : (mark : List ℕ) → Option (List ℕ) → List ℕ
+part_of mark None = []
+part_of mark (Some part) = mark ++ part
 
 -- the line more behind a wrong call
 abbrev pub hint : (name : List ℕ) (is_wrong_call : Bool) → List ℕ
-hint name is_wrong_call = if is_wrong_call then (10 ∷ []) ++ name ++ codes " --help says how it is called" else []
+hint name is_wrong_call =
+    if is_wrong_call then codes "\nTry '" ++ (name ++ codes " --help' for more information.") else []
 
--- what a program says of a failure: `NAME: FAILURE: WORD: REASON`, of which word and reason may be missing
-abbrev pub complaint_of : (name failure : List ℕ) (word reason : Option (List ℕ)) (is_wrong_call : Bool) → List ℕ
-complaint_of name failure word reason is_wrong_call =
-    name ++ behind_colon (Some failure) ++ behind_colon word ++ behind_colon reason ++ hint name is_wrong_call
+-- what a program says of a failure: `NAME: FAILURE 'WORD' BEHIND: REASON`, of which all but the first two may be missing
+abbrev pub complaint_of : (name failure : List ℕ) (word : Option (List ℕ)) (behind : List ℕ) (reason : Option (List ℕ))
+    (is_wrong_call : Bool) → List ℕ
+complaint_of name failure word behind reason is_wrong_call =
+    name ++ codes ": " ++ failure ++ part_of (codes " ") word ++ behind ++ part_of (codes ": ") reason ++ hint name is_wrong_call

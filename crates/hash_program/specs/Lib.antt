@@ -3,4 +3,3 @@ pub mod Frame
 pub mod Outcome
 pub mod Reason
 pub mod Streams
-pub mod Valued

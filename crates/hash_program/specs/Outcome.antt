@@ -3,6 +3,8 @@ use Rattle.std.specs.Prelude.{ℕ, List, [], Some, Result, Ok, Err, codes}
 use Rattle.std.specs.IoError.{error_kind}
 use Rattle.std.specs.declared.io.ErrorKind.{ErrorKind}
 use Rattle.std.specs.declared.io.ErrorKind.TheVariants.{BrokenPipe}
+use Rattle.hash_program.specs.declared.call.Misgiven.{Misgiven}
+use Rattle.hash_program.specs.declared.call.Misgiven.TheVariants.{NoSuchName, NoSuchLetter, NoValue, HasValue}
 use Rattle.hash_program.specs.declared.fault.Fault.{Fault}
 use Rattle.hash_program.specs.declared.fault.Fault.TheVariants as fault
 use Rattle.hash_program.specs.declared.outcome.Outcome.{Outcome}
@@ -22,12 +24,25 @@ status_of Reported = 1
 status_of (Failed (fault.Unwritten (Some error))) = write_status (error_kind error)
 status_of (Failed other) = 1
 
+-- what is said of an option with which something is wrong, before the word that gives it
+abbrev pub misgiven_words : Misgiven → List ℕ
+misgiven_words NoSuchName = codes "unrecognized option"
+misgiven_words NoSuchLetter = codes "invalid option --"
+misgiven_words NoValue = codes "option"
+misgiven_words HasValue = codes "option"
+
+-- and behind that word
+abbrev pub behind_of : {Misuse Own : Type 0} → Outcome Misuse Own → List ℕ
+behind_of (Usage (wrong.Option NoValue)) = codes " requires an argument"
+behind_of (Usage (wrong.Option HasValue)) = codes " doesn't allow an argument"
+behind_of other = []
+
 -- what it says on standard error that failed, before the word or the reason
 abbrev pub failure_of : {Misuse Own : Type 0} (misuse_words : Misuse → List ℕ) (own_words : Own → List ℕ) → Outcome Misuse Own → List ℕ
 failure_of misuse_words own_words Done = []
 failure_of misuse_words own_words Reported = []
-failure_of misuse_words own_words (Usage wrong.UnknownOption) = codes "unknown option"
-failure_of misuse_words own_words (Usage wrong.UnknownName) = codes "unknown name"
+failure_of misuse_words own_words (Usage (wrong.Option misgiven)) = misgiven_words misgiven
+failure_of misuse_words own_words (Usage wrong.UnknownName) = codes "unknown hash"
 failure_of misuse_words own_words (Usage (wrong.Own misuse)) = misuse_words misuse
 failure_of misuse_words own_words (Failed (fault.Unread error)) = codes "-"
 failure_of misuse_words own_words (Failed (fault.Unwritten error)) = codes "write error"

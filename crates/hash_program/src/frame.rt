@@ -1,26 +1,17 @@
-//! The frame of a program: its options, what a call asks for, and what it says where it fails.
-ghost use Rattle.std.specs.Prelude.{◌≡◌, ◌∷◌, [], ℕ, List, map, string_bytes, IfOk, MatchOption, OnOk, ◌++◌};
+//! The frame of a program: what a call asks for, and what the program says if it fails.
+ghost use Rattle.std.specs.Prelude.{◌≡◌, string_bytes, IfOk, OnOk, ◌++◌};
 ghost use Rattle.std.specs.Option.{option_map};
-ghost use Rattle.hash_program.specs.Call.{texts, unknown};
-ghost use Rattle.hash_program.specs.Frame.{behind_colon, complaint_of, hint, request_of, text_of};
+ghost use Rattle.hash_program.specs.Call.{first_of, sayings, wrongs};
+ghost use Rattle.hash_program.specs.Frame.{complaint_of, hint, part_of, request_of, text_of};
 ghost use Rattle.hash_program.specs.Outcome.{status_of};
 
-use crate::call::{first_unknown, is_given};
+use crate::call::{Call, Misgiven};
 use crate::fault::Fault;
-use crate::outcome::{Outcome, Words, failure_of, status_of};
-use crate::quoted::quoted;
+use crate::outcome::{Outcome, Words, behind_of, failure_of, status_of};
+use crate::quoted::in_quotes;
 use crate::reason::reason;
 use std::alloc::{AllocError, Global};
 use std::io::Error;
-
-/// The options of a program that have no value.
-#[derive(Clone, Copy)]
-pub struct Options<'a> {
-    /// The letters of those that have one.
-    pub letters: &'a [u8],
-    /// Their names.
-    pub names: &'a [&'a [u8]],
-}
 
 /// What a program says of itself.
 #[derive(Clone, Copy)]
@@ -47,41 +38,41 @@ pub enum Text {
 /// What a call asks for.
 #[derive(Clone, Copy)]
 pub enum Request {
-    /// It gives an option that there is not.
-    UnknownOption,
+    /// Nothing: something is wrong with an option.
+    Misgiven(Misgiven),
     /// To write a text.
     Text(Text),
     /// The program's work.
     Work,
 }
 
-/// The first word that gives an option that there is not.
-pub fn unknown_option<'w>(options: &Options<'_>, words: &'w [Vec<u8>]) -> Option<&'w [u8]>
-    ensures { MatchOption result
-        (unknown options.now.letters.now (map (λ name. name.now) options.now.names.now) (texts words.now) ≡ [])
-        (λ word. (more : List (List ℕ))
-        × (unknown options.now.letters.now (map (λ name. name.now) options.now.names.now) (texts words.now) ≡ word.now ∷ more)) }
+/// What a call asks for.
+pub fn request_of(call: &Call<'_>) -> Request
+    ensures { result ≡ request_of (sayings call.now.said.items) }
 {
-    first_unknown(words, options.letters, options.names)
-}
-
-/// What the words behind the program's own name ask for.
-pub fn request_of(options: &Options<'_>, words: &[Vec<u8>]) -> Request
-    ensures { result ≡ request_of options.now.letters.now (map (λ name. name.now) options.now.names.now) (texts words.now) }
-{
-    if unknown_option(options, words).is_some() {
-        return Request::UnknownOption;
+    if let Some((misgiven, _)) = call.wrong() {
+        return Request::Misgiven(misgiven);
     }
-    if is_given(words, None, b"help") {
+    if call.gives(b"help") {
         return Request::Text(Text::Help);
     }
-    if is_given(words, None, b"version") {
+    if call.gives(b"version") {
         return Request::Text(Text::Version);
     }
-    if is_given(words, None, b"list") {
+    if call.gives(b"list") {
         return Request::Text(Text::List);
     }
     Request::Work
+}
+
+/// The word that gives the first option with which something is wrong, or its letter.
+pub fn wrong_word<'a>(call: &Call<'a>) -> Option<&'a [u8]>
+    ensures { option_map (λ word. word.now) result ≡ option_map (λ wrong. wrong.1) (first_of (wrongs (sayings call.now.said.items))) }
+{
+    match call.wrong() {
+        Some((_, word)) => Some(word),
+        None => None,
+    }
 }
 
 /// That text.
@@ -95,17 +86,43 @@ pub fn text_of<'a>(about: &About<'a>, text: Text) -> &'a [u8]
     }
 }
 
-/// Puts a part behind a colon, if there is one.
-fn push_part(text: &mut String, part: Option<&str>) -> Result<(), AllocError>
-    ensures { OnOk result (string_bytes text.new ≡ string_bytes text.old ++ behind_colon (option_map (λ part. part.now) part.entry)) }
+/// What a program says of a failure.
+#[derive(Clone, Copy)]
+pub struct Complaint<'a> {
+    /// The program's name.
+    pub name: &'static str,
+    /// What failed.
+    pub failure: &'static str,
+    /// The word that is wrong, in quotes, if there is one.
+    pub word: Option<&'a str>,
+    /// What is said behind it.
+    pub behind: &'static str,
+    /// What the system says, if it says anything.
+    pub reason: Option<&'a str>,
+    /// Whether the call was wrong.
+    pub is_wrong_call: bool,
+}
+
+/// Puts a part behind some bytes, if there is one.
+fn push_part(text: &mut String, mark: &str, part: Option<&str>) -> Result<(), AllocError>
+    ensures { OnOk result (string_bytes text.new ≡ string_bytes text.old ++ part_of mark.now (option_map (λ part. part.now) part.entry)) }
 {
     match part {
         Some(part) => {
-            text.push_str(": ")?;
+            text.push_str(mark)?;
             text.push_str(part)
         }
         None => Ok(()),
     }
+}
+
+/// Puts a name between some words.
+fn push_between(text: &mut String, front: &str, name: &str, behind: &str) -> Result<(), AllocError>
+    ensures { OnOk result (string_bytes text.new ≡ string_bytes text.old ++ (front.now ++ (name.now ++ behind.now))) }
+{
+    text.push_str(front)?;
+    text.push_str(name)?;
+    text.push_str(behind)
 }
 
 /// Puts a line behind a wrong call that says how to learn more.
@@ -115,31 +132,25 @@ fn push_hint(text: &mut String, name: &str, is_wrong_call: bool) -> Result<(), A
     if !is_wrong_call {
         return Ok(());
     }
-    text.push_str("\n")?;
-    text.push_str(name)?;
-    text.push_str(" --help says how it is called")
+    push_between(text, "\nTry '", name, " --help' for more information.")
 }
 
-/// What a program says of a failure: which word was wrong and what the system says, as far as there is one, and behind a wrong call how
-/// to learn more.
-pub fn complaint(
-    alloc: Global,
-    name: &str,
-    failure: &str,
-    word: Option<&str>,
-    reason: Option<&str>,
-    is_wrong_call: bool,
-) -> Result<String, AllocError>
-    ensures { IfOk result (λ text. string_bytes text ≡ complaint_of name.now failure.now (option_map (λ word. word.now) word.entry)
-        (option_map (λ reason. reason.now) reason.entry) is_wrong_call) }
-{
-    let mut text = String::new(alloc);
-    text.push_str(name)?;
-    push_part(&mut text, Some(failure))?;
-    push_part(&mut text, word)?;
-    push_part(&mut text, reason)?;
-    push_hint(&mut text, name, is_wrong_call)?;
-    Ok(text)
+impl Complaint<'_> {
+    /// Its text: a line, or two behind a wrong call.
+    pub fn text(&self, alloc: Global) -> Result<String, AllocError>
+        ensures { IfOk result (λ text. string_bytes text ≡ complaint_of self.now.name.now self.now.failure.now
+            (option_map (λ word. word.now) self.now.word) self.now.behind.now (option_map (λ reason. reason.now) self.now.reason)
+            self.now.is_wrong_call) }
+    {
+        let mut text = String::new(alloc);
+        text.push_str(self.name)?;
+        push_part(&mut text, ": ", Some(self.failure))?;
+        push_part(&mut text, " ", self.word)?;
+        text.push_str(self.behind)?;
+        push_part(&mut text, ": ", self.reason)?;
+        push_hint(&mut text, self.name, self.is_wrong_call)?;
+        Ok(text)
+    }
 }
 
 /// The error of the system behind a failure, if there is one.
@@ -152,11 +163,11 @@ fn error_of<Misuse, Own: Words>(outcome: &Outcome<Misuse, Own>) -> Option<&Error
     }
 }
 
-/// Says on standard error what failed, which word was wrong, and why, unless that is told already, or nobody reads any more. Answers
+/// Says on standard error what failed, which word was wrong, and why, unless that is told already, or nobody reads any more. Returns
 /// the status that the program ends with.
 pub fn ended<Misuse: Words, Own: Words>(
     rt: &HostRuntime,
-    name: &str,
+    name: &'static str,
     outcome: &Outcome<Misuse, Own>,
     word: Option<&[u8]>,
 ) -> u8
@@ -168,16 +179,18 @@ pub fn ended<Misuse: Words, Own: Words>(
     if failure.is_empty() || status == 141 {
         return status;
     }
-    let word = word.and_then(|word| quoted(alloc, word).ok());
-    let reason = error_of(outcome).and_then(|error| reason(alloc, error).ok());
-    let _ = match complaint(
-        alloc,
+    let quoted = word.and_then(|word| in_quotes(alloc, word).ok());
+    let said = error_of(outcome).and_then(|error| reason(alloc, error).ok());
+    let (word, behind, reason) = (quoted.as_deref(), behind_of(outcome), said.as_deref());
+    let complaint = Complaint {
         name,
         failure,
-        word.as_deref(),
-        reason.as_deref(),
-        status == 2,
-    ) {
+        word,
+        behind,
+        reason,
+        is_wrong_call: status == 2,
+    };
+    let _ = match complaint.text(alloc) {
         Ok(text) => eprintln!(rt; "{text}"),
         Err(_) => eprintln!(rt; "{name}: {failure}"),
     };

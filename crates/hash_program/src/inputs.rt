@@ -137,16 +137,16 @@ impl Read for Input<'_> {
 
 /// Says on standard error which input failed, and why, behind the program's name.
 #[derive(Drop)]
-pub struct Told<'r, 'n> {
+pub struct Told<'a> {
     /// The runtime.
-    pub rt: &'r HostRuntime,
+    pub rt: &'a HostRuntime,
     /// The program's name.
     pub program: &'static str,
     /// The names of the inputs.
-    pub names: &'n [&'n [u8]],
+    pub names: &'a [&'a [u8]],
 }
 
-impl Complaints for Told<'_, '_> {
+impl Complaints for Told<'_> {
     fn failed(&mut self, place: usize, error: &Error) {
         let name = match self.names.get(place) {
             Some(name) => *name,

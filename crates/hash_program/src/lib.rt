@@ -13,5 +13,4 @@ pub mod progress;
 pub mod quoted;
 pub mod reason;
 pub mod streams;
-pub mod valued;
 pub mod words;

@@ -1,7 +1,8 @@
 //! How a program ends: its status, and what it says of a failure.
 ghost use Rattle.std.specs.Prelude.{◌≡◌, ℕ, List};
-ghost use Rattle.hash_program.specs.Outcome.{failure_of, of_telling, status_of, write_status};
+ghost use Rattle.hash_program.specs.Outcome.{behind_of, failure_of, misgiven_words, of_telling, status_of, write_status};
 
+use crate::call::Misgiven;
 use crate::fault::Fault;
 use std::io::{Error, ErrorKind};
 
@@ -37,9 +38,9 @@ impl Words for Nothing {
 /// What is wrong with a call. `Own` has what only this program finds wrong.
 #[derive(Debug, Drop)]
 pub enum Wrong<Own> {
-    /// It gives an option that there is not.
-    UnknownOption,
-    /// It gives a name that nothing has.
+    /// Something is wrong with an option.
+    Option(Misgiven),
+    /// It gives a name that no hash has.
     UnknownName,
     /// What only this program finds wrong.
     Own(Own),
@@ -68,14 +69,36 @@ pub fn of_telling<Misuse, Own>(told: Result<(), Fault<Own>>) -> Outcome<Misuse, 
     }
 }
 
+/// What is wrong with an option, in front of the word that gives it.
+fn misgiven_words(misgiven: Misgiven) -> &'static str
+    ensures { result.now ≡ misgiven_words misgiven }
+{
+    match misgiven {
+        Misgiven::NoSuchName => "unrecognized option",
+        Misgiven::NoSuchLetter => "invalid option --",
+        Misgiven::NoValue | Misgiven::HasValue => "option",
+    }
+}
+
+/// What is said of a failure behind the word that is wrong.
+pub fn behind_of<Misuse, Own>(outcome: &Outcome<Misuse, Own>) -> &'static str
+    ensures { result.now ≡ behind_of outcome.now }
+{
+    match outcome {
+        Outcome::Usage(Wrong::Option(Misgiven::NoValue)) => " requires an argument",
+        Outcome::Usage(Wrong::Option(Misgiven::HasValue)) => " doesn't allow an argument",
+        _ => "",
+    }
+}
+
 /// What failed, in words; nothing where all went well, or where it is told already.
 pub fn failure_of<Misuse: Words, Own: Words>(outcome: &Outcome<Misuse, Own>) -> &'static str
     ensures { result.now ≡ failure_of Misuse.words Own.words outcome.now }
 {
     match outcome {
         Outcome::Done | Outcome::Reported => "",
-        Outcome::Usage(Wrong::UnknownOption) => "unknown option",
-        Outcome::Usage(Wrong::UnknownName) => "unknown name",
+        Outcome::Usage(Wrong::Option(misgiven)) => misgiven_words(*misgiven),
+        Outcome::Usage(Wrong::UnknownName) => "unknown hash",
         Outcome::Usage(Wrong::Own(misuse)) => misuse.words(),
         Outcome::Failed(Fault::Unread(_)) => "-",
         Outcome::Failed(Fault::Unwritten(_)) => "write error",

@@ -25,16 +25,11 @@ fn push_control(out: &mut String, alloc: Global, c: char) -> Result<(), AllocErr
     Ok(())
 }
 
-/// A name for standard error, with � for what is no UTF-8. One with control characters is quoted as a shell reads it, and as coreutils
-/// writes it: `'no'$'\n''such'`. So it can't pass for another line, nor colour a terminal.
-pub fn quoted(alloc: Global, name: &[u8]) -> Result<String, AllocError> {
-    let text = String::from_utf8_lossy(alloc, name)?;
-    if !has_control(text.as_str()) {
-        return Ok(text);
-    }
+/// A text in quotes, as a shell reads it.
+fn shell_quoted(alloc: Global, text: &str) -> Result<String, AllocError> {
     let mut out = String::from_str(alloc, "'")?;
     let mut escapes = false;
-    for c in text.as_str().chars() {
+    for c in text.chars() {
         let is_quote = c == '\'';
         if c.is_control() != escapes && !is_quote {
             out.push_str(if escapes { "''" } else { "'$'" })?;
@@ -50,4 +45,19 @@ pub fn quoted(alloc: Global, name: &[u8]) -> Result<String, AllocError> {
     }
     out.push('\'')?;
     Ok(out)
+}
+
+/// A word in quotes for standard error, with � for what is no UTF-8: as a shell reads it, and as coreutils write it.
+pub fn in_quotes(alloc: Global, word: &[u8]) -> Result<String, AllocError> {
+    shell_quoted(alloc, String::from_utf8_lossy(alloc, word)?.as_str())
+}
+
+/// A name for standard error, with � for what is no UTF-8. One with control characters is quoted as a shell reads it, and as coreutils
+/// writes it: `'no'$'\n''such'`. So it can't pass for another line, nor colour a terminal.
+pub fn quoted(alloc: Global, name: &[u8]) -> Result<String, AllocError> {
+    let text = String::from_utf8_lossy(alloc, name)?;
+    if !has_control(text.as_str()) {
+        return Ok(text);
+    }
+    shell_quoted(alloc, text.as_str())
 }
