@@ -479,18 +479,21 @@ fn a_flush_fails(rt: HostRuntime) {
 }
 
 /// Calls that read nothing, how they end, and what they write.
-const CALLS: [(&[&str], End, &[u8]); 8] = [
+const CALLS: [(&[&str], End, &[u8]); 9] = [
     (&["--help"], WELL, b"help\n"),
     (&["-c", "--version"], WELL, b"version\n"),
     (&["--version", "--help"], WELL, b"help\n"),
-    (&["-x"], WRONG, b""),
-    (&["-cx", "--help"], WRONG, b""),
+    (&["-x"], NO_LETTER, b""),
+    (&["-cx", "--help"], NO_LETTER, b""),
     (&["--counts"], WRONG, b""),
     (&["--coun"], WRONG, b""),
-    (&["-c-"], WRONG, b""),
+    (&["-c-"], NO_LETTER, b""),
+    (&["--count=1"], (2, "option"), b""),
 ];
 
 const WRONG: End = (2, "unrecognized option");
+
+const NO_LETTER: End = (2, "invalid option --");
 
 #[test]
 fn calls_that_read_nothing(rt: HostRuntime) {

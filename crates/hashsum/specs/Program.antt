@@ -6,7 +6,7 @@ use Rattle.std.specs.List.{find}
 use Rattle.std.specs.Str.{bytes_eq}
 use Rattle.hash_lines.specs.declared.line.Form.TheVariants.{Tagged, Untagged}
 use Rattle.hash_lines.specs.declared.line.Kind.{Kind}
-use Rattle.hash_program.specs.Call.{given, operands}
+use Rattle.hash_program.specs.Call.{Choice, Saying, flag, given, operands, taking, value_of}
 use Rattle.hash_program.specs.Frame.{EndsRequest, request_of}
 use Rattle.hash_program.specs.declared.fault.Fault.{Fault}
 use Rattle.hash_program.specs.declared.frame.Text.{Text}
@@ -25,13 +25,12 @@ use Rattle.hashsum.specs.Files.{Opens}
 use Rattle.hashsum.specs.Lists.{EndsLists}
 use Rattle.hashsum.specs.Summing.{EndsSums}
 
--- the letters and the names of the options, but for the one that names a hash
-abbrev pub letters : List ℕ
-letters = codes "cwzbt"
-
-abbrev pub names : List (List ℕ)
-names = codes "check" ∷ codes "tag" ∷ codes "untagged" ∷ codes "zero" ∷ codes "quiet" ∷ codes "status" ∷ codes "strict"
-    ∷ codes "ignore-missing" ∷ codes "warn" ∷ codes "binary" ∷ codes "text" ∷ codes "list" ∷ codes "help" ∷ codes "version" ∷ []
+-- the options
+abbrev pub options : List Choice
+options = taking (Some 97) (codes "algorithm") ∷ flag (Some 99) (codes "check") ∷ flag None (codes "tag") ∷ flag None (codes "untagged")
+    ∷ flag (Some 122) (codes "zero") ∷ flag None (codes "quiet") ∷ flag None (codes "status") ∷ flag None (codes "strict")
+    ∷ flag None (codes "ignore-missing") ∷ flag (Some 119) (codes "warn") ∷ flag (Some 98) (codes "binary") ∷ flag (Some 116) (codes "text")
+    ∷ flag None (codes "list") ∷ flag None (codes "help") ∷ flag None (codes "version") ∷ []
 
 -- whether a name is this one, in letters of either case
 abbrev pub is_named : (word name : List ℕ) → Bool
@@ -44,46 +43,46 @@ kind_of (kind ∷ more) None = Some kind
 kind_of kinds (Some name) = find (λ kind. is_named name kind.name.now) kinds
 
 -- how lines are checked by a hash
-abbrev pub checking_of : List (List ℕ) → Kind → Checking
-checking_of words kind = record {
+abbrev pub checking_of : (call : List Saying) → Kind → Checking
+checking_of call kind = record {
   kind = kind;
-  quiet = given None (codes "quiet") words;
-  status = given None (codes "status") words;
-  strict = given None (codes "strict") words;
-  ignore_missing = given None (codes "ignore-missing") words;
-  warn = given (Some 119) (codes "warn") words;
+  quiet = given (codes "quiet") call;
+  status = given (codes "status") call;
+  strict = given (codes "strict") call;
+  ignore_missing = given (codes "ignore-missing") call;
+  warn = given (codes "warn") call;
 }
 
 -- how files are summed by a hash
-abbrev pub summing_of : List (List ℕ) → Kind → Summing
-summing_of words kind = record {
+abbrev pub summing_of : (call : List Saying) → Kind → Summing
+summing_of call kind = record {
   kind = kind;
-  form = if given None (codes "untagged") words then Untagged else Tagged;
-  zero = given (Some 122) (codes "zero") words;
+  form = if given (codes "untagged") call then Untagged else Tagged;
+  zero = given (codes "zero") call;
 }
 
 -- whether an option is given on how lines are written, or on how they are checked
-abbrev pub gives_writing : List (List ℕ) → Bool
-gives_writing words = given (Some 122) (codes "zero") words || given None (codes "tag") words || given None (codes "untagged") words
+abbrev pub gives_writing : (call : List Saying) → Bool
+gives_writing call = given (codes "zero") call || given (codes "tag") call || given (codes "untagged") call
 
-abbrev pub gives_checking : List (List ℕ) → Bool
-gives_checking words = given None (codes "status") words || given None (codes "strict") words || given None (codes "ignore-missing") words
-    || given (Some 119) (codes "warn") words
+abbrev pub gives_checking : (call : List Saying) → Bool
+gives_checking call = given (codes "status") call || given (codes "strict") call || given (codes "ignore-missing") call
+    || given (codes "warn") call
 
 -- what is to be done by a hash
-abbrev pub work_of : List (List ℕ) → Kind → Result Task (Wrong Misuse)
-work_of words kind = if given (Some 99) (codes "check") words then (if gives_writing words then Err (Own misuse.NotWithCheck) else Ok
-    (task.Check (checking_of words kind))) else
-    (if gives_checking words then Err (Own misuse.OnlyWithCheck) else Ok (task.Sum (summing_of words kind)))
+abbrev pub work_of : (call : List Saying) → Kind → Result Task (Wrong Misuse)
+work_of call kind = if given (codes "check") call then (if gives_writing call then Err (Own misuse.NotWithCheck) else Ok
+    (task.Check (checking_of call kind))) else
+    (if gives_checking call then Err (Own misuse.OnlyWithCheck) else Ok (task.Sum (summing_of call kind)))
 
--- the same, where there is such a hash
-abbrev pub work_by : List (List ℕ) → Option Kind → Result Task (Wrong Misuse)
-work_by words None = Err UnknownName
-work_by words (Some kind) = work_of words kind
+-- the same, if there is such a hash
+abbrev pub work_by : (call : List Saying) → Option Kind → Result Task (Wrong Misuse)
+work_by call None = Err UnknownName
+work_by call (Some kind) = work_of call kind
 
--- which work the words of a call ask for, by a hash of that name
-abbrev pub task_of : List Kind → (words : List (List ℕ)) (name : Option (List ℕ)) (lacks_name : Bool) → Result Task (Wrong Misuse)
-task_of kinds words name lacks_name = if lacks_name then Err (Own misuse.NoName) else work_by words (kind_of kinds name)
+-- which work a call asks for
+abbrev pub task_of : List Kind → (call : List Saying) → Result Task (Wrong Misuse)
+task_of kinds call = work_by call (kind_of kinds (value_of (codes "algorithm") call))
 
 -- the files of a call: its operands, or standard input
 abbrev pub files_or : (names : List (List ℕ)) → List (List ℕ)
@@ -105,15 +104,14 @@ EndsTask kinds opens files written written' (Ok (task.Check checking)) result =
     (ended : Result Bool (Fault Nothing)) × EndsLists kinds checking opens files written written' ended × (result ≡ of_run ended)
 EndsTask kinds opens files written written' (Err wrong) result = (result ≡ Usage wrong) × Keeps written written'
 
--- how the program ends that was called by these words, and this name behind the last -a
-abbrev pub EndsCall : List Kind → Opens → (words : List (List ℕ)) (name : Option (List ℕ)) (lacks_name : Bool) (texts : Text → List ℕ)
-    (written written' : Option (List ℕ)) → Outcome Misuse Nothing → Type 0
-EndsCall kinds opens words name lacks_name texts written written' =
-    EndsRequest (request_of letters names words) texts
-    (EndsTask kinds opens (files_or (operands words)) written written' (task_of kinds words name lacks_name)) (Unit {0}) written written'
+-- how the program ends whose call says this
+abbrev pub EndsCall : List Kind → Opens → (call : List Saying) (texts : Text → List ℕ) (written written' : Option (List ℕ))
+    → Outcome Misuse Nothing → Type 0
+EndsCall kinds opens call texts written written' =
+    EndsRequest (request_of call) texts (EndsTask kinds opens (files_or (operands call)) written written' (task_of kinds call))
+    (Unit {0}) written written'
 
 -- what it says on standard error of what else is wrong with a call
 abbrev pub words_of : Misuse → List ℕ
-words_of misuse.NoName = codes "-a wants the name of a hash"
 words_of misuse.NotWithCheck = codes "-z, --tag and --untagged do not go with -c"
 words_of misuse.OnlyWithCheck = codes "--status, --strict, --ignore-missing and -w go with -c alone"

@@ -6,17 +6,17 @@ ghost use Rattle.std.specs.Io.Buffered.{writer_contents};
 ghost use Rattle.std.specs.Io.KnownBytes.{Keeps};
 ghost use Rattle.hash_program.specs.declared.fault.Fault.TheVariants.{NoMemory};
 ghost use Rattle.hash_program.specs.declared.outcome.Outcome.TheVariants.{Failed};
-ghost use Rattle.hash_program.specs.Call.{operands, texts};
+ghost use Rattle.hash_program.specs.Call.{call_of, choices, operands, sayings, texts};
 ghost use Rattle.hash_program.specs.Frame.{text_of};
-ghost use Rattle.hashsum.specs.Program.{checking_of, files_or, gives_writing, is_named, kind_of, of_run, summing_of, task_of, words_of, work_of, EndsCall, EndsTask};
+ghost use Rattle.hashsum.specs.Program.{checking_of, files_or, gives_writing, is_named, kind_of, of_run, options, summing_of, task_of, words_of, work_of, EndsCall, EndsTask};
 
 use crate::check::{Checking, check_lists};
 use crate::fault::Fault;
 use crate::folder::Folder;
 use crate::sum::{Summing, sum_files};
 use hash_lines::line::{Form, Kind};
-use hash_program::call::{is_given, operands};
-use hash_program::frame::{About, Options, Request, request_of, text_of};
+use hash_program::call::{Call, Opt, flag, taking};
+use hash_program::frame::{About, Request, request_of, text_of};
 use hash_program::outcome;
 use hash_program::outcome::{Nothing, Words, of_telling};
 use hash_program::streams::put_out;
@@ -35,8 +35,6 @@ pub enum Task {
 /// What else is wrong with a call.
 #[derive(Clone, Copy, Debug, Drop)]
 pub enum Misuse {
-    /// It names no hash behind `-a`.
-    NoName,
     /// It gives, beside `-c`, an option on how lines are written.
     NotWithCheck,
     /// It gives, without `-c`, an option on how lines are checked.
@@ -48,7 +46,6 @@ impl Words for Misuse {
 
     fn words(&self) -> &'static str {
         match self {
-            Misuse::NoName => "-a wants the name of a hash",
             Misuse::NotWithCheck => "-z, --tag and --untagged do not go with -c",
             Misuse::OnlyWithCheck => "--status, --strict, --ignore-missing and -w go with -c alone",
         }
@@ -61,37 +58,35 @@ pub type Wrong = outcome::Wrong<Misuse>;
 /// What came of a call.
 pub type Outcome = outcome::Outcome<Misuse, Nothing>;
 
-/// The words of a call without the name of a hash, and that name.
-#[derive(Clone, Copy)]
-pub struct Call<'a> {
-    /// The other words.
-    pub words: &'a [Vec<u8>],
-    /// The name that was given last, if one was.
-    pub name: Option<&'a [u8]>,
-    /// Whether no name stands behind the last `-a`.
-    pub lacks_name: bool,
+/// The options.
+fn options() -> [Opt; 15]
+    ensures { choices result ≡ options }
+{
+    [
+        taking(Some(b'a'), b"algorithm"),
+        flag(Some(b'c'), b"check"),
+        flag(None, b"tag"),
+        flag(None, b"untagged"),
+        flag(Some(b'z'), b"zero"),
+        flag(None, b"quiet"),
+        flag(None, b"status"),
+        flag(None, b"strict"),
+        flag(None, b"ignore-missing"),
+        flag(Some(b'w'), b"warn"),
+        flag(Some(b'b'), b"binary"),
+        flag(Some(b't'), b"text"),
+        flag(None, b"list"),
+        flag(None, b"help"),
+        flag(None, b"version"),
+    ]
 }
 
-/// The options, but for the one that names a hash.
-pub const OPTIONS: Options<'static> = Options {
-    letters: b"cwzbt",
-    names: &[
-        b"check",
-        b"tag",
-        b"untagged",
-        b"zero",
-        b"quiet",
-        b"status",
-        b"strict",
-        b"ignore-missing",
-        b"warn",
-        b"binary",
-        b"text",
-        b"list",
-        b"help",
-        b"version",
-    ],
-};
+/// What the words behind the program's own name say.
+pub fn call_of<'a>(alloc: Global, words: &'a [Vec<u8>]) -> Result<Call<'a>, AllocError>
+    ensures { IfOk result (λ call. sayings call.said.items ≡ call_of options (texts words.now)) }
+{
+    hash_program::call::call_of(alloc, &options(), words)
+}
 
 /// Whether a name is this one, in letters of either case.
 fn is_named(word: &[u8], name: &[u8]) -> bool
@@ -126,50 +121,48 @@ fn kind_of<'k>(kinds: &[Kind<'k>], name: Option<&[u8]>) -> Option<Kind<'k>>
 }
 
 /// How lines are checked.
-fn checking_of(words: &[Vec<u8>], kind: Kind<'static>) -> Checking<'static>
-    ensures { result ≡ checking_of (texts words.now) kind.entry }
+fn checking_of(call: &Call<'_>, kind: Kind<'static>) -> Checking<'static>
+    ensures { result ≡ checking_of (sayings call.now.said.items) kind.entry }
 {
     Checking {
         kind,
-        quiet: is_given(words, None, b"quiet"),
-        status: is_given(words, None, b"status"),
-        strict: is_given(words, None, b"strict"),
-        ignore_missing: is_given(words, None, b"ignore-missing"),
-        warn: is_given(words, Some(b'w'), b"warn"),
+        quiet: call.gives(b"quiet"),
+        status: call.gives(b"status"),
+        strict: call.gives(b"strict"),
+        ignore_missing: call.gives(b"ignore-missing"),
+        warn: call.gives(b"warn"),
     }
 }
 
 /// How files are summed.
-fn summing_of(words: &[Vec<u8>], kind: Kind<'static>) -> Summing
-    ensures { result ≡ summing_of (texts words.now) kind.entry }
+fn summing_of(call: &Call<'_>, kind: Kind<'static>) -> Summing
+    ensures { result ≡ summing_of (sayings call.now.said.items) kind.entry }
 {
     Summing {
         kind,
-        form: if is_given(words, None, b"untagged") {
+        form: if call.gives(b"untagged") {
             Form::Untagged
         } else {
             Form::Tagged
         },
-        zero: is_given(words, Some(b'z'), b"zero"),
+        zero: call.gives(b"zero"),
     }
 }
 
 /// Whether the words give an option on how lines are written.
-fn gives_writing(words: &[Vec<u8>]) -> bool
-    ensures { result ≡ gives_writing (texts words.now) }
+fn gives_writing(call: &Call<'_>) -> bool
+    ensures { result ≡ gives_writing (sayings call.now.said.items) }
 {
-    is_given(words, Some(b'z'), b"zero")
-        || is_given(words, None, b"tag")
-        || is_given(words, None, b"untagged")
+    call.gives(b"zero") || call.gives(b"tag") || call.gives(b"untagged")
 }
 
 /// What is to be done by a hash of this kind.
-fn work_of(words: &[Vec<u8>], kind: Kind<'static>) -> Result<Task, Wrong>
-    ensures { result ≡ work_of (texts words.now) kind.entry }
+fn work_of(call: &Call<'_>, kind: Kind<'static>) -> Result<Task, Wrong>
+    ensures { result ≡ work_of (sayings call.now.said.items) kind.entry }
 {
-    let checking = checking_of(words, kind);
-    if is_given(words, Some(b'c'), b"check") {
-        return if gives_writing(words) {
+    let checking = checking_of(call, kind);
+    if call.gives(b"check") {
+        return if gives_writing(call) {
             Err(Wrong::Own(Misuse::NotWithCheck))
         } else {
             Ok(Task::Check(checking))
@@ -178,19 +171,15 @@ fn work_of(words: &[Vec<u8>], kind: Kind<'static>) -> Result<Task, Wrong>
     if checking.status || checking.strict || checking.ignore_missing || checking.warn {
         return Err(Wrong::Own(Misuse::OnlyWithCheck));
     }
-    Ok(Task::Sum(summing_of(words, kind)))
+    Ok(Task::Sum(summing_of(call, kind)))
 }
 
-/// Which work the words behind the program's own name ask for.
-pub fn task_of(kinds: &[Kind<'static>], call: Call<'_>) -> Result<Task, Wrong>
-    ensures { result ≡ task_of kinds.now (texts call.entry.words.now) (option_map (λ name. name.now) call.entry.name)
-        call.entry.lacks_name }
+/// Which work a call asks for.
+fn task_of(kinds: &[Kind<'static>], call: &Call<'_>) -> Result<Task, Wrong>
+    ensures { result ≡ task_of kinds.now (sayings call.now.said.items) }
 {
-    if call.lacks_name {
-        return Err(Wrong::Own(Misuse::NoName));
-    }
-    match kind_of(kinds, call.name) {
-        Some(kind) => work_of(call.words, kind),
+    match kind_of(kinds, call.value(b"algorithm")) {
+        Some(kind) => work_of(call, kind),
         None => Err(Wrong::UnknownName),
     }
 }
@@ -210,10 +199,10 @@ fn of_run(well: Result<bool, Fault>) -> Outcome
 const STANDARD: &[u8] = b"-";
 
 /// The files of a call: its operands, or standard input.
-fn files<'a>(alloc: Global, words: &'a [Vec<u8>]) -> Result<Vec<&'a [u8]>, AllocError>
-    ensures { IfOk result (λ files. map (λ file. file.now) files.items ≡ files_or (operands (texts words.now))) }
+fn files<'a>(alloc: Global, call: &Call<'a>) -> Result<Vec<&'a [u8]>, AllocError>
+    ensures { IfOk result (λ files. map (λ file. file.now) files.items ≡ files_or (operands (sayings call.now.said.items))) }
 {
-    let mut files = operands(alloc, words)?;
+    let mut files = call.operands(alloc)?;
     if files.is_empty() {
         files.push(STANDARD)?;
     }
@@ -239,25 +228,25 @@ fn ended<R: Read + Drop, F: Folder<R>, W: Write + Drop>(
     }
 }
 
-/// Does what the call asks for, by hashes of these kinds. Where the call is wrong, or there is no memory for its words, nothing is
+/// Does what the call asks for, by hashes of these kinds. If the call is wrong, or there is no memory for its files, nothing is
 /// read or written.
 pub fn outcome_of<R: Read + Drop, F: Folder<R>, W: Write + Drop>(
     alloc: Global,
     folder: &F,
     kinds: &[Kind<'static>],
-    call: Call<'_>,
+    call: &Call<'_>,
     about: About<'_>,
     w: &mut BufWriter<W>,
 ) -> Outcome
-    ensures { EndsCall kinds.now (F.opens folder.now) (texts call.entry.words.now) (option_map (λ name. name.now) call.entry.name)
-        call.entry.lacks_name (text_of about.entry.help.now about.entry.version.now about.entry.list.now)
+    ensures { EndsCall kinds.now (F.opens folder.now) (sayings call.now.said.items)
+        (text_of about.entry.help.now about.entry.version.now about.entry.list.now)
         (writer_contents W.contents w.old) (writer_contents W.contents w.new) result
         ⊎ ((result ≡ Failed NoMemory) × Keeps (writer_contents W.contents w.old) (writer_contents W.contents w.new)) }
 {
-    match request_of(&OPTIONS, call.words) {
-        Request::UnknownOption => Outcome::Usage(Wrong::UnknownOption),
+    match request_of(call) {
+        Request::Misgiven(misgiven) => Outcome::Usage(Wrong::Option(misgiven)),
         Request::Text(text) => of_telling(put_out(w, text_of(&about, text))),
-        Request::Work => match files(alloc, call.words) {
+        Request::Work => match files(alloc, call) {
             Ok(files) => ended(alloc, folder, kinds, &files, task_of(kinds, call), w),
             Err(_) => Outcome::Failed(Fault::NoMemory),
         },

@@ -1,12 +1,11 @@
 //! Tests of the program over files in memory.
 use crate::check::Counts;
 use crate::folder::Folder;
-use crate::outcome::{Call, outcome_of};
+use crate::outcome::{call_of, outcome_of};
 use crate::sums::kinds;
 use hash_names::table::KINDS;
 use hash_program::frame::About;
 use hash_program::outcome::{failure_of, status_of};
-use hash_program::valued::{Valued, take_value};
 use std::alloc::{AllocError, Global};
 use std::io;
 use std::io::{BufWriter, Error, ErrorKind, Read, Write};
@@ -102,7 +101,7 @@ impl Write for Paper {
 }
 
 /// The words of a call.
-fn call_of(alloc: Global, words: &[&str]) -> Result<Valued, AllocError> {
+fn texts_of(alloc: Global, words: &[&str]) -> Result<Vec<Vec<u8>>, AllocError> {
     let mut all = Vec::new(alloc);
     for word in words {
         match all.push(Vec::from_slice(alloc, word.as_bytes())?) {
@@ -110,7 +109,7 @@ fn call_of(alloc: Global, words: &[&str]) -> Result<Valued, AllocError> {
             Err(_) => return Err(AllocError),
         }
     }
-    take_value(alloc, &all, b'a', b"algorithm")
+    Ok(all)
 }
 
 /// What became of a call: its status, what failed, and what was written.
@@ -120,23 +119,19 @@ fn run(
     files: &[File<'_>],
     room: usize,
 ) -> io::Result<(u8, &'static str, Vec<u8>)> {
-    let valued = call_of(alloc, words)?;
+    let words = texts_of(alloc, words)?;
+    let call = call_of(alloc, &words)?;
     let mut paper = Paper {
         text: Vec::new(alloc),
         room,
     };
     let mut output = BufWriter::with_capacity(alloc, 16, &mut paper)?;
-    let call = Call {
-        words: &valued.words,
-        name: valued.value.as_deref(),
-        lacks_name: valued.lacks,
-    };
     let about = About {
         help: "help\n",
         version: "version\n",
         list: "list\n",
     };
-    let outcome = outcome_of(alloc, &Shelf { files }, &kinds(), call, about, &mut output);
+    let outcome = outcome_of(alloc, &Shelf { files }, &kinds(), &call, about, &mut output);
     drop(output);
     Ok((status_of(&outcome), failure_of(&outcome), paper.text))
 }

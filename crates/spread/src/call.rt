@@ -1,33 +1,16 @@
 //! What the program is asked for, and how it ends.
-ghost use Rattle.std.specs.Prelude.{◌≡◌, None, true, IsSome, OnErr, OnOk};
-ghost use Rattle.hash_program.specs.Call.{texts};
-ghost use Rattle.spread.specs.Call.{wants_zeros, words_of};
+ghost use Rattle.std.specs.Prelude.{◌≡◌, None, true, IfOk, IsSome, OnErr, OnOk};
+ghost use Rattle.hash_program.specs.Call.{call_of, choices, sayings, texts};
+ghost use Rattle.spread.specs.Call.{options, wants_zeros, width_of, words_of};
 
 use crate::fault::NoTable;
 use crate::keys::Layout;
 use hash_names::table::{KINDS, Kind, kind_named};
-use hash_program::call::{is_given, operands};
-use hash_program::frame::Options;
+use hash_program::call::{Call, Opt, flag, taking};
 use hash_program::outcome;
 use hash_program::outcome::Words;
-use hash_program::valued::take_value;
 use std::alloc::{AllocError, Global};
 use std::num::NonZeroUsize;
-
-/// The words of a call, without the options that have a value, and those values.
-#[derive(Drop)]
-pub struct Call {
-    /// The other words.
-    pub words: Vec<Vec<u8>>,
-    /// The number of buckets that was given last.
-    pub buckets: Option<Vec<u8>>,
-    /// The number of bytes of a key that was given last.
-    pub width: Option<Vec<u8>>,
-    /// The name of the picture's file that was given last.
-    pub plot: Option<Vec<u8>>,
-    /// Whether the last word is an option that wants a value.
-    pub lacks: bool,
-}
 
 /// How the table is to be made.
 #[derive(Clone, Copy)]
@@ -43,8 +26,6 @@ pub struct Settings {
 /// What only this program finds wrong with a call.
 #[derive(Clone, Copy, Debug, Drop)]
 pub enum Misuse {
-    /// It gives no value behind an option that wants one.
-    NoValue,
     /// It gives a number of buckets or bytes that is none from 1 on.
     NoNumber,
     /// It says that keys have a fixed width, and that zero bytes end them.
@@ -62,38 +43,34 @@ impl Words for Misuse {
 
     fn words(&self) -> &'static str {
         match self {
-            Misuse::NoValue => "-b and -w want a number, and --plot a file",
-            Misuse::NoNumber => "-b and -w want a number from 1 on",
+            Misuse::NoNumber => "invalid number",
             Misuse::TwoLayouts => "-z does not go with -w",
         }
     }
 }
 
-/// Takes the options with a value out of the words behind the program's own name. `--plot` has no letter: no word has a zero byte.
-pub fn call_of(alloc: Global, words: &[Vec<u8>]) -> Result<Call, AllocError> {
-    let buckets = take_value(alloc, words, b'b', b"buckets")?;
-    let width = take_value(alloc, &buckets.words, b'w', b"width")?;
-    let plot = take_value(alloc, &width.words, 0, b"plot")?;
-    Ok(Call {
-        words: plot.words,
-        buckets: buckets.value,
-        width: width.value,
-        plot: plot.value,
-        lacks: buckets.lacks || width.lacks || plot.lacks,
-    })
+/// The options.
+fn options() -> [Opt; 8]
+    ensures { choices result ≡ options }
+{
+    [
+        taking(Some(b'b'), b"buckets"),
+        taking(Some(b'w'), b"width"),
+        flag(Some(b'z'), b"zero-terminated"),
+        flag(None, b"no-times"),
+        taking(None, b"plot"),
+        flag(None, b"list"),
+        flag(None, b"help"),
+        flag(None, b"version"),
+    ]
 }
 
-/// The options, but for those with a value.
-pub const OPTIONS: Options<'static> = Options {
-    letters: b"z",
-    names: &[
-        b"zero-terminated",
-        b"no-times",
-        b"list",
-        b"help",
-        b"version",
-    ],
-};
+/// What the words behind the program's own name say.
+pub fn call_of<'a>(alloc: Global, words: &'a [Vec<u8>]) -> Result<Call<'a>, AllocError>
+    ensures { IfOk result (λ call. sayings call.said.items ≡ call_of options (texts words.now)) }
+{
+    hash_program::call::call_of(alloc, &options(), words)
+}
 
 /// The number from 1 on that the digits tell.
 fn number_of(digits: &[u8]) -> Option<NonZeroUsize> {
@@ -105,9 +82,9 @@ fn number_of(digits: &[u8]) -> Option<NonZeroUsize> {
 }
 
 /// The first value that has to be a number from 1 on, and is none.
-pub fn no_number(call: &Call) -> Option<&[u8]> {
-    for value in [&call.buckets, &call.width] {
-        let digits = value.as_deref().unwrap_or(b"1");
+pub fn no_number<'a>(call: &Call<'a>) -> Option<&'a [u8]> {
+    for name in [b"buckets".as_slice(), b"width".as_slice()] {
+        let digits = call.value(name).unwrap_or(b"1");
         if number_of(digits).is_none() {
             return Some(digits);
         }
@@ -115,16 +92,17 @@ pub fn no_number(call: &Call) -> Option<&[u8]> {
     None
 }
 
-/// How the keys lie in the input: with a fixed width, or with an end, which is a newline where nothing is said.
-fn layout_of(call: &Call) -> Result<Layout, Wrong>
-    ensures ok { OnOk result (wants_zeros (texts call.now.words.items) ≡ true → call.now.width ≡ None) }
-    ensures err { OnErr result ((wants_zeros (texts call.now.words.items) ≡ true) × IsSome call.now.width) }
+/// How the keys lie in the input: with a fixed width, or with an end, which is a newline if nothing is said.
+fn layout_of(call: &Call<'_>) -> Result<Layout, Wrong>
+    ensures ok { OnOk result (wants_zeros (sayings call.now.said.items) ≡ true → width_of (sayings call.now.said.items) ≡ None) }
+    ensures err { OnErr result ((wants_zeros (sayings call.now.said.items) ≡ true) × IsSome (width_of (sayings call.now.said.items))) }
 {
-    let zeros = is_given(&call.words, Some(b'z'), b"zero-terminated");
-    if zeros && call.width.is_some() {
+    let zeros = call.gives(b"zero-terminated");
+    let width = call.value(b"width");
+    if zeros && width.is_some() {
         return Err(Wrong::Own(Misuse::TwoLayouts));
     }
-    match call.width.as_deref().and_then(number_of) {
+    match width.and_then(number_of) {
         Some(width) => Ok(Layout::Fixed(width)),
         None if zeros => Ok(Layout::Lines(0)),
         None => Ok(Layout::Lines(b'\n')),
@@ -132,24 +110,21 @@ fn layout_of(call: &Call) -> Result<Layout, Wrong>
 }
 
 /// How the call wants the table.
-pub fn settings_of(call: &Call) -> Result<Settings, Wrong> {
-    if call.lacks {
-        return Err(Wrong::Own(Misuse::NoValue));
-    }
+pub fn settings_of(call: &Call<'_>) -> Result<Settings, Wrong> {
     if no_number(call).is_some() {
         return Err(Wrong::Own(Misuse::NoNumber));
     }
-    let buckets = call.buckets.as_deref().and_then(number_of);
+    let buckets = call.value(b"buckets").and_then(number_of);
     Ok(Settings {
         buckets: buckets.map(|number| number.get() as u64),
         layout: layout_of(call)?,
-        times: !is_given(&call.words, None, b"no-times"),
+        times: !call.gives(b"no-times"),
     })
 }
 
 /// The first operand that no hash has as its name.
-pub fn unknown_name(alloc: Global, words: &[Vec<u8>]) -> Result<Option<&[u8]>, AllocError> {
-    for name in operands(alloc, words)? {
+pub fn unknown_name<'a>(alloc: Global, call: &Call<'a>) -> Result<Option<&'a [u8]>, AllocError> {
+    for name in call.operands(alloc)? {
         if kind_named(name).is_none() {
             return Ok(Some(name));
         }
@@ -175,9 +150,9 @@ fn is_usual(kind: Kind) -> bool {
 }
 
 /// The hashes that the operands name, in their order; the usual ones where there is none. An unknown name has none.
-pub fn kinds_of(alloc: Global, words: &[Vec<u8>]) -> Result<Vec<Kind>, AllocError> {
+pub fn kinds_of(alloc: Global, call: &Call<'_>) -> Result<Vec<Kind>, AllocError> {
     let mut chosen = Vec::new(alloc);
-    let names = operands(alloc, words)?;
+    let names = call.operands(alloc)?;
     for name in &names {
         if let Some(kind) = kind_named(name) {
             chosen.push(kind)?;

@@ -26,7 +26,7 @@ impl Words for NoTable {
 
     fn words(&self) -> &'static str {
         match self {
-            NoTable::Undrawn(_) => "the picture was not written",
+            NoTable::Undrawn(_) => "cannot write",
             NoTable::TooManyKeys => "too many different keys",
             NoTable::NoKeys => "there are no keys",
             NoTable::ShortKey => "the input ends within a key",

@@ -17,12 +17,11 @@ mod table;
 #[cfg(test)]
 mod tests;
 
-use call::{
-    Call, Misuse, OPTIONS, Outcome, Wrong, call_of, kinds_of, no_number, settings_of, unknown_name,
-};
+use call::{Misuse, Outcome, Wrong, call_of, kinds_of, no_number, settings_of, unknown_name};
 use fault::{Fault, NoTable};
 use hash_names::table::KINDS;
-use hash_program::frame::{About, Request, ended, request_of, text_of, unknown_option};
+use hash_program::call::Call;
+use hash_program::frame::{About, Request, ended, request_of, text_of, wrong_word};
 use hash_program::outcome::of_telling;
 use hash_program::streams::put_out;
 use hash_program::words::words;
@@ -99,27 +98,30 @@ fn list(alloc: Global) -> Result<String, AllocError> {
     Ok(list)
 }
 
+/// How the program ends if there is no memory for its call.
+const NO_MEMORY: Outcome = Outcome::Failed(Fault::NoMemory);
+
 /// Writes the table that the call asks for.
-fn worked(rt: &HostRuntime, call: &Call, w: &mut BufWriter<Stdout>) -> Result<Outcome, Fault> {
+fn worked(rt: &HostRuntime, call: &Call<'_>, w: &mut BufWriter<Stdout>) -> Result<Outcome, Fault> {
     let settings = match settings_of(call) {
         Ok(settings) => settings,
         Err(wrong) => return Ok(Outcome::Usage(wrong)),
     };
-    if unknown_name(rt.alloc(), &call.words)?.is_some() {
+    if unknown_name(rt.alloc(), call)?.is_some() {
         return Ok(Outcome::Usage(Wrong::UnknownName));
     }
-    let kinds = kinds_of(rt.alloc(), &call.words)?;
-    Ok(of_telling(tell_table(rt, &settings, &kinds, call.plot.as_deref(), w)))
+    let kinds = kinds_of(rt.alloc(), call)?;
+    Ok(of_telling(tell_table(rt, &settings, &kinds, call.value(b"plot"), w)))
 }
 
 /// What came of the call.
-fn called(rt: &HostRuntime, call: &Call) -> Result<Outcome, Fault> {
+fn called(rt: &HostRuntime, call: &Call<'_>) -> Result<Outcome, Fault> {
     let alloc = rt.alloc();
     let Ok(mut w) = BufWriter::with_capacity(alloc, BUFFER, rt.stdout()) else {
         return Err(Fault::NoMemory);
     };
-    match request_of(&OPTIONS, &call.words) {
-        Request::UnknownOption => Ok(Outcome::Usage(Wrong::UnknownOption)),
+    match request_of(call) {
+        Request::Misgiven(misgiven) => Ok(Outcome::Usage(Wrong::Option(misgiven))),
         Request::Text(text) => {
             let (help, list) = (help(alloc)?, list(alloc)?);
             let about = About {
@@ -134,35 +136,27 @@ fn called(rt: &HostRuntime, call: &Call) -> Result<Outcome, Fault> {
 }
 
 /// The word that is wrong, or the file that is not drawn, if one is.
-fn wrong_word<'a>(
-    alloc: Global,
-    call: &'a Call,
-    outcome: &Outcome,
-) -> Result<Option<&'a [u8]>, AllocError> {
+fn word<'a>(alloc: Global, call: &Call<'a>, outcome: &Outcome) -> Option<&'a [u8]> {
     match outcome {
-        Outcome::Usage(Wrong::UnknownOption) => Ok(unknown_option(&OPTIONS, &call.words)),
-        Outcome::Usage(Wrong::UnknownName) => unknown_name(alloc, &call.words),
-        Outcome::Usage(Wrong::Own(Misuse::NoNumber)) => Ok(no_number(call)),
-        Outcome::Failed(Fault::Own(NoTable::Undrawn(_))) => Ok(call.plot.as_deref()),
-        _ => Ok(None),
+        Outcome::Usage(Wrong::UnknownName) => unknown_name(alloc, call).unwrap_or(None),
+        Outcome::Usage(Wrong::Own(Misuse::NoNumber)) => no_number(call),
+        Outcome::Failed(Fault::Own(NoTable::Undrawn(_))) => call.value(b"plot"),
+        _ => wrong_word(call),
     }
 }
 
-/// The call of the words behind the program's own name.
-fn call_words(rt: &HostRuntime) -> Result<Call, Fault> {
-    Ok(call_of(rt.alloc(), &words(rt)?)?)
-}
-
-/// The status of the call.
-fn status(rt: &HostRuntime) -> u8 {
-    let Ok(call) = call_words(rt) else {
-        return ended(rt, NAME, &Outcome::Failed(Fault::NoMemory), None);
+/// The status of the program that was called by these words.
+fn status(rt: &HostRuntime, words: &[Vec<u8>]) -> u8 {
+    let Ok(call) = call_of(rt.alloc(), words) else {
+        return ended(rt, NAME, &NO_MEMORY, None);
     };
-    let outcome = called(rt, &call).unwrap_or(Outcome::Failed(Fault::NoMemory));
-    let word = wrong_word(rt.alloc(), &call, &outcome).unwrap_or(None);
-    ended(rt, NAME, &outcome, word)
+    let outcome = called(rt, &call).unwrap_or(NO_MEMORY);
+    ended(rt, NAME, &outcome, word(rt.alloc(), &call, &outcome))
 }
 
 fn main(rt: HostRuntime) -> ExitCode {
-    ExitCode::from(status(&rt))
+    match words(&rt) {
+        Ok(words) => ExitCode::from(status(&rt, &words)),
+        Err(_) => ExitCode::from(ended(&rt, NAME, &NO_MEMORY, None)),
+    }
 }

@@ -1,5 +1,5 @@
 //! Tests of the numbers over keys in memory.
-use crate::call::{Call, OPTIONS, call_of, kinds_of, settings_of, unknown_name};
+use crate::call::{call_of, kinds_of, settings_of, unknown_name};
 use crate::chance::{Chance, equal_pairs};
 use crate::counts::{Counts, Spread, collisions, spread_of};
 use crate::fault::{Fault, NoTable};
@@ -247,8 +247,8 @@ fn numbers_by_chance(rt: HostRuntime) {
     );
 }
 
-/// The call of these words.
-fn call(alloc: Global, words: &[&str]) -> Result<Call, AllocError> {
+/// The words of a call.
+fn texts_of(alloc: Global, words: &[&str]) -> Result<Vec<Vec<u8>>, AllocError> {
     let mut all = Vec::new(alloc);
     for word in words {
         match all.push(Vec::from_slice(alloc, word.as_bytes())?) {
@@ -256,13 +256,14 @@ fn call(alloc: Global, words: &[&str]) -> Result<Call, AllocError> {
             Err(_) => return Err(AllocError),
         }
     }
-    call_of(alloc, &all)
+    Ok(all)
 }
 
 /// What the words ask for: the number of buckets, how the keys lie, and whether times are measured.
 fn asked(alloc: Global, words: &[&str]) -> Option<(Option<u64>, Layout, bool)> {
-    let call = call(alloc, words).ok()?;
-    match (request_of(&OPTIONS, &call.words), settings_of(&call)) {
+    let words = texts_of(alloc, words).ok()?;
+    let call = call_of(alloc, &words).ok()?;
+    match (request_of(&call), settings_of(&call)) {
         (Request::Work, Ok(settings)) => {
             Some((settings.buckets, settings.layout, settings.times))
         }
@@ -272,9 +273,10 @@ fn asked(alloc: Global, words: &[&str]) -> Option<(Option<u64>, Layout, bool)> {
 
 /// How many hashers the words name.
 fn chosen(alloc: Global, words: &[&str]) -> Option<usize> {
-    let call = call(alloc, words).ok()?;
-    match unknown_name(alloc, &call.words) {
-        Ok(None) => Some(kinds_of(alloc, &call.words).ok()?.len()),
+    let words = texts_of(alloc, words).ok()?;
+    let call = call_of(alloc, &words).ok()?;
+    match unknown_name(alloc, &call) {
+        Ok(None) => Some(kinds_of(alloc, &call).ok()?.len()),
         _ => None,
     }
 }
