@@ -5,24 +5,13 @@ use Rattle.std.proofs.lemmas.Bool.{eqb-true}
 use Rattle.std.proofs.lemmas.Nat.{mul-le}
 use Rattle.std.proofs.lemmas.List.Elements.{All-tail, filter_passes}
 use Rattle.std.proofs.lemmas.List.Sums.{length-filter, sum_by-cons}
+use Rattle.hashers.specs.Counts.{meetings}
 use Rattle.hashers.specs.Text.{IsText}
-use Rattle.hash_keyed.specs.Poly61.{prime61, word_count, meetings, AreKeys}
+use Rattle.hashers.proofs.SumLemmas.{sum_by-add, sum_by-same, sum_by-none}
+use Rattle.hash_keyed.specs.Poly61.{prime61, word_count, AreKeys}
 use Rattle.hash_keyed.specs.Poly61State.{poly61, share_place}
 use Rattle.hash_keyed.proofs.Buckets.{few_keys_share_bits}
 use Rattle.hash_keyed.proofs.Collisions.{filtered_keys, pairs, pairs-is}
-
-sum_by-both : {X : Type 0} (f g : X → ℕ) (xs : List X) → sum_by (λ x. f x + g x) xs ≡ sum_by f xs + sum_by g xs
-sum_by-both f g [] = refl
-sum_by-both f g (x ∷ xs) =
-    omega (arith, sum_by-cons (λ x. f x + g x) x xs, sum_by-cons f x xs, sum_by-cons g x xs, sum_by-both f g xs)
-
-sum_by-same : {X : Type 0} (f g : X → ℕ) (xs : List X) → ((x : X) → f x ≡ g x) → sum_by f xs ≡ sum_by g xs
-sum_by-same f g [] same = refl
-sum_by-same f g (x ∷ xs) same = omega (arith, sum_by-cons f x xs, sum_by-cons g x xs, same x, sum_by-same f g xs same)
-
-sum_by-zero : {X : Type 0} (xs : List X) → sum_by (λ (x : X). 0) xs ≡ 0
-sum_by-zero [] = refl
-sum_by-zero (x ∷ xs) = omega (arith, sum_by-cons (λ y. 0) x xs, sum_by-zero xs)
 
 module _ (bits most : ℕ) (within : bits ≤ 61) (keys : List ℕ) (are : AreKeys prime61 keys) where
   bound : ℕ
@@ -46,7 +35,7 @@ module _ (bits most : ℕ) (within : bits ≤ 61) (keys : List ℕ) (are : AreKe
   few_meet_one : (s : List ℕ) (texts : List (List ℕ)) → IsText s → word_count s ≤ most → All IsText texts → All (λ t. s ≢ t) texts
       → All (λ t. word_count t ≤ most) texts
       → sum_by (λ key. count_by (share_place bits key s) texts) keys ≤ length texts * bound
-  few_meet_one s [] s_is s_few are_texts differ few = omega (arith, sum_by-zero keys)
+  few_meet_one s [] s_is s_few are_texts differ few = omega (arith, sum_by-none keys)
   few_meet_one s (t ∷ texts) s_is s_few are_texts differ few =
       omega (
         arith,
@@ -54,15 +43,15 @@ module _ (bits most : ℕ) (within : bits ≤ 61) (keys : List ℕ) (are : AreKe
         few_meet_one s texts s_is s_few (All-tail IsText t texts are_texts) (All-tail (λ u. s ≢ u) t texts differ)
             (All-tail (λ u. word_count u ≤ most) t texts few),
         sum_by-same (λ key. count_by (share_place bits key s) (t ∷ texts))
-            (λ key. cond (share_place bits key s t) 1 0 + count_by (share_place bits key s) texts) keys
-            (λ key. sum_by-cons (λ u. cond (share_place bits key s u) 1 0) t texts),
-        sum_by-both (λ key. cond (share_place bits key s t) 1 0) (λ key. count_by (share_place bits key s) texts) keys,
+            (λ key. cond (share_place bits key s t) 1 0 + count_by (share_place bits key s) texts)
+            (λ key. sum_by-cons (λ u. cond (share_place bits key s u) 1 0) t texts) keys,
+        sum_by-add (λ key. cond (share_place bits key s t) 1 0) (λ key. count_by (share_place bits key s) texts) keys,
       )
 
   few_pairs_of : (texts : List (List ℕ)) → All IsText texts → AllPairs ◌≢◌ texts → All (λ t. word_count t ≤ most) texts
       → sum_by (λ key. meetings (share_place bits key) texts) keys ≤ pairs (length texts) * bound
   unfolding meetings pairs
-  few_pairs_of [] are_texts differ few = omega (arith, sum_by-zero keys)
+  few_pairs_of [] are_texts differ few = omega (arith, sum_by-none keys)
   few_pairs_of (t ∷ texts) are_texts differ few =
       omega (
         arith,
@@ -70,7 +59,7 @@ module _ (bits most : ℕ) (within : bits ≤ 61) (keys : List ℕ) (are : AreKe
             (λ k d h. differ 0 (suc k) d (omega arith) (omega arith)) (All-tail (λ u. word_count u ≤ most) t texts few),
         few_pairs_of texts (All-tail IsText t texts are_texts) (λ i j d i_in j_in. differ (suc i) (suc j) d (omega arith) (omega arith))
             (All-tail (λ u. word_count u ≤ most) t texts few),
-        sum_by-both (λ key. count_by (share_place bits key t) texts) (λ key. meetings (share_place bits key) texts) keys,
+        sum_by-add (λ key. count_by (share_place bits key t) texts) (λ key. meetings (share_place bits key) texts) keys,
       )
 
   pub few_meetings_of : (texts : List (List ℕ)) → All IsText texts → AllPairs ◌≢◌ texts → All (λ t. word_count t ≤ most) texts

@@ -1,5 +1,6 @@
 pub mod ByteLemmas
 pub mod ChangedByte
+pub mod CountLemmas
 pub mod FoldLemmas
 pub mod FrameLemmas
 pub mod ItemLemmas
@@ -7,6 +8,7 @@ pub mod KeyLemmas
 pub mod PairLemmas
 pub mod ReadingLemmas
 pub mod RecurrenceLemmas
+pub mod SumLemmas
 pub mod TextLemmas
 pub mod Windows
 pub mod WindowTest

@@ -2,6 +2,7 @@
 #![tactic(auto)]
 
 pub mod build;
+pub mod counts;
 pub mod engine;
 pub mod traits;
 pub mod window;

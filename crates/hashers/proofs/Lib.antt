@@ -1,6 +1,8 @@
 pub mod ShortWords
 pub mod TextMapLemmas
 pub mod WordsWritten
+pub use Rattle.hash_laws.proofs.CountLemmas
+pub use Rattle.hash_laws.proofs.SumLemmas
 pub use Rattle.hash_laws.proofs.RecurrenceLemmas
 pub use Rattle.hash_laws.proofs.ReadingLemmas
 pub use Rattle.hash_laws.proofs.TextLemmas

@@ -9,6 +9,7 @@ pub use Rattle.hash_bytes.specs.Pigeon
 pub use Rattle.hash_bytes.specs.PigeonLaws
 pub use Rattle.hash_rounds.specs.StepFacts
 pub use Rattle.hash_rounds.specs.Sums
+pub use Rattle.hash_laws.specs.Counts
 pub use Rattle.hash_laws.specs.Text
 pub use Rattle.hash_laws.specs.Reading
 pub use Rattle.hash_laws.specs.Recurrence

@@ -14,6 +14,7 @@ pub use hash_jenkins::two_texts::{
     one_changed_stretch_shows, position_of_joined_texts, same_answers_later,
     zeros_do_not_show_in_version_1,
 };
+pub use hash_laws::counts::{buckets_have_all_hashes, collisions_in_any_order};
 pub use hash_laws::traits::{
     ByteStep, Piecewise, Streamed, Undo, answer_of_pieces, apart_by_one, bucket_of,
     bytes_are_a_text, hash_is_from_the_start, hash_of, joined_texts_are_one,

@@ -6,18 +6,12 @@ use Rattle.std.proofs.lemmas.Bool.{eqb-true, eqb-false, ne_eqb, eq-eqb}
 use Rattle.std.proofs.lemmas.List.{get_or-take, length-take}
 use Rattle.std.proofs.lemmas.List.Sorted.{length_permutation, sum_by-IsPermutation}
 use Rattle.std.proofs.lemmas.List.Sums.{sum_by-cons, sum_by_push}
-use Rattle.spread.specs.Counts.{collisions, times}
-use Rattle.spread.proofs.CountLemmas.{sum_by-add, sum_by-same}
-
-pub eqb_comm : (x y : ℕ) → eqb x y ≡ eqb y x
-eqb_comm x y = at (eqb x y) refl
-  where
-    at : (t : Bool) → eqb x y ≡ t → eqb x y ≡ eqb y x
-    at true is = is ∙ sym (eq-eqb y x (sym (eqb-true x y is)))
-    at false is = is ∙ sym (ne_eqb y x (λ same. eqb-false x y is (sym same)))
+use Rattle.hashers.specs.Counts.{meetings, collisions, times}
+use Rattle.hashers.proofs.CountLemmas.{eqb_comm}
 
 -- a hash more makes a pair with each before it that equals it
 pub collisions_push : (hashes : List ℕ) (hash : ℕ) → collisions (hashes ++ hash ∷ []) ≡ collisions hashes + times hash hashes
+unfolding meetings
 collisions_push [] hash = refl
 collisions_push (first ∷ hashes) hash =
     let rest = collisions_push hashes hash in
@@ -25,41 +19,6 @@ collisions_push (first ∷ hashes) hash =
     let before = sum_by-cons (λ other. cond (eqb other hash) 1 0) first hashes in
     let same = ap {B = ℕ} (λ t. cond t 1 0) (eqb_comm hash first) in
     omega (arith, rest, later, before, same)
-
--- how many of some hashes equal one of others, counted for each of those
-abbrev equals : (hashes others : List ℕ) → ℕ
-equals hashes others = sum_by (λ other. times other hashes) others
-
-equals-cons : (hash : ℕ) (hashes others : List ℕ) → equals (hash ∷ hashes) others ≡ times hash others + equals hashes others
-equals-cons hash hashes others =
-    let split = sum_by-same (λ other. times other (hash ∷ hashes)) (λ other. cond (eqb other hash) 1 0 + times other hashes)
-    (λ other.
-    let here = sum_by-cons (λ x. cond (eqb x other) 1 0) hash hashes in
-    let same = ap {B = ℕ} (λ t. cond t 1 0) (eqb_comm hash other) in
-    omega (arith, here, same)) others in
-    split ∙ sum_by-add (λ other. cond (eqb other hash) 1 0) (λ other. times other hashes) others
-
--- each hash equals itself, and each pair counts twice
-twice_collisions : (hashes : List ℕ) → equals hashes hashes ≡ length hashes + 2 * collisions hashes
-twice_collisions [] = refl
-twice_collisions (hash ∷ hashes) =
-    let first = equals-cons hash hashes (hash ∷ hashes) in
-    let here = sum_by-cons (λ other. cond (eqb other hash) 1 0) hash hashes in
-    let itself = ap {B = ℕ} (λ t. cond t 1 0) (eq-eqb hash hash refl) in
-    let second = sum_by-cons (λ other. times other hashes) hash hashes in
-    let rest = twice_collisions hashes in
-    omega (arith, first, here, itself, second, rest)
-
--- the order does not matter
-pub collisions-IsPermutation : (hashes others : List ℕ) → IsPermutation hashes others → collisions others ≡ collisions hashes
-collisions-IsPermutation hashes others moved =
-    let each = sum_by-same (λ x. times x others) (λ x. times x hashes)
-    (λ x. sum_by-IsPermutation (λ other. cond (eqb other x) 1 0) hashes others moved) others in
-    let all = sum_by-IsPermutation (λ x. times x hashes) hashes others moved in
-    let len = length_permutation hashes others moved in
-    let left = twice_collisions others in
-    let right = twice_collisions hashes in
-    omega (arith, each, all, len, left, right)
 
 -- a test that no element passes
 pub count_by_none : (p : ℕ → Bool) (xs : List ℕ) → ((k : ℕ) → k < length xs → p (get_or xs k 0) ≡ false) → count_by p xs ≡ 0

@@ -7,75 +7,8 @@ use Rattle.std.proofs.lemmas.Bool.{eqb-true, eqb-false, ne_eqb}
 use Rattle.std.proofs.lemmas.List.{get_or-set_same, get_or-set_other}
 use Rattle.std.proofs.lemmas.List.FromFn.{get_or-map-range_with_len, length-map-range_with_len}
 use Rattle.std.proofs.lemmas.List.Sums.{sum_by-cons, sum_by_more_le, sum-map, count_by_more_yes, count_by_more_no}
-use Rattle.spread.specs.Counts.{IsFullest, in_bucket, bucket_counts}
-
--- a sum of sums
-pub sum_by-add : {X : Type 0} (f g : X → ℕ) (xs : List X) → sum_by (λ x. f x + g x) xs ≡ sum_by f xs + sum_by g xs
-sum_by-add f g [] = refl
-sum_by-add f g (x ∷ xs) =
-    let here = sum_by-cons (λ y. f y + g y) x xs in
-    let left = sum_by-cons f x xs in
-    let right = sum_by-cons g x xs in
-    let rest = sum_by-add f g xs in
-    omega (arith, here, left, right, rest)
-
--- equal terms have equal sums
-pub sum_by-same : {X : Type 0} (f g : X → ℕ) → ((x : X) → f x ≡ g x) → (xs : List X) → sum_by f xs ≡ sum_by g xs
-sum_by-same f g same [] = refl
-sum_by-same f g same (x ∷ xs) =
-    let here = sum_by-cons f x xs in
-    let there = sum_by-cons g x xs in
-    let rest = sum_by-same f g same xs in
-    omega (arith, here, there, rest, same x)
-
-sum_by-zero : {X : Type 0} (xs : List X) → sum_by (λ x. 0) xs ≡ 0
-sum_by-zero [] = refl
-sum_by-zero (x ∷ xs) =
-    let here = sum_by-cons (λ y. 0) x xs in
-    let rest = sum_by-zero xs in
-    omega (arith, here, rest)
-
--- a number stands in no range that begins behind it, and once in one that has it
-none_of_range : (r a n : ℕ) → r < a → sum_by (λ b. cond (eqb r b) 1 0) (range_with_len a n) ≡ 0
-none_of_range r a zero below = refl
-none_of_range r a (suc n) below =
-    let here = sum_by-cons (λ b. cond (eqb r b) 1 0) a (range_with_len (a + 1) n) in
-    let other = ap {B = ℕ} (λ t. cond t 1 0) (ne_eqb r a (λ is. omega (arith, is))) in
-    let rest = none_of_range r (a + 1) n (omega arith) in
-    omega (arith, here, other, rest)
-
-one_of_range : (r a n : ℕ) → a ≤ r → r < a + n → sum_by (λ b. cond (eqb r b) 1 0) (range_with_len a n) ≡ 1
-one_of_range r a zero from below = absurd (omega arith)
-one_of_range r a (suc n) from below =
-    at (eqb r a) refl (λ other. one_of_range r (a + 1) n (omega (arith, other)) (omega arith))
-  where
-    at : (t : Bool) → eqb r a ≡ t → ((r ≡ a → ⊥) → sum_by (λ b. cond (eqb r b) 1 0) (range_with_len (a + 1) n) ≡ 1)
-        → sum_by (λ b. cond (eqb r b) 1 0) (range_with_len a (suc n)) ≡ 1
-    at true is later =
-        let same = eqb-true r a is in
-        let here = sum_by-cons (λ b. cond (eqb r b) 1 0) a (range_with_len (a + 1) n) in
-        let counted = ap {B = ℕ} (λ t. cond t 1 0) is in
-        let rest = none_of_range r (a + 1) n (omega arith) in
-        omega (arith, here, counted, rest)
-    at false is later =
-        let here = sum_by-cons (λ b. cond (eqb r b) 1 0) a (range_with_len (a + 1) n) in
-        let counted = ap {B = ℕ} (λ t. cond t 1 0) is in
-        let rest = later (eqb-false r a is) in
-        omega (arith, here, counted, rest)
-
--- all buckets together have each hash once
-all_hashes : (m : ℕ) → 0 < m → (hashes : List ℕ) → sum_by (λ b. in_bucket m b hashes) (range_with_len 0 m) ≡ length hashes
-all_hashes m some [] = sum_by-zero (range_with_len 0 m)
-all_hashes m some (hash ∷ hashes) =
-    let one = one_of_range (hash % m) 0 m (omega arith) (omega arith) in
-    let rest = all_hashes m some hashes in
-    let split = sum_by-same (λ b. in_bucket m b (hash ∷ hashes)) (λ b. cond (eqb (hash % m) b) 1 0 + in_bucket m b hashes)
-    (λ b. sum_by-cons (λ x. cond (eqb (x % m) b) 1 0) hash hashes) (range_with_len 0 m) in
-    let added = sum_by-add (λ b. cond (eqb (hash % m) b) 1 0) (λ b. in_bucket m b hashes) (range_with_len 0 m) in
-    omega (arith, one, rest, split, added)
-
-pub sum-bucket_counts : (m : ℕ) (hashes : List ℕ) → 0 < m → sum (bucket_counts m hashes) ≡ length hashes
-sum-bucket_counts m hashes some = sum-map (λ b. in_bucket m b hashes) (range_with_len 0 m) ∙ all_hashes m some hashes
+use Rattle.hashers.specs.Counts.{in_bucket, bucket_counts}
+use Rattle.spread.specs.Counts.{IsFullest}
 
 -- a hash more is counted in its bucket, and in no other
 pub bucket_more : (m : ℕ) (hashes counts : List ℕ) (i : ℕ) → i < length hashes → length counts ≡ m

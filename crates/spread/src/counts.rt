@@ -3,9 +3,11 @@
 ghost use Rattle.std.specs.Prelude.{◌≡◌, ◌==◌, ◌<◌, ◌≤◌, ◌-◌, ◌*◌, ◌^◌, All, Contains, IfOk, count_by, length, slice_index, sum, sum_by, take};
 ghost use Rattle.std.specs.List.Sorted.{IsNonDecreasing, IsPermutation};
 ghost use Rattle.std.specs.Option.{ForSome};
-ghost use Rattle.spread.specs.Counts.{IsCounts, IsSecond, IsSpread, bucket_counts, collisions, times};
+ghost use Rattle.hashers.specs.Counts.{bucket_counts, collisions, times};
+ghost use Rattle.spread.specs.Counts.{IsCounts, IsSecond, IsSpread};
 
 use crate::sizes::Sizes;
+use hashers::laws::{buckets_have_all_hashes, collisions_in_any_order};
 use std::alloc::{AllocError, Global};
 
 /// How hashes fall into so many buckets.
@@ -79,6 +81,7 @@ pub fn spread_of(alloc: Global, hashes: &[u64], buckets: u64) -> Result<Spread, 
     requires { 0 < buckets }
     ensures { IfOk result (IsSpread buckets hashes.now) }
 {
+    buckets_have_all_hashes();
     let counts = bucket_counts(alloc, hashes, buckets)?;
     Ok(Spread {
         buckets,
@@ -124,6 +127,7 @@ pub fn collisions(hashes: &mut [u64]) -> u128
     ensures value { result ≡ collisions hashes.old }
     ensures kept { IsPermutation hashes.old hashes.new }
 {
+    collisions_in_any_order();
     hashes.sort_unstable();
     collisions_in_order(hashes)
 }

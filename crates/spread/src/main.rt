@@ -8,7 +8,6 @@ mod clock;
 mod counts;
 mod fault;
 mod keys;
-mod laws;
 mod named;
 mod picture;
 mod run;

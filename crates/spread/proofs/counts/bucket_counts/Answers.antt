@@ -4,7 +4,7 @@ use Rattle.std.proofs.Math.ListN.{set}
 use Rattle.std.proofs.lemmas.List.{get_or_read, length-set, length-take, take_all}
 use Rattle.std.proofs.lemmas.List.FromFn.{fill_by_all}
 use Rattle.std.proofs.lemmas.List.Sums.{count_by-le-length}
-use Rattle.spread.specs.Counts.{in_bucket}
+use Rattle.hashers.specs.Counts.{in_bucket}
 use Rattle.spread.proofs.CountLemmas.{bucket_more}
 use Rattle.spread.proofs.counts.bucket_counts.Goals as goal
 

@@ -1,5 +1,5 @@
 use Rattle.std.proofs.Common.{ℕ, ◌≡◌, ◌<◌, get_or, length, take}
-use Rattle.spread.specs.Counts.{in_bucket}
+use Rattle.hashers.specs.Counts.{in_bucket}
 use Rattle.spread.proofs.counts.bucket_counts.Given as goal
 
 -- each bucket has what fell into it so far

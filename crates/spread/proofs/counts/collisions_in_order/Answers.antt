@@ -1,7 +1,7 @@
 use Rattle.std.proofs.Common.{ℕ, ◌≡◌, ◌+◌, ◌-◌, ◌≤◌, eqb, get_or, length, take, ap, ◌∙◌, arith}
 use Rattle.std.proofs.lemmas.List.{length-take, take_more}
 use Rattle.std.proofs.lemmas.List.Sums.{count_by-le-length}
-use Rattle.spread.specs.Counts.{collisions, times}
+use Rattle.hashers.specs.Counts.{collisions, times}
 use Rattle.spread.proofs.CollisionLemmas.{collisions_push}
 use Rattle.spread.proofs.counts.collisions_in_order.Goals as goal
 

@@ -1,5 +1,5 @@
 use Rattle.std.proofs.Common.{◌≡◌, ◌<◌, ◌≤◌, ◌-◌, ◌*◌, ◌^◌, get_or, take}
-use Rattle.spread.specs.Counts.{collisions, times}
+use Rattle.hashers.specs.Counts.{collisions, times}
 use Rattle.spread.proofs.counts.collisions_in_order.Given as goal
 
 -- the pairs so far, and how many before the last hash equal it

@@ -1,13 +1,13 @@
 use Rattle.std.proofs.Common.{◌≡◌, ap, ◌∙◌, arith}
 use Rattle.std.specs.List.{count_by, sum, sum_by}
 use Rattle.std.proofs.Common.{◌*◌, eqb, refl}
-use Rattle.spread.specs.Counts.{bucket_counts}
-use Rattle.spread.proofs.CountLemmas.{fullest_of, sum-bucket_counts}
+use Rattle.hashers.specs.Counts.{bucket_counts}
+use Rattle.spread.proofs.CountLemmas.{fullest_of}
 use Rattle.spread.proofs.counts.spread_of.Goals as goal
 
 pub squares-requires : goal.squares-requires
 squares-requires c =
-    let all = ap sum (c.deref-3.ensures.value ∙ c.in_ok-counts.ensures) ∙ sum-bucket_counts c.args.buckets c.args.hashes.now c.requires in
+    let all = ap sum (c.deref-3.ensures.value ∙ c.in_ok-counts.ensures) ∙ c.buckets_have_all_hashes.ensures c.args.buckets c.args.hashes.now c.requires in
     omega (arith, all)
 
 pub returns : goal.returns
