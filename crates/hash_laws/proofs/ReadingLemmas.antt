@@ -179,15 +179,21 @@ module _ {S : Type 0} (is_state : S → Type 0) (after : S → List ℕ → S)
       ∙ ap (after s) (flat_map-cut n text some)
 
   -- what was read in pieces leads to where it leads as one text
-  pub HashesRead-fed : (n : ℕ) (left left' : Option (List ℕ)) (s s' : S) (bytes : ℕ) → 0 < n → FeedsRead after n left left' s s' bytes
-      → HashesRead is_state after left left' s s' bytes
-  HashesRead-fed n left left' s s' bytes some fed = record {
-    text = fed.text;
-    is_text = fed.is_text;
-    read = fed.read;
-    count = fed.count;
-    hashed = λ known. fed.fed ∙ fold-cut n s fed.text some known fed.is_text;
-  }
+  pub HashesRead-fed : {H : Type 0} (state : H → S) (stands_at : H → List ℕ → List ℕ → Type 0)
+      → ((h k : H) (from text piece : List ℕ) → IsText piece → state k ≡ after (state h) piece → stands_at h from text
+      → stands_at k from (text ++ piece))
+      → (n : ℕ) (left left' : Option (List ℕ)) (h h' : H) (bytes : ℕ) → 0 < n → is_state (state h)
+      → FeedsRead after n left left' (state h) (state h') bytes → HashesRead state after stands_at left left' h h' bytes
+  HashesRead-fed state stands_at stands_after n left left' h h' bytes some known fed =
+      let hashed : state h' ≡ after (state h) fed.text = fed.fed ∙ fold-cut n (state h) fed.text some known fed.is_text in
+      record {
+        text = fed.text;
+        is_text = fed.is_text;
+        read = fed.read;
+        count = fed.count;
+        hashed = hashed;
+        stands = λ from before. stands_after h h' from before fed.text fed.is_text hashed;
+      }
 
   -- the same of what is answered
   pub answer-cut : (answer : S → ℕ) (s : S) → is_state s → (hash : List ℕ → ℕ)

@@ -1,7 +1,7 @@
 //! The hash of what a reader gives, read through one fixed array, however the reader cuts it.
-ghost use Rattle.std.specs.Prelude.{◌≡◌, ◌<◌, ◌≤◌, ◌↔◌, length, take, IfOk, IfErr, OnOk, OnErr, IsTrue, false};
+ghost use Rattle.std.specs.Prelude.{◌≡◌, ◌<◌, ◌≤◌, ◌↔◌, ℕ, List, Some, length, min, take, IfOk, IfErr, OnOk, OnErr, IsTrue, false};
 ghost use Rattle.std.specs.Io.KnownBytes.{Consumes, IsAtEnd};
-ghost use Rattle.hash_laws.specs.Reading.{FeedsRead, FeedsFirst, FeedsAll, HashesRead, HashesFirst, HashesAll};
+ghost use Rattle.hash_laws.specs.Reading.{FeedsRead, FeedsFirst, FeedsAll, HashesRead, HashesFirst, HashesAll, StandsFirst};
 ghost use Rattle.hash_laws.specs.Text.{IsText};
 
 use crate::traits::{Piecewise, Streamed};
@@ -155,7 +155,8 @@ pub fn hash_reader<H: Piecewise, R: Read, const N: usize>(
     })
 }
 
-/// `hash_reader` for a hasher to which cuts don't show: its state is then that after the text that was read, however it came.
+/// `hash_reader` for a hasher to which cuts don't show: its state is then that after the text that was read, however it came,
+/// and it stands behind that text.
 pub fn hash_stream<H: Streamed, R: Read, const N: usize>(
     h: &mut H,
     r: &mut R,
@@ -164,19 +165,30 @@ pub fn hash_stream<H: Streamed, R: Read, const N: usize>(
     requires not_empty { 0 < N }
     requires small { N ≤ 65536 }
 
-    // The state is that after the text that was read, at a fault too.
-    ensures taken { IfOk result (λ taken. HashesRead H.in_range H.after (R.remaining r.old)
-        (R.remaining r.new) (H.state h.old) (H.state h.new) taken.bytes) }
-    ensures fault { IfErr result (λ fault. HashesRead H.in_range H.after (R.remaining r.old)
-        (R.remaining r.new) (H.state h.old) (H.state h.new) fault.bytes) }
+    // The state is that after the text that was read, at a fault too, and the hasher stands behind it.
+    ensures taken { IfOk result (λ taken. HashesRead H.state H.after H.stands_at (R.remaining r.old)
+        (R.remaining r.new) h.old h.new taken.bytes) }
+    ensures fault { IfErr result (λ fault. HashesRead H.state H.after H.stands_at (R.remaining r.old)
+        (R.remaining r.new) h.old h.new fault.bytes) }
 
-    // Where the reader's bytes are known: the first so many of them, and all where the end was seen.
-    ensures first_taken { IfOk result (λ taken. HashesFirst H.in_range H.after (R.remaining r.old)
+    // Where the reader's bytes are known: up to the limit, and the end was seen exactly if they are fewer.
+    ensures up_to_limit { IfOk result (λ taken. HashesFirst H.after (R.remaining r.old)
+        (H.state h.old) (H.state h.new) limit) }
+    ensures stands { IfOk result (λ taken. StandsFirst H.stands_at (R.remaining r.old) h.old h.new limit) }
+    ensures short { IfOk result (λ taken. (text : List ℕ) → R.remaining r.old ≡ Some text
+        → (IsTrue taken.ended ↔ (length text < limit))) }
+    ensures count { IfOk result (λ taken. (text : List ℕ) → R.remaining r.old ≡ Some text
+        → taken.bytes ≡ min limit (length text)) }
+
+    // The first so many of them, at a fault too, and all where the end was seen.
+    ensures first_taken { IfOk result (λ taken. HashesFirst H.after (R.remaining r.old)
         (H.state h.old) (H.state h.new) taken.bytes) }
-    ensures first_fault { IfErr result (λ fault. HashesFirst H.in_range H.after (R.remaining r.old)
+    ensures first_fault { IfErr result (λ fault. HashesFirst H.after (R.remaining r.old)
         (H.state h.old) (H.state h.new) fault.bytes) }
+    ensures stands_fault { IfErr result (λ fault. StandsFirst H.stands_at (R.remaining r.old)
+        h.old h.new fault.bytes) }
     ensures all { IfOk result (λ taken. IsTrue taken.ended
-        → HashesAll H.in_range H.after (R.remaining r.old) (H.state h.old) (H.state h.new)) }
+        → HashesAll H.after (R.remaining r.old) (H.state h.old) (H.state h.new)) }
 
     // As for `hash_reader`.
     ensures within { IfOk result (λ taken. taken.bytes ≤ limit) }
@@ -184,5 +196,6 @@ pub fn hash_stream<H: Streamed, R: Read, const N: usize>(
     ensures nothing_left { IfOk result (λ taken. IsTrue taken.ended → IsAtEnd (R.remaining r.new)) }
     ensures before_limit { IfErr result (λ fault. fault.bytes < limit) }
 {
+    h.state_in_range();
     hash_reader::<H, R, N>(h, r, limit)
 }
