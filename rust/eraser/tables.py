@@ -14,7 +14,7 @@ PARTS = {"hash_bloom": {"bits", "words"}, "hash_keyed": {"modular", "pair", "par
 EXPORTS = "hash_c/lib"
 
 # Names that are std's alone, or of what stands on it: an import, alias or module of such a name is there with the feature std.
-STD_NAMES = {"HashMap", "HashSet", "FxHashMap", "FxHashSet", "engine"}
+STD_NAMES = {"HashMap", "HashSet", "FxHashMap", "FxHashSet", "reader"}
 
 # Files with an item or an import that only clauses read: the lint that is silent there, and why.
 ALLOW = {

@@ -110,7 +110,7 @@ impl Streamed for NullHasher {
 
     ghost stands_at = { λ h from text. from ≡ [] };
 
-    ghost hash = { λ from text. 0 };
+    ghost hash_from = { λ from text. 0 };
 
     ghost stands_at_start = { λ h same. refl };
 

@@ -210,7 +210,7 @@ impl Streamed for SpookyHasher {
 
     ghost stands_at = { λ h. SpookyStandsAt h.at };
 
-    ghost hash = { spooky_from };
+    ghost hash_from = { spooky_from };
 
     ghost stands_at_start = { λ h same. stands_at_seeds h.at 0 0 (lit< tt) (lit< tt) same };
 

@@ -194,7 +194,7 @@ impl Streamed for Poly61Hasher {
 
     ghost stands_at = { PolyStandsAt };
 
-    ghost hash = { poly61_from };
+    ghost hash_from = { poly61_from };
 
     ghost stands_at_start = { λ h same. stands_at_key h default_key (lit< tt) same };
 

@@ -3,7 +3,7 @@
 
 pub mod build;
 pub mod counts;
-pub mod engine;
+pub mod reader;
 pub mod traits;
 pub mod window;
 pub mod writes;

@@ -126,7 +126,7 @@ pub trait Streamed: Piecewise {
     ghost stands_at: { Self → List ℕ → List ℕ → Type 0 };
 
     /// The hash of a text from a start.
-    ghost hash: { List ℕ → List ℕ → ℕ };
+    ghost hash_from: { List ℕ → List ℕ → ℕ };
 
     /// A default hasher stands at the start, before any byte.
     ghost stands_at_start: { (h : Self) → Self.state h ≡ Self.fresh → stands_at h start [] };
@@ -143,11 +143,11 @@ pub trait Streamed: Piecewise {
 
     /// What a default hasher answers to a text is its hash from the default start.
     ghost hash_from_start: { (text : List ℕ) → IsText text
-        → Self.answer (Self.after Self.fresh text) ≡ hash start text };
+        → Self.answer (Self.after Self.fresh text) ≡ hash_from start text };
 
     /// Where a hasher stands decides its answer.
     ghost stands_answers: { (h : Self) (from text : List ℕ) → stands_at h from text
-        → Self.answer (Self.state h) ≡ hash from text };
+        → Self.answer (Self.state h) ≡ hash_from from text };
 }
 
 /// A hasher whose pieces can be taken out again.
@@ -233,7 +233,7 @@ pub fn run_streamed<H: Streamed>(h: &mut H, pieces: &[&[u8]])
     ensures stands { (from text : List ℕ) → H.stands_at h.old from text
         → H.stands_at h.new from (text ++ joined pieces.now) }
     ensures answers { (from text : List ℕ) → H.stands_at h.old from text
-        → H.answer (H.state h.new) ≡ H.hash from (text ++ joined pieces.now) }
+        → H.answer (H.state h.new) ≡ H.hash_from from (text ++ joined pieces.now) }
     ensures text { IsText (joined pieces.now) }
 {
     for more in pieces {
@@ -243,7 +243,7 @@ pub fn run_streamed<H: Streamed>(h: &mut H, pieces: &[&[u8]])
 
 /// The hash of the joined pieces, from the default start.
 pub fn answer_of_pieces<H: Streamed>(pieces: &[&[u8]]) -> u64
-    ensures defined { result ≡ H.hash H.start (joined pieces.now) }
+    ensures defined { result ≡ H.hash_from H.start (joined pieces.now) }
     ensures value { result ≡ H.hash_of (joined pieces.now) }
     ensures text { IsText (joined pieces.now) }
 {
@@ -329,7 +329,7 @@ pub fn no_bytes_change_nothing<H: Piecewise>()
 
 /// A law with no code: the hash of a text is that from the default start.
 pub fn hash_is_from_the_start<H: Streamed>()
-    ensures { (text : List ℕ) → IsText text → H.hash_of text ≡ H.hash H.start text }
+    ensures { (text : List ℕ) → IsText text → H.hash_of text ≡ H.hash_from H.start text }
 {}
 
 /// A law with no code: bytes are a text.

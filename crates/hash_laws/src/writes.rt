@@ -85,7 +85,7 @@ pub fn run_writes_streamed<H: Streamed>(h: &mut H, writes: &[HasherWrite])
     ensures stands { (from text : List ℕ) → H.stands_at h.old from text
         → H.stands_at h.new from (text ++ joined_written writes.now) }
     ensures answers { (from text : List ℕ) → H.stands_at h.old from text
-        → H.answer (H.state h.new) ≡ H.hash from (text ++ joined_written writes.now) }
+        → H.answer (H.state h.new) ≡ H.hash_from from (text ++ joined_written writes.now) }
     ensures text { IsText (joined_written writes.now) }
 {
     for write in writes {
@@ -95,7 +95,7 @@ pub fn run_writes_streamed<H: Streamed>(h: &mut H, writes: &[HasherWrite])
 
 /// The hash of the joined bytes of the writes, from the default start.
 pub fn answer_of_writes<H: Streamed>(writes: &[HasherWrite]) -> u64
-    ensures defined { result ≡ H.hash H.start (joined_written writes.now) }
+    ensures defined { result ≡ H.hash_from H.start (joined_written writes.now) }
     ensures value { result ≡ H.hash_of (joined_written writes.now) }
     ensures text { IsText (joined_written writes.now) }
 {

@@ -6,7 +6,7 @@ ghost use Rattle.hash_names.specs.Named.{spooky128};
 ghost use Rattle.hash_names.specs.Reading.{Feeds, Hashes, read};
 
 use hash_jenkins::spooky_hash::SpookyHasher;
-use hash_laws::engine::{Fault, hash_reader};
+use hash_laws::reader::{Fault, hash_reader};
 use hash_laws::traits::{Piecewise, Streamed};
 use std::error::Error as StdError;
 use std::fmt;
@@ -75,7 +75,7 @@ pub fn hash_of_text<H: Streamed, R: Read, const N: usize>(
 ) -> Result<u64, Unhashed>
     requires not_empty { 0 < N }
     requires small { N ≤ 65536 }
-    ensures { Hashes (H.hash H.start) (read limit R.remaining r.old r.new) result }
+    ensures { Hashes (H.hash_from H.start) (read limit R.remaining r.old r.new) result }
 {
     hash_of_pieces::<H, R, N>(limit, r)
 }

@@ -131,7 +131,7 @@ impl<R: ByteRule> Streamed for ByteHasher<R> {
 
     ghost stands_at = { λ h. StandsAt R.after R.bound (R.number h) };
 
-    ghost hash = { λ from text. R.answer (R.after (slice_index from 0) text) };
+    ghost hash_from = { λ from text. R.answer (R.after (slice_index from 0) text) };
 
     ghost stands_at_start = { λ h. bytewise.stands_at_start R.step R.bound R.after R.is_fold
         (R.number R.start) R.start_in_range (R.number h) };

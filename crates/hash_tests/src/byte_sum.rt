@@ -117,7 +117,7 @@ impl Streamed for ByteSum {
 
     ghost stands_at = { StandsAt byte_sum_from 256 };
 
-    ghost hash = { λ from text. byte_sum_from (slice_index from 0) text };
+    ghost hash_from = { λ from text. byte_sum_from (slice_index from 0) text };
 
     ghost stands_at_start = { bytewise.stands_at_start byte_sum_step 256 byte_sum_from (λ s text known. refl) 0 (lit< tt) };
 

@@ -28,7 +28,7 @@ pub fn fed<H: Piecewise>(h: &mut H, pieces: &[&[u8]])
 
 /// The answer after pieces that follow a default hasher's start: that of the joined text.
 pub fn answered<H: Streamed>(pieces: &[&[u8]]) -> u64
-    ensures { result ≡ H.hash H.start ([] ++ joined pieces.now) }
+    ensures { result ≡ H.hash_from H.start ([] ++ joined pieces.now) }
 {
     let mut hasher = H::fresh();
     let _ = hasher.answer();

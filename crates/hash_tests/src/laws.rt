@@ -37,7 +37,7 @@ pub fn sdbm_behind(first: u64, second: &[u8]) -> u64
 
 /// A key has one hash, however it came: as one piece or in two.
 pub fn one_hash<H: Streamed>(first: &[u8], second: &[u8]) -> u64
-    ensures { result ≡ H.hash H.start (first.now ++ second.now) }
+    ensures { result ≡ H.hash_from H.start (first.now ++ second.now) }
 {
     laws::answer_of_pieces::<H>(&[first, second])
 }

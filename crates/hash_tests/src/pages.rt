@@ -3,10 +3,10 @@ ghost use Rattle.std.specs.Prelude.{◌≡◌, ◌<◌, ◌^◌, ℕ, List, Some
 ghost use Rattle.hashers.specs.Spooky.{spooky};
 ghost use Rattle.hashers.specs.Fnv.{fnv1a64_from};
 
-use hashers::engine::hash_stream;
 use hashers::fnv::FNV1aHasher64;
 use hashers::jenkins::spooky_hash::SpookyHasher;
 use hashers::laws::{Piecewise, Undo};
+use hashers::reader::hash_stream;
 use std::io::Read;
 
 /// How many bytes of a stream are hashed at most: 2^40.

@@ -11,11 +11,11 @@ ghost use Rattle.hashers.specs.Oz.{djb2_from};
 ghost use Rattle.hashers.specs.Reading.{FeedsRead};
 
 use hash_buckets::{Buckets, NoRoom};
-use hashers::engine::{Fault, hash_reader};
 use hashers::fnv::{FNV1aHasher64, fnv1a64};
 use hashers::jenkins::oaat;
 use hashers::laws::{Piecewise, Undo, apart_djb2};
 use hashers::oz::DJB2Hasher;
+use hashers::reader::{Fault, hash_reader};
 use std::hash::Hasher;
 use std::io::Read;
 

@@ -3,6 +3,8 @@
 pub use crate::windows::{
     apart_djb2, apart_fnv32, apart_fnv64, apart_sdbm, same_word, windows_tell_apart,
 };
+pub use hash_bytes::null::passthrough_of_joined_texts;
+pub use hash_bytes::oz::{loselose_ignores_order, loselose_of_joined_texts, sdbm_of_joined_texts};
 pub use hash_fx::pieces::{
     apart_by_one_fx, apart_by_one_word_fx32, apart_by_one_word_fx64, cuts_show_in_fx,
     fixed_widths_are_words32, fixed_widths_are_words64, low_bits_of_a_word,
@@ -21,6 +23,7 @@ pub use hash_laws::traits::{
     no_bytes_change_nothing, one_changed_byte_shows, run_pair, run_pieces, run_streamed,
     string_is_a_text, text_is_its_steps, text_stays_in_range, writes_are_fed,
 };
+pub use hash_laws::window::{differ_at_one_place, is_window, texts_of_one_frame};
 pub use hash_laws::writes::{
     HasherWrite, answer_of_writes, run_writes, run_writes_streamed, unrun_writes,
 };

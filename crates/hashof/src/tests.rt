@@ -5,8 +5,8 @@ use crate::outcome::{Outcome, outcome_line, outcome_status};
 use crate::run::{RunFault, run, run_limited};
 use hash_bytes::fnv::FNV1aHasher64;
 use hash_jenkins::Lookup3Hasher;
-use hash_laws::engine;
-use hash_laws::engine::hash_reader;
+use hash_laws::reader;
+use hash_laws::reader::hash_reader;
 use hash_names::reading::Unhashed;
 use hash_names::table::Kind;
 use hash_program::fault::Fault;
@@ -464,7 +464,7 @@ const ENDS: [(&str, u8); 7] = [
 
 #[test]
 fn ends_by_the_table(rt: HostRuntime) {
-    let fault = engine::Fault {
+    let fault = reader::Fault {
         bytes: 3,
         error: io::Error::from(ErrorKind::BrokenPipe),
     };

@@ -1,7 +1,7 @@
 //! `hash_reader` over a text in memory, through an array of 4096 bytes.
 
 use hash_fx::FxHasher;
-use hashers::engine::hash_reader;
+use hashers::reader::hash_reader;
 use hashers::fnv::FNV1aHasher64;
 use hashers::jenkins::Lookup3Hasher;
 use hashers::jenkins::spooky_hash::SpookyHasher;

@@ -47,7 +47,7 @@ fn streamed<H: Streamed>(pieces: &Pieces, whole: fn(&[u8]) -> u64) -> u64 {
 #[cfg(feature = "std")]
 fn by_a_reader<H: Streamed>(text: &[u8], answer: u64) {
     let mut h = H::fresh();
-    let taken = hashers_proved::engine::hash_stream::<H, _, 7>(&mut h, &mut &text[..], u64::MAX).unwrap();
+    let taken = hashers_proved::reader::hash_stream::<H, _, 7>(&mut h, &mut &text[..], u64::MAX).unwrap();
     assert_eq!((taken.bytes, taken.ended, h.answer()), (text.len() as u64, true, answer));
 }
 

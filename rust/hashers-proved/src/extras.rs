@@ -123,7 +123,7 @@ impl fmt::Debug for BuildSpooky {
 }
 
 #[cfg(feature = "std")]
-impl fmt::Debug for crate::engine::Taken {
+impl fmt::Debug for crate::reader::Taken {
     fn fmt(&self, f: &mut fmt::Formatter) -> fmt::Result {
         f.debug_struct("Taken").field("bytes", &self.bytes).field("ended", &self.ended).finish()
     }

@@ -60,7 +60,7 @@ pub mod hash_bloom {
 
 #[cfg(feature = "std")]
 #[doc(inline)]
-pub use hashers::engine;
+pub use hashers::reader;
 #[doc(inline)]
 pub use hashers::{build, fnv, fx_hash, laws, null, oz, pigeon, promises, rounds, rules, window};
 

@@ -1,12 +1,12 @@
-//! The reader engine over readers that misbehave.
+//! `hash_reader` over readers that misbehave.
 ghost use Rattle.std.specs.Prelude.{◌<◌, ◌≤◌};
 
 use crate::tests::{all_hold_at, none_holds, same_at};
-use hashers::engine::{Fault, Taken, hash_reader};
 use hashers::fnv::FNV1aHasher64;
 use hashers::jenkins::Lookup3Hasher;
 use hashers::laws::Piecewise;
 use hashers::oz::LoseLoseHasher;
+use hashers::reader::{Fault, Taken, hash_reader};
 use std::io;
 use std::io::{ErrorKind, Read};
 use std::process::Abort;

@@ -1,10 +1,10 @@
-//! Inputs of many pieces, what the engine asks of a reader, and what it tells of a fault.
+//! Inputs of many pieces, what `hash_reader` asks of a reader, and what it tells of a fault.
 use crate::byte_sum::ByteSum;
 use crate::tests::readers::{End, OF_NOTHING, Script, end_of, same_end};
 use crate::tests::{all_hold, all_hold_at, same, same_at};
-use hashers::engine::{Fault, hash_reader, hash_stream};
 use hashers::fnv::{FNV1aHasher64, fnv1a64};
 use hashers::laws::Piecewise;
+use hashers::reader::{Fault, hash_reader, hash_stream};
 use std::alloc::{AllocError, Global};
 use std::io;
 use std::io::{ErrorKind, Read};
@@ -19,7 +19,7 @@ const LIMITS: [(u64, End, u64); 4] = [
     (12_345, End::Taken(12_345, false), 4),
 ];
 
-/// Both engines ask for whole pieces, and hash all that was read.
+/// Both calls ask for whole pieces, and hash all that was read.
 #[test]
 fn inputs_of_many_pieces(rt: HostRuntime) {
     for (turn, (limit, end, reads)) in LIMITS.iter().enumerate() {

@@ -1,5 +1,5 @@
 //! The laws, windows, promises and rounds on random values, against definitions written here.
-use hashers_proved::engine::hash_reader;
+use hashers_proved::reader::hash_reader;
 use hashers_proved::jenkins::spooky_hash::SpookyHasher;
 use hashers_proved::jenkins::{oaat, BuildSpooky, Lookup3Hasher, OAATHasher};
 use hashers_proved::laws::{self, ByteStep, HasherWrite, Piecewise, Undo};
@@ -269,7 +269,7 @@ fn a_limit_of_nothing_reads_nothing() {
     let mut h = FNV1aHasher64::default();
     let taken = hash_reader::<_, _, 16>(&mut h, &mut Never, 0).unwrap();
     assert_eq!((taken.bytes, taken.ended, h.finish()), (0, false, fnv1a64(b"")));
-    let taken = hashers_proved::engine::hash_stream::<_, _, 16>(&mut h, &mut b"abcd".as_slice(), 3).unwrap();
+    let taken = hashers_proved::reader::hash_stream::<_, _, 16>(&mut h, &mut b"abcd".as_slice(), 3).unwrap();
     assert_eq!((taken.bytes, taken.ended, h.finish()), (3, false, fnv1a64(b"abc")));
 }
 

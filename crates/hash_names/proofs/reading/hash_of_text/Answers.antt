@@ -10,5 +10,5 @@ returns g c =
     let stream = g.met.H.Streamed in
     let agree = answer-cut H.in_range H.after first.after_in_range first.after_nothing stream.after_joined H.answer H.fresh
     first.fresh_in_range
-    (g.H.Streamed.hash g.H.Streamed.start) stream.hash_from_start g.row.N c.requires.not_empty in
+    (g.H.Streamed.hash_from g.H.Streamed.start) stream.hash_from_start g.row.N c.requires.not_empty in
     Hashes-agree _ _ agree _ _ c.hash_of_pieces.ensures

@@ -1,7 +1,7 @@
 use Rattle.std.proofs.lemmas.Result.{IfOk-weaker, IfErr-weaker}
 use Rattle.hash_laws.proofs.ReadingLemmas.{HashesRead-fed}
 use Rattle.hash_laws.proofs.KnownText.{at_each, HashesFirst-read, StandsFirst-read, HashesAll-read, HashesFirst-limit, StandsFirst-limit, count_known, ended_known}
-use Rattle.hash_laws.proofs.engine.hash_stream.Goals as goal
+use Rattle.hash_laws.proofs.reader.hash_stream.Goals as goal
 
 pub returns-clause-taken : goal.returns-clause-taken
 returns-clause-taken g c =

@@ -3,7 +3,7 @@ use Rattle.std.proofs.Math.Nat.{zero-mod}
 use Rattle.std.proofs.lemmas.Bool.{false≢true}
 use Rattle.hash_laws.proofs.ReadingLemmas.{feeds_none, feeds_front, whole_more}
 use Rattle.hash_laws.proofs.KnownText.{FeedsFirst-fed, FeedsAll-fed}
-use Rattle.hash_laws.proofs.engine.hash_reader.Goals as goal
+use Rattle.hash_laws.proofs.reader.hash_reader.Goals as goal
 
 pub loop-bytes-init : goal.loop-bytes-init
 loop-bytes-init g c = record {
