@@ -3,7 +3,7 @@ use Rattle.std.specs.Prelude.{ℕ, ◌≡◌, ◌<◌, ◌^◌, List, ◌++◌, 
 use Rattle.std.specs.List.{flat_map}
 use mir.Syntax.{w64}
 use Rattle.std.specs.Int.{to_le_bytes}
-use Rattle.hashers.specs.Fnv.{fnv1a64_basis, fnv1a64_from}
+use Rattle.hashers.specs.Fnv.{fnv1a64_of}
 use Rattle.hash_lines.specs.Hex.{hex}
 use Rattle.hash_bloom.specs.Filter.{Filter, IsFilter}
 use Rattle.hash_bloom.specs.declared.file.Unread.{Unread}
@@ -27,7 +27,7 @@ bytes_of words = flat_map (to_le_bytes w64) words
 
 -- the hash of a text, in 8 bytes with the lowest first
 abbrev pub seal : List ℕ → List ℕ
-seal text = to_le_bytes w64 (fnv1a64_from fnv1a64_basis text)
+seal text = to_le_bytes w64 (fnv1a64_of text)
 
 -- a text, and its hash behind it
 unfoldable pub sealed : List ℕ → List ℕ

@@ -23,6 +23,13 @@ fnv1a32_from = recurrence fnv1a32_step
 abbrev pub fnv1a64_from : ℕ → List ℕ → ℕ
 fnv1a64_from = recurrence fnv1a64_step
 
+-- the hash of a text
+abbrev pub fnv1a32_of : List ℕ → ℕ
+fnv1a32_of text = fnv1a32_from fnv1a32_basis text
+
+abbrev pub fnv1a64_of : List ℕ → ℕ
+fnv1a64_of text = fnv1a64_from fnv1a64_basis text
+
 -- one byte of the variants 0 and 1, by width and prime: a product, and then it is xored in
 abbrev pub fnv1_step : ℕ → ℕ → ℕ → ℕ → ℕ
 fnv1_step width prime h b = bit_xor (h * prime % 2 ^ width) b

@@ -9,3 +9,7 @@ djb2_step h b = bit_xor (33 * h % 2 ^ 32) b
 -- the state after a text, from a start, by default 5381
 abbrev pub djb2_from : ℕ → List ℕ → ℕ
 djb2_from = recurrence djb2_step
+
+-- the hash of a text
+abbrev pub djb2_of : List ℕ → ℕ
+djb2_of text = djb2_from 5381 text

@@ -2,7 +2,7 @@
 //! or, and then a product by a prime. They were published on the authors' page, and are short and widely used.
 ghost use Rattle.std.specs.Prelude.{◌≡◌, ◌^◌, ◌+◌, ◌*◌, ◌%◌};
 ghost use Rattle.std.proofs.Common.{lit<};
-ghost use Rattle.hash_bytes.specs.Fnv.{fnv1a32_step, fnv1a64_step, fnv0, fnv1a32_basis, fnv1a32_from, fnv1a64_basis, fnv1a64_from};
+ghost use Rattle.hash_bytes.specs.Fnv.{fnv1a32_step, fnv1a64_step, fnv0, fnv1a32_basis, fnv1a32_from, fnv1a64_basis, fnv1a64_from, fnv1a32_of, fnv1a64_of};
 ghost use Rattle.hash_bytes.specs.FnvLaws.{fnv1a32_facts, fnv1a64_facts};
 
 use hash_laws::build::BuildFresh;
@@ -105,7 +105,7 @@ pub type FNV1aHasher32 = ByteHasher<Plain<Fnv1aRule32>>;
 
 /// FNV-1a at 32 bits of the bytes.
 pub fn fnv1a32(bytes: &[u8]) -> u64
-    ensures { result ≡ fnv1a32_from fnv1a32_basis bytes.now }
+    ensures { result ≡ fnv1a32_of bytes.now }
 {
     hash_of::<FNV1aHasher32>(bytes)
 }
@@ -172,7 +172,7 @@ pub type FNV1aHasher64 = ByteHasher<Plain<Fnv1aRule64>>;
 
 /// FNV-1a at 64 bits of the bytes.
 pub fn fnv1a64(bytes: &[u8]) -> u64
-    ensures { result ≡ fnv1a64_from fnv1a64_basis bytes.now }
+    ensures { result ≡ fnv1a64_of bytes.now }
 {
     hash_of::<FNV1aHasher64>(bytes)
 }

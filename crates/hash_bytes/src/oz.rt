@@ -2,7 +2,7 @@
 ghost use Rattle.std.specs.Prelude.{◌≡◌, ◌^◌, ◌+◌, ◌-◌, ◌*◌, ◌/◌, ◌%◌, ℕ, List, ◌++◌, length, IsPermutation, refl};
 ghost use Rattle.std.proofs.Common.{lit<};
 ghost use Rattle.hash_rounds.specs.Sums.{sdbm_from, loselose_from, sdbm_step, loselose_step};
-ghost use Rattle.hash_bytes.specs.Oz.{djb2_step, djb2_from};
+ghost use Rattle.hash_bytes.specs.Oz.{djb2_step, djb2_from, djb2_of};
 ghost use Rattle.hash_bytes.specs.OzLaws.{djb2_facts};
 ghost use Rattle.hash_rounds.proofs.SumStepLemmas.{sdbm_facts, loselose_facts};
 ghost use Rattle.hash_rounds.proofs.SumLemmas.{sdbm_sums, loselose-fold};
@@ -106,7 +106,7 @@ pub type DJB2Hasher = ByteHasher<Plain<Djb2Rule>>;
 
 /// djb2 of the bytes, from 5381.
 pub fn djb2(bytes: &[u8]) -> u64
-    ensures { result ≡ djb2_from 5381 bytes.now }
+    ensures { result ≡ djb2_of bytes.now }
 {
     hash_of::<DJB2Hasher>(bytes)
 }

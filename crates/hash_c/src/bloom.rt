@@ -4,8 +4,8 @@ ghost use Rattle.std.specs.Prelude.{◌≡◌, ◌↔◌, ℕ, List, IsTrue, len
 ghost use Rattle.std.specs.Bool.{OnFalse, OnTrue};
 ghost use Rattle.hash_bloom.specs.Filter.{Adds, AllPassIn, IsSet, filter_of};
 ghost use Rattle.hash_c.specs.Blooms.{IsFound, IsInserted};
-ghost use Rattle.hashers.specs.Fnv.{fnv1a64_basis, fnv1a64_from};
-ghost use Rattle.hashers.specs.Lookup3.{lookup3_from, lookup3_answer};
+ghost use Rattle.hashers.specs.Fnv.{fnv1a64_of};
+ghost use Rattle.hashers.specs.Lookup3.{lookup3_of};
 ghost use Rattle.hashers.specs.Spooky.{spooky};
 
 use hash_bloom::words;
@@ -40,7 +40,7 @@ pub extern "C" fn hashers_bloom_fnv1a64_lookup3_insert(
     probes: u32,
     key: &[u8],
 ) -> bool
-    ensures { IsInserted (fnv1a64_from fnv1a64_basis) (λ text. lookup3_answer (lookup3_from (0, 0) text))
+    ensures { IsInserted fnv1a64_of lookup3_of
         (filter_of bits probes words.old) (filter_of bits probes words.new) key.now result }
 {
     insert::<FNV1aHasher64, Lookup3Hasher>(words, bits, probes, key)
@@ -54,7 +54,7 @@ pub extern "C" fn hashers_bloom_fnv1a64_lookup3_contains(
     probes: u32,
     key: &[u8],
 ) -> bool
-    ensures { IsTrue result ↔ IsFound (fnv1a64_from fnv1a64_basis) (λ text. lookup3_answer (lookup3_from (0, 0) text))
+    ensures { IsTrue result ↔ IsFound fnv1a64_of lookup3_of
         (filter_of bits probes words.now) key.now }
 {
     contains::<FNV1aHasher64, Lookup3Hasher>(words, bits, probes, key)
@@ -69,7 +69,7 @@ pub extern "C" fn hashers_bloom_spooky_lookup3_insert(
     probes: u32,
     key: &[u8],
 ) -> bool
-    ensures { IsInserted (λ text. (spooky 0 0 text).0) (λ text. lookup3_answer (lookup3_from (0, 0) text))
+    ensures { IsInserted (λ text. (spooky 0 0 text).0) lookup3_of
         (filter_of bits probes words.old) (filter_of bits probes words.new) key.now result }
 {
     insert::<SpookyHasher, Lookup3Hasher>(words, bits, probes, key)
@@ -83,7 +83,7 @@ pub extern "C" fn hashers_bloom_spooky_lookup3_contains(
     probes: u32,
     key: &[u8],
 ) -> bool
-    ensures { IsTrue result ↔ IsFound (λ text. (spooky 0 0 text).0) (λ text. lookup3_answer (lookup3_from (0, 0) text))
+    ensures { IsTrue result ↔ IsFound (λ text. (spooky 0 0 text).0) lookup3_of
         (filter_of bits probes words.now) key.now }
 {
     contains::<SpookyHasher, Lookup3Hasher>(words, bits, probes, key)

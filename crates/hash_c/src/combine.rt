@@ -1,6 +1,6 @@
 //! The hash of two texts joined, from their hashes and the second one's length.
 ghost use Rattle.std.specs.Prelude.{◌≡◌, ◌+◌, ◌*◌, ◌%◌, ◌^◌, List, ℕ, ◌++◌, length, bit_xor};
-ghost use Rattle.hash_more.specs.Crc32.{ieee, castagnoli, all_ones, bits_out, crc_from, crc_answer};
+ghost use Rattle.hash_more.specs.Crc32.{ieee, castagnoli, bits_out, crc32_of, crc32c_of};
 ghost use Rattle.hashers.specs.Sums.{loselose_from, passthrough_from, sdbm_from};
 ghost use Rattle.hashers.specs.Text.{IsText};
 
@@ -42,8 +42,8 @@ pub extern "C" fn hashers_passthrough_combine(hash1: u64, hash2: u64, n2: u64) -
 pub extern "C" fn hashers_crc32_combine(hash1: u64, hash2: u64, n2: u64) -> u64
     ensures value { result ≡ bit_xor (bits_out ieee (8 * n2) (hash1 % 2 ^ 32)) (hash2 % 2 ^ 32) }
     ensures joined { (x y : List ℕ) → IsText x → IsText y → length y ≡ n2
-        → hash1 ≡ crc_answer (crc_from ieee all_ones x) → hash2 ≡ crc_answer (crc_from ieee all_ones y)
-        → result ≡ crc_answer (crc_from ieee all_ones (x ++ y)) }
+        → hash1 ≡ crc32_of x → hash2 ≡ crc32_of y
+        → result ≡ crc32_of (x ++ y) }
 {
     crc32::crc32_combine(hash1, hash2, n2)
 }
@@ -53,8 +53,8 @@ pub extern "C" fn hashers_crc32_combine(hash1: u64, hash2: u64, n2: u64) -> u64
 pub extern "C" fn hashers_crc32c_combine(hash1: u64, hash2: u64, n2: u64) -> u64
     ensures value { result ≡ bit_xor (bits_out castagnoli (8 * n2) (hash1 % 2 ^ 32)) (hash2 % 2 ^ 32) }
     ensures joined { (x y : List ℕ) → IsText x → IsText y → length y ≡ n2
-        → hash1 ≡ crc_answer (crc_from castagnoli all_ones x) → hash2 ≡ crc_answer (crc_from castagnoli all_ones y)
-        → result ≡ crc_answer (crc_from castagnoli all_ones (x ++ y)) }
+        → hash1 ≡ crc32c_of x → hash2 ≡ crc32c_of y
+        → result ≡ crc32c_of (x ++ y) }
 {
     crc32::crc32c_combine(hash1, hash2, n2)
 }

@@ -1,15 +1,15 @@
 //! One call over a whole text.
 ghost use Rattle.std.specs.Prelude.{◌≡◌};
-ghost use Rattle.hash_more.specs.Crc32.{ieee, castagnoli, all_ones, crc_from, crc_answer};
+ghost use Rattle.hash_more.specs.Crc32.{crc32_of, crc32c_of};
 ghost use Rattle.hash_more.specs.Djb2Add.{djb2_add_from};
 ghost use Rattle.hash_more.specs.Elf.{elf_from};
 ghost use Rattle.hash_more.specs.Fnv1.{fnv1_32_from, fnv1_64_from};
 ghost use Rattle.hash_more.specs.Joaat.{joaat_from, joaat_answer};
-ghost use Rattle.hashers.specs.Fnv.{fnv1a32_basis, fnv1a32_from, fnv1a64_basis, fnv1a64_from};
+ghost use Rattle.hashers.specs.Fnv.{fnv1a32_basis, fnv1a64_basis, fnv1a32_of, fnv1a64_of};
 ghost use Rattle.hashers.specs.Fx.{fx32, fx64, words32, words64};
-ghost use Rattle.hashers.specs.Lookup3.{lookup3_from, lookup3_answer};
-ghost use Rattle.hashers.specs.Oaat.{oaat_state, oaat_finish};
-ghost use Rattle.hashers.specs.Oz.{djb2_from};
+ghost use Rattle.hashers.specs.Lookup3.{lookup3_of};
+ghost use Rattle.hashers.specs.Oaat.{oaat_of};
+ghost use Rattle.hashers.specs.Oz.{djb2_of};
 ghost use Rattle.hashers.specs.Pigeon.{bricolage_from};
 ghost use Rattle.hashers.specs.Spooky.{spooky, spooky_v1};
 ghost use Rattle.hashers.specs.Sums.{loselose_from, passthrough_from, sdbm_from};
@@ -21,7 +21,7 @@ use hashers::{fnv, fx_hash, jenkins, null, oz, pigeon};
 /// FNV-1a at 32 bits of the text.
 #[unsafe(no_mangle)]
 pub extern "C" fn hashers_fnv1a32(text: &[u8]) -> u64
-    ensures { result ≡ fnv1a32_from fnv1a32_basis text.now }
+    ensures { result ≡ fnv1a32_of text.now }
 {
     fnv::fnv1a32(text)
 }
@@ -29,7 +29,7 @@ pub extern "C" fn hashers_fnv1a32(text: &[u8]) -> u64
 /// FNV-1a at 64 bits of the text.
 #[unsafe(no_mangle)]
 pub extern "C" fn hashers_fnv1a64(text: &[u8]) -> u64
-    ensures { result ≡ fnv1a64_from fnv1a64_basis text.now }
+    ensures { result ≡ fnv1a64_of text.now }
 {
     fnv::fnv1a64(text)
 }
@@ -37,7 +37,7 @@ pub extern "C" fn hashers_fnv1a64(text: &[u8]) -> u64
 /// djb2 of the text.
 #[unsafe(no_mangle)]
 pub extern "C" fn hashers_djb2(text: &[u8]) -> u64
-    ensures { result ≡ djb2_from 5381 text.now }
+    ensures { result ≡ djb2_of text.now }
 {
     oz::djb2(text)
 }
@@ -93,7 +93,7 @@ pub extern "C" fn hashers_fxhash64(text: &[u8]) -> u64
 /// One-at-a-time of the text, at 64 bits.
 #[unsafe(no_mangle)]
 pub extern "C" fn hashers_oaat(text: &[u8]) -> u64
-    ensures { result ≡ oaat_finish (oaat_state 0 text.now) }
+    ensures { result ≡ oaat_of text.now }
 {
     jenkins::oaat(text)
 }
@@ -102,7 +102,7 @@ pub extern "C" fn hashers_oaat(text: &[u8]) -> u64
 /// waits for the answer of the call before.
 #[inline(never)]
 fn lookup3(text: &[u8]) -> u64
-    ensures { result ≡ lookup3_answer (lookup3_from (0, 0) text.now) }
+    ensures { result ≡ lookup3_of text.now }
 {
     jenkins::lookup3(text)
 }
@@ -110,7 +110,7 @@ fn lookup3(text: &[u8]) -> u64
 /// lookup3 of the text as one piece: both words, pc + 2^32 * pb.
 #[unsafe(no_mangle)]
 pub extern "C" fn hashers_lookup3(text: &[u8]) -> u64
-    ensures { result ≡ lookup3_answer (lookup3_from (0, 0) text.now) }
+    ensures { result ≡ lookup3_of text.now }
 {
     lookup3(text)
 }
@@ -150,7 +150,7 @@ pub extern "C" fn hashers_passthrough(text: &[u8]) -> u64
 /// CRC-32 of the text.
 #[unsafe(no_mangle)]
 pub extern "C" fn hashers_crc32(text: &[u8]) -> u64
-    ensures { result ≡ crc_answer (crc_from ieee all_ones text.now) }
+    ensures { result ≡ crc32_of text.now }
 {
     crc32::crc32(text)
 }
@@ -158,7 +158,7 @@ pub extern "C" fn hashers_crc32(text: &[u8]) -> u64
 /// CRC-32C of the text.
 #[unsafe(no_mangle)]
 pub extern "C" fn hashers_crc32c(text: &[u8]) -> u64
-    ensures { result ≡ crc_answer (crc_from castagnoli all_ones text.now) }
+    ensures { result ≡ crc32c_of text.now }
 {
     crc32::crc32c(text)
 }

@@ -3,6 +3,7 @@ pub mod LongWindows
 pub mod Lookup3Blocks
 pub mod Lookup3Lemmas
 pub mod MixLemmas
+pub mod OneGroup
 pub mod PutLemmas
 pub mod ShortStretches
 pub mod WriteLemmas

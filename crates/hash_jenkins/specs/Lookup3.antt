@@ -58,6 +58,10 @@ lookup3_from s (byte ∷ piece) = lookup3_piece s.0 s.1 (byte ∷ piece)
 abbrev pub lookup3_answer : ℕ × ℕ → ℕ
 lookup3_answer s = s.0 + 2 ^ 32 * s.1
 
+-- the hash of a text in one piece
+abbrev pub lookup3_of : List ℕ → ℕ
+lookup3_of text = lookup3_answer (lookup3_from (0, 0) text)
+
 -- two words of 32 bits
 abbrev pub AreTwoWords : ℕ × ℕ → Type 0
 AreTwoWords s = (s.0 < 2 ^ 32) × (s.1 < 2 ^ 32)

@@ -1,5 +1,5 @@
 -- Texts that differ only in what is mixed into a state close together.
-use Rattle.std.specs.Prelude.{◌≡◌, ◌≢◌, ℕ, List, length, slice_index}
+use Rattle.std.specs.Prelude.{◌≡◌, ◌≢◌, ℕ, ◌+◌, ◌/◌, ◌≤◌, List, length, slice_index}
 use Rattle.hash_laws.specs.DifferWithin.{AgreeOutside}
 use Rattle.hash_rounds.specs.Blocks.{spooky_blocks}
 use Rattle.hash_jenkins.specs.Spooky.{long_start, long_words, tail}
@@ -9,6 +9,18 @@ pub record DifferInOne (group : ℕ → ℕ) (x y : List ℕ) : Type 0 where
   pub same_length : length x ≡ length y
   pub different : x ≢ y
   pub one : (g : ℕ) × ((i : ℕ) → group i ≢ g → slice_index x i ≡ slice_index y i)
+
+-- all places where they differ are in one block of n bytes
+abbrev pub DifferInOneBlock : ℕ → List ℕ → List ℕ → Type 0
+DifferInOneBlock n x y = DifferInOne (λ i. i / n) x y
+
+-- they are in what Spooky adds between two mixes below 192 bytes: the first 16 bytes, or 32 bytes from byte 16, 48, 80 and so on
+abbrev pub DifferInOneStretch : List ℕ → List ℕ → Type 0
+DifferInOneStretch x y = DifferInOne (λ i. (i + 16) / 32) x y
+
+-- the texts agree from a place on
+abbrev pub AgreeFrom : ℕ → List ℕ → List ℕ → Type 0
+AgreeFrom place x y = (i : ℕ) → place ≤ i → slice_index x i ≡ slice_index y i
 
 -- the lengths are equal, the texts differ, and they agree outside so many neighbouring places
 pub record DifferFrom (from places : ℕ) (x y : List ℕ) : Type 0 where

@@ -14,3 +14,7 @@ oaat_state = recurrence oaat_step
 -- the answer of a state: its last mix
 abbrev pub oaat_finish : ℕ → ℕ
 oaat_finish h = 32769 * xorshift (9 * h % 2 ^ 64) 11 % 2 ^ 64
+
+-- the hash of a text
+abbrev pub oaat_of : List ℕ → ℕ
+oaat_of text = oaat_finish (oaat_state 0 text)

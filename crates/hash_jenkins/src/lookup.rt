@@ -3,7 +3,7 @@ ghost use Rattle.std.specs.Prelude.{◌≡◌, ◌<◌, ℕ, length, refl};
 ghost use Rattle.std.proofs.Common.{lit<};
 ghost use Rattle.hash_rounds.specs.Words.{le};
 ghost use Rattle.hash_jenkins.specs.Filled.{zero_filled};
-ghost use Rattle.hash_jenkins.specs.Lookup3.{add_words, add_block, block_words, start, lookup3_piece, lookup3_from, lookup3_answer, AreTwoWords};
+ghost use Rattle.hash_jenkins.specs.Lookup3.{add_words, add_block, block_words, start, lookup3_piece, lookup3_from, lookup3_answer, AreTwoWords, lookup3_of};
 ghost use Rattle.hash_jenkins.specs.Lookup3Laws.{lookup3-AreTwoWords};
 
 use hash_laws::traits::{Piecewise, hash_of};
@@ -183,7 +183,7 @@ impl Piecewise for Lookup3Hasher {
 
     ghost answer = { lookup3_answer };
 
-    ghost hash_of = { λ text. lookup3_answer (lookup3_from (0, 0) text) };
+    ghost hash_of = { lookup3_of };
 
     ghost first = { (0, 0) };
 
@@ -237,7 +237,7 @@ impl Piecewise for Lookup3Hasher {
 
 /// lookup3 of the bytes in one piece, from the words 0 and 0.
 pub fn lookup3(bytes: &[u8]) -> u64
-    ensures { result ≡ lookup3_answer (lookup3_from (0, 0) bytes.now) }
+    ensures { result ≡ lookup3_of bytes.now }
 {
     hash_of::<Lookup3Hasher>(bytes)
 }

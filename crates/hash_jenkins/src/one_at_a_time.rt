@@ -2,7 +2,7 @@
 //! product and a shift. Each write can be undone.
 ghost use Rattle.std.specs.Prelude.{◌≡◌, ◌+◌, ◌*◌, ◌%◌, ◌^◌};
 ghost use Rattle.std.proofs.Common.{lit<};
-ghost use Rattle.hash_jenkins.specs.Oaat.{oaat_step, oaat_finish, oaat_state};
+ghost use Rattle.hash_jenkins.specs.Oaat.{oaat_step, oaat_finish, oaat_state, oaat_of};
 ghost use Rattle.hash_jenkins.specs.OaatLaws.{oaat_facts, oaat_finish_same};
 
 use hash_laws::traits::hash_of;
@@ -94,7 +94,7 @@ pub type OAATHasher = ByteHasher<Plain<OaatRule>>;
 
 /// One-at-a-time at 64 bits of the bytes.
 pub fn oaat(bytes: &[u8]) -> u64
-    ensures { result ≡ oaat_finish (oaat_state 0 bytes.now) }
+    ensures { result ≡ oaat_of bytes.now }
 {
     hash_of::<OAATHasher>(bytes)
 }

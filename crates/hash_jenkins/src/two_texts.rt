@@ -1,16 +1,17 @@
 //! Laws of lookup3 and of SpookyHash alone.
-ghost use Rattle.std.specs.Prelude.{◌≡◌, ◌≢◌, ◌↔◌, ◌<◌, ◌≤◌, ◌+◌, ◌*◌, ◌/◌, ◌^◌, ℕ, List, [], ◌∷◌, ◌++◌, IsTrue, fold, length};
+ghost use Rattle.std.specs.Prelude.{◌≡◌, ◌≢◌, ◌↔◌, ◌<◌, ◌≤◌, ◌+◌, ◌*◌, ◌/◌, ◌%◌, ◌^◌, ℕ, List, [], ◌∷◌, ◌++◌, IsTrue, fold, length};
 ghost use Rattle.std.specs.Bool.{OnTrue};
 ghost use Rattle.hash_laws.specs.Text.{IsText, texts};
 ghost use Rattle.hash_jenkins.specs.Filled.{zero_filled};
-ghost use Rattle.hash_jenkins.specs.Lookup3.{lookup3_from, lookup3_answer, lookup3_words};
-ghost use Rattle.hash_jenkins.specs.Mixing.{DifferFrom, DifferInOne, twelve_words};
+ghost use Rattle.hash_jenkins.specs.Lookup3.{lookup3_from, lookup3_answer, lookup3_words, lookup3_of};
+ghost use Rattle.hash_jenkins.specs.Mixing.{AgreeFrom, DifferFrom, DifferInOneBlock, DifferInOneStretch, twelve_words};
 ghost use Rattle.hash_jenkins.specs.Spooky.{after, position, short_words, short_words_v1, spooky_v1};
 ghost use Rattle.hash_jenkins.specs.Zeros.{AddsZeros, HaveOtherWords};
 
 use crate::lookup::Lookup3Hasher;
 use crate::spooky_short::{LONG, zero_filled};
 use hash_laws::traits::Piecewise;
+use hash_laws::window::first_difference;
 
 // Whether `y` is `x` and zeros behind it.
 fn is_filled(x: &[u8], y: &[u8]) -> bool
@@ -49,7 +50,7 @@ pub fn position_of_joined_texts()
 /// A law with no code: in lookup3 cuts show. The answer to `a` and then `b` is not that to `ab`.
 pub fn cuts_show_in_lookup3()
     ensures { lookup3_answer (lookup3_from (lookup3_from (0, 0) (97 ∷ [])) (98 ∷ []))
-        ≢ lookup3_answer (lookup3_from (0, 0) (97 ∷ 98 ∷ [])) }
+        ≢ lookup3_of (97 ∷ 98 ∷ []) }
 {}
 
 /// Feeds the pieces to both hashers, in order. Where their answers were equal before, they are equal afterwards: what
@@ -66,10 +67,55 @@ pub fn same_answers_later(a: &mut Lookup3Hasher, b: &mut Lookup3Hasher, pieces: 
     }
 }
 
+// Whether texts of one length agree from a place on.
+fn agree_from(x: &[u8], y: &[u8], place: usize) -> bool
+    requires { length x.now ≡ length y.now }
+    ensures { IsTrue result ↔ AgreeFrom place x.now y.now }
+{
+    place >= x.len() || x[place..] == y[place..]
+}
+
+/// Whether the texts have one length and differ, but only within one of lookup3's blocks of twelve bytes. What then differs,
+/// `one_changed_block_shows` says.
+pub fn differ_in_one_block(x: &[u8], y: &[u8]) -> bool
+    ensures { IsTrue result ↔ DifferInOneBlock 12 x.now y.now }
+{
+    if x.len() != y.len() {
+        return false;
+    }
+    match first_difference(x, y) {
+        None => false,
+        Some(from) => agree_from(x, y, from / 12 * 12 + 12),
+    }
+}
+
+/// Whether the texts have one length and differ, but only in what SpookyHash adds between two mixes below 192 bytes. What then
+/// differs, `one_changed_stretch_shows` says.
+pub fn differ_in_one_stretch(x: &[u8], y: &[u8]) -> bool
+    ensures { IsTrue result ↔ DifferInOneStretch x.now y.now }
+{
+    if x.len() != y.len() {
+        return false;
+    }
+    match first_difference(x, y) {
+        None => false,
+        Some(from) => agree_from(x, y, (from + 16) / 32 * 32 + 16),
+    }
+}
+
+/// A law with no code, for texts that a caller has in parts: a front, two different middles of one length, and a back differ
+/// within one block, or one stretch, if the middle lies in one.
+pub fn middles_in_one_group()
+    ensures block { (front x y back : List ℕ) → length x ≡ length y → x ≢ y → length front % 12 + length x ≤ 12
+        → DifferInOneBlock 12 (front ++ (x ++ back)) (front ++ (y ++ back)) }
+    ensures stretch { (front x y back : List ℕ) → length x ≡ length y → x ≢ y → (length front + 16) % 32 + length x ≤ 32
+        → DifferInOneStretch (front ++ (x ++ back)) (front ++ (y ++ back)) }
+{}
+
 /// A changed block shows in lookup3, a law with no code: two pieces of one length that differ, but only within one block of
 /// twelve bytes, lead from any two words to different words a, b and c. Of the answer, which is b and c alone, nothing is said.
 pub fn one_changed_block_shows()
-    ensures { (pc pb : ℕ) (x y : List ℕ) → IsText x → IsText y → DifferInOne (λ i. i / 12) x y
+    ensures { (pc pb : ℕ) (x y : List ℕ) → IsText x → IsText y → DifferInOneBlock 12 x y
         → lookup3_words pc pb x ≢ lookup3_words pc pb y }
 {}
 
@@ -78,10 +124,10 @@ pub fn one_changed_block_shows()
 /// byte 16, 48, 80 and so on. Of the hash, which is two of the four words, nothing is said.
 pub fn one_changed_stretch_shows()
     ensures words { (seed1 seed2 : ℕ) (x y : List ℕ) → seed1 < 2 ^ 64 → seed2 < 2 ^ 64 → IsText x → IsText y
-        → length x < 192 → DifferInOne (λ i. (i + 16) / 32) x y
+        → length x < 192 → DifferInOneStretch x y
         → short_words seed1 seed2 x ≢ short_words seed1 seed2 y }
     ensures words_v1 { (seed1 seed2 : ℕ) (x y : List ℕ) → seed1 < 2 ^ 64 → seed2 < 2 ^ 64 → IsText x → IsText y
-        → length x < 192 → DifferInOne (λ i. (i + 16) / 32) x y
+        → length x < 192 → DifferInOneStretch x y
         → short_words_v1 seed1 seed2 x ≢ short_words_v1 seed1 seed2 y }
 {}
 

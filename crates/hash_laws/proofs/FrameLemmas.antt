@@ -15,7 +15,8 @@ in_back : (front z back : List ℕ) (i n : ℕ) → length z ≡ n → length fr
 in_back front z back i n len from = get_or-append_right front (z ++ back) (length front) i 0 refl (omega (arith, from))
     ∙ get_or-append_right z back n (i - length front) 0 len (omega (arith, from))
 
-same_outside : (front x y back : List ℕ) (i : ℕ) → length x ≡ length y → (i < length front) ⊎ (length front + length x ≤ i)
+-- outside the middle
+pub same_outside : (front x y back : List ℕ) (i : ℕ) → length x ≡ length y → (i < length front) ⊎ (length front + length x ≤ i)
     → get_or (front ++ (x ++ back)) i 0 ≡ get_or (front ++ (y ++ back)) i 0
 same_outside front x y back i len outside = ⊎_elim
     (λ before. get_or_append_left front (x ++ back) 0 i before ∙ sym (get_or_append_left front (y ++ back) 0 i before))

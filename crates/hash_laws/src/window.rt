@@ -40,8 +40,8 @@ fn agree_under(mask: u8, x: &[u8], y: &[u8]) -> bool
     x.iter().zip(y).all(|(a, b)| a & mask == b & mask)
 }
 
-/// The first place at which two texts of one length differ.
-fn first_difference(x: &[u8], y: &[u8]) -> Option<usize>
+/// The first place at which two texts of one length differ; `None` if they are equal.
+pub fn first_difference(x: &[u8], y: &[u8]) -> Option<usize>
     requires { length x.now ≡ length y.now }
     ensures none { IfNone result (x.now ≡ y.now) }
     ensures some { IfSome result (λ i. IsFirstDifference i x.now y.now) }

@@ -34,3 +34,10 @@ crc_from p = recurrence (crc_step p)
 -- the answer of a state: all its bits inverted
 abbrev pub crc_answer : ℕ → ℕ
 crc_answer h = bit_xor h all_ones
+
+-- the hash of a text, by each polynomial
+abbrev pub crc32_of : List ℕ → ℕ
+crc32_of text = crc_answer (crc_from ieee all_ones text)
+
+abbrev pub crc32c_of : List ℕ → ℕ
+crc32c_of text = crc_answer (crc_from castagnoli all_ones text)

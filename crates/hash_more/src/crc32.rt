@@ -9,7 +9,7 @@ ghost use Rattle.std.specs.Prelude.{◌≡◌, ◌+◌, ◌*◌, ◌^◌, ◌<�
 ghost use Rattle.std.proofs.Common.{lit<};
 ghost use Rattle.hash_laws.specs.Text.{IsText};
 ghost use Rattle.hash_laws.proofs.RecurrenceLemmas.{recurrence_is_fold};
-ghost use Rattle.hash_more.specs.Crc32.{ieee, castagnoli, all_ones, bits_out, bit_out, crc_step, crc_from, crc_answer};
+ghost use Rattle.hash_more.specs.Crc32.{ieee, castagnoli, all_ones, bits_out, bit_out, crc_step, crc_from, crc_answer, crc32_of, crc32c_of};
 ghost use Rattle.hash_more.specs.Crc32Laws.{crc_facts, crc_answer_same};
 
 use castagnoli_rows::CASTAGNOLI;
@@ -221,14 +221,14 @@ pub type Crc32cHasher = ByteHasher<CrcRule<Castagnoli>>;
 
 /// CRC-32 of the bytes.
 pub fn crc32(bytes: &[u8]) -> u64
-    ensures { result ≡ crc_answer (crc_from ieee all_ones bytes.now) }
+    ensures { result ≡ crc32_of bytes.now }
 {
     hash_of::<Crc32Hasher>(bytes)
 }
 
 /// CRC-32C of the bytes.
 pub fn crc32c(bytes: &[u8]) -> u64
-    ensures { result ≡ crc_answer (crc_from castagnoli all_ones bytes.now) }
+    ensures { result ≡ crc32c_of bytes.now }
 {
     hash_of::<Crc32cHasher>(bytes)
 }
@@ -293,8 +293,8 @@ fn combine<P: Polynomial>(hash1: u64, hash2: u64, length2: u64) -> u64
 pub fn crc32_combine(hash1: u64, hash2: u64, length2: u64) -> u64
     ensures value { result ≡ bit_xor (bits_out ieee (8 * length2) (hash1 % 2 ^ 32)) (hash2 % 2 ^ 32) }
     ensures joined { (x y : List ℕ) → IsText x → IsText y → length y ≡ length2
-        → hash1 ≡ crc_answer (crc_from ieee all_ones x) → hash2 ≡ crc_answer (crc_from ieee all_ones y)
-        → result ≡ crc_answer (crc_from ieee all_ones (x ++ y)) }
+        → hash1 ≡ crc32_of x → hash2 ≡ crc32_of y
+        → result ≡ crc32_of (x ++ y) }
 {
     combine::<Ieee>(hash1, hash2, length2)
 }
@@ -303,8 +303,8 @@ pub fn crc32_combine(hash1: u64, hash2: u64, length2: u64) -> u64
 pub fn crc32c_combine(hash1: u64, hash2: u64, length2: u64) -> u64
     ensures value { result ≡ bit_xor (bits_out castagnoli (8 * length2) (hash1 % 2 ^ 32)) (hash2 % 2 ^ 32) }
     ensures joined { (x y : List ℕ) → IsText x → IsText y → length y ≡ length2
-        → hash1 ≡ crc_answer (crc_from castagnoli all_ones x) → hash2 ≡ crc_answer (crc_from castagnoli all_ones y)
-        → result ≡ crc_answer (crc_from castagnoli all_ones (x ++ y)) }
+        → hash1 ≡ crc32c_of x → hash2 ≡ crc32c_of y
+        → result ≡ crc32c_of (x ++ y) }
 {
     combine::<Castagnoli>(hash1, hash2, length2)
 }

@@ -7,7 +7,7 @@ ghost use Rattle.hash_laws.specs.Text.{IsText};
 ghost use Rattle.hash_laws.specs.DifferWithin.{DifferWithin, IsFirstDifference};
 ghost use Rattle.hash_bytes.specs.Fnv.{fnv1a32_basis, fnv1a64_basis};
 ghost use Rattle.hash_more.specs.Bursts.{DifferWithinBits};
-ghost use Rattle.hash_more.specs.Crc32.{ieee, castagnoli, all_ones, crc_from, crc_answer};
+ghost use Rattle.hash_more.specs.Crc32.{crc32_of, crc32c_of};
 ghost use Rattle.hash_more.specs.Djb2Add.{djb2_add_from};
 ghost use Rattle.hash_more.specs.Fnv1.{fnv1_32_from, fnv1_64_from};
 
@@ -25,8 +25,7 @@ const FNV1_32_PLACES: usize = 2;
 /// Whether the texts have one length and differ, but only within four neighbouring places. Their `crc32` then differs.
 pub fn apart_crc32(x: &[u8], y: &[u8]) -> bool
     ensures exactly { IsTrue result ↔ DifferWithin 4 0 x.now y.now }
-    ensures differ { OnTrue result
-        (crc_answer (crc_from ieee all_ones x.now) ≢ crc_answer (crc_from ieee all_ones y.now)) }
+    ensures differ { OnTrue result (crc32_of x.now ≢ crc32_of y.now) }
 {
     is_window(x, y, CRC_PLACES, 0)
 }
@@ -34,8 +33,7 @@ pub fn apart_crc32(x: &[u8], y: &[u8]) -> bool
 /// Whether the texts have one length and differ, but only within four neighbouring places. Their `crc32c` then differs.
 pub fn apart_crc32c(x: &[u8], y: &[u8]) -> bool
     ensures exactly { IsTrue result ↔ DifferWithin 4 0 x.now y.now }
-    ensures differ { OnTrue result
-        (crc_answer (crc_from castagnoli all_ones x.now) ≢ crc_answer (crc_from castagnoli all_ones y.now)) }
+    ensures differ { OnTrue result (crc32c_of x.now ≢ crc32c_of y.now) }
 {
     is_window(x, y, CRC_PLACES, 0)
 }
@@ -82,8 +80,7 @@ fn is_burst(x: &[u8], y: &[u8]) -> bool
 /// bit of a byte comes first. Their `crc32` then differs: it sees every burst of errors of up to 32 bits.
 pub fn apart_crc32_bits(x: &[u8], y: &[u8]) -> bool
     ensures exactly { IsTrue result ↔ DifferWithinBits 32 x.now y.now }
-    ensures differ { OnTrue result
-        (crc_answer (crc_from ieee all_ones x.now) ≢ crc_answer (crc_from ieee all_ones y.now)) }
+    ensures differ { OnTrue result (crc32_of x.now ≢ crc32_of y.now) }
 {
     is_burst(x, y)
 }
@@ -92,8 +89,7 @@ pub fn apart_crc32_bits(x: &[u8], y: &[u8]) -> bool
 /// Their `crc32c` then differs.
 pub fn apart_crc32c_bits(x: &[u8], y: &[u8]) -> bool
     ensures exactly { IsTrue result ↔ DifferWithinBits 32 x.now y.now }
-    ensures differ { OnTrue result
-        (crc_answer (crc_from castagnoli all_ones x.now) ≢ crc_answer (crc_from castagnoli all_ones y.now)) }
+    ensures differ { OnTrue result (crc32c_of x.now ≢ crc32c_of y.now) }
 {
     is_burst(x, y)
 }
@@ -130,13 +126,13 @@ pub fn apart_fnv1_32(x: &[u8], y: &[u8]) -> bool
 /// neighbouring bits, which may lie in five bytes: no burst of errors of up to 32 bits passes.
 pub fn windows_tell_apart()
     ensures crc32 { (x y : List ℕ) → IsText x → IsText y → DifferWithin 4 0 x y
-        → crc_answer (crc_from ieee all_ones x) ≢ crc_answer (crc_from ieee all_ones y) }
+        → crc32_of x ≢ crc32_of y }
     ensures crc32c { (x y : List ℕ) → IsText x → IsText y → DifferWithin 4 0 x y
-        → crc_answer (crc_from castagnoli all_ones x) ≢ crc_answer (crc_from castagnoli all_ones y) }
+        → crc32c_of x ≢ crc32c_of y }
     ensures crc32_bits { (x y : List ℕ) → IsText x → IsText y → DifferWithinBits 32 x y
-        → crc_answer (crc_from ieee all_ones x) ≢ crc_answer (crc_from ieee all_ones y) }
+        → crc32_of x ≢ crc32_of y }
     ensures crc32c_bits { (x y : List ℕ) → IsText x → IsText y → DifferWithinBits 32 x y
-        → crc_answer (crc_from castagnoli all_ones x) ≢ crc_answer (crc_from castagnoli all_ones y) }
+        → crc32c_of x ≢ crc32c_of y }
     ensures djb2_add { (x y : List ℕ) → IsText x → IsText y → DifferWithin 6 0xE0 x y
         → djb2_add_from 5381 x ≢ djb2_add_from 5381 y }
     ensures fnv1_64 { (x y : List ℕ) → IsText x → IsText y → DifferWithin 3 0 x y

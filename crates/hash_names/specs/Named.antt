@@ -2,7 +2,7 @@
 use Rattle.std.specs.Prelude.{ℕ, ◌+◌, ◌*◌, ◌^◌, Bool, true, false, List, Option, Some, None, codes, fold, option_map, slice_get}
 use Rattle.std.specs.List.{find}
 use Rattle.std.specs.Str.{bytes_eq}
-use Rattle.hash_more.specs.Crc32.{all_ones, castagnoli, crc_answer, crc_from, ieee}
+use Rattle.hash_more.specs.Crc32.{crc32_of, crc32c_of}
 use Rattle.hash_more.specs.Djb2Add.{djb2_add_from}
 use Rattle.hash_more.specs.Elf.{elf_from}
 use Rattle.hash_more.specs.Fnv1.{fnv1_32_from, fnv1_64_from}
@@ -11,11 +11,11 @@ use Rattle.hash_names.specs.declared.table.Kind.{Kind}
 use Rattle.hash_names.specs.declared.table.Kind.TheVariants.{Fnv1a32, Fnv1a64, Djb2, Sdbm, LoseLose, Bricolage, Oaat, Lookup3, Spooky, SpookyV1, PassThrough, FxHash, FxHash32, FxHash64, Crc32, Crc32c, Fnv1At32, Fnv1At64, Djb2Add, Joaat, Elf, Null}
 use Rattle.hash_names.specs.declared.table.TheConstants.{KINDS}
 use Rattle.hash_laws.specs.Reading.{cut}
-use Rattle.hash_bytes.specs.Fnv.{fnv1a32_from, fnv1a32_basis, fnv1a64_from, fnv1a64_basis}
+use Rattle.hash_bytes.specs.Fnv.{fnv1a32_basis, fnv1a64_basis, fnv1a32_of, fnv1a64_of}
 use Rattle.hash_fx.specs.Fx.{fx32, fx64, words32, words64}
-use Rattle.hash_jenkins.specs.Lookup3.{lookup3_from, lookup3_answer}
-use Rattle.hash_jenkins.specs.Oaat.{oaat_finish, oaat_state}
-use Rattle.hash_bytes.specs.Oz.{djb2_from}
+use Rattle.hash_jenkins.specs.Lookup3.{lookup3_from, lookup3_answer, lookup3_of}
+use Rattle.hash_jenkins.specs.Oaat.{oaat_of}
+use Rattle.hash_bytes.specs.Oz.{djb2_of}
 use Rattle.hash_bytes.specs.Pigeon.{bricolage_from}
 use Rattle.hash_jenkins.specs.Spooky.{spooky, spooky_v1}
 use Rattle.hash_rounds.specs.Sums.{sdbm_from, loselose_from, passthrough_from}
@@ -34,22 +34,22 @@ row number name bits cuts hash = record { number = number; name = name; bits = b
 
 -- the table
 abbrev pub row_of : Kind → Row
-row_of Fnv1a32 = row 0 (codes "fnv1a32") 32 false (fnv1a32_from fnv1a32_basis)
-row_of Fnv1a64 = row 1 (codes "fnv1a64") 64 false (fnv1a64_from fnv1a64_basis)
-row_of Djb2 = row 2 (codes "djb2") 32 false (djb2_from 5381)
+row_of Fnv1a32 = row 0 (codes "fnv1a32") 32 false fnv1a32_of
+row_of Fnv1a64 = row 1 (codes "fnv1a64") 64 false fnv1a64_of
+row_of Djb2 = row 2 (codes "djb2") 32 false djb2_of
 row_of Sdbm = row 3 (codes "sdbm") 32 false (sdbm_from 0)
 row_of LoseLose = row 4 (codes "loselose") 64 false (loselose_from 0)
 row_of Bricolage = row 5 (codes "bricolage") 64 false (bricolage_from 0)
-row_of Oaat = row 6 (codes "oaat") 64 false (λ text. oaat_finish (oaat_state 0 text))
-row_of Lookup3 = row 7 (codes "lookup3") 64 true (λ text. lookup3_answer (lookup3_from (0, 0) text))
+row_of Oaat = row 6 (codes "oaat") 64 false oaat_of
+row_of Lookup3 = row 7 (codes "lookup3") 64 true lookup3_of
 row_of Spooky = row 8 (codes "spooky") 64 false (λ text. (spooky 0 0 text).0)
 row_of SpookyV1 = row 9 (codes "spooky_v1") 64 false (λ text. (spooky_v1 0 0 text).0)
 row_of PassThrough = row 10 (codes "passthrough") 64 false (passthrough_from 0)
 row_of FxHash = row 11 (codes "fxhash") 64 true (λ text. fx64 0 (words64 text))
 row_of FxHash32 = row 12 (codes "fxhash32") 32 true (λ text. fx32 0 (words32 text))
 row_of FxHash64 = row 13 (codes "fxhash64") 64 true (λ text. fx64 0 (words64 text))
-row_of Crc32 = row 14 (codes "crc32") 32 false (λ text. crc_answer (crc_from ieee all_ones text))
-row_of Crc32c = row 15 (codes "crc32c") 32 false (λ text. crc_answer (crc_from castagnoli all_ones text))
+row_of Crc32 = row 14 (codes "crc32") 32 false crc32_of
+row_of Crc32c = row 15 (codes "crc32c") 32 false crc32c_of
 row_of Fnv1At32 = row 16 (codes "fnv1_32") 32 false (fnv1_32_from fnv1a32_basis)
 row_of Fnv1At64 = row 17 (codes "fnv1_64") 64 false (fnv1_64_from fnv1a64_basis)
 row_of Djb2Add = row 18 (codes "djb2_add") 32 false (djb2_add_from 5381)

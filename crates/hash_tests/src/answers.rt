@@ -1,11 +1,11 @@
 //! Each hash by its written definition: of a text in one call, and after any list of writes.
 ghost use Rattle.std.specs.Prelude.{◌≡◌, [], ◌∷◌, fold};
 ghost use Rattle.std.specs.List.{flat_map};
-ghost use Rattle.hashers.specs.Fnv.{fnv1a32_from, fnv1a32_basis, fnv1a64_from, fnv1a64_basis};
+ghost use Rattle.hashers.specs.Fnv.{fnv1a32_of, fnv1a64_of};
 ghost use Rattle.hashers.specs.Fx.{fx32, fx64, words32, words64};
-ghost use Rattle.hashers.specs.Lookup3.{lookup3_from, lookup3_answer};
-ghost use Rattle.hashers.specs.Oaat.{oaat_finish, oaat_state};
-ghost use Rattle.hashers.specs.Oz.{djb2_from};
+ghost use Rattle.hashers.specs.Lookup3.{lookup3_from, lookup3_answer, lookup3_of};
+ghost use Rattle.hashers.specs.Oaat.{oaat_of};
+ghost use Rattle.hashers.specs.Oz.{djb2_of};
 ghost use Rattle.hashers.specs.Pigeon.{bricolage_from};
 ghost use Rattle.hashers.specs.Spooky.{spooky, spooky_v1};
 ghost use Rattle.hashers.specs.Sums.{sdbm_from, loselose_from, passthrough_from};
@@ -23,9 +23,9 @@ use hashers::promises;
 
 /// The seven byte hashes of a text.
 pub fn byte_hashes(text: &[u8]) -> [u64; 7]
-    ensures { result ≡ fnv1a32_from fnv1a32_basis text.now ∷ fnv1a64_from fnv1a64_basis text.now
-        ∷ djb2_from 5381 text.now ∷ sdbm_from 0 text.now ∷ loselose_from 0 text.now
-        ∷ bricolage_from 0 text.now ∷ oaat_finish (oaat_state 0 text.now) ∷ [] }
+    ensures { result ≡ fnv1a32_of text.now ∷ fnv1a64_of text.now
+        ∷ djb2_of text.now ∷ sdbm_from 0 text.now ∷ loselose_from 0 text.now
+        ∷ bricolage_from 0 text.now ∷ oaat_of text.now ∷ [] }
 {
     [
         fnv1a32(text),
@@ -40,7 +40,7 @@ pub fn byte_hashes(text: &[u8]) -> [u64; 7]
 
 /// The others.
 pub fn other_hashes(text: &[u8]) -> [u64; 8]
-    ensures { result ≡ lookup3_answer (lookup3_from (0, 0) text.now) ∷ (spooky 0 0 text.now).0
+    ensures { result ≡ lookup3_of text.now ∷ (spooky 0 0 text.now).0
         ∷ (spooky_v1 0 0 text.now).0 ∷ 0 ∷ passthrough_from 0 text.now ∷ fx64 0 (words64 text.now)
         ∷ fx32 0 (words32 text.now) ∷ fx64 0 (words64 text.now) ∷ [] }
 {
@@ -58,10 +58,10 @@ pub fn other_hashes(text: &[u8]) -> [u64; 8]
 
 /// The seven byte hashes after writes: those of the joined bytes.
 pub fn byte_hashes_of_writes(writes: &[HasherWrite]) -> [u64; 7]
-    ensures { result ≡ fnv1a32_from fnv1a32_basis (joined_written writes.now)
-        ∷ fnv1a64_from fnv1a64_basis (joined_written writes.now) ∷ djb2_from 5381 (joined_written writes.now)
+    ensures { result ≡ fnv1a32_of (joined_written writes.now)
+        ∷ fnv1a64_of (joined_written writes.now) ∷ djb2_of (joined_written writes.now)
         ∷ sdbm_from 0 (joined_written writes.now) ∷ loselose_from 0 (joined_written writes.now)
-        ∷ bricolage_from 0 (joined_written writes.now) ∷ oaat_finish (oaat_state 0 (joined_written writes.now)) ∷ [] }
+        ∷ bricolage_from 0 (joined_written writes.now) ∷ oaat_of (joined_written writes.now) ∷ [] }
 {
     [
         promises::fnv1a32_of_writes(writes),

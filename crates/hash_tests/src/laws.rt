@@ -2,8 +2,8 @@
 ghost use Rattle.std.specs.Prelude.{◌≡◌, ◌≢◌, ◌↔◌, ◌++◌, ℕ, List, IsTrue};
 ghost use Rattle.std.specs.Bool.{OnTrue};
 ghost use Rattle.hashers.specs.DifferWithin.{DifferWithin};
-ghost use Rattle.hashers.specs.Fnv.{fnv1a32_from, fnv1a32_basis, fnv1a64_from, fnv1a64_basis};
-ghost use Rattle.hashers.specs.Oz.{djb2_from};
+ghost use Rattle.hashers.specs.Fnv.{fnv1a32_of, fnv1a64_of};
+ghost use Rattle.hashers.specs.Oz.{djb2_of};
 ghost use Rattle.hashers.specs.Sums.{sdbm_from};
 
 use hashers::laws::Streamed;
@@ -13,8 +13,8 @@ use hashers::{fnv, jenkins, laws, null, oz};
 /// Whether two texts are apart under all four windowed hashes: within two neighbouring bytes, in their low five bits.
 pub fn apart_under_all(x: &[u8], y: &[u8]) -> bool
     ensures exactly { IsTrue result ↔ (DifferWithin 6 0xE0 x.now y.now × DifferWithin 2 0 x.now y.now) }
-    ensures djb2 { OnTrue result (djb2_from 5381 x.now ≢ djb2_from 5381 y.now) }
-    ensures fnv32 { OnTrue result (fnv1a32_from fnv1a32_basis x.now ≢ fnv1a32_from fnv1a32_basis y.now) }
+    ensures djb2 { OnTrue result (djb2_of x.now ≢ djb2_of y.now) }
+    ensures fnv32 { OnTrue result (fnv1a32_of x.now ≢ fnv1a32_of y.now) }
 {
     laws::apart_djb2(x, y) && laws::apart_fnv32(x, y)
 }
@@ -23,7 +23,7 @@ pub fn apart_under_all(x: &[u8], y: &[u8]) -> bool
 pub fn apart_within_three(x: &[u8], y: &[u8]) -> bool
     ensures exactly { IsTrue result ↔ DifferWithin 3 0 x.now y.now }
     ensures sdbm { OnTrue result (sdbm_from 0 x.now ≢ sdbm_from 0 y.now) }
-    ensures fnv64 { OnTrue result (fnv1a64_from fnv1a64_basis x.now ≢ fnv1a64_from fnv1a64_basis y.now) }
+    ensures fnv64 { OnTrue result (fnv1a64_of x.now ≢ fnv1a64_of y.now) }
 {
     laws::apart_sdbm(x, y) && laws::apart_fnv64(x, y)
 }

@@ -12,7 +12,8 @@ pub use hash_fx::pieces::{
     run_words32, run_words64, words_by_place32, words_by_place64,
 };
 pub use hash_jenkins::two_texts::{
-    apart_by_zeros, cuts_show_in_lookup3, neighbouring_words_show, one_changed_block_shows,
+    apart_by_zeros, cuts_show_in_lookup3, differ_in_one_block, differ_in_one_stretch,
+    middles_in_one_group, neighbouring_words_show, one_changed_block_shows,
     one_changed_stretch_shows, position_of_joined_texts, same_answers_later,
     zeros_do_not_show_in_version_1,
 };
@@ -23,7 +24,7 @@ pub use hash_laws::traits::{
     no_bytes_change_nothing, one_changed_byte_shows, run_pair, run_pieces, run_streamed,
     string_is_a_text, text_is_its_steps, text_stays_in_range, writes_are_fed,
 };
-pub use hash_laws::window::{differ_at_one_place, is_window, texts_of_one_frame};
+pub use hash_laws::window::{differ_at_one_place, first_difference, is_window, texts_of_one_frame};
 pub use hash_laws::writes::{
     HasherWrite, answer_of_writes, run_writes, run_writes_streamed, unrun_writes,
 };

@@ -12,10 +12,10 @@ ghost use Rattle.hash_laws.specs.Text.{IsText};
 ghost use Rattle.hash_laws.specs.Writes.{written, all_written, joined_written};
 ghost use Rattle.hash_fx.specs.Fx.{fx32, fx32_step, fx64, fx64_step, words32, words64};
 ghost use Rattle.hash_jenkins.specs.Lookup3.{lookup3_from, lookup3_answer};
-ghost use Rattle.hash_jenkins.specs.Oaat.{oaat_state, oaat_finish};
+ghost use Rattle.hash_jenkins.specs.Oaat.{oaat_state, oaat_finish, oaat_of};
 ghost use Rattle.hash_jenkins.specs.Spooky.{spooky, spooky_v1};
-ghost use Rattle.hash_bytes.specs.Fnv.{fnv1a32_from, fnv1a32_basis, fnv1a64_from, fnv1a64_basis};
-ghost use Rattle.hash_bytes.specs.Oz.{djb2_from};
+ghost use Rattle.hash_bytes.specs.Fnv.{fnv1a32_from, fnv1a64_from, fnv1a32_of, fnv1a64_of};
+ghost use Rattle.hash_bytes.specs.Oz.{djb2_from, djb2_of};
 ghost use Rattle.hash_bytes.specs.Pigeon.{bricolage_from};
 
 use hash_bytes::fnv::{FNV1aHasher32, FNV1aHasher64};
@@ -40,21 +40,21 @@ use std::slice;
 
 /// `fnv1a32` of the joined bytes of the writes.
 pub fn fnv1a32_of_writes(writes: &[HasherWrite]) -> u64
-    ensures { result ≡ fnv1a32_from fnv1a32_basis (joined_written writes.now) }
+    ensures { result ≡ fnv1a32_of (joined_written writes.now) }
 {
     answer_of_writes::<FNV1aHasher32>(writes)
 }
 
 /// `fnv1a64` of the joined bytes of the writes.
 pub fn fnv1a64_of_writes(writes: &[HasherWrite]) -> u64
-    ensures { result ≡ fnv1a64_from fnv1a64_basis (joined_written writes.now) }
+    ensures { result ≡ fnv1a64_of (joined_written writes.now) }
 {
     answer_of_writes::<FNV1aHasher64>(writes)
 }
 
 /// `djb2` of the joined bytes of the writes.
 pub fn djb2_of_writes(writes: &[HasherWrite]) -> u64
-    ensures { result ≡ djb2_from 5381 (joined_written writes.now) }
+    ensures { result ≡ djb2_of (joined_written writes.now) }
 {
     answer_of_writes::<DJB2Hasher>(writes)
 }
@@ -82,7 +82,7 @@ pub fn bricolage_of_writes(writes: &[HasherWrite]) -> u64
 
 /// `oaat` of the joined bytes of the writes.
 pub fn oaat_of_writes(writes: &[HasherWrite]) -> u64
-    ensures { result ≡ oaat_finish (oaat_state 0 (joined_written writes.now)) }
+    ensures { result ≡ oaat_of (joined_written writes.now) }
 {
     answer_of_writes::<OAATHasher>(writes)
 }

@@ -5,8 +5,8 @@ ghost use Rattle.std.specs.Bool.{OnTrue};
 ghost use Rattle.hash_rounds.specs.Sums.{sdbm_from};
 ghost use Rattle.hash_laws.specs.Text.{IsText};
 ghost use Rattle.hash_laws.specs.DifferWithin.{DifferWithin};
-ghost use Rattle.hash_bytes.specs.Fnv.{fnv1a32_from, fnv1a32_basis, fnv1a64_from, fnv1a64_basis};
-ghost use Rattle.hash_bytes.specs.Oz.{djb2_from};
+ghost use Rattle.hash_bytes.specs.Fnv.{fnv1a32_of, fnv1a64_of};
+ghost use Rattle.hash_bytes.specs.Oz.{djb2_of};
 ghost use Rattle.hashers.specs.ShortWords.{IsShortWord};
 
 use hash_bytes::oz;
@@ -25,7 +25,7 @@ const FNV32_PLACES: usize = 2;
 /// five bits of a byte. Their `djb2` hashes then differ.
 pub fn apart_djb2(x: &[u8], y: &[u8]) -> bool
     ensures exactly { IsTrue result ↔ DifferWithin 6 0xE0 x.now y.now }
-    ensures differ { OnTrue result (djb2_from 5381 x.now ≢ djb2_from 5381 y.now) }
+    ensures differ { OnTrue result (djb2_of x.now ≢ djb2_of y.now) }
 {
     is_window(x, y, DJB2_PLACES, 0xE0)
 }
@@ -43,7 +43,7 @@ pub fn apart_sdbm(x: &[u8], y: &[u8]) -> bool
 /// differ.
 pub fn apart_fnv64(x: &[u8], y: &[u8]) -> bool
     ensures exactly { IsTrue result ↔ DifferWithin 3 0 x.now y.now }
-    ensures differ { OnTrue result (fnv1a64_from fnv1a64_basis x.now ≢ fnv1a64_from fnv1a64_basis y.now) }
+    ensures differ { OnTrue result (fnv1a64_of x.now ≢ fnv1a64_of y.now) }
 {
     is_window(x, y, FNV64_PLACES, 0)
 }
@@ -52,7 +52,7 @@ pub fn apart_fnv64(x: &[u8], y: &[u8]) -> bool
 /// differ.
 pub fn apart_fnv32(x: &[u8], y: &[u8]) -> bool
     ensures exactly { IsTrue result ↔ DifferWithin 2 0 x.now y.now }
-    ensures differ { OnTrue result (fnv1a32_from fnv1a32_basis x.now ≢ fnv1a32_from fnv1a32_basis y.now) }
+    ensures differ { OnTrue result (fnv1a32_of x.now ≢ fnv1a32_of y.now) }
 {
     is_window(x, y, FNV32_PLACES, 0)
 }
@@ -72,11 +72,11 @@ pub fn same_word(x: &[u8], y: &[u8]) -> bool
 /// and in bits outside the mask, the named hashes differ.
 pub fn windows_tell_apart()
     ensures djb2 { (x y : List ℕ) → IsText x → IsText y → DifferWithin 6 0xE0 x y
-        → djb2_from 5381 x ≢ djb2_from 5381 y }
+        → djb2_of x ≢ djb2_of y }
     ensures sdbm { (x y : List ℕ) → IsText x → IsText y → DifferWithin 3 0 x y
         → sdbm_from 0 x ≢ sdbm_from 0 y }
     ensures fnv64 { (x y : List ℕ) → IsText x → IsText y → DifferWithin 3 0 x y
-        → fnv1a64_from fnv1a64_basis x ≢ fnv1a64_from fnv1a64_basis y }
+        → fnv1a64_of x ≢ fnv1a64_of y }
     ensures fnv32 { (x y : List ℕ) → IsText x → IsText y → DifferWithin 2 0 x y
-        → fnv1a32_from fnv1a32_basis x ≢ fnv1a32_from fnv1a32_basis y }
+        → fnv1a32_of x ≢ fnv1a32_of y }
 {}
