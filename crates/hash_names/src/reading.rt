@@ -75,7 +75,7 @@ pub fn hash_of_text<H: Streamed, R: Read, const N: usize>(
 ) -> Result<u64, Unhashed>
     requires not_empty { 0 < N }
     requires small { N ≤ 65536 }
-    ensures { Hashes (H.hash_from H.start) (read limit R.remaining r.old r.new) result }
+    ensures { Hashes H.hash_of (read limit R.remaining r.old r.new) result }
 {
     hash_of_pieces::<H, R, N>(limit, r)
 }

@@ -23,7 +23,7 @@ pub trait HashTask {
 
     /// By a hasher to which cuts don't show.
     fn by_text<H: Streamed>(told: Self::Told, input: &mut Self::Input) -> Self::Outcome
-        ensures { by H.hash_of (H.hash_from H.start) told input.old input.new result };
+        ensures { by H.hash_of H.hash_of told input.old input.new result };
 
     /// By a hasher to which cuts may show, and which is fed pieces of 4096 bytes where the task reads.
     fn by_pieces<H: Piecewise>(told: Self::Told, input: &mut Self::Input) -> Self::Outcome

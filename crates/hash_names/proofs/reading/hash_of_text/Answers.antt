@@ -1,3 +1,4 @@
+use Rattle.std.proofs.Common.{sym}
 use Rattle.hash_laws.proofs.ReadingLemmas.{answer-cut}
 use Rattle.hash_names.specs.ReadingLaws.{Hashes-agree}
 use Rattle.hash_names.proofs.reading.hash_of_text.Goals as goal
@@ -10,5 +11,5 @@ returns g c =
     let stream = g.met.H.Streamed in
     let agree = answer-cut H.in_range H.after first.after_in_range first.after_nothing stream.after_joined H.answer H.fresh
     first.fresh_in_range
-    (g.H.Streamed.hash_from g.H.Streamed.start) stream.hash_from_start g.row.N c.requires.not_empty in
+    H.hash_of (λ text bytes. sym (first.hash_of_is text)) g.row.N c.requires.not_empty in
     Hashes-agree _ _ agree _ _ c.hash_of_pieces.ensures
