@@ -1,11 +1,11 @@
 -- What std feeds a hasher of a key.
-use Rattle.std.proofs.Common.{ℕ, ◌≡◌, List, [], ◌∷◌, ◌++◌, fold, ap, sym, ◌∙◌, refl}
+use Rattle.std.proofs.Common.{ℕ, ◌≡◌, ◌<◌, List, [], ◌∷◌, ◌++◌, fold, ap, sym, ◌∙◌, refl, lit<}
 use Rattle.std.proofs.lemmas.List.{append-nil}
 use Rattle.std.proofs.lemmas.List.Concat.{concat_is}
-use Rattle.std.proofs.lemmas.List.Elements.{All-nil, All-cons, All-head, All-tail}
+use Rattle.std.proofs.lemmas.List.Elements.{All-nil, All-append, All-cons, All-head, All-tail}
 use Rattle.std.specs.Prelude.{All}
 use Rattle.std.specs.List.{concat, flat_map}
-use Rattle.std.specs.Hash.{le_bytes}
+use Rattle.std.specs.Hash.{le_bytes, str}
 use Rattle.hash_laws.specs.Text.{IsText}
 use Rattle.hash_laws.proofs.TextLemmas.{IsText-one, IsText-le_bytes, IsByte}
 use Rattle.hash_laws.proofs.ReadingLemmas.{fold-pieces}
@@ -61,3 +61,18 @@ two_texts n m = All-cons IsText (le_bytes 8 n) (le_bytes 8 m ∷ []) (IsText-le_
 
 pub slice_texts : (n : ℕ) (bytes : List ℕ) → IsText bytes → All IsText (le_bytes 8 n ∷ flat_map (λ b. (b ∷ []) ∷ []) bytes)
 slice_texts n bytes texts = All-cons IsText (le_bytes 8 n) _ (IsText-le_bytes 8 n) (byte_texts bytes texts)
+
+-- the writes of each kind of part are texts: of a number, a byte, a string, and of one part after another
+pub number_text : (bytes n : ℕ) → All IsText (le_bytes bytes n ∷ [])
+number_text bytes n = All-cons IsText (le_bytes bytes n) [] (IsText-le_bytes bytes n) (All-nil IsText)
+
+pub byte_text : (byte : ℕ) → byte < 256 → All IsText ((byte ∷ []) ∷ [])
+byte_text byte below = All-cons IsText (byte ∷ []) [] (IsText-one byte below) (All-nil IsText)
+
+pub str_texts : (bytes : List ℕ) → IsText bytes → All IsText (str bytes)
+str_texts bytes text = All-cons IsText bytes ((255 ∷ []) ∷ []) text (byte_text 255 (lit< tt))
+
+pub parts_texts : (first second : List (List ℕ)) → All IsText first → All IsText second → All IsText (first ++ second)
+parts_texts first second = All-append IsText first second
+
+pub ruleset key_texts = (number_text, byte_text, str_texts, slice_texts, parts_texts)

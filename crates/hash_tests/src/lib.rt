@@ -5,8 +5,10 @@
 pub mod answers;
 pub mod byte_sum;
 pub mod generic;
+pub mod keys;
 pub mod laws;
 pub mod maps;
+pub mod names;
 pub mod pages;
 pub mod servers;
 #[cfg(test)]

@@ -5,7 +5,7 @@ ghost use Rattle.hashers.specs.Fnv.{fnv1a64_from};
 
 use hashers::fnv::FNV1aHasher64;
 use hashers::jenkins::spooky_hash::SpookyHasher;
-use hashers::laws::{Piecewise, Undo};
+use hashers::laws::{Piecewise, Undo, position_of_joined_texts};
 use hashers::reader::hash_stream;
 use std::io::Read;
 
@@ -16,6 +16,7 @@ const LIMIT: u64 = 1 << 40;
 pub fn fingerprint<R: Read>(r: &mut R) -> Option<(u64, u64)>
     ensures { (text : List ℕ) → R.remaining r.old ≡ Some text → IfSome result (λ it. it ≡ spooky 0 0 text) }
 {
+    position_of_joined_texts();
     let mut hasher = SpookyHasher::fresh();
     match hash_stream::<SpookyHasher, R, 4096>(&mut hasher, r, LIMIT) {
         Ok(taken) if taken.ended => Some(hasher.finish128()),

@@ -3,11 +3,10 @@ ghost use Rattle.std.specs.Prelude.{false, ◌≡◌, ◌≢◌, ◌<◌, ◌^�
 ghost use Rattle.std.specs.Bool.{OnFalse};
 ghost use Rattle.std.specs.FinMap as map;
 ghost use Rattle.std.specs.Io.KnownBytes.{IsAtEnd};
-ghost use Rattle.hash_laws.specs.DifferWithin.{DifferWithin};
-ghost use Rattle.hash_jenkins.specs.Oaat.{oaat_finish};
-ghost use Rattle.hashers.specs.Fnv.{fnv1a64_from, fnv1a64_basis};
-ghost use Rattle.hashers.specs.Oaat.{oaat_state};
-ghost use Rattle.hashers.specs.Oz.{djb2_from};
+ghost use Rattle.hashers.specs.DifferWithin.{DifferWithin};
+ghost use Rattle.hashers.specs.Fnv.{fnv1a64_from, fnv1a64_basis, fnv1a64_of};
+ghost use Rattle.hashers.specs.Oaat.{oaat_of};
+ghost use Rattle.hashers.specs.Oz.{djb2_from, djb2_of};
 ghost use Rattle.hashers.specs.Reading.{FeedsRead};
 
 use hash_buckets::{Buckets, NoRoom};
@@ -48,8 +47,8 @@ pub fn replace_last(h: &mut DJB2Hasher, old: &[u8], new: &[u8])
 
 /// The two hashes of a key from which a Bloom filter makes all others.
 pub fn bloom_hashes(key: &[u8]) -> (u64, u64)
-    ensures first { result.0 ≡ fnv1a64_from fnv1a64_basis key.now }
-    ensures second { result.1 ≡ oaat_finish (oaat_state 0 key.now) }
+    ensures first { result.0 ≡ fnv1a64_of key.now }
+    ensures second { result.1 ≡ oaat_of key.now }
 {
     (fnv1a64(key), oaat(key))
 }
@@ -57,7 +56,7 @@ pub fn bloom_hashes(key: &[u8]) -> (u64, u64)
 /// Whether two keys may share a slot of a `djb2` table: `false` promises that their hashes differ, and is answered for
 /// keys of one length that differ within six neighbouring places, and nowhere in the three high bits of a byte.
 pub fn may_collide(x: &[u8], y: &[u8]) -> bool
-    ensures differ { OnFalse result (djb2_from 5381 x.now ≢ djb2_from 5381 y.now) }
+    ensures differ { OnFalse result (djb2_of x.now ≢ djb2_of y.now) }
     ensures exactly { (result ≡ false) ↔ DifferWithin 6 0xE0 x.now y.now }
 {
     !apart_djb2(x, y)

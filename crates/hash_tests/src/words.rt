@@ -4,7 +4,7 @@ ghost use Rattle.hash_bloom.specs.File.{IsRefusal};
 ghost use Rattle.hash_bloom.specs.Filter.{Passes};
 
 use hash_bloom::Bloom;
-use hash_bloom::file::Unread;
+use hash_bloom::file::{Unread, a_file_tells_its_filter};
 use hashers::laws::Piecewise;
 use std::alloc::Global;
 
@@ -34,7 +34,11 @@ pub fn file_read_back<F: Piecewise, G: Piecewise>(
     ensures same { IfOk result (λ back. back ≡ filter.now) }
     ensures never_refused { IfErr result (λ why. IsRefusal why → ⊥) }
 {
+    a_file_tells_its_filter();
     let mut file = Vec::new(alloc);
     filter.write_to(&mut file, pair)?;
-    Bloom::read_from(alloc, &mut file.as_slice(), pair)
+    match Bloom::read_from(alloc, &mut file.as_slice(), pair) {
+        Ok(back) => Ok(back),
+        Err(why) => Err(why),
+    }
 }

@@ -3,6 +3,7 @@ pub mod TextMapLemmas
 pub mod WordsWritten
 pub use Rattle.hash_laws.proofs.CountLemmas
 pub use Rattle.hash_laws.proofs.SumLemmas
+pub use Rattle.hash_laws.proofs.KeyLemmas
 pub use Rattle.hash_laws.proofs.RecurrenceLemmas
 pub use Rattle.hash_laws.proofs.ReadingLemmas
 pub use Rattle.hash_laws.proofs.TextLemmas

@@ -22,7 +22,9 @@ pub use Rattle.hash_jenkins.specs.Lookup3
 pub use Rattle.hash_jenkins.specs.Mixing
 pub use Rattle.hash_jenkins.specs.Oaat
 pub use Rattle.hash_jenkins.specs.Spooky
+pub use Rattle.hash_jenkins.specs.SpookyParts
 pub use Rattle.hash_jenkins.specs.SpookyStanding
+pub use Rattle.hash_jenkins.specs.Filled
 pub use Rattle.hash_rounds.specs.Words
 pub use Rattle.hash_rounds.specs.Shuffle
 pub use Rattle.hash_jenkins.specs.Counted
@@ -30,5 +32,6 @@ pub use Rattle.hash_jenkins.specs.Zeros
 pub use Rattle.hash_rounds.specs.Steps
 pub use Rattle.hash_rounds.specs.Rounds
 pub use Rattle.hash_rounds.specs.Blocks
+pub use Rattle.hash_rounds.specs.Spooky as SpookyRounds
 pub use Rattle.hash_fx.specs.FxLaws
 pub use Rattle.hash_jenkins.specs.SpookyLaws

@@ -42,7 +42,7 @@ fn contains<F: Piecewise, G: Piecewise>(words: &[u64], bits: u64, probes: u32, k
 /// Proved:
 ///
 /// ```text
-/// IsInserted (fnv1a64_from fnv1a64_basis) (λ text. lookup3_answer (lookup3_from (0, 0) text))
+/// IsInserted fnv1a64_of lookup3_of
 ///     (filter_of bits probes words.old) (filter_of bits probes words.new) key.now result
 /// ```
 #[inline]
@@ -60,7 +60,7 @@ pub fn hashers_bloom_fnv1a64_lookup3_insert(
 /// Proved:
 ///
 /// ```text
-/// IsTrue result ↔ IsFound (fnv1a64_from fnv1a64_basis) (λ text. lookup3_answer (lookup3_from (0, 0) text))
+/// IsTrue result ↔ IsFound fnv1a64_of lookup3_of
 ///     (filter_of bits probes words.now) key.now
 /// ```
 #[inline]
@@ -80,7 +80,7 @@ pub fn hashers_bloom_fnv1a64_lookup3_contains(
 /// Proved:
 ///
 /// ```text
-/// IsInserted (λ text. (spooky 0 0 text).0) (λ text. lookup3_answer (lookup3_from (0, 0) text))
+/// IsInserted (λ text. (spooky 0 0 text).0) lookup3_of
 ///     (filter_of bits probes words.old) (filter_of bits probes words.new) key.now result
 /// ```
 #[inline]
@@ -98,7 +98,7 @@ pub fn hashers_bloom_spooky_lookup3_insert(
 /// Proved:
 ///
 /// ```text
-/// IsTrue result ↔ IsFound (λ text. (spooky 0 0 text).0) (λ text. lookup3_answer (lookup3_from (0, 0) text))
+/// IsTrue result ↔ IsFound (λ text. (spooky 0 0 text).0) lookup3_of
 ///     (filter_of bits probes words.now) key.now
 /// ```
 #[inline]

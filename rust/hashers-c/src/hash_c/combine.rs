@@ -55,8 +55,8 @@ pub fn hashers_passthrough_combine(hash1: u64, hash2: u64, n2: u64) -> u64 {
 /// ```text
 /// value: result ≡ bit_xor (bits_out ieee (8 * n2) (hash1 % 2 ^ 32)) (hash2 % 2 ^ 32)
 /// joined: (x y : List ℕ) → IsText x → IsText y → length y ≡ n2
-///     → hash1 ≡ crc_answer (crc_from ieee all_ones x) → hash2 ≡ crc_answer (crc_from ieee all_ones y)
-///     → result ≡ crc_answer (crc_from ieee all_ones (x ++ y))
+///     → hash1 ≡ crc32_of x → hash2 ≡ crc32_of y
+///     → result ≡ crc32_of (x ++ y)
 /// ```
 #[inline]
 pub fn hashers_crc32_combine(hash1: u64, hash2: u64, n2: u64) -> u64 {
@@ -70,8 +70,8 @@ pub fn hashers_crc32_combine(hash1: u64, hash2: u64, n2: u64) -> u64 {
 /// ```text
 /// value: result ≡ bit_xor (bits_out castagnoli (8 * n2) (hash1 % 2 ^ 32)) (hash2 % 2 ^ 32)
 /// joined: (x y : List ℕ) → IsText x → IsText y → length y ≡ n2
-///     → hash1 ≡ crc_answer (crc_from castagnoli all_ones x) → hash2 ≡ crc_answer (crc_from castagnoli all_ones y)
-///     → result ≡ crc_answer (crc_from castagnoli all_ones (x ++ y))
+///     → hash1 ≡ crc32c_of x → hash2 ≡ crc32c_of y
+///     → result ≡ crc32c_of (x ++ y)
 /// ```
 #[inline]
 pub fn hashers_crc32c_combine(hash1: u64, hash2: u64, n2: u64) -> u64 {

@@ -12,7 +12,7 @@ use hashers::{fnv, fx_hash, jenkins, null, oz, pigeon};
 /// Proved:
 ///
 /// ```text
-/// result ≡ fnv1a32_from fnv1a32_basis text.now
+/// result ≡ fnv1a32_of text.now
 /// ```
 #[inline]
 pub fn hashers_fnv1a32(text: &[u8]) -> u64 {
@@ -24,7 +24,7 @@ pub fn hashers_fnv1a32(text: &[u8]) -> u64 {
 /// Proved:
 ///
 /// ```text
-/// result ≡ fnv1a64_from fnv1a64_basis text.now
+/// result ≡ fnv1a64_of text.now
 /// ```
 #[inline]
 pub fn hashers_fnv1a64(text: &[u8]) -> u64 {
@@ -36,7 +36,7 @@ pub fn hashers_fnv1a64(text: &[u8]) -> u64 {
 /// Proved:
 ///
 /// ```text
-/// result ≡ djb2_from 5381 text.now
+/// result ≡ djb2_of text.now
 /// ```
 #[inline]
 pub fn hashers_djb2(text: &[u8]) -> u64 {
@@ -120,7 +120,7 @@ pub fn hashers_fxhash64(text: &[u8]) -> u64 {
 /// Proved:
 ///
 /// ```text
-/// result ≡ oaat_finish (oaat_state 0 text.now)
+/// result ≡ oaat_of text.now
 /// ```
 #[inline]
 pub fn hashers_oaat(text: &[u8]) -> u64 {
@@ -133,7 +133,7 @@ pub fn hashers_oaat(text: &[u8]) -> u64 {
 /// Proved:
 ///
 /// ```text
-/// result ≡ lookup3_answer (lookup3_from (0, 0) text.now)
+/// result ≡ lookup3_of text.now
 /// ```
 #[inline(never)]
 fn lookup3(text: &[u8]) -> u64 {
@@ -145,7 +145,7 @@ fn lookup3(text: &[u8]) -> u64 {
 /// Proved:
 ///
 /// ```text
-/// result ≡ lookup3_answer (lookup3_from (0, 0) text.now)
+/// result ≡ lookup3_of text.now
 /// ```
 #[inline]
 pub fn hashers_lookup3(text: &[u8]) -> u64 {
@@ -205,7 +205,7 @@ pub fn hashers_passthrough(text: &[u8]) -> u64 {
 /// Proved:
 ///
 /// ```text
-/// result ≡ crc_answer (crc_from ieee all_ones text.now)
+/// result ≡ crc32_of text.now
 /// ```
 #[inline]
 pub fn hashers_crc32(text: &[u8]) -> u64 {
@@ -217,7 +217,7 @@ pub fn hashers_crc32(text: &[u8]) -> u64 {
 /// Proved:
 ///
 /// ```text
-/// result ≡ crc_answer (crc_from castagnoli all_ones text.now)
+/// result ≡ crc32c_of text.now
 /// ```
 #[inline]
 pub fn hashers_crc32c(text: &[u8]) -> u64 {

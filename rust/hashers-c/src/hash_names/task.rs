@@ -21,7 +21,7 @@ pub trait HashTask {
     /// Proved:
     ///
     /// ```text
-    /// by H.hash_of (H.hash H.start) told input.old input.new result
+    /// by H.hash_of H.hash_of told input.old input.new result
     /// ```
     fn by_text<H: Streamed>(told: Self::Told, input: &mut Self::Input) -> Self::Outcome;
 

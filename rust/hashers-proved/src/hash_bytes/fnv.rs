@@ -84,7 +84,7 @@ pub type FNV1aHasher32 = ByteHasher<Plain<Fnv1aRule32>>;
 /// Proved:
 ///
 /// ```text
-/// result ≡ fnv1a32_from fnv1a32_basis bytes.now
+/// result ≡ fnv1a32_of bytes.now
 /// ```
 #[inline]
 pub fn fnv1a32(bytes: &[u8]) -> u64 {
@@ -141,7 +141,7 @@ pub type FNV1aHasher64 = ByteHasher<Plain<Fnv1aRule64>>;
 /// Proved:
 ///
 /// ```text
-/// result ≡ fnv1a64_from fnv1a64_basis bytes.now
+/// result ≡ fnv1a64_of bytes.now
 /// ```
 #[inline]
 pub fn fnv1a64(bytes: &[u8]) -> u64 {

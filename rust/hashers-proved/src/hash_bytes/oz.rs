@@ -67,7 +67,7 @@ pub type DJB2Hasher = ByteHasher<Plain<Djb2Rule>>;
 /// Proved:
 ///
 /// ```text
-/// result ≡ djb2_from 5381 bytes.now
+/// result ≡ djb2_of bytes.now
 /// ```
 #[inline]
 pub fn djb2(bytes: &[u8]) -> u64 {

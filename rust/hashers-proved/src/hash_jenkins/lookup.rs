@@ -226,7 +226,7 @@ impl Piecewise for Lookup3Hasher {
 /// Proved:
 ///
 /// ```text
-/// result ≡ lookup3_answer (lookup3_from (0, 0) bytes.now)
+/// result ≡ lookup3_of bytes.now
 /// ```
 #[inline]
 pub fn lookup3(bytes: &[u8]) -> u64 {

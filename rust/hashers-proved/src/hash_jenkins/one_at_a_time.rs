@@ -69,7 +69,7 @@ pub type OAATHasher = ByteHasher<Plain<OaatRule>>;
 /// Proved:
 ///
 /// ```text
-/// result ≡ oaat_finish (oaat_state 0 bytes.now)
+/// result ≡ oaat_of bytes.now
 /// ```
 #[inline]
 pub fn oaat(bytes: &[u8]) -> u64 {

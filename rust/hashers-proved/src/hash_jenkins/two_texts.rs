@@ -6,6 +6,7 @@ use crate::hash_laws;
 use crate::hash_jenkins::lookup::Lookup3Hasher;
 use crate::hash_jenkins::spooky_short::{LONG, zero_filled};
 use hash_laws::traits::Piecewise;
+use hash_laws::window::first_difference;
 
 // Whether `y` is `x` and zeros behind it.
 /// The caller has to see to it that:
@@ -59,5 +60,60 @@ pub fn same_answers_later(a: &mut Lookup3Hasher, b: &mut Lookup3Hasher, pieces: 
     for piece in pieces {
         a.feed(piece);
         b.feed(piece);
+    }
+}
+
+// Whether texts of one length agree from a place on.
+/// The caller has to see to it that:
+///
+/// ```text
+/// length x.now ≡ length y.now
+/// ```
+///
+/// Proved:
+///
+/// ```text
+/// IsTrue result ↔ AgreeFrom place x.now y.now
+/// ```
+#[inline]
+fn agree_from(x: &[u8], y: &[u8], place: usize) -> bool {
+    place >= x.len() || x[place..] == y[place..]
+}
+
+/// Whether the texts have one length and differ, but only within one of lookup3's blocks of twelve bytes. What then differs,
+/// `one_changed_block_shows` says.
+///
+/// Proved:
+///
+/// ```text
+/// IsTrue result ↔ DifferInOneBlock 12 x.now y.now
+/// ```
+#[inline]
+pub fn differ_in_one_block(x: &[u8], y: &[u8]) -> bool {
+    if x.len() != y.len() {
+        return false;
+    }
+    match first_difference(x, y) {
+        None => false,
+        Some(from) => agree_from(x, y, from / 12 * 12 + 12),
+    }
+}
+
+/// Whether the texts have one length and differ, but only in what SpookyHash adds between two mixes below 192 bytes. What then
+/// differs, `one_changed_stretch_shows` says.
+///
+/// Proved:
+///
+/// ```text
+/// IsTrue result ↔ DifferInOneStretch x.now y.now
+/// ```
+#[inline]
+pub fn differ_in_one_stretch(x: &[u8], y: &[u8]) -> bool {
+    if x.len() != y.len() {
+        return false;
+    }
+    match first_difference(x, y) {
+        None => false,
+        Some(from) => agree_from(x, y, (from + 16) / 32 * 32 + 16),
     }
 }

@@ -181,7 +181,7 @@ pub fn run_pieces<H: Piecewise>(h: &mut H, pieces: &[&[u8]]) {
 /// stands: (from text : List ℕ) → H.stands_at h.old from text
 ///     → H.stands_at h.new from (text ++ joined pieces.now)
 /// answers: (from text : List ℕ) → H.stands_at h.old from text
-///     → H.answer (H.state h.new) ≡ H.hash from (text ++ joined pieces.now)
+///     → H.answer (H.state h.new) ≡ H.hash_from from (text ++ joined pieces.now)
 /// text: IsText (joined pieces.now)
 /// ```
 #[inline]
@@ -196,7 +196,7 @@ pub fn run_streamed<H: Streamed>(h: &mut H, pieces: &[&[u8]]) {
 /// Proved:
 ///
 /// ```text
-/// defined: result ≡ H.hash H.start (joined pieces.now)
+/// defined: result ≡ H.hash_from H.start (joined pieces.now)
 /// value: result ≡ H.hash_of (joined pieces.now)
 /// text: IsText (joined pieces.now)
 /// ```

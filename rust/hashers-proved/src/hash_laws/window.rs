@@ -51,7 +51,7 @@ fn agree_under(mask: u8, x: &[u8], y: &[u8]) -> bool {
     x.iter().zip(y).all(|(a, b)| a & mask == b & mask)
 }
 
-/// The first place at which two texts of one length differ.
+/// The first place at which two texts of one length differ; `None` if they are equal.
 ///
 /// The caller has to see to it that:
 ///
@@ -66,6 +66,6 @@ fn agree_under(mask: u8, x: &[u8], y: &[u8]) -> bool {
 /// some: IfSome result (λ i. IsFirstDifference i x.now y.now)
 /// ```
 #[inline]
-fn first_difference(x: &[u8], y: &[u8]) -> Option<usize> {
+pub fn first_difference(x: &[u8], y: &[u8]) -> Option<usize> {
     x.iter().zip(y).position(|(a, b)| a != b)
 }

@@ -110,7 +110,7 @@ pub fn run_writes<H: Piecewise>(h: &mut H, writes: &[HasherWrite]) {
 /// stands: (from text : List ℕ) → H.stands_at h.old from text
 ///     → H.stands_at h.new from (text ++ joined_written writes.now)
 /// answers: (from text : List ℕ) → H.stands_at h.old from text
-///     → H.answer (H.state h.new) ≡ H.hash from (text ++ joined_written writes.now)
+///     → H.answer (H.state h.new) ≡ H.hash_from from (text ++ joined_written writes.now)
 /// text: IsText (joined_written writes.now)
 /// ```
 #[inline]
@@ -125,7 +125,7 @@ pub fn run_writes_streamed<H: Streamed>(h: &mut H, writes: &[HasherWrite]) {
 /// Proved:
 ///
 /// ```text
-/// defined: result ≡ H.hash H.start (joined_written writes.now)
+/// defined: result ≡ H.hash_from H.start (joined_written writes.now)
 /// value: result ≡ H.hash_of (joined_written writes.now)
 /// text: IsText (joined_written writes.now)
 /// ```

@@ -215,7 +215,7 @@ pub type Crc32cHasher = ByteHasher<CrcRule<Castagnoli>>;
 /// Proved:
 ///
 /// ```text
-/// result ≡ crc_answer (crc_from ieee all_ones bytes.now)
+/// result ≡ crc32_of bytes.now
 /// ```
 #[inline]
 pub fn crc32(bytes: &[u8]) -> u64 {
@@ -227,7 +227,7 @@ pub fn crc32(bytes: &[u8]) -> u64 {
 /// Proved:
 ///
 /// ```text
-/// result ≡ crc_answer (crc_from castagnoli all_ones bytes.now)
+/// result ≡ crc32c_of bytes.now
 /// ```
 #[inline]
 pub fn crc32c(bytes: &[u8]) -> u64 {
@@ -315,8 +315,8 @@ fn combine<P: Polynomial>(hash1: u64, hash2: u64, length2: u64) -> u64 {
 /// ```text
 /// value: result ≡ bit_xor (bits_out ieee (8 * length2) (hash1 % 2 ^ 32)) (hash2 % 2 ^ 32)
 /// joined: (x y : List ℕ) → IsText x → IsText y → length y ≡ length2
-///     → hash1 ≡ crc_answer (crc_from ieee all_ones x) → hash2 ≡ crc_answer (crc_from ieee all_ones y)
-///     → result ≡ crc_answer (crc_from ieee all_ones (x ++ y))
+///     → hash1 ≡ crc32_of x → hash2 ≡ crc32_of y
+///     → result ≡ crc32_of (x ++ y)
 /// ```
 #[inline]
 pub fn crc32_combine(hash1: u64, hash2: u64, length2: u64) -> u64 {
@@ -330,8 +330,8 @@ pub fn crc32_combine(hash1: u64, hash2: u64, length2: u64) -> u64 {
 /// ```text
 /// value: result ≡ bit_xor (bits_out castagnoli (8 * length2) (hash1 % 2 ^ 32)) (hash2 % 2 ^ 32)
 /// joined: (x y : List ℕ) → IsText x → IsText y → length y ≡ length2
-///     → hash1 ≡ crc_answer (crc_from castagnoli all_ones x) → hash2 ≡ crc_answer (crc_from castagnoli all_ones y)
-///     → result ≡ crc_answer (crc_from castagnoli all_ones (x ++ y))
+///     → hash1 ≡ crc32c_of x → hash2 ≡ crc32c_of y
+///     → result ≡ crc32c_of (x ++ y)
 /// ```
 #[inline]
 pub fn crc32c_combine(hash1: u64, hash2: u64, length2: u64) -> u64 {

@@ -22,8 +22,7 @@ const FNV1_32_PLACES: usize = 2;
 ///
 /// ```text
 /// exactly: IsTrue result ↔ DifferWithin 4 0 x.now y.now
-/// differ: OnTrue result
-///     (crc_answer (crc_from ieee all_ones x.now) ≢ crc_answer (crc_from ieee all_ones y.now))
+/// differ: OnTrue result (crc32_of x.now ≢ crc32_of y.now)
 /// ```
 #[inline]
 pub fn apart_crc32(x: &[u8], y: &[u8]) -> bool {
@@ -36,8 +35,7 @@ pub fn apart_crc32(x: &[u8], y: &[u8]) -> bool {
 ///
 /// ```text
 /// exactly: IsTrue result ↔ DifferWithin 4 0 x.now y.now
-/// differ: OnTrue result
-///     (crc_answer (crc_from castagnoli all_ones x.now) ≢ crc_answer (crc_from castagnoli all_ones y.now))
+/// differ: OnTrue result (crc32c_of x.now ≢ crc32c_of y.now)
 /// ```
 #[inline]
 pub fn apart_crc32c(x: &[u8], y: &[u8]) -> bool {
@@ -114,8 +112,7 @@ fn is_burst(x: &[u8], y: &[u8]) -> bool {
 ///
 /// ```text
 /// exactly: IsTrue result ↔ DifferWithinBits 32 x.now y.now
-/// differ: OnTrue result
-///     (crc_answer (crc_from ieee all_ones x.now) ≢ crc_answer (crc_from ieee all_ones y.now))
+/// differ: OnTrue result (crc32_of x.now ≢ crc32_of y.now)
 /// ```
 #[inline]
 pub fn apart_crc32_bits(x: &[u8], y: &[u8]) -> bool {
@@ -129,8 +126,7 @@ pub fn apart_crc32_bits(x: &[u8], y: &[u8]) -> bool {
 ///
 /// ```text
 /// exactly: IsTrue result ↔ DifferWithinBits 32 x.now y.now
-/// differ: OnTrue result
-///     (crc_answer (crc_from castagnoli all_ones x.now) ≢ crc_answer (crc_from castagnoli all_ones y.now))
+/// differ: OnTrue result (crc32c_of x.now ≢ crc32c_of y.now)
 /// ```
 #[inline]
 pub fn apart_crc32c_bits(x: &[u8], y: &[u8]) -> bool {

@@ -12,7 +12,7 @@ pub use hash_fx::pieces::{
     run_words32, run_words64,
 };
 pub use hash_jenkins::two_texts::{
-    apart_by_zeros,
+    apart_by_zeros, differ_in_one_block, differ_in_one_stretch,
     same_answers_later,
 };
 pub use hash_laws::traits::{
@@ -21,6 +21,7 @@ pub use hash_laws::traits::{
     run_pair, run_pieces, run_streamed,
     string_is_a_text,
 };
+pub use hash_laws::window::{differ_at_one_place, first_difference, is_window};
 pub use hash_laws::writes::{
     HasherWrite, answer_of_writes, run_writes, run_writes_streamed, unrun_writes,
 };

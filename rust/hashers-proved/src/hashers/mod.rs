@@ -14,6 +14,6 @@ pub use hash_jenkins as jenkins;
 pub use hash_laws::{build as build, window as window};
 // Of the import above what wants std:
 #[cfg(feature = "std")]
-pub use hash_laws::engine as engine;
+pub use hash_laws::reader as reader;
 pub use hash_rounds as rounds;
 pub use hash_rules as rules;

@@ -32,7 +32,7 @@ use std::slice;
 /// Proved:
 ///
 /// ```text
-/// result ≡ fnv1a32_from fnv1a32_basis (joined_written writes.now)
+/// result ≡ fnv1a32_of (joined_written writes.now)
 /// ```
 #[inline]
 pub fn fnv1a32_of_writes(writes: &[HasherWrite]) -> u64 {
@@ -44,7 +44,7 @@ pub fn fnv1a32_of_writes(writes: &[HasherWrite]) -> u64 {
 /// Proved:
 ///
 /// ```text
-/// result ≡ fnv1a64_from fnv1a64_basis (joined_written writes.now)
+/// result ≡ fnv1a64_of (joined_written writes.now)
 /// ```
 #[inline]
 pub fn fnv1a64_of_writes(writes: &[HasherWrite]) -> u64 {
@@ -56,7 +56,7 @@ pub fn fnv1a64_of_writes(writes: &[HasherWrite]) -> u64 {
 /// Proved:
 ///
 /// ```text
-/// result ≡ djb2_from 5381 (joined_written writes.now)
+/// result ≡ djb2_of (joined_written writes.now)
 /// ```
 #[inline]
 pub fn djb2_of_writes(writes: &[HasherWrite]) -> u64 {
@@ -104,7 +104,7 @@ pub fn bricolage_of_writes(writes: &[HasherWrite]) -> u64 {
 /// Proved:
 ///
 /// ```text
-/// result ≡ oaat_finish (oaat_state 0 (joined_written writes.now))
+/// result ≡ oaat_of (joined_written writes.now)
 /// ```
 #[inline]
 pub fn oaat_of_writes(writes: &[HasherWrite]) -> u64 {

@@ -23,7 +23,7 @@ const FNV32_PLACES: usize = 2;
 ///
 /// ```text
 /// exactly: IsTrue result ↔ DifferWithin 6 0xE0 x.now y.now
-/// differ: OnTrue result (djb2_from 5381 x.now ≢ djb2_from 5381 y.now)
+/// differ: OnTrue result (djb2_of x.now ≢ djb2_of y.now)
 /// ```
 #[inline]
 pub fn apart_djb2(x: &[u8], y: &[u8]) -> bool {
@@ -51,7 +51,7 @@ pub fn apart_sdbm(x: &[u8], y: &[u8]) -> bool {
 ///
 /// ```text
 /// exactly: IsTrue result ↔ DifferWithin 3 0 x.now y.now
-/// differ: OnTrue result (fnv1a64_from fnv1a64_basis x.now ≢ fnv1a64_from fnv1a64_basis y.now)
+/// differ: OnTrue result (fnv1a64_of x.now ≢ fnv1a64_of y.now)
 /// ```
 #[inline]
 pub fn apart_fnv64(x: &[u8], y: &[u8]) -> bool {
@@ -65,7 +65,7 @@ pub fn apart_fnv64(x: &[u8], y: &[u8]) -> bool {
 ///
 /// ```text
 /// exactly: IsTrue result ↔ DifferWithin 2 0 x.now y.now
-/// differ: OnTrue result (fnv1a32_from fnv1a32_basis x.now ≢ fnv1a32_from fnv1a32_basis y.now)
+/// differ: OnTrue result (fnv1a32_of x.now ≢ fnv1a32_of y.now)
 /// ```
 #[inline]
 pub fn apart_fnv32(x: &[u8], y: &[u8]) -> bool {

@@ -1,6 +1,6 @@
 //! The hash of what a reader gives, read through one fixed array, however the reader cuts it.
 
-// What follows is the proved text of crates/hash_laws/src/engine.rt without its contracts.
+// What follows is the proved text of crates/hash_laws/src/reader.rt without its contracts.
 use crate::std;
 
 use crate::hash_laws::traits::{Piecewise, Streamed};
@@ -157,7 +157,8 @@ pub fn hash_reader<H: Piecewise, R: Read, const N: usize>(
     })
 }
 
-/// `hash_reader` for a hasher to which cuts don't show: its state is then that after the text that was read, however it came.
+/// `hash_reader` for a hasher to which cuts don't show: its state is then that after the text that was read, however it came,
+/// and it stands behind that text.
 ///
 /// The caller has to see to it that:
 ///
@@ -169,16 +170,25 @@ pub fn hash_reader<H: Piecewise, R: Read, const N: usize>(
 /// Proved:
 ///
 /// ```text
-/// taken: IfOk result (λ taken. HashesRead H.in_range H.after (R.remaining r.old)
-///     (R.remaining r.new) (H.state h.old) (H.state h.new) taken.bytes)
-/// fault: IfErr result (λ fault. HashesRead H.in_range H.after (R.remaining r.old)
-///     (R.remaining r.new) (H.state h.old) (H.state h.new) fault.bytes)
-/// first_taken: IfOk result (λ taken. HashesFirst H.in_range H.after (R.remaining r.old)
+/// taken: IfOk result (λ taken. HashesRead H.state H.after H.stands_at (R.remaining r.old)
+///     (R.remaining r.new) h.old h.new taken.bytes)
+/// fault: IfErr result (λ fault. HashesRead H.state H.after H.stands_at (R.remaining r.old)
+///     (R.remaining r.new) h.old h.new fault.bytes)
+/// up_to_limit: IfOk result (λ taken. HashesFirst H.after (R.remaining r.old)
+///     (H.state h.old) (H.state h.new) limit)
+/// stands: IfOk result (λ taken. StandsFirst H.stands_at (R.remaining r.old) h.old h.new limit)
+/// short: IfOk result (λ taken. (text : List ℕ) → R.remaining r.old ≡ Some text
+///     → (IsTrue taken.ended ↔ (length text < limit)))
+/// count: IfOk result (λ taken. (text : List ℕ) → R.remaining r.old ≡ Some text
+///     → taken.bytes ≡ min limit (length text))
+/// first_taken: IfOk result (λ taken. HashesFirst H.after (R.remaining r.old)
 ///     (H.state h.old) (H.state h.new) taken.bytes)
-/// first_fault: IfErr result (λ fault. HashesFirst H.in_range H.after (R.remaining r.old)
+/// first_fault: IfErr result (λ fault. HashesFirst H.after (R.remaining r.old)
 ///     (H.state h.old) (H.state h.new) fault.bytes)
+/// stands_fault: IfErr result (λ fault. StandsFirst H.stands_at (R.remaining r.old)
+///     h.old h.new fault.bytes)
 /// all: IfOk result (λ taken. IsTrue taken.ended
-///     → HashesAll H.in_range H.after (R.remaining r.old) (H.state h.old) (H.state h.new))
+///     → HashesAll H.after (R.remaining r.old) (H.state h.old) (H.state h.new))
 /// within: IfOk result (λ taken. taken.bytes ≤ limit)
 /// at_limit: IfOk result (λ taken. (taken.ended ≡ false) ↔ (taken.bytes ≡ limit))
 /// nothing_left: IfOk result (λ taken. IsTrue taken.ended → IsAtEnd (R.remaining r.new))
@@ -190,5 +200,6 @@ pub fn hash_stream<H: Streamed, R: Read, const N: usize>(
     r: &mut R,
     limit: u64,
 ) -> Result<Taken, Fault> {
+    h.state_in_range();
     hash_reader::<H, R, N>(h, r, limit)
 }
