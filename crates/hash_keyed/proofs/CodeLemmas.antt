@@ -3,7 +3,7 @@ use Rattle.std.proofs.Common.{ℕ, ◌≡◌, ◌+◌, ◌*◌, ◌/◌, ◌%◌
 use Rattle.std.proofs.Math.Nat.{mod-mod}
 use Rattle.std.proofs.Math.Pow.{pow_mono}
 use Rattle.std.proofs.lemmas.Nat.{mul-mod_first, mul-le, pow-add, shl_whole}
-use Rattle.std.proofs.lemmas.List.{take-append-drop, drop-append-le, take-append-le, drop_at, length-take-le, take_more, take_all, append_assoc}
+use Rattle.std.proofs.lemmas.List.{take-append-drop, drop-append-le, take-append-le, drop_at, length-take-le, take_more, take_all, take-take, append_assoc}
 use Rattle.std.specs.Simd.{first_chunks}
 use Rattle.std.proofs.lemmas.List.Elements.{All-head, All-tail, All-take}
 use Rattle.hashers.specs.Text.{IsText}
@@ -150,6 +150,14 @@ pub seven_more : (key s t w : ℕ) (rest word more : List ℕ) (end : Position) 
 seven_more key s t w rest word more end front back long number led so_far =
     ap (after (full_words key t)) back
     ∙ sym (after-seven key s t rest (omega (arith, long)) (led ∙ ap (poly_step prime61 key s) (number ∙ ap le front))) ∙ so_far
+
+-- of eight bytes at the front the first seven
+pub eight_more : (key s t w : ℕ) (rest block more : List ℕ) (end : Position) → block ≡ take 8 rest → more ≡ drop 7 rest
+    → 8 ≤ length rest → w ≡ le (take 7 block) → t % prime61 ≡ poly_step prime61 key s w
+    → after (full_words key s) rest ≡ end → after (full_words key t) more ≡ end
+eight_more key s t w rest block more end front back enough number led so_far =
+    seven_more key s t w rest (take 7 rest) more end refl back (omega (arith, ap length back, length-drop 7 rest, enough))
+    (number ∙ ap (λ l. le (take 7 l)) front ∙ ap le (take-take 7 8 rest (omega arith))) led so_far
 
 -- ---- the answer
 

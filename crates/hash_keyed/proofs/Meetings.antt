@@ -1,5 +1,5 @@
 -- Over all keys together, few pairs of texts meet.
-use Rattle.std.proofs.Common.{ℕ, suc, ◌≡◌, ◌≢◌, ◌+◌, ◌-◌, ◌*◌, ◌/◌, ◌%◌, ◌^◌, ◌≤◌, max, cond, List, [], ◌∷◌, length, get_or, filter, All, AllPairs, refl, le_refl, arith}
+use Rattle.std.proofs.Common.{ℕ, suc, ◌≢◌, ◌+◌, ◌-◌, ◌*◌, ◌/◌, ◌%◌, ◌^◌, ◌≤◌, max, cond, List, [], ◌∷◌, length, get_or, filter, All, AllPairs, le_refl, arith}
 use Rattle.std.specs.List.{count_by, sum_by}
 use Rattle.std.proofs.lemmas.Bool.{eqb-true}
 use Rattle.std.proofs.lemmas.Nat.{mul-le}

@@ -3,6 +3,7 @@ use Rattle.std.specs.Prelude.{ℕ, ◌≡◌, ◌+◌, ◌-◌, ◌*◌, ◌/◌
 use Rattle.hashers.specs.Text.{IsText}
 use Rattle.hashers.specs.Words.{le}
 use Rattle.hash_keyed.specs.Poly61.{prime61, poly_step, poly_hash}
+use Rattle.hash_keyed.specs.declared.poly61.Poly61Place.{Poly61Place}
 
 -- the key, the state after all full words, and the bytes behind these: the number that they are, the first the lowest, and how many
 pub record Position : Type 0 where
@@ -10,6 +11,10 @@ pub record Position : Type 0 where
   pub state : ℕ
   pub word : ℕ
   pub count : ℕ
+
+-- the same in the numbers that a caller may keep
+abbrev pub place_of : Poly61Place → Position
+place_of place = record { key = place.key; state = place.state; word = place.word; count = place.count }
 
 -- the key of a default hasher: any would do
 abbrev pub default_key : ℕ

@@ -4,7 +4,7 @@ ghost use Rattle.hash_keyed.specs.Poly61.{prime61, poly_step};
 ghost use Rattle.hash_keyed.specs.Poly61State.{poly_end, as_word};
 
 /// The prime 2^61 - 1.
-const PRIME: u64 = 2305843009213693951;
+pub(crate) const PRIME: u64 = 2305843009213693951;
 
 /// The product of two numbers.
 #[inline(always)]
@@ -56,12 +56,23 @@ pub(crate) fn remainder(x: u64) -> u64
 #[inline(always)]
 pub(crate) fn step(key: u64, state: u64, word: u64) -> u64
     requires key_in { key < prime61 }
-    requires state_in { state < 2 ^ 61 + 8 }
+    requires state_in { state < 2 ^ 62 }
     requires word_in { word < 2 ^ 57 }
     ensures same { result % prime61 ≡ poly_step prime61 key state word }
     ensures small { result < 2 ^ 61 + 8 }
 {
     folded(product(state, key) + u128::from(word))
+}
+
+/// The first word: one step from the state 1, with no product.
+#[inline(always)]
+pub(crate) fn first_step(key: u64, word: u64) -> u64
+    requires key_in { key < prime61 }
+    requires word_in { word < 2 ^ 57 }
+    ensures same { result % prime61 ≡ poly_step prime61 key 1 word }
+    ensures small { result < 2 ^ 62 }
+{
+    key + word
 }
 
 /// A byte at its place in a word.
@@ -83,15 +94,35 @@ pub(crate) fn word_of(value: u64) -> u64
     value + value % 8 * 2305843009213693952
 }
 
-/// The answer: the last word in, once more by the key, and the low three bits once more as the highest.
+/// The answer where the last word is in: once more by the key, and the low three bits once more as the highest.
+#[inline(always)]
+fn finished(key: u64, state: u64) -> u64
+    requires key_in { key < prime61 }
+    requires state_in { state < 2 ^ 62 }
+    ensures { result ≡ as_word ((state * key) % prime61) }
+{
+    word_of(reduced(folded(product(state, key))))
+}
+
+/// The answer behind full words: the last word in, which is so many bytes and a byte 1 behind them, and finished.
 #[inline(always)]
 pub(crate) fn ended(key: u64, state: u64, word: u64, count: u32) -> u64
     requires key_in { key < prime61 }
-    requires state_in { state < 2 ^ 61 + 8 }
+    requires state_in { state < 2 ^ 62 }
     requires word_in { word < 2 ^ (8 * count) }
     requires count_in { count < 7 }
     ensures { result ≡ as_word (poly_end (record { key = key; state = state % prime61; word = word; count = count })) }
 {
-    let last = word + placed(1, count);
-    word_of(reduced(folded(product(step(key, state, last), key))))
+    finished(key, step(key, state, word + placed(1, count)))
+}
+
+/// The same of fewer than seven bytes alone.
+#[inline(always)]
+pub(crate) fn ended_at_once(key: u64, word: u64, count: u32) -> u64
+    requires key_in { key < prime61 }
+    requires word_in { word < 2 ^ (8 * count) }
+    requires count_in { count < 7 }
+    ensures { result ≡ as_word (poly_end (record { key = key; state = 1 % prime61; word = word; count = count })) }
+{
+    finished(key, first_step(key, word + placed(1, count)))
 }

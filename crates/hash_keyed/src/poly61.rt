@@ -1,19 +1,47 @@
 //! The hash of a text by its polynomial over the prime 2^61 - 1, at a key.
-ghost use Rattle.std.specs.Prelude.{◌≡◌, ◌+◌, ◌*◌, ◌%◌, ◌^◌, ◌<◌, ℕ, List, [], ◌∷◌, ◌++◌, slice_index, refl};
+ghost use Rattle.std.specs.Prelude.{◌↔◌, IsTrue, MatchOption, ◌≡◌, ◌+◌, ◌*◌, ◌%◌, ◌^◌, ◌<◌, ℕ, List, [], ◌∷◌, ◌++◌, slice_index, refl};
 ghost use Rattle.std.proofs.Common.{lit<};
 ghost use Rattle.hashers.specs.Text.{IsText};
 ghost use Rattle.hash_keyed.specs.Poly61.{prime61, poly_step, poly_hash};
-ghost use Rattle.hash_keyed.specs.Poly61State.{Position, start_at, byte_in, after, poly_end, as_word, poly61, IsPosition, PolyStandsAt, poly61_from, default_key};
+ghost use Rattle.hash_keyed.specs.Poly61State.{Position, start_at, byte_in, after, poly_end, as_word, poly61, IsPosition, PolyStandsAt, place_of, poly61_from, default_key};
 ghost use Rattle.hash_keyed.specs.Poly61Laws.{IsPosition-start, IsPosition-after, after-nil, after-append, stands_at_key, stands_after, answer_where_stands, hash_from_key, poly61-is};
 
-use crate::modular::{ended, placed, remainder, step};
-use crate::words::{few, full_words};
+use crate::modular::{PRIME, ended, ended_at_once, placed, reduced, remainder, step};
+use crate::words::{few, full_words, text_words};
 use hashers::laws::{Piecewise, Streamed};
 use std::hash::Hasher;
 use std::marker::Model;
 
 /// The key of a default hasher. Everybody knows it, so it is of use where nobody chooses the texts.
 const DEFAULT_KEY: u64 = 1234567890123456789;
+
+/// Where a [`Poly61Hasher`] stands, in whole numbers that a caller may keep: the key, the state behind the full words, and the bytes
+/// behind these, as the number that they are and how many.
+#[repr(C)]
+#[derive(Clone, Copy)]
+pub struct Poly61Place {
+    /// The key, below 2^61 - 1.
+    pub key: u64,
+    /// The state, below 2^61 - 1.
+    pub state: u64,
+    /// The number that the bytes behind the full words are, the first the lowest.
+    pub word: u64,
+    /// How many they are: fewer than seven.
+    pub count: u64,
+}
+
+impl Poly61Place {
+    /// Whether some hasher stands there.
+    #[inline(always)]
+    fn is_somewhere(&self) -> bool
+        ensures { IsTrue result ↔ IsPosition (place_of self.now) }
+    {
+        self.key < PRIME
+            && self.state < PRIME
+            && self.count < 7
+            && self.word >> (8 * self.count) == 0
+    }
+}
 
 /// The hash of a text by its polynomial, at a key.
 pub struct Poly61Hasher {
@@ -59,6 +87,36 @@ impl Poly61Hasher {
             state: 1,
             word: 0,
             count: 0,
+        }
+    }
+
+    /// The hasher that stands there; `None` if no hasher does.
+    #[inline(always)]
+    pub fn at(place: &Poly61Place) -> Option<Poly61Hasher>
+        ensures { MatchOption result (¬ IsPosition (place_of place.now)) (λ h. (h ≡ place_of place.now) × IsPosition h) }
+    {
+        if !place.is_somewhere() {
+            return None;
+        }
+        Some(Poly61Hasher {
+            key: place.key,
+            state: place.state,
+            word: place.word,
+            count: place.count as u32,
+        })
+    }
+
+    /// Where it stands.
+    #[inline(always)]
+    pub fn place(&self) -> Poly61Place
+        ensures there { place_of result ≡ self.now }
+        ensures in_range { IsPosition self.now }
+    {
+        Poly61Place {
+            key: self.key,
+            state: reduced(self.state),
+            word: self.word,
+            count: u64::from(self.count),
         }
     }
 
@@ -212,6 +270,9 @@ pub fn poly61(key: u64, bytes: &[u8]) -> u64
     ensures { result ≡ poly61 (key % prime61) bytes.now }
 {
     let key = remainder(key);
-    let (state, last) = full_words(key, 1, bytes);
+    if bytes.len() < 7 {
+        return ended_at_once(key, few(bytes), bytes.len() as u32);
+    }
+    let (state, last) = text_words(key, bytes);
     ended(key, state, few(last), last.len() as u32)
 }
