@@ -1,12 +1,12 @@
 -- How hashes fall into buckets.
-use Rattle.std.proofs.Common.{◌≡◌, ◌<◌, ◌≤◌, ◌+◌, ◌-◌, ◌*◌, ◌%◌, ◌^◌, ℕ, zero, suc, Bool, true, false, cond, eqb, List, [], ◌∷◌, length, take, get_or, All, Contains, refl, ap, sym, ◌∙◌, arith}
-use Rattle.std.specs.List.{range_with_len, sum, sum_by}
+use Rattle.std.proofs.Common.{◌≡◌, ◌<◌, ◌≤◌, ◌+◌, ◌-◌, ◌*◌, ◌%◌, ◌^◌, ℕ, Bool, true, false, eqb, List, [], ◌∷◌, length, take, get_or, All, Contains, refl, ap, sym, ◌∙◌, arith}
+use Rattle.std.specs.List.{sum, sum_by}
 use Rattle.std.proofs.Math.ListN.{set}
 use Rattle.std.proofs.Math.Nat.{mul-le-mul_left}
-use Rattle.std.proofs.lemmas.Bool.{eqb-true, eqb-false, ne_eqb}
+use Rattle.std.proofs.lemmas.Bool.{eqb-true, eqb-false}
 use Rattle.std.proofs.lemmas.List.{get_or-set_same, get_or-set_other}
 use Rattle.std.proofs.lemmas.List.FromFn.{get_or-map-range_with_len, length-map-range_with_len}
-use Rattle.std.proofs.lemmas.List.Sums.{sum_by-cons, sum_by_more_le, sum-map, count_by_more_yes, count_by_more_no}
+use Rattle.std.proofs.lemmas.List.Sums.{sum_by-cons, sum_by_more_le, count_by_more_yes, count_by_more_no}
 use Rattle.hashers.specs.Counts.{in_bucket, bucket_counts}
 use Rattle.spread.specs.Counts.{IsFullest}
 

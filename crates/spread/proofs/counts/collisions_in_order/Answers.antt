@@ -1,9 +1,13 @@
-use Rattle.std.proofs.Common.{ℕ, ◌≡◌, ◌+◌, ◌-◌, ◌≤◌, eqb, get_or, length, take, ap, ◌∙◌, arith}
+use Rattle.std.proofs.Common.{ℕ, ◌≡◌, ◌+◌, ◌-◌, ◌≤◌, eqb, get_or, length, take, ap, ◌∙◌, arith, refl}
 use Rattle.std.proofs.lemmas.List.{length-take, take_more}
 use Rattle.std.proofs.lemmas.List.Sums.{count_by-le-length}
-use Rattle.hashers.specs.Counts.{collisions, times}
+use Rattle.hashers.specs.Counts.{collisions, meetings, times}
 use Rattle.spread.proofs.CollisionLemmas.{collisions_push}
 use Rattle.spread.proofs.counts.collisions_in_order.Goals as goal
+
+pub loop-i-init : goal.loop-i-init
+unfolding meetings
+loop-i-init c = record { counted = refl; last = λ some. absurd (omega arith); small = omega arith }
 
 pub loop-i-preserved : goal.loop-i-preserved
 loop-i-preserved c =
