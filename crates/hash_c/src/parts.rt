@@ -47,7 +47,8 @@ fn at<H: Undo>(hash: u64) -> H
 #[inline(always)]
 fn written<H: Undo>(hash: u64, bytes: &[u8]) -> u64
     requires { H.is_answer hash }
-    ensures { (s : H.State) → H.in_range s → H.answer s ≡ hash → result ≡ H.answer (H.after s bytes.now) }
+    ensures follows { (s : H.State) → H.in_range s → H.answer s ≡ hash → result ≡ H.answer (H.after s bytes.now) }
+    ensures some { (s : H.State) × H.in_range s × (H.answer s ≡ hash) × (result ≡ H.answer (H.after s bytes.now)) }
 {
     let mut hasher = at::<H>(hash);
     hasher.feed(bytes);
@@ -223,7 +224,8 @@ pub extern "C" fn hashers_fxhash64_unwrite(hash: u64, bytes: &[u8]) -> u64
 /// The hash of one-at-a-time with more bytes behind.
 #[unsafe(no_mangle)]
 pub extern "C" fn hashers_oaat_write(hash: u64, bytes: &[u8]) -> u64
-    ensures { (s : ℕ) → s < 2 ^ 64 → oaat_finish s ≡ hash → result ≡ oaat_finish (oaat_state s bytes.now) }
+    ensures follows { (s : ℕ) → s < 2 ^ 64 → oaat_finish s ≡ hash → result ≡ oaat_finish (oaat_state s bytes.now) }
+    ensures some { (s : ℕ) × (s < 2 ^ 64) × (oaat_finish s ≡ hash) × (result ≡ oaat_finish (oaat_state s bytes.now)) }
 {
     written::<OAATHasher>(hash, bytes)
 }
@@ -338,7 +340,10 @@ pub extern "C" fn hashers_fnv1_64_unwrite(hash: u64, bytes: &[u8]) -> u64
 /// The hash of joaat with more bytes behind.
 #[unsafe(no_mangle)]
 pub extern "C" fn hashers_joaat_write(hash: u64, bytes: &[u8]) -> u64
-    ensures { (s : ℕ) → s < 2 ^ 32 → joaat_answer s ≡ hash % 2 ^ 32 → result ≡ joaat_answer (joaat_from s bytes.now) }
+    ensures follows { (s : ℕ) → s < 2 ^ 32 → joaat_answer s ≡ hash % 2 ^ 32
+        → result ≡ joaat_answer (joaat_from s bytes.now) }
+    ensures some { (s : ℕ) × (s < 2 ^ 32) × (joaat_answer s ≡ hash % 2 ^ 32)
+        × (result ≡ joaat_answer (joaat_from s bytes.now)) }
 {
     written::<JoaatHasher>(hash % 4294967296, bytes)
 }
@@ -357,7 +362,9 @@ pub extern "C" fn hashers_joaat_unwrite(hash: u64, bytes: &[u8]) -> u64
 /// The hash of crc32 with more bytes behind.
 #[unsafe(no_mangle)]
 pub extern "C" fn hashers_crc32_write(hash: u64, bytes: &[u8]) -> u64
-    ensures { (s : ℕ) → s < 2 ^ 32 → crc_answer s ≡ hash % 2 ^ 32 → result ≡ crc_answer (crc_from ieee s bytes.now) }
+    ensures value { result ≡ crc_answer (crc_from ieee (crc_answer (hash % 2 ^ 32)) bytes.now) }
+    ensures follows { (s : ℕ) → s < 2 ^ 32 → crc_answer s ≡ hash % 2 ^ 32
+        → result ≡ crc_answer (crc_from ieee s bytes.now) }
 {
     written::<Crc32Hasher>(hash % 4294967296, bytes)
 }
@@ -376,7 +383,8 @@ pub extern "C" fn hashers_crc32_unwrite(hash: u64, bytes: &[u8]) -> u64
 /// The hash of crc32c with more bytes behind.
 #[unsafe(no_mangle)]
 pub extern "C" fn hashers_crc32c_write(hash: u64, bytes: &[u8]) -> u64
-    ensures { (s : ℕ) → s < 2 ^ 32 → crc_answer s ≡ hash % 2 ^ 32
+    ensures value { result ≡ crc_answer (crc_from castagnoli (crc_answer (hash % 2 ^ 32)) bytes.now) }
+    ensures follows { (s : ℕ) → s < 2 ^ 32 → crc_answer s ≡ hash % 2 ^ 32
         → result ≡ crc_answer (crc_from castagnoli s bytes.now) }
 {
     written::<Crc32cHasher>(hash % 4294967296, bytes)

@@ -54,7 +54,8 @@ fn at<H: Undo>(hash: u64) -> H {
 /// Proved:
 ///
 /// ```text
-/// (s : H.State) → H.in_range s → H.answer s ≡ hash → result ≡ H.answer (H.after s bytes.now)
+/// follows: (s : H.State) → H.in_range s → H.answer s ≡ hash → result ≡ H.answer (H.after s bytes.now)
+/// some: (s : H.State) × H.in_range s × (H.answer s ≡ hash) × (result ≡ H.answer (H.after s bytes.now))
 /// ```
 #[inline(always)]
 fn written<H: Undo>(hash: u64, bytes: &[u8]) -> u64 {
@@ -315,7 +316,8 @@ pub fn hashers_fxhash64_unwrite(hash: u64, bytes: &[u8]) -> u64 {
 /// Proved:
 ///
 /// ```text
-/// (s : ℕ) → s < 2 ^ 64 → oaat_finish s ≡ hash → result ≡ oaat_finish (oaat_state s bytes.now)
+/// follows: (s : ℕ) → s < 2 ^ 64 → oaat_finish s ≡ hash → result ≡ oaat_finish (oaat_state s bytes.now)
+/// some: (s : ℕ) × (s < 2 ^ 64) × (oaat_finish s ≡ hash) × (result ≡ oaat_finish (oaat_state s bytes.now))
 /// ```
 #[inline]
 pub fn hashers_oaat_write(hash: u64, bytes: &[u8]) -> u64 {
@@ -482,7 +484,10 @@ pub fn hashers_fnv1_64_unwrite(hash: u64, bytes: &[u8]) -> u64 {
 /// Proved:
 ///
 /// ```text
-/// (s : ℕ) → s < 2 ^ 32 → joaat_answer s ≡ hash % 2 ^ 32 → result ≡ joaat_answer (joaat_from s bytes.now)
+/// follows: (s : ℕ) → s < 2 ^ 32 → joaat_answer s ≡ hash % 2 ^ 32
+///     → result ≡ joaat_answer (joaat_from s bytes.now)
+/// some: (s : ℕ) × (s < 2 ^ 32) × (joaat_answer s ≡ hash % 2 ^ 32)
+///     × (result ≡ joaat_answer (joaat_from s bytes.now))
 /// ```
 #[inline]
 pub fn hashers_joaat_write(hash: u64, bytes: &[u8]) -> u64 {
@@ -509,7 +514,9 @@ pub fn hashers_joaat_unwrite(hash: u64, bytes: &[u8]) -> u64 {
 /// Proved:
 ///
 /// ```text
-/// (s : ℕ) → s < 2 ^ 32 → crc_answer s ≡ hash % 2 ^ 32 → result ≡ crc_answer (crc_from ieee s bytes.now)
+/// value: result ≡ crc_answer (crc_from ieee (crc_answer (hash % 2 ^ 32)) bytes.now)
+/// follows: (s : ℕ) → s < 2 ^ 32 → crc_answer s ≡ hash % 2 ^ 32
+///     → result ≡ crc_answer (crc_from ieee s bytes.now)
 /// ```
 #[inline]
 pub fn hashers_crc32_write(hash: u64, bytes: &[u8]) -> u64 {
@@ -536,7 +543,8 @@ pub fn hashers_crc32_unwrite(hash: u64, bytes: &[u8]) -> u64 {
 /// Proved:
 ///
 /// ```text
-/// (s : ℕ) → s < 2 ^ 32 → crc_answer s ≡ hash % 2 ^ 32
+/// value: result ≡ crc_answer (crc_from castagnoli (crc_answer (hash % 2 ^ 32)) bytes.now)
+/// follows: (s : ℕ) → s < 2 ^ 32 → crc_answer s ≡ hash % 2 ^ 32
 ///     → result ≡ crc_answer (crc_from castagnoli s bytes.now)
 /// ```
 #[inline]
