@@ -39,7 +39,7 @@ impl Poly61Place {
         self.key < PRIME
             && self.state < PRIME
             && self.count < 7
-            && self.word >> (8 * self.count) == 0
+            && self.word < placed(1, self.count as u32)
     }
 }
 

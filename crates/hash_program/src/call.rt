@@ -103,7 +103,10 @@ fn push_valued<'a>(
         (valued opt.name.now word.now value.now)) }
 {
     if value.is_empty() {
-        return Ok(Some(Wanting { name: opt.name, word }));
+        return Ok(Some(Wanting {
+            name: opt.name,
+            word,
+        }));
     }
     push(said, Said::Gives(opt.name, value))?;
     Ok(None)
@@ -133,7 +136,10 @@ fn push_letters<'a>(
 {
     for at in 0..letters.len() {
         let Some(opt) = by_letter(options, letters[at]) else {
-            push(said, Said::Errs(Misgiven::NoSuchLetter, &letters[at..at + 1]))?;
+            push(
+                said,
+                Said::Errs(Misgiven::NoSuchLetter, &letters[at..at + 1]),
+            )?;
             return Ok(None);
         };
         if opt.has_value {
@@ -155,7 +161,10 @@ fn push_named<'a>(
         (named (choice_of opt) word.now (option_map (λ value. value.now) value.entry))) }
 {
     match value {
-        None if opt.has_value => return Ok(Some(Wanting { name: opt.name, word })),
+        None if opt.has_value => return Ok(Some(Wanting {
+            name: opt.name,
+            word,
+        })),
         None => push(said, Said::Gives(opt.name, b""))?,
         Some(value) if opt.has_value => push(said, Said::Gives(opt.name, value))?,
         Some(_) => push(said, Said::Errs(Misgiven::HasValue, word))?,
