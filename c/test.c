@@ -265,6 +265,23 @@ static void check_keyed(void) {
                                                                 hashers_poly61(*key, text + first, n - first), n - first));
         }
     }
+    for (size_t n = 0; n < 300; n++) {
+        hashers_poly61_place place = hashers_poly61_begin(keys[7]);
+        for (size_t done = 0, part; done < n; done += part) {
+            part = random_number() % 20;
+            part = part < n - done ? part : n - done;
+            hashers_poly61_write(&place, text + done, part);
+            same("poly61_finish between", hashers_poly61(keys[7], text, done + part), hashers_poly61_finish(&place));
+        }
+        same("poly61 in parts", hashers_poly61(keys[7], text, n), hashers_poly61_finish(&place));
+    }
+    const hashers_poly61_place nowhere[] = {{prime, 1, 0, 0}, {7, prime, 0, 0}, {7, 1, 256, 1}, {7, 1, 0, 7}, {7, 1, 0, UINT64_MAX}};
+    for (size_t i = 0; i < sizeof nowhere / sizeof *nowhere; i++) {
+        hashers_poly61_place place = nowhere[i];
+        hashers_poly61_write(&place, text, 100);
+        same("poly61_write nowhere", 0, (uint64_t)memcmp(&place, nowhere + i, sizeof place));
+        same("poly61_finish nowhere", 0, hashers_poly61_finish(&place));
+    }
     same("poly61 of no bytes", hashers_poly61(7, text, 0), hashers_poly61(7, NULL, 0));
 }
 

@@ -4,9 +4,9 @@ from __future__ import annotations
 from abc import ABC, abstractmethod
 from ctypes import byref, sizeof
 from threading import RLock
-from typing import TYPE_CHECKING, Any, Callable, Dict, List, Optional, Protocol, SupportsIndex, Tuple
+from typing import TYPE_CHECKING, Any, Callable, Dict, List, Optional, Protocol, SupportsIndex, Tuple, Type, Union
 
-from ._library import Held, State, Words, call, has, over, word
+from ._library import Held, Place, State, Words, call, has, over, word
 
 if TYPE_CHECKING:
     from _typeshed import ReadableBuffer as Buffer
@@ -28,11 +28,11 @@ class Function(Protocol):
 
 
 _functions: Dict[str, Function] = {}
-_bits: Dict[str, int] = {"spooky128": 128}
+_bits: Dict[str, int] = {"spooky128": 128, "poly61": 64}
 # the hash of no bytes
 _starts: Dict[str, int] = {}
 # how many bytes are taken at a time, where it is not one
-_blocks = {"lookup3": 12, "spooky": 96, "spooky_v1": 96, "spooky128": 96, "fxhash": 8, "fxhash32": 4, "fxhash64": 8}
+_blocks = {"poly61": 7, "lookup3": 12, "spooky": 96, "spooky_v1": 96, "spooky128": 96, "fxhash": 8, "fxhash32": 4, "fxhash64": 8}
 _spooky_finish = {"spooky": call("spooky_finish"), "spooky_v1": call("spooky_finish_v1"), "spooky128": call("spooky_finish")}
 numbers: Dict[str, int] = {}
 
@@ -139,7 +139,7 @@ class Hash(ABC):
     may update it too. A copy, by `copy` or the module of that name, goes on by itself, and so does what pickle brings elsewhere."""
 
     def __init__(self, name: str) -> None:
-        self._name, self._lock = known(name), RLock()
+        self._name, self._lock = name if name == "poly61" else known(name), RLock()
 
     def __repr__(self) -> str:
         return f"<{self._name} hash of hashers>"
@@ -234,58 +234,81 @@ class _NumberHash(Hash):
         return self._now[0]
 
 
-_spooky_begin = call("spooky_begin")
-_spooky_write = call("spooky_write")
+class _StateHash(Hash):
+    """A hash whose state is a struct, begun at seeds or at a key."""
+    _kind: Type[Union[State, Place]]
+    _begin: Callable[..., Union[State, Place]]
+    _write: Callable[..., None]
 
-
-class _SpookyHash(Hash):
-    """SpookyHash, whose state is of 312 bytes."""
-
-    def __init__(self, name: str, seeds: Tuple[int, int], state: Optional[bytes] = None) -> None:
+    def __init__(self, name: str, start: Tuple[int, ...], state: Optional[bytes] = None) -> None:
         super().__init__(name)
-        if state is not None and len(state) != sizeof(State):
-            raise ValueError(f"a state has {sizeof(State)} bytes, not {len(state)}")
-        self._seeds = seeds
-        self._state: State = _spooky_begin(*seeds) if state is None else State.from_buffer_copy(state)
+        if state is not None and len(state) != sizeof(self._kind):
+            raise ValueError(f"a state has {sizeof(self._kind)} bytes, not {len(state)}")
+        self._start = start
+        self._state = self._begin(*start) if state is None else self._kind.from_buffer_copy(state)
 
     def __reduce__(self) -> Tuple[Callable[..., Hash], Tuple[Any, ...]]:
         with self._lock:
-            return _SpookyHash, (self._name, self._seeds, bytes(self._state))
+            return type(self), (self._name, self._start, bytes(self._state))
 
     def update(self, data: Buffer) -> None:
         with self._lock, Held(data) as held:
-            _spooky_write(byref(self._state), held.address, held.length)
+            self._write(byref(self._state), held.address, held.length)
+
+    def reset(self) -> None:
+        with self._lock:
+            self._state = self._begin(*self._start)
+
+    def copy(self) -> Hash:
+        with self._lock:
+            return type(self)(self._name, self._start, bytes(self._state))
+
+
+class _SpookyHash(_StateHash):
+    """SpookyHash, whose state is of 312 bytes."""
+    _kind, _begin, _write = State, staticmethod(call("spooky_begin")), staticmethod(call("spooky_write"))
 
     def words(self) -> Tuple[int, int]:
         with self._lock:
             return _pair(_spooky_finish[self._name](byref(self._state)))
-
-    def reset(self) -> None:
-        with self._lock:
-            self._state = _spooky_begin(*self._seeds)
-
-    def copy(self) -> Hash:
-        with self._lock:
-            return _SpookyHash(self._name, self._seeds, bytes(self._state))
 
     def intdigest(self) -> int:
         first, second = self.words()
         return first << 64 | second if _bits[self._name] == 128 else first
 
 
+class _Poly61Hash(_StateHash):
+    """The polynomial hash at a key."""
+    _kind, _begin, _write = Place, staticmethod(call("poly61_begin")), staticmethod(call("poly61_write"))
+    _finish = staticmethod(call("poly61_finish"))
+
+    def intdigest(self) -> int:
+        with self._lock:
+            number: int = self._finish(byref(self._state))
+            return number
+
+
 def new(name: str, data: Buffer = b"", *, hash: Optional[SupportsIndex] = None, usedforsecurity: bool = False,
-        seeds: Optional[Tuple[SupportsIndex, SupportsIndex]] = None) -> Hash:
+        seeds: Optional[Tuple[SupportsIndex, SupportsIndex]] = None, key: Optional[SupportsIndex] = None) -> Hash:
     """A hash of the data, to be updated. ValueError for an unknown name; `algorithms_available` has the names, and letters may be of either
     case. Where `hash` is given, it goes on from there, and the data comes behind; those of SpookyHash cannot. They alone take seeds, two
-    numbers below 2^64. No hash here is for security."""
-    name = known(name)
+    numbers below 2^64. "poly61" takes a key, and none of the others does; it is not among `algorithms_available`, whose hashes are one for
+    all. No hash here is for security."""
+    keyed = isinstance(name, str) and name.lower() == "poly61"
+    name = name.lower() if keyed else known(name)
     if usedforsecurity:
         raise ValueError("none of these hashes is for security")
-    if name in _spooky_finish:
+    if keyed != (key is not None):
+        raise ValueError(f"{name} wants a key" if keyed else f"{name} takes no key")
+    if key is not None:
+        if hash is not None or seeds is not None:
+            raise ValueError("poly61 takes a key alone")
+        made: Hash = _Poly61Hash(name, (word(key),))
+    elif name in _spooky_finish:
         if hash is not None:
             raise ValueError(f"{name} does not go on from a number")
         seed1, seed2 = (0, 0) if seeds is None else seeds
-        made: Hash = _SpookyHash(name, (word(seed1), word(seed2)))
+        made = _SpookyHash(name, (word(seed1), word(seed2)))
     else:
         if seeds is not None:
             raise ValueError(f"{name} takes no seeds")

@@ -23,6 +23,11 @@ class State(ctypes.Structure):
     _fields_ = [("opaque", c_uint64 * 39)]
 
 
+class Place(ctypes.Structure):
+    """A polynomial hash of a text in parts."""
+    _fields_ = [("key", c_uint64), ("state", c_uint64), ("word", c_uint64), ("count", c_uint64)]
+
+
 _TEXT = (c_void_p, c_size_t)
 # The calls by their names, or by how these end, with what they answer and what they take. If several ends fit, the longest is the call's.
 FORMS: Dict[str, Any] = {
@@ -45,6 +50,9 @@ FORMS: Dict[str, Any] = {
     "poly61_pair": (Words, c_uint64, c_uint64, *_TEXT),
     "poly61_state": (c_uint64, c_uint64, *_TEXT),
     "poly61_combine": (c_uint64, c_uint64, c_uint64, c_uint64, c_uint64),
+    "poly61_begin": (Place, c_uint64),
+    "poly61_write": (None, POINTER(Place), *_TEXT),
+    "poly61_finish": (c_uint64, POINTER(Place)),
     "spooky_begin": (State, c_uint64, c_uint64),
     "spooky_write": (None, POINTER(State), *_TEXT),
     "spooky_finish": (Words, POINTER(State)),

@@ -678,6 +678,26 @@ class Keyed(unittest.TestCase):
         self.assertRaises(ValueError, hashers.poly61_state, b"a", key)
         self.assertRaises(ValueError, hashers.poly61, b"a", -1)
 
+    def test_in_parts(self) -> None:
+        random, key = Random(62), hashers.random_key()
+        for turn in range(1000):
+            hasher, at = hashers.new("Poly61", key=key), 0
+            while at < len(TEXT):
+                part = TEXT[at : at + random.randrange(40)]
+                at += len(part)
+                hasher.update(part)
+                self.assertEqual(hasher.intdigest(), hashers.poly61(TEXT[:at], key))
+        self.assertEqual((hasher.name, hasher.digest_size, hasher.block_size), ("poly61", 8, 7))
+        for other in (hasher.copy(), copy.copy(hasher), pickle.loads(pickle.dumps(hasher))):
+            other.update(b"more")
+            self.assertEqual(other.intdigest(), hashers.poly61(TEXT + b"more", key))
+        self.assertEqual(hasher.intdigest(), hashers.poly61(TEXT, key))
+        hasher.reset()
+        self.assertEqual(hasher.hexdigest(), f"{hashers.poly61(b'', key):016x}")
+        for call in (lambda: hashers.new("poly61"), lambda: hashers.new("djb2", key=1), lambda: hashers.new("poly61", key=1, hash=2),
+                     lambda: hashers.new("poly61", key=1, seeds=(1, 2)), lambda: hashers.new("poly61", key=1 << 64)):
+            self.assertRaises(ValueError, call)
+
     def test_keys(self) -> None:
         keys = {hashers.random_key() for _ in range(100)}
         self.assertTrue(len(keys) > 90 and all(0 <= key < PRIME for key in keys))

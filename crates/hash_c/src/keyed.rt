@@ -1,11 +1,14 @@
-//! The polynomial hash at a key of the caller's: of a whole text, at two keys, and of two texts joined. A key is any number, of which the
+//! The polynomial hash at a key of the caller's: of a whole text, at two keys, of two texts joined, and of a text in parts. A key is any number, of which the
 //! remainder modulo 2^61 - 1 counts.
-ghost use Rattle.std.specs.Prelude.{◌≡◌, ◌≢◌, ◌%◌, ℕ, List, ◌++◌, length};
+ghost use Rattle.std.specs.Prelude.{◌≡◌, ◌≢◌, ◌%◌, ℕ, List, [], ◌++◌, length};
 ghost use Rattle.hash_keyed.specs.Poly61.{poly_state, prime61};
-ghost use Rattle.hash_keyed.specs.Poly61State.{as_word, joined_value, poly61};
+ghost use Rattle.hash_keyed.specs.Poly61State.{IsPosition, StandsBehind, as_word, joined_value, place_of, poly61};
 
 use crate::spooky::{Words, two_words};
+use hash_keyed::poly61::{Poly61Hasher, Poly61Place};
 use hash_keyed::{pair, parts, poly61};
+use hashers::laws::Piecewise;
+use std::hash::Hasher;
 
 /// The polynomial hash of the text at a key.
 #[unsafe(no_mangle)]
@@ -42,4 +45,37 @@ pub extern "C" fn hashers_poly61_combine(key: u64, state1: u64, hash2: u64, n2: 
         → result ≡ poly61 (key % prime61) (x ++ y) }
 {
     parts::poly61_combine(key, state1, hash2, n2)
+}
+
+/// The place of no bytes, at a key.
+#[unsafe(no_mangle)]
+pub extern "C" fn hashers_poly61_begin(key: u64) -> Poly61Place
+    ensures { StandsBehind result (key % prime61) [] }
+{
+    Poly61Hasher::new(key).place()
+}
+
+/// Goes on over the bytes. A place at which no hasher stands is left as it is.
+#[unsafe(no_mangle)]
+pub extern "C" fn hashers_poly61_write(place: &mut Poly61Place, bytes: &[u8])
+    ensures of_text { (key : ℕ) (text : List ℕ) → StandsBehind place.old key text
+        → StandsBehind place.new key (text ++ bytes.now) }
+    ensures unusable { ¬ IsPosition (place_of place.old) → place.new ≡ place.old }
+{
+    if let Some(mut hasher) = Poly61Hasher::at(place) {
+        hasher.feed(bytes);
+        *place = hasher.place();
+    }
+}
+
+/// The polynomial hash of the text so far, behind which more may be written; 0 of a place at which no hasher stands.
+#[unsafe(no_mangle)]
+pub extern "C" fn hashers_poly61_finish(place: &Poly61Place) -> u64
+    ensures of_text { (key : ℕ) (text : List ℕ) → StandsBehind place.now key text → result ≡ poly61 key text }
+    ensures unusable { ¬ IsPosition (place_of place.now) → result ≡ 0 }
+{
+    match Poly61Hasher::at(place) {
+        Some(hasher) => hasher.finish(),
+        None => 0,
+    }
 }

@@ -1,5 +1,5 @@
 -- A step for each byte leads to the value of the text's polynomial.
-use Rattle.std.proofs.Common.{ℕ, zero, suc, ◌≡◌, ◌+◌, ◌*◌, ◌%◌, ◌^◌, ◌<◌, ◌≤◌, List, [], ◌∷◌, ◌++◌, length, fold, refl, sym, ap, ◌∙◌, arith, lit<, inl, inr, nat_lt, mod-lt, le_refl, length-append, ap₂}
+use Rattle.std.proofs.Common.{ℕ, zero, suc, ◌≡◌, ◌+◌, ◌*◌, ◌%◌, ◌^◌, ◌<◌, ◌≤◌, List, [], ◌∷◌, ◌++◌, length, fold, refl, sym, ap, ◌∙◌, arith, lit<, inl, inr, nat_lt, mod-lt, le_refl, length-append, ap₂, subst}
 use Rattle.std.proofs.lemmas.Bool.{cases_lt, cond-true, cond-false, lt-ltb, le-ltb}
 use Rattle.std.proofs.lemmas.List.Sums.{fold-append}
 use Rattle.std.proofs.lemmas.List.Elements.{All-nil, All-head, All-tail, All-append}
@@ -157,6 +157,10 @@ stands_after at to from text piece bytes led stood = record {
   is_text = All-append IsByte text piece stood.is_text bytes;
   there = led ∙ ap (λ (a : Position). after a piece) stood.there ∙ sym (fold-append byte_in (start_at stood.key) text piece);
 }
+
+pub stands_in_range : (at : Position) (from text : List ℕ) → PolyStandsAt at from text → IsPosition at
+stands_in_range at from text stood =
+    subst IsPosition (sym stood.there) (IsPosition-after (start_at stood.key) text (IsPosition-start stood.key stood.key_in) stood.is_text)
 
 pub answer_where_stands : (at : Position) (from text : List ℕ) → PolyStandsAt at from text → as_word (poly_end at) ≡ poly61_from from text
 answer_where_stands at from text stood =

@@ -105,3 +105,7 @@ pub record PolyStandsAt (at : Position) (from text : List ℕ) : Type 0 where
 -- the answer to a text, from a start of one key
 abbrev pub poly61_from : List ℕ → List ℕ → ℕ
 poly61_from from text = poly61 (slice_index from 0) text
+
+-- a place at which a hasher stands behind the text, at a key
+abbrev pub StandsBehind : (place : Poly61Place) (key : ℕ) (text : List ℕ) → Type 0
+StandsBehind place key text = PolyStandsAt (place_of place) (key ∷ []) text

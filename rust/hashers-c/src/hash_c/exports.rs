@@ -1,6 +1,7 @@
 //! The calls of `c/hashers.h` over the erased functions, written by rust/erase. This file alone has unsafe code.
 use super::spooky::{SpookyState, Words};
 use super::*;
+use hashers_proved::hash_keyed::poly61::Poly61Place;
 
 /// So many items from there on. Where there are none, any pointer will do.
 unsafe fn slice<'a, T>(at: *const T, count: usize) -> &'a [T] {
@@ -208,6 +209,29 @@ pub unsafe extern "C" fn hashers_poly61_state(key: u64, text: *const u8, text_co
 #[no_mangle]
 pub extern "C" fn hashers_poly61_combine(key: u64, state1: u64, hash2: u64, n2: u64) -> u64 {
     keyed::hashers_poly61_combine(key, state1, hash2, n2)
+}
+
+/// See `hashers.h`.
+#[no_mangle]
+pub extern "C" fn hashers_poly61_begin(key: u64) -> Poly61Place {
+    keyed::hashers_poly61_begin(key)
+}
+
+/// See `hashers.h`.
+///
+/// # Safety
+///
+/// Each pointer and its count are so many items that nothing else writes during the call.
+#[no_mangle]
+pub unsafe extern "C" fn hashers_poly61_write(place: &mut Poly61Place, bytes: *const u8, bytes_count: usize) {
+    // SAFETY: as said above.
+    unsafe { keyed::hashers_poly61_write(place, slice(bytes, bytes_count)) }
+}
+
+/// See `hashers.h`.
+#[no_mangle]
+pub extern "C" fn hashers_poly61_finish(place: &Poly61Place) -> u64 {
+    keyed::hashers_poly61_finish(place)
 }
 
 /// See `hashers.h`.

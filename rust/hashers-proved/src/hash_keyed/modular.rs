@@ -3,7 +3,7 @@
 // What follows is the proved text of crates/hash_keyed/src/modular.rt without its contracts.
 
 /// The prime 2^61 - 1.
-const PRIME: u64 = 2305843009213693951;
+pub(crate) const PRIME: u64 = 2305843009213693951;
 
 /// The product of two numbers.
 ///
@@ -92,7 +92,7 @@ pub(crate) fn remainder(x: u64) -> u64 {
 ///
 /// ```text
 /// key_in: key < prime61
-/// state_in: state < 2 ^ 61 + 8
+/// state_in: state < 2 ^ 62
 /// word_in: word < 2 ^ 57
 /// ```
 ///
@@ -105,6 +105,26 @@ pub(crate) fn remainder(x: u64) -> u64 {
 #[inline(always)]
 pub(crate) fn step(key: u64, state: u64, word: u64) -> u64 {
     folded(product(state, key) + u128::from(word))
+}
+
+/// The first word: one step from the state 1, with no product.
+///
+/// The caller has to see to it that:
+///
+/// ```text
+/// key_in: key < prime61
+/// word_in: word < 2 ^ 57
+/// ```
+///
+/// Proved:
+///
+/// ```text
+/// same: result % prime61 ≡ poly_step prime61 key 1 word
+/// small: result < 2 ^ 62
+/// ```
+#[inline(always)]
+pub(crate) fn first_step(key: u64, word: u64) -> u64 {
+    key + word
 }
 
 /// A byte at its place in a word.
@@ -144,13 +164,32 @@ pub(crate) fn word_of(value: u64) -> u64 {
     value + value % 8 * 2305843009213693952
 }
 
-/// The answer: the last word in, once more by the key, and the low three bits once more as the highest.
+/// The answer where the last word is in: once more by the key, and the low three bits once more as the highest.
 ///
 /// The caller has to see to it that:
 ///
 /// ```text
 /// key_in: key < prime61
-/// state_in: state < 2 ^ 61 + 8
+/// state_in: state < 2 ^ 62
+/// ```
+///
+/// Proved:
+///
+/// ```text
+/// result ≡ as_word ((state * key) % prime61)
+/// ```
+#[inline(always)]
+fn finished(key: u64, state: u64) -> u64 {
+    word_of(reduced(folded(product(state, key))))
+}
+
+/// The answer behind full words: the last word in, which is so many bytes and a byte 1 behind them, and finished.
+///
+/// The caller has to see to it that:
+///
+/// ```text
+/// key_in: key < prime61
+/// state_in: state < 2 ^ 62
 /// word_in: word < 2 ^ (8 * count)
 /// count_in: count < 7
 /// ```
@@ -162,6 +201,25 @@ pub(crate) fn word_of(value: u64) -> u64 {
 /// ```
 #[inline(always)]
 pub(crate) fn ended(key: u64, state: u64, word: u64, count: u32) -> u64 {
-    let last = word + placed(1, count);
-    word_of(reduced(folded(product(step(key, state, last), key))))
+    finished(key, step(key, state, word + placed(1, count)))
+}
+
+/// The same of fewer than seven bytes alone.
+///
+/// The caller has to see to it that:
+///
+/// ```text
+/// key_in: key < prime61
+/// word_in: word < 2 ^ (8 * count)
+/// count_in: count < 7
+/// ```
+///
+/// Proved:
+///
+/// ```text
+/// result ≡ as_word (poly_end (record { key = key; state = 1 % prime61; word = word; count = count }))
+/// ```
+#[inline(always)]
+pub(crate) fn ended_at_once(key: u64, word: u64, count: u32) -> u64 {
+    finished(key, first_step(key, word + placed(1, count)))
 }

@@ -3,13 +3,45 @@
 // What follows is the proved text of crates/hash_keyed/src/poly61.rt without its contracts.
 use crate::{hashers, std};
 
-use crate::hash_keyed::modular::{ended, placed, remainder, step};
-use crate::hash_keyed::words::{few, full_words};
+use crate::hash_keyed::modular::{PRIME, ended, ended_at_once, placed, reduced, remainder, step};
+use crate::hash_keyed::words::{few, full_words, text_words};
 use hashers::laws::{Piecewise, Streamed};
 use std::hash::Hasher;
 
 /// The key of a default hasher. Everybody knows it, so it is of use where nobody chooses the texts.
 const DEFAULT_KEY: u64 = 1234567890123456789;
+
+/// Where a [`Poly61Hasher`] stands, in whole numbers that a caller may keep: the key, the state behind the full words, and the bytes
+/// behind these, as the number that they are and how many.
+#[repr(C)]
+#[derive(Clone, Copy)]
+pub struct Poly61Place {
+    /// The key, below 2^61 - 1.
+    pub key: u64,
+    /// The state, below 2^61 - 1.
+    pub state: u64,
+    /// The number that the bytes behind the full words are, the first the lowest.
+    pub word: u64,
+    /// How many they are: fewer than seven.
+    pub count: u64,
+}
+
+impl Poly61Place {
+    /// Whether some hasher stands there.
+    ///
+    /// Proved:
+    ///
+    /// ```text
+    /// IsTrue result ↔ IsPosition (place_of self.now)
+    /// ```
+    #[inline(always)]
+    fn is_somewhere(&self) -> bool {
+        self.key < PRIME
+            && self.state < PRIME
+            && self.count < 7
+            && self.word < placed(1, self.count as u32)
+    }
+}
 
 /// The hash of a text by its polynomial, at a key.
 pub struct Poly61Hasher {
@@ -36,6 +68,44 @@ impl Poly61Hasher {
             state: 1,
             word: 0,
             count: 0,
+        }
+    }
+
+    /// The hasher that stands there; `None` if no hasher does.
+    ///
+    /// Proved:
+    ///
+    /// ```text
+    /// MatchOption result (¬ IsPosition (place_of place.now)) (λ h. (h ≡ place_of place.now) × IsPosition h)
+    /// ```
+    #[inline(always)]
+    pub fn at(place: &Poly61Place) -> Option<Poly61Hasher> {
+        if !place.is_somewhere() {
+            return None;
+        }
+        Some(Poly61Hasher {
+            key: place.key,
+            state: place.state,
+            word: place.word,
+            count: place.count as u32,
+        })
+    }
+
+    /// Where it stands.
+    ///
+    /// Proved:
+    ///
+    /// ```text
+    /// there: place_of result ≡ self.now
+    /// in_range: IsPosition self.now
+    /// ```
+    #[inline(always)]
+    pub fn place(&self) -> Poly61Place {
+        Poly61Place {
+            key: self.key,
+            state: reduced(self.state),
+            word: self.word,
+            count: u64::from(self.count),
         }
     }
 
@@ -154,6 +224,9 @@ impl Streamed for Poly61Hasher {}
 #[inline]
 pub fn poly61(key: u64, bytes: &[u8]) -> u64 {
     let key = remainder(key);
-    let (state, last) = full_words(key, 1, bytes);
+    if bytes.len() < 7 {
+        return ended_at_once(key, few(bytes), bytes.len() as u32);
+    }
+    let (state, last) = text_words(key, bytes);
     ended(key, state, few(last), last.len() as u32)
 }

@@ -5,7 +5,7 @@
 #![allow(unused_labels)]
 use crate::hashers;
 
-use crate::hash_keyed::modular::{folded, once, product, step};
+use crate::hash_keyed::modular::{first_step, folded, once, product, step};
 use hashers::rounds::le64;
 
 /// The number that seven bytes are.
@@ -171,6 +171,75 @@ fn eight_in(key: u64, powers: (u64, u64, u64, u64), state: u64, block: &[u8; 56]
     folded(product(state, powers.3) + (product(first, powers.2) + u128::from(second)))
 }
 
+/// The number that the first seven of eight bytes are.
+///
+/// Proved:
+///
+/// ```text
+/// value: result ≡ le (take 7 block.now)
+/// small: result < 2 ^ 56
+/// ```
+#[inline(always)]
+fn seven_of(block: &[u8; 8]) -> u64 {
+    le64(block) % 72057594037927936
+}
+
+/// The full words of the bytes in, one by one, and the fewer than seven bytes behind them.
+///
+/// The caller has to see to it that:
+///
+/// ```text
+/// key_in: key < prime61
+/// state_in: start < 2 ^ 62
+/// ```
+///
+/// Proved:
+///
+/// ```text
+/// there: after (full_words key start) bytes.now ≡ after (full_words key result.0) result.1.now
+/// small: result.0 < 2 ^ 62
+/// in_range: start < 2 ^ 61 + 8 → result.0 < 2 ^ 61 + 8
+/// few: length result.1.now < 7
+/// ```
+#[inline(always)]
+fn by_words(key: u64, start: u64, bytes: &[u8]) -> (u64, &[u8]) {
+    let mut state = start;
+    let mut rest = bytes;
+    while let Some((block, _)) = rest.split_first_chunk::<8>() {
+        state = step(key, state, seven_of(block));
+        rest = rest.split_at(7).1;
+    }
+    match rest.split_first_chunk::<7>() {
+        Some((word, more)) => (step(key, state, seven(word)), more),
+        None => (state, rest),
+    }
+}
+
+/// The full words of a text in, and the fewer than seven bytes behind them.
+///
+/// The caller has to see to it that:
+///
+/// ```text
+/// key_in: key < prime61
+/// ```
+///
+/// Proved:
+///
+/// ```text
+/// there: after (full_words key 1) text.now ≡ after (full_words key result.0) result.1.now
+/// small: result.0 < 2 ^ 62
+/// few: length result.1.now < 7
+/// ```
+#[inline(always)]
+pub(crate) fn text_words(key: u64, text: &[u8]) -> (u64, &[u8]) {
+    match text.split_first_chunk::<8>() {
+        Some((block, _)) if text.len() < 28 => {
+            by_words(key, first_step(key, seven_of(block)), text.split_at(7).1)
+        }
+        _ => full_words(key, 1, text),
+    }
+}
+
 /// All full words of the bytes in, and the fewer than seven bytes behind them.
 ///
 /// The caller has to see to it that:
@@ -202,9 +271,5 @@ pub(crate) fn full_words(key: u64, start: u64, bytes: &[u8]) -> (u64, &[u8]) {
             rest = more;
         }
     }
-    while let Some((word, more)) = rest.split_first_chunk::<7>() {
-        state = step(key, state, seven(word));
-        rest = more;
-    }
-    (state, rest)
+    by_words(key, state, rest)
 }
