@@ -1,6 +1,7 @@
 -- The next lines, as they are found.
 use Rattle.std.proofs.Common.{ℕ, ◌≡◌, ◌+◌, List, [], ◌∷◌, ◌++◌, ◌≤◌, Some, length, drop, ap, subst, arith, length-drop}
-use Rattle.dedup.specs.Between.{AreNext, IsLineEnd}
+use Rattle.dedup.specs.Between.{AreNext}
+use Rattle.hash_texts.specs.Lines.{IsLineEnd}
 
 -- what comes behind lines that have so many bytes before their ends
 abbrev pub behind : (lens bytes : List ℕ) → List ℕ

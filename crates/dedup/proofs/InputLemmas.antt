@@ -13,7 +13,7 @@ use Rattle.std.proofs.lemmas.Grind.{flat_map-append}
 use Rattle.std.proofs.lemmas.List.Folds.{list_all-append}
 use Rattle.dedup.specs.Inputs.{AreRead, ReadsInput, lines_read}
 use Rattle.dedup.specs.Inputs.AreRead.{behind, none}
-use Rattle.hash_lines.specs.Lines.{lines_by}
+use Rattle.hash_texts.specs.Lines.{lines_by}
 use Rattle.dedup.specs.Running.{AllBeginWith, EndsTaking, IsBeyond, IsWithin, NextBeginsWith, Run, WritesPart}
 use Rattle.dedup.specs.Taking.{BeginWith, BreaksInput, LeadsOn}
 use Rattle.hash_program.specs.declared.fault.Fault.{Fault}

@@ -1,8 +1,5 @@
 pub mod ColumnLemmas
-pub mod FirstsLemmas
 pub mod InputLemmas
-pub mod LawLemmas
-pub mod LineLemmas
 pub mod OrderLemmas
 pub mod RunLemmas
 pub mod SeenLemmas

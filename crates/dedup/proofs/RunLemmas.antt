@@ -10,15 +10,15 @@ use Rattle.std.proofs.Math.Seq.{take-append_seam, drop-append_seam, get_or-appen
 use Rattle.std.proofs.lemmas.List.{append-nil, get_or_append_left, length-take-le, nil_from_length}
 use Rattle.std.proofs.lemmas.List.Elements.{filter-append}
 use Rattle.hash_program.specs.Streams.{AppendsPart}
-use Rattle.dedup.specs.Between.{Filled, IsBare, IsLineEnd, IsWhole, Takes}
+use Rattle.dedup.specs.Between.{Filled, IsWhole, Takes}
+use Rattle.hash_texts.specs.Lines.{IsBare, IsLineEnd, lines_by}
 use Rattle.dedup.specs.Inputs.{ReadsInput, whole_lines}
-use Rattle.hash_lines.specs.Lines.{lines_by}
 use Rattle.dedup.specs.Taking.{BeginWith, BreaksInput, BreaksOff, EndsInput, Grows, LeadsOn, LeavesInput, StopsWithin}
 use Rattle.dedup.specs.declared.run.Left.{Left}
 use Rattle.dedup.specs.declared.run.Left.TheVariants.{Done, Failed, Beyond}
 use Rattle.dedup.specs.declared.unread.Came.{Came}
-use Rattle.hash_lines.proofs.LinesOfText.{lines_of_line, one_line}
-use Rattle.dedup.proofs.LineLemmas.{bare_end, bare_line, line_before, some_line}
+use Rattle.hash_texts.proofs.LinesOfText.{lines_of_line, one_line}
+use Rattle.hash_texts.proofs.LineLemmas.{bare_end, bare_line, line_before, some_line}
 
 -- ---- lines that are taken
 

@@ -4,36 +4,17 @@ use Rattle.std.specs.Io.BufRead.{strip_last}
 use Rattle.std.specs.Result.{is_ok}
 use Rattle.std.specs.Str.{bytes_eq}
 use Rattle.std.proofs.lemmas.Bool.{false≢true}
-use Rattle.std.proofs.lemmas.Cmp.{nat_list_eq_equiv}
 use Rattle.std.proofs.lemmas.List.Folds.{list_any-append}
-use Rattle.std.proofs.lemmas.Map.Steps.{list_any_congr}
 use Rattle.std.proofs.KnownBytes.{Appends-trans}
 use Rattle.std.specs.Io.KnownBytes.{Appends}
 use Rattle.std.specs.List.{list_any}
 use Rattle.hash_program.specs.Streams.{AppendsPart}
-use Rattle.dedup.specs.Lines.{AreSeen, as_line_by, once_by}
+use Rattle.hash_texts.specs.Firsts.{AreSeen, once_by}
+use Rattle.hash_texts.specs.Lines.{as_line_by}
 use Rattle.dedup.specs.Taking.{LeadsOn, StopsWithin}
-use Rattle.dedup.proofs.LineLemmas.{once_more}
+use Rattle.hash_texts.proofs.FirstsLemmas.{once_more}
 use Rattle.hash_texts.specs.Texts.{has, with_text}
-use Rattle.hash_texts.proofs.SlotLemmas.{has_more}
-
--- a text that is seen adds nothing
-pub has_already : (seen : List (List ℕ)) (text : List ℕ) → has seen text ≡ true → (other : List ℕ)
-    → has seen other ≡ (bytes_eq other text || has seen other)
-has_already seen text there other = at (bytes_eq other text) refl
-  where
-    at : (b : Bool) → bytes_eq other text ≡ b → has seen other ≡ (b || has seen other)
-    at true same = list_any_congr nat_list_eq_equiv other text seen same ∙ there
-    at false same = refl
-
--- a set has the text that it saw, and those that it had
-pub has_seen : (seen seen' : List (List ℕ)) (text : List ℕ) → seen' ≡ with_text seen text → (other : List ℕ)
-    → has seen' other ≡ (bytes_eq other text || has seen other)
-has_seen seen seen' text is other = ap (λ s. has s other) is ∙ at (has seen text) refl
-  where
-    at : (b : Bool) → has seen text ≡ b → has (cond b seen (seen ++ text ∷ [])) other ≡ (bytes_eq other text || has seen other)
-    at true there = has_already seen text there other
-    at false new = has_more seen text other
+use Rattle.hash_texts.proofs.SetLemmas.{has_with}
 
 -- what is told to be new is not there, and what is told to be old is
 pub not_there : (there new : Bool) → new ≡ not there → new ≡ true → there ≡ false
@@ -69,7 +50,7 @@ module _ (eol : ℕ) (seen : List (List ℕ)) (line : List ℕ) where
   pub seen_more : (seen' : List (List ℕ)) → seen' ≡ with_text seen (strip_last eol line) → (ls : List (List ℕ)) → AreSeen eol ls seen
       → AreSeen eol (ls ++ line ∷ []) seen'
   seen_more seen' is ls before = λ other.
-      has_seen seen seen' (strip_last eol line) is other ∙ ap (λ b. bytes_eq other (strip_last eol line) || b) (before other)
+      ap (λ texts. has texts other) is ∙ has_with seen (strip_last eol line) other ∙ ap (λ b. bytes_eq other (strip_last eol line) || b) (before other)
       ∙ or_last (bytes_eq other (strip_last eol line)) (list_any (λ l. bytes_eq other (strip_last eol l)) ls)
       ∙ sym (list_any-append (λ l. bytes_eq other (strip_last eol l)) ls (line ∷ []))
     where

@@ -1,19 +1,10 @@
 -- Lines among the bytes that were read.
-use Rattle.std.specs.Prelude.{ℕ, ◌≡◌, ◌≢◌, ◌<◌, ◌+◌, Option, None, Some, List, [], ◌∷◌, ◌++◌, ◌≤◌, length, take, drop, slice_index}
+use Rattle.std.specs.Prelude.{ℕ, ◌≡◌, ◌<◌, ◌+◌, Option, Some, List, [], ◌∷◌, ◌++◌, ◌≤◌, length, take, drop}
 use Rattle.std.specs.Io.KnownBytes.{Consumes, IsAtEnd}
 use Rattle.dedup.specs.Inputs.{whole_lines}
-use Rattle.hash_lines.specs.Lines.{lines_by}
+use Rattle.hash_texts.specs.Lines.{lines_by, IsBare, IsLineEnd}
 use Rattle.dedup.specs.declared.unread.Came.{Came}
 use Rattle.dedup.specs.declared.unread.Came.TheVariants.{Line, End, Fault}
-
--- no byte ends a line
-abbrev pub IsBare : (eol : ℕ) → List ℕ → Type 0
-IsBare eol bytes = (k : ℕ) → k < length bytes → slice_index bytes k ≢ eol
-
--- where the first line ends
-abbrev pub IsLineEnd : (eol : ℕ) → List ℕ → Option ℕ → Type 0
-IsLineEnd eol bytes None = IsBare eol bytes
-IsLineEnd eol bytes (Some n) = (n < length bytes) × (slice_index bytes n ≡ eol) × ((k : ℕ) → k < n → slice_index bytes k ≢ eol)
 
 -- the first lines of the bytes have so many bytes before their ends
 abbrev pub AreNext : (eol : ℕ) → (bytes : List ℕ) → (lens : List ℕ) → Type 0

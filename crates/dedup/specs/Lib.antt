@@ -1,7 +1,5 @@
 pub mod Between
 pub mod Inputs
-pub mod Laws
-pub mod Lines
 pub mod Program
 pub mod Running
 pub mod Status

@@ -7,7 +7,7 @@ use Rattle.hash_program.specs.declared.fault.Fault.TheVariants.{Own}
 use Rattle.hash_program.specs.declared.outcome.Nothing.{Nothing}
 use Rattle.hash_program.specs.declared.outcome.Outcome.{Outcome}
 use Rattle.hash_program.specs.declared.outcome.Outcome.TheVariants.{Done, Reported, Failed}
-use Rattle.dedup.specs.Lines.{once_by}
+use Rattle.hash_texts.specs.Firsts.{once_by}
 use Rattle.dedup.specs.Running.{Ends, Run}
 use Rattle.dedup.specs.Tallies.{told}
 use Rattle.dedup.specs.declared.fault.TooMany.{TooMany}

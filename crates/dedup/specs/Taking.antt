@@ -3,7 +3,7 @@ use Rattle.std.specs.Prelude.{ℕ, ◌≡◌, ◌<◌, ◌+◌, true, false, Opt
 use Rattle.std.specs.Io.KnownBytes.{Appends}
 use Rattle.hash_program.specs.Streams.{AppendsPart}
 use Rattle.dedup.specs.Inputs.{ReadsInput}
-use Rattle.hash_lines.specs.Lines.{lines_by}
+use Rattle.hash_texts.specs.Lines.{lines_by}
 use Rattle.dedup.specs.declared.run.Left.{Left}
 use Rattle.dedup.specs.declared.run.Left.TheVariants.{Done, Failed, Beyond}
 

@@ -1,9 +1,10 @@
 //! Where the next lines end. Some lines are looked at before the first of them is taken, so that the waits for memory overlap.
 ghost use Rattle.std.specs.Prelude.{◌≡◌, ◌<◌, ◌≤◌, ◌+◌, ℕ, List, [], ◌∷◌, IfSome, IfNone, Some, length, take, drop};
-ghost use Rattle.dedup.specs.Between.{AreNext, IsBare, IsLineEnd};
+ghost use Rattle.dedup.specs.Between.{AreNext};
+ghost use Rattle.hash_texts.specs.Lines.{IsBare, IsLineEnd};
 
-use crate::lines::line_end;
 use crate::task::LineTask;
+use hash_texts::lines::line_end;
 use std::marker::Model;
 
 /// How many lines are looked at ahead, at most.

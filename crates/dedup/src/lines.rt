@@ -1,21 +1,17 @@
-//! Finds lines and has them taken.
-ghost use Rattle.std.specs.Prelude.{◌≡◌, ◌≤◌, ℕ, List, length, take, IfOk, OnOk, OnErr, ◌+◌, ◌==◌, not};
+//! Writes lines, and has them taken.
+ghost use Rattle.std.specs.Prelude.{◌≤◌, ◌+◌, ℕ, List, length, take, IfOk, OnOk, OnErr};
 ghost use Rattle.std.specs.Io.KnownBytes.{Appends};
-ghost use Rattle.std.specs.List.{prefix_len};
-ghost use Rattle.std.specs.Simd.Lanes.{chunk};
-ghost use Rattle.dedup.specs.Between.{IsLineEnd, Takes};
-ghost use Rattle.dedup.specs.Lines.{as_line_by};
-ghost use Rattle.hash_lines.specs.Lines.{lines_by};
+ghost use Rattle.dedup.specs.Between.{Takes};
 ghost use Rattle.dedup.specs.Taking.{BreaksOff, Grows, LeadsOn};
 ghost use Rattle.hash_program.specs.Streams.{AppendsPart};
+ghost use Rattle.hash_texts.specs.Lines.{as_line_by, lines_by};
 
 use crate::ahead::Ahead;
 use crate::fault::Fault;
 use crate::task::LineTask;
-use hash_program::lines::without_end;
 use hash_program::streams::{TRIES, put};
+use hash_texts::lines::without_end;
 use std::io::Write;
-use std::simd::prelude::*;
 
 /// Writes a line, and its end behind it where it has none. After a fault a beginning of that was written.
 pub fn put_line<W: Write>(w: &mut W, line: &[u8], eol: u8) -> Result<(), Fault>
@@ -27,41 +23,6 @@ pub fn put_line<W: Write>(w: &mut W, line: &[u8], eol: u8) -> Result<(), Fault>
     }
     put(w, line, TRIES)?;
     put(w, &[eol], TRIES)
-}
-
-/// How many of the 16 bytes from a place on come before the first that ends a line among them.
-fn before_end(bytes: &[u8], at: usize, eol: u8) -> usize
-    requires { at + 16 ≤ length bytes.now }
-    ensures { result ≡ prefix_len (λ byte. not (byte == eol)) (chunk at 16 bytes.now) }
-{
-    let ends = u8x16::from_slice(&bytes[at..])
-        .simd_eq(u8x16::splat(eol))
-        .to_bitmask();
-    if ends == 0 {
-        16
-    } else {
-        ends.trailing_zeros() as usize
-    }
-}
-
-/// Where the first line ends.
-pub fn line_end(bytes: &[u8], eol: u8) -> Option<usize>
-    ensures { (IsLineEnd eol) bytes.now result }
-{
-    let mut at = 0;
-    while bytes.len() - at >= 16 {
-        let before = before_end(bytes, at, eol);
-        if before < 16 {
-            return Some(at + before);
-        }
-        at += 16;
-    }
-    for i in at..bytes.len() {
-        if bytes[i] == eol {
-            return Some(i);
-        }
-    }
-    None
 }
 
 /// Has the first lines taken, up to so many. Answers how many lines those are, each with its end, and how many bytes they

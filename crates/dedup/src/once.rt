@@ -1,7 +1,7 @@
 //! Lines, each once.
 ghost use Rattle.std.specs.Prelude.{◌≡◌, [], ℕ, List, OnOk};
 ghost use Rattle.std.specs.Io.Buffered.{writer_buffer, writer_contents};
-ghost use Rattle.dedup.specs.Lines.{AreSeen, once_by};
+ghost use Rattle.hash_texts.specs.Firsts.{AreSeen, once_by};
 ghost use Rattle.dedup.specs.Running.{Ends, run_of};
 
 use crate::fault::{Fault, see};
@@ -9,8 +9,8 @@ use crate::lines::put_line;
 use crate::run::{Ended, take_inputs};
 use crate::task::LineTask;
 use hash_program::inputs::Complaints;
-use hash_program::lines::without_end;
 use hash_texts::Texts;
+use hash_texts::lines::without_end;
 use std::alloc::Global;
 use std::hash::BuildHasher;
 use std::io::{BufWriter, Read, Write};

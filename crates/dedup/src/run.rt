@@ -1,8 +1,7 @@
 //! A run over inputs, one behind the other.
 ghost use Rattle.std.specs.Prelude.{◌≡◌, ◌+◌, ◌≤◌, [], ℕ, List, IfOk, OnOk, OnErr, length};
 ghost use Rattle.std.specs.Io.Buffered.{writer_buffer, writer_contents};
-ghost use Rattle.dedup.specs.Between.{IsBare};
-ghost use Rattle.hash_lines.specs.Lines.{lines_by};
+ghost use Rattle.hash_texts.specs.Lines.{IsBare, lines_by};
 ghost use Rattle.dedup.specs.Running.{EndsTaking, run_of};
 ghost use Rattle.dedup.specs.Taking.{BreaksInput, EndsInput, Grows, LeavesInput, StopsWithin};
 

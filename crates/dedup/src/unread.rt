@@ -5,8 +5,8 @@ ghost use Rattle.std.specs.Io.KnownBytes.{Keeps};
 ghost use Rattle.dedup.specs.Between.{Filled, ReadsBehind};
 
 use crate::fault::Fault;
-use crate::lines::line_end;
 use hash_program::streams::{TRIES, read_some};
+use hash_texts::lines::line_end;
 use std::alloc::Global;
 use std::io;
 use std::io::{BufWriter, Error, Read, Write};

@@ -3,7 +3,7 @@ ghost use Rattle.std.specs.Prelude.{◌≡◌, ◌+◌, ◌<◌, ◌↔◌, ◌�
 ghost use Rattle.hashers.specs.Spooky.{spooky_v1};
 ghost use Rattle.hash_c.specs.Columns.{AreOffsets, IsColumn, IsColumnBy};
 ghost use Rattle.hash_c.specs.Lines.{laid_over};
-ghost use Rattle.hash_lines.specs.Lines.{line_texts};
+ghost use Rattle.hash_texts.specs.Lines.{line_texts};
 ghost use Rattle.hash_names.specs.Named.{hash_at, hash_of, kind_at};
 
 use hash_names::table::{Kind, by_kind, kind_at};

@@ -3,4 +3,3 @@ pub mod HexLemmas
 pub mod LineLemmas
 pub mod TellsLemmas
 pub mod OneLemmas
-pub mod LinesOfText

@@ -1,5 +1,5 @@
 //! What a program of this repository needs once: the words of its call and what they ask for, its faults, how it ends and what it says
-//! then, its inputs in order, lines and their ends, reading and writing that is tried again where it was interrupted, progress, and names
+//! then, its inputs in order, reading and writing that is tried again where it was interrupted, progress, and names
 //! and the words of an error for standard error.
 #![tactic(auto)]
 
@@ -7,7 +7,6 @@ pub mod call;
 pub mod fault;
 pub mod frame;
 pub mod inputs;
-pub mod lines;
 pub mod outcome;
 pub mod progress;
 pub mod quoted;

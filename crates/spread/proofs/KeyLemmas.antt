@@ -11,8 +11,8 @@ use Rattle.std.proofs.lemmas.List.Elements.{All-head, All-tail, All-push, All-sa
 use Rattle.std.proofs.lemmas.List.Folds.{concat-append}
 use Rattle.std.proofs.lemmas.List.Sums.{fold-append}
 use Rattle.hash_texts.specs.Texts.{with_text}
-use Rattle.hash_lines.specs.Lines.{line_texts}
-use Rattle.hash_lines.proofs.LinesOfText.{text_of_line, texts_of_line}
+use Rattle.hash_texts.specs.Lines.{line_texts}
+use Rattle.hash_texts.proofs.LinesOfText.{text_of_line, texts_of_line}
 use Rattle.spread.specs.Keys.{IsWhole, ReadsFixed, ReadsLine, ReadsLines, ReadsOne, TakesFixed, TakesKeys}
 
 -- keys that were read, and behind them more

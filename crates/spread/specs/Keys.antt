@@ -3,7 +3,7 @@ use Rattle.std.specs.Prelude.{ℕ, ◌≡◌, ◌++◌, Bool, true, false, Optio
 use Rattle.std.specs.Int.NonZero.{non_zero_usize_get}
 use Rattle.std.specs.Io.KnownBytes.{Consumes, IsAtEnd}
 use Rattle.std.specs.List.{concat}
-use Rattle.hash_lines.specs.Lines.{line_texts}
+use Rattle.hash_texts.specs.Lines.{line_texts}
 use Rattle.hash_texts.specs.Texts.{with_text}
 use Rattle.spread.specs.declared.keys.Layout.{Layout}
 use Rattle.spread.specs.declared.keys.Layout.TheVariants.{Lines, Fixed}

@@ -4,8 +4,8 @@ ghost use Rattle.hash_texts.specs.Texts.{with_text};
 ghost use Rattle.spread.specs.Keys.{ReadsFixed, ReadsKey, ReadsKeys, ReadsLine, ReadsLines, ReadsOne, ReadsPiece};
 
 use crate::fault::{Fault, NoTable, fault_of_read};
-use hash_program::lines::{has_end, without_end};
 use hash_program::streams::{TRIES, read_some};
+use hash_texts::lines::{has_end, without_end};
 use hash_texts::{Full, RandomKeys, Texts};
 use std::alloc::Global;
 use std::io::{BufRead, Read};

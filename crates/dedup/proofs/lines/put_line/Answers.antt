@@ -3,7 +3,7 @@ use Rattle.std.specs.Io.KnownBytes.{Appends}
 use Rattle.std.proofs.KnownBytes.{Appends-trans}
 use Rattle.std.proofs.lemmas.Result.{on_err_weaker, on_ok_weaker}
 use Rattle.hash_program.specs.Streams.{AppendsPart}
-use Rattle.dedup.proofs.LineLemmas.{line_with_end, line_without_end}
+use Rattle.hash_texts.proofs.LineLemmas.{line_with_end, line_without_end}
 use Rattle.dedup.proofs.SeenLemmas.{on_err}
 use Rattle.dedup.proofs.lines.put_line.Goals as goal
 

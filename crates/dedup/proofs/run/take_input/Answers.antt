@@ -2,7 +2,7 @@ use Rattle.std.proofs.Common.{ℕ, ◌≡◌, ◌<◌, ◌-◌, ◌++◌, [], sy
 use Rattle.std.specs.Io.Buffered.{writer_contents}
 use Rattle.std.proofs.KnownBytes.{Keeps-refl}
 use Rattle.dedup.specs.Between.{HasCome, Takes}
-use Rattle.hash_lines.specs.Lines.{lines_by}
+use Rattle.hash_texts.specs.Lines.{lines_by}
 use Rattle.dedup.specs.Taking.{BreaksOff, EndsInput, LeadsOn, StopsWithin}
 use Rattle.dedup.proofs.RunLemmas.{Reads, all_first, breaks_among, breaks_at, ends_left, leads_both, leads_kept, more_first, more_left, read_to_fault, reads_more, some_most, stops_after, stops_behind, taken_first, taken_of, takes_some}
 use Rattle.dedup.proofs.SeenLemmas.{on_err}

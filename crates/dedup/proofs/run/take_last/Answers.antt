@@ -2,7 +2,7 @@ use Rattle.std.proofs.Common.{ap, sym, subst, length, arith}
 use Rattle.std.proofs.lemmas.Bool.{eqb-false}
 use Rattle.std.specs.Io.Buffered.{writer_contents}
 use Rattle.dedup.specs.Taking.{LeadsOn, StopsWithin}
-use Rattle.dedup.proofs.LineLemmas.{bare_line}
+use Rattle.hash_texts.proofs.LineLemmas.{bare_line}
 use Rattle.dedup.proofs.RunLemmas.{leads_kept, stops_after}
 use Rattle.dedup.proofs.SeenLemmas.{on_err}
 use Rattle.dedup.proofs.run.take_last.Goals as goal

@@ -1,8 +1,8 @@
 use Rattle.std.proofs.Common.{◌≡◌, ◌≢◌, ◌+◌, ◌∷◌, ◌∙◌, ℕ, take, ap, sym, arith, rules, tests}
 use Rattle.std.proofs.lemmas.Iterator.{IsFirst-from_position, YieldsList-from_slice}
 use Rattle.std.proofs.lemmas.List.{take_rest}
-use Rattle.hash_lines.specs.Lines.{line_texts}
-use Rattle.hash_c.proofs.LineLemmas.{line_ends, line_is_all}
+use Rattle.hash_texts.specs.Lines.{line_texts}
+use Rattle.hash_texts.proofs.LineLemmas.{bare_text, first_text}
 use Rattle.hash_c.proofs.column.first_line.Goals as goal
 
 pub returns-in-Some-clause-first : goal.returns-in-Some-clause-first
@@ -12,7 +12,7 @@ returns-in-Some-clause-first c =
     let first = IsFirst-from_position _ _ _ (λ b. b ≡ 10) (λ b. b ≢ 10) c.position.ensures.ran
     (YieldsList-from_slice bytes c.iter.ensures.rest) (λ x q k. search (rules, tests)) (λ x q k. search (rules, tests)) in
     let (within, is, before) = rw c.in-Some.is at first in
-    line_ends bytes n within (is 0) (λ k less. before k 0 (omega arith) less)
+    first_text 10 bytes n (within, is 0, λ k less. before k 0 (omega arith) less)
     ∙ sym (ap (λ l. take n bytes ∷ line_texts 10 l) (take_rest bytes (n + 1)))
 
 pub returns-in-None-clause-first : goal.returns-in-None-clause-first
@@ -20,4 +20,4 @@ returns-in-None-clause-first c =
     let first = IsFirst-from_position _ _ _ (λ b. b ≡ 10) (λ b. b ≢ 10) c.position.ensures.ran
     (YieldsList-from_slice c.args.bytes.now c.iter.ensures.rest) (λ x q k. search (rules, tests)) (λ x q k. search (rules, tests)) in
     let none = rw c.in-None.is at first in
-    line_is_all c.args.bytes.now c.requires (λ k less. none k 0 (omega arith) less)
+    bare_text 10 c.args.bytes.now (λ k less. none k 0 (omega arith) less) c.requires

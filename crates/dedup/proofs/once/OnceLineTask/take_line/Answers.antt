@@ -1,7 +1,8 @@
 use Rattle.std.proofs.Common.{rules, []}
 use Rattle.std.proofs.KnownBytes.{Appends-nil}
-use Rattle.dedup.specs.Lines.{as_line_by, once_by}
-use Rattle.dedup.proofs.LineLemmas.{once_begins}
+use Rattle.hash_texts.specs.Lines.{as_line_by}
+use Rattle.hash_texts.specs.Firsts.{once_by}
+use Rattle.hash_texts.proofs.FirstsLemmas.{once_begins}
 use Rattle.dedup.proofs.RunLemmas.{stops_before}
 use Rattle.dedup.proofs.SeenLemmas.{adds_new, adds_nothing, on_err, stops_in_line, takes_line}
 use Rattle.dedup.proofs.once.OnceLineTask.take_line.Goals as goal

@@ -1,5 +1,5 @@
 use Rattle.std.proofs.Common.{ℕ, ◌≢◌, ◌<◌, ◌≤◌, ◌-◌, length, get_or}
-use Rattle.dedup.proofs.lines.line_end.Given as goal
+use Rattle.hash_texts.proofs.lines.line_end.Given as goal
 
 -- no byte so far is an end
 abbrev pub invariant-loop-at : goal.invariant-loop-at

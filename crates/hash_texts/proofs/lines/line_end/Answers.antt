@@ -1,7 +1,7 @@
 use Rattle.std.proofs.Common.{ℕ, ◌+◌, ◌≤◌, ◌==◌, length, arith, inl, inr}
 use Rattle.std.proofs.lemmas.Bool.{cases_lt, eqb-false, eqb-true}
 use Rattle.std.proofs.lemmas.Simd.{run_in_chunk_fails, run_in_chunk_stops}
-use Rattle.dedup.proofs.lines.line_end.Goals as goal
+use Rattle.hash_texts.proofs.lines.line_end.Goals as goal
 
 pub returns-then-before-lt16 : goal.returns-then-before-lt16
 returns-then-before-lt16 c =

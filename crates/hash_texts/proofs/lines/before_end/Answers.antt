@@ -2,7 +2,7 @@ use Rattle.std.proofs.Common.{eqb, sym, ap, ◌∙◌, arith, w8}
 use lib.Count.{count_trailing_zeros}
 use lib.Lanes.{chunk}
 use Rattle.std.proofs.lemmas.Simd.{length-chunk, bitmask_splat, leading_from_mask_l, trailing_mask_l}
-use Rattle.dedup.proofs.lines.before_end.Goals as goal
+use Rattle.hash_texts.proofs.lines.before_end.Goals as goal
 
 pub returns-then-ends-eq0 : goal.returns-then-ends-eq0
 returns-then-ends-eq0 c =

@@ -8,13 +8,11 @@ use Rattle.std.proofs.lemmas.Cmp.{nat_list_eq_equiv}
 use Rattle.std.proofs.lemmas.List.{length-append}
 use Rattle.std.proofs.lemmas.Slice.Eq.{bytes_eq-Decides}
 use Rattle.std.proofs.lemmas.List.Elements.{filter-append}
-use Rattle.dedup.specs.Laws.{ComesBefore}
-use Rattle.dedup.specs.Lines.{as_line_by, each_once_by, firsts_by, once_by, same_text_by}
-use Rattle.hash_lines.specs.Lines.{line_texts, lines_by}
+use Rattle.hash_texts.specs.Firsts.{ComesBefore, each_once_by, firsts_by, once_by, same_text_by}
+use Rattle.hash_texts.specs.Lines.{as_line_by, line_texts, lines_by}
 use Rattle.hash_texts.specs.Texts.{EachOnce, has}
-use Rattle.dedup.proofs.FirstsLemmas.{Apart, any_firsts, any_texts, firsts_apart, none_filtered}
-use Rattle.hash_lines.proofs.LinesOfText.{strip_end, strip_is, strip_more, strip_one, texts_of_lines}
-use Rattle.dedup.proofs.LineLemmas.{once_begins}
+use Rattle.hash_texts.proofs.FirstsLemmas.{Apart, any_firsts, any_texts, firsts_apart, none_filtered, once_begins}
+use Rattle.hash_texts.proofs.LinesOfText.{strip_end, strip_is, strip_more, strip_one, texts_of_lines}
 
 absent_at : (text : List ℕ) (texts : List (List ℕ)) → has texts text ≡ false → (i : ℕ) → i < length texts → text ≢ get_or texts i []
 absent_at text [] absent i below same = omega arith

@@ -6,7 +6,7 @@ use Rattle.std.specs.List.{onto_first}
 use Rattle.std.proofs.lemmas.Bool.{eq-eqb, ne_eqb, lt-ltb, false≢true}
 use Rattle.std.proofs.lemmas.Grind.{get_or_tail}
 use Rattle.std.proofs.lemmas.List.Elements.{All-head, All-tail}
-use Rattle.hash_lines.specs.Lines.{line_texts, lines_by}
+use Rattle.hash_texts.specs.Lines.{line_texts, lines_by}
 
 one_less : (n : ℕ) → suc n - 1 ≡ n
 one_less n = omega arith

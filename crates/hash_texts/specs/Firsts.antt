@@ -1,9 +1,9 @@
--- What the program makes of the lines of a text. A line ends with a byte, newline or another.
-use Rattle.std.specs.Prelude.{ℕ, ◌≡◌, ◌++◌, Bool, not, List, [], ◌∷◌}
+-- The first line of each text.
+use Rattle.std.specs.Prelude.{ℕ, ◌≡◌, ◌++◌, Bool, false, not, List, [], ◌∷◌}
 use Rattle.std.specs.Io.BufRead.{strip_last}
 use Rattle.std.specs.List.{filter, flat_map, list_any}
 use Rattle.std.specs.Str.{bytes_eq}
-use Rattle.hash_lines.specs.Lines.{lines_by}
+use Rattle.hash_texts.specs.Lines.{as_line_by, lines_by}
 use Rattle.hash_texts.specs.Texts.{has}
 
 -- whether two lines have the same text, what ends them aside
@@ -15,11 +15,7 @@ abbrev pub firsts_by : (eol : ℕ) → List (List ℕ) → List (List ℕ)
 firsts_by eol [] = []
 firsts_by eol (line ∷ more) = line ∷ filter (λ other. not (same_text_by eol line other)) (firsts_by eol more)
 
--- the text of a line, and its end behind it
-abbrev pub as_line_by : (eol : ℕ) → List ℕ → List ℕ
-as_line_by eol line = strip_last eol line ++ eol ∷ []
-
--- what is written of lines: each once, where it came first, with its end behind it
+-- lines each once, where they came first, each with its end behind it
 abbrev pub once_by : (eol : ℕ) → List (List ℕ) → List ℕ
 once_by eol ls = flat_map (as_line_by eol) (firsts_by eol ls)
 
@@ -30,3 +26,7 @@ each_once_by eol text = once_by eol (lines_by eol text)
 -- these texts are those of the lines
 abbrev pub AreSeen : (eol : ℕ) → List (List ℕ) → (seen : List (List ℕ)) → Type 0
 AreSeen eol ls seen = (other : List ℕ) → has seen other ≡ list_any (λ line. bytes_eq other (strip_last eol line)) ls
+
+-- the text stands at a place before which the other does not
+abbrev pub ComesBefore : List (List ℕ) → (text other : List ℕ) → Type 0
+ComesBefore texts text other = (before after : List (List ℕ)) × (texts ≡ before ++ text ∷ after) × (has before other ≡ false)
