@@ -1,4 +1,1 @@
-pub mod ToldLemmas
-pub mod ListLemmas
-pub mod LawLemmas
-pub mod PassLemmas
+mod PassLemmas

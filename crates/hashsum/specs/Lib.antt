@@ -1,9 +1,1 @@
-pub mod Checking
-pub mod Files
-pub mod Laws
-pub mod Lists
-pub mod Passed
 pub mod Program
-pub mod Summing
-pub mod Sums
-pub mod Told

@@ -15,15 +15,15 @@ use Rattle.hash_program.specs.declared.outcome.Outcome.{Outcome}
 use Rattle.hash_program.specs.declared.outcome.Outcome.TheVariants.{Done, Usage, Reported, Failed}
 use Rattle.hash_program.specs.declared.outcome.Wrong.{Wrong}
 use Rattle.hash_program.specs.declared.outcome.Wrong.TheVariants.{UnknownName, Own}
-use Rattle.hashsum.specs.declared.check.Checking.{Checking}
+use Rattle.hash_sums.specs.declared.check.Checking.{Checking}
 use Rattle.hashsum.specs.declared.outcome.Misuse.{Misuse}
 use Rattle.hashsum.specs.declared.outcome.Misuse.TheVariants as misuse
 use Rattle.hashsum.specs.declared.outcome.Task.{Task}
 use Rattle.hashsum.specs.declared.outcome.Task.TheVariants as task
-use Rattle.hashsum.specs.declared.sum.Summing.{Summing}
-use Rattle.hashsum.specs.Files.{Opens}
-use Rattle.hashsum.specs.Lists.{EndsLists}
-use Rattle.hashsum.specs.Summing.{EndsSums}
+use Rattle.hash_sums.specs.declared.sum.Summing.{Summing}
+use Rattle.hash_sums.specs.Files.{Opens}
+use Rattle.hash_sums.specs.Lists.{EndsLists}
+use Rattle.hash_sums.specs.Summing.{EndsSums}
 
 -- the options
 abbrev pub options : List Choice

@@ -1,9 +1,9 @@
 //! The files of the disk.
-use crate::check::Counts;
-use crate::folder::Folder;
 use hash_program::inputs::{open, tell_failure};
 use hash_program::progress::{Progress, Watched};
 use hash_program::quoted::quoted;
+use hash_sums::check::Counts;
+use hash_sums::folder::Folder;
 use std::io;
 use std::io::{Error, IsTerminal};
 

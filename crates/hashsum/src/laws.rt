@@ -1,99 +1,18 @@
-//! What a check is proved to see, as laws with no code of their own, over any files: of the text that was read of a file. Of a file whose
-//! bytes are not known, as one of the disk, they say that some text has the hash. A text's length is that of its file.
-ghost use Rattle.std.specs.Prelude.{◌≡◌, ℕ, All, List, Ok, Option, Some, codes};
-ghost use Rattle.hashers.specs.DifferWithin.{DifferAtOnePlace, DifferWithin};
-ghost use Rattle.hashers.specs.Fx.{words32, words64};
+//! What the program promises by its status, as a law with no code of its own, and what it says of its hashes.
+ghost use Rattle.std.specs.Prelude.{◌≡◌, ℕ, All, List, Ok, Option};
 ghost use Rattle.hash_lines.specs.declared.line.Kind.{Kind as LineKind};
-ghost use Rattle.hash_more.specs.Bursts.{DifferWithinBits};
-ghost use Rattle.hashsum.specs.declared.check.Checking.{Checking};
-ghost use Rattle.hashsum.specs.declared.outcome.Misuse.{Misuse};
-ghost use Rattle.hashsum.specs.declared.outcome.Task.TheVariants.{Check};
-ghost use Rattle.hashsum.specs.Laws.{DifferAtOneWord, NeverPasses};
-ghost use Rattle.hashsum.specs.Passed.{HasPassed};
 ghost use Rattle.hash_program.specs.Outcome.{status_of};
 ghost use Rattle.hash_program.specs.declared.outcome.Nothing.{Nothing};
 ghost use Rattle.hash_program.specs.declared.outcome.Outcome.{Outcome};
+ghost use Rattle.hash_sums.specs.Passed.{HasPassed};
+ghost use Rattle.hash_sums.specs.declared.check.Checking.{Checking};
 ghost use Rattle.hashsum.specs.Program.{EndsTask};
-ghost use Rattle.hashsum.specs.Sums.{number_named, sum_at, told_at};
+ghost use Rattle.hashsum.specs.declared.outcome.Misuse.{Misuse};
+ghost use Rattle.hashsum.specs.declared.outcome.Task.TheVariants.{Check};
 
-use crate::folder::Folder;
-use hash_more::crc32::{Crc32Hasher, Crc32cHasher};
-use hash_more::djb2_add::Djb2AddHasher;
-use hash_more::fnv1::{Fnv1Hasher32, Fnv1Hasher64};
-use hash_more::joaat::JoaatHasher;
-use hash_more::windows::windows_tell_apart as relatives_tell_apart;
 use hash_names::table::Kind;
-use hashers::fnv::{FNV1aHasher32, FNV1aHasher64};
-use hashers::jenkins::OAATHasher;
-use hashers::laws::{one_changed_byte_shows, one_changed_word_shows_fx, windows_tell_apart};
-use hashers::oz::{DJB2Hasher, LoseLoseHasher, SDBMHasher};
-use hashers::pigeon::Bricolage;
+use hash_sums::folder::Folder;
 use std::io::Read;
-
-/// Each hash that a line can tell, which is that of its number, is the one of its name.
-pub fn each_kind_has_the_hash_of_its_name()
-    ensures { (which : ℕ) → number_named (told_at which).name ≡ Some (sum_at which) }
-{}
-
-/// A file that differs from the text of its line only within so many neighbouring bytes, and under djb2 and djb2_add only in the low
-/// five bits of each, never passes the check; by the CRCs none that differs only within 32 neighbouring bits.
-pub fn a_changed_stretch_never_passes<R: Read, F: Folder<R>>()
-    ensures djb2 { NeverPasses F.opens (codes "djb2") (DifferWithin 6 0xE0) }
-    ensures sdbm { NeverPasses F.opens (codes "sdbm") (DifferWithin 3 0) }
-    ensures fnv64 { NeverPasses F.opens (codes "fnv1a64") (DifferWithin 3 0) }
-    ensures fnv32 { NeverPasses F.opens (codes "fnv1a32") (DifferWithin 2 0) }
-    ensures crc32 { NeverPasses F.opens (codes "crc32") (DifferWithin 4 0) }
-    ensures crc32c { NeverPasses F.opens (codes "crc32c") (DifferWithin 4 0) }
-    ensures crc32_bits { NeverPasses F.opens (codes "crc32") (DifferWithinBits 32) }
-    ensures crc32c_bits { NeverPasses F.opens (codes "crc32c") (DifferWithinBits 32) }
-    ensures djb2_add { NeverPasses F.opens (codes "djb2_add") (DifferWithin 6 0xE0) }
-    ensures fnv1_64 { NeverPasses F.opens (codes "fnv1_64") (DifferWithin 3 0) }
-    ensures fnv1_32 { NeverPasses F.opens (codes "fnv1_32") (DifferWithin 2 0) }
-{
-    windows_tell_apart();
-    relatives_tell_apart();
-}
-
-/// A file that differs from the text of its line at exactly one byte never passes the check, by each of these names.
-pub fn a_changed_byte_never_passes<R: Read, F: Folder<R>>()
-    ensures fnv32 { NeverPasses F.opens (codes "fnv1a32") DifferAtOnePlace }
-    ensures fnv64 { NeverPasses F.opens (codes "fnv1a64") DifferAtOnePlace }
-    ensures djb2 { NeverPasses F.opens (codes "djb2") DifferAtOnePlace }
-    ensures sdbm { NeverPasses F.opens (codes "sdbm") DifferAtOnePlace }
-    ensures loselose { NeverPasses F.opens (codes "loselose") DifferAtOnePlace }
-    ensures bricolage { NeverPasses F.opens (codes "bricolage") DifferAtOnePlace }
-    ensures oaat { NeverPasses F.opens (codes "oaat") DifferAtOnePlace }
-    ensures joaat { NeverPasses F.opens (codes "joaat") DifferAtOnePlace }
-    ensures crc32 { NeverPasses F.opens (codes "crc32") DifferAtOnePlace }
-    ensures crc32c { NeverPasses F.opens (codes "crc32c") DifferAtOnePlace }
-    ensures djb2_add { NeverPasses F.opens (codes "djb2_add") DifferAtOnePlace }
-    ensures fnv1_64 { NeverPasses F.opens (codes "fnv1_64") DifferAtOnePlace }
-    ensures fnv1_32 { NeverPasses F.opens (codes "fnv1_32") DifferAtOnePlace }
-{
-    one_changed_byte_shows::<FNV1aHasher32>();
-    one_changed_byte_shows::<FNV1aHasher64>();
-    one_changed_byte_shows::<DJB2Hasher>();
-    one_changed_byte_shows::<SDBMHasher>();
-    one_changed_byte_shows::<LoseLoseHasher>();
-    one_changed_byte_shows::<Bricolage>();
-    one_changed_byte_shows::<OAATHasher>();
-    one_changed_byte_shows::<JoaatHasher>();
-    one_changed_byte_shows::<Crc32Hasher>();
-    one_changed_byte_shows::<Crc32cHasher>();
-    one_changed_byte_shows::<Djb2AddHasher>();
-    one_changed_byte_shows::<Fnv1Hasher64>();
-    one_changed_byte_shows::<Fnv1Hasher32>();
-}
-
-/// A file of the text's length that differs from the text of its line in exactly one word, of eight bytes (four for fxhash32) or of
-/// what is left behind these, never passes the check.
-pub fn a_changed_word_never_passes<R: Read, F: Folder<R>>()
-    ensures fxhash { NeverPasses F.opens (codes "fxhash") (DifferAtOneWord words64) }
-    ensures fxhash64 { NeverPasses F.opens (codes "fxhash64") (DifferAtOneWord words64) }
-    ensures fxhash32 { NeverPasses F.opens (codes "fxhash32") (DifferAtOneWord words32) }
-{
-    one_changed_word_shows_fx();
-}
 
 /// Where a check ends with the status 0, each of its lists was opened and read to its end, and none of their lines fails: of each that
 /// tells a hash, the file was opened and the text that was read of it has this hash, or it is not there and such files are left out. Of
@@ -105,7 +24,7 @@ pub fn a_check_that_ends_well<R: Read, F: Folder<R>>()
         → status_of outcome ≡ 0 → All (HasPassed kinds checking (F.opens folder)) lists }
 {}
 
-/// What a check by a hash of the table is proved to see in a file of the same length, in words: the laws above. `None` stands for
+/// What a check by a hash of the table is proved to see in a file of the same length, in words: the laws of `hash_sums`. `None` stands for
 /// spooky128.
 pub fn seen(kind: Option<Kind>) -> &'static str {
     match kind {

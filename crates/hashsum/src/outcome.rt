@@ -10,16 +10,16 @@ ghost use Rattle.hash_program.specs.Call.{call_of, choices, operands, sayings, t
 ghost use Rattle.hash_program.specs.Frame.{text_of};
 ghost use Rattle.hashsum.specs.Program.{checking_of, files_or, gives_writing, is_named, kind_of, of_run, options, summing_of, task_of, words_of, work_of, EndsCall, EndsTask};
 
-use crate::check::{Checking, check_lists};
-use crate::fault::Fault;
-use crate::folder::Folder;
-use crate::sum::{Summing, sum_files};
 use hash_lines::line::{Form, Kind};
 use hash_program::call::{Call, Opt, flag, taking};
 use hash_program::frame::{About, Request, request_of, text_of};
 use hash_program::outcome;
 use hash_program::outcome::{Nothing, Words, of_telling};
 use hash_program::streams::put_out;
+use hash_sums::Fault;
+use hash_sums::check::{Checking, check_lists};
+use hash_sums::folder::Folder;
+use hash_sums::sum::{Summing, sum_files};
 use std::alloc::{AllocError, Global};
 use std::io::{BufWriter, Read, Write};
 

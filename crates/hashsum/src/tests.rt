@@ -1,11 +1,11 @@
 //! Tests of the program over files in memory.
-use crate::check::Counts;
-use crate::folder::Folder;
 use crate::outcome::{call_of, outcome_of};
-use crate::sums::kinds;
 use hash_names::table::KINDS;
 use hash_program::frame::About;
 use hash_program::outcome::{failure_of, status_of};
+use hash_sums::check::Counts;
+use hash_sums::folder::Folder;
+use hash_sums::sums::kinds;
 use std::alloc::{AllocError, Global};
 use std::io;
 use std::io::{BufWriter, Error, ErrorKind, Read, Write};

@@ -1,0 +1,37 @@
+-- What a check sees.
+use Rattle.std.proofs.Common.{◌≡◌, ◌≢◌, ℕ, Bool, true, false, ◌&&◌, nat_eq, List, Option, Result, Ok, Err, if◌then◌else◌, refl, sym, ap, ◌∙◌}
+use Rattle.std.proofs.lemmas.Bool.{eqb-true}
+use Rattle.std.specs.IoError.{error_kind}
+use Rattle.std.specs.declared.io.Error.{Error}
+use Rattle.hashers.specs.Text.{IsText}
+use Rattle.hash_sums.specs.declared.check.Verdict.TheVariants.{Same, Different, Unread, Missing}
+use Rattle.hash_sums.specs.declared.sum.Unsummed.TheVariants.{Unhashed, Unopened}
+use Rattle.hash_sums.specs.Checking.{is_not_found, IsVerdict}
+use Rattle.hash_sums.specs.Files.{ReadsFile}
+
+-- a number that is said to be the same is the same
+same_number : (told number : ℕ) → (if nat_eq number told then Same else Different) ≡ Same → number ≡ told
+same_number told number says = at (nat_eq number told) refl
+  where
+    at : (b : Bool) → nat_eq number told ≡ b → number ≡ told
+    at true is = eqb-true number told is
+    at false is = let other : Different ≡ Same = sym (ap (λ b. if b then Same else Different) is) ∙ says in cc
+
+-- a file that was not opened is not the same
+not_same : (missing : Bool) → (if missing then Missing else Unread) ≡ Same → ⊥
+not_same true says = cc
+not_same false says = cc
+
+-- a hash that tells the texts apart
+pub never_passes : (opens : Result (Option (List ℕ)) Error → Type 0) (hash : List ℕ → ℕ) (Changed : (first second : List ℕ) → Type 0)
+    → ((x y : List ℕ) → IsText x → IsText y → Changed x y → hash x ≢ hash y)
+    → (ignore_missing : Bool) (first : List ℕ) → IsText first
+    → IsVerdict opens hash ignore_missing (hash first) Same
+    → (held : Option (List ℕ)) × opens (Ok held)
+    × (text : List ℕ) × ReadsFile held text × (hash text ≡ hash first) × ¬ (Changed first text)
+never_passes opens hash Changed apart ignore_missing first is_text (Ok number, (held, can, (text, file, is)), says) =
+    let same : hash text ≡ hash first = sym is ∙ same_number (hash first) number says in
+    (held, can, text, file, same, λ changed. apart first text is_text file.1.is_text changed (sym same))
+never_passes opens hash Changed apart ignore_missing first is_text (Err (Unopened error), can, says) =
+    absurd (not_same (ignore_missing && is_not_found (error_kind error)) says)
+never_passes opens hash Changed apart ignore_missing first is_text (Err (Unhashed why), can, says) = cc

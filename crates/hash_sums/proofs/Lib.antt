@@ -1,0 +1,4 @@
+pub mod LawLemmas
+pub mod ListLemmas
+pub mod PassLemmas
+pub mod ToldLemmas

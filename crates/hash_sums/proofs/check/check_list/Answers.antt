@@ -1,0 +1,19 @@
+use Rattle.std.proofs.Common.{inl, inr, refl}
+use Rattle.std.proofs.KnownBytes.{Keeps-refl}
+use Rattle.std.specs.Io.Buffered.{writer_contents}
+use Rattle.hash_program.specs.declared.fault.Fault.TheVariants.{NoMemory}
+use Rattle.hash_sums.proofs.ListLemmas.{list_torn_off}
+use Rattle.hash_sums.proofs.check.check_list.Goals as goal
+
+pub returns-in-Err-with_capacity : goal.returns-in-Err-with_capacity
+returns-in-Err-with_capacity g c =
+    let held = g.R.Read.remaining c.in-Ok.file in
+    inl (
+      held,
+      c.in-Ok.ensures,
+      list_torn_off c.args.kinds.now c.args.checking (g.F.Folder.opens c.args.folder.now) held
+          (writer_contents g.W.Write.contents c.args.w.now) NoMemory,
+    )
+
+pub returns-in-Err : goal.returns-in-Err
+returns-in-Err g c = inr (c.in-Err.error, c.in-Err.ensures, Keeps-refl (writer_contents g.W.Write.contents c.args.w.now), refl)

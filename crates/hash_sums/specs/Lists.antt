@@ -1,0 +1,102 @@
+-- Lists whose lines are checked.
+use Rattle.std.specs.Prelude.{ℕ, ◌≡◌, ◌⊎◌, ◌&&◌, Bool, true, false, List, [], ◌∷◌, ◌++◌, Option, Some, None, Result, Ok, Err, fold}
+use Rattle.std.specs.Io.BufRead.{drop_through, strip_last, take_through}
+use Rattle.std.specs.Io.KnownBytes.{Appends, IsAtEnd, Keeps}
+use Rattle.std.specs.declared.io.Error.{Error}
+use Rattle.hash_lines.specs.declared.line.Kind.{Kind}
+use Rattle.hash_program.specs.Streams.{AppendsPart}
+use Rattle.hash_sums.specs.declared.check.Came.{Came}
+use Rattle.hash_sums.specs.declared.check.Checking.{Checking}
+use Rattle.hash_sums.specs.declared.check.Counts.{Counts}
+use Rattle.hash_program.specs.declared.fault.Fault.{Fault}
+use Rattle.hash_program.specs.declared.outcome.Nothing.{Nothing}
+use Rattle.hash_sums.specs.Checking.{counted, passes, said, IsCame}
+use Rattle.hash_sums.specs.Files.{Opens}
+use Rattle.hash_sums.specs.Told.{AreTold, AreTornOff}
+
+-- this line, with its newline if it has one, is the next
+abbrev pub IsNext : (left : Option (List ℕ)) (line : List ℕ) (left' : Option (List ℕ)) → Type 0
+IsNext None line left' = Unit {0}
+IsNext (Some text) line left' = (line ≡ take_through 10 text) × (left' ≡ Some (drop_through 10 text))
+
+-- these lines come first, one after the other
+pub data AreLines : (left : Option (List ℕ)) (lines : List (List ℕ)) (left' : Option (List ℕ)) → Type 0 where
+  none : {left : Option (List ℕ)} → AreLines left [] left
+  behind : {left here left' : Option (List ℕ)} {lines : List (List ℕ)} (line : List ℕ) → AreLines left lines here → IsNext here line left'
+      → AreLines left (lines ++ line ∷ []) left'
+
+-- a line without its end: a newline, a carriage return and a newline, or none
+abbrev pub bare : List ℕ → List ℕ
+bare line = strip_last 13 (strip_last 10 line)
+
+-- what came of a line with its end
+abbrev pub IsCameOf : List Kind → Checking → Opens → List ℕ × Came → Type 0
+IsCameOf kinds checking opens line = IsCame kinds checking.kind opens checking.ignore_missing (bare line.0) line.1
+
+-- the line that is written of it
+abbrev pub said_of : Checking → List ℕ × Came → List ℕ
+said_of checking line = said checking.quiet checking.status line.1
+
+-- no counts
+abbrev pub uncounted : Counts
+uncounted = record { improper = 0; same = 0; different = 0; unread = 0; missing = 0 }
+
+-- the counts of what came of lines
+abbrev pub counts_of : List (List ℕ × Came) → Counts
+counts_of lines = fold (λ counts line. counted counts line.1) uncounted lines
+
+-- how a line ends: what came of it was written, or a beginning of that, or nothing
+abbrev pub EndsLine : List Kind → Checking → Opens → (line : List ℕ) (written written' : Option (List ℕ))
+    → Result Came (Fault Nothing) → Type 0
+EndsLine kinds checking opens line written written' (Ok came) =
+    IsCameOf kinds checking opens (line, came) × Appends written written' (said_of checking (line, came))
+EndsLine kinds checking opens line written written' (Err fault) = Keeps written written' ⊎ ((came : Came)
+    × IsCameOf kinds checking opens (line, came) × AppendsPart written written' (said_of checking (line, came)))
+
+-- how a list ends of which these bytes are left: what came of all its lines was written, and the counts are theirs; or it failed,
+-- and the same holds of its first lines; or a beginning of this was written
+abbrev pub EndsList : List Kind → Checking → Opens → (left : Option (List ℕ))
+    (written written' : Option (List ℕ)) → Result (Option Counts) (Fault Nothing) → Type 0
+EndsList kinds checking opens left written written' (Ok (Some counts)) =
+    (lines : List (List ℕ)) × (left' : Option (List ℕ)) × AreLines left lines left' × IsAtEnd left'
+    × (told : List (List ℕ × Came))
+    × AreTold (λ line. line.0) (IsCameOf kinds checking opens) (said_of checking) (λ line. true) lines told written written' true
+    × (counts ≡ counts_of told)
+EndsList kinds checking opens left written written' (Ok None) =
+    (lines : List (List ℕ)) × (left' : Option (List ℕ)) × AreLines left lines left'
+    × (told : List (List ℕ × Came))
+    × AreTold (λ line. line.0) (IsCameOf kinds checking opens) (said_of checking) (λ line. true) lines told written written' true
+EndsList kinds checking opens left written written' (Err fault) =
+    (lines : List (List ℕ)) × (left' : Option (List ℕ)) × AreLines left lines left'
+    × AreTornOff (λ line. line.0) (IsCameOf kinds checking opens) (said_of checking) (λ line. true) lines written written'
+
+-- how a list ends that was opened: its lines pass or do not, or it failed; or a beginning of what is due was written
+abbrev pub EndsOpened : List Kind → Checking → Opens → (left written written' : Option (List ℕ)) → Result Bool (Fault Nothing) → Type 0
+EndsOpened kinds checking opens left written written' (Ok passed) =
+    ((counts : Counts) × EndsList kinds checking opens left written written' (Ok (Some counts))
+    × (passed ≡ passes checking.strict counts))
+    ⊎ (EndsList kinds checking opens left written written' (Ok None) × (passed ≡ false))
+EndsOpened kinds checking opens left written written' (Err fault) = EndsList kinds checking opens left written written' (Err fault)
+
+-- how the list of a name ends: as what it opens does; or it could not be opened, and does not pass
+abbrev pub EndsListOf : List Kind → Checking → Opens → (list : List ℕ) (written written' : Option (List ℕ))
+    → Result Bool (Fault Nothing) → Type 0
+EndsListOf kinds checking opens list written written' ended =
+    ((held : Option (List ℕ)) × opens list (Ok held) × EndsOpened kinds checking opens held written written' ended)
+    ⊎ ((error : Error) × opens list (Err error) × Keeps written written' × (ended ≡ Ok false))
+
+-- the lists of these names ended, one behind the other, and whether all pass
+pub data AreListed (kinds : List Kind) (checking : Checking) (opens : Opens) : (lists : List (List ℕ))
+    (written written' : Option (List ℕ)) (all : Bool) → Type 0 where
+  no_list : {written : Option (List ℕ)} → AreListed kinds checking opens [] written written true
+  next_list : {lists : List (List ℕ)} {written between written' : Option (List ℕ)} {all : Bool} (list : List ℕ) (passed : Bool)
+      → AreListed kinds checking opens lists written between all → EndsListOf kinds checking opens list between written' (Ok passed)
+      → AreListed kinds checking opens (lists ++ list ∷ []) written written' (all && passed)
+
+-- how a run over the lists of these names ends: all ended, or some did and of the next a beginning of what is due was written
+abbrev pub EndsLists : List Kind → Checking → Opens → (lists : List (List ℕ))
+    (written written' : Option (List ℕ)) → Result Bool (Fault Nothing) → Type 0
+EndsLists kinds checking opens lists written written' (Ok all) = AreListed kinds checking opens lists written written' all
+EndsLists kinds checking opens lists written written' (Err fault) =
+    (before after : List (List ℕ)) × (list : List ℕ) × (before ++ list ∷ after ≡ lists) × (between : Option (List ℕ)) × (all : Bool)
+    × AreListed kinds checking opens before written between all × EndsListOf kinds checking opens list between written' (Err fault)

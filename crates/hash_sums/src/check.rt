@@ -1,0 +1,424 @@
+//! Whether files have the hashes that lines tell.
+ghost use Rattle.std.specs.Prelude.{◌≡◌, true, false, map, IfOk, MatchOption};
+ghost use Rattle.std.specs.IoError.{error_kind};
+ghost use Rattle.hash_sums.specs.Checking.{behind_name, counted, is_not_found, is_skipped, passes, said, verdict_on, words, IsCame, IsVerdict, TellsAny, TellsNothing};
+ghost use Rattle.hash_sums.specs.Lists.{bare, EndsLine, EndsList, EndsListOf, EndsLists, IsNext};
+ghost use Rattle.hash_sums.specs.Sums.{sum_at};
+ghost use Rattle.std.specs.Io.Buffered.{writer_contents};
+ghost use Rattle.std.specs.Io.KnownBytes.{IsAtEnd};
+
+use crate::fault::Fault;
+use crate::folder::Folder;
+use crate::sum::{Unsummed, error_of, number_of};
+use hash_lines::escape::needs_escape;
+use hash_lines::forms::parse_form;
+use hash_lines::line::{Kind, push_name};
+use hash_lines::parse::{Entry, parse_line};
+use hash_program::streams::put_out;
+use hash_texts::lines;
+use std::alloc::{AllocError, Global};
+use std::io;
+use std::io::{BufRead, BufReader, BufWriter, Error, ErrorKind, Read, Write};
+
+/// How many bytes of a list are read at once.
+const BUFFER: usize = 65536;
+
+/// How lines are checked.
+#[derive(Clone, Copy)]
+pub struct Checking<'k> {
+    /// By which hash lines that are not tagged are checked.
+    pub kind: Kind<'k>,
+    /// Whether files that have the hash are left out.
+    pub quiet: bool,
+    /// Whether nothing is written.
+    pub status: bool,
+    /// Whether improper lines fail the check.
+    pub strict: bool,
+    /// Whether files that are not there are left out.
+    pub ignore_missing: bool,
+    /// Whether each improper line is told.
+    pub warn: bool,
+}
+
+/// What came of a file that a line tells of.
+#[derive(Clone, Copy)]
+pub enum Verdict {
+    /// It has the hash.
+    Same,
+    /// It has another hash.
+    Different,
+    /// It could not be opened or read.
+    Unread,
+    /// It is not there, and such files are to be left out.
+    Missing,
+}
+
+/// What came of a line.
+#[derive(Drop)]
+pub enum Came<'k> {
+    /// It is empty, or a comment.
+    Skipped,
+    /// It tells no hash.
+    Improper,
+    /// The file that it tells of was looked at.
+    Checked(Entry<'k>, Verdict),
+}
+
+/// How often each came of the lines of a list.
+#[derive(Clone, Copy)]
+pub struct Counts {
+    /// Lines that tell no hash.
+    pub improper: u64,
+    /// Files that have the hash.
+    pub same: u64,
+    /// Files that have another.
+    pub different: u64,
+    /// Files that could not be opened or read.
+    pub unread: u64,
+    /// Files that are not there, and were left out.
+    pub missing: u64,
+}
+
+/// Whether the lines of a list pass: some file has the hash that is told of it, and none has another or could not be read.
+pub fn passes(strict: bool, counts: &Counts) -> bool
+    ensures { result ≡ passes strict counts.now }
+{
+    counts.same > 0
+        && counts.different == 0
+        && counts.unread == 0
+        && !(strict && counts.improper > 0)
+}
+
+/// Counts what came of a line more.
+fn count(counts: Counts, came: &Came<'_>) -> Counts
+    ensures { result ≡ counted counts came.entry.now }
+{
+    match came {
+        Came::Skipped => counts,
+        Came::Improper => Counts {
+            improper: counts.improper.saturating_add(1),
+            ..counts
+        },
+        Came::Checked(_, Verdict::Same) => Counts {
+            same: counts.same.saturating_add(1),
+            ..counts
+        },
+        Came::Checked(_, Verdict::Different) => Counts {
+            different: counts.different.saturating_add(1),
+            ..counts
+        },
+        Came::Checked(_, Verdict::Unread) => Counts {
+            unread: counts.unread.saturating_add(1),
+            ..counts
+        },
+        Came::Checked(_, Verdict::Missing) => Counts {
+            missing: counts.missing.saturating_add(1),
+            ..counts
+        },
+    }
+}
+
+/// Whether an error tells that a file is not there.
+fn is_not_found(error: &Error) -> bool
+    ensures { result ≡ is_not_found (error_kind error.now) }
+{
+    match error.kind() {
+        ErrorKind::NotFound => true,
+        _ => false,
+    }
+}
+
+/// The verdict on what came of a file: whether its number is the one that is told.
+fn verdict_of(ignore_missing: bool, told: u128, came: &Result<u128, Unsummed>) -> Verdict
+    ensures { result ≡ verdict_on ignore_missing told came.now }
+{
+    match came {
+        Ok(number) => {
+            if *number == told {
+                Verdict::Same
+            } else {
+                Verdict::Different
+            }
+        }
+        Err(Unsummed::Unopened(error)) => {
+            if ignore_missing && is_not_found(error) {
+                Verdict::Missing
+            } else {
+                Verdict::Unread
+            }
+        }
+        Err(Unsummed::Unhashed(_)) => Verdict::Unread,
+    }
+}
+
+/// Whether the file of an entry has the hash that it tells. A file that fails is told.
+fn check_file<R: Read + Drop, F: Folder<R>>(
+    folder: &F,
+    entry: &Entry<'_>,
+    ignore_missing: bool,
+) -> Verdict
+    ensures { IsVerdict (F.opens folder.now entry.entry.now.name.items) (sum_at entry.entry.now.kind.which)
+        ignore_missing entry.entry.now.number result }
+{
+    let came = number_of(folder, entry.kind.which, &entry.name);
+    let verdict = verdict_of(ignore_missing, entry.number, &came);
+    if let Verdict::Unread = verdict {
+        if let Err(unsummed) = came {
+            folder.failed(&entry.name, &error_of(unsummed));
+        }
+    }
+    verdict
+}
+
+/// Whether a line is empty or a comment.
+fn is_skipped(line: &[u8]) -> bool
+    ensures { result ≡ is_skipped line.now }
+{
+    match line {
+        [] | [b'#' | b';', ..] => true,
+        _ => false,
+    }
+}
+
+/// What a line tells: as one of ours, or else in another program's form.
+fn entry_of<'k>(
+    alloc: Global,
+    kinds: &[Kind<'k>],
+    kind: Kind<'k>,
+    line: &[u8],
+) -> Result<Option<Entry<'k>>, AllocError>
+    ensures { IfOk result (λ found. MatchOption found (TellsNothing kinds.entry.now kind.entry line.now)
+        (λ entry. TellsAny kinds.entry.now kind.entry entry.kind entry.name.items entry.number line.now)) }
+{
+    if let Some(entry) = parse_line(alloc, kinds, kind, line)? {
+        return Ok(Some(entry));
+    }
+    parse_form(alloc, kinds, kind, line)
+}
+
+/// What comes of a line without its end.
+fn check_line<'k, R: Read + Drop, F: Folder<R>>(
+    alloc: Global,
+    folder: &F,
+    kinds: &[Kind<'k>],
+    kind: Kind<'k>,
+    ignore_missing: bool,
+    line: &[u8],
+) -> Result<Came<'k>, AllocError>
+    ensures { IfOk result (IsCame kinds.entry.now kind.entry (F.opens folder.now) ignore_missing line.now) }
+{
+    if is_skipped(line) {
+        return Ok(Came::Skipped);
+    }
+    match entry_of(alloc, kinds, kind, line)? {
+        Some(entry) => {
+            let verdict = check_file(folder, &entry, ignore_missing);
+            Ok(Came::Checked(entry, verdict))
+        }
+        None => Ok(Came::Improper),
+    }
+}
+
+/// What is said of a verdict behind the name; nothing where nothing is to be written.
+fn words(verdict: Verdict, quiet: bool, status: bool) -> &'static [u8]
+    ensures { result.now ≡ words quiet status verdict }
+{
+    if status {
+        return b"";
+    }
+    match verdict {
+        Verdict::Same => { if quiet { b"" } else { b": OK\n" } }
+        Verdict::Different => b": FAILED\n",
+        Verdict::Unread => b": FAILED open or read\n",
+        Verdict::Missing => b"",
+    }
+}
+
+/// A name and the words behind it; nothing where there are no words.
+fn behind_name(alloc: Global, name: &[u8], words: &[u8]) -> Result<Vec<u8>, AllocError>
+    ensures { IfOk result (λ text. text.items ≡ behind_name name.now words.now) }
+{
+    let mut text = Vec::new(alloc);
+    if words.is_empty() {
+        return Ok(text);
+    }
+    let escapes = needs_escape(name);
+    if escapes {
+        text.push(b'\\')?;
+    }
+    push_name(&mut text, escapes, name)?;
+    text.extend_from_slice(words)?;
+    Ok(text)
+}
+
+/// The line that is written of what came.
+fn said(alloc: Global, came: &Came<'_>, quiet: bool, status: bool) -> Result<Vec<u8>, AllocError>
+    ensures { IfOk result (λ text. text.items ≡ said quiet status came.entry.now) }
+{
+    match came {
+        Came::Checked(entry, verdict) => {
+            behind_name(alloc, &entry.name, words(*verdict, quiet, status))
+        }
+        _ => Ok(Vec::new(alloc)),
+    }
+}
+
+/// The line without its end, if it has one: a newline, or a carriage return and a newline.
+fn without_end(line: &[u8]) -> &[u8]
+    ensures { result.now ≡ bare line.now }
+{
+    lines::without_end(lines::without_end(line, b'\n'), b'\r')
+}
+
+/// Reads the next line, with its newline if it has one, and tells whether there is one.
+fn next_line<B: BufRead>(lines: &mut B, line: &mut Vec<u8>) -> io::Result<bool>
+    ensures more { IfOk result (λ more. more ≡ true
+        → IsNext (B.remaining lines.old) line.new.items (B.remaining lines.new)) }
+    ensures end { IfOk result (λ more. more ≡ false → IsAtEnd (B.remaining lines.old)) }
+{
+    line.clear();
+    let count = lines.read_until(b'\n', line)?;
+    Ok(count > 0)
+}
+
+/// Checks a line, with its newline if it has one, and writes what came of it.
+fn tell_line<'k, R: Read + Drop, F: Folder<R>, W: Write + Drop>(
+    alloc: Global,
+    folder: &F,
+    kinds: &[Kind<'k>],
+    checking: Checking<'k>,
+    line: &[u8],
+    w: &mut BufWriter<W>,
+) -> Result<Came<'k>, Fault>
+    ensures { EndsLine kinds.entry.now checking.entry (F.opens folder.now) line.now
+        (writer_contents W.contents w.old) (writer_contents W.contents w.new) result }
+{
+    let text = without_end(line);
+    let came = match check_line(
+        alloc,
+        folder,
+        kinds,
+        checking.kind,
+        checking.ignore_missing,
+        text,
+    ) {
+        Ok(came) => came,
+        Err(_) => return Err(Fault::NoMemory),
+    };
+    let said = match said(alloc, &came, checking.quiet, checking.status) {
+        Ok(said) => said,
+        Err(_) => return Err(Fault::NoMemory),
+    };
+    match put_out(w, &said) {
+        Ok(()) => Ok(came),
+        Err(fault) => Err(fault),
+    }
+}
+
+/// No line is counted yet.
+const UNCOUNTED: Counts = Counts {
+    improper: 0,
+    same: 0,
+    different: 0,
+    unread: 0,
+    missing: 0,
+};
+
+/// Checks the lines of the list of that name, which are read here, and writes what comes of each. Answers the counts; nothing where
+/// the list fails, which is told.
+fn check_lines<B: BufRead, R: Read + Drop, F: Folder<R>, W: Write + Drop>(
+    alloc: Global,
+    folder: &F,
+    kinds: &[Kind<'static>],
+    checking: Checking<'static>,
+    list: &[u8],
+    lines: &mut B,
+    w: &mut BufWriter<W>,
+) -> Result<Option<Counts>, Fault>
+    ensures { EndsList kinds.now checking.entry (F.opens folder.now) (B.remaining lines.old)
+        (writer_contents W.contents w.old) (writer_contents W.contents w.new) result }
+{
+    let mut counts = UNCOUNTED;
+    let mut line = Vec::new(alloc);
+    for number in 1..u64::MAX {
+        match next_line(lines, &mut line) {
+            Ok(true) => {}
+            Ok(false) => return Ok(Some(counts)),
+            Err(error) => {
+                folder.failed(list, &error);
+                return Ok(None);
+            }
+        }
+        match tell_line(alloc, folder, kinds, checking, &line, w) {
+            Ok(came) => {
+                counts = count(counts, &came);
+                warn(folder, checking.warn, list, number, &came);
+            }
+            Err(fault) => return Err(fault),
+        }
+    }
+    Ok(None)
+}
+
+/// Tells an improper line, where that is asked for.
+fn warn<R: Read, F: Folder<R>>(folder: &F, warn: bool, list: &[u8], number: u64, came: &Came<'_>) {
+    if let Came::Improper = came {
+        if warn {
+            folder.improper(list, number);
+        }
+    }
+}
+
+/// Checks the lines of the list of that name, and tells whether they pass. A list that fails is told, and does not.
+fn check_list<R: Read + Drop, F: Folder<R>, W: Write + Drop>(
+    alloc: Global,
+    folder: &F,
+    kinds: &[Kind<'static>],
+    checking: Checking<'static>,
+    list: &[u8],
+    w: &mut BufWriter<W>,
+) -> Result<bool, Fault>
+    ensures { EndsListOf kinds.now checking.entry (F.opens folder.now) list.now
+        (writer_contents W.contents w.old) (writer_contents W.contents w.new) result }
+{
+    let mut lines = match folder.open(list) {
+        Ok(file) => match BufReader::with_capacity(alloc, BUFFER, file) {
+            Ok(lines) => lines,
+            Err(_) => return Err(Fault::NoMemory),
+        },
+        Err(error) => {
+            folder.failed(list, &error);
+            return Ok(false);
+        }
+    };
+    match check_lines(alloc, folder, kinds, checking, list, &mut lines, w) {
+        Ok(Some(counts)) => {
+            folder.ended(list, &counts);
+            Ok(passes(checking.strict, &counts))
+        }
+        Ok(None) => Ok(false),
+        Err(fault) => Err(fault),
+    }
+}
+
+/// Checks the lines of the lists of these names, in their order, and tells whether all pass.
+pub fn check_lists<R: Read + Drop, F: Folder<R>, W: Write + Drop>(
+    alloc: Global,
+    folder: &F,
+    kinds: &[Kind<'static>],
+    checking: Checking<'static>,
+    lists: &[&[u8]],
+    w: &mut BufWriter<W>,
+) -> Result<bool, Fault>
+    ensures { EndsLists kinds.now checking.entry (F.opens folder.now) (map (λ list. list.now) lists.now)
+        (writer_contents W.contents w.old) (writer_contents W.contents w.new) result }
+{
+    let mut all = true;
+    for list in lists {
+        match check_list(alloc, folder, kinds, checking, list, w) {
+            Ok(passed) => all = all & passed,
+            Err(fault) => return Err(fault),
+        }
+    }
+    Ok(all)
+}

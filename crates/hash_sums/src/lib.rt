@@ -1,0 +1,11 @@
+//! The hashes of files: the line of each, and whether files have the hashes that lines tell.
+#![tactic(auto)]
+
+pub mod check;
+mod fault;
+pub mod folder;
+pub mod laws;
+pub mod sum;
+pub mod sums;
+
+pub use fault::Fault;

@@ -1,6 +1,0 @@
-//! What ends a run of this program before its output is whole.
-use hash_program::fault;
-use hash_program::outcome::Nothing;
-
-/// Why a run ended before its output was whole.
-pub type Fault = fault::Fault<Nothing>;
