@@ -1,24 +1,27 @@
 -- The next lines, as they are found.
-use Rattle.std.proofs.Common.{ℕ, ◌≡◌, ◌+◌, List, [], ◌∷◌, ◌++◌, ◌≤◌, Some, length, drop, ap, subst, arith, length-drop}
-use Rattle.dedup.specs.Between.{AreNext}
-use Rattle.hash_texts.specs.Lines.{IsLineEnd}
+use Rattle.std.proofs.Common.{ℕ, ◌≡◌, ◌+◌, List, [], ◌∷◌, ◌++◌, ◌≤◌, length, drop, ap, subst, arith, length-drop}
+use Rattle.dedup.specs.Between.{AreNext, IsFound}
+use Rattle.dedup.specs.declared.ahead.Found.{Found}
 
--- what comes behind lines that have so many bytes before their ends
-abbrev pub behind : (lens bytes : List ℕ) → List ℕ
+-- what comes behind these lines
+abbrev pub behind : List Found → (bytes : List ℕ) → List ℕ
 behind [] bytes = bytes
-behind (len ∷ more) bytes = behind more (drop (len + 1) bytes)
+behind (found ∷ more) bytes = behind more (drop (found.len + 1) bytes)
 
 -- one line more is found
-pub found_more : (eol : ℕ) (lens bytes rest : List ℕ) (len : ℕ) → AreNext eol bytes lens → rest ≡ behind lens bytes
-    → IsLineEnd eol rest (Some len)
-    → AreNext eol bytes (lens ++ len ∷ [])
-found_more eol [] bytes rest len next is end = (subst (λ l. IsLineEnd eol l (Some len)) is end, tt)
-found_more eol (one ∷ more) bytes rest len next is end = (next.0, found_more eol more (drop (one + 1) bytes) rest len next.1 is end)
+pub found_more : (eol : ℕ) (tag_of : List ℕ → ℕ) (found : List Found) (bytes rest : List ℕ) (line : Found)
+    → AreNext eol tag_of bytes found → rest ≡ behind found bytes → IsFound eol tag_of rest line
+    → AreNext eol tag_of bytes (found ++ line ∷ [])
+found_more eol tag_of [] bytes rest line next is first = (subst (λ l. IsFound eol tag_of l line) is first, tt)
+found_more eol tag_of (one ∷ more) bytes rest line next is first =
+    (next.0, found_more eol tag_of more (drop (one.len + 1) bytes) rest line next.1 is first)
 
-pub behind_more : (lens bytes rest : List ℕ) (len : ℕ) → rest ≡ behind lens bytes → drop (len + 1) rest ≡ behind (lens ++ len ∷ []) bytes
-behind_more [] bytes rest len is = ap (drop (len + 1)) is
-behind_more (one ∷ more) bytes rest len is = behind_more more (drop (one + 1) bytes) rest len is
+pub behind_more : (found : List Found) (bytes rest : List ℕ) (line : Found) → rest ≡ behind found bytes
+    → drop (line.len + 1) rest ≡ behind (found ++ line ∷ []) bytes
+behind_more [] bytes rest line is = ap (drop (line.len + 1)) is
+behind_more (one ∷ more) bytes rest line is = behind_more more (drop (one.len + 1) bytes) rest line is
 
-pub behind_within : (lens bytes : List ℕ) → length (behind lens bytes) ≤ length bytes
+pub behind_within : (found : List Found) (bytes : List ℕ) → length (behind found bytes) ≤ length bytes
 behind_within [] bytes = omega arith
-behind_within (one ∷ more) bytes = omega (arith, behind_within more (drop (one + 1) bytes), length-drop (one + 1) bytes)
+behind_within (one ∷ more) bytes =
+    omega (arith, behind_within more (drop (one.len + 1) bytes), length-drop (one.len + 1) bytes)

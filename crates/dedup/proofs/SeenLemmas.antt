@@ -1,5 +1,5 @@
 -- The set of the texts that were seen.
-use Rattle.std.proofs.Common.{◌≡◌, ℕ, Result, Ok, Err, OnOk, OnErr, Bool, true, false, not, ◌||◌, cond, List, [], ◌∷◌, ◌++◌, ap, sym, ◌∙◌, refl, if◌then◌else◌, Option, append_assoc, subst}
+use Rattle.std.proofs.Common.{◌≡◌, ℕ, Result, Ok, Err, OnOk, OnErr, Bool, true, false, not, ◌||◌, List, [], ◌∷◌, ◌++◌, ap, sym, ◌∙◌, refl, if◌then◌else◌, Option, append_assoc, subst}
 use Rattle.std.specs.Io.BufRead.{strip_last}
 use Rattle.std.specs.Result.{is_ok}
 use Rattle.std.specs.Str.{bytes_eq}

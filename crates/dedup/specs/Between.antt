@@ -3,13 +3,19 @@ use Rattle.std.specs.Prelude.{ℕ, ◌≡◌, ◌<◌, ◌+◌, Option, Some, Li
 use Rattle.std.specs.Io.KnownBytes.{Consumes, IsAtEnd}
 use Rattle.dedup.specs.Inputs.{whole_lines}
 use Rattle.hash_texts.specs.Lines.{lines_by, IsBare, IsLineEnd}
+use Rattle.dedup.specs.declared.ahead.Found.{Found}
 use Rattle.dedup.specs.declared.unread.Came.{Came}
 use Rattle.dedup.specs.declared.unread.Came.TheVariants.{Line, End, Fault}
 
--- the first lines of the bytes have so many bytes before their ends
-abbrev pub AreNext : (eol : ℕ) → (bytes : List ℕ) → (lens : List ℕ) → Type 0
-AreNext eol bytes [] = Unit {0}
-AreNext eol bytes (len ∷ more) = IsLineEnd eol bytes (Some len) × AreNext eol (drop (len + 1) bytes) more
+-- the first line of the bytes: how many bytes its text has, and a guess for this
+pub record IsFound (eol : ℕ) (tag_of : List ℕ → ℕ) (bytes : List ℕ) (found : Found) : Type 0 where
+  pub end : IsLineEnd eol bytes (Some found.len)
+  pub tag : found.guess.tag ≡ tag_of (take found.len bytes)
+
+-- these are the first lines of the bytes
+abbrev pub AreNext : (eol : ℕ) (tag_of : List ℕ → ℕ) (bytes : List ℕ) → List Found → Type 0
+AreNext eol tag_of bytes [] = Unit {0}
+AreNext eol tag_of bytes (found ∷ more) = IsFound eol tag_of bytes found × AreNext eol tag_of (drop (found.len + 1) bytes) more
 
 -- what comes behind the text are other lines, and each of its own has its end
 pub record IsWhole (eol : ℕ) (text : List ℕ) : Type 0 where

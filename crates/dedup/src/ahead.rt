@@ -1,9 +1,10 @@
 //! Where the next lines end. Some lines are looked at before the first of them is taken, so that the waits for memory overlap.
-ghost use Rattle.std.specs.Prelude.{◌≡◌, ◌<◌, ◌≤◌, ◌+◌, ℕ, List, [], ◌∷◌, IfSome, IfNone, Some, length, take, drop};
-ghost use Rattle.dedup.specs.Between.{AreNext};
-ghost use Rattle.hash_texts.specs.Lines.{IsBare, IsLineEnd};
+ghost use Rattle.std.specs.Prelude.{◌≡◌, ◌<◌, ◌≤◌, ◌+◌, List, [], ◌∷◌, IfSome, IfNone, length, take, drop};
+ghost use Rattle.dedup.specs.Between.{AreNext, IsFound};
+ghost use Rattle.hash_texts.specs.Lines.{IsBare};
 
 use crate::task::LineTask;
+use hash_texts::Guess;
 use hash_texts::lines::line_end;
 use std::marker::Model;
 
@@ -13,35 +14,41 @@ const MOST: usize = 16;
 /// A line that is found.
 #[derive(Clone, Copy)]
 pub struct Found {
-    /// How many bytes come before its end.
+    /// How many bytes its text has, which its end follows.
     pub len: usize,
-    /// A place at which its text may be known.
-    pub guess: usize,
+    /// A guess where its text is known.
+    pub guess: Guess,
 }
 
-/// The next lines, as far as they are looked at. Contracts see how many bytes come before the end of each.
+/// No line is found.
+const NOT_FOUND: Found = Found {
+    len: 0,
+    guess: Guess { tag: 0, place: 0 },
+};
+
+/// The next lines, as far as they are looked at.
 #[derive(Drop)]
 pub struct Ahead {
-    lens: [usize; MOST],
-    guesses: [usize; MOST],
+    found: [Found; MOST],
     next: usize, // how many of these are taken
     count: usize, // how many there are
 }
 
 impl Model for Ahead {
-    ghost use Rattle.std.specs.Prelude.{ℕ, ◌≤◌, List, length, take, drop};
+    ghost use Rattle.std.specs.Prelude.{◌≤◌, List, length, take, drop};
+    ghost use Rattle.dedup.specs.declared.ahead.Found.{Found};
 
-    ghost Value = { List ℕ };
+    ghost Value = { List Found };
 
-    ghost view = { λ ahead. drop ahead.next (take ahead.count ahead.lens) };
+    ghost view = { λ ahead. drop ahead.next (take ahead.count ahead.found) };
 
-    ghost invariant = { λ ahead. (ahead.next ≤ ahead.count) × (ahead.count ≤ length ahead.lens) };
+    ghost invariant = { λ ahead. (ahead.next ≤ ahead.count) × (ahead.count ≤ length ahead.found) };
 }
 
 /// Finds the first line.
 #[inline(always)]
 fn first<T: LineTask>(task: &T, bytes: &[u8], eol: u8) -> Option<Found>
-    ensures some { IfSome result (λ found. IsLineEnd eol bytes.now (Some found.len)) }
+    ensures some { IfSome result (IsFound eol (T.tag_of task.now) bytes.now) }
     ensures none { IfNone result (IsBare eol bytes.now) }
 {
     let len = line_end(bytes, eol)?;
@@ -49,33 +56,25 @@ fn first<T: LineTask>(task: &T, bytes: &[u8], eol: u8) -> Option<Found>
     Some(Found { len, guess })
 }
 
-/// Finds the first lines, as many as there is room for, and answers how many they are.
-fn look<T: LineTask>(
-    task: &T,
-    bytes: &[u8],
-    eol: u8,
-    lens: &mut [usize],
-    guesses: &mut [usize],
-) -> usize
-    requires some { 0 < length lens.old }
-    requires pairs { length lens.old ≡ length guesses.old }
-    ensures within { result ≤ length lens.new }
-    ensures next { AreNext eol bytes.now (take result lens.new) }
+/// Finds the first lines, as many as there is room for, and returns how many they are.
+fn look<T: LineTask>(task: &T, bytes: &[u8], eol: u8, found: &mut [Found]) -> usize
+    requires { 0 < length found.old }
+    ensures within { result ≤ length found.new }
+    ensures next { AreNext eol (T.tag_of task.now) bytes.now (take result found.new) }
     ensures none { result ≡ 0 → IsBare eol bytes.now }
 {
     let mut rest = bytes;
-    for i in 0..lens.len() {
+    for i in 0..found.len() {
         match first(task, rest, eol) {
-            Some(found) => {
-                let (_line, later) = rest.split_at(found.len + 1);
-                lens[i] = found.len;
-                guesses[i] = found.guess;
+            Some(line) => {
+                let (_line, later) = rest.split_at(line.len + 1);
+                found[i] = line;
                 rest = later;
             }
             None => return i,
         }
     }
-    lens.len()
+    found.len()
 }
 
 impl Ahead {
@@ -84,8 +83,7 @@ impl Ahead {
         ensures { result ≡ [] }
     {
         Ahead {
-            lens: [0; MOST],
-            guesses: [0; MOST],
+            found: [NOT_FOUND; MOST],
             next: 0,
             count: 0,
         }
@@ -93,17 +91,14 @@ impl Ahead {
 
     /// Takes the first of the lines.
     fn pop(&mut self) -> Option<Found>
-        ensures some { IfSome result (λ found. self.old ≡ found.len ∷ self.new) }
+        ensures some { IfSome result (λ found. self.old ≡ found ∷ self.new) }
         ensures none { IfNone result (self.old ≡ []) }
         ensures kept { IfNone result (self.new ≡ self.old) }
     {
         if self.next == self.count {
             return None;
         }
-        let found = Found {
-            len: self.lens[self.next],
-            guess: self.guesses[self.next],
-        };
+        let found = self.found[self.next];
         self.next += 1;
         Some(found)
     }
@@ -111,9 +106,9 @@ impl Ahead {
     /// The first line of the rest, in which the lines that are looked at are the first.
     #[inline(always)]
     pub fn next<T: LineTask>(&mut self, task: &T, rest: &[u8], eol: u8) -> Option<Found>
-        requires { AreNext eol rest.now self.old }
-        ensures end { IfSome result (λ found. IsLineEnd eol rest.now (Some found.len)) }
-        ensures next { IfSome result (λ found. AreNext eol (drop (found.len + 1) rest.now) self.new) }
+        requires { AreNext eol (T.tag_of task.now) rest.now self.old }
+        ensures found { IfSome result (IsFound eol (T.tag_of task.now) rest.now) }
+        ensures next { IfSome result (λ found. AreNext eol (T.tag_of task.now) (drop (found.len + 1) rest.now) self.new) }
         ensures none { IfNone result (IsBare eol rest.now) }
     {
         if let Some(found) = self.pop() {
@@ -123,7 +118,7 @@ impl Ahead {
             let found = first(task, rest, eol)?;
             return Some(found);
         }
-        self.count = look(task, rest, eol, &mut self.lens, &mut self.guesses);
+        self.count = look(task, rest, eol, &mut self.found);
         self.next = 0;
         self.pop()
     }

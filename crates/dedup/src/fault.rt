@@ -1,11 +1,12 @@
 //! What ends a run of this program before its output is whole.
 ghost use Rattle.std.specs.Prelude.{◌≡◌, not, IfOk, OnOk, OnErr};
 ghost use Rattle.dedup.specs.Status.{words_of};
+ghost use Rattle.hash_texts.specs.Slots.{tag_under};
 ghost use Rattle.hash_texts.specs.Texts.{StandsAt, has, with_text};
 
 use hash_program::fault;
 use hash_program::outcome::Words;
-use hash_texts::{Full, Seen, Texts};
+use hash_texts::{Full, Guess, Seen, Texts};
 use std::hash::BuildHasher;
 
 /// More than can be taken.
@@ -31,16 +32,18 @@ impl Words for TooMany {
     }
 }
 
-/// Takes a text into a set, which stays as it was after a fault.
+/// Takes a text into a set, by a guess for it. After a fault the set is as it was.
 #[inline(always)]
 pub fn see<S: BuildHasher + Drop>(
     texts: &mut Texts<S>,
     text: &[u8],
-    guess: usize,
+    guess: Guess,
 ) -> Result<Seen, Fault>
-    ensures new { IfOk result (λ seen. seen.is_new ≡ not (has texts.old text.now)) }
-    ensures texts { OnOk result (texts.new ≡ with_text texts.old text.now) }
-    ensures place { IfOk result (λ seen. StandsAt texts.new text.now seen.place) }
+    requires { guess.tag ≡ tag_under S.Hasher.write S.Hasher.finish (S.build_hasher texts.old.hasher) text.now }
+    ensures new { IfOk result (λ seen. seen.is_new ≡ not (has texts.old.texts text.now)) }
+    ensures texts { OnOk result (texts.new.texts ≡ with_text texts.old.texts text.now) }
+    ensures place { IfOk result (λ seen. StandsAt texts.new.texts text.now seen.place) }
+    ensures hasher { texts.new.hasher ≡ texts.old.hasher }
     ensures kept { OnErr result (texts.new ≡ texts.old) }
 {
     match texts.see_at(text, guess) {

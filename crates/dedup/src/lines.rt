@@ -1,5 +1,6 @@
 //! Writes lines, and has them taken.
-ghost use Rattle.std.specs.Prelude.{◌≤◌, ◌+◌, ℕ, List, length, take, IfOk, OnOk, OnErr};
+ghost use Rattle.std.specs.Prelude.{◌≡◌, ◌≤◌, ◌+◌, ℕ, List, length, take, IfOk, OnOk, OnErr};
+ghost use Rattle.std.specs.Io.BufRead.{strip_last};
 ghost use Rattle.std.specs.Io.KnownBytes.{Appends};
 ghost use Rattle.dedup.specs.Between.{Takes};
 ghost use Rattle.dedup.specs.Taking.{BreaksOff, Grows, LeadsOn};
@@ -10,22 +11,22 @@ use crate::ahead::Ahead;
 use crate::fault::Fault;
 use crate::task::LineTask;
 use hash_program::streams::{TRIES, put};
-use hash_texts::lines::without_end;
 use std::io::Write;
 
-/// Writes a line, and its end behind it where it has none. After a fault a beginning of that was written.
-pub fn put_line<W: Write>(w: &mut W, line: &[u8], eol: u8) -> Result<(), Fault>
+/// Writes a line, and its end behind it where it has none but its text. After a fault a beginning of that was written.
+pub fn put_line<W: Write>(w: &mut W, line: &[u8], text: &[u8], eol: u8) -> Result<(), Fault>
+    requires { text.now ≡ strip_last eol line.now }
     ensures ok { OnOk result (Appends (W.contents w.old) (W.contents w.new) (as_line_by eol line.now)) }
     ensures err { OnErr result (AppendsPart (W.contents w.old) (W.contents w.new) (as_line_by eol line.now)) }
 {
-    if without_end(line, eol).len() < line.len() {
+    if text.len() < line.len() {
         return put(w, line, TRIES);
     }
     put(w, line, TRIES)?;
     put(w, &[eol], TRIES)
 }
 
-/// Has the first lines taken, up to so many. Answers how many lines those are, each with its end, and how many bytes they
+/// Has the first lines taken, up to so many. Returns how many lines those are, each with its end, and how many bytes they
 /// have together.
 pub fn take_lines<T: LineTask, W: Write>(
     task: &mut T,
@@ -49,7 +50,8 @@ pub fn take_lines<T: LineTask, W: Write>(
         match ahead.next(task, rest, eol) {
             Some(found) => {
                 let (line, later) = rest.split_at(found.len + 1);
-                task.take_line(line, eol, found.guess, w)?;
+                let text = &line[..found.len];
+                task.take_line(line, text, eol, found.guess, w)?;
                 rest = later;
             }
             None => return Ok((count, bytes.len() - rest.len())),

@@ -1,6 +1,7 @@
 //! Lines, each once.
 ghost use Rattle.std.specs.Prelude.{◌≡◌, [], ℕ, List, OnOk};
 ghost use Rattle.std.specs.Io.Buffered.{writer_buffer, writer_contents};
+ghost use Rattle.hash_texts.specs.Slots.{tag_under};
 ghost use Rattle.hash_texts.specs.Firsts.{AreSeen, once_by};
 ghost use Rattle.dedup.specs.Running.{Ends, run_of};
 
@@ -9,8 +10,7 @@ use crate::lines::put_line;
 use crate::run::{Ended, take_inputs};
 use crate::task::LineTask;
 use hash_program::inputs::Complaints;
-use hash_texts::Texts;
-use hash_texts::lines::without_end;
+use hash_texts::{Guess, Texts};
 use std::alloc::Global;
 use std::hash::BuildHasher;
 use std::io::{BufWriter, Read, Write};
@@ -22,9 +22,11 @@ pub struct Once<S: BuildHasher + Drop> {
 }
 
 impl<S: BuildHasher + Drop> LineTask for Once<S> {
-    ghost taken = { λ eol ls once. AreSeen eol ls once.seen };
+    ghost taken = { λ eol ls once. AreSeen eol ls once.seen.texts };
 
     ghost output = { once_by };
+
+    ghost tag_of = { λ once. tag_under S.Hasher.write S.Hasher.finish (S.build_hasher once.seen.hasher) };
 
     #[inline(always)]
     fn waits_for_memory(&self) -> bool {
@@ -32,7 +34,7 @@ impl<S: BuildHasher + Drop> LineTask for Once<S> {
     }
 
     #[inline(always)]
-    fn guess(&self, text: &[u8]) -> usize {
+    fn guess(&self, text: &[u8]) -> Guess {
         self.seen.guess(text)
     }
 
@@ -40,12 +42,13 @@ impl<S: BuildHasher + Drop> LineTask for Once<S> {
     fn take_line<W: Write>(
         &mut self,
         line: &[u8],
+        text: &[u8],
         eol: u8,
-        guess: usize,
+        guess: Guess,
         w: &mut W,
     ) -> Result<(), Fault> {
-        if see(&mut self.seen, without_end(line, eol), guess)?.is_new {
-            put_line(w, line, eol)?;
+        if see(&mut self.seen, text, guess)?.is_new {
+            put_line(w, line, text, eol)?;
         }
         Ok(())
     }

@@ -61,7 +61,7 @@ fn take_last<T: LineTask, W: Write + Drop>(
     if *most == 0 {
         return Ok(Left::Beyond);
     }
-    task.take_line(line, eol, task.guess(line), w)?;
+    task.take_line(line, line, eol, task.guess(line), w)?;
     *most -= 1;
     flush(w, TRIES)?;
     Ok(Left::Done)

@@ -6,14 +6,14 @@ ghost use Rattle.std.specs.Io.KnownBytes.{Appends};
 ghost use Rattle.dedup.specs.Running.{Ends, run_of};
 ghost use Rattle.dedup.specs.Tallies.{Tallies, column, is_shown, shown, told};
 ghost use Rattle.hash_program.specs.Streams.{AppendsPart};
+ghost use Rattle.hash_texts.specs.Slots.{tag_under};
 
 use crate::fault::{Fault, see};
 use crate::run::{Ended, take_inputs};
 use crate::task::LineTask;
 use hash_program::inputs::Complaints;
 use hash_program::streams::{TRIES, flush, put};
-use hash_texts::Texts;
-use hash_texts::lines::without_end;
+use hash_texts::{Guess, Texts};
 use std::alloc::{AllocError, Global};
 use std::hash::BuildHasher;
 use std::io::{BufWriter, Read, Write};
@@ -39,7 +39,7 @@ pub struct Counts<S: BuildHasher + Drop> {
 impl<S: BuildHasher + Drop> Counts<S> {
     /// No lines.
     fn new(alloc: Global, hasher: S) -> Self
-        ensures texts { result.texts ≡ [] }
+        ensures texts { result.texts.texts ≡ [] }
         ensures times { result.times.items ≡ [] }
     {
         Counts {
@@ -55,12 +55,15 @@ fn count<S: BuildHasher + Drop>(
     texts: &mut Texts<S>,
     times: &mut Vec<u64>,
     text: &[u8],
-    guess: usize,
+    guess: Guess,
 ) -> Result<(), Fault>
-    requires { (eol : ℕ) × (ls : List (List ℕ)) × Tallies eol ls texts.old times.old.items × (length ls < u64.MAX) }
-    ensures { OnOk result ((eol : ℕ) (ls : List (List ℕ)) (line : List ℕ) → strip_last eol line ≡ text.now
-        → Tallies eol ls texts.old times.old.items
-        → Tallies eol (ls ++ line ∷ []) texts.new times.new.items) }
+    requires room { (eol : ℕ) × (ls : List (List ℕ)) × Tallies eol ls texts.old.texts times.old.items
+        × (length ls < u64.MAX) }
+    requires tag { guess.tag ≡ tag_under S.Hasher.write S.Hasher.finish (S.build_hasher texts.old.hasher) text.now }
+    ensures hasher { texts.new.hasher ≡ texts.old.hasher }
+    ensures counted { OnOk result ((eol : ℕ) (ls : List (List ℕ)) (line : List ℕ) → strip_last eol line ≡ text.now
+        → Tallies eol ls texts.old.texts times.old.items
+        → Tallies eol (ls ++ line ∷ []) texts.new.texts times.new.items) }
 {
     let seen = see(texts, text, guess)?;
     if seen.is_new {
@@ -74,9 +77,11 @@ fn count<S: BuildHasher + Drop>(
 }
 
 impl<S: BuildHasher + Drop> LineTask for Counts<S> {
-    ghost taken = { λ eol ls counts. Tallies eol ls counts.texts counts.times.items };
+    ghost taken = { λ eol ls counts. Tallies eol ls counts.texts.texts counts.times.items };
 
     ghost output = { λ eol ls. [] };
+
+    ghost tag_of = { λ counts. tag_under S.Hasher.write S.Hasher.finish (S.build_hasher counts.texts.hasher) };
 
     #[inline(always)]
     fn waits_for_memory(&self) -> bool {
@@ -84,24 +89,20 @@ impl<S: BuildHasher + Drop> LineTask for Counts<S> {
     }
 
     #[inline(always)]
-    fn guess(&self, text: &[u8]) -> usize {
+    fn guess(&self, text: &[u8]) -> Guess {
         self.texts.guess(text)
     }
 
     #[inline(always)]
     fn take_line<W: Write>(
         &mut self,
-        line: &[u8],
-        eol: u8,
-        guess: usize,
+        _line: &[u8],
+        text: &[u8],
+        _eol: u8,
+        guess: Guess,
         _w: &mut W,
     ) -> Result<(), Fault> {
-        count(
-            &mut self.texts,
-            &mut self.times,
-            without_end(line, eol),
-            guess,
-        )
+        count(&mut self.texts, &mut self.times, text, guess)
     }
 }
 
@@ -165,10 +166,10 @@ fn tell<S: BuildHasher + Drop, W: Write>(
     times: &[u64],
     w: &mut W,
 ) -> Result<(), Fault>
-    requires as_many { length texts.now ≡ length times.now }
-    ensures ok { OnOk result ((ls : List (List ℕ)) → Tallies eol ls texts.now times.now
+    requires as_many { length texts.now.texts ≡ length times.now }
+    ensures ok { OnOk result ((ls : List (List ℕ)) → Tallies eol ls texts.now.texts times.now
         → Appends (W.contents w.old) (W.contents w.new) (told eol which ls)) }
-    ensures err { OnErr result ((ls : List (List ℕ)) → Tallies eol ls texts.now times.now
+    ensures err { OnErr result ((ls : List (List ℕ)) → Tallies eol ls texts.now.texts times.now
         → AppendsPart (W.contents w.old) (W.contents w.new) (told eol which ls)) }
 {
     let mut out = Vec::new(alloc);

@@ -87,6 +87,19 @@ module _ (eol : ℕ) where
   line_before rest line n front end =
       subst (λ l. StopsAt l eol × (0 < length l) × (ends_with_byte eol l ≡ true)) (sym front) (line_through rest n end)
 
+  -- the bytes before the first end are the text of the line through it
+  pub first_strip : (rest line : List ℕ) (n : ℕ) → line ≡ take (n + 1) rest → IsLineEnd eol rest (Some n)
+      → take n line ≡ strip_last eol line
+  first_strip rest line n front end =
+      let (stops, some, ends) = line_before rest line n front end in
+      let long : length line ≡ n + 1 = ap length front ∙ length-take-le (n + 1) rest (omega (arith, end.0)) in
+      let less : length line - 1 ≡ n = omega (arith, long) in
+      sym (ap (λ b. cond b (take (length line - 1) line) line) ends ∙ ap (λ k. take k line) less)
+
+  -- bytes without an end are the text of the line that they are
+  pub strip_bare : (line : List ℕ) → IsBare eol line → strip_last eol line ≡ line
+  strip_bare line bare = ap (λ b. cond b (take (length line - 1) line) line) (bare_end line bare)
+
   -- what the first byte makes of the texts of the lines behind it
   by_first : (byte : ℕ) (bytes : List ℕ) (b : Bool) → (byte == eol) ≡ b
       → line_texts eol (byte ∷ bytes) ≡ cond b ([] ∷ line_texts eol bytes) (onto_first byte (line_texts eol bytes))

@@ -10,7 +10,7 @@ use Rattle.std.proofs.lemmas.List.Elements.{All-set, All-contains, All-replicate
 use Rattle.std.proofs.lemmas.List.Folds.{list_any_none, list_any_at, list_any_more, list_any-append, Any-from_list_any, sum_by-replicate}
 use Rattle.std.proofs.lemmas.List.Sums.{sum_by-cons, sum_by-set}
 use Rattle.std.proofs.lemmas.Slice.Eq.{bytes_eq-Decides}
-use Rattle.hash_texts.specs.Texts.{EachOnce, IsFullOnlyAt, StandsAt, has, with_text}
+use Rattle.hash_texts.specs.Texts.{EachOnce, IsFullOnlyAt, StandsAt, has, with_text, Set}
 use Rattle.hash_texts.specs.declared.texts.Full.{Full}
 use Rattle.hash_texts.specs.declared.texts.Full.TheVariants as why
 use Rattle.hash_texts.specs.Slots.{AreFound, FirstRound, HoldsUpTo, IsRefilled, IsTable, IsTagged, Names, free_count, home_of, is_taken, some_taken, stops, text_of}
@@ -452,3 +452,7 @@ set_made {tag} texts {new} {slots} {room} text is once absent table =
 pub is_full : (texts : List (List ℕ)) (why : Full) → 2 ^ 32 - 1 ≤ length texts → IsFullOnlyAt texts why
 is_full texts why.NoMemory many = tt
 is_full texts why.TooManyTexts many = many
+
+-- the tag by the hasher that a set is seen to have is that by its own
+pub tag_is : {S : Type 0} (tag : S → ℕ) {own seen : Set S} {t : ℕ} → own ≡ seen → t ≡ tag seen.hasher → t ≡ tag own.hasher
+tag_is tag same is = is ∙ ap (λ set. tag set.hasher) (sym same)

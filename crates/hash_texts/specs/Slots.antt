@@ -4,6 +4,7 @@ use Rattle.std.specs.List.{count_by, list_any}
 use Rattle.std.specs.Str.{bytes_eq}
 use Rattle.hash_texts.specs.Texts.{has}
 use Rattle.hash_texts.specs.declared.slots.Slot.{Slot}
+use Rattle.hash_texts.specs.declared.texts.Guess.{Guess}
 use Rattle.hash_texts.specs.declared.slots.TheConstants.{NOWHERE, EMPTY}
 
 -- whether a slot has a text
@@ -69,6 +70,11 @@ IsTagged tag texts slot = is_taken slot ≡ true → slot.tag ≡ tag (text_of t
 -- where a text stands at the place, it has the tag of this one
 abbrev pub SharesTag : (List ℕ → ℕ) → List (List ℕ) → List ℕ → ℕ → Type 0
 SharesTag tag texts text place = place < length texts → tag (slice_index_or texts place []) ≡ tag text
+
+-- a guess where a text may stand: it has the tag of the text, and a text at the place has this tag too
+pub record IsGuess (tag : List ℕ → ℕ) (texts : List (List ℕ)) (text : List ℕ) (guess : Guess) : Type 0 where
+  pub tagged : guess.tag ≡ tag text
+  pub place : SharesTag tag texts text guess.place
 
 -- whether a slot with a text passes the test
 abbrev pub some_taken : (Slot → Bool) → List Slot → Bool

@@ -5,6 +5,11 @@ use Rattle.std.specs.Str.{bytes_eq}
 use Rattle.hash_texts.specs.declared.texts.Full.{Full}
 use Rattle.hash_texts.specs.declared.texts.Full.TheVariants as why
 
+-- a set: its texts in the order in which they came, and its hasher
+pub record Set (S : Type 0) : Type 0 where
+  pub texts : List (List ℕ)
+  pub hasher : S
+
 -- whether a text is among these
 abbrev pub has : List (List ℕ) → List ℕ → Bool
 has texts text = list_any (bytes_eq text) texts

@@ -13,4 +13,4 @@ mod tests;
 mod texts;
 
 pub use keyed::{KeyedHasher, RandomKeys};
-pub use texts::{Full, Iter, Seen, Texts};
+pub use texts::{Full, Guess, Iter, Seen, Texts};

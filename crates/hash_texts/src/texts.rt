@@ -1,8 +1,8 @@
 //! The set of texts.
 ghost use Rattle.std.specs.Prelude.{◌≡◌, ◌↔◌, ◌-◌, ◌^◌, ◌<◌, ◌≤◌, ℕ, List, [], IfOk, IfErr, IfSome, IfNone, IsTrue, OnOk, OnErr, not, false, length, slice_index_or, drop};
 ghost use Rattle.std.specs.Iterator.{YieldsFirstRef, item_count};
-ghost use Rattle.hash_texts.specs.Slots.{IsTable, SharesTag, tag_under};
-ghost use Rattle.hash_texts.specs.Texts.{EachOnce, IsFullOnlyAt, StandsAt, has, with_text};
+ghost use Rattle.hash_texts.specs.Slots.{IsGuess, IsTable, tag_under};
+ghost use Rattle.hash_texts.specs.Texts.{EachOnce, IsFullOnlyAt, Set, StandsAt, has, with_text};
 
 use crate::slots::{NOWHERE, Slot, home_of, make_room, stop, tag_of};
 use crate::store::Store;
@@ -23,6 +23,15 @@ pub struct Seen {
     pub place: usize,
     /// Whether it is new.
     pub is_new: bool,
+}
+
+/// A guess where a text may stand.
+#[derive(Clone, Copy)]
+pub struct Guess {
+    /// 32 bits of the text's hash.
+    pub tag: u32,
+    /// The place.
+    pub place: usize,
 }
 
 /// Why a text could not be taken in.
@@ -73,9 +82,9 @@ pub struct Texts<S: BuildHasher + Drop> {
 }
 
 impl<S: BuildHasher + Drop> Model for Texts<S> {
-    ghost Value = { List (List ℕ) };
+    ghost Value = { Set S };
 
-    ghost view = { λ set. set.texts };
+    ghost view = { λ set. record { texts = set.texts; hasher = set.hasher } };
 
     ghost invariant = { λ set. EachOnce set.texts
         × IsTable (tag_under S.Hasher.write S.Hasher.finish (S.build_hasher set.hasher))
@@ -97,7 +106,8 @@ fn slot_of(tag: u32, place: usize) -> Result<Slot, Full>
 impl<S: BuildHasher + Drop> Texts<S> {
     /// The empty set over this hasher. It takes no memory.
     pub fn new(alloc: Global, hasher: S) -> Self
-        ensures { result ≡ [] }
+        ensures texts { result.texts ≡ [] }
+        ensures hasher { result.hasher ≡ hasher }
     {
         Texts {
             alloc,
@@ -111,15 +121,15 @@ impl<S: BuildHasher + Drop> Texts<S> {
     /// How many texts there are. No text stands twice.
     #[inline(always)]
     pub fn len(&self) -> usize
-        ensures value { result ≡ length self.now }
-        ensures once { EachOnce self.now }
+        ensures value { result ≡ length self.now.texts }
+        ensures once { EachOnce self.now.texts }
     {
         self.texts.len()
     }
 
     /// Whether there is no text.
     pub fn is_empty(&self) -> bool
-        ensures { IsTrue result ↔ (self.now ≡ []) }
+        ensures { IsTrue result ↔ (self.now.texts ≡ []) }
     {
         self.len() == 0
     }
@@ -127,15 +137,15 @@ impl<S: BuildHasher + Drop> Texts<S> {
     /// The text at a place.
     #[inline(always)]
     pub fn text_at(&self, place: usize) -> &[u8]
-        requires { place < length self.now }
-        ensures { result.now ≡ slice_index_or self.now place [] }
+        requires { place < length self.now.texts }
+        ensures { result.now ≡ slice_index_or self.now.texts place [] }
     {
         self.texts.get(place)
     }
 
     /// The texts in the order in which they came.
     pub fn iter(&self) -> Iter<'_>
-        ensures { result ≡ self.now }
+        ensures { result ≡ self.now.texts }
     {
         Iter {
             texts: &self.texts,
@@ -145,8 +155,8 @@ impl<S: BuildHasher + Drop> Texts<S> {
 
     /// The place of a text, if it is there.
     pub fn place_of(&self, text: &[u8]) -> Option<usize>
-        ensures there { IfSome result (λ place. StandsAt self.now text.now place) }
-        ensures absent { IfNone result (has self.now text.now ≡ false) }
+        ensures there { IfSome result (λ place. StandsAt self.now.texts text.now place) }
+        ensures absent { IfNone result (has self.now.texts text.now ≡ false) }
     {
         if self.slots.is_empty() {
             return None;
@@ -165,24 +175,27 @@ impl<S: BuildHasher + Drop> Texts<S> {
         }
     }
 
-    /// Where the text may stand: the place that the first slot of its search names, where that has the text's tag, and else
-    /// no text's. So the text that stands there has 32 bits of its hash in common with this one, and is mostly the same. It waits for
+    /// Where the text may stand: at the place that the first slot of its search names, where that has the text's tag, and else at no
+    /// text's. So the text that stands there has 32 bits of its hash in common with this one, and is mostly the same. It waits for
     /// the table alone, so that a caller may guess for several texts before it sees the first by `see_at`.
     #[inline(always)]
-    pub fn guess(&self, text: &[u8]) -> usize
-        ensures { (hasher : S) × SharesTag
-            (tag_under S.Hasher.write S.Hasher.finish (S.build_hasher hasher)) self.now text.now result }
+    pub fn guess(&self, text: &[u8]) -> Guess
+        ensures { IsGuess (tag_under S.Hasher.write S.Hasher.finish (S.build_hasher self.now.hasher)) self.now.texts text.now result }
     {
-        if self.slots.is_empty() {
-            return self.len();
-        }
         let tag = tag_of(&self.hasher, text);
+        if self.slots.is_empty() {
+            return Guess {
+                tag,
+                place: self.len(),
+            };
+        }
         let slot = self.slots[home_of(self.slots.len(), tag)];
-        if slot.tag == tag && slot.is_taken() {
+        let place = if slot.tag == tag && slot.is_taken() {
             slot.place as usize
         } else {
             self.len()
-        }
+        };
+        Guess { tag, place }
     }
 
     /// Whether the texts are so many that a processor waits for most of them. Then it pays to guess for some texts before the first of
@@ -192,38 +205,56 @@ impl<S: BuildHasher + Drop> Texts<S> {
         self.texts.size() >= AT_HAND
     }
 
-    /// Does what `see` does, whatever the guess is. Where the text stands at that place, this is faster.
+    /// Does what `see` does, by a guess for this text, however long ago it was made: it has the tag, so the text is not hashed. Where
+    /// the text stands at the place, this is faster still.
     #[inline(always)]
-    pub fn see_at(&mut self, text: &[u8], guess: usize) -> Result<Seen, Full>
-        ensures new { IfOk result (λ seen. seen.is_new ≡ not (has self.old text.now)) }
-        ensures texts { OnOk result (self.new ≡ with_text self.old text.now) }
-        ensures place { IfOk result (λ seen. StandsAt self.new text.now seen.place) }
+    pub fn see_at(&mut self, text: &[u8], guess: Guess) -> Result<Seen, Full>
+        requires { guess.tag ≡ tag_under S.Hasher.write S.Hasher.finish (S.build_hasher self.old.hasher) text.now }
+        ensures new { IfOk result (λ seen. seen.is_new ≡ not (has self.old.texts text.now)) }
+        ensures texts { OnOk result (self.new.texts ≡ with_text self.old.texts text.now) }
+        ensures place { IfOk result (λ seen. StandsAt self.new.texts text.now seen.place) }
+        ensures hasher { self.new.hasher ≡ self.old.hasher }
         ensures kept { OnErr result (self.new ≡ self.old) }
-        ensures full { IfErr result (IsFullOnlyAt self.old) }
+        ensures full { IfErr result (IsFullOnlyAt self.old.texts) }
     {
-        if guess < self.len() {
-            if self.text_at(guess) == text {
+        if guess.place < self.len() {
+            if self.text_at(guess.place) == text {
                 return Ok(Seen {
-                    place: guess,
+                    place: guess.place,
                     is_new: false,
                 });
             }
         }
-        self.see(text)
+        self.see_tagged(text, guess.tag)
     }
 
-    /// Takes a text into the set, behind the others, unless it is there, and answers its place and whether it is new. Where
+    /// Takes a text into the set, behind the others, unless it is there, and returns its place and whether it is new. If
     /// that fails, the set stays as it was.
-    #[inline(never)]
+    #[inline(always)]
     pub fn see(&mut self, text: &[u8]) -> Result<Seen, Full>
-        ensures new { IfOk result (λ seen. seen.is_new ≡ not (has self.old text.now)) }
-        ensures texts { OnOk result (self.new ≡ with_text self.old text.now) }
-        ensures place { IfOk result (λ seen. StandsAt self.new text.now seen.place) }
+        ensures new { IfOk result (λ seen. seen.is_new ≡ not (has self.old.texts text.now)) }
+        ensures texts { OnOk result (self.new.texts ≡ with_text self.old.texts text.now) }
+        ensures place { IfOk result (λ seen. StandsAt self.new.texts text.now seen.place) }
+        ensures hasher { self.new.hasher ≡ self.old.hasher }
         ensures kept { OnErr result (self.new ≡ self.old) }
-        ensures full { IfErr result (IsFullOnlyAt self.old) }
+        ensures full { IfErr result (IsFullOnlyAt self.old.texts) }
+    {
+        let tag = tag_of(&self.hasher, text);
+        self.see_tagged(text, tag)
+    }
+
+    /// The same of a text with this tag.
+    #[inline(never)]
+    fn see_tagged(&mut self, text: &[u8], tag: u32) -> Result<Seen, Full>
+        requires { tag ≡ tag_under S.Hasher.write S.Hasher.finish (S.build_hasher self.old.hasher) text.now }
+        ensures new { IfOk result (λ seen. seen.is_new ≡ not (has self.old.texts text.now)) }
+        ensures texts { OnOk result (self.new.texts ≡ with_text self.old.texts text.now) }
+        ensures place { IfOk result (λ seen. StandsAt self.new.texts text.now seen.place) }
+        ensures hasher { self.new.hasher ≡ self.old.hasher }
+        ensures kept { OnErr result (self.new ≡ self.old) }
+        ensures full { IfErr result (IsFullOnlyAt self.old.texts) }
     {
         make_room(self.alloc, &mut self.slots, &mut self.room)?;
-        let tag = tag_of(&self.hasher, text);
         let Some(at) = stop(&self.texts, &self.slots, tag, text) else {
             unreachable!()
         };

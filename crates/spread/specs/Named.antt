@@ -5,4 +5,4 @@ use Rattle.spread.specs.declared.named.Hashed.{Hashed}
 
 -- what came of hashing the keys
 abbrev pub IsHashed : (hash : List ℕ → ℕ) (before after : Hashed) → Result (Unit {0}) AllocError → Type 0
-IsHashed hash before after result = (after.keys ≡ before.keys) × OnOk result (after.hashes.items ≡ map hash before.keys)
+IsHashed hash before after result = (after.keys ≡ before.keys) × OnOk result (after.hashes.items ≡ map hash before.keys.texts)

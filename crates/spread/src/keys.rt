@@ -25,7 +25,7 @@ pub enum Layout {
 
 /// Takes a key in, unless it is there.
 fn take_key(keys: &mut Texts<RandomKeys>, key: &[u8]) -> Result<(), Fault>
-    ensures { OnOk result (keys.new ≡ with_text keys.old key.now) }
+    ensures { OnOk result (keys.new.texts ≡ with_text keys.old.texts key.now) }
 {
     match keys.see(key) {
         Ok(_) => Ok(()),
@@ -41,7 +41,7 @@ fn read_line<R: BufRead>(
     line: &mut Vec<u8>,
     r: &mut R,
 ) -> Result<bool, Fault>
-    ensures { IfOk result (ReadsLine eol keys.old keys.new (R.remaining r.old) (R.remaining r.new)) }
+    ensures { IfOk result (ReadsLine eol keys.old.texts keys.new.texts (R.remaining r.old) (R.remaining r.new)) }
 {
     line.clear();
     if let Err(error) = r.read_until(eol, line) {
@@ -62,7 +62,7 @@ fn read_lines<R: BufRead>(
     r: &mut R,
 ) -> Result<bool, Fault>
     ensures { IfOk result (λ all. all ≡ true
-        → ReadsLines eol keys.old keys.new (R.remaining r.old) (R.remaining r.new)) }
+        → ReadsLines eol keys.old.texts keys.new.texts (R.remaining r.old) (R.remaining r.new)) }
 {
     let mut line = Vec::new(alloc);
     'lines: for _ in 0..u64::MAX {
@@ -121,7 +121,7 @@ fn read_one<R: Read>(
     r: &mut R,
 ) -> Result<bool, Fault>
     requires { 0 < length piece.old }
-    ensures { IfOk result (ReadsOne width keys.old keys.new (R.remaining r.old) (R.remaining r.new)) }
+    ensures { IfOk result (ReadsOne width keys.old.texts keys.new.texts (R.remaining r.old) (R.remaining r.new)) }
 {
     if !read_key(width, key, piece, r)? {
         return Ok(false);
@@ -147,7 +147,7 @@ fn read_fixed<R: Read>(
 ) -> Result<bool, Fault>
     requires { 0 < width }
     ensures { IfOk result (λ all. all ≡ true
-        → ReadsFixed width keys.old keys.new (R.remaining r.old) (R.remaining r.new)) }
+        → ReadsFixed width keys.old.texts keys.new.texts (R.remaining r.old) (R.remaining r.new)) }
 {
     let mut key = Vec::new(alloc);
     let mut piece = vec![in alloc; 0u8; piece_len(width)]?;
@@ -166,7 +166,7 @@ pub fn read_keys<R: BufRead>(
     layout: Layout,
     r: &mut R,
 ) -> Result<(), Fault>
-    ensures { OnOk result (ReadsKeys layout keys.old keys.new (R.remaining r.old) (R.remaining r.new)) }
+    ensures { OnOk result (ReadsKeys layout keys.old.texts keys.new.texts (R.remaining r.old) (R.remaining r.new)) }
 {
     let all = match layout {
         Layout::Lines(eol) => read_lines(alloc, keys, eol, r)?,

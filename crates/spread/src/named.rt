@@ -26,9 +26,9 @@ pub struct Hashed {
 
 /// Puts the hash of each key at its place.
 pub fn hash_each<H: Piecewise>(keys: &Texts<RandomKeys>, hashes: &mut [u64])
-    requires { length hashes.old ≡ length keys.now }
-    ensures hashes { hashes.new ≡ map H.hash_of keys.now }
-    ensures texts { All IsText keys.now }
+    requires { length hashes.old ≡ length keys.now.texts }
+    ensures hashes { hashes.new ≡ map H.hash_of keys.now.texts }
+    ensures texts { All IsText keys.now.texts }
 {
     for i in 0..hashes.len() {
         hashes[i] = hash_of::<H>(keys.text_at(i));
@@ -37,9 +37,9 @@ pub fn hash_each<H: Piecewise>(keys: &Texts<RandomKeys>, hashes: &mut [u64])
 
 /// The same by version 1 of SpookyHash.
 fn hash_each_by_v1(keys: &Texts<RandomKeys>, hashes: &mut [u64])
-    requires { length hashes.old ≡ length keys.now }
-    ensures hashes { hashes.new ≡ map (λ text. (spooky_v1 0 0 text).0) keys.now }
-    ensures texts { All IsText keys.now }
+    requires { length hashes.old ≡ length keys.now.texts }
+    ensures hashes { hashes.new ≡ map (λ text. (spooky_v1 0 0 text).0) keys.now.texts }
+    ensures texts { All IsText keys.now.texts }
 {
     for i in 0..hashes.len() {
         let key = keys.text_at(i);
@@ -58,8 +58,8 @@ fn make_room(hashes: &mut Vec<u64>, count: usize) -> Result<(), AllocError>
 /// Hashes the keys so many times, and once at least.
 fn hash_often<H: Piecewise>(rounds: u32, hashed: &mut Hashed) -> Result<(), AllocError>
     ensures keys { hashed.new.keys ≡ hashed.old.keys }
-    ensures hashes { OnOk result (hashed.new.hashes.items ≡ map H.hash_of hashed.old.keys) }
-    ensures texts { OnOk result (All IsText hashed.old.keys) }
+    ensures hashes { OnOk result (hashed.new.hashes.items ≡ map H.hash_of hashed.old.keys.texts) }
+    ensures texts { OnOk result (All IsText hashed.old.keys.texts) }
 {
     make_room(&mut hashed.hashes, hashed.keys.len())?;
     hash_each::<H>(&hashed.keys, &mut hashed.hashes);
@@ -116,7 +116,7 @@ pub fn counts_by(
     hashed: &mut Hashed,
 ) -> Result<Counts, AllocError>
     ensures keys { hashed.new.keys ≡ hashed.old.keys }
-    ensures counts { IfOk result (IsCounts sizes (map (hash_of kind) hashed.old.keys)) }
+    ensures counts { IfOk result (IsCounts sizes (map (hash_of kind) hashed.old.keys.texts)) }
 {
     hash_by(kind, 1, hashed)?;
     counts_of(alloc, &mut hashed.hashes, sizes)

@@ -50,7 +50,7 @@ fn keys_of_input(rt: &HostRuntime, layout: Layout) -> Result<Texts<RandomKeys>, 
 fn row_of(rt: &HostRuntime, kind: Kind, frame: &Frame, hashed: &mut Hashed) -> Result<Row, Fault>
     ensures keys { hashed.new.keys ≡ hashed.old.keys }
     ensures kind { IfOk result (λ row. row.kind ≡ kind) }
-    ensures counts { IfOk result (λ row. IsCounts frame.now.sizes (map (hash_of kind) hashed.old.keys) row.counts) }
+    ensures counts { IfOk result (λ row. IsCounts frame.now.sizes (map (hash_of kind) hashed.old.keys.texts) row.counts) }
 {
     let time = if frame.times {
         time_of(rt, kind, hashed)?

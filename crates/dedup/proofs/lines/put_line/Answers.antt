@@ -7,16 +7,16 @@ use Rattle.hash_texts.proofs.LineLemmas.{line_with_end, line_without_end}
 use Rattle.dedup.proofs.SeenLemmas.{on_err}
 use Rattle.dedup.proofs.lines.put_line.Goals as goal
 
-pub returns-then-without_end-line-clause-err : goal.returns-then-without_end-line-clause-err
-returns-then-without_end-line-clause-err g c =
-    let longer = subst (λ text. length text < length c.args.line.now) c.without_end.ensures c.if-without_end-line.true in
+pub returns-then-text-line-clause-err : goal.returns-then-text-line-clause-err
+returns-then-text-line-clause-err g c =
+    let longer = subst (λ text. length text < length c.args.line.now) c.requires c.if-text-line.true in
     subst (λ l. OnErr c.put.result (AppendsPart (g.W.Write.contents c.args.w.now) (g.W.Write.contents c.put.new.w) l))
     (sym (line_with_end c.args.eol c.args.line.now longer)) c.put.ensures.err
 
 pub returns-in_err-put-clause-err : goal.returns-in_err-put-clause-err
 returns-in_err-put-clause-err g c =
     let same = line_without_end c.args.eol c.args.line.now
-    (subst (λ text. length c.args.line.now ≤ length text) c.without_end.ensures (omega (arith, c.if-without_end-line.false))) in
+    (subst (λ text. length c.args.line.now ≤ length text) c.requires (omega (arith, c.if-text-line.false))) in
     let (part, rest, is, written) = c.in_err-put.ensures.err in
     on_err _ c.from_residual.result (
       part,
@@ -28,7 +28,7 @@ returns-in_err-put-clause-err g c =
 pub returns-clause-ok : goal.returns-clause-ok
 returns-clause-ok g c =
     let same = line_without_end c.args.eol c.args.line.now
-    (subst (λ text. length c.args.line.now ≤ length text) c.without_end.ensures (omega (arith, c.if-without_end-line.false))) in
+    (subst (λ text. length c.args.line.now ≤ length text) c.requires (omega (arith, c.if-text-line.false))) in
     on_ok_weaker c.put-3.result
     (λ end. subst (Appends (g.W.Write.contents c.args.w.now) (g.W.Write.contents c.put-3.new.w)) (ap (λ l. l ++ c.args.eol ∷ []) (sym same))
     (Appends-trans _ _ _ _ _ c.in_ok-put.ensures.ok end))
@@ -37,7 +37,7 @@ returns-clause-ok g c =
 pub returns-clause-err : goal.returns-clause-err
 returns-clause-err g c =
     let same = line_without_end c.args.eol c.args.line.now
-    (subst (λ text. length c.args.line.now ≤ length text) c.without_end.ensures (omega (arith, c.if-without_end-line.false))) in
+    (subst (λ text. length c.args.line.now ≤ length text) c.requires (omega (arith, c.if-text-line.false))) in
     on_err_weaker c.put-3.result
     (λ begun. (
       c.args.line.now ++ begun.0,

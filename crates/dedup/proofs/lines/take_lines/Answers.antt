@@ -1,8 +1,9 @@
-use Rattle.std.proofs.Common.{ℕ, List, [], ◌≡◌, ◌+◌, ◌++◌, ◌∙◌, ap, sym, subst, refl, append_assoc, length-append, arith}
+use Rattle.std.proofs.Common.{ℕ, List, [], ◌≡◌, ◌+◌, ◌++◌, ◌∙◌, ap, sym, subst, refl, append_assoc, length-append, take, arith}
+use Rattle.std.proofs.lemmas.List.{take-take}
 use Rattle.dedup.specs.Between.{AreNext}
 use Rattle.hash_texts.specs.Lines.{lines_by}
 use Rattle.dedup.specs.Taking.{LeadsOn}
-use Rattle.hash_texts.proofs.LineLemmas.{line_before}
+use Rattle.hash_texts.proofs.LineLemmas.{first_strip, line_before}
 use Rattle.dedup.proofs.RunLemmas.{breaks_at_line, counted_more, front_is, leads_both, leads_nowhere, lines_more, takes_so_far, together, whole_both, whole_line, whole_nothing}
 use Rattle.dedup.proofs.SeenLemmas.{on_err}
 use Rattle.dedup.proofs.lines.take_lines.Goals as goal
@@ -14,14 +15,27 @@ loop-count-init g c = (
   whole_nothing c.args.eol,
   refl,
   leads_nowhere (g.T.LineTask.output c.args.eol) _ _,
-  subst (AreNext c.args.eol c.args.bytes.now) (sym c.new-ahead.ensures) tt,
+  subst (AreNext c.args.eol (g.T.LineTask.tag_of c.args.task.now) c.args.bytes.now) (sym c.new-ahead.ensures) tt,
 )
 
-pub take_line-requires : goal.take_line-requires
-take_line-requires g c =
+pub take_line-requires-clause-room : goal.take_line-requires-clause-room
+take_line-requires-clause-room g c =
     let (part, is, whole, counted, leads, next) = c.loop-count.invariant in
     let (ls, now, few) = c.requires.room in
     (ls ++ lines_by c.args.eol part, leads.stands ls now, omega (arith, few, counted, length-append ls (lines_by c.args.eol part)))
+
+pub take_line-requires-clause-text : goal.take_line-requires-clause-text
+take_line-requires-clause-text g c =
+    let n : ℕ = c.in-Some.found.len in
+    first_strip c.args.eol c.loop-count.rest.now c.split_at.result.0.now n c.split_at.ensures.front c.in-Some.ensures.found.end
+
+pub take_line-requires-clause-tag : goal.take_line-requires-clause-tag
+take_line-requires-clause-tag g c =
+    let n : ℕ = c.in-Some.found.len in
+    let rest : List ℕ = c.loop-count.rest.now in
+    c.in-Some.ensures.found.tag
+    ∙ ap (g.T.LineTask.tag_of c.loop-count.task)
+    (sym (ap (take n) c.split_at.ensures.front ∙ take-take n (n + 1) rest (omega arith)))
 
 pub loop-count-preserved : goal.loop-count-preserved
 loop-count-preserved g c =
@@ -30,7 +44,7 @@ loop-count-preserved g c =
     let later : List ℕ = c.split_at.result.1.now in
     let rest : List ℕ = c.loop-count.rest.now in
     let n : ℕ = c.in-Some.found.len in
-    let (stops, some, ended) = line_before c.args.eol rest line n c.split_at.ensures.front c.in-Some.ensures.end in
+    let (stops, some, ended) = line_before c.args.eol rest line n c.split_at.ensures.front c.in-Some.ensures.found.end in
     let more = lines_more c.args.eol part line whole stops some in (
       part ++ line,
       append_assoc part line later
@@ -41,7 +55,8 @@ loop-count-preserved g c =
           (λ l. g.T.LineTask.taken c.args.eol l c.take_line.new.self) ls
           (g.W.Write.contents c.args.w.now) (g.W.Write.contents c.take_line.new.w)) (sym more)
           (leads_both (g.T.LineTask.output c.args.eol) _ _ _ _ _ _ _ _ leads c.in_ok-take_line-in-Some.ensures.ok),
-      subst (λ l. AreNext c.args.eol l c.next.new.self) (sym c.split_at.ensures.back) c.in-Some.ensures.next,
+      subst (λ tag_of. AreNext c.args.eol tag_of later c.next.new.self) (sym c.in_ok-take_line-in-Some.ensures.tag_of)
+          (subst (λ l. AreNext c.args.eol (g.T.LineTask.tag_of c.loop-count.task) l c.next.new.self) (sym c.split_at.ensures.back) c.in-Some.ensures.next),
     )
 
 pub returns-in_err-take_line-in-Some-clause-broke : goal.returns-in_err-take_line-in-Some-clause-broke
@@ -49,7 +64,7 @@ returns-in_err-take_line-in-Some-clause-broke g c =
     let (part, is, whole, counted, leads, next) = c.loop-count.invariant in
     on_err _ c.from_residual.result
     (breaks_at_line c.args.eol (g.T.LineTask.output c.args.eol) c.requires.grows _ _ _ _ _ part c.loop-count.rest.now c.args.bytes.now _ _
-    c.in-Some.found.len whole is c.split_at.ensures.front c.split_at.ensures.back c.in-Some.ensures.end leads
+    c.in-Some.found.len whole is c.split_at.ensures.front c.split_at.ensures.back c.in-Some.ensures.found.end leads
     c.in_err-take_line-in-Some.ensures.err)
 
 pub returns-in-None-clause-takes : goal.returns-in-None-clause-takes

@@ -4,4 +4,4 @@ use Rattle.spread.proofs.keys.read_lines.Given as goal
 
 -- what was read so far is whole lines, whose keys are there
 abbrev pub invariant-lines : goal.invariant-lines
-invariant-lines g l = ReadsLine l.eol l.initial.keys l.keys (g.R.Read.remaining l.initial.r) (g.R.Read.remaining l.r) true
+invariant-lines g l = ReadsLine l.eol l.initial.keys.texts l.keys.texts (g.R.Read.remaining l.initial.r) (g.R.Read.remaining l.r) true

@@ -6,8 +6,8 @@ use Rattle.spread.proofs.NamedLemmas.{hashed_all}
 use Rattle.spread.proofs.named.hash_each_by_v1.Goals as goal
 
 pub returns-clause-hashes : goal.returns-clause-hashes
-returns-clause-hashes c = hashed_all (λ text. (spooky_v1 0 0 text).0) c.args.keys.now c.loop-i.hashes (omega arith)
+returns-clause-hashes c = hashed_all (λ text. (spooky_v1 0 0 text).0) c.args.keys.now.texts c.loop-i.hashes (omega arith)
     (λ k below. c.loop-i.invariant.hashed k (omega arith))
 
 pub returns-clause-texts : goal.returns-clause-texts
-returns-clause-texts c = All-from_get_or IsText c.args.keys.now [] (λ k below. c.loop-i.invariant.texts k (omega arith))
+returns-clause-texts c = All-from_get_or IsText c.args.keys.now.texts [] (λ k below. c.loop-i.invariant.texts k (omega arith))

@@ -6,6 +6,6 @@ use Rattle.spread.proofs.named.hash_often.Given as goal
 abbrev pub invariant-again : goal.invariant-again
 invariant-again g l = record {
   keys : l.hashed.keys ≡ l.fn.hashed.keys;
-  hashes : l.hashed.hashes.items ≡ map g.H.Piecewise.hash_of l.hashed.keys;
-  texts : All IsText l.hashed.keys;
+  hashes : l.hashed.hashes.items ≡ map g.H.Piecewise.hash_of l.hashed.keys.texts;
+  texts : All IsText l.hashed.keys.texts;
 }

@@ -13,14 +13,14 @@ returns-in_err-see-clause-err g c = on_err _ c.from_residual.result (stops_befor
 pub returns-in_err-put_line-clause-err : goal.returns-in_err-put_line-clause-err
 returns-in_err-put_line-clause-err g c =
     on_err _ c.from_residual-in_err-put_line.result
-    (stops_in_line c.args.eol c.args.self.now.seen c.args.line.now (search rules) _ _ c.in_err-put_line.ensures.err)
+    (stops_in_line c.args.eol c.args.self.now.seen.texts c.args.line.now (search rules) _ _ c.in_err-put_line.ensures.err)
 
 pub returns-in_ok-put_line-clause-ok : goal.returns-in_ok-put_line-clause-ok
 returns-in_ok-put_line-clause-ok g c =
-    takes_line c.args.eol c.args.self.now.seen c.args.line.now _ (search rules) (as_line_by c.args.eol c.args.line.now)
-    (λ ls before. adds_new c.args.eol c.args.self.now.seen c.args.line.now ls before (search rules)) _ _ c.in_ok-put_line.ensures.ok
+    takes_line c.args.eol c.args.self.now.seen.texts c.args.line.now _ (search rules) (as_line_by c.args.eol c.args.line.now)
+    (λ ls before. adds_new c.args.eol c.args.self.now.seen.texts c.args.line.now ls before (search rules)) _ _ c.in_ok-put_line.ensures.ok
 
 pub returns-else-branch-clause-ok : goal.returns-else-branch-clause-ok
 returns-else-branch-clause-ok g c =
-    takes_line c.args.eol c.args.self.now.seen c.args.line.now _ (search rules) []
-    (λ ls before. adds_nothing c.args.eol c.args.self.now.seen c.args.line.now ls before (search rules)) _ _ (Appends-nil _)
+    takes_line c.args.eol c.args.self.now.seen.texts c.args.line.now _ (search rules) []
+    (λ ls before. adds_nothing c.args.eol c.args.self.now.seen.texts c.args.line.now ls before (search rules)) _ _ (Appends-nil _)

@@ -7,6 +7,6 @@ use Rattle.spread.proofs.named.HashKeysHashTask.by_spooky_v1.Given as goal
 abbrev pub invariant-again : goal.invariant-again
 invariant-again l = record {
   keys : l.hashed.keys ≡ l.fn.hashed.keys;
-  hashes : l.hashed.hashes.items ≡ map (λ text. (spooky_v1 0 0 text).0) l.hashed.keys;
-  texts : All IsText l.hashed.keys;
+  hashes : l.hashed.hashes.items ≡ map (λ text. (spooky_v1 0 0 text).0) l.hashed.keys.texts;
+  texts : All IsText l.hashed.keys.texts;
 }
