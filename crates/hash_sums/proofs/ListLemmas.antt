@@ -10,8 +10,9 @@ use Rattle.hash_program.specs.declared.fault.Fault.{Fault}
 use Rattle.hash_program.specs.declared.outcome.Nothing.{Nothing}
 use Rattle.hash_sums.specs.Checking.{counted}
 use Rattle.hash_sums.specs.Files.{Opens}
-use Rattle.hash_sums.specs.Lists.{counts_of, said_of, uncounted, AreLines, EndsLine, EndsList, IsCameOf, IsNext}
+use Rattle.hash_sums.specs.Lists.{counts_of, said_of, uncounted, AreLines, EndsLine, EndsList, IsCameOf}
 use Rattle.hash_sums.specs.Lists.AreLines.{behind, none}
+use Rattle.hash_texts.specs.Lines.{IsNext}
 use Rattle.hash_sums.specs.Told.{AreTold}
 use Rattle.hash_sums.proofs.ToldLemmas.{told_more, told_start, torn_kept, torn_within}
 
@@ -31,7 +32,7 @@ so_far_start kinds checking opens left written =
 -- one line more
 pub so_far_more : (kinds : List Kind) (checking : Checking) (opens : Opens)
     (left here left' written between written' : Option (List ℕ)) (counts counts' : Counts) (line given : List ℕ) (came : Came)
-    → SoFar kinds checking opens left here written between counts → IsNext here line left' → given ≡ line
+    → SoFar kinds checking opens left here written between counts → IsNext 10 here line left' → given ≡ line
     → EndsLine kinds checking opens given between written' (Ok came) → counts' ≡ counted counts came
     → SoFar kinds checking opens left left' written written' counts'
 so_far_more kinds checking opens left here left' written between written' counts counts' line given came (ls, are, told, so_far, counts_are)
@@ -48,7 +49,7 @@ so_far_more kinds checking opens left here left' written between written' counts
 -- a line of which a beginning of what came was written
 pub torn_off : (kinds : List Kind) (checking : Checking) (opens : Opens)
     (left here left' written between written' : Option (List ℕ)) (counts : Counts) (line given : List ℕ) (fault : Fault Nothing)
-    → SoFar kinds checking opens left here written between counts → IsNext here line left' → given ≡ line
+    → SoFar kinds checking opens left here written between counts → IsNext 10 here line left' → given ≡ line
     → EndsLine kinds checking opens given between written' (Err fault)
     → EndsList kinds checking opens left written written' (Err fault)
 torn_off kinds checking opens left here left' written between written' counts line given fault (ls, are, told, so_far, counts_are)

@@ -1,10 +1,11 @@
 -- Lists whose lines are checked.
 use Rattle.std.specs.Prelude.{ℕ, ◌≡◌, ◌⊎◌, ◌&&◌, Bool, true, false, List, [], ◌∷◌, ◌++◌, Option, Some, None, Result, Ok, Err, fold}
-use Rattle.std.specs.Io.BufRead.{drop_through, strip_last, take_through}
+use Rattle.std.specs.Io.BufRead.{strip_last}
 use Rattle.std.specs.Io.KnownBytes.{Appends, IsAtEnd, Keeps}
 use Rattle.std.specs.declared.io.Error.{Error}
 use Rattle.hash_lines.specs.declared.line.Kind.{Kind}
 use Rattle.hash_program.specs.Streams.{AppendsPart}
+use Rattle.hash_texts.specs.Lines.{IsNext}
 use Rattle.hash_sums.specs.declared.check.Came.{Came}
 use Rattle.hash_sums.specs.declared.check.Checking.{Checking}
 use Rattle.hash_sums.specs.declared.check.Counts.{Counts}
@@ -14,15 +15,10 @@ use Rattle.hash_sums.specs.Checking.{counted, passes, said, IsCame}
 use Rattle.hash_sums.specs.Files.{Opens}
 use Rattle.hash_sums.specs.Told.{AreTold, AreTornOff}
 
--- this line, with its newline if it has one, is the next
-abbrev pub IsNext : (left : Option (List ℕ)) (line : List ℕ) (left' : Option (List ℕ)) → Type 0
-IsNext None line left' = Unit {0}
-IsNext (Some text) line left' = (line ≡ take_through 10 text) × (left' ≡ Some (drop_through 10 text))
-
 -- these lines come first, one after the other
 pub data AreLines : (left : Option (List ℕ)) (lines : List (List ℕ)) (left' : Option (List ℕ)) → Type 0 where
   none : {left : Option (List ℕ)} → AreLines left [] left
-  behind : {left here left' : Option (List ℕ)} {lines : List (List ℕ)} (line : List ℕ) → AreLines left lines here → IsNext here line left'
+  behind : {left here left' : Option (List ℕ)} {lines : List (List ℕ)} (line : List ℕ) → AreLines left lines here → IsNext 10 here line left'
       → AreLines left (lines ++ line ∷ []) left'
 
 -- a line without its end: a newline, a carriage return and a newline, or none

@@ -2,10 +2,9 @@
 ghost use Rattle.std.specs.Prelude.{◌≡◌, true, false, map, IfOk, MatchOption};
 ghost use Rattle.std.specs.IoError.{error_kind};
 ghost use Rattle.hash_sums.specs.Checking.{behind_name, counted, is_not_found, is_skipped, passes, said, verdict_on, words, IsCame, IsVerdict, TellsAny, TellsNothing};
-ghost use Rattle.hash_sums.specs.Lists.{bare, EndsLine, EndsList, EndsListOf, EndsLists, IsNext};
+ghost use Rattle.hash_sums.specs.Lists.{bare, EndsLine, EndsList, EndsListOf, EndsLists};
 ghost use Rattle.hash_sums.specs.Sums.{sum_at};
 ghost use Rattle.std.specs.Io.Buffered.{writer_contents};
-ghost use Rattle.std.specs.Io.KnownBytes.{IsAtEnd};
 
 use crate::fault::Fault;
 use crate::folder::Folder;
@@ -16,6 +15,7 @@ use hash_lines::line::{Kind, push_name};
 use hash_lines::parse::{Entry, parse_line};
 use hash_program::streams::put_out;
 use hash_texts::lines;
+use hash_texts::lines::next_line;
 use std::alloc::{AllocError, Global};
 use std::io;
 use std::io::{BufRead, BufReader, BufWriter, Error, ErrorKind, Read, Write};
@@ -270,17 +270,6 @@ fn without_end(line: &[u8]) -> &[u8]
     lines::without_end(lines::without_end(line, b'\n'), b'\r')
 }
 
-/// Reads the next line, with its newline if it has one, and tells whether there is one.
-fn next_line<B: BufRead>(lines: &mut B, line: &mut Vec<u8>) -> io::Result<bool>
-    ensures more { IfOk result (λ more. more ≡ true
-        → IsNext (B.remaining lines.old) line.new.items (B.remaining lines.new)) }
-    ensures end { IfOk result (λ more. more ≡ false → IsAtEnd (B.remaining lines.old)) }
-{
-    line.clear();
-    let count = lines.read_until(b'\n', line)?;
-    Ok(count > 0)
-}
-
 /// Checks a line, with its newline if it has one, and writes what came of it.
 fn tell_line<'k, R: Read + Drop, F: Folder<R>, W: Write + Drop>(
     alloc: Global,
@@ -341,7 +330,7 @@ fn check_lines<B: BufRead, R: Read + Drop, F: Folder<R>, W: Write + Drop>(
     let mut counts = UNCOUNTED;
     let mut line = Vec::new(alloc);
     for number in 1..u64::MAX {
-        match next_line(lines, &mut line) {
+        match next_line(lines, b'\n', &mut line) {
             Ok(true) => {}
             Ok(false) => return Ok(Some(counts)),
             Err(error) => {

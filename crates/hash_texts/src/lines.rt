@@ -1,10 +1,12 @@
 //! Lines of a text, and what ends them: newline, or another byte.
-ghost use Rattle.std.specs.Prelude.{◌≡◌, ◌≤◌, ◌+◌, ◌==◌, not, length};
+ghost use Rattle.std.specs.Prelude.{◌≡◌, ◌≤◌, ◌+◌, ◌==◌, IfOk, not, length, false, true};
 ghost use Rattle.std.specs.Io.BufRead.{ends_with_byte, strip_last};
 ghost use Rattle.std.specs.List.{prefix_len};
 ghost use Rattle.std.specs.Simd.Lanes.{chunk};
-ghost use Rattle.hash_texts.specs.Lines.{IsLineEnd};
+ghost use Rattle.hash_texts.specs.Lines.{IsLineEnd, ReadsNext, ReadsNothing};
 
+use std::io;
+use std::io::BufRead;
 use std::simd::prelude::*;
 
 /// Whether a line has its end.
@@ -60,4 +62,15 @@ pub fn line_end(bytes: &[u8], eol: u8) -> Option<usize>
         }
     }
     None
+}
+
+/// Reads the next line into the buffer, with its end if it has one, and returns whether there is one.
+pub fn next_line<R: BufRead>(r: &mut R, eol: u8, line: &mut Vec<u8>) -> io::Result<bool>
+    ensures some { IfOk result (λ some. some ≡ true
+        → ReadsNext eol (R.remaining r.old) (R.remaining r.new) line.new.items) }
+    ensures none { IfOk result (λ some. some ≡ false → ReadsNothing (R.remaining r.old) (R.remaining r.new)) }
+{
+    line.clear();
+    let count = r.read_until(eol, line)?;
+    Ok(count > 0)
 }

@@ -1,8 +1,8 @@
 -- The keys of a text that is read line by line.
 use Rattle.std.proofs.Common.{◌≡◌, ◌≢◌, ◌<◌, ◌+◌, ◌-◌, ℕ, Bool, true, false, cond, eqb, List, [], ◌∷◌, ◌++◌, Option, Some, None, IfSome, All, length, take, drop, get_or, fold, refl, ap, sym, subst, append-nil, ◌∙◌, arith, append_assoc}
-use Rattle.std.specs.Io.{StopsAt, appended_bytes}
+use Rattle.std.specs.Io.{StopsAt}
 use Rattle.std.specs.Io.BufRead.{ends_with_byte, strip_last, take_through}
-use Rattle.std.specs.Io.KnownBytes.{Consumes}
+use Rattle.std.specs.Io.KnownBytes.{Consumes, IsAtEnd}
 use Rattle.std.specs.List.{concat}
 use Rattle.std.proofs.KnownBytes.{Consumes-trans}
 use Rattle.std.proofs.lemmas.Bool.{eq-eqb, eqb-true, lt-ltb, and_from, false≢true}
@@ -11,7 +11,7 @@ use Rattle.std.proofs.lemmas.List.Elements.{All-head, All-tail, All-push, All-sa
 use Rattle.std.proofs.lemmas.List.Folds.{concat-append}
 use Rattle.std.proofs.lemmas.List.Sums.{fold-append}
 use Rattle.hash_texts.specs.Texts.{with_text}
-use Rattle.hash_texts.specs.Lines.{line_texts}
+use Rattle.hash_texts.specs.Lines.{line_texts, IsNext, ReadsNext, ReadsNothing}
 use Rattle.hash_texts.proofs.LinesOfText.{text_of_line, texts_of_line}
 use Rattle.spread.specs.Keys.{IsWhole, ReadsFixed, ReadsLine, ReadsLines, ReadsOne, TakesFixed, TakesKeys}
 
@@ -93,30 +93,33 @@ module _ (eol : ℕ) where
       ∙ ap (λ ks. ks ++ line_texts eol later) (sym (first more))
 
   -- what comes of a line, whether or not it has its end
-  pub takes_line : (keys keys' : List (List ℕ)) (left left' : Option (List ℕ)) (before line : List ℕ) → before ≡ []
-      → Consumes left left' (appended_bytes before line) → StopsAt (appended_bytes before line) eol → 0 < length line
-      → IfSome left (λ bytes. line ≡ before ++ take_through eol bytes) → keys' ≡ with_text keys (strip_last eol line)
-      → (ended : Bool) → ended ≡ ends_with_byte eol line → ReadsLine eol keys keys' left left' ended
-  takes_line keys keys' left left' before line none read stops some through is ended told = at ended told
+  pub takes_line : (keys keys' : List (List ℕ)) (left left' : Option (List ℕ)) (line : List ℕ) → ReadsNext eol left left' line
+      → keys' ≡ with_text keys (strip_last eol line) → (ended : Bool) → ended ≡ ends_with_byte eol line
+      → ReadsLine eol keys keys' left left' ended
+  takes_line keys keys' left left' line read is ended told = at ended told
     where
-      same : appended_bytes before line ≡ line
-      same = ap (λ b. drop (length b) line) none
-
-      read' : Consumes left left' line
-      read' = rw same at read
-
-      stops' : StopsAt line eol
-      stops' = rw same at stops
-
-      through' : IfSome left (λ bytes. line ≡ take_through eol bytes)
-      through' = rw none at through
+      through : (left : Option (List ℕ)) → IsNext eol left line left' → IfSome left (λ bytes. line ≡ take_through eol bytes)
+      through None next = tt
+      through (Some bytes) next = next.0
 
       takes : TakesKeys keys keys' left left' line (line_texts eol line)
-      takes = record { consumed = read'; taken = is ∙ ap (fold with_text keys) (sym (text_of_line eol line stops' some)) }
+      takes = record {
+        consumed = read.consumed;
+        taken = is ∙ ap (fold with_text keys) (sym (text_of_line eol line read.stops read.some));
+      }
 
       at : (ended : Bool) → ended ≡ ends_with_byte eol line → ReadsLine eol keys keys' left left' ended
-      at true told = (line, takes, ended_is_whole line stops' (sym told) some)
-      at false told = (line, record { takes = takes; all = all_read left line through' stops' (sym told) })
+      at true told = (line, takes, ended_is_whole line read.stops (sym told) read.some)
+      at false told = (line, record { takes = takes; all = all_read left line (through left read.next) read.stops (sym told) })
+
+  -- nothing was left
+  pub takes_nothing : (keys : List (List ℕ)) (left left' : Option (List ℕ)) → ReadsNothing left left'
+      → ReadsLine eol keys keys left left' false
+  takes_nothing keys left left' read = ([], record { takes = record { consumed = read.consumed; taken = refl }; all = all left read.end })
+    where
+      all : (left : Option (List ℕ)) → IsAtEnd left → IfSome left (λ bytes. bytes ≡ [])
+      all None end = tt
+      all (Some bytes) end = end
 
   -- whole lines and behind them one more, or the last
   pub goes_on : (keys keys' keys'' : List (List ℕ)) (a b c : Option (List ℕ)) → ReadsLine eol keys keys' a b true

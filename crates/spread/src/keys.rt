@@ -5,7 +5,7 @@ ghost use Rattle.spread.specs.Keys.{ReadsFixed, ReadsKey, ReadsKeys, ReadsLine, 
 
 use crate::fault::{Fault, NoTable, fault_of_read};
 use hash_program::streams::{TRIES, read_some};
-use hash_texts::lines::{has_end, without_end};
+use hash_texts::lines::{has_end, next_line, without_end};
 use hash_texts::{Full, RandomKeys, Texts};
 use std::alloc::Global;
 use std::io::{BufRead, Read};
@@ -43,12 +43,10 @@ fn read_line<R: BufRead>(
 ) -> Result<bool, Fault>
     ensures { IfOk result (ReadsLine eol keys.old.texts keys.new.texts (R.remaining r.old) (R.remaining r.new)) }
 {
-    line.clear();
-    if let Err(error) = r.read_until(eol, line) {
-        return Err(fault_of_read(error));
-    }
-    if line.is_empty() {
-        return Ok(false);
+    match next_line(r, eol, line) {
+        Ok(true) => {}
+        Ok(false) => return Ok(false),
+        Err(error) => return Err(fault_of_read(error)),
     }
     take_key(keys, without_end(line, eol))?;
     Ok(has_end(line, eol))

@@ -11,10 +11,10 @@ pub returns-in-Err-tell_line : goal.returns-in-Err-tell_line
 returns-in-Err-tell_line g c =
     torn_off c.args.kinds.now c.args.checking (g.F.Folder.opens c.args.folder.now) _ _ _ _ _ _ c.loop-number.counts
     c.next_line.new.line.items c.deref.result.now c.in-Err-tell_line.fault c.loop-number.invariant
-    (c.in-Ok-true.ensures.more c.in-Ok-true.field-0-test) c.deref.ensures.value c.in-Err-tell_line.ensures
+    (c.in-Ok-true.ensures.some c.in-Ok-true.field-0-test).next c.deref.ensures.value c.in-Err-tell_line.ensures
 
 pub loop-number-preserved : goal.loop-number-preserved
 loop-number-preserved g c =
     so_far_more c.args.kinds.now c.args.checking (g.F.Folder.opens c.args.folder.now) _ _ _ _ _ _ c.loop-number.counts
     c.count-counts.result c.next_line.new.line.items c.deref.result.now c.in-Ok.came c.loop-number.invariant
-    (c.in-Ok-true.ensures.more c.in-Ok-true.field-0-test) c.deref.ensures.value c.in-Ok.ensures c.count-counts.ensures
+    (c.in-Ok-true.ensures.some c.in-Ok-true.field-0-test).next c.deref.ensures.value c.in-Ok.ensures c.count-counts.ensures
