@@ -158,7 +158,7 @@ fn show(which: Which, times: u64, text: &[u8], eol: u8, out: &mut Vec<u8>) -> Re
 }
 
 /// Writes the counted texts that are asked for, in the order in which they came first.
-fn tell<S: BuildHasher + Drop, W: Write>(
+fn write_tallies<S: BuildHasher + Drop, W: Write>(
     alloc: Global,
     which: Which,
     eol: u8,
@@ -181,7 +181,7 @@ fn tell<S: BuildHasher + Drop, W: Write>(
 }
 
 /// Counts at most `limit` lines of the inputs, each of which ends with the byte `eol`, and writes behind the last those that
-/// are asked for, in the order in which they came first. An input that fails is told, and the others are read. Where there
+/// are asked for, in the order in which they came first. An input that fails is told, and the others are read. If there
 /// are more lines than the limit, none is written. At the end nothing is held back.
 pub fn tally<S: BuildHasher + Drop, R: Read, C: Complaints, W: Write + Drop>(
     alloc: Global,
@@ -202,7 +202,7 @@ pub fn tally<S: BuildHasher + Drop, R: Read, C: Complaints, W: Write + Drop>(
     if let Ended::TooManyLines = ended {
         return Ok(ended);
     }
-    tell(alloc, which, eol, &counts.texts, &counts.times, w)?;
+    write_tallies(alloc, which, eol, &counts.texts, &counts.times, w)?;
     flush(w, TRIES)?;
     Ok(ended)
 }

@@ -61,15 +61,15 @@ IsCame kinds kind opens ignore_missing line (Checked entry verdict) = (is_skippe
     × IsVerdict (opens entry.name.items) (sum_at entry.kind.which) ignore_missing entry.number verdict
 
 -- what is said of a verdict, behind the name
-abbrev pub words : (quiet status : Bool) → Verdict → List ℕ
-words quiet true verdict = []
-words true false Same = []
-words false false Same = codes ": OK" ++ 10 ∷ []
-words quiet false Different = codes ": FAILED" ++ 10 ∷ []
-words quiet false Unread = codes ": FAILED open or read" ++ 10 ∷ []
-words quiet false Missing = []
+abbrev pub verdict_words : (quiet status : Bool) → Verdict → List ℕ
+verdict_words quiet true verdict = []
+verdict_words true false Same = []
+verdict_words false false Same = codes ": OK" ++ 10 ∷ []
+verdict_words quiet false Different = codes ": FAILED" ++ 10 ∷ []
+verdict_words quiet false Unread = codes ": FAILED open or read" ++ 10 ∷ []
+verdict_words quiet false Missing = []
 
--- a name and words behind it, where there are words
+-- a name and words behind it, if there are words
 abbrev pub behind_name : (name words : List ℕ) → List ℕ
 behind_name name [] = []
 behind_name name (first ∷ more) = mark (needs_escape name) ++ (name_shown (needs_escape name) name ++ (first ∷ more))
@@ -78,7 +78,7 @@ behind_name name (first ∷ more) = mark (needs_escape name) ++ (name_shown (nee
 abbrev pub said : (quiet status : Bool) → Came → List ℕ
 said quiet status Skipped = []
 said quiet status Improper = []
-said quiet status (Checked entry verdict) = behind_name entry.name.items (words quiet status verdict)
+said quiet status (Checked entry verdict) = behind_name entry.name.items (verdict_words quiet status verdict)
 
 -- one more, up to the greatest number
 abbrev pub one_more : ℕ → ℕ

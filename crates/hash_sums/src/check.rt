@@ -1,7 +1,7 @@
 //! Whether files have the hashes that lines tell.
 ghost use Rattle.std.specs.Prelude.{◌≡◌, true, false, map, IfOk, MatchOption};
 ghost use Rattle.std.specs.IoError.{error_kind};
-ghost use Rattle.hash_sums.specs.Checking.{behind_name, counted, is_not_found, is_skipped, passes, said, verdict_on, words, IsCame, IsVerdict, TellsAny, TellsNothing};
+ghost use Rattle.hash_sums.specs.Checking.{behind_name, counted, is_not_found, is_skipped, passes, said, verdict_on, verdict_words, IsCame, IsVerdict, TellsAny, TellsNothing};
 ghost use Rattle.hash_sums.specs.Lists.{bare, EndsLine, EndsList, EndsListOf, EndsLists};
 ghost use Rattle.hash_sums.specs.Sums.{sum_at};
 ghost use Rattle.std.specs.Io.Buffered.{writer_contents};
@@ -219,9 +219,9 @@ fn check_line<'k, R: Read + Drop, F: Folder<R>>(
     }
 }
 
-/// What is said of a verdict behind the name; nothing where nothing is to be written.
-fn words(verdict: Verdict, quiet: bool, status: bool) -> &'static [u8]
-    ensures { result.now ≡ words quiet status verdict }
+/// What is said of a verdict behind the name; nothing if nothing is to be written.
+fn verdict_words(verdict: Verdict, quiet: bool, status: bool) -> &'static [u8]
+    ensures { result.now ≡ verdict_words quiet status verdict }
 {
     if status {
         return b"";
@@ -234,7 +234,7 @@ fn words(verdict: Verdict, quiet: bool, status: bool) -> &'static [u8]
     }
 }
 
-/// A name and the words behind it; nothing where there are no words.
+/// A name and the words behind it; nothing if there are no words.
 fn behind_name(alloc: Global, name: &[u8], words: &[u8]) -> Result<Vec<u8>, AllocError>
     ensures { IfOk result (λ text. text.items ≡ behind_name name.now words.now) }
 {
@@ -257,7 +257,7 @@ fn said(alloc: Global, came: &Came<'_>, quiet: bool, status: bool) -> Result<Vec
 {
     match came {
         Came::Checked(entry, verdict) => {
-            behind_name(alloc, &entry.name, words(*verdict, quiet, status))
+            behind_name(alloc, &entry.name, verdict_words(*verdict, quiet, status))
         }
         _ => Ok(Vec::new(alloc)),
     }
@@ -313,7 +313,7 @@ const UNCOUNTED: Counts = Counts {
     missing: 0,
 };
 
-/// Checks the lines of the list of that name, which are read here, and writes what comes of each. Answers the counts; nothing where
+/// Checks the lines of the list of that name, which are read here, and writes what comes of each. Returns the counts; nothing if
 /// the list fails, which is told.
 fn check_lines<B: BufRead, R: Read + Drop, F: Folder<R>, W: Write + Drop>(
     alloc: Global,
@@ -349,7 +349,7 @@ fn check_lines<B: BufRead, R: Read + Drop, F: Folder<R>, W: Write + Drop>(
     Ok(None)
 }
 
-/// Tells an improper line, where that is asked for.
+/// Tells an improper line, if that is asked for.
 fn warn<R: Read, F: Folder<R>>(folder: &F, warn: bool, list: &[u8], number: u64, came: &Came<'_>) {
     if let Came::Improper = came {
         if warn {

@@ -151,7 +151,7 @@ fn refilled(alloc: Global, slots: &[Slot], count: usize) -> Result<Vec<Slot>, Al
 /// Half of the least table.
 const LEAST: usize = 8;
 
-/// Doubles the table where there is no room for a text more. It is at most three quarters full. Where there is no memory
+/// Doubles the table if there is no room for a text more. It is at most three quarters full. If there is no memory
 /// for that, it stays as it was.
 pub fn make_room(alloc: Global, slots: &mut Vec<Slot>, room: &mut usize) -> Result<(), AllocError>
     requires found { AreFound slots.old.items }

@@ -76,7 +76,7 @@ impl Store {
         text_between(&self.bytes, start, end)
     }
 
-    /// Puts a text behind the others. Where there is no memory for it, they stay as they were.
+    /// Puts a text behind the others. If there is no memory for it, they stay as they were.
     pub fn push(&mut self, text: &[u8]) -> Result<(), AllocError>
         ensures ok { OnOk result (self.new ≡ self.old ++ text.now ∷ []) }
         ensures err { OnErr result (self.new ≡ self.old) }

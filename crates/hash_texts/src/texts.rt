@@ -68,7 +68,7 @@ impl From<AllocError> for Full {
 ///
 /// The bytes of all texts lie one behind the other in one buffer. A table of slots says at which place each text stands: in
 /// the first slot that was free, round from where its hash points. So the time of a call depends on the hasher, and the
-/// answers do not. A text costs its bytes, 8 bytes for its end (room for 16 just after these have doubled), and 11 to 22 bytes of the
+/// results do not. A text costs its bytes, 8 bytes for its end (room for 16 just after these have doubled), and 11 to 22 bytes of the
 /// table.
 ///
 /// Where somebody else chooses the texts, take `RandomKeys` as the hasher, or std's `RandomState`, which is slower.
@@ -91,7 +91,7 @@ impl<S: BuildHasher + Drop> Model for Texts<S> {
         set.texts set.slots.items set.room };
 }
 
-/// The slot of a text at this place. It fails where slots have no such place.
+/// The slot of a text at this place. It fails if slots have no such place.
 fn slot_of(tag: u32, place: usize) -> Result<Slot, Full>
     ensures slot { IfOk result (λ slot. slot ≡ record { tag = tag; place = place }) }
     ensures below { OnOk result (place < NOWHERE) }

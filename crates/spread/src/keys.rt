@@ -34,7 +34,7 @@ fn take_key(keys: &mut Texts<RandomKeys>, key: &[u8]) -> Result<(), Fault>
     }
 }
 
-/// Reads a line, takes its key in, and tells whether the line has its end. One without is the last; it has no key where it is empty.
+/// Reads a line, takes its key in, and tells whether the line has its end. One without is the last; it has no key if it is empty.
 fn read_line<R: BufRead>(
     keys: &mut Texts<RandomKeys>,
     eol: u8,

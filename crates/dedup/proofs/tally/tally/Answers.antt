@@ -19,5 +19,5 @@ returns-in_err-flush-clause-ended g c =
     handed_on output _ c.args.eol c.args.limit _ _ c.from_residual-in_err-flush.ensures.0
     (part_told output _ c.args.eol c.args.limit _ left' _ _ _ c.in_ok-ended.ended c.in_default.not-TooManyLines c.in_ok-ended.ensures.ended
     (λ ls now. part_at_flush (output ls) _ _ _
-    (c.in_ok-tell.ensures.ok ls
+    (c.in_ok-write_tallies.ensures.ok ls
     (subst (Tallies c.args.eol ls c.take_inputs.new.task.texts.texts) (sym c.deref.ensures.value) now)) c.flush.ensures.kept))

@@ -3,7 +3,7 @@ use Rattle.std.proofs.KnownBytes.{Keeps-refl}
 use Rattle.dedup.specs.Tallies.{shown}
 use Rattle.dedup.proofs.OrderLemmas.{telling_ends, telling_more, telling_stops, telling_stops_within}
 use Rattle.dedup.proofs.SeenLemmas.{on_err}
-use Rattle.dedup.proofs.tally.tell.Goals as goal
+use Rattle.dedup.proofs.tally.write_tallies.Goals as goal
 
 pub returns-in_err-show-clause-err : goal.returns-in_err-show-clause-err
 returns-in_err-show-clause-err g c =
