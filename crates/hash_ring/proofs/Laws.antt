@@ -1,7 +1,7 @@
 -- What moves where a node comes or goes.
-use Rattle.std.proofs.Common.{ℕ, ◌≡◌, List, None, subst}
+use Rattle.std.proofs.Common.{ℕ, ◌≡◌, Bool, true, false, cond, List, None, Some, subst, refl, ap, sym, ◌∙◌}
 use Rattle.std.specs.FinMap as fin
-use Rattle.hashers.proofs.TextMapLemmas.{removal_undoes_insert}
+use Rattle.hashers.proofs.TextMapLemmas.{alike, get_insert, get_remove, removal_undoes_insert, same, same_key}
 use Rattle.hash_ring.specs.Ring.{IsOwner, MovesOnlyFrom, MovesOnlyTo, Nodes}
 use Rattle.hash_ring.proofs.Owners.{one_owner, stays}
 
@@ -16,3 +16,12 @@ moves_to hash nodes come w none = λ at a b before after ne.
     = subst (λ m. IsOwner hash m at b) (removal_undoes_insert nodes come w none)
     (stays hash (fin.insert nodes come w) at come b after ne) in
     one_owner hash nodes at b a back before
+
+pub adding_back : (nodes : Nodes) (k : List ℕ) (w : ℕ) → fin.get nodes k ≡ Some w → fin.insert (fin.remove nodes k) k w ≡ nodes
+adding_back nodes k w there =
+    alike _ _
+    (λ q. get_insert (fin.remove nodes k) k q w ∙ ap (cond (same q k) (Some w)) (get_remove nodes k q)
+    ∙ elim (same q k) as (λ b. same q k ≡ b → cond b (Some w) (cond b None (fin.get nodes q)) ≡ fin.get nodes q) [
+      | true ↦ λ e. sym (ap (fin.get nodes) (same_key q k e) ∙ there)
+      | false ↦ λ e. refl
+    ] refl)

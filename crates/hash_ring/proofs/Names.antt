@@ -1,7 +1,9 @@
 -- Nodes in the order of their names.
 use Rattle.std.proofs.Common.{ℕ, zero, suc, ◌≡◌, ◌≢◌, ◌+◌, ◌-◌, ◌<◌, ◌≤◌, T, Bool, true, false, not, cond, ◌&&◌, List, [], ◌∷◌, length, get_or, Option, Some, None, Result, Ok, Err, arith, sym, ap, ◌∙◌, subst, refl, ⊎_elim}
-use Rattle.std.specs.List.{insert, remove}
-use Rattle.std.specs.List.Sorted.{IsSorted, IsBinarySearchResult, IsSearchInRange, IsSortedBy}
+use Rattle.std.specs.List.{AllPairs, insert, remove}
+use Rattle.std.specs.Prelude.{map}
+use Rattle.std.specs.Str.{bytes_eq}
+use Rattle.std.specs.List.Sorted.{IsPermutation, IsSorted, IsBinarySearchResult, IsSearchInRange, IsSortedBy}
 use Rattle.std.specs.Result.{MatchResult}
 use Rattle.std.specs.Ordering.{nat_cmp, is_lt, is_eq, is_ge, is_gt, eq_by_cmp, ordering_reverse, ordering_then}
 use Rattle.std.specs.declared.cmp.Ordering.{Ordering}
@@ -13,7 +15,10 @@ use Rattle.std.specs.FinMap.Entries.{below_all, where_key, by_order, is_sorted-p
 use Rattle.std.proofs.lemmas.Bool.{cases_lt}
 use Rattle.std.proofs.lemmas.Cmp.{tied_itself, eq_by_cmp_equiv}
 use Rattle.std.proofs.lemmas.List.{length-map, get_or-map, get_or_default}
-use Rattle.std.proofs.lemmas.List.Sorted.{searchable_from_sorted}
+use Rattle.std.proofs.lemmas.List.Sorted.{IsPermutation-map, searchable_from_sorted}
+use Rattle.std.proofs.lemmas.Map.Keys.{IsDistinct-IsPermutation}
+use Rattle.std.proofs.lemmas.Map.Made.{AllPairs-from_IsDistinct, IsDistinct-from_AllPairs}
+use Rattle.std.proofs.lemmas.Slice.Eq.{bytes_eq-Decides}
 use Rattle.hashers.proofs.TextMapLemmas.{alike, get_insert, removal_of_nothing, same_key}
 use Rattle.hashers.specs.TextMaps.{KeysDiffer, with_all}
 use Rattle.hash_ring.specs.declared.Node.{Node}
@@ -113,6 +118,28 @@ rising_differ es h i j d low m same =
     let tied : (node_at es i).0 ≡ (node_at es j).0 = sym (ap (λ e. e.0) (here i (omega arith))) ∙ same ∙ ap (λ e. e.0) (here j m) in
     let equal : by_bytes (node_at es i).0 (node_at es j).0 ≡ Equal = ap (by_bytes (node_at es i).0) (sym tied) ∙ itself (node_at es i).0 in
     cc
+
+bytes_flip : (a b : List ℕ) → bytes_eq a b ≡ bytes_eq b a
+bytes_flip a b = at (bytes_eq a b) (bytes_eq b a) refl refl
+  where
+    at : (s t : Bool) → bytes_eq a b ≡ s → bytes_eq b a ≡ t → bytes_eq a b ≡ bytes_eq b a
+    at true t is back = is ∙ sym ((bytes_eq-Decides b a).1 (sym ((bytes_eq-Decides a b).0 is)))
+    at false true is back = (bytes_eq-Decides a b).1 (sym ((bytes_eq-Decides b a).0 back)) ∙ sym back
+    at false false is back = is ∙ sym back
+
+-- names that differ do so in any order
+pub KeysDiffer-permutation : (xs ys : Pairs) → IsPermutation xs ys → KeysDiffer xs → KeysDiffer ys
+KeysDiffer-permutation xs ys moved differ =
+    let name : List ℕ × ℕ → List ℕ = λ pair. pair.0 in
+    let names : AllPairs (λ a b. a ≢ b) (map name xs) = λ i j d before within same.
+    let j_in : j < length xs = omega (arith, within, length-map xs name) in
+    differ i j (d, 0) before j_in (sym (get_or-map name xs i (d, 0) d (omega (arith, before, j_in))) ∙ same
+    ∙ get_or-map name xs j (d, 0) d j_in) in
+    let moved_names = AllPairs-from_IsDistinct bytes_eq-Decides (map name ys) (IsDistinct-IsPermutation bytes_eq bytes_flip
+    (map name xs) (map name ys) (IsPermutation-map name xs ys moved) (IsDistinct-from_AllPairs bytes_eq-Decides (map name xs) names)) in
+    λ i j d before within same.
+    moved_names i j d.0 before (omega (arith, within, length-map ys name))
+    (get_or-map name ys i d d.0 (omega (arith, before, within)) ∙ same ∙ sym (get_or-map name ys j d d.0 within))
 
 -- nodes in order rise where their names differ
 abbrev by_name : Node → Node → Ordering

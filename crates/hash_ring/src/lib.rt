@@ -447,6 +447,7 @@ impl<H: Piecewise> Ring<H> {
         requires { All (λ node. 1 ≤ node.weight) nodes.items }
         ensures built { IfOk result (λ ring. ring ≡ with_all map.empty (pairs nodes.items)) }
         ensures count { IfOk result (λ ring. map.len ring ≡ length nodes.items) }
+        ensures differ { OnOk result (KeysDiffer (pairs nodes.items)) }
         ensures err { IfErr result (HandsAllBack nodes.items) }
     {
         nodes.sort_unstable();
@@ -593,6 +594,12 @@ pub fn new_node_moves_keys_only_to_it<H: Piecewise>()
 pub fn removal_undoes_adding()
     ensures { (m : Nodes) (k : List ℕ) (w : ℕ) → map.get m k ≡ None
         → map.remove (map.insert m k w) k ≡ m }
+{}
+
+/// To take a node off and to add it again with its weight leaves the nodes as they were, with no code, and so each owner.
+pub fn adding_undoes_removal()
+    ensures { (m : Nodes) (k : List ℕ) (w : ℕ) → map.get m k ≡ Some w
+        → map.insert (map.remove m k) k w ≡ m }
 {}
 
 /// The order in which nodes came doesn't show, with no code: two orders, and all orders of a list of nodes with different names, lead to

@@ -8,7 +8,7 @@ use Rattle.std.proofs.lemmas.List.Sorted.{All-permutation, IsPermutation-map, Is
 use Rattle.hashers.proofs.TextMapLemmas.{order_does_not_show}
 use Rattle.hash_ring.specs.declared.Node.{Node}
 use Rattle.hash_ring.specs.Points.{ArePoints, pair_of, pairs}
-use Rattle.hash_ring.proofs.Names.{all_put_in, by_bytes, entries_are, rising_differ, sorted_rise}
+use Rattle.hash_ring.proofs.Names.{KeysDiffer-permutation, all_put_in, by_bytes, entries_are, rising_differ, sorted_rise}
 use Rattle.hash_ring.proofs.Ring.from_nodes.Goals as goal
 
 rise : (sorted now : List Node) (b : Bool) → now ≡ sorted → IsTrue b ↔ T (is_sorted by_bytes (pairs now)) → IsTrue b
@@ -44,6 +44,14 @@ returns-in-Ok-clause-built g c =
     ∙ order_does_not_show fin.empty (pairs sorted) (pairs nodes)
     (rising_differ (pairs sorted) (rise _ _ _ c.deref.ensures.value c.names_rise.ensures c.if-not-names_rise.false))
     (IsPermutation-map pair_of sorted nodes (IsPermutation-sym nodes sorted c.sort_unstable.ensures.permutation))
+
+pub returns-in-Ok-clause-differ : goal.returns-in-Ok-clause-differ
+returns-in-Ok-clause-differ g c =
+    let sorted = c.sort_unstable.new.self.items in
+    let nodes = c.args.nodes.items in
+    KeysDiffer-permutation (pairs sorted) (pairs nodes)
+    (IsPermutation-map pair_of sorted nodes (IsPermutation-sym nodes sorted c.sort_unstable.ensures.permutation))
+    (rising_differ (pairs sorted) (rise _ _ _ c.deref.ensures.value c.names_rise.ensures c.if-not-names_rise.false))
 
 pub returns-in-Ok-clause-count : goal.returns-in-Ok-clause-count
 returns-in-Ok-clause-count g c =
