@@ -25,10 +25,11 @@ fn power_of(keys: u64) -> u64
     }
 }
 
-/// The next odd number above a power of two.
+/// The next odd number above a power of two; above 1 it is 3, since 2 is a power of two.
 fn odd_above(power: u64) -> u64
     ensures some { 0 < result }
     ensures next { 1 < power → power < u64.MAX → result ≡ power + 1 }
+    ensures three { power ≤ 1 → result ≡ 3 }
 {
     if power > 1 && power < u64::MAX {
         power + 1
@@ -43,6 +44,7 @@ pub fn sizes_of(keys: u64, buckets: Option<u64>) -> Sizes
     ensures asked { ForSome buckets (λ asked. 0 < asked → (result.first ≡ asked) × (result.second ≡ None)) }
     ensures power { buckets ≡ None → 0 < keys → keys ≤ 2 ^ 63 → IsNextPowerOfTwo keys result.first }
     ensures odd { buckets ≡ None → 1 < result.first → result.first < u64.MAX → result.second ≡ Some (result.first + 1) }
+    ensures one { buckets ≡ None → keys ≡ 1 → (result.first ≡ 1) × (result.second ≡ Some 3) }
 {
     match buckets {
         Some(buckets) => Sizes {
