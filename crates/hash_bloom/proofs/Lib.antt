@@ -6,4 +6,5 @@ pub mod OneBit
 pub mod Ones
 pub mod Places
 pub mod Runs
+pub mod Shares
 pub mod WordLemmas

@@ -1,5 +1,5 @@
 -- A Bloom filter as a set of bits, and the places that a key has there.
-use Rattle.std.specs.Prelude.{ℕ, ◌≡◌, ◌↔◌, ◌⊎◌, ◌+◌, ◌*◌, ◌/◌, ◌%◌, ◌<◌, ◌≤◌, List, length, slice_index, max}
+use Rattle.std.specs.Prelude.{ℕ, ◌≡◌, ◌↔◌, ◌⊎◌, ◌+◌, ◌-◌, ◌*◌, ◌/◌, ◌%◌, ◌^◌, ◌<◌, ◌≤◌, List, length, slice_index, max}
 use Rattle.std.specs.Int.{bit_at}
 use Rattle.std.specs.List.{sum_by, range_with_len}
 
@@ -99,3 +99,10 @@ IsForKeys keys bits_per_key filter = HasShape (max 1 (keys * bits_per_key)) (bes
 -- how many bits a key let at most one strange key in 2^k pass, at the best number of probes: about k / ln 2, rounded up
 abbrev pub bits_for_share : ℕ → ℕ
 bits_for_share k = (1443 * k + 999) / 1000
+
+-- at most one strange key in 2^k passes at so many bits a key, by the formula (1 - e^(-probes / bits))^probes (A. Broder and
+-- M. Mitzenmacher, "Network Applications of Bloom Filters: A Survey", 2004), where e is below 2.72: so many bits of 100 stay zero
+pub record LetsFewPass (k bits_per_key probes : ℕ) : Type 0 where
+  pub zeros : ℕ
+  pub stay : 272 ^ probes * zeros ^ bits_per_key ≤ 100 ^ probes * 100 ^ bits_per_key
+  pub pass : 2 ^ k * (100 - zeros) ^ probes ≤ 100 ^ probes

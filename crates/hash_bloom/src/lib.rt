@@ -8,7 +8,7 @@
 ghost use Rattle.std.specs.Prelude.{◌≡◌, ◌*◌, ◌^◌, ◌<◌, ◌≤◌, ◌↔◌, IfOk, IfErr, IfSome, IsNone, IsOk, IsTrue, max};
 ghost use Rattle.hashers.specs.Text.{joined};
 ghost use Rattle.hash_bloom.specs.Estimate.{IsEstimate};
-ghost use Rattle.hash_bloom.specs.Filter.{Filter, IsFilter, Passes, PassesNone, IsProbe, IsSet, IsEmpty, HasShape, Fits, Adds, AllPassIn, IsForKeys, bits_for_share, count_set, filter_of};
+ghost use Rattle.hash_bloom.specs.Filter.{Filter, IsFilter, Passes, PassesNone, IsProbe, IsSet, IsEmpty, HasShape, Fits, Adds, AllPassIn, IsForKeys, LetsFewPass, bits_for_share, count_set, filter_of};
 
 mod bits;
 pub mod commands;
@@ -129,6 +129,7 @@ impl<F: Piecewise, G: Piecewise> Bloom<F, G> {
         requires in_the_table { k ≤ 22 }
         requires fits { keys * bits_for_share k < 2 ^ 64 }
         ensures shape { IfOk result (IsForKeys keys (bits_for_share k)) }
+        ensures share { IfOk result (λ filter. LetsFewPass k (bits_for_share k) filter.probes) }
         ensures empty { IfOk result IsEmpty }
         ensures none { IfOk result (PassesNone F.hash_of G.hash_of) }
     {
