@@ -3,6 +3,7 @@
 #![tactic(auto)]
 
 pub mod answers;
+pub mod beside;
 pub mod byte_sum;
 pub mod generic;
 pub mod keys;
