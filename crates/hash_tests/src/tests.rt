@@ -2,6 +2,7 @@
 //! What ends a test where it fails stands here, so that it is proved once.
 use std::process::Abort;
 
+mod beside;
 mod buckets;
 mod byte_hashers;
 mod collision;

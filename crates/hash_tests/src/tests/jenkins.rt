@@ -10,7 +10,8 @@ use crate::tests::{all_hold, same, same_at};
 use hashers::jenkins::spooky_hash::SpookyHasher;
 use hashers::jenkins::{Lookup3Hasher, OAATHasher, lookup3, oaat};
 use hashers::laws::{
-    ByteStep, Piecewise, Undo, answer_of_pieces, run_pair, run_pieces, same_answers_later,
+    ByteStep, Piecewise, Undo, answer_of_pieces, differ_in_one_block, differ_in_one_stretch,
+    run_pair, run_pieces, same_answers_later,
 };
 use std::hash::Hasher;
 
@@ -124,4 +125,28 @@ fn oaat_undone(rt: HostRuntime) {
         &[0, oaat(b"abcab"), 3103867595652801641],
     );
     all_hold(&rt, &[apart]);
+}
+
+/// Bytes 13 and 23 are of one block and of two stretches, 13 and 11 of two blocks and of one stretch.
+#[test]
+fn one_block_and_one_stretch(rt: HostRuntime) {
+    let zeros = [0u8; 64];
+    let mut one = zeros;
+    one[13] = 1;
+    let mut block = one;
+    block[23] = 1;
+    let mut stretch = one;
+    stretch[11] = 1;
+    all_hold(
+        &rt,
+        &[
+            differ_in_one_block(&zeros, &block),
+            !differ_in_one_stretch(&zeros, &block),
+            differ_in_one_stretch(&zeros, &stretch),
+            !differ_in_one_block(&zeros, &stretch),
+            differ_in_one_block(&zeros, &one) && differ_in_one_stretch(&one, &zeros),
+            !differ_in_one_block(&one, &one) && !differ_in_one_stretch(&one, &one),
+            !differ_in_one_block(&one, &one[..63]) && !differ_in_one_stretch(&one[..63], &one),
+        ],
+    );
 }
