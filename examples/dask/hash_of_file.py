@@ -1,15 +1,17 @@
 #!/usr/bin/env python3
 """Print the hash of each FILE, which workers hash in blocks.
 
-A hash that combines is proved to be that of the joined text where it is made from the hashes of its parts. So each line has the number
-that `hashof NAME < FILE` prints.
+A hash that combines is proved to be that of the joined text if it is made from the hashes of its parts. So each line has the number
+that `hashof NAME < FILE` prints. `poly61` has 122 bits, under two keys of 8 bytes each, the lowest byte first, which FILE of --key-file
+holds: whoever does not know them has next to no chance to make two files of one hash.
 """
+import struct
 import sys
 
 import hashers
 from parts import answers, blocks_of, cluster, ended, parsed
 
-NAMES = ("sdbm", "loselose", "passthrough", "crc32", "crc32c")
+NAMES = ("sdbm", "loselose", "passthrough", "crc32", "crc32c", "poly61")
 
 
 def hash_of_block(block, name):
@@ -26,14 +28,51 @@ def hash_of_file(client, path, name, size):
     return whole
 
 
+def keyed_part(block, keys, whole):
+    """At each key the state behind the block, or the hash of the last one."""
+    text, law = block.bytes(), hashers.poly61 if block.start + block.size == whole else hashers.poly61_state
+    return [law(text, key) for key in keys]
+
+
+def keyed_hash_of_file(client, path, keys, size):
+    """The polynomial hash of the file at each key: each block but the last has a multiple of seven bytes, and they are joined from the last
+    to the first."""
+    blocks = blocks_of(path, max(7, size // 7 * 7))
+    whole = sum(block.size for block in blocks)
+    parts = list(answers(client, keyed_part, blocks, keys=keys, whole=whole))
+    joined = parts.pop() if parts else [hashers.poly61(b"", key) for key in keys]
+    for block, states in reversed(list(zip(blocks, parts))):
+        behind = whole - block.start - block.size
+        joined = [hashers.poly61_combine(key, state, hash_behind, behind) for key, state, hash_behind in zip(keys, states, joined)]
+    return "".join(f"{number:016x}" for number in joined)
+
+
+def keys_of(path):
+    """The two keys of a file of 16 bytes."""
+    with open(path, "rb") as file:
+        return struct.unpack("<2Q", file.read(17))
+
+
+def hash_by(client, path, call, keys):
+    """What is printed for a file."""
+    return keyed_hash_of_file(client, path, keys, call.block) if keys else hash_of_file(client, path, call.hash, call.block)
+
+
 def main():
     call = parsed(__doc__, ("files", {"metavar": "FILE", "nargs": "+"}),
-                  ("--hash", {"choices": NAMES, "default": "sdbm", "help": "a hash that combines (sdbm)"}))
+                  ("--hash", {"choices": NAMES, "default": "sdbm", "help": "a hash that combines (sdbm)"}),
+                  ("--key-file", {"metavar": "FILE", "help": "16 bytes that nobody else knows, for poly61"}))
+    if (call.hash == "poly61") != (call.key_file is not None):
+        sys.exit("hash_of_file.py: poly61 and --key-file go together")
+    try:
+        keys = keys_of(call.key_file) if call.key_file else None
+    except struct.error:
+        sys.exit(f"hash_of_file.py: {call.key_file}: a key file has 16 bytes")
     status = 0
     with cluster(call) as client:
         for path in call.files:
             try:
-                print(f"{hash_of_file(client, path, call.hash, call.block)}  {path}", flush=True)
+                print(f"{hash_by(client, path, call, keys)}  {path}", flush=True)
             except (FileNotFoundError, IsADirectoryError, PermissionError) as error:
                 print(f"hash_of_file.py: {path}: {error.strerror}", file=sys.stderr)
                 status = 1
