@@ -50,7 +50,8 @@ module _ (eol : ℕ) (seen : List (List ℕ)) (line : List ℕ) where
   pub seen_more : (seen' : List (List ℕ)) → seen' ≡ with_text seen (strip_last eol line) → (ls : List (List ℕ)) → AreSeen eol ls seen
       → AreSeen eol (ls ++ line ∷ []) seen'
   seen_more seen' is ls before = λ other.
-      ap (λ texts. has texts other) is ∙ has_with seen (strip_last eol line) other ∙ ap (λ b. bytes_eq other (strip_last eol line) || b) (before other)
+      ap (λ texts. has texts other) is ∙ has_with seen (strip_last eol line) other
+      ∙ ap (λ b. bytes_eq other (strip_last eol line) || b) (before other)
       ∙ or_last (bytes_eq other (strip_last eol line)) (list_any (λ l. bytes_eq other (strip_last eol l)) ls)
       ∙ sym (list_any-append (λ l. bytes_eq other (strip_last eol l)) ls (line ∷ []))
     where

@@ -108,7 +108,8 @@ impl Ahead {
     pub fn next<T: LineTask>(&mut self, task: &T, rest: &[u8], eol: u8) -> Option<Found>
         requires { AreNext eol (T.tag_of task.now) rest.now self.old }
         ensures found { IfSome result (IsFound eol (T.tag_of task.now) rest.now) }
-        ensures next { IfSome result (λ found. AreNext eol (T.tag_of task.now) (drop (found.len + 1) rest.now) self.new) }
+        ensures next { IfSome result (λ found. AreNext eol (T.tag_of task.now) (drop (found.len + 1) rest.now)
+            self.new) }
         ensures none { IfNone result (IsBare eol rest.now) }
     {
         if let Some(found) = self.pop() {

@@ -25,8 +25,8 @@ pub trait LineTask {
     fn guess(&self, text: &[u8]) -> Guess
         ensures { result.tag ≡ tag_of self.now text.now };
 
-    /// Takes a line, which has its end or is the last, and writes what is due, by its text and a guess for that. After a fault
-    /// a beginning of what was due was written.
+    /// Takes a line, which has its end or is the last, and writes what is due, by its text and a guess for that. After a
+    /// fault a beginning of what was due was written.
     fn take_line<W: Write>(
         &mut self,
         line: &[u8],

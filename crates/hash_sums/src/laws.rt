@@ -89,11 +89,12 @@ pub fn a_changed_word_never_passes<R: Read, F: Folder<R>>()
     one_changed_word_shows_fx();
 }
 
-/// Of lists that all pass, each was opened and read to its end, and none of their lines fails: of each that tells a hash, the file was
-/// opened and the text that was read of it has this hash, or it is not there and such files are left out. Of at least one line of each
-/// list, the file has the hash.
+/// Of lists that all pass, each was opened and read to its end, and none of their lines fails: of each that tells a hash, the
+/// file was opened and the text that was read of it has this hash, or it is not there and such files are left out. Of at least
+/// one line of each list, the file has the hash.
 pub fn lists_that_pass<R: Read, F: Folder<R>>()
     ensures { (folder : F) (kinds : List LineKind) (checking : Checking) (lists : List (List ℕ))
-        (written written' : Option (List ℕ)) → EndsLists kinds checking (F.opens folder) lists written written' (Ok true)
+        (written written' : Option (List ℕ))
+        → EndsLists kinds checking (F.opens folder) lists written written' (Ok true)
         → All (HasPassed kinds checking (F.opens folder)) lists }
 {}

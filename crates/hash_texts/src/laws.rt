@@ -36,7 +36,8 @@ pub fn more_lines_add_behind()
 
 /// The texts of the lines, each once, are those of a set that takes in the texts of all lines, in its order.
 pub fn lines_once_are_a_set()
-    ensures { (eol : ℕ) (text : List ℕ) → line_texts eol (each_once_by eol text) ≡ fold with_text [] (line_texts eol text) }
+    ensures { (eol : ℕ) (text : List ℕ) → line_texts eol (each_once_by eol text)
+        ≡ fold with_text [] (line_texts eol text) }
 {}
 
 /// Once a text is taken in, the set has this text and those that it had before.

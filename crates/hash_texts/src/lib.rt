@@ -1,4 +1,5 @@
-//! A set of byte texts, each with its place: that of the first text is 0, that of the next 1, and so on. And the lines of a text.
+//! A set of byte texts, each with its place: that of the first text is 0, that of the next 1, and so on. And the lines of
+//! a text.
 //!
 //! The set is an index as well: the place of a text is where a caller's own list has what belongs to it, as a count.
 #![tactic(auto)]

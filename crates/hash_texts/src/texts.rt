@@ -175,12 +175,13 @@ impl<S: BuildHasher + Drop> Texts<S> {
         }
     }
 
-    /// Where the text may stand: at the place that the first slot of its search names, where that has the text's tag, and else at no
-    /// text's. So the text that stands there has 32 bits of its hash in common with this one, and is mostly the same. It waits for
-    /// the table alone, so that a caller may guess for several texts before it sees the first by `see_at`.
+    /// Where the text may stand: at the place that the first slot of its search names, if that has the text's tag, and else
+    /// at no text's. So the text that stands there has 32 bits of its hash in common with this one, and is mostly the same. It
+    /// waits for the table alone, so that a caller may guess for several texts before it sees the first by `see_at`.
     #[inline(always)]
     pub fn guess(&self, text: &[u8]) -> Guess
-        ensures { IsGuess (tag_under S.Hasher.write S.Hasher.finish (S.build_hasher self.now.hasher)) self.now.texts text.now result }
+        ensures { IsGuess (tag_under S.Hasher.write S.Hasher.finish (S.build_hasher self.now.hasher))
+            self.now.texts text.now result }
     {
         let tag = tag_of(&self.hasher, text);
         if self.slots.is_empty() {
@@ -198,18 +199,19 @@ impl<S: BuildHasher + Drop> Texts<S> {
         Guess { tag, place }
     }
 
-    /// Whether the texts are so many that a processor waits for most of them. Then it pays to guess for some texts before the first of
-    /// them is seen, so that the waits overlap. No answer depends on it.
+    /// Whether the texts are so many that a processor waits for most of them. Then it pays to guess for some texts before the
+    /// first of them is seen, so that the waits overlap. No result depends on it.
     #[inline(always)]
     pub fn waits_for_memory(&self) -> bool {
         self.texts.size() >= AT_HAND
     }
 
-    /// Does what `see` does, by a guess for this text, however long ago it was made: it has the tag, so the text is not hashed. Where
-    /// the text stands at the place, this is faster still.
+    /// Does what `see` does, by a guess for this text, however long ago it was made: it has the tag, so the text is not hashed.
+    /// If the text stands at the place, this is faster still.
     #[inline(always)]
     pub fn see_at(&mut self, text: &[u8], guess: Guess) -> Result<Seen, Full>
-        requires { guess.tag ≡ tag_under S.Hasher.write S.Hasher.finish (S.build_hasher self.old.hasher) text.now }
+        requires { guess.tag ≡ tag_under S.Hasher.write S.Hasher.finish (S.build_hasher self.old.hasher)
+            text.now }
         ensures new { IfOk result (λ seen. seen.is_new ≡ not (has self.old.texts text.now)) }
         ensures texts { OnOk result (self.new.texts ≡ with_text self.old.texts text.now) }
         ensures place { IfOk result (λ seen. StandsAt self.new.texts text.now seen.place) }

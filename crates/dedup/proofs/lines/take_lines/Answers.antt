@@ -56,7 +56,8 @@ loop-count-preserved g c =
           (g.W.Write.contents c.args.w.now) (g.W.Write.contents c.take_line.new.w)) (sym more)
           (leads_both (g.T.LineTask.output c.args.eol) _ _ _ _ _ _ _ _ leads c.in_ok-take_line-in-Some.ensures.ok),
       subst (λ tag_of. AreNext c.args.eol tag_of later c.next.new.self) (sym c.in_ok-take_line-in-Some.ensures.tag_of)
-          (subst (λ l. AreNext c.args.eol (g.T.LineTask.tag_of c.loop-count.task) l c.next.new.self) (sym c.split_at.ensures.back) c.in-Some.ensures.next),
+          (subst (λ l. AreNext c.args.eol (g.T.LineTask.tag_of c.loop-count.task) l c.next.new.self) (sym c.split_at.ensures.back)
+          c.in-Some.ensures.next),
     )
 
 pub returns-in_err-take_line-in-Some-clause-broke : goal.returns-in_err-take_line-in-Some-clause-broke

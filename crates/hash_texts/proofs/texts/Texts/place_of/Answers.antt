@@ -17,4 +17,5 @@ returns-then-is_taken-clause-there g c =
 pub returns-else-is_taken-clause-absent : goal.returns-else-is_taken-clause-absent
 returns-else-is_taken-clause-absent g c =
     let s = searched c.args.text.now c.in-Some.at c.self.invariant.1 c.deref.ensures.value c.tag_of-tag.ensures c.in-Some.ensures in
-    ap (λ texts. has texts c.args.text.now) (sym (ap (λ set. set.texts) c.self.view_is)) ∙ seen_not s c.index-found.ensures c.if-is_taken.ensures
+    ap (λ texts. has texts c.args.text.now) (sym (ap (λ set. set.texts) c.self.view_is))
+    ∙ seen_not s c.index-found.ensures c.if-is_taken.ensures

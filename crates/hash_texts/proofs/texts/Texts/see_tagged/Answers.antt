@@ -15,57 +15,72 @@ unreachable-requires g c =
 
 pub returns-then-is_taken-clause-new : goal.returns-then-is_taken-clause-new
 returns-then-is_taken-clause-new g c =
+    let tagged = tag_is
+    (λ hasher. tag_under g.S.Hasher.Hasher.write g.S.Hasher.Hasher.finish (g.S.BuildHasher.build_hasher hasher) c.args.text.now)
+    c.self.view_is c.requires in
     let s = searched c.args.text.now c.in-Some.at
-    (table_kept _ _ _ _ _ _ c.self.invariant.1 c.in_ok-make_room.ensures.refilled) c.deref.ensures.value (tag_is (λ hasher. tag_under g.S.Hasher.Hasher.write g.S.Hasher.Hasher.finish (g.S.BuildHasher.build_hasher hasher)
-    c.args.text.now) c.self.view_is c.requires)
+    (table_kept _ _ _ _ _ _ c.self.invariant.1 c.in_ok-make_room.ensures.refilled) c.deref.ensures.value tagged
     c.in-Some.ensures in
-    sym (ap not (ap (λ texts. has texts c.args.text.now) (sym (ap (λ set. set.texts) c.self.view_is)) ∙ seen_found s c.index-found.ensures c.if-is_taken.ensures))
+    sym (ap not (ap (λ texts. has texts c.args.text.now) (sym (ap (λ set. set.texts) c.self.view_is))
+    ∙ seen_found s c.index-found.ensures c.if-is_taken.ensures))
 
 pub returns-then-is_taken-clause-texts : goal.returns-then-is_taken-clause-texts
 returns-then-is_taken-clause-texts g c =
+    let tagged = tag_is
+    (λ hasher. tag_under g.S.Hasher.Hasher.write g.S.Hasher.Hasher.finish (g.S.BuildHasher.build_hasher hasher) c.args.text.now)
+    c.self.view_is c.requires in
     let s = searched c.args.text.now c.in-Some.at
-    (table_kept _ _ _ _ _ _ c.self.invariant.1 c.in_ok-make_room.ensures.refilled) c.deref.ensures.value (tag_is (λ hasher. tag_under g.S.Hasher.Hasher.write g.S.Hasher.Hasher.finish (g.S.BuildHasher.build_hasher hasher)
-    c.args.text.now) c.self.view_is c.requires)
+    (table_kept _ _ _ _ _ _ c.self.invariant.1 c.in_ok-make_room.ensures.refilled) c.deref.ensures.value tagged
     c.in-Some.ensures in
     (ap (λ set. set.texts) c.self.view_is) ∙ sym (with_old c.args.self.now.texts c.args.text.now
-    (ap (λ texts. has texts c.args.text.now) (sym (ap (λ set. set.texts) c.self.view_is)) ∙ seen_found s c.index-found.ensures c.if-is_taken.ensures))
+    (ap (λ texts. has texts c.args.text.now) (sym (ap (λ set. set.texts) c.self.view_is))
+    ∙ seen_found s c.index-found.ensures c.if-is_taken.ensures))
 
 pub returns-then-is_taken-clause-place : goal.returns-then-is_taken-clause-place
 returns-then-is_taken-clause-place g c =
+    let tagged = tag_is
+    (λ hasher. tag_under g.S.Hasher.Hasher.write g.S.Hasher.Hasher.finish (g.S.BuildHasher.build_hasher hasher) c.args.text.now)
+    c.self.view_is c.requires in
     let s = searched c.args.text.now c.in-Some.at
-    (table_kept _ _ _ _ _ _ c.self.invariant.1 c.in_ok-make_room.ensures.refilled) c.deref.ensures.value (tag_is (λ hasher. tag_under g.S.Hasher.Hasher.write g.S.Hasher.Hasher.finish (g.S.BuildHasher.build_hasher hasher)
-    c.args.text.now) c.self.view_is c.requires)
+    (table_kept _ _ _ _ _ _ c.self.invariant.1 c.in_ok-make_room.ensures.refilled) c.deref.ensures.value tagged
     c.in-Some.ensures in
     seen_at s c.index-found.ensures c.if-is_taken.ensures
 
 pub invariant_of-self-2 : goal.invariant_of-self-2
 invariant_of-self-2 g c =
+    let tagged = tag_is
+    (λ hasher. tag_under g.S.Hasher.Hasher.write g.S.Hasher.Hasher.finish (g.S.BuildHasher.build_hasher hasher) c.args.text.now)
+    c.self.view_is c.requires in
     let s = searched c.args.text.now c.in-Some.at
-    (table_kept _ _ _ _ _ _ c.self.invariant.1 c.in_ok-make_room.ensures.refilled) c.deref.ensures.value (tag_is (λ hasher. tag_under g.S.Hasher.Hasher.write g.S.Hasher.Hasher.finish (g.S.BuildHasher.build_hasher hasher)
-    c.args.text.now) c.self.view_is c.requires)
+    (table_kept _ _ _ _ _ _ c.self.invariant.1 c.in_ok-make_room.ensures.refilled) c.deref.ensures.value tagged
     c.in-Some.ensures in
-    let made = slot_made _ _ _ _ _ c.in_ok-slot.ensures.slot (tag_is (λ hasher. tag_under g.S.Hasher.Hasher.write g.S.Hasher.Hasher.finish (g.S.BuildHasher.build_hasher hasher)
-    c.args.text.now) c.self.view_is c.requires) c.len-place.ensures.value c.in_ok-slot.ensures.below in
+    let made = slot_made _ _ _ _ _ c.in_ok-slot.ensures.slot tagged c.len-place.ensures.value c.in_ok-slot.ensures.below in
     set_made c.self.inside.texts c.args.text.now c.in_ok-push.ensures.ok c.self.invariant.0
     (seen_not s c.index-found.ensures c.if-is_taken.ensures) (table_more s c.index-found.ensures c.if-is_taken.ensures made)
 
 pub returns-clause-new : goal.returns-clause-new
 returns-clause-new g c =
+    let tagged = tag_is
+    (λ hasher. tag_under g.S.Hasher.Hasher.write g.S.Hasher.Hasher.finish (g.S.BuildHasher.build_hasher hasher) c.args.text.now)
+    c.self.view_is c.requires in
     let s = searched c.args.text.now c.in-Some.at
-    (table_kept _ _ _ _ _ _ c.self.invariant.1 c.in_ok-make_room.ensures.refilled) c.deref.ensures.value (tag_is (λ hasher. tag_under g.S.Hasher.Hasher.write g.S.Hasher.Hasher.finish (g.S.BuildHasher.build_hasher hasher)
-    c.args.text.now) c.self.view_is c.requires)
+    (table_kept _ _ _ _ _ _ c.self.invariant.1 c.in_ok-make_room.ensures.refilled) c.deref.ensures.value tagged
     c.in-Some.ensures in
-    sym (ap not (ap (λ texts. has texts c.args.text.now) (sym (ap (λ set. set.texts) c.self.view_is)) ∙ seen_not s c.index-found.ensures c.if-is_taken.ensures))
+    sym (ap not (ap (λ texts. has texts c.args.text.now) (sym (ap (λ set. set.texts) c.self.view_is))
+    ∙ seen_not s c.index-found.ensures c.if-is_taken.ensures))
 
 pub returns-clause-texts : goal.returns-clause-texts
 returns-clause-texts g c =
+    let tagged = tag_is
+    (λ hasher. tag_under g.S.Hasher.Hasher.write g.S.Hasher.Hasher.finish (g.S.BuildHasher.build_hasher hasher) c.args.text.now)
+    c.self.view_is c.requires in
     let s = searched c.args.text.now c.in-Some.at
-    (table_kept _ _ _ _ _ _ c.self.invariant.1 c.in_ok-make_room.ensures.refilled) c.deref.ensures.value (tag_is (λ hasher. tag_under g.S.Hasher.Hasher.write g.S.Hasher.Hasher.finish (g.S.BuildHasher.build_hasher hasher)
-    c.args.text.now) c.self.view_is c.requires)
+    (table_kept _ _ _ _ _ _ c.self.invariant.1 c.in_ok-make_room.ensures.refilled) c.deref.ensures.value tagged
     c.in-Some.ensures in
     c.in_ok-push.ensures.ok ∙ ap (λ texts. texts ++ c.args.text.now ∷ []) (ap (λ set. set.texts) c.self.view_is)
     ∙ sym (with_new c.args.self.now.texts c.args.text.now
-    (ap (λ texts. has texts c.args.text.now) (sym (ap (λ set. set.texts) c.self.view_is)) ∙ seen_not s c.index-found.ensures c.if-is_taken.ensures))
+    (ap (λ texts. has texts c.args.text.now) (sym (ap (λ set. set.texts) c.self.view_is))
+    ∙ seen_not s c.index-found.ensures c.if-is_taken.ensures))
 
 pub returns-clause-place : goal.returns-clause-place
 returns-clause-place g c =
