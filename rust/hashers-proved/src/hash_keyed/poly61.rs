@@ -178,6 +178,12 @@ impl Hasher for Poly61Hasher {
         self.word = few(last);
         self.count = last.len() as u32;
     }
+
+    /// Takes a byte in, as a string does behind its own.
+    #[inline(always)]
+    fn write_u8(&mut self, byte: u8) {
+        self.byte_in(byte);
+    }
 }
 
 impl Piecewise for Poly61Hasher {
