@@ -13,7 +13,7 @@ use crate::task::LineTask;
 use hash_program::streams::{TRIES, put};
 use std::io::Write;
 
-/// Writes a line, and its end behind it where it has none but its text. After a fault a beginning of that was written.
+/// Writes a line of this text, and its end behind it if it has none. After a fault a beginning of that was written.
 pub fn put_line<W: Write>(w: &mut W, line: &[u8], text: &[u8], eol: u8) -> Result<(), Fault>
     requires { text.now ≡ strip_last eol line.now }
     ensures ok { OnOk result (Appends (W.contents w.old) (W.contents w.new) (as_line_by eol line.now)) }
