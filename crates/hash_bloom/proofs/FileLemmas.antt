@@ -1,14 +1,17 @@
 -- A filter's file, piece by piece.
-use Rattle.std.proofs.Common.{◌≡◌, ℕ, suc, ◌+◌, ◌*◌, ◌<◌, ◌^◌, ◌≤◌, List, [], ◌∷◌, ◌++◌, length, take, drop, get_or, Option, Some, None, refl, sym, ap, ◌∙◌, subst, append_assoc, arith, codes}
+use Rattle.std.proofs.Common.{◌≡◌, ℕ, suc, ◌+◌, ◌*◌, ◌<◌, ◌^◌, ◌≤◌, List, [], ◌∷◌, ◌++◌, length, take, drop, get_or, Option, Some, None, Result, Ok, Err, OnErr, refl, sym, ap, ◌∙◌, subst, append_assoc, arith, codes, take-append-drop}
 use Rattle.std.specs.Io.KnownBytes.{Appends, Consumes}
 use Rattle.std.proofs.KnownBytes.{Appends-trans, Consumes-trans}
 use Rattle.std.proofs.Math.Seq.{take-append_seam}
+use Rattle.std.proofs.lemmas.Grind.{flat_map-append}
 use Rattle.std.proofs.lemmas.List.{append_cancel_left, append_cancel_right, flat_map_more, length-append, take_all, take_more}
 use Rattle.std.proofs.lemmas.Nat.{from_le_bytes-to_le_bytes_8}
 use mir.Syntax.{w64}
 use Rattle.std.specs.Int.{from_le_bytes, to_le_bytes}
 use Rattle.hashers.proofs.RecurrenceLemmas.{recurrence-append}
 use Rattle.hashers.specs.Fnv.{fnv1a64_basis, fnv1a64_from, fnv1a64_step}
+use Rattle.hash_program.specs.Streams.{AppendsPart}
+use Rattle.hash_program.proofs.StreamLemmas.{part_behind, part_longer}
 use Rattle.hash_lines.specs.Hex.{hex, hex_value}
 use Rattle.hash_lines.proofs.HexLemmas.{hex_value-hex, length-hex}
 use Rattle.hash_bloom.specs.File.{IsStored, bytes_of, field, file_of, header, seal, sealed, title}
@@ -134,6 +137,40 @@ pub file_written : (a b c : Option (List ℕ)) (line words : List ℕ) (i : ℕ)
 unfolding sealed
 file_written a b c line words i all before now =
     Appends-trans a b c (line ++ bytes_of words) (seal (line ++ bytes_of words))
+    (subst (λ ws. Appends a b (line ++ bytes_of ws)) (take_all i words all) before) now
+
+-- what holds at an error, of a result that is one
+pub on_err : {A E : Type 0} (P : Type 0) (result : Result A E) → P → OnErr result P
+on_err P (Ok it) holds = tt
+on_err P (Err error) holds = holds
+
+-- a beginning of the whole: of the line, up to a word, and up to the hash
+pub line_begun : (a b : Option (List ℕ)) (line words : List ℕ) → AppendsPart a b line → AppendsPart a b (sealed (line ++ bytes_of words))
+unfolding sealed
+line_begun a b line words =
+    part_longer a b line (bytes_of words ++ seal (line ++ bytes_of words)) _ (sym (append_assoc line (bytes_of words) _))
+
+pub word_begun : (a b c : Option (List ℕ)) (line words : List ℕ) (i : ℕ) → i < length words
+    → Appends a b (line ++ bytes_of (take i words))
+    → AppendsPart b c (to_le_bytes w64 (get_or words i 0)) → AppendsPart a c (sealed (line ++ bytes_of words))
+unfolding sealed
+word_begun a b c line words i below before now =
+    let rest = bytes_of (drop (i + 1) words) in
+    let all : bytes_of (take (i + 1) words) ++ rest ≡ bytes_of words =
+    sym (flat_map-append (to_le_bytes w64) (take (i + 1) words) (drop (i + 1) words)) ∙ ap bytes_of (take-append-drop (i + 1) words) in
+    let hash = seal (line ++ bytes_of words) in
+    part_longer a c (line ++ bytes_of (take (i + 1) words)) (rest ++ hash) (sealed (line ++ bytes_of words))
+    (sym (append_assoc (line ++ bytes_of (take (i + 1) words)) rest hash)
+    ∙ ap (λ t. t ++ hash) (append_assoc line (bytes_of (take (i + 1) words)) rest ∙ ap (λ t. line ++ t) all))
+    (subst (AppendsPart a c) (bytes_more line words i below)
+    (part_behind a b c (line ++ bytes_of (take i words)) (to_le_bytes w64 (get_or words i 0)) before now))
+
+pub hash_begun : (a b c : Option (List ℕ)) (line words : List ℕ) (i : ℕ) → length words ≤ i
+    → Appends a b (line ++ bytes_of (take i words))
+    → AppendsPart b c (seal (line ++ bytes_of words)) → AppendsPart a c (sealed (line ++ bytes_of words))
+unfolding sealed
+hash_begun a b c line words i all before now =
+    part_behind a b c (line ++ bytes_of words) (seal (line ++ bytes_of words))
     (subst (λ ws. Appends a b (line ++ bytes_of ws)) (take_all i words all) before) now
 
 -- the header, the words and the hash were read

@@ -3,9 +3,10 @@
 //! First stands the line `hashers-bloom 1 BITS PROBES PAIR`: the form's version, the numbers in 16 and in 8 hexadecimal digits, and the
 //! names of the two hashers as the caller gives them. Then come the words, each in 8 bytes with the lowest first, and at the end FNV-1a at
 //! 64 bits of all before, in 8 bytes like a word.
-ghost use Rattle.std.specs.Prelude.{◌≡◌, ◌<◌, ◌≤◌, ◌^◌, ◌++◌, ℕ, List, IfOk, IfErr, OnOk, Some, length, slice_index};
+ghost use Rattle.std.specs.Prelude.{◌≡◌, ◌<◌, ◌≤◌, ◌^◌, ◌++◌, ℕ, List, IfOk, IfErr, OnErr, OnOk, Some, length, slice_index};
 ghost use Rattle.std.specs.Int.{to_le_bytes};
 ghost use Rattle.std.specs.Io.KnownBytes.{Appends, Consumes};
+ghost use Rattle.hash_program.specs.Streams.{AppendsPart};
 ghost use Rattle.hash_bloom.specs.File.{BeginsNot, IsRefusal, IsStored, bytes_of, field, file_of, header, seal, sealed};
 ghost use Rattle.hash_bloom.specs.Filter.{Filter, filter_of};
 ghost use mir.Syntax.{w64};
@@ -15,13 +16,15 @@ mod tests;
 
 use crate::{Bloom, NoFilter};
 use hash_lines::hex::{MOST_DIGITS, hex_number, push_hex, put_hex};
+use hash_program::fault::Fault;
+use hash_program::streams::{TRIES, put};
 use hashers::fnv::FNV1aHasher64;
 use hashers::laws::Piecewise;
 use std::alloc::Global;
 use std::error::Error as StdError;
 use std::fmt::{Display, Formatter};
 use std::hash::Hasher;
-use std::io::{Error, Read, Write};
+use std::io::{Error, ErrorKind, Read, Write};
 use std::{fmt, io};
 
 /// What the file begins with: whose it is, and its form's version.
@@ -163,16 +166,30 @@ fn read_words<R: Read>(alloc: Global, r: &mut R, count: u64) -> io::Result<Vec<u
     Ok(words)
 }
 
-/// Writes the first line, the words, and their hash.
+/// Writes all of the bytes. After a fault a beginning of them was written.
+fn write_bytes<W: Write>(w: &mut W, bytes: &[u8]) -> io::Result<()>
+    ensures ok { OnOk result (Appends (W.contents w.old) (W.contents w.new) bytes.now) }
+    ensures err { OnErr result (AppendsPart (W.contents w.old) (W.contents w.new) bytes.now) }
+{
+    match put::<W, ()>(w, bytes, TRIES) {
+        Ok(()) => Ok(()),
+        Err(Fault::Unwritten(Some(error))) => Err(error),
+        Err(_) => Err(Error::from(ErrorKind::WriteZero)),
+    }
+}
+
+/// Writes the first line, the words, and their hash. After a fault a beginning of these was written.
 fn write_sealed<W: Write>(w: &mut W, line: &[u8], words: &[u64]) -> io::Result<()>
     ensures ok { OnOk result (Appends (W.contents w.old) (W.contents w.new) (sealed (line.now ++ bytes_of words.now))) }
+    ensures err { OnErr result (AppendsPart (W.contents w.old) (W.contents w.new)
+        (sealed (line.now ++ bytes_of words.now))) }
     ensures words { (i : ℕ) → slice_index words.now i < 2 ^ 64 }
 {
-    w.write_all(line)?;
+    write_bytes(w, line)?;
     for word in words {
-        w.write_all(&word.to_le_bytes())?;
+        write_bytes(w, &word.to_le_bytes())?;
     }
-    w.write_all(&seal(line, words))
+    write_bytes(w, &seal(line, words))
 }
 
 /// What a file tells of a filter.
@@ -207,10 +224,11 @@ fn read_sealed<R: Read>(alloc: Global, r: &mut R, pair: &[u8]) -> Result<Stored,
 
 impl<F: Piecewise, G: Piecewise> Bloom<F, G> {
     /// Writes the filter's file, with the names of its two hashers as they are to be asked for when it is read. The first line, each
-    /// word and the hash are written one by one: give it a `BufWriter`, and flush that. After a fault a beginning of the file may be
+    /// word and the hash are written one by one: give it a `BufWriter`, and flush that. After a fault a beginning of the file is
     /// written.
     pub fn write_to<W: Write>(&self, w: &mut W, pair: &str) -> io::Result<()>
         ensures ok { OnOk result (Appends (W.contents w.old) (W.contents w.new) (file_of pair.now self.now)) }
+        ensures err { OnErr result (AppendsPart (W.contents w.old) (W.contents w.new) (file_of pair.now self.now)) }
         ensures stored { OnOk result (IsStored self.now) }
     {
         let alloc = *self.words.allocator();

@@ -9,20 +9,8 @@ use Rattle.std.proofs.Math.Seq.{take-suc}
 use Rattle.std.proofs.lemmas.List.Elements.{All-nil, All-push}
 use Rattle.std.proofs.lemmas.List.Folds.{list_all-append}
 use Rattle.hash_program.specs.Streams.{AppendsPart}
+use Rattle.hash_program.proofs.StreamLemmas.{part_behind, part_none, part_whole}
 use Rattle.hash_sums.specs.Told.{AreTold, AreTornOff}
-
--- a beginning of some bytes, behind others
-pub part_behind : (a b c : Option (List ℕ)) (xs ys : List ℕ) → Appends a b xs → AppendsPart b c ys → AppendsPart a c (xs ++ ys)
-part_behind a b c xs ys first (part, rest, is, second) =
-    (xs ++ part, rest, append_assoc xs part rest ∙ ap (λ t. xs ++ t) is, Appends-trans a b c xs part first second)
-
--- all of them
-pub part_whole : (a b : Option (List ℕ)) (xs : List ℕ) → Appends a b xs → AppendsPart a b xs
-part_whole a b xs all = (xs, [], append-nil xs, all)
-
--- nothing of them
-pub part_none : (a : Option (List ℕ)) (xs : List ℕ) → AppendsPart a a xs
-part_none a xs = ([], xs, refl, Appends-nil a)
 
 -- one more of the names
 pub names_more : {Y : Type 0} (now : Y → List ℕ) (xs : List Y) (i : ℕ) (d : Y) → i < length xs

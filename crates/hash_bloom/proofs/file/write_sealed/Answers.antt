@@ -1,21 +1,40 @@
 use Rattle.std.proofs.Common.{subst, sym, append-nil}
 use Rattle.std.specs.Io.KnownBytes.{Appends}
-use Rattle.std.proofs.lemmas.Result.{on_ok_weaker}
-use Rattle.hash_bloom.proofs.FileLemmas.{file_written, word_written}
+use Rattle.hash_program.specs.Streams.{AppendsPart}
+use Rattle.std.proofs.lemmas.Result.{on_ok_weaker, on_err_weaker}
+use Rattle.hash_bloom.proofs.FileLemmas.{file_written, hash_begun, line_begun, on_err, word_begun, word_written}
 use Rattle.hash_bloom.proofs.file.write_sealed.Goals as goal
 
 pub loop-word-init : goal.loop-word-init
-loop-word-init g c = subst (Appends (g.W.Write.contents c.args.w.now) (g.W.Write.contents c.write_all.new.self))
-    (sym (append-nil c.args.line.now)) c.in_ok-write_all.ensures.bytes
+loop-word-init g c = subst (Appends (g.W.Write.contents c.args.w.now) (g.W.Write.contents c.write_bytes.new.w))
+    (sym (append-nil c.args.line.now)) c.in_ok-write_bytes.ensures.ok
 
 pub loop-word-preserved : goal.loop-word-preserved
 loop-word-preserved g c =
     word_written _ _ _ c.args.line.now c.args.words.now c.loop-word.word-index c.loop-word-test.true c.loop-word.invariant
-    (subst (Appends (g.W.Write.contents c.loop-word.w) (g.W.Write.contents c.write_all-in-loop-word.new.self)) c.to_le_bytes.ensures
-    c.in_ok-write_all-2.ensures.bytes)
+    (subst (Appends (g.W.Write.contents c.loop-word.w) (g.W.Write.contents c.write_bytes-in-loop-word.new.w)) c.to_le_bytes.ensures
+    c.in_ok-write_bytes-2.ensures.ok)
 
 pub returns-clause-ok : goal.returns-clause-ok
-returns-clause-ok g c = on_ok_weaker c.write_all-2.result (λ wrote.
+returns-clause-ok g c = on_ok_weaker c.write_bytes-2.result (λ wrote.
     file_written _ _ _ c.args.line.now c.args.words.now c.loop-word.word-index c.loop-word-test.false c.loop-word.invariant
-    (subst (Appends (g.W.Write.contents c.loop-word.w) (g.W.Write.contents c.write_all-2.new.self)) c.seal.ensures.value wrote))
-    c.write_all-2.ensures.bytes
+    (subst (Appends (g.W.Write.contents c.loop-word.w) (g.W.Write.contents c.write_bytes-2.new.w)) c.seal.ensures.value wrote))
+    c.write_bytes-2.ensures.ok
+
+-- after a fault: in the line, in a word, in the hash
+pub returns-in_err-write_bytes-clause-err : goal.returns-in_err-write_bytes-clause-err
+returns-in_err-write_bytes-clause-err g c =
+    on_err _ c.from_residual.result (line_begun _ _ c.args.line.now c.args.words.now c.in_err-write_bytes.ensures.err)
+
+pub returns-in_err-write_bytes-2-clause-err : goal.returns-in_err-write_bytes-2-clause-err
+returns-in_err-write_bytes-2-clause-err g c =
+    on_err _ c.from_residual-in_err-write_bytes-2.result
+    (word_begun _ _ _ c.args.line.now c.args.words.now c.loop-word.word-index c.loop-word-test.true c.loop-word.invariant
+    (subst (AppendsPart (g.W.Write.contents c.loop-word.w) (g.W.Write.contents c.write_bytes-in-loop-word.new.w)) c.to_le_bytes.ensures
+    c.in_err-write_bytes-2.ensures.err))
+
+pub returns-clause-err : goal.returns-clause-err
+returns-clause-err g c = on_err_weaker c.write_bytes-2.result (λ begun.
+    hash_begun _ _ _ c.args.line.now c.args.words.now c.loop-word.word-index c.loop-word-test.false c.loop-word.invariant
+    (subst (AppendsPart (g.W.Write.contents c.loop-word.w) (g.W.Write.contents c.write_bytes-2.new.w)) c.seal.ensures.value begun))
+    c.write_bytes-2.ensures.err

@@ -3,7 +3,7 @@ use Rattle.std.specs.Io.Buffered.{writer_contents}
 use Rattle.std.specs.Io.KnownBytes.{Appends}
 use Rattle.hash_program.specs.Streams.{AppendsPart, PutsOut}
 use Rattle.hash_program.specs.declared.fault.Fault.{Fault}
-use Rattle.hash_sums.proofs.ToldLemmas.{part_none}
+use Rattle.hash_program.proofs.StreamLemmas.{part_none}
 use Rattle.hash_sums.proofs.sum.tell_sum.Goals as goal
 
 -- what stands after a text is put out, by its two cases
