@@ -21,3 +21,13 @@ pub fn a_line_tells_one_thing()
         → Tells kinds default kind name number line → Tells kinds default other more count line
         → (kind ≡ other) × (name ≡ more) × (number ≡ count) }
 {}
+
+/// A line that is written of a file's hash tells this and nothing else, so `parse_line` reads from it what `push_line` wrote: where the
+/// kinds' names are tags, and the number has as many digits as its kind.
+pub fn what_is_written_is_read()
+    ensures { (kinds : List Kind) (default kind : Kind) (form : Form) → AreTags kinds default → MayBeTold kinds default form kind
+        → (escapes : Bool) (name : List ℕ) (number : ℕ) → number < 16 ^ digits_of kind.width
+        → (other : Kind) (more : List ℕ) (count : ℕ)
+        → Tells kinds default other more count (line_of form escapes kind.name.now kind.width name number)
+        → (kind ≡ other) × (name ≡ more) × (number ≡ count) }
+{}
