@@ -3,3 +3,4 @@ pub mod HexLemmas
 pub mod LineLemmas
 pub mod TellsLemmas
 pub mod OneLemmas
+pub mod TagLemmas

@@ -1,6 +1,7 @@
 -- What a line tells.
-use Rattle.std.specs.Prelude.{ℕ, ◌≡◌, ◌≢◌, ◌⊎◌, Bool, true, false, List, ◌∷◌, Contains}
-use Rattle.std.specs.List.{AllByRecursion}
+use Rattle.std.specs.Prelude.{ℕ, ◌≡◌, ◌≢◌, ◌⊎◌, ◌==◌, ◌&&◌, not, Bool, true, false, List, [], ◌∷◌, Contains}
+use Rattle.std.specs.List.{AllByRecursion, list_all, list_any}
+use Rattle.std.specs.Str.{bytes_eq}
 use Rattle.hash_lines.specs.declared.line.Form.{Form}
 use Rattle.hash_lines.specs.declared.line.Form.TheVariants as form
 use Rattle.hash_lines.specs.declared.line.Kind.{Kind}
@@ -41,3 +42,11 @@ IsTag tag = AllByRecursion (λ byte. (byte ≢ 32) × (byte ≢ 92)) tag
 pub record AreTags (kinds : List Kind) (default : Kind) : Type 0 where
   pub each : (kind : Kind) → Contains kinds kind → IsTag kind.name.now
   pub apart : (kind other : Kind) → Contains kinds kind → Contains kinds other → kind.name.now ≡ other.name.now → kind ≡ other
+
+-- the same, seen of their names
+abbrev pub is_tag : List ℕ → Bool
+is_tag name = list_all (λ byte. not (byte == 32) && not (byte == 92)) name
+
+abbrev pub are_tags : (names : List (List ℕ)) → Bool
+are_tags [] = true
+are_tags (name ∷ more) = is_tag name && (not (list_any (bytes_eq name) more) && are_tags more)

@@ -1,7 +1,7 @@
 //! Laws of lines, with no code.
-ghost use Rattle.std.specs.Prelude.{◌≡◌, ◌^◌, ◌<◌, ℕ, Bool, List};
+ghost use Rattle.std.specs.Prelude.{◌≡◌, ◌^◌, ◌<◌, ℕ, Bool, List, map, true};
 ghost use Rattle.hash_lines.specs.Line.{digits_of, line_of};
-ghost use Rattle.hash_lines.specs.Told.{AreTags, MayBeTold, Tells};
+ghost use Rattle.hash_lines.specs.Told.{AreTags, MayBeTold, Tells, are_tags};
 ghost use Rattle.hash_lines.specs.declared.line.Form.{Form};
 ghost use Rattle.hash_lines.specs.declared.line.Kind.{Kind};
 
@@ -30,4 +30,9 @@ pub fn what_is_written_is_read()
         → (other : Kind) (more : List ℕ) (count : ℕ)
         → Tells kinds default other more count (line_of form escapes kind.name.now kind.width name number)
         → (kind ≡ other) × (name ≡ more) × (number ≡ count) }
+{}
+
+/// Kinds have tags, and no two have the same, where that is seen of their names.
+pub fn tags_by_their_names()
+    ensures { (kinds : List Kind) (default : Kind) → are_tags (map (λ kind. kind.name.now) kinds) ≡ true → AreTags kinds default }
 {}

@@ -1,0 +1,89 @@
+-- Kinds whose names are tags.
+use Rattle.std.proofs.Common.{◌≡◌, ◌≢◌, ◌⊎◌, inl, inr, ℕ, ◌==◌, ◌&&◌, ◌||◌, not, Bool, true, false, List, [], ◌∷◌, refl, ap, sym, ◌∙◌, arith, Contains, map, subst}
+use Rattle.std.specs.List.{list_any}
+use Rattle.std.specs.Str.{bytes_eq}
+use Rattle.std.proofs.lemmas.Bool.{and_parts}
+use Rattle.std.proofs.lemmas.Slice.Eq.{bytes_eq-Decides}
+use Rattle.std.proofs.lemmas.List.Elements.{All-contains, All-from_get_or, Contains-append_cases, Contains-push_cases, at_from_Contains}
+use Rattle.std.proofs.lemmas.List.Folds.{list_any_at}
+use Rattle.hash_lines.specs.declared.line.Kind.{Kind}
+use Rattle.hash_lines.specs.Told.{AreTags, IsTag, are_tags, is_tag}
+
+-- a byte that is neither
+apart_from : (byte n : ℕ) → not (byte == n) ≡ true → byte ≢ n
+apart_from byte n differs same = grind (arith, differs, same)
+
+tag_seen : (name : List ℕ) → is_tag name ≡ true → IsTag name
+tag_seen [] seen = tt
+tag_seen (byte ∷ more) seen =
+    let parts = and_parts (not (byte == 32) && not (byte == 92)) (is_tag more) seen in
+    let both = and_parts (not (byte == 32)) (not (byte == 92)) parts.0 in
+    ((apart_from byte 32 both.0, apart_from byte 92 both.1), tag_seen more parts.1)
+
+-- an element that holds is seen
+any_of : {X : Type 0} (p : X → Bool) (xs : List X) (x : X) → Contains xs x → p x ≡ true → list_any p xs ≡ true
+any_of p xs x there holds =
+    All-contains (λ y. p y ≡ true → list_any p xs ≡ true) xs x
+    (All-from_get_or (λ y. p y ≡ true → list_any p xs ≡ true) xs x (λ k below at. list_any_at p xs k x below at)) there holds
+
+any_mapped : {X Y : Type 0} (p : Y → Bool) (f : X → Y) (xs : List X) → list_any p (map f xs) ≡ list_any (λ x. p (f x)) xs
+any_mapped p f [] = refl
+any_mapped p f (x ∷ xs) = ap (λ b. p (f x) || b) (any_mapped p f xs)
+
+none_there : {X : Type 0} (x : X) → Contains [] x → ⊥
+none_there x there = let (k, below, at) = at_from_Contains [] x there in absurd (omega (arith, below))
+
+-- an element is the first one, or one of the others
+first_or_later : {X : Type 0} (first : X) (more : List X) (x : X) → Contains (first ∷ more) x → (first ≡ x) ⊎ Contains more x
+first_or_later first more x there = elim (Contains-append_cases (first ∷ []) more x there) [
+  | inl alone ↦ elim (Contains-push_cases [] first x alone) [
+    | inl none ↦ absurd (none_there x none)
+    | inr is ↦ inl is
+  ]
+  | inr later ↦ inr later
+]
+
+-- the names of kinds
+abbrev names_of : List Kind → List (List ℕ)
+names_of kinds = map (λ (kind : Kind). kind.name.now) kinds
+
+each_tag : (kinds : List Kind) → are_tags (names_of kinds) ≡ true → (kind : Kind) → Contains kinds kind → IsTag kind.name.now
+each_tag [] seen kind there = absurd (none_there kind there)
+each_tag (first ∷ more) seen kind there =
+    let parts = and_parts (is_tag first.name.now) _ seen in
+    let others = and_parts (not (list_any (bytes_eq first.name.now) (names_of more))) (are_tags (names_of more)) parts.1 in
+    elim (first_or_later first more kind there) [
+      | inl is ↦ subst (λ (k : Kind). IsTag k.name.now) is (tag_seen first.name.now parts.0)
+      | inr later ↦ each_tag more others.1 kind later
+    ]
+
+-- the name of the first kind is no other's
+not_later : (first : Kind) (more : List Kind) (kind : Kind)
+    → not (list_any (bytes_eq first.name.now) (names_of more)) ≡ true → Contains more kind
+    → first.name.now ≡ kind.name.now → ⊥
+not_later first more kind none later same =
+    let seen : list_any (bytes_eq first.name.now) (names_of more) ≡ true =
+    any_mapped (bytes_eq first.name.now) (λ (kind : Kind). kind.name.now) more
+    ∙ any_of (λ (other : Kind). bytes_eq first.name.now other.name.now) more kind later
+    ((bytes_eq-Decides first.name.now kind.name.now).1 same) in
+    let clash : false ≡ true = sym (ap not seen) ∙ none in cc
+
+names_apart : (kinds : List Kind) → are_tags (names_of kinds) ≡ true → (kind other : Kind) → Contains kinds kind → Contains kinds other
+    → kind.name.now ≡ other.name.now → kind ≡ other
+names_apart [] seen kind other there too same = absurd (none_there kind there)
+names_apart (first ∷ more) seen kind other there too same =
+    let parts = and_parts (is_tag first.name.now) _ seen in
+    let others = and_parts (not (list_any (bytes_eq first.name.now) (names_of more))) (are_tags (names_of more)) parts.1 in
+    elim (first_or_later first more kind there) [
+      | inl is ↦ elim (first_or_later first more other too) [
+        | inl also ↦ sym is ∙ also
+        | inr later ↦ absurd (not_later first more other others.0 later (ap (λ (k : Kind). k.name.now) is ∙ same))
+      ]
+      | inr later ↦ elim (first_or_later first more other too) [
+        | inl also ↦ absurd (not_later first more kind others.0 later (ap (λ (k : Kind). k.name.now) also ∙ sym same))
+        | inr last ↦ names_apart more others.1 kind other later last same
+      ]
+    ]
+
+pub tags_seen : (kinds : List Kind) (default : Kind) → are_tags (names_of kinds) ≡ true → AreTags kinds default
+tags_seen kinds default seen = record { each = each_tag kinds seen; apart = names_apart kinds seen }
