@@ -7,4 +7,5 @@ collisions_in_order-requires c = IsNonDecreasingBy-from_sort (λ x. x) c.sort_un
 
 pub returns-clause-value : goal.returns-clause-value
 returns-clause-value c =
-    c.collisions_in_order.ensures ∙ c.collisions_in_any_order.ensures c.args.hashes.now c.sort_unstable.new.self c.sort_unstable.ensures.permutation
+    c.collisions_in_order.ensures
+    ∙ c.collisions_in_any_order.ensures c.args.hashes.now c.sort_unstable.new.self c.sort_unstable.ensures.permutation

@@ -7,7 +7,8 @@ use Rattle.spread.proofs.counts.spread_of.Goals as goal
 
 pub squares-requires : goal.squares-requires
 squares-requires c =
-    let all = ap sum (c.deref-3.ensures.value ∙ c.in_ok-counts.ensures) ∙ c.buckets_have_all_hashes.ensures c.args.buckets c.args.hashes.now c.requires in
+    let all = ap sum (c.deref-3.ensures.value ∙ c.in_ok-counts.ensures)
+    ∙ c.buckets_have_all_hashes.ensures c.args.buckets c.args.hashes.now c.requires in
     omega (arith, all)
 
 pub returns : goal.returns
