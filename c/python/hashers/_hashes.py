@@ -28,7 +28,7 @@ class Function(Protocol):
 
 
 _functions: Dict[str, Function] = {}
-_bits: Dict[str, int] = {"spooky128": 128, "poly61": 64}
+_bits: Dict[str, int] = {"spooky128": 128}
 # the hash of no bytes
 _starts: Dict[str, int] = {}
 # how many bytes are taken at a time, where it is not one
@@ -155,7 +155,7 @@ class Hash(ABC):
     @property
     def digest_size(self) -> int:
         """How many bytes the digest has: 4, 8 or 16."""
-        return (_bits[self._name] + 7) // 8
+        return (_bits.get(self._name, 64) + 7) // 8
 
     @property
     def block_size(self) -> int:

@@ -57,13 +57,15 @@ def kind(parameter: str) -> str:
     """A parameter or a ctypes type as a word."""
     pointer = re.search(r"(\w+) \*", parameter)
     if pointer:
-        return "state" if pointer[1] == "hashers_spooky_state" else "pointer"
+        return {"hashers_spooky_state": "state", "hashers_poly61_place": "place"}.get(pointer[1], "pointer")
     return {"size_t": "64", "uint64_t": "64", "uint32_t": "32"}[parameter.split()[0]]
 
 
-KINDS: Dict[Any, str] = {ctypes.c_void_p: "pointer", ctypes.c_uint64: "64", ctypes.c_uint32: "32", ctypes.POINTER(_library.State): "state"}
+KINDS: Dict[Any, str] = {ctypes.c_void_p: "pointer", ctypes.c_uint64: "64", ctypes.c_uint32: "32", ctypes.POINTER(_library.State): "state",
+                        ctypes.POINTER(_library.Place): "place"}
 RESULTS: Dict[str, Any] = {"uint64_t": ctypes.c_uint64, "uint32_t": ctypes.c_uint32, "size_t": ctypes.c_size_t, "bool": ctypes.c_bool,
-                           "hashers_words": _library.Words, "hashers_spooky_state": _library.State, "void": None}
+                           "hashers_words": _library.Words, "hashers_spooky_state": _library.State,
+                           "hashers_poly61_place": _library.Place, "void": None}
 
 
 
