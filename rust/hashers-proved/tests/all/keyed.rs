@@ -1,5 +1,5 @@
 //! The polynomial hash at a key.
-use hashers_proved::keyed::{poly61, poly61_combine, poly61_pair, poly61_state, Poly61Hasher, Poly61Keys, Poly61Pair};
+use hashers_proved::keyed::{poly61, poly61_combine, poly61_pair, poly61_state, Poly61Hasher, Poly61Keys, Poly61Pair, Poly61Place};
 use std::hash::{BuildHasher, Hasher};
 
 const FOX: &[u8] = b"The quick brown fox jumps over the lazy dog";
@@ -28,6 +28,19 @@ fn copies_go_on_by_themselves() {
     pair.write(&FOX[9..]);
     assert_eq!((hasher.finish(), pair.finish()), (OF_FOX, poly61_pair(KEY, 7, FOX)));
     assert_eq!((copy.finish(), copies.finish()), (poly61(KEY, &FOX[..9]), poly61_pair(KEY, 7, &FOX[..9])));
+}
+
+#[test]
+fn a_place_is_kept_and_taken_up() {
+    for cut in 0..=FOX.len() {
+        let mut hasher = Poly61Hasher::new(KEY);
+        hasher.write(&FOX[..cut]);
+        let mut later = Poly61Hasher::at(&hasher.place()).unwrap();
+        later.write(&FOX[cut..]);
+        assert_eq!(later.finish(), OF_FOX);
+    }
+    let place = |key, state, word, count| Poly61Hasher::at(&Poly61Place { key, state, word, count }).is_some();
+    assert!(place(7, 1, 255, 1) && !place(7, 1, 256, 1) && !place(7, 1, 0, 7) && !place(u64::MAX, 1, 0, 0) && !place(7, u64::MAX, 0, 0));
 }
 
 /// Whoever sees a hash may compute the key.
