@@ -1,10 +1,7 @@
 -- Numbers written over others one after another.
-use Rattle.std.proofs.Common.{ℕ, suc, zero, ◌≡◌, ◌≢◌, ◌+◌, ◌<◌, ◌≤◌, Bool, cond, true, false, ◌==◌, List, [], ◌∷◌, ◌++◌, length, get_or, map, set, take, drop, refl, sym, ap, ◌∙◌, arith}
-use Rattle.std.specs.List.{onto_first}
-use Rattle.std.proofs.lemmas.Bool.{ne_eqb, eq-eqb}
+use Rattle.std.proofs.Common.{ℕ, suc, zero, ◌≡◌, ◌+◌, ◌<◌, ◌≤◌, List, [], ◌∷◌, ◌++◌, length, get_or, map, set, take, refl, sym, ap, ◌∙◌, arith}
 use Rattle.std.proofs.lemmas.List.{length-map, map-append}
 use Rattle.hash_c.specs.Lines.{laid_over}
-use Rattle.hash_texts.specs.Lines.{line_texts}
 
 -- one number more, where there is room
 pub laid_one_more : (numbers others : List ℕ) (x : ℕ) → length numbers < length others
