@@ -16,10 +16,10 @@ mod tests;
 mod unread;
 
 use fault::Fault;
+use hash_program::arguments::arguments;
 use hash_program::call::Call;
 use hash_program::frame::{About, ended, wrong_word};
 use hash_program::inputs::{Told, inputs};
-use hash_program::words::words;
 use hash_texts::RandomKeys;
 use outcome::{Outcome, call_of, outcome_of};
 use std::io;
@@ -82,9 +82,9 @@ fn called<'a>(rt: &'a HostRuntime, call: &Call<'a>) -> io::Result<Outcome> {
     ))
 }
 
-/// The status of the program that was called by these words.
-fn status(rt: &HostRuntime, words: &[Vec<u8>]) -> u8 {
-    let Ok(call) = call_of(rt.alloc(), words) else {
+/// The status of the program of a call with these arguments.
+fn status(rt: &HostRuntime, arguments: &[Vec<u8>]) -> u8 {
+    let Ok(call) = call_of(rt.alloc(), arguments) else {
         return ended(rt, NAME, &NO_MEMORY, None);
     };
     let outcome = called(rt, &call).unwrap_or(NO_MEMORY);
@@ -92,8 +92,8 @@ fn status(rt: &HostRuntime, words: &[Vec<u8>]) -> u8 {
 }
 
 fn main(rt: HostRuntime) -> ExitCode {
-    match words(&rt) {
-        Ok(words) => ExitCode::from(status(&rt, &words)),
+    match arguments(&rt) {
+        Ok(arguments) => ExitCode::from(status(&rt, &arguments)),
         Err(_) => ExitCode::from(ended(&rt, NAME, &NO_MEMORY, None)),
     }
 }

@@ -3,6 +3,7 @@
 //! and the words of an error for standard error. `rehearsal` is for tests alone.
 #![tactic(auto)]
 
+pub mod arguments;
 pub mod call;
 pub mod fault;
 pub mod frame;
@@ -13,4 +14,3 @@ pub mod quoted;
 pub mod reason;
 pub mod rehearsal;
 pub mod streams;
-pub mod words;

@@ -19,11 +19,11 @@ mod tests;
 use call::{Misuse, Outcome, Wrong, call_of, kinds_of, no_number, settings_of, unknown_name};
 use fault::{Fault, NoTable};
 use hash_names::table::KINDS;
+use hash_program::arguments::arguments;
 use hash_program::call::Call;
 use hash_program::frame::{About, Request, ended, request_of, text_of, wrong_word};
 use hash_program::outcome::of_telling;
 use hash_program::streams::put_out;
-use hash_program::words::words;
 use run::tell_table;
 use std::alloc::{AllocError, Global};
 use std::io::{BufWriter, Stdout};
@@ -144,9 +144,9 @@ fn word<'a>(alloc: Global, call: &Call<'a>, outcome: &Outcome) -> Option<&'a [u8
     }
 }
 
-/// The status of the program that was called by these words.
-fn status(rt: &HostRuntime, words: &[Vec<u8>]) -> u8 {
-    let Ok(call) = call_of(rt.alloc(), words) else {
+/// The status of the program of a call with these arguments.
+fn status(rt: &HostRuntime, arguments: &[Vec<u8>]) -> u8 {
+    let Ok(call) = call_of(rt.alloc(), arguments) else {
         return ended(rt, NAME, &NO_MEMORY, None);
     };
     let outcome = called(rt, &call).unwrap_or(NO_MEMORY);
@@ -154,8 +154,8 @@ fn status(rt: &HostRuntime, words: &[Vec<u8>]) -> u8 {
 }
 
 fn main(rt: HostRuntime) -> ExitCode {
-    match words(&rt) {
-        Ok(words) => ExitCode::from(status(&rt, &words)),
+    match arguments(&rt) {
+        Ok(arguments) => ExitCode::from(status(&rt, &arguments)),
         Err(_) => ExitCode::from(ended(&rt, NAME, &NO_MEMORY, None)),
     }
 }

@@ -1,9 +1,9 @@
-//! The words of the call, as bytes.
+//! The arguments of the call, as bytes.
 use std::alloc::AllocError;
 use std::env::{Env, FillError};
 
-/// The call's word at that place, the program's own name first.
-fn word(rt: &HostRuntime, place: usize) -> Result<Option<Vec<u8>>, AllocError> {
+/// The argument at that place, the program's own name first.
+fn argument(rt: &HostRuntime, place: usize) -> Result<Option<Vec<u8>>, AllocError> {
     let mut room = 256usize;
     for _ in 0..usize::BITS {
         let mut bytes = Vec::new(rt.alloc());
@@ -20,17 +20,17 @@ fn word(rt: &HostRuntime, place: usize) -> Result<Option<Vec<u8>>, AllocError> {
     Err(AllocError)
 }
 
-/// The words behind the program's own name.
-pub fn words(rt: &HostRuntime) -> Result<Vec<Vec<u8>>, AllocError> {
-    let mut words = Vec::new(rt.alloc());
+/// The arguments behind the program's own name.
+pub fn arguments(rt: &HostRuntime) -> Result<Vec<Vec<u8>>, AllocError> {
+    let mut arguments = Vec::new(rt.alloc());
     for place in 1..usize::MAX {
-        match word(rt, place)? {
-            Some(word) => match words.push(word) {
+        match argument(rt, place)? {
+            Some(argument) => match arguments.push(argument) {
                 Ok(()) => {}
                 Err(_) => return Err(AllocError),
             },
             None => break,
         }
     }
-    Ok(words)
+    Ok(arguments)
 }
