@@ -7,12 +7,13 @@ use crate::tally::{Which, tally};
 use hash_program::frame::About;
 use hash_program::inputs::Complaints;
 use hash_program::outcome::{failure_of, status_of};
+use hash_program::rehearsal::{Paper, Script, Trouble, arguments_of};
 use hash_texts::{RandomKeys, Texts};
 use std::alloc::{AllocError, Global};
 use std::collections::HashSet;
 use std::hash::{BuildHasher, Hasher};
 use std::io;
-use std::io::{BufWriter, ErrorKind, Read, Write};
+use std::io::{BufWriter, ErrorKind, Write};
 use std::process::Abort;
 
 /// That the bytes are as wanted.
@@ -37,49 +38,12 @@ const INPUT_FAILED: End = (1, "");
 
 const WRITE_FAULT: End = (1, "write error");
 
+/// The error of a write or a flush that fails.
+const REFUSED: ErrorKind = ErrorKind::PermissionDenied;
+
 /// That the program ended as wanted.
 fn ended(rt: &impl Abort, got: End, want: End) {
     assert_eq!(rt; got, want);
-}
-
-/// Gives its text, at most so many bytes a read, and fails once so many were given. Before that so many reads are interrupted.
-#[derive(Drop)]
-struct Script<'a> {
-    left: &'a [u8],
-    most: usize,
-    until_fault: usize,
-    interrupted: u32,
-}
-
-impl<'a> Script<'a> {
-    /// The text, at most so many bytes a read.
-    fn new(left: &'a [u8], most: usize) -> Script<'a> {
-        Script {
-            left,
-            most,
-            until_fault: usize::MAX,
-            interrupted: 0,
-        }
-    }
-}
-
-impl Read for Script<'_> {
-    fn read(&mut self, buf: &mut [u8]) -> io::Result<usize> {
-        if self.interrupted > 0 {
-            self.interrupted -= 1;
-            return Err(io::Error::from(ErrorKind::Interrupted));
-        }
-        if self.until_fault == 0 {
-            return Err(io::Error::from(ErrorKind::BrokenPipe));
-        }
-        let room = self.most.min(buf.len()).min(self.until_fault);
-        let n = room.min(self.left.len());
-        let (now, later) = self.left.split_at(n);
-        buf[..n].copy_from_slice(now);
-        self.left = later;
-        self.until_fault = self.until_fault.saturating_sub(n);
-        Ok(n)
-    }
 }
 
 /// Which inputs failed, as bits, and how often one did with the error that these tests' readers make.
@@ -104,58 +68,6 @@ impl Complaints for Failures {
             self.inputs |= 1 << place;
             self.count = self.count.saturating_add(1);
         }
-    }
-}
-
-/// Keeps what is written, at most so many bytes a call, and fails once so many are there, or once it was flushed so often.
-#[derive(Drop)]
-struct Paper {
-    text: [u8; 64],
-    len: usize,
-    most: usize,
-    until_fault: usize,
-    flushes: usize,
-}
-
-impl Paper {
-    fn new(most: usize, until_fault: usize) -> Paper {
-        Paper {
-            text: [0; 64],
-            len: 0,
-            most,
-            until_fault,
-            flushes: usize::MAX,
-        }
-    }
-
-    fn line(&self) -> &[u8] {
-        &self.text[..self.len.min(64)]
-    }
-}
-
-impl Write for Paper {
-    fn write(&mut self, buf: &[u8]) -> io::Result<usize> {
-        let room = self.until_fault.min(self.most).min(64 - self.len.min(64));
-        if room == 0 {
-            return Err(io::Error::from(ErrorKind::PermissionDenied));
-        }
-        let n = room.min(buf.len());
-        for byte in &buf[..n] {
-            if self.len < 64 {
-                self.text[self.len] = *byte;
-                self.len += 1;
-            }
-        }
-        self.until_fault = self.until_fault.saturating_sub(n);
-        Ok(n)
-    }
-
-    fn flush(&mut self) -> io::Result<()> {
-        if self.flushes == 0 {
-            return Err(io::Error::from(ErrorKind::PermissionDenied));
-        }
-        self.flushes -= 1;
-        Ok(())
     }
 }
 
@@ -202,19 +114,6 @@ impl Hasher for Alike {
     fn write(&mut self, _bytes: &[u8]) {}
 }
 
-/// The words of a call.
-fn texts_of(alloc: Global, words: &[&str]) -> Result<Vec<Vec<u8>>, AllocError> {
-    let mut all = Vec::new(alloc);
-    for word in words {
-        let word = Vec::from_slice(alloc, word.as_bytes())?;
-        match all.push(word) {
-            Ok(()) => {}
-            Err(_) => return Err(AllocError),
-        }
-    }
-    Ok(all)
-}
-
 /// What became of a call, without the error itself.
 fn status(outcome: &Outcome) -> End {
     (status_of(outcome), failure_of(outcome))
@@ -231,7 +130,7 @@ fn run_all<H: Fresh>(
     failures: &mut Failures,
     w: &mut Paper,
 ) -> End {
-    let Ok(words) = texts_of(alloc, words) else {
+    let Ok(words) = arguments_of(alloc, words) else {
         return NO_MEMORY;
     };
     let Ok(call) = call_of(alloc, &words) else {
@@ -272,7 +171,7 @@ fn ends<H: Fresh>(
     output: &[u8],
 ) {
     ended(rt, run::<H>(alloc, words, r, &mut w), end);
-    same(rt, w.line(), output);
+    same(rt, w.text(), output);
 }
 
 /// A text, and what the program writes of it with no argument, with `-c`, with `-d` and with `-u`.
@@ -327,7 +226,7 @@ fn writes<H: Fresh>(
     most: usize,
     output: &[u8],
 ) {
-    let paper = Paper::new(most, usize::MAX);
+    let paper = Paper::sound(most);
     ends::<H>(
         rt,
         alloc,
@@ -375,22 +274,19 @@ const WRITTEN: [usize; 11] = [0, 0, 2, 2, 4, 4, 4, 4, 4, 4, 6];
 #[test]
 fn a_read_fails_at_each_byte(rt: HostRuntime) {
     for until_fault in 0..11 {
-        let mut script = Script::new(TEXT, 3);
-        script.until_fault = until_fault;
-        let mut paper = Paper::new(64, usize::MAX);
+        let script = Script::failing(TEXT, 3, until_fault);
+        let mut paper = Paper::sound(64);
         let end = run::<RandomKeys>(rt.alloc(), &[], script, &mut paper);
         ended(&rt, end, INPUT_FAILED);
-        same(&rt, paper.line(), &ONCE[..WRITTEN[until_fault]]);
+        same(&rt, paper.text(), &ONCE[..WRITTEN[until_fault]]);
     }
 }
 
 /// Inputs of which the second fails within a line, and the third ends without an end of its line.
 fn three_inputs() -> [Script<'static>; 4] {
-    let mut broken = Script::new(b"a\nc\nlost\n", 64);
-    broken.until_fault = 6;
     [
         Script::new(b"b\na", 64),
-        broken,
+        Script::failing(b"a\nc\nlost\n", 64, 6),
         Script::new(b"a\nlo", 2),
         Script::new(b"st\nlo", 64),
     ]
@@ -403,7 +299,7 @@ fn inputs_one_behind_the_other(rt: HostRuntime) {
         (&["-cd"], b"      3 a\n      2 lo\n"),
     ];
     for (words, output) in &calls {
-        let mut paper = Paper::new(64, usize::MAX);
+        let mut paper = Paper::sound(64);
         let mut failures = Failures::new();
         let end = run_all::<RandomKeys>(
             rt.alloc(),
@@ -413,7 +309,7 @@ fn inputs_one_behind_the_other(rt: HostRuntime) {
             &mut paper,
         );
         ended(&rt, end, INPUT_FAILED);
-        same(&rt, paper.line(), output);
+        same(&rt, paper.text(), output);
         all_hold(&rt, &[failures.inputs == 2, failures.count == 1]);
     }
 }
@@ -424,7 +320,7 @@ fn interrupted_reads(rt: HostRuntime) {
         let mut script = Script::new(TEXT, 64);
         script.interrupted = interrupted;
         let output: &[u8] = if end == WELL { ONCE } else { b"" };
-        let paper = Paper::new(64, usize::MAX);
+        let paper = Paper::sound(64);
         ends::<RandomKeys>(&rt, rt.alloc(), &[], script, paper, end, output);
     }
 }
@@ -433,19 +329,15 @@ fn interrupted_reads(rt: HostRuntime) {
 fn each_fault_is_told(rt: HostRuntime) {
     let broken = || -> io::Error { io::Error::from(ErrorKind::BrokenPipe) };
     let told = [
-        (
-            Fault::Unwritten(Some(broken())),
-            "a write failed: broken pipe",
-        ),
-        (Fault::Unwritten(None), "a write took nothing"),
+        (Fault::Unread(broken()), "-"),
+        (Fault::Unwritten(Some(broken())), "write error"),
+        (Fault::Unwritten(None), "write error"),
         (Fault::NoMemory, "out of memory"),
         (Fault::Own(TooMany::Texts), "too many different lines"),
+        (Fault::Own(TooMany::Lines), "too many lines"),
     ];
-    for (fault, text) in &told {
-        match format!(in rt.alloc(); "{fault}") {
-            Ok(line) => all_hold(&rt, &[line.as_str() == *text]),
-            Err(_) => all_hold(&rt, &[false]),
-        }
+    for (fault, failure) in told {
+        all_hold(&rt, &[failure_of(&Outcome::Failed(fault)) == failure]);
     }
 }
 
@@ -453,7 +345,7 @@ fn each_fault_is_told(rt: HostRuntime) {
 fn a_write_fails_at_each_byte(rt: HostRuntime) {
     for (words, output) in &OUTPUTS {
         for until_fault in 0..output.len() {
-            let paper = Paper::new(4, until_fault);
+            let paper = Paper::new(4, Trouble::WriteFails(until_fault), REFUSED);
             let written = &output[..until_fault];
             let script = Script::new(TEXT, 3);
             ends::<RandomKeys>(&rt, rt.alloc(), words, script, paper, WRITE_FAULT, written);
@@ -462,18 +354,17 @@ fn a_write_fails_at_each_byte(rt: HostRuntime) {
 }
 
 /// How often a run flushes: at first, behind the lines of each of two reads, and with `-c` behind the last count.
-const FLUSHES: [usize; 2] = [3, 4];
+const FLUSHES: [u64; 2] = [3, 4];
 
 #[test]
 fn a_flush_fails(rt: HostRuntime) {
     for ((words, output), all) in OUTPUTS.iter().zip(&FLUSHES) {
         for flushes in 0..5 {
-            let mut paper = Paper::new(64, usize::MAX);
-            paper.flushes = flushes;
+            let mut paper = Paper::new(64, Trouble::FlushFails(flushes), REFUSED);
             let end = run::<RandomKeys>(rt.alloc(), words, Script::new(TEXT, 8), &mut paper);
             let wanted = if flushes < *all { WRITE_FAULT } else { WELL };
             ended(&rt, end, wanted);
-            all_hold(&rt, &[output.starts_with(paper.line())]);
+            all_hold(&rt, &[output.starts_with(paper.text())]);
         }
     }
 }
@@ -498,9 +389,8 @@ const NO_LETTER: End = (2, "invalid option --");
 #[test]
 fn calls_that_read_nothing(rt: HostRuntime) {
     for (words, end, output) in &CALLS {
-        let mut script = Script::new(TEXT, 64);
-        script.until_fault = 0;
-        let paper = Paper::new(64, usize::MAX);
+        let script = Script::failing(TEXT, 64, 0);
+        let paper = Paper::sound(64);
         ends::<RandomKeys>(&rt, rt.alloc(), words, script, paper, *end, output);
     }
 }
@@ -747,14 +637,14 @@ fn lines_of_a_mebibyte(rt: HostRuntime) {
 #[test]
 fn refused_memory(rt: HostRuntime) {
     for (words, output) in &OUTPUTS {
-        let mut paper = Paper::new(64, usize::MAX);
+        let mut paper = Paper::sound(64);
         let script = Script::new(TEXT, 64);
         let end = run::<RandomKeys>(rt.alloc(), words, script, &mut paper);
         let refused = end == NO_MEMORY;
         let claims = [
             refused || end == WELL,
-            refused || paper.line() == *output,
-            output.starts_with(paper.line()),
+            refused || paper.text() == *output,
+            output.starts_with(paper.text()),
         ];
         all_hold(&rt, &claims);
     }

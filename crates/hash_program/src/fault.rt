@@ -1,9 +1,5 @@
 //! What ends a run before its output is whole.
-use crate::outcome::Words;
 use std::alloc::AllocError;
-use std::error::Error as StdError;
-use std::fmt;
-use std::fmt::{Debug, Display, Formatter};
 use std::io::Error;
 
 /// Why a run ended before its output was whole. What was written by then is a beginning of it. `Own` has the program's own reasons.
@@ -18,20 +14,6 @@ pub enum Fault<Own> {
     /// A reason of the program's own.
     Own(Own),
 }
-
-impl<Own: Words> Display for Fault<Own> {
-    fn fmt<W: fmt::Write>(&self, f: &mut Formatter<W>) -> fmt::Result {
-        match self {
-            Fault::Unread(error) => write!(f, "a read failed: {error}"),
-            Fault::Unwritten(Some(error)) => write!(f, "a write failed: {error}"),
-            Fault::Unwritten(None) => write!(f, "a write took nothing"),
-            Fault::NoMemory => write!(f, "out of memory"),
-            Fault::Own(own) => f.write_str(own.words()),
-        }
-    }
-}
-
-impl<Own: Debug + Words + Drop> StdError for Fault<Own> {}
 
 impl<Own: Drop> From<AllocError> for Fault<Own> {
     ghost use Rattle.std.specs.Prelude.{◌≡◌};

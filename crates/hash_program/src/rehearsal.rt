@@ -1,4 +1,5 @@
-//! For tests alone: readers, writers and files that cut, are interrupted and fail as a test says, and the arguments of a call.
+//! For tests alone: readers, writers and files that cut, are interrupted and fail as a test says, and the arguments of
+//! a call.
 use std::alloc::{AllocError, Global};
 use std::io;
 use std::io::{Error, ErrorKind, Read, Write};

@@ -3,51 +3,14 @@ use crate::outcome::{call_of, outcome_of};
 use hash_names::table::KINDS;
 use hash_program::frame::About;
 use hash_program::outcome::{failure_of, status_of};
+use hash_program::rehearsal::{File, Paper, Script, Trouble, arguments_of, open, whole};
 use hash_sums::check::Counts;
 use hash_sums::folder::Folder;
 use hash_sums::sums::kinds;
-use std::alloc::{AllocError, Global};
+use std::alloc::Global;
 use std::io;
-use std::io::{BufWriter, Error, ErrorKind, Read, Write};
+use std::io::{BufWriter, Error, ErrorKind};
 use std::process::Abort;
-
-/// A file of a name, which may fail once so many bytes were read.
-#[derive(Clone, Copy)]
-struct File<'a> {
-    name: &'a [u8],
-    text: &'a [u8],
-    until_fault: usize,
-}
-
-/// A file that is whole.
-fn whole<'a>(name: &'a [u8], text: &'a [u8]) -> File<'a> {
-    File {
-        name,
-        text,
-        until_fault: usize::MAX,
-    }
-}
-
-/// What is read of a file, at most three bytes a call.
-#[derive(Drop)]
-struct Page<'a> {
-    left: &'a [u8],
-    until_fault: usize,
-}
-
-impl Read for Page<'_> {
-    fn read(&mut self, buf: &mut [u8]) -> io::Result<usize> {
-        if self.until_fault == 0 {
-            return Err(Error::from(ErrorKind::BrokenPipe));
-        }
-        let n = buf.len().min(self.left.len()).min(self.until_fault).min(3);
-        let (now, later) = self.left.split_at(n);
-        buf[..n].copy_from_slice(now);
-        self.left = later;
-        self.until_fault = self.until_fault.saturating_sub(n);
-        Ok(n)
-    }
-}
 
 /// Files in memory.
 #[derive(Drop)]
@@ -55,19 +18,11 @@ struct Shelf<'a> {
     files: &'a [File<'a>],
 }
 
-impl<'a> Folder<Page<'a>> for Shelf<'a> {
+impl<'a> Folder<Script<'a>> for Shelf<'a> {
     ghost opens = { λ shelf name opened. Unit {0} };
 
-    fn open(&self, name: &[u8]) -> io::Result<Page<'a>> {
-        for file in self.files {
-            if file.name == name {
-                return Ok(Page {
-                    left: file.text,
-                    until_fault: file.until_fault,
-                });
-            }
-        }
-        Err(Error::from(ErrorKind::NotFound))
+    fn open(&self, name: &[u8]) -> io::Result<Script<'a>> {
+        open(self.files, name)
     }
 
     fn failed(&self, _name: &[u8], _error: &Error) {}
@@ -77,54 +32,16 @@ impl<'a> Folder<Page<'a>> for Shelf<'a> {
     fn ended(&self, _list: &[u8], _counts: &Counts) {}
 }
 
-/// Keeps what is written, and fails once so many bytes are there.
-#[derive(Drop)]
-struct Paper {
-    text: Vec<u8>,
-    room: usize,
-}
-
-impl Write for Paper {
-    fn write(&mut self, buf: &[u8]) -> io::Result<usize> {
-        let n = buf.len().min(self.room);
-        if n == 0 {
-            return Err(Error::from(ErrorKind::BrokenPipe));
-        }
-        self.text.extend_from_slice(&buf[..n])?;
-        self.room -= n;
-        Ok(n)
-    }
-
-    fn flush(&mut self) -> io::Result<()> {
-        Ok(())
-    }
-}
-
-/// The words of a call.
-fn texts_of(alloc: Global, words: &[&str]) -> Result<Vec<Vec<u8>>, AllocError> {
-    let mut all = Vec::new(alloc);
-    for word in words {
-        match all.push(Vec::from_slice(alloc, word.as_bytes())?) {
-            Ok(()) => {}
-            Err(_) => return Err(AllocError),
-        }
-    }
-    Ok(all)
-}
-
 /// What became of a call: its status, what failed, and what was written.
 fn run(
     alloc: Global,
     words: &[&str],
     files: &[File<'_>],
     room: usize,
-) -> io::Result<(u8, &'static str, Vec<u8>)> {
-    let words = texts_of(alloc, words)?;
+) -> io::Result<(u8, &'static str, Paper)> {
+    let words = arguments_of(alloc, words)?;
     let call = call_of(alloc, &words)?;
-    let mut paper = Paper {
-        text: Vec::new(alloc),
-        room,
-    };
+    let mut paper = Paper::new(usize::MAX, Trouble::WriteFails(room), ErrorKind::BrokenPipe);
     let mut output = BufWriter::with_capacity(alloc, 16, &mut paper)?;
     let about = About {
         help: "help\n",
@@ -133,7 +50,7 @@ fn run(
     };
     let outcome = outcome_of(alloc, &Shelf { files }, &kinds(), &call, about, &mut output);
     drop(output);
-    Ok((status_of(&outcome), failure_of(&outcome), paper.text))
+    Ok((status_of(&outcome), failure_of(&outcome), paper))
 }
 
 /// That a call ends so, and writes this.
@@ -146,8 +63,8 @@ fn ends(
     output: &str,
 ) {
     match run(alloc, words, files, usize::MAX) {
-        Ok((got, _, text)) => {
-            assert_eq!(rt; text.as_slice(), output.as_bytes());
+        Ok((got, _, paper)) => {
+            assert_eq!(rt; paper.text(), output.as_bytes());
             assert_eq!(rt; got, status);
         }
         Err(_) => assert!(rt; false, "no memory"),
@@ -349,9 +266,9 @@ fn a_write_fails_at_each_byte(rt: HostRuntime) {
     let line = b"elf (a) = 00000061\n";
     for room in 0..19usize {
         match run(alloc, &["-a", "elf", "a"], &files, room) {
-            Ok((status, _, text)) => {
+            Ok((status, _, paper)) => {
                 assert_eq!(rt; status, 141);
-                assert_eq!(rt; text.as_slice(), &line[..room]);
+                assert_eq!(rt; paper.text(), &line[..room]);
             }
             Err(_) => assert!(rt; false, "no memory"),
         }
@@ -365,13 +282,13 @@ fn one_changed_byte_fails(rt: HostRuntime) -> Result<(), std::test::Fail> {
     let text = b"a small file";
     for kind in &KINDS[..7] {
         let name = kind.row().name;
-        let (_, _, line) = run(alloc, &["-a", name, "f"], &[whole(b"f", text)], usize::MAX)?;
+        let (_, _, paper) = run(alloc, &["-a", name, "f"], &[whole(b"f", text)], usize::MAX)?;
         for at in 0..text.len() {
             for change in [1u8, 2, 64, 128, 255] {
                 let mut changed = [0u8; 12];
                 changed.copy_from_slice(text);
                 changed[at] ^= change;
-                let files = [whole(b"f", &changed), whole(b"-", &line)];
+                let files = [whole(b"f", &changed), whole(b"-", paper.text())];
                 ends(&rt, alloc, &["-c"], &files, 1, "f: FAILED\n");
             }
         }
@@ -379,7 +296,7 @@ fn one_changed_byte_fails(rt: HostRuntime) -> Result<(), std::test::Fail> {
             &rt,
             alloc,
             &["-c"],
-            &[whole(b"f", text), whole(b"-", &line)],
+            &[whole(b"f", text), whole(b"-", paper.text())],
             0,
             "f: OK\n",
         );
@@ -404,18 +321,18 @@ fn refused_memory(rt: HostRuntime) {
         (["-ca", "fnv1a32", "list"], "\\b\\n: OK\nfoo: OK\n"),
     ] {
         match run(alloc, &words, &files, usize::MAX) {
-            Ok((0, failure, text)) => {
+            Ok((0, failure, paper)) => {
                 assert_eq!(rt; failure, "");
-                assert_eq!(rt; text.as_slice(), said.as_bytes());
+                assert_eq!(rt; paper.text(), said.as_bytes());
             }
-            Ok((status, failure, text)) => {
+            Ok((status, failure, paper)) => {
                 assert_eq!(rt; status, 1);
                 // Where nothing is said here, the list was told as one that cannot be read.
                 assert!(rt;
                     ["", "out of memory", "write error"].contains(&failure),
                     "{failure}"
                 );
-                assert!(rt; said.as_bytes().starts_with(&text));
+                assert!(rt; said.as_bytes().starts_with(paper.text()));
             }
             Err(error) => assert!(rt; error.kind() == ErrorKind::OutOfMemory),
         }

@@ -8,10 +8,10 @@ use crate::named::{Hashed, counts_by};
 use crate::sizes::{Sizes, sizes_of};
 use hash_names::table::{KINDS, Kind};
 use hash_program::frame::{Request, request_of};
+use hash_program::rehearsal::{Script, arguments_of};
 use hash_texts::{RandomKeys, Texts};
 use std::alloc::{AllocError, Global};
-use std::io;
-use std::io::{BufReader, Error, ErrorKind, Read};
+use std::io::{BufReader, ErrorKind};
 use std::num::NonZeroUsize;
 use std::process::Abort;
 
@@ -28,27 +28,6 @@ fn all_hold(rt: &impl Abort, claims: &[bool]) {
     assert!(rt; !claims.contains(&false), "not all hold: {claims:?}");
 }
 
-/// Gives a text, two bytes a read, and fails once so many were read.
-#[derive(Drop)]
-struct Page<'a> {
-    left: &'a [u8],
-    until_fault: usize,
-}
-
-impl Read for Page<'_> {
-    fn read(&mut self, buf: &mut [u8]) -> io::Result<usize> {
-        if self.until_fault == 0 {
-            return Err(Error::from(ErrorKind::BrokenPipe));
-        }
-        let n = buf.len().min(self.left.len()).min(self.until_fault).min(2);
-        let (now, later) = self.left.split_at(n);
-        buf[..n].copy_from_slice(now);
-        self.left = later;
-        self.until_fault = self.until_fault.saturating_sub(n);
-        Ok(n)
-    }
-}
-
 /// The keys of a text.
 fn keys_of(
     alloc: Global,
@@ -57,11 +36,7 @@ fn keys_of(
     until_fault: usize,
 ) -> Result<Texts<RandomKeys>, Fault> {
     let mut keys = Texts::new(alloc, RandomKeys::with_keys(1, 2));
-    let page = Page {
-        left: text,
-        until_fault,
-    };
-    match BufReader::with_capacity(alloc, 3, page) {
+    match BufReader::with_capacity(alloc, 3, Script::failing(text, 2, until_fault)) {
         Ok(mut reader) => read_keys(alloc, &mut keys, layout, &mut reader)?,
         Err(_) => return Err(Fault::NoMemory),
     }
@@ -247,21 +222,9 @@ fn numbers_by_chance(rt: HostRuntime) {
     );
 }
 
-/// The words of a call.
-fn texts_of(alloc: Global, words: &[&str]) -> Result<Vec<Vec<u8>>, AllocError> {
-    let mut all = Vec::new(alloc);
-    for word in words {
-        match all.push(Vec::from_slice(alloc, word.as_bytes())?) {
-            Ok(()) => {}
-            Err(_) => return Err(AllocError),
-        }
-    }
-    Ok(all)
-}
-
 /// What the words ask for: the number of buckets, how the keys lie, and whether times are measured.
 fn asked(alloc: Global, words: &[&str]) -> Option<(Option<u64>, Layout, bool)> {
-    let words = texts_of(alloc, words).ok()?;
+    let words = arguments_of(alloc, words).ok()?;
     let call = call_of(alloc, &words).ok()?;
     match (request_of(&call), settings_of(&call)) {
         (Request::Work, Ok(settings)) => {
@@ -273,7 +236,7 @@ fn asked(alloc: Global, words: &[&str]) -> Option<(Option<u64>, Layout, bool)> {
 
 /// How many hashers the words name.
 fn chosen(alloc: Global, words: &[&str]) -> Option<usize> {
-    let words = texts_of(alloc, words).ok()?;
+    let words = arguments_of(alloc, words).ok()?;
     let call = call_of(alloc, &words).ok()?;
     match unknown_name(alloc, &call) {
         Ok(None) => Some(kinds_of(alloc, &call).ok()?.len()),

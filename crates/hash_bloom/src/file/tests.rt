@@ -3,11 +3,11 @@ ghost use Rattle.std.specs.Prelude.{◌≤◌};
 
 use crate::Bloom;
 use crate::file::Unread;
+use hash_program::rehearsal::Script;
 use hashers::null::NullHasher;
 use hashers::oz::LoseLoseHasher;
 use std::alloc::Global;
-use std::io;
-use std::io::{Error, ErrorKind, Read};
+use std::io::{ErrorKind, Read};
 use std::process::Abort;
 
 /// The probes of the key of one byte b are 0, b, 2b, ..: `null` answers 0, and lose lose the sum of the bytes.
@@ -121,39 +121,13 @@ fn refused_with_a_reason(rt: HostRuntime) {
     assert_eq!(rt; ended(alloc, &mut beyond.as_slice(), "p"), "form");
 }
 
-/// A reader that gives a byte at a time, is interrupted at each, and fails after so many.
-#[derive(Drop)]
-struct Slow<'a> {
-    left: &'a [u8],
-    interrupted: bool,
-}
-
-impl Read for Slow<'_> {
-    fn read(&mut self, buf: &mut [u8]) -> io::Result<usize> {
-        self.interrupted = !self.interrupted;
-        if self.interrupted {
-            return Err(Error::from(ErrorKind::Interrupted));
-        }
-        if self.left.is_empty() {
-            return Err(Error::from(ErrorKind::BrokenPipe));
-        }
-        if buf.is_empty() {
-            return Ok(0);
-        }
-        buf[0] = self.left[0];
-        self.left = &self.left[1..];
-        Ok(1)
-    }
-}
-
+/// Reads of a byte, each interrupted once, of which the one behind so many bytes fails.
 #[test]
 fn slow_and_failing_readers(rt: HostRuntime) {
     let alloc = rt.alloc();
     for n in 0..=FILE.len() {
-        let mut slow = Slow {
-            left: &FILE[..n],
-            interrupted: false,
-        };
+        let mut slow = Script::failing(&FILE, 1, n);
+        slow.interrupted = 1;
         let wanted = if n < FILE.len() { "fault" } else { "read" };
         assert_eq!(rt; ended(alloc, &mut slow, PAIR), wanted);
     }
