@@ -8,7 +8,10 @@ use Rattle.hash_program.specs.declared.fault.Fault.TheVariants.{Unread, Unwritte
 use Rattle.hash_names.specs.Reading.{HashesNamed}
 use Rattle.hash_names.specs.declared.reading.Unhashed.{Unhashed}
 use Rattle.hash_names.specs.declared.reading.Unhashed.TheVariants as unhashed
-use Rattle.hashof.specs.Running.{Run, EndsNamed}
+use Rattle.hash_names.specs.Named.{named}
+use Rattle.hash_program.specs.Outcome.{of_telling}
+use Rattle.hashof.specs.Program.{Arguments, Ask, Exits}
+use Rattle.hashof.specs.Running.{Run, Ends, EndsNamed}
 
 -- nothing was written
 pub ended_unread : (hash : Option (List ℕ → ℕ)) (run : Run) (why : Unhashed) → HashesNamed hash run.reading (Err why)
@@ -32,3 +35,16 @@ ended_told (Some hash) run number (Err (Unwritten error)) (text, all, is) puts =
 ended_told (Some hash) run number (Err (Unread error)) hashes puts = absurd puts.1
 ended_told (Some hash) run number (Err NoMemory) hashes puts = absurd puts.1
 ended_told (Some hash) run number (Err (Own own)) hashes puts = absurd puts.1
+
+no_memory_needed : (hash : Option (List ℕ → ℕ)) (run : Run) → EndsNamed hash run (Err NoMemory) → ⊥
+no_memory_needed None run (is, keeps) = search (rules, is)
+no_memory_needed (Some hash) run ends = ends
+
+-- the program ends as the run over its one name does
+pub exits_as_told : (arguments : Arguments) (run : Run) (name : List ℕ) (told : Result (Unit {0}) (Fault Unhashed)) → Ask arguments name
+    → Ends name run told → Exits arguments run (of_telling told)
+exits_as_told arguments run name (Ok done) asks ends = (name, asks, ends)
+exits_as_told arguments run name (Err NoMemory) asks ends = absurd (no_memory_needed (named name) run ends)
+exits_as_told arguments run name (Err (Unread error)) asks ends = (name, asks, ends)
+exits_as_told arguments run name (Err (Unwritten error)) asks ends = (name, asks, ends)
+exits_as_told arguments run name (Err (Own own)) asks ends = (name, asks, ends)

@@ -5,25 +5,22 @@ ghost use Rattle.hashof.specs.declared.run.TheConstants.{LIMIT};
 ghost use Rattle.hashof.specs.Running.{run_of};
 ghost use Rattle.hashof.specs.Status.{complaint_of, status_of};
 
-use crate::run::{LIMIT, RunFault, run_limited};
+use crate::run::{LIMIT, run_limited};
 use hash_names::reading::Unhashed;
 use hash_program::fault::Fault;
+use hash_program::outcome;
+use hash_program::outcome::{Wrong, of_telling};
 use std::env::Args;
 use std::io;
 use std::io::{ErrorKind, Read, Write};
 
-/// What came of a run of the program.
-#[derive(Drop)]
-pub enum Outcome {
-    /// The hash was told.
-    Done,
-    /// There was not exactly one argument, or one was no text.
-    Usage,
-    /// There was no memory for the arguments.
-    NoMemory,
-    /// No hash was told.
-    Failed(RunFault),
-}
+/// There was not exactly one argument, or one was no text.
+#[derive(Debug, Drop)]
+pub struct NotOneName;
+
+/// What came of a run of the program. A name that no hash has is a fault of its own. No memory means none for the
+/// arguments.
+pub type Outcome = outcome::Outcome<NotOneName, Unhashed>;
 
 /// Does what the arguments ask for, as the system gives them, the program's own name first: tells the hash of the one
 /// name that they are, if the input is less than `limit` bytes. Where they are wrong, or there was no memory for them,
@@ -40,16 +37,13 @@ pub fn outcome_limited<R: Read, W: Write>(
         Ok(mut args) => {
             let _program = args.next();
             match (args.next(), args.next()) {
-                (Some(name), None) => match run_limited(name.as_str(), limit, r, w) {
-                    Ok(()) => Outcome::Done,
-                    Err(fault) => Outcome::Failed(fault),
-                },
-                _ => Outcome::Usage,
+                (Some(name), None) => of_telling(run_limited(name.as_str(), limit, r, w)),
+                _ => Outcome::Usage(Wrong::Own(NotOneName)),
             }
         }
         Err(error) => match error.kind() {
-            ErrorKind::OutOfMemory => Outcome::NoMemory,
-            _ => Outcome::Usage,
+            ErrorKind::OutOfMemory => Outcome::Failed(Fault::NoMemory),
+            _ => Outcome::Usage(Wrong::Own(NotOneName)),
         },
     }
 }
@@ -66,9 +60,9 @@ pub fn outcome_line(outcome: &Outcome) -> &'static str
     ensures { result.now ≡ complaint_of outcome.now }
 {
     match outcome {
-        Outcome::Done => "",
-        Outcome::Usage => "usage: hashof NAME\n",
-        Outcome::NoMemory | Outcome::Failed(Fault::NoMemory) => "hashof: out of memory\n",
+        Outcome::Done | Outcome::Reported => "",
+        Outcome::Usage(_) => "usage: hashof NAME\n",
+        Outcome::Failed(Fault::NoMemory) => "hashof: out of memory\n",
         Outcome::Failed(Fault::Own(Unhashed::UnknownName)) => "hashof: unknown name\n",
         Outcome::Failed(Fault::Own(Unhashed::TooLong)) => "hashof: input too long\n",
         Outcome::Failed(Fault::Own(Unhashed::ReadFault(_)) | Fault::Unread(_)) =>
@@ -77,13 +71,14 @@ pub fn outcome_line(outcome: &Outcome) -> &'static str
     }
 }
 
-/// The status that the program ends with: 0 where the hash was told, 2 where the call was wrong, 1 where it failed.
+/// The status that the program ends with: 0 if the hash was told, 2 if the call was wrong, and 1 if it failed. A pipe
+/// that nobody reads is a failed write.
 pub fn outcome_status(outcome: &Outcome) -> u8
     ensures { result ≡ status_of outcome.now }
 {
     match outcome {
         Outcome::Done => 0,
-        Outcome::Usage | Outcome::Failed(Fault::Own(Unhashed::UnknownName)) => 2,
+        Outcome::Usage(_) | Outcome::Failed(Fault::Own(Unhashed::UnknownName)) => 2,
         _ => 1,
     }
 }

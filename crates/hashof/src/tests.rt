@@ -1,7 +1,7 @@
 //! Tests of the program, over readers and writers that misbehave.
 mod program;
 
-use crate::outcome::{Outcome, outcome_line, outcome_status};
+use crate::outcome::{NotOneName, Outcome, outcome_line, outcome_status};
 use crate::run::{RunFault, run, run_limited};
 use hash_bytes::fnv::FNV1aHasher64;
 use hash_jenkins::Lookup3Hasher;
@@ -10,133 +10,12 @@ use hash_laws::reader::hash_reader;
 use hash_names::reading::Unhashed;
 use hash_names::table::Kind;
 use hash_program::fault::Fault;
+use hash_program::outcome::Wrong;
+use hash_program::rehearsal::{Paper, Script, Trouble};
 use std::hash::Hasher;
 use std::io;
-use std::io::{ErrorKind, Read, Write};
+use std::io::ErrorKind;
 use std::process::Abort;
-
-/// Gives its text, at most so many bytes a read, and fails once after some bytes.
-#[derive(Drop)]
-struct Script<'a> {
-    left: &'a [u8],
-    most: usize,
-    until_fault: Option<usize>,
-    kind: ErrorKind,
-    reads: u64,
-    asked_for_nothing: bool,
-}
-
-impl<'a> Script<'a> {
-    fn new(text: &'a [u8], most: usize, until_fault: Option<usize>) -> Script<'a> {
-        Script {
-            left: text,
-            most,
-            until_fault,
-            kind: ErrorKind::BrokenPipe,
-            reads: 0,
-            asked_for_nothing: false,
-        }
-    }
-}
-
-impl Read for Script<'_> {
-    fn read(&mut self, buf: &mut [u8]) -> io::Result<usize> {
-        self.reads = self.reads.saturating_add(1);
-        if buf.is_empty() {
-            self.asked_for_nothing = true;
-        }
-        if let Some(0) = self.until_fault {
-            self.until_fault = None;
-            return Err(io::Error::from(self.kind));
-        }
-        let n = self
-            .most
-            .min(buf.len())
-            .min(self.left.len())
-            .min(self.until_fault.unwrap_or(usize::MAX));
-        let (now, later) = self.left.split_at(n);
-        buf[..n].copy_from_slice(now);
-        self.left = later;
-        self.until_fault = match self.until_fault {
-            Some(until) => Some(until.saturating_sub(n)),
-            None => None,
-        };
-        Ok(n)
-    }
-}
-
-/// How a writer misbehaves.
-#[derive(Clone, Copy)]
-enum Trouble {
-    None,
-    FailsAt(u64),
-    TakesNothing,
-    FlushFails,
-}
-
-/// Keeps what is written, at most so many bytes a call.
-#[derive(Drop)]
-struct Paper {
-    text: [u8; 32],
-    len: usize,
-    most: usize,
-    trouble: Trouble,
-    kind: ErrorKind,
-    writes: u64,
-    flushes: u64,
-}
-
-impl Paper {
-    fn new(most: usize, trouble: Trouble, kind: ErrorKind) -> Paper {
-        Paper {
-            text: [0; 32],
-            len: 0,
-            most,
-            trouble,
-            kind,
-            writes: 0,
-            flushes: 0,
-        }
-    }
-
-    fn line(&self) -> &[u8] {
-        &self.text[..self.len.min(32)]
-    }
-}
-
-impl Write for Paper {
-    fn write(&mut self, buf: &[u8]) -> io::Result<usize> {
-        self.writes = self.writes.saturating_add(1);
-        match self.trouble {
-            Trouble::FailsAt(call) if call == self.writes => {
-                return Err(io::Error::from(self.kind));
-            }
-            Trouble::TakesNothing => return Ok(0),
-            _ => {}
-        }
-        let n = self.most.min(buf.len());
-        for byte in &buf[..n] {
-            if self.len < self.text.len() {
-                self.text[self.len] = *byte;
-                self.len += 1;
-            }
-        }
-        Ok(n)
-    }
-
-    fn flush(&mut self) -> io::Result<()> {
-        self.flushes = self.flushes.saturating_add(1);
-        if let Trouble::FlushFails = self.trouble {
-            return Err(io::Error::from(self.kind));
-        }
-        Ok(())
-    }
-}
-
-/// Paper that takes all at once.
-fn plain() -> Paper {
-    Paper::new(32, Trouble::None, ErrorKind::BrokenPipe)
-}
 
 /// What became of a run, without the error itself.
 #[derive(Clone, Copy, PartialEq, Eq, Debug)]
@@ -179,14 +58,14 @@ fn ended(
 ) {
     let (end, line, calls) = wanted;
     assert_eq!(rt; end_of(outcome), end, "at {turn}");
-    same_text(rt, turn, paper.line(), line);
+    same_text(rt, turn, paper.text(), line);
     same(rt, turn, &[paper.writes, paper.flushes], &calls);
 }
 
 /// Runs over a text, read so many bytes at a time, and compares the line.
 fn tells(rt: &impl Abort, turn: usize, name: &str, text: &[u8], most: usize, line: &[u8]) {
-    let mut paper = plain();
-    let outcome = run(name, &mut Script::new(text, most, None), &mut paper);
+    let mut paper = Paper::sound(32);
+    let outcome = run(name, &mut Script::new(text, most), &mut paper);
     ended(rt, turn, outcome, &paper, (End::Told, line, [1, 1]));
 }
 
@@ -313,8 +192,8 @@ fn refuses_a_name_before_it_reads(rt: HostRuntime) {
         .iter()
         .enumerate()
     {
-        let mut reader = Script::new(b"ab", 2, None);
-        let mut paper = plain();
+        let mut reader = Script::new(b"ab", 2);
+        let mut paper = Paper::sound(32);
         let outcome = run(name, &mut reader, &mut paper);
         ended(&rt, turn, outcome, &paper, (End::Unknown, b"", [0, 0]));
         same(&rt, turn, &[reader.reads], &[0]);
@@ -330,8 +209,8 @@ fn refuses_an_input_at_the_limit(rt: HostRuntime) {
         (3, (End::Told, b"620445648566982762\n", [1, 1])),
     ];
     for (turn, (limit, wanted)) in wanted.iter().enumerate() {
-        let mut reader = Script::new(b"ab", 1, None);
-        let mut paper = plain();
+        let mut reader = Script::new(b"ab", 1);
+        let mut paper = Paper::sound(32);
         let outcome = run_limited("fnv1a64", *limit, &mut reader, &mut paper);
         ended(&rt, turn, outcome, &paper, *wanted);
         let fair = reader.reads <= *limit && !reader.asked_for_nothing;
@@ -351,9 +230,9 @@ const FAULTS: [(usize, u64, ErrorKind); 5] = [
 #[test]
 fn writes_nothing_where_a_read_fails(rt: HostRuntime) {
     for (turn, (most, bytes, kind)) in FAULTS.iter().enumerate() {
-        let mut reader = Script::new(b"abc", *most, Some(*bytes as usize));
+        let mut reader = Script::failing(b"abc", *most, *bytes as usize);
         reader.kind = *kind;
-        let mut paper = plain();
+        let mut paper = Paper::sound(32);
         let outcome = run("fnv1a64", &mut reader, &mut paper);
         let end = End::Read(*bytes, *kind);
         ended(&rt, turn, outcome, &paper, (end, b"", [0, 0]));
@@ -368,7 +247,7 @@ fn writes(
     mut paper: Paper,
     wanted: (End, &[u8], [u64; 2]),
 ) {
-    let outcome = run(name, &mut Script::new(b"a", 1, None), &mut paper);
+    let outcome = run(name, &mut Script::new(b"a", 1), &mut paper);
     ended(rt, turn, outcome, &paper, wanted);
 }
 
@@ -380,7 +259,7 @@ fn stops_at_the_first_failed_write(rt: HostRuntime) {
     let kind = ErrorKind::BrokenPipe;
     for told in 0..21usize {
         let call = told as u64 + 1;
-        let paper = Paper::new(1, Trouble::FailsAt(call), kind);
+        let paper = Paper::new(1, Trouble::WriteFails(told), kind);
         let wanted = (End::Write(Some(kind)), &LINE[..told], [call, 0]);
         writes(&rt, told, "fnv1a64", paper, wanted);
     }
@@ -395,49 +274,49 @@ const WRITES: [(&str, usize, Trouble, ErrorKind, (End, &[u8], [u64; 2])); 7] = [
     (
         "fnv1a64",
         32,
-        Trouble::FailsAt(1),
+        Trouble::WriteFails(0),
         ErrorKind::Interrupted,
         (INTERRUPTED, b"", [1, 0]),
     ),
     (
         "fnv1a64",
         32,
-        Trouble::TakesNothing,
+        Trouble::TakesNothing(0),
         ErrorKind::Interrupted,
         (End::Write(None), b"", [1, 0]),
     ),
     (
         "fnv1a64",
         32,
-        Trouble::FlushFails,
+        Trouble::FlushFails(0),
         ErrorKind::Interrupted,
         (INTERRUPTED, LINE, [1, 1]),
     ),
     (
         "fnv1a64",
         1,
-        Trouble::FailsAt(8),
+        Trouble::WriteFails(7),
         ErrorKind::Interrupted,
         (INTERRUPTED, b"1263818", [8, 0]),
     ),
     (
         "fnv1a64",
         1,
-        Trouble::FlushFails,
+        Trouble::FlushFails(0),
         ErrorKind::Interrupted,
         (INTERRUPTED, LINE, [21, 1]),
     ),
     (
         "fnv1a64",
         1,
-        Trouble::FailsAt(22),
+        Trouble::WriteFails(21),
         ErrorKind::BrokenPipe,
         (End::Told, LINE, [21, 1]),
     ),
     (
         "djb2",
         32,
-        Trouble::FailsAt(1),
+        Trouble::WriteFails(0),
         ErrorKind::BrokenPipe,
         (BROKEN, b"", [1, 0]),
     ),
@@ -470,8 +349,8 @@ fn ends_by_the_table(rt: HostRuntime) {
     };
     let outcomes = [
         Outcome::Done,
-        Outcome::Usage,
-        Outcome::NoMemory,
+        Outcome::Usage(Wrong::Own(NotOneName)),
+        Outcome::Failed(Fault::NoMemory),
         Outcome::Failed(Fault::Own(Unhashed::UnknownName)),
         Outcome::Failed(Fault::Own(Unhashed::ReadFault(fault))),
         Outcome::Failed(Fault::Own(Unhashed::TooLong)),

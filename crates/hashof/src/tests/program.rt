@@ -1,6 +1,7 @@
 //! The program's outcome, for arguments as the system gives them.
-use super::{Paper, Script, Trouble, plain, same, same_text};
+use super::{same, same_text};
 use crate::outcome::{Outcome, outcome_limited, outcome_line, outcome_of, outcome_status};
+use hash_program::rehearsal::{Paper, Script, Trouble};
 use std::alloc::Global;
 use std::env::Args;
 use std::io;
@@ -43,7 +44,7 @@ fn ended(rt: &impl Abort, turn: usize, outcome: &Outcome, r: &Script, w: &Paper,
         outcome_line(outcome).as_bytes(),
         complaint.as_bytes(),
     );
-    same_text(rt, turn, w.line(), line);
+    same_text(rt, turn, w.text(), line);
     let got = [
         u64::from(outcome_status(outcome)),
         r.reads,
@@ -53,27 +54,36 @@ fn ended(rt: &impl Abort, turn: usize, outcome: &Outcome, r: &Script, w: &Paper,
     same(rt, turn, &got, &[u64::from(status), reads, writes, flushes]);
 }
 
+/// After how many bytes a read fails that does not.
+const NEVER: usize = usize::MAX;
+
 /// Arguments, after how many bytes a read fails, how many bytes are written at once, how writing fails, and the end.
-const CALLS: [(&[&str], Option<usize>, usize, Trouble, Exit); 9] = [
-    (&[], None, 32, Trouble::None, USAGE),
-    (&["hashof"], None, 32, Trouble::None, USAGE),
+const CALLS: [(&[&str], usize, usize, Trouble, Exit); 9] = [
+    (&[], NEVER, 32, Trouble::None, USAGE),
+    (&["hashof"], NEVER, 32, Trouble::None, USAGE),
     (
         &["hashof", "fnv1a64", "fnv1a64"],
-        None,
+        NEVER,
         32,
         Trouble::None,
         USAGE,
     ),
-    (&["hashof", "md5", "x", "y"], None, 32, Trouble::None, USAGE),
-    (&["hashof", "md5"], None, 32, Trouble::None, UNKNOWN),
-    (&["hashof", ""], None, 32, Trouble::None, UNKNOWN),
-    (&["hashof", "fnv1a64"], None, 32, Trouble::None, TOLD),
-    (&["hashof", "fnv1a64"], Some(1), 32, Trouble::None, UNREAD),
+    (
+        &["hashof", "md5", "x", "y"],
+        NEVER,
+        32,
+        Trouble::None,
+        USAGE,
+    ),
+    (&["hashof", "md5"], NEVER, 32, Trouble::None, UNKNOWN),
+    (&["hashof", ""], NEVER, 32, Trouble::None, UNKNOWN),
+    (&["hashof", "fnv1a64"], NEVER, 32, Trouble::None, TOLD),
+    (&["hashof", "fnv1a64"], 1, 32, Trouble::None, UNREAD),
     (
         &["hashof", "fnv1a64"],
-        None,
+        NEVER,
         1,
-        Trouble::FailsAt(4),
+        Trouble::WriteFails(3),
         UNWRITTEN,
     ),
 ];
@@ -81,7 +91,7 @@ const CALLS: [(&[&str], Option<usize>, usize, Trouble, Exit); 9] = [
 #[test]
 fn calls_end_by_the_table(rt: HostRuntime) {
     for (turn, (words, until_fault, most, trouble, exit)) in CALLS.iter().enumerate() {
-        let mut reader = Script::new(b"ab", 1, *until_fault);
+        let mut reader = Script::failing(b"ab", 1, *until_fault);
         let mut paper = Paper::new(*most, *trouble, ErrorKind::BrokenPipe);
         let outcome = outcome_of(args(rt.alloc(), words), &mut reader, &mut paper);
         ended(&rt, turn, &outcome, &reader, &paper, *exit);
@@ -96,8 +106,8 @@ fn arguments_that_are_not_there(rt: HostRuntime) {
         (ErrorKind::OutOfMemory, NO_MEMORY),
     ];
     for (turn, (kind, exit)) in kinds.iter().enumerate() {
-        let mut reader = Script::new(b"ab", 1, None);
-        let mut paper = plain();
+        let mut reader = Script::new(b"ab", 1);
+        let mut paper = Paper::sound(32);
         let outcome = outcome_of(Err(io::Error::from(*kind)), &mut reader, &mut paper);
         ended(&rt, turn, &outcome, &reader, &paper, *exit);
     }
@@ -106,8 +116,8 @@ fn arguments_that_are_not_there(rt: HostRuntime) {
 #[test]
 fn an_input_at_the_limit(rt: HostRuntime) {
     let named = args(rt.alloc(), &["hashof", "fnv1a64"]);
-    let mut reader = Script::new(b"ab", 1, None);
-    let mut paper = plain();
+    let mut reader = Script::new(b"ab", 1);
+    let mut paper = Paper::sound(32);
     let outcome = outcome_limited(named, 2, &mut reader, &mut paper);
     ended(&rt, 0, &outcome, &reader, &paper, TOO_LONG);
 }
