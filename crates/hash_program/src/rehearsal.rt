@@ -1,5 +1,5 @@
 //! For tests alone: readers, writers and files that cut, are interrupted and fail as a test says, and the arguments of
-//! a call.
+//! a call. No program calls these.
 use std::alloc::{AllocError, Global};
 use std::io;
 use std::io::{Error, ErrorKind, Read, Write};
@@ -7,31 +7,31 @@ use std::io::{Error, ErrorKind, Read, Write};
 /// A reader that gives a text in pieces, and counts its reads.
 #[derive(Drop)]
 pub struct Script<'a> {
-    /// What it still gives.
+    /// The text that is left.
     left: &'a [u8],
-    /// How many bytes a read gives at most.
+    /// The most bytes of a read.
     most: usize,
-    /// After how many more bytes a read fails. Only one does.
+    /// After how many more bytes a read fails.
     until_fault: usize,
-    /// The error of that read.
+    /// The error of the read that fails.
     pub kind: ErrorKind,
-    /// How often a read is interrupted before it goes on.
+    /// How often each read is interrupted before it goes on.
     pub interrupted: u32,
-    /// How often it was.
+    /// How often this one was.
     interruptions: u32,
-    /// How many reads there were.
+    /// The number of reads.
     pub reads: u64,
     /// Whether a read asked for nothing.
     pub asked_for_nothing: bool,
 }
 
 impl<'a> Script<'a> {
-    /// Gives the text, at most so many bytes a read.
+    /// A reader of this text, at most `most` bytes a read.
     pub fn new(text: &'a [u8], most: usize) -> Script<'a> {
         Script::failing(text, most, usize::MAX)
     }
 
-    /// The same, but a read fails once so many bytes were given. The reads after it go on with the text.
+    /// The same, but one read fails, behind `until_fault` bytes. The reads after it go on with the text.
     pub fn failing(text: &'a [u8], most: usize, until_fault: usize) -> Script<'a> {
         Script {
             left: text,
@@ -72,38 +72,38 @@ impl Read for Script<'_> {
 /// How a writer fails.
 #[derive(Clone, Copy)]
 pub enum Trouble {
-    /// It does not.
+    /// It does not fail.
     None,
-    /// Each write fails once so many bytes were written.
+    /// Each write fails, once this number of bytes was written.
     WriteFails(usize),
-    /// Each write takes nothing once so many bytes were written.
+    /// Each write takes nothing, once this number of bytes was written.
     TakesNothing(usize),
-    /// Each flush fails after so many flushes.
+    /// Each flush fails, after this number of flushes.
     FlushFails(u64),
 }
 
-/// How many bytes a paper keeps.
+/// The most bytes of a paper.
 const PAPER: usize = 256;
 
-/// A writer that keeps at most 256 bytes, takes them in pieces, and counts its writes and flushes.
+/// A writer that keeps what is written, at most 256 bytes, and counts its writes and flushes.
 #[derive(Drop)]
 pub struct Paper {
     text: [u8; PAPER],
     len: usize,
-    /// How many bytes a write takes at most.
+    /// The most bytes of a write.
     most: usize,
     /// How it fails.
     trouble: Trouble,
-    /// With what error.
+    /// The error of what fails.
     kind: ErrorKind,
-    /// How many writes there were.
+    /// The number of writes.
     pub writes: u64,
-    /// How many flushes there were.
+    /// The number of flushes.
     pub flushes: u64,
 }
 
 impl Paper {
-    /// Takes at most so many bytes a write, and fails so, with that error.
+    /// A writer that takes at most `most` bytes a write, and fails like this, with this error.
     pub fn new(most: usize, trouble: Trouble, kind: ErrorKind) -> Paper {
         Paper {
             text: [0; PAPER],
@@ -116,7 +116,7 @@ impl Paper {
         }
     }
 
-    /// Takes all that it keeps, at most so many bytes a write.
+    /// A writer that does not fail, and takes at most `most` bytes a write.
     pub fn sound(most: usize) -> Paper {
         Paper::new(most, Trouble::None, ErrorKind::BrokenPipe)
     }
@@ -154,18 +154,18 @@ impl Write for Paper {
     }
 }
 
-/// A file of a folder that a test makes.
+/// A file in memory.
 #[derive(Clone, Copy)]
 pub struct File<'a> {
     /// Its name.
     pub name: &'a [u8],
-    /// What it holds.
+    /// Its bytes.
     pub text: &'a [u8],
-    /// After how many bytes a read of it fails.
+    /// After how many bytes a read fails.
     pub until_fault: usize,
 }
 
-/// A file of which no read fails.
+/// A file that is read without a fault.
 pub fn whole<'a>(name: &'a [u8], text: &'a [u8]) -> File<'a> {
     File {
         name,
@@ -174,7 +174,7 @@ pub fn whole<'a>(name: &'a [u8], text: &'a [u8]) -> File<'a> {
     }
 }
 
-/// Opens the file of that name, which gives at most three bytes a read; fails if there is none.
+/// Opens the file of this name, of at most three bytes a read. Fails if there is none.
 pub fn open<'a>(files: &[File<'a>], name: &[u8]) -> io::Result<Script<'a>> {
     for file in files {
         if file.name == name {
@@ -184,7 +184,7 @@ pub fn open<'a>(files: &[File<'a>], name: &[u8]) -> io::Result<Script<'a>> {
     Err(Error::from(ErrorKind::NotFound))
 }
 
-/// These arguments, as a call gives them.
+/// The arguments of a call, from words.
 pub fn arguments_of(alloc: Global, words: &[&str]) -> Result<Vec<Vec<u8>>, AllocError> {
     let mut all = Vec::new(alloc);
     for word in words {
