@@ -40,7 +40,24 @@ static const struct row relatives[] = {
     RELATIVES(RELATIVE)
     {"crc32 of zlib", zlib_crc32, NULL},
 };
-enum { ROWS = sizeof rows / sizeof *rows, RELATIVES = sizeof relatives / sizeof *relatives, RUNS = 41, KEYS = 1 << 20 };
+// A key, which the compiler does not know, so that it is taken modulo the prime at each call.
+static volatile uint64_t key = 1234567890123456789u;
+
+static uint64_t poly61_at_key(const void *text, size_t n) { return hashers_poly61(key, text, n); }
+
+static uint64_t both_at_keys(const void *text, size_t n) { return hashers_poly61_pair(key, key + 1, text, n).second; }
+
+static uint64_t spooky_seeded(const void *text, size_t n) { return hashers_spooky128(text, n, key, key).first; }
+
+static uint64_t xxh3_seeded(const void *text, size_t n) { return XXH3_64bits_withSeed(text, n, key); }
+
+static const struct row keyed[] = {
+    {"poly61", poly61_at_key, NULL},
+    {"poly61_pair", both_at_keys, NULL},
+    {"spooky128 under seeds", spooky_seeded, NULL},
+    {"xxh3 of libxxhash under a seed", xxh3_seeded, NULL},
+};
+enum { KEYED = sizeof keyed / sizeof *keyed, ROWS = sizeof rows / sizeof *rows, RELATIVES = sizeof relatives / sizeof *relatives, RUNS = 41, KEYS = 1 << 20 };
 
 static int runs;
 
@@ -136,6 +153,8 @@ int main(int count, char **words) {
     for (size_t i = 0; i < ROWS; i++) row(rows + i);
     putchar('\n');
     for (size_t i = 0; i < RELATIVES; i++) row(relatives + i);
+    putchar('\n');
+    for (size_t i = 0; i < KEYED; i++) row(keyed + i);
     putchar('\n');
 #define WRITE(name) writes(#name, hashers_##name##_write);
     WRITES(WRITE) WRITE(oaat_state)

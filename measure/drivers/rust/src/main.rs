@@ -101,9 +101,36 @@ fn maps<K: Hash + Eq + Clone>(name: &str, keys: &[K]) {
         lookups::<K, rustc_hash::FxHasher>(keys),
         lookups::<K, ahash::AHasher>(keys),
         lookups::<K, DefaultHasher>(keys),
+        lookups::<K, ours::keyed::Poly61Hasher>(keys),
     ];
     let times = measure(&works, keys.len(), 20);
-    row(name, &[times[..3].to_vec(), times[3..7].to_vec(), times[7..8].to_vec(), times[8..].to_vec()]);
+    row(name, &[times[..3].to_vec(), times[3..7].to_vec(), times[7..8].to_vec(), times[8..9].to_vec(), times[9..].to_vec()]);
+}
+
+/// The hashes by poly61 at a key, which is taken modulo the prime at each call.
+fn at_key(keys: &[u8], size: usize) -> u64 {
+    keys.chunks_exact(size).fold(0, |all: u64, key| all.rotate_left(1) ^ ours::keyed::poly61(black_box(1234567890123456789), key))
+}
+
+/// A row for each hash that takes a key or seeds.
+fn under_keys() {
+    let all: [(&str, OfKeys); 4] = [
+        ("poly61", at_key),
+        ("spooky", inlined::<ours::jenkins::spooky_hash::SpookyHasher>),
+        ("ahash", inlined::<ahash::AHasher>),
+        ("SipHash of std", inlined::<DefaultHasher>),
+    ];
+    let times: Vec<Vec<f64>> = [(8, 512, 20), (16, 512, 20), (64, 512, 20), (1 << 20, 1, 1)]
+        .iter()
+        .map(|&(size, count, turns)| {
+            let keys = bytes(size * count);
+            let works: Vec<Work> = all.iter().map(|(_, side)| Box::new(|| side(&keys, black_box(size))) as Work).collect();
+            measure(&works, count, turns)
+        })
+        .collect();
+    for (place, (name, _)) in all.iter().enumerate() {
+        row(name, &times.iter().map(|at_size| vec![at_size[place]]).collect::<Vec<_>>());
+    }
 }
 
 /// The hashers of other crates beside the hash of that name: the same hash, and beside fx ahash, which is another one.
@@ -137,4 +164,6 @@ fn main() {
     let texts: Vec<String> = numbers.iter().map(|it| format!("{it:016x}")).collect();
     maps("u64", &numbers);
     maps("16 letters", &texts);
+    println!();
+    under_keys();
 }
