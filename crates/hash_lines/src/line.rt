@@ -40,6 +40,8 @@ pub struct Kind<'a> {
     pub width: Width,
     /// Which hash it is, by a number of the caller's.
     pub which: u32,
+    /// The keys of a keyed hash; zeros for any other.
+    pub keys: (u64, u64),
 }
 
 /// How a line is written.

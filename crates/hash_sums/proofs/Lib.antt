@@ -1,3 +1,4 @@
+pub mod KeyLemmas
 pub mod LawLemmas
 pub mod ListLemmas
 pub mod PassLemmas

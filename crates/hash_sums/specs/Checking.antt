@@ -17,7 +17,7 @@ use Rattle.hash_sums.specs.declared.check.Verdict.TheVariants.{Same, Different, 
 use Rattle.hash_sums.specs.declared.sum.Unsummed.{Unsummed}
 use Rattle.hash_sums.specs.declared.sum.Unsummed.TheVariants.{Unhashed, Unopened}
 use Rattle.hash_sums.specs.Files.{Opens, SumsFile}
-use Rattle.hash_sums.specs.Sums.{sum_at}
+use Rattle.hash_sums.specs.Sums.{sum_by}
 
 -- whether a file is not there
 abbrev pub is_not_found : ErrorKind → Bool
@@ -58,7 +58,7 @@ IsCame kinds kind opens ignore_missing line Skipped = is_skipped line ≡ true
 IsCame kinds kind opens ignore_missing line Improper = (is_skipped line ≡ false) × TellsNothing kinds kind line
 IsCame kinds kind opens ignore_missing line (Checked entry verdict) = (is_skipped line ≡ false)
     × TellsAny kinds kind entry.kind entry.name.items entry.number line
-    × IsVerdict (opens entry.name.items) (sum_at entry.kind.which) ignore_missing entry.number verdict
+    × IsVerdict (opens entry.name.items) (sum_by entry.kind) ignore_missing entry.number verdict
 
 -- what is said of a verdict, behind the name
 abbrev pub verdict_words : (quiet status : Bool) → Verdict → List ℕ

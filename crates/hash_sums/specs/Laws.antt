@@ -1,5 +1,6 @@
 -- What a check is proved to see.
-use Rattle.std.specs.Prelude.{ℕ, ◌≡◌, Bool, List, Option, Ok, IfSome, length}
+use Rattle.std.specs.Prelude.{ℕ, ◌≡◌, Bool, List, Option, Some, Result, Ok, IfSome, length}
+use Rattle.std.specs.declared.io.Error.{Error}
 use Rattle.hashers.specs.DifferWithin.{DifferAtOnePlace}
 use Rattle.hashers.specs.Text.{IsText}
 use Rattle.hash_sums.specs.declared.check.Verdict.TheVariants.{Same}
@@ -19,3 +20,7 @@ NeverPasses {F} opens name Changed = IfSome (number_named name) (λ hash.
 -- the texts have one length and differ in exactly one of their words
 abbrev pub DifferAtOneWord : (words : List ℕ → List ℕ) (x y : List ℕ) → Type 0
 DifferAtOneWord words x y = (length x ≡ length y) × DifferAtOnePlace (words x) (words y)
+
+-- whatever opens is a file that holds this text
+abbrev pub HoldsOnly : (opens : Result (Option (List ℕ)) Error → Type 0) → List ℕ → Type 0
+HoldsOnly opens text = (held : Option (List ℕ)) → opens (Ok held) → held ≡ Some text

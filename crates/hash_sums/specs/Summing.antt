@@ -8,7 +8,7 @@ use Rattle.hash_program.specs.declared.outcome.Nothing.{Nothing}
 use Rattle.hash_sums.specs.declared.sum.Summing.{Summing}
 use Rattle.hash_sums.specs.declared.sum.Unsummed.{Unsummed}
 use Rattle.hash_sums.specs.Files.{Opens, SumsFile}
-use Rattle.hash_sums.specs.Sums.{sum_at}
+use Rattle.hash_sums.specs.Sums.{sum_by}
 use Rattle.hash_sums.specs.Told.{AreTold, AreTornOff}
 
 -- the line of a file, with its end
@@ -24,7 +24,7 @@ line_told summing (name, Some number) = sum_line summing name number
 
 -- a file has its number, or it failed
 abbrev pub IsSummed : Summing → Opens → List ℕ × Option ℕ → Type 0
-IsSummed summing opens file = let sums = SumsFile (opens file.0) (sum_at summing.kind.which) in
+IsSummed summing opens file = let sums = SumsFile (opens file.0) (sum_by summing.kind) in
     MatchOption file.1 ((why : Unsummed) × sums (Err why)) (λ number. sums (Ok number))
 
 -- how the line of a file is told: it was written, or a beginning of it, or the file failed

@@ -3,12 +3,13 @@ ghost use Rattle.std.specs.Prelude.{◌≡◌, true, false, map, IfOk, MatchOpti
 ghost use Rattle.std.specs.IoError.{error_kind};
 ghost use Rattle.hash_sums.specs.Checking.{behind_name, counted, is_not_found, is_skipped, passes, said, verdict_on, verdict_words, IsCame, IsVerdict, TellsAny, TellsNothing};
 ghost use Rattle.hash_sums.specs.Lists.{bare, EndsLine, EndsList, EndsListOf, EndsLists};
-ghost use Rattle.hash_sums.specs.Sums.{sum_at};
+ghost use Rattle.hash_sums.specs.Sums.{sum_by};
 ghost use Rattle.std.specs.Io.Buffered.{writer_contents};
 
 use crate::fault::Fault;
 use crate::folder::Folder;
 use crate::sum::{Unsummed, error_of, number_of};
+use crate::sums::told_under;
 use hash_lines::escape::needs_escape;
 use hash_lines::forms::parse_form;
 use hash_lines::line::{Kind, push_name};
@@ -157,10 +158,10 @@ fn check_file<R: Read + Drop, F: Folder<R>>(
     entry: &Entry<'_>,
     ignore_missing: bool,
 ) -> Verdict
-    ensures { IsVerdict (F.opens folder.now entry.entry.now.name.items) (sum_at entry.entry.now.kind.which)
+    ensures { IsVerdict (F.opens folder.now entry.entry.now.name.items) (sum_by entry.entry.now.kind)
         ignore_missing entry.entry.now.number result }
 {
-    let came = number_of(folder, entry.kind.which, &entry.name);
+    let came = number_of(folder, entry.kind, &entry.name);
     let verdict = verdict_of(ignore_missing, entry.number, &came);
     if let Verdict::Unread = verdict {
         if let Err(unsummed) = came {
@@ -328,6 +329,7 @@ fn check_lines<B: BufRead, R: Read + Drop, F: Folder<R>, W: Write + Drop>(
         (writer_contents W.contents w.old) (writer_contents W.contents w.new) result }
 {
     let mut counts = UNCOUNTED;
+    let mut unkeyed = false;
     let mut line = Vec::new(alloc);
     for number in 1..u64::MAX {
         match next_line(lines, b'\n', &mut line) {
@@ -342,6 +344,10 @@ fn check_lines<B: BufRead, R: Read + Drop, F: Folder<R>, W: Write + Drop>(
             Ok(came) => {
                 counts = count(counts, &came);
                 warn(folder, checking.warn, list, number, &came);
+                if !unkeyed && needs_keys(alloc, checking.kind, &came, &line) {
+                    folder.unkeyed(list);
+                    unkeyed = true;
+                }
             }
             Err(fault) => return Err(fault),
         }
@@ -355,6 +361,20 @@ fn warn<R: Read, F: Folder<R>>(folder: &F, warn: bool, list: &[u8], number: u64,
         if warn {
             folder.improper(list, number);
         }
+    }
+}
+
+/// Whether an improper line would tell a hash if there were keys.
+fn needs_keys(alloc: Global, kind: Kind<'static>, came: &Came<'_>, line: &[u8]) -> bool {
+    match came {
+        Came::Improper => {
+            let keyed = [told_under((0, 0))];
+            matches!(
+                entry_of(alloc, &keyed, kind, without_end(line)),
+                Ok(Some(_))
+            )
+        }
+        _ => false,
     }
 }
 

@@ -1,17 +1,22 @@
 //! What a check is proved to see, as laws with no code of their own, over any files: of the text that was read of a file. Of a file whose
 //! bytes are not known, as one of the disk, they say that some text has the hash. A text's length is that of its file.
-ghost use Rattle.std.specs.Prelude.{◌≡◌, ℕ, true, All, List, Ok, Option, Some, codes};
+ghost use Rattle.std.specs.Prelude.{◌≡◌, ◌≢◌, ◌+◌, ◌^◌, ◌≤◌, ℕ, Bool, true, max, All, List, Ok, Option, Some, codes, length};
 ghost use Rattle.hashers.specs.DifferWithin.{DifferAtOnePlace, DifferWithin};
 ghost use Rattle.hashers.specs.Fx.{words32, words64};
+ghost use Rattle.hashers.specs.Text.{IsText};
+ghost use Rattle.hash_keyed.specs.Poly61.{prime61, word_count, ArePairs};
 ghost use Rattle.hash_lines.specs.declared.line.Kind.{Kind as LineKind};
 ghost use Rattle.hash_more.specs.Bursts.{DifferWithinBits};
 ghost use Rattle.hash_sums.specs.declared.check.Checking.{Checking};
-ghost use Rattle.hash_sums.specs.Laws.{DifferAtOneWord, NeverPasses};
+ghost use Rattle.hash_sums.specs.declared.check.Verdict.TheVariants.{Same};
+ghost use Rattle.hash_sums.specs.Checking.{IsVerdict};
+ghost use Rattle.hash_sums.specs.Laws.{DifferAtOneWord, HoldsOnly, NeverPasses};
 ghost use Rattle.hash_sums.specs.Lists.{EndsLists};
 ghost use Rattle.hash_sums.specs.Passed.{HasPassed};
-ghost use Rattle.hash_sums.specs.Sums.{number_named, sum_at, told_at};
+ghost use Rattle.hash_sums.specs.Sums.{number_named, poly61_at_both, sum_at, told_at};
 
 use crate::folder::Folder;
+use hash_keyed::laws::few_pairs_for_two_texts;
 use hash_more::crc32::{Crc32Hasher, Crc32cHasher};
 use hash_more::djb2_add::Djb2AddHasher;
 use hash_more::fnv1::{Fnv1Hasher32, Fnv1Hasher64};
@@ -87,6 +92,17 @@ pub fn a_changed_word_never_passes<R: Read, F: Folder<R>>()
     ensures fxhash32 { NeverPasses F.opens (codes "fxhash32") (DifferAtOneWord words32) }
 {
     one_changed_word_shows_fx();
+}
+
+/// Of a file that holds another text than its line tells of, few pairs of keys pass the check by poly61: at most the square of the
+/// number of words of the longer text and one more.
+pub fn few_pairs_pass_another_text<R: Read, F: Folder<R>>()
+    ensures { (folder : F) (file : List ℕ) (ignore_missing : Bool) (first text : List ℕ) (pairs : List (ℕ × ℕ))
+        → IsText first → IsText text → first ≢ text → HoldsOnly (F.opens folder file) text → ArePairs prime61 pairs
+        → All (λ keys. IsVerdict (F.opens folder file) (poly61_at_both keys) ignore_missing (poly61_at_both keys first) Same) pairs
+        → length pairs ≤ (max (word_count first) (word_count text) + 1) ^ 2 }
+{
+    few_pairs_for_two_texts();
 }
 
 /// Of lists that all pass, each was opened and read to its end, and none of their lines fails: of each that tells a hash, the

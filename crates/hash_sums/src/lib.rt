@@ -4,6 +4,7 @@
 pub mod check;
 mod fault;
 pub mod folder;
+pub mod keys;
 pub mod laws;
 pub mod sum;
 pub mod sums;

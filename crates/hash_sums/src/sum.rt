@@ -5,7 +5,7 @@ ghost use Rattle.std.specs.Io.KnownBytes.{Appends};
 ghost use Rattle.hash_program.specs.Streams.{AppendsPart};
 ghost use Rattle.hash_sums.specs.Files.{SumsFile};
 ghost use Rattle.hash_sums.specs.Summing.{EndsSum, EndsSums, sum_line};
-ghost use Rattle.hash_sums.specs.Sums.{sum_at};
+ghost use Rattle.hash_sums.specs.Sums.{sum_by};
 
 use crate::fault::Fault;
 use crate::folder::Folder;
@@ -55,13 +55,13 @@ pub(crate) fn error_of(unsummed: Unsummed) -> Error {
 /// The number of the file of that name, by a hash.
 pub fn number_of<R: Read + Drop, F: Folder<R>>(
     folder: &F,
-    which: u32,
+    kind: Kind<'_>,
     name: &[u8],
 ) -> Result<u128, Unsummed>
-    ensures { SumsFile (F.opens folder.now name.now) (sum_at which) result }
+    ensures { SumsFile (F.opens folder.now name.now) (sum_by kind.entry) result }
 {
     match folder.open(name) {
-        Ok(mut file) => match number_by(which, u64::MAX, &mut file) {
+        Ok(mut file) => match number_by(kind, u64::MAX, &mut file) {
             Ok(number) => Ok(number),
             Err(unhashed) => Err(Unsummed::Unhashed(unhashed)),
         },
@@ -121,7 +121,7 @@ fn sum_file<R: Read + Drop, F: Folder<R>, W: Write + Drop>(
     ensures { EndsSum summing (F.opens folder.now) name.now
         (writer_contents W.contents w.old) (writer_contents W.contents w.new) result }
 {
-    match number_of(folder, summing.kind.which, name) {
+    match number_of(folder, summing.kind, name) {
         Ok(number) => match tell_sum(alloc, summing, name, number, w) {
             Ok(()) => Ok(true),
             Err(fault) => Err(fault),

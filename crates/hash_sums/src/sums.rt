@@ -1,9 +1,10 @@
 //! The hashes by their names: how many digits the numbers of each have, and the number of what a reader gives.
-ghost use Rattle.std.specs.Prelude.{◌≡◌, map};
+ghost use Rattle.std.specs.Prelude.{◌≡◌, map, IfOk};
 ghost use Rattle.hash_names.specs.Reading.{Hashes, read};
 ghost use Rattle.hash_names.specs.ReadingLaws.{Hashes-agree};
-ghost use Rattle.hash_sums.specs.Sums.{kinds, sum_at, told_at, width_of};
+ghost use Rattle.hash_sums.specs.Sums.{kinds, sum_at, sum_by, told_at, told_of, told_under, width_of};
 
+use crate::keys::hash_of_poly61;
 use hash_lines::line::{Kind, Width};
 use hash_names::reading::{
     Unhashed, hash_of_pieces, hash_of_spooky_v1, hash_of_spooky128, hash_of_text,
@@ -11,6 +12,7 @@ use hash_names::reading::{
 use hash_names::table::{by_kind, kind_at};
 use hash_names::task::HashTask;
 use hashers::laws::{Piecewise, Streamed};
+use std::alloc::{AllocError, Global};
 use std::io::Read;
 use std::marker::PhantomData;
 
@@ -23,6 +25,12 @@ const PIECE: usize = 4096;
 /// Which hash is that of 128 bits: a number that no row of the table has.
 const SPOOKY128: u32 = u32::MAX;
 
+/// Which hash is the one under keys: another such number.
+const POLY61: u32 = u32::MAX - 1;
+
+/// How many rows the table has without its last, null, which is no hash.
+const ROWS: u32 = 21;
+
 /// How many digits so many bits have.
 fn width_of(bits: u32) -> Width
     ensures { result ≡ width_of bits }
@@ -34,11 +42,9 @@ fn width_of(bits: u32) -> Width
     }
 }
 
-/// The kind of that number.
+/// The kind of that number, which takes no keys.
 fn told_at(which: u32) -> Kind<'static>
-    ensures name { result.name.now ≡ (told_at which).name }
-    ensures width { result.width ≡ (told_at which).width }
-    ensures which { result.which ≡ which }
+    ensures { told_of result ≡ told_at which }
 {
     match kind_at(which) {
         Some(kind) => {
@@ -47,44 +53,43 @@ fn told_at(which: u32) -> Kind<'static>
                 name: row.name,
                 width: width_of(row.bits),
                 which,
+                keys: (0, 0),
             }
         }
         None => Kind {
             name: "spooky128",
             width: Width::ThirtyTwo,
             which,
+            keys: (0, 0),
         },
     }
 }
 
-/// The hashes that can be told, the default first: that of 128 bits, and the rows of the table but for null, which is no hash.
-pub fn kinds() -> [Kind<'static>; 22]
-    ensures { map (λ kind. record { name = kind.name.now; width = kind.width; which = kind.which }) result ≡ kinds }
+/// poly61 under two keys.
+pub fn told_under(keys: (u64, u64)) -> Kind<'static>
+    ensures { told_of result ≡ told_under keys }
 {
-    [
-        told_at(SPOOKY128),
-        told_at(0),
-        told_at(1),
-        told_at(2),
-        told_at(3),
-        told_at(4),
-        told_at(5),
-        told_at(6),
-        told_at(7),
-        told_at(8),
-        told_at(9),
-        told_at(10),
-        told_at(11),
-        told_at(12),
-        told_at(13),
-        told_at(14),
-        told_at(15),
-        told_at(16),
-        told_at(17),
-        told_at(18),
-        told_at(19),
-        told_at(20),
-    ]
+    Kind {
+        name: "poly61",
+        width: Width::ThirtyTwo,
+        which: POLY61,
+        keys,
+    }
+}
+
+/// The hashes that can be told, the default first: that of 128 bits, the rows of the table but for null, and poly61 if there are keys.
+pub fn kinds(alloc: Global, keys: Option<(u64, u64)>) -> Result<Vec<Kind<'static>>, AllocError>
+    ensures { IfOk result (λ told. map told_of told.items ≡ kinds keys) }
+{
+    let mut told = Vec::new(alloc);
+    told.push(told_at(SPOOKY128))?;
+    for which in 0..ROWS {
+        told.push(told_at(which))?;
+    }
+    if let Some(keys) = keys {
+        told.push(told_under(keys))?;
+    }
+    Ok(told)
 }
 
 /// To hash what a reader gives, if that is less than a limit in bytes.
@@ -126,12 +131,22 @@ fn widened(number: Result<u64, Unhashed>) -> Result<u128, Unhashed>
     }
 }
 
-/// The number by that hash of all that is read, if that is less than `limit` bytes.
-pub fn number_by<R: Read>(which: u32, limit: u64, r: &mut R) -> Result<u128, Unhashed>
+/// The number by a hash that takes no keys.
+fn number_at<R: Read>(which: u32, limit: u64, r: &mut R) -> Result<u128, Unhashed>
     ensures { Hashes (sum_at which) (read limit R.remaining r.old r.new) result }
 {
     match kind_at(which) {
         Some(kind) => widened(by_kind::<SumRead<R>>(kind, limit, r)),
         None => hash_of_spooky128::<R, BUFFER>(limit, r),
     }
+}
+
+/// The number by that hash of all that is read, if that is less than `limit` bytes.
+pub fn number_by<R: Read>(kind: Kind<'_>, limit: u64, r: &mut R) -> Result<u128, Unhashed>
+    ensures { Hashes (sum_by kind.entry) (read limit R.remaining r.old r.new) result }
+{
+    if kind.which == POLY61 {
+        return hash_of_poly61::<R, BUFFER>(kind.keys, limit, r);
+    }
+    number_at(kind.which, limit, r)
 }

@@ -1,5 +1,5 @@
 -- What the program is asked for, and how it ends.
-use Rattle.std.specs.Prelude.{ℕ, ◌≡◌, ◌||◌, if◌then◌else◌, Bool, true, false, List, [], ◌∷◌, Option, Some, None, Result, Ok, Err, map, codes}
+use Rattle.std.specs.Prelude.{ℕ, ◌≡◌, ◌||◌, ◌&&◌, ◌⊎◌, not, if◌then◌else◌, IsSome, Bool, true, false, List, [], ◌∷◌, Option, Some, None, Result, Ok, Err, map, codes}
 use Rattle.std.specs.Io.KnownBytes.{Keeps}
 use Rattle.std.specs.Char.{to_ascii_lowercase}
 use Rattle.std.specs.List.{find}
@@ -9,6 +9,9 @@ use Rattle.hash_lines.specs.declared.line.Kind.{Kind}
 use Rattle.hash_program.specs.Call.{Choice, Saying, flag, given, operands, taking, value_of}
 use Rattle.hash_program.specs.Frame.{EndsRequest, request_of}
 use Rattle.hash_program.specs.declared.fault.Fault.{Fault}
+use Rattle.hash_program.specs.declared.fault.Fault.TheVariants.{NoMemory}
+use Rattle.hash_program.specs.declared.frame.Request.{Request}
+use Rattle.hash_program.specs.declared.frame.Request.TheVariants.{Work}
 use Rattle.hash_program.specs.declared.frame.Text.{Text}
 use Rattle.hash_program.specs.declared.outcome.Nothing.{Nothing}
 use Rattle.hash_program.specs.declared.outcome.Outcome.{Outcome}
@@ -22,12 +25,14 @@ use Rattle.hashsum.specs.declared.outcome.Task.{Task}
 use Rattle.hashsum.specs.declared.outcome.Task.TheVariants as task
 use Rattle.hash_sums.specs.declared.sum.Summing.{Summing}
 use Rattle.hash_sums.specs.Files.{Opens}
+use Rattle.hash_sums.specs.Keys.{HasKeys}
 use Rattle.hash_sums.specs.Lists.{EndsLists}
 use Rattle.hash_sums.specs.Summing.{EndsSums}
+use Rattle.hash_sums.specs.Sums.{kinds, told_of}
 
 -- the options
 abbrev pub options : List Choice
-options = taking (Some 97) (codes "algorithm") ∷ flag (Some 99) (codes "check") ∷ flag None (codes "tag") ∷ flag None (codes "untagged")
+options = taking (Some 97) (codes "algorithm") ∷ taking None (codes "key-file") ∷ flag (Some 99) (codes "check") ∷ flag None (codes "tag") ∷ flag None (codes "untagged")
     ∷ flag (Some 122) (codes "zero") ∷ flag None (codes "quiet") ∷ flag None (codes "status") ∷ flag None (codes "strict")
     ∷ flag None (codes "ignore-missing") ∷ flag (Some 119) (codes "warn") ∷ flag (Some 98) (codes "binary") ∷ flag (Some 116) (codes "text")
     ∷ flag None (codes "list") ∷ flag None (codes "help") ∷ flag None (codes "version") ∷ []
@@ -69,20 +74,39 @@ abbrev pub gives_checking : (call : List Saying) → Bool
 gives_checking call = given (codes "status") call || given (codes "strict") call || given (codes "ignore-missing") call
     || given (codes "warn") call
 
--- what is to be done by a hash
-abbrev pub work_of : (call : List Saying) → Kind → Result Task (Wrong Misuse)
-work_of call kind = if given (codes "check") call then (if gives_writing call then Err (Own misuse.NotWithCheck) else Ok
-    (task.Check (checking_of call kind))) else
-    (if gives_checking call then Err (Own misuse.OnlyWithCheck) else Ok (task.Sum (summing_of call kind)))
+-- whether the hash that is asked for is poly61
+abbrev pub asks_for_poly61 : (call : List Saying) → Bool
+asks_for_poly61 call = is_poly61 (value_of (codes "algorithm") call)
+  where
+    is_poly61 : Option (List ℕ) → Bool
+    is_poly61 None = false
+    is_poly61 (Some name) = is_named name (codes "poly61")
 
--- the same, if there is such a hash
-abbrev pub work_by : (call : List Saying) → Option Kind → Result Task (Wrong Misuse)
-work_by call None = Err UnknownName
-work_by call (Some kind) = work_of call kind
+-- what is wrong with a call, but for the name of a hash
+abbrev pub misuse_of : (call : List Saying) → Option Misuse
+misuse_of call =
+    let checks = given (codes "check") call in
+    let keyed = given (codes "key-file") call in
+    let asks = asks_for_poly61 call in
+    if checks && gives_writing call then Some misuse.NotWithCheck
+    else if not checks && gives_checking call then Some misuse.OnlyWithCheck
+    else if asks && not keyed then Some misuse.NeedsKeyFile
+    else if keyed && not asks && not checks then Some misuse.UnusedKeyFile
+    else None
+
+-- what is to be done by a hash
+abbrev pub work_of : (call : List Saying) → Kind → Task
+work_of call kind = if given (codes "check") call then task.Check (checking_of call kind) else task.Sum (summing_of call kind)
+
+-- the same, if nothing is wrong and there is such a hash
+abbrev pub work_by : (call : List Saying) → Option Misuse → Option Kind → Result Task (Wrong Misuse)
+work_by call (Some misuse) kind = Err (Own misuse)
+work_by call None None = Err UnknownName
+work_by call None (Some kind) = Ok (work_of call kind)
 
 -- which work a call asks for
 abbrev pub task_of : List Kind → (call : List Saying) → Result Task (Wrong Misuse)
-task_of kinds call = work_by call (kind_of kinds (value_of (codes "algorithm") call))
+task_of kinds call = work_by call (misuse_of call) (kind_of kinds (value_of (codes "algorithm") call))
 
 -- the files of a call: its operands, or standard input
 abbrev pub files_or : (names : List (List ℕ)) → List (List ℕ)
@@ -111,7 +135,35 @@ EndsCall kinds opens call texts written written' =
     EndsRequest (request_of call) texts (EndsTask kinds opens (files_or (operands call)) written written' (task_of kinds call))
     (Unit {0}) written written'
 
+-- the key file of a call, if it is neither wrong nor asks for a text
+abbrev pub key_file : (call : List Saying) → Option (List ℕ)
+key_file call = at (request_of call) (misuse_of call)
+  where
+    at : Request → Option Misuse → Option (List ℕ)
+    at Work None = value_of (codes "key-file") call
+    at request misuse = None
+
+-- these are the keys in a key file, if there is one
+abbrev pub AreKeysOf : Opens → (file : Option (List ℕ)) → (keys : Option (ℕ × ℕ)) → Type 0
+AreKeysOf opens None keys = keys ≡ None
+AreKeysOf opens (Some file) keys = (pair : ℕ × ℕ) × (keys ≡ Some pair) × HasKeys (opens file) pair
+
+-- there was no memory, and nothing is written
+abbrev pub EndsForMemory : (written written' : Option (List ℕ)) → Outcome Misuse Nothing → Type 0
+EndsForMemory written written' result = (result ≡ Failed NoMemory) × Keeps written written'
+
+-- how the program ends, by the hashes that can be told under the keys of its key file; or the file has no keys, and nothing is written
+abbrev pub EndsWithKeys : Opens → (call : List Saying) (texts : Text → List ℕ) (written written' : Option (List ℕ))
+    → Outcome Misuse Nothing → Type 0
+EndsWithKeys opens call texts written written' result =
+    ((keys : Option (ℕ × ℕ)) × AreKeysOf opens (key_file call) keys × (told : List Kind) × (map told_of told ≡ kinds keys)
+    × EndsCall told opens call texts written written' result)
+    ⊎ (IsSome (key_file call) × (result ≡ Reported) × Keeps written written')
+    ⊎ EndsForMemory written written' result
+
 -- what it says on standard error of what else is wrong with a call
 abbrev pub words_of : Misuse → List ℕ
 words_of misuse.NotWithCheck = codes "-z, --tag and --untagged do not go with -c"
 words_of misuse.OnlyWithCheck = codes "--status, --strict, --ignore-missing and -w go with -c alone"
+words_of misuse.NeedsKeyFile = codes "poly61 needs --key-file"
+words_of misuse.UnusedKeyFile = codes "--key-file goes with -c and with -a poly61 alone"

@@ -56,6 +56,15 @@ impl<'r> Folder<Watched<'r>> for Disk<'r> {
         }
     }
 
+    fn unkeyed(&self, list: &[u8]) {
+        if self.status {
+            return;
+        }
+        if let Ok(list) = quoted(self.rt.alloc(), list) {
+            let _ = eprintln!(self.rt; "{NAME}: {list}: lines of poly61 need --key-file");
+        }
+    }
+
     fn ended(&self, list: &[u8], counts: &Counts) {
         let proper = counts.same > 0
             || counts.different > 0

@@ -1,5 +1,5 @@
 //! What the program is asked for, and how it ends.
-ghost use Rattle.std.specs.Prelude.{◌≡◌, ◌⊎◌, map, IfOk};
+ghost use Rattle.std.specs.Prelude.{◌≡◌, ◌⊎◌, map, IfOk, IsSome, MatchOption};
 ghost use Rattle.std.specs.List.{find};
 ghost use Rattle.std.specs.Option.{option_map};
 ghost use Rattle.std.specs.Io.Buffered.{writer_contents};
@@ -8,7 +8,7 @@ ghost use Rattle.hash_program.specs.declared.fault.Fault.TheVariants.{NoMemory};
 ghost use Rattle.hash_program.specs.declared.outcome.Outcome.TheVariants.{Failed};
 ghost use Rattle.hash_program.specs.Call.{call_of, choices, operands, sayings, texts};
 ghost use Rattle.hash_program.specs.Frame.{text_of};
-ghost use Rattle.hashsum.specs.Program.{checking_of, files_or, gives_writing, is_named, kind_of, of_run, options, summing_of, task_of, words_of, work_of, EndsCall, EndsTask};
+ghost use Rattle.hashsum.specs.Program.{asks_for_poly61, checking_of, files_or, gives_checking, gives_writing, is_named, key_file, kind_of, misuse_of, of_run, options, summing_of, task_of, words_of, work_of, AreKeysOf, EndsCall, EndsTask, EndsWithKeys};
 
 use hash_lines::line::{Form, Kind};
 use hash_program::call::{Call, Opt, flag, taking};
@@ -19,7 +19,9 @@ use hash_program::streams::put_out;
 use hash_sums::Fault;
 use hash_sums::check::{Checking, check_lists};
 use hash_sums::folder::Folder;
+use hash_sums::keys::keys_of;
 use hash_sums::sum::{Summing, sum_files};
+use hash_sums::sums::kinds;
 use std::alloc::{AllocError, Global};
 use std::io::{BufWriter, Read, Write};
 
@@ -39,6 +41,10 @@ pub enum Misuse {
     NotWithCheck,
     /// It gives, without `-c`, an option on how lines are checked.
     OnlyWithCheck,
+    /// It asks for poly61, and gives no key file.
+    NeedsKeyFile,
+    /// It gives a key file, and neither asks for poly61 nor checks lines.
+    UnusedKeyFile,
 }
 
 impl Words for Misuse {
@@ -48,6 +54,8 @@ impl Words for Misuse {
         match self {
             Misuse::NotWithCheck => "-z, --tag and --untagged do not go with -c",
             Misuse::OnlyWithCheck => "--status, --strict, --ignore-missing and -w go with -c alone",
+            Misuse::NeedsKeyFile => "poly61 needs --key-file",
+            Misuse::UnusedKeyFile => "--key-file goes with -c and with -a poly61 alone",
         }
     }
 }
@@ -59,11 +67,12 @@ pub type Wrong = outcome::Wrong<Misuse>;
 pub type Outcome = outcome::Outcome<Misuse, Nothing>;
 
 /// The options.
-fn options() -> [Opt; 15]
+fn options() -> [Opt; 16]
     ensures { choices result ≡ options }
 {
     [
         taking(Some(b'a'), b"algorithm"),
+        taking(None, b"key-file"),
         flag(Some(b'c'), b"check"),
         flag(None, b"tag"),
         flag(None, b"untagged"),
@@ -156,30 +165,68 @@ fn gives_writing(call: &Call<'_>) -> bool
     call.gives(b"zero") || call.gives(b"tag") || call.gives(b"untagged")
 }
 
+/// Whether the words give an option on how lines are checked.
+fn gives_checking(call: &Call<'_>) -> bool
+    ensures { result ≡ gives_checking (sayings call.now.said.items) }
+{
+    call.gives(b"status")
+        || call.gives(b"strict")
+        || call.gives(b"ignore-missing")
+        || call.gives(b"warn")
+}
+
+/// Whether the words ask for poly61.
+fn asks_for_poly61(call: &Call<'_>) -> bool
+    ensures { result ≡ asks_for_poly61 (sayings call.now.said.items) }
+{
+    match call.value(b"algorithm") {
+        Some(name) => is_named(name, b"poly61"),
+        None => false,
+    }
+}
+
+/// What is wrong with a call, but for the name of a hash.
+fn misuse_of(call: &Call<'_>) -> Option<Misuse>
+    ensures { result ≡ misuse_of (sayings call.now.said.items) }
+{
+    let checks = call.gives(b"check");
+    if checks && gives_writing(call) {
+        return Some(Misuse::NotWithCheck);
+    }
+    if !checks && gives_checking(call) {
+        return Some(Misuse::OnlyWithCheck);
+    }
+    let keyed = call.gives(b"key-file");
+    let asks = asks_for_poly61(call);
+    if asks && !keyed {
+        return Some(Misuse::NeedsKeyFile);
+    }
+    if keyed && !asks && !checks {
+        return Some(Misuse::UnusedKeyFile);
+    }
+    None
+}
+
 /// What is to be done by a hash of this kind.
-fn work_of(call: &Call<'_>, kind: Kind<'static>) -> Result<Task, Wrong>
+fn work_of(call: &Call<'_>, kind: Kind<'static>) -> Task
     ensures { result ≡ work_of (sayings call.now.said.items) kind.entry }
 {
-    let checking = checking_of(call, kind);
     if call.gives(b"check") {
-        return if gives_writing(call) {
-            Err(Wrong::Own(Misuse::NotWithCheck))
-        } else {
-            Ok(Task::Check(checking))
-        };
+        Task::Check(checking_of(call, kind))
+    } else {
+        Task::Sum(summing_of(call, kind))
     }
-    if checking.status || checking.strict || checking.ignore_missing || checking.warn {
-        return Err(Wrong::Own(Misuse::OnlyWithCheck));
-    }
-    Ok(Task::Sum(summing_of(call, kind)))
 }
 
 /// Which work a call asks for.
 fn task_of(kinds: &[Kind<'static>], call: &Call<'_>) -> Result<Task, Wrong>
     ensures { result ≡ task_of kinds.now (sayings call.now.said.items) }
 {
+    if let Some(misuse) = misuse_of(call) {
+        return Err(Wrong::Own(misuse));
+    }
     match kind_of(kinds, call.value(b"algorithm")) {
-        Some(kind) => work_of(call, kind),
+        Some(kind) => Ok(work_of(call, kind)),
         None => Err(Wrong::UnknownName),
     }
 }
@@ -248,6 +295,52 @@ pub fn outcome_of<R: Read + Drop, F: Folder<R>, W: Write + Drop>(
         Request::Text(text) => of_telling(put_out(w, text_of(&about, text))),
         Request::Work => match files(alloc, call) {
             Ok(files) => ended(alloc, folder, kinds, &files, task_of(kinds, call), w),
+            Err(_) => Outcome::Failed(Fault::NoMemory),
+        },
+    }
+}
+
+/// The key file of a call, if it gives one and is neither wrong nor asks for a text.
+fn key_file<'a>(call: &Call<'a>) -> Option<&'a [u8]>
+    ensures { option_map (λ name. name.now) result ≡ key_file (sayings call.now.said.items) }
+{
+    match (request_of(call), misuse_of(call)) {
+        (Request::Work, None) => call.value(b"key-file"),
+        _ => None,
+    }
+}
+
+/// The keys of a call, if it gives a key file. `None` if the file has none, which is told.
+fn keys_for<R: Read + Drop, F: Folder<R>>(folder: &F, call: &Call<'_>) -> Option<Option<(u64, u64)>>
+    ensures { let file = key_file (sayings call.now.said.items) in
+        MatchOption result (IsSome file) (AreKeysOf (F.opens folder.now) file) }
+{
+    match key_file(call) {
+        None => Some(None),
+        Some(file) => match keys_of(folder, file) {
+            Some(keys) => Some(Some(keys)),
+            None => None,
+        },
+    }
+}
+
+/// Does what the call asks for, by the hashes that can be told, and by poly61 under the keys of its key file. If the call gives one,
+/// it is read first; if it has no keys, that is told, and nothing else is read or written.
+pub fn outcome_with_keys<R: Read + Drop, F: Folder<R>, W: Write + Drop>(
+    alloc: Global,
+    folder: &F,
+    call: &Call<'_>,
+    about: About<'_>,
+    w: &mut BufWriter<W>,
+) -> Outcome
+    ensures { EndsWithKeys (F.opens folder.now) (sayings call.now.said.items)
+        (text_of about.entry.help.now about.entry.version.now about.entry.list.now)
+        (writer_contents W.contents w.old) (writer_contents W.contents w.new) result }
+{
+    match keys_for(folder, call) {
+        None => Outcome::Reported,
+        Some(keys) => match kinds(alloc, keys) {
+            Ok(kinds) => outcome_of(alloc, folder, &kinds, call, about, w),
             Err(_) => Outcome::Failed(Fault::NoMemory),
         },
     }

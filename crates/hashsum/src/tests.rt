@@ -1,12 +1,11 @@
 //! Tests of the program over files in memory.
-use crate::outcome::{call_of, outcome_of};
+use crate::outcome::{call_of, outcome_with_keys};
 use hash_names::table::KINDS;
 use hash_program::frame::About;
 use hash_program::outcome::{failure_of, status_of};
 use hash_program::rehearsal::{File, Paper, Script, Trouble, arguments_of, open, whole};
 use hash_sums::check::Counts;
 use hash_sums::folder::Folder;
-use hash_sums::sums::kinds;
 use std::alloc::Global;
 use std::io;
 use std::io::{BufWriter, Error, ErrorKind};
@@ -29,6 +28,8 @@ impl<'a> Folder<Script<'a>> for Shelf<'a> {
 
     fn improper(&self, _list: &[u8], _line: u64) {}
 
+    fn unkeyed(&self, _list: &[u8]) {}
+
     fn ended(&self, _list: &[u8], _counts: &Counts) {}
 }
 
@@ -48,7 +49,7 @@ fn run(
         version: "version\n",
         list: "list\n",
     };
-    let outcome = outcome_of(alloc, &Shelf { files }, &kinds(), &call, about, &mut output);
+    let outcome = outcome_with_keys(alloc, &Shelf { files }, &call, about, &mut output);
     drop(output);
     Ok((status_of(&outcome), failure_of(&outcome), paper))
 }
@@ -222,6 +223,94 @@ fn calls_end_by_the_table(rt: HostRuntime) {
         0,
         "spooky (-a) = c0f8a8f45543d50a\n",
     );
+}
+
+/// What became of calls over one set of files.
+fn each_ends(rt: &impl Abort, alloc: Global, files: &[File<'_>], calls: &[(&[&str], u8, &str)]) {
+    for (words, status, output) in calls {
+        ends(rt, alloc, words, files, *status, output);
+    }
+}
+
+/// Files for calls under keys. The lines in them are those of Python's `poly61_pair`.
+fn keyed() -> [File<'static>; 7] {
+    [
+        whole(b"foo", b"foobar"),
+        whole(b"empty", b""),
+        whole(b"key", b"0123456789abcdef"),
+        whole(b"other", b"fedcba9876543210"),
+        whole(b"short", b"0123456789abcde"),
+        whole(b"long", b"0123456789abcdefg"),
+        whole(
+            b"list",
+            b"poly61 (foo) = dd865879634880b660c86dfc5b95c503\nelf (foo) = 06d65882\n",
+        ),
+    ]
+}
+
+/// Lines under two keys of a file.
+#[test]
+fn lines_under_keys(rt: HostRuntime) {
+    each_ends(
+        &rt,
+        rt.alloc(),
+        &keyed(),
+        &[
+            (
+                &["-a", "poly61", "--key-file", "key", "foo", "empty"],
+                0,
+                "poly61 (foo) = dd865879634880b660c86dfc5b95c503\npoly61 (empty) = 95b7ccdbec042b6ca5f19bab2d12638d\n",
+            ),
+            (
+                &["--untagged", "--key-file=other", "-aPOLY61", "foo"],
+                0,
+                "6de757ae6caebb6341be0dbb6bce4072  foo\n",
+            ),
+            (
+                &["-c", "--key-file", "key", "list"],
+                0,
+                "foo: OK\nfoo: OK\n",
+            ),
+            (
+                &["-c", "--key-file", "other", "list"],
+                1,
+                "foo: FAILED\nfoo: OK\n",
+            ),
+            (&["-c", "list"], 0, "foo: OK\n"),
+            (&["-c", "--strict", "list"], 1, "foo: OK\n"),
+            (&["-c", "-a", "poly61", "list"], 2, ""),
+            (&["-a", "poly61", "foo"], 2, ""),
+            (&["--key-file", "key", "foo"], 2, ""),
+            (&["-a", "poly61", "--key-file", "short", "foo"], 1, ""),
+            (&["-a", "poly61", "--key-file", "long", "foo"], 1, ""),
+            (&["-a", "poly61", "--key-file", "none", "foo"], 1, ""),
+            (&["-c", "--key-file", "none", "list"], 1, ""),
+            (&["--help", "--key-file", "none"], 0, "help\n"),
+        ],
+    );
+}
+
+/// A byte that changed in a file fails under keys.
+#[test]
+fn changed_bytes_fail_under_keys(rt: HostRuntime) {
+    let list = b"poly61 (foo) = dd865879634880b660c86dfc5b95c503\n";
+    for at in 0..6 {
+        let mut changed = *b"foobar";
+        changed[at] ^= 1;
+        let files = [
+            whole(b"foo", &changed),
+            whole(b"key", b"0123456789abcdef"),
+            whole(b"-", list),
+        ];
+        ends(
+            &rt,
+            rt.alloc(),
+            &["-c", "--key-file", "key"],
+            &files,
+            1,
+            "foo: FAILED\n",
+        );
+    }
 }
 
 /// Reads that fail at each byte: nothing is told of such a file.
