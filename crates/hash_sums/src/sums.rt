@@ -66,7 +66,7 @@ fn told_at(which: u32) -> Kind<'static>
 }
 
 /// poly61 under two keys.
-pub fn told_under(keys: (u64, u64)) -> Kind<'static>
+pub(crate) fn told_under(keys: (u64, u64)) -> Kind<'static>
     ensures { told_of result ≡ told_under keys }
 {
     Kind {
