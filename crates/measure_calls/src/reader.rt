@@ -1,12 +1,12 @@
 //! `hash_reader` over a text in memory, through an array of 4096 bytes.
 
 use hash_fx::FxHasher;
-use hashers::reader::hash_reader;
 use hashers::fnv::FNV1aHasher64;
 use hashers::jenkins::Lookup3Hasher;
 use hashers::jenkins::spooky_hash::SpookyHasher;
 use hashers::laws::Piecewise;
 use hashers::oz::{LoseLoseHasher, SDBMHasher};
+use hashers::reader::hash_reader;
 
 /// The hash of what a reader of the text gives.
 #[inline(always)]
