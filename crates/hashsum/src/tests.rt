@@ -33,25 +33,33 @@ impl<'a> Folder<Script<'a>> for Shelf<'a> {
     fn ended(&self, _list: &[u8], _counts: &Counts) {}
 }
 
-/// What became of a call: its status, what failed, and what was written.
-fn run(
+/// What became of a call that writes onto this paper: its status, and what failed.
+fn called(
     alloc: Global,
-    words: &[&str],
-    files: &[File<'_>],
-    room: usize,
-) -> io::Result<(u8, &'static str, Paper)> {
-    let words = arguments_of(alloc, words)?;
-    let call = call_of(alloc, &words)?;
-    let mut paper = Paper::new(usize::MAX, Trouble::WriteFails(room), ErrorKind::BrokenPipe);
-    let mut output = BufWriter::with_capacity(alloc, 16, &mut paper)?;
+    words: &[Vec<u8>],
+    shelf: &Shelf<'_>,
+    paper: &mut Paper,
+) -> io::Result<(u8, &'static str)> {
+    let call = call_of(alloc, words)?;
+    let mut output = BufWriter::with_capacity(alloc, 16, paper)?;
     let about = About {
         help: "help\n",
         version: "version\n",
         list: "list\n",
     };
-    let outcome = outcome_with_keys(alloc, &Shelf { files }, &call, about, &mut output);
-    drop(output);
-    Ok((status_of(&outcome), failure_of(&outcome), paper))
+    let outcome = outcome_with_keys(alloc, shelf, &call, about, &mut output);
+    Ok((status_of(&outcome), failure_of(&outcome)))
+}
+
+/// The same of a call over these files.
+fn run(
+    alloc: Global,
+    words: &[&str],
+    files: &[File<'_>],
+    paper: &mut Paper,
+) -> io::Result<(u8, &'static str)> {
+    let words = arguments_of(alloc, words)?;
+    called(alloc, &words, &Shelf { files }, paper)
 }
 
 /// That a call ends so, and writes this.
@@ -63,8 +71,9 @@ fn ends(
     status: u8,
     output: &str,
 ) {
-    match run(alloc, words, files, usize::MAX) {
-        Ok((got, _, paper)) => {
+    let mut paper = Paper::sound(64);
+    match run(alloc, words, files, &mut paper) {
+        Ok((got, _)) => {
             assert_eq!(rt; paper.text(), output.as_bytes());
             assert_eq!(rt; got, status);
         }
@@ -354,8 +363,9 @@ fn a_write_fails_at_each_byte(rt: HostRuntime) {
     let files = [whole(b"a", b"a")];
     let line = b"elf (a) = 00000061\n";
     for room in 0..19usize {
-        match run(alloc, &["-a", "elf", "a"], &files, room) {
-            Ok((status, _, paper)) => {
+        let mut paper = Paper::new(64, Trouble::WriteFails(room), ErrorKind::BrokenPipe);
+        match run(alloc, &["-a", "elf", "a"], &files, &mut paper) {
+            Ok((status, _)) => {
                 assert_eq!(rt; status, 141);
                 assert_eq!(rt; paper.text(), &line[..room]);
             }
@@ -371,7 +381,8 @@ fn one_changed_byte_fails(rt: HostRuntime) -> Result<(), std::test::Fail> {
     let text = b"a small file";
     for kind in &KINDS[..7] {
         let name = kind.row().name;
-        let (_, _, paper) = run(alloc, &["-a", name, "f"], &[whole(b"f", text)], usize::MAX)?;
+        let mut paper = Paper::sound(64);
+        let _ = run(alloc, &["-a", name, "f"], &[whole(b"f", text)], &mut paper)?;
         for at in 0..text.len() {
             for change in [1u8, 2, 64, 128, 255] {
                 let mut changed = [0u8; 12];
@@ -409,12 +420,13 @@ fn refused_memory(rt: HostRuntime) {
         (["-a", "fnv1a32", "b\n"], "\\fnv1a32 (b\\n) = e40c292c\n"),
         (["-ca", "fnv1a32", "list"], "\\b\\n: OK\nfoo: OK\n"),
     ] {
-        match run(alloc, &words, &files, usize::MAX) {
-            Ok((0, failure, paper)) => {
+        let mut paper = Paper::sound(64);
+        match run(alloc, &words, &files, &mut paper) {
+            Ok((0, failure)) => {
                 assert_eq!(rt; failure, "");
                 assert_eq!(rt; paper.text(), said.as_bytes());
             }
-            Ok((status, failure, paper)) => {
+            Ok((status, failure)) => {
                 assert_eq!(rt; status, 1);
                 // Where nothing is said here, the list was told as one that cannot be read.
                 assert!(rt;
