@@ -36,7 +36,8 @@ pub meets_at_both : (opens : Result (Option (List ℕ)) Error → Type 0) (ignor
     → HoldsOnly opens text → (keys : ℕ × ℕ) → keys.0 < prime61 → keys.1 < prime61
     → IsVerdict opens (poly61_at_both keys) ignore_missing (poly61_at_both keys first) Same → MeetAtBoth first text keys
 meets_at_both opens ignore_missing first text is_first holds keys first_in second_in verdict =
-    let (held, can, read, file, same, none) = never_passes opens (poly61_at_both keys) (λ x y. ⊥) (λ x y one two no. absurd no) ignore_missing first
+    let (held, can, read, file, same, none) = never_passes opens (poly61_at_both keys) (λ x y. ⊥)
+    (λ x y one two no. absurd no) ignore_missing first
     is_first verdict in
     let whole : read ≡ text = all_read held text read (holds held can) file in
     let at_text : poly61_at_both keys text ≡ poly61_at_both keys first = ap (poly61_at_both keys) (sym whole) ∙ same in

@@ -66,8 +66,8 @@ fn read_keys<R: Read>(r: &mut R) -> io::Result<(u64, u64)>
     }
 }
 
-/// The keys in the file of that name: it has 16 bytes, the lowest byte of each key first. `None` if it has not, or cannot be read,
-/// which is told.
+/// The keys in the file of that name: it has 16 bytes, the lowest byte of each key first. `None` if it has not, or cannot
+/// be read, which is told.
 pub fn keys_of<R: Read + Drop, F: Folder<R>>(folder: &F, name: &[u8]) -> Option<(u64, u64)>
     ensures { IfSome result (HasKeys (F.opens folder.now name.now)) }
 {

@@ -94,12 +94,13 @@ pub fn a_changed_word_never_passes<R: Read, F: Folder<R>>()
     one_changed_word_shows_fx();
 }
 
-/// Of a file that holds another text than its line tells of, few pairs of keys pass the check by poly61: at most the square of the
-/// number of words of the longer text and one more.
+/// If a file holds another text than the one that its line was made of, it passes the check by poly61 under few pairs of
+/// keys only: at most the square of one more than the longer text has words.
 pub fn few_pairs_pass_another_text<R: Read, F: Folder<R>>()
     ensures { (folder : F) (file : List ℕ) (ignore_missing : Bool) (first text : List ℕ) (pairs : List (ℕ × ℕ))
         → IsText first → IsText text → first ≢ text → HoldsOnly (F.opens folder file) text → ArePairs prime61 pairs
-        → All (λ keys. IsVerdict (F.opens folder file) (poly61_at_both keys) ignore_missing (poly61_at_both keys first) Same) pairs
+        → All (λ keys. let hash = poly61_at_both keys in
+        IsVerdict (F.opens folder file) hash ignore_missing (hash first) Same) pairs
         → length pairs ≤ (max (word_count first) (word_count text) + 1) ^ 2 }
 {
     few_pairs_for_two_texts();

@@ -77,7 +77,8 @@ pub(crate) fn told_under(keys: (u64, u64)) -> Kind<'static>
     }
 }
 
-/// The hashes that can be told, the default first: that of 128 bits, the rows of the table but for null, and poly61 if there are keys.
+/// The hashes that can be told, the default first: that of 128 bits, the rows of the table but for null, and poly61 if
+/// there are keys.
 pub fn kinds(alloc: Global, keys: Option<(u64, u64)>) -> Result<Vec<Kind<'static>>, AllocError>
     ensures { IfOk result (λ told. map told_of told.items ≡ kinds keys) }
 {

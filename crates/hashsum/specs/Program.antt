@@ -32,8 +32,9 @@ use Rattle.hash_sums.specs.Sums.{kinds, told_of}
 
 -- the options
 abbrev pub options : List Choice
-options = taking (Some 97) (codes "algorithm") ∷ taking None (codes "key-file") ∷ flag (Some 99) (codes "check") ∷ flag None (codes "tag") ∷ flag None (codes "untagged")
-    ∷ flag (Some 122) (codes "zero") ∷ flag None (codes "quiet") ∷ flag None (codes "status") ∷ flag None (codes "strict")
+options = taking (Some 97) (codes "algorithm") ∷ taking None (codes "key-file") ∷ flag (Some 99) (codes "check")
+    ∷ flag None (codes "tag") ∷ flag None (codes "untagged") ∷ flag (Some 122) (codes "zero") ∷ flag None (codes "quiet")
+    ∷ flag None (codes "status") ∷ flag None (codes "strict")
     ∷ flag None (codes "ignore-missing") ∷ flag (Some 119) (codes "warn") ∷ flag (Some 98) (codes "binary") ∷ flag (Some 116) (codes "text")
     ∷ flag None (codes "list") ∷ flag None (codes "help") ∷ flag None (codes "version") ∷ []
 

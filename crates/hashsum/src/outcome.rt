@@ -324,8 +324,8 @@ fn keys_for<R: Read + Drop, F: Folder<R>>(folder: &F, call: &Call<'_>) -> Option
     }
 }
 
-/// Does what the call asks for, by the hashes that can be told, and by poly61 under the keys of its key file. If the call gives one,
-/// it is read first; if it has no keys, that is told, and nothing else is read or written.
+/// Does what the call asks for, by the hashes that can be told, and by poly61 under the keys of its key file. If the call
+/// gives one, it is read first; if it has no keys, that is told, and nothing else is read or written.
 pub fn outcome_with_keys<R: Read + Drop, F: Folder<R>, W: Write + Drop>(
     alloc: Global,
     folder: &F,
