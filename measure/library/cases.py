@@ -38,18 +38,6 @@ def hashes(texts, chosen=None):
     return columns
 
 
-PRIME = (1 << 61) - 1
-
-
-def poly61(text, key):
-    """The polynomial hash of a text at a key, by its definition."""
-    whole, state = len(text) // 7 * 7, 1
-    for at in range(0, whole, 7):
-        state = (state * key + int.from_bytes(text[at:at + 7], "little")) % PRIME
-    value = (state * key + int.from_bytes(text[whole:] + b"\1", "little")) * key % PRIME
-    return value + (value % 8 << 61)
-
-
 def hashes_of_keys(keys, chosen=None):
     """The same of keys, each a bytes in one piece."""
     return hashes((key.hex() for key in keys), chosen)
