@@ -1,4 +1,4 @@
-"""The hashes of texts, by the program of the crate measure_cases, which hashes by the proved functions."""
+"""The hashes of texts, by the program of the crate measure_lines, which hashes by the proved functions."""
 import subprocess
 import sys
 from array import array
@@ -14,7 +14,7 @@ PART = 65536
 
 @lru_cache(maxsize=None)
 def built():
-    return program("measure_cases")
+    return program("measure_lines")
 
 
 def told(lines, chosen):
@@ -23,7 +23,7 @@ def told(lines, chosen):
     said = subprocess.run(words, input="".join(line + "\n" for line in lines), stdout=subprocess.PIPE, text=True, check=True).stdout
     found = array("Q", map(int, said.split()))
     if len(found) != len(lines) * len(chosen):
-        sys.exit(f"measure_cases gave {len(found)} hashes of {len(chosen)} names to {len(lines)} texts")
+        sys.exit(f"measure_lines gave {len(found)} hashes of {len(chosen)} names to {len(lines)} texts")
     return found
 
 

@@ -6,17 +6,17 @@ use Rattle.std.proofs.KnownBytes.{Appends-kept, Appends-nil, Appends-trans}
 use Rattle.std.proofs.lemmas.Bool.{false≢true}
 use Rattle.std.proofs.lemmas.List.{append-nil, nil_from_length, drop-drop, drop-set-lt, get_or-drop, get_or-map, length-map, map-set, take_more, take_more_set}
 use Rattle.std.proofs.Math.Seq.{drop-cons}
-use Rattle.hash_program.specs.Streams.{AppendsPart}
+use Rattle.cli.specs.Streams.{AppendsPart}
 use Rattle.std.specs.Option.{is_some}
 use Rattle.std.specs.List.{flat_map, list_all}
 use Rattle.std.proofs.lemmas.Grind.{flat_map-append}
 use Rattle.std.proofs.lemmas.List.Folds.{list_all-append}
 use Rattle.dedup.specs.Inputs.{AreRead, ReadsInput, lines_read}
 use Rattle.dedup.specs.Inputs.AreRead.{behind, none}
-use Rattle.hash_texts.specs.Lines.{lines_by}
+use Rattle.text_set.specs.Lines.{lines_by}
 use Rattle.dedup.specs.Running.{AllBeginWith, EndsTaking, IsBeyond, IsWithin, NextBeginsWith, Run, WritesPart}
 use Rattle.dedup.specs.Taking.{BeginWith, BreaksInput, LeadsOn}
-use Rattle.hash_program.specs.declared.fault.Fault.{Fault}
+use Rattle.cli.specs.declared.fault.Fault.{Fault}
 use Rattle.dedup.specs.declared.fault.TooMany.{TooMany}
 use Rattle.dedup.specs.declared.run.Ended.{Ended}
 use Rattle.dedup.specs.declared.run.Ended.TheVariants.{Whole, InputFailed, TooManyLines}

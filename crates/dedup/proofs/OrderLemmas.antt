@@ -6,7 +6,7 @@ use Rattle.std.proofs.KnownBytes.{Appends-trans, Appends-kept}
 use Rattle.std.specs.List.{count_by, flat_map}
 use Rattle.std.proofs.lemmas.List.{append-nil, length-map, get_or-map, take_more, take_all}
 use Rattle.std.proofs.lemmas.Grind.{flat_map-append}
-use Rattle.hash_texts.specs.Firsts.{same_text_by, firsts_by}
+use Rattle.text_set.specs.Firsts.{same_text_by, firsts_by}
 use Rattle.dedup.specs.Tallies.{shown, shown_line, texts}
 use Rattle.dedup.specs.declared.tally.Which.{Which}
 

@@ -9,16 +9,16 @@ use Rattle.std.proofs.lemmas.Bool.{cases_lt, false≢true}
 use Rattle.std.proofs.Math.Seq.{take-append_seam, drop-append_seam, get_or-append_right}
 use Rattle.std.proofs.lemmas.List.{append-nil, get_or_append_left, length-take-le, nil_from_length}
 use Rattle.std.proofs.lemmas.List.Elements.{filter-append}
-use Rattle.hash_program.specs.Streams.{AppendsPart}
+use Rattle.cli.specs.Streams.{AppendsPart}
 use Rattle.dedup.specs.Between.{Filled, IsWhole, Takes}
-use Rattle.hash_texts.specs.Lines.{IsBare, IsLineEnd, lines_by}
+use Rattle.text_set.specs.Lines.{IsBare, IsLineEnd, lines_by}
 use Rattle.dedup.specs.Inputs.{ReadsInput, whole_lines}
 use Rattle.dedup.specs.Taking.{BeginWith, BreaksInput, BreaksOff, EndsInput, Grows, LeadsOn, LeavesInput, StopsWithin}
 use Rattle.dedup.specs.declared.run.Left.{Left}
 use Rattle.dedup.specs.declared.run.Left.TheVariants.{Done, Failed, Beyond}
-use Rattle.dedup.specs.declared.unread.Came.{Came}
-use Rattle.hash_texts.proofs.LinesOfText.{lines_of_line, one_line}
-use Rattle.hash_texts.proofs.LineLemmas.{bare_end, bare_line, line_before, some_line}
+use Rattle.dedup.specs.declared.unread.NextLine.{NextLine}
+use Rattle.text_set.proofs.LinesOfText.{lines_of_line, one_line}
+use Rattle.text_set.proofs.LineLemmas.{bare_end, bare_line, line_before, some_line}
 
 -- ---- lines that are taken
 
@@ -245,7 +245,7 @@ module _ (eol : ℕ) where
         let (later, all) = known start left (text ++ unread) reads.read in
         begins_whole start text (unread ++ later) reads.whole (on_some start _ _ (λ bytes is. is ∙ append_assoc text unread later) all)
 
-    module _ (unread' : List ℕ) (left' : Option (List ℕ)) (came : Came) (filled : Filled eol unread unread' left left' came) where
+    module _ (unread' : List ℕ) (left' : Option (List ℕ)) (came : NextLine) (filled : Filled eol unread unread' left left' came) where
       read_on : Consumes start left' (text ++ unread')
       read_on = subst (Consumes start left') (append_assoc text unread filled.text ∙ ap (λ l. text ++ l) (sym filled.is))
           (Consumes-trans _ _ _ _ _ reads.read filled.read)

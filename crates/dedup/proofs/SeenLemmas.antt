@@ -1,5 +1,5 @@
 -- The set of the texts that were seen.
-use Rattle.std.proofs.Common.{◌≡◌, ℕ, Result, Ok, Err, OnOk, OnErr, Bool, true, false, not, ◌||◌, List, [], ◌∷◌, ◌++◌, ap, sym, ◌∙◌, refl, if◌then◌else◌, Option, append_assoc, subst}
+use Rattle.std.proofs.Common.{◌≡◌, ℕ, Result, Ok, Err, OnOk, Bool, true, false, not, ◌||◌, List, [], ◌∷◌, ◌++◌, ap, sym, ◌∙◌, refl, if◌then◌else◌, Option, append_assoc, subst}
 use Rattle.std.specs.Io.BufRead.{strip_last}
 use Rattle.std.specs.Result.{is_ok}
 use Rattle.std.specs.Str.{bytes_eq}
@@ -8,13 +8,13 @@ use Rattle.std.proofs.lemmas.List.Folds.{list_any-append}
 use Rattle.std.proofs.KnownBytes.{Appends-trans}
 use Rattle.std.specs.Io.KnownBytes.{Appends}
 use Rattle.std.specs.List.{list_any}
-use Rattle.hash_program.specs.Streams.{AppendsPart}
-use Rattle.hash_texts.specs.Firsts.{AreSeen, once_by}
-use Rattle.hash_texts.specs.Lines.{as_line_by}
+use Rattle.cli.specs.Streams.{AppendsPart}
+use Rattle.text_set.specs.Firsts.{AreSeen, once_by}
+use Rattle.text_set.specs.Lines.{as_line_by}
 use Rattle.dedup.specs.Taking.{LeadsOn, StopsWithin}
-use Rattle.hash_texts.proofs.FirstsLemmas.{once_more}
-use Rattle.hash_texts.specs.Texts.{has, with_text}
-use Rattle.hash_texts.proofs.SetLemmas.{has_with}
+use Rattle.text_set.proofs.FirstsLemmas.{once_more}
+use Rattle.text_set.specs.Texts.{has, with_text}
+use Rattle.text_set.proofs.SetLemmas.{has_with}
 
 -- what is told to be new is not there, and what is told to be old is
 pub not_there : (there new : Bool) → new ≡ not there → new ≡ true → there ≡ false
@@ -80,11 +80,6 @@ module _ (eol : ℕ) (seen : List (List ℕ)) (line : List ℕ) where
     append_assoc (once_by eol ls) part rest ∙ ap (λ l. once_by eol ls ++ l) is ∙ sym (adds_new ls before new),
     Appends-trans _ _ _ _ _ written appends,
   )
-
--- what holds holds after an error
-pub on_err : {A E : Type 0} (P : Type 0) (result : Result A E) → P → OnErr result P
-on_err P (Ok it) holds = tt
-on_err P (Err error) holds = holds
 
 -- what holds at a success holds where there is one
 pub at_ok : {A E : Type 0} (P : Type 0) (result : Result A E) → is_ok result ≡ true → OnOk result P → P

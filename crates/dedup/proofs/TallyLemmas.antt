@@ -7,10 +7,10 @@ use Rattle.std.proofs.lemmas.Bool.{or_parts}
 use Rattle.std.proofs.lemmas.Cmp.{nat_list_eq_equiv}
 use Rattle.std.proofs.lemmas.List.{map-append, length-map, get_or-map, get_or_default}
 use Rattle.std.proofs.lemmas.List.Sums.{sum_by-append, count_by-le-length}
-use Rattle.hash_texts.specs.Firsts.{same_text_by, firsts_by}
+use Rattle.text_set.specs.Firsts.{same_text_by, firsts_by}
 use Rattle.dedup.specs.Tallies.{texts, Tallies}
-use Rattle.hash_texts.specs.Texts.{StandsAt, has, with_text}
-use Rattle.hash_texts.proofs.FirstsLemmas.{Apart, any-same, any_firsts, any_texts, firsts_apart, same-congr, firsts_with_new, firsts_with_seen, same_text-symm}
+use Rattle.text_set.specs.Texts.{StandsAt, has, with_text}
+use Rattle.text_set.proofs.FirstsLemmas.{Apart, any-same, any_firsts, any_texts, firsts_apart, same-congr, firsts_with_new, firsts_with_seen, same_text-symm}
 
 -- the count that is read at the place of a text that was there
 pub counted_place : (old new : List (List ℕ)) (text times : List ℕ) (place count : ℕ) → has old text ≡ true → new ≡ with_text old text

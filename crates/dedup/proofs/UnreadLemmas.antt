@@ -5,7 +5,7 @@ use Rattle.std.proofs.lemmas.Bool.{false≢true, true≢false}
 use Rattle.std.proofs.lemmas.List.{drop-drop, drop-take, get_or-drop, length-take-le, take-append-le, take_all}
 use Rattle.std.proofs.Math.Seq.{drop-append_seam, take-append-add}
 use borrow.Rule.Slice.PartMut.{put_mid, post_of}
-use Rattle.hash_texts.specs.Lines.{IsBare, IsLineEnd}
+use Rattle.text_set.specs.Lines.{IsBare, IsLineEnd}
 
 -- more bytes from the front are taken
 pub pass_more : (xs : List ℕ) (from to n : ℕ) → n ≤ to - from

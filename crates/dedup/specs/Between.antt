@@ -2,10 +2,10 @@
 use Rattle.std.specs.Prelude.{ℕ, ◌≡◌, ◌<◌, ◌+◌, Option, Some, List, [], ◌∷◌, ◌++◌, ◌≤◌, length, take, drop}
 use Rattle.std.specs.Io.KnownBytes.{Consumes, IsAtEnd}
 use Rattle.dedup.specs.Inputs.{whole_lines}
-use Rattle.hash_texts.specs.Lines.{lines_by, IsBare, IsLineEnd}
+use Rattle.text_set.specs.Lines.{lines_by, IsBare, IsLineEnd}
 use Rattle.dedup.specs.declared.ahead.Found.{Found}
-use Rattle.dedup.specs.declared.unread.Came.{Came}
-use Rattle.dedup.specs.declared.unread.Came.TheVariants.{Line, End, Fault}
+use Rattle.dedup.specs.declared.unread.NextLine.{NextLine}
+use Rattle.dedup.specs.declared.unread.NextLine.TheVariants.{Line, End, Fault}
 
 -- the first line of the bytes: how many bytes its text has, and a guess for this
 pub record IsFound (eol : ℕ) (tag_of : List ℕ → ℕ) (bytes : List ℕ) (found : Found) : Type 0 where
@@ -23,10 +23,10 @@ pub record IsWhole (eol : ℕ) (text : List ℕ) : Type 0 where
   pub ends : whole_lines eol text ≡ lines_by eol text
 
 -- what came of reading on: an end of a line among the bytes, or none in what was read until the input ended or failed
-abbrev pub HasCome : (eol : ℕ) (text unread : List ℕ) (left : Option (List ℕ)) → Came → Type 0
-HasCome eol text unread left Line = ¬ IsBare eol unread
-HasCome eol text unread left End = IsBare eol text × IsAtEnd left
-HasCome eol text unread left (Fault error) = IsBare eol text
+abbrev pub IsNextLine : (eol : ℕ) (text unread : List ℕ) (left : Option (List ℕ)) → NextLine → Type 0
+IsNextLine eol text unread left Line = ¬ IsBare eol unread
+IsNextLine eol text unread left End = IsBare eol text × IsAtEnd left
+IsNextLine eol text unread left (Fault error) = IsBare eol text
 
 -- so many bytes were read, and stand behind those before them; none were at the end alone
 abbrev pub ReadsBehind : (before after : List ℕ) (left left' : Option (List ℕ)) → ℕ → Type 0
@@ -34,11 +34,11 @@ ReadsBehind before after left left' n =
     (text : List ℕ) × (after ≡ before ++ text) × (length text ≡ n) × Consumes left left' text × (n ≡ 0 → IsAtEnd left')
 
 -- some bytes more were read
-pub record Filled (eol : ℕ) (unread unread' : List ℕ) (left left' : Option (List ℕ)) (came : Came) : Type 0 where
+pub record Filled (eol : ℕ) (unread unread' : List ℕ) (left left' : Option (List ℕ)) (came : NextLine) : Type 0 where
   pub text : List ℕ
   pub is : unread' ≡ unread ++ text
   pub read : Consumes left left' text
-  pub has_come : HasCome eol text unread' left' came
+  pub has_come : IsNextLine eol text unread' left' came
 
 -- so many lines and bytes of these are taken: all lines that are whole, or as many as may be
 pub record Takes (eol : ℕ) (bytes : List ℕ) (most count len : ℕ) : Type 0 where

@@ -3,7 +3,7 @@ use Rattle.std.specs.Prelude.{ℕ, ◌≡◌, ◌&&◌, if◌then◌else◌, Boo
 use Rattle.std.specs.Io.BufRead.{ends_with_byte}
 use Rattle.std.specs.Io.KnownBytes.{Consumes}
 use Rattle.std.specs.List.{filter}
-use Rattle.hash_texts.specs.Lines.{lines_by}
+use Rattle.text_set.specs.Lines.{lines_by}
 
 -- the lines that have an end
 abbrev pub whole_lines : (eol : ℕ) → List ℕ → List (List ℕ)

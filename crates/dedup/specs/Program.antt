@@ -1,13 +1,13 @@
 -- What the program is asked for, and how it ends.
 use Rattle.std.specs.Prelude.{ℕ, ◌≡◌, ◌||◌, if◌then◌else◌, List, [], ◌∷◌, Some, None, Result, Ok, Err, codes}
-use Rattle.hash_program.specs.Call.{Choice, Saying, flag, given}
-use Rattle.hash_program.specs.Frame.{EndsRequest, request_of, text_of}
-use Rattle.hash_program.specs.declared.fault.Fault.{Fault}
-use Rattle.hash_program.specs.declared.fault.Fault.TheVariants.{Own}
-use Rattle.hash_program.specs.declared.outcome.Nothing.{Nothing}
-use Rattle.hash_program.specs.declared.outcome.Outcome.{Outcome}
-use Rattle.hash_program.specs.declared.outcome.Outcome.TheVariants.{Done, Reported, Failed}
-use Rattle.hash_texts.specs.Firsts.{once_by}
+use Rattle.cli.specs.Call.{Choice, Saying, flag, given}
+use Rattle.cli.specs.Frame.{EndsRequest, request_of, text_of}
+use Rattle.cli.specs.declared.fault.Fault.{Fault}
+use Rattle.cli.specs.declared.fault.Fault.TheVariants.{Own}
+use Rattle.cli.specs.declared.outcome.Nothing.{Nothing}
+use Rattle.cli.specs.declared.outcome.Outcome.{Outcome}
+use Rattle.cli.specs.declared.outcome.Outcome.TheVariants.{Done, Reported, Failed}
+use Rattle.text_set.specs.Firsts.{once_by}
 use Rattle.dedup.specs.Running.{Ends, Run}
 use Rattle.dedup.specs.Tallies.{told}
 use Rattle.dedup.specs.declared.fault.TooMany.{TooMany}

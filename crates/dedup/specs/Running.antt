@@ -1,10 +1,10 @@
 -- What a run reads and writes, and how it ends.
 use Rattle.std.specs.Prelude.{ℕ, ◌≡◌, ◌<◌, ◌≤◌, Bool, true, false, List, [], ◌∷◌, ◌++◌, Option, Result, Ok, Err, length, map}
 use Rattle.std.specs.Io.KnownBytes.{Appends}
-use Rattle.hash_program.specs.Streams.{AppendsPart}
+use Rattle.cli.specs.Streams.{AppendsPart}
 use Rattle.dedup.specs.Inputs.{AreRead}
 use Rattle.dedup.specs.Taking.{BeginWith}
-use Rattle.hash_program.specs.declared.fault.Fault.{Fault}
+use Rattle.cli.specs.declared.fault.Fault.{Fault}
 use Rattle.dedup.specs.declared.fault.TooMany.{TooMany}
 use Rattle.dedup.specs.declared.run.Ended.{Ended}
 use Rattle.dedup.specs.declared.run.Ended.TheVariants.{Whole, InputFailed, TooManyLines}

@@ -1,9 +1,9 @@
 -- What comes of lines that are taken one after the other: how the task stands, and what is written.
 use Rattle.std.specs.Prelude.{ℕ, ◌≡◌, ◌<◌, ◌+◌, true, false, Option, List, [], ◌++◌, IfSome, length}
 use Rattle.std.specs.Io.KnownBytes.{Appends}
-use Rattle.hash_program.specs.Streams.{AppendsPart}
+use Rattle.cli.specs.Streams.{AppendsPart}
 use Rattle.dedup.specs.Inputs.{ReadsInput}
-use Rattle.hash_texts.specs.Lines.{lines_by}
+use Rattle.text_set.specs.Lines.{lines_by}
 use Rattle.dedup.specs.declared.run.Left.{Left}
 use Rattle.dedup.specs.declared.run.Left.TheVariants.{Done, Failed, Beyond}
 

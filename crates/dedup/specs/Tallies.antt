@@ -2,7 +2,7 @@
 use Rattle.std.specs.Prelude.{ℕ, ◌&&◌, not, ◌≡◌, ◌==◌, ◌-◌, ◌++◌, Bool, if◌then◌else◌, nat_lt, List, [], ◌∷◌, length, map, decimal}
 use Rattle.std.specs.Io.BufRead.{strip_last}
 use Rattle.std.specs.List.{count_by, flat_map, repeat}
-use Rattle.hash_texts.specs.Firsts.{same_text_by, firsts_by}
+use Rattle.text_set.specs.Firsts.{same_text_by, firsts_by}
 use Rattle.dedup.specs.declared.tally.Which.{Which}
 
 -- a number on the right of a column of seven, and a space

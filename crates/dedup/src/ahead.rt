@@ -1,12 +1,12 @@
 //! Where the next lines end. Some lines are looked at before the first of them is taken, so that the waits for memory overlap.
 ghost use Rattle.std.specs.Prelude.{◌≡◌, ◌<◌, ◌≤◌, ◌+◌, List, [], ◌∷◌, IfSome, IfNone, length, take, drop};
 ghost use Rattle.dedup.specs.Between.{AreNext, IsFound};
-ghost use Rattle.hash_texts.specs.Lines.{IsBare};
+ghost use Rattle.text_set.specs.Lines.{IsBare};
 
 use crate::task::LineTask;
-use hash_texts::Guess;
-use hash_texts::lines::line_end;
 use std::marker::Model;
+use text_set::Guess;
+use text_set::lines::line_end;
 
 /// How many lines are looked at ahead, at most.
 const MOST: usize = 16;

@@ -1,13 +1,13 @@
 //! What ends a run of this program before its output is whole.
 ghost use Rattle.std.specs.Prelude.{◌≡◌, not, IfOk, OnOk, OnErr};
 ghost use Rattle.dedup.specs.Status.{words_of};
-ghost use Rattle.hash_texts.specs.Slots.{tag_under};
-ghost use Rattle.hash_texts.specs.Texts.{StandsAt, has, with_text};
+ghost use Rattle.text_set.specs.Slots.{tag_under};
+ghost use Rattle.text_set.specs.Texts.{StandsAt, has, with_text};
 
-use hash_program::fault;
-use hash_program::outcome::Words;
-use hash_texts::{Full, Guess, Seen, Texts};
+use cli::fault;
+use cli::outcome::Words;
 use std::hash::BuildHasher;
+use text_set::{Full, Guess, Seen, Texts};
 
 /// More than can be taken.
 #[derive(Debug, Drop)]

@@ -1,8 +1,8 @@
-//! The law of what the program reads, with no code. What it writes of the lines then is in the laws of `hash_texts`.
+//! The law of what the program reads, with no code. What it writes of the lines then is in the laws of `text_set`.
 ghost use Rattle.std.specs.Prelude.{◌≡◌, true, ℕ, List, Option, map};
 ghost use Rattle.std.specs.List.{flat_map};
 ghost use Rattle.dedup.specs.Inputs.{AreRead};
-ghost use Rattle.hash_texts.specs.Lines.{lines_by};
+ghost use Rattle.text_set.specs.Lines.{lines_by};
 
 /// Of inputs that are known and were read to their ends the lines are those of each input, one behind the other.
 pub fn lines_of_whole_inputs()

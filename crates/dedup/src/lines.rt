@@ -4,26 +4,26 @@ ghost use Rattle.std.specs.Io.BufRead.{strip_last};
 ghost use Rattle.std.specs.Io.KnownBytes.{Appends};
 ghost use Rattle.dedup.specs.Between.{Takes};
 ghost use Rattle.dedup.specs.Taking.{BreaksOff, Grows, LeadsOn};
-ghost use Rattle.hash_program.specs.Streams.{AppendsPart};
-ghost use Rattle.hash_texts.specs.Lines.{as_line_by, lines_by};
+ghost use Rattle.cli.specs.Streams.{AppendsPart};
+ghost use Rattle.text_set.specs.Lines.{as_line_by, lines_by};
 
 use crate::ahead::Ahead;
 use crate::fault::Fault;
 use crate::task::LineTask;
-use hash_program::streams::{TRIES, put};
+use cli::streams::{TRIES, write_all};
 use std::io::Write;
 
 /// Writes a line of this text, and its end behind it if it has none. After a fault a beginning of that was written.
-pub fn put_line<W: Write>(w: &mut W, line: &[u8], text: &[u8], eol: u8) -> Result<(), Fault>
+pub fn write_line<W: Write>(w: &mut W, line: &[u8], text: &[u8], eol: u8) -> Result<(), Fault>
     requires { text.now ≡ strip_last eol line.now }
     ensures ok { OnOk result (Appends (W.contents w.old) (W.contents w.new) (as_line_by eol line.now)) }
     ensures err { OnErr result (AppendsPart (W.contents w.old) (W.contents w.new) (as_line_by eol line.now)) }
 {
     if text.len() < line.len() {
-        return put(w, line, TRIES);
+        return write_all(w, line, TRIES);
     }
-    put(w, line, TRIES)?;
-    put(w, &[eol], TRIES)
+    write_all(w, line, TRIES)?;
+    write_all(w, &[eol], TRIES)
 }
 
 /// Has the first lines taken, up to so many. Returns how many lines those are, each with its end, and how many bytes they

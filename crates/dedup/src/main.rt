@@ -15,16 +15,16 @@ mod task;
 mod tests;
 mod unread;
 
+use cli::arguments::arguments;
+use cli::call::Call;
+use cli::frame::{About, ended, wrong_word};
+use cli::inputs::{Told, inputs};
 use fault::Fault;
-use hash_program::arguments::arguments;
-use hash_program::call::Call;
-use hash_program::frame::{About, ended, wrong_word};
-use hash_program::inputs::{Told, inputs};
-use hash_texts::RandomKeys;
 use outcome::{Outcome, call_of, outcome_of};
 use std::io;
 use std::io::BufWriter;
 use std::process::ExitCode;
+use text_set::RandomKeys;
 
 /// How many bytes are written at once.
 const BUFFER: usize = 65536;

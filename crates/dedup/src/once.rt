@@ -1,19 +1,19 @@
 //! Lines, each once.
 ghost use Rattle.std.specs.Prelude.{◌≡◌, [], ℕ, List, OnOk};
 ghost use Rattle.std.specs.Io.Buffered.{writer_buffer, writer_contents};
-ghost use Rattle.hash_texts.specs.Slots.{tag_under};
-ghost use Rattle.hash_texts.specs.Firsts.{AreSeen, once_by};
+ghost use Rattle.text_set.specs.Slots.{tag_under};
+ghost use Rattle.text_set.specs.Firsts.{AreSeen, once_by};
 ghost use Rattle.dedup.specs.Running.{Ends, run_of};
 
 use crate::fault::{Fault, see};
-use crate::lines::put_line;
+use crate::lines::write_line;
 use crate::run::{Ended, take_inputs};
 use crate::task::LineTask;
-use hash_program::inputs::Complaints;
-use hash_texts::{Guess, Texts};
+use cli::inputs::Complaints;
 use std::alloc::Global;
 use std::hash::BuildHasher;
 use std::io::{BufWriter, Read, Write};
+use text_set::{Guess, Texts};
 
 /// The texts of the lines that came.
 #[derive(Drop)]
@@ -48,7 +48,7 @@ impl<S: BuildHasher + Drop> LineTask for Once<S> {
         w: &mut W,
     ) -> Result<(), Fault> {
         if see(&mut self.seen, text, guess)?.is_new {
-            put_line(w, line, text, eol)?;
+            write_line(w, line, text, eol)?;
         }
         Ok(())
     }

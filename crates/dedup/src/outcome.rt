@@ -1,6 +1,6 @@
 //! What the program is asked for, and how it ends.
 ghost use Rattle.std.specs.Prelude.{◌≡◌, IfOk};
-ghost use Rattle.hash_program.specs.Call.{call_of, choices, sayings, texts};
+ghost use Rattle.cli.specs.Call.{call_of, choices, sayings, texts};
 ghost use Rattle.std.specs.Io.Buffered.{writer_contents};
 ghost use Rattle.dedup.specs.Program.{Exits, of_run, options, work_of};
 ghost use Rattle.dedup.specs.Running.{run_of};
@@ -9,12 +9,12 @@ use crate::fault::{Fault, TooMany};
 use crate::once::dedup;
 use crate::run::Ended;
 use crate::tally::{Which, tally};
-use hash_program::call::{Call, Opt, flag};
-use hash_program::frame::{About, Request, request_of, text_of};
-use hash_program::inputs::Complaints;
-use hash_program::outcome;
-use hash_program::outcome::{Nothing, Wrong, of_telling};
-use hash_program::streams::put_out;
+use cli::call::{Call, Opt, flag};
+use cli::frame::{About, Request, request_of, text_of};
+use cli::inputs::Complaints;
+use cli::outcome;
+use cli::outcome::{Nothing, Wrong, of_telling};
+use cli::streams::write_out;
 use std::alloc::{AllocError, Global};
 use std::hash::BuildHasher;
 use std::io::{BufWriter, Read, Write};
@@ -49,7 +49,7 @@ fn options() -> [Opt; 6]
 pub fn call_of<'a>(alloc: Global, words: &'a [Vec<u8>]) -> Result<Call<'a>, AllocError>
     ensures { IfOk result (λ call. sayings call.said.items ≡ call_of options (texts words.now)) }
 {
-    hash_program::call::call_of(alloc, &options(), words)
+    cli::call::call_of(alloc, &options(), words)
 }
 
 /// What a call wants written of the lines.
@@ -101,7 +101,7 @@ pub fn outcome_of<S: BuildHasher + Drop, R: Read, C: Complaints, W: Write + Drop
 {
     match request_of(call) {
         Request::Misgiven(misgiven) => Outcome::Usage(Wrong::Option(misgiven)),
-        Request::Text(text) => of_telling(put_out(w, text_of(&about, text))),
+        Request::Text(text) => of_telling(write_out(w, text_of(&about, text))),
         Request::Work => match work_of(call) {
             Task::Once(eol) => of_run(dedup(alloc, hasher, eol, limit, inputs, complaints, w)),
             Task::Tallied(which, eol) => {

@@ -1,16 +1,16 @@
 //! A run over inputs, one behind the other.
 ghost use Rattle.std.specs.Prelude.{◌≡◌, ◌+◌, ◌≤◌, [], ℕ, List, IfOk, OnOk, OnErr, length};
 ghost use Rattle.std.specs.Io.Buffered.{writer_buffer, writer_contents};
-ghost use Rattle.hash_texts.specs.Lines.{IsBare, lines_by};
+ghost use Rattle.text_set.specs.Lines.{IsBare, lines_by};
 ghost use Rattle.dedup.specs.Running.{EndsTaking, run_of};
 ghost use Rattle.dedup.specs.Taking.{BreaksInput, EndsInput, Grows, LeavesInput, StopsWithin};
 
 use crate::fault::Fault;
 use crate::lines::take_lines;
 use crate::task::LineTask;
-use crate::unread::{Came, Unread};
-use hash_program::inputs::Complaints;
-use hash_program::streams::{TRIES, flush};
+use crate::unread::{NextLine, Unread};
+use cli::inputs::Complaints;
+use cli::streams::{TRIES, flush};
 use std::alloc::Global;
 use std::io::{BufWriter, Error, Read, Write};
 
@@ -92,7 +92,7 @@ fn take_input<T: LineTask, R: Read, W: Write + Drop>(
 {
     loop {
         match unread.fill(eol, r, w)? {
-            Came::Line => {
+            NextLine::Line => {
                 let (count, len) = take_lines(task, unread.bytes(), eol, *most, w)?;
                 *most -= count;
                 unread.pass(len);
@@ -102,12 +102,12 @@ fn take_input<T: LineTask, R: Read, W: Write + Drop>(
                     return Ok(Left::Beyond);
                 }
             }
-            Came::End => {
+            NextLine::End => {
                 let left = take_last(task, unread.bytes(), eol, most, w)?;
                 unread.clear();
                 return Ok(left);
             }
-            Came::Fault(error) => {
+            NextLine::Fault(error) => {
                 unread.clear();
                 return Ok(Left::Failed(error));
             }

@@ -5,18 +5,18 @@ ghost use Rattle.std.specs.Io.Buffered.{writer_buffer, writer_contents};
 ghost use Rattle.std.specs.Io.KnownBytes.{Appends};
 ghost use Rattle.dedup.specs.Running.{Ends, run_of};
 ghost use Rattle.dedup.specs.Tallies.{Tallies, column, is_shown, shown, told};
-ghost use Rattle.hash_program.specs.Streams.{AppendsPart};
-ghost use Rattle.hash_texts.specs.Slots.{tag_under};
+ghost use Rattle.cli.specs.Streams.{AppendsPart};
+ghost use Rattle.text_set.specs.Slots.{tag_under};
 
 use crate::fault::{Fault, see};
 use crate::run::{Ended, take_inputs};
 use crate::task::LineTask;
-use hash_program::inputs::Complaints;
-use hash_program::streams::{TRIES, flush, put};
-use hash_texts::{Guess, Texts};
+use cli::inputs::Complaints;
+use cli::streams::{TRIES, flush, write_all};
 use std::alloc::{AllocError, Global};
 use std::hash::BuildHasher;
 use std::io::{BufWriter, Read, Write};
+use text_set::{Guess, Texts};
 
 /// Which of the counted lines are written, and how.
 #[derive(Clone, Copy)]
@@ -175,7 +175,7 @@ fn write_tallies<S: BuildHasher + Drop, W: Write>(
     let mut out = Vec::new(alloc);
     for i in 0..times.len() {
         show(which, times[i], texts.text_at(i), eol, &mut out)?;
-        put(w, &out, TRIES)?;
+        write_all(w, &out, TRIES)?;
     }
     Ok(())
 }

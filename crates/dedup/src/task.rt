@@ -4,8 +4,8 @@ ghost use Rattle.std.specs.Io.BufRead.{strip_last};
 ghost use Rattle.dedup.specs.Taking.{LeadsOn, StopsWithin};
 
 use crate::fault::Fault;
-use hash_texts::Guess;
 use std::io::Write;
+use text_set::Guess;
 
 /// What is done with lines, one after the other.
 pub trait LineTask {

@@ -4,17 +4,17 @@ use crate::once::dedup;
 use crate::outcome::{Outcome, call_of, outcome_of};
 use crate::run::Ended;
 use crate::tally::{Which, tally};
-use hash_program::frame::About;
-use hash_program::inputs::Complaints;
-use hash_program::outcome::{failure_of, status_of};
-use hash_program::rehearsal::{Paper, Script, Trouble, arguments_of};
-use hash_texts::{RandomKeys, Texts};
+use cli::frame::About;
+use cli::inputs::Complaints;
+use cli::outcome::{failure_of, status_of};
+use cli::rehearsal::{Paper, Script, Trouble, arguments_of};
 use std::alloc::{AllocError, Global};
 use std::collections::HashSet;
 use std::hash::{BuildHasher, Hasher};
 use std::io;
 use std::io::{BufWriter, ErrorKind, Write};
 use std::process::Abort;
+use text_set::{RandomKeys, Texts};
 
 /// That the bytes are as wanted.
 fn same(rt: &impl Abort, got: &[u8], want: &[u8]) {

@@ -5,19 +5,19 @@ ghost use Rattle.std.specs.Io.KnownBytes.{Keeps};
 ghost use Rattle.dedup.specs.Between.{Filled, ReadsBehind};
 
 use crate::fault::Fault;
-use hash_program::streams::{TRIES, read_some};
-use hash_texts::lines::line_end;
+use cli::streams::{TRIES, read_some};
 use std::alloc::Global;
 use std::io;
 use std::io::{BufWriter, Error, Read, Write};
 use std::marker::Model;
+use text_set::lines::line_end;
 
 /// How many bytes are there at most, unless a line is longer than half of them.
 pub const BUFFER: usize = 65536;
 
 /// What came of reading on.
 #[derive(Drop)]
-pub enum Came {
+pub enum NextLine {
     /// The end of a line, which is among the bytes.
     Line,
     /// The end of the input. The bytes are its last line, which has no end, or none.
@@ -152,19 +152,19 @@ impl Unread {
         eol: u8,
         r: &mut R,
         due: &BufWriter<W>,
-    ) -> Result<Came, Fault>
+    ) -> Result<NextLine, Fault>
         requires { writer_buffer due.now ≡ [] }
         ensures { IfOk result (Filled eol self.old self.new (R.remaining r.old) (R.remaining r.new)) }
     {
         loop {
             let len = self.bytes().len();
             match self.read(r)? {
-                Ok(0) => return Ok(Came::End),
+                Ok(0) => return Ok(NextLine::End),
                 Ok(_) => {}
-                Err(error) => return Ok(Came::Fault(error)),
+                Err(error) => return Ok(NextLine::Fault(error)),
             }
             if line_end(&self.bytes()[len..], eol).is_some() {
-                return Ok(Came::Line);
+                return Ok(NextLine::Line);
             }
         }
     }

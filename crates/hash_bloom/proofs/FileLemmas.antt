@@ -1,5 +1,5 @@
 -- A filter's file, piece by piece.
-use Rattle.std.proofs.Common.{◌≡◌, ℕ, suc, ◌+◌, ◌*◌, ◌<◌, ◌^◌, ◌≤◌, List, [], ◌∷◌, ◌++◌, length, take, drop, get_or, Option, Some, None, Result, Ok, Err, OnErr, refl, sym, ap, ◌∙◌, subst, append_assoc, arith, codes, take-append-drop}
+use Rattle.std.proofs.Common.{◌≡◌, ℕ, suc, ◌+◌, ◌*◌, ◌<◌, ◌^◌, ◌≤◌, List, [], ◌∷◌, ◌++◌, length, take, drop, get_or, Option, Some, None, refl, sym, ap, ◌∙◌, subst, append_assoc, arith, codes, take-append-drop}
 use Rattle.std.specs.Io.KnownBytes.{Appends, Consumes}
 use Rattle.std.proofs.KnownBytes.{Appends-trans, Consumes-trans}
 use Rattle.std.proofs.Math.Seq.{take-append_seam}
@@ -10,8 +10,8 @@ use mir.Syntax.{w64}
 use Rattle.std.specs.Int.{from_le_bytes, to_le_bytes}
 use Rattle.hashers.proofs.RecurrenceLemmas.{recurrence-append}
 use Rattle.hashers.specs.Fnv.{fnv1a64_basis, fnv1a64_from, fnv1a64_step}
-use Rattle.hash_program.specs.Streams.{AppendsPart}
-use Rattle.hash_program.proofs.StreamLemmas.{part_behind, part_longer}
+use Rattle.cli.specs.Streams.{AppendsPart}
+use Rattle.cli.proofs.StreamLemmas.{part_behind, part_longer}
 use Rattle.hash_lines.specs.Hex.{hex, hex_value}
 use Rattle.hash_lines.proofs.HexLemmas.{hex_value-hex, length-hex}
 use Rattle.hash_bloom.specs.File.{IsStored, bytes_of, field, file_of, header, seal, sealed, title}
@@ -138,11 +138,6 @@ unfolding sealed
 file_written a b c line words i all before now =
     Appends-trans a b c (line ++ bytes_of words) (seal (line ++ bytes_of words))
     (subst (λ ws. Appends a b (line ++ bytes_of ws)) (take_all i words all) before) now
-
--- what holds at an error, of a result that is one
-pub on_err : {A E : Type 0} (P : Type 0) (result : Result A E) → P → OnErr result P
-on_err P (Ok it) holds = tt
-on_err P (Err error) holds = holds
 
 -- a beginning of the whole: of the line, up to a word, and up to the hash
 pub line_begun : (a b : Option (List ℕ)) (line words : List ℕ) → AppendsPart a b line → AppendsPart a b (sealed (line ++ bytes_of words))

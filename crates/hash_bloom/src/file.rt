@@ -6,7 +6,7 @@
 ghost use Rattle.std.specs.Prelude.{◌≡◌, ◌<◌, ◌≤◌, ◌^◌, ◌++◌, ℕ, List, IfOk, IfErr, OnErr, OnOk, Some, length, slice_index};
 ghost use Rattle.std.specs.Int.{to_le_bytes};
 ghost use Rattle.std.specs.Io.KnownBytes.{Appends, Consumes};
-ghost use Rattle.hash_program.specs.Streams.{AppendsPart};
+ghost use Rattle.cli.specs.Streams.{AppendsPart};
 ghost use Rattle.hash_bloom.specs.File.{BeginsNot, IsRefusal, IsStored, bytes_of, field, file_of, header, seal, sealed};
 ghost use Rattle.hash_bloom.specs.Filter.{Filter, filter_of};
 ghost use mir.Syntax.{w64};
@@ -15,9 +15,9 @@ ghost use mir.Syntax.{w64};
 mod tests;
 
 use crate::{Bloom, NoFilter};
+use cli::fault::Fault;
+use cli::streams::{TRIES, write_all};
 use hash_lines::hex::{MOST_DIGITS, hex_number, push_hex, put_hex};
-use hash_program::fault::Fault;
-use hash_program::streams::{TRIES, put};
 use hashers::fnv::FNV1aHasher64;
 use hashers::laws::Piecewise;
 use std::alloc::Global;
@@ -171,7 +171,7 @@ fn write_bytes<W: Write>(w: &mut W, bytes: &[u8]) -> io::Result<()>
     ensures ok { OnOk result (Appends (W.contents w.old) (W.contents w.new) bytes.now) }
     ensures err { OnErr result (AppendsPart (W.contents w.old) (W.contents w.new) bytes.now) }
 {
-    match put::<W, ()>(w, bytes, TRIES) {
+    match write_all::<W, ()>(w, bytes, TRIES) {
         Ok(()) => Ok(()),
         Err(Fault::Unwritten(Some(error))) => Err(error),
         Err(_) => Err(Error::from(ErrorKind::WriteZero)),

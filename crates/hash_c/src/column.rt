@@ -3,7 +3,7 @@ ghost use Rattle.std.specs.Prelude.{◌≡◌, ◌+◌, ◌<◌, ◌↔◌, ◌�
 ghost use Rattle.hashers.specs.Spooky.{spooky_v1};
 ghost use Rattle.hash_c.specs.Columns.{AreOffsets, IsColumn, IsColumnBy};
 ghost use Rattle.hash_c.specs.Lines.{laid_over};
-ghost use Rattle.hash_texts.specs.Lines.{line_texts};
+ghost use Rattle.text_set.specs.Lines.{line_texts};
 ghost use Rattle.hash_names.specs.Named.{hash_at, hash_of, kind_at};
 
 use hash_names::table::{Kind, by_kind, kind_at};
@@ -23,9 +23,9 @@ pub trait TextHash {
 }
 
 /// What a default hasher answers.
-pub struct Default<H>(PhantomData<H>);
+pub struct Unseeded<H>(PhantomData<H>);
 
-impl<H: Piecewise> TextHash for Default<H> {
+impl<H: Piecewise> TextHash for Unseeded<H> {
     ghost hash = { H.hash_of };
 
     #[inline(always)]
@@ -138,11 +138,11 @@ impl<'a, 'b, O: Offset> HashTask for InColumn<'a, 'b, O> {
         × IsColumn hash texts.0.now (map O.number texts.1.now) before.hashes.now after.hashes.now result };
 
     fn by_text<H: Streamed>(texts: (&'a [u8], &'a [O]), room: &mut Room<'b>) -> bool {
-        column::<Default<H>, O>(texts.0, texts.1, room.hashes)
+        column::<Unseeded<H>, O>(texts.0, texts.1, room.hashes)
     }
 
     fn by_pieces<H: Piecewise>(texts: (&'a [u8], &'a [O]), room: &mut Room<'b>) -> bool {
-        column::<Default<H>, O>(texts.0, texts.1, room.hashes)
+        column::<Unseeded<H>, O>(texts.0, texts.1, room.hashes)
     }
 
     fn by_spooky_v1(texts: (&'a [u8], &'a [O]), room: &mut Room<'b>) -> bool {
@@ -228,11 +228,11 @@ impl<'a, 'b> HashTask for InLines<'a, 'b> {
         × (after.hashes.now ≡ laid_over (map hash (line_texts 10 text.now)) before.hashes.now) };
 
     fn by_text<H: Streamed>(text: &'a [u8], room: &mut Room<'b>) -> usize {
-        hash_lines::<Default<H>>(text, room.hashes)
+        hash_lines::<Unseeded<H>>(text, room.hashes)
     }
 
     fn by_pieces<H: Piecewise>(text: &'a [u8], room: &mut Room<'b>) -> usize {
-        hash_lines::<Default<H>>(text, room.hashes)
+        hash_lines::<Unseeded<H>>(text, room.hashes)
     }
 
     fn by_spooky_v1(text: &'a [u8], room: &mut Room<'b>) -> usize {

@@ -2,7 +2,7 @@
 //! none. The answer is how many lines there are: where there is room for fewer hashes, those of the first lines are written.
 ghost use Rattle.std.specs.Prelude.{◌≡◌, length, map, IsSome};
 ghost use Rattle.hash_c.specs.Lines.{laid_over};
-ghost use Rattle.hash_texts.specs.Lines.{line_texts};
+ghost use Rattle.text_set.specs.Lines.{line_texts};
 ghost use Rattle.hash_names.specs.Named.{hash_at, kind_at};
 
 use crate::column::lines_by;

@@ -1,7 +1,7 @@
 -- What a line tells, or does not.
 use Rattle.std.proofs.Common.{◌≡◌, inl, inr, ℕ, ◌<◌, ◌^◌, ◌&&◌, ◌++◌, refl, Bool, true, false, List, ◌∷◌, Option, Some, None, MatchOption, IfOk, Result, Ok, Err, Contains, sym, ◌∙◌, subst}
 use Rattle.hash_lines.specs.declared.line.Kind.{Kind}
-use Rattle.hash_lines.specs.declared.parse.Entry.{Entry}
+use Rattle.hash_lines.specs.declared.parse.HashLine.{HashLine}
 use Rattle.hash_lines.specs.Escape.{needs_escape}
 use Rattle.hash_lines.specs.Hex.{hex}
 use Rattle.hash_lines.specs.declared.line.Form.{Form}
@@ -12,31 +12,31 @@ use Rattle.hash_lines.proofs.HexLemmas.{hex_value-hex, length-hex}
 use Rattle.hash_lines.proofs.LineLemmas.{found_by, tagged_shown, untagged_shown}
 
 pub tagged_found : {X : Type 0} (kind : Kind) (escapes : Bool) (shown body : List ℕ) (number : ℕ)
-    → ShowsTagged kind.name.now (digits_of kind.width) shown number body → (result : Result (Option Entry) X)
+    → ShowsTagged kind.name.now (digits_of kind.width) shown number body → (result : Result (Option HashLine) X)
     → IfOk result (λ found. MatchOption found ((name : List ℕ) → name_shown escapes name ≡ shown → ⊥)
     (λ entry. (entry.kind ≡ kind) × (entry.number ≡ number) × (name_shown escapes entry.name.items ≡ shown)))
     → IfOk result (λ found. MatchOption found ((name : List ℕ) (number : ℕ) → ¬ (TellsTagged kind escapes name number body))
     (λ entry. (entry.kind ≡ kind) × TellsTagged kind escapes entry.name.items entry.number body))
 tagged_found kind escapes shown body number shows result found =
-    found_by (λ (entry : Entry). entry.kind ≡ kind) (λ entry. entry.name.items) (λ entry. entry.number) (name_shown escapes)
+    found_by (λ (entry : HashLine). entry.kind ≡ kind) (λ entry. entry.name.items) (λ entry. entry.number) (name_shown escapes)
     (λ s n. ShowsTagged kind.name.now (digits_of kind.width) s n body)
     (λ xs ys a b one other. tagged_shown kind.name.now (digits_of kind.width) a b xs ys body one other) shown number shows result found
 
 pub untagged_found : {X : Type 0} (kind : Kind) (escapes : Bool) (shown body : List ℕ) (number : ℕ)
-    → ShowsUntagged (digits_of kind.width) shown number body → (result : Result (Option Entry) X)
+    → ShowsUntagged (digits_of kind.width) shown number body → (result : Result (Option HashLine) X)
     → IfOk result (λ found. MatchOption found ((name : List ℕ) → name_shown escapes name ≡ shown → ⊥)
     (λ entry. (entry.kind ≡ kind) × (entry.number ≡ number) × (name_shown escapes entry.name.items ≡ shown)))
     → IfOk result (λ found. MatchOption found ((name : List ℕ) (number : ℕ) → ¬ (TellsUntagged kind escapes name number body))
     (λ entry. (entry.kind ≡ kind) × TellsUntagged kind escapes entry.name.items entry.number body))
 untagged_found kind escapes shown body number shows result found =
-    found_by (λ (entry : Entry). entry.kind ≡ kind) (λ entry. entry.name.items) (λ entry. entry.number) (name_shown escapes)
+    found_by (λ (entry : HashLine). entry.kind ≡ kind) (λ entry. entry.name.items) (λ entry. entry.number) (name_shown escapes)
     (λ s n. ShowsUntagged (digits_of kind.width) s n body)
     (λ xs ys a b one other. untagged_shown (digits_of kind.width) a b xs ys body one other) shown number shows result found
 
 -- where no tagged line of one of the kinds is told
 pub body_found : {X : Type 0} (kinds : List Kind) (default : Kind) (escapes : Bool) (body : List ℕ)
     → ((other : Kind) → Contains kinds other → (name : List ℕ) (number : ℕ) → ¬ (TellsTagged other escapes name number body))
-    → (result : Result (Option Entry) X)
+    → (result : Result (Option HashLine) X)
     → IfOk result (λ found. MatchOption found ((name : List ℕ) (number : ℕ) → ¬ (TellsUntagged default escapes name number body))
     (λ entry. (entry.kind ≡ default) × TellsUntagged default escapes entry.name.items entry.number body))
     → IfOk result (λ found. MatchOption found
@@ -53,7 +53,7 @@ body_found kinds default escapes body untold (Ok (Some entry)) (is, tells) =
 
 -- behind the backslash
 pub escaped_found : {X : Type 0} (kinds : List Kind) (default : Kind) (line body : List ℕ) → 92 ∷ body ≡ line
-    → (result : Result (Option Entry) X)
+    → (result : Result (Option HashLine) X)
     → IfOk result (λ found. MatchOption found
     ((other : Kind) (name : List ℕ) (number : ℕ) → ¬ (TellsBody kinds default true other name number body))
     (λ entry. TellsBody kinds default true entry.kind entry.name.items entry.number body))
@@ -70,7 +70,7 @@ escaped_found kinds default line body is (Ok (Some entry)) tells = (body, is, te
 -- where no line with escapes is told
 pub line_found : {X : Type 0} (kinds : List Kind) (default : Kind) (line : List ℕ)
     → ((other : Kind) (name : List ℕ) (number : ℕ) → ¬ (TellsEscaped kinds default other name number line))
-    → (result : Result (Option Entry) X)
+    → (result : Result (Option HashLine) X)
     → IfOk result (λ found. MatchOption found
     ((other : Kind) (name : List ℕ) (number : ℕ) → ¬ (TellsBody kinds default false other name number line))
     (λ entry. TellsBody kinds default false entry.kind entry.name.items entry.number line))

@@ -5,7 +5,7 @@ ghost use Rattle.hash_lines.specs.Forms.{unmarked, IsBlankForm, IsSfvForm, IsTag
 ghost use Rattle.hash_lines.specs.Line.{tagged, untagged};
 
 use crate::line::Kind;
-use crate::parse::{Entry, behind, parse_line};
+use crate::parse::{HashLine, behind, parse_line};
 use std::alloc::{AllocError, Global};
 
 /// How many digits the CRC-32 of a line of an SFV file has.
@@ -132,7 +132,7 @@ pub fn parse_form<'k>(
     kinds: &[Kind<'k>],
     kind: Kind<'k>,
     line: &[u8],
-) -> Result<Option<Entry<'k>>, AllocError>
+) -> Result<Option<HashLine<'k>>, AllocError>
     ensures { IfOk result (λ found. IfSome found (λ entry.
         TellsSo kinds.entry.now kind.entry entry.kind entry.name.items entry.number line.now)) }
 {

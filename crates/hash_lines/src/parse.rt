@@ -11,7 +11,7 @@ use std::alloc::{AllocError, Global};
 
 /// What a line tells.
 #[derive(Drop)]
-pub struct Entry<'k> {
+pub struct HashLine<'k> {
     /// Which hash.
     pub kind: Kind<'k>,
     /// Of which file.
@@ -138,12 +138,12 @@ fn entry_of<'k>(
     escapes: bool,
     shown: &[u8],
     number: u128,
-) -> Result<Option<Entry<'k>>, AllocError>
+) -> Result<Option<HashLine<'k>>, AllocError>
     ensures { IfOk result (λ found. MatchOption found ((name : List ℕ) → name_shown escapes name ≢ shown.now)
         (λ entry. (entry.kind ≡ kind.entry) × (entry.number ≡ number) × (name_shown escapes entry.name.items ≡ shown.now))) }
 {
     match name_of(alloc, escapes, shown)? {
-        Some(name) => Ok(Some(Entry { kind, name, number })),
+        Some(name) => Ok(Some(HashLine { kind, name, number })),
         None => Ok(None),
     }
 }
@@ -154,7 +154,7 @@ fn tagged_entry<'k>(
     kind: Kind<'k>,
     escapes: bool,
     body: &[u8],
-) -> Result<Option<Entry<'k>>, AllocError>
+) -> Result<Option<HashLine<'k>>, AllocError>
     ensures { IfOk result (λ found. MatchOption found
         ((name : List ℕ) (number : ℕ) → ¬ (TellsTagged kind.entry escapes name number body.now))
         (λ entry. (entry.kind ≡ kind.entry) × TellsTagged kind.entry escapes entry.name.items entry.number body.now)) }
@@ -171,7 +171,7 @@ fn untagged_entry<'k>(
     kind: Kind<'k>,
     escapes: bool,
     body: &[u8],
-) -> Result<Option<Entry<'k>>, AllocError>
+) -> Result<Option<HashLine<'k>>, AllocError>
     ensures { IfOk result (λ found. MatchOption found
         ((name : List ℕ) (number : ℕ) → ¬ (TellsUntagged kind.entry escapes name number body.now))
         (λ entry. (entry.kind ≡ kind.entry) × TellsUntagged kind.entry escapes entry.name.items entry.number body.now)) }
@@ -189,7 +189,7 @@ fn body_entry<'k>(
     kind: Kind<'k>,
     escapes: bool,
     body: &[u8],
-) -> Result<Option<Entry<'k>>, AllocError>
+) -> Result<Option<HashLine<'k>>, AllocError>
     ensures { IfOk result (λ found. MatchOption found
         ((other : Kind) (name : List ℕ) (number : ℕ) → ¬ (TellsBody kinds.entry.now kind.entry escapes other name number body.now))
         (λ entry. TellsBody kinds.entry.now kind.entry escapes entry.kind entry.name.items entry.number body.now)) }
@@ -208,7 +208,7 @@ fn escaped_entry<'k>(
     kinds: &[Kind<'k>],
     kind: Kind<'k>,
     line: &[u8],
-) -> Result<Option<Entry<'k>>, AllocError>
+) -> Result<Option<HashLine<'k>>, AllocError>
     ensures { IfOk result (λ found. MatchOption found
         ((other : Kind) (name : List ℕ) (number : ℕ) → ¬ (TellsEscaped kinds.entry.now kind.entry other name number line.now))
         (λ entry. TellsEscaped kinds.entry.now kind.entry entry.kind entry.name.items entry.number line.now)) }
@@ -227,7 +227,7 @@ pub fn parse_line<'k>(
     kinds: &[Kind<'k>],
     kind: Kind<'k>,
     line: &[u8],
-) -> Result<Option<Entry<'k>>, AllocError>
+) -> Result<Option<HashLine<'k>>, AllocError>
     ensures { IfOk result (λ found. MatchOption found
         ((other : Kind) (name : List ℕ) (number : ℕ) → ¬ (Tells kinds.entry.now kind.entry other name number line.now))
         (λ entry. Tells kinds.entry.now kind.entry entry.kind entry.name.items entry.number line.now)) }

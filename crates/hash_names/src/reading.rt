@@ -8,9 +8,6 @@ ghost use Rattle.hash_names.specs.Reading.{Feeds, Hashes, read};
 use hash_jenkins::spooky_hash::SpookyHasher;
 use hash_laws::reader::{Fault, hash_reader};
 use hash_laws::traits::{Piecewise, Streamed};
-use std::error::Error as StdError;
-use std::fmt;
-use std::fmt::{Display, Formatter};
 use std::io::Read;
 
 /// Why there is no hash of what is read.
@@ -23,18 +20,6 @@ pub enum Unhashed {
     /// As many bytes were read as the limit allows, and no end was seen.
     TooLong,
 }
-
-impl Display for Unhashed {
-    fn fmt<W: fmt::Write>(&self, f: &mut Formatter<W>) -> fmt::Result {
-        match self {
-            Unhashed::UnknownName => write!(f, "no hash has this name"),
-            Unhashed::ReadFault(fault) => write!(f, "{fault}"),
-            Unhashed::TooLong => write!(f, "the input is too long"),
-        }
-    }
-}
-
-impl StdError for Unhashed {}
 
 /// A default hasher that was fed all that is to be read in pieces of `N` bytes, if that is less than `limit` bytes.
 pub fn fed<H: Piecewise, R: Read, const N: usize>(limit: u64, r: &mut R) -> Result<H, Unhashed>

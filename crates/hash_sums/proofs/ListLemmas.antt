@@ -3,16 +3,16 @@ use Rattle.std.proofs.Common.{◌≡◌, inl, inr, ℕ, true, List, [], ◌∷�
 use Rattle.std.proofs.KnownBytes.{Keeps-refl}
 use Rattle.std.proofs.lemmas.List.Sums.{fold-append}
 use Rattle.hash_lines.specs.declared.line.Kind.{Kind}
-use Rattle.hash_sums.specs.declared.check.Came.{Came}
+use Rattle.hash_sums.specs.declared.check.LineCheck.{LineCheck}
 use Rattle.hash_sums.specs.declared.check.Checking.{Checking}
 use Rattle.hash_sums.specs.declared.check.Counts.{Counts}
-use Rattle.hash_program.specs.declared.fault.Fault.{Fault}
-use Rattle.hash_program.specs.declared.outcome.Nothing.{Nothing}
+use Rattle.cli.specs.declared.fault.Fault.{Fault}
+use Rattle.cli.specs.declared.outcome.Nothing.{Nothing}
 use Rattle.hash_sums.specs.Checking.{counted}
 use Rattle.hash_sums.specs.Files.{Opens}
-use Rattle.hash_sums.specs.Lists.{counts_of, said_of, uncounted, AreLines, EndsLine, EndsList, IsCameOf}
+use Rattle.hash_sums.specs.Lists.{counts_of, said_of, uncounted, AreLines, EndsLine, EndsList, IsLineCheckOf}
 use Rattle.hash_sums.specs.Lists.AreLines.{behind, none}
-use Rattle.hash_texts.specs.Lines.{IsNext}
+use Rattle.text_set.specs.Lines.{IsNext}
 use Rattle.hash_sums.specs.Told.{AreTold}
 use Rattle.hash_sums.proofs.ToldLemmas.{told_more, told_start, torn_kept, torn_within}
 
@@ -20,18 +20,18 @@ use Rattle.hash_sums.proofs.ToldLemmas.{told_more, told_start, torn_kept, torn_w
 abbrev pub SoFar : List Kind → Checking → Opens → (left left' written written' : Option (List ℕ))
     → Counts → Type 0
 SoFar kinds checking opens left left' written written' counts =
-    (ls : List (List ℕ)) × AreLines left ls left' × (told : List (List ℕ × Came))
-    × AreTold (λ line. line.0) (IsCameOf kinds checking opens) (said_of checking) (λ line. true) ls told written written' true
+    (ls : List (List ℕ)) × AreLines left ls left' × (told : List (List ℕ × LineCheck))
+    × AreTold (λ line. line.0) (IsLineCheckOf kinds checking opens) (said_of checking) (λ line. true) ls told written written' true
     × (counts ≡ counts_of told)
 
 pub so_far_start : (kinds : List Kind) (checking : Checking) (opens : Opens) (left written : Option (List ℕ))
     → SoFar kinds checking opens left left written written uncounted
 so_far_start kinds checking opens left written =
-    ([], none, [], told_start (λ line. line.0) (IsCameOf kinds checking opens) (said_of checking) (λ line. true) written, refl)
+    ([], none, [], told_start (λ line. line.0) (IsLineCheckOf kinds checking opens) (said_of checking) (λ line. true) written, refl)
 
 -- one line more
 pub so_far_more : (kinds : List Kind) (checking : Checking) (opens : Opens)
-    (left here left' written between written' : Option (List ℕ)) (counts counts' : Counts) (line given : List ℕ) (came : Came)
+    (left here left' written between written' : Option (List ℕ)) (counts counts' : Counts) (line given : List ℕ) (came : LineCheck)
     → SoFar kinds checking opens left here written between counts → IsNext 10 here line left' → given ≡ line
     → EndsLine kinds checking opens given between written' (Ok came) → counts' ≡ counted counts came
     → SoFar kinds checking opens left left' written written' counts'
@@ -40,10 +40,10 @@ so_far_more kinds checking opens left here left' written between written' counts
       ls ++ line ∷ [],
       behind line are next,
       told ++ (line, came) ∷ [],
-      told_more (λ l. l.0) (IsCameOf kinds checking opens) (said_of checking) (λ l. true) ls told written between written' true (line, came)
-          so_far (subst (λ t. IsCameOf kinds checking opens (t, came)) same is_came) appends,
+      told_more (λ l. l.0) (IsLineCheckOf kinds checking opens) (said_of checking) (λ l. true) ls told written between written' true (line, came)
+          so_far (subst (λ t. IsLineCheckOf kinds checking opens (t, came)) same is_came) appends,
       more ∙ ap (λ n. counted n came) counts_are
-          ∙ sym (fold-append (λ (n : Counts) (l : List ℕ × Came). counted n l.1) uncounted told ((line, came) ∷ [])),
+          ∙ sym (fold-append (λ (n : Counts) (l : List ℕ × LineCheck). counted n l.1) uncounted told ((line, came) ∷ [])),
     )
 
 -- a line of which a beginning of what came was written
@@ -57,7 +57,7 @@ torn_off kinds checking opens left here left' written between written' counts li
       ls ++ line ∷ [],
       left',
       behind line are next,
-      torn_kept (λ l. l.0) (IsCameOf kinds checking opens) (said_of checking) (λ l. true) ls (line ∷ []) (ls ++ line ∷ []) told written
+      torn_kept (λ l. l.0) (IsLineCheckOf kinds checking opens) (said_of checking) (λ l. true) ls (line ∷ []) (ls ++ line ∷ []) told written
           between
           written' true so_far kept refl,
     )
@@ -66,8 +66,8 @@ torn_off kinds checking opens left here left' written between written' counts li
       ls ++ line ∷ [],
       left',
       behind line are next,
-      torn_within (λ l. l.0) (IsCameOf kinds checking opens) (said_of checking) (λ l. true) ls [] (ls ++ line ∷ []) told written between
-          written' true (line, came) so_far (subst (λ t. IsCameOf kinds checking opens (t, came)) same is_came) part refl,
+      torn_within (λ l. l.0) (IsLineCheckOf kinds checking opens) (said_of checking) (λ l. true) ls [] (ls ++ line ∷ []) told written between
+          written' true (line, came) so_far (subst (λ t. IsLineCheckOf kinds checking opens (t, came)) same is_came) part refl,
     )
 
 -- nothing is read or written
@@ -77,6 +77,6 @@ list_torn_off kinds checking opens left written fault = (
   [],
   left,
   none,
-  torn_kept (λ line. line.0) (IsCameOf kinds checking opens) (said_of checking) (λ line. true) [] [] [] [] written written written true
-      (told_start (λ line. line.0) (IsCameOf kinds checking opens) (said_of checking) (λ line. true) written) (Keeps-refl written) refl,
+  torn_kept (λ line. line.0) (IsLineCheckOf kinds checking opens) (said_of checking) (λ line. true) [] [] [] [] written written written true
+      (told_start (λ line. line.0) (IsLineCheckOf kinds checking opens) (said_of checking) (λ line. true) written) (Keeps-refl written) refl,
 )

@@ -4,8 +4,8 @@ use Rattle.std.specs.List.{fold, Any}
 use Rattle.std.proofs.lemmas.Bool.{and_parts, eqb-true, ltb-true, ltb-false}
 use Rattle.std.proofs.lemmas.List.Elements.{All-cons, All-nil, All-push}
 use Rattle.hash_lines.specs.declared.line.Kind.{Kind}
-use Rattle.hash_sums.specs.declared.check.Came.{Came}
-use Rattle.hash_sums.specs.declared.check.Came.TheVariants.{Skipped, Improper, Checked}
+use Rattle.hash_sums.specs.declared.check.LineCheck.{LineCheck}
+use Rattle.hash_sums.specs.declared.check.LineCheck.TheVariants.{Skipped, Improper, Checked}
 use Rattle.hash_sums.specs.declared.check.Checking.{Checking}
 use Rattle.hash_sums.specs.declared.check.Counts.{Counts}
 use Rattle.hash_sums.specs.declared.check.Verdict.TheVariants.{Same, Different, Unread, Missing}
@@ -23,9 +23,9 @@ Any-first : {X : Type 0} (P : X → Type 0) (x : X) (xs : List X) → P x → An
 Any-first P x xs holds = (0, x, zero-lt-suc (length xs), refl, holds)
 
 -- a count that goes up at some of what comes of lines
-module _ (count : Counts → ℕ) (counts_it : Came → Bool)
-    (step : (counts : Counts) (came : Came) → count (counted counts came) ≡ (if counts_it came then one_more (count counts) else count counts)) where
-  abbrev after : Counts → List (List ℕ × Came) → ℕ
+module _ (count : Counts → ℕ) (counts_it : LineCheck → Bool)
+    (step : (counts : Counts) (came : LineCheck) → count (counted counts came) ≡ (if counts_it came then one_more (count counts) else count counts)) where
+  abbrev after : Counts → List (List ℕ × LineCheck) → ℕ
   after counts lines = count (fold (λ c line. counted c line.1) counts lines)
 
   -- it never goes down
@@ -33,7 +33,7 @@ module _ (count : Counts → ℕ) (counts_it : Came → Bool)
   stays_0 n true is = absurd (omega (arith, is))
   stays_0 n false is = (is, refl)
 
-  pub none_counted : (counts : Counts) (lines : List (List ℕ × Came)) → after counts lines ≡ 0
+  pub none_counted : (counts : Counts) (lines : List (List ℕ × LineCheck)) → after counts lines ≡ 0
       → (count counts ≡ 0) × All (λ line. counts_it line.1 ≡ false) lines
   none_counted counts [] is = (is, All-nil (λ line. counts_it line.1 ≡ false))
   none_counted counts (line ∷ lines) is =
@@ -45,7 +45,7 @@ module _ (count : Counts → ℕ) (counts_it : Came → Bool)
   grew n true up = inr refl
   grew n false up = inl up
 
-  pub some_counted : (counts : Counts) (lines : List (List ℕ × Came)) → 0 < after counts lines
+  pub some_counted : (counts : Counts) (lines : List (List ℕ × LineCheck)) → 0 < after counts lines
       → (0 < count counts) ⊎ Any (λ line. counts_it line.1 ≡ true) lines
   some_counted counts [] up = inl up
   some_counted counts (line ∷ lines) up = sort (some_counted (counted counts line.1) lines up)
@@ -60,12 +60,12 @@ module _ (count : Counts → ℕ) (counts_it : Came → Bool)
       sort (inr later) = inr (Any-later (λ l. counts_it l.1 ≡ true) line lines later)
 
 -- which count goes up at what
-abbrev is_improper : Came → Bool
+abbrev is_improper : LineCheck → Bool
 is_improper Skipped = false
 is_improper Improper = true
 is_improper (Checked entry verdict) = false
 
-abbrev is_different : Came → Bool
+abbrev is_different : LineCheck → Bool
 is_different Skipped = false
 is_different Improper = false
 is_different (Checked entry Same) = false
@@ -73,7 +73,7 @@ is_different (Checked entry Different) = true
 is_different (Checked entry Unread) = false
 is_different (Checked entry Missing) = false
 
-abbrev is_unread : Came → Bool
+abbrev is_unread : LineCheck → Bool
 is_unread Skipped = false
 is_unread Improper = false
 is_unread (Checked entry Same) = false
@@ -81,7 +81,7 @@ is_unread (Checked entry Different) = false
 is_unread (Checked entry Unread) = true
 is_unread (Checked entry Missing) = false
 
-step_improper : (counts : Counts) (came : Came)
+step_improper : (counts : Counts) (came : LineCheck)
     → (counted counts came).improper ≡ (if is_improper came then one_more counts.improper else counts.improper)
 step_improper counts Skipped = refl
 step_improper counts Improper = refl
@@ -90,7 +90,7 @@ step_improper counts (Checked entry Different) = refl
 step_improper counts (Checked entry Unread) = refl
 step_improper counts (Checked entry Missing) = refl
 
-step_different : (counts : Counts) (came : Came)
+step_different : (counts : Counts) (came : LineCheck)
     → (counted counts came).different ≡ (if is_different came then one_more counts.different else counts.different)
 step_different counts Skipped = refl
 step_different counts Improper = refl
@@ -99,7 +99,7 @@ step_different counts (Checked entry Different) = refl
 step_different counts (Checked entry Unread) = refl
 step_different counts (Checked entry Missing) = refl
 
-step_unread : (counts : Counts) (came : Came)
+step_unread : (counts : Counts) (came : LineCheck)
     → (counted counts came).unread ≡ (if is_unread came then one_more counts.unread else counts.unread)
 step_unread counts Skipped = refl
 step_unread counts Improper = refl
@@ -108,7 +108,7 @@ step_unread counts (Checked entry Different) = refl
 step_unread counts (Checked entry Unread) = refl
 step_unread counts (Checked entry Missing) = refl
 
-step_same : (counts : Counts) (came : Came)
+step_same : (counts : Counts) (came : LineCheck)
     → (counted counts came).same ≡ (if is_same came then one_more counts.same else counts.same)
 step_same counts Skipped = refl
 step_same counts Improper = refl
@@ -118,7 +118,7 @@ step_same counts (Checked entry Unread) = refl
 step_same counts (Checked entry Missing) = refl
 
 -- what is of none of these sorts does not fail
-well : (strict : Bool) (came : Came) → (strict && is_improper came) ≡ false → is_different came ≡ false → is_unread came ≡ false
+well : (strict : Bool) (came : LineCheck) → (strict && is_improper came) ≡ false → is_different came ≡ false → is_unread came ≡ false
     → fails strict came ≡ false
 well strict Skipped improper different unread = refl
 well true Improper improper different unread = improper
@@ -133,7 +133,7 @@ not_true : (b : Bool) → not b ≡ true → b ≡ false
 not_true true is = sym is
 not_true false is = refl
 
-improper_lines : (strict : Bool) (lines : List (List ℕ × Came)) → not (strict && nat_lt 0 (counts_of lines).improper) ≡ true
+improper_lines : (strict : Bool) (lines : List (List ℕ × LineCheck)) → not (strict && nat_lt 0 (counts_of lines).improper) ≡ true
     → All (λ line. (strict && is_improper line.1) ≡ false) lines
 improper_lines false lines is = λ k d below. refl
 improper_lines true lines is =
@@ -145,7 +145,7 @@ found (inl none) = absurd (omega (arith, none))
 found (inr some) = some
 
 -- lines whose counts pass
-lines_pass : (strict : Bool) (lines : List (List ℕ × Came)) → passes strict (counts_of lines) ≡ true
+lines_pass : (strict : Bool) (lines : List (List ℕ × LineCheck)) → passes strict (counts_of lines) ≡ true
     → All (λ line. fails strict line.1 ≡ false) lines × Any (λ line. is_same line.1 ≡ true) lines
 lines_pass strict lines is =
     let counts = counts_of lines in

@@ -9,8 +9,8 @@ use Rattle.hash_lines.specs.Line.{mark, name_shown}
 use Rattle.hash_lines.specs.Forms.{TellsSo}
 use Rattle.hash_lines.specs.Told.{Tells}
 use Rattle.hash_lines.specs.declared.line.Kind.{Kind}
-use Rattle.hash_sums.specs.declared.check.Came.{Came}
-use Rattle.hash_sums.specs.declared.check.Came.TheVariants.{Skipped, Improper, Checked}
+use Rattle.hash_sums.specs.declared.check.LineCheck.{LineCheck}
+use Rattle.hash_sums.specs.declared.check.LineCheck.TheVariants.{Skipped, Improper, Checked}
 use Rattle.hash_sums.specs.declared.check.Counts.{Counts}
 use Rattle.hash_sums.specs.declared.check.Verdict.{Verdict}
 use Rattle.hash_sums.specs.declared.check.Verdict.TheVariants.{Same, Different, Unread, Missing}
@@ -53,10 +53,10 @@ TellsAny kinds default kind name number line = Tells kinds default kind name num
     ⊎ (TellsNothing kinds default line × TellsSo kinds default kind name number line)
 
 -- what came of a line. One is improper only if it is none of ours; one in another program's form may be read as such
-abbrev pub IsCame : List Kind → Kind → Opens → (ignore_missing : Bool) (line : List ℕ) → Came → Type 0
-IsCame kinds kind opens ignore_missing line Skipped = is_skipped line ≡ true
-IsCame kinds kind opens ignore_missing line Improper = (is_skipped line ≡ false) × TellsNothing kinds kind line
-IsCame kinds kind opens ignore_missing line (Checked entry verdict) = (is_skipped line ≡ false)
+abbrev pub IsLineCheck : List Kind → Kind → Opens → (ignore_missing : Bool) (line : List ℕ) → LineCheck → Type 0
+IsLineCheck kinds kind opens ignore_missing line Skipped = is_skipped line ≡ true
+IsLineCheck kinds kind opens ignore_missing line Improper = (is_skipped line ≡ false) × TellsNothing kinds kind line
+IsLineCheck kinds kind opens ignore_missing line (Checked entry verdict) = (is_skipped line ≡ false)
     × TellsAny kinds kind entry.kind entry.name.items entry.number line
     × IsVerdict (opens entry.name.items) (sum_by entry.kind) ignore_missing entry.number verdict
 
@@ -75,7 +75,7 @@ behind_name name [] = []
 behind_name name (first ∷ more) = mark (needs_escape name) ++ (name_shown (needs_escape name) name ++ (first ∷ more))
 
 -- the line that is written of what came
-abbrev pub said : (quiet status : Bool) → Came → List ℕ
+abbrev pub said : (quiet status : Bool) → LineCheck → List ℕ
 said quiet status Skipped = []
 said quiet status Improper = []
 said quiet status (Checked entry verdict) = behind_name entry.name.items (verdict_words quiet status verdict)
@@ -85,7 +85,7 @@ abbrev pub one_more : ℕ → ℕ
 one_more n = min (n + 1) (2 ^ 64 - 1)
 
 -- the counts with what came of one line more
-abbrev pub counted : Counts → Came → Counts
+abbrev pub counted : Counts → LineCheck → Counts
 counted counts Skipped = counts
 counted counts Improper = record counts { improper = one_more counts.improper }
 counted counts (Checked entry Same) = record counts { same = one_more counts.same }

@@ -4,14 +4,14 @@ use Rattle.std.specs.Io.BufRead.{strip_last}
 use Rattle.std.specs.Io.KnownBytes.{Appends, IsAtEnd, Keeps}
 use Rattle.std.specs.declared.io.Error.{Error}
 use Rattle.hash_lines.specs.declared.line.Kind.{Kind}
-use Rattle.hash_program.specs.Streams.{AppendsPart}
-use Rattle.hash_texts.specs.Lines.{IsNext}
-use Rattle.hash_sums.specs.declared.check.Came.{Came}
+use Rattle.cli.specs.Streams.{AppendsPart}
+use Rattle.text_set.specs.Lines.{IsNext}
+use Rattle.hash_sums.specs.declared.check.LineCheck.{LineCheck}
 use Rattle.hash_sums.specs.declared.check.Checking.{Checking}
 use Rattle.hash_sums.specs.declared.check.Counts.{Counts}
-use Rattle.hash_program.specs.declared.fault.Fault.{Fault}
-use Rattle.hash_program.specs.declared.outcome.Nothing.{Nothing}
-use Rattle.hash_sums.specs.Checking.{counted, passes, said, IsCame}
+use Rattle.cli.specs.declared.fault.Fault.{Fault}
+use Rattle.cli.specs.declared.outcome.Nothing.{Nothing}
+use Rattle.hash_sums.specs.Checking.{counted, passes, said, IsLineCheck}
 use Rattle.hash_sums.specs.Files.{Opens}
 use Rattle.hash_sums.specs.Told.{AreTold, AreTornOff}
 
@@ -26,11 +26,11 @@ abbrev pub bare : List ℕ → List ℕ
 bare line = strip_last 13 (strip_last 10 line)
 
 -- what came of a line with its end
-abbrev pub IsCameOf : List Kind → Checking → Opens → List ℕ × Came → Type 0
-IsCameOf kinds checking opens line = IsCame kinds checking.kind opens checking.ignore_missing (bare line.0) line.1
+abbrev pub IsLineCheckOf : List Kind → Checking → Opens → List ℕ × LineCheck → Type 0
+IsLineCheckOf kinds checking opens line = IsLineCheck kinds checking.kind opens checking.ignore_missing (bare line.0) line.1
 
 -- the line that is written of it
-abbrev pub said_of : Checking → List ℕ × Came → List ℕ
+abbrev pub said_of : Checking → List ℕ × LineCheck → List ℕ
 said_of checking line = said checking.quiet checking.status line.1
 
 -- no counts
@@ -38,16 +38,16 @@ abbrev pub uncounted : Counts
 uncounted = record { improper = 0; same = 0; different = 0; unread = 0; missing = 0 }
 
 -- the counts of what came of lines
-abbrev pub counts_of : List (List ℕ × Came) → Counts
+abbrev pub counts_of : List (List ℕ × LineCheck) → Counts
 counts_of lines = fold (λ counts line. counted counts line.1) uncounted lines
 
 -- how a line ends: what came of it was written, or a beginning of that, or nothing
 abbrev pub EndsLine : List Kind → Checking → Opens → (line : List ℕ) (written written' : Option (List ℕ))
-    → Result Came (Fault Nothing) → Type 0
+    → Result LineCheck (Fault Nothing) → Type 0
 EndsLine kinds checking opens line written written' (Ok came) =
-    IsCameOf kinds checking opens (line, came) × Appends written written' (said_of checking (line, came))
-EndsLine kinds checking opens line written written' (Err fault) = Keeps written written' ⊎ ((came : Came)
-    × IsCameOf kinds checking opens (line, came) × AppendsPart written written' (said_of checking (line, came)))
+    IsLineCheckOf kinds checking opens (line, came) × Appends written written' (said_of checking (line, came))
+EndsLine kinds checking opens line written written' (Err fault) = Keeps written written' ⊎ ((came : LineCheck)
+    × IsLineCheckOf kinds checking opens (line, came) × AppendsPart written written' (said_of checking (line, came)))
 
 -- how a list ends of which these bytes are left: what came of all its lines was written, and the counts are theirs; or it failed,
 -- and the same holds of its first lines; or a beginning of this was written
@@ -55,16 +55,16 @@ abbrev pub EndsList : List Kind → Checking → Opens → (left : Option (List 
     (written written' : Option (List ℕ)) → Result (Option Counts) (Fault Nothing) → Type 0
 EndsList kinds checking opens left written written' (Ok (Some counts)) =
     (lines : List (List ℕ)) × (left' : Option (List ℕ)) × AreLines left lines left' × IsAtEnd left'
-    × (told : List (List ℕ × Came))
-    × AreTold (λ line. line.0) (IsCameOf kinds checking opens) (said_of checking) (λ line. true) lines told written written' true
+    × (told : List (List ℕ × LineCheck))
+    × AreTold (λ line. line.0) (IsLineCheckOf kinds checking opens) (said_of checking) (λ line. true) lines told written written' true
     × (counts ≡ counts_of told)
 EndsList kinds checking opens left written written' (Ok None) =
     (lines : List (List ℕ)) × (left' : Option (List ℕ)) × AreLines left lines left'
-    × (told : List (List ℕ × Came))
-    × AreTold (λ line. line.0) (IsCameOf kinds checking opens) (said_of checking) (λ line. true) lines told written written' true
+    × (told : List (List ℕ × LineCheck))
+    × AreTold (λ line. line.0) (IsLineCheckOf kinds checking opens) (said_of checking) (λ line. true) lines told written written' true
 EndsList kinds checking opens left written written' (Err fault) =
     (lines : List (List ℕ)) × (left' : Option (List ℕ)) × AreLines left lines left'
-    × AreTornOff (λ line. line.0) (IsCameOf kinds checking opens) (said_of checking) (λ line. true) lines written written'
+    × AreTornOff (λ line. line.0) (IsLineCheckOf kinds checking opens) (said_of checking) (λ line. true) lines written written'
 
 -- how a list ends that was opened: its lines pass or do not, or it failed; or a beginning of what is due was written
 abbrev pub EndsOpened : List Kind → Checking → Opens → (left written written' : Option (List ℕ)) → Result Bool (Fault Nothing) → Type 0

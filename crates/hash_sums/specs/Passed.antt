@@ -2,15 +2,15 @@
 use Rattle.std.specs.Prelude.{ℕ, ◌≡◌, Bool, true, false, List, Option, Ok, map, All, Any}
 use Rattle.std.specs.Io.KnownBytes.{IsAtEnd}
 use Rattle.hash_lines.specs.declared.line.Kind.{Kind}
-use Rattle.hash_sums.specs.declared.check.Came.{Came}
-use Rattle.hash_sums.specs.declared.check.Came.TheVariants.{Skipped, Improper, Checked}
+use Rattle.hash_sums.specs.declared.check.LineCheck.{LineCheck}
+use Rattle.hash_sums.specs.declared.check.LineCheck.TheVariants.{Skipped, Improper, Checked}
 use Rattle.hash_sums.specs.declared.check.Checking.{Checking}
 use Rattle.hash_sums.specs.declared.check.Verdict.TheVariants.{Same, Different, Unread, Missing}
 use Rattle.hash_sums.specs.Files.{Opens}
-use Rattle.hash_sums.specs.Lists.{AreLines, IsCameOf}
+use Rattle.hash_sums.specs.Lists.{AreLines, IsLineCheckOf}
 
 -- whether what came of a line fails its list
-abbrev pub fails : (strict : Bool) → Came → Bool
+abbrev pub fails : (strict : Bool) → LineCheck → Bool
 fails strict Skipped = false
 fails strict Improper = strict
 fails strict (Checked entry Same) = false
@@ -19,7 +19,7 @@ fails strict (Checked entry Unread) = true
 fails strict (Checked entry Missing) = false
 
 -- whether a line tells the hash that its file has
-abbrev pub is_same : Came → Bool
+abbrev pub is_same : LineCheck → Bool
 is_same Skipped = false
 is_same Improper = false
 is_same (Checked entry Same) = true
@@ -31,10 +31,10 @@ is_same (Checked entry Missing) = false
 pub record HasPassed (kinds : List Kind) (checking : Checking) (opens : Opens) (list : List ℕ) : Type 0 where
   pub held : Option (List ℕ)
   pub opened : opens list (Ok held)
-  pub lines : List (List ℕ × Came)
+  pub lines : List (List ℕ × LineCheck)
   pub left : Option (List ℕ)
   pub are_lines : AreLines held (map (λ line. line.0) lines) left
   pub end : IsAtEnd left
-  pub came : All (IsCameOf kinds checking opens) lines
+  pub came : All (IsLineCheckOf kinds checking opens) lines
   pub none_fails : All (λ line. fails checking.strict line.1 ≡ false) lines
   pub some_is_same : Any (λ line. is_same line.1 ≡ true) lines

@@ -1,7 +1,7 @@
 //! Whether files have the hashes that lines tell.
 ghost use Rattle.std.specs.Prelude.{◌≡◌, true, false, map, IfOk, MatchOption};
 ghost use Rattle.std.specs.IoError.{error_kind};
-ghost use Rattle.hash_sums.specs.Checking.{behind_name, counted, is_not_found, is_skipped, passes, said, verdict_on, verdict_words, IsCame, IsVerdict, TellsAny, TellsNothing};
+ghost use Rattle.hash_sums.specs.Checking.{behind_name, counted, is_not_found, is_skipped, passes, said, verdict_on, verdict_words, IsLineCheck, IsVerdict, TellsAny, TellsNothing};
 ghost use Rattle.hash_sums.specs.Lists.{bare, EndsLine, EndsList, EndsListOf, EndsLists};
 ghost use Rattle.hash_sums.specs.Sums.{sum_by};
 ghost use Rattle.std.specs.Io.Buffered.{writer_contents};
@@ -10,16 +10,16 @@ use crate::fault::Fault;
 use crate::folder::Folder;
 use crate::sum::{Unsummed, error_of, number_of};
 use crate::sums::told_under;
+use cli::streams::write_out;
 use hash_lines::escape::needs_escape;
 use hash_lines::forms::parse_form;
 use hash_lines::line::{Kind, push_name};
-use hash_lines::parse::{Entry, parse_line};
-use hash_program::streams::put_out;
-use hash_texts::lines;
-use hash_texts::lines::next_line;
+use hash_lines::parse::{HashLine, parse_line};
 use std::alloc::{AllocError, Global};
 use std::io;
 use std::io::{BufRead, BufReader, BufWriter, Error, ErrorKind, Read, Write};
+use text_set::lines;
+use text_set::lines::next_line;
 
 /// How many bytes of a list are read at once.
 const BUFFER: usize = 65536;
@@ -56,13 +56,13 @@ pub enum Verdict {
 
 /// What came of a line.
 #[derive(Drop)]
-pub enum Came<'k> {
+pub enum LineCheck<'k> {
     /// It is empty, or a comment.
     Skipped,
     /// It tells no hash.
     Improper,
     /// The file that it tells of was looked at.
-    Checked(Entry<'k>, Verdict),
+    Checked(HashLine<'k>, Verdict),
 }
 
 /// How often each came of the lines of a list.
@@ -91,28 +91,28 @@ pub fn passes(strict: bool, counts: &Counts) -> bool
 }
 
 /// Counts what came of a line more.
-fn count(counts: Counts, came: &Came<'_>) -> Counts
+fn count(counts: Counts, came: &LineCheck<'_>) -> Counts
     ensures { result ≡ counted counts came.entry.now }
 {
     match came {
-        Came::Skipped => counts,
-        Came::Improper => Counts {
+        LineCheck::Skipped => counts,
+        LineCheck::Improper => Counts {
             improper: counts.improper.saturating_add(1),
             ..counts
         },
-        Came::Checked(_, Verdict::Same) => Counts {
+        LineCheck::Checked(_, Verdict::Same) => Counts {
             same: counts.same.saturating_add(1),
             ..counts
         },
-        Came::Checked(_, Verdict::Different) => Counts {
+        LineCheck::Checked(_, Verdict::Different) => Counts {
             different: counts.different.saturating_add(1),
             ..counts
         },
-        Came::Checked(_, Verdict::Unread) => Counts {
+        LineCheck::Checked(_, Verdict::Unread) => Counts {
             unread: counts.unread.saturating_add(1),
             ..counts
         },
-        Came::Checked(_, Verdict::Missing) => Counts {
+        LineCheck::Checked(_, Verdict::Missing) => Counts {
             missing: counts.missing.saturating_add(1),
             ..counts
         },
@@ -155,7 +155,7 @@ fn verdict_of(ignore_missing: bool, told: u128, came: &Result<u128, Unsummed>) -
 /// Whether the file of an entry has the hash that it tells. A file that fails is told.
 fn check_file<R: Read + Drop, F: Folder<R>>(
     folder: &F,
-    entry: &Entry<'_>,
+    entry: &HashLine<'_>,
     ignore_missing: bool,
 ) -> Verdict
     ensures { IsVerdict (F.opens folder.now entry.entry.now.name.items) (sum_by entry.entry.now.kind)
@@ -187,7 +187,7 @@ fn entry_of<'k>(
     kinds: &[Kind<'k>],
     kind: Kind<'k>,
     line: &[u8],
-) -> Result<Option<Entry<'k>>, AllocError>
+) -> Result<Option<HashLine<'k>>, AllocError>
     ensures { IfOk result (λ found. MatchOption found (TellsNothing kinds.entry.now kind.entry line.now)
         (λ entry. TellsAny kinds.entry.now kind.entry entry.kind entry.name.items entry.number line.now)) }
 {
@@ -205,18 +205,18 @@ fn check_line<'k, R: Read + Drop, F: Folder<R>>(
     kind: Kind<'k>,
     ignore_missing: bool,
     line: &[u8],
-) -> Result<Came<'k>, AllocError>
-    ensures { IfOk result (IsCame kinds.entry.now kind.entry (F.opens folder.now) ignore_missing line.now) }
+) -> Result<LineCheck<'k>, AllocError>
+    ensures { IfOk result (IsLineCheck kinds.entry.now kind.entry (F.opens folder.now) ignore_missing line.now) }
 {
     if is_skipped(line) {
-        return Ok(Came::Skipped);
+        return Ok(LineCheck::Skipped);
     }
     match entry_of(alloc, kinds, kind, line)? {
         Some(entry) => {
             let verdict = check_file(folder, &entry, ignore_missing);
-            Ok(Came::Checked(entry, verdict))
+            Ok(LineCheck::Checked(entry, verdict))
         }
-        None => Ok(Came::Improper),
+        None => Ok(LineCheck::Improper),
     }
 }
 
@@ -253,11 +253,16 @@ fn behind_name(alloc: Global, name: &[u8], words: &[u8]) -> Result<Vec<u8>, Allo
 }
 
 /// The line that is written of what came.
-fn said(alloc: Global, came: &Came<'_>, quiet: bool, status: bool) -> Result<Vec<u8>, AllocError>
+fn said(
+    alloc: Global,
+    came: &LineCheck<'_>,
+    quiet: bool,
+    status: bool,
+) -> Result<Vec<u8>, AllocError>
     ensures { IfOk result (λ text. text.items ≡ said quiet status came.entry.now) }
 {
     match came {
-        Came::Checked(entry, verdict) => {
+        LineCheck::Checked(entry, verdict) => {
             behind_name(alloc, &entry.name, verdict_words(*verdict, quiet, status))
         }
         _ => Ok(Vec::new(alloc)),
@@ -279,7 +284,7 @@ fn tell_line<'k, R: Read + Drop, F: Folder<R>, W: Write + Drop>(
     checking: Checking<'k>,
     line: &[u8],
     w: &mut BufWriter<W>,
-) -> Result<Came<'k>, Fault>
+) -> Result<LineCheck<'k>, Fault>
     ensures { EndsLine kinds.entry.now checking.entry (F.opens folder.now) line.now
         (writer_contents W.contents w.old) (writer_contents W.contents w.new) result }
 {
@@ -299,7 +304,7 @@ fn tell_line<'k, R: Read + Drop, F: Folder<R>, W: Write + Drop>(
         Ok(said) => said,
         Err(_) => return Err(Fault::NoMemory),
     };
-    match put_out(w, &said) {
+    match write_out(w, &said) {
         Ok(()) => Ok(came),
         Err(fault) => Err(fault),
     }
@@ -356,8 +361,14 @@ fn check_lines<B: BufRead, R: Read + Drop, F: Folder<R>, W: Write + Drop>(
 }
 
 /// Tells an improper line, if that is asked for.
-fn warn<R: Read, F: Folder<R>>(folder: &F, warn: bool, list: &[u8], number: u64, came: &Came<'_>) {
-    if let Came::Improper = came {
+fn warn<R: Read, F: Folder<R>>(
+    folder: &F,
+    warn: bool,
+    list: &[u8],
+    number: u64,
+    came: &LineCheck<'_>,
+) {
+    if let LineCheck::Improper = came {
         if warn {
             folder.improper(list, number);
         }
@@ -365,9 +376,9 @@ fn warn<R: Read, F: Folder<R>>(folder: &F, warn: bool, list: &[u8], number: u64,
 }
 
 /// Whether an improper line would tell a hash if there were keys.
-fn needs_keys(alloc: Global, kind: Kind<'static>, came: &Came<'_>, line: &[u8]) -> bool {
+fn needs_keys(alloc: Global, kind: Kind<'static>, came: &LineCheck<'_>, line: &[u8]) -> bool {
     match came {
-        Came::Improper => {
+        LineCheck::Improper => {
             let keyed = [told_under((0, 0))];
             matches!(
                 entry_of(alloc, &keyed, kind, without_end(line)),

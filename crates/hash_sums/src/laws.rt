@@ -1,11 +1,12 @@
 //! What a check is proved to see, as laws with no code of their own, over any files: of the text that was read of a file. Of a file whose
 //! bytes are not known, as one of the disk, they say that some text has the hash. A text's length is that of its file.
-ghost use Rattle.std.specs.Prelude.{◌≡◌, ◌≢◌, ◌+◌, ◌^◌, ◌≤◌, ℕ, Bool, true, max, All, List, Ok, Option, Some, codes, length};
+ghost use Rattle.std.specs.Prelude.{◌≡◌, ◌≢◌, ◌+◌, ◌^◌, ◌≤◌, ℕ, Bool, true, max, All, List, Ok, Option, Some, codes, length, map};
 ghost use Rattle.hashers.specs.DifferWithin.{DifferAtOnePlace, DifferWithin};
 ghost use Rattle.hashers.specs.Fx.{words32, words64};
 ghost use Rattle.hashers.specs.Text.{IsText};
 ghost use Rattle.hash_keyed.specs.Poly61.{prime61, word_count, ArePairs};
 ghost use Rattle.hash_lines.specs.declared.line.Kind.{Kind as LineKind};
+ghost use Rattle.hash_lines.specs.Told.{AreTags};
 ghost use Rattle.hash_more.specs.Bursts.{DifferWithinBits};
 ghost use Rattle.hash_sums.specs.declared.check.Checking.{Checking};
 ghost use Rattle.hash_sums.specs.declared.check.Verdict.TheVariants.{Same};
@@ -13,10 +14,11 @@ ghost use Rattle.hash_sums.specs.Checking.{IsVerdict};
 ghost use Rattle.hash_sums.specs.Laws.{DifferAtOneWord, HoldsOnly, NeverPasses};
 ghost use Rattle.hash_sums.specs.Lists.{EndsLists};
 ghost use Rattle.hash_sums.specs.Passed.{HasPassed};
-ghost use Rattle.hash_sums.specs.Sums.{number_named, poly61_at_both, sum_at, told_at};
+ghost use Rattle.hash_sums.specs.Sums.{kinds, number_named, poly61_at_both, sum_at, told_at, told_of};
 
 use crate::folder::Folder;
 use hash_keyed::laws::few_pairs_for_two_texts;
+use hash_lines::laws::tags_by_their_names;
 use hash_more::crc32::{Crc32Hasher, Crc32cHasher};
 use hash_more::djb2_add::Djb2AddHasher;
 use hash_more::fnv1::{Fnv1Hasher32, Fnv1Hasher64};
@@ -33,6 +35,14 @@ use std::io::Read;
 pub fn each_kind_has_the_hash_of_its_name()
     ensures { (which : ℕ) → number_named (told_at which).name ≡ Some (sum_at which) }
 {}
+
+/// The hashes that a line can tell have tags, no two the same: so what is written of a file is read as that, and says one thing.
+pub fn kinds_are_tags()
+    ensures { (keys : Option (ℕ × ℕ)) (told : List LineKind) (default : LineKind)
+        → map told_of told ≡ kinds keys → AreTags told default }
+{
+    tags_by_their_names();
+}
 
 /// A file that differs from the text of its line only within so many neighbouring bytes, and under djb2 and djb2_add only in the low
 /// five bits of each, never passes the check; by the CRCs none that differs only within 32 neighbouring bits.

@@ -2,7 +2,7 @@
 ghost use Rattle.std.specs.Prelude.{◌≡◌, map, IfOk, OnOk, OnErr};
 ghost use Rattle.std.specs.Io.Buffered.{writer_contents};
 ghost use Rattle.std.specs.Io.KnownBytes.{Appends};
-ghost use Rattle.hash_program.specs.Streams.{AppendsPart};
+ghost use Rattle.cli.specs.Streams.{AppendsPart};
 ghost use Rattle.hash_sums.specs.Files.{SumsFile};
 ghost use Rattle.hash_sums.specs.Summing.{EndsSum, EndsSums, sum_line};
 ghost use Rattle.hash_sums.specs.Sums.{sum_by};
@@ -10,9 +10,9 @@ ghost use Rattle.hash_sums.specs.Sums.{sum_by};
 use crate::fault::Fault;
 use crate::folder::Folder;
 use crate::sums::number_by;
+use cli::streams::write_out;
 use hash_lines::line::{Form, Kind, push_line};
 use hash_names::reading::Unhashed;
-use hash_program::streams::put_out;
 use std::alloc::{AllocError, Global};
 use std::io::{BufWriter, Error, ErrorKind, Read, Write};
 
@@ -105,7 +105,7 @@ fn tell_sum<W: Write + Drop>(
         (sum_line summing name.now number)) }
 {
     match sum_line(alloc, summing, name, number) {
-        Ok(line) => put_out(w, &line),
+        Ok(line) => write_out(w, &line),
         Err(_) => Err(Fault::NoMemory),
     }
 }

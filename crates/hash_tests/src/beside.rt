@@ -3,9 +3,9 @@ ghost use Rattle.std.specs.Prelude.{◌≡◌, ◌↔◌, ◌++◌, IfOk, IsTrue
 ghost use Rattle.hash_more.specs.Crc32.{crc32_of};
 
 use hash_more::crc32::{crc32, crc32_combine};
-use hash_texts::{Full, RandomKeys, Texts};
 use hashers::laws::bytes_are_a_text;
 use std::alloc::Global;
+use text_set::{Full, RandomKeys, Texts};
 
 /// The CRC-32 of two texts, one behind the other, from the CRC of each: they may have been computed side by side.
 pub fn crc32_of_both(first: &[u8], second: &[u8]) -> u64

@@ -2,14 +2,14 @@
 use Rattle.std.proofs.Common.{ℕ, List, Option, Some, None, Result, Ok, Err, refl, subst, rules}
 use Rattle.std.specs.Io.KnownBytes.{Appends, Keeps}
 use Rattle.hashof.specs.Line.{line_of}
-use Rattle.hash_program.specs.Streams.{AppendsPart, PutsOut}
-use Rattle.hash_program.specs.declared.fault.Fault.{Fault}
-use Rattle.hash_program.specs.declared.fault.Fault.TheVariants.{Unread, Unwritten, NoMemory, Own}
+use Rattle.cli.specs.Streams.{AppendsPart, WritesOut}
+use Rattle.cli.specs.declared.fault.Fault.{Fault}
+use Rattle.cli.specs.declared.fault.Fault.TheVariants.{Unread, Unwritten, NoMemory, Own}
 use Rattle.hash_names.specs.Reading.{HashesNamed}
 use Rattle.hash_names.specs.declared.reading.Unhashed.{Unhashed}
 use Rattle.hash_names.specs.declared.reading.Unhashed.TheVariants as unhashed
 use Rattle.hash_names.specs.Named.{named}
-use Rattle.hash_program.specs.Outcome.{of_telling}
+use Rattle.cli.specs.Outcome.{of_telling}
 use Rattle.hashof.specs.Program.{Arguments, Ask, Exits}
 use Rattle.hashof.specs.Running.{Run, Ends, EndsNamed}
 
@@ -26,7 +26,7 @@ ended_unread (Some hash) run unhashed.TooLong some kept = (some, kept)
 
 -- the line was written, or a beginning of it
 pub ended_told : (hash : Option (List ℕ → ℕ)) (run : Run) (number : ℕ) (told : Result (Unit {0}) (Fault Unhashed))
-    → HashesNamed hash run.reading (Ok number) → PutsOut (line_of number) run.before run.after told → EndsNamed hash run told
+    → HashesNamed hash run.reading (Ok number) → WritesOut (line_of number) run.before run.after told → EndsNamed hash run told
 ended_told None run number told (none, keeps) puts = absurd (search rules)
 ended_told (Some hash) run number (Ok done) (text, all, is) appends =
     (text, all, subst (λ n. Appends run.before run.after (line_of n)) is appends)

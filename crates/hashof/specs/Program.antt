@@ -8,10 +8,10 @@ use Rattle.std.specs.declared.io.ErrorKind.TheVariants.{OutOfMemory}
 use Rattle.std.specs.declared.string.String.{String}
 use Rattle.std.specs.declared.vec.IntoIter.{IntoIter}
 use Rattle.hash_names.specs.declared.reading.Unhashed.{Unhashed}
-use Rattle.hash_program.specs.declared.fault.Fault.TheVariants.{NoMemory}
-use Rattle.hash_program.specs.declared.outcome.Outcome.{Outcome}
-use Rattle.hash_program.specs.declared.outcome.Outcome.TheVariants.{Done, Usage, Failed}
-use Rattle.hash_program.specs.declared.outcome.Wrong.TheVariants.{Own}
+use Rattle.cli.specs.declared.fault.Fault.TheVariants.{NoMemory}
+use Rattle.cli.specs.declared.outcome.Outcome.{Outcome}
+use Rattle.cli.specs.declared.outcome.Outcome.TheVariants.{Done, Usage, Failed}
+use Rattle.cli.specs.declared.outcome.Wrong.TheVariants.{Own}
 use Rattle.hashof.specs.declared.outcome.NotOneName.{NotOneName}
 use Rattle.hashof.specs.Running.{Run, IsUntouched, Ends}
 

@@ -5,9 +5,9 @@ use Rattle.hash_names.specs.Named.{named}
 use Rattle.hash_names.specs.Reading.{Reading, ReadsAll, ReadsSome, read}
 use Rattle.hash_names.specs.declared.reading.Unhashed.{Unhashed}
 use Rattle.hash_names.specs.declared.reading.Unhashed.TheVariants.{UnknownName, ReadFault, TooLong}
-use Rattle.hash_program.specs.Streams.{AppendsPart}
-use Rattle.hash_program.specs.declared.fault.Fault.{Fault}
-use Rattle.hash_program.specs.declared.fault.Fault.TheVariants.{Unwritten, Own}
+use Rattle.cli.specs.Streams.{AppendsPart}
+use Rattle.cli.specs.declared.fault.Fault.{Fault}
+use Rattle.cli.specs.declared.fault.Fault.TheVariants.{Unwritten, Own}
 use Rattle.hashof.specs.Line.{line_of}
 
 -- what a run reads, and the bytes that are written before and after it

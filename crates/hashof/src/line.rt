@@ -1,10 +1,10 @@
 //! A number as a line.
 ghost use Rattle.std.specs.Prelude.{◌≡◌};
 ghost use Rattle.hashof.specs.Line.{line_of};
-ghost use Rattle.hash_program.specs.Streams.{PutsOut};
+ghost use Rattle.cli.specs.Streams.{WritesOut};
 
-use hash_program::fault::Fault;
-use hash_program::streams::put;
+use cli::fault::Fault;
+use cli::streams::write_all;
 use std::io::Write;
 
 /// The most bytes of a line: twenty digits and a newline.
@@ -29,10 +29,10 @@ fn put_line(number: u64, line: &mut [u8; LINE]) -> &[u8]
 
 /// Writes the line of a number and flushes. The first error, `Interrupted` too, or a write that takes nothing ends it.
 pub fn write_line<W: Write, Own: Drop>(w: &mut W, number: u64) -> Result<(), Fault<Own>>
-    ensures { PutsOut (line_of number) (W.contents w.old) (W.contents w.new) result }
+    ensures { WritesOut (line_of number) (W.contents w.old) (W.contents w.new) result }
 {
     let mut line = [0u8; LINE];
-    put(w, put_line(number, &mut line), 0)?;
+    write_all(w, put_line(number, &mut line), 0)?;
     match w.flush() {
         Ok(()) => Ok(()),
         Err(error) => Err(Fault::Unwritten(Some(error))),

@@ -6,10 +6,10 @@ ghost use Rattle.hashof.specs.Running.{run_of};
 ghost use Rattle.hashof.specs.Status.{complaint_of, status_of};
 
 use crate::run::{LIMIT, run_limited};
+use cli::fault::Fault;
+use cli::outcome;
+use cli::outcome::{Wrong, of_telling};
 use hash_names::reading::Unhashed;
-use hash_program::fault::Fault;
-use hash_program::outcome;
-use hash_program::outcome::{Wrong, of_telling};
 use std::env::Args;
 use std::io;
 use std::io::{ErrorKind, Read, Write};

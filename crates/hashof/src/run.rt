@@ -3,8 +3,8 @@ ghost use Rattle.hashof.specs.Running.{Ends, run_of};
 
 use crate::line::write_line;
 use crate::named::hash_named;
+use cli::fault::Fault;
 use hash_names::reading::Unhashed;
-use hash_program::fault::Fault;
 use std::io::{Read, Write};
 
 /// Why no hash was told. What is read may have none: then nothing was written, and of an unknown name nothing was read. Or a write or

@@ -3,15 +3,15 @@ mod program;
 
 use crate::outcome::{NotOneName, Outcome, outcome_line, outcome_status};
 use crate::run::{RunFault, run, run_limited};
+use cli::fault::Fault;
+use cli::outcome::Wrong;
+use cli::rehearsal::{Paper, Script, Trouble};
 use hash_bytes::fnv::FNV1aHasher64;
 use hash_jenkins::Lookup3Hasher;
 use hash_laws::reader;
 use hash_laws::reader::hash_reader;
 use hash_names::reading::Unhashed;
 use hash_names::table::Kind;
-use hash_program::fault::Fault;
-use hash_program::outcome::Wrong;
-use hash_program::rehearsal::{Paper, Script, Trouble};
 use std::hash::Hasher;
 use std::io;
 use std::io::ErrorKind;

@@ -4,11 +4,11 @@ use Rattle.std.specs.IoError.{error_kind}
 use Rattle.std.specs.declared.io.ErrorKind.{ErrorKind}
 use Rattle.std.specs.declared.io.ErrorKind.TheVariants.{BrokenPipe}
 use Rattle.hash_lines.specs.declared.line.Kind.{Kind}
-use Rattle.hash_program.specs.Outcome.{status_of, write_status}
-use Rattle.hash_program.specs.declared.fault.Fault.{Fault}
-use Rattle.hash_program.specs.declared.fault.Fault.TheVariants.{Unwritten}
-use Rattle.hash_program.specs.declared.outcome.Nothing.{Nothing}
-use Rattle.hash_program.specs.declared.outcome.Outcome.{Outcome}
+use Rattle.cli.specs.Outcome.{status_of, write_status}
+use Rattle.cli.specs.declared.fault.Fault.{Fault}
+use Rattle.cli.specs.declared.fault.Fault.TheVariants.{Unwritten}
+use Rattle.cli.specs.declared.outcome.Nothing.{Nothing}
+use Rattle.cli.specs.declared.outcome.Outcome.{Outcome}
 use Rattle.hash_sums.specs.declared.check.Checking.{Checking}
 use Rattle.hash_sums.specs.Files.{Opens}
 use Rattle.hash_sums.specs.Lists.{EndsLists}

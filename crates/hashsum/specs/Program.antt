@@ -6,18 +6,18 @@ use Rattle.std.specs.List.{find}
 use Rattle.std.specs.Str.{bytes_eq}
 use Rattle.hash_lines.specs.declared.line.Form.TheVariants.{Tagged, Untagged}
 use Rattle.hash_lines.specs.declared.line.Kind.{Kind}
-use Rattle.hash_program.specs.Call.{Choice, Saying, flag, given, operands, taking, value_of}
-use Rattle.hash_program.specs.Frame.{EndsRequest, request_of}
-use Rattle.hash_program.specs.declared.fault.Fault.{Fault}
-use Rattle.hash_program.specs.declared.fault.Fault.TheVariants.{NoMemory}
-use Rattle.hash_program.specs.declared.frame.Request.{Request}
-use Rattle.hash_program.specs.declared.frame.Request.TheVariants.{Work}
-use Rattle.hash_program.specs.declared.frame.Text.{Text}
-use Rattle.hash_program.specs.declared.outcome.Nothing.{Nothing}
-use Rattle.hash_program.specs.declared.outcome.Outcome.{Outcome}
-use Rattle.hash_program.specs.declared.outcome.Outcome.TheVariants.{Done, Usage, Reported, Failed}
-use Rattle.hash_program.specs.declared.outcome.Wrong.{Wrong}
-use Rattle.hash_program.specs.declared.outcome.Wrong.TheVariants.{UnknownName, Own}
+use Rattle.cli.specs.Call.{Choice, Saying, flag, given, operands, taking, value_of}
+use Rattle.cli.specs.Frame.{EndsRequest, request_of}
+use Rattle.cli.specs.declared.fault.Fault.{Fault}
+use Rattle.cli.specs.declared.fault.Fault.TheVariants.{NoMemory}
+use Rattle.cli.specs.declared.frame.Request.{Request}
+use Rattle.cli.specs.declared.frame.Request.TheVariants.{Work}
+use Rattle.cli.specs.declared.frame.Text.{Text}
+use Rattle.cli.specs.declared.outcome.Nothing.{Nothing}
+use Rattle.cli.specs.declared.outcome.Outcome.{Outcome}
+use Rattle.cli.specs.declared.outcome.Outcome.TheVariants.{Done, Usage, Reported, Failed}
+use Rattle.cli.specs.declared.outcome.Wrong.{Wrong}
+use Rattle.cli.specs.declared.outcome.Wrong.TheVariants.{UnknownName, Own}
 use Rattle.hash_sums.specs.declared.check.Checking.{Checking}
 use Rattle.hashsum.specs.declared.outcome.Misuse.{Misuse}
 use Rattle.hashsum.specs.declared.outcome.Misuse.TheVariants as misuse

@@ -1,7 +1,7 @@
 //! The files of the disk.
-use hash_program::inputs::{open, tell_failure};
-use hash_program::progress::{Progress, Watched};
-use hash_program::quoted::quoted;
+use cli::inputs::{open, tell_failure};
+use cli::progress::{Progress, Watched};
+use cli::quoted::quoted;
 use hash_sums::check::Counts;
 use hash_sums::folder::Folder;
 use std::io;

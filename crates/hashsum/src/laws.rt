@@ -1,9 +1,9 @@
 //! What the program promises by its status, as a law with no code of its own, and what it says of its hashes.
 ghost use Rattle.std.specs.Prelude.{◌≡◌, ℕ, All, List, Ok, Option};
 ghost use Rattle.hash_lines.specs.declared.line.Kind.{Kind as LineKind};
-ghost use Rattle.hash_program.specs.Outcome.{status_of};
-ghost use Rattle.hash_program.specs.declared.outcome.Nothing.{Nothing};
-ghost use Rattle.hash_program.specs.declared.outcome.Outcome.{Outcome};
+ghost use Rattle.cli.specs.Outcome.{status_of};
+ghost use Rattle.cli.specs.declared.outcome.Nothing.{Nothing};
+ghost use Rattle.cli.specs.declared.outcome.Outcome.{Outcome};
 ghost use Rattle.hash_sums.specs.Passed.{HasPassed};
 ghost use Rattle.hash_sums.specs.declared.check.Checking.{Checking};
 ghost use Rattle.hashsum.specs.Program.{EndsTask};

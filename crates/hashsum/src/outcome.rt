@@ -4,18 +4,18 @@ ghost use Rattle.std.specs.List.{find};
 ghost use Rattle.std.specs.Option.{option_map};
 ghost use Rattle.std.specs.Io.Buffered.{writer_contents};
 ghost use Rattle.std.specs.Io.KnownBytes.{Keeps};
-ghost use Rattle.hash_program.specs.declared.fault.Fault.TheVariants.{NoMemory};
-ghost use Rattle.hash_program.specs.declared.outcome.Outcome.TheVariants.{Failed};
-ghost use Rattle.hash_program.specs.Call.{call_of, choices, operands, sayings, texts};
-ghost use Rattle.hash_program.specs.Frame.{text_of};
+ghost use Rattle.cli.specs.declared.fault.Fault.TheVariants.{NoMemory};
+ghost use Rattle.cli.specs.declared.outcome.Outcome.TheVariants.{Failed};
+ghost use Rattle.cli.specs.Call.{call_of, choices, operands, sayings, texts};
+ghost use Rattle.cli.specs.Frame.{text_of};
 ghost use Rattle.hashsum.specs.Program.{asks_for_poly61, checking_of, files_or, gives_checking, gives_writing, is_named, key_file, kind_of, misuse_of, of_run, options, summing_of, task_of, words_of, work_of, AreKeysOf, EndsCall, EndsTask, EndsWithKeys};
 
+use cli::call::{Call, Opt, flag, taking};
+use cli::frame::{About, Request, request_of, text_of};
+use cli::outcome;
+use cli::outcome::{Nothing, Words, of_telling};
+use cli::streams::write_out;
 use hash_lines::line::{Form, Kind};
-use hash_program::call::{Call, Opt, flag, taking};
-use hash_program::frame::{About, Request, request_of, text_of};
-use hash_program::outcome;
-use hash_program::outcome::{Nothing, Words, of_telling};
-use hash_program::streams::put_out;
 use hash_sums::Fault;
 use hash_sums::check::{Checking, check_lists};
 use hash_sums::folder::Folder;
@@ -94,7 +94,7 @@ fn options() -> [Opt; 16]
 pub fn call_of<'a>(alloc: Global, words: &'a [Vec<u8>]) -> Result<Call<'a>, AllocError>
     ensures { IfOk result (λ call. sayings call.said.items ≡ call_of options (texts words.now)) }
 {
-    hash_program::call::call_of(alloc, &options(), words)
+    cli::call::call_of(alloc, &options(), words)
 }
 
 /// Whether a name is this one, in letters of either case.
@@ -292,7 +292,7 @@ pub fn outcome_of<R: Read + Drop, F: Folder<R>, W: Write + Drop>(
 {
     match request_of(call) {
         Request::Misgiven(misgiven) => Outcome::Usage(Wrong::Option(misgiven)),
-        Request::Text(text) => of_telling(put_out(w, text_of(&about, text))),
+        Request::Text(text) => of_telling(write_out(w, text_of(&about, text))),
         Request::Work => match files(alloc, call) {
             Ok(files) => ended(alloc, folder, kinds, &files, task_of(kinds, call), w),
             Err(_) => Outcome::Failed(Fault::NoMemory),

@@ -1,9 +1,9 @@
 //! Tests of the program over files in memory.
 use crate::outcome::{call_of, outcome_with_keys};
+use cli::frame::About;
+use cli::outcome::{failure_of, status_of};
+use cli::rehearsal::{File, Paper, Script, Trouble, arguments_of, open, whole};
 use hash_names::table::KINDS;
-use hash_program::frame::About;
-use hash_program::outcome::{failure_of, status_of};
-use hash_program::rehearsal::{File, Paper, Script, Trouble, arguments_of, open, whole};
 use hash_sums::check::Counts;
 use hash_sums::folder::Folder;
 use std::alloc::Global;

@@ -7,6 +7,7 @@
 
 mod buckets;
 mod filters;
+mod keyed;
 mod keys;
 mod maps;
 mod numbers;

@@ -10,9 +10,9 @@ use Rattle.std.proofs.lemmas.List.{take_all, take_more}
 use Rattle.std.proofs.lemmas.List.Elements.{All-head, All-tail, All-push, All-same}
 use Rattle.std.proofs.lemmas.List.Folds.{concat-append}
 use Rattle.std.proofs.lemmas.List.Sums.{fold-append}
-use Rattle.hash_texts.specs.Texts.{with_text}
-use Rattle.hash_texts.specs.Lines.{line_texts, IsNext, ReadsNext, ReadsNothing}
-use Rattle.hash_texts.proofs.LinesOfText.{text_of_line, texts_of_line}
+use Rattle.text_set.specs.Texts.{with_text}
+use Rattle.text_set.specs.Lines.{line_texts, IsNext, ReadsNext, ReadsNothing}
+use Rattle.text_set.proofs.LinesOfText.{text_of_line, texts_of_line}
 use Rattle.spread.specs.Keys.{IsWhole, ReadsFixed, ReadsLine, ReadsLines, ReadsOne, TakesFixed, TakesKeys}
 
 -- keys that were read, and behind them more

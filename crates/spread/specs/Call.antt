@@ -1,6 +1,6 @@
 -- Which options there are, and how the program ends.
 use Rattle.std.specs.Prelude.{ℕ, Bool, List, [], ◌∷◌, Option, Some, None, codes}
-use Rattle.hash_program.specs.Call.{Choice, Saying, flag, given, taking, value_of}
+use Rattle.cli.specs.Call.{Choice, Saying, flag, given, taking, value_of}
 use Rattle.spread.specs.declared.call.Misuse.{Misuse}
 use Rattle.spread.specs.declared.call.Misuse.TheVariants as misuse
 use Rattle.spread.specs.declared.fault.NoTable.{NoTable}

@@ -3,8 +3,8 @@ use Rattle.std.specs.Prelude.{ℕ, ◌≡◌, ◌++◌, Bool, true, false, Optio
 use Rattle.std.specs.Int.NonZero.{non_zero_usize_get}
 use Rattle.std.specs.Io.KnownBytes.{Consumes, IsAtEnd}
 use Rattle.std.specs.List.{concat}
-use Rattle.hash_texts.specs.Lines.{line_texts}
-use Rattle.hash_texts.specs.Texts.{with_text}
+use Rattle.text_set.specs.Lines.{line_texts}
+use Rattle.text_set.specs.Texts.{with_text}
 use Rattle.spread.specs.declared.keys.Layout.{Layout}
 use Rattle.spread.specs.declared.keys.Layout.TheVariants.{Lines, Fixed}
 

@@ -1,14 +1,14 @@
 //! What the program is asked for, and how it ends.
 ghost use Rattle.std.specs.Prelude.{◌≡◌, None, true, IfOk, IsSome, OnErr, OnOk};
-ghost use Rattle.hash_program.specs.Call.{call_of, choices, sayings, texts};
+ghost use Rattle.cli.specs.Call.{call_of, choices, sayings, texts};
 ghost use Rattle.spread.specs.Call.{options, wants_zeros, width_of, words_of};
 
 use crate::fault::NoTable;
 use crate::keys::Layout;
+use cli::call::{Call, Opt, flag, taking};
+use cli::outcome;
+use cli::outcome::Words;
 use hash_names::table::{KINDS, Kind, kind_named};
-use hash_program::call::{Call, Opt, flag, taking};
-use hash_program::outcome;
-use hash_program::outcome::Words;
 use std::alloc::{AllocError, Global};
 use std::num::NonZeroUsize;
 
@@ -69,7 +69,7 @@ fn options() -> [Opt; 8]
 pub fn call_of<'a>(alloc: Global, words: &'a [Vec<u8>]) -> Result<Call<'a>, AllocError>
     ensures { IfOk result (λ call. sayings call.said.items ≡ call_of options (texts words.now)) }
 {
-    hash_program::call::call_of(alloc, &options(), words)
+    cli::call::call_of(alloc, &options(), words)
 }
 
 /// The number from 1 on that the digits tell.

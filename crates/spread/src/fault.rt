@@ -1,8 +1,8 @@
 //! What ends a run of this program before its output is whole.
 ghost use Rattle.spread.specs.Call.{words_of_fault};
 
-use hash_program::fault;
-use hash_program::outcome::Words;
+use cli::fault;
+use cli::outcome::Words;
 use std::io::{Error, ErrorKind};
 
 /// Why there is no table, or no picture, of the keys.

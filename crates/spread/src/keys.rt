@@ -1,15 +1,15 @@
 //! Reads keys: lines, which end with newline or another byte, or so many bytes each.
 ghost use Rattle.std.specs.Prelude.{◌≡◌, ◌<◌, ◌≤◌, IfOk, OnOk, length, true};
-ghost use Rattle.hash_texts.specs.Texts.{with_text};
+ghost use Rattle.text_set.specs.Texts.{with_text};
 ghost use Rattle.spread.specs.Keys.{ReadsFixed, ReadsKey, ReadsKeys, ReadsLine, ReadsLines, ReadsOne, ReadsPiece};
 
 use crate::fault::{Fault, NoTable, fault_of_read};
-use hash_program::streams::{TRIES, read_some};
-use hash_texts::lines::{has_end, next_line, without_end};
-use hash_texts::{Full, RandomKeys, Texts};
+use cli::streams::{TRIES, read_some};
 use std::alloc::Global;
 use std::io::{BufRead, Read};
 use std::num::NonZeroUsize;
+use text_set::lines::{has_end, next_line, without_end};
+use text_set::{Full, RandomKeys, Texts};
 
 /// How many bytes of a key of fixed width are read at once at most.
 const PIECE: usize = 65536;

@@ -17,13 +17,13 @@ mod table;
 mod tests;
 
 use call::{Misuse, Outcome, Wrong, call_of, kinds_of, no_number, settings_of, unknown_name};
+use cli::arguments::arguments;
+use cli::call::Call;
+use cli::frame::{About, Request, ended, request_of, text_of, wrong_word};
+use cli::outcome::of_telling;
+use cli::streams::write_out;
 use fault::{Fault, NoTable};
 use hash_names::table::KINDS;
-use hash_program::arguments::arguments;
-use hash_program::call::Call;
-use hash_program::frame::{About, Request, ended, request_of, text_of, wrong_word};
-use hash_program::outcome::of_telling;
-use hash_program::streams::put_out;
 use run::tell_table;
 use std::alloc::{AllocError, Global};
 use std::io::{BufWriter, Stdout};
@@ -128,7 +128,7 @@ fn called(rt: &HostRuntime, call: &Call<'_>) -> Result<Outcome, Fault> {
                 version: VERSION,
                 list: list.as_str(),
             };
-            Ok(of_telling(put_out(&mut w, text_of(&about, text))))
+            Ok(of_telling(write_out(&mut w, text_of(&about, text))))
         }
         Request::Work => worked(rt, call, &mut w),
     }

@@ -10,10 +10,10 @@ use crate::counts::{Counts, counts_of};
 use crate::sizes::Sizes;
 use hash_names::table::{Kind, by_kind};
 use hash_names::task::HashTask;
-use hash_texts::{RandomKeys, Texts};
 use hashers::jenkins::spooky_hash::spooky_v1;
 use hashers::laws::{Piecewise, Streamed, bytes_are_a_text, hash_of};
 use std::alloc::{AllocError, Global};
+use text_set::{RandomKeys, Texts};
 
 /// Keys, and the hash of each.
 #[derive(Drop)]

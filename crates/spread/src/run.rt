@@ -11,14 +11,14 @@ use crate::named::{Hashed, counts_by};
 use crate::picture::picture;
 use crate::sizes::sizes_of;
 use crate::table::{Frame, Row};
+use cli::inputs::open;
+use cli::progress::{Progress, Watched};
+use cli::streams::{TRIES, write_all, write_out};
 use hash_names::table::Kind;
-use hash_program::inputs::open;
-use hash_program::progress::{Progress, Watched};
-use hash_program::streams::{TRIES, put, put_out};
-use hash_texts::{RandomKeys, Texts};
 use std::fs::{File, OpenOptions};
 use std::io;
 use std::io::{BufReader, BufWriter, Error, ErrorKind, IsTerminal, Stdout};
+use text_set::{RandomKeys, Texts};
 
 /// How many bytes are read at once.
 const BUFFER: usize = 65536;
@@ -77,9 +77,9 @@ fn tell_rows(
         let row = row_of(rt, *kind, frame, hashed)?;
         progress.clear();
         if done == 0 {
-            put_out(w, frame.head(rt.alloc())?.as_bytes())?;
+            write_out(w, frame.head(rt.alloc())?.as_bytes())?;
         }
-        put_out(w, frame.row(rt.alloc(), &row)?.as_bytes())?;
+        write_out(w, frame.row(rt.alloc(), &row)?.as_bytes())?;
         if rows.push(row).is_err() {
             return Err(Fault::NoMemory);
         }
@@ -97,7 +97,7 @@ fn tell_chance(
 ) -> Result<(), Fault> {
     for bits in [0, 28, 32, 64] {
         if rows.iter().any(|row| row.kind.row().bits == bits) {
-            put_out(w, frame.chance(rt.alloc(), bits)?.as_bytes())?;
+            write_out(w, frame.chance(rt.alloc(), bits)?.as_bytes())?;
         }
     }
     Ok(())
@@ -116,9 +116,9 @@ fn tell_best(
             let line = format!(in rt.alloc();
                 "Take {name}: the fastest of those that spread these keys as chance does.\n"
             )?;
-            put_out(w, line.as_bytes())
+            write_out(w, line.as_bytes())
         }
-        None => put_out(w, b"None of these spreads these keys as chance does.\n"),
+        None => write_out(w, b"None of these spreads these keys as chance does.\n"),
     }
 }
 
@@ -160,7 +160,7 @@ fn fill(file: &mut File, text: &str) -> io::Result<()> {
     if file.metadata()?.is_file() {
         file.set_len(0)?;
     }
-    let filled: Result<(), Fault> = put(file, text.as_bytes(), TRIES);
+    let filled: Result<(), Fault> = write_all(file, text.as_bytes(), TRIES);
     match filled {
         Ok(()) => Ok(()),
         Err(Fault::Unwritten(Some(error))) => Err(error),
@@ -171,7 +171,7 @@ fn fill(file: &mut File, text: &str) -> io::Result<()> {
 /// Draws the picture.
 fn draw(canvas: Canvas, text: &str, w: &mut BufWriter<Stdout>) -> Result<(), Fault> {
     match canvas {
-        Canvas::Standard => put_out(w, text.as_bytes()),
+        Canvas::Standard => write_out(w, text.as_bytes()),
         Canvas::File(mut file) => match fill(&mut file, text) {
             Ok(()) => Ok(()),
             Err(error) => Err(Fault::Own(NoTable::Undrawn(error))),

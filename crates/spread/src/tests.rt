@@ -6,14 +6,14 @@ use crate::fault::{Fault, NoTable};
 use crate::keys::{Layout, read_keys};
 use crate::named::{Hashed, counts_by};
 use crate::sizes::{Sizes, sizes_of};
+use cli::frame::{Request, request_of};
+use cli::rehearsal::{Script, arguments_of};
 use hash_names::table::{KINDS, Kind};
-use hash_program::frame::{Request, request_of};
-use hash_program::rehearsal::{Script, arguments_of};
-use hash_texts::{RandomKeys, Texts};
 use std::alloc::{AllocError, Global};
 use std::io::{BufReader, ErrorKind};
 use std::num::NonZeroUsize;
 use std::process::Abort;
+use text_set::{RandomKeys, Texts};
 
 /// Lines as most files have them.
 const LINES: Layout = Layout::Lines(b'\n');

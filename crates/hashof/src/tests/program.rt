@@ -1,7 +1,7 @@
 //! The program's outcome, for arguments as the system gives them.
 use super::{same, same_text};
 use crate::outcome::{Outcome, outcome_limited, outcome_line, outcome_of, outcome_status};
-use hash_program::rehearsal::{Paper, Script, Trouble};
+use cli::rehearsal::{Paper, Script, Trouble};
 use std::alloc::Global;
 use std::env::Args;
 use std::io;

@@ -1,4 +1,4 @@
-//! The program of crates/measure_owners in Rust: a ring in a BTreeMap, over the original's lookup3. It takes and answers the same lines.
+//! The ring of the program of crates/measure_lines in Rust: a ring in a BTreeMap, over the original's lookup3. It takes and answers the same lines
 use hashers::jenkins::Lookup3Hasher;
 use std::collections::BTreeMap;
 use std::hash::Hasher;

@@ -1,11 +1,11 @@
 use Rattle.std.proofs.Common.{ℕ, List, [], ◌≡◌, ◌+◌, ◌++◌, ◌∙◌, ap, sym, subst, refl, append_assoc, length-append, take, arith}
 use Rattle.std.proofs.lemmas.List.{take-take}
 use Rattle.dedup.specs.Between.{AreNext}
-use Rattle.hash_texts.specs.Lines.{lines_by}
+use Rattle.text_set.specs.Lines.{lines_by}
 use Rattle.dedup.specs.Taking.{LeadsOn}
-use Rattle.hash_texts.proofs.LineLemmas.{first_strip, line_before}
+use Rattle.text_set.proofs.LineLemmas.{first_strip, line_before}
 use Rattle.dedup.proofs.RunLemmas.{breaks_at_line, counted_more, front_is, leads_both, leads_nowhere, lines_more, takes_so_far, together, whole_both, whole_line, whole_nothing}
-use Rattle.dedup.proofs.SeenLemmas.{on_err}
+use Rattle.cli.proofs.StreamLemmas.{on_err}
 use Rattle.dedup.proofs.lines.take_lines.Goals as goal
 
 pub loop-count-init : goal.loop-count-init

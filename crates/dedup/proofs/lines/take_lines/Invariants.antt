@@ -1,6 +1,6 @@
 use Rattle.std.proofs.Common.{ℕ, List, ◌≡◌, ◌++◌, length}
 use Rattle.dedup.specs.Between.{AreNext, IsWhole}
-use Rattle.hash_texts.specs.Lines.{lines_by}
+use Rattle.text_set.specs.Lines.{lines_by}
 use Rattle.dedup.specs.Taking.{LeadsOn}
 use Rattle.dedup.proofs.lines.take_lines.Given as goal
 

@@ -1,4 +1,4 @@
-use Rattle.hash_texts.proofs.FirstsLemmas.{once_begins}
+use Rattle.text_set.proofs.FirstsLemmas.{once_begins}
 use Rattle.dedup.proofs.once.dedup.Goals as goal
 
 pub take_inputs-requires-clause-grows : goal.take_inputs-requires-clause-grows

@@ -1,11 +1,11 @@
 use Rattle.std.proofs.Common.{ℕ, ◌≡◌, ◌<◌, ◌-◌, ◌++◌, [], sym, subst, refl, ◌∙◌, take, drop, length, arith}
 use Rattle.std.specs.Io.Buffered.{writer_contents}
 use Rattle.std.proofs.KnownBytes.{Keeps-refl}
-use Rattle.dedup.specs.Between.{HasCome, Takes}
-use Rattle.hash_texts.specs.Lines.{lines_by}
+use Rattle.dedup.specs.Between.{IsNextLine, Takes}
+use Rattle.text_set.specs.Lines.{lines_by}
 use Rattle.dedup.specs.Taking.{BreaksOff, EndsInput, LeadsOn, StopsWithin}
 use Rattle.dedup.proofs.RunLemmas.{Reads, all_first, breaks_among, breaks_at, ends_left, leads_both, leads_kept, more_first, more_left, read_to_fault, reads_more, some_most, stops_after, stops_behind, taken_first, taken_of, takes_some}
-use Rattle.dedup.proofs.SeenLemmas.{on_err}
+use Rattle.cli.proofs.StreamLemmas.{on_err}
 use Rattle.dedup.proofs.run.take_input.Goals as goal
 
 pub returns-in_err-fill-clause-broke : goal.returns-in_err-fill-clause-broke
@@ -58,7 +58,7 @@ loop-task-smaller g c =
     let (text, reads, leads, flushed) = c.loop-task.invariant in
     let count : ℕ = c.in_ok-count-in-Line.count in
     let len : ℕ = c.in_ok-count-in-Line.len in
-    let came = subst (HasCome c.args.eol c.in_ok-fill.ensures.text c.fill.new.self
+    let came = subst (IsNextLine c.args.eol c.in_ok-fill.ensures.text c.fill.new.self
     (g.R.Read.remaining c.fill.new.r)) c.in-Line.is c.in_ok-fill.ensures.has_come in
     let takes = subst (λ l. Takes c.args.eol l c.loop-task.most count len) c.bytes.ensures c.in_ok-count-in-Line.ensures.takes in
     let none : c.loop-task.most - count ≡ 0 → drop len c.fill.new.self ≡ [] =
@@ -91,7 +91,7 @@ pub returns-in_err-left-in-End-clause-broke : goal.returns-in_err-left-in-End-cl
 returns-in_err-left-in-End-clause-broke g c =
     let (text, reads, leads, flushed) = c.loop-task.invariant in
     let output = g.T.LineTask.output c.args.eol in
-    let (bare, ended) = subst (HasCome c.args.eol c.in_ok-fill.ensures.text c.fill.new.self
+    let (bare, ended) = subst (IsNextLine c.args.eol c.in_ok-fill.ensures.text c.fill.new.self
     (g.R.Read.remaining c.fill.new.r)) c.in-End.is c.in_ok-fill.ensures.has_come in
     let stops = subst (λ l. StopsWithin output (λ ls. g.T.LineTask.taken c.args.eol ls c.loop-task.task) (lines_by c.args.eol l)
     (writer_contents g.W.Write.contents c.loop-task.w) (writer_contents g.W.Write.contents c.take_last.new.w))
@@ -104,7 +104,7 @@ pub returns-in-End-clause-left : goal.returns-in-End-clause-left
 returns-in-End-clause-left g c =
     let (text, reads, leads, flushed) = c.loop-task.invariant in
     let output = g.T.LineTask.output c.args.eol in
-    let (bare, ended) = subst (HasCome c.args.eol c.in_ok-fill.ensures.text c.fill.new.self
+    let (bare, ended) = subst (IsNextLine c.args.eol c.in_ok-fill.ensures.text c.fill.new.self
     (g.R.Read.remaining c.fill.new.r)) c.in-End.is c.in_ok-fill.ensures.has_come in
     let ends = subst (λ l. EndsInput output (λ ls. g.T.LineTask.taken c.args.eol ls c.loop-task.task)
     (λ ls. g.T.LineTask.taken c.args.eol ls c.take_last.new.task) (lines_by c.args.eol l) c.loop-task.most c.take_last.new.most
@@ -115,6 +115,6 @@ returns-in-End-clause-left g c =
 pub returns-in-Fault-clause-left : goal.returns-in-Fault-clause-left
 returns-in-Fault-clause-left g c =
     let (text, reads, leads, flushed) = c.loop-task.invariant in
-    let bare = subst (HasCome c.args.eol c.in_ok-fill.ensures.text c.fill.new.self
+    let bare = subst (IsNextLine c.args.eol c.in_ok-fill.ensures.text c.fill.new.self
     (g.R.Read.remaining c.fill.new.r)) c.in-Fault.is c.in_ok-fill.ensures.has_come in
     (lines_by c.args.eol text, read_to_fault c.args.eol _ _ _ _ _ text reads _ _ _ c.in_ok-fill.ensures bare, leads, reads.counted)

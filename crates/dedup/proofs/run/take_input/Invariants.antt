@@ -1,6 +1,6 @@
 use Rattle.std.proofs.Common.{ℕ, List, ◌≡◌, []}
 use Rattle.std.specs.Io.Buffered.{writer_buffer, writer_contents}
-use Rattle.hash_texts.specs.Lines.{lines_by}
+use Rattle.text_set.specs.Lines.{lines_by}
 use Rattle.dedup.specs.Taking.{LeadsOn}
 use Rattle.dedup.proofs.RunLemmas.{Reads}
 use Rattle.dedup.proofs.run.take_input.Given as goal

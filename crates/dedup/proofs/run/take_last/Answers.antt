@@ -2,9 +2,9 @@ use Rattle.std.proofs.Common.{ap, sym, subst, length, arith}
 use Rattle.std.proofs.lemmas.Bool.{eqb-false}
 use Rattle.std.specs.Io.Buffered.{writer_contents}
 use Rattle.dedup.specs.Taking.{LeadsOn, StopsWithin}
-use Rattle.hash_texts.proofs.LineLemmas.{bare_line, strip_bare}
+use Rattle.text_set.proofs.LineLemmas.{bare_line, strip_bare}
 use Rattle.dedup.proofs.RunLemmas.{leads_kept, stops_after}
-use Rattle.dedup.proofs.SeenLemmas.{on_err}
+use Rattle.cli.proofs.StreamLemmas.{on_err}
 use Rattle.dedup.proofs.run.take_last.Goals as goal
 
 pub take_line-requires-clause-text : goal.take_line-requires-clause-text

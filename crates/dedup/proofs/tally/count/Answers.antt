@@ -1,5 +1,5 @@
 use Rattle.std.proofs.Common.{rules, arith, ◌≡◌, ap, sym, subst, ◌∙◌, set, ◌+◌, ◌∷◌, [], ◌++◌, true, false}
-use Rattle.hash_texts.specs.Texts.{StandsAt, has, with_text}
+use Rattle.text_set.specs.Texts.{StandsAt, has, with_text}
 use Rattle.dedup.specs.Tallies.{Tallies}
 use Rattle.dedup.proofs.SeenLemmas.{is_there, not_there}
 use Rattle.dedup.proofs.TallyLemmas.{as_many, counted_place, few_times, tallies_again, tallies_new}

@@ -1,8 +1,9 @@
 use Rattle.std.proofs.Common.{subst, sym, append-nil}
 use Rattle.std.specs.Io.KnownBytes.{Appends}
-use Rattle.hash_program.specs.Streams.{AppendsPart}
+use Rattle.cli.specs.Streams.{AppendsPart}
 use Rattle.std.proofs.lemmas.Result.{on_ok_weaker, on_err_weaker}
-use Rattle.hash_bloom.proofs.FileLemmas.{file_written, hash_begun, line_begun, on_err, word_begun, word_written}
+use Rattle.cli.proofs.StreamLemmas.{on_err}
+use Rattle.hash_bloom.proofs.FileLemmas.{file_written, hash_begun, line_begun, word_begun, word_written}
 use Rattle.hash_bloom.proofs.file.write_sealed.Goals as goal
 
 pub loop-word-init : goal.loop-word-init

@@ -1,6 +1,6 @@
 use Rattle.std.proofs.Common.{◌≡◌, ◌+◌, ◌≤◌, ◌++◌, ℕ, List, length, map}
 use Rattle.hash_c.specs.Lines.{laid_over}
-use Rattle.hash_texts.specs.Lines.{line_texts}
+use Rattle.text_set.specs.Lines.{line_texts}
 use Rattle.hash_c.proofs.column.hash_lines.Given as goal
 
 -- the hashes of the lines so far are written, as far as there is room

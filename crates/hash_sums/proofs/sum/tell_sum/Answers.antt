@@ -1,18 +1,18 @@
 use Rattle.std.proofs.Common.{Result, Ok, Err, OnOk, OnErr, Option, List, ℕ, subst, ◌∙◌}
 use Rattle.std.specs.Io.Buffered.{writer_contents}
 use Rattle.std.specs.Io.KnownBytes.{Appends}
-use Rattle.hash_program.specs.Streams.{AppendsPart, PutsOut}
-use Rattle.hash_program.specs.declared.fault.Fault.{Fault}
-use Rattle.hash_program.proofs.StreamLemmas.{part_none}
+use Rattle.cli.specs.Streams.{AppendsPart, WritesOut}
+use Rattle.cli.specs.declared.fault.Fault.{Fault}
+use Rattle.cli.proofs.StreamLemmas.{part_none}
 use Rattle.hash_sums.proofs.sum.tell_sum.Goals as goal
 
 -- what stands after a text is put out, by its two cases
-puts_ok : {Own : Type 0} (bytes : List ℕ) (w w' : Option (List ℕ)) (result : Result (Unit {0}) (Fault Own)) → PutsOut bytes w w' result
+puts_ok : {Own : Type 0} (bytes : List ℕ) (w w' : Option (List ℕ)) (result : Result (Unit {0}) (Fault Own)) → WritesOut bytes w w' result
     → OnOk result (Appends w w' bytes)
 puts_ok bytes w w' (Ok done) puts = puts
 puts_ok bytes w w' (Err fault) puts = tt
 
-puts_err : {Own : Type 0} (bytes : List ℕ) (w w' : Option (List ℕ)) (result : Result (Unit {0}) (Fault Own)) → PutsOut bytes w w' result
+puts_err : {Own : Type 0} (bytes : List ℕ) (w w' : Option (List ℕ)) (result : Result (Unit {0}) (Fault Own)) → WritesOut bytes w w' result
     → OnErr result (AppendsPart w w' bytes)
 puts_err bytes w w' (Ok done) puts = tt
 puts_err bytes w w' (Err fault) puts = puts.0
@@ -20,14 +20,14 @@ puts_err bytes w w' (Err fault) puts = puts.0
 pub returns-in-Ok-clause-ok : goal.returns-in-Ok-clause-ok
 returns-in-Ok-clause-ok g c =
     let written = writer_contents g.W.Write.contents c.args.w.now in
-    let written' = writer_contents g.W.Write.contents c.put_out.new.w in
-    puts_ok _ _ _ _ (subst (λ t. PutsOut t written written' c.put_out.result) (c.deref.ensures.value ∙ c.in-Ok.ensures) c.put_out.ensures)
+    let written' = writer_contents g.W.Write.contents c.write_out.new.w in
+    puts_ok _ _ _ _ (subst (λ t. WritesOut t written written' c.write_out.result) (c.deref.ensures.value ∙ c.in-Ok.ensures) c.write_out.ensures)
 
 pub returns-in-Ok-clause-err : goal.returns-in-Ok-clause-err
 returns-in-Ok-clause-err g c =
     let written = writer_contents g.W.Write.contents c.args.w.now in
-    let written' = writer_contents g.W.Write.contents c.put_out.new.w in
-    puts_err _ _ _ _ (subst (λ t. PutsOut t written written' c.put_out.result) (c.deref.ensures.value ∙ c.in-Ok.ensures) c.put_out.ensures)
+    let written' = writer_contents g.W.Write.contents c.write_out.new.w in
+    puts_err _ _ _ _ (subst (λ t. WritesOut t written written' c.write_out.result) (c.deref.ensures.value ∙ c.in-Ok.ensures) c.write_out.ensures)
 
 pub returns-in-Err-clause-err : goal.returns-in-Err-clause-err
 returns-in-Err-clause-err g c = part_none (writer_contents g.W.Write.contents c.args.w.now) _

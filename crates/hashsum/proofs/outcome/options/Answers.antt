@@ -1,5 +1,5 @@
 use Rattle.std.proofs.Common.{◌≡◌, List, ◌∷◌, refl, ap₂}
-use Rattle.hash_program.specs.Call.{Choice}
+use Rattle.cli.specs.Call.{Choice}
 use Rattle.hashsum.proofs.outcome.options.Goals as goal
 
 -- one more of the list

@@ -1,6 +1,6 @@
 use Rattle.std.proofs.Common.{◌∙◌, ap}
 use Rattle.std.specs.Io.BufRead.{ends_with_byte, strip_last}
-use Rattle.hash_texts.specs.Texts.{with_text}
+use Rattle.text_set.specs.Texts.{with_text}
 use Rattle.spread.proofs.KeyLemmas.{takes_line, takes_nothing}
 use Rattle.spread.proofs.keys.read_line.Goals as goal
 

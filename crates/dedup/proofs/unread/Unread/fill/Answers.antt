@@ -2,7 +2,7 @@ use Rattle.std.proofs.Common.{◌++◌, ap, sym, subst, ◌∙◌, append_assoc,
 use Rattle.std.proofs.KnownBytes.{Consumes-trans}
 use Rattle.std.proofs.lemmas.Result.{MatchResult-at_ok}
 use Rattle.dedup.specs.Between.{ReadsBehind}
-use Rattle.hash_texts.specs.Lines.{IsBare}
+use Rattle.text_set.specs.Lines.{IsBare}
 use Rattle.dedup.proofs.RunLemmas.{bare_both}
 use Rattle.dedup.proofs.UnreadLemmas.{found_end, found_none}
 use Rattle.dedup.proofs.unread.Unread.fill.Goals as goal

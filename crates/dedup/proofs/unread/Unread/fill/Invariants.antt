@@ -1,6 +1,6 @@
 use Rattle.std.proofs.Common.{◌≡◌, ◌++◌, ◌-◌, ◌^◌, ℕ, List, length}
 use Rattle.std.specs.Io.KnownBytes.{Consumes}
-use Rattle.hash_texts.specs.Lines.{IsBare}
+use Rattle.text_set.specs.Lines.{IsBare}
 use Rattle.dedup.proofs.unread.Unread.fill.Given as goal
 
 -- what was read so far has no end

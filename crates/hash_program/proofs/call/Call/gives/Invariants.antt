@@ -1,7 +1,0 @@
-use Rattle.std.proofs.Common.{◌≡◌, drop}
-use Rattle.hash_program.specs.Call.{given, sayings}
-use Rattle.hash_program.proofs.call.Call.gives.Given as goal
-
--- it is for the sayings that are left to give it
-abbrev pub invariant-loop-said : goal.invariant-loop-said
-invariant-loop-said l = given l.name (sayings l.said-items) ≡ given l.name (sayings (drop l.said-index l.said-items))

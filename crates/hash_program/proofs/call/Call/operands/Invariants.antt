@@ -1,8 +1,0 @@
-use Rattle.std.proofs.Common.{◌≡◌, ◌++◌, map, drop}
-use Rattle.hash_program.specs.Call.{operands, sayings}
-use Rattle.hash_program.proofs.call.Call.operands.Given as goal
-
--- those that were found, and those of the sayings that are left
-abbrev pub invariant-loop-said : goal.invariant-loop-said
-invariant-loop-said l =
-    map (λ word. word.now) l.found.items ++ operands (sayings (drop l.said-index l.said-items)) ≡ operands (sayings l.said-items)

@@ -1,7 +1,0 @@
-use Rattle.std.proofs.Common.{◌≡◌, drop}
-use Rattle.hash_program.specs.Call.{sayings, wrongs}
-use Rattle.hash_program.proofs.call.Call.wrong.Given as goal
-
--- nothing was wrong before
-abbrev pub invariant-loop-said : goal.invariant-loop-said
-invariant-loop-said l = wrongs (sayings l.said-items) ≡ wrongs (sayings (drop l.said-index l.said-items))

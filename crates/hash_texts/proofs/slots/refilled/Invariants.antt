@@ -1,6 +1,0 @@
-use Rattle.hash_texts.proofs.SlotLemmas.{Refilling}
-use Rattle.hash_texts.proofs.slots.refilled.Given as goal
-
--- the slots so far are in the new table
-abbrev pub invariant-loop-slot : goal.invariant-loop-slot
-invariant-loop-slot l = Refilling l.slots l.slot-index l.count l.more.items

@@ -1,0 +1,8 @@
+use Rattle.std.proofs.Common.{ℕ, ◌≡◌, ◌<◌, ◌≤◌, get_or, not, false}
+use Rattle.text_set.specs.Slots.{is_taken}
+use Rattle.text_set.specs.declared.slots.TheConstants.{EMPTY}
+use Rattle.text_set.proofs.slots.free_between.Given as goal
+
+-- no slot so far is free
+abbrev pub invariant-loop-i : goal.invariant-loop-i
+invariant-loop-i l = (j : ℕ) → l.from ≤ j → j < l.i → not (is_taken (get_or l.slots j EMPTY)) ≡ false
