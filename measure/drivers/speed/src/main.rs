@@ -18,6 +18,7 @@ mod original;
 mod ours;
 
 use measure::{gigahertz, Pair, Sheet};
+use std::collections::hash_map::DefaultHasher;
 use std::fs::OpenOptions;
 use std::hint::black_box;
 use std::io::Write;
@@ -273,6 +274,24 @@ fn pieces(sheet: &mut Sheet, names: &[Name], text: &[u8]) {
     .table(sheet, &rows, &|_, _| true);
 }
 
+/// Our hash at a key beside std's hash under a key: keys, and one text that is the longest.
+fn keyed(sheet: &mut Sheet, text: &[u8]) {
+    Cut {
+        title: "Under a key, SipHash of std / ours, nanoseconds a key:",
+        sizes: &[8, 16, 64, LONGEST],
+        text: &|size| &text[..LONGEST.min(KEYS * size)],
+        count: |size| LONGEST.min(KEYS * size) / size,
+    }
+    .table(
+        sheet,
+        &[(
+            "poly61",
+            [original::keys::<DefaultHasher>, ours::keyed::poly61],
+        )],
+        &|_, _| false,
+    );
+}
+
 fn numbers(sheet: &mut Sheet, text: &[u8]) {
     let rows: &[(&str, [CallOfSize; 2])] = with_numbers!(pairs numbers);
     Cut {
@@ -398,7 +417,7 @@ fn functions(sheet: &mut Sheet, only: &str) {
     }
 }
 
-/// Measures the functions, the maps of std or the tables of buckets.
+/// Measures the functions, the maps of std, the tables of buckets or the hash at a key.
 fn measure_all(sheet: &mut Sheet, kind: &str, only: &str) {
     sheet.line(&format!(
         "{:.2} GHz; a cell is the original's time / ours = **the ratio**, and a side's time\nthe least of {} processes' medians of {} runs by turns.",
@@ -409,6 +428,7 @@ fn measure_all(sheet: &mut Sheet, kind: &str, only: &str) {
     match kind {
         "maps" => maps::maps(sheet),
         "buckets" => maps::tables(sheet, &bytes(LONGEST)),
+        "keyed" => keyed(sheet, &bytes(LONGEST)),
         _ => functions(sheet, only),
     }
 }

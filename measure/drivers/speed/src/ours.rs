@@ -35,6 +35,7 @@ with_numbers!(calls_of numbers (at: *const u8, len: usize, width: usize):);
 with_behind!(calls_of behind (at: *const u8, len: usize):);
 
 calls! {
+    keyed (at: *const u8, len: usize, size: usize): poly61;
     buckets (at: *const u8, len: usize, size: usize, rounds: usize): fnv1a64 fxhash;
     missed (at: *const u8, len: usize, size: usize, rounds: usize): fnv1a64 fxhash;
     emptied (at: *const u8, len: usize, size: usize): fnv1a64 fxhash;
