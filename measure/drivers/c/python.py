@@ -1,6 +1,6 @@
 """usage: LD_LIBRARY_PATH=FOLDER PYTHONPATH=c/python:measure python3 measure/drivers/c/python.py RUNS
 
-Prints the tables of docs/C.md on Python: a call of hashers beside hashlib's and zlib's, and many texts in one call beside a loop. FOLDER
+Prints the tables of docs/TIMES.md on Python: a call of hashers beside hashlib's and zlib's, and many texts in one call beside a loop. FOLDER
 has libhashers.so.1. Each time is the least of so many short runs by turns, and of a tenth of them where a run is long.
 """
 import hashlib
