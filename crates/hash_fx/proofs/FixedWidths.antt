@@ -1,11 +1,10 @@
 -- Numbers of fixed widths, as words.
 use Rattle.std.proofs.Common.{ℕ, List, fold, ◌≡◌, ◌<◌, ◌∙◌, ap, sym, refl, [], ◌∷◌, ◌%◌, ◌/◌, ◌^◌, take, drop, arith}
 use Rattle.std.proofs.Math.Path.{ap₂}
-use Rattle.std.proofs.lemmas.Nat.{from_le_bytes-to_le_bytes_4, from_le_bytes-to_le_bytes_8}
 use Rattle.std.specs.Hash.{le_bytes}
 use Rattle.hash_rounds.specs.Words.{le}
 use Rattle.hash_rounds.specs.Blocks.{pieces}
-use Rattle.hash_rounds.proofs.WordLemmas.{from_le_bytes-4, from_le_bytes-8, le-4}
+use Rattle.hash_rounds.proofs.WordLemmas.{le-to_le_bytes-32, le-to_le_bytes-64, le-4}
 use Rattle.hash_laws.specs.Recurrence.{recurrence}
 use Rattle.hash_laws.proofs.RecurrenceLemmas.{recurrence-fold}
 use Rattle.hash_fx.specs.Fx.{fx32, fx32_step, fx64, fx64_step, words32, words64}
@@ -21,7 +20,7 @@ words32-byte v = refl
 
 pub words32-four : (v : ℕ) → v < 2 ^ 32 → words32 (le_bytes 4 v) ≡ v ∷ []
 unfolding pieces le_bytes
-words32-four v below = ap (λ w. w ∷ []) (sym (from_le_bytes-4 (le_bytes 4 v) refl) ∙ from_le_bytes-to_le_bytes_4 v below)
+words32-four v below = ap (λ w. w ∷ []) (le-to_le_bytes-32 v below)
 
 pub words64-four : (v : ℕ) → v < 2 ^ 32 → words64 (le_bytes 4 v) ≡ v ∷ []
 unfolding pieces le_bytes
@@ -29,7 +28,7 @@ words64-four v below = words32-four v below
 
 pub words64-eight : (v : ℕ) → v < 2 ^ 64 → words64 (le_bytes 8 v) ≡ v ∷ []
 unfolding pieces le_bytes
-words64-eight v below = ap (λ w. w ∷ []) (sym (from_le_bytes-8 (le_bytes 8 v) refl) ∙ from_le_bytes-to_le_bytes_8 v below)
+words64-eight v below = ap (λ w. w ∷ []) (le-to_le_bytes-64 v below)
 
 -- one or two words, by any step
 module _ (step : ℕ → ℕ → ℕ) (h v : ℕ) where

@@ -1,6 +1,7 @@
 pub mod ByteLemmas
 pub mod ChangedByte
 pub mod CountLemmas
+pub mod ExactlyLemmas
 pub mod FoldLemmas
 pub mod FrameLemmas
 pub mod ItemLemmas

@@ -3,7 +3,7 @@ use Rattle.std.proofs.Common.{ℕ, zero, suc, lit<, ◌/◌, ◌^◌, ◌≡◌,
 use Rattle.std.proofs.lemmas.List.{take_more, flat_map_more, at_drop_more}
 use Rattle.std.proofs.lemmas.List.Elements.{All-nil, All-cons, All-from_get_or}
 use Rattle.std.proofs.lemmas.Nat.{mod_below}
-use Rattle.std.specs.Int.{byte_at, bytes_low_first, to_le_bytes, w16, w32, w64}
+use Rattle.std.specs.Int.{Width, byte_at, byte_len, bytes_low_first, to_le_bytes, w16, w32, w64}
 use Rattle.std.specs.List.{flat_map}
 use Rattle.std.specs.Hash.{le_bytes}
 use Rattle.hash_laws.specs.Text.{IsText}
@@ -31,6 +31,9 @@ byte_at-lt (suc i) n = mod_below (n / 256 ^ suc i) 256 (lit< tt)
 low_bytes : (i k n : ℕ) → IsText (bytes_low_first i k n)
 low_bytes i zero n = All-nil IsByte
 low_bytes i (suc k) n = All-cons IsByte (byte_at i n) (bytes_low_first (suc i) k n) (byte_at-lt i n) (low_bytes (suc i) k n)
+
+pub IsText-to_le_bytes : (w : Width) (n : ℕ) → IsText (to_le_bytes w n)
+IsText-to_le_bytes w n = low_bytes 0 (byte_len w) n
 
 pub IsText-le_bytes : (k n : ℕ) → IsText (le_bytes k n)
 unfolding le_bytes

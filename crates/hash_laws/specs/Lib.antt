@@ -1,4 +1,5 @@
 pub mod Counts
+pub mod Exactly
 pub mod Reading
 pub mod Recurrence
 pub mod Standing

@@ -7,6 +7,7 @@ mod ieee_rows;
 
 ghost use Rattle.std.specs.Prelude.{◌≡◌, ◌+◌, ◌*◌, ◌^◌, ◌<◌, ◌≤◌, ◌/◌, ◌%◌, ◌++◌, ℕ, List, length, bit_xor, refl};
 ghost use Rattle.std.proofs.Common.{lit<};
+ghost use Rattle.hash_laws.specs.Exactly.{ExactlyTexts};
 ghost use Rattle.hash_laws.specs.Text.{IsText};
 ghost use Rattle.hash_laws.proofs.RecurrenceLemmas.{recurrence_is_fold};
 ghost use Rattle.hash_more.specs.Crc32.{ieee, castagnoli, all_ones, bits_out, bit_out, crc_step, crc_from, crc_answer, crc32_of, crc32c_of};
@@ -308,3 +309,46 @@ pub fn crc32c_combine(hash1: u64, hash2: u64, length2: u64) -> u64
 {
     combine::<Castagnoli>(hash1, hash2, length2)
 }
+
+/// The ending of four bytes that leads a text with one CRC to another.
+#[tactic(auto, using(crate::proofs::Crc32Endings::four_bytes_out))]
+fn ending<P: Polynomial>(hash: u64, answer: u64) -> [u8; 4]
+    ensures { crc_from P.POLYNOMIAL (crc_answer (hash % 2 ^ 32)) result ≡ crc_answer (answer % 2 ^ 32) }
+{
+    let before = (hash % 4294967296) as u32 ^ 0xFFFFFFFF;
+    let after = (answer % 4294967296) as u32 ^ 0xFFFFFFFF;
+    let word = byte_in::<P>(byte_in::<P>(byte_in::<P>(byte_in::<P>(after))));
+    (word ^ before).to_le_bytes()
+}
+
+/// The one ending of four bytes behind a text with this CRC-32 that makes the CRC-32 of the whole the answer. Of both numbers the
+/// low 32 bits count.
+pub fn crc32_ending(hash: u64, answer: u64) -> [u8; 4]
+    ensures leads { (text : List ℕ) → hash % 2 ^ 32 ≡ crc32_of text
+        → crc32_of (text ++ result) ≡ answer % 2 ^ 32 }
+    ensures alone { (text ending : List ℕ) → IsText text → IsText ending → length ending ≡ 4
+        → hash % 2 ^ 32 ≡ crc32_of text → crc32_of (text ++ ending) ≡ answer % 2 ^ 32
+        → ending ≡ result }
+{
+    ending::<Ieee>(hash, answer)
+}
+
+/// The one ending of four bytes for CRC-32C, as [`crc32_ending`] finds it.
+pub fn crc32c_ending(hash: u64, answer: u64) -> [u8; 4]
+    ensures leads { (text : List ℕ) → hash % 2 ^ 32 ≡ crc32c_of text
+        → crc32c_of (text ++ result) ≡ answer % 2 ^ 32 }
+    ensures alone { (text ending : List ℕ) → IsText text → IsText ending → length ending ≡ 4
+        → hash % 2 ^ 32 ≡ crc32c_of text → crc32c_of (text ++ ending) ≡ answer % 2 ^ 32
+        → ending ≡ result }
+{
+    ending::<Castagnoli>(hash, answer)
+}
+
+/// The CRCs favour no answer, a law with no code: behind any text each answer has exactly one ending of four bytes, which
+/// [`crc32_ending`] and [`crc32c_ending`] find.
+pub fn crcs_are_even()
+    ensures crc32 { (text : List ℕ) (answer : ℕ) → IsText text → answer < 2 ^ 32
+        → ExactlyTexts 1 4 (λ ending. crc32_of (text ++ ending) ≡ answer) }
+    ensures crc32c { (text : List ℕ) (answer : ℕ) → IsText text → answer < 2 ^ 32
+        → ExactlyTexts 1 4 (λ ending. crc32c_of (text ++ ending) ≡ answer) }
+{}

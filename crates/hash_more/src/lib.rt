@@ -14,7 +14,10 @@ pub mod joaat;
 mod tests;
 pub mod windows;
 
-pub use crc32::{Crc32Hasher, Crc32cHasher, crc32_combine, crc32c, crc32c_combine};
+pub use crc32::{
+    Crc32Hasher, Crc32cHasher, crc32_combine, crc32_ending, crc32c, crc32c_combine, crc32c_ending,
+    crcs_are_even,
+};
 pub use djb2_add::Djb2AddHasher;
 pub use elf::ElfHasher;
 pub use fnv1::{Fnv1Hasher32, Fnv1Hasher64, fnv1_32, fnv1_64};

@@ -1,5 +1,8 @@
 //! Values from outside the proofs.
-use crate::crc32::{Crc32Hasher, Crc32cHasher, crc32, crc32_combine, crc32c, crc32c_combine};
+use crate::crc32::{
+    Crc32Hasher, Crc32cHasher, crc32, crc32_combine, crc32_ending, crc32c, crc32c_combine,
+    crc32c_ending,
+};
 use crate::djb2_add::{Djb2AddHasher, djb2_add};
 use crate::elf::{ElfHasher, elf};
 use crate::fnv1::{Fnv1Hasher32, Fnv1Hasher64, fnv1_32, fnv1_64};
@@ -88,6 +91,30 @@ fn crcs_combined(rt: HostRuntime) {
             0xCBF43926, 0x414FA339, 0xCBF43926, 0x81D49321, 0xDCC659CD, 0xE3069283, 0xE3069283,
         ],
     );
+}
+
+#[test]
+fn crc_endings(rt: HostRuntime) {
+    assert_eq!(rt; crc32_ending(crc32(b"12345"), 0xCBF43926), *b"6789");
+    assert_eq!(rt; crc32c_ending(crc32c(b"12345"), 0xE3069283), *b"6789");
+    let mut state = 1u64;
+    for _ in 0..100 {
+        let text = state.to_le_bytes();
+        state = state
+            .wrapping_mul(6364136223846793005)
+            .wrapping_add(1442695040888963407);
+        let answer = state >> 32;
+        let ending = crc32_ending(crc32(&text), answer);
+        let ending_c = crc32c_ending(crc32c(&text), answer);
+        same(
+            &rt,
+            &[
+                answer_of_pieces::<Crc32Hasher>(&[&text, &ending]),
+                answer_of_pieces::<Crc32cHasher>(&[&text, &ending_c]),
+            ],
+            &[answer, answer],
+        );
+    }
 }
 
 #[test]

@@ -1,9 +1,9 @@
 -- Arithmetic on words.
-use Rattle.std.proofs.Common.{◌≡◌, ℕ, ◌+◌, ◌-◌, ◌*◌, ◌/◌, ◌%◌, ◌^◌, ◌<◌, ◌≤◌, List, [], ◌∷◌, length, slice_index, drop, bit_or, refl, ◌∙◌, ap, subst, add_comm, add-zero, arith, inl, inr}
-use Rattle.std.specs.Int.{w32, w64, from_le_bytes, rotate_left}
+use Rattle.std.proofs.Common.{◌≡◌, ℕ, ◌+◌, ◌-◌, ◌*◌, ◌/◌, ◌%◌, ◌^◌, ◌<◌, ◌≤◌, List, [], ◌∷◌, length, slice_index, drop, bit_or, refl, sym, ◌∙◌, ap, subst, add_comm, add-zero, arith, inl, inr}
+use Rattle.std.specs.Int.{w32, w64, from_le_bytes, to_le_bytes, rotate_left}
 use Rattle.std.proofs.lemmas.List.{drop_more, drop_all}
 use Rattle.std.proofs.Math.Nat.{mod-eq_of_lt, mod-eq-sub-mod, mul-mod_left}
-use Rattle.std.proofs.lemmas.Nat.{pow_pos, pow-add, shl-shr, shr_high, mod_low, mod-pow-add, shr_split, mod_below, shr_below, or_shifted, mul-add-lt}
+use Rattle.std.proofs.lemmas.Nat.{pow_pos, pow-add, shl-shr, shr_high, mod_low, mod-pow-add, shr_split, mod_below, shr_below, or_shifted, mul-add-lt, from_le_bytes-to_le_bytes_4, from_le_bytes-to_le_bytes_8}
 use Rattle.std.proofs.lemmas.Bool.{cases_lt}
 use Rattle.std.proofs.Math.ListN.{get_or-eq_default}
 use Rattle.std.proofs.lemmas.List.Elements.{All-from_get_or}
@@ -147,6 +147,13 @@ from_le_bytes-4 bs len =
     let all = le-drop_four bs 0 (omega arith) in
     let none = le-drop_all bs 4 (omega arith) in
     omega arith
+
+-- the value of a word's bytes
+pub le-to_le_bytes-32 : (x : ℕ) → x < 2 ^ 32 → le (to_le_bytes w32 x) ≡ x
+le-to_le_bytes-32 x x_in = sym (from_le_bytes-4 (to_le_bytes w32 x) refl) ∙ from_le_bytes-to_le_bytes_4 x x_in
+
+pub le-to_le_bytes-64 : (x : ℕ) → x < 2 ^ 64 → le (to_le_bytes w64 x) ≡ x
+le-to_le_bytes-64 x x_in = sym (from_le_bytes-8 (to_le_bytes w64 x) refl) ∙ from_le_bytes-to_le_bytes_8 x x_in
 
 -- the values of at most four bytes
 pub le-0 : (t : List ℕ) → length t ≡ 0 → le t ≡ 0

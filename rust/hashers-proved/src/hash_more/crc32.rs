@@ -337,3 +337,51 @@ pub fn crc32_combine(hash1: u64, hash2: u64, length2: u64) -> u64 {
 pub fn crc32c_combine(hash1: u64, hash2: u64, length2: u64) -> u64 {
     combine::<Castagnoli>(hash1, hash2, length2)
 }
+
+/// The ending of four bytes that leads a text with one CRC to another.
+///
+/// Proved:
+///
+/// ```text
+/// crc_from P.POLYNOMIAL (crc_answer (hash % 2 ^ 32)) result ≡ crc_answer (answer % 2 ^ 32)
+/// ```
+#[inline]
+fn ending<P: Polynomial>(hash: u64, answer: u64) -> [u8; 4] {
+    let before = (hash % 4294967296) as u32 ^ 0xFFFFFFFF;
+    let after = (answer % 4294967296) as u32 ^ 0xFFFFFFFF;
+    let word = byte_in::<P>(byte_in::<P>(byte_in::<P>(byte_in::<P>(after))));
+    (word ^ before).to_le_bytes()
+}
+
+/// The one ending of four bytes behind a text with this CRC-32 that makes the CRC-32 of the whole the answer. Of both numbers the
+/// low 32 bits count.
+///
+/// Proved:
+///
+/// ```text
+/// leads: (text : List ℕ) → hash % 2 ^ 32 ≡ crc32_of text
+///     → crc32_of (text ++ result) ≡ answer % 2 ^ 32
+/// alone: (text ending : List ℕ) → IsText text → IsText ending → length ending ≡ 4
+///     → hash % 2 ^ 32 ≡ crc32_of text → crc32_of (text ++ ending) ≡ answer % 2 ^ 32
+///     → ending ≡ result
+/// ```
+#[inline]
+pub fn crc32_ending(hash: u64, answer: u64) -> [u8; 4] {
+    ending::<Ieee>(hash, answer)
+}
+
+/// The one ending of four bytes for CRC-32C, as [`crc32_ending`] finds it.
+///
+/// Proved:
+///
+/// ```text
+/// leads: (text : List ℕ) → hash % 2 ^ 32 ≡ crc32c_of text
+///     → crc32c_of (text ++ result) ≡ answer % 2 ^ 32
+/// alone: (text ending : List ℕ) → IsText text → IsText ending → length ending ≡ 4
+///     → hash % 2 ^ 32 ≡ crc32c_of text → crc32c_of (text ++ ending) ≡ answer % 2 ^ 32
+///     → ending ≡ result
+/// ```
+#[inline]
+pub fn crc32c_ending(hash: u64, answer: u64) -> [u8; 4] {
+    ending::<Castagnoli>(hash, answer)
+}

@@ -13,7 +13,9 @@ pub mod fnv1;
 pub mod joaat;
 pub mod windows;
 
-pub use crc32::{Crc32Hasher, Crc32cHasher, crc32_combine, crc32c, crc32c_combine};
+pub use crc32::{
+    Crc32Hasher, Crc32cHasher, crc32_combine, crc32_ending, crc32c, crc32c_combine, crc32c_ending,
+};
 pub use djb2_add::Djb2AddHasher;
 pub use elf::ElfHasher;
 pub use fnv1::{Fnv1Hasher32, Fnv1Hasher64, fnv1_32, fnv1_64};
