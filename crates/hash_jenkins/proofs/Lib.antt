@@ -1,6 +1,7 @@
 pub mod FilledLemmas
 pub mod LongWindows
 pub mod Lookup3Blocks
+pub mod Lookup3Even
 pub mod Lookup3Lemmas
 pub mod MixLemmas
 pub mod OneGroup

@@ -21,7 +21,7 @@ use Rattle.hash_jenkins.proofs.FilledLemmas.{filled-piece, filled-same}
 use Rattle.hash_jenkins.proofs.Lookup3Lemmas.{drop_eight}
 
 -- three words of bytes
-abbrev Added : ℕ × ℕ × ℕ → Type 0
+abbrev pub Added : ℕ × ℕ × ℕ → Type 0
 Added w = (w.0 < 2 ^ 32) × (w.1 < 2 ^ 32) × (w.2 < 2 ^ 32)
 
 cancel : (a x y : ℕ) → x < 2 ^ 32 → y < 2 ^ 32 → (a + x) % 2 ^ 32 ≡ (a + y) % 2 ^ 32 → x ≡ y
@@ -92,11 +92,11 @@ block_words-same c e c_is e_is same =
     let left : drop (3 * 4) c ≡ drop (3 * 4) e = drop_all 12 c (omega (arith, c_is.1)) ∙ sym (drop_all 12 e (omega (arith, e_is.1))) in
     first_chunks-same 4 3 c e (rw (drop_eight c, drop_eight e, one, two, three) refl) left
 
-add_block-same : (s : List ℕ) (c e : List ℕ) → AreThreeWords s → IsPiece 12 c → IsPiece 12 e → add_block s c ≡ add_block s e → c ≡ e
+pub add_block-same : (s : List ℕ) (c e : List ℕ) → AreThreeWords s → IsPiece 12 c → IsPiece 12 e → add_block s c ≡ add_block s e → c ≡ e
 add_block-same s c e s_in c_is e_is same =
     block_words-same c e c_is e_is (added_words s s_in.0 (block_words c) (block_words e) (block-Added c c_is) (block-Added e e_is) same)
 
-round-same : (steps : List Step) → AreSteps 32 3 0 steps → (s t : List ℕ) → AreThreeWords s → AreThreeWords t
+pub round-same : (steps : List Step) → AreSteps 32 3 0 steps → (s t : List ℕ) → AreThreeWords s → AreThreeWords t
     → apply 32 steps [] s ≡ apply 32 steps [] t → s ≡ t
 round-same steps are s t s_in t_in same =
     apply-same 32 [] (AreWords-from 32 [] (no_words 32)) steps s t (t_in.0 ∙ sym s_in.0) (rw s_in.0 are)

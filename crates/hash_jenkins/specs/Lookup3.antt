@@ -54,6 +54,10 @@ abbrev pub lookup3_from : ℕ × ℕ → List ℕ → ℕ × ℕ
 lookup3_from s [] = s
 lookup3_from s (byte ∷ piece) = lookup3_piece s.0 s.1 (byte ∷ piece)
 
+-- the word a after a piece that has some bytes, which the answer leaves out
+abbrev pub third_word : ℕ × ℕ → List ℕ → ℕ
+third_word s piece = slice_index (lookup3_words s.0 s.1 piece) 0
+
 -- the answer, of 64 bits
 abbrev pub lookup3_answer : ℕ × ℕ → ℕ
 lookup3_answer s = s.0 + 2 ^ 32 * s.1

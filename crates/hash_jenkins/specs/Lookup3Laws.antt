@@ -53,7 +53,7 @@ start-AreThreeWords pc pb n = (refl, below) where
   below (suc (suc zero)) = mod_below _ (2 ^ 32) (pow_pos 32)
   below (suc (suc (suc i))) = pow_pos 32
 
-lookup3_words-AreThreeWords : (pc pb : ℕ) (piece : List ℕ) → AreThreeWords (lookup3_words pc pb piece)
+pub lookup3_words-AreThreeWords : (pc pb : ℕ) (piece : List ℕ) → AreThreeWords (lookup3_words pc pb piece)
 lookup3_words-AreThreeWords pc pb piece =
     let mixed = mix_blocks-AreThreeWords (pieces 12 piece) _ (start-AreThreeWords pc pb (length piece)) in
     apply-AreThreeWords rounds.lookup3_final_steps _ lookup3_final-steps (add_block-AreThreeWords _ (last_block piece) mixed)

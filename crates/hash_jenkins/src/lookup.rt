@@ -1,13 +1,15 @@
 //! lookup3, by Bob Jenkins (his lookup3.c): two words of 32 bits of a piece, from two words before it.
-ghost use Rattle.std.specs.Prelude.{◌≡◌, ◌<◌, ℕ, length, refl};
+ghost use Rattle.std.specs.Prelude.{◌≡◌, ◌<◌, ℕ, List, length, refl};
 ghost use Rattle.std.proofs.Common.{lit<};
 ghost use Rattle.hash_rounds.specs.Words.{le};
+ghost use Rattle.hash_laws.specs.Text.{IsText};
 ghost use Rattle.hash_jenkins.specs.Filled.{zero_filled};
-ghost use Rattle.hash_jenkins.specs.Lookup3.{add_words, add_block, block_words, start, lookup3_piece, lookup3_from, lookup3_answer, AreTwoWords, lookup3_of};
+ghost use Rattle.hash_jenkins.specs.Lookup3.{add_words, add_block, block_words, start, third_word, lookup3_piece, lookup3_from, lookup3_answer, AreTwoWords, lookup3_of};
 ghost use Rattle.hash_jenkins.specs.Lookup3Laws.{lookup3-AreTwoWords};
 
+use crate::put::put_array;
 use hash_laws::traits::{Piecewise, hash_of};
-use hash_rounds::{le_four, lookup3_final, lookup3_mix};
+use hash_rounds::{le_four, lookup3_final, lookup3_mix, lookup3_unfinal, lookup3_unmix};
 use std::hash::Hasher;
 use std::marker::Model;
 
@@ -125,6 +127,30 @@ impl Lookup3Hasher {
         ensures { result ≡ (pc, pb) }
     {
         Lookup3Hasher { pc, pb }
+    }
+
+    /// The one block of 12 bytes that leads from here to the answer and to the third word, which the answer leaves out: the two
+    /// mixes of its words taken back. So each answer has exactly 2^32 blocks, one for each third word.
+    pub fn block_for(&self, answer: u64, third: u32) -> [u8; 12]
+        ensures leads { lookup3_answer (lookup3_from self.now result) ≡ answer }
+        ensures third_word { third_word self.now result ≡ third }
+        ensures alone { (block : List ℕ) → IsText block → length block ≡ 12
+            → lookup3_answer (lookup3_from self.now block) ≡ answer → third_word self.now block ≡ third
+            → block ≡ result }
+    {
+        let mut s = [
+            third,
+            (answer / 4294967296) as u32,
+            (answer % 4294967296) as u32,
+        ];
+        lookup3_unfinal(&mut s);
+        lookup3_unmix(&mut s);
+        let first = start(self.pc, self.pb, 12);
+        let mut block = [0; 12];
+        put_array(&mut block, 0, s[0].wrapping_sub(first[0]).to_le_bytes());
+        put_array(&mut block, 4, s[1].wrapping_sub(first[1]).to_le_bytes());
+        put_array(&mut block, 8, s[2].wrapping_sub(first[2]).to_le_bytes());
+        block
     }
 }
 

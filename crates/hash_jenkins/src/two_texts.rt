@@ -1,6 +1,7 @@
 //! Laws of lookup3 and of SpookyHash alone.
 ghost use Rattle.std.specs.Prelude.{◌≡◌, ◌≢◌, ◌↔◌, ◌<◌, ◌≤◌, ◌+◌, ◌*◌, ◌/◌, ◌%◌, ◌^◌, ℕ, List, [], ◌∷◌, ◌++◌, IsTrue, fold, length};
 ghost use Rattle.std.specs.Bool.{OnTrue};
+ghost use Rattle.hash_laws.specs.Exactly.{ExactlyTexts};
 ghost use Rattle.hash_laws.specs.Text.{IsText, texts};
 ghost use Rattle.hash_jenkins.specs.Filled.{zero_filled};
 ghost use Rattle.hash_jenkins.specs.Lookup3.{lookup3_from, lookup3_answer, lookup3_words, lookup3_of};
@@ -142,4 +143,11 @@ pub fn neighbouring_words_show()
     ensures tail { (seed1 seed2 : ℕ) (x y : List ℕ) → seed1 < 2 ^ 64 → seed2 < 2 ^ 64 → IsText x → IsText y
         → DifferFrom (length x / 96 * 96) 96 x y
         → twelve_words seed1 seed2 x ≢ twelve_words seed1 seed2 y }
+{}
+
+/// lookup3 favours no answer, a law with no code: from any two words each answer has exactly 2^32 blocks of 12 bytes. A block is
+/// found by [`Lookup3Hasher::block_for`].
+pub fn lookup3_is_even()
+    ensures { (pc pb answer : ℕ) → answer < 2 ^ 64
+        → ExactlyTexts (2 ^ 32) 12 (λ block. lookup3_answer (lookup3_from (pc, pb) block) ≡ answer) }
 {}

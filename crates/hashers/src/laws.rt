@@ -13,7 +13,7 @@ pub use hash_fx::pieces::{
 };
 pub use hash_jenkins::two_texts::{
     apart_by_zeros, cuts_show_in_lookup3, differ_in_one_block, differ_in_one_stretch,
-    middles_in_one_group, neighbouring_words_show, one_changed_block_shows,
+    lookup3_is_even, middles_in_one_group, neighbouring_words_show, one_changed_block_shows,
     one_changed_stretch_shows, position_of_joined_texts, same_answers_later,
     zeros_do_not_show_in_version_1,
 };

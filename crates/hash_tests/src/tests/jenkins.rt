@@ -35,6 +35,22 @@ pub(super) fn write_to_spooky(hasher: &mut SpookyHasher, number: usize)
 }
 
 #[test]
+fn blocks_for_answers(rt: HostRuntime) {
+    // twelve zeros lead to these words, by the steps of the two mixes
+    let fresh = Lookup3Hasher::default();
+    assert_eq!(rt; fresh.block_for(0x14c3a0e3fb293fc1, 0x65852e52), [0; 12]);
+    let mut answer = 1u64;
+    for third in 0..100 {
+        let mut hasher = Lookup3Hasher::new((answer >> 32) as u32, third);
+        answer = answer
+            .wrapping_mul(6364136223846793005)
+            .wrapping_add(1442695040888963407);
+        hasher.write(&hasher.block_for(answer, third));
+        same(&rt, &[hasher.finish()], &[answer]);
+    }
+}
+
+#[test]
 fn lookup3_pieces(rt: HostRuntime) {
     let mut hasher = Lookup3Hasher::fresh();
     hasher.write(b"a");
