@@ -1,5 +1,6 @@
 pub mod ByPlace
 pub mod FixedWidths
+pub mod FxEven
 pub mod CutsLemmas
 pub mod LowBits
 pub mod OneApart

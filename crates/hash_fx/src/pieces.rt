@@ -6,6 +6,7 @@ ghost use Rattle.hash_rounds.specs.Words.{le};
 ghost use Rattle.std.specs.Bool.{OnTrue};
 ghost use Rattle.std.specs.Hash.{le_bytes};
 ghost use Rattle.hash_fx.specs.Fx.{fx32_step, fx64_step, fx32, fx64, words32, words64};
+ghost use Rattle.hash_laws.specs.Exactly.{ExactlyTexts};
 ghost use Rattle.hash_laws.specs.Text.{IsText, joined, texts};
 ghost use Rattle.hash_fx.specs.Pieces.{AreWhole, DifferByOneByte, DifferByOneWord, fx32_pieces, fx64_pieces};
 
@@ -223,4 +224,13 @@ pub fn low_bits_of_a_word()
         → fx64_step h v % 2 ^ k ≡ fx64_step h u % 2 ^ k }
     ensures at_32 { (k h v u : ℕ) → k ≤ 32 → v % 2 ^ k ≡ u % 2 ^ k
         → fx32_step h v % 2 ^ k ≡ fx32_step h u % 2 ^ k }
+{}
+
+/// fx favours no answer, a law with no code: from any state each answer has exactly one word, of eight bytes at 64 bits and of four
+/// at 32, which [`WordHasher::word_for`] finds.
+pub fn fx_is_even()
+    ensures at_64 { (h answer : ℕ) → h < 2 ^ 64 → answer < 2 ^ 64
+        → ExactlyTexts 1 8 (λ word. fx64 h (words64 word) ≡ answer) }
+    ensures at_32 { (h answer : ℕ) → h < 2 ^ 32 → answer < 2 ^ 32
+        → ExactlyTexts 1 4 (λ word. fx32 h (words32 word) ≡ answer) }
 {}

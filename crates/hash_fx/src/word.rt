@@ -36,6 +36,10 @@ pub trait FxWord: Word {
         ensures back { step (Self.number result) (Self.number word) ≡ Self.number self }
         ensures in_range { Self.number result < 2 ^ bits };
 
+    /// The one word that takes the state to another: times what undoes the key, and the turned state xored out.
+    fn word_to(self, to: Self) -> Self
+        ensures { step (Self.number self) (Self.number result) ≡ Self.number to };
+
     /// A byte as a word.
     fn byte(byte: u8) -> Self
         ensures { Self.number result ≡ byte };
@@ -110,6 +114,11 @@ impl FxWord for u32 {
     }
 
     #[inline(always)]
+    fn word_to(self, to: u32) -> u32 {
+        to.wrapping_mul(0x780970bd) ^ rotl32(self, 5)
+    }
+
+    #[inline(always)]
     fn byte(byte: u8) -> u32 {
         u32::from(byte)
     }
@@ -149,6 +158,11 @@ impl FxWord for u64 {
     #[inline(always)]
     fn word_out(self, word: u64) -> u64 {
         rotl64(self.wrapping_mul(0x2040003d780970bd) ^ word, 59)
+    }
+
+    #[inline(always)]
+    fn word_to(self, to: u64) -> u64 {
+        to.wrapping_mul(0x2040003d780970bd) ^ rotl64(self, 5)
     }
 
     #[inline(always)]

@@ -167,4 +167,15 @@ impl<R: WordRule, Name> WordHasher<R, Name> {
     {
         self.state = R::unstep(self.state, word);
     }
+
+    /// The one word whose write leads from here to the answer: the write of a number of the rule's width.
+    #[inline(always)]
+    pub fn word_for(&self, answer: R::Word) -> R::Word
+        ensures leads { R.step (R.number self.now) (R.number result) ≡ R.number answer }
+        ensures alone { (word : ℕ) → word < R.bound
+            → R.step (R.number self.now) word ≡ R.number answer → word ≡ R.number result }
+        ensures in_range { R.number result < R.bound }
+    {
+        R::word_to(self.state, answer)
+    }
 }

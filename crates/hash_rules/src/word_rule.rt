@@ -54,6 +54,11 @@ pub trait WordRule {
         ensures in_range { number result < bound }
         ensures word { number word < bound };
 
+    /// The one word that takes a state to another.
+    fn word_to(state: Self::Word, to: Self::Word) -> Self::Word
+        ensures leads { step (number state) (number result) ≡ number to }
+        ensures in_range { number result < bound };
+
     /// The state, widened.
     fn answer(state: Self::Word) -> u64
         ensures { result ≡ number state };

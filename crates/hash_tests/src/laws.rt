@@ -66,6 +66,7 @@ pub fn laws_are_calls<H: laws::ByteStep>() {
     laws::one_changed_byte_shows_fx();
     laws::one_changed_word_shows_fx();
     laws::low_bits_of_a_word();
+    laws::fx_is_even();
     laws::lookup3_is_even();
     laws::one_changed_block_shows();
     laws::one_changed_stretch_shows();

@@ -260,6 +260,29 @@ fn fed_again<H: Undo>(rt: &impl Abort, n: usize, text: &[u8]) {
 }
 
 #[test]
+fn words_for_answers(rt: HostRuntime) {
+    let first = FxHasher64::default().word_for(16160435425421689461);
+    let first32 = FxHasher32::default().word_for(3555066485);
+    same(&rt, &[first, u64::from(first32)], &[97, 97]);
+    let mut hasher = FxHasher64::default();
+    let mut hasher32 = FxHasher32::default();
+    let mut answer = 1u64;
+    for _ in 0..100 {
+        answer = answer
+            .wrapping_mul(6364136223846793005)
+            .wrapping_add(1442695040888963407);
+        hasher.write_u64(hasher.word_for(answer));
+        let answer32 = (answer >> 32) as u32;
+        hasher32.write_u32(hasher32.word_for(answer32));
+        same(
+            &rt,
+            &[hasher.finish(), hasher32.finish()],
+            &[answer, u64::from(answer32)],
+        );
+    }
+}
+
+#[test]
 fn taken_out_again(rt: HostRuntime) {
     all_taken_out::<FxHasher64>(&rt, 1, 16160435425421689461, b"a");
     all_taken_out::<FxHasher>(&rt, 1, 16160435425421689461, b"a");

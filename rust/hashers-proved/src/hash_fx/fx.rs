@@ -50,6 +50,11 @@ impl<W: FxSplit> WordRule for FxRule<W> {
     }
 
     #[inline(always)]
+    fn word_to(state: W, to: W) -> W {
+        state.word_to(to).known()
+    }
+
+    #[inline(always)]
     fn answer(state: W) -> u64 {
         state.widened()
     }

@@ -39,6 +39,15 @@ pub trait FxWord: Word {
     /// ```
     fn word_out(self, word: Self) -> Self;
 
+    /// The one word that takes the state to another: times what undoes the key, and the turned state xored out.
+    ///
+    /// Proved:
+    ///
+    /// ```text
+    /// step (Self.number self) (Self.number result) ≡ Self.number to
+    /// ```
+    fn word_to(self, to: Self) -> Self;
+
     /// A byte as a word.
     ///
     /// Proved:
@@ -139,6 +148,11 @@ impl FxWord for u32 {
     }
 
     #[inline(always)]
+    fn word_to(self, to: u32) -> u32 {
+        to.wrapping_mul(0x780970bd) ^ rotl32(self, 5)
+    }
+
+    #[inline(always)]
     fn byte(byte: u8) -> u32 {
         u32::from(byte)
     }
@@ -173,6 +187,11 @@ impl FxWord for u64 {
     #[inline(always)]
     fn word_out(self, word: u64) -> u64 {
         rotl64(self.wrapping_mul(0x2040003d780970bd) ^ word, 59)
+    }
+
+    #[inline(always)]
+    fn word_to(self, to: u64) -> u64 {
+        to.wrapping_mul(0x2040003d780970bd) ^ rotl64(self, 5)
     }
 
     #[inline(always)]

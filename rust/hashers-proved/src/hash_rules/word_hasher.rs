@@ -119,4 +119,19 @@ impl<R: WordRule, Name> WordHasher<R, Name> {
     pub fn unwrite_word(&mut self, word: R::Word) {
         self.state = R::unstep(self.state, word);
     }
+
+    /// The one word whose write leads from here to the answer: the write of a number of the rule's width.
+    ///
+    /// Proved:
+    ///
+    /// ```text
+    /// leads: R.step (R.number self.now) (R.number result) ≡ R.number answer
+    /// alone: (word : ℕ) → word < R.bound
+    ///     → R.step (R.number self.now) word ≡ R.number answer → word ≡ R.number result
+    /// in_range: R.number result < R.bound
+    /// ```
+    #[inline(always)]
+    pub fn word_for(&self, answer: R::Word) -> R::Word {
+        R::word_to(self.state, answer)
+    }
 }

@@ -57,6 +57,16 @@ pub trait WordRule {
     /// ```
     fn unstep(state: Self::Word, word: Self::Word) -> Self::Word;
 
+    /// The one word that takes a state to another.
+    ///
+    /// Proved:
+    ///
+    /// ```text
+    /// leads: step (number state) (number result) ≡ number to
+    /// in_range: number result < bound
+    /// ```
+    fn word_to(state: Self::Word, to: Self::Word) -> Self::Word;
+
     /// The state, widened.
     ///
     /// Proved:
