@@ -13,8 +13,8 @@ use Rattle.hash_rounds.proofs.PieceLemmas.{IsPiece, part-same, rest-same, all_wo
 use Rattle.hash_laws.specs.Text.{IsText}
 use Rattle.hash_laws.proofs.TextLemmas.{IsByte}
 use Rattle.hash_jenkins.specs.Filled.{zero_filled}
-use Rattle.hash_jenkins.specs.Mixing.{DifferFrom, twelve_words}
-use Rattle.hash_jenkins.specs.Spooky.{long_start, long_words, padded, tail}
+use Rattle.hash_jenkins.specs.Mixing.{DifferFrom, DifferInWords}
+use Rattle.hash_jenkins.specs.Spooky.{long_start, long_words, padded, tail, twelve_words}
 use Rattle.hash_jenkins.specs.SpookyLaws.{long_start-words, tail-lt}
 use Rattle.hash_jenkins.proofs.FilledLemmas.{filled-piece, filled-same}
 
@@ -81,7 +81,7 @@ module _ (seed1 seed2 : ℕ) (x y : List ℕ) (s1 : seed1 < 2 ^ 64) (s2 : seed2 
   after_in : (z : List ℕ) → AreTwelve (spooky_blocks start z)
   after_in z = spooky_blocks-words start z refl start_in.1
 
-  pub words-differ : (w : ℕ) → DifferFrom (8 * w) 88 x y → 8 * w + 88 ≤ length x / 96 * 96
+  words-differ : (w : ℕ) → DifferFrom (8 * w) 88 x y → 8 * w + 88 ≤ length x / 96 * 96
       → twelve_words seed1 seed2 x ≢ twelve_words seed1 seed2 y
   words-differ w differ within = λ same.
       let len = differ.same_length in
@@ -96,7 +96,7 @@ module _ (seed1 seed2 : ℕ) (x y : List ℕ) (s1 : seed1 < 2 ^ 64) (s2 : seed2 
       sym (blocks-are start x) ∙ states ∙ blocks-are start y ∙ ap (λ n. fold mix_block start (first_chunks 96 n y)) count in
       differ.different (blocks-window k w x y start start_in xs ys len (omega arith) (λ i out. differ.outside i out) rest blocks)
 
-  pub tail-differs : DifferFrom (length x / 96 * 96) 96 x y → twelve_words seed1 seed2 x ≢ twelve_words seed1 seed2 y
+  tail-differs : DifferFrom (length x / 96 * 96) 96 x y → twelve_words seed1 seed2 x ≢ twelve_words seed1 seed2 y
   tail-differs differ = λ same.
       let len = differ.same_length in
       let n = length x / 96 * 96 in
@@ -111,3 +111,9 @@ module _ (seed1 seed2 : ℕ) (x y : List ℕ) (s1 : seed1 < 2 ^ 64) (s2 : seed2 
       (same ∙ ap (λ s. long_words s (tail y)) (sym blocks)) in
       let rest : drop n x ≡ drop n y = sym (tail-is x) ∙ tails ∙ tail-is y ∙ ap (λ m. drop (m * 96) y) count in
       differ.different (sym (take-append-drop n x) ∙ ap₂ (λ (a b : List ℕ). a ++ b) front rest ∙ take-append-drop n y)
+
+  pub twelve-differ : DifferInWords x y → twelve_words seed1 seed2 x ≢ twelve_words seed1 seed2 y
+  twelve-differ differ = elim differ.near [
+    | inl window ↦ words-differ window.0 window.1 window.2
+    | inr behind ↦ tail-differs behind
+  ]

@@ -8,7 +8,7 @@ use Rattle.hash_rounds.specs.Blocks.{pieces}
 use Rattle.hash_rounds.specs.Rounds as rounds
 use Rattle.hash_rounds.specs.Steps.{apply}
 use Rattle.hash_jenkins.specs.Filled.{zero_filled}
-use Rattle.hash_jenkins.specs.Lookup3.{add_words, add_block, block_words, mix_block, mix_blocks, start, last_block, lookup3_words, lookup3_piece, lookup3_from, lookup3_answer, AreTwoWords}
+use Rattle.hash_jenkins.specs.Lookup3.{add_words, add_block, block_words, mix_block, mix_blocks, start, last_block, lookup3_words, lookup3_from, lookup3_answer, AreTwoWords}
 
 pub drop_eight : (xs : List ℕ) → drop 4 (drop 4 xs) ≡ drop 8 xs
 drop_eight xs = drop-drop 4 4 xs
@@ -107,14 +107,12 @@ block_in s piece some =
     = drop-drop (k * 12) 12 piece ∙ ap (λ n. drop n piece) (omega (arith, count)) in
     ap₂ add_block (ap (λ n. mix_blocks s (first_chunks 12 n piece)) count) (ap (zero_filled 12) behind)
 
--- the two words after the last mixing
-pub lookup3_piece_from : (pc pb : ℕ) (piece first added end : List ℕ) → first ≡ start pc pb (length piece)
+-- the words after the last mixing
+pub lookup3_words_from : (pc pb : ℕ) (piece first added end : List ℕ) → first ≡ start pc pb (length piece)
     → added ≡ blocks_in first piece → end ≡ apply 32 rounds.lookup3_final_steps [] added
-    → (slice_index end 2, slice_index end 1) ≡ lookup3_piece pc pb piece
-lookup3_piece_from pc pb piece first added end began filled last =
-    let ended : end ≡ lookup3_words pc pb piece
-    = last ∙ ap (apply 32 rounds.lookup3_final_steps []) (filled ∙ ap (λ s. blocks_in s piece) began) in
-    ap (λ (w : List ℕ). (slice_index w 2, slice_index w 1)) ended
+    → end ≡ lookup3_words pc pb piece
+lookup3_words_from pc pb piece first added end began filled last =
+    last ∙ ap (apply 32 rounds.lookup3_final_steps []) (filled ∙ ap (λ s. blocks_in s piece) began)
 
 -- the answer tells all of two words
 pub lookup3_answer-same : (s t : ℕ × ℕ) → AreTwoWords s → AreTwoWords t → lookup3_answer s ≡ lookup3_answer t → s ≡ t

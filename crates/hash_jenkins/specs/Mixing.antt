@@ -1,8 +1,8 @@
 -- Texts that differ only in what is mixed into a state close together.
-use Rattle.std.specs.Prelude.{◌≡◌, ◌≢◌, ℕ, ◌+◌, ◌/◌, ◌≤◌, List, length, slice_index}
+use Rattle.std.specs.Prelude.{◌≡◌, ◌≢◌, ◌⊎◌, ℕ, ◌+◌, ◌*◌, ◌/◌, ◌^◌, ◌<◌, ◌≤◌, List, length, slice_index}
 use Rattle.hash_laws.specs.DifferWithin.{AgreeOutside}
-use Rattle.hash_rounds.specs.Blocks.{spooky_blocks}
-use Rattle.hash_jenkins.specs.Spooky.{long_start, long_words, tail}
+use Rattle.hash_jenkins.specs.Lookup3.{lookup3_words}
+use Rattle.hash_jenkins.specs.Spooky.{twelve_words}
 
 -- the lengths are equal, the texts differ, and all places where they do are in one group
 pub record DifferInOne (group : ℕ → ℕ) (x y : List ℕ) : Type 0 where
@@ -28,6 +28,16 @@ pub record DifferFrom (from places : ℕ) (x y : List ℕ) : Type 0 where
   pub different : x ≢ y
   pub outside : AgreeOutside from places x y
 
--- Spooky's twelve words after all blocks of a text and its tail
-abbrev pub twelve_words : ℕ → ℕ → List ℕ → List ℕ
-twelve_words seed1 seed2 text = long_words (spooky_blocks (long_start seed1 seed2) text) (tail text)
+-- SpookyHash takes the long form; and all places where they differ are within eleven neighbouring words of the whole blocks, or behind these
+pub record DifferInWords (x y : List ℕ) : Type 0 where
+  pub long : 192 ≤ length x
+  pub near : ((w : ℕ) × DifferFrom (8 * w) 88 x y × (8 * w + 88 ≤ length x / 96 * 96)) ⊎ DifferFrom (length x / 96 * 96) 96 x y
+
+-- the three words of lookup3 differ, from any two words
+abbrev pub HaveOtherThree : List ℕ → List ℕ → Type 0
+HaveOtherThree x y = (pc pb : ℕ) → lookup3_words pc pb x ≢ lookup3_words pc pb y
+
+-- the twelve words differ under all seeds
+abbrev pub HaveOtherTwelve : List ℕ → List ℕ → Type 0
+HaveOtherTwelve x y =
+    (seed1 seed2 : ℕ) → seed1 < 2 ^ 64 → seed2 < 2 ^ 64 → twelve_words seed1 seed2 x ≢ twelve_words seed1 seed2 y

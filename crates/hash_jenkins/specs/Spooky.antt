@@ -51,6 +51,10 @@ padded t = zero_filled 95 t ++ length t ∷ []
 abbrev pub long_words : List ℕ → List ℕ → List ℕ
 long_words words t = spooky_end (le_words (padded t)) words
 
+-- the twelve words of a text
+abbrev pub twelve_words : ℕ → ℕ → List ℕ → List ℕ
+twelve_words seed1 seed2 text = long_words (spooky_blocks (long_start seed1 seed2) text) (tail text)
+
 -- ---- the hash
 
 abbrev pub first_two : List ℕ → ℕ × ℕ
@@ -60,17 +64,21 @@ first_two words = (slice_index words 0, slice_index words 1)
 abbrev pub spooky : ℕ → ℕ → List ℕ → ℕ × ℕ
 spooky seed1 seed2 text = first_two (
     if nat_lt (length text) 192 then short_words seed1 seed2 text
-    else long_words (spooky_blocks (long_start seed1 seed2) text) (tail text))
+    else twelve_words seed1 seed2 text)
 
 -- the hash by version 1
 abbrev pub spooky_v1 : ℕ → ℕ → List ℕ → ℕ × ℕ
 spooky_v1 seed1 seed2 text = first_two (
     if nat_lt (length text) 192 then short_words_v1 seed1 seed2 text
-    else long_words (spooky_blocks (long_start seed1 seed2) text) (tail text))
+    else twelve_words seed1 seed2 text)
 
 -- the four words of a text below 192 bytes, and none of a longer one
 abbrev pub short_words_of : ℕ → ℕ → List ℕ → Option (List ℕ)
 short_words_of seed1 seed2 text = if nat_lt (length text) 192 then Some (short_words seed1 seed2 text) else None
+
+-- the twelve words of a text of 192 bytes and more, and none of a shorter one
+abbrev pub long_words_of : ℕ → ℕ → List ℕ → Option (List ℕ)
+long_words_of seed1 seed2 text = if nat_lt (length text) 192 then None else Some (twelve_words seed1 seed2 text)
 
 -- ---- where a hasher stands
 
@@ -106,3 +114,8 @@ hash_v1 (Long words t) = first_two (long_words words t)
 abbrev pub short_words_at : Position → Option (List ℕ)
 short_words_at (Short seed1 seed2 text) = Some (short_words seed1 seed2 text)
 short_words_at (Long words t) = None
+
+-- the twelve words at a position, and none where the text is a short one
+abbrev pub long_words_at : Position → Option (List ℕ)
+long_words_at (Short seed1 seed2 text) = None
+long_words_at (Long words t) = Some (long_words words t)

@@ -1,10 +1,10 @@
 //! lookup3, by Bob Jenkins (his lookup3.c): two words of 32 bits of a piece, from two words before it.
-ghost use Rattle.std.specs.Prelude.{◌≡◌, ◌<◌, ℕ, List, length, refl};
+ghost use Rattle.std.specs.Prelude.{◌≡◌, ◌≢◌, ◌<◌, ℕ, List, [], length, slice_index, refl};
 ghost use Rattle.std.proofs.Common.{lit<};
 ghost use Rattle.hash_rounds.specs.Words.{le};
 ghost use Rattle.hash_laws.specs.Text.{IsText};
 ghost use Rattle.hash_jenkins.specs.Filled.{zero_filled};
-ghost use Rattle.hash_jenkins.specs.Lookup3.{add_words, add_block, block_words, start, third_word, lookup3_piece, lookup3_from, lookup3_answer, AreTwoWords, lookup3_of};
+ghost use Rattle.hash_jenkins.specs.Lookup3.{add_words, add_block, block_words, start, lookup3_words, third_word, lookup3_from, lookup3_answer, AreTwoWords, lookup3_of};
 ghost use Rattle.hash_jenkins.specs.Lookup3Laws.{lookup3-AreTwoWords};
 
 use crate::put::put_array;
@@ -72,11 +72,11 @@ fn add_rest(s: &mut [u32; 3], rest: &[u8])
     }
 }
 
-// The two words after a piece that has some bytes. Less than a block goes a way of its own, with no loop on it, and no length
+// The three words after a piece that has some bytes. Less than a block goes a way of its own, with no loop on it, and no length
 // is divided, which takes as long as half a mixing.
 #[inline(always)]
-fn lookup3_piece(pc: u32, pb: u32, piece: &[u8]) -> (u32, u32)
-    ensures { result ≡ lookup3_piece pc pb piece.now }
+fn lookup3_words(pc: u32, pb: u32, piece: &[u8]) -> [u32; 3]
+    ensures { result ≡ lookup3_words pc pb piece.now }
 {
     let mut s = start(pc, pb, piece.len());
     if piece.len() < 12 {
@@ -91,7 +91,7 @@ fn lookup3_piece(pc: u32, pb: u32, piece: &[u8]) -> (u32, u32)
         add_rest(&mut s, rest);
     }
     lookup3_final(&mut s);
-    (s[2], s[1])
+    s
 }
 
 /// Bob Jenkins' lookup3 (his lookup3.c, `hashlittle2`: burtleburtle.net/bob/c/lookup3.c).
@@ -127,6 +127,16 @@ impl Lookup3Hasher {
         ensures { result ≡ (pc, pb) }
     {
         Lookup3Hasher { pc, pb }
+    }
+
+    /// The three words that a piece of some bytes ends in: the third word, which the answer leaves out, and then the two that
+    /// `write` keeps, the higher one first. (Of no bytes they are those of a run that `write` does not make.)
+    pub fn piece_words(&self, piece: &[u8]) -> [u32; 3]
+        ensures words { result ≡ lookup3_words self.now.0 self.now.1 piece.now }
+        ensures kept { piece.now ≢ []
+            → lookup3_from self.now piece.now ≡ (slice_index result 2, slice_index result 1) }
+    {
+        lookup3_words(self.pc, self.pb, piece)
     }
 
     /// The one block of 12 bytes that leads from here to the answer and to the third word, which the answer leaves out: the two
@@ -189,9 +199,9 @@ impl Hasher for Lookup3Hasher {
         let pc = self.pc;
         let pb = self.pb;
         if !bytes.is_empty() {
-            let words = lookup3_piece(pc, pb, bytes);
-            self.pc = words.0;
-            self.pb = words.1;
+            let words = lookup3_words(pc, pb, bytes);
+            self.pc = words[2];
+            self.pb = words[1];
         }
     }
 }

@@ -7,7 +7,7 @@
 //! show.
 ghost use Rattle.std.specs.Prelude.{◌≡◌, ℕ, ◌+◌, ◌<◌, ◌≤◌, ◌^◌, List, [], ◌∷◌, ◌++◌, slice_index, refl};
 ghost use Rattle.std.proofs.Common.{lit<};
-ghost use Rattle.hash_jenkins.specs.Spooky.{Position, position, after, hash, hash_v1, short_words_at, short_words_of, spooky, spooky_v1};
+ghost use Rattle.hash_jenkins.specs.Spooky.{Position, position, after, hash, hash_v1, short_words_at, short_words_of, long_words_at, long_words_of, spooky, spooky_v1};
 ghost use Rattle.hash_jenkins.specs.Counted.{Counted, after_write, MixesBlock};
 ghost use Rattle.hash_jenkins.specs.SpookyStanding.{IsPosition, SpookyStandsAt, spooky_from};
 ghost use Rattle.hash_jenkins.specs.SpookyLaws.{IsPosition-fresh, IsPosition-after, after-nil, after-append, stands_at_seeds, stands_after, hash_from_seeds, answer_where_stands};
@@ -100,6 +100,16 @@ impl SpookyHasher {
             → result ≡ short_words_of seed1 seed2 text }
     {
         self.parts.short_words()
+    }
+
+    /// The twelve words that a text of 192 bytes and more ends in, the first two of which are its hash; `None` exactly below 192
+    /// bytes.
+    pub fn long_words(&self) -> Option<[u64; 12]>
+        ensures here { result ≡ long_words_at self.now.at }
+        ensures of_text { (seed1 seed2 : ℕ) (text : List ℕ) → self.now.at ≡ position seed1 seed2 text
+            → result ≡ long_words_of seed1 seed2 text }
+    {
+        self.parts.long_words()
     }
 }
 

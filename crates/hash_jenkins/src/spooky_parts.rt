@@ -1,7 +1,7 @@
 //! What a hasher of SpookyHash keeps, in the open: for a caller that must keep it itself, as a program in C.
 ghost use Rattle.std.specs.Prelude.{◌≡◌, ◌+◌, ◌↔◌, IsTrue, []};
 ghost use Rattle.hash_jenkins.specs.Counted.{mixing_calls};
-ghost use Rattle.hash_jenkins.specs.Spooky.{position, after, hash, hash_v1, short_words_at};
+ghost use Rattle.hash_jenkins.specs.Spooky.{position, after, hash, hash_v1, short_words_at, long_words_at};
 ghost use Rattle.hash_jenkins.specs.SpookyParts.{position_of, FitsBuffer, IsSettled};
 
 use crate::put::put;
@@ -119,6 +119,18 @@ impl SpookyParts {
             Some(short_words(self.words[0], self.words[1], &self.buffer, self.kept))
         } else {
             None
+        }
+    }
+
+    /// The twelve words that a text of 192 bytes and more ends in; `None` exactly below 192 bytes.
+    pub fn long_words(&self) -> Option<[u64; 12]>
+        requires { FitsBuffer self.now }
+        ensures { IsSettled self.now → result ≡ long_words_at (position_of self.now) }
+    {
+        if self.length < LONG {
+            None
+        } else {
+            Some(long_words(&self.words, &self.buffer[..self.kept]))
         }
     }
 }

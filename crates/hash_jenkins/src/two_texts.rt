@@ -4,12 +4,13 @@ ghost use Rattle.std.specs.Bool.{OnTrue};
 ghost use Rattle.hash_laws.specs.Exactly.{ExactlyTexts};
 ghost use Rattle.hash_laws.specs.Text.{IsText, texts};
 ghost use Rattle.hash_jenkins.specs.Filled.{zero_filled};
-ghost use Rattle.hash_jenkins.specs.Lookup3.{lookup3_from, lookup3_answer, lookup3_words, lookup3_of};
-ghost use Rattle.hash_jenkins.specs.Mixing.{AgreeFrom, DifferFrom, DifferInOneBlock, DifferInOneStretch, twelve_words};
+ghost use Rattle.hash_jenkins.specs.Lookup3.{lookup3_from, lookup3_answer, lookup3_of};
+ghost use Rattle.hash_jenkins.specs.Mixing.{AgreeFrom, DifferInOneBlock, DifferInOneStretch, DifferInWords, HaveOtherThree, HaveOtherTwelve};
 ghost use Rattle.hash_jenkins.specs.Spooky.{after, position, short_words, short_words_v1, spooky_v1};
 ghost use Rattle.hash_jenkins.specs.Zeros.{AddsZeros, HaveOtherWords};
 
 use crate::lookup::Lookup3Hasher;
+use crate::spooky_long::BLOCK;
 use crate::spooky_short::{LONG, zero_filled};
 use hash_laws::traits::Piecewise;
 use hash_laws::window::first_difference;
@@ -104,6 +105,50 @@ pub fn differ_in_one_stretch(x: &[u8], y: &[u8]) -> bool
     }
 }
 
+// Whether the texts have one length, of 192 bytes or more, and differ, but only within eleven neighbouring words of the whole
+// blocks of 96 bytes, or behind these.
+fn differ_in_words(x: &[u8], y: &[u8]) -> bool
+    ensures { IsTrue result ↔ DifferInWords x.now y.now }
+{
+    if x.len() != y.len() || x.len() < LONG {
+        return false;
+    }
+    let words = x.len() / BLOCK * 12;
+    match first_difference(x, y) {
+        None => false,
+        // where the first difference lies in a block, the last eleven words that have it
+        Some(from) => { from >= words * 8 || agree_from(x, y, (from / 8).min(words - 11) * 8 + 88) }
+    }
+}
+
+/// Whether the texts have one length and differ, but only within one of lookup3's blocks of twelve bytes. Where so, they lead from
+/// any two words to other words a, b and c. Computes no hash.
+pub fn apart_by_block(x: &[u8], y: &[u8]) -> bool
+    ensures exactly { IsTrue result ↔ DifferInOneBlock 12 x.now y.now }
+    ensures differ { OnTrue result (HaveOtherThree x.now y.now) }
+{
+    differ_in_one_block(x, y)
+}
+
+/// Whether the texts are shorter than 192 bytes, have one length and differ, but only in what SpookyHash adds between two mixes.
+/// Where so, the four `short_words` of the two texts differ under all seeds. Computes no hash.
+pub fn apart_by_stretch(x: &[u8], y: &[u8]) -> bool
+    ensures exactly { IsTrue result ↔ ((length x.now < 192) × DifferInOneStretch x.now y.now) }
+    ensures differ { OnTrue result (HaveOtherWords x.now y.now) }
+{
+    x.len() < LONG && differ_in_one_stretch(x, y)
+}
+
+/// Whether the texts have one length, of 192 bytes or more, and differ, but only within 88 bytes of their whole blocks of 96, from a
+/// place that 8 divides, or only within what is left behind the whole blocks. Where so, the twelve `long_words` of the two texts
+/// differ under all seeds. Computes no hash.
+pub fn apart_by_words(x: &[u8], y: &[u8]) -> bool
+    ensures exactly { IsTrue result ↔ DifferInWords x.now y.now }
+    ensures differ { OnTrue result (HaveOtherTwelve x.now y.now) }
+{
+    differ_in_words(x, y)
+}
+
 /// A law with no code, for texts that a caller has in parts: a front, two different middles of one length, and a back differ
 /// within one block, or one stretch, if the middle lies in one.
 pub fn middles_in_one_group()
@@ -116,8 +161,7 @@ pub fn middles_in_one_group()
 /// A changed block shows in lookup3, a law with no code: two pieces of one length that differ, but only within one block of
 /// twelve bytes, lead from any two words to different words a, b and c. Of the answer, which is b and c alone, nothing is said.
 pub fn one_changed_block_shows()
-    ensures { (pc pb : ℕ) (x y : List ℕ) → IsText x → IsText y → DifferInOneBlock 12 x y
-        → lookup3_words pc pb x ≢ lookup3_words pc pb y }
+    ensures { (x y : List ℕ) → IsText x → IsText y → DifferInOneBlock 12 x y → HaveOtherThree x y }
 {}
 
 /// A changed stretch shows in SpookyHash below 192 bytes, a law with no code: two texts of one length that differ, but only in
@@ -137,12 +181,7 @@ pub fn one_changed_stretch_shows()
 /// behind the whole blocks, have different words under all seeds. Of the hash, which is two of the twelve words, nothing
 /// is said.
 pub fn neighbouring_words_show()
-    ensures words { (seed1 seed2 : ℕ) (x y : List ℕ) (w : ℕ) → seed1 < 2 ^ 64 → seed2 < 2 ^ 64 → IsText x → IsText y
-        → DifferFrom (8 * w) 88 x y → 8 * w + 88 ≤ length x / 96 * 96
-        → twelve_words seed1 seed2 x ≢ twelve_words seed1 seed2 y }
-    ensures tail { (seed1 seed2 : ℕ) (x y : List ℕ) → seed1 < 2 ^ 64 → seed2 < 2 ^ 64 → IsText x → IsText y
-        → DifferFrom (length x / 96 * 96) 96 x y
-        → twelve_words seed1 seed2 x ≢ twelve_words seed1 seed2 y }
+    ensures { (x y : List ℕ) → IsText x → IsText y → DifferInWords x y → HaveOtherTwelve x y }
 {}
 
 /// lookup3 favours no answer, a law with no code: from any two words each answer has exactly 2^32 blocks of 12 bytes. A block is

@@ -12,10 +12,10 @@ pub use hash_fx::pieces::{
     run_words32, run_words64, words_by_place32, words_by_place64,
 };
 pub use hash_jenkins::two_texts::{
-    apart_by_zeros, cuts_show_in_lookup3, differ_in_one_block, differ_in_one_stretch,
-    lookup3_is_even, middles_in_one_group, neighbouring_words_show, one_changed_block_shows,
-    one_changed_stretch_shows, position_of_joined_texts, same_answers_later,
-    zeros_do_not_show_in_version_1,
+    apart_by_block, apart_by_stretch, apart_by_words, apart_by_zeros, cuts_show_in_lookup3,
+    differ_in_one_block, differ_in_one_stretch, lookup3_is_even, middles_in_one_group,
+    neighbouring_words_show, one_changed_block_shows, one_changed_stretch_shows,
+    position_of_joined_texts, same_answers_later, zeros_do_not_show_in_version_1,
 };
 pub use hash_laws::counts::{buckets_have_all_hashes, collisions_in_any_order};
 pub use hash_laws::traits::{

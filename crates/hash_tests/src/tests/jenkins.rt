@@ -10,8 +10,8 @@ use crate::tests::{all_hold, same, same_at};
 use hashers::jenkins::spooky_hash::SpookyHasher;
 use hashers::jenkins::{Lookup3Hasher, OAATHasher, lookup3, oaat};
 use hashers::laws::{
-    ByteStep, Piecewise, Undo, answer_of_pieces, differ_in_one_block, differ_in_one_stretch,
-    run_pair, run_pieces, same_answers_later,
+    ByteStep, Piecewise, Undo, answer_of_pieces, apart_by_block, apart_by_stretch,
+    differ_in_one_block, differ_in_one_stretch, run_pair, run_pieces, same_answers_later,
 };
 use std::hash::Hasher;
 
@@ -38,6 +38,10 @@ pub(super) fn write_to_spooky(hasher: &mut SpookyHasher, number: usize)
 fn blocks_for_answers(rt: HostRuntime) {
     // twelve zeros lead to these words, by the steps of the two mixes
     let fresh = Lookup3Hasher::default();
+    assert_eq!(rt;
+        fresh.piece_words(&[0; 12]),
+        [0x65852e52, 0x14c3a0e3, 0xfb293fc1]
+    );
     assert_eq!(rt; fresh.block_for(0x14c3a0e3fb293fc1, 0x65852e52), [0; 12]);
     let mut answer = 1u64;
     for third in 0..100 {
@@ -156,6 +160,8 @@ fn one_block_and_one_stretch(rt: HostRuntime) {
     all_hold(
         &rt,
         &[
+            apart_by_block(&zeros, &block) && !apart_by_block(&zeros, &stretch),
+            apart_by_stretch(&zeros, &stretch) && !apart_by_stretch(&zeros, &block),
             differ_in_one_block(&zeros, &block),
             !differ_in_one_stretch(&zeros, &block),
             differ_in_one_stretch(&zeros, &stretch),

@@ -3,7 +3,7 @@ use crate::tests::jenkins::write_to_spooky;
 use crate::tests::{all_hold, all_hold_at, none_holds, same};
 use hash_rounds::{short_end, un_short_end};
 use hashers::jenkins::spooky_hash::{SpookyHasher, spooky};
-use hashers::laws::{Piecewise, answer_of_pieces, run_streamed};
+use hashers::laws::{Piecewise, answer_of_pieces, apart_by_stretch, apart_by_words, run_streamed};
 use std::hash::Hasher;
 
 /// The bytes 0, 1, .., 255, 0, ..
@@ -127,6 +127,43 @@ fn short_words_tell_zeros_apart(rt: HostRuntime) {
             ],
         );
     }
+}
+
+#[test]
+fn long_words_tell_windows_apart(rt: HostRuntime) {
+    let zeros = [0u8; 300];
+    let mut window = zeros;
+    window[200] = 1;
+    window[287] = 1;
+    let mut wide = window;
+    wide[199] = 1;
+    let mut behind = zeros;
+    behind[288] = 1;
+    behind[299] = 1;
+    let mut both = behind;
+    both[287] = 1;
+    all_hold(
+        &rt,
+        &[
+            apart_by_words(&zeros, &window),
+            apart_by_words(&zeros, &behind),
+            !apart_by_words(&zeros, &wide),
+            !apart_by_words(&zeros, &both),
+            !apart_by_words(&zeros, &zeros),
+            !apart_by_words(&zeros[109..], &behind[109..]),
+            !apart_by_stretch(&zeros[100..], &behind[100..]),
+        ],
+    );
+    let mut hasher = SpookyHasher::new(5, 6);
+    hasher.write(&zeros[109..]);
+    let mut other = SpookyHasher::new(5, 6);
+    other.write(&window);
+    assert!(rt; hasher.long_words().is_none());
+    hasher.write(&zeros[191..]);
+    let words = hasher.long_words().expect(&rt, "192 bytes and more");
+    let others = other.long_words().expect(&rt, "192 bytes and more");
+    assert_eq!(rt; hasher.finish128(), (words[0], words[1]));
+    assert!(rt; words != others);
 }
 
 // Version 1 is what is left where the length is taken out of the fourth word, before the end.

@@ -91,15 +91,15 @@ fn add_rest(s: &mut [u32; 3], rest: &[u8]) {
     }
 }
 
-// The two words after a piece that has some bytes. Less than a block goes a way of its own, with no loop on it, and no length
+// The three words after a piece that has some bytes. Less than a block goes a way of its own, with no loop on it, and no length
 // is divided, which takes as long as half a mixing.
 /// Proved:
 ///
 /// ```text
-/// result ≡ lookup3_piece pc pb piece.now
+/// result ≡ lookup3_words pc pb piece.now
 /// ```
 #[inline(always)]
-fn lookup3_piece(pc: u32, pb: u32, piece: &[u8]) -> (u32, u32) {
+fn lookup3_words(pc: u32, pb: u32, piece: &[u8]) -> [u32; 3] {
     let mut s = start(pc, pb, piece.len());
     if piece.len() < 12 {
         add_rest(&mut s, piece);
@@ -113,7 +113,7 @@ fn lookup3_piece(pc: u32, pb: u32, piece: &[u8]) -> (u32, u32) {
         add_rest(&mut s, rest);
     }
     lookup3_final(&mut s);
-    (s[2], s[1])
+    s
 }
 
 /// Bob Jenkins' lookup3 (his lookup3.c, `hashlittle2`: burtleburtle.net/bob/c/lookup3.c).
@@ -141,6 +141,21 @@ impl Lookup3Hasher {
     #[inline(always)]
     pub fn new(pc: u32, pb: u32) -> Lookup3Hasher {
         Lookup3Hasher { pc, pb }
+    }
+
+    /// The three words that a piece of some bytes ends in: the third word, which the answer leaves out, and then the two that
+    /// `write` keeps, the higher one first. (Of no bytes they are those of a run that `write` does not make.)
+    ///
+    /// Proved:
+    ///
+    /// ```text
+    /// words: result ≡ lookup3_words self.now.0 self.now.1 piece.now
+    /// kept: piece.now ≢ []
+    ///     → lookup3_from self.now piece.now ≡ (slice_index result 2, slice_index result 1)
+    /// ```
+    #[inline]
+    pub fn piece_words(&self, piece: &[u8]) -> [u32; 3] {
+        lookup3_words(self.pc, self.pb, piece)
     }
 
     /// The one block of 12 bytes that leads from here to the answer and to the third word, which the answer leaves out: the two
@@ -211,9 +226,9 @@ impl Hasher for Lookup3Hasher {
         let pc = self.pc;
         let pb = self.pb;
         if !bytes.is_empty() {
-            let words = lookup3_piece(pc, pb, bytes);
-            self.pc = words.0;
-            self.pb = words.1;
+            let words = lookup3_words(pc, pb, bytes);
+            self.pc = words[2];
+            self.pb = words[1];
         }
     }
 }

@@ -99,6 +99,21 @@ impl SpookyHasher {
     pub fn short_words(&self) -> Option<[u64; 4]> {
         self.parts.short_words()
     }
+
+    /// The twelve words that a text of 192 bytes and more ends in, the first two of which are its hash; `None` exactly below 192
+    /// bytes.
+    ///
+    /// Proved:
+    ///
+    /// ```text
+    /// here: result ≡ long_words_at self.now.at
+    /// of_text: (seed1 seed2 : ℕ) (text : List ℕ) → self.now.at ≡ position seed1 seed2 text
+    ///     → result ≡ long_words_of seed1 seed2 text
+    /// ```
+    #[inline]
+    pub fn long_words(&self) -> Option<[u64; 12]> {
+        self.parts.long_words()
+    }
 }
 
 impl Default for SpookyHasher {

@@ -177,4 +177,26 @@ impl SpookyParts {
             None
         }
     }
+
+    /// The twelve words that a text of 192 bytes and more ends in; `None` exactly below 192 bytes.
+    ///
+    /// The caller has to see to it that:
+    ///
+    /// ```text
+    /// FitsBuffer self.now
+    /// ```
+    ///
+    /// Proved:
+    ///
+    /// ```text
+    /// IsSettled self.now → result ≡ long_words_at (position_of self.now)
+    /// ```
+    #[inline]
+    pub fn long_words(&self) -> Option<[u64; 12]> {
+        if self.length < LONG {
+            None
+        } else {
+            Some(long_words(&self.words, &self.buffer[..self.kept]))
+        }
+    }
 }

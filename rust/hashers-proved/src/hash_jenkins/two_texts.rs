@@ -4,6 +4,7 @@
 use crate::hash_laws;
 
 use crate::hash_jenkins::lookup::Lookup3Hasher;
+use crate::hash_jenkins::spooky_long::BLOCK;
 use crate::hash_jenkins::spooky_short::{LONG, zero_filled};
 use hash_laws::traits::Piecewise;
 use hash_laws::window::first_difference;
@@ -116,4 +117,67 @@ pub fn differ_in_one_stretch(x: &[u8], y: &[u8]) -> bool {
         None => false,
         Some(from) => agree_from(x, y, (from + 16) / 32 * 32 + 16),
     }
+}
+
+// Whether the texts have one length, of 192 bytes or more, and differ, but only within eleven neighbouring words of the whole
+// blocks of 96 bytes, or behind these.
+/// Proved:
+///
+/// ```text
+/// IsTrue result ↔ DifferInWords x.now y.now
+/// ```
+#[inline]
+fn differ_in_words(x: &[u8], y: &[u8]) -> bool {
+    if x.len() != y.len() || x.len() < LONG {
+        return false;
+    }
+    let words = x.len() / BLOCK * 12;
+    match first_difference(x, y) {
+        None => false,
+        // where the first difference lies in a block, the last eleven words that have it
+        Some(from) => { from >= words * 8 || agree_from(x, y, (from / 8).min(words - 11) * 8 + 88) }
+    }
+}
+
+/// Whether the texts have one length and differ, but only within one of lookup3's blocks of twelve bytes. Where so, they lead from
+/// any two words to other words a, b and c. Computes no hash.
+///
+/// Proved:
+///
+/// ```text
+/// exactly: IsTrue result ↔ DifferInOneBlock 12 x.now y.now
+/// differ: OnTrue result (HaveOtherThree x.now y.now)
+/// ```
+#[inline]
+pub fn apart_by_block(x: &[u8], y: &[u8]) -> bool {
+    differ_in_one_block(x, y)
+}
+
+/// Whether the texts are shorter than 192 bytes, have one length and differ, but only in what SpookyHash adds between two mixes.
+/// Where so, the four `short_words` of the two texts differ under all seeds. Computes no hash.
+///
+/// Proved:
+///
+/// ```text
+/// exactly: IsTrue result ↔ ((length x.now < 192) × DifferInOneStretch x.now y.now)
+/// differ: OnTrue result (HaveOtherWords x.now y.now)
+/// ```
+#[inline]
+pub fn apart_by_stretch(x: &[u8], y: &[u8]) -> bool {
+    x.len() < LONG && differ_in_one_stretch(x, y)
+}
+
+/// Whether the texts have one length, of 192 bytes or more, and differ, but only within 88 bytes of their whole blocks of 96, from a
+/// place that 8 divides, or only within what is left behind the whole blocks. Where so, the twelve `long_words` of the two texts
+/// differ under all seeds. Computes no hash.
+///
+/// Proved:
+///
+/// ```text
+/// exactly: IsTrue result ↔ DifferInWords x.now y.now
+/// differ: OnTrue result (HaveOtherTwelve x.now y.now)
+/// ```
+#[inline]
+pub fn apart_by_words(x: &[u8], y: &[u8]) -> bool {
+    differ_in_words(x, y)
 }

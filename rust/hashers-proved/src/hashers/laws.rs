@@ -12,7 +12,8 @@ pub use hash_fx::pieces::{
     run_words32, run_words64,
 };
 pub use hash_jenkins::two_texts::{
-    apart_by_zeros, differ_in_one_block, differ_in_one_stretch,
+    apart_by_block, apart_by_stretch, apart_by_words, apart_by_zeros,
+    differ_in_one_block, differ_in_one_stretch,
     same_answers_later,
 };
 pub use hash_laws::traits::{

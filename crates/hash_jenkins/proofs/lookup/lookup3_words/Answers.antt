@@ -3,14 +3,14 @@ use Rattle.std.proofs.Math.Path.{ap₂}
 use Rattle.hash_rounds.specs.Rounds as rounds
 use Rattle.hash_rounds.specs.Steps.{apply}
 use Rattle.hash_jenkins.specs.Lookup3.{add_words, block_words}
-use Rattle.hash_jenkins.proofs.Lookup3Lemmas.{blocks_in, few_in, block_in, lookup3_piece_from}
-use Rattle.hash_jenkins.proofs.lookup.lookup3_piece.Goals as goal
-use Rattle.hash_jenkins.proofs.lookup.lookup3_piece.Goals.{then-piece-lt12, else-piece-lt12+in_default}
+use Rattle.hash_jenkins.proofs.Lookup3Lemmas.{blocks_in, few_in, block_in, lookup3_words_from}
+use Rattle.hash_jenkins.proofs.lookup.lookup3_words.Goals as goal
+use Rattle.hash_jenkins.proofs.lookup.lookup3_words.Goals.{then-piece-lt12, else-piece-lt12+in_default}
 
 pub returns : goal.returns
 returns c =
     let piece = c.args.piece.now in
-    let mixed = lookup3_piece_from _ _ piece _ _ _ c.start-s.ensures in
+    let mixed = lookup3_words_from _ _ piece _ _ _ c.start-s.ensures in
     elim c.if-piece-lt12.branch [
       | then-piece-lt12 w ↦
           mixed (w.s-is ∙ w.add_rest.ensures ∙ few_in _ piece w.if-piece-lt12.true) c.lookup3_final.ensures.round
