@@ -6,12 +6,11 @@ use Rattle.std.specs.Hash.{le_bytes}
 use Rattle.hash_rounds.specs.Blocks.{pieces}
 use Rattle.hash_rounds.specs.StepFacts.{StepFacts}
 use Rattle.hash_rounds.specs.Words.{le, rotl}
-use Rattle.hash_rounds.proofs.PieceLemmas.{IsPiece, le-lt, le-same}
+use Rattle.hash_rounds.proofs.PieceLemmas.{le-lt, le-same}
 use Rattle.hash_rounds.proofs.WordLemmas.{rotl-lt, le-to_le_bytes-32, le-to_le_bytes-64}
 use Rattle.hash_rounds.proofs.XorLemmas.{xor_twice}
 use Rattle.hash_laws.specs.Exactly.{ExactlyTexts}
 use Rattle.hash_laws.specs.Recurrence.{recurrence}
-use Rattle.hash_laws.specs.Text.{IsText}
 use Rattle.hash_laws.proofs.ExactlyLemmas.{Exactly-one}
 use Rattle.hash_laws.proofs.TextLemmas.{IsText-le_bytes}
 use Rattle.hash_fx.specs.Fx.{fx32, fx32_step, fx64, fx64_step, words32, words64}

@@ -1,5 +1,5 @@
 -- The one ending of four bytes that leads a CRC from one state to another, and a text to an answer.
-use Rattle.std.proofs.Common.{◌≡◌, ℕ, zero, suc, ◌+◌, ◌*◌, ◌/◌, ◌%◌, ◌^◌, ◌<◌, List, ◌++◌, length, bit_xor, sym, ap, ◌∙◌, refl, lit<, arith, inl, inr, w32}
+use Rattle.std.proofs.Common.{◌≡◌, ℕ, zero, suc, ◌+◌, ◌*◌, ◌/◌, ◌%◌, ◌^◌, ◌<◌, List, ◌++◌, bit_xor, sym, ap, ◌∙◌, refl, lit<, arith, inl, inr, w32}
 use Rattle.std.specs.Int.{to_le_bytes}
 use Rattle.std.proofs.lemmas.Bool.{cases_eq}
 use Rattle.std.proofs.lemmas.Nat.{xor_comm, xor_lt}
