@@ -23,9 +23,9 @@ pub trait TextHash {
 }
 
 /// What a default hasher answers.
-pub struct Default<H>(PhantomData<H>);
+pub struct Unseeded<H>(PhantomData<H>);
 
-impl<H: Piecewise> TextHash for Default<H> {
+impl<H: Piecewise> TextHash for Unseeded<H> {
     #[inline(always)]
     fn hash(text: &[u8]) -> u64 {
         hash_of::<H>(text)
@@ -147,12 +147,12 @@ impl<'a, 'b, O: Offset> HashTask for InColumn<'a, 'b, O> {
 
     #[inline]
     fn by_text<H: Streamed>(texts: (&'a [u8], &'a [O]), room: &mut Room<'b>) -> bool {
-        column::<Default<H>, O>(texts.0, texts.1, room.hashes)
+        column::<Unseeded<H>, O>(texts.0, texts.1, room.hashes)
     }
 
     #[inline]
     fn by_pieces<H: Piecewise>(texts: (&'a [u8], &'a [O]), room: &mut Room<'b>) -> bool {
-        column::<Default<H>, O>(texts.0, texts.1, room.hashes)
+        column::<Unseeded<H>, O>(texts.0, texts.1, room.hashes)
     }
 
     #[inline]
@@ -259,12 +259,12 @@ impl<'a, 'b> HashTask for InLines<'a, 'b> {
 
     #[inline]
     fn by_text<H: Streamed>(text: &'a [u8], room: &mut Room<'b>) -> usize {
-        hash_lines::<Default<H>>(text, room.hashes)
+        hash_lines::<Unseeded<H>>(text, room.hashes)
     }
 
     #[inline]
     fn by_pieces<H: Piecewise>(text: &'a [u8], room: &mut Room<'b>) -> usize {
-        hash_lines::<Default<H>>(text, room.hashes)
+        hash_lines::<Unseeded<H>>(text, room.hashes)
     }
 
     #[inline]
