@@ -233,6 +233,18 @@ static void check_combine(void) {
     }
 }
 
+// A text with the ending that leads it to a wanted hash; behind "12345" it is the rest of the digits whose CRC-32 is known.
+static void check_ending(void) {
+    same("an ending that is known", UINT32_C(0x39383736), hashers_crc32_ending(hashers_crc32("12345", 5), 0xCBF43926));
+    for (size_t n = 0; n < 100; n++) {
+        uint64_t hash = hashers_crc32(text, n), answer = hashers_fnv1a32(text, n);
+        uint32_t ending = hashers_crc32_ending(hash, answer);
+        unsigned char bytes[4];
+        for (int i = 0; i < 4; i++) bytes[i] = (unsigned char)(ending >> (8 * i));
+        same("crc32_ending", answer, hashers_crc32_write(hash, bytes, 4));
+    }
+}
+
 __extension__ typedef unsigned __int128 wide;
 
 // The polynomial hash by its definition, a word of seven bytes at a time, and the state behind the whole words.
@@ -362,6 +374,7 @@ int main(void) {
     check_oaat_state();
     check_spooky();
     check_combine();
+    check_ending();
     check_keyed();
     for (const struct kind *k = kinds; k < kinds + KINDS; k++) check_number(k);
     check_numbers();

@@ -11,7 +11,7 @@ from ._library import Held, Place, State, Words, call, has, over, word
 if TYPE_CHECKING:
     from _typeshed import ReadableBuffer as Buffer
 
-__all__ = ["Function", "Hash", "algorithms_available", "combine", "new", "spooky128", "spooky128_v1"]
+__all__ = ["Function", "Hash", "algorithms_available", "combine", "crc32_ending", "new", "spooky128", "spooky128_v1"]
 # declared: names
 __all__ += [
     "fnv1a32", "fnv1a64", "djb2", "sdbm", "loselose", "bricolage", "oaat", "lookup3", "spooky", "spooky_v1", "passthrough", "fxhash",
@@ -132,6 +132,16 @@ def combine(name: str, hash1: SupportsIndex, hash2: SupportsIndex, length2: Supp
         raise ValueError(f"{name} of two texts joined does not follow from their hashes")
     answer: int = call(known(name) + "_combine")(word(hash1), word(hash2), word(length2))
     return answer
+
+
+_crc32_ending = call("crc32_ending")
+
+
+def crc32_ending(hash: SupportsIndex, answer: SupportsIndex) -> bytes:
+    """The one ending of four bytes behind data with this crc32 that makes the crc32 of the whole the answer. Of both numbers the low 32 bits
+    count. So a CRC is no protection against who chooses the data."""
+    number: int = _crc32_ending(word(hash), word(answer))
+    return number.to_bytes(4, "little")
 
 
 class Hash(ABC):

@@ -41,6 +41,7 @@ FORMS: Dict[str, Any] = {
     "_state_finish": (c_uint64, c_uint64),
     "_unwrite": (c_uint64, c_uint64, *_TEXT),
     "_combine": (c_uint64, c_uint64, c_uint64, c_uint64),
+    "crc32_ending": (c_uint32, c_uint64, c_uint64),
     "_insert": (c_bool, *_TEXT, c_uint64, c_uint32, *_TEXT),
     "_contains": (c_bool, *_TEXT, c_uint64, c_uint32, *_TEXT),
     "bloom_union": (c_bool, *_TEXT, *_TEXT),

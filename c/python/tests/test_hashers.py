@@ -119,6 +119,13 @@ class AgainstTheHeader(unittest.TestCase):
             else:
                 self.assertRaises(ValueError, hashers.combine, name, 1, 2, 3)
 
+    def test_ending_by_zlib(self) -> None:
+        self.assertEqual(hashers.crc32_ending(hashers.crc32(b"12345"), 0xCBF43926), b"6789")
+        for length, answer in enumerate((0, 1, 0xFFFFFFFF, 0x12345678, 1 << 32, (1 << 64) - 2)):
+            text = TEXT[:length * 17]
+            ending = hashers.crc32_ending(zlib.crc32(text), answer)
+            self.assertEqual((len(ending), zlib.crc32(text + ending)), (4, answer % (1 << 32)))
+
     def test_which_have_32_bits(self) -> None:
         # Of those that lose nothing every number of their bits is a hash so far, and a write of nothing keeps it. Others mix, but null; elf
         # has 28 bits.
@@ -249,6 +256,14 @@ class Hashes(unittest.TestCase):
         self.assertEqual(doctest.testmod(hashers).failed, 0)
         readme = (C.parent / "README.md").read_text(encoding="utf-8")
         example = re.findall(r"```python\n(.*?)```", readme, re.S)
+        self.assertEqual(len(example), 1)
+        with contextlib.redirect_stdout(io.StringIO()) as said:
+            exec(example[0], {})
+        self.assertEqual(said.getvalue().strip(), example[0].strip().split("  # ")[1])
+
+    def test_the_forged_text(self) -> None:
+        page = (C.parent / "docs" / "CHOOSING.md").read_text(encoding="utf-8")
+        example = re.findall(r"```python\n(.*?)```", page, re.S)
         self.assertEqual(len(example), 1)
         with contextlib.redirect_stdout(io.StringIO()) as said:
             exec(example[0], {})

@@ -8,6 +8,7 @@ mod bloom;
 mod column;
 mod columns;
 mod combine;
+mod ending;
 mod keyed;
 mod kinds;
 mod lines;

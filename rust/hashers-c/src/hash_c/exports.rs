@@ -173,6 +173,12 @@ pub extern "C" fn hashers_crc32c_combine(hash1: u64, hash2: u64, n2: u64) -> u64
 }
 
 /// See `hashers.h`.
+#[no_mangle]
+pub extern "C" fn hashers_crc32_ending(hash: u64, answer: u64) -> u32 {
+    ending::hashers_crc32_ending(hash, answer)
+}
+
+/// See `hashers.h`.
 ///
 /// # Safety
 ///

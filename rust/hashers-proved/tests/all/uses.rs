@@ -92,6 +92,17 @@ fn two_texts_are_combined() {
 }
 
 #[test]
+fn texts_are_led_to_an_answer() {
+    let text = b"a text".as_slice();
+    assert_eq!(crc32_ending(crc32(b"12345"), 0xCBF43926), *b"6789");
+    assert_eq!(crc32(&[text, &crc32_ending(crc32(text), 7)].concat()), 7);
+    assert_eq!(crc32c(&[text, &crc32c_ending(crc32c(text), 7)].concat()), 7);
+    assert_eq!(lookup3(&Lookup3Hasher::new(0, 0).block_for(7, 8)), 7);
+    assert_eq!(fxhash(&FxHasher::default().word_for(7).to_le_bytes()), 7);
+    assert_eq!(fxhash32(&FxHasher32::default().word_for(7).to_le_bytes()), 7);
+}
+
+#[test]
 fn hashers_keep_their_states_alone() {
     use std::mem::size_of;
     assert_eq!([size_of::<FNV1aHasher32>(), size_of::<DJB2Hasher>(), size_of::<SDBMHasher>(), size_of::<FxHasher32>()], [4; 4]);
