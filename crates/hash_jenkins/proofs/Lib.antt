@@ -6,6 +6,7 @@ pub mod Lookup3Lemmas
 pub mod MixLemmas
 pub mod OneGroup
 pub mod PutLemmas
+pub mod ShortEven
 pub mod ShortStretches
 pub mod WriteLemmas
 pub mod Zeros

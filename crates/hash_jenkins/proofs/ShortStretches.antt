@@ -14,14 +14,14 @@ use Rattle.hash_rounds.proofs.PieceLemmas.{IsPiece, le-lt, part-same, length-fir
 use Rattle.hash_laws.specs.Text.{IsText}
 use Rattle.hash_laws.proofs.TextLemmas.{IsByte}
 use Rattle.hash_jenkins.specs.Filled.{zero_filled}
-use Rattle.hash_jenkins.specs.Spooky.{add_chunk, add_chunks, short_start, short_words, short_words_v1}
+use Rattle.hash_jenkins.specs.Spooky.{add_chunk, chunks_from, short_start, short_words, short_words_v1}
 use Rattle.hash_jenkins.specs.Mixing.{DifferInOne}
 use Rattle.hash_jenkins.proofs.FilledLemmas.{filled-piece, filled-same, filled-at}
 use Rattle.hash_jenkins.proofs.Zeros.{add_at-AreFourWords, start_below, add_chunk-AreFourWords, short_start-AreFourWords}
 
 -- ---- two sums
 
-abbrev added_two : List ℕ → ℕ → ℕ → ℕ → ℕ → List ℕ
+abbrev pub added_two : List ℕ → ℕ → ℕ → ℕ → ℕ → List ℕ
 added_two h i x j y = add_at (add_at h i x) j y
 
 module _ (h : List ℕ) (are : AreFourWords h) (i x j y : ℕ) (i_in : i < 4) (j_in : j < 4) (apart : j ≢ i) where
@@ -51,13 +51,13 @@ four-same h k h_in k_in e0 e1 e2 e3 = ext_get_or 0 h k (h_in.0 ∙ sym k_in.0) a
   at (suc (suc (suc (suc i)))) below = absurd (omega (arith, below, h_in.0))
 
 -- what stands before the mix of a chunk
-abbrev before : List ℕ → List ℕ → List ℕ
+abbrev pub before : List ℕ → List ℕ → List ℕ
 before h w = added_two h 2 (slice_index w 0) 3 (slice_index w 1)
 
-before-AreFourWords : (h w : List ℕ) → AreFourWords h → AreFourWords (before h w)
+pub before-AreFourWords : (h w : List ℕ) → AreFourWords h → AreFourWords (before h w)
 before-AreFourWords h w a = add_at-AreFourWords _ 3 (slice_index w 1) (add_at-AreFourWords h 2 (slice_index w 0) a)
 
-mixed-AreFourWords : (h w : List ℕ) → AreFourWords h → AreFourWords (short_mix (before h w))
+pub mixed-AreFourWords : (h w : List ℕ) → AreFourWords h → AreFourWords (short_mix (before h w))
 mixed-AreFourWords h w a = short_mix-AreFourWords (before h w) (before-AreFourWords h w a)
 
 -- equal sums behind the mix
@@ -93,7 +93,7 @@ add_chunk-before h k w v h_in k_in e2 e3 same =
 
 -- ---- chunks
 
-abbrev word : List ℕ → ℕ → ℕ
+abbrev pub word : List ℕ → ℕ → ℕ
 word c i = slice_index (le_words c) i
 
 word-is : (c : List ℕ) (i : ℕ) → length c ≡ 32 → i < 4 → word c i ≡ le (take 8 (drop (i * 8) c))
@@ -103,7 +103,7 @@ word-is c i len i_in =
     get_or-map le (first_chunks 8 (length c / 8) c) i [] 0 (omega (arith, below, length-first_chunks 8 (length c / 8) c))
     ∙ ap le (get_or-first_chunks 8 (length c / 8) i c [] below)
 
-word-lt : (c : List ℕ) (i : ℕ) → IsPiece 32 c → i < 4 → word c i < 2 ^ 64
+pub word-lt : (c : List ℕ) (i : ℕ) → IsPiece 32 c → i < 4 → word c i < 2 ^ 64
 word-lt c i is i_in =
     let t = take 8 (drop (i * 8) c) in
     let len : length t ≡ 8 = length-take-le 8 (drop (i * 8) c) (omega (arith, length-drop (i * 8) c, is.1, i_in)) in
@@ -137,10 +137,10 @@ module _ (c e : List ℕ) (c_is : IsPiece 32 c) (e_is : IsPiece 32 e) (front : F
       let all : le_words c ≡ le_words e = ext_get_or 0 (le_words c) (le_words e) (four_words c c_is ∙ sym (four_words e e_is)) each in
       all_words-same 8 4 c e c_is e_is (sym (all_words c c_is.1) ∙ all ∙ all_words e e_is.1)
 
-abbrev f : List ℕ → List ℕ → List ℕ
+abbrev pub f : List ℕ → List ℕ → List ℕ
 f s c = add_chunk s (le_words c)
 
-f-in : (s c : List ℕ) → AreFourWords s → IsPiece 32 c → AreFourWords (f s c)
+pub f-in : (s c : List ℕ) → AreFourWords s → IsPiece 32 c → AreFourWords (f s c)
 f-in s c s_in _ = add_chunk-AreFourWords s (le_words c) s_in
 
 module _ (s t c e : List ℕ) (s_in : AreFourWords s) (t_in : AreFourWords t) (c_is : IsPiece 32 c) (e_is : IsPiece 32 e) (back : Back c e)
@@ -285,21 +285,20 @@ word-agree x z i k x_len z_len i_in k_in agree =
 starts-are : (seed1 seed2 : ℕ) (x : List ℕ) → length (zero_filled 192 x) ≡ 192
     → short_start seed1 seed2 x ≡ fold f (seed1 ∷ seed2 ∷ 0xdeadbeefdeadbeef ∷ 0xdeadbeefdeadbeef ∷ [])
     (first_chunks 32 6 (zero_filled 192 x))
-unfolding add_chunks pieces
+unfolding chunks_from pieces
 starts-are seed1 seed2 x len = rw len refl
 
 start-same : (seed1 seed2 : ℕ) (x y : List ℕ) → seed1 < 2 ^ 64 → seed2 < 2 ^ 64 → IsText x → IsText y → length x < 192
-    → DifferInOne (λ i. (i + 16) / 32) x y → short_start seed1 seed2 x ≡ short_start seed1 seed2 y → x ≡ y
-start-same seed1 seed2 x y s1 s2 xs ys few differ same =
-    let len = differ.same_length in
-    let g = differ.one.0 in
+    → (len : length x ≡ length y) (g : ℕ) (one : (i : ℕ) → (i + 16) / 32 ≢ g → slice_index x i ≡ slice_index y i)
+    → short_start seed1 seed2 x ≡ short_start seed1 seed2 y → x ≡ y
+start-same seed1 seed2 x y s1 s2 xs ys few len g one same =
     let x_is = filled-piece 192 x xs (omega (arith, few)) in
     let y_is = filled-piece 192 y ys (omega (arith, few, len)) in
     let a = zero_filled 192 x in
     let b = zero_filled 192 y in
     let at : (i k j : ℕ) → (i * 32 + (k * 8 + j) + 16) / 32 ≢ g
     → slice_index a (i * 32 + (k * 8 + j)) ≡ slice_index b (i * 32 + (k * 8 + j)) =
-    λ i k j other. filled-at 192 x y (i * 32 + (k * 8 + j)) len (differ.one.1 (i * 32 + (k * 8 + j)) other) in
+    λ i k j other. filled-at 192 x y (i * 32 + (k * 8 + j)) len (one (i * 32 + (k * 8 + j)) other) in
     let front : (i k : ℕ) → i < 6 → k < 2 → i ≢ g → word (get_or (first_chunks 32 6 a) i []) k
     ≡ word (get_or (first_chunks 32 6 b) i []) k =
     λ i k i_in k_in other. word-agree a b i k x_is.1 y_is.1 i_in (omega (arith, k_in))
@@ -334,20 +333,30 @@ add_length-same h k x h_in k_in same =
     (word-same _ _ x (h_in.1 3) (k_in.1 3) last)
 
 module _ (seed1 seed2 : ℕ) (x y : List ℕ) (s1 : seed1 < 2 ^ 64) (s2 : seed2 < 2 ^ 64) (xs : IsText x) (ys : IsText y) (few : length x < 192)
-    (differ : DifferInOne (λ i. (i + 16) / 32) x y) where
+    (len : length x ≡ length y) (g : ℕ) (one : (i : ℕ) → (i + 16) / 32 ≢ g → slice_index x i ≡ slice_index y i) where
   x_in : AreFourWords (short_start seed1 seed2 x)
   x_in = short_start-AreFourWords seed1 seed2 x s1 s2
 
   y_in : AreFourWords (short_start seed1 seed2 y)
   y_in = short_start-AreFourWords seed1 seed2 y s1 s2
 
-  pub short_words-differ : short_words seed1 seed2 x ≢ short_words seed1 seed2 y
-  short_words-differ = λ same.
+  pub short_words-same : short_words seed1 seed2 x ≡ short_words seed1 seed2 y → x ≡ y
+  short_words-same same =
       let n = length y * 2 ^ 56 in
       let led = short_end-same _ _ (add_at-AreFourWords _ 3 (length x * 2 ^ 56) x_in) (add_at-AreFourWords _ 3 n y_in) same in
-      let one : add_at (short_start seed1 seed2 x) 3 n ≡ add_at (short_start seed1 seed2 y) 3 n
-      = ap (λ l. add_at (short_start seed1 seed2 x) 3 (l * 2 ^ 56)) (sym differ.same_length) ∙ led in
-      differ.different (start-same seed1 seed2 x y s1 s2 xs ys few differ (add_length-same _ _ n x_in y_in one))
+      let ended : add_at (short_start seed1 seed2 x) 3 n ≡ add_at (short_start seed1 seed2 y) 3 n
+      = ap (λ l. add_at (short_start seed1 seed2 x) 3 (l * 2 ^ 56)) (sym len) ∙ led in
+      start-same seed1 seed2 x y s1 s2 xs ys few len g one (add_length-same _ _ n x_in y_in ended)
+
+  short_words_v1-same : short_words_v1 seed1 seed2 x ≡ short_words_v1 seed1 seed2 y → x ≡ y
+  short_words_v1-same same = start-same seed1 seed2 x y s1 s2 xs ys few len g one (short_end-same _ _ x_in y_in same)
+
+module _ (seed1 seed2 : ℕ) (x y : List ℕ) (s1 : seed1 < 2 ^ 64) (s2 : seed2 < 2 ^ 64) (xs : IsText x) (ys : IsText y) (few : length x < 192)
+    (differ : DifferInOne (λ i. (i + 16) / 32) x y) where
+  pub short_words-differ : short_words seed1 seed2 x ≢ short_words seed1 seed2 y
+  short_words-differ = λ same.
+      differ.different (short_words-same seed1 seed2 x y s1 s2 xs ys few differ.same_length differ.one.0 differ.one.1 same)
 
   pub short_words_v1-differ : short_words_v1 seed1 seed2 x ≢ short_words_v1 seed1 seed2 y
-  short_words_v1-differ = λ same. differ.different (start-same seed1 seed2 x y s1 s2 xs ys few differ (short_end-same _ _ x_in y_in same))
+  short_words_v1-differ = λ same.
+      differ.different (short_words_v1-same seed1 seed2 x y s1 s2 xs ys few differ.same_length differ.one.0 differ.one.1 same)

@@ -7,7 +7,7 @@ use Rattle.hash_rounds.specs.Blocks.{pieces, le_words}
 use Rattle.hash_rounds.specs.Words.{add_at}
 use Rattle.hash_rounds.proofs.RoundLemmas.{AreFourWords, short_mix-AreFourWords, short_end-same}
 use Rattle.hash_jenkins.specs.Filled.{zero_filled}
-use Rattle.hash_jenkins.specs.Spooky.{add_chunk, add_chunks, short_start, spooky_v1}
+use Rattle.hash_jenkins.specs.Spooky.{add_chunk, chunks_from, short_start, spooky_v1}
 use Rattle.hash_jenkins.specs.Zeros.{AddsZeros, HaveOtherWords}
 
 pub add_at-AreFourWords : (h : List ℕ) (i x : ℕ) → AreFourWords h → AreFourWords (add_at h i x)
@@ -56,13 +56,13 @@ fold-AreFourWords h (c ∷ cs) a = fold-AreFourWords (add_chunk h (le_words c)) 
 
 pub short_start-AreFourWords : (seed1 seed2 : ℕ) (text : List ℕ) → seed1 < 2 ^ 64 → seed2 < 2 ^ 64
     → AreFourWords (short_start seed1 seed2 text)
-unfolding add_chunks
+unfolding chunks_from
 short_start-AreFourWords seed1 seed2 text s1 s2 = fold-AreFourWords _ (pieces 32 (zero_filled 192 text))
     (refl, start_below seed1 seed2 s1 s2)
 
 short_start_more : (seed1 seed2 : ℕ) (x : List ℕ) (n : ℕ) → length x + n ≤ 192
     → short_start seed1 seed2 (x ++ replicate n 0) ≡ short_start seed1 seed2 x
-unfolding add_chunks
+unfolding chunks_from
 short_start_more seed1 seed2 x n fits = rw (zero_filled_more x n fits) refl
 
 module _ (x y : List ℕ) (h : AddsZeros x y) (seed1 seed2 : ℕ) where

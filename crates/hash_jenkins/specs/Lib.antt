@@ -11,4 +11,5 @@ pub mod SpookyHasher
 pub mod SpookyLaws
 pub mod SpookyParts
 pub mod SpookyStanding
+pub mod Stretch
 pub mod Zeros

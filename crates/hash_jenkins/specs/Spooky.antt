@@ -14,10 +14,11 @@ add_chunk h w =
     add_at (add_at (short_mix before) 0 (slice_index w 2)) 1 (slice_index w 3)
 
 -- the four words after a text's chunks of 32 bytes
-unfoldable pub add_chunks : ℕ → ℕ → List ℕ → List ℕ
-add_chunks seed1 seed2 text =
-    fold (λ h chunk. add_chunk h (le_words chunk)) (seed1 ∷ seed2 ∷ 0xdeadbeefdeadbeef ∷ 0xdeadbeefdeadbeef ∷ [])
-    (pieces 32 text)
+unfoldable pub chunks_from : List ℕ → List ℕ → List ℕ
+chunks_from h text = fold (λ h chunk. add_chunk h (le_words chunk)) h (pieces 32 text)
+
+abbrev pub add_chunks : ℕ → ℕ → List ℕ → List ℕ
+add_chunks seed1 seed2 text = chunks_from (seed1 ∷ seed2 ∷ 0xdeadbeefdeadbeef ∷ 0xdeadbeefdeadbeef ∷ []) text
 
 -- the four words after the six chunks of the zero-filled text
 abbrev pub short_start : ℕ → ℕ → List ℕ → List ℕ

@@ -9,6 +9,7 @@ pub mod spooky_hash;
 mod spooky_long;
 pub mod spooky_parts;
 mod spooky_short;
+pub mod stretch;
 pub mod two_texts;
 
 pub use build_spooky::BuildSpooky;

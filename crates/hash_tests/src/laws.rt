@@ -68,6 +68,7 @@ pub fn laws_are_calls<H: laws::ByteStep>() {
     laws::low_bits_of_a_word();
     laws::fx_is_even();
     laws::lookup3_is_even();
+    laws::short_spooky_is_even();
     laws::one_changed_block_shows();
     laws::one_changed_stretch_shows();
     laws::neighbouring_words_show();

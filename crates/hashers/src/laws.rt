@@ -11,6 +11,7 @@ pub use hash_fx::pieces::{
     one_changed_byte_shows_fx, one_changed_word_shows_fx, pieces_are_their_words, run_words,
     run_words32, run_words64, words_by_place32, words_by_place64,
 };
+pub use hash_jenkins::stretch::short_spooky_is_even;
 pub use hash_jenkins::two_texts::{
     apart_by_block, apart_by_stretch, apart_by_words, apart_by_zeros, cuts_show_in_lookup3,
     differ_in_one_block, differ_in_one_stretch, lookup3_is_even, middles_in_one_group,

@@ -3,6 +3,7 @@ use crate::tests::jenkins::write_to_spooky;
 use crate::tests::{all_hold, all_hold_at, none_holds, same};
 use hash_rounds::{short_end, un_short_end};
 use hashers::jenkins::spooky_hash::{SpookyHasher, spooky};
+use hashers::jenkins::stretch::stretch_for;
 use hashers::laws::{Piecewise, answer_of_pieces, apart_by_stretch, apart_by_words, run_streamed};
 use std::hash::Hasher;
 
@@ -164,6 +165,41 @@ fn long_words_tell_windows_apart(rt: HostRuntime) {
     let others = other.long_words().expect(&rt, "192 bytes and more");
     assert_eq!(rt; hasher.finish128(), (words[0], words[1]));
     assert!(rt; words != others);
+}
+
+#[test]
+fn stretches_for_words(rt: HostRuntime) {
+    let text = counting();
+    let mut number = 1u64;
+    for n in 0..5usize {
+        let front = &text[..16 + 32 * n];
+        let back = &text[..143 - 32 * n];
+        let mut words = [0; 4];
+        for word in words.iter_mut() {
+            number = number
+                .wrapping_mul(6364136223846793005)
+                .wrapping_add(1442695040888963407);
+            *word = number;
+        }
+        let stretch = stretch_for(1, 2, front, back, words);
+        let mut hasher = SpookyHasher::new(1, 2);
+        hasher.write(front);
+        hasher.write(&stretch);
+        hasher.write(back);
+        let is = hasher.short_words().expect(&rt, "fewer than 192 bytes");
+        all_hold_at(
+            &rt,
+            n,
+            &[is == words, hasher.finish128() == (words[0], words[1])],
+        );
+        let again = stretch_for(1, 2, front, back, is);
+        all_hold_at(&rt, n, &[again == stretch]);
+    }
+    let mut hasher = SpookyHasher::default();
+    hasher.write(&text[..100]);
+    let words = hasher.short_words().expect(&rt, "fewer than 192 bytes");
+    let part = stretch_for(0, 0, &text[..48], &text[80..100], words);
+    assert!(rt; part.as_slice() == &text[48..80]);
 }
 
 // Version 1 is what is left where the length is taken out of the fourth word, before the end.

@@ -6,7 +6,7 @@
 use crate::hash_rounds;
 
 use crate::hash_jenkins::put::put;
-use hash_rounds::{le_words, short_end, short_mix};
+use hash_rounds::{le_words, short_end, short_mix, un_short_end, un_short_mix};
 
 /// The length from which a text is hashed block by block.
 pub(crate) const LONG: usize = 192;
@@ -49,20 +49,70 @@ pub(crate) fn zero_filled<const N: usize>(text: &[u8]) -> [u8; N] {
     filled
 }
 
-// The four words after the chunks of a text.
+/// The four words after the chunks of a text.
+///
 /// Proved:
 ///
 /// ```text
 /// result ≡ add_chunks seed1 seed2 text.now
 /// ```
-#[inline]
-fn add_chunks(seed1: u64, seed2: u64, text: &[u8; 192]) -> [u64; 4] {
+#[inline(always)]
+pub(crate) fn add_chunks(seed1: u64, seed2: u64, text: &[u8]) -> [u64; 4] {
     let (chunks, _) = text.as_chunks::<32>();
     let mut h = [seed1, seed2, FILL, FILL];
     for chunk in chunks {
         add_chunk(&mut h, &le_words(chunk));
     }
     h
+}
+
+// Takes a chunk's words out again.
+/// Proved:
+///
+/// ```text
+/// add_chunk h.new w.now ≡ h.old
+/// ```
+#[inline]
+fn take_chunk(h: &mut [u64; 4], w: &[u64; 4]) {
+    h[0] = h[0].wrapping_sub(w[2]);
+    h[1] = h[1].wrapping_sub(w[3]);
+    un_short_mix(h);
+    h[2] = h[2].wrapping_sub(w[0]);
+    h[3] = h[3].wrapping_sub(w[1]);
+}
+
+/// Takes the last mix and the length back, which are the end of a text of so many bytes.
+///
+/// The caller has to see to it that:
+///
+/// ```text
+/// len < 192
+/// ```
+///
+/// Proved:
+///
+/// ```text
+/// short_end (add_at h.new 3 (len * 2 ^ 56)) ≡ h.old
+/// ```
+#[inline]
+pub(crate) fn take_end(h: &mut [u64; 4], len: usize) {
+    un_short_end(h);
+    h[3] = h[3].wrapping_sub((len as u64) << 56);
+}
+
+/// Takes the chunks of a text out again, from the last to the first.
+///
+/// Proved:
+///
+/// ```text
+/// chunks_from h.new text.now ≡ h.old
+/// ```
+#[inline]
+pub(crate) fn take_chunks(h: &mut [u64; 4], text: &[u8]) {
+    let (chunks, _) = text.as_chunks::<32>();
+    for chunk in chunks.iter().rev() {
+        take_chunk(h, &le_words(chunk));
+    }
 }
 
 /// The four words of the first `len` bytes, where the array has zeros alone after them.
