@@ -139,7 +139,7 @@ _crc32_ending = call("crc32_ending")
 
 def crc32_ending(hash: SupportsIndex, answer: SupportsIndex) -> bytes:
     """The one ending of four bytes behind data with this crc32 that makes the crc32 of the whole the answer. Of both numbers the low 32 bits
-    count. So a CRC is no protection against who chooses the data."""
+    count. So a CRC is no protection against someone who chooses the data."""
     number: int = _crc32_ending(word(hash), word(answer))
     return number.to_bytes(4, "little")
 

@@ -6,8 +6,8 @@ ghost use Rattle.hashers.specs.Text.{IsText};
 
 use hash_more::crc32;
 
-/// The one ending of four bytes behind a text with this CRC-32 that makes the CRC-32 of the whole the answer, as a number: its
-/// lowest byte comes first. Of both numbers the low 32 bits count.
+/// The one ending of four bytes behind a text with this CRC-32 that makes the CRC-32 of the whole the answer, as a
+/// number: its lowest byte comes first. Of both numbers the low 32 bits count.
 #[unsafe(no_mangle)]
 pub extern "C" fn hashers_crc32_ending(hash: u64, answer: u64) -> u32
     ensures leads { (text : List ℕ) → hash % 2 ^ 32 ≡ crc32_of text

@@ -72,8 +72,8 @@ fn add_rest(s: &mut [u32; 3], rest: &[u8])
     }
 }
 
-// The three words after a piece that has some bytes. Less than a block goes a way of its own, with no loop on it, and no length
-// is divided, which takes as long as half a mixing.
+// The three words after a piece that has some bytes. Less than a block goes a way of its own, with no loop on it, and
+// no length is divided, which takes as long as half a mixing.
 #[inline(always)]
 fn lookup3_words(pc: u32, pb: u32, piece: &[u8]) -> [u32; 3]
     ensures { result ≡ lookup3_words pc pb piece.now }
@@ -129,8 +129,9 @@ impl Lookup3Hasher {
         Lookup3Hasher { pc, pb }
     }
 
-    /// The three words that a piece of some bytes ends in: the third word, which the answer leaves out, and then the two that
-    /// `write` keeps, the higher one first. (Of no bytes they are those of a run that `write` does not make.)
+    /// The three words that a piece of some bytes ends in: the third word, which the answer leaves out, and then the
+    /// two that `write` keeps, the higher one first. (Of no bytes they are those of a run that `write` does not
+    /// make.)
     pub fn piece_words(&self, piece: &[u8]) -> [u32; 3]
         ensures words { result ≡ lookup3_words self.now.0 self.now.1 piece.now }
         ensures kept { piece.now ≢ []
@@ -139,8 +140,8 @@ impl Lookup3Hasher {
         lookup3_words(self.pc, self.pb, piece)
     }
 
-    /// The one block of 12 bytes that leads from here to the answer and to the third word, which the answer leaves out: the two
-    /// mixes of its words taken back. So each answer has exactly 2^32 blocks, one for each third word.
+    /// The one block of 12 bytes that leads from here to the answer and to the third word, which the answer leaves
+    /// out: the two mixes of its words taken back. So each answer has exactly 2^32 blocks, one for each third word.
     pub fn block_for(&self, answer: u64, third: u32) -> [u8; 12]
         ensures leads { lookup3_answer (lookup3_from self.now result) ≡ answer }
         ensures third_word { third_word self.now result ≡ third }

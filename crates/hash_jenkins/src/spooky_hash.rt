@@ -102,8 +102,8 @@ impl SpookyHasher {
         self.parts.short_words()
     }
 
-    /// The twelve words that a text of 192 bytes and more ends in, the first two of which are its hash; `None` exactly below 192
-    /// bytes.
+    /// The twelve words that a text of 192 bytes and more ends in, the first two of which are its hash; `None`
+    /// exactly below 192 bytes.
     pub fn long_words(&self) -> Option<[u64; 12]>
         ensures here { result ≡ long_words_at self.now.at }
         ensures of_text { (seed1 seed2 : ℕ) (text : List ℕ) → self.now.at ≡ position seed1 seed2 text

@@ -21,12 +21,12 @@ fn missing(from: &[u64; 4], to: &[u64; 4]) -> [u8; 32]
     stretch
 }
 
-/// The one stretch of 32 bytes between a front and a back that leads SpookyHash, under two seeds, to four words, of which
-/// the first two are the hash. It is what is added between two mixes: the front has 16, 48, 80, 112 or 144 bytes, and the
-/// whole has less than 192.
+/// The one stretch of 32 bytes between a front and a back that leads SpookyHash, under two seeds, to four words, of
+/// which the first two are the hash. It is what is added between two mixes: the front has 16, 48, 80, 112 or 144
+/// bytes, and the whole has less than 192.
 ///
-/// From the words the last mix, the length and the chunks behind are taken back, up to the stretch. What is then missing is
-/// the stretch.
+/// From the words the last mix, the length and the chunks behind are taken back, up to the stretch. What is then
+/// missing is the stretch.
 pub fn stretch_for(seed1: u64, seed2: u64, front: &[u8], back: &[u8], words: [u64; 4]) -> [u8; 32]
     requires place { length front.now % 32 ≡ 16 }
     requires few { length front.now + length back.now < 160 }
@@ -45,9 +45,9 @@ pub fn stretch_for(seed1: u64, seed2: u64, front: &[u8], back: &[u8], words: [u6
     missing(&from, &to)
 }
 
-/// SpookyHash below 192 bytes favours no hash, a law with no code: between a front and a back, as [`stretch_for`] takes
-/// them, each hash of 128 bits has exactly 2^128 stretches, under any seeds. Of the first 16 bytes, and of a block from 192
-/// bytes on, it says nothing.
+/// SpookyHash below 192 bytes favours no hash, a law with no code: between a front and a back, as [`stretch_for`]
+/// takes them, each hash of 128 bits has exactly 2^128 stretches, under any seeds. Of the first 16 bytes, and of a
+/// block from 192 bytes on, it says nothing.
 pub fn short_spooky_is_even()
     ensures { (seed1 seed2 : ℕ) (front back : List ℕ) (hash : ℕ × ℕ) → seed1 < 2 ^ 64 → seed2 < 2 ^ 64
         → IsText front → IsText back → length front % 32 ≡ 16 → length front + length back < 160

@@ -105,8 +105,8 @@ pub fn differ_in_one_stretch(x: &[u8], y: &[u8]) -> bool
     }
 }
 
-// Whether the texts have one length, of 192 bytes or more, and differ, but only within eleven neighbouring words of the whole
-// blocks of 96 bytes, or behind these.
+// Whether the texts have one length, of 192 bytes or more, and differ, but only within eleven neighbouring words of
+// the whole blocks of 96 bytes, or behind these.
 fn differ_in_words(x: &[u8], y: &[u8]) -> bool
     ensures { IsTrue result ↔ DifferInWords x.now y.now }
 {
@@ -121,8 +121,8 @@ fn differ_in_words(x: &[u8], y: &[u8]) -> bool
     }
 }
 
-/// Whether the texts have one length and differ, but only within one of lookup3's blocks of twelve bytes. Where so, they lead from
-/// any two words to other words a, b and c. Computes no hash.
+/// Whether the texts have one length and differ, but only within one of lookup3's blocks of twelve bytes. Where so,
+/// they lead from any two words to other words a, b and c. Computes no hash.
 pub fn apart_by_block(x: &[u8], y: &[u8]) -> bool
     ensures exactly { IsTrue result ↔ DifferInOneBlock 12 x.now y.now }
     ensures differ { OnTrue result (HaveOtherThree x.now y.now) }
@@ -130,8 +130,8 @@ pub fn apart_by_block(x: &[u8], y: &[u8]) -> bool
     differ_in_one_block(x, y)
 }
 
-/// Whether the texts are shorter than 192 bytes, have one length and differ, but only in what SpookyHash adds between two mixes.
-/// Where so, the four `short_words` of the two texts differ under all seeds. Computes no hash.
+/// Whether the texts are shorter than 192 bytes, have one length and differ, but only in what SpookyHash adds between
+/// two mixes. Where so, the four `short_words` of the two texts differ under all seeds. Computes no hash.
 pub fn apart_by_stretch(x: &[u8], y: &[u8]) -> bool
     ensures exactly { IsTrue result ↔ ((length x.now < 192) × DifferInOneStretch x.now y.now) }
     ensures differ { OnTrue result (HaveOtherWords x.now y.now) }
@@ -139,9 +139,9 @@ pub fn apart_by_stretch(x: &[u8], y: &[u8]) -> bool
     x.len() < LONG && differ_in_one_stretch(x, y)
 }
 
-/// Whether the texts have one length, of 192 bytes or more, and differ, but only within 88 bytes of their whole blocks of 96, from a
-/// place that 8 divides, or only within what is left behind the whole blocks. Where so, the twelve `long_words` of the two texts
-/// differ under all seeds. Computes no hash.
+/// Whether the texts have one length, of 192 bytes or more, and differ, but only within 88 bytes of their whole
+/// blocks of 96, from a place that 8 divides, or only within what is left behind the whole blocks. Where so, the
+/// twelve `long_words` of the two texts differ under all seeds. Computes no hash.
 pub fn apart_by_words(x: &[u8], y: &[u8]) -> bool
     ensures exactly { IsTrue result ↔ DifferInWords x.now y.now }
     ensures differ { OnTrue result (HaveOtherTwelve x.now y.now) }
@@ -184,8 +184,8 @@ pub fn neighbouring_words_show()
     ensures { (x y : List ℕ) → IsText x → IsText y → DifferInWords x y → HaveOtherTwelve x y }
 {}
 
-/// lookup3 favours no answer, a law with no code: from any two words each answer has exactly 2^32 blocks of 12 bytes. A block is
-/// found by [`Lookup3Hasher::block_for`].
+/// lookup3 favours no answer, a law with no code: from any two words each answer has exactly 2^32 blocks of 12 bytes.
+/// A block is found by [`Lookup3Hasher::block_for`].
 pub fn lookup3_is_even()
     ensures { (pc pb answer : ℕ) → answer < 2 ^ 64
         → ExactlyTexts (2 ^ 32) 12 (λ block. lookup3_answer (lookup3_from (pc, pb) block) ≡ answer) }

@@ -321,8 +321,8 @@ fn ending<P: Polynomial>(hash: u64, answer: u64) -> [u8; 4]
     (word ^ before).to_le_bytes()
 }
 
-/// The one ending of four bytes behind a text with this CRC-32 that makes the CRC-32 of the whole the answer. Of both numbers the
-/// low 32 bits count.
+/// The one ending of four bytes behind a text with this CRC-32 that makes the CRC-32 of the whole the answer. Of both
+/// numbers the low 32 bits count.
 pub fn crc32_ending(hash: u64, answer: u64) -> [u8; 4]
     ensures leads { (text : List ℕ) → hash % 2 ^ 32 ≡ crc32_of text
         → crc32_of (text ++ result) ≡ answer % 2 ^ 32 }
@@ -344,8 +344,8 @@ pub fn crc32c_ending(hash: u64, answer: u64) -> [u8; 4]
     ending::<Castagnoli>(hash, answer)
 }
 
-/// The CRCs favour no answer, a law with no code: behind any text each answer has exactly one ending of four bytes, which
-/// [`crc32_ending`] and [`crc32c_ending`] find.
+/// The CRCs favour no answer, a law with no code: behind any text each answer has exactly one ending of four bytes,
+/// which [`crc32_ending`] and [`crc32c_ending`] find.
 pub fn crcs_are_even()
     ensures crc32 { (text : List ℕ) (answer : ℕ) → IsText text → answer < 2 ^ 32
         → ExactlyTexts 1 4 (λ ending. crc32_of (text ++ ending) ≡ answer) }

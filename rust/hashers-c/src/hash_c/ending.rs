@@ -5,8 +5,8 @@ use hashers_proved::hash_more;
 
 use hash_more::crc32;
 
-/// The one ending of four bytes behind a text with this CRC-32 that makes the CRC-32 of the whole the answer, as a number: its
-/// lowest byte comes first. Of both numbers the low 32 bits count.
+/// The one ending of four bytes behind a text with this CRC-32 that makes the CRC-32 of the whole the answer, as a
+/// number: its lowest byte comes first. Of both numbers the low 32 bits count.
 ///
 /// Proved:
 ///

@@ -91,8 +91,8 @@ fn add_rest(s: &mut [u32; 3], rest: &[u8]) {
     }
 }
 
-// The three words after a piece that has some bytes. Less than a block goes a way of its own, with no loop on it, and no length
-// is divided, which takes as long as half a mixing.
+// The three words after a piece that has some bytes. Less than a block goes a way of its own, with no loop on it, and
+// no length is divided, which takes as long as half a mixing.
 /// Proved:
 ///
 /// ```text
@@ -143,8 +143,9 @@ impl Lookup3Hasher {
         Lookup3Hasher { pc, pb }
     }
 
-    /// The three words that a piece of some bytes ends in: the third word, which the answer leaves out, and then the two that
-    /// `write` keeps, the higher one first. (Of no bytes they are those of a run that `write` does not make.)
+    /// The three words that a piece of some bytes ends in: the third word, which the answer leaves out, and then the
+    /// two that `write` keeps, the higher one first. (Of no bytes they are those of a run that `write` does not
+    /// make.)
     ///
     /// Proved:
     ///
@@ -158,8 +159,8 @@ impl Lookup3Hasher {
         lookup3_words(self.pc, self.pb, piece)
     }
 
-    /// The one block of 12 bytes that leads from here to the answer and to the third word, which the answer leaves out: the two
-    /// mixes of its words taken back. So each answer has exactly 2^32 blocks, one for each third word.
+    /// The one block of 12 bytes that leads from here to the answer and to the third word, which the answer leaves
+    /// out: the two mixes of its words taken back. So each answer has exactly 2^32 blocks, one for each third word.
     ///
     /// Proved:
     ///

@@ -100,8 +100,8 @@ impl SpookyHasher {
         self.parts.short_words()
     }
 
-    /// The twelve words that a text of 192 bytes and more ends in, the first two of which are its hash; `None` exactly below 192
-    /// bytes.
+    /// The twelve words that a text of 192 bytes and more ends in, the first two of which are its hash; `None`
+    /// exactly below 192 bytes.
     ///
     /// Proved:
     ///

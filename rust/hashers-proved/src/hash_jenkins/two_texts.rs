@@ -119,8 +119,8 @@ pub fn differ_in_one_stretch(x: &[u8], y: &[u8]) -> bool {
     }
 }
 
-// Whether the texts have one length, of 192 bytes or more, and differ, but only within eleven neighbouring words of the whole
-// blocks of 96 bytes, or behind these.
+// Whether the texts have one length, of 192 bytes or more, and differ, but only within eleven neighbouring words of
+// the whole blocks of 96 bytes, or behind these.
 /// Proved:
 ///
 /// ```text
@@ -139,8 +139,8 @@ fn differ_in_words(x: &[u8], y: &[u8]) -> bool {
     }
 }
 
-/// Whether the texts have one length and differ, but only within one of lookup3's blocks of twelve bytes. Where so, they lead from
-/// any two words to other words a, b and c. Computes no hash.
+/// Whether the texts have one length and differ, but only within one of lookup3's blocks of twelve bytes. Where so,
+/// they lead from any two words to other words a, b and c. Computes no hash.
 ///
 /// Proved:
 ///
@@ -153,8 +153,8 @@ pub fn apart_by_block(x: &[u8], y: &[u8]) -> bool {
     differ_in_one_block(x, y)
 }
 
-/// Whether the texts are shorter than 192 bytes, have one length and differ, but only in what SpookyHash adds between two mixes.
-/// Where so, the four `short_words` of the two texts differ under all seeds. Computes no hash.
+/// Whether the texts are shorter than 192 bytes, have one length and differ, but only in what SpookyHash adds between
+/// two mixes. Where so, the four `short_words` of the two texts differ under all seeds. Computes no hash.
 ///
 /// Proved:
 ///
@@ -167,9 +167,9 @@ pub fn apart_by_stretch(x: &[u8], y: &[u8]) -> bool {
     x.len() < LONG && differ_in_one_stretch(x, y)
 }
 
-/// Whether the texts have one length, of 192 bytes or more, and differ, but only within 88 bytes of their whole blocks of 96, from a
-/// place that 8 divides, or only within what is left behind the whole blocks. Where so, the twelve `long_words` of the two texts
-/// differ under all seeds. Computes no hash.
+/// Whether the texts have one length, of 192 bytes or more, and differ, but only within 88 bytes of their whole
+/// blocks of 96, from a place that 8 divides, or only within what is left behind the whole blocks. Where so, the
+/// twelve `long_words` of the two texts differ under all seeds. Computes no hash.
 ///
 /// Proved:
 ///

@@ -353,8 +353,8 @@ fn ending<P: Polynomial>(hash: u64, answer: u64) -> [u8; 4] {
     (word ^ before).to_le_bytes()
 }
 
-/// The one ending of four bytes behind a text with this CRC-32 that makes the CRC-32 of the whole the answer. Of both numbers the
-/// low 32 bits count.
+/// The one ending of four bytes behind a text with this CRC-32 that makes the CRC-32 of the whole the answer. Of both
+/// numbers the low 32 bits count.
 ///
 /// Proved:
 ///
