@@ -1,5 +1,8 @@
 //! What a caller does: maps, parts, undoing, two texts joined.
-use hashers_proved::jenkins::spooky_hash::{spooky128, spooky128_v1, SpookyHasher};
+use hashers_proved::jenkins::{
+    spooky_hash::{spooky128, spooky128_v1, SpookyHasher},
+    stretch::stretch_for,
+};
 use hashers_proved::{fnv::*, fx_hash::*, jenkins::*, more::*, null::*, oz::*, pigeon::*};
 use std::collections::{HashMap, HashSet};
 use std::fmt::Debug;
@@ -98,6 +101,9 @@ fn texts_are_led_to_an_answer() {
     assert_eq!(crc32(&[text, &crc32_ending(crc32(text), 7)].concat()), 7);
     assert_eq!(crc32c(&[text, &crc32c_ending(crc32c(text), 7)].concat()), 7);
     assert_eq!(lookup3(&Lookup3Hasher::new(0, 0).block_for(7, 8)), 7);
+    let (front, back) = ([1u8; 48].as_slice(), b"the rest".as_slice());
+    let stretch = stretch_for(1, 2, front, back, [3, 4, 5, 6]);
+    assert_eq!(spooky128(&[front, &stretch, back].concat(), 1, 2), (3, 4));
     assert_eq!(fxhash(&FxHasher::default().word_for(7).to_le_bytes()), 7);
     assert_eq!(fxhash32(&FxHasher32::default().word_for(7).to_le_bytes()), 7);
 }
