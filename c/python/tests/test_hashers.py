@@ -259,7 +259,7 @@ class Hashes(unittest.TestCase):
         self.assertEqual(len(example), 1)
         with contextlib.redirect_stdout(io.StringIO()) as said:
             exec(example[0], {})
-        self.assertEqual(said.getvalue().strip(), example[0].strip().split("  # ")[1])
+        self.assertEqual(said.getvalue().strip(), example[0].strip().split("  # prints ")[1])
 
     def test_the_forged_text(self) -> None:
         page = (C.parent / "docs" / "CHOOSING.md").read_text(encoding="utf-8")
@@ -267,7 +267,7 @@ class Hashes(unittest.TestCase):
         self.assertEqual(len(example), 1)
         with contextlib.redirect_stdout(io.StringIO()) as said:
             exec(example[0], {})
-        self.assertEqual(said.getvalue().strip(), example[0].strip().split("  # ")[1])
+        self.assertEqual(said.getvalue().strip(), example[0].strip().split("  # prints ")[1])
 
     def test_the_page(self) -> None:
         # Each line of the page's example runs, and the literals behind # are what it gives.
