@@ -108,6 +108,43 @@ fn windows() {
     assert!(laws::same_word(b"abcdef", b"abcdef") && !laws::same_word(b"abcdef", b"abcdeg"));
 }
 
+/// The windows of the mixing hashes, by all places where two texts of one length differ: where they are exact, the words differ.
+#[test]
+fn windows_of_mixing() {
+    let mut r = Random(2463534242);
+    let mut said = [0; 3];
+    for _ in 0..20_000 {
+        let n = 1 + r.below(330);
+        let x = r.bytes(n);
+        let mut y = x.clone();
+        for from in [r.below(n as u64), r.below(n as u64)] {
+            let to = n.min(from + r.below(100));
+            y[from..to].iter_mut().for_each(|byte| *byte ^= 1 << r.below(8));
+            if r.below(2) == 0 {
+                break;
+            }
+        }
+        let places: Vec<usize> = (0..n).filter(|&i| x[i] != y[i]).collect();
+        let alike = |of: &dyn Fn(usize) -> usize| !places.is_empty() && places.iter().all(|&i| of(i) == of(places[0]));
+        let (block, stretch) = (alike(&|i| i / 12), alike(&|i| (i + 16) / 32));
+        let whole = n / 96 * 96;
+        let within = |from: usize| places.iter().all(|i| (from..from + 88).contains(i));
+        let words = n >= 192 && !places.is_empty() && ((0..=(whole - 88) / 8).any(|w| within(8 * w)) || places[0] >= whole);
+        assert_eq!((laws::differ_in_one_block(&x, &y), laws::differ_in_one_stretch(&x, &y)), (block, stretch), "{x:?} {y:?}");
+        let apart = [laws::apart_by_block(&x, &y), laws::apart_by_stretch(&x, &y), laws::apart_by_words(&x, &y)];
+        assert_eq!(apart, [block, stretch && n < 192, words], "{x:?} {y:?}");
+        let (h, [a, b]) = (Lookup3Hasher::new(7, 11), [&x, &y].map(|text| {
+            let mut h = SpookyHasher::new(1, 2);
+            h.write(text);
+            (h.short_words(), h.long_words())
+        }));
+        assert!(!apart[0] || h.piece_words(&x) != h.piece_words(&y));
+        assert!(!apart[1] && !apart[2] || a != b);
+        apart.iter().zip(&mut said).for_each(|(answer, count)| *count += *answer as u32);
+    }
+    assert!(said.iter().all(|&n| n > 500), "{said:?}");
+}
+
 #[test]
 fn rounds_and_their_inverses() {
     let mut r = Random(1181783497276652981);
