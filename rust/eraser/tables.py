@@ -2,8 +2,8 @@
 
 # Of each Rust crate the Rattle crates whose sources become its modules, in the order in which they stand on one another.
 RUST_CRATES = {
-    "hashers-proved": ["hash_rounds", "hash_laws", "hash_rules", "hash_fx", "hash_jenkins", "hash_bytes", "hashers", "hash_more",
-                       "hash_keyed", "hash_bloom"],
+    "hashers-proved": ["hash_rounds", "hash_laws", "hash_rules", "hash_writes", "hash_fx", "hash_jenkins", "hash_bytes", "hash_crc", "hashers",
+                       "hash_more", "hash_keyed", "hash_bloom"],
     "hashers-c": ["hash_names", "hash_c"],
 }
 CRATES = RUST_CRATES["hashers-proved"]
@@ -21,10 +21,10 @@ ALLOW = {
     "hash_bytes/fnv": ("dead_code", "The law origin_of_constants alone reads SIGNATURE, the text of which the starts are the hash"),
     "hash_bytes/oz": ("unused_imports", "Clauses name Hasher"),
     "hash_rounds/turns": ("dead_code", "The counter of calls is ghost: nothing of it is kept at run time, and clauses alone read it"),
-    "hash_fx/fx": ("unused_imports", "Clauses name FxWord"),
+    "hash_fx/hasher": ("unused_imports", "Clauses name Word"),
     "hash_jenkins/spooky_short": ("unused_variables", "The clauses of short_words_v1 name len"),
-    "hash_laws/build": ("unused_imports", "The clauses of hash_one name Hasher"),
-    "hash_more/crc32": ("unused_imports", "Clauses name Hasher"),
+    "hash_writes/build": ("unused_imports", "The clauses of hash_one name Hasher"),
+    "hash_crc/crc32": ("unused_imports", "Clauses name Hasher"),
     "hash_keyed/words": ("unused_labels", "Proofs name the loops"),
     "hash_bloom/bits": ("unused_variables", "The clauses of ones name bits"),
     "hash_names/table": ("dead_code", "The programs read the rest of a row"),
@@ -38,7 +38,7 @@ LEFT_OUT = {
 
 # Paragraphs that a module's documentation has more in Rust.
 NOTES = {
-    "hash_laws/build": """\
+    "hash_writes/build": """\
 That is Rattle's std, where each item is a write of its own. Rust's std feeds the same bytes, but those of a slice of bytes at once.
 Where cuts don't show, both hashes are one, and [`hash_one_slice`] holds. Where they show, under fx and lookup3, they differ, so
 `hash_one_slice_in_writes` and `hash_one_slice_fx` of the Rattle text are left out here. The proofs also take numbers to be fed as

@@ -1,30 +1,18 @@
 -- The hashes of two texts that differ within a window are different.
-use Rattle.std.proofs.Common.{◌≡◌, ◌≢◌, ◌↔◌, ℕ, ◌^◌, ◌<◌, Bool, IsTrue, List, fold, get_or, Fits, w8, lit<, sym, ◌∙◌}
-use Rattle.std.specs.Bool.{OnTrue}
-use Rattle.std.proofs.lemmas.Bool.{OnTrue_from}
+use Rattle.std.proofs.Common.{◌≡◌, ◌≢◌, ℕ, ◌^◌, ◌<◌, List, lit<}
 use Rattle.hash_bytes.specs.Oz.{djb2_step}
 use Rattle.hash_bytes.specs.Fnv.{fnv1a32_step, fnv1a64_step}
-use Rattle.hash_rounds.specs.Sums.{sdbm_from}
-use Rattle.hash_rounds.specs.Sums.{sdbm_step}
+use Rattle.hash_rounds.specs.Sums.{sdbm_from, sdbm_step}
 use Rattle.hash_rounds.proofs.SumLemmas.{sdbm_sums}
 use Rattle.hash_laws.specs.Text.{IsText}
 use Rattle.hash_laws.specs.DifferWithin.{DifferWithin}
 use Rattle.hash_laws.proofs.RecurrenceLemmas.{recurrence_is_fold}
-use Rattle.hash_laws.proofs.TextLemmas.{IsText-from_slice}
-use Rattle.hash_laws.proofs.Windows.{DifferWithin-fold, Separates}
+use Rattle.hash_laws.proofs.Windows.{hash_apart}
 use Rattle.hash_bytes.specs.Fnv.{fnv1a32_from, fnv1a32_basis, fnv1a64_from, fnv1a64_basis}
 use Rattle.hash_bytes.specs.Oz.{djb2_from}
 use Rattle.hash_bytes.proofs.Djb2Window.{djb2_separates, spread_after, Near}
 use Rattle.hash_bytes.proofs.SdbmWindow.{sdbm_separates, SdbmApart}
 use Rattle.hash_bytes.proofs.FnvWindows.{fnv1a32_separates, fnv1a64_separates, Fnv32Apart, Fnv64Apart}
-
--- where the hash is the fold of a step that separates two texts, it tells them apart
-pub hash_apart : (step : ℕ → ℕ → ℕ) (bound places mask : ℕ) (Apart : ℕ → ℕ → ℕ → Type 0) → Separates step (λ s. s < bound) places mask Apart
-    → (hash : ℕ → List ℕ → ℕ) → ((s : ℕ) (text : List ℕ) → s < bound → hash s text ≡ fold step s text)
-    → (start : ℕ) (x y : List ℕ) → start < bound → IsText x → IsText y → DifferWithin places mask x y → hash start x ≢ hash start y
-hash_apart step bound places mask Apart laws hash is_fold start x y known xs ys window same =
-    DifferWithin-fold step (λ s. s < bound) places mask Apart laws start x y known xs ys window
-    (sym (is_fold start x known) ∙ same ∙ is_fold start y known)
 
 pub djb2_apart : (x y : List ℕ) → IsText x → IsText y → DifferWithin 6 0xE0 x y → djb2_from 5381 x ≢ djb2_from 5381 y
 djb2_apart x y = hash_apart djb2_step (2 ^ 32) 6 224 (λ n. Near (spread_after n)) djb2_separates djb2_from
@@ -42,11 +30,3 @@ pub fnv1a64_apart : (x y : List ℕ) → IsText x → IsText y → DifferWithin 
     → fnv1a64_from fnv1a64_basis x ≢ fnv1a64_from fnv1a64_basis y
 fnv1a64_apart x y = hash_apart fnv1a64_step (2 ^ 64) 3 0 Fnv64Apart fnv1a64_separates fnv1a64_from
     (recurrence_is_fold fnv1a64_step (2 ^ 64)) fnv1a64_basis x y (lit< tt)
-
--- a test that is true just where two texts differ within a window tells them apart
-pub window_tells_apart : {places mask : ℕ} {hash : List ℕ → ℕ}
-    → ((x y : List ℕ) → IsText x → IsText y → DifferWithin places mask x y → hash x ≢ hash y)
-    → (x y : List ℕ) → ((i : ℕ) → Fits w8 (get_or x i 0)) → ((i : ℕ) → Fits w8 (get_or y i 0))
-    → (told : Bool) → (IsTrue told ↔ DifferWithin places mask x y) → OnTrue told (hash x ≢ hash y)
-window_tells_apart apart x y xs ys told window =
-    OnTrue_from told _ (λ is. apart x y (IsText-from_slice x xs) (IsText-from_slice y ys) (window.0 is))

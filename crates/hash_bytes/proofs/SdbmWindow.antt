@@ -1,7 +1,7 @@
 -- Why two texts that differ within three places have different sdbm hashes.
 use Rattle.std.proofs.Common.{◌≡◌, ℕ, zero, suc, ◌+◌, ◌*◌, ◌%◌, ◌^◌, ◌<◌, ◌≢◌, arith}
 use Rattle.hash_rounds.specs.Sums.{sdbm_step}
-use Rattle.hash_rounds.proofs.SumStepLemmas.{sdbm_facts}
+use Rattle.hash_bytes.specs.OzLaws.{sdbm_facts}
 use Rattle.hash_laws.proofs.Windows.{Separates}
 use Rattle.hash_bytes.proofs.WindowSpreads.{IsState32, OneByte, TwoBytes, separates}
 

@@ -1,7 +1,7 @@
 -- How far apart two states are, modulo m, as products of a step's multiplier with small differences.
 use Rattle.std.proofs.Common.{◌≡◌, ℕ, suc, ◌+◌, ◌*◌, ◌/◌, ◌%◌, ◌^◌, ◌<◌, ◌≢◌, ap, sym, ◌∙◌, arith}
 use Rattle.std.proofs.Math.Nat.{mod-add-mod}
-use Rattle.hash_rounds.specs.StepFacts.{StepFacts}
+use Rattle.hash_laws.specs.StepFacts.{StepFacts}
 use Rattle.hash_laws.proofs.Windows.{Separates}
 
 abbrev pub IsState32 : ℕ → Type 0

@@ -1,7 +1,7 @@
 -- The steps of FNV-1a stay in range and are injective, and what undoes them.
 use Rattle.std.proofs.Common.{◌≡◌, ℕ, ◌*◌, ◌%◌, ◌^◌, ◌<◌, bit_xor, ap, ◌∙◌, arith, lit<}
 use Rattle.std.proofs.Math.Nat.{mod-lt}
-use Rattle.hash_rounds.specs.StepFacts.{StepFacts}
+use Rattle.hash_laws.specs.StepFacts.{StepFacts}
 use Rattle.hash_rounds.proofs.XorLemmas.{xor_twice, xor_cancel, xor_cancel_left, xored_32, xored_64}
 use Rattle.hash_bytes.specs.Fnv.{fnv1a32_step, fnv1a64_step}
 

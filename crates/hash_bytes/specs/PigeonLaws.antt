@@ -1,7 +1,7 @@
 -- The step of Bricolage stays in range and is injective, and what undoes it.
 use Rattle.std.proofs.Common.{◌≡◌, ℕ, ◌+◌, ◌-◌, ◌*◌, ◌%◌, ◌^◌, ◌<◌, sym, ap, ◌∙◌, arith}
 use Rattle.std.proofs.lemmas.Nat.{mod_below, pow_pos}
-use Rattle.hash_rounds.specs.StepFacts.{StepFacts}
+use Rattle.hash_laws.specs.StepFacts.{StepFacts}
 use Rattle.hash_rounds.specs.Words.{swap_halves}
 use Rattle.hash_rounds.specs.Shuffle.{shuffle, unshuffle}
 use Rattle.hash_rounds.proofs.ShuffleLemmas.{shuffle-lt, unshuffle-shuffle}

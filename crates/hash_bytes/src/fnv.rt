@@ -5,9 +5,9 @@ ghost use Rattle.std.proofs.Common.{lit<};
 ghost use Rattle.hash_bytes.specs.Fnv.{fnv1a32_step, fnv1a64_step, fnv0, fnv1a32_basis, fnv1a32_from, fnv1a64_basis, fnv1a64_from, fnv1a32_of, fnv1a64_of};
 ghost use Rattle.hash_bytes.specs.FnvLaws.{fnv1a32_facts, fnv1a64_facts};
 
-use hash_laws::build::BuildFresh;
 use hash_laws::traits::hash_of;
 use hash_rules::{ByteHasher, Plain, PlainRule, PlainUndo};
+use hash_writes::build::BuildFresh;
 use std::collections::{HashMap, HashSet};
 
 /// The start at 32 bits, which the authors call the offset basis.

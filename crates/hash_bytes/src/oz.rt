@@ -3,8 +3,7 @@ ghost use Rattle.std.specs.Prelude.{◌≡◌, ◌^◌, ◌+◌, ◌-◌, ◌*�
 ghost use Rattle.std.proofs.Common.{lit<};
 ghost use Rattle.hash_rounds.specs.Sums.{sdbm_from, loselose_from, sdbm_step, loselose_step};
 ghost use Rattle.hash_bytes.specs.Oz.{djb2_step, djb2_from, djb2_of};
-ghost use Rattle.hash_bytes.specs.OzLaws.{djb2_facts};
-ghost use Rattle.hash_rounds.proofs.SumStepLemmas.{sdbm_facts, loselose_facts};
+ghost use Rattle.hash_bytes.specs.OzLaws.{djb2_facts, loselose_facts, sdbm_facts};
 ghost use Rattle.hash_rounds.proofs.SumLemmas.{sdbm_sums, loselose-fold};
 ghost use Rattle.hash_bytes.specs.CountedSum.{sdbm_write, loselose_write};
 
@@ -121,7 +120,7 @@ fn sdbm_step(state: u32, byte: u8) -> u32
 
 /// One byte of sdbm back.
 #[inline(always)]
-#[tactic(auto, using(hash_rounds::proofs::SumStepLemmas::sdbm_back))]
+#[tactic(auto, using(crate::specs::OzLaws::sdbm_back))]
 fn sdbm_unstep(state: u32, byte: u8) -> u32
     ensures { (65599 * result + byte) % 2 ^ 32 ≡ state }
 {
@@ -293,7 +292,7 @@ fn loselose_step(state: u64, byte: u8) -> u64
 
 /// One byte of lose lose back.
 #[inline(always)]
-#[tactic(auto, using(hash_rounds::proofs::SumStepLemmas::loselose_back))]
+#[tactic(auto, using(crate::specs::OzLaws::loselose_back))]
 fn loselose_unstep(state: u64, byte: u8) -> u64
     ensures { (result + byte) % 2 ^ 64 ≡ state }
 {

@@ -4,7 +4,7 @@ use Rattle.std.proofs.lemmas.List.{take_all, drop_all}
 use Rattle.std.proofs.lemmas.Nat.{xor_comm, xor_lt, mod_below, pow_pos}
 use Rattle.std.specs.Hash.{le_bytes}
 use Rattle.hash_rounds.specs.Blocks.{pieces}
-use Rattle.hash_rounds.specs.StepFacts.{StepFacts}
+use Rattle.hash_laws.specs.StepFacts.{StepFacts}
 use Rattle.hash_rounds.specs.Words.{le, rotl}
 use Rattle.hash_rounds.proofs.PieceLemmas.{le-lt, le-same}
 use Rattle.hash_rounds.proofs.WordLemmas.{rotl-lt, le-to_le_bytes-32, le-to_le_bytes-64}

@@ -6,7 +6,7 @@ use Rattle.std.proofs.Math.Path.{ap₂}
 use Rattle.std.proofs.lemmas.List.Sums.{fold-append}
 use Rattle.std.proofs.lemmas.List.Elements.{All-nil, All-head, All-tail, All-append}
 use Rattle.hash_fx.specs.Fx.{fx32_step, fx64_step}
-use Rattle.hash_rounds.specs.StepFacts.{StepFacts}
+use Rattle.hash_laws.specs.StepFacts.{StepFacts}
 use Rattle.hash_fx.specs.FxStepLaws.{fx32_facts, fx64_facts}
 use Rattle.hash_laws.specs.Text.{IsText, joined, texts}
 use Rattle.hash_laws.specs.Recurrence.{recurrence}

@@ -3,7 +3,7 @@ use Rattle.std.proofs.Common.{◌≡◌, ℕ, ◌-◌, ◌*◌, ◌%◌, ◌^◌
 use Rattle.std.proofs.lemmas.Nat.{xor_lt, mod_below, pow_pos}
 use Rattle.hash_rounds.specs.Words.{rotl}
 use Rattle.hash_fx.specs.Fx.{fx64_step, fx32_step}
-use Rattle.hash_rounds.specs.StepFacts.{StepFacts}
+use Rattle.hash_laws.specs.StepFacts.{StepFacts}
 use Rattle.hash_rounds.proofs.WordLemmas.{rotl-lt, rotl-rotl}
 use Rattle.hash_rounds.proofs.XorLemmas.{xor_cancel, xor_cancel_left}
 

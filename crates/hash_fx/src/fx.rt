@@ -1,94 +1,9 @@
-//! The hashers of fx.
-ghost use Rattle.std.specs.Prelude.{◌≡◌, ◌^◌, ◌<◌};
-ghost use Rattle.std.proofs.Common.{subst, sym};
-ghost use Rattle.std.proofs.lemmas.Nat.{pow_pos};
-ghost use Rattle.hash_laws.specs.Recurrence.{recurrence};
-ghost use Rattle.hash_laws.proofs.RecurrenceLemmas.{recurrence-fold};
+//! The three types of fx, and the hash of a whole text by each.
+ghost use Rattle.std.specs.Prelude.{◌≡◌};
 ghost use Rattle.hash_fx.specs.Fx.{fx32, fx64, words32, words64};
 
-use crate::word::{FxSplit, FxWord};
+use crate::hasher::WordHasher;
 use hash_laws::traits::hash_of;
-use hash_rules::{WordHasher, WordRule};
-use std::marker::PhantomData;
-
-/// The rule of fx by words of a width.
-pub struct FxRule<W> {
-    word: PhantomData<W>,
-}
-
-/// The rule of fx at 32 bits.
-pub type Fx32Rule = FxRule<u32>;
-
-/// The rule of fx at 64 bits.
-pub type Fx64Rule = FxRule<u64>;
-
-impl<W: FxSplit> WordRule for FxRule<W> {
-    type Word = W;
-
-    ghost number = { W.number };
-
-    ghost bound = { 2 ^ W.bits };
-
-    ghost start = { W.word_of 0 };
-
-    ghost step = { W.step };
-
-    ghost words = { W.words };
-
-    ghost after = { λ s piece. recurrence W.step s (W.words piece) };
-
-    ghost write = { λ s piece. W.word_of (recurrence W.step (W.number s) (W.words piece)) };
-
-    fn start() -> W {
-        W::byte(0)
-    }
-
-    #[inline(always)]
-    fn write(state: W, piece: &[u8]) -> W {
-        state.words_in(piece).known()
-    }
-
-    #[inline(always)]
-    fn whole(text: &[u8]) -> u64 {
-        W::whole(text)
-    }
-
-    #[inline(always)]
-    fn unwrite(state: W, piece: &[u8]) -> W {
-        state.words_out(piece).known()
-    }
-
-    #[inline(always)]
-    fn unstep(state: W, word: W) -> W {
-        state.word_out(word.known())
-    }
-
-    #[inline(always)]
-    fn word_to(state: W, to: W) -> W {
-        state.word_to(to).known()
-    }
-
-    #[inline(always)]
-    fn answer(state: W) -> u64 {
-        state.widened()
-    }
-
-    fn unanswer(hash: u64) -> Option<W> {
-        W::narrowed(hash)
-    }
-
-    ghost start_in_range = { subst (λ n. n < 2 ^ W.bits) (sym (W.number_of_word 0)) (pow_pos W.bits) };
-
-    ghost facts = { W.facts };
-
-    ghost words_in_range = { W.words_in_range };
-
-    ghost no_words = { W.no_words };
-
-    ghost is_fold = { λ s piece. recurrence-fold W.step s (W.words piece) };
-
-    ghost write_is_after = { λ s piece. W.number_of_word _ };
-}
 
 /// fx at 32 bits. From 0, a word `v` takes the state `h` to `(rotl(h, 5) ^ v) * 0x27220a95`, modulo 2^32; this key is the
 /// low half of the one at 64 bits. `finish` answers `h`, widened.
@@ -98,7 +13,7 @@ impl<W: FxSplit> WordRule for FxRule<W> {
 ///
 /// Contracts see the hasher as its state, a number below 2^32: `write` gives `h.new ≡ fx32 h.old (words32 piece.now)`, and
 /// `unwrite_word(v)` gives `fx32_step h.new v ≡ h.old`. Of `a` the hash is 3555066485.
-pub type FxHasher32 = WordHasher<Fx32Rule>;
+pub type FxHasher32 = WordHasher<u32>;
 
 /// fx at 64 bits, which came from Firefox's hash tables to those of rustc (the crate fxhash has its formula and key).
 ///
@@ -108,14 +23,14 @@ pub type FxHasher32 = WordHasher<Fx32Rule>;
 ///
 /// Contracts see the hasher as its state, a number below 2^64: `write` gives `h.new ≡ fx64 h.old (words64 piece.now)`, and
 /// `unwrite_word(v)` gives `fx64_step h.new v ≡ h.old`. Of `a` the hash is 16160435425421689461.
-pub type FxHasher64 = WordHasher<Fx64Rule>;
+pub type FxHasher64 = WordHasher<u64>;
 
 /// The name of fx at the width of a machine word.
 pub struct MachineWord;
 
 /// fx at the width of a machine word, which here is always 64 bits: a type of its own that splits, hashes and answers as
 /// [`FxHasher64`] does, with the same contracts. Of `a` the hash is 16160435425421689461.
-pub type FxHasher = WordHasher<Fx64Rule, MachineWord>;
+pub type FxHasher = WordHasher<u64, MachineWord>;
 
 /// The answer of a default `FxHasher32` to the bytes as one write, below 2^32.
 #[inline(always)]

@@ -3,7 +3,7 @@ ghost use Rattle.std.specs.Prelude.{◌≡◌, ◌∷◌, [], length};
 ghost use Rattle.hash_fx.specs.Fx.{fx64};
 
 use crate::fx::FxHasher;
-use hash_laws::build::{
+use hash_writes::build::{
     BuildFresh, hash_one_number, hash_one_pair_in_writes, hash_one_slice_in_writes,
 };
 use std::collections::{HashMap, HashSet};

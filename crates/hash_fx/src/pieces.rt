@@ -10,16 +10,16 @@ ghost use Rattle.hash_laws.specs.Exactly.{ExactlyTexts};
 ghost use Rattle.hash_laws.specs.Text.{IsText, joined, texts};
 ghost use Rattle.hash_fx.specs.Pieces.{AreWhole, DifferByOneByte, DifferByOneWord, fx32_pieces, fx64_pieces};
 
-use crate::fx::{Fx64Rule, FxHasher32, FxHasher64};
+use crate::fx::{FxHasher32, FxHasher64};
+use crate::hasher::WordHasher;
 use crate::word::FxSplit;
 use hash_laws::window::differ_at_one_place;
-use hash_rules::WordHasher;
 use std::hash::Hasher;
 
 /// Writes the pieces in order. The state is that after one write of the joined bytes, since the length of each piece but
 /// the last is a multiple of eight, so that no cut falls into a word. There may be no pieces at all. It takes either type
 /// of 64 bits.
-pub fn run_words<Name>(h: &mut WordHasher<Fx64Rule, Name>, pieces: &[&[u8]])
+pub fn run_words<Name>(h: &mut WordHasher<u64, Name>, pieces: &[&[u8]])
     requires { AreWhole 8 pieces.now }
     ensures { h.new ≡ fx64 h.old (words64 (joined pieces.now)) }
 {

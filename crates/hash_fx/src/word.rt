@@ -1,7 +1,7 @@
 //! A word of fx, and what of it hangs on its width.
 ghost use Rattle.std.specs.Prelude.{◌≡◌, ◌<◌, ◌^◌, ◌↔◌, ℕ, List, [], All, length, IsSome, IfSome};
 ghost use Rattle.hash_rounds.specs.Words.{le};
-ghost use Rattle.hash_rounds.specs.StepFacts.{StepFacts};
+ghost use Rattle.hash_laws.specs.StepFacts.{StepFacts};
 ghost use Rattle.hash_laws.specs.Recurrence.{recurrence};
 ghost use Rattle.hash_laws.specs.Text.{IsText};
 ghost use Rattle.hash_fx.specs.Fx.{fx32_step, fx64_step, words32, words64};

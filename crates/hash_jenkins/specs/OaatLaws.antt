@@ -1,6 +1,6 @@
 -- The step and the last mix of one-at-a-time stay in range and are injective, and what undoes them.
 use Rattle.std.proofs.Common.{◌≡◌, ℕ, ◌+◌, ◌-◌, ◌*◌, ◌%◌, ◌^◌, ◌<◌, ap, ◌∙◌, arith}
-use Rattle.hash_rounds.specs.StepFacts.{StepFacts}
+use Rattle.hash_laws.specs.StepFacts.{StepFacts}
 use Rattle.hash_rounds.specs.Words.{xorshift}
 use Rattle.hash_rounds.proofs.XorshiftLemmas.{xorshift-lt, same_from_xorshift}
 use Rattle.hash_jenkins.specs.Oaat.{oaat_step, oaat_finish}

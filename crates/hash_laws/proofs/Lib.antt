@@ -5,7 +5,6 @@ pub mod ExactlyLemmas
 pub mod FoldLemmas
 pub mod FrameLemmas
 pub mod ItemLemmas
-pub mod KeyLemmas
 pub mod PairLemmas
 pub mod ReadingLemmas
 pub mod RecurrenceLemmas
@@ -13,5 +12,4 @@ pub mod SumLemmas
 pub mod TextLemmas
 pub mod Windows
 pub mod WindowTest
-pub mod WriteLemmas
 pub mod KnownText

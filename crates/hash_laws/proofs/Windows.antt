@@ -1,15 +1,17 @@
 -- Two texts whose bytes differ within a few neighbouring places lead to different states, where the step keeps
 -- different states different and separates two states place by place.
-use Rattle.std.proofs.Common.{◌≡◌, ◌≢◌, ℕ, zero, suc, ◌+◌, ◌-◌, ◌<◌, ◌≤◌, List, [], ◌∷◌, length, get_or, fold, arith, refl, ap, sym, ◌∙◌, inl, inr, ⊎_elim}
+use Rattle.std.proofs.Common.{◌≡◌, ◌≢◌, ℕ, zero, suc, ◌+◌, ◌-◌, ◌<◌, ◌≤◌, List, [], ◌∷◌, length, get_or, fold, arith, refl, ap, sym, ◌∙◌, inl, inr, ⊎_elim, ◌↔◌, Bool, IsTrue, Fits, w8}
 use Rattle.std.proofs.Math.Path.{ap₂}
 use Rattle.std.proofs.lemmas.Bool.{cases_eq, cases_lt}
 use Rattle.std.proofs.lemmas.List.{ext_get_or}
 use Rattle.std.proofs.lemmas.List.Elements.{All-head, All-tail}
 use Rattle.std.specs.Int.Bits.{bit_and}
+use Rattle.std.specs.Bool.{OnTrue}
+use Rattle.std.proofs.lemmas.Bool.{OnTrue_from}
 use Rattle.hash_laws.specs.Text.{IsText}
 use Rattle.hash_laws.specs.DifferWithin.{DifferWithin, AgreeOutside, AgreeUnder}
 use Rattle.hash_laws.proofs.FoldLemmas.{fold_cancels}
-use Rattle.hash_laws.proofs.TextLemmas.{IsByte}
+use Rattle.hash_laws.proofs.TextLemmas.{IsByte, IsText-from_slice}
 
 -- a step on states that separates two of them by `places` neighbouring bytes that agree under the mask: `Apart n`
 -- relates the states that the first place at which the bytes differ and n further places have led to
@@ -89,3 +91,19 @@ Separates-one step is_state in_range state_injective same_byte = record {
   next = λ n s t a b fits ks kt sa sb mask far. absurd (omega arith);
   apart = λ n s t far. far;
 }
+
+-- where the hash is the fold of a step that separates two texts, it tells them apart
+pub hash_apart : (step : ℕ → ℕ → ℕ) (bound places mask : ℕ) (Apart : ℕ → ℕ → ℕ → Type 0) → Separates step (λ s. s < bound) places mask Apart
+    → (hash : ℕ → List ℕ → ℕ) → ((s : ℕ) (text : List ℕ) → s < bound → hash s text ≡ fold step s text)
+    → (start : ℕ) (x y : List ℕ) → start < bound → IsText x → IsText y → DifferWithin places mask x y → hash start x ≢ hash start y
+hash_apart step bound places mask Apart laws hash is_fold start x y known xs ys window same =
+    DifferWithin-fold step (λ s. s < bound) places mask Apart laws start x y known xs ys window
+    (sym (is_fold start x known) ∙ same ∙ is_fold start y known)
+
+-- a test that is true just where two texts differ within a window tells them apart
+pub window_tells_apart : {places mask : ℕ} {hash : List ℕ → ℕ}
+    → ((x y : List ℕ) → IsText x → IsText y → DifferWithin places mask x y → hash x ≢ hash y)
+    → (x y : List ℕ) → ((i : ℕ) → Fits w8 (get_or x i 0)) → ((i : ℕ) → Fits w8 (get_or y i 0))
+    → (told : Bool) → (IsTrue told ↔ DifferWithin places mask x y) → OnTrue told (hash x ≢ hash y)
+window_tells_apart apart x y xs ys told window =
+    OnTrue_from told _ (λ is. apart x y (IsText-from_slice x xs) (IsText-from_slice y ys) (window.0 is))

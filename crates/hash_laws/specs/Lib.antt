@@ -3,6 +3,6 @@ pub mod Exactly
 pub mod Reading
 pub mod Recurrence
 pub mod Standing
+pub mod StepFacts
 pub mod Text
-pub mod Writes
 pub mod DifferWithin

@@ -1,6 +1,6 @@
 -- The step of djb2 with a sum stays in range and is injective, and what undoes it.
 use Rattle.std.proofs.Common.{◌≡◌, ℕ, ◌+◌, ◌-◌, ◌*◌, ◌%◌, ◌^◌, ◌<◌, arith}
-use Rattle.hash_rounds.specs.StepFacts.{StepFacts}
+use Rattle.hash_laws.specs.StepFacts.{StepFacts}
 use Rattle.hash_more.specs.Djb2Add.{djb2_add_step}
 
 pub djb2_add_facts : StepFacts djb2_add_step (2 ^ 32) 256

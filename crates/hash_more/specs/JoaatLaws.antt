@@ -1,7 +1,7 @@
 -- The step and the last mix of one-at-a-time at 32 bits stay in range and are injective, and what undoes them.
 use Rattle.std.proofs.Common.{◌≡◌, ℕ, ◌+◌, ◌-◌, ◌*◌, ◌/◌, ◌%◌, ◌^◌, ◌<◌, ap, ◌∙◌, arith}
 use Rattle.std.proofs.lemmas.Nat.{xor_lt, shr_le}
-use Rattle.hash_rounds.specs.StepFacts.{StepFacts}
+use Rattle.hash_laws.specs.StepFacts.{StepFacts}
 use Rattle.hash_rounds.specs.Words.{xorshift}
 use Rattle.hash_rounds.proofs.XorshiftLemmas.{same_from_xorshift}
 use Rattle.hash_more.specs.Joaat.{joaat_step, joaat_answer}

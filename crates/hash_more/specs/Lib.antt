@@ -1,6 +1,3 @@
-pub mod Bursts
-pub mod Crc32
-pub mod Crc32Laws
 pub mod Djb2Add
 pub mod Djb2AddLaws
 pub mod Elf
@@ -9,3 +6,6 @@ pub mod Fnv1
 pub mod Fnv1Laws
 pub mod Joaat
 pub mod JoaatLaws
+pub use Rattle.hash_crc.specs.Bursts
+pub use Rattle.hash_crc.specs.Crc32
+pub use Rattle.hash_crc.specs.Crc32Laws

@@ -5,7 +5,6 @@
 //! [`crc32::crc32`], [`djb2_add::djb2_add`], [`elf::elf`], [`joaat::joaat`].
 #![tactic(auto)]
 
-pub mod crc32;
 pub mod djb2_add;
 pub mod elf;
 pub mod fnv1;
@@ -14,13 +13,14 @@ pub mod joaat;
 mod tests;
 pub mod windows;
 
-pub use crc32::{
-    Crc32Hasher, Crc32cHasher, crc32_combine, crc32_ending, crc32c, crc32c_combine, crc32c_ending,
-    crcs_are_even,
-};
 pub use djb2_add::Djb2AddHasher;
 pub use elf::ElfHasher;
 pub use fnv1::{Fnv1Hasher32, Fnv1Hasher64, fnv1_32, fnv1_64};
+pub use hash_crc::crc32 as crc32;
+pub use hash_crc::crc32::{
+    Crc32Hasher, Crc32cHasher, crc32_combine, crc32_ending, crc32c, crc32c_combine, crc32c_ending,
+    crcs_are_even,
+};
 pub use joaat::JoaatHasher;
 pub use windows::{
     apart_crc32, apart_crc32_bits, apart_crc32c, apart_crc32c_bits, apart_djb2_add, apart_fnv1_32,

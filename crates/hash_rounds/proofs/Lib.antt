@@ -6,7 +6,6 @@ pub mod RoundLemmas
 pub mod ShuffleLemmas
 pub mod BlockLemmas
 pub mod SumLemmas
-pub mod SumStepLemmas
 pub mod Chunks
 pub mod PieceLemmas
 pub mod MixRuns

@@ -1,6 +1,6 @@
 //! What a hash by the byte says for itself.
 ghost use Rattle.std.specs.Prelude.{◌≡◌, ◌≢◌, ◌<◌, ◌↔◌, ℕ, List, fold, IsSome, IfSome, IfNone};
-ghost use Rattle.hash_rounds.specs.StepFacts.{StepFacts};
+ghost use Rattle.hash_laws.specs.StepFacts.{StepFacts};
 
 /// The first part of a rule by the byte: what is kept, the start, and one byte on. The implementing type is a
 /// name for the rule, and no value of it is made.

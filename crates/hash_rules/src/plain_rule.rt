@@ -1,7 +1,7 @@
 //! What a hash by the byte says for itself where it keeps one word and nothing beside it.
 ghost use Rattle.std.specs.Prelude.{◌≡◌, ◌≢◌, ◌<◌, ◌↔◌, ℕ, IsSome, IfSome, IfNone, refl};
 ghost use Rattle.std.proofs.Common.{subst, sym};
-ghost use Rattle.hash_rounds.specs.StepFacts.{StepFacts};
+ghost use Rattle.hash_laws.specs.StepFacts.{StepFacts};
 ghost use Rattle.hash_laws.specs.Recurrence.{recurrence};
 ghost use Rattle.hash_laws.proofs.RecurrenceLemmas.{recurrence_is_fold};
 

@@ -3,11 +3,11 @@ pub mod TextMapLemmas
 pub mod WordsWritten
 pub use Rattle.hash_laws.proofs.CountLemmas
 pub use Rattle.hash_laws.proofs.SumLemmas
-pub use Rattle.hash_laws.proofs.KeyLemmas
+pub use Rattle.hash_writes.proofs.KeyLemmas
 pub use Rattle.hash_laws.proofs.RecurrenceLemmas
 pub use Rattle.hash_laws.proofs.ReadingLemmas
 pub use Rattle.hash_laws.proofs.TextLemmas
-pub use Rattle.hash_laws.proofs.WriteLemmas
+pub use Rattle.hash_writes.proofs.WriteLemmas
 pub use Rattle.hash_laws.proofs.Windows
 pub use Rattle.hash_rounds.proofs.XorLemmas
 pub use Rattle.hash_rounds.proofs.XorshiftLemmas

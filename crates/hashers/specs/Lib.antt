@@ -7,7 +7,7 @@ pub use Rattle.hash_bytes.specs.Oz
 pub use Rattle.hash_bytes.specs.OzLaws
 pub use Rattle.hash_bytes.specs.Pigeon
 pub use Rattle.hash_bytes.specs.PigeonLaws
-pub use Rattle.hash_rounds.specs.StepFacts
+pub use Rattle.hash_laws.specs.StepFacts
 pub use Rattle.hash_rounds.specs.Sums
 pub use Rattle.hash_laws.specs.Counts
 pub use Rattle.hash_laws.specs.Text
@@ -15,7 +15,7 @@ pub use Rattle.hash_laws.specs.Reading
 pub use Rattle.hash_laws.specs.Recurrence
 pub use Rattle.hash_laws.specs.Standing
 pub use Rattle.hash_laws.specs.DifferWithin
-pub use Rattle.hash_laws.specs.Writes
+pub use Rattle.hash_writes.specs.Writes
 pub use Rattle.hash_fx.specs.Fx
 pub use Rattle.hash_fx.specs.Pieces
 pub use Rattle.hash_jenkins.specs.Lookup3

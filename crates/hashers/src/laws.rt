@@ -26,6 +26,6 @@ pub use hash_laws::traits::{
     string_is_a_text, text_is_its_steps, text_stays_in_range, writes_are_fed,
 };
 pub use hash_laws::window::{differ_at_one_place, first_difference, is_window, texts_of_one_frame};
-pub use hash_laws::writes::{
+pub use hash_writes::writes::{
     HasherWrite, answer_of_writes, run_writes, run_writes_streamed, unrun_writes,
 };

@@ -9,7 +9,7 @@ ghost use Rattle.hash_rounds.specs.Rounds.{lookup3_mix_steps, lookup3_final_step
 ghost use Rattle.hash_rounds.specs.Steps.{apply};
 ghost use Rattle.hash_rounds.specs.Sums.{sdbm_from, loselose_from, passthrough_from};
 ghost use Rattle.hash_laws.specs.Text.{IsText};
-ghost use Rattle.hash_laws.specs.Writes.{written, all_written, joined_written};
+ghost use Rattle.hash_writes.specs.Writes.{written, all_written, joined_written};
 ghost use Rattle.hash_fx.specs.Fx.{fx32, fx32_step, fx64, fx64_step, words32, words64};
 ghost use Rattle.hash_jenkins.specs.Lookup3.{lookup3_from, lookup3_answer};
 ghost use Rattle.hash_jenkins.specs.Oaat.{oaat_state, oaat_finish, oaat_of};
@@ -22,19 +22,18 @@ use hash_bytes::fnv::{FNV1aHasher32, FNV1aHasher64};
 use hash_bytes::null::{NullHasher, PassThroughHasher};
 use hash_bytes::oz::{DJB2Hasher, LoseLoseHasher, SDBMHasher};
 use hash_bytes::pigeon::Bricolage;
-use hash_fx::{FxHasher, FxHasher32, FxHasher64};
+use hash_fx::{FxHasher, FxHasher32, FxHasher64, FxSplit, WordHasher};
 use hash_jenkins::spooky_hash::SpookyHasher;
 use hash_jenkins::{Lookup3Hasher, OAATHasher};
 use hash_laws::traits::{ByteStep, Piecewise, Streamed, Undo};
-use hash_laws::writes::{
-    HasherWrite, answer_of_writes, run_writes, run_writes_streamed, unrun_writes,
-};
 use hash_rounds::{
     lookup3_final, lookup3_mix, lookup3_unfinal, lookup3_unmix, short_end, short_mix,
     spooky_end_partial, spooky_mix, spooky_un_end_partial, spooky_unmix, un_short_end,
     un_short_mix,
 };
-use hash_rules::{WordHasher, WordRule};
+use hash_writes::writes::{
+    HasherWrite, answer_of_writes, run_writes, run_writes_streamed, unrun_writes,
+};
 use std::hash::Hasher;
 use std::slice;
 
@@ -367,19 +366,19 @@ pub fn fxhash64_undone(a: &mut FxHasher64, b: &mut FxHasher64, writes: &[HasherW
 
 /// A write that is one word of an fx type, from any state: made and taken back by `unwrite_word`, and taken back and made.
 /// Which writes are one word `fixed_widths_are_words64` and `fixed_widths_are_words32` say.
-pub fn one_word_undone<R: WordRule, Name>(
-    a: &mut WordHasher<R, Name>,
-    b: &mut WordHasher<R, Name>,
+pub fn one_word_undone<W: FxSplit, Name>(
+    a: &mut WordHasher<W, Name>,
+    b: &mut WordHasher<W, Name>,
     write: &HasherWrite,
-    word: R::Word,
+    word: W,
 ) -> WayBack
-    requires { R.words (written write.now) ≡ R.number word ∷ [] }
-    ensures before { result.before ≡ R.number a.old }
-    ensures there { result.there ≡ R.step (R.number a.old) (R.number word) }
-    ensures there_and_back { R.number a.new ≡ R.number a.old }
-    ensures back { R.step result.back (R.number word) ≡ R.number b.old }
-    ensures in_range { result.back < R.bound }
-    ensures back_and_there { R.number b.new ≡ R.number b.old }
+    requires { W.words (written write.now) ≡ W.number word ∷ [] }
+    ensures before { result.before ≡ W.number a.old }
+    ensures there { result.there ≡ W.step (W.number a.old) (W.number word) }
+    ensures there_and_back { W.number a.new ≡ W.number a.old }
+    ensures back { W.step result.back (W.number word) ≡ W.number b.old }
+    ensures in_range { result.back < 2 ^ W.bits }
+    ensures back_and_there { W.number b.new ≡ W.number b.old }
 {
     let writes = slice::from_ref(write);
     let before = a.answer();

@@ -3,16 +3,17 @@
 //! answers: different states answer differently by the law `answer_injective` of `Undo`, or the answer is the whole state.
 use crate::hash_bytes::null::{NullHasher, PassThroughRule};
 use crate::hash_bytes::oz::{LoseLoseState, SdbmState};
+use crate::hash_fx::{FxSplit, WordHasher};
 use crate::hash_jenkins::spooky_hash::SpookyHasher;
 use crate::hash_jenkins::spooky_parts::SpookyParts;
 use crate::hash_jenkins::{BuildSpooky, Lookup3Hasher};
 use crate::hash_keyed::pair::Poly61Pair;
 use crate::hash_keyed::poly61::Poly61Hasher;
-use crate::hash_laws::build::BuildFresh;
 use crate::hash_laws::traits::Undo;
 use crate::hash_more::elf::ElfHasher;
 use crate::hash_rounds::Turns;
-use crate::hash_rules::{ByteHasher, ByteRule, UndoRule, WordHasher, WordRule};
+use crate::hash_rules::{ByteHasher, ByteRule, UndoRule};
+use crate::hash_writes::build::BuildFresh;
 use core::fmt;
 use core::hash::{BuildHasher, Hasher};
 
@@ -35,7 +36,7 @@ copies! {
     [] SdbmState;
     [] LoseLoseState;
     [R: ByteRule] ByteHasher<R>, R::State;
-    [R: WordRule, Name] WordHasher<R, Name>;
+    [W: FxSplit, Name] WordHasher<W, Name>;
     [] Lookup3Hasher;
     [] NullHasher;
     [] SpookyHasher;
@@ -65,7 +66,7 @@ macro_rules! by_answer {
 
 by_answer! {
     [R: UndoRule] ByteHasher<R>, "ByteHasher";
-    [R: WordRule, Name] WordHasher<R, Name>, "WordHasher";
+    [W: FxSplit, Name] WordHasher<W, Name>, "WordHasher";
     [] ByteHasher<PassThroughRule>, "PassThroughHasher";
     [] Lookup3Hasher, "Lookup3Hasher";
     [] NullHasher, "NullHasher";
@@ -86,7 +87,7 @@ impl<R: UndoRule> ByteHasher<R> {
     }
 }
 
-impl<R: WordRule, Name> WordHasher<R, Name> {
+impl<W: FxSplit, Name> WordHasher<W, Name> {
     /// Takes the last bytes out again: [`Undo::unwrite`], with no import.
     #[inline]
     pub fn unwrite(&mut self, bytes: &[u8]) {

@@ -35,11 +35,15 @@ pub mod hash_laws;
 #[doc(hidden)]
 pub mod hash_rules;
 #[doc(hidden)]
+pub mod hash_writes;
+#[doc(hidden)]
 pub mod hash_fx;
 #[doc(hidden)]
 pub mod hash_jenkins;
 #[doc(hidden)]
 pub mod hash_bytes;
+#[doc(hidden)]
+pub mod hash_crc;
 #[doc(hidden)]
 pub mod hashers;
 #[doc(hidden)]

@@ -2,13 +2,12 @@
 ghost use Rattle.std.specs.Prelude.{◌≡◌, ◌≤◌, ◌%◌, length};
 
 use crate::tests::{all_hold, none_holds, same, same_at};
-use hashers::fx_hash::{Fx64Rule, FxHasher, FxHasher32, FxHasher64, fxhash, fxhash32, fxhash64};
+use hashers::fx_hash::{FxHasher, FxHasher32, FxHasher64, WordHasher, fxhash, fxhash32, fxhash64};
 use hashers::laws::{
     HasherWrite, Piecewise, Undo, apart_by_one_fx, apart_by_one_word_fx32, apart_by_one_word_fx64,
     run_pair, run_words, run_words32, run_words64,
 };
 use hashers::promises::one_word_undone;
-use hashers::rules::WordHasher;
 use std::hash::Hasher;
 use std::process::Abort;
 
@@ -16,8 +15,8 @@ use std::process::Abort;
 // before each and after all.
 #[tactic(auto, using(hash_fx::proofs::FixedWidths::words_of_numbers))]
 fn words_of_64_bits<Name>(
-    a: &mut WordHasher<Fx64Rule, Name>,
-    b: &mut WordHasher<Fx64Rule, Name>,
+    a: &mut WordHasher<u64, Name>,
+    b: &mut WordHasher<u64, Name>,
 ) -> [u64; 6] {
     let byte = one_word_undone(a, b, &HasherWrite::U8(200), 200);
     let four = one_word_undone(a, b, &HasherWrite::U32(0xfedcba98), 0xfedcba98);

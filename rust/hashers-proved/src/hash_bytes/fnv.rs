@@ -5,11 +5,11 @@
 // The law origin_of_constants alone reads SIGNATURE, the text of which the starts are the hash.
 #![allow(dead_code)]
 #[allow(unused_imports)]
-use crate::{hash_laws, hash_rules, std};
+use crate::{hash_laws, hash_rules, hash_writes, std};
 
-use hash_laws::build::BuildFresh;
 use hash_laws::traits::hash_of;
 use hash_rules::{ByteHasher, Plain, PlainRule, PlainUndo};
+use hash_writes::build::BuildFresh;
 #[cfg(feature = "std")]
 use std::collections::{HashMap, HashSet};
 

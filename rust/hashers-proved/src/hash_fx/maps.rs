@@ -2,10 +2,10 @@
 
 // What follows is the proved text of crates/hash_fx/src/maps.rt without its contracts.
 #[allow(unused_imports)]
-use crate::{hash_laws, std};
+use crate::{hash_writes, std};
 
 use crate::hash_fx::fx::FxHasher;
-use hash_laws::build::{
+use hash_writes::build::{
     BuildFresh, hash_one_number, hash_one_pair_in_writes,
 };
 #[cfg(feature = "std")]

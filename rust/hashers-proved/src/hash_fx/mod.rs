@@ -5,15 +5,14 @@
 
 mod differing;
 mod fx;
+mod hasher;
 mod maps;
 pub mod pieces;
 mod word;
 mod words;
 
-pub use fx::{
-    Fx32Rule, Fx64Rule, FxHasher, FxHasher32, FxHasher64, FxRule, MachineWord, fxhash, fxhash32,
-    fxhash64,
-};
+pub use fx::{FxHasher, FxHasher32, FxHasher64, MachineWord, fxhash, fxhash32, fxhash64};
+pub use hasher::WordHasher;
 pub use maps::{
     FxBuildHasher, hash_one_number_fx, hash_one_pair_fx,
 };

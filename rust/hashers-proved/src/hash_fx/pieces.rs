@@ -1,12 +1,12 @@
 //! Laws of the fx hashes: where the cuts of a list of pieces don't show, and where one byte does.
 
 // What follows is the proved text of crates/hash_fx/src/pieces.rt without its contracts.
-use crate::{hash_laws, hash_rules, std};
+use crate::{hash_laws, std};
 
-use crate::hash_fx::fx::{Fx64Rule, FxHasher32, FxHasher64};
+use crate::hash_fx::fx::{FxHasher32, FxHasher64};
+use crate::hash_fx::hasher::WordHasher;
 use crate::hash_fx::word::FxSplit;
 use hash_laws::window::differ_at_one_place;
-use hash_rules::WordHasher;
 use std::hash::Hasher;
 
 /// Writes the pieces in order. The state is that after one write of the joined bytes, since the length of each piece but
@@ -25,7 +25,7 @@ use std::hash::Hasher;
 /// h.new ≡ fx64 h.old (words64 (joined pieces.now))
 /// ```
 #[inline]
-pub fn run_words<Name>(h: &mut WordHasher<Fx64Rule, Name>, pieces: &[&[u8]]) {
+pub fn run_words<Name>(h: &mut WordHasher<u64, Name>, pieces: &[&[u8]]) {
     for piece in pieces {
         h.write(piece);
     }

@@ -2,10 +2,8 @@
 
 // What follows is the proved text of crates/hash_laws/src/lib.rt without its contracts.
 
-pub mod build;
 pub mod counts;
 #[cfg(feature = "std")]
 pub mod reader;
 pub mod traits;
 pub mod window;
-pub mod writes;

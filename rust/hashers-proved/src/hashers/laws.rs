@@ -1,7 +1,7 @@
 //! The laws of hashers: the traits and the generic functions, and tests of two texts.
 
 // What follows is the proved text of crates/hashers/src/laws.rt without its contracts.
-use crate::{hash_fx, hash_jenkins, hash_laws};
+use crate::{hash_fx, hash_jenkins, hash_laws, hash_writes};
 
 pub use crate::hashers::windows::{
     apart_djb2, apart_fnv32, apart_fnv64, apart_sdbm, same_word,
@@ -23,6 +23,6 @@ pub use hash_laws::traits::{
     string_is_a_text,
 };
 pub use hash_laws::window::{differ_at_one_place, first_difference, is_window};
-pub use hash_laws::writes::{
+pub use hash_writes::writes::{
     HasherWrite, answer_of_writes, run_writes, run_writes_streamed, unrun_writes,
 };

@@ -5,25 +5,24 @@
 //! reverse, from every state. Each sentence is the contract of a function of this module.
 
 // What follows is the proved text of crates/hashers/src/promises.rt without its contracts.
-use crate::{hash_bytes, hash_fx, hash_jenkins, hash_laws, hash_rounds, hash_rules, std};
+use crate::{hash_bytes, hash_fx, hash_jenkins, hash_laws, hash_rounds, hash_writes, std};
 
 use hash_bytes::fnv::{FNV1aHasher32, FNV1aHasher64};
 use hash_bytes::null::{NullHasher, PassThroughHasher};
 use hash_bytes::oz::{DJB2Hasher, LoseLoseHasher, SDBMHasher};
 use hash_bytes::pigeon::Bricolage;
-use hash_fx::{FxHasher, FxHasher32, FxHasher64};
+use hash_fx::{FxHasher, FxHasher32, FxHasher64, FxSplit, WordHasher};
 use hash_jenkins::spooky_hash::SpookyHasher;
 use hash_jenkins::{Lookup3Hasher, OAATHasher};
 use hash_laws::traits::{ByteStep, Piecewise, Streamed, Undo};
-use hash_laws::writes::{
-    HasherWrite, answer_of_writes, run_writes, run_writes_streamed, unrun_writes,
-};
 use hash_rounds::{
     lookup3_final, lookup3_mix, lookup3_unfinal, lookup3_unmix, short_end, short_mix,
     spooky_end_partial, spooky_mix, spooky_un_end_partial, spooky_unmix, un_short_end,
     un_short_mix,
 };
-use hash_rules::{WordHasher, WordRule};
+use hash_writes::writes::{
+    HasherWrite, answer_of_writes, run_writes, run_writes_streamed, unrun_writes,
+};
 use std::hash::Hasher;
 use std::slice;
 
@@ -495,25 +494,25 @@ pub fn fxhash64_undone(a: &mut FxHasher64, b: &mut FxHasher64, writes: &[HasherW
 /// The caller has to see to it that:
 ///
 /// ```text
-/// R.words (written write.now) ≡ R.number word ∷ []
+/// W.words (written write.now) ≡ W.number word ∷ []
 /// ```
 ///
 /// Proved:
 ///
 /// ```text
-/// before: result.before ≡ R.number a.old
-/// there: result.there ≡ R.step (R.number a.old) (R.number word)
-/// there_and_back: R.number a.new ≡ R.number a.old
-/// back: R.step result.back (R.number word) ≡ R.number b.old
-/// in_range: result.back < R.bound
-/// back_and_there: R.number b.new ≡ R.number b.old
+/// before: result.before ≡ W.number a.old
+/// there: result.there ≡ W.step (W.number a.old) (W.number word)
+/// there_and_back: W.number a.new ≡ W.number a.old
+/// back: W.step result.back (W.number word) ≡ W.number b.old
+/// in_range: result.back < 2 ^ W.bits
+/// back_and_there: W.number b.new ≡ W.number b.old
 /// ```
 #[inline]
-pub fn one_word_undone<R: WordRule, Name>(
-    a: &mut WordHasher<R, Name>,
-    b: &mut WordHasher<R, Name>,
+pub fn one_word_undone<W: FxSplit, Name>(
+    a: &mut WordHasher<W, Name>,
+    b: &mut WordHasher<W, Name>,
     write: &HasherWrite,
-    word: R::Word,
+    word: W,
 ) -> WayBack {
     let writes = slice::from_ref(write);
     let before = a.answer();

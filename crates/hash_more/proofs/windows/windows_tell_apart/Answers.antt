@@ -1,6 +1,6 @@
 use Rattle.std.proofs.Common.{refl}
-use Rattle.hash_more.specs.Crc32.{ieee, castagnoli}
-use Rattle.hash_more.proofs.Crc32Bursts.{burst_apart, crc_apart}
+use Rattle.hash_crc.specs.Crc32.{ieee, castagnoli}
+use Rattle.hash_crc.proofs.Crc32Bursts.{burst_apart, crc_apart}
 use Rattle.hash_more.proofs.Djb2AddWindow.{djb2_add_apart}
 use Rattle.hash_more.proofs.Fnv1Windows.{fnv1_32_apart, fnv1_64_apart}
 use Rattle.hash_more.proofs.windows.windows_tell_apart.Goals as goal

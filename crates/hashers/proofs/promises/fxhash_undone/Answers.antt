@@ -1,5 +1,5 @@
 use Rattle.std.proofs.Common.{◌∙◌}
-use Rattle.hash_laws.specs.Writes.{all_written}
+use Rattle.hash_writes.specs.Writes.{all_written}
 use Rattle.hash_laws.proofs.RecurrenceLemmas.{recurrence-pieces}
 use Rattle.hash_fx.specs.Fx.{fx64_step, words64}
 use Rattle.hashers.proofs.WordsWritten.{written_from}

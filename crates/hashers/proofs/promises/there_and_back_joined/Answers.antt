@@ -1,6 +1,6 @@
 use Rattle.std.proofs.Common.{◌∙◌, ap, sym}
-use Rattle.hash_laws.specs.Writes.{written}
-use Rattle.hash_laws.proofs.WriteLemmas.{fold-joined}
+use Rattle.hash_writes.specs.Writes.{written}
+use Rattle.hash_writes.proofs.WriteLemmas.{fold-joined}
 use Rattle.hashers.proofs.promises.there_and_back_joined.Goals as goal
 
 pub returns-clause-there : goal.returns-clause-there

@@ -1,6 +1,6 @@
 use Rattle.std.proofs.Common.{◌≡◌, ℕ, [], ◌∙◌, ap, refl, subst}
 use Rattle.std.specs.List.{concat}
-use Rattle.hash_laws.proofs.KeyLemmas.{fold-concat, state_after_writes}
+use Rattle.hash_writes.proofs.KeyLemmas.{fold-concat, state_after_writes}
 use Rattle.hash_jenkins.specs.Spooky.{Position, after, hash, position}
 use Rattle.hash_jenkins.specs.Counted.{after_write}
 use Rattle.hash_jenkins.specs.SpookyStanding.{IsPosition}

@@ -1,0 +1,6 @@
+pub mod BurstLemmas
+pub mod Crc32Bursts
+pub mod Crc32Endings
+pub mod Crc32Lemmas
+pub mod Crc32Products
+pub mod Crc32Texts

@@ -1,0 +1,6 @@
+use Rattle.std.proofs.Common.{◌≡◌, fold, take}
+use Rattle.hash_crc.specs.Crc32.{crc_from}
+use Rattle.hash_crc.proofs.crc32.CrcRuleByteRule.write.Given as goal
+
+abbrev pub invariant-loop-sixteen : goal.invariant-loop-sixteen
+invariant-loop-sixteen g l = l.word ≡ fold (crc_from g.P.Polynomial.POLYNOMIAL) l.initial.word (take l.sixteen-index l.sixteens)

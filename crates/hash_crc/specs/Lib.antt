@@ -1,0 +1,3 @@
+pub mod Bursts
+pub mod Crc32
+pub mod Crc32Laws

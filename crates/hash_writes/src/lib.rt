@@ -1,0 +1,5 @@
+//! What the writes of std's `Hasher` feed: lists of writes, made and taken back, and the keys of std's maps and sets.
+#![tactic(auto)]
+
+pub mod build;
+pub mod writes;
