@@ -1,5 +1,5 @@
 -- The hashes of two texts that differ within a window are different.
-use Rattle.std.proofs.Common.{◌≡◌, ◌≢◌, ℕ, ◌^◌, ◌<◌, List, lit<}
+use Rattle.std.proofs.Common.{◌≢◌, ℕ, ◌^◌, List, lit<}
 use Rattle.hash_bytes.specs.Oz.{djb2_step}
 use Rattle.hash_bytes.specs.Fnv.{fnv1a32_step, fnv1a64_step}
 use Rattle.hash_rounds.specs.Sums.{sdbm_from, sdbm_step}

@@ -1,5 +1,5 @@
 -- The one block of twelve bytes that leads lookup3 from two words to three, and how many blocks lead to an answer.
-use Rattle.std.proofs.Common.{◌≡◌, ℕ, zero, suc, ◌+◌, ◌-◌, ◌*◌, ◌/◌, ◌%◌, ◌^◌, ◌<◌, List, [], ◌∷◌, ◌++◌, length, slice_index, take, drop, refl, sym, ap, ◌∙◌, arith, w32}
+use Rattle.std.proofs.Common.{◌≡◌, ℕ, zero, suc, ◌+◌, ◌*◌, ◌/◌, ◌%◌, ◌^◌, ◌<◌, List, [], ◌∷◌, ◌++◌, length, slice_index, take, drop, refl, sym, ap, ◌∙◌, arith, w32}
 use Rattle.std.specs.Int.{to_le_bytes}
 use Rattle.std.proofs.lemmas.List.{take_all, drop_all}
 use Rattle.std.proofs.lemmas.List.Elements.{All-append}
@@ -10,7 +10,7 @@ use Rattle.hash_rounds.specs.Rounds as rounds
 use Rattle.hash_rounds.specs.Steps.{Step, apply, undo, AreSteps}
 use Rattle.hash_rounds.proofs.PieceLemmas.{IsPiece}
 use Rattle.hash_rounds.proofs.StepLemmas.{undo_apply}
-use Rattle.hash_rounds.proofs.WordLemmas.{le-to_le_bytes-32, AreWords-from, no_words}
+use Rattle.hash_rounds.proofs.WordLemmas.{add-difference, le-to_le_bytes-32, AreWords-from, no_words}
 use Rattle.hash_laws.specs.Exactly.{ExactlyTexts}
 use Rattle.hash_laws.specs.Text.{IsText}
 use Rattle.hash_laws.proofs.TextLemmas.{IsByte, IsText-to_le_bytes}
@@ -39,12 +39,9 @@ difference from to = (
   sub 32 (slice_index to 2) (slice_index from 2),
 )
 
-added-back : (a x : ℕ) → a < 2 ^ 32 → x < 2 ^ 32 → (a + (x + (2 ^ 32 - a)) % 2 ^ 32) % 2 ^ 32 ≡ x
-added-back a x a_in x_in = omega arith
-
 difference-added : (from to : List ℕ) → AreThreeWords from → AreThreeWords to → add_words from (difference from to) ≡ to
 difference-added from to from_in to_in =
-    let back = λ (i : ℕ). added-back (slice_index from i) (slice_index to i) (from_in.1 i) (to_in.1 i) in
+    let back = λ (i : ℕ). add-difference 32 (slice_index from i) (slice_index to i) (from_in.1 i) (to_in.1 i) in
     ap (λ (s : List ℕ). add_words s (difference from to)) (three-are from from_in.0)
     ∙ three-same _ _ _ _ _ _ (back 0) (back 1) (back 2) ∙ sym (three-are to to_in.0)
 

@@ -20,7 +20,7 @@ use Rattle.hash_rounds.proofs.Chunks.{first_chunks-append}
 use Rattle.hash_rounds.proofs.PieceLemmas.{IsPiece, first_chunks-pieces}
 use Rattle.hash_rounds.proofs.RoundLemmas.{AreFourWords}
 use Rattle.hash_rounds.proofs.StepLemmas.{undo_apply, apply-words}
-use Rattle.hash_rounds.proofs.WordLemmas.{le-to_le_bytes-64, AreWords-from, AreWords-at, no_words}
+use Rattle.hash_rounds.proofs.WordLemmas.{add-difference, add-sub, le-to_le_bytes-64, AreWords-from, AreWords-at, no_words}
 use Rattle.hash_laws.specs.Exactly.{ExactlyTexts}
 use Rattle.hash_laws.specs.Text.{IsText}
 use Rattle.hash_laws.proofs.FrameLemmas.{same_outside}
@@ -63,12 +63,9 @@ module _ (h : List ℕ) (h_in : AreFourWords h) where
       ap (λ (s : List ℕ). added_two s 2 0 3 0) (four-are h h_in.0)
       ∙ four-equal _ _ _ _ _ _ _ _ refl refl (same 2) (same 3) ∙ sym (four-are h h_in.0)
 
-added-back : (a x : ℕ) → a < 2 ^ 64 → x < 2 ^ 64 → (a + (x + (2 ^ 64 - a)) % 2 ^ 64) % 2 ^ 64 ≡ x
-added-back a x a_in x_in = omega arith
-
 missing-added : (from to : List ℕ) → AreFourWords from → AreFourWords to → added_four from (missing from to) ≡ to
 missing-added from to from_in to_in =
-    let back = λ (i : ℕ). added-back (slice_index from i) (slice_index to i) (from_in.1 i) (to_in.1 i) in
+    let back = λ (i : ℕ). add-difference 64 (slice_index from i) (slice_index to i) (from_in.1 i) (to_in.1 i) in
     ap (λ (s : List ℕ). added_four s (missing from to)) (four-are from from_in.0)
     ∙ four-equal _ _ _ _ _ _ _ _ (back 0) (back 1) (back 2) (back 3) ∙ sym (four-are to to_in.0)
 
@@ -265,9 +262,6 @@ unend-steps = refl
 abbrev Led : (List ℕ → List ℕ) → List ℕ → Type 0
 Led step h = (x : List ℕ) × AreFourWords x × (step x ≡ h)
 
-sub-back : (x y : ℕ) → x < 2 ^ 64 → y < 2 ^ 64 → ((x + (2 ^ 64 - y)) % 2 ^ 64 + y) % 2 ^ 64 ≡ x
-sub-back x y x_in y_in = omega arith
-
 four-in : (a b c d : ℕ) → a < 2 ^ 64 → b < 2 ^ 64 → c < 2 ^ 64 → d < 2 ^ 64 → AreFourWords (a ∷ b ∷ c ∷ d ∷ [])
 four-in a b c d a_in b_in c_in d_in = (refl, below) where
   below : (i : ℕ) → slice_index (a ∷ b ∷ c ∷ d ∷ []) i < 2 ^ 64
@@ -284,7 +278,7 @@ first-led : (h : List ℕ) (x y : ℕ) → AreFourWords h → x < 2 ^ 64 → y <
 first-led h x y h_in x_in y_in = (
   sub 64 (slice_index h 0) x ∷ sub 64 (slice_index h 1) y ∷ slice_index h 2 ∷ slice_index h 3 ∷ [],
   four-in _ _ _ _ (word-below _) (word-below _) (h_in.1 2) (h_in.1 3),
-  four-equal _ _ _ _ _ _ _ _ (sub-back (slice_index h 0) x (h_in.1 0) x_in) (sub-back (slice_index h 1) y (h_in.1 1) y_in) refl refl
+  four-equal _ _ _ _ _ _ _ _ (add-sub 64 (slice_index h 0) x (h_in.1 0) x_in) (add-sub 64 (slice_index h 1) y (h_in.1 1) y_in) refl refl
       ∙ sym (four-are h h_in.0),
 )
 
@@ -292,7 +286,7 @@ last-led : (h : List ℕ) (x y : ℕ) → AreFourWords h → x < 2 ^ 64 → y < 
 last-led h x y h_in x_in y_in = (
   slice_index h 0 ∷ slice_index h 1 ∷ sub 64 (slice_index h 2) x ∷ sub 64 (slice_index h 3) y ∷ [],
   four-in _ _ _ _ (h_in.1 0) (h_in.1 1) (word-below _) (word-below _),
-  four-equal _ _ _ _ _ _ _ _ refl refl (sub-back (slice_index h 2) x (h_in.1 2) x_in) (sub-back (slice_index h 3) y (h_in.1 3) y_in)
+  four-equal _ _ _ _ _ _ _ _ refl refl (add-sub 64 (slice_index h 2) x (h_in.1 2) x_in) (add-sub 64 (slice_index h 3) y (h_in.1 3) y_in)
       ∙ sym (four-are h h_in.0),
 )
 

@@ -51,7 +51,7 @@ pub(crate) fn add_chunks(seed1: u64, seed2: u64, text: &[u8]) -> [u64; 4]
 }
 
 // Takes a chunk's words out again.
-fn take_chunk(h: &mut [u64; 4], w: &[u64; 4])
+fn un_add_chunk(h: &mut [u64; 4], w: &[u64; 4])
     ensures { add_chunk h.new w.now ≡ h.old }
 {
     h[0] = h[0].wrapping_sub(w[2]);
@@ -62,7 +62,7 @@ fn take_chunk(h: &mut [u64; 4], w: &[u64; 4])
 }
 
 /// Takes the last mix and the length back, which are the end of a text of so many bytes.
-pub(crate) fn take_end(h: &mut [u64; 4], len: usize)
+pub(crate) fn un_end(h: &mut [u64; 4], len: usize)
     requires { len < 192 }
     ensures { short_end (add_at h.new 3 (len * 2 ^ 56)) ≡ h.old }
 {
@@ -72,12 +72,12 @@ pub(crate) fn take_end(h: &mut [u64; 4], len: usize)
 
 /// Takes the chunks of a text out again, from the last to the first.
 #[tactic(auto, unfolding(crate::specs::Spooky::chunks_from, hash_rounds::specs::Blocks::pieces))]
-pub(crate) fn take_chunks(h: &mut [u64; 4], text: &[u8])
+pub(crate) fn un_add_chunks(h: &mut [u64; 4], text: &[u8])
     ensures { chunks_from h.new text.now ≡ h.old }
 {
     let (chunks, _) = text.as_chunks::<32>();
     for chunk in chunks.iter().rev() {
-        take_chunk(h, &le_words(chunk));
+        un_add_chunk(h, &le_words(chunk));
     }
 }
 

@@ -6,7 +6,7 @@ ghost use Rattle.hash_jenkins.specs.Spooky.{short_words, spooky};
 ghost use Rattle.hash_jenkins.specs.Stretch.{missing, stretch_of};
 
 use crate::put::{put, put_array};
-use crate::spooky_short::{LONG, add_chunks, take_chunks, take_end, zero_filled};
+use crate::spooky_short::{LONG, add_chunks, un_add_chunks, un_end, zero_filled};
 
 // The bytes of what is missing from four words to four others.
 fn missing(from: &[u64; 4], to: &[u64; 4]) -> [u8; 32]
@@ -40,8 +40,8 @@ pub fn stretch_for(seed1: u64, seed2: u64, front: &[u8], back: &[u8], words: [u6
     let mut behind = [0; LONG];
     put(&mut behind, 16, back);
     let mut to = words;
-    take_end(&mut to, at + 32 + back.len());
-    take_chunks(&mut to, &behind[..176 - at]);
+    un_end(&mut to, at + 32 + back.len());
+    un_add_chunks(&mut to, &behind[..176 - at]);
     missing(&from, &to)
 }
 

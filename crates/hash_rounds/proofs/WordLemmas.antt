@@ -43,6 +43,10 @@ sub-add w x y x_in y_in = sub-add_mod (2 ^ w) x y x_in y_in
 pub add-sub : (w x y : ℕ) → x < 2 ^ w → y < 2 ^ w → add w (sub w x y) y ≡ x
 add-sub w x y x_in y_in = add-sub_mod (2 ^ w) x y x_in y_in
 
+-- what is to be added to x for y
+pub add-difference : (w x y : ℕ) → x < 2 ^ w → y < 2 ^ w → add w x (sub w y x) ≡ y
+add-difference w x y x_in y_in = ap (λ n. n % 2 ^ w) (add_comm x _) ∙ add-sub w y x y_in x_in
+
 -- what is added to a word of 64 bits is known by the sum, and so is the word
 pub added-same : (a x y : ℕ) → x < 2 ^ 64 → y < 2 ^ 64 → (a + x) % 2 ^ 64 ≡ (a + y) % 2 ^ 64 → x ≡ y
 added-same a x y x_in y_in same = omega arith

@@ -73,7 +73,7 @@ pub(crate) fn add_chunks(seed1: u64, seed2: u64, text: &[u8]) -> [u64; 4] {
 /// add_chunk h.new w.now ≡ h.old
 /// ```
 #[inline]
-fn take_chunk(h: &mut [u64; 4], w: &[u64; 4]) {
+fn un_add_chunk(h: &mut [u64; 4], w: &[u64; 4]) {
     h[0] = h[0].wrapping_sub(w[2]);
     h[1] = h[1].wrapping_sub(w[3]);
     un_short_mix(h);
@@ -95,7 +95,7 @@ fn take_chunk(h: &mut [u64; 4], w: &[u64; 4]) {
 /// short_end (add_at h.new 3 (len * 2 ^ 56)) ≡ h.old
 /// ```
 #[inline]
-pub(crate) fn take_end(h: &mut [u64; 4], len: usize) {
+pub(crate) fn un_end(h: &mut [u64; 4], len: usize) {
     un_short_end(h);
     h[3] = h[3].wrapping_sub((len as u64) << 56);
 }
@@ -108,10 +108,10 @@ pub(crate) fn take_end(h: &mut [u64; 4], len: usize) {
 /// chunks_from h.new text.now ≡ h.old
 /// ```
 #[inline]
-pub(crate) fn take_chunks(h: &mut [u64; 4], text: &[u8]) {
+pub(crate) fn un_add_chunks(h: &mut [u64; 4], text: &[u8]) {
     let (chunks, _) = text.as_chunks::<32>();
     for chunk in chunks.iter().rev() {
-        take_chunk(h, &le_words(chunk));
+        un_add_chunk(h, &le_words(chunk));
     }
 }
 

@@ -3,7 +3,7 @@
 // What follows is the proved text of crates/hash_jenkins/src/stretch.rt without its contracts.
 
 use crate::hash_jenkins::put::{put, put_array};
-use crate::hash_jenkins::spooky_short::{LONG, add_chunks, take_chunks, take_end, zero_filled};
+use crate::hash_jenkins::spooky_short::{LONG, add_chunks, un_add_chunks, un_end, zero_filled};
 
 // The bytes of what is missing from four words to four others.
 /// Proved:
@@ -51,7 +51,7 @@ pub fn stretch_for(seed1: u64, seed2: u64, front: &[u8], back: &[u8], words: [u6
     let mut behind = [0; LONG];
     put(&mut behind, 16, back);
     let mut to = words;
-    take_end(&mut to, at + 32 + back.len());
-    take_chunks(&mut to, &behind[..176 - at]);
+    un_end(&mut to, at + 32 + back.len());
+    un_add_chunks(&mut to, &behind[..176 - at]);
     missing(&from, &to)
 }

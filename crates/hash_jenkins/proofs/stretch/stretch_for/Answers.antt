@@ -11,10 +11,10 @@ returns c =
     let front = c.args.front.now in
     let back = c.args.back.now in
     let got = c.add_chunks-from.result in
-    let to = c.take_chunks.new.h in
+    let to = c.un_add_chunks.new.h in
     let leads = found seed1 seed2 front back (omega arith) (omega arith) c.requires.place c.requires.few _ got _ _ to c.args.words
-    c.zero_filled-before.ensures c.add_chunks-from.ensures c.put.ensures c.take_end.ensures c.take_chunks.ensures
-    (c.take_chunks.array_long, c.missing.ensures.words) in
+    c.zero_filled-before.ensures c.add_chunks-from.ensures c.put.ensures c.un_end.ensures c.un_add_chunks.ensures
+    (c.un_add_chunks.array_long, c.missing.ensures.words) in
     rw (c.missing.ensures.bytes) (record {
       leads = leads;
       alone = λ stretch text len led.

@@ -3,7 +3,7 @@ use Rattle.std.proofs.lemmas.Grind.{fold-append}
 use Rattle.hash_rounds.specs.Blocks.{le_words}
 use Rattle.hash_jenkins.specs.Spooky.{add_chunk}
 use Rattle.hash_jenkins.proofs.ShortStretches.{f}
-use Rattle.hash_jenkins.proofs.spooky_short.take_chunks.Goals as goal
+use Rattle.hash_jenkins.proofs.spooky_short.un_add_chunks.Goals as goal
 
 -- the last of the chunks that are left is taken out
 one_less : (x h k words chunk : List ℕ) (left front : List (List ℕ)) → left ≡ front ++ chunk ∷ [] → words ≡ le_words chunk
@@ -13,4 +13,4 @@ one_less x h k words chunk left front last are taken led =
 
 pub loop-chunk-preserved : goal.loop-chunk-preserved
 loop-chunk-preserved c x led =
-    c.loop-chunk.invariant x (one_less x _ _ _ _ _ _ c.in-Some.ensures.steps c.le_words.ensures c.take_chunk.ensures led)
+    c.loop-chunk.invariant x (one_less x _ _ _ _ _ _ c.in-Some.ensures.steps c.le_words.ensures c.un_add_chunk.ensures led)

@@ -3,7 +3,7 @@ use Rattle.std.specs.Iterator.Adapters.{rev_source}
 use Rattle.std.specs.Slice.Iter.{iter_rest}
 use Rattle.hash_rounds.specs.Blocks.{le_words}
 use Rattle.hash_jenkins.specs.Spooky.{add_chunk, chunks_from}
-use Rattle.hash_jenkins.proofs.spooky_short.take_chunks.Given as goal
+use Rattle.hash_jenkins.proofs.spooky_short.un_add_chunks.Given as goal
 
 -- what leads here through the chunks that are left leads to the old words through all
 abbrev pub invariant-loop-chunk : goal.invariant-loop-chunk
