@@ -67,7 +67,7 @@ def main():
     try:
         keys = keys_of(call.key_file) if call.key_file else None
     except struct.error:
-        sys.exit(f"hash_of_file.py: {call.key_file}: a key file has 16 bytes")
+        sys.exit(f"hash_of_file.py: {call.key_file}: a key file must have 16 bytes")
     status = 0
     with cluster(call) as client:
         for path in call.files:

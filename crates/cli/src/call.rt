@@ -293,7 +293,8 @@ impl<'a> Call<'a> {
 
     /// Its operands, in their order.
     pub fn operands(&self, alloc: Global) -> Result<Vec<&'a [u8]>, AllocError>
-        ensures { IfOk result (λ found. map (λ word. word.now) found.items ≡ operands (sayings self.now.said.items)) }
+        ensures { IfOk result (λ found. map (λ word. word.now) found.items
+            ≡ operands (sayings self.now.said.items)) }
     {
         let mut found = Vec::new(alloc);
         for said in &self.said {
@@ -307,7 +308,8 @@ impl<'a> Call<'a> {
 
     /// What is wrong with the first option with which something is, and the word or the letter.
     pub fn wrong(&self) -> Option<(Misgiven, &'a [u8])>
-        ensures { option_map (λ wrong. (wrong.0, wrong.1.now)) result ≡ first_of (wrongs (sayings self.now.said.items)) }
+        ensures { option_map (λ wrong. (wrong.0, wrong.1.now)) result
+            ≡ first_of (wrongs (sayings self.now.said.items)) }
     {
         for said in &self.said {
             match said {

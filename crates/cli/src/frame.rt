@@ -67,7 +67,8 @@ pub fn request_of(call: &Call<'_>) -> Request
 
 /// The word that gives the first option with which something is wrong, or its letter.
 pub fn wrong_word<'a>(call: &Call<'a>) -> Option<&'a [u8]>
-    ensures { option_map (λ word. word.now) result ≡ option_map (λ wrong. wrong.1) (first_of (wrongs (sayings call.now.said.items))) }
+    ensures { option_map (λ word. word.now) result
+        ≡ option_map (λ wrong. wrong.1) (first_of (wrongs (sayings call.now.said.items))) }
 {
     match call.wrong() {
         Some((_, word)) => Some(word),
@@ -105,7 +106,8 @@ pub struct Complaint<'a> {
 
 /// Puts a part behind some bytes, if there is one.
 fn push_part(text: &mut String, mark: &str, part: Option<&str>) -> Result<(), AllocError>
-    ensures { OnOk result (string_bytes text.new ≡ string_bytes text.old ++ part_of mark.now (option_map (λ part. part.now) part.entry)) }
+    ensures { OnOk result (string_bytes text.new
+        ≡ string_bytes text.old ++ part_of mark.now (option_map (λ part. part.now) part.entry)) }
 {
     match part {
         Some(part) => {

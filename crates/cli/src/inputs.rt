@@ -79,7 +79,7 @@ pub struct Input<'a> {
 const STANDARD: &[u8] = b"-";
 
 /// Why a name cannot be opened that is no text.
-const NO_TEXT: &str = "a name that is no UTF-8 can be opened by < alone";
+const NO_TEXT: &str = "file name is not valid UTF-8; use < to read it";
 
 /// The inputs of these names, standard input where there is none. `-` is standard input too.
 pub fn inputs<'a>(rt: &'a HostRuntime, names: &[&'a [u8]]) -> Result<Vec<Input<'a>>, AllocError> {

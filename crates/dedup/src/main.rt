@@ -35,18 +35,18 @@ const NAME: &str = "dedup";
 /// How the program is called.
 const HELP: &str = "usage: dedup [-cduz] [FILE..]
 
-Writes each line of the files once, where it came first. Without a file, or
-where a file is -, it reads standard input. Lines need not be sorted.
+Write each line of the files once, where it came first. With no FILE, or when
+FILE is -, read standard input. The lines need not be sorted.
 
-  -c, --count            at the end, each line behind how often it came
-  -d, --repeated         at the end, the lines that came more than once
-  -u, --unique           at the end, the lines that came once
+  -c, --count            at the end, write each line after its count
+  -d, --repeated         at the end, write the lines that came more than once
+  -u, --unique           at the end, write the lines that came once
   -z, --zero-terminated  lines end with a zero byte, not with a newline
-      --help             writes this and ends
-      --version          writes the version and ends
+      --help             print this help and exit
+      --version          print the version and exit
 
--c goes with -d and -u. The status is 0, 1 where something failed, 2 where the
-call was wrong, and 141 where nobody reads the output any more.
+-c can be combined with -d or -u. The exit status is 0, 1 if something failed,
+2 if the call is wrong, and 141 if the output pipe was closed.
 ";
 
 /// Which version this is.

@@ -36,7 +36,7 @@ pub(crate) fn hash_of_poly61<R: Read, const N: usize>(
 
 /// Why a file has no keys that has more or fewer bytes.
 fn not_sixteen() -> Error {
-    Error::new(ErrorKind::InvalidData, "a key file has 16 bytes")
+    Error::new(ErrorKind::InvalidData, "a key file must have 16 bytes")
 }
 
 /// Reads one key.

@@ -43,11 +43,11 @@ pub(crate) fn error_of(unsummed: Unsummed) -> Error {
         Unsummed::Unhashed(Unhashed::ReadFault(fault)) => fault.error,
         Unsummed::Unhashed(Unhashed::TooLong) => Error::new(
             ErrorKind::FileTooLarge,
-            "the file is too long",
+            "file too large",
         ),
         Unsummed::Unhashed(Unhashed::UnknownName) => Error::new(
             ErrorKind::InvalidInput,
-            "no hash has this name",
+            "unknown hash",
         ),
     }
 }

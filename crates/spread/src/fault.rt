@@ -29,7 +29,7 @@ impl Words for NoTable {
             NoTable::Undrawn(_) => "cannot write",
             NoTable::TooManyKeys => "too many different keys",
             NoTable::NoKeys => "there are no keys",
-            NoTable::ShortKey => "the input ends within a key",
+            NoTable::ShortKey => "input ends within a key",
         }
     }
 

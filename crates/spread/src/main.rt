@@ -39,23 +39,22 @@ const NAME: &str = "spread";
 const HELP: &str = "usage: spread [-b BUCKETS] [-w BYTES | -z] [--no-times] [--plot FILE.svg]
               [NAME..] < KEYS
 
-Tells which hash suits keys. Each line of standard input is a key, and each
-different key counts once. For each NAME, or each hash that makes sense, it
-writes how many pairs of keys have equal hashes, how many keys the fullest
-bucket has, how many buckets are empty, the sum of the squares of what the
-buckets have, and nanoseconds for a key; then what chance would give; and at
-last the fastest hash whose squares lie within three standard deviations of
-chance.
+Recommend a hash for your keys. Each line of standard input is a key, and each
+different key counts once. For each NAME, or each hash that makes sense, print
+how many pairs of keys have equal hashes, how many keys the fullest bucket has,
+how many buckets are empty, the sum of the squares of the buckets' sizes, and
+nanoseconds for a key; then what chance would give; and last the fastest hash
+whose squares lie within three standard deviations of chance.
 
-The buckets are as many as the power of two at or above the number of keys,
+There are as many buckets as the power of two at or above the number of keys,
 and as the next odd number above that.
 
-  -b, --buckets BUCKETS  so many buckets instead
-  -w, --width BYTES      keys are so many bytes each, with nothing between two
+  -b, --buckets BUCKETS  this many buckets instead
+  -w, --width BYTES      keys of this many bytes, with nothing between them
   -z, --zero-terminated  keys end with a zero byte, not with a newline
       --no-times         measure no times and recommend nothing
-      --plot FILE.svg    draw the table, too; - is standard output, behind it
-      --list, --help, --version   write this and end
+      --plot FILE.svg    draw the table too; - is standard output, after it
+      --list, --help, --version   print this and exit
 
 ";
 

@@ -137,7 +137,7 @@ fn open_canvas(rt: &HostRuntime, name: &[u8]) -> io::Result<Canvas> {
         return Ok(Canvas::Standard);
     }
     let Ok(path) = str::from_utf8(name) else {
-        return Err(Error::new(ErrorKind::InvalidInput, "its name is no UTF-8"));
+        return Err(Error::new(ErrorKind::InvalidInput, "file name is not valid UTF-8"));
     };
     let mut options = OpenOptions::new();
     options.write(true).create(true);
@@ -164,7 +164,7 @@ fn fill(file: &mut File, text: &str) -> io::Result<()> {
     match filled {
         Ok(()) => Ok(()),
         Err(Fault::Unwritten(Some(error))) => Err(error),
-        Err(_) => Err(Error::new(ErrorKind::WriteZero, "a write took nothing")),
+        Err(_) => Err(Error::new(ErrorKind::WriteZero, "no bytes were written")),
     }
 }
 
