@@ -1,0 +1,52 @@
+-- The chunks of a text: the first one, and those of the rest.
+use Rattle.std.proofs.Common.{◌≡◌, ℕ, zero, suc, ◌<◌, ◌≤◌, List, [], ◌∷◌, length, take, drop, inl, inr, arith, ap, refl}
+use Rattle.std.proofs.lemmas.Bool.{cases_lt}
+use Rattle.std.proofs.lemmas.List.{length-drop}
+use Rattle.hash_cuts.specs.Cuts.{AreSizes, Cutting, chunks, chunks_upto, first_cut}
+use Rattle.hash_cuts.proofs.CutLemmas.{first_cut-is, latest}
+
+module _ (cuts : Cutting) (sizes : AreSizes cuts.least cuts.average cuts.most) where
+  -- a chunk has a byte, and no more than the text
+  pub first_cut-some : (text : List ℕ) → 0 < length text → 0 < first_cut cuts text
+  first_cut-some text some =
+      let is = first_cut-is cuts text in
+      elim (cases_lt (first_cut cuts text) (latest cuts text)) [
+        | inl before ↦ omega (arith, sizes.0, (is.cut before).0)
+        | inr there ↦ omega (arith, sizes.0, sizes.1, sizes.2, some, there)
+      ]
+
+  pub first_cut-le : (text : List ℕ) → first_cut cuts text ≤ length text
+  first_cut-le text = omega (arith, (first_cut-is cuts text).within)
+
+  -- as many chunks as there are bytes are all chunks
+  chunks_upto-enough : (n k : ℕ) (text : List ℕ) → length text ≤ n → length text ≤ k → chunks_upto n cuts text ≡ chunks_upto k cuts text
+  unfolding chunks_upto
+  chunks_upto-enough zero zero text n_in k_in = refl
+  chunks_upto-enough zero (suc k) [] n_in k_in = refl
+  chunks_upto-enough zero (suc k) (byte ∷ text) n_in k_in = absurd (omega arith)
+  chunks_upto-enough (suc n) zero [] n_in k_in = refl
+  chunks_upto-enough (suc n) zero (byte ∷ text) n_in k_in = absurd (omega arith)
+  chunks_upto-enough (suc n) (suc k) [] n_in k_in = refl
+  chunks_upto-enough (suc n) (suc k) (byte ∷ text) n_in k_in =
+      let whole = byte ∷ text in
+      let cut = first_cut cuts whole in
+      let some : 0 < cut = first_cut-some whole (omega arith) in
+      let left = length-drop cut whole in
+      ap (λ rest. take cut whole ∷ rest) (chunks_upto-enough n k (drop cut whole) (omega (arith, some, left)) (omega (arith, some, left)))
+
+  pub chunks-first : (text : List ℕ) → 0 < length text
+      → chunks cuts text ≡ take (first_cut cuts text) text ∷ chunks cuts (drop (first_cut cuts text) text)
+  unfolding chunks_upto
+  chunks-first [] some = absurd (omega arith)
+  chunks-first (byte ∷ text) some =
+      let whole = byte ∷ text in
+      let cut = first_cut cuts whole in
+      let first : 0 < cut = first_cut-some whole (omega arith) in
+      let left = length-drop cut whole in
+      ap (λ rest. take cut whole ∷ rest)
+      (chunks_upto-enough (length text) (length (drop cut whole)) (drop cut whole) (omega (arith, first, left)) (omega arith))
+
+pub chunks-none : (cuts : Cutting) (text : List ℕ) → length text ≡ 0 → chunks cuts text ≡ []
+unfolding chunks_upto
+chunks-none cuts [] none = refl
+chunks-none cuts (byte ∷ text) none = absurd (omega arith)

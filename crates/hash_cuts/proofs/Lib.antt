@@ -1,0 +1,3 @@
+pub mod GearLemmas
+pub mod CutLemmas
+pub mod ChunkLemmas

@@ -1,0 +1,6 @@
+use Rattle.std.proofs.Common.{◌≡◌, take}
+use Rattle.hash_cuts.specs.Gear.{gear, gear_of}
+use Rattle.hash_cuts.proofs.gear.Gear.hash.Given as goal
+
+abbrev pub invariant-loop-byte : goal.invariant-loop-byte
+invariant-loop-byte l = l.hash ≡ gear_of (gear l.self.0 l.self.1) (take l.byte-index l.text)

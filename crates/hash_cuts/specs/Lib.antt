@@ -1,0 +1,2 @@
+pub mod Gear
+pub mod Cuts

@@ -1,0 +1,120 @@
+//! Where a text is cut.
+ghost use Rattle.std.specs.Prelude.{◌≡◌, ◌↔◌, ℕ, List, IfSome, IsSome};
+ghost use Rattle.std.specs.Iterator.{YieldsFirstRef, item_count};
+ghost use Rattle.hash_cuts.specs.Cuts.{AreSizes, Cutting, chunks, first_cut};
+
+use crate::gear::Gear;
+use std::marker::Model;
+
+/// Where texts are cut into chunks. Contracts see the numbers that `new` takes.
+pub struct Cuts {
+    least: usize,
+    average: usize,
+    most: usize,
+    gear: Gear,
+    below: u64, // a hash below it is a cut
+}
+
+impl Model for Cuts {
+    ghost use Rattle.std.specs.Prelude.{◌≡◌, ◌+◌, ◌-◌, ◌/◌, ◌^◌};
+    ghost use Rattle.hash_cuts.specs.Cuts.{AreSizes, Cutting};
+
+    ghost Value = { Cutting };
+
+    ghost view = { λ c. record { least = c.least; average = c.average; most = c.most; seed1 = c.gear.0; seed2 = c.gear.1 } };
+
+    ghost invariant = { λ c. AreSizes c.least c.average c.most × (c.below ≡ (2 ^ 64 - 1) / c.average + 1) };
+}
+
+impl Drop for Cuts {
+    fn drop(self) {
+        let Self {
+            least: _,
+            average: _,
+            most: _,
+            gear: _,
+            below: _,
+        } = self;
+    }
+}
+
+impl Cuts {
+    /// Chunks of `least` to `most` bytes, where from `least` on each place is a cut with a chance of 1 in `average`; `None` exactly if
+    /// 64 ≤ `least` ≤ `average` ≤ `most` does not hold. Whoever doesn't know the seeds can't find the cuts of a text.
+    pub fn new(least: usize, average: usize, most: usize, seed1: u64, seed2: u64) -> Option<Cuts>
+        ensures exact { IsSome result ↔ AreSizes least average most }
+        ensures some { IfSome result (λ cuts. cuts
+            ≡ record { least = least; average = average; most = most; seed1 = seed1; seed2 = seed2 }) }
+    {
+        if least < 64 || average < least || most < average {
+            return None;
+        }
+        Some(Cuts {
+            least,
+            average,
+            most,
+            gear: Gear::new(seed1, seed2),
+            below: u64::MAX / average as u64 + 1,
+        })
+    }
+
+    /// How many bytes the first chunk of the text has: up to the first cut from `least` bytes on, but at most `most`, and at most
+    /// the whole text.
+    pub fn first_cut(&self, text: &[u8]) -> usize
+        ensures cut { result ≡ first_cut self.now text.now }
+        ensures sizes { AreSizes self.now.least self.now.average self.now.most }
+    {
+        let end = text.len().min(self.most);
+        if end <= self.least {
+            return end;
+        }
+        let mut hash = self.gear.hash(&text[self.least - 64..self.least]);
+        for place in self.least..end {
+            if hash < self.below {
+                return place;
+            }
+            hash = self.gear.step(hash, text[place]);
+        }
+        end
+    }
+
+    /// The chunks of the text, in their order.
+    pub fn chunks<'a>(&'a self, text: &'a [u8]) -> Chunks<'a>
+        ensures { result ≡ (self.now, text.now) }
+    {
+        Chunks {
+            cuts: self,
+            rest: text,
+        }
+    }
+}
+
+/// The chunks of a text that are left. Contracts see where it is cut, and the text that is left.
+#[derive(Drop)]
+pub struct Chunks<'a> {
+    cuts: &'a Cuts,
+    rest: &'a [u8],
+}
+
+impl<'a> Model for Chunks<'a> {
+    ghost Value = { Cutting × List ℕ };
+
+    ghost view = { λ it. (it.cuts.now, it.rest.now) };
+}
+
+impl<'a> Iterator for Chunks<'a> {
+    type Item = &'a [u8];
+
+    ghost next_gives = { YieldsFirstRef (λ it. chunks it.0 it.1) };
+
+    ghost remaining = { item_count (λ it. chunks it.0 it.1) };
+
+    fn next(&mut self) -> Option<&'a [u8]> {
+        if self.rest.is_empty() {
+            return None;
+        }
+        let (chunk, rest) = self.rest.split_at(self.cuts.first_cut(self.rest));
+        self.rest = rest;
+        Some(chunk)
+    }
+}

@@ -1,0 +1,91 @@
+//! The gear hash, which takes a shift and two sums a byte, and in which the last 64 bytes alone are left.
+ghost use Rattle.std.specs.Prelude.{◌≡◌, ◌<◌, ℕ, slice_index};
+ghost use Rattle.hash_cuts.specs.Gear.{gear, gear_of, gear_step};
+
+use hashers::jenkins::spooky_hash::SpookyHasher;
+use std::hash::Hasher;
+use std::marker::Model;
+
+/// The numbers of the bytes under two seeds. Contracts see the seeds.
+pub struct Gear {
+    seed1: u64,
+    seed2: u64,
+    numbers: [u64; 256],
+}
+
+impl Model for Gear {
+    ghost use Rattle.std.specs.Prelude.{◌≡◌, ◌<◌, ℕ, slice_index};
+    ghost use Rattle.hash_cuts.specs.Gear.{gear};
+
+    ghost Value = { ℕ × ℕ };
+
+    ghost view = { λ g. (g.seed1, g.seed2) };
+
+    ghost invariant = { λ g. (byte : ℕ) → byte < 256 → slice_index g.numbers byte ≡ gear g.seed1 g.seed2 byte };
+}
+
+impl Drop for Gear {
+    fn drop(self) {
+        let Self {
+            seed1: _,
+            seed2: _,
+            numbers: _,
+        } = self;
+    }
+}
+
+/// The number of a byte: its SpookyHash under the seeds.
+#[tactic(auto, unfolding(crate::specs::Gear::gear))]
+fn number_of(seed1: u64, seed2: u64, byte: u8) -> u64
+    ensures { result ≡ gear seed1 seed2 byte }
+{
+    let mut hasher = SpookyHasher::new(seed1, seed2);
+    hasher.write(&[byte]);
+    hasher.finish128().0
+}
+
+/// The numbers of all bytes.
+fn numbers_of(seed1: u64, seed2: u64) -> [u64; 256]
+    ensures { (byte : ℕ) → byte < 256 → slice_index result byte ≡ gear seed1 seed2 byte }
+{
+    let mut numbers = [0; 256];
+    for byte in 0..256 {
+        numbers[byte] = number_of(seed1, seed2, byte as u8);
+    }
+    numbers
+}
+
+impl Gear {
+    /// The numbers under these seeds.
+    pub fn new(seed1: u64, seed2: u64) -> Gear
+        ensures { result ≡ (seed1, seed2) }
+    {
+        let numbers = numbers_of(seed1, seed2);
+        Gear {
+            seed1,
+            seed2,
+            numbers,
+        }
+    }
+
+    /// The hash with one byte more.
+    #[inline(always)]
+    pub fn step(&self, hash: u64, byte: u8) -> u64
+        ensures { result ≡ gear_step (gear self.now.0 self.now.1) hash byte }
+    {
+        hash.wrapping_mul(2)
+            .wrapping_add(self.numbers[usize::from(byte)])
+    }
+
+    /// The hash of a text.
+    #[tactic(auto, using(hash_laws::proofs::RecurrenceLemmas::turns))]
+    pub fn hash(&self, text: &[u8]) -> u64
+        ensures { result ≡ gear_of (gear self.now.0 self.now.1) text.now }
+    {
+        let mut hash = 0;
+        for byte in text {
+            hash = self.step(hash, *byte);
+        }
+        hash
+    }
+}
