@@ -1,8 +1,11 @@
 -- The gear hash of a text is the sum of its bytes' numbers, each times a power of two, so that of 64 bytes and more the last 64 count alone.
-use Rattle.std.proofs.Common.{◌≡◌, ℕ, suc, ◌+◌, ◌-◌, ◌*◌, ◌%◌, ◌^◌, ◌<◌, ◌≤◌, List, [], ◌∷◌, ◌++◌, length, get_or, take, drop, reverse, ap, sym, ◌∙◌, arith, lit<}
-use Rattle.std.proofs.lemmas.List.{drop-drop, drop-take, get_or-drop, length-drop, length-take-le, length-reverse, take-append-drop}
+use Rattle.std.proofs.Common.{◌≡◌, ℕ, suc, ◌+◌, ◌-◌, ◌*◌, ◌%◌, ◌^◌, ◌<◌, ◌≤◌, List, [], ◌∷◌, ◌++◌, length, get_or, take, drop, reverse, ap, sym, ◌∙◌, arith, lit<, map, refl}
+use Rattle.std.proofs.lemmas.List.{drop-drop, drop-take, get_or-drop, length-drop, length-take-le, length-reverse, take-append-drop, map-append, reverse-reverse}
 use Rattle.std.proofs.Math.Nat.{pow-suc}
+use Rattle.std.proofs.lemmas.Grind.{reverse_onto}
 use Rattle.std.proofs.lemmas.Nat.{mod_below}
+use Rattle.hashers.specs.Sums.{digit_sum}
+use Rattle.hash_rounds.proofs.SumLemmas.{digit_sum-append}
 use Rattle.hashers.specs.Recurrence.{from_last, recurrence}
 use Rattle.hashers.proofs.RecurrenceLemmas.{recurrence-append, recurrence_more}
 use Rattle.hash_cuts.specs.Gear.{gear_step, gear_of, gear_at}
@@ -66,3 +69,18 @@ module _ (number : ℕ → ℕ) where
       ∙ recurrence_more (gear_step number) 0 (drop from text) (n - from) (omega (arith, length-drop from text))
       ∙ ap (gear_step number (gear_of number (take (n - from) (drop from text))))
       (get_or-drop from text (n - from) 0 ∙ ap (λ i. get_or text i 0) place)
+
+  from_last-digits : (bytes : List ℕ) → from_last (gear_step number) 0 bytes ≡ digit_sum 2 (map number (reverse bytes)) % 2 ^ 64
+  from_last-digits [] = refl
+  from_last-digits (b ∷ bytes) =
+      let before = from_last-digits bytes in
+      let digits : digit_sum 2 (map number (reverse (b ∷ bytes))) ≡ digit_sum 2 (map number (reverse bytes)) * 2 + number b =
+      ap (digit_sum 2) (ap (map number) (reverse_onto bytes b []) ∙ map-append number (reverse bytes) (b ∷ []))
+      ∙ digit_sum-append 2 (map number (reverse bytes)) (number b ∷ []) ∙ omega arith in
+      omega (arith, before, digits)
+
+  -- the sum of the numbers, each times a power of two
+  pub gear-digits : (text : List ℕ) → gear_of number text ≡ digit_sum 2 (map number text) % 2 ^ 64
+  unfolding recurrence
+  gear-digits text =
+      from_last-digits (reverse text) ∙ ap (λ t. digit_sum 2 (map number t) % 2 ^ 64) (reverse-reverse text)

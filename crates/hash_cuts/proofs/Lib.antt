@@ -1,3 +1,4 @@
 pub mod GearLemmas
 pub mod CutLemmas
 pub mod ChunkLemmas
+pub mod InStep

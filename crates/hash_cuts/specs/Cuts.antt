@@ -15,6 +15,9 @@ pub record Cutting : Type 0 where
 abbrev pub AreSizes : ℕ → ℕ → ℕ → Type 0
 AreSizes least average most = (64 ≤ least) × (least ≤ average) × (average ≤ most)
 
+abbrev pub HasSizes : Cutting → Type 0
+HasSizes cuts = AreSizes cuts.least cuts.average cuts.most
+
 -- whether a place of a text is a cut: the gear hash there is below 2 ^ 64 / average
 abbrev pub is_cut : Cutting → List ℕ → ℕ → Bool
 is_cut cuts text n = nat_lt (gear_at (gear cuts.seed1 cuts.seed2) text n * cuts.average) (2 ^ 64)

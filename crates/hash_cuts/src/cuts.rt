@@ -1,7 +1,7 @@
 //! Where a text is cut.
 ghost use Rattle.std.specs.Prelude.{◌≡◌, ◌↔◌, ℕ, List, IfSome, IsSome};
 ghost use Rattle.std.specs.Iterator.{YieldsFirstRef, item_count};
-ghost use Rattle.hash_cuts.specs.Cuts.{AreSizes, Cutting, chunks, first_cut};
+ghost use Rattle.hash_cuts.specs.Cuts.{AreSizes, Cutting, HasSizes, chunks, first_cut};
 
 use crate::gear::Gear;
 use std::marker::Model;
@@ -62,7 +62,7 @@ impl Cuts {
     /// the whole text.
     pub fn first_cut(&self, text: &[u8]) -> usize
         ensures cut { result ≡ first_cut self.now text.now }
-        ensures sizes { AreSizes self.now.least self.now.average self.now.most }
+        ensures sizes { HasSizes self.now }
     {
         let end = text.len().min(self.most);
         if end <= self.least {

@@ -6,5 +6,6 @@
 
 mod cuts;
 mod gear;
+pub mod laws;
 
 pub use cuts::{Chunks, Cuts};

@@ -14,6 +14,8 @@ one_more f numbers n y within is before b below = elim (cases_eq b n) [
 ]
 
 pub loop-byte-preserved : goal.loop-byte-preserved
-loop-byte-preserved c =
-    (length-set c.loop-byte.numbers c.loop-byte.byte c.number_of.result ∙ c.loop-byte.invariant.0, one_more (gear c.args.seed1 c.args.seed2) c.loop-byte.numbers c.loop-byte.byte c.number_of.result (omega arith) c.number_of.ensures
-    c.loop-byte.invariant.1)
+loop-byte-preserved c = (
+  length-set c.loop-byte.numbers c.loop-byte.byte c.number_of.result ∙ c.loop-byte.invariant.0,
+  one_more (gear c.args.seed1 c.args.seed2) c.loop-byte.numbers c.loop-byte.byte c.number_of.result (omega arith) c.number_of.ensures
+      c.loop-byte.invariant.1,
+)

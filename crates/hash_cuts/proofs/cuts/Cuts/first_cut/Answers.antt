@@ -43,8 +43,8 @@ returns-then-hash-self-clause-cut c =
       within = omega (arith, most_is, c.min-end.ensures, c.loop-place-test.true);
       before = c.loop-place.invariant.1;
       cut = λ below. (
-          omega (arith, least_is, c.loop-place.auto.place),
-          sym cut ∙ ap (λ n. nat_lt c.loop-place.hash n) (sym below_is) ∙ low,
+        omega (arith, least_is, c.loop-place.auto.place),
+        sym cut ∙ ap (λ n. nat_lt c.loop-place.hash n) (sym below_is) ∙ low,
       );
     })
 
