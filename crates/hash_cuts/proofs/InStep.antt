@@ -14,7 +14,7 @@ use Rattle.hash_cuts.proofs.CutLemmas.{first_cut-is, first_cut-from, latest}
 
 module _ (cuts : Cutting) (sizes : HasSizes cuts) where
   -- whether a place is a cut depends on the bytes before it
-  is_cut-same : (text other : List ℕ) (n m : ℕ) → cuts.least ≤ m → m ≤ n → n ≤ length text
+  pub is_cut-same : (text other : List ℕ) (n m : ℕ) → cuts.least ≤ m → m ≤ n → n ≤ length text
       → is_cut cuts (take n text ++ other) m ≡ is_cut cuts text m
   is_cut-same text other n m from within known =
       let front = take n text in

@@ -2,3 +2,4 @@ pub mod GearLemmas
 pub mod CutLemmas
 pub mod ChunkLemmas
 pub mod InStep
+pub mod GivenLemmas

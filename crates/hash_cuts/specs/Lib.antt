@@ -1,2 +1,3 @@
 pub mod Gear
 pub mod Cuts
+pub mod Reading

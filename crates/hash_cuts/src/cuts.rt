@@ -1,5 +1,5 @@
 //! Where a text is cut.
-ghost use Rattle.std.specs.Prelude.{◌≡◌, ◌↔◌, ℕ, List, IfSome, IsSome};
+ghost use Rattle.std.specs.Prelude.{◌≡◌, ◌≤◌, ◌<◌, ◌↔◌, ℕ, List, IfSome, IsSome, length};
 ghost use Rattle.std.specs.Iterator.{YieldsFirstRef, item_count};
 ghost use Rattle.hash_cuts.specs.Cuts.{AreSizes, Cutting, HasSizes, chunks, first_cut};
 
@@ -58,10 +58,20 @@ impl Cuts {
         })
     }
 
+    /// The most bytes of a chunk.
+    pub fn most(&self) -> usize
+        ensures value { result ≡ self.now.most }
+        ensures sizes { HasSizes self.now }
+    {
+        self.most
+    }
+
     /// How many bytes the first chunk of the text has: up to the first cut from `least` bytes on, but at most `most`, and at most
     /// the whole text.
     pub fn first_cut(&self, text: &[u8]) -> usize
         ensures cut { result ≡ first_cut self.now text.now }
+        ensures within { result ≤ length text.now }
+        ensures some { 0 < length text.now → 0 < result }
         ensures sizes { HasSizes self.now }
     {
         let end = text.len().min(self.most);

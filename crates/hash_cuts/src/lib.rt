@@ -7,5 +7,7 @@
 mod cuts;
 mod gear;
 pub mod laws;
+mod reader;
 
 pub use cuts::{Chunks, Cuts};
+pub use reader::{Sink, Unfinished, cut_reader};

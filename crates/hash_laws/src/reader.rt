@@ -72,7 +72,7 @@ impl From<Fault> for Error {
 }
 
 /// Reads until the buffer is full, the input ends or a read fails, and counts the bytes.
-fn fill<R: Read>(r: &mut R, buf: &mut [u8]) -> (usize, IoResult<()>)
+pub fn fill<R: Read>(r: &mut R, buf: &mut [u8]) -> (usize, IoResult<()>)
     ensures within { result.0 ≤ length buf.new }
     ensures read { Consumes (R.remaining r.old) (R.remaining r.new) (take result.0 buf.new) }
     ensures end { OnOk result.1 (result.0 < length buf.new → IsAtEnd (R.remaining r.new)) }

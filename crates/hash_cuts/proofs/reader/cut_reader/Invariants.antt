@@ -1,0 +1,20 @@
+use Rattle.std.proofs.Common.{◌-◌, ◌≡◌, ◌≤◌, length, take}
+use Rattle.hash_cuts.specs.Cuts.{HasSizes}
+use Rattle.hash_cuts.specs.Reading.{CutsRead, IsBegun}
+use Rattle.hash_cuts.proofs.reader.cut_reader.Given as goal
+
+abbrev pub invariant-loop-bytes : goal.invariant-loop-bytes
+invariant-loop-bytes g l =
+    let taken = g.S.Sink.taken in
+    let left = g.R.Read.remaining in
+    let rest = take l.kept l.buffer.items in
+    record {
+      cut : CutsRead l.cuts (left l.initial.r) (left l.r) (taken l.initial.sink) (taken l.sink) l.bytes rest;
+      begun : IsBegun l.cuts rest;
+      room : length l.buffer.items ≡ l.cuts.most;
+      kept : l.kept ≤ length l.buffer.items;
+      within : l.bytes ≤ l.limit;
+    }
+
+abbrev pub decreases-loop-bytes : goal.decreases-loop-bytes
+decreases-loop-bytes g l = l.limit - l.bytes

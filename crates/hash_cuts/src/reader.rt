@@ -1,0 +1,138 @@
+//! The chunks of what a reader gives, the same ones however the reader cuts its bytes.
+ghost use Rattle.std.specs.Prelude.{◌≡◌, ◌≤◌, ◌<◌, ◌-◌, ◌↔◌, ◌++◌, ◌∷◌, [], ℕ, List, Some, length, take, drop, IfOk, IfErr, OnOk, OnErr, IsTrue, false};
+ghost use Rattle.hash_cuts.specs.Cuts.{chunks};
+ghost use Rattle.hash_cuts.specs.Reading.{CutsAll, CutsRead, GivesFirst, IsBegun};
+
+use crate::cuts::Cuts;
+use hashers::reader::{Fault, Taken, fill};
+use std::alloc::{AllocError, Global};
+use std::io::Read;
+
+/// What takes chunks one after the other.
+pub trait Sink {
+    /// Why a chunk was not taken.
+    type Error: Drop;
+
+    /// The chunks that were taken, in their order.
+    ghost taken: { Self → List (List ℕ) };
+
+    /// Takes a chunk behind the others, or fails and takes nothing.
+    fn take(&mut self, chunk: &[u8]) -> Result<(), Self::Error>
+        ensures ok { OnOk result (taken self.new ≡ taken self.old ++ chunk.now ∷ []) }
+        ensures err { OnErr result (taken self.new ≡ taken self.old) };
+}
+
+/// Why a reader was not cut to its end.
+#[derive(Drop)]
+pub enum Unfinished<E: Drop> {
+    /// A read failed. The sink has the chunks that end within the bytes read before, and not the one that was begun.
+    Unread(Fault),
+    /// The sink failed.
+    Refused(E),
+    /// There is no memory for a chunk.
+    NoMemory,
+}
+
+impl<E: Drop> From<AllocError> for Unfinished<E> {
+    fn from(_: AllocError) -> Unfinished<E> {
+        Unfinished::NoMemory
+    }
+}
+
+/// Gives the sink the chunks of the bytes that end there whatever comes behind, and returns how many bytes they have.
+fn give_first<S: Sink>(cuts: &Cuts, bytes: &[u8], sink: &mut S) -> Result<usize, Unfinished<S::Error>>
+    ensures gives { IfOk result (λ n. GivesFirst cuts.now bytes.now (drop n bytes.now)
+        (S.taken sink.old) (S.taken sink.new)) }
+    ensures within { IfOk result (λ n. n ≤ length bytes.now) }
+    ensures rest { IfOk result (λ n. IsBegun cuts.now (drop n bytes.now)) }
+    ensures some { OnErr result ((rest : List ℕ) × GivesFirst cuts.now bytes.now rest
+        (S.taken sink.old) (S.taken sink.new)) }
+{
+    let most = cuts.most();
+    let mut given = 0;
+    while given < bytes.len() {
+        let rest = &bytes[given..];
+        let n = cuts.first_cut(rest);
+        if n == rest.len() && n < most {
+            break;
+        }
+        if let Err(error) = sink.take(&rest[..n]) {
+            return Err(Unfinished::Refused(error));
+        }
+        given += n;
+    }
+    Ok(given)
+}
+
+/// Gives the sink the last chunk, unless it is empty.
+fn give_last<S: Sink>(chunk: &[u8], sink: &mut S) -> Result<(), Unfinished<S::Error>>
+    ensures none { length chunk.now ≡ 0 → S.taken sink.new ≡ S.taken sink.old }
+    ensures one { 0 < length chunk.now → OnOk result (S.taken sink.new ≡ S.taken sink.old ++ chunk.now ∷ []) }
+    ensures err { OnErr result (S.taken sink.new ≡ S.taken sink.old) }
+{
+    if chunk.is_empty() {
+        return Ok(());
+    }
+    match sink.take(chunk) {
+        Ok(()) => Ok(()),
+        Err(error) => Err(Unfinished::Refused(error)),
+    }
+}
+
+/// Moves the bytes of a range to the front, and returns how many they are.
+fn to_front(bytes: &mut [u8], from: usize, to: usize) -> usize
+    requires rises { from ≤ to }
+    requires within { to ≤ length bytes.old }
+    ensures count { result ≡ to - from }
+    ensures kept { take (to - from) bytes.new ≡ take (to - from) (drop from bytes.old) }
+{
+    bytes.copy_within(from..to, 0);
+    to - from
+}
+
+/// Reads to the end, or up to `limit` bytes, and gives the sink the chunks, the same ones however the reader cuts its bytes.
+///
+/// It takes memory for one chunk of `most` bytes. At the limit, which was met if `ended` is `false`, and after a read's error, `Interrupted`
+/// too, the sink has the chunks that end within the bytes read, and not the one that was begun.
+pub fn cut_reader<R: Read, S: Sink>(
+    alloc: Global,
+    cuts: &Cuts,
+    r: &mut R,
+    limit: u64,
+    sink: &mut S,
+) -> Result<Taken, Unfinished<S::Error>>
+    ensures all { IfOk result (λ taken. IsTrue taken.ended → CutsAll cuts.now
+        (R.remaining r.old) (R.remaining r.new) (S.taken sink.old) (S.taken sink.new) taken.bytes) }
+    ensures first { IfOk result (λ taken. taken.ended ≡ false → (rest : List ℕ) × CutsRead cuts.now
+        (R.remaining r.old) (R.remaining r.new) (S.taken sink.old) (S.taken sink.new) taken.bytes rest) }
+    ensures fault { OnErr result ((bytes : ℕ) × (rest : List ℕ) × CutsRead cuts.now
+        (R.remaining r.old) (R.remaining r.new) (S.taken sink.old) (S.taken sink.new) bytes rest) }
+    ensures known { IfOk result (λ taken. IsTrue taken.ended → (text : List ℕ) → R.remaining r.old ≡ Some text
+        → S.taken sink.new ≡ S.taken sink.old ++ chunks cuts.now text) }
+    ensures within { IfOk result (λ taken. taken.bytes ≤ limit) }
+    ensures at_limit { IfOk result (λ taken. (taken.ended ≡ false) ↔ (taken.bytes ≡ limit)) }
+{
+    let mut buffer = Vec::new(alloc);
+    buffer.resize(cuts.most(), 0)?;
+    let mut kept = 0;
+    let mut bytes = 0;
+    while bytes < limit {
+        let room = (limit - bytes).min((buffer.len() - kept) as u64) as usize;
+        let (filled, outcome) = fill(r, &mut buffer[kept..kept + room]);
+        let end = kept + filled;
+        bytes += filled as u64;
+        let given = give_first(cuts, &buffer[..end], sink)?;
+        kept = to_front(&mut buffer, given, end);
+        if let Err(error) = outcome {
+            return Err(Unfinished::Unread(Fault { bytes, error }));
+        }
+        if filled < room {
+            give_last(&buffer[..kept], sink)?;
+            return Ok(Taken { bytes, ended: true });
+        }
+    }
+    Ok(Taken {
+        bytes,
+        ended: false,
+    })
+}
