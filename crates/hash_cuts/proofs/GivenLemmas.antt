@@ -1,12 +1,15 @@
 -- Chunks that a sink was given, one after the other.
-use Rattle.std.proofs.Common.{◌≡◌, ◌≢◌, ℕ, ◌+◌, ◌-◌, ◌<◌, ◌≤◌, ◌⊎◌, min, List, [], ◌∷◌, ◌++◌, length, length-append, take, drop, append_assoc, inl, inr, arith, ap, sym, ◌∙◌, refl}
+use Rattle.std.proofs.Common.{◌≡◌, ℕ, ◌+◌, ◌-◌, ◌<◌, ◌≤◌, ◌⊎◌, List, [], ◌∷◌, ◌++◌, length, length-append, take, drop, append_assoc, Option, Some, None, Result, Ok, Err, inl, inr, arith, ap, subst, sym, ◌∙◌, refl}
 use Rattle.std.proofs.Math.Path.{ap₂}
+use Rattle.std.specs.Io.KnownBytes.{IsAtEnd}
+use Rattle.std.specs.Result.{OnErr}
+use Rattle.std.proofs.KnownBytes.{Consumes-trans}
 use Rattle.std.proofs.lemmas.Bool.{cases_lt}
-use Rattle.std.proofs.lemmas.List.{append-nil, drop-append-le, length-drop, length-take-le, take-append-drop, take-append-le, take_all, drop_all, nil_from_length}
+use Rattle.std.proofs.lemmas.List.{append-nil, drop-append-le, drop-take, length-drop, take-append-drop, take-append-le, take_all}
 use Rattle.hash_cuts.specs.Cuts.{Cutting, HasSizes, chunks, first_cut, is_cut}
-use Rattle.hash_cuts.specs.Reading.{GivesFirst, IsBegun}
-use Rattle.hash_cuts.proofs.ChunkLemmas.{chunks-first, chunks-none, first_cut-le, first_cut-some}
-use Rattle.hash_cuts.proofs.CutLemmas.{IsFirst, first_cut-is, first_cut-from, latest}
+use Rattle.hash_cuts.specs.Reading.{CutsAll, CutsRead, GivesFirst, IsBegun, ReadsBehind}
+use Rattle.hash_cuts.proofs.ChunkLemmas.{chunks-first, chunks-none, first_cut-le}
+use Rattle.hash_cuts.proofs.CutLemmas.{first_cut-is, first_cut-from}
 use Rattle.hash_cuts.proofs.InStep.{is_cut-same, own-bytes}
 
 pub gives-none : (cuts : Cutting) (text : List ℕ) (old : List (List ℕ)) → GivesFirst cuts text text old old
@@ -93,3 +96,43 @@ module _ (cuts : Cutting) (sizes : HasSizes cuts) where
             ∙ ap (λ list. old ++ list) (sym (append-nil gives.given)
             ∙ ap (λ list. gives.given ++ list) (sym (chunks-none cuts rest (omega (arith, empty)))) ∙ sym all)
       ]
+
+-- more was read, and the sink was given the first chunks of what was left with it
+pub reads-first : (cuts : Cutting) → HasSizes cuts → (left mid left' : Option (List ℕ)) (old between new : List (List ℕ)) (bytes count : ℕ) (rest whole rest' : List ℕ)
+    → CutsRead cuts left mid old between bytes rest → ReadsBehind rest whole mid left' count → GivesFirst cuts whole rest' between new
+    → CutsRead cuts left left' old new (bytes + count) rest'
+reads-first cuts sizes left mid left' old between new bytes count rest whole rest' before more gives = record {
+  text = before.text ++ more.bytes;
+  read = Consumes-trans left mid left' before.text more.bytes before.read more.read;
+  count = length-append before.text more.bytes ∙ omega (arith, before.count, more.length_is);
+  gives = gives-behind cuts sizes before.text rest more.bytes rest' old between new before.gives
+      (subst (λ t. GivesFirst cuts t rest' between new) more.stands gives);
+}
+
+-- nothing was read
+pub reads-none : (cuts : Cutting) (left : Option (List ℕ)) (old : List (List ℕ)) → CutsRead cuts left left old old 0 []
+reads-none cuts None old = record { text = []; read = tt; count = refl; gives = gives-none cuts [] old; }
+reads-none cuts (Some text) old = record { text = []; read = refl; count = refl; gives = gives-none cuts [] old; }
+
+-- all was read, and the last chunk given
+pub reads-all : (cuts : Cutting) → HasSizes cuts → (left left' : Option (List ℕ)) (old new newer : List (List ℕ)) (bytes : ℕ) (rest : List ℕ)
+    → CutsRead cuts left left' old new bytes rest → IsAtEnd left' → IsBegun cuts rest → (length rest ≡ 0 → newer ≡ new)
+    → (0 < length rest → newer ≡ new ++ rest ∷ []) → CutsAll cuts left left' old newer bytes
+reads-all cuts sizes left left' old new newer bytes rest before end begun none one = record {
+  text = before.text;
+  read = before.read;
+  end = end;
+  count = before.count;
+  taken = gives-all cuts sizes before.text rest old new newer before.gives begun none one;
+}
+
+pub on_err : {A E : Type 0} (P : Type 0) (result : Result A E) → P → OnErr result P
+on_err P (Ok it) holds = tt
+on_err P (Err error) holds = holds
+
+-- what was moved to the front
+pub moved-front : (buffer moved : List ℕ) (given to k : ℕ) → given ≤ to → k ≡ to - given
+    → take (to - given) moved ≡ take (to - given) (drop given buffer) → take k moved ≡ drop given (take to buffer)
+moved-front buffer moved given to k within count kept =
+    let whole : given + (to - given) ≡ to = omega (arith, within) in
+    ap (λ n. take n moved) count ∙ kept ∙ sym (drop-take given (to - given) buffer) ∙ ap (λ n. drop given (take n buffer)) whole

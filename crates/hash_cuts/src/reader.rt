@@ -1,12 +1,13 @@
 //! The chunks of what a reader gives, the same ones however the reader cuts its bytes.
-ghost use Rattle.std.specs.Prelude.{◌≡◌, ◌≤◌, ◌<◌, ◌-◌, ◌↔◌, ◌++◌, ◌∷◌, [], ℕ, List, Some, length, take, drop, IfOk, IfErr, OnOk, OnErr, IsTrue, false};
-ghost use Rattle.hash_cuts.specs.Cuts.{chunks};
-ghost use Rattle.hash_cuts.specs.Reading.{CutsAll, CutsRead, GivesFirst, IsBegun};
+ghost use Rattle.std.specs.Prelude.{◌≡◌, ◌≤◌, ◌<◌, ◌+◌, ◌-◌, ◌↔◌, ◌++◌, ◌∷◌, [], ℕ, List, Some, length, take, drop, IfOk, IfErr, OnOk, OnErr, IsTrue, false};
+ghost use Rattle.std.specs.Io.KnownBytes.{IsAtEnd};
+ghost use Rattle.hash_cuts.specs.Cuts.{HasSizes, chunks};
+ghost use Rattle.hash_cuts.specs.Reading.{CutsAll, CutsRead, GivesFirst, IsBegun, ReadsBehind};
 
 use crate::cuts::Cuts;
 use hashers::reader::{Fault, Taken, fill};
 use std::alloc::{AllocError, Global};
-use std::io::Read;
+use std::io::{Read, Result as IoResult};
 
 /// What takes chunks one after the other.
 pub trait Sink {
@@ -85,9 +86,64 @@ fn to_front(bytes: &mut [u8], from: usize, to: usize) -> usize
     requires within { to ≤ length bytes.old }
     ensures count { result ≡ to - from }
     ensures kept { take (to - from) bytes.new ≡ take (to - from) (drop from bytes.old) }
+    ensures len { length bytes.new ≡ length bytes.old }
 {
     bytes.copy_within(from..to, 0);
     to - from
+}
+
+/// Reads behind the bytes that are kept, until there is no room, the input ends or a read fails, and counts the bytes.
+fn read_behind<R: Read>(r: &mut R, buffer: &mut [u8], kept: usize, room: usize) -> (usize, IoResult<()>)
+    requires { kept + room ≤ length buffer.old }
+    ensures within { result.0 ≤ room }
+    ensures read { ReadsBehind (take kept buffer.old) (take (kept + result.0) buffer.new)
+        (R.remaining r.old) (R.remaining r.new) result.0 }
+    ensures len { length buffer.new ≡ length buffer.old }
+    ensures end { OnOk result.1 (result.0 < room → IsAtEnd (R.remaining r.new)) }
+    ensures fault { OnErr result.1 (result.0 < room) }
+{
+    fill(r, &mut buffer[kept..kept + room])
+}
+
+/// Does what `cut_reader` says, by a buffer for one chunk.
+fn cut_by<R: Read, S: Sink>(
+    cuts: &Cuts,
+    r: &mut R,
+    limit: u64,
+    sink: &mut S,
+    buffer: &mut [u8],
+) -> Result<Taken, Unfinished<S::Error>>
+    requires room { length buffer.old ≡ cuts.now.most }
+    requires sizes { HasSizes cuts.now }
+    ensures all { IfOk result (λ taken. IsTrue taken.ended → CutsAll cuts.now
+        (R.remaining r.old) (R.remaining r.new) (S.taken sink.old) (S.taken sink.new) taken.bytes) }
+    ensures first { IfOk result (λ taken. taken.ended ≡ false → (rest : List ℕ) × CutsRead cuts.now
+        (R.remaining r.old) (R.remaining r.new) (S.taken sink.old) (S.taken sink.new) taken.bytes rest) }
+    ensures fault { OnErr result ((bytes : ℕ) × (rest : List ℕ) × CutsRead cuts.now
+        (R.remaining r.old) (R.remaining r.new) (S.taken sink.old) (S.taken sink.new) bytes rest) }
+    ensures within { IfOk result (λ taken. taken.bytes ≤ limit) }
+    ensures at_limit { IfOk result (λ taken. (taken.ended ≡ false) ↔ (taken.bytes ≡ limit)) }
+{
+    let mut kept = 0;
+    let mut bytes = 0;
+    while bytes < limit {
+        let room = (limit - bytes).min((buffer.len() - kept) as u64) as usize;
+        let (count, outcome) = read_behind(r, buffer, kept, room);
+        bytes += count as u64;
+        let given = give_first(cuts, &buffer[..kept + count], sink)?;
+        kept = to_front(buffer, given, kept + count);
+        if let Err(error) = outcome {
+            return Err(Unfinished::Unread(Fault { bytes, error }));
+        }
+        if count < room {
+            give_last(&buffer[..kept], sink)?;
+            return Ok(Taken { bytes, ended: true });
+        }
+    }
+    Ok(Taken {
+        bytes,
+        ended: false,
+    })
 }
 
 /// Reads to the end, or up to `limit` bytes, and gives the sink the chunks, the same ones however the reader cuts its bytes.
@@ -101,12 +157,15 @@ pub fn cut_reader<R: Read, S: Sink>(
     limit: u64,
     sink: &mut S,
 ) -> Result<Taken, Unfinished<S::Error>>
+    // All chunks, if the end was seen;
     ensures all { IfOk result (λ taken. IsTrue taken.ended → CutsAll cuts.now
         (R.remaining r.old) (R.remaining r.new) (S.taken sink.old) (S.taken sink.new) taken.bytes) }
+    // at the limit and after a fault first ones.
     ensures first { IfOk result (λ taken. taken.ended ≡ false → (rest : List ℕ) × CutsRead cuts.now
         (R.remaining r.old) (R.remaining r.new) (S.taken sink.old) (S.taken sink.new) taken.bytes rest) }
     ensures fault { OnErr result ((bytes : ℕ) × (rest : List ℕ) × CutsRead cuts.now
         (R.remaining r.old) (R.remaining r.new) (S.taken sink.old) (S.taken sink.new) bytes rest) }
+    // If the reader's bytes are known, all chunks are theirs.
     ensures known { IfOk result (λ taken. IsTrue taken.ended → (text : List ℕ) → R.remaining r.old ≡ Some text
         → S.taken sink.new ≡ S.taken sink.old ++ chunks cuts.now text) }
     ensures within { IfOk result (λ taken. taken.bytes ≤ limit) }
@@ -114,25 +173,5 @@ pub fn cut_reader<R: Read, S: Sink>(
 {
     let mut buffer = Vec::new(alloc);
     buffer.resize(cuts.most(), 0)?;
-    let mut kept = 0;
-    let mut bytes = 0;
-    while bytes < limit {
-        let room = (limit - bytes).min((buffer.len() - kept) as u64) as usize;
-        let (filled, outcome) = fill(r, &mut buffer[kept..kept + room]);
-        let end = kept + filled;
-        bytes += filled as u64;
-        let given = give_first(cuts, &buffer[..end], sink)?;
-        kept = to_front(&mut buffer, given, end);
-        if let Err(error) = outcome {
-            return Err(Unfinished::Unread(Fault { bytes, error }));
-        }
-        if filled < room {
-            give_last(&buffer[..kept], sink)?;
-            return Ok(Taken { bytes, ended: true });
-        }
-    }
-    Ok(Taken {
-        bytes,
-        ended: false,
-    })
+    cut_by(cuts, r, limit, sink, buffer.as_mut_slice())
 }

@@ -1,12 +1,11 @@
-use Rattle.std.proofs.Common.{◌≡◌, ◌≤◌, ◌<◌, ◌+◌, ◌-◌, ◌∷◌, [], ◌⊎◌, ℕ, List, length, take, drop, ◌++◌, inl, inr, ap, subst, sym, ◌∙◌, arith}
+use Rattle.std.proofs.Common.{◌≡◌, ◌≤◌, ◌<◌, ◌-◌, ◌∷◌, [], ◌⊎◌, ℕ, List, length, take, drop, ◌++◌, inl, inr, ap, subst, sym, ◌∙◌, arith}
 use Rattle.std.proofs.Math.Path.{ap₂}
-use Rattle.std.proofs.lemmas.Bool.{cases_lt}
-use Rattle.std.proofs.lemmas.List.{drop-drop, length-drop, length-take-le, take_all}
+use Rattle.std.proofs.lemmas.List.{drop-drop, length-drop, take_all}
 use Rattle.hash_cuts.specs.Cuts.{Cutting, HasSizes, first_cut}
-use Rattle.hash_cuts.specs.Reading.{GivesFirst, IsBegun}
-use Rattle.hash_cuts.proofs.ChunkLemmas.{first_cut-le, first_cut-some}
-use Rattle.hash_cuts.proofs.CutLemmas.{IsFirst, first_cut-is, latest}
-use Rattle.hash_cuts.proofs.GivenLemmas.{gives-more, gives-none}
+use Rattle.hash_cuts.specs.Reading.{GivesFirst}
+use Rattle.hash_cuts.proofs.ChunkLemmas.{first_cut-le}
+use Rattle.hash_cuts.proofs.CutLemmas.{first_cut-is}
+use Rattle.hash_cuts.proofs.GivenLemmas.{gives-more}
 use Rattle.hash_cuts.proofs.reader.give_first.Goals.{else-n-rest-via-then-n-rest+else-n-most, else-n-rest-via-else-n-rest, else-loop-given-test, then-loop-given-test+then-n-rest+then-n-most}
 use Rattle.hash_cuts.proofs.reader.give_first.Goals as goal
 
