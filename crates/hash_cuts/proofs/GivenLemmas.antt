@@ -111,8 +111,8 @@ reads-first cuts sizes left mid left' old between new bytes count rest whole res
 
 -- nothing was read
 pub reads-none : (cuts : Cutting) (left : Option (List ℕ)) (old : List (List ℕ)) → CutsRead cuts left left old old 0 []
-reads-none cuts None old = record { text = []; read = tt; count = refl; gives = gives-none cuts [] old; }
-reads-none cuts (Some text) old = record { text = []; read = refl; count = refl; gives = gives-none cuts [] old; }
+reads-none cuts None old = record { text = []; read = tt; count = refl; gives = gives-none cuts [] old }
+reads-none cuts (Some text) old = record { text = []; read = refl; count = refl; gives = gives-none cuts [] old }
 
 -- all was read, and the last chunk given
 pub reads-all : (cuts : Cutting) → HasSizes cuts → (left left' : Option (List ℕ)) (old new newer : List (List ℕ)) (bytes : ℕ) (rest : List ℕ)

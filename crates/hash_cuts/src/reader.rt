@@ -41,7 +41,11 @@ impl<E: Drop> From<AllocError> for Unfinished<E> {
 }
 
 /// Gives the sink the chunks of the bytes that end there whatever comes behind, and returns how many bytes they have.
-fn give_first<S: Sink>(cuts: &Cuts, bytes: &[u8], sink: &mut S) -> Result<usize, Unfinished<S::Error>>
+fn give_first<S: Sink>(
+    cuts: &Cuts,
+    bytes: &[u8],
+    sink: &mut S,
+) -> Result<usize, Unfinished<S::Error>>
     ensures gives { IfOk result (λ n. GivesFirst cuts.now bytes.now (drop n bytes.now)
         (S.taken sink.old) (S.taken sink.new)) }
     ensures within { IfOk result (λ n. n ≤ length bytes.now) }
@@ -93,7 +97,12 @@ fn to_front(bytes: &mut [u8], from: usize, to: usize) -> usize
 }
 
 /// Reads behind the bytes that are kept, until there is no room, the input ends or a read fails, and counts the bytes.
-fn read_behind<R: Read>(r: &mut R, buffer: &mut [u8], kept: usize, room: usize) -> (usize, IoResult<()>)
+fn read_behind<R: Read>(
+    r: &mut R,
+    buffer: &mut [u8],
+    kept: usize,
+    room: usize,
+) -> (usize, IoResult<()>)
     requires { kept + room ≤ length buffer.old }
     ensures within { result.0 ≤ room }
     ensures read { ReadsBehind (take kept buffer.old) (take (kept + result.0) buffer.new)

@@ -6,6 +6,7 @@ mod beside;
 mod buckets;
 mod byte_hashers;
 mod collision;
+mod cuts;
 mod fx;
 mod jenkins;
 mod keyed;

@@ -85,7 +85,14 @@ loop-bytes-preserved g c =
           c.in_ok-given.ensures.gives);
       begun = subst (λ (t : List ℕ). IsBegun c.args.cuts.now t) (sym front) c.in_ok-given.ensures.rest;
       room = c.to_front-kept.ensures.len ∙ c.read_behind-count.ensures.len ∙ before.room;
-      kept = omega (arith, c.to_front-kept.ensures.count, c.to_front-kept.ensures.len, c.read_behind-count.ensures.len,
-          c.read_behind-count.ensures.within, room, before.kept);
+      kept = omega (
+        arith,
+        c.to_front-kept.ensures.count,
+        c.to_front-kept.ensures.len,
+        c.read_behind-count.ensures.len,
+        c.read_behind-count.ensures.within,
+        room,
+        before.kept,
+      );
       within = omega (arith, c.read_behind-count.ensures.within, room, before.within);
     }

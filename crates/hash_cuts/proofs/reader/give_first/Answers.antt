@@ -57,9 +57,9 @@ returns-clause-rest g c =
     let le = first_cut-le cuts sizes rest in
     elim c.loop-given-test.branch [
       | else-loop-given-test w ↦ (
-          omega (arith, le, length-drop given bytes, w.loop-given-test.false),
-          omega (arith, length-drop given bytes, w.loop-given-test.false, sizes.0, sizes.1, sizes.2),
-        )
+        omega (arith, le, length-drop given bytes, w.loop-given-test.false),
+        omega (arith, length-drop given bytes, w.loop-given-test.false, sizes.0, sizes.1, sizes.2),
+      )
       | then-loop-given-test+then-n-rest+then-n-most w ↦
           let is = cut-is cuts sizes bytes given w.first_cut-n.result w.first_cut-n.ensures.cut in
           let len = ap length (rest-is bytes given) in (
