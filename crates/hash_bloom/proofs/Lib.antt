@@ -1,7 +1,7 @@
 pub mod FileLemmas
 pub mod Found
 pub mod Reduction
-pub mod Log
+pub mod Zeros
 pub mod OneBit
 pub mod Ones
 pub mod Places

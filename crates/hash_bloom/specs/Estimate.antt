@@ -1,15 +1,36 @@
--- How many keys a filter's ones tell of.
-use Rattle.std.specs.Prelude.{ℕ, ◌≡◌, ◌+◌, ◌-◌, ◌*◌, ◌/◌, ◌^◌, ◌<◌, ◌≤◌, min}
+-- How many keys were inserted, as a filter's zeros tell it.
+use Rattle.std.specs.Prelude.{ℕ, ◌⊎◌, ◌+◌, ◌-◌, ◌*◌, ◌/◌, ◌^◌, ◌<◌, ◌≤◌}
 use Rattle.hash_bloom.specs.Filter.{Filter, count_set}
 
--- the logarithm of a ratio to base 2, in so many parts for each halving: at most two parts too low
-pub record IsLog2 (parts above below log : ℕ) : Type 0 where
-  pub reached : 2 ^ log * below ^ parts ≤ above ^ parts
-  pub nearly : above ^ parts < 2 ^ (log + 2) * below ^ parts
+-- after m probes of good hashes bits * (1 - 1 / bits) ^ m zeros are expected (O. Papapetrou, W. Siberski, W. Nejdl, "Cardinality
+-- Estimation and Dynamic Length Adaptation for Bloom Filters", 2010): more than these, or at most so many
+module _ (bits zeros : ℕ) where
+  abbrev pub LeavesMore : ℕ → Type 0
+  LeavesMore m = zeros * bits ^ m < (bits - 1) ^ m * bits
 
--- bits / probes * ln (bits / zeros), by ln 2 as 0.693147181, rounded to a whole number, and at most 2 ^ 64 - 1
-pub record IsEstimate (filter : Filter) (keys : ℕ) : Type 0 where
-  pub log : ℕ
-  pub is_log : IsLog2 (2 ^ 28) filter.bits (filter.bits - count_set filter.words filter.bits) log
-  pub is : let half = filter.probes * (2 ^ 27 * 10 ^ 9) in
-      keys ≡ min (2 ^ 64 - 1) ((filter.bits * log * 693147181 + half) / (2 * half))
+  abbrev pub LeavesAtMost : ℕ → Type 0
+  LeavesAtMost m = (bits - 1) ^ m * bits ≤ zeros * bits ^ m
+
+-- the nearest number of keys: the probes of half a key less leave more zeros, and those of half a key more leave at most so many. So it is
+-- the least number of keys that leave at most so many, or one less.
+pub record IsNearest (bits probes zeros keys : ℕ) : Type 0 where
+  pub more : (m : ℕ) → m + probes / 2 < probes * keys → LeavesMore bits zeros m
+  pub at_most : bits ≤ 2 ^ 40 → (m : ℕ) → probes * keys + probes / 2 < m → LeavesAtMost bits zeros m
+
+abbrev pub IsEstimate : Filter → ℕ → Type 0
+IsEstimate filter = IsNearest filter.bits filter.probes (filter.bits - count_set filter.words filter.bits)
+
+-- ---- in parts of 2 ^ 128
+-- all bits are 2 ^ 128: so many zeros are expected after some probes, or up to 2 * probes - 1 more
+pub record IsExpected (bits probes zeros : ℕ) : Type 0 where
+  pub some : 1 ≤ probes
+  pub low : zeros * bits ^ probes ≤ 2 ^ 128 * (bits - 1) ^ probes
+  pub high : 2 ^ 128 * (bits - 1) ^ probes ≤ (zeros + (2 * probes - 1)) * bits ^ probes
+
+abbrev pub IsWithin : ℕ → ℕ → ℕ → Type 0
+IsWithin bits limit probes = (zeros : ℕ) × IsExpected bits probes zeros × (zeros ≤ limit)
+
+-- the next multiple of `one` is within the limit, or above 2 ^ 70
+pub record IsLast (bits limit one probes zeros : ℕ) : Type 0 where
+  pub expected : IsExpected bits probes zeros
+  pub next : (2 ^ 70 < probes + one) ⊎ IsWithin bits limit (probes + one)

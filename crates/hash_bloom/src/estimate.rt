@@ -1,61 +1,91 @@
-//! The logarithm by which a filter's ones tell how many keys were inserted.
-ghost use Rattle.std.specs.Prelude.{◌+◌, ◌*◌, ◌^◌, ◌<◌, ◌≤◌};
-ghost use Rattle.hash_bloom.specs.Estimate.{IsLog2};
+//! How many keys were inserted, as a filter's zeros tell it.
+ghost use Rattle.std.specs.Prelude.{ℕ, ◌≡◌, ◌+◌, ◌-◌, ◌*◌, ◌/◌, ◌^◌, ◌<◌, ◌≤◌};
+ghost use Rattle.hash_bloom.specs.Estimate.{IsExpected, IsLast, IsNearest, LeavesAtMost, LeavesMore};
 
-/// How many squares are taken: each gives one binary digit of the logarithm.
-pub const DIGITS: u32 = 28;
+/// 64 probes a bit, of 2^64 bits: less than one zero is expected after them.
+const MANY: u128 = 1 << 70;
 
-/// A number from 2^62 on as one below 2^63, and how often it was halved for that.
-fn normalised(number: u128) -> (u128, u64)
-    requires low { 2 ^ 62 ≤ number }
-    requires high { number < 2 ^ 126 }
-    ensures low { 2 ^ 62 ≤ result.0 }
-    ensures high { result.0 < 2 ^ 63 }
-    ensures floor { 2 ^ result.1 * result.0 ≤ number }
-    ensures ceiling { number < 2 ^ result.1 * (result.0 + 1) }
-    ensures few { result.1 < 64 }
-{
-    let mut mantissa = number;
-    for halvings in 0..64 {
-        if mantissa < 1 << 63 {
-            return (mantissa, halvings);
-        }
-        mantissa /= 2;
-    }
-    unreachable!()
+/// How many zeros are expected after so many probes. All bits are 2^128, and it is rounded down.
+#[derive(Clone, Copy)]
+struct Expected {
+    probes: u128,
+    zeros: u128,
 }
 
-/// The square of a number from 1 up to 2, in parts of 2^62, as such a number, and how often it was halved for that.
-fn squared(mantissa: u128) -> (u128, u64)
-    requires low { 2 ^ 62 ≤ mantissa }
-    requires high { mantissa < 2 ^ 63 }
-    ensures low { 2 ^ 62 ≤ result.0 }
-    ensures high { result.0 < 2 ^ 63 }
-    ensures floor { 2 ^ result.1 * (2 ^ 62 * result.0) ≤ mantissa * mantissa }
-    ensures ceiling { mantissa * mantissa < 2 ^ result.1 * (2 ^ 62 * (result.0 + 1)) }
-    ensures few { result.1 ≤ 1 }
+/// The high half of the product.
+fn product_high(one: u128, other: u128) -> u128
+    ensures { result ≡ one * other / 2 ^ 128 }
 {
-    let square = mantissa * mantissa;
-    if square < 1 << 125 {
-        (square >> 62, 0)
-    } else {
-        (square >> 63, 1)
+    let (high, low) = (one >> 64, one % (1 << 64));
+    let (other_high, other_low) = (other >> 64, other % (1 << 64));
+    let middle = high * other_low + (low * other_low >> 64);
+    let other_middle = low * other_high + middle % (1 << 64);
+    high * other_high + (middle >> 64) + (other_middle >> 64)
+}
+
+/// What is expected after the probes of both.
+fn after_both(one: Expected, other: Expected) -> Expected
+    requires { one.probes + other.probes < 2 ^ 128 }
+    ensures probes { result.probes ≡ one.probes + other.probes }
+    ensures expected { (bits : ℕ) → IsExpected bits one.probes one.zeros → IsExpected bits other.probes other.zeros
+        → IsExpected bits result.probes result.zeros }
+{
+    Expected {
+        probes: one.probes + other.probes,
+        zeros: product_high(one.zeros, other.zeros),
     }
 }
 
-/// The logarithm of a ratio to base 2, in parts of 2^28: each square of the ratio, halved where it is 2 or more, tells one more
-/// digit.
-pub fn log2_of_ratio(above: u64, below: u64) -> u64
-    requires some { 1 ≤ below }
-    requires upto { below ≤ above }
-    ensures log { IsLog2 (2 ^ 28) above below result }
-    ensures few { result < 64 * 2 ^ 28 }
+/// The most probes after which more zeros are expected than the limit, in multiples of those of `one`.
+fn last_above(one: Expected, limit: u128) -> Expected
+    requires above { limit < one.zeros }
+    requires some { 1 ≤ one.probes }
+    requires few { one.probes ≤ 2 ^ 70 }
+    ensures above { limit < result.zeros }
+    ensures few { result.probes + one.probes ≤ 2 ^ 71 }
+    ensures last { (bits : ℕ) → IsExpected bits one.probes one.zeros → IsLast bits limit one.probes result.probes result.zeros }
 {
-    let (mut mantissa, mut log) = normalised((u128::from(above) << 62) / u128::from(below));
-    for _ in 0..DIGITS {
-        let (square, halved) = squared(mantissa);
-        mantissa = square;
-        log = 2 * log + halved;
+    let two = after_both(one, one);
+    if two.probes > MANY || two.zeros <= limit {
+        return one;
     }
-    log
+    let even = last_above(two, limit);
+    let odd = after_both(even, one);
+    if odd.zeros > limit { odd } else { even }
+}
+
+/// The fewest probes after which no more zeros are expected than these, or one fewer.
+fn fewest_probes(bits: u64, zeros: u64) -> u128
+    requires some { 1 ≤ zeros }
+    requires fewer { zeros < bits }
+    ensures some { 1 ≤ result }
+    ensures few { result ≤ 2 ^ 71 }
+    ensures more { LeavesMore bits zeros (result - 1) }
+    ensures at_most { bits ≤ 2 ^ 40 → LeavesAtMost bits zeros (result + 1) }
+{
+    let bit = u128::MAX / u128::from(bits) + 1;
+    let limit = u128::from(zeros) * bit;
+    let one = Expected {
+        probes: 1,
+        zeros: u128::MAX - bit + 1,
+    };
+    if one.zeros <= limit {
+        return 1;
+    }
+    last_above(one, limit).probes + 1
+}
+
+/// The fewest probes after which no more zeros are expected, to the nearest number of keys.
+pub fn nearest_keys(bits: u64, probes: u32, zeros: u64) -> u64
+    requires probes { 1 ≤ probes }
+    requires some { 1 ≤ zeros }
+    requires upto { zeros ≤ bits }
+    ensures { IsNearest bits probes zeros result }
+{
+    if zeros == bits {
+        return 0;
+    }
+    let fewest = fewest_probes(bits, zeros);
+    let probes = u128::from(probes);
+    ((fewest + probes / 2) / probes).min(u128::from(u64::MAX)) as u64
 }

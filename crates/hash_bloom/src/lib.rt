@@ -19,7 +19,7 @@ mod tests;
 pub mod words;
 
 use crate::bits::{has_all, no_bits_beyond, ones};
-use crate::estimate::{DIGITS, log2_of_ratio};
+use crate::estimate::nearest_keys;
 use hashers::laws::{Piecewise, Streamed, answer_of_pieces};
 use std::alloc::{AllocError, Global};
 use std::error::Error as StdError;
@@ -188,13 +188,13 @@ impl<F: Piecewise, G: Piecewise> Bloom<F, G> {
         ones(&self.words, self.bits)
     }
 
-    /// How many keys were inserted, as the ones tell it: bits / probes * ln(bits / zeros), for good hashes (S. Joshua Swamidass, Pierre
-    /// Baldi, "Mathematical Correction for Fingerprint Similarity Measures to Improve Chemical Retrieval", 2007). `None` exactly where
-    /// all bits are set, which tells nothing.
+    /// How many keys were inserted, as the zeros tell it, to the nearest whole number. After n keys of good hashes
+    /// bits * (1 - 1 / bits)^(probes * n) zeros are expected, and the estimate is the n at which that is the number of zeros (Odysseas
+    /// Papapetrou, Wolf Siberski, Wolfgang Nejdl, "Cardinality Estimation and Dynamic Length Adaptation for Bloom Filters", 2010). `None`
+    /// exactly where all bits are set, which tells nothing.
     ///
-    /// It is computed in whole numbers: the logarithm to base 2 in parts of 2^28, at most two parts too low, times 0.693147181. The result
-    /// is rounded, and need not be the nearest whole number: at 7 probes it may be off by one key at 10^9 bits, and by 811 at 2^40. It is
-    /// at most 2^64 - 1. It goes over all words.
+    /// With half a key less more zeros are expected. With half a key more no more are, which is proved up to 2^40 bits. The estimate is
+    /// at most 2^64 - 1. It is computed in whole numbers, and goes over all words.
     pub fn estimate(&self) -> Option<u64>
         ensures none { IsNone result ↔ (count_set self.now.words self.now.bits ≡ self.now.bits) }
         ensures some { IfSome result (IsEstimate self.now) }
@@ -203,10 +203,7 @@ impl<F: Piecewise, G: Piecewise> Bloom<F, G> {
         if zeros == 0 {
             return None;
         }
-        let log = log2_of_ratio(self.bits, zeros);
-        let half = u128::from(self.probes) * ((1 << (DIGITS - 1)) * 1_000_000_000);
-        let keys = (u128::from(self.bits) * u128::from(log) * 693_147_181 + half) / (2 * half);
-        Some(keys.min(u128::from(u64::MAX)) as u64)
+        Some(nearest_keys(self.bits, self.probes, zeros))
     }
 
     /// How many bits the filter has, at least 1.

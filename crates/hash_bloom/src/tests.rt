@@ -6,6 +6,7 @@ ghost use Rattle.hash_bloom.specs.Filter.{Filter, HasShape};
 use crate::commands::{
     Command, empty_finds_nothing, found_after, found_in_union, known_after, obey, obey_all,
 };
+use crate::estimate::nearest_keys;
 use crate::{Bloom, NoFilter, words};
 use hashers::fnv::{FNV1aHasher64, FnvBuildHasher, FnvHashSet};
 use hashers::fx_hash::FxHasher;
@@ -341,7 +342,8 @@ fn told(words: Vec<u64>, bits: u64, probes: u32) -> Option<u64> {
     }
 }
 
-/// bits / probes * ln(bits / zeros), by a program in another language: 633.73, 90.74, 1.81, 0 and 1.39; a full filter tells nothing.
+/// ln(zeros / bits) / (probes * ln(1 - 1 / bits)), by a program in another language: 633.68, 90.38, 1.81, 0 and 1; a full filter tells
+/// nothing.
 #[test]
 fn estimates(rt: HostRuntime) {
     let alloc = rt.alloc();
@@ -373,6 +375,42 @@ fn estimates(rt: HostRuntime) {
         .estimate()
         .is_some_and(|keys| keys > 4900 && keys < 5100);
     all_hold(&rt, &[near]);
+}
+
+/// The estimates at 1, 7 and 30 probes.
+fn by_probes(bits: u64, zeros: u64) -> [u64; 3]
+    requires some { 1 ≤ zeros }
+    requires upto { zeros ≤ bits }
+{
+    [1, 7, 30].map(|probes| nearest_keys(bits, probes, zeros))
+}
+
+/// By a program with whole numbers of any size in another language, and beyond 2^40 bits at the end of the range.
+#[test]
+fn nearest_numbers_of_keys(rt: HostRuntime) {
+    all_hold(
+        &rt,
+        &[
+            by_probes(1, 1) == [0, 0, 0],
+            by_probes(2, 1) == [1, 0, 0],
+            by_probes(2, 2) == [0, 0, 0],
+            by_probes(64, 1) == [265, 38, 9],
+            by_probes(64, 32) == [45, 6, 2],
+            by_probes(64, 63) == [1, 0, 0],
+            by_probes(1000, 1) == [6905, 986, 230],
+            by_probes(1000, 500) == [693, 99, 23],
+            by_probes(1000, 999) == [1, 0, 0],
+            by_probes(1000, 1000) == [0, 0, 0],
+            by_probes(1_000_000, 1) == [13_815_504, 1_973_643, 460_517],
+            by_probes(1_000_000, 500_000) == [693_147, 99_021, 23_105],
+            by_probes(1_000_000, 999_999) == [1, 0, 0],
+            by_probes(1 << 20, 1) == [14_536_344, 2_076_621, 484_545],
+            by_probes(1 << 20, 1 << 19) == [726_818, 103_831, 24_227],
+            by_probes(1 << 20, (1 << 20) - 1) == [1, 0, 0],
+            nearest_keys((1 << 40) - 5, 7, 12_345) == 2_875_204_186_746,
+            nearest_keys(u64::MAX, 1, 1) == u64::MAX,
+        ],
+    );
 }
 
 /// Where memory is refused there is no filter, and the next call makes one.
