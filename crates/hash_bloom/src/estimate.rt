@@ -2,10 +2,10 @@
 ghost use Rattle.std.specs.Prelude.{ℕ, ◌≡◌, ◌+◌, ◌-◌, ◌*◌, ◌/◌, ◌^◌, ◌<◌, ◌≤◌};
 ghost use Rattle.hash_bloom.specs.Estimate.{IsExpected, IsLast, IsNearest, LeavesAtMost, LeavesMore};
 
-/// 64 probes a bit, of 2^64 bits: less than one zero is expected after them.
+/// 64 probes for each of 2^64 bits: less than one zero is expected after them.
 const MANY: u128 = 1 << 70;
 
-/// How many zeros are expected after so many probes. All bits are 2^128, and it is rounded down.
+/// How many zeros are expected after so many probes, on a scale on which all bits are 2^128, rounded down.
 #[derive(Clone, Copy)]
 struct Expected {
     probes: u128,
@@ -43,7 +43,8 @@ fn last_above(one: Expected, limit: u128) -> Expected
     requires few { one.probes ≤ 2 ^ 70 }
     ensures above { limit < result.zeros }
     ensures few { result.probes + one.probes ≤ 2 ^ 71 }
-    ensures last { (bits : ℕ) → IsExpected bits one.probes one.zeros → IsLast bits limit one.probes result.probes result.zeros }
+    ensures last { (bits : ℕ) → IsExpected bits one.probes one.zeros
+        → IsLast bits limit one.probes result.probes result.zeros }
 {
     let two = after_both(one, one);
     if two.probes > MANY || two.zeros <= limit {

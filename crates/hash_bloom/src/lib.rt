@@ -189,12 +189,13 @@ impl<F: Piecewise, G: Piecewise> Bloom<F, G> {
     }
 
     /// How many keys were inserted, as the zeros tell it, to the nearest whole number. After n keys of good hashes
-    /// bits * (1 - 1 / bits)^(probes * n) zeros are expected, and the estimate is the n at which that is the number of zeros (Odysseas
-    /// Papapetrou, Wolf Siberski, Wolfgang Nejdl, "Cardinality Estimation and Dynamic Length Adaptation for Bloom Filters", 2010). `None`
-    /// exactly where all bits are set, which tells nothing.
+    /// bits * (1 - 1 / bits)^(probes * n) zeros are expected. The estimate is the n at which these are the zeros that there are
+    /// (Odysseas Papapetrou, Wolf Siberski, Wolfgang Nejdl, "Cardinality Estimation and Dynamic Length Adaptation for Bloom
+    /// Filters", 2010). For many bits it is about bits / probes * ln(bits / zeros). `None` exactly where all bits are set, which
+    /// tells nothing.
     ///
-    /// With half a key less more zeros are expected. With half a key more no more are, which is proved up to 2^40 bits. The estimate is
-    /// at most 2^64 - 1. It is computed in whole numbers, and goes over all words.
+    /// After half a key less, more zeros are expected. After half a key more, no more are: this is proved for up to 2^40 bits. The
+    /// estimate is at most 2^64 - 1. It goes over all words.
     pub fn estimate(&self) -> Option<u64>
         ensures none { IsNone result ↔ (count_set self.now.words self.now.bits ≡ self.now.bits) }
         ensures some { IfSome result (IsEstimate self.now) }

@@ -342,8 +342,8 @@ fn told(words: Vec<u64>, bits: u64, probes: u32) -> Option<u64> {
     }
 }
 
-/// ln(zeros / bits) / (probes * ln(1 - 1 / bits)), by a program in another language: 633.68, 90.38, 1.81, 0 and 1; a full filter tells
-/// nothing.
+/// ln(zeros / bits) / (probes * ln(1 - 1 / bits)), by a program in another language: 633.68, 90.38, 1.81, 0 and 1.
+/// A full filter tells nothing.
 #[test]
 fn estimates(rt: HostRuntime) {
     let alloc = rt.alloc();
@@ -385,7 +385,7 @@ fn by_probes(bits: u64, zeros: u64) -> [u64; 3]
     [1, 7, 30].map(|probes| nearest_keys(bits, probes, zeros))
 }
 
-/// By a program with whole numbers of any size in another language, and beyond 2^40 bits at the end of the range.
+/// By a program in another language, with whole numbers of any size. The last is the end of the range.
 #[test]
 fn nearest_numbers_of_keys(rt: HostRuntime) {
     all_hold(

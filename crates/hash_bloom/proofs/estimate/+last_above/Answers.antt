@@ -17,7 +17,8 @@ returns-then-two-gt-MANY-clause-last t c = λ bits one.
 pub returns-then-odd-limit-clause-last : goal.returns-then-odd-limit-clause-last
 returns-then-odd-limit-clause-last t c = λ bits one.
     let even = c.last_above-even.ensures.last bits (c.after_both-two.ensures.expected bits one one) in
-    let same : c.last_above-even.result.probes + c.after_both-two.result.probes ≡ c.after_both-odd.result.probes + c.args.one.probes = omega arith in
+    let same : c.last_above-even.result.probes + c.after_both-two.result.probes ≡ c.after_both-odd.result.probes + c.args.one.probes =
+    omega arith in
     record {
       expected = c.after_both-odd.ensures.expected bits even.expected one;
       next = subst (λ m. (2 ^ 70 < m) ⊎ IsWithin bits c.args.limit m) same even.next;
@@ -29,5 +30,7 @@ returns-else-odd-limit-clause-last t c = λ bits one.
     let odd = c.after_both-odd.ensures.expected bits even.expected one in
     record {
       expected = even.expected;
-      next = inr (c.after_both-odd.result.zeros, subst (λ m. IsExpected bits m c.after_both-odd.result.zeros) c.after_both-odd.ensures.probes odd, omega arith);
+      next =
+          let zeros = c.after_both-odd.result.zeros in
+          inr (zeros, subst (λ m. IsExpected bits m zeros) c.after_both-odd.ensures.probes odd, omega arith);
     }

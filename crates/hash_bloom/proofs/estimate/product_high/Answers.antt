@@ -11,5 +11,4 @@ returns c =
     let y = c.args.other in
     let t = 2 ^ 64 in
     let e = expanded t (x / t) (x % t) (y / t) (y % t) x y (omega arith) (omega arith) in
-    let swapped : x % t * (y / t) ≡ x % t * (y / t) = grind arith in
-    omega (arith, e, swapped)
+    omega (arith, e)
