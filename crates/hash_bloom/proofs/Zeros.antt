@@ -1,19 +1,13 @@
 -- How many zeros are expected after some probes, and how near the parts of 2 ^ 128 come to that.
-use Rattle.std.proofs.Common.{ℕ, add-one, ⊎_elim, zero, suc, ◌≡◌, ◌+◌, ◌-◌, ◌*◌, ◌/◌, ◌^◌, ◌<◌, ◌≤◌, arith, lit≤, min, refl, sym, ap, ◌∙◌, subst}
-use Rattle.std.proofs.Math.Nat.{div-mul-le_self, le_of_mul-le-mul_left, le_of_mul-le-mul_right, lt-div-mul-add, lt_of_mul-lt-mul_left, mul-le-mul_left, mul-le-mul_right, one-le-pow, pow-le-pow_left, pow-suc, pow-zero, div-le_self, lt-mul-div-succ, mul-div-le}
+use Rattle.std.proofs.Common.{ℕ, ⊎_elim, zero, suc, ◌≡◌, ◌+◌, ◌-◌, ◌*◌, ◌/◌, ◌^◌, ◌<◌, ◌≤◌, arith, lit≤, min, sym, ap, ◌∙◌, subst}
+use Rattle.std.proofs.Math.Nat.{div-le_self, div-mul-le_self, le_of_mul-le-mul_left, le_of_mul-le-mul_right, lt-div-mul-add, lt-mul-div-succ, lt_of_mul-lt-mul_left, mul-le-mul, mul-le-mul_left, mul-div-le, mul-le-mul_right, one-le-pow, pow-le-pow_left, pow-suc, pow-zero}
 use Rattle.std.proofs.lemmas.Bool.{cases_lt}
+use Rattle.std.proofs.lemmas.Grind.{pow_more}
 use Rattle.std.proofs.lemmas.Nat.{pow-add}
 use Rattle.hash_bloom.specs.Estimate.{IsExpected, IsNearest, LeavesAtMost, LeavesMore}
 
--- a product of two smaller numbers is smaller
-products : (a b x y : ℕ) → a ≤ x → b ≤ y → a * b ≤ x * y
-products a b x y h k = omega (arith, mul-le-mul_left a k, mul-le-mul_right y h)
-
-pow_next : (x n : ℕ) → x ^ (n + 1) ≡ x ^ n * x
-pow_next x n = rw add-one (pow-suc x n)
-
 pow_one : (x : ℕ) → x ^ 1 ≡ x
-pow_one x = pow-suc x 0 ∙ rw (pow-zero x) (omega arith)
+pow_one x = pow_more x 0 ∙ rw (pow-zero x) (omega arith)
 
 -- ---- the formula
 -- Bernoulli's inequality, (1 + 1 / c) ^ n ≥ 1 + n / c
@@ -36,7 +30,7 @@ halves c zero some =
 halves c (suc j) some =
     let b = c + 1 in
     let e : b * suc j ≡ b * j + b = grind arith in
-    let h : 2 ^ j * c ^ (b * j) * (2 * c ^ b) ≤ b ^ (b * j) * b ^ b = products _ _ _ _ (halves c j some) (half c some) in
+    let h : 2 ^ j * c ^ (b * j) * (2 * c ^ b) ≤ b ^ (b * j) * b ^ b = mul-le-mul (halves c j some) (half c some) in
     rw (e, pow-add c (b * j) b, pow-add b (b * j) b, pow-suc 2 j) (grind (arith, h))
 
 module _ (bits zeros : ℕ) where
@@ -46,8 +40,7 @@ module _ (bits zeros : ℕ) where
       let d = n - m in
       let is : n ≡ m + d = omega arith in
       let less : (bits - 1) ^ d ≤ bits ^ d = pow-le-pow_left (omega arith) d in
-      let one = products ((bits - 1) ^ m * bits) ((bits - 1) ^ d) (zeros * bits ^ m) (bits ^ d) h less in
-      rw (is, pow-add (bits - 1) m d, pow-add bits m d) (grind (arith, one))
+      rw (is, pow-add (bits - 1) m d, pow-add bits m d) (grind (arith, mul-le-mul h less))
 
   pub more_before : (m n : ℕ) → m ≤ n → LeavesMore bits zeros n → LeavesMore bits zeros m
   more_before m n upto h = ⊎_elim
@@ -72,14 +65,14 @@ module _ (bits zeros : ℕ) where
 -- ---- in parts of t
 module _ (t x y s a b c d : ℕ) (some : 1 ≤ t) (within : y ≤ t) (under : a ≤ b) (floor : s * t ≤ x * y) (ceiling : x * y ≤ s * t + t) where
   -- a product of lower bounds, rounded down, is a lower bound of the product
-  product_low : x * b ≤ t * a → y * d ≤ t * c → s * (b * d) ≤ t * (a * c)
-  product_low h k =
-      let all : t * (s * (b * d)) ≤ t * (t * (a * c)) = grind (arith, products _ _ _ _ h k, mul-le-mul_right (b * d) floor) in
+  rounded_low : x * b ≤ t * a → y * d ≤ t * c → s * (b * d) ≤ t * (a * c)
+  rounded_low h k =
+      let all : t * (s * (b * d)) ≤ t * (t * (a * c)) = grind (arith, mul-le-mul h k, mul-le-mul_right (b * d) floor) in
       le_of_mul-le-mul_left all some
 
   -- and loses at most one part more than both
-  product_high : (e f : ℕ) → t * a ≤ (x + e) * b → t * c ≤ (y + f) * d → t * (a * c) ≤ (s + (e + f + 1)) * (b * d)
-  product_high e f h k =
+  rounded_high : (e f : ℕ) → t * a ≤ (x + e) * b → t * c ≤ (y + f) * d → t * (a * c) ≤ (s + (e + f + 1)) * (b * d)
+  rounded_high e f h k =
       let all : t * (t * (a * c)) ≤ t * ((s + (e + f + 1)) * (b * d)) = grind (
         arith,
         mul-le-mul_left (t * a) k,
@@ -106,9 +99,9 @@ expected_both bits p q x y s one other within is =
     record {
       some = omega (arith, one.some);
       low = rw (pow-add bits p q, pow-add (bits - 1) p q)
-          (product_low (2 ^ 128) x y s a b c d (lit≤ tt) within under floor ceiling one.low other.low);
+          (rounded_low (2 ^ 128) x y s a b c d (lit≤ tt) within under floor ceiling one.low other.low);
       high = rw (pow-add bits p q, pow-add (bits - 1) p q, ← errors)
-          (product_high (2 ^ 128) x y s a b c d (lit≤ tt) within under floor ceiling (2 * p - 1) (2 * q - 1) one.high other.high);
+          (rounded_high (2 ^ 128) x y s a b c d (lit≤ tt) within under floor ceiling (2 * p - 1) (2 * q - 1) one.high other.high);
     }
 
 -- more than the zeros' part of t is more than the zeros
@@ -119,7 +112,7 @@ above t q b z p a left positive some ceiling low more =
       mul-le-mul_right (p * b) more,
       mul-le-mul_right (z * p) ceiling,
       mul-le-mul_right b low,
-      products 1 1 p b positive some,
+      mul-le-mul positive some,
     ) in
     lt_of_mul-lt-mul_left t all
 
@@ -175,15 +168,16 @@ module _ (bits bit : ℕ) (two : 2 ≤ bits) (is : bit ≡ (2 ^ 128 - 1) / bits 
         let c = bits - 1 in
         let e = 2 * m - 1 in
         let next : bits ≡ c + 1 = omega arith in
+        let less : c ≤ 2 ^ 40 = omega (arith, small) in
         let error : e + 1 ≤ 80 * 2 ^ 40 = omega (arith, expected.some, soon, small) in
-        let one : c * (e + 1) ≤ 2 ^ 40 * (80 * 2 ^ 40) = products c (e + 1) (2 ^ 40) (80 * 2 ^ 40) (omega (arith, small)) error in
+        let one : c * (e + 1) ≤ 2 ^ 40 * (80 * 2 ^ 40) = mul-le-mul less error in
         let two : bit * bits ≤ bit * 2 ^ 40 = mul-le-mul_left bit small in
         let upto : bit * (c + 1) ≤ 2 ^ 128 + c = subst (λ b. bit * b ≤ 2 ^ 128 + c) next (omega (arith, ceiling)) in
         let enough : (zeros * bit + e) * c ≤ zeros * 2 ^ 128 = lost (2 ^ 128) bit c zeros e some upto (omega (arith, one, two, floor)) in
         let all : (bits - 1) ^ m * c * bits ≤ zeros * (bits ^ m * bits) =
         within (2 ^ 128) bit bits c zeros (bits ^ m) (c ^ m) left e (omega arith) expected.high most enough in
-        subst (λ n. n * bits ≤ zeros * bits ^ (m + 1)) (sym (pow_next c m))
-        (subst (λ n. c ^ m * c * bits ≤ zeros * n) (sym (pow_next bits m)) all)
+        subst (λ n. n * bits ≤ zeros * bits ^ (m + 1)) (sym (pow_more c m))
+        (subst (λ n. c ^ m * c * bits ≤ zeros * n) (sym (pow_more bits m)) all)
 
 -- the fewest probes to the nearest number of keys
 pub nearest : (bits probes zeros m keys : ℕ) → 2 ≤ bits → 1 ≤ probes → probes < 2 ^ 32 → 1 ≤ zeros → 1 ≤ m
