@@ -1,6 +1,6 @@
 -- How many zeros are expected after some probes, and how near the parts of 2 ^ 128 come to that.
-use Rattle.std.proofs.Common.{ℕ, ⊎_elim, zero, suc, ◌≡◌, ◌+◌, ◌-◌, ◌*◌, ◌/◌, ◌^◌, ◌<◌, ◌≤◌, arith, lit≤, min, sym, ap, ◌∙◌, subst}
-use Rattle.std.proofs.Math.Nat.{div-le_self, div-mul-le_self, le_of_mul-le-mul_left, le_of_mul-le-mul_right, lt-div-mul-add, lt-mul-div-succ, lt_of_mul-lt-mul_left, mul-le-mul, mul-le-mul_left, mul-div-le, mul-le-mul_right, one-le-pow, pow-le-pow_left, pow-suc, pow-zero}
+use Rattle.std.proofs.Common.{ℕ, ⊎_elim, zero, suc, ◌≡◌, ◌+◌, ◌-◌, ◌*◌, ◌/◌, ◌^◌, ◌<◌, ◌≤◌, arith, lit≤, min, refl, sym, ap, ◌∙◌, subst}
+use Rattle.std.proofs.Math.Nat.{div-mul-le_self, le_of_mul-le-mul_left, le_of_mul-le-mul_right, lt-div-mul-add, lt-mul-div-succ, lt_of_mul-lt-mul_left, mul-le-mul, mul-le-mul_left, mul-div-le, mul-le-mul_right, one-le-pow, pow-le-pow_left, pow-suc, pow-zero}
 use Rattle.std.proofs.lemmas.Bool.{cases_lt}
 use Rattle.std.proofs.lemmas.Grind.{pow_more}
 use Rattle.std.proofs.lemmas.Nat.{pow-add}
@@ -8,6 +8,9 @@ use Rattle.hash_bloom.specs.Estimate.{IsExpected, IsNearest, LeavesAtMost, Leave
 
 pow_one : (x : ℕ) → x ^ 1 ≡ x
 pow_one x = pow_more x 0 ∙ rw (pow-zero x) (omega arith)
+
+cube : (x : ℕ) → x ^ 3 ≡ x * x * x
+cube x = rw (pow_more x 2, pow_more x 1, pow_one x) refl
 
 -- ---- the formula
 -- Bernoulli's inequality, (1 + 1 / c) ^ n ≥ 1 + n / c
@@ -48,19 +51,19 @@ module _ (bits zeros : ℕ) where
       (λ (at_most : LeavesAtMost bits zeros m). absurd (omega (arith, h, at_most_later m n upto at_most)))
       (cases_lt (zeros * bits ^ m) ((bits - 1) ^ m * bits))
 
-  -- 40 probes a bit leave no zero of 2 ^ 40
-  pub few : 2 ≤ bits → 1 ≤ zeros → bits ≤ 2 ^ 40 → (m : ℕ) → LeavesMore bits zeros m → m < 40 * bits
+  -- 64 probes a bit leave less than one zero of 2 ^ 64
+  pub few : 2 ≤ bits → 1 ≤ zeros → bits ≤ 2 ^ 64 → (m : ℕ) → LeavesMore bits zeros m → m < 64 * bits
   few two some most m more = ⊎_elim
-      (λ (low : m < 40 * bits). low)
-      (λ (high : 40 * bits ≤ m).
+      (λ (low : m < 64 * bits). low)
+      (λ (high : 64 * bits ≤ m).
       let c = bits - 1 in
-      let p = bits ^ (bits * 40) in
+      let p = bits ^ (bits * 64) in
       let is : c + 1 ≡ bits = omega arith in
-      let all : 2 ^ 40 * c ^ (bits * 40) ≤ p = subst (λ b. 2 ^ 40 * c ^ (b * 40) ≤ b ^ (b * 40)) is (halves c 40 (omega arith)) in
-      let at_most : LeavesAtMost bits zeros (bits * 40) =
-      omega (arith, all, mul-le-mul_left (c ^ (bits * 40)) most, mul-le-mul_right p some) in
-      absurd (omega (arith, more, at_most_later (bits * 40) m (omega arith) at_most)))
-      (cases_lt m (40 * bits))
+      let all : 2 ^ 64 * c ^ (bits * 64) ≤ p = subst (λ b. 2 ^ 64 * c ^ (b * 64) ≤ b ^ (b * 64)) is (halves c 64 (omega arith)) in
+      let at_most : LeavesAtMost bits zeros (bits * 64) =
+      omega (arith, all, mul-le-mul_left (c ^ (bits * 64)) most, mul-le-mul_right p some) in
+      absurd (omega (arith, more, at_most_later (bits * 64) m (omega arith) at_most)))
+      (cases_lt m (64 * bits))
 
 -- ---- in parts of t
 module _ (t x y s a b c d : ℕ) (some : 1 ≤ t) (within : y ≤ t) (under : a ≤ b) (floor : s * t ≤ x * y) (ceiling : x * y ≤ s * t + t) where
@@ -117,9 +120,8 @@ above t q b z p a left positive some ceiling low more =
     lt_of_mul-lt-mul_left t all
 
 -- what was rounded down is less than a bit's part for each of the zeros
-lost : (t q c z e : ℕ) → 1 ≤ z → q * (c + 1) ≤ t + c → c * (e + 1) ≤ q → (z * q + e) * c ≤ z * t
-lost t q c z e some floor small =
-    grind (arith, mul-le-mul_left z small, mul-le-mul_right (c * e) some, mul-le-mul_left z floor)
+lost : (t q c z e : ℕ) → q * (c + 1) ≤ t + c → c * (z + e) ≤ z * q → (z * q + e) * c ≤ z * t
+lost t q c z e floor small = grind (arith, small, mul-le-mul_left z floor)
 
 -- so at most the zeros' part is at most the zeros, after one probe more
 within : (t q b c z p a left e : ℕ) → 1 ≤ t → t * a ≤ (left + e) * p → left ≤ z * q → (z * q + e) * c ≤ z * t → a * c * b ≤ z * (p * b)
@@ -163,27 +165,32 @@ module _ (bits bit : ℕ) (two : 2 ≤ bits) (is : bit ≡ (2 ^ 128 - 1) / bits 
     leaves_more more = above (2 ^ 128) bit bits zeros (bits ^ m) ((bits - 1) ^ m) left (one-le-pow m bits (omega arith)) (omega arith) floor
         expected.low more
 
-    pub leaves_at_most : left ≤ zeros * bit → 1 ≤ zeros → bits ≤ 2 ^ 40 → m ≤ 40 * bits → LeavesAtMost bits zeros (m + 1)
-    leaves_at_most most some small soon =
+    pub leaves_at_most : left ≤ zeros * bit → zeros ≤ bits → bits ^ 3 ≤ 2 ^ 120 * zeros → m ≤ 64 * bits → LeavesAtMost bits zeros (m + 1)
+    leaves_at_most most upto small soon =
         let c = bits - 1 in
         let e = 2 * m - 1 in
         let next : bits ≡ c + 1 = omega arith in
-        let less : c ≤ 2 ^ 40 = omega (arith, small) in
-        let error : e + 1 ≤ 80 * 2 ^ 40 = omega (arith, expected.some, soon, small) in
-        let one : c * (e + 1) ≤ 2 ^ 40 * (80 * 2 ^ 40) = mul-le-mul less error in
-        let two : bit * bits ≤ bit * 2 ^ 40 = mul-le-mul_left bit small in
-        let upto : bit * (c + 1) ≤ 2 ^ 128 + c = subst (λ b. bit * b ≤ 2 ^ 128 + c) next (omega (arith, ceiling)) in
-        let enough : (zeros * bit + e) * c ≤ zeros * 2 ^ 128 = lost (2 ^ 128) bit c zeros e some upto (omega (arith, one, two, floor)) in
+        let less : c ≤ bits = omega arith in
+        let error : zeros + e ≤ 129 * bits = omega (arith, upto, soon) in
+        let all : c * (zeros + e) * bits ≤ zeros * bit * bits = grind (
+          arith,
+          mul-le-mul_right bits (mul-le-mul less error),
+          cube bits,
+          small,
+          mul-le-mul_left zeros floor,
+        ) in
+        let under : c * (zeros + e) ≤ zeros * bit = le_of_mul-le-mul_right all (omega arith) in
+        let over : bit * (c + 1) ≤ 2 ^ 128 + c = subst (λ b. bit * b ≤ 2 ^ 128 + c) next (omega (arith, ceiling)) in
+        let enough : (zeros * bit + e) * c ≤ zeros * 2 ^ 128 = lost (2 ^ 128) bit c zeros e over under in
         let all : (bits - 1) ^ m * c * bits ≤ zeros * (bits ^ m * bits) =
         within (2 ^ 128) bit bits c zeros (bits ^ m) (c ^ m) left e (omega arith) expected.high most enough in
         subst (λ n. n * bits ≤ zeros * bits ^ (m + 1)) (sym (pow_more c m))
         (subst (λ n. c ^ m * c * bits ≤ zeros * n) (sym (pow_more bits m)) all)
 
 -- the fewest probes to the nearest number of keys
-pub nearest : (bits probes zeros m keys : ℕ) → 2 ≤ bits → 1 ≤ probes → probes < 2 ^ 32 → 1 ≤ zeros → 1 ≤ m
-    → keys ≡ min ((m + probes / 2) / probes) (2 ^ 64 - 1) → LeavesMore bits zeros (m - 1)
-    → (bits ≤ 2 ^ 40 → LeavesAtMost bits zeros (m + 1)) → IsNearest bits probes zeros keys
-nearest bits probes zeros m keys two some low there positive is before after =
+pub nearest : (bits probes zeros m keys : ℕ) → 1 ≤ probes → 1 ≤ m → keys ≡ min ((m + probes / 2) / probes) (2 ^ 64 - 1)
+    → LeavesMore bits zeros (m - 1) → (bits ^ 3 ≤ 2 ^ 120 * zeros → LeavesAtMost bits zeros (m + 1)) → IsNearest bits probes zeros keys
+nearest bits probes zeros m keys some positive is before after =
     let whole = (m + probes / 2) / probes in
     let under : probes * whole ≤ m + probes / 2 = mul-div-le (m + probes / 2) probes in
     let over : m + probes / 2 < probes * (whole + 1) = lt-mul-div-succ (m + probes / 2) some in
@@ -191,10 +198,8 @@ nearest bits probes zeros m keys two some low there positive is before after =
       more = λ n h.
           let upto : probes * keys ≤ probes * whole = mul-le-mul_left probes (omega (arith, is)) in
           more_before bits zeros n (m - 1) (omega (arith, h, upto, under)) before;
-      at_most = λ small n h.
-          let soon : m - 1 < 40 * bits = few bits zeros two there small (m - 1) before in
-          let fits : whole ≤ m + probes / 2 = div-le_self (m + probes / 2) probes in
-          let exact : keys ≡ whole = omega (arith, is, soon, fits, small, low) in
+      at_most = λ small fits n h.
+          let exact : keys ≡ whole = omega (arith, is, fits) in
           let same : probes * keys ≡ probes * whole = ap (λ k. probes * k) exact in
           at_most_later bits zeros (m + 1) n (grind (arith, h, same, over)) (after small);
     }

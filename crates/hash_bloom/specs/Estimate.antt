@@ -12,10 +12,11 @@ module _ (bits zeros : ℕ) where
   LeavesAtMost m = (bits - 1) ^ m * bits ≤ zeros * bits ^ m
 
 -- the nearest number of keys: after fewer probes than those of half a key less, more zeros are expected, and after more than those of
--- half a key more, at most so many. So the least number of keys after which at most so many are expected is this one or the next.
+-- half a key more, at most so many. So the least number of keys after which at most so many are expected is this one or the next. The
+-- latter holds for up to 2 ^ 40 bits, and for more that have more zeros, as for 2 ^ 59 where half are zeros.
 pub record IsNearest (bits probes zeros keys : ℕ) : Type 0 where
   pub more : (m : ℕ) → m + probes / 2 < probes * keys → LeavesMore bits zeros m
-  pub at_most : bits ≤ 2 ^ 40 → (m : ℕ) → probes * keys + probes / 2 < m → LeavesAtMost bits zeros m
+  pub at_most : bits ^ 3 ≤ 2 ^ 120 * zeros → keys < 2 ^ 64 - 1 → (m : ℕ) → probes * keys + probes / 2 < m → LeavesAtMost bits zeros m
 
 abbrev pub IsEstimate : Filter → ℕ → Type 0
 IsEstimate filter = IsNearest filter.bits filter.probes (filter.bits - count_set filter.words filter.bits)

@@ -62,7 +62,7 @@ fn fewest_probes(bits: u64, zeros: u64) -> u128
     ensures some { 1 ≤ result }
     ensures few { result ≤ 2 ^ 71 }
     ensures more { LeavesMore bits zeros (result - 1) }
-    ensures at_most { bits ≤ 2 ^ 40 → LeavesAtMost bits zeros (result + 1) }
+    ensures at_most { bits ^ 3 ≤ 2 ^ 120 * zeros → LeavesAtMost bits zeros (result + 1) }
 {
     let bit = u128::MAX / u128::from(bits) + 1;
     let limit = u128::from(zeros) * bit;

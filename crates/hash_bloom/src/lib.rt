@@ -194,8 +194,8 @@ impl<F: Piecewise, G: Piecewise> Bloom<F, G> {
     /// Filters", 2010). For many bits it is about bits / probes * ln(bits / zeros). `None` exactly where all bits are set, which
     /// tells nothing.
     ///
-    /// After half a key less, more zeros are expected. After half a key more, no more are: this is proved for up to 2^40 bits. The
-    /// estimate is at most 2^64 - 1. It goes over all words.
+    /// After half a key less, more zeros are expected. After half a key more, no more are: this is proved for up to 2^40 bits, and
+    /// for up to 2^59 where half of them are zeros. The estimate is at most 2^64 - 1. It goes over all words.
     pub fn estimate(&self) -> Option<u64>
         ensures none { IsNone result ↔ (count_set self.now.words self.now.bits ≡ self.now.bits) }
         ensures some { IfSome result (IsEstimate self.now) }

@@ -408,6 +408,7 @@ fn nearest_numbers_of_keys(rt: HostRuntime) {
             by_probes(1 << 20, 1 << 19) == [726_818, 103_831, 24_227],
             by_probes(1 << 20, (1 << 20) - 1) == [1, 0, 0],
             nearest_keys((1 << 40) - 5, 7, 12_345) == 2_875_204_186_746,
+            nearest_keys(1 << 59, 1, 1 << 58) == 399_572_145_162_582_990,
             nearest_keys(u64::MAX, 1, 1) == u64::MAX,
         ],
     );
