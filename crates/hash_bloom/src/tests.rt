@@ -382,7 +382,11 @@ fn by_probes(bits: u64, zeros: u64) -> [u64; 3]
     requires some { 1 ≤ zeros }
     requires upto { zeros ≤ bits }
 {
-    [1, 7, 30].map(|probes| nearest_keys(bits, probes, zeros))
+    [
+        nearest_keys(bits, 1, zeros),
+        nearest_keys(bits, 7, zeros),
+        nearest_keys(bits, 30, zeros),
+    ]
 }
 
 /// By a program in another language, with whole numbers of any size. The last is the end of the range.
