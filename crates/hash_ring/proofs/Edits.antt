@@ -1,7 +1,7 @@
 -- A ring with a node more, and with one less.
 use Rattle.std.proofs.Common.{ℕ, zero, suc, ◌≡◌, ◌≢◌, ◌+◌, ◌-◌, ◌<◌, ◌≤◌, Bool, true, false, not, cond, ltb, ◌==◌, List, [], ◌∷◌, ◌++◌, map, length, get_or, set, take, drop, arith, sym, ap, ◌∙◌, subst, refl, ⊎_elim}
 use Rattle.std.specs.List.{AllPairs, Contains, filter, insert, remove}
-use Rattle.std.proofs.lemmas.Bool.{cases_lt, lt-ltb, le-ltb}
+use Rattle.std.proofs.lemmas.Bool.{cases_eq, cases_lt, lt-ltb, le-ltb}
 use Rattle.std.proofs.lemmas.Bool.Decides.{Decides-eqb, nat_tests}
 use Rattle.std.proofs.lemmas.List.{map-append, append-nil, drop_all, take-map, take_all, drop-map, get_or-map, length-map, get_or_default}
 use Rattle.std.proofs.lemmas.List.Edits.{map_over_more, get_or-remove_below, get_or-remove_above, get_or-insert_below, get_or-insert_at, get_or-insert_above}
@@ -13,13 +13,6 @@ use Rattle.hash_ring.specs.Ring.{IsPointOf}
 use Rattle.hash_ring.specs.Points.{ArePoints, IsBefore, IsGapAt, IsRing, IsPointOfItsNode, closed_up, left_without, node_at, opened_up, pair_of, pairs, points_of}
 use Rattle.hash_ring.proofs.Points.{among, each, mapped_in_order}
 use Rattle.hash_ring.proofs.Names.{Pairs, inserted_sorted, removed_sorted}
-
--- what `closed_up` makes of the later indices, and of the earlier
-up_high : (gone : ℕ) (p : Point) → gone < p.node → closed_up gone p ≡ record { place = p.place; node = p.node - 1 }
-up_high gone p h = λ i. record { place = p.place; node = cond (lt-ltb gone p.node h i) (p.node - 1) p.node }
-
-up_low : (gone : ℕ) (p : Point) → p.node ≤ gone → closed_up gone p ≡ p
-up_low gone p h = λ i. record { place = p.place; node = cond (le-ltb gone p.node h i) (p.node - 1) p.node }
 
 pub pairs_insert : (nodes : List Node) (i : ℕ) (node : Node) → pairs (insert nodes i node) ≡ insert (pairs nodes) i (pair_of node)
 pairs_insert nodes i node =
@@ -67,6 +60,20 @@ still_before : (gone : ℕ) (points : List Point) → AllPairs IsBefore points �
 still_before gone = mapped_in_order (closed_up gone)
     (λ p q b. record { place = b.place; node = λ e. rises gone p.node q.node (b.node e) })
 
+-- the one undoes the other
+opened_then_closed : (at i : ℕ) → cond (ltb at (cond (ltb i at) i (i + 1))) (cond (ltb i at) i (i + 1) - 1) (cond (ltb i at) i (i + 1)) ≡ i
+opened_then_closed at i = grind (arith, nat_tests)
+
+closed_then_opened : (at i : ℕ) → i ≢ at
+    → cond (ltb (cond (ltb at i) (i - 1) i) at) (cond (ltb at i) (i - 1) i) (cond (ltb at i) (i - 1) i + 1) ≡ i
+closed_then_opened at i other = grind (arith, nat_tests)
+
+reopened : (at : ℕ) (p : Point) → p.node ≢ at → opened_up at (closed_up at p) ≡ p
+reopened at p other = λ j. record { place = p.place; node = closed_then_opened at p.node other j }
+
+opened_other : (at i : ℕ) → cond (ltb i at) i (i + 1) ≢ at
+opened_other at i is = grind (arith, nat_tests)
+
 in_filter : (p : Point → Bool) (xs : List Point) (x : Point) → p x ≡ true → Contains xs x → Contains (filter p xs) x
 in_filter p [] x e c = absurd (omega (arith, c.1))
 in_filter p (y ∷ xs) x e (zero, l, is) =
@@ -87,79 +94,49 @@ module _ (hash : List ℕ → ℕ) (es : Pairs) (gone : ℕ) (below : gone < len
   abbrev rest : Pairs
   rest = remove es gone
 
-  abbrev left_points : List Point → List Point
-  left_points points = left_without gone points
+  abbrev stays : Point → Bool
+  stays p = not (p.node == gone)
 
-  -- the node of an index other than that of the node that went
-  moved : (p : Point) → p.node ≢ gone → node_at rest (closed_up gone p).node ≡ node_at es p.node
-  moved p other = ⊎_elim
-      (λ (high : gone < p.node).
-      let back : p.node - 1 + 1 ≡ p.node = omega arith in
-      ap (λ (q : Point). node_at rest q.node) (up_high gone p high) ∙ get_or-remove_above es gone ([], 0) (p.node - 1) (omega arith) below
-      ∙ ap (λ (i : ℕ). node_at es i) back)
-      (λ (low : p.node ≤ gone). ap (λ (q : Point). node_at rest q.node) (up_low gone p low)
-      ∙ get_or-remove_below es gone ([], 0) p.node (omega arith) below)
-      (cases_lt gone p.node)
+  -- the node of an index was one index further, from that of the node that went on
+  was_at : (p : Point) → node_at rest p.node ≡ node_at es (opened_up gone p).node
+  was_at p = ⊎_elim
+      (λ (low : p.node < gone). get_or-remove_below es gone ([], 0) p.node low below
+      ∙ ap (λ (q : Point). node_at es q.node) (sym (open_low gone p low)))
+      (λ (high : gone ≤ p.node). get_or-remove_above es gone ([], 0) p.node high below
+      ∙ ap (λ (q : Point). node_at es q.node) (sym (open_high gone p high)))
+      (cases_lt p.node gone)
 
-  other_node : (p : Point) → not (p.node == gone) ≡ true → p.node ≢ gone
+  other_node : (p : Point) → stays p ≡ true → p.node ≢ gone
   other_node p e is = let f : (p.node == gone) ≡ true = (Decides-eqb p.node gone).1 is in cc
 
-  test_of : (p : Point) → p.node ≢ gone → not (p.node == gone) ≡ true
+  test_of : (p : Point) → p.node ≢ gone → stays p ≡ true
   test_of p ne = elim (p.node == gone) as
       (λ b. (p.node == gone) ≡ b → not b ≡ true) [ true ↦ λ e. absurd (ne ((Decides-eqb p.node gone).0 e)) | false ↦ λ e. refl ] refl
 
-  -- the index before of a node that is left
-  record Before (i : ℕ) : Type 0 where
-    j : ℕ
-    other : j ≢ gone
-    same : node_at rest i ≡ node_at es j
-    back : (place : ℕ) → closed_up gone (record { place = place; node = j }) ≡ record { place = place; node = i }
-
-  before : (i : ℕ) → Before i
-  before i = ⊎_elim
-      (λ (low : i < gone). record {
-        j = i;
-        other = λ e. omega arith;
-        same = get_or-remove_below es gone
-            ([], 0) i low below;
-        back = λ place. up_low gone (record { place = place; node = i }) (omega arith);
-      })
-      (λ (high : gone ≤ i). record {
-        j = i + 1;
-        other = λ e. omega arith;
-        same = get_or-remove_above es gone ([], 0) i high below;
-        back = λ place. let e : i + 1 - 1 ≡ i =
-            omega arith in up_high gone (record { place = place; node = i + 1 }) (omega arith)
-            ∙ (λ k. record { place = place; node = e k });
-      })
-      (cases_lt i gone)
-
-  pub still_just : (points : List Point) → ArePoints hash es points → ArePoints hash rest (left_points points)
+  still_just : (points : List Point) → ArePoints hash es points → ArePoints hash rest (left_without gone points)
   still_just points just = record {
-    real = All-map (IsPointOfItsNode hash rest) (closed_up gone) (filter (λ p. not (p.node == gone)) points)
+    real = All-map (IsPointOfItsNode hash rest) (closed_up gone) (filter stays points)
         (λ k d l.
-        let kept = filter (λ p. not (p.node == gone)) points in
-        let p = get_or kept k d in
-        let of = All-filter (λ p. not (p.node == gone)) (IsPointOfItsNode hash es) points just.real k d l in
-        let ne = other_node p (filter_passes (λ p. not (p.node == gone)) points k d l) in
-        subst (λ node. IsPointOf hash node p.place) (sym (moved p ne)) of);
+        let p = get_or (filter stays points) k d in
+        let back = reopened gone p (other_node p (filter_passes stays points k d l)) in
+        subst (λ node. IsPointOf hash node p.place) (sym (was_at (closed_up gone p) ∙ ap (λ (q : Point). node_at es q.node) back))
+        (All-filter stays (IsPointOfItsNode hash es) points just.real k d l));
     all = λ i place of.
-        let b = before i in
-        let p : Point = record { place = place; node = b.j } in
-        let was = just.all b.j place (subst (λ node. IsPointOf hash node place) b.same of) in
-        subst (Contains (left_points points)) (b.back place)
-        (in_map (closed_up gone) (filter (λ p. not (p.node == gone)) points) p
-        (in_filter (λ p. not (p.node == gone)) points p (test_of p b.other) was));
+        let p : Point = record { place = place; node = i } in
+        let was : Point = opened_up gone p in
+        subst (Contains (left_without gone points)) (λ j. record { place = place; node = opened_then_closed gone i j })
+        (in_map (closed_up gone) (filter stays points) was
+        (in_filter stays points was (test_of was (opened_other gone i))
+        (just.all was.node place (subst (λ node. IsPointOf hash node place) (was_at p) of))));
   }
 
-  pub ring_without : (points : List Point) → IsRing hash es points → IsRing hash rest (left_points points)
+  pub ring_without : (points : List Point) → IsRing hash es points → IsRing hash rest (left_without gone points)
   ring_without points ring = record {
     named = removed_sorted es ring.named gone below;
     weighed = All-append (λ node. 1 ≤ node.1) (take gone es) (drop (suc gone) es) (All-take (λ node. 1 ≤ node.1) gone es ring.weighed)
         (All-drop (λ node. 1 ≤ node.1) (suc gone) es ring.weighed);
     just = still_just points ring.just;
-    ordered = still_before gone (filter (λ p. not (p.node == gone)) points)
-        (AllPairs-filter IsBefore (λ p. not (p.node == gone)) points ring.ordered);
+    ordered = still_before gone (filter stays points) (AllPairs-filter IsBefore stays points ring.ordered);
   }
 
 -- ---- the points of a ring with a node more
@@ -181,15 +158,6 @@ module _ (hash : List ℕ → ℕ) (es : Pairs) (come : ℕ) (node : List ℕ ×
       let new : node_at more come ≡ node = get_or-insert_at es come node ([], 0) within in
       let others = map (opened_up come) points in
       let its = points_of hash node come in
-      let old_at : (i place : ℕ) (p : Point) → opened_up come p ≡ record { place = place; node = i } → p.place ≡ place
-      → IsPointOf hash (node_at more i) place
-      → Contains (others ++ its) (record { place = place; node = i }) =
-      λ i place p e same of.
-      let was : node_at es p.node ≡ node_at more i = sym (shifted p) ∙ ap (λ (q : Point). node_at more q.node) e in
-      let there = just.all p.node place (subst (λ node. IsPointOf hash node place) (sym was) of) in
-      Contains-append_left others its _
-      (subst (Contains others) (ap (opened_up come) (λ j. record { place = sym same j; node = p.node }) ∙ e)
-      (in_map (opened_up come) points _ there)) in
       record {
         real = All-append (IsPointOfItsNode hash more) others its
             (All-map (IsPointOfItsNode hash more) (opened_up come) points
@@ -197,20 +165,18 @@ module _ (hash : List ℕ → ℕ) (es : Pairs) (come : ℕ) (node : List ℕ ×
             (λ k d l. let p = get_or its k d in let of = each hash node come k d l in
             subst (λ n. IsPointOf hash n p.place) (sym (ap (node_at more) of.0 ∙ new)) of.1);
         all = λ i place of. ⊎_elim
-            (λ (low : i < come). old_at i place (record { place = place; node = i })
-            (open_low come (record { place = place; node = i }) low) refl of)
-            (λ (high : come ≤ i). ⊎_elim
-            (λ (above : come < i).
-            let back : i - 1 + 1 ≡ i = omega arith in
-            let p : Point = record { place = place; node = i - 1 } in
-            old_at i place p (open_high come p (omega arith) ∙ (λ j. record { place = place; node = back j })) refl of)
-            (λ (here : i ≤ come).
-            let is : come ≡ i = omega arith in
-            Contains-append_right others its _
-            (subst (λ (j : ℕ). Contains its (record { place = place; node = j })) is
-            (among hash node come place (subst (λ n. IsPointOf hash n place) (ap (node_at more) (sym is) ∙ new) of))))
-            (cases_lt come i))
-            (cases_lt i come);
+            (λ (here : i ≡ come). Contains-append_right others its _
+            (subst (λ (j : ℕ). Contains its (record { place = place; node = j })) (sym here)
+            (among hash node come place (subst (λ n. IsPointOf hash n place) (ap (node_at more) here ∙ new) of))))
+            (λ (other : i ≢ come).
+            let p : Point = record { place = place; node = i } in
+            let was : Point = closed_up come p in
+            let back = reopened come p other in
+            Contains-append_left others its _
+            (subst (Contains others) back (in_map (opened_up come) points was
+            (just.all was.node place (subst (λ n. IsPointOf hash n place)
+            (ap (λ (q : Point). node_at more q.node) (sym back) ∙ shifted was) of)))))
+            (cases_eq i come);
       }
 
 -- a ring with a node more
