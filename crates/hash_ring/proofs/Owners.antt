@@ -4,23 +4,24 @@ use Rattle.std.specs.Prelude.{◌↔◌, IsTrue, ◌||◌, nat_eq}
 use Rattle.std.specs.Borrow.{Bor}
 use Rattle.std.specs.List.{All, AllPairs, Contains, list_any}
 use Rattle.hashers.specs.Text.{texts}
-use Rattle.std.specs.Ordering.{is_gt, is_eq, ordering_reverse}
+use Rattle.std.specs.Ordering.{is_gt, ordering_reverse}
 use Rattle.std.specs.declared.cmp.Ordering.{Ordering}
 use Rattle.std.specs.declared.cmp.Ordering.TheVariants.{Less, Equal, Greater}
 use Rattle.std.specs.Cmp.Lexicographic.{nat_list_cmp_total, pointwise, bytes_decides}
 use Rattle.std.specs.FinMap as fin
 use Rattle.std.specs.FinMap.{slice_cmp-IsAntisymmetric, nat_cmp-IsAntisymmetric}
 use Rattle.std.proofs.lemmas.Bool.{cases_lt, lt-ltb, le-ltb}
-use Rattle.std.proofs.lemmas.List.Elements.{All-append, All-cons, All-nil, All-take, Contains-append_left, Contains-push}
+use Rattle.std.proofs.lemmas.List.Elements.{All-contains, All-nil, All-push, All-take, Contains-append_left, Contains-push}
 use Rattle.std.proofs.lemmas.List.{get_or_default, length-map, take_more}
 use Rattle.std.proofs.lemmas.List.Kept.{AllPairs-cons}
-use Rattle.hashers.proofs.TextMapLemmas.{get_remove, same_key}
+use Rattle.hashers.proofs.TextMapLemmas.{get_remove, get_remove_other, get_remove_same, not_same, same, same_itself, same_key}
+use Rattle.hashers.proofs.TextMapLemmas.{alike as same_if_alike}
 use Rattle.hash_ring.specs.declared.Node.{Node}
 use Rattle.hash_ring.specs.declared.Point.{Point}
-use Rattle.hash_ring.specs.Ring.{AreOwners, IsFirstToPass, without, HasPoint, IsOwner, IsPointOf, Nodes, point, turn}
+use Rattle.hash_ring.specs.Ring.{AreOwners, IsFirst, IsFirstToPass, without, HasPoint, IsOwner, IsPointOf, Nodes, point, turn}
 use Rattle.hash_ring.specs.Points.{IsBefore, IsRing, IsStart, index_round, node_at, nodes_of, pair_of, pairs}
 use Rattle.hash_ring.proofs.Points.{is_there}
-use Rattle.hash_ring.proofs.Names.{Pairs, by_bytes, found_at, found_where, get_is, itself, no_greater, read}
+use Rattle.hash_ring.proofs.Names.{Pairs, by_bytes, found_at, found_where, get_is, no_greater, read}
 
 -- ---- one owner alone
 not_both : (r s : Ordering) → s ≡ ordering_reverse r → is_gt r ≡ false → is_gt s ≡ false → r ≡ Equal
@@ -48,46 +49,24 @@ no_owner hash at a o =
     cc
 
 -- ---- a node that has gone
-kept : (hash : List ℕ → ℕ) (nodes : Nodes) (gone name : List ℕ) (place : ℕ) → name ≢ gone → HasPoint hash nodes name place
-    → HasPoint hash (fin.remove nodes gone) name place
-kept hash nodes gone name place ne p = record {
-  weight = p.weight;
-  there = get_remove nodes gone name
-      ∙ elim (is_eq (by_bytes name gone)) as (λ b. is_eq (by_bytes name gone) ≡ b → cond b None (fin.get nodes name) ≡ Some p.weight) [
-        | true ↦ λ e. absurd (ne (same_key name gone e))
-        | false ↦ λ e. p.there
-      ] refl;
-  point = p.point;
-}
-
--- a point of a node that is left
-record WasThere (hash : List ℕ → ℕ) (nodes : Nodes) (gone name : List ℕ) (place : ℕ) : Type 0 where
-  other : name ≢ gone
-  has : HasPoint hash nodes name place
-
-was_there : (hash : List ℕ → ℕ) (nodes : Nodes) (gone name : List ℕ) (place : ℕ) → HasPoint hash (fin.remove nodes gone) name place
-    → WasThere hash nodes gone name place
-was_there hash nodes gone name place p =
-    elim (is_eq (by_bytes name gone)) as
-    (λ b. is_eq (by_bytes name gone) ≡ b → cond b None (fin.get nodes name) ≡ Some p.weight → WasThere hash nodes gone name place) [
-      | true ↦ λ e s. cc
-      | false ↦ λ e s. record {
-        other = λ is. let no : is_eq (by_bytes gone gone) ≡ false =
-            subst (λ n. is_eq (by_bytes n gone) ≡ false) is e in let yes : is_eq (by_bytes gone gone) ≡ true = ap is_eq (itself gone) in cc;
-        has = record { weight = p.weight; there = s; point = p.point };
-      }
-    ] refl (sym (get_remove nodes gone name) ∙ p.there)
+was_there : (nodes : Nodes) (gone name : List ℕ) (w : ℕ) → fin.get (fin.remove nodes gone) name ≡ Some w
+    → (name ≢ gone) × (fin.get nodes name ≡ Some w)
+was_there nodes gone name w e =
+    let other : name ≢ gone = λ is. let none : fin.get (fin.remove nodes gone) name ≡ None =
+    ap (fin.get (fin.remove nodes gone)) is ∙ get_remove_same nodes gone in cc in
+    (other, sym (get_remove_other nodes gone name other) ∙ e)
 
 pub not_gone : (hash : List ℕ → ℕ) (nodes : Nodes) (at : ℕ) (gone a : List ℕ) → IsOwner hash (fin.remove nodes gone) at a → a ≢ gone
-not_gone hash nodes at gone a o = (was_there hash nodes gone a o.place o.has).other
+not_gone hash nodes at gone a o = (was_there nodes gone a o.has.weight o.has.there).0
 
 -- an owner that is left owns the key still
 pub stays : (hash : List ℕ → ℕ) (nodes : Nodes) (at : ℕ) (gone a : List ℕ) → IsOwner hash nodes at a → a ≢ gone
     → IsOwner hash (fin.remove nodes gone) at a
 stays hash nodes at gone a o ne = record {
   place = o.place;
-  has = kept hash nodes gone a o.place ne o.has;
-  first = λ other next p. o.first other next (was_there hash nodes gone other next p).has;
+  has = record { weight = o.has.weight; there = get_remove_other nodes gone a ne ∙ o.has.there; point = o.has.point };
+  first = λ other next p. o.first other next
+      (record { weight = p.weight; there = (was_there nodes gone other p.weight p.there).1; point = p.point });
 }
 
 -- ---- one after another
@@ -96,63 +75,79 @@ abbrev pub left : Nodes → List (List ℕ) → Nodes
 left nodes [] = nodes
 left nodes (name ∷ names) = left (fin.remove nodes name) names
 
+-- a name that is none of these
+abbrev pub IsNew : List ℕ → List (List ℕ) → Type 0
+IsNew name names = Contains names name → ⊥
+
+new_of_none : (name : List ℕ) → IsNew name []
+new_of_none name c = absurd (omega (arith, c.1))
+
+new_of_more : (a name : List ℕ) (names : List (List ℕ)) → name ≢ a → IsNew name names → IsNew name (a ∷ names)
+new_of_more a name names other new (zero, l, is) = other (sym is)
+new_of_more a name names other new (suc k, l, is) = new (k, omega arith, is)
+
+new_of_rest : (a name : List ℕ) (names : List (List ℕ)) → IsNew name (a ∷ names) → IsNew name names
+new_of_rest a name names new c = new (suc c.0, omega (arith, c.1), c.2)
+
+was_left : (nodes : Nodes) (names : List (List ℕ)) (name : List ℕ) (w : ℕ) → fin.get (left nodes names) name ≡ Some w
+    → IsNew name names × (fin.get nodes name ≡ Some w)
+was_left nodes [] name w e = (new_of_none name, e)
+was_left nodes (a ∷ names) name w e =
+    let rest = was_left (fin.remove nodes a) names name w e in
+    let here = was_there nodes a name w rest.1 in
+    (new_of_more a name names here.0 rest.0, here.1)
+
+is_left : (nodes : Nodes) (names : List (List ℕ)) (name : List ℕ) → IsNew name names → fin.get (left nodes names) name ≡ fin.get nodes name
+is_left nodes [] name new = refl
+is_left nodes (a ∷ names) name new =
+    is_left (fin.remove nodes a) names name (new_of_rest a name names new)
+    ∙ get_remove_other nodes a name (λ is. new (0, omega arith, sym is))
+
+either_first : (x y : Bool) (o : Option ℕ) → cond x None (cond y None o) ≡ cond y None (cond x None o)
+either_first true true o = refl
+either_first true false o = refl
+either_first false y o = refl
+
 remove_comm : (nodes : Nodes) (a b : List ℕ) → fin.remove (fin.remove nodes a) b ≡ fin.remove (fin.remove nodes b) a
 remove_comm nodes a b =
-    fin.same_map nat_list_cmp_total (slice_cmp-IsAntisymmetric nat_cmp-IsAntisymmetric) _ _
-    (λ q. get_remove (fin.remove nodes a) b q ∙ ap (cond (is_eq (by_bytes q b)) None) (get_remove nodes a q)
-    ∙ elim (is_eq (by_bytes q a)) as
-    (λ x. cond (is_eq (by_bytes q b)) None (cond x None (fin.get nodes q)) ≡ cond x None
-    (cond (is_eq (by_bytes q b)) None (fin.get nodes q))) [
-      | true ↦ elim (is_eq (by_bytes q b)) as (λ y. cond {A = Option ℕ} y None None ≡ None) [ true ↦ refl | false ↦ refl ]
-      | false ↦ refl
-    ]
-    ∙ sym (get_remove (fin.remove nodes b) a q ∙ ap (cond (is_eq (by_bytes q a)) None) (get_remove nodes b q)))
-
--- names that aren't this one
-abbrev pub AreOther : List ℕ → List (List ℕ) → Type 0
-AreOther gone [] = Unit {0}
-AreOther gone (a ∷ names) = (a ≢ gone) × AreOther gone names
+    same_if_alike _ _
+    (λ q. get_remove (fin.remove nodes a) b q ∙ ap (cond (same q b) None) (get_remove nodes a q)
+    ∙ either_first (same q b) (same q a) (fin.get nodes q)
+    ∙ sym (get_remove (fin.remove nodes b) a q ∙ ap (cond (same q a) None) (get_remove nodes b q)))
 
 not_there : (hash : List ℕ → ℕ) (nodes : Nodes) (at : ℕ) (gone : List ℕ) (names : List (List ℕ)) → fin.get nodes gone ≡ None
-    → AreOwners hash nodes at names → AreOther gone names
-not_there hash nodes at gone [] none o = tt
-not_there hash nodes at gone (a ∷ names) none o = (
-  λ is. let has = o.0.has in let there : fin.get nodes a ≡ Some has.weight = has.there in let no : fin.get nodes a ≡ None =
-      ap (fin.get nodes) is ∙ none in cc,
-  not_there hash (fin.remove nodes a) at gone names
-      (get_remove nodes a gone
-      ∙ elim (is_eq (by_bytes gone a)) as (λ b. cond b None (fin.get nodes gone) ≡ None) [ true ↦ refl | false ↦ none ])
-      o.1,
-)
+    → AreOwners hash nodes at names → IsNew gone names
+not_there hash nodes at gone [] none o = new_of_none gone
+not_there hash nodes at gone (a ∷ names) none o =
+    new_of_more a gone names
+    (λ is. let there : fin.get nodes a ≡ Some o.0.has.weight = o.0.has.there in let no : fin.get nodes a ≡ None =
+    ap (fin.get nodes) (sym is) ∙ none in cc)
+    (not_there hash (fin.remove nodes a) at gone names
+    (get_remove nodes a gone ∙ elim (same gone a) as (λ b. cond b None (fin.get nodes gone) ≡ None) [ true ↦ refl | false ↦ none ])
+    o.1)
 
-gone_is_none : (nodes : Nodes) (gone : List ℕ) → fin.get (fin.remove nodes gone) gone ≡ None
-gone_is_none nodes gone = get_remove nodes gone gone ∙ ap (λ r. cond (is_eq r) None (fin.get nodes gone)) (itself gone)
-
-other_kept : (gone : List ℕ) (names : List (List ℕ)) → AreOther gone names → without gone names ≡ names
-other_kept gone [] o = refl
-other_kept gone (a ∷ names) o =
-    elim (is_eq (by_bytes a gone)) as
-    (λ b. is_eq (by_bytes a gone) ≡ b → cond (not b) (a ∷ without gone names) (without gone names) ≡ a ∷ names) [
-      | true ↦ λ e. absurd (o.0 (same_key a gone e))
-      | false ↦ λ e. ap (λ rest. a ∷ rest) (other_kept gone names o.1)
-    ] refl
+other_kept : (gone : List ℕ) (names : List (List ℕ)) → IsNew gone names → without gone names ≡ names
+other_kept gone [] new = refl
+other_kept gone (a ∷ names) new =
+    ap (λ b. cond (not b) (a ∷ without gone names) (without gone names)) (not_same a gone (λ is. new (0, omega arith, is)))
+    ∙ ap (λ rest. a ∷ rest) (other_kept gone names (new_of_rest a gone names new))
 
 -- where a node is gone the other owners keep their order
 pub keep_order : (hash : List ℕ → ℕ) (nodes : Nodes) (at : ℕ) (gone : List ℕ) (names : List (List ℕ)) → AreOwners hash nodes at names
     → AreOwners hash (fin.remove nodes gone) at (without gone names)
 keep_order hash nodes at gone [] o = tt
 keep_order hash nodes at gone (a ∷ names) o =
-    elim (is_eq (by_bytes a gone)) as
-    (λ b. is_eq (by_bytes a gone) ≡ b
+    elim (same a gone) as
+    (λ b. same a gone ≡ b
     → AreOwners hash (fin.remove nodes gone) at (cond (not b) (a ∷ without gone names) (without gone names))) [
       | true ↦ λ e.
-          let is : a ≡ gone = same_key a gone e in
-          let rest : AreOwners hash (fin.remove nodes gone) at names = subst (λ n. AreOwners hash (fin.remove nodes n) at names) is o.1 in
+          let rest : AreOwners hash (fin.remove nodes gone) at names =
+          subst (λ n. AreOwners hash (fin.remove nodes n) at names) (same_key a gone e) o.1 in
           subst (AreOwners hash (fin.remove nodes gone) at)
-          (sym (other_kept gone names (not_there hash (fin.remove nodes gone) at gone names (gone_is_none nodes gone) rest))) rest
+          (sym (other_kept gone names (not_there hash (fin.remove nodes gone) at gone names (get_remove_same nodes gone) rest))) rest
       | false ↦ λ e. (
         stays hash nodes at gone a o.0
-            (λ is. let yes : is_eq (by_bytes a gone) ≡ true = ap (λ k. is_eq (by_bytes a k)) (sym is) ∙ ap is_eq (itself a) in cc),
+            (λ is. let yes : same a gone ≡ true = ap (same a) (sym is) ∙ same_itself a in cc),
         subst (λ m. AreOwners hash m at (without gone names)) (remove_comm nodes a gone)
             (keep_order hash (fin.remove nodes a) at gone names o.1),
       )
@@ -168,16 +163,13 @@ alike hash nodes at (x ∷ xs) (y ∷ ys) o p few =
     let rest : AreOwners hash (fin.remove nodes x) at ys = subst (λ n. AreOwners hash (fin.remove nodes n) at ys) (sym same) p.1 in
     λ i. same i ∷ alike hash (fin.remove nodes x) at xs ys o.1 rest (omega arith) i
 
-all_other : (gone : List ℕ) (names : List (List ℕ)) → AreOther gone names → All (λ x. gone ≢ x) names
-all_other gone [] o = All-nil (λ x. gone ≢ x)
-all_other gone (a ∷ names) o = All-cons (λ x. gone ≢ x) a names (λ e. o.0 (sym e)) (all_other gone names o.1)
-
 -- owners one after another are different
 pub different : (hash : List ℕ → ℕ) (nodes : Nodes) (at : ℕ) (names : List (List ℕ)) → AreOwners hash nodes at names
     → AllPairs (λ a b. a ≢ b) names
 different hash nodes at [] o = λ i j d l m. absurd (omega arith)
 different hash nodes at (a ∷ names) o =
-    AllPairs-cons (λ a b. a ≢ b) a names (all_other a names (not_there hash (fin.remove nodes a) at a names (gone_is_none nodes a) o.1))
+    AllPairs-cons (λ a b. a ≢ b) a names
+    (λ k d l is. not_there hash (fin.remove nodes a) at a names (get_remove_same nodes a) o.1 (k, l, get_or_default names k a d l ∙ sym is))
     (different hash (fin.remove nodes a) at names o.1)
 
 -- with those that are left they are all nodes
@@ -203,12 +195,172 @@ pub owners_push : (hash : List ℕ → ℕ) (nodes : Nodes) (at : ℕ) (names : 
 owners_push hash nodes at [] a o p = (p, tt)
 owners_push hash nodes at (b ∷ names) a o p = (o.0, owners_push hash (fin.remove nodes b) at names a o.1 p)
 
--- ---- the points in their turn round the ring
-record InTurn (at : ℕ) (p q : Point) : Type 0 where
-  sooner : turn at p.place ≤ turn at q.place
-  nearer : turn at p.place ≡ turn at q.place → p.place ≤ q.place
-  lesser : p.place ≡ q.place → p.node ≤ q.node
+-- ---- the way round the ring
+-- the places of all points with the names of their nodes, in the turn in which they are reached
+pub record IsRound (hash : List ℕ → ℕ) (nodes : Nodes) (at n : ℕ) (nth : ℕ → ℕ × List ℕ) : Type 0 where
+  pub real : (s : ℕ) → s < n → HasPoint hash nodes (nth s).1 (nth s).0
+  pub all : (name : List ℕ) (place : ℕ) → HasPoint hash nodes name place → (s : ℕ) × (s < n) × (nth s ≡ (place, name))
+  pub each : (name : List ℕ) (w : ℕ) → fin.get nodes name ≡ Some w → (place : ℕ) × HasPoint hash nodes name place
+  pub in_turn : (s t : ℕ) → s ≤ t → t < n → IsFirst at (nth s).1 (nth s).0 (nth t).1 (nth t).0
 
+-- what the names are, after some steps
+pub record AreNamesRound (hash : List ℕ → ℕ) (nodes : Nodes) (at : ℕ) (nth : ℕ → ℕ × List ℕ) (names : List (List ℕ)) (steps : ℕ)
+    : Type 0 where
+  pub own : AreOwners hash nodes at names
+  pub passed : (t : ℕ) → t < steps → Contains names (nth t).1
+
+-- the names so far, all of them refused
+pub record AreRefusedRound (hash : List ℕ → ℕ) (nodes : Nodes) (at : ℕ) (nth : ℕ → ℕ × List ℕ) (refuses : List ℕ → Type 0) (steps : ℕ)
+    : Type 0 where
+  pub names : List (List ℕ)
+  pub round : AreNamesRound hash nodes at nth names steps
+  pub refused : All refuses names
+
+among_or_new : (name : List ℕ) (names : List (List ℕ)) → Contains names name ⊎ IsNew name names
+among_or_new name [] = inr (new_of_none name)
+among_or_new name (a ∷ names) = ⊎_elim
+    (λ c. inl (suc c.0, omega (arith, c.1), c.2))
+    (λ new. elim (same a name) as (λ b. same a name ≡ b → Contains (a ∷ names) name ⊎ IsNew name (a ∷ names)) [
+      | true ↦ λ e. inl (0, omega arith, same_key a name e)
+      | false ↦ λ e. inr (new_of_more a name names
+          (λ is. let yes : same a name ≡ true = ap (same a) is ∙ same_itself a in cc) new)
+    ] refl)
+    (among_or_new name names)
+
+owners_take : (hash : List ℕ → ℕ) (nodes : Nodes) (at : ℕ) (names : List (List ℕ)) (n : ℕ) → AreOwners hash nodes at names
+    → AreOwners hash nodes at (take n names)
+owners_take hash nodes at [] zero o = tt
+owners_take hash nodes at [] (suc n) o = tt
+owners_take hash nodes at (a ∷ names) zero o = tt
+owners_take hash nodes at (a ∷ names) (suc n) o = (o.0, owners_take hash (fin.remove nodes a) at names n o.1)
+
+module _ {hash : List ℕ → ℕ} {nodes : Nodes} {at n : ℕ} {nth : ℕ → ℕ × List ℕ} (round : IsRound hash nodes at n nth) where
+  -- the first point whose node is none of these is the owner's
+  pub next_owner : (names : List (List ℕ)) (s : ℕ) → s < n → ((t : ℕ) → t < s → Contains names (nth t).1) → IsNew (nth s).1 names
+      → IsOwner hash (left nodes names) at (nth s).1
+  next_owner names s below passed new =
+      let has = round.real s below in
+      record {
+        place = (nth s).0;
+        has = record { weight = has.weight; there = is_left nodes names (nth s).1 new ∙ has.there; point = has.point };
+        first = λ other next p.
+            let was = was_left nodes names other p.weight p.there in
+            let r = round.all other next (record { weight = p.weight; there = was.1; point = p.point }) in
+            ⊎_elim
+            (λ (early : r.0 < s). absurd (was.0 (subst (Contains names) (ap (λ (q : ℕ × List ℕ). q.1) r.2) (passed r.0 early))))
+            (λ (late : s ≤ r.0). subst (λ (q : ℕ × List ℕ). IsFirst at (nth s).1 (nth s).0 q.1 q.0) r.2 (round.in_turn s r.0 late r.1))
+            (cases_lt r.0 s);
+      }
+
+  -- each node is among the names of all points
+  met : (names : List (List ℕ)) → ((t : ℕ) → t < n → Contains names (nth t).1) → (name : List ℕ) (w : ℕ) → fin.get nodes name ≡ Some w
+      → Contains names name
+  met names passed name w there =
+      let p = round.each name w there in
+      let r = round.all name p.0 p.1 in
+      subst (Contains names) (ap (λ (q : ℕ × List ℕ). q.1) r.2) (passed r.0 r.1)
+
+  -- where each point's node is among these, no node is left
+  pub none_left : (names : List (List ℕ)) → ((t : ℕ) → t < n → Contains names (nth t).1) → left nodes names ≡ fin.empty
+  none_left names passed =
+      same_if_alike _ _ (λ q. no_one q (fin.get (left nodes names) q) refl ∙ sym (fin.get-empty by_bytes q))
+    where
+      no_one : (q : List ℕ) (o : Option ℕ) → fin.get (left nodes names) q ≡ o → fin.get (left nodes names) q ≡ None
+      no_one q None e = e
+      no_one q (Some w) e = let was = was_left nodes names q w e in absurd (was.0 (met names passed q w was.1))
+
+  -- the names when the way round has come to its end
+  pub round_all : (names : List (List ℕ)) (m steps : ℕ) → AreNamesRound hash nodes at nth names steps → n ≤ steps → length names ≤ m
+      → length names ≡ min m (fin.len nodes)
+  round_all names m steps so_far end few =
+      let no : fin.len (left nodes names) ≡ 0 = ap fin.len (none_left names (λ t l. so_far.passed t (omega arith))) ∙ fin.len-empty by_bytes ℕ in
+      omega (arith, count hash nodes at names so_far.own)
+
+  -- the names when they are enough
+  pub round_full : (names : List (List ℕ)) (m : ℕ) → AreOwners hash nodes at names → length names ≡ m → length names ≡ min m (fin.len nodes)
+  round_full names m own full = omega (arith, count hash nodes at names own)
+
+  module _ (name : List ℕ) (steps : ℕ) (below : steps < n) (is : (nth steps).1 ≡ name) where
+    passed_more : (names more : List (List ℕ)) → ((x : List ℕ) → Contains names x → Contains more x)
+        → ((t : ℕ) → t < steps → Contains names (nth t).1) → Contains more name → (t : ℕ) → t < steps + 1 → Contains more (nth t).1
+    passed_more names more keeps passed there t l = ⊎_elim
+        (λ (low : t < steps). keeps _ (passed t low))
+        (λ (high : steps ≤ t). let e : steps ≡ t = omega arith in
+        subst (λ (t : ℕ). Contains more (nth t).1) e (subst (Contains more) (sym is) there))
+        (cases_lt t steps)
+
+    -- a node that is among the names
+    pub round_old : (names : List (List ℕ)) → AreNamesRound hash nodes at nth names steps → Contains names name
+        → AreNamesRound hash nodes at nth names (steps + 1)
+    round_old names so_far old = record { own = so_far.own; passed = passed_more names names (λ x c. c) so_far.passed old }
+
+    -- a new one
+    pub round_new : (names : List (List ℕ)) → AreNamesRound hash nodes at nth names steps → IsNew name names
+        → AreNamesRound hash nodes at nth (names ++ name ∷ []) (steps + 1)
+    round_new names so_far new = record {
+      own = owners_push hash nodes at names name so_far.own
+          (subst (IsOwner hash (left nodes names) at) is
+          (next_owner names steps below so_far.passed (subst (λ x. IsNew x names) (sym is) new)));
+      passed = passed_more names (names ++ name ∷ []) (λ x. Contains-append_left names (name ∷ []) x) so_far.passed (Contains-push names name);
+    }
+
+  -- ---- a round on which a test refuses
+  module _ (answers : List ℕ → Bool → Type 0) where
+    abbrev Refuses : List ℕ → Type 0
+    Refuses name = answers name false
+
+    pub refused_start : AreRefusedRound hash nodes at nth Refuses 0
+    refused_start = record {
+      names = [];
+      round = record { own = tt; passed = λ t l. absurd (omega arith) };
+      refused = All-nil Refuses;
+    }
+
+    pub refused_all : (steps : ℕ) → AreRefusedRound hash nodes at nth Refuses steps → n ≤ steps → (name : List ℕ)
+        → fin.get nodes name ≢ None → Refuses name
+    refused_all steps so_far end name there = by_weight (fin.get nodes name) refl
+      where
+        by_weight : (o : Option ℕ) → fin.get nodes name ≡ o → Refuses name
+        by_weight None e = absurd (there e)
+        by_weight (Some w) e = All-contains Refuses so_far.names name so_far.refused
+            (met so_far.names (λ t l. so_far.round.passed t (omega arith)) name w e)
+
+    module _ (name : List ℕ) (steps : ℕ) (below : steps < n) (is : (nth steps).1 ≡ name)
+        (so_far : AreRefusedRound hash nodes at nth Refuses steps) where
+      pub refused_more : Refuses name → AreRefusedRound hash nodes at nth Refuses (steps + 1)
+      refused_more refusal = ⊎_elim
+          (λ (old : Contains so_far.names name). record {
+            names = so_far.names;
+            round = round_old name steps below is so_far.names so_far.round old;
+            refused = so_far.refused;
+          })
+          (λ (new : IsNew name so_far.names). record {
+            names = so_far.names ++ name ∷ [];
+            round = round_new name steps below is so_far.names so_far.round new;
+            refused = All-push Refuses so_far.names name so_far.refused refusal;
+          })
+          (among_or_new name so_far.names)
+
+      pub first_to_pass : answers name true → IsFirstToPass hash nodes at answers name
+      first_to_pass pass = ⊎_elim
+          (λ (old : Contains so_far.names name).
+          let cut : take (old.0 + 1) so_far.names ≡ take old.0 so_far.names ++ name ∷ [] =
+          take_more so_far.names old.0 name old.1 ∙ ap (λ name. take old.0 so_far.names ++ name ∷ []) old.2 in
+          record {
+            before = take old.0 so_far.names;
+            owners = subst (AreOwners hash nodes at) cut (owners_take hash nodes at so_far.names (old.0 + 1) so_far.round.own);
+            refused = All-take Refuses old.0 so_far.names so_far.refused;
+            passes = pass;
+          })
+          (λ (new : IsNew name so_far.names). record {
+            before = so_far.names;
+            owners = (round_new name steps below is so_far.names so_far.round new).own;
+            refused = so_far.refused;
+            passes = pass;
+          })
+          (among_or_new name so_far.names)
+
+-- ---- the way round a ring's points
 turn_low : (at place : ℕ) → at ≤ place → turn at place ≡ 0
 turn_low at place h = ap (λ b. cond b 1 0) (le-ltb place at h)
 
@@ -221,13 +373,7 @@ index_low n first s h = ap (λ b. cond b (first + s) (s - (n - first))) (lt-ltb 
 pub index_high : (n first s : ℕ) → n - first ≤ s → index_round n first s ≡ s - (n - first)
 index_high n first s h = ap (λ b. cond b (first + s) (s - (n - first))) (le-ltb s (n - first) h)
 
-index_below : (n first s : ℕ) → first ≤ n → s < n → index_round n first s < n
-index_below n first s within below = ⊎_elim
-    (λ (low : s < n - first). let e = index_low n first s low in omega arith)
-    (λ (high : n - first ≤ s). let e = index_high n first s high in omega arith)
-    (cases_lt s (n - first))
-
-pub upto : (points : List Point) → AllPairs IsBefore points → (i j : ℕ) (d : Point) → i ≤ j → j < length points
+upto : (points : List Point) → AllPairs IsBefore points → (i j : ℕ) (d : Point) → i ≤ j → j < length points
     → IsBefore (get_or points i d) (get_or points j d)
 upto points before i j d le within = ⊎_elim
     (λ (less : i < j). before i j d less within)
@@ -235,108 +381,46 @@ upto points before i j d le within = ⊎_elim
     (record { place = omega arith; node = λ f. omega arith }))
     (cases_lt i j)
 
-module _ (points : List Point) (ordered : AllPairs IsBefore points) (at first : ℕ) (start : IsStart points at first) (d : Point) where
-  -- the point some steps after the first
-  abbrev pub nth : ℕ → Point
-  nth s = get_or points (index_round (length points) first s) d
+abbrev pub none : Point
+none = record { place = 0; node = 0 }
 
-  at_indices : (s t i j : ℕ) → index_round (length points) first s ≡ i → index_round (length points) first t ≡ j
-      → InTurn at (get_or points i d) (get_or points j d) → InTurn at (nth s) (nth t)
-  at_indices s t i j e f h =
-      subst (λ (k : ℕ). InTurn at (get_or points k d) (nth t)) (sym e)
-      (subst (λ (k : ℕ). InTurn at (get_or points i d) (get_or points k d)) (sym f) h)
-
-  in_turn : (s t : ℕ) → s ≤ t → t < length points → InTurn at (nth s) (nth t)
-  in_turn s t le below =
-      let n = length points in
-      let within : first ≤ n = start.within in
-      ⊎_elim
-      (λ (t_low : t < n - first).
-      let i = first + s in let j = first + t in
-      let low_i = start.after i d (omega arith) (omega arith) in
-      let low_j = start.after j d (omega arith) (omega arith) in
-      let b = upto points ordered i j d (omega arith) (omega arith) in
-      let u = turn_low at _ low_i in let v = turn_low at _ low_j in
-      at_indices s t i j (index_low n first s (omega arith)) (index_low n first t t_low)
-      (record { sooner = omega arith; nearer = λ e. b.place; lesser = b.node }))
-      (λ (t_high : n - first ≤ t).
-      let j = t - (n - first) in
-      let high_j = start.before j d (omega arith) in
-      let v = turn_high at _ high_j in
-      ⊎_elim
-      (λ (s_low : s < n - first).
-      let i = first + s in
-      let low_i = start.after i d (omega arith) (omega arith) in
-      let u = turn_low at _ low_i in
-      at_indices s t i j (index_low n first s s_low) (index_high n first t t_high)
-      (record { sooner = omega arith; nearer = λ e. absurd (omega arith); lesser = λ e. absurd (omega arith) }))
-      (λ (s_high : n - first ≤ s).
-      let i = s - (n - first) in
-      let high_i = start.before i d (omega arith) in
-      let b = upto points ordered i j d (omega arith) (omega arith) in
-      let u = turn_high at _ high_i in
-      at_indices s t i j (index_high n first s s_high) (index_high n first t t_high)
-      (record { sooner = omega arith; nearer = λ e. b.place; lesser = b.node }))
-      (cases_lt s (n - first)))
-      (cases_lt t (n - first))
-
--- ---- what a ring's points say of owners
--- a point of a node that is left
-record IsLeft (hash : List ℕ → ℕ) (nodes : Nodes) (names : List (List ℕ)) (name : List ℕ) (place : ℕ) : Type 0 where
-  new : AreOther name names
-  has : HasPoint hash nodes name place
-
-is_left : (hash : List ℕ → ℕ) (nodes : Nodes) (names : List (List ℕ)) (name : List ℕ) (place : ℕ)
-    → HasPoint hash (left nodes names) name place → IsLeft hash nodes names name place
-is_left hash nodes [] name place p = record { new = tt; has = p }
-is_left hash nodes (a ∷ names) name place p =
-    let rest = is_left hash (fin.remove nodes a) names name place p in
-    let here = was_there hash nodes a name place rest.has in
-    record { new = (λ e. here.other (sym e), rest.new); has = here.has }
-
-left_is : (hash : List ℕ → ℕ) (nodes : Nodes) (names : List (List ℕ)) (name : List ℕ) (place : ℕ) → AreOther name names
-    → HasPoint hash nodes name place → HasPoint hash (left nodes names) name place
-left_is hash nodes [] name place new p = p
-left_is hash nodes (a ∷ names) name place new p =
-    left_is hash (fin.remove nodes a) names name place new.1 (kept hash nodes a name place (λ e. new.0 (sym e)) p)
-
-not_among : (name : List ℕ) (names : List (List ℕ)) → AreOther name names → Contains names name → ⊥
-not_among name names new c = all_other name names new c.0 name c.1 (sym c.2)
-
-left_get : (nodes : Nodes) (names : List (List ℕ)) (name : List ℕ) (w : ℕ) → fin.get (left nodes names) name ≡ Some w
-    → AreOther name names × (fin.get nodes name ≡ Some w)
-left_get nodes [] name w e = (tt, e)
-left_get nodes (a ∷ names) name w e =
-    let rest = left_get (fin.remove nodes a) names name w e in
-    elim (is_eq (by_bytes name a)) as
-    (λ b. is_eq (by_bytes name a) ≡ b → cond b None (fin.get nodes name) ≡ Some w → AreOther name (a ∷ names)
-    × (fin.get nodes name ≡ Some w)) [
-      | true ↦ λ t s. cc
-      | false ↦ λ t s. (
-        (
-          λ is. let no : is_eq (by_bytes name name) ≡ false = subst (λ n. is_eq (by_bytes name n) ≡ false) is t in let yes : is_eq
-              (by_bytes name name) ≡ true = ap is_eq (itself name) in cc,
-          rest.0,
-        ),
-        s,
-      )
-    ] refl (sym (get_remove nodes a name) ∙ rest.1)
-
--- the name of the node of the point some steps after the first
-abbrev pub name_round : Pairs → List Point → ℕ → ℕ → Point → List ℕ
-name_round es points first s d = (node_at es (get_or points (index_round (length points) first s) d).node).0
+-- the place of the point some steps after the first, with its node's name
+abbrev pub spot : Pairs → List Point → ℕ → ℕ → ℕ × List ℕ
+spot es points first s =
+    let p = get_or points (index_round (length points) first s) none in
+    (p.place, (node_at es p.node).0)
 
 module _ (hash : List ℕ → ℕ) (es : Pairs) (points : List Point) (ring : IsRing hash es points) (at first : ℕ)
-    (start : IsStart points at first) (d : Point) where
-  abbrev pub the : ℕ → Point
-  the s = nth points ring.ordered at first start d s
+    (start : IsStart points at first) where
+  abbrev index : ℕ → ℕ
+  index s = index_round (length points) first s
 
-  -- the name of a point's node
-  abbrev pub named : ℕ → List ℕ
-  named s = name_round es points first s d
+  abbrev the : ℕ → Point
+  the s = get_or points (index s) none
+
+  -- a point some steps on is after the place, or it is reached when the ring's end is passed
+  side : (s : ℕ) → s < length points → ((index s ≡ first + s) × (index s < length points) × (turn at (the s).place ≡ 0))
+      ⊎ ((index s + (length points - first) ≡ s) × (index s < length points) × (turn at (the s).place ≡ 1))
+  side s below =
+      let within : first ≤ length points = start.within in
+      ⊎_elim
+      (λ (low : s < length points - first).
+      let e = index_low (length points) first s low in
+      let there : index s < length points = omega (arith, e) in
+      inl (e, there, turn_low at _ (start.after (index s) none (omega (arith, e)) there)))
+      (λ (high : length points - first ≤ s).
+      let e = index_high (length points) first s high in
+      inr (omega (arith, e), omega (arith, e), turn_high at _ (start.before (index s) none (omega (arith, e)))))
+      (cases_lt s (length points - first))
+
+  there : (s : ℕ) → s < length points → index s < length points
+  there s below = ⊎_elim (λ a. a.1) (λ b. b.1) (side s below)
+
+  own : (s : ℕ) → s < length points → IsPointOf hash (node_at es (the s).node) (the s).place
+  own s below = ring.just.real (index s) none (there s below)
 
   -- the steps to an index
-  steps_to : (k : ℕ) → k < length points → (s : ℕ) × (s < length points) × (index_round (length points) first s ≡ k)
+  steps_to : (k : ℕ) → k < length points → (s : ℕ) × (s < length points) × (index s ≡ k)
   steps_to k below =
       let n = length points in
       let within : first ≤ n = start.within in
@@ -345,274 +429,72 @@ module _ (hash : List ℕ → ℕ) (es : Pairs) (points : List Point) (ring : Is
       (λ (high : first ≤ k). (k - first, omega arith, index_low n first (k - first) (omega arith) ∙ omega arith))
       (cases_lt k first)
 
-  -- where a node's point is reached
-  record Reached (name : List ℕ) (place : ℕ) : Type 0 where
-    s : ℕ
-    below : s < length points
-    node : named s ≡ name
-    is : (the s).place ≡ place
-
-  reached : (name : List ℕ) (place : ℕ) → HasPoint hash (nodes_of es) name place → Reached name place
-  reached name place p =
-      let f = found_where es name p.weight (sym (get_is es ring.named name) ∙ p.there) in
-      let c = ring.just.all f.i place (subst (λ node. IsPointOf hash node place) (sym f.is) p.point) in
-      let t = steps_to c.0 c.1 in
-      let here : the t.0 ≡ record { place = place; node = f.i } =
-      ap (λ (k : ℕ). get_or points k d) t.2 ∙ get_or_default points c.0 d (record { place = place; node = f.i }) c.1 ∙ c.2 in
+  in_order : (s t : ℕ) → t < length points → index s ≤ index t → turn at (the s).place ≡ turn at (the t).place
+      → IsFirst at (spot es points first s).1 (the s).place (spot es points first t).1 (the t).place
+  in_order s t below le turns =
+      let b = upto points ring.ordered (index s) (index t) none le (there t below) in
+      let last = is_there hash es (the t).node (the t).place (own t below) in
       record {
-        s = t.0;
-        below = t.1;
-        node = ap (λ p. (node_at es p.node).0) here ∙ ap (λ node. node.0) f.is;
-        is = ap (λ p. p.place) here;
+        sooner = omega (arith, turns);
+        nearer = λ _. b.place;
+        lesser = λ e. no_greater es ring.named (the s).node (the t).node (b.node e) last;
       }
 
-  -- each point is one of its node
-  is_own : (s : ℕ) → s < length points → IsPointOf hash (node_at es (the s).node) (the s).place
-  is_own s below = ring.just.real (index_round (length points) first s) d (index_below (length points) first s start.within below)
-
-  own_there : (s : ℕ) → s < length points → (the s).node < length es
-  own_there s below = is_there hash es (the s).node (the s).place (is_own s below)
-
-  its_own : (s : ℕ) → s < length points → HasPoint hash (nodes_of es) (named s) (the s).place
-  its_own s below = record {
-    weight = (node_at es (the s).node).1;
-    there = get_is es ring.named (named s) ∙ found_at es ring.named (the s).node (own_there s below);
-    point = is_own s below;
+  pub round_of : IsRound hash (nodes_of es) at (length points) (spot es points first)
+  round_of = record {
+    real = λ s below. record {
+      weight = (node_at es (the s).node).1;
+      there = get_is es ring.named (spot es points first s).1
+          ∙ found_at es ring.named (the s).node (is_there hash es (the s).node (the s).place (own s below));
+      point = own s below;
+    };
+    all = λ name place p.
+        let f = found_where es name p.weight (sym (get_is es ring.named name) ∙ p.there) in
+        let its : Point = record { place = place; node = f.i } in
+        let c = ring.just.all f.i place (subst (λ node. IsPointOf hash node place) (sym f.is) p.point) in
+        let r = steps_to c.0 c.1 in
+        let here : the r.0 ≡ its = ap (λ (k : ℕ). get_or points k none) r.2 ∙ get_or_default points c.0 none its c.1 ∙ c.2 in
+        (r.0, r.1, ap (λ (q : Point). (q.place, (node_at es q.node).0)) here ∙ (λ j. (place, (f.is j).0)));
+    each = λ name w e.
+        let f = found_where es name w (sym (get_is es ring.named name) ∙ e) in
+        let some : 1 ≤ w = subst (λ node. 1 ≤ node.1) f.is (ring.weighed f.i ([], 0) f.below) in
+        (point hash name 0, record { weight = w; there = e; point = record { number = 0; below = some; is = refl } });
+    in_turn = λ s t le below. ⊎_elim
+        (λ a. ⊎_elim
+        (λ b. in_order s t below (omega (arith, a.0, b.0)) (a.2 ∙ sym b.2))
+        (λ b. record {
+          sooner = omega (arith, a.2, b.2);
+          nearer = λ e. absurd (omega (arith, a.2, b.2, e));
+          lesser = λ e. let same_turn = ap (turn at) e in absurd (omega (arith, a.2, b.2, same_turn));
+        })
+        (side t below))
+        (λ a. ⊎_elim
+        (λ b. let upto_it : index t < length points = b.1 in absurd (omega (arith, a.0, b.0, le, upto_it)))
+        (λ b. in_order s t below (omega (arith, a.0, b.0)) (a.2 ∙ sym b.2))
+        (side t below))
+        (side s (omega arith));
   }
 
-  -- the first point whose node is none of these is the owner's
-  pub next_owner : (names : List (List ℕ)) (s : ℕ) → s < length points → ((t : ℕ) → t < s → Contains names (named t))
-      → AreOther (named s) names
-      → IsOwner hash (left (nodes_of es) names) at (named s)
-  next_owner names s below passed new = record {
-    place = (the s).place;
-    has = left_is hash (nodes_of es) names (named s) (the s).place new (its_own s below);
-    first = λ other next p.
-        let l = is_left hash (nodes_of es) names other next p in
-        let r = reached other next l.has in
-        let later : s ≤ r.s = ⊎_elim
-        (λ (early : r.s < s). absurd (not_among other names l.new (subst (Contains names) r.node (passed r.s early))))
-        (λ (late : s ≤ r.s). late)
-        (cases_lt r.s s) in
-        let turned = in_turn points ring.ordered at first start d s r.s later r.below in
-        let there = own_there r.s r.below in
-        record {
-          sooner = subst (λ q. turn at (the s).place ≤ turn at q) r.is turned.sooner;
-          nearer = subst (λ q. turn at (the s).place ≡ turn at q → (the s).place ≤ q) r.is turned.nearer;
-          lesser = λ e. subst (λ o. is_gt (by_bytes (named s) o) ≡ false) r.node
-              (no_greater es ring.named (the s).node (the r.s).node (turned.lesser (e ∙ sym r.is)) there);
-        };
-  }
+  -- the node of the first point owns the place
+  pub first_owner : 0 < length points → IsOwner hash (nodes_of es) at (spot es points first 0).1
+  first_owner some = next_owner round_of [] 0 some (λ t l. absurd (omega arith)) (new_of_none _)
 
-  -- where each point's node is among these, no node is left
-  pub none_left : (names : List (List ℕ)) → ((t : ℕ) → t < length points → Contains names (named t)) → left (nodes_of es) names ≡ fin.empty
-  none_left names passed =
-      fin.same_map nat_list_cmp_total (slice_cmp-IsAntisymmetric nat_cmp-IsAntisymmetric) _ _
-      (λ q. no_one q (fin.get (left (nodes_of es) names) q) refl ∙ sym (fin.get-empty by_bytes q))
-    where
-      no_one : (q : List ℕ) (o : Option ℕ) → fin.get (left (nodes_of es) names) q ≡ o → fin.get (left (nodes_of es) names) q ≡ None
-      no_one q None e = e
-      no_one q (Some w) e =
-          let g = left_get (nodes_of es) names q w e in
-          let f = found_where es q w (sym (get_is es ring.named q) ∙ g.1) in
-          let some : 1 ≤ w = subst (λ node. 1 ≤ node.1) f.is (ring.weighed f.i ([], 0) f.below) in
-          let r = reached q (point hash q 0) (record { weight = w; there = g.1; point = record { number = 0; below = some; is = refl } }) in
-          absurd (not_among q names g.0 (subst (Contains names) r.node (passed r.s r.below)))
-
--- ---- the same of the values that the code reads
-module _ (hash : List ℕ → ℕ) (nodes : List Node) (points : List Point) (ring : IsRing hash (pairs nodes) points) (at first : ℕ)
-    (start : IsStart points at first)
-    (steps k : ℕ) (p : Point) (node : Node) (below : steps < length points) (index : k ≡ index_round (length points) first steps)
-    (point : p ≡ get_or points k p) (is : node ≡ get_or nodes p.node node) where
-  abbrev pub the_name : ℕ → List ℕ
-  the_name s = named hash (pairs nodes) points ring at first start p s
-
-  pub name_read : the_name steps ≡ node.name.items
-  name_read =
-      let e : the hash (pairs nodes) points ring at first start p steps ≡ p = ap (λ (k : ℕ). get_or points k p) (sym index) ∙ sym point in
-      let there : p.node < length nodes =
-      subst (λ (n : ℕ). p.node < n) (length-map nodes pair_of)
-      (subst (λ (q : Point). q.node < length (pairs nodes)) e
-      (own_there hash (pairs nodes) points ring at first start p steps below)) in
-      ap (λ (q : Point). (node_at (pairs nodes) q.node).0) e ∙ read nodes node p.node there ∙ ap (λ (n : Node). n.name.items) (sym is)
-
-  pub owner_read : (names : List (List ℕ)) → ((t : ℕ) → t < steps → Contains names (the_name t)) → AreOther node.name.items names
-      → IsOwner hash (left (nodes_of (pairs nodes)) names) at node.name.items
-  owner_read names passed new =
-      subst (IsOwner hash (left (nodes_of (pairs nodes)) names) at) name_read
-      (next_owner hash (pairs nodes) points ring at first start p names steps below passed
-      (subst (λ name. AreOther name names) (sym name_read) new))
+-- the name that the code reads
+pub name_read : (hash : List ℕ → ℕ) (nodes : List Node) (points : List Point) → IsRing hash (pairs nodes) points
+    → (first steps k : ℕ) (d : Node) (text : List ℕ) → k < length points → k ≡ index_round (length points) first steps
+    → text ≡ (get_or nodes (get_or points k none).node d).name.items → (spot (pairs nodes) points first steps).1 ≡ text
+name_read hash nodes points ring first steps k d text below index is =
+    let p = get_or points k none in
+    let there : p.node < length nodes =
+    omega (arith, is_there hash (pairs nodes) p.node p.place (ring.just.real k none below), length-map nodes pair_of) in
+    ap (λ (k : ℕ). (node_at (pairs nodes) (get_or points k none).node).0) (sym index) ∙ read nodes d p.node there ∙ sym is
 
 -- a ring of no points has no nodes
 pub no_points : (hash : List ℕ → ℕ) (es : Pairs) (points : List Point) → IsRing hash es points → length points ≡ 0 → nodes_of es ≡ fin.empty
 no_points hash es points ring none =
     let start : IsStart points 0 0 =
     record { within = omega arith; before = λ k d l. absurd (omega arith); after = λ k d l m. absurd (omega arith) } in
-    none_left hash es points ring 0 0 start (record { place = 0; node = 0 }) [] (λ t l. absurd (omega arith))
-
--- ---- a step of the way round
-pub new_name : (name : List ℕ) (names : List (List ℕ)) → (Contains names name → ⊥) → AreOther name names
-new_name name [] absent = tt
-new_name name (a ∷ names) absent = (λ is. absent (0, omega arith, is), new_name name names (λ c. absent (suc c.0, omega (arith, c.1), c.2)))
-
-abbrev none : Point
-none = record { place = 0; node = 0 }
-
--- what the names are, after some steps
-pub record AreNamesRound (hash : List ℕ → ℕ) (nodes : List Node) (points : List Point) (at first : ℕ) (names : List (List ℕ))
-    (steps : ℕ) : Type 0 where
-  pub own : AreOwners hash (nodes_of (pairs nodes)) at names
-  pub passed : (t : ℕ) → t < steps → Contains names (name_round (pairs nodes) points first t none)
-
-module _ (hash : List ℕ → ℕ) (nodes : List Node) (points : List Point) (ring : IsRing hash (pairs nodes) points) (at first : ℕ)
-    (start : IsStart points at first) (names : List (List ℕ)) where
-  pub round_start : AreNamesRound hash nodes points at first [] 0
-  round_start = record { own = tt; passed = λ t l. absurd (omega arith) }
-
-  abbrev es : Pairs
-  es = pairs nodes
-
-  -- the names when the way round has come to its end
-  pub round_all : (n steps : ℕ) → AreNamesRound hash nodes points at first names steps → length points ≤ steps → length names ≤ n
-      → length names ≡ min n (fin.len (nodes_of es))
-  round_all n steps so_far end few =
-      let empty : left (nodes_of es) names ≡ fin.empty =
-      none_left hash es points ring at first start none names (λ t l. so_far.passed t (omega arith)) in
-      let no : fin.len (left (nodes_of es) names) ≡ 0 = ap fin.len empty ∙ fin.len-empty by_bytes ℕ in
-      omega (arith, count hash (nodes_of es) at names so_far.own)
-
-  -- the names when they are enough
-  pub round_full : (n : ℕ) → AreOwners hash (nodes_of es) at names → length names ≡ n → length names ≡ min n (fin.len (nodes_of es))
-  round_full n own full = omega (arith, count hash (nodes_of es) at names own)
-
-  module _ (steps k : ℕ) (p : Point) (node : Node) (below : steps < length points) (index : k ≡ index_round (length points) first steps)
-      (point : p ≡ get_or points k p) (is : node ≡ get_or nodes p.node node)
-      (so_far : AreNamesRound hash nodes points at first names steps) where
-    any_default : (t : ℕ) → t < length points → name_round es points first t none ≡ name_round es points first t p
-    any_default t l = ap (λ (q : Point). (node_at es q.node).0)
-        (get_or_default points (index_round (length points) first t) none p (index_below (length points) first t start.within l))
-
-    name_is : name_round es points first steps none ≡ node.name.items
-    name_is = any_default steps below ∙ name_read hash nodes points ring at first start steps k p node below index point is
-
-    -- a node that is among the names
-    pub round_old : Contains names node.name.items → AreNamesRound hash nodes points at first names (steps + 1)
-    round_old old = record {
-      own = so_far.own;
-      passed = λ t l. ⊎_elim
-          (λ (low : t < steps). so_far.passed t low)
-          (λ (high : steps ≤ t). let e : steps ≡ t = omega arith in subst
-          (λ (t : ℕ). Contains names (name_round es points first t none)) e (subst (Contains names) (sym name_is) old))
-          (cases_lt t steps);
-    }
-
-    -- a new one
-    pub round_new : (Contains names node.name.items → ⊥)
-        → AreNamesRound hash nodes points at first (names ++ node.name.items ∷ []) (steps + 1)
-    round_new new =
-        let name = node.name.items in
-        let owner = owner_read hash nodes points ring at first start steps k p node below index point is names
-        (λ t l. subst (Contains names) (any_default t (omega arith)) (so_far.passed t l)) (new_name name names new) in
-        record {
-          own = owners_push hash (nodes_of es) at names name so_far.own owner;
-          passed = λ t l. ⊎_elim
-              (λ (low : t < steps). Contains-append_left names (name ∷ []) _ (so_far.passed t low))
-              (λ (high : steps ≤ t). let e : steps ≡ t = omega arith in
-              subst (λ (t : ℕ). Contains (names ++ name ∷ []) (name_round es points first t none)) e
-              (subst (Contains (names ++ name ∷ [])) (sym name_is) (Contains-push names name)))
-              (cases_lt t steps);
-        }
-
--- ---- a round on which a test refuses
-among_or_other : (name : List ℕ) (names : List (List ℕ)) → Contains names name ⊎ AreOther name names
-among_or_other name [] = inr tt
-among_or_other name (a ∷ names) = ⊎_elim
-    (λ c. inl (suc c.0, omega (arith, c.1), c.2))
-    (λ o. elim (is_eq (by_bytes a name)) as (λ b. is_eq (by_bytes a name) ≡ b → Contains (a ∷ names) name ⊎ AreOther name (a ∷ names)) [
-      | true ↦ λ e. inl (0, omega arith, same_key a name e)
-      | false ↦ λ e. inr (
-        λ is. let equal : is_eq (by_bytes a name) ≡ true = ap (λ k. is_eq (by_bytes a k)) (sym is)
-            ∙ ap is_eq (itself a) in cc,
-        o,
-      )
-    ] refl)
-    (among_or_other name names)
-
-owners_take : (hash : List ℕ → ℕ) (nodes : Nodes) (at : ℕ) (names : List (List ℕ)) (n : ℕ) → AreOwners hash nodes at names
-    → AreOwners hash nodes at (take n names)
-owners_take hash nodes at [] zero o = tt
-owners_take hash nodes at [] (suc n) o = tt
-owners_take hash nodes at (a ∷ names) zero o = tt
-owners_take hash nodes at (a ∷ names) (suc n) o = (o.0, owners_take hash (fin.remove nodes a) at names n o.1)
-
--- the names so far, all of them refused
-pub record AreRefusedRound (hash : List ℕ → ℕ) (nodes : List Node) (points : List Point) (at first : ℕ) (refuses : List ℕ → Type 0)
-    (steps : ℕ) : Type 0 where
-  pub names : List (List ℕ)
-  pub round : AreNamesRound hash nodes points at first names steps
-  pub refused : All refuses names
-
-module _ (hash : List ℕ → ℕ) (nodes : List Node) (points : List Point) (ring : IsRing hash (pairs nodes) points) (at first : ℕ)
-    (start : IsStart points at first) (answers : List ℕ → Bool → Type 0) where
-  abbrev Refuses : List ℕ → Type 0
-  Refuses name = answers name false
-
-  pub refused_start : AreRefusedRound hash nodes points at first Refuses 0
-  refused_start = record { names = []; round = round_start hash nodes points ring at first start []; refused = All-nil Refuses }
-
-  pub refused_all : (steps : ℕ) → AreRefusedRound hash nodes points at first Refuses steps → length points ≤ steps
-      → (name : List ℕ) → fin.get (nodes_of (pairs nodes)) name ≢ None → Refuses name
-  refused_all steps so_far end name there = met (fin.get (nodes_of (pairs nodes)) name) refl
-    where
-      met : (o : Option ℕ) → fin.get (nodes_of (pairs nodes)) name ≡ o → Refuses name
-      met None e = absurd (there e)
-      met (Some w) e =
-          let f = found_where (pairs nodes) name w (sym (get_is (pairs nodes) ring.named name) ∙ e) in
-          let some : 1 ≤ w = subst (λ node. 1 ≤ node.1) f.is (ring.weighed f.i ([], 0) f.below) in
-          let r = reached hash (pairs nodes) points ring at first start none name (point hash name 0)
-          (record { weight = w; there = e; point = record { number = 0; below = some; is = refl } }) in
-          let c = subst (Contains so_far.names) r.node (so_far.round.passed r.s (omega (arith, r.below))) in
-          subst Refuses c.2 (so_far.refused c.0 name c.1)
-
-  module _ (steps k : ℕ) (p : Point) (node : Node) (below : steps < length points) (index : k ≡ index_round (length points) first steps)
-      (point : p ≡ get_or points k p) (is : node ≡ get_or nodes p.node node)
-      (so_far : AreRefusedRound hash nodes points at first Refuses steps) where
-    pub refused_more : Refuses node.name.items → AreRefusedRound hash nodes points at first Refuses (steps + 1)
-    refused_more refusal = ⊎_elim
-        (λ (old : Contains so_far.names node.name.items). record {
-          names = so_far.names;
-          round = round_old hash nodes points ring at first start so_far.names steps k p node below index point is so_far.round old;
-          refused = so_far.refused;
-        })
-        (λ (new : AreOther node.name.items so_far.names). record {
-          names = so_far.names ++ node.name.items ∷ [];
-          round = round_new hash nodes points ring at first start so_far.names steps k p node below index point is so_far.round
-              (not_among node.name.items so_far.names new);
-          refused = All-append Refuses so_far.names (node.name.items ∷ []) so_far.refused
-              (All-cons Refuses node.name.items [] refusal (All-nil Refuses));
-        })
-        (among_or_other node.name.items so_far.names)
-
-    pub first_to_pass : answers node.name.items true → IsFirstToPass hash (nodes_of (pairs nodes)) at answers node.name.items
-    first_to_pass pass = ⊎_elim
-        (λ (old : Contains so_far.names node.name.items).
-        let cut : take (old.0 + 1) so_far.names ≡ take old.0 so_far.names ++ node.name.items ∷ [] =
-        take_more so_far.names old.0 node.name.items old.1 ∙ ap (λ name. take old.0 so_far.names ++ name ∷ []) old.2 in
-        record {
-          before = take old.0 so_far.names;
-          owners = subst (AreOwners hash (nodes_of (pairs nodes)) at) cut
-              (owners_take hash (nodes_of (pairs nodes)) at so_far.names (old.0 + 1) so_far.round.own);
-          refused = All-take Refuses old.0 so_far.names so_far.refused;
-          passes = pass;
-        })
-        (λ (new : AreOther node.name.items so_far.names). record {
-          before = so_far.names;
-          owners = (round_new hash nodes points ring at first start so_far.names steps k p node below index point is so_far.round
-              (not_among node.name.items so_far.names new)).own;
-          refused = so_far.refused;
-          passes = pass;
-        })
-        (among_or_other node.name.items so_far.names)
+    none_left (round_of hash es points ring 0 0 start) [] (λ t l. absurd (omega arith))
 
 -- ---- a name among names
 abbrev is_name : List ℕ → Bor (List ℕ) → Bool

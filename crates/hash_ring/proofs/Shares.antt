@@ -8,10 +8,10 @@ use Rattle.std.proofs.lemmas.List.Sums.{sum_by-append, sum_by-cons, sum_by-set}
 use Rattle.hashers.proofs.TextMapLemmas.{not_same, same, same_itself}
 use Rattle.hash_ring.specs.declared.Point.{Point}
 use Rattle.hash_ring.specs.Ring.{AreShares, AreStretches, IsOwner, Nodes, Stretch, share_of}
-use Rattle.hash_ring.specs.Points.{IsBefore, IsRing, IsStart, index_round, node_at, nodes_of}
+use Rattle.hash_ring.specs.Points.{IsBefore, IsRing, index_round, node_at, nodes_of}
 use Rattle.hash_ring.proofs.Names.{Pairs, by_bytes, entries_are, rising_differ}
-use Rattle.hash_ring.proofs.Owners.{index_high, index_low, next_owner, upto}
-use Rattle.hash_ring.proofs.Points.{is_there}
+use Rattle.hash_ring.proofs.Owners.{first_owner, index_high, index_low, none, spot}
+use Rattle.hash_ring.proofs.Points.{is_there, places_rise}
 
 -- the stretches that end behind the points, and where they end
 abbrev pub arcs : Pairs → ℕ → List Point → List Stretch
@@ -45,8 +45,7 @@ end_low points ordered i d below = ⊎_elim
     (λ (later : i ≢ 0).
     let back : i - 1 + 1 ≡ i = omega arith in
     let e = ap (λ k. end_of 0 (take k points)) (sym back) ∙ last_end points (i - 1) d (omega arith) in
-    let b = upto points ordered (i - 1) i d (omega arith) below in
-    omega (arith, e, b.place))
+    omega (arith, e, places_rise points ordered (i - 1) i d (omega arith) below))
     (cases_eq i 0)
 
 behind : (points : List Point) → AllPairs IsBefore points → (k : ℕ) (d : Point) → k < length points
@@ -55,8 +54,7 @@ behind points ordered k d l =
     let i : ℕ = length points - 1 in
     let all : take (i + 1) points ≡ points = take_all (i + 1) points (omega arith) in
     let e = ap (end_of 0) (sym all) ∙ last_end points i d (omega arith) in
-    let b = upto points ordered k i d (omega arith) (omega arith) in
-    omega (arith, e, b.place)
+    omega (arith, e, places_rise points ordered k i d (omega arith) (omega arith))
 
 stretches_append : (hash : List ℕ → ℕ) (m : Nodes) (from mid to : ℕ) (xs ys : List Stretch) → AreStretches hash m from mid xs
     → AreStretches hash m mid to ys
@@ -66,31 +64,33 @@ stretches_append hash m from mid to (s ∷ xs) ys a b = (a.0, a.1, a.2, stretche
 
 -- ---- the stretches of a ring
 module _ (hash : List ℕ → ℕ) (es : Pairs) (points : List Point) (ring : IsRing hash es points) where
+  first_named : (first k : ℕ) (p : Point) → index_round (length points) first 0 ≡ k → k < length points → p ≡ get_or points k p
+      → (spot es points first 0).1 ≡ (node_at es p.node).0
+  first_named first k p is below read =
+      ap (λ (q : Point). (node_at es q.node).0) (ap (λ (k : ℕ). get_or points k none) is ∙ get_or_default points k none p below ∙ sym read)
+
   -- the node of the point at an index owns the places behind the points before it, up to it
   owned : (i at : ℕ) (p : Point) → i < length points → p ≡ get_or points i p
       → ((k : ℕ) (d : Point) → k < i → (get_or points k d).place < at) → at ≤ p.place → IsOwner hash (nodes_of es) at (node_at es p.node).0
   owned i at p below is before upto_it =
-      let start : IsStart points at i = record {
+      subst (IsOwner hash (nodes_of es) at) (first_named i i p (index_low (length points) i 0 (omega arith) ∙ omega arith) below is)
+      (first_owner hash es points ring at i
+      (record {
         within = omega arith;
         before = before;
         after = λ k d low l.
-            let rises = (upto points ring.ordered i k d low l).place in
             let here : (get_or points i d).place ≡ p.place = ap (λ (q : Point). q.place) (get_or_default points i d p below ∙ sym is) in
-            omega arith;
-      } in
-      let index : index_round (length points) i 0 ≡ i = index_low (length points) i 0 (omega arith) ∙ omega arith in
-      subst (λ (q : Point). IsOwner hash (nodes_of es) at (node_at es q.node).0) (ap (λ (k : ℕ). get_or points k p) index ∙ sym is)
-      (next_owner hash es points ring at i start p [] 0 (omega arith) (λ t l. absurd (omega arith)) tt)
+            omega (arith, here, places_rise points ring.ordered i k d low l);
+      })
+      (omega arith))
 
   -- the first point's node owns the places behind all points
   owned_behind : (at : ℕ) (p : Point) → 0 < length points → p ≡ get_or points 0 p
       → ((k : ℕ) (d : Point) → k < length points → (get_or points k d).place < at) → IsOwner hash (nodes_of es) at (node_at es p.node).0
   owned_behind at p some is before =
       let n = length points in
-      let start : IsStart points at n = record { within = omega arith; before = before; after = λ k d low l. absurd (omega arith) } in
-      let index : index_round n n 0 ≡ 0 = index_high n n 0 (omega arith) ∙ omega arith in
-      subst (λ (q : Point). IsOwner hash (nodes_of es) at (node_at es q.node).0) (ap (λ (k : ℕ). get_or points k p) index ∙ sym is)
-      (next_owner hash es points ring at n start p [] 0 some (λ t l. absurd (omega arith)) tt)
+      subst (IsOwner hash (nodes_of es) at) (first_named n 0 p (index_high n n 0 (omega arith) ∙ omega arith) some is)
+      (first_owner hash es points ring at n (record { within = omega arith; before = before; after = λ k d low l. absurd (omega arith) }) some)
 
   arcs_cover : (rest : List Point) (i from : ℕ) → i ≤ length points → drop i points ≡ rest
       → ((k : ℕ) (d : Point) → k < i → (get_or points k d).place < from)
@@ -110,10 +110,10 @@ module _ (hash : List ℕ → ℕ) (es : Pairs) (points : List Point) (ring : Is
         omega (arith, ahead i p (omega arith) below, place),
         λ at low high. owned i at p below here (λ k d l. let b = before k d l in omega arith) (omega arith),
         arcs_cover ps (i + 1) (p.place + 1) (omega arith) next
-            (λ k d l. let b = upto points ring.ordered k i d (omega arith) below in let q = ap (λ (q : Point). q.place)
-            (get_or_default points i d p below) in omega (arith, b.place, q, place))
-            (λ k d low l. let b = upto points ring.ordered i k d (omega arith) l in let q = ap (λ (q : Point). q.place)
-            (get_or_default points i d p below) in omega (arith, b.place, q, place)),
+            (λ k d l. let q = ap (λ (q : Point). q.place) (get_or_default points i d p below) in
+            omega (arith, places_rise points ring.ordered k i d (omega arith) below, q, place))
+            (λ k d low l. let q = ap (λ (q : Point). q.place) (get_or_default points i d p below) in
+            omega (arith, places_rise points ring.ordered i k d (omega arith) l, q, place)),
       )
 
 -- ---- the shares so far
