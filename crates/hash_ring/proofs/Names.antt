@@ -1,8 +1,7 @@
 -- Nodes in the order of their names.
-use Rattle.std.proofs.Common.{ℕ, zero, suc, ◌≡◌, ◌≢◌, ◌+◌, ◌-◌, ◌<◌, ◌≤◌, T, Bool, true, false, not, cond, ◌&&◌, List, [], ◌∷◌, length, get_or, Option, Some, None, Result, Ok, Err, arith, sym, ap, ◌∙◌, subst, refl, ⊎_elim}
-use Rattle.std.specs.List.{AllPairs, insert, remove}
-use Rattle.std.specs.Prelude.{map}
-use Rattle.std.specs.Str.{bytes_eq}
+use Rattle.std.proofs.Common.{ℕ, zero, suc, ◌≡◌, ◌≢◌, ◌+◌, ◌-◌, ◌<◌, ◌≤◌, T, Bool, true, false, not, cond, ◌&&◌, List, [], ◌∷◌, length, get_or, Some, None, Result, Ok, Err, arith, sym, ap, ◌∙◌, subst, refl, ⊎_elim}
+use Rattle.std.specs.List.{IsDistinct, insert, remove}
+use Rattle.std.specs.Prelude.{map, reverse}
 use Rattle.std.specs.List.Sorted.{IsPermutation, IsSorted, IsBinarySearchResult, IsSearchInRange, IsSortedBy}
 use Rattle.std.specs.Result.{MatchResult}
 use Rattle.std.specs.Ordering.{nat_cmp, is_lt, is_eq, is_ge, is_gt, eq_by_cmp, ordering_reverse, ordering_then}
@@ -14,12 +13,11 @@ use Rattle.std.specs.FinMap.{find, put, is_sorted, slice_cmp-IsAntisymmetric, na
 use Rattle.std.specs.FinMap.Entries.{below_all, where_key, by_order, is_sorted-put, is_sorted-where_key, find-where_key}
 use Rattle.std.proofs.lemmas.Bool.{cases_lt}
 use Rattle.std.proofs.lemmas.Cmp.{tied_itself, eq_by_cmp_equiv}
-use Rattle.std.proofs.lemmas.List.{length-map, get_or-map, get_or_default}
-use Rattle.std.proofs.lemmas.List.Sorted.{IsPermutation-map, searchable_from_sorted}
-use Rattle.std.proofs.lemmas.Map.Keys.{IsDistinct-IsPermutation}
-use Rattle.std.proofs.lemmas.Map.Made.{AllPairs-from_IsDistinct, IsDistinct-from_AllPairs}
-use Rattle.std.proofs.lemmas.Slice.Eq.{bytes_eq-Decides}
-use Rattle.hashers.proofs.TextMapLemmas.{alike, get_insert, removal_of_nothing, same_key}
+use Rattle.std.proofs.lemmas.List.{length-map, get_or-map, get_or_default, reverse-append}
+use Rattle.std.proofs.lemmas.List.Sorted.{IsPermutation-map, IsPermutation-reverse, searchable_from_sorted}
+use Rattle.std.proofs.lemmas.List.Sums.{fold-append}
+use Rattle.std.proofs.lemmas.Map.Keys.{IsDistinct-IsPermutation, IsDistinct-from_apart, apart_from_distinct}
+use Rattle.hashers.proofs.TextMapLemmas.{alike, not_same, order_does_not_show, removal_of_nothing, same, same_itself, same_key}
 use Rattle.hashers.specs.TextMaps.{KeysDiffer, with_all}
 use Rattle.hash_ring.specs.declared.Node.{Node}
 use Rattle.hash_ring.specs.Ring.{Nodes}
@@ -119,27 +117,26 @@ rising_differ es h i j d low m same =
     let equal : by_bytes (node_at es i).0 (node_at es j).0 ≡ Equal = ap (by_bytes (node_at es i).0) (sym tied) ∙ itself (node_at es i).0 in
     cc
 
-bytes_flip : (a b : List ℕ) → bytes_eq a b ≡ bytes_eq b a
-bytes_flip a b = at (bytes_eq a b) (bytes_eq b a) refl refl
-  where
-    at : (s t : Bool) → bytes_eq a b ≡ s → bytes_eq b a ≡ t → bytes_eq a b ≡ bytes_eq b a
-    at true t is back = is ∙ sym ((bytes_eq-Decides b a).1 (sym ((bytes_eq-Decides a b).0 is)))
-    at false true is back = (bytes_eq-Decides a b).1 (sym ((bytes_eq-Decides b a).0 back)) ∙ sym back
-    at false false is back = is ∙ sym back
-
 -- names that differ do so in any order
+by_names : (es : Pairs) → IsDistinct same (map (λ e. e.0) es) → KeysDiffer es
+by_names es apart = λ i j d less within is.
+    let long = length-map es (λ e. e.0) in
+    let name = λ (k : ℕ) (l : k < length es). get_or-map (λ (e : List ℕ × ℕ). e.0) es k d d.0 l in
+    let not_same : same (get_or es i d).0 (get_or es j d).0 ≡ false =
+    (λ k. same (sym (name i (omega (arith, less, within))) k) (sym (name j within) k))
+    ∙ apart_from_distinct same (map (λ e. e.0) es) i j d.0 apart less (omega (arith, within, long)) in
+    let yes : same (get_or es i d).0 (get_or es j d).0 ≡ true = ap (same (get_or es i d).0) (sym is) ∙ same_itself (get_or es i d).0 in
+    cc
+
 pub KeysDiffer-permutation : (xs ys : Pairs) → IsPermutation xs ys → KeysDiffer xs → KeysDiffer ys
 KeysDiffer-permutation xs ys moved differ =
-    let name : List ℕ × ℕ → List ℕ = λ pair. pair.0 in
-    let names : AllPairs (λ a b. a ≢ b) (map name xs) = λ i j d before within same.
-    let j_in : j < length xs = omega (arith, within, length-map xs name) in
-    differ i j (d, 0) before j_in (sym (get_or-map name xs i (d, 0) d (omega (arith, before, j_in))) ∙ same
-    ∙ get_or-map name xs j (d, 0) d j_in) in
-    let moved_names = AllPairs-from_IsDistinct bytes_eq-Decides (map name ys) (IsDistinct-IsPermutation bytes_eq bytes_flip
-    (map name xs) (map name ys) (IsPermutation-map name xs ys moved) (IsDistinct-from_AllPairs bytes_eq-Decides (map name xs) names)) in
-    λ i j d before within same.
-    moved_names i j d.0 before (omega (arith, within, length-map ys name))
-    (get_or-map name ys i d d.0 (omega (arith, before, within)) ∙ same ∙ sym (get_or-map name ys j d d.0 within))
+    by_names ys (IsDistinct-IsPermutation same (eq_by_cmp_equiv nat_list_cmp_total).symm (map (λ e. e.0) xs) (map (λ e. e.0) ys)
+    (IsPermutation-map (λ e. e.0) xs ys moved)
+    (IsDistinct-from_apart same (map (λ e. e.0) xs) (λ i j d less within.
+    let long = length-map xs (λ e. e.0) in
+    not_same _ _ (λ is. differ i j (d, 0) less (omega (arith, within, long))
+    (sym (get_or-map (λ e. e.0) xs i (d, 0) d (omega (arith, less, within, long))) ∙ is
+    ∙ get_or-map (λ e. e.0) xs j (d, 0) d (omega (arith, within, long)))))))
 
 -- nodes in order rise where their names differ
 abbrev by_name : Node → Node → Ordering
@@ -347,40 +344,17 @@ no_nodes =
     fin.same_map nat_list_cmp_total (slice_cmp-IsAntisymmetric nat_cmp-IsAntisymmetric) _ _
     (λ q. fin.get-from_sorted by_bytes [] q tt ∙ sym (fin.get-empty by_bytes q))
 
--- all nodes put in one after the other
-abbrev found_or : Option ℕ → Option ℕ → Option ℕ
-found_or None before = before
-found_or (Some w) before = Some w
-
-none_above : (q x : List ℕ) (es : Pairs) → q ≡ x → T (below_all by_bytes x es) → find by_bytes q es ≡ None
-none_above q x [] is h = refl
-none_above q x (e ∷ es) is h =
-    let parts = both_parts _ _ h in
-    let less : by_bytes q e.0 ≡ Less = ap (λ k. by_bytes k e.0) is ∙ less_is _ parts.0 in
-    ap (λ r. cond (is_eq r) (Some e.1) (find by_bytes q es)) less ∙ none_above q x es is parts.1
-
-get_with_all : (m : Nodes) (es : Pairs) (q : List ℕ) → T (is_sorted by_bytes es)
-    → fin.get (with_all m es) q ≡ found_or (find by_bytes q es) (fin.get m q)
-get_with_all m [] q h = refl
-get_with_all m (e ∷ es) q h =
-    let parts = both_parts _ _ h in
-    get_with_all (fin.insert m e.0 e.1) es q parts.1 ∙ ap (found_or (find by_bytes q es)) (get_insert m e.0 q e.1)
-    ∙ elim (is_eq (by_bytes q e.0)) as
-    (λ b. is_eq (by_bytes q e.0) ≡ b
-    → found_or (find by_bytes q es) (cond b (Some e.1) (fin.get m q)) ≡ found_or (cond b (Some e.1) (find by_bytes q es))
-    (fin.get m q)) [
-      | true ↦ λ t. ap (λ o. found_or o (Some e.1)) (none_above q e.0 es (same_key q e.0 t) parts.0)
-      | false ↦ λ t. refl
-    ] refl
-
-found_or_none : (o : Option ℕ) → found_or o None ≡ o
-found_or_none None = refl
-found_or_none (Some w) = refl
+-- all nodes put in one after the other, in whatever order
+from_last : (es : Pairs) → with_all fin.empty (reverse es) ≡ fin.from_entries es
+from_last [] = refl
+from_last (e ∷ es) =
+    ap (with_all fin.empty) (reverse-append (e ∷ []) es)
+    ∙ fold-append (λ m pair. fin.insert m pair.0 pair.1) fin.empty (reverse es) (e ∷ []) ∙ ap (λ m. fin.insert m e.0 e.1) (from_last es)
 
 pub all_put_in : (es : Pairs) → T (is_sorted by_bytes es) → with_all fin.empty es ≡ nodes_of es
-all_put_in es h = alike _ _
-    (λ q. get_with_all fin.empty es q h ∙ ap (found_or (find by_bytes q es)) (fin.get-empty by_bytes q)
-    ∙ found_or_none (find by_bytes q es) ∙ sym (get_is es h q))
+all_put_in es h =
+    order_does_not_show fin.empty es (reverse es) (rising_differ es h) (IsPermutation-reverse es) ∙ from_last es
+    ∙ alike _ _ (λ q. fin.get-from_entries nat_list_cmp_total es q ∙ sym (get_is es h q))
 
 -- ---- what a search by name says of the map
 module _ (nodes now : List Node) (name text : List ℕ) (m : Nodes) (h : T (is_sorted by_bytes (pairs nodes)))
