@@ -308,6 +308,9 @@ module _ (es : Pairs) (h : T (is_sorted by_bytes es)) where
   pub entries_are : fin.entries (nodes_of es) ≡ es
   entries_are = fin.entries-from_sorted by_bytes es h
 
+  pub entries_of : (m : Nodes) → nodes_of es ≡ m → es ≡ fin.entries m
+  entries_of m view = sym entries_are ∙ ap fin.entries view
+
   pub get_is : (q : List ℕ) → fin.get (nodes_of es) q ≡ find by_bytes q es
   get_is q = fin.get-from_sorted by_bytes es q h
 
@@ -320,9 +323,6 @@ module _ (es : Pairs) (h : T (is_sorted by_bytes es)) where
       fin.same_entries_map _ _
       (fin.entries-from_sorted by_bytes _ (inserted_sorted name w i gap)
       ∙ sym (fin.entries-insert nat_list_cmp_total (nodes_of es) name w ∙ ap (put by_bytes name w) entries_are ∙ put_at es name w i gap))
-
-  pub new_name : (name : List ℕ) (i : ℕ) → IsGapAt es name i → fin.get (nodes_of es) name ≡ None
-  new_name name i gap = get_is name ∙ not_found es name i gap
 
   pub removed_sorted : (i : ℕ) → i < length es → T (is_sorted by_bytes (remove es i))
   removed_sorted i l =
@@ -356,25 +356,24 @@ all_put_in es h =
     order_does_not_show fin.empty es (reverse es) (rising_differ es h) (IsPermutation-reverse es) ∙ from_last es
     ∙ alike _ _ (λ q. fin.get-from_entries nat_list_cmp_total es q ∙ sym (get_is es h q))
 
+-- ---- the nodes of a map in a list
+module _ (nodes : List Node) (m : Nodes) (h : T (is_sorted by_bytes (pairs nodes))) (view : nodes_of (pairs nodes) ≡ m) where
+  pub len_of : length nodes ≡ length (fin.entries m)
+  len_of = sym (length-map nodes pair_of) ∙ ap length (entries_of (pairs nodes) h m view)
+
+  pub gap_read : (text name : List ℕ) → text ≡ name → (i : ℕ) → IsGapAt (fin.entries m) text i → IsGapAt (pairs nodes) name i
+  gap_read text name is i gap =
+      subst (λ t. IsGapAt (pairs nodes) t i) is (subst (λ es. IsGapAt es text i) (sym (entries_of (pairs nodes) h m view)) gap)
+
 -- ---- what a search by name says of the map
-module _ (nodes now : List Node) (name text : List ℕ) (m : Nodes) (h : T (is_sorted by_bytes (pairs nodes)))
-    (view : nodes_of (pairs nodes) ≡ m) (read_nodes : now ≡ nodes) (read_name : text ≡ name) where
-  pub gap_read : (i : ℕ) → IsGapAt (pairs now) text i → IsGapAt (pairs nodes) name i
-  gap_read i gap = subst (λ t. IsGapAt (pairs nodes) t i) read_name (subst (λ ns. IsGapAt (pairs ns) text i) read_nodes gap)
+module _ (m : Nodes) (name : List ℕ) where
+  pub absent : (i : ℕ) → IsGapAt (fin.entries m) name i → fin.get m name ≡ None
+  absent i gap = fin.get-entries m name ∙ not_found (fin.entries m) name i gap
 
-  pub place_read : (i : ℕ) → IsNamedAt (pairs now) text i → IsNamedAt (pairs nodes) name i
-  place_read i place = subst (λ t. IsNamedAt (pairs nodes) t i) read_name (subst (λ ns. IsNamedAt (pairs ns) text i) read_nodes place)
+  pub found : (i : ℕ) → IsNamedAt (fin.entries m) name i → fin.get m name ≡ Some (node_at (fin.entries m) i).1
+  found i place =
+      fin.get-entries m name ∙ ap (λ q. find by_bytes q (fin.entries m)) (sym place.is)
+      ∙ found_at (fin.entries m) (fin.entries_sorted m) i place.below
 
-  pub absent_read : (i : ℕ) → IsGapAt (pairs now) text i → fin.get m name ≡ None
-  absent_read i gap = ap (λ n. fin.get n name) (sym view) ∙ new_name (pairs nodes) h name i (gap_read i gap)
-
-  pub found_read : (i : ℕ) → IsNamedAt (pairs now) text i → fin.get m name ≡ Some (node_at (pairs nodes) i).1
-  found_read i place =
-      let p = place_read i place in
-      ap (λ n. fin.get n name) (sym view) ∙ get_is (pairs nodes) h name ∙ ap (λ q. find by_bytes q (pairs nodes)) (sym p.is)
-      ∙ found_at (pairs nodes) h i p.below
-
-  pub none_unchanged : (i : ℕ) → IsGapAt (pairs now) text i → m ≡ fin.remove m name
-  none_unchanged i gap =
-      sym (ap (λ n. fin.remove n name) (sym view)
-      ∙ removal_of_nothing (nodes_of (pairs nodes)) name (new_name (pairs nodes) h name i (gap_read i gap)) ∙ view)
+  pub none_unchanged : (i : ℕ) → IsGapAt (fin.entries m) name i → m ≡ fin.remove m name
+  none_unchanged i gap = sym (removal_of_nothing m name (absent i gap))

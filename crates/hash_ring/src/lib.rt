@@ -140,15 +140,6 @@ fn names_rise(nodes: &[Node]) -> bool
     true
 }
 
-/// Where the node of this name stands, or where it would.
-fn place_of(nodes: &[Node], name: &[u8]) -> Result<usize, usize>
-    requires { T (is_sorted (slice_cmp nat_cmp) (pairs nodes.now)) }
-    ensures { MatchResult result (IsNamedAt (pairs nodes.now) name.now)
-        (IsGapAt (pairs nodes.now) name.now) }
-{
-    nodes.binary_search_by(|node| node.name.as_slice().cmp(name))
-}
-
 /// The number where `is`, and 0 elsewhere. It is a shift, as the compiler makes a jump of an `if`, whose way no processor guesses.
 fn if_so(is: bool, n: usize) -> usize
     requires { n < 2 ^ 63 }
@@ -464,6 +455,15 @@ impl<H: Piecewise> Ring<H> {
         }
     }
 
+    /// Where the node of this name stands, or where it would.
+    fn place_of(&self, name: &[u8]) -> Result<usize, usize>
+        ensures { MatchResult result (IsNamedAt (map.entries self.now) name.now)
+            (IsGapAt (map.entries self.now) name.now) }
+    {
+        self.nodes
+            .binary_search_by(|node| node.name.as_slice().cmp(name))
+    }
+
     /// Puts a node of `weight` points on the ring. Where a node of this name is there, or where there is no memory, the ring stays as it
     /// was, and the name comes back.
     ///
@@ -476,7 +476,7 @@ impl<H: Piecewise> Ring<H> {
         ensures unchanged { OnErr result (self.new ≡ self.old) }
         ensures err { IfErr result (HandsBack self.old name) }
     {
-        let at = match place_of(&self.nodes, &name) {
+        let at = match self.place_of(&name) {
             Ok(_) => return Err(Refused::IsThere(name)),
             Err(at) => at,
         };
@@ -495,7 +495,7 @@ impl<H: Piecewise> Ring<H> {
         ensures value { result ≡ map.get self.old name.now }
         ensures removed { self.new ≡ map.remove self.old name.now }
     {
-        let Ok(gone) = place_of(&self.nodes, name) else {
+        let Ok(gone) = self.place_of(name) else {
             return None;
         };
         take_points(&mut self.points, gone);

@@ -1,4 +1,4 @@
-use Rattle.std.proofs.Common.{ℕ, ◌≡◌, ◌∙◌, ◌≤◌, ◌++◌, List, map, ap, sym, subst, refl, length, get_or, arith}
+use Rattle.std.proofs.Common.{◌≡◌, ◌∙◌, ◌≤◌, ◌++◌, map, ap, sym, subst, refl, length, get_or, arith}
 use Rattle.std.specs.List.{insert}
 use Rattle.std.specs.FinMap as fin
 use Rattle.std.proofs.lemmas.List.{length-map}
@@ -7,7 +7,7 @@ use Rattle.hash_ring.specs.declared.Node.{Node}
 use Rattle.std.specs.List.Sorted.{IsPermutation}
 use Rattle.hash_ring.specs.Points.{IsRing, nodes_of, opened_up, pair_of, pairs, points_of}
 use Rattle.hash_ring.proofs.Points.{ArePoints-permutation, is_there}
-use Rattle.hash_ring.proofs.Names.{absent_read, found_read, gap_read, inserted}
+use Rattle.hash_ring.proofs.Names.{absent, found, gap_read, inserted, len_of}
 use Rattle.hash_ring.proofs.Edits.{ArePoints-insert, pairs_insert, ring_with}
 use Rattle.hash_ring.proofs.Ring.add.Goals as goal
 
@@ -15,22 +15,30 @@ pub returns-in-Ok-clause-err : goal.returns-in-Ok-clause-err
 returns-in-Ok-clause-err g c = (
   refl,
   λ none.
-      let found =
-      found_read c.self.inside.nodes.items _ c.args.name.items _ c.args.self.now c.self.invariant.named c.self.view_is
-      c.deref.ensures.value c.deref-2.ensures.value c.in-Ok.field-0 c.in-Ok.ensures in
+      let there = ap (fin.get c.args.self.now) (sym c.deref.ensures.value) ∙ found _ _ c.in-Ok.field-0 c.in-Ok.ensures in
       cc,
 )
+
+pub insert-requires : goal.insert-requires
+insert-requires g c =
+    let nodes = c.self.inside.nodes in
+    omega (arith, c.in-Err.ensures.within, len_of nodes.items _ c.self.invariant.named c.self.view_is, nodes.ok.0)
+
+pub index-requires : goal.index-requires
+index-requires g c =
+    let nodes = c.self.inside.nodes in
+    omega (arith, c.in-Err.ensures.within, len_of nodes.items _ c.self.invariant.named c.self.view_is, nodes.ok.0, c.in_default.ensures.len)
+
+pub remove-requires : goal.remove-requires
+remove-requires g c =
+    let nodes = c.self.inside.nodes in
+    omega (arith, c.in-Err.ensures.within, len_of nodes.items _ c.self.invariant.named c.self.view_is, nodes.ok.0, c.in_default.ensures.len)
 
 pub returns-in-Err-insert-clause-err : goal.returns-in-Err-insert-clause-err
 returns-in-Err-insert-clause-err g c = (
   ap (λ (node : Node). node.name) c.in-Err-insert.ensures.value_returned,
-  absent_read c.self.inside.nodes.items _ c.args.name.items _ c.args.self.now c.self.invariant.named c.self.view_is c.deref.ensures.value
-      c.deref-2.ensures.value c.in-Err.at c.in-Err.ensures,
+  ap (fin.get c.args.self.now) (sym c.deref.ensures.value) ∙ absent _ _ c.in-Err.at c.in-Err.ensures,
 )
-
--- the node where it was put in
-put_in : (nodes : List Node) (at : ℕ) (node read : Node) → at ≤ length nodes → read ≡ get_or (insert nodes at node) at read → read ≡ node
-put_in nodes at node read within is = is ∙ get_or-insert_at nodes at node read within
 
 pub merge_points-requires-clause-in_range : goal.merge_points-requires-clause-in_range
 merge_points-requires-clause-in_range g c = λ k d below.
@@ -46,14 +54,12 @@ invariant_of-self-in-Ok-merge_points g c =
     let name = c.args.name.items in
     let at = c.in-Err.at in
     let node : Node = record { name = c.args.name; weight = c.args.weight } in
-    let gap = gap_read nodes _ name _ c.args.self.now c.self.invariant.named c.self.view_is c.deref.ensures.value c.deref-2.ensures.value
-    at c.in-Err.ensures in
-    let within : at ≤ length nodes = omega (arith, gap.within, length-map nodes pair_of) in
+    let gap = gap_read nodes _ c.self.invariant.named c.self.view_is _ name c.deref.ensures.value at c.in-Err.ensures in
     let all : pairs c.insert.new.self.items ≡ insert (pairs nodes) at (name, c.args.weight) =
     ap pairs c.in_default.ensures.items ∙ pairs_insert nodes at node in
     let its : c.index.result.now ≡ node =
-    put_in nodes at node c.index.result.now within
-    (c.index.ensures ∙ ap (λ ns. get_or ns at c.index.result.now) c.in_default.ensures.items) in
+    c.index.ensures ∙ ap (λ ns. get_or ns at c.index.result.now) c.in_default.ensures.items
+    ∙ get_or-insert_at nodes at node c.index.result.now (omega (arith, gap.within, length-map nodes pair_of)) in
     let old = c.self.inside.points.items in
     let points = c.merge_points.new.points.items in
     let merged = subst (λ (n : Node). IsPermutation
@@ -68,30 +74,22 @@ pub returns-in-Ok-merge_points-clause-added : goal.returns-in-Ok-merge_points-cl
 returns-in-Ok-merge_points-clause-added g c =
     let nodes = c.self.inside.nodes.items in
     let name = c.args.name.items in
-    let w = c.args.weight in
     let at = c.in-Err.at in
-    let gap = gap_read nodes _ name _ c.args.self.now c.self.invariant.named c.self.view_is c.deref.ensures.value c.deref-2.ensures.value
-    at c.in-Err.ensures in
-    let all : pairs c.insert.new.self.items ≡ insert (pairs nodes) at (name, w) =
-    ap pairs c.in_default.ensures.items ∙ pairs_insert nodes at (record { name = c.args.name; weight = w }) in
-    ap nodes_of all ∙ inserted (pairs nodes) c.self.invariant.named name w at gap ∙ ap (λ m. fin.insert m name w) c.self.view_is
+    let gap = gap_read nodes _ c.self.invariant.named c.self.view_is _ name c.deref.ensures.value at c.in-Err.ensures in
+    ap nodes_of (ap pairs c.in_default.ensures.items ∙ pairs_insert nodes at (record { name = c.args.name; weight = c.args.weight }))
+    ∙ inserted (pairs nodes) c.self.invariant.named name c.args.weight at gap ∙ ap (λ m. fin.insert m name c.args.weight) c.self.view_is
 
 pub returns-in-Ok-merge_points-clause-new : goal.returns-in-Ok-merge_points-clause-new
 returns-in-Ok-merge_points-clause-new g c =
-    absent_read c.self.inside.nodes.items _ c.args.name.items _ c.args.self.now c.self.invariant.named c.self.view_is
-    c.deref.ensures.value c.deref-2.ensures.value c.in-Err.at c.in-Err.ensures
+    ap (fin.get c.args.self.now) (sym c.deref.ensures.value) ∙ absent _ _ c.in-Err.at c.in-Err.ensures
 
 pub returns-in-Err-merge_points-clause-err : goal.returns-in-Err-merge_points-clause-err
 returns-in-Err-merge_points-clause-err g c =
     let nodes = c.self.inside.nodes.items in
-    let node : Node = record { name = c.args.name; weight = c.args.weight } in
     let at = c.in-Err.at in
-    let gap = gap_read nodes _ c.args.name.items _ c.args.self.now c.self.invariant.named c.self.view_is c.deref.ensures.value
-    c.deref-2.ensures.value at c.in-Err.ensures in
-    let within : at ≤ length nodes = omega (arith, gap.within, length-map nodes pair_of) in (
+    let within : at ≤ length nodes = omega (arith, c.in-Err.ensures.within, len_of nodes _ c.self.invariant.named c.self.view_is) in (
       ap (λ (node : Node). node.name)
           (c.remove.ensures.value ∙ ap (λ ns. get_or ns at c.remove.result) c.in_default.ensures.items
-          ∙ get_or-insert_at nodes at node c.remove.result within),
-      absent_read nodes _ c.args.name.items _ c.args.self.now c.self.invariant.named c.self.view_is c.deref.ensures.value
-          c.deref-2.ensures.value at c.in-Err.ensures,
+          ∙ get_or-insert_at nodes at (record { name = c.args.name; weight = c.args.weight }) c.remove.result within),
+      ap (fin.get c.args.self.now) (sym c.deref.ensures.value) ∙ absent _ _ at c.in-Err.ensures,
     )

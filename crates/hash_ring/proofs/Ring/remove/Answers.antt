@@ -1,51 +1,47 @@
-use Rattle.std.proofs.Common.{◌≡◌, ◌∙◌, ap, sym, subst, refl, Some, length, arith, ◌<◌, []}
+use Rattle.std.proofs.Common.{◌≡◌, ◌∙◌, ap, sym, subst, Some, length, arith, ◌<◌, []}
 use Rattle.std.specs.List.{remove}
 use Rattle.std.specs.FinMap as fin
 use Rattle.std.proofs.lemmas.List.{get_or-map, length-map}
 use Rattle.hash_ring.specs.Points.{IsRing, node_at, nodes_of, pair_of, pairs}
-use Rattle.hash_ring.proofs.Names.{absent_read, found_read, none_unchanged, place_read, removed}
+use Rattle.hash_ring.proofs.Names.{absent, entries_of, found, len_of, none_unchanged, removed}
 use Rattle.hash_ring.proofs.Edits.{pairs_remove, ring_without}
 use Rattle.hash_ring.proofs.Ring.remove.Goals as goal
 
 pub returns-in_default-clause-value : goal.returns-in_default-clause-value
-returns-in_default-clause-value g c =
-    sym (absent_read c.self.inside.nodes.items _ c.args.name.now _ c.args.self.now c.self.invariant.named c.self.view_is
-    c.deref.ensures.value refl c.in_default.field-0 c.in_default.ensures)
+returns-in_default-clause-value g c = sym (absent _ _ c.in_default.field-0 c.in_default.ensures)
 
 pub returns-in_default-clause-removed : goal.returns-in_default-clause-removed
-returns-in_default-clause-removed g c =
-    none_unchanged c.self.inside.nodes.items _ c.args.name.now _ c.args.self.now c.self.invariant.named c.self.view_is
-    c.deref.ensures.value refl c.in_default.field-0 c.in_default.ensures
+returns-in_default-clause-removed g c = none_unchanged _ _ c.in_default.field-0 c.in_default.ensures
+
+pub remove-requires : goal.remove-requires
+remove-requires g c =
+    let nodes = c.self.inside.nodes in
+    omega (arith, c.in-Ok.ensures.below, len_of nodes.items _ c.self.invariant.named c.self.view_is, nodes.ok.0)
 
 pub invariant_of-self : goal.invariant_of-self
 invariant_of-self g c =
     let hash = g.H.Piecewise.hash_of in
     let nodes = c.self.inside.nodes.items in
-    let points = c.self.inside.points.items in
     let gone = c.in-Ok.gone in
-    let place =
-    place_read nodes _ c.args.name.now _ c.args.self.now c.self.invariant.named c.self.view_is c.deref.ensures.value refl gone
-    c.in-Ok.ensures in
+    let below : gone < length (pairs nodes) =
+    omega (arith, c.in-Ok.ensures.below, ap length (entries_of _ c.self.invariant.named _ c.self.view_is)) in
     subst (λ es. IsRing hash es c.take_points.new.points.items) (sym (ap pairs c.remove.ensures.items ∙ pairs_remove nodes gone))
     (subst (IsRing hash (remove (pairs nodes) gone)) (sym c.take_points.ensures)
-    (ring_without hash (pairs nodes) gone place.below points c.self.invariant))
+    (ring_without hash (pairs nodes) gone below c.self.inside.points.items c.self.invariant))
 
 pub returns : goal.returns
 returns g c =
     let nodes = c.self.inside.nodes.items in
     let gone = c.in-Ok.gone in
-    let place =
-    place_read nodes _ c.args.name.now _ c.args.self.now c.self.invariant.named c.self.view_is c.deref.ensures.value refl gone
-    c.in-Ok.ensures in
-    let node = c.remove.result in
-    let below : gone < length nodes = omega (arith, place.below, length-map nodes pair_of) in
-    let read : node_at (pairs nodes) gone ≡ pair_of node =
-    get_or-map pair_of nodes gone node ([], 0) below ∙ ap pair_of (sym c.remove.ensures.value) in
+    let es_are = entries_of _ c.self.invariant.named _ c.self.view_is in
+    let below : gone < length (pairs nodes) = omega (arith, c.in-Ok.ensures.below, ap length es_are) in
+    let at : node_at (fin.entries c.args.self.now) gone ≡ node_at (pairs nodes) gone = ap (λ es. node_at es gone) (sym es_are) in
+    let read : node_at (pairs nodes) gone ≡ pair_of c.remove.result =
+    get_or-map pair_of nodes gone c.remove.result ([], 0) (omega (arith, below, length-map nodes pair_of))
+    ∙ ap pair_of (sym c.remove.ensures.value) in
     record {
-      value = sym (found_read nodes _ c.args.name.now _ c.args.self.now c.self.invariant.named c.self.view_is c.deref.ensures.value refl
-          gone
-          c.in-Ok.ensures
-          ∙ ap (λ node. Some node.1) read);
+      value = sym (found _ _ gone c.in-Ok.ensures ∙ ap (λ node. Some node.1) (at ∙ read));
       removed = ap nodes_of (ap pairs c.remove.ensures.items ∙ pairs_remove nodes gone)
-          ∙ removed (pairs nodes) c.self.invariant.named gone place.below ∙ (λ i. fin.remove (c.self.view_is i) (place.is i));
+          ∙ removed (pairs nodes) c.self.invariant.named gone below
+          ∙ (λ i. fin.remove (c.self.view_is i) ((ap (λ node. node.0) (sym at) ∙ c.in-Ok.ensures.is) i));
     }

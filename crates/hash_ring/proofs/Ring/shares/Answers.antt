@@ -1,11 +1,10 @@
 use Rattle.std.proofs.Common.{ℕ, ◌≡◌, ◌≢◌, ◌≤◌, ◌<◌, ◌∙◌, ap, sym, subst, length, arith, ⊎_elim, List}
 use Rattle.std.specs.FinMap as fin
 use Rattle.std.proofs.lemmas.Bool.{cases_lt}
-use Rattle.std.proofs.lemmas.List.{length-map}
 use Rattle.hash_ring.specs.declared.Point.{Point}
 use Rattle.hash_ring.specs.Ring.{AreShares, Nodes}
-use Rattle.hash_ring.specs.Points.{IsRing, nodes_of, pair_of, pairs}
-use Rattle.hash_ring.proofs.Names.{Pairs, entries_are}
+use Rattle.hash_ring.specs.Points.{IsRing, nodes_of, pairs}
+use Rattle.hash_ring.proofs.Names.{Pairs, len_of}
 use Rattle.hash_ring.proofs.Owners.{no_points}
 use Rattle.hash_ring.proofs.Ring.shares.Goals as goal
 
@@ -31,7 +30,4 @@ returns-clause-all g c = λ some.
 
 pub returns-clause-count : goal.returns-clause-count
 returns-clause-count g c =
-    let nodes = c.self.inside.nodes in
-    c.in_ok-shares.ensures.count ∙ ap length c.deref.ensures.value ∙ sym (length-map nodes.items pair_of)
-    ∙ sym (ap length (entries_are _ c.self.invariant.named))
-    ∙ sym (fin.len-entries _) ∙ ap fin.len c.self.view_is
+    c.in_ok-shares.ensures.count ∙ ap length c.deref.ensures.value ∙ len_of _ _ c.self.invariant.named c.self.view_is ∙ sym (fin.len-entries _)
