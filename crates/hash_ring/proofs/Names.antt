@@ -1,10 +1,10 @@
 -- Nodes in the order of their names.
-use Rattle.std.proofs.Common.{ℕ, zero, suc, ◌≡◌, ◌≢◌, ◌+◌, ◌-◌, ◌<◌, ◌≤◌, T, Bool, true, false, not, cond, ◌&&◌, List, [], ◌∷◌, length, get_or, Some, None, Result, Ok, Err, arith, sym, ap, ◌∙◌, subst, refl, ⊎_elim}
-use Rattle.std.specs.List.{IsDistinct, insert, remove}
-use Rattle.std.specs.Prelude.{map, reverse}
+use Rattle.std.proofs.Common.{ℕ, zero, suc, ◌≡◌, ◌≢◌, ◌+◌, ◌<◌, ◌≤◌, T, Bool, true, false, not, cond, ◌&&◌, List, [], ◌∷◌, length, get_or, Some, None, Result, Ok, Err, arith, sym, ap, ◌∙◌, subst, refl, ⊎_elim}
+use Rattle.std.specs.List.{IsAllAdjacentAnswer, IsDistinct, insert, remove}
+use Rattle.std.specs.Prelude.{◌↔◌, IsTrue, map, reverse}
 use Rattle.std.specs.List.Sorted.{IsPermutation, IsSorted, IsBinarySearchResult, IsSearchInRange, IsSortedBy}
 use Rattle.std.specs.Result.{MatchResult}
-use Rattle.std.specs.Ordering.{nat_cmp, is_lt, is_eq, is_ge, is_gt, eq_by_cmp, ordering_reverse, ordering_then}
+use Rattle.std.specs.Ordering.{nat_cmp, is_lt, is_eq, is_gt, eq_by_cmp, ordering_reverse, ordering_then}
 use Rattle.std.specs.declared.cmp.Ordering.{Ordering}
 use Rattle.std.specs.declared.cmp.Ordering.TheVariants.{Less, Equal, Greater}
 use Rattle.std.specs.Cmp.Lexicographic.{slice_cmp, nat_list_cmp_total}
@@ -65,11 +65,6 @@ both_from : (a b : Bool) → T a → T b → T (a && b)
 both_from true b h k = k
 both_from false b h k = h
 
-pub not_ge : (r : Ordering) → is_ge r ≡ false → r ≡ Less
-not_ge Less e = refl
-not_ge Equal e = cc
-not_ge Greater e = cc
-
 is_less : (r : Ordering) → r ≡ Less → T (is_lt r)
 is_less r e = subst (λ r. T (is_lt r)) (sym e) tt
 
@@ -86,7 +81,7 @@ below_next x (e ∷ es) h less =
     let first = less (omega arith) in
     both_from _ _ (is_less _ first) (below_too x e.0 es first (both_parts _ _ h).0)
 
-pub rises_from : (es : Pairs) → ((k : ℕ) → suc k < length es → by_bytes (node_at es k).0 (node_at es (suc k)).0 ≡ Less)
+rises_from : (es : Pairs) → ((k : ℕ) → suc k < length es → by_bytes (node_at es k).0 (node_at es (suc k)).0 ≡ Less)
     → T (is_sorted by_bytes es)
 rises_from [] next = tt
 rises_from (e ∷ es) next =
@@ -96,17 +91,36 @@ rises_from (e ∷ es) next =
 pub read : (nodes : List Node) (d : Node) (k : ℕ) → k < length nodes → (node_at (pairs nodes) k).0 ≡ (get_or nodes k d).name.items
 read nodes d k l = ap (λ node. node.0) (get_or-map pair_of nodes k d ([], 0) l)
 
--- what a comparison says of two neighbours
-pub neighbours : (nodes : List Node) (k i : ℕ) (a b : Node) (r : Ordering) → i ≡ suc k → i < length nodes
-    → r ≡ by_bytes (get_or nodes (i - 1) a).name.items (get_or nodes i b).name.items
-    → by_bytes (node_at (pairs nodes) k).0 (node_at (pairs nodes) (suc k)).0 ≡ r
-neighbours nodes k i a b r is below told =
-    let before : i - 1 ≡ k = omega arith in
-    let name_a : (node_at (pairs nodes) k).0 ≡ (get_or nodes (i - 1) a).name.items =
-    read nodes a k (omega arith) ∙ ap (λ (j : ℕ). (get_or nodes j a).name.items) (sym before) in
-    let name_b : (node_at (pairs nodes) (suc k)).0 ≡ (get_or nodes i b).name.items =
-    read nodes b (suc k) (omega arith) ∙ ap (λ (j : ℕ). (get_or nodes j b).name.items) (sym is) in
-    (λ j. by_bytes (name_a j) (name_b j)) ∙ sym told
+read_next : (nodes : List Node) (d : Node) (k : ℕ) → k + 1 < length nodes
+    → (node_at (pairs nodes) (suc k)).0 ≡ (get_or nodes (k + 1) d).name.items
+read_next nodes d k l = let next : suc k ≡ k + 1 = omega arith in ap (λ (i : ℕ). (node_at (pairs nodes) i).0) next ∙ read nodes d (k + 1) l
+
+neighbours : (nodes : List Node) (d : Node) (k : ℕ) → k + 1 < length nodes
+    → by_bytes (node_at (pairs nodes) k).0 (node_at (pairs nodes) (suc k)).0
+    ≡ by_bytes (get_or nodes k d).name.items (get_or nodes (k + 1) d).name.items
+neighbours nodes d k l = λ j. by_bytes (read nodes d k (omega arith) j) (read_next nodes d k l j)
+
+-- what a test of all neighbours says
+pub rise_exactly : (nodes : List Node) (r : Bool)
+    → IsAllAdjacentAnswer (λ a b t. t ≡ is_lt (by_bytes a.name.items b.name.items)) nodes r → IsTrue r ↔ T (is_sorted by_bytes (pairs nodes))
+rise_exactly [] true all = (λ _. tt, λ _. refl)
+rise_exactly [] false broken = absurd (omega (arith, broken.1))
+rise_exactly (n ∷ ns) true all = (
+  λ _. rises_from (pairs (n ∷ ns))
+      (λ k l.
+      let below : k + 1 < length (n ∷ ns) = omega (arith, l, length-map (n ∷ ns) pair_of) in
+      neighbours (n ∷ ns) n k below ∙ less_is _ (subst T (all k n below) tt)),
+  λ _. refl,
+)
+rise_exactly (n ∷ ns) false broken = (
+  λ no. cc,
+  λ sorted.
+      let k : ℕ = broken.0 in
+      let rise = names_rise (pairs (n ∷ ns)) sorted k (suc k) (omega arith) (omega (arith, broken.1, length-map (n ∷ ns) pair_of)) in
+      let less = ap is_lt (sym (neighbours (n ∷ ns) n k broken.1) ∙ rise) in
+      let not_less = broken.2 n in
+      cc,
+)
 
 -- names that rise differ
 pub rising_differ : (es : Pairs) → T (is_sorted by_bytes es) → KeysDiffer es
@@ -156,16 +170,11 @@ sorted_rise [] sorted differ = tt
 sorted_rise (n ∷ ns) sorted differ = rises_from (pairs (n ∷ ns))
     (λ k l.
     let nodes = n ∷ ns in
-    let long = length-map nodes pair_of in
-    let next : k + 1 ≡ suc k = omega arith in
-    let a = get_or nodes k n in
-    let b = get_or nodes (suc k) n in
-    let name_a = read nodes n k (omega arith) in
-    let name_b = read nodes n (suc k) (omega arith) in
-    let in_order : is_lt (by_name b a) ≡ false =
-    subst (λ (j : ℕ). is_lt (by_name (get_or nodes j n) a) ≡ false) next (sorted k n (omega arith) (omega arith)) in
-    let ne : a.name.items ≢ b.name.items = λ same. differ k (suc k) ([], 0) (omega arith) l (name_a ∙ same ∙ sym name_b) in
-    (λ j. by_bytes (name_a j) (name_b j)) ∙ less_of_two a b (by_bytes a.name.items b.name.items) refl in_order ne)
+    let below : k + 1 < length nodes = omega (arith, l, length-map nodes pair_of) in
+    neighbours nodes n k below
+    ∙ less_of_two (get_or nodes k n) (get_or nodes (k + 1) n) _ refl (sorted k n (omega arith) below)
+    (λ same. differ k (suc k) ([], 0) (omega arith) l
+    (read nodes n k (omega (arith, below)) ∙ same ∙ sym (read_next nodes n k below))))
 
 -- a node at an index is found
 pub found_at : (es : Pairs) → T (is_sorted by_bytes es) → (i : ℕ) → i < length es

@@ -132,12 +132,7 @@ fn all_points<H: Piecewise>(alloc: Global, nodes: &[Node]) -> Result<Vec<Point>,
 fn names_rise(nodes: &[Node]) -> bool
     ensures { IsTrue result ↔ T (is_sorted (slice_cmp nat_cmp) (pairs nodes.now)) }
 {
-    for i in 1..nodes.len() {
-        if nodes[i - 1].name.cmp(&nodes[i].name).is_ge() {
-            return false;
-        }
-    }
-    true
+    nodes.is_sorted_by(|one, next| one.name.cmp(&next.name).is_lt())
 }
 
 /// The number where `is`, and 0 elsewhere. It is a shift, as the compiler makes a jump of an `if`, whose way no processor guesses.
