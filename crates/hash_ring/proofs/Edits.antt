@@ -1,17 +1,17 @@
 -- A ring with a node more, and with one less.
 use Rattle.std.proofs.Common.{ℕ, zero, suc, ◌≡◌, ◌≢◌, ◌+◌, ◌-◌, ◌<◌, ◌≤◌, Bool, true, false, not, cond, ltb, ◌==◌, List, [], ◌∷◌, ◌++◌, map, length, get_or, set, take, drop, arith, sym, ap, ◌∙◌, subst, refl, ⊎_elim}
-use Rattle.std.specs.List.{AllPairs, Contains, filter, insert, remove}
+use Rattle.std.specs.List.{All, AllPairs, Contains, filter, insert, remove}
 use Rattle.std.proofs.lemmas.Bool.{cases_eq, cases_lt, lt-ltb, le-ltb}
 use Rattle.std.proofs.lemmas.Bool.Decides.{Decides-eqb, nat_tests}
 use Rattle.std.proofs.lemmas.List.{map-append, append-nil, drop_all, take-map, take_all, drop-map, get_or-map, length-map, get_or_default}
 use Rattle.std.proofs.lemmas.List.Edits.{map_over_more, get_or-remove_below, get_or-remove_above, get_or-insert_below, get_or-insert_at, get_or-insert_above}
-use Rattle.std.proofs.lemmas.List.Elements.{Contains-append_left, Contains-append_right, All-append, All-cons, All-drop, All-filter, All-map, All-take, filter_passes}
+use Rattle.std.proofs.lemmas.List.Elements.{Contains-append_left, Contains-append_right, All-append, All-cons, All-drop, All-filter, All-head, All-map, All-tail, All-take, filter_passes}
 use Rattle.std.proofs.lemmas.List.Kept.{AllPairs-filter}
 use Rattle.hash_ring.specs.declared.Node.{Node}
 use Rattle.hash_ring.specs.declared.Point.{Point}
 use Rattle.hash_ring.specs.Ring.{IsPointOf}
 use Rattle.hash_ring.specs.Points.{ArePoints, IsBefore, IsGapAt, IsRing, IsPointOfItsNode, closed_up, left_without, node_at, opened_up, pair_of, pairs, points_of}
-use Rattle.hash_ring.proofs.Points.{among, each, mapped_in_order}
+use Rattle.hash_ring.proofs.Points.{among, each, is_there, mapped_in_order}
 use Rattle.hash_ring.proofs.Names.{Pairs, inserted_sorted, removed_sorted}
 
 pub pairs_insert : (nodes : List Node) (i : ℕ) (node : Node) → pairs (insert nodes i node) ≡ insert (pairs nodes) i (pair_of node)
@@ -178,6 +178,22 @@ module _ (hash : List ℕ → ℕ) (es : Pairs) (come : ℕ) (node : List ℕ ×
             (ap (λ (q : Point). node_at more q.node) (sym back) ∙ shifted was) of)))))
             (cases_eq i come);
       }
+
+-- the points of a node behind all others
+not_opened : (n : ℕ) (points : List Point) → All (λ p. p.node < n) points → map (opened_up n) points ≡ points
+not_opened n [] below = refl
+not_opened n (p ∷ ps) below =
+    λ j. open_low n p (All-head (λ p. p.node < n) p ps below) j ∷ not_opened n ps (All-tail (λ p. p.node < n) p ps below) j
+
+pub ArePoints-push : (hash : List ℕ → ℕ) (es : Pairs) (node : List ℕ × ℕ) (points : List Point) → ArePoints hash es points
+    → ArePoints hash (es ++ node ∷ []) (points ++ points_of hash node (length es))
+ArePoints-push hash es node points just =
+    let n = length es in
+    let all : insert es n node ≡ es ++ node ∷ [] = λ j. take_all n es (omega arith) j ++ node ∷ drop_all n es (omega arith) j in
+    let same = not_opened n points (λ k d l. is_there hash es _ _ (just.real k d l)) in
+    subst (λ more. ArePoints hash more (points ++ points_of hash node n)) all
+    (subst (λ ps. ArePoints hash (insert es n node) (ps ++ points_of hash node n)) same
+    (ArePoints-insert hash es n node (omega arith) points just))
 
 -- a ring with a node more
 pub ring_with : (hash : List ℕ → ℕ) (es : Pairs) (name : List ℕ) (w i : ℕ) (old points : List Point) → IsRing hash es old

@@ -1,6 +1,6 @@
 -- Who owns a key, and how a ring's points tell it.
 use Rattle.std.proofs.Common.{ℕ, zero, suc, min, is_some, take, ◌≡◌, ◌≢◌, ◌+◌, ◌-◌, ◌<◌, ◌≤◌, Bool, true, false, not, cond, List, [], ◌∷◌, ◌++◌, length, get_or, Option, Some, None, arith, sym, ap, ◌∙◌, subst, refl, ⊎_elim, inl, inr, ◌⊎◌}
-use Rattle.std.specs.Prelude.{◌↔◌, IsTrue, ◌||◌, nat_eq}
+use Rattle.std.specs.Prelude.{◌↔◌, IsTrue, nat_eq}
 use Rattle.std.specs.Borrow.{Bor}
 use Rattle.std.specs.List.{All, AllPairs, Contains, list_any}
 use Rattle.hashers.specs.Text.{texts}
@@ -12,7 +12,8 @@ use Rattle.std.specs.FinMap as fin
 use Rattle.std.specs.FinMap.{slice_cmp-IsAntisymmetric, nat_cmp-IsAntisymmetric}
 use Rattle.std.proofs.lemmas.Bool.{cases_lt, lt-ltb, le-ltb}
 use Rattle.std.proofs.lemmas.List.Elements.{All-contains, All-nil, All-push, All-take, Contains-append_left, Contains-push}
-use Rattle.std.proofs.lemmas.List.{get_or_default, length-map, take_more}
+use Rattle.std.proofs.lemmas.List.{get_or_default, get_or-map, length-map, take_more}
+use Rattle.std.proofs.lemmas.List.Folds.{Any-from_list_any, list_any-from_Any}
 use Rattle.std.proofs.lemmas.List.Kept.{AllPairs-cons}
 use Rattle.hashers.proofs.TextMapLemmas.{get_remove, get_remove_other, get_remove_same, not_same, same, same_itself, same_key}
 use Rattle.hashers.proofs.TextMapLemmas.{alike as same_if_alike}
@@ -500,24 +501,27 @@ no_points hash es points ring none =
 abbrev is_name : List ℕ → Bor (List ℕ) → Bool
 is_name name x = pointwise nat_eq x.now name
 
-among_from : (names : List (Bor (List ℕ))) (name : List ℕ) → list_any (is_name name) names ≡ true → Contains (texts names) name
-among_from [] name e = cc
-among_from (x ∷ names) name e =
-    elim (is_name name x) as (λ b. is_name name x ≡ b → (b || list_any (is_name name) names) ≡ true → Contains (texts (x ∷ names)) name) [
-      | true ↦ λ h k. (0, omega arith, (bytes_decides x.now name).0 h)
-      | false ↦ λ h k. let rest = among_from names name k in (suc rest.0, omega (arith, rest.1), rest.2)
-    ] refl e
-
-among_to : (names : List (Bor (List ℕ))) (name : List ℕ) → Contains (texts names) name → list_any (is_name name) names ≡ true
-among_to [] name c = absurd (omega (arith, c.1))
-among_to (x ∷ names) name (zero, l, is) = ap (λ b. b || list_any (is_name name) names) ((bytes_decides x.now name).1 is)
-among_to (x ∷ names) name (suc k, l, is) =
-    let rest = among_to names name (k, omega arith, is) in
-    elim (is_name name x) as (λ b. (b || list_any (is_name name) names) ≡ true) [ true ↦ refl | false ↦ rest ]
-
 pub among_exactly : (names : List (Bor (List ℕ))) (name : List ℕ) (b : Bool) → b ≡ list_any (is_name name) names
     → IsTrue b ↔ Contains (texts names) name
-among_exactly names name b e = (
-  λ h. among_from names name (sym e ∙ h),
-  λ c. e ∙ among_to names name c,
-)
+among_exactly [] name b e = (λ h. cc, λ c. absurd (omega (arith, c.1)))
+among_exactly (x ∷ xs) name b e =
+    let names = x ∷ xs in
+    let text = λ (y : Bor (List ℕ)). y.now in (
+      λ h.
+          let a = Any-from_list_any (is_name name) names (sym e ∙ h) in (
+            a.0,
+            omega (arith, a.2, length-map names text),
+            get_or-map text names a.0 a.1 name a.2 ∙ ap text a.3
+                ∙ (bytes_decides a.1.now name).0 a.4,
+          ),
+      λ c.
+          let below : c.0 < length names = omega (arith, c.1, length-map names text) in
+          let y = get_or names c.0 x in
+          e ∙ list_any-from_Any (is_name name) names (
+            c.0,
+            y,
+            below,
+            get_or_default names c.0 y x below,
+            (bytes_decides y.now name).1 (sym (get_or-map text names c.0 x name below) ∙ c.2),
+          ),
+    )

@@ -1,5 +1,5 @@
 -- The points of nodes, in a list and in order.
-use Rattle.std.proofs.Common.{ℕ, ◌≡◌, ◌<◌, ◌≤◌, ◌+◌, ◌-◌, Bool, true, ltb, if◌then◌else◌, List, [], ◌∷◌, ◌++◌, length, get_or, map, arith, sym, ap, ◌∙◌, subst, refl, ⊎_elim, false, Some}
+use Rattle.std.proofs.Common.{ℕ, ◌≡◌, ◌<◌, ◌≤◌, ◌+◌, ◌-◌, Bool, true, ltb, if◌then◌else◌, List, [], length, get_or, map, arith, sym, ap, ◌∙◌, subst, refl, ⊎_elim, false, Some}
 use Rattle.std.specs.List.{All, AllPairs, Contains}
 use Rattle.std.specs.List.Sorted.{IsNonDecreasingBy, IsPermutation, IsSorted}
 use Rattle.std.specs.Ordering.{nat_cmp, is_lt, is_some_and, ordering_then, partial_ordering_then, MatchOrdering}
@@ -7,11 +7,9 @@ use Rattle.std.specs.declared.cmp.Ordering.{Ordering}
 use Rattle.std.specs.declared.cmp.Ordering.TheVariants.{Less, Equal, Greater}
 use Rattle.std.proofs.lemmas.Bool.{cases_lt}
 use Rattle.std.proofs.lemmas.Cmp.{then_total, on_total, nat_cmp_total, ranked}
-use Rattle.std.proofs.lemmas.List.{get_or_default, get_or_past, get_or-map, length-append, length-map, get_or_append_left}
-use Rattle.std.proofs.lemmas.List.Elements.{All-append, Contains-append_left, Contains-append_right}
+use Rattle.std.proofs.lemmas.List.{get_or_default, get_or_past, get_or-map, length-map}
 use Rattle.std.proofs.lemmas.List.Sorted.{All-permutation, Contains-permutation, sorted_far, ranks_by}
 use Rattle.std.proofs.lemmas.List.FromFn.{length-map-range_with_len, get_or-map-range_with_len}
-use Rattle.std.proofs.Math.Seq.{get_or-append_seam}
 use borrow.Author.Tests.{ltb-true, ltb-false}
 use Rattle.hash_ring.specs.declared.Point.{Point}
 use Rattle.hash_ring.specs.Ring.{IsPointOf, point}
@@ -46,33 +44,6 @@ module _ (hash : List ℕ → ℕ) where
       let less : k < node.1 = omega (arith, length-map-range_with_len nth 0 node.1) in
       subst (λ p. (p.node ≡ i) × IsPointOf hash node p.place) (sym (get_or-map-range_with_len nth 0 node.1 k k d less (omega arith)))
       (refl, record { number = k; below = less; is = refl })
-
-  -- the points of one node more
-  pub ArePoints-push : (nodes : Pairs) (node : List ℕ × ℕ) (points : List Point) → ArePoints hash nodes points
-      → ArePoints hash (nodes ++ node ∷ []) (points ++ points_of hash node (length nodes))
-  ArePoints-push nodes node points so_far =
-      let more = nodes ++ node ∷ [] in
-      let new = length nodes in
-      let last : node_at more new ≡ node = get_or-append_seam nodes node [] ([], 0) in
-      let before : (i : ℕ) → i < length nodes → node_at more i ≡ node_at nodes i =
-      λ i low. get_or_append_left nodes (node ∷ []) ([], 0) i low in
-      record {
-        real = All-append (IsPointOfItsNode hash more) points (points_of hash node new)
-            (λ k d below. let p = get_or points k d in let of = so_far.real k d below in
-            subst (λ n. IsPointOf hash n p.place) (sym (before p.node (is_there hash nodes p.node p.place of))) of)
-            (λ k d below. let p = get_or (points_of hash node new) k d in let of = each node new k d below in
-            subst (λ n. IsPointOf hash n p.place) (sym (ap (node_at more) of.0 ∙ last)) of.1);
-        all = λ i place of. ⊎_elim
-            (λ (low : i < length nodes). Contains-append_left points (points_of hash node new) _
-            (so_far.all i place (subst (λ n. IsPointOf hash n place) (before i low) of)))
-            (λ (high : length nodes ≤ i).
-            let there : i < length more = is_there hash more i place of in
-            let is : length nodes ≡ i = omega (arith, length-append nodes (node ∷ [])) in
-            Contains-append_right points (points_of hash node new) _
-            (subst (λ (j : ℕ). Contains (points_of hash node new) (record { place = place; node = j })) is
-            (among node new place (subst (λ n. IsPointOf hash n place) (ap (node_at more) (sym is) ∙ last) of))))
-            (cases_lt i (length nodes));
-      }
 
   -- in whatever order the points stand
   pub ArePoints-permutation : (nodes : Pairs) (points moved : List Point) → IsPermutation points moved → ArePoints hash nodes points

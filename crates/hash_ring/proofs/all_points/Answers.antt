@@ -3,7 +3,8 @@ use Rattle.std.proofs.lemmas.List.{take_more, take_all, map-append, length-take-
 use Rattle.hash_ring.specs.declared.Node.{Node}
 use Rattle.hash_ring.specs.declared.Point.{Point}
 use Rattle.hash_ring.specs.Points.{ArePoints, pair_of, pairs, points_of}
-use Rattle.hash_ring.proofs.Points.{ArePoints-push, ArePoints-permutation, in_order}
+use Rattle.hash_ring.proofs.Edits.{ArePoints-push}
+use Rattle.hash_ring.proofs.Points.{ArePoints-permutation, in_order}
 use Rattle.hash_ring.proofs.all_points.Goals as goal
 
 -- the points of the next node
