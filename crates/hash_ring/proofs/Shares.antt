@@ -120,7 +120,6 @@ module _ (hash : List ℕ → ℕ) (es : Pairs) (points : List Point) (ring : Is
 pub record AreSharesOf (es : Pairs) (stretches : List Stretch) (shares : List ℕ) (upto : ℕ) : Type 0 where
   pub long : length shares ≡ length es
   pub each : (j : ℕ) → j < length es → get_or shares j 0 ≡ share_of stretches (node_at es j).0
-  pub low : (j : ℕ) → j < length es → get_or shares j 0 ≤ upto
   pub total : sum shares ≡ upto
 
 abbrev its : List ℕ → Stretch → ℕ
@@ -158,10 +157,6 @@ one_stretch_more es sorted stretches shares next n from to so_far below upto_it 
           (cases_lt j n) in
           let not_mine : its (node_at es j).0 s ≡ 0 = ap (λ b. cond b (to - from) 0) (not_same (node_at es j).0 (node_at es n).0 apart) in
           at_other j ne ∙ omega (arith, so_far.each j l, not_mine, share_push stretches s (node_at es j).0))
-          (cases_eq j n);
-      low = λ j l. ⊎_elim
-          (λ (here : j ≡ n). let e = ap (λ (k : ℕ). get_or next k 0) here in omega (arith, e, at_n, so_far.low n below))
-          (λ (ne : j ≢ n). omega (arith, at_other j ne, so_far.low j l))
           (cases_eq j n);
       total =
           let moved : sum_by (λ x. x) (set shares n (get_or shares n 0 + (to - from))) + get_or shares n 0 ≡ sum_by (λ x. x) shares +
