@@ -10,7 +10,8 @@ use Rattle.std.specs.declared.cmp.Ordering.TheVariants.{Less, Equal, Greater}
 use Rattle.std.specs.Cmp.Lexicographic.{nat_list_cmp_total, pointwise, bytes_decides}
 use Rattle.std.specs.FinMap as fin
 use Rattle.std.specs.FinMap.{slice_cmp-IsAntisymmetric, nat_cmp-IsAntisymmetric}
-use Rattle.std.proofs.lemmas.Bool.{cases_lt, lt-ltb, le-ltb}
+use Rattle.std.proofs.lemmas.Bool.{cases_lt}
+use Rattle.std.proofs.lemmas.Bool.Decides.{nat_tests}
 use Rattle.std.proofs.lemmas.List.Elements.{All-contains, All-nil, All-push, All-take, Contains-append_left, Contains-push}
 use Rattle.std.proofs.lemmas.List.{get_or_default, get_or-map, length-map, take_more}
 use Rattle.std.proofs.lemmas.List.Folds.{Any-from_list_any, list_any-from_Any}
@@ -362,18 +363,6 @@ module _ {hash : List ℕ → ℕ} {nodes : Nodes} {at n : ℕ} {nth : ℕ → �
           (among_or_new name so_far.names)
 
 -- ---- the way round a ring's points
-turn_low : (at place : ℕ) → at ≤ place → turn at place ≡ 0
-turn_low at place h = ap (λ b. cond b 1 0) (le-ltb place at h)
-
-turn_high : (at place : ℕ) → place < at → turn at place ≡ 1
-turn_high at place h = ap (λ b. cond b 1 0) (lt-ltb place at h)
-
-pub index_low : (n first s : ℕ) → s < n - first → index_round n first s ≡ first + s
-index_low n first s h = ap (λ b. cond b (first + s) (s - (n - first))) (lt-ltb s (n - first) h)
-
-pub index_high : (n first s : ℕ) → n - first ≤ s → index_round n first s ≡ s - (n - first)
-index_high n first s h = ap (λ b. cond b (first + s) (s - (n - first))) (le-ltb s (n - first) h)
-
 upto : (points : List Point) → AllPairs IsBefore points → (i j : ℕ) (d : Point) → i ≤ j → j < length points
     → IsBefore (get_or points i d) (get_or points j d)
 upto points before i j d le within = ⊎_elim
@@ -406,12 +395,14 @@ module _ (hash : List ℕ → ℕ) (es : Pairs) (points : List Point) (ring : Is
       let within : first ≤ length points = start.within in
       ⊎_elim
       (λ (low : s < length points - first).
-      let e = index_low (length points) first s low in
+      let e : index s ≡ first + s = grind (arith, nat_tests) in
       let there : index s < length points = omega (arith, e) in
-      inl (e, there, turn_low at _ (start.after (index s) none (omega (arith, e)) there)))
+      let later : at ≤ (the s).place = start.after (index s) none (omega (arith, e)) there in
+      inl (e, there, grind (arith, nat_tests)))
       (λ (high : length points - first ≤ s).
-      let e = index_high (length points) first s high in
-      inr (omega (arith, e), omega (arith, e), turn_high at _ (start.before (index s) none (omega (arith, e)))))
+      let e : index s + (length points - first) ≡ s = grind (arith, nat_tests) in
+      let sooner : (the s).place < at = start.before (index s) none (omega (arith, e)) in
+      inr (e, omega (arith, e), grind (arith, nat_tests)))
       (cases_lt s (length points - first))
 
   there : (s : ℕ) → s < length points → index s < length points
@@ -426,8 +417,8 @@ module _ (hash : List ℕ → ℕ) (es : Pairs) (points : List Point) (ring : Is
       let n = length points in
       let within : first ≤ n = start.within in
       ⊎_elim
-      (λ (low : k < first). (k + (n - first), omega arith, index_high n first (k + (n - first)) (omega arith) ∙ omega arith))
-      (λ (high : first ≤ k). (k - first, omega arith, index_low n first (k - first) (omega arith) ∙ omega arith))
+      (λ (low : k < first). (k + (n - first), omega arith, grind (arith, nat_tests)))
+      (λ (high : first ≤ k). (k - first, omega arith, grind (arith, nat_tests)))
       (cases_lt k first)
 
   in_order : (s t : ℕ) → t < length points → index s ≤ index t → turn at (the s).place ≡ turn at (the t).place

@@ -2,11 +2,11 @@
 use Rattle.std.proofs.Common.{ℕ, ◌≡◌, ◌<◌, ◌≤◌, ◌+◌, ◌-◌, Bool, true, ltb, if◌then◌else◌, List, [], length, get_or, map, arith, sym, ap, ◌∙◌, subst, refl, ⊎_elim, false, Some}
 use Rattle.std.specs.List.{All, AllPairs, Contains}
 use Rattle.std.specs.List.Sorted.{IsNonDecreasingBy, IsPermutation, IsSorted}
-use Rattle.std.specs.Ordering.{nat_cmp, is_lt, is_some_and, ordering_then, partial_ordering_then, MatchOrdering}
+use Rattle.std.specs.Ordering.{nat_cmp, is_lt, is_some_and, ordering_then, partial_ordering_then}
 use Rattle.std.specs.declared.cmp.Ordering.{Ordering}
-use Rattle.std.specs.declared.cmp.Ordering.TheVariants.{Less, Equal, Greater}
 use Rattle.std.proofs.lemmas.Bool.{cases_lt}
-use Rattle.std.proofs.lemmas.Cmp.{then_total, on_total, nat_cmp_total, ranked}
+use Rattle.std.proofs.lemmas.Bool.Decides.{nat_tests}
+use Rattle.std.proofs.lemmas.Cmp.{then_total, on_total, nat_cmp_total}
 use Rattle.std.proofs.lemmas.List.{get_or_default, get_or_past, get_or-map, length-map}
 use Rattle.std.proofs.lemmas.List.Sorted.{All-permutation, Contains-permutation, sorted_far, ranks_by}
 use Rattle.std.proofs.lemmas.List.FromFn.{length-map-range_with_len, get_or-map-range_with_len}
@@ -54,46 +54,27 @@ module _ (hash : List ℕ → ℕ) where
   }
 
 -- ---- points in order
-not_less_by : (a b : Point) (r s : Ordering) → MatchOrdering r (b.place < a.place) (b.place ≡ a.place) (a.place < b.place)
-    → MatchOrdering s (b.node < a.node) (b.node ≡ a.node) (a.node < b.node) → is_lt (ordering_then r s) ≡ false → IsBefore a b
-not_less_by a b Less s h k e = cc
-not_less_by a b Equal Less h k e = cc
-not_less_by a b Equal Equal h k e = record { place = omega arith; node = λ _. omega arith }
-not_less_by a b Equal Greater h k e = record { place = omega arith; node = λ _. omega arith }
-not_less_by a b Greater s h k e = record { place = omega arith; node = λ same. absurd (omega arith) }
+abbrev by_place : Point → Point → Ordering
+by_place a b = ordering_then (nat_cmp a.place b.place) (nat_cmp a.node b.node)
 
-not_less : (a b : Point) → is_lt (ordering_then (nat_cmp b.place a.place) (nat_cmp b.node a.node)) ≡ false → IsBefore a b
-not_less a b = not_less_by a b _ _ (ranked b.place a.place _ refl) (ranked b.node a.node _ refl)
+not_less : (a b : Point) → is_lt (by_place b a) ≡ false → IsBefore a b
+not_less a b e = record { place = grind (arith, nat_tests); node = λ same. grind (arith, nat_tests) }
 
-pub in_order : (points : List Point) → IsSorted (λ a b. ordering_then (nat_cmp a.place b.place) (nat_cmp a.node b.node)) points
-    → AllPairs IsBefore points
+pub in_order : (points : List Point) → IsSorted by_place points → AllPairs IsBefore points
 in_order points sorted i j d less within =
     let o = ranks_by (then_total (on_total (λ (p : Point). p.place) nat_cmp_total) (on_total (λ (p : Point). p.node) nat_cmp_total))
     (λ (p : Point). p) in
     not_less _ _ (sorted_far _ o points sorted i j d (omega arith) within)
 
 -- what `<` says of two points
-less_by : (a b : Point) (r s : Ordering) → MatchOrdering r (a.place < b.place) (a.place ≡ b.place) (b.place < a.place)
-    → MatchOrdering s (a.node < b.node) (a.node ≡ b.node) (b.node < a.node) → is_lt (ordering_then r s) ≡ true → IsBefore a b
-less_by a b Less s h k e = record { place = omega arith; node = λ same. absurd (omega arith) }
-less_by a b Equal Less h k e = record { place = omega arith; node = λ _. omega arith }
-less_by a b Equal Equal h k e = cc
-less_by a b Equal Greater h k e = cc
-less_by a b Greater s h k e = cc
-
-same_test : (r s : Ordering) → is_lt (ordering_then r s) ≡ is_some_and is_lt (partial_ordering_then (Some r) (Some s))
-same_test Less s = refl
-same_test Equal s = refl
-same_test Greater s = refl
-
 abbrev is_less : Point → Point → Bool
 is_less a b = is_some_and is_lt (partial_ordering_then (Some (nat_cmp a.place b.place)) (Some (nat_cmp a.node b.node)))
 
 pub before_if_less : (a b : Point) → is_less a b ≡ true → IsBefore a b
-before_if_less a b e = less_by a b _ _ (ranked a.place b.place _ refl) (ranked a.node b.node _ refl) (same_test _ _ ∙ e)
+before_if_less a b e = record { place = grind (arith, nat_tests); node = λ same. grind (arith, nat_tests) }
 
 pub before_if_not_less : (a b : Point) → is_less a b ≡ false → IsBefore b a
-before_if_not_less a b e = not_less b a (same_test _ _ ∙ e)
+before_if_not_less a b e = record { place = grind (arith, nat_tests); node = λ same. grind (arith, nat_tests) }
 
 pub before_both : (a b c : Point) → IsBefore a b → IsBefore b c → IsBefore a c
 before_both a b c p q = record {

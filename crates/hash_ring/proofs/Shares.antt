@@ -3,6 +3,7 @@ use Rattle.std.proofs.Common.{ℕ, ◌≡◌, ◌≢◌, ◌+◌, ◌-◌, ◌<�
 use Rattle.std.specs.List.{AllPairs, sum_by}
 use Rattle.std.specs.FinMap.{is_sorted}
 use Rattle.std.proofs.lemmas.Bool.{cases_eq, cases_lt}
+use Rattle.std.proofs.lemmas.Bool.Decides.{nat_tests}
 use Rattle.std.proofs.lemmas.List.{drop_more, get_or-map, get_or_default, length-drop, length-map, length-set, same_lists, take_all, take_more}
 use Rattle.std.proofs.lemmas.List.Sums.{sum_by-append, sum_by-cons, sum_by-set}
 use Rattle.hashers.proofs.TextMapLemmas.{not_same, same, same_itself}
@@ -10,7 +11,7 @@ use Rattle.hash_ring.specs.declared.Point.{Point}
 use Rattle.hash_ring.specs.Ring.{AreShares, AreStretches, IsOwner, Nodes, Stretch, share_of}
 use Rattle.hash_ring.specs.Points.{IsBefore, IsRing, index_round, node_at, nodes_of}
 use Rattle.hash_ring.proofs.Names.{Pairs, by_bytes, entries_are, rising_differ}
-use Rattle.hash_ring.proofs.Owners.{first_owner, index_high, index_low, none, spot}
+use Rattle.hash_ring.proofs.Owners.{first_owner, none, spot}
 use Rattle.hash_ring.proofs.Points.{is_there, places_rise}
 
 -- the stretches that end behind the points, and where they end
@@ -73,7 +74,7 @@ module _ (hash : List ℕ → ℕ) (es : Pairs) (points : List Point) (ring : Is
   owned : (i at : ℕ) (p : Point) → i < length points → p ≡ get_or points i p
       → ((k : ℕ) (d : Point) → k < i → (get_or points k d).place < at) → at ≤ p.place → IsOwner hash (nodes_of es) at (node_at es p.node).0
   owned i at p below is before upto_it =
-      subst (IsOwner hash (nodes_of es) at) (first_named i i p (index_low (length points) i 0 (omega arith) ∙ omega arith) below is)
+      subst (IsOwner hash (nodes_of es) at) (first_named i i p (grind (arith, nat_tests)) below is)
       (first_owner hash es points ring at i
       (record {
         within = omega arith;
@@ -89,7 +90,7 @@ module _ (hash : List ℕ → ℕ) (es : Pairs) (points : List Point) (ring : Is
       → ((k : ℕ) (d : Point) → k < length points → (get_or points k d).place < at) → IsOwner hash (nodes_of es) at (node_at es p.node).0
   owned_behind at p some is before =
       let n = length points in
-      subst (IsOwner hash (nodes_of es) at) (first_named n 0 p (index_high n n 0 (omega arith) ∙ omega arith) some is)
+      subst (IsOwner hash (nodes_of es) at) (first_named n 0 p (grind (arith, nat_tests)) some is)
       (first_owner hash es points ring at n (record { within = omega arith; before = before; after = λ k d low l. absurd (omega arith) }) some)
 
   arcs_cover : (rest : List Point) (i from : ℕ) → i ≤ length points → drop i points ≡ rest
