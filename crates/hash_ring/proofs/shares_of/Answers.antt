@@ -1,52 +1,43 @@
-use Rattle.std.proofs.Common.{◌+◌, ◌∙◌, ap, sym, refl, arith}
+use Rattle.std.proofs.Common.{◌+◌, ap, sym, refl, arith}
+use Rattle.std.proofs.lemmas.List.{length-map}
 use Rattle.std.proofs.lemmas.Grind.{common_steps}
-use Rattle.hash_ring.specs.declared.Point.{Point}
-use Rattle.hash_ring.specs.Points.{pairs}
-use Rattle.hash_ring.proofs.Points.{is_there}
-use Rattle.hash_ring.proofs.Shares.{end_low, first_read, last_end, last_places, next_point, node_there, whole_ring}
+use Rattle.hash_ring.specs.Points.{pair_of, pairs}
+use Rattle.hash_ring.proofs.Owners.{none}
+use Rattle.hash_ring.proofs.Shares.{none_yet, first_read, last_places, next_point}
 use Rattle.hash_ring.proofs.shares_of.Goals as goal
 
-abbrev none : Point
-none = record { place = 0; node = 0 }
+pub loop-point-init : goal.loop-point-init
+loop-point-init g c = record {
+  so_far = none_yet _ _ _ _ _ (sym (length-map c.args.nodes.now pair_of))
+      (c.in_ok-shares.ensures.items_if_clones_equal (λ y e. e));
+  small = omega arith;
+}
 
 pub overflow_sub-to : goal.overflow_sub-to
 overflow_sub-to g c =
     omega (
       arith,
-      c.loop-point.invariant.from_is,
       c.from-to.ensures,
-      end_low c.args.points.now c.requires.ordered c.loop-point.point-index none c.loop-point-test.true,
+      c.loop-point.invariant.so_far.ahead c.loop-point.point-index none (omega arith) c.loop-point-test.true,
     )
 
 pub loop-point-preserved : goal.loop-point-preserved
-loop-point-preserved g c =
-    let points = c.args.points.now in
-    let i = c.loop-point.point-index in
-    let so_far = c.loop-point.invariant in
-    let there = is_there g.H.Piecewise.hash_of (pairs c.args.nodes.now) _ _ (c.requires.just.real i none c.loop-point-test.true) in
-    let low = end_low points c.requires.ordered i none c.loop-point-test.true in
-    record {
-      so_far = next_point
-          (pairs c.args.nodes.now) c.requires.named points i none c.loop-point.shares.items _ c.loop-point.from _ c.index_mut.result.now
-          c.loop-point-test.true there so_far.so_far so_far.from_is (omega (arith, so_far.from_is, c.from-to.ensures, low))
-          (ap (λ n. n + 1) c.from-to.ensures) c.index_mut.ensures.value refl;
-      from_is = ap (λ n. n + 1) c.from-to.ensures ∙ sym (last_end points i none c.loop-point-test.true);
-      small = omega arith;
-    }
+loop-point-preserved g c = record {
+  so_far = next_point g.H.Piecewise.hash_of (pairs c.args.nodes.now) c.args.points.now c.requires c.loop-point.point-index
+      c.loop-point.shares.items _ c.loop-point.from c.index_mut.result.now c.loop-point.invariant.so_far none _ c.loop-point-test.true
+      (ap (λ n. n + 1) c.from-to.ensures) c.index_mut.ensures.value refl;
+  small = omega arith;
+}
 
 pub returns : goal.returns
 returns g c =
     let points = c.args.points.now in
-    let so_far = c.loop-point.invariant in
     let first = first_read points c.in-Some.first.now c.in-Some.ensures.value in
-    let there = node_there g.H.Piecewise.hash_of (pairs c.args.nodes.now) points c.requires c.in-Some.first.now first.0 first.1 in
-    let last = last_places
-    (pairs c.args.nodes.now) c.requires.named points c.loop-point.point-index c.in-Some.first.now c.loop-point.shares.items _
-    c.loop-point.from
-    c.index_mut-2.result.now c.loop-point-test.false there so_far.so_far so_far.from_is so_far.small c.index_mut-2.ensures.value refl in
+    let last = last_places g.H.Piecewise.hash_of (pairs c.args.nodes.now) points c.requires c.loop-point.point-index
+    c.loop-point.shares.items _ c.loop-point.from c.index_mut-2.result.now c.loop-point.invariant.so_far c.in-Some.first.now
+    c.loop-point-test.false first.0 first.1 c.loop-point.invariant.small c.index_mut-2.ensures.value refl in
     record {
-      each = λ some. whole_ring g.H.Piecewise.hash_of (pairs c.args.nodes.now) points c.requires c.in-Some.first.now first.0 first.1 _
-          last.0 last.1;
-      all = λ some. last.1.total;
-      count = grind (arith, common_steps);
+      each = λ some. last.0;
+      all = λ some. last.1;
+      count = grind (arith, common_steps, c.loop-point.invariant.so_far.of.long);
     }

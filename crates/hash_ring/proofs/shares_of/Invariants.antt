@@ -1,13 +1,10 @@
-use Rattle.std.proofs.Common.{◌≡◌, ◌≤◌, ◌^◌, take}
+use Rattle.std.proofs.Common.{◌≤◌, ◌^◌}
 use Rattle.hash_ring.specs.Points.{pairs}
-use Rattle.hash_ring.proofs.Shares.{AreSharesOf, arcs, end_of}
+use Rattle.hash_ring.proofs.Shares.{AreSharesUpto}
 use Rattle.hash_ring.proofs.shares_of.Given as goal
 
 abbrev pub invariant-loop-point : goal.invariant-loop-point
-invariant-loop-point g l =
-    let done = take l.point-index l.points in
-    record {
-      so_far : AreSharesOf (pairs l.nodes) (arcs (pairs l.nodes) 0 done) l.shares.items l.from;
-      from_is : l.from ≡ end_of 0 done;
-      small : l.from ≤ 2 ^ 64;
-    }
+invariant-loop-point g l = record {
+  so_far : AreSharesUpto g.H.Piecewise.hash_of (pairs l.nodes) l.points l.point-index l.shares.items l.from;
+  small : l.from ≤ 2 ^ 64;
+}
