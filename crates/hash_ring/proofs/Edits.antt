@@ -1,11 +1,12 @@
 -- A ring with a node more, and with one less.
 use Rattle.std.proofs.Common.{ℕ, zero, suc, ◌≡◌, ◌≢◌, ◌+◌, ◌-◌, ◌<◌, ◌≤◌, Bool, true, false, not, cond, ltb, ◌==◌, List, [], ◌∷◌, ◌++◌, map, length, get_or, set, take, drop, arith, sym, ap, ◌∙◌, subst, refl, ⊎_elim}
 use Rattle.std.specs.List.{All, AllPairs, Contains, filter, insert, remove}
-use Rattle.std.proofs.lemmas.Bool.{cases_eq, cases_lt, lt-ltb, le-ltb}
+use Rattle.std.proofs.lemmas.Bool.{cases_eq}
 use Rattle.std.proofs.lemmas.Bool.Decides.{Decides-eqb, nat_tests}
-use Rattle.std.proofs.lemmas.List.{map-append, append-nil, drop_all, take-map, take_all, drop-map, get_or-map, length-map, get_or_default}
-use Rattle.std.proofs.lemmas.List.Edits.{map_over_more, get_or-remove_below, get_or-remove_above, get_or-insert_below, get_or-insert_at, get_or-insert_above}
-use Rattle.std.proofs.lemmas.List.Elements.{Contains-append_left, Contains-append_right, All-append, All-cons, All-drop, All-filter, All-head, All-map, All-tail, All-take, filter_passes}
+use Rattle.std.proofs.lemmas.Grind.{common_steps, elements, moves}
+use Rattle.std.proofs.lemmas.List.{map-append, drop_all, take-map, take_all, drop-map, get_or-map, length-map}
+use Rattle.std.proofs.lemmas.List.Edits.{map_over_more, get_or-insert_at}
+use Rattle.std.proofs.lemmas.List.Elements.{Contains-append_left, Contains-append_right, All-append, All-drop, All-filter, All-head, All-map, All-tail, All-take, filter_passes}
 use Rattle.std.proofs.lemmas.List.Kept.{AllPairs-filter}
 use Rattle.hash_ring.specs.declared.Node.{Node}
 use Rattle.hash_ring.specs.declared.Point.{Point}
@@ -15,35 +16,20 @@ use Rattle.hash_ring.proofs.Points.{among, each, is_there, mapped_in_order}
 use Rattle.hash_ring.proofs.Names.{Pairs, inserted_sorted, removed_sorted}
 
 pub pairs_insert : (nodes : List Node) (i : ℕ) (node : Node) → pairs (insert nodes i node) ≡ insert (pairs nodes) i (pair_of node)
-pairs_insert nodes i node =
-    map-append pair_of (take i nodes) (node ∷ drop i nodes)
-    ∙ (λ j. sym (take-map pair_of i nodes) j ++ pair_of node ∷ sym (drop-map pair_of i nodes) j)
+pairs_insert nodes i node = grind (arith, common_steps, take-map, drop-map, map-append)
 
 pub pairs_remove : (nodes : List Node) (i : ℕ) → pairs (remove nodes i) ≡ remove (pairs nodes) i
-pairs_remove nodes i =
-    map-append pair_of (take i nodes) (drop (suc i) nodes)
-    ∙ (λ j. sym (take-map pair_of i nodes) j ++ sym (drop-map pair_of (suc i) nodes) j)
+pairs_remove nodes i = grind (arith, common_steps, take-map, drop-map, map-append)
 
 -- a list that was written over whole
 pub over : (new old : List Point) (n : ℕ) → length new ≡ length old → n ≡ length old → take n (new ++ drop (length new) old) ≡ new
-over new old n same is =
-    ap (λ rest. take n (new ++ rest)) (drop_all (length new) old (omega arith)) ∙ ap (take n) (append-nil new)
-    ∙ take_all n new (omega arith)
+over new old n same is = grind (arith, common_steps)
 
 -- one point more is counted anew
 pub mapped_more : (f : Point → Point) (old now : List Point) (i : ℕ) (d y : Point) → i < length old → length now ≡ length old
     → now ≡ map f (take i old) ++ drop i old → y ≡ f (get_or now i d)
     → set now i y ≡ map f (take (i + 1) old) ++ drop (i + 1) old
-mapped_more f old now i d y below long so_far made =
-    let x : Point = get_or now i d in
-    ap (set now i) made ∙ map_over_more f old now i x below so_far (get_or_default now i d x (omega arith))
-
--- what `opened_up` makes of the later indices, and of the earlier
-open_high : (come : ℕ) (p : Point) → come ≤ p.node → opened_up come p ≡ record { place = p.place; node = p.node + 1 }
-open_high come p h = λ i. record { place = p.place; node = cond (le-ltb p.node come h i) p.node (p.node + 1) }
-
-open_low : (come : ℕ) (p : Point) → p.node < come → opened_up come p ≡ p
-open_low come p h = λ i. record { place = p.place; node = cond (lt-ltb p.node come h i) p.node (p.node + 1) }
+mapped_more f old now i d y below long so_far made = grind (arith, common_steps, map_over_more)
 
 opens_in_order : (come i j : ℕ) → i ≤ j → cond (ltb i come) i (i + 1) ≤ cond (ltb j come) j (j + 1)
 opens_in_order come i j h = grind (arith, nat_tests)
@@ -99,12 +85,7 @@ module _ (hash : List ℕ → ℕ) (es : Pairs) (gone : ℕ) (below : gone < len
 
   -- the node of an index was one index further, from that of the node that went on
   was_at : (p : Point) → node_at rest p.node ≡ node_at es (opened_up gone p).node
-  was_at p = ⊎_elim
-      (λ (low : p.node < gone). get_or-remove_below es gone ([], 0) p.node low below
-      ∙ ap (λ (q : Point). node_at es q.node) (sym (open_low gone p low)))
-      (λ (high : gone ≤ p.node). get_or-remove_above es gone ([], 0) p.node high below
-      ∙ ap (λ (q : Point). node_at es q.node) (sym (open_high gone p high)))
-      (cases_lt p.node gone)
+  was_at p = grind (arith, nat_tests, moves)
 
   other_node : (p : Point) → stays p ≡ true → p.node ≢ gone
   other_node p e is = let f : (p.node == gone) ≡ true = (Decides-eqb p.node gone).1 is in cc
@@ -145,12 +126,7 @@ module _ (hash : List ℕ → ℕ) (es : Pairs) (come : ℕ) (node : List ℕ ×
   more = insert es come node
 
   shifted : (p : Point) → node_at more (opened_up come p).node ≡ node_at es p.node
-  shifted p = ⊎_elim
-      (λ (low : p.node < come). ap (λ (q : Point). node_at more q.node) (open_low come p low)
-      ∙ get_or-insert_below es come node ([], 0) p.node low within)
-      (λ (high : come ≤ p.node). ap (λ (q : Point). node_at more q.node) (open_high come p high)
-      ∙ get_or-insert_above es come node ([], 0) p.node high within)
-      (cases_lt p.node come)
+  shifted p = grind (arith, nat_tests, moves)
 
   pub ArePoints-insert : (points : List Point) → ArePoints hash es points
       → ArePoints hash more (map (opened_up come) points ++ points_of hash node come)
@@ -183,7 +159,9 @@ module _ (hash : List ℕ → ℕ) (es : Pairs) (come : ℕ) (node : List ℕ ×
 not_opened : (n : ℕ) (points : List Point) → All (λ p. p.node < n) points → map (opened_up n) points ≡ points
 not_opened n [] below = refl
 not_opened n (p ∷ ps) below =
-    λ j. open_low n p (All-head (λ p. p.node < n) p ps below) j ∷ not_opened n ps (All-tail (λ p. p.node < n) p ps below) j
+    let first = All-head (λ p. p.node < n) p ps below in
+    let same : cond (ltb p.node n) p.node (p.node + 1) ≡ p.node = grind (arith, nat_tests) in
+    λ j. record { place = p.place; node = same j } ∷ not_opened n ps (All-tail (λ p. p.node < n) p ps below) j
 
 pub ArePoints-push : (hash : List ℕ → ℕ) (es : Pairs) (node : List ℕ × ℕ) (points : List Point) → ArePoints hash es points
     → ArePoints hash (es ++ node ∷ []) (points ++ points_of hash node (length es))
@@ -201,8 +179,7 @@ pub ring_with : (hash : List ℕ → ℕ) (es : Pairs) (name : List ℕ) (w i : 
     → ArePoints hash (insert es i (name, w)) points → AllPairs IsBefore points → IsRing hash (insert es i (name, w)) points
 ring_with hash es name w i old points ring gap some just ordered = record {
   named = inserted_sorted es ring.named name w i gap;
-  weighed = All-append (λ node. 1 ≤ node.1) (take i es) ((name, w) ∷ drop i es) (All-take (λ node. 1 ≤ node.1) i es ring.weighed)
-      (All-cons (λ node. 1 ≤ node.1) (name, w) (drop i es) some (All-drop (λ node. 1 ≤ node.1) i es ring.weighed));
+  weighed = grind (arith, elements, ring.weighed);
   just = just;
   ordered = ordered;
 }

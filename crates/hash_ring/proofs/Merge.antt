@@ -3,7 +3,8 @@ use Rattle.std.proofs.Common.{ℕ, suc, ◌≡◌, ◌<◌, ◌≤◌, ◌+◌, 
 use Rattle.std.specs.List.{All, AllPairs}
 use Rattle.std.specs.List.Sorted.{IsPermutation}
 use Rattle.std.proofs.lemmas.Bool.{cases_lt}
-use Rattle.std.proofs.lemmas.List.{append_assoc, drop_more, drop-set, get_or_default, get_or-map, get_or-take, length-take-le, take-append-drop, take-set-le, take-take}
+use Rattle.std.proofs.lemmas.List.{append_assoc, drop_more, drop-set, get_or_default, get_or-take, length-take-le, take-append-drop, take-set-le, take-take}
+use Rattle.std.proofs.lemmas.Grind.{common_steps}
 use Rattle.std.proofs.lemmas.List.Elements.{All-append, All-cons}
 use Rattle.std.proofs.lemmas.List.Kept.{AllPairs-cons}
 use Rattle.std.proofs.lemmas.List.Sorted.{IsPermutation-append_comm, IsPermutation-append_left, IsPermutation-append_right, IsPermutation-cons, IsPermutation-trans}
@@ -117,7 +118,7 @@ module _ (xs ys points : List Point) (left right : ℕ)
 -- ---- in one array, whose front has those points of the first list that are not merged yet
 pub placed : (points : List Point) (at next : ℕ) (y : Point) → at + 1 ≡ next → at < length points
     → drop at (set points at y) ≡ y ∷ drop next points
-placed points at next y one low = drop-set points at y low ∙ ap (λ k. y ∷ drop k points) one
+placed points at next y one low = grind (arith, common_steps, drop-set)
 
 pub front_kept : (old points : List Point) (left less at : ℕ) (y : Point) → less ≤ left → less ≤ at → take left points ≡ take left old
     → take less (set points at y) ≡ take less old
@@ -128,10 +129,4 @@ front_kept old points left less at y upto before front =
 pub last_other : (come n left : ℕ) (old points : List Point) (d e : Point) → 0 < left → left ≤ n → n ≤ length old
     → take left points ≡ take left old
     → get_or (map (opened_up come) (take n old)) (left - 1) e ≡ opened_up come (get_or points (left - 1) d)
-last_other come n left old points d e some within long front =
-    let i : ℕ = left - 1 in
-    let low : i < left = omega arith in
-    get_or-map (opened_up come) (take n old) i d e (omega (arith, length-take-le n old long))
-    ∙ ap (opened_up come)
-    (get_or-take n old i d (omega arith) ∙ sym (get_or-take left old i d low) ∙ ap (λ ps. get_or ps i d) (sym front)
-    ∙ get_or-take left points i d low)
+last_other come n left old points d e some within long front = grind (arith, common_steps, take-take, get_or-take)

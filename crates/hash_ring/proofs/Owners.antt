@@ -12,6 +12,7 @@ use Rattle.std.specs.FinMap as fin
 use Rattle.std.specs.FinMap.{slice_cmp-IsAntisymmetric, nat_cmp-IsAntisymmetric}
 use Rattle.std.proofs.lemmas.Bool.{cases_lt}
 use Rattle.std.proofs.lemmas.Bool.Decides.{nat_tests}
+use Rattle.std.proofs.lemmas.Grind.{elements}
 use Rattle.std.proofs.lemmas.List.Elements.{All-contains, All-nil, All-push, All-take, Contains-append_left, Contains-push}
 use Rattle.std.proofs.lemmas.List.{get_or_default, get_or-map, length-map, take_more}
 use Rattle.std.proofs.lemmas.List.Folds.{Any-from_list_any, list_any-from_Any}
@@ -367,8 +368,7 @@ upto : (points : List Point) → AllPairs IsBefore points → (i j : ℕ) (d : P
     → IsBefore (get_or points i d) (get_or points j d)
 upto points before i j d le within = ⊎_elim
     (λ (less : i < j). before i j d less within)
-    (λ (same : j ≤ i). let e : i ≡ j = omega arith in subst (λ (k : ℕ). IsBefore (get_or points i d) (get_or points k d)) e
-    (record { place = omega arith; node = λ f. omega arith }))
+    (λ (same : j ≤ i). let e : i ≡ j = omega arith in record { place = grind (arith, elements); node = λ f. grind (arith, elements) })
     (cases_lt i j)
 
 abbrev pub none : Point

@@ -1,14 +1,14 @@
 -- The points of nodes, in a list and in order.
-use Rattle.std.proofs.Common.{ℕ, ◌≡◌, ◌<◌, ◌≤◌, ◌+◌, ◌-◌, Bool, true, ltb, if◌then◌else◌, List, [], length, get_or, map, arith, sym, ap, ◌∙◌, subst, refl, ⊎_elim, false, Some}
+use Rattle.std.proofs.Common.{ℕ, ◌≡◌, ◌<◌, ◌≤◌, ◌+◌, ◌-◌, Bool, true, ltb, if◌then◌else◌, List, length, get_or, map, arith, sym, ap, subst, refl, false, Some}
 use Rattle.std.specs.List.{All, AllPairs, Contains}
 use Rattle.std.specs.List.Sorted.{IsNonDecreasingBy, IsPermutation, IsSorted}
 use Rattle.std.specs.Ordering.{nat_cmp, is_lt, is_some_and, ordering_then, partial_ordering_then}
 use Rattle.std.specs.declared.cmp.Ordering.{Ordering}
-use Rattle.std.proofs.lemmas.Bool.{cases_lt}
 use Rattle.std.proofs.lemmas.Bool.Decides.{nat_tests}
 use Rattle.std.proofs.lemmas.Cmp.{then_total, on_total, nat_cmp_total}
 use Rattle.std.proofs.lemmas.List.{get_or_default, get_or_past, get_or-map, length-map}
 use Rattle.std.proofs.lemmas.List.Sorted.{All-permutation, Contains-permutation, sorted_far, ranks_by}
+use Rattle.std.proofs.lemmas.Grind.{elements}
 use Rattle.std.proofs.lemmas.List.FromFn.{length-map-range_with_len, get_or-map-range_with_len}
 use borrow.Author.Tests.{ltb-true, ltb-false}
 use Rattle.hash_ring.specs.declared.Point.{Point}
@@ -20,12 +20,7 @@ Pairs = List (List ℕ × ℕ)
 
 -- a node that has a point is there
 pub is_there : (hash : List ℕ → ℕ) (nodes : Pairs) (i place : ℕ) → IsPointOf hash (node_at nodes i) place → i < length nodes
-is_there hash nodes i place of = ⊎_elim
-    (λ (low : i < length nodes). low)
-    (λ (high : length nodes ≤ i).
-    let none : (node_at nodes i).1 ≡ 0 = ap (λ node. node.1) (get_or_past nodes i ([], 0) high) in
-    absurd (omega (arith, of.below)))
-    (cases_lt i (length nodes))
+is_there hash nodes i place of = grind (arith, elements, get_or_past, of.below)
 
 module _ (hash : List ℕ → ℕ) where
   -- a point of a node is among the node's points, and only such are
@@ -33,10 +28,7 @@ module _ (hash : List ℕ → ℕ) where
       → Contains (points_of hash node i) (record { place = place; node = i })
   among node i place of =
       let nth = λ (k : ℕ). let p : Point = record { place = point hash node.0 k; node = i } in p in
-      let here : (d : Point) → get_or (points_of hash node i) of.number d ≡ record { place = place; node = i } =
-      λ d. get_or-map-range_with_len nth 0 node.1 of.number of.number d of.below (omega arith)
-      ∙ (λ j. record { place = sym of.is j; node = i }) in
-      (of.number, omega (arith, of.below, length-map-range_with_len nth 0 node.1), here _)
+      (of.number, omega (arith, of.below, length-map-range_with_len nth 0 node.1), grind (arith, elements, of.is, of.below, get_or-map-range_with_len))
 
   pub each : (node : List ℕ × ℕ) (i : ℕ) → All (λ p. (p.node ≡ i) × IsPointOf hash node p.place) (points_of hash node i)
   each node i k d below =
@@ -77,13 +69,7 @@ pub before_if_not_less : (a b : Point) → is_less a b ≡ false → IsBefore b 
 before_if_not_less a b e = record { place = grind (arith, nat_tests); node = λ same. grind (arith, nat_tests) }
 
 pub before_both : (a b c : Point) → IsBefore a b → IsBefore b c → IsBefore a c
-before_both a b c p q = record {
-  place = omega (arith, p.place, q.place);
-  node = λ same.
-      let ab : a.place ≡ b.place = omega (arith, p.place, q.place) in
-      let bc : b.place ≡ c.place = omega (arith, p.place, q.place) in
-      omega (arith, p.node ab, q.node bc);
-}
+before_both a b c p q = record { place = omega (arith, p.place, q.place); node = λ same. grind arith }
 
 -- what keeps the order of two points keeps that of all
 pub mapped_in_order : (f : Point → Point) → ((p q : Point) → IsBefore p q → IsBefore (f p) (f q)) → (points : List Point)
@@ -95,11 +81,7 @@ mapped_in_order f keeps points before i j d less within =
 
 -- no place is above a later one
 pub places_rise : (points : List Point) → AllPairs IsBefore points → IsNonDecreasingBy (λ p. p.place) points
-places_rise points before i j d upto within = ⊎_elim
-    (λ (less : i < j). (before i j d less within).place)
-    (λ (same : j ≤ i). let e : i ≡ j = omega arith in subst (λ (k : ℕ). (get_or points i d).place ≤ (get_or points k d).place) e
-    (omega arith))
-    (cases_lt i j)
+places_rise points before i j d upto within = grind (arith, elements)
 
 -- the points below `first` come before the place, and those behind the `size` ones after them don't
 pub record IsWindow (points : List Point) (at first size : ℕ) : Type 0 where
