@@ -1,13 +1,14 @@
 -- A ring with a node more, and with one less.
-use Rattle.std.proofs.Common.{ℕ, zero, suc, ◌≡◌, ◌≢◌, ◌+◌, ◌-◌, ◌<◌, ◌≤◌, Bool, true, false, not, cond, ltb, ◌==◌, List, [], ◌∷◌, ◌++◌, map, length, get_or, set, take, drop, arith, sym, ap, ◌∙◌, subst, refl, ⊎_elim}
+use Rattle.std.proofs.Common.{ℕ, suc, ◌≡◌, ◌≢◌, ◌+◌, ◌-◌, ◌<◌, ◌≤◌, Bool, true, false, not, cond, ltb, ◌==◌, List, [], ◌∷◌, ◌++◌, map, length, get_or, set, take, drop, arith, sym, ap, ◌∙◌, subst, refl, ⊎_elim}
 use Rattle.std.specs.List.{All, AllPairs, Contains, filter, insert, remove}
 use Rattle.std.proofs.lemmas.Bool.{cases_eq}
 use Rattle.std.proofs.lemmas.Bool.Decides.{Decides-eqb, nat_tests}
 use Rattle.std.proofs.lemmas.Grind.{common_steps, elements, moves}
 use Rattle.std.proofs.lemmas.List.{map-append, drop_all, take-map, take_all, drop-map, get_or-map, length-map}
 use Rattle.std.proofs.lemmas.List.Edits.{map_over_more, get_or-insert_at}
-use Rattle.std.proofs.lemmas.List.Elements.{Contains-append_left, Contains-append_right, All-append, All-drop, All-filter, All-head, All-map, All-tail, All-take, filter_passes}
+use Rattle.std.proofs.lemmas.List.Elements.{All-contains, Contains-append_cases, Contains-append_left, Contains-append_right, All-append, All-drop, All-filter, All-head, All-map, All-tail, All-take, filter_passes}
 use Rattle.std.proofs.lemmas.List.Kept.{AllPairs-filter}
+use Rattle.std.proofs.lemmas.List.Sorted.{Contains-permutation, IsPermutation-filter_both}
 use Rattle.hash_ring.specs.declared.Node.{Node}
 use Rattle.hash_ring.specs.declared.Point.{Point}
 use Rattle.hash_ring.specs.Ring.{IsPointOf}
@@ -61,17 +62,12 @@ opened_other : (at i : ℕ) → cond (ltb i at) i (i + 1) ≢ at
 opened_other at i is = grind (arith, nat_tests)
 
 in_filter : (p : Point → Bool) (xs : List Point) (x : Point) → p x ≡ true → Contains xs x → Contains (filter p xs) x
-in_filter p [] x e c = absurd (omega (arith, c.1))
-in_filter p (y ∷ xs) x e (zero, l, is) =
-    let h : p y ≡ true = ap p is ∙ e in
-    subst (λ b. Contains (cond b (y ∷ filter p xs) (filter p xs)) x) (sym h) (0, omega arith, is)
-in_filter p (y ∷ xs) x e (suc k, l, is) =
-    let rest = in_filter p xs x e (k, omega arith, is) in
-    elim (p y) as (λ b. Contains (cond b (y ∷ filter p xs) (filter p xs)) x) [
-      | true ↦
-          (suc rest.0, omega (arith, rest.1), rest.2)
-      | false ↦ rest
-    ]
+in_filter p xs x e c =
+    let q = λ (y : Point). not (p y) in
+    ⊎_elim
+    (λ kept. kept)
+    (λ (lost : Contains (filter q xs) x). let no = All-contains (λ y. q y ≡ true) (filter q xs) x (filter_passes q xs) lost in cc)
+    (Contains-append_cases (filter p xs) (filter q xs) x (Contains-permutation xs _ x (IsPermutation-filter_both p q (λ y. refl) xs) c))
 
 in_map : (f : Point → Point) (xs : List Point) (x : Point) → Contains xs x → Contains (map f xs) (f x)
 in_map f xs x c = (c.0, omega (arith, c.1, length-map xs f), get_or-map f xs c.0 x (f x) c.1 ∙ ap f c.2)

@@ -1,5 +1,5 @@
 -- Nodes in the order of their names.
-use Rattle.std.proofs.Common.{ℕ, zero, suc, ◌≡◌, ◌≢◌, ◌+◌, ◌<◌, ◌≤◌, T, Bool, true, false, not, cond, ◌&&◌, List, [], ◌∷◌, length, get_or, Some, None, Result, Ok, Err, arith, sym, ap, ◌∙◌, subst, refl, ⊎_elim}
+use Rattle.std.proofs.Common.{ℕ, zero, suc, ◌≡◌, ◌≢◌, ◌+◌, ◌<◌, ◌≤◌, T, Bool, true, false, not, cond, ◌&&◌, List, [], ◌∷◌, length, get_or, Option, Some, None, Result, Ok, Err, arith, sym, ap, ◌∙◌, subst, refl, ⊎_elim}
 use Rattle.std.specs.List.{IsAllAdjacentAnswer, IsDistinct, insert, remove}
 use Rattle.std.specs.Prelude.{◌↔◌, IsTrue, map, reverse}
 use Rattle.std.specs.List.Sorted.{IsPermutation, IsSorted, IsBinarySearchResult, IsSearchInRange, IsSortedBy}
@@ -258,13 +258,6 @@ tail_gap e es name i gap = record {
   greater = λ k l m. gap.greater (suc k) (omega arith) (omega arith);
 }
 
-start_gap : (e : List ℕ × ℕ) (es : Pairs) (name : List ℕ) → IsGapAt (e ∷ es) name 0 → IsGapAt es name 0
-start_gap e es name gap = record {
-  within = omega arith;
-  less = λ k l. absurd (omega arith);
-  greater = λ k l m. gap.greater (suc k) (omega arith) (omega arith);
-}
-
 put_at : (es : Pairs) (name : List ℕ) (w i : ℕ) → IsGapAt es name i → put by_bytes name w es ≡ insert es i (name, w)
 put_at [] name w zero gap = refl
 put_at [] name w (suc i) gap = absurd (omega (arith, gap.within))
@@ -277,13 +270,17 @@ put_at (e ∷ es) name w (suc i) gap =
     ∙ ap (λ rest. e ∷ rest) (put_at es name w i (tail_gap e es name i gap))
 
 not_found : (es : Pairs) (name : List ℕ) (i : ℕ) → IsGapAt es name i → find by_bytes name es ≡ None
-not_found [] name i gap = refl
-not_found (e ∷ es) name zero gap =
-    let less : by_bytes name e.0 ≡ Less = back_greater e.0 name (gap.greater 0 (omega arith) (omega arith)) in
-    ap (λ r. cond (is_eq r) (Some e.1) (find by_bytes name es)) less ∙ not_found es name 0 (start_gap e es name gap)
-not_found (e ∷ es) name (suc i) gap =
-    let more : by_bytes name e.0 ≡ Greater = back_less e.0 name (gap.less 0 (omega arith)) in
-    ap (λ r. cond (is_eq r) (Some e.1) (find by_bytes name es)) more ∙ not_found es name i (tail_gap e es name i gap)
+not_found es name i gap = by_weight (find by_bytes name es) refl
+  where
+    by_weight : (o : Option ℕ) → find by_bytes name es ≡ o → find by_bytes name es ≡ None
+    by_weight None e = e
+    by_weight (Some w) e =
+        let f = found_where es name w e in
+        let equal : by_bytes (node_at es f.i).0 name ≡ Equal = ap (λ (e : List ℕ × ℕ). by_bytes e.0 name) f.is ∙ itself name in
+        ⊎_elim
+        (λ (low : f.i < i). let less = gap.less f.i low in cc)
+        (λ (high : i ≤ f.i). let greater = gap.greater f.i high f.below in cc)
+        (cases_lt f.i i)
 
 -- every name but this one
 abbrev other : List ℕ → List ℕ → Bool

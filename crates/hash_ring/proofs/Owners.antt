@@ -18,6 +18,8 @@ use Rattle.std.proofs.lemmas.List.{get_or_default, get_or-map, length-map, take_
 use Rattle.std.proofs.lemmas.List.Folds.{Any-from_list_any, list_any-from_Any}
 use Rattle.std.proofs.lemmas.List.Kept.{AllPairs-cons}
 use Rattle.hashers.proofs.TextMapLemmas.{get_remove, get_remove_other, get_remove_same, not_same, same, same_itself, same_key}
+use Rattle.std.proofs.lemmas.Cmp.{eq_by_cmp_equiv}
+use Rattle.std.proofs.lemmas.Map.Views.{Contains-from_any, list_any-from_Contains}
 use Rattle.hashers.proofs.TextMapLemmas.{alike as same_if_alike}
 use Rattle.hash_ring.specs.declared.Node.{Node}
 use Rattle.hash_ring.specs.declared.Point.{Point}
@@ -220,15 +222,11 @@ pub record AreRefusedRound (hash : List ℕ → ℕ) (nodes : Nodes) (at : ℕ) 
   pub refused : All refuses names
 
 among_or_new : (name : List ℕ) (names : List (List ℕ)) → Contains names name ⊎ IsNew name names
-among_or_new name [] = inr (new_of_none name)
-among_or_new name (a ∷ names) = ⊎_elim
-    (λ c. inl (suc c.0, omega (arith, c.1), c.2))
-    (λ new. elim (same a name) as (λ b. same a name ≡ b → Contains (a ∷ names) name ⊎ IsNew name (a ∷ names)) [
-      | true ↦ λ e. inl (0, omega arith, same_key a name e)
-      | false ↦ λ e. inr (new_of_more a name names
-          (λ is. let yes : same a name ≡ true = ap (same a) is ∙ same_itself a in cc) new)
-    ] refl)
-    (among_or_new name names)
+among_or_new name names = elim (list_any (same name) names) as
+    (λ b. list_any (same name) names ≡ b → Contains names name ⊎ IsNew name names) [
+      | true ↦ λ e. inl (Contains-from_any same_key name names e)
+      | false ↦ λ e. inr (λ c. let yes = list_any-from_Contains (eq_by_cmp_equiv nat_list_cmp_total) name names c in cc)
+    ] refl
 
 owners_take : (hash : List ℕ → ℕ) (nodes : Nodes) (at : ℕ) (names : List (List ℕ)) (n : ℕ) → AreOwners hash nodes at names
     → AreOwners hash nodes at (take n names)
