@@ -1,10 +1,11 @@
 -- How many places of the ring each node owns.
-use Rattle.std.proofs.Common.{ℕ, ◌≡◌, ◌≢◌, ◌+◌, ◌-◌, ◌*◌, replicate, ◌<◌, ◌≤◌, ◌^◌, cond, sum, T, slice_get, Some, List, [], ◌∷◌, ◌++◌, map, length, get_or, set, arith, sym, ap, ◌∙◌, subst, refl, ⊎_elim, get_or-set_same, get_or-set_other}
+use Rattle.std.proofs.Common.{ℕ, ◌≡◌, ◌≢◌, ◌+◌, ◌-◌, ◌*◌, replicate, ◌<◌, ◌≤◌, ◌^◌, cond, sum, T, slice_get, Some, List, [], ◌∷◌, ◌++◌, map, length, get_or, set, arith, sym, ap, ◌∙◌, subst, refl, ⊎_elim}
 use Rattle.std.specs.List.{sum_by}
 use Rattle.std.specs.FinMap.{is_sorted}
 use Rattle.std.proofs.lemmas.Bool.{cases_eq, cases_lt}
 use Rattle.std.proofs.lemmas.Bool.Decides.{nat_tests}
 use Rattle.std.proofs.lemmas.List.{get_or-replicate, length-replicate, get_or-map, get_or_default, length-map, length-set, same_lists}
+use Rattle.std.proofs.lemmas.Grind.{elements}
 use Rattle.std.proofs.lemmas.List.Folds.{sum_by-replicate}
 use Rattle.std.proofs.lemmas.List.Sums.{sum_by-append, sum_by-cons, sum_by-set}
 use Rattle.hashers.proofs.TextMapLemmas.{not_same, same, same_itself}
@@ -73,9 +74,6 @@ one_stretch_more es sorted stretches shares next n from to so_far below upto_it 
     let s : Stretch = record { owner = (node_at es n).0; from = from; to = to } in
     let there : n < length shares = omega (arith, so_far.long) in
     let differ = rising_differ es sorted in
-    let at_n : get_or next n 0 ≡ get_or shares n 0 + (to - from) = ap (λ xs. get_or xs n 0) is ∙ get_or-set_same shares n _ 0 there in
-    let at_other : (j : ℕ) → j ≢ n → get_or next j 0 ≡ get_or shares j 0 =
-    λ j ne. ap (λ xs. get_or xs j 0) is ∙ get_or-set_other shares n j _ 0 ne in
     record {
       long = ap length is ∙ length-set shares n _ ∙ so_far.long;
       each = λ j l. ⊎_elim
@@ -83,34 +81,22 @@ one_stretch_more es sorted stretches shares next n from to so_far below upto_it 
           let mine : its (node_at es j).0 s ≡ to - from =
           ap (λ b. cond b (to - from) 0)
           (ap (λ (k : ℕ). same (node_at es j).0 (node_at es k).0) (sym here) ∙ same_itself (node_at es j).0) in
-          ap (λ (k : ℕ). get_or next k 0) here ∙ at_n ∙ ap (λ (k : ℕ). get_or shares k 0 + (to - from)) (sym here)
-          ∙ omega (arith, so_far.each j l, mine, share_push stretches s (node_at es j).0))
+          grind (arith, elements, is, so_far.each j l, mine, share_push stretches s (node_at es j).0))
           (λ (ne : j ≢ n).
           let apart : (node_at es j).0 ≢ (node_at es n).0 = λ e. ⊎_elim
           (λ (less : j < n). differ j n ([], 0) less below e)
           (λ (more : n ≤ j). differ n j ([], 0) (omega arith) l (sym e))
           (cases_lt j n) in
           let not_mine : its (node_at es j).0 s ≡ 0 = ap (λ b. cond b (to - from) 0) (not_same (node_at es j).0 (node_at es n).0 apart) in
-          at_other j ne ∙ omega (arith, so_far.each j l, not_mine, share_push stretches s (node_at es j).0))
+          grind (arith, elements, is, so_far.each j l, not_mine, share_push stretches s (node_at es j).0))
           (cases_eq j n);
-      total =
-          let moved : sum_by (λ x. x) (set shares n (get_or shares n 0 + (to - from))) + get_or shares n 0 ≡ sum_by (λ x. x) shares +
-          (get_or shares n 0 + (to - from)) =
-          sum_by-set (λ x. x) shares n (get_or shares n 0 + (to - from)) 0 there in
-          let whole : sum next ≡ sum_by (λ x. x) (set shares n (get_or shares n 0 + (to - from))) = ap sum is in
-          omega (arith, whole, moved, so_far.total);
+      total = let moved = sum_by-set (λ x. x) shares n (get_or shares n 0 + (to - from)) 0 there in
+          omega (arith, ap sum is, moved, so_far.total);
     }
 
 pub first_read : (points : List Point) (p : Point) → Some p ≡ slice_get points 0 → (0 < length points) × (p ≡ get_or points 0 p)
 first_read [] p e = cc
 first_read (q ∷ points) p e = (omega arith, cc)
-
--- the node of a first point is there
-pub node_there : (hash : List ℕ → ℕ) (es : Pairs) (points : List Point) → IsRing hash es points → (p : Point) → 0 < length points
-    → p ≡ get_or points 0 p → p.node < length es
-node_there hash es points ring p some is =
-    let there = is_there hash es (get_or points 0 p).node (get_or points 0 p).place (ring.just.real 0 p some) in
-    subst (λ (q : Point). q.node < length es) (sym is) there
 
 -- the shares of the places before `from`, which is behind some points and not behind the next
 pub record AreSharesUpto (hash : List ℕ → ℕ) (es : Pairs) (points : List Point) (i : ℕ) (shares : List ℕ) (from : ℕ) : Type 0 where
@@ -171,7 +157,7 @@ module _ (hash : List ℕ → ℕ) (es : Pairs) (points : List Point) (ring : Is
       → was ≡ get_or shares p.node was → next ≡ set shares p.node (was + (2 ^ 64 - from))
       → AreShares hash (nodes_of es) next × (sum next ≡ 2 ^ 64)
   last_places p all some first small read is =
-      let there = node_there hash es points ring p some first in
+      let there = subst (λ (q : Point). q.node < length es) (sym first) (is_there hash es _ _ (ring.just.real 0 p some)) in
       let its : Stretch = record { owner = (node_at es p.node).0; from = from; to = 2 ^ 64 } in
       let stretches = so_far.stretches ++ its ∷ [] in
       let now : was ≡ get_or shares p.node 0 = read ∙ get_or_default shares p.node was 0 (omega (arith, there, so_far.of.long)) in
