@@ -32,20 +32,14 @@ pub mapped_more : (f : Point → Point) (old now : List Point) (i : ℕ) (d y : 
     → set now i y ≡ map f (take (i + 1) old) ++ drop (i + 1) old
 mapped_more f old now i d y below long so_far made = grind (arith, common_steps, map_over_more)
 
-opens_in_order : (come i j : ℕ) → i ≤ j → cond (ltb i come) i (i + 1) ≤ cond (ltb j come) j (j + 1)
-opens_in_order come i j h = grind (arith, nat_tests)
-
 pub opened_in_order : (come : ℕ) (points : List Point) → AllPairs IsBefore points → AllPairs IsBefore (map (opened_up come) points)
 opened_in_order come = mapped_in_order (opened_up come)
-    (λ p q b. record { place = b.place; node = λ e. opens_in_order come p.node q.node (b.node e) })
+    (λ p q b. record { place = b.place; node = λ e. let upto : p.node ≤ q.node = b.node e in grind (arith, nat_tests) })
 
 -- ---- the points of a ring with a node less
-rises : (gone i j : ℕ) → i ≤ j → cond (ltb gone i) (i - 1) i ≤ cond (ltb gone j) (j - 1) j
-rises gone i j h = grind (arith, nat_tests)
-
 still_before : (gone : ℕ) (points : List Point) → AllPairs IsBefore points → AllPairs IsBefore (map (closed_up gone) points)
 still_before gone = mapped_in_order (closed_up gone)
-    (λ p q b. record { place = b.place; node = λ e. rises gone p.node q.node (b.node e) })
+    (λ p q b. record { place = b.place; node = λ e. let upto : p.node ≤ q.node = b.node e in grind (arith, nat_tests) })
 
 -- the one undoes the other
 opened_then_closed : (at i : ℕ) → cond (ltb at (cond (ltb i at) i (i + 1))) (cond (ltb i at) i (i + 1) - 1) (cond (ltb i at) i (i + 1)) ≡ i

@@ -1,4 +1,4 @@
-use Rattle.std.proofs.Common.{◌≡◌, ◌+◌, ◌++◌, ◌∷◌, [], ℕ, List, take, length, arith, ap, sym, ◌∙◌, append_assoc}
+use Rattle.std.proofs.Common.{◌≡◌, ◌+◌, ◌++◌, ◌∷◌, [], ℕ, List, take, length, arith, ap, ◌∙◌, append_assoc}
 use Rattle.std.proofs.Math.Seq.{take-append_seam}
 use Rattle.std.proofs.lemmas.List.FromFn.{map-range_with_len_more}
 use Rattle.std.specs.Hash.{le_bytes}
@@ -12,10 +12,8 @@ one_more : (hash : List ℕ → ℕ) (name : List ℕ) (k i : ℕ) (points now :
     → now ++ record { place = place; node = i } ∷ [] ≡ points ++ points_of hash (name, k + 1) i
 one_more hash name k i points now place so_far is =
     let nth = λ (j : ℕ). let p : Point = record { place = point hash name j; node = i } in p in
-    let same : (p : Point) → p ≡ nth k → now ++ p ∷ [] ≡ points ++ points_of hash (name, k + 1) i =
-    λ p e. (λ j. so_far j ++ e j ∷ []) ∙ append_assoc points (points_of hash (name, k) i) (nth k ∷ [])
-    ∙ ap (λ ps. points ++ ps) (sym (map-range_with_len_more nth 0 k k (omega arith))) in
-    same (record { place = place; node = i }) (λ j. record { place = is j; node = i })
+    let more = map-range_with_len_more nth 0 k k (omega arith) in
+    grind (arith, so_far, is, more, append_assoc)
 
 pub loop-number-preserved : goal.loop-number-preserved
 unfolding le_bytes
