@@ -1,5 +1,6 @@
 use Rattle.std.proofs.Common.{◌≡◌, ◌<◌, ◌+◌, ◌++◌, ◌∷◌, [], ℕ, List, take, length, get_or, arith, ap, sym, ◌∙◌, subst}
 use Rattle.std.proofs.lemmas.List.{take_more, take_all, map-append, length-take-le, length-map}
+use Rattle.std.proofs.lemmas.Grind.{common_steps}
 use Rattle.hash_ring.specs.declared.Node.{Node}
 use Rattle.hash_ring.specs.declared.Point.{Point}
 use Rattle.hash_ring.specs.Points.{ArePoints, pair_of, pairs, points_of}
@@ -15,9 +16,7 @@ next : (hash : List ℕ → ℕ) (nodes : List Node) (i : ℕ) (node : Node) (po
 next hash nodes i node points now below read so_far is =
     let front = pairs (take i nodes) in
     let long : length front ≡ i = length-map (take i nodes) pair_of ∙ length-take-le i nodes (omega arith) in
-    let all : pairs (take (i + 1) nodes) ≡ front ++ pair_of node ∷ [] =
-    ap pairs (take_more nodes i node below) ∙ map-append pair_of (take i nodes) (get_or nodes i node ∷ [])
-    ∙ (λ j. front ++ pair_of (sym read j) ∷ []) in
+    let all : pairs (take (i + 1) nodes) ≡ front ++ pair_of node ∷ [] = grind (arith, common_steps, read) in
     subst (λ nodes. ArePoints hash nodes now) (sym all)
     (subst (ArePoints hash (front ++ pair_of node ∷ [])) (sym is)
     (subst (λ (k : ℕ). ArePoints hash (front ++ pair_of node ∷ []) (points ++ points_of hash (pair_of node) k)) long

@@ -34,6 +34,7 @@ loop-steps-preserved g c =
     let is =
     name_read hash c.args.nodes.now points c.requires c.first_from-first.result steps c.index_round.result _ name.now
     c.index_round.ensures.in_range c.index_round.ensures.value c.as_slice-name.ensures.value in
+    let long = length-map old.items (λ (name : Bor (List ℕ)). name.now) in
     let asked : texts c.deref.result.now ≡ names = ap texts c.deref.ensures.value in
     elim c.if-not-is_among.branch [
       | then-not-is_among+in_ok-push w ↦
@@ -46,15 +47,7 @@ loop-steps-preserved g c =
             round = subst (λ names. AreNamesRound hash (ring_of c.args.nodes.now) c.args.place
                 (spot (pairs c.args.nodes.now) points c.first_from-first.result) names (steps + 1)) (sym now)
                 (round_new round name.now steps c.loop-steps-test.true is names so_far.round new);
-            few = subst (λ names. length names ≤ c.args.n) (sym now)
-                (omega (
-                  arith,
-                  length-append names (name.now ∷ []),
-                  length-map old.items (λ (name : Bor (List ℕ)). name.now),
-                  so_far.few,
-                  c.len.ensures,
-                  old.ok.0,
-                ));
+            few = omega (arith, ap length now, length-append names (name.now ∷ []), so_far.few, c.len.ensures, long, old.ok.0);
           }
       | else-not-is_among w ↦
           let now : texts c.if-not-is_among.names.items ≡ names = ap (λ (v : Vec (Bor (List ℕ)) Global). texts v.items) w.names-is in
@@ -63,7 +56,7 @@ loop-steps-preserved g c =
             round = subst (λ names. AreNamesRound hash (ring_of c.args.nodes.now) c.args.place
                 (spot (pairs c.args.nodes.now) points c.first_from-first.result) names (steps + 1)) (sym now)
                 (round_old round name.now steps c.loop-steps-test.true is names so_far.round there);
-            few = subst (λ names. length names ≤ c.args.n) (sym now) so_far.few;
+            few = omega (arith, ap length now, so_far.few);
           }
     ]
 
