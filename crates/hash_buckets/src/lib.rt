@@ -6,7 +6,7 @@ ghost use Rattle.std.specs.Coded.{coded_list, coded_ℕ};
 ghost use Rattle.std.specs.FinMap as map;
 ghost use Rattle.std.specs.List.{position, sum_by};
 ghost use Rattle.std.specs.Str.{bytes_eq};
-ghost use Rattle.hashers.specs.TextMaps.{InsertsCommute, OthersStay};
+ghost use Rattle.text_maps.specs.TextMaps.{InsertsCommute, OthersStay};
 ghost use Rattle.hash_buckets.specs.Table.{Table, table_of, pairs, held, pairs_of_each, number_by, AreBuckets, IsBucket, IsChange, HasEachKeyOnce, value_at};
 ghost use Rattle.hash_buckets.specs.Commands.{reply_to, replies_to, content_after, NeedsMemory, StopsAt};
 

@@ -1,7 +1,7 @@
 -- What moves where a node comes or goes.
 use Rattle.std.proofs.Common.{ℕ, ◌≡◌, true, false, cond, List, None, Some, subst, refl, ap, sym, ◌∙◌}
 use Rattle.std.specs.FinMap as fin
-use Rattle.hashers.proofs.TextMapLemmas.{alike, get_insert, get_remove, removal_undoes_insert, same, same_key}
+use Rattle.text_maps.proofs.TextMapLemmas.{alike, get_insert, get_remove, removal_undoes_insert, same, same_key}
 use Rattle.hash_ring.specs.Ring.{IsOwner, MovesOnlyFrom, MovesOnlyTo, Nodes}
 use Rattle.hash_ring.proofs.Owners.{one_owner, stays}
 

@@ -17,8 +17,8 @@ use Rattle.std.proofs.lemmas.List.{length-map, get_or-map, get_or_default, rever
 use Rattle.std.proofs.lemmas.List.Sorted.{IsPermutation-map, IsPermutation-reverse, searchable_from_sorted}
 use Rattle.std.proofs.lemmas.List.Sums.{fold-append}
 use Rattle.std.proofs.lemmas.Map.Keys.{IsDistinct-IsPermutation, IsDistinct-from_apart, apart_from_distinct}
-use Rattle.hashers.proofs.TextMapLemmas.{alike, not_same, order_does_not_show, removal_of_nothing, same, same_itself, same_key}
-use Rattle.hashers.specs.TextMaps.{KeysDiffer, with_all}
+use Rattle.text_maps.proofs.TextMapLemmas.{alike, not_same, order_does_not_show, removal_of_nothing, same, same_itself, same_key}
+use Rattle.text_maps.specs.TextMaps.{KeysDiffer, with_all}
 use Rattle.hash_ring.specs.declared.Node.{Node}
 use Rattle.hash_ring.specs.Ring.{Nodes}
 use Rattle.hash_ring.specs.Points.{IsGapAt, IsNamedAt, node_at, nodes_of, pair_of, pairs}

@@ -17,10 +17,10 @@ use Rattle.std.proofs.lemmas.List.Elements.{All-contains, All-nil, All-push, All
 use Rattle.std.proofs.lemmas.List.{get_or_default, get_or-map, length-map, take_more}
 use Rattle.std.proofs.lemmas.List.Folds.{Any-from_list_any, list_any-from_Any}
 use Rattle.std.proofs.lemmas.List.Kept.{AllPairs-cons}
-use Rattle.hashers.proofs.TextMapLemmas.{get_remove, get_remove_other, get_remove_same, not_same, same, same_itself, same_key}
+use Rattle.text_maps.proofs.TextMapLemmas.{get_remove, get_remove_other, get_remove_same, not_same, same, same_itself, same_key}
 use Rattle.std.proofs.lemmas.Cmp.{eq_by_cmp_equiv}
 use Rattle.std.proofs.lemmas.Map.Views.{Contains-from_any, list_any-from_Contains}
-use Rattle.hashers.proofs.TextMapLemmas.{alike as same_if_alike}
+use Rattle.text_maps.proofs.TextMapLemmas.{alike as same_if_alike}
 use Rattle.hash_ring.specs.declared.Node.{Node}
 use Rattle.hash_ring.specs.declared.Point.{Point}
 use Rattle.hash_ring.specs.Ring.{AreOwners, IsFirst, IsFirstToPass, without, HasPoint, IsOwner, IsPointOf, Nodes, point, turn}

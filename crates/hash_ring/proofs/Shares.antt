@@ -8,7 +8,7 @@ use Rattle.std.proofs.lemmas.List.{get_or-replicate, length-replicate, get_or-ma
 use Rattle.std.proofs.lemmas.Grind.{elements}
 use Rattle.std.proofs.lemmas.List.Folds.{sum_by-replicate}
 use Rattle.std.proofs.lemmas.List.Sums.{sum_by-append, sum_by-cons, sum_by-set}
-use Rattle.hashers.proofs.TextMapLemmas.{not_same, same, same_itself}
+use Rattle.text_maps.proofs.TextMapLemmas.{not_same, same, same_itself}
 use Rattle.hash_ring.specs.declared.Point.{Point}
 use Rattle.hash_ring.specs.Ring.{AreShares, AreStretches, IsOwner, Nodes, Stretch, share_of}
 use Rattle.hash_ring.specs.Points.{IsRing, index_round, node_at, nodes_of}

@@ -19,7 +19,7 @@ ghost use Rattle.std.specs.List.{All, AllPairs, Contains};
 ghost use Rattle.std.specs.Ordering.{nat_cmp};
 ghost use Rattle.std.specs.List.Sorted.{IsPermutation};
 ghost use Rattle.hashers.specs.Text.{texts};
-ghost use Rattle.hashers.specs.TextMaps.{InsertsCommute, KeysDiffer, OthersStay, with_all};
+ghost use Rattle.text_maps.specs.TextMaps.{InsertsCommute, KeysDiffer, OthersStay, with_all};
 ghost use Rattle.hash_ring.specs.Ring.{Nodes, AreOwners, AreShares, BeginAlike, HandsBack, IsFirstToPass, IsOwner, KeepOrder, MovesOnlyFrom, MovesOnlyTo, OthersKeep, OwnsNothing};
 ghost use Rattle.hash_ring.specs.Points.{AddsPoints, ArePoints, HandsAllBack, IsBefore, IsGapAt, IsNamedAt, IsRing, IsStart, closed_up, index_round, left_without, opened_up, pair_of, pairs, points_of, ring_of};
 

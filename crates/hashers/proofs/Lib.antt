@@ -1,5 +1,4 @@
 pub mod ShortWords
-pub mod TextMapLemmas
 pub mod WordsWritten
 pub use Rattle.hash_laws.proofs.CountLemmas
 pub use Rattle.hash_laws.proofs.SumLemmas

@@ -1,5 +1,4 @@
 pub mod ShortWords
-pub mod TextMaps
 pub use Rattle.hash_bytes.specs.CountedSum
 pub use Rattle.hash_bytes.specs.Fnv
 pub use Rattle.hash_bytes.specs.FnvLaws

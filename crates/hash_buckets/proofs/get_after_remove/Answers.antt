@@ -1,4 +1,4 @@
-use Rattle.hashers.proofs.TextMapLemmas.{get_remove_same, get_remove_other}
+use Rattle.text_maps.proofs.TextMapLemmas.{get_remove_same, get_remove_other}
 use Rattle.hash_buckets.proofs.get_after_remove.Goals as goal
 
 pub returns : goal.returns

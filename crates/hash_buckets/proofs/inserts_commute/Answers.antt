@@ -1,4 +1,4 @@
-use Rattle.hashers.proofs.TextMapLemmas as lemmas
+use Rattle.text_maps.proofs.TextMapLemmas as lemmas
 use Rattle.hash_buckets.proofs.inserts_commute.Goals as goal
 
 pub returns : goal.returns

@@ -1,4 +1,4 @@
-use Rattle.hashers.proofs.TextMapLemmas as lemmas
+use Rattle.text_maps.proofs.TextMapLemmas as lemmas
 use Rattle.hash_ring.proofs.order_does_not_show.Goals as goal
 
 pub returns : goal.returns

@@ -1,4 +1,4 @@
-use Rattle.hashers.proofs.TextMapLemmas.{removal_undoes_insert}
+use Rattle.text_maps.proofs.TextMapLemmas.{removal_undoes_insert}
 use Rattle.hash_ring.proofs.removal_undoes_adding.Goals as goal
 
 pub returns : goal.returns

@@ -1,4 +1,4 @@
-use Rattle.hashers.proofs.TextMapLemmas.{get_insert_same, get_insert_other}
+use Rattle.text_maps.proofs.TextMapLemmas.{get_insert_same, get_insert_other}
 use Rattle.hash_ring.proofs.weights_after_adding.Goals as goal
 
 pub returns : goal.returns

@@ -1,4 +1,4 @@
-use Rattle.hashers.proofs.TextMapLemmas.{get_remove_same, get_remove_other}
+use Rattle.text_maps.proofs.TextMapLemmas.{get_remove_same, get_remove_other}
 use Rattle.hash_ring.proofs.weights_after_removal.Goals as goal
 
 pub returns : goal.returns

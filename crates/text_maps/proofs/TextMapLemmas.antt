@@ -11,7 +11,7 @@ use Rattle.std.specs.FinMap.{get, insert, remove, get-insert, get-remove, same_m
 use Rattle.std.proofs.lemmas.List.Elements.{All-head, All-tail}
 use Rattle.std.proofs.lemmas.List.Sorted.{sum_by-IsPermutation}
 use Rattle.std.proofs.lemmas.List.Sums.{sum_by-cons}
-use Rattle.hashers.specs.TextMaps.{TextMap, InsertsCommute, KeysDiffer, OthersStay, with_all}
+use Rattle.text_maps.specs.TextMaps.{TextMap, InsertsCommute, KeysDiffer, OthersStay, with_all}
 
 abbrev pub same : List ℕ → List ℕ → Bool
 same = eq_by_cmp (slice_cmp nat_cmp)
