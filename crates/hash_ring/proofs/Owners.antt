@@ -409,14 +409,15 @@ module _ (hash : List ℕ → ℕ) (es : Pairs) (points : List Point) (ring : Is
   own : (s : ℕ) → s < length points → IsPointOf hash (node_at es (the s).node) (the s).place
   own s below = ring.just.real (index s) none (there s below)
 
-  -- the steps to an index
-  steps_to : (k : ℕ) → k < length points → (s : ℕ) × (s < length points) × (index s ≡ k)
-  steps_to k below =
+  -- after how many steps a point is reached
+  reached : (k : ℕ) (p : Point) → k < length points → get_or points k p ≡ p → (s : ℕ) × (s < length points) × (the s ≡ p)
+  reached k p below is =
       let n = length points in
       let within : first ≤ n = start.within in
+      let here : (s : ℕ) → index s ≡ k → the s ≡ p = λ s e. ap (λ (k : ℕ). get_or points k none) e ∙ get_or_default points k none p below ∙ is in
       ⊎_elim
-      (λ (low : k < first). (k + (n - first), omega arith, grind (arith, nat_tests)))
-      (λ (high : first ≤ k). (k - first, omega arith, grind (arith, nat_tests)))
+      (λ (low : k < first). (k + (n - first), omega arith, here (k + (n - first)) (grind (arith, nat_tests))))
+      (λ (high : first ≤ k). (k - first, omega arith, here (k - first) (grind (arith, nat_tests))))
       (cases_lt k first)
 
   in_order : (s t : ℕ) → t < length points → index s ≤ index t → turn at (the s).place ≡ turn at (the t).place
@@ -442,9 +443,8 @@ module _ (hash : List ℕ → ℕ) (es : Pairs) (points : List Point) (ring : Is
         let f = found_where es name p.weight (sym (get_is es ring.named name) ∙ p.there) in
         let its : Point = record { place = place; node = f.i } in
         let c = ring.just.all f.i place (subst (λ node. IsPointOf hash node place) (sym f.is) p.point) in
-        let r = steps_to c.0 c.1 in
-        let here : the r.0 ≡ its = ap (λ (k : ℕ). get_or points k none) r.2 ∙ get_or_default points c.0 none its c.1 ∙ c.2 in
-        (r.0, r.1, ap (λ (q : Point). (q.place, (node_at es q.node).0)) here ∙ (λ j. (place, (f.is j).0)));
+        let r = reached c.0 its c.1 c.2 in
+        (r.0, r.1, ap (λ (q : Point). (q.place, (node_at es q.node).0)) r.2 ∙ (λ j. (place, (f.is j).0)));
     each = λ name w e.
         let f = found_where es name w (sym (get_is es ring.named name) ∙ e) in
         let some : 1 ≤ w = subst (λ node. 1 ≤ node.1) f.is (ring.weighed f.i ([], 0) f.below) in
