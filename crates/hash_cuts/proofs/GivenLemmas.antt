@@ -7,17 +7,36 @@ use Rattle.std.proofs.KnownBytes.{Consumes-trans}
 use Rattle.std.proofs.lemmas.Bool.{cases_lt}
 use Rattle.std.proofs.lemmas.List.{append-nil, drop-append-le, drop-take, length-drop, take-append-drop, take-append-le, take_all}
 use Rattle.hash_cuts.specs.Cuts.{Cutting, HasSizes, chunks, first_cut, is_cut}
-use Rattle.hash_cuts.specs.Reading.{CutsAll, CutsRead, GivesFirst, IsBegun, ReadsBehind}
+use Rattle.hash_cuts.specs.Reading.{CutsAll, CutsRead, GivesFirst, IsBegun, ReadsBehind, Takes}
 use Rattle.hash_cuts.proofs.ChunkLemmas.{chunks-first, chunks-none, first_cut-le}
 use Rattle.hash_cuts.proofs.CutLemmas.{first_cut-is, first_cut-from}
 use Rattle.hash_cuts.proofs.InStep.{is_cut-same, own-bytes}
 
-pub gives-none : (cuts : Cutting) (text : List ℕ) (old : List (List ℕ)) → GivesFirst cuts text text old old
-gives-none cuts text old = record {
-  given = [];
-  taken = sym (append-nil old);
-  stay = λ more. refl;
-}
+module _ {S : Type 0} (taken : S → List (List ℕ) → Type 0) where
+  pub takes-none : (old : S) → Takes taken old old []
+  takes-none old before is = subst (taken old) (sym (append-nil before)) is
+
+  -- more chunks
+  takes-more : (old new newer : S) (chunks others : List (List ℕ)) → Takes taken old new chunks → Takes taken new newer others
+      → Takes taken old newer (chunks ++ others)
+  takes-more old new newer chunks others first then before is =
+      subst (taken newer) (append_assoc before chunks others) (then (before ++ chunks) (first before is))
+
+  pub gives-none : (cuts : Cutting) (text : List ℕ) (old : S) → GivesFirst taken cuts text text old old
+  gives-none cuts text old = record {
+    given = [];
+    takes = takes-none old;
+    stay = λ more. refl;
+  }
+
+  -- the sink took nothing since
+  pub gives-kept : (cuts : Cutting) (text rest : List ℕ) (old new newer : S) → GivesFirst taken cuts text rest old new → Takes taken new newer []
+      → GivesFirst taken cuts text rest old newer
+  gives-kept cuts text rest old new newer gives kept = record {
+    given = gives.given;
+    takes = subst (Takes taken old newer) (append-nil gives.given) (takes-more old new newer gives.given [] gives.takes kept);
+    stay = gives.stay;
+  }
 
 module _ (cuts : Cutting) (sizes : HasSizes cuts) where
   -- a chunk that ends before the bytes do, or has as many bytes as may be, ends there whatever comes behind
@@ -42,18 +61,19 @@ module _ (cuts : Cutting) (sizes : HasSizes cuts) where
             }))
       ]
 
+module _ {S : Type 0} (taken : S → List (List ℕ) → Type 0) (cuts : Cutting) (sizes : HasSizes cuts) where
   -- one chunk more
-  pub gives-more : (text rest : List ℕ) (old new newer : List (List ℕ)) → GivesFirst cuts text rest old new → 0 < length rest
+  pub gives-more : (text rest : List ℕ) (old new newer : S) → GivesFirst taken cuts text rest old new → 0 < length rest
       → (first_cut cuts rest < length rest) ⊎ (first_cut cuts rest ≡ cuts.most)
-      → newer ≡ new ++ take (first_cut cuts rest) rest ∷ [] → GivesFirst cuts text (drop (first_cut cuts rest) rest) old newer
-  gives-more text rest old new newer gives some ends is =
+      → Takes taken new newer (take (first_cut cuts rest) rest ∷ []) → GivesFirst taken cuts text (drop (first_cut cuts rest) rest) old newer
+  gives-more text rest old new newer gives some ends takes =
       let n = first_cut cuts rest in
       let le : n ≤ length rest = first_cut-le cuts sizes rest in
       record {
         given = gives.given ++ take n rest ∷ [];
-        taken = is ∙ ap (λ list. list ++ take n rest ∷ []) gives.taken ∙ append_assoc old gives.given (take n rest ∷ []);
+        takes = takes-more taken old new newer gives.given (take n rest ∷ []) gives.takes takes;
         stay = λ more.
-            let same = ends-there rest more ends in
+            let same = ends-there cuts sizes rest more ends in
             let there : 0 < length (rest ++ more) = omega (arith, some, length-append rest more) in
             gives.stay more
             ∙ ap (λ list. gives.given ++ list) (chunks-first cuts sizes (rest ++ more) there
@@ -64,11 +84,11 @@ module _ (cuts : Cutting) (sizes : HasSizes cuts) where
       }
 
   -- bytes behind, and the chunks of the rest with these
-  pub gives-behind : (text rest more rest' : List ℕ) (old new newer : List (List ℕ)) → GivesFirst cuts text rest old new
-      → GivesFirst cuts (rest ++ more) rest' new newer → GivesFirst cuts (text ++ more) rest' old newer
+  gives-behind : (text rest more rest' : List ℕ) (old new newer : S) → GivesFirst taken cuts text rest old new
+      → GivesFirst taken cuts (rest ++ more) rest' new newer → GivesFirst taken cuts (text ++ more) rest' old newer
   gives-behind text rest more rest' old new newer first then = record {
     given = first.given ++ then.given;
-    taken = then.taken ∙ ap (λ list. list ++ then.given) first.taken ∙ append_assoc old first.given then.given;
+    takes = takes-more taken old new newer first.given then.given first.takes then.takes;
     stay = λ others.
         ap (chunks cuts) (append_assoc text more others) ∙ first.stay (more ++ others)
         ∙ ap (λ t. first.given ++ chunks cuts t) (sym (append_assoc rest more others))
@@ -77,54 +97,64 @@ module _ (cuts : Cutting) (sizes : HasSizes cuts) where
   }
 
   -- with the last chunk they are all
-  pub gives-all : (text rest : List ℕ) (old new newer : List (List ℕ)) → GivesFirst cuts text rest old new → IsBegun cuts rest
-      → (length rest ≡ 0 → newer ≡ new) → (0 < length rest → newer ≡ new ++ rest ∷ []) → newer ≡ old ++ chunks cuts text
+  gives-all : (text rest : List ℕ) (old new newer : S) → GivesFirst taken cuts text rest old new → IsBegun cuts rest
+      → (length rest ≡ 0 → Takes taken new newer []) → (0 < length rest → Takes taken new newer (rest ∷ []))
+      → Takes taken old newer (chunks cuts text)
   gives-all text rest old new newer gives begun none one =
       let all : chunks cuts text ≡ gives.given ++ chunks cuts rest =
       ap (chunks cuts) (sym (append-nil text)) ∙ gives.stay [] ∙ ap (λ t. gives.given ++ chunks cuts t) (append-nil rest) in
-      elim (cases_lt 0 (length rest)) [
+      let last : Takes taken new newer (chunks cuts rest) = elim (cases_lt 0 (length rest)) [
         | inl some ↦
             let whole : first_cut cuts rest ≡ length rest = begun.0 in
-            let last : chunks cuts rest ≡ rest ∷ [] =
+            let alone : chunks cuts rest ≡ rest ∷ [] =
             chunks-first cuts sizes rest some
             ∙ ap₂ (λ (c : List ℕ) (list : List (List ℕ)). c ∷ list) (take_all (first_cut cuts rest) rest (omega (arith, whole)))
             (chunks-none cuts (drop (first_cut cuts rest) rest) (omega (arith, whole, length-drop (first_cut cuts rest) rest))) in
-            one some ∙ ap (λ list. list ++ rest ∷ []) gives.taken ∙ append_assoc old gives.given (rest ∷ [])
-            ∙ ap (λ list. old ++ list) (ap (λ list. gives.given ++ list) (sym last) ∙ sym all)
+            subst (Takes taken new newer) (sym alone) (one some)
         | inr empty ↦
-            none (omega (arith, empty)) ∙ gives.taken
-            ∙ ap (λ list. old ++ list) (sym (append-nil gives.given)
-            ∙ ap (λ list. gives.given ++ list) (sym (chunks-none cuts rest (omega (arith, empty)))) ∙ sym all)
-      ]
+            subst (Takes taken new newer) (sym (chunks-none cuts rest (omega (arith, empty)))) (none (omega (arith, empty)))
+      ] in
+      subst (Takes taken old newer) (sym all) (takes-more taken old new newer gives.given (chunks cuts rest) gives.takes last)
 
--- more was read, and the sink was given the first chunks of what was left with it
-pub reads-first : (cuts : Cutting) → HasSizes cuts → (left mid left' : Option (List ℕ)) (old between new : List (List ℕ)) (bytes count : ℕ) (rest whole rest' : List ℕ)
-    → CutsRead cuts left mid old between bytes rest → ReadsBehind rest whole mid left' count → GivesFirst cuts whole rest' between new
-    → CutsRead cuts left left' old new (bytes + count) rest'
-reads-first cuts sizes left mid left' old between new bytes count rest whole rest' before more gives = record {
-  text = before.text ++ more.bytes;
-  read = Consumes-trans left mid left' before.text more.bytes before.read more.read;
-  count = length-append before.text more.bytes ∙ omega (arith, before.count, more.length_is);
-  gives = gives-behind cuts sizes before.text rest more.bytes rest' old between new before.gives
-      (subst (λ t. GivesFirst cuts t rest' between new) more.stands gives);
-}
+  -- more was read, and the sink was given the first chunks of what was left with it
+  pub reads-first : (left mid left' : Option (List ℕ)) (old between new : S) (bytes count : ℕ) (rest whole rest' : List ℕ)
+      → CutsRead taken cuts left mid old between bytes rest → ReadsBehind rest whole mid left' count
+      → GivesFirst taken cuts whole rest' between new → CutsRead taken cuts left left' old new (bytes + count) rest'
+  reads-first left mid left' old between new bytes count rest whole rest' before more gives = record {
+    text = before.text ++ more.bytes;
+    read = Consumes-trans left mid left' before.text more.bytes before.read more.read;
+    count = length-append before.text more.bytes ∙ omega (arith, before.count, more.length_is);
+    gives = gives-behind before.text rest more.bytes rest' old between new before.gives
+        (subst (λ t. GivesFirst taken cuts t rest' between new) more.stands gives);
+  }
+
+  -- all was read, and the last chunk given
+  pub reads-all : (left left' : Option (List ℕ)) (old new newer : S) (bytes : ℕ) (rest : List ℕ)
+      → CutsRead taken cuts left left' old new bytes rest → IsAtEnd left' → IsBegun cuts rest → (length rest ≡ 0 → Takes taken new newer [])
+      → (0 < length rest → Takes taken new newer (rest ∷ [])) → CutsAll taken cuts left left' old newer bytes
+  reads-all left left' old new newer bytes rest before end begun none one = record {
+    text = before.text;
+    read = before.read;
+    end = end;
+    count = before.count;
+    takes = gives-all before.text rest old new newer before.gives begun none one;
+  }
+
+  -- the sink took nothing since
+  pub reads-kept : (left left' : Option (List ℕ)) (old new newer : S) (bytes : ℕ) (rest : List ℕ)
+      → CutsRead taken cuts left left' old new bytes rest → Takes taken new newer [] → CutsRead taken cuts left left' old newer bytes rest
+  reads-kept left left' old new newer bytes rest read kept = record {
+    text = read.text;
+    read = read.read;
+    count = read.count;
+    gives = gives-kept taken cuts read.text rest old new newer read.gives kept;
+  }
 
 -- nothing was read
-pub reads-none : (cuts : Cutting) (left : Option (List ℕ)) (old : List (List ℕ)) → CutsRead cuts left left old old 0 []
-reads-none cuts None old = record { text = []; read = tt; count = refl; gives = gives-none cuts [] old }
-reads-none cuts (Some text) old = record { text = []; read = refl; count = refl; gives = gives-none cuts [] old }
-
--- all was read, and the last chunk given
-pub reads-all : (cuts : Cutting) → HasSizes cuts → (left left' : Option (List ℕ)) (old new newer : List (List ℕ)) (bytes : ℕ) (rest : List ℕ)
-    → CutsRead cuts left left' old new bytes rest → IsAtEnd left' → IsBegun cuts rest → (length rest ≡ 0 → newer ≡ new)
-    → (0 < length rest → newer ≡ new ++ rest ∷ []) → CutsAll cuts left left' old newer bytes
-reads-all cuts sizes left left' old new newer bytes rest before end begun none one = record {
-  text = before.text;
-  read = before.read;
-  end = end;
-  count = before.count;
-  taken = gives-all cuts sizes before.text rest old new newer before.gives begun none one;
-}
+pub reads-none : {S : Type 0} (taken : S → List (List ℕ) → Type 0) (cuts : Cutting) (left : Option (List ℕ)) (old : S)
+    → CutsRead taken cuts left left old old 0 []
+reads-none taken cuts None old = record { text = []; read = tt; count = refl; gives = gives-none taken cuts [] old; }
+reads-none taken cuts (Some text) old = record { text = []; read = refl; count = refl; gives = gives-none taken cuts [] old; }
 
 pub on_err : {A E : Type 0} (P : Type 0) (result : Result A E) → P → OnErr result P
 on_err P (Ok it) holds = tt

@@ -3,10 +3,14 @@ use Rattle.std.specs.Prelude.{ℕ, ◌≡◌, ◌<◌, List, ◌++◌, Option, l
 use Rattle.std.specs.Io.KnownBytes.{Consumes, IsAtEnd}
 use Rattle.hash_cuts.specs.Cuts.{Cutting, chunks, first_cut}
 
--- a sink was given the first chunks of a text, up to the rest: whatever comes behind, these are its first chunks
-pub record GivesFirst (cuts : Cutting) (text rest : List ℕ) (old new : List (List ℕ)) : Type 0 where
+-- a sink took these chunks behind the others
+abbrev pub Takes : {S : Type 0} → (S → List (List ℕ) → Type 0) → S → S → List (List ℕ) → Type 0
+Takes taken old new chunks = (before : List (List ℕ)) → taken old before → taken new (before ++ chunks)
+
+-- a sink took the first chunks of a text, up to the rest: whatever comes behind, these are its first chunks
+pub record GivesFirst {S : Type 0} (taken : S → List (List ℕ) → Type 0) (cuts : Cutting) (text rest : List ℕ) (old new : S) : Type 0 where
   pub given : List (List ℕ)
-  pub taken : new ≡ old ++ given
+  pub takes : Takes taken old new given
   pub stay : (more : List ℕ) → chunks cuts (text ++ more) ≡ given ++ chunks cuts (rest ++ more)
 
 -- no chunk of the bytes ends, but by their end
@@ -20,17 +24,19 @@ pub record ReadsBehind (old new : List ℕ) (left left' : Option (List ℕ)) (co
   pub length_is : length bytes ≡ count
   pub stands : new ≡ old ++ bytes
 
--- so many bytes were read, and the sink was given the first chunks of them, up to the rest
-pub record CutsRead (cuts : Cutting) (left left' : Option (List ℕ)) (old new : List (List ℕ)) (bytes : ℕ) (rest : List ℕ) : Type 0 where
+-- so many bytes were read, and the sink took the first chunks of them, up to the rest
+pub record CutsRead {S : Type 0} (taken : S → List (List ℕ) → Type 0) (cuts : Cutting) (left left' : Option (List ℕ)) (old new : S) (bytes : ℕ)
+    (rest : List ℕ) : Type 0 where
   pub text : List ℕ
   pub read : Consumes left left' text
   pub count : length text ≡ bytes
-  pub gives : GivesFirst cuts text rest old new
+  pub gives : GivesFirst taken cuts text rest old new
 
--- so many bytes were read, which were all, and the sink was given all chunks of them
-pub record CutsAll (cuts : Cutting) (left left' : Option (List ℕ)) (old new : List (List ℕ)) (bytes : ℕ) : Type 0 where
+-- so many bytes were read, which were all, and the sink took all chunks of them
+pub record CutsAll {S : Type 0} (taken : S → List (List ℕ) → Type 0) (cuts : Cutting) (left left' : Option (List ℕ)) (old new : S) (bytes : ℕ)
+    : Type 0 where
   pub text : List ℕ
   pub read : Consumes left left' text
   pub end : IsAtEnd left'
   pub count : length text ≡ bytes
-  pub taken : new ≡ old ++ chunks cuts text
+  pub takes : Takes taken old new (chunks cuts text)

@@ -2,7 +2,7 @@
 ghost use Rattle.std.specs.Prelude.{◌≡◌, ◌≤◌, ◌<◌, ◌+◌, ◌-◌, ◌↔◌, ◌++◌, ◌∷◌, [], ℕ, List, Some, length, take, drop, IfOk, IfErr, OnOk, OnErr, IsTrue, false};
 ghost use Rattle.std.specs.Io.KnownBytes.{IsAtEnd};
 ghost use Rattle.hash_cuts.specs.Cuts.{HasSizes, chunks};
-ghost use Rattle.hash_cuts.specs.Reading.{CutsAll, CutsRead, GivesFirst, IsBegun, ReadsBehind};
+ghost use Rattle.hash_cuts.specs.Reading.{CutsAll, CutsRead, GivesFirst, IsBegun, ReadsBehind, Takes};
 
 use crate::cuts::Cuts;
 use hashers::reader::{Fault, Taken, fill};
@@ -14,13 +14,13 @@ pub trait Sink {
     /// Why a chunk was not taken.
     type Error: Drop;
 
-    /// The chunks that were taken, in their order.
-    ghost taken: { Self → List (List ℕ) };
+    /// The sink, as it is now, is one that has taken these chunks, in this order.
+    ghost taken: { Self → List (List ℕ) → Type 0 };
 
     /// Takes a chunk behind the others, or fails and takes nothing.
     fn take(&mut self, chunk: &[u8]) -> Result<(), Self::Error>
-        ensures ok { OnOk result (taken self.new ≡ taken self.old ++ chunk.now ∷ []) }
-        ensures err { OnErr result (taken self.new ≡ taken self.old) };
+        ensures ok { OnOk result (Takes taken self.old self.new (chunk.now ∷ [])) }
+        ensures err { OnErr result (Takes taken self.old self.new []) };
 }
 
 /// Why a reader was not cut to its end.
@@ -46,12 +46,10 @@ fn give_first<S: Sink>(
     bytes: &[u8],
     sink: &mut S,
 ) -> Result<usize, Unfinished<S::Error>>
-    ensures gives { IfOk result (λ n. GivesFirst cuts.now bytes.now (drop n bytes.now)
-        (S.taken sink.old) (S.taken sink.new)) }
+    ensures gives { IfOk result (λ n. GivesFirst S.taken cuts.now bytes.now (drop n bytes.now) sink.old sink.new) }
     ensures within { IfOk result (λ n. n ≤ length bytes.now) }
     ensures rest { IfOk result (λ n. IsBegun cuts.now (drop n bytes.now)) }
-    ensures some { OnErr result ((rest : List ℕ) × GivesFirst cuts.now bytes.now rest
-        (S.taken sink.old) (S.taken sink.new)) }
+    ensures some { OnErr result ((rest : List ℕ) × GivesFirst S.taken cuts.now bytes.now rest sink.old sink.new) }
 {
     let most = cuts.most();
     let mut given = 0;
@@ -71,9 +69,9 @@ fn give_first<S: Sink>(
 
 /// Gives the sink the last chunk, unless it is empty.
 fn give_last<S: Sink>(chunk: &[u8], sink: &mut S) -> Result<(), Unfinished<S::Error>>
-    ensures none { length chunk.now ≡ 0 → S.taken sink.new ≡ S.taken sink.old }
-    ensures one { 0 < length chunk.now → OnOk result (S.taken sink.new ≡ S.taken sink.old ++ chunk.now ∷ []) }
-    ensures err { OnErr result (S.taken sink.new ≡ S.taken sink.old) }
+    ensures none { length chunk.now ≡ 0 → Takes S.taken sink.old sink.new [] }
+    ensures one { 0 < length chunk.now → OnOk result (Takes S.taken sink.old sink.new (chunk.now ∷ [])) }
+    ensures err { OnErr result (Takes S.taken sink.old sink.new []) }
 {
     if chunk.is_empty() {
         return Ok(());
@@ -124,12 +122,12 @@ fn cut_by<R: Read, S: Sink>(
 ) -> Result<Taken, Unfinished<S::Error>>
     requires room { length buffer.old ≡ cuts.now.most }
     requires sizes { HasSizes cuts.now }
-    ensures all { IfOk result (λ taken. IsTrue taken.ended → CutsAll cuts.now
-        (R.remaining r.old) (R.remaining r.new) (S.taken sink.old) (S.taken sink.new) taken.bytes) }
-    ensures first { IfOk result (λ taken. taken.ended ≡ false → (rest : List ℕ) × CutsRead cuts.now
-        (R.remaining r.old) (R.remaining r.new) (S.taken sink.old) (S.taken sink.new) taken.bytes rest) }
-    ensures fault { OnErr result ((bytes : ℕ) × (rest : List ℕ) × CutsRead cuts.now
-        (R.remaining r.old) (R.remaining r.new) (S.taken sink.old) (S.taken sink.new) bytes rest) }
+    ensures all { IfOk result (λ taken. IsTrue taken.ended → CutsAll S.taken cuts.now
+        (R.remaining r.old) (R.remaining r.new) sink.old sink.new taken.bytes) }
+    ensures first { IfOk result (λ taken. taken.ended ≡ false → (rest : List ℕ) × CutsRead S.taken cuts.now
+        (R.remaining r.old) (R.remaining r.new) sink.old sink.new taken.bytes rest) }
+    ensures fault { OnErr result ((bytes : ℕ) × (rest : List ℕ) × CutsRead S.taken cuts.now
+        (R.remaining r.old) (R.remaining r.new) sink.old sink.new bytes rest) }
     ensures within { IfOk result (λ taken. taken.bytes ≤ limit) }
     ensures at_limit { IfOk result (λ taken. (taken.ended ≡ false) ↔ (taken.bytes ≡ limit)) }
 {
@@ -167,16 +165,16 @@ pub fn cut_reader<R: Read, S: Sink>(
     sink: &mut S,
 ) -> Result<Taken, Unfinished<S::Error>>
     // All chunks, if the end was seen;
-    ensures all { IfOk result (λ taken. IsTrue taken.ended → CutsAll cuts.now
-        (R.remaining r.old) (R.remaining r.new) (S.taken sink.old) (S.taken sink.new) taken.bytes) }
+    ensures all { IfOk result (λ taken. IsTrue taken.ended → CutsAll S.taken cuts.now
+        (R.remaining r.old) (R.remaining r.new) sink.old sink.new taken.bytes) }
     // at the limit and after a fault first ones.
-    ensures first { IfOk result (λ taken. taken.ended ≡ false → (rest : List ℕ) × CutsRead cuts.now
-        (R.remaining r.old) (R.remaining r.new) (S.taken sink.old) (S.taken sink.new) taken.bytes rest) }
-    ensures fault { OnErr result ((bytes : ℕ) × (rest : List ℕ) × CutsRead cuts.now
-        (R.remaining r.old) (R.remaining r.new) (S.taken sink.old) (S.taken sink.new) bytes rest) }
+    ensures first { IfOk result (λ taken. taken.ended ≡ false → (rest : List ℕ) × CutsRead S.taken cuts.now
+        (R.remaining r.old) (R.remaining r.new) sink.old sink.new taken.bytes rest) }
+    ensures fault { OnErr result ((bytes : ℕ) × (rest : List ℕ) × CutsRead S.taken cuts.now
+        (R.remaining r.old) (R.remaining r.new) sink.old sink.new bytes rest) }
     // If the reader's bytes are known, all chunks are theirs.
     ensures known { IfOk result (λ taken. IsTrue taken.ended → (text : List ℕ) → R.remaining r.old ≡ Some text
-        → S.taken sink.new ≡ S.taken sink.old ++ chunks cuts.now text) }
+        → Takes S.taken sink.old sink.new (chunks cuts.now text)) }
     ensures within { IfOk result (λ taken. taken.bytes ≤ limit) }
     ensures at_limit { IfOk result (λ taken. (taken.ended ≡ false) ↔ (taken.bytes ≡ limit)) }
 {

@@ -1,5 +1,5 @@
 //! Texts cut into chunks. The lengths of the chunks were computed by another program, from the definitions.
-ghost use Rattle.std.specs.Prelude.{map};
+ghost use Rattle.std.specs.Prelude.{◌≡◌, map};
 
 use crate::tests::{all_hold, same, same_at};
 use cli::rehearsal::Script;
@@ -41,7 +41,7 @@ impl Drop for Kept {
 impl Sink for Kept {
     type Error = AllocError;
 
-    ghost taken = { λ sink. map (λ chunk. chunk.items) sink.chunks.items };
+    ghost taken = { λ sink chunks. map (λ chunk. chunk.items) sink.chunks.items ≡ chunks };
 
     fn take(&mut self, chunk: &[u8]) -> Result<(), AllocError> {
         let copy = Vec::from_slice(self.alloc, chunk)?;

@@ -1,7 +1,7 @@
-use Rattle.std.proofs.Common.{◌≤◌, ◌<◌, ◌+◌, ◌∷◌, [], ◌++◌, ℕ, List, length, take, drop, ap, subst, sym, ◌∙◌, arith}
+use Rattle.std.proofs.Common.{◌≤◌, ◌<◌, ◌+◌, ◌∷◌, [], ℕ, List, length, take, drop, ap, subst, sym, ◌∙◌, arith}
 use Rattle.hash_cuts.proofs.CutLemmas.{first_cut-is}
-use Rattle.hash_cuts.proofs.GivenLemmas.{moved-front, on_err, reads-all, reads-first, reads-none}
-use Rattle.hash_cuts.specs.Reading.{CutsRead, IsBegun}
+use Rattle.hash_cuts.proofs.GivenLemmas.{moved-front, on_err, reads-all, reads-first, reads-kept, reads-none}
+use Rattle.hash_cuts.specs.Reading.{CutsRead, IsBegun, Takes}
 use Rattle.std.proofs.lemmas.List.{length-take}
 use Rattle.std.specs.Io.KnownBytes.{IsAtEnd}
 use Rattle.std.specs.Result.{OnOk}
@@ -9,7 +9,7 @@ use Rattle.hash_cuts.proofs.reader.cut_by.Goals as goal
 
 pub loop-bytes-init : goal.loop-bytes-init
 loop-bytes-init g c = record {
-  cut = reads-none c.args.cuts.now (g.R.Read.remaining c.args.r.now) (g.S.Sink.taken c.args.sink.now);
+  cut = reads-none g.S.Sink.taken c.args.cuts.now (g.R.Read.remaining c.args.r.now) c.args.sink.now;
   begun = (omega (arith, (first_cut-is c.args.cuts.now []).within), omega (arith, c.requires.sizes.0, c.requires.sizes.1, c.requires.sizes.2));
   room = c.requires.room;
   kept = omega arith;
@@ -22,7 +22,7 @@ returns-in_err-given-clause-fault g c =
     on_err _ c.from_residual.result (
       c.loop-bytes.bytes + c.read_behind-count.result.0,
       c.in_err-given.ensures.some.0,
-      reads-first c.args.cuts.now c.requires.sizes _ _ _ _ _ _ _ _ _ _ _ before.cut c.read_behind-count.ensures.read
+      reads-first g.S.Sink.taken c.args.cuts.now c.requires.sizes _ _ _ _ _ _ _ _ _ _ _ before.cut c.read_behind-count.ensures.read
           c.in_err-given.ensures.some.1,
     )
 
@@ -30,7 +30,7 @@ pub returns-in-Err-clause-fault : goal.returns-in-Err-clause-fault
 returns-in-Err-clause-fault g c = (
   c.loop-bytes.bytes + c.read_behind-count.result.0,
   drop c.in_ok-given.given (take (c.loop-bytes.kept + c.read_behind-count.result.0) c.read_behind-count.new.buffer),
-  reads-first c.args.cuts.now c.requires.sizes _ _ _ _ _ _ _ _ _ _ _ c.loop-bytes.invariant.cut c.read_behind-count.ensures.read
+  reads-first g.S.Sink.taken c.args.cuts.now c.requires.sizes _ _ _ _ _ _ _ _ _ _ _ c.loop-bytes.invariant.cut c.read_behind-count.ensures.read
       c.in_ok-given.ensures.gives,
 )
 
@@ -41,10 +41,9 @@ returns-in_err-give_last-clause-fault g c =
     on_err _ c.from_residual-in_err-give_last.result (
       bytes,
       rest,
-      subst (λ (taken : List (List ℕ)). CutsRead c.args.cuts.now (g.R.Read.remaining c.args.r.now)
-          (g.R.Read.remaining c.read_behind-count.new.r) (g.S.Sink.taken c.args.sink.now) taken bytes rest) (sym c.in_err-give_last.ensures.err)
-          (reads-first c.args.cuts.now c.requires.sizes _ _ _ _ _ _ _ _ _ _ _ c.loop-bytes.invariant.cut
-          c.read_behind-count.ensures.read c.in_ok-given.ensures.gives),
+      reads-kept g.S.Sink.taken c.args.cuts.now c.requires.sizes _ _ _ _ _ bytes rest
+          (reads-first g.S.Sink.taken c.args.cuts.now c.requires.sizes _ _ _ _ _ _ _ _ _ _ _ c.loop-bytes.invariant.cut
+          c.read_behind-count.ensures.read c.in_ok-given.ensures.gives) c.in_err-give_last.ensures.err,
     )
 
 pub returns-then-count-room-clause-all : goal.returns-then-count-room-clause-all
@@ -60,11 +59,12 @@ returns-then-count-room-clause-all g c ended =
     let end = subst (λ r. OnOk r (c.read_behind-count.result.0 < c.min-room.result → IsAtEnd (g.R.Read.remaining c.read_behind-count.new.r)))
     c.in_default.is c.read_behind-count.ensures.end c.if-count-room.true in
     let last = c.in_ok-give_last.ensures in
-    reads-all c.args.cuts.now c.requires.sizes _ _ _ _ _ _ rest
-    (reads-first c.args.cuts.now c.requires.sizes _ _ _ _ _ _ _ _ _ _ _ c.loop-bytes.invariant.cut
+    reads-all g.S.Sink.taken c.args.cuts.now c.requires.sizes _ _ _ _ _ _ rest
+    (reads-first g.S.Sink.taken c.args.cuts.now c.requires.sizes _ _ _ _ _ _ _ _ _ _ _ c.loop-bytes.invariant.cut
     c.read_behind-count.ensures.read c.in_ok-given.ensures.gives) end c.in_ok-given.ensures.rest
     (λ none. last.none (ap length front ∙ none))
-    (λ some. last.one (omega (arith, ap length front, some)) ∙ ap (λ t. g.S.Sink.taken c.give_first.new.sink ++ t ∷ []) front)
+    (λ some. subst (λ (t : List ℕ). Takes g.S.Sink.taken c.give_first.new.sink c.give_last.new.sink (t ∷ [])) front
+    (last.one (omega (arith, ap length front, some))))
 
 pub loop-bytes-preserved : goal.loop-bytes-preserved
 loop-bytes-preserved g c =
@@ -79,9 +79,9 @@ loop-bytes-preserved g c =
     c.to_front-kept.ensures.count c.to_front-kept.ensures.kept in
     let room = c.min-room.ensures in
     record {
-      cut = subst (λ (t : List ℕ). CutsRead c.args.cuts.now (g.R.Read.remaining c.args.r.now) (g.R.Read.remaining c.read_behind-count.new.r)
-          (g.S.Sink.taken c.args.sink.now) (g.S.Sink.taken c.give_first.new.sink) (c.loop-bytes.bytes + c.read_behind-count.result.0) t) (sym front)
-          (reads-first c.args.cuts.now c.requires.sizes _ _ _ _ _ _ _ _ _ _ _ before.cut c.read_behind-count.ensures.read
+      cut = subst (λ (t : List ℕ). CutsRead g.S.Sink.taken c.args.cuts.now (g.R.Read.remaining c.args.r.now)
+          (g.R.Read.remaining c.read_behind-count.new.r) c.args.sink.now c.give_first.new.sink (c.loop-bytes.bytes + c.read_behind-count.result.0) t) (sym front)
+          (reads-first g.S.Sink.taken c.args.cuts.now c.requires.sizes _ _ _ _ _ _ _ _ _ _ _ before.cut c.read_behind-count.ensures.read
           c.in_ok-given.ensures.gives);
       begun = subst (λ (t : List ℕ). IsBegun c.args.cuts.now t) (sym front) c.in_ok-given.ensures.rest;
       room = c.to_front-kept.ensures.len ∙ c.read_behind-count.ensures.len ∙ before.room;

@@ -4,11 +4,10 @@ use Rattle.hash_cuts.proofs.reader.cut_by.Given as goal
 
 abbrev pub invariant-loop-bytes : goal.invariant-loop-bytes
 invariant-loop-bytes g l =
-    let taken = g.S.Sink.taken in
     let left = g.R.Read.remaining in
     let rest = take l.kept l.buffer in
     record {
-      cut : CutsRead l.cuts (left l.initial.r) (left l.r) (taken l.initial.sink) (taken l.sink) l.bytes rest;
+      cut : CutsRead g.S.Sink.taken l.cuts (left l.initial.r) (left l.r) l.initial.sink l.sink l.bytes rest;
       begun : IsBegun l.cuts rest;
       room : length l.buffer ≡ l.cuts.most;
       kept : l.kept ≤ length l.buffer;

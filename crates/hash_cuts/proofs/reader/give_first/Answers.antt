@@ -1,11 +1,11 @@
-use Rattle.std.proofs.Common.{◌≡◌, ◌≤◌, ◌<◌, ◌-◌, ◌∷◌, [], ◌⊎◌, ℕ, List, length, take, drop, ◌++◌, inl, inr, ap, subst, sym, ◌∙◌, arith}
+use Rattle.std.proofs.Common.{◌≡◌, ◌≤◌, ◌<◌, ◌-◌, ◌∷◌, [], ◌⊎◌, ℕ, List, length, take, drop, inl, inr, ap, subst, sym, ◌∙◌, arith}
 use Rattle.std.proofs.Math.Path.{ap₂}
 use Rattle.std.proofs.lemmas.List.{drop-drop, length-drop, take_all}
 use Rattle.hash_cuts.specs.Cuts.{Cutting, HasSizes, first_cut}
-use Rattle.hash_cuts.specs.Reading.{GivesFirst}
+use Rattle.hash_cuts.specs.Reading.{GivesFirst, Takes}
 use Rattle.hash_cuts.proofs.ChunkLemmas.{first_cut-le}
 use Rattle.hash_cuts.proofs.CutLemmas.{first_cut-is}
-use Rattle.hash_cuts.proofs.GivenLemmas.{gives-more}
+use Rattle.hash_cuts.proofs.GivenLemmas.{gives-kept, gives-more}
 use Rattle.hash_cuts.proofs.reader.give_first.Goals.{else-n-rest-via-then-n-rest+else-n-most, else-n-rest-via-else-n-rest, else-loop-given-test, then-loop-given-test+then-n-rest+then-n-most}
 use Rattle.hash_cuts.proofs.reader.give_first.Goals as goal
 
@@ -39,10 +39,10 @@ loop-given-preserved g c =
     ] in
     let chunk : take n (take (length bytes - given) rest) ≡ take first rest =
     ap₂ (λ (k : ℕ) (t : List ℕ). take k t) is (rest-is bytes given) in
-    let more = gives-more cuts sizes bytes rest _ _ _ c.loop-given.invariant.gives some ends
-    (c.in_default.ensures.ok ∙ ap (λ (t : List ℕ). g.S.Sink.taken c.loop-given.sink ++ t ∷ []) chunk) in
+    let more = gives-more g.S.Sink.taken cuts sizes bytes rest _ _ _ c.loop-given.invariant.gives some ends
+    (subst (λ (t : List ℕ). Takes g.S.Sink.taken c.loop-given.sink c.take.new.self (t ∷ [])) chunk c.in_default.ensures.ok) in
     record {
-      gives = subst (λ (t : List ℕ). GivesFirst cuts bytes t (g.S.Sink.taken c.args.sink.now) (g.S.Sink.taken c.take.new.self))
+      gives = subst (λ (t : List ℕ). GivesFirst g.S.Sink.taken cuts bytes t c.args.sink.now c.take.new.self)
           (ap (λ k. drop k rest) (sym is) ∙ drop-drop n given bytes) more;
       within = omega (arith, is, first_cut-le cuts sizes rest, length-drop given bytes, c.loop-given.invariant.within);
     }
@@ -67,3 +67,9 @@ returns-clause-rest g c =
             omega (arith, w.if-n-rest.true, len, w.if-n-most.true, c.most-most.ensures.value),
           )
     ]
+
+pub returns-in-Err-clause-some : goal.returns-in-Err-clause-some
+returns-in-Err-clause-some g c = (
+  drop c.loop-given.given c.args.bytes.now,
+  gives-kept g.S.Sink.taken c.args.cuts.now c.args.bytes.now _ _ _ _ c.loop-given.invariant.gives c.in-Err.ensures.err,
+)

@@ -4,9 +4,8 @@ use Rattle.hash_cuts.proofs.reader.give_first.Given as goal
 
 abbrev pub invariant-loop-given : goal.invariant-loop-given
 invariant-loop-given g l =
-    let taken = g.S.Sink.taken in
     record {
-      gives : GivesFirst l.cuts l.bytes (drop l.given l.bytes) (taken l.initial.sink) (taken l.sink);
+      gives : GivesFirst g.S.Sink.taken l.cuts l.bytes (drop l.given l.bytes) l.initial.sink l.sink;
       within : l.given ≤ length l.bytes;
     }
 
