@@ -153,8 +153,8 @@ module _ {S : Type 0} (taken : S → List (List ℕ) → Type 0) (cuts : Cutting
 -- nothing was read
 pub reads-none : {S : Type 0} (taken : S → List (List ℕ) → Type 0) (cuts : Cutting) (left : Option (List ℕ)) (old : S)
     → CutsRead taken cuts left left old old 0 []
-reads-none taken cuts None old = record { text = []; read = tt; count = refl; gives = gives-none taken cuts [] old; }
-reads-none taken cuts (Some text) old = record { text = []; read = refl; count = refl; gives = gives-none taken cuts [] old; }
+reads-none taken cuts None old = record { text = []; read = tt; count = refl; gives = gives-none taken cuts [] old }
+reads-none taken cuts (Some text) old = record { text = []; read = refl; count = refl; gives = gives-none taken cuts [] old }
 
 pub on_err : {A E : Type 0} (P : Type 0) (result : Result A E) → P → OnErr result P
 on_err P (Ok it) holds = tt

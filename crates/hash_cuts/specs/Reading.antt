@@ -1,7 +1,9 @@
 -- What a reader's bytes give a sink of chunks.
-use Rattle.std.specs.Prelude.{ℕ, ◌≡◌, ◌<◌, List, ◌++◌, Option, length}
+use Rattle.std.specs.Prelude.{ℕ, ◌≡◌, ◌<◌, List, ◌++◌, Option, length, ⊤}
 use Rattle.std.specs.Io.KnownBytes.{Consumes, IsAtEnd}
 use Rattle.hash_cuts.specs.Cuts.{Cutting, chunks, first_cut}
+use Rattle.hash_cuts.specs.declared.reader.Unfinished.{Unfinished}
+use Rattle.hash_cuts.specs.declared.reader.Unfinished.TheVariants.{Unread, Refused, NoMemory}
 
 -- a sink took these chunks behind the others
 abbrev pub Takes : {S : Type 0} → (S → List (List ℕ) → Type 0) → S → S → List (List ℕ) → Type 0
@@ -40,3 +42,9 @@ pub record CutsAll {S : Type 0} (taken : S → List (List ℕ) → Type 0) (cuts
   pub end : IsAtEnd left'
   pub count : length text ≡ bytes
   pub takes : Takes taken old new (chunks cuts text)
+
+-- a reading that broke after so many bytes, of which the sink took the first chunks: after a read's error all but the one that was begun
+abbrev pub BreaksAt : {E : Type 0} → Cutting → Unfinished E → ℕ → List ℕ → Type 0
+BreaksAt cuts (Unread fault) bytes rest = (fault.bytes ≡ bytes) × IsBegun cuts rest
+BreaksAt cuts (Refused error) bytes rest = ⊤
+BreaksAt cuts NoMemory bytes rest = ⊤

@@ -1,12 +1,12 @@
 //! The chunks of what a reader gives, the same ones however the reader cuts its bytes.
 ghost use Rattle.std.specs.Prelude.{◌≡◌, ◌≤◌, ◌<◌, ◌+◌, ◌-◌, ◌↔◌, ◌++◌, ◌∷◌, [], ℕ, List, Some, length, take, drop, IfOk, IfErr, OnOk, OnErr, IsTrue, false};
 ghost use Rattle.std.specs.Io.KnownBytes.{IsAtEnd};
-ghost use Rattle.hash_cuts.specs.Cuts.{HasSizes, chunks};
-ghost use Rattle.hash_cuts.specs.Reading.{CutsAll, CutsRead, GivesFirst, IsBegun, ReadsBehind, Takes};
+ghost use Rattle.hash_cuts.specs.Cuts.{Cutting, HasSizes, chunks};
+ghost use Rattle.hash_cuts.specs.Reading.{BreaksAt, CutsAll, CutsRead, GivesFirst, IsBegun, ReadsBehind, Takes};
 
 use crate::cuts::Cuts;
 use hashers::reader::{Fault, Taken, fill};
-use std::alloc::{AllocError, Global};
+use std::alloc::Global;
 use std::io::{Read, Result as IoResult};
 
 /// What takes chunks one after the other.
@@ -34,18 +34,8 @@ pub enum Unfinished<E: Drop> {
     NoMemory,
 }
 
-impl<E: Drop> From<AllocError> for Unfinished<E> {
-    fn from(_: AllocError) -> Unfinished<E> {
-        Unfinished::NoMemory
-    }
-}
-
 /// Gives the sink the chunks of the bytes that end there whatever comes behind, and returns how many bytes they have.
-fn give_first<S: Sink>(
-    cuts: &Cuts,
-    bytes: &[u8],
-    sink: &mut S,
-) -> Result<usize, Unfinished<S::Error>>
+fn give_first<S: Sink>(cuts: &Cuts, bytes: &[u8], sink: &mut S) -> Result<usize, S::Error>
     ensures gives { IfOk result (λ n. GivesFirst S.taken cuts.now bytes.now (drop n bytes.now) sink.old sink.new) }
     ensures within { IfOk result (λ n. n ≤ length bytes.now) }
     ensures rest { IfOk result (λ n. IsBegun cuts.now (drop n bytes.now)) }
@@ -59,16 +49,14 @@ fn give_first<S: Sink>(
         if n == rest.len() && n < most {
             break;
         }
-        if let Err(error) = sink.take(&rest[..n]) {
-            return Err(Unfinished::Refused(error));
-        }
+        sink.take(&rest[..n])?;
         given += n;
     }
     Ok(given)
 }
 
 /// Gives the sink the last chunk, unless it is empty.
-fn give_last<S: Sink>(chunk: &[u8], sink: &mut S) -> Result<(), Unfinished<S::Error>>
+fn give_last<S: Sink>(chunk: &[u8], sink: &mut S) -> Result<(), S::Error>
     ensures none { length chunk.now ≡ 0 → Takes S.taken sink.old sink.new [] }
     ensures one { 0 < length chunk.now → OnOk result (Takes S.taken sink.old sink.new (chunk.now ∷ [])) }
     ensures err { OnErr result (Takes S.taken sink.old sink.new []) }
@@ -76,10 +64,7 @@ fn give_last<S: Sink>(chunk: &[u8], sink: &mut S) -> Result<(), Unfinished<S::Er
     if chunk.is_empty() {
         return Ok(());
     }
-    match sink.take(chunk) {
-        Ok(()) => Ok(()),
-        Err(error) => Err(Unfinished::Refused(error)),
-    }
+    sink.take(chunk)
 }
 
 /// Moves the bytes of a range to the front, and returns how many they are.
@@ -124,10 +109,10 @@ fn cut_by<R: Read, S: Sink>(
     requires sizes { HasSizes cuts.now }
     ensures all { IfOk result (λ taken. IsTrue taken.ended → CutsAll S.taken cuts.now
         (R.remaining r.old) (R.remaining r.new) sink.old sink.new taken.bytes) }
-    ensures first { IfOk result (λ taken. taken.ended ≡ false → (rest : List ℕ) × CutsRead S.taken cuts.now
-        (R.remaining r.old) (R.remaining r.new) sink.old sink.new taken.bytes rest) }
-    ensures fault { OnErr result ((bytes : ℕ) × (rest : List ℕ) × CutsRead S.taken cuts.now
-        (R.remaining r.old) (R.remaining r.new) sink.old sink.new bytes rest) }
+    ensures first { IfOk result (λ taken. taken.ended ≡ false → (rest : List ℕ) × IsBegun cuts.now rest
+        × CutsRead S.taken cuts.now (R.remaining r.old) (R.remaining r.new) sink.old sink.new taken.bytes rest) }
+    ensures fault { IfErr result (λ why. (bytes : ℕ) × (rest : List ℕ) × BreaksAt cuts.now why bytes rest
+        × CutsRead S.taken cuts.now (R.remaining r.old) (R.remaining r.new) sink.old sink.new bytes rest) }
     ensures within { IfOk result (λ taken. taken.bytes ≤ limit) }
     ensures at_limit { IfOk result (λ taken. (taken.ended ≡ false) ↔ (taken.bytes ≡ limit)) }
 {
@@ -137,14 +122,19 @@ fn cut_by<R: Read, S: Sink>(
         let room = (limit - bytes).min((buffer.len() - kept) as u64) as usize;
         let (count, outcome) = read_behind(r, buffer, kept, room);
         bytes += count as u64;
-        let given = give_first(cuts, &buffer[..kept + count], sink)?;
+        let given = match give_first(cuts, &buffer[..kept + count], sink) {
+            Ok(given) => given,
+            Err(error) => return Err(Unfinished::Refused(error)),
+        };
         kept = to_front(buffer, given, kept + count);
         if let Err(error) = outcome {
             return Err(Unfinished::Unread(Fault { bytes, error }));
         }
         if count < room {
-            give_last(&buffer[..kept], sink)?;
-            return Ok(Taken { bytes, ended: true });
+            return match give_last(&buffer[..kept], sink) {
+                Ok(()) => Ok(Taken { bytes, ended: true }),
+                Err(error) => Err(Unfinished::Refused(error)),
+            };
         }
     }
     Ok(Taken {
@@ -168,10 +158,10 @@ pub fn cut_reader<R: Read, S: Sink>(
     ensures all { IfOk result (λ taken. IsTrue taken.ended → CutsAll S.taken cuts.now
         (R.remaining r.old) (R.remaining r.new) sink.old sink.new taken.bytes) }
     // at the limit and after a fault first ones.
-    ensures first { IfOk result (λ taken. taken.ended ≡ false → (rest : List ℕ) × CutsRead S.taken cuts.now
-        (R.remaining r.old) (R.remaining r.new) sink.old sink.new taken.bytes rest) }
-    ensures fault { OnErr result ((bytes : ℕ) × (rest : List ℕ) × CutsRead S.taken cuts.now
-        (R.remaining r.old) (R.remaining r.new) sink.old sink.new bytes rest) }
+    ensures first { IfOk result (λ taken. taken.ended ≡ false → (rest : List ℕ) × IsBegun cuts.now rest
+        × CutsRead S.taken cuts.now (R.remaining r.old) (R.remaining r.new) sink.old sink.new taken.bytes rest) }
+    ensures fault { IfErr result (λ why. (bytes : ℕ) × (rest : List ℕ) × BreaksAt cuts.now why bytes rest
+        × CutsRead S.taken cuts.now (R.remaining r.old) (R.remaining r.new) sink.old sink.new bytes rest) }
     // If the reader's bytes are known, all chunks are theirs.
     ensures known { IfOk result (λ taken. IsTrue taken.ended → (text : List ℕ) → R.remaining r.old ≡ Some text
         → Takes S.taken sink.old sink.new (chunks cuts.now text)) }
@@ -179,6 +169,8 @@ pub fn cut_reader<R: Read, S: Sink>(
     ensures at_limit { IfOk result (λ taken. (taken.ended ≡ false) ↔ (taken.bytes ≡ limit)) }
 {
     let mut buffer = Vec::new(alloc);
-    buffer.resize(cuts.most(), 0)?;
+    if buffer.resize(cuts.most(), 0).is_err() {
+        return Err(Unfinished::NoMemory);
+    }
     cut_by(cuts, r, limit, sink, buffer.as_mut_slice())
 }

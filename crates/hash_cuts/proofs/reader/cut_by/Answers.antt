@@ -1,6 +1,6 @@
-use Rattle.std.proofs.Common.{◌≤◌, ◌<◌, ◌+◌, ◌∷◌, [], ℕ, List, length, take, drop, ap, subst, sym, ◌∙◌, arith}
+use Rattle.std.proofs.Common.{refl, ◌≤◌, ◌<◌, ◌+◌, ◌∷◌, [], ℕ, List, length, take, drop, ap, subst, sym, ◌∙◌, arith}
 use Rattle.hash_cuts.proofs.CutLemmas.{first_cut-is}
-use Rattle.hash_cuts.proofs.GivenLemmas.{moved-front, on_err, reads-all, reads-first, reads-kept, reads-none}
+use Rattle.hash_cuts.proofs.GivenLemmas.{moved-front, reads-all, reads-first, reads-kept, reads-none}
 use Rattle.hash_cuts.specs.Reading.{CutsRead, IsBegun, Takes}
 use Rattle.std.proofs.lemmas.List.{length-take}
 use Rattle.std.specs.Io.KnownBytes.{IsAtEnd}
@@ -16,52 +16,52 @@ loop-bytes-init g c = record {
   within = omega arith;
 }
 
-pub returns-in_err-given-clause-fault : goal.returns-in_err-given-clause-fault
-returns-in_err-given-clause-fault g c =
-    let before = c.loop-bytes.invariant in
-    on_err _ c.from_residual.result (
-      c.loop-bytes.bytes + c.read_behind-count.result.0,
-      c.in_err-given.ensures.some.0,
-      reads-first g.S.Sink.taken c.args.cuts.now c.requires.sizes _ _ _ _ _ _ _ _ _ _ _ before.cut c.read_behind-count.ensures.read
-          c.in_err-given.ensures.some.1,
-    )
-
 pub returns-in-Err-clause-fault : goal.returns-in-Err-clause-fault
 returns-in-Err-clause-fault g c = (
   c.loop-bytes.bytes + c.read_behind-count.result.0,
-  drop c.in_ok-given.given (take (c.loop-bytes.kept + c.read_behind-count.result.0) c.read_behind-count.new.buffer),
-  reads-first g.S.Sink.taken c.args.cuts.now c.requires.sizes _ _ _ _ _ _ _ _ _ _ _ c.loop-bytes.invariant.cut c.read_behind-count.ensures.read
-      c.in_ok-given.ensures.gives,
+  c.in-Err.ensures.some.0,
+  tt,
+  reads-first g.S.Sink.taken c.args.cuts.now c.requires.sizes _ _ _ _ _ _ _ _ _ _ _ c.loop-bytes.invariant.cut
+      c.read_behind-count.ensures.read c.in-Err.ensures.some.1,
 )
 
-pub returns-in_err-give_last-clause-fault : goal.returns-in_err-give_last-clause-fault
-returns-in_err-give_last-clause-fault g c =
-    let rest = drop c.in_ok-given.given (take (c.loop-bytes.kept + c.read_behind-count.result.0) c.read_behind-count.new.buffer) in
-    let bytes = c.loop-bytes.bytes + c.read_behind-count.result.0 in
-    on_err _ c.from_residual-in_err-give_last.result (
+pub returns-in-Err-outcome-clause-fault : goal.returns-in-Err-outcome-clause-fault
+returns-in-Err-outcome-clause-fault g c = (
+  c.loop-bytes.bytes + c.read_behind-count.result.0,
+  drop c.in-Ok.given (take (c.loop-bytes.kept + c.read_behind-count.result.0) c.read_behind-count.new.buffer),
+  (refl, c.in-Ok.ensures.rest),
+  reads-first g.S.Sink.taken c.args.cuts.now c.requires.sizes _ _ _ _ _ _ _ _ _ _ _ c.loop-bytes.invariant.cut
+      c.read_behind-count.ensures.read c.in-Ok.ensures.gives,
+)
+
+pub returns-in-Err-give_last-clause-fault : goal.returns-in-Err-give_last-clause-fault
+returns-in-Err-give_last-clause-fault g c =
+    let rest = drop c.in-Ok.given (take (c.loop-bytes.kept + c.read_behind-count.result.0) c.read_behind-count.new.buffer) in
+    let bytes = c.loop-bytes.bytes + c.read_behind-count.result.0 in (
       bytes,
       rest,
+      tt,
       reads-kept g.S.Sink.taken c.args.cuts.now c.requires.sizes _ _ _ _ _ bytes rest
           (reads-first g.S.Sink.taken c.args.cuts.now c.requires.sizes _ _ _ _ _ _ _ _ _ _ _ c.loop-bytes.invariant.cut
-          c.read_behind-count.ensures.read c.in_ok-given.ensures.gives) c.in_err-give_last.ensures.err,
+          c.read_behind-count.ensures.read c.in-Ok.ensures.gives) c.in-Err-give_last.ensures.err,
     )
 
-pub returns-then-count-room-clause-all : goal.returns-then-count-room-clause-all
-returns-then-count-room-clause-all g c ended =
+pub returns-in-Ok-give_last-clause-all : goal.returns-in-Ok-give_last-clause-all
+returns-in-Ok-give_last-clause-all g c ended =
     let to = c.loop-bytes.kept + c.read_behind-count.result.0 in
     let buffer = c.read_behind-count.new.buffer in
     let whole = take to buffer in
-    let rest = drop c.in_ok-given.given whole in
+    let rest = drop c.in-Ok.given whole in
     let le : length whole ≤ to = omega (arith, length-take to buffer) in
-    let given_in : c.in_ok-given.given ≤ to = omega (arith, c.in_ok-given.ensures.within, le) in
-    let front = moved-front buffer c.to_front-kept.new.bytes c.in_ok-given.given to c.to_front-kept.result given_in
+    let given_in : c.in-Ok.given ≤ to = omega (arith, c.in-Ok.ensures.within, le) in
+    let front = moved-front buffer c.to_front-kept.new.bytes c.in-Ok.given to c.to_front-kept.result given_in
     c.to_front-kept.ensures.count c.to_front-kept.ensures.kept in
     let end = subst (λ r. OnOk r (c.read_behind-count.result.0 < c.min-room.result → IsAtEnd (g.R.Read.remaining c.read_behind-count.new.r)))
     c.in_default.is c.read_behind-count.ensures.end c.if-count-room.true in
-    let last = c.in_ok-give_last.ensures in
+    let last = c.in-Ok-give_last.ensures in
     reads-all g.S.Sink.taken c.args.cuts.now c.requires.sizes _ _ _ _ _ _ rest
     (reads-first g.S.Sink.taken c.args.cuts.now c.requires.sizes _ _ _ _ _ _ _ _ _ _ _ c.loop-bytes.invariant.cut
-    c.read_behind-count.ensures.read c.in_ok-given.ensures.gives) end c.in_ok-given.ensures.rest
+    c.read_behind-count.ensures.read c.in-Ok.ensures.gives) end c.in-Ok.ensures.rest
     (λ none. last.none (ap length front ∙ none))
     (λ some. subst (λ (t : List ℕ). Takes g.S.Sink.taken c.give_first.new.sink c.give_last.new.sink (t ∷ [])) front
     (last.one (omega (arith, ap length front, some))))
@@ -72,18 +72,18 @@ loop-bytes-preserved g c =
     let to = c.loop-bytes.kept + c.read_behind-count.result.0 in
     let buffer = c.read_behind-count.new.buffer in
     let whole = take to buffer in
-    let rest = drop c.in_ok-given.given whole in
+    let rest = drop c.in-Ok.given whole in
     let le : length whole ≤ to = omega (arith, length-take to buffer) in
-    let given_in : c.in_ok-given.given ≤ to = omega (arith, c.in_ok-given.ensures.within, le) in
-    let front = moved-front buffer c.to_front-kept.new.bytes c.in_ok-given.given to c.to_front-kept.result given_in
+    let given_in : c.in-Ok.given ≤ to = omega (arith, c.in-Ok.ensures.within, le) in
+    let front = moved-front buffer c.to_front-kept.new.bytes c.in-Ok.given to c.to_front-kept.result given_in
     c.to_front-kept.ensures.count c.to_front-kept.ensures.kept in
     let room = c.min-room.ensures in
     record {
       cut = subst (λ (t : List ℕ). CutsRead g.S.Sink.taken c.args.cuts.now (g.R.Read.remaining c.args.r.now)
           (g.R.Read.remaining c.read_behind-count.new.r) c.args.sink.now c.give_first.new.sink (c.loop-bytes.bytes + c.read_behind-count.result.0) t) (sym front)
           (reads-first g.S.Sink.taken c.args.cuts.now c.requires.sizes _ _ _ _ _ _ _ _ _ _ _ before.cut c.read_behind-count.ensures.read
-          c.in_ok-given.ensures.gives);
-      begun = subst (λ (t : List ℕ). IsBegun c.args.cuts.now t) (sym front) c.in_ok-given.ensures.rest;
+          c.in-Ok.ensures.gives);
+      begun = subst (λ (t : List ℕ). IsBegun c.args.cuts.now t) (sym front) c.in-Ok.ensures.rest;
       room = c.to_front-kept.ensures.len ∙ c.read_behind-count.ensures.len ∙ before.room;
       kept = omega (
         arith,

@@ -5,7 +5,7 @@ use Rattle.hash_cuts.specs.Cuts.{Cutting, HasSizes, first_cut}
 use Rattle.hash_cuts.specs.Reading.{GivesFirst, Takes}
 use Rattle.hash_cuts.proofs.ChunkLemmas.{first_cut-le}
 use Rattle.hash_cuts.proofs.CutLemmas.{first_cut-is}
-use Rattle.hash_cuts.proofs.GivenLemmas.{gives-kept, gives-more}
+use Rattle.hash_cuts.proofs.GivenLemmas.{gives-kept, gives-more, on_err}
 use Rattle.hash_cuts.proofs.reader.give_first.Goals.{else-n-rest-via-then-n-rest+else-n-most, else-n-rest-via-else-n-rest, else-loop-given-test, then-loop-given-test+then-n-rest+then-n-most}
 use Rattle.hash_cuts.proofs.reader.give_first.Goals as goal
 
@@ -40,7 +40,7 @@ loop-given-preserved g c =
     let chunk : take n (take (length bytes - given) rest) ≡ take first rest =
     ap₂ (λ (k : ℕ) (t : List ℕ). take k t) is (rest-is bytes given) in
     let more = gives-more g.S.Sink.taken cuts sizes bytes rest _ _ _ c.loop-given.invariant.gives some ends
-    (subst (λ (t : List ℕ). Takes g.S.Sink.taken c.loop-given.sink c.take.new.self (t ∷ [])) chunk c.in_default.ensures.ok) in
+    (subst (λ (t : List ℕ). Takes g.S.Sink.taken c.loop-given.sink c.take.new.self (t ∷ [])) chunk c.in_ok-take.ensures.ok) in
     record {
       gives = subst (λ (t : List ℕ). GivesFirst g.S.Sink.taken cuts bytes t c.args.sink.now c.take.new.self)
           (ap (λ k. drop k rest) (sym is) ∙ drop-drop n given bytes) more;
@@ -68,8 +68,9 @@ returns-clause-rest g c =
           )
     ]
 
-pub returns-in-Err-clause-some : goal.returns-in-Err-clause-some
-returns-in-Err-clause-some g c = (
-  drop c.loop-given.given c.args.bytes.now,
-  gives-kept g.S.Sink.taken c.args.cuts.now c.args.bytes.now _ _ _ _ c.loop-given.invariant.gives c.in-Err.ensures.err,
-)
+pub returns-in_err-take-clause-some : goal.returns-in_err-take-clause-some
+returns-in_err-take-clause-some g c =
+    on_err _ c.from_residual.result (
+      drop c.loop-given.given c.args.bytes.now,
+      gives-kept g.S.Sink.taken c.args.cuts.now c.args.bytes.now _ _ _ _ c.loop-given.invariant.gives c.in_err-take.ensures.err,
+    )
