@@ -29,4 +29,4 @@ abbrev pub words_of_fault : NoTable → List ℕ
 words_of_fault (Undrawn error) = codes "cannot write"
 words_of_fault TooManyKeys = codes "too many different keys"
 words_of_fault NoKeys = codes "there are no keys"
-words_of_fault ShortKey = codes "the input ends within a key"
+words_of_fault ShortKey = codes "input ends within a key"
