@@ -70,7 +70,7 @@ impl From<Fault> for Error {
 /// fault: OnErr result.1 (result.0 < length buf.new)
 /// ```
 #[inline]
-fn fill<R: Read>(r: &mut R, buf: &mut [u8]) -> (usize, IoResult<()>) {
+pub fn fill<R: Read>(r: &mut R, buf: &mut [u8]) -> (usize, IoResult<()>) {
     let mut filled = 0;
     while filled < buf.len() {
         match r.read(&mut buf[filled..]) {
