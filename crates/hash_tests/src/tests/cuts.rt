@@ -79,7 +79,7 @@ fn chunks_of_a_text(rt: HostRuntime) {
     );
     same(
         &rt,
-        &lengths(&rt, rt.alloc(), &cuts_of(&rt, 64, 256, 1024), &text[..64]),
+        &lengths(&rt, rt.alloc(), &cuts_of(&rt, 64, 256, 1024), &[0; 64]),
         &[64],
     );
     same(
