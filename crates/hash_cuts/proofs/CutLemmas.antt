@@ -1,7 +1,7 @@
 -- Where the first chunk of a text ends, by which places are cuts.
-use Rattle.std.proofs.Common.{◌≡◌, ℕ, ◌+◌, ◌-◌, ◌*◌, ◌/◌, ◌^◌, ◌<◌, ◌≤◌, Bool, true, false, not, nat_lt, min, List, length, take, drop, inl, inr, arith, ap, sym, ◌∙◌, refl}
+use Rattle.std.proofs.Common.{◌≡◌, ℕ, ◌+◌, ◌-◌, ◌*◌, ◌/◌, ◌^◌, ◌<◌, ◌≤◌, Bool, true, false, not, nat_lt, min, List, length, take, drop, inl, inr, arith, ap, sym, ◌∙◌}
 use Rattle.std.proofs.Math.Nat.{div-mul-le_self, mul-le-mul_right}
-use Rattle.std.proofs.lemmas.Bool.{cases_lt, false≢true}
+use Rattle.std.proofs.lemmas.Bool.{cases_lt, false≢true, not-false, not-true}
 use Rattle.std.proofs.lemmas.Bool.Decides.{nat_tests}
 use Rattle.std.proofs.lemmas.Nat.{le-div}
 use Rattle.std.proofs.lemmas.List.FromFn.{get_or-range_with_len, length-range_with_len}
@@ -24,14 +24,6 @@ pub record IsFirst (cuts : Cutting) (text : List ℕ) (n : ℕ) : Type 0 where
   pub within : n ≤ latest cuts text
   pub before : NoCutBefore cuts text n
   pub cut : n < latest cuts text → (cuts.least ≤ n) × (is_cut cuts text n ≡ true)
-
-not-true : (b : Bool) → not b ≡ true → b ≡ false
-not-true false e = refl
-not-true true e = absurd (false≢true e)
-
-not-false : (b : Bool) → not b ≡ false → b ≡ true
-not-false true e = refl
-not-false false e = absurd (false≢true (sym e))
 
 module _ (cuts : Cutting) (text : List ℕ) where
   places : List ℕ

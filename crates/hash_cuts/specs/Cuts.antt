@@ -11,6 +11,9 @@ pub record Cutting : Type 0 where
   pub seed1 : ℕ
   pub seed2 : ℕ
 
+abbrev pub cutting : ℕ → ℕ → ℕ → ℕ → ℕ → Cutting
+cutting least average most seed1 seed2 = record { least = least; average = average; most = most; seed1 = seed1; seed2 = seed2 }
+
 -- the sizes that may be
 abbrev pub AreSizes : ℕ → ℕ → ℕ → Type 0
 AreSizes least average most = (64 ≤ least) × (least ≤ average) × (average ≤ most)

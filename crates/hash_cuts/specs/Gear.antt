@@ -1,11 +1,15 @@
 -- The gear hash (W. Xia and others, "Ddelta: A deduplication-inspired fast delta compression approach", 2014), which rolls over a text.
-use Rattle.std.specs.Prelude.{ℕ, ◌+◌, ◌-◌, ◌*◌, ◌%◌, ◌^◌, List, [], ◌∷◌, take, drop}
+use Rattle.std.specs.Prelude.{ℕ, ◌≡◌, ◌<◌, ◌+◌, ◌-◌, ◌*◌, ◌%◌, ◌^◌, List, [], ◌∷◌, take, drop, slice_index}
 use Rattle.hashers.specs.Recurrence.{recurrence}
 use Rattle.hashers.specs.Spooky.{spooky}
 
 -- the number of each byte: its SpookyHash under two seeds
 unfoldable pub gear : ℕ → ℕ → ℕ → ℕ
 gear seed1 seed2 byte = (spooky seed1 seed2 (byte ∷ [])).0
+
+-- the numbers of all bytes
+abbrev pub AreNumbers : ℕ → ℕ → List ℕ → Type 0
+AreNumbers seed1 seed2 numbers = (byte : ℕ) → byte < 256 → slice_index numbers byte ≡ gear seed1 seed2 byte
 
 -- one byte
 abbrev pub gear_step : (ℕ → ℕ) → ℕ → ℕ → ℕ

@@ -1,12 +1,13 @@
 //! Where a text is cut.
 ghost use Rattle.std.specs.Prelude.{◌≡◌, ◌≤◌, ◌<◌, ◌↔◌, ℕ, List, IfSome, IsSome, length};
 ghost use Rattle.std.specs.Iterator.{YieldsFirstRef, item_count};
-ghost use Rattle.hash_cuts.specs.Cuts.{AreSizes, Cutting, HasSizes, chunks, first_cut};
+ghost use Rattle.hash_cuts.specs.Cuts.{AreSizes, Cutting, HasSizes, chunks, cutting, first_cut};
 
 use crate::gear::Gear;
 use std::marker::Model;
 
 /// Where texts are cut into chunks. Contracts see the numbers that `new` takes.
+#[derive(Drop)]
 pub struct Cuts {
     least: usize,
     average: usize,
@@ -17,25 +18,13 @@ pub struct Cuts {
 
 impl Model for Cuts {
     ghost use Rattle.std.specs.Prelude.{◌≡◌, ◌+◌, ◌-◌, ◌/◌, ◌^◌};
-    ghost use Rattle.hash_cuts.specs.Cuts.{AreSizes, Cutting};
+    ghost use Rattle.hash_cuts.specs.Cuts.{AreSizes, Cutting, cutting};
 
     ghost Value = { Cutting };
 
-    ghost view = { λ c. record { least = c.least; average = c.average; most = c.most; seed1 = c.gear.0; seed2 = c.gear.1 } };
+    ghost view = { λ c. cutting c.least c.average c.most c.gear.0 c.gear.1 };
 
     ghost invariant = { λ c. AreSizes c.least c.average c.most × (c.below ≡ (2 ^ 64 - 1) / c.average + 1) };
-}
-
-impl Drop for Cuts {
-    fn drop(self) {
-        let Self {
-            least: _,
-            average: _,
-            most: _,
-            gear: _,
-            below: _,
-        } = self;
-    }
 }
 
 impl Cuts {
@@ -45,8 +34,7 @@ impl Cuts {
     #[inline(never)]
     pub fn new(least: usize, average: usize, most: usize, seed1: u64, seed2: u64) -> Option<Cuts>
         ensures exact { IsSome result ↔ AreSizes least average most }
-        ensures some { IfSome result (λ cuts. cuts
-            ≡ record { least = least; average = average; most = most; seed1 = seed1; seed2 = seed2 }) }
+        ensures some { IfSome result (λ cuts. cuts ≡ cutting least average most seed1 seed2) }
     {
         if least < 64 || average < least || most < average {
             return None;

@@ -1,12 +1,13 @@
 //! The gear hash, which takes a shift and two sums a byte, and in which the last 64 bytes alone are left.
-ghost use Rattle.std.specs.Prelude.{◌≡◌, ◌<◌, ℕ, slice_index};
-ghost use Rattle.hash_cuts.specs.Gear.{gear, gear_of, gear_step};
+ghost use Rattle.std.specs.Prelude.{◌≡◌, ℕ};
+ghost use Rattle.hash_cuts.specs.Gear.{AreNumbers, gear, gear_of, gear_step};
 
 use hashers::jenkins::spooky_hash::SpookyHasher;
 use std::hash::Hasher;
 use std::marker::Model;
 
 /// The numbers of the bytes under two seeds. Contracts see the seeds.
+#[derive(Drop)]
 pub struct Gear {
     seed1: u64,
     seed2: u64,
@@ -14,24 +15,14 @@ pub struct Gear {
 }
 
 impl Model for Gear {
-    ghost use Rattle.std.specs.Prelude.{◌≡◌, ◌<◌, ℕ, slice_index};
-    ghost use Rattle.hash_cuts.specs.Gear.{gear};
+    ghost use Rattle.std.specs.Prelude.{ℕ};
+    ghost use Rattle.hash_cuts.specs.Gear.{AreNumbers};
 
     ghost Value = { ℕ × ℕ };
 
     ghost view = { λ g. (g.seed1, g.seed2) };
 
-    ghost invariant = { λ g. (byte : ℕ) → byte < 256 → slice_index g.numbers byte ≡ gear g.seed1 g.seed2 byte };
-}
-
-impl Drop for Gear {
-    fn drop(self) {
-        let Self {
-            seed1: _,
-            seed2: _,
-            numbers: _,
-        } = self;
-    }
+    ghost invariant = { λ g. AreNumbers g.seed1 g.seed2 g.numbers };
 }
 
 /// The number of a byte: its SpookyHash under the seeds.
@@ -46,7 +37,7 @@ fn number_of(seed1: u64, seed2: u64, byte: u8) -> u64
 
 /// The numbers of all bytes.
 fn numbers_of(seed1: u64, seed2: u64) -> [u64; 256]
-    ensures { (byte : ℕ) → byte < 256 → slice_index result byte ≡ gear seed1 seed2 byte }
+    ensures { AreNumbers seed1 seed2 result }
 {
     let mut numbers = [0; 256];
     for byte in 0..256 {
