@@ -1,4 +1,5 @@
 pub mod Call
+pub mod Files
 pub mod Frame
 pub mod Outcome
 pub mod Reason

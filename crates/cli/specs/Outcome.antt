@@ -1,5 +1,5 @@
 -- How a program ends: its status, and what it says of a failure.
-use Rattle.std.specs.Prelude.{ℕ, List, [], Some, Result, Ok, Err, codes}
+use Rattle.std.specs.Prelude.{ℕ, Bool, true, false, List, [], Some, Result, Ok, Err, codes}
 use Rattle.std.specs.IoError.{error_kind}
 use Rattle.std.specs.declared.io.ErrorKind.{ErrorKind}
 use Rattle.std.specs.declared.io.ErrorKind.TheVariants.{BrokenPipe}
@@ -53,3 +53,9 @@ failure_of misuse_words own_words (Failed (fault.Own own)) = own_words own
 abbrev pub of_telling : {Misuse Own : Type 0} → Result (Unit {0}) (Fault Own) → Outcome Misuse Own
 of_telling (Ok done) = Done
 of_telling (Err fault) = Failed fault
+
+-- what came of a run over files: whether each was read, or what failed
+abbrev pub of_run : {Misuse Own : Type 0} → Result Bool (Fault Own) → Outcome Misuse Own
+of_run (Ok true) = Done
+of_run (Ok false) = Reported
+of_run (Err fault) = Failed fault

@@ -76,7 +76,7 @@ pub struct Input<'a> {
 }
 
 /// Standard input's name.
-const STANDARD: &[u8] = b"-";
+pub(crate) const STANDARD: &[u8] = b"-";
 
 /// Why a name cannot be opened that is no text.
 const NO_TEXT: &str = "file name is not valid UTF-8; use < to read it";

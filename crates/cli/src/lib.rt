@@ -6,6 +6,7 @@
 pub mod arguments;
 pub mod call;
 pub mod fault;
+pub mod folder;
 pub mod frame;
 pub mod inputs;
 pub mod outcome;

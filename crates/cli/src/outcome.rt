@@ -1,6 +1,6 @@
 //! How a program ends: its status, and what it says of a failure.
 ghost use Rattle.std.specs.Prelude.{◌≡◌, ℕ, List};
-ghost use Rattle.cli.specs.Outcome.{behind_of, failure_of, misgiven_words, of_telling, status_of, write_status};
+ghost use Rattle.cli.specs.Outcome.{behind_of, failure_of, misgiven_words, of_run, of_telling, status_of, write_status};
 
 use crate::call::Misgiven;
 use crate::fault::Fault;
@@ -65,6 +65,17 @@ pub fn of_telling<Misuse, Own>(told: Result<(), Fault<Own>>) -> Outcome<Misuse, 
 {
     match told {
         Ok(()) => Outcome::Done,
+        Err(fault) => Outcome::Failed(fault),
+    }
+}
+
+/// What came of a run over files, which went well unless one of them failed.
+pub fn of_run<Misuse, Own>(well: Result<bool, Fault<Own>>) -> Outcome<Misuse, Own>
+    ensures { result ≡ of_run well }
+{
+    match well {
+        Ok(true) => Outcome::Done,
+        Ok(false) => Outcome::Reported,
         Err(fault) => Outcome::Failed(fault),
     }
 }

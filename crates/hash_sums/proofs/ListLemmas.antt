@@ -9,7 +9,7 @@ use Rattle.hash_sums.specs.declared.check.Counts.{Counts}
 use Rattle.cli.specs.declared.fault.Fault.{Fault}
 use Rattle.cli.specs.declared.outcome.Nothing.{Nothing}
 use Rattle.hash_sums.specs.Checking.{counted}
-use Rattle.hash_sums.specs.Files.{Opens}
+use Rattle.cli.specs.Files.{Opens}
 use Rattle.hash_sums.specs.Lists.{counts_of, said_of, uncounted, AreLines, EndsLine, EndsList, IsLineCheckOf}
 use Rattle.hash_sums.specs.Lists.AreLines.{behind, none}
 use Rattle.text_set.specs.Lines.{IsNext}

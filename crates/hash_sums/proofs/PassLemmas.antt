@@ -10,7 +10,7 @@ use Rattle.hash_sums.specs.declared.check.Checking.{Checking}
 use Rattle.hash_sums.specs.declared.check.Counts.{Counts}
 use Rattle.hash_sums.specs.declared.check.Verdict.TheVariants.{Same, Different, Unread, Missing}
 use Rattle.hash_sums.specs.Checking.{counted, one_more, passes}
-use Rattle.hash_sums.specs.Files.{Opens}
+use Rattle.cli.specs.Files.{Opens}
 use Rattle.hash_sums.specs.Lists.{counts_of, uncounted, AreLines, AreListed, EndsListOf}
 use Rattle.hash_sums.specs.Lists.AreListed.{next_list, no_list}
 use Rattle.hash_sums.specs.Passed.{fails, is_same, HasPassed}

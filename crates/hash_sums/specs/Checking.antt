@@ -16,7 +16,8 @@ use Rattle.hash_sums.specs.declared.check.Verdict.{Verdict}
 use Rattle.hash_sums.specs.declared.check.Verdict.TheVariants.{Same, Different, Unread, Missing}
 use Rattle.hash_sums.specs.declared.sum.Unsummed.{Unsummed}
 use Rattle.hash_sums.specs.declared.sum.Unsummed.TheVariants.{Unhashed, Unopened}
-use Rattle.hash_sums.specs.Files.{Opens, SumsFile}
+use Rattle.cli.specs.Files.{Opens}
+use Rattle.hash_sums.specs.Files.{SumsFile}
 use Rattle.hash_sums.specs.Sums.{sum_by}
 
 -- whether a file is not there

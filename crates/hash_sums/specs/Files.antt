@@ -5,15 +5,6 @@ use Rattle.hash_names.specs.Reading.{Hashes, Reading, ReadsAll}
 use Rattle.hash_sums.specs.declared.sum.Unsummed.{Unsummed}
 use Rattle.hash_sums.specs.declared.sum.Unsummed.TheVariants.{Unhashed, Unopened}
 
--- what comes of opening the file of a name: what it holds, where that is known, or an error
-abbrev pub Opens : Type 1
-Opens = (name : List ℕ) → Result (Option (List ℕ)) Error → Type 0
-
--- what came of opening a file
-abbrev pub opened : {R : Type 0} (remaining : R → Option (List ℕ)) → Result R Error → Result (Option (List ℕ)) Error
-opened remaining (Ok file) = Ok (remaining file)
-opened remaining (Err error) = Err error
-
 -- a file that holds this is read from its beginning, up to the greatest length
 abbrev pub from_start : (held left : Option (List ℕ)) → Reading
 from_start held left = record { limit = 2 ^ 64 - 1; before = held; after = left }

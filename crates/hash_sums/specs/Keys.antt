@@ -1,8 +1,9 @@
 -- Key files.
-use Rattle.std.specs.Prelude.{ℕ, ◌≡◌, List, Option, Ok, Result, length}
+use Rattle.std.specs.Prelude.{ℕ, ◌≡◌, List, Option, Some, None, Ok, Result, length}
 use Rattle.std.specs.Int.{w64, from_le_bytes}
 use Rattle.std.specs.Io.KnownBytes.{Consumes, IsAtEnd}
 use Rattle.std.specs.declared.io.Error.{Error}
+use Rattle.cli.specs.Files.{Opens}
 
 -- eight bytes of those that were left were read, and are this key, the lowest first
 abbrev pub IsKeyRead : (left left' : Option (List ℕ)) → ℕ → Type 0
@@ -15,3 +16,8 @@ IsKeyText held keys = (between left : Option (List ℕ)) × IsKeyRead held betwe
 -- a file was opened, and what it holds is these keys
 abbrev pub HasKeys : (opens : Result (Option (List ℕ)) Error → Type 0) → ℕ × ℕ → Type 0
 HasKeys opens keys = (held : Option (List ℕ)) × opens (Ok held) × IsKeyText held keys
+
+-- these are the keys in a key file, if there is one
+abbrev pub AreKeysOf : Opens → (file : Option (List ℕ)) → (keys : Option (ℕ × ℕ)) → Type 0
+AreKeysOf opens None keys = keys ≡ None
+AreKeysOf opens (Some file) keys = (pair : ℕ × ℕ) × (keys ≡ Some pair) × HasKeys (opens file) pair

@@ -5,7 +5,8 @@ use Rattle.hashers.specs.DifferWithin.{DifferAtOnePlace}
 use Rattle.hashers.specs.Text.{IsText}
 use Rattle.hash_sums.specs.declared.check.Verdict.TheVariants.{Same}
 use Rattle.hash_sums.specs.Checking.{IsVerdict}
-use Rattle.hash_sums.specs.Files.{Opens, ReadsFile}
+use Rattle.cli.specs.Files.{Opens}
+use Rattle.hash_sums.specs.Files.{ReadsFile}
 use Rattle.hash_sums.specs.Sums.{number_named}
 
 -- if a file is the same by the hash of that name of a first text, then the text that was read of it has this hash, and does not differ

@@ -12,7 +12,7 @@ use Rattle.hash_sums.specs.declared.check.Counts.{Counts}
 use Rattle.cli.specs.declared.fault.Fault.{Fault}
 use Rattle.cli.specs.declared.outcome.Nothing.{Nothing}
 use Rattle.hash_sums.specs.Checking.{counted, passes, said, IsLineCheck}
-use Rattle.hash_sums.specs.Files.{Opens}
+use Rattle.cli.specs.Files.{Opens}
 use Rattle.hash_sums.specs.Told.{AreTold, AreTornOff}
 
 -- these lines come first, one after the other

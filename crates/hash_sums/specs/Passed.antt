@@ -6,7 +6,7 @@ use Rattle.hash_sums.specs.declared.check.LineCheck.{LineCheck}
 use Rattle.hash_sums.specs.declared.check.LineCheck.TheVariants.{Skipped, Improper, Checked}
 use Rattle.hash_sums.specs.declared.check.Checking.{Checking}
 use Rattle.hash_sums.specs.declared.check.Verdict.TheVariants.{Same, Different, Unread, Missing}
-use Rattle.hash_sums.specs.Files.{Opens}
+use Rattle.cli.specs.Files.{Opens}
 use Rattle.hash_sums.specs.Lists.{AreLines, IsLineCheckOf}
 
 -- whether what came of a line fails its list

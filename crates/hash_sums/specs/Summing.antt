@@ -7,7 +7,8 @@ use Rattle.cli.specs.declared.fault.Fault.{Fault}
 use Rattle.cli.specs.declared.outcome.Nothing.{Nothing}
 use Rattle.hash_sums.specs.declared.sum.Summing.{Summing}
 use Rattle.hash_sums.specs.declared.sum.Unsummed.{Unsummed}
-use Rattle.hash_sums.specs.Files.{Opens, SumsFile}
+use Rattle.cli.specs.Files.{Opens}
+use Rattle.hash_sums.specs.Files.{SumsFile}
 use Rattle.hash_sums.specs.Sums.{sum_by}
 use Rattle.hash_sums.specs.Told.{AreTold, AreTornOff}
 

@@ -1,6 +1,7 @@
 -- The hashes that are told, over the table of hashes.
-use Rattle.std.specs.Prelude.{ℕ, ◌+◌, ◌*◌, ◌%◌, ◌^◌, ◌==◌, ◌++◌, List, Option, Some, None, [], ◌∷◌, if◌then◌else◌, map, nat_lt, codes}
-use Rattle.std.specs.List.{range_with_len}
+use Rattle.std.specs.Prelude.{ℕ, Bool, ◌+◌, ◌*◌, ◌%◌, ◌^◌, ◌==◌, ◌++◌, List, Option, Some, None, [], ◌∷◌, if◌then◌else◌, map, nat_lt, codes}
+use Rattle.std.specs.Char.{to_ascii_lowercase}
+use Rattle.std.specs.List.{find, range_with_len}
 use Rattle.std.specs.Str.{bytes_eq}
 use Rattle.hash_keyed.specs.Poly61.{prime61}
 use Rattle.hash_keyed.specs.Poly61State.{poly61}
@@ -67,6 +68,16 @@ keyed (Some keys) = told_under keys ∷ []
 -- poly61 if keys are given
 abbrev pub kinds : (keys : Option (ℕ × ℕ)) → List Told
 kinds keys = told_at 4294967295 ∷ (map told_at (range_with_len 0 21) ++ keyed keys)
+
+-- whether a name is this one, in letters of either case
+abbrev pub is_named : (word name : List ℕ) → Bool
+is_named word name = bytes_eq (map to_ascii_lowercase name) (map to_ascii_lowercase word)
+
+-- the kind of that name, or the first
+abbrev pub kind_of : List LineKind → Option (List ℕ) → Option LineKind
+kind_of [] None = None
+kind_of (kind ∷ more) None = Some kind
+kind_of kinds (Some name) = find (λ kind. is_named name kind.name.now) kinds
 
 -- the hash of that name, if there is one
 unfoldable pub number_named : List ℕ → Option (List ℕ → ℕ)

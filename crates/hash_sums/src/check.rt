@@ -7,9 +7,10 @@ ghost use Rattle.hash_sums.specs.Sums.{sum_by};
 ghost use Rattle.std.specs.Io.Buffered.{writer_contents};
 
 use crate::fault::Fault;
-use crate::folder::Folder;
+use crate::reports::Reports;
 use crate::sum::{Unsummed, error_of, number_of};
 use crate::sums::told_under;
+use cli::folder::Folder;
 use cli::streams::write_out;
 use hash_lines::escape::needs_escape;
 use hash_lines::forms::parse_form;
@@ -321,7 +322,7 @@ const UNCOUNTED: Counts = Counts {
 
 /// Checks the lines of the list of that name, which are read here, and writes what comes of each. Returns the counts; nothing if
 /// the list fails, which is told.
-fn check_lines<B: BufRead, R: Read + Drop, F: Folder<R>, W: Write + Drop>(
+fn check_lines<B: BufRead, R: Read + Drop, F: Folder<R> + Reports, W: Write + Drop>(
     alloc: Global,
     folder: &F,
     kinds: &[Kind<'static>],
@@ -361,16 +362,10 @@ fn check_lines<B: BufRead, R: Read + Drop, F: Folder<R>, W: Write + Drop>(
 }
 
 /// Tells an improper line, if that is asked for.
-fn warn<R: Read, F: Folder<R>>(
-    folder: &F,
-    warn: bool,
-    list: &[u8],
-    number: u64,
-    came: &LineCheck<'_>,
-) {
+fn warn<F: Reports>(reports: &F, warn: bool, list: &[u8], number: u64, came: &LineCheck<'_>) {
     if let LineCheck::Improper = came {
         if warn {
-            folder.improper(list, number);
+            reports.improper(list, number);
         }
     }
 }
@@ -390,7 +385,7 @@ fn needs_keys(alloc: Global, kind: Kind<'static>, came: &LineCheck<'_>, line: &[
 }
 
 /// Checks the lines of the list of that name, and tells whether they pass. A list that fails is told, and does not.
-fn check_list<R: Read + Drop, F: Folder<R>, W: Write + Drop>(
+fn check_list<R: Read + Drop, F: Folder<R> + Reports, W: Write + Drop>(
     alloc: Global,
     folder: &F,
     kinds: &[Kind<'static>],
@@ -422,7 +417,7 @@ fn check_list<R: Read + Drop, F: Folder<R>, W: Write + Drop>(
 }
 
 /// Checks the lines of the lists of these names, in their order, and tells whether all pass.
-pub fn check_lists<R: Read + Drop, F: Folder<R>, W: Write + Drop>(
+pub fn check_lists<R: Read + Drop, F: Folder<R> + Reports, W: Write + Drop>(
     alloc: Global,
     folder: &F,
     kinds: &[Kind<'static>],

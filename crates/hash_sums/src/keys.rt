@@ -1,10 +1,11 @@
 //! poly61 of files: the two keys in a key file, and the hash of what a reader gives.
-ghost use Rattle.std.specs.Prelude.{◌<◌, ◌≤◌, IfOk, IfSome};
+ghost use Rattle.std.specs.Prelude.{◌<◌, ◌≤◌, IfOk, IfSome, IsSome, MatchOption};
+ghost use Rattle.std.specs.Option.{option_map};
 ghost use Rattle.hash_names.specs.Reading.{Hashes, read};
-ghost use Rattle.hash_sums.specs.Keys.{HasKeys, IsKeyRead, IsKeyText};
+ghost use Rattle.hash_sums.specs.Keys.{AreKeysOf, HasKeys, IsKeyRead, IsKeyText};
 ghost use Rattle.hash_sums.specs.Sums.{poly61_at_both};
 
-use crate::folder::Folder;
+use cli::folder::Folder;
 use hash_keyed::pair::Poly61Pair;
 use hash_names::reading::Unhashed;
 use hashers::reader::hash_stream;
@@ -81,5 +82,22 @@ pub fn keys_of<R: Read + Drop, F: Folder<R>>(folder: &F, name: &[u8]) -> Option<
             folder.failed(name, &error);
             None
         }
+    }
+}
+
+/// The keys in a key file, if there is one. `None` if it has none, which is told.
+pub fn keys_for<R: Read + Drop, F: Folder<R>>(
+    folder: &F,
+    file: Option<&[u8]>,
+) -> Option<Option<(u64, u64)>>
+    ensures { let file = option_map (λ name. name.now) file.entry in
+        MatchOption result (IsSome file) (AreKeysOf (F.opens folder.now) file) }
+{
+    match file {
+        None => Some(None),
+        Some(file) => match keys_of(folder, file) {
+            Some(keys) => Some(Some(keys)),
+            None => None,
+        },
     }
 }

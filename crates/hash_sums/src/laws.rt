@@ -16,7 +16,7 @@ ghost use Rattle.hash_sums.specs.Lists.{EndsLists};
 ghost use Rattle.hash_sums.specs.Passed.{HasPassed};
 ghost use Rattle.hash_sums.specs.Sums.{kinds, number_named, poly61_at_both, sum_at, told_at, told_of};
 
-use crate::folder::Folder;
+use cli::folder::Folder;
 use hash_keyed::laws::few_pairs_for_two_texts;
 use hash_lines::laws::tags_by_their_names;
 use hash_more::crc32::{Crc32Hasher, Crc32cHasher};

@@ -3,9 +3,9 @@
 
 pub mod check;
 mod fault;
-pub mod folder;
 pub mod keys;
 pub mod laws;
+pub mod reports;
 pub mod sum;
 pub mod sums;
 

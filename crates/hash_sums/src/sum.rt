@@ -8,8 +8,8 @@ ghost use Rattle.hash_sums.specs.Summing.{EndsSum, EndsSums, sum_line};
 ghost use Rattle.hash_sums.specs.Sums.{sum_by};
 
 use crate::fault::Fault;
-use crate::folder::Folder;
 use crate::sums::number_by;
+use cli::folder::Folder;
 use cli::streams::write_out;
 use hash_lines::line::{Form, Kind, push_line};
 use hash_names::reading::Unhashed;

@@ -4,19 +4,19 @@ use Rattle.std.specs.IoError.{error_kind}
 use Rattle.std.specs.declared.io.ErrorKind.{ErrorKind}
 use Rattle.std.specs.declared.io.ErrorKind.TheVariants.{BrokenPipe}
 use Rattle.hash_lines.specs.declared.line.Kind.{Kind}
-use Rattle.cli.specs.Outcome.{status_of, write_status}
+use Rattle.cli.specs.Outcome.{of_run, status_of, write_status}
 use Rattle.cli.specs.declared.fault.Fault.{Fault}
 use Rattle.cli.specs.declared.fault.Fault.TheVariants.{Unwritten}
 use Rattle.cli.specs.declared.outcome.Nothing.{Nothing}
 use Rattle.cli.specs.declared.outcome.Outcome.{Outcome}
 use Rattle.hash_sums.specs.declared.check.Checking.{Checking}
-use Rattle.hash_sums.specs.Files.{Opens}
+use Rattle.cli.specs.Files.{Opens}
 use Rattle.hash_sums.specs.Lists.{EndsLists}
 use Rattle.hash_sums.specs.Passed.{HasPassed}
 use Rattle.hash_sums.proofs.PassLemmas.{lists_passed}
 use Rattle.hashsum.specs.declared.outcome.Misuse.{Misuse}
 use Rattle.hashsum.specs.declared.outcome.Task.TheVariants.{Check}
-use Rattle.hashsum.specs.Program.{of_run, EndsTask}
+use Rattle.hashsum.specs.Program.{EndsTask}
 
 module _ (kinds : List Kind) (checking : Checking) (opens : Opens) where
   -- a write that fails does not end well
@@ -24,7 +24,7 @@ module _ (kinds : List Kind) (checking : Checking) (opens : Opens) where
   fails_badly BrokenPipe is = omega arith
   fails_badly kind is = omega arith
 
-  ends_well : (ended : Result Bool (Fault Nothing)) → status_of (of_run ended) ≡ 0 → ended ≡ Ok true
+  ends_well : (ended : Result Bool (Fault Nothing)) → status_of {Misuse = Misuse} (of_run ended) ≡ 0 → ended ≡ Ok true
   ends_well (Ok true) is = refl
   ends_well (Ok false) is = absurd (omega arith)
   ends_well (Err (Unwritten (Some error))) is = absurd (fails_badly (error_kind error) is)

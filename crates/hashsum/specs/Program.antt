@@ -24,11 +24,12 @@ use Rattle.hashsum.specs.declared.outcome.Misuse.TheVariants as misuse
 use Rattle.hashsum.specs.declared.outcome.Task.{Task}
 use Rattle.hashsum.specs.declared.outcome.Task.TheVariants as task
 use Rattle.hash_sums.specs.declared.sum.Summing.{Summing}
-use Rattle.hash_sums.specs.Files.{Opens}
-use Rattle.hash_sums.specs.Keys.{HasKeys}
+use Rattle.cli.specs.Files.{Opens, files_or}
+use Rattle.cli.specs.Outcome.{of_run}
+use Rattle.hash_sums.specs.Keys.{AreKeysOf}
 use Rattle.hash_sums.specs.Lists.{EndsLists}
 use Rattle.hash_sums.specs.Summing.{EndsSums}
-use Rattle.hash_sums.specs.Sums.{kinds, told_of}
+use Rattle.hash_sums.specs.Sums.{is_named, kind_of, kinds, told_of}
 
 -- the options
 abbrev pub options : List Choice
@@ -37,16 +38,6 @@ options = taking (Some 97) (codes "algorithm") ∷ taking None (codes "key-file"
     ∷ flag None (codes "status") ∷ flag None (codes "strict")
     ∷ flag None (codes "ignore-missing") ∷ flag (Some 119) (codes "warn") ∷ flag (Some 98) (codes "binary") ∷ flag (Some 116) (codes "text")
     ∷ flag None (codes "list") ∷ flag None (codes "help") ∷ flag None (codes "version") ∷ []
-
--- whether a name is this one, in letters of either case
-abbrev pub is_named : (word name : List ℕ) → Bool
-is_named word name = bytes_eq (map to_ascii_lowercase name) (map to_ascii_lowercase word)
-
--- the kind of that name, or the first
-abbrev pub kind_of : List Kind → Option (List ℕ) → Option Kind
-kind_of [] None = None
-kind_of (kind ∷ more) None = Some kind
-kind_of kinds (Some name) = find (λ kind. is_named name kind.name.now) kinds
 
 -- how lines are checked by a hash
 abbrev pub checking_of : (call : List Saying) → Kind → Checking
@@ -109,17 +100,6 @@ work_by call None (Some kind) = Ok (work_of call kind)
 abbrev pub task_of : List Kind → (call : List Saying) → Result Task (Wrong Misuse)
 task_of kinds call = work_by call (misuse_of call) (kind_of kinds (value_of (codes "algorithm") call))
 
--- the files of a call: its operands, or standard input
-abbrev pub files_or : (names : List (List ℕ)) → List (List ℕ)
-files_or [] = codes "-" ∷ []
-files_or (name ∷ more) = name ∷ more
-
--- what came of a run
-abbrev pub of_run : Result Bool (Fault Nothing) → Outcome Misuse Nothing
-of_run (Ok true) = Done
-of_run (Ok false) = Reported
-of_run (Err fault) = Failed fault
-
 -- how a task ends over the files of these names; a wrong call writes nothing
 abbrev pub EndsTask : List Kind → Opens → (files : List (List ℕ)) (written written' : Option (List ℕ)) → Result Task (Wrong Misuse)
     → Outcome Misuse Nothing → Type 0
@@ -143,11 +123,6 @@ key_file call = at (request_of call) (misuse_of call)
     at : Request → Option Misuse → Option (List ℕ)
     at Work None = value_of (codes "key-file") call
     at request misuse = None
-
--- these are the keys in a key file, if there is one
-abbrev pub AreKeysOf : Opens → (file : Option (List ℕ)) → (keys : Option (ℕ × ℕ)) → Type 0
-AreKeysOf opens None keys = keys ≡ None
-AreKeysOf opens (Some file) keys = (pair : ℕ × ℕ) × (keys ≡ Some pair) × HasKeys (opens file) pair
 
 -- there was no memory, and nothing is written
 abbrev pub EndsForMemory : (written written' : Option (List ℕ)) → Outcome Misuse Nothing → Type 0

@@ -1,29 +1,29 @@
-//! The files of the disk.
-use cli::inputs::{open, tell_failure};
-use cli::progress::{Progress, Watched};
+//! The files of the disk, and what a check of them finds.
+use cli::folder::{Disk, Folder};
+use cli::progress::Watched;
 use cli::quoted::quoted;
 use hash_sums::check::Counts;
-use hash_sums::folder::Folder;
+use hash_sums::reports::Reports;
 use std::io;
-use std::io::{Error, IsTerminal};
+use std::io::Error;
 
 /// The program's name.
 pub const NAME: &str = "hashsum";
 
-/// The files of the disk. What fails is told on standard error, and progress where that is a terminal.
+/// The files of the disk, and what a check of them finds, which is told on standard error.
 #[derive(Drop)]
-pub struct Disk<'r> {
+pub struct Checked<'r> {
     rt: &'r HostRuntime,
-    shows: bool,
+    disk: Disk<'r>,
     status: bool,
 }
 
-impl<'r> Disk<'r> {
+impl<'r> Checked<'r> {
     /// With progress, unless it is to be quiet; without warnings, where the status alone tells.
-    pub fn new(rt: &'r HostRuntime, quiet: bool, status: bool) -> Disk<'r> {
-        Disk {
+    pub fn new(rt: &'r HostRuntime, quiet: bool, status: bool) -> Checked<'r> {
+        Checked {
             rt,
-            shows: !quiet && !status && rt.stderr().is_terminal(),
+            disk: Disk::new(rt, NAME, quiet || status),
             status,
         }
     }
@@ -38,18 +38,19 @@ impl<'r> Disk<'r> {
     }
 }
 
-impl<'r> Folder<Watched<'r>> for Disk<'r> {
-    ghost opens = { λ disk name opened. Unit {0} };
+impl<'r> Folder<Watched<'r>> for Checked<'r> {
+    ghost opens = { λ checked name opened. Unit {0} };
 
     fn open(&self, name: &[u8]) -> io::Result<Watched<'r>> {
-        let file = open(self.rt, name)?;
-        Ok(Watched::new(file, Progress::new(self.rt, self.shows)))
+        self.disk.open(name)
     }
 
     fn failed(&self, name: &[u8], error: &Error) {
-        tell_failure(self.rt, NAME, name, error);
+        self.disk.failed(name, error);
     }
+}
 
+impl Reports for Checked<'_> {
     fn improper(&self, list: &[u8], line: u64) {
         if let Ok(list) = quoted(self.rt.alloc(), list) {
             let _ = eprintln!(self.rt; "{NAME}: {list}: {line}: improperly formatted line");

@@ -10,8 +10,8 @@ ghost use Rattle.hashsum.specs.Program.{EndsTask};
 ghost use Rattle.hashsum.specs.declared.outcome.Misuse.{Misuse};
 ghost use Rattle.hashsum.specs.declared.outcome.Task.TheVariants.{Check};
 
+use cli::folder::Folder;
 use hash_names::table::Kind;
-use hash_sums::folder::Folder;
 use std::io::Read;
 
 /// Where a check ends with the status 0, each of its lists was opened and read to its end, and none of their lines fails: of each that

@@ -1,27 +1,27 @@
 //! What the program is asked for, and how it ends.
-ghost use Rattle.std.specs.Prelude.{◌≡◌, ◌⊎◌, map, IfOk, IsSome, MatchOption};
-ghost use Rattle.std.specs.List.{find};
+ghost use Rattle.std.specs.Prelude.{◌≡◌, ◌⊎◌, map, IfOk};
 ghost use Rattle.std.specs.Option.{option_map};
 ghost use Rattle.std.specs.Io.Buffered.{writer_contents};
 ghost use Rattle.std.specs.Io.KnownBytes.{Keeps};
 ghost use Rattle.cli.specs.declared.fault.Fault.TheVariants.{NoMemory};
 ghost use Rattle.cli.specs.declared.outcome.Outcome.TheVariants.{Failed};
-ghost use Rattle.cli.specs.Call.{call_of, choices, operands, sayings, texts};
+ghost use Rattle.cli.specs.Call.{call_of, choices, sayings, texts};
 ghost use Rattle.cli.specs.Frame.{text_of};
-ghost use Rattle.hashsum.specs.Program.{asks_for_poly61, checking_of, files_or, gives_checking, gives_writing, is_named, key_file, kind_of, misuse_of, of_run, options, summing_of, task_of, words_of, work_of, AreKeysOf, EndsCall, EndsTask, EndsWithKeys};
+ghost use Rattle.hashsum.specs.Program.{asks_for_poly61, checking_of, gives_checking, gives_writing, key_file, misuse_of, options, summing_of, task_of, words_of, work_of, EndsCall, EndsTask, EndsWithKeys};
 
 use cli::call::{Call, Opt, flag, taking};
+use cli::folder::{Folder, files};
 use cli::frame::{About, Request, request_of, text_of};
 use cli::outcome;
-use cli::outcome::{Nothing, Words, of_telling};
+use cli::outcome::{Nothing, Words, of_run, of_telling};
 use cli::streams::write_out;
 use hash_lines::line::{Form, Kind};
 use hash_sums::Fault;
 use hash_sums::check::{Checking, check_lists};
-use hash_sums::folder::Folder;
-use hash_sums::keys::keys_of;
+use hash_sums::keys::keys_for;
+use hash_sums::reports::Reports;
 use hash_sums::sum::{Summing, sum_files};
-use hash_sums::sums::kinds;
+use hash_sums::sums::{is_named, kind_of, kinds};
 use std::alloc::{AllocError, Global};
 use std::io::{BufWriter, Read, Write};
 
@@ -95,38 +95,6 @@ pub fn call_of<'a>(alloc: Global, words: &'a [Vec<u8>]) -> Result<Call<'a>, Allo
     ensures { IfOk result (λ call. sayings call.said.items ≡ call_of options (texts words.now)) }
 {
     cli::call::call_of(alloc, &options(), words)
-}
-
-/// Whether a name is this one, in letters of either case.
-fn is_named(word: &[u8], name: &[u8]) -> bool
-    ensures { result ≡ is_named word.now name.now }
-{
-    name.eq_ignore_ascii_case(word)
-}
-
-/// The kind of the name.
-fn kind_named<'k>(kinds: &[Kind<'k>], name: &[u8]) -> Option<Kind<'k>>
-    ensures { result ≡ find (λ kind. is_named name.now kind.name.now) kinds.entry.now }
-{
-    for kind in kinds {
-        if is_named(name, kind.name.as_bytes()) {
-            return Some(*kind);
-        }
-    }
-    None
-}
-
-/// The kind of the name, or the first.
-fn kind_of<'k>(kinds: &[Kind<'k>], name: Option<&[u8]>) -> Option<Kind<'k>>
-    ensures { result ≡ kind_of kinds.entry.now (option_map (λ name. name.now) name.entry) }
-{
-    match name {
-        Some(name) => kind_named(kinds, name),
-        None => match kinds {
-            [first, ..] => Some(*first),
-            [] => None,
-        },
-    }
 }
 
 /// How lines are checked.
@@ -231,33 +199,8 @@ fn task_of(kinds: &[Kind<'static>], call: &Call<'_>) -> Result<Task, Wrong>
     }
 }
 
-/// What came of a run.
-fn of_run(well: Result<bool, Fault>) -> Outcome
-    ensures { result ≡ of_run well }
-{
-    match well {
-        Ok(true) => Outcome::Done,
-        Ok(false) => Outcome::Reported,
-        Err(fault) => Outcome::Failed(fault),
-    }
-}
-
-/// Standard input's name.
-const STANDARD: &[u8] = b"-";
-
-/// The files of a call: its operands, or standard input.
-fn files<'a>(alloc: Global, call: &Call<'a>) -> Result<Vec<&'a [u8]>, AllocError>
-    ensures { IfOk result (λ files. map (λ file. file.now) files.items ≡ files_or (operands (sayings call.now.said.items))) }
-{
-    let mut files = call.operands(alloc)?;
-    if files.is_empty() {
-        files.push(STANDARD)?;
-    }
-    Ok(files)
-}
-
 /// Does a task over these files.
-fn ended<R: Read + Drop, F: Folder<R>, W: Write + Drop>(
+fn ended<R: Read + Drop, F: Folder<R> + Reports, W: Write + Drop>(
     alloc: Global,
     folder: &F,
     kinds: &[Kind<'static>],
@@ -277,7 +220,7 @@ fn ended<R: Read + Drop, F: Folder<R>, W: Write + Drop>(
 
 /// Does what the call asks for, by hashes of these kinds. If the call is wrong, or there is no memory for its files, nothing is
 /// read or written.
-pub fn outcome_of<R: Read + Drop, F: Folder<R>, W: Write + Drop>(
+pub fn outcome_of<R: Read + Drop, F: Folder<R> + Reports, W: Write + Drop>(
     alloc: Global,
     folder: &F,
     kinds: &[Kind<'static>],
@@ -310,23 +253,9 @@ fn key_file<'a>(call: &Call<'a>) -> Option<&'a [u8]>
     }
 }
 
-/// The keys of a call, if it gives a key file. `None` if the file has none, which is told.
-fn keys_for<R: Read + Drop, F: Folder<R>>(folder: &F, call: &Call<'_>) -> Option<Option<(u64, u64)>>
-    ensures { let file = key_file (sayings call.now.said.items) in
-        MatchOption result (IsSome file) (AreKeysOf (F.opens folder.now) file) }
-{
-    match key_file(call) {
-        None => Some(None),
-        Some(file) => match keys_of(folder, file) {
-            Some(keys) => Some(Some(keys)),
-            None => None,
-        },
-    }
-}
-
 /// Does what the call asks for, by the hashes that can be told, and by poly61 under the keys of its key file. If the call
 /// gives one, it is read first; if it has no keys, that is told, and nothing else is read or written.
-pub fn outcome_with_keys<R: Read + Drop, F: Folder<R>, W: Write + Drop>(
+pub fn outcome_with_keys<R: Read + Drop, F: Folder<R> + Reports, W: Write + Drop>(
     alloc: Global,
     folder: &F,
     call: &Call<'_>,
@@ -337,7 +266,7 @@ pub fn outcome_with_keys<R: Read + Drop, F: Folder<R>, W: Write + Drop>(
         (text_of about.entry.help.now about.entry.version.now about.entry.list.now)
         (writer_contents W.contents w.old) (writer_contents W.contents w.new) result }
 {
-    match keys_for(folder, call) {
+    match keys_for(folder, key_file(call)) {
         None => Outcome::Reported,
         Some(keys) => match kinds(alloc, keys) {
             Ok(kinds) => outcome_of(alloc, folder, &kinds, call, about, w),

@@ -1,11 +1,12 @@
 //! Tests of the program over files in memory.
 use crate::outcome::{call_of, outcome_with_keys};
+use cli::folder::Folder;
 use cli::frame::About;
 use cli::outcome::{failure_of, status_of};
 use cli::rehearsal::{File, Paper, Script, Trouble, arguments_of, open, whole};
 use hash_names::table::KINDS;
 use hash_sums::check::Counts;
-use hash_sums::folder::Folder;
+use hash_sums::reports::Reports;
 use std::alloc::Global;
 use std::io;
 use std::io::{BufWriter, Error, ErrorKind};
@@ -25,7 +26,9 @@ impl<'a> Folder<Script<'a>> for Shelf<'a> {
     }
 
     fn failed(&self, _name: &[u8], _error: &Error) {}
+}
 
+impl Reports for Shelf<'_> {
     fn improper(&self, _list: &[u8], _line: u64) {}
 
     fn unkeyed(&self, _list: &[u8]) {}

@@ -1,7 +1,7 @@
 use Rattle.std.proofs.Common.{◌≡◌, drop}
 use Rattle.std.specs.List.{find}
-use Rattle.hashsum.specs.Program.{is_named}
-use Rattle.hashsum.proofs.outcome.kind_named.Given as goal
+use Rattle.hash_sums.specs.Sums.{is_named}
+use Rattle.hash_sums.proofs.sums.kind_named.Given as goal
 
 -- the kind is among those that are left
 abbrev pub invariant-loop-kind : goal.invariant-loop-kind
