@@ -7,34 +7,35 @@ use Rattle.std.proofs.KnownBytes.{Consumes-trans}
 use Rattle.std.proofs.lemmas.Bool.{cases_lt}
 use Rattle.std.proofs.lemmas.List.{append-nil, drop-append-le, drop-take, length-drop, take-append-drop, take-append-le, take_all}
 use Rattle.hash_cuts.specs.Cuts.{Cutting, HasSizes, chunks, first_cut, is_cut}
-use Rattle.hash_cuts.specs.Reading.{CutsAll, CutsRead, GivesFirst, IsBegun, ReadsBehind, Takes}
+use Rattle.hash_cuts.specs.Reading.{CutsAll, CutsRead, GivesFirst, IsBegun, ReadsBehind, Taken, Takes}
 use Rattle.hash_cuts.proofs.ChunkLemmas.{chunks-first, chunks-none, first_cut-le}
 use Rattle.hash_cuts.proofs.CutLemmas.{first_cut-is, first_cut-from}
 use Rattle.hash_cuts.proofs.InStep.{is_cut-same, own-bytes}
 
-module _ {S : Type 0} (taken : S → List (List ℕ) → Type 0) where
-  pub takes-none : (old : S) → Takes taken old old []
-  takes-none old before is = subst (taken old) (sym (append-nil before)) is
+module _ {S : Type 0} (taken : Taken S) where
+  pub takes-none : (old : S) → Takes taken old old [] None
+  takes-none old start before is = subst (λ chunks. taken start old chunks None) (sym (append-nil before)) is
 
   -- more chunks
-  takes-more : (old new newer : S) (chunks others : List (List ℕ)) → Takes taken old new chunks → Takes taken new newer others
-      → Takes taken old newer (chunks ++ others)
-  takes-more old new newer chunks others first then before is =
-      subst (taken newer) (append_assoc before chunks others) (then (before ++ chunks) (first before is))
+  takes-more : (old new newer : S) (chunks others : List (List ℕ)) (refused : Option (List ℕ)) → Takes taken old new chunks None
+      → Takes taken new newer others refused → Takes taken old newer (chunks ++ others) refused
+  takes-more old new newer chunks others refused first then start before is =
+      subst (λ list. taken start newer list refused) (append_assoc before chunks others) (then start (before ++ chunks) (first start before is))
 
-  pub gives-none : (cuts : Cutting) (text : List ℕ) (old : S) → GivesFirst taken cuts text text old old
+  pub gives-none : (cuts : Cutting) (text : List ℕ) (old : S) → GivesFirst taken cuts text text None old old
   gives-none cuts text old = record {
     given = [];
     takes = takes-none old;
     stay = λ more. refl;
   }
 
-  -- the sink took nothing since
-  pub gives-kept : (cuts : Cutting) (text rest : List ℕ) (old new newer : S) → GivesFirst taken cuts text rest old new → Takes taken new newer []
-      → GivesFirst taken cuts text rest old newer
-  gives-kept cuts text rest old new newer gives kept = record {
+  -- the sink refused a chunk
+  pub gives-refused : (cuts : Cutting) (text rest chunk : List ℕ) (old new newer : S) → GivesFirst taken cuts text rest None old new
+      → Takes taken new newer [] (Some chunk) → GivesFirst taken cuts text rest (Some chunk) old newer
+  gives-refused cuts text rest chunk old new newer gives refuses = record {
     given = gives.given;
-    takes = subst (Takes taken old newer) (append-nil gives.given) (takes-more old new newer gives.given [] gives.takes kept);
+    takes = subst (λ list. Takes taken old newer list (Some chunk)) (append-nil gives.given)
+        (takes-more old new newer gives.given [] (Some chunk) gives.takes refuses);
     stay = gives.stay;
   }
 
@@ -61,17 +62,18 @@ module _ (cuts : Cutting) (sizes : HasSizes cuts) where
             }))
       ]
 
-module _ {S : Type 0} (taken : S → List (List ℕ) → Type 0) (cuts : Cutting) (sizes : HasSizes cuts) where
+module _ {S : Type 0} (taken : Taken S) (cuts : Cutting) (sizes : HasSizes cuts) where
   -- one chunk more
-  pub gives-more : (text rest : List ℕ) (old new newer : S) → GivesFirst taken cuts text rest old new → 0 < length rest
+  pub gives-more : (text rest : List ℕ) (old new newer : S) → GivesFirst taken cuts text rest None old new → 0 < length rest
       → (first_cut cuts rest < length rest) ⊎ (first_cut cuts rest ≡ cuts.most)
-      → Takes taken new newer (take (first_cut cuts rest) rest ∷ []) → GivesFirst taken cuts text (drop (first_cut cuts rest) rest) old newer
+      → Takes taken new newer (take (first_cut cuts rest) rest ∷ []) None
+      → GivesFirst taken cuts text (drop (first_cut cuts rest) rest) None old newer
   gives-more text rest old new newer gives some ends takes =
       let n = first_cut cuts rest in
       let le : n ≤ length rest = first_cut-le cuts sizes rest in
       record {
         given = gives.given ++ take n rest ∷ [];
-        takes = takes-more taken old new newer gives.given (take n rest ∷ []) gives.takes takes;
+        takes = takes-more taken old new newer gives.given (take n rest ∷ []) None gives.takes takes;
         stay = λ more.
             let same = ends-there cuts sizes rest more ends in
             let there : 0 < length (rest ++ more) = omega (arith, some, length-append rest more) in
@@ -84,11 +86,11 @@ module _ {S : Type 0} (taken : S → List (List ℕ) → Type 0) (cuts : Cutting
       }
 
   -- bytes behind, and the chunks of the rest with these
-  gives-behind : (text rest more rest' : List ℕ) (old new newer : S) → GivesFirst taken cuts text rest old new
-      → GivesFirst taken cuts (rest ++ more) rest' new newer → GivesFirst taken cuts (text ++ more) rest' old newer
-  gives-behind text rest more rest' old new newer first then = record {
+  gives-behind : (text rest more rest' : List ℕ) (refused : Option (List ℕ)) (old new newer : S) → GivesFirst taken cuts text rest None old new
+      → GivesFirst taken cuts (rest ++ more) rest' refused new newer → GivesFirst taken cuts (text ++ more) rest' refused old newer
+  gives-behind text rest more rest' refused old new newer first then = record {
     given = first.given ++ then.given;
-    takes = takes-more taken old new newer first.given then.given first.takes then.takes;
+    takes = takes-more taken old new newer first.given then.given refused first.takes then.takes;
     stay = λ others.
         ap (chunks cuts) (append_assoc text more others) ∙ first.stay (more ++ others)
         ∙ ap (λ t. first.given ++ chunks cuts t) (sym (append_assoc rest more others))
@@ -97,41 +99,43 @@ module _ {S : Type 0} (taken : S → List (List ℕ) → Type 0) (cuts : Cutting
   }
 
   -- with the last chunk they are all
-  gives-all : (text rest : List ℕ) (old new newer : S) → GivesFirst taken cuts text rest old new → IsBegun cuts rest
-      → (length rest ≡ 0 → Takes taken new newer []) → (0 < length rest → Takes taken new newer (rest ∷ []))
-      → Takes taken old newer (chunks cuts text)
+  gives-all : (text rest : List ℕ) (old new newer : S) → GivesFirst taken cuts text rest None old new → IsBegun cuts rest
+      → (length rest ≡ 0 → Takes taken new newer [] None) → (0 < length rest → Takes taken new newer (rest ∷ []) None)
+      → Takes taken old newer (chunks cuts text) None
   gives-all text rest old new newer gives begun none one =
       let all : chunks cuts text ≡ gives.given ++ chunks cuts rest =
       ap (chunks cuts) (sym (append-nil text)) ∙ gives.stay [] ∙ ap (λ t. gives.given ++ chunks cuts t) (append-nil rest) in
-      let last : Takes taken new newer (chunks cuts rest) = elim (cases_lt 0 (length rest)) [
+      let last : Takes taken new newer (chunks cuts rest) None = elim (cases_lt 0 (length rest)) [
         | inl some ↦
             let whole : first_cut cuts rest ≡ length rest = begun.0 in
             let alone : chunks cuts rest ≡ rest ∷ [] =
             chunks-first cuts sizes rest some
             ∙ ap₂ (λ (c : List ℕ) (list : List (List ℕ)). c ∷ list) (take_all (first_cut cuts rest) rest (omega (arith, whole)))
             (chunks-none cuts (drop (first_cut cuts rest) rest) (omega (arith, whole, length-drop (first_cut cuts rest) rest))) in
-            subst (Takes taken new newer) (sym alone) (one some)
+            subst (λ list. Takes taken new newer list None) (sym alone) (one some)
         | inr empty ↦
-            subst (Takes taken new newer) (sym (chunks-none cuts rest (omega (arith, empty)))) (none (omega (arith, empty)))
+            subst (λ list. Takes taken new newer list None) (sym (chunks-none cuts rest (omega (arith, empty)))) (none (omega (arith, empty)))
       ] in
-      subst (Takes taken old newer) (sym all) (takes-more taken old new newer gives.given (chunks cuts rest) gives.takes last)
+      subst (λ list. Takes taken old newer list None) (sym all)
+      (takes-more taken old new newer gives.given (chunks cuts rest) None gives.takes last)
 
   -- more was read, and the sink was given the first chunks of what was left with it
-  pub reads-first : (left mid left' : Option (List ℕ)) (old between new : S) (bytes count : ℕ) (rest whole rest' : List ℕ)
-      → CutsRead taken cuts left mid old between bytes rest → ReadsBehind rest whole mid left' count
-      → GivesFirst taken cuts whole rest' between new → CutsRead taken cuts left left' old new (bytes + count) rest'
-  reads-first left mid left' old between new bytes count rest whole rest' before more gives = record {
+  pub reads-first : (left mid left' : Option (List ℕ)) (old between new : S) (bytes count : ℕ) (rest whole rest' : List ℕ) (refused : Option (List ℕ))
+      → CutsRead taken cuts left mid old between bytes rest None → ReadsBehind rest whole mid left' count
+      → GivesFirst taken cuts whole rest' refused between new → CutsRead taken cuts left left' old new (bytes + count) rest' refused
+  reads-first left mid left' old between new bytes count rest whole rest' refused before more gives = record {
     text = before.text ++ more.bytes;
     read = Consumes-trans left mid left' before.text more.bytes before.read more.read;
     count = length-append before.text more.bytes ∙ omega (arith, before.count, more.length_is);
-    gives = gives-behind before.text rest more.bytes rest' old between new before.gives
-        (subst (λ t. GivesFirst taken cuts t rest' between new) more.stands gives);
+    gives = gives-behind before.text rest more.bytes rest' refused old between new before.gives
+        (subst (λ t. GivesFirst taken cuts t rest' refused between new) more.stands gives);
   }
 
   -- all was read, and the last chunk given
   pub reads-all : (left left' : Option (List ℕ)) (old new newer : S) (bytes : ℕ) (rest : List ℕ)
-      → CutsRead taken cuts left left' old new bytes rest → IsAtEnd left' → IsBegun cuts rest → (length rest ≡ 0 → Takes taken new newer [])
-      → (0 < length rest → Takes taken new newer (rest ∷ [])) → CutsAll taken cuts left left' old newer bytes
+      → CutsRead taken cuts left left' old new bytes rest None → IsAtEnd left' → IsBegun cuts rest
+      → (length rest ≡ 0 → Takes taken new newer [] None)
+      → (0 < length rest → Takes taken new newer (rest ∷ []) None) → CutsAll taken cuts left left' old newer bytes
   reads-all left left' old new newer bytes rest before end begun none one = record {
     text = before.text;
     read = before.read;
@@ -140,19 +144,20 @@ module _ {S : Type 0} (taken : S → List (List ℕ) → Type 0) (cuts : Cutting
     takes = gives-all before.text rest old new newer before.gives begun none one;
   }
 
-  -- the sink took nothing since
-  pub reads-kept : (left left' : Option (List ℕ)) (old new newer : S) (bytes : ℕ) (rest : List ℕ)
-      → CutsRead taken cuts left left' old new bytes rest → Takes taken new newer [] → CutsRead taken cuts left left' old newer bytes rest
-  reads-kept left left' old new newer bytes rest read kept = record {
+  -- the sink refused the last chunk
+  pub reads-refused : (left left' : Option (List ℕ)) (old new newer : S) (bytes : ℕ) (rest chunk : List ℕ)
+      → CutsRead taken cuts left left' old new bytes rest None → Takes taken new newer [] (Some chunk)
+      → CutsRead taken cuts left left' old newer bytes rest (Some chunk)
+  reads-refused left left' old new newer bytes rest chunk read refuses = record {
     text = read.text;
     read = read.read;
     count = read.count;
-    gives = gives-kept taken cuts read.text rest old new newer read.gives kept;
+    gives = gives-refused taken cuts read.text rest chunk old new newer read.gives refuses;
   }
 
 -- nothing was read
-pub reads-none : {S : Type 0} (taken : S → List (List ℕ) → Type 0) (cuts : Cutting) (left : Option (List ℕ)) (old : S)
-    → CutsRead taken cuts left left old old 0 []
+pub reads-none : {S : Type 0} (taken : Taken S) (cuts : Cutting) (left : Option (List ℕ)) (old : S)
+    → CutsRead taken cuts left left old old 0 [] None
 reads-none taken cuts None old = record { text = []; read = tt; count = refl; gives = gives-none taken cuts [] old }
 reads-none taken cuts (Some text) old = record { text = []; read = refl; count = refl; gives = gives-none taken cuts [] old }
 

@@ -1,18 +1,23 @@
 -- What a reader's bytes give a sink of chunks.
-use Rattle.std.specs.Prelude.{ℕ, ◌≡◌, ◌<◌, List, ◌++◌, Option, length, ⊤}
+use Rattle.std.specs.Prelude.{ℕ, ◌≡◌, ◌<◌, List, ◌++◌, Option, Some, None, length, take}
 use Rattle.std.specs.Io.KnownBytes.{Consumes, IsAtEnd}
 use Rattle.hash_cuts.specs.Cuts.{Cutting, chunks, first_cut}
 use Rattle.hash_cuts.specs.declared.reader.Unfinished.{Unfinished}
 use Rattle.hash_cuts.specs.declared.reader.Unfinished.TheVariants.{Unread, Refused, NoMemory}
 
--- a sink took these chunks behind the others
-abbrev pub Takes : {S : Type 0} → (S → List (List ℕ) → Type 0) → S → S → List (List ℕ) → Type 0
-Takes taken old new chunks = (before : List (List ℕ)) → taken old before → taken new (before ++ chunks)
+-- what a sink says of itself: since the start it has taken these chunks, and then refused one, if there is one
+abbrev pub Taken : Type 0 → Type 1
+Taken S = (start now : S) (chunks : List (List ℕ)) (refused : Option (List ℕ)) → Type 0
 
--- a sink took the first chunks of a text, up to the rest: whatever comes behind, these are its first chunks
-pub record GivesFirst {S : Type 0} (taken : S → List (List ℕ) → Type 0) (cuts : Cutting) (text rest : List ℕ) (old new : S) : Type 0 where
+-- a sink took these chunks behind the others, and then refused one, if there is one
+abbrev pub Takes : {S : Type 0} → Taken S → (old new : S) (chunks : List (List ℕ)) (refused : Option (List ℕ)) → Type 0
+Takes {S} taken old new chunks refused =
+    (start : S) (before : List (List ℕ)) → taken start old before None → taken start new (before ++ chunks) refused
+
+-- a sink was given the first chunks of a text, up to the rest: whatever comes behind, these are its first chunks
+pub record GivesFirst {S : Type 0} (taken : Taken S) (cuts : Cutting) (text rest : List ℕ) (refused : Option (List ℕ)) (old new : S) : Type 0 where
   pub given : List (List ℕ)
-  pub takes : Takes taken old new given
+  pub takes : Takes taken old new given refused
   pub stay : (more : List ℕ) → chunks cuts (text ++ more) ≡ given ++ chunks cuts (rest ++ more)
 
 -- no chunk of the bytes ends, but by their end
@@ -26,25 +31,26 @@ pub record ReadsBehind (old new : List ℕ) (left left' : Option (List ℕ)) (co
   pub length_is : length bytes ≡ count
   pub stands : new ≡ old ++ bytes
 
--- so many bytes were read, and the sink took the first chunks of them, up to the rest
-pub record CutsRead {S : Type 0} (taken : S → List (List ℕ) → Type 0) (cuts : Cutting) (left left' : Option (List ℕ)) (old new : S) (bytes : ℕ)
-    (rest : List ℕ) : Type 0 where
+-- so many bytes were read, and the sink was given the first chunks of them, up to the rest
+pub record CutsRead {S : Type 0} (taken : Taken S) (cuts : Cutting) (left left' : Option (List ℕ)) (old new : S) (bytes : ℕ) (rest : List ℕ)
+    (refused : Option (List ℕ)) : Type 0 where
   pub text : List ℕ
   pub read : Consumes left left' text
   pub count : length text ≡ bytes
-  pub gives : GivesFirst taken cuts text rest old new
+  pub gives : GivesFirst taken cuts text rest refused old new
 
 -- so many bytes were read, which were all, and the sink took all chunks of them
-pub record CutsAll {S : Type 0} (taken : S → List (List ℕ) → Type 0) (cuts : Cutting) (left left' : Option (List ℕ)) (old new : S) (bytes : ℕ)
+pub record CutsAll {S : Type 0} (taken : Taken S) (cuts : Cutting) (left left' : Option (List ℕ)) (old new : S) (bytes : ℕ)
     : Type 0 where
   pub text : List ℕ
   pub read : Consumes left left' text
   pub end : IsAtEnd left'
   pub count : length text ≡ bytes
-  pub takes : Takes taken old new (chunks cuts text)
+  pub takes : Takes taken old new (chunks cuts text) None
 
--- a reading that broke after so many bytes, of which the sink took the first chunks: after a read's error all but the one that was begun
-abbrev pub BreaksAt : {E : Type 0} → Cutting → Unfinished E → ℕ → List ℕ → Type 0
-BreaksAt cuts (Unread fault) bytes rest = (fault.bytes ≡ bytes) × IsBegun cuts rest
-BreaksAt cuts (Refused error) bytes rest = ⊤
-BreaksAt cuts NoMemory bytes rest = ⊤
+-- a reading that broke after so many bytes, of which the sink was given the first chunks: after a read's error all but the one that was
+-- begun; and it refused the first of the rest, or none
+abbrev pub BreaksAt : {E : Type 0} → Cutting → Unfinished E → (bytes : ℕ) (rest : List ℕ) (refused : Option (List ℕ)) → Type 0
+BreaksAt cuts (Unread fault) bytes rest refused = (fault.bytes ≡ bytes) × IsBegun cuts rest × (refused ≡ None)
+BreaksAt cuts (Refused error) bytes rest refused = (0 < length rest) × (refused ≡ Some (take (first_cut cuts rest) rest))
+BreaksAt cuts NoMemory bytes rest refused = (bytes ≡ 0) × (refused ≡ None)

@@ -1,8 +1,8 @@
 //! The chunks of what a reader gives, the same ones however the reader cuts its bytes.
-ghost use Rattle.std.specs.Prelude.{◌≡◌, ◌≤◌, ◌<◌, ◌+◌, ◌-◌, ◌↔◌, ◌++◌, ◌∷◌, [], ℕ, List, Some, length, take, drop, IfOk, IfErr, OnOk, OnErr, IsTrue, false};
+ghost use Rattle.std.specs.Prelude.{◌≡◌, ◌≤◌, ◌<◌, ◌+◌, ◌-◌, ◌↔◌, ◌∷◌, [], ℕ, List, Option, Some, None, length, take, drop, IfOk, IfErr, OnOk, OnErr, IsTrue, false};
 ghost use Rattle.std.specs.Io.KnownBytes.{IsAtEnd};
-ghost use Rattle.hash_cuts.specs.Cuts.{Cutting, HasSizes, chunks};
-ghost use Rattle.hash_cuts.specs.Reading.{BreaksAt, CutsAll, CutsRead, GivesFirst, IsBegun, ReadsBehind, Takes};
+ghost use Rattle.hash_cuts.specs.Cuts.{HasSizes, chunks, first_cut};
+ghost use Rattle.hash_cuts.specs.Reading.{BreaksAt, CutsAll, CutsRead, GivesFirst, IsBegun, ReadsBehind, Taken, Takes};
 
 use crate::cuts::Cuts;
 use hashers::reader::{Fault, Taken, fill};
@@ -14,13 +14,14 @@ pub trait Sink {
     /// Why a chunk was not taken.
     type Error: Drop;
 
-    /// The sink, as it is now, is one that has taken these chunks, in this order.
-    ghost taken: { Self → List (List ℕ) → Type 0 };
+    /// The sink, as it was at the start and as it is now, has meanwhile taken these chunks, in this order, and then refused one, if there
+    /// is one. What that left, as a part of a line, is for the sink to say.
+    ghost taken: { Taken Self };
 
-    /// Takes a chunk behind the others, or fails and takes nothing.
+    /// Takes a chunk behind the others, or refuses it.
     fn take(&mut self, chunk: &[u8]) -> Result<(), Self::Error>
-        ensures ok { OnOk result (Takes taken self.old self.new (chunk.now ∷ [])) }
-        ensures err { OnErr result (Takes taken self.old self.new []) };
+        ensures ok { OnOk result (Takes taken self.old self.new (chunk.now ∷ []) None) }
+        ensures err { OnErr result (Takes taken self.old self.new [] (Some chunk.now)) };
 }
 
 /// Why a reader was not cut to its end.
@@ -28,18 +29,19 @@ pub trait Sink {
 pub enum Unfinished<E: Drop> {
     /// A read failed. The sink has the chunks that end within the bytes read before, and not the one that was begun.
     Unread(Fault),
-    /// The sink failed.
+    /// The sink refused a chunk. It has the chunks before it.
     Refused(E),
-    /// There is no memory for a chunk.
+    /// There is no memory for a chunk. Nothing was read.
     NoMemory,
 }
 
 /// Gives the sink the chunks of the bytes that end there whatever comes behind, and returns how many bytes they have.
 fn give_first<S: Sink>(cuts: &Cuts, bytes: &[u8], sink: &mut S) -> Result<usize, S::Error>
-    ensures gives { IfOk result (λ n. GivesFirst S.taken cuts.now bytes.now (drop n bytes.now) sink.old sink.new) }
+    ensures gives { IfOk result (λ n. GivesFirst S.taken cuts.now bytes.now (drop n bytes.now) None sink.old sink.new) }
     ensures within { IfOk result (λ n. n ≤ length bytes.now) }
     ensures rest { IfOk result (λ n. IsBegun cuts.now (drop n bytes.now)) }
-    ensures some { OnErr result ((rest : List ℕ) × GivesFirst S.taken cuts.now bytes.now rest sink.old sink.new) }
+    ensures some { OnErr result ((rest : List ℕ) × (0 < length rest) × GivesFirst S.taken cuts.now bytes.now rest
+        (Some (take (first_cut cuts.now rest) rest)) sink.old sink.new) }
 {
     let most = cuts.most();
     let mut given = 0;
@@ -57,9 +59,9 @@ fn give_first<S: Sink>(cuts: &Cuts, bytes: &[u8], sink: &mut S) -> Result<usize,
 
 /// Gives the sink the last chunk, unless it is empty.
 fn give_last<S: Sink>(chunk: &[u8], sink: &mut S) -> Result<(), S::Error>
-    ensures none { length chunk.now ≡ 0 → Takes S.taken sink.old sink.new [] }
-    ensures one { 0 < length chunk.now → OnOk result (Takes S.taken sink.old sink.new (chunk.now ∷ [])) }
-    ensures err { OnErr result (Takes S.taken sink.old sink.new []) }
+    ensures none { length chunk.now ≡ 0 → Takes S.taken sink.old sink.new [] None }
+    ensures one { 0 < length chunk.now → OnOk result (Takes S.taken sink.old sink.new (chunk.now ∷ []) None) }
+    ensures err { OnErr result ((0 < length chunk.now) × Takes S.taken sink.old sink.new [] (Some chunk.now)) }
 {
     if chunk.is_empty() {
         return Ok(());
@@ -110,9 +112,10 @@ fn cut_by<R: Read, S: Sink>(
     ensures all { IfOk result (λ taken. IsTrue taken.ended → CutsAll S.taken cuts.now
         (R.remaining r.old) (R.remaining r.new) sink.old sink.new taken.bytes) }
     ensures first { IfOk result (λ taken. taken.ended ≡ false → (rest : List ℕ) × IsBegun cuts.now rest
-        × CutsRead S.taken cuts.now (R.remaining r.old) (R.remaining r.new) sink.old sink.new taken.bytes rest) }
-    ensures fault { IfErr result (λ why. (bytes : ℕ) × (rest : List ℕ) × BreaksAt cuts.now why bytes rest
-        × CutsRead S.taken cuts.now (R.remaining r.old) (R.remaining r.new) sink.old sink.new bytes rest) }
+        × CutsRead S.taken cuts.now (R.remaining r.old) (R.remaining r.new) sink.old sink.new taken.bytes rest None) }
+    ensures fault { IfErr result (λ why. (bytes : ℕ) × (rest : List ℕ) × (refused : Option (List ℕ))
+        × BreaksAt cuts.now why bytes rest refused
+        × CutsRead S.taken cuts.now (R.remaining r.old) (R.remaining r.new) sink.old sink.new bytes rest refused) }
     ensures within { IfOk result (λ taken. taken.bytes ≤ limit) }
     ensures at_limit { IfOk result (λ taken. (taken.ended ≡ false) ↔ (taken.bytes ≡ limit)) }
 {
@@ -159,12 +162,13 @@ pub fn cut_reader<R: Read, S: Sink>(
         (R.remaining r.old) (R.remaining r.new) sink.old sink.new taken.bytes) }
     // at the limit and after a fault first ones.
     ensures first { IfOk result (λ taken. taken.ended ≡ false → (rest : List ℕ) × IsBegun cuts.now rest
-        × CutsRead S.taken cuts.now (R.remaining r.old) (R.remaining r.new) sink.old sink.new taken.bytes rest) }
-    ensures fault { IfErr result (λ why. (bytes : ℕ) × (rest : List ℕ) × BreaksAt cuts.now why bytes rest
-        × CutsRead S.taken cuts.now (R.remaining r.old) (R.remaining r.new) sink.old sink.new bytes rest) }
+        × CutsRead S.taken cuts.now (R.remaining r.old) (R.remaining r.new) sink.old sink.new taken.bytes rest None) }
+    ensures fault { IfErr result (λ why. (bytes : ℕ) × (rest : List ℕ) × (refused : Option (List ℕ))
+        × BreaksAt cuts.now why bytes rest refused
+        × CutsRead S.taken cuts.now (R.remaining r.old) (R.remaining r.new) sink.old sink.new bytes rest refused) }
     // If the reader's bytes are known, all chunks are theirs.
     ensures known { IfOk result (λ taken. IsTrue taken.ended → (text : List ℕ) → R.remaining r.old ≡ Some text
-        → Takes S.taken sink.old sink.new (chunks cuts.now text)) }
+        → Takes S.taken sink.old sink.new (chunks cuts.now text) None) }
     ensures within { IfOk result (λ taken. taken.bytes ≤ limit) }
     ensures at_limit { IfOk result (λ taken. (taken.ended ≡ false) ↔ (taken.bytes ≡ limit)) }
 {

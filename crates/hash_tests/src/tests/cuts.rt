@@ -1,5 +1,5 @@
 //! Texts cut into chunks. The lengths of the chunks were computed by another program, from the definitions.
-ghost use Rattle.std.specs.Prelude.{◌≡◌, map};
+ghost use Rattle.std.specs.Prelude.{◌≡◌, ◌++◌, map};
 
 use crate::tests::{all_hold, same, same_at};
 use cli::rehearsal::Script;
@@ -24,24 +24,17 @@ fn made() -> [u8; 5000] {
 }
 
 /// A sink that keeps its chunks.
+#[derive(Drop)]
 struct Kept {
     alloc: Global,
     chunks: Vec<Vec<u8>>,
 }
 
-impl Drop for Kept {
-    fn drop(self) {
-        let Self {
-            alloc: _,
-            chunks: _,
-        } = self;
-    }
-}
-
 impl Sink for Kept {
     type Error = AllocError;
 
-    ghost taken = { λ sink chunks. map (λ chunk. chunk.items) sink.chunks.items ≡ chunks };
+    ghost taken = { λ start sink chunks refused.
+        map (λ chunk. chunk.items) sink.chunks.items ≡ map (λ chunk. chunk.items) start.chunks.items ++ chunks };
 
     fn take(&mut self, chunk: &[u8]) -> Result<(), AllocError> {
         let copy = Vec::from_slice(self.alloc, chunk)?;

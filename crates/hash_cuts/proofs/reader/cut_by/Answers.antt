@@ -1,8 +1,9 @@
-use Rattle.std.proofs.Common.{refl, ◌≤◌, ◌<◌, ◌+◌, ◌∷◌, [], ℕ, List, length, take, drop, ap, subst, sym, ◌∙◌, arith}
+use Rattle.std.proofs.Common.{Option, None, Some, refl, ◌≤◌, ◌<◌, ◌+◌, ◌∷◌, [], ℕ, List, length, take, drop, ap, subst, sym, ◌∙◌, arith}
 use Rattle.hash_cuts.proofs.CutLemmas.{first_cut-is}
-use Rattle.hash_cuts.proofs.GivenLemmas.{moved-front, reads-all, reads-first, reads-kept, reads-none}
+use Rattle.hash_cuts.proofs.GivenLemmas.{moved-front, reads-all, reads-first, reads-none, reads-refused}
+use Rattle.hash_cuts.specs.Cuts.{first_cut}
 use Rattle.hash_cuts.specs.Reading.{CutsRead, IsBegun, Takes}
-use Rattle.std.proofs.lemmas.List.{length-take}
+use Rattle.std.proofs.lemmas.List.{length-take, take_all}
 use Rattle.std.specs.Io.KnownBytes.{IsAtEnd}
 use Rattle.std.specs.Result.{OnOk}
 use Rattle.hash_cuts.proofs.reader.cut_by.Goals as goal
@@ -20,30 +21,43 @@ pub returns-in-Err-clause-fault : goal.returns-in-Err-clause-fault
 returns-in-Err-clause-fault g c = (
   c.loop-bytes.bytes + c.read_behind-count.result.0,
   c.in-Err.ensures.some.0,
-  tt,
-  reads-first g.S.Sink.taken c.args.cuts.now c.requires.sizes _ _ _ _ _ _ _ _ _ _ _ c.loop-bytes.invariant.cut
-      c.read_behind-count.ensures.read c.in-Err.ensures.some.1,
+  Some (take (first_cut c.args.cuts.now c.in-Err.ensures.some.0) c.in-Err.ensures.some.0),
+  (c.in-Err.ensures.some.1, refl),
+  reads-first g.S.Sink.taken c.args.cuts.now c.requires.sizes _ _ _ _ _ _ _ _ _ _ _ _ c.loop-bytes.invariant.cut
+      c.read_behind-count.ensures.read c.in-Err.ensures.some.2,
 )
 
 pub returns-in-Err-outcome-clause-fault : goal.returns-in-Err-outcome-clause-fault
 returns-in-Err-outcome-clause-fault g c = (
   c.loop-bytes.bytes + c.read_behind-count.result.0,
   drop c.in-Ok.given (take (c.loop-bytes.kept + c.read_behind-count.result.0) c.read_behind-count.new.buffer),
-  (refl, c.in-Ok.ensures.rest),
-  reads-first g.S.Sink.taken c.args.cuts.now c.requires.sizes _ _ _ _ _ _ _ _ _ _ _ c.loop-bytes.invariant.cut
+  None,
+  (refl, c.in-Ok.ensures.rest, refl),
+  reads-first g.S.Sink.taken c.args.cuts.now c.requires.sizes _ _ _ _ _ _ _ _ _ _ _ _ c.loop-bytes.invariant.cut
       c.read_behind-count.ensures.read c.in-Ok.ensures.gives,
 )
 
 pub returns-in-Err-give_last-clause-fault : goal.returns-in-Err-give_last-clause-fault
 returns-in-Err-give_last-clause-fault g c =
     let rest = drop c.in-Ok.given (take (c.loop-bytes.kept + c.read_behind-count.result.0) c.read_behind-count.new.buffer) in
-    let bytes = c.loop-bytes.bytes + c.read_behind-count.result.0 in (
+    let bytes = c.loop-bytes.bytes + c.read_behind-count.result.0 in
+    let to = c.loop-bytes.kept + c.read_behind-count.result.0 in
+    let buffer = c.read_behind-count.new.buffer in
+    let le : length (take to buffer) ≤ to = omega (arith, length-take to buffer) in
+    let given_in : c.in-Ok.given ≤ to = omega (arith, c.in-Ok.ensures.within, le) in
+    let front = moved-front buffer c.to_front-kept.new.bytes c.in-Ok.given to c.to_front-kept.result given_in
+    c.to_front-kept.ensures.count c.to_front-kept.ensures.kept in (
       bytes,
       rest,
-      tt,
-      reads-kept g.S.Sink.taken c.args.cuts.now c.requires.sizes _ _ _ _ _ bytes rest
-          (reads-first g.S.Sink.taken c.args.cuts.now c.requires.sizes _ _ _ _ _ _ _ _ _ _ _ c.loop-bytes.invariant.cut
-          c.read_behind-count.ensures.read c.in-Ok.ensures.gives) c.in-Err-give_last.ensures.err,
+      Some rest,
+      (
+        omega (arith, ap length front, c.in-Err-give_last.ensures.err.0),
+        ap Some (sym (take_all (first_cut c.args.cuts.now rest) rest (omega (arith, c.in-Ok.ensures.rest.0)))),
+      ),
+      reads-refused g.S.Sink.taken c.args.cuts.now c.requires.sizes _ _ _ _ _ bytes rest rest
+          (reads-first g.S.Sink.taken c.args.cuts.now c.requires.sizes _ _ _ _ _ _ _ _ _ _ _ _ c.loop-bytes.invariant.cut
+          c.read_behind-count.ensures.read c.in-Ok.ensures.gives)
+          (subst (λ (t : List ℕ). Takes g.S.Sink.taken c.give_first.new.sink c.give_last.new.sink [] (Some t)) front c.in-Err-give_last.ensures.err.1),
     )
 
 pub returns-in-Ok-give_last-clause-all : goal.returns-in-Ok-give_last-clause-all
@@ -60,10 +74,10 @@ returns-in-Ok-give_last-clause-all g c ended =
     c.in_default.is c.read_behind-count.ensures.end c.if-count-room.true in
     let last = c.in-Ok-give_last.ensures in
     reads-all g.S.Sink.taken c.args.cuts.now c.requires.sizes _ _ _ _ _ _ rest
-    (reads-first g.S.Sink.taken c.args.cuts.now c.requires.sizes _ _ _ _ _ _ _ _ _ _ _ c.loop-bytes.invariant.cut
+    (reads-first g.S.Sink.taken c.args.cuts.now c.requires.sizes _ _ _ _ _ _ _ _ _ _ _ _ c.loop-bytes.invariant.cut
     c.read_behind-count.ensures.read c.in-Ok.ensures.gives) end c.in-Ok.ensures.rest
     (λ none. last.none (ap length front ∙ none))
-    (λ some. subst (λ (t : List ℕ). Takes g.S.Sink.taken c.give_first.new.sink c.give_last.new.sink (t ∷ [])) front
+    (λ some. subst (λ (t : List ℕ). Takes g.S.Sink.taken c.give_first.new.sink c.give_last.new.sink (t ∷ []) None) front
     (last.one (omega (arith, ap length front, some))))
 
 pub loop-bytes-preserved : goal.loop-bytes-preserved
@@ -80,8 +94,8 @@ loop-bytes-preserved g c =
     let room = c.min-room.ensures in
     record {
       cut = subst (λ (t : List ℕ). CutsRead g.S.Sink.taken c.args.cuts.now (g.R.Read.remaining c.args.r.now)
-          (g.R.Read.remaining c.read_behind-count.new.r) c.args.sink.now c.give_first.new.sink (c.loop-bytes.bytes + c.read_behind-count.result.0) t) (sym front)
-          (reads-first g.S.Sink.taken c.args.cuts.now c.requires.sizes _ _ _ _ _ _ _ _ _ _ _ before.cut c.read_behind-count.ensures.read
+          (g.R.Read.remaining c.read_behind-count.new.r) c.args.sink.now c.give_first.new.sink (c.loop-bytes.bytes + c.read_behind-count.result.0) t None) (sym front)
+          (reads-first g.S.Sink.taken c.args.cuts.now c.requires.sizes _ _ _ _ _ _ _ _ _ _ _ _ before.cut c.read_behind-count.ensures.read
           c.in-Ok.ensures.gives);
       begun = subst (λ (t : List ℕ). IsBegun c.args.cuts.now t) (sym front) c.in-Ok.ensures.rest;
       room = c.to_front-kept.ensures.len ∙ c.read_behind-count.ensures.len ∙ before.room;

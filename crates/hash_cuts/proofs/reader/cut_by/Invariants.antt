@@ -1,4 +1,4 @@
-use Rattle.std.proofs.Common.{◌-◌, ◌≡◌, ◌≤◌, length, take}
+use Rattle.std.proofs.Common.{None, ◌-◌, ◌≡◌, ◌≤◌, length, take}
 use Rattle.hash_cuts.specs.Reading.{CutsRead, IsBegun}
 use Rattle.hash_cuts.proofs.reader.cut_by.Given as goal
 
@@ -7,7 +7,7 @@ invariant-loop-bytes g l =
     let left = g.R.Read.remaining in
     let rest = take l.kept l.buffer in
     record {
-      cut : CutsRead g.S.Sink.taken l.cuts (left l.initial.r) (left l.r) l.initial.sink l.sink l.bytes rest;
+      cut : CutsRead g.S.Sink.taken l.cuts (left l.initial.r) (left l.r) l.initial.sink l.sink l.bytes rest None;
       begun : IsBegun l.cuts rest;
       room : length l.buffer ≡ l.cuts.most;
       kept : l.kept ≤ length l.buffer;

@@ -1,11 +1,11 @@
-use Rattle.std.proofs.Common.{◌≡◌, ◌≤◌, ◌<◌, ◌-◌, ◌∷◌, [], ◌⊎◌, ℕ, List, length, take, drop, inl, inr, ap, subst, sym, ◌∙◌, arith}
+use Rattle.std.proofs.Common.{None, Some, ◌≡◌, ◌≤◌, ◌<◌, ◌-◌, ◌∷◌, [], ◌⊎◌, ℕ, List, length, take, drop, inl, inr, ap, subst, sym, ◌∙◌, arith}
 use Rattle.std.proofs.Math.Path.{ap₂}
 use Rattle.std.proofs.lemmas.List.{drop-drop, length-drop, take_all}
 use Rattle.hash_cuts.specs.Cuts.{Cutting, HasSizes, first_cut}
 use Rattle.hash_cuts.specs.Reading.{GivesFirst, Takes}
 use Rattle.hash_cuts.proofs.ChunkLemmas.{first_cut-le}
 use Rattle.hash_cuts.proofs.CutLemmas.{first_cut-is}
-use Rattle.hash_cuts.proofs.GivenLemmas.{gives-kept, gives-more, on_err}
+use Rattle.hash_cuts.proofs.GivenLemmas.{gives-more, gives-refused, on_err}
 use Rattle.hash_cuts.proofs.reader.give_first.Goals.{else-n-rest-via-then-n-rest+else-n-most, else-n-rest-via-else-n-rest, else-loop-given-test, then-loop-given-test+then-n-rest+then-n-most}
 use Rattle.hash_cuts.proofs.reader.give_first.Goals as goal
 
@@ -40,9 +40,9 @@ loop-given-preserved g c =
     let chunk : take n (take (length bytes - given) rest) ≡ take first rest =
     ap₂ (λ (k : ℕ) (t : List ℕ). take k t) is (rest-is bytes given) in
     let more = gives-more g.S.Sink.taken cuts sizes bytes rest _ _ _ c.loop-given.invariant.gives some ends
-    (subst (λ (t : List ℕ). Takes g.S.Sink.taken c.loop-given.sink c.take.new.self (t ∷ [])) chunk c.in_ok-take.ensures.ok) in
+    (subst (λ (t : List ℕ). Takes g.S.Sink.taken c.loop-given.sink c.take.new.self (t ∷ []) None) chunk c.in_ok-take.ensures.ok) in
     record {
-      gives = subst (λ (t : List ℕ). GivesFirst g.S.Sink.taken cuts bytes t c.args.sink.now c.take.new.self)
+      gives = subst (λ (t : List ℕ). GivesFirst g.S.Sink.taken cuts bytes t None c.args.sink.now c.take.new.self)
           (ap (λ k. drop k rest) (sym is) ∙ drop-drop n given bytes) more;
       within = omega (arith, is, first_cut-le cuts sizes rest, length-drop given bytes, c.loop-given.invariant.within);
     }
@@ -70,7 +70,17 @@ returns-clause-rest g c =
 
 pub returns-in_err-take-clause-some : goal.returns-in_err-take-clause-some
 returns-in_err-take-clause-some g c =
+    let cuts = c.args.cuts.now in
+    let bytes = c.args.bytes.now in
+    let given = c.loop-given.given in
+    let n = c.first_cut-n.result in
+    let rest = drop given bytes in
+    let is : n ≡ first_cut cuts rest = cut-is cuts c.most-most.ensures.sizes bytes given n c.first_cut-n.ensures.cut in
+    let chunk : take n (take (length bytes - given) rest) ≡ take (first_cut cuts rest) rest =
+    ap₂ (λ (k : ℕ) (t : List ℕ). take k t) is (rest-is bytes given) in
     on_err _ c.from_residual.result (
-      drop c.loop-given.given c.args.bytes.now,
-      gives-kept g.S.Sink.taken c.args.cuts.now c.args.bytes.now _ _ _ _ c.loop-given.invariant.gives c.in_err-take.ensures.err,
+      rest,
+      omega (arith, length-drop given bytes, c.loop-given-test.true),
+      gives-refused g.S.Sink.taken cuts bytes rest (take (first_cut cuts rest) rest) _ _ _ c.loop-given.invariant.gives
+          (subst (λ (t : List ℕ). Takes g.S.Sink.taken c.loop-given.sink c.take.new.self [] (Some t)) chunk c.in_err-take.ensures.err),
     )

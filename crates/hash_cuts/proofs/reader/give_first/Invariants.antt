@@ -1,11 +1,11 @@
-use Rattle.std.proofs.Common.{◌-◌, ◌≤◌, length, drop}
+use Rattle.std.proofs.Common.{None, ◌-◌, ◌≤◌, length, drop}
 use Rattle.hash_cuts.specs.Reading.{GivesFirst}
 use Rattle.hash_cuts.proofs.reader.give_first.Given as goal
 
 abbrev pub invariant-loop-given : goal.invariant-loop-given
 invariant-loop-given g l =
     record {
-      gives : GivesFirst g.S.Sink.taken l.cuts l.bytes (drop l.given l.bytes) l.initial.sink l.sink;
+      gives : GivesFirst g.S.Sink.taken l.cuts l.bytes (drop l.given l.bytes) None l.initial.sink l.sink;
       within : l.given ≤ length l.bytes;
     }
 
