@@ -1,0 +1,4 @@
+pub mod CutLemmas
+pub mod ListingLemmas
+pub mod SizeLemmas
+pub mod TallyLemmas
