@@ -10,6 +10,10 @@ pub record AreOffsets (size count : ℕ) (offsets : List ℕ) : Type 0 where
   pub rise : (i : ℕ) → i < count → slice_index offsets i ≤ slice_index offsets (i + 1)
   pub within : (i : ℕ) → i < count → slice_index offsets (i + 1) ≤ size
 
+-- none of so many steps from place to place falls
+abbrev pub NoneFalls : ℕ → List ℕ → Type 0
+NoneFalls count offsets = (i : ℕ) → i < count → slice_index offsets i ≤ slice_index offsets (i + 1)
+
 -- text i lies between places i and i + 1
 abbrev pub text_at : List ℕ → List ℕ → ℕ → List ℕ
 text_at bytes offsets i = slice_range bytes (slice_index offsets i) (slice_index offsets (i + 1))

@@ -1,7 +1,7 @@
 //! The hashes of many texts in one call, as one body for every hash: of texts between offsets of 32 or of 64 bits, and of lines.
 ghost use Rattle.std.specs.Prelude.{◌≡◌, ◌+◌, ◌<◌, ◌↔◌, ◌∷◌, ℕ, List, length, map, slice_index, IsSome, IsTrue};
 ghost use Rattle.hashers.specs.Spooky.{spooky_v1};
-ghost use Rattle.hash_c.specs.Columns.{AreOffsets, IsColumn, IsColumnBy};
+ghost use Rattle.hash_c.specs.Columns.{AreOffsets, IsColumn, IsColumnBy, NoneFalls};
 ghost use Rattle.hash_c.specs.Lines.{laid_over};
 ghost use Rattle.text_set.specs.Lines.{line_texts};
 ghost use Rattle.hash_names.specs.Named.{hash_at, hash_of, kind_at};
@@ -83,24 +83,37 @@ fn place<O: Offset>(offsets: &[O], i: usize) -> u64
     offsets[i].number()
 }
 
-/// Whether the offsets are those of so many texts in so many bytes.
+/// Whether none of so many steps from place to place falls. The loop looks at all of them, and so has no branch at each.
 #[inline(always)]
+fn none_falls<O: Offset>(offsets: &[O], count: usize) -> bool
+    requires { length offsets.now ≡ count + 1 }
+    ensures { IsTrue result ↔ NoneFalls count (map O.number offsets.now) }
+{
+    let mut falls = 0;
+    let mut from = place(offsets, 0);
+    for i in 0..count {
+        let to = place(offsets, i + 1);
+        falls += usize::from(to < from);
+        from = to;
+    }
+    falls == 0
+}
+
+/// Whether the offsets are those of so many texts in so many bytes. Where none falls, the last is the highest. It is a call of its
+/// own, so that it stands once in the library, and not once for each hash.
+#[inline(never)]
 fn are_offsets<O: Offset>(offsets: &[O], size: usize, count: usize) -> bool
     ensures { IsTrue result ↔ AreOffsets size count (map O.number offsets.now) }
 {
-    if count == usize::MAX || offsets.len() != count + 1 || place(offsets, 0) > size as u64 {
+    if count == usize::MAX || offsets.len() != count + 1 {
         return false;
     }
-    for i in 0..count {
-        let to = place(offsets, i + 1);
-        if to < place(offsets, i) || to > size as u64 {
-            return false;
-        }
-    }
-    true
+    place(offsets, count) <= size as u64 && none_falls(offsets, count)
 }
 
-/// Writes the hash of each text, and answers that the offsets are those of texts; else nothing is written.
+/// Writes the hash of each text, and answers that the offsets are those of texts; else nothing is written. It is a call of its own,
+/// so that each hash's loop has the registers for itself.
+#[inline(never)]
 fn column<T: TextHash, O: Offset>(bytes: &[u8], offsets: &[O], hashes: &mut [u64]) -> bool
     ensures { IsColumn T.hash bytes.now (map O.number offsets.now) hashes.old hashes.new result }
 {

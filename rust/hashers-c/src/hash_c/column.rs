@@ -86,35 +86,56 @@ fn place<O: Offset>(offsets: &[O], i: usize) -> u64 {
     offsets[i].number()
 }
 
-/// Whether the offsets are those of so many texts in so many bytes.
+/// Whether none of so many steps from place to place falls. The loop looks at all of them, and so has no branch at each.
+///
+/// The caller has to see to it that:
+///
+/// ```text
+/// length offsets.now ≡ count + 1
+/// ```
+///
+/// Proved:
+///
+/// ```text
+/// IsTrue result ↔ NoneFalls count (map O.number offsets.now)
+/// ```
+#[inline(always)]
+fn none_falls<O: Offset>(offsets: &[O], count: usize) -> bool {
+    let mut falls = 0;
+    let mut from = place(offsets, 0);
+    for i in 0..count {
+        let to = place(offsets, i + 1);
+        falls += usize::from(to < from);
+        from = to;
+    }
+    falls == 0
+}
+
+/// Whether the offsets are those of so many texts in so many bytes. Where none falls, the last is the highest. It is a call of its
+/// own, so that it stands once in the library, and not once for each hash.
 ///
 /// Proved:
 ///
 /// ```text
 /// IsTrue result ↔ AreOffsets size count (map O.number offsets.now)
 /// ```
-#[inline(always)]
+#[inline(never)]
 fn are_offsets<O: Offset>(offsets: &[O], size: usize, count: usize) -> bool {
-    if count == usize::MAX || offsets.len() != count + 1 || place(offsets, 0) > size as u64 {
+    if count == usize::MAX || offsets.len() != count + 1 {
         return false;
     }
-    for i in 0..count {
-        let to = place(offsets, i + 1);
-        if to < place(offsets, i) || to > size as u64 {
-            return false;
-        }
-    }
-    true
+    place(offsets, count) <= size as u64 && none_falls(offsets, count)
 }
 
-/// Writes the hash of each text, and answers that the offsets are those of texts; else nothing is written.
+/// Writes the hash of each text, and answers that the offsets are those of texts; else nothing is written. It is a call of its own,
+/// so that each hash's loop has the registers for itself.
 ///
 /// Proved:
 ///
 /// ```text
 /// IsColumn T.hash bytes.now (map O.number offsets.now) hashes.old hashes.new result
 /// ```
-#[inline]
+#[inline(never)]
 fn column<T: TextHash, O: Offset>(bytes: &[u8], offsets: &[O], hashes: &mut [u64]) -> bool {
     if !are_offsets(offsets, bytes.len(), hashes.len()) {
         return false;
