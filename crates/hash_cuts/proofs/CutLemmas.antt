@@ -1,15 +1,16 @@
 -- Where the first chunk of a text ends, by which places are cuts.
-use Rattle.std.proofs.Common.{◌≡◌, ℕ, ◌+◌, ◌-◌, ◌*◌, ◌/◌, ◌^◌, ◌<◌, ◌≤◌, Bool, true, false, not, nat_lt, min, List, length, take, drop, inl, inr, arith, ap, sym, ◌∙◌}
+use Rattle.std.proofs.Common.{◌≡◌, ℕ, ◌+◌, ◌-◌, ◌*◌, ◌/◌, ◌^◌, ◌<◌, ◌≤◌, Bool, true, false, not, nat_lt, min, List, length, get_or, take, drop, inl, inr, arith, lit<, ap, subst, sym, ◌∙◌}
 use Rattle.std.proofs.Math.Nat.{div-mul-le_self, mul-le-mul_right}
 use Rattle.std.proofs.lemmas.Bool.{cases_lt, false≢true, not-false, not-true}
 use Rattle.std.proofs.lemmas.Bool.Decides.{nat_tests}
 use Rattle.std.proofs.lemmas.Nat.{le-div}
+use Rattle.std.proofs.lemmas.List.{get_or-drop, get_or-take}
 use Rattle.std.proofs.lemmas.List.FromFn.{get_or-range_with_len, length-range_with_len}
 use Rattle.std.proofs.lemmas.List.Sums.{prefix_len-le-length, prefix_len_passes, prefix_len_stops}
 use Rattle.std.specs.List.{prefix_len, range_with_len}
-use Rattle.hash_cuts.specs.Cuts.{Cutting, is_cut, first_cut}
-use Rattle.hash_cuts.specs.Gear.{gear, gear_of}
-use Rattle.hash_cuts.proofs.GearLemmas.{gear-rolled}
+use Rattle.hash_cuts.specs.Cuts.{Cutting, HasSizes, is_cut, first_cut}
+use Rattle.hash_cuts.specs.Gear.{gear, gear_of, gear_step}
+use Rattle.hash_cuts.proofs.GearLemmas.{gear-more, gear-rolled}
 
 -- the end of the first chunk at the latest
 abbrev pub latest : Cutting → List ℕ → ℕ
@@ -111,3 +112,73 @@ cut-by-hash cuts text place hash least average from within rolled =
     let number = gear cuts.seed1 cuts.seed2 in
     below-bound hash cuts.average average
     ∙ ap (λ h. nat_lt (h * cuts.average) (2 ^ 64)) (rolled ∙ gear-rolled number text (cuts.least - 64) place (omega arith) within)
+
+-- a hash that rolled up to a place, from 64 bytes before the least on, and no place was a cut
+pub record HasRolled (cuts : Cutting) (text : List ℕ) (place hash : ℕ) : Type 0 where
+  pub hash_is : hash ≡ gear_of (gear cuts.seed1 cuts.seed2) (take (place - (cuts.least - 64)) (drop (cuts.least - 64) text))
+  pub none : NoCutBefore cuts text place
+
+module _ (cuts : Cutting) (text : List ℕ) (below : ℕ) (sizes : HasSizes cuts) (bound : below ≡ (2 ^ 64 - 1) / cuts.average + 1) where
+  -- whether it is a cut where a hash rolled to
+  rolled-cut : (place hash : ℕ) → cuts.least ≤ place → place ≤ length text → HasRolled cuts text place hash
+      → nat_lt hash below ≡ is_cut cuts text place
+  rolled-cut place hash from within rolled =
+      ap (nat_lt hash) bound
+      ∙ cut-by-hash cuts text place hash (omega (arith, sizes)) (omega (arith, sizes)) from within rolled.hash_is
+
+  -- a hash below the bound is a cut's
+  pub rolled-to : (place hash : ℕ) → cuts.least ≤ place → place < latest cuts text → HasRolled cuts text place hash → hash < below
+      → place ≡ first_cut cuts text
+  rolled-to place hash from within rolled low =
+      let under : nat_lt hash below ≡ true = grind (arith, nat_tests) in
+      first_cut-from cuts text place (record {
+        within = omega (arith, within);
+        before = rolled.none;
+        cut = λ _. (from, sym (rolled-cut place hash from (omega (arith, within)) rolled) ∙ under);
+      })
+
+  -- one that is not rolls on by one byte
+  pub rolled-on : (place hash next : ℕ) → cuts.least ≤ place → place < length text
+      → next ≡ gear_step (gear cuts.seed1 cuts.seed2) hash (get_or text place 0) → below ≤ hash → HasRolled cuts text place hash
+      → HasRolled cuts text (place + 1) next
+  rolled-on place hash next from within step high rolled =
+      let number = gear cuts.seed1 cuts.seed2 in
+      let above : nat_lt hash below ≡ false = grind (arith, nat_tests) in
+      let none : is_cut cuts text place ≡ false = sym (rolled-cut place hash from (omega (arith, within)) rolled) ∙ above in
+      record {
+        hash_is =
+            step
+            ∙ ap (λ h. gear_step number h (get_or text place 0)) rolled.hash_is
+            ∙ sym (gear-more number text (cuts.least - 64) place (omega (arith, from)) within);
+        none = λ m after before. elim (cases_lt m place) [
+          | inl earlier ↦ rolled.none m after earlier
+          | inr there ↦
+              let same : m ≡ place = omega (arith, before, there) in
+              ap (is_cut cuts text) same ∙ none
+        ];
+      }
+
+  -- four that are not roll on by four bytes
+  pub rolled-on-four : (place : ℕ) (bytes : List ℕ) (hash one two three four : ℕ) → cuts.least ≤ place → place + 4 ≤ length text
+      → ((i n : ℕ) → i < 4 → n ≡ place + i → get_or bytes i 0 ≡ get_or text n 0)
+      → let step = gear_step (gear cuts.seed1 cuts.seed2) in
+      one ≡ step hash (get_or bytes 0 0) → two ≡ step one (get_or bytes 1 0) → three ≡ step two (get_or bytes 2 0)
+      → four ≡ step three (get_or bytes 3 0) → below ≤ hash → below ≤ one → below ≤ two → below ≤ three → HasRolled cuts text place hash
+      → HasRolled cuts text (place + 4) four
+  rolled-on-four place bytes hash one two three four from within byte one_is two_is three_is four_is high high1 high2 high3 rolled =
+      let on = λ (i n h next : ℕ) (i_in : i < 4) (there : n ≡ place + i) (is : next ≡ gear_step (gear cuts.seed1 cuts.seed2) h (get_or bytes i 0)).
+      rolled-on n h next (omega (arith, from, there)) (omega (arith, i_in, there, within))
+      (is ∙ ap (gear_step (gear cuts.seed1 cuts.seed2) h) (byte i n i_in there)) in
+      let rolled1 = on 0 place hash one (lit< tt) (omega arith) one_is high rolled in
+      let rolled2 = on 1 (place + 1) one two (lit< tt) (omega arith) two_is high1 rolled1 in
+      let rolled3 = on 2 (place + 1 + 1) two three (lit< tt) (omega arith) three_is high2 rolled2 in
+      let all : place + 1 + 1 + 1 + 1 ≡ place + 4 = omega arith in
+      subst (λ n. HasRolled cuts text n four) all (on 3 (place + 1 + 1 + 1) three four (lit< tt) (omega arith) four_is high3 rolled3)
+
+-- the bytes at a place, one by one
+pub bytes-there : (text bytes : List ℕ) (place room : ℕ) → bytes ≡ take 4 (take room (drop place text)) → 4 ≤ room
+    → (i n : ℕ) → i < 4 → n ≡ place + i → get_or bytes i 0 ≡ get_or text n 0
+bytes-there text bytes place room are some i n below there =
+    ap (λ b. get_or b i 0) are ∙ get_or-take 4 (take room (drop place text)) i 0 below
+    ∙ get_or-take room (drop place text) i 0 (omega (arith, below, some)) ∙ get_or-drop place text i 0
+    ∙ ap (λ k. get_or text k 0) (sym there)

@@ -69,7 +69,17 @@ impl Cuts {
             return end;
         }
         let mut hash = self.gear.hash(&text[self.least - 64..self.least]);
-        for place in self.least..end {
+        let mut place = self.least;
+        // four places a turn, as long as none of them is a cut
+        'fours: while let Some((bytes, _)) = text[place..end].split_first_chunk::<4>() {
+            let (one, two, three, four) = self.gear.four_steps(hash, bytes);
+            if hash < self.below || one < self.below || two < self.below || three < self.below {
+                break;
+            }
+            hash = four;
+            place += 4;
+        }
+        for place in place..end {
             if hash < self.below {
                 return place;
             }

@@ -1,5 +1,5 @@
 //! The gear hash, which takes a shift and two sums a byte, and in which the last 64 bytes alone are left.
-ghost use Rattle.std.specs.Prelude.{◌≡◌, ℕ};
+ghost use Rattle.std.specs.Prelude.{◌≡◌, ℕ, slice_index};
 ghost use Rattle.hash_cuts.specs.Gear.{AreNumbers, gear, gear_of, gear_step};
 
 use hashers::jenkins::spooky_hash::SpookyHasher;
@@ -66,6 +66,27 @@ impl Gear {
     {
         hash.wrapping_mul(2)
             .wrapping_add(self.numbers[usize::from(byte)])
+    }
+
+    /// The hashes with one byte more, with two, three and four. The last three add the hash of the bytes alone, so that the next four
+    /// bytes wait for a shift and two sums, and not for four steps.
+    #[inline(always)]
+    pub fn four_steps(&self, hash: u64, bytes: &[u8; 4]) -> (u64, u64, u64, u64)
+        ensures one { result.0 ≡ gear_step (gear self.now.0 self.now.1) hash (slice_index bytes.now 0) }
+        ensures two { result.1 ≡ gear_step (gear self.now.0 self.now.1) result.0 (slice_index bytes.now 1) }
+        ensures three { result.2 ≡ gear_step (gear self.now.0 self.now.1) result.1 (slice_index bytes.now 2) }
+        ensures four { result.3 ≡ gear_step (gear self.now.0 self.now.1) result.2 (slice_index bytes.now 3) }
+    {
+        let one = self.step(0, bytes[0]);
+        let two = self.step(one, bytes[1]);
+        let three = self.step(two, bytes[2]);
+        let four = self.step(three, bytes[3]);
+        (
+            self.step(hash, bytes[0]),
+            hash.wrapping_mul(4).wrapping_add(two),
+            hash.wrapping_mul(8).wrapping_add(three),
+            hash.wrapping_mul(16).wrapping_add(four),
+        )
     }
 
     /// The hash of a text.

@@ -1,10 +1,16 @@
-use Rattle.std.proofs.Common.{◌≡◌, ◌-◌, take, drop}
-use Rattle.hash_cuts.specs.Gear.{gear, gear_of}
-use Rattle.hash_cuts.proofs.CutLemmas.{NoCutBefore}
+use Rattle.std.proofs.Common.{◌-◌, ◌≤◌}
+use Rattle.hash_cuts.proofs.CutLemmas.{HasRolled}
 use Rattle.hash_cuts.proofs.cuts.Cuts.first_cut.Given as goal
 
+abbrev pub invariant-fours : goal.invariant-fours
+invariant-fours l = record {
+  rolled : HasRolled l.self l.text l.place l.hash;
+  from : l.self.least ≤ l.place;
+  within : l.place ≤ l.end;
+}
+
+abbrev pub decreases-fours : goal.decreases-fours
+decreases-fours l = l.end - l.place
+
 abbrev pub invariant-loop-place : goal.invariant-loop-place
-invariant-loop-place l =
-    let from = l.self.least - 64 in
-    (l.hash ≡ gear_of (gear l.self.seed1 l.self.seed2) (take (l.place - from) (drop from l.text)))
-    × NoCutBefore l.self l.text l.place
+invariant-loop-place l = HasRolled l.self l.text l.place l.hash
