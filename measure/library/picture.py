@@ -74,3 +74,24 @@ def strokes(rows, colour, limits, size, x0, y0):
             if colours[begin] == colour:
                 yield f"M{x0 + size * begin} {y0 + size * y + size // 2}h{size * (end - begin)}"
             begin = end
+
+
+def columns(panels, marks, step, caption):
+    """A picture of panels side by side, each a name and its columns, in percent. Marks stand below the columns that they name, and lines at
+    each step."""
+    wide, high, left, top = 14, 200, 40, 40
+    most = -(-max(max(values) for _, values in panels) // step) * step
+    width = left + sum(len(values) * wide + 60 for _, values in panels)
+    parts, x0, floor = [], left, top + high
+    for name, values in panels:
+        parts.append(text(x0, 20, name, ' font-weight="bold"'))
+        for value in range(0, int(most) + 1, step):
+            y = floor - high * value / most
+            parts.append(f'<path d="M{x0} {y:.1f}h{len(values) * wide}" stroke="#cccccc"/>')
+            parts.append(text(x0 - 6, f"{y + 4:.1f}", value, ' text-anchor="end"'))
+        for at, value in enumerate(values):
+            x, tall = x0 + at * wide + 1, high * value / most
+            parts.append(f'<rect x="{x}" y="{floor - tall:.1f}" width="{wide - 2}" height="{tall:.1f}" fill="{GREENS_TO_REDS[0]}"/>')
+        parts += [text(x0 + at * wide, floor + 18, told, ' text-anchor="middle"') for at, told in marks.items()]
+        x0 += len(values) * wide + 60
+    return drawing(width, floor + 60, [*parts, text(left, floor + 46, caption)])

@@ -6,6 +6,7 @@
 #![tactic(auto)]
 
 mod buckets;
+mod cuts;
 mod filters;
 mod keyed;
 mod keys;
