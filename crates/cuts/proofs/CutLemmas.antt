@@ -1,7 +1,7 @@
 -- What comes of cutting a file, by what comes of cutting what it holds.
 use Rattle.std.proofs.Common.{◌≡◌, ◌<◌, ◌+◌, ℕ, ◌++◌, ◌∷◌, [], List, length, length-append, take, drop, Bool, true, false, Option, Some, None, Result, Ok, Err, IsTrue, inr, append-nil, arith, ap, sym, ◌∙◌, refl}
 use Rattle.std.specs.List.{concat}
-use Rattle.cuts.specs.Cut.{EndsFile, IsRead, IsTorn, Opening}
+use Rattle.cuts.specs.Cut.{EndsFile, IsTorn, Opening}
 use Rattle.hash_cuts.specs.Cuts.{Cutting, chunks, chunks_upto, first_cut}
 use Rattle.hash_cuts.specs.Reading.{CutsAll, CutsRead, IsBegun, Taken}
 

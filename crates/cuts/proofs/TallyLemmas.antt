@@ -1,8 +1,8 @@
 -- The chunks whose hash no chunk before them has, and one chunk more.
-use Rattle.std.proofs.Common.{◌≡◌, ℕ, ◌+◌, ◌-◌, ◌==◌, ◌||◌, ◌&&◌, Bool, true, false, not, if◌then◌else◌, Option, None, Result, Ok, Err, IfOk, map, List, [], ◌∷◌, ◌++◌, length, length-append, append-nil, arith, ap, refl, subst, sym, ◌∙◌}
+use Rattle.std.proofs.Common.{◌≡◌, ℕ, ◌+◌, ◌-◌, ◌==◌, ◌||◌, ◌&&◌, Bool, true, false, not, if◌then◌else◌, None, Result, Ok, Err, IfOk, List, [], ◌∷◌, ◌++◌, length, length-append, append-nil, arith, ap, refl, subst, sym, ◌∙◌}
 use Rattle.std.proofs.Math.Path.{ap₂}
 use Rattle.std.specs.BTreeSet.{contains}
-use Rattle.std.specs.List.{concat, filter, flat_map, list_all, list_any}
+use Rattle.std.specs.List.{filter, list_all, list_any}
 use Rattle.std.specs.Ordering.{nat_cmp}
 use Rattle.std.proofs.lemmas.Grind.{flat_map-append}
 use Rattle.std.proofs.lemmas.List.{map-append}
@@ -86,10 +86,6 @@ pub counted_file : {E : Type 0} (cuts : Cutting) (opens : Opening) (old new : Ta
     → IfOk result (λ whole. (given : List (List ℕ)) × IsCut cuts opens given whole × CountsMore (sum_by old.kind) old new given)
 counted_file cuts opens old new (Ok whole) (given, is_cut, takes) = (given, is_cut, (takes old [] (counts_none old)).1 refl)
 counted_file cuts opens old new (Err error) torn = tt
-
--- no files
-pub cut_none : (cuts : Cutting) (opens : Opens) → AreCut cuts opens [] [] true
-cut_none cuts opens = record { names_are = refl; each = All-nil (IsFileCut cuts opens); all_is = refl }
 
 -- one file more
 pub cut_more : (cuts : Cutting) (opens : Opens) (names names' : List (List ℕ)) (files : List Cut) (all : Bool) (file : Cut)

@@ -1,10 +1,8 @@
 -- What comes of cutting a file.
-use Rattle.std.specs.Prelude.{ℕ, ◌≡◌, ◌⊎◌, ◌++◌, Bool, true, false, List, [], ◌∷◌, Option, Some, None, Result, Ok, Err, length}
+use Rattle.std.specs.Prelude.{ℕ, ◌≡◌, ◌⊎◌, ◌++◌, Bool, true, false, List, [], ◌∷◌, Option, Some, None, Result, Ok, Err}
 use Rattle.std.specs.Io.KnownBytes.{Consumes, IsAtEnd}
 use Rattle.std.specs.declared.io.Error.{Error}
 use Rattle.cli.specs.Files.{Opens}
-use Rattle.cli.specs.declared.fault.Fault.{Fault}
-use Rattle.cuts.specs.declared.fault.TooMany.{TooMany}
 use Rattle.hash_cuts.specs.Cuts.{Cutting, chunks}
 use Rattle.hash_cuts.specs.Reading.{IsBegun, Taken, Takes}
 

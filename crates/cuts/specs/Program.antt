@@ -19,7 +19,7 @@ use Rattle.cuts.specs.declared.outcome.Misuse.{Misuse}
 use Rattle.cuts.specs.declared.outcome.Misuse.TheVariants as misuse
 use Rattle.cuts.specs.declared.outcome.Task.{Task}
 use Rattle.cuts.specs.declared.sizes.Sizes.{Sizes}
-use Rattle.hash_cuts.specs.Cuts.{AreSizes, Cutting, cutting}
+use Rattle.hash_cuts.specs.Cuts.{Cutting, cutting}
 use Rattle.hash_lines.specs.declared.line.Kind.{Kind}
 use Rattle.hash_sums.specs.Keys.{AreKeysOf}
 use Rattle.hash_sums.specs.Sums.{kind_of, kinds, sum_by, told_of}

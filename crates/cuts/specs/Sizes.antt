@@ -1,5 +1,5 @@
 -- Sizes of chunks, as a call gives them.
-use Rattle.std.specs.Prelude.{ℕ, ◌+◌, ◌-◌, ◌*◌, ◌/◌, ◌^◌, ◌&&◌, ◌==◌, nat_lt, min, max, if◌then◌else◌, List, length, take, slice_index, Option, Some, None, codes}
+use Rattle.std.specs.Prelude.{ℕ, ◌-◌, ◌*◌, ◌/◌, ◌^◌, ◌&&◌, ◌==◌, nat_lt, min, max, if◌then◌else◌, List, length, take, slice_index, Option, Some, None, codes}
 use Rattle.std.specs.Str.Parse.{digits_value}
 use Rattle.std.specs.Str.{all_ascii_digits}
 use Rattle.cli.specs.Call.{Saying, value_of}

@@ -38,8 +38,7 @@ chunk: where it begins, how many bytes it has, its hash, and the file. An edit
 changes the chunks around it, and no others. With no FILE, or when FILE is -,
 read standard input.
 
-  -a, --algorithm NAME  the hash of a chunk, by default spooky128; hashsum --list
-                        prints all
+  -a, --algorithm NAME  the hash of a chunk, by default spooky128
   -l, --least BYTES     the fewest bytes of a chunk, but for a file's last; by
                         default a quarter of the average
       --average BYTES   behind the fewest, each place is a cut with a chance of
@@ -53,7 +52,8 @@ read standard input.
       --help, --version   print this and exit
 
 BYTES may end with K, M or G, for 2^10, 2^20 and 2^30; all are at least 64. The
-exit status is 0, 1 if a file failed, 2 if the call is wrong.
+hashes are those of hashsum, but for poly61. The exit status is 0, 1 if a file
+failed, 2 if the call is wrong.
 ";
 
 /// Which version this is.

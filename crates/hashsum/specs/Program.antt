@@ -1,9 +1,6 @@
 -- What the program is asked for, and how it ends.
-use Rattle.std.specs.Prelude.{ℕ, ◌≡◌, ◌||◌, ◌&&◌, ◌⊎◌, not, if◌then◌else◌, IsSome, Bool, true, false, List, [], ◌∷◌, Option, Some, None, Result, Ok, Err, map, codes}
+use Rattle.std.specs.Prelude.{ℕ, ◌≡◌, ◌||◌, ◌&&◌, ◌⊎◌, not, if◌then◌else◌, IsSome, Bool, false, List, [], ◌∷◌, Option, Some, None, Result, Ok, Err, map, codes}
 use Rattle.std.specs.Io.KnownBytes.{Keeps}
-use Rattle.std.specs.Char.{to_ascii_lowercase}
-use Rattle.std.specs.List.{find}
-use Rattle.std.specs.Str.{bytes_eq}
 use Rattle.hash_lines.specs.declared.line.Form.TheVariants.{Tagged, Untagged}
 use Rattle.hash_lines.specs.declared.line.Kind.{Kind}
 use Rattle.cli.specs.Call.{Choice, Saying, flag, given, operands, taking, value_of}
@@ -15,7 +12,7 @@ use Rattle.cli.specs.declared.frame.Request.TheVariants.{Work}
 use Rattle.cli.specs.declared.frame.Text.{Text}
 use Rattle.cli.specs.declared.outcome.Nothing.{Nothing}
 use Rattle.cli.specs.declared.outcome.Outcome.{Outcome}
-use Rattle.cli.specs.declared.outcome.Outcome.TheVariants.{Done, Usage, Reported, Failed}
+use Rattle.cli.specs.declared.outcome.Outcome.TheVariants.{Usage, Reported, Failed}
 use Rattle.cli.specs.declared.outcome.Wrong.{Wrong}
 use Rattle.cli.specs.declared.outcome.Wrong.TheVariants.{UnknownName, Own}
 use Rattle.hash_sums.specs.declared.check.Checking.{Checking}

@@ -1,4 +1,4 @@
-use Rattle.std.proofs.Common.{◌≡◌, ◌+◌, ◌∷◌, ◌++◌, [], ℕ, List, Err, Ok, map, take, drop, get_or, ap, refl, subst, sym, ◌∙◌}
+use Rattle.std.proofs.Common.{◌+◌, ◌∷◌, ◌++◌, [], ℕ, List, Err, Ok, map, take, drop, get_or, ap, refl, subst, sym, ◌∙◌}
 use denote.Ref.{Bor}
 use Rattle.std.specs.Io.Buffered.{writer_contents}
 use Rattle.cuts.specs.Cut.{Cut, IsFileCut, is_whole, name_of}

@@ -1,4 +1,4 @@
-use Rattle.std.proofs.Common.{ℕ, List, inr, subst, ◌∙◌}
+use Rattle.std.proofs.Common.{inr, subst, ◌∙◌}
 use Rattle.std.specs.Io.Buffered.{writer_contents}
 use Rattle.cli.specs.Streams.{AppendsPart}
 use Rattle.cuts.specs.Counted.{IsCounted}

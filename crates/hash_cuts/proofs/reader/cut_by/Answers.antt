@@ -1,4 +1,4 @@
-use Rattle.std.proofs.Common.{Option, None, Some, refl, ◌≤◌, ◌<◌, ◌+◌, ◌∷◌, [], ℕ, List, length, take, drop, ap, subst, sym, ◌∙◌, arith}
+use Rattle.std.proofs.Common.{None, Some, refl, ◌≤◌, ◌<◌, ◌+◌, ◌∷◌, [], ℕ, List, length, take, drop, ap, subst, sym, ◌∙◌, arith}
 use Rattle.hash_cuts.proofs.CutLemmas.{first_cut-is}
 use Rattle.hash_cuts.proofs.GivenLemmas.{moved-front, reads-all, reads-first, reads-none, reads-refused}
 use Rattle.hash_cuts.specs.Cuts.{first_cut}

@@ -1,4 +1,4 @@
-use Rattle.std.proofs.Common.{◌≡◌, ◌+◌, ◌∷◌, ◌++◌, [], ℕ, List, append_assoc, ap, subst, ◌∙◌}
+use Rattle.std.proofs.Common.{◌+◌, ◌∷◌, ◌++◌, [], ℕ, List, append_assoc, ap, subst, ◌∙◌}
 use Rattle.cuts.specs.Counted.{IsCounted}
 use Rattle.cuts.specs.declared.tally.Tally.{Tally}
 use Rattle.cuts.proofs.TallyLemmas.{counted_more}
