@@ -106,8 +106,8 @@ def fx(bits, key, sizes):
 
 # ---- SpookyHash
 
-def short_form(text, with_length):
-    h = [0, 0, SEED, SEED]
+def short_form(text, with_length, seeds):
+    h = [*seeds, SEED, SEED]
     for at in range(0, 192, 32):
         w = le_words(text[at:at + 32].ljust(32, b"\0"), 8)
         h[2], h[3] = h[2] + w[0] & M64, h[3] + w[1] & M64
@@ -120,11 +120,11 @@ def short_form(text, with_length):
         h[(q + 1) % 4] ^= h[q]
         h[q] = rotl(h[q], r, 64)
         h[(q + 1) % 4] = h[(q + 1) % 4] + h[q] & M64
-    return h[0]
+    return h[0], h[1]
 
 
-def long_form(text):
-    s, whole = [0, 0, SEED] * 4, len(text) // 96 * 96
+def long_form(text, seeds):
+    s, whole = [*seeds, SEED] * 4, len(text) // 96 * 96
     for at in range(0, whole, 96):
         d = le_words(text[at:at + 96], 8)
         for i, r in enumerate([11, 32, 43, 31, 17, 28, 39, 57, 55, 54, 22, 46]):
@@ -139,11 +139,16 @@ def long_form(text):
         s[(i + 11) % 12] = s[(i + 11) % 12] + s[(i + 1) % 12] & M64
         s[(i + 2) % 12] ^= s[(i + 11) % 12]
         s[(i + 1) % 12] = rotl(s[(i + 1) % 12], r, 64)
-    return s[0]
+    return s[0], s[1]
+
+
+def spooky128(text, seeds=(0, 0), with_length=1):
+    """Both words."""
+    return short_form(text, with_length, seeds) if len(text) < 192 else long_form(text, seeds)
 
 
 def spooky(with_length):
-    return lambda text: short_form(text, with_length) if len(text) < 192 else long_form(text)
+    return lambda text: spooky128(text, with_length=with_length)[0]
 
 
 # ---- the polynomial hash at a key
