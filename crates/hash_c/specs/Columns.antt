@@ -3,16 +3,16 @@ use Rattle.std.specs.Prelude.{ℕ, Bool, IsSome, IsTrue, ◌≡◌, ◌↔◌, �
 use Rattle.std.specs.Bool.{OnTrue, OnFalse}
 use Rattle.hash_names.specs.Named.{hash_at, kind_at}
 
+-- none of so many steps from place to place falls
+abbrev pub NoneFalls : ℕ → List ℕ → Type 0
+NoneFalls count offsets = (i : ℕ) → i < count → slice_index offsets i ≤ slice_index offsets (i + 1)
+
 -- there is one place more than texts, none falls, and none passes the data's end
 pub record AreOffsets (size count : ℕ) (offsets : List ℕ) : Type 0 where
   pub one_more : length offsets ≡ count + 1
   pub first : slice_index offsets 0 ≤ size
-  pub rise : (i : ℕ) → i < count → slice_index offsets i ≤ slice_index offsets (i + 1)
+  pub rise : NoneFalls count offsets
   pub within : (i : ℕ) → i < count → slice_index offsets (i + 1) ≤ size
-
--- none of so many steps from place to place falls
-abbrev pub NoneFalls : ℕ → List ℕ → Type 0
-NoneFalls count offsets = (i : ℕ) → i < count → slice_index offsets i ≤ slice_index offsets (i + 1)
 
 -- text i lies between places i and i + 1
 abbrev pub text_at : List ℕ → List ℕ → ℕ → List ℕ
