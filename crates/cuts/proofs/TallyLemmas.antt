@@ -10,7 +10,7 @@ use Rattle.std.proofs.lemmas.List.Elements.{All-nil, All-push, filter-append}
 use Rattle.std.proofs.lemmas.List.Folds.{list_all-append, list_any-append}
 use Rattle.cli.specs.Files.{Opens}
 use Rattle.cuts.proofs.CutLemmas.{bytes_more}
-use Rattle.cuts.specs.Counted.{CountsChunks, CountsMore, IsCounted}
+use Rattle.cuts.specs.Counted.{CountsChunks, CountsFile, CountsMore, IsCounted}
 use Rattle.cuts.specs.Cut.{Cut, EndsFile, IsCut, IsFileCut, Opening, given_of, is_whole, name_of}
 use Rattle.hash_cuts.specs.Cuts.{Cutting}
 use Rattle.hash_sums.specs.Sums.{sum_by}
@@ -83,7 +83,7 @@ counts_none tally = (refl, λ none before is. subst (λ given. IsCounted (sum_by
 -- the chunks of a file that was read are counted
 pub counted_file : {E : Type 0} (cuts : Cutting) (opens : Opening) (old new : Tally) (result : Result Bool E)
     → EndsFile CountsChunks cuts opens old new result
-    → IfOk result (λ whole. (given : List (List ℕ)) × IsCut cuts opens given whole × CountsMore (sum_by old.kind) old new given)
+    → IfOk result (CountsFile (sum_by old.kind) cuts opens old new)
 counted_file cuts opens old new (Ok whole) (given, is_cut, takes) = (given, is_cut, (takes old [] (counts_none old)).1 refl)
 counted_file cuts opens old new (Err error) torn = tt
 

@@ -1,10 +1,13 @@
 -- The numbers of the chunks so far.
-use Rattle.std.specs.Prelude.{ℕ, ◌≡◌, ◌==◌, ◌++◌, List, None, length}
+use Rattle.std.specs.Prelude.{ℕ, ◌≡◌, ◌==◌, ◌++◌, Bool, List, None, length}
 use Rattle.std.specs.List.{list_any}
 use Rattle.std.specs.Ordering.{nat_cmp}
 use Rattle.std.specs.BTreeSet.{contains}
-use Rattle.cuts.specs.Tally.{bytes_of, firsts}
+use Rattle.cli.specs.Files.{Opens}
+use Rattle.cuts.specs.Cut.{Cut, IsCut, Opening}
+use Rattle.cuts.specs.Tally.{AreCut, all_given, bytes_of, firsts}
 use Rattle.cuts.specs.declared.tally.Tally.{Tally}
+use Rattle.hash_cuts.specs.Cuts.{Cutting}
 use Rattle.hash_cuts.specs.Reading.{Taken}
 use Rattle.hash_sums.specs.Sums.{sum_by}
 
@@ -22,3 +25,11 @@ CountsMore hash old new given = (before : List (List ℕ)) → IsCounted hash be
 -- the same of a sink that counts, unless it refused a chunk
 abbrev pub CountsChunks : Taken Tally
 CountsChunks start now given refused = (now.kind ≡ start.kind) × (refused ≡ None → CountsMore (sum_by start.kind) start now given)
+
+-- the chunks of a file are counted
+abbrev pub CountsFile : (hash : List ℕ → ℕ) → Cutting → Opening → (old new : Tally) (whole : Bool) → Type 0
+CountsFile hash cuts opens old new whole = (given : List (List ℕ)) × IsCut cuts opens given whole × CountsMore hash old new given
+
+-- those of all files are, and no others
+abbrev pub CountsFiles : (hash : List ℕ → ℕ) → Cutting → Opens → (names : List (List ℕ)) → Tally → (all : Bool) → Type 0
+CountsFiles hash cuts opens names tally all = (files : List Cut) × AreCut cuts opens names files all × IsCounted hash (all_given files) tally

@@ -35,8 +35,8 @@ const HELP: &str = "usage: cuts [-a NAME] [-l BYTES] [--average BYTES] [-m BYTES
 
 Cut each file into chunks where its content says so, and print a line for each
 chunk: where it begins, how many bytes it has, its hash, and the file. An edit
-changes the chunks around it, and no others. With no FILE, or when FILE is -,
-read standard input.
+mostly changes only the chunks around it. With no FILE, or when FILE is -, read
+standard input.
 
   -a, --algorithm NAME  the hash of a chunk, by default spooky128
   -l, --least BYTES     the fewest bytes of a chunk, but for a file's last; by

@@ -156,7 +156,8 @@ fn ended<'a, R: Read + Drop, F: Folder<R>, W: Write + Drop>(
     lines: &mut Lines<'a, W>,
 ) -> Outcome
     requires { are_rising task.sizes ≡ true }
-    ensures { EndsTask (F.opens folder.now) (option_map (λ name. name.now) key_file.entry) (map (λ file. file.now) files.now)
+    ensures { EndsTask (F.opens folder.now) (option_map (λ name. name.now) key_file.entry)
+        (map (λ file. file.now) files.now)
         (writer_contents W.contents lines.old.w) (writer_contents W.contents lines.new.w) (Ok task) result }
 {
     match keys_for(folder, key_file) {

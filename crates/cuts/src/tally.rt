@@ -3,9 +3,8 @@ ghost use Rattle.std.specs.Prelude.{◌≡◌, ◌==◌, ◌||◌, ◌+◌, ◌-
 ghost use Rattle.std.specs.BTreeSet.{contains};
 ghost use Rattle.std.specs.Ordering.{nat_cmp};
 ghost use Rattle.std.specs.Io.Buffered.{writer_contents};
-ghost use Rattle.cuts.specs.Counted.{CountsChunks, CountsMore, IsCounted};
-ghost use Rattle.cuts.specs.Cut.{Cut, IsCut};
-ghost use Rattle.cuts.specs.Tally.{AreCut, EndsTally, all_given, number_line, numbers_of};
+ghost use Rattle.cuts.specs.Counted.{CountsChunks, CountsFile, CountsFiles, IsCounted};
+ghost use Rattle.cuts.specs.Tally.{EndsTally, number_line, numbers_of};
 ghost use Rattle.hash_sums.specs.Sums.{sum_by};
 
 use crate::cut::cut_file;
@@ -97,8 +96,7 @@ fn count_file<R: Read + Drop, F: Folder<R>>(
     tally: &mut Tally,
 ) -> Result<bool, Fault>
     ensures kind { tally.new.kind ≡ tally.old.kind }
-    ensures counted { IfOk result (λ whole. (given : List (List ℕ)) × IsCut cuts.now (F.opens folder.now name.now) given whole
-        × CountsMore (sum_by tally.old.kind) tally.old tally.new given) }
+    ensures counted { IfOk result (CountsFile (sum_by tally.old.kind) cuts.now (F.opens folder.now name.now) tally.old tally.new) }
 {
     cut_file(alloc, cuts, folder, name, tally)
 }
@@ -112,8 +110,8 @@ fn count_files<R: Read + Drop, F: Folder<R>>(
     tally: &mut Tally,
 ) -> Result<bool, Fault>
     requires { IsCounted (sum_by tally.old.kind) [] tally.old }
-    ensures { IfOk result (λ all. (files : List Cut) × AreCut cuts.now (F.opens folder.now) (map (λ name. name.now) names.now) files all
-        × IsCounted (sum_by tally.old.kind) (all_given files) tally.new) }
+    ensures { IfOk result (CountsFiles (sum_by tally.old.kind) cuts.now (F.opens folder.now)
+        (map (λ name. name.now) names.now) tally.new) }
 {
     let mut all = true;
     for name in names {
@@ -136,7 +134,8 @@ fn push_number(text: &mut Vec<u8>, word: &str, number: u64) -> Result<(), AllocE
 
 /// The lines of the numbers.
 fn tally_lines(alloc: Global, tally: &Tally) -> Result<Vec<u8>, AllocError>
-    ensures { IfOk result (λ text. text.items ≡ numbers_of tally.now.chunks tally.now.bytes (tally.now.bytes - tally.now.first)) }
+    ensures { IfOk result (λ text. text.items
+        ≡ numbers_of tally.now.chunks tally.now.bytes (tally.now.bytes - tally.now.first)) }
 {
     let mut text = Vec::new(alloc);
     push_number(&mut text, "chunks: ", tally.chunks)?;

@@ -1,4 +1,4 @@
-//! A text cut into chunks where its content says so, so that an edit changes the chunks around it and no others.
+//! A text cut into chunks where its content says so, so that an edit mostly changes only the chunks around it.
 //!
 //! Programs for backups and for the exchange of files keep each chunk once, by its hash. A cut is where the gear hash of the 64 bytes before
 //! it is low, so it depends on these bytes alone, wherever they stand.
