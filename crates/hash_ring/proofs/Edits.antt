@@ -1,19 +1,19 @@
 -- A ring with a node more, and with one less.
-use Rattle.std.proofs.Common.{ℕ, suc, ◌≡◌, ◌≢◌, ◌+◌, ◌-◌, ◌<◌, ◌≤◌, Bool, true, false, not, cond, ltb, ◌==◌, List, [], ◌∷◌, ◌++◌, map, length, get_or, set, take, drop, arith, sym, ap, ◌∙◌, subst, refl, ⊎_elim}
-use Rattle.std.specs.List.{All, AllPairs, Contains, filter, insert, remove}
+use Rattle.std.proofs.Common.{ℕ, suc, ◌≡◌, ◌≢◌, ◌+◌, ◌-◌, ◌<◌, ◌≤◌, Bool, true, not, cond, ltb, ◌==◌, List, [], ◌++◌, map, length, get_or, take, drop, arith, sym, ap, ◌∙◌, subst, refl, ⊎_elim, inl, inr}
+use Rattle.std.specs.List.{AllPairs, Contains, filter, insert, remove}
 use Rattle.std.proofs.lemmas.Bool.{cases_eq}
-use Rattle.std.proofs.lemmas.Bool.Decides.{Decides-eqb, nat_tests}
+use Rattle.std.proofs.lemmas.Bool.Decides.{nat_tests}
 use Rattle.std.proofs.lemmas.Grind.{common_steps, elements, moves}
-use Rattle.std.proofs.lemmas.List.{map-append, drop_all, take-map, take_all, drop-map, get_or-map, length-map}
-use Rattle.std.proofs.lemmas.List.Edits.{map_over_more, get_or-insert_at}
-use Rattle.std.proofs.lemmas.List.Elements.{All-contains, Contains-append_cases, Contains-append_left, Contains-append_right, All-append, All-drop, All-filter, All-head, All-map, All-tail, All-take, filter_passes}
+use Rattle.std.proofs.lemmas.List.{map-append, take-map, drop-map, get_or-map, length-map}
+use Rattle.std.proofs.lemmas.List.Edits.{get_or-insert_at}
+use Rattle.std.proofs.lemmas.List.Elements.{All-contains, Contains-append_cases, All-append, All-drop, All-filter, All-map, All-take, filter_passes}
 use Rattle.std.proofs.lemmas.List.Kept.{AllPairs-filter}
 use Rattle.std.proofs.lemmas.List.Sorted.{Contains-permutation, IsPermutation-filter_both}
 use Rattle.hash_ring.specs.declared.Node.{Node}
 use Rattle.hash_ring.specs.declared.Point.{Point}
 use Rattle.hash_ring.specs.Ring.{IsPointOf}
 use Rattle.hash_ring.specs.Points.{ArePoints, IsBefore, IsGapAt, IsRing, IsPointOfItsNode, closed_up, left_without, node_at, opened_up, pair_of, pairs, points_of}
-use Rattle.hash_ring.proofs.Points.{among, each, is_there, mapped_in_order}
+use Rattle.hash_ring.proofs.Points.{mapped_in_order, one_node_more}
 use Rattle.hash_ring.proofs.Names.{Pairs, inserted_sorted, removed_sorted}
 
 pub pairs_insert : (nodes : List Node) (i : ℕ) (node : Node) → pairs (insert nodes i node) ≡ insert (pairs nodes) i (pair_of node)
@@ -25,12 +25,6 @@ pairs_remove nodes i = grind (arith, common_steps, take-map, drop-map, map-appen
 -- a list that was written over whole
 pub over : (new old : List Point) (n : ℕ) → length new ≡ length old → n ≡ length old → take n (new ++ drop (length new) old) ≡ new
 over new old n same is = grind (arith, common_steps)
-
--- one point more is counted anew
-pub mapped_more : (f : Point → Point) (old now : List Point) (i : ℕ) (d y : Point) → i < length old → length now ≡ length old
-    → now ≡ map f (take i old) ++ drop i old → y ≡ f (get_or now i d)
-    → set now i y ≡ map f (take (i + 1) old) ++ drop (i + 1) old
-mapped_more f old now i d y below long so_far made = grind (arith, common_steps, map_over_more)
 
 pub opened_in_order : (come : ℕ) (points : List Point) → AllPairs IsBefore points → AllPairs IsBefore (map (opened_up come) points)
 opened_in_order come = mapped_in_order (opened_up come)
@@ -78,11 +72,10 @@ module _ (hash : List ℕ → ℕ) (es : Pairs) (gone : ℕ) (below : gone < len
   was_at p = grind (arith, nat_tests, moves)
 
   other_node : (p : Point) → stays p ≡ true → p.node ≢ gone
-  other_node p e is = let f : (p.node == gone) ≡ true = (Decides-eqb p.node gone).1 is in cc
+  other_node p e is = grind (arith, nat_tests)
 
   test_of : (p : Point) → p.node ≢ gone → stays p ≡ true
-  test_of p ne = elim (p.node == gone) as
-      (λ b. (p.node == gone) ≡ b → not b ≡ true) [ true ↦ λ e. absurd (ne ((Decides-eqb p.node gone).0 e)) | false ↦ λ e. refl ] refl
+  test_of p ne = grind (arith, nat_tests)
 
   still_just : (points : List Point) → ArePoints hash es points → ArePoints hash rest (left_without gone points)
   still_just points just = record {
@@ -123,45 +116,20 @@ module _ (hash : List ℕ → ℕ) (es : Pairs) (come : ℕ) (node : List ℕ ×
   ArePoints-insert points just =
       let new : node_at more come ≡ node = get_or-insert_at es come node ([], 0) within in
       let others = map (opened_up come) points in
-      let its = points_of hash node come in
-      record {
-        real = All-append (IsPointOfItsNode hash more) others its
-            (All-map (IsPointOfItsNode hash more) (opened_up come) points
-            (λ k d l. let p = get_or points k d in subst (λ node. IsPointOf hash node p.place) (sym (shifted p)) (just.real k d l)))
-            (λ k d l. let p = get_or its k d in let of = each hash node come k d l in
-            subst (λ n. IsPointOf hash n p.place) (sym (ap (node_at more) of.0 ∙ new)) of.1);
-        all = λ i place of. ⊎_elim
-            (λ (here : i ≡ come). Contains-append_right others its _
-            (subst (λ (j : ℕ). Contains its (record { place = place; node = j })) (sym here)
-            (among hash node come place (subst (λ n. IsPointOf hash n place) (ap (node_at more) here ∙ new) of))))
-            (λ (other : i ≢ come).
+      let all = one_node_more hash more (λ i. i ≢ come) (λ _. Unit {0}) others come node
+      (record {
+        real = All-map (IsPointOfItsNode hash more) (opened_up come) points
+            (λ k d l. let p = get_or points k d in subst (λ node. IsPointOf hash node p.place) (sym (shifted p)) (just.real k d l));
+        all = λ i place other of.
             let p : Point = record { place = place; node = i } in
             let was : Point = closed_up come p in
             let back = reopened come p other in
-            Contains-append_left others its _
-            (subst (Contains others) back (in_map (opened_up come) points was
+            subst (Contains others) back (in_map (opened_up come) points was
             (just.all was.node place (subst (λ n. IsPointOf hash n place)
-            (ap (λ (q : Point). node_at more q.node) (sym back) ∙ shifted was) of)))))
-            (cases_eq i come);
-      }
-
--- the points of a node behind all others
-not_opened : (n : ℕ) (points : List Point) → All (λ p. p.node < n) points → map (opened_up n) points ≡ points
-not_opened n [] below = refl
-not_opened n (p ∷ ps) below =
-    let first = All-head (λ p. p.node < n) p ps below in
-    let same : cond (ltb p.node n) p.node (p.node + 1) ≡ p.node = grind (arith, nat_tests) in
-    λ j. record { place = p.place; node = same j } ∷ not_opened n ps (All-tail (λ p. p.node < n) p ps below) j
-
-pub ArePoints-push : (hash : List ℕ → ℕ) (es : Pairs) (node : List ℕ × ℕ) (points : List Point) → ArePoints hash es points
-    → ArePoints hash (es ++ node ∷ []) (points ++ points_of hash node (length es))
-ArePoints-push hash es node points just =
-    let n = length es in
-    let all : insert es n node ≡ es ++ node ∷ [] = λ j. take_all n es (omega arith) j ++ node ∷ drop_all n es (omega arith) j in
-    let same = not_opened n points (λ k d l. is_there hash es _ _ (just.real k d l)) in
-    subst (λ more. ArePoints hash more (points ++ points_of hash node n)) all
-    (subst (λ ps. ArePoints hash (insert es n node) (ps ++ points_of hash node n)) same
-    (ArePoints-insert hash es n node (omega arith) points just))
+            (ap (λ (q : Point). node_at more q.node) (sym back) ∙ shifted was) of)));
+      })
+      new (λ i _. ⊎_elim inr inl (cases_eq i come)) in
+      record { real = all.real; all = λ i place of. all.all i place tt of }
 
 -- a ring with a node more
 pub ring_with : (hash : List ℕ → ℕ) (es : Pairs) (name : List ℕ) (w i : ℕ) (old points : List Point) → IsRing hash es old

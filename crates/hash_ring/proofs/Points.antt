@@ -1,5 +1,6 @@
 -- The points of nodes, in a list and in order.
-use Rattle.std.proofs.Common.{ℕ, ◌≡◌, ◌<◌, ◌≤◌, ◌+◌, ◌-◌, Bool, true, ltb, if◌then◌else◌, List, length, get_or, map, arith, sym, ap, subst, refl, false, Some}
+use Rattle.std.proofs.Common.{ℕ, ◌≡◌, ◌<◌, ◌≤◌, ◌+◌, ◌-◌, ◌++◌, Bool, true, ltb, if◌then◌else◌, List, length, get_or, map, arith, sym, ap, ◌∙◌, subst, refl, false, Some, ◌⊎◌, ⊎_elim}
+use Rattle.std.proofs.lemmas.List.Elements.{All-append, Contains-append_left, Contains-append_right}
 use Rattle.std.specs.List.{All, AllPairs, Contains}
 use Rattle.std.specs.List.Sorted.{IsNonDecreasingBy, IsPermutation, IsSorted}
 use Rattle.std.specs.Ordering.{nat_cmp, is_lt, is_some_and, ordering_then, partial_ordering_then}
@@ -36,6 +37,27 @@ module _ (hash : List ℕ → ℕ) where
       let less : k < node.1 = omega (arith, length-map-range_with_len nth 0 node.1) in
       subst (λ p. (p.node ≡ i) × IsPointOf hash node p.place) (sym (get_or-map-range_with_len nth 0 node.1 k k d less (omega arith)))
       (refl, record { number = k; below = less; is = refl })
+
+  -- all points of some nodes, and none that is no node's
+  pub record AreThese (nodes : Pairs) (some : ℕ → Type 0) (points : List Point) : Type 0 where
+    pub real : All (IsPointOfItsNode hash nodes) points
+    pub all : (i place : ℕ) → some i → IsPointOf hash (node_at nodes i) place → Contains points (record { place = place; node = i })
+
+  pub one_node_more : (nodes : Pairs) (some more : ℕ → Type 0) (points : List Point) (k : ℕ) (node : List ℕ × ℕ) → AreThese nodes some points
+      → node_at nodes k ≡ node → ((i : ℕ) → more i → some i ⊎ (i ≡ k)) → AreThese nodes more (points ++ points_of hash node k)
+  one_node_more nodes some more points k node these is either =
+      let its = points_of hash node k in
+      record {
+        real = All-append (IsPointOfItsNode hash nodes) points its these.real
+            (λ j d l. let p = get_or its j d in let of = each node k j d l in
+            subst (λ n. IsPointOf hash n p.place) (sym (ap (node_at nodes) of.0 ∙ is)) of.1);
+        all = λ i place there of. ⊎_elim
+            (λ (old : some i). Contains-append_left points its _ (these.all i place old of))
+            (λ (here : i ≡ k). Contains-append_right points its _
+            (subst (λ (j : ℕ). Contains its (record { place = place; node = j })) (sym here)
+            (among node k place (subst (λ n. IsPointOf hash n place) (ap (node_at nodes) here ∙ is) of))))
+            (either i there);
+      }
 
   -- in whatever order the points stand
   pub ArePoints-permutation : (nodes : Pairs) (points moved : List Point) → IsPermutation points moved → ArePoints hash nodes points

@@ -197,14 +197,9 @@ fn opened_up(come: usize, point: Point) -> Point
     requires { point.node + 1 < 2 ^ 64 }
     ensures { result ≡ opened_up come point }
 {
-    let Point { place, node } = point;
-    if node < come {
-        point
-    } else {
-        Point {
-            place,
-            node: node + 1,
-        }
+    Point {
+        node: point.node + usize::from(point.node >= come),
+        ..point
     }
 }
 
@@ -278,32 +273,23 @@ fn merge_points<H: Piecewise>(
 fn closed_up(gone: usize, point: Point) -> Point
     ensures { result ≡ closed_up gone point }
 {
-    let Point { place, node } = point;
-    if node > gone {
-        Point {
-            place,
-            node: node - 1,
-        }
-    } else {
-        point
+    Point {
+        node: point.node - usize::from(point.node > gone),
+        ..point
     }
 }
 
-/// Counts the nodes of the points anew, where the one at an index has gone.
-fn close_up(points: &mut [Point], gone: usize)
-    ensures { points.new ≡ map (closed_up gone) points.old }
-{
-    for point in points.iter_mut() {
-        *point = closed_up(gone, *point);
-    }
-}
-
-/// Takes the points of a node out.
+/// Takes the points of a node out, and counts the nodes of the others anew.
 fn take_points(points: &mut Vec<Point>, gone: usize)
     ensures { points.new.items ≡ left_without gone points.old.items }
 {
-    points.retain(|point| point.node != gone);
-    close_up(points, gone);
+    let mut kept = 0;
+    for index in 0..points.len() {
+        let point = points[index];
+        points[kept] = closed_up(gone, point);
+        kept += usize::from(point.node != gone);
+    }
+    points.truncate(kept);
 }
 
 /// Whether the name is one of these.

@@ -1,6 +1,7 @@
-use Rattle.hash_ring.specs.Points.{ArePoints, pairs}
-use Rattle.std.proofs.Common.{take}
+use Rattle.std.proofs.Common.{◌<◌}
+use Rattle.hash_ring.specs.Points.{pairs}
+use Rattle.hash_ring.proofs.Points.{AreThese}
 use Rattle.hash_ring.proofs.all_points.Given as goal
 
 abbrev pub invariant-loop-index : goal.invariant-loop-index
-invariant-loop-index g l = ArePoints g.H.Piecewise.hash_of (pairs (take l.index l.nodes)) l.points.items
+invariant-loop-index g l = AreThese g.H.Piecewise.hash_of (pairs l.nodes) (λ i. i < l.index) l.points.items

@@ -6,7 +6,7 @@ use Rattle.std.proofs.lemmas.List.Edits.{get_or-insert_at}
 use Rattle.hash_ring.specs.declared.Node.{Node}
 use Rattle.std.specs.List.Sorted.{IsPermutation}
 use Rattle.hash_ring.specs.Points.{IsRing, nodes_of, opened_up, pair_of, pairs, points_of}
-use Rattle.hash_ring.proofs.Points.{ArePoints-permutation, is_there}
+use Rattle.hash_ring.proofs.Points.{ArePoints-permutation}
 use Rattle.hash_ring.proofs.Names.{absent, found, gap_read, inserted, len_of}
 use Rattle.hash_ring.proofs.Edits.{ArePoints-insert, pairs_insert, ring_with}
 use Rattle.hash_ring.proofs.Ring.add.Goals as goal
@@ -39,13 +39,6 @@ returns-in-Err-insert-clause-err g c = (
   ap (λ (node : Node). node.name) c.in-Err-insert.ensures.value_returned,
   ap (fin.get c.args.self.now) (sym c.deref.ensures.value) ∙ absent _ _ c.in-Err.at c.in-Err.ensures,
 )
-
-pub merge_points-requires-clause-in_range : goal.merge_points-requires-clause-in_range
-merge_points-requires-clause-in_range g c = λ k d below.
-    let nodes = c.self.inside.nodes in
-    let of = c.self.invariant.just.real k d below in
-    let there = is_there g.H.Piecewise.hash_of (pairs nodes.items) _ _ of in
-    omega (arith, there, length-map nodes.items pair_of, nodes.ok.0, c.in_default.ensures.len)
 
 pub invariant_of-self-in-Ok-merge_points : goal.invariant_of-self-in-Ok-merge_points
 invariant_of-self-in-Ok-merge_points g c =
