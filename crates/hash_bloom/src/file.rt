@@ -11,9 +11,6 @@ ghost use Rattle.hash_bloom.specs.File.{BeginsNot, IsRefusal, IsStored, bytes_of
 ghost use Rattle.hash_bloom.specs.Filter.{Filter, filter_of};
 ghost use mir.Syntax.{w64};
 
-#[cfg(test)]
-mod tests;
-
 use crate::{Bloom, NoFilter};
 use cli::fault::Fault;
 use cli::streams::{TRIES, write_all};

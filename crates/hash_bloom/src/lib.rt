@@ -12,10 +12,8 @@ ghost use Rattle.hash_bloom.specs.Filter.{Filter, IsFilter, Passes, PassesNone, 
 
 mod bits;
 pub mod commands;
-mod estimate;
+pub mod estimate;
 pub mod file;
-#[cfg(test)]
-mod tests;
 pub mod words;
 
 use crate::bits::{has_all, no_bits_beyond, ones};

@@ -9,8 +9,6 @@ pub mod djb2_add;
 pub mod elf;
 pub mod fnv1;
 pub mod joaat;
-#[cfg(test)]
-mod tests;
 pub mod windows;
 
 pub use djb2_add::Djb2AddHasher;

@@ -30,9 +30,6 @@ use std::fmt;
 use std::fmt::{Debug, Display, Formatter};
 use std::marker::{Model, PhantomData};
 
-#[cfg(test)]
-mod tests;
-
 /// A node: its name, and its weight, which is how many points it has on the ring. Nodes are in the order of their names, byte by
 /// byte, and of one name in that of their weights.
 #[derive(Debug, PartialEq, Eq, PartialOrd, Ord, Drop)]

@@ -7,6 +7,8 @@ mod buckets;
 mod byte_hashers;
 mod collision;
 mod cuts;
+mod filter_files;
+mod filters;
 mod fx;
 mod jenkins;
 mod keyed;
@@ -14,13 +16,17 @@ mod laws;
 mod maps;
 mod original;
 mod plain;
+mod poly61;
 mod promises;
 mod readers;
+mod relatives;
+mod ring;
 mod rounds;
 mod sample;
 mod spooky;
 mod streams;
 mod tables;
+mod texts;
 mod vectors;
 
 /// That each number is as wanted.

@@ -9,8 +9,6 @@ pub mod laws;
 pub mod lines;
 mod slots;
 mod store;
-#[cfg(test)]
-mod tests;
 mod texts;
 
 pub use keyed::{KeyedHasher, RandomKeys};

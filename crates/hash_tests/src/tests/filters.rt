@@ -3,11 +3,12 @@ ghost use Rattle.std.specs.Prelude.{◌≤◌, All};
 ghost use Rattle.hash_bloom.specs.Commands.{CanRun, Inserts};
 ghost use Rattle.hash_bloom.specs.Filter.{Filter, HasShape};
 
-use crate::commands::{
+use crate::tests::{all_hold, all_hold_at, same};
+use hash_bloom::commands::{
     Command, empty_finds_nothing, found_after, found_in_union, known_after, obey, obey_all,
 };
-use crate::estimate::nearest_keys;
-use crate::{Bloom, NoFilter, words};
+use hash_bloom::estimate::nearest_keys;
+use hash_bloom::{Bloom, NoFilter, words};
 use hashers::fnv::{FNV1aHasher64, FnvBuildHasher, FnvHashSet};
 use hashers::fx_hash::FxHasher;
 use hashers::jenkins::Lookup3Hasher;
@@ -16,24 +17,6 @@ use hashers::null::NullHasher;
 use hashers::oz::{DJB2Hasher, LoseLoseHasher};
 use std::alloc::{AllocError, Global};
 use std::process::Abort;
-
-/// That each number is as wanted.
-fn same(rt: &impl Abort, got: &[u64], want: &[u64]) {
-    assert_eq!(rt; got, want);
-}
-
-/// That all claims hold.
-fn all_hold(rt: &impl Abort, claims: &[bool]) {
-    assert!(rt; !claims.contains(&false), "not all hold: {claims:?}");
-}
-
-/// That all claims hold, in one turn of a loop.
-fn all_hold_at(rt: &impl Abort, turn: usize, claims: &[bool]) {
-    assert!(rt;
-        !claims.contains(&false),
-        "not all hold at {turn}: {claims:?}"
-    );
-}
 
 /// The filter of no keys.
 fn made<F: Piecewise, G: Piecewise>(

@@ -1,14 +1,14 @@
 //! Files of filters: by hand, read back, changed, cut, and where memory or a reader fails.
 ghost use Rattle.std.specs.Prelude.{◌≤◌};
 
-use crate::Bloom;
-use crate::file::Unread;
+use crate::tests::{all_hold, all_hold_at};
 use cli::rehearsal::Script;
+use hash_bloom::Bloom;
+use hash_bloom::file::Unread;
 use hashers::null::NullHasher;
 use hashers::oz::LoseLoseHasher;
 use std::alloc::Global;
 use std::io::{ErrorKind, Read};
-use std::process::Abort;
 
 /// The probes of the key of one byte b are 0, b, 2b, ..: `null` answers 0, and lose lose the sum of the bytes.
 type ByStep = Bloom<NullHasher, LoseLoseHasher>;
@@ -43,12 +43,19 @@ fn by_hand(rt: HostRuntime) {
     filter
         .write_to(&mut file, PAIR)
         .expect(&rt, "memory for the file");
-    assert_eq!(rt; file.as_slice(), FILE.as_slice());
+    let written = file.as_slice() == FILE.as_slice();
     file.push(b'!').expect(&rt, "memory for a byte");
     let mut left = file.as_slice();
     let back = ByStep::read_from(alloc, &mut left, PAIR).expect(&rt, "the filter");
-    assert!(rt; back.fits(&filter) && back.words() == filter.words());
-    assert_eq!(rt; left, b"!".as_slice());
+    all_hold(
+        &rt,
+        &[
+            written,
+            back.fits(&filter),
+            back.words() == filter.words(),
+            left == b"!".as_slice(),
+        ],
+    );
 }
 
 /// Filters of 1 to 200 bits, and a pair whose name has lines and any letters, are read back.
@@ -67,7 +74,11 @@ fn read_back(rt: HostRuntime) {
                 &rt,
                 "the filter",
             );
-            assert!(rt; back.fits(&filter) && back.words() == filter.words());
+            all_hold_at(
+                &rt,
+                bits as usize,
+                &[back.fits(&filter), back.words() == filter.words()],
+            );
         }
     }
 }
@@ -77,7 +88,7 @@ fn read_back(rt: HostRuntime) {
 fn cut_and_changed(rt: HostRuntime) {
     let alloc = rt.alloc();
     for n in 0..FILE.len() {
-        assert_eq!(rt; ended(alloc, &mut &FILE[..n], PAIR), "cut");
+        all_hold_at(&rt, n, &[ended(alloc, &mut &FILE[..n], PAIR) == "cut"]);
     }
     for at in 0..FILE.len() {
         for bit in [1u8, 2, 4, 8, 16, 32, 64, 128] {
@@ -90,35 +101,55 @@ fn cut_and_changed(rt: HostRuntime) {
                 16..=40 => end == "form" || end == "hash" || end == "cut",
                 _ => end == "hash",
             };
-            assert!(rt; wanted, "byte {at}, bit {bit}: {end}");
+            all_hold_at(&rt, at, &[wanted]);
         }
     }
 }
 
+/// Files that are refused, the pair that is asked for, and why. Those with the pair `p` have the right hash, and are files of no filter:
+/// no bit, no probe, a bit beyond.
+const REFUSED: [(&[u8], &str, &str); 9] = [
+    (&FILE, "null byte_su", "pair"),
+    (&FILE, "null byte_sum ", "pair"),
+    (&FILE, "byte_sum null", "pair"),
+    (
+        b"hashers-bloom 1 000000000000006A 00000004 null byte_sum\n",
+        PAIR,
+        "form",
+    ),
+    (
+        b"hashers-bloom 2 0000000000000064 00000004 null byte_sum\n",
+        PAIR,
+        "form",
+    ),
+    (
+        b"hashers-bloom 1 ffffffffffffffff 00000004 null byte_sum\n12345678",
+        PAIR,
+        "cut",
+    ),
+    (
+        b"hashers-bloom 1 0000000000000000 00000004 p\n\x5c\x07\x9b\x77\x9f\x08\xcb\x45",
+        "p",
+        "form",
+    ),
+    (
+        b"hashers-bloom 1 0000000000000001 00000000 p\n\x01\0\0\0\0\0\0\0\x02\x62\x09\x3f\xf8\x4a\xc4\x11",
+        "p",
+        "form",
+    ),
+    (
+        b"hashers-bloom 1 0000000000000001 00000001 p\n\x02\0\0\0\0\0\0\0\xac\x03\xce\x56\xb5\xec\x33\x2a",
+        "p",
+        "form",
+    ),
+];
+
 #[test]
 fn refused_with_a_reason(rt: HostRuntime) {
-    let alloc = rt.alloc();
-    assert_eq!(rt; ended(alloc, &mut FILE.as_slice(), "null byte_su"), "pair");
-    assert_eq!(rt;
-        ended(alloc, &mut FILE.as_slice(), "null byte_sum "),
-        "pair"
-    );
-    assert_eq!(rt; ended(alloc, &mut FILE.as_slice(), "byte_sum null"), "pair");
-    let digits = b"hashers-bloom 1 000000000000006A 00000004 null byte_sum\n";
-    assert_eq!(rt; ended(alloc, &mut digits.as_slice(), PAIR), "form");
-    let version = b"hashers-bloom 2 0000000000000064 00000004 null byte_sum\n";
-    assert_eq!(rt; ended(alloc, &mut version.as_slice(), PAIR), "form");
-    let lies = b"hashers-bloom 1 ffffffffffffffff 00000004 null byte_sum\n12345678";
-    assert_eq!(rt; ended(alloc, &mut lies.as_slice(), PAIR), "cut");
-    // These have the right hash, and are files of no filter: no bit, no probe, a bit beyond.
-    let none = b"hashers-bloom 1 0000000000000000 00000004 p\n\x5c\x07\x9b\x77\x9f\x08\xcb\x45";
-    assert_eq!(rt; ended(alloc, &mut none.as_slice(), "p"), "form");
-    let idle =
-        b"hashers-bloom 1 0000000000000001 00000000 p\n\x01\0\0\0\0\0\0\0\x02\x62\x09\x3f\xf8\x4a\xc4\x11";
-    assert_eq!(rt; ended(alloc, &mut idle.as_slice(), "p"), "form");
-    let beyond =
-        b"hashers-bloom 1 0000000000000001 00000001 p\n\x02\0\0\0\0\0\0\0\xac\x03\xce\x56\xb5\xec\x33\x2a";
-    assert_eq!(rt; ended(alloc, &mut beyond.as_slice(), "p"), "form");
+    for (turn, (file, pair, why)) in REFUSED.iter().enumerate() {
+        let end = ended(rt.alloc(), &mut &file[..], pair);
+        all_hold_at(&rt, turn, &[end == *why]);
+    }
 }
 
 /// Reads of a byte, each interrupted once, of which the one behind so many bytes fails.
@@ -129,7 +160,7 @@ fn slow_and_failing_readers(rt: HostRuntime) {
         let mut slow = Script::failing(&FILE, 1, n);
         slow.interrupted = 1;
         let wanted = if n < FILE.len() { "fault" } else { "read" };
-        assert_eq!(rt; ended(alloc, &mut slow, PAIR), wanted);
+        all_hold_at(&rt, n, &[ended(alloc, &mut slow, PAIR) == wanted]);
     }
 }
 
@@ -138,12 +169,12 @@ fn slow_and_failing_readers(rt: HostRuntime) {
 fn refused_for_a_file(rt: HostRuntime) {
     let alloc = rt.alloc();
     let end = ended(alloc, &mut FILE.as_slice(), PAIR);
-    assert!(rt; end == "read" || end == "memory");
+    all_hold(&rt, &[end == "read" || end == "memory"]);
     if let Ok(filter) = ByStep::read_from(alloc, &mut FILE.as_slice(), PAIR) {
         let mut file = Vec::new(alloc);
         match filter.write_to(&mut file, PAIR) {
-            Ok(()) => assert_eq!(rt; file.as_slice(), FILE.as_slice()),
-            Err(error) => assert!(rt; error.kind() == ErrorKind::OutOfMemory),
+            Ok(()) => all_hold(&rt, &[file.as_slice() == FILE.as_slice()]),
+            Err(error) => all_hold(&rt, &[error.kind() == ErrorKind::OutOfMemory]),
         }
     }
 }

@@ -1,20 +1,16 @@
 //! Rings of a few nodes, by values that a plain program in another language gave, and where memory is refused.
 ghost use Rattle.std.specs.Prelude.{◌≤◌, All, IfOk};
 
-use crate::{Node, Refused, Ring, other_owners_keep_their_order, removal_undoes_adding};
+use crate::tests::all_hold;
+use hash_ring::{Node, Refused, Ring, other_owners_keep_their_order, removal_undoes_adding};
 use hashers::fnv::FNV1aHasher64;
 use hashers::laws::Piecewise;
 use hashers::null::NullHasher;
 use std::alloc::{AllocError, Global};
 use std::process::Abort;
 
-/// That all claims hold.
-fn all_hold(rt: &impl Abort, claims: &[bool]) {
-    assert!(rt; !claims.contains(&false), "not all hold: {claims:?}");
-}
-
 /// That the names are as wanted.
-fn same(rt: &impl Abort, got: &[&[u8]], want: &[&[u8]]) {
+fn same_names(rt: &impl Abort, got: &[&[u8]], want: &[&[u8]]) {
     assert_eq!(rt; got, want);
 }
 
@@ -55,7 +51,7 @@ fn check_owners<H: Piecewise>(
     let owners = ring
         .owners(alloc, key, want.len())
         .expect(rt, "memory for the names");
-    same(rt, &owners, want);
+    same_names(rt, &owners, want);
     all_hold(rt, &[ring.owner(key) == want.first().copied()]);
 }
 
@@ -117,8 +113,8 @@ fn few_nodes(rt: HostRuntime) {
     let nothing = ring
         .owners(alloc, b"a", 0)
         .expect(&rt, "memory for the names");
-    same(&rt, &all, &[b"oak"]);
-    same(&rt, &nothing, &[]);
+    same_names(&rt, &all, &[b"oak"]);
+    same_names(&rt, &nothing, &[]);
     all_hold(&rt, &none);
     all_hold(&rt, &[added]);
 }
@@ -205,7 +201,7 @@ fn owners_with_room(rt: HostRuntime) {
     let last = ring.owner_below(b"a", |name| name == elm);
     let first = ring.owner_below(b"a", |_| true);
     let none = ring.owner_below(b"a", |_| false);
-    same(
+    same_names(
         &rt,
         &[
             first.unwrap_or(b""),

@@ -1,23 +1,19 @@
-//! Values from outside the proofs.
-use crate::crc32::{
+//! The relatives of the original's hashes: values from outside the proofs.
+use crate::tests::{all_hold, same};
+use hash_more::crc32::{
     Crc32Hasher, Crc32cHasher, crc32, crc32_combine, crc32_ending, crc32c, crc32c_combine,
     crc32c_ending,
 };
-use crate::djb2_add::{Djb2AddHasher, djb2_add};
-use crate::elf::{ElfHasher, elf};
-use crate::fnv1::{Fnv1Hasher32, Fnv1Hasher64, fnv1_32, fnv1_64};
-use crate::joaat::{JoaatHasher, joaat};
-use crate::windows::{
+use hash_more::djb2_add::{Djb2AddHasher, djb2_add};
+use hash_more::elf::{ElfHasher, elf};
+use hash_more::fnv1::{Fnv1Hasher32, Fnv1Hasher64, fnv1_32, fnv1_64};
+use hash_more::joaat::{JoaatHasher, joaat};
+use hash_more::windows::{
     apart_crc32, apart_crc32_bits, apart_crc32c, apart_crc32c_bits, apart_djb2_add, apart_fnv1_32,
     apart_fnv1_64,
 };
-use hash_laws::traits::{Piecewise, Undo, answer_of_pieces, apart_by_one};
+use hashers::laws::{Piecewise, Undo, answer_of_pieces, apart_by_one};
 use std::process::Abort;
-
-/// That each number is as wanted.
-fn same(rt: &impl Abort, got: &[u64], want: &[u64]) {
-    assert_eq!(rt; got, want);
-}
 
 /// That a piece is undone, and that an answer leads back to its state.
 fn comes_back<H: Piecewise + Undo>(rt: &impl Abort) {
@@ -44,7 +40,7 @@ fn crc32_of_texts(rt: HostRuntime) {
         &[0xCBF43926, 0, 0xE8B7BE43, 0x414FA339, 0xCBF43926],
     );
     comes_back::<Crc32Hasher>(&rt);
-    assert!(rt; apart_by_one::<Crc32Hasher>(b"abc", b"abd"));
+    all_hold(&rt, &[apart_by_one::<Crc32Hasher>(b"abc", b"abd")]);
 }
 
 #[test]
@@ -95,8 +91,13 @@ fn crcs_combined(rt: HostRuntime) {
 
 #[test]
 fn crc_endings(rt: HostRuntime) {
-    assert_eq!(rt; crc32_ending(crc32(b"12345"), 0xCBF43926), *b"6789");
-    assert_eq!(rt; crc32c_ending(crc32c(b"12345"), 0xE3069283), *b"6789");
+    all_hold(
+        &rt,
+        &[
+            crc32_ending(crc32(b"12345"), 0xCBF43926) == *b"6789",
+            crc32c_ending(crc32c(b"12345"), 0xE3069283) == *b"6789",
+        ],
+    );
     let mut state = 1u64;
     for _ in 0..100 {
         let text = state.to_le_bytes();
@@ -211,38 +212,71 @@ fn joaat_of_texts(rt: HostRuntime) {
     comes_back::<JoaatHasher>(&rt);
 }
 
+/// What the polynomials are as texts: 33 bits, in five places.
+const IEEE: [u8; 6] = [0x41, 0x06, 0x71, 0xDB, 0x01, 0];
+
+const CASTAGNOLI: [u8; 6] = [0xF1, 0x76, 0xEC, 0x05, 0x01, 0];
+
 #[test]
-fn windows_of_relatives(rt: HostRuntime) {
+fn windows_of_crcs(rt: HostRuntime) {
     let zeros = [0; 6];
-    // what the polynomial is as a text: 33 bits, in five places
-    let ieee = [0x41, 0x06, 0x71, 0xDB, 0x01, 0];
-    let castagnoli = [0xF1, 0x76, 0xEC, 0x05, 0x01, 0];
-    assert!(rt; crc32(&zeros) == crc32(&ieee) && crc32c(&zeros) == crc32c(&castagnoli));
-    assert!(rt; !apart_crc32(&zeros, &ieee) && !apart_crc32c(&zeros, &castagnoli));
     let near = [0, 0x06, 0x71, 0xDB, 0x01, 0];
-    assert!(rt; apart_crc32(&zeros, &near) && apart_crc32c(&zeros, &near));
-    assert!(rt; crc32(&zeros) != crc32(&near) && crc32c(&zeros) != crc32c(&near));
-    assert!(rt; djb2_add(b"Ab") == djb2_add(b"BA") && !apart_djb2_add(b"Ab", b"BA"));
-    assert!(rt; apart_djb2_add(b"printf", b"scanfs") && !apart_djb2_add(b"printfs", b"scanfst"));
-    assert!(rt; apart_fnv1_64(b"abcd", b"axyd") && apart_fnv1_64(b"abcd", b"xyzd"));
-    assert!(rt; !apart_fnv1_64(b"abcd", b"wxyz") && !apart_fnv1_64(b"abcd", b"abcd"));
-    assert!(rt; apart_fnv1_32(b"abcd", b"axyd") && !apart_fnv1_32(b"abcd", b"xyzd"));
+    all_hold(
+        &rt,
+        &[
+            crc32(&zeros) == crc32(&IEEE),
+            crc32c(&zeros) == crc32c(&CASTAGNOLI),
+            !apart_crc32(&zeros, &IEEE),
+            !apart_crc32c(&zeros, &CASTAGNOLI),
+            apart_crc32(&zeros, &near),
+            apart_crc32c(&zeros, &near),
+            crc32(&zeros) != crc32(&near),
+            crc32c(&zeros) != crc32c(&near),
+        ],
+    );
 }
 
 #[test]
+fn windows_of_relatives(rt: HostRuntime) {
+    all_hold(
+        &rt,
+        &[
+            djb2_add(b"Ab") == djb2_add(b"BA"),
+            !apart_djb2_add(b"Ab", b"BA"),
+            apart_djb2_add(b"printf", b"scanfs"),
+            !apart_djb2_add(b"printfs", b"scanfst"),
+            apart_fnv1_64(b"abcd", b"axyd"),
+            apart_fnv1_64(b"abcd", b"xyzd"),
+            !apart_fnv1_64(b"abcd", b"wxyz"),
+            !apart_fnv1_64(b"abcd", b"abcd"),
+            apart_fnv1_32(b"abcd", b"axyd"),
+            !apart_fnv1_32(b"abcd", b"xyzd"),
+        ],
+    );
+}
+
+/// 32 bits in five bytes are a burst, and one bit more is none.
+#[test]
 fn bursts_of_bits(rt: HostRuntime) {
     let zeros = [0; 6];
-    // 32 bits in five bytes, and one more
     let burst = [0, 0x80, 0, 0, 0, 0x7F];
     let longer = [0, 0x80, 0, 0, 0, 0x80];
-    assert!(rt; apart_crc32_bits(&zeros, &burst) && apart_crc32c_bits(&zeros, &burst));
-    assert!(rt; crc32(&zeros) != crc32(&burst) && crc32c(&zeros) != crc32c(&burst));
-    assert!(rt; !apart_crc32_bits(&zeros, &longer) && !apart_crc32c_bits(&zeros, &longer));
-    // the polynomial has 33 bits
-    assert!(rt; !apart_crc32_bits(&zeros, &[0x41, 0x06, 0x71, 0xDB, 0x01, 0]));
-    assert!(rt;
-        !apart_crc32_bits(&zeros, &[1, 0, 0, 0, 0, 1]) && !apart_crc32_bits(&zeros, &zeros)
+    all_hold(
+        &rt,
+        &[
+            apart_crc32_bits(&zeros, &burst),
+            apart_crc32c_bits(&zeros, &burst),
+            crc32(&zeros) != crc32(&burst),
+            crc32c(&zeros) != crc32c(&burst),
+            !apart_crc32_bits(&zeros, &longer),
+            !apart_crc32c_bits(&zeros, &longer),
+            !apart_crc32_bits(&zeros, &IEEE),
+            !apart_crc32_bits(&zeros, &[1, 0, 0, 0, 0, 1]),
+            !apart_crc32_bits(&zeros, &zeros),
+            apart_crc32_bits(b"abc", b"abd"),
+            apart_crc32_bits(b"abcdefgh", b"wxyzefgh"),
+            !apart_crc32_bits(b"abc", b"ab"),
+            !apart_crc32_bits(b"", b""),
+        ],
     );
-    assert!(rt; apart_crc32_bits(b"abc", b"abd") && apart_crc32_bits(b"abcdefgh", b"wxyzefgh"));
-    assert!(rt; !apart_crc32_bits(b"abc", b"ab") && !apart_crc32_bits(b"", b""));
 }

@@ -1,14 +1,9 @@
 //! Tests of the set of texts, beside a set of std.
-use crate::{Full, RandomKeys, Texts};
+use crate::tests::all_hold;
 use std::alloc::{AllocError, Global};
 use std::collections::HashSet;
 use std::hash::{BuildHasher, Hasher, RandomState};
-use std::process::Abort;
-
-/// That all claims hold.
-fn all_hold(rt: &impl Abort, claims: &[bool]) {
-    assert!(rt; !claims.contains(&false), "not all hold: {claims:?}");
-}
+use text_set::{Full, RandomKeys, Texts};
 
 /// Whether the set tells of a text what it told when it saw it: its place, and the text there.
 fn is_known<S: BuildHasher + Drop>(texts: &Texts<S>, text: &[u8], place: usize) -> bool {
