@@ -24,6 +24,7 @@ mod ring;
 mod rounds;
 mod sample;
 mod spooky;
+mod spread;
 mod streams;
 mod tables;
 mod texts;

@@ -1,8 +1,8 @@
 //! How long hashing takes.
 ghost use Rattle.std.specs.Prelude.{◌≡◌};
 
-use crate::named::{Hashed, hash_by};
 use hash_names::table::Kind;
+use hash_spread::named::{Hashed, hash_by};
 use std::alloc::AllocError;
 use std::num::{nearest_u64_to_f64, nearest_usize_to_f64};
 use std::time::Instant;

@@ -2,28 +2,21 @@
 //! one to take.
 #![tactic(auto)]
 
-mod call;
-mod chance;
 mod clock;
-mod counts;
-mod fault;
-mod keys;
-mod named;
 mod picture;
 mod run;
-mod sizes;
 mod table;
-#[cfg(test)]
-mod tests;
 
-use call::{Misuse, Outcome, Wrong, call_of, kinds_of, no_number, settings_of, unknown_name};
 use cli::arguments::arguments;
 use cli::call::Call;
 use cli::frame::{About, Request, ended, request_of, text_of, wrong_word};
 use cli::outcome::of_telling;
 use cli::streams::write_out;
-use fault::{Fault, NoTable};
 use hash_names::table::KINDS;
+use hash_spread::call::{
+    Misuse, Outcome, Wrong, call_of, kinds_of, no_number, settings_of, unknown_name,
+};
+use hash_spread::fault::{Fault, NoTable};
 use run::tell_table;
 use std::alloc::{AllocError, Global};
 use std::io::{BufWriter, Stdout};

@@ -1,7 +1,8 @@
 //! The table as a picture, in SVG: a row for each hasher, and a shaded cell for each number.
-use crate::chance::{Chance, nearest};
-use crate::counts::Spread;
-use crate::table::{Frame, Row, counted, digits};
+use crate::table::{Frame, counted, digits};
+use hash_spread::chance::{Chance, nearest};
+use hash_spread::counts::Spread;
+use hash_spread::rows::Row;
 use std::alloc::{AllocError, Global};
 
 /// From green, for a number near chance or below, to red.

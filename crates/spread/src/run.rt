@@ -1,20 +1,17 @@
 //! A run: reads the keys, and writes the table.
-ghost use Rattle.std.specs.Prelude.{◌≡◌, IfOk, map};
-ghost use Rattle.hash_names.specs.Named.{hash_of};
-ghost use Rattle.spread.specs.Counts.{IsCounts};
-
-use crate::call::Settings;
 use crate::clock::time_of;
-use crate::fault::{Fault, NoTable};
-use crate::keys::{Layout, read_keys};
-use crate::named::{Hashed, counts_by};
 use crate::picture::picture;
-use crate::sizes::sizes_of;
-use crate::table::{Frame, Row};
+use crate::table::Frame;
 use cli::inputs::open;
 use cli::progress::{Progress, Watched};
 use cli::streams::{TRIES, write_all, write_out};
 use hash_names::table::Kind;
+use hash_spread::call::Settings;
+use hash_spread::fault::{Fault, NoTable};
+use hash_spread::keys::{Layout, read_keys};
+use hash_spread::named::Hashed;
+use hash_spread::rows::{Row, row_of};
+use hash_spread::sizes::sizes_of;
 use std::fs::{File, OpenOptions};
 use std::io;
 use std::io::{BufReader, BufWriter, Error, ErrorKind, IsTerminal, Stdout};
@@ -46,21 +43,6 @@ fn keys_of_input(rt: &HostRuntime, layout: Layout) -> Result<Texts<RandomKeys>, 
     Ok(keys)
 }
 
-/// The row of a hash: the numbers of the hashes of the keys, which stay.
-fn row_of(rt: &HostRuntime, kind: Kind, frame: &Frame, hashed: &mut Hashed) -> Result<Row, Fault>
-    ensures keys { hashed.new.keys ≡ hashed.old.keys }
-    ensures kind { IfOk result (λ row. row.kind ≡ kind) }
-    ensures counts { IfOk result (λ row. IsCounts frame.now.sizes (map (hash_of kind) hashed.old.keys.texts) row.counts) }
-{
-    let time = if frame.times {
-        time_of(rt, kind, hashed)?
-    } else {
-        None
-    };
-    let counts = counts_by(rt.alloc(), kind, frame.sizes, hashed)?;
-    Ok(Row { kind, counts, time })
-}
-
 /// Writes the row of each hasher as soon as it is done, and the head in front of the first: where there is no memory for that row,
 /// nothing is written.
 fn tell_rows(
@@ -74,7 +56,12 @@ fn tell_rows(
     let mut rows = Vec::new(rt.alloc());
     for (done, kind) in kinds.iter().enumerate() {
         progress.show(done as u64, "hashers done");
-        let row = row_of(rt, *kind, frame, hashed)?;
+        let time = if frame.times {
+            time_of(rt, *kind, hashed)?
+        } else {
+            None
+        };
+        let row = row_of(rt.alloc(), *kind, frame.sizes, time, hashed)?;
         progress.clear();
         if done == 0 {
             write_out(w, frame.head(rt.alloc())?.as_bytes())?;

@@ -1,50 +1,10 @@
 //! The table, in lines of text.
-ghost use Rattle.std.specs.Prelude.{◌≡◌, ◌++◌, IfOk, OnOk, decimal, map, string_bytes};
-ghost use Rattle.spread.specs.Table.{row_numbers, spread_numbers};
+ghost use Rattle.std.specs.Prelude.{◌≡◌, IfOk, decimal, map, string_bytes};
 
-use crate::chance::{Chance, equal_pairs};
-use crate::counts::{Counts, Spread};
-use crate::sizes::Sizes;
-use hash_names::table::Kind;
+use hash_spread::chance::{Chance, equal_pairs};
+use hash_spread::rows::Row;
+use hash_spread::sizes::Sizes;
 use std::alloc::{AllocError, Global};
-
-/// A row of the table.
-#[derive(Clone, Copy)]
-pub struct Row {
-    /// The hash.
-    pub kind: Kind,
-    /// The numbers of the hashes of the keys.
-    pub counts: Counts,
-    /// How many nanoseconds it takes for a key, if that was measured.
-    pub time: Option<f64>,
-}
-
-/// Puts the numbers of so many buckets behind the others.
-fn push_spread(numbers: &mut Vec<u128>, spread: &Spread) -> Result<(), AllocError>
-    ensures { OnOk result (numbers.new.items ≡ numbers.old.items ++ spread_numbers spread.now) }
-{
-    numbers.push(u128::from(spread.fullest))?;
-    numbers.push(u128::from(spread.empty))?;
-    numbers.push(spread.squares)?;
-    Ok(())
-}
-
-impl Row {
-    /// The numbers of the row, in the order of their columns: the bits of a hash, the pairs of equal hashes, and for each number of
-    /// buckets the fullest one, the empty ones and the squares.
-    pub fn numbers(&self, alloc: Global) -> Result<Vec<u128>, AllocError>
-        ensures { IfOk result (λ numbers. numbers.items ≡ row_numbers self.now.kind self.now.counts) }
-    {
-        let mut numbers = Vec::new(alloc);
-        numbers.push(u128::from(self.kind.row().bits))?;
-        numbers.push(self.counts.collisions)?;
-        push_spread(&mut numbers, &self.counts.first)?;
-        if let Some(second) = &self.counts.second {
-            push_spread(&mut numbers, second)?;
-        }
-        Ok(numbers)
-    }
-}
 
 /// The digits of each number.
 fn cells_of(alloc: Global, numbers: &[u128]) -> Result<Vec<String>, AllocError>

@@ -1,0 +1,11 @@
+use Rattle.std.proofs.Common.{◌≡◌, All, map}
+use Rattle.hashers.specs.Text.{IsText}
+use Rattle.hash_spread.proofs.named.hash_often.Given as goal
+
+-- the hashes stay
+abbrev pub invariant-again : goal.invariant-again
+invariant-again g l = record {
+  keys : l.hashed.keys ≡ l.fn.hashed.keys;
+  hashes : l.hashed.hashes.items ≡ map g.H.Piecewise.hash_of l.hashed.keys.texts;
+  texts : All IsText l.hashed.keys.texts;
+}

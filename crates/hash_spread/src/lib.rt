@@ -1,0 +1,11 @@
+//! How evenly hashes spread keys over buckets, and what chance would give: the numbers of the program `spread`.
+#![tactic(auto)]
+
+pub mod call;
+pub mod chance;
+pub mod counts;
+pub mod fault;
+pub mod keys;
+pub mod named;
+pub mod rows;
+pub mod sizes;

@@ -1,6 +1,0 @@
-use Rattle.std.proofs.Common.{◌≡◌, ◌*◌, take}
-use Rattle.std.specs.List.{sum_by}
-use Rattle.spread.proofs.counts.squares.Given as goal
-
-abbrev pub invariant-loop-count : goal.invariant-loop-count
-invariant-loop-count l = l.total ≡ sum_by (λ count. count * count) (take l.count-index l.counts)
