@@ -2,29 +2,16 @@
 //! often it came, `dedup -d` those that came more than once, and `dedup -u` those that came once.
 #![tactic(auto)]
 
-mod ahead;
-mod fault;
-mod laws;
-mod lines;
-mod once;
-mod outcome;
-mod run;
-mod tally;
-mod task;
-#[cfg(test)]
-mod tests;
-mod unread;
-
 use cli::arguments::arguments;
 use cli::call::Call;
 use cli::frame::{About, ended, wrong_word};
 use cli::inputs::{Told, inputs};
-use fault::Fault;
-use outcome::{Outcome, call_of, outcome_of};
 use std::io;
 use std::io::BufWriter;
 use std::process::ExitCode;
 use text_set::RandomKeys;
+use unique_lines::Fault;
+use unique_lines::outcome::{Outcome, call_of, outcome_of};
 
 /// How many bytes are written at once.
 const BUFFER: usize = 65536;

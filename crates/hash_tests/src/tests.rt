@@ -13,6 +13,7 @@ mod fx;
 mod jenkins;
 mod keyed;
 mod laws;
+mod lines;
 mod maps;
 mod original;
 mod plain;

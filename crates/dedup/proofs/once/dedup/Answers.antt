@@ -1,5 +1,0 @@
-use Rattle.text_set.proofs.FirstsLemmas.{once_begins}
-use Rattle.dedup.proofs.once.dedup.Goals as goal
-
-pub take_inputs-requires-clause-grows : goal.take_inputs-requires-clause-grows
-take_inputs-requires-clause-grows g c = once_begins c.args.eol

@@ -1,0 +1,87 @@
+-- The set of the texts that were seen.
+use Rattle.std.proofs.Common.{◌≡◌, ℕ, Result, Ok, Err, OnOk, Bool, true, false, not, ◌||◌, List, [], ◌∷◌, ◌++◌, ap, sym, ◌∙◌, refl, if◌then◌else◌, Option, append_assoc, subst}
+use Rattle.std.specs.Io.BufRead.{strip_last}
+use Rattle.std.specs.Result.{is_ok}
+use Rattle.std.specs.Str.{bytes_eq}
+use Rattle.std.proofs.lemmas.Bool.{false≢true}
+use Rattle.std.proofs.lemmas.List.Folds.{list_any-append}
+use Rattle.std.proofs.KnownBytes.{Appends-trans}
+use Rattle.std.specs.Io.KnownBytes.{Appends}
+use Rattle.std.specs.List.{list_any}
+use Rattle.cli.specs.Streams.{AppendsPart}
+use Rattle.text_set.specs.Firsts.{AreSeen, once_by}
+use Rattle.text_set.specs.Lines.{as_line_by}
+use Rattle.unique_lines.specs.Taking.{LeadsOn, StopsWithin}
+use Rattle.text_set.proofs.FirstsLemmas.{once_more}
+use Rattle.text_set.specs.Texts.{has, with_text}
+use Rattle.text_set.proofs.SetLemmas.{has_with}
+
+-- what is told to be new is not there, and what is told to be old is
+pub not_there : (there new : Bool) → new ≡ not there → new ≡ true → there ≡ false
+not_there true new is told = absurd (false≢true (sym is ∙ told))
+not_there false new is told = refl
+
+pub is_there : (there new : Bool) → new ≡ not there → new ≡ false → there ≡ true
+is_there true new is told = refl
+is_there false new is told = absurd (false≢true (sym told ∙ is))
+
+module _ (eol : ℕ) (seen : List (List ℕ)) (line : List ℕ) where
+  -- what is written of a line behind lines with these texts
+  adds : (ls : List (List ℕ)) → AreSeen eol ls seen
+      → once_by eol (ls ++ line ∷ []) ≡ once_by eol ls ++ (if has seen (strip_last eol line) then [] else as_line_by eol line)
+  adds ls before = once_more eol ls line
+      ∙ ap (λ b. once_by eol ls ++ (if b then [] else as_line_by eol line)) (sym (before (strip_last eol line)))
+
+  -- of a line whose text is new all is written, and its end
+  pub adds_new : (ls : List (List ℕ)) → AreSeen eol ls seen → true ≡ not (has seen (strip_last eol line))
+      → once_by eol (ls ++ line ∷ []) ≡ once_by eol ls ++ as_line_by eol line
+  adds_new ls before new =
+      adds ls before ∙ ap (λ b. once_by eol ls ++ (if b then [] else as_line_by eol line))
+      (not_there (has seen (strip_last eol line)) true new refl)
+
+  -- of a line whose text is there nothing is written
+  pub adds_nothing : (ls : List (List ℕ)) → AreSeen eol ls seen → false ≡ not (has seen (strip_last eol line))
+      → once_by eol (ls ++ line ∷ []) ≡ once_by eol ls ++ []
+  adds_nothing ls before old =
+      adds ls before ∙ ap (λ b. once_by eol ls ++ (if b then [] else as_line_by eol line))
+      (is_there (has seen (strip_last eol line)) false old refl)
+
+  -- the text of the line is among those that are seen then
+  pub seen_more : (seen' : List (List ℕ)) → seen' ≡ with_text seen (strip_last eol line) → (ls : List (List ℕ)) → AreSeen eol ls seen
+      → AreSeen eol (ls ++ line ∷ []) seen'
+  seen_more seen' is ls before = λ other.
+      ap (λ texts. has texts other) is ∙ has_with seen (strip_last eol line) other
+      ∙ ap (λ b. bytes_eq other (strip_last eol line) || b) (before other)
+      ∙ or_last (bytes_eq other (strip_last eol line)) (list_any (λ l. bytes_eq other (strip_last eol l)) ls)
+      ∙ sym (list_any-append (λ l. bytes_eq other (strip_last eol l)) ls (line ∷ []))
+    where
+      or_last : (a b : Bool) → (a || b) ≡ (b || (a || false))
+      or_last true true = refl
+      or_last true false = refl
+      or_last false true = refl
+      or_last false false = refl
+
+  -- a line is taken by a set that has its text then, and what is due of it is written
+  pub takes_line : (seen' : List (List ℕ)) → seen' ≡ with_text seen (strip_last eol line) → (due : List ℕ)
+      → ((ls : List (List ℕ)) → AreSeen eol ls seen → once_by eol (ls ++ line ∷ []) ≡ once_by eol ls ++ due)
+      → (w w' : Option (List ℕ)) → Appends w w' due
+      → LeadsOn (once_by eol) (λ ls. AreSeen eol ls seen) (λ ls. AreSeen eol ls seen') (line ∷ []) w w'
+  takes_line seen' is due adds_due w w' appends = record {
+    stands = λ ls before. seen_more seen' is ls before;
+    writes = λ ls start before written. subst (Appends start w') (sym (adds_due ls before)) (Appends-trans _ _ _ _ _ written appends);
+  }
+
+  -- a fault within a new line
+  pub stops_in_line : true ≡ not (has seen (strip_last eol line)) → (w w' : Option (List ℕ)) → AppendsPart w w' (as_line_by eol line)
+      → StopsWithin (once_by eol) (λ ls. AreSeen eol ls seen) (line ∷ []) w w'
+  stops_in_line new w w' (part, rest, is, appends) = λ ls start before written. (
+    once_by eol ls ++ part,
+    rest,
+    append_assoc (once_by eol ls) part rest ∙ ap (λ l. once_by eol ls ++ l) is ∙ sym (adds_new ls before new),
+    Appends-trans _ _ _ _ _ written appends,
+  )
+
+-- what holds at a success holds where there is one
+pub at_ok : {A E : Type 0} (P : Type 0) (result : Result A E) → is_ok result ≡ true → OnOk result P → P
+at_ok P (Ok it) is holds = holds
+at_ok P (Err error) is holds = absurd (false≢true is)

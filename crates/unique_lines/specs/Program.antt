@@ -1,0 +1,63 @@
+-- What the program is asked for, and how it ends.
+use Rattle.std.specs.Prelude.{ℕ, ◌≡◌, ◌||◌, if◌then◌else◌, List, [], ◌∷◌, Some, None, Result, Ok, Err, codes}
+use Rattle.cli.specs.Call.{Choice, Saying, flag, given}
+use Rattle.cli.specs.Frame.{EndsRequest, request_of, text_of}
+use Rattle.cli.specs.declared.fault.Fault.{Fault}
+use Rattle.cli.specs.declared.fault.Fault.TheVariants.{Own}
+use Rattle.cli.specs.declared.outcome.Nothing.{Nothing}
+use Rattle.cli.specs.declared.outcome.Outcome.{Outcome}
+use Rattle.cli.specs.declared.outcome.Outcome.TheVariants.{Done, Reported, Failed}
+use Rattle.text_set.specs.Firsts.{once_by}
+use Rattle.unique_lines.specs.Running.{Ends, Run}
+use Rattle.unique_lines.specs.Tallies.{told}
+use Rattle.unique_lines.specs.declared.fault.TooMany.{TooMany}
+use Rattle.unique_lines.specs.declared.fault.TooMany.TheVariants as too_many
+use Rattle.unique_lines.specs.declared.run.Ended.{Ended}
+use Rattle.unique_lines.specs.declared.run.Ended.TheVariants.{Whole, InputFailed, TooManyLines}
+use Rattle.unique_lines.specs.declared.outcome.Task.{Task}
+use Rattle.unique_lines.specs.declared.outcome.Task.TheVariants.{Once, Tallied}
+use Rattle.unique_lines.specs.declared.tally.Which.{Which}
+
+-- the options
+abbrev pub options : List Choice
+options = flag (Some 99) (codes "count") ∷ flag (Some 100) (codes "repeated") ∷ flag (Some 117) (codes "unique")
+    ∷ flag (Some 122) (codes "zero-terminated") ∷ flag None (codes "help") ∷ flag None (codes "version") ∷ []
+
+-- which of the counted lines a call asks for
+abbrev pub which_of : (call : List Saying) → Which
+which_of call = record {
+  counts = given (codes "count") call;
+  repeated = given (codes "repeated") call;
+  unique = given (codes "unique") call;
+}
+
+-- the byte that ends a line
+abbrev pub eol_of : (call : List Saying) → ℕ
+eol_of call = if given (codes "zero-terminated") call then 0 else 10
+
+-- each line once, unless some of the counted ones are asked for
+abbrev pub work_of : (call : List Saying) → Task
+work_of call = if (which_of call).counts || (which_of call).repeated || (which_of call).unique then Tallied (which_of call)
+    (eol_of call) else Once (eol_of call)
+
+-- what came of a run
+abbrev pub of_run : Result Ended (Fault TooMany) → Outcome Nothing TooMany
+of_run (Ok Whole) = Done
+of_run (Ok InputFailed) = Reported
+of_run (Ok TooManyLines) = Failed (Own too_many.Lines)
+of_run (Err fault) = Failed fault
+
+-- how a run ends that is to write what `output` makes of the lines of its inputs, of at most so many
+abbrev pub EndsRun : (output : List (List ℕ) → List ℕ) (eol limit : ℕ) → Run → Outcome Nothing TooMany → Type 0
+EndsRun output eol limit run result = (ended : Result Ended (Fault TooMany)) × Ends output eol limit run ended × (result ≡ of_run ended)
+
+-- how a task ends
+abbrev pub EndsTask : Task → ℕ → Run → Outcome Nothing TooMany → Type 0
+EndsTask (Once eol) limit run result = EndsRun (once_by eol) eol limit run result
+EndsTask (Tallied which eol) limit run result = EndsRun (told eol which) eol limit run result
+
+-- how the program ends whose call says this
+abbrev pub Exits : (call : List Saying) (help version list : List ℕ) → ℕ → Run → Outcome Nothing TooMany → Type 0
+Exits call help version list limit run =
+    EndsRequest (request_of call) (text_of help version list) (EndsTask (work_of call) limit run) (run.left' ≡ run.left)
+    run.written run.written'

@@ -1,0 +1,75 @@
+-- What a run reads and writes, and how it ends.
+use Rattle.std.specs.Prelude.{ℕ, ◌≡◌, ◌<◌, ◌≤◌, Bool, true, false, List, [], ◌∷◌, ◌++◌, Option, Result, Ok, Err, length, map}
+use Rattle.std.specs.Io.KnownBytes.{Appends}
+use Rattle.cli.specs.Streams.{AppendsPart}
+use Rattle.unique_lines.specs.Inputs.{AreRead}
+use Rattle.unique_lines.specs.Taking.{BeginWith}
+use Rattle.cli.specs.declared.fault.Fault.{Fault}
+use Rattle.unique_lines.specs.declared.fault.TooMany.{TooMany}
+use Rattle.unique_lines.specs.declared.run.Ended.{Ended}
+use Rattle.unique_lines.specs.declared.run.Ended.TheVariants.{Whole, InputFailed, TooManyLines}
+
+-- the bytes that are left in each input and those that are written, where they are known, before a run and after it
+pub record Run : Type 0 where
+  pub left : List (Option (List ℕ))
+  pub left' : List (Option (List ℕ))
+  pub written : Option (List ℕ)
+  pub written' : Option (List ℕ)
+
+abbrev pub run_of : {R W : Type 0} (remaining : R → Option (List ℕ)) (inputs inputs' : List R) (contents : W → Option (List ℕ)) (w w' : W)
+    → Run
+run_of remaining inputs inputs' contents w w' = record {
+  left = map remaining inputs;
+  left' = map remaining inputs';
+  written = contents w;
+  written' = contents w';
+}
+
+-- the lines of the next input begin with these
+abbrev pub NextBeginsWith : (eol : ℕ) → List (Option (List ℕ)) → List (List ℕ) → Type 0
+NextBeginsWith eol [] ls = ls ≡ []
+NextBeginsWith eol (left ∷ more) ls = BeginWith eol left ls
+
+-- the lines of inputs begin with these: those of some inputs are read, and those of the next begin with the others
+pub record AllBeginWith (eol : ℕ) (lefts : List (Option (List ℕ))) (ls : List (List ℕ)) : Type 0 where
+  pub done : List (Option (List ℕ))
+  pub done' : List (Option (List ℕ))
+  pub ended : Bool
+  pub before : List (List ℕ)
+  pub read : AreRead eol ended done done' before
+  pub more : List (Option (List ℕ))
+  pub is : lefts ≡ done ++ more
+  pub now : List (List ℕ)
+  pub next : NextBeginsWith eol more now
+  pub lines : ls ≡ before ++ now
+
+-- these are all lines of the inputs, and no more than the limit
+pub record IsWithin (eol : ℕ) (ended : Bool) (limit : ℕ) (run : Run) (ls : List (List ℕ)) : Type 0 where
+  pub read : AreRead eol ended run.left run.left' ls
+  pub few : length ls ≤ limit
+
+-- the lines of the inputs begin with more than the limit
+abbrev pub IsBeyond : (eol limit : ℕ) → Run → Type 0
+IsBeyond eol limit run = (ls : List (List ℕ)) × AllBeginWith eol run.left ls × (limit < length ls)
+
+-- what is due of all lines of the inputs was written, and so it stands once they are taken
+abbrev pub WritesAll : (output : List (List ℕ) → List ℕ) (after : List (List ℕ) → Type 0) (eol : ℕ) (ended : Bool) (limit : ℕ) → Run
+    → Type 0
+WritesAll output after eol ended limit run =
+    (ls : List (List ℕ)) × IsWithin eol ended limit run ls × Appends run.written run.written' (output ls) × after ls
+
+-- a beginning of what is due of the first lines of the inputs was written
+abbrev pub WritesPart : (output : List (List ℕ) → List ℕ) (eol : ℕ) → Run → Type 0
+WritesPart output eol run = (ls : List (List ℕ)) × AllBeginWith eol run.left ls × AppendsPart run.written run.written' (output ls)
+
+-- how a run ends that writes what `output` makes of the lines of its inputs, of at most so many
+abbrev pub EndsTaking : (output : List (List ℕ) → List ℕ) (after : List (List ℕ) → Type 0) (eol limit : ℕ) → Run
+    → Result Ended (Fault TooMany) → Type 0
+EndsTaking output after eol limit run (Ok Whole) = WritesAll output after eol true limit run
+EndsTaking output after eol limit run (Ok InputFailed) = WritesAll output after eol false limit run
+EndsTaking output after eol limit run (Ok TooManyLines) = WritesPart output eol run × IsBeyond eol limit run
+EndsTaking output after eol limit run (Err fault) = WritesPart output eol run
+
+-- the same where only what is written counts
+abbrev pub Ends : (output : List (List ℕ) → List ℕ) (eol limit : ℕ) → Run → Result Ended (Fault TooMany) → Type 0
+Ends output = EndsTaking output (λ ls. Unit {0})

@@ -1,0 +1,16 @@
+//! Each line of some inputs once, where it came first, or behind how often it came: what the program `dedup` writes.
+#![tactic(auto)]
+
+mod ahead;
+mod fault;
+pub mod laws;
+mod lines;
+pub mod once;
+pub mod outcome;
+mod run;
+pub mod tally;
+mod task;
+mod unread;
+
+pub use fault::{Fault, TooMany};
+pub use run::Ended;

@@ -1,0 +1,61 @@
+//! Writes lines, and has them taken.
+ghost use Rattle.std.specs.Prelude.{◌≡◌, ◌≤◌, ◌+◌, ℕ, List, length, take, IfOk, OnOk, OnErr};
+ghost use Rattle.std.specs.Io.BufRead.{strip_last};
+ghost use Rattle.std.specs.Io.KnownBytes.{Appends};
+ghost use Rattle.unique_lines.specs.Between.{Takes};
+ghost use Rattle.unique_lines.specs.Taking.{BreaksOff, Grows, LeadsOn};
+ghost use Rattle.cli.specs.Streams.{AppendsPart};
+ghost use Rattle.text_set.specs.Lines.{as_line_by, lines_by};
+
+use crate::ahead::Ahead;
+use crate::fault::Fault;
+use crate::task::LineTask;
+use cli::streams::{TRIES, write_all};
+use std::io::Write;
+
+/// Writes a line of this text, and its end behind it if it has none. After a fault a beginning of that was written.
+pub fn write_line<W: Write>(w: &mut W, line: &[u8], text: &[u8], eol: u8) -> Result<(), Fault>
+    requires { text.now ≡ strip_last eol line.now }
+    ensures ok { OnOk result (Appends (W.contents w.old) (W.contents w.new) (as_line_by eol line.now)) }
+    ensures err { OnErr result (AppendsPart (W.contents w.old) (W.contents w.new) (as_line_by eol line.now)) }
+{
+    if text.len() < line.len() {
+        return write_all(w, line, TRIES);
+    }
+    write_all(w, line, TRIES)?;
+    write_all(w, &[eol], TRIES)
+}
+
+/// Has the first lines taken, up to so many. Returns how many lines those are, each with its end, and how many bytes they
+/// have together.
+pub fn take_lines<T: LineTask, W: Write>(
+    task: &mut T,
+    bytes: &[u8],
+    eol: u8,
+    most: u64,
+    w: &mut W,
+) -> Result<(u64, usize), Fault>
+    requires grows { Grows (T.output eol) }
+    requires room { (ls : List (List ℕ)) × T.taken eol ls task.old × (length ls + most ≤ u64.MAX) }
+    ensures takes { IfOk result (λ taken. Takes eol bytes.now most taken.0 taken.1) }
+    ensures led { IfOk result (λ taken. LeadsOn (T.output eol) (λ ls. T.taken eol ls task.old)
+        (λ ls. T.taken eol ls task.new)
+        (lines_by eol (take taken.1 bytes.now)) (W.contents w.old) (W.contents w.new)) }
+    ensures broke { OnErr result (BreaksOff (T.output eol) (λ ls. T.taken eol ls task.old) eol bytes.now
+        (W.contents w.old) (W.contents w.new)) }
+{
+    let mut rest = bytes;
+    let mut ahead = Ahead::new();
+    for count in 0..most {
+        match ahead.next(task, rest, eol) {
+            Some(found) => {
+                let (line, later) = rest.split_at(found.len + 1);
+                let text = &line[..found.len];
+                task.take_line(line, text, eol, found.guess, w)?;
+                rest = later;
+            }
+            None => return Ok((count, bytes.len() - rest.len())),
+        }
+    }
+    Ok((most, bytes.len() - rest.len()))
+}

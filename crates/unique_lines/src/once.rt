@@ -1,0 +1,76 @@
+//! Lines, each once.
+ghost use Rattle.std.specs.Prelude.{◌≡◌, [], ℕ, List, OnOk};
+ghost use Rattle.std.specs.Io.Buffered.{writer_buffer, writer_contents};
+ghost use Rattle.text_set.specs.Slots.{tag_under};
+ghost use Rattle.text_set.specs.Firsts.{AreSeen, once_by};
+ghost use Rattle.unique_lines.specs.Running.{Ends, run_of};
+
+use crate::fault::{Fault, see};
+use crate::lines::write_line;
+use crate::run::{Ended, take_inputs};
+use crate::task::LineTask;
+use cli::inputs::Complaints;
+use std::alloc::Global;
+use std::hash::BuildHasher;
+use std::io::{BufWriter, Read, Write};
+use text_set::{Guess, Texts};
+
+/// The texts of the lines that came.
+#[derive(Drop)]
+pub struct Once<S: BuildHasher + Drop> {
+    seen: Texts<S>,
+}
+
+impl<S: BuildHasher + Drop> LineTask for Once<S> {
+    ghost taken = { λ eol ls once. AreSeen eol ls once.seen.texts };
+
+    ghost output = { once_by };
+
+    ghost tag_of = { λ once. tag_under S.Hasher.write S.Hasher.finish (S.build_hasher once.seen.hasher) };
+
+    #[inline(always)]
+    fn waits_for_memory(&self) -> bool {
+        self.seen.waits_for_memory()
+    }
+
+    #[inline(always)]
+    fn guess(&self, text: &[u8]) -> Guess {
+        self.seen.guess(text)
+    }
+
+    #[inline(always)]
+    fn take_line<W: Write>(
+        &mut self,
+        line: &[u8],
+        text: &[u8],
+        eol: u8,
+        guess: Guess,
+        w: &mut W,
+    ) -> Result<(), Fault> {
+        if see(&mut self.seen, text, guess)?.is_new {
+            write_line(w, line, text, eol)?;
+        }
+        Ok(())
+    }
+}
+
+/// Writes each of at most `limit` lines of the inputs, each of which ends with the byte `eol`, once, where it came first. An
+/// input that fails is told, and the others are read. Whenever it reads, and at the end, nothing is held back.
+pub fn dedup<S: BuildHasher + Drop, R: Read, C: Complaints, W: Write + Drop>(
+    alloc: Global,
+    hasher: S,
+    eol: u8,
+    limit: u64,
+    inputs: &mut [R],
+    complaints: &mut C,
+    w: &mut BufWriter<W>,
+) -> Result<Ended, Fault>
+    ensures ended { Ends (once_by eol) eol limit
+        (run_of R.remaining inputs.old inputs.new (writer_contents W.contents) w.old w.new) result }
+    ensures flushed { OnOk result (writer_buffer w.new ≡ []) }
+{
+    let mut once = Once {
+        seen: Texts::new(alloc, hasher),
+    };
+    take_inputs(alloc, &mut once, eol, limit, inputs, complaints, w)
+}
