@@ -2,23 +2,14 @@
 //! store would save that keeps each chunk once.
 #![tactic(auto)]
 
-mod cut;
-mod fault;
-mod listing;
-mod outcome;
-mod sizes;
-mod tally;
-#[cfg(test)]
-mod tests;
-
 use cli::arguments::arguments;
 use cli::call::Call;
 use cli::folder::Disk;
 use cli::frame::{About, ended, wrong_word};
-use fault::Fault;
-use listing::Lines;
-use outcome::{Misuse, Outcome, Wrong, call_of, outcome_of};
-use sizes::wrong_size;
+use hash_chunks::fault::Fault;
+use hash_chunks::listing::Lines;
+use hash_chunks::outcome::{Misuse, Outcome, Wrong, call_of, outcome_of};
+use hash_chunks::sizes::wrong_size;
 use std::io;
 use std::io::BufWriter;
 use std::process::ExitCode;

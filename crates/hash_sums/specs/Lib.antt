@@ -4,6 +4,7 @@ pub mod Keys
 pub mod Laws
 pub mod Lists
 pub mod Passed
+pub mod Program
 pub mod Summing
 pub mod Sums
 pub mod Told

@@ -1,6 +1,10 @@
 //! What a check is proved to see, as laws with no code of their own, over any files: of the text that was read of a file. Of a file whose
-//! bytes are not known, as one of the disk, they say that some text has the hash. A text's length is that of its file.
+//! bytes are not known, as one of the disk, they say that some text has the hash. A text's length is that of its file. Behind them what they
+//! say of each hash of the table, in words.
 ghost use Rattle.std.specs.Prelude.{◌≡◌, ◌≢◌, ◌+◌, ◌^◌, ◌≤◌, ℕ, Bool, true, max, All, List, Ok, Option, Some, codes, length, map};
+ghost use Rattle.cli.specs.Outcome.{status_of};
+ghost use Rattle.cli.specs.declared.outcome.Nothing.{Nothing};
+ghost use Rattle.cli.specs.declared.outcome.Outcome.{Outcome};
 ghost use Rattle.hashers.specs.DifferWithin.{DifferAtOnePlace, DifferWithin};
 ghost use Rattle.hashers.specs.Fx.{words32, words64};
 ghost use Rattle.hashers.specs.Text.{IsText};
@@ -10,10 +14,13 @@ ghost use Rattle.hash_lines.specs.Told.{AreTags};
 ghost use Rattle.hash_more.specs.Bursts.{DifferWithinBits};
 ghost use Rattle.hash_sums.specs.declared.check.Checking.{Checking};
 ghost use Rattle.hash_sums.specs.declared.check.Verdict.TheVariants.{Same};
+ghost use Rattle.hash_sums.specs.declared.outcome.Misuse.{Misuse};
+ghost use Rattle.hash_sums.specs.declared.outcome.Task.TheVariants.{Check};
 ghost use Rattle.hash_sums.specs.Checking.{IsVerdict};
 ghost use Rattle.hash_sums.specs.Laws.{DifferAtOneWord, HoldsOnly, NeverPasses};
 ghost use Rattle.hash_sums.specs.Lists.{EndsLists};
 ghost use Rattle.hash_sums.specs.Passed.{HasPassed};
+ghost use Rattle.hash_sums.specs.Program.{EndsTask};
 ghost use Rattle.hash_sums.specs.Sums.{kinds, number_named, poly61_at_both, sum_at, told_at, told_of};
 
 use cli::folder::Folder;
@@ -24,6 +31,7 @@ use hash_more::djb2_add::Djb2AddHasher;
 use hash_more::fnv1::{Fnv1Hasher32, Fnv1Hasher64};
 use hash_more::joaat::JoaatHasher;
 use hash_more::windows::windows_tell_apart as relatives_tell_apart;
+use hash_names::table::Kind;
 use hashers::fnv::{FNV1aHasher32, FNV1aHasher64};
 use hashers::jenkins::OAATHasher;
 use hashers::laws::{one_changed_byte_shows, one_changed_word_shows_fx, windows_tell_apart};
@@ -125,3 +133,30 @@ pub fn lists_that_pass<R: Read, F: Folder<R>>()
         → EndsLists kinds checking (F.opens folder) lists written written' (Ok true)
         → All (HasPassed kinds checking (F.opens folder)) lists }
 {}
+
+/// Where a check ends with the status 0, each of its lists was opened and read to its end, and none of their lines fails: of each that
+/// tells a hash, the file was opened and the text that was read of it has this hash, or it is not there and such files are left out. Of
+/// at least one line of each list, the file has the hash.
+pub fn a_check_that_ends_well<R: Read, F: Folder<R>>()
+    ensures { (folder : F) (kinds : List LineKind) (checking : Checking) (lists : List (List ℕ))
+        (written written' : Option (List ℕ)) (outcome : Outcome Misuse Nothing)
+        → EndsTask kinds (F.opens folder) lists written written' (Ok (Check checking)) outcome
+        → status_of outcome ≡ 0 → All (HasPassed kinds checking (F.opens folder)) lists }
+{}
+
+/// What a check by a hash of the table is proved to see in a file of the same length, by these laws, in words. `None` stands for spooky128.
+pub fn seen(kind: Option<Kind>) -> &'static str {
+    match kind {
+        Some(Kind::Fnv1a32 | Kind::Fnv1At32) =>
+            "1 changed byte, or changes within 2 neighbouring bytes",
+        Some(Kind::Fnv1a64 | Kind::Fnv1At64 | Kind::Sdbm) =>
+            "1 changed byte, or changes within 3 neighbouring bytes",
+        Some(Kind::Djb2 | Kind::Djb2Add) => "1 changed byte, or changes within 6 in the low 5 bits",
+        Some(Kind::Crc32 | Kind::Crc32c) =>
+            "1 changed byte, or changes within 32 neighbouring bits",
+        Some(Kind::FxHash | Kind::FxHash64) => "1 changed word, of 8 bytes",
+        Some(Kind::FxHash32) => "1 changed word, of 4 bytes",
+        Some(Kind::LoseLose | Kind::Bricolage | Kind::Oaat | Kind::Joaat) => "1 changed byte",
+        _ => "no promise",
+    }
+}

@@ -1,0 +1,74 @@
+-- What comes of cutting a file, by what comes of cutting what it holds.
+use Rattle.std.proofs.Common.{◌≡◌, ◌<◌, ◌+◌, ℕ, ◌++◌, ◌∷◌, [], List, length, length-append, take, drop, Bool, true, false, Option, Some, None, Result, Ok, Err, IsTrue, inr, append-nil, arith, ap, sym, ◌∙◌, refl}
+use Rattle.std.specs.List.{concat}
+use Rattle.hash_chunks.specs.Cut.{EndsFile, IsTorn, Opening}
+use Rattle.hash_cuts.specs.Cuts.{Cutting, chunks, chunks_upto, first_cut}
+use Rattle.hash_cuts.specs.Reading.{CutsAll, CutsRead, IsBegun, Taken}
+
+-- the bytes of chunks and one more
+pub bytes_more : (given : List (List ℕ)) (chunk : List ℕ) → length (concat (given ++ chunk ∷ [])) ≡ length (concat given) + length chunk
+bytes_more [] chunk = omega (arith, ap length (append-nil chunk))
+bytes_more (first ∷ given) chunk =
+    omega (arith, length-append first (concat (given ++ chunk ∷ [])), length-append first (concat given), bytes_more given chunk)
+
+-- the first chunk of a text that is not empty
+first-of : (cuts : Cutting) (rest : List ℕ) → 0 < length rest → (others : List (List ℕ)) × (chunks cuts rest ≡ take (first_cut cuts rest) rest ∷ others)
+unfolding chunks_upto
+first-of cuts [] some = absurd (omega arith)
+first-of cuts (byte ∷ rest) some = (chunks_upto (length rest) cuts (drop (first_cut cuts (byte ∷ rest)) (byte ∷ rest)), refl)
+
+module _ {S : Type 0} (taken : Taken S) (cuts : Cutting) (opens : Opening) (held left : Option (List ℕ)) (old new : S) (bytes : ℕ)
+    (is_open : opens (Ok held)) where
+  -- the end was seen, or the limit was met
+  pub ends-taken : (E : Type 0) (ended : Bool) → (IsTrue ended → CutsAll taken cuts held left old new bytes)
+      → (ended ≡ false → (rest : List ℕ) × IsBegun cuts rest × CutsRead taken cuts held left old new bytes rest None)
+      → EndsFile {E = E} taken cuts opens old new (Ok ended)
+  ends-taken E true all first =
+      let whole = all refl in (
+        chunks cuts whole.text,
+        (whole.text, left, record { held = held; opened = is_open; read = whole.read }, whole.end, refl),
+        whole.takes,
+      )
+  ends-taken E false all first =
+      let (rest, begun, read) = first refl in (
+        read.gives.given,
+        inr (rest, (read.text, left, record { held = held; opened = is_open; read = read.read }, read.gives.stay), begun),
+        read.gives.takes,
+      )
+
+  -- the sink refused the first chunk of the rest
+  pub ends-refused : (rest : List ℕ) → 0 < length rest
+      → CutsRead taken cuts held left old new bytes rest (Some (take (first_cut cuts rest) rest)) → IsTorn taken cuts opens old new
+  ends-refused rest some read =
+      let (others, is) = first-of cuts rest some in
+      record {
+        given = read.gives.given;
+        refused = Some (take (first_cut cuts rest) rest);
+        takes = read.gives.takes;
+        text = read.text;
+        left = left;
+        read = record { held = held; opened = is_open; read = read.read };
+        others = others;
+        first = ap (chunks cuts) (sym (append-nil read.text)) ∙ read.gives.stay []
+            ∙ ap (λ t. read.gives.given ++ chunks cuts t) (append-nil rest) ∙ ap (λ list. read.gives.given ++ list) is;
+      }
+
+  -- it refused none
+  pub ends-early : (rest : List ℕ) → CutsRead taken cuts held left old new bytes rest None → IsTorn taken cuts opens old new
+  ends-early rest read = record {
+    given = read.gives.given;
+    refused = None;
+    takes = read.gives.takes;
+    text = read.text;
+    left = left;
+    read = record { held = held; opened = is_open; read = read.read };
+    others = chunks cuts rest;
+    first = ap (chunks cuts) (sym (append-nil read.text)) ∙ read.gives.stay [] ∙ ap (λ t. read.gives.given ++ chunks cuts t) (append-nil rest);
+  }
+
+module _ {S E : Type 0} (taken : Taken S) (cuts : Cutting) (opens : Opening) (old new : S) (start : taken old old [] None) where
+  -- what holds of a sink whatever it was given
+  pub after_any : (P : Type 0) → ((given : List (List ℕ)) (refused : Option (List ℕ)) → taken old new given refused → P)
+      → (result : Result Bool E) → EndsFile taken cuts opens old new result → P
+  after_any P holds (Ok whole) (given, is_cut, takes) = holds given None (takes old [] start)
+  after_any P holds (Err error) torn = holds torn.given torn.refused (torn.takes old [] start)

@@ -1,0 +1,31 @@
+use Rattle.std.proofs.Common.{◌∷◌, ◌++◌, [], ℕ, List, map, take, get_or, subst, sym, ◌∙◌}
+use denote.Ref.{Bor}
+use Rattle.hash_chunks.specs.Counted.{CountsMore, IsCounted}
+use Rattle.hash_chunks.specs.Cut.{Cut}
+use Rattle.hash_chunks.specs.Tally.{all_given}
+use Rattle.hash_chunks.proofs.TallyLemmas.{cut_more, given_more}
+use Rattle.hash_lines.specs.declared.line.Kind.{Kind}
+use Rattle.hash_sums.specs.Sums.{sum_by}
+use Rattle.hash_sums.proofs.ToldLemmas.{names_more}
+use Rattle.hash_chunks.proofs.tally.count_files.Goals as goal
+
+pub loop-name-preserved : goal.loop-name-preserved
+loop-name-preserved g c =
+    let d : Bor (List ℕ) = record { ref_ptr = (0, 0); now = [] } in
+    let i = c.loop-name.name-index in
+    let names = c.args.names.now in
+    let before = c.loop-name.invariant in
+    let (files, are_cut, counted) = before.counted in
+    let (given, is_cut, more) = c.in_ok-whole.ensures.counted in
+    let file : Cut = ((get_or names i d).now, (given, c.in_ok-whole.whole)) in
+    let new = c.count_file.new.tally in
+    let counts = subst (λ (kind : Kind). CountsMore (sum_by kind) c.loop-name.tally new given) before.kind more in
+    record {
+      kind = c.in_ok-whole.ensures.kind ∙ before.kind;
+      counted = (
+        files ++ file ∷ [],
+        cut_more c.args.cuts.now (g.F.Folder.opens c.args.folder.now) (take i (map (λ n. n.now) names)) _ files c.loop-name.all file are_cut is_cut
+            (sym (names_more (λ (n : Bor (List ℕ)). n.now) names i d c.loop-name-test.true)),
+        subst (λ (list : List (List ℕ)). IsCounted (sum_by c.args.tally.now.kind) list new) (sym (given_more files file)) (counts (all_given files) counted),
+      );
+    }

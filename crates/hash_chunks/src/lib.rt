@@ -1,0 +1,10 @@
+//! The chunks of files, cut where their content says so: a line for each, or how much a store would save that keeps each chunk once. The
+//! program `cuts` is a `main` over it.
+#![tactic(auto)]
+
+mod cut;
+pub mod fault;
+pub mod listing;
+pub mod outcome;
+pub mod sizes;
+pub mod tally;

@@ -1,0 +1,27 @@
+use Rattle.std.proofs.Common.{◌≡◌, List, ◌∷◌, refl, ap₂}
+use Rattle.cli.specs.Call.{Choice}
+use Rattle.hash_sums.proofs.outcome.options.Goals as goal
+
+-- one more of the list
+next : {x y : Choice} {xs ys : List Choice} → x ≡ y → xs ≡ ys → x ∷ xs ≡ y ∷ ys
+next one more = ap₂ (λ (c : Choice) cs. c ∷ cs) one more
+
+pub returns : goal.returns
+returns c =
+    next c.taking.ensures (
+    next c.taking-2.ensures (
+    next c.flag.ensures (
+    next c.flag-2.ensures (
+    next c.flag-3.ensures (
+    next c.flag-4.ensures (
+    next c.flag-5.ensures (
+    next c.flag-6.ensures (
+    next c.flag-7.ensures (
+    next c.flag-8.ensures (
+    next c.flag-9.ensures (
+    next c.flag-10.ensures (
+    next c.flag-11.ensures (
+    next c.flag-12.ensures (
+    next c.flag-13.ensures (
+    next c.flag-14.ensures (
+    refl))))))))))))))))

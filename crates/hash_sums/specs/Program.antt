@@ -1,0 +1,142 @@
+-- What the program `hashsum` is asked for, and how it ends.
+use Rattle.std.specs.Prelude.{ℕ, ◌≡◌, ◌||◌, ◌&&◌, ◌⊎◌, not, if◌then◌else◌, IsSome, Bool, false, List, [], ◌∷◌, Option, Some, None, Result, Ok, Err, map, codes}
+use Rattle.std.specs.Io.KnownBytes.{Keeps}
+use Rattle.hash_lines.specs.declared.line.Form.TheVariants.{Tagged, Untagged}
+use Rattle.hash_lines.specs.declared.line.Kind.{Kind}
+use Rattle.cli.specs.Call.{Choice, Saying, flag, given, operands, taking, value_of}
+use Rattle.cli.specs.Frame.{EndsRequest, request_of}
+use Rattle.cli.specs.declared.fault.Fault.{Fault}
+use Rattle.cli.specs.declared.fault.Fault.TheVariants.{NoMemory}
+use Rattle.cli.specs.declared.frame.Request.{Request}
+use Rattle.cli.specs.declared.frame.Request.TheVariants.{Work}
+use Rattle.cli.specs.declared.frame.Text.{Text}
+use Rattle.cli.specs.declared.outcome.Nothing.{Nothing}
+use Rattle.cli.specs.declared.outcome.Outcome.{Outcome}
+use Rattle.cli.specs.declared.outcome.Outcome.TheVariants.{Usage, Reported, Failed}
+use Rattle.cli.specs.declared.outcome.Wrong.{Wrong}
+use Rattle.cli.specs.declared.outcome.Wrong.TheVariants.{UnknownName, Own}
+use Rattle.hash_sums.specs.declared.check.Checking.{Checking}
+use Rattle.hash_sums.specs.declared.outcome.Misuse.{Misuse}
+use Rattle.hash_sums.specs.declared.outcome.Misuse.TheVariants as misuse
+use Rattle.hash_sums.specs.declared.outcome.Task.{Task}
+use Rattle.hash_sums.specs.declared.outcome.Task.TheVariants as task
+use Rattle.hash_sums.specs.declared.sum.Summing.{Summing}
+use Rattle.cli.specs.Files.{Opens, files_or}
+use Rattle.cli.specs.Outcome.{of_run}
+use Rattle.hash_sums.specs.Keys.{AreKeysOf}
+use Rattle.hash_sums.specs.Lists.{EndsLists}
+use Rattle.hash_sums.specs.Summing.{EndsSums}
+use Rattle.hash_sums.specs.Sums.{is_named, kind_of, kinds, told_of}
+
+-- the options
+abbrev pub options : List Choice
+options = taking (Some 97) (codes "algorithm") ∷ taking None (codes "key-file") ∷ flag (Some 99) (codes "check")
+    ∷ flag None (codes "tag") ∷ flag None (codes "untagged") ∷ flag (Some 122) (codes "zero") ∷ flag None (codes "quiet")
+    ∷ flag None (codes "status") ∷ flag None (codes "strict")
+    ∷ flag None (codes "ignore-missing") ∷ flag (Some 119) (codes "warn") ∷ flag (Some 98) (codes "binary") ∷ flag (Some 116) (codes "text")
+    ∷ flag None (codes "list") ∷ flag None (codes "help") ∷ flag None (codes "version") ∷ []
+
+-- how lines are checked by a hash
+abbrev pub checking_of : (call : List Saying) → Kind → Checking
+checking_of call kind = record {
+  kind = kind;
+  quiet = given (codes "quiet") call;
+  status = given (codes "status") call;
+  strict = given (codes "strict") call;
+  ignore_missing = given (codes "ignore-missing") call;
+  warn = given (codes "warn") call;
+}
+
+-- how files are summed by a hash
+abbrev pub summing_of : (call : List Saying) → Kind → Summing
+summing_of call kind = record {
+  kind = kind;
+  form = if given (codes "untagged") call then Untagged else Tagged;
+  zero = given (codes "zero") call;
+}
+
+-- whether an option is given on how lines are written, or on how they are checked
+abbrev pub gives_writing : (call : List Saying) → Bool
+gives_writing call = given (codes "zero") call || given (codes "tag") call || given (codes "untagged") call
+
+abbrev pub gives_checking : (call : List Saying) → Bool
+gives_checking call = given (codes "status") call || given (codes "strict") call || given (codes "ignore-missing") call
+    || given (codes "warn") call
+
+-- whether the hash that is asked for is poly61
+abbrev pub asks_for_poly61 : (call : List Saying) → Bool
+asks_for_poly61 call = is_poly61 (value_of (codes "algorithm") call)
+  where
+    is_poly61 : Option (List ℕ) → Bool
+    is_poly61 None = false
+    is_poly61 (Some name) = is_named name (codes "poly61")
+
+-- what is wrong with a call, but for the name of a hash
+abbrev pub misuse_of : (call : List Saying) → Option Misuse
+misuse_of call =
+    let checks = given (codes "check") call in
+    let keyed = given (codes "key-file") call in
+    let asks = asks_for_poly61 call in
+    if checks && gives_writing call then Some misuse.NotWithCheck
+    else if not checks && gives_checking call then Some misuse.OnlyWithCheck
+    else if asks && not keyed then Some misuse.NeedsKeyFile
+    else if keyed && not asks && not checks then Some misuse.UnusedKeyFile
+    else None
+
+-- what is to be done by a hash
+abbrev pub work_of : (call : List Saying) → Kind → Task
+work_of call kind = if given (codes "check") call then task.Check (checking_of call kind) else task.Sum (summing_of call kind)
+
+-- the same, if nothing is wrong and there is such a hash
+abbrev pub work_by : (call : List Saying) → Option Misuse → Option Kind → Result Task (Wrong Misuse)
+work_by call (Some misuse) kind = Err (Own misuse)
+work_by call None None = Err UnknownName
+work_by call None (Some kind) = Ok (work_of call kind)
+
+-- which work a call asks for
+abbrev pub task_of : List Kind → (call : List Saying) → Result Task (Wrong Misuse)
+task_of kinds call = work_by call (misuse_of call) (kind_of kinds (value_of (codes "algorithm") call))
+
+-- how a task ends over the files of these names; a wrong call writes nothing
+abbrev pub EndsTask : List Kind → Opens → (files : List (List ℕ)) (written written' : Option (List ℕ)) → Result Task (Wrong Misuse)
+    → Outcome Misuse Nothing → Type 0
+EndsTask kinds opens files written written' (Ok (task.Sum summing)) result =
+    (ended : Result Bool (Fault Nothing)) × EndsSums summing opens files written written' ended × (result ≡ of_run ended)
+EndsTask kinds opens files written written' (Ok (task.Check checking)) result =
+    (ended : Result Bool (Fault Nothing)) × EndsLists kinds checking opens files written written' ended × (result ≡ of_run ended)
+EndsTask kinds opens files written written' (Err wrong) result = (result ≡ Usage wrong) × Keeps written written'
+
+-- how the program ends whose call says this
+abbrev pub EndsCall : List Kind → Opens → (call : List Saying) (texts : Text → List ℕ) (written written' : Option (List ℕ))
+    → Outcome Misuse Nothing → Type 0
+EndsCall kinds opens call texts written written' =
+    EndsRequest (request_of call) texts (EndsTask kinds opens (files_or (operands call)) written written' (task_of kinds call))
+    (Unit {0}) written written'
+
+-- the key file of a call, if it is neither wrong nor asks for a text
+abbrev pub key_file : (call : List Saying) → Option (List ℕ)
+key_file call = at (request_of call) (misuse_of call)
+  where
+    at : Request → Option Misuse → Option (List ℕ)
+    at Work None = value_of (codes "key-file") call
+    at request misuse = None
+
+-- there was no memory, and nothing is written
+abbrev pub EndsForMemory : (written written' : Option (List ℕ)) → Outcome Misuse Nothing → Type 0
+EndsForMemory written written' result = (result ≡ Failed NoMemory) × Keeps written written'
+
+-- how the program ends, by the hashes that can be told under the keys of its key file; or the file has no keys, and nothing is written
+abbrev pub EndsWithKeys : Opens → (call : List Saying) (texts : Text → List ℕ) (written written' : Option (List ℕ))
+    → Outcome Misuse Nothing → Type 0
+EndsWithKeys opens call texts written written' result =
+    ((keys : Option (ℕ × ℕ)) × AreKeysOf opens (key_file call) keys × (told : List Kind) × (map told_of told ≡ kinds keys)
+    × EndsCall told opens call texts written written' result)
+    ⊎ (IsSome (key_file call) × (result ≡ Reported) × Keeps written written')
+    ⊎ EndsForMemory written written' result
+
+-- what it says on standard error of what else is wrong with a call
+abbrev pub words_of : Misuse → List ℕ
+words_of misuse.NotWithCheck = codes "-z, --tag and --untagged do not go with -c"
+words_of misuse.OnlyWithCheck = codes "--status, --strict, --ignore-missing and -w go with -c alone"
+words_of misuse.NeedsKeyFile = codes "poly61 needs --key-file"
+words_of misuse.UnusedKeyFile = codes "--key-file goes with -c and with -a poly61 alone"
