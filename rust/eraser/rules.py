@@ -55,8 +55,6 @@ def attributes(s):
             exported(s, k, s.match[o])
         elif name == "derive":
             derive(s, k, o)
-        elif name == "cfg":
-            test_module(s, k)
         elif name not in ATTRIBUTES:
             s.stop(k, "an unknown attribute")
 
@@ -86,13 +84,6 @@ def derive(s, k, o):
             s.erase(x, x + 1, "derive(Drop)")
         else:
             s.stop(x, "a derive of an unknown form")
-
-
-def test_module(s, k):
-    """`#[cfg(test)] mod x;` goes: tests take handles."""
-    if s.texts(k, k + 7) != ["#", "[", "cfg", "(", "test", ")", "]", "mod"] or not s.is_(k + 9, ";", "{"):
-        s.stop(k, "an unknown cfg")
-    s.erase(k, s.match.get(k + 9, k + 9), "tests", docs=True)
 
 
 def impls(s):

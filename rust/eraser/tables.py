@@ -63,7 +63,7 @@ UNKNOWN = {
 }
 
 # Attributes that stay, and derives that mean the same.
-ATTRIBUTES = {"inline", "cold", "test", "repr", "allow", "must_use", "non_exhaustive", "derive", "cfg"}
+ATTRIBUTES = {"inline", "cold", "repr", "allow", "must_use", "non_exhaustive", "derive"}
 DERIVES = {"Drop", "Clone", "Copy", "Default", "Debug", "PartialEq", "Eq", "Hash", "PartialOrd", "Ord"}
 
 # Rust's keywords: of two words side by side one is a keyword, or the eraser does not know them.

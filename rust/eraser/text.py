@@ -11,14 +11,14 @@ WIDTH = 140
 
 
 def read_all(folder, crates):
-    """Of each source of these crates but tests its crate, its module, its path and its text. `folder` is the project's folder crates/."""
+    """Of each source of these crates its crate, its module, its path and its text. `folder` is the project's folder crates/."""
     for crate in crates:
         src = os.path.join(folder, crate, "src")
         for place, _, names in sorted(os.walk(src)):
             for name in sorted(names):
                 path = os.path.join(place, name)
                 part = os.path.relpath(path, src)[:-3]
-                if name.endswith(".rt") and name != "tests.rt" and part in PARTS.get(crate, {part}):
+                if name.endswith(".rt") and part in PARTS.get(crate, {part}):
                     with open(path, encoding="utf-8") as file:
                         yield crate, crate + "/" + part, "crates/" + os.path.relpath(path, folder), file.read()
 
