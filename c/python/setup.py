@@ -1,7 +1,10 @@
-"""Puts libhashers.so.1 into the package: from the folder HASHERS_LIB_DIR, or from where `make -C c TARGET=x86-64` leaves it."""
+"""Puts libhashers.so.1 into the package: from the folder HASHERS_LIB_DIR, or from where `make -C c TARGET=x86-64` leaves it; where that has
+none, in a clone, cargo makes it."""
+import functools
 import os
 import re
 import shutil
+import subprocess
 import sys
 
 from setuptools import Distribution, setup
@@ -17,9 +20,20 @@ except ImportError:
         sys.exit("setup.py: the package wheel is not installed (Debian's python3-wheel)")
 
 HERE = os.path.dirname(os.path.abspath(__file__))
-LIBRARY = os.path.join(os.environ.get("HASHERS_LIB_DIR", os.path.join(HERE, "..", "target", "x86-64")), "libhashers.so.1")
+SOURCES = os.path.join(HERE, "..")
 # of a processor's number in ELF files its name, and the glibc of the oldest tag that pip knows for it
 MACHINES = {62: ("x86_64", 5), 183: ("aarch64", 17)}
+
+
+@functools.lru_cache(maxsize=None)
+def library():
+    """The path of the library."""
+    folder = os.environ.get("HASHERS_LIB_DIR", os.path.join(SOURCES, "target", "x86-64"))
+    if "HASHERS_LIB_DIR" not in os.environ and not os.path.isfile(os.path.join(folder, "libhashers.so.1")) \
+            and os.path.isfile(os.path.join(SOURCES, "Makefile")) and shutil.which("cargo"):
+        subprocess.run(["make", "-s", "-C", SOURCES, "TARGET=plain"], check=True)
+        folder = os.path.join(SOURCES, "target", "plain")
+    return os.path.join(folder, "libhashers.so.1")
 
 
 def platform_of(path):
@@ -35,11 +49,11 @@ def platform_of(path):
 
 class BuildWithLibrary(build_py):
     def run(self):
-        if not os.path.isfile(LIBRARY):
-            sys.exit(f"setup.py: there is no {LIBRARY}. The wheel has libhashers.so.1 in it: let HASHERS_LIB_DIR name the folder of one,"
+        if not os.path.isfile(library()):
+            sys.exit(f"setup.py: there is no {library()}. The wheel has libhashers.so.1 in it: let HASHERS_LIB_DIR name the folder of one,"
                      " of Debian's package libhashers1, of a tarball of hashers, or made by make -C c")
         super().run()
-        shutil.copy(LIBRARY, os.path.join(self.build_lib, "hashers"))
+        shutil.copy(library(), os.path.join(self.build_lib, "hashers"))
 
 
 class OfPlatform(Distribution):
@@ -53,7 +67,7 @@ class WheelOfPlatform(bdist_wheel):
     """Any Python 3 loads the library, on the platforms that it is made for."""
 
     def get_tag(self):
-        return "py3", "none", platform_of(LIBRARY) or super().get_tag()[2]
+        return "py3", "none", platform_of(library()) or super().get_tag()[2]
 
 
 setup(distclass=OfPlatform, cmdclass={"build_py": BuildWithLibrary, "bdist_wheel": WheelOfPlatform})

@@ -1,10 +1,12 @@
 #!/usr/bin/env python3
-"""Print the hash of each FILE, which workers hash in blocks.
+"""Print the hash of each FILE, which workers hash in blocks. A name with a newline, a carriage return or a backslash is escaped, as
+`hashsum` does.
 
 A hash that combines is proved to be that of the joined text if it is made from the hashes of its parts. So each line has the number
 that `hashof NAME < FILE` prints. `poly61` has 122 bits, under two keys of 8 bytes each, the lowest byte first, which FILE of --key-file
 holds: whoever does not know them has next to no chance to make two files of one hash.
 """
+import os
 import struct
 import sys
 
@@ -58,6 +60,13 @@ def hash_by(client, path, call, keys):
     return keyed_hash_of_file(client, path, keys, call.block) if keys else hash_of_file(client, path, call.hash, call.block)
 
 
+def line_of(hash_of_path, path):
+    """The line of a file. That of a name which is escaped begins with a backslash."""
+    name = os.fsencode(path)
+    escaped = name.replace(b"\\", b"\\\\").replace(b"\n", b"\\n").replace(b"\r", b"\\r")
+    return (b"" if escaped == name else b"\\") + f"{hash_of_path}  ".encode() + escaped + b"\n"
+
+
 def main():
     call = parsed(__doc__, ("files", {"metavar": "FILE", "nargs": "+"}),
                   ("--hash", {"choices": NAMES, "default": "sdbm", "help": "a hash that combines (sdbm)"}),
@@ -69,13 +78,18 @@ def main():
     except struct.error:
         sys.exit(f"hash_of_file.py: {call.key_file}: a key file must have 16 bytes")
     status = 0
-    with cluster(call) as client:
+    with cluster(call) as client, open(sys.stdout.fileno(), "wb", buffering=0, closefd=False) as output:
         for path in call.files:
             try:
-                print(f"{hash_by(client, path, call, keys)}  {path}", flush=True)
-            except (FileNotFoundError, IsADirectoryError, PermissionError) as error:
+                hash_of_path = hash_by(client, path, call, keys)
+            except OSError as error:
+                # of a file; others are of the cluster
+                if error.filename is None:
+                    raise
                 print(f"hash_of_file.py: {path}: {error.strerror}", file=sys.stderr)
                 status = 1
+            else:
+                output.write(line_of(hash_of_path, path))
     return status
 
 

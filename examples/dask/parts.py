@@ -1,10 +1,12 @@
 """What the programs beside this file share: their call, a cluster, files in blocks, and tasks whose answers come in order."""
 import argparse
+import errno
 import logging
 import os
 import sys
 import tempfile
 from contextlib import ExitStack, contextmanager
+from io import UnsupportedOperation
 from typing import NamedTuple
 
 from distributed import Client, LocalCluster
@@ -38,9 +40,13 @@ class Block(NamedTuple):
 
 
 def blocks_of(path, size):
-    """The file in blocks of that many bytes, of which the last may be shorter."""
-    with open(path, "rb") as file:
-        length = file.seek(0, os.SEEK_END)
+    """The file in blocks of that many bytes, of which the last may be shorter; an OSError with its name where it cannot be sought, and no
+    wait for a pipe's other end."""
+    with open(path, "rb", opener=lambda name, flags: os.open(name, flags | os.O_NONBLOCK)) as file:
+        try:
+            length = file.seek(0, os.SEEK_END)
+        except OSError as error:
+            raise UnsupportedOperation(errno.ESPIPE, os.strerror(errno.ESPIPE), path) from error
     return [Block(os.path.abspath(path), start, min(size, length - start)) for start in range(0, length, size)]
 
 

@@ -10,10 +10,12 @@ export async function load(bytes) {
   return {
     rows,
     begin: () => calls.begin(),
-    // Of many parts each but the last has a multiple of 4096 bytes.
+    // A Uint8Array or an ArrayBuffer. Of many parts each but the last has a multiple of 4096 bytes.
     write(part) {
-      for (let at = 0; at < part.length; at += calls.room_length()) {
-        const some = part.subarray(at, at + calls.room_length());
+      const bytes = part instanceof ArrayBuffer ? new Uint8Array(part) : part;
+      if (!(bytes instanceof Uint8Array)) throw new TypeError("a part is a Uint8Array or an ArrayBuffer");
+      for (let at = 0; at < bytes.length; at += calls.room_length()) {
+        const some = bytes.subarray(at, at + calls.room_length());
         view(calls.room(), some.length).set(some);
         calls.write(some.length);
       }

@@ -1,4 +1,4 @@
-"""Builds what is measured: our crates by the script run, and the drivers, which stand in measure/drivers, by cargo or gcc."""
+"""Builds what is measured: our crates by make and rt, and the drivers, which stand in measure/drivers, by cargo or gcc."""
 import os
 import shlex
 import shutil
@@ -32,27 +32,25 @@ def done(command, folder=ROOT, wants="", **environment):
     return told.stdout
 
 
-def built(*command):
+def built(*command, folder=ROOT):
     """Runs a command that builds, and tells its progress itself."""
-    if subprocess.run(command, cwd=ROOT, stdin=subprocess.DEVNULL, stdout=sys.stderr, check=False).returncode:
+    if subprocess.run(command, cwd=folder, stdin=subprocess.DEVNULL, stdout=sys.stderr, check=False).returncode:
         sys.exit(f"{shlex.join(command)} did not build it")
-
-
-def by_run(crate, *flags):
-    """Has the script run prove and build a crate, and answers the folder of what it built."""
-    built("./run", "--build", crate, *flags)
-    return os.path.join(ROOT, "crates", crate, "out")
 
 
 def program(crate):
     """Proves and builds one of our programs, and answers its path."""
-    return os.path.join(by_run(crate), crate)
+    built("make", crate)
+    return os.path.join(ROOT, "bin", crate)
 
 
 def static_library(crate, folder, *flags):
     """Proves and builds one of our static libraries by these flags of rt lib, and copies it into the folder."""
+    built("make", crate)
+    of_crate = os.path.join(ROOT, "crates", crate)
+    built("rt", "lib", *flags, folder=of_crate)
     os.makedirs(folder, exist_ok=True)
-    shutil.copy(os.path.join(by_run(crate, *flags), f"lib{crate}.a"), folder)
+    shutil.copy(os.path.join(of_crate, "out", f"lib{crate}.a"), folder)
 
 
 def original():

@@ -2,8 +2,10 @@
 import re
 import textwrap
 
-from .tables import ALLOW, CRATES, DOC_WORDS, EXPORTS, MARK, NOTES, SOURCES
+from .tables import ALLOW, CRATES, DOC_WORDS, EXPORTS, SHIM_MACROS, SHIM_TYPES, MARK, NOTES, PROGRAMS, SOURCES
 
+# What may stand at the head of a path.
+HEADS = {"std", *SOURCES} - PROGRAMS
 # A function of at most so many tokens in its body is small.
 SMALL = 200
 
@@ -106,18 +108,36 @@ def crates_named(s):
     """The crates, and std, that the file names at the head of a path."""
     found = set()
     for k in range(len(s.toks)):
-        if k in s.gone or not s.is_(k, "std", *SOURCES) or s.is_(k - 1, ":"):
+        if k in s.gone or not s.is_name(k, HEADS) or s.is_(k - 1, ":"):
             continue
-        if (s.is_(k + 1, ":") and s.is_(k + 2, ":")) or s.is_(k - 1, "use"):
+        if s.is_(k + 1, ":") and s.is_(k + 2, ":") and not s.is_(k + 3, "<") or s.is_(k - 1, "use"):
             found.add(s.toks[k].text)
     return sorted(found)
+
+
+def shim_names(s):
+    """What a file that stands on the shim finds in its prelude in Rattle, and names."""
+    found = set()
+    for k in range(len(s.toks)):
+        if s.on_shim and k not in s.gone and not (s.is_(k - 1, ":") and s.is_(k - 2, ":")):
+            if s.is_(k, *SHIM_TYPES) or s.is_(k, *SHIM_MACROS) and s.is_(k + 1, "!"):
+                found.add(s.toks[k].text)
+    return sorted(found) + ["std"] * ("std" in crates_named(s) and s.on_shim)
+
+
+def program(s):
+    """`pub` before the `main` of a program, which a file by hand calls."""
+    for k in range(len(s.toks)):
+        if s.crate in PROGRAMS and s.texts(k, k + 3) == ["fn", "main", "(", "rt"]:
+            add(s, k, "pub ")
 
 
 def imports_of(s):
     """The `use` lines of the prelude: the crates that become modules here, and those of the crate below."""
     named = crates_named(s)
-    for root, names in (("crate", [it for it in named if it in s.siblings or it == "std"]),
-                        ("hashers_proved", [it for it in named if it in CRATES and it not in s.siblings])):
+    shim = "crate::shim" if s.siblings is CRATES else "hashers_proved::shim"
+    for root, names in (("crate", [it for it in named if it in s.siblings or it == "std" and not s.on_shim]),
+                        ("hashers_proved", [it for it in named if it in CRATES and it not in s.siblings]), (shim, shim_names(s))):
         if names:
             names = "{%s}" % ", ".join(names) if len(names) > 1 else names[0]
             yield "%suse %s::%s;" % ("pub " if reexports(s) else "", root, names)
@@ -139,4 +159,4 @@ def prelude(s, text):
     elif uses and any("cfg(" in it for it in s.before.values()):
         head.append("#[allow(unused_imports)]")
     head += uses + ["#[allow(unsafe_code)]", "mod exports;"] * (s.module == EXPORTS)
-    return "\n".join(docs + head + ["", body])
+    return "\n".join(docs + head + ["", body]).rstrip("\n") + "\n"

@@ -10,8 +10,8 @@ SECOND = re.compile(r"""
   | (?P<sign>.)
 """, re.X | re.S)
 MARK = re.compile(r"// What follows is the proved text of crates/[\w/]+\.rt without its contracts\.")
-PRELUDE = re.compile(r"// .*|#!?\[allow\(\w+\)\]|#\[doc\(hidden\)\]|mod exports;"
-                     r"|(?:pub )?use (?:crate|hashers_proved)::(?:\w+|\{[\w, ]+\});")
+PRELUDE = re.compile(r"// .*|#!?\[allow\([\w, ]+\)\]|#\[doc\(hidden\)\]|mod exports;"
+                     r"|(?:pub )?use (?:crate|hashers_proved)(?:::shim)?::(?:\w+|\{[\w, ]+\});")
 APART = re.compile(r"// Of the import above what wants std:\n#\[cfg\(feature = \"std\"\)\]\n"
                    r"(?:pub )?use (\w+)::(\w+(?: as \w+)?|\{[\w, ]+\});")
 CFG = ["#", "[", "cfg", "(", "feature", "=", '"std"', ")", "]"]
@@ -30,6 +30,8 @@ def without_additions(rust, crate):
             i += 9
         elif rust[i:i + 4] == INLINE:
             i += 4
+        elif rust[i:i + 5] == ["pub", "fn", "main", "(", "rt"]:
+            i += 1
         elif rust[i] == "crate" and rust[i + 1:i + 6] == [":", ":", crate, ":", ":"]:
             words.append("crate")
             i += 4
@@ -53,7 +55,7 @@ def body(text):
 
 def wrong_in(rust, rattle, crate):
     """What is wrong with a Rust file, or None, and how many tokens of it were held."""
-    if "/*" in rattle or re.search(r'\br#*"', rattle):
+    if "/*" in rattle or re.search(r'(?<!\\)\br#*"', rattle):
         return "a comment or a string that the check does not read", 0
     text = body(rust)
     if text is None:

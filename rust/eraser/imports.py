@@ -79,7 +79,7 @@ def std_items(s):
 
 
 def split(s, first, head, end):
-    """Sets what wants std apart from the rest of a group, as an import of its own behind it. False where all of it wants std."""
+    """Sets what wants std apart from the rest of a group, as an import of its own behind it. False where all of it wants std, or the path before it."""
     k = head + 1
     while s.is_id(k) and s.is_(k + 1, ":") and s.is_(k + 2, ":"):
         k += 3
@@ -87,7 +87,7 @@ def split(s, first, head, end):
         return False
     parts = [part for part in parts_of(s, k) if part[0] not in s.gone]
     wants = [part for part in parts if s.is_(part[0], *STD_NAMES)]
-    if len(wants) == len(parts):
+    if len(wants) in (0, len(parts)):  # none where the path before the group wants it
         return False
     names = [" ".join(s.texts(a, b - 1)) for a, b, _ in wants]
     for part in wants:

@@ -1,8 +1,9 @@
 """The rules of what goes. Each takes a Source, and stops at a form that it does not know."""
 import re
 
-from .tables import ATTRIBUTES, DERIVES, KEYWORDS, LEFT_OUT, UNKNOWN
+from .tables import ATTRIBUTES, DERIVES, KEYWORDS, SHIM_MACROS, SHIM_WORDS, LEFT_OUT, UNKNOWN
 
+ITEMS = {"fn", "struct", "enum", "const", "static", "trait", "type", "mod"}
 WHY = {"use": "ghost use", "member": "ghost member", "field": "ghost field", "value": "ghost value", "requires": "requires",
        "ensures": "ensures"}
 
@@ -26,13 +27,18 @@ def ghost_text(s):
 
 
 def clause(s, k):
-    """A clause ends a function's head: other clauses, or the body or a semicolon, are behind it, and `fn` before it."""
+    """A clause ends a function's head: other clauses, or the body or a semicolon, are behind it, and `fn` before it, or the bars of a
+    closure."""
     if not (s.is_(k + 1, "{", ";") or s.is_ghost(k + 1, "requires", "ensures")):
         s.stop(k, "a clause with something unknown behind it")
     i = k - 1
     while i >= 0 and not s.is_(i, "fn"):
         if s.is_(i, ")", "]"):
             i = s.match[i]
+        elif s.is_(i, "=") and s.is_(i - 2, "<", ","):
+            i -= 2  # of an associated type
+        elif s.is_(i, "|") and s.is_(i + 1, "-") and s.is_(i + 2, ">"):
+            return
         elif s.is_(i, "{", "}", ";", "=") or s.toks[i].kind == "ghost" and not s.is_ghost(i, "requires", "ensures"):
             s.stop(k, "a clause that ends no function's head")
         i -= 1
@@ -41,7 +47,7 @@ def clause(s, k):
 
 
 def attributes(s):
-    """`#[tactic]` and `#[cycle]` go, and Drop out of a derive."""
+    """`#[tactic]`, `#[cycle]` and `#[rattlefmt::skip]` go, and Drop out of a derive."""
     for k in range(len(s.toks)):
         if not s.is_(k, "#"):
             continue
@@ -49,7 +55,9 @@ def attributes(s):
         if not s.is_(o, "["):
             s.stop(k, "a # that is no attribute")
         name = s.toks[o + 1].text
-        if name in ("tactic", "cycle"):
+        if s.texts(o, s.match[o] + 2) == ["[", "cfg", "(", "test", ")", "]", "mod", "tests"] and s.is_(s.match[o] + 3, ";"):
+            s.erase(k, s.match[o] + 3, "module of tests")
+        elif name in ("tactic", "cycle", "rattlefmt"):
             s.erase(k, s.match[o], "#[%s]" % name)
         elif s.texts(o, o + 5) == ["[", "unsafe", "(", "no_mangle", ")", "]"]:
             exported(s, k, s.match[o])
@@ -110,27 +118,43 @@ def impls(s):
         elif s.is_(of, "Drop"):
             plain_drop(s, body, [s.toks[i].text for i in inside if s.toks[i].kind != "ghost"])
             s.erase(k, s.match[body], "impl Drop", docs=True)
-        elif s.is_(of, "Clone", "Iterator", "Deref", "DerefMut", "Owns"):
+        elif s.is_(of, "Iterator"):
+            if [s.toks[i + 1].text for i in inside if s.is_(i, "fn") and s.is_id(i + 1)] != ["next"]:
+                s.stop(of, "an Iterator with more than next")
+        elif s.is_(of, "Clone", "Deref", "DerefMut", "Owns"):
             s.stop(of, "an impl of a trait that differs in Rattle")
 
 
 def plain_drop(s, body, words):
-    """The block is `fn drop(self) { let Self { x: _, .. } = self; }`: nothing happens."""
+    """The block is `fn drop(self) { let Self { x: _, .. } = self; }`, or a `match self` whose arms only take it apart: nothing happens."""
     field = r"\w+ : _"
     fields = r"(?: \{ %s(?: , %s)*(?: ,)? \}| \( _(?: , _)* \))?" % (field, field)
-    if not re.fullmatch(r"fn drop \( self \) \{ let Self%s = self ; \}" % fields, " ".join(words)):
+    variant = r"\w+ : : \w+(?: \( _\w*(?: , _\w*)* \))?"
+    arm = r"%s(?: \| %s)* = > \{ \}(?: ,)?" % (variant, variant)
+    if not re.fullmatch(r"fn drop \( self \) \{ (?:let Self%s = self ;|match self \{(?: %s)+ \}) \}" % (fields, arm), " ".join(words)):
         s.stop(body, "a drop that does something")
 
 
-def functions(s):
-    """Finds the laws, functions with clauses and nothing else, and what is left out, at the top of the module."""
+def tops(s):
+    """Each named item at the top of the module."""
     depth = 0
-    for k in range(len(s.toks)):
-        depth += s.is_(k, "{") - s.is_(k, "}")
-        if depth or not s.is_id(k + 1) or not s.is_(k, "fn", "struct", "enum", "const", "static", "trait", "type", "mod"):
-            continue
-        name = s.toks[k + 1].text
-        if s.is_(k, "fn") and (name in LEFT_OUT or is_law(s, k)):
+    for k, t in enumerate(s.toks):
+        if t.kind == "punct":
+            depth += (t.text == "{") - (t.text == "}")
+        elif not depth and t.text in ITEMS and t.kind == "id" and s.is_id(k + 1):
+            yield k, s.toks[k + 1].text
+
+
+def laws_of(s, names):
+    """The names of its laws, which may cite laws of these names, and its other names for these."""
+    others = {s.toks[k + 2].text for k in range(len(s.toks)) if s.is_(k + 1, "as") and s.is_name(k, names)}
+    return others | {name for k, name in tops(s) if s.is_(k, "fn") and is_law(s, k, names)}
+
+
+def functions(s, names):
+    """Finds the laws, functions with clauses and nothing else but citations of laws, and what is left out, at the top of the module."""
+    for k, name in tops(s):
+        if s.is_(k, "fn") and (name in LEFT_OUT or is_law(s, k, names)):
             s.laws.add(name)
             first = k
             while s.is_(first - 1, "pub"):
@@ -140,8 +164,28 @@ def functions(s):
             s.items.add(name)
 
 
-def is_law(s, k):
-    """No parameter, no result, no body: only `ensures`."""
+def citation_end(s, k, names):
+    """Of a statement that cites a law, `NAME();` or `NAME::<..>();`, the number of its semicolon, or None."""
+    if not (s.is_name(k, names) and s.is_(k - 1, ";", "{", "}")):
+        return None
+    i = k + 1
+    if s.is_(i, ":") and s.is_(i + 1, ":") and s.is_(i + 2, "<"):
+        i = s.past_generics(i + 2)
+    return i + 2 if s.is_(i, "(") and s.is_(i + 1, ")") and s.is_(i + 2, ";") else None
+
+
+def citations(s, names):
+    """A statement that cites a law has no code."""
+    for k in range(len(s.toks)):
+        end = None if k in s.gone else citation_end(s, k, names)
+        if end is not None:
+            s.erase(k, end, "citation of a law")
+        elif k not in s.gone and s.is_name(k, names) and (s.is_(k - 1, "let", "mut") or s.is_(k + 1, "(") and not s.is_(k - 1, "fn", ".")):
+            s.stop(k, "a law that is cited otherwise")
+
+
+def is_law(s, k, names):
+    """No parameter, no result, no body but citations of laws: only `ensures`."""
     i = s.past_generics(k + 2)
     if not (s.is_(i, "(") and s.is_(i + 1, ")")):
         return False
@@ -149,7 +193,12 @@ def is_law(s, k):
     first = i
     while s.is_ghost(i, "ensures"):
         i += 1
-    return i > first and s.is_(i, "{") and s.is_(i + 1, "}")
+    if not (i > first and s.is_(i, "{")):
+        return False
+    i += 1
+    while citation_end(s, i, names) is not None:
+        i = citation_end(s, i, names) + 1
+    return s.is_(i, "}")
 
 
 def bounds(s):
@@ -187,9 +236,11 @@ def unknown(s):
             continue
         if t.kind == "ghost":
             s.stop(k, "ghost text that no rule took")
-        if t.kind == "id" and t.text in UNKNOWN:
-            s.stop(k, "no rule for %s" % UNKNOWN[t.text])
-        if s.is_(k, "!") and s.is_(k + 1, "(", "[") and s.is_id(k + 2) and (s.is_(k + 3, ";") or s.is_(k + 2, "in")):
+        if t.kind == "id" and t.text in UNKNOWN and not (s.on_shim and t.text in SHIM_WORDS):
+            if t.text != "expect" or s.is_(k - 1, "."):
+                s.stop(k, "no rule for %s" % UNKNOWN[t.text])
+        takes_handle = s.is_(k, "!") and s.is_(k + 1, "(", "[") and s.is_id(k + 2) and (s.is_(k + 3, ";") or s.is_(k + 2, "in"))
+        if takes_handle and not (s.on_shim and s.is_(k - 1, *SHIM_MACROS)):
             s.stop(k, "a macro that takes a handle")
         if s.is_(k, "fn") and s.is_id(k + 1):
             body = s.body_of(k)

@@ -1,9 +1,17 @@
 """One Rattle source: its tokens, which of them go, and what is added."""
 import bisect
+import functools
 
+from .tables import SHIM_CRATES
 from .tokens import Scanner
 
 OPEN, CLOSE = {"(": ")", "[": "]", "{": "}"}, {")", "]", "}"}
+
+
+@functools.lru_cache(maxsize=None)
+def tokens_of(path, text):
+    """The tokens of a text, which several Rust crates may take."""
+    return Scanner(path, text).tokens()
 
 
 class Source:
@@ -13,8 +21,10 @@ class Source:
         self.crate, self.module, self.path, self.text = crate, module, path, text
         # the Rattle crates that become modules of the same Rust crate
         self.siblings = siblings
+        # whether it takes memory, reads or writes, over the shim
+        self.on_shim = crate in SHIM_CRATES
         self.scanner = Scanner(path, text)
-        self.all = self.scanner.tokens()
+        self.all = tokens_of(path, text)
         self.toks = [t for t in self.all if t.kind not in ("note", "doc", "idoc")]
         self.match = self.pairs()
         self.gone, self.before, self.behind = {}, {}, {}
@@ -40,7 +50,11 @@ class Source:
         return match
 
     def is_(self, k, *texts):
-        return 0 <= k < len(self.toks) and self.toks[k].kind in ("id", "punct") and self.toks[k].text in texts
+        return 0 <= k < len(self.toks) and self.toks[k].text in texts and self.toks[k].kind in ("id", "punct")
+
+    def is_name(self, k, names):
+        """Whether it is one of many words."""
+        return 0 <= k < len(self.toks) and self.toks[k].kind == "id" and self.toks[k].text in names
 
     def is_id(self, k):
         return 0 <= k < len(self.toks) and self.toks[k].kind == "id"

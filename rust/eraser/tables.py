@@ -2,17 +2,52 @@
 
 # Of each Rust crate the Rattle crates whose sources become its modules, in the order in which they stand on one another.
 RUST_CRATES = {
-    "hashers-proved": ["hash_rounds", "hash_laws", "hash_rules", "hash_writes", "hash_fx", "hash_jenkins", "hash_bytes", "hash_crc", "hashers",
-                       "hash_more", "hash_keyed", "hash_bloom"],
-    "hashers-c": ["hash_names", "hash_c"],
+    "hashers-proved": [
+        "hash_rounds", "hash_laws", "hash_rules", "hash_writes", "hash_fx",
+        "hash_jenkins", "jenkins_laws",
+        "hash_blocks", "hash_murmur3", "hash_siphash", "hash_xxhash", "block_laws", "hash_xxh3",
+        "hash_bytes", "hash_crc", "hashers", "hash_more", "hash_keyed", "hash_names",
+        "streams", "text_set", "hash_lines", "hash_buckets", "hash_ring", "hash_cuts", "hash_bloom",
+    ],
+    "hashers-tools": [
+        "cli", "unique_lines", "hash_spread", "hash_sums", "hash_chunks",
+        "hashof", "dedup", "hashsum", "cuts", "spread",
+    ],
+    "hashers-c": ["hash_c"],
 }
 CRATES = RUST_CRATES["hashers-proved"]
-SOURCES = [crate for crates in RUST_CRATES.values() for crate in crates]
-# Crates of which these files alone are taken: others take memory, read, or have laws alone.
-PARTS = {"hash_bloom": {"bits", "words"}, "hash_keyed": {"modular", "pair", "parts", "poly61", "words"}, "hash_names": {"table", "task"}}
+# The programs, which no source imports.
+PROGRAMS = {"hashof", "dedup", "hashsum", "cuts", "spread"}
+SOURCES = sorted({crate for crates in RUST_CRATES.values() for crate in crates})
+# Crates of which these files alone are taken: others take memory, read, have laws alone or are for tests.
+PARTS = {
+    "hashers-proved": {
+        "hash_siphash": {"rounds", "siphash"},
+        "hash_keyed": {"modular", "pair", "parts", "poly61", "words"},
+        "hash_names": {"reading", "table", "task", "wide"},
+        "streams": {"fault", "tries"},
+    },
+    "hashers-tools": {
+        "hashof": {"line", "main", "named", "outcome", "run"},
+    },
+}
+# Crates that take memory, read or write: what they name of Rattle's std is in the shim, which is written by hand over Rust's.
+SHIM_CRATES = {
+    "streams", "text_set", "hash_lines", "hash_buckets", "hash_ring", "hash_cuts", "hash_bloom",
+    "cli", "unique_lines", "hash_spread", "hash_sums", "hash_chunks",
+} | PROGRAMS
+# What these find in their prelude in Rattle: types, and macros that take a handle or an allocator.
+SHIM_TYPES = {"HostRuntime", "String", "Vec"}
+SHIM_MACROS = {"eprint", "eprintln", "format", "vec"}
+# Folders in src whose files are by hand, as those in src itself.
+BY_HAND = {"shim", "bin"}
+# At these words of UNKNOWN it does not stop there.
+SHIM_WORDS = {"HostRuntime", "rt", "Global", "AllocError", "alloc", "f64"}
 # The file of the exports for C, which are a module of their own.
 EXPORTS = "hash_c/lib"
 
+# The Rust crate that has the feature std.
+FEATURED = "hashers-proved"
 # Names that are std's alone, or of what stands on it: an import, alias or module of such a name is there with the feature std.
 STD_NAMES = {"HashMap", "HashSet", "FxHashMap", "FxHashSet", "reader"}
 
@@ -27,7 +62,18 @@ ALLOW = {
     "hash_crc/crc32": ("unused_imports", "Clauses name Hasher"),
     "hash_keyed/words": ("unused_labels", "Proofs name the loops"),
     "hash_bloom/bits": ("unused_variables", "The clauses of ones name bits"),
-    "hash_names/table": ("dead_code", "The programs read the rest of a row"),
+    "hash_lines/line": ("unused_imports", "Clauses name MOST_DIGITS"),
+    "hash_lines/parse": ("unused_imports", "Clauses name MOST_DIGITS"),
+    "hash_cuts/cuts": ("dead_code, unused_labels", "Clauses name the average, and proofs the loop"),
+    "hash_cuts/gear": ("dead_code", "Clauses name the seeds"),
+    "hash_spread/keys": ("unused_labels", "Proofs name the loops"),
+    "hash_spread/named": ("unused_labels", "Proofs name the loops"),
+    "hash_sums/check": ("unused_imports", "Clauses name io"),
+    "hash_sums/laws": ("unused_imports", "The laws alone name the hashes"),
+    "hashof/run": ("dead_code", "The tests alone call run"),
+    "spread/table": ("unused_labels", "Proofs name the loop"),
+    "spread/clock": ("unused_labels", "Proofs name the loop"),
+    "unique_lines/unread": ("unused_variables", "The clauses of fill name due"),
 }
 
 # Functions whose contracts would be false in Rust, and why. They go, and so do their names in imports.

@@ -1,50 +1,72 @@
 """The Rust text of a Source: what is left of it, and what is added."""
+import functools
 import os
 import re
 
 from . import added, imports, rules
 from .source import Source
-from .tables import PARTS, Trouble
+from .tables import FEATURED, LEFT_OUT, PARTS, RUST_CRATES, SOURCES, Trouble
 
 # How long a line of documentation may be.
 WIDTH = 140
 
 
-def read_all(folder, crates):
-    """Of each source of these crates its crate, its module, its path and its text. `folder` is the project's folder crates/."""
+def read_all(folder, crates, parts):
+    """Of each source of these crates, or of these parts of them, its crate, its module, its path and its text. `folder` is the project's
+    folder crates/."""
     for crate in crates:
         src = os.path.join(folder, crate, "src")
         for place, _, names in sorted(os.walk(src)):
             for name in sorted(names):
                 path = os.path.join(place, name)
                 part = os.path.relpath(path, src)[:-3]
-                if name.endswith(".rt") and part in PARTS.get(crate, {part}):
+                if name.endswith(".rt") and part in parts.get(crate, {part}):
                     with open(path, encoding="utf-8") as file:
                         yield crate, crate + "/" + part, "crates/" + os.path.relpath(path, folder), file.read()
 
 
 def out_path(module):
     crate, part = module.split("/", 1)
-    return os.path.join("src", crate, "mod.rs" if part == "lib" else part + ".rs")
+    return os.path.join("src", crate, "mod.rs" if part in ("lib", "main") else part + ".rs")
 
 
-def erased(folder, crates):
-    """The sources with marks at what goes and what is added, and the names of the laws."""
-    files = [Source(*it, crates) for it in read_all(folder, crates)]
+@functools.lru_cache
+def law_names(folder):
+    """The names of the laws of all crates, also of files that are not written."""
+    files = [Source(*it, SOURCES) for it in read_all(folder, SOURCES, {})]
     for s in files:
-        for rule in (rules.ghost_text, rules.attributes, rules.functions):
-            rule(s)
+        rules.ghost_text(s)
+    names, before = set(), None
+    while names != before:  # a law may cite laws
+        before = set(names)
+        for s in files:
+            names |= rules.laws_of(s, names)
+    return names
+
+
+def erased(folder, rust_crate):
+    """The sources with marks at what goes and what is added, and the names of the laws."""
+    crates = RUST_CRATES[rust_crate]
+    names = law_names(folder)
+    files = [Source(*it, crates) for it in read_all(folder, crates, PARTS.get(rust_crate, {}))]
+    for s in files:
+        rules.ghost_text(s)
+        rules.attributes(s)
+        rules.functions(s, names)
     laws = set().union(*(s.laws for s in files))
     for s in files:
-        if laws & s.items:
-            raise Trouble("%s: %s names a law and another item" % (s.path, sorted(laws & s.items)))
+        rules.citations(s, names)
+        if names & s.items:
+            raise Trouble("%s: %s names a law and another item" % (s.path, sorted(names & s.items)))
         rules.impls(s)
-        imports.imports(s, laws)
+        imports.imports(s, names | set(LEFT_OUT))
         rules.bounds(s)
         rules.formatters(s)
         added.paths(s)
-        imports.std_items(s)
+        if rust_crate == FEATURED and not s.on_shim:
+            imports.std_items(s)
         added.functions(s)
+        added.program(s)
         rules.unknown(s)
     return files, laws
 
@@ -96,7 +118,7 @@ def without_marks(line):
     """The line with no blanks left over where something went."""
     if "\0" not in line:
         return line
-    line = re.sub(" \0+(?=[>,;)])", "", line)
+    line = re.sub("(?<=[{]) ?\0+ ", "", re.sub(" \0+(?=[>,;)])", "", line))
     return re.sub(r"(\S) +$", r"\1", re.sub(" \0+ ", " ", line).replace("\0", ""))
 
 

@@ -37,22 +37,32 @@ class Scanner:
         return found.end() if found else at
 
     def antt(self, at):
-        """The end of the antt text in braces that begins at `at`. No string, character or comment may be in it, since a brace could be
-        in there."""
+        """The end of the antt text in braces that begins at `at`. No character or comment may be in it, since a brace could be in there;
+        a string is passed over."""
         if self.text[at:at + 1] != "{":
             self.stop(at, "ghost text has to begin with a brace")
         depth, i = 0, at
         while i < len(self.text):
             c = self.text[i]
+            if c == '"':
+                i = self.string(i)
+                continue
             depth += (c == "{") - (c == "}")
             if depth == 0:
                 return i + 1
-            if c == '"' or self.text.startswith(("//", "/*", "--", "{-"), i):
-                self.stop(i, "ghost text with a string or a comment")
+            if self.text.startswith(("//", "/*", "--", "{-"), i):
+                self.stop(i, "ghost text with a comment")
             if c == "'" and not (self.text[i - 1].isalnum() or self.text[i - 1] in "_'"):
                 self.stop(i, "ghost text with a character")
             i += 1
         self.stop(at, "ghost text without end")
+
+    def string(self, at):
+        """The end of the string in ghost text that begins at `at`, on one line."""
+        found = STRING.match(self.text, at)
+        if not found or "\n" in found[0]:
+            self.stop(at, "ghost text with a string of an unknown form")
+        return found.end()
 
     def ghost(self, word, at):
         """What the ghost token is that begins with this word, and its end."""

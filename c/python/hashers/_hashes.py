@@ -15,7 +15,8 @@ __all__ = ["Function", "Hash", "algorithms_available", "combine", "crc32_ending"
 # declared: names
 __all__ += [
     "fnv1a32", "fnv1a64", "djb2", "sdbm", "loselose", "bricolage", "oaat", "lookup3", "spooky", "spooky_v1", "passthrough", "fxhash",
-    "fxhash32", "fxhash64", "crc32", "crc32c", "fnv1_32", "fnv1_64", "djb2_add", "joaat", "elf", "null"
+    "fxhash32", "fxhash64", "crc32", "crc32c", "fnv1_32", "fnv1_64", "djb2_add", "joaat", "elf", "null", "xxh32", "xxh64", "murmur3_32",
+    "murmur3", "siphash13", "siphash24", "xxh3"
 ]
 # end of declared
 
@@ -32,16 +33,22 @@ _bits: Dict[str, int] = {"spooky128": 128}
 # the hash of no bytes
 _starts: Dict[str, int] = {}
 # how many bytes are taken at a time, where it is not one
-_blocks = {"poly61": 7, "lookup3": 12, "spooky": 96, "spooky_v1": 96, "spooky128": 96, "fxhash": 8, "fxhash32": 4, "fxhash64": 8}
+_blocks = {"poly61": 7, "lookup3": 12, "spooky": 96, "spooky_v1": 96, "spooky128": 96, "fxhash": 8, "fxhash32": 4, "fxhash64": 8,
+           "xxh32": 16, "xxh64": 32, "murmur3_32": 4, "murmur3": 16, "siphash13": 8, "siphash24": 8, "xxh3": 64}
 _spooky_finish = {"spooky": call("spooky_finish"), "spooky_v1": call("spooky_finish_v1"), "spooky128": call("spooky_finish")}
 numbers: Dict[str, int] = {}
 
 
 def _write_of(name: str) -> Callable[..., int]:
     """The call that goes on from a hash; ValueError where a hash does not tell its state."""
-    if name in _spooky_finish:
+    if not _goes_on(name):
         raise ValueError(f"{name} does not go on from a number")
     return call(name + "_write")
+
+
+def _goes_on(name: str) -> bool:
+    """Whether the hash so far is all that is kept."""
+    return has(name + "_write") and name not in _spooky_finish
 
 
 def _function(name: str, bits: int, number: int) -> Function:
@@ -86,6 +93,13 @@ djb2_add = _function("djb2_add", 32, 18)
 joaat = _function("joaat", 32, 19)
 elf = _function("elf", 28, 20)
 null = _function("null", 64, 21)
+xxh32 = _function("xxh32", 32, 22)
+xxh64 = _function("xxh64", 64, 23)
+murmur3_32 = _function("murmur3_32", 32, 24)
+murmur3 = _function("murmur3", 64, 25)
+siphash13 = _function("siphash13", 64, 26)
+siphash24 = _function("siphash24", 64, 27)
+xxh3 = _function("xxh3", 64, 28)
 # end of declared
 
 algorithms_available = frozenset(_bits)
@@ -178,7 +192,7 @@ class Hash(ABC):
 
     def unwrite(self, data: Buffer) -> None:
         """Takes the last bytes out again: from every state, update and unwrite of the same bytes lead back to it, in either order.
-        ValueError for lookup3, those of SpookyHash, null, passthrough and elf, which cannot."""
+        ValueError for lookup3, those of SpookyHash, null, passthrough, elf and those by the block, which cannot."""
         raise ValueError(f"{self._name} cannot be unwritten")
 
     def words(self) -> Tuple[int, int]:
@@ -244,6 +258,34 @@ class _NumberHash(Hash):
         return self._now[0]
 
 
+class _TextHash(Hash):
+    """A hash that the library takes of whole texts alone: the text is kept."""
+
+    def __init__(self, name: str, text: bytes = b"") -> None:
+        super().__init__(name)
+        self._text = bytearray(text)
+
+    def __reduce__(self) -> Tuple[Callable[..., Hash], Tuple[Any, ...]]:
+        with self._lock:
+            return _TextHash, (self._name, bytes(self._text))
+
+    def update(self, data: Buffer) -> None:
+        with self._lock, Held(data):
+            self._text += memoryview(data).cast("B")
+
+    def reset(self) -> None:
+        with self._lock:
+            self._text = bytearray()
+
+    def copy(self) -> Hash:
+        with self._lock:
+            return _TextHash(self._name, bytes(self._text))
+
+    def intdigest(self) -> int:
+        with self._lock:
+            return _functions[self._name](bytes(self._text))
+
+
 class _StateHash(Hash):
     """A hash whose state is a struct, begun at seeds or at a key."""
     _kind: Type[Union[State, Place]]
@@ -301,8 +343,8 @@ class _Poly61Hash(_StateHash):
 def new(name: str, data: Buffer = b"", *, hash: Optional[SupportsIndex] = None, usedforsecurity: bool = False,
         seeds: Optional[Tuple[SupportsIndex, SupportsIndex]] = None, key: Optional[SupportsIndex] = None) -> Hash:
     """A hash of the data, to be updated. ValueError for an unknown name; `algorithms_available` has the names, and letters may be of either
-    case. Where `hash` is given, it goes on from there, and the data comes behind; those of SpookyHash cannot. They alone take seeds, two
-    numbers below 2^64. "poly61" takes a key, and none of the others does; it is not among `algorithms_available`, whose hashes are one for
+    case. Where `hash` is given, it goes on from there, and the data comes behind; those of SpookyHash cannot, nor can xxh32, xxh64, those of
+    MurmurHash3 and of SipHash, which keep the text. SpookyHash alone takes seeds, two numbers below 2^64. "poly61" takes a key, and none of the others does; it is not among `algorithms_available`, whose hashes are one for
     all. No hash here is for security."""
     keyed = isinstance(name, str) and name.lower() == "poly61"
     name = name.lower() if keyed else known(name)
@@ -322,6 +364,12 @@ def new(name: str, data: Buffer = b"", *, hash: Optional[SupportsIndex] = None, 
     else:
         if seeds is not None:
             raise ValueError(f"{name} takes no seeds")
+        if not _goes_on(name):
+            if hash is not None:
+                raise ValueError(f"{name} does not go on from a number")
+            made = _TextHash(name)
+            made.update(data)
+            return made
         start = _starts[name] if hash is None else _functions[name](b"", hash=hash)
         made = _NumberHash(name, start, start)
     made.update(data)

@@ -34,6 +34,8 @@ from hashers import _hashes, _library
 
 C = Path(__file__).resolve().parent.parent.parent
 HEADER = (C / "hashers.h").read_text(encoding="utf-8")
+# those that keep the text in Python, and their blocks
+BY_THE_BLOCK = {"xxh32": 16, "xxh64": 32, "murmur3_32": 4, "murmur3": 16, "siphash13": 8, "siphash24": 8, "xxh3": 64}
 NAMES = sorted(hashers.algorithms_available - {"spooky128"})
 # those to which cuts show
 CUT = ("lookup3", "fxhash", "fxhash32", "fxhash64")
@@ -108,7 +110,7 @@ class AgainstTheHeader(unittest.TestCase):
                 return False
             return True
         self.assertEqual([name for name in NAMES if can(name)], ending("_unwrite"))
-        self.assertEqual(ending("_write"), [name for name in NAMES if name != "spooky_v1"])
+        self.assertEqual(ending("_write"), [name for name in NAMES if name not in ("spooky_v1", *BY_THE_BLOCK)])
 
     def test_which_can_be_combined(self) -> None:
         halves = TEXT[:100], TEXT[100:]
@@ -136,6 +138,9 @@ class AgainstTheHeader(unittest.TestCase):
             elif name == "elf":
                 self.assertEqual(_library.call("elf_write")(TOP, b"", 0), (1 << 28) - 1)
                 self.assertEqual(hashers.new(name).digest_size, 4)
+            elif name in ("xxh32", "murmur3_32"):
+                self.assertEqual(hashers.new(name).digest_size, 4)
+                self.assertLess(hashers.new(name, TEXT).intdigest(), 1 << 32)
             elif name != "null":
                 self.assertEqual(hashers.new(name).digest_size, 8)
                 self.assertGreater(hashers.new(name, TEXT).intdigest(), 1 << 32)
@@ -210,9 +215,10 @@ class Hashes(unittest.TestCase):
         one, two = TEXT[:100], TEXT[100:]
         for name in NAMES:
             function = getattr(hashers, name)
-            if name in ("spooky", "spooky_v1"):
+            if name in ("spooky", "spooky_v1", *BY_THE_BLOCK):
                 self.assertRaises(ValueError, function, two, hash=function(one))
                 self.assertRaises(ValueError, hashers.new, name, hash=0)
+                self.assertRaises(ValueError, hashers.new(name, one).unwrite, one)
                 continue
             made = hashers.new(name, one)
             made.update(two)
@@ -261,13 +267,14 @@ class Hashes(unittest.TestCase):
             exec(example[0], {})
         self.assertEqual(said.getvalue().strip(), example[0].strip().split("  # prints ")[1])
 
-    def test_the_forged_text(self) -> None:
+    def test_the_forged_texts(self) -> None:
         page = (C.parent / "docs" / "CHOOSING.md").read_text(encoding="utf-8")
-        example = re.findall(r"```python\n(.*?)```", page, re.S)
-        self.assertEqual(len(example), 1)
-        with contextlib.redirect_stdout(io.StringIO()) as said:
-            exec(example[0], {})
-        self.assertEqual(said.getvalue().strip(), example[0].strip().split("  # prints ")[1])
+        examples = re.findall(r"```python\n(.*?)```", page, re.S)
+        self.assertEqual(len(examples), 2)
+        for example in examples:
+            with contextlib.redirect_stdout(io.StringIO()) as said:
+                exec(example, {})
+            self.assertEqual(said.getvalue().strip(), example.strip().split("  # prints ")[1])
 
     def test_the_page(self) -> None:
         # Each line of the page's example runs, and the literals behind # are what it gives.
@@ -353,7 +360,7 @@ class Manners(unittest.TestCase):
     """A hash object's manners, as hashlib has them."""
 
     def test_block_sizes(self) -> None:
-        wanted = {"fxhash": 8, "fxhash32": 4, "fxhash64": 8, "lookup3": 12, "spooky": 96, "spooky_v1": 96, "spooky128": 96}
+        wanted = {"fxhash": 8, "fxhash32": 4, "fxhash64": 8, "lookup3": 12, "spooky": 96, "spooky_v1": 96, "spooky128": 96, **BY_THE_BLOCK}
         for name in hashers.algorithms_available:
             self.assertEqual(hashers.new(name).block_size, wanted.get(name, 1))
             self.assertIn(name, repr(hashers.new(name)))

@@ -1,6 +1,6 @@
 -- The words of a call, behind the program's own name: options and operands, by the guidelines of POSIX for utilities (The Open Group Base
 -- Specifications, 12.2), with GNU's names behind two hyphens, which are not shortened.
-use Rattle.std.specs.Prelude.{ℕ, ◌≡◌, ◌==◌, ◌&&◌, ◌++◌, if◌then◌else◌, Bool, true, false, List, [], ◌∷◌, Option, Some, None, fold, length, map, take, drop, codes}
+use Rattle.std.specs.Prelude.{ℕ, ◌≡◌, ◌+◌, ◌==◌, ◌&&◌, ◌++◌, if◌then◌else◌, Bool, true, false, List, [], ◌∷◌, Option, Some, None, fold, length, map, take, drop, codes}
 use Rattle.std.specs.List.{find, flat_map, list_any}
 use Rattle.std.specs.Option.{is_none}
 use Rattle.std.specs.Str.{bytes_eq}
@@ -57,10 +57,14 @@ wanting name word = record { says = []; wants = Some (record { name = name; word
 abbrev pub first : Saying → Spoken → Spoken
 first saying spoken = record { says = saying ∷ spoken.says; wants = spoken.wants }
 
+-- a word as far as the name of this option goes, behind its two hyphens
+abbrev pub name_in : Choice → (word : List ℕ) → List ℕ
+name_in choice word = take (length choice.name + 2) word
+
 -- an option by its name, with nothing behind it, or a value behind `=`
 abbrev pub named : Choice → (word : List ℕ) → (value : Option (List ℕ)) → Spoken
 named choice word None = if choice.has_value then wanting choice.name word else only (Gives choice.name [])
-named choice word (Some value) = only (if choice.has_value then Gives choice.name value else Errs HasValue word)
+named choice word (Some value) = only (if choice.has_value then Gives choice.name value else Errs HasValue (name_in choice word))
 
 -- the same of what stands behind the name; or another option, if that is neither
 abbrev pub behind_name : Choice → (word rest : List ℕ) → (other : Spoken) → Spoken
@@ -148,7 +152,7 @@ operand_of (Errs misgiven word) = []
 abbrev pub operands : List Saying → List (List ℕ)
 operands sayings = flat_map operand_of sayings
 
--- what is wrong with an option, and the word that is
+-- what is wrong with an option, and the word or its part that is
 abbrev pub wrong_of : Saying → List (Misgiven × List ℕ)
 wrong_of (Gives name value) = []
 wrong_of (Operand word) = []

@@ -1,7 +1,7 @@
 -- What a call asks for, how it ends, and what is said of a failure.
 use Rattle.std.specs.Prelude.{ℕ, ◌≡◌, ◌++◌, if◌then◌else◌, Bool, List, [], Option, Some, None, Result, codes}
 use Rattle.std.specs.Io.KnownBytes.{Keeps}
-use Rattle.cli.specs.declared.fault.Fault.{Fault}
+use Rattle.streams.specs.declared.fault.Fault.{Fault}
 use Rattle.cli.specs.declared.frame.Request.{Request}
 use Rattle.cli.specs.declared.frame.Request.TheVariants as request
 use Rattle.cli.specs.declared.frame.Text.{Text}
@@ -12,7 +12,7 @@ use Rattle.cli.specs.declared.outcome.Wrong.TheVariants as wrong
 use Rattle.cli.specs.declared.call.Misgiven.{Misgiven}
 use Rattle.cli.specs.Call.{Saying, first_of, given, wrongs}
 use Rattle.cli.specs.Outcome.{of_telling}
-use Rattle.cli.specs.Streams.{WritesOut}
+use Rattle.streams.specs.Streams.{WritesOut}
 
 -- what a call asks for in which this is wrong
 abbrev pub request_beside : (wrong : Option (Misgiven × List ℕ)) → (call : List Saying) → Request

@@ -5,8 +5,8 @@ use Rattle.std.specs.declared.io.ErrorKind.{ErrorKind}
 use Rattle.std.specs.declared.io.ErrorKind.TheVariants.{BrokenPipe}
 use Rattle.cli.specs.declared.call.Misgiven.{Misgiven}
 use Rattle.cli.specs.declared.call.Misgiven.TheVariants.{NoSuchName, NoSuchLetter, NoValue, HasValue}
-use Rattle.cli.specs.declared.fault.Fault.{Fault}
-use Rattle.cli.specs.declared.fault.Fault.TheVariants as fault
+use Rattle.streams.specs.declared.fault.Fault.{Fault}
+use Rattle.streams.specs.declared.fault.Fault.TheVariants as fault
 use Rattle.cli.specs.declared.outcome.Outcome.{Outcome}
 use Rattle.cli.specs.declared.outcome.Outcome.TheVariants.{Done, Usage, Reported, Failed}
 use Rattle.cli.specs.declared.outcome.Wrong.TheVariants as wrong

@@ -7,7 +7,7 @@
 ghost use Rattle.std.specs.Prelude.{◌≡◌, ◌++◌, ◌∷◌, [], IfOk, OnOk, map};
 ghost use Rattle.std.specs.Option.{option_map};
 ghost use Rattle.std.specs.List.{find};
-ghost use Rattle.cli.specs.Call.{Adds, Operand, by_letters, by_name, call_of, choice_of, choices, first_of, flag, given, has_letter, named, next_spoken, operands, saying_of, sayings, spoken, taking, texts, value_of, valued, wants_of, wrongs};
+ghost use Rattle.cli.specs.Call.{Adds, Operand, by_letters, by_name, call_of, choice_of, choices, first_of, flag, given, has_letter, name_in, named, next_spoken, operands, saying_of, sayings, spoken, taking, texts, value_of, valued, wants_of, wrongs};
 
 use std::alloc::{AllocError, Global};
 
@@ -64,7 +64,7 @@ pub enum Said<'a> {
     Gives(&'static [u8], &'a [u8]),
     /// An operand.
     Operand(&'a [u8]),
-    /// What is wrong with an option, and the word or the letter that is.
+    /// What is wrong with an option, and the word, its part or the letter that is.
     Errs(Misgiven, &'a [u8]),
 }
 
@@ -150,6 +150,14 @@ fn push_letters<'a>(
     Ok(None)
 }
 
+/// A word as far as the name of this option goes, behind its two hyphens.
+fn name_in(opt: Opt, word: &[u8]) -> &[u8]
+    ensures { result.now ≡ name_in (choice_of opt) word.now }
+{
+    let end = opt.name.len() + 2;
+    if end < word.len() { &word[..end] } else { word }
+}
+
 /// Takes an option whose name stands behind two hyphens, and what stands behind its name.
 fn push_named<'a>(
     said: &mut Vec<Said<'a>>,
@@ -167,7 +175,7 @@ fn push_named<'a>(
         })),
         None => push(said, Said::Gives(opt.name, b""))?,
         Some(value) if opt.has_value => push(said, Said::Gives(opt.name, value))?,
-        Some(_) => push(said, Said::Errs(Misgiven::HasValue, word))?,
+        Some(_) => push(said, Said::Errs(Misgiven::HasValue, name_in(opt, word)))?,
     }
     Ok(None)
 }

@@ -6,12 +6,12 @@ ghost use Rattle.cli.specs.Frame.{complaint_of, hint, part_of, request_of, text_
 ghost use Rattle.cli.specs.Outcome.{status_of};
 
 use crate::call::{Call, Misgiven};
-use crate::fault::Fault;
 use crate::outcome::{Outcome, Words, behind_of, failure_of, status_of};
 use crate::quoted::in_quotes;
 use crate::reason::reason;
 use std::alloc::{AllocError, Global};
 use std::io::Error;
+use streams::fault::Fault;
 
 /// What a program says of itself.
 #[derive(Clone, Copy)]

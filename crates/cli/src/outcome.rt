@@ -3,8 +3,8 @@ ghost use Rattle.std.specs.Prelude.{◌≡◌, ℕ, List};
 ghost use Rattle.cli.specs.Outcome.{behind_of, failure_of, misgiven_words, of_run, of_telling, status_of, write_status};
 
 use crate::call::Misgiven;
-use crate::fault::Fault;
 use std::io::{Error, ErrorKind};
+use streams::fault::{Fault, Nothing};
 
 /// Something that failed, in words.
 pub trait Words {
@@ -20,10 +20,6 @@ pub trait Words {
         None
     }
 }
-
-/// What a program has that has no faults, or no wrong calls, of its own: none of its outcomes has it.
-#[derive(Debug, Drop)]
-pub struct Nothing;
 
 impl Words for Nothing {
     ghost use Rattle.std.specs.Prelude.{[]};

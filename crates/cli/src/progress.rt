@@ -1,15 +1,18 @@
 //! Progress on standard error, where that is a terminal and something takes longer than a second.
 use crate::inputs::Opened;
-use crate::streams::{TRIES, read_some};
 use std::io;
-use std::io::Read;
+use std::io::{IsTerminal, Read, Stdout, Write};
 use std::time::Instant;
+use streams::tries::{TRIES, read_some};
 
 /// How many milliseconds pass before progress is shown.
 const PATIENCE: u64 = 1000;
 
 /// How many milliseconds later it is shown again.
 const PAUSE: u64 = 200;
+
+/// What takes away what was shown.
+const BLANKS: &str = "\r                                        \r";
 
 /// When progress is due, and whether it stands on the terminal.
 #[derive(Drop)]
@@ -56,8 +59,37 @@ impl<'r> Progress<'r> {
     pub fn clear(&mut self) {
         if self.shown > 0 {
             self.shown = 0;
-            let _ = eprint!(self.rt; "\r                                        \r");
+            let _ = eprint!(self.rt; "{BLANKS}");
         }
+    }
+}
+
+/// Standard output at a terminal on which progress may stand: that is taken away before each write.
+#[derive(Drop)]
+pub struct Cleared<'r> {
+    rt: &'r HostRuntime,
+    out: Stdout,
+    clears: bool,
+}
+
+impl<'r> Cleared<'r> {
+    /// Standard output. Where progress is shown, and output and progress go to terminals, progress is taken away before each write.
+    pub fn new(rt: &'r HostRuntime, out: Stdout, is_shown: bool) -> Cleared<'r> {
+        let clears = is_shown && rt.stderr().is_terminal() && out.is_terminal();
+        Cleared { rt, out, clears }
+    }
+}
+
+impl Write for Cleared<'_> {
+    fn write(&mut self, buf: &[u8]) -> io::Result<usize> {
+        if self.clears {
+            let _ = eprint!(self.rt; "{BLANKS}");
+        }
+        self.out.write(buf)
+    }
+
+    fn flush(&mut self) -> io::Result<()> {
+        self.out.flush()
     }
 }
 

@@ -1,9 +1,53 @@
 //! Names as they stand on standard error.
 use std::alloc::{AllocError, Global};
 
-/// Whether a text has control characters.
-fn has_control(text: &str) -> bool {
-    text.chars().any(|c| c.is_control())
+/// Whether a character stands for itself in a shell only in quotes, wherever it is in a word.
+fn is_special(c: char) -> bool {
+    c.is_control()
+        || matches!(
+            c,
+            ' ' | '!'
+                | '"'
+                | '$'
+                | '&'
+                | '\''
+                | '('
+                | ')'
+                | '*'
+                | ':'
+                | ';'
+                | '<'
+                | '='
+                | '>'
+                | '?'
+                | '['
+                | '\\'
+                | '^'
+                | '`'
+                | '|'
+        )
+}
+
+/// Whether a shell reads a word as another than it is.
+fn needs_quotes(text: &str) -> bool {
+    matches!(text, "" | "{" | "}")
+        || text.starts_with('#')
+        || text.starts_with('~')
+        || text.chars().any(is_special)
+}
+
+/// Whether a character behind the first of a word stands for itself between double quotes, and is not escaped there.
+fn is_plain(c: char) -> bool {
+    !matches!(c, '#' | '~' | '{' | '}') && (matches!(c, ' ' | '\'' | ':') || !is_special(c))
+}
+
+/// Whether a text is quoted by double quotes: it has a single quote, and nothing that would have to be escaped there.
+fn is_double_quoted(text: &str) -> bool {
+    let behind_first = text
+        .strip_prefix('#')
+        .or(text.strip_prefix('~'))
+        .unwrap_or(text);
+    text.contains('\'') && behind_first.chars().all(is_plain)
 }
 
 /// Puts a control character as it stands between `$'` and `'`: by its letter, or else by its bytes in octal.
@@ -52,12 +96,15 @@ pub fn in_quotes(alloc: Global, word: &[u8]) -> Result<String, AllocError> {
     shell_quoted(alloc, String::from_utf8_lossy(alloc, word)?.as_str())
 }
 
-/// A name for standard error, with � for what is no UTF-8. One with control characters is quoted as a shell reads it, and as coreutils
-/// writes it: `'no'$'\n''such'`. So it can't pass for another line, nor colour a terminal.
+/// A name for standard error, with � for what is no UTF-8. One that a shell would read as another is quoted as a shell reads it, and as
+/// coreutils writes it: `'a b'`, `"it's"`, `''`, `'no'$'\n''such'`. So it can't pass for another line, nor colour a terminal.
 pub fn quoted(alloc: Global, name: &[u8]) -> Result<String, AllocError> {
     let text = String::from_utf8_lossy(alloc, name)?;
-    if !has_control(text.as_str()) {
+    if !needs_quotes(text.as_str()) {
         return Ok(text);
+    }
+    if is_double_quoted(text.as_str()) {
+        return format!(in alloc; "\"{text}\"");
     }
     shell_quoted(alloc, text.as_str())
 }

@@ -6,6 +6,7 @@ use cli::arguments::arguments;
 use cli::call::Call;
 use cli::folder::Disk;
 use cli::frame::{About, ended, wrong_word};
+use cli::progress::Cleared;
 use hash_chunks::fault::Fault;
 use hash_chunks::listing::Lines;
 use hash_chunks::outcome::{Misuse, Outcome, Wrong, call_of, outcome_of};
@@ -33,7 +34,7 @@ standard input.
   -l, --least BYTES     the fewest bytes of a chunk, but for a file's last; by
                         default a quarter of the average
       --average BYTES   behind the fewest, each place is a cut with a chance of
-                        1 in this number; by default 64K
+                        1 in this number; by default 64K, or 4 times -l
   -m, --most BYTES      the most bytes of a chunk; by default four times the
                         average
       --key-file FILE   16 secret bytes, which decide where the cuts are
@@ -42,9 +43,9 @@ standard input.
       --quiet           show no progress
       --help, --version   print this and exit
 
-BYTES may end with K, M or G, for 2^10, 2^20 and 2^30; all are at least 64. The
-hashes are those of hashsum, but for poly61. The exit status is 0, 1 if a file
-failed, 2 if the call is wrong.
+BYTES may end with K, M, G, T, P or E for powers of 1024, or with KB, MB and so
+on for powers of 1000; all are at least 64. The hashes are those of hashsum, but
+for poly61. The exit status is 0, 1 if a file failed, 2 if the call is wrong.
 ";
 
 /// Which version this is.
@@ -63,10 +64,11 @@ fn called(rt: &HostRuntime, call: &Call<'_>) -> io::Result<Outcome> {
         version: VERSION,
         list: "",
     };
-    let w = BufWriter::with_capacity(alloc, BUFFER, rt.stdout())?;
+    let quiet = call.gives(b"quiet");
+    let w = BufWriter::with_capacity(alloc, BUFFER, Cleared::new(rt, rt.stdout(), !quiet))?;
     Ok(outcome_of(
         alloc,
-        &Disk::new(rt, NAME, call.gives(b"quiet")),
+        &Disk::new(rt, NAME, quiet),
         call,
         about,
         &mut Lines::new(alloc, w),

@@ -10,8 +10,8 @@ use mir.Syntax.{w64}
 use Rattle.std.specs.Int.{from_le_bytes, to_le_bytes}
 use Rattle.hashers.proofs.RecurrenceLemmas.{recurrence-append}
 use Rattle.hashers.specs.Fnv.{fnv1a64_basis, fnv1a64_from, fnv1a64_step}
-use Rattle.cli.specs.Streams.{AppendsPart}
-use Rattle.cli.proofs.StreamLemmas.{part_behind, part_longer}
+use Rattle.streams.specs.Streams.{AppendsPart}
+use Rattle.streams.proofs.StreamLemmas.{part_behind, part_longer}
 use Rattle.hash_lines.specs.Hex.{hex, hex_value}
 use Rattle.hash_lines.proofs.HexLemmas.{hex_value-hex, length-hex}
 use Rattle.hash_bloom.specs.File.{IsStored, bytes_of, field, file_of, header, seal, sealed, title}

@@ -1,5 +1,5 @@
 -- What passes once bits are added.
-use Rattle.std.proofs.Common.{ℕ, ◌≡◌, ◌↔◌, ◌<◌, List, length, refl, sym, ap, ◌∙◌, subst, ⊎_elim, inl, inr, arith}
+use Rattle.std.proofs.Common.{ℕ, ◌≡◌, ◌↔◌, ◌<◌, ◌≤◌, List, length, refl, sym, ap, ◌∙◌, subst, ⊎_elim, inl, inr, arith}
 use Rattle.hash_bloom.specs.Filter.{Filter, IsFilter, IsSet, HasBit, IsProbe, IsCovered, Passes, AllPassIn, Fits, Adds, place}
 
 -- two joined filters are a filter
@@ -18,7 +18,30 @@ joined_is_filter old other new is is_other fits adds same = record {
       ((adds.set i).0 set);
 }
 
+-- a filter with bits of its own added is a filter
+pub added_is_filter : (old new : Filter) (more : ℕ → Type 0) → IsFilter old → Adds old new more → ((i : ℕ) → more i → i < old.bits)
+    → length new.words ≡ length old.words → IsFilter new
+added_is_filter old new more is adds below same = record {
+  room = record {
+    bits = omega (arith, adds.shape.0, is.room.bits);
+    probes = omega (arith, adds.shape.1, is.room.probes);
+    enough = omega (arith, adds.shape.0, same, is.room.enough);
+  };
+  no_more = omega (arith, adds.shape.0, same, is.no_more);
+  within = λ i set. ⊎_elim
+      (λ (was : IsSet old i). let less : i < old.bits = is.within i was in omega (arith, adds.shape.0, less))
+      (λ (here : more i). let less : i < old.bits = below i here in omega (arith, adds.shape.0, less))
+      ((adds.set i).0 set);
+}
+
 module _ (f g : List ℕ → ℕ) where
+  -- the probes of a key are bits of the filter
+  pub probe_below : (filter : Filter) (key : List ℕ) → IsFilter filter → (j : ℕ) → IsProbe f g filter key j → j < filter.bits
+  probe_below filter key is j probe =
+      let some : 1 ≤ filter.bits = is.room.bits in
+      let at : place filter.bits (f key) (g key) probe.0 ≡ j = probe.2 in
+      omega arith
+
   -- a key is found exactly where its probes were set or are added
   pub found_exactly : (old new : Filter) (more : ℕ → Type 0) (key : List ℕ) → Adds old new more
       → Passes f g new key ↔ IsCovered f g old key more

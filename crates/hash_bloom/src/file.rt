@@ -6,14 +6,12 @@
 ghost use Rattle.std.specs.Prelude.{◌≡◌, ◌<◌, ◌≤◌, ◌^◌, ◌++◌, ℕ, List, IfOk, IfErr, OnErr, OnOk, Some, length, slice_index};
 ghost use Rattle.std.specs.Int.{to_le_bytes};
 ghost use Rattle.std.specs.Io.KnownBytes.{Appends, Consumes};
-ghost use Rattle.cli.specs.Streams.{AppendsPart};
+ghost use Rattle.streams.specs.Streams.{AppendsPart};
 ghost use Rattle.hash_bloom.specs.File.{BeginsNot, IsRefusal, IsStored, bytes_of, field, file_of, header, seal, sealed};
 ghost use Rattle.hash_bloom.specs.Filter.{Filter, filter_of};
 ghost use mir.Syntax.{w64};
 
 use crate::{Bloom, NoFilter};
-use cli::fault::Fault;
-use cli::streams::{TRIES, write_all};
 use hash_lines::hex::{MOST_DIGITS, hex_number, push_hex, put_hex};
 use hashers::fnv::FNV1aHasher64;
 use hashers::laws::Piecewise;
@@ -23,6 +21,8 @@ use std::fmt::{Display, Formatter};
 use std::hash::Hasher;
 use std::io::{Error, ErrorKind, Read, Write};
 use std::{fmt, io};
+use streams::fault::Fault;
+use streams::tries::{TRIES, write_all};
 
 /// What the file begins with: whose it is, and its form's version.
 const TITLE: &[u8] = b"hashers-bloom 1 ";

@@ -13,8 +13,18 @@ ghost use Rattle.hashers.specs.Oz.{djb2_of};
 ghost use Rattle.hashers.specs.Pigeon.{bricolage_from};
 ghost use Rattle.hashers.specs.Spooky.{spooky, spooky_v1};
 ghost use Rattle.hashers.specs.Sums.{loselose_from, passthrough_from, sdbm_from};
+ghost use Rattle.hash_murmur3.specs.Murmur3.{murmur3_32};
+ghost use Rattle.hash_murmur3.specs.Murmur3x128.{murmur3_128};
+ghost use Rattle.hash_siphash.specs.SipHash.{siphash};
+ghost use Rattle.hash_xxh3.specs.Xxh3.{xxh3_64_of};
+ghost use Rattle.hash_xxhash.specs.Xxh32.{xxh32};
+ghost use Rattle.hash_xxhash.specs.Xxh64.{xxh64};
 
 use hash_more::{crc32, djb2_add, elf, fnv1, joaat};
+use hash_murmur3::{murmur3_32, murmur3_128};
+use hash_siphash::{SipKey, siphash13, siphash24};
+use hash_xxh3::xxh3_64;
+use hash_xxhash::{xxh32, xxh64};
 use hashers::jenkins::spooky_hash;
 use hashers::{fnv, fx_hash, jenkins, null, oz, pigeon};
 
@@ -201,4 +211,60 @@ pub extern "C" fn hashers_elf(text: &[u8]) -> u64
     ensures { result ≡ elf_from 0 text.now }
 {
     elf::elf(text)
+}
+
+/// XXH32 of the text under the seed 0.
+#[unsafe(no_mangle)]
+pub extern "C" fn hashers_xxh32(text: &[u8]) -> u64
+    ensures { result ≡ xxh32 0 text.now }
+{
+    u64::from(xxh32(0, text))
+}
+
+/// XXH64 of the text under the seed 0.
+#[unsafe(no_mangle)]
+pub extern "C" fn hashers_xxh64(text: &[u8]) -> u64
+    ensures { result ≡ xxh64 0 text.now }
+{
+    xxh64(0, text)
+}
+
+/// MurmurHash3_x86_32 of the text under the seed 0.
+#[unsafe(no_mangle)]
+pub extern "C" fn hashers_murmur3_32(text: &[u8]) -> u64
+    ensures { result ≡ murmur3_32 0 text.now }
+{
+    u64::from(murmur3_32(0, text))
+}
+
+/// The first word of MurmurHash3_x64_128 of the text under the seed 0.
+#[unsafe(no_mangle)]
+pub extern "C" fn hashers_murmur3(text: &[u8]) -> u64
+    ensures { result ≡ (murmur3_128 0 text.now).0 }
+{
+    murmur3_128(0, text).0
+}
+
+/// SipHash-1-3 of the text under the key 0.
+#[unsafe(no_mangle)]
+pub extern "C" fn hashers_siphash13(text: &[u8]) -> u64
+    ensures { result ≡ siphash 1 3 0 0 text.now }
+{
+    siphash13(SipKey { k0: 0, k1: 0 }, text)
+}
+
+/// SipHash-2-4 of the text under the key 0.
+#[unsafe(no_mangle)]
+pub extern "C" fn hashers_siphash24(text: &[u8]) -> u64
+    ensures { result ≡ siphash 2 4 0 0 text.now }
+{
+    siphash24(SipKey { k0: 0, k1: 0 }, text)
+}
+
+/// XXH3 of 64 bits of the text under the seed 0.
+#[unsafe(no_mangle)]
+pub extern "C" fn hashers_xxh3(text: &[u8]) -> u64
+    ensures { result ≡ xxh3_64_of 0 text.now }
+{
+    xxh3_64(0, text)
 }

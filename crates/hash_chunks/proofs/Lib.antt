@@ -1,4 +1,3 @@
 pub mod CutLemmas
 pub mod ListingLemmas
-pub mod SizeLemmas
 pub mod TallyLemmas

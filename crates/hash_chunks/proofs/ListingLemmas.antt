@@ -3,10 +3,10 @@ use Rattle.std.proofs.Common.{◌≡◌, ℕ, ◌+◌, Bool, List, [], ◌∷◌
 use Rattle.std.specs.List.{concat}
 use Rattle.std.specs.Io.KnownBytes.{Appends}
 use Rattle.std.proofs.KnownBytes.{Appends-nil, Appends-trans}
-use Rattle.cli.proofs.StreamLemmas.{part_behind, part_longer, part_whole}
-use Rattle.cli.specs.Streams.{AppendsPart}
+use Rattle.streams.proofs.StreamLemmas.{part_behind, part_longer, part_whole}
+use Rattle.streams.specs.Streams.{AppendsPart}
 use Rattle.cli.specs.Files.{Opens}
-use Rattle.cli.specs.declared.fault.Fault.{Fault}
+use Rattle.streams.specs.declared.fault.Fault.{Fault}
 use Rattle.hash_chunks.proofs.CutLemmas.{bytes_more}
 use Rattle.hash_chunks.specs.Cut.{EndsFile, one}
 use Rattle.hash_chunks.specs.Listing.{AreListed, EndsLines, chunk_line, chunk_lines}

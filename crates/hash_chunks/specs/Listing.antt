@@ -4,8 +4,8 @@ use Rattle.std.specs.List.{concat}
 use Rattle.std.specs.Io.Buffered.{writer_contents}
 use Rattle.std.specs.Io.KnownBytes.{Appends}
 use Rattle.cli.specs.Files.{Opens}
-use Rattle.cli.specs.Streams.{AppendsPart}
-use Rattle.cli.specs.declared.fault.Fault.{Fault}
+use Rattle.streams.specs.Streams.{AppendsPart}
+use Rattle.streams.specs.declared.fault.Fault.{Fault}
 use Rattle.hash_chunks.specs.Cut.{Cut, IsCut, IsFileCut, IsRead, given_of, is_whole, name_of}
 use Rattle.hash_chunks.specs.declared.fault.TooMany.{TooMany}
 use Rattle.hash_chunks.specs.declared.listing.Lines.{Lines}

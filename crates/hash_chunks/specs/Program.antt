@@ -5,7 +5,7 @@ use Rattle.cli.specs.Call.{Choice, Saying, flag, given, operands, taking, value_
 use Rattle.cli.specs.Files.{Opens, files_or}
 use Rattle.cli.specs.Frame.{EndsRequest, request_of}
 use Rattle.cli.specs.Outcome.{of_run}
-use Rattle.cli.specs.declared.fault.Fault.{Fault}
+use Rattle.streams.specs.declared.fault.Fault.{Fault}
 use Rattle.cli.specs.declared.frame.Text.{Text}
 use Rattle.cli.specs.declared.outcome.Outcome.{Outcome}
 use Rattle.cli.specs.declared.outcome.Outcome.TheVariants.{Usage, Reported}

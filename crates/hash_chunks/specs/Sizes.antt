@@ -1,17 +1,9 @@
 -- Sizes of chunks, as a call gives them.
-use Rattle.std.specs.Prelude.{ℕ, ◌-◌, ◌*◌, ◌/◌, ◌^◌, ◌&&◌, ◌==◌, nat_lt, min, max, if◌then◌else◌, List, length, take, slice_index, Option, Some, None, codes}
-use Rattle.std.specs.Str.Parse.{digits_value}
-use Rattle.std.specs.Str.{all_ascii_digits}
+use Rattle.std.specs.Prelude.{ℕ, ◌-◌, ◌*◌, ◌/◌, ◌^◌, ◌==◌, ◌&&◌, ◌||◌, nat_lt, min, max, if◌then◌else◌, List, [], ◌∷◌, Option, Some, None, codes}
+use Rattle.std.specs.Char.{is_ascii_digit}
 use Rattle.cli.specs.Call.{Saying, value_of}
+use Rattle.cli.specs.Numbers.{fitting, number_of}
 use Rattle.hash_chunks.specs.declared.sizes.Sizes.{Sizes}
-
--- the number if it is below 2 ^ 64
-abbrev pub fitting : ℕ → Option ℕ
-fitting number = if nat_lt number (2 ^ 64) then Some number else None
-
--- the number that decimal digits write
-abbrev pub number_of : (digits : List ℕ) → Option ℕ
-number_of digits = if all_ascii_digits digits && nat_lt 0 (length digits) then fitting (digits_value 10 digits) else None
 
 -- so many times a unit
 abbrev pub times : (unit : ℕ) → Option ℕ → Option ℕ
@@ -21,17 +13,43 @@ times unit (Some number) = fitting (number * unit)
 abbrev pub in_units : (digits : List ℕ) (unit : ℕ) → Option ℕ
 in_units digits unit = times unit (number_of digits)
 
--- how many bytes K, M and G stand for
-abbrev pub unit_of : (letter : ℕ) → Option ℕ
-unit_of letter = if letter == 75 then Some (2 ^ 10) else if letter == 77 then Some (2 ^ 20) else if letter == 71 then Some (2 ^ 30) else None
+-- how many bytes a letter stands for: a power of 1024, or of 1000
+abbrev pub binary : (letter : ℕ) → Option ℕ
+binary letter =
+    if letter == 75 || letter == 107 then Some (2 ^ 10) else if letter == 77 || letter == 109 then Some (2 ^ 20) else
+    if letter == 71 then Some (2 ^ 30) else if letter == 84 then Some (2 ^ 40) else if letter == 80 then Some (2 ^ 50) else
+    if letter == 69 then Some (2 ^ 60) else None
 
--- the size of a word whose last letter stands for a unit or for none
-abbrev pub size_by : Option ℕ → (word : List ℕ) → Option ℕ
-size_by None word = in_units word 1
-size_by (Some unit) word = in_units (take (length word - 1) word) unit
+abbrev pub thousands : (letter : ℕ) → Option ℕ
+thousands letter =
+    if letter == 75 || letter == 107 then Some (10 ^ 3) else if letter == 77 || letter == 109 then Some (10 ^ 6) else
+    if letter == 71 then Some (10 ^ 9) else if letter == 84 then Some (10 ^ 12) else if letter == 80 then Some (10 ^ 15) else
+    if letter == 69 then Some (10 ^ 18) else None
+
+-- the unit behind digits, as GNU's programs have it: none, K or KiB for 1024, KB for 1000, and so for the other letters
+abbrev pub unit_of : (suffix : List ℕ) → Option ℕ
+unit_of [] = Some 1
+unit_of (letter ∷ []) = binary letter
+unit_of (letter ∷ next ∷ []) = if next == 66 then thousands letter else None
+unit_of (letter ∷ next ∷ last ∷ []) = if next == 105 && last == 66 then binary letter else None
+unit_of (letter ∷ next ∷ last ∷ more ∷ others) = None
+
+-- the digits that a word begins with, and what stands behind them
+abbrev pub leading : List ℕ → List ℕ
+leading [] = []
+leading (byte ∷ more) = if is_ascii_digit byte then byte ∷ leading more else []
+
+abbrev pub behind : List ℕ → List ℕ
+behind [] = []
+behind (byte ∷ more) = if is_ascii_digit byte then behind more else byte ∷ more
+
+-- the size that a word says
+abbrev pub size_by : (unit : Option ℕ) (digits : List ℕ) → Option ℕ
+size_by None digits = None
+size_by (Some unit) digits = in_units digits unit
 
 abbrev pub size_of : (word : List ℕ) → Option ℕ
-size_of word = size_by (unit_of (slice_index word (length word - 1))) word
+size_of word = size_by (unit_of (behind word)) (leading word)
 
 -- the size that a call gives by an option, or the default
 abbrev pub size_or : (default : ℕ) → Option (List ℕ) → Option ℕ
@@ -52,6 +70,11 @@ sizes_by call None = None
 sizes_by call (Some average) = all_three (given_or call (codes "least") (max (average / 4) 64)) average
     (given_or call (codes "most") (min (average * 4) (2 ^ 64 - 1)))
 
--- the sizes of a call; on average 64 K bytes, if it doesn't say otherwise
+-- the average if none is given: 64 K bytes, or four times the least if that is more than 64 K
+abbrev pub average_behind : (least : Option ℕ) → ℕ
+average_behind None = 65536
+average_behind (Some least) = if nat_lt 65536 least then min (least * 4) (2 ^ 64 - 1) else 65536
+
+-- the sizes of a call
 abbrev pub sizes_of : (call : List Saying) → Option Sizes
-sizes_of call = sizes_by call (given_or call (codes "average") 65536)
+sizes_of call = sizes_by call (given_or call (codes "average") (average_behind (given_or call (codes "least") 0)))

@@ -3,8 +3,8 @@ use Rattle.std.specs.Prelude.{ℕ, ◌≡◌, ◌⊎◌, ◌==◌, ◌-◌, ◌+
 use Rattle.std.specs.List.{concat, filter, flat_map, list_all}
 use Rattle.std.specs.Io.KnownBytes.{Appends, Keeps}
 use Rattle.cli.specs.Files.{Opens}
-use Rattle.cli.specs.Streams.{AppendsPart}
-use Rattle.cli.specs.declared.fault.Fault.{Fault}
+use Rattle.streams.specs.Streams.{AppendsPart}
+use Rattle.streams.specs.declared.fault.Fault.{Fault}
 use Rattle.hash_chunks.specs.Cut.{Cut, IsFileCut, given_of, is_whole, name_of}
 use Rattle.hash_chunks.specs.declared.fault.TooMany.{TooMany}
 use Rattle.hash_cuts.specs.Cuts.{Cutting}

@@ -3,14 +3,13 @@ ghost use Rattle.hash_chunks.specs.Cut.{EndsFile};
 
 use crate::fault::Fault;
 use cli::folder::Folder;
-use hash_cuts::{Cuts, Sink, Unfinished, cut_reader};
-use std::alloc::Global;
+use hash_cuts::{Cuts, Sink, Unfinished, cut_reader_by};
 use std::io::{Error, ErrorKind, Read};
 
-/// Gives a sink the chunks of the file of that name, and returns whether it was read to its end. A file that fails is told, and the sink
-/// has the chunks that end within the bytes read before.
+/// Gives a sink the chunks of the file of that name, by a buffer that may serve many files, and returns whether it was read to its end. A
+/// file that fails is told, and the sink has the chunks that end within the bytes read before.
 pub fn cut_file<R: Read + Drop, F: Folder<R>, S: Sink<Error = Fault>>(
-    alloc: Global,
+    buffer: &mut Vec<u8>,
     cuts: &Cuts,
     folder: &F,
     name: &[u8],
@@ -25,7 +24,7 @@ pub fn cut_file<R: Read + Drop, F: Folder<R>, S: Sink<Error = Fault>>(
             return Ok(false);
         }
     };
-    match cut_reader(alloc, cuts, &mut file, u64::MAX, sink) {
+    match cut_reader_by(buffer, cuts, &mut file, u64::MAX, sink) {
         Ok(taken) => {
             if !taken.ended {
                 folder.failed(name, &Error::new(ErrorKind::FileTooLarge, "file too large"));

@@ -1,8 +1,8 @@
 //! What ends a run before its output is whole.
 ghost use Rattle.hash_chunks.specs.Program.{words_of_fault};
 
-use cli::fault;
 use cli::outcome::Words;
+use streams::fault;
 
 /// The chunks have more than 2^64 - 1 bytes.
 #[derive(Debug, Drop)]

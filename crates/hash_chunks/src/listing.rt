@@ -6,12 +6,12 @@ ghost use Rattle.hash_chunks.specs.Listing.{EndsLines, EndsListing, ListsChunks,
 use crate::cut::cut_file;
 use crate::fault::{Fault, TooMany};
 use cli::folder::Folder;
-use cli::streams::write_out;
 use hash_cuts::{Cuts, Sink};
 use hash_lines::line::{Form, Kind, push_line};
 use hash_sums::sums::{default_kind, number_of_text};
 use std::alloc::{AllocError, Global};
 use std::io::{BufWriter, Read, Write};
+use streams::tries::write_out;
 
 /// Writes a line for each chunk of a file.
 #[derive(Drop)]
@@ -85,7 +85,7 @@ impl<W: Write + Drop> Sink for Lines<'_, W> {
 
 /// Writes a line for each chunk of the file of that name, and returns whether it was read to its end.
 fn list_file<'a, R: Read + Drop, F: Folder<R>, W: Write + Drop>(
-    alloc: Global,
+    buffer: &mut Vec<u8>,
     cuts: &Cuts,
     folder: &F,
     name: &'a [u8],
@@ -97,7 +97,7 @@ fn list_file<'a, R: Read + Drop, F: Folder<R>, W: Write + Drop>(
 {
     lines.name = name;
     lines.place = 0;
-    cut_file(alloc, cuts, folder, name, lines)
+    cut_file(buffer, cuts, folder, name, lines)
 }
 
 /// Writes a line for each chunk of each file, in their order, and returns whether each was read to its end. A file that fails is told,
@@ -113,10 +113,11 @@ pub fn list_files<'a, R: Read + Drop, F: Folder<R>, W: Write + Drop>(
     ensures { EndsListing kind.entry cuts.now (F.opens folder.now) (map (λ name. name.now) names.now)
         (writer_contents W.contents lines.old.w) (writer_contents W.contents lines.new.w) result }
 {
+    let mut buffer = Vec::new(alloc);
     lines.kind = kind;
     let mut all = true;
     for name in names {
-        match list_file(alloc, cuts, folder, name, lines) {
+        match list_file(&mut buffer, cuts, folder, name, lines) {
             Ok(whole) => all = all & whole,
             Err(fault) => return Err(fault),
         }

@@ -3,7 +3,7 @@ ghost use Rattle.std.specs.Prelude.{◌≡◌, ◌⊎◌, true, map, IfOk};
 ghost use Rattle.std.specs.Option.{option_map};
 ghost use Rattle.std.specs.Io.Buffered.{writer_contents};
 ghost use Rattle.std.specs.Io.KnownBytes.{Keeps};
-ghost use Rattle.cli.specs.declared.fault.Fault.TheVariants.{NoMemory};
+ghost use Rattle.streams.specs.declared.fault.Fault.TheVariants.{NoMemory};
 ghost use Rattle.cli.specs.declared.outcome.Outcome.TheVariants.{Failed};
 ghost use Rattle.cli.specs.Call.{call_of, choices, sayings, texts};
 ghost use Rattle.cli.specs.Frame.{text_of};
@@ -18,13 +18,13 @@ use cli::folder::{Folder, files};
 use cli::frame::{About, Request, request_of, text_of};
 use cli::outcome;
 use cli::outcome::{Words, of_run, of_telling};
-use cli::streams::write_out;
 use hash_cuts::Cuts;
 use hash_lines::line::Kind;
 use hash_sums::keys::keys_for;
 use hash_sums::sums::{kind_of, kinds};
 use std::alloc::{AllocError, Global};
 use std::io::{Read, Write};
+use streams::tries::write_out;
 
 /// The work that a call asks for.
 #[derive(Clone, Copy)]

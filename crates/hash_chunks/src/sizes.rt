@@ -1,10 +1,10 @@
 //! The sizes of chunks that a call asks for.
-ghost use Rattle.std.specs.Prelude.{◌≡◌};
-ghost use Rattle.std.specs.Str.{all_ascii_digits};
+ghost use Rattle.std.specs.Prelude.{◌≡◌, codes};
 ghost use Rattle.cli.specs.Call.{sayings};
-ghost use Rattle.hash_chunks.specs.Sizes.{given_or, in_units, number_of, size_of, sizes_of, unit_of};
+ghost use Rattle.hash_chunks.specs.Sizes.{average_behind, behind, binary, given_or, in_units, leading, size_of, sizes_of, thousands, unit_of};
 
 use cli::call::Call;
+use cli::numbers::number_of;
 
 /// How many bytes a chunk has at least, on average behind these, and at most.
 #[derive(Clone, Copy)]
@@ -23,34 +23,6 @@ const AVERAGE: usize = 65536;
 /// The fewest bytes that a chunk may have.
 const FEWEST: usize = 64;
 
-/// Whether all bytes are decimal digits.
-fn are_digits(text: &[u8]) -> bool
-    ensures { result ≡ all_ascii_digits text.now }
-{
-    for byte in text {
-        if !byte.is_ascii_digit() {
-            return false;
-        }
-    }
-    true
-}
-
-/// The number that decimal digits write, if that is below 2^64.
-fn number_of(digits: &[u8]) -> Option<usize>
-    ensures { result ≡ number_of digits.now }
-{
-    if !are_digits(digits) {
-        return None;
-    }
-    match str::from_utf8(digits) {
-        Ok(text) => match text.parse::<usize>() {
-            Ok(number) => Some(number),
-            Err(_) => None,
-        },
-        Err(_) => None,
-    }
-}
-
 /// So many times a unit, if that is below 2^64.
 fn in_units(digits: &[u8], unit: usize) -> Option<usize>
     ensures { result ≡ in_units digits.now unit }
@@ -59,26 +31,70 @@ fn in_units(digits: &[u8], unit: usize) -> Option<usize>
     number.checked_mul(unit)
 }
 
-/// How many bytes a letter stands for.
-fn unit_of(letter: u8) -> Option<usize>
-    ensures { result ≡ unit_of letter }
+/// How many bytes a letter stands for, by powers of 1024.
+fn binary(letter: u8) -> Option<usize>
+    ensures { result ≡ binary letter }
 {
     match letter {
-        b'K' => Some(1 << 10),
-        b'M' => Some(1 << 20),
+        b'K' | b'k' => Some(1 << 10),
+        b'M' | b'm' => Some(1 << 20),
         b'G' => Some(1 << 30),
+        b'T' => Some(1 << 40),
+        b'P' => Some(1 << 50),
+        b'E' => Some(1 << 60),
         _ => None,
     }
 }
 
-/// How many bytes a word says: digits, and K, M or G behind them for 2^10, 2^20 or 2^30 times as many.
+/// How many bytes a letter stands for, by powers of 1000.
+fn thousands(letter: u8) -> Option<usize>
+    ensures { result ≡ thousands letter }
+{
+    match letter {
+        b'K' | b'k' => Some(1_000),
+        b'M' | b'm' => Some(1_000_000),
+        b'G' => Some(1_000_000_000),
+        b'T' => Some(1_000_000_000_000),
+        b'P' => Some(1_000_000_000_000_000),
+        b'E' => Some(1_000_000_000_000_000_000),
+        _ => None,
+    }
+}
+
+/// The unit that stands behind digits, as GNU's programs take it: none, `K` or `KiB` for 1024, `KB` for 1000, and so for the other letters.
+fn unit_of(suffix: &[u8]) -> Option<usize>
+    ensures { result ≡ unit_of suffix.now }
+{
+    match suffix {
+        [] => Some(1),
+        [letter] => binary(*letter),
+        [letter, b'B'] => thousands(*letter),
+        [letter, b'i', b'B'] => binary(*letter),
+        _ => None,
+    }
+}
+
+/// The digits that a word begins with, and what stands behind them.
+fn split_digits(word: &[u8]) -> (&[u8], &[u8])
+    ensures digits { result.0.now ≡ leading word.now }
+    ensures rest { result.1.now ≡ behind word.now }
+{
+    for at in 0..word.len() {
+        if !word[at].is_ascii_digit() {
+            return (&word[..at], &word[at..]);
+        }
+    }
+    (word, b"")
+}
+
+/// How many bytes a word says: digits, and a unit behind them.
 fn size_of(word: &[u8]) -> Option<usize>
     ensures { result ≡ size_of word.now }
 {
-    let (last, digits) = word.split_last()?;
-    match unit_of(*last) {
+    let (digits, suffix) = split_digits(word);
+    match unit_of(suffix) {
         Some(unit) => in_units(digits, unit),
-        None => in_units(word, 1),
+        None => None,
     }
 }
 
@@ -92,11 +108,21 @@ fn given_or(call: &Call<'_>, name: &[u8], default: usize) -> Option<usize>
     }
 }
 
+/// The average if a call gives none: 64 K bytes, or four times the least if that is more.
+fn usual_average(call: &Call<'_>) -> usize
+    ensures { result ≡ average_behind (given_or (sayings call.now.said.items) (codes "least") 0) }
+{
+    match given_or(call, b"least", 0) {
+        Some(least) if least > AVERAGE => least.saturating_mul(4),
+        _ => AVERAGE,
+    }
+}
+
 /// The sizes that a call asks for, `None` if a value is none.
 pub fn sizes_of(call: &Call<'_>) -> Option<Sizes>
     ensures { result ≡ sizes_of (sayings call.now.said.items) }
 {
-    let average = given_or(call, b"average", AVERAGE)?;
+    let average = given_or(call, b"average", usual_average(call))?;
     let least = given_or(call, b"least", (average / 4).max(FEWEST))?;
     let most = given_or(call, b"most", average.saturating_mul(4))?;
     Some(Sizes {

@@ -10,13 +10,13 @@ ghost use Rattle.hash_sums.specs.Sums.{sum_by};
 use crate::cut::cut_file;
 use crate::fault::{Fault, TooMany};
 use cli::folder::Folder;
-use cli::streams::write_out;
 use hash_cuts::{Cuts, Sink};
 use hash_lines::line::Kind;
 use hash_sums::sums::number_of_text;
 use std::alloc::{AllocError, Global};
 use std::collections::BTreeSet;
 use std::io::{BufWriter, Read, Write};
+use streams::tries::write_out;
 
 /// The numbers of the chunks so far.
 #[derive(Drop)]
@@ -89,7 +89,7 @@ impl Sink for Tally {
 
 /// Counts the chunks of the file of that name, and returns whether it was read to its end.
 fn count_file<R: Read + Drop, F: Folder<R>>(
-    alloc: Global,
+    buffer: &mut Vec<u8>,
     cuts: &Cuts,
     folder: &F,
     name: &[u8],
@@ -98,7 +98,7 @@ fn count_file<R: Read + Drop, F: Folder<R>>(
     ensures kind { tally.new.kind ≡ tally.old.kind }
     ensures counted { IfOk result (CountsFile (sum_by tally.old.kind) cuts.now (F.opens folder.now name.now) tally.old tally.new) }
 {
-    cut_file(alloc, cuts, folder, name, tally)
+    cut_file(buffer, cuts, folder, name, tally)
 }
 
 /// Counts the chunks of the files of these names, and returns whether each was read to its end.
@@ -113,9 +113,10 @@ fn count_files<R: Read + Drop, F: Folder<R>>(
     ensures { IfOk result (CountsFiles (sum_by tally.old.kind) cuts.now (F.opens folder.now)
         (map (λ name. name.now) names.now) tally.new) }
 {
+    let mut buffer = Vec::new(alloc);
     let mut all = true;
     for name in names {
-        let whole = count_file(alloc, cuts, folder, name, tally)?;
+        let whole = count_file(&mut buffer, cuts, folder, name, tally)?;
         all = all & whole;
     }
     Ok(all)

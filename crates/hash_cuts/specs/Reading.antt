@@ -48,9 +48,9 @@ pub record CutsAll {S : Type 0} (taken : Taken S) (cuts : Cutting) (left left' :
   pub count : length text ≡ bytes
   pub takes : Takes taken old new (chunks cuts text) None
 
--- a reading that broke after so many bytes, of which the sink was given the first chunks: after a read's error all but the one that was
--- begun; and it refused the first of the rest, or none
+-- a reading that broke after so many bytes, of which the sink was given the first chunks: after a read's error, or where there was no
+-- memory, all but the one that was begun; and it refused the first of the rest, or none
 abbrev pub BreaksAt : {E : Type 0} → Cutting → Unfinished E → (bytes : ℕ) (rest : List ℕ) (refused : Option (List ℕ)) → Type 0
 BreaksAt cuts (Unread fault) bytes rest refused = (fault.bytes ≡ bytes) × IsBegun cuts rest × (refused ≡ None)
 BreaksAt cuts (Refused error) bytes rest refused = (0 < length rest) × (refused ≡ Some (take (first_cut cuts rest) rest))
-BreaksAt cuts NoMemory bytes rest refused = (bytes ≡ 0) × (refused ≡ None)
+BreaksAt cuts NoMemory bytes rest refused = IsBegun cuts rest × (refused ≡ None)

@@ -10,4 +10,4 @@ pub mod laws;
 mod reader;
 
 pub use cuts::{Chunks, Cuts};
-pub use reader::{Sink, Unfinished, cut_reader};
+pub use reader::{Sink, Unfinished, cut_reader, cut_reader_by};

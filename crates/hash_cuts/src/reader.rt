@@ -1,5 +1,5 @@
 //! The chunks of what a reader gives, the same ones however the reader cuts its bytes.
-ghost use Rattle.std.specs.Prelude.{◌≡◌, ◌≤◌, ◌<◌, ◌+◌, ◌-◌, ◌↔◌, ◌∷◌, [], ℕ, List, Option, Some, None, length, take, drop, IfOk, IfErr, OnOk, OnErr, IsTrue, false};
+ghost use Rattle.std.specs.Prelude.{◌≡◌, ◌≤◌, ◌<◌, ◌+◌, ◌-◌, ◌↔◌, ◌∷◌, [], ℕ, List, Option, Some, None, length, take, drop, IfOk, IfErr, OnOk, OnErr, IsTrue, true, false};
 ghost use Rattle.std.specs.Io.KnownBytes.{IsAtEnd};
 ghost use Rattle.hash_cuts.specs.Cuts.{HasSizes, chunks, first_cut};
 ghost use Rattle.hash_cuts.specs.Reading.{BreaksAt, CutsAll, CutsRead, GivesFirst, IsBegun, ReadsBehind, Taken, Takes};
@@ -31,7 +31,8 @@ pub enum Unfinished<E: Drop> {
     Unread(Fault),
     /// The sink refused a chunk. It has the chunks before it.
     Refused(E),
-    /// There is no memory for a chunk. Nothing was read.
+    /// There is no memory for more of a chunk. The sink has the chunks that end within the bytes read before, and not the one that was
+    /// begun.
     NoMemory,
 }
 
@@ -69,46 +70,90 @@ fn give_last<S: Sink>(chunk: &[u8], sink: &mut S) -> Result<(), S::Error>
     sink.take(chunk)
 }
 
-/// Moves the bytes of a range to the front, and returns how many they are.
-fn to_front(bytes: &mut [u8], from: usize, to: usize) -> usize
-    requires rises { from ≤ to }
-    requires within { to ≤ length bytes.old }
-    ensures count { result ≡ to - from }
-    ensures kept { take (to - from) bytes.new ≡ take (to - from) (drop from bytes.old) }
-    ensures len { length bytes.new ≡ length bytes.old }
+/// The first bytes of the buffer.
+fn front(buffer: &Vec<u8>, count: usize) -> &[u8]
+    requires { count ≤ length buffer.now.items }
+    ensures { result.now ≡ take count buffer.now.items }
 {
-    bytes.copy_within(from..to, 0);
+    &buffer[..count]
+}
+
+/// Moves the bytes of a range to the front, and returns how many they are.
+fn to_front(buffer: &mut Vec<u8>, from: usize, to: usize) -> usize
+    requires rises { from ≤ to }
+    requires within { to ≤ length buffer.old.items }
+    ensures count { result ≡ to - from }
+    ensures kept { take (to - from) buffer.new.items ≡ take (to - from) (drop from buffer.old.items) }
+    ensures len { length buffer.new.items ≡ length buffer.old.items }
+{
+    buffer.copy_within(from..to, 0);
     to - from
+}
+
+/// How many bytes the buffer has at first, if that is no more than a chunk's.
+const FIRST: usize = 1 << 18;
+
+/// Makes room behind the bytes that are kept, if there is none: twice as much as before, and at most a whole chunk. Returns whether there
+/// is room now: memory may be lacking.
+fn has_room(buffer: &mut Vec<u8>, kept: usize, most: usize) -> bool
+    requires within { kept ≤ length buffer.old.items }
+    requires less { kept < most }
+    ensures kept { result ≡ true → take kept buffer.new.items ≡ take kept buffer.old.items }
+    ensures room { result ≡ true → kept < length buffer.new.items }
+{
+    if kept < buffer.len() {
+        return true;
+    }
+    buffer
+        .resize(kept.saturating_mul(2).max(FIRST).min(most), 0)
+        .is_ok()
 }
 
 /// Reads behind the bytes that are kept, until there is no room, the input ends or a read fails, and counts the bytes.
 fn read_behind<R: Read>(
     r: &mut R,
-    buffer: &mut [u8],
+    bytes: &mut [u8],
     kept: usize,
     room: usize,
 ) -> (usize, IoResult<()>)
-    requires { kept + room ≤ length buffer.old }
+    requires { kept + room ≤ length bytes.old }
     ensures within { result.0 ≤ room }
-    ensures read { ReadsBehind (take kept buffer.old) (take (kept + result.0) buffer.new)
+    ensures read { ReadsBehind (take kept bytes.old) (take (kept + result.0) bytes.new)
         (R.remaining r.old) (R.remaining r.new) result.0 }
-    ensures len { length buffer.new ≡ length buffer.old }
+    ensures len { length bytes.new ≡ length bytes.old }
     ensures end { OnOk result.1 (result.0 < room → IsAtEnd (R.remaining r.new)) }
     ensures fault { OnErr result.1 (result.0 < room) }
 {
-    fill(r, &mut buffer[kept..kept + room])
+    fill(r, &mut bytes[kept..kept + room])
 }
 
-/// Does what `cut_reader` says, by a buffer for one chunk.
-fn cut_by<R: Read, S: Sink>(
+/// The same into the buffer.
+fn read_more<R: Read>(
+    r: &mut R,
+    buffer: &mut Vec<u8>,
+    kept: usize,
+    room: usize,
+) -> (usize, IoResult<()>)
+    requires { kept + room ≤ length buffer.old.items }
+    ensures within { result.0 ≤ room }
+    ensures read { ReadsBehind (take kept buffer.old.items) (take (kept + result.0) buffer.new.items)
+        (R.remaining r.old) (R.remaining r.new) result.0 }
+    ensures len { length buffer.new.items ≡ length buffer.old.items }
+    ensures end { OnOk result.1 (result.0 < room → IsAtEnd (R.remaining r.new)) }
+    ensures fault { OnErr result.1 (result.0 < room) }
+{
+    read_behind(r, buffer.as_mut_slice(), kept, room)
+}
+
+/// Does what `cut_reader` says, by a buffer that grows as far as a chunk does. What it holds before does not matter, so one buffer serves
+/// many readers.
+pub fn cut_reader_by<R: Read, S: Sink>(
+    buffer: &mut Vec<u8>,
     cuts: &Cuts,
     r: &mut R,
     limit: u64,
     sink: &mut S,
-    buffer: &mut [u8],
 ) -> Result<Taken, Unfinished<S::Error>>
-    requires room { length buffer.old ≡ cuts.now.most }
-    requires sizes { HasSizes cuts.now }
     ensures all { IfOk result (λ taken. IsTrue taken.ended → CutsAll S.taken cuts.now
         (R.remaining r.old) (R.remaining r.new) sink.old sink.new taken.bytes) }
     ensures first { IfOk result (λ taken. taken.ended ≡ false → (rest : List ℕ) × IsBegun cuts.now rest
@@ -119,13 +164,18 @@ fn cut_by<R: Read, S: Sink>(
     ensures within { IfOk result (λ taken. taken.bytes ≤ limit) }
     ensures at_limit { IfOk result (λ taken. (taken.ended ≡ false) ↔ (taken.bytes ≡ limit)) }
 {
+    let most = cuts.most();
     let mut kept = 0;
     let mut bytes = 0;
     while bytes < limit {
+        if !has_room(buffer, kept, most) {
+            return Err(Unfinished::NoMemory);
+        }
         let room = (limit - bytes).min((buffer.len() - kept) as u64) as usize;
-        let (count, outcome) = read_behind(r, buffer, kept, room);
+        let (count, outcome) = read_more(r, buffer, kept, room);
         bytes += count as u64;
-        let given = match give_first(cuts, &buffer[..kept + count], sink) {
+        let whole = front(buffer, kept + count);
+        let given = match give_first(cuts, whole, sink) {
             Ok(given) => given,
             Err(error) => return Err(Unfinished::Refused(error)),
         };
@@ -134,7 +184,8 @@ fn cut_by<R: Read, S: Sink>(
             return Err(Unfinished::Unread(Fault { bytes, error }));
         }
         if count < room {
-            return match give_last(&buffer[..kept], sink) {
+            let last = front(buffer, kept);
+            return match give_last(last, sink) {
                 Ok(()) => Ok(Taken { bytes, ended: true }),
                 Err(error) => Err(Unfinished::Refused(error)),
             };
@@ -148,7 +199,7 @@ fn cut_by<R: Read, S: Sink>(
 
 /// Reads to the end, or up to `limit` bytes, and gives the sink the chunks, the same ones however the reader cuts its bytes.
 ///
-/// It takes memory for one chunk of `most` bytes. At the limit, which was met if `ended` is `false`, and after a read's error, `Interrupted`
+/// It takes memory as the longest chunk needs, for `most` bytes at most. At the limit, which was met if `ended` is `false`, and after a read's error, `Interrupted`
 /// too, the sink has the chunks that end within the bytes read, and not the one that was begun.
 pub fn cut_reader<R: Read, S: Sink>(
     alloc: Global,
@@ -173,8 +224,5 @@ pub fn cut_reader<R: Read, S: Sink>(
     ensures at_limit { IfOk result (λ taken. (taken.ended ≡ false) ↔ (taken.bytes ≡ limit)) }
 {
     let mut buffer = Vec::new(alloc);
-    if buffer.resize(cuts.most(), 0).is_err() {
-        return Err(Unfinished::NoMemory);
-    }
-    cut_by(cuts, r, limit, sink, buffer.as_mut_slice())
+    cut_reader_by(&mut buffer, cuts, r, limit, sink)
 }

@@ -97,16 +97,6 @@ impl<W: FxSplit, Name> Piecewise for WordHasher<W, Name> {
     }
 
     #[inline(always)]
-    fn feed(&mut self, piece: &[u8]) {
-        self.write(piece);
-    }
-
-    #[inline(always)]
-    fn answer(&self) -> u64 {
-        self.finish()
-    }
-
-    #[inline(always)]
     fn whole(text: &[u8]) -> u64 {
         W::whole(text)
     }

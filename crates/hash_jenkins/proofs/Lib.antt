@@ -1,12 +1,3 @@
-pub mod FilledLemmas
-pub mod LongWindows
-pub mod Lookup3Blocks
-pub mod Lookup3Even
 pub mod Lookup3Lemmas
 pub mod MixLemmas
-pub mod OneGroup
-pub mod PutLemmas
-pub mod ShortEven
-pub mod ShortStretches
 pub mod WriteLemmas
-pub mod Zeros

@@ -1,22 +1,18 @@
 -- What mixing in the whole blocks of some bytes leads to.
 use Rattle.std.proofs.Common.{◌≡◌, ℕ, nat_lt, nat_le, ◌&&◌, true, false, ◌+◌, ◌-◌, ◌*◌, ◌/◌, ◌%◌, ◌<◌, ◌≤◌, List, ◌++◌, length, take, drop, refl, sym, ap, ◌∙◌, arith, length-append, length-drop}
 use Rattle.std.proofs.lemmas.Bool.Decides.{nat_tests}
-use Rattle.std.proofs.lemmas.List.{append_assoc, take_at, take-take, take-append-le, take-append-drop, drop-take, length-take-le}
+use Rattle.std.proofs.lemmas.List.{append_assoc, take-take, take-append-le, take-append-drop, drop-take, length-take-le}
 use Rattle.hash_rounds.specs.Blocks.{spooky_blocks}
 use Rattle.hash_rounds.proofs.BlockLemmas.{spooky_blocks-take}
 use Rattle.hash_jenkins.specs.Counted.{block_end, calls_over}
-use Rattle.hash_jenkins.specs.Put.{put_at}
+use Rattle.hash_rounds.specs.Put.{put_at}
 use Rattle.hash_jenkins.specs.Spooky.{Long, mixed}
 use Rattle.hash_jenkins.specs.SpookyLaws.{mixed-append, mixed_short, mixed_through}
-use Rattle.hash_jenkins.proofs.PutLemmas.{take-put_at}
+use Rattle.hash_rounds.proofs.PutLemmas.{take-put_at}
 
 -- the whole blocks of a text, as far as they go
 pub whole_blocks : (s t : List ℕ) → spooky_blocks s (take (length t / 96 * 96) t) ≡ spooky_blocks s t
 whole_blocks s t = spooky_blocks-take s t (length t / 96 * 96) refl
-
--- what was put first
-pub take-put_first : (t w : List ℕ) → take (length t) (put_at 0 t w) ≡ t
-take-put_first t w = take_at t (drop (0 + length t) w) (length t) refl
 
 -- bytes that complete no block are kept behind those that are
 pub mixed_part : (s b p : List ℕ) (k : ℕ) → k ≤ length b → k + length p < 96

@@ -2,14 +2,10 @@ pub mod Counted
 pub mod Filled
 pub mod Lookup3
 pub mod Lookup3Laws
-pub mod Mixing
 pub mod Oaat
 pub mod OaatLaws
-pub mod Put
 pub mod Spooky
 pub mod SpookyHasher
 pub mod SpookyLaws
 pub mod SpookyParts
 pub mod SpookyStanding
-pub mod Stretch
-pub mod Zeros

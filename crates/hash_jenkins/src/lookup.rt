@@ -4,12 +4,11 @@ ghost use Rattle.std.proofs.Common.{lit<};
 ghost use Rattle.hash_rounds.specs.Words.{le};
 ghost use Rattle.hash_laws.specs.Text.{IsText};
 ghost use Rattle.hash_jenkins.specs.Filled.{zero_filled};
-ghost use Rattle.hash_jenkins.specs.Lookup3.{add_words, add_block, block_words, start, lookup3_words, third_word, lookup3_from, lookup3_answer, AreTwoWords, lookup3_of};
+ghost use Rattle.hash_jenkins.specs.Lookup3.{add_words, add_block, block_words, start, lookup3_words, lookup3_from, lookup3_answer, AreTwoWords, lookup3_of};
 ghost use Rattle.hash_jenkins.specs.Lookup3Laws.{lookup3-AreTwoWords};
 
-use crate::put::put_array;
 use hash_laws::traits::{Piecewise, hash_of};
-use hash_rounds::{le_four, lookup3_final, lookup3_mix, lookup3_unfinal, lookup3_unmix};
+use hash_rounds::{le_four, lookup3_final, lookup3_mix};
 use std::hash::Hasher;
 use std::marker::Model;
 
@@ -140,28 +139,13 @@ impl Lookup3Hasher {
         lookup3_words(self.pc, self.pb, piece)
     }
 
-    /// The one block of 12 bytes that leads from here to the answer and to the third word, which the answer leaves
-    /// out: the two mixes of its words taken back. So each answer has exactly 2^32 blocks, one for each third word.
-    pub fn block_for(&self, answer: u64, third: u32) -> [u8; 12]
-        ensures leads { lookup3_answer (lookup3_from self.now result) ≡ answer }
-        ensures third_word { third_word self.now result ≡ third }
-        ensures alone { (block : List ℕ) → IsText block → length block ≡ 12
-            → lookup3_answer (lookup3_from self.now block) ≡ answer → third_word self.now block ≡ third
-            → block ≡ result }
+    /// The three words from which a run over a piece of so many bytes starts here: 0xdeadbeef, the length modulo 2^32 and pc in all
+    /// three, and pb in the third.
+    #[inline(always)]
+    pub fn start_words(&self, len: usize) -> [u32; 3]
+        ensures { result ≡ start self.now.0 self.now.1 len }
     {
-        let mut s = [
-            third,
-            (answer / 4294967296) as u32,
-            (answer % 4294967296) as u32,
-        ];
-        lookup3_unfinal(&mut s);
-        lookup3_unmix(&mut s);
-        let first = start(self.pc, self.pb, 12);
-        let mut block = [0; 12];
-        put_array(&mut block, 0, s[0].wrapping_sub(first[0]).to_le_bytes());
-        put_array(&mut block, 4, s[1].wrapping_sub(first[1]).to_le_bytes());
-        put_array(&mut block, 8, s[2].wrapping_sub(first[2]).to_le_bytes());
-        block
+        start(self.pc, self.pb, len)
     }
 }
 
@@ -228,16 +212,6 @@ impl Piecewise for Lookup3Hasher {
     fn state_in_range(&self) {
         let _pc = self.pc;
         let _pb = self.pb;
-    }
-
-    #[inline(always)]
-    fn feed(&mut self, piece: &[u8]) {
-        self.write(piece);
-    }
-
-    #[inline(always)]
-    fn answer(&self) -> u64 {
-        self.finish()
     }
 
     #[inline(always)]

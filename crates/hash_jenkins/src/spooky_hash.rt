@@ -175,16 +175,6 @@ impl Piecewise for SpookyHasher {
     }
 
     #[inline(always)]
-    fn feed(&mut self, piece: &[u8]) {
-        self.write(piece);
-    }
-
-    #[inline(always)]
-    fn answer(&self) -> u64 {
-        self.finish()
-    }
-
-    #[inline(always)]
     fn whole(text: &[u8]) -> u64 {
         let mut hasher = SpookyHasher::default();
         hasher.write(text);

@@ -3,9 +3,8 @@ ghost use Rattle.std.specs.Prelude.{◌≡◌, ◌+◌, ◌-◌, ◌*◌, ◌/�
 ghost use Rattle.hash_jenkins.specs.Counted.{block_end, calls_over};
 ghost use Rattle.hash_jenkins.specs.Spooky.{Long, padded, long_words, mixed};
 
-use crate::put::{put, put_array};
 use crate::spooky_short::{LONG, zero_filled};
-use hash_rounds::{Turns, le_words, spooky_blocks, spooky_end};
+use hash_rounds::{Turns, le_words, put, put_array, spooky_blocks, spooky_end};
 
 /// The bytes of a block.
 pub(crate) const BLOCK: usize = 96;

@@ -4,10 +4,9 @@ ghost use Rattle.hash_jenkins.specs.Counted.{mixing_calls};
 ghost use Rattle.hash_jenkins.specs.Spooky.{position, after, hash, hash_v1, short_words_at, long_words_at};
 ghost use Rattle.hash_jenkins.specs.SpookyParts.{position_of, FitsBuffer, IsSettled};
 
-use crate::put::put;
 use crate::spooky_long::{BLOCK, long_words, mix_blocks};
 use crate::spooky_short::{FILL, LONG, short_words, short_words_v1};
-use hash_rounds::Turns;
+use hash_rounds::{Turns, put};
 
 /// The numbers that a [`SpookyHasher`](crate::spooky_hash::SpookyHasher) keeps. They may be copied: each copy goes on by itself.
 ///

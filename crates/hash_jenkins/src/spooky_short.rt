@@ -1,15 +1,12 @@
 //! The four words of a text below 192 bytes.
 ghost use Rattle.std.specs.Prelude.{◌≡◌, ◌<◌, ◌≤◌, ◌*◌, ◌^◌, length, take};
-ghost use Rattle.hash_rounds.specs.Spooky.{short_end};
-ghost use Rattle.hash_rounds.specs.Words.{add_at};
 ghost use Rattle.hash_jenkins.specs.Filled.{zero_filled};
-ghost use Rattle.hash_jenkins.specs.Spooky.{add_chunk, add_chunks, chunks_from, short_words, short_words_v1};
+ghost use Rattle.hash_jenkins.specs.Spooky.{add_chunk, add_chunks, short_words, short_words_v1};
 
-use crate::put::put;
-use hash_rounds::{le_words, short_end, short_mix, un_short_end, un_short_mix};
+use hash_rounds::{le_words, put, short_end, short_mix};
 
 /// The length from which a text is hashed block by block.
-pub(crate) const LONG: usize = 192;
+pub const LONG: usize = 192;
 
 /// The words that a seed does not fill.
 pub(crate) const FILL: u64 = 0xdeadbeefdeadbeef;
@@ -24,11 +21,10 @@ fn add_chunk(h: &mut [u64; 4], w: &[u64; 4])
     h[1] = h[1].wrapping_add(w[3]);
 }
 
-/// The text and zeros, up to N bytes.
+/// The text and zeros, up to `N` bytes.
 #[inline(always)]
-pub(crate) fn zero_filled<const N: usize>(text: &[u8]) -> [u8; N]
-    requires fits { length text.now ≤ N }
-    requires few { length text.now ≤ 256 }
+pub fn zero_filled<const N: usize>(text: &[u8]) -> [u8; N]
+    requires { length text.now ≤ N }
     ensures { result ≡ zero_filled N text.now }
 {
     let mut filled = [0; N];
@@ -36,10 +32,10 @@ pub(crate) fn zero_filled<const N: usize>(text: &[u8]) -> [u8; N]
     filled
 }
 
-/// The four words after the chunks of a text.
+/// The four words of SpookyHash V2 after the whole chunks of 32 bytes of a text, from two seeds.
 #[inline(always)]
 #[tactic(auto, unfolding(crate::specs::Spooky::chunks_from, hash_rounds::specs::Blocks::pieces))]
-pub(crate) fn add_chunks(seed1: u64, seed2: u64, text: &[u8]) -> [u64; 4]
+pub fn add_chunks(seed1: u64, seed2: u64, text: &[u8]) -> [u64; 4]
     ensures { result ≡ add_chunks seed1 seed2 text.now }
 {
     let (chunks, _) = text.as_chunks::<32>();
@@ -48,37 +44,6 @@ pub(crate) fn add_chunks(seed1: u64, seed2: u64, text: &[u8]) -> [u64; 4]
         add_chunk(&mut h, &le_words(chunk));
     }
     h
-}
-
-// Takes a chunk's words out again.
-fn un_add_chunk(h: &mut [u64; 4], w: &[u64; 4])
-    ensures { add_chunk h.new w.now ≡ h.old }
-{
-    h[0] = h[0].wrapping_sub(w[2]);
-    h[1] = h[1].wrapping_sub(w[3]);
-    un_short_mix(h);
-    h[2] = h[2].wrapping_sub(w[0]);
-    h[3] = h[3].wrapping_sub(w[1]);
-}
-
-/// Takes the last mix and the length back, which are the end of a text of so many bytes.
-pub(crate) fn un_end(h: &mut [u64; 4], len: usize)
-    requires { len < 192 }
-    ensures { short_end (add_at h.new 3 (len * 2 ^ 56)) ≡ h.old }
-{
-    un_short_end(h);
-    h[3] = h[3].wrapping_sub((len as u64) << 56);
-}
-
-/// Takes the chunks of a text out again, from the last to the first.
-#[tactic(auto, unfolding(crate::specs::Spooky::chunks_from, hash_rounds::specs::Blocks::pieces))]
-pub(crate) fn un_add_chunks(h: &mut [u64; 4], text: &[u8])
-    ensures { chunks_from h.new text.now ≡ h.old }
-{
-    let (chunks, _) = text.as_chunks::<32>();
-    for chunk in chunks.iter().rev() {
-        un_add_chunk(h, &le_words(chunk));
-    }
 }
 
 /// The four words of the first `len` bytes, where the array has zeros alone after them.

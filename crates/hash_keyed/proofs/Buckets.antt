@@ -109,6 +109,20 @@ unfolding Few
 few_keys_share s t n keys s_is t_is differ some are share =
     few_shares s t n s_is t_is differ keys are (λ k d h. shares (get_or keys k d) n s t some (share k d h))
 
+-- the value is the low 61 bits of the hash
+low_bits : (key : ℕ) (text : List ℕ) → poly61 key text % 2 ^ 61 ≡ poly_hash prime61 key text
+low_bits key text =
+    let v = poly_hash prime61 key text in
+    let below : v < 2 ^ 61 = omega (arith, value-below key text) in
+    add-mul-mod_self_right v (v % 8) (2 ^ 61) ∙ mod-eq_of_lt below
+
+pub few_keys_share_low : (s t : List ℕ) (n : ℕ) (keys : List ℕ) → IsText s → IsText t → s ≢ t → 1 ≤ n → AreKeys prime61 keys
+    → All (λ key. poly61 key s % 2 ^ 61 % n ≡ poly61 key t % 2 ^ 61 % n) keys
+    → length keys ≤ (2 * (prime61 / n) + 1) * (max (word_count s) (word_count t) + 1)
+few_keys_share_low s t n keys s_is t_is differ some are share =
+    few_keys_share s t n keys s_is t_is differ some are
+    (λ k d h. ap (λ v. v % n) (sym (low_bits (get_or keys k d) s)) ∙ share k d h ∙ ap (λ v. v % n) (low_bits (get_or keys k d) t))
+
 pub few_keys_share_bits : (s t : List ℕ) (bits : ℕ) (keys : List ℕ) → IsText s → IsText t → s ≢ t → bits ≤ 61 → AreKeys prime61 keys
     → All (λ key. poly61 key s % 2 ^ bits ≡ poly61 key t % 2 ^ bits) keys
     → length keys ≤ (2 * (prime61 / 2 ^ bits) + 1) * (max (word_count s) (word_count t) + 1)

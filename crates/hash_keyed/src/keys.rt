@@ -1,8 +1,9 @@
 //! A random key, and the hashers at it.
-ghost use Rattle.std.specs.Prelude.{◌≡◌, ◌%◌};
+ghost use Rattle.std.specs.Prelude.{◌≡◌, ◌%◌, ◌<◌, ◌≤◌, IfOk};
 ghost use Rattle.hash_keyed.specs.Poly61.{prime61};
 ghost use Rattle.hash_keyed.specs.Poly61State.{start_at};
 
+use crate::modular::PRIME;
 use crate::poly61::Poly61Hasher;
 use std::hash::BuildHasher;
 use std::io;
@@ -17,12 +18,14 @@ pub struct Poly61Keys {
 }
 
 impl Poly61Keys {
-    /// A key from the system's source of randomness: 64 bits, of which each remainder modulo the prime has 8 or 9 numbers. It
-    /// fails where the source does.
-    pub fn new(rt: &impl RandomSource) -> io::Result<Poly61Keys> {
+    /// A key from the system's source of randomness, from 1 on and below the prime: at the key 0 all texts have one hash. It is 1 and
+    /// the remainder of 64 random bits, so each key comes of 8 or 9 numbers. It fails where the source does.
+    pub fn new(rt: &impl RandomSource) -> io::Result<Poly61Keys>
+        ensures { IfOk result (λ keys. (1 ≤ keys.key) × (keys.key < prime61)) }
+    {
         let mut bytes = [0; 8];
         rt.fill_bytes(&mut bytes)?;
-        Ok(Poly61Keys::with_key(u64::from_le_bytes(bytes)))
+        Ok(Poly61Keys::with_key(1 + u64::from_le_bytes(bytes) % (PRIME - 1)))
     }
 
     /// This key.

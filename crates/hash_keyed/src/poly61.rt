@@ -213,16 +213,6 @@ impl Piecewise for Poly61Hasher {
     }
 
     #[inline(always)]
-    fn feed(&mut self, piece: &[u8]) {
-        self.write(piece);
-    }
-
-    #[inline(always)]
-    fn answer(&self) -> u64 {
-        self.finish()
-    }
-
-    #[inline(always)]
     fn whole(text: &[u8]) -> u64 {
         poly61(DEFAULT_KEY, text)
     }

@@ -5,6 +5,8 @@ pub mod ExactlyLemmas
 pub mod FoldLemmas
 pub mod FrameLemmas
 pub mod ItemLemmas
+pub mod OneBlock
+pub mod OneGroup
 pub mod PairLemmas
 pub mod ReadingLemmas
 pub mod RecurrenceLemmas

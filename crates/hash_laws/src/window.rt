@@ -1,6 +1,6 @@
-//! Whether two texts differ within a few neighbouring places only.
-ghost use Rattle.std.specs.Prelude.{◌≡◌, ◌≢◌, ◌≤◌, ◌↔◌, ℕ, List, ◌∷◌, ◌++◌, IsTrue, IfNone, IfSome, length};
-ghost use Rattle.hash_laws.specs.DifferWithin.{DifferWithin, AgreeUnder, DifferAtOnePlace, IsFirstDifference};
+//! Whether two texts differ within a few neighbouring places, or one block, only.
+ghost use Rattle.std.specs.Prelude.{◌≡◌, ◌≢◌, ◌<◌, ◌≤◌, ◌↔◌, ℕ, List, ◌∷◌, ◌++◌, IsTrue, IfNone, IfSome, length};
+ghost use Rattle.hash_laws.specs.DifferWithin.{AgreeFrom, AgreeUnder, DifferAtOnePlace, DifferInOneBlock, DifferWithin, IsFirstDifference};
 
 /// Whether the texts have one length and differ, but only within `places` neighbouring places, and at every place
 /// only in bits that are 0 in `mask`. A text shorter than `places` is one window.
@@ -47,4 +47,29 @@ pub fn first_difference(x: &[u8], y: &[u8]) -> Option<usize>
     ensures some { IfSome result (λ i. IsFirstDifference i x.now y.now) }
 {
     x.iter().zip(y).position(|(a, b)| a != b)
+}
+
+/// Whether two texts of one length agree from a place on.
+pub fn agree_from(x: &[u8], y: &[u8], place: usize) -> bool
+    requires { length x.now ≡ length y.now }
+    ensures { IsTrue result ↔ AgreeFrom place x.now y.now }
+{
+    place >= x.len() || x[place..] == y[place..]
+}
+
+/// Whether the texts have one length and differ, but only within one block of `N` bytes, or behind the whole blocks.
+pub fn differ_in_one_block<const N: usize>(x: &[u8], y: &[u8]) -> bool
+    requires { 0 < N }
+    ensures { IsTrue result ↔ DifferInOneBlock N x.now y.now }
+{
+    if x.len() != y.len() {
+        return false;
+    }
+    match first_difference(x, y) {
+        None => false,
+        Some(from) => {
+            let behind = N - from % N;
+            behind >= x.len() - from || agree_from(x, y, from + behind)
+        }
+    }
 }

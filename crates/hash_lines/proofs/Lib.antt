@@ -4,3 +4,4 @@ pub mod LineLemmas
 pub mod TellsLemmas
 pub mod OneLemmas
 pub mod TagLemmas
+pub mod FormLemmas

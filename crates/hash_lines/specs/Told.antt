@@ -29,6 +29,10 @@ abbrev pub Tells : List Kind → (default : Kind) → Kind → (name : List ℕ)
 Tells kinds default kind name number line =
     TellsBody kinds default false kind name number line ⊎ TellsEscaped kinds default kind name number line
 
+-- a line tells no hash
+abbrev pub TellsNothing : List Kind → (default : Kind) → List ℕ → Type 0
+TellsNothing kinds default line = (other : Kind) (name : List ℕ) (number : ℕ) → ¬ (Tells kinds default other name number line)
+
 -- a kind that a line of this form may tell: tagged one of these, untagged the default
 abbrev pub MayBeTold : List Kind → (default : Kind) → Form → Kind → Type 0
 MayBeTold kinds default form.Tagged kind = Contains kinds kind

@@ -1,19 +1,23 @@
 //! Lines as other programs write them: as `md5sum` does with one blank, as `openssl dgst` does, and as SFV files have them.
-ghost use Rattle.std.specs.Prelude.{◌≡◌, ◌++◌, ◌∷◌, map, IfOk, IfSome, OnOk};
+ghost use Rattle.std.specs.Prelude.{◌≡◌, ◌++◌, ◌∷◌, ℕ, List, codes, map, true, false, is_some, IfOk, MatchOption, OnOk};
 ghost use Rattle.std.specs.Char.{to_ascii_lowercase};
-ghost use Rattle.hash_lines.specs.Forms.{unmarked, IsBlankForm, IsSfvForm, IsTaggedForm, TellsSo};
+ghost use Rattle.std.specs.List.{list_all};
+ghost use Rattle.hash_lines.specs.Hex.{digit_value};
+ghost use Rattle.hash_lines.specs.Forms.{is_long, is_sum, unmarked, EndsInDigits, HasCrc, HasTag, HasWord, IsBlankForm, IsForm, IsSfvForm, IsTaggedForm, Lacks, TellsIn, TellsNoneIn, TellsNothingSo, TellsSo};
 ghost use Rattle.hash_lines.specs.Line.{tagged, untagged};
 
+use crate::hex::{MOST_DIGITS, digit_value};
 use crate::line::Kind;
-use crate::parse::{HashLine, behind, parse_line};
+use crate::parse::{HashLine, behind, parse_line, split_last};
 use std::alloc::{AllocError, Global};
 
 /// How many digits the CRC-32 of a line of an SFV file has.
 const SFV_DIGITS: usize = 8;
 
-/// What stands in front of the first such byte, and behind it.
+/// What stands in front of the first such byte, and behind it; `None` exactly where there is none.
 fn split_once(bytes: &[u8], mark: u8) -> Option<(&[u8], &[u8])>
-    ensures { IfSome result (λ parts. parts.0.now ++ mark ∷ parts.1.now ≡ bytes.now) }
+    ensures { MatchOption result (Lacks mark bytes.now)
+        (λ parts. (parts.0.now ++ mark ∷ parts.1.now ≡ bytes.now) × Lacks mark parts.0.now) }
 {
     for at in 0..bytes.len() {
         if bytes[at] == mark {
@@ -23,16 +27,44 @@ fn split_once(bytes: &[u8], mark: u8) -> Option<(&[u8], &[u8])>
     None
 }
 
-/// What stands in front of the last such byte, and behind it.
+/// What stands in front of the last such byte, and behind it; `None` exactly where there is none.
 fn rsplit_once(bytes: &[u8], mark: u8) -> Option<(&[u8], &[u8])>
-    ensures { IfSome result (λ parts. parts.0.now ++ mark ∷ parts.1.now ≡ bytes.now) }
+    ensures { MatchOption result (Lacks mark bytes.now)
+        (λ parts. (parts.0.now ++ mark ∷ parts.1.now ≡ bytes.now) × Lacks mark parts.1.now) }
 {
-    for at in (0..bytes.len()).rev() {
+    let mut at = bytes.len();
+    while at > 0 {
+        at -= 1;
         if bytes[at] == mark {
             return Some((&bytes[..at], &bytes[at + 1..]));
         }
     }
     None
+}
+
+/// The first word, and what stands behind the blank that ends it; `None` exactly where there is no blank.
+fn first_word(line: &[u8]) -> Option<(&[u8], &[u8])>
+    ensures { MatchOption result ((word behind : List ℕ) → ¬ (HasWord line.now word behind))
+        (λ parts. HasWord line.now parts.0.now parts.1.now) }
+{
+    for at in 0..line.len() {
+        if line[at].is_ascii_whitespace() {
+            return Some((&line[..at], &line[at + 1..]));
+        }
+    }
+    None
+}
+
+/// The tag, the name as it is shown, and what stands behind the marks, in a line in the shape of a tagged one; `None` exactly where it has
+/// another.
+fn tag_parts(line: &[u8]) -> Option<(&[u8], &[u8], &[u8])>
+    ensures { MatchOption result ((tag shown digits : List ℕ) → ¬ (HasTag line.now tag shown digits))
+        (λ parts. HasTag line.now parts.0.now parts.1.now parts.2.now) }
+{
+    let (front, later) = split_once(line, b'(')?;
+    let (shown, back) = rsplit_once(later, b')')?;
+    let value = behind(back.trim_ascii_start(), b"=")?;
+    Some((front.trim_ascii_end(), shown, value.trim_ascii_start()))
 }
 
 /// Puts the bytes in lower case behind others.
@@ -58,6 +90,13 @@ fn tagged_of(alloc: Global, tag: &[u8], shown: &[u8], digits: &[u8]) -> Result<V
     Ok(line)
 }
 
+/// The line of a CRC-32 of these parts.
+fn crc_line(alloc: Global, shown: &[u8], digits: &[u8]) -> Result<Vec<u8>, AllocError>
+    ensures { IfOk result (λ line. tagged (codes "crc32") shown.now digits.now ≡ line.items) }
+{
+    tagged_of(alloc, b"crc32", shown, digits)
+}
+
 /// The untagged line of these parts.
 fn untagged_of(alloc: Global, digits: &[u8], shown: &[u8]) -> Result<Vec<u8>, AllocError>
     ensures { IfOk result (λ line. untagged shown.now digits.now ≡ line.items) }
@@ -71,19 +110,13 @@ fn untagged_of(alloc: Global, digits: &[u8], shown: &[u8]) -> Result<Vec<u8>, Al
 
 /// The tagged line that tells the same, of a line with other blanks round its marks.
 fn tagged_form(alloc: Global, line: &[u8]) -> Result<Option<Vec<u8>>, AllocError>
-    ensures { IfOk result (λ found. IfSome found (λ plain. IsTaggedForm line.now plain.items)) }
+    ensures { IfOk result (λ found. MatchOption found ((plain : List ℕ) → ¬ (IsTaggedForm line.now plain))
+        (λ plain. IsTaggedForm line.now plain.items)) }
 {
-    let Some((front, later)) = split_once(line, b'(') else {
-        return Ok(None);
-    };
-    let Some((shown, back)) = rsplit_once(later, b')') else {
-        return Ok(None);
-    };
-    let Some(value) = behind(back.trim_ascii_start(), b"=") else {
-        return Ok(None);
-    };
-    let tag = front.trim_ascii_end();
-    Ok(Some(tagged_of(alloc, tag, shown, value.trim_ascii_start())?))
+    match tag_parts(line) {
+        Some((tag, shown, digits)) => Ok(Some(tagged_of(alloc, tag, shown, digits)?)),
+        None => Ok(None),
+    }
 }
 
 /// The name behind a blank, without the space or the star in front of it, if one is there.
@@ -98,62 +131,181 @@ fn shown_behind(behind: &[u8]) -> &[u8]
 
 /// The untagged line that tells the same, of a line with one blank.
 fn blank_form(alloc: Global, line: &[u8]) -> Result<Option<Vec<u8>>, AllocError>
-    ensures { IfOk result (λ found. IfSome found (λ plain. IsBlankForm line.now plain.items)) }
+    ensures { IfOk result (λ found. MatchOption found ((plain : List ℕ) → ¬ (IsBlankForm line.now plain))
+        (λ plain. IsBlankForm line.now plain.items)) }
 {
-    for at in 0..line.len() {
-        if line[at].is_ascii_whitespace() {
-            let shown = shown_behind(&line[at + 1..]);
-            return Ok(Some(untagged_of(alloc, &line[..at], shown)?));
+    match first_word(line) {
+        Some((digits, behind)) => Ok(Some(untagged_of(alloc, digits, shown_behind(behind))?)),
+        None => Ok(None),
+    }
+}
+
+/// Whether each byte is a hexadecimal digit.
+fn are_digits(bytes: &[u8]) -> bool
+    ensures { result ≡ list_all (λ byte. is_some (digit_value byte)) bytes.now }
+{
+    bytes.iter().all(|byte| digit_value(*byte).is_some())
+}
+
+/// Whether a word is a number with at least as many digits as the longest of ours.
+fn is_long(digits: &[u8]) -> bool
+    ensures { result ≡ is_long digits.now }
+{
+    digits.len() >= MOST_DIGITS && are_digits(digits)
+}
+
+/// Whether a word is the number of a hash in an untagged line of md5sum, sha256sum and the like.
+fn is_sum(word: &[u8]) -> bool
+    ensures { result ≡ is_sum word.now }
+{
+    match word {
+        [] => false,
+        [b'\\', digits @ ..] => is_long(digits),
+        _ => is_long(word),
+    }
+}
+
+/// Whether a line begins with such a number and a blank.
+fn begins_with_sum(line: &[u8]) -> bool
+    ensures none { result ≡ false → (word behind : List ℕ) → HasWord line.now word behind → is_sum word ≡ false }
+    ensures some { result ≡ true → (word : List ℕ) × (behind : List ℕ) × HasWord line.now word behind × (is_sum word ≡ true) }
+{
+    match first_word(line) {
+        Some((word, _)) => is_sum(word),
+        None => false,
+    }
+}
+
+/// What stands in front of the last eight bytes, without the blanks in front of these, and these; `None` exactly where there are fewer, or
+/// no blank.
+fn before_digits(line: &[u8]) -> Option<(&[u8], &[u8])>
+    ensures { MatchOption result ((shown digits : List ℕ) → ¬ (EndsInDigits line.now shown digits))
+        (λ parts. EndsInDigits line.now parts.0.now parts.1.now) }
+{
+    let (front, digits) = split_last(line, SFV_DIGITS)?;
+    let shown = front.trim_ascii_end();
+    if shown.len() < front.len() {
+        Some((shown, digits))
+    } else {
+        None
+    }
+}
+
+/// The name as it is shown, and the digits, in a line of an SFV file.
+fn sfv_parts(line: &[u8]) -> Option<(&[u8], &[u8])>
+    ensures { MatchOption result ((shown digits : List ℕ) → ¬ (HasCrc line.now shown digits))
+        (λ parts. HasCrc line.now parts.0.now parts.1.now) }
+{
+    match tag_parts(line) {
+        Some(_) => None,
+        None => {
+            if begins_with_sum(line) {
+                None
+            } else {
+                before_digits(line)
+            }
         }
     }
-    Ok(None)
 }
 
 /// The tagged line that tells the same, of a line of an SFV file.
 fn sfv_form(alloc: Global, line: &[u8]) -> Result<Option<Vec<u8>>, AllocError>
-    ensures { IfOk result (λ found. IfSome found (λ plain. IsSfvForm line.now plain.items)) }
+    ensures { IfOk result (λ found. MatchOption found ((plain : List ℕ) → ¬ (IsSfvForm line.now plain))
+        (λ plain. IsSfvForm line.now plain.items)) }
 {
-    if line.len() < SFV_DIGITS {
-        return Ok(None);
+    match sfv_parts(line) {
+        Some((shown, digits)) => Ok(Some(crc_line(alloc, shown, digits)?)),
+        None => Ok(None),
     }
-    let (front, digits) = line.split_at(line.len() - SFV_DIGITS);
-    let shown = front.trim_ascii_end();
-    if shown.len() == front.len() {
-        return Ok(None);
-    }
-    Ok(Some(tagged_of(alloc, b"crc32", shown, digits)?))
 }
 
-/// What a line tells in another program's form, without its end: with blanks in front, one blank behind the digits, other blanks or none
-/// round the marks of a tagged line, a tag in letters of either case, or as a line of an SFV file. It is for lines of which `parse_line`
-/// finds nothing: a line of ours is never read as another program's.
-pub fn parse_form<'k>(
+/// What a line tells as a tagged one with other blanks.
+fn tagged_entry<'k>(
     alloc: Global,
     kinds: &[Kind<'k>],
     kind: Kind<'k>,
     line: &[u8],
 ) -> Result<Option<HashLine<'k>>, AllocError>
-    ensures { IfOk result (λ found. IfSome found (λ entry.
-        TellsSo kinds.entry.now kind.entry entry.kind entry.name.items entry.number line.now)) }
+    ensures { IfOk result (λ found. MatchOption found (TellsNoneIn IsTaggedForm kinds.entry.now kind.entry line.now)
+        (λ entry. TellsIn IsTaggedForm kinds.entry.now kind.entry entry.kind entry.name.items entry.number line.now)) }
 {
-    let rest = line.trim_ascii_start();
-    if let Some(entry) = parse_line(alloc, kinds, kind, rest)? {
+    match tagged_form(alloc, line)? {
+        Some(plain) => parse_line(alloc, kinds, kind, &plain),
+        None => Ok(None),
+    }
+}
+
+/// What a line tells as an untagged one with one blank.
+fn blank_entry<'k>(
+    alloc: Global,
+    kinds: &[Kind<'k>],
+    kind: Kind<'k>,
+    line: &[u8],
+) -> Result<Option<HashLine<'k>>, AllocError>
+    ensures { IfOk result (λ found. MatchOption found (TellsNoneIn IsBlankForm kinds.entry.now kind.entry line.now)
+        (λ entry. TellsIn IsBlankForm kinds.entry.now kind.entry entry.kind entry.name.items entry.number line.now)) }
+{
+    match blank_form(alloc, line)? {
+        Some(plain) => parse_line(alloc, kinds, kind, &plain),
+        None => Ok(None),
+    }
+}
+
+/// What a line tells as one of an SFV file.
+fn sfv_entry<'k>(
+    alloc: Global,
+    kinds: &[Kind<'k>],
+    kind: Kind<'k>,
+    line: &[u8],
+) -> Result<Option<HashLine<'k>>, AllocError>
+    ensures { IfOk result (λ found. MatchOption found (TellsNoneIn IsSfvForm kinds.entry.now kind.entry line.now)
+        (λ entry. TellsIn IsSfvForm kinds.entry.now kind.entry entry.kind entry.name.items entry.number line.now)) }
+{
+    match sfv_form(alloc, line)? {
+        Some(plain) => parse_line(alloc, kinds, kind, &plain),
+        None => Ok(None),
+    }
+}
+
+/// What a line without blanks in front tells, as one of ours or in another form, but for that of SFV files.
+fn form_entry<'k>(
+    alloc: Global,
+    kinds: &[Kind<'k>],
+    kind: Kind<'k>,
+    line: &[u8],
+) -> Result<Option<HashLine<'k>>, AllocError>
+    ensures { IfOk result (λ found. MatchOption found (TellsNoneIn IsForm kinds.entry.now kind.entry line.now)
+        (λ entry. TellsIn IsForm kinds.entry.now kind.entry entry.kind entry.name.items entry.number line.now)) }
+{
+    if let Some(entry) = parse_line(alloc, kinds, kind, line)? {
         return Ok(Some(entry));
     }
-    if let Some(plain) = tagged_form(alloc, rest)? {
-        if let Some(entry) = parse_line(alloc, kinds, kind, &plain)? {
-            return Ok(Some(entry));
-        }
+    if let Some(entry) = tagged_entry(alloc, kinds, kind, line)? {
+        return Ok(Some(entry));
     }
-    if let Some(plain) = blank_form(alloc, rest)? {
-        if let Some(entry) = parse_line(alloc, kinds, kind, &plain)? {
-            return Ok(Some(entry));
-        }
+    blank_entry(alloc, kinds, kind, line)
+}
+
+/// What a line tells in another program's form, without its end: with blanks in front, one blank behind the digits, other blanks or none
+/// round the marks of a tagged line, a tag in letters of either case, or, where lines of SFV files are taken, as such a line. It is for
+/// lines of which `parse_line` finds nothing: a line of ours is never read as another program's. `None` exactly where it tells nothing in
+/// any form.
+pub fn parse_form<'k>(
+    alloc: Global,
+    kinds: &[Kind<'k>],
+    kind: Kind<'k>,
+    sfv: bool,
+    line: &[u8],
+) -> Result<Option<HashLine<'k>>, AllocError>
+    ensures { IfOk result (λ found. MatchOption found (TellsNothingSo sfv kinds.entry.now kind.entry line.now)
+        (λ entry. TellsSo sfv kinds.entry.now kind.entry entry.kind entry.name.items entry.number line.now)) }
+{
+    let rest = line.trim_ascii_start();
+    if let Some(entry) = form_entry(alloc, kinds, kind, rest)? {
+        return Ok(Some(entry));
     }
-    if let Some(plain) = sfv_form(alloc, rest)? {
-        if let Some(entry) = parse_line(alloc, kinds, kind, &plain)? {
-            return Ok(Some(entry));
-        }
+    if sfv {
+        return sfv_entry(alloc, kinds, kind, rest);
     }
     Ok(None)
 }

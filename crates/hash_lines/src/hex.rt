@@ -20,7 +20,7 @@ fn digit(value: u8) -> u8
 }
 
 /// The value of a digit, of either case.
-fn digit_value(byte: u8) -> Option<u8>
+pub(crate) fn digit_value(byte: u8) -> Option<u8>
     ensures value { result ≡ digit_value byte }
     ensures small { IfSome result (λ value. value < 16) }
 {

@@ -1,7 +1,7 @@
 //! Lines that tell the hash of a file, as they are read.
 ghost use Rattle.std.specs.Prelude.{◌≡◌, ◌≢◌, ◌⊎◌, ◌++◌, ◌<◌, ◌≤◌, ℕ, List, length, codes, IfOk, MatchOption};
 ghost use Rattle.hash_lines.specs.Line.{name_shown, ShowsNumber, ShowsTagged, ShowsUntagged};
-ghost use Rattle.hash_lines.specs.Told.{Tells, TellsBody, TellsEscaped, TellsTagged, TellsUntagged};
+ghost use Rattle.hash_lines.specs.Told.{Tells, TellsBody, TellsEscaped, TellsNothing, TellsTagged, TellsUntagged};
 ghost use Rattle.hash_lines.specs.declared.line.Kind.{Kind};
 
 use crate::escape::unescaped;
@@ -43,7 +43,7 @@ fn split_first(bytes: &[u8], count: usize) -> Option<(&[u8], &[u8])>
 }
 
 /// What stands in front of the last so many bytes, and these; `None` exactly where there are fewer.
-fn split_last(bytes: &[u8], count: usize) -> Option<(&[u8], &[u8])>
+pub(crate) fn split_last(bytes: &[u8], count: usize) -> Option<(&[u8], &[u8])>
     ensures { MatchOption result (length bytes.now < count)
         (λ parts. (parts.0.now ++ parts.1.now ≡ bytes.now) × (length parts.1.now ≡ count)) }
 {
@@ -228,8 +228,7 @@ pub fn parse_line<'k>(
     kind: Kind<'k>,
     line: &[u8],
 ) -> Result<Option<HashLine<'k>>, AllocError>
-    ensures { IfOk result (λ found. MatchOption found
-        ((other : Kind) (name : List ℕ) (number : ℕ) → ¬ (Tells kinds.entry.now kind.entry other name number line.now))
+    ensures { IfOk result (λ found. MatchOption found (TellsNothing kinds.entry.now kind.entry line.now)
         (λ entry. Tells kinds.entry.now kind.entry entry.kind entry.name.items entry.number line.now)) }
 {
     match escaped_entry(alloc, kinds, kind, line)? {

@@ -1,3 +1,4 @@
 pub mod Named
+pub mod Wide
 pub mod Reading
 pub mod ReadingLaws

@@ -1,5 +1,5 @@
 -- The hashes of the table.
-use Rattle.std.specs.Prelude.{ℕ, ◌+◌, ◌*◌, ◌^◌, Bool, true, false, List, Option, Some, None, codes, fold, option_map, slice_get}
+use Rattle.std.specs.Prelude.{ℕ, Bool, true, false, List, Option, Some, None, codes, fold, option_map, slice_get}
 use Rattle.std.specs.List.{find}
 use Rattle.std.specs.Str.{bytes_eq}
 use Rattle.hash_more.specs.Crc32.{crc32_of, crc32c_of}
@@ -8,7 +8,7 @@ use Rattle.hash_more.specs.Elf.{elf_from}
 use Rattle.hash_more.specs.Fnv1.{fnv1_32_from, fnv1_64_from}
 use Rattle.hash_more.specs.Joaat.{joaat_answer, joaat_from}
 use Rattle.hash_names.specs.declared.table.Kind.{Kind}
-use Rattle.hash_names.specs.declared.table.Kind.TheVariants.{Fnv1a32, Fnv1a64, Djb2, Sdbm, LoseLose, Bricolage, Oaat, Lookup3, Spooky, SpookyV1, PassThrough, FxHash, FxHash32, FxHash64, Crc32, Crc32c, Fnv1At32, Fnv1At64, Djb2Add, Joaat, Elf, Null}
+use Rattle.hash_names.specs.declared.table.Kind.TheVariants.{Fnv1a32, Fnv1a64, Djb2, Sdbm, LoseLose, Bricolage, Oaat, Lookup3, Spooky, SpookyV1, PassThrough, FxHash, FxHash32, FxHash64, Crc32, Crc32c, Fnv1At32, Fnv1At64, Djb2Add, Joaat, Elf, Null, Xxh32, Xxh64, Murmur3At32, Murmur3, SipHash13, SipHash24, Xxh3}
 use Rattle.hash_names.specs.declared.table.TheConstants.{KINDS}
 use Rattle.hash_laws.specs.Reading.{cut}
 use Rattle.hash_bytes.specs.Fnv.{fnv1a32_basis, fnv1a64_basis, fnv1a32_of, fnv1a64_of}
@@ -19,6 +19,12 @@ use Rattle.hash_bytes.specs.Oz.{djb2_of}
 use Rattle.hash_bytes.specs.Pigeon.{bricolage_from}
 use Rattle.hash_jenkins.specs.Spooky.{spooky, spooky_v1}
 use Rattle.hash_rounds.specs.Sums.{sdbm_from, loselose_from, passthrough_from}
+use Rattle.hash_murmur3.specs.Murmur3.{murmur3_32}
+use Rattle.hash_murmur3.specs.Murmur3x128.{murmur3_128}
+use Rattle.hash_siphash.specs.SipHash.{siphash}
+use Rattle.hash_xxh3.specs.Xxh3.{xxh3_64_of}
+use Rattle.hash_xxhash.specs.Xxh32.{xxh32}
+use Rattle.hash_xxhash.specs.Xxh64.{xxh64}
 
 -- what is said of a hash: its number, which never changes, its name, how many bits its numbers have, whether cuts between writes show, and what it makes of a text in
 -- one call, from the default start
@@ -56,6 +62,13 @@ row_of Djb2Add = row 18 (codes "djb2_add") 32 false (djb2_add_from 5381)
 row_of Joaat = row 19 (codes "joaat") 32 false (λ text. joaat_answer (joaat_from 0 text))
 row_of Elf = row 20 (codes "elf") 28 false (elf_from 0)
 row_of Null = row 21 (codes "null") 0 false (λ text. 0)
+row_of Xxh32 = row 22 (codes "xxh32") 32 false (xxh32 0)
+row_of Xxh64 = row 23 (codes "xxh64") 64 false (xxh64 0)
+row_of Murmur3At32 = row 24 (codes "murmur3_32") 32 false (murmur3_32 0)
+row_of Murmur3 = row 25 (codes "murmur3") 64 false (λ text. (murmur3_128 0 text).0)
+row_of SipHash13 = row 26 (codes "siphash13") 64 false (siphash 1 3 0 0)
+row_of SipHash24 = row 27 (codes "siphash24") 64 false (siphash 2 4 0 0)
+row_of Xxh3 = row 28 (codes "xxh3") 64 false (xxh3_64_of 0)
 
 abbrev pub number_of : Kind → ℕ
 number_of kind = (row_of kind).number
@@ -101,7 +114,3 @@ kind_named name = find (λ kind. bytes_eq (name_of kind) name) KINDS
 -- the same, as what it makes of a text that is read
 abbrev pub named : List ℕ → Option (List ℕ → ℕ)
 named name = option_map read_of (kind_named name)
-
--- the 128 bits of SpookyHash under two seeds of 0, the first word above the second
-abbrev pub spooky128 : List ℕ → ℕ
-spooky128 text = (spooky 0 0 text).0 * 2 ^ 64 + (spooky 0 0 text).1

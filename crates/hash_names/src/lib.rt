@@ -5,3 +5,4 @@
 pub mod reading;
 pub mod table;
 pub mod task;
+pub mod wide;

@@ -2,9 +2,9 @@
 ghost use Rattle.std.specs.Prelude.{◌<◌, ◌≤◌, fold};
 ghost use Rattle.hash_laws.specs.Reading.{cut};
 ghost use Rattle.hash_jenkins.specs.Spooky.{spooky_v1};
-ghost use Rattle.hash_names.specs.Named.{spooky128};
 ghost use Rattle.hash_names.specs.Reading.{Feeds, Hashes, read};
 
+use crate::wide::WideHash;
 use hash_jenkins::spooky_hash::SpookyHasher;
 use hash_laws::reader::{Fault, hash_reader};
 use hash_laws::traits::{Piecewise, Streamed};
@@ -75,13 +75,15 @@ pub fn hash_of_spooky_v1<R: Read, const N: usize>(limit: u64, r: &mut R) -> Resu
     Ok(hasher.finish128_v1().0)
 }
 
-/// The 128 bits of SpookyHash under two seeds of 0 of what is read, the first word above the second.
-pub fn hash_of_spooky128<R: Read, const N: usize>(limit: u64, r: &mut R) -> Result<u128, Unhashed>
+/// The 128 bits of what is read, as one number.
+pub fn hash_of_wide<H: WideHash, R: Read, const N: usize>(
+    limit: u64,
+    r: &mut R,
+) -> Result<u128, Unhashed>
     requires not_empty { 0 < N }
     requires small { N ≤ 65536 }
-    ensures { Hashes spooky128 (read limit R.remaining r.old r.new) result }
+    ensures { Hashes H.wide_of (read limit R.remaining r.old r.new) result }
 {
-    let hasher = fed::<SpookyHasher, R, N>(limit, r)?;
-    let (high, low) = hasher.finish128();
-    Ok(u128::from(high) * (1 << 64) + u128::from(low))
+    let hasher = fed::<H, R, N>(limit, r)?;
+    Ok(hasher.wide())
 }

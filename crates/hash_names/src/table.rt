@@ -18,6 +18,10 @@ use hash_more::djb2_add::Djb2AddHasher;
 use hash_more::elf::ElfHasher;
 use hash_more::fnv1::{Fnv1Hasher32, Fnv1Hasher64};
 use hash_more::joaat::JoaatHasher;
+use hash_murmur3::{Murmur3Hasher32, Murmur3Hasher128};
+use hash_siphash::{SipHasher13, SipHasher24};
+use hash_xxh3::Xxh3Hasher;
+use hash_xxhash::{Xxh32Hasher, Xxh64Hasher};
 
 /// A hash of the table. `specs/Named` says what it makes of a text.
 #[derive(Clone, Copy)]
@@ -66,10 +70,24 @@ pub enum Kind {
     Elf,
     /// 0, whatever the text.
     Null,
+    /// XXH32 under the seed 0.
+    Xxh32,
+    /// XXH64 under the seed 0.
+    Xxh64,
+    /// MurmurHash3_x86_32 under the seed 0.
+    Murmur3At32,
+    /// MurmurHash3_x64_128 under the seed 0, its first word.
+    Murmur3,
+    /// SipHash-1-3 under the key 0.
+    SipHash13,
+    /// SipHash-2-4 under the key 0.
+    SipHash24,
+    /// XXH3 of 64 bits under the seed 0.
+    Xxh3,
 }
 
 /// The hashes in their order, by which they are numbered from 0.
-pub const KINDS: [Kind; 22] = [
+pub const KINDS: [Kind; 29] = [
     Kind::Fnv1a32,
     Kind::Fnv1a64,
     Kind::Djb2,
@@ -92,6 +110,13 @@ pub const KINDS: [Kind; 22] = [
     Kind::Joaat,
     Kind::Elf,
     Kind::Null,
+    Kind::Xxh32,
+    Kind::Xxh64,
+    Kind::Murmur3At32,
+    Kind::Murmur3,
+    Kind::SipHash13,
+    Kind::SipHash24,
+    Kind::Xxh3,
 ];
 
 /// What is said of a hash.
@@ -144,6 +169,13 @@ impl Kind {
             Kind::Joaat => entry("joaat", 32, false),
             Kind::Elf => entry("elf", 28, false),
             Kind::Null => entry("null", 0, false),
+            Kind::Xxh32 => entry("xxh32", 32, false),
+            Kind::Xxh64 => entry("xxh64", 64, false),
+            Kind::Murmur3At32 => entry("murmur3_32", 32, false),
+            Kind::Murmur3 => entry("murmur3", 64, false),
+            Kind::SipHash13 => entry("siphash13", 64, false),
+            Kind::SipHash24 => entry("siphash24", 64, false),
+            Kind::Xxh3 => entry("xxh3", 64, false),
         }
     }
 }
@@ -176,6 +208,13 @@ pub fn by_kind<T: HashTask>(kind: Kind, told: T::Told, input: &mut T::Input) -> 
         Kind::Joaat => T::by_text::<JoaatHasher>(told, input),
         Kind::Elf => T::by_text::<ElfHasher>(told, input),
         Kind::Null => T::by_text::<NullHasher>(told, input),
+        Kind::Xxh32 => T::by_text::<Xxh32Hasher>(told, input),
+        Kind::Xxh64 => T::by_text::<Xxh64Hasher>(told, input),
+        Kind::Murmur3At32 => T::by_text::<Murmur3Hasher32>(told, input),
+        Kind::Murmur3 => T::by_text::<Murmur3Hasher128>(told, input),
+        Kind::SipHash13 => T::by_text::<SipHasher13>(told, input),
+        Kind::SipHash24 => T::by_text::<SipHasher24>(told, input),
+        Kind::Xxh3 => T::by_text::<Xxh3Hasher>(told, input),
     }
 }
 

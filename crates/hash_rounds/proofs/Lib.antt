@@ -8,5 +8,4 @@ pub mod BlockLemmas
 pub mod SumLemmas
 pub mod Chunks
 pub mod PieceLemmas
-pub mod MixRuns
-pub mod EndLemmas
+pub mod PutLemmas

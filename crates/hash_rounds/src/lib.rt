@@ -1,10 +1,11 @@
 //! Words, sums and mixing rounds of well-known hash functions, each round with its inverse.
 //!
 //! A word is a number of 32 or 64 bits, and all arithmetic wraps at its width. A round is a list of steps, each of
-//! which changes one word by another; its inverse is the list of the opposite steps, last first.
+//! which changes one word by another; its inverse is the list of the opposite steps, last first. [`put`] copies a few bytes.
 #![tactic(auto)]
 
 mod blocks;
+mod copies;
 mod lookup3;
 mod short;
 mod shuffle;
@@ -15,6 +16,7 @@ mod turns;
 mod words;
 
 pub use blocks::{le_words, spooky_blocks, spooky_unblocks};
+pub use copies::{put, put_array};
 pub use lookup3::{lookup3_final, lookup3_mix, lookup3_unfinal, lookup3_unmix};
 pub use short::{short_end, short_mix, un_short_end, un_short_mix};
 pub use shuffle::{shuffle64, unshuffle64};

@@ -88,16 +88,6 @@ impl<R: ByteRule> Piecewise for ByteHasher<R> {
     }
 
     #[inline(always)]
-    fn feed(&mut self, piece: &[u8]) {
-        self.write(piece);
-    }
-
-    #[inline(always)]
-    fn answer(&self) -> u64 {
-        self.finish()
-    }
-
-    #[inline(always)]
     fn whole(text: &[u8]) -> u64 {
         R::whole(text)
     }

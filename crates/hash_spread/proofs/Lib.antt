@@ -1,4 +1,5 @@
 pub mod CollisionLemmas
 pub mod CountLemmas
+pub mod FoundLemmas
 pub mod KeyLemmas
 pub mod NamedLemmas

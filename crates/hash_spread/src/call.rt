@@ -1,14 +1,19 @@
 //! What the program is asked for, and how it ends.
-ghost use Rattle.std.specs.Prelude.{◌≡◌, None, true, IfOk, IsSome, OnErr, OnOk};
+ghost use Rattle.std.specs.Prelude.{◌≡◌, Ok, Err, IfErr, IfOk, map, option_map};
+ghost use Rattle.std.specs.Int.NonZero.{non_zero_usize_get};
+ghost use Rattle.std.specs.List.{filter_map, find};
+ghost use Rattle.std.specs.Option.{is_none};
 ghost use Rattle.cli.specs.Call.{call_of, choices, sayings, texts};
-ghost use Rattle.hash_spread.specs.Call.{options, wants_zeros, width_of, words_of};
+ghost use Rattle.hash_names.specs.Named.{kind_named};
+ghost use Rattle.hash_spread.specs.Call.{given_number, kinds_of, laid, layout_of, options, positive, settings_of, unknown_name, wanted, words_of};
 
 use crate::fault::NoTable;
 use crate::keys::Layout;
 use cli::call::{Call, Opt, flag, taking};
+use cli::numbers::number_of;
 use cli::outcome;
 use cli::outcome::Words;
-use hash_names::table::{KINDS, Kind, kind_named};
+use hash_names::table::{Kind, kind_named};
 use std::alloc::{AllocError, Global};
 use std::num::NonZeroUsize;
 
@@ -16,7 +21,7 @@ use std::num::NonZeroUsize;
 #[derive(Clone, Copy)]
 pub struct Settings {
     /// The number of buckets, in place of those by the number of keys.
-    pub buckets: Option<u64>,
+    pub buckets: Option<NonZeroUsize>,
     /// How the keys lie in the input.
     pub layout: Layout,
     /// Whether times are measured.
@@ -72,98 +77,135 @@ pub fn call_of<'a>(alloc: Global, words: &'a [Vec<u8>]) -> Result<Call<'a>, Allo
     cli::call::call_of(alloc, &options(), words)
 }
 
-/// The number from 1 on that the digits tell.
-fn number_of(digits: &[u8]) -> Option<NonZeroUsize> {
-    let text = str::from_utf8(digits).ok()?;
-    if text.starts_with('+') {
-        return None;
+/// The number from 1 on that a word writes.
+fn positive(word: &[u8]) -> Option<NonZeroUsize>
+    ensures { option_map non_zero_usize_get result ≡ positive word.now }
+{
+    match number_of(word) {
+        Some(number) => NonZeroUsize::new(number),
+        None => None,
     }
-    text.parse::<NonZeroUsize>().ok()
+}
+
+/// The number that a call gives by this option, if it gives one; `None` if what it gives is no number from 1 on.
+fn given_number(call: &Call<'_>, name: &[u8]) -> Option<Option<NonZeroUsize>>
+    ensures { option_map (option_map non_zero_usize_get) result ≡ given_number name.now (sayings call.now.said.items) }
+{
+    match call.value(name) {
+        None => Some(None),
+        Some(word) => match positive(word) {
+            Some(number) => Some(Some(number)),
+            None => None,
+        },
+    }
 }
 
 /// The first value that has to be a number from 1 on, and is none.
 pub fn no_number<'a>(call: &Call<'a>) -> Option<&'a [u8]> {
     for name in [b"buckets".as_slice(), b"width".as_slice()] {
-        let digits = call.value(name).unwrap_or(b"1");
-        if number_of(digits).is_none() {
-            return Some(digits);
+        let word = call.value(name).unwrap_or(b"1");
+        if positive(word).is_none() {
+            return Some(word);
         }
     }
     None
 }
 
-/// How the keys lie in the input: with a fixed width, or with an end, which is a newline if nothing is said.
-fn layout_of(call: &Call<'_>) -> Result<Layout, Wrong>
-    ensures ok { OnOk result (wants_zeros (sayings call.now.said.items) ≡ true → width_of (sayings call.now.said.items) ≡ None) }
-    ensures err { OnErr result ((wants_zeros (sayings call.now.said.items) ≡ true) × IsSome (width_of (sayings call.now.said.items))) }
+/// How the keys lie in the input: with a fixed width, or with an end, which is a newline if nothing is said. `None` if both are said.
+fn layout_of(zeros: bool, width: Option<NonZeroUsize>) -> Option<Layout>
+    ensures { option_map laid result ≡ layout_of zeros (option_map non_zero_usize_get width) }
 {
-    let zeros = call.gives(b"zero-terminated");
-    let width = call.value(b"width");
-    if zeros && width.is_some() {
-        return Err(Wrong::Own(Misuse::TwoLayouts));
-    }
-    match width.and_then(number_of) {
-        Some(width) => Ok(Layout::Fixed(width)),
-        None if zeros => Ok(Layout::Lines(0)),
-        None => Ok(Layout::Lines(b'\n')),
+    match (zeros, width) {
+        (true, Some(_)) => None,
+        (true, None) => Some(Layout::Lines(0)),
+        (false, Some(width)) => Some(Layout::Fixed(width)),
+        (false, None) => Some(Layout::Lines(b'\n')),
     }
 }
 
-/// How the call wants the table.
-pub fn settings_of(call: &Call<'_>) -> Result<Settings, Wrong> {
-    if no_number(call).is_some() {
+/// The table that the call wants.
+pub fn settings_of(call: &Call<'_>) -> Result<Settings, Wrong>
+    ensures ok { IfOk result (λ settings. settings_of (sayings call.now.said.items) ≡ Ok (wanted settings)) }
+    ensures err { IfErr result (λ wrong. settings_of (sayings call.now.said.items) ≡ Err wrong) }
+{
+    let (Some(buckets), Some(width)) = (
+        given_number(call, b"buckets"),
+        given_number(call, b"width"),
+    ) else {
         return Err(Wrong::Own(Misuse::NoNumber));
-    }
-    let buckets = call.value(b"buckets").and_then(number_of);
+    };
+    let Some(layout) = layout_of(call.gives(b"zero-terminated"), width) else {
+        return Err(Wrong::Own(Misuse::TwoLayouts));
+    };
     Ok(Settings {
-        buckets: buckets.map(|number| number.get() as u64),
-        layout: layout_of(call)?,
+        buckets,
+        layout,
         times: !call.gives(b"no-times"),
     })
 }
 
-/// The first operand that no hash has as its name.
-pub fn unknown_name<'a>(alloc: Global, call: &Call<'a>) -> Result<Option<&'a [u8]>, AllocError> {
-    for name in call.operands(alloc)? {
+/// The first of the names that no hash has.
+fn first_unknown<'a>(names: &[&'a [u8]]) -> Option<&'a [u8]>
+    ensures { option_map (λ word. word.now) result ≡ find (λ name. is_none (kind_named name)) (map (λ name. name.now) names.now) }
+{
+    for name in names {
         if kind_named(name).is_none() {
-            return Ok(Some(name));
+            return Some(*name);
         }
     }
-    Ok(None)
+    None
 }
 
-/// Whether the hash stands in the table where none is named. The others spread as another does, not at all, or are for files.
-fn is_usual(kind: Kind) -> bool {
-    !matches!(
-        kind,
-        Kind::SpookyV1
-            | Kind::Null
-            | Kind::FxHash64
-            | Kind::Crc32
-            | Kind::Crc32c
-            | Kind::Fnv1At32
-            | Kind::Fnv1At64
-            | Kind::Djb2Add
-            | Kind::Joaat
-            | Kind::Elf
-    )
+/// The first operand that no hash has as its name.
+pub fn unknown_name<'a>(alloc: Global, call: &Call<'a>) -> Result<Option<&'a [u8]>, AllocError>
+    ensures { IfOk result (λ word. option_map (λ w. w.now) word ≡ unknown_name (sayings call.now.said.items)) }
+{
+    let names = call.operands(alloc)?;
+    Ok(first_unknown(&names))
+}
+
+/// The hashes that stand in the table where none is named. The others spread as another does, not at all, or are for files.
+const USUAL: [Kind; 15] = [
+    Kind::Fnv1a32,
+    Kind::Fnv1a64,
+    Kind::Djb2,
+    Kind::Sdbm,
+    Kind::LoseLose,
+    Kind::Bricolage,
+    Kind::Oaat,
+    Kind::Lookup3,
+    Kind::Spooky,
+    Kind::PassThrough,
+    Kind::FxHash,
+    Kind::FxHash32,
+    Kind::Xxh64,
+    Kind::Murmur3At32,
+    Kind::SipHash13,
+];
+
+/// The hashes of these names, in their order; an unknown name has none.
+fn kinds_named(alloc: Global, names: &[&[u8]]) -> Result<Vec<Kind>, AllocError>
+    ensures { IfOk result (λ kinds. kinds.items ≡ filter_map kind_named (map (λ name. name.now) names.now)) }
+{
+    let mut kinds = Vec::new(alloc);
+    for name in names {
+        if let Some(kind) = kind_named(name) {
+            kinds.push(kind)?;
+        }
+    }
+    Ok(kinds)
 }
 
 /// The hashes that the operands name, in their order; the usual ones where there is none. An unknown name has none.
-pub fn kinds_of(alloc: Global, call: &Call<'_>) -> Result<Vec<Kind>, AllocError> {
-    let mut chosen = Vec::new(alloc);
+pub fn kinds_of(alloc: Global, call: &Call<'_>) -> Result<Vec<Kind>, AllocError>
+    ensures { IfOk result (λ kinds. kinds.items ≡ kinds_of (sayings call.now.said.items)) }
+{
     let names = call.operands(alloc)?;
-    for name in &names {
-        if let Some(kind) = kind_named(name) {
-            chosen.push(kind)?;
-        }
-    }
     if names.is_empty() {
-        for kind in KINDS {
-            if is_usual(kind) {
-                chosen.push(kind)?;
-            }
-        }
+        return match Vec::from_array(alloc, USUAL) {
+            Ok(kinds) => Ok(kinds),
+            Err(_) => Err(AllocError),
+        };
     }
-    Ok(chosen)
+    kinds_named(alloc, &names)
 }

@@ -1,9 +1,9 @@
 //! What ends a run of this program before its output is whole.
 ghost use Rattle.hash_spread.specs.Call.{words_of_fault};
 
-use cli::fault;
 use cli::outcome::Words;
 use std::io::{Error, ErrorKind};
+use streams::fault;
 
 /// Why there is no table, or no picture, of the keys.
 #[derive(Debug, Drop)]

@@ -4,10 +4,10 @@ ghost use Rattle.text_set.specs.Texts.{with_text};
 ghost use Rattle.hash_spread.specs.Keys.{ReadsFixed, ReadsKey, ReadsKeys, ReadsLine, ReadsLines, ReadsOne, ReadsPiece};
 
 use crate::fault::{Fault, NoTable, fault_of_read};
-use cli::streams::{TRIES, read_some};
 use std::alloc::Global;
 use std::io::{BufRead, Read};
 use std::num::NonZeroUsize;
+use streams::tries::{TRIES, read_some};
 use text_set::lines::{has_end, next_line, without_end};
 use text_set::{Full, RandomKeys, Texts};
 

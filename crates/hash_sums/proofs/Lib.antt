@@ -1,3 +1,4 @@
+pub mod AskedLemmas
 pub mod KeyLemmas
 pub mod LawLemmas
 pub mod ListLemmas

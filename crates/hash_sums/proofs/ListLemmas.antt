@@ -1,82 +1,140 @@
 -- Lists whose lines are checked.
-use Rattle.std.proofs.Common.{◌≡◌, inl, inr, ℕ, true, List, [], ◌∷◌, ◌++◌, Option, Ok, Err, refl, ap, sym, ◌∙◌, subst}
+use Rattle.std.proofs.Common.{◌≡◌, inl, inr, ℕ, ◌<◌, ◌==◌, Bool, true, false, cond, List, [], ◌∷◌, ◌++◌, length, Option, Some, None, Ok, Err, refl, ap, sym, ◌∙◌, subst, append_assoc, append-nil, arith}
 use Rattle.std.proofs.KnownBytes.{Keeps-refl}
 use Rattle.std.proofs.lemmas.List.Sums.{fold-append}
+use Rattle.std.specs.Io.BufRead.{drop_through, take_through}
+use Rattle.std.specs.Io.KnownBytes.{IsAtEnd}
+use Rattle.std.specs.List.{onto_first}
 use Rattle.hash_lines.specs.declared.line.Kind.{Kind}
 use Rattle.hash_sums.specs.declared.check.LineCheck.{LineCheck}
 use Rattle.hash_sums.specs.declared.check.Checking.{Checking}
 use Rattle.hash_sums.specs.declared.check.Counts.{Counts}
-use Rattle.cli.specs.declared.fault.Fault.{Fault}
-use Rattle.cli.specs.declared.outcome.Nothing.{Nothing}
+use Rattle.streams.specs.declared.fault.Fault.{Fault}
+use Rattle.streams.specs.declared.fault.Nothing.{Nothing}
 use Rattle.hash_sums.specs.Checking.{counted}
 use Rattle.cli.specs.Files.{Opens}
-use Rattle.hash_sums.specs.Lists.{counts_of, said_of, uncounted, AreLines, EndsLine, EndsList, IsLineCheckOf}
-use Rattle.hash_sums.specs.Lists.AreLines.{behind, none}
-use Rattle.text_set.specs.Lines.{IsNext}
+use Rattle.hash_sums.specs.Lists.{counts_of, said_of, uncounted, AreFirstLines, AreLines, EndsLine, EndsList, IsLineCheckOf}
+use Rattle.text_set.specs.Lines.{lines_by, ReadsNext}
 use Rattle.hash_sums.specs.Told.{AreTold}
 use Rattle.hash_sums.proofs.ToldLemmas.{told_more, told_start, torn_kept, torn_within}
 
--- what came of the first lines is written and counted
-abbrev pub SoFar : List Kind → Checking → Opens → (left left' written written' : Option (List ℕ))
-    → Counts → Type 0
-SoFar kinds checking opens left left' written written' counts =
-    (ls : List (List ℕ)) × AreLines left ls left' × (told : List (List ℕ × LineCheck))
-    × AreTold (λ line. line.0) (IsLineCheckOf kinds checking opens) (said_of checking) (λ line. true) ls told written written' true
-    × (counts ≡ counts_of told)
+-- the first line of a text, and the lines of the rest
+next_first : (byte : ℕ) (text : List ℕ)
+    → lines_by 10 (byte ∷ text) ≡ take_through 10 (byte ∷ text) ∷ lines_by 10 (drop_through 10 (byte ∷ text))
+next_first byte [] = at (byte == 10)
+  where
+    at : (b : Bool) → cond b ((byte ∷ []) ∷ []) ((byte ∷ []) ∷ [])
+        ≡ (cond b (byte ∷ []) (byte ∷ [])) ∷ lines_by 10 (cond b [] [])
+    at true = refl
+    at false = refl
+next_first byte (next ∷ text) = at (ap (onto_first byte) (next_first next text)) (byte == 10)
+  where
+    at : onto_first byte (lines_by 10 (next ∷ text))
+        ≡ (byte ∷ take_through 10 (next ∷ text)) ∷ lines_by 10 (drop_through 10 (next ∷ text))
+        → (b : Bool) → cond b ((byte ∷ []) ∷ lines_by 10 (next ∷ text)) (onto_first byte (lines_by 10 (next ∷ text)))
+        ≡ (cond b (byte ∷ []) (byte ∷ take_through 10 (next ∷ text))) ∷ lines_by 10 (cond b (next ∷ text) (drop_through 10 (next ∷ text)))
+    at later true = refl
+    at later false = later
 
-pub so_far_start : (kinds : List Kind) (checking : Checking) (opens : Opens) (left written : Option (List ℕ))
-    → SoFar kinds checking opens left left written written uncounted
-so_far_start kinds checking opens left written =
-    ([], none, [], told_start (λ line. line.0) (IsLineCheckOf kinds checking opens) (said_of checking) (λ line. true) written, refl)
+-- no lines come first
+pub no_lines : (held : Option (List ℕ)) → AreFirstLines held [] held
+no_lines None = tt
+no_lines (Some text) = (text, refl, refl)
 
 -- one line more
-pub so_far_more : (kinds : List Kind) (checking : Checking) (opens : Opens)
+pub lines_more : (held here left : Option (List ℕ)) (lines : List (List ℕ)) (line : List ℕ) → AreFirstLines held lines here
+    → ReadsNext 10 here left line → AreFirstLines held (lines ++ line ∷ []) left
+lines_more None here left lines line are next = tt
+lines_more (Some text) None left lines line (rest, is, are) next = cc
+lines_more (Some text) (Some []) left lines line (rest, is, are) next = absurd (no_line line next.next.0 next.some)
+  where
+    no_line : (line : List ℕ) → line ≡ [] → 0 < length line → ⊥
+    no_line line is some = let none : 0 < 0 = subst (λ l. 0 < length l) is some in omega (arith, none)
+lines_more (Some text) (Some (byte ∷ more)) left lines line (rest, is, are) next =
+    let same : rest ≡ byte ∷ more = cc in (
+      drop_through 10 (byte ∷ more),
+      next.next.1,
+      append_assoc lines (line ∷ []) (lines_by 10 (drop_through 10 (byte ∷ more)))
+          ∙ ap (λ l. lines ++ (l ∷ lines_by 10 (drop_through 10 (byte ∷ more)))) next.next.0
+          ∙ ap (λ ls. lines ++ ls) (sym (next_first byte more)) ∙ ap (λ t. lines ++ lines_by 10 t) (sym same) ∙ are,
+    )
+
+-- the lines, where nothing is left
+pub all_lines : (held left : Option (List ℕ)) (lines : List (List ℕ)) → AreFirstLines held lines left → IsAtEnd left → AreLines held lines
+all_lines None left lines are end = tt
+all_lines (Some text) None lines (rest, is, are) end = cc
+all_lines (Some text) (Some bytes) lines (rest, is, are) end =
+    let none : rest ≡ [] = let same : bytes ≡ rest = cc in sym same ∙ end in
+    sym (append-nil lines) ∙ ap (λ t. lines ++ lines_by 10 t) (sym none) ∙ are
+
+-- what came of the first lines is written and counted
+abbrev pub SoFar : List Kind → Checking → Opens → (list : List ℕ) (left left' written written' : Option (List ℕ))
+    → Counts → Type 0
+SoFar kinds checking opens list left left' written written' counts =
+    (ls : List (List ℕ)) × AreFirstLines left ls left' × (told : List (List ℕ × LineCheck))
+    × AreTold (λ line. line.0) (IsLineCheckOf kinds checking opens list) (said_of checking) (λ line. true) ls told written written' true
+    × (counts ≡ counts_of told)
+
+pub so_far_start : (kinds : List Kind) (checking : Checking) (opens : Opens) (list : List ℕ) (left written : Option (List ℕ))
+    → SoFar kinds checking opens list left left written written uncounted
+so_far_start kinds checking opens list left written =
+    ([], no_lines left, [], told_start (λ line. line.0) (IsLineCheckOf kinds checking opens list) (said_of checking) (λ line. true) written, refl)
+
+-- one line more
+pub so_far_more : (kinds : List Kind) (checking : Checking) (opens : Opens) (list : List ℕ)
     (left here left' written between written' : Option (List ℕ)) (counts counts' : Counts) (line given : List ℕ) (came : LineCheck)
-    → SoFar kinds checking opens left here written between counts → IsNext 10 here line left' → given ≡ line
-    → EndsLine kinds checking opens given between written' (Ok came) → counts' ≡ counted counts came
-    → SoFar kinds checking opens left left' written written' counts'
-so_far_more kinds checking opens left here left' written between written' counts counts' line given came (ls, are, told, so_far, counts_are)
+    → SoFar kinds checking opens list left here written between counts → ReadsNext 10 here left' line → given ≡ line
+    → EndsLine kinds checking opens list given between written' (Ok came) → counts' ≡ counted counts came
+    → SoFar kinds checking opens list left left' written written' counts'
+so_far_more kinds checking opens list left here left' written between written' counts counts' line given came (ls, are, told, so_far, counts_are)
     next same (is_came, appends) more = (
       ls ++ line ∷ [],
-      behind line are next,
+      lines_more left here left' ls line are next,
       told ++ (line, came) ∷ [],
-      told_more (λ l. l.0) (IsLineCheckOf kinds checking opens) (said_of checking) (λ l. true) ls told written between written' true (line, came)
-          so_far (subst (λ t. IsLineCheckOf kinds checking opens (t, came)) same is_came) appends,
+      told_more (λ l. l.0) (IsLineCheckOf kinds checking opens list) (said_of checking) (λ l. true) ls told written between written' true (line, came)
+          so_far (subst (λ t. IsLineCheckOf kinds checking opens list (t, came)) same is_came) appends,
       more ∙ ap (λ n. counted n came) counts_are
           ∙ sym (fold-append (λ (n : Counts) (l : List ℕ × LineCheck). counted n l.1) uncounted told ((line, came) ∷ [])),
     )
 
 -- a line of which a beginning of what came was written
-pub torn_off : (kinds : List Kind) (checking : Checking) (opens : Opens)
+pub torn_off : (kinds : List Kind) (checking : Checking) (opens : Opens) (list : List ℕ)
     (left here left' written between written' : Option (List ℕ)) (counts : Counts) (line given : List ℕ) (fault : Fault Nothing)
-    → SoFar kinds checking opens left here written between counts → IsNext 10 here line left' → given ≡ line
-    → EndsLine kinds checking opens given between written' (Err fault)
-    → EndsList kinds checking opens left written written' (Err fault)
-torn_off kinds checking opens left here left' written between written' counts line given fault (ls, are, told, so_far, counts_are)
+    → SoFar kinds checking opens list left here written between counts → ReadsNext 10 here left' line → given ≡ line
+    → EndsLine kinds checking opens list given between written' (Err fault)
+    → EndsList kinds checking opens list left written written' (Err fault)
+torn_off kinds checking opens list left here left' written between written' counts line given fault (ls, are, told, so_far, counts_are)
     next same (inl kept) = (
       ls ++ line ∷ [],
       left',
-      behind line are next,
-      torn_kept (λ l. l.0) (IsLineCheckOf kinds checking opens) (said_of checking) (λ l. true) ls (line ∷ []) (ls ++ line ∷ []) told written
+      lines_more left here left' ls line are next,
+      torn_kept (λ l. l.0) (IsLineCheckOf kinds checking opens list) (said_of checking) (λ l. true) ls (line ∷ []) (ls ++ line ∷ []) told written
           between
           written' true so_far kept refl,
     )
-torn_off kinds checking opens left here left' written between written' counts line given fault (ls, are, told, so_far, counts_are)
+torn_off kinds checking opens list left here left' written between written' counts line given fault (ls, are, told, so_far, counts_are)
     next same (inr (came, is_came, part)) = (
       ls ++ line ∷ [],
       left',
-      behind line are next,
-      torn_within (λ l. l.0) (IsLineCheckOf kinds checking opens) (said_of checking) (λ l. true) ls [] (ls ++ line ∷ []) told written between
-          written' true (line, came) so_far (subst (λ t. IsLineCheckOf kinds checking opens (t, came)) same is_came) part refl,
+      lines_more left here left' ls line are next,
+      torn_within (λ l. l.0) (IsLineCheckOf kinds checking opens list) (said_of checking) (λ l. true) ls [] (ls ++ line ∷ []) told written between
+          written' true (line, came) so_far (subst (λ t. IsLineCheckOf kinds checking opens list (t, came)) same is_came) part refl,
     )
 
 -- nothing is read or written
-pub list_torn_off : (kinds : List Kind) (checking : Checking) (opens : Opens) (left written : Option (List ℕ))
-    (fault : Fault Nothing) → EndsList kinds checking opens left written written (Err fault)
-list_torn_off kinds checking opens left written fault = (
+pub list_torn_off : (kinds : List Kind) (checking : Checking) (opens : Opens) (list : List ℕ) (left written : Option (List ℕ))
+    (fault : Fault Nothing) → EndsList kinds checking opens list left written written (Err fault)
+list_torn_off kinds checking opens list left written fault = (
   [],
   left,
-  none,
-  torn_kept (λ line. line.0) (IsLineCheckOf kinds checking opens) (said_of checking) (λ line. true) [] [] [] [] written written written true
-      (told_start (λ line. line.0) (IsLineCheckOf kinds checking opens) (said_of checking) (λ line. true) written) (Keeps-refl written) refl,
+  no_lines left,
+  torn_kept (λ line. line.0) (IsLineCheckOf kinds checking opens list) (said_of checking) (λ line. true) [] [] [] [] written written written true
+      (told_start (λ line. line.0) (IsLineCheckOf kinds checking opens list) (said_of checking) (λ line. true) written) (Keeps-refl written) refl,
 )
+
+-- the whole list, where nothing is left
+pub list_ended : (kinds : List Kind) (checking : Checking) (opens : Opens) (list : List ℕ) (left here written written' : Option (List ℕ))
+    (counts : Counts) → SoFar kinds checking opens list left here written written' counts → IsAtEnd here
+    → EndsList kinds checking opens list left written written' (Ok (Some counts))
+list_ended kinds checking opens list left here written written' counts (ls, are, told, so_far, counts_are) end =
+    (ls, all_lines left here ls are end, told, so_far, counts_are)

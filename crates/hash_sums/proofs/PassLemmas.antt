@@ -8,7 +8,7 @@ use Rattle.hash_sums.specs.declared.check.LineCheck.{LineCheck}
 use Rattle.hash_sums.specs.declared.check.LineCheck.TheVariants.{Skipped, Improper, Checked}
 use Rattle.hash_sums.specs.declared.check.Checking.{Checking}
 use Rattle.hash_sums.specs.declared.check.Counts.{Counts}
-use Rattle.hash_sums.specs.declared.check.Verdict.TheVariants.{Same, Different, Unread, Missing}
+use Rattle.hash_sums.specs.declared.check.Verdict.TheVariants.{Same, Different, Unread, Missing, Unkeyed}
 use Rattle.hash_sums.specs.Checking.{counted, one_more, passes}
 use Rattle.cli.specs.Files.{Opens}
 use Rattle.hash_sums.specs.Lists.{counts_of, uncounted, AreLines, AreListed, EndsListOf}
@@ -72,6 +72,7 @@ is_different (Checked entry Same) = false
 is_different (Checked entry Different) = true
 is_different (Checked entry Unread) = false
 is_different (Checked entry Missing) = false
+is_different (Checked entry Unkeyed) = false
 
 abbrev is_unread : LineCheck → Bool
 is_unread Skipped = false
@@ -80,6 +81,16 @@ is_unread (Checked entry Same) = false
 is_unread (Checked entry Different) = false
 is_unread (Checked entry Unread) = true
 is_unread (Checked entry Missing) = false
+is_unread (Checked entry Unkeyed) = false
+
+abbrev is_unkeyed : LineCheck → Bool
+is_unkeyed Skipped = false
+is_unkeyed Improper = false
+is_unkeyed (Checked entry Same) = false
+is_unkeyed (Checked entry Different) = false
+is_unkeyed (Checked entry Unread) = false
+is_unkeyed (Checked entry Missing) = false
+is_unkeyed (Checked entry Unkeyed) = true
 
 step_improper : (counts : Counts) (came : LineCheck)
     → (counted counts came).improper ≡ (if is_improper came then one_more counts.improper else counts.improper)
@@ -89,6 +100,7 @@ step_improper counts (Checked entry Same) = refl
 step_improper counts (Checked entry Different) = refl
 step_improper counts (Checked entry Unread) = refl
 step_improper counts (Checked entry Missing) = refl
+step_improper counts (Checked entry Unkeyed) = refl
 
 step_different : (counts : Counts) (came : LineCheck)
     → (counted counts came).different ≡ (if is_different came then one_more counts.different else counts.different)
@@ -98,6 +110,7 @@ step_different counts (Checked entry Same) = refl
 step_different counts (Checked entry Different) = refl
 step_different counts (Checked entry Unread) = refl
 step_different counts (Checked entry Missing) = refl
+step_different counts (Checked entry Unkeyed) = refl
 
 step_unread : (counts : Counts) (came : LineCheck)
     → (counted counts came).unread ≡ (if is_unread came then one_more counts.unread else counts.unread)
@@ -107,6 +120,17 @@ step_unread counts (Checked entry Same) = refl
 step_unread counts (Checked entry Different) = refl
 step_unread counts (Checked entry Unread) = refl
 step_unread counts (Checked entry Missing) = refl
+step_unread counts (Checked entry Unkeyed) = refl
+
+step_unkeyed : (counts : Counts) (came : LineCheck)
+    → (counted counts came).unkeyed ≡ (if is_unkeyed came then one_more counts.unkeyed else counts.unkeyed)
+step_unkeyed counts Skipped = refl
+step_unkeyed counts Improper = refl
+step_unkeyed counts (Checked entry Same) = refl
+step_unkeyed counts (Checked entry Different) = refl
+step_unkeyed counts (Checked entry Unread) = refl
+step_unkeyed counts (Checked entry Missing) = refl
+step_unkeyed counts (Checked entry Unkeyed) = refl
 
 step_same : (counts : Counts) (came : LineCheck)
     → (counted counts came).same ≡ (if is_same came then one_more counts.same else counts.same)
@@ -116,17 +140,19 @@ step_same counts (Checked entry Same) = refl
 step_same counts (Checked entry Different) = refl
 step_same counts (Checked entry Unread) = refl
 step_same counts (Checked entry Missing) = refl
+step_same counts (Checked entry Unkeyed) = refl
 
 -- what is of none of these sorts does not fail
 well : (strict : Bool) (came : LineCheck) → (strict && is_improper came) ≡ false → is_different came ≡ false → is_unread came ≡ false
-    → fails strict came ≡ false
-well strict Skipped improper different unread = refl
-well true Improper improper different unread = improper
-well false Improper improper different unread = refl
-well strict (Checked entry Same) improper different unread = refl
-well strict (Checked entry Different) improper different unread = different
-well strict (Checked entry Unread) improper different unread = unread
-well strict (Checked entry Missing) improper different unread = refl
+    → is_unkeyed came ≡ false → fails strict came ≡ false
+well strict Skipped improper different unread unkeyed = refl
+well true Improper improper different unread unkeyed = improper
+well false Improper improper different unread unkeyed = refl
+well strict (Checked entry Same) improper different unread unkeyed = refl
+well strict (Checked entry Different) improper different unread unkeyed = different
+well strict (Checked entry Unread) improper different unread unkeyed = unread
+well strict (Checked entry Missing) improper different unread unkeyed = refl
+well strict (Checked entry Unkeyed) improper different unread unkeyed = unkeyed
 
 -- improper lines are none, or do no harm
 not_true : (b : Bool) → not b ≡ true → b ≡ false
@@ -152,27 +178,29 @@ lines_pass strict lines is =
     let a = nat_lt 0 counts.same in
     let b = nat_eq counts.different 0 in
     let c = nat_eq counts.unread 0 in
-    let (rest, improper) = and_parts (a && b && c) (not (strict && nat_lt 0 counts.improper)) is in
+    let d = nat_eq counts.unkeyed 0 in
+    let (most, improper) = and_parts (a && b && c && d) (not (strict && nat_lt 0 counts.improper)) is in
+    let (rest, unkeyed) = and_parts (a && b && c) d most in
     let (both, unread) = and_parts (a && b) c rest in
     let (same, different) = and_parts a b both in
     let no_improper = improper_lines strict lines improper in
     let no_different = (none_counted (λ c. c.different) is_different step_different uncounted lines (eqb-true counts.different 0 different)).1 in
-    let no_unread = (none_counted (λ c. c.unread) is_unread step_unread uncounted lines (eqb-true counts.unread 0 unread)).1 in (
-      λ k d below. well strict (slice_index_or lines k d).1 (no_improper k d below) (no_different k d below) (no_unread k d below),
+    let no_unread = (none_counted (λ c. c.unread) is_unread step_unread uncounted lines (eqb-true counts.unread 0 unread)).1 in
+    let no_unkeyed = (none_counted (λ c. c.unkeyed) is_unkeyed step_unkeyed uncounted lines (eqb-true counts.unkeyed 0 unkeyed)).1 in (
+      λ k d below. well strict (slice_index_or lines k d).1 (no_improper k d below) (no_different k d below) (no_unread k d below)
+          (no_unkeyed k d below),
       found (some_counted (λ c. c.same) is_same step_same uncounted lines (ltb-true 0 counts.same same)),
     )
 
 module _ (kinds : List Kind) (checking : Checking) (opens : Opens) where
   list_passed : (list : List ℕ) (w w' : Option (List ℕ)) → EndsListOf kinds checking opens list w w' (Ok true)
       → HasPassed kinds checking opens list
-  list_passed list w w' (inl (held, can, inl (counts, (lines, left, are, end, told, are_told, counts_are), is))) =
+  list_passed list w w' (inl (held, can, inl (counts, (lines, are, told, are_told, counts_are), is))) =
       let (well, some) = lines_pass checking.strict told (sym (is ∙ ap (λ c. passes checking.strict c) counts_are)) in record {
         held = held;
         opened = can;
         lines = told;
-        left = left;
-        are_lines = subst (λ ls. AreLines held ls left) (sym are_told.names_are) are;
-        end = end;
+        are_lines = subst (λ ls. AreLines held ls) (sym are_told.names_are) are;
         came = are_told.each;
         none_fails = well;
         some_is_same = some;

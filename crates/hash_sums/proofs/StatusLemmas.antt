@@ -1,22 +1,32 @@
 -- Checks that end well.
-use Rattle.std.proofs.Common.{◌≡◌, ℕ, arith, true, false, Bool, List, Option, Some, None, Result, Ok, Err, All, refl, sym, ap, ◌∙◌, subst}
+use Rattle.std.proofs.Common.{◌≡◌, inl, inr, ℕ, arith, true, false, Bool, if◌then◌else◌, List, map, codes, Option, Some, None, Result, Ok, Err, All, refl, sym, ap, ◌∙◌, subst}
 use Rattle.std.specs.IoError.{error_kind}
 use Rattle.std.specs.declared.io.ErrorKind.{ErrorKind}
 use Rattle.std.specs.declared.io.ErrorKind.TheVariants.{BrokenPipe}
 use Rattle.hash_lines.specs.declared.line.Kind.{Kind}
 use Rattle.cli.specs.Outcome.{of_run, status_of, write_status}
-use Rattle.cli.specs.declared.fault.Fault.{Fault}
-use Rattle.cli.specs.declared.fault.Fault.TheVariants.{Unwritten}
-use Rattle.cli.specs.declared.outcome.Nothing.{Nothing}
+use Rattle.streams.specs.declared.fault.Fault.{Fault}
+use Rattle.streams.specs.declared.fault.Fault.TheVariants.{NoMemory, Unwritten}
+use Rattle.streams.specs.declared.fault.Nothing.{Nothing}
 use Rattle.cli.specs.declared.outcome.Outcome.{Outcome}
 use Rattle.hash_sums.specs.declared.check.Checking.{Checking}
-use Rattle.cli.specs.Files.{Opens}
+use Rattle.cli.specs.Files.{Opens, files_or}
 use Rattle.hash_sums.specs.Lists.{EndsLists}
 use Rattle.hash_sums.specs.Passed.{HasPassed}
 use Rattle.hash_sums.proofs.PassLemmas.{lists_passed}
 use Rattle.hash_sums.specs.declared.outcome.Misuse.{Misuse}
-use Rattle.hash_sums.specs.declared.outcome.Task.TheVariants.{Check}
-use Rattle.hash_sums.specs.Program.{EndsTask}
+use Rattle.hash_sums.specs.declared.outcome.Task.TheVariants.{Check, Sum}
+use Rattle.hash_sums.specs.Program.{asked, checking_of, key_file, kinds_under, misuse_of, summing_of, taken, task_of, work_by, work_of, EndsTask, EndsWithKeys}
+use Rattle.cli.specs.Call.{given, operands, Saying}
+use Rattle.cli.specs.Frame.{request_of, EndsRequest}
+use Rattle.cli.specs.declared.frame.Request.TheVariants.{Work}
+use Rattle.cli.specs.declared.frame.Text.{Text}
+use Rattle.cli.specs.declared.outcome.Outcome.TheVariants.{Failed, Reported, Usage}
+use Rattle.cli.specs.declared.outcome.Wrong.{Wrong}
+use Rattle.cli.specs.declared.outcome.Wrong.TheVariants.{Own, UnknownName}
+use Rattle.hash_sums.specs.Ended.{HasEndedWell}
+use Rattle.hash_sums.specs.Keys.{ArePoly61KeysOf}
+use Rattle.hash_sums.specs.Sums.{kind_of, told_of}
 
 module _ (kinds : List Kind) (checking : Checking) (opens : Opens) where
   -- a write that fails does not end well
@@ -33,7 +43,47 @@ module _ (kinds : List Kind) (checking : Checking) (opens : Opens) where
 
   pub check_passed : (lists : List (List ℕ)) (w w' : Option (List ℕ)) (outcome : Outcome Misuse Nothing)
       → EndsTask kinds opens lists w w' (Ok (Check checking)) outcome → status_of outcome ≡ 0
-      → All (HasPassed kinds checking opens) lists
+      → All (HasPassed (taken kinds checking) checking opens) lists
   check_passed lists w w' outcome (ended, ends, is) zero =
       let well : ended ≡ Ok true = ends_well ended (sym (ap (λ o. status_of o) is) ∙ zero) in
-      lists_passed kinds checking opens (subst (λ e. EndsLists kinds checking opens lists w w' e) well ends) refl
+      lists_passed (taken kinds checking) checking opens
+      (subst (λ e. EndsLists (taken kinds checking) checking opens lists w w' e) well ends) refl
+
+-- a call that ends well did its work
+module _ (opens : Opens) (call : List Saying) (w w' : Option (List ℕ)) (outcome : Outcome Misuse Nothing) where
+  not_well : (wrong : Wrong Misuse) → outcome ≡ Usage wrong → status_of outcome ≡ 0 → ⊥
+  not_well wrong is zero = let no : status_of {Misuse = Misuse} {Own = Nothing} (Usage wrong) ≡ 0 = subst (λ o. status_of o ≡ 0) is zero in
+      absurd (omega (arith, no))
+
+  -- by what is wrong with the call, and by the hash that is asked for
+  work_passed : (keys : Option (ℕ × ℕ)) → ArePoly61KeysOf opens (key_file call) keys → (told : List Kind) → map told_of told ≡ kinds_under keys
+      → given (codes "check") call ≡ true → (misuse : Option Misuse) (kind : Option Kind) → kind_of told (asked call) ≡ kind
+      → EndsTask told opens (files_or (operands call)) w w' (work_by call misuse kind) outcome → status_of outcome ≡ 0
+      → HasEndedWell opens call
+  work_passed keys are told are_told checks (Some misuse) kind is_kind (is, kept) zero = absurd (not_well (Own misuse) is zero)
+  work_passed keys are told are_told checks None None is_kind (is, kept) zero = absurd (not_well UnknownName is zero)
+  work_passed keys are told are_told checks None (Some kind) is_kind ends zero =
+      let files = files_or (operands call) in
+      let task : work_of call kind ≡ Check (checking_of call kind) =
+      ap (λ b. if b then Check (checking_of call kind) else Sum (summing_of call kind)) checks in record {
+        keys = keys;
+        are_keys = are;
+        told = told;
+        are_told = are_told;
+        kind = kind;
+        is_asked = is_kind;
+        passed = check_passed told (checking_of call kind) opens files w w' outcome
+            (subst (λ t. EndsTask told opens files w w' (Ok t) outcome) task ends) zero;
+      }
+
+  pub call_passed : (texts : Text → List ℕ) → request_of call ≡ Work → given (codes "check") call ≡ true
+      → EndsWithKeys opens call texts w w' outcome → status_of outcome ≡ 0 → HasEndedWell opens call
+  call_passed texts works checks (inl (keys, are, told, are_told, ends)) zero =
+      let files = files_or (operands call) in
+      let ended = subst (λ r. EndsRequest r texts (EndsTask told opens files w w' (task_of told call)) (Unit {0}) w w' outcome) works ends in
+      work_passed keys are told are_told checks (misuse_of call) (kind_of told (asked call)) refl ended zero
+  call_passed texts works checks (inr (inl (some, is, kept))) zero =
+      let no : status_of {Misuse = Misuse} {Own = Nothing} Reported ≡ 0 = subst (λ o. status_of o ≡ 0) is zero in absurd (omega (arith, no))
+  call_passed texts works checks (inr (inr (is, kept))) zero =
+      let no : status_of {Misuse = Misuse} {Own = Nothing} (Failed NoMemory) ≡ 0 = subst (λ o. status_of o ≡ 0) is zero in
+      absurd (omega (arith, no))

@@ -8,8 +8,8 @@ use Rattle.std.proofs.lemmas.List.{get_or-map, length-map, map-append}
 use Rattle.std.proofs.Math.Seq.{take-suc}
 use Rattle.std.proofs.lemmas.List.Elements.{All-nil, All-push}
 use Rattle.std.proofs.lemmas.List.Folds.{list_all-append}
-use Rattle.cli.specs.Streams.{AppendsPart}
-use Rattle.cli.proofs.StreamLemmas.{part_behind, part_whole}
+use Rattle.streams.specs.Streams.{AppendsPart}
+use Rattle.streams.proofs.StreamLemmas.{part_behind, part_whole}
 use Rattle.hash_sums.specs.Told.{AreTold, AreTornOff}
 
 -- one more of the names

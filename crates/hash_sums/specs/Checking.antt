@@ -1,24 +1,26 @@
 -- What comes of the lines that are checked.
-use Rattle.std.specs.Prelude.{ℕ, ◌≡◌, ◌+◌, ◌-◌, ◌^◌, ◌==◌, ◌&&◌, ◌||◌, ◌⊎◌, if◌then◌else◌, min, nat_lt, not, Bool, true, false, List, [], ◌∷◌, ◌++◌, Option, Result, Ok, Err, codes}
+use Rattle.std.specs.Prelude.{ℕ, ◌≡◌, ◌+◌, ◌-◌, ◌^◌, ◌==◌, ◌&&◌, ◌||◌, ◌⊎◌, if◌then◌else◌, min, nat_lt, not, Bool, true, false, List, [], ◌∷◌, ◌++◌, length, drop, Option, Result, Ok, Err, codes}
 use Rattle.std.specs.IoError.{error_kind}
+use Rattle.std.specs.Str.{bytes_eq}
 use Rattle.std.specs.declared.io.Error.{Error}
 use Rattle.std.specs.declared.io.ErrorKind.{ErrorKind}
 use Rattle.std.specs.declared.io.ErrorKind.TheVariants.{NotFound}
 use Rattle.hash_lines.specs.Escape.{needs_escape}
 use Rattle.hash_lines.specs.Line.{mark, name_shown}
-use Rattle.hash_lines.specs.Forms.{TellsSo}
-use Rattle.hash_lines.specs.Told.{Tells}
+use Rattle.hash_lines.specs.Forms.{TellsNothingSo, TellsSo}
+use Rattle.hash_lines.specs.Told.{Tells, TellsNothing}
 use Rattle.hash_lines.specs.declared.line.Kind.{Kind}
+use Rattle.hash_sums.specs.declared.check.Checking.{Checking}
 use Rattle.hash_sums.specs.declared.check.LineCheck.{LineCheck}
 use Rattle.hash_sums.specs.declared.check.LineCheck.TheVariants.{Skipped, Improper, Checked}
 use Rattle.hash_sums.specs.declared.check.Counts.{Counts}
 use Rattle.hash_sums.specs.declared.check.Verdict.{Verdict}
-use Rattle.hash_sums.specs.declared.check.Verdict.TheVariants.{Same, Different, Unread, Missing}
+use Rattle.hash_sums.specs.declared.check.Verdict.TheVariants.{Same, Different, Unread, Missing, Unkeyed}
 use Rattle.hash_sums.specs.declared.sum.Unsummed.{Unsummed}
 use Rattle.hash_sums.specs.declared.sum.Unsummed.TheVariants.{Unhashed, Unopened}
 use Rattle.cli.specs.Files.{Opens}
 use Rattle.hash_sums.specs.Files.{SumsFile}
-use Rattle.hash_sums.specs.Sums.{sum_by}
+use Rattle.hash_sums.specs.Sums.{is_named, sum_at, sum_by, takes_keys}
 
 -- whether a file is not there
 abbrev pub is_not_found : ErrorKind → Bool
@@ -44,22 +46,47 @@ abbrev pub is_skipped : List ℕ → Bool
 is_skipped [] = true
 is_skipped (first ∷ more) = first == 35 || first == 59
 
--- a line is none of ours
-abbrev pub TellsNothing : List Kind → Kind → (line : List ℕ) → Type 0
-TellsNothing kinds kind line = (other : Kind) (name : List ℕ) (number : ℕ) → ¬ (Tells kinds kind other name number line)
+-- whether lines of SFV files are taken: in a list whose name ends in .sfv, and where untagged lines are by crc32
+abbrev pub takes_sfv : Kind → (list : List ℕ) → Bool
+takes_sfv kind list = bytes_eq kind.name.now (codes "crc32") || is_named (codes ".sfv") (drop (length list - 4) list)
 
 -- a line tells this: as one of ours, or, where it is none of ours, in another program's form
-abbrev pub TellsAny : List Kind → (default : Kind) → Kind → (name : List ℕ) (number : ℕ) → List ℕ → Type 0
-TellsAny kinds default kind name number line = Tells kinds default kind name number line
-    ⊎ (TellsNothing kinds default line × TellsSo kinds default kind name number line)
+abbrev pub TellsAny : (sfv : Bool) → List Kind → (default : Kind) → Kind → (name : List ℕ) (number : ℕ) → List ℕ → Type 0
+TellsAny sfv kinds default kind name number line = Tells kinds default kind name number line
+    ⊎ (TellsNothing kinds default line × TellsSo sfv kinds default kind name number line)
 
--- what came of a line. One is improper only if it is none of ours; one in another program's form may be read as such
-abbrev pub IsLineCheck : List Kind → Kind → Opens → (ignore_missing : Bool) (line : List ℕ) → LineCheck → Type 0
-IsLineCheck kinds kind opens ignore_missing line Skipped = is_skipped line ≡ true
-IsLineCheck kinds kind opens ignore_missing line Improper = (is_skipped line ≡ false) × TellsNothing kinds kind line
-IsLineCheck kinds kind opens ignore_missing line (Checked entry verdict) = (is_skipped line ≡ false)
-    × TellsAny kinds kind entry.kind entry.name.items entry.number line
-    × IsVerdict (opens entry.name.items) (sum_by entry.kind) ignore_missing entry.number verdict
+-- a line tells no hash, in no form
+abbrev pub TellsNone : (sfv : Bool) → List Kind → (default : Kind) → List ℕ → Type 0
+TellsNone sfv kinds default line = TellsNothing kinds default line × TellsNothingSo sfv kinds default line
+
+-- whether a line is of the list that it stands in: where both are standard input
+abbrev pub is_itself : (list name : List ℕ) → Bool
+is_itself list name = bytes_eq list (codes "-") && bytes_eq name (codes "-")
+
+-- a line of a list is of standard input, as which the list is read
+abbrev pub TellsItself : List Kind → Checking → (list line : List ℕ) → Type 0
+TellsItself kinds checking list line = (kind : Kind) × (name : List ℕ) × (number : ℕ)
+    × TellsAny (takes_sfv checking.kind list) kinds checking.kind kind name number line × (is_itself list name ≡ true)
+
+-- whether a line by a hash needs keys, and there are none
+abbrev pub lacks_keys : (keyed : Bool) → Kind → Bool
+lacks_keys keyed kind = not keyed && takes_keys (sum_at kind.which)
+
+-- the verdict on a line's file: that it lacks keys, or else that on what came of the file
+abbrev pub IsVerdictBy : Checking → Opens → Kind → (name : List ℕ) (number : ℕ) → Verdict → Type 0
+IsVerdictBy checking opens kind name number verdict =
+    ((lacks_keys checking.keyed kind ≡ true) × (verdict ≡ Unkeyed))
+    ⊎ ((lacks_keys checking.keyed kind ≡ false) × IsVerdict (opens name) (sum_by kind) checking.ignore_missing number verdict)
+
+-- what came of a line of a list. It is improper exactly if it tells no hash, or is of the list itself
+abbrev pub IsLineCheck : List Kind → Checking → Opens → (list line : List ℕ) → LineCheck → Type 0
+IsLineCheck kinds checking opens list line Skipped = is_skipped line ≡ true
+IsLineCheck kinds checking opens list line Improper = (is_skipped line ≡ false)
+    × (TellsNone (takes_sfv checking.kind list) kinds checking.kind line ⊎ TellsItself kinds checking list line)
+IsLineCheck kinds checking opens list line (Checked entry verdict) = (is_skipped line ≡ false)
+    × TellsAny (takes_sfv checking.kind list) kinds checking.kind entry.kind entry.name.items entry.number line
+    × (is_itself list entry.name.items ≡ false)
+    × IsVerdictBy checking opens entry.kind entry.name.items entry.number verdict
 
 -- what is said of a verdict, behind the name
 abbrev pub verdict_words : (quiet status : Bool) → Verdict → List ℕ
@@ -69,6 +96,7 @@ verdict_words false false Same = codes ": OK" ++ 10 ∷ []
 verdict_words quiet false Different = codes ": FAILED" ++ 10 ∷ []
 verdict_words quiet false Unread = codes ": FAILED open or read" ++ 10 ∷ []
 verdict_words quiet false Missing = []
+verdict_words quiet false Unkeyed = []
 
 -- a name and words behind it, if there are words
 abbrev pub behind_name : (name words : List ℕ) → List ℕ
@@ -93,8 +121,10 @@ counted counts (Checked entry Same) = record counts { same = one_more counts.sam
 counted counts (Checked entry Different) = record counts { different = one_more counts.different }
 counted counts (Checked entry Unread) = record counts { unread = one_more counts.unread }
 counted counts (Checked entry Missing) = record counts { missing = one_more counts.missing }
+counted counts (Checked entry Unkeyed) = record counts { unkeyed = one_more counts.unkeyed }
 
 -- whether lines with these counts pass
 abbrev pub passes : (strict : Bool) → Counts → Bool
 passes strict counts =
-    nat_lt 0 counts.same && (counts.different == 0) && (counts.unread == 0) && not (strict && nat_lt 0 counts.improper)
+    nat_lt 0 counts.same && (counts.different == 0) && (counts.unread == 0) && (counts.unkeyed == 0)
+    && not (strict && nat_lt 0 counts.improper)

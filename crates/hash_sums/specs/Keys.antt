@@ -1,9 +1,10 @@
 -- Key files.
-use Rattle.std.specs.Prelude.{ℕ, ◌≡◌, List, Option, Some, None, Ok, Result, length}
+use Rattle.std.specs.Prelude.{ℕ, ◌≡◌, ◌≢◌, ◌%◌, List, Option, Some, None, Ok, Result, length}
 use Rattle.std.specs.Int.{w64, from_le_bytes}
 use Rattle.std.specs.Io.KnownBytes.{Consumes, IsAtEnd}
 use Rattle.std.specs.declared.io.Error.{Error}
 use Rattle.cli.specs.Files.{Opens}
+use Rattle.hash_keyed.specs.Poly61.{prime61}
 
 -- eight bytes of those that were left were read, and are this key, the lowest first
 abbrev pub IsKeyRead : (left left' : Option (List ℕ)) → ℕ → Type 0
@@ -21,3 +22,12 @@ HasKeys opens keys = (held : Option (List ℕ)) × opens (Ok held) × IsKeyText 
 abbrev pub AreKeysOf : Opens → (file : Option (List ℕ)) → (keys : Option (ℕ × ℕ)) → Type 0
 AreKeysOf opens None keys = keys ≡ None
 AreKeysOf opens (Some file) keys = (pair : ℕ × ℕ) × (keys ≡ Some pair) × HasKeys (opens file) pair
+
+-- two keys of poly61: neither is 0 modulo the prime, where all texts have one hash, and they differ there, so that they give two hashes
+abbrev pub ArePoly61Keys : ℕ × ℕ → Type 0
+ArePoly61Keys keys = (keys.0 % prime61 ≢ 0) × (keys.1 % prime61 ≢ 0) × (keys.0 % prime61 ≢ keys.1 % prime61)
+
+-- these are the keys of poly61 in a key file, if there is one
+abbrev pub ArePoly61KeysOf : Opens → (file : Option (List ℕ)) → (keys : Option (ℕ × ℕ)) → Type 0
+ArePoly61KeysOf opens None keys = keys ≡ None
+ArePoly61KeysOf opens (Some file) keys = (pair : ℕ × ℕ) × (keys ≡ Some pair) × HasKeys (opens file) pair × ArePoly61Keys pair

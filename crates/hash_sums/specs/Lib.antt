@@ -8,3 +8,4 @@ pub mod Program
 pub mod Summing
 pub mod Sums
 pub mod Told
+pub mod Ended

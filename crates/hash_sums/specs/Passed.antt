@@ -1,11 +1,10 @@
 -- Lists that pass.
 use Rattle.std.specs.Prelude.{ℕ, ◌≡◌, Bool, true, false, List, Option, Ok, map, All, Any}
-use Rattle.std.specs.Io.KnownBytes.{IsAtEnd}
 use Rattle.hash_lines.specs.declared.line.Kind.{Kind}
 use Rattle.hash_sums.specs.declared.check.LineCheck.{LineCheck}
 use Rattle.hash_sums.specs.declared.check.LineCheck.TheVariants.{Skipped, Improper, Checked}
 use Rattle.hash_sums.specs.declared.check.Checking.{Checking}
-use Rattle.hash_sums.specs.declared.check.Verdict.TheVariants.{Same, Different, Unread, Missing}
+use Rattle.hash_sums.specs.declared.check.Verdict.TheVariants.{Same, Different, Unread, Missing, Unkeyed}
 use Rattle.cli.specs.Files.{Opens}
 use Rattle.hash_sums.specs.Lists.{AreLines, IsLineCheckOf}
 
@@ -17,6 +16,7 @@ fails strict (Checked entry Same) = false
 fails strict (Checked entry Different) = true
 fails strict (Checked entry Unread) = true
 fails strict (Checked entry Missing) = false
+fails strict (Checked entry Unkeyed) = true
 
 -- whether a line tells the hash that its file has
 abbrev pub is_same : LineCheck → Bool
@@ -26,15 +26,14 @@ is_same (Checked entry Same) = true
 is_same (Checked entry Different) = false
 is_same (Checked entry Unread) = false
 is_same (Checked entry Missing) = false
+is_same (Checked entry Unkeyed) = false
 
 -- the list of a name was opened and read to its end, none of its lines fails it, and one tells the hash that its file has
 pub record HasPassed (kinds : List Kind) (checking : Checking) (opens : Opens) (list : List ℕ) : Type 0 where
   pub held : Option (List ℕ)
   pub opened : opens list (Ok held)
   pub lines : List (List ℕ × LineCheck)
-  pub left : Option (List ℕ)
-  pub are_lines : AreLines held (map (λ line. line.0) lines) left
-  pub end : IsAtEnd left
-  pub came : All (IsLineCheckOf kinds checking opens) lines
+  pub are_lines : AreLines held (map (λ line. line.0) lines)
+  pub came : All (IsLineCheckOf kinds checking opens list) lines
   pub none_fails : All (λ line. fails checking.strict line.1 ≡ false) lines
   pub some_is_same : Any (λ line. is_same line.1 ≡ true) lines

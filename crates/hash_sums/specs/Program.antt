@@ -1,16 +1,17 @@
 -- What the program `hashsum` is asked for, and how it ends.
-use Rattle.std.specs.Prelude.{ℕ, ◌≡◌, ◌||◌, ◌&&◌, ◌⊎◌, not, if◌then◌else◌, IsSome, Bool, false, List, [], ◌∷◌, Option, Some, None, Result, Ok, Err, map, codes}
+use Rattle.std.specs.Prelude.{ℕ, ◌≡◌, ◌||◌, ◌&&◌, ◌⊎◌, not, if◌then◌else◌, IsSome, Bool, false, List, [], ◌∷◌, Option, Some, None, Result, Ok, Err, map, is_some, codes}
 use Rattle.std.specs.Io.KnownBytes.{Keeps}
+use Rattle.std.specs.Option.{option_or, unwrap_or}
 use Rattle.hash_lines.specs.declared.line.Form.TheVariants.{Tagged, Untagged}
 use Rattle.hash_lines.specs.declared.line.Kind.{Kind}
 use Rattle.cli.specs.Call.{Choice, Saying, flag, given, operands, taking, value_of}
 use Rattle.cli.specs.Frame.{EndsRequest, request_of}
-use Rattle.cli.specs.declared.fault.Fault.{Fault}
-use Rattle.cli.specs.declared.fault.Fault.TheVariants.{NoMemory}
+use Rattle.streams.specs.declared.fault.Fault.{Fault}
+use Rattle.streams.specs.declared.fault.Fault.TheVariants.{NoMemory}
 use Rattle.cli.specs.declared.frame.Request.{Request}
 use Rattle.cli.specs.declared.frame.Request.TheVariants.{Work}
 use Rattle.cli.specs.declared.frame.Text.{Text}
-use Rattle.cli.specs.declared.outcome.Nothing.{Nothing}
+use Rattle.streams.specs.declared.fault.Nothing.{Nothing}
 use Rattle.cli.specs.declared.outcome.Outcome.{Outcome}
 use Rattle.cli.specs.declared.outcome.Outcome.TheVariants.{Usage, Reported, Failed}
 use Rattle.cli.specs.declared.outcome.Wrong.{Wrong}
@@ -23,10 +24,10 @@ use Rattle.hash_sums.specs.declared.outcome.Task.TheVariants as task
 use Rattle.hash_sums.specs.declared.sum.Summing.{Summing}
 use Rattle.cli.specs.Files.{Opens, files_or}
 use Rattle.cli.specs.Outcome.{of_run}
-use Rattle.hash_sums.specs.Keys.{AreKeysOf}
+use Rattle.hash_sums.specs.Keys.{ArePoly61KeysOf}
 use Rattle.hash_sums.specs.Lists.{EndsLists}
 use Rattle.hash_sums.specs.Summing.{EndsSums}
-use Rattle.hash_sums.specs.Sums.{is_named, kind_of, kinds, told_of}
+use Rattle.hash_sums.specs.Sums.{is_named, kind_of, kinds, told_of, Told}
 
 -- the options
 abbrev pub options : List Choice
@@ -36,10 +37,16 @@ options = taking (Some 97) (codes "algorithm") ∷ taking None (codes "key-file"
     ∷ flag None (codes "ignore-missing") ∷ flag (Some 119) (codes "warn") ∷ flag (Some 98) (codes "binary") ∷ flag (Some 116) (codes "text")
     ∷ flag None (codes "list") ∷ flag None (codes "help") ∷ flag None (codes "version") ∷ []
 
+-- the hash that a call asks for by its name, or by a key file, which only poly61 takes
+abbrev pub asked : (call : List Saying) → Option (List ℕ)
+asked call = option_or (value_of (codes "algorithm") call) (if given (codes "key-file") call then Some (codes "poly61") else None)
+
 -- how lines are checked by a hash
 abbrev pub checking_of : (call : List Saying) → Kind → Checking
 checking_of call kind = record {
   kind = kind;
+  only = is_some (asked call);
+  keyed = given (codes "key-file") call;
   quiet = given (codes "quiet") call;
   status = given (codes "status") call;
   strict = given (codes "strict") call;
@@ -64,23 +71,22 @@ gives_checking call = given (codes "status") call || given (codes "strict") call
     || given (codes "warn") call
 
 -- whether the hash that is asked for is poly61
+abbrev pub is_poly61 : Option (List ℕ) → Bool
+is_poly61 None = false
+is_poly61 (Some name) = is_named name (codes "poly61")
+
 abbrev pub asks_for_poly61 : (call : List Saying) → Bool
-asks_for_poly61 call = is_poly61 (value_of (codes "algorithm") call)
-  where
-    is_poly61 : Option (List ℕ) → Bool
-    is_poly61 None = false
-    is_poly61 (Some name) = is_named name (codes "poly61")
+asks_for_poly61 call = is_poly61 (asked call)
 
 -- what is wrong with a call, but for the name of a hash
 abbrev pub misuse_of : (call : List Saying) → Option Misuse
 misuse_of call =
     let checks = given (codes "check") call in
     let keyed = given (codes "key-file") call in
-    let asks = asks_for_poly61 call in
     if checks && gives_writing call then Some misuse.NotWithCheck
     else if not checks && gives_checking call then Some misuse.OnlyWithCheck
-    else if asks && not keyed then Some misuse.NeedsKeyFile
-    else if keyed && not asks && not checks then Some misuse.UnusedKeyFile
+    else if asks_for_poly61 call && not keyed then Some misuse.NeedsKeyFile
+    else if keyed && not (asks_for_poly61 call) then Some misuse.UnusedKeyFile
     else None
 
 -- what is to be done by a hash
@@ -95,7 +101,11 @@ work_by call None (Some kind) = Ok (work_of call kind)
 
 -- which work a call asks for
 abbrev pub task_of : List Kind → (call : List Saying) → Result Task (Wrong Misuse)
-task_of kinds call = work_by call (misuse_of call) (kind_of kinds (value_of (codes "algorithm") call))
+task_of kinds call = work_by call (misuse_of call) (kind_of kinds (asked call))
+
+-- the hashes whose lines are taken: the one that is asked for, or all
+abbrev pub taken : List Kind → Checking → List Kind
+taken kinds checking = if checking.only then checking.kind ∷ [] else kinds
 
 -- how a task ends over the files of these names; a wrong call writes nothing
 abbrev pub EndsTask : List Kind → Opens → (files : List (List ℕ)) (written written' : Option (List ℕ)) → Result Task (Wrong Misuse)
@@ -103,7 +113,8 @@ abbrev pub EndsTask : List Kind → Opens → (files : List (List ℕ)) (written
 EndsTask kinds opens files written written' (Ok (task.Sum summing)) result =
     (ended : Result Bool (Fault Nothing)) × EndsSums summing opens files written written' ended × (result ≡ of_run ended)
 EndsTask kinds opens files written written' (Ok (task.Check checking)) result =
-    (ended : Result Bool (Fault Nothing)) × EndsLists kinds checking opens files written written' ended × (result ≡ of_run ended)
+    (ended : Result Bool (Fault Nothing)) × EndsLists (taken kinds checking) checking opens files written written' ended
+    × (result ≡ of_run ended)
 EndsTask kinds opens files written written' (Err wrong) result = (result ≡ Usage wrong) × Keeps written written'
 
 -- how the program ends whose call says this
@@ -125,11 +136,15 @@ key_file call = at (request_of call) (misuse_of call)
 abbrev pub EndsForMemory : (written written' : Option (List ℕ)) → Outcome Misuse Nothing → Type 0
 EndsForMemory written written' result = (result ≡ Failed NoMemory) × Keeps written written'
 
--- how the program ends, by the hashes that can be told under the keys of its key file; or the file has no keys, and nothing is written
+-- the hashes that can be told under these keys. Without keys poly61 is there under zeros, so that its lines are known; they never pass
+abbrev pub kinds_under : Option (ℕ × ℕ) → List Told
+kinds_under keys = kinds (Some (unwrap_or keys (0, 0)))
+
+-- how the program ends, by the hashes that can be told under the keys of its key file; or it has no keys of poly61, and nothing is written
 abbrev pub EndsWithKeys : Opens → (call : List Saying) (texts : Text → List ℕ) (written written' : Option (List ℕ))
     → Outcome Misuse Nothing → Type 0
 EndsWithKeys opens call texts written written' result =
-    ((keys : Option (ℕ × ℕ)) × AreKeysOf opens (key_file call) keys × (told : List Kind) × (map told_of told ≡ kinds keys)
+    ((keys : Option (ℕ × ℕ)) × ArePoly61KeysOf opens (key_file call) keys × (told : List Kind) × (map told_of told ≡ kinds_under keys)
     × EndsCall told opens call texts written written' result)
     ⊎ (IsSome (key_file call) × (result ≡ Reported) × Keeps written written')
     ⊎ EndsForMemory written written' result
@@ -139,4 +154,4 @@ abbrev pub words_of : Misuse → List ℕ
 words_of misuse.NotWithCheck = codes "-z, --tag and --untagged do not go with -c"
 words_of misuse.OnlyWithCheck = codes "--status, --strict, --ignore-missing and -w go with -c alone"
 words_of misuse.NeedsKeyFile = codes "poly61 needs --key-file"
-words_of misuse.UnusedKeyFile = codes "--key-file goes with -c and with -a poly61 alone"
+words_of misuse.UnusedKeyFile = codes "--key-file goes with poly61 alone"

@@ -2,9 +2,9 @@
 use Rattle.std.specs.Prelude.{ℕ, ◌≡◌, if◌then◌else◌, not, Bool, List, [], ◌∷◌, ◌++◌, Option, Some, None, Result, Ok, Err, MatchOption, is_some}
 use Rattle.std.specs.Io.KnownBytes.{Appends}
 use Rattle.hash_lines.specs.Line.{line_of}
-use Rattle.cli.specs.Streams.{AppendsPart}
-use Rattle.cli.specs.declared.fault.Fault.{Fault}
-use Rattle.cli.specs.declared.outcome.Nothing.{Nothing}
+use Rattle.streams.specs.Streams.{AppendsPart}
+use Rattle.streams.specs.declared.fault.Fault.{Fault}
+use Rattle.streams.specs.declared.fault.Nothing.{Nothing}
 use Rattle.hash_sums.specs.declared.sum.Summing.{Summing}
 use Rattle.hash_sums.specs.declared.sum.Unsummed.{Unsummed}
 use Rattle.cli.specs.Files.{Opens}

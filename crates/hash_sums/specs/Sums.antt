@@ -1,5 +1,5 @@
--- The hashes that are told, over the table of hashes.
-use Rattle.std.specs.Prelude.{ℕ, Bool, ◌+◌, ◌*◌, ◌%◌, ◌^◌, ◌==◌, ◌++◌, List, Option, Some, None, [], ◌∷◌, if◌then◌else◌, map, nat_lt, codes}
+-- The hashes that are told: of the table, of 128 bits, and under keys.
+use Rattle.std.specs.Prelude.{ℕ, Bool, true, false, ◌+◌, ◌*◌, ◌%◌, ◌^◌, ◌++◌, List, Option, Some, None, [], ◌∷◌, if◌then◌else◌, map, nat_lt, codes, slice_get, unwrap_or}
 use Rattle.std.specs.Char.{to_ascii_lowercase}
 use Rattle.std.specs.List.{find, range_with_len}
 use Rattle.std.specs.Str.{bytes_eq}
@@ -8,8 +8,14 @@ use Rattle.hash_keyed.specs.Poly61State.{poly61}
 use Rattle.hash_lines.specs.declared.line.Kind.{Kind as LineKind}
 use Rattle.hash_lines.specs.declared.line.Width.{Width}
 use Rattle.hash_lines.specs.declared.line.Width.TheVariants.{Eight, Sixteen, ThirtyTwo}
-use Rattle.hash_names.specs.declared.table.Kind.{Kind}
-use Rattle.hash_names.specs.Named.{bits_of, kind_at, name_of, named, read_of, spooky128}
+use Rattle.hash_names.specs.Named.{bits_of, name_of, named, read_of}
+use Rattle.hash_names.specs.Wide.{murmur3_128_of, spooky128, xxh128}
+use Rattle.hash_sums.specs.declared.sums.Sum.{Sum}
+use Rattle.hash_sums.specs.declared.sums.Sum.TheVariants.{Table, Poly61}
+use Rattle.hash_sums.specs.declared.sums.Sum.TheVariants as sum
+use Rattle.hash_sums.specs.declared.sums.TheConstants.{SUMS}
+use Rattle.hash_sums.specs.declared.sums.Wide.{Wide}
+use Rattle.hash_sums.specs.declared.sums.Wide.TheVariants as wide
 
 -- how many digits so many bits have
 abbrev pub width_of : ℕ → Width
@@ -25,49 +31,59 @@ pub record Told : Type 0 where
 abbrev pub told_of : LineKind → Told
 told_of kind = record { name = kind.name.now; width = kind.width; which = kind.which; keys = kind.keys }
 
--- that of a row of the table, or spooky128 behind it
-abbrev pub name_in : Option Kind → List ℕ
-name_in (Some kind) = name_of kind
-name_in None = codes "spooky128"
+abbrev pub wide_name : Wide → List ℕ
+wide_name wide.Spooky = codes "spooky128"
+wide_name wide.Murmur3 = codes "murmur3_128"
+wide_name wide.Xxh3 = codes "xxh128"
 
-abbrev pub width_in : Option Kind → Width
-width_in (Some kind) = width_of (bits_of kind)
-width_in None = ThirtyTwo
+abbrev pub name_in : Sum → List ℕ
+name_in (Table kind) = name_of kind
+name_in (sum.Wide wide) = wide_name wide
+name_in Poly61 = codes "poly61"
 
-abbrev pub told_at : ℕ → Told
-told_at which = record { name = name_in (kind_at which); width = width_in (kind_at which); which = which; keys = (0, 0) }
+abbrev pub width_in : Sum → Width
+width_in (Table kind) = width_of (bits_of kind)
+width_in sum = ThirtyTwo
 
--- what it makes of a text
-abbrev pub sum_of : Option Kind → List ℕ → ℕ
-sum_of (Some kind) = read_of kind
-sum_of None = spooky128
+-- the hash at a place of the list; the default where there is none
+unfoldable pub sum_at : ℕ → Sum
+sum_at which = unwrap_or (slice_get SUMS which) (sum.Wide wide.Spooky)
 
-abbrev pub sum_at : ℕ → List ℕ → ℕ
-sum_at which = sum_of (kind_at which)
+abbrev pub told_at : (keys : ℕ × ℕ) → ℕ → Told
+told_at keys which = record { name = name_in (sum_at which); width = width_in (sum_at which); which = which; keys = keys }
 
--- the number of poly61, which no row of the table has
-abbrev pub poly61_number : ℕ
-poly61_number = 4294967294
+-- what a hash of 128 bits makes of a text
+abbrev pub wide_of : Wide → List ℕ → ℕ
+wide_of wide.Spooky = spooky128
+wide_of wide.Murmur3 = murmur3_128_of
+wide_of wide.Xxh3 = xxh128
 
 -- the hash by the polynomial at two keys, the first above the second
 abbrev pub poly61_at_both : (keys : ℕ × ℕ) → List ℕ → ℕ
 poly61_at_both keys text = poly61 (keys.0 % prime61) text * 2 ^ 64 + poly61 (keys.1 % prime61) text
 
+-- what a hash makes of a text under these keys
+abbrev pub sum_of : (keys : ℕ × ℕ) → Sum → List ℕ → ℕ
+sum_of keys (Table kind) = read_of kind
+sum_of keys (sum.Wide wide) = wide_of wide
+sum_of keys Poly61 = poly61_at_both keys
+
 -- what the hash of a line makes of a text
 abbrev pub sum_by : LineKind → List ℕ → ℕ
-sum_by kind = if kind.which == poly61_number then poly61_at_both kind.keys else sum_at kind.which
+sum_by kind = sum_of kind.keys (sum_at kind.which)
 
-abbrev pub told_under : (keys : ℕ × ℕ) → Told
-told_under keys = record { name = codes "poly61"; width = ThirtyTwo; which = poly61_number; keys = keys }
+abbrev pub takes_keys : Sum → Bool
+takes_keys Poly61 = true
+takes_keys sum = false
 
+-- poly61 stands behind 28 others, and is told if there are keys
 abbrev pub keyed : Option (ℕ × ℕ) → List Told
 keyed None = []
-keyed (Some keys) = told_under keys ∷ []
+keyed (Some keys) = told_at keys 28 ∷ []
 
--- the hashes that can be told, the default first: spooky128, which no row of the table is, the rows but for null, which is no hash, and
--- poly61 if keys are given
+-- the hashes that can be told, the default first
 abbrev pub kinds : (keys : Option (ℕ × ℕ)) → List Told
-kinds keys = told_at 4294967295 ∷ (map told_at (range_with_len 0 21) ++ keyed keys)
+kinds keys = map (told_at (0, 0)) (range_with_len 0 28) ++ keyed keys
 
 -- whether a name is this one, in letters of either case
 abbrev pub is_named : (word name : List ℕ) → Bool
@@ -79,6 +95,10 @@ kind_of [] None = None
 kind_of (kind ∷ more) None = Some kind
 kind_of kinds (Some name) = find (λ kind. is_named name kind.name.now) kinds
 
--- the hash of that name, if there is one
+-- the hash of that name, if there is one that takes no keys
 unfoldable pub number_named : List ℕ → Option (List ℕ → ℕ)
-number_named name = if bytes_eq name (codes "spooky128") then Some spooky128 else named name
+number_named name =
+    if bytes_eq name (codes "spooky128") then Some spooky128
+    else if bytes_eq name (codes "murmur3_128") then Some murmur3_128_of
+    else if bytes_eq name (codes "xxh128") then Some xxh128
+    else named name

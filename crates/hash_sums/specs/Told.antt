@@ -2,7 +2,7 @@
 use Rattle.std.specs.Prelude.{ℕ, ◌≡◌, ◌++◌, Bool, List, Option, map, All}
 use Rattle.std.specs.List.{flat_map, list_all}
 use Rattle.std.specs.Io.KnownBytes.{Appends}
-use Rattle.cli.specs.Streams.{AppendsPart}
+use Rattle.streams.specs.Streams.{AppendsPart}
 
 module _ {X : Type 0} (name : X → List ℕ) (Holds : X → Type 0) (out : X → List ℕ) (good : X → Bool) where
   -- this came of the things of these names, what is due of each was written, and whether all are good

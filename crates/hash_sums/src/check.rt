@@ -1,7 +1,7 @@
 //! Whether files have the hashes that lines tell.
 ghost use Rattle.std.specs.Prelude.{◌≡◌, true, false, map, IfOk, MatchOption};
 ghost use Rattle.std.specs.IoError.{error_kind};
-ghost use Rattle.hash_sums.specs.Checking.{behind_name, counted, is_not_found, is_skipped, passes, said, verdict_on, verdict_words, IsLineCheck, IsVerdict, TellsAny, TellsNothing};
+ghost use Rattle.hash_sums.specs.Checking.{behind_name, counted, is_itself, is_not_found, is_skipped, lacks_keys, passes, said, takes_sfv, verdict_on, verdict_words, IsLineCheck, IsVerdict, IsVerdictBy, TellsAny, TellsNone};
 ghost use Rattle.hash_sums.specs.Lists.{bare, EndsLine, EndsList, EndsListOf, EndsLists};
 ghost use Rattle.hash_sums.specs.Sums.{sum_by};
 ghost use Rattle.std.specs.Io.Buffered.{writer_contents};
@@ -9,9 +9,8 @@ ghost use Rattle.std.specs.Io.Buffered.{writer_contents};
 use crate::fault::Fault;
 use crate::reports::Reports;
 use crate::sum::{Unsummed, error_of, number_of};
-use crate::sums::told_under;
+use crate::sums::{is_keyed, is_named};
 use cli::folder::Folder;
-use cli::streams::write_out;
 use hash_lines::escape::needs_escape;
 use hash_lines::forms::parse_form;
 use hash_lines::line::{Kind, push_name};
@@ -19,6 +18,7 @@ use hash_lines::parse::{HashLine, parse_line};
 use std::alloc::{AllocError, Global};
 use std::io;
 use std::io::{BufRead, BufReader, BufWriter, Error, ErrorKind, Read, Write};
+use streams::tries::write_out;
 use text_set::lines;
 use text_set::lines::next_line;
 
@@ -30,6 +30,10 @@ const BUFFER: usize = 65536;
 pub struct Checking<'k> {
     /// By which hash lines that are not tagged are checked.
     pub kind: Kind<'k>,
+    /// Whether lines by other hashes are improper.
+    pub only: bool,
+    /// Whether there are keys for lines of poly61.
+    pub keyed: bool,
     /// Whether files that have the hash are left out.
     pub quiet: bool,
     /// Whether nothing is written.
@@ -53,6 +57,8 @@ pub enum Verdict {
     Unread,
     /// It is not there, and such files are to be left out.
     Missing,
+    /// The hash is one under keys, and there are none.
+    Unkeyed,
 }
 
 /// What came of a line.
@@ -60,7 +66,7 @@ pub enum Verdict {
 pub enum LineCheck<'k> {
     /// It is empty, or a comment.
     Skipped,
-    /// It tells no hash.
+    /// It tells no hash, or that of its own list.
     Improper,
     /// The file that it tells of was looked at.
     Checked(HashLine<'k>, Verdict),
@@ -69,7 +75,7 @@ pub enum LineCheck<'k> {
 /// How often each came of the lines of a list.
 #[derive(Clone, Copy)]
 pub struct Counts {
-    /// Lines that tell no hash.
+    /// Improper lines.
     pub improper: u64,
     /// Files that have the hash.
     pub same: u64,
@@ -79,15 +85,19 @@ pub struct Counts {
     pub unread: u64,
     /// Files that are not there, and were left out.
     pub missing: u64,
+    /// Files whose lines need keys, where there are none.
+    pub unkeyed: u64,
 }
 
-/// Whether the lines of a list pass: some file has the hash that is told of it, and none has another or could not be read.
+/// Whether the lines of a list pass: some file has the hash that is told of it, none has another or could not be read, and no line needs
+/// keys that are not there.
 pub fn passes(strict: bool, counts: &Counts) -> bool
     ensures { result ≡ passes strict counts.now }
 {
     counts.same > 0
         && counts.different == 0
         && counts.unread == 0
+        && counts.unkeyed == 0
         && !(strict && counts.improper > 0)
 }
 
@@ -115,6 +125,10 @@ fn count(counts: Counts, came: &LineCheck<'_>) -> Counts
         },
         LineCheck::Checked(_, Verdict::Missing) => Counts {
             missing: counts.missing.saturating_add(1),
+            ..counts
+        },
+        LineCheck::Checked(_, Verdict::Unkeyed) => Counts {
+            unkeyed: counts.unkeyed.saturating_add(1),
             ..counts
         },
     }
@@ -172,6 +186,42 @@ fn check_file<R: Read + Drop, F: Folder<R>>(
     verdict
 }
 
+/// Whether a line by a hash needs keys, and there are none.
+fn lacks_keys(keyed: bool, kind: Kind<'_>) -> bool
+    ensures { result ≡ lacks_keys keyed kind.entry }
+{
+    !keyed && is_keyed(kind)
+}
+
+/// The verdict on the file of an entry.
+fn verdict_by<R: Read + Drop, F: Folder<R>>(
+    folder: &F,
+    checking: Checking<'_>,
+    entry: &HashLine<'_>,
+) -> Verdict
+    ensures { IsVerdictBy checking.entry (F.opens folder.now) entry.entry.now.kind entry.entry.now.name.items
+        entry.entry.now.number result }
+{
+    if lacks_keys(checking.keyed, entry.kind) {
+        return Verdict::Unkeyed;
+    }
+    check_file(folder, entry, checking.ignore_missing)
+}
+
+/// Whether lines of SFV files are taken in the list of that name.
+fn takes_sfv(kind: Kind<'_>, list: &[u8]) -> bool
+    ensures { result ≡ takes_sfv kind.entry list.now }
+{
+    kind.name == "crc32" || is_named(b".sfv", &list[list.len().saturating_sub(4)..])
+}
+
+/// Whether a line of that name is of the list that it stands in.
+fn is_itself(list: &[u8], name: &[u8]) -> bool
+    ensures { result ≡ is_itself list.now name.now }
+{
+    list == b"-".as_slice() && name == b"-".as_slice()
+}
+
 /// Whether a line is empty or a comment.
 fn is_skipped(line: &[u8]) -> bool
     ensures { result ≡ is_skipped line.now }
@@ -187,34 +237,39 @@ fn entry_of<'k>(
     alloc: Global,
     kinds: &[Kind<'k>],
     kind: Kind<'k>,
+    sfv: bool,
     line: &[u8],
 ) -> Result<Option<HashLine<'k>>, AllocError>
-    ensures { IfOk result (λ found. MatchOption found (TellsNothing kinds.entry.now kind.entry line.now)
-        (λ entry. TellsAny kinds.entry.now kind.entry entry.kind entry.name.items entry.number line.now)) }
+    ensures { IfOk result (λ found. MatchOption found (TellsNone sfv kinds.entry.now kind.entry line.now)
+        (λ entry. TellsAny sfv kinds.entry.now kind.entry entry.kind entry.name.items entry.number line.now)) }
 {
     if let Some(entry) = parse_line(alloc, kinds, kind, line)? {
         return Ok(Some(entry));
     }
-    parse_form(alloc, kinds, kind, line)
+    parse_form(alloc, kinds, kind, sfv, line)
 }
 
-/// What comes of a line without its end.
+/// What comes of a line of the list of that name, without its end.
 fn check_line<'k, R: Read + Drop, F: Folder<R>>(
     alloc: Global,
     folder: &F,
     kinds: &[Kind<'k>],
-    kind: Kind<'k>,
-    ignore_missing: bool,
+    checking: Checking<'k>,
+    list: &[u8],
     line: &[u8],
 ) -> Result<LineCheck<'k>, AllocError>
-    ensures { IfOk result (IsLineCheck kinds.entry.now kind.entry (F.opens folder.now) ignore_missing line.now) }
+    ensures { IfOk result (IsLineCheck kinds.entry.now checking.entry (F.opens folder.now) list.now line.now) }
 {
     if is_skipped(line) {
         return Ok(LineCheck::Skipped);
     }
-    match entry_of(alloc, kinds, kind, line)? {
+    let sfv = takes_sfv(checking.kind, list);
+    match entry_of(alloc, kinds, checking.kind, sfv, line)? {
         Some(entry) => {
-            let verdict = check_file(folder, &entry, ignore_missing);
+            if is_itself(list, &entry.name) {
+                return Ok(LineCheck::Improper);
+            }
+            let verdict = verdict_by(folder, checking, &entry);
             Ok(LineCheck::Checked(entry, verdict))
         }
         None => Ok(LineCheck::Improper),
@@ -232,7 +287,7 @@ fn verdict_words(verdict: Verdict, quiet: bool, status: bool) -> &'static [u8]
         Verdict::Same => { if quiet { b"" } else { b": OK\n" } }
         Verdict::Different => b": FAILED\n",
         Verdict::Unread => b": FAILED open or read\n",
-        Verdict::Missing => b"",
+        Verdict::Missing | Verdict::Unkeyed => b"",
     }
 }
 
@@ -277,27 +332,21 @@ fn without_end(line: &[u8]) -> &[u8]
     lines::without_end(lines::without_end(line, b'\n'), b'\r')
 }
 
-/// Checks a line, with its newline if it has one, and writes what came of it.
+/// Checks a line of the list of that name, with its newline if it has one, and writes what came of it.
 fn tell_line<'k, R: Read + Drop, F: Folder<R>, W: Write + Drop>(
     alloc: Global,
     folder: &F,
     kinds: &[Kind<'k>],
     checking: Checking<'k>,
+    list: &[u8],
     line: &[u8],
     w: &mut BufWriter<W>,
 ) -> Result<LineCheck<'k>, Fault>
-    ensures { EndsLine kinds.entry.now checking.entry (F.opens folder.now) line.now
+    ensures { EndsLine kinds.entry.now checking.entry (F.opens folder.now) list.now line.now
         (writer_contents W.contents w.old) (writer_contents W.contents w.new) result }
 {
     let text = without_end(line);
-    let came = match check_line(
-        alloc,
-        folder,
-        kinds,
-        checking.kind,
-        checking.ignore_missing,
-        text,
-    ) {
+    let came = match check_line(alloc, folder, kinds, checking, list, text) {
         Ok(came) => came,
         Err(_) => return Err(Fault::NoMemory),
     };
@@ -318,6 +367,7 @@ const UNCOUNTED: Counts = Counts {
     different: 0,
     unread: 0,
     missing: 0,
+    unkeyed: 0,
 };
 
 /// Checks the lines of the list of that name, which are read here, and writes what comes of each. Returns the counts; nothing if
@@ -331,11 +381,10 @@ fn check_lines<B: BufRead, R: Read + Drop, F: Folder<R> + Reports, W: Write + Dr
     lines: &mut B,
     w: &mut BufWriter<W>,
 ) -> Result<Option<Counts>, Fault>
-    ensures { EndsList kinds.now checking.entry (F.opens folder.now) (B.remaining lines.old)
+    ensures { EndsList kinds.now checking.entry (F.opens folder.now) list.now (B.remaining lines.old)
         (writer_contents W.contents w.old) (writer_contents W.contents w.new) result }
 {
     let mut counts = UNCOUNTED;
-    let mut unkeyed = false;
     let mut line = Vec::new(alloc);
     for number in 1..u64::MAX {
         match next_line(lines, b'\n', &mut line) {
@@ -346,14 +395,10 @@ fn check_lines<B: BufRead, R: Read + Drop, F: Folder<R> + Reports, W: Write + Dr
                 return Ok(None);
             }
         }
-        match tell_line(alloc, folder, kinds, checking, &line, w) {
+        match tell_line(alloc, folder, kinds, checking, list, &line, w) {
             Ok(came) => {
                 counts = count(counts, &came);
                 warn(folder, checking.warn, list, number, &came);
-                if !unkeyed && needs_keys(alloc, checking.kind, &came, &line) {
-                    folder.unkeyed(list);
-                    unkeyed = true;
-                }
             }
             Err(fault) => return Err(fault),
         }
@@ -367,20 +412,6 @@ fn warn<F: Reports>(reports: &F, warn: bool, list: &[u8], number: u64, came: &Li
         if warn {
             reports.improper(list, number);
         }
-    }
-}
-
-/// Whether an improper line would tell a hash if there were keys.
-fn needs_keys(alloc: Global, kind: Kind<'static>, came: &LineCheck<'_>, line: &[u8]) -> bool {
-    match came {
-        LineCheck::Improper => {
-            let keyed = [told_under((0, 0))];
-            matches!(
-                entry_of(alloc, &keyed, kind, without_end(line)),
-                Ok(Some(_))
-            )
-        }
-        _ => false,
     }
 }
 

@@ -63,21 +63,12 @@ impl Reports for Checked<'_> {
         }
     }
 
-    fn unkeyed(&self, list: &[u8]) {
-        if self.status {
-            return;
-        }
-        let program = self.program;
-        if let Ok(list) = quoted(self.rt.alloc(), list) {
-            let _ = eprintln!(self.rt; "{program}: {list}: lines of poly61 need --key-file");
-        }
-    }
-
     fn ended(&self, list: &[u8], counts: &Counts) {
         let proper = counts.same > 0
             || counts.different > 0
             || counts.unread > 0
-            || counts.missing > 0;
+            || counts.missing > 0
+            || counts.unkeyed > 0;
         let program = self.program;
         if let Ok(list) = quoted(self.rt.alloc(), list) {
             if !proper {
@@ -102,7 +93,9 @@ impl Reports for Checked<'_> {
                 "computed hash did NOT match",
                 "computed hashes did NOT match",
             );
-            if counts.same == 0 && counts.different == 0 && counts.unread == 0 {
+            if counts.unkeyed > 0 {
+                let _ = eprintln!(self.rt; "{program}: {list}: lines of poly61 need --key-file");
+            } else if counts.same == 0 && counts.different == 0 && counts.unread == 0 {
                 let _ = eprintln!(self.rt; "{program}: {list}: no file was verified");
             }
         }

@@ -1,6 +1,6 @@
 //! What ends a run before its output is whole.
-use cli::fault;
-use cli::outcome::Nothing;
+use streams::fault;
+use streams::fault::Nothing;
 
 /// Why a run ended before its output was whole.
 pub type Fault = fault::Fault<Nothing>;

@@ -2,7 +2,7 @@
 ghost use Rattle.std.specs.Prelude.{◌<◌, ◌≤◌, IfOk, IfSome, IsSome, MatchOption};
 ghost use Rattle.std.specs.Option.{option_map};
 ghost use Rattle.hash_names.specs.Reading.{Hashes, read};
-ghost use Rattle.hash_sums.specs.Keys.{AreKeysOf, HasKeys, IsKeyRead, IsKeyText};
+ghost use Rattle.hash_sums.specs.Keys.{AreKeysOf, ArePoly61Keys, ArePoly61KeysOf, HasKeys, IsKeyRead, IsKeyText};
 ghost use Rattle.hash_sums.specs.Sums.{poly61_at_both};
 
 use cli::folder::Folder;
@@ -11,6 +11,9 @@ use hash_names::reading::Unhashed;
 use hashers::reader::hash_stream;
 use std::io;
 use std::io::{Error, ErrorKind, Read};
+
+/// The prime of poly61.
+const PRIME61: u64 = (1 << 61) - 1;
 
 /// poly61 under two keys of what is read, the hash at the first key above that at the second.
 pub(crate) fn hash_of_poly61<R: Read, const N: usize>(
@@ -82,6 +85,53 @@ pub fn keys_of<R: Read + Drop, F: Folder<R>>(folder: &F, name: &[u8]) -> Option<
             folder.failed(name, &error);
             None
         }
+    }
+}
+
+/// What is wrong with two keys as those of poly61, if something is.
+fn fault_of(keys: (u64, u64)) -> Option<&'static str>
+    ensures { MatchOption result (ArePoly61Keys keys) (λ words. ¬ (ArePoly61Keys keys)) }
+{
+    let (first, second) = (keys.0 % PRIME61, keys.1 % PRIME61);
+    if first == 0 || second == 0 {
+        return Some("a key is 0 modulo 2^61 - 1; make others");
+    }
+    if first == second {
+        return Some("the two keys are equal modulo 2^61 - 1; make others");
+    }
+    None
+}
+
+/// The two keys of poly61 in the file of that name. `None` if it has none, or no two such keys, which is told.
+fn poly61_keys_of<R: Read + Drop, F: Folder<R>>(folder: &F, name: &[u8]) -> Option<(u64, u64)>
+    ensures { IfSome result (λ keys. HasKeys (F.opens folder.now name.now) keys × ArePoly61Keys keys) }
+{
+    match keys_of(folder, name) {
+        Some(keys) => match fault_of(keys) {
+            None => Some(keys),
+            Some(words) => {
+                folder.failed(name, &Error::new(ErrorKind::InvalidData, words));
+                None
+            }
+        },
+        None => None,
+    }
+}
+
+/// The keys of poly61 in a key file, if there is one. `None` if it has none, or no two such keys, which is told.
+pub fn poly61_keys_for<R: Read + Drop, F: Folder<R>>(
+    folder: &F,
+    file: Option<&[u8]>,
+) -> Option<Option<(u64, u64)>>
+    ensures { let file = option_map (λ name. name.now) file.entry in
+        MatchOption result (IsSome file) (ArePoly61KeysOf (F.opens folder.now) file) }
+{
+    match file {
+        None => Some(None),
+        Some(file) => match poly61_keys_of(folder, file) {
+            Some(keys) => Some(Some(keys)),
+            None => None,
+        },
     }
 }
 

@@ -1,13 +1,19 @@
 //! What a check is proved to see, as laws with no code of their own, over any files: of the text that was read of a file. Of a file whose
 //! bytes are not known, as one of the disk, they say that some text has the hash. A text's length is that of its file. Behind them what they
 //! say of each hash of the table, in words.
-ghost use Rattle.std.specs.Prelude.{◌≡◌, ◌≢◌, ◌+◌, ◌^◌, ◌≤◌, ℕ, Bool, true, max, All, List, Ok, Option, Some, codes, length, map};
+ghost use Rattle.std.specs.Prelude.{◌≡◌, ◌≢◌, ◌+◌, ◌^◌, ◌≤◌, ℕ, Bool, true, false, max, All, List, [], ◌∷◌, Ok, Option, Some, codes, length, map};
+ghost use Rattle.cli.specs.Call.{given, Saying};
+ghost use Rattle.cli.specs.Frame.{request_of};
 ghost use Rattle.cli.specs.Outcome.{status_of};
-ghost use Rattle.cli.specs.declared.outcome.Nothing.{Nothing};
+ghost use Rattle.cli.specs.declared.frame.Request.TheVariants.{Work};
+ghost use Rattle.cli.specs.declared.frame.Text.{Text};
+ghost use Rattle.streams.specs.declared.fault.Nothing.{Nothing};
 ghost use Rattle.cli.specs.declared.outcome.Outcome.{Outcome};
 ghost use Rattle.hashers.specs.DifferWithin.{DifferAtOnePlace, DifferWithin};
 ghost use Rattle.hashers.specs.Fx.{words32, words64};
 ghost use Rattle.hashers.specs.Text.{IsText};
+ghost use Rattle.hash_laws.specs.DifferWithin.{DifferInOneBlock};
+ghost use Rattle.block_laws.specs.Xxh32Words.{DifferInOneWord};
 ghost use Rattle.hash_keyed.specs.Poly61.{prime61, word_count, ArePairs};
 ghost use Rattle.hash_lines.specs.declared.line.Kind.{Kind as LineKind};
 ghost use Rattle.hash_lines.specs.Told.{AreTags};
@@ -16,13 +22,17 @@ ghost use Rattle.hash_sums.specs.declared.check.Checking.{Checking};
 ghost use Rattle.hash_sums.specs.declared.check.Verdict.TheVariants.{Same};
 ghost use Rattle.hash_sums.specs.declared.outcome.Misuse.{Misuse};
 ghost use Rattle.hash_sums.specs.declared.outcome.Task.TheVariants.{Check};
-ghost use Rattle.hash_sums.specs.Checking.{IsVerdict};
+ghost use Rattle.hash_sums.specs.Checking.{IsVerdict, TellsAny};
+ghost use Rattle.hash_sums.specs.Ended.{HasEndedWell};
 ghost use Rattle.hash_sums.specs.Laws.{DifferAtOneWord, HoldsOnly, NeverPasses};
 ghost use Rattle.hash_sums.specs.Lists.{EndsLists};
 ghost use Rattle.hash_sums.specs.Passed.{HasPassed};
-ghost use Rattle.hash_sums.specs.Program.{EndsTask};
-ghost use Rattle.hash_sums.specs.Sums.{kinds, number_named, poly61_at_both, sum_at, told_at, told_of};
+ghost use Rattle.hash_sums.specs.Program.{asks_for_poly61, taken, EndsTask, EndsWithKeys};
+ghost use Rattle.hash_sums.specs.Sums.{kinds, name_in, number_named, poly61_at_both, sum_by, sum_of, takes_keys, told_of};
+ghost use Rattle.hash_sums.specs.declared.sums.Sum.{Sum};
 
+use crate::sums::Sum;
+use block_laws::{one_changed_word_shows_in_murmur3_32, one_changed_word_shows_in_xxh32};
 use cli::folder::Folder;
 use hash_keyed::laws::few_pairs_for_two_texts;
 use hash_lines::laws::tags_by_their_names;
@@ -39,9 +49,9 @@ use hashers::oz::{DJB2Hasher, LoseLoseHasher, SDBMHasher};
 use hashers::pigeon::Bricolage;
 use std::io::Read;
 
-/// Each hash that a line can tell, which is that of its number, is the one of its name.
+/// Each hash that a line can tell and that takes no keys is the one of its name.
 pub fn each_kind_has_the_hash_of_its_name()
-    ensures { (which : ℕ) → number_named (told_at which).name ≡ Some (sum_at which) }
+    ensures { (sum : Sum) (keys : ℕ × ℕ) → takes_keys sum ≡ false → number_named (name_in sum) ≡ Some (sum_of keys sum) }
 {}
 
 /// The hashes that a line can tell have tags, no two the same: so what is written of a file is read as that, and says one thing.
@@ -112,6 +122,16 @@ pub fn a_changed_word_never_passes<R: Read, F: Folder<R>>()
     one_changed_word_shows_fx();
 }
 
+/// A file of the text's length that differs from the text of its line only within four bytes from a place that 4 divides never passes the
+/// check by MurmurHash3 and XXH32 of 32 bits; by MurmurHash3 also only within the up to three bytes behind.
+pub fn a_changed_block_never_passes<R: Read, F: Folder<R>>()
+    ensures murmur3_32 { NeverPasses F.opens (codes "murmur3_32") (DifferInOneBlock 4) }
+    ensures xxh32 { NeverPasses F.opens (codes "xxh32") DifferInOneWord }
+{
+    one_changed_word_shows_in_murmur3_32();
+    one_changed_word_shows_in_xxh32();
+}
+
 /// If a file holds another text than the one that its line was made of, it passes the check by poly61 under few pairs of
 /// keys only: at most the square of one more than the longer text has words.
 pub fn few_pairs_pass_another_text<R: Read, F: Folder<R>>()
@@ -135,28 +155,53 @@ pub fn lists_that_pass<R: Read, F: Folder<R>>()
 {}
 
 /// Where a check ends with the status 0, each of its lists was opened and read to its end, and none of their lines fails: of each that
-/// tells a hash, the file was opened and the text that was read of it has this hash, or it is not there and such files are left out. Of
-/// at least one line of each list, the file has the hash.
+/// tells a hash, in any form, the file was opened and the text that was read of it has this hash, or it is not there and such files are
+/// left out; none needs keys that are not given. Of at least one line of each list, the file has the hash.
 pub fn a_check_that_ends_well<R: Read, F: Folder<R>>()
     ensures { (folder : F) (kinds : List LineKind) (checking : Checking) (lists : List (List ℕ))
         (written written' : Option (List ℕ)) (outcome : Outcome Misuse Nothing)
         → EndsTask kinds (F.opens folder) lists written written' (Ok (Check checking)) outcome
-        → status_of outcome ≡ 0 → All (HasPassed kinds checking (F.opens folder)) lists }
+        → status_of outcome ≡ 0 → All (HasPassed (taken kinds checking) checking (F.opens folder)) lists }
 {}
 
-/// What a check by a hash of the table is proved to see in a file of the same length, by these laws, in words. `None` stands for spooky128.
-pub fn seen(kind: Option<Kind>) -> &'static str {
-    match kind {
-        Some(Kind::Fnv1a32 | Kind::Fnv1At32) =>
+/// The same of a call with `-c`: its lists passed, with lines of the hash alone that `-a` or a key file asks for, and of all hashes without
+/// these. Lines of poly61 are under the keys in the key file, which are none that pass every file.
+pub fn a_call_that_ends_well<R: Read, F: Folder<R>>()
+    ensures { (folder : F) (call : List Saying) (texts : Text → List ℕ) (written written' : Option (List ℕ))
+        (outcome : Outcome Misuse Nothing) → request_of call ≡ Work → given (codes "check") call ≡ true
+        → EndsWithKeys (F.opens folder) call texts written written' outcome
+        → status_of outcome ≡ 0 → HasEndedWell (F.opens folder) call }
+{}
+
+/// Where one hash is asked for, each line that is checked is of that hash, in whichever form it is.
+pub fn lines_of_one_hash()
+    ensures { (sfv : Bool) (kind other : LineKind) (name : List ℕ) (number : ℕ) (line : List ℕ)
+        → TellsAny sfv (kind ∷ []) kind other name number line → other ≡ kind }
+{}
+
+/// Where poly61 is asked for, the hash of each line is that at the keys in the key file.
+pub fn lines_under_the_keys<R: Read, F: Folder<R>>()
+    ensures { (folder : F) (call : List Saying) → asks_for_poly61 call ≡ true
+        → (ended : HasEndedWell (F.opens folder) call) → (keys : ℕ × ℕ) → ended.keys ≡ Some keys
+        → sum_by ended.kind ≡ poly61_at_both keys }
+{}
+
+/// What a check by a hash is proved to see in a file of the same length, by these laws, in words.
+pub fn seen(sum: Sum) -> &'static str {
+    match sum {
+        Sum::Table(Kind::Fnv1a32 | Kind::Fnv1At32) =>
             "1 changed byte, or changes within 2 neighbouring bytes",
-        Some(Kind::Fnv1a64 | Kind::Fnv1At64 | Kind::Sdbm) =>
+        Sum::Table(Kind::Fnv1a64 | Kind::Fnv1At64 | Kind::Sdbm) =>
             "1 changed byte, or changes within 3 neighbouring bytes",
-        Some(Kind::Djb2 | Kind::Djb2Add) => "1 changed byte, or changes within 6 in the low 5 bits",
-        Some(Kind::Crc32 | Kind::Crc32c) =>
+        Sum::Table(Kind::Djb2 | Kind::Djb2Add) =>
+            "1 changed byte, or changes within 6 in the low 5 bits",
+        Sum::Table(Kind::Crc32 | Kind::Crc32c) =>
             "1 changed byte, or changes within 32 neighbouring bits",
-        Some(Kind::FxHash | Kind::FxHash64) => "1 changed word, of 8 bytes",
-        Some(Kind::FxHash32) => "1 changed word, of 4 bytes",
-        Some(Kind::LoseLose | Kind::Bricolage | Kind::Oaat | Kind::Joaat) => "1 changed byte",
+        Sum::Table(Kind::FxHash | Kind::FxHash64) => "1 changed word, of 8 bytes",
+        Sum::Table(Kind::FxHash32 | Kind::Murmur3At32 | Kind::Xxh32) =>
+            "1 changed word, of 4 bytes",
+        Sum::Table(Kind::LoseLose | Kind::Bricolage | Kind::Oaat | Kind::Joaat) => "1 changed byte",
+        Sum::Poly61 => "any change, but under few keys",
         _ => "no promise",
     }
 }

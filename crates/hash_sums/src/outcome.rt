@@ -3,15 +3,16 @@ ghost use Rattle.std.specs.Prelude.{◌≡◌, ◌⊎◌, map, IfOk};
 ghost use Rattle.std.specs.Option.{option_map};
 ghost use Rattle.std.specs.Io.Buffered.{writer_contents};
 ghost use Rattle.std.specs.Io.KnownBytes.{Keeps};
-ghost use Rattle.cli.specs.declared.fault.Fault.TheVariants.{NoMemory};
+ghost use Rattle.streams.specs.declared.fault.Fault.TheVariants.{NoMemory};
 ghost use Rattle.cli.specs.declared.outcome.Outcome.TheVariants.{Failed};
 ghost use Rattle.cli.specs.Call.{call_of, choices, sayings, texts};
 ghost use Rattle.cli.specs.Frame.{text_of};
-ghost use Rattle.hash_sums.specs.Program.{asks_for_poly61, checking_of, gives_checking, gives_writing, key_file, misuse_of, options, summing_of, task_of, words_of, work_of, EndsCall, EndsTask, EndsWithKeys};
+ghost use Rattle.hash_sums.specs.Lists.{EndsLists};
+ghost use Rattle.hash_sums.specs.Program.{asked, asks_for_poly61, checking_of, gives_checking, gives_writing, key_file, misuse_of, options, summing_of, taken, task_of, words_of, work_of, EndsCall, EndsTask, EndsWithKeys};
 
 use crate::check::{Checking, check_lists};
 use crate::fault::Fault;
-use crate::keys::keys_for;
+use crate::keys::poly61_keys_for;
 use crate::reports::Reports;
 use crate::sum::{Summing, sum_files};
 use crate::sums::{is_named, kind_of, kinds};
@@ -19,11 +20,12 @@ use cli::call::{Call, Opt, flag, taking};
 use cli::folder::{Folder, files};
 use cli::frame::{About, Request, request_of, text_of};
 use cli::outcome;
-use cli::outcome::{Nothing, Words, of_run, of_telling};
-use cli::streams::write_out;
+use cli::outcome::{Words, of_run, of_telling};
 use hash_lines::line::{Form, Kind};
 use std::alloc::{AllocError, Global};
 use std::io::{BufWriter, Read, Write};
+use streams::fault::Nothing;
+use streams::tries::write_out;
 
 /// The work that a call asks for.
 #[derive(Clone, Copy)]
@@ -43,7 +45,7 @@ pub enum Misuse {
     OnlyWithCheck,
     /// It asks for poly61, and gives no key file.
     NeedsKeyFile,
-    /// It gives a key file, and neither asks for poly61 nor checks lines.
+    /// It gives a key file, and asks for another hash than poly61.
     UnusedKeyFile,
 }
 
@@ -55,7 +57,7 @@ impl Words for Misuse {
             Misuse::NotWithCheck => "-z, --tag and --untagged do not go with -c",
             Misuse::OnlyWithCheck => "--status, --strict, --ignore-missing and -w go with -c alone",
             Misuse::NeedsKeyFile => "poly61 needs --key-file",
-            Misuse::UnusedKeyFile => "--key-file goes with -c and with -a poly61 alone",
+            Misuse::UnusedKeyFile => "--key-file goes with poly61 alone",
         }
     }
 }
@@ -97,12 +99,28 @@ pub fn call_of<'a>(alloc: Global, words: &'a [Vec<u8>]) -> Result<Call<'a>, Allo
     cli::call::call_of(alloc, &options(), words)
 }
 
+/// The hash that a call asks for by its name, or by a key file, which only poly61 takes.
+fn asked<'a>(call: &Call<'a>) -> Option<&'a [u8]>
+    ensures { option_map (λ name. name.now) result ≡ asked (sayings call.now.said.items) }
+{
+    match call.value(b"algorithm") {
+        Some(name) => Some(name),
+        None => if call.gives(b"key-file") {
+            Some(b"poly61")
+        } else {
+            None
+        },
+    }
+}
+
 /// How lines are checked.
 fn checking_of(call: &Call<'_>, kind: Kind<'static>) -> Checking<'static>
     ensures { result ≡ checking_of (sayings call.now.said.items) kind.entry }
 {
     Checking {
         kind,
+        only: asked(call).is_some(),
+        keyed: call.gives(b"key-file"),
         quiet: call.gives(b"quiet"),
         status: call.gives(b"status"),
         strict: call.gives(b"strict"),
@@ -147,7 +165,7 @@ fn gives_checking(call: &Call<'_>) -> bool
 fn asks_for_poly61(call: &Call<'_>) -> bool
     ensures { result ≡ asks_for_poly61 (sayings call.now.said.items) }
 {
-    match call.value(b"algorithm") {
+    match asked(call) {
         Some(name) => is_named(name, b"poly61"),
         None => false,
     }
@@ -169,7 +187,7 @@ fn misuse_of(call: &Call<'_>) -> Option<Misuse>
     if asks && !keyed {
         return Some(Misuse::NeedsKeyFile);
     }
-    if keyed && !asks && !checks {
+    if keyed && !asks {
         return Some(Misuse::UnusedKeyFile);
     }
     None
@@ -193,10 +211,29 @@ fn task_of(kinds: &[Kind<'static>], call: &Call<'_>) -> Result<Task, Wrong>
     if let Some(misuse) = misuse_of(call) {
         return Err(Wrong::Own(misuse));
     }
-    match kind_of(kinds, call.value(b"algorithm")) {
+    match kind_of(kinds, asked(call)) {
         Some(kind) => Ok(work_of(call, kind)),
         None => Err(Wrong::UnknownName),
     }
+}
+
+/// Checks the lines of these lists, by the hash that is asked for alone, or by all.
+fn check_taken<R: Read + Drop, F: Folder<R> + Reports, W: Write + Drop>(
+    alloc: Global,
+    folder: &F,
+    kinds: &[Kind<'static>],
+    checking: Checking<'static>,
+    lists: &[&[u8]],
+    w: &mut BufWriter<W>,
+) -> Result<bool, Fault>
+    ensures { EndsLists (taken kinds.now checking.entry) checking.entry (F.opens folder.now)
+        (map (λ list. list.now) lists.now)
+        (writer_contents W.contents w.old) (writer_contents W.contents w.new) result }
+{
+    if checking.only {
+        return check_lists(alloc, folder, &[checking.kind], checking, lists, w);
+    }
+    check_lists(alloc, folder, kinds, checking, lists, w)
 }
 
 /// Does a task over these files.
@@ -213,7 +250,7 @@ fn ended<R: Read + Drop, F: Folder<R> + Reports, W: Write + Drop>(
 {
     match task {
         Ok(Task::Sum(summing)) => of_run(sum_files(alloc, folder, summing, files, w)),
-        Ok(Task::Check(checking)) => of_run(check_lists(alloc, folder, kinds, checking, files, w)),
+        Ok(Task::Check(checking)) => of_run(check_taken(alloc, folder, kinds, checking, files, w)),
         Err(wrong) => Outcome::Usage(wrong),
     }
 }
@@ -254,7 +291,7 @@ fn key_file<'a>(call: &Call<'a>) -> Option<&'a [u8]>
 }
 
 /// Does what the call asks for, by the hashes that can be told, and by poly61 under the keys of its key file. If the call
-/// gives one, it is read first; if it has no keys, that is told, and nothing else is read or written.
+/// gives one, it is read first; if it has no keys of poly61, that is told, and nothing else is read or written.
 pub fn outcome_with_keys<R: Read + Drop, F: Folder<R> + Reports, W: Write + Drop>(
     alloc: Global,
     folder: &F,
@@ -266,9 +303,9 @@ pub fn outcome_with_keys<R: Read + Drop, F: Folder<R> + Reports, W: Write + Drop
         (text_of about.entry.help.now about.entry.version.now about.entry.list.now)
         (writer_contents W.contents w.old) (writer_contents W.contents w.new) result }
 {
-    match keys_for(folder, key_file(call)) {
+    match poly61_keys_for(folder, key_file(call)) {
         None => Outcome::Reported,
-        Some(keys) => match kinds(alloc, keys) {
+        Some(keys) => match kinds(alloc, Some(keys.unwrap_or((0, 0)))) {
             Ok(kinds) => outcome_of(alloc, folder, &kinds, call, about, w),
             Err(_) => Outcome::Failed(Fault::NoMemory),
         },

@@ -3,11 +3,8 @@ use crate::check::Counts;
 
 /// Who is told of what a check finds in its lists.
 pub trait Reports {
-    /// The line of that number in the list of that name is none that tells a hash.
+    /// The line of that number in the list of that name is improper.
     fn improper(&self, list: &[u8], line: u64);
-
-    /// Some line of the list of that name tells a hash under keys, and no keys were given. It counts as improper.
-    fn unkeyed(&self, list: &[u8]);
 
     /// The list of that name ended, and this came of its lines.
     fn ended(&self, list: &[u8], counts: &Counts);

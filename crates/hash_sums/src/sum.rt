@@ -2,7 +2,7 @@
 ghost use Rattle.std.specs.Prelude.{◌≡◌, map, IfOk, OnOk, OnErr};
 ghost use Rattle.std.specs.Io.Buffered.{writer_contents};
 ghost use Rattle.std.specs.Io.KnownBytes.{Appends};
-ghost use Rattle.cli.specs.Streams.{AppendsPart};
+ghost use Rattle.streams.specs.Streams.{AppendsPart};
 ghost use Rattle.hash_sums.specs.Files.{SumsFile};
 ghost use Rattle.hash_sums.specs.Summing.{EndsSum, EndsSums, sum_line};
 ghost use Rattle.hash_sums.specs.Sums.{sum_by};
@@ -10,11 +10,11 @@ ghost use Rattle.hash_sums.specs.Sums.{sum_by};
 use crate::fault::Fault;
 use crate::sums::number_by;
 use cli::folder::Folder;
-use cli::streams::write_out;
 use hash_lines::line::{Form, Kind, push_line};
 use hash_names::reading::Unhashed;
 use std::alloc::{AllocError, Global};
 use std::io::{BufWriter, Error, ErrorKind, Read, Write};
+use streams::tries::write_out;
 
 /// How files are summed: by which hash, and in lines of which form.
 #[derive(Clone, Copy)]

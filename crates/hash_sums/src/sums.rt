@@ -1,5 +1,5 @@
 //! The hashes by their names: how many digits the numbers of each have, and the number of what a reader gives.
-ghost use Rattle.std.specs.Prelude.{◌≡◌, ◌+◌, ◌*◌, ◌^◌, map, IfOk};
+ghost use Rattle.std.specs.Prelude.{◌≡◌, map, IfOk};
 ghost use Rattle.std.specs.List.{find};
 ghost use Rattle.std.specs.Option.{option_map};
 ghost use Rattle.std.proofs.Common.{◌∙◌};
@@ -7,20 +7,22 @@ ghost use Rattle.hash_names.specs.Named.{pieced};
 ghost use Rattle.hash_names.specs.Reading.{Hashes, read};
 ghost use Rattle.hash_names.specs.ReadingLaws.{Hashes-agree};
 ghost use Rattle.hashers.specs.Text.{IsText};
-ghost use Rattle.hash_sums.specs.Sums.{is_named, kind_of, kinds, sum_at, sum_by, told_at, told_of, told_under, width_of};
+ghost use Rattle.hash_sums.specs.Sums.{is_named, kind_of, kinds, name_in, sum_at, sum_by, takes_keys, told_at, told_of, wide_name, wide_of, width_in, width_of};
 
 use crate::keys::hash_of_poly61;
 use hash_keyed::pair::poly61_pair;
-use hash_lines::line::{Kind, Width};
+use hash_lines::line::{Kind as LineKind, Width};
+use hash_murmur3::Murmur3Hasher128;
 use hash_names::reading::{
-    Unhashed, hash_of_pieces, hash_of_spooky_v1, hash_of_spooky128, hash_of_text,
+    Unhashed, hash_of_pieces, hash_of_spooky_v1, hash_of_text, hash_of_wide,
 };
-use hash_names::table::{by_kind, kind_at};
+use hash_names::table::{Kind, by_kind};
 use hash_names::task::HashTask;
+use hash_names::wide::{WideHash, both};
+use hash_xxh3::Xxh3Hasher;
 use hashers::jenkins::spooky_hash::{SpookyHasher, spooky_v1};
-use hashers::laws::{Piecewise, Streamed, bytes_are_a_text, hash_of};
+use hashers::laws::{Piecewise, Streamed, bytes_are_a_text, hash_of, run_streamed};
 use std::alloc::{AllocError, Global};
-use std::hash::Hasher;
 use std::io::Read;
 use std::marker::PhantomData;
 
@@ -30,14 +32,67 @@ const BUFFER: usize = 65536;
 /// How many bytes are fed at once to a hasher to which cuts show.
 const PIECE: usize = 4096;
 
-/// Which hash is that of 128 bits: a number that no row of the table has.
-const SPOOKY128: u32 = u32::MAX;
+/// The keys of a hash that takes none.
+const NO_KEYS: (u64, u64) = (0, 0);
 
-/// Which hash is the one under keys: another such number.
-const POLY61: u32 = u32::MAX - 1;
+/// A hash of 128 bits, under the seed 0.
+#[derive(Clone, Copy)]
+pub enum Wide {
+    /// SpookyHash, under two seeds.
+    Spooky,
+    /// MurmurHash3_x64_128.
+    Murmur3,
+    /// XXH3.
+    Xxh3,
+}
 
-/// How many rows the table has without its last, null, which is no hash.
-const ROWS: u32 = 21;
+/// A hash that a line can tell.
+#[derive(Clone, Copy)]
+pub enum Sum {
+    /// One of the table.
+    Table(Kind),
+    /// One of 128 bits.
+    Wide(Wide),
+    /// The one under keys.
+    Poly61,
+}
+
+/// The hashes that a line can tell, each by its place; the default is the first. Of the table null is no hash, murmur3 is half of 128
+/// bits, and SipHash under the key 0 would pass forgeries.
+pub const SUMS: [Sum; 29] = [
+    Sum::Wide(Wide::Spooky),
+    Sum::Table(Kind::Fnv1a32),
+    Sum::Table(Kind::Fnv1a64),
+    Sum::Table(Kind::Djb2),
+    Sum::Table(Kind::Sdbm),
+    Sum::Table(Kind::LoseLose),
+    Sum::Table(Kind::Bricolage),
+    Sum::Table(Kind::Oaat),
+    Sum::Table(Kind::Lookup3),
+    Sum::Table(Kind::Spooky),
+    Sum::Table(Kind::SpookyV1),
+    Sum::Table(Kind::PassThrough),
+    Sum::Table(Kind::FxHash),
+    Sum::Table(Kind::FxHash32),
+    Sum::Table(Kind::FxHash64),
+    Sum::Table(Kind::Crc32),
+    Sum::Table(Kind::Crc32c),
+    Sum::Table(Kind::Fnv1At32),
+    Sum::Table(Kind::Fnv1At64),
+    Sum::Table(Kind::Djb2Add),
+    Sum::Table(Kind::Joaat),
+    Sum::Table(Kind::Elf),
+    Sum::Table(Kind::Xxh32),
+    Sum::Table(Kind::Xxh64),
+    Sum::Table(Kind::Xxh3),
+    Sum::Wide(Wide::Xxh3),
+    Sum::Table(Kind::Murmur3At32),
+    Sum::Wide(Wide::Murmur3),
+    Sum::Poly61,
+];
+
+/// How many of them take no keys: those in front of poly61.
+const UNKEYED: u32 = 28;
 
 /// How many digits so many bits have.
 fn width_of(bits: u32) -> Width
@@ -50,60 +105,93 @@ fn width_of(bits: u32) -> Width
     }
 }
 
-/// The kind of that number, which takes no keys.
-fn told_at(which: u32) -> Kind<'static>
-    ensures { told_of result ≡ told_at which }
-{
-    match kind_at(which) {
-        Some(kind) => {
-            let row = kind.row();
-            Kind {
-                name: row.name,
-                width: width_of(row.bits),
-                which,
-                keys: (0, 0),
-            }
+impl Wide {
+    /// Its name.
+    fn name(self) -> &'static str
+        ensures { result.now ≡ wide_name self }
+    {
+        match self {
+            Wide::Spooky => "spooky128",
+            Wide::Murmur3 => "murmur3_128",
+            Wide::Xxh3 => "xxh128",
         }
-        None => Kind {
-            name: "spooky128",
-            width: Width::ThirtyTwo,
-            which,
-            keys: (0, 0),
-        },
     }
 }
 
-/// poly61 under two keys.
-pub(crate) fn told_under(keys: (u64, u64)) -> Kind<'static>
-    ensures { told_of result ≡ told_under keys }
+impl Sum {
+    /// Its name.
+    pub fn name(self) -> &'static str
+        ensures { result.now ≡ name_in self }
+    {
+        match self {
+            Sum::Table(kind) => kind.row().name,
+            Sum::Wide(wide) => wide.name(),
+            Sum::Poly61 => "poly61",
+        }
+    }
+
+    /// How many digits its numbers have.
+    fn width(self) -> Width
+        ensures { result ≡ width_in self }
+    {
+        match self {
+            Sum::Table(kind) => width_of(kind.row().bits),
+            Sum::Wide(_) | Sum::Poly61 => Width::ThirtyTwo,
+        }
+    }
+}
+
+/// The hash at that place; the default where there is none.
+#[tactic(auto, unfolding(crate::specs::Sums::sum_at))]
+pub fn sum_at(which: u32) -> Sum
+    ensures { result ≡ sum_at which }
 {
-    Kind {
-        name: "poly61",
-        width: Width::ThirtyTwo,
-        which: POLY61,
+    match SUMS.get(which as usize) {
+        Some(sum) => *sum,
+        None => Sum::Wide(Wide::Spooky),
+    }
+}
+
+/// The kind of the hash at that place, under these keys.
+fn told_at(keys: (u64, u64), which: u32) -> LineKind<'static>
+    ensures { told_of result ≡ told_at keys which }
+{
+    let sum = sum_at(which);
+    LineKind {
+        name: sum.name(),
+        width: sum.width(),
+        which,
         keys,
     }
 }
 
-/// The hash by default: that of 128 bits.
-pub fn default_kind() -> Kind<'static>
-    ensures { told_of result ≡ told_at SPOOKY128 }
+/// Whether a hash is the one under keys.
+pub(crate) fn is_keyed(kind: LineKind<'_>) -> bool
+    ensures { result ≡ takes_keys (sum_at kind.entry.which) }
 {
-    told_at(SPOOKY128)
+    match sum_at(kind.which) {
+        Sum::Poly61 => true,
+        _ => false,
+    }
 }
 
-/// The hashes that can be told, the default first: that of 128 bits, the rows of the table but for null, and poly61 if
-/// there are keys.
-pub fn kinds(alloc: Global, keys: Option<(u64, u64)>) -> Result<Vec<Kind<'static>>, AllocError>
+/// The hash by default: SpookyHash of 128 bits.
+pub fn default_kind() -> LineKind<'static>
+    ensures { told_of result ≡ told_at (0, 0) 0 }
+{
+    told_at(NO_KEYS, 0)
+}
+
+/// The hashes that can be told, the default first, and poly61 last if there are keys.
+pub fn kinds(alloc: Global, keys: Option<(u64, u64)>) -> Result<Vec<LineKind<'static>>, AllocError>
     ensures { IfOk result (λ told. map told_of told.items ≡ kinds keys) }
 {
     let mut told = Vec::new(alloc);
-    told.push(default_kind())?;
-    for which in 0..ROWS {
-        told.push(told_at(which))?;
+    for which in 0..UNKEYED {
+        told.push(told_at(NO_KEYS, which))?;
     }
     if let Some(keys) = keys {
-        told.push(told_under(keys))?;
+        told.push(told_at(keys, UNKEYED))?;
     }
     Ok(told)
 }
@@ -116,7 +204,7 @@ pub fn is_named(word: &[u8], name: &[u8]) -> bool
 }
 
 /// The kind of the name.
-fn kind_named<'k>(kinds: &[Kind<'k>], name: &[u8]) -> Option<Kind<'k>>
+fn kind_named<'k>(kinds: &[LineKind<'k>], name: &[u8]) -> Option<LineKind<'k>>
     ensures { result ≡ find (λ kind. is_named name.now kind.name.now) kinds.entry.now }
 {
     for kind in kinds {
@@ -128,7 +216,7 @@ fn kind_named<'k>(kinds: &[Kind<'k>], name: &[u8]) -> Option<Kind<'k>>
 }
 
 /// The kind of the name, or the first.
-pub fn kind_of<'k>(kinds: &[Kind<'k>], name: Option<&[u8]>) -> Option<Kind<'k>>
+pub fn kind_of<'k>(kinds: &[LineKind<'k>], name: Option<&[u8]>) -> Option<LineKind<'k>>
     ensures { result ≡ kind_of kinds.entry.now (option_map (λ name. name.now) name.entry) }
 {
     match name {
@@ -179,24 +267,26 @@ fn widened(number: Result<u64, Unhashed>) -> Result<u128, Unhashed>
     }
 }
 
-/// The number by a hash that takes no keys.
-fn number_at<R: Read>(which: u32, limit: u64, r: &mut R) -> Result<u128, Unhashed>
-    ensures { Hashes (sum_at which) (read limit R.remaining r.old r.new) result }
+/// The number of what is read by a hash of 128 bits.
+fn number_of_wide<R: Read>(wide: Wide, limit: u64, r: &mut R) -> Result<u128, Unhashed>
+    ensures { Hashes (wide_of wide) (read limit R.remaining r.old r.new) result }
 {
-    match kind_at(which) {
-        Some(kind) => widened(by_kind::<SumRead<R>>(kind, limit, r)),
-        None => hash_of_spooky128::<R, BUFFER>(limit, r),
+    match wide {
+        Wide::Spooky => hash_of_wide::<SpookyHasher, R, BUFFER>(limit, r),
+        Wide::Murmur3 => hash_of_wide::<Murmur3Hasher128, R, BUFFER>(limit, r),
+        Wide::Xxh3 => hash_of_wide::<Xxh3Hasher, R, BUFFER>(limit, r),
     }
 }
 
 /// The number by that hash of all that is read, if that is less than `limit` bytes.
-pub fn number_by<R: Read>(kind: Kind<'_>, limit: u64, r: &mut R) -> Result<u128, Unhashed>
+pub fn number_by<R: Read>(kind: LineKind<'_>, limit: u64, r: &mut R) -> Result<u128, Unhashed>
     ensures { Hashes (sum_by kind.entry) (read limit R.remaining r.old r.new) result }
 {
-    if kind.which == POLY61 {
-        return hash_of_poly61::<R, BUFFER>(kind.keys, limit, r);
+    match sum_at(kind.which) {
+        Sum::Table(row) => widened(by_kind::<SumRead<R>>(row, limit, r)),
+        Sum::Wide(wide) => number_of_wide(wide, limit, r),
+        Sum::Poly61 => hash_of_poly61::<R, BUFFER>(kind.keys, limit, r),
     }
-    number_at(kind.which, limit, r)
 }
 
 /// The hash of a text that is fed in pieces of 4096 bytes.
@@ -242,29 +332,36 @@ impl<'a> HashTask for SumText<'a> {
     ghost by_same = { λ hash of_read same agree text before after result is is_text. is is_text ∙ agree text.now is_text };
 }
 
-/// Two words as one number, the first above the second.
-fn both(words: (u64, u64)) -> u128
-    ensures { result ≡ words.0 * 2 ^ 64 + words.1 }
+/// The number of a text by a hasher of 128 bits.
+fn wide_of_text<H: WideHash>(text: &[u8]) -> u128
+    ensures { result ≡ H.wide_of text.now }
 {
-    u128::from(words.0) * (1 << 64) + u128::from(words.1)
+    let mut hasher = H::fresh();
+    run_streamed(&mut hasher, &[text]);
+    hasher.wide()
+}
+
+/// The number of a text by a hash of 128 bits.
+fn number_of_wide_text(wide: Wide, text: &[u8]) -> u128
+    ensures { result ≡ wide_of wide text.now }
+{
+    match wide {
+        Wide::Spooky => wide_of_text::<SpookyHasher>(text),
+        Wide::Murmur3 => wide_of_text::<Murmur3Hasher128>(text),
+        Wide::Xxh3 => wide_of_text::<Xxh3Hasher>(text),
+    }
 }
 
 /// The number of a text by that hash: that of a file that holds it.
-pub fn number_of_text(kind: Kind<'_>, text: &[u8]) -> u128
+pub fn number_of_text(kind: LineKind<'_>, text: &[u8]) -> u128
     ensures { result ≡ sum_by kind.entry text.now }
 {
-    if kind.which == POLY61 {
-        return both(poly61_pair(kind.keys.0, kind.keys.1, text));
-    }
-    match kind_at(kind.which) {
-        Some(kind) => {
+    match sum_at(kind.which) {
+        Sum::Table(row) => {
             bytes_are_a_text(text);
-            u128::from(by_kind::<SumText<'_>>(kind, text, &mut ()))
+            u128::from(by_kind::<SumText<'_>>(row, text, &mut ()))
         }
-        None => {
-            let mut hasher = SpookyHasher::new(0, 0);
-            hasher.write(text);
-            both(hasher.finish128())
-        }
+        Sum::Wide(wide) => number_of_wide_text(wide, text),
+        Sum::Poly61 => both(poly61_pair(kind.keys.0, kind.keys.1, text)),
     }
 }

@@ -18,7 +18,7 @@ pub use Rattle.hash_writes.specs.Writes
 pub use Rattle.hash_fx.specs.Fx
 pub use Rattle.hash_fx.specs.Pieces
 pub use Rattle.hash_jenkins.specs.Lookup3
-pub use Rattle.hash_jenkins.specs.Mixing
+pub use Rattle.jenkins_laws.specs.Mixing
 pub use Rattle.hash_jenkins.specs.Oaat
 pub use Rattle.hash_jenkins.specs.Spooky
 pub use Rattle.hash_jenkins.specs.SpookyParts
@@ -27,7 +27,7 @@ pub use Rattle.hash_jenkins.specs.Filled
 pub use Rattle.hash_rounds.specs.Words
 pub use Rattle.hash_rounds.specs.Shuffle
 pub use Rattle.hash_jenkins.specs.Counted
-pub use Rattle.hash_jenkins.specs.Zeros
+pub use Rattle.jenkins_laws.specs.Zeros
 pub use Rattle.hash_rounds.specs.Steps
 pub use Rattle.hash_rounds.specs.Rounds
 pub use Rattle.hash_rounds.specs.Blocks

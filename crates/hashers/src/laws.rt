@@ -11,13 +11,6 @@ pub use hash_fx::pieces::{
     one_changed_byte_shows_fx, one_changed_word_shows_fx, pieces_are_their_words, run_words,
     run_words32, run_words64, words_by_place32, words_by_place64,
 };
-pub use hash_jenkins::stretch::short_spooky_is_even;
-pub use hash_jenkins::two_texts::{
-    apart_by_block, apart_by_stretch, apart_by_words, apart_by_zeros, cuts_show_in_lookup3,
-    differ_in_one_block, differ_in_one_stretch, lookup3_is_even, middles_in_one_group,
-    neighbouring_words_show, one_changed_block_shows, one_changed_stretch_shows,
-    position_of_joined_texts, same_answers_later, zeros_do_not_show_in_version_1,
-};
 pub use hash_laws::counts::{buckets_have_all_hashes, collisions_in_any_order};
 pub use hash_laws::traits::{
     ByteStep, Piecewise, Streamed, Undo, answer_of_pieces, apart_by_one, bucket_of,
@@ -28,4 +21,12 @@ pub use hash_laws::traits::{
 pub use hash_laws::window::{differ_at_one_place, first_difference, is_window, texts_of_one_frame};
 pub use hash_writes::writes::{
     HasherWrite, answer_of_writes, run_writes, run_writes_streamed, unrun_writes,
+};
+pub use jenkins_laws::block::block_for;
+pub use jenkins_laws::stretch::{short_spooky_is_even, stretch_for};
+pub use jenkins_laws::two_texts::{
+    apart_by_block, apart_by_stretch, apart_by_zeros, cuts_show_in_lookup3, differ_in_one_block,
+    differ_in_one_stretch, lookup3_is_even, middles_in_one_group, one_changed_block_shows,
+    one_changed_stretch_shows, position_of_joined_texts, same_answers_later,
+    zeros_do_not_show_in_version_1,
 };

@@ -7,12 +7,8 @@ use Rattle.std.specs.declared.io.Error.{Error}
 use Rattle.std.specs.declared.io.ErrorKind.TheVariants.{OutOfMemory}
 use Rattle.std.specs.declared.string.String.{String}
 use Rattle.std.specs.declared.vec.IntoIter.{IntoIter}
-use Rattle.hash_names.specs.declared.reading.Unhashed.{Unhashed}
-use Rattle.cli.specs.declared.fault.Fault.TheVariants.{NoMemory}
-use Rattle.cli.specs.declared.outcome.Outcome.{Outcome}
-use Rattle.cli.specs.declared.outcome.Outcome.TheVariants.{Done, Usage, Failed}
-use Rattle.cli.specs.declared.outcome.Wrong.TheVariants.{Own}
-use Rattle.hashof.specs.declared.outcome.NotOneName.{NotOneName}
+use Rattle.hashof.specs.declared.outcome.Outcome.{Outcome}
+use Rattle.hashof.specs.declared.outcome.Outcome.TheVariants.{Done, Usage, NoMemory, Failed}
 use Rattle.hashof.specs.Running.{Run, IsUntouched, Ends}
 
 -- the program's arguments, its own name first, or why they were not had
@@ -35,9 +31,8 @@ LackMemory (Ok arguments) = ⊥
 LackMemory (Err error) = error_kind error ≡ OutOfMemory
 
 -- how the program ends: as the run over the one name, or with nothing read or written
-abbrev pub Exits : Arguments → Run → Outcome NotOneName Unhashed → Type 0
+abbrev pub Exits : Arguments → Run → Outcome → Type 0
 Exits arguments run Done = (name : List ℕ) × Ask arguments name × Ends name run (Ok tt)
-Exits arguments run (Usage (Own misuse)) = AreWrong arguments × IsUntouched run
-Exits arguments run (Failed NoMemory) = LackMemory arguments × IsUntouched run
+Exits arguments run Usage = AreWrong arguments × IsUntouched run
+Exits arguments run NoMemory = LackMemory arguments × IsUntouched run
 Exits arguments run (Failed fault) = (name : List ℕ) × Ask arguments name × Ends name run (Err fault)
-Exits arguments run other = ⊥

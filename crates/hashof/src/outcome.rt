@@ -5,22 +5,31 @@ ghost use Rattle.hashof.specs.declared.run.TheConstants.{LIMIT};
 ghost use Rattle.hashof.specs.Running.{run_of};
 ghost use Rattle.hashof.specs.Status.{complaint_of, status_of};
 
-use crate::run::{LIMIT, run_limited};
-use cli::fault::Fault;
-use cli::outcome;
-use cli::outcome::{Wrong, of_telling};
-use hash_names::reading::Unhashed;
+use crate::run::{LIMIT, RunFault, run_limited};
 use std::env::Args;
 use std::io;
 use std::io::{ErrorKind, Read, Write};
 
-/// There was not exactly one argument, or one was no text.
-#[derive(Debug, Drop)]
-pub struct NotOneName;
+/// What came of a run of the program.
+pub enum Outcome {
+    /// The hash was told.
+    Done,
+    /// There was not exactly one argument, or one was no text.
+    Usage,
+    /// There was no memory for the arguments.
+    NoMemory,
+    /// No hash was told.
+    Failed(RunFault),
+}
 
-/// What came of a run of the program. A name that no hash has is a fault of its own. No memory means none for the
-/// arguments.
-pub type Outcome = outcome::Outcome<NotOneName, Unhashed>;
+impl Drop for Outcome {
+    fn drop(self) {
+        match self {
+            Outcome::Done | Outcome::Usage | Outcome::NoMemory => {}
+            Outcome::Failed(_fault) => {}
+        }
+    }
+}
 
 /// Does what the arguments ask for, as the system gives them, the program's own name first: tells the hash of the one
 /// name that they are, if the input is less than `limit` bytes. Where they are wrong, or there was no memory for them,
@@ -37,13 +46,16 @@ pub fn outcome_limited<R: Read, W: Write>(
         Ok(mut args) => {
             let _program = args.next();
             match (args.next(), args.next()) {
-                (Some(name), None) => of_telling(run_limited(name.as_str(), limit, r, w)),
-                _ => Outcome::Usage(Wrong::Own(NotOneName)),
+                (Some(name), None) => match run_limited(name.as_str(), limit, r, w) {
+                    Ok(()) => Outcome::Done,
+                    Err(fault) => Outcome::Failed(fault),
+                },
+                _ => Outcome::Usage,
             }
         }
         Err(error) => match error.kind() {
-            ErrorKind::OutOfMemory => Outcome::Failed(Fault::NoMemory),
-            _ => Outcome::Usage(Wrong::Own(NotOneName)),
+            ErrorKind::OutOfMemory => Outcome::NoMemory,
+            _ => Outcome::Usage,
         },
     }
 }
@@ -60,14 +72,13 @@ pub fn outcome_line(outcome: &Outcome) -> &'static str
     ensures { result.now ≡ complaint_of outcome.now }
 {
     match outcome {
-        Outcome::Done | Outcome::Reported => "",
-        Outcome::Usage(_) => "usage: hashof NAME\n",
-        Outcome::Failed(Fault::NoMemory) => "hashof: out of memory\n",
-        Outcome::Failed(Fault::Own(Unhashed::UnknownName)) => "hashof: unknown name\n",
-        Outcome::Failed(Fault::Own(Unhashed::TooLong)) => "hashof: input too long\n",
-        Outcome::Failed(Fault::Own(Unhashed::ReadFault(_)) | Fault::Unread(_)) =>
-            "hashof: read fault\n",
-        Outcome::Failed(Fault::Unwritten(_)) => "hashof: write fault\n",
+        Outcome::Done => "",
+        Outcome::Usage => "usage: hashof NAME\n",
+        Outcome::NoMemory => "hashof: out of memory\n",
+        Outcome::Failed(RunFault::UnknownName) => "hashof: unknown name\n",
+        Outcome::Failed(RunFault::ReadFault(_)) => "hashof: read fault\n",
+        Outcome::Failed(RunFault::TooLong) => "hashof: input too long\n",
+        Outcome::Failed(RunFault::WriteFault(_)) => "hashof: write fault\n",
     }
 }
 
@@ -78,7 +89,7 @@ pub fn outcome_status(outcome: &Outcome) -> u8
 {
     match outcome {
         Outcome::Done => 0,
-        Outcome::Usage(_) | Outcome::Failed(Fault::Own(Unhashed::UnknownName)) => 2,
+        Outcome::Usage | Outcome::Failed(RunFault::UnknownName) => 2,
         _ => 1,
     }
 }

@@ -1,15 +1,46 @@
 //! The line of a named hash of what a reader gives.
-ghost use Rattle.hashof.specs.Running.{Ends, run_of};
+ghost use Rattle.std.specs.Prelude.{◌≡◌};
+ghost use Rattle.hashof.specs.Running.{Ends, fault_of, run_of};
 
 use crate::line::write_line;
 use crate::named::hash_named;
-use cli::fault::Fault;
+use hash_laws::reader::Fault;
 use hash_names::reading::Unhashed;
-use std::io::{Read, Write};
+use std::io::{Error, Read, Write};
 
-/// Why no hash was told. What is read may have none: then nothing was written, and of an unknown name nothing was read. Or a write or
-/// the flush failed, or a write took nothing: then a beginning of the line was written, the whole line where the flush failed.
-pub type RunFault = Fault<Unhashed>;
+/// Why no hash was told. The cases are tried in this order.
+pub enum RunFault {
+    /// No hash has the name. Nothing was read or written.
+    UnknownName,
+    /// A read failed. Nothing was written.
+    ReadFault(Fault),
+    /// As many bytes were read as the limit allows, and no end was seen. Nothing was written.
+    TooLong,
+    /// A write or the flush failed with this error, or a write took nothing. A beginning of the line was written, the whole line where
+    /// the flush failed.
+    WriteFault(Option<Error>),
+}
+
+impl Drop for RunFault {
+    fn drop(self) {
+        match self {
+            RunFault::UnknownName | RunFault::TooLong => {}
+            RunFault::ReadFault(_fault) => {}
+            RunFault::WriteFault(_error) => {}
+        }
+    }
+}
+
+/// Why there is no hash, as the fault of a run.
+fn fault_of(unhashed: Unhashed) -> RunFault
+    ensures { result ≡ fault_of unhashed }
+{
+    match unhashed {
+        Unhashed::UnknownName => RunFault::UnknownName,
+        Unhashed::ReadFault(fault) => RunFault::ReadFault(fault),
+        Unhashed::TooLong => RunFault::TooLong,
+    }
+}
 
 /// The bytes from which on an input is too long: 2^40.
 pub const LIMIT: u64 = 1 << 40;
@@ -30,7 +61,7 @@ pub fn run_limited<R: Read, W: Write>(
 {
     match hash_named(name, limit, r) {
         Ok(hash) => write_line(w, hash),
-        Err(unhashed) => Err(Fault::Own(unhashed)),
+        Err(unhashed) => Err(fault_of(unhashed)),
     }
 }
 

@@ -1,21 +1,18 @@
 //! Tests of the program, over readers and writers that misbehave.
 mod program;
 
-use crate::outcome::{NotOneName, Outcome, outcome_line, outcome_status};
+use crate::outcome::{Outcome, outcome_line, outcome_status};
 use crate::run::{RunFault, run, run_limited};
-use cli::fault::Fault;
-use cli::outcome::Wrong;
-use cli::rehearsal::{Paper, Script, Trouble};
 use hash_bytes::fnv::FNV1aHasher64;
 use hash_jenkins::Lookup3Hasher;
 use hash_laws::reader;
 use hash_laws::reader::hash_reader;
-use hash_names::reading::Unhashed;
 use hash_names::table::Kind;
 use std::hash::Hasher;
 use std::io;
 use std::io::ErrorKind;
 use std::process::Abort;
+use streams::rehearsal::{Paper, Script, Trouble};
 
 /// What became of a run, without the error itself.
 #[derive(Clone, Copy, PartialEq, Eq, Debug)]
@@ -30,11 +27,11 @@ enum End {
 fn end_of(outcome: Result<(), RunFault>) -> End {
     match &outcome {
         Ok(()) => End::Told,
-        Err(Fault::Own(Unhashed::UnknownName)) => End::Unknown,
-        Err(Fault::Own(Unhashed::ReadFault(fault))) => End::Read(fault.bytes, fault.error.kind()),
-        Err(Fault::Own(Unhashed::TooLong)) => End::Long,
-        Err(Fault::Unwritten(Some(error))) => End::Write(Some(error.kind())),
-        Err(_) => End::Write(None),
+        Err(RunFault::UnknownName) => End::Unknown,
+        Err(RunFault::ReadFault(fault)) => End::Read(fault.bytes, fault.error.kind()),
+        Err(RunFault::TooLong) => End::Long,
+        Err(RunFault::WriteFault(Some(error))) => End::Write(Some(error.kind())),
+        Err(RunFault::WriteFault(None)) => End::Write(None),
     }
 }
 
@@ -70,7 +67,7 @@ fn tells(rt: &impl Abort, turn: usize, name: &str, text: &[u8], most: usize, lin
 }
 
 /// A hash, a text, and the line that is told of it.
-const LINES: [(Kind, &[u8], &[u8]); 27] = [
+const LINES: [(Kind, &[u8], &[u8]); 34] = [
     (Kind::Fnv1a64, b"", b"14695981039346656037\n"),
     (Kind::Fnv1a64, b"a", b"12638187200555641996\n"),
     (Kind::Fnv1a64, b"b", b"12638190499090526629\n"),
@@ -98,6 +95,13 @@ const LINES: [(Kind, &[u8], &[u8]); 27] = [
     (Kind::Djb2Add, b"a", b"177670\n"),
     (Kind::Joaat, b"a", b"3392050242\n"),
     (Kind::Elf, b"a", b"97\n"),
+    (Kind::Xxh32, b"a", b"1426945110\n"),
+    (Kind::Xxh64, b"a", b"15154266338359012955\n"),
+    (Kind::Murmur3At32, b"hello", b"613153351\n"),
+    (Kind::Murmur3, b"hello", b"14688674573012802306\n"),
+    (Kind::SipHash13, b"hello", b"16350172494705860510\n"),
+    (Kind::SipHash24, b"", b"2202906307356721367\n"),
+    (Kind::Xxh3, b"abc", b"8696274497037089104\n"),
 ];
 
 #[test]
@@ -349,12 +353,12 @@ fn ends_by_the_table(rt: HostRuntime) {
     };
     let outcomes = [
         Outcome::Done,
-        Outcome::Usage(Wrong::Own(NotOneName)),
-        Outcome::Failed(Fault::NoMemory),
-        Outcome::Failed(Fault::Own(Unhashed::UnknownName)),
-        Outcome::Failed(Fault::Own(Unhashed::ReadFault(fault))),
-        Outcome::Failed(Fault::Own(Unhashed::TooLong)),
-        Outcome::Failed(Fault::Unwritten(None)),
+        Outcome::Usage,
+        Outcome::NoMemory,
+        Outcome::Failed(RunFault::UnknownName),
+        Outcome::Failed(RunFault::ReadFault(fault)),
+        Outcome::Failed(RunFault::TooLong),
+        Outcome::Failed(RunFault::WriteFault(None)),
     ];
     for (turn, (line, status)) in ENDS.iter().enumerate() {
         let outcome = &outcomes[turn];

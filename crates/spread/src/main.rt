@@ -11,7 +11,6 @@ use cli::arguments::arguments;
 use cli::call::Call;
 use cli::frame::{About, Request, ended, request_of, text_of, wrong_word};
 use cli::outcome::of_telling;
-use cli::streams::write_out;
 use hash_names::table::KINDS;
 use hash_spread::call::{
     Misuse, Outcome, Wrong, call_of, kinds_of, no_number, settings_of, unknown_name,
@@ -21,6 +20,7 @@ use run::tell_table;
 use std::alloc::{AllocError, Global};
 use std::io::{BufWriter, Stdout};
 use std::process::ExitCode;
+use streams::tries::write_out;
 
 /// How many bytes are written at once.
 const BUFFER: usize = 65536;

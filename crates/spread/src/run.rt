@@ -4,7 +4,6 @@ use crate::picture::picture;
 use crate::table::Frame;
 use cli::inputs::open;
 use cli::progress::{Progress, Watched};
-use cli::streams::{TRIES, write_all, write_out};
 use hash_names::table::Kind;
 use hash_spread::call::Settings;
 use hash_spread::fault::{Fault, NoTable};
@@ -15,6 +14,7 @@ use hash_spread::sizes::sizes_of;
 use std::fs::{File, OpenOptions};
 use std::io;
 use std::io::{BufReader, BufWriter, Error, ErrorKind, IsTerminal, Stdout};
+use streams::tries::{TRIES, write_all, write_out};
 use text_set::{RandomKeys, Texts};
 
 /// How many bytes are read at once.
@@ -181,7 +181,10 @@ pub fn tell_table(
     }
     let frame = Frame {
         keys: keys.len() as u64,
-        sizes: sizes_of(keys.len() as u64, settings.buckets),
+        sizes: sizes_of(
+            keys.len() as u64,
+            settings.buckets.map(|buckets| buckets.get() as u64),
+        ),
         times: settings.times,
     };
     let mut hashed = Hashed {

@@ -73,7 +73,8 @@ fn read_u32(bytes: &[u8], at: usize) -> u64
     requires { at + 4 ≤ length bytes.now }
     ensures { result ≡ folding.read_u32 bytes.now at }
 {
-    u32::from_le_bytes([bytes[at], bytes[at + 1], bytes[at + 2], bytes[at + 3]]) as u64
+    let four = &bytes[at..at + 4];
+    u32::from_le_bytes([four[0], four[1], four[2], four[3]]) as u64
 }
 
 #[inline(always)]
@@ -81,7 +82,8 @@ fn read_u64(bytes: &[u8], at: usize) -> u64
     requires { at + 8 ≤ length bytes.now }
     ensures { result ≡ folding.read_u64 bytes.now at }
 {
-    read_u32(bytes, at) | read_u32(bytes, at + 4) << 32
+    let eight = &bytes[at..at + 8];
+    read_u32(eight, 0) | read_u32(eight, 4) << 32
 }
 
 /// Up to 8 bytes as one number, by reads that may overlap.

@@ -6,7 +6,7 @@ use Rattle.std.proofs.KnownBytes.{Appends-kept, Appends-nil, Appends-trans}
 use Rattle.std.proofs.lemmas.Bool.{false≢true}
 use Rattle.std.proofs.lemmas.List.{append-nil, nil_from_length, drop-drop, drop-set-lt, get_or-drop, get_or-map, length-map, map-set, take_more, take_more_set}
 use Rattle.std.proofs.Math.Seq.{drop-cons}
-use Rattle.cli.specs.Streams.{AppendsPart}
+use Rattle.streams.specs.Streams.{AppendsPart}
 use Rattle.std.specs.Option.{is_some}
 use Rattle.std.specs.List.{flat_map, list_all}
 use Rattle.std.proofs.lemmas.Grind.{flat_map-append}
@@ -16,7 +16,7 @@ use Rattle.unique_lines.specs.Inputs.AreRead.{behind, none}
 use Rattle.text_set.specs.Lines.{lines_by}
 use Rattle.unique_lines.specs.Running.{AllBeginWith, EndsTaking, IsBeyond, IsWithin, NextBeginsWith, Run, WritesPart}
 use Rattle.unique_lines.specs.Taking.{BeginWith, BreaksInput, LeadsOn}
-use Rattle.cli.specs.declared.fault.Fault.{Fault}
+use Rattle.streams.specs.declared.fault.Fault.{Fault}
 use Rattle.unique_lines.specs.declared.fault.TooMany.{TooMany}
 use Rattle.unique_lines.specs.declared.run.Ended.{Ended}
 use Rattle.unique_lines.specs.declared.run.Ended.TheVariants.{Whole, InputFailed, TooManyLines}

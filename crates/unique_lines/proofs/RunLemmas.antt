@@ -9,7 +9,7 @@ use Rattle.std.proofs.lemmas.Bool.{cases_lt, false≢true}
 use Rattle.std.proofs.Math.Seq.{take-append_seam, drop-append_seam, get_or-append_right}
 use Rattle.std.proofs.lemmas.List.{append-nil, get_or_append_left, length-take-le, nil_from_length}
 use Rattle.std.proofs.lemmas.List.Elements.{filter-append}
-use Rattle.cli.specs.Streams.{AppendsPart}
+use Rattle.streams.specs.Streams.{AppendsPart}
 use Rattle.unique_lines.specs.Between.{Filled, IsWhole, Takes}
 use Rattle.text_set.specs.Lines.{IsBare, IsLineEnd, lines_by}
 use Rattle.unique_lines.specs.Inputs.{ReadsInput, whole_lines}

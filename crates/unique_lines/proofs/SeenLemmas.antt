@@ -8,7 +8,7 @@ use Rattle.std.proofs.lemmas.List.Folds.{list_any-append}
 use Rattle.std.proofs.KnownBytes.{Appends-trans}
 use Rattle.std.specs.Io.KnownBytes.{Appends}
 use Rattle.std.specs.List.{list_any}
-use Rattle.cli.specs.Streams.{AppendsPart}
+use Rattle.streams.specs.Streams.{AppendsPart}
 use Rattle.text_set.specs.Firsts.{AreSeen, once_by}
 use Rattle.text_set.specs.Lines.{as_line_by}
 use Rattle.unique_lines.specs.Taking.{LeadsOn, StopsWithin}

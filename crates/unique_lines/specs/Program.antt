@@ -2,9 +2,9 @@
 use Rattle.std.specs.Prelude.{ℕ, ◌≡◌, ◌||◌, if◌then◌else◌, List, [], ◌∷◌, Some, None, Result, Ok, Err, codes}
 use Rattle.cli.specs.Call.{Choice, Saying, flag, given}
 use Rattle.cli.specs.Frame.{EndsRequest, request_of, text_of}
-use Rattle.cli.specs.declared.fault.Fault.{Fault}
-use Rattle.cli.specs.declared.fault.Fault.TheVariants.{Own}
-use Rattle.cli.specs.declared.outcome.Nothing.{Nothing}
+use Rattle.streams.specs.declared.fault.Fault.{Fault}
+use Rattle.streams.specs.declared.fault.Fault.TheVariants.{Own}
+use Rattle.streams.specs.declared.fault.Nothing.{Nothing}
 use Rattle.cli.specs.declared.outcome.Outcome.{Outcome}
 use Rattle.cli.specs.declared.outcome.Outcome.TheVariants.{Done, Reported, Failed}
 use Rattle.text_set.specs.Firsts.{once_by}

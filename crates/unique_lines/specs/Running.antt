@@ -1,10 +1,10 @@
 -- What a run reads and writes, and how it ends.
 use Rattle.std.specs.Prelude.{ℕ, ◌≡◌, ◌<◌, ◌≤◌, Bool, true, false, List, [], ◌∷◌, ◌++◌, Option, Result, Ok, Err, length, map}
 use Rattle.std.specs.Io.KnownBytes.{Appends}
-use Rattle.cli.specs.Streams.{AppendsPart}
+use Rattle.streams.specs.Streams.{AppendsPart}
 use Rattle.unique_lines.specs.Inputs.{AreRead}
 use Rattle.unique_lines.specs.Taking.{BeginWith}
-use Rattle.cli.specs.declared.fault.Fault.{Fault}
+use Rattle.streams.specs.declared.fault.Fault.{Fault}
 use Rattle.unique_lines.specs.declared.fault.TooMany.{TooMany}
 use Rattle.unique_lines.specs.declared.run.Ended.{Ended}
 use Rattle.unique_lines.specs.declared.run.Ended.TheVariants.{Whole, InputFailed, TooManyLines}

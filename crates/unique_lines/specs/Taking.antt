@@ -1,7 +1,7 @@
 -- What comes of lines that are taken one after the other: how the task stands, and what is written.
 use Rattle.std.specs.Prelude.{ℕ, ◌≡◌, ◌<◌, ◌+◌, true, false, Option, List, [], ◌++◌, IfSome, length}
 use Rattle.std.specs.Io.KnownBytes.{Appends}
-use Rattle.cli.specs.Streams.{AppendsPart}
+use Rattle.streams.specs.Streams.{AppendsPart}
 use Rattle.unique_lines.specs.Inputs.{ReadsInput}
 use Rattle.text_set.specs.Lines.{lines_by}
 use Rattle.unique_lines.specs.declared.run.Left.{Left}

@@ -4,9 +4,9 @@ ghost use Rattle.unique_lines.specs.Status.{words_of};
 ghost use Rattle.text_set.specs.Slots.{tag_under};
 ghost use Rattle.text_set.specs.Texts.{StandsAt, has, with_text};
 
-use cli::fault;
 use cli::outcome::Words;
 use std::hash::BuildHasher;
+use streams::fault;
 use text_set::{Full, Guess, Seen, Texts};
 
 /// More than can be taken.

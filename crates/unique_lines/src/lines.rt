@@ -4,14 +4,14 @@ ghost use Rattle.std.specs.Io.BufRead.{strip_last};
 ghost use Rattle.std.specs.Io.KnownBytes.{Appends};
 ghost use Rattle.unique_lines.specs.Between.{Takes};
 ghost use Rattle.unique_lines.specs.Taking.{BreaksOff, Grows, LeadsOn};
-ghost use Rattle.cli.specs.Streams.{AppendsPart};
+ghost use Rattle.streams.specs.Streams.{AppendsPart};
 ghost use Rattle.text_set.specs.Lines.{as_line_by, lines_by};
 
 use crate::ahead::Ahead;
 use crate::fault::Fault;
 use crate::task::LineTask;
-use cli::streams::{TRIES, write_all};
 use std::io::Write;
+use streams::tries::{TRIES, write_all};
 
 /// Writes a line of this text, and its end behind it if it has none. After a fault a beginning of that was written.
 pub fn write_line<W: Write>(w: &mut W, line: &[u8], text: &[u8], eol: u8) -> Result<(), Fault>

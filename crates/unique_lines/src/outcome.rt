@@ -13,11 +13,12 @@ use cli::call::{Call, Opt, flag};
 use cli::frame::{About, Request, request_of, text_of};
 use cli::inputs::Complaints;
 use cli::outcome;
-use cli::outcome::{Nothing, Wrong, of_telling};
-use cli::streams::write_out;
+use cli::outcome::{Wrong, of_telling};
 use std::alloc::{AllocError, Global};
 use std::hash::BuildHasher;
 use std::io::{BufWriter, Read, Write};
+use streams::fault::Nothing;
+use streams::tries::write_out;
 
 /// What is to be written of the lines.
 #[derive(Clone, Copy)]

@@ -10,9 +10,9 @@ use crate::lines::take_lines;
 use crate::task::LineTask;
 use crate::unread::{NextLine, Unread};
 use cli::inputs::Complaints;
-use cli::streams::{TRIES, flush};
 use std::alloc::Global;
 use std::io::{BufWriter, Error, Read, Write};
+use streams::tries::{TRIES, flush};
 
 /// How a run ended that met no fault of its own.
 #[derive(Clone, Copy)]

@@ -5,17 +5,17 @@ ghost use Rattle.std.specs.Io.Buffered.{writer_buffer, writer_contents};
 ghost use Rattle.std.specs.Io.KnownBytes.{Appends};
 ghost use Rattle.unique_lines.specs.Running.{Ends, run_of};
 ghost use Rattle.unique_lines.specs.Tallies.{Tallies, column, is_shown, shown, told};
-ghost use Rattle.cli.specs.Streams.{AppendsPart};
+ghost use Rattle.streams.specs.Streams.{AppendsPart};
 ghost use Rattle.text_set.specs.Slots.{tag_under};
 
 use crate::fault::{Fault, see};
 use crate::run::{Ended, take_inputs};
 use crate::task::LineTask;
 use cli::inputs::Complaints;
-use cli::streams::{TRIES, flush, write_all};
 use std::alloc::{AllocError, Global};
 use std::hash::BuildHasher;
 use std::io::{BufWriter, Read, Write};
+use streams::tries::{TRIES, flush, write_all};
 use text_set::{Guess, Texts};
 
 /// Which of the counted lines are written, and how.

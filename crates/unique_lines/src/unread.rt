@@ -5,11 +5,11 @@ ghost use Rattle.std.specs.Io.KnownBytes.{Keeps};
 ghost use Rattle.unique_lines.specs.Between.{Filled, ReadsBehind};
 
 use crate::fault::Fault;
-use cli::streams::{TRIES, read_some};
 use std::alloc::Global;
 use std::io;
 use std::io::{BufWriter, Error, Read, Write};
 use std::marker::Model;
+use streams::tries::{TRIES, read_some};
 use text_set::lines::line_end;
 
 /// How many bytes are there at most, unless a line is longer than half of them.

@@ -1,10 +1,11 @@
-//! The 22 hashes as a module of WebAssembly, for one text that comes in parts: the caller puts a part into the room, and says how long it is.
+//! The 29 hashes as a module of WebAssembly, for one text that comes in parts: the caller puts a part into the room, and says how long it is.
 //! Where cuts show, a part is cut into pieces of 4096 bytes, as `hashof` does: so each part but the last has a multiple of that.
 #![no_std]
 use core::hash::Hasher;
 use core::ptr::addr_of_mut;
 use hashers_proved::jenkins::spooky_hash::SpookyHasher;
-use hashers_proved::{fnv::*, fx_hash::*, jenkins::*, more::*, null::*, oz::*, pigeon::*};
+use hashers_proved::xxh3::Xxh3Hasher;
+use hashers_proved::{blocks::*, fnv::*, fx_hash::*, jenkins::*, more::*, null::*, oz::*, pigeon::*};
 
 const ROOM: usize = 1 << 16;
 const PIECE: usize = 4096;
@@ -64,6 +65,13 @@ hashes! {
     joaat: JoaatHasher, 32, Hasher::finish;
     elf: ElfHasher, 28, Hasher::finish;
     null: NullHasher, 0, Hasher::finish;
+    xxh32: Xxh32Hasher, 32, Hasher::finish;
+    xxh64: Xxh64Hasher, 64, Hasher::finish;
+    murmur3_32: Murmur3Hasher32, 32, Hasher::finish;
+    murmur3: Murmur3Hasher128, 64, Hasher::finish;
+    siphash13: SipHasher13, 64, Hasher::finish;
+    siphash24: SipHasher24, 64, Hasher::finish;
+    xxh3: Xxh3Hasher, 64, Hasher::finish;
 }
 
 /// How many names there are.

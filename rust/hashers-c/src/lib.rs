@@ -16,12 +16,6 @@ macro_rules! prove {
 // The sources name `std`: core's items.
 use core as std;
 
-/// The table of hashes.
-mod hash_names {
-    pub mod table;
-    pub mod task;
-}
-
 mod hash_c;
 
 /// Nothing that is proved panics; what Rust adds, as a test of an index, would end here.

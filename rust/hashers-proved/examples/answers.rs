@@ -2,10 +2,12 @@
 //! what the function of the name answers to a single piece; that `unwrite` undoes `write` and the reverse; that `unfinish` finds the state;
 //! that the generic functions of `laws` answer the same; and that combined hashes are those of the joined text. `NAME@NUMBER,..` is a
 //! function of the module `keyed`: at keys, or from a state, a hash and a length.
+use hashers_proved::blocks::*;
 use hashers_proved::jenkins::spooky_hash::{spooky, spooky_v1, SpookyHasher};
 use hashers_proved::keyed::*;
 use hashers_proved::laws::{self, HasherWrite, Piecewise, Streamed, Undo};
 use hashers_proved::more::{crc32::*, djb2_add::*, elf::*, fnv1::*, joaat::*};
+use hashers_proved::xxh3::*;
 use hashers_proved::{fnv::*, fx_hash::*, jenkins::*, null::*, oz::*, pigeon::*};
 use std::hash::{BuildHasher, Hasher};
 use std::io::{BufRead, Write};
@@ -139,6 +141,13 @@ fn answer(name: &str, p: &Pieces) -> u64 {
         "djb2_add" => undo!(Djb2AddHasher, djb2_add),
         "joaat" => undo!(JoaatHasher, joaat),
         "elf" => streamed::<ElfHasher>(p, elf),
+        "xxh32" => streamed::<Xxh32Hasher>(p, |text| u64::from(xxh32(0, text))),
+        "xxh64" => streamed::<Xxh64Hasher>(p, |text| xxh64(0, text)),
+        "murmur3_32" => streamed::<Murmur3Hasher32>(p, |text| u64::from(murmur3_32(0, text))),
+        "murmur3" => streamed::<Murmur3Hasher128>(p, |text| murmur3_128(0, text).0),
+        "siphash13" => streamed::<SipHasher13>(p, |text| siphash13(SipKey { k0: 0, k1: 0 }, text)),
+        "siphash24" => streamed::<SipHasher24>(p, |text| siphash24(SipKey { k0: 0, k1: 0 }, text)),
+        "xxh3" => streamed::<Xxh3Hasher>(p, |text| xxh3_64(0, text)),
         _ => panic!("no such name: {name}"),
     }
 }
@@ -156,6 +165,17 @@ fn at_a_key(key: u64, pieces: &Pieces) -> u64 {
     h.finish()
 }
 
+/// XXH3 of 64 and of 128 bits under a seed, by a hasher, by the functions of pieces, and by those of a text.
+fn under_a_seed(seed: u64, p: &Pieces) -> (String, String) {
+    let (text, pieces) = (p.concat(), p.iter().map(Vec::as_slice).collect::<Vec<_>>());
+    let mut h = Xxh3Hasher::new(seed);
+    pieces.iter().for_each(|p| h.write(p));
+    let (low, high) = h.finish128();
+    assert_eq!((h.finish(), h.finish()), (xxh3_64(seed, &text), xxh3_64_of_pieces(seed, &pieces)));
+    assert_eq!([(low, high); 2], [xxh3_128(seed, &text), xxh3_128_of_pieces(seed, &pieces)]);
+    (h.finish().to_string(), (u128::from(high) << 64 | u128::from(low)).to_string())
+}
+
 fn at_two_keys(first: u64, second: u64, pieces: &Pieces) -> String {
     let mut pair = Poly61Pair::new(first, second);
     pieces.iter().for_each(|p| pair.write(p));
@@ -169,6 +189,8 @@ fn keyed(name: &str, numbers: &[u64], p: &Pieces) -> String {
             streamed::<Poly61Hasher>(p, Poly61Hasher::whole);
             at_a_key(key, p).to_string()
         }
+        ("xxh3", &[seed]) => under_a_seed(seed, p).0,
+        ("xxh128", &[seed]) => under_a_seed(seed, p).1,
         ("poly61_pair", &[first, second]) => at_two_keys(first, second, p),
         ("poly61_state", &[key]) => poly61_state(key, &p.concat()).map_or("None".to_string(), |it| it.to_string()),
         ("poly61_combine", &[key, state, hash, length]) => poly61_combine(key, state, hash, length).to_string(),

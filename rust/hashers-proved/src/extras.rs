@@ -17,6 +17,12 @@ use crate::hash_writes::build::BuildFresh;
 use core::fmt;
 use core::hash::{BuildHasher, Hasher};
 
+/// Ends the program as std's collections do, where there is no memory.
+#[cfg(feature = "std")]
+pub(crate) fn no_memory() -> ! {
+    real_std::alloc::handle_alloc_error(core::alloc::Layout::new::<u64>())
+}
+
 /// `Clone` as `Copy` has it.
 macro_rules! copies {
     ($([$($bound:tt)*] $type:ty $(, $condition:ty)?;)*) => {$(
@@ -143,10 +149,10 @@ impl Poly61Keys {
         Poly61Keys { key }
     }
 
-    /// A key from the randomness of std's `RandomState`. Each call has another one.
+    /// A key from the randomness of std's `RandomState`, never 0, at which all texts have one hash. Each call has another one.
     #[cfg(feature = "std")]
     pub fn random() -> Poly61Keys {
-        Poly61Keys::with_key(real_std::hash::RandomState::new().build_hasher().finish())
+        Poly61Keys::with_key(1 + real_std::hash::RandomState::new().build_hasher().finish() % ((1 << 61) - 2))
     }
 }
 

@@ -1,9 +1,11 @@
-#![doc = include_str!("../README.md")]
+#![cfg_attr(feature = "std", doc = include_str!("../README.md"))]
+#![cfg_attr(not(feature = "std"), doc = "The hashes alone, over core. With the feature `std`, which README.md describes, there is more.")]
 #![no_std]
 #![forbid(unsafe_code)]
 #![warn(missing_docs)]
 // In the proved text, whose language has no such lints.
 #![allow(clippy::manual_is_multiple_of, clippy::new_without_default, clippy::precedence)]
+#![allow(clippy::collapsible_if, clippy::extra_unused_type_parameters, clippy::manual_find, clippy::manual_map, clippy::needless_range_loop)]
 
 #[cfg(target_endian = "big")]
 compile_error!("hashers-proved is for little-endian hosts: std feeds numbers in the host's order, and little-endian is what is proved");
@@ -24,7 +26,9 @@ mod std {
 }
 
 #[macro_use]
-mod shim;
+#[doc(hidden)]
+#[allow(missing_docs)]
+pub mod shim;
 mod extras;
 
 // One module for each Rattle crate, the lowest first.
@@ -41,6 +45,26 @@ pub mod hash_fx;
 #[doc(hidden)]
 pub mod hash_jenkins;
 #[doc(hidden)]
+pub mod jenkins_laws;
+#[doc(hidden)]
+pub mod hash_blocks;
+#[doc(hidden)]
+pub mod hash_murmur3;
+#[doc(hidden)]
+pub mod hash_siphash {
+    mod rounds;
+    mod siphash;
+
+    pub use rounds::*;
+    pub use siphash::*;
+}
+#[doc(hidden)]
+pub mod hash_xxhash;
+#[doc(hidden)]
+pub mod block_laws;
+#[doc(hidden)]
+pub mod hash_xxh3;
+#[doc(hidden)]
 pub mod hash_bytes;
 #[doc(hidden)]
 pub mod hash_crc;
@@ -56,11 +80,45 @@ pub mod hash_keyed {
     pub mod poly61;
     mod words;
 }
+#[cfg(not(feature = "std"))]
 #[doc(hidden)]
 pub mod hash_bloom {
     pub mod bits;
     pub mod words;
 }
+#[doc(hidden)]
+pub mod hash_names {
+    #[cfg(feature = "std")]
+    pub mod reading;
+    pub mod table;
+    pub mod task;
+    pub mod wide;
+}
+// What takes memory, reads or writes.
+#[cfg(feature = "std")]
+#[doc(hidden)]
+pub mod text_set;
+#[cfg(feature = "std")]
+#[doc(hidden)]
+pub mod hash_lines;
+#[cfg(feature = "std")]
+#[doc(hidden)]
+pub mod streams {
+    pub mod fault;
+    pub mod tries;
+}
+#[cfg(feature = "std")]
+#[doc(hidden)]
+pub mod hash_buckets;
+#[cfg(feature = "std")]
+#[doc(hidden)]
+pub mod hash_ring;
+#[cfg(feature = "std")]
+#[doc(hidden)]
+pub mod hash_cuts;
+#[cfg(feature = "std")]
+#[doc(hidden)]
+pub mod hash_bloom;
 
 #[cfg(feature = "std")]
 #[doc(inline)]
@@ -68,13 +126,28 @@ pub use hashers::reader;
 #[doc(inline)]
 pub use hashers::{build, fnv, fx_hash, laws, null, oz, pigeon, promises, rounds, rules, window};
 
+#[cfg(not(feature = "std"))]
 #[doc(inline)]
 pub use hash_bloom::words as bloom;
+
+// The uses, whose calls a user of Rust expects: each over its proved module, by hand.
+#[cfg(feature = "std")]
+pub mod bloom;
+#[cfg(feature = "std")]
+pub mod buckets;
+#[cfg(feature = "std")]
+pub mod cuts;
+#[cfg(feature = "std")]
+pub mod lines;
+#[cfg(feature = "std")]
+pub mod ring;
 
 /// Bob Jenkins' hash functions: one-at-a-time, lookup3 and SpookyHash.
 pub mod jenkins {
     #[doc(inline)]
     pub use crate::hash_jenkins::*;
+    #[doc(inline)]
+    pub use crate::jenkins_laws::{block::block_for, stretch, two_texts};
 
     /// SpookyHash under two seeds, of 64 or 128 bits, of a text at once or in parts.
     pub mod spooky_hash {
@@ -91,6 +164,51 @@ pub mod more {
     pub use crate::hash_more::*;
     #[doc(inline)]
     pub use crate::hash_more::{crc32::*, djb2_add::*, elf::*, fnv1::*, joaat::*};
+}
+
+/// Hashes by the block that other systems take: MurmurHash3, XXH32 and XXH64 under a seed, and SipHash under a key.
+///
+/// ```
+/// use hashers_proved::blocks::{Xxh64Hasher, murmur3_32, xxh64};
+/// use std::hash::Hasher;
+///
+/// assert_eq!(murmur3_32(0, b"hello"), 0x248bfa47);
+/// let mut hasher = Xxh64Hasher::new(7);
+/// hasher.write(b"in two ");
+/// hasher.write(b"pieces");
+/// assert_eq!(hasher.finish(), xxh64(7, b"in two pieces"));
+/// ```
+pub mod blocks {
+    #[doc(inline)]
+    pub use crate::block_laws::*;
+    #[doc(inline)]
+    pub use crate::hash_blocks::{BlockHasher, BlockRule, WideRule};
+    #[doc(inline)]
+    pub use crate::hash_murmur3::*;
+    #[doc(inline)]
+    pub use crate::hash_siphash::*;
+    #[doc(inline)]
+    pub use crate::hash_xxhash::*;
+}
+
+/// XXH3 of 64 and 128 bits under a seed, of a text at once or in parts, and the texts of given hashes. No protection: whoever knows the seed
+/// writes down 2^64 texts of one hash.
+///
+/// ```
+/// use hashers_proved::xxh3::{unmix::bytes_for, xxh3_128, xxh3_64, Xxh3Hasher};
+/// use std::hash::Hasher;
+///
+/// let mut hasher = Xxh3Hasher::new(7);
+/// hasher.write(b"in two ");
+/// hasher.write(b"pieces");
+/// assert_eq!(hasher.finish(), xxh3_64(7, b"in two pieces"));
+/// assert_eq!(hasher.finish128(), xxh3_128(7, b"in two pieces"));
+/// // each hash has one text of eight bytes
+/// assert_eq!(bytes_for(7, xxh3_64(7, b"8 letter")), *b"8 letter");
+/// ```
+pub mod xxh3 {
+    #[doc(inline)]
+    pub use crate::hash_xxh3::*;
 }
 
 /// The polynomial hash of Carter and Wegman over 2^61 - 1, at a key. Of the 2^61 - 1 keys at most n / 7 + 2 give two different texts of up

@@ -1,5 +1,25 @@
-//! What the sources take of Rattle's std and stable Rust has not: a few vectors, snapshots, and `prove!`. It is written by hand, and
-//! trusted.
+//! What the proved text takes of Rattle's std, over Rust's. It is written by hand, and trusted: each item here is taken to do what Rattle's
+//! std says of the one of its name. Besides it Rust's compiler and std are trusted, and what this crate has by hand in `lib.rs` and
+//! `extras.rs`, which call proved functions alone.
+//!
+//! - Here: a few vectors, snapshots, and `prove!`; and with the feature `std`, the macros that take an allocator or the runtime in front,
+//!   and Rattle's std by its paths.
+//! - `memory`: vectors, texts and a set, whose calls answer `Err` where there is no memory: they ask by `try_reserve`.
+//! - `io`: buffers before a reader and a writer, whose memory may be refused likewise.
+//! - `host`: what a program has of the system: its arguments, streams and files, the clock, random bytes.
+//!
+//! What Rust's std asks for by itself ends the program where it is refused: the arguments, a path, an error with a text of its own.
+#[cfg(feature = "std")]
+pub mod host;
+#[cfg(feature = "std")]
+pub mod io;
+#[cfg(feature = "std")]
+pub mod memory;
+
+#[cfg(feature = "std")]
+pub use crate::{shim_eprint as eprint, shim_eprintln as eprintln, shim_format as format, shim_vec as vec};
+#[cfg(feature = "std")]
+pub use {host::HostRuntime, memory::{String, Vec}};
 
 /// A condition that Rattle has proved: tested in a debug build.
 macro_rules! prove {
@@ -11,7 +31,7 @@ macro_rules! prove {
 /// Vectors, as `std::simd` of nightly Rust has them: operators wrap, lane by lane.
 pub mod simd {
     pub mod prelude {
-        pub use super::{u32x4, u64x8, u8x4, u8x8};
+        pub use super::{u32x4, u64x8, u8x16, u8x4, u8x8};
     }
 
     /// So many lanes.
@@ -22,6 +42,8 @@ pub mod simd {
     pub type u8x4 = Simd<u8, 4>;
     #[allow(non_camel_case_types)]
     pub type u8x8 = Simd<u8, 8>;
+    #[allow(non_camel_case_types)]
+    pub type u8x16 = Simd<u8, 16>;
     #[allow(non_camel_case_types)]
     pub type u32x4 = Simd<u32, 4>;
     #[allow(non_camel_case_types)]
@@ -44,6 +66,64 @@ pub mod simd {
         #[inline(always)]
         pub fn cast<U: From<u8>>(self) -> Simd<U, N> {
             Simd(self.0.map(U::from))
+        }
+    }
+
+    impl Simd<u8, 16> {
+        /// The first sixteen. It panics where there are fewer.
+        #[inline(always)]
+        pub fn from_slice(bytes: &[u8]) -> Self {
+            Simd(*bytes.first_chunk().expect("sixteen bytes"))
+        }
+
+        /// Which bytes are equal.
+        #[inline(always)]
+        pub fn simd_eq(self, other: Self) -> Equal {
+            Equal { any: any_equal(&self.0, &other.0), apart: u128::from_le_bytes(self.0) ^ u128::from_le_bytes(other.0) }
+        }
+    }
+
+    /// Whether a byte is the other's. rustc makes a vector of it.
+    #[inline(always)]
+    fn any_equal(one: &[u8; 16], other: &[u8; 16]) -> bool {
+        let mut any = false;
+        for i in 0..16 {
+            any |= one[i] == other[i];
+        }
+        any
+    }
+
+    /// Of each of sixteen bytes whether it is the other's: then it is 0 in `apart`.
+    #[derive(Clone, Copy)]
+    pub struct Equal {
+        any: bool,
+        apart: u128,
+    }
+
+    impl Equal {
+        /// A bit for each byte, that of the first the lowest. What is asked of the bits is answered when it is asked.
+        #[inline(always)]
+        pub fn to_bitmask(self) -> Equal {
+            self
+        }
+
+        /// How many bits are 0 below the lowest that is 1.
+        #[inline(always)]
+        pub fn trailing_zeros(self) -> u32 {
+            const ONES: u128 = 0x0101_0101_0101_0101_0101_0101_0101_0101;
+            // the lowest byte that borrows is the first that is 0
+            (self.apart.wrapping_sub(ONES) & !self.apart & (ONES << 7)).trailing_zeros() / 8
+        }
+    }
+
+    impl PartialEq<u64> for Equal {
+        #[inline(always)]
+        fn eq(&self, number: &u64) -> bool {
+            if *number == 0 {
+                return !self.any;
+            }
+            let bytes = self.apart.to_le_bytes();
+            (0..16).all(|i| (bytes[i] == 0) == (number >> i & 1 == 1)) && number >> 16 == 0
         }
     }
 
@@ -118,6 +198,82 @@ pub mod snapshot {
     }
 }
 
+/// `format!` with the allocator in front: `format!(in alloc; "{number}")?`.
+#[cfg(feature = "std")]
+#[doc(hidden)]
+#[macro_export]
+macro_rules! shim_format {
+    (in $alloc:expr; $($words:tt)*) => {
+        $crate::shim::memory::formatted($alloc, ::core::format_args!($($words)*))
+    };
+}
+
+/// `vec!` with the allocator in front: `vec![in alloc; 0u8; 16]?`.
+#[cfg(feature = "std")]
+#[doc(hidden)]
+#[macro_export]
+macro_rules! shim_vec {
+    (in $alloc:expr; $value:expr; $count:expr) => {
+        $crate::shim::Vec::filled($alloc, $value, $count)
+    };
+}
+
+/// `eprint!` with the runtime in front.
+#[cfg(feature = "std")]
+#[doc(hidden)]
+#[macro_export]
+macro_rules! shim_eprint {
+    ($rt:expr; $($words:tt)*) => {
+        $rt.eprint_words(::core::format_args!($($words)*))
+    };
+}
+
+/// `eprintln!` with the runtime in front.
+#[cfg(feature = "std")]
+#[doc(hidden)]
+#[macro_export]
+macro_rules! shim_eprintln {
+    ($rt:expr; $($words:tt)*) => {
+        $rt.eprint_words(::core::format_args!("{}\n", ::core::format_args!($($words)*)))
+    };
+}
+
+/// Rattle's std by its paths: Rust's, and in its place what is here.
+#[cfg(feature = "std")]
+pub mod std {
+    pub use super::host::{env, fs, random, time};
+    pub use super::io;
+    pub use super::simd;
+    pub use real_std::{cmp, convert, error, fmt, hash, iter, marker, mem, ops, option, process, result, slice, str};
+
+    pub mod alloc {
+        pub use super::super::memory::{AllocError, AllocFailed, Global};
+    }
+
+    pub mod collections {
+        pub use super::super::memory::BTreeSet;
+    }
+
+    pub mod num {
+        pub use real_std::num::*;
+
+        #[inline]
+        pub fn nearest_u64_to_f64(number: u64) -> f64 {
+            number as f64
+        }
+
+        #[inline]
+        pub fn nearest_usize_to_f64(number: usize) -> f64 {
+            number as f64
+        }
+
+        #[inline]
+        pub fn saturating_f64_to_u64(number: f64) -> u64 {
+            number as u64
+        }
+    }
+}
+
 #[cfg(test)]
 mod tests {
     use super::simd::prelude::*;
@@ -132,6 +288,11 @@ mod tests {
         let mut sums = u64x8::splat(u64::MAX);
         sums += u8x8::from_array([1, 2, 3, 4, 5, 6, 7, 8]).cast::<u64>();
         assert_eq!(sums.reduce_sum(), 28);
+        for (byte, bits) in [(0u8, 0x8001), (10, 0b0110), (255, 1 << 14), (128, 1 << 7), (7, 0)] {
+            let bytes = [0, 10, 10, 11, 1, 9, 127, 128, 129, 8, 138, 2, 254, 3, 255, 0, 10];
+            let found = u8x16::from_slice(&bytes).simd_eq(u8x16::splat(byte)).to_bitmask();
+            assert!(found == bits && found != bits + (1 << 16) && found != bits ^ 4 && found.trailing_zeros() == 16.min(bits.trailing_zeros()));
+        }
         assert_eq!(u8x4::from_array([1, 2, 3, 255]).cast::<u32>().reduce_sum(), 261);
     }
 }

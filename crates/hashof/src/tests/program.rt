@@ -1,12 +1,12 @@
 //! The program's outcome, for arguments as the system gives them.
 use super::{same, same_text};
 use crate::outcome::{Outcome, outcome_limited, outcome_line, outcome_of, outcome_status};
-use cli::rehearsal::{Paper, Script, Trouble};
 use std::alloc::Global;
 use std::env::Args;
 use std::io;
 use std::io::ErrorKind;
 use std::process::Abort;
+use streams::rehearsal::{Paper, Script, Trouble};
 
 /// The program's own name and these words, as `env::args` gives them.
 fn args(alloc: Global, words: &[&str]) -> io::Result<Args> {

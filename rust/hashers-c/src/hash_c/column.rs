@@ -1,8 +1,8 @@
 //! The hashes of many texts in one call, as one body for every hash: of texts between offsets of 32 or of 64 bits, and of lines.
 
 // What follows is the proved text of crates/hash_c/src/column.rt without its contracts.
-use crate::{hash_names, std};
-use hashers_proved::hashers;
+use crate::std;
+use hashers_proved::{hash_names, hashers};
 
 use hash_names::table::{Kind, by_kind, kind_at};
 use hash_names::task::HashTask;

@@ -995,3 +995,80 @@ pub unsafe extern "C" fn hashers_elf(text: *const u8, text_count: usize) -> u64 
     // SAFETY: as said above.
     unsafe { whole::hashers_elf(slice(text, text_count)) }
 }
+
+/// See `hashers.h`.
+///
+/// # Safety
+///
+/// Each pointer and its count are so many items that nothing else writes during the call.
+#[no_mangle]
+pub unsafe extern "C" fn hashers_xxh32(text: *const u8, text_count: usize) -> u64 {
+    // SAFETY: as said above.
+    unsafe { whole::hashers_xxh32(slice(text, text_count)) }
+}
+
+/// See `hashers.h`.
+///
+/// # Safety
+///
+/// Each pointer and its count are so many items that nothing else writes during the call.
+#[no_mangle]
+pub unsafe extern "C" fn hashers_xxh64(text: *const u8, text_count: usize) -> u64 {
+    // SAFETY: as said above.
+    unsafe { whole::hashers_xxh64(slice(text, text_count)) }
+}
+
+/// See `hashers.h`.
+///
+/// # Safety
+///
+/// Each pointer and its count are so many items that nothing else writes during the call.
+#[no_mangle]
+pub unsafe extern "C" fn hashers_murmur3_32(text: *const u8, text_count: usize) -> u64 {
+    // SAFETY: as said above.
+    unsafe { whole::hashers_murmur3_32(slice(text, text_count)) }
+}
+
+/// See `hashers.h`.
+///
+/// # Safety
+///
+/// Each pointer and its count are so many items that nothing else writes during the call.
+#[no_mangle]
+pub unsafe extern "C" fn hashers_murmur3(text: *const u8, text_count: usize) -> u64 {
+    // SAFETY: as said above.
+    unsafe { whole::hashers_murmur3(slice(text, text_count)) }
+}
+
+/// See `hashers.h`.
+///
+/// # Safety
+///
+/// Each pointer and its count are so many items that nothing else writes during the call.
+#[no_mangle]
+pub unsafe extern "C" fn hashers_siphash13(text: *const u8, text_count: usize) -> u64 {
+    // SAFETY: as said above.
+    unsafe { whole::hashers_siphash13(slice(text, text_count)) }
+}
+
+/// See `hashers.h`.
+///
+/// # Safety
+///
+/// Each pointer and its count are so many items that nothing else writes during the call.
+#[no_mangle]
+pub unsafe extern "C" fn hashers_siphash24(text: *const u8, text_count: usize) -> u64 {
+    // SAFETY: as said above.
+    unsafe { whole::hashers_siphash24(slice(text, text_count)) }
+}
+
+/// See `hashers.h`.
+///
+/// # Safety
+///
+/// Each pointer and its count are so many items that nothing else writes during the call.
+#[no_mangle]
+pub unsafe extern "C" fn hashers_xxh3(text: *const u8, text_count: usize) -> u64 {
+    // SAFETY: as said above.
+    unsafe { whole::hashers_xxh3(slice(text, text_count)) }
+}

@@ -1,8 +1,8 @@
 //! Hashes by their numbers, for callers that choose at run time: the number of a name, the name of a number, and the hash of a text.
 
 // What follows is the proved text of crates/hash_c/src/kinds.rt without its contracts.
-use crate::{hash_names, std};
-use hashers_proved::hashers;
+use crate::std;
+use hashers_proved::{hash_names, hashers};
 
 use hash_names::table::{by_kind, kind_at, number_named};
 use hash_names::task::HashTask;

@@ -1,9 +1,13 @@
 //! One call over a whole text.
 
 // What follows is the proved text of crates/hash_c/src/whole.rt without its contracts.
-use hashers_proved::{hash_more, hashers};
+use hashers_proved::{hash_more, hash_murmur3, hash_siphash, hash_xxh3, hash_xxhash, hashers};
 
 use hash_more::{crc32, djb2_add, elf, fnv1, joaat};
+use hash_murmur3::{murmur3_32, murmur3_128};
+use hash_siphash::{SipKey, siphash13, siphash24};
+use hash_xxh3::xxh3_64;
+use hash_xxhash::{xxh32, xxh64};
 use hashers::jenkins::spooky_hash;
 use hashers::{fnv, fx_hash, jenkins, null, oz, pigeon};
 
@@ -282,4 +286,88 @@ pub fn hashers_joaat(text: &[u8]) -> u64 {
 #[inline]
 pub fn hashers_elf(text: &[u8]) -> u64 {
     elf::elf(text)
+}
+
+/// XXH32 of the text under the seed 0.
+///
+/// Proved:
+///
+/// ```text
+/// result ≡ xxh32 0 text.now
+/// ```
+#[inline]
+pub fn hashers_xxh32(text: &[u8]) -> u64 {
+    u64::from(xxh32(0, text))
+}
+
+/// XXH64 of the text under the seed 0.
+///
+/// Proved:
+///
+/// ```text
+/// result ≡ xxh64 0 text.now
+/// ```
+#[inline]
+pub fn hashers_xxh64(text: &[u8]) -> u64 {
+    xxh64(0, text)
+}
+
+/// MurmurHash3_x86_32 of the text under the seed 0.
+///
+/// Proved:
+///
+/// ```text
+/// result ≡ murmur3_32 0 text.now
+/// ```
+#[inline]
+pub fn hashers_murmur3_32(text: &[u8]) -> u64 {
+    u64::from(murmur3_32(0, text))
+}
+
+/// The first word of MurmurHash3_x64_128 of the text under the seed 0.
+///
+/// Proved:
+///
+/// ```text
+/// result ≡ (murmur3_128 0 text.now).0
+/// ```
+#[inline]
+pub fn hashers_murmur3(text: &[u8]) -> u64 {
+    murmur3_128(0, text).0
+}
+
+/// SipHash-1-3 of the text under the key 0.
+///
+/// Proved:
+///
+/// ```text
+/// result ≡ siphash 1 3 0 0 text.now
+/// ```
+#[inline]
+pub fn hashers_siphash13(text: &[u8]) -> u64 {
+    siphash13(SipKey { k0: 0, k1: 0 }, text)
+}
+
+/// SipHash-2-4 of the text under the key 0.
+///
+/// Proved:
+///
+/// ```text
+/// result ≡ siphash 2 4 0 0 text.now
+/// ```
+#[inline]
+pub fn hashers_siphash24(text: &[u8]) -> u64 {
+    siphash24(SipKey { k0: 0, k1: 0 }, text)
+}
+
+/// XXH3 of 64 bits of the text under the seed 0.
+///
+/// Proved:
+///
+/// ```text
+/// result ≡ xxh3_64_of 0 text.now
+/// ```
+#[inline]
+pub fn hashers_xxh3(text: &[u8]) -> u64 {
+    xxh3_64(0, text)
 }

@@ -48,16 +48,6 @@ impl Piecewise for NullHasher {
     fn state_in_range(&self) {}
 
     #[inline(always)]
-    fn feed(&mut self, piece: &[u8]) {
-        self.write(piece);
-    }
-
-    #[inline(always)]
-    fn answer(&self) -> u64 {
-        self.finish()
-    }
-
-    #[inline(always)]
     fn whole(_text: &[u8]) -> u64 {
         0
     }

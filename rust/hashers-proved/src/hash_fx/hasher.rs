@@ -9,7 +9,7 @@ use crate::hash_fx::word::{FxSplit, FxWord};
 use hash_laws::traits::{Piecewise, Undo};
 use hash_rules::Word;
 use std::hash::Hasher;
-use std::marker::{ PhantomData};
+use std::marker::{PhantomData};
 
 /// The hasher of fx over words of a width: each piece is split into words by itself, each word takes the state one step, and the
 /// answer is the state. Contracts see the hasher as its state, a number below 2 to the power of the width. The second parameter
@@ -64,16 +64,6 @@ impl<W: FxSplit, Name> Piecewise for WordHasher<W, Name> {
     #[inline(always)]
     fn state_in_range(&self) {
         let _state = &self.state;
-    }
-
-    #[inline(always)]
-    fn feed(&mut self, piece: &[u8]) {
-        self.write(piece);
-    }
-
-    #[inline(always)]
-    fn answer(&self) -> u64 {
-        self.finish()
     }
 
     #[inline(always)]

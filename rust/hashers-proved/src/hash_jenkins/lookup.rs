@@ -3,9 +3,8 @@
 // What follows is the proved text of crates/hash_jenkins/src/lookup.rt without its contracts.
 use crate::{hash_laws, hash_rounds, std};
 
-use crate::hash_jenkins::put::put_array;
 use hash_laws::traits::{Piecewise, hash_of};
-use hash_rounds::{le_four, lookup3_final, lookup3_mix, lookup3_unfinal, lookup3_unmix};
+use hash_rounds::{le_four, lookup3_final, lookup3_mix};
 use std::hash::Hasher;
 
 // Adds three words.
@@ -159,33 +158,17 @@ impl Lookup3Hasher {
         lookup3_words(self.pc, self.pb, piece)
     }
 
-    /// The one block of 12 bytes that leads from here to the answer and to the third word, which the answer leaves
-    /// out: the two mixes of its words taken back. So each answer has exactly 2^32 blocks, one for each third word.
+    /// The three words from which a run over a piece of so many bytes starts here: 0xdeadbeef, the length modulo 2^32 and pc in all
+    /// three, and pb in the third.
     ///
     /// Proved:
     ///
     /// ```text
-    /// leads: lookup3_answer (lookup3_from self.now result) ≡ answer
-    /// third_word: third_word self.now result ≡ third
-    /// alone: (block : List ℕ) → IsText block → length block ≡ 12
-    ///     → lookup3_answer (lookup3_from self.now block) ≡ answer → third_word self.now block ≡ third
-    ///     → block ≡ result
+    /// result ≡ start self.now.0 self.now.1 len
     /// ```
-    #[inline]
-    pub fn block_for(&self, answer: u64, third: u32) -> [u8; 12] {
-        let mut s = [
-            third,
-            (answer / 4294967296) as u32,
-            (answer % 4294967296) as u32,
-        ];
-        lookup3_unfinal(&mut s);
-        lookup3_unmix(&mut s);
-        let first = start(self.pc, self.pb, 12);
-        let mut block = [0; 12];
-        put_array(&mut block, 0, s[0].wrapping_sub(first[0]).to_le_bytes());
-        put_array(&mut block, 4, s[1].wrapping_sub(first[1]).to_le_bytes());
-        put_array(&mut block, 8, s[2].wrapping_sub(first[2]).to_le_bytes());
-        block
+    #[inline(always)]
+    pub fn start_words(&self, len: usize) -> [u32; 3] {
+        start(self.pc, self.pb, len)
     }
 }
 
@@ -239,16 +222,6 @@ impl Piecewise for Lookup3Hasher {
     fn state_in_range(&self) {
         let _pc = self.pc;
         let _pb = self.pb;
-    }
-
-    #[inline(always)]
-    fn feed(&mut self, piece: &[u8]) {
-        self.write(piece);
-    }
-
-    #[inline(always)]
-    fn answer(&self) -> u64 {
-        self.finish()
     }
 
     #[inline(always)]

@@ -5,13 +5,10 @@
 mod build_spooky;
 mod lookup;
 mod one_at_a_time;
-mod put;
 pub mod spooky_hash;
 mod spooky_long;
 pub mod spooky_parts;
-mod spooky_short;
-pub mod stretch;
-pub mod two_texts;
+pub mod spooky_short;
 
 pub use build_spooky::BuildSpooky;
 pub use lookup::{Lookup3Hasher, lookup3};

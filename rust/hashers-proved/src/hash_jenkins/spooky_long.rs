@@ -3,9 +3,8 @@
 // What follows is the proved text of crates/hash_jenkins/src/spooky_long.rt without its contracts.
 use crate::hash_rounds;
 
-use crate::hash_jenkins::put::{put, put_array};
 use crate::hash_jenkins::spooky_short::{LONG, zero_filled};
-use hash_rounds::{Turns, le_words, spooky_blocks, spooky_end};
+use hash_rounds::{Turns, le_words, put, put_array, spooky_blocks, spooky_end};
 
 /// The bytes of a block.
 pub(crate) const BLOCK: usize = 96;

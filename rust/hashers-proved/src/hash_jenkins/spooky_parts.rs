@@ -3,10 +3,9 @@
 // What follows is the proved text of crates/hash_jenkins/src/spooky_parts.rt without its contracts.
 use crate::hash_rounds;
 
-use crate::hash_jenkins::put::put;
 use crate::hash_jenkins::spooky_long::{BLOCK, long_words, mix_blocks};
 use crate::hash_jenkins::spooky_short::{FILL, LONG, short_words, short_words_v1};
-use hash_rounds::Turns;
+use hash_rounds::{Turns, put};
 
 /// The numbers that a [`SpookyHasher`](crate::hash_jenkins::spooky_hash::SpookyHasher) keeps. They may be copied:
 /// each copy goes on by itself.

@@ -5,11 +5,10 @@
 #![allow(unused_variables)]
 use crate::hash_rounds;
 
-use crate::hash_jenkins::put::put;
-use hash_rounds::{le_words, short_end, short_mix, un_short_end, un_short_mix};
+use hash_rounds::{le_words, put, short_end, short_mix};
 
 /// The length from which a text is hashed block by block.
-pub(crate) const LONG: usize = 192;
+pub const LONG: usize = 192;
 
 /// The words that a seed does not fill.
 pub(crate) const FILL: u64 = 0xdeadbeefdeadbeef;
@@ -28,13 +27,12 @@ fn add_chunk(h: &mut [u64; 4], w: &[u64; 4]) {
     h[1] = h[1].wrapping_add(w[3]);
 }
 
-/// The text and zeros, up to N bytes.
+/// The text and zeros, up to `N` bytes.
 ///
 /// The caller has to see to it that:
 ///
 /// ```text
-/// fits: length text.now ≤ N
-/// few: length text.now ≤ 256
+/// length text.now ≤ N
 /// ```
 ///
 /// Proved:
@@ -43,13 +41,13 @@ fn add_chunk(h: &mut [u64; 4], w: &[u64; 4]) {
 /// result ≡ zero_filled N text.now
 /// ```
 #[inline(always)]
-pub(crate) fn zero_filled<const N: usize>(text: &[u8]) -> [u8; N] {
+pub fn zero_filled<const N: usize>(text: &[u8]) -> [u8; N] {
     let mut filled = [0; N];
     put(&mut filled, 0, text);
     filled
 }
 
-/// The four words after the chunks of a text.
+/// The four words of SpookyHash V2 after the whole chunks of 32 bytes of a text, from two seeds.
 ///
 /// Proved:
 ///
@@ -57,62 +55,13 @@ pub(crate) fn zero_filled<const N: usize>(text: &[u8]) -> [u8; N] {
 /// result ≡ add_chunks seed1 seed2 text.now
 /// ```
 #[inline(always)]
-pub(crate) fn add_chunks(seed1: u64, seed2: u64, text: &[u8]) -> [u64; 4] {
+pub fn add_chunks(seed1: u64, seed2: u64, text: &[u8]) -> [u64; 4] {
     let (chunks, _) = text.as_chunks::<32>();
     let mut h = [seed1, seed2, FILL, FILL];
     for chunk in chunks {
         add_chunk(&mut h, &le_words(chunk));
     }
     h
-}
-
-// Takes a chunk's words out again.
-/// Proved:
-///
-/// ```text
-/// add_chunk h.new w.now ≡ h.old
-/// ```
-#[inline]
-fn un_add_chunk(h: &mut [u64; 4], w: &[u64; 4]) {
-    h[0] = h[0].wrapping_sub(w[2]);
-    h[1] = h[1].wrapping_sub(w[3]);
-    un_short_mix(h);
-    h[2] = h[2].wrapping_sub(w[0]);
-    h[3] = h[3].wrapping_sub(w[1]);
-}
-
-/// Takes the last mix and the length back, which are the end of a text of so many bytes.
-///
-/// The caller has to see to it that:
-///
-/// ```text
-/// len < 192
-/// ```
-///
-/// Proved:
-///
-/// ```text
-/// short_end (add_at h.new 3 (len * 2 ^ 56)) ≡ h.old
-/// ```
-#[inline]
-pub(crate) fn un_end(h: &mut [u64; 4], len: usize) {
-    un_short_end(h);
-    h[3] = h[3].wrapping_sub((len as u64) << 56);
-}
-
-/// Takes the chunks of a text out again, from the last to the first.
-///
-/// Proved:
-///
-/// ```text
-/// chunks_from h.new text.now ≡ h.old
-/// ```
-#[inline]
-pub(crate) fn un_add_chunks(h: &mut [u64; 4], text: &[u8]) {
-    let (chunks, _) = text.as_chunks::<32>();
-    for chunk in chunks.iter().rev() {
-        un_add_chunk(h, &le_words(chunk));
-    }
 }
 
 /// The four words of the first `len` bytes, where the array has zeros alone after them.

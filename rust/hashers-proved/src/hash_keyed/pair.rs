@@ -96,11 +96,6 @@ impl Piecewise for Poly61Pair {
     }
 
     #[inline(always)]
-    fn feed(&mut self, piece: &[u8]) {
-        self.write(piece);
-    }
-
-    #[inline(always)]
     fn answer(&self) -> u64 {
         Hasher::finish(self)
     }

@@ -1,4 +1,4 @@
-//! Whether two texts differ within a few neighbouring places only.
+//! Whether two texts differ within a few neighbouring places, or one block, only.
 
 // What follows is the proved text of crates/hash_laws/src/window.rt without its contracts.
 
@@ -68,4 +68,49 @@ fn agree_under(mask: u8, x: &[u8], y: &[u8]) -> bool {
 #[inline]
 pub fn first_difference(x: &[u8], y: &[u8]) -> Option<usize> {
     x.iter().zip(y).position(|(a, b)| a != b)
+}
+
+/// Whether two texts of one length agree from a place on.
+///
+/// The caller has to see to it that:
+///
+/// ```text
+/// length x.now ≡ length y.now
+/// ```
+///
+/// Proved:
+///
+/// ```text
+/// IsTrue result ↔ AgreeFrom place x.now y.now
+/// ```
+#[inline]
+pub fn agree_from(x: &[u8], y: &[u8], place: usize) -> bool {
+    place >= x.len() || x[place..] == y[place..]
+}
+
+/// Whether the texts have one length and differ, but only within one block of `N` bytes, or behind the whole blocks.
+///
+/// The caller has to see to it that:
+///
+/// ```text
+/// 0 < N
+/// ```
+///
+/// Proved:
+///
+/// ```text
+/// IsTrue result ↔ DifferInOneBlock N x.now y.now
+/// ```
+#[inline]
+pub fn differ_in_one_block<const N: usize>(x: &[u8], y: &[u8]) -> bool {
+    if x.len() != y.len() {
+        return false;
+    }
+    match first_difference(x, y) {
+        None => false,
+        Some(from) => {
+            let behind = N - from % N;
+            behind >= x.len() - from || agree_from(x, y, from + behind)
+        }
+    }
 }

@@ -1,7 +1,7 @@
 //! The laws of hashers: the traits and the generic functions, and tests of two texts.
 
 // What follows is the proved text of crates/hashers/src/laws.rt without its contracts.
-use crate::{hash_fx, hash_jenkins, hash_laws, hash_writes};
+use crate::{hash_fx, hash_laws, hash_writes, jenkins_laws};
 
 pub use crate::hashers::windows::{
     apart_djb2, apart_fnv32, apart_fnv64, apart_sdbm, same_word,
@@ -10,11 +10,6 @@ pub use hash_fx::pieces::{
     apart_by_one_fx, apart_by_one_word_fx32, apart_by_one_word_fx64,
     run_words,
     run_words32, run_words64,
-};
-pub use hash_jenkins::two_texts::{
-    apart_by_block, apart_by_stretch, apart_by_words, apart_by_zeros,
-    differ_in_one_block, differ_in_one_stretch,
-    same_answers_later,
 };
 pub use hash_laws::traits::{
     ByteStep, Piecewise, Streamed, Undo, answer_of_pieces, apart_by_one, bucket_of,
@@ -25,4 +20,11 @@ pub use hash_laws::traits::{
 pub use hash_laws::window::{differ_at_one_place, first_difference, is_window};
 pub use hash_writes::writes::{
     HasherWrite, answer_of_writes, run_writes, run_writes_streamed, unrun_writes,
+};
+pub use jenkins_laws::block::block_for;
+pub use jenkins_laws::stretch::{stretch_for};
+pub use jenkins_laws::two_texts::{
+    apart_by_block, apart_by_stretch, apart_by_zeros, differ_in_one_block,
+    differ_in_one_stretch,
+    same_answers_later,
 };

@@ -11,10 +11,10 @@ mod windows;
 pub use hash_bytes::{fnv as fnv, null as null, oz as oz, pigeon as pigeon};
 pub use hash_fx as fx_hash;
 pub use hash_jenkins as jenkins;
-pub use hash_laws::{ window as window};
+pub use hash_laws::{window as window};
 // Of the import above what wants std:
 #[cfg(feature = "std")]
-pub use hash_laws::reader as reader;
+pub use hash_laws::{reader as engine, reader as reader};
 pub use hash_rounds as rounds;
 pub use hash_rules as rules;
 pub use hash_writes::build as build;

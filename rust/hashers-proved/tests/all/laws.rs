@@ -112,7 +112,7 @@ fn windows() {
 #[test]
 fn windows_of_mixing() {
     let mut r = Random(2463534242);
-    let mut said = [0; 3];
+    let mut said = [0; 2];
     for _ in 0..20_000 {
         let n = 1 + r.below(330);
         let x = r.bytes(n);
@@ -127,19 +127,16 @@ fn windows_of_mixing() {
         let places: Vec<usize> = (0..n).filter(|&i| x[i] != y[i]).collect();
         let alike = |of: &dyn Fn(usize) -> usize| !places.is_empty() && places.iter().all(|&i| of(i) == of(places[0]));
         let (block, stretch) = (alike(&|i| i / 12), alike(&|i| (i + 16) / 32));
-        let whole = n / 96 * 96;
-        let within = |from: usize| places.iter().all(|i| (from..from + 88).contains(i));
-        let words = n >= 192 && !places.is_empty() && ((0..=(whole - 88) / 8).any(|w| within(8 * w)) || places[0] >= whole);
         assert_eq!((laws::differ_in_one_block(&x, &y), laws::differ_in_one_stretch(&x, &y)), (block, stretch), "{x:?} {y:?}");
-        let apart = [laws::apart_by_block(&x, &y), laws::apart_by_stretch(&x, &y), laws::apart_by_words(&x, &y)];
-        assert_eq!(apart, [block, stretch && n < 192, words], "{x:?} {y:?}");
+        let apart = [laws::apart_by_block(&x, &y), laws::apart_by_stretch(&x, &y)];
+        assert_eq!(apart, [block, stretch && n < 192], "{x:?} {y:?}");
         let (h, [a, b]) = (Lookup3Hasher::new(7, 11), [&x, &y].map(|text| {
             let mut h = SpookyHasher::new(1, 2);
             h.write(text);
-            (h.short_words(), h.long_words())
+            h.short_words()
         }));
         assert!(!apart[0] || h.piece_words(&x) != h.piece_words(&y));
-        assert!(!apart[1] && !apart[2] || a != b);
+        assert!(!apart[1] || a != b);
         apart.iter().zip(&mut said).for_each(|(answer, count)| *count += *answer as u32);
     }
     assert!(said.iter().all(|&n| n > 500), "{said:?}");

@@ -1,4 +1,5 @@
 //! All tests in one program.
+mod blocks;
 mod bloom;
 mod documents;
 mod keyed;
@@ -8,5 +9,7 @@ mod keys;
 mod laws;
 #[cfg(feature = "std")]
 mod promises;
+#[cfg(feature = "std")]
+mod memory;
 mod uses;
 mod vectors;

@@ -101,8 +101,8 @@ fn texts_are_led_to_an_answer() {
     assert_eq!(crc32(&[text, &crc32_ending(crc32(text), 7)].concat()), 7);
     assert_eq!(crc32c(&[text, &crc32c_ending(crc32c(text), 7)].concat()), 7);
     let from = Lookup3Hasher::new(1, 2);
-    assert_eq!(from.piece_words(&from.block_for(7 << 32 | 9, 8)), [8, 7, 9]);
-    assert_eq!(lookup3(&Lookup3Hasher::new(0, 0).block_for(7, 8)), 7);
+    assert_eq!(from.piece_words(&block_for(&from, 7 << 32 | 9, 8)), [8, 7, 9]);
+    assert_eq!(lookup3(&block_for(&Lookup3Hasher::new(0, 0), 7, 8)), 7);
     let (front, back) = ([1u8; 48].as_slice(), b"the rest".as_slice());
     let stretch = stretch_for(1, 2, front, back, [3, 4, 5, 6]);
     assert_eq!(spooky128(&[front, &stretch, back].concat(), 1, 2), (3, 4));

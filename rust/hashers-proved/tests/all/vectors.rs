@@ -1,5 +1,10 @@
 //! The vectors of `c/vectors.inc`, by function and by hasher.
+use hashers_proved::blocks::{
+    murmur3_128, murmur3_32, siphash13, siphash24, xxh32, xxh64, Murmur3Hasher128, Murmur3Hasher32, SipHasher13, SipHasher24, SipKey,
+    Xxh32Hasher, Xxh64Hasher,
+};
 use hashers_proved::jenkins::spooky_hash::{spooky, spooky_v1, SpookyHasher};
+use hashers_proved::xxh3::{xxh3_64, Xxh3Hasher};
 use hashers_proved::{fnv::*, fx_hash::*, jenkins::*, more::*, null::*, oz::*, pigeon::*};
 use std::hash::Hasher;
 
@@ -17,8 +22,11 @@ fn spooky_v1_in_parts(bytes: &[u8]) -> u64 {
 
 type Hash = fn(&[u8]) -> u64;
 
+/// The key of the table's rows.
+const NO_KEY: SipKey = SipKey { k0: 0, k1: 0 };
+
 /// Each name, its function, and the same by its hasher.
-const NAMES: [(&str, Hash, Hash); 22] = [
+const NAMES: [(&str, Hash, Hash); 29] = [
     ("fnv1a32", fnv1a32, by::<FNV1aHasher32>),
     ("fnv1a64", fnv1a64, by::<FNV1aHasher64>),
     ("djb2", djb2, by::<DJB2Hasher>),
@@ -41,6 +49,13 @@ const NAMES: [(&str, Hash, Hash); 22] = [
     ("djb2_add", djb2_add, by::<Djb2AddHasher>),
     ("joaat", joaat, by::<JoaatHasher>),
     ("elf", elf, by::<ElfHasher>),
+    ("xxh32", |text| u64::from(xxh32(0, text)), by::<Xxh32Hasher>),
+    ("xxh64", |text| xxh64(0, text), by::<Xxh64Hasher>),
+    ("murmur3_32", |text| u64::from(murmur3_32(0, text)), by::<Murmur3Hasher32>),
+    ("murmur3", |text| murmur3_128(0, text).0, by::<Murmur3Hasher128>),
+    ("siphash13", |text| siphash13(NO_KEY, text), by::<SipHasher13>),
+    ("siphash24", |text| siphash24(NO_KEY, text), by::<SipHasher24>),
+    ("xxh3", |text| xxh3_64(0, text), by::<Xxh3Hasher>),
 ];
 
 /// A row of the table, as `{hashers_djb2, "a", 177604u},`.

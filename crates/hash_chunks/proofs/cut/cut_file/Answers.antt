@@ -1,25 +1,25 @@
 use Rattle.std.proofs.Common.{false, subst}
 use Rattle.std.proofs.lemmas.Bool.{false≢true}
-use Rattle.cli.specs.declared.fault.Fault.{Fault}
+use Rattle.streams.specs.declared.fault.Fault.{Fault}
 use Rattle.hash_cuts.specs.Reading.{BreaksAt, CutsRead}
 use Rattle.hash_chunks.proofs.CutLemmas.{ends-early, ends-refused, ends-taken}
 use Rattle.hash_chunks.specs.declared.fault.TooMany.{TooMany}
 use Rattle.hash_chunks.proofs.cut.cut_file.Goals as goal
 
-pub returns-in-Ok-cut_reader : goal.returns-in-Ok-cut_reader
-returns-in-Ok-cut_reader g c =
+pub returns-in-Ok-cut_reader_by : goal.returns-in-Ok-cut_reader_by
+returns-in-Ok-cut_reader_by g c =
     ends-taken g.S.Sink.taken c.args.cuts.now (g.F.Folder.opens c.args.folder.now c.args.name.now)
-    (g.R.Read.remaining c.in-Ok.file) (g.R.Read.remaining c.cut_reader.new.r) c.args.sink.now c.cut_reader.new.sink c.in-Ok-cut_reader.taken.bytes
-    c.in-Ok.ensures (Fault TooMany) c.in-Ok-cut_reader.taken.ended c.in-Ok-cut_reader.ensures.all c.in-Ok-cut_reader.ensures.first
+    (g.R.Read.remaining c.in-Ok.file) (g.R.Read.remaining c.cut_reader_by.new.r) c.args.sink.now c.cut_reader_by.new.sink c.in-Ok-cut_reader_by.taken.bytes
+    c.in-Ok.ensures (Fault TooMany) c.in-Ok-cut_reader_by.taken.ended c.in-Ok-cut_reader_by.ensures.all c.in-Ok-cut_reader_by.ensures.first
 
 pub returns-in-Err-Unread : goal.returns-in-Err-Unread
 returns-in-Err-Unread g c =
     let cuts = c.args.cuts.now in
     let opens = g.F.Folder.opens c.args.folder.now c.args.name.now in
     let held = g.R.Read.remaining c.in-Ok.file in
-    let left = g.R.Read.remaining c.cut_reader.new.r in
+    let left = g.R.Read.remaining c.cut_reader_by.new.r in
     let old = c.args.sink.now in
-    let new = c.cut_reader.new.sink in
+    let new = c.cut_reader_by.new.sink in
     let (bytes, rest, refused, why, read) = c.in-Err-Unread.ensures.fault in
     let breaks = subst (λ why. BreaksAt cuts why bytes rest refused) c.in-Err-Unread.field-0-is why in
     let unread = subst (λ r. CutsRead g.S.Sink.taken cuts held left old new bytes rest r) breaks.2 read in
@@ -31,9 +31,9 @@ returns-in-Err-Refused g c =
     let cuts = c.args.cuts.now in
     let opens = g.F.Folder.opens c.args.folder.now c.args.name.now in
     let held = g.R.Read.remaining c.in-Ok.file in
-    let left = g.R.Read.remaining c.cut_reader.new.r in
+    let left = g.R.Read.remaining c.cut_reader_by.new.r in
     let old = c.args.sink.now in
-    let new = c.cut_reader.new.sink in
+    let new = c.cut_reader_by.new.sink in
     let (bytes, rest, refused, why, read) = c.in-Err-Refused.ensures.fault in
     let breaks = subst (λ why. BreaksAt cuts why bytes rest refused) c.in-Err-Refused.field-0-is why in
     ends-refused g.S.Sink.taken cuts opens held left old new bytes c.in-Ok.ensures rest breaks.0
@@ -44,9 +44,9 @@ returns g c =
     let cuts = c.args.cuts.now in
     let opens = g.F.Folder.opens c.args.folder.now c.args.name.now in
     let held = g.R.Read.remaining c.in-Ok.file in
-    let left = g.R.Read.remaining c.cut_reader.new.r in
+    let left = g.R.Read.remaining c.cut_reader_by.new.r in
     let old = c.args.sink.now in
-    let new = c.cut_reader.new.sink in
+    let new = c.cut_reader_by.new.sink in
     let (bytes, rest, refused, why, read) = c.in-Err-NoMemory.ensures.fault in
     let breaks = subst (λ why. BreaksAt cuts why bytes rest refused) c.in-Err-NoMemory.field-0-is why in
     ends-early g.S.Sink.taken cuts opens held left old new bytes c.in-Ok.ensures rest

@@ -1,6 +1,6 @@
 use Rattle.std.proofs.Common.{inr, subst, ◌∙◌}
 use Rattle.std.specs.Io.Buffered.{writer_contents}
-use Rattle.cli.specs.Streams.{AppendsPart}
+use Rattle.streams.specs.Streams.{AppendsPart}
 use Rattle.hash_chunks.specs.Counted.{IsCounted}
 use Rattle.hash_chunks.specs.Tally.{all_given}
 use Rattle.hash_chunks.proofs.TallyLemmas.{lines_counted}

@@ -8,6 +8,6 @@ returns-clause-read g c = record {
   bytes = take c.fill.result.0 c.fill.new.buf;
   read = c.fill.ensures.read;
   length_is = length-take-le c.fill.result.0 c.fill.new.buf c.fill.ensures.within;
-  stands = take-put c.args.kept (c.args.kept + c.args.room - c.args.kept) c.fill.result.0 c.args.buffer.now c.fill.new.buf
+  stands = take-put c.args.kept (c.args.kept + c.args.room - c.args.kept) c.fill.result.0 c.args.bytes.now c.fill.new.buf
       (omega (arith, c.requires)) c.fill.ensures.within;
 }

@@ -1,13 +1,14 @@
-use Rattle.std.proofs.Common.{rules, inr}
-use Rattle.hash_lines.specs.Forms.{IsSfvForm}
-use Rattle.hash_lines.specs.Told.{Tells}
+use Rattle.std.proofs.Common.{◌≡◌, false, true, sym, ◌∙◌}
+use Rattle.hash_lines.proofs.FormLemmas.{nothing_so, so_found}
 use Rattle.hash_lines.proofs.forms.parse_form.Goals as goal
 
-pub returns-in-Some-7 : goal.returns-in-Some-7
-returns-in-Some-7 c =
-    let rest = c.trim_ascii_start-rest.result.now in
-    let plain = c.in-Some-6.plain.items in
-    let entry = c.in-Some-7.entry in
-    let sfv : IsSfvForm rest plain = search rules in
-    let tells : Tells c.args.kinds.now c.args.kind entry.kind entry.name.items entry.number plain = search rules in
-    (plain, (rest, c.trim_ascii_start-rest.ensures.value, inr (inr (inr sfv))), tells)
+pub returns-then-sfv : goal.returns-then-sfv
+returns-then-sfv c =
+    so_found c.args.sfv c.args.kinds.now c.args.kind c.args.line.now c.trim_ascii_start-rest.result.now c.if-sfv.true
+    c.trim_ascii_start-rest.ensures.value (rw c.in_default.is at c.in_ok-entry.ensures) c.sfv_entry.result c.sfv_entry.ensures
+
+pub returns : goal.returns
+returns c =
+    nothing_so c.args.sfv c.args.kinds.now c.args.kind c.args.line.now c.trim_ascii_start-rest.result.now
+    c.trim_ascii_start-rest.ensures.value (rw c.in_default.is at c.in_ok-entry.ensures)
+    (λ takes plain form other name number tells. let clash : false ≡ true = sym c.if-sfv.false ∙ takes in cc)

@@ -1,7 +1,7 @@
 use Rattle.std.proofs.Common.{inl, inr, refl}
 use Rattle.std.proofs.KnownBytes.{Keeps-refl}
 use Rattle.std.specs.Io.Buffered.{writer_contents}
-use Rattle.cli.specs.declared.fault.Fault.TheVariants.{NoMemory}
+use Rattle.streams.specs.declared.fault.Fault.TheVariants.{NoMemory}
 use Rattle.hash_sums.proofs.ListLemmas.{list_torn_off}
 use Rattle.hash_sums.proofs.check.check_list.Goals as goal
 
@@ -11,7 +11,7 @@ returns-in-Err-with_capacity g c =
     inl (
       held,
       c.in-Ok.ensures,
-      list_torn_off c.args.kinds.now c.args.checking (g.F.Folder.opens c.args.folder.now) held
+      list_torn_off c.args.kinds.now c.args.checking (g.F.Folder.opens c.args.folder.now) c.args.list.now held
           (writer_contents g.W.Write.contents c.args.w.now) NoMemory,
     )
 

@@ -1,16 +1,31 @@
-use Rattle.std.proofs.Common.{◌≡◌, Option, Some, None, refl}
+use Rattle.std.proofs.Common.{◌≡◌, ℕ, Some, true, false, refl}
 use Rattle.hash_names.specs.declared.table.Kind.{Kind}
 use Rattle.hash_names.specs.declared.table.Kind.TheVariants.{Fnv1a32}
-use Rattle.hash_names.specs.Named.{kind_at, kind_named}
-use Rattle.hash_sums.specs.Sums.{name_in, number_named, sum_of}
+use Rattle.hash_names.specs.Named.{kind_named, name_of, read_of}
+use Rattle.hash_sums.specs.declared.sums.Sum.{Sum}
+use Rattle.hash_sums.specs.declared.sums.Sum.TheVariants.{Table, Poly61}
+use Rattle.hash_sums.specs.declared.sums.Sum.TheVariants as sum
+use Rattle.hash_sums.specs.declared.sums.Wide.{Wide}
+use Rattle.hash_sums.specs.declared.sums.Wide.TheVariants as wide
+use Rattle.hash_sums.specs.Sums.{name_in, number_named, sum_of, takes_keys, wide_name, wide_of}
 use Rattle.hash_sums.proofs.laws.each_kind_has_the_hash_of_its_name.Goals as goal
 
 -- row by row
-told_is : (kind : Option Kind) → number_named (name_in kind) ≡ Some (sum_of kind)
+row_is : (kind : Kind) → number_named (name_of kind) ≡ Some (read_of kind)
 unfolding number_named kind_named
-told_is None = refl
-told_is (Some Fnv1a32) = refl
-told_is (Some kind) = refl
+row_is Fnv1a32 = refl
+row_is kind = refl
+
+wide_is : (it : Wide) → number_named (wide_name it) ≡ Some (wide_of it)
+unfolding number_named
+wide_is wide.Spooky = refl
+wide_is wide.Murmur3 = refl
+wide_is wide.Xxh3 = refl
+
+told_is : (it : Sum) (keys : ℕ × ℕ) → takes_keys it ≡ false → number_named (name_in it) ≡ Some (sum_of keys it)
+told_is (Table kind) keys none = row_is kind
+told_is (sum.Wide it) keys none = wide_is it
+told_is Poly61 keys none = let clash : true ≡ false = none in cc
 
 pub returns : goal.returns
-returns c which = told_is (kind_at which)
+returns c it keys none = told_is it keys none

@@ -1,8 +1,7 @@
 use Rattle.std.proofs.Common.{ℕ, ◌≡◌, Option, Some, None, true, List, map, refl, sym, ap, ◌∙◌}
 use Rattle.std.proofs.lemmas.Simd.{map-map}
 use Rattle.hash_lines.specs.Told.{are_tags}
-use Rattle.hash_names.specs.Named.{kind_at}
-use Rattle.hash_sums.specs.Sums.{kinds, told_of, Told}
+use Rattle.hash_sums.specs.Sums.{kinds, sum_at, told_of, Told}
 use Rattle.hash_sums.proofs.laws.kinds_are_tags.Goals as goal
 
 abbrev name_of : Told → List ℕ
@@ -10,7 +9,7 @@ name_of told = told.name
 
 -- by computing
 names_are_tags : (keys : Option (ℕ × ℕ)) → are_tags (map name_of (kinds keys)) ≡ true
-unfolding kind_at
+unfolding sum_at
 names_are_tags None = refl
 names_are_tags (Some keys) = refl
 

@@ -1,9 +1,9 @@
 use Rattle.std.proofs.Common.{Result, Ok, Err, OnOk, OnErr, Option, List, ℕ, subst, ◌∙◌}
 use Rattle.std.specs.Io.Buffered.{writer_contents}
 use Rattle.std.specs.Io.KnownBytes.{Appends}
-use Rattle.cli.specs.Streams.{AppendsPart, WritesOut}
-use Rattle.cli.specs.declared.fault.Fault.{Fault}
-use Rattle.cli.proofs.StreamLemmas.{part_none}
+use Rattle.streams.specs.Streams.{AppendsPart, WritesOut}
+use Rattle.streams.specs.declared.fault.Fault.{Fault}
+use Rattle.streams.proofs.StreamLemmas.{part_none}
 use Rattle.hash_sums.proofs.sum.tell_sum.Goals as goal
 
 -- what stands after a text is put out, by its two cases

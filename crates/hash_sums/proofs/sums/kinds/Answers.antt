@@ -1,13 +1,32 @@
-use Rattle.std.proofs.Common.{arith, ◌∷◌, ◌++◌, [], List, map, ap, ap₂, ◌∙◌, sym}
-use Rattle.std.proofs.lemmas.List.{map-append}
+use Rattle.std.proofs.Common.{◌≡◌, arith, ◌∷◌, ◌++◌, [], List, Vec, map, ap, ap₂, ◌∙◌, sym}
+use Rattle.std.proofs.lemmas.List.{map-append, append-nil}
 use Rattle.std.proofs.lemmas.List.FromFn.{map-range_with_len_more}
-use Rattle.hash_sums.specs.Sums.{told_at, told_of, Told}
+use Rattle.std.specs.List.{range_with_len}
+use Rattle.hash_sums.specs.Sums.{kinds, told_at, told_of, Told}
 use Rattle.hash_sums.proofs.sums.kinds.Goals as goal
+use Rattle.hash_sums.proofs.sums.kinds.Goals.{in-Some+in_ok-push-2, in_default}
 
--- one row more
+-- one more
 pub loop-which-preserved : goal.loop-which-preserved
 loop-which-preserved c =
-    ap (map told_of) c.in_ok-push-2.ensures.items
+    let n = c.loop-which.which in
+    ap (map told_of) c.in_ok-push.ensures.items
     ∙ map-append told_of c.loop-which.told.items (c.told_at.result ∷ [])
     ∙ ap₂ (λ (ts : List Told) (t : Told). ts ++ t ∷ []) c.loop-which.invariant c.told_at.ensures
-    ∙ ap (λ ts. told_at 4294967295 ∷ ts) (sym (map-range_with_len_more told_at 0 c.loop-which.which c.loop-which.which (omega arith)))
+    ∙ sym (map-range_with_len_more (told_at (0, 0)) 0 n n (omega arith))
+
+pub returns : goal.returns
+returns c =
+    let whole : c.loop-which.which ≡ 28 = omega (arith, c.loop-which.auto.which-end, c.loop-which-test.false) in
+    let rows = c.loop-which.invariant ∙ ap (λ n. map (told_at (0, 0)) (range_with_len 0 n)) whole in
+    elim c.match-keys.branch [
+      | in-Some+in_ok-push-2 w ↦
+          ap (λ (t : Vec _ _). map told_of t.items) w.told-is ∙ ap (map told_of) w.in_ok-push-2.ensures.items
+          ∙ map-append told_of c.loop-which.told.items (w.told_at-in-Some.result ∷ [])
+          ∙ ap₂ (λ (ts : List Told) (t : Told). ts ++ t ∷ []) rows w.told_at-in-Some.ensures
+          ∙ ap kinds (sym w.in-Some.is)
+      | in_default w ↦
+          ap (λ (t : Vec _ _). map told_of t.items) w.told-is ∙ rows
+          ∙ sym (append-nil (map (told_at (0, 0)) (range_with_len 0 28)))
+          ∙ ap kinds (sym w.in_default.is)
+    ]

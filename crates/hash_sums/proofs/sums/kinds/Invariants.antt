@@ -1,8 +1,8 @@
-use Rattle.std.proofs.Common.{◌≡◌, ◌∷◌, map}
+use Rattle.std.proofs.Common.{◌≡◌, map}
 use Rattle.std.specs.List.{range_with_len}
 use Rattle.hash_sums.specs.Sums.{told_at, told_of}
 use Rattle.hash_sums.proofs.sums.kinds.Given as goal
 
--- the rows before
+-- those before
 abbrev pub invariant-loop-which : goal.invariant-loop-which
-invariant-loop-which l = map told_of l.told.items ≡ told_at 4294967295 ∷ map told_at (range_with_len 0 l.which)
+invariant-loop-which l = map told_of l.told.items ≡ map (told_at (0, 0)) (range_with_len 0 l.which)

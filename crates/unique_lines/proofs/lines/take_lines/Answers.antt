@@ -5,7 +5,7 @@ use Rattle.text_set.specs.Lines.{lines_by}
 use Rattle.unique_lines.specs.Taking.{LeadsOn}
 use Rattle.text_set.proofs.LineLemmas.{first_strip, line_before}
 use Rattle.unique_lines.proofs.RunLemmas.{breaks_at_line, counted_more, front_is, leads_both, leads_nowhere, lines_more, takes_so_far, together, whole_both, whole_line, whole_nothing}
-use Rattle.cli.proofs.StreamLemmas.{on_err}
+use Rattle.streams.proofs.StreamLemmas.{on_err}
 use Rattle.unique_lines.proofs.lines.take_lines.Goals as goal
 
 pub loop-count-init : goal.loop-count-init

@@ -2,9 +2,9 @@ use Rattle.std.proofs.Common.{◌<◌, ◌≤◌, ◌∷◌, ◌++◌, [], OnErr
 use Rattle.std.specs.Io.KnownBytes.{Appends}
 use Rattle.std.proofs.KnownBytes.{Appends-trans}
 use Rattle.std.proofs.lemmas.Result.{on_err_weaker, on_ok_weaker}
-use Rattle.cli.specs.Streams.{AppendsPart}
+use Rattle.streams.specs.Streams.{AppendsPart}
 use Rattle.text_set.proofs.LineLemmas.{line_with_end, line_without_end}
-use Rattle.cli.proofs.StreamLemmas.{on_err}
+use Rattle.streams.proofs.StreamLemmas.{on_err}
 use Rattle.unique_lines.proofs.lines.write_line.Goals as goal
 
 pub returns-then-text-line-clause-err : goal.returns-then-text-line-clause-err

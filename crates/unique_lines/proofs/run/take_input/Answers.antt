@@ -5,7 +5,7 @@ use Rattle.unique_lines.specs.Between.{IsNextLine, Takes}
 use Rattle.text_set.specs.Lines.{lines_by}
 use Rattle.unique_lines.specs.Taking.{BreaksOff, EndsInput, LeadsOn, StopsWithin}
 use Rattle.unique_lines.proofs.RunLemmas.{Reads, all_first, breaks_among, breaks_at, ends_left, leads_both, leads_kept, more_first, more_left, read_to_fault, reads_more, some_most, stops_after, stops_behind, taken_first, taken_of, takes_some}
-use Rattle.cli.proofs.StreamLemmas.{on_err}
+use Rattle.streams.proofs.StreamLemmas.{on_err}
 use Rattle.unique_lines.proofs.run.take_input.Goals as goal
 
 pub returns-in_err-fill-clause-broke : goal.returns-in_err-fill-clause-broke

@@ -4,7 +4,7 @@ use Rattle.std.specs.Io.Buffered.{writer_contents}
 use Rattle.unique_lines.specs.Taking.{LeadsOn, StopsWithin}
 use Rattle.text_set.proofs.LineLemmas.{bare_line, strip_bare}
 use Rattle.unique_lines.proofs.RunLemmas.{leads_kept, stops_after}
-use Rattle.cli.proofs.StreamLemmas.{on_err}
+use Rattle.streams.proofs.StreamLemmas.{on_err}
 use Rattle.unique_lines.proofs.run.take_last.Goals as goal
 
 pub take_line-requires-clause-text : goal.take_line-requires-clause-text

@@ -2,7 +2,7 @@ use Rattle.std.proofs.Common.{rules, arith, ap, ◌∙◌, get_or}
 use Rattle.std.proofs.KnownBytes.{Keeps-refl}
 use Rattle.unique_lines.specs.Tallies.{shown}
 use Rattle.unique_lines.proofs.OrderLemmas.{telling_ends, telling_more, telling_stops, telling_stops_within}
-use Rattle.cli.proofs.StreamLemmas.{on_err}
+use Rattle.streams.proofs.StreamLemmas.{on_err}
 use Rattle.unique_lines.proofs.tally.write_tallies.Goals as goal
 
 pub returns-in_err-show-clause-err : goal.returns-in_err-show-clause-err

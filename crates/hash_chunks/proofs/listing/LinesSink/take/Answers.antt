@@ -1,8 +1,8 @@
 use Rattle.std.proofs.Common.{◌≡◌, List, ℕ, ap₂, subst, ◌∙◌}
 use Rattle.std.specs.Io.Buffered.{writer_contents}
 use Rattle.std.specs.Io.KnownBytes.{Appends}
-use Rattle.cli.proofs.StreamLemmas.{on_err, part_none}
-use Rattle.cli.specs.Streams.{AppendsPart}
+use Rattle.streams.proofs.StreamLemmas.{on_err, part_none}
+use Rattle.streams.specs.Streams.{AppendsPart}
 use Rattle.hash_chunks.specs.Listing.{chunk_line}
 use Rattle.hash_chunks.proofs.ListingLemmas.{listed_more, listed_part}
 use Rattle.hash_lines.specs.declared.line.Kind.{Kind}

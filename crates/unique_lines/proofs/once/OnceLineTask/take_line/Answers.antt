@@ -4,7 +4,7 @@ use Rattle.text_set.specs.Lines.{as_line_by}
 use Rattle.text_set.specs.Firsts.{once_by}
 use Rattle.text_set.proofs.FirstsLemmas.{once_begins}
 use Rattle.unique_lines.proofs.RunLemmas.{stops_before}
-use Rattle.cli.proofs.StreamLemmas.{on_err}
+use Rattle.streams.proofs.StreamLemmas.{on_err}
 use Rattle.unique_lines.proofs.SeenLemmas.{adds_new, adds_nothing, stops_in_line, takes_line}
 use Rattle.unique_lines.proofs.once.OnceLineTask.take_line.Goals as goal
 

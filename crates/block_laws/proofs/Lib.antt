@@ -1,0 +1,7 @@
+pub mod BackLemmas
+pub mod BlockLemmas
+pub mod BlockBack
+pub mod RestLemmas
+pub mod Same32
+pub mod Words32
+pub mod Words64

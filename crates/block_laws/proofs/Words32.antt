@@ -1,0 +1,275 @@
+-- XXH32 of two texts that differ in one word of four bytes.
+use Rattle.std.proofs.Common.{◌≡◌, ◌≢◌, ℕ, ◌+◌, ◌-◌, ◌*◌, ◌/◌, ◌%◌, ◌^◌, ◌<◌, ◌≤◌, nat_lt, cond, false, List, [], ◌++◌, length, slice_index, take, drop, fold, refl, sym, ap, ◌∙◌, arith, lit<, inl, inr, ⊎_elim, length-append, length-drop}
+use Rattle.std.proofs.Math.Path.{ap₂}
+use Rattle.std.proofs.lemmas.Bool.{cases_eq, cases_lt}
+use Rattle.std.proofs.lemmas.Bool.Decides.{nat_tests}
+use Rattle.std.proofs.lemmas.Nat.{mod_below, pow_pos}
+use Rattle.std.proofs.lemmas.List.{append_assoc, take-append-drop, take_at, drop_at, drop-drop, get_or-map, length-take-le}
+use Rattle.std.proofs.lemmas.List.Elements.{All-take, All-drop}
+use Rattle.std.specs.Simd.{first_chunks}
+use Rattle.hash_rounds.specs.Words.{le, add}
+use Rattle.hash_rounds.specs.Blocks.{pieces}
+use Rattle.hash_rounds.proofs.Chunks.{get_or-first_chunks}
+use Rattle.hash_rounds.proofs.PieceLemmas.{le-lt, le-same, part-same, rest-same, length-first_chunks}
+use Rattle.hash_laws.specs.Text.{IsText}
+use Rattle.hash_laws.specs.DifferWithin.{IsFirstDifference, DifferInOneBlock}
+use Rattle.hash_laws.proofs.TextLemmas.{IsByte}
+use Rattle.hash_laws.proofs.FrameLemmas.{same_outside}
+use Rattle.hash_blocks.specs.Blocks.{blocks, tail}
+use Rattle.block_laws.specs.BlockFacts.{IsBlock}
+use Rattle.hash_blocks.specs.BlocksLaws.{blocks_on, blocks_one, blocks_short, blocks-append, tail_on, tail_short, tail-append}
+use Rattle.block_laws.proofs.BackLemmas.{framed-blocks, framed-tail, tail-left}
+use Rattle.hash_xxhash.specs.Xxh32.{q5, round, start, words_of, after_block, converged, four_in, byte_in, fours_in, rest_in, last_mix, xxh32}
+use Rattle.block_laws.specs.Xxh32Words.{DifferInOneWord}
+use Rattle.block_laws.proofs.Same32.{round_word, four-lt, four_word, rest-lt, rest_state, last_mix_same, lane-block, lane_after, lane_before, AreLanes, block-lanes, blocks-lanes, converged-lt, converged_same}
+
+word-lt : (b : List ℕ) → IsBlock 4 b → le b < 2 ^ 32
+word-lt b is = let below = rw is.1 at (le-lt b is.0) in omega (arith, below)
+
+same_word : (v w : List ℕ) → IsBlock 4 v → IsBlock 4 w → le v ≡ le w → v ≡ w
+same_word v w v_is w_is e = le-same v w v_is.0 w_is.0 (v_is.1 ∙ sym w_is.1) e
+
+add-lt : (x y : ℕ) → add 32 x y < 2 ^ 32
+add-lt x y = mod_below _ (2 ^ 32) (pow_pos 32)
+
+length-tail : (t : List ℕ) → length (tail 16 t) ≡ length t % 16
+unfolding tail
+length-tail t = omega (arith, length-drop (length t / 16 * 16) t)
+
+-- ---- a word behind the whole blocks
+
+rest-framed : (h : ℕ) (front w back : List ℕ) → length front % 4 ≡ 0 → length w ≡ 4
+    → rest_in h (front ++ (w ++ back)) ≡ rest_in (four_in (fours_in h front) (le w)) back
+unfolding rest_in
+rest-framed h front w back place whole =
+    ap₂ (λ (e : ℕ) (t : List ℕ). fold byte_in e t)
+    (framed-blocks 4 (lit< tt) (λ h block. four_in h (le block)) h front w back place whole)
+    (framed-tail 4 (lit< tt) (λ h block. four_in h (le block)) h front w back place whole)
+
+module _ (seed : ℕ) (front back : List ℕ) (backs : IsText back) (place : length front % 4 ≡ 0)
+    (behind : length front % 16 + 4 + length back < 16) where
+  abbrev n : ℕ
+  n = length front + 4 + length back
+
+  abbrev begun : ℕ
+  begun = cond (nat_lt n 16) (add 32 seed q5) (converged (blocks 16 after_block (start seed) front))
+
+  abbrev from : ℕ
+  from = fours_in (add 32 begun n) (tail 16 front)
+
+  module _ (w : List ℕ) (whole : length w ≡ 4) where
+    abbrev text : List ℕ
+    text = front ++ (w ++ back)
+
+    size : length text ≡ n
+    size = omega (arith, length-append front (w ++ back), length-append w back, whole)
+
+    few : length (tail 16 front ++ (w ++ back)) < 16
+    few = omega (arith, length-append (tail 16 front) (w ++ back), length-append w back, length-tail front, whole, behind)
+
+    framed : xxh32 seed text ≡ last_mix (rest_in (four_in from (le w)) back)
+    framed =
+        ap (λ (m : ℕ). last_mix (rest_in (add 32 (cond (nat_lt m 16) (add 32 seed q5) (converged (blocks 16 after_block (start seed) text))) m)
+        (tail 16 text))) size
+        ∙ ap (λ (s : List ℕ). last_mix (rest_in (add 32 (cond (nat_lt n 16) (add 32 seed q5) (converged s)) n) (tail 16 text)))
+        (sym (blocks_on 16 (lit< tt) after_block (start seed) front (w ++ back))
+        ∙ blocks_short 16 (lit< tt) after_block (blocks 16 after_block (start seed) front) _ few)
+        ∙ ap (λ (t : List ℕ). last_mix (rest_in (add 32 begun n) t))
+        (sym (tail_on 16 (lit< tt) front (w ++ back)) ∙ tail_short 16 (lit< tt) _ few)
+        ∙ ap last_mix (rest-framed (add 32 begun n) (tail 16 front) w back (omega (arith, length-tail front, place)) whole)
+
+  behind_same : (v w : List ℕ) → IsBlock 4 v → IsBlock 4 w → xxh32 seed (front ++ (v ++ back)) ≡ xxh32 seed (front ++ (w ++ back)) → v ≡ w
+  behind_same v w v_is w_is same =
+      same_word v w v_is w_is (four_word from (le v) (le w) (word-lt v v_is) (word-lt w w_is)
+      (rest_state back backs _ _ (four-lt from (le v)) (four-lt from (le w))
+      (last_mix_same _ _ (rest-lt back backs _ (four-lt from (le v))) (rest-lt back backs _ (four-lt from (le w)))
+      (sym (framed v v_is.1) ∙ same ∙ framed w w_is.1))))
+
+-- ---- a word in a block
+
+word-at : (b : List ℕ) (j : ℕ) → length b ≡ 16 → j < 4 → slice_index (words_of b) j ≡ le (take 4 (drop (j * 4) b))
+unfolding words_of pieces
+word-at b j size below =
+    let four : length b / 4 ≡ 4 = omega (arith, size) in
+    let inside : j < length (first_chunks 4 (length b / 4) b) = omega (arith, below, four, length-first_chunks 4 (length b / 4) b) in
+    get_or-map le (first_chunks 4 (length b / 4) b) j [] 0 inside
+    ∙ ap le (get_or-first_chunks 4 (length b / 4) j b [] (omega (arith, below, four)))
+
+module _ (seed : ℕ) (seed_in : seed < 2 ^ 32) (front back : List ℕ) (backs : IsText back) (i : ℕ) (i_in : i < 4)
+    (place : length front % 16 ≡ i * 4) (enough : 12 ≤ i * 4 + length back) where
+  abbrev rest : ℕ
+  rest = 12 - i * 4
+
+  abbrev later : List ℕ
+  later = drop rest back
+
+  abbrev block : List ℕ → List ℕ
+  block w = tail 16 front ++ (w ++ take rest back)
+
+  abbrev before : List ℕ
+  before = blocks 16 after_block (start seed) front
+
+  ahead-size : length (tail 16 front) ≡ i * 4
+  ahead-size = length-tail front ∙ place
+
+  taken : length (take rest back) ≡ rest
+  taken = length-take-le rest back (omega (arith, enough))
+
+  abbrev m : ℕ
+  m = length front + 4 + length back
+
+  long : nat_lt m 16 ≡ false
+  long =
+      let many : 16 ≤ m = omega (arith, place, enough, i_in) in
+      grind (arith, nat_tests)
+
+  module _ (w : List ℕ) (whole : length w ≡ 4) where
+    abbrev all : List ℕ
+    all = front ++ (w ++ back)
+
+    block-size : length (block w) ≡ 16
+    block-size = omega (arith, length-append (tail 16 front) (w ++ take rest back), length-append w (take rest back), ahead-size, taken, whole, i_in)
+
+    once : length (block w) ≡ 1 * 16
+    once = omega (arith, block-size)
+
+    regrouped : tail 16 front ++ (w ++ back) ≡ block w ++ later
+    regrouped =
+        ap (λ (t : List ℕ). tail 16 front ++ (w ++ t)) (sym (take-append-drop rest back))
+        ∙ ap (λ (t : List ℕ). tail 16 front ++ t) (sym (append_assoc w (take rest back) later))
+        ∙ sym (append_assoc (tail 16 front) (w ++ take rest back) later)
+
+    lanes : blocks 16 after_block (start seed) all ≡ blocks 16 after_block (after_block before (block w)) later
+    lanes =
+        sym (blocks_on 16 (lit< tt) after_block (start seed) front (w ++ back)) ∙ ap (blocks 16 after_block before) regrouped
+        ∙ blocks-append 16 (lit< tt) after_block before (block w) later 1 once
+        ∙ ap (λ (s : List ℕ). blocks 16 after_block s later) (blocks_one 16 (lit< tt) after_block before (block w) block-size)
+
+    left : tail 16 all ≡ tail 16 later
+    left =
+        sym (tail_on 16 (lit< tt) front (w ++ back)) ∙ ap (tail 16) regrouped ∙ tail-append 16 (lit< tt) (block w) later 1 once
+
+    all-size : length all ≡ m
+    all-size = omega (arith, length-append front (w ++ back), length-append w back, whole)
+
+    abbrev end : List ℕ
+    end = blocks 16 after_block (after_block before (block w)) later
+
+    hash-is : xxh32 seed all ≡ last_mix (rest_in (add 32 (converged end) m) (tail 16 later))
+    hash-is =
+        ap (λ (k : ℕ). last_mix (rest_in (add 32 (cond (nat_lt k 16) (add 32 seed q5) (converged (blocks 16 after_block (start seed) all))) k)
+        (tail 16 all))) all-size
+        ∙ ap (λ b. last_mix (rest_in (add 32 (cond b (add 32 seed q5) (converged (blocks 16 after_block (start seed) all))) m) (tail 16 all))) long
+        ∙ ap (λ (s : List ℕ). last_mix (rest_in (add 32 (converged s) m) (tail 16 all))) lanes
+        ∙ ap (λ (t : List ℕ). last_mix (rest_in (add 32 (converged end) m) t)) left
+
+    end-lanes : AreLanes end
+    end-lanes = blocks-lanes (after_block before (block w)) later (block-lanes before (block w))
+
+    here : slice_index (words_of (block w)) i ≡ le w
+    here =
+        word-at (block w) i block-size i_in
+        ∙ ap (λ (t : List ℕ). le (take 4 t)) (drop_at (tail 16 front) (w ++ take rest back) (i * 4) ahead-size)
+        ∙ ap le (take_at w (take rest back) 4 whole)
+
+  elsewhere : (v w : List ℕ) → length v ≡ 4 → length w ≡ 4 → (j : ℕ) → j < 4 → (j ≡ i → ⊥)
+      → slice_index (words_of (block v)) j ≡ slice_index (words_of (block w)) j
+  elsewhere v w vs ws j below other =
+      word-at (block v) j (block-size v vs) below
+      ∙ ap le (part-same 4 (j * 4) (block v) (block w) (block-size v vs ∙ sym (block-size w ws)) (λ k k_in.
+      same_outside (tail 16 front) v w (take rest back) (j * 4 + k) (vs ∙ sym ws) (elim (cases_lt j i) [
+        | inl smaller ↦ inl (omega (arith, smaller, k_in, ahead-size))
+        | inr reached ↦
+            let larger : i < j = ⊎_elim (λ h. h) (λ h. absurd (other (omega (arith, h, reached)))) (cases_lt i j) in
+            inr (omega (arith, larger, ahead-size, vs))
+      ])))
+      ∙ sym (word-at (block w) j (block-size w ws) below)
+
+  inside_same : (v w : List ℕ) → IsBlock 4 v → IsBlock 4 w → xxh32 seed (front ++ (v ++ back)) ≡ xxh32 seed (front ++ (w ++ back)) → v ≡ w
+  inside_same v w v_is w_is same =
+      let sv = after_block before (block v) in
+      let sw = after_block before (block w) in
+      let lefts = (tail-left 16 (lit< tt) later (All-drop IsByte rest back backs)).0 in
+      let mixed = last_mix_same _ _ (rest-lt (tail 16 later) lefts _ (add-lt (converged (end v v_is.1)) m))
+      (rest-lt (tail 16 later) lefts _ (add-lt (converged (end w w_is.1)) m)) (sym (hash-is v v_is.1) ∙ same ∙ hash-is w w_is.1) in
+      let sums = rest_state (tail 16 later) lefts _ _ (add-lt (converged (end v v_is.1)) m) (add-lt (converged (end w w_is.1)) m) mixed in
+      let v_in = converged-lt (end v v_is.1) in
+      let w_in = converged-lt (end w w_is.1) in
+      let words : converged (end v v_is.1) ≡ converged (end w w_is.1) = omega (arith, sums, v_in, w_in) in
+      let lane = converged_same (end v v_is.1) (end w w_is.1) i i_in (end-lanes v v_is.1) (end-lanes w w_is.1)
+      (λ j below other. lane_after sv sw later j below (lane-block before (block v) j below
+      ∙ ap (λ (x : ℕ). round (slice_index before j) x) (elsewhere v w v_is.1 w_is.1 j below other)
+      ∙ sym (lane-block before (block w) j below))) words in
+      let at_block = lane_before sv sw later i i_in (block-lanes before (block v) i i_in) (block-lanes before (block w) i i_in) lane in
+      let rounds = sym (lane-block before (block v) i i_in) ∙ at_block ∙ lane-block before (block w) i i_in in
+      let turned = ap (λ (x : ℕ). round (slice_index before i) x) (sym (here v v_is.1)) ∙ rounds
+      ∙ ap (λ (x : ℕ). round (slice_index before i) x) (here w w_is.1) in
+      same_word v w v_is w_is (round_word (slice_index before i) (le v) (le w) (word-lt v v_is) (word-lt w w_is) turned)
+
+-- ---- two texts
+
+module _ (x y : List ℕ) (xs : IsText x) (ys : IsText y) (differ : DifferInOneWord x y) where
+  abbrev g : ℕ
+  g = differ.differ.one.0
+
+  abbrev at : ℕ
+  at = g * 4
+
+  len : length x ≡ length y
+  len = differ.differ.same_length
+
+  abbrev part : List ℕ → List ℕ
+  part t = take 4 (drop at t)
+
+  abbrev ahead : List ℕ
+  ahead = take at x
+
+  abbrev behind : List ℕ
+  behind = drop (4 + at) x
+
+  joined : (t : List ℕ) → take at t ++ (part t ++ drop (4 + at) t) ≡ t
+  joined t =
+      ap (λ (d : List ℕ). take at t ++ (part t ++ d)) (sym (drop-drop 4 at t ∙ ap (λ m. drop m t) (let e : at + 4 ≡ 4 + at = omega arith in e)))
+      ∙ ap (λ (d : List ℕ). take at t ++ d) (take-append-drop 4 (drop at t)) ∙ take-append-drop at t
+
+  front-same : take at x ≡ take at y
+  front-same = part-same at 0 x y len (λ i i_in. differ.differ.one.1 (0 + i) (λ (e : (0 + i) / 4 ≡ g). omega (arith, e, i_in)))
+
+  back-same : drop (4 + at) x ≡ drop (4 + at) y
+  back-same = rest-same (4 + at) x y len (λ i. differ.differ.one.1 (4 + at + i) (λ (e : (4 + at + i) / 4 ≡ g). omega (arith, e)))
+
+  fits : at + 4 ≤ length x
+  fits = differ.whole
+
+  part-is : (t : List ℕ) → IsText t → length t ≡ length x → IsBlock 4 (part t)
+  part-is t text same =
+      (All-take IsByte 4 (drop at t) (All-drop IsByte at t text), length-take-le 4 (drop at t) (omega (arith, fits, same, length-drop at t)))
+
+  front-size : length ahead ≡ at
+  front-size = length-take-le at x (omega (arith, fits))
+
+  behinds : IsText behind
+  behinds = All-drop IsByte (4 + at) x xs
+
+  pub word-differs : (seed : ℕ) → seed < 2 ^ 32 → xxh32 seed x ≢ xxh32 seed y
+  word-differs seed seed_in same =
+      let framed_y : ahead ++ (part y ++ behind) ≡ y =
+      ap₂ (λ (f b : List ℕ). f ++ (part y ++ b)) front-same back-same ∙ joined y in
+      let led : xxh32 seed (ahead ++ (part x ++ behind)) ≡ xxh32 seed (ahead ++ (part y ++ behind)) =
+      ap (xxh32 seed) (joined x) ∙ same ∙ ap (xxh32 seed) (sym framed_y) in
+      let parts : part x ≡ part y = elim (cases_lt (length ahead % 16 + 4 + length behind) 16) [
+        | inl few ↦
+            behind_same seed ahead behind behinds (omega (arith, front-size)) few (part x) (part y) (part-is x xs refl) (part-is y ys (sym len)) led
+        | inr many ↦
+            inside_same seed seed_in ahead behind behinds (g % 4) (omega arith) (omega (arith, front-size))
+            (omega (arith, front-size, many)) (part x) (part y) (part-is x xs refl) (part-is y ys (sym len)) led
+      ] in
+      differ.differ.different (sym (joined x) ∙ ap (λ (p : List ℕ). ahead ++ (p ++ behind)) parts ∙ framed_y)
+
+-- the word of the first difference is the one in which they differ
+pub DifferInOneWord-at : (x y : List ℕ) (first : ℕ) → IsFirstDifference first x y → (differ : DifferInOneBlock 4 x y)
+    → first / 4 * 4 + 4 ≤ length x → DifferInOneWord x y
+DifferInOneWord-at x y first is differ whole =
+    let here : first / 4 ≡ differ.one.0 =
+    ⊎_elim (λ e. e) (λ other. absurd (is.differ_there (differ.one.1 first other))) (cases_eq (first / 4) differ.one.0) in
+    record { differ = differ; whole = omega (arith, here, whole) }

@@ -1,0 +1,57 @@
+//! Blocks of a text that comes piece by piece.
+ghost use Rattle.std.specs.Prelude.{◌≡◌, ◌+◌, ◌<◌, ◌≤◌, ◌++◌, length, take};
+ghost use Rattle.hash_blocks.specs.Blocks.{blocks, tail};
+
+use crate::block_rule::BlockRule;
+use hash_rounds::put;
+
+/// Takes the whole blocks of the bytes in, where they stand, and returns what is left behind them.
+#[inline(always)]
+#[tactic(auto, unfolding(crate::specs::Blocks::blocks, crate::specs::Blocks::tail, hash_rounds::specs::Blocks::pieces))]
+pub fn blocks_in<'a, R: BlockRule<N>, const N: usize>(
+    state: &mut R::State,
+    bytes: &'a [u8],
+) -> &'a [u8]
+    ensures mixed { state.new ≡ blocks N R.block state.old bytes.now }
+    ensures left { result.now ≡ tail N bytes.now }
+    ensures part { length result.now < N }
+{
+    let (whole, left) = bytes.as_chunks::<N>();
+    let mut mixed = *state;
+    for block in whole {
+        R::block(&mut mixed, block);
+    }
+    *state = mixed;
+    left
+}
+
+/// Takes more bytes in behind the first `kept` of the buffer, and returns how many are kept afterwards. Where they complete a
+/// block that was begun, its bytes are copied to the buffer; all blocks behind are read where they stand.
+#[inline(always)]
+pub(crate) fn bytes_in<R: BlockRule<N>, const N: usize>(
+    state: &mut R::State,
+    buffer: &mut [u8; N],
+    kept: usize,
+    bytes: &[u8],
+) -> usize
+    requires { kept < N }
+    ensures mixed { state.new ≡ blocks N R.block state.old (take kept buffer.old ++ bytes.now) }
+    ensures left { take result buffer.new ≡ tail N (take kept buffer.old ++ bytes.now) }
+    ensures part { result < N }
+    ensures whole { length buffer.new ≡ N }
+{
+    if bytes.len() < N - kept {
+        put(buffer, kept, bytes);
+        return kept + bytes.len();
+    }
+    let mut rest = bytes;
+    if kept > 0 {
+        let (head, behind) = bytes.split_at(N - kept);
+        put(buffer, kept, head);
+        R::block(state, buffer);
+        rest = behind;
+    }
+    let left = blocks_in::<R, N>(state, rest);
+    put(buffer, 0, left);
+    left.len()
+}

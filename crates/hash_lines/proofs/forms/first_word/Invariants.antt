@@ -1,0 +1,7 @@
+use Rattle.std.proofs.Common.{◌≡◌, false, All, take}
+use Rattle.std.specs.Char.{is_ascii_whitespace}
+use Rattle.hash_lines.proofs.forms.first_word.Given as goal
+
+-- the bytes so far are no blanks
+abbrev pub invariant-loop-at : goal.invariant-loop-at
+invariant-loop-at l = All (λ byte. is_ascii_whitespace byte ≡ false) (take l.at l.line)

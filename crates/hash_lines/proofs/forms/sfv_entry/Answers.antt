@@ -1,0 +1,20 @@
+use Rattle.std.proofs.Common.{MatchOption, IfOk, List, ℕ, subst}
+use Rattle.hash_lines.specs.Forms.{IsSfvForm}
+use Rattle.hash_lines.specs.Told.{Tells, TellsNothing}
+use Rattle.hash_lines.proofs.FormLemmas.{found_in, sfv_plain_one}
+use Rattle.hash_lines.proofs.forms.sfv_entry.Goals as goal
+
+pub returns-in-Some : goal.returns-in-Some
+returns-in-Some c =
+    let line = c.args.line.now in
+    let plain = c.in-Some.plain.items in
+    let form : IsSfvForm line plain = rw c.in-Some.is at c.in_ok-plain.ensures in
+    found_in IsSfvForm c.args.kinds.now c.args.kind line plain form (λ other also. sfv_plain_one line plain other form also)
+    c.parse_line.result
+    (subst (λ t. IfOk c.parse_line.result (λ found. MatchOption found (TellsNothing c.args.kinds.now c.args.kind t)
+    (λ entry. Tells c.args.kinds.now c.args.kind entry.kind entry.name.items entry.number t))) c.deref.ensures.value c.parse_line.ensures)
+
+pub returns-in-None : goal.returns-in-None
+returns-in-None c =
+    let none : (plain : List ℕ) → ¬ (IsSfvForm c.args.line.now plain) = rw c.in-None.is at c.in_ok-plain.ensures in
+    λ plain form other name number tells. none plain form

@@ -1,0 +1,48 @@
+//! A random key, and the hashers under it.
+ghost use Rattle.std.specs.Prelude.{◌≡◌, []};
+ghost use Rattle.hash_blocks.specs.Blocks.{position};
+ghost use Rattle.hash_siphash.specs.SipHash.{after_block, start};
+
+use crate::siphash::{SipHasher13, SipKey};
+use std::hash::BuildHasher;
+use std::io;
+use std::random::RandomSource;
+
+/// A random key, and the hashers by SipHash-1-3 that start from it, as the maps of Rust have them. That strangers who do not know
+/// the key find no texts of one hash is what SipHash's authors claim, and nothing that is proved.
+#[derive(Clone, Copy)]
+pub struct SipKeys {
+    key: SipKey,
+}
+
+impl SipKeys {
+    /// A key from the system's source of randomness: 128 random bits. It fails where the source does.
+    pub fn new(rt: &impl RandomSource) -> io::Result<SipKeys> {
+        let mut first = [0; 8];
+        let mut last = [0; 8];
+        rt.fill_bytes(&mut first)?;
+        rt.fill_bytes(&mut last)?;
+        Ok(SipKeys::with_key(SipKey {
+            k0: u64::from_le_bytes(first),
+            k1: u64::from_le_bytes(last),
+        }))
+    }
+
+    /// This key.
+    pub fn with_key(key: SipKey) -> SipKeys
+        ensures { result ≡ record { key = key } }
+    {
+        SipKeys { key }
+    }
+}
+
+impl BuildHasher for SipKeys {
+    type Hasher = SipHasher13;
+
+    ghost build_hasher = { λ k. position 8 (after_block 1) (start k.key.k0 k.key.k1) [] };
+
+    #[inline(always)]
+    fn build_hasher(&self) -> SipHasher13 {
+        SipHasher13::new(self.key)
+    }
+}

@@ -1,0 +1,10 @@
+use Rattle.std.proofs.Common.{◌≡◌, ℕ, List, take}
+use Rattle.std.specs.Prelude.{unwrap_or}
+use Rattle.std.specs.HashMap as map
+use Rattle.std.specs.List.{count_by}
+use Rattle.std.specs.Str.{bytes_eq}
+use Rattle.hash_vectors.proofs.maps.count_words.Given as goal
+
+abbrev pub invariant-loop-word : goal.invariant-loop-word
+invariant-loop-word g l = (word : List ℕ) → unwrap_or (map.get_by (λ k. bytes_eq word k.now) l.counts) 0
+    ≡ count_by (λ w. bytes_eq word w.now) (take l.word-index l.words)

@@ -1,0 +1,15 @@
+pub mod Secret
+pub mod Words
+pub mod Short
+pub mod Middle
+pub mod Long
+pub mod Xxh3
+pub mod LaneLaws
+pub mod StripeLaws
+pub mod Streaming
+pub mod StreamingLaws
+pub mod Parts
+pub mod Hasher
+pub mod Wide
+pub mod WideLaws
+pub mod Apart

@@ -1,0 +1,22 @@
+//! XXH3 of 64 bits (Yann Collet, xxHash 0.8): a fast hash of a text under a seed, not cryptographic.
+#![tactic(auto)]
+
+mod advance;
+mod build;
+pub mod hasher;
+pub mod laws;
+mod long;
+mod middle;
+mod parts;
+mod secret;
+mod short;
+pub mod unmix;
+mod whole;
+mod wide;
+mod words;
+
+pub use build::BuildXxh3;
+pub use hasher::{Xxh3Hasher, xxh3_64_of_pieces, xxh3_128_of_pieces};
+pub use laws::{apart_xxh3, apart_xxh128};
+pub use whole::xxh3_64;
+pub use wide::xxh3_128;

@@ -1,0 +1,5 @@
+use Rattle.jenkins_laws.proofs.Lookup3Even.{blocks-even}
+use Rattle.jenkins_laws.proofs.two_texts.lookup3_is_even.Goals as goal
+
+pub returns : goal.returns
+returns c = blocks-even

@@ -1,0 +1,11 @@
+use Rattle.std.proofs.Common.{◌+◌, ◌/◌, arith}
+use Rattle.hash_laws.proofs.OneGroup.{middles-DifferInOne}
+use Rattle.jenkins_laws.proofs.two_texts.middles_in_one_group.Goals as goal
+
+pub returns-clause-block : goal.returns-clause-block
+returns-clause-block c = λ front x y back len different room. middles-DifferInOne (λ i. i / 12) front x y back len different
+    (λ i from below. omega (arith, from, below, room))
+
+pub returns-clause-stretch : goal.returns-clause-stretch
+returns-clause-stretch c = λ front x y back len different room. middles-DifferInOne (λ i. (i + 16) / 32) front x y back len different
+    (λ i from below. omega (arith, from, below, room))

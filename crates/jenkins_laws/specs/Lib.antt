@@ -1,0 +1,3 @@
+pub mod Mixing
+pub mod Stretch
+pub mod Zeros

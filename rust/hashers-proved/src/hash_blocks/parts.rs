@@ -1,0 +1,70 @@
+//! Blocks of a text that comes piece by piece.
+
+// What follows is the proved text of crates/hash_blocks/src/parts.rt without its contracts.
+use crate::hash_rounds;
+
+use crate::hash_blocks::block_rule::BlockRule;
+use hash_rounds::put;
+
+/// Takes the whole blocks of the bytes in, where they stand, and returns what is left behind them.
+///
+/// Proved:
+///
+/// ```text
+/// mixed: state.new ≡ blocks N R.block state.old bytes.now
+/// left: result.now ≡ tail N bytes.now
+/// part: length result.now < N
+/// ```
+#[inline(always)]
+pub fn blocks_in<'a, R: BlockRule<N>, const N: usize>(
+    state: &mut R::State,
+    bytes: &'a [u8],
+) -> &'a [u8] {
+    let (whole, left) = bytes.as_chunks::<N>();
+    let mut mixed = *state;
+    for block in whole {
+        R::block(&mut mixed, block);
+    }
+    *state = mixed;
+    left
+}
+
+/// Takes more bytes in behind the first `kept` of the buffer, and returns how many are kept afterwards. Where they complete a
+/// block that was begun, its bytes are copied to the buffer; all blocks behind are read where they stand.
+///
+/// The caller has to see to it that:
+///
+/// ```text
+/// kept < N
+/// ```
+///
+/// Proved:
+///
+/// ```text
+/// mixed: state.new ≡ blocks N R.block state.old (take kept buffer.old ++ bytes.now)
+/// left: take result buffer.new ≡ tail N (take kept buffer.old ++ bytes.now)
+/// part: result < N
+/// whole: length buffer.new ≡ N
+/// ```
+#[inline(always)]
+pub(crate) fn bytes_in<R: BlockRule<N>, const N: usize>(
+    state: &mut R::State,
+    buffer: &mut [u8; N],
+    kept: usize,
+    bytes: &[u8],
+) -> usize {
+    if bytes.len() < N - kept {
+        put(buffer, kept, bytes);
+        return kept + bytes.len();
+    }
+    let mut rest = bytes;
+    if kept > 0 {
+        let (head, behind) = bytes.split_at(N - kept);
+        put(buffer, kept, head);
+        R::block(state, buffer);
+        rest = behind;
+    }
+    let left = blocks_in::<R, N>(state, rest);
+    put(buffer, 0, left);
+    left.len()
+}

@@ -1,0 +1,126 @@
+//! Where a text is cut.
+
+// What follows is the proved text of crates/hash_cuts/src/cuts.rt without its contracts.
+// Clauses name the average, and proofs the loop.
+#![allow(dead_code, unused_labels)]
+
+use crate::hash_cuts::gear::Gear;
+
+/// Where texts are cut into chunks. Contracts see the numbers that `new` takes.
+pub struct Cuts {
+    least: usize,
+    average: usize,
+    most: usize,
+    gear: Gear,
+    below: u64, // a hash below it is a cut
+}
+
+impl Cuts {
+    /// Chunks of `least` to `most` bytes, where from `least` on each place is a cut with a chance of 1 in `average`; `None` exactly if
+    /// 64 ≤ `least` ≤ `average` ≤ `most` does not hold. Other seeds cut at other places.
+    // inlined, the bound becomes a product and a test of its overflow for each byte
+    /// Proved:
+    ///
+    /// ```text
+    /// exact: IsSome result ↔ AreSizes least average most
+    /// some: IfSome result (λ cuts. cuts ≡ cutting least average most seed1 seed2)
+    /// ```
+    #[inline(never)]
+    pub fn new(least: usize, average: usize, most: usize, seed1: u64, seed2: u64) -> Option<Cuts> {
+        if least < 64 || average < least || most < average {
+            return None;
+        }
+        Some(Cuts {
+            least,
+            average,
+            most,
+            gear: Gear::new(seed1, seed2),
+            below: u64::MAX / average as u64 + 1,
+        })
+    }
+
+    /// The most bytes of a chunk.
+    ///
+    /// Proved:
+    ///
+    /// ```text
+    /// value: result ≡ self.now.most
+    /// sizes: HasSizes self.now
+    /// ```
+    #[inline]
+    pub fn most(&self) -> usize {
+        self.most
+    }
+
+    /// How many bytes the first chunk of the text has: up to the first cut from `least` bytes on, but at most `most`, and at most
+    /// the whole text.
+    ///
+    /// Proved:
+    ///
+    /// ```text
+    /// cut: result ≡ first_cut self.now text.now
+    /// within: result ≤ length text.now
+    /// some: 0 < length text.now → 0 < result
+    /// sizes: HasSizes self.now
+    /// ```
+    #[inline]
+    pub fn first_cut(&self, text: &[u8]) -> usize {
+        let end = text.len().min(self.most);
+        if end <= self.least {
+            return end;
+        }
+        let mut hash = self.gear.hash(&text[self.least - 64..self.least]);
+        let mut place = self.least;
+        // four places a turn, as long as none of them is a cut
+        'fours: while let Some((bytes, _)) = text[place..end].split_first_chunk::<4>() {
+            let (one, two, three, four) = self.gear.four_steps(hash, bytes);
+            if hash < self.below || one < self.below || two < self.below || three < self.below {
+                break;
+            }
+            hash = four;
+            place += 4;
+        }
+        for place in place..end {
+            if hash < self.below {
+                return place;
+            }
+            hash = self.gear.step(hash, text[place]);
+        }
+        end
+    }
+
+    /// The chunks of the text, in their order.
+    ///
+    /// Proved:
+    ///
+    /// ```text
+    /// result ≡ (self.now, text.now)
+    /// ```
+    #[inline]
+    pub fn chunks<'a>(&'a self, text: &'a [u8]) -> Chunks<'a> {
+        Chunks {
+            cuts: self,
+            rest: text,
+        }
+    }
+}
+
+/// The chunks of a text that are left. Contracts see where it is cut, and the text that is left.
+pub struct Chunks<'a> {
+    cuts: &'a Cuts,
+    rest: &'a [u8],
+}
+
+impl<'a> Iterator for Chunks<'a> {
+    type Item = &'a [u8];
+
+    #[inline]
+    fn next(&mut self) -> Option<&'a [u8]> {
+        if self.rest.is_empty() {
+            return None;
+        }
+        let (chunk, rest) = self.rest.split_at(self.cuts.first_cut(self.rest));
+        self.rest = rest;
+        Some(chunk)
+    }
+}

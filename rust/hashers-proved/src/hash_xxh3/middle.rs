@@ -1,0 +1,174 @@
+//! XXH3 of 17 to 240 bytes.
+
+// What follows is the proved text of crates/hash_xxh3/src/middle.rt without its contracts.
+
+use crate::hash_xxh3::secret::secret_word;
+use crate::hash_xxh3::words::{avalanche, folded_product, word_at};
+
+// What the length counts in a hash.
+const LENGTH: u64 = 0x9e3779b185ebca87;
+
+// The 16 bytes from `at` on, mixed with those of the secret from `key` on.
+/// The caller has to see to it that:
+///
+/// ```text
+/// text: at + 16 ≤ length text.now
+/// secret: key + 16 ≤ 192
+/// ```
+///
+/// Proved:
+///
+/// ```text
+/// result ≡ mix_piece seed text.now at key
+/// ```
+#[inline(always)]
+fn mix_piece(seed: u64, text: &[u8], at: usize, key: usize) -> u64 {
+    let low = word_at(text, at) ^ secret_word(key).wrapping_add(seed);
+    let high = word_at(text, at + 8) ^ secret_word(key + 8).wrapping_sub(seed);
+    folded_product(low, high)
+}
+
+/// What a sum over so many bytes begins with.
+///
+/// Proved:
+///
+/// ```text
+/// result ≡ length_word len
+/// ```
+#[inline(always)]
+pub(crate) fn length_word(len: u64) -> u64 {
+    len.wrapping_mul(LENGTH)
+}
+
+/// One more piece in a sum.
+///
+/// The caller has to see to it that:
+///
+/// ```text
+/// text: at + 16 ≤ length text.now
+/// secret: key + 16 ≤ 192
+/// ```
+///
+/// Proved:
+///
+/// ```text
+/// result ≡ add_piece seed text.now sum at key
+/// ```
+#[inline(always)]
+pub(crate) fn add_piece(seed: u64, text: &[u8], sum: u64, at: usize, key: usize) -> u64 {
+    sum.wrapping_add(mix_piece(seed, text, at, key))
+}
+
+// Piece i from the front and piece i from the back, where the text has so many.
+/// The caller has to see to it that:
+///
+/// ```text
+/// some: 16 ≤ length text.now
+/// pair: i < 4
+/// ```
+///
+/// Proved:
+///
+/// ```text
+/// result ≡ add_ends seed text.now sum i
+/// ```
+#[inline(always)]
+fn add_ends(seed: u64, text: &[u8], sum: u64, i: usize) -> u64 {
+    if text.len() <= 32 * i {
+        return sum;
+    }
+    let front = add_piece(seed, text, sum, 16 * i, 32 * i);
+    add_piece(seed, text, front, text.len() - 16 * i - 16, 32 * i + 16)
+}
+
+/// XXH3 of 17 to 128 bytes.
+///
+/// The caller has to see to it that:
+///
+/// ```text
+/// some: 17 ≤ length text.now
+/// few: length text.now < 129
+/// ```
+///
+/// Proved:
+///
+/// ```text
+/// result ≡ of_128 seed text.now
+/// ```
+#[inline(never)]
+pub(crate) fn of_128(seed: u64, text: &[u8]) -> u64 {
+    let one = add_ends(seed, text, length_word(text.len() as u64), 0);
+    let two = add_ends(seed, text, one, 1);
+    let three = add_ends(seed, text, two, 2);
+    avalanche(add_ends(seed, text, three, 3))
+}
+
+// Piece i, where the text has so many.
+/// The caller has to see to it that:
+///
+/// ```text
+/// piece: i < 15
+/// secret: key + 16 ≤ 192
+/// ```
+///
+/// Proved:
+///
+/// ```text
+/// result ≡ add_nth seed text.now sum i key
+/// ```
+#[inline(always)]
+fn add_nth(seed: u64, text: &[u8], sum: u64, i: usize, key: usize) -> u64 {
+    if text.len() < 16 * i + 16 {
+        return sum;
+    }
+    add_piece(seed, text, sum, 16 * i, key)
+}
+
+/// Proved:
+///
+/// ```text
+/// result ≡ first_pieces seed text.now
+/// ```
+#[inline(always)]
+fn first_pieces(seed: u64, text: &[u8]) -> u64 {
+    let mut sum = length_word(text.len() as u64);
+    for i in 0..8 {
+        sum = add_nth(seed, text, sum, i, 16 * i);
+    }
+    sum
+}
+
+/// Proved:
+///
+/// ```text
+/// result ≡ other_pieces seed text.now start
+/// ```
+#[inline(always)]
+fn other_pieces(seed: u64, text: &[u8], start: u64) -> u64 {
+    let mut sum = start;
+    for i in 8..15 {
+        sum = add_nth(seed, text, sum, i, 16 * i - 125);
+    }
+    sum
+}
+
+/// XXH3 of 129 to 240 bytes.
+///
+/// The caller has to see to it that:
+///
+/// ```text
+/// some: 129 ≤ length text.now
+/// few: length text.now < 241
+/// ```
+///
+/// Proved:
+///
+/// ```text
+/// result ≡ of_240 seed text.now
+/// ```
+#[inline(never)]
+pub(crate) fn of_240(seed: u64, text: &[u8]) -> u64 {
+    let last = mix_piece(seed, text, text.len() - 16, 119);
+    let first = avalanche(first_pieces(seed, text));
+    avalanche(first.wrapping_add(other_pieces(seed, text, last)))
+}

@@ -1,0 +1,7 @@
+//! Laws of lookup3 and SpookyHash alone: tests of two texts, and what leads to the hash that is wanted.
+
+// What follows is the proved text of crates/jenkins_laws/src/lib.rt without its contracts.
+
+pub mod block;
+pub mod stretch;
+pub mod two_texts;

@@ -1,0 +1,86 @@
+//! The laws of the hashes by the block on random texts, against definitions written here.
+use hashers_proved::blocks::{
+    apart_by_block_murmur3_128, apart_by_word_murmur3_32, apart_by_word_xxh32, apart_by_word_xxh64, block_for_murmur3_128,
+    murmur3_128, murmur3_32, word_for_murmur3_32, word_for_xxh64, xxh32, xxh64,
+};
+
+/// Bytes that look random.
+struct Bytes(u64);
+
+impl Bytes {
+    fn next(&mut self) -> u64 {
+        self.0 = self.0.wrapping_mul(6364136223846793005).wrapping_add(1442695040888963407);
+        self.0 >> 33
+    }
+    fn text(&mut self, len: usize) -> Vec<u8> {
+        (0..len).map(|_| self.next() as u8).collect()
+    }
+}
+
+/// The words of so many bytes in which the texts differ, from a place on; the bytes behind the last whole word count as one.
+fn changed(x: &[u8], y: &[u8], width: usize) -> Vec<usize> {
+    (0..x.len().div_ceil(width)).filter(|&i| x.chunks(width).nth(i) != y.chunks(width).nth(i)).collect()
+}
+
+/// Two texts of one length: the second has another word in one or two places, or none.
+fn two_texts(bytes: &mut Bytes) -> (Vec<u8>, Vec<u8>) {
+    let len = bytes.next() as usize % 80;
+    let x = bytes.text(len);
+    let mut y = x.clone();
+    for _ in 0..bytes.next() % 3 {
+        let from = bytes.next() as usize % (len + 1);
+        let to = (from + 1 + bytes.next() as usize % 12).min(len);
+        let with = bytes.text(to - from);
+        y[from..to].copy_from_slice(&with);
+    }
+    (x, y)
+}
+
+#[test]
+fn one_changed_word_or_block_shows() {
+    let mut bytes = Bytes(20);
+    for _ in 0..20_000 {
+        let (x, y) = two_texts(&mut bytes);
+        let seed = bytes.next() << 33 ^ bytes.next();
+        let one = |width| match changed(&x, &y, width)[..] {
+            [i] => Some((i * width, x.len() >= i * width + width)),
+            _ => None,
+        };
+        let told = [
+            (apart_by_word_murmur3_32(&x, &y), one(4).is_some(), murmur3_32(seed as u32, &x) != murmur3_32(seed as u32, &y)),
+            (apart_by_block_murmur3_128(&x, &y), one(16).is_some(), murmur3_128(seed, &x) != murmur3_128(seed, &y)),
+            (apart_by_word_xxh32(&x, &y), one(4).is_some_and(|(_, whole)| whole), xxh32(seed as u32, &x) != xxh32(seed as u32, &y)),
+            (
+                apart_by_word_xxh64(&x, &y),
+                one(8).is_some_and(|(from, whole)| whole && from >= x.len() / 32 * 32),
+                xxh64(seed, &x) != xxh64(seed, &y),
+            ),
+        ];
+        for (apart, defined, differ) in told {
+            assert_eq!(apart, defined);
+            assert!(!apart || differ);
+        }
+    }
+    assert!(!apart_by_word_murmur3_32(b"", b"abcd") && !apart_by_block_murmur3_128(b"a", b"") && !apart_by_word_xxh32(b"", b"abcd"));
+}
+
+#[test]
+fn one_word_or_block_leads_to_each_hash() {
+    let mut bytes = Bytes(30);
+    for _ in 0..2_000 {
+        let (front, behind) = (bytes.next() as usize % 6, bytes.next() as usize % 50);
+        let back = bytes.text(behind);
+        let (seed, hash) = (bytes.next() << 33 ^ bytes.next(), bytes.next() << 33 ^ bytes.next());
+        let words = bytes.text(4 * front);
+        let word = word_for_murmur3_32(seed as u32, &words, &back, hash as u32);
+        assert_eq!(murmur3_32(seed as u32, &[&words, &word[..], &back].concat()), hash as u32);
+        let blocks = bytes.text(16 * front);
+        let block = block_for_murmur3_128(seed, &blocks, &back, (hash, seed));
+        assert_eq!(murmur3_128(seed, &[&blocks, &block[..], &back].concat()), (hash, seed));
+        // up to two words after a whole block or none, and so few bytes behind that no further block is whole
+        let eights = bytes.text(32 * (front / 3) + 8 * (front % 3));
+        let few = &back[..behind.min(23 - 8 * (front % 3))];
+        let word = word_for_xxh64(seed, &eights, few, hash);
+        assert_eq!(xxh64(seed, &[&eights, &word[..], few].concat()), hash);
+    }
+}

@@ -1,0 +1,413 @@
+//! The words of a call, behind the program's own name: options and operands.
+//!
+//! An option has a name, which is given behind two hyphens, and may have a letter, which is given behind one hyphen and may stand
+//! together with others: `-cd`, or `--count --repeated`. An option may take a value: `--width 4`, `--width=4`, `-w 4`, `-w4` or `-zw4`.
+//! Any other word is an operand, and so is `-`. The first `--` ends the options: each word behind it is an operand. So POSIX has it, and
+//! GNU for names; a name is not shortened.
+
+// What follows is the proved text of crates/cli/src/call.rt without its contracts.
+use hashers_proved::shim::{Vec, std};
+
+use std::alloc::{AllocError, Global};
+
+/// An option of a program.
+#[derive(Clone, Copy)]
+pub struct Opt {
+    /// Its letter, if it has one.
+    pub letter: Option<u8>,
+    /// Its name.
+    pub name: &'static [u8],
+    /// Whether it takes a value.
+    pub has_value: bool,
+}
+
+/// An option of this letter, if it has one, and this name, which takes no value.
+///
+/// Proved:
+///
+/// ```text
+/// choice_of result ≡ flag letter name.now
+/// ```
+#[inline]
+pub fn flag(letter: Option<u8>, name: &'static [u8]) -> Opt {
+    Opt {
+        letter,
+        name,
+        has_value: false,
+    }
+}
+
+/// The same which takes a value.
+///
+/// Proved:
+///
+/// ```text
+/// choice_of result ≡ taking letter name.now
+/// ```
+#[inline]
+pub fn taking(letter: Option<u8>, name: &'static [u8]) -> Opt {
+    Opt {
+        letter,
+        name,
+        has_value: true,
+    }
+}
+
+/// What is wrong with an option of a call.
+#[derive(Clone, Copy, Debug)]
+pub enum Misgiven {
+    /// No option has this name.
+    NoSuchName,
+    /// No option has this letter.
+    NoSuchLetter,
+    /// It takes a value, and none is given.
+    NoValue,
+    /// It takes no value, and one is given.
+    HasValue,
+}
+
+/// What a word of a call says.
+#[derive(Clone, Copy)]
+pub enum Said<'a> {
+    /// An option, by its name, and its value, which is empty where it takes none.
+    Gives(&'static [u8], &'a [u8]),
+    /// An operand.
+    Operand(&'a [u8]),
+    /// What is wrong with an option, and the word, its part or the letter that is.
+    Errs(Misgiven, &'a [u8]),
+}
+
+/// An option whose value is to be the next word.
+#[derive(Clone, Copy)]
+struct Wanting<'a> {
+    name: &'static [u8],
+    word: &'a [u8],
+}
+
+/// What the words of a call say.
+pub struct Call<'a> {
+    /// It, in the order of the words.
+    pub said: Vec<Said<'a>>,
+}
+
+/// Puts a saying behind the others.
+///
+/// Proved:
+///
+/// ```text
+/// OnOk result (sayings said.new.items ≡ sayings said.old.items ++ saying_of saying.entry ∷ [])
+/// ```
+#[inline]
+fn push<'a>(said: &mut Vec<Said<'a>>, saying: Said<'a>) -> Result<(), AllocError> {
+    match said.push(saying) {
+        Ok(()) => Ok(()),
+        Err(_) => Err(AllocError),
+    }
+}
+
+/// Takes an option with a value, which is the next word if none stands behind it.
+///
+/// Proved:
+///
+/// ```text
+/// IfOk result (λ wants. Adds (sayings said.old.items) (sayings said.new.items) (option_map wants_of wants)
+///     (valued opt.name.now word.now value.now))
+/// ```
+#[inline]
+fn push_valued<'a>(
+    said: &mut Vec<Said<'a>>,
+    opt: Opt,
+    word: &'a [u8],
+    value: &'a [u8],
+) -> Result<Option<Wanting<'a>>, AllocError> {
+    if value.is_empty() {
+        return Ok(Some(Wanting {
+            name: opt.name,
+            word,
+        }));
+    }
+    push(said, Said::Gives(opt.name, value))?;
+    Ok(None)
+}
+
+/// The option of this letter.
+///
+/// Proved:
+///
+/// ```text
+/// option_map choice_of result ≡ find (has_letter letter) (choices options.now)
+/// ```
+#[inline]
+fn by_letter(options: &[Opt], letter: u8) -> Option<Opt> {
+    for opt in options {
+        if opt.letter == Some(letter) {
+            return Some(*opt);
+        }
+    }
+    None
+}
+
+/// Takes the options whose letters stand behind one hyphen.
+///
+/// Proved:
+///
+/// ```text
+/// IfOk result (λ wants. Adds (sayings said.old.items) (sayings said.new.items) (option_map wants_of wants)
+///     (by_letters (choices options.now) word.now letters.now))
+/// ```
+#[inline]
+fn push_letters<'a>(
+    said: &mut Vec<Said<'a>>,
+    options: &[Opt],
+    word: &'a [u8],
+    letters: &'a [u8],
+) -> Result<Option<Wanting<'a>>, AllocError> {
+    for at in 0..letters.len() {
+        let Some(opt) = by_letter(options, letters[at]) else {
+            push(
+                said,
+                Said::Errs(Misgiven::NoSuchLetter, &letters[at..at + 1]),
+            )?;
+            return Ok(None);
+        };
+        if opt.has_value {
+            return push_valued(said, opt, word, &letters[at + 1..]);
+        }
+        push(said, Said::Gives(opt.name, b""))?;
+    }
+    Ok(None)
+}
+
+/// A word as far as the name of this option goes, behind its two hyphens.
+///
+/// Proved:
+///
+/// ```text
+/// result.now ≡ name_in (choice_of opt) word.now
+/// ```
+#[inline]
+fn name_in(opt: Opt, word: &[u8]) -> &[u8] {
+    let end = opt.name.len() + 2;
+    if end < word.len() { &word[..end] } else { word }
+}
+
+/// Takes an option whose name stands behind two hyphens, and what stands behind its name.
+///
+/// Proved:
+///
+/// ```text
+/// IfOk result (λ wants. Adds (sayings said.old.items) (sayings said.new.items) (option_map wants_of wants)
+///     (named (choice_of opt) word.now (option_map (λ value. value.now) value.entry)))
+/// ```
+#[inline]
+fn push_named<'a>(
+    said: &mut Vec<Said<'a>>,
+    opt: Opt,
+    word: &'a [u8],
+    value: Option<&'a [u8]>,
+) -> Result<Option<Wanting<'a>>, AllocError> {
+    match value {
+        None if opt.has_value => return Ok(Some(Wanting {
+            name: opt.name,
+            word,
+        })),
+        None => push(said, Said::Gives(opt.name, b""))?,
+        Some(value) if opt.has_value => push(said, Said::Gives(opt.name, value))?,
+        Some(_) => push(said, Said::Errs(Misgiven::HasValue, name_in(opt, word)))?,
+    }
+    Ok(None)
+}
+
+/// Takes the option whose name stands behind two hyphens.
+///
+/// Proved:
+///
+/// ```text
+/// IfOk result (λ wants. Adds (sayings said.old.items) (sayings said.new.items) (option_map wants_of wants)
+///     (by_name (choices options.now) word.now long.now))
+/// ```
+#[inline]
+fn push_name<'a>(
+    said: &mut Vec<Said<'a>>,
+    options: &[Opt],
+    word: &'a [u8],
+    long: &'a [u8],
+) -> Result<Option<Wanting<'a>>, AllocError> {
+    for opt in options {
+        match long.strip_prefix(opt.name) {
+            Some([]) => return push_named(said, *opt, word, None),
+            Some([b'=', value @ ..]) => return push_named(said, *opt, word, Some(value)),
+            _ => {}
+        }
+    }
+    push(said, Said::Errs(Misgiven::NoSuchName, word))?;
+    Ok(None)
+}
+
+/// Takes a word in front of `--`.
+///
+/// Proved:
+///
+/// ```text
+/// IfOk result (λ wants. Adds (sayings said.old.items) (sayings said.new.items) (option_map wants_of wants)
+///     (spoken (choices options.now) word.now))
+/// ```
+#[inline]
+fn push_word<'a>(
+    said: &mut Vec<Said<'a>>,
+    options: &[Opt],
+    word: &'a [u8],
+) -> Result<Option<Wanting<'a>>, AllocError> {
+    match word {
+        [b'-', b'-', long @ ..] => return push_name(said, options, word, long),
+        [b'-', letters @ ..] if !letters.is_empty() => {
+            return push_letters(said, options, word, letters);
+        }
+        _ => push(said, Said::Operand(word))?,
+    }
+    Ok(None)
+}
+
+/// Takes the words behind `--`.
+///
+/// Proved:
+///
+/// ```text
+/// OnOk result (sayings said.new.items ≡ sayings said.old.items ++ map Operand (texts words.now))
+/// ```
+#[inline]
+fn push_operands<'a>(said: &mut Vec<Said<'a>>, words: &'a [Vec<u8>]) -> Result<(), AllocError> {
+    for word in words {
+        push(said, Said::Operand(word.as_slice()))?;
+    }
+    Ok(())
+}
+
+/// Takes a word: the value that is wanted, or one in front of `--`.
+///
+/// Proved:
+///
+/// ```text
+/// IfOk result (λ now. Adds (sayings said.old.items) (sayings said.new.items) (option_map wants_of now)
+///     (next_spoken (choices options.now) (option_map wants_of wants.entry) word.now))
+/// ```
+#[inline]
+fn push_next<'a>(
+    said: &mut Vec<Said<'a>>,
+    options: &[Opt],
+    wants: Option<Wanting<'a>>,
+    word: &'a [u8],
+) -> Result<Option<Wanting<'a>>, AllocError> {
+    match wants {
+        Some(wanting) => push(said, Said::Gives(wanting.name, word))?,
+        None => return push_word(said, options, word),
+    }
+    Ok(None)
+}
+
+/// What the words behind the program's own name say, by these options.
+///
+/// Proved:
+///
+/// ```text
+/// IfOk result (λ call. sayings call.said.items ≡ call_of (choices options.now) (texts words.now))
+/// ```
+#[inline]
+pub fn call_of<'a>(
+    alloc: Global,
+    options: &[Opt],
+    words: &'a [Vec<u8>],
+) -> Result<Call<'a>, AllocError> {
+    let mut said = Vec::new(alloc);
+    let mut wants = None;
+    for at in 0..words.len() {
+        let word = words[at].as_slice();
+        if wants.is_none() && word == b"--".as_slice() {
+            push_operands(&mut said, &words[at + 1..])?;
+            return Ok(Call { said });
+        }
+        wants = push_next(&mut said, options, wants, word)?;
+    }
+    if let Some(wanting) = wants {
+        push(&mut said, Said::Errs(Misgiven::NoValue, wanting.word))?;
+    }
+    Ok(Call { said })
+}
+
+impl<'a> Call<'a> {
+    /// Whether the call gives the option of this name.
+    ///
+    /// Proved:
+    ///
+    /// ```text
+    /// result ≡ given name.now (sayings self.now.said.items)
+    /// ```
+    #[inline]
+    pub fn gives(&self, name: &[u8]) -> bool {
+        for said in &self.said {
+            match said {
+                Said::Gives(other, _) if *other == name => return true,
+                _ => {}
+            }
+        }
+        false
+    }
+
+    /// The value that it gives last to the option of this name.
+    ///
+    /// Proved:
+    ///
+    /// ```text
+    /// option_map (λ value. value.now) result ≡ value_of name.now (sayings self.now.said.items)
+    /// ```
+    #[inline]
+    pub fn value(&self, name: &[u8]) -> Option<&'a [u8]> {
+        let mut last = None;
+        for said in &self.said {
+            match said {
+                Said::Gives(other, value) if *other == name => last = Some(*value),
+                _ => {}
+            }
+        }
+        last
+    }
+
+    /// Its operands, in their order.
+    ///
+    /// Proved:
+    ///
+    /// ```text
+    /// IfOk result (λ found. map (λ word. word.now) found.items
+    ///     ≡ operands (sayings self.now.said.items))
+    /// ```
+    #[inline]
+    pub fn operands(&self, alloc: Global) -> Result<Vec<&'a [u8]>, AllocError> {
+        let mut found = Vec::new(alloc);
+        for said in &self.said {
+            match said {
+                Said::Operand(word) => found.push(*word)?,
+                _ => {}
+            }
+        }
+        Ok(found)
+    }
+
+    /// What is wrong with the first option with which something is, and the word or the letter.
+    ///
+    /// Proved:
+    ///
+    /// ```text
+    /// option_map (λ wrong. (wrong.0, wrong.1.now)) result
+    ///     ≡ first_of (wrongs (sayings self.now.said.items))
+    /// ```
+    #[inline]
+    pub fn wrong(&self) -> Option<(Misgiven, &'a [u8])> {
+        for said in &self.said {
+            match said {
+                Said::Errs(misgiven, word) => return Some((*misgiven, *word)),
+                _ => {}
+            }
+        }
+        None
+    }
+}

@@ -1,0 +1,15 @@
+//! What a program of this repository needs once: the words of its call and what they ask for, how it ends and what it says then, its
+//! inputs in order, progress, and names and the words of an error for standard error.
+
+// What follows is the proved text of crates/cli/src/lib.rt without its contracts.
+
+pub mod arguments;
+pub mod call;
+pub mod folder;
+pub mod frame;
+pub mod inputs;
+pub mod numbers;
+pub mod outcome;
+pub mod progress;
+pub mod quoted;
+pub mod reason;

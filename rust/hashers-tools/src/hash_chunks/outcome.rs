@@ -1,0 +1,241 @@
+//! What the program `cuts` is asked for, and how it ends.
+
+// What follows is the proved text of crates/hash_chunks/src/outcome.rt without its contracts.
+use crate::{cli, hash_sums};
+use hashers_proved::{hash_cuts, hash_lines, streams};
+use hashers_proved::shim::{Vec, std};
+
+use crate::hash_chunks::fault::{Fault, TooMany};
+use crate::hash_chunks::listing::{Lines, list_files};
+use crate::hash_chunks::sizes::{Sizes, sizes_of};
+use crate::hash_chunks::tally::tell_tally;
+use cli::call::{Call, Opt, flag, taking};
+use cli::folder::{Folder, files};
+use cli::frame::{About, Request, request_of, text_of};
+use cli::outcome;
+use cli::outcome::{Words, of_run, of_telling};
+use hash_cuts::Cuts;
+use hash_lines::line::Kind;
+use hash_sums::keys::keys_for;
+use hash_sums::sums::{kind_of, kinds};
+use std::alloc::{AllocError, Global};
+use std::io::{Read, Write};
+use streams::tries::write_out;
+
+/// The work that a call asks for.
+#[derive(Clone, Copy)]
+pub struct Task {
+    /// The sizes of chunks.
+    pub sizes: Sizes,
+    /// The hash of a chunk.
+    pub kind: Kind<'static>,
+    /// Whether the numbers of all chunks are written, and not a line for each.
+    pub stats: bool,
+}
+
+/// What else is wrong with a call.
+#[derive(Clone, Copy, Debug)]
+pub enum Misuse {
+    /// It gives a size that is no number of bytes.
+    NoSize,
+    /// The sizes do not rise from 64 on.
+    NotRising,
+}
+
+impl Words for Misuse {
+    #[inline]
+    fn words(&self) -> &'static str {
+        match self {
+            Misuse::NoSize => "invalid number of bytes",
+            Misuse::NotRising => "--least, --average and --most must rise from 64 on",
+        }
+    }
+}
+
+/// What is wrong with a call.
+pub type Wrong = outcome::Wrong<Misuse>;
+
+/// What came of a call.
+pub type Outcome = outcome::Outcome<Misuse, TooMany>;
+
+/// The options.
+///
+/// Proved:
+///
+/// ```text
+/// choices result ≡ options
+/// ```
+#[inline]
+fn options() -> [Opt; 9] {
+    [
+        taking(Some(b'a'), b"algorithm"),
+        taking(Some(b'l'), b"least"),
+        taking(None, b"average"),
+        taking(Some(b'm'), b"most"),
+        taking(None, b"key-file"),
+        flag(None, b"stats"),
+        flag(None, b"quiet"),
+        flag(None, b"help"),
+        flag(None, b"version"),
+    ]
+}
+
+/// What the words behind the program's own name say.
+///
+/// Proved:
+///
+/// ```text
+/// IfOk result (λ call. sayings call.said.items ≡ call_of options (texts words.now))
+/// ```
+#[inline]
+pub fn call_of<'a>(alloc: Global, words: &'a [Vec<u8>]) -> Result<Call<'a>, AllocError> {
+    cli::call::call_of(alloc, &options(), words)
+}
+
+/// Whether the sizes rise from 64 on.
+///
+/// Proved:
+///
+/// ```text
+/// result ≡ are_rising sizes
+/// ```
+#[inline]
+fn are_rising(sizes: Sizes) -> bool {
+    !(sizes.least < 64) && !(sizes.average < sizes.least) && !(sizes.most < sizes.average)
+}
+
+/// Which work a call asks for.
+///
+/// Proved:
+///
+/// ```text
+/// task: result ≡ task_of kinds.now (sayings call.now.said.items)
+/// sizes: IfOk result (λ task. are_rising task.sizes ≡ true)
+/// ```
+#[inline]
+fn task_of(kinds: &[Kind<'static>], call: &Call<'_>) -> Result<Task, Wrong> {
+    let Some(sizes) = sizes_of(call) else {
+        return Err(Wrong::Own(Misuse::NoSize));
+    };
+    if !are_rising(sizes) {
+        return Err(Wrong::Own(Misuse::NotRising));
+    }
+    match kind_of(kinds, call.value(b"algorithm")) {
+        Some(kind) => Ok(Task {
+            sizes,
+            kind,
+            stats: call.gives(b"stats"),
+        }),
+        None => Err(Wrong::UnknownName),
+    }
+}
+
+/// Where the cuts are, by the keys in a key file, or by zeros.
+///
+/// The caller has to see to it that:
+///
+/// ```text
+/// are_rising sizes ≡ true
+/// ```
+///
+/// Proved:
+///
+/// ```text
+/// result ≡ cutting_of sizes keys
+/// ```
+#[inline]
+fn cuts_of(sizes: Sizes, keys: Option<(u64, u64)>) -> Cuts {
+    let (seed1, seed2) = keys.unwrap_or((0, 0));
+    match Cuts::new(sizes.least, sizes.average, sizes.most, seed1, seed2) {
+        Some(cuts) => cuts,
+        None => unreachable!(),
+    }
+}
+
+/// Does a task over the files of these names.
+///
+/// Proved:
+///
+/// ```text
+/// EndsRun task.stats task.kind cuts.now (F.opens folder.now) (map (λ file. file.now) files.now)
+///     (writer_contents W.contents lines.old.w) (writer_contents W.contents lines.new.w) result
+/// ```
+#[inline]
+fn run<'a, R: Read, F: Folder<R>, W: Write>(
+    alloc: Global,
+    folder: &F,
+    task: Task,
+    cuts: &Cuts,
+    files: &[&'a [u8]],
+    lines: &mut Lines<'a, W>,
+) -> Result<bool, Fault> {
+    if task.stats {
+        tell_tally(alloc, cuts, folder, task.kind, files, &mut lines.w)
+    } else {
+        list_files(alloc, cuts, folder, task.kind, files, lines)
+    }
+}
+
+/// Does a task over the files of these names, by the keys in a key file.
+///
+/// The caller has to see to it that:
+///
+/// ```text
+/// are_rising task.sizes ≡ true
+/// ```
+///
+/// Proved:
+///
+/// ```text
+/// EndsTask (F.opens folder.now) (option_map (λ name. name.now) key_file.entry)
+///     (map (λ file. file.now) files.now)
+///     (writer_contents W.contents lines.old.w) (writer_contents W.contents lines.new.w) (Ok task) result
+/// ```
+#[inline]
+fn ended<'a, R: Read, F: Folder<R>, W: Write>(
+    alloc: Global,
+    folder: &F,
+    task: Task,
+    key_file: Option<&[u8]>,
+    files: &[&'a [u8]],
+    lines: &mut Lines<'a, W>,
+) -> Outcome {
+    match keys_for(folder, key_file) {
+        Some(keys) => {
+            let cuts = cuts_of(task.sizes, keys);
+            of_run(run(alloc, folder, task, &cuts, files, lines))
+        }
+        None => Outcome::Reported,
+    }
+}
+
+/// Does what the call asks for. If the call is wrong, or there is no memory for its files, nothing is read or written.
+///
+/// Proved:
+///
+/// ```text
+/// EndsCall (F.opens folder.now) (sayings call.now.said.items)
+///     (text_of about.entry.help.now about.entry.version.now about.entry.list.now)
+///     (writer_contents W.contents lines.old.w) (writer_contents W.contents lines.new.w) result
+///     ⊎ ((result ≡ Failed NoMemory) × Keeps (writer_contents W.contents lines.old.w) (writer_contents W.contents lines.new.w))
+/// ```
+#[inline]
+pub fn outcome_of<'a, R: Read, F: Folder<R>, W: Write>(
+    alloc: Global,
+    folder: &F,
+    call: &Call<'a>,
+    about: About<'_>,
+    lines: &mut Lines<'a, W>,
+) -> Outcome {
+    match request_of(call) {
+        Request::Misgiven(misgiven) => Outcome::Usage(Wrong::Option(misgiven)),
+        Request::Text(text) => of_telling(write_out(&mut lines.w, text_of(&about, text))),
+        Request::Work => match (kinds(alloc, None), files(alloc, call)) {
+            (Ok(kinds), Ok(files)) => match task_of(&kinds, call) {
+                Ok(task) => ended(alloc, folder, task, call.value(b"key-file"), &files, lines),
+                Err(wrong) => Outcome::Usage(wrong),
+            },
+            _ => Outcome::Failed(Fault::NoMemory),
+        },
+    }
+}

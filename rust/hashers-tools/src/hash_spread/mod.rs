@@ -1,0 +1,12 @@
+//! How evenly hashes spread keys over buckets, and what chance would give: the numbers of the program `spread`.
+
+// What follows is the proved text of crates/hash_spread/src/lib.rt without its contracts.
+
+pub mod call;
+pub mod chance;
+pub mod counts;
+pub mod fault;
+pub mod keys;
+pub mod named;
+pub mod rows;
+pub mod sizes;

@@ -1,0 +1,199 @@
+//! poly61 of files: the two keys in a key file, and the hash of what a reader gives.
+
+// What follows is the proved text of crates/hash_sums/src/keys.rt without its contracts.
+use crate::cli;
+use hashers_proved::{hash_keyed, hash_names, hashers};
+use hashers_proved::shim::std;
+
+use cli::folder::Folder;
+use hash_keyed::pair::Poly61Pair;
+use hash_names::reading::Unhashed;
+use hashers::reader::hash_stream;
+use std::io;
+use std::io::{Error, ErrorKind, Read};
+
+/// The prime of poly61.
+const PRIME61: u64 = (1 << 61) - 1;
+
+/// poly61 under two keys of what is read, the hash at the first key above that at the second.
+///
+/// The caller has to see to it that:
+///
+/// ```text
+/// not_empty: 0 < N
+/// small: N ≤ 65536
+/// ```
+///
+/// Proved:
+///
+/// ```text
+/// Hashes (poly61_at_both keys) (read limit R.remaining r.old r.new) result
+/// ```
+#[inline]
+pub(crate) fn hash_of_poly61<R: Read, const N: usize>(
+    keys: (u64, u64),
+    limit: u64,
+    r: &mut R,
+) -> Result<u128, Unhashed> {
+    let mut pair = Poly61Pair::new(keys.0, keys.1);
+    match hash_stream::<Poly61Pair, R, N>(&mut pair, r, limit) {
+        Err(fault) => Err(Unhashed::ReadFault(fault)),
+        Ok(taken) => {
+            if !taken.ended {
+                return Err(Unhashed::TooLong);
+            }
+            let (high, low) = pair.finish();
+            Ok(u128::from(high) * (1 << 64) + u128::from(low))
+        }
+    }
+}
+
+/// Why a file has no keys that has more or fewer bytes.
+#[inline]
+fn not_sixteen() -> Error {
+    Error::new(ErrorKind::InvalidData, "a key file must have 16 bytes")
+}
+
+/// Reads one key.
+///
+/// Proved:
+///
+/// ```text
+/// IfOk result (IsKeyRead (R.remaining r.old) (R.remaining r.new))
+/// ```
+#[inline]
+fn read_key<R: Read>(r: &mut R) -> io::Result<u64> {
+    let mut bytes = [0; 8];
+    match r.read_exact(&mut bytes) {
+        Ok(()) => Ok(u64::from_le_bytes(bytes)),
+        Err(error) => match error.kind() {
+            ErrorKind::UnexpectedEof => Err(not_sixteen()),
+            _ => Err(error),
+        },
+    }
+}
+
+/// The keys in what a reader gives.
+///
+/// Proved:
+///
+/// ```text
+/// IfOk result (IsKeyText (R.remaining r.old))
+/// ```
+#[inline]
+fn read_keys<R: Read>(r: &mut R) -> io::Result<(u64, u64)> {
+    let first = read_key(r)?;
+    let second = read_key(r)?;
+    match r.read(&mut [0; 1]) {
+        Ok(0) => Ok((first, second)),
+        Ok(_) => Err(not_sixteen()),
+        Err(error) => Err(error),
+    }
+}
+
+/// The keys in the file of that name: it has 16 bytes, the lowest byte of each key first. `None` if it has not, or cannot
+/// be read, which is told.
+///
+/// Proved:
+///
+/// ```text
+/// IfSome result (HasKeys (F.opens folder.now name.now))
+/// ```
+#[inline]
+pub fn keys_of<R: Read, F: Folder<R>>(folder: &F, name: &[u8]) -> Option<(u64, u64)> {
+    let keys = match folder.open(name) {
+        Ok(mut file) => read_keys(&mut file),
+        Err(error) => Err(error),
+    };
+    match keys {
+        Ok(keys) => Some(keys),
+        Err(error) => {
+            folder.failed(name, &error);
+            None
+        }
+    }
+}
+
+/// What is wrong with two keys as those of poly61, if something is.
+///
+/// Proved:
+///
+/// ```text
+/// MatchOption result (ArePoly61Keys keys) (λ words. ¬ (ArePoly61Keys keys))
+/// ```
+#[inline]
+fn fault_of(keys: (u64, u64)) -> Option<&'static str> {
+    let (first, second) = (keys.0 % PRIME61, keys.1 % PRIME61);
+    if first == 0 || second == 0 {
+        return Some("a key is 0 modulo 2^61 - 1; make others");
+    }
+    if first == second {
+        return Some("the two keys are equal modulo 2^61 - 1; make others");
+    }
+    None
+}
+
+/// The two keys of poly61 in the file of that name. `None` if it has none, or no two such keys, which is told.
+///
+/// Proved:
+///
+/// ```text
+/// IfSome result (λ keys. HasKeys (F.opens folder.now name.now) keys × ArePoly61Keys keys)
+/// ```
+#[inline]
+fn poly61_keys_of<R: Read, F: Folder<R>>(folder: &F, name: &[u8]) -> Option<(u64, u64)> {
+    match keys_of(folder, name) {
+        Some(keys) => match fault_of(keys) {
+            None => Some(keys),
+            Some(words) => {
+                folder.failed(name, &Error::new(ErrorKind::InvalidData, words));
+                None
+            }
+        },
+        None => None,
+    }
+}
+
+/// The keys of poly61 in a key file, if there is one. `None` if it has none, or no two such keys, which is told.
+///
+/// Proved:
+///
+/// ```text
+/// let file = option_map (λ name. name.now) file.entry in
+///     MatchOption result (IsSome file) (ArePoly61KeysOf (F.opens folder.now) file)
+/// ```
+#[inline]
+pub fn poly61_keys_for<R: Read, F: Folder<R>>(
+    folder: &F,
+    file: Option<&[u8]>,
+) -> Option<Option<(u64, u64)>> {
+    match file {
+        None => Some(None),
+        Some(file) => match poly61_keys_of(folder, file) {
+            Some(keys) => Some(Some(keys)),
+            None => None,
+        },
+    }
+}
+
+/// The keys in a key file, if there is one. `None` if it has none, which is told.
+///
+/// Proved:
+///
+/// ```text
+/// let file = option_map (λ name. name.now) file.entry in
+///     MatchOption result (IsSome file) (AreKeysOf (F.opens folder.now) file)
+/// ```
+#[inline]
+pub fn keys_for<R: Read, F: Folder<R>>(
+    folder: &F,
+    file: Option<&[u8]>,
+) -> Option<Option<(u64, u64)>> {
+    match file {
+        None => Some(None),
+        Some(file) => match keys_of(folder, file) {
+            Some(keys) => Some(Some(keys)),
+            None => None,
+        },
+    }
+}

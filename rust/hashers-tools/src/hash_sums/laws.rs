@@ -1,0 +1,45 @@
+//! What a check is proved to see, as laws with no code of their own, over any files: of the text that was read of a file. Of a file whose
+//! bytes are not known, as one of the disk, they say that some text has the hash. A text's length is that of its file.
+//! Behind them what they
+//! say of each hash of the table, in words.
+
+// What follows is the proved text of crates/hash_sums/src/laws.rt without its contracts.
+// The laws alone name the hashes.
+#![allow(unused_imports)]
+use crate::cli;
+use hashers_proved::{hash_more, hash_names, hashers};
+use hashers_proved::shim::std;
+
+use crate::hash_sums::sums::Sum;
+use cli::folder::Folder;
+use hash_more::crc32::{Crc32Hasher, Crc32cHasher};
+use hash_more::djb2_add::Djb2AddHasher;
+use hash_more::fnv1::{Fnv1Hasher32, Fnv1Hasher64};
+use hash_more::joaat::JoaatHasher;
+use hash_names::table::Kind;
+use hashers::fnv::{FNV1aHasher32, FNV1aHasher64};
+use hashers::jenkins::OAATHasher;
+use hashers::oz::{DJB2Hasher, LoseLoseHasher, SDBMHasher};
+use hashers::pigeon::Bricolage;
+use std::io::Read;
+
+/// What a check by a hash is proved to see in a file of the same length, by these laws, in words.
+#[inline]
+pub fn seen(sum: Sum) -> &'static str {
+    match sum {
+        Sum::Table(Kind::Fnv1a32 | Kind::Fnv1At32) =>
+            "1 changed byte, or changes within 2 neighbouring bytes",
+        Sum::Table(Kind::Fnv1a64 | Kind::Fnv1At64 | Kind::Sdbm) =>
+            "1 changed byte, or changes within 3 neighbouring bytes",
+        Sum::Table(Kind::Djb2 | Kind::Djb2Add) =>
+            "1 changed byte, or changes within 6 in the low 5 bits",
+        Sum::Table(Kind::Crc32 | Kind::Crc32c) =>
+            "1 changed byte, or changes within 32 neighbouring bits",
+        Sum::Table(Kind::FxHash | Kind::FxHash64) => "1 changed word, of 8 bytes",
+        Sum::Table(Kind::FxHash32 | Kind::Murmur3At32 | Kind::Xxh32) =>
+            "1 changed word, of 4 bytes",
+        Sum::Table(Kind::LoseLose | Kind::Bricolage | Kind::Oaat | Kind::Joaat) => "1 changed byte",
+        Sum::Poly61 => "any change, but under few keys",
+        _ => "no promise",
+    }
+}

@@ -1,0 +1,15 @@
+//! The hashes of files: the line of each, and whether files have the hashes that lines tell. The program `hashsum` is a `main` over it.
+
+// What follows is the proved text of crates/hash_sums/src/lib.rt without its contracts.
+
+pub mod check;
+pub mod disk;
+mod fault;
+pub mod keys;
+pub mod laws;
+pub mod outcome;
+pub mod reports;
+pub mod sum;
+pub mod sums;
+
+pub use fault::Fault;

@@ -1,0 +1,387 @@
+//! What the program `hashsum` is asked for, and how it ends.
+
+// What follows is the proved text of crates/hash_sums/src/outcome.rt without its contracts.
+use crate::cli;
+use hashers_proved::{hash_lines, streams};
+use hashers_proved::shim::{Vec, std};
+
+use crate::hash_sums::check::{Checking, check_lists};
+use crate::hash_sums::fault::Fault;
+use crate::hash_sums::keys::poly61_keys_for;
+use crate::hash_sums::reports::Reports;
+use crate::hash_sums::sum::{Summing, sum_files};
+use crate::hash_sums::sums::{is_named, kind_of, kinds};
+use cli::call::{Call, Opt, flag, taking};
+use cli::folder::{Folder, files};
+use cli::frame::{About, Request, request_of, text_of};
+use cli::outcome;
+use cli::outcome::{Words, of_run, of_telling};
+use hash_lines::line::{Form, Kind};
+use std::alloc::{AllocError, Global};
+use std::io::{BufWriter, Read, Write};
+use streams::fault::Nothing;
+use streams::tries::write_out;
+
+/// The work that a call asks for.
+#[derive(Clone, Copy)]
+pub enum Task {
+    /// The line of each file.
+    Sum(Summing),
+    /// Whether files have the hashes that lines tell.
+    Check(Checking<'static>),
+}
+
+/// What else is wrong with a call.
+#[derive(Clone, Copy, Debug)]
+pub enum Misuse {
+    /// It gives, beside `-c`, an option on how lines are written.
+    NotWithCheck,
+    /// It gives, without `-c`, an option on how lines are checked.
+    OnlyWithCheck,
+    /// It asks for poly61, and gives no key file.
+    NeedsKeyFile,
+    /// It gives a key file, and asks for another hash than poly61.
+    UnusedKeyFile,
+}
+
+impl Words for Misuse {
+    #[inline]
+    fn words(&self) -> &'static str {
+        match self {
+            Misuse::NotWithCheck => "-z, --tag and --untagged do not go with -c",
+            Misuse::OnlyWithCheck => "--status, --strict, --ignore-missing and -w go with -c alone",
+            Misuse::NeedsKeyFile => "poly61 needs --key-file",
+            Misuse::UnusedKeyFile => "--key-file goes with poly61 alone",
+        }
+    }
+}
+
+/// What is wrong with a call.
+pub type Wrong = outcome::Wrong<Misuse>;
+
+/// What came of a call.
+pub type Outcome = outcome::Outcome<Misuse, Nothing>;
+
+/// The options.
+///
+/// Proved:
+///
+/// ```text
+/// choices result ≡ options
+/// ```
+#[inline]
+fn options() -> [Opt; 16] {
+    [
+        taking(Some(b'a'), b"algorithm"),
+        taking(None, b"key-file"),
+        flag(Some(b'c'), b"check"),
+        flag(None, b"tag"),
+        flag(None, b"untagged"),
+        flag(Some(b'z'), b"zero"),
+        flag(None, b"quiet"),
+        flag(None, b"status"),
+        flag(None, b"strict"),
+        flag(None, b"ignore-missing"),
+        flag(Some(b'w'), b"warn"),
+        flag(Some(b'b'), b"binary"),
+        flag(Some(b't'), b"text"),
+        flag(None, b"list"),
+        flag(None, b"help"),
+        flag(None, b"version"),
+    ]
+}
+
+/// What the words behind the program's own name say.
+///
+/// Proved:
+///
+/// ```text
+/// IfOk result (λ call. sayings call.said.items ≡ call_of options (texts words.now))
+/// ```
+#[inline]
+pub fn call_of<'a>(alloc: Global, words: &'a [Vec<u8>]) -> Result<Call<'a>, AllocError> {
+    cli::call::call_of(alloc, &options(), words)
+}
+
+/// The hash that a call asks for by its name, or by a key file, which only poly61 takes.
+///
+/// Proved:
+///
+/// ```text
+/// option_map (λ name. name.now) result ≡ asked (sayings call.now.said.items)
+/// ```
+#[inline]
+fn asked<'a>(call: &Call<'a>) -> Option<&'a [u8]> {
+    match call.value(b"algorithm") {
+        Some(name) => Some(name),
+        None => if call.gives(b"key-file") {
+            Some(b"poly61")
+        } else {
+            None
+        },
+    }
+}
+
+/// How lines are checked.
+///
+/// Proved:
+///
+/// ```text
+/// result ≡ checking_of (sayings call.now.said.items) kind.entry
+/// ```
+#[inline]
+fn checking_of(call: &Call<'_>, kind: Kind<'static>) -> Checking<'static> {
+    Checking {
+        kind,
+        only: asked(call).is_some(),
+        keyed: call.gives(b"key-file"),
+        quiet: call.gives(b"quiet"),
+        status: call.gives(b"status"),
+        strict: call.gives(b"strict"),
+        ignore_missing: call.gives(b"ignore-missing"),
+        warn: call.gives(b"warn"),
+    }
+}
+
+/// How files are summed.
+///
+/// Proved:
+///
+/// ```text
+/// result ≡ summing_of (sayings call.now.said.items) kind.entry
+/// ```
+#[inline]
+fn summing_of(call: &Call<'_>, kind: Kind<'static>) -> Summing {
+    Summing {
+        kind,
+        form: if call.gives(b"untagged") {
+            Form::Untagged
+        } else {
+            Form::Tagged
+        },
+        zero: call.gives(b"zero"),
+    }
+}
+
+/// Whether the words give an option on how lines are written.
+///
+/// Proved:
+///
+/// ```text
+/// result ≡ gives_writing (sayings call.now.said.items)
+/// ```
+#[inline]
+fn gives_writing(call: &Call<'_>) -> bool {
+    call.gives(b"zero") || call.gives(b"tag") || call.gives(b"untagged")
+}
+
+/// Whether the words give an option on how lines are checked.
+///
+/// Proved:
+///
+/// ```text
+/// result ≡ gives_checking (sayings call.now.said.items)
+/// ```
+#[inline]
+fn gives_checking(call: &Call<'_>) -> bool {
+    call.gives(b"status")
+        || call.gives(b"strict")
+        || call.gives(b"ignore-missing")
+        || call.gives(b"warn")
+}
+
+/// Whether the words ask for poly61.
+///
+/// Proved:
+///
+/// ```text
+/// result ≡ asks_for_poly61 (sayings call.now.said.items)
+/// ```
+#[inline]
+fn asks_for_poly61(call: &Call<'_>) -> bool {
+    match asked(call) {
+        Some(name) => is_named(name, b"poly61"),
+        None => false,
+    }
+}
+
+/// What is wrong with a call, but for the name of a hash.
+///
+/// Proved:
+///
+/// ```text
+/// result ≡ misuse_of (sayings call.now.said.items)
+/// ```
+#[inline]
+fn misuse_of(call: &Call<'_>) -> Option<Misuse> {
+    let checks = call.gives(b"check");
+    if checks && gives_writing(call) {
+        return Some(Misuse::NotWithCheck);
+    }
+    if !checks && gives_checking(call) {
+        return Some(Misuse::OnlyWithCheck);
+    }
+    let keyed = call.gives(b"key-file");
+    let asks = asks_for_poly61(call);
+    if asks && !keyed {
+        return Some(Misuse::NeedsKeyFile);
+    }
+    if keyed && !asks {
+        return Some(Misuse::UnusedKeyFile);
+    }
+    None
+}
+
+/// What is to be done by a hash of this kind.
+///
+/// Proved:
+///
+/// ```text
+/// result ≡ work_of (sayings call.now.said.items) kind.entry
+/// ```
+#[inline]
+fn work_of(call: &Call<'_>, kind: Kind<'static>) -> Task {
+    if call.gives(b"check") {
+        Task::Check(checking_of(call, kind))
+    } else {
+        Task::Sum(summing_of(call, kind))
+    }
+}
+
+/// Which work a call asks for.
+///
+/// Proved:
+///
+/// ```text
+/// result ≡ task_of kinds.now (sayings call.now.said.items)
+/// ```
+#[inline]
+fn task_of(kinds: &[Kind<'static>], call: &Call<'_>) -> Result<Task, Wrong> {
+    if let Some(misuse) = misuse_of(call) {
+        return Err(Wrong::Own(misuse));
+    }
+    match kind_of(kinds, asked(call)) {
+        Some(kind) => Ok(work_of(call, kind)),
+        None => Err(Wrong::UnknownName),
+    }
+}
+
+/// Checks the lines of these lists, by the hash that is asked for alone, or by all.
+///
+/// Proved:
+///
+/// ```text
+/// EndsLists (taken kinds.now checking.entry) checking.entry (F.opens folder.now)
+///     (map (λ list. list.now) lists.now)
+///     (writer_contents W.contents w.old) (writer_contents W.contents w.new) result
+/// ```
+#[inline]
+fn check_taken<R: Read, F: Folder<R> + Reports, W: Write>(
+    alloc: Global,
+    folder: &F,
+    kinds: &[Kind<'static>],
+    checking: Checking<'static>,
+    lists: &[&[u8]],
+    w: &mut BufWriter<W>,
+) -> Result<bool, Fault> {
+    if checking.only {
+        return check_lists(alloc, folder, &[checking.kind], checking, lists, w);
+    }
+    check_lists(alloc, folder, kinds, checking, lists, w)
+}
+
+/// Does a task over these files.
+///
+/// Proved:
+///
+/// ```text
+/// EndsTask kinds.now (F.opens folder.now) (map (λ file. file.now) files.now)
+///     (writer_contents W.contents w.old) (writer_contents W.contents w.new) task result
+/// ```
+#[inline]
+fn ended<R: Read, F: Folder<R> + Reports, W: Write>(
+    alloc: Global,
+    folder: &F,
+    kinds: &[Kind<'static>],
+    files: &[&[u8]],
+    task: Result<Task, Wrong>,
+    w: &mut BufWriter<W>,
+) -> Outcome {
+    match task {
+        Ok(Task::Sum(summing)) => of_run(sum_files(alloc, folder, summing, files, w)),
+        Ok(Task::Check(checking)) => of_run(check_taken(alloc, folder, kinds, checking, files, w)),
+        Err(wrong) => Outcome::Usage(wrong),
+    }
+}
+
+/// Does what the call asks for, by hashes of these kinds. If the call is wrong, or there is no memory for its files, nothing is
+/// read or written.
+///
+/// Proved:
+///
+/// ```text
+/// EndsCall kinds.now (F.opens folder.now) (sayings call.now.said.items)
+///     (text_of about.entry.help.now about.entry.version.now about.entry.list.now)
+///     (writer_contents W.contents w.old) (writer_contents W.contents w.new) result
+///     ⊎ ((result ≡ Failed NoMemory) × Keeps (writer_contents W.contents w.old) (writer_contents W.contents w.new))
+/// ```
+#[inline]
+pub fn outcome_of<R: Read, F: Folder<R> + Reports, W: Write>(
+    alloc: Global,
+    folder: &F,
+    kinds: &[Kind<'static>],
+    call: &Call<'_>,
+    about: About<'_>,
+    w: &mut BufWriter<W>,
+) -> Outcome {
+    match request_of(call) {
+        Request::Misgiven(misgiven) => Outcome::Usage(Wrong::Option(misgiven)),
+        Request::Text(text) => of_telling(write_out(w, text_of(&about, text))),
+        Request::Work => match files(alloc, call) {
+            Ok(files) => ended(alloc, folder, kinds, &files, task_of(kinds, call), w),
+            Err(_) => Outcome::Failed(Fault::NoMemory),
+        },
+    }
+}
+
+/// The key file of a call, if it gives one and is neither wrong nor asks for a text.
+///
+/// Proved:
+///
+/// ```text
+/// option_map (λ name. name.now) result ≡ key_file (sayings call.now.said.items)
+/// ```
+#[inline]
+fn key_file<'a>(call: &Call<'a>) -> Option<&'a [u8]> {
+    match (request_of(call), misuse_of(call)) {
+        (Request::Work, None) => call.value(b"key-file"),
+        _ => None,
+    }
+}
+
+/// Does what the call asks for, by the hashes that can be told, and by poly61 under the keys of its key file. If the call
+/// gives one, it is read first; if it has no keys of poly61, that is told, and nothing else is read or written.
+///
+/// Proved:
+///
+/// ```text
+/// EndsWithKeys (F.opens folder.now) (sayings call.now.said.items)
+///     (text_of about.entry.help.now about.entry.version.now about.entry.list.now)
+///     (writer_contents W.contents w.old) (writer_contents W.contents w.new) result
+/// ```
+#[inline]
+pub fn outcome_with_keys<R: Read, F: Folder<R> + Reports, W: Write>(
+    alloc: Global,
+    folder: &F,
+    call: &Call<'_>,
+    about: About<'_>,
+    w: &mut BufWriter<W>,
+) -> Outcome {
+    match poly61_keys_for(folder, key_file(call)) {
+        None => Outcome::Reported,
+        Some(keys) => match kinds(alloc, Some(keys.unwrap_or((0, 0)))) {
+            Ok(kinds) => outcome_of(alloc, folder, &kinds, call, about, w),
+            Err(_) => Outcome::Failed(Fault::NoMemory),
+        },
+    }
+}

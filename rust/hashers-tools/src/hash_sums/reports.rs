@@ -1,0 +1,14 @@
+//! Who is told of what a check finds.
+
+// What follows is the proved text of crates/hash_sums/src/reports.rt without its contracts.
+
+use crate::hash_sums::check::Counts;
+
+/// Who is told of what a check finds in its lists.
+pub trait Reports {
+    /// The line of that number in the list of that name is improper.
+    fn improper(&self, list: &[u8], line: u64);
+
+    /// The list of that name ended, and this came of its lines.
+    fn ended(&self, list: &[u8], counts: &Counts);
+}

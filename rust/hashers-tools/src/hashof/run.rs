@@ -1,0 +1,82 @@
+//! The line of a named hash of what a reader gives.
+
+// What follows is the proved text of crates/hashof/src/run.rt without its contracts.
+// The tests alone call run.
+#![allow(dead_code)]
+use hashers_proved::{hash_laws, hash_names};
+use hashers_proved::shim::std;
+
+use crate::hashof::line::write_line;
+use crate::hashof::named::hash_named;
+use hash_laws::reader::Fault;
+use hash_names::reading::Unhashed;
+use std::io::{Error, Read, Write};
+
+/// Why no hash was told. The cases are tried in this order.
+pub enum RunFault {
+    /// No hash has the name. Nothing was read or written.
+    UnknownName,
+    /// A read failed. Nothing was written.
+    ReadFault(Fault),
+    /// As many bytes were read as the limit allows, and no end was seen. Nothing was written.
+    TooLong,
+    /// A write or the flush failed with this error, or a write took nothing. A beginning of the line was written, the whole line where
+    /// the flush failed.
+    WriteFault(Option<Error>),
+}
+
+/// Why there is no hash, as the fault of a run.
+///
+/// Proved:
+///
+/// ```text
+/// result ≡ fault_of unhashed
+/// ```
+#[inline]
+fn fault_of(unhashed: Unhashed) -> RunFault {
+    match unhashed {
+        Unhashed::UnknownName => RunFault::UnknownName,
+        Unhashed::ReadFault(fault) => RunFault::ReadFault(fault),
+        Unhashed::TooLong => RunFault::TooLong,
+    }
+}
+
+/// The bytes from which on an input is too long: 2^40.
+pub const LIMIT: u64 = 1 << 40;
+
+/// Tells the hash of that name of what is read, if that is less than `limit` bytes: writes the number in decimal and a
+/// newline, and flushes once.
+///
+/// Input is read through an array of 4096 bytes and no memory is taken. For `lookup3`, whose answer depends on the
+/// cuts, it is the hash of pieces of 4096 bytes each; for each other name it is that of the one-call function. Nothing
+/// is written before the input has ended. What stands after a refusal is said at each [`RunFault`].
+///
+/// Proved:
+///
+/// ```text
+/// Ends name.now (run_of limit R.remaining r.old r.new W.contents w.old w.new) result
+/// ```
+#[inline]
+pub fn run_limited<R: Read, W: Write>(
+    name: &str,
+    limit: u64,
+    r: &mut R,
+    w: &mut W,
+) -> Result<(), RunFault> {
+    match hash_named(name, limit, r) {
+        Ok(hash) => write_line(w, hash),
+        Err(unhashed) => Err(fault_of(unhashed)),
+    }
+}
+
+/// `run_limited` of an input of less than 2^40 bytes.
+///
+/// Proved:
+///
+/// ```text
+/// Ends name.now (run_of LIMIT R.remaining r.old r.new W.contents w.old w.new) result
+/// ```
+#[inline]
+pub fn run<R: Read, W: Write>(name: &str, r: &mut R, w: &mut W) -> Result<(), RunFault> {
+    run_limited(name, LIMIT, r, w)
+}

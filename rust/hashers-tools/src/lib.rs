@@ -1,0 +1,19 @@
+//! The programs `hashof`, `dedup`, `hashsum`, `cuts` and `spread`, and what they do as a library: the proved text of the programs, its
+//! contracts erased, over the crate hashers-proved. No text of a function's body is changed. `cargo install --path .` builds and installs
+//! all five.
+#![forbid(unsafe_code)]
+// In the proved text, whose language has no such lints.
+#![allow(clippy::style, clippy::complexity)]
+
+pub mod cli;
+pub mod hash_chunks;
+pub mod hash_spread;
+pub mod hash_sums;
+pub mod unique_lines;
+
+// The programs.
+pub mod cuts;
+pub mod dedup;
+pub mod hashof;
+pub mod hashsum;
+pub mod spread;

@@ -1,0 +1,215 @@
+//! A run: reads the keys, and writes the table.
+
+// What follows is the proved text of crates/spread/src/run.rt without its contracts.
+use crate::{cli, hash_spread};
+use hashers_proved::{hash_names, streams, text_set};
+use hashers_proved::shim::{HostRuntime, Vec, format, std};
+
+use crate::spread::clock::time_of;
+use crate::spread::picture::picture;
+use crate::spread::table::Frame;
+use cli::inputs::open;
+use cli::progress::{Progress, Watched};
+use hash_names::table::Kind;
+use hash_spread::call::Settings;
+use hash_spread::fault::{Fault, NoTable};
+use hash_spread::keys::{Layout, read_keys};
+use hash_spread::named::Hashed;
+use hash_spread::rows::{Row, row_of};
+use hash_spread::sizes::sizes_of;
+use std::fs::{File, OpenOptions};
+use std::io;
+use std::io::{BufReader, BufWriter, Error, ErrorKind, IsTerminal, Stdout};
+use streams::tries::{TRIES, write_all, write_out};
+use text_set::{RandomKeys, Texts};
+
+/// How many bytes are read at once.
+const BUFFER: usize = 65536;
+
+/// The name of standard input, and of standard output.
+const STANDARD: &[u8] = b"-";
+
+/// The keys of standard input, each once.
+#[inline]
+fn keys_of_input(rt: &HostRuntime, layout: Layout) -> Result<Texts<RandomKeys>, Fault> {
+    let alloc = rt.alloc();
+    let hasher = match RandomKeys::new(rt) {
+        Ok(hasher) => hasher,
+        Err(error) => return Err(Fault::Unread(error)),
+    };
+    let mut keys = Texts::new(alloc, hasher);
+    let input = match open(rt, STANDARD) {
+        Ok(input) => input,
+        Err(error) => return Err(Fault::Unread(error)),
+    };
+    let watched = Watched::new(input, Progress::new(rt, rt.stderr().is_terminal()));
+    match BufReader::with_capacity(alloc, BUFFER, watched) {
+        Ok(mut reader) => read_keys(alloc, &mut keys, layout, &mut reader)?,
+        Err(_) => return Err(Fault::NoMemory),
+    }
+    Ok(keys)
+}
+
+/// Writes the row of each hasher as soon as it is done, and the head in front of the first: where there is no memory for that row,
+/// nothing is written.
+fn tell_rows(
+    rt: &HostRuntime,
+    kinds: &[Kind],
+    frame: &Frame,
+    hashed: &mut Hashed,
+    w: &mut BufWriter<Stdout>,
+) -> Result<Vec<Row>, Fault> {
+    let mut progress = Progress::new(rt, rt.stderr().is_terminal());
+    let mut rows = Vec::new(rt.alloc());
+    for (done, kind) in kinds.iter().enumerate() {
+        progress.show(done as u64, "hashers done");
+        let time = if frame.times {
+            time_of(rt, *kind, hashed)?
+        } else {
+            None
+        };
+        let row = row_of(rt.alloc(), *kind, frame.sizes, time, hashed)?;
+        progress.clear();
+        if done == 0 {
+            write_out(w, frame.head(rt.alloc())?.as_bytes())?;
+        }
+        write_out(w, frame.row(rt.alloc(), &row)?.as_bytes())?;
+        if rows.push(row).is_err() {
+            return Err(Fault::NoMemory);
+        }
+    }
+    progress.clear();
+    Ok(rows)
+}
+
+/// Writes what chance gives, for hashes of each number of bits that a row has.
+#[inline]
+fn tell_chance(
+    rt: &HostRuntime,
+    rows: &[Row],
+    frame: &Frame,
+    w: &mut BufWriter<Stdout>,
+) -> Result<(), Fault> {
+    for bits in [0, 28, 32, 64] {
+        if rows.iter().any(|row| row.kind.row().bits == bits) {
+            write_out(w, frame.chance(rt.alloc(), bits)?.as_bytes())?;
+        }
+    }
+    Ok(())
+}
+
+/// Writes which hasher is recommended.
+#[inline]
+fn tell_best(
+    rt: &HostRuntime,
+    rows: &[Row],
+    frame: &Frame,
+    w: &mut BufWriter<Stdout>,
+) -> Result<(), Fault> {
+    match frame.best(rows) {
+        Some(best) => {
+            let name = best.kind.row().name;
+            let line = format!(in rt.alloc();
+                "Take {name}: the fastest of those that spread these keys as chance does.\n"
+            )?;
+            write_out(w, line.as_bytes())
+        }
+        None => write_out(w, b"None of these spreads these keys as chance does.\n"),
+    }
+}
+
+/// Where the picture goes.
+enum Canvas {
+    /// To standard output, behind the table.
+    Standard,
+    /// Into a file.
+    File(File),
+}
+
+/// Opens the file of that name for the picture, and leaves what it has until that is drawn; `-` is standard output.
+#[inline]
+fn open_canvas(rt: &HostRuntime, name: &[u8]) -> io::Result<Canvas> {
+    if name == STANDARD {
+        return Ok(Canvas::Standard);
+    }
+    let Ok(path) = str::from_utf8(name) else {
+        return Err(Error::new(ErrorKind::InvalidInput, "file name is not valid UTF-8"));
+    };
+    let mut options = OpenOptions::new();
+    options.write(true).create(true);
+    Ok(Canvas::File(options.open(rt, path)?))
+}
+
+/// Where the picture goes, if one is asked for.
+#[inline]
+fn canvas_of(rt: &HostRuntime, plot: Option<&[u8]>) -> Result<Option<Canvas>, Fault> {
+    let Some(name) = plot else {
+        return Ok(None);
+    };
+    match open_canvas(rt, name) {
+        Ok(canvas) => Ok(Some(canvas)),
+        Err(error) => Err(Fault::Own(NoTable::Undrawn(error))),
+    }
+}
+
+/// Writes a text into the file, in place of what it has.
+#[inline]
+fn fill(file: &mut File, text: &str) -> io::Result<()> {
+    if file.metadata()?.is_file() {
+        file.set_len(0)?;
+    }
+    let filled: Result<(), Fault> = write_all(file, text.as_bytes(), TRIES);
+    match filled {
+        Ok(()) => Ok(()),
+        Err(Fault::Unwritten(Some(error))) => Err(error),
+        Err(_) => Err(Error::new(ErrorKind::WriteZero, "no bytes were written")),
+    }
+}
+
+/// Draws the picture.
+#[inline]
+fn draw(canvas: Canvas, text: &str, w: &mut BufWriter<Stdout>) -> Result<(), Fault> {
+    match canvas {
+        Canvas::Standard => write_out(w, text.as_bytes()),
+        Canvas::File(mut file) => match fill(&mut file, text) {
+            Ok(()) => Ok(()),
+            Err(error) => Err(Fault::Own(NoTable::Undrawn(error))),
+        },
+    }
+}
+
+/// Opens the picture's file if one is asked for, reads the keys, and writes the table and the picture.
+pub fn tell_table(
+    rt: &HostRuntime,
+    settings: &Settings,
+    kinds: &[Kind],
+    plot: Option<&[u8]>,
+    w: &mut BufWriter<Stdout>,
+) -> Result<(), Fault> {
+    let canvas = canvas_of(rt, plot)?;
+    let keys = keys_of_input(rt, settings.layout)?;
+    if keys.is_empty() {
+        return Err(Fault::Own(NoTable::NoKeys));
+    }
+    let frame = Frame {
+        keys: keys.len() as u64,
+        sizes: sizes_of(
+            keys.len() as u64,
+            settings.buckets.map(|buckets| buckets.get() as u64),
+        ),
+        times: settings.times,
+    };
+    let mut hashed = Hashed {
+        keys,
+        hashes: Vec::new(rt.alloc()),
+    };
+    let rows = tell_rows(rt, kinds, &frame, &mut hashed, w)?;
+    tell_chance(rt, &rows, &frame, w)?;
+    if settings.times {
+        tell_best(rt, &rows, &frame, w)?;
+    }
+    match canvas {
+        Some(canvas) => draw(canvas, picture(rt.alloc(), &frame, &rows)?.as_str(), w),
+        None => Ok(()),
+    }
+}

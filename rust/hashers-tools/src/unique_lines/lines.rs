@@ -1,0 +1,78 @@
+//! Writes lines, and has them taken.
+
+// What follows is the proved text of crates/unique_lines/src/lines.rt without its contracts.
+use hashers_proved::streams;
+use hashers_proved::shim::std;
+
+use crate::unique_lines::ahead::Ahead;
+use crate::unique_lines::fault::Fault;
+use crate::unique_lines::task::LineTask;
+use std::io::Write;
+use streams::tries::{TRIES, write_all};
+
+/// Writes a line of this text, and its end behind it if it has none. After a fault a beginning of that was written.
+///
+/// The caller has to see to it that:
+///
+/// ```text
+/// text.now ≡ strip_last eol line.now
+/// ```
+///
+/// Proved:
+///
+/// ```text
+/// ok: OnOk result (Appends (W.contents w.old) (W.contents w.new) (as_line_by eol line.now))
+/// err: OnErr result (AppendsPart (W.contents w.old) (W.contents w.new) (as_line_by eol line.now))
+/// ```
+#[inline]
+pub fn write_line<W: Write>(w: &mut W, line: &[u8], text: &[u8], eol: u8) -> Result<(), Fault> {
+    if text.len() < line.len() {
+        return write_all(w, line, TRIES);
+    }
+    write_all(w, line, TRIES)?;
+    write_all(w, &[eol], TRIES)
+}
+
+/// Has the first lines taken, up to so many. Returns how many lines those are, each with its end, and how many bytes they
+/// have together.
+///
+/// The caller has to see to it that:
+///
+/// ```text
+/// grows: Grows (T.output eol)
+/// room: (ls : List (List ℕ)) × T.taken eol ls task.old × (length ls + most ≤ u64.MAX)
+/// ```
+///
+/// Proved:
+///
+/// ```text
+/// takes: IfOk result (λ taken. Takes eol bytes.now most taken.0 taken.1)
+/// led: IfOk result (λ taken. LeadsOn (T.output eol) (λ ls. T.taken eol ls task.old)
+///     (λ ls. T.taken eol ls task.new)
+///     (lines_by eol (take taken.1 bytes.now)) (W.contents w.old) (W.contents w.new))
+/// broke: OnErr result (BreaksOff (T.output eol) (λ ls. T.taken eol ls task.old) eol bytes.now
+///     (W.contents w.old) (W.contents w.new))
+/// ```
+#[inline]
+pub fn take_lines<T: LineTask, W: Write>(
+    task: &mut T,
+    bytes: &[u8],
+    eol: u8,
+    most: u64,
+    w: &mut W,
+) -> Result<(u64, usize), Fault> {
+    let mut rest = bytes;
+    let mut ahead = Ahead::new();
+    for count in 0..most {
+        match ahead.next(task, rest, eol) {
+            Some(found) => {
+                let (line, later) = rest.split_at(found.len + 1);
+                let text = &line[..found.len];
+                task.take_line(line, text, eol, found.guess, w)?;
+                rest = later;
+            }
+            None => return Ok((count, bytes.len() - rest.len())),
+        }
+    }
+    Ok((most, bytes.len() - rest.len()))
+}

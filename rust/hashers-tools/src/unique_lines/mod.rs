@@ -1,0 +1,17 @@
+//! Each line of some inputs once, where it came first, or behind how often it came: what the program `dedup` writes.
+
+// What follows is the proved text of crates/unique_lines/src/lib.rt without its contracts.
+
+mod ahead;
+mod fault;
+pub mod laws;
+mod lines;
+pub mod once;
+pub mod outcome;
+mod run;
+pub mod tally;
+mod task;
+mod unread;
+
+pub use fault::{Fault, TooMany};
+pub use run::Ended;

@@ -1,0 +1,184 @@
+//! A run over inputs, one behind the other.
+
+// What follows is the proved text of crates/unique_lines/src/run.rt without its contracts.
+use crate::cli;
+use hashers_proved::streams;
+use hashers_proved::shim::std;
+
+use crate::unique_lines::fault::Fault;
+use crate::unique_lines::lines::take_lines;
+use crate::unique_lines::task::LineTask;
+use crate::unique_lines::unread::{NextLine, Unread};
+use cli::inputs::Complaints;
+use std::alloc::Global;
+use std::io::{BufWriter, Error, Read, Write};
+use streams::tries::{TRIES, flush};
+
+/// How a run ended that met no fault of its own.
+#[derive(Clone, Copy)]
+pub enum Ended {
+    /// Each input was read to its end.
+    Whole,
+    /// At least one input failed. Of such an input the lines were taken that came whole.
+    InputFailed,
+    /// There were more lines than the limit. As many as the limit were taken.
+    TooManyLines,
+}
+
+/// How an input was left.
+pub enum Left {
+    /// It was read to its end.
+    Done,
+    /// A read failed.
+    Failed(Error),
+    /// It has more lines than may be taken.
+    Beyond,
+}
+
+/// Takes the last line of an input, which has no end, if there is one.
+///
+/// The caller has to see to it that:
+///
+/// ```text
+/// grows: Grows (T.output eol)
+/// room: (ls : List (List ℕ)) × T.taken eol ls task.old × (length ls + most.old ≤ u64.MAX)
+/// bare: IsBare eol line.now
+/// flushed: writer_buffer w.old ≡ []
+/// ```
+///
+/// Proved:
+///
+/// ```text
+/// left: IfOk result (EndsInput (T.output eol) (λ ls. T.taken eol ls task.old) (λ ls. T.taken eol ls task.new)
+///     (lines_by eol line.now) most.old most.new (writer_contents W.contents w.old)
+///     (writer_contents W.contents w.new))
+/// flushed: OnOk result (writer_buffer w.new ≡ [])
+/// broke: OnErr result (StopsWithin (T.output eol) (λ ls. T.taken eol ls task.old) (lines_by eol line.now)
+///     (writer_contents W.contents w.old) (writer_contents W.contents w.new))
+/// ```
+#[inline]
+fn take_last<T: LineTask, W: Write>(
+    task: &mut T,
+    line: &[u8],
+    eol: u8,
+    most: &mut u64,
+    w: &mut BufWriter<W>,
+) -> Result<Left, Fault> {
+    if line.is_empty() {
+        return Ok(Left::Done);
+    }
+    if *most == 0 {
+        return Ok(Left::Beyond);
+    }
+    task.take_line(line, line, eol, task.guess(line), w)?;
+    *most -= 1;
+    flush(w, TRIES)?;
+    Ok(Left::Done)
+}
+
+/// Has the lines of an input taken, at most so many, and leaves in `most` how many more may be taken. Whenever it reads,
+/// nothing is held back.
+///
+/// The caller has to see to it that:
+///
+/// ```text
+/// grows: Grows (T.output eol)
+/// room: (ls : List (List ℕ)) × T.taken eol ls task.old × (length ls + most.old ≤ u64.MAX)
+/// unread: unread.old ≡ []
+/// flushed: writer_buffer w.old ≡ []
+/// ```
+///
+/// Proved:
+///
+/// ```text
+/// left: IfOk result (LeavesInput (T.output eol) (λ ls. T.taken eol ls task.old)
+///     (λ ls. T.taken eol ls task.new)
+///     eol most.old most.new (R.remaining r.old) (R.remaining r.new) (writer_contents W.contents w.old)
+///     (writer_contents W.contents w.new))
+/// unread: OnOk result (unread.new ≡ [])
+/// flushed: OnOk result (writer_buffer w.new ≡ [])
+/// broke: OnErr result (BreaksInput (T.output eol) (λ ls. T.taken eol ls task.old) eol (R.remaining r.old)
+///     (writer_contents W.contents w.old) (writer_contents W.contents w.new))
+/// ```
+#[inline]
+fn take_input<T: LineTask, R: Read, W: Write>(
+    task: &mut T,
+    unread: &mut Unread,
+    eol: u8,
+    most: &mut u64,
+    r: &mut R,
+    w: &mut BufWriter<W>,
+) -> Result<Left, Fault> {
+    loop {
+        match unread.fill(eol, r, w)? {
+            NextLine::Line => {
+                let (count, len) = take_lines(task, unread.bytes(), eol, *most, w)?;
+                *most -= count;
+                unread.pass(len);
+                flush(w, TRIES)?;
+                if unread.is_beyond(*most) {
+                    unread.clear();
+                    return Ok(Left::Beyond);
+                }
+            }
+            NextLine::End => {
+                let left = take_last(task, unread.bytes(), eol, most, w)?;
+                unread.clear();
+                return Ok(left);
+            }
+            NextLine::Fault(error) => {
+                unread.clear();
+                return Ok(Left::Failed(error));
+            }
+        }
+    }
+}
+
+/// Has the lines of the inputs taken, which end with the byte `eol`, at most `limit` of them. An input that fails is told,
+/// and the others are read. Whenever it reads, and at the end, nothing is held back.
+///
+/// The caller has to see to it that:
+///
+/// ```text
+/// grows: Grows (T.output eol)
+/// begun: T.taken eol [] task.old
+/// nothing: T.output eol [] ≡ []
+/// ```
+///
+/// Proved:
+///
+/// ```text
+/// ended: EndsTaking (T.output eol) (λ ls. T.taken eol ls task.new) eol limit
+///     (run_of R.remaining inputs.old inputs.new (writer_contents W.contents) w.old w.new) result
+/// flushed: OnOk result (writer_buffer w.new ≡ [])
+/// ```
+#[inline]
+pub fn take_inputs<T: LineTask, R: Read, C: Complaints, W: Write>(
+    alloc: Global,
+    task: &mut T,
+    eol: u8,
+    limit: u64,
+    inputs: &mut [R],
+    complaints: &mut C,
+    w: &mut BufWriter<W>,
+) -> Result<Ended, Fault> {
+    let mut unread = Unread::new(alloc);
+    let mut most = limit;
+    let mut whole = true;
+    flush(w, TRIES)?;
+    for place in 0..inputs.len() {
+        match take_input(task, &mut unread, eol, &mut most, &mut inputs[place], w)? {
+            Left::Done => {}
+            Left::Failed(error) => {
+                complaints.failed(place, &error);
+                whole = false;
+            }
+            Left::Beyond => return Ok(Ended::TooManyLines),
+        }
+    }
+    if whole {
+        Ok(Ended::Whole)
+    } else {
+        Ok(Ended::InputFailed)
+    }
+}
