@@ -329,16 +329,22 @@ fn texts_are_a_set_with_places() {
     assert_ne!(format!("{:?}", RandomKeys::default()), format!("{:?}", RandomKeys::with_keys(0, 0).build_hasher()));
 }
 
+/// A guess names the text's own place, or none where another text has the first slot of the search; and for a text that is not there, none.
 #[test]
 fn guesses_are_by_the_hash() {
-    let mut texts = Texts::new(Global, RandomKeys::default());
-    for (text, place, is_new) in [("a", 0, true), ("b", 1, true), ("c", 2, true), ("b", 1, false)] {
-        let guess = texts.guess(text.as_bytes());
-        let seen = texts.see_at(text.as_bytes(), guess).unwrap();
-        assert_eq!((seen.place, seen.is_new, texts.text_at(place)), (place, is_new, text.as_bytes()));
-        assert!(is_new || guess.place == place);
-        assert_eq!(texts.guess(b"none").place, texts.len());
+    let mut right = 0;
+    for key in 0..64 {
+        let mut texts = Texts::new(Global, RandomKeys::with_keys(key, 7));
+        for (text, place, is_new) in [("a", 0, true), ("b", 1, true), ("c", 2, true), ("b", 1, false)] {
+            let guess = texts.guess(text.as_bytes());
+            let seen = texts.see_at(text.as_bytes(), guess).unwrap();
+            assert_eq!((seen.place, seen.is_new, texts.text_at(place)), (place, is_new, text.as_bytes()));
+            assert!(guess.place == texts.len() || guess.place == place);
+            right += i32::from(!is_new && guess.place == place);
+            assert_eq!(texts.guess(b"none").place, texts.len());
+        }
     }
+    assert!(right > 32, "{right} of 64");
 }
 
 /// The hash of a text under two keys by its definition.
