@@ -51,12 +51,14 @@ fn put_ends<const N: usize>(buffer: &mut [u8], at: usize, text: &[u8])
 
 /// Writes a text into a buffer from the place `at` on: up to 256 bytes by parts of fixed lengths, and a longer one as a whole.
 #[inline(always)]
-pub fn put(buffer: &mut [u8], at: usize, text: &[u8])
+pub fn put<const N: usize>(buffer: &mut [u8; N], at: usize, text: &[u8])
     requires { at + length text.now ≤ length buffer.old }
     ensures { buffer.new ≡ put_at at text.now buffer.old }
 {
     let len = text.len();
-    if len > 256 {
+    let buffer = &mut buffer[..];
+    // a buffer that is smaller needs no code for such texts
+    if N > 256 && len > 256 {
         buffer[at..at + len].copy_from_slice(text);
         return;
     }

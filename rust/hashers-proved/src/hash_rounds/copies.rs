@@ -94,9 +94,11 @@ fn put_ends<const N: usize>(buffer: &mut [u8], at: usize, text: &[u8]) {
 /// buffer.new ≡ put_at at text.now buffer.old
 /// ```
 #[inline(always)]
-pub fn put(buffer: &mut [u8], at: usize, text: &[u8]) {
+pub fn put<const N: usize>(buffer: &mut [u8; N], at: usize, text: &[u8]) {
     let len = text.len();
-    if len > 256 {
+    let buffer = &mut buffer[..];
+    // a buffer that is smaller needs no code for such texts
+    if N > 256 && len > 256 {
         buffer[at..at + len].copy_from_slice(text);
         return;
     }
