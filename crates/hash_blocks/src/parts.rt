@@ -28,7 +28,7 @@ pub fn blocks_in<'a, R: BlockRule<N>, const N: usize>(
 /// Takes more bytes in behind the first `kept` of the buffer, and returns how many are kept afterwards. Where they complete a
 /// block that was begun, its bytes are copied to the buffer; all blocks behind are read where they stand.
 #[inline(always)]
-pub(crate) fn bytes_in<R: BlockRule<N>, const N: usize>(
+pub fn bytes_in<R: BlockRule<N>, const N: usize>(
     state: &mut R::State,
     buffer: &mut [u8; N],
     kept: usize,

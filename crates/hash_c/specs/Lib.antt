@@ -1,3 +1,5 @@
+pub mod BlockStates
+pub mod InWords
 pub mod Blooms
 pub mod Columns
 pub mod Lines

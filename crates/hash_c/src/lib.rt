@@ -4,12 +4,14 @@
 
 ghost use Rattle.std.specs.Prelude.{◌≡◌};
 
+mod block;
 mod bloom;
 mod column;
 mod columns;
 mod combine;
 mod ending;
 mod keyed;
+mod in_words;
 mod kinds;
 mod lines;
 mod parts;

@@ -1,0 +1,15 @@
+-- What a rule by the block keeps of its blocks, from words and a flag.
+use Rattle.std.specs.Prelude.{ℕ, ◌%◌, ◌^◌, not, nat_eq, List, [], ◌∷◌, slice_index}
+use Rattle.hash_xxhash.specs.declared.at_32.Lanes32.{Lanes32}
+use Rattle.hash_xxhash.specs.declared.at_64.Lanes.{Lanes}
+
+-- the low half of a word
+abbrev pub low : List ℕ → ℕ → ℕ
+low words i = slice_index words i % 2 ^ 32
+
+abbrev pub of_xxh32 : List ℕ → ℕ → Lanes32
+of_xxh32 words long =
+    record { lanes = low words 0 ∷ low words 1 ∷ low words 2 ∷ low words 3 ∷ []; long = not (nat_eq long 0) }
+
+abbrev pub of_xxh64 : List ℕ → ℕ → Lanes
+of_xxh64 words long = record { lanes = words; long = not (nat_eq long 0) }
