@@ -7,6 +7,7 @@
 #include <sys/mman.h>
 
 _Static_assert(sizeof(hashers_spooky_state) == 312 && _Alignof(hashers_spooky_state) == 8, "the size that the library proves");
+_Static_assert(sizeof(hashers_block_state) == 96 && sizeof(hashers_xxh3_place) == 360, "the sizes that the library proves");
 
 static int passed, failed;
 
@@ -126,6 +127,58 @@ static void check_spooky(void) {
         same_words("spooky in parts", hashers_spooky128(text, n, 1, 2), hashers_spooky_finish(&s));
         same_words("spooky_v1 in parts", hashers_spooky128_v1(text, n, 1, 2), hashers_spooky_finish_v1(&copy));
     }
+}
+
+// A hash by the block or XXH3 under a seed or a key: each text in parts has the hash of the whole.
+#define IN_PARTS(state, x, begin, equal, whole, finish)                                                                                \
+    for (size_t n = 0; n < 700; n++) {                                                                                                 \
+        state s = begin;                                                                                                               \
+        for (size_t at = 0; at < n;) {                                                                                                 \
+            size_t part = 1 + at * 7 % 101;                                                                                            \
+            if (part > n - at) part = n - at;                                                                                          \
+            hashers_##x##_write(&s, text + at, part);                                                                                  \
+            hashers_##x##_write(&s, NULL, 0);                                                                                          \
+            at += part;                                                                                                                \
+        }                                                                                                                              \
+        state copy = s;                                                                                                                \
+        equal(#x " in parts", whole, finish(&copy));                                                                                   \
+    }
+
+static void check_seeded(void) {
+    uint32_t low = 0x9e3779b1;
+    uint64_t seed = (uint64_t)low << 32 | 7, k0 = 0x0706050403020100, k1 = 0x0f0e0d0c0b0a0908;
+    unsigned char count[15];
+    for (int i = 0; i < 15; i++) count[i] = (unsigned char)i;
+    same("siphash24's published text", 0xa129ca6149be45e5, hashers_siphash24_keyed(count, 15, k0, k1));
+    same("xxh32 under 0", hashers_xxh32(text, 99), hashers_xxh32_seeded(text, 99, 0));
+    same("xxh64 under 0", hashers_xxh64(text, 99), hashers_xxh64_seeded(text, 99, 0));
+    same("murmur3_32 under 0", hashers_murmur3_32(text, 99), hashers_murmur3_32_seeded(text, 99, 0));
+    same("murmur3 under 0", hashers_murmur3(text, 99), hashers_murmur3_128(text, 99, 0).first);
+    same("siphash13 under 0", hashers_siphash13(text, 99), hashers_siphash13_keyed(text, 99, 0, 0));
+    same("siphash24 under 0", hashers_siphash24(text, 99), hashers_siphash24_keyed(text, 99, 0, 0));
+    same("xxh3 under 0", hashers_xxh3(text, 99), hashers_xxh3_seeded(text, 99, 0));
+    same("the low word of xxh128", hashers_xxh3_seeded(text, 500, seed), hashers_xxh128(text, 500, seed).first);
+    IN_PARTS(hashers_block_state, xxh32, hashers_xxh32_begin(low), same, hashers_xxh32_seeded(text, n, low), hashers_xxh32_finish)
+    IN_PARTS(hashers_block_state, xxh64, hashers_xxh64_begin(seed), same, hashers_xxh64_seeded(text, n, seed), hashers_xxh64_finish)
+    IN_PARTS(hashers_block_state, murmur3_32, hashers_murmur3_32_begin(low), same, hashers_murmur3_32_seeded(text, n, low), hashers_murmur3_32_finish)
+    IN_PARTS(hashers_block_state, murmur3, hashers_murmur3_begin(seed), same_words, hashers_murmur3_128(text, n, seed), hashers_murmur3_finish)
+    IN_PARTS(hashers_block_state, siphash13, hashers_siphash13_begin(k0, k1), same, hashers_siphash13_keyed(text, n, k0, k1), hashers_siphash13_finish)
+    IN_PARTS(hashers_block_state, siphash24, hashers_siphash24_begin(k0, k1), same, hashers_siphash24_keyed(text, n, k0, k1), hashers_siphash24_finish)
+    IN_PARTS(hashers_xxh3_place, xxh3, hashers_xxh3_begin(seed), same, hashers_xxh3_seeded(text, n, seed), hashers_xxh3_finish)
+    IN_PARTS(hashers_xxh3_place, xxh3, hashers_xxh3_begin(seed), same_words, hashers_xxh128(text, n, seed), hashers_xxh128_finish)
+    hashers_xxh3_place zeros = {{0}};
+    hashers_xxh3_write(&zeros, text, 300);
+    same("xxh3 from zeros", hashers_xxh3(text, 300), hashers_xxh3_finish(&zeros));
+}
+
+// A state of one hash is none of another.
+static void check_marks(void) {
+    hashers_block_state s = hashers_siphash13_begin(1, 2), before = s;
+    hashers_siphash24_write(&s, text, 100);
+    hashers_xxh64_write(&s, text, 100);
+    same("write of another hash", 0, (uint64_t)memcmp(&before, &s, sizeof s));
+    same("finish of another hash", 0, hashers_siphash24_finish(&s));
+    same_words("finish of murmur3 of another hash", (hashers_words){0, 0}, hashers_murmur3_finish(&s));
 }
 
 enum { TEXTS = 40 };
@@ -297,14 +350,28 @@ static void check_keyed(void) {
     same("poly61 of no bytes", hashers_poly61(7, text, 0), hashers_poly61(7, NULL, 0));
 }
 
-// A state at the very end of what can be read, so that a call that reaches past it ends the test; and one at the very beginning.
-static void check_states_of_any_bytes(void) {
-    size_t page = 65536;
+// Pages of which the middle one alone can be read and written.
+static unsigned char *pages(size_t page) {
     unsigned char *room = mmap(NULL, 3 * page, PROT_NONE, MAP_PRIVATE | MAP_ANONYMOUS, -1, 0);
     if (room == MAP_FAILED || mprotect(room + page, page, PROT_READ | PROT_WRITE)) {
         perror("mmap");
         exit(1);
     }
+    return room;
+}
+
+// Any bytes in place of what begin made: zeros, another mark, or any numbers behind the mark.
+static void any_bytes(int turn, uint64_t *opaque, size_t count) {
+    if (turn % 5 == 0) memset(opaque, 0, count * sizeof *opaque);
+    if (turn % 5 == 1) opaque[0] ^= random_number() | 1;
+    if (turn % 5 >= 2)
+        for (size_t i = 1; i < count; i++) opaque[i] = random_number() >> random_number() % 64;
+}
+
+// A state at the very end of what can be read, so that a call that reaches past it ends the test; and one at the very beginning.
+static void check_states_of_any_bytes(void) {
+    size_t page = 65536;
+    unsigned char *room = pages(page);
     hashers_spooky_state *ends[] = {(void *)(room + 2 * page - sizeof(hashers_spooky_state)), (void *)(room + page)};
     hashers_words zeros = {0, 0};
     for (int turn = 0; turn < 20000; turn++) {
@@ -312,10 +379,7 @@ static void check_states_of_any_bytes(void) {
         *s = hashers_spooky_begin(3, 4);
         uint64_t mark = s->opaque[0];
         size_t n = (size_t)(random_number() % 400);
-        if (turn % 5 == 0) memset(s, 0, sizeof *s);
-        if (turn % 5 == 1) s->opaque[0] ^= random_number() | 1;
-        if (turn % 5 >= 2)
-            for (size_t i = 1; i < 39; i++) s->opaque[i] = random_number() >> random_number() % 64;
+        any_bytes(turn, s->opaque, 39);
         before = *s;
         hashers_words one = hashers_spooky_finish(s), two = hashers_spooky_finish_v1(s);
         hashers_spooky_write(s, text, n);
@@ -324,6 +388,34 @@ static void check_states_of_any_bytes(void) {
             same_words("finish_v1 without the mark", zeros, two);
             same("write without the mark", 0, (uint64_t)memcmp(&before, s, sizeof before));
         }
+    }
+    munmap(room, 3 * page);
+}
+
+// The same of the hashes by the block and of XXH3, which keeps no mark.
+static void check_blocks_of_any_bytes(void) {
+    size_t page = 65536;
+    unsigned char *room = pages(page);
+    hashers_block_state *blocks[] = {(void *)(room + 2 * page - sizeof(hashers_block_state)), (void *)(room + page)};
+    hashers_xxh3_place *places[] = {(void *)(room + 2 * page - sizeof(hashers_xxh3_place)), (void *)(room + page)};
+    for (int turn = 0; turn < 20000; turn++) {
+        hashers_block_state *s = blocks[turn % 2], before;
+        *s = turn % 3 ? hashers_xxh64_begin(3) : hashers_murmur3_32_begin(3);
+        any_bytes(turn, s->opaque, 12);
+        before = *s;
+        uint64_t hash = hashers_xxh64_finish(s) | hashers_murmur3_32_finish(s);
+        hashers_xxh64_write(s, text, (size_t)(random_number() % 400));
+        hashers_murmur3_32_write(s, text, 50);
+        if (turn % 5 < 2) {
+            same("finish of a block without the mark", 0, hash);
+            same("write of a block without the mark", 0, (uint64_t)memcmp(&before, s, sizeof before));
+        }
+        hashers_xxh3_place *p = places[turn % 2];
+        *p = hashers_xxh3_begin(3);
+        hashers_xxh3_write(p, text, 300);
+        any_bytes(turn % 4 + 1, p->opaque, 45);
+        hashers_xxh3_write(p, text, (size_t)(random_number() % 400));
+        hashers_xxh128_finish(p);
     }
     munmap(room, 3 * page);
 }
@@ -373,6 +465,8 @@ int main(void) {
     }
     check_oaat_state();
     check_spooky();
+    check_seeded();
+    check_marks();
     check_combine();
     check_ending();
     check_keyed();
@@ -381,6 +475,7 @@ int main(void) {
     check_filter(hashers_fnv1a64, hashers_lookup3, hashers_bloom_fnv1a64_lookup3_insert, hashers_bloom_fnv1a64_lookup3_contains);
     check_filter(hashers_spooky, hashers_lookup3, hashers_bloom_spooky_lookup3_insert, hashers_bloom_spooky_lookup3_contains);
     check_states_of_any_bytes();
+    check_blocks_of_any_bytes();
     printf("%d passed, %d failed\n", passed, failed);
     return failed != 0;
 }

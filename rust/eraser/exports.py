@@ -3,14 +3,16 @@ import re
 
 FUNCTION = re.compile(r"^pub fn (hashers_\w+)\(([^)]*)\)(?: -> (\w+))? \{", re.M)
 SLICE = re.compile(r"&(mut )?\[(u8|u32|u64)\]")
-STATE = re.compile(r"&(mut )?(SpookyState|Poly61Place)")
+STATE = re.compile(r"&(mut )?(SpookyState|Poly61Place|BlockState|Xxh3Place)")
 NUMBERS = {"u32", "u64", "usize"}
-ANSWERS = NUMBERS | {"", "bool", "Words", "SpookyState", "Poly61Place"}
+ANSWERS = NUMBERS | {"", "bool", "Words", "SpookyState", "Poly61Place", "BlockState", "Xxh3Place"}
 HEAD = """\
 //! The calls of `c/hashers.h` over the erased functions, written by rust/erase. This file alone has unsafe code.
+use super::block::BlockState;
 use super::spooky::{SpookyState, Words};
 use super::*;
 use hashers_proved::hash_keyed::poly61::Poly61Place;
+use hashers_proved::hash_xxh3::Xxh3Place;
 
 /// So many items from there on. Where there are none, any pointer will do.
 unsafe fn slice<'a, T>(at: *const T, count: usize) -> &'a [T] {

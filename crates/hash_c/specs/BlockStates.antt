@@ -1,5 +1,5 @@
 -- What the state of a hash by the block stands for that a caller in C keeps.
-use Rattle.std.specs.Prelude.{ℕ, ◌≡◌, ◌<◌, ◌%◌, ◌^◌, List, [], ◌∷◌, slice_index}
+use Rattle.std.specs.Prelude.{ℕ, ◌≡◌, ◌<◌, List, slice_index}
 use Rattle.hash_blocks.specs.Blocks.{Position, position, position_of}
 use Rattle.hash_c.specs.InWords.{of_xxh32, of_xxh64, low}
 use Rattle.hash_c.specs.declared.block.BlockState.{BlockState}
@@ -36,7 +36,7 @@ abbrev pub IsUsable : ℕ → ℕ → BlockState → Type 0
 IsUsable mark n s = (s.mark ≡ mark) × (s.kept < n)
 
 -- it is usable, and stands behind the text, from what is kept of no blocks
-record IsStateOf {S : Type 0} (mark n : ℕ) (of_words : List ℕ → ℕ → S) (block : S → List ℕ → S) (s : BlockState) (start : S)
+pub record IsStateOf {S : Type 0} (mark n : ℕ) (of_words : List ℕ → ℕ → S) (block : S → List ℕ → S) (s : BlockState) (start : S)
     (text : List ℕ) : Type 0 where
   pub usable : IsUsable mark n s
   pub there : place of_words s ≡ position n block start text

@@ -1,7 +1,7 @@
-//! Hashes by the block under a seed or a key: of a whole text, and of a text that comes in parts. The state is a struct that the caller keeps.
-ghost use Rattle.std.specs.Prelude.{◌≡◌, ◌<◌, ◌≤◌, ℕ, List, [], ◌∷◌, ◌++◌, Some, None, take};
-ghost use Rattle.hash_blocks.specs.Blocks.{after, position, position_of};
-ghost use Rattle.hash_c.specs.BlockStates.{IsMurmur3State, IsMurmur32State, IsSip13State, IsSip24State, IsUsable, IsXxh32State, IsXxh64State, place, mark_murmur3, mark_murmur3_32, mark_siphash13, mark_siphash24, mark_xxh32, mark_xxh64};
+//! Hashes by the block under a seed or a key: of a whole text, and of a text in parts. The caller keeps the state.
+ghost use Rattle.std.specs.Prelude.{◌≡◌, ◌<◌, ℕ, List, [], ◌++◌, Some, None, take};
+ghost use Rattle.hash_blocks.specs.Blocks.{blocks, tail};
+ghost use Rattle.hash_c.specs.BlockStates.{IsMurmur3State, IsMurmur32State, IsSip13State, IsSip24State, IsStateOf, IsUsable, IsXxh32State, IsXxh64State, mark_murmur3, mark_murmur3_32, mark_siphash13, mark_siphash24, mark_xxh32, mark_xxh64};
 ghost use Rattle.hash_c.specs.SpookyState.{AreZeros};
 ghost use Rattle.hash_murmur3.specs.Murmur3.{murmur3_32};
 ghost use Rattle.hash_murmur3.specs.Murmur3x128.{murmur3_128};
@@ -11,24 +11,29 @@ ghost use Rattle.hash_xxhash.specs.Xxh64.{xxh64};
 
 use crate::in_words::InWords;
 use crate::spooky::{Words, two_words};
-use hash_blocks::{BlockRule, bytes_in};
-use hash_murmur3::{Murmur3Rule32, Murmur3Rule128};
-use hash_siphash::{SipKey, SipRule};
-use hash_xxhash::{Xxh32Rule, Xxh64Rule};
+use hash_blocks::bytes_in;
+use hash_murmur3::{Murmur3Rule32, Murmur3Rule128, murmur3_32, murmur3_128};
+use hash_siphash::{SipKey, SipRule, siphash13, siphash24};
+use hash_xxhash::{Xxh32Rule, Xxh64Rule, xxh32, xxh64};
 
 // The marks of the states: bytes that hardly lie in memory by chance.
 const XXH32: u64 = 0x5b39_d3a6_8cf0_7101;
+
 const XXH64: u64 = 0x5b39_d3a6_8cf0_7102;
+
 const MURMUR3_32: u64 = 0x5b39_d3a6_8cf0_7103;
+
 const MURMUR3: u64 = 0x5b39_d3a6_8cf0_7104;
+
 const SIPHASH13: u64 = 0x5b39_d3a6_8cf0_7105;
+
 const SIPHASH24: u64 = 0x5b39_d3a6_8cf0_7106;
 
 // What hashers.h reserves for a state.
 const _: () = prove!(size_of::<BlockState>() == 96);
 
-/// Where a hash by the block stands in a text: a mark that tells which hash, what is kept of the whole blocks, the length modulo
-/// 2^64, and what is left behind the blocks. The fields are whole numbers alone, so that any bytes are a state.
+/// Where a hash by the block stands in a text: a mark that tells which hash, what is kept of the whole blocks, the length
+/// modulo 2^64, and what is left behind the blocks. The fields are whole numbers, so that any bytes are a state.
 #[repr(C)]
 #[derive(Clone, Copy)]
 pub struct BlockState {
@@ -43,9 +48,7 @@ pub struct BlockState {
 // The state of no bytes.
 #[inline(always)]
 fn begun<R: InWords<N>, const N: usize>(mark: u64, seed: R::Seed) -> BlockState
-    ensures mark { result.mark ≡ mark }
-    ensures few { result.kept < N }
-    ensures place { place R.of_words result ≡ position N R.block (R.start (R.numbers seed)) [] }
+    ensures { IsStateOf mark N R.of_words R.block result (R.start (R.numbers seed)) [] }
 {
     let mut words = [0; 4];
     let long = R::in_words(&R::start(seed), &mut words);
@@ -59,22 +62,38 @@ fn begun<R: InWords<N>, const N: usize>(mark: u64, seed: R::Seed) -> BlockState
     }
 }
 
+// Takes more bytes in, as `bytes_in` does, where the buffer is longer than a block.
+#[inline(always)]
+fn bytes_in_front<R: InWords<N>, const N: usize>(
+    lanes: &mut R::State,
+    buffer: &mut [u8; 32],
+    kept: usize,
+    bytes: &[u8],
+) -> usize
+    requires { kept < N }
+    ensures mixed { lanes.new ≡ blocks N R.block lanes.old (take kept buffer.old ++ bytes.now) }
+    ensures left { take result buffer.new ≡ tail N (take kept buffer.old ++ bytes.now) }
+    ensures part { result < N }
+{
+    match buffer.first_chunk_mut::<N>() {
+        Some(front) => bytes_in::<R, N>(lanes, front, kept, bytes),
+        None => kept,
+    }
+}
+
 // Goes on over the bytes, where the state has the mark and less than a block is left.
 #[inline(always)]
 fn written<R: InWords<N>, const N: usize>(mark: u64, state: &mut BlockState, bytes: &[u8])
-    ensures mark { state.new.mark ≡ state.old.mark }
-    ensures few { IsUsable mark N state.old → state.new.kept < N }
-    ensures place { IsUsable mark N state.old
-        → place R.of_words state.new ≡ after N R.block (place R.of_words state.old) bytes.now }
+    ensures of_text { (start : R.State) (text : List ℕ) → IsStateOf mark N R.of_words R.block state.old start text
+        → IsStateOf mark N R.of_words R.block state.new start (text ++ bytes.now) }
     ensures unusable { ¬ IsUsable mark N state.old → state.new ≡ state.old }
 {
     if state.mark != mark || state.kept >= N as u64 {
         return;
     }
     let mut lanes = R::of_words(&state.words, state.long);
-    if let Some(buffer) = state.buffer.first_chunk_mut::<N>() {
-        state.kept = bytes_in::<R, N>(&mut lanes, buffer, state.kept as usize, bytes) as u64;
-    }
+    let kept = state.kept as usize;
+    state.kept = bytes_in_front::<R, N>(&mut lanes, &mut state.buffer, kept, bytes) as u64;
     state.long = R::in_words(&lanes, &mut state.words);
     state.length = state.length.wrapping_add(bytes.len() as u64);
 }
@@ -82,9 +101,8 @@ fn written<R: InWords<N>, const N: usize>(mark: u64, state: &mut BlockState, byt
 // The hash of the bytes so far, where the state has the mark and less than a block is left.
 #[inline(always)]
 fn hash_so_far<R: InWords<N>, const N: usize>(mark: u64, state: &BlockState) -> Option<R::Hash>
-    ensures some { IsUsable mark N state.now
-        → result ≡ Some (R.finish (R.of_words state.now.words state.now.long) (take state.now.kept state.now.buffer)
-        state.now.length) }
+    ensures of_text { (from text : List ℕ) → IsStateOf mark N R.of_words R.block state.now (R.start from) text
+        → result ≡ Some (R.hash from text) }
     ensures none { ¬ IsUsable mark N state.now → result ≡ None }
 {
     if state.mark != mark || state.kept >= N as u64 {
@@ -92,6 +110,54 @@ fn hash_so_far<R: InWords<N>, const N: usize>(mark: u64, state: &BlockState) -> 
     }
     let lanes = R::of_words(&state.words, state.long);
     Some(R::finish(&lanes, &state.buffer[..state.kept as usize], state.length))
+}
+
+/// XXH32 of the text under a seed.
+#[unsafe(no_mangle)]
+pub extern "C" fn hashers_xxh32_seeded(text: &[u8], seed: u32) -> u64
+    ensures { result ≡ xxh32 seed text.now }
+{
+    u64::from(xxh32(seed, text))
+}
+
+/// XXH64 of the text under a seed.
+#[unsafe(no_mangle)]
+pub extern "C" fn hashers_xxh64_seeded(text: &[u8], seed: u64) -> u64
+    ensures { result ≡ xxh64 seed text.now }
+{
+    xxh64(seed, text)
+}
+
+/// MurmurHash3_x86_32 of the text under a seed.
+#[unsafe(no_mangle)]
+pub extern "C" fn hashers_murmur3_32_seeded(text: &[u8], seed: u32) -> u64
+    ensures { result ≡ murmur3_32 seed text.now }
+{
+    u64::from(murmur3_32(seed, text))
+}
+
+/// MurmurHash3_x64_128 of the text under a seed: both words.
+#[unsafe(no_mangle)]
+pub extern "C" fn hashers_murmur3_128(text: &[u8], seed: u64) -> Words
+    ensures { (result.first, result.second) ≡ murmur3_128 seed text.now }
+{
+    two_words(murmur3_128(seed, text))
+}
+
+/// SipHash-1-3 of the text under a key: its first and its last eight bytes as little-endian numbers.
+#[unsafe(no_mangle)]
+pub extern "C" fn hashers_siphash13_keyed(text: &[u8], k0: u64, k1: u64) -> u64
+    ensures { result ≡ siphash 1 3 k0 k1 text.now }
+{
+    siphash13(SipKey { k0, k1 }, text)
+}
+
+/// SipHash-2-4 of the text under a key.
+#[unsafe(no_mangle)]
+pub extern "C" fn hashers_siphash24_keyed(text: &[u8], k0: u64, k1: u64) -> u64
+    ensures { result ≡ siphash 2 4 k0 k1 text.now }
+{
+    siphash24(SipKey { k0, k1 }, text)
 }
 
 /// The state of XXH32 of no bytes, under a seed.
@@ -102,7 +168,7 @@ pub extern "C" fn hashers_xxh32_begin(seed: u32) -> BlockState
     begun::<Xxh32Rule, 16>(XXH32, seed)
 }
 
-/// Goes on over the bytes. Of what `hashers_xxh32_begin` did not make nothing changes, where it has no mark or keeps too much.
+/// Goes on over the bytes. Without the mark of `hashers_xxh32_begin` nothing changes.
 #[unsafe(no_mangle)]
 pub extern "C" fn hashers_xxh32_write(state: &mut BlockState, bytes: &[u8])
     ensures of_text { (seed : ℕ) (text : List ℕ) → IsXxh32State state.old seed text
@@ -129,7 +195,7 @@ pub extern "C" fn hashers_xxh64_begin(seed: u64) -> BlockState
     begun::<Xxh64Rule, 32>(XXH64, seed)
 }
 
-/// Goes on over the bytes. Of what `hashers_xxh64_begin` did not make nothing changes, where it has no mark or keeps too much.
+/// Goes on over the bytes. Without the mark of `hashers_xxh64_begin` nothing changes.
 #[unsafe(no_mangle)]
 pub extern "C" fn hashers_xxh64_write(state: &mut BlockState, bytes: &[u8])
     ensures of_text { (seed : ℕ) (text : List ℕ) → IsXxh64State state.old seed text
@@ -156,7 +222,7 @@ pub extern "C" fn hashers_murmur3_32_begin(seed: u32) -> BlockState
     begun::<Murmur3Rule32, 4>(MURMUR3_32, seed)
 }
 
-/// Goes on over the bytes. Of what `hashers_murmur3_32_begin` did not make nothing changes, where it has no mark or keeps too much.
+/// Goes on over the bytes. Without the mark of `hashers_murmur3_32_begin` nothing changes.
 #[unsafe(no_mangle)]
 pub extern "C" fn hashers_murmur3_32_write(state: &mut BlockState, bytes: &[u8])
     ensures of_text { (seed : ℕ) (text : List ℕ) → IsMurmur32State state.old seed text
@@ -183,7 +249,7 @@ pub extern "C" fn hashers_murmur3_begin(seed: u64) -> BlockState
     begun::<Murmur3Rule128, 16>(MURMUR3, seed)
 }
 
-/// Goes on over the bytes. Of what `hashers_murmur3_begin` did not make nothing changes, where it has no mark or keeps too much.
+/// Goes on over the bytes. Without the mark of `hashers_murmur3_begin` nothing changes.
 #[unsafe(no_mangle)]
 pub extern "C" fn hashers_murmur3_write(state: &mut BlockState, bytes: &[u8])
     ensures of_text { (seed : ℕ) (text : List ℕ) → IsMurmur3State state.old seed text
@@ -196,13 +262,14 @@ pub extern "C" fn hashers_murmur3_write(state: &mut BlockState, bytes: &[u8])
 /// MurmurHash3_x64_128 of the bytes so far, both words. More may be written afterwards. Without the mark both are 0.
 #[unsafe(no_mangle)]
 pub extern "C" fn hashers_murmur3_finish(state: &BlockState) -> Words
-    ensures of_text { (seed : ℕ) (text : List ℕ) → IsMurmur3State state.now seed text → (result.first, result.second) ≡ murmur3_128 seed text }
+    ensures of_text { (seed : ℕ) (text : List ℕ) → IsMurmur3State state.now seed text
+        → (result.first, result.second) ≡ murmur3_128 seed text }
     ensures unusable { ¬ IsUsable mark_murmur3 16 state.now → AreZeros result }
 {
     two_words(hash_so_far::<Murmur3Rule128, 16>(MURMUR3, state).unwrap_or((0, 0)))
 }
 
-/// The state of SipHash-1-3 of no bytes, under a key, of which these are the first and the last eight bytes as little-endian numbers.
+/// The state of SipHash-1-3 of no bytes, under a key: its first and its last eight bytes as little-endian numbers.
 #[unsafe(no_mangle)]
 pub extern "C" fn hashers_siphash13_begin(k0: u64, k1: u64) -> BlockState
     ensures { IsSip13State result k0 k1 [] }
@@ -210,7 +277,7 @@ pub extern "C" fn hashers_siphash13_begin(k0: u64, k1: u64) -> BlockState
     begun::<SipRule<1, 3>, 8>(SIPHASH13, SipKey { k0, k1 })
 }
 
-/// Goes on over the bytes. Of what `hashers_siphash13_begin` did not make nothing changes, where it has no mark or keeps too much.
+/// Goes on over the bytes. Without the mark of `hashers_siphash13_begin` nothing changes.
 #[unsafe(no_mangle)]
 pub extern "C" fn hashers_siphash13_write(state: &mut BlockState, bytes: &[u8])
     ensures of_text { (k0 k1 : ℕ) (text : List ℕ) → IsSip13State state.old k0 k1 text
@@ -223,13 +290,14 @@ pub extern "C" fn hashers_siphash13_write(state: &mut BlockState, bytes: &[u8])
 /// SipHash-1-3 of the bytes so far. More may be written afterwards. Without the mark it is 0.
 #[unsafe(no_mangle)]
 pub extern "C" fn hashers_siphash13_finish(state: &BlockState) -> u64
-    ensures of_text { (k0 k1 : ℕ) (text : List ℕ) → IsSip13State state.now k0 k1 text → result ≡ siphash 1 3 k0 k1 text }
+    ensures of_text { (k0 k1 : ℕ) (text : List ℕ) → IsSip13State state.now k0 k1 text
+        → result ≡ siphash 1 3 k0 k1 text }
     ensures unusable { ¬ IsUsable mark_siphash13 8 state.now → result ≡ 0 }
 {
     hash_so_far::<SipRule<1, 3>, 8>(SIPHASH13, state).unwrap_or(0)
 }
 
-/// The state of SipHash-2-4 of no bytes, under a key, of which these are the first and the last eight bytes as little-endian numbers.
+/// The state of SipHash-2-4 of no bytes, under a key: its first and its last eight bytes as little-endian numbers.
 #[unsafe(no_mangle)]
 pub extern "C" fn hashers_siphash24_begin(k0: u64, k1: u64) -> BlockState
     ensures { IsSip24State result k0 k1 [] }
@@ -237,7 +305,7 @@ pub extern "C" fn hashers_siphash24_begin(k0: u64, k1: u64) -> BlockState
     begun::<SipRule<2, 4>, 8>(SIPHASH24, SipKey { k0, k1 })
 }
 
-/// Goes on over the bytes. Of what `hashers_siphash24_begin` did not make nothing changes, where it has no mark or keeps too much.
+/// Goes on over the bytes. Without the mark of `hashers_siphash24_begin` nothing changes.
 #[unsafe(no_mangle)]
 pub extern "C" fn hashers_siphash24_write(state: &mut BlockState, bytes: &[u8])
     ensures of_text { (k0 k1 : ℕ) (text : List ℕ) → IsSip24State state.old k0 k1 text
@@ -250,7 +318,8 @@ pub extern "C" fn hashers_siphash24_write(state: &mut BlockState, bytes: &[u8])
 /// SipHash-2-4 of the bytes so far. More may be written afterwards. Without the mark it is 0.
 #[unsafe(no_mangle)]
 pub extern "C" fn hashers_siphash24_finish(state: &BlockState) -> u64
-    ensures of_text { (k0 k1 : ℕ) (text : List ℕ) → IsSip24State state.now k0 k1 text → result ≡ siphash 2 4 k0 k1 text }
+    ensures of_text { (k0 k1 : ℕ) (text : List ℕ) → IsSip24State state.now k0 k1 text
+        → result ≡ siphash 2 4 k0 k1 text }
     ensures unusable { ¬ IsUsable mark_siphash24 8 state.now → result ≡ 0 }
 {
     hash_so_far::<SipRule<2, 4>, 8>(SIPHASH24, state).unwrap_or(0)

@@ -25,6 +25,14 @@ pub trait InWords<const N: usize>: BlockRule<N> {
     ghost fits_buffer: { N ≤ 32 };
 }
 
+// The low half of a word.
+#[inline(always)]
+fn low(word: u64) -> u32
+    ensures { result ≡ word % 2 ^ 32 }
+{
+    (word % 4294967296) as u32
+}
+
 impl InWords<16> for Xxh32Rule {
     ghost of_words = { of_xxh32 };
 
@@ -32,7 +40,7 @@ impl InWords<16> for Xxh32Rule {
     fn of_words(words: &[u64; 4], long: u64) -> Lanes32 {
         let [a, b, c, d] = *words;
         Lanes32 {
-            lanes: [a as u32, b as u32, c as u32, d as u32],
+            lanes: [low(a), low(b), low(c), low(d)],
             long: long != 0,
         }
     }
@@ -72,7 +80,7 @@ impl InWords<4> for Murmur3Rule32 {
 
     #[inline(always)]
     fn of_words(words: &[u64; 4], _long: u64) -> u32 {
-        words[0] as u32
+        low(words[0])
     }
 
     #[inline(always)]

@@ -10,13 +10,14 @@ mod column;
 mod columns;
 mod combine;
 mod ending;
-mod keyed;
 mod in_words;
+mod keyed;
 mod kinds;
 mod lines;
 mod parts;
 mod spooky;
 mod whole;
+mod xxh3;
 
 /// The version of the library, of which VERSION at the top says the three parts: 10000 * major + 100 * minor + patch.
 #[unsafe(no_mangle)]

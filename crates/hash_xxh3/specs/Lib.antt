@@ -9,6 +9,7 @@ pub mod StripeLaws
 pub mod Streaming
 pub mod StreamingLaws
 pub mod Parts
+pub mod Place
 pub mod Hasher
 pub mod Wide
 pub mod WideLaws

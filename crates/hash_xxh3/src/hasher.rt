@@ -1,17 +1,51 @@
 //! XXH3 of a text that comes piece by piece.
-ghost use Rattle.std.specs.Prelude.{◌≡◌, ℕ, ◌+◌, ◌<◌, ◌^◌, List, [], ◌∷◌, ◌++◌, refl};
+ghost use Rattle.std.specs.Prelude.{◌≡◌, ◌↔◌, IsTrue, Some, None, ℕ, ◌+◌, ◌<◌, ◌^◌, List, [], ◌∷◌, ◌++◌, refl};
 ghost use Rattle.std.proofs.Common.{lit<};
 ghost use Rattle.hash_laws.specs.Text.{joined};
+ghost use Rattle.hash_xxh3.specs.Place.{Fits, place_of};
 ghost use Rattle.hash_xxh3.specs.Streaming.{Position, position, after, hash, IsPosition, Xxh3StandsAt, xxh3_from};
 ghost use Rattle.hash_xxh3.specs.StreamingLaws.{IsPosition-fresh, IsPosition-after, after-nil, after-append, hash-position, hash_of_fresh, stands_at_seed, stands_after, hash_from_seed, answer_where_stands};
 ghost use Rattle.hash_xxh3.specs.Wide.{wide_hash, xxh3_128_of};
 ghost use Rattle.hash_xxh3.specs.Xxh3.{xxh3_64_of};
 
+use crate::long::lanes_at;
 use crate::parts::Xxh3Parts;
 use crate::whole::xxh3_64;
 use hash_laws::traits::{Piecewise, Streamed, run_streamed};
 use std::hash::Hasher;
 use std::marker::Model;
+
+/// What an [`Xxh3Hasher`] keeps, as whole numbers alone: for a caller that must keep it itself, as a program in C.
+#[repr(C)]
+#[derive(Clone, Copy)]
+pub struct Xxh3Place {
+    /// The seed.
+    pub seed: u64,
+    /// Of a text of more than 240 bytes the eight words, and the number of the next stripe in its block of sixteen.
+    pub words: [u64; 8],
+    pub stripe: u64,
+    /// Of such a text the length modulo 2^64.
+    pub length: u64,
+    /// 0 of a text of at most 240 bytes.
+    pub long: u64,
+    /// How many bytes of the buffer are kept.
+    pub kept: u64,
+    /// A text of at most 240 bytes, or the last stripe that has a byte behind it, and what is behind it.
+    pub buffer: [u8; 256],
+}
+
+impl Xxh3Place {
+    // Whether a hasher may keep so much.
+    fn fits(&self) -> bool
+        ensures { IsTrue result ↔ Fits self.now }
+    {
+        if self.long == 0 {
+            self.kept < 241
+        } else {
+            self.kept >= 65 && self.kept <= 128 && self.stripe < 16
+        }
+    }
+}
 
 /// XXH3 of a text that comes piece by piece, under a seed. How the bytes were cut into pieces doesn't show.
 pub struct Xxh3Hasher {
@@ -46,6 +80,45 @@ impl Xxh3Hasher {
     {
         Xxh3Hasher {
             parts: Xxh3Parts::new(seed),
+        }
+    }
+
+    /// The hasher that keeps these numbers; `None` of those that none keeps.
+    pub fn at(place: &Xxh3Place) -> Option<Xxh3Hasher>
+        ensures some { Fits place.now → result ≡ Some (place_of place.now) }
+        ensures none { ¬ Fits place.now → result ≡ None }
+    {
+        if !place.fits() {
+            return None;
+        }
+        let lanes = lanes_at(place.words, place.stripe);
+        let kept = place.kept as usize;
+        Some(Xxh3Hasher {
+            parts: Xxh3Parts::at(
+                place.seed,
+                lanes,
+                place.length,
+                place.long != 0,
+                kept,
+                place.buffer,
+            ),
+        })
+    }
+
+    /// What the hasher keeps.
+    pub fn place(&self) -> Xxh3Place
+        ensures there { place_of result ≡ self.now }
+        ensures fits { Fits result }
+    {
+        let parts = &self.parts;
+        Xxh3Place {
+            seed: parts.seed,
+            words: parts.lanes.words,
+            stripe: parts.lanes.stripe as u64,
+            length: parts.length,
+            long: u64::from(parts.long),
+            kept: parts.kept as u64,
+            buffer: parts.buffer,
         }
     }
 

@@ -1,6 +1,6 @@
 //! XXH3 of more than 240 bytes.
-ghost use Rattle.std.specs.Prelude.{◌≡◌, ◌+◌, ◌-◌, ◌*◌, ◌/◌, ◌≤◌, ◌<◌, length};
-ghost use Rattle.hash_xxh3.specs.Long.{secret_of, start_words, start_lanes, halves_product, lane, accumulate, scrambled, scramble, stripe_in, stripes_in, merge_pair, merge, last_words, end_words, end_long, long_under, of_long};
+ghost use Rattle.std.specs.Prelude.{◌≡◌, ◌+◌, ◌-◌, ◌*◌, ◌/◌, ◌%◌, ◌≤◌, ◌<◌, length};
+ghost use Rattle.hash_xxh3.specs.Long.{IsLanes, secret_of, start_words, start_lanes, halves_product, lane, accumulate, scrambled, scramble, stripe_in, stripes_in, merge_pair, merge, last_words, end_words, end_long, long_under, of_long};
 
 use crate::middle::length_word;
 use crate::secret::{default_secret, secret_of};
@@ -15,6 +15,19 @@ pub(crate) const STRIPE: usize = 64;
 pub(crate) struct Lanes {
     pub words: [u64; 8],
     pub stripe: usize,
+}
+
+/// Lanes of these words, at a stripe of a block.
+#[inline(always)]
+pub(crate) fn lanes_at(words: [u64; 8], stripe: u64) -> Lanes
+    ensures words { result.words ≡ words }
+    ensures stripe { result.stripe ≡ stripe % 16 }
+    ensures in_range { IsLanes result }
+{
+    Lanes {
+        words,
+        stripe: (stripe % 16) as usize,
+    }
 }
 
 /// The eight words before the first stripe.

@@ -1,7 +1,8 @@
 //! What a hasher of XXH3 keeps.
-ghost use Rattle.std.specs.Prelude.{◌≡◌, ◌+◌, ◌<◌, ◌≤◌, false, length, []};
+ghost use Rattle.std.specs.Prelude.{◌≡◌, ◌+◌, ◌<◌, ◌≤◌, true, false, length, take, if◌then◌else◌, []};
+ghost use Rattle.hash_xxh3.specs.Long.{IsLanes};
 ghost use Rattle.hash_xxh3.specs.Parts.{position_of, IsSettled};
-ghost use Rattle.hash_xxh3.specs.Streaming.{position, after, hash};
+ghost use Rattle.hash_xxh3.specs.Streaming.{Short, Long, position, after, hash};
 ghost use Rattle.hash_xxh3.specs.Wide.{wide_hash};
 
 use crate::advance::{advance, begin};
@@ -9,6 +10,7 @@ use crate::long::{Lanes, START, end_long, last_words};
 use crate::secret::secret_of;
 use crate::whole::of_kept;
 use crate::wide::{wide_end_long, wide_kept};
+use hash_laws::traits::bytes_are_a_text;
 use hash_rounds::put;
 
 /// The numbers that a hasher keeps: of a text of at most 240 bytes the text, and of a longer one the eight words, and the
@@ -39,6 +41,37 @@ impl Xxh3Parts {
             kept: 0,
             secret: [0; 192],
             buffer: [0; 256],
+        }
+    }
+
+    /// The parts that keep these numbers.
+    #[inline(always)]
+    pub(crate) fn at(
+        seed: u64,
+        lanes: Lanes,
+        length: u64,
+        long: bool,
+        kept: usize,
+        buffer: [u8; 256],
+    ) -> Xxh3Parts
+        requires lanes { IsLanes lanes }
+        requires short { long ≡ false → kept < 241 }
+        requires some { long ≡ true → 65 ≤ kept }
+        requires few { long ≡ true → kept ≤ 128 }
+        ensures position { position_of result
+            ≡ (if long then Long seed lanes length (take kept buffer) else Short seed (take kept buffer)) }
+        ensures settled { IsSettled result }
+    {
+        bytes_are_a_text(&buffer);
+        let secret = if long { secret_of(seed) } else { [0; 192] };
+        Xxh3Parts {
+            seed,
+            lanes,
+            length,
+            long,
+            kept,
+            secret,
+            buffer,
         }
     }
 

@@ -1,7 +1,9 @@
 //! The calls of `c/hashers.h` over the erased functions, written by rust/erase. This file alone has unsafe code.
+use super::block::BlockState;
 use super::spooky::{SpookyState, Words};
 use super::*;
 use hashers_proved::hash_keyed::poly61::Poly61Place;
+use hashers_proved::hash_xxh3::Xxh3Place;
 
 /// So many items from there on. Where there are none, any pointer will do.
 unsafe fn slice<'a, T>(at: *const T, count: usize) -> &'a [T] {
@@ -19,6 +21,210 @@ unsafe fn slice_mut<'a, T>(at: *mut T, count: usize) -> &'a mut [T] {
     }
     // SAFETY: the caller says that so many items can be written there, which nothing else reaches during the call.
     unsafe { core::slice::from_raw_parts_mut(at, count) }
+}
+
+/// See `hashers.h`.
+///
+/// # Safety
+///
+/// Each pointer and its count are so many items that nothing else writes during the call.
+#[no_mangle]
+pub unsafe extern "C" fn hashers_xxh32_seeded(text: *const u8, text_count: usize, seed: u32) -> u64 {
+    // SAFETY: as said above.
+    unsafe { block::hashers_xxh32_seeded(slice(text, text_count), seed) }
+}
+
+/// See `hashers.h`.
+///
+/// # Safety
+///
+/// Each pointer and its count are so many items that nothing else writes during the call.
+#[no_mangle]
+pub unsafe extern "C" fn hashers_xxh64_seeded(text: *const u8, text_count: usize, seed: u64) -> u64 {
+    // SAFETY: as said above.
+    unsafe { block::hashers_xxh64_seeded(slice(text, text_count), seed) }
+}
+
+/// See `hashers.h`.
+///
+/// # Safety
+///
+/// Each pointer and its count are so many items that nothing else writes during the call.
+#[no_mangle]
+pub unsafe extern "C" fn hashers_murmur3_32_seeded(text: *const u8, text_count: usize, seed: u32) -> u64 {
+    // SAFETY: as said above.
+    unsafe { block::hashers_murmur3_32_seeded(slice(text, text_count), seed) }
+}
+
+/// See `hashers.h`.
+///
+/// # Safety
+///
+/// Each pointer and its count are so many items that nothing else writes during the call.
+#[no_mangle]
+pub unsafe extern "C" fn hashers_murmur3_128(text: *const u8, text_count: usize, seed: u64) -> Words {
+    // SAFETY: as said above.
+    unsafe { block::hashers_murmur3_128(slice(text, text_count), seed) }
+}
+
+/// See `hashers.h`.
+///
+/// # Safety
+///
+/// Each pointer and its count are so many items that nothing else writes during the call.
+#[no_mangle]
+pub unsafe extern "C" fn hashers_siphash13_keyed(text: *const u8, text_count: usize, k0: u64, k1: u64) -> u64 {
+    // SAFETY: as said above.
+    unsafe { block::hashers_siphash13_keyed(slice(text, text_count), k0, k1) }
+}
+
+/// See `hashers.h`.
+///
+/// # Safety
+///
+/// Each pointer and its count are so many items that nothing else writes during the call.
+#[no_mangle]
+pub unsafe extern "C" fn hashers_siphash24_keyed(text: *const u8, text_count: usize, k0: u64, k1: u64) -> u64 {
+    // SAFETY: as said above.
+    unsafe { block::hashers_siphash24_keyed(slice(text, text_count), k0, k1) }
+}
+
+/// See `hashers.h`.
+#[no_mangle]
+pub extern "C" fn hashers_xxh32_begin(seed: u32) -> BlockState {
+    block::hashers_xxh32_begin(seed)
+}
+
+/// See `hashers.h`.
+///
+/// # Safety
+///
+/// Each pointer and its count are so many items that nothing else writes during the call.
+#[no_mangle]
+pub unsafe extern "C" fn hashers_xxh32_write(state: &mut BlockState, bytes: *const u8, bytes_count: usize) {
+    // SAFETY: as said above.
+    unsafe { block::hashers_xxh32_write(state, slice(bytes, bytes_count)) }
+}
+
+/// See `hashers.h`.
+#[no_mangle]
+pub extern "C" fn hashers_xxh32_finish(state: &BlockState) -> u64 {
+    block::hashers_xxh32_finish(state)
+}
+
+/// See `hashers.h`.
+#[no_mangle]
+pub extern "C" fn hashers_xxh64_begin(seed: u64) -> BlockState {
+    block::hashers_xxh64_begin(seed)
+}
+
+/// See `hashers.h`.
+///
+/// # Safety
+///
+/// Each pointer and its count are so many items that nothing else writes during the call.
+#[no_mangle]
+pub unsafe extern "C" fn hashers_xxh64_write(state: &mut BlockState, bytes: *const u8, bytes_count: usize) {
+    // SAFETY: as said above.
+    unsafe { block::hashers_xxh64_write(state, slice(bytes, bytes_count)) }
+}
+
+/// See `hashers.h`.
+#[no_mangle]
+pub extern "C" fn hashers_xxh64_finish(state: &BlockState) -> u64 {
+    block::hashers_xxh64_finish(state)
+}
+
+/// See `hashers.h`.
+#[no_mangle]
+pub extern "C" fn hashers_murmur3_32_begin(seed: u32) -> BlockState {
+    block::hashers_murmur3_32_begin(seed)
+}
+
+/// See `hashers.h`.
+///
+/// # Safety
+///
+/// Each pointer and its count are so many items that nothing else writes during the call.
+#[no_mangle]
+pub unsafe extern "C" fn hashers_murmur3_32_write(state: &mut BlockState, bytes: *const u8, bytes_count: usize) {
+    // SAFETY: as said above.
+    unsafe { block::hashers_murmur3_32_write(state, slice(bytes, bytes_count)) }
+}
+
+/// See `hashers.h`.
+#[no_mangle]
+pub extern "C" fn hashers_murmur3_32_finish(state: &BlockState) -> u64 {
+    block::hashers_murmur3_32_finish(state)
+}
+
+/// See `hashers.h`.
+#[no_mangle]
+pub extern "C" fn hashers_murmur3_begin(seed: u64) -> BlockState {
+    block::hashers_murmur3_begin(seed)
+}
+
+/// See `hashers.h`.
+///
+/// # Safety
+///
+/// Each pointer and its count are so many items that nothing else writes during the call.
+#[no_mangle]
+pub unsafe extern "C" fn hashers_murmur3_write(state: &mut BlockState, bytes: *const u8, bytes_count: usize) {
+    // SAFETY: as said above.
+    unsafe { block::hashers_murmur3_write(state, slice(bytes, bytes_count)) }
+}
+
+/// See `hashers.h`.
+#[no_mangle]
+pub extern "C" fn hashers_murmur3_finish(state: &BlockState) -> Words {
+    block::hashers_murmur3_finish(state)
+}
+
+/// See `hashers.h`.
+#[no_mangle]
+pub extern "C" fn hashers_siphash13_begin(k0: u64, k1: u64) -> BlockState {
+    block::hashers_siphash13_begin(k0, k1)
+}
+
+/// See `hashers.h`.
+///
+/// # Safety
+///
+/// Each pointer and its count are so many items that nothing else writes during the call.
+#[no_mangle]
+pub unsafe extern "C" fn hashers_siphash13_write(state: &mut BlockState, bytes: *const u8, bytes_count: usize) {
+    // SAFETY: as said above.
+    unsafe { block::hashers_siphash13_write(state, slice(bytes, bytes_count)) }
+}
+
+/// See `hashers.h`.
+#[no_mangle]
+pub extern "C" fn hashers_siphash13_finish(state: &BlockState) -> u64 {
+    block::hashers_siphash13_finish(state)
+}
+
+/// See `hashers.h`.
+#[no_mangle]
+pub extern "C" fn hashers_siphash24_begin(k0: u64, k1: u64) -> BlockState {
+    block::hashers_siphash24_begin(k0, k1)
+}
+
+/// See `hashers.h`.
+///
+/// # Safety
+///
+/// Each pointer and its count are so many items that nothing else writes during the call.
+#[no_mangle]
+pub unsafe extern "C" fn hashers_siphash24_write(state: &mut BlockState, bytes: *const u8, bytes_count: usize) {
+    // SAFETY: as said above.
+    unsafe { block::hashers_siphash24_write(state, slice(bytes, bytes_count)) }
+}
+
+/// See `hashers.h`.
+#[no_mangle]
+pub extern "C" fn hashers_siphash24_finish(state: &BlockState) -> u64 {
+    block::hashers_siphash24_finish(state)
 }
 
 /// See `hashers.h`.
@@ -1071,4 +1277,55 @@ pub unsafe extern "C" fn hashers_siphash24(text: *const u8, text_count: usize) -
 pub unsafe extern "C" fn hashers_xxh3(text: *const u8, text_count: usize) -> u64 {
     // SAFETY: as said above.
     unsafe { whole::hashers_xxh3(slice(text, text_count)) }
+}
+
+/// See `hashers.h`.
+///
+/// # Safety
+///
+/// Each pointer and its count are so many items that nothing else writes during the call.
+#[no_mangle]
+pub unsafe extern "C" fn hashers_xxh3_seeded(text: *const u8, text_count: usize, seed: u64) -> u64 {
+    // SAFETY: as said above.
+    unsafe { xxh3::hashers_xxh3_seeded(slice(text, text_count), seed) }
+}
+
+/// See `hashers.h`.
+///
+/// # Safety
+///
+/// Each pointer and its count are so many items that nothing else writes during the call.
+#[no_mangle]
+pub unsafe extern "C" fn hashers_xxh128(text: *const u8, text_count: usize, seed: u64) -> Words {
+    // SAFETY: as said above.
+    unsafe { xxh3::hashers_xxh128(slice(text, text_count), seed) }
+}
+
+/// See `hashers.h`.
+#[no_mangle]
+pub extern "C" fn hashers_xxh3_begin(seed: u64) -> Xxh3Place {
+    xxh3::hashers_xxh3_begin(seed)
+}
+
+/// See `hashers.h`.
+///
+/// # Safety
+///
+/// Each pointer and its count are so many items that nothing else writes during the call.
+#[no_mangle]
+pub unsafe extern "C" fn hashers_xxh3_write(place: &mut Xxh3Place, bytes: *const u8, bytes_count: usize) {
+    // SAFETY: as said above.
+    unsafe { xxh3::hashers_xxh3_write(place, slice(bytes, bytes_count)) }
+}
+
+/// See `hashers.h`.
+#[no_mangle]
+pub extern "C" fn hashers_xxh3_finish(place: &Xxh3Place) -> u64 {
+    xxh3::hashers_xxh3_finish(place)
+}
+
+/// See `hashers.h`.
+#[no_mangle]
+pub extern "C" fn hashers_xxh128_finish(place: &Xxh3Place) -> Words {
+    xxh3::hashers_xxh128_finish(place)
 }

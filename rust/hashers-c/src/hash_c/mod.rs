@@ -5,17 +5,20 @@
 #[allow(unsafe_code)]
 mod exports;
 
+mod block;
 mod bloom;
 mod column;
 mod columns;
 mod combine;
 mod ending;
+mod in_words;
 mod keyed;
 mod kinds;
 mod lines;
 mod parts;
 mod spooky;
 mod whole;
+mod xxh3;
 
 /// The version of the library, of which VERSION at the top says the three parts: 10000 * major + 100 * minor + patch.
 ///

@@ -10,6 +10,6 @@ mod words;
 
 pub use block_hasher::BlockHasher;
 pub use block_rule::BlockRule;
-pub use parts::blocks_in;
+pub use parts::{blocks_in, bytes_in};
 pub use wide_rule::WideRule;
 pub use words::le_eight;

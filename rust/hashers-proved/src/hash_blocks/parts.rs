@@ -47,7 +47,7 @@ pub fn blocks_in<'a, R: BlockRule<N>, const N: usize>(
 /// whole: length buffer.new ≡ N
 /// ```
 #[inline(always)]
-pub(crate) fn bytes_in<R: BlockRule<N>, const N: usize>(
+pub fn bytes_in<R: BlockRule<N>, const N: usize>(
     state: &mut R::State,
     buffer: &mut [u8; N],
     kept: usize,

@@ -3,10 +3,47 @@
 // What follows is the proved text of crates/hash_xxh3/src/hasher.rt without its contracts.
 use crate::{hash_laws, std};
 
+use crate::hash_xxh3::long::lanes_at;
 use crate::hash_xxh3::parts::Xxh3Parts;
 use crate::hash_xxh3::whole::xxh3_64;
 use hash_laws::traits::{Piecewise, Streamed, run_streamed};
 use std::hash::Hasher;
+
+/// What an [`Xxh3Hasher`] keeps, as whole numbers alone: for a caller that must keep it itself, as a program in C.
+#[repr(C)]
+#[derive(Clone, Copy)]
+pub struct Xxh3Place {
+    /// The seed.
+    pub seed: u64,
+    /// Of a text of more than 240 bytes the eight words, and the number of the next stripe in its block of sixteen.
+    pub words: [u64; 8],
+    pub stripe: u64,
+    /// Of such a text the length modulo 2^64.
+    pub length: u64,
+    /// 0 of a text of at most 240 bytes.
+    pub long: u64,
+    /// How many bytes of the buffer are kept.
+    pub kept: u64,
+    /// A text of at most 240 bytes, or the last stripe that has a byte behind it, and what is behind it.
+    pub buffer: [u8; 256],
+}
+
+impl Xxh3Place {
+    // Whether a hasher may keep so much.
+    /// Proved:
+    ///
+    /// ```text
+    /// IsTrue result ↔ Fits self.now
+    /// ```
+    #[inline]
+    fn fits(&self) -> bool {
+        if self.long == 0 {
+            self.kept < 241
+        } else {
+            self.kept >= 65 && self.kept <= 128 && self.stripe < 16
+        }
+    }
+}
 
 /// XXH3 of a text that comes piece by piece, under a seed. How the bytes were cut into pieces doesn't show.
 pub struct Xxh3Hasher {
@@ -27,6 +64,55 @@ impl Xxh3Hasher {
     pub fn new(seed: u64) -> Xxh3Hasher {
         Xxh3Hasher {
             parts: Xxh3Parts::new(seed),
+        }
+    }
+
+    /// The hasher that keeps these numbers; `None` of those that none keeps.
+    ///
+    /// Proved:
+    ///
+    /// ```text
+    /// some: Fits place.now → result ≡ Some (place_of place.now)
+    /// none: ¬ Fits place.now → result ≡ None
+    /// ```
+    #[inline]
+    pub fn at(place: &Xxh3Place) -> Option<Xxh3Hasher> {
+        if !place.fits() {
+            return None;
+        }
+        let lanes = lanes_at(place.words, place.stripe);
+        let kept = place.kept as usize;
+        Some(Xxh3Hasher {
+            parts: Xxh3Parts::at(
+                place.seed,
+                lanes,
+                place.length,
+                place.long != 0,
+                kept,
+                place.buffer,
+            ),
+        })
+    }
+
+    /// What the hasher keeps.
+    ///
+    /// Proved:
+    ///
+    /// ```text
+    /// there: place_of result ≡ self.now
+    /// fits: Fits result
+    /// ```
+    #[inline]
+    pub fn place(&self) -> Xxh3Place {
+        let parts = &self.parts;
+        Xxh3Place {
+            seed: parts.seed,
+            words: parts.lanes.words,
+            stripe: parts.lanes.stripe as u64,
+            length: parts.length,
+            long: u64::from(parts.long),
+            kept: parts.kept as u64,
+            buffer: parts.buffer,
         }
     }
 

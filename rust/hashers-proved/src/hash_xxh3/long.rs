@@ -18,6 +18,23 @@ pub(crate) struct Lanes {
     pub stripe: usize,
 }
 
+/// Lanes of these words, at a stripe of a block.
+///
+/// Proved:
+///
+/// ```text
+/// words: result.words ≡ words
+/// stripe: result.stripe ≡ stripe % 16
+/// in_range: IsLanes result
+/// ```
+#[inline(always)]
+pub(crate) fn lanes_at(words: [u64; 8], stripe: u64) -> Lanes {
+    Lanes {
+        words,
+        stripe: (stripe % 16) as usize,
+    }
+}
+
 /// The eight words before the first stripe.
 pub(crate) const START: Lanes = Lanes {
     words: [

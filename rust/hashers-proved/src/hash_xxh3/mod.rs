@@ -17,7 +17,7 @@ mod wide;
 mod words;
 
 pub use build::BuildXxh3;
-pub use hasher::{Xxh3Hasher, xxh3_64_of_pieces, xxh3_128_of_pieces};
+pub use hasher::{Xxh3Hasher, Xxh3Place, xxh3_64_of_pieces, xxh3_128_of_pieces};
 pub use laws::{apart_xxh3, apart_xxh128};
 pub use whole::xxh3_64;
 pub use wide::xxh3_128;

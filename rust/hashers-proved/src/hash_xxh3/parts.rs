@@ -1,13 +1,14 @@
 //! What a hasher of XXH3 keeps.
 
 // What follows is the proved text of crates/hash_xxh3/src/parts.rt without its contracts.
-use crate::hash_rounds;
+use crate::{hash_laws, hash_rounds};
 
 use crate::hash_xxh3::advance::{advance, begin};
 use crate::hash_xxh3::long::{Lanes, START, end_long, last_words};
 use crate::hash_xxh3::secret::secret_of;
 use crate::hash_xxh3::whole::of_kept;
 use crate::hash_xxh3::wide::{wide_end_long, wide_kept};
+use hash_laws::traits::bytes_are_a_text;
 use hash_rounds::put;
 
 /// The numbers that a hasher keeps: of a text of at most 240 bytes the text, and of a longer one the eight words, and the
@@ -42,6 +43,46 @@ impl Xxh3Parts {
             kept: 0,
             secret: [0; 192],
             buffer: [0; 256],
+        }
+    }
+
+    /// The parts that keep these numbers.
+    ///
+    /// The caller has to see to it that:
+    ///
+    /// ```text
+    /// lanes: IsLanes lanes
+    /// short: long ≡ false → kept < 241
+    /// some: long ≡ true → 65 ≤ kept
+    /// few: long ≡ true → kept ≤ 128
+    /// ```
+    ///
+    /// Proved:
+    ///
+    /// ```text
+    /// position: position_of result
+    ///     ≡ (if long then Long seed lanes length (take kept buffer) else Short seed (take kept buffer))
+    /// settled: IsSettled result
+    /// ```
+    #[inline(always)]
+    pub(crate) fn at(
+        seed: u64,
+        lanes: Lanes,
+        length: u64,
+        long: bool,
+        kept: usize,
+        buffer: [u8; 256],
+    ) -> Xxh3Parts {
+        bytes_are_a_text(&buffer);
+        let secret = if long { secret_of(seed) } else { [0; 192] };
+        Xxh3Parts {
+            seed,
+            lanes,
+            length,
+            long,
+            kept,
+            secret,
+            buffer,
         }
     }
 

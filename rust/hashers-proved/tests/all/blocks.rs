@@ -3,6 +3,8 @@ use hashers_proved::blocks::{
     apart_by_block_murmur3_128, apart_by_word_murmur3_32, apart_by_word_xxh32, apart_by_word_xxh64, block_for_murmur3_128,
     murmur3_128, murmur3_32, word_for_murmur3_32, word_for_xxh64, xxh32, xxh64,
 };
+use hashers_proved::xxh3::{xxh3_64, Xxh3Hasher, Xxh3Place};
+use std::hash::Hasher;
 
 /// Bytes that look random.
 struct Bytes(u64);
@@ -82,5 +84,32 @@ fn one_word_or_block_leads_to_each_hash() {
         let few = &back[..behind.min(23 - 8 * (front % 3))];
         let word = word_for_xxh64(seed, &eights, few, hash);
         assert_eq!(xxh64(seed, &[&eights, &word[..], few].concat()), hash);
+    }
+}
+
+/// A hasher of XXH3 goes on from what it keeps; and none stands at numbers that none keeps.
+#[test]
+fn xxh3_goes_on_from_a_place() {
+    let mut bytes = Bytes(21);
+    for len in 0..1500 {
+        let (text, more) = (bytes.text(len), bytes.text(len * 7 % 300));
+        let seed = bytes.next() << 33 ^ bytes.next();
+        let mut hasher = Xxh3Hasher::new(seed);
+        hasher.write(&text);
+        let place = hasher.place();
+        assert_eq!((place.seed, place.long != 0), (seed, len > 240));
+        let mut other = Xxh3Hasher::at(&place).unwrap();
+        assert_eq!(other.finish128(), hasher.finish128());
+        hasher.write(&more);
+        other.write(&more);
+        assert_eq!((other.finish(), other.finish128()), (hasher.finish(), hasher.finish128()));
+        assert_eq!(other.finish(), xxh3_64(seed, &[text, more].concat()));
+    }
+    let (mut short, mut long) = (Xxh3Hasher::new(0).place(), Xxh3Hasher::new(0));
+    short.kept = 241;
+    assert!(Xxh3Hasher::at(&short).is_none());
+    long.write(&[0; 300]);
+    for (kept, stripe) in [(64, 0), (129, 0), (100, 16)] {
+        assert!(Xxh3Hasher::at(&Xxh3Place { kept, stripe, ..long.place() }).is_none());
     }
 }

@@ -1,0 +1,9 @@
+use Rattle.std.proofs.Common.{◌∙◌, refl}
+use Rattle.hash_blocks.specs.BlocksLaws.{position-nil}
+use Rattle.hash_c.proofs.block.begun.Goals as goal
+
+pub returns : goal.returns
+returns g c = record {
+  usable = (refl, g.met.R.BlockRule.some);
+  there = position-nil g.row.N g.met.R.BlockRule.some g.R.BlockRule.block _ _ (c.in_words-long.ensures ∙ c.start.ensures);
+}

@@ -1,0 +1,7 @@
+use Rattle.std.proofs.Common.{◌∷◌, [], ◌∙◌, ap}
+use Rattle.std.specs.Option.{unwrap_or}
+use Rattle.hash_c.proofs.block.hashers_xxh32_finish.Goals as goal
+
+pub returns-clause-of_text : goal.returns-clause-of_text
+returns-clause-of_text c = λ seed text stands.
+    c.from.ensures ∙ c.unwrap_or.ensures ∙ ap (λ o. unwrap_or o 0) (c.hash_so_far.ensures.of_text (seed ∷ []) text stands)

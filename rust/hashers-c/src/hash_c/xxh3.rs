@@ -1,0 +1,98 @@
+//! XXH3 of 64 and of 128 bits under a seed: of a whole text, and of a text in parts. The caller keeps the place.
+
+// What follows is the proved text of crates/hash_c/src/xxh3.rt without its contracts.
+use crate::std;
+use hashers_proved::hash_xxh3;
+
+use crate::hash_c::spooky::{Words, two_words};
+use hash_xxh3::{Xxh3Hasher, Xxh3Place, xxh3_64, xxh3_128};
+use std::hash::Hasher;
+
+// What hashers.h reserves for a place.
+const _: () = prove!(size_of::<Xxh3Place>() == 360);
+
+/// XXH3 of 64 bits of the text under a seed.
+///
+/// Proved:
+///
+/// ```text
+/// result ≡ xxh3_64_of seed text.now
+/// ```
+#[inline]
+pub fn hashers_xxh3_seeded(text: &[u8], seed: u64) -> u64 {
+    xxh3_64(seed, text)
+}
+
+/// XXH3 of 128 bits of the text under a seed: the low word and the high one.
+///
+/// Proved:
+///
+/// ```text
+/// (result.first, result.second) ≡ xxh3_128_of seed text.now
+/// ```
+#[inline]
+pub fn hashers_xxh128(text: &[u8], seed: u64) -> Words {
+    two_words(xxh3_128(seed, text))
+}
+
+/// The place of no bytes, under a seed.
+///
+/// Proved:
+///
+/// ```text
+/// StandsBehind result seed []
+/// ```
+#[inline]
+pub fn hashers_xxh3_begin(seed: u64) -> Xxh3Place {
+    Xxh3Hasher::new(seed).place()
+}
+
+/// Goes on over the bytes. A place at which no hasher stands is left as it is.
+///
+/// Proved:
+///
+/// ```text
+/// of_text: (seed : ℕ) (text : List ℕ) → StandsBehind place.old seed text
+///     → StandsBehind place.new seed (text ++ bytes.now)
+/// unusable: ¬ Fits place.old → place.new ≡ place.old
+/// ```
+#[inline]
+pub fn hashers_xxh3_write(place: &mut Xxh3Place, bytes: &[u8]) {
+    if let Some(mut hasher) = Xxh3Hasher::at(place) {
+        hasher.write(bytes);
+        *place = hasher.place();
+    }
+}
+
+/// XXH3 of 64 bits of the text so far, behind which more may be written; 0 of a place at which no hasher stands.
+///
+/// Proved:
+///
+/// ```text
+/// of_text: (seed : ℕ) (text : List ℕ) → StandsBehind place.now seed text → result ≡ xxh3_64_of seed text
+/// unusable: ¬ Fits place.now → result ≡ 0
+/// ```
+#[inline]
+pub fn hashers_xxh3_finish(place: &Xxh3Place) -> u64 {
+    match Xxh3Hasher::at(place) {
+        Some(hasher) => hasher.finish(),
+        None => 0,
+    }
+}
+
+/// The same of 128 bits: the low word and the high one, or 0 and 0.
+///
+/// Proved:
+///
+/// ```text
+/// of_text: (seed : ℕ) (text : List ℕ) → StandsBehind place.now seed text
+///     → (result.first, result.second) ≡ xxh3_128_of seed text
+/// unusable: ¬ Fits place.now → AreZeros result
+/// ```
+#[inline]
+pub fn hashers_xxh128_finish(place: &Xxh3Place) -> Words {
+    match Xxh3Hasher::at(place) {
+        Some(hasher) => two_words(hasher.finish128()),
+        None => two_words((0, 0)),
+    }
+}
