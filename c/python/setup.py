@@ -67,8 +67,10 @@ def platform_of(path):
 
 class BuildWithLibrary(build_ext):
     def build_extension(self, extension):
+        made = library(os.path.abspath(os.path.join(self.build_temp, "cargo")))
         extension.include_dirs.append(os.path.dirname(native("hashers.h")))
-        extension.extra_objects.append(library(os.path.abspath(os.path.join(self.build_temp, "cargo"))))
+        extension.extra_objects.append(made)
+        extension.depends += [made, native("hashers.h"), native("hashes.inc")]
         super().build_extension(extension)
 
 
