@@ -2,10 +2,17 @@
 from __future__ import annotations
 
 import sys
-from math import log
-from typing import Any, Callable, Tuple
+from math import ceil, log, log2
+from operator import index
+from typing import TYPE_CHECKING, Any, Callable, Optional, SupportsIndex, Tuple, Type, TypeVar
 
 from ._hashers import BloomBase, _unite
+from ._many import shape_of
+
+if TYPE_CHECKING:
+    from _typeshed import ReadableBuffer as Buffer
+
+Filter = TypeVar("Filter", bound="Bloom")
 
 # how many bytes are counted at a time
 CHUNK = 1 << 16
@@ -25,6 +32,16 @@ class Bloom(BloomBase):
     filter's are zeros. `hashes` names the two hashes by which keys are placed: fnv1a64_lookup3, or spooky_lookup3. One thread at a time
     may add. A copy, by `copy` or the module of that name, has a bytearray of its own, and so has what pickle brings elsewhere."""
     __slots__ = ()
+
+    @classmethod
+    def for_keys(cls: Type[Filter], keys: SupportsIndex, error_rate: float = 0.01, *, hashes: str = "fnv1a64_lookup3",
+                 buffer: Optional[Buffer] = None) -> Filter:
+        """A filter for that many keys, in which a strange key is found with about that chance once they were added. It has
+        -keys * ln(error_rate) / ln(2)^2 bits, 9.6 for each key at 0.01, and log2(1 / error_rate) probes."""
+        count = index(keys)
+        if count < 1 or not 0 < error_rate < 1:
+            raise ValueError("a filter is for at least one key, and an error rate between 0 and 1")
+        return cls(ceil(count * log2(1 / error_rate) / log(2)), max(1, round(log2(1 / error_rate))), hashes=hashes, buffer=buffer)
 
     def __repr__(self) -> str:
         return f"<Bloom filter of {self.bits} bits and {self.probes} probes by {self.hashes}>"
@@ -58,6 +75,15 @@ class Bloom(BloomBase):
                 chunk = int.from_bytes(words[start:start + CHUNK], "little")
                 ones += _bit_count(chunk & ((1 << min(8 * CHUNK, self.bits - 8 * start)) - 1))
         return ones
+
+    def add_column(self, offsets: Buffer, data: Buffer) -> int:
+        """Adds each text of a column, as `hash_column` takes them. The answer is how many were not there. ValueError, and none is added,
+        where the offsets fall or pass the data."""
+        return self._add_column(shape_of(offsets, data)[0], offsets, data)
+
+    def found(self, offsets: Buffer, data: Buffer) -> bytes:
+        """Of each text of a column whether it is found: a byte of 1, or of 0 where it is not."""
+        return self._found(shape_of(offsets, data)[0], offsets, data)
 
     def update(self, other: Bloom) -> None:
         """Adds another filter's keys, of as many bits and probes and by the same hashes; else a ValueError."""

@@ -882,18 +882,108 @@ static void Bloom_dealloc(Bloom *self) {
     Py_DECREF(type);
 }
 
+// Holds the words to be written, and a text apart from them.
+static int hold_to_add(Bloom *self, PyObject *from, held *words, size_t *count, held *data) {
+    if (hold_words(self, PyBUF_WRITABLE, words, count) < 0) return -1;
+    if (hold(from, data) == 0) {
+        if (apart(words, data) == 0) return 0;
+        drop(data);
+    }
+    drop(words);
+    return -1;
+}
+
+static bool inserted(Bloom *self, const held *words, size_t count, const char *key, size_t n) {
+    return self->places->insert((uint64_t *)words->at, count, self->bits, self->probes, key, n);
+}
+
 static PyObject *Bloom_add(Bloom *self, PyObject *from) {
     held words, key;
     size_t count;
-    PyObject *answer = NULL;
     bool is_known;
+    if (hold_to_add(self, from, &words, &count, &key) < 0) return NULL;
+    OVER(key.n, is_known = inserted(self, &words, count, key.at, key.n));
+    drop(&key);
+    drop(&words);
+    return PyBool_FromLong(is_known);
+}
+
+static size_t new_lines(Bloom *self, const held *words, size_t count, const held *data) {
+    const char *at = data->at, *end = at + data->n;
+    size_t new = 0;
+    while (at < end) {
+        const char *newline = memchr(at, '\n', end - at), *behind = newline ? newline : end;
+        new += !inserted(self, words, count, at, behind - at);
+        at = newline ? newline + 1 : end;
+    }
+    return new;
+}
+
+static PyObject *Bloom_add_lines(Bloom *self, PyObject *from) {
+    held words, data;
+    size_t count, new;
+    if (hold_to_add(self, from, &words, &count, &data) < 0) return NULL;
+    OVER(data.n, new = new_lines(self, &words, count, &data));
+    drop(&data);
+    drop(&words);
+    return PyLong_FromSize_t(new);
+}
+
+static uint64_t offset(const columns *it, size_t i) {
+    return it->width == 32 ? ((const uint32_t *)it->offsets.at)[i] : ((const uint64_t *)it->offsets.at)[i];
+}
+
+// Whether there is an offset, they rise, and they lie in the data.
+static int rise(const columns *it) {
+    int is_so = it->places > 0 && offset(it, it->places - 1) <= it->data.n;
+    for (size_t i = 1; is_so && i < it->places; i++) is_so = offset(it, i - 1) <= offset(it, i);
+    return is_so ? 0 : refuse(PyExc_ValueError, "the offsets fall, or pass the data");
+}
+
+static size_t new_texts(Bloom *self, const held *words, size_t count, const columns *it) {
+    size_t new = 0;
+    for (size_t i = 1; i < it->places; i++)
+        new += !inserted(self, words, count, it->data.at + offset(it, i - 1), offset(it, i) - offset(it, i - 1));
+    return new;
+}
+
+static PyObject *Bloom_add_column(Bloom *self, PyObject *args) {
+    unsigned width;
+    PyObject *offsets, *data, *answer = NULL;
+    columns it;
+    held words;
+    size_t count, new;
+    if (!PyArg_ParseTuple(args, "IOO", &width, &offsets, &data)) return NULL;
     if (hold_words(self, PyBUF_WRITABLE, &words, &count) < 0) return NULL;
-    if (hold(from, &key) == 0) {
-        if (apart(&words, &key) == 0) {
-            OVER(key.n, is_known = self->places->insert((uint64_t *)words.at, count, self->bits, self->probes, key.at, key.n));
-            answer = PyBool_FromLong(is_known);
+    if (hold_column(offsets, width, data, &it) == 0) {
+        if (apart(&words, &it.data) == 0 && apart(&words, &it.offsets) == 0 && rise(&it) == 0) {
+            OVER(it.data.n + it.offsets.n, new = new_texts(self, &words, count, &it));
+            answer = PyLong_FromSize_t(new);
         }
-        drop(&key);
+        drop_column(&it);
+    }
+    drop(&words);
+    return answer;
+}
+
+static void find(Bloom *self, const held *words, size_t count, const columns *it, char *to) {
+    for (size_t i = 1; i < it->places; i++)
+        to[i - 1] = self->places->contains((const uint64_t *)words->at, count, self->bits, self->probes, it->data.at + offset(it, i - 1),
+                                           offset(it, i) - offset(it, i - 1));
+}
+
+static PyObject *Bloom_found(Bloom *self, PyObject *args) {
+    unsigned width;
+    PyObject *offsets, *data, *answer = NULL;
+    columns it;
+    held words;
+    size_t count;
+    if (!PyArg_ParseTuple(args, "IOO", &width, &offsets, &data)) return NULL;
+    if (hold_words(self, PyBUF_SIMPLE, &words, &count) < 0) return NULL;
+    if (hold_column(offsets, width, data, &it) == 0) {
+        if (rise(&it) == 0 && (answer = PyBytes_FromStringAndSize(NULL, it.places - 1)))
+            OVER(it.data.n + it.offsets.n, find(self, &words, count, &it, PyBytes_AsString(answer)));
+        drop_column(&it);
     }
     drop(&words);
     return answer;
@@ -905,7 +995,7 @@ static int Bloom_contains(Bloom *self, PyObject *from) {
     int is_found = -1;
     if (hold_words(self, PyBUF_SIMPLE, &words, &count) < 0) return -1;
     if (hold(from, &key) == 0) {
-        OVER(key.n, is_found = self->places->contains((uint64_t *)words.at, count, self->bits, self->probes, key.at, key.n));
+        OVER(key.n, is_found = self->places->contains((const uint64_t *)words.at, count, self->bits, self->probes, key.at, key.n));
         drop(&key);
     }
     drop(&words);
@@ -935,6 +1025,11 @@ static PyObject *Bloom_hashes(Bloom *self, void *nothing) { return PyUnicode_Fro
 static PyMethodDef Bloom_methods[] = {
     {"add", (PyCFunction)Bloom_add, METH_O,
      "add($self, key, /)\n--\n\nAdds the key. The answer is whether all its bits were set before: False says that it was not there."},
+    {"add_lines", (PyCFunction)Bloom_add_lines, METH_O,
+     "add_lines($self, data, /)\n--\n\nAdds each line, as `hash_lines` takes them. The answer is how many were not there: of those for which\n"
+     "`add` would have said False."},
+    {"_add_column", (PyCFunction)Bloom_add_column, METH_VARARGS, NULL},
+    {"_found", (PyCFunction)Bloom_found, METH_VARARGS, NULL},
     {NULL, NULL, 0, NULL}};
 static PyMemberDef Bloom_members[] = {
     {"buffer", T_OBJECT, offsetof(Bloom, buffer), READONLY, "where the bits lie"},

@@ -534,7 +534,10 @@ class Buffers(unittest.TestCase):
             "hashers.Bloom(1000, 3)", "hashers.Bloom(0, 3)", "hashers.Bloom(10, odd)", "hashers.Bloom(10, 3, hashes=text)",
             "hashers.Bloom(10, 3, buffer=few)", "hashers.Bloom(10, 3, buffer=short)", "hashers.Bloom(10, 3, buffer=text)", "one.add(long)",
             "one.add(text)", "one.add(one.buffer)", "long in one", "text in one", "_hashers._unite(one, two)", "_hashers._unite(one, one)",
-            "_hashers._unite(one, text)", "one | two", "one | one", "len(one)", "bool(one)", "pickle.loads(pickle.dumps(one))")]
+            "_hashers._unite(one, text)", "one | two", "one | one", "one.add_lines(long)", "one.add_lines(one.buffer)",
+            "one.add_lines(text)", "one.add_column(offsets, short)", "one.add_column(falling, short)", "one.add_column(offsets, one.buffer)",
+            "one.add_column(offsets, text)", "one._add_column(64, offsets, short)", "one.found(offsets, short)", "one.found(falling, short)",
+            "one.found(text, short)", "one._found(64, offsets, text)", "len(one)", "bool(one)", "pickle.loads(pickle.dumps(one))")]
 
         def often(call: Callable[[], object], times: int) -> None:
             for _ in range(times):
@@ -571,6 +574,8 @@ class Buffers(unittest.TestCase):
         fields[field] = 1
         self.assertTrue(view.readonly)
         self.assertRaises(BufferError, made.add, b"a")
+        self.assertRaises(BufferError, made.add_lines, b"a")
+        self.assertRaises(BufferError, made.add_column, array("I", [0, 1]), b"a")
         self.assertRaises(BufferError, made.update, hashers.Bloom(1000, 3))
         self.assertNotIn(b"a", made)
         fields[field] = 0
@@ -673,6 +678,59 @@ class Filters(unittest.TestCase):
             one.update(one)
             self.assertTrue(all(key in one for key in keys))
 
+    def test_for_keys(self) -> None:
+        for count, rate, bits, probes in ((1000, 0.01, 9586, 7), (10_000, 0.001, 143776, 10), (1, 0.9, 1, 1), (3, 0.5, 5, 1)):
+            made = hashers.Bloom.for_keys(count, rate)
+            self.assertEqual((made.bits, made.probes, made.hashes), (bits, probes, "fnv1a64_lookup3"))
+        made = hashers.Bloom.for_keys(20_000, hashes="spooky_lookup3", buffer=bytearray(23968))
+        self.assertEqual((made.bits, made.probes, made.hashes), (191702, 7, "spooky_lookup3"))
+        for number in range(20_000):
+            made.add(b"%d" % number)
+        self.assertLess(abs(sum(b"other %d" % number in made for number in range(20_000)) - 200), 60)
+        wrong: List[Tuple[int, float]] = [(0, 0.1), (-1, 0.1), (1, 0), (1, 1), (1, -0.1), (1, float("nan")), (1 << 64, 0.01)]
+        for count, rate in wrong:
+            self.assertRaises(ValueError, hashers.Bloom.for_keys, count, rate)
+        self.assertRaises(TypeError, hashers.Bloom.for_keys, 1.5)
+
+    def test_many_keys(self) -> None:
+        texts = [b"", b"a", b"key", b"", b"a longer key " * 500, b"key"]
+        places = [sum(map(len, texts[:i])) for i in range(len(texts) + 1)]
+        for hashes in ("fnv1a64_lookup3", "spooky_lookup3"):
+            for offsets in (array("I", places), array("q", places)):
+                one, two = (hashers.Bloom(10_000, 7, hashes=hashes) for _ in range(2))
+                self.assertEqual(two.found(offsets, b"".join(texts)), bytes(6))
+                self.assertEqual([two.add(text) for text in texts].count(False), 4)
+                self.assertEqual(one.add_column(offsets, bytearray(b"".join(texts))), 4)
+                self.assertEqual((one.buffer, one.add_column(offsets, b"".join(texts))), (two.buffer, 0))
+                self.assertEqual(one.found(offsets, b"".join(texts)), bytes([1] * 6))
+                self.assertEqual(one.found(array("Q", [0, 2, 4, 4]), b"akey"), bytes([0, 0, 1]))
+            for data in (b"", b"\n", b"a", b"a\n", b"a\n\nb\na", b"\n\n", TEXT, b"a\n" + bytes(5000)):
+                lines = data.split(b"\n")
+                one, two = (hashers.Bloom(10_000, 7, hashes=hashes) for _ in range(2))
+                new = [two.add(line) for line in (lines if lines[-1] else lines[:-1])].count(False)
+                self.assertEqual((one.add_lines(data), one.buffer), (new, two.buffer), data)
+        self.assertEqual((one.add_column(array("I", [7]), TEXT), one.found(array("I", [7]), TEXT)), (0, b""))
+
+    def test_many_keys_that_are_refused(self) -> None:
+        made = hashers.Bloom(1000, 3)
+        wrong: List[Any] = [array("I", [0, 2, 1]), array("I", [1, 0, 1]), array("Q", [0, 501]), array("I", [501]), array("i", [0, -1, 2]),
+                            array("q", [-1, 1]), array("Q", [])]
+        for offsets in wrong:
+            for call in (made.add_column, made.found):
+                self.assertRaises(ValueError, call, offsets, TEXT)
+        others: List[Any] = [array("d", [0, 1]), b"12345678", [0, 1]]
+        for offsets in others:
+            self.assertRaises(TypeError, made.add_column, offsets, TEXT)
+            self.assertRaises(TypeError, made.found, offsets, TEXT)
+        self.assertRaises(TypeError, made.add_lines, "text")
+        self.assertRaises(TypeError, made.add_column, array("I", [0]), "text")
+        self.assertRaises(ValueError, made.add_lines, made.buffer)
+        self.assertRaises(ValueError, made.add_column, array("I", [0, 128]), made.buffer)
+        self.assertRaises(ValueError, made.add_column, memoryview(cast(bytearray, made.buffer)).cast("Q"), TEXT)
+        self.assertFalse(any(cast(bytearray, made.buffer)))
+        # a filter may be asked for its own bytes
+        self.assertEqual(made.found(array("I", [0, 128]), made.buffer), b"\0")
+
     def test_copies(self) -> None:
         ways: List[Callable[[hashers.Bloom], hashers.Bloom]] = [lambda made: made.copy(), copy.copy, copy.deepcopy, lambda made: made | made]
         ways += [cast(Any, functools.partial(Copies.pickled, protocol)) for protocol in range(pickle.HIGHEST_PROTOCOL + 1)]
@@ -728,7 +786,7 @@ class Filters(unittest.TestCase):
         for bits, probes in ((0, 1), (1, 0), (1, 1 << 32), (-1, 1), (1 << 64, 1)):
             self.assertRaises(ValueError, hashers.Bloom, bits, probes)
         self.assertRaises(ValueError, hashers.Bloom, 64, 1, hashes="djb2")
-        for buffer in (bytearray(8), bytearray(24), memoryview(bytearray(17))[1:]):
+        for buffer in (bytearray(8), bytearray(17), bytearray(24), memoryview(bytearray(17))[1:]):
             self.assertRaises(ValueError, hashers.Bloom, 128, 1, buffer=buffer)
         self.assertRaises(BufferError, hashers.Bloom, 128, 1, buffer=bytes(16))
         made = hashers.Bloom(128, 1)
