@@ -129,7 +129,7 @@ typedef struct {
 static int taken(const form *form, PyObject *const *args, Py_ssize_t count, PyObject *named, PyObject **into) {
     Py_ssize_t more = named ? PyTuple_Size(named) : 0;
     if (count > form->plain) {
-        PyErr_Format(PyExc_TypeError, "%s() takes %d arguments without a name, not %zd", form->name, form->plain, count);
+        PyErr_Format(PyExc_TypeError, "%s() takes %d argument(s) without a name, not %zd", form->name, form->plain, count);
         return -1;
     }
     for (int i = 0; form->names[i]; i++) into[i] = i < count ? args[i] : NULL;
@@ -1062,13 +1062,14 @@ static PyMethodDef functions[] = {
     CALL(poly61_pair, "poly61_pair($module, data, key1, key2)\n--\n\nThe same at two keys."),
     CALL(poly61_state, "poly61_state($module, data, key)\n--\n\nThe state behind data of a multiple of seven bytes, for `poly61_combine`;\n"
                        "ValueError for another length."),
-    CALL(poly61_combine, "poly61_combine($module, key, state1, hash2, length2)\n--\n\nThe hash of two texts joined, from the state behind the\n"
-                         "first, and the hash and the length of the second in bytes."),
-    CALL(combine, "combine($module, name, hash1, hash2, length2)\n--\n\nThe hash of two texts joined, from the hash of each and the length of the\n"
-                  "second in bytes. ValueError where the hash has no such law: sdbm, loselose, passthrough, crc32 and crc32c have."),
-    CALL(crc32_ending, "crc32_ending($module, hash, answer)\n--\n\nThe one ending of four bytes behind data with this crc32 that makes the crc32\n"
-                       "of the whole the answer. Of both numbers the low 32 bits count. So a CRC is no protection against someone who\n"
-                       "chooses the data."),
+    CALL(poly61_combine, "poly61_combine($module, key, state1, hash2, length2)\n--\n\n"
+                         "The hash of two texts joined, from the state behind the first, and the hash and the length of the second in bytes."),
+    CALL(combine, "combine($module, name, hash1, hash2, length2)\n--\n\n"
+                  "The hash of two texts joined, from the hash of each and the length of the second in bytes. ValueError where the hash has\n"
+                  "no such law: sdbm, loselose, passthrough, crc32 and crc32c have."),
+    CALL(crc32_ending, "crc32_ending($module, hash, answer)\n--\n\n"
+                       "The one ending of four bytes behind data with this crc32 that makes the crc32 of the whole the answer. Of both\n"
+                       "numbers the low 32 bits count. So a CRC is no protection against someone who chooses the data."),
     {"_number_of", number_of, METH_O, "The number of a name; ValueError for spooky128, whose hashes fit no 64 bits."},
     {"_lines", lines, METH_VARARGS, NULL},
     {"_column", column, METH_VARARGS, NULL},

@@ -10,20 +10,22 @@ if TYPE_CHECKING:
     from _typeshed import ReadableBuffer as Buffer
 
 Out = TypeVar("Out", bound="Buffer")
+# as many as there are texts are made of it, which takes a third of the time that it takes of bytes
+_ZERO = array("Q", (0,))
 
 
 def hash_lines(name: str, data: Buffer) -> array[int]:
     """The hash of each line, as an array of 64 bits each. A newline ends a line and is none of its bytes; the last line may have none, and
     no bytes have no line."""
     number = _number_of(name)
-    hashes = array("Q", bytes(8 * _lines(number, data, None)))
+    hashes = _ZERO * _lines(number, data, None)
     _lines(number, data, hashes)
     return hashes
 
 
 def shape_of(offsets: Buffer, data: Buffer) -> Tuple[int, int]:
-    """The bits of an offset, 32 or 64, and how many texts there are. A negative offset is larger than the data, since signed ones of 32 bits are
-    for data below 2^31."""
+    """The bits of an offset, 32 or 64, and how many texts there are. A negative offset is larger than the data, since signed ones of 32 bits
+    are for data below 2^31."""
     with memoryview(offsets) as places, memoryview(data) as text:
         kind = places.format.lstrip("@=<")
         if kind not in ("I", "i", "L", "l", "Q", "q", "N", "n") or places.itemsize not in (4, 8):
@@ -45,7 +47,7 @@ def hash_column(name: str, offsets: Buffer, data: Buffer, out: Optional[Out] = N
     text, or to a new array. ValueError, and nothing is written, where the offsets fall or pass the data."""
     number = _number_of(name)
     width, count = shape_of(offsets, data)
-    hashes: Union[array[int], Out] = array("Q", bytes(8 * count)) if out is None else out
+    hashes: Union[array[int], Out] = _ZERO * count if out is None else out
     with memoryview(hashes) as room:
         if room.nbytes != 8 * count:
             raise ValueError(f"out has {room.nbytes} bytes, not 8 for each of {count} hashes")

@@ -248,6 +248,19 @@ class Hashes(unittest.TestCase):
             self.assertRaises(TypeError, call, "text")
             self.assertRaises(BufferError, call, memoryview(b"text")[::2])
 
+    def test_arguments_that_are_refused(self) -> None:
+        self.assertEqual(hashers.djb2(data=b"a"), hashers.djb2(b"a"))
+        self.assertEqual(hashers.poly61(key=7, data=b"a"), hashers.poly61(b"a", 7))
+        djb2, poly61 = cast(Any, hashers.djb2), cast(Any, hashers.poly61)
+        calls: Dict[str, Callable[[], object]] = {
+            "misses the argument 'data'": lambda: djb2(), "misses the argument 'key'": lambda: poly61(b"a"),
+            "takes 1 argument.s. without": lambda: djb2(b"a", b"a"),
+            "'data' twice": lambda: djb2(b"a", data=b"a"), "'key' twice": lambda: poly61(b"a", 7, key=7),
+            "'text' unexpectedly": lambda: djb2(text=b"a"), "takes 2 argument.s. without": lambda: cast(Any, hashers.new)("djb2", b"", 7),
+            "hashers.new makes": lambda: hashers.Hash()}
+        for why, call in calls.items():
+            self.assertRaisesRegex(TypeError, why, call)
+
     def test_documentation(self) -> None:
         self.assertEqual(doctest.testmod(hashers).failed, 0)
         readme = (C.parent / "README.md").read_text(encoding="utf-8")
@@ -503,8 +516,8 @@ class Buffers(unittest.TestCase):
         offsets, falling, room = array("I", [0, 3, 5]), array("I", [3, 1, 2]), array("Q", [0, 0])
         made, spooky, keeps, text, odd = hashers.new("djb2"), hashers.new("spooky"), hashers.new("xxh64"), "text", Odd()
         one, two = hashers.Bloom(1000, 3), hashers.Bloom(1000, 4)
-        held: List[Any] = [long, short, few, offsets, falling, room, made, spooky, keeps, text, odd, one, two, one.buffer, hashers.Hash, hashers.Bloom,
-                           _hashers._revived]
+        held: List[Any] = [long, short, few, offsets, falling, room, made, spooky, keeps, text, odd, one, two, one.buffer, hashers.Hash,
+                           hashers.Bloom, _hashers._revived]
         state = cast(Any, spooky.__reduce__())[1][2]
         scope = {**globals(), **locals()}
         calls: List[Callable[[], object]] = [cast(Any, eval("lambda: " + it, scope)) for it in (
@@ -563,6 +576,37 @@ class Buffers(unittest.TestCase):
             for many in (offsets, falling, room):
                 many.append(0)
                 many.pop()
+
+    def test_want_of_memory(self) -> None:
+        # Each request for memory of a call is refused in turn: it raises MemoryError, or does without, and the next call is as ever.
+        try:
+            own: Any = importlib.import_module("_testcapi")
+        except ImportError:
+            self.skipTest("this Python has not CPython's own tests")
+        long, offsets, one = bytes(5000), array("I", [0, 3, 5]), hashers.Bloom(1000, 3)
+        keeps, spooky = hashers.new("xxh64"), hashers.new("spooky")
+        state = cast(Any, spooky.__reduce__())[1]
+        calls: List[Callable[[], object]] = [
+            lambda: hashers.djb2(long), lambda: hashers.new("DJB2", long), lambda: hashers.new("spooky", long, seeds=(TOP, TOP)),
+            lambda: hashers.new("xxh3", long), lambda: hashers.new("poly61", long, key=TOP), lambda: keeps.update(long), keeps.copy,
+            spooky.copy, keeps.__reduce__, spooky.intdigest, spooky.hexdigest, spooky.digest, spooky.words, lambda: _hashers._revived(*state),
+            lambda: hashers.Bloom(1000, 3), lambda: one.add(b"a"), lambda: one.add_lines(long), lambda: one.add_column(offsets, b"abcde"),
+            lambda: one.found(offsets, b"abcde"), lambda: one | one, lambda: hashers.hash_column("djb2", offsets, b"abcde"),
+            lambda: hashers.hash_lines("djb2", long), lambda: hashers.combine("crc32", TOP, 2, 3), lambda: hashers.crc32_ending(1, 2)]
+        refused = 0
+        for call in calls:
+            for number in range(40):
+                own.set_nomemory(number, number + 1)
+                try:
+                    call()
+                except MemoryError:
+                    refused += 1
+                finally:
+                    own.remove_mem_hooks()
+            call()
+        self.assertGreater(refused, 60)
+        kept = hashers.new("xxh64", bytes(len(cast(Any, keeps.__reduce__())[1][2])))
+        self.assertEqual(keeps.hexdigest(), kept.hexdigest())
 
     def test_a_filter_whose_buffer_became_read_only(self) -> None:
         # An array of numpy can become so; of Python's own objects none can, so the field is changed by which a view says that it is.

@@ -65,6 +65,7 @@ def parts():
     rows = {
         "`new`, `update`, `intdigest`: `hashers.new(\"fnv1a64\")`": in_parts(lambda: hashers.new("fnv1a64"), text),
         "the same: `hashers.new(\"spooky\")`": in_parts(lambda: hashers.new("spooky"), text),
+        "the same: `hashers.new(\"xxh64\")`": in_parts(lambda: hashers.new("xxh64"), text),
         "the same: `xxhash.xxh64()`": in_parts(xxhash.xxh64, text),
         "`update` of hashers": lambda: ours.update(text), "`update` of xxhash": lambda: theirs.update(text),
         "`hexdigest` of hashers": ours.hexdigest, "`hexdigest` of xxhash": theirs.hexdigest,
