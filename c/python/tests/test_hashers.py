@@ -26,6 +26,7 @@ import tracemalloc
 import types
 import unittest
 import unittest.mock
+import weakref
 import zlib
 from array import array
 from pathlib import Path
@@ -661,6 +662,25 @@ class Buffers(unittest.TestCase):
                 thread.join()
             self.assertEqual(made.hexdigest(), updated(hashers.new(name), part, 80).hexdigest())
 
+    def test_a_reset_while_another_thread_updates(self) -> None:
+        # it comes before an update or behind, so what is left is the hash of some of the last parts
+        part, made, whole = bytes(range(256)) * 20_000, hashers.new("spooky"), hashers.new("spooky")
+        wanted = {whole.intdigest()}
+        for _ in range(20):
+            whole.update(part)
+            wanted.add(whole.intdigest())
+
+        def updated() -> None:
+            for _ in range(20):
+                made.update(part)
+        thread = threading.Thread(target=updated)
+        thread.start()
+        while thread.is_alive():
+            time.sleep(0.0002)
+            made.reset()
+            self.assertIn(made.intdigest(), wanted)
+        self.assertIn(made.intdigest(), wanted)
+
 
 class ManyTexts(unittest.TestCase):
     def test_lines(self) -> None:
@@ -671,6 +691,7 @@ class ManyTexts(unittest.TestCase):
                 self.assertEqual(list(hashers.hash_lines(name, bytearray(data))), [getattr(hashers, name)(it) for it in lines], (name, data))
         self.assertRaises(ValueError, hashers.hash_lines, "md5", b"")
         self.assertRaises(TypeError, hashers.hash_lines, "djb2", "text")
+        self.assertRaises(BufferError, _hashers._lines, 1, b"a", bytes(8))
 
     def test_columns(self) -> None:
         places = [0, 0, 3, 100, 500]
@@ -825,6 +846,16 @@ class Filters(unittest.TestCase):
         with mmap.mmap(-1, 16) as mapped:
             mapped.write(words.tobytes())
             self.assertIn(b"a", hashers.Bloom(128, 3, buffer=mapped))
+
+    def test_a_filter_that_its_buffer_knows(self) -> None:
+        class Known(bytearray):
+            by: hashers.Bloom
+        words = Known(128)
+        words.by = hashers.Bloom(1000, 3, buffer=words)
+        gone = weakref.ref(words)
+        del words
+        gc.collect()
+        self.assertIsNone(gone())
 
     def test_what_is_refused(self) -> None:
         for bits, probes in ((0, 1), (1, 0), (1, 1 << 32), (-1, 1), (1 << 64, 1)):

@@ -41,12 +41,12 @@ def calls():
         "`hashers.crc32`": hashers.crc32, "`zlib.crc32`": zlib.crc32,
         "`hashlib.md5(..).digest()`": lambda text: hashlib.md5(text).digest(),
         "`hashlib.blake2b(..).digest()`": lambda text: hashlib.blake2b(text).digest(),
+        "a function in Python that does nothing": lambda text: None,
     }
-    times = []
-    for text in (bytes(8), bytearray(8), bytes(64), bytes(1 << 20)):
-        turns, runs = (1, RUNS // 10) if len(text) > 64 else (200, RUNS)
-        times.append(least([lambda call=call: call(text) for call in rows.values()], turns, runs))
-    told = [[name, *(f"{it:.0f}" for it in row)] for name, row in zip(rows, zip(*times))]
+    def over(*texts):
+        return [lambda call=call, text=text: call(text) for call in rows.values() for text in texts]
+    short, long = least(over(bytes(8), bytearray(8), bytes(64)), 200, RUNS), least(over(bytes(1 << 20)), 1, RUNS // 10)
+    told = [[name, *(f"{it:.0f}" for it in (*short[3 * i:3 * i + 3], long[i]))] for i, name in enumerate(rows)]
     return table(["call", "8 bytes", "a bytearray of 8", "64 bytes", "1 MiB"], told, 4)
 
 
@@ -60,7 +60,6 @@ def in_parts(begin, text):
 
 
 def parts():
-    """What a loop of a program does: the loop of `timed` and a call of a lambda are in each time."""
     text, ours, theirs, seen = bytes(16), hashers.new("fnv1a64"), xxhash.xxh64(), hashers.Bloom(10_000, 7)
     rows = {
         "`new`, `update`, `intdigest`: `hashers.new(\"fnv1a64\")`": in_parts(lambda: hashers.new("fnv1a64"), text),
@@ -83,7 +82,7 @@ def columns():
         hash_of = getattr(hashers, name)
         times = least([lambda: hashers.hash_column(name, offsets, data, out),
                        lambda: [hash_of(data[i:j]) for i, j in zip(offsets, offsets[1:])],
-                       lambda: hashers.hash_lines(name, lines), lambda: [hash_of(line) for line in lines.splitlines()]], 1, RUNS // 30)
+                       lambda: hashers.hash_lines(name, lines), lambda: [hash_of(line) for line in lines.splitlines()]], 1, RUNS // 10)
         told.append([f"`hash_column`, `{name}`", *(f"{it / count:.0f}" for it in times[:2])])
         told.append([f"`hash_lines`, `{name}`", *(f"{it / count:.0f}" for it in times[2:])])
     return table(["10^6 texts of 16 bytes", "ns a text, one call", "ns a text, a loop"], told, 2)
