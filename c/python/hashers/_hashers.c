@@ -378,8 +378,8 @@ static int go(Hash *self, write_call *on, PyObject *from) {
     held data;
     int done = 0, is_text = kept_of(self->row) == TEXT;
     if (hold(from, &data) < 0) return -1;
-    size_t many = data.n + (is_text ? self->now.text.n : 0);
-    if (many > LONG && !self->lock && !(self->lock = PyThread_allocate_lock())) {
+    // without a lock no other thread is at work on what is kept
+    if (!self->lock && data.n + (is_text ? self->now.text.n : 0) > LONG && !(self->lock = PyThread_allocate_lock())) {
         PyErr_NoMemory();
         done = -1;
     }
