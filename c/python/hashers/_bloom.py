@@ -2,15 +2,17 @@
 from __future__ import annotations
 
 import sys
-from ctypes import string_at
-from math import log
+from math import ceil, log, log2
 from operator import index
-from typing import TYPE_CHECKING, Any, Callable, Optional, SupportsIndex, Tuple
+from typing import TYPE_CHECKING, Any, Callable, Optional, SupportsIndex, Tuple, Type, TypeVar
 
-from ._library import Held, call, has, word
+from ._hashers import BloomBase, _unite
+from ._many import shape_of
 
 if TYPE_CHECKING:
     from _typeshed import ReadableBuffer as Buffer
+
+Filter = TypeVar("Filter", bound="Bloom")
 
 # how many bytes are counted at a time
 CHUNK = 1 << 16
@@ -22,35 +24,24 @@ def _bit_count(number: int) -> int:
     return bin(number).count("1")
 
 
-def _ones(bits: int, words: Held) -> int:
-    """How many of the first bits are set."""
-    ones = 0
-    for start in range(0, words.length, CHUNK):
-        chunk = int.from_bytes(string_at(words.address + start, min(CHUNK, words.length - start)), "little")
-        ones += _bit_count(chunk & ((1 << min(8 * CHUNK, bits - 8 * start)) - 1))
-    return ones
-
-
-class Bloom:
+class Bloom(BloomBase):
     """A Bloom filter of so many bits, in which each key has so many probes. About 0.693 * bits / keys probes are best. A key that was
     added is found; a strange one is found by chance, at 10 bits for each key and 7 probes about 1 of 120.
 
     The bits lie in `buffer`: a new bytearray, or whatever writable buffer of 8 bytes for each 64 bits is given, as a file's mmap; a new
     filter's are zeros. `hashes` names the two hashes by which keys are placed: fnv1a64_lookup3, or spooky_lookup3. One thread at a time
     may add. A copy, by `copy` or the module of that name, has a bytearray of its own, and so has what pickle brings elsewhere."""
+    __slots__ = ()
 
-    def __init__(self, bits: SupportsIndex, probes: SupportsIndex, *, hashes: str = "fnv1a64_lookup3", buffer: Optional[Buffer] = None) -> None:
-        self.bits, self.probes, self.hashes = word(bits), index(probes), hashes
-        if self.bits == 0 or not 0 < self.probes < 1 << 32:
-            raise ValueError("a filter has at least one bit, and from 1 to 2**32 - 1 probes")
-        if not has(f"bloom_{hashes}_insert"):
-            raise ValueError(f"no filter has the hashes {hashes}")
-        self._insert, self._contains = call(f"bloom_{hashes}_insert"), call(f"bloom_{hashes}_contains")
-        size = (self.bits + 63) // 64 * 8
-        self.buffer: Buffer = bytearray(size) if buffer is None else buffer
-        with Held(self.buffer, writable=True) as words:
-            if words.items(8) * 8 != size:
-                raise ValueError(f"a filter of {self.bits} bits has a buffer of {size} bytes, not of {words.length}")
+    @classmethod
+    def for_keys(cls: Type[Filter], keys: SupportsIndex, error_rate: float = 0.01, *, hashes: str = "fnv1a64_lookup3",
+                 buffer: Optional[Buffer] = None) -> Filter:
+        """A filter for that many keys, in which a strange key is found with about that chance once they were added. It has
+        -keys * ln(error_rate) / ln(2)^2 bits, 9.6 for each key at 0.01, and log2(1 / error_rate) probes."""
+        count = index(keys)
+        if count < 1 or not 0 < error_rate < 1:
+            raise ValueError("a filter is for at least one key, and an error rate between 0 and 1")
+        return cls(ceil(count * log2(1 / error_rate) / log(2)), max(1, round(log2(1 / error_rate))), hashes=hashes, buffer=buffer)
 
     def __repr__(self) -> str:
         return f"<Bloom filter of {self.bits} bits and {self.probes} probes by {self.hashes}>"
@@ -62,41 +53,44 @@ class Bloom:
         """A second filter with the same keys, over a bytearray of its own."""
         return _revived(self.bits, self.probes, self.hashes, memoryview(self.buffer).tobytes())
 
-    def add(self, key: Buffer) -> bool:
-        """Adds the key. The answer is whether all its bits were set before: False says that it was not there."""
-        with Held(self.buffer, writable=True) as words, Held(key) as text:
-            words.apart(text)
-            known: bool = self._insert(words.address, words.items(8), self.bits, self.probes, text.address, text.length)
-        return known
-
-    def __contains__(self, key: object) -> bool:
-        with Held(self.buffer) as words, Held(key) as text:
-            found: bool = self._contains(words.address, words.items(8), self.bits, self.probes, text.address, text.length)
-        return found
-
     def __len__(self) -> int:
         """About how many different keys were added, as the bits that are set tell it: bits / probes * ln(bits / zeros). It goes over all
         bits. OverflowError where all are set, which tells nothing."""
-        with Held(self.buffer) as words:
-            zeros = self.bits - _ones(self.bits, words)
+        zeros = self.bits - self._ones()
         if zeros == 0:
             raise OverflowError("all bits are set, so they do not tell how many keys there are")
         return round(self.bits / self.probes * log(self.bits / zeros))
 
     def __bool__(self) -> bool:
         """Whether a key was added."""
-        with Held(self.buffer) as words:
-            return _ones(self.bits, words) > 0
+        return self._ones() > 0
+
+    def _ones(self) -> int:
+        """How many bits are set, of those that are the filter's."""
+        with memoryview(self.buffer) as buffer, buffer.cast("B") as words:
+            if len(words) != (self.bits + 63) // 64 * 8:
+                raise ValueError(f"a filter of {self.bits} bits has a buffer of {(self.bits + 63) // 64 * 8} bytes, not of {len(words)}")
+            ones = 0
+            for start in range(0, len(words), CHUNK):
+                chunk = int.from_bytes(words[start:start + CHUNK], "little")
+                ones += _bit_count(chunk & ((1 << min(8 * CHUNK, self.bits - 8 * start)) - 1))
+        return ones
+
+    def add_column(self, offsets: Buffer, data: Buffer) -> int:
+        """Adds each text of a column, as `hash_column` takes them. The answer is how many were not there. ValueError, and none is added,
+        where the offsets fall or pass the data."""
+        return self._add_column(shape_of(offsets, data)[0], offsets, data)
+
+    def found(self, offsets: Buffer, data: Buffer) -> bytes:
+        """Of each text of a column whether it is found: a byte of 1, or of 0 where it is not."""
+        return self._found(shape_of(offsets, data)[0], offsets, data)
 
     def update(self, other: Bloom) -> None:
         """Adds another filter's keys, of as many bits and probes and by the same hashes; else a ValueError."""
         if (self.bits, self.probes, self.hashes) != (other.bits, other.probes, other.hashes):
             raise ValueError("the filters are of different bits, probes or hashes")
-        if other is self:
-            return
-        with Held(self.buffer, writable=True) as words, Held(other.buffer) as others:
-            words.apart(others)
-            call("bloom_union")(words.address, words.items(8), others.address, others.items(8))
+        if other is not self:
+            _unite(self, other)
 
     def __ior__(self, other: Bloom) -> Bloom:
         if not isinstance(other, Bloom):

@@ -2,37 +2,39 @@
 from __future__ import annotations
 
 from array import array
-from typing import TYPE_CHECKING, Optional, TypeVar, Union, overload
+from typing import TYPE_CHECKING, Optional, Tuple, TypeVar, Union, overload
 
-from ._hashes import number_of
-from ._library import Held, call
+from ._hashers import _column, _lines, _number_of
 
 if TYPE_CHECKING:
     from _typeshed import ReadableBuffer as Buffer
 
 Out = TypeVar("Out", bound="Buffer")
+# as many as there are texts are made of it, which takes a third of the time that it takes of bytes
+_ZERO = array("Q", (0,))
 
 
 def hash_lines(name: str, data: Buffer) -> array[int]:
     """The hash of each line, as an array of 64 bits each. A newline ends a line and is none of its bytes; the last line may have none, and
     no bytes have no line."""
-    lines, number = call("lines"), number_of(name)
-    with Held(data) as text:
-        count = lines(number, text.address, text.length, None, 0)
-        hashes = array("Q", bytes(8 * count))
-        with Held(hashes, writable=True) as room:
-            lines(number, text.address, text.length, room.address, count)
+    number = _number_of(name)
+    hashes = _ZERO * _lines(number, data, None)
+    _lines(number, data, hashes)
     return hashes
 
 
-def _width(offsets: memoryview, length: int) -> int:
-    """The bits of an offset: 32 or 64. A negative one is larger than the data, since signed ones of 32 bits are for data below 2^31."""
-    kind = offsets.format.lstrip("@=<")
-    if kind not in ("I", "i", "L", "l", "Q", "q", "N", "n") or offsets.itemsize not in (4, 8):
-        raise TypeError(f"offsets are whole numbers of 32 or 64 bits, not of the format {offsets.format}")
-    if kind == "i" and length >= 1 << 31:
-        raise ValueError("signed offsets of 32 bits are for less than 2**31 bytes")
-    return 8 * offsets.itemsize
+def shape_of(offsets: Buffer, data: Buffer) -> Tuple[int, int]:
+    """The bits of an offset, 32 or 64, and how many texts there are. A negative offset is larger than the data, since signed ones of 32 bits
+    are for data below 2^31."""
+    with memoryview(offsets) as places, memoryview(data) as text:
+        kind = places.format.lstrip("@=<")
+        if kind not in ("I", "i", "L", "l", "Q", "q", "N", "n") or places.itemsize not in (4, 8):
+            raise TypeError(f"offsets are whole numbers of 32 or 64 bits, not of the format {places.format}")
+        if kind == "i" and text.nbytes >= 1 << 31:
+            raise ValueError("signed offsets of 32 bits are for less than 2**31 bytes")
+        if places.nbytes == 0:
+            raise ValueError("there is no offset")
+        return 8 * places.itemsize, places.nbytes // places.itemsize - 1
 
 
 @overload
@@ -43,17 +45,11 @@ def hash_column(name: str, offsets: Buffer, data: Buffer, out: Optional[Out] = N
     """The hash of each text of a column, where text i lies in the data from offset i to offset i + 1, as in Arrow's columns of strings.
     The offsets are an array of 32 or 64 bits each, one more than there are texts. The hashes go to `out`, a buffer of 8 bytes for each
     text, or to a new array. ValueError, and nothing is written, where the offsets fall or pass the data."""
-    number = number_of(name)
-    with memoryview(offsets) as view, Held(data) as text, Held(offsets) as places:
-        width = _width(view, text.length)
-        count = places.items(width // 8) - 1
-        if count < 0:
-            raise ValueError("there is no offset")
-        hashes: Union[array[int], Out] = array("Q", bytes(8 * count)) if out is None else out
-        with Held(hashes, writable=True) as room:
-            room.apart(text, places)
-            if room.items(8) != count:
-                raise ValueError(f"out has room for {room.items(8)} hashes, not for {count}")
-            if not call(f"column{width}")(number, text.address, text.length, places.address, count + 1, room.address, count):
-                raise ValueError("the offsets fall, or pass the data")
+    number = _number_of(name)
+    width, count = shape_of(offsets, data)
+    hashes: Union[array[int], Out] = _ZERO * count if out is None else out
+    with memoryview(hashes) as room:
+        if room.nbytes != 8 * count:
+            raise ValueError(f"out has {room.nbytes} bytes, not 8 for each of {count} hashes")
+    _column(number, width, offsets, data, hashes)
     return hashes

@@ -7,8 +7,10 @@ import copy
 import ctypes
 import doctest
 import functools
+import gc
 import hashlib
-import importlib
+import importlib.util
+import inspect
 import io
 import mmap
 import os
@@ -20,9 +22,11 @@ import sys
 import tempfile
 import threading
 import time
+import tracemalloc
 import types
 import unittest
 import unittest.mock
+import weakref
 import zlib
 from array import array
 from pathlib import Path
@@ -30,7 +34,7 @@ from random import Random
 from typing import Any, Callable, Dict, List, Tuple, cast
 
 import hashers
-from hashers import _hashes, _library
+from hashers import _hashers
 
 C = Path(__file__).resolve().parent.parent.parent
 HEADER = (C / "hashers.h").read_text(encoding="utf-8")
@@ -55,22 +59,6 @@ def ending(end: str) -> List[str]:
     return sorted(name[:-len(end)] for name in declarations() if name.endswith(end) and name[:-len(end)] in NAMES)
 
 
-def kind(parameter: str) -> str:
-    """A parameter or a ctypes type as a word."""
-    pointer = re.search(r"(\w+) \*", parameter)
-    if pointer:
-        return {"hashers_spooky_state": "state", "hashers_poly61_place": "place"}.get(pointer[1], "pointer")
-    return {"size_t": "64", "uint64_t": "64", "uint32_t": "32"}[parameter.split()[0]]
-
-
-KINDS: Dict[Any, str] = {ctypes.c_void_p: "pointer", ctypes.c_uint64: "64", ctypes.c_uint32: "32", ctypes.POINTER(_library.State): "state",
-                        ctypes.POINTER(_library.Place): "place"}
-RESULTS: Dict[str, Any] = {"uint64_t": ctypes.c_uint64, "uint32_t": ctypes.c_uint32, "size_t": ctypes.c_size_t, "bool": ctypes.c_bool,
-                           "hashers_words": _library.Words, "hashers_spooky_state": _library.State,
-                           "hashers_poly61_place": _library.Place, "void": None}
-
-
-
 PRIME = (1 << 61) - 1
 
 
@@ -90,17 +78,20 @@ class AgainstTheHeader(unittest.TestCase):
         self.assertEqual(NAMES, sorted(name for name, (result, rest) in declarations().items() if (result, rest) == ("uint64_t", texts)))
         places = {name.lower(): int(number) for name, number in re.findall(r"^ *HASHERS_(\w+) = (\d+),?$", HEADER, re.M)}
         self.assertEqual(places.pop("kinds"), len(NAMES))
-        self.assertEqual(places, _hashes.numbers)
-        self.assertEqual(NAMES, sorted(_hashes.numbers))
+        self.assertEqual(places, {name: _hashers._number_of(name) for name in NAMES})
 
-    def test_every_call_is_declared_alike(self) -> None:
-        self.assertGreaterEqual(len(declarations()), 80)
-        for name, (result, rest) in declarations().items():
-            with self.subTest(name):
-                function: Any = _library.call(name)
-                self.assertEqual(function.restype, RESULTS[result])
-                self.assertEqual([KINDS[it] for it in function.argtypes], [kind(it) for it in rest])
-        self.assertEqual(ctypes.sizeof(_library.State), 8 * int(re.findall(r"opaque\[(\d+)\]", HEADER)[0]))
+    def test_what_is_typed(self) -> None:
+        # The stubs declare what the module has, and each call of theirs has as many arguments in its signature.
+        declared = ast.parse(Path(_hashers.__file__).with_name("_hashers.pyi").read_text(encoding="utf-8")).body
+        functions = {it.name: it.args for it in declared if isinstance(it, ast.FunctionDef)}
+        self.assertEqual(sorted(functions), sorted(name for name, it in vars(_hashers).items() if isinstance(it, types.BuiltinFunctionType)))
+        for name, arguments in functions.items():
+            if not name.startswith("_"):
+                told = inspect.signature(getattr(hashers, name)).parameters
+                self.assertEqual(list(told), [it.arg for it in arguments.args + arguments.kwonlyargs], name)
+        for made in (it for it in declared if isinstance(it, ast.ClassDef)):
+            names = {it.name if isinstance(it, ast.FunctionDef) else cast(Any, it).target.id for it in made.body}
+            self.assertEqual(names - set(dir(getattr(_hashers, made.name))), set())
 
     def test_which_can_be_unwritten(self) -> None:
         def can(name: str) -> bool:
@@ -133,10 +124,10 @@ class AgainstTheHeader(unittest.TestCase):
         # has 28 bits.
         for name in NAMES:
             if name in ending("_unwrite"):
-                top = _library.call(name + "_write")(TOP, b"", 0)
+                top = getattr(hashers, name)(b"", hash=TOP)
                 self.assertEqual(top, (1 << 8 * hashers.new(name).digest_size) - 1, name)
             elif name == "elf":
-                self.assertEqual(_library.call("elf_write")(TOP, b"", 0), (1 << 28) - 1)
+                self.assertEqual(hashers.elf(b"", hash=TOP), (1 << 28) - 1)
                 self.assertEqual(hashers.new(name).digest_size, 4)
             elif name in ("xxh32", "murmur3_32"):
                 self.assertEqual(hashers.new(name).digest_size, 4)
@@ -258,6 +249,19 @@ class Hashes(unittest.TestCase):
             self.assertRaises(TypeError, call, "text")
             self.assertRaises(BufferError, call, memoryview(b"text")[::2])
 
+    def test_arguments_that_are_refused(self) -> None:
+        self.assertEqual(hashers.djb2(data=b"a"), hashers.djb2(b"a"))
+        self.assertEqual(hashers.poly61(key=7, data=b"a"), hashers.poly61(b"a", 7))
+        djb2, poly61 = cast(Any, hashers.djb2), cast(Any, hashers.poly61)
+        calls: Dict[str, Callable[[], object]] = {
+            "misses the argument 'data'": lambda: djb2(), "misses the argument 'key'": lambda: poly61(b"a"),
+            "takes 1 argument.s. without": lambda: djb2(b"a", b"a"),
+            "'data' twice": lambda: djb2(b"a", data=b"a"), "'key' twice": lambda: poly61(b"a", 7, key=7),
+            "'text' unexpectedly": lambda: djb2(text=b"a"), "takes 2 argument.s. without": lambda: cast(Any, hashers.new)("djb2", b"", 7),
+            "hashers.new makes": lambda: hashers.Hash()}
+        for why, call in calls.items():
+            self.assertRaisesRegex(TypeError, why, call)
+
     def test_documentation(self) -> None:
         self.assertEqual(doctest.testmod(hashers).failed, 0)
         readme = (C.parent / "README.md").read_text(encoding="utf-8")
@@ -354,6 +358,34 @@ class Copies(unittest.TestCase):
         for other in (b"", state[:-1], state + b"x"):
             self.assertRaises(ValueError, function, name, seeds, other)
         self.assertEqual(function(name, seeds, bytes(len(state))).words(), (0, 0))
+
+    def test_pickles_of_the_package_before(self) -> None:
+        # those of filters are the same
+        made = pickle.loads(b"chashers._bloom\n_revived\n(I64\nI3\nVfnv1a64_lookup3\nc_codecs\nencode\n"
+                            b"(V\\u0000\\u0010\\u0010\\u0010\\u0000\\u0000\\u0000\\u0000\nVlatin1\ntRtR.")
+        self.assertEqual((made.bits, made.probes, b"a" in made, b"b" in made), (64, 3, True, False))
+        for name in ("_NumberHash", "_TextHash", "_SpookyHash", "_Poly61Hash", "fnv1a64"):
+            for loads in (pickle.loads, pickle._loads):  # type: ignore[attr-defined]
+                with self.assertRaisesRegex(pickle.UnpicklingError, "an older version of the package hashers"):
+                    loads(b"chashers._hashes\n%s\n(Vdjb2\nI5381\nI177604\ntR." % name.encode())
+
+    def test_other_interpreters(self) -> None:
+        # Each has types and names of its own; from 3.12 on each has a GIL of its own too, and they run side by side.
+        name = next((it for it in ("_interpreters", "_xxsubinterpreters") if importlib.util.find_spec(it)), None)
+        if name is None:
+            self.skipTest("this Python has no other interpreters")
+        code = ("import hashers, pickle; made = hashers.new('SPOOKY', bytes(5000)); one = hashers.Bloom(1000, 3); one.add(b'a')\n"
+                "for _ in range(2000): made = pickle.loads(pickle.dumps(made.copy())); made.update(b'more'); one |= one.copy()\n"
+                "assert made.intdigest() == hashers.spooky(bytes(5000) + 2000 * b'more') and b'a' in one and type(made) is hashers.Hash")
+        run = (f"import sys, threading, {name} as them; run = getattr(them, 'exec', None) or them.run_string; code = {code!r}; exec(code)\n"
+               f"import hashers; kept = hashers.new('djb2', b'a')\n"
+               "ids = [them.create() for _ in range(4)]; said = []\n"
+               "threads = [threading.Thread(target=lambda id=id: said.append(run(id, code))) for id in ids]\n"
+               "[it.start() for it in threads]; [it.join() for it in threads]; [them.destroy(id) for id in ids]\n"
+               "assert said == [None] * 4, said\n"
+               "exec(code); assert kept.copy().hexdigest() == hashers.new('djb2', b'a').hexdigest()")
+        done = subprocess.run([sys.executable, "-c", run], stdout=subprocess.PIPE, stderr=subprocess.PIPE, cwd=tempfile.gettempdir())
+        self.assertEqual((done.returncode, done.stdout, done.stderr.decode()), (0, b"", ""))
 
 
 class Manners(unittest.TestCase):
@@ -459,14 +491,147 @@ class Buffers(unittest.TestCase):
 
     def test_a_buffer_is_read_where_it_lies_and_let_go(self) -> None:
         data = bytearray(TEXT)
-        with _library.Held(data) as held:
-            self.assertEqual(held.address, ctypes.addressof(ctypes.c_char.from_buffer(data)))
-            self.assertRaises(BufferError, data.append, 0)
+        # a bytearray that is being read cannot grow
+        long, refused = bytearray(50_000_000), 0
+        thread = threading.Thread(target=hashers.oaat, args=(long,))
+        thread.start()
+        while thread.is_alive():
+            try:
+                long.append(0)
+                time.sleep(0.001)
+            except BufferError:
+                refused += 1
+        self.assertGreater(refused, 0)
         hashers.spooky(data)
         hashers.new("djb2", data).unwrite(data)
         hashers.hash_lines("djb2", data)
         self.assertRaises(ValueError, hashers.hash_column, "djb2", array("I", [0, 501]), data)
         data.append(0)
+
+    def test_nothing_is_held_behind_a_call(self) -> None:
+        # Whether a call answers or refuses, its arguments can be resized, and have no more references than before; memory is given back.
+        class Odd:
+            def __index__(self) -> int:
+                raise KeyError("odd")
+        long, short, few = bytearray(5000), bytearray(b"abcde"), bytearray(8)
+        offsets, falling, room = array("I", [0, 3, 5]), array("I", [3, 1, 2]), array("Q", [0, 0])
+        made, spooky, keeps, text, odd = hashers.new("djb2"), hashers.new("spooky"), hashers.new("xxh64"), "text", Odd()
+        one, two = hashers.Bloom(1000, 3), hashers.Bloom(1000, 4)
+        held: List[Any] = [long, short, few, offsets, falling, room, made, spooky, keeps, text, odd, one, two, one.buffer, hashers.Hash,
+                           hashers.Bloom, _hashers._revived]
+        state = cast(Any, spooky.__reduce__())[1][2]
+        scope = {**globals(), **locals()}
+        calls: List[Callable[[], object]] = [cast(Any, eval("lambda: " + it, scope)) for it in (
+            "hashers.djb2(long)", "hashers.djb2(text)", "hashers.djb2(short, hash=7)", "hashers.djb2(short, hash=odd)", "hashers.djb2()",
+            "hashers.djb2(short, short)", "hashers.djb2(short, x=short)", "hashers.djb2(short, data=short)", "hashers.spooky(short, hash=1)",
+            "hashers.djb2(memoryview(short)[::2])", "hashers.new('djb2', long)", "hashers.new('DJB2', text)", "hashers.new(text)",
+            "hashers.new(long)", "hashers.new('POLY61', long, key=7)", "hashers.new('spooky', long, seeds=(1, 2))",
+            "hashers.new('spooky', long, seeds=(1, odd))",
+            "hashers.new('spooky', long, seeds=text)", "hashers.new('spooky', text)", "hashers.new('poly61', long, key=odd)",
+            "hashers.new('poly61', long, key=7)", "hashers.new('djb2', long, key=7)", "hashers.new('djb2', long, hash=odd)", "hashers.Hash()",
+            "made.update(long)", "made.update(text)", "made.unwrite(long)", "spooky.unwrite(long)", "spooky.update(long)", "made.words()",
+            "spooky.words()", "spooky.copy()", "copy.deepcopy(made)", "pickle.loads(pickle.dumps(spooky))", "spooky.reset()", "repr(made)",
+            "hashers.new('xxh64', long).copy()", "hashers.new('xxh3', text)", "keeps.update(long) or keeps.reset()", "keeps.unwrite(long)",
+            "pickle.loads(pickle.dumps(hashers.new('siphash24', long)))", "_hashers._revived('xxh32', (1, 2), state).hexdigest()",
+            "made.hexdigest()", "(made.name, made.digest_size, made.block_size)", "_hashers._revived(text, (1, 2), state)",
+            "_hashers._revived('spooky', (1, 2), state)", "_hashers._revived('djb2', (1, 2), state)", "_hashers._revived(text)",
+            "hashers.spooky128(long, 1, 2)", "hashers.spooky128(long, odd)", "hashers.spooky128_v1(text)", "hashers.poly61(long, 1)",
+            "hashers.poly61(long, odd)", "hashers.poly61_pair(long, 1, odd)", "hashers.poly61_pair(long, 1, 2)",
+            "hashers.poly61_state(long, 1)", "hashers.poly61_state(few, 1)", "hashers.poly61_combine(1, 2, 3, odd)",
+            "hashers.combine('crc32', 1, 2, odd)", "hashers.combine('djb2', 1, 2, 3)", "hashers.crc32_ending(1, odd)",
+            "hashers.hash_lines('djb2', long)", "hashers.hash_lines(text, long)", "hashers.hash_lines('djb2', text)",
+            "_hashers._lines(1, room, room)", "_hashers._lines(99, short, room)", "_hashers._lines(1, short, short)",
+            "_hashers._lines(1, short, bytes(8))", "hashers.hash_column('djb2', offsets, short, room)",
+            "hashers.hash_column('djb2', falling, short, room)", "hashers.hash_column('djb2', offsets, short, bytes(16))",
+            "_hashers._column(1, 32, offsets, room, room)", "_hashers._column(1, 64, short, short, room)",
+            "_hashers._column(1, 32, text, short, room)", "_hashers._column(99, 32, offsets, short, room)",
+            "hashers.Bloom(1000, 3)", "hashers.Bloom(0, 3)", "hashers.Bloom(10, odd)", "hashers.Bloom(10, 3, hashes=text)",
+            "hashers.Bloom(10, 3, buffer=few)", "hashers.Bloom(10, 3, buffer=short)", "hashers.Bloom(10, 3, buffer=text)", "one.add(long)",
+            "one.add(text)", "one.add(one.buffer)", "long in one", "text in one", "_hashers._unite(one, two)", "_hashers._unite(one, one)",
+            "_hashers._unite(one, text)", "one | two", "one | one", "one.add_lines(long)", "one.add_lines(one.buffer)",
+            "one.add_lines(text)", "one.add_column(offsets, short)", "one.add_column(falling, short)", "one.add_column(offsets, one.buffer)",
+            "one.add_column(offsets, text)", "one._add_column(64, offsets, short)", "one.found(offsets, short)", "one.found(falling, short)",
+            "one.found(text, short)", "one._found(64, offsets, text)", "len(one)", "bool(one)", "pickle.loads(pickle.dumps(one))")]
+
+        def often(call: Callable[[], object], times: int) -> None:
+            for _ in range(times):
+                with contextlib.suppress(TypeError, ValueError, BufferError, KeyError):
+                    call()
+            gc.collect()
+
+        # what a few calls keep for the next ones is not of interest
+        tracemalloc.start()
+        self.addCleanup(tracemalloc.stop)
+        for number, call in enumerate(calls):
+            before, memory = [sys.getrefcount(it) for it in held], []
+            often(call, 200)
+            for _ in range(4):
+                often(call, 300)
+                memory.append(tracemalloc.get_traced_memory()[0])
+            self.assertLess(min(after - first for first, after in zip(memory, memory[1:])), 8000, number)
+            for it, count in zip(held, before):
+                self.assertLess(abs(sys.getrefcount(it) - count), 50, number)
+            for it in (long, short, few, cast(bytearray, one.buffer)):
+                it.append(0)
+                it.pop()
+            for many in (offsets, falling, room):
+                many.append(0)
+                many.pop()
+
+    def test_want_of_memory(self) -> None:
+        # Each request for memory of a call is refused in turn: it raises MemoryError, or does without, and the next call is as ever.
+        try:
+            own: Any = importlib.import_module("_testcapi")
+        except ImportError:
+            self.skipTest("this Python has not CPython's own tests")
+        long, offsets, one = bytes(5000), array("I", [0, 3, 5]), hashers.Bloom(1000, 3)
+        keeps, spooky = hashers.new("xxh64"), hashers.new("spooky")
+        state = cast(Any, spooky.__reduce__())[1]
+        calls: List[Callable[[], object]] = [
+            lambda: hashers.djb2(long), lambda: hashers.new("DJB2", long), lambda: hashers.new("spooky", long, seeds=(TOP, TOP)),
+            lambda: hashers.new("xxh3", long), lambda: hashers.new("poly61", long, key=TOP), lambda: keeps.update(long), keeps.copy,
+            spooky.copy, keeps.__reduce__, spooky.intdigest, spooky.hexdigest, spooky.digest, spooky.words, lambda: _hashers._revived(*state),
+            lambda: hashers.Bloom(1000, 3), lambda: one.add(b"a"), lambda: one.add_lines(long), lambda: one.add_column(offsets, b"abcde"),
+            lambda: one.found(offsets, b"abcde"), lambda: one | one, lambda: hashers.hash_column("djb2", offsets, b"abcde"),
+            lambda: hashers.hash_lines("djb2", long), lambda: hashers.combine("crc32", TOP, 2, 3), lambda: hashers.crc32_ending(1, 2)]
+        refused = 0
+        for call in calls:
+            for number in range(40):
+                own.set_nomemory(number, number + 1)
+                try:
+                    call()
+                except MemoryError:
+                    refused += 1
+                finally:
+                    own.remove_mem_hooks()
+            call()
+        self.assertGreater(refused, 60)
+        kept = hashers.new("xxh64", bytes(len(cast(Any, keeps.__reduce__())[1][2])))
+        self.assertEqual(keeps.hexdigest(), kept.hexdigest())
+
+    def test_a_filter_whose_buffer_became_read_only(self) -> None:
+        # An array of numpy can become so; of Python's own objects none can, so the field is changed by which a view says that it is.
+        view = memoryview(bytearray(128))
+        other, size = view.toreadonly(), memoryview.__basicsize__ // 4
+        made = hashers.Bloom(1000, 3, buffer=view)
+        fields, others = ((ctypes.c_int * size).from_address(id(it)) for it in (view, other))
+        field, = (i for i in range(4, size) if (fields[i], others[i]) == (0, 1))
+        fields[field] = 1
+        self.assertTrue(view.readonly)
+        self.assertRaises(BufferError, made.add, b"a")
+        self.assertRaises(BufferError, made.add_lines, b"a")
+        self.assertRaises(BufferError, made.add_column, array("I", [0, 1]), b"a")
+        self.assertRaises(BufferError, made.update, hashers.Bloom(1000, 3))
+        self.assertNotIn(b"a", made)
+        fields[field] = 0
+        self.assertFalse(made.add(b"a"))
+        self.assertIn(b"a", made)
+
+    def test_a_filter_whose_buffer_shrank(self) -> None:
+        made = hashers.Bloom(1000, 3)
+        cast(bytearray, made.buffer).pop()
+        for call in (lambda: made.add(b"a"), lambda: b"a" in made, lambda: len(made)):
+            self.assertRaises(ValueError, call)
 
     def test_other_threads_run_during_a_call(self) -> None:
         data, turns, spans = bytes(200_000_000), 0, []
@@ -483,20 +648,38 @@ class Buffers(unittest.TestCase):
         self.assertGreater(turns, 10, f"a call of {spans[0]} seconds")
 
     def test_threads_that_update_one_hash(self) -> None:
-        part = bytes(5_000_000)
-
-        def updated(made: hashers.Hash, times: int) -> hashers.Hash:
+        def updated(made: hashers.Hash, part: bytes, times: int) -> hashers.Hash:
             for _ in range(times):
                 made.update(part)
+                made.intdigest()
             return made
-        for name in ("spooky", "spooky128", "fxhash"):
-            made = hashers.new(name)
-            threads = [threading.Thread(target=updated, args=(made, 20)) for _ in range(4)]
+        for name, length in (("spooky", 5_000_000), ("spooky128", 5_000_000), ("fxhash", 5_000_000), ("xxh64", 200_000)):
+            made, part = hashers.new(name), bytes(length)
+            threads = [threading.Thread(target=updated, args=(made, part, 20)) for _ in range(4)]
             for thread in threads:
                 thread.start()
             for thread in threads:
                 thread.join()
-            self.assertEqual(made.hexdigest(), updated(hashers.new(name), 80).hexdigest())
+            self.assertEqual(made.hexdigest(), updated(hashers.new(name), part, 80).hexdigest())
+
+    def test_a_reset_while_another_thread_updates(self) -> None:
+        # it comes before an update or behind, so what is left is the hash of some of the last parts
+        part, made, whole = bytes(range(256)) * 20_000, hashers.new("spooky"), hashers.new("spooky")
+        wanted = {whole.intdigest()}
+        for _ in range(20):
+            whole.update(part)
+            wanted.add(whole.intdigest())
+
+        def updated() -> None:
+            for _ in range(20):
+                made.update(part)
+        thread = threading.Thread(target=updated)
+        thread.start()
+        while thread.is_alive():
+            time.sleep(0.0002)
+            made.reset()
+            self.assertIn(made.intdigest(), wanted)
+        self.assertIn(made.intdigest(), wanted)
 
 
 class ManyTexts(unittest.TestCase):
@@ -508,6 +691,7 @@ class ManyTexts(unittest.TestCase):
                 self.assertEqual(list(hashers.hash_lines(name, bytearray(data))), [getattr(hashers, name)(it) for it in lines], (name, data))
         self.assertRaises(ValueError, hashers.hash_lines, "md5", b"")
         self.assertRaises(TypeError, hashers.hash_lines, "djb2", "text")
+        self.assertRaises(BufferError, _hashers._lines, 1, b"a", bytes(8))
 
     def test_columns(self) -> None:
         places = [0, 0, 3, 100, 500]
@@ -558,6 +742,59 @@ class Filters(unittest.TestCase):
             one.update(two)
             one.update(one)
             self.assertTrue(all(key in one for key in keys))
+
+    def test_for_keys(self) -> None:
+        for count, rate, bits, probes in ((1000, 0.01, 9586, 7), (10_000, 0.001, 143776, 10), (1, 0.9, 1, 1), (3, 0.5, 5, 1)):
+            made = hashers.Bloom.for_keys(count, rate)
+            self.assertEqual((made.bits, made.probes, made.hashes), (bits, probes, "fnv1a64_lookup3"))
+        made = hashers.Bloom.for_keys(20_000, hashes="spooky_lookup3", buffer=bytearray(23968))
+        self.assertEqual((made.bits, made.probes, made.hashes), (191702, 7, "spooky_lookup3"))
+        for number in range(20_000):
+            made.add(b"%d" % number)
+        self.assertLess(abs(sum(b"other %d" % number in made for number in range(20_000)) - 200), 60)
+        wrong: List[Tuple[int, float]] = [(0, 0.1), (-1, 0.1), (1, 0), (1, 1), (1, -0.1), (1, float("nan")), (1 << 64, 0.01)]
+        for count, rate in wrong:
+            self.assertRaises(ValueError, hashers.Bloom.for_keys, count, rate)
+        self.assertRaises(TypeError, hashers.Bloom.for_keys, 1.5)
+
+    def test_many_keys(self) -> None:
+        texts = [b"", b"a", b"key", b"", b"a longer key " * 500, b"key"]
+        places = [sum(map(len, texts[:i])) for i in range(len(texts) + 1)]
+        for hashes in ("fnv1a64_lookup3", "spooky_lookup3"):
+            for offsets in (array("I", places), array("q", places)):
+                one, two = (hashers.Bloom(10_000, 7, hashes=hashes) for _ in range(2))
+                self.assertEqual(two.found(offsets, b"".join(texts)), bytes(6))
+                self.assertEqual([two.add(text) for text in texts].count(False), 4)
+                self.assertEqual(one.add_column(offsets, bytearray(b"".join(texts))), 4)
+                self.assertEqual((one.buffer, one.add_column(offsets, b"".join(texts))), (two.buffer, 0))
+                self.assertEqual(one.found(offsets, b"".join(texts)), bytes([1] * 6))
+                self.assertEqual(one.found(array("Q", [0, 2, 4, 4]), b"akey"), bytes([0, 0, 1]))
+            for data in (b"", b"\n", b"a", b"a\n", b"a\n\nb\na", b"\n\n", TEXT, b"a\n" + bytes(5000)):
+                lines = data.split(b"\n")
+                one, two = (hashers.Bloom(10_000, 7, hashes=hashes) for _ in range(2))
+                new = [two.add(line) for line in (lines if lines[-1] else lines[:-1])].count(False)
+                self.assertEqual((one.add_lines(data), one.buffer), (new, two.buffer), data)
+        self.assertEqual((one.add_column(array("I", [7]), TEXT), one.found(array("I", [7]), TEXT)), (0, b""))
+
+    def test_many_keys_that_are_refused(self) -> None:
+        made = hashers.Bloom(1000, 3)
+        wrong: List[Any] = [array("I", [0, 2, 1]), array("I", [1, 0, 1]), array("Q", [0, 501]), array("I", [501]), array("i", [0, -1, 2]),
+                            array("q", [-1, 1]), array("Q", [])]
+        for offsets in wrong:
+            for call in (made.add_column, made.found):
+                self.assertRaises(ValueError, call, offsets, TEXT)
+        others: List[Any] = [array("d", [0, 1]), b"12345678", [0, 1]]
+        for offsets in others:
+            self.assertRaises(TypeError, made.add_column, offsets, TEXT)
+            self.assertRaises(TypeError, made.found, offsets, TEXT)
+        self.assertRaises(TypeError, made.add_lines, "text")
+        self.assertRaises(TypeError, made.add_column, array("I", [0]), "text")
+        self.assertRaises(ValueError, made.add_lines, made.buffer)
+        self.assertRaises(ValueError, made.add_column, array("I", [0, 128]), made.buffer)
+        self.assertRaises(ValueError, made.add_column, memoryview(cast(bytearray, made.buffer)).cast("Q"), TEXT)
+        self.assertFalse(any(cast(bytearray, made.buffer)))
+        # a filter may be asked for its own bytes
+        self.assertEqual(made.found(array("I", [0, 128]), made.buffer), b"\0")
 
     def test_copies(self) -> None:
         ways: List[Callable[[hashers.Bloom], hashers.Bloom]] = [lambda made: made.copy(), copy.copy, copy.deepcopy, lambda made: made | made]
@@ -610,11 +847,21 @@ class Filters(unittest.TestCase):
             mapped.write(words.tobytes())
             self.assertIn(b"a", hashers.Bloom(128, 3, buffer=mapped))
 
+    def test_a_filter_that_its_buffer_knows(self) -> None:
+        class Known(bytearray):
+            by: hashers.Bloom
+        words = Known(128)
+        words.by = hashers.Bloom(1000, 3, buffer=words)
+        gone = weakref.ref(words)
+        del words
+        gc.collect()
+        self.assertIsNone(gone())
+
     def test_what_is_refused(self) -> None:
         for bits, probes in ((0, 1), (1, 0), (1, 1 << 32), (-1, 1), (1 << 64, 1)):
             self.assertRaises(ValueError, hashers.Bloom, bits, probes)
         self.assertRaises(ValueError, hashers.Bloom, 64, 1, hashes="djb2")
-        for buffer in (bytearray(8), bytearray(24), memoryview(bytearray(17))[1:]):
+        for buffer in (bytearray(8), bytearray(17), bytearray(24), memoryview(bytearray(17))[1:]):
             self.assertRaises(ValueError, hashers.Bloom, 128, 1, buffer=buffer)
         self.assertRaises(BufferError, hashers.Bloom, 128, 1, buffer=bytes(16))
         made = hashers.Bloom(128, 1)
