@@ -47,6 +47,8 @@ static const struct kind {
 #define UNDONE(call, cuts, bits) {NAME(call), call, call##_write, call##_unwrite, cuts, UINT##bits##_MAX},
 #define WRITTEN(call, cuts, bits) {NAME(call), call, call##_write, NULL, cuts, UINT64_MAX},
 #define WHOLE(call, cuts, bits) {NAME(call), call, NULL, NULL, cuts, UINT64_MAX},
+#define SEEDED WHOLE
+#define KEYED WHOLE
 #include "hashes.inc"
 };
 enum { KINDS = sizeof kinds / sizeof *kinds };

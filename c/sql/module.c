@@ -23,10 +23,14 @@ PG_MODULE_MAGIC;
     }
 
 #define UNDONE WRITTEN
+#define SEEDED WHOLE
+#define KEYED WHOLE
 #include "hashes.inc"
 #undef UNDONE
 #undef WRITTEN
 #undef WHOLE
+#undef SEEDED
+#undef KEYED
 
 // Of each hash, by its number, whether it goes on from a number, and whether cuts show.
 static const struct {
@@ -35,6 +39,8 @@ static const struct {
 #define UNDONE(call, cuts, bits) {true, cuts},
 #define WRITTEN UNDONE
 #define WHOLE(call, cuts, bits) {false, cuts},
+#define SEEDED WHOLE
+#define KEYED WHOLE
 #include "hashes.inc"
 };
 

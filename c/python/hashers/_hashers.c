@@ -100,6 +100,16 @@ static int word(PyObject *from, uint64_t *to) {
     return *to == UINT64_MAX && PyErr_Occurred() ? -1 : 0;
 }
 
+// A key of 16 bytes, as two numbers whose low bytes come first.
+static int key_of(PyObject *from, uint64_t *to) {
+    held key;
+    if (hold(from, &key) < 0) return -1;
+    int is = key.n == 16 ? 0 : refuse(PyExc_ValueError, "a key of SipHash has 16 bytes");
+    for (int i = 15; is == 0 && i >= 0; i--) to[i / 8] = to[i / 8] << 8 | (unsigned char)key.at[i];
+    drop(&key);
+    return is;
+}
+
 // Those of `count` that are given.
 static int words_of(PyObject *const *from, int count, uint64_t *to) {
     for (int i = 0; i < count; i++)
@@ -123,7 +133,7 @@ static PyObject *none(void) {
 typedef struct {
     const char *name;
     int plain, wanted;
-    const char *names[7];
+    const char *names[8];
 } form;
 
 static int taken(const form *form, PyObject *const *args, Py_ssize_t count, PyObject *named, PyObject **into) {
@@ -175,22 +185,29 @@ typedef struct {
 #define UNDONE(call, cuts, bits) {NAME(call), bits, call, call##_write, call##_unwrite},
 #define WRITTEN(call, cuts, bits) {NAME(call), bits, call, call##_write, NULL},
 #define WHOLE(call, cuts, bits) {NAME(call), bits, call, NULL, NULL},
+#define SEEDED WHOLE
+#define KEYED WHOLE
 static const row rows[] = {
 #include "hashes.inc"
     {"spooky128", 128, NULL, NULL, NULL},
+    {"murmur3_128", 128, NULL, NULL, NULL},
+    {"xxh128", 128, NULL, NULL, NULL},
     {"poly61", 64, NULL, NULL, NULL},
 };
 #undef UNDONE
 #undef WRITTEN
 #undef WHOLE
-enum { SPOOKY128 = HASHERS_KINDS, POLY61, ROWS };
+#undef SEEDED
+#undef KEYED
+enum { SPOOKY128 = HASHERS_KINDS, MURMUR3_128, XXH128, POLY61, ROWS };
 _Static_assert(sizeof rows / sizeof *rows == ROWS, "each hash has a row");
 
 // How many bytes a hash takes at a time, where it is not one.
 static const unsigned char blocks[ROWS] = {
     [HASHERS_LOOKUP3] = 12, [HASHERS_SPOOKY] = 96, [HASHERS_SPOOKY_V1] = 96, [SPOOKY128] = 96, [HASHERS_FXHASH] = 8,
     [HASHERS_FXHASH32] = 4, [HASHERS_FXHASH64] = 8, [POLY61] = 7, [HASHERS_XXH32] = 16, [HASHERS_XXH64] = 32,
-    [HASHERS_MURMUR3_32] = 4, [HASHERS_MURMUR3] = 16, [HASHERS_SIPHASH13] = 8, [HASHERS_SIPHASH24] = 8, [HASHERS_XXH3] = 64};
+    [HASHERS_MURMUR3_32] = 4, [HASHERS_MURMUR3] = 16, [HASHERS_SIPHASH13] = 8, [HASHERS_SIPHASH24] = 8, [HASHERS_XXH3] = 64,
+    [MURMUR3_128] = 16, [XXH128] = 64};
 
 static combine_call *const laws[ROWS] = {
     [HASHERS_SDBM] = hashers_sdbm_combine, [HASHERS_LOSELOSE] = hashers_loselose_combine,
@@ -198,21 +215,62 @@ static combine_call *const laws[ROWS] = {
 
 static size_t size_of(const row *row) { return row->bits ? (row->bits + 7) / 8 : 8; }
 
+// The hashes by the block: of a whole text under a seed or a key, and of one in parts.
+typedef struct {
+    hashers_words (*whole)(const void *, size_t, const uint64_t *);
+    hashers_block_state (*begin)(const uint64_t *);
+    void (*write)(hashers_block_state *, const void *, size_t);
+    hashers_words (*finish)(const hashers_block_state *);
+} by_block;
+
+static hashers_words one(uint64_t word) { return (hashers_words){word, 0}; }
+static hashers_words two(hashers_words words) { return words; }
+
+#define BY_BLOCK(x, of_text, words, ...)                                                                                    \
+    static hashers_words x##_whole(const void *at, size_t n, const uint64_t *from) { return words(of_text(at, n, __VA_ARGS__)); } \
+    static hashers_block_state x##_begun(const uint64_t *from) { return hashers_##x##_begin(__VA_ARGS__); }                  \
+    static hashers_words x##_finished(const hashers_block_state *state) { return words(hashers_##x##_finish(state)); }
+BY_BLOCK(xxh32, hashers_xxh32_seeded, one, from[0])
+BY_BLOCK(xxh64, hashers_xxh64_seeded, one, from[0])
+BY_BLOCK(murmur3_32, hashers_murmur3_32_seeded, one, from[0])
+BY_BLOCK(murmur3, hashers_murmur3_128, two, from[0])
+BY_BLOCK(siphash13, hashers_siphash13_keyed, one, from[0], from[1])
+BY_BLOCK(siphash24, hashers_siphash24_keyed, one, from[0], from[1])
+#undef BY_BLOCK
+
+static hashers_words xxh3_whole(const void *at, size_t n, const uint64_t *from) { return one(hashers_xxh3_seeded(at, n, from[0])); }
+static hashers_words xxh128_whole(const void *at, size_t n, const uint64_t *from) { return hashers_xxh128(at, n, from[0]); }
+
+#define BY_BLOCK(x) {x##_whole, x##_begun, hashers_##x##_write, x##_finished}
+static const by_block seeded[ROWS] = {
+    [HASHERS_XXH32] = BY_BLOCK(xxh32), [HASHERS_XXH64] = BY_BLOCK(xxh64), [HASHERS_MURMUR3_32] = BY_BLOCK(murmur3_32),
+    [HASHERS_MURMUR3] = BY_BLOCK(murmur3), [MURMUR3_128] = BY_BLOCK(murmur3), [HASHERS_SIPHASH13] = BY_BLOCK(siphash13),
+    [HASHERS_SIPHASH24] = BY_BLOCK(siphash24), [HASHERS_XXH3] = {.whole = xxh3_whole}, [XXH128] = {.whole = xxh128_whole}};
+#undef BY_BLOCK
+
+static const by_block *seeded_by(const row *row) { return &seeded[row - rows]; }
+static int takes_key(const row *row) { return row == &rows[HASHERS_SIPHASH13] || row == &rows[HASHERS_SIPHASH24]; }
+
+// The seed of a hash, of 32 bits where it has 32, or its key.
+static int seed_of(const row *row, PyObject *given, uint64_t *to) {
+    if (takes_key(row)) return key_of(given, to);
+    if (word(given, to) < 0) return -1;
+    return row->bits > 32 || !(*to >> 32) ? 0 : refuse(PyExc_ValueError, "a seed of this hash is below 2**32");
+}
+
 // What a hash keeps of a text that comes in parts.
 typedef enum {
     NUMBER, // the hash so far
     PLACE,  // a hashers_poly61_place
     STATE,  // a hashers_spooky_state
-    TEXT    // the text, where the library hashes whole texts alone
+    BLOCK,  // a hashers_block_state
+    XXH3    // a hashers_xxh3_place
 } kept;
 
 static kept kept_of(const row *row) {
     if (row->write) return NUMBER;
-    switch (row - rows) {
-    case POLY61: return PLACE;
-    case HASHERS_SPOOKY: case HASHERS_SPOOKY_V1: case SPOOKY128: return STATE;
-    default: return TEXT;
-    }
+    if (seeded_by(row)->whole) return seeded_by(row)->begin ? BLOCK : XXH3;
+    return row == &rows[POLY61] ? PLACE : STATE;
 }
 
 // What an interpreter has of its own.
@@ -251,10 +309,26 @@ static int goes_on(const row *row) {
     return -1;
 }
 
+// One call over a text, under the seed or the key that may be given.
+static PyObject *whole_seeded(const row *row, PyObject *const *args, Py_ssize_t count, PyObject *named) {
+    form form = {row->name, 1, 1, {"data", takes_key(row) ? "key" : "seed"}};
+    PyObject *into[2] = {NULL, NULL};
+    uint64_t from[2] = {0, 0};
+    hashers_words hash;
+    held data;
+    if (taken(&form, args, count, named, into) < 0) return NULL;
+    if ((is_given(into[1]) && seed_of(row, into[1], from) < 0) || hold(into[0], &data) < 0) return NULL;
+    OVER(data.n, hash = seeded_by(row)->whole(data.at, data.n, from));
+    drop(&data);
+    return number(hash.first);
+}
+
 static PyObject *whole(const row *row, PyObject *const *args, Py_ssize_t count, PyObject *named) {
     PyObject *into[2] = {NULL, NULL};
     if (count == 1 && !named) {
         into[0] = args[0];
+    } else if (seeded_by(row)->whole) {
+        return whole_seeded(row, args, count, named);
     } else {
         form form = {row->name, 1, 1, {"data", "hash"}};
         if (taken(&form, args, count, named, into) < 0) return NULL;
@@ -271,6 +345,8 @@ static PyObject *whole(const row *row, PyObject *const *args, Py_ssize_t count, 
 // One call for each hash, since each has a name of its own in Python.
 #define WRITTEN UNDONE // and so for what follows
 #define WHOLE UNDONE
+#define SEEDED UNDONE
+#define KEYED UNDONE
 enum {
 #define UNDONE(call, cuts, bits) call##_row,
 #include "hashes.inc"
@@ -284,11 +360,6 @@ enum {
 // ---- a text in parts
 
 typedef struct {
-    char *at;
-    size_t n, room;
-} text;
-
-typedef struct {
     PyObject_HEAD
     const row *row;
     PyThread_type_lock lock; // from the first call over many bytes on; before, the GIL is enough
@@ -296,8 +367,10 @@ typedef struct {
     union {
         uint64_t number;
         hashers_poly61_place place;
+        hashers_block_state block;
         hashers_spooky_state *state;
-        text text;
+        hashers_xxh3_place *xxh3;
+        void *apart;
     } now;
 } Hash;
 
@@ -318,79 +391,66 @@ static void begin(Hash *self) {
     case NUMBER: self->now.number = self->start[0]; return;
     case PLACE: self->now.place = hashers_poly61_begin(self->start[0]); return;
     case STATE: *self->now.state = hashers_spooky_begin(self->start[0], self->start[1]); return;
-    case TEXT: self->now.text.n = 0; return;
+    case BLOCK: self->now.block = seeded_by(self->row)->begin(self->start); return;
+    case XXH3: *self->now.xxh3 = hashers_xxh3_begin(self->start[0]); return;
     }
 }
 
+// How many bytes a hash of that row keeps apart from itself.
+static size_t bytes_apart(const row *row) {
+    kept kept = kept_of(row);
+    return kept == STATE ? sizeof(hashers_spooky_state) : kept == XXH3 ? sizeof(hashers_xxh3_place) : 0;
+}
+
 static Hash *begun(PyTypeObject *type, const row *row, const uint64_t *start) {
-    hashers_spooky_state *state = NULL;
-    if (kept_of(row) == STATE && !(state = PyMem_Malloc(sizeof *state))) return (Hash *)PyErr_NoMemory();
+    size_t n = bytes_apart(row);
+    void *apart = NULL;
+    if (n && !(apart = PyMem_Malloc(n))) return (Hash *)PyErr_NoMemory();
     Hash *self = PyObject_New(Hash, type);
     if (!self) {
-        PyMem_Free(state);
+        PyMem_Free(apart);
         return NULL;
     }
     self->row = row, self->lock = NULL, self->start[0] = start[0], self->start[1] = start[1];
     memset(&self->now, 0, sizeof self->now);
-    if (state) self->now.state = state;
+    if (apart) self->now.apart = apart;
     begin(self);
     return self;
 }
 
 static void Hash_dealloc(Hash *self) {
     PyTypeObject *type = Py_TYPE((PyObject *)self);
-    if (kept_of(self->row) == STATE) PyMem_Free(self->now.state);
-    if (kept_of(self->row) == TEXT) PyMem_Free(self->now.text.at);
+    if (bytes_apart(self->row)) PyMem_Free(self->now.apart);
     if (self->lock) PyThread_free_lock(self->lock);
     PyObject_Free(self);
     Py_DECREF(type);
 }
 
-// Makes room for so many more bytes of a text that is kept.
-static int make_room(text *text, size_t more) {
-    if (more <= text->room - text->n) return 0;
-    size_t room = text->room + text->room / 2;
-    if (room < text->n + more) room = text->n + more;
-    char *at = PyMem_Realloc(text->at, room);
-    if (!at) {
-        PyErr_NoMemory();
-        return -1;
-    }
-    text->at = at, text->room = room;
-    return 0;
-}
-
 // Moves the hash on by the bytes; where it is a number, by that call.
 static void moved(Hash *self, write_call *on, const held *data) {
-    text *text = &self->now.text;
     switch (kept_of(self->row)) {
     case NUMBER: self->now.number = on(self->now.number, data->at, data->n); return;
     case PLACE: hashers_poly61_write(&self->now.place, data->at, data->n); return;
     case STATE: hashers_spooky_write(self->now.state, data->at, data->n); return;
-    case TEXT:
-        if (data->n) memcpy(text->at + text->n, data->at, data->n);
-        text->n += data->n;
-        return;
+    case BLOCK: seeded_by(self->row)->write(&self->now.block, data->at, data->n); return;
+    case XXH3: hashers_xxh3_write(self->now.xxh3, data->at, data->n); return;
     }
 }
 
 static int go(Hash *self, write_call *on, PyObject *from) {
     held data;
-    int done = 0, is_text = kept_of(self->row) == TEXT;
     if (hold(from, &data) < 0) return -1;
     // without a lock no other thread is at work on what is kept
-    if (!self->lock && data.n + (is_text ? self->now.text.n : 0) > LONG && !(self->lock = PyThread_allocate_lock())) {
+    if (!self->lock && data.n > LONG && !(self->lock = PyThread_allocate_lock())) {
         PyErr_NoMemory();
-        done = -1;
+        drop(&data);
+        return -1;
     }
-    if (done == 0) {
-        lock(self);
-        if (is_text) done = make_room(&self->now.text, data.n);
-        if (done == 0) OVER(data.n, moved(self, on, &data));
-        unlock(self);
-    }
+    lock(self);
+    OVER(data.n, moved(self, on, &data));
+    unlock(self);
     drop(&data);
-    return done;
+    return 0;
 }
 
 static PyObject *Hash_update(Hash *self, PyObject *data) { return go(self, self->row->write, data) < 0 ? NULL : none(); }
@@ -403,15 +463,18 @@ static PyObject *Hash_unwrite(Hash *self, PyObject *data) {
 // The hash so far; one of up to 64 bits is the first word.
 static hashers_words value(Hash *self) {
     hashers_words words = {0, 0};
+    const row *row = self->row;
     lock(self);
-    const text *text = &self->now.text;
-    switch (kept_of(self->row)) {
+    switch (kept_of(row)) {
     case NUMBER: words.first = self->now.number; break;
     case PLACE: words.first = hashers_poly61_finish(&self->now.place); break;
     case STATE:
-        words = self->row == &rows[HASHERS_SPOOKY_V1] ? hashers_spooky_finish_v1(self->now.state) : hashers_spooky_finish(self->now.state);
+        words = row == &rows[HASHERS_SPOOKY_V1] ? hashers_spooky_finish_v1(self->now.state) : hashers_spooky_finish(self->now.state);
         break;
-    case TEXT: OVER(self->lock ? text->n : 0, words.first = self->row->whole(text->at, text->n)); break;
+    case BLOCK: words = seeded_by(row)->finish(&self->now.block); break;
+    case XXH3:
+        words = row->bits > 64 ? hashers_xxh128_finish(self->now.xxh3) : one(hashers_xxh3_finish(self->now.xxh3));
+        break;
     }
     unlock(self);
     return words;
@@ -421,10 +484,11 @@ static void big_endian(uint64_t word, size_t n, unsigned char *bytes) {
     while (n--) bytes[n] = word, word >>= 8;
 }
 
-// The bytes of the digest, the high one first.
+// The bytes of the digest, the high one first. XXH3 of 128 bits has its low word first, and its digest the high one.
 static size_t bytes_of(Hash *self, unsigned char *bytes) {
     hashers_words words = value(self);
     size_t n = size_of(self->row), high = n > 8 ? 8 : n;
+    if (self->row == &rows[XXH128]) words = (hashers_words){words.second, words.first};
     big_endian(words.first, high, bytes);
     big_endian(words.second, n - high, bytes + high);
     return n;
@@ -453,7 +517,7 @@ static PyObject *Hash_hexdigest(Hash *self, PyObject *nothing) {
 }
 
 static PyObject *Hash_words(Hash *self, PyObject *nothing) {
-    if (kept_of(self->row) != STATE) return PyErr_Format(PyExc_ValueError, "%s has no 128 bits", self->row->name);
+    if (self->row->bits <= 64 && kept_of(self->row) != STATE) return PyErr_Format(PyExc_ValueError, "%s has no 128 bits", self->row->name);
     return pair(value(self));
 }
 
@@ -469,24 +533,20 @@ static void *kept_by(Hash *self, size_t *size) {
     switch (kept_of(self->row)) {
     case NUMBER: *size = sizeof self->now.number; return &self->now.number;
     case PLACE: *size = sizeof self->now.place; return &self->now.place;
-    case STATE: *size = sizeof *self->now.state; return self->now.state;
-    default: *size = self->now.text.n; return self->now.text.at;
+    case BLOCK: *size = sizeof self->now.block; return &self->now.block;
+    default: *size = bytes_apart(self->row); return self->now.apart;
     }
 }
 
 // Puts bytes that were kept in the place of its own; a ValueError where they are of another length.
 static int take(Hash *self, const void *bytes, size_t n) {
     size_t size;
-    if (kept_of(self->row) == TEXT) {
-        if (make_room(&self->now.text, n) < 0) return -1;
-        self->now.text.n = n;
-    }
     void *at = kept_by(self, &size);
     if (n != size) {
         PyErr_Format(PyExc_ValueError, "a state has %zu bytes, not %zu", size, n);
         return -1;
     }
-    if (n) memcpy(at, bytes, n);
+    memcpy(at, bytes, n);
     return 0;
 }
 
@@ -551,9 +611,9 @@ static PyMethodDef Hash_methods[] = {
      "update($self, data, /)\n--\n\nPuts more bytes behind. For fx and lookup3 the cut between two updates may show."},
     {"unwrite", (PyCFunction)Hash_unwrite, METH_O,
      "unwrite($self, data, /)\n--\n\nTakes the last bytes out again: from every state, update and unwrite of the same bytes lead back to it,\n"
-     "in either order. ValueError for lookup3, those of SpookyHash, null, passthrough, elf and those by the block, which cannot."},
+     "in either order. ValueError for lookup3, those of SpookyHash, null, passthrough, elf and those under a seed or a key, which cannot."},
     {"words", (PyCFunction)Hash_words, METH_NOARGS,
-     "words($self, /)\n--\n\nBoth words of the hash of 128 bits. ValueError but for those of SpookyHash."},
+     "words($self, /)\n--\n\nBoth words of the hash of 128 bits. ValueError but for those of SpookyHash, murmur3_128 and xxh128."},
     {"reset", (PyCFunction)Hash_reset, METH_NOARGS,
      "reset($self, /)\n--\n\nGoes back to where it began: to no bytes, under the seeds or from the hash that `new` was given."},
     {"copy", (PyCFunction)Hash_copy, METH_NOARGS, "copy($self, /)\n--\n\nA second hash of the same text, which goes on by itself."},
@@ -581,21 +641,22 @@ static PyType_Spec Hash_spec = {"hashers.Hash", sizeof(Hash), 0, Py_TPFLAGS_DEFA
 // ---- what begins a hash
 
 static const char new_doc[] =
-    "new($module, name, data=b'', *, hash=None, usedforsecurity=False, seeds=None, key=None)\n--\n\n"
+    "new($module, name, data=b'', *, hash=None, usedforsecurity=False, seeds=None, key=None, seed=None)\n--\n\n"
     "A hash of the data, to be updated. ValueError for an unknown name; `algorithms_available` has the names, and letters may be of\n"
-    "either case. Where `hash` is given, it goes on from there, and the data comes behind; those of SpookyHash cannot, nor can xxh32,\n"
-    "xxh64, xxh3, those of MurmurHash3 and of SipHash, which keep the text. SpookyHash alone takes seeds, two numbers below 2^64.\n"
-    "\"poly61\" takes a key, and none of the others does; it is not among `algorithms_available`, whose hashes are one for all. No hash\n"
-    "here is for security.";
-enum { NEW_NAME, NEW_DATA, NEW_HASH, NEW_SECURE, NEW_SEEDS, NEW_KEY };
+    "either case. Where `hash` is given, it goes on from there, and the data comes behind; those under seeds and keys cannot. SpookyHash\n"
+    "takes two `seeds`, those of xxHash and MurmurHash3 a `seed`, SipHash a `key` of 16 bytes, and \"poly61\" wants a key, a number; it is\n"
+    "not among `algorithms_available`, whose hashes are one for all. No hash here is for security.";
+enum { NEW_NAME, NEW_DATA, NEW_HASH, NEW_SECURE, NEW_SEEDS, NEW_KEY, NEW_SEED };
 
 // Why a hash of that row cannot begin so.
 static const char *refusal(const row *row, PyObject *const *given) {
     kept kept = kept_of(row);
+    int is_seeded = (kept == BLOCK || kept == XXH3) && !takes_key(row);
     if (kept == PLACE && !is_given(given[NEW_KEY])) return "poly61 wants a key";
     if (kept == PLACE && is_given(given[NEW_HASH])) return "poly61 takes a key alone";
-    if (kept != PLACE && is_given(given[NEW_KEY])) return "poly61 alone takes a key";
+    if (kept != PLACE && !takes_key(row) && is_given(given[NEW_KEY])) return "poly61 and SipHash alone take a key";
     if (kept != STATE && is_given(given[NEW_SEEDS])) return "those of SpookyHash alone take seeds";
+    if (!is_seeded && is_given(given[NEW_SEED])) return "those of xxHash and MurmurHash3 alone take a seed";
     return NULL;
 }
 
@@ -610,7 +671,8 @@ static int two_seeds(PyObject *given, uint64_t *to) {
 
 // Where a hash of that row begins: at a number, two seeds or a key.
 static int start_of(const row *row, PyObject *const *given, uint64_t *start) {
-    if (is_given(given[NEW_KEY])) return word(given[NEW_KEY], start);
+    if (is_given(given[NEW_SEED])) return seed_of(row, given[NEW_SEED], start);
+    if (is_given(given[NEW_KEY])) return takes_key(row) ? key_of(given[NEW_KEY], start) : word(given[NEW_KEY], start);
     if (is_given(given[NEW_SEEDS])) return two_seeds(given[NEW_SEEDS], start);
     if (!is_given(given[NEW_HASH])) {
         if (row->write) start[0] = row->whole(NULL, 0);
@@ -622,7 +684,7 @@ static int start_of(const row *row, PyObject *const *given, uint64_t *start) {
 }
 
 static PyObject *new(TAKES) {
-    TAKEN(given, {"new", 2, 1, {"name", "data", "hash", "usedforsecurity", "seeds", "key"}});
+    TAKEN(given, {"new", 2, 1, {"name", "data", "hash", "usedforsecurity", "seeds", "key", "seed"}});
     const row *row = row_of(module, given[NEW_NAME], 1);
     int is_secure = row && given[NEW_SECURE] ? PyObject_IsTrue(given[NEW_SECURE]) : 0;
     if (!row || is_secure < 0) return NULL;
@@ -658,6 +720,26 @@ static PyObject *spooky128(TAKES) {
 static PyObject *spooky128_v1(TAKES) {
     TAKEN(given, {"spooky128_v1", 3, 1, {"data", "seed1", "seed2"}});
     return spooky128_by(hashers_spooky128_v1, given);
+}
+
+static PyObject *two_words(const row *row, PyObject **given) {
+    uint64_t seed = 0;
+    hashers_words words;
+    held data;
+    if ((given[1] && word(given[1], &seed) < 0) || hold(given[0], &data) < 0) return NULL;
+    OVER(data.n, words = seeded_by(row)->whole(data.at, data.n, &seed));
+    drop(&data);
+    return pair(words);
+}
+
+static PyObject *murmur3_128(TAKES) {
+    TAKEN(given, {"murmur3_128", 2, 1, {"data", "seed"}});
+    return two_words(&rows[MURMUR3_128], given);
+}
+
+static PyObject *xxh128(TAKES) {
+    TAKEN(given, {"xxh128", 2, 1, {"data", "seed"}});
+    return two_words(&rows[XXH128], given);
 }
 
 static PyObject *poly61(TAKES) {
@@ -1047,16 +1129,23 @@ static PyType_Spec Bloom_spec = {
 // ---- the module
 
 #define CALL(name, doc) {#name, (PyCFunction)(void (*)(void))name, METH_FASTCALL | METH_KEYWORDS, doc}
-#define UNDONE(call, cuts, bits)                                                                                           \
-    {NAME(call), (PyCFunction)(void (*)(void))call##_of, METH_FASTCALL | METH_KEYWORDS,                                    \
-     &#call "($module, data, *, hash=None)\n--\n\nThe hash of the data, a number below 2^" #bits ". Where `hash` is given, " \
-            "it is the hash so far,\nand the data comes behind."[8]},
+#define ROW(call, more, bits, told)                                                 \
+    {NAME(call), (PyCFunction)(void (*)(void))call##_of, METH_FASTCALL | METH_KEYWORDS, \
+     &#call "($module, data, *, " more ")\n--\n\nThe hash of the data, a number below 2^" #bits told[8]},
+#define UNDONE(call, cuts, bits) \
+    ROW(call, "hash=None", bits, ". Where `hash` is given, it is the hash so far,\nand the data comes behind.")
+#undef SEEDED
+#undef KEYED
+#define SEEDED(call, cuts, bits) ROW(call, "seed=0", bits, ", under the seed.")
+#define KEYED(call, cuts, bits) ROW(call, "key=None", bits, ", under a key of 16 bytes. It is 0 if none is given.")
 static PyMethodDef functions[] = {
 #include "hashes.inc"
     CALL(new, new_doc),
     CALL(spooky128, "spooky128($module, data, seed1=0, seed2=0)\n--\n\nBoth words of SpookyHash of the data, under two seeds."),
     CALL(spooky128_v1, "spooky128_v1($module, data, seed1=0, seed2=0)\n--\n\nThe same by version 1, which leaves the length of a text below\n"
                        "192 bytes out."),
+    CALL(murmur3_128, "murmur3_128($module, data, seed=0)\n--\n\nBoth words of MurmurHash3_x64_128 of the data, under a seed."),
+    CALL(xxh128, "xxh128($module, data, seed=0)\n--\n\nXXH3 of 128 bits of the data, under a seed: the low word and the high one."),
     CALL(poly61, "poly61($module, data, key)\n--\n\nThe polynomial hash of the data at a key, which counts modulo 2^61 - 1. At most n / 7 + 2\n"
                  "of the 2^61 - 1 keys give two different texts of up to n bytes one hash."),
     CALL(poly61_pair, "poly61_pair($module, data, key1, key2)\n--\n\nThe same at two keys."),
