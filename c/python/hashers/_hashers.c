@@ -1,8 +1,8 @@
 // hashers._hashers: the calls of libhashers for Python. It finds the bytes of Python's objects, lets other threads run where there are many,
 // and calls the library, which computes. What is called once and not for each key is in Python, beside this file.
 //
-// It is built for the limited API of CPython 3.9. Nothing static changes, and what an interpreter has of its own is in the state of its
-// module, so interpreters do not share anything, and may have a GIL each.
+// It is built for the limited API of CPython 3.9, and for glibc 2.5: memmove stands in the place of memcpy, whose version is of 2.14. Nothing
+// static changes, and what an interpreter has of its own is in the state of its module, so interpreters share nothing, and may have a GIL each.
 #define PY_SSIZE_T_CLEAN
 #include <Python.h>
 #include <structmember.h>
@@ -368,7 +368,7 @@ static void moved(Hash *self, write_call *on, const held *data) {
     case PLACE: hashers_poly61_write(&self->now.place, data->at, data->n); return;
     case STATE: hashers_spooky_write(self->now.state, data->at, data->n); return;
     case TEXT:
-        if (data->n) memcpy(text->at + text->n, data->at, data->n);
+        if (data->n) memmove(text->at + text->n, data->at, data->n);
         text->n += data->n;
         return;
     }
@@ -418,7 +418,7 @@ static hashers_words value(Hash *self) {
 }
 
 static void big_endian(uint64_t word, size_t n, unsigned char *bytes) {
-    while (n--) bytes[n] = word, word >>= 8;
+    for (size_t i = 0; i < n; i++) bytes[i] = word >> 8 * (n - 1 - i);
 }
 
 // The bytes of the digest, the high one first.
@@ -486,7 +486,7 @@ static int take(Hash *self, const void *bytes, size_t n) {
         PyErr_Format(PyExc_ValueError, "a state has %zu bytes, not %zu", size, n);
         return -1;
     }
-    if (n) memcpy(at, bytes, n);
+    if (n) memmove(at, bytes, n);
     return 0;
 }
 
