@@ -38,9 +38,10 @@ from hashers import _hashers
 
 C = Path(__file__).resolve().parent.parent.parent
 HEADER = (C / "hashers.h").read_text(encoding="utf-8")
-# those that keep the text in Python, and their blocks
+# those under a seed or a key, and their blocks; and those of 128 bits
 BY_THE_BLOCK = {"xxh32": 16, "xxh64": 32, "murmur3_32": 4, "murmur3": 16, "siphash13": 8, "siphash24": 8, "xxh3": 64}
-NAMES = sorted(hashers.algorithms_available - {"spooky128"})
+WIDE = ("spooky128", "murmur3_128", "xxh128")
+NAMES = sorted(hashers.algorithms_available.difference(WIDE))
 # those to which cuts show
 CUT = ("lookup3", "fxhash", "fxhash32", "fxhash64")
 TEXT = bytes(i * 167 // 8 % 256 for i in range(500))
@@ -55,8 +56,9 @@ def declarations() -> Dict[str, Tuple[str, List[str]]]:
 
 
 def ending(end: str) -> List[str]:
-    """The names of hash functions that have a call with that end, by the header."""
-    return sorted(name[:-len(end)] for name in declarations() if name.endswith(end) and name[:-len(end)] in NAMES)
+    """The names of hash functions that have a call with that end for a number, by the header."""
+    return sorted(name[:-len(end)] for name, (result, _) in declarations().items()
+                  if name.endswith(end) and name[:-len(end)] in NAMES and result == "uint64_t")
 
 
 PRIME = (1 << 61) - 1
@@ -101,7 +103,7 @@ class AgainstTheHeader(unittest.TestCase):
                 return False
             return True
         self.assertEqual([name for name in NAMES if can(name)], ending("_unwrite"))
-        self.assertEqual(ending("_write"), [name for name in NAMES if name not in ("spooky_v1", *BY_THE_BLOCK)])
+        self.assertEqual(ending("_write"), [name for name in NAMES if name not in ("spooky", "spooky_v1", *BY_THE_BLOCK)])
 
     def test_which_can_be_combined(self) -> None:
         halves = TEXT[:100], TEXT[100:]
@@ -199,15 +201,46 @@ class Hashes(unittest.TestCase):
             self.assertEqual(made.hexdigest(), f"{first:016x}{second:016x}")
             self.assertEqual(made.intdigest(), first << 64 | second)
         self.assertEqual(hashers.new("spooky128", b"a", seeds=(1, TOP)).words(), hashers.spooky128(b"a", 1, TOP))
-        self.assertRaises(ValueError, hashers.hash_lines, "spooky128", b"")
-        self.assertRaises(ValueError, hashers.hash_column, "spooky128", array("I", [0]), b"")
+        self.assertEqual(hashers.new("xxh128").hexdigest(), "99aa06d3014798d86001c324468d497f")
+        for name in WIDE:
+            self.assertRaises(ValueError, hashers.hash_lines, name, b"")
+            self.assertRaises(ValueError, hashers.hash_column, name, array("I", [0]), b"")
+
+    def test_seeds_and_keys(self) -> None:
+        key = bytes(range(16))
+        self.assertEqual(hashers.siphash24(bytes(range(15)), key=key), 0xA129CA6149BE45E5)
+        self.assertEqual(hashers.murmur3_128(b"hello"), (0xCBD8A7B341BD9B02, 0x5B1E906A48AE1D19))
+        self.assertEqual((hashers.xxh64(b"", seed=0), hashers.xxh3(b"", seed=0)), (0xEF46DB3751D8E999, 0x2D06800538D394C2))
+        for name in BY_THE_BLOCK:
+            start: Dict[str, Any] = {"key": bytearray(key)} if name.startswith("sip") else {"seed": (1 << 32) - 1}
+            function = getattr(hashers, name)
+            self.assertNotEqual(function(TEXT, **start), function(TEXT))
+            for cut in (0, 1, 17, 240, 241, 500):
+                made = hashers.new(name, TEXT[:cut], **start)
+                made.update(TEXT[cut:])
+                self.assertEqual(made.intdigest(), function(TEXT, **start), (name, cut))
+        for name, whole in (("murmur3_128", hashers.murmur3_128), ("xxh128", hashers.xxh128)):
+            made = hashers.new(name, TEXT, seed=TOP)
+            self.assertEqual(made.words(), whole(TEXT, TOP))
+            self.assertEqual(len(made.digest()), 16)
+        self.assertEqual(hashers.xxh128(TEXT, TOP)[0], hashers.xxh3(TEXT, seed=TOP))
+
+    def test_seeds_and_keys_that_are_refused(self) -> None:
+        for name, start in (("xxh32", {"seed": 1 << 32}), ("murmur3_32", {"seed": -1}), ("xxh3", {"seed": 1 << 64}), ("djb2", {"seed": 0}),
+                            ("siphash13", {"seed": 0}), ("siphash13", {"key": bytes(15)}), ("xxh64", {"key": bytes(16)}),
+                            ("xxh64", {"seeds": (1, 2)})):
+            self.assertRaises(ValueError, hashers.new, name, b"", **cast(Any, start))
+        self.assertRaises(ValueError, hashers.xxh32, b"", seed=1 << 32)
+        self.assertRaises(ValueError, hashers.siphash24, b"", key=bytes(17))
+        self.assertRaises(TypeError, hashers.siphash24, b"", key=5)
+        self.assertRaises(TypeError, hashers.new, "siphash24", b"", key=5)
 
     def test_going_on_from_a_number(self) -> None:
         one, two = TEXT[:100], TEXT[100:]
         for name in NAMES:
             function = getattr(hashers, name)
             if name in ("spooky", "spooky_v1", *BY_THE_BLOCK):
-                self.assertRaises(ValueError, function, two, hash=function(one))
+                self.assertRaises(TypeError if name in BY_THE_BLOCK else ValueError, function, two, hash=function(one))
                 self.assertRaises(ValueError, hashers.new, name, hash=0)
                 self.assertRaises(ValueError, hashers.new(name, one).unwrite, one)
                 continue
@@ -330,7 +363,8 @@ class Copies(unittest.TestCase):
 
     def test_a_copy_keeps_where_it_began(self) -> None:
         starts: List[Tuple[str, Dict[str, Any]]] = [("djb2", {"hash": 7}), ("lookup3", {"hash": TOP}), ("spooky", {"seeds": (1, TOP)}),
-                                                    ("spooky128", {"seeds": (TOP, 2)})]
+                                                    ("spooky128", {"seeds": (TOP, 2)}), ("xxh64", {"seed": TOP}), ("xxh128", {"seed": 1}),
+                                                    ("siphash24", {"key": bytes(range(16))})]
         for name, start in starts:
             for way, copied in self.ways().items():
                 made = copied(hashers.new(name, TEXT, **start))
@@ -392,7 +426,8 @@ class Manners(unittest.TestCase):
     """A hash object's manners, as hashlib has them."""
 
     def test_block_sizes(self) -> None:
-        wanted = {"fxhash": 8, "fxhash32": 4, "fxhash64": 8, "lookup3": 12, "spooky": 96, "spooky_v1": 96, "spooky128": 96, **BY_THE_BLOCK}
+        wanted = {"fxhash": 8, "fxhash32": 4, "fxhash64": 8, "lookup3": 12, "spooky": 96, "spooky_v1": 96, "spooky128": 96, "murmur3_128": 16,
+                  "xxh128": 64, **BY_THE_BLOCK}
         for name in hashers.algorithms_available:
             self.assertEqual(hashers.new(name).block_size, wanted.get(name, 1))
             self.assertIn(name, repr(hashers.new(name)))
@@ -606,8 +641,7 @@ class Buffers(unittest.TestCase):
                     own.remove_mem_hooks()
             call()
         self.assertGreater(refused, 60)
-        kept = hashers.new("xxh64", bytes(len(cast(Any, keeps.__reduce__())[1][2])))
-        self.assertEqual(keeps.hexdigest(), kept.hexdigest())
+        self.assertIn(keeps.intdigest(), [hashers.xxh64(long * times) for times in range(42)])
 
     def test_a_filter_whose_buffer_became_read_only(self) -> None:
         # An array of numpy can become so; of Python's own objects none can, so the field is changed by which a view says that it is.
