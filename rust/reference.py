@@ -1,4 +1,4 @@
-"""The 29 hashes and poly61 from their definitions, in arithmetic on whole numbers: of a text, or of its pieces where cuts show. What
+"""The 29 hashes and those at keys from their definitions, in arithmetic on whole numbers: of a text, or of its pieces where cuts show. What
 rust/check holds the crate against; crc32 is zlib's."""
 import zlib
 
@@ -451,6 +451,13 @@ def poly61_state(key, text):
 
 def poly61_combine(key, state1, hash2, length2):
     return as_word(((state1 - 1) * pow(key, length2 // 7 + 2, PRIME) + hash2 % 2 ** 61) % PRIME)
+
+
+def map_key(multiplier, addend, text_key, text):
+    """The hash of a key of a map under NumberKeys: up to eight bytes are a number."""
+    if len(text) > 8:
+        return poly61(text_key, text)
+    return (multiplier * int.from_bytes(text, "little") + addend) % 2 ** 128 >> 64
 
 
 OF_TEXT = {

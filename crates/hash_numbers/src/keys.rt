@@ -6,6 +6,7 @@ ghost use Rattle.hash_numbers.specs.NumberState.{fresh_at};
 
 use crate::hasher::NumberHasher;
 use hash_keyed::keys::Poly61Keys;
+use std::collections::{HashMap, HashSet};
 use std::hash::BuildHasher;
 use std::io;
 use std::random::RandomSource;
@@ -66,6 +67,12 @@ impl BuildHasher for NumberKeys {
         }
     }
 }
+
+/// A map of std under the keys: `NumberMap::with_hasher(alloc, keys)` is an empty one.
+pub type NumberMap<K, V> = HashMap<K, V, NumberKeys>;
+
+/// A set of std under the keys.
+pub type NumberSet<K> = HashSet<K, NumberKeys>;
 
 /// The hash that a map under the keys has of a `u64`.
 #[inline(always)]

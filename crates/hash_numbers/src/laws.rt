@@ -86,7 +86,7 @@ pub fn few_multipliers_for_high_bits()
 {}
 
 /// The hash of a key of a map hangs on its bytes alone, in whatever pieces they are written.
-pub fn hash_of_pieces()
+pub fn pieces_do_not_show()
     ensures { (multiplier addend text_key : ℕ) (pieces : List (List ℕ)) → All IsText pieces
         → answer_of (fold after_write (fresh_at multiplier addend text_key) pieces)
         ≡ keyed_hash multiplier addend text_key (concat pieces) }

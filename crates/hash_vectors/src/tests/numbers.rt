@@ -1,9 +1,8 @@
 //! Numbers under keys: values that Python computed, std's maps and sets, and numbers that meet at a key that is known.
 use crate::tests::{all_hold, same};
-use hash_numbers::keys::{NumberKeys, hash_one_number, hash_one_number32};
+use hash_numbers::keys::{NumberKeys, NumberMap, NumberSet, hash_one_number, hash_one_number32};
 use hash_numbers::number::number_hash;
 use std::alloc::Global;
-use std::collections::{HashMap, HashSet};
 use std::hash::{BuildHasher, Hasher};
 use std::io;
 
@@ -118,9 +117,9 @@ fn keys_in_pieces(rt: HostRuntime) {
 
 /// What a map under the keys has of two numbers, how many numbers a set has, and what a map has of a word.
 fn mapped(alloc: Global, keys: NumberKeys) -> io::Result<[u64; 4]> {
-    let mut map = HashMap::with_hasher(alloc, keys);
-    let mut set = HashSet::with_hasher(alloc, keys);
-    let mut words = HashMap::with_hasher(alloc, keys);
+    let mut map = NumberMap::with_hasher(alloc, keys);
+    let mut set = NumberSet::with_hasher(alloc, keys);
+    let mut words = NumberMap::with_hasher(alloc, keys);
     for (place, number) in [17u64, 5, 17].iter().enumerate() {
         map.insert(*number, place as u64)?;
         set.insert(*number)?;
