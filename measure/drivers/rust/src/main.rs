@@ -153,20 +153,24 @@ fn lookup_and_insert<'a, K: Hash + Eq + Copy, S: BuildHasher + Clone + 'a>(keys:
     [Box::new(move || keys.iter().fold(0, |sum, key| sum ^ full[key] as u64)), Box::new(insert)]
 }
 
-/// A row of numbers as keys of std's map, under random keys but for fx: of each hash a lookup and an insert.
-fn numbers_of<K: Hash + Eq + Copy>(name: &str, keys: &[K]) {
-    let works: Vec<Work> = [
-        lookup_and_insert(keys, ours::numbers::NumberKeys::random()),
-        lookup_and_insert(keys, BuildHasherDefault::<fxhash::FxHasher64>::default()),
-        lookup_and_insert(keys, ahash::RandomState::new()),
-        lookup_and_insert(keys, RandomState::new()),
-        lookup_and_insert(keys, ours::keyed::Poly61Keys::random()),
-    ]
-    .into_iter()
-    .flatten()
-    .collect();
+/// A row of numbers or texts as keys of std's map, under random keys but for fx: of each hash a lookup and an insert. Each placement makes
+/// the maps in another order, since large ones are a fifth faster or slower by the pages of memory that they get.
+fn numbers_of<'a, K: Hash + Eq + Copy>(name: &str, keys: &'a [K]) {
+    let sides: [&dyn Fn() -> [Work<'a>; 2]; 5] = [
+        &|| lookup_and_insert(keys, ours::numbers::NumberKeys::random()),
+        &|| lookup_and_insert(keys, BuildHasherDefault::<fxhash::FxHasher64>::default()),
+        &|| lookup_and_insert(keys, ahash::RandomState::new()),
+        &|| lookup_and_insert(keys, RandomState::new()),
+        &|| lookup_and_insert(keys, ours::keyed::Poly61Keys::random()),
+    ];
+    let first = env!("MEASURE_RUST_BEHIND").parse::<usize>().unwrap() / 16 % sides.len();
+    let order: Vec<usize> = (0..sides.len()).map(|at| (first + at) % sides.len()).collect();
+    let works: Vec<Work> = order.iter().flat_map(|side| sides[*side]()).collect();
     let (runs, turns) = if keys.len() > 1000 { (1 + runs() / 8, 1) } else { (runs(), 20) };
-    row(name, &least_of(runs, &works, keys.len(), turns).chunks(2).map(<[f64]>::to_vec).collect::<Vec<_>>());
+    let times = least_of(runs, &works, keys.len(), turns);
+    let mut cells = vec![vec![]; sides.len()];
+    order.iter().zip(times.chunks(2)).for_each(|(side, cell)| cells[*side] = cell.to_vec());
+    row(name, &cells);
 }
 
 /// Numbers as keys. A million multiples of 2^32 are left out: under fx all have one place, so their map takes hours to fill.
@@ -180,6 +184,10 @@ fn numbers_as_keys() {
     numbers_of("1,000 random u32", &low(thousand));
     numbers_of("1,000,000 random u64", &million);
     numbers_of("1,000,000 random u32", &low(&million));
+    for letters in [7, 8, 16] {
+        let texts: Vec<String> = thousand.iter().map(|it| format!("{it:016x}")[..letters].to_string()).collect();
+        numbers_of(&format!("1,000 texts of {letters} letters"), &texts.iter().map(String::as_str).collect::<Vec<_>>());
+    }
 }
 
 /// The hashers of other crates beside the hash of that name: the same hash, and beside fx ahash, which is another one.
