@@ -6,7 +6,7 @@ RUST_CRATES = {
         "hash_rounds", "hash_laws", "hash_rules", "hash_writes", "hash_fx",
         "hash_jenkins", "jenkins_laws",
         "hash_blocks", "hash_murmur3", "hash_siphash", "hash_xxhash", "block_laws", "hash_xxh3",
-        "hash_bytes", "hash_crc", "hashers", "hash_more", "hash_keyed", "hash_names",
+        "hash_bytes", "hash_crc", "hashers", "hash_more", "hash_keyed", "hash_numbers", "hash_names",
         "streams", "text_set", "hash_lines", "hash_buckets", "hash_ring", "hash_cuts", "hash_bloom",
     ],
     "hashers-tools": [
@@ -24,6 +24,7 @@ PARTS = {
     "hashers-proved": {
         "hash_siphash": {"rounds", "siphash"},
         "hash_keyed": {"modular", "pair", "parts", "poly61", "words"},
+        "hash_numbers": {"hasher", "number"},
         "hash_names": {"reading", "table", "task", "wide"},
         "streams": {"fault", "tries"},
     },

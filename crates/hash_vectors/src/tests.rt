@@ -18,6 +18,7 @@ mod laws;
 mod lines;
 mod maps;
 mod murmur3;
+mod numbers;
 mod original;
 mod plain;
 mod poly61;

@@ -1,12 +1,13 @@
 //! Reads lines `NAME HEX,HEX,..`, and prints for each the hash after the pieces, by a hasher. On the way it asserts, from the same bytes:
 //! what the function of the name answers to a single piece; that `unwrite` undoes `write` and the reverse; that `unfinish` finds the state;
 //! that the generic functions of `laws` answer the same; and that combined hashes are those of the joined text. `NAME@NUMBER,..` is a
-//! function of the module `keyed`: at keys, or from a state, a hash and a length.
+//! function of the module `keyed`: at keys, or from a state, a hash and a length; or a seed of `xxh3`, or keys of `numbers`.
 use hashers_proved::blocks::*;
 use hashers_proved::jenkins::spooky_hash::{spooky, spooky_v1, SpookyHasher};
 use hashers_proved::keyed::*;
 use hashers_proved::laws::{self, HasherWrite, Piecewise, Streamed, Undo};
 use hashers_proved::more::{crc32::*, djb2_add::*, elf::*, fnv1::*, joaat::*};
+use hashers_proved::numbers::NumberKeys;
 use hashers_proved::xxh3::*;
 use hashers_proved::{fnv::*, fx_hash::*, jenkins::*, null::*, oz::*, pigeon::*};
 use std::hash::{BuildHasher, Hasher};
@@ -183,6 +184,23 @@ fn at_two_keys(first: u64, second: u64, pieces: &Pieces) -> String {
     format!("{},{}", pair.finish().0, pair.finish().1)
 }
 
+/// A key of a map in pieces, each in one write of its width, and of all its bytes.
+fn map_key(keys: NumberKeys, pieces: &Pieces) -> u64 {
+    let (mut h, mut again) = (keys.build_hasher(), keys.build_hasher());
+    for p in pieces {
+        match p[..] {
+            [a] => h.write_u8(a),
+            [a, b] => h.write_u16(u16::from_le_bytes([a, b])),
+            [a, b, c, d] => h.write_u32(u32::from_le_bytes([a, b, c, d])),
+            [_, _, _, _, _, _, _, _] => h.write_u64(u64::from_le_bytes(p[..].try_into().unwrap())),
+            _ => h.write(p),
+        }
+    }
+    again.write(&pieces.concat());
+    assert_eq!(again.finish(), h.finish());
+    h.finish()
+}
+
 fn keyed(name: &str, numbers: &[u64], p: &Pieces) -> String {
     match (name, numbers) {
         ("poly61", &[key]) => {
@@ -191,6 +209,10 @@ fn keyed(name: &str, numbers: &[u64], p: &Pieces) -> String {
         }
         ("xxh3", &[seed]) => under_a_seed(seed, p).0,
         ("xxh128", &[seed]) => under_a_seed(seed, p).1,
+        ("number_keys", &[m1, m0, a1, a0, key]) => {
+            let wide = |high, low| u128::from(high) << 64 | u128::from(low);
+            map_key(NumberKeys::with_keys(wide(m1, m0), wide(a1, a0), key), p).to_string()
+        }
         ("poly61_pair", &[first, second]) => at_two_keys(first, second, p),
         ("poly61_state", &[key]) => poly61_state(key, &p.concat()).map_or("None".to_string(), |it| it.to_string()),
         ("poly61_combine", &[key, state, hash, length]) => poly61_combine(key, state, hash, length).to_string(),

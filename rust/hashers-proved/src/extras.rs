@@ -11,6 +11,7 @@ use crate::hash_keyed::pair::Poly61Pair;
 use crate::hash_keyed::poly61::Poly61Hasher;
 use crate::hash_laws::traits::Undo;
 use crate::hash_more::elf::ElfHasher;
+use crate::hash_numbers::hasher::NumberHasher;
 use crate::hash_rounds::Turns;
 use crate::hash_rules::{ByteHasher, ByteRule, UndoRule};
 use crate::hash_writes::build::BuildFresh;
@@ -48,6 +49,7 @@ copies! {
     [] SpookyHasher;
     [] Poly61Hasher;
     [] Poly61Pair;
+    [] NumberHasher;
 }
 
 /// Equality and `Debug` by what `finish` answers.
@@ -173,6 +175,55 @@ impl BuildHasher for Poly61Keys {
     }
 }
 
+/// Hashers of numbers at one multiplier and addend, for std's maps and sets whose keys are numbers. A key of more than eight bytes has the hash
+/// `poly61`, at a key of its own. Take random ones where somebody else chooses the numbers; never take fixed ones there.
+#[derive(Clone, Copy)]
+pub struct NumberKeys {
+    multiplier: u128,
+    addend: u128,
+    text: Poly61Keys,
+}
+
+impl NumberKeys {
+    /// These keys: any numbers.
+    #[inline]
+    pub const fn with_keys(multiplier: u128, addend: u128, text_key: u64) -> NumberKeys {
+        NumberKeys { multiplier, addend, text: Poly61Keys::with_key(text_key) }
+    }
+
+    /// Keys from the randomness of std's `RandomState`. Each call has others.
+    #[cfg(feature = "std")]
+    pub fn random() -> NumberKeys {
+        let word = || u128::from(real_std::hash::RandomState::new().build_hasher().finish());
+        NumberKeys { multiplier: word() << 64 | word(), addend: word() << 64 | word(), text: Poly61Keys::random() }
+    }
+}
+
+/// Random keys, as std's `RandomState` has them: so a map by `default()`, and one that is collected, has keys of its own.
+#[cfg(feature = "std")]
+impl Default for NumberKeys {
+    fn default() -> NumberKeys {
+        NumberKeys::random()
+    }
+}
+
+impl BuildHasher for NumberKeys {
+    type Hasher = NumberHasher;
+
+    #[inline]
+    fn build_hasher(&self) -> NumberHasher {
+        NumberHasher { multiplier: self.multiplier, addend: self.addend, number: 0, held: 0, text: self.text.build_hasher() }
+    }
+}
+
+/// A map of std under random keys: `NumberMap::default()` is an empty one.
+#[cfg(feature = "std")]
+pub type NumberMap<K, V> = real_std::collections::HashMap<K, V, NumberKeys>;
+
+/// A set of std under random keys.
+#[cfg(feature = "std")]
+pub type NumberSet<K> = real_std::collections::HashSet<K, NumberKeys>;
+
 /// `Debug` by the name alone: neither a key nor a hash, from which the key may come out.
 macro_rules! tells_no_key {
     ($($type:ident)*) => {$(
@@ -184,4 +235,4 @@ macro_rules! tells_no_key {
     )*};
 }
 
-tells_no_key! { Poly61Hasher Poly61Pair Poly61Keys }
+tells_no_key! { Poly61Hasher Poly61Pair Poly61Keys NumberHasher NumberKeys }

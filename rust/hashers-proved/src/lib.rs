@@ -80,6 +80,11 @@ pub mod hash_keyed {
     pub mod poly61;
     mod words;
 }
+#[doc(hidden)]
+pub mod hash_numbers {
+    pub mod hasher;
+    pub mod number;
+}
 #[cfg(not(feature = "std"))]
 #[doc(hidden)]
 pub mod hash_bloom {
@@ -234,6 +239,32 @@ pub mod keyed {
     pub use crate::extras::Poly61Keys;
     #[doc(inline)]
     pub use crate::hash_keyed::{pair::*, parts::*, poly61::*};
+}
+
+/// A hash of numbers at a key: the high half of the 128 bits of a product and a sum (Dietzfelbinger 1996). Over the 2^256 keys any two
+/// hashes are two random numbers, so k bits of them are the same at one key in 2^k, whatever the two numbers. That is proved of the Rattle
+/// text, by laws that have no code. It is no protection against who sees hashes, the order of a map or times, nor at a key that is known.
+/// `Debug` shows no key.
+///
+#[cfg_attr(feature = "std", doc = "```")]
+#[cfg_attr(not(feature = "std"), doc = "```ignore")]
+/// use hashers_proved::numbers::NumberMap;
+///
+/// // a map under random keys, for numbers that strangers send
+/// let mut counts: NumberMap<u64, u32> = NumberMap::default();
+/// for number in [7, 1 << 40, 7] {
+///     *counts.entry(number).or_default() += 1;
+/// }
+/// assert_eq!(counts[&7], 2);
+/// ```
+pub mod numbers {
+    #[doc(inline)]
+    pub use crate::extras::NumberKeys;
+    #[cfg(feature = "std")]
+    #[doc(inline)]
+    pub use crate::extras::{NumberMap, NumberSet};
+    #[doc(inline)]
+    pub use crate::hash_numbers::{hasher::*, number::*};
 }
 
 /// std's own hasher, under the path that the crate hashers 1.0.1 gives it. It is no part of the proof.

@@ -1,11 +1,13 @@
 //! Times of the crate in rust/hashers-proved beside the original and the crates fnv, fxhash, rustc-hash and ahash, all inlined, by turns in
 //! one process.
-//! `times RUNS NAME..` prints a line for each name, then an empty line, and then a line for each sort of keys of maps: behind a tab each a
-//! cell, the times of its sides in nanoseconds a key, of each the least of so many runs.
+//! `times RUNS NAME..` prints a line for each name, then behind an empty line each a line for each sort of keys of maps, for each hash under a
+//! key, and for each sort of numbers as keys of maps: behind a tab each a cell, the times of its sides in nanoseconds a key, of each the least
+//! of so many runs; of a million numbers of an eighth of them.
 use hashers_proved as ours;
-use std::collections::hash_map::DefaultHasher;
+use std::cell::RefCell;
+use std::collections::hash_map::{DefaultHasher, RandomState};
 use std::collections::HashMap;
-use std::hash::{BuildHasherDefault, Hash, Hasher};
+use std::hash::{BuildHasher, BuildHasherDefault, Hash, Hasher};
 use std::hint::black_box;
 use std::time::Instant;
 
@@ -49,8 +51,12 @@ type Work<'a> = Box<dyn Fn() -> u64 + 'a>;
 
 /// The least time of each over `per` keys, by turns.
 fn measure(works: &[Work], per: usize, turns: usize) -> Vec<f64> {
+    least_of(runs(), works, per, turns)
+}
+
+fn least_of(runs: usize, works: &[Work], per: usize, turns: usize) -> Vec<f64> {
     let mut least = vec![f64::INFINITY; works.len()];
-    for _ in 0..runs() {
+    for _ in 0..runs {
         for (work, least) in works.iter().zip(&mut least) {
             let start = Instant::now();
             for _ in 0..turns {
@@ -133,6 +139,57 @@ fn under_keys() {
     }
 }
 
+/// Lookups of all keys in a map, and inserts of all into one that is empty and has room.
+fn lookup_and_insert<'a, K: Hash + Eq + Copy, S: BuildHasher + Clone + 'a>(keys: &'a [K], hashers: S) -> [Work<'a>; 2] {
+    let mut full: HashMap<K, usize, S> = HashMap::with_hasher(hashers.clone());
+    full.extend(keys.iter().copied().zip(0..));
+    let empty = RefCell::new(HashMap::with_capacity_and_hasher(keys.len(), hashers));
+    let insert = move || {
+        let mut map = empty.borrow_mut();
+        map.clear();
+        keys.iter().zip(0usize..).for_each(|(key, place)| drop(map.insert(*key, place)));
+        map.len() as u64
+    };
+    [Box::new(move || keys.iter().fold(0, |sum, key| sum ^ full[key] as u64)), Box::new(insert)]
+}
+
+/// A row of numbers or texts as keys of std's map, under random keys but for fx: of each hash a lookup and an insert. Each placement makes
+/// the maps in another order, since large ones are a fifth faster or slower by the pages of memory that they get.
+fn numbers_of<'a, K: Hash + Eq + Copy>(name: &str, keys: &'a [K]) {
+    let sides: [&dyn Fn() -> [Work<'a>; 2]; 5] = [
+        &|| lookup_and_insert(keys, ours::numbers::NumberKeys::random()),
+        &|| lookup_and_insert(keys, BuildHasherDefault::<fxhash::FxHasher64>::default()),
+        &|| lookup_and_insert(keys, ahash::RandomState::new()),
+        &|| lookup_and_insert(keys, RandomState::new()),
+        &|| lookup_and_insert(keys, ours::keyed::Poly61Keys::random()),
+    ];
+    let first = env!("MEASURE_RUST_BEHIND").parse::<usize>().unwrap() / 16 % sides.len();
+    let order: Vec<usize> = (0..sides.len()).map(|at| (first + at) % sides.len()).collect();
+    let works: Vec<Work> = order.iter().flat_map(|side| sides[*side]()).collect();
+    let (runs, turns) = if keys.len() > 1000 { (1 + runs() / 8, 1) } else { (runs(), 20) };
+    let times = least_of(runs, &works, keys.len(), turns);
+    let mut cells = vec![vec![]; sides.len()];
+    order.iter().zip(times.chunks(2)).for_each(|(side, cell)| cells[*side] = cell.to_vec());
+    row(name, &cells);
+}
+
+/// Numbers as keys. A million multiples of 2^32 are left out: under fx all have one place, so their map takes hours to fill.
+fn numbers_as_keys() {
+    let million: Vec<u64> = bytes(8_000_000).chunks_exact(8).map(|it| u64::from_le_bytes(it.try_into().unwrap())).collect();
+    let thousand = &million[..1000];
+    let low = |numbers: &[u64]| numbers.iter().map(|it| *it as u32).collect::<Vec<u32>>();
+    numbers_of("1,000 random u64", thousand);
+    numbers_of("1,000 u64: 0, 1, 2..", &(0..1000u64).collect::<Vec<_>>());
+    numbers_of("1,000 multiples of 2^32", &(0..1000u64).map(|it| it << 32).collect::<Vec<_>>());
+    numbers_of("1,000 random u32", &low(thousand));
+    numbers_of("1,000,000 random u64", &million);
+    numbers_of("1,000,000 random u32", &low(&million));
+    for letters in [7, 8, 16] {
+        let texts: Vec<String> = thousand.iter().map(|it| format!("{it:016x}")[..letters].to_string()).collect();
+        numbers_of(&format!("1,000 texts of {letters} letters"), &texts.iter().map(String::as_str).collect::<Vec<_>>());
+    }
+}
+
 /// The hashers of other crates beside the hash of that name: the same hash, and beside fx ahash, which is another one.
 fn others(name: &str) -> Vec<OfKeys> {
     match name {
@@ -166,4 +223,6 @@ fn main() {
     maps("16 letters", &texts);
     println!();
     under_keys();
+    println!();
+    numbers_as_keys();
 }

@@ -11,5 +11,6 @@ mod laws;
 mod promises;
 #[cfg(feature = "std")]
 mod memory;
+mod numbers;
 mod uses;
 mod vectors;

@@ -1,0 +1,9 @@
+pub mod Odds
+pub mod Multipliers
+pub mod Evenness
+pub mod Meetings
+pub mod Bytes
+pub mod States
+pub mod Pieces
+pub mod TwoKeys
+pub mod Exactness

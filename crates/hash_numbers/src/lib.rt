@@ -1,0 +1,7 @@
+//! A keyed hash of numbers by one product and one sum, whose collisions are few over the keys.
+#![tactic(auto)]
+
+pub mod hasher;
+pub mod keys;
+pub mod laws;
+pub mod number;

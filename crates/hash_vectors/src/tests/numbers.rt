@@ -1,0 +1,164 @@
+//! Numbers under keys: values that Python computed, std's maps and sets, and numbers that meet at a key that is known.
+use crate::tests::{all_hold, same};
+use hash_numbers::keys::{NumberKeys, NumberMap, NumberSet, hash_one_number, hash_one_number32};
+use hash_numbers::number::number_hash;
+use std::alloc::Global;
+use std::hash::{BuildHasher, Hasher};
+use std::io;
+
+const MULTIPLIER: u128 = 0x0123456789abcdef0fedcba987654321;
+
+const OTHER_MULTIPLIER: u128 = 0x9e3779b97f4a7c15f39cc0605cedc835;
+
+const ADDEND: u128 = 0xdeadbeefcafebabe8badf00ddeadc0de;
+
+#[test]
+fn hashes_of_numbers(rt: HostRuntime) {
+    let hash = |number: u64| number_hash(MULTIPLIER, ADDEND, number);
+    same(
+        &rt,
+        &[
+            hash(0),
+            hash(1),
+            hash(255),
+            hash(1 << 32),
+            hash(0xffff_ffff_ffff_ffff),
+            hash(1234567890123456789),
+        ],
+        &[
+            16045690984503098046,
+            16127676513719584941,
+            58512787288153055,
+            7519195941655316072,
+            17111502864317427696,
+            11848670105785015605,
+        ],
+    );
+}
+
+/// A key of up to eight bytes is one number, whatever its type.
+#[test]
+fn keys_of_one_number(rt: HostRuntime) {
+    let keys = NumberKeys::with_keys(MULTIPLIER, ADDEND, 7);
+    same(
+        &rt,
+        &[
+            hash_one_number(&keys, 255),
+            hash_one_number32(&keys, 255),
+            keys.hash_one::<u8>(255),
+            keys.hash_one::<u16>(255),
+            keys.hash_one::<usize>(255),
+            keys.hash_one::<i64>(255),
+            keys.hash_one::<&str>(""),
+        ],
+        &[58512787288153055; 7],
+    );
+    same(
+        &rt,
+        &[
+            keys.hash_one::<(u32, u32)>((5, 6)),
+            keys.hash_one::<&str>("elm"),
+            keys.hash_one::<&str>("seven77"),
+        ],
+        &[
+            number_hash(MULTIPLIER, ADDEND, 5 + (6 << 32)),
+            16291647567829105381,
+            10609678410233846511,
+        ],
+    );
+}
+
+#[test]
+fn longer_keys(rt: HostRuntime) {
+    let keys = NumberKeys::with_keys(MULTIPLIER, ADDEND, 7);
+    same(
+        &rt,
+        &[
+            keys.hash_one::<(u64, u64)>((5, 6)),
+            keys.hash_one::<&str>("eightlet"),
+            keys.hash_one::<&str>("a text of words"),
+        ],
+        &[
+            9223372036855313940,
+            1398862773699029464,
+            13742158830649279165,
+        ],
+    );
+}
+
+/// Nine bytes in pieces of each width, and with none among them.
+#[test]
+fn keys_in_pieces(rt: HostRuntime) {
+    let keys = NumberKeys::with_keys(MULTIPLIER, ADDEND, 7);
+    let mut whole = keys.build_hasher();
+    whole.write(b"eightlet\xff");
+    let mut pieces = keys.build_hasher();
+    pieces.write_u8(b'e');
+    pieces.write_u16(u16::from_le_bytes(*b"ig"));
+    pieces.write(b"");
+    pieces.write_u32(u32::from_le_bytes(*b"htle"));
+    pieces.write_u16(u16::from_le_bytes([b't', 255]));
+    let mut full = keys.build_hasher();
+    full.write_u64(u64::from_le_bytes(*b"eightlet"));
+    full.write(b"");
+    let number = full.finish();
+    full.write_u8(255);
+    same(
+        &rt,
+        &[whole.finish(), pieces.finish(), full.finish(), number],
+        &[
+            1398862773699029464,
+            1398862773699029464,
+            1398862773699029464,
+            hash_one_number(&keys, u64::from_le_bytes(*b"eightlet")),
+        ],
+    );
+}
+
+/// What a map under the keys has of two numbers, how many numbers a set has, and what a map has of a word.
+fn mapped(alloc: Global, keys: NumberKeys) -> io::Result<[u64; 4]> {
+    let mut map = NumberMap::with_hasher(alloc, keys);
+    let mut set = NumberSet::with_hasher(alloc, keys);
+    let mut words = NumberMap::with_hasher(alloc, keys);
+    for (place, number) in [17u64, 5, 17].iter().enumerate() {
+        map.insert(*number, place as u64)?;
+        set.insert(*number)?;
+        words.insert("elm", place as u64)?;
+    }
+    Ok([
+        map.get(&17).copied().unwrap_or(9),
+        map.get(&18).copied().unwrap_or(9),
+        set.len() as u64,
+        words.get("elm").copied().unwrap_or(9),
+    ])
+}
+
+#[test]
+fn maps_and_sets_under_keys(rt: HostRuntime) {
+    let at_random = match NumberKeys::new(&rt) {
+        Ok(keys) => mapped(rt.alloc(), keys).unwrap_or([0; 4]),
+        Err(_) => [0; 4],
+    };
+    let at_zero = mapped(rt.alloc(), NumberKeys::with_keys(0, 0, 0)).unwrap_or([0; 4]);
+    same(&rt, &at_random, &[2, 9, 2, 2]);
+    same(&rt, &at_zero, &[2, 9, 2, 2]);
+}
+
+/// At a key that is known whoever chooses the numbers has them all meet: the product of this multiplier and 14745600 is zero in the bits
+/// that are the low sixteen of the hash, and small below them. At another they don't.
+#[test]
+fn numbers_that_meet_at_a_known_key(rt: HostRuntime) {
+    let mut meet = 0;
+    let mut meet_at_another = 0;
+    let low = |multiplier: u128, number: u64| number_hash(multiplier, ADDEND, number) % 65536;
+    for turn in 0..1000u64 {
+        let number = turn * 14745600;
+        if low(MULTIPLIER, number) == low(MULTIPLIER, 0) {
+            meet += 1;
+        }
+        if low(OTHER_MULTIPLIER, number) == low(OTHER_MULTIPLIER, 0) {
+            meet_at_another += 1;
+        }
+    }
+    all_hold(&rt, &[meet == 1000, meet_at_another < 3]);
+}
