@@ -11,9 +11,10 @@ use std::hash::BuildHasher;
 use std::io;
 use std::random::RandomSource;
 
-/// A random multiplier and addend for keys of up to eight bytes, as numbers are, and a random key for longer ones: for maps and sets
-/// whose keys somebody else chooses, as long as they don't hang on these, nor on anything that shows them, such as hashes, the order
-/// of a map or the times of its calls. Whoever sees a few hashes can compute the multiplier and the addend.
+/// A random multiplier and addend for keys of up to eight bytes, as numbers are, and a random key for longer ones: for
+/// maps and sets whose keys somebody else chooses, as long as they don't hang on these, nor on anything that shows
+/// them, such as hashes, the order of a map or the times of its calls. Whoever sees a few hashes can compute the
+/// multiplier and the addend.
 #[derive(Clone, Copy)]
 pub struct NumberKeys {
     multiplier: u128,

@@ -1,6 +1,6 @@
-//! What is proved of the keys under which numbers meet. Each law is a function with no code. A multiplier and an addend are numbers below
-//! 2^128; where they are drawn at random, the share of the pairs of them is the chance. The bounds hold for numbers that were chosen
-//! without knowing the keys, nor anything that hangs on them.
+//! What is proved of the keys under which numbers meet. Each law is a function with no code. A multiplier and an addend
+//! are numbers below 2^128; where they are drawn at random, the share of the pairs of them is the chance. The bounds
+//! hold for numbers that were chosen without knowing the keys, nor anything that hangs on them.
 ghost use Rattle.std.specs.Prelude.{◌≡◌, ◌≢◌, ℕ, ◌+◌, ◌-◌, ◌*◌, ◌/◌, ◌%◌, ◌^◌, ◌<◌, ◌≤◌, max, List, fold, length, All, AllPairs};
 ghost use Rattle.std.specs.List.{concat, count_by, sum_by};
 ghost use Rattle.hashers.specs.Counts.{meetings};
@@ -9,8 +9,8 @@ ghost use Rattle.hash_keyed.specs.Poly61.{AreKeys, ArePairs, prime61, word_count
 ghost use Rattle.hash_numbers.specs.Numbers.{have_hashes, number_hash, share_place};
 ghost use Rattle.hash_numbers.specs.NumberState.{after_write, answer_of, fresh_at, keyed_hash, NeitherBegins};
 
-/// Each pair of hashes of two different numbers comes from at most 2^128 of the 2^256 pairs of a multiplier and an addend; of all of
-/// them, from just as many. At random keys two hashes are two random numbers.
+/// Each pair of hashes of two different numbers comes from at most 2^128 of the 2^256 pairs of a multiplier and an
+/// addend; of all of them, from just as many. At random keys two hashes are two random numbers.
 pub fn even_pairs_of_hashes()
     ensures most { (x y u v : ℕ) (keys : List (ℕ × ℕ)) → x < 2 ^ 64 → y < 2 ^ 64 → x ≢ y → ArePairs (2 ^ 128) keys
         → All (λ key. (number_hash key.0 key.1 x ≡ u) × (number_hash key.0 key.1 y ≡ v)) keys
@@ -28,43 +28,50 @@ pub fn few_keys_for_two_numbers()
 
 /// One number has a given hash at no more than one in 2^64.
 pub fn few_keys_for_a_hash()
-    ensures { (x u : ℕ) (keys : List (ℕ × ℕ)) → ArePairs (2 ^ 128) keys → All (λ key. number_hash key.0 key.1 x ≡ u) keys
+    ensures { (x u : ℕ) (keys : List (ℕ × ℕ)) → ArePairs (2 ^ 128) keys
+        → All (λ key. number_hash key.0 key.1 x ≡ u) keys
         → length keys ≤ 2 ^ 192 }
 {}
 
-/// The low bits of two hashes, of which a table of 2^bits places takes the place, are the same at no more than one in 2^bits.
+/// The low bits of two hashes, of which a table of 2^bits places takes the place, are the same at no more than one in
+/// 2^bits.
 pub fn few_keys_for_a_place()
-    ensures { (x y bits : ℕ) (keys : List (ℕ × ℕ)) → x < 2 ^ 64 → y < 2 ^ 64 → x ≢ y → bits ≤ 64 → ArePairs (2 ^ 128) keys
+    ensures { (x y bits : ℕ) (keys : List (ℕ × ℕ)) → x < 2 ^ 64 → y < 2 ^ 64 → x ≢ y → bits ≤ 64
+        → ArePairs (2 ^ 128) keys
         → All (λ key. number_hash key.0 key.1 x % 2 ^ bits ≡ number_hash key.0 key.1 y % 2 ^ bits) keys
         → length keys ≤ 2 ^ (256 - bits) }
 {}
 
 /// And the high bits.
 pub fn few_keys_for_high_bits()
-    ensures { (x y bits : ℕ) (keys : List (ℕ × ℕ)) → x < 2 ^ 64 → y < 2 ^ 64 → x ≢ y → bits ≤ 64 → ArePairs (2 ^ 128) keys
+    ensures { (x y bits : ℕ) (keys : List (ℕ × ℕ)) → x < 2 ^ 64 → y < 2 ^ 64 → x ≢ y → bits ≤ 64
+        → ArePairs (2 ^ 128) keys
         → All (λ key. number_hash key.0 key.1 x / 2 ^ (64 - bits) ≡ number_hash key.0 key.1 y / 2 ^ (64 - bits)) keys
         → length keys ≤ 2 ^ (256 - bits) }
 {}
 
-/// Low and high bits at once are the same at no more than one in 2^(low + high). std's maps take the low ones as the place and the
-/// highest seven as a tag, and compare keys only where both are the same.
+/// Low and high bits at once are the same at no more than one in 2^(low + high). std's maps take the low ones as the
+/// place and the highest seven as a tag, and compare keys only where both are the same.
 pub fn few_keys_for_a_place_and_a_tag()
-    ensures { (x y low high : ℕ) (keys : List (ℕ × ℕ)) → x < 2 ^ 64 → y < 2 ^ 64 → x ≢ y → low + high ≤ 64 → ArePairs (2 ^ 128) keys
+    ensures { (x y low high : ℕ) (keys : List (ℕ × ℕ)) → x < 2 ^ 64 → y < 2 ^ 64 → x ≢ y → low + high ≤ 64
+        → ArePairs (2 ^ 128) keys
         → All (λ key. (number_hash key.0 key.1 x % 2 ^ low ≡ number_hash key.0 key.1 y % 2 ^ low)
         × (number_hash key.0 key.1 x / 2 ^ (64 - high) ≡ number_hash key.0 key.1 y / 2 ^ (64 - high))) keys
         → length keys ≤ 2 ^ (256 - low - high) }
 {}
 
-/// Over all pairs of a multiplier and an addend together, the pairs of different numbers that come into one place of a table of 2^bits
-/// places are as few: this, divided by the number of keys, is how many pairs meet on average.
+/// Over all pairs of a multiplier and an addend together, the pairs of different numbers that come into one place of a
+/// table of 2^bits places are as few: this, divided by the number of keys, is how many pairs meet on average.
 pub fn few_meetings()
-    ensures { (numbers : List ℕ) (bits : ℕ) (keys : List (ℕ × ℕ)) → All (λ x. x < 2 ^ 64) numbers → AllPairs ◌≢◌ numbers → bits ≤ 64
+    ensures { (numbers : List ℕ) (bits : ℕ) (keys : List (ℕ × ℕ)) → All (λ x. x < 2 ^ 64) numbers
+        → AllPairs ◌≢◌ numbers → bits ≤ 64
         → ArePairs (2 ^ 128) keys
         → sum_by (λ key. meetings (share_place bits key) numbers) keys
         ≤ length numbers * (length numbers - 1) / 2 * 2 ^ (256 - bits) }
 {}
 
-/// Where the addend is known, whatever it is, at most 2^65 of the 2^128 multipliers give two different numbers one hash.
+/// Where the addend is known, whatever it is, at most 2^65 of the 2^128 multipliers give two different numbers one
+/// hash.
 pub fn few_multipliers_for_two_numbers()
     ensures { (x y addend : ℕ) (multipliers : List ℕ) → x < 2 ^ 64 → y < 2 ^ 64 → x ≢ y → AreKeys (2 ^ 128) multipliers
         → All (λ a. number_hash a addend x ≡ number_hash a addend y) multipliers
@@ -73,14 +80,16 @@ pub fn few_multipliers_for_two_numbers()
 
 /// The same for the low bits: a share of 2 / 2^bits of the multipliers.
 pub fn few_multipliers_for_a_place()
-    ensures { (x y addend bits : ℕ) (multipliers : List ℕ) → x < 2 ^ 64 → y < 2 ^ 64 → x ≢ y → bits ≤ 64 → AreKeys (2 ^ 128) multipliers
+    ensures { (x y addend bits : ℕ) (multipliers : List ℕ) → x < 2 ^ 64 → y < 2 ^ 64 → x ≢ y → bits ≤ 64
+        → AreKeys (2 ^ 128) multipliers
         → All (λ a. number_hash a addend x % 2 ^ bits ≡ number_hash a addend y % 2 ^ bits) multipliers
         → length multipliers ≤ 2 ^ (129 - bits) }
 {}
 
 /// And for the high bits.
 pub fn few_multipliers_for_high_bits()
-    ensures { (x y addend bits : ℕ) (multipliers : List ℕ) → x < 2 ^ 64 → y < 2 ^ 64 → x ≢ y → bits ≤ 64 → AreKeys (2 ^ 128) multipliers
+    ensures { (x y addend bits : ℕ) (multipliers : List ℕ) → x < 2 ^ 64 → y < 2 ^ 64 → x ≢ y → bits ≤ 64
+        → AreKeys (2 ^ 128) multipliers
         → All (λ a. number_hash a addend x / 2 ^ (64 - bits) ≡ number_hash a addend y / 2 ^ (64 - bits)) multipliers
         → length multipliers ≤ 2 ^ (129 - bits) }
 {}
@@ -92,18 +101,21 @@ pub fn pieces_do_not_show()
         ≡ keyed_hash multiplier addend text_key (concat pieces) }
 {}
 
-/// Two keys of a map, of which neither begins with the other, as std's traits write the values of one type, have one hash at few keys
-/// of the hash. Where one has at most eight bytes, at any key for texts, no more than one in 2^64 of the pairs of a multiplier and an
-/// addend; where both are longer, as many keys for texts as `poly61` has.
+/// Two keys of a map, of which neither begins with the other, as std's traits write the values of one type, have one
+/// hash at few keys of the hash. Where one has at most eight bytes, at any key for texts, no more than one in 2^64 of
+/// the pairs of a multiplier and an addend; where both are longer, as many keys for texts as `poly61` has.
 pub fn few_keys_for_two_keys_of_a_map()
-    ensures short { (s t : List ℕ) (text_key : ℕ) (keys : List (ℕ × ℕ)) → IsText s → IsText t → length s ≤ 8 → length t ≤ 8
+    ensures short { (s t : List ℕ) (text_key : ℕ) (keys : List (ℕ × ℕ)) → IsText s → IsText t → length s ≤ 8
+        → length t ≤ 8
         → NeitherBegins s t → ArePairs (2 ^ 128) keys
         → All (λ key. keyed_hash key.0 key.1 text_key s ≡ keyed_hash key.0 key.1 text_key t) keys
         → length keys ≤ 2 ^ 192 }
-    ensures mixed { (s t : List ℕ) (text_key : ℕ) (keys : List (ℕ × ℕ)) → length s ≤ 8 → 8 < length t → ArePairs (2 ^ 128) keys
+    ensures mixed { (s t : List ℕ) (text_key : ℕ) (keys : List (ℕ × ℕ)) → length s ≤ 8 → 8 < length t
+        → ArePairs (2 ^ 128) keys
         → All (λ key. keyed_hash key.0 key.1 text_key s ≡ keyed_hash key.0 key.1 text_key t) keys
         → length keys ≤ 2 ^ 192 }
-    ensures long { (s t : List ℕ) (multiplier addend : ℕ) (text_keys : List ℕ) → IsText s → IsText t → 8 < length s → 8 < length t
+    ensures long { (s t : List ℕ) (multiplier addend : ℕ) (text_keys : List ℕ) → IsText s → IsText t → 8 < length s
+        → 8 < length t
         → s ≢ t → AreKeys prime61 text_keys
         → All (λ text_key. keyed_hash multiplier addend text_key s ≡ keyed_hash multiplier addend text_key t) text_keys
         → length text_keys ≤ max (word_count s) (word_count t) + 1 }

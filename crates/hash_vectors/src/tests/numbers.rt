@@ -144,8 +144,8 @@ fn maps_and_sets_under_keys(rt: HostRuntime) {
     same(&rt, &at_zero, &[2, 9, 2, 2]);
 }
 
-/// At a key that is known whoever chooses the numbers has them all meet: the product of this multiplier and 14745600 is zero in the bits
-/// that are the low sixteen of the hash, and small below them. At another they don't.
+/// At a key that is known whoever chooses the numbers has them all meet: the product of this multiplier and 14745600 is
+/// zero in the bits that are the low sixteen of the hash, and small below them. At another they don't.
 #[test]
 fn numbers_that_meet_at_a_known_key(rt: HostRuntime) {
     let mut meet = 0;

@@ -10,9 +10,10 @@ use std::hash::Hasher;
 /// `held` once there were more than eight bytes.
 const TEXT: u8 = 9;
 
-/// The hash of a key of a map, over its bytes in any parts. Up to eight bytes in all are one number, the first byte the lowest, and
-/// the answer is [`number_hash`] of it. More have the hash `poly61` at a key of its own. So a `u64`, a `u32`, a pair of `u32` and a
-/// text of up to seven letters take one product, and all that `hash_keyed` proves holds of longer texts.
+/// The hash of a key of a map, over its bytes in any parts. Up to eight bytes in all are one number, the first byte the
+/// lowest, and the answer is [`number_hash`] of it. More have the hash `poly61` at a key of its own. So a `u64`, a
+/// `u32`, a pair of `u32` and a text of up to seven letters take one product, and all that `hash_keyed` proves holds of
+/// longer texts.
 pub struct NumberHasher {
     pub(crate) multiplier: u128,
     pub(crate) addend: u128,
