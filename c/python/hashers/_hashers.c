@@ -1,8 +1,8 @@
 // hashers._hashers: the calls of libhashers for Python. It finds the bytes of Python's objects, lets other threads run where there are many,
 // and calls the library, which computes. What is called once and not for each key is in Python, beside this file.
 //
-// It is built for the limited API of CPython 3.9, and for glibc 2.5: memmove stands in the place of memcpy, whose version is of 2.14. Nothing
-// static changes, and what an interpreter has of its own is in the state of its module, so interpreters share nothing, and may have a GIL each.
+// It is built for the limited API of CPython 3.9. Nothing static changes, and what an interpreter has of its own is in the state of its
+// module, so interpreters do not share anything, and may have a GIL each.
 #define PY_SSIZE_T_CLEAN
 #include <Python.h>
 #include <structmember.h>
@@ -546,7 +546,7 @@ static int take(Hash *self, const void *bytes, size_t n) {
         PyErr_Format(PyExc_ValueError, "a state has %zu bytes, not %zu", size, n);
         return -1;
     }
-    memmove(at, bytes, n);
+    memcpy(at, bytes, n);
     return 0;
 }
 
