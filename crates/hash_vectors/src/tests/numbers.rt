@@ -144,21 +144,16 @@ fn maps_and_sets_under_keys(rt: HostRuntime) {
     same(&rt, &at_zero, &[2, 9, 2, 2]);
 }
 
+/// Whether the number has the low sixteen bits that 0 has.
+fn meets_zero(multiplier: u128, number: u64) -> bool {
+    number_hash(multiplier, ADDEND, number) % 65536 == number_hash(multiplier, ADDEND, 0) % 65536
+}
+
 /// At a key that is known whoever chooses the numbers has them all meet: the product of this multiplier and 14745600 is
 /// zero in the bits that are the low sixteen of the hash, and small below them. At another they don't.
 #[test]
 fn numbers_that_meet_at_a_known_key(rt: HostRuntime) {
-    let mut meet = 0;
-    let mut meet_at_another = 0;
-    let low = |multiplier: u128, number: u64| number_hash(multiplier, ADDEND, number) % 65536;
-    for turn in 0..1000u64 {
-        let number = turn * 14745600;
-        if low(MULTIPLIER, number) == low(MULTIPLIER, 0) {
-            meet += 1;
-        }
-        if low(OTHER_MULTIPLIER, number) == low(OTHER_MULTIPLIER, 0) {
-            meet_at_another += 1;
-        }
-    }
-    all_hold(&rt, &[meet == 1000, meet_at_another < 3]);
+    let all = (1..1000u64).all(|turn| meets_zero(MULTIPLIER, turn.wrapping_mul(14745600)));
+    let any = (1..1000u64).any(|turn| meets_zero(OTHER_MULTIPLIER, turn.wrapping_mul(14745600)));
+    all_hold(&rt, &[all, !any]);
 }
