@@ -21,7 +21,7 @@ in_64 key text =
     omega (arith, below, low)
 
 -- two numbers of 64 bits side by side are one number
-parts_are : (a b c d : ℕ) → b < 2 ^ 64 → d < 2 ^ 64 → a * 2 ^ 64 + b ≡ c * 2 ^ 64 + d → (a ≡ c) × (b ≡ d)
+pub parts_are : (a b c d : ℕ) → b < 2 ^ 64 → d < 2 ^ 64 → a * 2 ^ 64 + b ≡ c * 2 ^ 64 + d → (a ≡ c) × (b ≡ d)
 parts_are a b c d b_in d_in same = (omega (arith, b_in, d_in, same), omega (arith, b_in, d_in, same))
 
 -- what was read to the end is all that there was

@@ -1,5 +1,5 @@
 -- What a check is proved to see.
-use Rattle.std.specs.Prelude.{ℕ, ◌≡◌, Bool, List, Option, Some, Result, Ok, IfSome, length}
+use Rattle.std.specs.Prelude.{ℕ, ◌≡◌, Bool, List, Option, Some, Result, Ok, length}
 use Rattle.std.specs.declared.io.Error.{Error}
 use Rattle.hashers.specs.DifferWithin.{DifferAtOnePlace}
 use Rattle.hashers.specs.Text.{IsText}
@@ -9,10 +9,10 @@ use Rattle.cli.specs.Files.{Opens}
 use Rattle.hash_sums.specs.Files.{ReadsFile}
 use Rattle.hash_sums.specs.Sums.{number_named}
 
--- if a file is the same by the hash of that name of a first text, then the text that was read of it has this hash, and does not differ
--- from the first text by such a change
+-- the name has a hash; and if a file is the same by it as a first text, then the text that was read of the file has this hash, and does
+-- not differ from the first text by such a change
 abbrev pub NeverPasses : {F : Type 0} (opens : F → Opens) (name : List ℕ) (Changed : (first second : List ℕ) → Type 0) → Type 0
-NeverPasses {F} opens name Changed = IfSome (number_named name) (λ hash.
+NeverPasses {F} opens name Changed = (hash : List ℕ → ℕ) × (number_named name ≡ Some hash) × (
     (folder : F) (file : List ℕ) (ignore_missing : Bool) (first : List ℕ) → IsText first
     → IsVerdict (opens folder file) hash ignore_missing (hash first) Same
     → (held : Option (List ℕ)) × opens folder file (Ok held)

@@ -32,7 +32,10 @@ ghost use Rattle.hash_sums.specs.Sums.{kinds, name_in, number_named, poly61_at_b
 ghost use Rattle.hash_sums.specs.declared.sums.Sum.{Sum};
 
 use crate::sums::Sum;
-use block_laws::{one_changed_word_shows_in_murmur3_32, one_changed_word_shows_in_xxh32};
+use block_laws::{
+    one_changed_block_shows_in_murmur3_128, one_changed_word_shows_in_murmur3_32,
+    one_changed_word_shows_in_xxh32,
+};
 use cli::folder::Folder;
 use hash_keyed::laws::few_pairs_for_two_texts;
 use hash_lines::laws::tags_by_their_names;
@@ -122,12 +125,15 @@ pub fn a_changed_word_never_passes<R: Read, F: Folder<R>>()
     one_changed_word_shows_fx();
 }
 
-/// A file of the text's length that differs from the text of its line only within four bytes from a place that 4 divides never passes the
-/// check by MurmurHash3 and XXH32 of 32 bits; by MurmurHash3 also only within the up to three bytes behind.
+/// A file of the text's length that differs from the text of its line only within four bytes from a place that 4 divides
+/// never passes the check by MurmurHash3 and XXH32 of 32 bits, nor one that differs only within 16 bytes from a place that
+/// 16 divides by MurmurHash3 of 128 bits; by MurmurHash3 also only within the bytes behind these.
 pub fn a_changed_block_never_passes<R: Read, F: Folder<R>>()
     ensures murmur3_32 { NeverPasses F.opens (codes "murmur3_32") (DifferInOneBlock 4) }
     ensures xxh32 { NeverPasses F.opens (codes "xxh32") DifferInOneWord }
+    ensures murmur3_128 { NeverPasses F.opens (codes "murmur3_128") (DifferInOneBlock 16) }
 {
+    one_changed_block_shows_in_murmur3_128();
     one_changed_word_shows_in_murmur3_32();
     one_changed_word_shows_in_xxh32();
 }

@@ -1,4 +1,4 @@
-use Rattle.std.proofs.Common.{ℕ, List, [], ◌∷◌, ◌++◌, All, append-nil, ap, sym, subst}
+use Rattle.std.proofs.Common.{ℕ, List, [], ◌∷◌, ◌++◌, All, append-nil, ap, sym, subst, refl}
 use Rattle.std.proofs.lemmas.List.Elements.{All-cons, All-nil}
 use denote.Bor.{Bor}
 use Rattle.hashers.specs.DifferWithin.{DifferAtOnePlace}
@@ -27,18 +27,30 @@ one_word words x y (same, differ) = record {
 
 pub returns-clause-fxhash : goal.returns-clause-fxhash
 unfolding number_named kind_named
-returns-clause-fxhash g c folder file =
-    never_passes (g.F.Folder.opens folder file) (λ text. fx64 0 (words64 text)) (DifferAtOneWord words64) (λ x y is_text also differ.
-    c.one_changed_word_shows_fx.ensures.at_64 (piece x ∷ []) (piece y ∷ []) (is_one x is_text) (is_one y also) (one_word words64 x y differ))
+returns-clause-fxhash g c = (
+  (λ text. fx64 0 (words64 text)),
+  refl,
+  λ folder file.
+      never_passes (g.F.Folder.opens folder file) (λ text. fx64 0 (words64 text)) (DifferAtOneWord words64) (λ x y is_text also differ.
+      c.one_changed_word_shows_fx.ensures.at_64 (piece x ∷ []) (piece y ∷ []) (is_one x is_text) (is_one y also) (one_word words64 x y differ)),
+)
 
 pub returns-clause-fxhash64 : goal.returns-clause-fxhash64
 unfolding number_named kind_named
-returns-clause-fxhash64 g c folder file =
-    never_passes (g.F.Folder.opens folder file) (λ text. fx64 0 (words64 text)) (DifferAtOneWord words64) (λ x y is_text also differ.
-    c.one_changed_word_shows_fx.ensures.at_64 (piece x ∷ []) (piece y ∷ []) (is_one x is_text) (is_one y also) (one_word words64 x y differ))
+returns-clause-fxhash64 g c = (
+  (λ text. fx64 0 (words64 text)),
+  refl,
+  λ folder file.
+      never_passes (g.F.Folder.opens folder file) (λ text. fx64 0 (words64 text)) (DifferAtOneWord words64) (λ x y is_text also differ.
+      c.one_changed_word_shows_fx.ensures.at_64 (piece x ∷ []) (piece y ∷ []) (is_one x is_text) (is_one y also) (one_word words64 x y differ)),
+)
 
 pub returns-clause-fxhash32 : goal.returns-clause-fxhash32
 unfolding number_named kind_named
-returns-clause-fxhash32 g c folder file =
-    never_passes (g.F.Folder.opens folder file) (λ text. fx32 0 (words32 text)) (DifferAtOneWord words32) (λ x y is_text also differ.
-    c.one_changed_word_shows_fx.ensures.at_32 (piece x ∷ []) (piece y ∷ []) (is_one x is_text) (is_one y also) (one_word words32 x y differ))
+returns-clause-fxhash32 g c = (
+  (λ text. fx32 0 (words32 text)),
+  refl,
+  λ folder file.
+      never_passes (g.F.Folder.opens folder file) (λ text. fx32 0 (words32 text)) (DifferAtOneWord words32) (λ x y is_text also differ.
+      c.one_changed_word_shows_fx.ensures.at_32 (piece x ∷ []) (piece y ∷ []) (is_one x is_text) (is_one y also) (one_word words32 x y differ)),
+)
