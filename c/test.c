@@ -352,6 +352,36 @@ static void check_keyed(void) {
     same("poly61 of no bytes", hashers_poly61(7, text, 0), hashers_poly61(7, NULL, 0));
 }
 
+static uint64_t number_hash_by_wide(const hashers_number_key *key, uint64_t number) {
+    wide multiplier = (wide)key->multiplier_high << 64 | key->multiplier_low, addend = (wide)key->addend_high << 64 | key->addend_low;
+    return (uint64_t)((multiplier * number + addend) >> 64);
+}
+
+static void check_number_hash(void) {
+    const uint64_t most = UINT64_MAX;
+    const hashers_number_key keys[] = {{0, 0, 0, 0}, {0, 1, 0, most}, {1, 0, 0, 7}, {most, most, most, most}, {0, most, most, 0},
+                                       {random_number(), random_number(), random_number(), random_number()},
+                                       {0x0123456789abcdef, 0x0fedcba987654321, 0xdeadbeefcafebabe, 0x8badf00ddeadc0de}};
+    const size_t count = sizeof keys / sizeof *keys;
+    same("number_hash of 255", 58512787288153055, hashers_number_hash(keys + count - 1, 255));
+    for (const hashers_number_key *key = keys; key < keys + count; key++) {
+        uint64_t numbers[100] = {0, 1, 255, UINT64_C(1) << 32, most}, hashes[101];
+        for (size_t i = 5; i < 100; i++) numbers[i] = random_number() >> i % 64;
+        for (size_t n = 0; n <= 100; n++) {
+            for (size_t i = 0; i <= 100; i++) hashes[i] = 7;
+            same("number_column", 1, hashers_number_column(key, numbers, n, hashes, n));
+            for (size_t i = 0; i < n; i++) {
+                same("number_hash", number_hash_by_wide(key, numbers[i]), hashers_number_hash(key, numbers[i]));
+                same("number_column's hash", hashers_number_hash(key, numbers[i]), hashes[i]);
+            }
+            same("number_column's end", 7, hashes[n]);
+            same("number_column of another count", 0, hashers_number_column(key, numbers, n, hashes + n, 101 - n));
+            same("number_column refused", 7, hashes[n]);
+        }
+    }
+    same("number_column of nothing", 1, hashers_number_column(keys, NULL, 0, NULL, 0));
+}
+
 // Pages of which the middle one alone can be read and written.
 static unsigned char *pages(size_t page) {
     unsigned char *room = mmap(NULL, 3 * page, PROT_NONE, MAP_PRIVATE | MAP_ANONYMOUS, -1, 0);
@@ -472,6 +502,7 @@ int main(void) {
     check_combine();
     check_ending();
     check_keyed();
+    check_number_hash();
     for (const struct kind *k = kinds; k < kinds + KINDS; k++) check_number(k);
     check_numbers();
     check_filter(hashers_fnv1a64, hashers_lookup3, hashers_bloom_fnv1a64_lookup3_insert, hashers_bloom_fnv1a64_lookup3_contains);

@@ -5,3 +5,4 @@ pub mod Columns
 pub mod Lines
 pub mod SpookyState
 pub mod Kinds
+pub mod Numbers

@@ -1,5 +1,6 @@
 //! The calls of `c/hashers.h` over the erased functions, written by rust/erase. This file alone has unsafe code.
 use super::block::BlockState;
+use super::numbers::NumberKey;
 use super::spooky::{SpookyState, Words};
 use super::*;
 use hashers_proved::hash_keyed::poly61::Poly61Place;
@@ -494,6 +495,29 @@ pub unsafe extern "C" fn hashers_lines(kind: u32, bytes: *const u8, bytes_count:
 #[no_mangle]
 pub extern "C" fn hashers_version() -> u32 {
     super::hashers_version()
+}
+
+/// See `hashers.h`.
+#[no_mangle]
+pub extern "C" fn hashers_number_hash(key: &NumberKey, number: u64) -> u64 {
+    numbers::hashers_number_hash(key, number)
+}
+
+/// See `hashers.h`.
+///
+/// # Safety
+///
+/// Each pointer and its count are so many items that nothing else writes during the call.
+#[no_mangle]
+pub unsafe extern "C" fn hashers_number_column(
+    key: &NumberKey,
+    numbers: *const u64,
+    numbers_count: usize,
+    hashes: *mut u64,
+    hashes_count: usize,
+) -> bool {
+    // SAFETY: as said above.
+    unsafe { numbers::hashers_number_column(key, slice(numbers, numbers_count), slice_mut(hashes, hashes_count)) }
 }
 
 /// See `hashers.h`.

@@ -15,6 +15,7 @@ mod in_words;
 mod keyed;
 mod kinds;
 mod lines;
+mod numbers;
 mod parts;
 mod spooky;
 mod whole;

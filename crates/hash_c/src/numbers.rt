@@ -1,0 +1,58 @@
+//! Numbers under a key of the caller's: one, and a column of them.
+ghost use Rattle.std.specs.Prelude.{◌≡◌, ◌↔◌, ◌+◌, ◌*◌, ◌^◌, IsTrue, length};
+ghost use Rattle.std.specs.Bool.{OnTrue, OnFalse};
+ghost use Rattle.hash_c.specs.Numbers.{AreNumberHashes, hash_at_key};
+
+use hash_numbers::number::number_hash;
+
+/// A multiplier and an addend of 128 bits, each in two halves.
+#[repr(C)]
+#[derive(Clone, Copy)]
+pub struct NumberKey {
+    pub multiplier_high: u64,
+    pub multiplier_low: u64,
+    pub addend_high: u64,
+    pub addend_low: u64,
+}
+
+/// The number of two halves.
+#[inline(always)]
+fn joined(high: u64, low: u64) -> u128
+    ensures { result ≡ high * 2 ^ 64 + low }
+{
+    u128::from(high) * 18446744073709551616 + u128::from(low)
+}
+
+/// The hash of the number at a key.
+#[unsafe(no_mangle)]
+pub extern "C" fn hashers_number_hash(key: &NumberKey, number: u64) -> u64
+    ensures { result ≡ hash_at_key key.now number }
+{
+    number_hash(
+        joined(key.multiplier_high, key.multiplier_low),
+        joined(key.addend_high, key.addend_low),
+        number,
+    )
+}
+
+/// Writes the hash of each number, and answers that there are as many places as numbers; else nothing is written.
+#[unsafe(no_mangle)]
+pub extern "C" fn hashers_number_column(
+    key: &NumberKey,
+    numbers: &[u64],
+    hashes: &mut [u64],
+) -> bool
+    ensures exactly { IsTrue result ↔ length numbers.now ≡ length hashes.old }
+    ensures written { OnTrue result (AreNumberHashes key.now numbers.now hashes.new) }
+    ensures refused { OnFalse result (hashes.new ≡ hashes.old) }
+{
+    if numbers.len() != hashes.len() {
+        return false;
+    }
+    let multiplier = joined(key.multiplier_high, key.multiplier_low);
+    let addend = joined(key.addend_high, key.addend_low);
+    for i in 0..hashes.len() {
+        hashes[i] = number_hash(multiplier, addend, numbers[i]);
+    }
+    true
+}
