@@ -781,6 +781,36 @@ static PyObject *poly61_combine(TAKES) {
     return words_of(given, 4, it) < 0 ? NULL : number(hashers_poly61_combine(it[0], it[1], it[2], it[3]));
 }
 
+// A number from 0 to 2^128 - 1, as its halves.
+static int halves(PyObject *from, uint64_t *high, uint64_t *low) {
+    PyObject *whole = PyNumber_Index(from), *by = PyLong_FromLong(64), *upper = whole && by ? PyNumber_Rshift(whole, by) : NULL;
+    int are = upper ? 0 : -1;
+    if (are == 0) {
+        *low = PyLong_AsUnsignedLongLongMask(whole), *high = PyLong_AsUnsignedLongLong(upper);
+        if (*high == UINT64_MAX && PyErr_Occurred()) {
+            PyErr_Clear();
+            PyErr_Format(PyExc_ValueError, "%S is not from 0 to 2**128 - 1", whole);
+            are = -1;
+        }
+    }
+    Py_XDECREF(upper);
+    Py_XDECREF(by);
+    Py_XDECREF(whole);
+    return are;
+}
+
+static int number_key(PyObject *const *from, hashers_number_key *to) {
+    if (halves(from[0], &to->multiplier_high, &to->multiplier_low) < 0) return -1;
+    return halves(from[1], &to->addend_high, &to->addend_low);
+}
+
+static PyObject *number_hash(TAKES) {
+    TAKEN(given, {"number_hash", 3, 3, {"number", "multiplier", "addend"}});
+    hashers_number_key key;
+    uint64_t it;
+    return word(given[0], &it) < 0 || number_key(&given[1], &key) < 0 ? NULL : number(hashers_number_hash(&key, it));
+}
+
 static PyObject *combine(TAKES) {
     TAKEN(given, {"combine", 4, 4, {"name", "hash1", "hash2", "length2"}});
     uint64_t it[3];
@@ -828,6 +858,27 @@ static PyObject *lines(PyObject *module, PyObject *args) {
     }
     drop(&room);
     return answer;
+}
+
+// The hash of each number of a buffer to another one.
+static PyObject *number_column(PyObject *module, PyObject *args) {
+    PyObject *from, *out, *key_from[2];
+    hashers_number_key key;
+    held numbers, room;
+    size_t count = 0, places = 0;
+    bool fit = false;
+    if (!PyArg_ParseTuple(args, "OOOO", &from, &key_from[0], &key_from[1], &out) || number_key(key_from, &key) < 0) return NULL;
+    if (hold_buffer(out, PyBUF_WRITABLE, &room) < 0) return NULL;
+    int held = hold(from, &numbers);
+    if (held == 0) {
+        if (apart(&room, &numbers) == 0 && items(&numbers, 8, &count) == 0 && items(&room, 8, &places) == 0) {
+            OVER(numbers.n, fit = hashers_number_column(&key, (uint64_t *)numbers.at, count, (uint64_t *)room.at, places));
+            if (!fit) refuse(PyExc_ValueError, "out has not 8 bytes for each number");
+        }
+        drop(&numbers);
+    }
+    drop(&room);
+    return fit ? none() : NULL;
 }
 
 // A column of texts: its offsets of 32 or 64 bits, and the bytes in which the texts lie.
@@ -1153,6 +1204,9 @@ static PyMethodDef functions[] = {
                        "ValueError for another length."),
     CALL(poly61_combine, "poly61_combine($module, key, state1, hash2, length2)\n--\n\n"
                          "The hash of two texts joined, from the state behind the first, and the hash and the length of the second in bytes."),
+    CALL(number_hash, "number_hash($module, number, multiplier, addend)\n--\n\n"
+                      "The hash of a number below 2^64 at a key of two numbers below 2^128: the high half of the low 128 bits of\n"
+                      "multiplier * number + addend. At random keys k bits of two different numbers' hashes are the same at one key in 2^k."),
     CALL(combine, "combine($module, name, hash1, hash2, length2)\n--\n\n"
                   "The hash of two texts joined, from the hash of each and the length of the second in bytes. ValueError where the hash has\n"
                   "no such law: sdbm, loselose, passthrough, crc32 and crc32c have."),
@@ -1162,6 +1216,7 @@ static PyMethodDef functions[] = {
     {"_number_of", number_of, METH_O, "The number of a name; ValueError for spooky128, whose hashes fit no 64 bits."},
     {"_lines", lines, METH_VARARGS, NULL},
     {"_column", column, METH_VARARGS, NULL},
+    {"_number_column", number_column, METH_VARARGS, NULL},
     {"_unite", unite, METH_VARARGS, NULL},
     {"_revived", revived, METH_VARARGS, NULL},
     {"_version", version, METH_NOARGS, NULL},

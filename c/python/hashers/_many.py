@@ -1,10 +1,10 @@
-"""Many texts in one call: the lines of a text, and a column of texts."""
+"""Many texts or numbers in one call: the lines of a text, a column of texts, and a column of numbers."""
 from __future__ import annotations
 
 from array import array
-from typing import TYPE_CHECKING, Optional, Tuple, TypeVar, Union, overload
+from typing import TYPE_CHECKING, Optional, SupportsIndex, Tuple, TypeVar, Union, overload
 
-from ._hashers import _column, _lines, _number_of
+from ._hashers import _column, _lines, _number_column, _number_of
 
 if TYPE_CHECKING:
     from _typeshed import ReadableBuffer as Buffer
@@ -52,4 +52,19 @@ def hash_column(name: str, offsets: Buffer, data: Buffer, out: Optional[Out] = N
         if room.nbytes != 8 * count:
             raise ValueError(f"out has {room.nbytes} bytes, not 8 for each of {count} hashes")
     _column(number, width, offsets, data, hashes)
+    return hashes
+
+
+@overload
+def number_column(numbers: Buffer, multiplier: SupportsIndex, addend: SupportsIndex, out: None = None) -> array[int]: ...
+@overload
+def number_column(numbers: Buffer, multiplier: SupportsIndex, addend: SupportsIndex, out: Out) -> Out: ...
+def number_column(numbers: Buffer, multiplier: SupportsIndex, addend: SupportsIndex, out: Optional[Out] = None) -> Union[array[int], Out]:
+    """`number_hash` of each number of a column, an array of whole numbers of 64 bits, at one key. The hashes go to `out`, a buffer of 8 bytes
+    for each number that does not overlap the column, or to a new array."""
+    with memoryview(numbers) as places:
+        if places.format.lstrip("@=<") not in ("L", "l", "Q", "q", "N", "n") or places.itemsize != 8:
+            raise TypeError(f"numbers are of 64 bits, not of the format {places.format}")
+        hashes: Union[array[int], Out] = _ZERO * (places.nbytes // 8) if out is None else out
+    _number_column(numbers, multiplier, addend, hashes)
     return hashes

@@ -570,7 +570,9 @@ class Buffers(unittest.TestCase):
             "pickle.loads(pickle.dumps(hashers.new('siphash24', long)))", "_hashers._revived('xxh32', (1, 2), state).hexdigest()",
             "made.hexdigest()", "(made.name, made.digest_size, made.block_size)", "_hashers._revived(text, (1, 2), state)",
             "_hashers._revived('spooky', (1, 2), state)", "_hashers._revived('djb2', (1, 2), state)", "_hashers._revived(text)",
-            "hashers.spooky128(long, 1, 2)", "hashers.spooky128(long, odd)", "hashers.spooky128_v1(text)", "hashers.poly61(long, 1)",
+            "hashers.spooky128(long, 1, 2)", "hashers.number_hash(1, 1 << 70, 3)", "hashers.number_hash(odd, odd, 1 << 130)",
+            "hashers.number_column(array('Q', (1, 2)), 1 << 70, 3)", "hashers._number_column(long, 1, 2, long)", "hashers.xxh128(long, 5)",
+            "hashers.new('siphash13', long, key=bytes(16))", "hashers.new('siphash13', long, key=text)", "hashers.xxh64(long, seed=odd)", "hashers.spooky128(long, odd)", "hashers.spooky128_v1(text)", "hashers.poly61(long, 1)",
             "hashers.poly61(long, odd)", "hashers.poly61_pair(long, 1, odd)", "hashers.poly61_pair(long, 1, 2)",
             "hashers.poly61_state(long, 1)", "hashers.poly61_state(few, 1)", "hashers.poly61_combine(1, 2, 3, odd)",
             "hashers.combine('crc32', 1, 2, odd)", "hashers.combine('djb2', 1, 2, 3)", "hashers.crc32_ending(1, odd)",
@@ -714,6 +716,32 @@ class Buffers(unittest.TestCase):
             made.reset()
             self.assertIn(made.intdigest(), wanted)
         self.assertIn(made.intdigest(), wanted)
+
+
+class Numbers(unittest.TestCase):
+    def test_numbers_under_a_key(self) -> None:
+        top = (1 << 128) - 1
+        for multiplier, addend in ((0, 0), (1 << 64, 7), (top, top), (0x0123456789ABCDEF << 64 | 0x0FEDCBA987654321, 1 << 127)):
+            numbers = array("Q", (0, 1, 255, 1 << 32, TOP))
+            wanted = [(multiplier * number + addend) % (1 << 128) >> 64 for number in numbers]
+            self.assertEqual([hashers.number_hash(number, multiplier, addend) for number in numbers], wanted)
+            self.assertEqual(list(hashers.number_column(numbers, multiplier, addend)), wanted)
+            out = (ctypes.c_uint64 * 5)()
+            self.assertEqual(list(hashers.number_column(numbers, multiplier, addend, out)), wanted)
+        self.assertEqual(list(hashers.number_column(array("q", ()), 1, 2)), [])
+
+    def test_numbers_that_are_refused(self) -> None:
+        numbers = array("Q", (1, 2))
+        for given in ((-1, 0, 0), (1 << 64, 0, 0), (0, -1, 0), (0, 1 << 128, 0), (0, 0, 1 << 128)):
+            self.assertRaises(ValueError, hashers.number_hash, *given)
+        self.assertRaises(TypeError, hashers.number_hash, 1.5, 0, 0)
+        self.assertRaises(TypeError, hashers.number_hash, 1, 0, "0")
+        self.assertRaises(TypeError, hashers.number_column, array("I", (1,)), 1, 2)
+        self.assertRaises(TypeError, hashers.number_column, bytes(8), 1, 2)
+        self.assertRaises(ValueError, hashers.number_column, numbers, 1, 1 << 128)
+        for out in (numbers, array("Q", (1,)), bytearray(17)):
+            self.assertRaises(ValueError, hashers.number_column, numbers, 1, 2, out)
+        self.assertRaises(BufferError, hashers.number_column, numbers, 1, 2, bytes(16))
 
 
 class ManyTexts(unittest.TestCase):
