@@ -571,7 +571,7 @@ class Buffers(unittest.TestCase):
             "made.hexdigest()", "(made.name, made.digest_size, made.block_size)", "_hashers._revived(text, (1, 2), state)",
             "_hashers._revived('spooky', (1, 2), state)", "_hashers._revived('djb2', (1, 2), state)", "_hashers._revived(text)",
             "hashers.spooky128(long, 1, 2)", "hashers.number_hash(1, 1 << 70, 3)", "hashers.number_hash(odd, odd, 1 << 130)",
-            "hashers.number_column(array('Q', (1, 2)), 1 << 70, 3)", "hashers._number_column(long, 1, 2, long)", "hashers.xxh128(long, 5)",
+            "hashers.number_column(array('Q', (1, 2)), 1 << 70, 3)", "_hashers._number_column(long, 1, 2, long)", "hashers.xxh128(long, 5)",
             "hashers.new('siphash13', long, key=bytes(16))", "hashers.new('siphash13', long, key=text)", "hashers.xxh64(long, seed=odd)", "hashers.spooky128(long, odd)", "hashers.spooky128_v1(text)", "hashers.poly61(long, 1)",
             "hashers.poly61(long, odd)", "hashers.poly61_pair(long, 1, odd)", "hashers.poly61_pair(long, 1, 2)",
             "hashers.poly61_state(long, 1)", "hashers.poly61_state(few, 1)", "hashers.poly61_combine(1, 2, 3, odd)",
