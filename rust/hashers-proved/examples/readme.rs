@@ -1,6 +1,7 @@
 //! The example of the first page.
-use hashers_proved::fnv::{fnv1a64, FnvHashMap};
+use hashers_proved::fnv::{fnv1a64, FNV1aHasher64};
+use std::{collections::HashMap, hash::BuildHasherDefault};
 fn main() {
-    let ages: FnvHashMap<&str, u32> = [("Ada", 36)].into_iter().collect();
+    let ages: HashMap<&str, u32, BuildHasherDefault<FNV1aHasher64>> = HashMap::from_iter([("Ada", 36)]);
     println!("{} {}", fnv1a64(b"a"), ages["Ada"]); // prints 12638187200555641996 36
 }
