@@ -152,6 +152,12 @@ static void check_seeded(void) {
     unsigned char count[15];
     for (int i = 0; i < 15; i++) count[i] = (unsigned char)i;
     same("siphash24's published text", 0xa129ca6149be45e5, hashers_siphash24_keyed(count, 15, k0, k1));
+    same("xxh64 as xxhsum's library has it", 0xb559b98d844e0635, hashers_xxh64_seeded("xxhash", 6, 20141025));
+    same("xxh32 as xxhsum's library has it", 0x67bb40dd, hashers_xxh32_seeded("xxhash", 6, 20141025));
+    same("xxh3 as xxhsum's library has it", 0x8e5dc07f2b839bb0, hashers_xxh3_seeded("xxhash", 6, 20141025));
+    same_words("xxh128 as xxhsum's library has it", (hashers_words){0x97334731064933c1, 0x79ac33c96912c286},
+               hashers_xxh128("xxhash", 6, 20141025));
+    same("murmur3_32's published seed", 0x514e28b7, hashers_murmur3_32_seeded("", 0, 1));
     same("xxh32 under 0", hashers_xxh32(text, 99), hashers_xxh32_seeded(text, 99, 0));
     same("xxh64 under 0", hashers_xxh64(text, 99), hashers_xxh64_seeded(text, 99, 0));
     same("murmur3_32 under 0", hashers_murmur3_32(text, 99), hashers_murmur3_32_seeded(text, 99, 0));

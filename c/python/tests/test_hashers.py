@@ -210,7 +210,12 @@ class Hashes(unittest.TestCase):
         key = bytes(range(16))
         self.assertEqual(hashers.siphash24(bytes(range(15)), key=key), 0xA129CA6149BE45E5)
         self.assertEqual(hashers.murmur3_128(b"hello"), (0xCBD8A7B341BD9B02, 0x5B1E906A48AE1D19))
-        self.assertEqual((hashers.xxh64(b"", seed=0), hashers.xxh3(b"", seed=0)), (0xEF46DB3751D8E999, 0x2D06800538D394C2))
+        # of xxhsum's library, and the published ones of MurmurHash3
+        seed, word = 20141025, b"xxhash"
+        self.assertEqual((hashers.xxh64(word, seed=seed), hashers.xxh32(word, seed=seed)), (0xB559B98D844E0635, 0x67BB40DD))
+        self.assertEqual((hashers.xxh3(word, seed=seed), hashers.new("xxh128", word, seed=seed).hexdigest()),
+                         (0x8E5DC07F2B839BB0, "79ac33c96912c28697334731064933c1"))
+        self.assertEqual((hashers.murmur3_32(b"", seed=1), hashers.murmur3_32(b"", seed=0xFFFFFFFF)), (0x514E28B7, 0x81F16F39))
         for name in BY_THE_BLOCK:
             start: Dict[str, Any] = {"key": bytearray(key)} if name.startswith("sip") else {"seed": (1 << 32) - 1}
             function = getattr(hashers, name)
