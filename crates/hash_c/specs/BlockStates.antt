@@ -1,7 +1,7 @@
 -- What the state of a hash by the block stands for that a caller in C keeps.
-use Rattle.std.specs.Prelude.{ℕ, ◌≡◌, ◌<◌, List, slice_index}
+use Rattle.std.specs.Prelude.{ℕ, ◌≡◌, ◌<◌, List}
 use Rattle.hash_blocks.specs.Blocks.{Position, position, position_of}
-use Rattle.hash_c.specs.InWords.{of_xxh32, of_xxh64, low}
+use Rattle.hash_c.specs.InWords.{of_murmur3, of_murmur3_32, of_siphash, of_xxh32, of_xxh64}
 use Rattle.hash_c.specs.declared.block.BlockState.{BlockState}
 use Rattle.hash_murmur3.specs.Murmur3 as murmur3_32
 use Rattle.hash_murmur3.specs.Murmur3x128 as murmur3
@@ -49,14 +49,13 @@ abbrev pub IsXxh64State : BlockState → ℕ → List ℕ → Type 0
 IsXxh64State s seed = IsStateOf mark_xxh64 32 of_xxh64 xxh64.block_in s (xxh64.started seed)
 
 abbrev pub IsMurmur32State : BlockState → ℕ → List ℕ → Type 0
-IsMurmur32State s seed = IsStateOf mark_murmur3_32 4 (λ words long. low words 0) murmur3_32.after_block s seed
+IsMurmur32State s seed = IsStateOf mark_murmur3_32 4 of_murmur3_32 murmur3_32.after_block s seed
 
 abbrev pub IsMurmur3State : BlockState → ℕ → List ℕ → Type 0
-IsMurmur3State s seed =
-    IsStateOf mark_murmur3 16 (λ words long. (slice_index words 0, slice_index words 1)) murmur3.after_block s (seed, seed)
+IsMurmur3State s seed = IsStateOf mark_murmur3 16 of_murmur3 murmur3.after_block s (seed, seed)
 
 abbrev pub IsSip13State : BlockState → ℕ → ℕ → List ℕ → Type 0
-IsSip13State s k0 k1 = IsStateOf mark_siphash13 8 (λ words long. words) (siphash.after_block 1) s (siphash.start k0 k1)
+IsSip13State s k0 k1 = IsStateOf mark_siphash13 8 of_siphash (siphash.after_block 1) s (siphash.start k0 k1)
 
 abbrev pub IsSip24State : BlockState → ℕ → ℕ → List ℕ → Type 0
-IsSip24State s k0 k1 = IsStateOf mark_siphash24 8 (λ words long. words) (siphash.after_block 2) s (siphash.start k0 k1)
+IsSip24State s k0 k1 = IsStateOf mark_siphash24 8 of_siphash (siphash.after_block 2) s (siphash.start k0 k1)

@@ -13,3 +13,12 @@ of_xxh32 words long =
 
 abbrev pub of_xxh64 : List ℕ → ℕ → Lanes
 of_xxh64 words long = record { lanes = words; long = not (nat_eq long 0) }
+
+abbrev pub of_murmur3_32 : List ℕ → ℕ → ℕ
+of_murmur3_32 words long = low words 0
+
+abbrev pub of_murmur3 : List ℕ → ℕ → ℕ × ℕ
+of_murmur3 words long = (slice_index words 0, slice_index words 1)
+
+abbrev pub of_siphash : List ℕ → ℕ → List ℕ
+of_siphash words long = words

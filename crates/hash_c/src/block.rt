@@ -62,7 +62,7 @@ fn begun<R: InWords<N>, const N: usize>(mark: u64, seed: R::Seed) -> BlockState
     }
 }
 
-// Takes more bytes in, as `bytes_in` does, where the buffer is longer than a block.
+// Takes more bytes in, as `bytes_in` does, where the buffer may be longer than a block.
 #[inline(always)]
 fn bytes_in_front<R: InWords<N>, const N: usize>(
     lanes: &mut R::State,
@@ -181,7 +181,8 @@ pub extern "C" fn hashers_xxh32_write(state: &mut BlockState, bytes: &[u8])
 /// XXH32 of the bytes so far. More may be written afterwards. Without the mark it is 0.
 #[unsafe(no_mangle)]
 pub extern "C" fn hashers_xxh32_finish(state: &BlockState) -> u64
-    ensures of_text { (seed : ℕ) (text : List ℕ) → IsXxh32State state.now seed text → result ≡ xxh32 seed text }
+    ensures of_text { (seed : ℕ) (text : List ℕ) → IsXxh32State state.now seed text
+        → result ≡ xxh32 seed text }
     ensures unusable { ¬ IsUsable mark_xxh32 16 state.now → result ≡ 0 }
 {
     u64::from(hash_so_far::<Xxh32Rule, 16>(XXH32, state).unwrap_or(0))
@@ -208,7 +209,8 @@ pub extern "C" fn hashers_xxh64_write(state: &mut BlockState, bytes: &[u8])
 /// XXH64 of the bytes so far. More may be written afterwards. Without the mark it is 0.
 #[unsafe(no_mangle)]
 pub extern "C" fn hashers_xxh64_finish(state: &BlockState) -> u64
-    ensures of_text { (seed : ℕ) (text : List ℕ) → IsXxh64State state.now seed text → result ≡ xxh64 seed text }
+    ensures of_text { (seed : ℕ) (text : List ℕ) → IsXxh64State state.now seed text
+        → result ≡ xxh64 seed text }
     ensures unusable { ¬ IsUsable mark_xxh64 32 state.now → result ≡ 0 }
 {
     hash_so_far::<Xxh64Rule, 32>(XXH64, state).unwrap_or(0)
@@ -235,7 +237,8 @@ pub extern "C" fn hashers_murmur3_32_write(state: &mut BlockState, bytes: &[u8])
 /// MurmurHash3_x86_32 of the bytes so far. More may be written afterwards. Without the mark it is 0.
 #[unsafe(no_mangle)]
 pub extern "C" fn hashers_murmur3_32_finish(state: &BlockState) -> u64
-    ensures of_text { (seed : ℕ) (text : List ℕ) → IsMurmur32State state.now seed text → result ≡ murmur3_32 seed text }
+    ensures of_text { (seed : ℕ) (text : List ℕ) → IsMurmur32State state.now seed text
+        → result ≡ murmur3_32 seed text }
     ensures unusable { ¬ IsUsable mark_murmur3_32 4 state.now → result ≡ 0 }
 {
     u64::from(hash_so_far::<Murmur3Rule32, 4>(MURMUR3_32, state).unwrap_or(0))

@@ -1,7 +1,7 @@
 //! What is kept of whole blocks as whole numbers alone.
-ghost use Rattle.std.specs.Prelude.{◌≡◌, ◌≤◌, ◌%◌, ◌^◌, ℕ, List, slice_index};
+ghost use Rattle.std.specs.Prelude.{◌≡◌, ◌≤◌, ◌%◌, ◌^◌, ℕ, List};
 ghost use Rattle.std.proofs.Common.{lit≤};
-ghost use Rattle.hash_c.specs.InWords.{of_xxh32, of_xxh64};
+ghost use Rattle.hash_c.specs.InWords.{of_murmur3, of_murmur3_32, of_siphash, of_xxh32, of_xxh64};
 
 use hash_blocks::BlockRule;
 use hash_murmur3::{Murmur3Rule32, Murmur3Rule128};
@@ -76,7 +76,7 @@ impl InWords<32> for Xxh64Rule {
 }
 
 impl InWords<4> for Murmur3Rule32 {
-    ghost of_words = { λ words long. slice_index words 0 % 2 ^ 32 };
+    ghost of_words = { of_murmur3_32 };
 
     #[inline(always)]
     fn of_words(words: &[u64; 4], _long: u64) -> u32 {
@@ -93,7 +93,7 @@ impl InWords<4> for Murmur3Rule32 {
 }
 
 impl InWords<16> for Murmur3Rule128 {
-    ghost of_words = { λ words long. (slice_index words 0, slice_index words 1) };
+    ghost of_words = { of_murmur3 };
 
     #[inline(always)]
     fn of_words(words: &[u64; 4], _long: u64) -> (u64, u64) {
@@ -111,7 +111,7 @@ impl InWords<16> for Murmur3Rule128 {
 }
 
 impl<const C: usize, const D: usize> InWords<8> for SipRule<C, D> {
-    ghost of_words = { λ words long. words };
+    ghost of_words = { of_siphash };
 
     #[inline(always)]
     fn of_words(words: &[u64; 4], _long: u64) -> [u64; 4] {

@@ -1,8 +1,9 @@
 //! Numbers under a key of the caller's: one, and a column of them.
-ghost use Rattle.std.specs.Prelude.{◌≡◌, ◌↔◌, ◌+◌, ◌*◌, ◌^◌, IsTrue, length};
+ghost use Rattle.std.specs.Prelude.{◌≡◌, ◌↔◌, IsTrue, length};
 ghost use Rattle.std.specs.Bool.{OnTrue, OnFalse};
 ghost use Rattle.hash_c.specs.Numbers.{AreNumberHashes, hash_at_key};
 
+use hash_names::wide::both;
 use hash_numbers::number::number_hash;
 
 /// A multiplier and an addend of 128 bits, each in two halves.
@@ -15,22 +16,14 @@ pub struct NumberKey {
     pub addend_low: u64,
 }
 
-/// The number of two halves.
-#[inline(always)]
-fn joined(high: u64, low: u64) -> u128
-    ensures { result ≡ high * 2 ^ 64 + low }
-{
-    u128::from(high) * 18446744073709551616 + u128::from(low)
-}
-
 /// The hash of the number at a key.
 #[unsafe(no_mangle)]
 pub extern "C" fn hashers_number_hash(key: &NumberKey, number: u64) -> u64
     ensures { result ≡ hash_at_key key.now number }
 {
     number_hash(
-        joined(key.multiplier_high, key.multiplier_low),
-        joined(key.addend_high, key.addend_low),
+        both((key.multiplier_high, key.multiplier_low)),
+        both((key.addend_high, key.addend_low)),
         number,
     )
 }
@@ -49,8 +42,8 @@ pub extern "C" fn hashers_number_column(
     if numbers.len() != hashes.len() {
         return false;
     }
-    let multiplier = joined(key.multiplier_high, key.multiplier_low);
-    let addend = joined(key.addend_high, key.addend_low);
+    let multiplier = both((key.multiplier_high, key.multiplier_low));
+    let addend = both((key.addend_high, key.addend_low));
     for i in 0..hashes.len() {
         hashes[i] = number_hash(multiplier, addend, numbers[i]);
     }

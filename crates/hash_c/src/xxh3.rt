@@ -52,7 +52,8 @@ pub extern "C" fn hashers_xxh3_write(place: &mut Xxh3Place, bytes: &[u8])
 /// XXH3 of 64 bits of the text so far, behind which more may be written; 0 of a place at which no hasher stands.
 #[unsafe(no_mangle)]
 pub extern "C" fn hashers_xxh3_finish(place: &Xxh3Place) -> u64
-    ensures of_text { (seed : ℕ) (text : List ℕ) → StandsBehind place.now seed text → result ≡ xxh3_64_of seed text }
+    ensures of_text { (seed : ℕ) (text : List ℕ) → StandsBehind place.now seed text
+        → result ≡ xxh3_64_of seed text }
     ensures unusable { ¬ Fits place.now → result ≡ 0 }
 {
     match Xxh3Hasher::at(place) {

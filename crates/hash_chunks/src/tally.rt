@@ -96,7 +96,8 @@ fn count_file<R: Read + Drop, F: Folder<R>>(
     tally: &mut Tally,
 ) -> Result<bool, Fault>
     ensures kind { tally.new.kind ≡ tally.old.kind }
-    ensures counted { IfOk result (CountsFile (sum_by tally.old.kind) cuts.now (F.opens folder.now name.now) tally.old tally.new) }
+    ensures counted { IfOk result (CountsFile (sum_by tally.old.kind) cuts.now (F.opens folder.now name.now) tally.old
+        tally.new) }
 {
     cut_file(buffer, cuts, folder, name, tally)
 }

@@ -38,7 +38,8 @@ pub enum Unfinished<E: Drop> {
 
 /// Gives the sink the chunks of the bytes that end there whatever comes behind, and returns how many bytes they have.
 fn give_first<S: Sink>(cuts: &Cuts, bytes: &[u8], sink: &mut S) -> Result<usize, S::Error>
-    ensures gives { IfOk result (λ n. GivesFirst S.taken cuts.now bytes.now (drop n bytes.now) None sink.old sink.new) }
+    ensures gives { IfOk result (λ n.
+        GivesFirst S.taken cuts.now bytes.now (drop n bytes.now) None sink.old sink.new) }
     ensures within { IfOk result (λ n. n ≤ length bytes.now) }
     ensures rest { IfOk result (λ n. IsBegun cuts.now (drop n bytes.now)) }
     ensures some { OnErr result ((rest : List ℕ) × (0 < length rest) × GivesFirst S.taken cuts.now bytes.now rest

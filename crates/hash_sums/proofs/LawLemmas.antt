@@ -1,5 +1,5 @@
 -- What a check sees.
-use Rattle.std.proofs.Common.{◌≡◌, ◌≢◌, ℕ, Bool, true, false, ◌&&◌, nat_eq, List, Option, Result, Ok, Err, if◌then◌else◌, refl, sym, ap, ◌∙◌}
+use Rattle.std.proofs.Common.{◌≡◌, ◌≢◌, ℕ, Bool, true, false, ◌&&◌, nat_eq, List, Option, Some, Result, Ok, Err, if◌then◌else◌, refl, sym, ap, ◌∙◌}
 use Rattle.std.proofs.lemmas.Bool.{eqb-true}
 use Rattle.std.specs.IoError.{error_kind}
 use Rattle.std.specs.declared.io.Error.{Error}
@@ -7,7 +7,10 @@ use Rattle.hashers.specs.Text.{IsText}
 use Rattle.hash_sums.specs.declared.check.Verdict.TheVariants.{Same, Different, Unread, Missing}
 use Rattle.hash_sums.specs.declared.sum.Unsummed.TheVariants.{Unhashed, Unopened}
 use Rattle.hash_sums.specs.Checking.{is_not_found, IsVerdict}
+use Rattle.cli.specs.Files.{Opens}
 use Rattle.hash_sums.specs.Files.{ReadsFile}
+use Rattle.hash_sums.specs.Laws.{NeverPasses}
+use Rattle.hash_sums.specs.Sums.{number_named}
 
 -- a number that is said to be the same is the same
 same_number : (told number : ℕ) → (if nat_eq number told then Same else Different) ≡ Same → number ≡ told
@@ -35,3 +38,10 @@ never_passes opens hash Changed apart ignore_missing first is_text (Ok number, (
 never_passes opens hash Changed apart ignore_missing first is_text (Err (Unopened error), can, says) =
     absurd (not_same (ignore_missing && is_not_found (error_kind error)) says)
 never_passes opens hash Changed apart ignore_missing first is_text (Err (Unhashed why), can, says) = cc
+
+-- a name's hash that tells the texts apart
+pub named_never_passes : {F : Type 0} (opens : F → Opens) (name : List ℕ) (hash : List ℕ → ℕ) (Changed : (first second : List ℕ) → Type 0)
+    → number_named name ≡ Some hash → ((x y : List ℕ) → IsText x → IsText y → Changed x y → hash x ≢ hash y)
+    → NeverPasses opens name Changed
+named_never_passes opens name hash Changed named apart =
+    (hash, named, λ folder file. never_passes (opens folder file) hash Changed apart)

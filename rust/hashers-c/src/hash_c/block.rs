@@ -59,7 +59,7 @@ fn begun<R: InWords<N>, const N: usize>(mark: u64, seed: R::Seed) -> BlockState 
     }
 }
 
-// Takes more bytes in, as `bytes_in` does, where the buffer is longer than a block.
+// Takes more bytes in, as `bytes_in` does, where the buffer may be longer than a block.
 /// The caller has to see to it that:
 ///
 /// ```text
@@ -226,7 +226,8 @@ pub fn hashers_xxh32_write(state: &mut BlockState, bytes: &[u8]) {
 /// Proved:
 ///
 /// ```text
-/// of_text: (seed : ℕ) (text : List ℕ) → IsXxh32State state.now seed text → result ≡ xxh32 seed text
+/// of_text: (seed : ℕ) (text : List ℕ) → IsXxh32State state.now seed text
+///     → result ≡ xxh32 seed text
 /// unusable: ¬ IsUsable mark_xxh32 16 state.now → result ≡ 0
 /// ```
 #[inline]
@@ -265,7 +266,8 @@ pub fn hashers_xxh64_write(state: &mut BlockState, bytes: &[u8]) {
 /// Proved:
 ///
 /// ```text
-/// of_text: (seed : ℕ) (text : List ℕ) → IsXxh64State state.now seed text → result ≡ xxh64 seed text
+/// of_text: (seed : ℕ) (text : List ℕ) → IsXxh64State state.now seed text
+///     → result ≡ xxh64 seed text
 /// unusable: ¬ IsUsable mark_xxh64 32 state.now → result ≡ 0
 /// ```
 #[inline]
@@ -304,7 +306,8 @@ pub fn hashers_murmur3_32_write(state: &mut BlockState, bytes: &[u8]) {
 /// Proved:
 ///
 /// ```text
-/// of_text: (seed : ℕ) (text : List ℕ) → IsMurmur32State state.now seed text → result ≡ murmur3_32 seed text
+/// of_text: (seed : ℕ) (text : List ℕ) → IsMurmur32State state.now seed text
+///     → result ≡ murmur3_32 seed text
 /// unusable: ¬ IsUsable mark_murmur3_32 4 state.now → result ≡ 0
 /// ```
 #[inline]

@@ -1,8 +1,9 @@
 //! Numbers under a key of the caller's: one, and a column of them.
 
 // What follows is the proved text of crates/hash_c/src/numbers.rt without its contracts.
-use hashers_proved::hash_numbers;
+use hashers_proved::{hash_names, hash_numbers};
 
+use hash_names::wide::both;
 use hash_numbers::number::number_hash;
 
 /// A multiplier and an addend of 128 bits, each in two halves.
@@ -15,18 +16,6 @@ pub struct NumberKey {
     pub addend_low: u64,
 }
 
-/// The number of two halves.
-///
-/// Proved:
-///
-/// ```text
-/// result ≡ high * 2 ^ 64 + low
-/// ```
-#[inline(always)]
-fn joined(high: u64, low: u64) -> u128 {
-    u128::from(high) * 18446744073709551616 + u128::from(low)
-}
-
 /// The hash of the number at a key.
 ///
 /// Proved:
@@ -37,8 +26,8 @@ fn joined(high: u64, low: u64) -> u128 {
 #[inline]
 pub fn hashers_number_hash(key: &NumberKey, number: u64) -> u64 {
     number_hash(
-        joined(key.multiplier_high, key.multiplier_low),
-        joined(key.addend_high, key.addend_low),
+        both((key.multiplier_high, key.multiplier_low)),
+        both((key.addend_high, key.addend_low)),
         number,
     )
 }
@@ -61,8 +50,8 @@ pub fn hashers_number_column(
     if numbers.len() != hashes.len() {
         return false;
     }
-    let multiplier = joined(key.multiplier_high, key.multiplier_low);
-    let addend = joined(key.addend_high, key.addend_low);
+    let multiplier = both((key.multiplier_high, key.multiplier_low));
+    let addend = both((key.addend_high, key.addend_low));
     for i in 0..hashes.len() {
         hashes[i] = number_hash(multiplier, addend, numbers[i]);
     }

@@ -69,7 +69,8 @@ pub fn hashers_xxh3_write(place: &mut Xxh3Place, bytes: &[u8]) {
 /// Proved:
 ///
 /// ```text
-/// of_text: (seed : ℕ) (text : List ℕ) → StandsBehind place.now seed text → result ≡ xxh3_64_of seed text
+/// of_text: (seed : ℕ) (text : List ℕ) → StandsBehind place.now seed text
+///     → result ≡ xxh3_64_of seed text
 /// unusable: ¬ Fits place.now → result ≡ 0
 /// ```
 #[inline]

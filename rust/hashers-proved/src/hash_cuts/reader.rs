@@ -41,7 +41,8 @@ pub enum Unfinished<E> {
 /// Proved:
 ///
 /// ```text
-/// gives: IfOk result (λ n. GivesFirst S.taken cuts.now bytes.now (drop n bytes.now) None sink.old sink.new)
+/// gives: IfOk result (λ n.
+///     GivesFirst S.taken cuts.now bytes.now (drop n bytes.now) None sink.old sink.new)
 /// within: IfOk result (λ n. n ≤ length bytes.now)
 /// rest: IfOk result (λ n. IsBegun cuts.now (drop n bytes.now))
 /// some: OnErr result ((rest : List ℕ) × (0 < length rest) × GivesFirst S.taken cuts.now bytes.now rest

@@ -109,7 +109,8 @@ impl Sink for Tally {
 ///
 /// ```text
 /// kind: tally.new.kind ≡ tally.old.kind
-/// counted: IfOk result (CountsFile (sum_by tally.old.kind) cuts.now (F.opens folder.now name.now) tally.old tally.new)
+/// counted: IfOk result (CountsFile (sum_by tally.old.kind) cuts.now (F.opens folder.now name.now) tally.old
+///     tally.new)
 /// ```
 #[inline]
 fn count_file<R: Read, F: Folder<R>>(
