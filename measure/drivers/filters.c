@@ -28,27 +28,37 @@ struct tried rattle_realloc(void *at, size_t kept, size_t size, size_t align) {
 void rattle_dealloc(void *at) { free(at); }
 
 // ---- the calls
-typedef uint64_t call(const uint8_t *there, size_t there_len, const uint8_t *asked, size_t asked_len, size_t size,
-                      size_t rounds, uint64_t bits);
+uint32_t measure_kind(const char *name, size_t len);
+uint64_t measure_filters(uint32_t first, uint32_t second, const uint8_t *there, size_t there_len, const uint8_t *asked,
+                         size_t asked_len, size_t size, size_t rounds, uint64_t bits);
 
-call measure_filters_djb2_sdbm, measure_filters_fnv1a64_djb2, measure_filters_fnv1a64_lookup3, measure_filters_fxhash_fnv1a64,
-    measure_filters_fxhash_lookup3, measure_filters_spooky_lookup3;
+// The names of two hashes; no names are libbloom's.
+struct pair {
+    const char *first, *second;
+};
 
-static const struct pair {
-    const char *name;
-    call *found;
-} pairs[] = {
-    {"djb2, sdbm", measure_filters_djb2_sdbm},           {"fnv1a64, djb2", measure_filters_fnv1a64_djb2},
-    {"fnv1a64, lookup3", measure_filters_fnv1a64_lookup3}, {"fxhash, fnv1a64", measure_filters_fxhash_fnv1a64},
-    {"fxhash, lookup3", measure_filters_fxhash_lookup3}, {"spooky, lookup3", measure_filters_spooky_lookup3},
+static const struct pair pairs[] = {
+    {"djb2", "sdbm"},      {"fnv1a64", "djb2"},   {"fnv1a64", "lookup3"},
+    {"fxhash", "fnv1a64"}, {"fxhash", "lookup3"}, {"spooky", "lookup3"},
 };
 enum { PAIRS = sizeof pairs / sizeof *pairs };
 
-// The same by libbloom, at 10 bits a key: it takes the share of strange keys, and makes 7 probes of it.
+// Their numbers.
+struct by {
+    bool ours;
+    uint32_t first, second;
+};
+
+static struct by numbers_of(struct pair pair) {
+    if (pair.first == NULL)
+        return (struct by){false, 0, 0};
+    return (struct by){true, measure_kind(pair.first, strlen(pair.first)), measure_kind(pair.second, strlen(pair.second))};
+}
+
+// What libbloom finds at 10 bits a key: it takes the share of strange keys, and makes 7 probes of it.
 static uint64_t by_libbloom(const uint8_t *there, size_t there_len, const uint8_t *asked, size_t asked_len, size_t size,
-                            size_t rounds, uint64_t bits) {
+                            size_t rounds) {
     struct bloom bloom;
-    (void)bits;
     memset(&bloom, 0, sizeof bloom);
     if (bloom_init(&bloom, (int)(there_len / size), 0.0081925) != 0 || bloom.hashes != 7)
         return UINT64_MAX;
@@ -60,6 +70,14 @@ static uint64_t by_libbloom(const uint8_t *there, size_t there_len, const uint8_
             count += bloom_check(&bloom, asked + at, (int)size) == 1;
     bloom_free(&bloom);
     return count;
+}
+
+// How many of the keys that are asked for are found in a filter of those that are there.
+static uint64_t found(struct by by, const uint8_t *there, size_t there_len, const uint8_t *asked, size_t asked_len, size_t size,
+                      size_t rounds, uint64_t bits) {
+    if (!by.ours)
+        return by_libbloom(there, there_len, asked, asked_len, size, rounds);
+    return measure_filters(by.first, by.second, there, there_len, asked, asked_len, size, rounds, bits);
 }
 
 // ---- keys
@@ -94,13 +112,13 @@ static double now(void) {
 
 // ---- false positives
 // How many of `count` strange keys are found in a filter of as many keys, in percent, of random keys or of counters.
-static double strange_share(call *found, size_t count, bool random, uint64_t bits) {
+static double strange_share(struct by by, size_t count, bool random, uint64_t bits) {
     size_t size = random ? 16 : 8;
     random_state = 1;
     uint8_t *there = keys(count, size, random, 0), *asked = keys(count, size, random, count);
-    if (found(there, count * size, there, count * size, size, 1, bits) != count)
+    if (found(by, there, count * size, there, count * size, size, 1, bits) != count)
         exit(1); // a key was forgotten, or there is no memory
-    uint64_t strange = found(there, count * size, asked, count * size, size, 1, bits);
+    uint64_t strange = found(by, there, count * size, asked, count * size, size, 1, bits);
     free(there);
     free(asked);
     return 100.0 * (double)strange / (double)count;
@@ -112,21 +130,21 @@ static void strange_keys(size_t count) {
            "|---|---:|---:|---:|---:|\n",
            bits[0], bits[1], bits[0], bits[1]);
     for (int i = 0; i < PAIRS; i++) {
-        printf("| %s |", pairs[i].name);
+        printf("| %s, %s |", pairs[i].first, pairs[i].second);
         for (int random = 1; random >= 0; random--)
             for (int j = 0; j < 2; j++)
-                printf(" %.2f |", strange_share(pairs[i].found, count, random, bits[j]));
+                printf(" %.2f |", strange_share(numbers_of(pairs[i]), count, random, bits[j]));
         printf("\n");
     }
 }
 
 // ---- times
 // The time of a call over `calls` calls, in nanoseconds.
-static double time_of(call *found, const uint8_t *there, const uint8_t *asked, size_t len, size_t rounds, uint64_t bits,
+static double time_of(struct by by, const uint8_t *there, const uint8_t *asked, size_t len, size_t rounds, uint64_t bits,
                       int calls) {
     double start = now();
     for (int i = 0; i < calls; i++)
-        if (found(there, len, asked, rounds == 0 ? 0 : len, 16, rounds, bits) == UINT64_MAX)
+        if (found(by, there, len, asked, rounds == 0 ? 0 : len, 16, rounds, bits) == UINT64_MAX)
             exit(1);
     return (now() - start) / calls;
 }
@@ -137,11 +155,11 @@ struct times {
     double of[3][TURNS];
 };
 
-static void measure(struct times *times, int turn, call *found, const uint8_t *there, const uint8_t *strange, size_t count,
+static void measure(struct times *times, int turn, struct by by, const uint8_t *there, const uint8_t *strange, size_t count,
                     uint64_t bits, int calls, size_t rounds) {
-    double insert = time_of(found, there, there, count * 16, 0, bits, calls);
-    double with_there = time_of(found, there, there, count * 16, rounds, bits, calls);
-    double with_strange = time_of(found, there, strange, count * 16, rounds, bits, calls);
+    double insert = time_of(by, there, there, count * 16, 0, bits, calls);
+    double with_there = time_of(by, there, there, count * 16, rounds, bits, calls);
+    double with_strange = time_of(by, there, strange, count * 16, rounds, bits, calls);
     times->of[0][turn] = insert / (double)count;
     times->of[1][turn] = (with_there - insert) / (double)(rounds * count);
     times->of[2][turn] = (with_strange - insert) / (double)(rounds * count);
@@ -159,14 +177,14 @@ static double median(double *of, int turns) {
 
 static const struct timed {
     const char *name;
-    call *found;
+    struct pair pair;
     bool rounded; // ten bits a key, or the power of two at or above that
 } timed[] = {
-    {"fxhash, fnv1a64", measure_filters_fxhash_fnv1a64, false},
-    {"fxhash, lookup3", measure_filters_fxhash_lookup3, false},
-    {"fnv1a64, lookup3", measure_filters_fnv1a64_lookup3, false},
-    {"fxhash, fnv1a64 at a power of two", measure_filters_fxhash_fnv1a64, true},
-    {"libbloom", by_libbloom, false},
+    {"fxhash, fnv1a64", {"fxhash", "fnv1a64"}, false},
+    {"fxhash, lookup3", {"fxhash", "lookup3"}, false},
+    {"fnv1a64, lookup3", {"fnv1a64", "lookup3"}, false},
+    {"fxhash, fnv1a64 at a power of two", {"fxhash", "fnv1a64"}, true},
+    {"libbloom", {NULL, NULL}, false},
 };
 enum { TIMED = sizeof timed / sizeof *timed };
 
@@ -192,7 +210,7 @@ static void times(size_t most) {
         for (int turn = 0; turn < turns[j]; turn++)
             for (int i = 0; i < TIMED; i++) {
                 uint64_t bits = bits_for(count, timed[i].rounded);
-                measure(&got[i][j], turn, timed[i].found, there, strange, count, bits, calls[j], rounds[j]);
+                measure(&got[i][j], turn, numbers_of(timed[i].pair), there, strange, count, bits, calls[j], rounds[j]);
             }
         free(there);
         free(strange);

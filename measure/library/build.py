@@ -5,7 +5,7 @@ import shutil
 import subprocess
 import sys
 
-from library.names import ROOT, measured, rows_of_original
+from library.names import ROOT, rows_of_original
 
 DRIVERS = os.path.join(ROOT, "measure", "drivers")
 TARGET = os.path.join(ROOT, "measure", "target")
@@ -62,17 +62,13 @@ def original():
     return os.path.abspath(folder)
 
 
-# a macro in Rust that hands another one the words that it is given, and each row
-HANDS_ON = "#[allow(unused_macros)]\nmacro_rules! with_%s { ($then:ident $($before:tt)*) => { $then! { $($before)*\n%s} } }\n"
+# a macro in Rust that hands another one each row
+HANDS_ON = "macro_rules! with_names { ($then:ident) => { $then! { %s} } }\n"
 
 
 def file_of_names():
-    """A file with macros in Rust: with_names has each row of rows_of_original, the others those for which measure_calls has a call of
-    their kind."""
-    rows, text = rows_of_original(), ""
-    for kind in ("names", "numbers", "behind", "reader", "unwrite"):
-        there = [row for row in rows if kind == "names" or row[0] in measured(kind)]
-        text += HANDS_ON % (kind, "".join("%s %s %d\n" % row for row in there))
+    """A file with a macro in Rust that has each row of rows_of_original."""
+    text = HANDS_ON % "".join("%s %s %d\n" % row for row in rows_of_original())
     path = os.path.join(TARGET, "names.rs")
     os.makedirs(TARGET, exist_ok=True)
     # what cargo built stays where the names are as they were

@@ -42,12 +42,6 @@ def original_of(name):
     return alike if alike[0] in hashers_of_original() else None
 
 
-def measured(kind):
-    """The names for which measure_calls has a call of that kind."""
-    source = {"behind": "numbers"}.get(kind, kind)
-    return rows_in(f"crates/measure_calls/src/{source}.rt", rf"fn measure_speed_{kind}_(\w+)\(")
-
-
 def rows_of_original():
     """Each of our names that the original has, with its hasher there, and from how many bytes on the two agree."""
     hashers = hashers_of_original()

@@ -19,6 +19,13 @@ def machine():
     return f"Processor: {processor()}, {os.cpu_count()} of them, with {load} program{'s' * (load != 1)} at work in the last minute."
 
 
+def compilers(*commands):
+    """What is told of the compilers: the first line in which each says its version."""
+    said = (subprocess.run([command, "version" if command == "rt" else "--version"], stdout=subprocess.PIPE, text=True, check=True).stdout
+            for command in commands)
+    return f"Compilers: {'; '.join(text.split(chr(10))[0] for text in said)}."
+
+
 def by_turns(calls, turns):
     """What each call answers in each turn. Which begins a turn changes with each."""
     answers = [[] for _ in calls]

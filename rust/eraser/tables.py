@@ -3,7 +3,7 @@
 # Of each Rust crate the Rattle crates whose sources become its modules, in the order in which they stand on one another.
 RUST_CRATES = {
     "hashers-proved": [
-        "hash_rounds", "hash_laws", "hash_rules", "hash_writes", "hash_fx",
+        "hash_words", "hash_rounds", "hash_laws", "hash_windows", "hash_reading", "hash_rules", "hash_writes", "hash_fx",
         "hash_jenkins", "jenkins_laws",
         "hash_blocks", "hash_murmur3", "hash_siphash", "hash_xxhash", "block_laws", "hash_xxh3",
         "hash_bytes", "hash_crc", "hashers", "hash_more", "hash_keyed", "hash_numbers", "hash_names",
@@ -26,10 +26,11 @@ PARTS = {
         "hash_keyed": {"modular", "pair", "parts", "poly61", "words"},
         "hash_numbers": {"hasher", "number"},
         "hash_names": {"reading", "table", "task", "wide"},
+        "hash_reading": {"limited", "reader"},
         "streams": {"fault", "tries"},
     },
     "hashers-tools": {
-        "hashof": {"line", "main", "named", "outcome", "run"},
+        "hashof": {"line", "main", "outcome", "run"},
     },
 }
 # Crates that take memory, read or write: what they name of Rattle's std is in the shim, which is written by hand over Rust's.

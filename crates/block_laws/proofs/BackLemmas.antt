@@ -4,8 +4,8 @@ use Rattle.std.proofs.Math.Nat.{div-mul-le_self, div-add-mod'}
 use Rattle.std.proofs.lemmas.List.{reverse-append}
 use Rattle.std.proofs.lemmas.List.Elements.{All-head, All-tail, All-drop}
 use Rattle.std.proofs.lemmas.Grind.{fold-append}
-use Rattle.hash_rounds.specs.Blocks.{pieces}
-use Rattle.hash_rounds.proofs.PieceLemmas.{first_chunks-pieces}
+use Rattle.hash_words.specs.Pieces.{pieces}
+use Rattle.hash_words.proofs.PieceLemmas.{first_chunks-pieces}
 use Rattle.hash_laws.specs.Text.{IsText}
 use Rattle.hash_laws.proofs.TextLemmas.{IsByte}
 use Rattle.hash_blocks.specs.Blocks.{blocks, tail}

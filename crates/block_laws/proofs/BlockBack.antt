@@ -1,9 +1,9 @@
 -- XXH64's blocks there and back: any four lanes are led to from four lanes by a block, and from no others.
 use Rattle.std.proofs.Common.{◌≡◌, ℕ, ◌^◌, ◌<◌, List, [], ◌∷◌, length, slice_index, refl, sym, ap, ◌∙◌, arith}
 use Rattle.std.proofs.lemmas.Nat.{mod_below, pow_pos}
-use Rattle.hash_rounds.specs.Words.{rotl, add, sub}
-use Rattle.hash_rounds.specs.Blocks.{le_words}
-use Rattle.hash_rounds.proofs.WordLemmas.{rotl-lt, rotl-rotl, add-sub, sub-add}
+use Rattle.hash_words.specs.Words.{rotl, add, sub}
+use Rattle.hash_words.specs.Pieces.{le_words}
+use Rattle.hash_words.proofs.WordLemmas.{rotl-lt, rotl-rotl, add-sub, sub-add}
 use Rattle.hash_rounds.proofs.RoundLemmas.{AreFourWords}
 use Rattle.hash_xxhash.specs.Xxh64.{p1, p2, product, round, after_block}
 use Rattle.block_laws.specs.Xxh64Back.{un_p1, lane_out, before_block}

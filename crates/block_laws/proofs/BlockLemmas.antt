@@ -5,12 +5,12 @@ use Rattle.std.proofs.Math.Path.{ap₂}
 use Rattle.std.proofs.Math.Nat.{mul-add-div_right, div-mul-le_self, div-add-mod'}
 use Rattle.std.proofs.lemmas.Nat.{mod_below, div-mul-add}
 use Rattle.std.specs.Simd.{first_chunks}
-use Rattle.hash_rounds.specs.Blocks.{pieces}
-use Rattle.hash_rounds.proofs.PieceLemmas.{texts-same, part-same, rest-same}
+use Rattle.hash_words.specs.Pieces.{pieces}
+use Rattle.hash_words.proofs.PieceLemmas.{texts-same, part-same, rest-same}
 use Rattle.hash_laws.specs.Text.{IsText}
 use Rattle.hash_laws.specs.Exactly.{ExactlyTexts}
 use Rattle.hash_laws.proofs.ExactlyLemmas.{Exactly-one}
-use Rattle.hash_laws.specs.DifferWithin.{DifferInOneBlock}
+use Rattle.hash_windows.specs.DifferWithin.{DifferInOneBlock}
 use Rattle.hash_blocks.specs.Blocks.{blocks, tail}
 use Rattle.block_laws.specs.BlockFacts.{blocks_before, BlockFacts, BlockBack, IsBlock, IsLeft}
 use Rattle.block_laws.proofs.BackLemmas.{tail-left, framed-blocks, framed-tail, framed-length, blocks-in, before-in, blocks-before, before-blocks}

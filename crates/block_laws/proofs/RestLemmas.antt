@@ -2,11 +2,11 @@
 use Rattle.std.proofs.Common.{◌≡◌, ℕ, ◌-◌, ◌^◌, ◌<◌, ◌≤◌, List, fold, reverse, bit_xor, refl, sym, ap, ◌∙◌, arith, lit<, lit≤}
 use Rattle.std.proofs.lemmas.Nat.{mod_below, xor_lt, xor_comm, pow_pos}
 use Rattle.std.specs.Int.{w64, to_le_bytes}
-use Rattle.hash_rounds.specs.Words.{le, rotl, add, sub, xorshift}
-use Rattle.hash_rounds.proofs.PieceLemmas.{le-lt, le-same}
-use Rattle.hash_rounds.proofs.WordLemmas.{rotl-lt, rotl-rotl, le-to_le_bytes-64, add-sub, sub-add}
-use Rattle.hash_rounds.proofs.XorLemmas.{xor_twice}
-use Rattle.hash_rounds.proofs.XorshiftLemmas.{xorshift-more, xorshift-past, xorshift-lt}
+use Rattle.hash_words.specs.Words.{le, rotl, add, sub, xorshift}
+use Rattle.hash_words.proofs.PieceLemmas.{le-lt, le-same}
+use Rattle.hash_words.proofs.WordLemmas.{rotl-lt, rotl-rotl, le-to_le_bytes-64, add-sub, sub-add}
+use Rattle.hash_words.proofs.XorLemmas.{xor_twice}
+use Rattle.hash_words.proofs.XorshiftLemmas.{xorshift-more, xorshift-past, xorshift-lt}
 use Rattle.hash_laws.specs.Text.{IsText}
 use Rattle.hash_laws.proofs.TextLemmas.{IsByte, IsText-to_le_bytes}
 use Rattle.hash_blocks.specs.Blocks.{tail}

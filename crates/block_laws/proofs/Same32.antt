@@ -1,11 +1,11 @@
 -- The steps of XXH32 tell what they are given apart.
 use Rattle.std.proofs.Common.{◌≡◌, ℕ, zero, suc, ◌-◌, ◌/◌, ◌^◌, ◌<◌, ◌≤◌, List, [], ◌∷◌, slice_index, fold, refl, sym, ap, ◌∙◌, arith, lit<}
 use Rattle.std.proofs.lemmas.Nat.{mod_below, pow_pos, xor_lt, shr_le}
-use Rattle.hash_rounds.specs.Words.{le, rotl, add, xorshift}
-use Rattle.hash_rounds.specs.Blocks.{pieces}
-use Rattle.hash_rounds.proofs.PieceLemmas.{fold-same, fold-in_range}
-use Rattle.hash_rounds.proofs.WordLemmas.{rotl-lt, rotl-rotl}
-use Rattle.hash_rounds.proofs.XorshiftLemmas.{same_from_xorshift}
+use Rattle.hash_words.specs.Words.{le, rotl, add, xorshift}
+use Rattle.hash_words.specs.Pieces.{pieces}
+use Rattle.hash_words.proofs.PieceLemmas.{fold-same, fold-in_range}
+use Rattle.hash_words.proofs.WordLemmas.{rotl-lt, rotl-rotl}
+use Rattle.hash_words.proofs.XorshiftLemmas.{same_from_xorshift}
 use Rattle.hash_laws.specs.Text.{IsText}
 use Rattle.hash_laws.proofs.TextLemmas.{IsByte}
 use Rattle.hash_laws.proofs.FoldLemmas.{fold_cancels, fold_in_range}
@@ -73,7 +73,7 @@ turned_q4 : (x y : ℕ) → x < 2 ^ 32 → y < 2 ^ 32 → product (rotl 32 x 17)
 turned_q4 x y xs ys e =
     rotl_same 17 x y (omega arith) xs ys (product_q4 _ _ (rotl-lt 32 x 17 (omega arith) xs) (rotl-lt 32 y 17 (omega arith) ys) e)
 
-four_state : (g h word : ℕ) → g < 2 ^ 32 → h < 2 ^ 32 → four_in g word ≡ four_in h word → g ≡ h
+pub four_state : (g h word : ℕ) → g < 2 ^ 32 → h < 2 ^ 32 → four_in g word ≡ four_in h word → g ≡ h
 unfolding four_in
 four_state g h word gs hs e = first_same (product word q3) g h gs hs (turned_q4 _ _ (add-lt g _) (add-lt h _) e)
 
@@ -82,18 +82,18 @@ unfolding four_in
 four_word h v w vs ws e =
     product_q3 v w vs ws (second_same h _ _ (product-lt v q3) (product-lt w q3) (turned_q4 _ _ (add-lt h _) (add-lt h _) e))
 
-byte-lt : (h byte : ℕ) → byte_in h byte < 2 ^ 32
+pub byte-lt : (h byte : ℕ) → byte_in h byte < 2 ^ 32
 unfolding byte_in
 byte-lt h byte = product-lt _ q1
 
-byte_state : (g h byte : ℕ) → g < 2 ^ 32 → h < 2 ^ 32 → byte_in g byte ≡ byte_in h byte → g ≡ h
+pub byte_state : (g h byte : ℕ) → g < 2 ^ 32 → h < 2 ^ 32 → byte_in g byte ≡ byte_in h byte → g ≡ h
 unfolding byte_in
 byte_state g h byte gs hs e = first_same (product byte q5) g h gs hs (turned_same 11 _ _ (omega arith) (add-lt g _) (add-lt h _) e)
 
 -- ---- what is left
 
 module _ (left : List ℕ) (text : IsText left) where
-  fours-lt : (h : ℕ) → h < 2 ^ 32 → fours_in h left < 2 ^ 32
+  pub fours-lt : (h : ℕ) → h < 2 ^ 32 → fours_in h left < 2 ^ 32
   unfolding blocks
   fours-lt h h_in =
       fold-in_range IsWord (IsBlock 4) (λ h block. four_in h (le block)) (λ s b _ _. four-lt s (le b))
@@ -160,6 +160,11 @@ column_same j [] k l ks ls e = e
 column_same j (b ∷ bs) k l ks ls e =
     round_lane k l (slice_index (words_of b) j) ks ls (column_same j bs _ _ (round-lt k _) (round-lt l _) e)
 
+pub lane-blocks : (s text : List ℕ) (j : ℕ) → j < 4 → slice_index (blocks 16 after_block s text) j
+    ≡ blocks 16 (λ lane block. round lane (slice_index (words_of block) j)) (slice_index s j) text
+unfolding blocks column
+lane-blocks s text j below = lane-fold (pieces 16 text) s j below
+
 -- lanes after more blocks: those of equal ones are equal, and equal ones come from equal ones
 pub lane_after : (s t text : List ℕ) (j : ℕ) → j < 4 → slice_index s j ≡ slice_index t j
     → slice_index (blocks 16 after_block s text) j ≡ slice_index (blocks 16 after_block t text) j
@@ -190,7 +195,7 @@ blocks-lanes s text s_in = lanes-fold (pieces 16 text) s s_in
 
 -- ---- the lanes in one word
 
-sum_of : ℕ → ℕ → ℕ → ℕ → ℕ
+unfoldable pub sum_of : ℕ → ℕ → ℕ → ℕ → ℕ
 sum_of a b c d = add 32 (add 32 (add 32 a b) c) d
 
 module _ (a b c d x : ℕ) (x_in : x < 2 ^ 32) where
@@ -214,7 +219,7 @@ pub converged-lt : (s : List ℕ) → converged s < 2 ^ 32
 unfolding converged
 converged-lt s = add-lt _ _
 
-converged-sum : (s : List ℕ) → converged s
+pub converged-sum : (s : List ℕ) → converged s
     ≡ sum_of (rotl 32 (slice_index s 0) 1) (rotl 32 (slice_index s 1) 7) (rotl 32 (slice_index s 2) 12) (rotl 32 (slice_index s 3) 18)
 unfolding converged sum_of
 converged-sum s = refl

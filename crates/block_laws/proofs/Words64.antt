@@ -5,10 +5,10 @@ use Rattle.std.proofs.lemmas.Bool.{cases_eq}
 use Rattle.std.proofs.lemmas.Nat.{mod_below, pow_pos}
 use Rattle.std.proofs.lemmas.List.{take-append-drop, drop-drop, length-take-le}
 use Rattle.std.proofs.lemmas.List.Elements.{All-take, All-drop}
-use Rattle.hash_rounds.specs.Words.{le, add}
-use Rattle.hash_rounds.proofs.PieceLemmas.{part-same, rest-same}
+use Rattle.hash_words.specs.Words.{le, add}
+use Rattle.hash_words.proofs.PieceLemmas.{part-same, rest-same}
 use Rattle.hash_laws.specs.Text.{IsText}
-use Rattle.hash_laws.specs.DifferWithin.{IsFirstDifference, DifferInOneBlock}
+use Rattle.hash_windows.specs.DifferWithin.{IsFirstDifference, DifferInOneBlock}
 use Rattle.hash_laws.specs.Exactly.{ExactlyTexts}
 use Rattle.hash_laws.proofs.TextLemmas.{IsByte}
 use Rattle.hash_laws.proofs.ExactlyLemmas.{Exactly-one}

@@ -1,7 +1,7 @@
 -- What a hash by the block keeps that loses nothing: each block can be taken back, there is one block between any two states, and one
 -- state behind each answer.
 use Rattle.std.specs.Prelude.{◌≡◌, ℕ, ◌<◌, List, length, fold, reverse}
-use Rattle.hash_rounds.specs.Blocks.{pieces}
+use Rattle.hash_words.specs.Pieces.{pieces}
 use Rattle.hash_laws.specs.Text.{IsText}
 
 -- a block of n bytes

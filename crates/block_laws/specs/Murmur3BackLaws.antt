@@ -4,11 +4,11 @@ use Rattle.std.proofs.Math.Nat.{div-eq_of_lt, pow-le-pow_right}
 use Rattle.std.proofs.lemmas.Nat.{mod_below, xor_lt, xor_comm, shr_le, pow_pos}
 use Rattle.std.specs.Int.{w32, to_le_bytes}
 use Rattle.std.specs.Int.Bits.{xor_zero_r}
-use Rattle.hash_rounds.specs.Words.{le, rotl, xorshift}
-use Rattle.hash_rounds.proofs.PieceLemmas.{le-lt, le-same}
-use Rattle.hash_rounds.proofs.WordLemmas.{rotl-lt, rotl-rotl, le-to_le_bytes-32}
-use Rattle.hash_rounds.proofs.XorLemmas.{xor_twice, xor_cancel_left}
-use Rattle.hash_rounds.proofs.XorshiftLemmas.{xorshift-more}
+use Rattle.hash_words.specs.Words.{le, rotl, xorshift}
+use Rattle.hash_words.proofs.PieceLemmas.{le-lt, le-same}
+use Rattle.hash_words.proofs.WordLemmas.{rotl-lt, rotl-rotl, le-to_le_bytes-32}
+use Rattle.hash_words.proofs.XorLemmas.{xor_twice, xor_cancel_left}
+use Rattle.hash_words.proofs.XorshiftLemmas.{xorshift-more}
 use Rattle.hash_laws.proofs.TextLemmas.{IsText-to_le_bytes}
 use Rattle.block_laws.specs.BlockFacts.{BlockFacts, IsBlock, IsLeft}
 use Rattle.hash_murmur3.specs.Murmur3.{scramble, after_word, after_block, last_mix, ended}
@@ -83,10 +83,10 @@ module _ (x : ℕ) (x_in : x < 2 ^ 32) where
 
 -- ---- shifts of words of 32 bits
 
-xorshift-lt : (x k : ℕ) → x < 2 ^ 32 → xorshift x k < 2 ^ 32
+pub xorshift-lt : (x k : ℕ) → x < 2 ^ 32 → xorshift x k < 2 ^ 32
 xorshift-lt x k x_in = xor_lt 32 x (x / 2 ^ k) x_in (omega (arith, shr_le x k))
 
-xorshift-past : (x k : ℕ) → x < 2 ^ 32 → 32 ≤ k → xorshift x k ≡ x
+pub xorshift-past : (x k : ℕ) → x < 2 ^ 32 → 32 ≤ k → xorshift x k ≡ x
 xorshift-past x k x_in past =
     let none : x / 2 ^ k ≡ 0 = div-eq_of_lt (omega (arith, pow-le-pow_right {n = 2} (lit< tt) {i = 32} {j = k} past)) in
     rw none (xor_zero_r x)

@@ -6,11 +6,11 @@ use Rattle.std.proofs.lemmas.Nat.{mod_below, xor_lt, xor_comm, pow_pos}
 use Rattle.std.proofs.lemmas.List.{take-append-drop, length-take-le}
 use Rattle.std.proofs.lemmas.List.Elements.{All-append, All-take, All-drop}
 use Rattle.std.specs.Int.{w64, to_le_bytes}
-use Rattle.hash_rounds.specs.Words.{le, rotl, add, sub, xorshift}
-use Rattle.hash_rounds.proofs.PieceLemmas.{le-lt, le-same}
-use Rattle.hash_rounds.proofs.WordLemmas.{rotl-lt, rotl-rotl, le-to_le_bytes-64, add-sub, sub-add}
-use Rattle.hash_rounds.proofs.XorLemmas.{xor_twice, xor_cancel_left}
-use Rattle.hash_rounds.proofs.XorshiftLemmas.{xorshift-more, xorshift-past, xorshift-lt}
+use Rattle.hash_words.specs.Words.{le, rotl, add, sub, xorshift}
+use Rattle.hash_words.proofs.PieceLemmas.{le-lt, le-same}
+use Rattle.hash_words.proofs.WordLemmas.{rotl-lt, rotl-rotl, le-to_le_bytes-64, add-sub, sub-add}
+use Rattle.hash_words.proofs.XorLemmas.{xor_twice, xor_cancel_left}
+use Rattle.hash_words.proofs.XorshiftLemmas.{xorshift-more, xorshift-past, xorshift-lt}
 use Rattle.hash_laws.specs.Text.{IsText}
 use Rattle.hash_laws.proofs.TextLemmas.{IsByte, IsText-to_le_bytes}
 use Rattle.block_laws.specs.BlockFacts.{BlockFacts, IsBlock, IsLeft}

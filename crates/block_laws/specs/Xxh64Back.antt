@@ -1,8 +1,8 @@
 -- XXH64's steps behind the whole blocks taken back: the inverse of each product is that of an odd number modulo 2 ^ 64.
 use Rattle.std.specs.Prelude.{ℕ, List, [], ◌∷◌, slice_index, fold, reverse, bit_xor}
 use Rattle.std.specs.Int.{w64, to_le_bytes}
-use Rattle.hash_rounds.specs.Words.{le, rotl, sub, xorshift}
-use Rattle.hash_rounds.specs.Blocks.{le_words}
+use Rattle.hash_words.specs.Words.{le, rotl, sub, xorshift}
+use Rattle.hash_words.specs.Pieces.{le_words}
 use Rattle.hash_blocks.specs.Blocks.{tail}
 use Rattle.block_laws.specs.BlockFacts.{blocks_before}
 use Rattle.hash_xxhash.specs.Xxh64.{p1, p2, p3, p4, p5, product, round}

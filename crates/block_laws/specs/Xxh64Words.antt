@@ -1,6 +1,6 @@
 -- Words of eight bytes behind the whole blocks of 32.
 use Rattle.std.specs.Prelude.{◌≡◌, ℕ, ◌+◌, ◌*◌, ◌/◌, ◌%◌, ◌<◌, ◌≤◌, List, length}
-use Rattle.hash_laws.specs.DifferWithin.{DifferInOneBlock}
+use Rattle.hash_windows.specs.DifferWithin.{DifferInOneBlock}
 
 -- a word between a front and a back of such lengths is one of those behind the whole blocks
 pub record IsBehind (front back : ℕ) : Type 0 where

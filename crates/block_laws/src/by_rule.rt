@@ -3,14 +3,14 @@ ghost use Rattle.std.specs.Prelude.{◌≡◌, ◌≢◌, ◌↔◌, ◌+◌, �
 ghost use Rattle.std.specs.Bool.{OnTrue};
 ghost use Rattle.hash_laws.specs.Exactly.{ExactlyTexts};
 ghost use Rattle.hash_laws.specs.Text.{IsText};
-ghost use Rattle.hash_laws.specs.DifferWithin.{DifferInOneBlock};
+ghost use Rattle.hash_windows.specs.DifferWithin.{DifferInOneBlock};
 ghost use Rattle.hash_blocks.specs.Blocks.{blocks, tail};
 ghost use Rattle.block_laws.specs.BlockFacts.{blocks_before};
 
 use crate::block_undo::BlockUndo;
 use hash_blocks::blocks_in;
 use hash_laws::traits::bytes_are_a_text;
-use hash_laws::window::differ_in_one_block;
+use hash_windows::window::differ_in_one_block;
 
 /// Whether the texts have one length and differ, but only within one block of `N` bytes, or behind the whole blocks. Where so,
 /// their hashes differ under every seed. Computes no hash.
@@ -30,7 +30,7 @@ pub fn one_changed_block_shows<R: BlockUndo<N>, const N: usize>()
 
 // The state before the bytes from which they, at the end of a text of so many bytes, lead to a hash: what is left behind the
 // whole blocks is taken back first, and then the blocks, from the last to the first.
-#[tactic(auto, unfolding(crate::specs::BlockFacts::blocks_before, hash_blocks::specs::Blocks::tail, hash_rounds::specs::Blocks::pieces))]
+#[tactic(auto, unfolding(crate::specs::BlockFacts::blocks_before, hash_blocks::specs::Blocks::tail, hash_words::specs::Pieces::pieces))]
 fn blocks_out<R: BlockUndo<N>, const N: usize>(hash: R::Hash, bytes: &[u8], total: u64) -> R::State
     ensures { result ≡ blocks_before N R.unblock (R.unfinish hash (tail N bytes.now) total) bytes.now }
 {

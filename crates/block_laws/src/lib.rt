@@ -7,6 +7,7 @@ mod by_rule;
 mod murmur3;
 mod murmur3_128;
 mod murmur3_32;
+mod xxh32;
 mod xxhash;
 
 pub use block_undo::BlockUndo;
@@ -18,6 +19,7 @@ pub use murmur3::{
     murmur3_32_is_even, murmur3_128_is_even, one_changed_block_shows_in_murmur3_128,
     one_changed_word_shows_in_murmur3_32, word_for_murmur3_32,
 };
+pub use xxh32::{word_for_xxh32, xxh32_is_even};
 pub use xxhash::{
     apart_by_word_xxh32, apart_by_word_xxh64, one_changed_word_shows_in_xxh32,
     one_changed_word_shows_in_xxh64, word_for_xxh64, xxh64_block_out, xxh64_is_even,

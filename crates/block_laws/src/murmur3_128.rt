@@ -6,7 +6,7 @@ ghost use Rattle.block_laws.specs.Murmur3x128Laws.{murmur3_128_facts};
 use crate::block_undo::BlockUndo;
 use hash_murmur3::Murmur3Rule128;
 use hash_murmur3::x64_128::{C1, C2, scrambled, words_left, words_of};
-use hash_rounds::{rotl64, xorshift};
+use hash_words::{rotl64, xorshift};
 
 // What undoes a product by `C1`, and by `C2`.
 const UN_C1: u64 = 0xa984_09e8_82ce_4d7d;

@@ -6,7 +6,7 @@ ghost use Rattle.block_laws.specs.Murmur3BackLaws.{murmur3_32_facts};
 use crate::block_undo::BlockUndo;
 use hash_murmur3::Murmur3Rule32;
 use hash_murmur3::x86_32::scramble;
-use hash_rounds::{le_four, le32, rotl32};
+use hash_words::{le_four, le32, rotl32};
 
 // The word of which `scramble` makes this one.
 #[inline(always)]

@@ -3,8 +3,8 @@ ghost use Rattle.std.specs.Prelude.{◌≡◌, ◌≢◌, ◌↔◌, ◌+◌, �
 ghost use Rattle.std.specs.Bool.{OnTrue};
 ghost use Rattle.hash_laws.specs.Exactly.{ExactlyTexts};
 ghost use Rattle.hash_laws.specs.Text.{IsText};
-ghost use Rattle.hash_laws.specs.DifferWithin.{DifferInOneBlock};
-ghost use Rattle.hash_rounds.specs.Words.{le};
+ghost use Rattle.hash_windows.specs.DifferWithin.{DifferInOneBlock};
+ghost use Rattle.hash_words.specs.Words.{le};
 ghost use Rattle.hash_rounds.proofs.RoundLemmas.{AreFourWords};
 ghost use Rattle.hash_blocks.specs.Blocks.{blocks, tail};
 ghost use Rattle.block_laws.specs.BlockFacts.{blocks_before};
@@ -14,8 +14,8 @@ ghost use Rattle.hash_xxhash.specs.Xxh64.{after_block, eights_in, start, xxh64};
 ghost use Rattle.block_laws.specs.Xxh64Back.{before_block, byte_out, eight_between, eight_out, four_out, lane_out, last_unmix, rest_out, unround, unspun};
 ghost use Rattle.block_laws.specs.Xxh64Words.{IsBehind, DifferInOneLastWord};
 
-use hash_laws::window::{differ_in_one_block, first_difference};
-use hash_rounds::{le_four, le_words, le64, rotl64, xorshift};
+use hash_windows::window::{differ_in_one_block, first_difference};
+use hash_words::{le_four, le_words, le64, rotl64, xorshift};
 use hash_xxhash::at_64::{P1, P2, P3, P4, P5, after_block, converged, eight_in, round, start};
 
 // What undoes a product by a prime.
@@ -59,7 +59,7 @@ fn bytes_out(h: u64, bytes: &[u8]) -> u64
 }
 
 // The word before the whole fours of a text.
-#[tactic(auto, unfolding(crate::specs::BlockFacts::blocks_before, hash_rounds::specs::Blocks::pieces))]
+#[tactic(auto, unfolding(crate::specs::BlockFacts::blocks_before, hash_words::specs::Pieces::pieces))]
 fn fours_out(h: u64, text: &[u8]) -> u64
     ensures { result ≡ blocks_before 4 (λ h block. four_out h (le block)) h text.now }
 {
@@ -72,7 +72,7 @@ fn fours_out(h: u64, text: &[u8]) -> u64
 }
 
 // The word before the whole eights of a text.
-#[tactic(auto, unfolding(crate::specs::BlockFacts::blocks_before, hash_rounds::specs::Blocks::pieces))]
+#[tactic(auto, unfolding(crate::specs::BlockFacts::blocks_before, hash_words::specs::Pieces::pieces))]
 fn eights_out(h: u64, text: &[u8]) -> u64
     ensures { result ≡ blocks_before 8 (λ h block. eight_out h (le block)) h text.now }
 {
@@ -105,7 +105,7 @@ fn last_unmix(h: u64) -> u64
 }
 
 // The lanes after the whole blocks of a text.
-#[tactic(auto, unfolding(hash_blocks::specs::Blocks::blocks, hash_rounds::specs::Blocks::pieces))]
+#[tactic(auto, unfolding(hash_blocks::specs::Blocks::blocks, hash_words::specs::Pieces::pieces))]
 fn lanes_of(seed: u64, text: &[u8]) -> [u64; 4]
     ensures { result ≡ blocks 32 after_block (start seed) text.now }
 {
@@ -118,7 +118,7 @@ fn lanes_of(seed: u64, text: &[u8]) -> [u64; 4]
 }
 
 // The word after the whole eights of what is left of a text behind its blocks.
-#[tactic(auto, unfolding(hash_blocks::specs::Blocks::blocks, hash_blocks::specs::Blocks::tail, hash_rounds::specs::Blocks::pieces))]
+#[tactic(auto, unfolding(hash_blocks::specs::Blocks::blocks, hash_blocks::specs::Blocks::tail, hash_words::specs::Pieces::pieces))]
 fn eights_in(h: u64, text: &[u8]) -> u64
     ensures { result ≡ eights_in h (tail 32 text.now) }
 {

@@ -1,10 +1,10 @@
 -- Bytes behind those that are kept: fewer than complete the block, and at least as many.
-use Rattle.std.proofs.Common.{◌≡◌, ℕ, ◌+◌, ◌-◌, ◌*◌, ◌<◌, ◌≤◌, List, [], ◌++◌, length, take, drop, refl, sym, ap, ◌∙◌, arith, length-append}
+use Rattle.std.proofs.Common.{◌≡◌, ℕ, ◌+◌, ◌-◌, ◌*◌, ◌<◌, ◌≤◌, List, [], ◌∷◌, ◌++◌, length, take, drop, refl, sym, ap, ◌∙◌, arith, length-append}
 use Rattle.std.proofs.Math.Path.{ap₂}
-use Rattle.std.proofs.lemmas.List.{append_assoc, append-nil, take-append-drop, drop_all, length-take-le}
-use Rattle.hash_rounds.specs.Put.{put_at}
-use Rattle.hash_rounds.proofs.PutLemmas.{take-put_at}
-use Rattle.hash_rounds.proofs.PutLemmas.{take-put_first}
+use Rattle.std.proofs.lemmas.List.{append_assoc, append-nil, take-append-drop, take_all, drop_all, length-take-le}
+use Rattle.hash_words.specs.Put.{put_at}
+use Rattle.hash_words.proofs.PutLemmas.{take-put_at}
+use Rattle.hash_words.proofs.PutLemmas.{take-put_first}
 use Rattle.hash_blocks.specs.Blocks.{blocks, tail}
 use Rattle.hash_blocks.specs.BlocksLaws.{blocks-append, blocks_one, blocks_short, tail-append, tail_short}
 
@@ -26,6 +26,10 @@ module _ {S : Type 0} (n : ℕ) (some : 0 < n) (block : S → List ℕ → S) (s
   few-left buffer short put =
       ap (take (kept + length p)) put ∙ take-put_at kept p b (kept + length p) refl (omega (arith, whole, part))
       ∙ sym (tail_short n some all (few short))
+
+  pub few-placed : (buffer : List ℕ) → length p < n - kept → take (kept + length p) buffer ≡ take kept b ++ p
+      → take (kept + length p) buffer ≡ tail n all
+  few-placed buffer short placed = placed ∙ sym (tail_short n some all (few short))
 
   -- no bytes were kept
   pub none-mixed : (t to : S) (rest : List ℕ) → kept ≡ 0 → to ≡ blocks n block t rest → t ≡ s → rest ≡ p → to ≡ blocks n block s all
@@ -58,6 +62,14 @@ module _ {S : Type 0} (n : ℕ) (some : 0 < n) (block : S → List ℕ → S) (s
     once : length (take kept b ++ head) ≡ 1 * n
     once = omega (arith, filled-size)
 
+    -- a buffer that begins so is the block
+    pub placed-whole : (buffer front : List ℕ) → length buffer ≡ n → take (kept + length front) buffer ≡ take kept b ++ front → front ≡ head
+        → buffer ≡ put_at kept front b
+    placed-whole buffer front full placed is =
+        let long : length front ≡ n - kept = ap (λ (h : List ℕ). length h) is ∙ head-size in
+        sym (take_all (kept + length front) buffer (omega (arith, full, long, part))) ∙ placed ∙ ap (λ (h : List ℕ). take kept b ++ h) is
+        ∙ sym (ap (λ (h : List ℕ). put_at kept h b) is ∙ filled-is)
+
     pub whole-mixed : (t to : S) (buffer front rest : List ℕ) → to ≡ blocks n block t rest → t ≡ block s buffer → buffer ≡ put_at kept front b
         → front ≡ head → rest ≡ drop (n - kept) p → to ≡ blocks n block s all
     whole-mixed t to buffer front rest led here filled is behind =
@@ -71,3 +83,8 @@ module _ {S : Type 0} (n : ℕ) (some : 0 < n) (block : S → List ℕ → S) (s
     whole-left rest left buffer behind is =
         take-put_first left buffer ∙ behind ∙ ap (tail n) is
         ∙ sym (tail-append n some (take kept b ++ head) (drop (n - kept) p) 1 once) ∙ ap (tail n) rejoined
+
+-- of nothing the first bytes of any buffer are it
+pub none-first : (left buffer : List ℕ) → length left ≡ 0 → take (length left) buffer ≡ left
+none-first [] buffer none = refl
+none-first (x ∷ left) buffer none = absurd (omega (arith, none))

@@ -1,6 +1,6 @@
 -- A text as whole blocks of n bytes and what is left behind them, and where a hasher by the block stands.
 use Rattle.std.specs.Prelude.{ℕ, ◌+◌, ◌*◌, ◌/◌, ◌%◌, ◌^◌, ◌<◌, List, ◌++◌, length, take, drop, fold}
-use Rattle.hash_rounds.specs.Blocks.{pieces}
+use Rattle.hash_words.specs.Pieces.{pieces}
 use Rattle.hash_laws.specs.Text.{IsText}
 
 -- what the whole blocks of a text lead to

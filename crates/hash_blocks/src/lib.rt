@@ -11,4 +11,4 @@ pub use block_hasher::BlockHasher;
 pub use block_rule::BlockRule;
 pub use parts::{blocks_in, bytes_in};
 pub use wide_rule::WideRule;
-pub use words::le_eight;
+pub use words::{le_eight, le_seven};

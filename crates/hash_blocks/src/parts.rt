@@ -3,11 +3,12 @@ ghost use Rattle.std.specs.Prelude.{◌≡◌, ◌+◌, ◌<◌, ◌≤◌, ◌+
 ghost use Rattle.hash_blocks.specs.Blocks.{blocks, tail};
 
 use crate::block_rule::BlockRule;
-use hash_rounds::put;
+use crate::words::{put_behind, put_front};
+use hash_words::put;
 
 /// Takes the whole blocks of the bytes in, where they stand, and returns what is left behind them.
 #[inline(always)]
-#[tactic(auto, unfolding(crate::specs::Blocks::blocks, crate::specs::Blocks::tail, hash_rounds::specs::Blocks::pieces))]
+#[tactic(auto, unfolding(crate::specs::Blocks::blocks, crate::specs::Blocks::tail, hash_words::specs::Pieces::pieces))]
 pub fn blocks_in<'a, R: BlockRule<N>, const N: usize>(
     state: &mut R::State,
     bytes: &'a [u8],
@@ -25,6 +26,41 @@ pub fn blocks_in<'a, R: BlockRule<N>, const N: usize>(
     left
 }
 
+// What `bytes_in` does where a block is a word of eight bytes: those that are kept are written and read as one.
+#[inline(always)]
+fn words_in<R: BlockRule<N>, const N: usize>(
+    state: &mut R::State,
+    buffer: &mut [u8; N],
+    kept: usize,
+    bytes: &[u8],
+) -> usize
+    requires eight { N ≡ 8 }
+    requires part { kept < N }
+    ensures mixed { state.new ≡ blocks N R.block state.old (take kept buffer.old ++ bytes.now) }
+    ensures left { take result buffer.new ≡ tail N (take kept buffer.old ++ bytes.now) }
+    ensures part { result < N }
+    ensures whole { length buffer.new ≡ N }
+{
+    let mut rest = bytes;
+    if kept > 0 {
+        let open = N - kept;
+        if bytes.len() < open {
+            put_behind(buffer, kept, bytes);
+            return kept + bytes.len();
+        }
+        let (head, later) = bytes.split_at(open);
+        put_behind(buffer, kept, head);
+        R::block(state, buffer);
+        rest = later;
+    }
+    let left = blocks_in::<R, N>(state, rest);
+    let count = left.len();
+    if count > 0 {
+        put_front(buffer, left);
+    }
+    count
+}
+
 /// Takes more bytes in behind the first `kept` of the buffer, and returns how many are kept afterwards. Where they complete a
 /// block that was begun, its bytes are copied to the buffer; all blocks behind are read where they stand.
 #[inline(always)]
@@ -40,6 +76,10 @@ pub fn bytes_in<R: BlockRule<N>, const N: usize>(
     ensures part { result < N }
     ensures whole { length buffer.new ≡ N }
 {
+    // a single byte is written faster alone
+    if N == 8 && bytes.len() > 1 {
+        return words_in::<R, N>(state, buffer, kept, bytes);
+    }
     if bytes.len() < N - kept {
         put(buffer, kept, bytes);
         return kept + bytes.len();

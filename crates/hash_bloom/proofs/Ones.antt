@@ -1,5 +1,5 @@
 -- How many bits are set, by words.
-use Rattle.std.proofs.Common.{ℕ, zero, suc, ◌≡◌, ◌≢◌, ◌+◌, ◌-◌, ◌*◌, ◌/◌, ◌%◌, ◌^◌, ◌<◌, ◌≤◌, List, [], ◌∷◌, length, get_or, refl, sym, ap, ap₂, ◌∙◌, arith, ⊎_elim}
+use Rattle.std.proofs.Common.{ℕ, zero, suc, ◌≡◌, ◌≢◌, ◌↔◌, ◌+◌, ◌-◌, ◌*◌, ◌/◌, ◌%◌, ◌^◌, ◌<◌, ◌≤◌, List, [], ◌∷◌, length, get_or, refl, sym, ap, ap₂, ◌∙◌, arith, ⊎_elim}
 use Rattle.std.specs.Int.{bit_at}
 use Rattle.std.specs.Int.RustNames.{count_ones}
 use Rattle.std.specs.List.{sum_by, range_with_len}
@@ -7,7 +7,7 @@ use Rattle.std.proofs.lemmas.Bool.{cases_eq}
 use Rattle.std.proofs.lemmas.List.Sums.{sum_by-cons}
 use Rattle.std.proofs.lemmas.Nat.{ones_cat}
 use Rattle.std.proofs.lemmas.Nat.Bits.{bit_at-lt, bit_at-suc, bit_at_lowest}
-use Rattle.hash_bloom.specs.Filter.{bit, count_set}
+use Rattle.hash_bloom.specs.Filter.{Filter, IsEmpty, IsFilter, IsSet, bit, count_set}
 
 -- the sum of n numbers from a on
 abbrev sum_from : (ℕ → ℕ) → ℕ → ℕ → ℕ
@@ -114,3 +114,66 @@ ones_of_words words bits fits enough within =
 
 pub count_set-le : (words : List ℕ) (bits : ℕ) → count_set words bits ≤ bits
 count_set-le words bits = small_sum (bit words) 0 bits (λ i. bit_at-lt (get_or words (i / 64) 0) (i % 64))
+
+-- a sum of 0 or 1 each that is 0 has none, and one that is as great as it can be has all
+each_zero : (f : ℕ → ℕ) (a n : ℕ) → sum_from f a n ≡ 0 → (i : ℕ) → a ≤ i → i < a + n → f i ≡ 0
+each_zero f a zero none i low high = absurd (omega (arith, low, high))
+each_zero f a (suc n) none i low high =
+    let here : f a ≡ 0 = omega (arith, next f a n, none) in
+    let rest : sum_from f (a + 1) n ≡ 0 = omega (arith, next f a n, none) in
+    ⊎_elim
+    (λ (is : i ≡ a). ap f is ∙ here)
+    (λ (other : i ≢ a). each_zero f (a + 1) n rest i (omega (arith, low, other)) (omega (arith, high)))
+    (cases_eq i a)
+
+each_one : (f : ℕ → ℕ) (a n : ℕ) → ((i : ℕ) → f i < 2) → sum_from f a n ≡ n → (i : ℕ) → a ≤ i → i < a + n → f i ≡ 1
+each_one f a zero small all i low high = absurd (omega (arith, low, high))
+each_one f a (suc n) small all i low high =
+    let most = small_sum f (a + 1) n small in
+    let here : f a ≡ 1 = omega (arith, next f a n, all, most, small a) in
+    let rest : sum_from f (a + 1) n ≡ n = omega (arith, next f a n, all, here) in
+    ⊎_elim
+    (λ (is : i ≡ a). ap f is ∙ here)
+    (λ (other : i ≢ a). each_one f (a + 1) n small rest i (omega (arith, low, other)) (omega (arith, high)))
+    (cases_eq i a)
+
+none_from : (f : ℕ → ℕ) (a n : ℕ) → ((i : ℕ) → a ≤ i → i < a + n → f i ≡ 0) → sum_from f a n ≡ 0
+none_from f a zero none = refl
+none_from f a (suc n) none =
+    omega (
+      arith,
+      next f a n,
+      none a (omega arith) (omega arith),
+      none_from f (a + 1) n (λ i low high. none i (omega (arith, low)) (omega (arith, high))),
+    )
+
+all_from : (f : ℕ → ℕ) (a n : ℕ) → ((i : ℕ) → a ≤ i → i < a + n → f i ≡ 1) → sum_from f a n ≡ n
+all_from f a zero all = refl
+all_from f a (suc n) all =
+    omega (
+      arith,
+      next f a n,
+      all a (omega arith) (omega arith),
+      all_from f (a + 1) n (λ i low high. all i (omega (arith, low)) (omega (arith, high))),
+    )
+
+is_bit : (words : List ℕ) (i : ℕ) → bit words i < 2
+is_bit words i = bit_at-lt (get_or words (i / 64) 0) (i % 64)
+
+pub none_set : (filter : Filter) → IsFilter filter → (count_set filter.words filter.bits ≡ 0) ↔ IsEmpty filter
+none_set filter is = (
+  λ none j set. let zero_there = each_zero (bit filter.words) 0 filter.bits none j (omega arith) (omega (arith, is.within j set)) in
+      absurd (omega (arith, set, zero_there)),
+  λ empty. none_from (bit filter.words) 0 filter.bits (λ i low high.
+      ⊎_elim
+      (λ (one : bit filter.words i ≡ 1). absurd (empty i one))
+      (λ (other : bit filter.words i ≢ 1). omega (arith, other, is_bit filter.words i))
+      (cases_eq (bit filter.words i) 1)),
+)
+
+pub all_set : (filter : Filter)
+    → (count_set filter.words filter.bits ≡ filter.bits) ↔ ((j : ℕ) → j < filter.bits → IsSet filter j)
+all_set filter = (
+  λ all j below. each_one (bit filter.words) 0 filter.bits (is_bit filter.words) all j (omega arith) (omega (arith, below)),
+  λ set. all_from (bit filter.words) 0 filter.bits (λ i low high. set i (omega (arith, high))),
+)

@@ -5,7 +5,7 @@
 //! Adam Kirsch and Michael Mitzenmacher, "Less Hashing, Same Performance: Building a Better Bloom Filter", 2006.
 #![tactic(auto)]
 
-ghost use Rattle.std.specs.Prelude.{◌≡◌, ◌*◌, ◌^◌, ◌<◌, ◌≤◌, ◌↔◌, IfOk, IfErr, IfSome, IsNone, IsOk, IsTrue, max};
+ghost use Rattle.std.specs.Prelude.{◌≡◌, ◌*◌, ◌^◌, ◌<◌, ◌≤◌, ◌↔◌, ℕ, IfOk, IfErr, IfSome, IsNone, IsOk, IsTrue, max};
 ghost use Rattle.hashers.specs.Text.{joined};
 ghost use Rattle.hash_bloom.specs.Estimate.{IsEstimate};
 ghost use Rattle.hash_bloom.specs.Filter.{Filter, IsFilter, Passes, PassesNone, IsProbe, IsSet, IsEmpty, HasShape, Fits, Adds, AllPassIn, IsForKeys, LetsFewPass, bits_for_share, count_set, filter_of};
@@ -228,6 +228,13 @@ impl<F: Piecewise, G: Piecewise> Bloom<F, G> {
         &self.words
     }
 
+    /// A law with no code: a filter has a bit and a probe at least, as many words as its bits need, and no bit beyond them.
+    pub fn is_filter(&self)
+        ensures { IsFilter self.now }
+    {
+        let _words = &self.words;
+    }
+
     /// The words, for which the filter is given up. It takes no memory.
     pub fn into_words(self) -> Vec<u64>
         ensures words { result.items ≡ self.words }
@@ -267,3 +274,11 @@ impl<F: Streamed, G: Streamed> Bloom<F, G> {
         has_all(&self.words, self.bits, self.probes, first, second)
     }
 }
+
+/// What the number of set bits tells where it is none or all, with no code.
+pub fn no_bit_or_all()
+    ensures none { (filter : Filter) → IsFilter filter
+        → (count_set filter.words filter.bits ≡ 0) ↔ IsEmpty filter }
+    ensures all { (filter : Filter) → (count_set filter.words filter.bits ≡ filter.bits)
+        ↔ ((j : ℕ) → j < filter.bits → IsSet filter j) }
+{}

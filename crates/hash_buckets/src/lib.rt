@@ -267,6 +267,12 @@ pub fn removal_undoes_insert()
         → map.remove (map.insert t k v) k ≡ t }
 {}
 
+/// To insert another value and then the old one again leaves the table as it was, with no code.
+pub fn old_value_undoes_insert()
+    ensures { (t : Table) (k : List ℕ) (v w : ℕ) → map.get t k ≡ Some w
+        → map.insert (map.insert t k v) k w ≡ t }
+{}
+
 /// A step of a run on a table.
 #[derive(Drop)]
 pub enum Command {

@@ -5,9 +5,9 @@ use Rattle.hash_bytes.specs.Fnv.{fnv1a32_step, fnv1a64_step}
 use Rattle.hash_rounds.specs.Sums.{sdbm_from, sdbm_step}
 use Rattle.hash_rounds.proofs.SumLemmas.{sdbm_sums}
 use Rattle.hash_laws.specs.Text.{IsText}
-use Rattle.hash_laws.specs.DifferWithin.{DifferWithin}
+use Rattle.hash_windows.specs.DifferWithin.{DifferWithin}
 use Rattle.hash_laws.proofs.RecurrenceLemmas.{recurrence_is_fold}
-use Rattle.hash_laws.proofs.Windows.{hash_apart}
+use Rattle.hash_windows.proofs.Windows.{hash_apart}
 use Rattle.hash_bytes.specs.Fnv.{fnv1a32_from, fnv1a32_basis, fnv1a64_from, fnv1a64_basis}
 use Rattle.hash_bytes.specs.Oz.{djb2_from}
 use Rattle.hash_bytes.proofs.Djb2Window.{djb2_separates, spread_after, Near}

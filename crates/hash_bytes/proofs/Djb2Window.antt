@@ -5,9 +5,9 @@ use Rattle.std.proofs.lemmas.Nat.{xor_shr, xor_lt}
 use Rattle.std.proofs.lemmas.Nat.Bits.{and_high}
 use Rattle.hash_bytes.specs.Oz.{djb2_step}
 use Rattle.hash_bytes.specs.OzLaws.{djb2_facts}
-use Rattle.hash_laws.proofs.Windows.{Separates}
+use Rattle.hash_windows.proofs.Windows.{Separates}
 use Rattle.hash_bytes.proofs.WindowSpreads.{IsState32}
-use Rattle.hash_rounds.proofs.XorLemmas.{xor_cancel, xor_cancel_left, xor_block_kept}
+use Rattle.hash_words.proofs.XorLemmas.{xor_cancel, xor_cancel_left, xor_block_kept}
 
 -- what a place leaves of a state's bits above the low eight
 upper : (w b : ℕ) → b < 256 → bit_xor w b / 32 / 8 ≡ w / 32 / 8

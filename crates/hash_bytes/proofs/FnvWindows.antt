@@ -2,11 +2,11 @@
 use Rattle.std.proofs.Common.{◌≡◌, ℕ, zero, suc, ◌+◌, ◌*◌, ◌/◌, ◌%◌, ◌^◌, ◌<◌, ◌≢◌, arith}
 use Rattle.std.specs.Int.Bits.{bit_xor}
 use Rattle.hash_bytes.specs.Fnv.{fnv1a32_step, fnv1a64_step}
-use Rattle.hash_rounds.proofs.XorLemmas.{xored_32, xored_64}
+use Rattle.hash_words.proofs.XorLemmas.{xored_32, xored_64}
 use Rattle.hash_bytes.specs.FnvLaws.{fnv1a32_same, fnv1a64_same, fnv1a32_facts, fnv1a64_facts}
 use Rattle.hash_bytes.proofs.WindowSpreads.{IsState32, IsState64, OneByte, OneByte-times, TwoBytes, separates}
-use Rattle.hash_laws.proofs.Windows.{Separates}
-use Rattle.hash_rounds.proofs.XorLemmas.{xor_cancel_left, xor_block_kept}
+use Rattle.hash_windows.proofs.Windows.{Separates}
+use Rattle.hash_words.proofs.XorLemmas.{xor_cancel_left, xor_block_kept}
 
 -- a byte moves a state within its block of 256
 kept : (h b : ℕ) → b < 256 → bit_xor h b / 256 ≡ h / 256

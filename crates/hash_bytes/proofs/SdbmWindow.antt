@@ -2,7 +2,7 @@
 use Rattle.std.proofs.Common.{◌≡◌, ℕ, zero, suc, ◌+◌, ◌*◌, ◌%◌, ◌^◌, ◌<◌, ◌≢◌, arith}
 use Rattle.hash_rounds.specs.Sums.{sdbm_step}
 use Rattle.hash_bytes.specs.OzLaws.{sdbm_facts}
-use Rattle.hash_laws.proofs.Windows.{Separates}
+use Rattle.hash_windows.proofs.Windows.{Separates}
 use Rattle.hash_bytes.proofs.WindowSpreads.{IsState32, OneByte, TwoBytes, separates}
 
 abbrev pub SdbmApart : ℕ → ℕ → ℕ → Type 0

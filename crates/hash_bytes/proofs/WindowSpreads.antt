@@ -2,7 +2,7 @@
 use Rattle.std.proofs.Common.{◌≡◌, ℕ, suc, ◌+◌, ◌*◌, ◌/◌, ◌%◌, ◌^◌, ◌<◌, ◌≢◌, ap, sym, ◌∙◌, arith}
 use Rattle.std.proofs.Math.Nat.{mod-add-mod}
 use Rattle.hash_laws.specs.StepFacts.{StepFacts}
-use Rattle.hash_laws.proofs.Windows.{Separates}
+use Rattle.hash_windows.proofs.Windows.{Separates}
 
 abbrev pub IsState32 : ℕ → Type 0
 IsState32 s = s < 2 ^ 32

@@ -2,7 +2,7 @@
 use Rattle.std.proofs.Common.{◌≡◌, ℕ, ◌+◌, ◌-◌, ◌*◌, ◌%◌, ◌^◌, ◌<◌, bit_xor, ap, ◌∙◌, arith}
 use Rattle.hash_laws.specs.StepFacts.{StepFacts}
 use Rattle.hash_rounds.specs.Sums.{sdbm_step, loselose_step}
-use Rattle.hash_rounds.proofs.XorLemmas.{xor_twice, xor_cancel, xor_cancel_left, xored_32}
+use Rattle.hash_words.proofs.XorLemmas.{xor_twice, xor_cancel, xor_cancel_left, xored_32}
 use Rattle.hash_bytes.specs.Oz.{djb2_step}
 
 pub djb2_facts : StepFacts djb2_step (2 ^ 32) 256

@@ -1,6 +1,6 @@
 -- Bricolage (Steven Pigeon's blog, hbfs.wordpress.com).
 use Rattle.std.specs.Prelude.{ℕ, ◌+◌, ◌*◌, ◌%◌, ◌^◌, List}
-use Rattle.hash_rounds.specs.Words.{swap_halves}
+use Rattle.hash_words.specs.Words.{swap_halves}
 use Rattle.hash_rounds.specs.Shuffle.{shuffle}
 use Rattle.hash_laws.specs.Recurrence.{recurrence}
 

@@ -2,7 +2,7 @@
 use Rattle.std.proofs.Common.{◌≡◌, ℕ, ◌+◌, ◌-◌, ◌*◌, ◌%◌, ◌^◌, ◌<◌, sym, ap, ◌∙◌, arith}
 use Rattle.std.proofs.lemmas.Nat.{mod_below, pow_pos}
 use Rattle.hash_laws.specs.StepFacts.{StepFacts}
-use Rattle.hash_rounds.specs.Words.{swap_halves}
+use Rattle.hash_words.specs.Words.{swap_halves}
 use Rattle.hash_rounds.specs.Shuffle.{shuffle, unshuffle}
 use Rattle.hash_rounds.proofs.ShuffleLemmas.{shuffle-lt, unshuffle-shuffle}
 use Rattle.hash_bytes.specs.Pigeon.{bricolage_step}

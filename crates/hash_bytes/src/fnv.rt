@@ -1,6 +1,6 @@
 //! The hash functions of Glenn Fowler, Landon Curt Noll and Kiem-Phong Vo, in the variant 1a: for each byte an exclusive
 //! or, and then a product by a prime. They were published on the authors' page, and are short and widely used.
-ghost use Rattle.std.specs.Prelude.{◌≡◌, ◌^◌, ◌+◌, ◌*◌, ◌%◌};
+ghost use Rattle.std.specs.Prelude.{◌≡◌, ◌^◌, ◌+◌, ◌*◌, ◌%◌, ◌<◌};
 ghost use Rattle.std.proofs.Common.{lit<};
 ghost use Rattle.hash_bytes.specs.Fnv.{fnv1a32_step, fnv1a64_step, fnv0, fnv1a32_basis, fnv1a32_from, fnv1a64_basis, fnv1a64_from, fnv1a32_of, fnv1a64_of};
 ghost use Rattle.hash_bytes.specs.FnvLaws.{fnv1a32_facts, fnv1a64_facts};
@@ -105,7 +105,8 @@ pub type FNV1aHasher32 = ByteHasher<Plain<Fnv1aRule32>>;
 
 /// FNV-1a at 32 bits of the bytes.
 pub fn fnv1a32(bytes: &[u8]) -> u64
-    ensures { result ≡ fnv1a32_of bytes.now }
+    ensures value { result ≡ fnv1a32_of bytes.now }
+    ensures below { result < 2 ^ 32 }
 {
     hash_of::<FNV1aHasher32>(bytes)
 }
@@ -147,7 +148,7 @@ impl PlainRule for Fnv1aRule64 {
 
 impl PlainUndo for Fnv1aRule64 {
     #[inline(always)]
-    #[tactic(auto, using(crate::specs::FnvLaws::fnv1a64_back, hash_rounds::proofs::XorLemmas::xored_64))]
+    #[tactic(auto, using(crate::specs::FnvLaws::fnv1a64_back, hash_words::proofs::XorLemmas::xored_64))]
     fn unstep(word: u64, byte: u8) -> u64 {
         word.wrapping_mul(UNPRIME_64) ^ u64::from(byte)
     }

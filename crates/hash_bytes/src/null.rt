@@ -201,13 +201,6 @@ impl ByteRule for PassThroughRule {
         *state
     }
 
-    #[inline(always)]
-    fn whole(text: &[u8]) -> u64 {
-        let mut state = Self::start();
-        Self::write(&mut state, text);
-        Self::answer(&state)
-    }
-
     ghost is_fold = { passthrough_sums.is_fold };
 
     ghost write_is_after = { λ s text. refl };

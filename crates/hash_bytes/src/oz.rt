@@ -1,5 +1,5 @@
 //! Three hash functions of Ozan Yigit's page of hash functions for strings: djb2, sdbm and lose lose.
-ghost use Rattle.std.specs.Prelude.{◌≡◌, ◌^◌, ◌+◌, ◌-◌, ◌*◌, ◌/◌, ◌%◌, ℕ, List, ◌++◌, length, IsPermutation, refl};
+ghost use Rattle.std.specs.Prelude.{◌≡◌, ◌^◌, ◌+◌, ◌-◌, ◌*◌, ◌/◌, ◌%◌, ℕ, List, ◌++◌, length, IsPermutation, refl, ◌<◌};
 ghost use Rattle.std.proofs.Common.{lit<};
 ghost use Rattle.hash_rounds.specs.Sums.{sdbm_from, loselose_from, sdbm_step, loselose_step};
 ghost use Rattle.hash_bytes.specs.Oz.{djb2_step, djb2_from, djb2_of};
@@ -105,7 +105,8 @@ pub type DJB2Hasher = ByteHasher<Plain<Djb2Rule>>;
 
 /// djb2 of the bytes, from 5381.
 pub fn djb2(bytes: &[u8]) -> u64
-    ensures { result ≡ djb2_of bytes.now }
+    ensures value { result ≡ djb2_of bytes.now }
+    ensures below { result < 2 ^ 32 }
 {
     hash_of::<DJB2Hasher>(bytes)
 }
@@ -219,13 +220,6 @@ impl ByteRule for SdbmRule {
         u64::from(state.state)
     }
 
-    #[inline(always)]
-    fn whole(text: &[u8]) -> u64 {
-        let mut state = Self::start();
-        Self::write(&mut state, text);
-        Self::answer(&state)
-    }
-
     ghost is_fold = { sdbm_sums.is_fold };
 
     ghost write_is_after = { λ s text. refl };
@@ -263,7 +257,8 @@ pub type SDBMHasher = ByteHasher<SdbmRule>;
 
 /// sdbm of the bytes: their sum as digits in base 65599, modulo 2^32.
 pub fn sdbm(bytes: &[u8]) -> u64
-    ensures { result ≡ sdbm_from 0 bytes.now }
+    ensures value { result ≡ sdbm_from 0 bytes.now }
+    ensures below { result < 2 ^ 32 }
 {
     hash_of::<SDBMHasher>(bytes)
 }
@@ -411,13 +406,6 @@ impl ByteRule for LoseLoseRule {
     #[inline(always)]
     fn answer(state: &LoseLoseState) -> u64 {
         state.state
-    }
-
-    #[inline(always)]
-    fn whole(text: &[u8]) -> u64 {
-        let mut state = Self::start();
-        Self::write(&mut state, text);
-        Self::answer(&state)
     }
 
     ghost is_fold = { loselose-fold };

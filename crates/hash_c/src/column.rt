@@ -1,6 +1,5 @@
 //! The hashes of many texts in one call, as one body for every hash: of texts between offsets of 32 or of 64 bits, and of lines.
 ghost use Rattle.std.specs.Prelude.{◌≡◌, ◌+◌, ◌<◌, ◌↔◌, ◌∷◌, ℕ, List, length, map, slice_index, IsSome, IsTrue};
-ghost use Rattle.hashers.specs.Spooky.{spooky_v1};
 ghost use Rattle.hash_c.specs.Columns.{AreOffsets, IsColumn, IsColumnBy, NoneFalls};
 ghost use Rattle.hash_c.specs.Lines.{laid_over};
 ghost use Rattle.text_set.specs.Lines.{line_texts};
@@ -8,43 +7,8 @@ ghost use Rattle.hash_names.specs.Named.{hash_at, hash_of, kind_at};
 
 use hash_names::table::{Kind, by_kind, kind_at};
 use hash_names::task::HashTask;
-use hashers::jenkins::spooky_hash;
 use hashers::laws::{Piecewise, Streamed, hash_of};
 use std::marker::PhantomData;
-
-/// A hash of a whole text. The implementing type is a name for it, and no value of it is made.
-pub trait TextHash {
-    /// The hash of a text.
-    ghost hash: { List ℕ → ℕ };
-
-    /// The hash of a text.
-    fn hash(text: &[u8]) -> u64
-        ensures { result ≡ hash text.now };
-}
-
-/// What a default hasher answers.
-pub struct Unseeded<H>(PhantomData<H>);
-
-impl<H: Piecewise> TextHash for Unseeded<H> {
-    ghost hash = { H.hash_of };
-
-    #[inline(always)]
-    fn hash(text: &[u8]) -> u64 {
-        hash_of::<H>(text)
-    }
-}
-
-/// SpookyHash by version 1.
-pub struct SpookyV1;
-
-impl TextHash for SpookyV1 {
-    ghost hash = { λ text. (spooky_v1 0 0 text).0 };
-
-    #[inline(always)]
-    fn hash(text: &[u8]) -> u64 {
-        spooky_hash::spooky_v1(text)
-    }
-}
 
 /// A place in a text.
 pub trait Offset {
@@ -114,8 +78,8 @@ fn are_offsets<O: Offset>(offsets: &[O], size: usize, count: usize) -> bool
 /// Writes the hash of each text, and answers that the offsets are those of texts; else nothing is written. It is a call of its own,
 /// so that each hash's loop has the registers for itself.
 #[inline(never)]
-fn column<T: TextHash, O: Offset>(bytes: &[u8], offsets: &[O], hashes: &mut [u64]) -> bool
-    ensures { IsColumn T.hash bytes.now (map O.number offsets.now) hashes.old hashes.new result }
+fn column<H: Piecewise, O: Offset>(bytes: &[u8], offsets: &[O], hashes: &mut [u64]) -> bool
+    ensures { IsColumn H.hash_of bytes.now (map O.number offsets.now) hashes.old hashes.new result }
 {
     if !are_offsets(offsets, bytes.len(), hashes.len()) {
         return false;
@@ -123,7 +87,7 @@ fn column<T: TextHash, O: Offset>(bytes: &[u8], offsets: &[O], hashes: &mut [u64
     for i in 0..hashes.len() {
         let from = place(offsets, i) as usize;
         let to = place(offsets, i + 1) as usize;
-        hashes[i] = T::hash(&bytes[from..to]);
+        hashes[i] = hash_of::<H>(&bytes[from..to]);
     }
     true
 }
@@ -151,15 +115,11 @@ impl<'a, 'b, O: Offset> HashTask for InColumn<'a, 'b, O> {
         × IsColumn hash texts.0.now (map O.number texts.1.now) before.hashes.now after.hashes.now result };
 
     fn by_text<H: Streamed>(texts: (&'a [u8], &'a [O]), room: &mut Room<'b>) -> bool {
-        column::<Unseeded<H>, O>(texts.0, texts.1, room.hashes)
+        column::<H, O>(texts.0, texts.1, room.hashes)
     }
 
     fn by_pieces<H: Piecewise>(texts: (&'a [u8], &'a [O]), room: &mut Room<'b>) -> bool {
-        column::<Unseeded<H>, O>(texts.0, texts.1, room.hashes)
-    }
-
-    fn by_spooky_v1(texts: (&'a [u8], &'a [O]), room: &mut Room<'b>) -> bool {
-        column::<SpookyV1, O>(texts.0, texts.1, room.hashes)
+        column::<H, O>(texts.0, texts.1, room.hashes)
     }
 
     ghost by_same = { λ hash read same agree texts before after result done. done };
@@ -206,16 +166,16 @@ fn first_line(bytes: &[u8]) -> (&[u8], &[u8])
 }
 
 /// Writes the hash of each line, as far as there is room, and answers how many lines there are.
-fn hash_lines<T: TextHash>(bytes: &[u8], hashes: &mut [u64]) -> usize
+fn hash_lines<H: Piecewise>(bytes: &[u8], hashes: &mut [u64]) -> usize
     ensures count { result ≡ length (line_texts 10 bytes.now) }
-    ensures written { hashes.new ≡ laid_over (map T.hash (line_texts 10 bytes.now)) hashes.old }
+    ensures written { hashes.new ≡ laid_over (map H.hash_of (line_texts 10 bytes.now)) hashes.old }
 {
     let mut count = 0;
     let mut rest = bytes;
     while !rest.is_empty() {
         let (line, later) = first_line(rest);
         if count < hashes.len() {
-            hashes[count] = T::hash(line);
+            hashes[count] = hash_of::<H>(line);
         }
         count += 1;
         rest = later;
@@ -241,15 +201,11 @@ impl<'a, 'b> HashTask for InLines<'a, 'b> {
         × (after.hashes.now ≡ laid_over (map hash (line_texts 10 text.now)) before.hashes.now) };
 
     fn by_text<H: Streamed>(text: &'a [u8], room: &mut Room<'b>) -> usize {
-        hash_lines::<Unseeded<H>>(text, room.hashes)
+        hash_lines::<H>(text, room.hashes)
     }
 
     fn by_pieces<H: Piecewise>(text: &'a [u8], room: &mut Room<'b>) -> usize {
-        hash_lines::<Unseeded<H>>(text, room.hashes)
-    }
-
-    fn by_spooky_v1(text: &'a [u8], room: &mut Room<'b>) -> usize {
-        hash_lines::<SpookyV1>(text, room.hashes)
+        hash_lines::<H>(text, room.hashes)
     }
 
     ghost by_same = { λ hash read same agree text before after result done. done };

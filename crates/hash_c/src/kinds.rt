@@ -1,13 +1,11 @@
 //! Hashes by their numbers, for callers that choose at run time: the number of a name, the name of a number, and the hash of a text.
 ghost use Rattle.std.specs.Prelude.{◌≡◌, length};
-ghost use Rattle.hashers.specs.Spooky.{spooky_v1};
 ghost use Rattle.hash_c.specs.Kinds.{name_at};
 ghost use Rattle.hash_c.specs.Lines.{laid_over};
 ghost use Rattle.hash_names.specs.Named.{hash_at, kind_at, kind_named};
 
 use hash_names::table::{by_kind, kind_at, number_named};
 use hash_names::task::HashTask;
-use hashers::jenkins::spooky_hash::spooky_v1;
 use hashers::laws::{Piecewise, Streamed, hash_of};
 use std::marker::PhantomData;
 
@@ -65,11 +63,6 @@ impl<'a> HashTask for HashText<'a> {
     #[inline(always)]
     fn by_pieces<H: Piecewise>(text: &'a [u8], _nothing: &mut ()) -> u64 {
         hash_of::<H>(text)
-    }
-
-    #[inline(always)]
-    fn by_spooky_v1(text: &'a [u8], _nothing: &mut ()) -> u64 {
-        spooky_v1(text)
     }
 
     ghost by_same = { λ hash read same agree text before after result done. done };

@@ -6,12 +6,12 @@ use Rattle.std.specs.List.{filter, list_all, list_any}
 use Rattle.std.specs.Ordering.{nat_cmp}
 use Rattle.std.proofs.lemmas.Grind.{flat_map-append}
 use Rattle.std.proofs.lemmas.List.{map-append}
-use Rattle.std.proofs.lemmas.List.Elements.{All-nil, All-push, filter-append}
+use Rattle.std.proofs.lemmas.List.Elements.{All-push, filter-append}
 use Rattle.std.proofs.lemmas.List.Folds.{list_all-append, list_any-append}
 use Rattle.cli.specs.Files.{Opens}
 use Rattle.hash_chunks.proofs.CutLemmas.{bytes_more}
-use Rattle.hash_chunks.specs.Counted.{CountsChunks, CountsFile, CountsMore, IsCounted}
-use Rattle.hash_chunks.specs.Cut.{Cut, EndsFile, IsCut, IsFileCut, Opening, given_of, is_whole, name_of}
+use Rattle.hash_chunks.specs.Counted.{CountsChunks, CountsFile, IsCounted}
+use Rattle.hash_chunks.specs.Cut.{Cut, EndsFile, IsFileCut, Opening, given_of, is_whole, name_of}
 use Rattle.hash_cuts.specs.Cuts.{Cutting}
 use Rattle.hash_sums.specs.Sums.{sum_by}
 use Rattle.hash_chunks.specs.declared.tally.Tally.{Tally}

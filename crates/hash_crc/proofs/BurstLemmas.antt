@@ -15,9 +15,9 @@ use Rattle.std.proofs.lemmas.Slice.Eq.{slice_eq-Decides}
 use Rattle.std.proofs.lemmas.Nat.Bits.{bit_at-trailing_zeros}
 use Rattle.std.specs.Int.{trailing_zeros, w8}
 use Rattle.hash_laws.specs.Text.{IsText}
-use Rattle.hash_rounds.specs.Words.{le}
-use Rattle.hash_rounds.proofs.XorLemmas.{xor_cancel}
-use Rattle.hash_laws.specs.DifferWithin.{DifferWithin, IsFirstDifference}
+use Rattle.hash_words.specs.Words.{le}
+use Rattle.hash_words.proofs.XorLemmas.{xor_cancel}
+use Rattle.hash_windows.specs.DifferWithin.{DifferWithin, IsFirstDifference}
 use Rattle.hash_crc.specs.Bursts.{IsBurst, DifferWithinBits}
 use Rattle.hash_crc.proofs.Crc32Lemmas.{exchanged, low_and_high}
 

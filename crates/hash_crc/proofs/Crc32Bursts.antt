@@ -7,9 +7,9 @@ use Rattle.std.proofs.lemmas.Nat.{pow-add, pow_pos}
 use Rattle.std.proofs.lemmas.Bool.{cases_lt}
 use Rattle.std.specs.Int.Bits.{xor_self, xor_zero_l}
 use Rattle.hash_laws.specs.Text.{IsText}
-use Rattle.hash_rounds.specs.Words.{le}
-use Rattle.hash_rounds.proofs.XorLemmas.{xor_cancel}
-use Rattle.hash_laws.specs.DifferWithin.{DifferWithin}
+use Rattle.hash_words.specs.Words.{le}
+use Rattle.hash_words.proofs.XorLemmas.{xor_cancel}
+use Rattle.hash_windows.specs.DifferWithin.{DifferWithin}
 use Rattle.hash_crc.specs.Bursts.{DifferWithinBits}
 use Rattle.hash_crc.specs.Crc32.{all_ones, bits_out, crc_from, crc_answer}
 use Rattle.hash_crc.specs.Crc32Laws.{bits_out-same}

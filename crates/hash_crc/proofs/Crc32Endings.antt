@@ -9,10 +9,10 @@ use Rattle.hash_laws.proofs.ByteLemmas.{after_below}
 use Rattle.hash_laws.proofs.ExactlyLemmas.{Exactly-one}
 use Rattle.hash_laws.proofs.RecurrenceLemmas.{recurrence-append, recurrence_is_fold}
 use Rattle.hash_laws.proofs.TextLemmas.{IsText-to_le_bytes}
-use Rattle.hash_rounds.specs.Words.{le}
-use Rattle.hash_rounds.proofs.PieceLemmas.{IsPiece, le-lt, le-same}
-use Rattle.hash_rounds.proofs.WordLemmas.{le-to_le_bytes-32}
-use Rattle.hash_rounds.proofs.XorLemmas.{xor_twice, xor_cancel, xor_cancel_left}
+use Rattle.hash_words.specs.Words.{le}
+use Rattle.hash_words.proofs.PieceLemmas.{IsPiece, le-lt, le-same}
+use Rattle.hash_words.proofs.WordLemmas.{le-to_le_bytes-32}
+use Rattle.hash_words.proofs.XorLemmas.{xor_twice, xor_cancel, xor_cancel_left}
 use Rattle.hash_crc.specs.Crc32.{all_ones, bit_out, bits_out, crc_step, crc_from, crc_answer}
 use Rattle.hash_crc.specs.Crc32Laws.{bits_out-same, crc_facts}
 use Rattle.hash_crc.proofs.Crc32Lemmas.{bit_in_set, bit_in_unset}

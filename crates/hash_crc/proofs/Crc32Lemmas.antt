@@ -4,7 +4,7 @@ use Rattle.std.proofs.Math.Path.{ap₂}
 use Rattle.std.proofs.Math.Nat.{pow-succ', mul_assoc, mul_comm}
 use Rattle.std.proofs.lemmas.Nat.{xor_shr, xor_mod, xor_comm}
 use Rattle.std.specs.Int.Bits.{xor_shifted, xor_assoc, xor_self, xor_zero_l, xor_zero_r}
-use Rattle.hash_rounds.proofs.XorLemmas.{xor_twice}
+use Rattle.hash_words.proofs.XorLemmas.{xor_twice}
 use Rattle.hash_crc.specs.Crc32.{bit_out, bits_out}
 
 nothing : (p : ℕ) → 0 * p ≡ 0

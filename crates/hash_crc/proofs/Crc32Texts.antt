@@ -11,10 +11,10 @@ use Rattle.std.specs.List.{range_with_len}
 use Rattle.std.proofs.lemmas.List.FromFn.{get_or-map-range_with_len}
 use Rattle.std.proofs.Math.Nat.{mod-eq_of_lt}
 use Rattle.hash_laws.specs.Text.{IsText}
-use Rattle.hash_rounds.specs.Words.{le}
+use Rattle.hash_words.specs.Words.{le}
 use Rattle.hash_laws.proofs.RecurrenceLemmas.{recurrence-nil, recurrence-fold, recurrence-append, recurrence_is_fold}
 use Rattle.hash_laws.proofs.ByteLemmas.{after_below}
-use Rattle.hash_rounds.proofs.XorLemmas.{xor_twice}
+use Rattle.hash_words.proofs.XorLemmas.{xor_twice}
 use Rattle.hash_crc.specs.Crc32.{all_ones, bit_out, bits_out, crc_step, crc_from, crc_answer}
 use Rattle.hash_crc.specs.Crc32Laws.{crc_facts}
 use Rattle.hash_crc.proofs.Crc32Lemmas.{by_table, bits_out-xor, moved_down, low_and_high}

@@ -1,7 +1,7 @@
 -- Texts that differ in a few neighbouring bits. The bits of a text are those of its little-endian number: its first is the low bit of the
 -- first byte.
 use Rattle.std.specs.Prelude.{ℕ, ◌≡◌, ◌*◌, ◌^◌, ◌<◌, List, length, bit_xor}
-use Rattle.hash_rounds.specs.Words.{le}
+use Rattle.hash_words.specs.Words.{le}
 
 -- some bits are set, and they lie within so many neighbouring places: they are a pattern of so many bits, from a place on
 pub record IsBurst (bits number : ℕ) : Type 0 where

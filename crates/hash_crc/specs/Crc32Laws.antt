@@ -3,7 +3,7 @@ use Rattle.std.proofs.Common.{◌≡◌, ℕ, zero, suc, ◌*◌, ◌/◌, ◌%�
 use Rattle.std.proofs.lemmas.Nat.{xor_lt, xor_shr, xor_comm}
 use Rattle.std.specs.Int.Bits.{xor_zero_r}
 use Rattle.hash_laws.specs.StepFacts.{StepFacts}
-use Rattle.hash_rounds.proofs.XorLemmas.{xor_twice, xor_cancel, xor_cancel_left, xored_32}
+use Rattle.hash_words.proofs.XorLemmas.{xor_twice, xor_cancel, xor_cancel_left, xored_32}
 use Rattle.hash_crc.specs.Crc32.{all_ones, bit_out, bits_out, crc_step, crc_answer}
 
 -- the term 1 is the highest bit, since the bits are in reverse order

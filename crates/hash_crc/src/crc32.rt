@@ -15,8 +15,8 @@ ghost use Rattle.hash_crc.specs.Crc32Laws.{crc_facts, crc_answer_same};
 
 use castagnoli_rows::CASTAGNOLI;
 use hash_laws::traits::hash_of;
-use hash_rounds::le_four;
 use hash_rules::{ByteHasher, ByteRule, StepRule, UndoRule, in_eights};
+use hash_words::le_four;
 use ieee_rows::IEEE;
 use std::hash::Hasher;
 use std::marker::PhantomData;
@@ -175,6 +175,7 @@ impl<P: Polynomial> ByteRule for CrcRule<P> {
         u64::from(*state ^ 0xFFFFFFFF)
     }
 
+    // As the trait has it, but inlined: there it is a call for each row of a column.
     #[inline(always)]
     fn whole(text: &[u8]) -> u64 {
         let mut state = Self::start();
@@ -222,14 +223,16 @@ pub type Crc32cHasher = ByteHasher<CrcRule<Castagnoli>>;
 
 /// CRC-32 of the bytes.
 pub fn crc32(bytes: &[u8]) -> u64
-    ensures { result ≡ crc32_of bytes.now }
+    ensures value { result ≡ crc32_of bytes.now }
+    ensures below { result < 2 ^ 32 }
 {
     hash_of::<Crc32Hasher>(bytes)
 }
 
 /// CRC-32C of the bytes.
 pub fn crc32c(bytes: &[u8]) -> u64
-    ensures { result ≡ crc32c_of bytes.now }
+    ensures value { result ≡ crc32c_of bytes.now }
+    ensures below { result < 2 ^ 32 }
 {
     hash_of::<Crc32cHasher>(bytes)
 }

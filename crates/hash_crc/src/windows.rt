@@ -2,11 +2,11 @@
 //! apart. None of them computes a CRC.
 ghost use Rattle.std.specs.Prelude.{◌≢◌, ◌≡◌, ◌<◌, ◌↔◌, length, slice_index, IsTrue};
 ghost use Rattle.std.specs.Bool.{OnTrue};
-ghost use Rattle.hash_laws.specs.DifferWithin.{DifferWithin};
+ghost use Rattle.hash_windows.specs.DifferWithin.{DifferWithin};
 ghost use Rattle.hash_crc.specs.Bursts.{DifferWithinBits};
 ghost use Rattle.hash_crc.specs.Crc32.{crc32_of, crc32c_of};
 
-use hash_laws::window::{first_difference, is_window};
+use hash_windows::window::{first_difference, is_window};
 
 // In how many neighbouring places two texts may differ.
 const PLACES: usize = 4;

@@ -48,6 +48,13 @@ impl Cuts {
         })
     }
 
+    /// A law with no code: the sizes are in their order, and the least is 64 at least.
+    pub fn has_sizes(&self)
+        ensures { HasSizes self.now }
+    {
+        let _below = self.below;
+    }
+
     /// The most bytes of a chunk.
     pub fn most(&self) -> usize
         ensures value { result ≡ self.now.most }

@@ -2,8 +2,8 @@
 use Rattle.std.proofs.Common.{ℕ, zero, suc, ◌≡◌, ◌+◌, ◌*◌, ◌/◌, ◌%◌, ◌<◌, ◌≤◌, List, ◌++◌, length, take, drop, map, get_or, refl, ap, ◌∙◌, arith}
 use Rattle.std.proofs.lemmas.List.{drop-drop, get_or-drop, length-drop}
 use Rattle.std.specs.Simd.{first_chunks}
-use Rattle.hash_rounds.specs.Words.{le}
-use Rattle.hash_rounds.specs.Blocks.{pieces}
+use Rattle.hash_words.specs.Words.{le}
+use Rattle.hash_words.specs.Pieces.{pieces}
 use Rattle.hash_fx.specs.Fx.{words32, words64}
 
 -- the chunks of n bytes as words, and what comes behind them

@@ -2,9 +2,9 @@
 use Rattle.std.proofs.Common.{ℕ, List, fold, ◌≡◌, ◌<◌, ◌∙◌, ap, sym, refl, [], ◌∷◌, ◌%◌, ◌/◌, ◌^◌, take, drop, arith}
 use Rattle.std.proofs.Math.Path.{ap₂}
 use Rattle.std.specs.Hash.{le_bytes}
-use Rattle.hash_rounds.specs.Words.{le}
-use Rattle.hash_rounds.specs.Blocks.{pieces}
-use Rattle.hash_rounds.proofs.WordLemmas.{le-to_le_bytes-32, le-to_le_bytes-64, le-4}
+use Rattle.hash_words.specs.Words.{le}
+use Rattle.hash_words.specs.Pieces.{pieces}
+use Rattle.hash_words.proofs.WordLemmas.{le-to_le_bytes-32, le-to_le_bytes-64, le-4}
 use Rattle.hash_laws.specs.Recurrence.{recurrence}
 use Rattle.hash_laws.proofs.RecurrenceLemmas.{recurrence-fold}
 use Rattle.hash_fx.specs.Fx.{fx32, fx32_step, fx64, fx64_step, words32, words64}

@@ -3,12 +3,12 @@ use Rattle.std.proofs.Common.{◌≡◌, ℕ, ◌*◌, ◌%◌, ◌^◌, ◌<◌
 use Rattle.std.proofs.lemmas.List.{take_all, drop_all}
 use Rattle.std.proofs.lemmas.Nat.{xor_comm, xor_lt, mod_below, pow_pos}
 use Rattle.std.specs.Hash.{le_bytes}
-use Rattle.hash_rounds.specs.Blocks.{pieces}
+use Rattle.hash_words.specs.Pieces.{pieces}
 use Rattle.hash_laws.specs.StepFacts.{StepFacts}
-use Rattle.hash_rounds.specs.Words.{le, rotl}
-use Rattle.hash_rounds.proofs.PieceLemmas.{le-lt, le-same}
-use Rattle.hash_rounds.proofs.WordLemmas.{rotl-lt, le-to_le_bytes-32, le-to_le_bytes-64}
-use Rattle.hash_rounds.proofs.XorLemmas.{xor_twice}
+use Rattle.hash_words.specs.Words.{le, rotl}
+use Rattle.hash_words.proofs.PieceLemmas.{le-lt, le-same}
+use Rattle.hash_words.proofs.WordLemmas.{rotl-lt, le-to_le_bytes-32, le-to_le_bytes-64}
+use Rattle.hash_words.proofs.XorLemmas.{xor_twice}
 use Rattle.hash_laws.specs.Exactly.{ExactlyTexts}
 use Rattle.hash_laws.specs.Recurrence.{recurrence}
 use Rattle.hash_laws.proofs.ExactlyLemmas.{Exactly-one}

@@ -2,7 +2,7 @@
 use Rattle.std.proofs.Common.{◌≡◌, ◌≢◌, ◌⊎◌, ℕ, zero, suc, List, [], ◌∷◌, ◌++◌, length, take, drop, slice_index, arith, refl, sym, ap, ◌∙◌, inl, inr}
 use Rattle.std.proofs.Math.Path.{ap₂}
 use Rattle.std.proofs.lemmas.List.{ext_get_or, take_at, drop_at}
-use Rattle.hash_laws.specs.DifferWithin.{DifferAtOnePlace}
+use Rattle.hash_windows.specs.DifferWithin.{DifferAtOnePlace}
 
 abbrev pub OneApart : List ℕ → List ℕ → Type 0
 OneApart [] [] = ⊥

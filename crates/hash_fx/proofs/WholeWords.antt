@@ -4,10 +4,10 @@ use Rattle.std.proofs.Math.Path.{ap₂}
 use Rattle.std.proofs.Math.Seq.{drop-append-add}
 use Rattle.std.proofs.lemmas.List.{append-nil, map-append, length-append, drop_all, get_or-take, get_or-map, length-take-le, length-map}
 use Rattle.std.specs.Simd.{first_chunks}
-use Rattle.hash_rounds.specs.Words.{le}
-use Rattle.hash_rounds.specs.Blocks.{pieces}
+use Rattle.hash_words.specs.Words.{le}
+use Rattle.hash_words.specs.Pieces.{pieces}
 use Rattle.hash_fx.specs.Fx.{fx32_step, fx64_step}
-use Rattle.hash_rounds.proofs.Chunks.{first_chunks-append}
+use Rattle.hash_words.proofs.Chunks.{first_chunks-append}
 use Rattle.hash_laws.specs.Recurrence.{recurrence}
 use Rattle.hash_laws.specs.Text.{joined, texts}
 use Rattle.hash_laws.proofs.RecurrenceLemmas.{recurrence-append}

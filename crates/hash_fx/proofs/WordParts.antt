@@ -2,8 +2,8 @@
 use Rattle.std.proofs.Common.{◌≡◌, ℕ, ◌*◌, ◌/◌, List, ◌++◌, length, drop, map, fold, refl, sym, ap, ◌∙◌}
 use Rattle.std.specs.Simd.{first_chunks}
 use Rattle.std.proofs.lemmas.List.Sums.{fold-append}
-use Rattle.hash_rounds.specs.Words.{le}
-use Rattle.hash_rounds.specs.Blocks.{pieces}
+use Rattle.hash_words.specs.Words.{le}
+use Rattle.hash_words.specs.Pieces.{pieces}
 use Rattle.hash_laws.specs.Recurrence.{recurrence}
 use Rattle.hash_laws.proofs.RecurrenceLemmas.{recurrence-fold}
 use Rattle.hash_fx.specs.Fx.{fx64_step, words32, words64}

@@ -1,7 +1,7 @@
 -- The hash of the Firefox and rustc hash tables: a piece as words, and the words one after the other.
 use Rattle.std.specs.Prelude.{ℕ, ◌*◌, ◌/◌, ◌%◌, ◌^◌, List, ◌++◌, length, drop, map, bit_xor}
-use Rattle.hash_rounds.specs.Words.{le, rotl}
-use Rattle.hash_rounds.specs.Blocks.{pieces}
+use Rattle.hash_words.specs.Words.{le, rotl}
+use Rattle.hash_words.specs.Pieces.{pieces}
 use Rattle.hash_laws.specs.Recurrence.{recurrence}
 
 -- by 32 bits: a little-endian word for each four bytes, and then a word for each byte that is left

@@ -1,11 +1,11 @@
 -- The fx steps stay in range and are injective.
 use Rattle.std.proofs.Common.{◌≡◌, ℕ, ◌-◌, ◌*◌, ◌%◌, ◌^◌, ◌<◌, ◌≤◌, bit_xor, sym, ap, ◌∙◌, arith, lit≤}
 use Rattle.std.proofs.lemmas.Nat.{xor_lt, mod_below, pow_pos}
-use Rattle.hash_rounds.specs.Words.{rotl}
+use Rattle.hash_words.specs.Words.{rotl}
 use Rattle.hash_fx.specs.Fx.{fx64_step, fx32_step}
 use Rattle.hash_laws.specs.StepFacts.{StepFacts}
-use Rattle.hash_rounds.proofs.WordLemmas.{rotl-lt, rotl-rotl}
-use Rattle.hash_rounds.proofs.XorLemmas.{xor_cancel, xor_cancel_left}
+use Rattle.hash_words.proofs.WordLemmas.{rotl-lt, rotl-rotl}
+use Rattle.hash_words.proofs.XorLemmas.{xor_cancel, xor_cancel_left}
 
 -- a step at w bits by a key that `unkey` undoes
 module _ (w key unkey : ℕ) (wide : 5 ≤ w)

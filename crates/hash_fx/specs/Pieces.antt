@@ -3,7 +3,7 @@ use Rattle.std.specs.Prelude.{ℕ, ◌≡◌, ◌-◌, ◌%◌, List, length, ta
 use Rattle.std.specs.List.{flat_map}
 use denote.Bor.{Bor}
 use Rattle.hash_laws.specs.Text.{texts, joined}
-use Rattle.hash_laws.specs.DifferWithin.{DifferAtOnePlace}
+use Rattle.hash_windows.specs.DifferWithin.{DifferAtOnePlace}
 use Rattle.hash_fx.specs.Fx.{fx32, fx64, words32, words64}
 
 -- the state after pieces, from a start: the words of a piece come after those of the pieces before it

@@ -1,10 +1,10 @@
 //! At how many places the words of two pieces of one length differ.
 ghost use Rattle.std.specs.Prelude.{◌≡◌, ◌≤◌, ◌↔◌, ℕ, IsTrue, length, map};
-ghost use Rattle.hash_rounds.specs.Words.{le};
+ghost use Rattle.hash_words.specs.Words.{le};
 ghost use Rattle.hash_fx.specs.Differences.{differences};
 ghost use Rattle.hash_fx.specs.Fx.{words32};
 
-use hash_rounds::{le_four, le64};
+use hash_words::{le_four, le64};
 
 /// Bytes that are one word.
 pub trait WordBytes {

@@ -1,5 +1,5 @@
 //! The three types of fx, and the hash of a whole text by each.
-ghost use Rattle.std.specs.Prelude.{◌≡◌};
+ghost use Rattle.std.specs.Prelude.{◌≡◌, ◌<◌, ◌^◌};
 ghost use Rattle.hash_fx.specs.Fx.{fx32, fx64, words32, words64};
 
 use crate::hasher::WordHasher;
@@ -35,7 +35,8 @@ pub type FxHasher = WordHasher<u64, MachineWord>;
 /// The answer of a default `FxHasher32` to the bytes as one write, below 2^32.
 #[inline(always)]
 pub fn fxhash32(bytes: &[u8]) -> u64
-    ensures { result ≡ fx32 0 (words32 bytes.now) }
+    ensures value { result ≡ fx32 0 (words32 bytes.now) }
+    ensures below { result < 2 ^ 32 }
 {
     hash_of::<FxHasher32>(bytes)
 }

@@ -2,7 +2,7 @@
 ghost use Rattle.std.specs.Prelude.{◌≡◌, ◌≢◌, ◌↔◌, ◌<◌, ◌≤◌, ◌^◌, ◌+◌, ◌*◌, ◌/◌, ◌%◌, ℕ, List, [], ◌∷◌, All, IsTrue, length, map, take, drop, slice_index};
 ghost use Rattle.std.specs.List.{flat_map};
 ghost use denote.Bor.{Bor};
-ghost use Rattle.hash_rounds.specs.Words.{le};
+ghost use Rattle.hash_words.specs.Words.{le};
 ghost use Rattle.std.specs.Bool.{OnTrue};
 ghost use Rattle.std.specs.Hash.{le_bytes};
 ghost use Rattle.hash_fx.specs.Fx.{fx32_step, fx64_step, fx32, fx64, words32, words64};
@@ -13,7 +13,7 @@ ghost use Rattle.hash_fx.specs.Pieces.{AreWhole, DifferByOneByte, DifferByOneWor
 use crate::fx::{FxHasher32, FxHasher64};
 use crate::hasher::WordHasher;
 use crate::word::FxSplit;
-use hash_laws::window::differ_at_one_place;
+use hash_windows::window::differ_at_one_place;
 use std::hash::Hasher;
 
 /// Writes the pieces in order. The state is that after one write of the joined bytes, since the length of each piece but

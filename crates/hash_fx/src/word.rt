@@ -1,6 +1,6 @@
 //! A word of fx, and what of it hangs on its width.
 ghost use Rattle.std.specs.Prelude.{◌≡◌, ◌<◌, ◌^◌, ◌↔◌, ℕ, List, [], All, length, IsSome, IfSome};
-ghost use Rattle.hash_rounds.specs.Words.{le};
+ghost use Rattle.hash_words.specs.Words.{le};
 ghost use Rattle.hash_laws.specs.StepFacts.{StepFacts};
 ghost use Rattle.hash_laws.specs.Recurrence.{recurrence};
 ghost use Rattle.hash_laws.specs.Text.{IsText};
@@ -11,8 +11,8 @@ ghost use Rattle.hash_fx.specs.FxStepLaws.{fx32_facts, fx64_facts};
 
 use crate::differing::{differing_fours_and_bytes, differing_words};
 use crate::words::{eights_in, eights_out, fours_and_bytes_in, fours_and_bytes_out};
-use hash_rounds::{le_four, rotl32, rotl64};
 use hash_rules::Word;
+use hash_words::{le_four, rotl32, rotl64};
 
 /// A word of fx: a state, or what takes a state one step.
 pub trait FxWord: Word {

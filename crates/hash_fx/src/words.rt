@@ -1,11 +1,11 @@
 //! Words in and out of a state.
 ghost use Rattle.std.specs.Prelude.{◌≡◌, fold, map};
-ghost use Rattle.hash_rounds.specs.Words.{le};
+ghost use Rattle.hash_words.specs.Words.{le};
 ghost use Rattle.hash_laws.specs.Recurrence.{recurrence};
 ghost use Rattle.hash_fx.specs.Fx.{fx64_step, words32};
 
 use crate::word::FxWord;
-use hash_rounds::le64;
+use hash_words::le64;
 
 /// A word for each byte in.
 #[inline(always)]

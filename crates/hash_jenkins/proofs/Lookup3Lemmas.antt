@@ -3,8 +3,8 @@ use Rattle.std.proofs.Common.{◌≡◌, ℕ, zero, suc, ◌+◌, ◌-◌, ◌*�
 use Rattle.std.proofs.lemmas.List.{drop-drop, take_all, drop_all, length-drop}
 use Rattle.std.specs.Simd.{first_chunks}
 use Rattle.std.proofs.Math.Path.{ap₂}
-use Rattle.hash_rounds.specs.Words.{le}
-use Rattle.hash_rounds.specs.Blocks.{pieces}
+use Rattle.hash_words.specs.Words.{le}
+use Rattle.hash_words.specs.Pieces.{pieces}
 use Rattle.hash_rounds.specs.Rounds as rounds
 use Rattle.hash_rounds.specs.Steps.{apply}
 use Rattle.hash_jenkins.specs.Filled.{zero_filled}

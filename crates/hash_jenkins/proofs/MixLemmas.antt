@@ -5,10 +5,10 @@ use Rattle.std.proofs.lemmas.List.{append_assoc, take-take, take-append-le, take
 use Rattle.hash_rounds.specs.Blocks.{spooky_blocks}
 use Rattle.hash_rounds.proofs.BlockLemmas.{spooky_blocks-take}
 use Rattle.hash_jenkins.specs.Counted.{block_end, calls_over}
-use Rattle.hash_rounds.specs.Put.{put_at}
+use Rattle.hash_words.specs.Put.{put_at}
 use Rattle.hash_jenkins.specs.Spooky.{Long, mixed}
 use Rattle.hash_jenkins.specs.SpookyLaws.{mixed-append, mixed_short, mixed_through}
-use Rattle.hash_rounds.proofs.PutLemmas.{take-put_at}
+use Rattle.hash_words.proofs.PutLemmas.{take-put_at}
 
 -- the whole blocks of a text, as far as they go
 pub whole_blocks : (s t : List ℕ) → spooky_blocks s (take (length t / 96 * 96) t) ≡ spooky_blocks s t

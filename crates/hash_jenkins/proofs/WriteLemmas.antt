@@ -4,13 +4,13 @@ use Rattle.std.proofs.Math.Path.{ap₂}
 use Rattle.std.proofs.lemmas.List.{append_assoc, take_at, drop_at, drop-drop, drop-replicate, length-take-le}
 use Rattle.hash_laws.specs.Text.{IsText}
 use Rattle.hash_jenkins.specs.Filled.{zero_filled}
-use Rattle.hash_rounds.specs.Put.{put_at}
+use Rattle.hash_words.specs.Put.{put_at}
 use Rattle.hash_jenkins.specs.Spooky.{Position, after}
 use Rattle.hash_jenkins.specs.SpookyParts.{position_of, IsSettled}
 use Rattle.hash_jenkins.specs.SpookyStanding.{IsPosition}
 use Rattle.hash_jenkins.specs.SpookyLaws.{IsPosition-after}
 use Rattle.hash_jenkins.specs.declared.spooky_parts.SpookyParts.{SpookyParts}
-use Rattle.hash_rounds.proofs.PutLemmas.{take-put_at}
+use Rattle.hash_words.proofs.PutLemmas.{take-put_at}
 
 -- the text and zeros, with a piece put behind the text
 put-zero_filled : (text piece : List ℕ) (n : ℕ) → length text + length piece ≤ n

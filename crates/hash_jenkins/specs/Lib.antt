@@ -9,3 +9,4 @@ pub mod SpookyHasher
 pub mod SpookyLaws
 pub mod SpookyParts
 pub mod SpookyStanding
+pub mod SpookyV1Hasher

@@ -1,7 +1,7 @@
 -- lookup3 (Bob Jenkins, lookup3.c) of one piece, on the words a, b and c of 32 bits.
 use Rattle.std.specs.Prelude.{ℕ, ◌+◌, ◌*◌, ◌/◌, ◌%◌, ◌^◌, ◌<◌, List, [], ◌∷◌, length, take, drop, fold, slice_index, slice_set}
-use Rattle.hash_rounds.specs.Words.{add, le}
-use Rattle.hash_rounds.specs.Blocks.{pieces}
+use Rattle.hash_words.specs.Words.{add, le}
+use Rattle.hash_words.specs.Pieces.{pieces}
 use Rattle.hash_rounds.specs.Steps.{apply}
 use Rattle.hash_rounds.specs.Rounds as rounds
 use Rattle.hash_jenkins.specs.Filled.{zero_filled}

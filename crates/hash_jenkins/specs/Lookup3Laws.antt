@@ -3,10 +3,10 @@ use Rattle.std.proofs.Common.{◌≡◌, ℕ, zero, suc, ◌+◌, ◌%◌, ◌^�
 use Rattle.std.proofs.lemmas.List.{length-set}
 use Rattle.std.proofs.lemmas.Grind.{common_steps}
 use Rattle.std.proofs.lemmas.Nat.{mod_below, pow_pos}
-use Rattle.hash_rounds.specs.Blocks.{pieces}
+use Rattle.hash_words.specs.Pieces.{pieces}
 use Rattle.hash_rounds.specs.Steps.{Step, apply, AreSteps}
 use Rattle.hash_rounds.specs.Rounds as rounds
-use Rattle.hash_rounds.proofs.WordLemmas.{AreWords-from, AreWords-at}
+use Rattle.hash_words.proofs.WordLemmas.{AreWords-from, AreWords-at}
 use Rattle.hash_rounds.proofs.StepLemmas.{apply-words}
 use Rattle.hash_laws.specs.Text.{IsText}
 use Rattle.hash_jenkins.specs.Lookup3.{add_word, add_words, add_block, mix_block, mix_blocks, start, last_block, lookup3_words, lookup3_from, AreTwoWords}

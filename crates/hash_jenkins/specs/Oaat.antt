@@ -1,6 +1,6 @@
 -- Bob Jenkins' one-at-a-time hash, at 64 bits, from his page of hash functions (burtleburtle.net/bob/hash).
 use Rattle.std.specs.Prelude.{ℕ, ◌+◌, ◌*◌, ◌%◌, ◌^◌, List}
-use Rattle.hash_rounds.specs.Words.{xorshift}
+use Rattle.hash_words.specs.Words.{xorshift}
 use Rattle.hash_laws.specs.Recurrence.{recurrence}
 
 -- one byte: it is added, then a product, then a shift folded on

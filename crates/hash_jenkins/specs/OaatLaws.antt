@@ -1,8 +1,8 @@
 -- The step and the last mix of one-at-a-time stay in range and are injective, and what undoes them.
 use Rattle.std.proofs.Common.{◌≡◌, ℕ, ◌+◌, ◌-◌, ◌*◌, ◌%◌, ◌^◌, ◌<◌, ap, ◌∙◌, arith}
 use Rattle.hash_laws.specs.StepFacts.{StepFacts}
-use Rattle.hash_rounds.specs.Words.{xorshift}
-use Rattle.hash_rounds.proofs.XorshiftLemmas.{xorshift-lt, same_from_xorshift}
+use Rattle.hash_words.specs.Words.{xorshift}
+use Rattle.hash_words.proofs.XorshiftLemmas.{xorshift-lt, same_from_xorshift}
 use Rattle.hash_jenkins.specs.Oaat.{oaat_step, oaat_finish}
 
 oaat_same_sum : (h k b a : ℕ) → oaat_step h b ≡ oaat_step k a → (h + b) % 2 ^ 64 ≡ (k + a) % 2 ^ 64

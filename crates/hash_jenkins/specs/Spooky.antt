@@ -1,7 +1,8 @@
 -- SpookyHash (Bob Jenkins, SpookyV2.cpp) as a function of the whole text. A word is a number below 2 ^ 64.
 use Rattle.std.specs.Prelude.{ℕ, ◌*◌, ◌/◌, ◌^◌, nat_lt, List, [], ◌∷◌, ◌++◌, length, drop, fold, slice_index, Option, Some, None, if◌then◌else◌}
-use Rattle.hash_rounds.specs.Blocks.{pieces, le_words, spooky_blocks}
-use Rattle.hash_rounds.specs.Words.{add_at}
+use Rattle.hash_rounds.specs.Blocks.{spooky_blocks}
+use Rattle.hash_words.specs.Pieces.{pieces, le_words}
+use Rattle.hash_words.specs.Words.{add_at}
 use Rattle.hash_jenkins.specs.Filled.{zero_filled}
 use Rattle.hash_rounds.specs.Spooky.{spooky_end, short_mix, short_end}
 

@@ -4,12 +4,12 @@ use Rattle.std.proofs.lemmas.Bool.Decides.{nat_tests}
 use Rattle.std.proofs.lemmas.List.{append_assoc, append-nil, take-append-drop, drop_at, drop-drop, length-drop, length-take-le}
 use Rattle.std.proofs.lemmas.List.Elements.{All-nil, All-cons, All-append, All-drop}
 use Rattle.hash_rounds.specs.Blocks.{spooky_blocks}
-use Rattle.hash_rounds.specs.Words.{AreWords}
+use Rattle.hash_words.specs.Words.{AreWords}
 use Rattle.hash_rounds.proofs.BlockLemmas.{spooky_blocks-append, spooky_blocks_short, spooky_blocks-take, spooky_blocks-words}
 use Rattle.hash_laws.specs.Text.{IsText}
 use Rattle.hash_laws.proofs.TextLemmas.{IsByte}
-use Rattle.hash_jenkins.specs.Spooky.{Position, Short, Long, position, after, mixed, tail, long_start, hash, spooky}
-use Rattle.hash_jenkins.specs.SpookyStanding.{IsPosition, SpookyStandsAt, spooky_from}
+use Rattle.hash_jenkins.specs.Spooky.{Position, Short, Long, position, after, mixed, tail, long_start, hash, hash_v1, spooky, spooky_v1}
+use Rattle.hash_jenkins.specs.SpookyStanding.{IsPosition, SpookyStandsAt, spooky_from, spooky_v1_from}
 
 abbrev IsWord : ℕ → Type 0
 IsWord n = n < 2 ^ 64
@@ -74,6 +74,13 @@ module _ (seed1 seed2 : ℕ) (m : List ℕ) where
 
   pub hash-position : hash (position seed1 seed2 m) ≡ spooky seed1 seed2 m
   hash-position = hash_by_length (nat_lt (length m) 192) refl
+
+  hash_v1_by_length : (b : Bool) → nat_lt (length m) 192 ≡ b → hash_v1 (position seed1 seed2 m) ≡ spooky_v1 seed1 seed2 m
+  hash_v1_by_length true short = rw short refl
+  hash_v1_by_length false long = rw long refl
+
+  pub hash_v1-position : hash_v1 (position seed1 seed2 m) ≡ spooky_v1 seed1 seed2 m
+  hash_v1-position = hash_v1_by_length (nat_lt (length m) 192) refl
 
 -- a text's blocks lead from twelve words to twelve words
 IsPosition-mixed : (words t : List ℕ) → length words ≡ 12 → AreWords 64 words → IsText t → IsPosition (mixed words t)
@@ -181,3 +188,12 @@ after_from at to piece led seed1 seed2 text here = led ∙ ap (λ (a : Position)
 -- the default start
 pub hash_from_seeds : (text : List ℕ) → IsText text → (hash (after (position 0 0 []) text)).0 ≡ spooky_from (0 ∷ 0 ∷ []) text
 hash_from_seeds text bytes = ap (λ (r : ℕ × ℕ). r.0) (hash-position 0 0 text)
+
+-- the same by version 1
+pub answer_v1_where_stands : (at : Position) (from text : List ℕ) → SpookyStandsAt at from text → (hash_v1 at).0 ≡ spooky_v1_from from text
+answer_v1_where_stands at from text stood =
+    ap (λ (a : Position). (hash_v1 a).0) stood.there ∙ ap (λ (r : ℕ × ℕ). r.0) (hash_v1-position stood.seed1 stood.seed2 text)
+    ∙ ap (λ (seeds : List ℕ). spooky_v1_from seeds text) (sym stood.only)
+
+pub hash_v1_from_seeds : (text : List ℕ) → spooky_v1_from (0 ∷ 0 ∷ []) text ≡ (hash_v1 (after (position 0 0 []) text)).0
+hash_v1_from_seeds text = sym (ap (λ (r : ℕ × ℕ). r.0) (hash_v1-position 0 0 text))

@@ -1,8 +1,8 @@
 -- Where a SpookyHasher stands in a text, from its two seeds.
 use Rattle.std.specs.Prelude.{◌≡◌, ◌<◌, ◌^◌, ℕ, List, [], ◌∷◌, length, slice_index}
 use Rattle.hash_laws.specs.Text.{IsText}
-use Rattle.hash_rounds.specs.Words.{AreWords}
-use Rattle.hash_jenkins.specs.Spooky.{Position, Short, Long, position, spooky}
+use Rattle.hash_words.specs.Words.{AreWords}
+use Rattle.hash_jenkins.specs.Spooky.{Position, Short, Long, position, spooky, spooky_v1}
 
 -- two seeds of 64 bits, and a text below 192 bytes
 pub record IsShort (seed1 seed2 : ℕ) (text : List ℕ) : Type 0 where
@@ -36,3 +36,7 @@ pub record SpookyStandsAt (at : Position) (from text : List ℕ) : Type 0 where
 -- the answer to a text, from a start of two seeds
 abbrev pub spooky_from : List ℕ → List ℕ → ℕ
 spooky_from seeds text = (spooky (slice_index seeds 0) (slice_index seeds 1) text).0
+
+-- the same by version 1
+abbrev pub spooky_v1_from : List ℕ → List ℕ → ℕ
+spooky_v1_from seeds text = (spooky_v1 (slice_index seeds 0) (slice_index seeds 1) text).0

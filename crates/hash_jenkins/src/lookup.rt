@@ -1,7 +1,7 @@
 //! lookup3, by Bob Jenkins (his lookup3.c): two words of 32 bits of a piece, from two words before it.
 ghost use Rattle.std.specs.Prelude.{◌≡◌, ◌≢◌, ◌<◌, ℕ, List, [], length, slice_index, refl};
 ghost use Rattle.std.proofs.Common.{lit<};
-ghost use Rattle.hash_rounds.specs.Words.{le};
+ghost use Rattle.hash_words.specs.Words.{le};
 ghost use Rattle.hash_laws.specs.Text.{IsText};
 ghost use Rattle.hash_jenkins.specs.Filled.{zero_filled};
 ghost use Rattle.hash_jenkins.specs.Lookup3.{add_words, add_block, block_words, start, lookup3_words, lookup3_from, lookup3_answer, AreTwoWords, lookup3_of};

@@ -13,6 +13,7 @@ ghost use Rattle.hash_jenkins.specs.SpookyStanding.{IsPosition, SpookyStandsAt, 
 ghost use Rattle.hash_jenkins.specs.SpookyLaws.{IsPosition-fresh, IsPosition-after, after-nil, after-append, stands_at_seeds, stands_after, hash_from_seeds, answer_where_stands};
 
 use crate::spooky_parts::SpookyParts;
+pub use crate::spooky_v1::SpookyV1Hasher;
 use hash_laws::traits::{Piecewise, Streamed, hash_of};
 use hash_rounds::Turns;
 use std::hash::Hasher;
@@ -234,7 +235,5 @@ pub fn spooky(bytes: &[u8]) -> u64
 pub fn spooky_v1(bytes: &[u8]) -> u64
     ensures { result ≡ (spooky_v1 0 0 bytes.now).0 }
 {
-    let mut hasher = SpookyHasher::default();
-    hasher.write(bytes);
-    hasher.finish128_v1().0
+    hash_of::<SpookyV1Hasher>(bytes)
 }

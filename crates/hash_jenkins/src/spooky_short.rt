@@ -34,7 +34,7 @@ pub fn zero_filled<const N: usize>(text: &[u8]) -> [u8; N]
 
 /// The four words of SpookyHash V2 after the whole chunks of 32 bytes of a text, from two seeds.
 #[inline(always)]
-#[tactic(auto, unfolding(crate::specs::Spooky::chunks_from, hash_rounds::specs::Blocks::pieces))]
+#[tactic(auto, unfolding(crate::specs::Spooky::chunks_from, hash_words::specs::Pieces::pieces))]
 pub fn add_chunks(seed1: u64, seed2: u64, text: &[u8]) -> [u64; 4]
     ensures { result ≡ add_chunks seed1 seed2 text.now }
 {

@@ -1,11 +1,12 @@
 //! A random key, and the hashers at it.
-ghost use Rattle.std.specs.Prelude.{◌≡◌, ◌%◌, ◌<◌, ◌≤◌, IfOk};
+ghost use Rattle.std.specs.Prelude.{◌≡◌, ◌%◌, ◌<◌, ◌≤◌, IfOk, fold};
+ghost use Rattle.std.specs.List.{concat};
 ghost use Rattle.hash_keyed.specs.Poly61.{prime61};
-ghost use Rattle.hash_keyed.specs.Poly61State.{start_at};
+ghost use Rattle.hash_keyed.specs.Poly61State.{after, as_word, poly61, poly_end, start_at};
 
 use crate::modular::PRIME;
 use crate::poly61::Poly61Hasher;
-use std::hash::BuildHasher;
+use std::hash::{BuildHasher, Hash, Hasher};
 use std::io;
 use std::random::RandomSource;
 
@@ -44,5 +45,16 @@ impl BuildHasher for Poly61Keys {
     #[inline(always)]
     fn build_hasher(&self) -> Poly61Hasher {
         Poly61Hasher::new(self.key)
+    }
+
+    /// The hash of a key of the map: that of the bytes that std feeds, joined, at the key for texts.
+    #[inline(always)]
+    fn hash_one<T: Hash + Drop>(&self, x: T) -> u64
+        ensures std { result ≡ as_word (poly_end (fold after (start_at (self.now.key % prime61)) (T.hash_input x))) }
+        ensures defined { result ≡ poly61 (self.now.key % prime61) (concat (T.hash_input x)) }
+    {
+        let mut hasher = Poly61Hasher::new(self.key);
+        x.hash(&mut hasher);
+        hasher.finish()
     }
 }

@@ -155,6 +155,7 @@ impl Hasher for Poly61Hasher {
     #[inline(always)]
     fn finish(&self) -> u64
         ensures value { result ≡ as_word (poly_end self.now) }
+        ensures of_text { (key : ℕ) (text : List ℕ) → self.now ≡ after (start_at key) text → result ≡ poly61 key text }
         ensures in_range { IsPosition self.now }
     {
         ended(self.key, self.state, self.word, self.count)

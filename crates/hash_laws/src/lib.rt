@@ -1,7 +1,4 @@
-//! What hash functions promise, what follows for all of them, and the hash of what a reader gives.
+//! What hash functions promise, and what follows for all of them.
 #![tactic(auto)]
 
-pub mod counts;
-pub mod reader;
 pub mod traits;
-pub mod window;

@@ -6,9 +6,7 @@
 ghost use Rattle.std.specs.Prelude.{◌≡◌, ◌≢◌, ◌%◌, ◌<◌, ◌≤◌, ◌↔◌, ℕ, List, [], ◌∷◌, ◌++◌, fold, IsSome, IfSome, IfNone, IsTrue};
 ghost use Rattle.std.specs.Bool.{OnTrue};
 ghost use Rattle.hash_laws.specs.Text.{IsText, texts, joined};
-ghost use Rattle.hash_laws.specs.DifferWithin.{DifferAtOnePlace};
 
-use crate::window::differ_at_one_place;
 use std::hash::Hasher;
 
 /// A hasher whose state after a piece, and whose answer, have definitions.
@@ -265,14 +263,6 @@ pub fn run_pair<H: Undo>(a: &mut H, b: &mut H, pieces: &[&[u8]])
     }
 }
 
-/// Whether the lengths are equal and exactly one place differs. Where so, the default hashes differ. Computes no hash.
-pub fn apart_by_one<H: ByteStep>(x: &[u8], y: &[u8]) -> bool
-    ensures exactly { IsTrue result ↔ DifferAtOnePlace x.now y.now }
-    ensures differ { OnTrue result (H.hash_of x.now ≢ H.hash_of y.now) }
-{
-    differ_at_one_place(x, y)
-}
-
 /// The hash of a text: what the default hasher answers to it as one piece. For a [`Streamed`] hasher it is the
 /// definition of the text from the default start, by the law `hash_from_start`.
 #[inline(always)]
@@ -304,12 +294,6 @@ pub fn joined_texts_are_one<H: Streamed>()
 pub fn text_is_its_steps<H: ByteStep>()
     ensures { (s : H.State) (text : List ℕ) → H.in_range s → IsText text
         → H.after s text ≡ fold (λ t byte. H.after t (byte ∷ [])) s text }
-{}
-
-/// A law with no code: the hashes of two texts that differ at exactly one place differ.
-pub fn one_changed_byte_shows<H: ByteStep>()
-    ensures { (x y : List ℕ) → IsText x → IsText y → DifferAtOnePlace x y
-        → H.hash_of x ≢ H.hash_of y }
 {}
 
 /// A law with no code: a text leads from states in range to states in range.

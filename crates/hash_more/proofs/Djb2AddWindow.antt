@@ -4,10 +4,10 @@ use Rattle.std.proofs.Common.{◌≡◌, ℕ, zero, suc, ◌+◌, ◌*◌, ◌/�
 use Rattle.std.specs.Int.Bits.{bit_and}
 use Rattle.std.proofs.lemmas.Nat.Bits.{and_high}
 use Rattle.hash_laws.specs.Text.{IsText}
-use Rattle.hash_laws.specs.DifferWithin.{DifferWithin}
+use Rattle.hash_windows.specs.DifferWithin.{DifferWithin}
 use Rattle.hash_laws.proofs.RecurrenceLemmas.{recurrence_is_fold}
-use Rattle.hash_laws.proofs.Windows.{hash_apart}
-use Rattle.hash_laws.proofs.Windows.{Separates}
+use Rattle.hash_windows.proofs.Windows.{hash_apart}
+use Rattle.hash_windows.proofs.Windows.{Separates}
 use Rattle.hash_more.specs.Djb2Add.{djb2_add_step, djb2_add_from}
 use Rattle.hash_more.specs.Djb2AddLaws.{djb2_add_facts}
 

@@ -3,8 +3,8 @@ use Rattle.std.proofs.Common.{◌≡◌, ℕ, ◌/◌, ◌^◌, ◌<◌, bit_xor
 use Rattle.std.proofs.Math.Nat.{zero-div, div-eq_of_lt}
 use Rattle.std.proofs.lemmas.Nat.{xor_shr, shr-shr}
 use Rattle.std.specs.Int.Bits.{xor_self}
-use Rattle.hash_rounds.specs.Words.{xorshift}
-use Rattle.hash_rounds.proofs.XorshiftLemmas.{same_from_xorshift}
+use Rattle.hash_words.specs.Words.{xorshift}
+use Rattle.hash_words.proofs.XorshiftLemmas.{same_from_xorshift}
 
 xorshift-high : (y k : ℕ) → xorshift (y / 2 ^ 32) k ≡ xorshift y k / 2 ^ 32
 xorshift-high y k =

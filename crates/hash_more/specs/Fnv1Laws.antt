@@ -4,7 +4,7 @@ use Rattle.std.proofs.Math.Nat.{mod-lt}
 use Rattle.hash_laws.specs.StepFacts.{StepFacts}
 use Rattle.hash_bytes.specs.Fnv.{fnv1_step}
 use Rattle.hash_bytes.specs.FnvLaws.{fnv1a32_same, fnv1a64_same}
-use Rattle.hash_rounds.proofs.XorLemmas.{xor_twice, xor_cancel, xor_cancel_left, xored_32, xored_64}
+use Rattle.hash_words.proofs.XorLemmas.{xor_twice, xor_cancel, xor_cancel_left, xored_32, xored_64}
 use Rattle.hash_more.specs.Fnv1.{fnv1_32_step, fnv1_64_step}
 
 -- a product by a prime that tells the words apart, and then an exclusive or

@@ -2,7 +2,7 @@
 -- burtleburtle.net/bob/hash/doobs.html).
 use Rattle.std.specs.Prelude.{ℕ, ◌+◌, ◌*◌, ◌%◌, ◌^◌, List}
 use Rattle.hash_laws.specs.Recurrence.{recurrence}
-use Rattle.hash_rounds.specs.Words.{xorshift}
+use Rattle.hash_words.specs.Words.{xorshift}
 
 -- one byte: it is added, then a product, then a shift folded on
 abbrev pub joaat_step : ℕ → ℕ → ℕ

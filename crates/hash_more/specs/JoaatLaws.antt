@@ -2,8 +2,8 @@
 use Rattle.std.proofs.Common.{◌≡◌, ℕ, ◌+◌, ◌-◌, ◌*◌, ◌/◌, ◌%◌, ◌^◌, ◌<◌, ap, ◌∙◌, arith}
 use Rattle.std.proofs.lemmas.Nat.{xor_lt, shr_le}
 use Rattle.hash_laws.specs.StepFacts.{StepFacts}
-use Rattle.hash_rounds.specs.Words.{xorshift}
-use Rattle.hash_rounds.proofs.XorshiftLemmas.{same_from_xorshift}
+use Rattle.hash_words.specs.Words.{xorshift}
+use Rattle.hash_words.proofs.XorshiftLemmas.{same_from_xorshift}
 use Rattle.hash_more.specs.Joaat.{joaat_step, joaat_answer}
 
 xorshift-lt : (x k : ℕ) → x < 2 ^ 32 → xorshift x k < 2 ^ 32

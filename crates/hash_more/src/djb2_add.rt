@@ -1,5 +1,5 @@
 //! djb2 in its form with a sum, which is Dan Bernstein's first, and which the section `.gnu.hash` of ELF files takes.
-ghost use Rattle.std.specs.Prelude.{◌≡◌, ◌^◌};
+ghost use Rattle.std.specs.Prelude.{◌≡◌, ◌^◌, ◌<◌};
 ghost use Rattle.std.proofs.Common.{lit<};
 ghost use Rattle.hash_more.specs.Djb2Add.{djb2_add_step, djb2_add_from};
 ghost use Rattle.hash_more.specs.Djb2AddLaws.{djb2_add_facts};
@@ -71,7 +71,8 @@ pub type Djb2AddHasher = ByteHasher<Plain<Djb2AddRule>>;
 
 /// djb2 with a sum of the bytes, from 5381.
 pub fn djb2_add(bytes: &[u8]) -> u64
-    ensures { result ≡ djb2_add_from 5381 bytes.now }
+    ensures value { result ≡ djb2_add_from 5381 bytes.now }
+    ensures below { result < 2 ^ 32 }
 {
     hash_of::<Djb2AddHasher>(bytes)
 }

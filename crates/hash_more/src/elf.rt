@@ -1,6 +1,6 @@
 //! The hash of symbol names in ELF files (System V Application Binary Interface, edition 4.1, figure 5-13), which is P. J.
 //! Weinberger's.
-ghost use Rattle.std.specs.Prelude.{◌≡◌, ◌^◌};
+ghost use Rattle.std.specs.Prelude.{◌≡◌, ◌^◌, ◌<◌};
 ghost use Rattle.std.proofs.Common.{lit<};
 ghost use Rattle.hash_more.specs.Elf.{elf_step, elf_from};
 ghost use Rattle.hash_more.specs.ElfLaws.{elf_in_range};
@@ -55,7 +55,8 @@ pub type ElfHasher = ByteHasher<Plain<ElfRule>>;
 
 /// ELF's hash of the bytes.
 pub fn elf(bytes: &[u8]) -> u64
-    ensures { result ≡ elf_from 0 bytes.now }
+    ensures value { result ≡ elf_from 0 bytes.now }
+    ensures below { result < 2 ^ 28 }
 {
     hash_of::<ElfHasher>(bytes)
 }

@@ -1,6 +1,6 @@
 //! The hash functions of Glenn Fowler, Landon Curt Noll and Kiem-Phong Vo in the variant 1: for each byte a product by a prime,
 //! and then an exclusive or. The starts and the primes are those of the variant 1a, `hash_bytes::fnv`.
-ghost use Rattle.std.specs.Prelude.{◌≡◌, ◌^◌};
+ghost use Rattle.std.specs.Prelude.{◌≡◌, ◌^◌, ◌<◌};
 ghost use Rattle.std.proofs.Common.{lit<};
 ghost use Rattle.hash_bytes.specs.Fnv.{fnv1a32_basis, fnv1a64_basis};
 ghost use Rattle.hash_more.specs.Fnv1.{fnv1_32_step, fnv1_64_step, fnv1_32_from, fnv1_64_from};
@@ -72,7 +72,8 @@ pub type Fnv1Hasher32 = ByteHasher<Plain<Fnv1Rule32>>;
 
 /// FNV-1 at 32 bits of the bytes.
 pub fn fnv1_32(bytes: &[u8]) -> u64
-    ensures { result ≡ fnv1_32_from fnv1a32_basis bytes.now }
+    ensures value { result ≡ fnv1_32_from fnv1a32_basis bytes.now }
+    ensures below { result < 2 ^ 32 }
 {
     hash_of::<Fnv1Hasher32>(bytes)
 }

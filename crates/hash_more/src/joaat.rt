@@ -1,13 +1,13 @@
 //! One-at-a-time, from Bob Jenkins' page on hash functions, at 32 bits as he published it.
 ghost use Rattle.std.specs.Prelude.{◌≡◌, ◌*◌, ◌%◌, ◌^◌, ◌<◌};
 ghost use Rattle.std.proofs.Common.{lit<};
-ghost use Rattle.hash_rounds.specs.Words.{xorshift};
+ghost use Rattle.hash_words.specs.Words.{xorshift};
 ghost use Rattle.hash_more.specs.Joaat.{joaat_step, joaat_from, joaat_answer};
 ghost use Rattle.hash_more.specs.JoaatLaws.{joaat_facts, joaat_answer_same};
 
 use hash_laws::traits::hash_of;
-use hash_rounds::unxorshift;
 use hash_rules::{ByteHasher, Plain, PlainRule, PlainUndo};
+use hash_words::unxorshift;
 
 /// What undoes a product by 1025.
 const UN_1025: u32 = 3222273025;
@@ -112,7 +112,8 @@ pub type JoaatHasher = ByteHasher<Plain<JoaatRule>>;
 
 /// One-at-a-time at 32 bits of the bytes.
 pub fn joaat(bytes: &[u8]) -> u64
-    ensures { result ≡ joaat_answer (joaat_from 0 bytes.now) }
+    ensures value { result ≡ joaat_answer (joaat_from 0 bytes.now) }
+    ensures below { result < 2 ^ 32 }
 {
     hash_of::<JoaatHasher>(bytes)
 }

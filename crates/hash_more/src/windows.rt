@@ -3,7 +3,7 @@
 ghost use Rattle.std.specs.Prelude.{◌≡◌, ◌≢◌, ◌<◌, ◌↔◌, ℕ, List, length, slice_index, IsTrue, IfNone, IfSome};
 ghost use Rattle.std.specs.Bool.{OnTrue};
 ghost use Rattle.hash_laws.specs.Text.{IsText};
-ghost use Rattle.hash_laws.specs.DifferWithin.{DifferWithin};
+ghost use Rattle.hash_windows.specs.DifferWithin.{DifferWithin};
 ghost use Rattle.hash_bytes.specs.Fnv.{fnv1a32_basis, fnv1a64_basis};
 ghost use Rattle.hash_crc.specs.Bursts.{DifferWithinBits};
 ghost use Rattle.hash_crc.specs.Crc32.{crc32_of, crc32c_of};
@@ -11,7 +11,7 @@ ghost use Rattle.hash_more.specs.Djb2Add.{djb2_add_from};
 ghost use Rattle.hash_more.specs.Fnv1.{fnv1_32_from, fnv1_64_from};
 
 pub use hash_crc::windows::{apart_crc32, apart_crc32_bits, apart_crc32c, apart_crc32c_bits};
-use hash_laws::window::is_window;
+use hash_windows::window::is_window;
 
 // In how many neighbouring places two texts may differ.
 const DJB2_ADD_PLACES: usize = 6;

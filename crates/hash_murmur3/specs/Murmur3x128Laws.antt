@@ -1,6 +1,6 @@
 -- What the rule of MurmurHash3_x64_128 cites: of the length only the low 64 bits count.
 use Rattle.std.proofs.Common.{◌≡◌, ℕ, ◌%◌, ◌^◌, List, take, drop, bit_xor, ap, arith}
-use Rattle.hash_rounds.specs.Words.{le}
+use Rattle.hash_words.specs.Words.{le}
 use Rattle.hash_murmur3.specs.Murmur3x128.{scramble1, scramble2, crossed, both_mixed, ended}
 
 pub total_wraps : (h : ℕ × ℕ) (left : List ℕ) (total : ℕ) → ended h left (total % 2 ^ 64) ≡ ended h left total

@@ -6,7 +6,7 @@ ghost use Rattle.hash_murmur3.specs.Murmur3.{scramble, after_word, last_mix, aft
 ghost use Rattle.hash_murmur3.specs.Murmur3Laws.{total_wraps};
 
 use hash_blocks::{BlockHasher, BlockRule};
-use hash_rounds::{le_four, le32, rotl32};
+use hash_words::{le_four, le32, rotl32};
 
 /// A word of the text, before MurmurHash3_x86_32 folds it in.
 #[inline(always)]

@@ -1,4 +1,3 @@
 pub mod Named
 pub mod Wide
-pub mod Reading
-pub mod ReadingLaws
+pub use Rattle.hash_reading.specs.Limited

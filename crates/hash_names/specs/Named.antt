@@ -10,7 +10,7 @@ use Rattle.hash_more.specs.Joaat.{joaat_answer, joaat_from}
 use Rattle.hash_names.specs.declared.table.Kind.{Kind}
 use Rattle.hash_names.specs.declared.table.Kind.TheVariants.{Fnv1a32, Fnv1a64, Djb2, Sdbm, LoseLose, Bricolage, Oaat, Lookup3, Spooky, SpookyV1, PassThrough, FxHash, FxHash32, FxHash64, Crc32, Crc32c, Fnv1At32, Fnv1At64, Djb2Add, Joaat, Elf, Null, Xxh32, Xxh64, Murmur3At32, Murmur3, SipHash13, SipHash24, Xxh3}
 use Rattle.hash_names.specs.declared.table.TheConstants.{KINDS}
-use Rattle.hash_laws.specs.Reading.{cut}
+use Rattle.hash_reading.specs.Reading.{cut}
 use Rattle.hash_bytes.specs.Fnv.{fnv1a32_basis, fnv1a64_basis, fnv1a32_of, fnv1a64_of}
 use Rattle.hash_fx.specs.Fx.{fx32, fx64, words32, words64}
 use Rattle.hash_jenkins.specs.Lookup3.{lookup3_from, lookup3_answer, lookup3_of}

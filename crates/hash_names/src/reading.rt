@@ -1,79 +1,22 @@
 //! The hash of all that a reader gives.
-ghost use Rattle.std.specs.Prelude.{◌<◌, ◌≤◌, fold};
-ghost use Rattle.hash_laws.specs.Reading.{cut};
-ghost use Rattle.hash_jenkins.specs.Spooky.{spooky_v1};
-ghost use Rattle.hash_names.specs.Reading.{Feeds, Hashes, read};
+ghost use Rattle.std.specs.Prelude.{◌<◌, ◌≤◌};
+ghost use Rattle.hash_names.specs.Named.{named, read_of};
+ghost use Rattle.hash_names.specs.Limited.{Hashes, HashesNamed, read};
+ghost use Rattle.hash_reading.specs.LimitedLaws.{Hashes-agree};
 
+use crate::table::{Kind, by_kind, kind_named};
+use crate::task::HashTask;
 use crate::wide::WideHash;
-use hash_jenkins::spooky_hash::SpookyHasher;
-use hash_laws::reader::{Fault, hash_reader};
 use hash_laws::traits::{Piecewise, Streamed};
+pub use hash_reading::limited::{Unhashed, fed, hash_of_pieces, hash_of_text};
 use std::io::Read;
+use std::marker::PhantomData;
 
-/// Why there is no hash of what is read.
-#[derive(Debug, Drop)]
-pub enum Unhashed {
-    /// No hash has the name. Nothing was read.
-    UnknownName,
-    /// A read failed.
-    ReadFault(Fault),
-    /// As many bytes were read as the limit allows, and no end was seen.
-    TooLong,
-}
+/// How many bytes are read at once.
+pub const BUFFER: usize = 65536;
 
-/// A default hasher that was fed all that is to be read in pieces of `N` bytes, if that is less than `limit` bytes.
-pub fn fed<H: Piecewise, R: Read, const N: usize>(limit: u64, r: &mut R) -> Result<H, Unhashed>
-    requires not_empty { 0 < N }
-    requires small { N ≤ 65536 }
-    ensures { Feeds N H.after H.fresh H.state (read limit R.remaining r.old r.new) result }
-{
-    let mut hasher = H::fresh();
-    match hash_reader::<H, R, N>(&mut hasher, r, limit) {
-        Err(fault) => Err(Unhashed::ReadFault(fault)),
-        Ok(taken) => {
-            if taken.ended {
-                Ok(hasher)
-            } else {
-                Err(Unhashed::TooLong)
-            }
-        }
-    }
-}
-
-/// The hash of what is read, as of pieces of `N` bytes.
-pub fn hash_of_pieces<H: Piecewise, R: Read, const N: usize>(
-    limit: u64,
-    r: &mut R,
-) -> Result<u64, Unhashed>
-    requires not_empty { 0 < N }
-    requires small { N ≤ 65536 }
-    ensures { Hashes (λ text. H.answer (fold H.after H.fresh (cut N text))) (read limit R.remaining r.old r.new) result }
-{
-    let hasher = fed::<H, R, N>(limit, r)?;
-    Ok(hasher.answer())
-}
-
-/// The hash of what is read, as of one text.
-pub fn hash_of_text<H: Streamed, R: Read, const N: usize>(
-    limit: u64,
-    r: &mut R,
-) -> Result<u64, Unhashed>
-    requires not_empty { 0 < N }
-    requires small { N ≤ 65536 }
-    ensures { Hashes H.hash_of (read limit R.remaining r.old r.new) result }
-{
-    hash_of_pieces::<H, R, N>(limit, r)
-}
-
-/// The hash by version 1 of SpookyHash of what is read.
-pub fn hash_of_spooky_v1<R: Read, const N: usize>(limit: u64, r: &mut R) -> Result<u64, Unhashed>
-    requires not_empty { 0 < N }
-    requires small { N ≤ 65536 }
-    ensures { Hashes (λ text. (spooky_v1 0 0 text).0) (read limit R.remaining r.old r.new) result }
-{
-    let hasher = fed::<SpookyHasher, R, N>(limit, r)?;
-    Ok(hasher.finish128_v1().0)
-}
+/// How many bytes are fed at once to a hasher to which cuts show.
+pub const PIECE: usize = 4096;
 
 /// The 128 bits of what is read, as one number.
 pub fn hash_of_wide<H: WideHash, R: Read, const N: usize>(
@@ -86,4 +29,48 @@ pub fn hash_of_wide<H: WideHash, R: Read, const N: usize>(
 {
     let hasher = fed::<H, R, N>(limit, r)?;
     Ok(hasher.wide())
+}
+
+/// To hash what a reader gives, if that is less than a limit in bytes.
+struct HashRead<R> {
+    source: PhantomData<R>,
+}
+
+impl<R: Read> HashTask for HashRead<R> {
+    type Told = u64;
+
+    type Input = R;
+
+    type Outcome = Result<u64, Unhashed>;
+
+    ghost by = { λ hash of_read limit r s result. Hashes of_read (read limit R.remaining r s) result };
+
+    fn by_text<H: Streamed>(limit: u64, r: &mut R) -> Result<u64, Unhashed> {
+        hash_of_text::<H, R, BUFFER>(limit, r)
+    }
+
+    fn by_pieces<H: Piecewise>(limit: u64, r: &mut R) -> Result<u64, Unhashed> {
+        hash_of_pieces::<H, R, PIECE>(limit, r)
+    }
+
+    ghost by_same = { λ hash of_read same agree limit r s.
+        Hashes-agree of_read same agree (read limit R.remaining r s) };
+}
+
+/// The hash by that kind of all that is read, if that is less than `limit` bytes. lookup3 and fx take pieces of 4096 bytes.
+pub fn hash_by<R: Read>(kind: Kind, limit: u64, r: &mut R) -> Result<u64, Unhashed>
+    ensures { Hashes (read_of kind) (read limit R.remaining r.old r.new) result }
+{
+    by_kind::<HashRead<R>>(kind, limit, r)
+}
+
+/// The hash of that name of all that is read, if that is less than `limit` bytes. An unknown name is refused before anything is
+/// read.
+pub fn hash_named<R: Read>(name: &str, limit: u64, r: &mut R) -> Result<u64, Unhashed>
+    ensures { HashesNamed (named name.now) (read limit R.remaining r.old r.new) result }
+{
+    match kind_named(name.as_bytes()) {
+        Some(kind) => hash_by(kind, limit, r),
+        None => Err(Unhashed::UnknownName),
+    }
 }

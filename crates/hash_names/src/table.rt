@@ -11,7 +11,7 @@ use hash_bytes::null::{NullHasher, PassThroughHasher};
 use hash_bytes::oz::{DJB2Hasher, LoseLoseHasher, SDBMHasher};
 use hash_bytes::pigeon::Bricolage;
 use hash_fx::{FxHasher, FxHasher32, FxHasher64};
-use hash_jenkins::spooky_hash::SpookyHasher;
+use hash_jenkins::spooky_hash::{SpookyHasher, SpookyV1Hasher};
 use hash_jenkins::{Lookup3Hasher, OAATHasher};
 use hash_more::crc32::{Crc32Hasher, Crc32cHasher};
 use hash_more::djb2_add::Djb2AddHasher;
@@ -195,7 +195,7 @@ pub fn by_kind<T: HashTask>(kind: Kind, told: T::Told, input: &mut T::Input) -> 
         Kind::Oaat => T::by_text::<OAATHasher>(told, input),
         Kind::Lookup3 => T::by_pieces::<Lookup3Hasher>(told, input),
         Kind::Spooky => T::by_text::<SpookyHasher>(told, input),
-        Kind::SpookyV1 => T::by_spooky_v1(told, input),
+        Kind::SpookyV1 => T::by_text::<SpookyV1Hasher>(told, input),
         Kind::PassThrough => T::by_text::<PassThroughHasher>(told, input),
         Kind::FxHash => T::by_pieces::<FxHasher>(told, input),
         Kind::FxHash32 => T::by_pieces::<FxHasher32>(told, input),

@@ -1,7 +1,6 @@
 //! What a program does with a hash of the table.
 ghost use Rattle.std.specs.Prelude.{◌≡◌, ℕ, List};
 ghost use Rattle.hash_laws.specs.Text.{IsText};
-ghost use Rattle.hash_jenkins.specs.Spooky.{spooky_v1};
 ghost use Rattle.hash_names.specs.Named.{pieced};
 
 use hash_laws::traits::{Piecewise, Streamed};
@@ -28,10 +27,6 @@ pub trait HashTask {
     /// By a hasher to which cuts may show, and which is fed pieces of 4096 bytes where the task reads.
     fn by_pieces<H: Piecewise>(told: Self::Told, input: &mut Self::Input) -> Self::Outcome
         ensures { by H.hash_of (pieced H.after H.fresh H.answer) told input.old input.new result };
-
-    /// By version 1 of SpookyHash, which is another answer of its hasher.
-    fn by_spooky_v1(told: Self::Told, input: &mut Self::Input) -> Self::Outcome
-        ensures { by (λ text. (spooky_v1 0 0 text).0) (λ text. (spooky_v1 0 0 text).0) told input.old input.new result };
 
     /// Of the hash of texts that are read, only what it makes of each text counts.
     ghost by_same: { (hash read same : List ℕ → ℕ) → ((text : List ℕ) → IsText text → read text ≡ same text)

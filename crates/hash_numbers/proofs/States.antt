@@ -3,7 +3,7 @@ use Rattle.std.proofs.Common.{ℕ, ◌≡◌, ◌+◌, ◌*◌, ◌%◌, ◌^◌
 use Rattle.std.specs.Hash.{le_bytes}
 use Rattle.std.proofs.lemmas.Bool.{cond-true, cond-false, le-leb, lt-leb, lt-ltb}
 use Rattle.hashers.specs.Words.{le}
-use Rattle.hash_rounds.proofs.WordLemmas.{le-to_le_bytes-32, le-to_le_bytes-64}
+use Rattle.hash_words.proofs.WordLemmas.{le-to_le_bytes-32, le-to_le_bytes-64}
 use Rattle.hash_numbers.specs.Numbers.{number_hash}
 use Rattle.hash_numbers.specs.NumberState.{after_write, answer_of, behind, fresh_at, with_text}
 use Rattle.hash_numbers.specs.declared.hasher.NumberHasher.{NumberHasher}

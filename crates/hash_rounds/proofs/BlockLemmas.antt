@@ -3,10 +3,11 @@ use Rattle.std.proofs.Common.{◌≡◌, ℕ, ◌*◌, ◌/◌, ◌%◌, ◌<◌
 use Rattle.std.specs.Simd.{first_chunks}
 use Rattle.std.proofs.lemmas.List.{take-append-drop, length-take-le}
 use Rattle.std.proofs.lemmas.Grind.{fold-append}
-use Rattle.hash_rounds.specs.Words.{AreWords}
+use Rattle.hash_words.specs.Words.{AreWords}
 use Rattle.hash_rounds.specs.Rounds.{spooky_mix_steps}
-use Rattle.hash_rounds.specs.Blocks.{pieces, le_words, mix_block, spooky_blocks}
-use Rattle.hash_rounds.proofs.Chunks.{first_chunks-append}
+use Rattle.hash_rounds.specs.Blocks.{mix_block, spooky_blocks}
+use Rattle.hash_words.specs.Pieces.{pieces, le_words}
+use Rattle.hash_words.proofs.Chunks.{first_chunks-append}
 use Rattle.hash_rounds.proofs.StepLemmas.{apply-words}
 use Rattle.hash_rounds.proofs.RoundLemmas.{spooky_mix-steps}
 

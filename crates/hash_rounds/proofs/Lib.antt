@@ -1,11 +1,5 @@
-pub mod WordLemmas
-pub mod XorLemmas
-pub mod XorshiftLemmas
 pub mod StepLemmas
 pub mod RoundLemmas
 pub mod ShuffleLemmas
 pub mod BlockLemmas
 pub mod SumLemmas
-pub mod Chunks
-pub mod PieceLemmas
-pub mod PutLemmas

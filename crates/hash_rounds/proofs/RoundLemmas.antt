@@ -1,10 +1,10 @@
 -- Laws of the rounds: their lists are well formed, they keep words, and different words stay different.
 use Rattle.std.proofs.Common.{◌≡◌, ℕ, ◌^◌, ◌<◌, List, [], length, slice_index, refl, sym, ◌∙◌}
-use Rattle.hash_rounds.specs.Words.{AreWords}
+use Rattle.hash_words.specs.Words.{AreWords}
 use Rattle.hash_rounds.specs.Steps.{AreSteps}
 use Rattle.hash_rounds.specs.Rounds as rounds
 use Rattle.hash_rounds.specs.Spooky.{short_mix, short_end}
-use Rattle.hash_rounds.proofs.WordLemmas.{AreWords-from, AreWords-at, no_words}
+use Rattle.hash_words.proofs.WordLemmas.{AreWords-from, AreWords-at, no_words}
 use Rattle.hash_rounds.proofs.StepLemmas.{apply-words, apply-same}
 
 pub spooky_mix-steps : AreSteps 64 12 12 rounds.spooky_mix_steps

@@ -6,7 +6,7 @@ use Rattle.std.proofs.lemmas.Bool.Decides.{nat_tests}
 use Rattle.std.proofs.lemmas.Nat.{shr-shr, shr_split, shr_below, pow_pos, mul-add-lt}
 use Rattle.std.proofs.lemmas.Nat.Bits.{bit_at-lt, bit_at-zero, bit_at_lowest, bit_at_and, bit_at_xor, bit_at_cat_low, bit_at_cat_high, same_from_bits_below}
 use Rattle.std.proofs.Math.Nat.{pow-suc}
-use Rattle.hash_rounds.specs.Words.{swap_halves}
+use Rattle.hash_words.specs.Words.{swap_halves}
 use Rattle.hash_rounds.specs.Shuffle.{from_bits, shuffle_from, shuffle_to, shuffle, unshuffle, exchanged}
 
 -- ---- a number by its bits

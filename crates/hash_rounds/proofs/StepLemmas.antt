@@ -8,10 +8,10 @@ use Rattle.std.proofs.lemmas.List.{set-set, set-get_or, get_or-set_same, get_or-
 use Rattle.std.proofs.lemmas.List.Elements.{All-set}
 use Rattle.std.proofs.lemmas.List.Folds.{list_all-append}
 use Rattle.std.proofs.lemmas.Nat.{mod_below, pow_pos, xor_lt}
-use Rattle.hash_rounds.specs.Words.{add, sub, rotl, AreWords}
+use Rattle.hash_words.specs.Words.{add, sub, rotl, AreWords}
 use Rattle.hash_rounds.specs.Steps.{Step, Add, Sub, Xor, Rotate, AddRotated, SubRotated, XorRotated, AddData, SubData, step, apply, undo, opposite, are_apart, is_turn, is_step, AreSteps}
-use Rattle.hash_rounds.proofs.WordLemmas.{sub-add, add-sub, rotl-lt, rotl-rotl, AreWords-from, no_words}
-use Rattle.hash_rounds.proofs.XorLemmas.{xor_twice}
+use Rattle.hash_words.proofs.WordLemmas.{sub-add, add-sub, rotl-lt, rotl-rotl, AreWords-from, no_words}
+use Rattle.hash_words.proofs.XorLemmas.{xor_twice}
 
 -- ---- one list after another
 

@@ -1,17 +1,8 @@
 -- Spooky's blocks of 96 bytes.
-use Rattle.std.specs.Prelude.{ℕ, ◌/◌, List, length, fold, map, reverse}
-use Rattle.std.specs.Simd.{first_chunks}
-use Rattle.hash_rounds.specs.Words.{le}
+use Rattle.std.specs.Prelude.{ℕ, List, fold, reverse}
+use Rattle.hash_words.specs.Pieces.{pieces, le_words}
 use Rattle.hash_rounds.specs.Steps.{apply, undo}
 use Rattle.hash_rounds.specs.Rounds.{spooky_mix_steps}
-
--- the whole pieces of n bytes of a text
-unfoldable pub pieces : ℕ → List ℕ → List (List ℕ)
-pieces n bytes = first_chunks n (length bytes / n) bytes
-
--- a text's pieces of eight bytes as little-endian words
-unfoldable pub le_words : List ℕ → List ℕ
-le_words block = map le (pieces 8 block)
 
 -- a state with the words of a block mixed in, and taken out again
 abbrev pub mix_block : List ℕ → List ℕ → List ℕ

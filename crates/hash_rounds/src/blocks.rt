@@ -1,31 +1,16 @@
 //! Spooky's rounds over whole blocks of 96 bytes, straight from the caller's slice.
 
 ghost use Rattle.std.specs.Prelude.{◌≡◌, ◌+◌, ◌*◌, ◌%◌, length};
-ghost use Rattle.hash_rounds.specs.Blocks.{le_words, spooky_blocks, spooky_unblocks};
+ghost use Rattle.hash_rounds.specs.Blocks.{spooky_blocks, spooky_unblocks};
 
 use crate::spooky::{spooky_mix, spooky_unmix};
 use crate::turns::Turns;
-use crate::words::le64;
-
-/// The bytes as `N` little-endian words of eight bytes each. There are `8 * N` bytes.
-#[inline(always)]
-#[tactic(auto, unfolding(crate::specs::Blocks::le_words, crate::specs::Blocks::pieces))]
-pub fn le_words<const N: usize>(bytes: &[u8]) -> [u64; N]
-    requires { length bytes.now ≡ 8 * N }
-    ensures { result ≡ le_words bytes.now }
-{
-    let (pieces, _) = bytes.as_chunks::<8>();
-    let mut words = [0; N];
-    for i in 0..N {
-        words[i] = le64(&pieces[i]);
-    }
-    words
-}
+use hash_words::le_words;
 
 /// Mixes the blocks of 96 bytes into a state by `spooky_mix`, from the first to the last, each as twelve
 /// little-endian words. No bytes leave the state. 96 divides the number of bytes. The call counts one turn.
 #[inline(always)]
-#[tactic(auto, unfolding(crate::specs::Blocks::spooky_blocks, crate::specs::Blocks::spooky_unblocks, crate::specs::Blocks::pieces))]
+#[tactic(auto, unfolding(crate::specs::Blocks::spooky_blocks, crate::specs::Blocks::spooky_unblocks, hash_words::specs::Pieces::pieces))]
 pub fn spooky_blocks(bytes: &[u8], s: &mut [u64; 12], t: &mut Turns)
     requires { length bytes.now % 96 ≡ 0 }
     ensures mixed { s.new ≡ spooky_blocks s.old bytes.now }
@@ -43,7 +28,7 @@ pub fn spooky_blocks(bytes: &[u8], s: &mut [u64; 12], t: &mut Turns)
 
 /// Takes `spooky_blocks` of the same bytes back, on any state, from the last block to the first. 96 divides the
 /// number of bytes.
-#[tactic(auto, unfolding(crate::specs::Blocks::spooky_blocks, crate::specs::Blocks::spooky_unblocks, crate::specs::Blocks::pieces))]
+#[tactic(auto, unfolding(crate::specs::Blocks::spooky_blocks, crate::specs::Blocks::spooky_unblocks, hash_words::specs::Pieces::pieces))]
 pub fn spooky_unblocks(bytes: &[u8], s: &mut [u64; 12])
     requires { length bytes.now % 96 ≡ 0 }
     ensures round { s.new ≡ spooky_unblocks s.old bytes.now }

@@ -5,7 +5,7 @@ ghost use Rattle.std.specs.Prelude.{◌≡◌, ◌<◌, [], length};
 ghost use Rattle.hash_rounds.specs.Steps.{apply, undo};
 ghost use Rattle.hash_rounds.specs.Rounds.{lookup3_mix_steps, lookup3_mix_group, lookup3_final_steps, lookup3_final_group};
 
-use crate::words::rotl32;
+use hash_words::rotl32;
 
 // The places of the words a, b and c.
 const A: usize = 0;

@@ -5,7 +5,7 @@ ghost use Rattle.std.specs.Prelude.{◌≡◌, ◌<◌, [], length};
 ghost use Rattle.hash_rounds.specs.Steps.{apply, undo};
 ghost use Rattle.hash_rounds.specs.Rounds.{short_mix_steps, short_mix_group, short_end_steps, short_end_group};
 
-use crate::words::rotl64;
+use hash_words::rotl64;
 
 /// Mixes four words: twelve groups of three steps.
 pub fn short_mix(h: &mut [u64; 4])

@@ -7,7 +7,7 @@ ghost use Rattle.std.specs.Prelude.{◌≡◌, ℕ, ◌*◌, ◌^◌, ◌<◌, b
 ghost use Rattle.std.specs.Int.{bit_at};
 ghost use Rattle.hash_rounds.specs.Shuffle.{shuffle, unshuffle, exchanged};
 
-use crate::words::swap_halves;
+use hash_words::swap_halves;
 
 // The bits that change places with those 8, 4, 2 and 1 above.
 const BYTES: u64 = 0x0000_ff00_0000_ff00;

@@ -5,7 +5,7 @@ ghost use Rattle.std.specs.Prelude.{◌≡◌, ◌<◌, [], length};
 ghost use Rattle.hash_rounds.specs.Steps.{apply, undo};
 ghost use Rattle.hash_rounds.specs.Rounds.{spooky_mix_steps, spooky_mix_row, spooky_end_partial_steps, spooky_end_partial_row, spooky_end_steps, data_sums};
 
-use crate::words::rotl64;
+use hash_words::rotl64;
 
 /// Mixes twelve words of data into a state of twelve words: twelve rows of five steps.
 pub fn spooky_mix(d: &[u64; 12], s: &mut [u64; 12])

@@ -1,7 +1,7 @@
 //! The law of all lists of reversible steps, of which the rounds are six.
 
 ghost use Rattle.std.specs.Prelude.{◌≡◌, ℕ, List, length};
-ghost use Rattle.hash_rounds.specs.Words.{AreWords};
+ghost use Rattle.hash_words.specs.Words.{AreWords};
 ghost use Rattle.hash_rounds.specs.Steps.{Step, AreSteps, apply, undo};
 
 /// Any list of steps, on words of any width, and the list of its opposites, last first, take one another back, on

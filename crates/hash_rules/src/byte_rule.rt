@@ -59,9 +59,15 @@ pub trait ByteRule: StepRule {
     fn answer(state: &Self::State) -> u64
         ensures { result ≡ answer (Self.number state.now) };
 
-    /// The answer to a whole text.
+    /// The answer to a whole text: of the start and one `write`, if the rule has no shorter way.
+    #[inline(always)]
     fn whole(text: &[u8]) -> u64
-        ensures { result ≡ answer (after (Self.number Self.start) text.now) };
+        ensures { result ≡ answer (after (Self.number Self.start) text.now) }
+    {
+        let mut state = Self::start();
+        Self::write(&mut state, text);
+        Self::answer(&state)
+    }
 
     /// The number after a text is the fold of the step.
     ghost is_fold: { (s : ℕ) (text : List ℕ) → s < Self.bound → after s text ≡ fold Self.step s text };

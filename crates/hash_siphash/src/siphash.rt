@@ -2,13 +2,13 @@
 ghost use Rattle.std.specs.Prelude.{◌≡◌, ◌+◌, ◌*◌, ◌^◌, ◌<◌, [], ◌∷◌, length, slice_index, refl};
 ghost use Rattle.std.proofs.Common.{lit<};
 ghost use Rattle.hash_laws.specs.Text.{joined};
-ghost use Rattle.hash_rounds.specs.Words.{le};
+ghost use Rattle.hash_words.specs.Words.{le};
 ghost use Rattle.hash_siphash.specs.SipHash.{after_block, after_word, ended, folded, last_word, siphash, start, xored};
 ghost use Rattle.hash_siphash.specs.SipHashLaws.{total_wraps};
 
 use crate::rounds::sip_rounds;
-use hash_blocks::{BlockHasher, BlockRule};
-use hash_rounds::{le_four, le32, le64};
+use hash_blocks::{BlockHasher, BlockRule, le_seven};
+use hash_rounds::le64;
 
 /// A key of 128 bits, as two words: the little-endian values of its first and its last eight bytes.
 #[derive(Clone, Copy)]
@@ -40,19 +40,6 @@ fn word_in<const C: usize>(v: &mut [u64; 4], word: u64)
     v[3] ^= word;
     sip_rounds::<C>(v);
     v[0] ^= word;
-}
-
-// The little-endian value of at most seven bytes.
-#[inline(always)]
-fn le_seven(bytes: &[u8]) -> u64
-    requires { length bytes.now < 8 }
-    ensures value { result ≡ le bytes.now }
-    ensures in_range { result < 2 ^ 56 }
-{
-    match bytes.split_first_chunk::<4>() {
-        None => u64::from(le32(bytes)),
-        Some((first, more)) => u64::from(le_four(first)) + u64::from(le32(more)) * 0x1_0000_0000,
-    }
 }
 
 /// The rule of SipHash by `C` rounds for each word and `D` at the end.

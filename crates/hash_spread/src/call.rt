@@ -54,19 +54,38 @@ impl Words for Misuse {
     }
 }
 
-/// The options.
-fn options() -> [Opt; 8]
+/// The options, as the help shows them.
+pub fn options() -> [Opt; 8]
     ensures { choices result ≡ options }
 {
     [
-        taking(Some(b'b'), b"buckets"),
-        taking(Some(b'w'), b"width"),
-        flag(Some(b'z'), b"zero-terminated"),
-        flag(None, b"no-times"),
-        taking(None, b"plot"),
-        flag(None, b"list"),
-        flag(None, b"help"),
-        flag(None, b"version"),
+        taking(
+            Some(b'b'),
+            b"buckets",
+            "BUCKETS",
+            "this many buckets instead",
+        ),
+        taking(
+            Some(b'w'),
+            b"width",
+            "BYTES",
+            "keys of this many bytes, with nothing between them",
+        ),
+        flag(
+            Some(b'z'),
+            b"zero-terminated",
+            "keys end with a zero byte, not with a newline",
+        ),
+        flag(None, b"no-times", "measure no times and recommend nothing"),
+        taking(
+            None,
+            b"plot",
+            "FILE.svg",
+            "draw the table too; - is standard output, after it",
+        ),
+        flag(None, b"list", "print the names of the hashes and exit"),
+        flag(None, b"help", "print this help and exit"),
+        flag(None, b"version", "print the version and exit"),
     ]
 }
 

@@ -1,7 +1,6 @@
 //! The hashes of keys, by a hasher or by its name.
 ghost use Rattle.std.specs.Prelude.{◌≡◌, All, IfOk, OnOk, length, map};
 ghost use Rattle.hash_names.specs.Named.{hash_of};
-ghost use Rattle.hashers.specs.Spooky.{spooky_v1};
 ghost use Rattle.hashers.specs.Text.{IsText};
 ghost use Rattle.hash_spread.specs.Counts.{IsCounts};
 ghost use Rattle.hash_spread.specs.Named.{IsHashed};
@@ -10,8 +9,7 @@ use crate::counts::{Counts, counts_of};
 use crate::sizes::Sizes;
 use hash_names::table::{Kind, by_kind};
 use hash_names::task::HashTask;
-use hashers::jenkins::spooky_hash::spooky_v1;
-use hashers::laws::{Piecewise, Streamed, bytes_are_a_text, hash_of};
+use hashers::laws::{Piecewise, Streamed, hash_of};
 use std::alloc::{AllocError, Global};
 use text_set::{RandomKeys, Texts};
 
@@ -32,19 +30,6 @@ pub fn hash_each<H: Piecewise>(keys: &Texts<RandomKeys>, hashes: &mut [u64])
 {
     for i in 0..hashes.len() {
         hashes[i] = hash_of::<H>(keys.text_at(i));
-    }
-}
-
-/// The same by version 1 of SpookyHash.
-fn hash_each_by_v1(keys: &Texts<RandomKeys>, hashes: &mut [u64])
-    requires { length hashes.old ≡ length keys.now.texts }
-    ensures hashes { hashes.new ≡ map (λ text. (spooky_v1 0 0 text).0) keys.now.texts }
-    ensures texts { All IsText keys.now.texts }
-{
-    for i in 0..hashes.len() {
-        let key = keys.text_at(i);
-        bytes_are_a_text(key);
-        hashes[i] = spooky_v1(key);
     }
 }
 
@@ -87,15 +72,6 @@ impl HashTask for HashKeys {
 
     fn by_pieces<H: Piecewise>(rounds: u32, hashed: &mut Hashed) -> Result<(), AllocError> {
         hash_often::<H>(rounds, hashed)
-    }
-
-    fn by_spooky_v1(rounds: u32, hashed: &mut Hashed) -> Result<(), AllocError> {
-        make_room(&mut hashed.hashes, hashed.keys.len())?;
-        hash_each_by_v1(&hashed.keys, &mut hashed.hashes);
-        'again: for _ in 1..rounds {
-            hash_each_by_v1(&hashed.keys, &mut hashed.hashes);
-        }
-        Ok(())
     }
 
     ghost by_same = { λ hash of_read same agree rounds before after outcome done. done };

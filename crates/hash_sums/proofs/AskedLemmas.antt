@@ -11,8 +11,8 @@ use Rattle.cli.specs.Call.{Saying}
 use Rattle.cli.specs.Files.{Opens}
 use Rattle.hash_sums.specs.Checking.{TellsAny}
 use Rattle.hash_sums.specs.Ended.{HasEndedWell}
-use Rattle.hash_sums.specs.Program.{asked, asks_for_poly61, is_poly61, kinds_under}
-use Rattle.hash_sums.specs.Sums.{is_named, kind_of, poly61_at_both, sum_at, sum_by, sum_of, told_at, told_of, Told}
+use Rattle.hash_sums.specs.Program.{asked, asks_for, asks_for_poly61, asks_for_siphash24, is_by_name, kinds_under}
+use Rattle.hash_sums.specs.Sums.{is_named, kind_of, kinds, poly61_at_both, siphash24_at, sum_at, sum_by, sum_of, told_at, told_of, Told}
 
 -- one thing alone is there
 only_one : (kind other : Kind) → Contains (kind ∷ []) other → other ≡ kind
@@ -50,30 +50,46 @@ kind_of_named [] name = refl
 kind_of_named (kind ∷ kinds) name = refl
 
 -- by computing
-poly61_found : (keys : Option (ℕ × ℕ)) (pair : ℕ × ℕ) → keys ≡ Some pair
-    → find (λ told. bytes_eq (map to_ascii_lowercase told.name) (codes "poly61")) (kinds_under keys) ≡ Some (told_at pair 28)
+poly61_found : (keys : ℕ × ℕ) → find (λ told. is_named (codes "poly61") told.name) (kinds (Some keys)) ≡ Some (told_at keys 28)
 unfolding sum_at
-poly61_found (Some keys) pair is = let same : keys ≡ pair = cc in ap (λ k. Some (told_at k 28)) same
-poly61_found None pair is = cc
+poly61_found keys = refl
 
-module _ (opens : Opens) (call : List Saying) where
-  named_so : (name : Option (List ℕ)) → asked call ≡ name → asks_for_poly61 call ≡ true → (ended : HasEndedWell opens call)
-      → (keys : ℕ × ℕ) → ended.keys ≡ Some keys → told_of ended.kind ≡ told_at keys 28
-  named_so None is asks ended keys are = let clash : false ≡ true = ap is_poly61 (sym is) ∙ asks in cc
-  named_so (Some name) is asks ended keys are =
-      let named : is_named name (codes "poly61") ≡ true = ap is_poly61 (sym is) ∙ asks in
-      let same : codes "poly61" ≡ map to_ascii_lowercase name = (bytes_decides (codes "poly61") (map to_ascii_lowercase name)).0 named in
-      let found : find (λ kind. is_named name kind.name.now) ended.told ≡ Some ended.kind =
-      sym (kind_of_named ended.told name) ∙ ap (kind_of ended.told) (sym is) ∙ ended.is_asked in
-      let some : Some (told_of ended.kind) ≡ Some (told_at keys 28) =
-      sym (ap (option_map told_of) found) ∙ found_told name ended.told ∙ ap (find (λ told. is_named name told.name)) ended.are_told
+siphash24_found : (keys : ℕ × ℕ) → find (λ told. is_named (codes "siphash24") told.name) (kinds (Some keys)) ≡ Some (told_at keys 29)
+unfolding sum_at
+siphash24_found keys = refl
+
+-- a call that asks for a name under which a place is found
+module _ (opens : Opens) (call : List Saying) (name : List ℕ) (which : ℕ)
+    (found : (keys : ℕ × ℕ) → find (λ told. is_named name told.name) (kinds (Some keys)) ≡ Some (told_at keys which)) where
+  found_under : (keys : Option (ℕ × ℕ)) (pair : ℕ × ℕ) → keys ≡ Some pair
+      → find (λ told. is_named name told.name) (kinds_under keys) ≡ Some (told_at pair which)
+  found_under (Some keys) pair is = let same : keys ≡ pair = cc in found keys ∙ ap (λ k. Some (told_at k which)) same
+  found_under None pair is = cc
+
+  named_so : (word : Option (List ℕ)) → asked call ≡ word → is_by_name name word ≡ true → (ended : HasEndedWell opens call)
+      → (keys : ℕ × ℕ) → ended.keys ≡ Some keys → told_of ended.kind ≡ told_at keys which
+  named_so None is asks ended keys are = let clash : false ≡ true = asks in cc
+  named_so (Some word) is asks ended keys are =
+      let same : map to_ascii_lowercase name ≡ map to_ascii_lowercase word =
+      (bytes_decides (map to_ascii_lowercase name) (map to_ascii_lowercase word)).0 asks in
+      let known : find (λ kind. is_named word kind.name.now) ended.told ≡ Some ended.kind =
+      sym (kind_of_named ended.told word) ∙ ap (kind_of ended.told) (sym is) ∙ ended.is_asked in
+      let some : Some (told_of ended.kind) ≡ Some (told_at keys which) =
+      sym (ap (option_map told_of) known) ∙ found_told word ended.told ∙ ap (find (λ told. is_named word told.name)) ended.are_told
       ∙ ap (λ n. find (λ (told : Told). bytes_eq (map to_ascii_lowercase told.name) n) (kinds_under ended.keys)) (sym same)
-      ∙ poly61_found ended.keys keys are in
+      ∙ found_under ended.keys keys are in
       cc
 
-  pub under_keys : asks_for_poly61 call ≡ true → (ended : HasEndedWell opens call) → (keys : ℕ × ℕ) → ended.keys ≡ Some keys
-      → sum_by ended.kind ≡ poly61_at_both keys
-  unfolding sum_at
-  under_keys asks ended keys are =
-      let told = named_so (asked call) refl asks ended keys are in
-      ap (λ (t : Told). sum_of t.keys (sum_at t.which)) told
+  sum_is : asks_for name call ≡ true → (ended : HasEndedWell opens call) → (keys : ℕ × ℕ) → ended.keys ≡ Some keys
+      → sum_by ended.kind ≡ sum_of keys (sum_at which)
+  sum_is asks ended keys are = ap (λ (t : Told). sum_of t.keys (sum_at t.which)) (named_so (asked call) refl asks ended keys are)
+
+pub under_poly61 : (opens : Opens) (call : List Saying) → asks_for_poly61 call ≡ true → (ended : HasEndedWell opens call) → (keys : ℕ × ℕ)
+    → ended.keys ≡ Some keys → sum_by ended.kind ≡ poly61_at_both keys
+unfolding sum_at
+under_poly61 opens call asks ended keys are = sum_is opens call (codes "poly61") 28 poly61_found asks ended keys are
+
+pub under_siphash24 : (opens : Opens) (call : List Saying) → asks_for_siphash24 call ≡ true → (ended : HasEndedWell opens call)
+    → (keys : ℕ × ℕ) → ended.keys ≡ Some keys → sum_by ended.kind ≡ siphash24_at keys
+unfolding sum_at
+under_siphash24 opens call asks ended keys are = sum_is opens call (codes "siphash24") 29 siphash24_found asks ended keys are

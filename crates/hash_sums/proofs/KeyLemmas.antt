@@ -13,7 +13,7 @@ use Rattle.hash_sums.specs.Sums.{poly61_at_both}
 use Rattle.hash_sums.proofs.LawLemmas.{never_passes}
 
 -- a hash has 64 bits
-in_64 : (key : ℕ) (text : List ℕ) → poly61 key text < 2 ^ 64
+pub in_64 : (key : ℕ) (text : List ℕ) → poly61 key text < 2 ^ 64
 in_64 key text =
     let value = poly_hash prime61 key text in
     let below : value < prime61 = mod-lt _ (lit< tt) in

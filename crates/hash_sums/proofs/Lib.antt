@@ -1,7 +1,10 @@
 pub mod AskedLemmas
+pub mod FitLemmas
 pub mod KeyLemmas
 pub mod LawLemmas
 pub mod ListLemmas
+pub mod NameLemmas
 pub mod PassLemmas
 pub mod StatusLemmas
+pub mod TellsLemmas
 pub mod ToldLemmas

@@ -16,7 +16,7 @@ use Rattle.hash_sums.specs.Passed.{HasPassed}
 use Rattle.hash_sums.proofs.PassLemmas.{lists_passed}
 use Rattle.hash_sums.specs.declared.outcome.Misuse.{Misuse}
 use Rattle.hash_sums.specs.declared.outcome.Task.TheVariants.{Check, Sum}
-use Rattle.hash_sums.specs.Program.{asked, checking_of, key_file, kinds_under, misuse_of, summing_of, taken, task_of, work_by, work_of, EndsTask, EndsWithKeys}
+use Rattle.hash_sums.specs.Program.{asked, asks_for_siphash24, checking_of, key_file, kinds_under, misuse_of, summing_of, taken, task_of, work_by, work_of, EndsTask, EndsWithKeys}
 use Rattle.cli.specs.Call.{given, operands, Saying}
 use Rattle.cli.specs.Frame.{request_of, EndsRequest}
 use Rattle.cli.specs.declared.frame.Request.TheVariants.{Work}
@@ -25,7 +25,7 @@ use Rattle.cli.specs.declared.outcome.Outcome.TheVariants.{Failed, Reported, Usa
 use Rattle.cli.specs.declared.outcome.Wrong.{Wrong}
 use Rattle.cli.specs.declared.outcome.Wrong.TheVariants.{Own, UnknownName}
 use Rattle.hash_sums.specs.Ended.{HasEndedWell}
-use Rattle.hash_sums.specs.Keys.{ArePoly61KeysOf}
+use Rattle.hash_sums.specs.Keys.{AreKeysFor}
 use Rattle.hash_sums.specs.Sums.{kind_of, told_of}
 
 module _ (kinds : List Kind) (checking : Checking) (opens : Opens) where
@@ -56,7 +56,7 @@ module _ (opens : Opens) (call : List Saying) (w w' : Option (List ℕ)) (outcom
       absurd (omega (arith, no))
 
   -- by what is wrong with the call, and by the hash that is asked for
-  work_passed : (keys : Option (ℕ × ℕ)) → ArePoly61KeysOf opens (key_file call) keys → (told : List Kind) → map told_of told ≡ kinds_under keys
+  work_passed : (keys : Option (ℕ × ℕ)) → AreKeysFor (asks_for_siphash24 call) opens (key_file call) keys → (told : List Kind) → map told_of told ≡ kinds_under keys
       → given (codes "check") call ≡ true → (misuse : Option Misuse) (kind : Option Kind) → kind_of told (asked call) ≡ kind
       → EndsTask told opens (files_or (operands call)) w w' (work_by call misuse kind) outcome → status_of outcome ≡ 0
       → HasEndedWell opens call

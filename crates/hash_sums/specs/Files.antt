@@ -1,7 +1,7 @@
 -- The numbers of files.
 use Rattle.std.specs.Prelude.{ℕ, ◌≡◌, ◌-◌, ◌^◌, List, Option, Result, Ok, Err}
 use Rattle.std.specs.declared.io.Error.{Error}
-use Rattle.hash_names.specs.Reading.{Hashes, Reading, ReadsAll}
+use Rattle.hash_names.specs.Limited.{Hashes, Reading, ReadsAll}
 use Rattle.hash_sums.specs.declared.sum.Unsummed.{Unsummed}
 use Rattle.hash_sums.specs.declared.sum.Unsummed.TheVariants.{Unhashed, Unopened}
 

@@ -1,5 +1,5 @@
 -- Key files.
-use Rattle.std.specs.Prelude.{ℕ, ◌≡◌, ◌≢◌, ◌%◌, List, Option, Some, None, Ok, Result, length}
+use Rattle.std.specs.Prelude.{ℕ, Bool, true, false, ◌≡◌, ◌≢◌, ◌%◌, List, Option, Some, None, Ok, Result, length}
 use Rattle.std.specs.Int.{w64, from_le_bytes}
 use Rattle.std.specs.Io.KnownBytes.{Consumes, IsAtEnd}
 use Rattle.std.specs.declared.io.Error.{Error}
@@ -31,3 +31,8 @@ ArePoly61Keys keys = (keys.0 % prime61 ≢ 0) × (keys.1 % prime61 ≢ 0) × (ke
 abbrev pub ArePoly61KeysOf : Opens → (file : Option (List ℕ)) → (keys : Option (ℕ × ℕ)) → Type 0
 ArePoly61KeysOf opens None keys = keys ≡ None
 ArePoly61KeysOf opens (Some file) keys = (pair : ℕ × ℕ) × (keys ≡ Some pair) × HasKeys (opens file) pair × ArePoly61Keys pair
+
+-- these are the keys in a key file, if there is one: any two for siphash24, and else two of poly61
+abbrev pub AreKeysFor : (siphash24 : Bool) → Opens → (file : Option (List ℕ)) → (keys : Option (ℕ × ℕ)) → Type 0
+AreKeysFor true = AreKeysOf
+AreKeysFor false = ArePoly61KeysOf

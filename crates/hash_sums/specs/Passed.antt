@@ -1,12 +1,20 @@
 -- Lists that pass.
-use Rattle.std.specs.Prelude.{ℕ, ◌≡◌, Bool, true, false, List, Option, Ok, map, All, Any}
+use Rattle.std.specs.Prelude.{ℕ, ◌≡◌, ◌⊎◌, Bool, true, false, List, Option, Ok, Err, map, All, Any, Contains}
+use Rattle.std.specs.IoError.{error_kind}
+use Rattle.std.specs.declared.io.Error.{Error}
 use Rattle.hash_lines.specs.declared.line.Kind.{Kind}
 use Rattle.hash_sums.specs.declared.check.LineCheck.{LineCheck}
 use Rattle.hash_sums.specs.declared.check.LineCheck.TheVariants.{Skipped, Improper, Checked}
 use Rattle.hash_sums.specs.declared.check.Checking.{Checking}
 use Rattle.hash_sums.specs.declared.check.Verdict.TheVariants.{Same, Different, Unread, Missing, Unkeyed}
 use Rattle.cli.specs.Files.{Opens}
-use Rattle.hash_sums.specs.Lists.{AreLines, IsLineCheckOf}
+use Rattle.hash_lines.specs.Told.{Tells}
+use Rattle.text_set.specs.Lines.{lines_by}
+use Rattle.hash_sums.specs.Checking.{is_itself, is_not_found, is_skipped}
+use Rattle.hash_sums.specs.Files.{IsNumber}
+use Rattle.hash_sums.specs.Laws.{HoldsOnly}
+use Rattle.hash_sums.specs.Lists.{bare, AreLines, IsLineCheckOf}
+use Rattle.hash_sums.specs.Sums.{sum_by}
 
 -- whether what came of a line fails its list
 abbrev pub fails : (strict : Bool) → LineCheck → Bool
@@ -37,3 +45,20 @@ pub record HasPassed (kinds : List Kind) (checking : Checking) (opens : Opens) (
   pub came : All (IsLineCheckOf kinds checking opens list) lines
   pub none_fails : All (λ line. fails checking.strict line.1 ≡ false) lines
   pub some_is_same : Any (λ line. is_same line.1 ≡ true) lines
+
+-- the list of a name holds a line that tells the hash of a file, and is neither a comment nor of the list itself
+pub record ListTells (kinds : List Kind) (checking : Checking) (opens : Opens) (list : List ℕ) (kind : Kind) (name : List ℕ) (number : ℕ)
+    : Type 0 where
+  pub text : List ℕ
+  pub holds : HoldsOnly (opens list) text
+  pub line : List ℕ
+  pub is_line : Contains (lines_by 10 text) line
+  pub tells : Tells kinds checking.kind kind name number (bare line)
+  pub no_comment : is_skipped (bare line) ≡ false
+  pub of_another : is_itself list name ≡ false
+
+-- the file of a name was opened, and the text that was read of it has this hash; or it is not there, and such files are left out
+abbrev pub HasHash : Checking → Opens → Kind → (name : List ℕ) (number : ℕ) → Type 0
+HasHash checking opens kind name number =
+    ((held : Option (List ℕ)) × opens name (Ok held) × IsNumber (sum_by kind) held number)
+    ⊎ ((checking.ignore_missing ≡ true) × (error : Error) × opens name (Err error) × (is_not_found (error_kind error) ≡ true))

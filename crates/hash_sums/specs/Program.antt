@@ -24,7 +24,7 @@ use Rattle.hash_sums.specs.declared.outcome.Task.TheVariants as task
 use Rattle.hash_sums.specs.declared.sum.Summing.{Summing}
 use Rattle.cli.specs.Files.{Opens, files_or}
 use Rattle.cli.specs.Outcome.{of_run}
-use Rattle.hash_sums.specs.Keys.{ArePoly61KeysOf}
+use Rattle.hash_sums.specs.Keys.{AreKeysFor}
 use Rattle.hash_sums.specs.Lists.{EndsLists}
 use Rattle.hash_sums.specs.Summing.{EndsSums}
 use Rattle.hash_sums.specs.Sums.{is_named, kind_of, kinds, told_of, Told}
@@ -37,7 +37,7 @@ options = taking (Some 97) (codes "algorithm") ∷ taking None (codes "key-file"
     ∷ flag None (codes "ignore-missing") ∷ flag (Some 119) (codes "warn") ∷ flag (Some 98) (codes "binary") ∷ flag (Some 116) (codes "text")
     ∷ flag None (codes "list") ∷ flag None (codes "help") ∷ flag None (codes "version") ∷ []
 
--- the hash that a call asks for by its name, or by a key file, which only poly61 takes
+-- the hash that a call asks for by its name, or by a key file alone, which asks for poly61
 abbrev pub asked : (call : List Saying) → Option (List ℕ)
 asked call = option_or (value_of (codes "algorithm") call) (if given (codes "key-file") call then Some (codes "poly61") else None)
 
@@ -70,13 +70,23 @@ abbrev pub gives_checking : (call : List Saying) → Bool
 gives_checking call = given (codes "status") call || given (codes "strict") call || given (codes "ignore-missing") call
     || given (codes "warn") call
 
--- whether the hash that is asked for is poly61
-abbrev pub is_poly61 : Option (List ℕ) → Bool
-is_poly61 None = false
-is_poly61 (Some name) = is_named name (codes "poly61")
+-- whether the hash that is asked for, if one is, is that of a name
+abbrev pub is_by_name : (name : List ℕ) → Option (List ℕ) → Bool
+is_by_name name None = false
+is_by_name name (Some word) = is_named word name
+
+abbrev pub asks_for : (name : List ℕ) → (call : List Saying) → Bool
+asks_for name call = is_by_name name (asked call)
 
 abbrev pub asks_for_poly61 : (call : List Saying) → Bool
-asks_for_poly61 call = is_poly61 (asked call)
+asks_for_poly61 call = asks_for (codes "poly61") call
+
+abbrev pub asks_for_siphash24 : (call : List Saying) → Bool
+asks_for_siphash24 call = asks_for (codes "siphash24") call
+
+-- whether a hash that takes keys is asked for
+abbrev pub asks_for_keyed : (call : List Saying) → Bool
+asks_for_keyed call = asks_for_poly61 call || asks_for_siphash24 call
 
 -- what is wrong with a call, but for the name of a hash
 abbrev pub misuse_of : (call : List Saying) → Option Misuse
@@ -85,8 +95,8 @@ misuse_of call =
     let keyed = given (codes "key-file") call in
     if checks && gives_writing call then Some misuse.NotWithCheck
     else if not checks && gives_checking call then Some misuse.OnlyWithCheck
-    else if asks_for_poly61 call && not keyed then Some misuse.NeedsKeyFile
-    else if keyed && not (asks_for_poly61 call) then Some misuse.UnusedKeyFile
+    else if asks_for_keyed call && not keyed then Some misuse.NeedsKeyFile
+    else if keyed && not (asks_for_keyed call) then Some misuse.UnusedKeyFile
     else None
 
 -- what is to be done by a hash
@@ -136,15 +146,16 @@ key_file call = at (request_of call) (misuse_of call)
 abbrev pub EndsForMemory : (written written' : Option (List ℕ)) → Outcome Misuse Nothing → Type 0
 EndsForMemory written written' result = (result ≡ Failed NoMemory) × Keeps written written'
 
--- the hashes that can be told under these keys. Without keys poly61 is there under zeros, so that its lines are known; they never pass
+-- the hashes that can be told under these keys. Without keys those that take them are there under zeros, so that their lines are known;
+-- they never pass
 abbrev pub kinds_under : Option (ℕ × ℕ) → List Told
 kinds_under keys = kinds (Some (unwrap_or keys (0, 0)))
 
--- how the program ends, by the hashes that can be told under the keys of its key file; or it has no keys of poly61, and nothing is written
+-- how the program ends, by the hashes that can be told under the keys of its key file; or it has no such keys, and nothing is written
 abbrev pub EndsWithKeys : Opens → (call : List Saying) (texts : Text → List ℕ) (written written' : Option (List ℕ))
     → Outcome Misuse Nothing → Type 0
 EndsWithKeys opens call texts written written' result =
-    ((keys : Option (ℕ × ℕ)) × ArePoly61KeysOf opens (key_file call) keys × (told : List Kind) × (map told_of told ≡ kinds_under keys)
+    ((keys : Option (ℕ × ℕ)) × AreKeysFor (asks_for_siphash24 call) opens (key_file call) keys × (told : List Kind) × (map told_of told ≡ kinds_under keys)
     × EndsCall told opens call texts written written' result)
     ⊎ (IsSome (key_file call) × (result ≡ Reported) × Keeps written written')
     ⊎ EndsForMemory written written' result
@@ -153,5 +164,5 @@ EndsWithKeys opens call texts written written' result =
 abbrev pub words_of : Misuse → List ℕ
 words_of misuse.NotWithCheck = codes "-z, --tag and --untagged do not go with -c"
 words_of misuse.OnlyWithCheck = codes "--status, --strict, --ignore-missing and -w go with -c alone"
-words_of misuse.NeedsKeyFile = codes "poly61 needs --key-file"
-words_of misuse.UnusedKeyFile = codes "--key-file goes with poly61 alone"
+words_of misuse.NeedsKeyFile = codes "poly61 and siphash24 need --key-file"
+words_of misuse.UnusedKeyFile = codes "--key-file goes with poly61 and siphash24 alone"

@@ -11,7 +11,8 @@ use Rattle.hash_lines.specs.declared.line.Width.TheVariants.{Eight, Sixteen, Thi
 use Rattle.hash_names.specs.Named.{bits_of, name_of, named, read_of}
 use Rattle.hash_names.specs.Wide.{murmur3_128_of, spooky128, xxh128}
 use Rattle.hash_sums.specs.declared.sums.Sum.{Sum}
-use Rattle.hash_sums.specs.declared.sums.Sum.TheVariants.{Table, Poly61}
+use Rattle.hash_siphash.specs.SipHash.{siphash}
+use Rattle.hash_sums.specs.declared.sums.Sum.TheVariants.{Table, Poly61, SipHash24}
 use Rattle.hash_sums.specs.declared.sums.Sum.TheVariants as sum
 use Rattle.hash_sums.specs.declared.sums.TheConstants.{SUMS}
 use Rattle.hash_sums.specs.declared.sums.Wide.{Wide}
@@ -40,9 +41,11 @@ abbrev pub name_in : Sum → List ℕ
 name_in (Table kind) = name_of kind
 name_in (sum.Wide wide) = wide_name wide
 name_in Poly61 = codes "poly61"
+name_in SipHash24 = codes "siphash24"
 
 abbrev pub width_in : Sum → Width
 width_in (Table kind) = width_of (bits_of kind)
+width_in SipHash24 = Sixteen
 width_in sum = ThirtyTwo
 
 -- the hash at a place of the list; the default where there is none
@@ -62,11 +65,16 @@ wide_of wide.Xxh3 = xxh128
 abbrev pub poly61_at_both : (keys : ℕ × ℕ) → List ℕ → ℕ
 poly61_at_both keys text = poly61 (keys.0 % prime61) text * 2 ^ 64 + poly61 (keys.1 % prime61) text
 
+-- SipHash-2-4 under a key of two words
+abbrev pub siphash24_at : (keys : ℕ × ℕ) → List ℕ → ℕ
+siphash24_at keys = siphash 2 4 keys.0 keys.1
+
 -- what a hash makes of a text under these keys
 abbrev pub sum_of : (keys : ℕ × ℕ) → Sum → List ℕ → ℕ
 sum_of keys (Table kind) = read_of kind
 sum_of keys (sum.Wide wide) = wide_of wide
 sum_of keys Poly61 = poly61_at_both keys
+sum_of keys SipHash24 = siphash24_at keys
 
 -- what the hash of a line makes of a text
 abbrev pub sum_by : LineKind → List ℕ → ℕ
@@ -74,12 +82,13 @@ sum_by kind = sum_of kind.keys (sum_at kind.which)
 
 abbrev pub takes_keys : Sum → Bool
 takes_keys Poly61 = true
+takes_keys SipHash24 = true
 takes_keys sum = false
 
--- poly61 stands behind 28 others, and is told if there are keys
+-- poly61 and siphash24 stand behind 28 others, and are told if there are keys
 abbrev pub keyed : Option (ℕ × ℕ) → List Told
 keyed None = []
-keyed (Some keys) = told_at keys 28 ∷ []
+keyed (Some keys) = told_at keys 28 ∷ told_at keys 29 ∷ []
 
 -- the hashes that can be told, the default first
 abbrev pub kinds : (keys : Option (ℕ × ℕ)) → List Told

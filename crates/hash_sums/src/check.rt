@@ -32,7 +32,7 @@ pub struct Checking<'k> {
     pub kind: Kind<'k>,
     /// Whether lines by other hashes are improper.
     pub only: bool,
-    /// Whether there are keys for lines of poly61.
+    /// Whether there are keys for lines of hashes that take them.
     pub keyed: bool,
     /// Whether files that have the hash are left out.
     pub quiet: bool,

@@ -1,13 +1,14 @@
-//! poly61 of files: the two keys in a key file, and the hash of what a reader gives.
+//! poly61 and SipHash of files: the two keys in a key file, and the hash of what a reader gives.
 ghost use Rattle.std.specs.Prelude.{◌<◌, ◌≤◌, IfOk, IfSome, IsSome, MatchOption};
 ghost use Rattle.std.specs.Option.{option_map};
-ghost use Rattle.hash_names.specs.Reading.{Hashes, read};
+ghost use Rattle.hash_names.specs.Limited.{Hashes, read};
 ghost use Rattle.hash_sums.specs.Keys.{AreKeysOf, ArePoly61Keys, ArePoly61KeysOf, HasKeys, IsKeyRead, IsKeyText};
-ghost use Rattle.hash_sums.specs.Sums.{poly61_at_both};
+ghost use Rattle.hash_sums.specs.Sums.{poly61_at_both, siphash24_at};
 
 use cli::folder::Folder;
 use hash_keyed::pair::Poly61Pair;
 use hash_names::reading::Unhashed;
+use hash_siphash::{SipHasher24, SipKey};
 use hashers::reader::hash_stream;
 use std::io;
 use std::io::{Error, ErrorKind, Read};
@@ -34,6 +35,30 @@ pub(crate) fn hash_of_poly61<R: Read, const N: usize>(
             }
             let (high, low) = pair.finish();
             Ok(u128::from(high) * (1 << 64) + u128::from(low))
+        }
+    }
+}
+
+/// SipHash-2-4 of what is read, under a key of these two words.
+pub(crate) fn hash_of_siphash24<R: Read, const N: usize>(
+    keys: (u64, u64),
+    limit: u64,
+    r: &mut R,
+) -> Result<u64, Unhashed>
+    requires not_empty { 0 < N }
+    requires small { N ≤ 65536 }
+    ensures { Hashes (siphash24_at keys) (read limit R.remaining r.old r.new) result }
+{
+    let (k0, k1) = keys;
+    let mut hasher = SipHasher24::new(SipKey { k0, k1 });
+    match hash_stream::<SipHasher24, R, N>(&mut hasher, r, limit) {
+        Err(fault) => Err(Unhashed::ReadFault(fault)),
+        Ok(taken) => {
+            if taken.ended {
+                Ok(hasher.hash())
+            } else {
+                Err(Unhashed::TooLong)
+            }
         }
     }
 }

@@ -1,8 +1,9 @@
 //! What a check is proved to see, as laws with no code of their own, over any files: of the text that was read of a file. Of a file whose
 //! bytes are not known, as one of the disk, they say that some text has the hash. A text's length is that of its file. Behind them what they
 //! say of each hash of the table, in words.
-ghost use Rattle.std.specs.Prelude.{◌≡◌, ◌≢◌, ◌+◌, ◌^◌, ◌≤◌, ℕ, Bool, true, false, max, All, List, [], ◌∷◌, Ok, Option, Some, codes, length, map};
-ghost use Rattle.cli.specs.Call.{given, Saying};
+ghost use Rattle.std.specs.Prelude.{◌≡◌, ◌≢◌, ◌+◌, ◌^◌, ◌<◌, ◌≤◌, ℕ, Bool, true, false, max, All, Contains, List, [], ◌∷◌, Ok, Option, Some, codes, length, map};
+ghost use Rattle.cli.specs.Call.{given, operands, Saying};
+ghost use Rattle.cli.specs.Files.{files_or};
 ghost use Rattle.cli.specs.Frame.{request_of};
 ghost use Rattle.cli.specs.Outcome.{status_of};
 ghost use Rattle.cli.specs.declared.frame.Request.TheVariants.{Work};
@@ -12,11 +13,12 @@ ghost use Rattle.cli.specs.declared.outcome.Outcome.{Outcome};
 ghost use Rattle.hashers.specs.DifferWithin.{DifferAtOnePlace, DifferWithin};
 ghost use Rattle.hashers.specs.Fx.{words32, words64};
 ghost use Rattle.hashers.specs.Text.{IsText};
-ghost use Rattle.hash_laws.specs.DifferWithin.{DifferInOneBlock};
+ghost use Rattle.hash_windows.specs.DifferWithin.{DifferInOneBlock};
 ghost use Rattle.block_laws.specs.Xxh32Words.{DifferInOneWord};
 ghost use Rattle.hash_keyed.specs.Poly61.{prime61, word_count, ArePairs};
 ghost use Rattle.hash_lines.specs.declared.line.Kind.{Kind as LineKind};
-ghost use Rattle.hash_lines.specs.Told.{AreTags};
+ghost use Rattle.hash_lines.specs.declared.line.Form.{Form};
+ghost use Rattle.hash_lines.specs.Told.{AreTags, MayBeTold, Tells};
 ghost use Rattle.hash_more.specs.Bursts.{DifferWithinBits};
 ghost use Rattle.hash_sums.specs.declared.check.Checking.{Checking};
 ghost use Rattle.hash_sums.specs.declared.check.Verdict.TheVariants.{Same};
@@ -26,28 +28,35 @@ ghost use Rattle.hash_sums.specs.Checking.{IsVerdict, TellsAny};
 ghost use Rattle.hash_sums.specs.Ended.{HasEndedWell};
 ghost use Rattle.hash_sums.specs.Laws.{DifferAtOneWord, HoldsOnly, NeverPasses};
 ghost use Rattle.hash_sums.specs.Lists.{EndsLists};
-ghost use Rattle.hash_sums.specs.Passed.{HasPassed};
-ghost use Rattle.hash_sums.specs.Program.{asks_for_poly61, taken, EndsTask, EndsWithKeys};
-ghost use Rattle.hash_sums.specs.Sums.{kinds, name_in, number_named, poly61_at_both, sum_by, sum_of, takes_keys, told_of};
+ghost use Rattle.hash_sums.specs.Passed.{HasHash, HasPassed, ListTells};
+ghost use Rattle.hash_sums.specs.Program.{asks_for_poly61, asks_for_siphash24, checking_of, taken, EndsTask, EndsWithKeys};
+ghost use Rattle.hash_names.specs.Named.{bits_of, hash_of, read_of};
+ghost use Rattle.hash_lines.specs.Line.{digits_of, line_of};
+ghost use Rattle.hash_sums.specs.Sums.{kind_of, kinds, name_in, number_named, poly61_at_both, siphash24_at, sum_by, sum_of, takes_keys, told_of, width_in, Told};
+ghost use Rattle.hash_names.specs.declared.table.Kind.{Kind};
 ghost use Rattle.hash_sums.specs.declared.sums.Sum.{Sum};
 
-use crate::sums::Sum;
+use crate::sums::{Sum, Wide};
 use block_laws::{
     one_changed_block_shows_in_murmur3_128, one_changed_word_shows_in_murmur3_32,
     one_changed_word_shows_in_xxh32,
 };
 use cli::folder::Folder;
 use hash_keyed::laws::few_pairs_for_two_texts;
-use hash_lines::laws::tags_by_their_names;
+use hash_lines::laws::{tags_by_their_names, written_lines_tell};
 use hash_more::crc32::{Crc32Hasher, Crc32cHasher};
 use hash_more::djb2_add::Djb2AddHasher;
+use hash_more::elf::ElfHasher;
 use hash_more::fnv1::{Fnv1Hasher32, Fnv1Hasher64};
 use hash_more::joaat::JoaatHasher;
 use hash_more::windows::windows_tell_apart as relatives_tell_apart;
 use hash_names::table::Kind;
 use hashers::fnv::{FNV1aHasher32, FNV1aHasher64};
+use hashers::fx_hash::{FxHasher32, FxHasher64};
 use hashers::jenkins::OAATHasher;
-use hashers::laws::{one_changed_byte_shows, one_changed_word_shows_fx, windows_tell_apart};
+use hashers::laws::{
+    one_changed_byte_shows, one_changed_word_shows_fx, text_stays_in_range, windows_tell_apart,
+};
 use hashers::oz::{DJB2Hasher, LoseLoseHasher, SDBMHasher};
 use hashers::pigeon::Bricolage;
 use std::io::Read;
@@ -63,6 +72,52 @@ pub fn kinds_are_tags()
         → map told_of told ≡ kinds keys → AreTags told default }
 {
     tags_by_their_names();
+}
+
+/// Each hash that a line can tell is found by its name, in letters of either case.
+pub fn each_name_is_found()
+    ensures { (keys : Option (ℕ × ℕ)) (told : List LineKind) → map told_of told ≡ kinds keys
+        → (hash : Told) → Contains (kinds keys) hash
+        → (kind : LineKind) × (kind_of told (Some hash.name) ≡ Some kind) × (told_of kind ≡ hash) }
+{}
+
+/// The hash of each text, in one call and as it is read, is below 2 to the power of the bits that the table has of it.
+pub fn each_hash_fits()
+    ensures whole { (kind : Kind) (text : List ℕ) → IsText text → hash_of kind text < 2 ^ bits_of kind }
+    ensures read { (kind : Kind) (text : List ℕ) → IsText text → read_of kind text < 2 ^ bits_of kind }
+{
+    text_stays_in_range::<FNV1aHasher32>();
+    text_stays_in_range::<FNV1aHasher64>();
+    text_stays_in_range::<DJB2Hasher>();
+    text_stays_in_range::<Bricolage>();
+    text_stays_in_range::<FxHasher64>();
+    text_stays_in_range::<FxHasher32>();
+    text_stays_in_range::<Crc32Hasher>();
+    text_stays_in_range::<Crc32cHasher>();
+    text_stays_in_range::<Fnv1Hasher32>();
+    text_stays_in_range::<Fnv1Hasher64>();
+    text_stays_in_range::<Djb2AddHasher>();
+    text_stays_in_range::<ElfHasher>();
+}
+
+/// The number of each text has as many digits as its line gives it: what is written of a file is read back.
+pub fn each_number_has_its_digits()
+    ensures { (kind : LineKind) (sum : Sum) (text : List ℕ) → kind.keys.0 < 2 ^ 64 → kind.keys.1 < 2 ^ 64 → IsText text
+        → sum_of kind.keys sum text < 16 ^ digits_of (width_in sum) }
+{
+    each_hash_fits();
+}
+
+/// What is written of a file that holds a text tells the hash of this text, in either form, with escapes or without.
+pub fn what_is_written_of_a_text_tells_its_hash()
+    ensures { (keys : Option (ℕ × ℕ)) (told : List LineKind) (default kind : LineKind) (form : Form)
+        → map told_of told ≡ kinds keys → Contains told kind → MayBeTold told default form kind
+        → kind.keys.0 < 2 ^ 64 → kind.keys.1 < 2 ^ 64
+        → (escapes : Bool) (name text : List ℕ) → IsText text → let number = sum_by kind text in
+        Tells told default kind name number (line_of form escapes kind.name.now kind.width name number) }
+{
+    each_number_has_its_digits();
+    written_lines_tell();
 }
 
 /// A file that differs from the text of its line only within so many neighbouring bytes, and under djb2 and djb2_add only in the low
@@ -171,7 +226,7 @@ pub fn a_check_that_ends_well<R: Read, F: Folder<R>>()
 {}
 
 /// The same of a call with `-c`: its lists passed, with lines of the hash alone that `-a` or a key file asks for, and of all hashes without
-/// these. Lines of poly61 are under the keys in the key file, which are none that pass every file.
+/// these. Lines of poly61 and siphash24 are under the keys in the key file; those of poly61 are none that pass every file.
 pub fn a_call_that_ends_well<R: Read, F: Folder<R>>()
     ensures { (folder : F) (call : List Saying) (texts : Text → List ℕ) (written written' : Option (List ℕ))
         (outcome : Outcome Misuse Nothing) → request_of call ≡ Work → given (codes "check") call ≡ true
@@ -179,17 +234,40 @@ pub fn a_call_that_ends_well<R: Read, F: Folder<R>>()
         → status_of outcome ≡ 0 → HasEndedWell (F.opens folder) call }
 {}
 
+/// What a list that passed tells of a file, in a line of ours, is so: the file was opened, and the text that was read of it has the hash,
+/// or it is not there and such files are left out. The hashes that can be told have tags, no two the same.
+pub fn what_a_list_tells_is_so<R: Read, F: Folder<R>>()
+    ensures { (folder : F) (kinds : List LineKind) (checking : Checking) (list : List ℕ) (kind : LineKind) (name : List ℕ) (number : ℕ)
+        → AreTags kinds checking.kind → HasPassed kinds checking (F.opens folder) list
+        → ListTells kinds checking (F.opens folder) list kind name number
+        → HasHash checking (F.opens folder) kind name number }
+{}
+
+/// The same of a call with `-c` that ended well, of each of its lists.
+pub fn what_a_call_is_told_is_so<R: Read, F: Folder<R>>()
+    ensures { (folder : F) (call : List Saying) → (ended : HasEndedWell (F.opens folder) call)
+        → (list : List ℕ) → Contains (files_or (operands call)) list
+        → (kind : LineKind) (name : List ℕ) (number : ℕ) → let checking = checking_of call ended.kind in
+        ListTells (taken ended.told checking) checking (F.opens folder) list kind name number
+        → HasHash checking (F.opens folder) kind name number }
+{
+    kinds_are_tags();
+}
+
 /// Where one hash is asked for, each line that is checked is of that hash, in whichever form it is.
 pub fn lines_of_one_hash()
     ensures { (sfv : Bool) (kind other : LineKind) (name : List ℕ) (number : ℕ) (line : List ℕ)
         → TellsAny sfv (kind ∷ []) kind other name number line → other ≡ kind }
 {}
 
-/// Where poly61 is asked for, the hash of each line is that at the keys in the key file.
+/// Where poly61 or siphash24 is asked for, the hash of each line is that at the keys in the key file.
 pub fn lines_under_the_keys<R: Read, F: Folder<R>>()
-    ensures { (folder : F) (call : List Saying) → asks_for_poly61 call ≡ true
+    ensures poly61 { (folder : F) (call : List Saying) → asks_for_poly61 call ≡ true
         → (ended : HasEndedWell (F.opens folder) call) → (keys : ℕ × ℕ) → ended.keys ≡ Some keys
         → sum_by ended.kind ≡ poly61_at_both keys }
+    ensures siphash24 { (folder : F) (call : List Saying) → asks_for_siphash24 call ≡ true
+        → (ended : HasEndedWell (F.opens folder) call) → (keys : ℕ × ℕ) → ended.keys ≡ Some keys
+        → sum_by ended.kind ≡ siphash24_at keys }
 {}
 
 /// What a check by a hash is proved to see in a file of the same length, by these laws, in words.
@@ -207,6 +285,7 @@ pub fn seen(sum: Sum) -> &'static str {
         Sum::Table(Kind::FxHash32 | Kind::Murmur3At32 | Kind::Xxh32) =>
             "1 changed word, of 4 bytes",
         Sum::Table(Kind::LoseLose | Kind::Bricolage | Kind::Oaat | Kind::Joaat) => "1 changed byte",
+        Sum::Wide(Wide::Murmur3) => "1 changed block, of 16 bytes",
         Sum::Poly61 => "any change, but under few keys",
         _ => "no promise",
     }

@@ -1,5 +1,5 @@
 //! What the program `hashsum` is asked for, and how it ends.
-ghost use Rattle.std.specs.Prelude.{◌≡◌, ◌⊎◌, map, IfOk};
+ghost use Rattle.std.specs.Prelude.{◌≡◌, ◌⊎◌, map, IfOk, IsSome, MatchOption};
 ghost use Rattle.std.specs.Option.{option_map};
 ghost use Rattle.std.specs.Io.Buffered.{writer_contents};
 ghost use Rattle.std.specs.Io.KnownBytes.{Keeps};
@@ -7,12 +7,13 @@ ghost use Rattle.streams.specs.declared.fault.Fault.TheVariants.{NoMemory};
 ghost use Rattle.cli.specs.declared.outcome.Outcome.TheVariants.{Failed};
 ghost use Rattle.cli.specs.Call.{call_of, choices, sayings, texts};
 ghost use Rattle.cli.specs.Frame.{text_of};
+ghost use Rattle.hash_sums.specs.Keys.{AreKeysFor};
 ghost use Rattle.hash_sums.specs.Lists.{EndsLists};
-ghost use Rattle.hash_sums.specs.Program.{asked, asks_for_poly61, checking_of, gives_checking, gives_writing, key_file, misuse_of, options, summing_of, taken, task_of, words_of, work_of, EndsCall, EndsTask, EndsWithKeys};
+ghost use Rattle.hash_sums.specs.Program.{asked, asks_for, asks_for_keyed, asks_for_siphash24, checking_of, gives_checking, gives_writing, key_file, misuse_of, options, summing_of, taken, task_of, words_of, work_of, EndsCall, EndsTask, EndsWithKeys};
 
 use crate::check::{Checking, check_lists};
 use crate::fault::Fault;
-use crate::keys::poly61_keys_for;
+use crate::keys::{keys_for, poly61_keys_for};
 use crate::reports::Reports;
 use crate::sum::{Summing, sum_files};
 use crate::sums::{is_named, kind_of, kinds};
@@ -43,9 +44,9 @@ pub enum Misuse {
     NotWithCheck,
     /// It gives, without `-c`, an option on how lines are checked.
     OnlyWithCheck,
-    /// It asks for poly61, and gives no key file.
+    /// It asks for a hash under keys, and gives no key file.
     NeedsKeyFile,
-    /// It gives a key file, and asks for another hash than poly61.
+    /// It gives a key file, and asks for a hash that takes no keys.
     UnusedKeyFile,
 }
 
@@ -56,8 +57,8 @@ impl Words for Misuse {
         match self {
             Misuse::NotWithCheck => "-z, --tag and --untagged do not go with -c",
             Misuse::OnlyWithCheck => "--status, --strict, --ignore-missing and -w go with -c alone",
-            Misuse::NeedsKeyFile => "poly61 needs --key-file",
-            Misuse::UnusedKeyFile => "--key-file goes with poly61 alone",
+            Misuse::NeedsKeyFile => "poly61 and siphash24 need --key-file",
+            Misuse::UnusedKeyFile => "--key-file goes with poly61 and siphash24 alone",
         }
     }
 }
@@ -68,27 +69,57 @@ pub type Wrong = outcome::Wrong<Misuse>;
 /// What came of a call.
 pub type Outcome = outcome::Outcome<Misuse, Nothing>;
 
-/// The options.
-fn options() -> [Opt; 16]
+/// The options, as the help shows them.
+pub fn options() -> [Opt; 16]
     ensures { choices result ≡ options }
 {
     [
-        taking(Some(b'a'), b"algorithm"),
-        taking(None, b"key-file"),
-        flag(Some(b'c'), b"check"),
-        flag(None, b"tag"),
-        flag(None, b"untagged"),
-        flag(Some(b'z'), b"zero"),
-        flag(None, b"quiet"),
-        flag(None, b"status"),
-        flag(None, b"strict"),
-        flag(None, b"ignore-missing"),
-        flag(Some(b'w'), b"warn"),
-        flag(Some(b'b'), b"binary"),
-        flag(Some(b't'), b"text"),
-        flag(None, b"list"),
-        flag(None, b"help"),
-        flag(None, b"version"),
+        taking(
+            Some(b'a'),
+            b"algorithm",
+            "NAME",
+            "the hash, by default spooky128; --list prints all",
+        ),
+        taking(
+            None,
+            b"key-file",
+            "FILE",
+            "16 secret bytes, for -a poly61 (implied) or siphash24",
+        ),
+        flag(
+            Some(b'c'),
+            b"check",
+            "check the lines, by NAME alone if one is given",
+        ),
+        flag(
+            None,
+            b"tag",
+            "print lines as: NAME (file) = hexadecimal; the default",
+        ),
+        flag(None, b"untagged", "print lines as: hexadecimal  file"),
+        flag(
+            Some(b'z'),
+            b"zero",
+            "end lines with a zero byte, and escape nothing",
+        ),
+        flag(None, b"quiet", "print no OK, and show no progress"),
+        flag(
+            None,
+            b"status",
+            "print nothing; the exit status shows success",
+        ),
+        flag(None, b"strict", "fail for malformed lines too"),
+        flag(None, b"ignore-missing", "skip missing files"),
+        flag(Some(b'w'), b"warn", "warn about each malformed line"),
+        flag(
+            Some(b'b'),
+            b"binary",
+            "ignored, for compatibility with sha256sum",
+        ),
+        flag(Some(b't'), b"text", "ignored likewise"),
+        flag(None, b"list", "print the names of the hashes and exit"),
+        flag(None, b"help", "print this help and exit"),
+        flag(None, b"version", "print the version and exit"),
     ]
 }
 
@@ -99,7 +130,7 @@ pub fn call_of<'a>(alloc: Global, words: &'a [Vec<u8>]) -> Result<Call<'a>, Allo
     cli::call::call_of(alloc, &options(), words)
 }
 
-/// The hash that a call asks for by its name, or by a key file, which only poly61 takes.
+/// The hash that a call asks for by its name, or by a key file alone, which asks for poly61.
 fn asked<'a>(call: &Call<'a>) -> Option<&'a [u8]>
     ensures { option_map (λ name. name.now) result ≡ asked (sayings call.now.said.items) }
 {
@@ -161,14 +192,21 @@ fn gives_checking(call: &Call<'_>) -> bool
         || call.gives(b"warn")
 }
 
-/// Whether the words ask for poly61.
-fn asks_for_poly61(call: &Call<'_>) -> bool
-    ensures { result ≡ asks_for_poly61 (sayings call.now.said.items) }
+/// Whether the words ask for the hash of that name.
+fn asks_for(call: &Call<'_>, name: &[u8]) -> bool
+    ensures { result ≡ asks_for name.now (sayings call.now.said.items) }
 {
     match asked(call) {
-        Some(name) => is_named(name, b"poly61"),
+        Some(word) => is_named(word, name),
         None => false,
     }
+}
+
+/// Whether the words ask for a hash that takes keys.
+fn asks_for_keyed(call: &Call<'_>) -> bool
+    ensures { result ≡ asks_for_keyed (sayings call.now.said.items) }
+{
+    asks_for(call, b"poly61") || asks_for(call, b"siphash24")
 }
 
 /// What is wrong with a call, but for the name of a hash.
@@ -183,7 +221,7 @@ fn misuse_of(call: &Call<'_>) -> Option<Misuse>
         return Some(Misuse::OnlyWithCheck);
     }
     let keyed = call.gives(b"key-file");
-    let asks = asks_for_poly61(call);
+    let asks = asks_for_keyed(call);
     if asks && !keyed {
         return Some(Misuse::NeedsKeyFile);
     }
@@ -290,8 +328,26 @@ fn key_file<'a>(call: &Call<'a>) -> Option<&'a [u8]>
     }
 }
 
-/// Does what the call asks for, by the hashes that can be told, and by poly61 under the keys of its key file. If the call
-/// gives one, it is read first; if it has no keys of poly61, that is told, and nothing else is read or written.
+/// The keys in the key file of a call, if it gives one: any two for siphash24, and else two of poly61. `None` if it has none such,
+/// which is told.
+fn keys_of_call<R: Read + Drop, F: Folder<R>>(
+    folder: &F,
+    call: &Call<'_>,
+) -> Option<Option<(u64, u64)>>
+    ensures { let said = sayings call.now.said.items in
+        MatchOption result (IsSome (key_file said))
+        (AreKeysFor (asks_for_siphash24 said) (F.opens folder.now) (key_file said)) }
+{
+    let file = key_file(call);
+    if asks_for(call, b"siphash24") {
+        keys_for(folder, file)
+    } else {
+        poly61_keys_for(folder, file)
+    }
+}
+
+/// Does what the call asks for, by the hashes that can be told, and by those that take keys under the keys of its key file. If the
+/// call gives one, it is read first; if it has no such keys, that is told, and nothing else is read or written.
 pub fn outcome_with_keys<R: Read + Drop, F: Folder<R> + Reports, W: Write + Drop>(
     alloc: Global,
     folder: &F,
@@ -303,7 +359,7 @@ pub fn outcome_with_keys<R: Read + Drop, F: Folder<R> + Reports, W: Write + Drop
         (text_of about.entry.help.now about.entry.version.now about.entry.list.now)
         (writer_contents W.contents w.old) (writer_contents W.contents w.new) result }
 {
-    match poly61_keys_for(folder, key_file(call)) {
+    match keys_of_call(folder, call) {
         None => Outcome::Reported,
         Some(keys) => match kinds(alloc, Some(keys.unwrap_or((0, 0)))) {
             Ok(kinds) => outcome_of(alloc, folder, &kinds, call, about, w),

@@ -4,33 +4,25 @@ ghost use Rattle.std.specs.List.{find};
 ghost use Rattle.std.specs.Option.{option_map};
 ghost use Rattle.std.proofs.Common.{◌∙◌};
 ghost use Rattle.hash_names.specs.Named.{pieced};
-ghost use Rattle.hash_names.specs.Reading.{Hashes, read};
-ghost use Rattle.hash_names.specs.ReadingLaws.{Hashes-agree};
+ghost use Rattle.hash_names.specs.Limited.{Hashes, read};
 ghost use Rattle.hashers.specs.Text.{IsText};
 ghost use Rattle.hash_sums.specs.Sums.{is_named, kind_of, kinds, name_in, sum_at, sum_by, takes_keys, told_at, told_of, wide_name, wide_of, width_in, width_of};
 
-use crate::keys::hash_of_poly61;
+use crate::keys::{hash_of_poly61, hash_of_siphash24};
 use hash_keyed::pair::poly61_pair;
 use hash_lines::line::{Kind as LineKind, Width};
 use hash_murmur3::Murmur3Hasher128;
-use hash_names::reading::{
-    Unhashed, hash_of_pieces, hash_of_spooky_v1, hash_of_text, hash_of_wide,
-};
+use hash_names::reading::{BUFFER, PIECE, Unhashed, hash_by, hash_of_wide};
 use hash_names::table::{Kind, by_kind};
 use hash_names::task::HashTask;
 use hash_names::wide::{WideHash, both};
+use hash_siphash::{SipKey, siphash24};
 use hash_xxh3::Xxh3Hasher;
-use hashers::jenkins::spooky_hash::{SpookyHasher, spooky_v1};
+use hashers::jenkins::spooky_hash::SpookyHasher;
 use hashers::laws::{Piecewise, Streamed, bytes_are_a_text, hash_of, run_streamed};
 use std::alloc::{AllocError, Global};
 use std::io::Read;
 use std::marker::PhantomData;
-
-/// How many bytes are read at once.
-const BUFFER: usize = 65536;
-
-/// How many bytes are fed at once to a hasher to which cuts show.
-const PIECE: usize = 4096;
 
 /// The keys of a hash that takes none.
 const NO_KEYS: (u64, u64) = (0, 0);
@@ -53,13 +45,15 @@ pub enum Sum {
     Table(Kind),
     /// One of 128 bits.
     Wide(Wide),
-    /// The one under keys.
+    /// The polynomial hash, at two keys.
     Poly61,
+    /// SipHash-2-4, under a key of two words.
+    SipHash24,
 }
 
 /// The hashes that a line can tell, each by its place; the default is the first. Of the table null is no hash, murmur3 is half of 128
-/// bits, and SipHash under the key 0 would pass forgeries.
-pub const SUMS: [Sum; 29] = [
+/// bits, and SipHash under the key 0 would pass forgeries: SipHash-2-4 is told under keys alone.
+pub const SUMS: [Sum; 30] = [
     Sum::Wide(Wide::Spooky),
     Sum::Table(Kind::Fnv1a32),
     Sum::Table(Kind::Fnv1a64),
@@ -89,9 +83,10 @@ pub const SUMS: [Sum; 29] = [
     Sum::Table(Kind::Murmur3At32),
     Sum::Wide(Wide::Murmur3),
     Sum::Poly61,
+    Sum::SipHash24,
 ];
 
-/// How many of them take no keys: those in front of poly61.
+/// How many of them take no keys: those in front of poly61 and siphash24.
 const UNKEYED: u32 = 28;
 
 /// How many digits so many bits have.
@@ -127,6 +122,7 @@ impl Sum {
             Sum::Table(kind) => kind.row().name,
             Sum::Wide(wide) => wide.name(),
             Sum::Poly61 => "poly61",
+            Sum::SipHash24 => "siphash24",
         }
     }
 
@@ -137,6 +133,7 @@ impl Sum {
         match self {
             Sum::Table(kind) => width_of(kind.row().bits),
             Sum::Wide(_) | Sum::Poly61 => Width::ThirtyTwo,
+            Sum::SipHash24 => Width::Sixteen,
         }
     }
 }
@@ -165,12 +162,12 @@ fn told_at(keys: (u64, u64), which: u32) -> LineKind<'static>
     }
 }
 
-/// Whether a hash is the one under keys.
+/// Whether a hash is one under keys.
 pub(crate) fn is_keyed(kind: LineKind<'_>) -> bool
     ensures { result ≡ takes_keys (sum_at kind.entry.which) }
 {
     match sum_at(kind.which) {
-        Sum::Poly61 => true,
+        Sum::Poly61 | Sum::SipHash24 => true,
         _ => false,
     }
 }
@@ -182,7 +179,7 @@ pub fn default_kind() -> LineKind<'static>
     told_at(NO_KEYS, 0)
 }
 
-/// The hashes that can be told, the default first, and poly61 last if there are keys.
+/// The hashes that can be told, the default first, and if there are keys those that take them last.
 pub fn kinds(alloc: Global, keys: Option<(u64, u64)>) -> Result<Vec<LineKind<'static>>, AllocError>
     ensures { IfOk result (λ told. map told_of told.items ≡ kinds keys) }
 {
@@ -192,6 +189,7 @@ pub fn kinds(alloc: Global, keys: Option<(u64, u64)>) -> Result<Vec<LineKind<'st
     }
     if let Some(keys) = keys {
         told.push(told_at(keys, UNKEYED))?;
+        told.push(told_at(keys, UNKEYED + 1))?;
     }
     Ok(told)
 }
@@ -228,35 +226,6 @@ pub fn kind_of<'k>(kinds: &[LineKind<'k>], name: Option<&[u8]>) -> Option<LineKi
     }
 }
 
-/// To hash what a reader gives, if that is less than a limit in bytes.
-struct SumRead<R> {
-    reader: PhantomData<R>,
-}
-
-impl<R: Read> HashTask for SumRead<R> {
-    type Told = u64;
-
-    type Input = R;
-
-    type Outcome = Result<u64, Unhashed>;
-
-    ghost by = { λ hash of_read limit r s result. Hashes of_read (read limit R.remaining r s) result };
-
-    fn by_text<H: Streamed>(limit: u64, r: &mut R) -> Result<u64, Unhashed> {
-        hash_of_text::<H, R, BUFFER>(limit, r)
-    }
-
-    fn by_pieces<H: Piecewise>(limit: u64, r: &mut R) -> Result<u64, Unhashed> {
-        hash_of_pieces::<H, R, PIECE>(limit, r)
-    }
-
-    fn by_spooky_v1(limit: u64, r: &mut R) -> Result<u64, Unhashed> {
-        hash_of_spooky_v1::<R, BUFFER>(limit, r)
-    }
-
-    ghost by_same = { λ hash of_read same agree limit r s. Hashes-agree of_read same agree (read limit R.remaining r s) };
-}
-
 /// The same number, or no number for the same reason.
 fn widened(number: Result<u64, Unhashed>) -> Result<u128, Unhashed>
     ensures { result ≡ number }
@@ -283,9 +252,10 @@ pub fn number_by<R: Read>(kind: LineKind<'_>, limit: u64, r: &mut R) -> Result<u
     ensures { Hashes (sum_by kind.entry) (read limit R.remaining r.old r.new) result }
 {
     match sum_at(kind.which) {
-        Sum::Table(row) => widened(by_kind::<SumRead<R>>(row, limit, r)),
+        Sum::Table(row) => widened(hash_by(row, limit, r)),
         Sum::Wide(wide) => number_of_wide(wide, limit, r),
         Sum::Poly61 => hash_of_poly61::<R, BUFFER>(kind.keys, limit, r),
+        Sum::SipHash24 => widened(hash_of_siphash24::<R, BUFFER>(kind.keys, limit, r)),
     }
 }
 
@@ -325,10 +295,6 @@ impl<'a> HashTask for SumText<'a> {
         in_pieces::<H>(text)
     }
 
-    fn by_spooky_v1(text: &'a [u8], _nothing: &mut ()) -> u64 {
-        spooky_v1(text)
-    }
-
     ghost by_same = { λ hash of_read same agree text before after result is is_text. is is_text ∙ agree text.now is_text };
 }
 
@@ -363,5 +329,9 @@ pub fn number_of_text(kind: LineKind<'_>, text: &[u8]) -> u128
         }
         Sum::Wide(wide) => number_of_wide_text(wide, text),
         Sum::Poly61 => both(poly61_pair(kind.keys.0, kind.keys.1, text)),
+        Sum::SipHash24 => {
+            let (k0, k1) = kind.keys;
+            u128::from(siphash24(SipKey { k0, k1 }, text))
+        }
     }
 }

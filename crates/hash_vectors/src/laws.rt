@@ -6,9 +6,15 @@ ghost use Rattle.hashers.specs.Fnv.{fnv1a32_of, fnv1a64_of};
 ghost use Rattle.hashers.specs.Oz.{djb2_of};
 ghost use Rattle.hashers.specs.Sums.{sdbm_from};
 
+use hash_buckets::old_value_undoes_insert;
+use hash_ring::{other_owners_keep_their_order, removal_undoes_adding};
+use hash_sums::laws::{
+    each_hash_fits, each_name_is_found, what_is_written_of_a_text_tells_its_hash,
+};
 use hashers::laws::Streamed;
 use hashers::oz::sdbm_combine;
-use hashers::{fnv, jenkins, laws, null, oz};
+use hashers::{fnv, jenkins, laws, null, oz, rounds};
+use text_set::laws::{lines_of_joined_texts, texts_that_are_there_add_nothing};
 
 /// Whether two texts are apart under all four windowed hashes: within two neighbouring bytes, in their low five bits.
 pub fn apart_under_all(x: &[u8], y: &[u8]) -> bool
@@ -63,6 +69,19 @@ pub fn laws_are_calls<H: laws::ByteStep>() {
     laws::fixed_widths_are_words64();
     laws::fixed_widths_are_words32();
     laws::pieces_are_their_words();
+    laws::cuts_show_in_fx();
+    laws::cuts_show_in_lookup3();
+    laws::texts_of_one_frame();
+    rounds::steps_undo_one_another();
+    removal_undoes_adding();
+    old_value_undoes_insert();
+    lines_of_joined_texts();
+    texts_that_are_there_add_nothing();
+    each_name_is_found();
+    each_hash_fits();
+    what_is_written_of_a_text_tells_its_hash();
+    laws::texts_of_a_length();
+    other_owners_keep_their_order::<H>();
     laws::one_changed_byte_shows_fx();
     laws::one_changed_word_shows_fx();
     laws::low_bits_of_a_word();

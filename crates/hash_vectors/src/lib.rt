@@ -2,7 +2,6 @@
 //! from what the libraries show, with no lemma of their own.
 #![tactic(auto)]
 
-pub mod answers;
 pub mod beside;
 pub mod byte_sum;
 pub mod generic;
@@ -11,10 +10,11 @@ pub mod laws;
 pub mod maps;
 pub mod names;
 pub mod pages;
+pub mod promises;
 pub mod servers;
 #[cfg(test)]
 mod tests;
+pub mod theorems;
 pub mod times31;
-pub mod undone;
 pub mod uses;
 pub mod words;

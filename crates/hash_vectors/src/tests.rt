@@ -2,42 +2,32 @@
 //! What ends a test where it fails stands here, so that it is proved once.
 use std::process::Abort;
 
-mod beside;
 mod buckets;
-mod byte_hashers;
+mod calls;
 mod chunks;
-mod collision;
 mod cuts;
 mod filter_files;
 mod filters;
-mod fx;
 mod inputs;
-mod jenkins;
 mod keyed;
 mod laws;
+mod leads;
 mod lines;
 mod maps;
-mod murmur3;
 mod numbers;
 mod original;
-mod plain;
-mod poly61;
-mod promises;
 mod readers;
-mod relatives;
 mod ring;
 mod rounds;
 mod sample;
 mod shelf;
-mod siphash;
-mod spooky;
 mod spread;
 mod sums;
-mod tables;
 mod texts;
+mod two_texts;
+mod uses;
 mod vectors;
 mod xxh3;
-mod xxhash;
 
 /// That each number is as wanted.
 fn same(rt: &impl Abort, got: &[u64], want: &[u64]) {

@@ -8,7 +8,7 @@ use Rattle.std.specs.List.{concat, flat_map}
 use Rattle.std.specs.Hash.{le_bytes, str}
 use Rattle.hash_laws.specs.Text.{IsText}
 use Rattle.hash_laws.proofs.TextLemmas.{IsText-one, IsText-le_bytes, IsByte}
-use Rattle.hash_laws.proofs.ReadingLemmas.{fold-pieces}
+use Rattle.hash_laws.proofs.PieceFolds.{fold-pieces}
 
 -- what is written is fed, write by write
 pub state_after_writes : {A S : Type 0} (write : A → List ℕ → A) (state : A → S) (after : S → List ℕ → S)

@@ -6,7 +6,7 @@ use Rattle.std.specs.List.{flat_map}
 use Rattle.std.proofs.lemmas.List.Elements.{All-nil, All-cons}
 use Rattle.hash_laws.specs.Text.{IsText}
 use Rattle.hash_writes.specs.Writes.{IsTakenOut}
-use Rattle.hash_laws.proofs.ReadingLemmas.{fold-pieces}
+use Rattle.hash_laws.proofs.PieceFolds.{fold-pieces}
 
 -- of all items those at the end were taken back: from the state they lead to the old one, and from no other
 pub record TakenBack {A S : Type 0} (text_of : A → List ℕ) (in_range : S → Type 0) (after : S → List ℕ → S) (old state : S)

@@ -6,13 +6,13 @@ use Rattle.std.proofs.lemmas.List.{append_assoc, take_at, drop_at, drop-drop, dr
 use Rattle.hash_laws.specs.Text.{IsText}
 use Rattle.hash_xxh3.specs.Long.{secret_of, start_lanes, stripe_in, stripes_in}
 use Rattle.hash_xxh3.specs.Parts.{position_of, IsLongParts, IsSettled}
-use Rattle.hash_rounds.specs.Put.{put_at}
+use Rattle.hash_words.specs.Put.{put_at}
 use Rattle.hash_xxh3.specs.Streaming.{Position, Short, Long, more_stripes, advanced, position, after, IsPosition}
 use Rattle.hash_xxh3.specs.StreamingLaws.{after-position, IsPosition-after}
 use Rattle.hash_xxh3.specs.StripeLaws.{stripes_in-add, stripes_in-prefix}
 use Rattle.hash_xxh3.specs.declared.long.Lanes.{Lanes}
 use Rattle.hash_xxh3.specs.declared.parts.Xxh3Parts.{Xxh3Parts}
-use Rattle.hash_rounds.proofs.PutLemmas.{take-put_at}
+use Rattle.hash_words.proofs.PutLemmas.{take-put_at}
 
 -- a stripe and what is behind it, where all before the last stripe is in what is behind it
 pub kept_behind : (stripe rest : List ℕ) (whole k : ℕ) → length stripe ≡ 64 → 64 ≤ whole → whole ≡ k * 64

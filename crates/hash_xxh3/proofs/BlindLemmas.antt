@@ -3,7 +3,7 @@ use Rattle.std.proofs.Common.{◌≡◌, ℕ, List, ◌++◌, length, drop, refl
 use Rattle.std.specs.Int.Bits.{xor_self}
 use Rattle.std.proofs.Math.Nat.{zero-mul}
 use Rattle.std.proofs.lemmas.List.{append_assoc, take_at, drop_at, drop-drop}
-use Rattle.hash_rounds.specs.Words.{add, le}
+use Rattle.hash_words.specs.Words.{add, le}
 use Rattle.hash_xxh3.specs.Secret.{default_secret}
 use Rattle.hash_xxh3.specs.Words.{word_at, folded_product, avalanche}
 use Rattle.hash_xxh3.specs.Middle.{mix_piece, length_word, add_ends, of_128}

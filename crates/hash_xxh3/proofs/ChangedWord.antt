@@ -8,13 +8,13 @@ use Rattle.std.proofs.lemmas.Bool.{cases_lt}
 use Rattle.std.proofs.lemmas.List.{drop-drop, drop-take, take-take, ext_get_or, get_or_past}
 use Rattle.std.proofs.lemmas.List.Elements.{All-nil, All-append}
 use Rattle.std.proofs.lemmas.Nat.{mod_below}
-use Rattle.hash_laws.specs.DifferWithin.{AgreeOutside}
+use Rattle.hash_windows.specs.DifferWithin.{AgreeOutside}
 use Rattle.hash_laws.specs.Text.{IsText}
 use Rattle.hash_laws.proofs.TextLemmas.{IsByte, IsText-to_le_bytes}
-use Rattle.hash_rounds.specs.Words.{add, le}
-use Rattle.hash_rounds.proofs.Chunks.{get_or-first_chunks}
-use Rattle.hash_rounds.proofs.PieceLemmas.{IsPiece, part-same, rest-same, first_chunks-pieces, first_chunks-same, length-first_chunks, fold-in_range, fold-one}
-use Rattle.hash_rounds.proofs.WordLemmas.{word-same, added-same}
+use Rattle.hash_words.specs.Words.{add, le}
+use Rattle.hash_words.proofs.Chunks.{get_or-first_chunks}
+use Rattle.hash_words.proofs.PieceLemmas.{IsPiece, part-same, rest-same, first_chunks-pieces, first_chunks-same, length-first_chunks, fold-in_range, fold-one}
+use Rattle.hash_words.proofs.WordLemmas.{word-same, added-same}
 use Rattle.hash_xxh3.specs.Words.{word_at}
 use Rattle.hash_xxh3.specs.Long.{IsLanes, secret_piece, secret_of, start_lanes, halves_product, lane, accumulate, stripe_in, stripes_in, end_words}
 use Rattle.hash_xxh3.specs.declared.long.Lanes.{Lanes}

@@ -5,10 +5,10 @@ use Rattle.std.proofs.lemmas.Bool.Decides.{nat_tests}
 use Rattle.std.proofs.lemmas.List.{take_at, take_all, drop_at, get_or-take, get_or-drop, length-take, length-take-le, ext_get_or}
 use Rattle.std.proofs.lemmas.List.Elements.{All-take, All-drop}
 use Rattle.std.proofs.lemmas.Nat.{xor_lt, mod_below}
-use Rattle.hash_rounds.specs.Words.{le}
-use Rattle.hash_rounds.proofs.PieceLemmas.{le-lt, le-same}
-use Rattle.hash_rounds.proofs.WordLemmas.{AreWords-at}
-use Rattle.hash_rounds.proofs.XorLemmas.{xor_cancel}
+use Rattle.hash_words.specs.Words.{le}
+use Rattle.hash_words.proofs.PieceLemmas.{le-lt, le-same}
+use Rattle.hash_words.proofs.WordLemmas.{AreWords-at}
+use Rattle.hash_words.proofs.XorLemmas.{xor_cancel}
 use Rattle.hash_laws.specs.Text.{IsText}
 use Rattle.hash_laws.proofs.TextLemmas.{IsByte}
 use Rattle.hash_xxh3.specs.Words.{half_at, length_mix}

@@ -3,9 +3,9 @@ use Rattle.std.proofs.Common.{◌≡◌, ℕ, ◌-◌, ◌*◌, ◌/◌, ◌%◌
 use Rattle.std.proofs.Math.Path.{ap₂}
 use Rattle.std.proofs.lemmas.Nat.{mod_below}
 use Rattle.std.specs.Int.{w64, swap_bytes}
-use Rattle.hash_rounds.specs.Words.{add, sub}
-use Rattle.hash_rounds.proofs.WordLemmas.{add-difference, add-sub}
-use Rattle.hash_rounds.proofs.XorLemmas.{xor_twice}
+use Rattle.hash_words.specs.Words.{add, sub}
+use Rattle.hash_words.proofs.WordLemmas.{add-difference, add-sub}
+use Rattle.hash_words.proofs.XorLemmas.{xor_twice}
 use Rattle.hash_xxh3.specs.Words.{word_at, times, avalanche}
 use Rattle.hash_xxh3.specs.Short.{secret_pair}
 use Rattle.hash_xxh3.specs.Wide

@@ -3,7 +3,7 @@ use Rattle.std.specs.Prelude.{◌≡◌, ◌<◌, ℕ, ◌+◌, ◌-◌, ◌*◌
 use Rattle.std.specs.Int.{w64, to_le_bytes}
 use Rattle.std.specs.List.{range_with_len, flat_map}
 use Rattle.std.specs.Simd.{first_chunks}
-use Rattle.hash_rounds.specs.Words.{AreWords, add, sub, xorshift}
+use Rattle.hash_words.specs.Words.{AreWords, add, sub, xorshift}
 use Rattle.hash_xxh3.specs.Secret.{default_secret}
 use Rattle.hash_xxh3.specs.Words.{word_at, times, folded_product, avalanche}
 use Rattle.hash_xxh3.specs.Middle.{length_word}

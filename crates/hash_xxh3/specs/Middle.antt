@@ -1,7 +1,7 @@
 -- XXH3 of 17 to 240 bytes: a sum of products of pieces of 16 bytes.
 use Rattle.std.specs.Prelude.{ℕ, ◌+◌, ◌-◌, ◌*◌, List, [], ◌∷◌, length, fold, bit_xor, nat_le, nat_lt, if◌then◌else◌}
 use Rattle.std.specs.List.{range_with_len}
-use Rattle.hash_rounds.specs.Words.{add, sub}
+use Rattle.hash_words.specs.Words.{add, sub}
 use Rattle.hash_xxh3.specs.Secret.{default_secret}
 use Rattle.hash_xxh3.specs.Words.{word_at, times, folded_product, avalanche}
 

@@ -2,7 +2,7 @@
 use Rattle.std.specs.Prelude.{ℕ, ◌+◌, ◌-◌, ◌*◌, ◌/◌, ◌%◌, ◌^◌, List, [], ◌∷◌, length, fold, nat_le, nat_lt, bit_xor, if◌then◌else◌}
 use Rattle.std.specs.Int.{w32, w64, swap_bytes}
 use Rattle.std.specs.List.{range_with_len}
-use Rattle.hash_rounds.specs.Words.{add, sub, rotl, xorshift}
+use Rattle.hash_words.specs.Words.{add, sub, rotl, xorshift}
 use Rattle.hash_xxh3.specs.Secret.{default_secret}
 use Rattle.hash_xxh3.specs.Words.{word_at, half_at, times, avalanche, avalanche_64}
 use Rattle.hash_xxh3.specs.Short.{secret_pair, few_number, of_few, eight_seed}

@@ -4,7 +4,7 @@ ghost use Rattle.hash_xxh3.specs.Long.{secret_of};
 ghost use Rattle.hash_xxh3.specs.Streaming.{Long, advanced, position};
 
 use crate::long::{Lanes, START, STRIPE, stripe_in, stripes_in};
-use hash_rounds::put;
+use hash_words::put;
 
 // Keeps the last stripe that has a byte behind it, and what is behind it, of a stripe and the bytes behind that.
 #[inline(always)]

@@ -1,9 +1,9 @@
 //! What XXH3 loses of short texts, and what it keeps: laws with no code, and whether they tell two texts apart.
 ghost use Rattle.std.specs.Bool.{OnTrue};
 ghost use Rattle.std.specs.Prelude.{◌≡◌, ◌≢◌, ◌↔◌, IsTrue, ◌⊎◌, ◌<◌, ◌≤◌, ◌+◌, ◌*◌, ◌^◌, ℕ, List, ◌++◌, length};
-ghost use Rattle.hash_laws.specs.DifferWithin.{AgreeOutside};
+ghost use Rattle.hash_windows.specs.DifferWithin.{AgreeOutside};
 ghost use Rattle.hash_laws.specs.Text.{IsText};
-ghost use Rattle.hash_rounds.specs.Words.{AreWords, add, le};
+ghost use Rattle.hash_words.specs.Words.{AreWords, add, le};
 ghost use Rattle.hash_xxh3.specs.Apart.{DifferAndAreFew, DifferWithinSixteen};
 ghost use Rattle.hash_xxh3.specs.Long.{accumulate, scramble, secret_of, end_words};
 ghost use Rattle.hash_xxh3.specs.Secret.{default_secret};

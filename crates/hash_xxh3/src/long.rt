@@ -5,7 +5,7 @@ ghost use Rattle.hash_xxh3.specs.Long.{IsLanes, secret_of, start_words, start_la
 use crate::middle::length_word;
 use crate::secret::{default_secret, secret_of};
 use crate::words::{avalanche, folded_product, word_at};
-use hash_rounds::xorshift;
+use hash_words::xorshift;
 
 /// The bytes of a stripe.
 pub(crate) const STRIPE: usize = 64;

@@ -11,7 +11,7 @@ use crate::secret::secret_of;
 use crate::whole::of_kept;
 use crate::wide::{wide_end_long, wide_kept};
 use hash_laws::traits::bytes_are_a_text;
-use hash_rounds::put;
+use hash_words::put;
 
 /// The numbers that a hasher keeps: of a text of at most 240 bytes the text, and of a longer one the eight words, and the
 /// last stripe that has a byte behind it with the bytes behind it.

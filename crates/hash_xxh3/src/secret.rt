@@ -5,7 +5,7 @@ ghost use Rattle.hash_xxh3.specs.Secret.{default_secret};
 ghost use Rattle.hash_xxh3.specs.Words.{word_at, half_at};
 
 use crate::words::{half_at, word_at};
-use hash_rounds::put;
+use hash_words::put;
 
 /// The bytes of the secret.
 pub(crate) const LEN: usize = 192;

@@ -3,7 +3,7 @@ ghost use Rattle.std.specs.Prelude.{◌≡◌, ◌<◌, ◌*◌, ◌%◌, ◌^�
 ghost use Rattle.hash_laws.specs.Exactly.{ExactlyTexts};
 ghost use Rattle.hash_laws.specs.Text.{IsText};
 ghost use Rattle.hash_xxh3.specs.Short.{eight_number};
-ghost use Rattle.hash_rounds.specs.Words.{add};
+ghost use Rattle.hash_words.specs.Words.{add};
 ghost use Rattle.std.specs.Int.{w64, swap_bytes};
 ghost use Rattle.hash_xxh3.specs.Wide.{sixteen_end, xxh3_128_of};
 ghost use Rattle.hash_xxh3.specs.Words.{word_at, avalanche, avalanche_64, turned, three_turns, length_mix};
@@ -11,7 +11,7 @@ ghost use Rattle.hash_xxh3.specs.Xxh3.{xxh3_64_of};
 
 use crate::short::{eight_flip, secret_pair};
 use crate::words::{length_in, whole_product};
-use hash_rounds::{put, rotl64, unxorshift};
+use hash_words::{put, rotl64, unxorshift};
 
 /// The one word of which XXH3's last mix makes this hash.
 pub fn un_avalanche(hash: u64) -> u64

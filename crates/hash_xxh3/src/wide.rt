@@ -7,7 +7,7 @@ use crate::middle::{add_piece, length_word};
 use crate::secret::{default_secret, secret_half, secret_of};
 use crate::short::{eight_seed, few_number, of_few, secret_pair};
 use crate::words::{avalanche, avalanche_64, half_at, whole_product, word_at};
-use hash_rounds::{rotl32, xorshift};
+use hash_words::{rotl32, xorshift};
 
 #[inline(always)]
 #[tactic(auto, unfolding(crate::specs::Wide::wide_none))]

@@ -2,7 +2,7 @@
 ghost use Rattle.std.specs.Prelude.{◌≡◌, ◌+◌, ◌*◌, ◌≤◌, ◌<◌, length};
 ghost use Rattle.hash_xxh3.specs.Words.{word_at, half_at, folded_product, avalanche, avalanche_64, three_turns, length_in, length_mix};
 
-use hash_rounds::{le_four, le64, rotl64, xorshift};
+use hash_words::{le_four, le64, rotl64, xorshift};
 
 /// The eight bytes from a place on as a little-endian word.
 #[inline(always)]

@@ -1,7 +1,7 @@
 -- XXH32 (Yann Collet, github.com/Cyan4973/xxHash, doc/xxhash_spec.md) as a function of the whole text. A word is a number below 2 ^ 32.
 use Rattle.std.specs.Prelude.{ℕ, ◌*◌, ◌%◌, ◌^◌, nat_lt, if◌then◌else◌, List, [], ◌∷◌, length, map, fold, slice_index}
-use Rattle.hash_rounds.specs.Words.{le, rotl, add, sub, xorshift}
-use Rattle.hash_rounds.specs.Blocks.{pieces}
+use Rattle.hash_words.specs.Words.{le, rotl, add, sub, xorshift}
+use Rattle.hash_words.specs.Pieces.{pieces}
 use Rattle.hash_blocks.specs.Blocks.{blocks, tail}
 
 -- the five primes

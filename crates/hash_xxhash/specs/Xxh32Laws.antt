@@ -2,8 +2,8 @@
 use Rattle.std.proofs.Common.{◌≡◌, ℕ, zero, suc, ◌/◌, ◌%◌, ◌^◌, ◌<◌, ◌≤◌, Bool, true, false, cond, nat_lt, List, [], ◌∷◌, length, take, drop, fold, slice_index, refl, ap, arith, lit<}
 use Rattle.std.proofs.lemmas.Bool.Decides.{nat_tests}
 use Rattle.std.specs.Simd.{first_chunks}
-use Rattle.hash_rounds.specs.Words.{add}
-use Rattle.hash_rounds.specs.Blocks.{pieces}
+use Rattle.hash_words.specs.Words.{add}
+use Rattle.hash_words.specs.Pieces.{pieces}
 use Rattle.hash_blocks.specs.Blocks.{blocks, tail}
 use Rattle.hash_blocks.specs.BlocksLaws.{blocks_short}
 use Rattle.hash_xxhash.specs.Xxh32.{q5, start, after_block, converged, rest_in, last_mix, xxh32}

@@ -1,6 +1,6 @@
 -- XXH32 as a rule by the block: what is kept is four lanes, and whether a block was taken in.
 use Rattle.std.specs.Prelude.{ℕ, true, false, if◌then◌else◌, List, slice_index}
-use Rattle.hash_rounds.specs.Words.{add}
+use Rattle.hash_words.specs.Words.{add}
 use Rattle.hash_xxhash.specs.Xxh32.{q5, start, after_block, converged, ended}
 use Rattle.hash_xxhash.specs.declared.at_32.Lanes32.{Lanes32}
 

@@ -1,7 +1,7 @@
 -- XXH64 (Yann Collet, github.com/Cyan4973/xxHash, doc/xxhash_spec.md) as a function of the whole text. A word is a number below 2 ^ 64.
 use Rattle.std.specs.Prelude.{ℕ, ◌*◌, ◌%◌, ◌^◌, nat_lt, if◌then◌else◌, List, [], ◌∷◌, length, fold, slice_index, bit_xor}
-use Rattle.hash_rounds.specs.Words.{le, rotl, add, sub, xorshift}
-use Rattle.hash_rounds.specs.Blocks.{le_words}
+use Rattle.hash_words.specs.Words.{le, rotl, add, sub, xorshift}
+use Rattle.hash_words.specs.Pieces.{le_words}
 use Rattle.hash_blocks.specs.Blocks.{blocks, tail}
 
 -- the five primes

@@ -2,11 +2,11 @@
 ghost use Rattle.std.specs.Prelude.{◌≡◌, ◌+◌, ◌*◌, ◌%◌, ◌^◌, ◌<◌, [], ◌∷◌, length, slice_index, refl};
 ghost use Rattle.std.proofs.Common.{lit<};
 ghost use Rattle.hash_laws.specs.Text.{joined};
-ghost use Rattle.hash_rounds.specs.Words.{le};
+ghost use Rattle.hash_words.specs.Words.{le};
 ghost use Rattle.hash_xxhash.specs.Xxh64.{after_block, byte_in, converged, eight_in, four_in, last_mix, merged, rest_in, round, start, xxh64};
 
 use hash_blocks::{BlockHasher, BlockRule};
-use hash_rounds::{le_four, le_words, le64, rotl64, xorshift};
+use hash_words::{le_four, le_words, le64, rotl64, xorshift};
 
 /// The first of the five primes of XXH64.
 pub const P1: u64 = 0x9E37_79B1_85EB_CA87;
@@ -126,7 +126,7 @@ fn byte_in(h: u64, byte: u8) -> u64
 
 // What is left in.
 #[inline(always)]
-#[tactic(auto, unfolding(crate::specs::Xxh64::rest_in, hash_blocks::specs::Blocks::blocks, hash_blocks::specs::Blocks::tail, hash_rounds::specs::Blocks::pieces))]
+#[tactic(auto, unfolding(crate::specs::Xxh64::rest_in, hash_blocks::specs::Blocks::blocks, hash_blocks::specs::Blocks::tail, hash_words::specs::Pieces::pieces))]
 fn rest_in(h: u64, left: &[u8]) -> u64
     ensures { result ≡ rest_in h left.now }
 {

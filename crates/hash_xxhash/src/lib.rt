@@ -1,7 +1,7 @@
 //! XXH32 and XXH64, by Yann Collet: hashes by the block under a seed.
 #![tactic(auto)]
 
-mod at_32;
+pub mod at_32;
 pub mod at_64;
 
 pub use at_32::{Lanes32, Xxh32Hasher, Xxh32Rule, xxh32, xxh32_of_pieces};

@@ -7,7 +7,7 @@ use Rattle.std.proofs.lemmas.List.{get_or_past}
 use Rattle.std.proofs.lemmas.Nat.Bits.{and_high}
 use Rattle.std.specs.Int.Bits.{bit_and}
 use Rattle.hash_laws.specs.Text.{IsText}
-use Rattle.hash_laws.specs.DifferWithin.{DifferWithin}
+use Rattle.hash_windows.specs.DifferWithin.{DifferWithin}
 use Rattle.hash_bytes.specs.Oz.{djb2_from}
 use Rattle.hashers.specs.ShortWords.{IsShortWord}
 use Rattle.hash_bytes.proofs.Collisions.{djb2_apart}

@@ -1,3 +1,4 @@
+pub mod Counts
 pub mod ShortWords
 pub use Rattle.hash_bytes.specs.CountedSum
 pub use Rattle.hash_bytes.specs.Fnv
@@ -6,14 +7,14 @@ pub use Rattle.hash_bytes.specs.Oz
 pub use Rattle.hash_bytes.specs.OzLaws
 pub use Rattle.hash_bytes.specs.Pigeon
 pub use Rattle.hash_bytes.specs.PigeonLaws
+pub use Rattle.hash_laws.specs.Exactly
 pub use Rattle.hash_laws.specs.StepFacts
 pub use Rattle.hash_rounds.specs.Sums
-pub use Rattle.hash_laws.specs.Counts
 pub use Rattle.hash_laws.specs.Text
-pub use Rattle.hash_laws.specs.Reading
+pub use Rattle.hash_reading.specs.Reading
 pub use Rattle.hash_laws.specs.Recurrence
 pub use Rattle.hash_laws.specs.Standing
-pub use Rattle.hash_laws.specs.DifferWithin
+pub use Rattle.hash_windows.specs.DifferWithin
 pub use Rattle.hash_writes.specs.Writes
 pub use Rattle.hash_fx.specs.Fx
 pub use Rattle.hash_fx.specs.Pieces
@@ -24,13 +25,14 @@ pub use Rattle.hash_jenkins.specs.Spooky
 pub use Rattle.hash_jenkins.specs.SpookyParts
 pub use Rattle.hash_jenkins.specs.SpookyStanding
 pub use Rattle.hash_jenkins.specs.Filled
-pub use Rattle.hash_rounds.specs.Words
+pub use Rattle.hash_words.specs.Words
 pub use Rattle.hash_rounds.specs.Shuffle
 pub use Rattle.hash_jenkins.specs.Counted
 pub use Rattle.jenkins_laws.specs.Zeros
 pub use Rattle.hash_rounds.specs.Steps
 pub use Rattle.hash_rounds.specs.Rounds
 pub use Rattle.hash_rounds.specs.Blocks
+pub use Rattle.hash_words.specs.Pieces as WholePieces
 pub use Rattle.hash_rounds.specs.Spooky as SpookyRounds
 pub use Rattle.hash_fx.specs.FxLaws
 pub use Rattle.hash_jenkins.specs.SpookyLaws

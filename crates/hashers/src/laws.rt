@@ -1,5 +1,9 @@
 //! The laws of hashers: the traits and the generic functions, and tests of two texts.
 
+pub use crate::counts::{
+    buckets_have_all_hashes, collisions_in_any_order, no_collisions, one_in_each_bucket,
+    texts_of_a_length,
+};
 pub use crate::windows::{
     apart_djb2, apart_fnv32, apart_fnv64, apart_sdbm, same_word, windows_tell_apart,
 };
@@ -11,14 +15,16 @@ pub use hash_fx::pieces::{
     one_changed_byte_shows_fx, one_changed_word_shows_fx, pieces_are_their_words, run_words,
     run_words32, run_words64, words_by_place32, words_by_place64,
 };
-pub use hash_laws::counts::{buckets_have_all_hashes, collisions_in_any_order};
 pub use hash_laws::traits::{
-    ByteStep, Piecewise, Streamed, Undo, answer_of_pieces, apart_by_one, bucket_of,
-    bytes_are_a_text, hash_is_from_the_start, hash_of, joined_texts_are_one,
-    no_bytes_change_nothing, one_changed_byte_shows, run_pair, run_pieces, run_streamed,
-    string_is_a_text, text_is_its_steps, text_stays_in_range, writes_are_fed,
+    ByteStep, Piecewise, Streamed, Undo, answer_of_pieces, bucket_of, bytes_are_a_text,
+    hash_is_from_the_start, hash_of, joined_texts_are_one, no_bytes_change_nothing, run_pair,
+    run_pieces, run_streamed, string_is_a_text, text_is_its_steps, text_stays_in_range,
+    writes_are_fed,
 };
-pub use hash_laws::window::{differ_at_one_place, first_difference, is_window, texts_of_one_frame};
+pub use hash_windows::changed_byte::{apart_by_one, one_changed_byte_shows};
+pub use hash_windows::window::{
+    differ_at_one_place, first_difference, is_window, texts_of_one_frame,
+};
 pub use hash_writes::writes::{
     HasherWrite, answer_of_writes, run_writes, run_writes_streamed, unrun_writes,
 };

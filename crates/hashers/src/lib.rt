@@ -1,6 +1,7 @@
 //! Non-cryptographic hash functions, with inverses and laws: a port of the Rust crate hashers 1.0.1.
 #![tactic(auto)]
 
+mod counts;
 pub mod laws;
 pub mod promises;
 mod windows;
@@ -8,7 +9,8 @@ mod windows;
 pub use hash_bytes::{fnv as fnv, null as null, oz as oz, pigeon as pigeon};
 pub use hash_fx as fx_hash;
 pub use hash_jenkins as jenkins;
-pub use hash_laws::{reader as engine, reader as reader, window as window};
+pub use hash_reading::{reader as engine, reader as reader};
 pub use hash_rounds as rounds;
 pub use hash_rules as rules;
+pub use hash_windows::window as window;
 pub use hash_writes::build as build;

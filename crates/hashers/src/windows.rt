@@ -4,13 +4,13 @@ ghost use Rattle.std.specs.Prelude.{◌≡◌, ◌≢◌, ◌↔◌, ℕ, List, 
 ghost use Rattle.std.specs.Bool.{OnTrue};
 ghost use Rattle.hash_rounds.specs.Sums.{sdbm_from};
 ghost use Rattle.hash_laws.specs.Text.{IsText};
-ghost use Rattle.hash_laws.specs.DifferWithin.{DifferWithin};
+ghost use Rattle.hash_windows.specs.DifferWithin.{DifferWithin};
 ghost use Rattle.hash_bytes.specs.Fnv.{fnv1a32_of, fnv1a64_of};
 ghost use Rattle.hash_bytes.specs.Oz.{djb2_of};
 ghost use Rattle.hashers.specs.ShortWords.{IsShortWord};
 
 use hash_bytes::oz;
-use hash_laws::window::is_window;
+use hash_windows::window::is_window;
 
 // In how many neighbouring places two texts may differ.
 const DJB2_PLACES: usize = 6;

@@ -2,7 +2,6 @@
 #![tactic(auto)]
 
 mod line;
-mod named;
 mod outcome;
 mod run;
 #[cfg(test)]

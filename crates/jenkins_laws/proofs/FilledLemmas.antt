@@ -2,7 +2,7 @@
 use Rattle.std.proofs.Common.{◌≡◌, ℕ, zero, suc, lit<, ◌-◌, ◌≤◌, List, [], ◌∷◌, ◌++◌, length, slice_index, take, replicate, refl, sym, ap, ◌∙◌, arith, length-append}
 use Rattle.std.proofs.lemmas.List.{length-replicate, take_at}
 use Rattle.std.proofs.lemmas.List.Elements.{All-append, All-replicate}
-use Rattle.hash_rounds.proofs.PieceLemmas.{IsPiece}
+use Rattle.hash_words.proofs.PieceLemmas.{IsPiece}
 use Rattle.hash_laws.specs.Text.{IsText}
 use Rattle.hash_laws.proofs.TextLemmas.{IsByte}
 use Rattle.hash_jenkins.specs.Filled.{zero_filled}

@@ -4,19 +4,19 @@ use Rattle.std.proofs.Math.Path.{ap₂}
 use Rattle.std.proofs.lemmas.List.{length-take, length-take-le, length-drop, drop_all}
 use Rattle.std.proofs.lemmas.List.Elements.{All-take, All-drop}
 use Rattle.std.specs.Simd.{first_chunks}
-use Rattle.hash_rounds.specs.Words.{le}
-use Rattle.hash_rounds.specs.Blocks.{pieces}
+use Rattle.hash_words.specs.Words.{le}
+use Rattle.hash_words.specs.Pieces.{pieces}
 use Rattle.hash_rounds.specs.Steps.{Step, AddData, apply, AreSteps}
 use Rattle.hash_rounds.specs.Rounds as rounds
-use Rattle.hash_rounds.proofs.WordLemmas.{AreWords-from, no_words}
+use Rattle.hash_words.proofs.WordLemmas.{AreWords-from, no_words}
 use Rattle.hash_rounds.proofs.StepLemmas.{apply-same}
-use Rattle.hash_rounds.proofs.PieceLemmas.{IsPiece, le-lt, le-same, part-same, rest-same, first_chunks-same, texts-same}
+use Rattle.hash_words.proofs.PieceLemmas.{IsPiece, le-lt, le-same, part-same, rest-same, first_chunks-same, texts-same}
 use Rattle.hash_laws.specs.Text.{IsText}
 use Rattle.hash_laws.proofs.TextLemmas.{IsByte}
 use Rattle.hash_jenkins.specs.Filled.{zero_filled}
 use Rattle.hash_jenkins.specs.Lookup3.{add_words, add_block, block_words, mix_block, start, last_block, lookup3_words}
 use Rattle.hash_jenkins.specs.Lookup3Laws.{AreThreeWords, lookup3_mix-steps, lookup3_final-steps, apply-AreThreeWords, add_block-AreThreeWords, start-AreThreeWords}
-use Rattle.hash_laws.specs.DifferWithin.{DifferInOne}
+use Rattle.hash_windows.specs.DifferWithin.{DifferInOne}
 use Rattle.jenkins_laws.proofs.FilledLemmas.{filled-piece, filled-same}
 use Rattle.hash_jenkins.proofs.Lookup3Lemmas.{drop_eight}
 

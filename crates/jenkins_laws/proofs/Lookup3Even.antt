@@ -4,13 +4,13 @@ use Rattle.std.specs.Int.{to_le_bytes}
 use Rattle.std.proofs.lemmas.List.{take_all, drop_all}
 use Rattle.std.proofs.lemmas.List.Elements.{All-append}
 use Rattle.std.proofs.lemmas.Nat.{mod_below, pow_pos}
-use Rattle.hash_rounds.specs.Words.{le, sub}
-use Rattle.hash_rounds.specs.Blocks.{pieces}
+use Rattle.hash_words.specs.Words.{le, sub}
+use Rattle.hash_words.specs.Pieces.{pieces}
 use Rattle.hash_rounds.specs.Rounds as rounds
 use Rattle.hash_rounds.specs.Steps.{Step, apply, undo, AreSteps}
-use Rattle.hash_rounds.proofs.PieceLemmas.{IsPiece}
+use Rattle.hash_words.proofs.PieceLemmas.{IsPiece}
 use Rattle.hash_rounds.proofs.StepLemmas.{undo_apply}
-use Rattle.hash_rounds.proofs.WordLemmas.{add-difference, le-to_le_bytes-32, AreWords-from, no_words}
+use Rattle.hash_words.proofs.WordLemmas.{add-difference, le-to_le_bytes-32, AreWords-from, no_words}
 use Rattle.hash_laws.specs.Exactly.{ExactlyTexts}
 use Rattle.hash_laws.specs.Text.{IsText}
 use Rattle.hash_laws.proofs.TextLemmas.{IsByte, IsText-to_le_bytes}

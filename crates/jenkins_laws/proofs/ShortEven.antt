@@ -11,22 +11,22 @@ use Rattle.std.proofs.lemmas.Nat.{mod_below, pow_pos}
 use Rattle.std.specs.Int.{to_le_bytes}
 use Rattle.std.specs.Prelude.{All}
 use Rattle.std.specs.Simd.{first_chunks}
-use Rattle.hash_rounds.specs.Blocks.{pieces, le_words}
+use Rattle.hash_words.specs.Pieces.{pieces, le_words}
 use Rattle.hash_rounds.specs.Rounds as rounds
 use Rattle.hash_rounds.specs.Steps.{Step, apply, undo, AreSteps}
 use Rattle.hash_rounds.specs.Spooky.{short_mix, short_end}
-use Rattle.hash_rounds.specs.Words.{le, sub, add_at}
-use Rattle.hash_rounds.proofs.Chunks.{first_chunks-append}
-use Rattle.hash_rounds.proofs.PieceLemmas.{IsPiece, first_chunks-pieces}
+use Rattle.hash_words.specs.Words.{le, sub, add_at}
+use Rattle.hash_words.proofs.Chunks.{first_chunks-append}
+use Rattle.hash_words.proofs.PieceLemmas.{IsPiece, first_chunks-pieces}
 use Rattle.hash_rounds.proofs.RoundLemmas.{AreFourWords}
 use Rattle.hash_rounds.proofs.StepLemmas.{undo_apply, apply-words}
-use Rattle.hash_rounds.proofs.WordLemmas.{add-difference, add-sub, le-to_le_bytes-64, AreWords-from, AreWords-at, no_words}
+use Rattle.hash_words.proofs.WordLemmas.{add-difference, add-sub, le-to_le_bytes-64, AreWords-from, AreWords-at, no_words}
 use Rattle.hash_laws.specs.Exactly.{ExactlyTexts}
 use Rattle.hash_laws.specs.Text.{IsText}
-use Rattle.hash_laws.proofs.FrameLemmas.{same_outside}
+use Rattle.hash_windows.proofs.FrameLemmas.{same_outside}
 use Rattle.hash_laws.proofs.TextLemmas.{IsByte, IsText-to_le_bytes}
 use Rattle.hash_jenkins.specs.Filled.{zero_filled}
-use Rattle.hash_rounds.specs.Put.{put_at}
+use Rattle.hash_words.specs.Put.{put_at}
 use Rattle.jenkins_laws.specs.Stretch.{missing, bytes_of, stretch_of}
 use Rattle.hash_jenkins.specs.Spooky.{add_chunk, chunks_from, first_two, short_start, short_words, spooky}
 use Rattle.jenkins_laws.proofs.ShortStretches.{added_two, before, before-AreFourWords, mixed-AreFourWords, word, word-lt, f, short_words-same}

@@ -4,18 +4,18 @@ use Rattle.std.proofs.Math.Path.{ap₂}
 use Rattle.std.proofs.lemmas.List.{ext_get_or, get_or-map, get_or-take, get_or-drop, length-take-le, length-drop, length-set, get_or-set_same, get_or-set_other, drop_all}
 use Rattle.std.proofs.lemmas.List.Elements.{All-head, All-tail, All-take, All-drop}
 use Rattle.std.specs.Simd.{first_chunks}
-use Rattle.hash_rounds.specs.Words.{le, add_at}
-use Rattle.hash_rounds.specs.Blocks.{pieces, le_words}
+use Rattle.hash_words.specs.Words.{le, add_at}
+use Rattle.hash_words.specs.Pieces.{pieces, le_words}
 use Rattle.hash_rounds.specs.Spooky.{short_mix}
-use Rattle.hash_rounds.proofs.WordLemmas.{added-same, word-same}
-use Rattle.hash_rounds.proofs.Chunks.{get_or-first_chunks}
+use Rattle.hash_words.proofs.WordLemmas.{added-same, word-same}
+use Rattle.hash_words.proofs.Chunks.{get_or-first_chunks}
 use Rattle.hash_rounds.proofs.RoundLemmas.{AreFourWords, short_mix-AreFourWords, short_mix-same, short_end-same}
-use Rattle.hash_rounds.proofs.PieceLemmas.{IsPiece, le-lt, part-same, length-first_chunks, first_chunks-same, first_chunks-pieces, all_words-same, fold-same}
+use Rattle.hash_words.proofs.PieceLemmas.{IsPiece, le-lt, part-same, length-first_chunks, first_chunks-same, first_chunks-pieces, all_words-same, fold-same}
 use Rattle.hash_laws.specs.Text.{IsText}
 use Rattle.hash_laws.proofs.TextLemmas.{IsByte}
 use Rattle.hash_jenkins.specs.Filled.{zero_filled}
 use Rattle.hash_jenkins.specs.Spooky.{add_chunk, chunks_from, short_start, short_words, short_words_v1}
-use Rattle.hash_laws.specs.DifferWithin.{DifferInOne}
+use Rattle.hash_windows.specs.DifferWithin.{DifferInOne}
 use Rattle.jenkins_laws.proofs.FilledLemmas.{filled-piece, filled-same, filled-at}
 use Rattle.jenkins_laws.proofs.Zeros.{add_at-AreFourWords, start_below, add_chunk-AreFourWords, short_start-AreFourWords}
 

@@ -3,8 +3,8 @@ use Rattle.std.proofs.Common.{◌≡◌, ℕ, zero, suc, lit<, ◌+◌, ◌-◌,
 use Rattle.std.proofs.lemmas.Bool.Decides.{nat_tests}
 use Rattle.std.proofs.lemmas.List.{append_assoc, length-replicate, replicate-append-replicate, length-set, get_or-set_same, take_at}
 use Rattle.std.proofs.lemmas.Grind.{common_steps}
-use Rattle.hash_rounds.specs.Blocks.{pieces, le_words}
-use Rattle.hash_rounds.specs.Words.{add_at}
+use Rattle.hash_words.specs.Pieces.{pieces, le_words}
+use Rattle.hash_words.specs.Words.{add_at}
 use Rattle.hash_rounds.proofs.RoundLemmas.{AreFourWords, short_mix-AreFourWords, short_end-same}
 use Rattle.hash_jenkins.specs.Filled.{zero_filled}
 use Rattle.hash_jenkins.specs.Spooky.{add_chunk, chunks_from, short_start, spooky_v1}

@@ -1,6 +1,6 @@
 -- Texts that differ only in what is mixed into a state close together.
 use Rattle.std.specs.Prelude.{◌≢◌, ℕ, ◌+◌, ◌/◌, List}
-use Rattle.hash_laws.specs.DifferWithin.{DifferInOne}
+use Rattle.hash_windows.specs.DifferWithin.{DifferInOne}
 use Rattle.hash_jenkins.specs.Lookup3.{lookup3_words}
 
 -- they are in what Spooky adds between two mixes below 192 bytes: the first 16 bytes, or 32 bytes from byte 16, 48, 80 and so on

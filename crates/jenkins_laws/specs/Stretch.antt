@@ -1,7 +1,7 @@
 -- The stretch that adds four words to SpookyHash's four, between two mixes of a text below 192 bytes.
 use Rattle.std.specs.Prelude.{ℕ, List, [], ◌∷◌, ◌++◌, slice_index}
 use Rattle.std.specs.Int.{to_le_bytes, w64}
-use Rattle.hash_rounds.specs.Words.{sub}
+use Rattle.hash_words.specs.Words.{sub}
 
 -- what is to be added to four words
 abbrev pub missing : List ℕ → List ℕ → List ℕ

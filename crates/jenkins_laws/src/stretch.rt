@@ -3,7 +3,7 @@ ghost use Rattle.std.specs.Prelude.{◌≡◌, ◌<◌, ◌+◌, ◌*◌, ◌%�
 ghost use Rattle.hash_laws.specs.Exactly.{ExactlyTexts};
 ghost use Rattle.hash_laws.specs.Text.{IsText};
 ghost use Rattle.hash_rounds.specs.Spooky.{short_end};
-ghost use Rattle.hash_rounds.specs.Words.{add_at};
+ghost use Rattle.hash_words.specs.Words.{add_at};
 ghost use Rattle.hash_jenkins.specs.Spooky.{add_chunk, chunks_from, short_words, spooky};
 ghost use Rattle.jenkins_laws.specs.Stretch.{missing, stretch_of};
 
@@ -31,7 +31,7 @@ fn un_end(h: &mut [u64; 4], len: usize)
 }
 
 // Takes the chunks of a text out again, from the last to the first.
-#[tactic(auto, unfolding(hash_jenkins::specs::Spooky::chunks_from, hash_rounds::specs::Blocks::pieces))]
+#[tactic(auto, unfolding(hash_jenkins::specs::Spooky::chunks_from, hash_words::specs::Pieces::pieces))]
 fn un_add_chunks(h: &mut [u64; 4], text: &[u8])
     ensures { chunks_from h.new text.now ≡ h.old }
 {

@@ -5,7 +5,7 @@ ghost use Rattle.hash_laws.specs.Exactly.{ExactlyTexts};
 ghost use Rattle.hash_laws.specs.Text.{IsText, texts};
 ghost use Rattle.hash_jenkins.specs.Filled.{zero_filled};
 ghost use Rattle.hash_jenkins.specs.Lookup3.{lookup3_from, lookup3_answer, lookup3_of};
-ghost use Rattle.hash_laws.specs.DifferWithin.{DifferInOneBlock};
+ghost use Rattle.hash_windows.specs.DifferWithin.{DifferInOneBlock};
 ghost use Rattle.jenkins_laws.specs.Mixing.{DifferInOneStretch, HaveOtherThree};
 ghost use Rattle.hash_jenkins.specs.Spooky.{after, position, short_words, short_words_v1, spooky_v1};
 ghost use Rattle.jenkins_laws.specs.Zeros.{AddsZeros, HaveOtherWords};
@@ -13,8 +13,8 @@ ghost use Rattle.jenkins_laws.specs.Zeros.{AddsZeros, HaveOtherWords};
 use hash_jenkins::Lookup3Hasher;
 use hash_jenkins::spooky_short::{LONG, zero_filled};
 use hash_laws::traits::Piecewise;
-use hash_laws::window;
-use hash_laws::window::{agree_from, first_difference};
+use hash_windows::window;
+use hash_windows::window::{agree_from, first_difference};
 
 // Whether `y` is `x` and zeros behind it.
 fn is_filled(x: &[u8], y: &[u8]) -> bool

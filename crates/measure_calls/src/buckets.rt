@@ -1,8 +1,9 @@
 //! A table of buckets, which keys are put into and asked of.
 
 use hash_buckets::Buckets;
-use hash_fx::FxHasher;
+use hash_names::table::{Kind, kind_at};
 use hashers::fnv::FNV1aHasher64;
+use hashers::fx_hash::FxHasher;
 use hashers::laws::Piecewise;
 use std::alloc::Global;
 
@@ -26,7 +27,7 @@ fn filled<H: Piecewise>(alloc: Global, keys: &[u8], size: usize) -> Option<Bucke
 
 /// Puts the keys of `there` in with their numbers, and then asks for each of `asked` `rounds` times: the sum of the values, of
 /// which a key that isn't there counts as 1, or `None` where memory is short.
-#[inline(always)]
+#[inline(never)]
 fn put_and_asked<H: Piecewise>(
     alloc: Global,
     there: &[u8],
@@ -47,7 +48,7 @@ fn put_and_asked<H: Piecewise>(
 }
 
 /// Puts each key in with its number, and then takes each out: the sum of the values, or `None` where memory is short.
-#[inline(always)]
+#[inline(never)]
 fn put_and_taken<H: Piecewise>(alloc: Global, keys: &[u8], size: usize) -> Option<u64> {
     let mut table = filled::<H>(alloc, keys, size)?;
     let mut sum: u64 = 0;
@@ -59,60 +60,49 @@ fn put_and_taken<H: Piecewise>(alloc: Global, keys: &[u8], size: usize) -> Optio
     Some(sum)
 }
 
-/// A table over FNV-1a at 64 bits.
+/// Keys that are put into a table by the hash of that number, and asked of it. Where memory is short, or no table by the hash is measured,
+/// the calls answer `u64::MAX`.
 #[unsafe(no_mangle)]
-pub extern "C" fn measure_speed_buckets_fnv1a64(
+pub extern "C" fn measure_buckets(
     alloc: Global,
+    kind: u32,
     keys: &[u8],
     size: usize,
     rounds: usize,
 ) -> u64 {
-    put_and_asked::<FNV1aHasher64>(alloc, keys, keys, size, rounds).unwrap_or(u64::MAX)
+    let sum = match kind_at(kind) {
+        Some(Kind::Fnv1a64) => put_and_asked::<FNV1aHasher64>(alloc, keys, keys, size, rounds),
+        Some(Kind::FxHash) => put_and_asked::<FxHasher>(alloc, keys, keys, size, rounds),
+        _ => None,
+    };
+    sum.unwrap_or(u64::MAX)
 }
 
-/// A table over fx.
+/// The same of the first half of the keys, asked for the others.
 #[unsafe(no_mangle)]
-pub extern "C" fn measure_speed_buckets_fxhash(
+pub extern "C" fn measure_missed(
     alloc: Global,
-    keys: &[u8],
-    size: usize,
-    rounds: usize,
-) -> u64 {
-    put_and_asked::<FxHasher>(alloc, keys, keys, size, rounds).unwrap_or(u64::MAX)
-}
-
-/// A table over FNV-1a at 64 bits that is filled and emptied.
-#[unsafe(no_mangle)]
-pub extern "C" fn measure_speed_emptied_fnv1a64(alloc: Global, keys: &[u8], size: usize) -> u64 {
-    put_and_taken::<FNV1aHasher64>(alloc, keys, size).unwrap_or(u64::MAX)
-}
-
-/// A table over fx that is filled and emptied.
-#[unsafe(no_mangle)]
-pub extern "C" fn measure_speed_emptied_fxhash(alloc: Global, keys: &[u8], size: usize) -> u64 {
-    put_and_taken::<FxHasher>(alloc, keys, size).unwrap_or(u64::MAX)
-}
-
-/// A table over FNV-1a at 64 bits of the first half of the keys, asked for the others.
-#[unsafe(no_mangle)]
-pub extern "C" fn measure_speed_missed_fnv1a64(
-    alloc: Global,
+    kind: u32,
     keys: &[u8],
     size: usize,
     rounds: usize,
 ) -> u64 {
     let (there, others) = keys.split_at(keys.len() / 2);
-    put_and_asked::<FNV1aHasher64>(alloc, there, others, size, rounds).unwrap_or(u64::MAX)
+    let sum = match kind_at(kind) {
+        Some(Kind::Fnv1a64) => put_and_asked::<FNV1aHasher64>(alloc, there, others, size, rounds),
+        Some(Kind::FxHash) => put_and_asked::<FxHasher>(alloc, there, others, size, rounds),
+        _ => None,
+    };
+    sum.unwrap_or(u64::MAX)
 }
 
-/// A table over fx of the first half of the keys, asked for the others.
+/// The same, filled and emptied.
 #[unsafe(no_mangle)]
-pub extern "C" fn measure_speed_missed_fxhash(
-    alloc: Global,
-    keys: &[u8],
-    size: usize,
-    rounds: usize,
-) -> u64 {
-    let (there, others) = keys.split_at(keys.len() / 2);
-    put_and_asked::<FxHasher>(alloc, there, others, size, rounds).unwrap_or(u64::MAX)
+pub extern "C" fn measure_emptied(alloc: Global, kind: u32, keys: &[u8], size: usize) -> u64 {
+    let sum = match kind_at(kind) {
+        Some(Kind::Fnv1a64) => put_and_taken::<FNV1aHasher64>(alloc, keys, size),
+        Some(Kind::FxHash) => put_and_taken::<FxHasher>(alloc, keys, size),
+        _ => None,
+    };
+    sum.unwrap_or(u64::MAX)
 }

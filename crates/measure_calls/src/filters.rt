@@ -5,6 +5,7 @@
 //! memory is short.
 
 use hash_bloom::Bloom;
+use hash_names::table::{Kind, kind_at};
 use hashers::fnv::FNV1aHasher64;
 use hashers::fx_hash::FxHasher;
 use hashers::jenkins::Lookup3Hasher;
@@ -13,8 +14,8 @@ use hashers::laws::Piecewise;
 use hashers::oz::{DJB2Hasher, SDBMHasher};
 use std::alloc::Global;
 
-/// What a call does, by the two hashers.
-#[inline(always)]
+/// What a call does, by two hashers.
+#[inline(never)]
 fn found<F: Piecewise, G: Piecewise>(
     alloc: Global,
     there: &[u8],
@@ -40,80 +41,37 @@ fn found<F: Piecewise, G: Piecewise>(
     count
 }
 
-/// By djb2 and sdbm.
+/// The same by the hashes of those numbers; of a pair that is not measured `u64::MAX`.
 #[unsafe(no_mangle)]
-pub extern "C" fn measure_filters_djb2_sdbm(
+pub extern "C" fn measure_filters(
     alloc: Global,
+    first: u32,
+    second: u32,
     there: &[u8],
     asked: &[u8],
     size: usize,
     rounds: usize,
     bits: u64,
 ) -> u64 {
-    found::<DJB2Hasher, SDBMHasher>(alloc, there, asked, size, rounds, bits)
-}
-
-/// By fnv1a64 and djb2.
-#[unsafe(no_mangle)]
-pub extern "C" fn measure_filters_fnv1a64_djb2(
-    alloc: Global,
-    there: &[u8],
-    asked: &[u8],
-    size: usize,
-    rounds: usize,
-    bits: u64,
-) -> u64 {
-    found::<FNV1aHasher64, DJB2Hasher>(alloc, there, asked, size, rounds, bits)
-}
-
-/// By fnv1a64 and lookup3.
-#[unsafe(no_mangle)]
-pub extern "C" fn measure_filters_fnv1a64_lookup3(
-    alloc: Global,
-    there: &[u8],
-    asked: &[u8],
-    size: usize,
-    rounds: usize,
-    bits: u64,
-) -> u64 {
-    found::<FNV1aHasher64, Lookup3Hasher>(alloc, there, asked, size, rounds, bits)
-}
-
-/// By fxhash and fnv1a64.
-#[unsafe(no_mangle)]
-pub extern "C" fn measure_filters_fxhash_fnv1a64(
-    alloc: Global,
-    there: &[u8],
-    asked: &[u8],
-    size: usize,
-    rounds: usize,
-    bits: u64,
-) -> u64 {
-    found::<FxHasher, FNV1aHasher64>(alloc, there, asked, size, rounds, bits)
-}
-
-/// By fxhash and lookup3.
-#[unsafe(no_mangle)]
-pub extern "C" fn measure_filters_fxhash_lookup3(
-    alloc: Global,
-    there: &[u8],
-    asked: &[u8],
-    size: usize,
-    rounds: usize,
-    bits: u64,
-) -> u64 {
-    found::<FxHasher, Lookup3Hasher>(alloc, there, asked, size, rounds, bits)
-}
-
-/// By spooky and lookup3.
-#[unsafe(no_mangle)]
-pub extern "C" fn measure_filters_spooky_lookup3(
-    alloc: Global,
-    there: &[u8],
-    asked: &[u8],
-    size: usize,
-    rounds: usize,
-    bits: u64,
-) -> u64 {
-    found::<SpookyHasher, Lookup3Hasher>(alloc, there, asked, size, rounds, bits)
+    match (kind_at(first), kind_at(second)) {
+        (Some(Kind::Djb2), Some(Kind::Sdbm)) => {
+            found::<DJB2Hasher, SDBMHasher>(alloc, there, asked, size, rounds, bits)
+        }
+        (Some(Kind::Fnv1a64), Some(Kind::Djb2)) => {
+            found::<FNV1aHasher64, DJB2Hasher>(alloc, there, asked, size, rounds, bits)
+        }
+        (Some(Kind::Fnv1a64), Some(Kind::Lookup3)) => {
+            found::<FNV1aHasher64, Lookup3Hasher>(alloc, there, asked, size, rounds, bits)
+        }
+        (Some(Kind::FxHash), Some(Kind::Fnv1a64)) => {
+            found::<FxHasher, FNV1aHasher64>(alloc, there, asked, size, rounds, bits)
+        }
+        (Some(Kind::FxHash), Some(Kind::Lookup3)) => {
+            found::<FxHasher, Lookup3Hasher>(alloc, there, asked, size, rounds, bits)
+        }
+        (Some(Kind::Spooky), Some(Kind::Lookup3)) => {
+            found::<SpookyHasher, Lookup3Hasher>(alloc, there, asked, size, rounds, bits)
+        }
+        _ => u64::MAX,
+    }
 }

@@ -8,7 +8,7 @@ const KEY: u64 = 1234567890123456789;
 
 /// Poly61 of the keys.
 #[unsafe(no_mangle)]
-pub extern "C" fn measure_speed_keyed_poly61(keys: &[u8], size: usize) -> u64 {
+pub extern "C" fn measure_poly61(keys: &[u8], size: usize) -> u64 {
     let mut all: u64 = 0;
     if size > 0 {
         for key in keys.chunks_exact(size) {

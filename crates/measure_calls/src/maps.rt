@@ -1,8 +1,9 @@
 //! std's map over a hasher, which keys are put into and asked of.
 
-use hash_fx::FxHasher;
+use hash_names::table::{Kind, kind_at};
 use hashers::build::BuildFresh;
 use hashers::fnv::FNV1aHasher64;
+use hashers::fx_hash::FxHasher;
 use hashers::laws::Piecewise;
 use std::alloc::Global;
 use std::collections::HashMap;
@@ -25,7 +26,7 @@ fn filled<H: Piecewise, K: Hash + Copy + Drop>(
 
 /// Fills a new map `fills` times with the keys of `there`, and asks the last for each of `asked` `asks` times: the sum of
 /// the values, of which a key that isn't there counts as 1, or `None` where memory is short.
-#[inline(always)]
+#[inline(never)]
 fn put_and_asked<H: Piecewise, K: Hash + Copy + Drop>(
     alloc: Global,
     there: &[K],
@@ -47,7 +48,7 @@ fn put_and_asked<H: Piecewise, K: Hash + Copy + Drop>(
 }
 
 /// The same with the lines of two texts as keys.
-#[inline(always)]
+#[inline(never)]
 fn lines_put_and_asked<H: Piecewise>(
     alloc: Global,
     there: &[u8],
@@ -60,52 +61,44 @@ fn lines_put_and_asked<H: Piecewise>(
     put_and_asked::<H, &str>(alloc, &there, &asked, fills, asks)
 }
 
-/// A map of numbers, over FNV-1a at 64 bits.
+/// A map of numbers by the hash of that number. Where memory is short, or no map by the hash is measured, the calls answer `u64::MAX`.
 #[unsafe(no_mangle)]
-pub extern "C" fn measure_speed_numbered_fnv1a64(
+pub extern "C" fn measure_numbered(
     alloc: Global,
+    kind: u32,
     there: &[u64],
     asked: &[u64],
     fills: usize,
     asks: usize,
 ) -> u64 {
-    put_and_asked::<FNV1aHasher64, u64>(alloc, there, asked, fills, asks).unwrap_or(u64::MAX)
+    let sum = match kind_at(kind) {
+        Some(Kind::Fnv1a64) => {
+            put_and_asked::<FNV1aHasher64, u64>(alloc, there, asked, fills, asks)
+        }
+        Some(Kind::FxHash) => put_and_asked::<FxHasher, u64>(alloc, there, asked, fills, asks),
+        _ => None,
+    };
+    sum.unwrap_or(u64::MAX)
 }
 
-/// A map of numbers, over fx.
+/// A map of texts, which come as lines.
 #[unsafe(no_mangle)]
-pub extern "C" fn measure_speed_numbered_fxhash(
+pub extern "C" fn measure_named(
     alloc: Global,
-    there: &[u64],
-    asked: &[u64],
-    fills: usize,
-    asks: usize,
-) -> u64 {
-    put_and_asked::<FxHasher, u64>(alloc, there, asked, fills, asks).unwrap_or(u64::MAX)
-}
-
-/// A map of texts, which come as lines, over FNV-1a at 64 bits.
-#[unsafe(no_mangle)]
-pub extern "C" fn measure_speed_named_fnv1a64(
-    alloc: Global,
+    kind: u32,
     there: &[u8],
     asked: &[u8],
     fills: usize,
     asks: usize,
 ) -> u64 {
-    lines_put_and_asked::<FNV1aHasher64>(alloc, there, asked, fills, asks).unwrap_or(u64::MAX)
-}
-
-/// A map of texts, which come as lines, over fx.
-#[unsafe(no_mangle)]
-pub extern "C" fn measure_speed_named_fxhash(
-    alloc: Global,
-    there: &[u8],
-    asked: &[u8],
-    fills: usize,
-    asks: usize,
-) -> u64 {
-    lines_put_and_asked::<FxHasher>(alloc, there, asked, fills, asks).unwrap_or(u64::MAX)
+    let sum = match kind_at(kind) {
+        Some(Kind::Fnv1a64) => {
+            lines_put_and_asked::<FNV1aHasher64>(alloc, there, asked, fills, asks)
+        }
+        Some(Kind::FxHash) => lines_put_and_asked::<FxHasher>(alloc, there, asked, fills, asks),
+        _ => None,
+    };
+    sum.unwrap_or(u64::MAX)
 }
 
 /// A map of std whose keys are owned, as those of a table of buckets, with each key and its number.
@@ -160,20 +153,15 @@ fn owned_put_and_taken<H: Piecewise>(alloc: Global, keys: &[u8], size: usize) ->
     Some(sum)
 }
 
-/// std's map in the place of a table over FNV-1a at 64 bits.
+/// std's map in the place of a table, over FNV-1a at 64 bits.
 #[unsafe(no_mangle)]
-pub extern "C" fn measure_speed_owned_fnv1a64(
-    alloc: Global,
-    keys: &[u8],
-    size: usize,
-    rounds: usize,
-) -> u64 {
+pub extern "C" fn measure_owned(alloc: Global, keys: &[u8], size: usize, rounds: usize) -> u64 {
     owned_put_and_asked::<FNV1aHasher64>(alloc, keys, keys, size, rounds).unwrap_or(u64::MAX)
 }
 
 /// The same of the first half of the keys, asked for the others.
 #[unsafe(no_mangle)]
-pub extern "C" fn measure_speed_owned_missed_fnv1a64(
+pub extern "C" fn measure_owned_missed(
     alloc: Global,
     keys: &[u8],
     size: usize,
@@ -185,10 +173,6 @@ pub extern "C" fn measure_speed_owned_missed_fnv1a64(
 
 /// The same, filled and emptied.
 #[unsafe(no_mangle)]
-pub extern "C" fn measure_speed_owned_emptied_fnv1a64(
-    alloc: Global,
-    keys: &[u8],
-    size: usize,
-) -> u64 {
+pub extern "C" fn measure_owned_emptied(alloc: Global, keys: &[u8], size: usize) -> u64 {
     owned_put_and_taken::<FNV1aHasher64>(alloc, keys, size).unwrap_or(u64::MAX)
 }

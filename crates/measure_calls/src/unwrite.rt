@@ -1,76 +1,41 @@
-//! A text that is taken out of a default hasher.
+//! Texts that are taken out of default hashers.
 
-use hash_fx::{FxHasher, FxHasher32, FxHasher64};
+use hash_names::table::{Kind, kind_at};
 use hashers::fnv::{FNV1aHasher32, FNV1aHasher64};
+use hashers::fx_hash::{FxHasher, FxHasher32, FxHasher64};
 use hashers::jenkins::OAATHasher;
 use hashers::laws::Undo;
 use hashers::oz::{DJB2Hasher, LoseLoseHasher, SDBMHasher};
 use hashers::pigeon::Bricolage;
 
-/// The answer after the text was taken out of a default hasher.
-#[inline(always)]
-fn unwritten<H: Undo>(text: &[u8]) -> u64 {
-    let mut hasher = H::fresh();
-    hasher.unwrite(text);
-    hasher.answer()
+/// The answer after each text of this size was taken out of a default hasher, folded into one number.
+#[inline(never)]
+fn unwritten<H: Undo>(text: &[u8], size: usize) -> u64 {
+    let mut all: u64 = 0;
+    if size > 0 {
+        for part in text.chunks_exact(size) {
+            let mut hasher = H::fresh();
+            hasher.unwrite(part);
+            all = all.rotate_left(1) ^ hasher.answer();
+        }
+    }
+    all
 }
 
-/// FNV-1a at 32 bits, from which the text was taken out.
+/// The same by the hash of that number; where that cannot be undone, `u64::MAX`.
 #[unsafe(no_mangle)]
-pub extern "C" fn measure_speed_unwrite_fnv1a32(text: &[u8]) -> u64 {
-    unwritten::<FNV1aHasher32>(text)
-}
-
-/// FNV-1a at 64 bits, from which the text was taken out.
-#[unsafe(no_mangle)]
-pub extern "C" fn measure_speed_unwrite_fnv1a64(text: &[u8]) -> u64 {
-    unwritten::<FNV1aHasher64>(text)
-}
-
-/// Djb2, from which the text was taken out.
-#[unsafe(no_mangle)]
-pub extern "C" fn measure_speed_unwrite_djb2(text: &[u8]) -> u64 {
-    unwritten::<DJB2Hasher>(text)
-}
-
-/// Sdbm, from which the text was taken out.
-#[unsafe(no_mangle)]
-pub extern "C" fn measure_speed_unwrite_sdbm(text: &[u8]) -> u64 {
-    unwritten::<SDBMHasher>(text)
-}
-
-/// Lose lose, from which the text was taken out.
-#[unsafe(no_mangle)]
-pub extern "C" fn measure_speed_unwrite_loselose(text: &[u8]) -> u64 {
-    unwritten::<LoseLoseHasher>(text)
-}
-
-/// Bricolage, from which the text was taken out.
-#[unsafe(no_mangle)]
-pub extern "C" fn measure_speed_unwrite_bricolage(text: &[u8]) -> u64 {
-    unwritten::<Bricolage>(text)
-}
-
-/// One-at-a-time, from which the text was taken out.
-#[unsafe(no_mangle)]
-pub extern "C" fn measure_speed_unwrite_oaat(text: &[u8]) -> u64 {
-    unwritten::<OAATHasher>(text)
-}
-
-/// Fx, from which the text was taken out.
-#[unsafe(no_mangle)]
-pub extern "C" fn measure_speed_unwrite_fxhash(text: &[u8]) -> u64 {
-    unwritten::<FxHasher>(text)
-}
-
-/// Fx at 32 bits, from which the text was taken out.
-#[unsafe(no_mangle)]
-pub extern "C" fn measure_speed_unwrite_fxhash32(text: &[u8]) -> u64 {
-    unwritten::<FxHasher32>(text)
-}
-
-/// Fx at 64 bits, from which the text was taken out.
-#[unsafe(no_mangle)]
-pub extern "C" fn measure_speed_unwrite_fxhash64(text: &[u8]) -> u64 {
-    unwritten::<FxHasher64>(text)
+pub extern "C" fn measure_unwrite(kind: u32, text: &[u8], size: usize) -> u64 {
+    match kind_at(kind) {
+        Some(Kind::Fnv1a32) => unwritten::<FNV1aHasher32>(text, size),
+        Some(Kind::Fnv1a64) => unwritten::<FNV1aHasher64>(text, size),
+        Some(Kind::Djb2) => unwritten::<DJB2Hasher>(text, size),
+        Some(Kind::Sdbm) => unwritten::<SDBMHasher>(text, size),
+        Some(Kind::LoseLose) => unwritten::<LoseLoseHasher>(text, size),
+        Some(Kind::Bricolage) => unwritten::<Bricolage>(text, size),
+        Some(Kind::Oaat) => unwritten::<OAATHasher>(text, size),
+        Some(Kind::FxHash) => unwritten::<FxHasher>(text, size),
+        Some(Kind::FxHash32) => unwritten::<FxHasher32>(text, size),
+        Some(Kind::FxHash64) => unwritten::<FxHasher64>(text, size),
+        _ => u64::MAX,
+    }
 }

@@ -4,7 +4,6 @@ ghost use Rattle.std.specs.Prelude.{⊤};
 use hash_more::crc32::{crc32, crc32_combine};
 use hash_names::table::{by_kind, kind_named};
 use hash_names::task::HashTask;
-use hashers::jenkins::spooky_hash::SpookyHasher;
 use hashers::laws::{Piecewise, Streamed};
 use std::alloc::{AllocError, Global};
 use std::io;
@@ -66,10 +65,6 @@ impl HashTask for HashPieces {
 
     fn by_pieces<H: Piecewise>(_told: (), pieces: &mut Vec<Vec<u8>>) -> u64 {
         fed::<H>(pieces).answer()
-    }
-
-    fn by_spooky_v1(_told: (), pieces: &mut Vec<Vec<u8>>) -> u64 {
-        fed::<SpookyHasher>(pieces).finish128_v1().0
     }
 
     ghost by_same = { λ hash of_read same agree told before after outcome done. done };

@@ -81,6 +81,15 @@ removal_undoes_insert m k v none =
       | false ↦ λ e. refl
     ] refl)
 
+pub old_value_undoes_insert : (m : TextMap) (k : List ℕ) (v w : ℕ) → get m k ≡ Some w → insert (insert m k v) k w ≡ m
+old_value_undoes_insert m k v w had =
+    alike _ _
+    (λ q. get_insert (insert m k v) k q w ∙ ap (cond (same q k) (Some w)) (get_insert m k q v)
+    ∙ elim (same q k) as (λ b. same q k ≡ b → cond b (Some w) (cond b (Some v) (get m q)) ≡ get m q) [
+      | true ↦ λ e. sym (ap (get m) (same_key q k e) ∙ had)
+      | false ↦ λ e. refl
+    ] refl)
+
 pub removal_of_nothing : (m : TextMap) (k : List ℕ) → get m k ≡ None → remove m k ≡ m
 removal_of_nothing m k none =
     alike _ _

@@ -119,3 +119,33 @@ module _ (eol : ℕ) where
   -- and that of the last one, with an end or without
   pub text_of_line : (line : List ℕ) → StopsAt line eol → 0 < length line → line_texts eol line ≡ strip_last eol line ∷ []
   text_of_line line stops some = texts_of_lines line ∙ ap (map (strip_last eol)) (one_line line stops some)
+
+  -- behind a line's end, more text has the lines that it has alone
+  some_line : (text : List ℕ) → (line : List ℕ) × (rest : List (List ℕ)) × (lines_by eol (text ++ eol ∷ []) ≡ line ∷ rest)
+  some_line [] = (eol ∷ [], [], ap (λ b. cond b ((eol ∷ []) ∷ []) ((eol ∷ []) ∷ [])) (eq-eqb eol eol refl))
+  some_line (byte ∷ text) = at (byte == eol) (some_line text)
+    where
+      at : (b : Bool) → (line : List ℕ) × (rest : List (List ℕ)) × (lines_by eol (text ++ eol ∷ []) ≡ line ∷ rest)
+          → (line : List ℕ) × (rest : List (List ℕ)) × (cond b ((byte ∷ []) ∷ lines_by eol (text ++ eol ∷ []))
+          (onto_first byte (lines_by eol (text ++ eol ∷ []))) ≡ line ∷ rest)
+      at true more = (byte ∷ [], lines_by eol (text ++ eol ∷ []), refl)
+      at false (line, rest, is) = (byte ∷ line, rest, ap (onto_first byte) is)
+
+  pub lines_joined : (text more : List ℕ)
+      → lines_by eol ((text ++ eol ∷ []) ++ more) ≡ lines_by eol (text ++ eol ∷ []) ++ lines_by eol more
+  lines_joined [] more = here (eol == eol) (eq-eqb eol eol refl)
+    where
+      here : (b : Bool) → b ≡ true → cond b ((eol ∷ []) ∷ lines_by eol more) (onto_first eol (lines_by eol more))
+          ≡ cond b ((eol ∷ []) ∷ []) ((eol ∷ []) ∷ []) ++ lines_by eol more
+      here true is = refl
+      here false is = absurd (false≢true is)
+  lines_joined (byte ∷ text) more = at (byte == eol) (some_line text) (lines_joined text more)
+    where
+      at : (b : Bool) → (line : List ℕ) × (rest : List (List ℕ)) × (lines_by eol (text ++ eol ∷ []) ≡ line ∷ rest)
+          → lines_by eol ((text ++ eol ∷ []) ++ more) ≡ lines_by eol (text ++ eol ∷ []) ++ lines_by eol more
+          → cond b ((byte ∷ []) ∷ lines_by eol ((text ++ eol ∷ []) ++ more)) (onto_first byte (lines_by eol ((text ++ eol ∷ []) ++ more)))
+          ≡ cond b ((byte ∷ []) ∷ lines_by eol (text ++ eol ∷ [])) (onto_first byte (lines_by eol (text ++ eol ∷ []))) ++ lines_by eol more
+      at true first is = ap (λ ls. (byte ∷ []) ∷ ls) is
+      at false (line, rest, first) is =
+          ap (onto_first byte) (is ∙ ap (λ ls. ls ++ lines_by eol more) first)
+          ∙ sym (ap (λ ls. onto_first byte ls ++ lines_by eol more) first)

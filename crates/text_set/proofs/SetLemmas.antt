@@ -1,19 +1,20 @@
 -- The texts of a set that takes in texts one after the other: which those are, each once, in whatever order they come.
-use Rattle.std.proofs.Common.{◌≡◌, ℕ, Bool, true, false, ◌||◌, cond, List, [], ◌∷◌, ◌++◌, map, fold, ap, sym, subst, ◌∙◌, refl, append-nil, append_assoc}
+use Rattle.std.proofs.Common.{◌≡◌, ℕ, Bool, true, false, ◌||◌, cond, All, List, [], ◌∷◌, ◌++◌, map, fold, ap, sym, subst, ◌∙◌, refl, append-nil, append_assoc, arith}
 use Rattle.std.specs.Io.BufRead.{strip_last}
 use Rattle.std.specs.List.{list_any}
 use Rattle.std.specs.List.Sorted.{IsPermutation}
 use Rattle.std.specs.Str.{bytes_eq}
 use Rattle.std.proofs.lemmas.Bool.{false≢true, or_parts}
 use Rattle.std.proofs.lemmas.Cmp.{nat_list_eq_equiv}
-use Rattle.std.proofs.lemmas.List.{map-append}
+use Rattle.std.proofs.lemmas.List.{get_or_append_left, length-append, map-append}
+use Rattle.std.proofs.lemmas.List.Elements.{All-head, All-tail}
 use Rattle.std.proofs.lemmas.List.Folds.{list_any-append}
 use Rattle.std.proofs.lemmas.List.Sorted.{IsPermutation-append_left, IsPermutation-cons, IsPermutation-refl, IsPermutation-sym, IsPermutation-to_front, IsPermutation-trans, list_any-IsPermutation}
 use Rattle.std.proofs.lemmas.Map.Steps.{list_any_congr}
 use Rattle.std.proofs.lemmas.Slice.Eq.{bytes_eq-Decides}
 use Rattle.text_set.specs.Firsts.{each_once_by, firsts_by, same_text_by}
 use Rattle.text_set.specs.Lines.{line_texts, lines_by}
-use Rattle.text_set.specs.Texts.{EachOnce, has, with_text}
+use Rattle.text_set.specs.Texts.{EachOnce, StandsAt, has, with_text}
 use Rattle.text_set.proofs.FirstsLemmas.{Apart, any_firsts, any_texts, firsts_apart, firsts_more}
 use Rattle.text_set.proofs.LawLemmas.{strip_as_line, texts_written}
 use Rattle.text_set.proofs.LinesOfText.{texts_of_lines}
@@ -190,3 +191,23 @@ lines_in_any_order eol text more moved =
     subst (λ texts. IsPermutation texts (line_texts eol (each_once_by eol more))) (sym (lines_of_set eol text))
     (subst (IsPermutation (fold with_text [] (line_texts eol text))) (sym (lines_of_set eol more))
     (set_in_any_order (line_texts eol text) (line_texts eol more) moved))
+
+-- a text stays where it stands, whatever is taken in
+pub place_stays : (texts more : List (List ℕ)) (text : List ℕ) (place : ℕ) → StandsAt texts text place
+    → StandsAt (fold with_text texts more) text place
+place_stays texts [] text place stands = stands
+place_stays texts (other ∷ more) text place stands = place_stays (with_text texts other) more text place (at (has texts other))
+  where
+    at : (b : Bool) → StandsAt (cond b texts (texts ++ other ∷ [])) text place
+    at true = stands
+    at false = (
+      omega (arith, stands.0, length-append texts (other ∷ [])),
+      get_or_append_left texts (other ∷ []) [] place stands.0 ∙ stands.1,
+    )
+
+-- texts that are there add nothing
+pub nothing_added : (texts more : List (List ℕ)) → All (λ text. has texts text ≡ true) more → fold with_text texts more ≡ texts
+nothing_added texts [] there = refl
+nothing_added texts (text ∷ more) there =
+    let same : with_text texts text ≡ texts = ap (λ b. cond b texts (texts ++ text ∷ [])) (All-head (λ text. has texts text ≡ true) text more there) in
+    ap (λ set. fold with_text set more) same ∙ nothing_added texts more (All-tail (λ text. has texts text ≡ true) text more there)

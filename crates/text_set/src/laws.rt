@@ -1,10 +1,10 @@
 //! The laws of lines and of sets of texts, with no code. A line ends with a byte, newline or another.
-ghost use Rattle.std.specs.Prelude.{◌≡◌, ◌||◌, ◌++◌, [], ℕ, List, fold};
+ghost use Rattle.std.specs.Prelude.{◌≡◌, ◌||◌, ◌++◌, ◌∷◌, [], ℕ, All, List, fold, true};
 ghost use Rattle.std.specs.List.Sorted.{IsPermutation};
 ghost use Rattle.std.specs.Str.{bytes_eq};
 ghost use Rattle.text_set.specs.Firsts.{each_once_by, ComesBefore};
 ghost use Rattle.text_set.specs.Lines.{line_texts, lines_by};
-ghost use Rattle.text_set.specs.Texts.{EachOnce, has, with_text};
+ghost use Rattle.text_set.specs.Texts.{EachOnce, StandsAt, has, with_text};
 
 /// Of the lines of a text, each once, no two have the same text.
 pub fn each_text_stands_once()
@@ -28,7 +28,13 @@ pub fn twice_changes_nothing()
     ensures { (eol : ℕ) (text : List ℕ) → each_once_by eol (each_once_by eol text) ≡ each_once_by eol text }
 {}
 
-/// The first lines, each once, are a beginning of all lines, each once.
+/// Behind a line's end, the lines of more text are as they are alone.
+pub fn lines_of_joined_texts()
+    ensures { (eol : ℕ) (text more : List ℕ) → lines_by eol ((text ++ eol ∷ []) ++ more)
+        ≡ lines_by eol (text ++ eol ∷ []) ++ lines_by eol more }
+{}
+
+/// The first lines, each once, are a beginning of all lines, each once: of texts as in `lines_of_joined_texts`.
 pub fn more_lines_add_behind()
     ensures { (eol : ℕ) (text more : List ℕ) → lines_by eol (text ++ more) ≡ lines_by eol text ++ lines_by eol more
         → (rest : List ℕ) × (each_once_by eol (text ++ more) ≡ each_once_by eol text ++ rest) }
@@ -55,6 +61,18 @@ pub fn texts_taken_in_are_there()
 /// No text is taken in twice.
 pub fn texts_taken_in_stand_once()
     ensures { (texts more : List (List ℕ)) → EachOnce texts → EachOnce (fold with_text texts more) }
+{}
+
+/// A text keeps its place, whatever is taken in: so places number the texts.
+pub fn texts_keep_their_places()
+    ensures { (texts more : List (List ℕ)) (text : List ℕ) (place : ℕ) → StandsAt texts text place
+        → StandsAt (fold with_text texts more) text place }
+{}
+
+/// Texts that are there add nothing.
+pub fn texts_that_are_there_add_nothing()
+    ensures { (texts more : List (List ℕ)) → All (λ text. has texts text ≡ true) more
+        → fold with_text texts more ≡ texts }
 {}
 
 /// Which texts a set has does not depend on the order in which it takes them in.

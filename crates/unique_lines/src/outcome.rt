@@ -32,17 +32,33 @@ pub enum Task {
 /// What came of a call.
 pub type Outcome = outcome::Outcome<Nothing, TooMany>;
 
-/// The options.
-fn options() -> [Opt; 6]
+/// The options, as the help shows them.
+pub fn options() -> [Opt; 6]
     ensures { choices result ≡ options }
 {
     [
-        flag(Some(b'c'), b"count"),
-        flag(Some(b'd'), b"repeated"),
-        flag(Some(b'u'), b"unique"),
-        flag(Some(b'z'), b"zero-terminated"),
-        flag(None, b"help"),
-        flag(None, b"version"),
+        flag(
+            Some(b'c'),
+            b"count",
+            "at the end, write each line after its count",
+        ),
+        flag(
+            Some(b'd'),
+            b"repeated",
+            "at the end, write the lines that came more than once",
+        ),
+        flag(
+            Some(b'u'),
+            b"unique",
+            "at the end, write the lines that came once",
+        ),
+        flag(
+            Some(b'z'),
+            b"zero-terminated",
+            "lines end with a zero byte, not with a newline",
+        ),
+        flag(None, b"help", "print this help and exit"),
+        flag(None, b"version", "print the version and exit"),
     ]
 }
 

@@ -1,8 +1,8 @@
 """usage: PYTHONPATH=PACKAGE:measure python3 measure/drivers/c/python.py RUNS
 
-Prints the tables of docs/TIMES.md on Python: a call of hashers beside those of xxhash, hashlib and zlib; a text in parts, and a filter, beside
-xxhash; and many texts in one call beside a loop. PACKAGE is the folder where `make -C c python` leaves the package; xxhash is Debian's
-python3-xxhash. Each time is the least of so many short runs by turns, and of a tenth of them where a run is long.
+Prints the tables of measure/results/c.md on Python: a call of hashers beside those of xxhash, hashlib and zlib; a text in parts, and a
+filter, beside xxhash; and many texts in one call beside a loop. PACKAGE is the folder where `make -C c python` leaves the package; xxhash
+is Debian's python3-xxhash. Each time is the least of so many short runs by turns, and of a tenth of them where a run is long.
 """
 import hashlib
 import sys

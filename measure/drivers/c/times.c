@@ -1,7 +1,7 @@
 // times RUNS: the times of a call of libhashers beside the original crate behind a C call, XXH3 and zlib's CRC-32, by turns in one process.
-// Writes a line for each row of the tables of docs/TIMES.md, and an empty line between two tables: the name, and behind a tab for each cell the
-// least of so many runs, at most 41, in nanoseconds a key, ours and, behind a space, the original's; of a column, that of a call for each
-// text. measure/c defines NAMES, which has an X(name) for each name that the original has, RELATIVES, which has one for each other name,
+// Writes a line for each row of the tables of measure/results/c.md, and an empty line between two tables: the name, and behind a tab for
+// each cell the least of so many runs, at most 41, in nanoseconds a key, ours and, behind a space, the original's; of a column, that of a
+// call for each text. measure/c defines NAMES, which has an X(name) for each name that the original has, RELATIVES, which has one for each other name,
 // WRITES, which has one for each of the original's that goes on from a number, and BEHIND, how many bytes stand before all code.
 #define _GNU_SOURCE
 #define XXH_NO_INLINE_HINTS 1

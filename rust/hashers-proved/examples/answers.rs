@@ -1,7 +1,7 @@
 //! Reads lines `NAME HEX,HEX,..`, and prints for each the hash after the pieces, by a hasher. On the way it asserts, from the same bytes:
 //! what the function of the name answers to a single piece; that `unwrite` undoes `write` and the reverse; that `unfinish` finds the state;
 //! that the generic functions of `laws` answer the same; and that combined hashes are those of the joined text. `NAME@NUMBER,..` is a
-//! function of the module `keyed`: at keys, or from a state, a hash and a length; or a seed of `xxh3`, or keys of `numbers`.
+//! function of the module `keyed`: at keys, or from a state, a hash and a length; or a seed or a key of `blocks`, `xxh3` or `numbers`.
 use hashers_proved::blocks::*;
 use hashers_proved::jenkins::spooky_hash::{spooky, spooky_v1, SpookyHasher};
 use hashers_proved::keyed::*;
@@ -10,6 +10,7 @@ use hashers_proved::more::{crc32::*, djb2_add::*, elf::*, fnv1::*, joaat::*};
 use hashers_proved::numbers::NumberKeys;
 use hashers_proved::xxh3::*;
 use hashers_proved::{fnv::*, fx_hash::*, jenkins::*, null::*, oz::*, pigeon::*};
+use std::fmt::Debug;
 use std::hash::{BuildHasher, Hasher};
 use std::io::{BufRead, Write};
 
@@ -166,6 +167,15 @@ fn at_a_key(key: u64, pieces: &Pieces) -> u64 {
     h.finish()
 }
 
+/// A hash by the block under a seed or a key, by a hasher, by the function of pieces, and by that of a text.
+fn by_the_block<R: BlockRule<N, Hash: PartialEq + Debug>, const N: usize>(seed: R::Seed, p: &Pieces) -> R::Hash {
+    let (text, pieces) = (p.concat(), p.iter().map(Vec::as_slice).collect::<Vec<_>>());
+    let mut h = BlockHasher::<R, N>::new(seed);
+    pieces.iter().for_each(|p| h.write(p));
+    assert_eq!([h.hash(); 2], [BlockHasher::<R, N>::hash_of(seed, &text), BlockHasher::<R, N>::new(seed).hash_with(&pieces)]);
+    h.hash()
+}
+
 /// XXH3 of 64 and of 128 bits under a seed, by a hasher, by the functions of pieces, and by those of a text.
 fn under_a_seed(seed: u64, p: &Pieces) -> (String, String) {
     let (text, pieces) = (p.concat(), p.iter().map(Vec::as_slice).collect::<Vec<_>>());
@@ -207,6 +217,15 @@ fn keyed(name: &str, numbers: &[u64], p: &Pieces) -> String {
             streamed::<Poly61Hasher>(p, Poly61Hasher::whole);
             at_a_key(key, p).to_string()
         }
+        ("xxh32", &[seed]) => by_the_block::<Xxh32Rule, 16>(seed as u32, p).to_string(),
+        ("xxh64", &[seed]) => by_the_block::<Xxh64Rule, 32>(seed, p).to_string(),
+        ("murmur3_32", &[seed]) => by_the_block::<Murmur3Rule32, 4>(seed as u32, p).to_string(),
+        ("murmur3_128", &[seed]) => {
+            let (first, second) = by_the_block::<Murmur3Rule128, 16>(seed, p);
+            format!("{first},{second}")
+        }
+        ("siphash13", &[k0, k1]) => by_the_block::<SipRule<1, 3>, 8>(SipKey { k0, k1 }, p).to_string(),
+        ("siphash24", &[k0, k1]) => by_the_block::<SipRule<2, 4>, 8>(SipKey { k0, k1 }, p).to_string(),
         ("xxh3", &[seed]) => under_a_seed(seed, p).0,
         ("xxh128", &[seed]) => under_a_seed(seed, p).1,
         ("number_keys", &[m1, m0, a1, a0, key]) => {

@@ -33,9 +33,20 @@ mod extras;
 
 // One module for each Rattle crate, the lowest first.
 #[doc(hidden)]
+pub mod hash_words;
+#[doc(hidden)]
 pub mod hash_rounds;
 #[doc(hidden)]
 pub mod hash_laws;
+#[doc(hidden)]
+pub mod hash_windows;
+#[doc(hidden)]
+pub mod hash_reading {
+    #[cfg(feature = "std")]
+    pub mod limited;
+    #[cfg(feature = "std")]
+    pub mod reader;
+}
 #[doc(hidden)]
 pub mod hash_rules;
 #[doc(hidden)]

@@ -6,12 +6,15 @@
 #![allow(clippy::style, clippy::complexity)]
 
 pub mod cli;
+// Its sizes of chunks take 64 bits.
+#[cfg(target_pointer_width = "64")]
 pub mod hash_chunks;
 pub mod hash_spread;
 pub mod hash_sums;
 pub mod unique_lines;
 
 // The programs.
+#[cfg(target_pointer_width = "64")]
 pub mod cuts;
 pub mod dedup;
 pub mod hashof;

@@ -1,12 +1,77 @@
 //! The table's calls one after another, and where memory is refused.
-use crate::tests::tables::{Asked, ask, held, insert, new_table};
+ghost use Rattle.std.specs.Prelude.{◌≤◌};
+
 use crate::tests::{all_hold, same, same_replies, same_reply_at};
-use hash_buckets::{Buckets, Command, obey_all};
+use hash_buckets::{Buckets, Command, NoRoom, obey_all};
 use hashers::fnv::FNV1aHasher64;
 use hashers::laws::Piecewise;
 use hashers::null::NullHasher;
 use std::alloc::{AllocError, Global};
 use std::process::Abort;
+
+/// A table of no keys.
+pub(super) fn new_table<H: Piecewise, const N: usize>(
+    rt: &impl Abort,
+    alloc: Global,
+) -> Buckets<H, N>
+    requires { 1 ≤ N }
+{
+    match Buckets::<H, N>::new(alloc) {
+        Ok(table) => table,
+        Err(_) => panic!(rt; "no memory for the table"),
+    }
+}
+
+/// A key of these bytes.
+pub(super) fn key(rt: &impl Abort, alloc: Global, bytes: &[u8]) -> Vec<u8> {
+    Vec::from_slice(alloc, bytes).expect(rt, "memory for a key")
+}
+
+fn insert<H: Piecewise, const N: usize>(
+    rt: &impl Abort,
+    table: &mut Buckets<H, N>,
+    key: Vec<u8>,
+    value: u64,
+) -> Option<u64> {
+    match table.insert(key, value) {
+        Ok(old) => old,
+        Err(NoRoom { .. }) => panic!(rt; "no memory for a key"),
+    }
+}
+
+/// What is asked of a key.
+#[derive(Clone, Copy)]
+enum Asked {
+    Insert(u64),
+    Get,
+    Remove,
+}
+
+/// Asks a table one thing after another, and compares the replies.
+fn ask<H: Piecewise, const N: usize>(
+    rt: &impl Abort,
+    alloc: Global,
+    table: &mut Buckets<H, N>,
+    script: &[(&[u8], Asked, Option<u64>)],
+) {
+    for (turn, (name, asked, wanted)) in script.iter().enumerate() {
+        let reply = match asked {
+            Asked::Insert(value) => insert(rt, table, key(rt, alloc, name), *value),
+            Asked::Get => table.get(name),
+            Asked::Remove => table.remove(name),
+        };
+        same_reply_at(rt, turn, reply, *wanted);
+    }
+}
+
+/// How many values there are.
+fn held(values: &[Option<u64>]) -> u128 {
+    let mut count = 0u128;
+    for value in values {
+        count = count.wrapping_add(u128::from(value.is_some()));
+    }
+    count
+}
 
 #[test]
 fn one_bucket_of_four(rt: HostRuntime) {

@@ -1,6 +1,4 @@
 //! Files of filters: by hand, read back, changed, cut, and where memory or a reader fails.
-ghost use Rattle.std.specs.Prelude.{◌≤◌};
-
 use crate::tests::{all_hold, all_hold_at};
 use hash_bloom::Bloom;
 use hash_bloom::file::Unread;
@@ -56,31 +54,6 @@ fn by_hand(rt: HostRuntime) {
             left == b"!".as_slice(),
         ],
     );
-}
-
-/// Filters of 1 to 200 bits, and a pair whose name has lines and any letters, are read back.
-#[test]
-fn read_back(rt: HostRuntime) {
-    let alloc = rt.alloc();
-    for bits in 1..=200 {
-        let mut filter = ByStep::new(alloc, bits, 3).expect(&rt, "memory for the filter");
-        filter.insert(&[bits as u8, 7]);
-        for pair in ["", "a\nb", "fnv1a64 lookup3", "\u{e9} \0"] {
-            let mut file = Vec::new(alloc);
-            filter
-                .write_to(&mut file, pair)
-                .expect(&rt, "memory for the file");
-            let back = ByStep::read_from(alloc, &mut file.as_slice(), pair).expect(
-                &rt,
-                "the filter",
-            );
-            all_hold_at(
-                &rt,
-                bits as usize,
-                &[back.fits(&filter), back.words() == filter.words()],
-            );
-        }
-    }
 }
 
 /// A file that is cut anywhere, or has any one byte changed in any one bit, is not read.

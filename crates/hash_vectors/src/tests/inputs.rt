@@ -1,7 +1,7 @@
 //! Inputs of many pieces, what `hash_reader` asks of a reader, and what it tells of a fault.
 use crate::byte_sum::ByteSum;
-use crate::tests::readers::{End, OF_NOTHING, end_of, same_end};
-use crate::tests::{all_hold, all_hold_at, same, same_at};
+use crate::tests::readers::{End, end_of, same_end};
+use crate::tests::{all_hold, all_hold_at, same_at};
 use hashers::fnv::{FNV1aHasher64, fnv1a64};
 use hashers::laws::Piecewise;
 use hashers::reader::{Fault, hash_reader, hash_stream};
@@ -13,9 +13,8 @@ use streams::rehearsal::Script;
 const LONG: [u8; 20_000] = [7; 20_000];
 
 /// A limit, how a call over the long input ends under it, and how many reads are made.
-const LIMITS: [(u64, End, u64); 4] = [
+const LIMITS: [(u64, End, u64); 3] = [
     (u64::MAX, End::Taken(20_000, true), 6),
-    (20_001, End::Taken(20_000, true), 6),
     (20_000, End::Taken(20_000, false), 5),
     (12_345, End::Taken(12_345, false), 4),
 ];
@@ -36,16 +35,6 @@ fn inputs_of_many_pieces(rt: HostRuntime) {
         same_end(&rt, turn, end_of(outcome), *end);
         same_at(&rt, turn, &[g.answer(), s.reads], &[want, *reads]);
     }
-}
-
-/// Under a limit far from its bytes an input that is empty ends at its first read.
-#[test]
-fn no_input_under_a_limit(rt: HostRuntime) {
-    let mut h = FNV1aHasher64::fresh();
-    let mut r = Script::new(b"", usize::MAX);
-    let outcome = hash_reader::<FNV1aHasher64, Script, 4096>(&mut h, &mut r, 12_345);
-    same_end(&rt, 0, end_of(outcome), End::Taken(0, true));
-    same(&rt, &[h.answer(), r.reads], &[OF_NOTHING, 1]);
 }
 
 /// A hasher is written to once for each piece, and not where the input ends.

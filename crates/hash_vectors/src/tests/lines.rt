@@ -3,14 +3,13 @@ use crate::tests::all_hold;
 use cli::frame::About;
 use cli::inputs::Complaints;
 use cli::outcome::{failure_of, status_of};
-use std::alloc::{AllocError, Global};
-use std::collections::HashSet;
+use std::alloc::Global;
 use std::hash::{BuildHasher, Hasher};
 use std::io;
-use std::io::{BufWriter, ErrorKind, Write};
+use std::io::{BufWriter, ErrorKind};
 use std::process::Abort;
 use streams::rehearsal::{Paper, Script, Trouble, arguments_of};
-use text_set::{RandomKeys, Texts};
+use text_set::RandomKeys;
 use unique_lines::once::dedup;
 use unique_lines::outcome::{Outcome, call_of, outcome_of};
 use unique_lines::tally::{Which, tally};
@@ -470,162 +469,6 @@ fn more_lines_than_the_limit(rt: HostRuntime) {
     for (limit, fits) in [(0, false), (4, false), (5, true), (6, true)] {
         all_hold(&rt, &[limited(rt.alloc(), limit, fits).unwrap_or(false)]);
     }
-}
-
-/// Counts what is written, and how many of its bytes are newlines.
-#[derive(Drop)]
-struct Scale {
-    bytes: u64,
-    newlines: u64,
-}
-
-impl Write for Scale {
-    fn write(&mut self, buf: &[u8]) -> io::Result<usize> {
-        self.bytes = self.bytes.saturating_add(buf.len() as u64);
-        for byte in buf {
-            if *byte == b'\n' {
-                self.newlines = self.newlines.saturating_add(1);
-            }
-        }
-        Ok(buf.len())
-    }
-
-    fn flush(&mut self) -> io::Result<()> {
-        Ok(())
-    }
-}
-
-/// So many lines, each of one letter more than the last, each with its newline.
-fn lines_of_each_length(alloc: Global, count: usize) -> Result<Vec<u8>, AllocError> {
-    let mut text = Vec::new(alloc);
-    for len in 0..count {
-        let end: usize = text.len();
-        text.resize(end.saturating_add(len), b'x')?;
-        text.push(b'\n')?;
-    }
-    Ok(text)
-}
-
-/// What is written of these lines, which come twice, through reads of so many bytes.
-fn written_of_twice(alloc: Global, lines: &[u8], capacity: usize) -> io::Result<Vec<u8>> {
-    let mut twice = Vec::from_slice(alloc, lines)?;
-    twice.extend_from_slice(lines)?;
-    let mut output = BufWriter::with_capacity(alloc, HELD, Vec::new(alloc))?;
-    match dedup(
-        alloc,
-        RandomKeys::fresh(),
-        b'\n',
-        200,
-        &mut [Script::new(&twice, capacity)],
-        &mut Failures::new(),
-        &mut output,
-    ) {
-        Ok(Ended::Whole) => Ok(output.into_parts().0),
-        _ => Ok(Vec::new(alloc)),
-    }
-}
-
-/// Whether lines of each length, which come twice, are written once through reads of so many bytes.
-fn come_once(alloc: Global, capacity: usize) -> io::Result<bool> {
-    let lines = lines_of_each_length(alloc, 41)?;
-    let output = written_of_twice(alloc, &lines, capacity)?;
-    Ok(output == lines)
-}
-
-/// Each line ends at another place of what was read, and of the 16 bytes that are searched at once.
-#[test]
-fn lines_that_end_at_each_place(rt: HostRuntime) {
-    for capacity in 1..70 {
-        all_hold(&rt, &[come_once(rt.alloc(), capacity).unwrap_or(false)]);
-    }
-    all_hold(&rt, &[come_once(rt.alloc(), 4096).unwrap_or(false)]);
-}
-
-/// How often `Texts` and std's set disagree whether a text is new, over so many texts, some of which come again and many
-/// of which begin others.
-fn disagreements<H: Fresh>(alloc: Global, count: u64) -> Result<u64, AllocError> {
-    let mut texts = Texts::new(alloc, H::fresh());
-    let mut set = HashSet::with_hasher(alloc, RandomKeys::fresh());
-    let mut disagreements: u64 = 0;
-    for number in 0..count {
-        let bytes = (number / 3).to_le_bytes();
-        let text = &bytes[..(number % 7) as usize];
-        let is_new = set.insert(Vec::from_slice(alloc, text)?)?;
-        let Ok(seen) = texts.see(text) else {
-            return Err(AllocError);
-        };
-        if seen.is_new != is_new || texts.text_at(seen.place) != text {
-            disagreements = disagreements.saturating_add(1);
-        }
-    }
-    Ok(disagreements)
-}
-
-#[test]
-fn texts_are_those_of_a_set(rt: HostRuntime) {
-    let alloc = rt.alloc();
-    let counts = [
-        disagreements::<RandomKeys>(alloc, 20000).unwrap_or(1),
-        disagreements::<Alike>(alloc, 2000).unwrap_or(1),
-    ];
-    all_hold(&rt, &[counts == [0, 0]]);
-}
-
-/// The empty text, texts that begin others, and whether each is new where it comes.
-const SEEN: [(&[u8], bool); 9] = [
-    (b"ab", true),
-    (b"", true),
-    (b"a", true),
-    (b"abc", true),
-    (b"abc", false),
-    (b"a", false),
-    (b"", false),
-    (b"ab", false),
-    (b"b", true),
-];
-
-#[test]
-fn a_text_that_begins_another(rt: HostRuntime) {
-    let mut texts = Texts::new(rt.alloc(), Alike);
-    for (text, is_new) in &SEEN {
-        match texts.see(text) {
-            Ok(seen) => all_hold(&rt, &[seen.is_new == *is_new]),
-            Err(_) => all_hold(&rt, &[false]),
-        }
-    }
-}
-
-/// Two lines of a mebibyte that differ in their last byte, one of them twice.
-fn long_lines(alloc: Global) -> io::Result<(u64, u64)> {
-    let mut text = Vec::new(alloc);
-    for last in [b'a', b'b', b'a'] {
-        let len = text.len();
-        text.resize(len + 1048575, b'x')?;
-        text.extend_from_slice(&[last, b'\n'])?;
-    }
-    let scale = Scale {
-        bytes: 0,
-        newlines: 0,
-    };
-    let mut output = BufWriter::with_capacity(alloc, HELD, scale)?;
-    match dedup(
-        alloc,
-        RandomKeys::fresh(),
-        b'\n',
-        4,
-        &mut [text.as_slice()],
-        &mut Failures::new(),
-        &mut output,
-    ) {
-        Ok(Ended::Whole) => Ok((output.get_ref().bytes, output.get_ref().newlines)),
-        _ => Ok((0, 0)),
-    }
-}
-
-#[test]
-fn lines_of_a_mebibyte(rt: HostRuntime) {
-    let written = long_lines(rt.alloc()).unwrap_or((0, 0));
-    all_hold(&rt, &[written == (2097154, 2)]);
 }
 
 /// Where a request for memory is refused, what was written is a beginning of the output.

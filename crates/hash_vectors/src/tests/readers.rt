@@ -1,10 +1,7 @@
 //! `hash_reader` over readers that misbehave.
-ghost use Rattle.std.specs.Prelude.{◌<◌, ◌≤◌};
-
-use crate::tests::{all_hold_at, none_holds, same_at};
+use crate::tests::{none_holds, same_at};
 use hashers::engine::{Fault, Taken, hash_reader};
 use hashers::fnv::FNV1aHasher64;
-use hashers::jenkins::Lookup3Hasher;
 use hashers::laws::Piecewise;
 use hashers::oz::LoseLoseHasher;
 use std::io;
@@ -31,170 +28,60 @@ pub(super) fn same_end(rt: &impl Abort, turn: usize, got: End, want: End) {
     assert_eq!(rt; got, want, "at {turn}");
 }
 
-/// Reads on through an array of N, under one limit after another, and compares how each call ends and the hash so far.
-fn reads_on<const N: usize>(rt: &impl Abort, r: &mut Script, steps: &[(u64, End, u64)])
-    requires not_empty { 0 < N }
-    requires small { N ≤ 65536 }
-{
-    let mut h = FNV1aHasher64::fresh();
-    for (turn, (limit, end, hash)) in steps.iter().enumerate() {
-        let outcome = hash_reader::<FNV1aHasher64, Script, N>(&mut h, r, *limit);
-        same_end(rt, turn, end_of(outcome), *end);
-        same_at(rt, turn, &[h.answer()], &[*hash]);
-    }
-}
+/// The hashes of nothing, `a`, `ab`, `abc` and `abcd`.
+const BEGINNINGS: [u64; 5] = [
+    14695981039346656037,
+    12638187200555641996,
+    620445648566982762,
+    16654208175385433931,
+    18165163011005162717,
+];
 
-/// The hashes of nothing, `a`, `ab`, `abc`, `abcd` and `abcdefg`.
-pub(super) const OF_NOTHING: u64 = 14695981039346656037;
-
-const OF_A: u64 = 12638187200555641996;
-
-const OF_AB: u64 = 620445648566982762;
-
-const OF_ABC: u64 = 16654208175385433931;
-
-const OF_ABCD: u64 = 18165163011005162717;
-
-const OF_ABCDEFG: u64 = 4642726675185563447;
-
-/// `abcd` by one byte a read, through an array of N, failing once after k bytes and going on.
-fn reads_abcd<const N: usize>(rt: &impl Abort)
-    requires not_empty { 0 < N }
-    requires small { N ≤ 65536 }
-{
-    let mut r = Script::new(b"abcd", 1);
-    reads_on::<N>(rt, &mut r, &[(9, End::Taken(4, true), OF_ABCD)]);
+/// Reads on through an array of 2 under a limit, and compares how the call ends, the hash so far and how many reads there were.
+fn reads_on(
+    rt: &impl Abort,
+    h: &mut FNV1aHasher64,
+    r: &mut Script,
+    limit: u64,
+    want: (End, usize, u64),
+) {
+    let outcome = hash_reader::<FNV1aHasher64, Script, 2>(h, r, limit);
+    let (end, hashed, reads) = want;
+    same_end(rt, hashed, end_of(outcome), end);
+    let hash = BEGINNINGS.get(hashed).copied().unwrap_or(0);
+    same_at(rt, hashed, &[h.answer(), r.reads], &[hash, reads]);
     none_holds(rt, &[r.asked_for_nothing]);
-    for (k, hash) in [OF_NOTHING, OF_A, OF_AB, OF_ABC, OF_ABCD]
-        .iter()
-        .enumerate()
-    {
-        let fault = End::Fault(k as u64, ErrorKind::BrokenPipe);
-        let end = End::Taken(4 - k as u64, true);
+}
+
+/// `abcd` by a byte a read, failing once after k bytes and going on.
+#[test]
+fn faults_at_each_byte(rt: HostRuntime) {
+    for k in 0..5usize {
+        let mut h = FNV1aHasher64::fresh();
         let mut r = Script::failing(b"abcd", 1, k);
-        reads_on::<N>(rt, &mut r, &[(9, fault, *hash), (9, end, OF_ABCD)]);
+        let (fault, read) = (End::Fault(k as u64, ErrorKind::BrokenPipe), k as u64 + 1);
+        reads_on(&rt, &mut h, &mut r, 9, (fault, k, read));
+        let end = End::Taken(4 - k as u64, true);
+        reads_on(&rt, &mut h, &mut r, 9, (end, 4, 6));
     }
 }
 
+/// A read that is interrupted is a fault; under a limit of no bytes nothing is read, and under one that is met no end is looked for.
 #[test]
-fn short_reads_and_faults(rt: HostRuntime) {
-    reads_abcd::<1>(&rt);
-    reads_abcd::<2>(&rt);
-    reads_abcd::<3>(&rt);
-    reads_abcd::<4>(&rt);
-}
-
-const BROKEN: End = End::Fault(2, ErrorKind::BrokenPipe);
-
-const INTERRUPTED: End = End::Fault(0, ErrorKind::Interrupted);
-
-/// A text, after how many bytes a read fails and how, the steps, and how many reads are made.
-const STEPS: [(&[u8], Option<usize>, ErrorKind, &[(u64, End, u64)], u64); 8] = [
-    (
-        b"abcd",
-        Some(2),
-        ErrorKind::BrokenPipe,
-        &[(9, BROKEN, OF_AB), (9, End::Taken(2, true), OF_ABCD)],
-        4,
-    ),
-    (
-        b"ab",
-        Some(0),
-        ErrorKind::Interrupted,
-        &[(9, INTERRUPTED, OF_NOTHING)],
-        1,
-    ),
-    (
-        b"ab",
-        None,
-        ErrorKind::BrokenPipe,
-        &[(0, End::Taken(0, false), OF_NOTHING)],
-        0,
-    ),
-    (
-        b"ab",
-        None,
-        ErrorKind::BrokenPipe,
-        &[(1, End::Taken(1, false), OF_A)],
-        1,
-    ),
-    (
-        b"ab",
-        None,
-        ErrorKind::BrokenPipe,
-        &[(2, End::Taken(2, false), OF_AB)],
-        1,
-    ),
-    (
-        b"ab",
-        None,
-        ErrorKind::BrokenPipe,
-        &[(3, End::Taken(2, true), OF_AB)],
-        2,
-    ),
-    (
-        b"ab",
-        None,
-        ErrorKind::BrokenPipe,
-        &[
-            (1, End::Taken(1, false), OF_A),
-            (10, End::Taken(1, true), OF_AB),
-        ],
-        3,
-    ),
-    (
-        b"ab",
-        Some(0),
-        ErrorKind::BrokenPipe,
-        &[(0, End::Taken(0, false), OF_NOTHING)],
-        0,
-    ),
-];
-
-#[test]
-fn faults_and_limits(rt: HostRuntime) {
-    for (turn, (text, until_fault, kind, steps, reads)) in STEPS.iter().enumerate() {
-        let until_fault = until_fault.unwrap_or(usize::MAX);
-        let mut two = Script::failing(text, 2, until_fault);
-        two.kind = *kind;
-        reads_on::<2>(&rt, &mut two, steps);
-        let mut four = Script::failing(text, 2, until_fault);
-        four.kind = *kind;
-        reads_on::<4>(&rt, &mut four, steps);
-        same_at(&rt, turn, &[two.reads, four.reads], &[*reads, *reads]);
-    }
-}
-
-#[test]
-fn finish_between_two_limits(rt: HostRuntime) {
-    let steps = [
-        (2, End::Taken(2, false), OF_AB),
-        (2, End::Taken(2, false), OF_ABCD),
-        (4, End::Taken(3, true), OF_ABCDEFG),
-        (4, End::Taken(0, true), OF_ABCDEFG),
-    ];
-    reads_on::<4>(&rt, &mut Script::new(b"abcdefg", 3), &steps);
-}
-
-/// lookup3's answer to `ab` where the reader fails once after k bytes, for k from 0 to 2.
-const CUT_AT: [u64; 3] = [
-    7744397999705663711,
-    18104817335149544820,
-    7744397999705663711,
-];
-
-#[test]
-fn a_fault_is_a_cut_for_lookup3(rt: HostRuntime) {
-    for (k, answer) in CUT_AT.iter().enumerate() {
-        let mut h = Lookup3Hasher::fresh();
-        let mut r = Script::failing(b"ab", 2, k);
-        let fault = End::Fault(k as u64, ErrorKind::BrokenPipe);
-        for end in [fault, End::Taken(2 - k as u64, true)] {
-            let outcome = hash_reader::<Lookup3Hasher, Script, 4>(&mut h, &mut r, 9);
-            same_end(&rt, k, end_of(outcome), end);
-        }
-        same_at(&rt, k, &[h.answer()], &[*answer]);
-    }
+fn interrupted_and_limited(rt: HostRuntime) {
+    let mut h = FNV1aHasher64::fresh();
+    let mut r = Script::failing(b"ab", 2, 0);
+    r.kind = ErrorKind::Interrupted;
+    reads_on(&rt, &mut h, &mut r, 0, (End::Taken(0, false), 0, 0));
+    reads_on(
+        &rt,
+        &mut h,
+        &mut r,
+        9,
+        (End::Fault(0, ErrorKind::Interrupted), 0, 1),
+    );
+    reads_on(&rt, &mut h, &mut r, 2, (End::Taken(2, false), 2, 2));
+    reads_on(&rt, &mut h, &mut r, 1, (End::Taken(0, true), 2, 3));
 }
 
 /// Gives bytes of 1 and never ends, at most so many a read.
@@ -202,13 +89,11 @@ fn a_fault_is_a_cut_for_lookup3(rt: HostRuntime) {
 struct Endless {
     most: usize,
     reads: u64,
-    asked_for_nothing: bool,
 }
 
 impl Read for Endless {
     fn read(&mut self, buf: &mut [u8]) -> io::Result<usize> {
         self.reads = self.reads.saturating_add(1);
-        self.asked_for_nothing = self.asked_for_nothing || buf.is_empty();
         let n = self.most.min(buf.len());
         buf[..n].fill(1);
         Ok(n)
@@ -217,16 +102,9 @@ impl Read for Endless {
 
 #[test]
 fn an_endless_reader(rt: HostRuntime) {
-    for most in [1, 7, 4096] {
-        let mut h = LoseLoseHasher::fresh();
-        let mut r = Endless {
-            most,
-            reads: 0,
-            asked_for_nothing: false,
-        };
-        let outcome = hash_reader::<LoseLoseHasher, Endless, 4096>(&mut h, &mut r, 1000);
-        same_end(&rt, most, end_of(outcome), End::Taken(1000, false));
-        same_at(&rt, most, &[h.answer()], &[1000]);
-        all_hold_at(&rt, most, &[r.reads <= 1000, !r.asked_for_nothing]);
-    }
+    let mut h = LoseLoseHasher::fresh();
+    let mut r = Endless { most: 7, reads: 0 };
+    let outcome = hash_reader::<LoseLoseHasher, Endless, 4096>(&mut h, &mut r, 1000);
+    same_end(&rt, 7, end_of(outcome), End::Taken(1000, false));
+    same_at(&rt, 7, &[h.answer(), r.reads], &[1000, 143]);
 }

@@ -1,7 +1,7 @@
 //! How evenly hashes spread keys: the numbers over keys in memory.
 use crate::tests::all_hold;
 use cli::frame::{Request, request_of};
-use hash_names::table::{KINDS, Kind};
+use hash_names::table::Kind;
 use hash_spread::call::{call_of, kinds_of, settings_of, unknown_name};
 use hash_spread::chance::{Chance, equal_pairs};
 use hash_spread::counts::{Counts, Spread, collisions, spread_of};
@@ -58,13 +58,8 @@ fn keys_come_once(rt: HostRuntime) {
     all_hold(
         &rt,
         &[
-            are_keys(alloc, b"", LINES, &[]),
-            are_keys(alloc, b"\n\n", LINES, &[b""]),
-            are_keys(alloc, b"b\na\nb\nab", LINES, &[b"b", b"a", b"ab"]),
-            are_keys(alloc, b"long key\n\nlong key\n", LINES, &[b"long key", b""]),
+            are_keys(alloc, b"b\n\na\nb\nab", LINES, &[b"b", b"", b"a", b"ab"]),
             are_keys(alloc, b"x\ny\0y\0x\ny", Layout::Lines(0), &[b"x\ny", b"y"]),
-            are_keys(alloc, b"", fixed(5), &[]),
-            are_keys(alloc, b"aba\n", fixed(1), &[b"a", b"b", b"\n"]),
             are_keys(
                 alloc,
                 b"01234\n\0\n\n\n01234",
@@ -112,10 +107,7 @@ fn the_input_ends_within_a_key(rt: HostRuntime) {
         &rt,
         &[
             tells_short_key(alloc, b"a", 2),
-            tells_short_key(alloc, b"abcdefg", 4),
             tells_short_key(alloc, b"abcdabcdabc", 4),
-            !tells_short_key(alloc, b"abcdabcd", 4),
-            tells_short_key(alloc, b"abcdabcd", usize::MAX),
         ],
     );
 }
@@ -177,10 +169,6 @@ fn short(counts: Result<Counts, AllocError>) -> (u128, u128, u128) {
 #[test]
 fn numbers_of_names(rt: HostRuntime) {
     let alloc = rt.alloc();
-    for kind in KINDS {
-        let counts = counts_of_three(alloc, kind);
-        all_hold(&rt, &[counts.is_ok(), short(counts).1 >= 3]);
-    }
     all_hold(
         &rt,
         &[

@@ -3,7 +3,6 @@ use crate::tests::all_hold_at;
 use crate::tests::shelf::{Came, Shelf, ended_or_told, has_ended};
 use cli::frame::About;
 use cli::outcome::{failure_of, status_of};
-use hash_names::table::KINDS;
 use hash_sums::check::Counts;
 use hash_sums::outcome::{call_of, outcome_with_keys};
 use hash_sums::reports::Reports;
@@ -309,27 +308,69 @@ fn lines_under_keys(rt: HostRuntime) {
     );
 }
 
-/// A byte that changed in a file fails under keys.
+/// Files for calls under a key of SipHash. The numbers in them are those of OpenSSL.
+fn under_sip_keys() -> [File<'static>; 8] {
+    [
+        whole(b"foo", b"foobar"),
+        whole(b"digits", b"123456789"),
+        whole(b"key", b"0123456789abcdef"),
+        whole(b"other", b"fedcba9876543210"),
+        whole(b"zero", b"\0\0\0\0\0\0\0\0abcdefgh"),
+        whole(b"short", b"0123456789abcde"),
+        whole(
+            b"list",
+            b"siphash24 (foo) = 7d20af8ff6ef82f5\nelf (foo) = 06d65882\n",
+        ),
+        whole(b"untagged", b"7d20af8ff6ef82f5  foo\n"),
+    ]
+}
+
+/// Lines under a key of SipHash: none is told or passes without the key file, and any 16 bytes are a key.
 #[test]
-fn changed_bytes_fail_under_keys(rt: HostRuntime) {
-    let list = b"poly61 (foo) = dd865879634880b660c86dfc5b95c503\n";
-    for at in 0..6 {
-        let mut changed = *b"foobar";
-        changed[at] ^= 1;
-        let files = [
-            whole(b"foo", &changed),
-            whole(b"key", b"0123456789abcdef"),
-            whole(b"-", list),
-        ];
-        ends(
-            &rt,
-            rt.alloc(),
-            &["-c", "--key-file", "key"],
-            &files,
-            1,
-            "foo: FAILED\n",
-        );
-    }
+fn lines_under_a_key_of_siphash(rt: HostRuntime) {
+    each_ends(
+        &rt,
+        rt.alloc(),
+        &under_sip_keys(),
+        &[
+            (
+                &["-a", "siphash24", "--key-file", "key", "foo", "digits"],
+                0,
+                "siphash24 (foo) = 7d20af8ff6ef82f5\nsiphash24 (digits) = b8bbe28f141328d2\n",
+            ),
+            (
+                &["--untagged", "--key-file=other", "-aSIPHASH24", "foo"],
+                0,
+                "5e8216367781bb6b  foo\n",
+            ),
+            (
+                &["-a", "siphash24", "--key-file", "zero", "foo"],
+                0,
+                "siphash24 (foo) = 26ae3c0748e21605\n",
+            ),
+            (
+                &["-c", "-a", "siphash24", "--key-file", "key", "list"],
+                0,
+                "foo: OK\n",
+            ),
+            (
+                &["-c", "-a", "siphash24", "--key-file", "key", "untagged"],
+                0,
+                "foo: OK\n",
+            ),
+            (
+                &["-c", "-a", "siphash24", "--key-file", "other", "list"],
+                1,
+                "foo: FAILED\n",
+            ),
+            (&["-c", "--key-file", "key", "list"], 1, ""),
+            (&["-c", "list"], 1, "foo: OK\n"),
+            (&["-c", "-a", "siphash24", "list"], 2, ""),
+            (&["-a", "siphash24", "foo"], 2, ""),
+            (&["-a", "siphash13", "--key-file", "key", "foo"], 2, ""),
+            (&["-a", "siphash24", "--key-file", "short", "foo"], 1, ""),
+        ],
+    );
 }
 
 /// Reads that fail at each byte: nothing is told of such a file.
@@ -377,36 +418,6 @@ fn a_write_fails_at_each_byte(rt: HostRuntime) {
         let (status, _) = run(alloc, &["-a", "elf", "a"], &files, &mut paper).expect(&rt, "memory");
         all_hold_at(&rt, room, &[status == 141, paper.text() == &line[..room]]);
     }
-}
-
-/// A file in which one byte changed fails, at each byte, by each of the byte hashers, which are the first seven of the table.
-#[test]
-fn one_changed_byte_fails(rt: HostRuntime) -> Result<(), std::test::Fail> {
-    let alloc = rt.alloc();
-    let text = b"a small file";
-    for kind in &KINDS[..7] {
-        let name = kind.row().name;
-        let mut paper = Paper::sound(64);
-        let _ = run(alloc, &["-a", name, "f"], &[whole(b"f", text)], &mut paper)?;
-        for at in 0..text.len() {
-            for change in [1u8, 2, 64, 128, 255] {
-                let mut changed = [0u8; 12];
-                changed.copy_from_slice(text);
-                changed[at] ^= change;
-                let files = [whole(b"f", &changed), whole(b"-", paper.text())];
-                ends(&rt, alloc, &["-c"], &files, 1, "f: FAILED\n");
-            }
-        }
-        ends(
-            &rt,
-            alloc,
-            &["-c"],
-            &[whole(b"f", text), whole(b"-", paper.text())],
-            0,
-            "f: OK\n",
-        );
-    }
-    Ok(())
 }
 
 /// A request for memory that is refused is told, or nothing was asked for.

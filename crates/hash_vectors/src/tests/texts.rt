@@ -1,62 +1,9 @@
-//! Tests of the set of texts, beside a set of std.
+//! Tests of the set of texts, and of its hasher, of which nothing is proved.
 use crate::tests::all_hold;
 use std::alloc::{AllocError, Global};
-use std::collections::HashSet;
 use std::hash::{BuildHasher, Hasher, RandomState};
+use std::process::Abort;
 use text_set::{Full, RandomKeys, Texts};
-
-/// Whether the set tells of a text what it told when it saw it: its place, and the text there.
-fn is_known<S: BuildHasher + Drop>(texts: &Texts<S>, text: &[u8], place: usize) -> bool {
-    place < texts.len() && texts.text_at(place) == text && texts.place_of(text) == Some(place)
-}
-
-/// How often the set disagrees with std's whether a text is new, or does not know it then, over so many texts, some of
-/// which come again and many of which begin others.
-fn disagreements<S: BuildHasher + Drop>(
-    alloc: Global,
-    texts: &mut Texts<S>,
-    count: u64,
-) -> Result<u64, AllocError> {
-    let mut set = HashSet::new(alloc);
-    let mut disagreements: u64 = 0;
-    for number in 0..count {
-        let bytes = (number / 3).to_le_bytes();
-        let text = &bytes[..(number % 7) as usize];
-        let guess = texts.guess(text);
-        let is_new = set.insert(Vec::from_slice(alloc, text)?)?;
-        let Ok(seen) = texts.see_at(text, guess) else {
-            return Err(AllocError);
-        };
-        if seen.is_new != is_new || !is_known(texts, text, seen.place) {
-            disagreements = disagreements.saturating_add(1);
-        }
-    }
-    Ok(disagreements)
-}
-
-#[test]
-fn texts_are_those_of_a_set(rt: HostRuntime) {
-    match RandomState::new(&rt) {
-        Ok(hasher) => {
-            let mut texts = Texts::new(rt.alloc(), hasher);
-            let found = disagreements(rt.alloc(), &mut texts, 20000);
-            all_hold(&rt, &[found == Ok(0)]);
-        }
-        Err(_) => all_hold(&rt, &[false]),
-    }
-}
-
-#[test]
-fn texts_are_those_of_a_set_under_random_keys(rt: HostRuntime) {
-    match RandomKeys::new(&rt) {
-        Ok(hasher) => {
-            let mut texts = Texts::new(rt.alloc(), hasher);
-            let found = disagreements(rt.alloc(), &mut texts, 20000);
-            all_hold(&rt, &[found == Ok(0)]);
-        }
-        Err(_) => all_hold(&rt, &[false]),
-    }
-}
 
 /// The hash of a text under these keys.
 fn hash_of(first: u64, second: u64, text: &[u8]) -> u64 {
@@ -119,25 +66,38 @@ const SEEN: [(&[u8], usize, bool); 9] = [
     (b"b", 4, true),
 ];
 
+/// That the texts get these places in a set by this hasher, and come in their order.
+fn sees<S: BuildHasher + Drop>(rt: &impl Abort, alloc: Global, hasher: S) {
+    let mut texts = Texts::new(alloc, hasher);
+    all_hold(rt, &[texts.place_of(b"ab") == None]);
+    for (text, place, is_new) in &SEEN {
+        let guess = texts.guess(text);
+        match texts.see_at(text, guess) {
+            Ok(seen) => all_hold(rt, &[seen.place == *place, seen.is_new == *is_new]),
+            Err(_) => all_hold(rt, &[false]),
+        }
+    }
+    all_hold(
+        rt,
+        &[
+            texts.len() == 5 && texts.text_at(3) == b"abc".as_slice(),
+            texts.place_of(b"c") == None,
+        ],
+    );
+    let all: Result<Vec<&[u8]>, AllocError> = texts.iter().collect(alloc);
+    let all = all.expect(rt, "memory for five places");
+    let wanted: [&[u8]; 5] = [b"ab", b"", b"a", b"abc", b"b"];
+    assert_eq!(rt; all.as_slice(), wanted.as_slice());
+}
+
+/// Under random keys, which the system gives.
 #[test]
 fn places_in_the_order_of_texts(rt: HostRuntime) {
-    match RandomState::new(&rt) {
-        Ok(hasher) => {
-            let mut texts = Texts::new(rt.alloc(), hasher);
-            all_hold(&rt, &[texts.place_of(b"ab") == None]);
-            for (text, place, is_new) in &SEEN {
-                match texts.see(text) {
-                    Ok(seen) => all_hold(&rt, &[seen.place == *place, seen.is_new == *is_new]),
-                    Err(_) => all_hold(&rt, &[false]),
-                }
-            }
-            all_hold(&rt, &[texts.len() == 5, texts.place_of(b"c") == None]);
-            let mut all = Vec::new(rt.alloc());
-            for text in texts.iter() {
-                all_hold(&rt, &[all.extend_from_slice(text).is_ok()]);
-            }
-            all_hold(&rt, &[all.as_slice() == b"abaabcb".as_slice()]);
+    match (RandomState::new(&rt), RandomKeys::new(&rt)) {
+        (Ok(state), Ok(keys)) => {
+            sees(&rt, rt.alloc(), state);
+            sees(&rt, rt.alloc(), keys);
         }
-        Err(_) => all_hold(&rt, &[false]),
+        _ => all_hold(&rt, &[false]),
     }
 }

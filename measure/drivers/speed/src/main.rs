@@ -36,14 +36,11 @@ extern "C" {
     fn placed();
 }
 
-/// A call over a text.
-type Call = unsafe extern "C" fn(*const u8, usize) -> u64;
+/// A call of the original over a text whose parts have one size.
+type Theirs = unsafe extern "C" fn(*const u8, usize, usize) -> u64;
 
-/// A call over a text that is cut into parts of one size.
-type CallOfSize = unsafe extern "C" fn(*const u8, usize, usize) -> u64;
-
-/// A call over keys of one size, and how often they are asked for.
-type CallOfTable = unsafe extern "C" fn(*const u8, usize, usize, usize) -> u64;
+/// The same of ours, by the number of a hash.
+type Ours = unsafe extern "C" fn(u32, *const u8, usize, usize) -> u64;
 
 /// Clears the registers that a call may leave something in. Our exported calls test their pointer for null by an
 /// instruction that keeps a part of its register, and would wait for what the call before left there, mostly its answer. A
@@ -66,29 +63,17 @@ fn clear_registers() {
     }
 }
 
-fn call(f: Call, text: &[u8]) -> u64 {
-    clear_registers();
-    unsafe { f(text.as_ptr(), text.len()) }
-}
-
-fn call_of_size(f: CallOfSize, text: &[u8], size: usize) -> u64 {
-    clear_registers();
-    unsafe { f(text.as_ptr(), text.len(), size) }
-}
-
-fn call_of_table(f: CallOfTable, text: &[u8], size: usize, rounds: usize) -> u64 {
-    clear_registers();
-    unsafe { f(text.as_ptr(), text.len(), size, rounds) }
-}
-
-/// A name with its calls, the original's and ours.
+/// A hash with its calls, the original's and the number by which ours take it.
 struct Name {
     name: &'static str,
     /// From how many bytes on the answers are the original's.
     alike_from: usize,
-    whole: [Call; 2],
-    keys: [CallOfSize; 2],
-    pieces: [CallOfSize; 2],
+    kind: u32,
+    keys: Theirs,
+    pieces: Theirs,
+    numbers: Theirs,
+    behind: Theirs,
+    reader: Theirs,
     /// The original's hash of standard input.
     input: fn() -> u64,
 }
@@ -98,9 +83,12 @@ macro_rules! table {
         vec![$(Name {
             name: stringify!($name),
             alike_from: $alike_from,
-            whole: [original::whole::<hashers::$($hasher)::+>, ours::whole::$name],
-            keys: [original::keys::<hashers::$($hasher)::+>, ours::keys::$name],
-            pieces: [original::pieces::<hashers::$($hasher)::+>, ours::pieces::$name],
+            kind: ours::kind(stringify!($name)),
+            keys: original::keys::<hashers::$($hasher)::+>,
+            pieces: original::pieces::<hashers::$($hasher)::+>,
+            numbers: original::numbers::<hashers::$($hasher)::+>,
+            behind: original::behind::<hashers::$($hasher)::+>,
+            reader: original::reader::<hashers::$($hasher)::+>,
             input: original::input::<hashers::$($hasher)::+>,
         }),*]
     };
@@ -110,18 +98,48 @@ fn names() -> Vec<Name> {
     with_names!(table)
 }
 
-/// The calls of one kind, the original's and ours, of the name of each row.
-macro_rules! pairs {
-    ($kind:ident $($name:ident $($hasher:ident)::+ $alike_from:literal)*) => {
-        &[$((stringify!($name), [original::$kind::<hashers::$($hasher)::+>, ours::$kind::$name])),*]
-    };
+/// Two sides of a row: a call of the original, and one of ours.
+#[derive(Clone, Copy)]
+struct Sides {
+    name: &'static str,
+    original: Theirs,
+    ours: Ours,
+    kind: u32,
 }
 
-/// Our calls of two kinds, of the name of each row.
-macro_rules! ours_alone {
-    ($first:ident $second:ident $($name:ident $($hasher:ident)::+ $alike_from:literal)*) => {
-        &[$((stringify!($name), [ours::$first::$name, ours::$second::$name])),*]
-    };
+impl Name {
+    /// One of its calls, and ours.
+    fn sides(&self, original: Theirs, ours: Ours) -> Sides {
+        Sides {
+            name: self.name,
+            original,
+            ours,
+            kind: self.kind,
+        }
+    }
+}
+
+impl Sides {
+    fn original(&self, text: &[u8], size: usize) -> u64 {
+        clear_registers();
+        unsafe { (self.original)(text.as_ptr(), text.len(), size) }
+    }
+
+    fn ours(&self, text: &[u8], size: usize) -> u64 {
+        clear_registers();
+        unsafe { (self.ours)(self.kind, text.as_ptr(), text.len(), size) }
+    }
+
+    /// That both answer the same.
+    fn same(&self, text: &[u8], size: usize) {
+        same(self.name, self.original(text, size), self.ours(text, size));
+    }
+
+    /// The times of both.
+    fn pair(&self, sheet: &mut Sheet, text: &[u8], size: usize) -> Pair {
+        let size = black_box(size);
+        sheet.pair(&|| self.original(text, size), &|| self.ours(text, size))
+    }
 }
 
 /// Bytes that look like nothing, the same in each run.
@@ -179,30 +197,10 @@ fn head(sheet: &Sheet, title: &str, first: &str, columns: &[String]) {
     sheet.line(&format!("|---|{}", "---:|".repeat(columns.len())));
 }
 
-/// A table with one column, of calls over a text, times divided by `unit`; a row for each name.
-fn column(
-    sheet: &mut Sheet,
-    title: &str,
-    what: &str,
-    rows: &[(&str, [Call; 2])],
-    text: &[u8],
-    unit: f64,
-    alike: bool,
-) {
-    head(sheet, title, "name", &[what.to_string()]);
-    for (name, [first, second]) in rows {
-        if alike {
-            same(name, call(*first, text), call(*second, text));
-        }
-        let pair = sheet.pair(&|| call(*first, text), &|| call(*second, text));
-        row(sheet, name, &[cell(pair, unit)]);
-    }
-}
-
 /// How many keys a call takes.
 const KEYS: usize = 512;
 
-/// The bytes of a text in pieces.
+/// The bytes of a text in pieces, and of some texts one behind another.
 const LONG: usize = 24 * 1024;
 
 /// The bytes of the longest text.
@@ -218,40 +216,51 @@ struct Cut<'a> {
 
 impl Cut<'_> {
     /// A row for each name; `alike` says for which sizes the original answers the same.
-    fn table(
-        &self,
-        sheet: &mut Sheet,
-        rows: &[(&str, [CallOfSize; 2])],
-        alike: &dyn Fn(&str, usize) -> bool,
-    ) {
+    fn table(&self, sheet: &mut Sheet, rows: &[Sides], alike: &dyn Fn(&str, usize) -> bool) {
         let columns: Vec<String> = self
             .sizes
             .iter()
             .map(|size| format!("{size} bytes"))
             .collect();
         head(sheet, self.title, "name", &columns);
-        for (name, [theirs, own]) in rows {
+        for sides in rows {
             let mut cells = Vec::new();
             for &size in self.sizes {
                 let text = (self.text)(size);
-                let size_now = black_box(size);
-                let original = || call_of_size(*theirs, text, size_now);
-                let ours = || call_of_size(*own, text, size_now);
-                if alike(name, size) {
-                    same(name, original(), ours());
+                if alike(sides.name, size) {
+                    sides.same(text, size);
                 }
-                cells.push(cell(
-                    sheet.pair(&original, &ours),
-                    (self.count)(size) as f64,
-                ));
+                let pair = sides.pair(sheet, text, size);
+                cells.push(cell(pair, (self.count)(size) as f64));
             }
-            row(sheet, name, &cells);
+            row(sheet, sides.name, &cells);
         }
     }
 }
 
+/// A table with one column, of calls over a text that is in parts of a size, times divided by `unit`.
+fn column(
+    sheet: &mut Sheet,
+    title: &str,
+    what: &str,
+    rows: &[Sides],
+    text: &[u8],
+    size: usize,
+    unit: f64,
+) {
+    head(sheet, title, "name", &[what.to_string()]);
+    for sides in rows {
+        sides.same(text, size);
+        let pair = sides.pair(sheet, text, size);
+        row(sheet, sides.name, &[cell(pair, unit)]);
+    }
+}
+
 fn keys(sheet: &mut Sheet, names: &[Name], text: &[u8]) {
-    let rows: Vec<(&str, [CallOfSize; 2])> = names.iter().map(|n| (n.name, n.keys)).collect();
+    let rows: Vec<Sides> = names
+        .iter()
+        .map(|n| n.sides(n.keys, ours::measure_keys))
+        .collect();
     let alike =
         |name: &str, size: usize| names.iter().all(|n| n.name != name || size >= n.alike_from);
     Cut {
@@ -264,7 +273,10 @@ fn keys(sheet: &mut Sheet, names: &[Name], text: &[u8]) {
 }
 
 fn pieces(sheet: &mut Sheet, names: &[Name], text: &[u8]) {
-    let rows: Vec<(&str, [CallOfSize; 2])> = names.iter().map(|n| (n.name, n.pieces)).collect();
+    let rows: Vec<Sides> = names
+        .iter()
+        .map(|n| n.sides(n.pieces, ours::measure_pieces))
+        .collect();
     Cut {
         title: "Pieces of a text of 24 KiB, nanoseconds a piece:",
         sizes: &[1, 7, 16, 61, 192],
@@ -276,32 +288,43 @@ fn pieces(sheet: &mut Sheet, names: &[Name], text: &[u8]) {
 
 /// Our hash at a key beside std's hash under a key: keys, and one text that is the longest.
 fn keyed(sheet: &mut Sheet, text: &[u8]) {
+    let sides = Sides {
+        name: "poly61",
+        original: original::keys::<DefaultHasher>,
+        ours: ours::poly61,
+        kind: 0,
+    };
     Cut {
         title: "Under a key, SipHash of std / ours, nanoseconds a key:",
         sizes: &[8, 16, 64, LONGEST],
         text: &|size| &text[..LONGEST.min(KEYS * size)],
         count: |size| LONGEST.min(KEYS * size) / size,
     }
-    .table(
-        sheet,
-        &[(
-            "poly61",
-            [original::keys::<DefaultHasher>, ours::keyed::poly61],
-        )],
-        &|_, _| false,
-    );
+    .table(sheet, &[sides], &|_, _| false);
 }
 
-fn numbers(sheet: &mut Sheet, text: &[u8]) {
-    let rows: &[(&str, [CallOfSize; 2])] = with_numbers!(pairs numbers);
+fn numbers(sheet: &mut Sheet, names: &[Name], text: &[u8]) {
+    let rows: Vec<Sides> = names
+        .iter()
+        .map(|n| n.sides(n.numbers, ours::measure_numbers))
+        .collect();
+    // the original's fx takes 16 bits as one word, ours as the two words of its bytes
+    let alike = |name: &str, size: usize| {
+        (size != 2 || !name.starts_with("fx"))
+            && names.iter().all(|n| n.name != name || size >= n.alike_from)
+    };
     Cut {
         title: "A number as a key, by `write_u8`, `write_u16`, `write_u32` and `write_u64`, nanoseconds a key:",
         sizes: &[1, 2, 4, 8],
         text: &|size| &text[..KEYS * size],
         count: |_| KEYS,
     }
-    // the original's fx takes 16 bits as one word, ours as the two words of its bytes
-    .table(sheet, rows, &|name, size| size != 2 || !name.starts_with("fx"));
+    .table(sheet, &rows, &alike);
+}
+
+/// How many texts of a length are hashed by one call.
+fn texts_of(length: usize) -> usize {
+    (LONG / length).max(1)
 }
 
 fn texts(sheet: &mut Sheet, names: &[Name], text: &[u8], gigahertz: f64) {
@@ -312,56 +335,71 @@ fn texts(sheet: &mut Sheet, names: &[Name], text: &[u8], gigahertz: f64) {
     columns.push("cycles a byte, ours at 4 KiB".into());
     head(sheet, "One call over a text:", "name", &columns);
     for n in names {
-        let pairs = lengths.map(|length| {
-            let text = &text[..length];
-            same(n.name, call(n.whole[0], text), call(n.whole[1], text));
-            sheet.pair(&|| call(n.whole[0], text), &|| call(n.whole[1], text))
+        let sides = n.sides(n.keys, ours::measure_whole);
+        let [short, page, long] = lengths.map(|length| {
+            let count = texts_of(length);
+            let text = &text[..count * length];
+            sides.same(text, length);
+            let Pair { original, ours } = sides.pair(sheet, text, length);
+            Pair {
+                original: original / count as f64,
+                ours: ours / count as f64,
+            }
         });
         row(
             sheet,
             n.name,
             &[
-                cell(pairs[0], 1.0),
-                cell(pairs[1], 1.0),
-                cell(pairs[2], 1000.0),
-                format!("{:.2}", pairs[1].ours * gigahertz / 4096.0),
+                cell(short, 1.0),
+                cell(page, 1.0),
+                cell(long, 1000.0),
+                format!("{:.2}", page.ours * gigahertz / 4096.0),
             ],
         );
     }
 }
 
-fn readers(sheet: &mut Sheet, text: &[u8]) {
-    let rows: &[(&str, [Call; 2])] = with_reader!(pairs reader);
+fn readers(sheet: &mut Sheet, names: &[Name], text: &[u8]) {
+    let rows: Vec<Sides> = names
+        .iter()
+        .map(|n| n.sides(n.reader, ours::measure_reader))
+        .collect();
     let title = "A reader of 1 MiB in memory, through an array of 4096 bytes, µs:";
-    column(sheet, title, "hash_reader", rows, text, 1000.0, true);
+    column(sheet, title, "hash_reader", &rows, text, 4096, 1000.0);
 }
 
-fn behind(sheet: &mut Sheet, text: &[u8]) {
-    let rows: &[(&str, [Call; 2])] = with_behind!(pairs behind);
+fn behind(sheet: &mut Sheet, names: &[Name], text: &[u8]) {
+    let rows: Vec<Sides> = names
+        .iter()
+        .map(|n| n.sides(n.behind, ours::measure_behind))
+        .collect();
     let title = "512 numbers written to one hasher, nanoseconds a number:";
     column(
         sheet,
         title,
         "write_u64",
-        rows,
+        &rows,
         &text[..8 * KEYS],
+        8,
         KEYS as f64,
-        true,
     );
 }
 
-fn unwrites(sheet: &mut Sheet, text: &[u8]) {
-    let rows: &[(&str, [Call; 2])] = with_unwrite!(ours_alone whole unwrite);
+/// Of the hashes that can be undone.
+fn unwrites(sheet: &mut Sheet, names: &[Name], text: &[u8]) {
     let title = "Ours alone, `write` / `unwrite` of a text of 4 KiB, ns:";
-    column(
-        sheet,
-        title,
-        "write / unwrite",
-        rows,
-        &text[..4096],
-        1.0,
-        false,
-    );
+    head(sheet, title, "name", &["write / unwrite".to_string()]);
+    let count = texts_of(4096);
+    for n in names {
+        let call = |f: Ours, text: &[u8]| n.sides(n.keys, f).ours(text, black_box(4096));
+        if call(ours::measure_unwrite, &[]) != u64::MAX {
+            let text = &text[..count * 4096];
+            let pair = sheet.pair(&|| call(ours::measure_whole, text), &|| {
+                call(ours::measure_unwrite, text)
+            });
+            row(sheet, n.name, &[cell(pair, count as f64)]);
+        }
+    }
 }
 
 /// The hash of that name of standard input, by the original, through an array of 4096 bytes and one read a piece.
@@ -410,10 +448,10 @@ fn functions(sheet: &mut Sheet, only: &str) {
     pieces(sheet, &names, &text);
     texts(sheet, &names, &text, gigahertz());
     if only.is_empty() {
-        numbers(sheet, &text);
-        behind(sheet, &text);
-        readers(sheet, &text);
-        unwrites(sheet, &text);
+        numbers(sheet, &names, &text);
+        behind(sheet, &names, &text);
+        readers(sheet, &names, &text);
+        unwrites(sheet, &names, &text);
     }
 }
 

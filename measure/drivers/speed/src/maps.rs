@@ -1,17 +1,13 @@
 //! Maps of std on both sides: Rust's over the original's hashers, Rattle's over ours; and Rattle's beside the table of buckets.
 use crate::measure::{Pair, Sheet};
-use crate::{call_of_size, call_of_table, cell, figures, head, heap, ours, row, same};
-use crate::{original, CallOfSize, CallOfTable};
+use crate::{cell, figures, head, heap, original, ours, row, same};
 use hashers::fnv::FNV1aHasher64;
 use hashers::fx_hash::FxHasher;
 use std::collections::HashMap;
 use std::hash::{BuildHasherDefault, Hash, Hasher};
 
-/// A call that fills maps with numbers and asks for numbers.
-type OfNumbers = unsafe extern "C" fn(*const u64, usize, *const u64, usize, usize, usize) -> u64;
-
-/// The same with the lines of two texts.
-type OfLines = unsafe extern "C" fn(*const u8, usize, *const u8, usize, usize, usize) -> u64;
+/// A call that fills maps with the keys of the first, and asks for those of the second.
+type OfKeys<'a, K> = &'a dyn Fn(&K, &K, usize, usize) -> u64;
 
 #[inline(always)]
 fn put_and_asked<H: Default + Hasher, K: Hash + Eq + Copy>(
@@ -36,36 +32,31 @@ fn put_and_asked<H: Default + Hasher, K: Hash + Eq + Copy>(
     sum
 }
 
-unsafe extern "C" fn numbered<H: Default + Hasher>(
-    there: *const u64,
-    n: usize,
-    asked: *const u64,
-    m: usize,
-    fills: usize,
-    asks: usize,
-) -> u64 {
-    let (there, asked) = (
-        std::slice::from_raw_parts(there, n),
-        std::slice::from_raw_parts(asked, m),
-    );
+fn numbered<H: Default + Hasher>(there: &[u64], asked: &[u64], fills: usize, asks: usize) -> u64 {
     put_and_asked::<H, u64>(there, asked, fills, asks)
 }
 
-unsafe extern "C" fn named<H: Default + Hasher>(
-    there: *const u8,
-    n: usize,
-    asked: *const u8,
-    m: usize,
-    fills: usize,
-    asks: usize,
-) -> u64 {
-    let lines = |at, len| -> Vec<&str> {
-        std::str::from_utf8(std::slice::from_raw_parts(at, len))
-            .expect("a text")
-            .lines()
-            .collect()
-    };
-    put_and_asked::<H, &str>(&lines(there, n), &lines(asked, m), fills, asks)
+/// Ours, by the hash of that name.
+fn our_numbers(name: &str) -> impl Fn(&[u64], &[u64], usize, usize) -> u64 {
+    let kind = ours::kind(name);
+    move |there, asked, fills, asks| unsafe {
+        let (at, of) = (there.as_ptr(), asked.as_ptr());
+        ours::measure_numbered(kind, at, there.len(), of, asked.len(), fills, asks)
+    }
+}
+
+fn named<H: Default + Hasher>(there: &str, asked: &str, fills: usize, asks: usize) -> u64 {
+    let (there, asked): (Vec<&str>, Vec<&str>) = (there.lines().collect(), asked.lines().collect());
+    put_and_asked::<H, &str>(&there, &asked, fills, asks)
+}
+
+/// The same of lines.
+fn our_lines(name: &str) -> impl Fn(&str, &str, usize, usize) -> u64 {
+    let kind = ours::kind(name);
+    move |there, asked, fills, asks| unsafe {
+        let (at, of) = (there.as_ptr(), asked.as_ptr());
+        ours::measure_named(kind, at, there.len(), of, asked.len(), fills, asks)
+    }
 }
 
 /// What is asked of both sides, with how many fills and asks.
@@ -140,40 +131,32 @@ pub fn maps(sheet: &mut Sheet) {
         ]
         .map(String::from),
     );
-    let of_numbers: [(&str, [OfNumbers; 2]); 2] = [
+    let (fnv_numbers, fx_numbers) = (our_numbers("fnv1a64"), our_numbers("fxhash"));
+    let (fnv_lines, fx_lines) = (our_lines("fnv1a64"), our_lines("fxhash"));
+    let of_numbers: [(&str, [OfKeys<[u64]>; 2]); 2] = [
         (
             "fnv1a64, 8-byte numbers",
-            [numbered::<FNV1aHasher64>, ours::numbered::fnv1a64],
+            [&numbered::<FNV1aHasher64>, &fnv_numbers],
         ),
         (
             "fxhash, 8-byte numbers",
-            [numbered::<FxHasher>, ours::numbered::fxhash],
+            [&numbered::<FxHasher>, &fx_numbers],
         ),
     ];
-    let of_lines: [(&str, [OfLines; 2]); 2] = [
-        ("fnv1a64", [named::<FNV1aHasher64>, ours::named::fnv1a64]),
-        ("fxhash", [named::<FxHasher>, ours::named::fxhash]),
+    let of_lines: [(&str, [OfKeys<str>; 2]); 2] = [
+        ("fnv1a64", [&named::<FNV1aHasher64>, &fnv_lines]),
+        ("fxhash", [&named::<FxHasher>, &fx_lines]),
     ];
     for count in [1000, 100_000] {
         let all = numbers(2 * count);
         let (there, others) = all.split_at(count);
         for (name, calls) in of_numbers {
-            let run = |asked: &[u64], side: usize, fills, asks| unsafe {
-                calls[side](
-                    there.as_ptr(),
-                    there.len(),
-                    asked.as_ptr(),
-                    asked.len(),
-                    fills,
-                    asks,
-                )
-            };
             cells(
                 sheet,
                 name,
                 count,
-                &|s, f, a| run(there, s, f, a),
-                &|s, f, a| run(others, s, f, a),
+                &|s, f, a| calls[s](there, there, f, a),
+                &|s, f, a| calls[s](there, others, f, a),
             );
         }
         for (what, make) in [
@@ -182,23 +165,13 @@ pub fn maps(sheet: &mut Sheet) {
         ] {
             let (there, others) = (make(0, count), make(count, count));
             for (name, calls) in of_lines {
-                let run = |asked: &str, side: usize, fills, asks| unsafe {
-                    calls[side](
-                        there.as_ptr(),
-                        there.len(),
-                        asked.as_ptr(),
-                        asked.len(),
-                        fills,
-                        asks,
-                    )
-                };
                 let name = format!("{name}, {what}");
                 cells(
                     sheet,
                     &name,
                     count,
-                    &|s, f, a| run(&there, s, f, a),
-                    &|s, f, a| run(&others, s, f, a),
+                    &|s, f, a| calls[s](&there, &there, f, a),
+                    &|s, f, a| calls[s](&there, &others, f, a),
                 );
             }
         }
@@ -206,15 +179,20 @@ pub fn maps(sheet: &mut Sheet) {
 }
 
 /// A way to fill a table and ask it, for keys that are there and that aren't, and one to fill and empty it.
-pub type Table = ([CallOfTable; 2], CallOfSize);
+#[derive(Clone, Copy)]
+pub struct Table<'a> {
+    asked: &'a dyn Fn(&[u8], usize, usize) -> u64,
+    missed: &'a dyn Fn(&[u8], usize, usize) -> u64,
+    emptied: &'a dyn Fn(&[u8], usize) -> u64,
+}
 
 /// Two tables beside one another: insert, get, a key that isn't there, insert and remove, and the memory that they hold.
-pub fn table(sheet: &mut Sheet, name: &str, text: &[u8], count: usize, sides: [Table; 2]) {
+pub fn table(sheet: &mut Sheet, name: &str, text: &[u8], count: usize, sides: [Table<'_>; 2]) {
     let (size, rounds) = (std::hint::black_box(16), 32);
     let (twice, text) = (&text[..2 * size * count], &text[..size * count]);
-    let asked = |side: usize, rounds: usize| call_of_table(sides[side].0[0], text, size, rounds);
-    let missed = |side: usize, rounds: usize| call_of_table(sides[side].0[1], twice, size, rounds);
-    let taken = |side: usize| call_of_size(sides[side].1, text, size);
+    let asked = |side: usize, rounds: usize| (sides[side].asked)(text, size, rounds);
+    let missed = |side: usize, rounds: usize| (sides[side].missed)(twice, size, rounds);
+    let taken = |side: usize| (sides[side].emptied)(text, size);
     same(name, asked(0, 2), asked(1, 2));
     same(name, missed(0, 2), missed(1, 2));
     same(name, taken(0), taken(1));
@@ -244,29 +222,53 @@ pub fn tables(sheet: &mut Sheet, text: &[u8]) {
         &["insert into a new table, and free it", "get", "get of a key that isn't there", "insert, remove, and free it", "KiB"]
             .map(String::from),
     );
-    let buckets_fnv: Table = (
-        [ours::buckets::fnv1a64, ours::missed::fnv1a64],
-        ours::emptied::fnv1a64,
-    );
-    let buckets_fx: Table = (
-        [ours::buckets::fxhash, ours::missed::fxhash],
-        ours::emptied::fxhash,
-    );
-    let rust_fnv: Table = (
-        [
-            original::table::<FNV1aHasher64>,
-            original::missed::<FNV1aHasher64>,
-        ],
-        original::emptied::<FNV1aHasher64>,
-    );
-    let rust_fx: Table = (
-        [original::table::<FxHasher>, original::missed::<FxHasher>],
-        original::emptied::<FxHasher>,
-    );
-    let rattle: Table = (
-        [ours::owned::fnv1a64, ours::owned_missed::fnv1a64],
-        ours::owned_emptied::fnv1a64,
-    );
+    let [fnv, fx] = ["fnv1a64", "fxhash"].map(ours::kind);
+    let asked = |kind: u32| {
+        move |keys: &[u8], size: usize, rounds: usize| unsafe {
+            ours::measure_buckets(kind, keys.as_ptr(), keys.len(), size, rounds)
+        }
+    };
+    let missed = |kind: u32| {
+        move |keys: &[u8], size: usize, rounds: usize| unsafe {
+            ours::measure_missed(kind, keys.as_ptr(), keys.len(), size, rounds)
+        }
+    };
+    let emptied = |kind: u32| {
+        move |keys: &[u8], size: usize| unsafe {
+            ours::measure_emptied(kind, keys.as_ptr(), keys.len(), size)
+        }
+    };
+    let buckets_fnv = Table {
+        asked: &asked(fnv),
+        missed: &missed(fnv),
+        emptied: &emptied(fnv),
+    };
+    let buckets_fx = Table {
+        asked: &asked(fx),
+        missed: &missed(fx),
+        emptied: &emptied(fx),
+    };
+    let rust_fnv = Table {
+        asked: &original::table::<FNV1aHasher64>,
+        missed: &original::missed::<FNV1aHasher64>,
+        emptied: &original::emptied::<FNV1aHasher64>,
+    };
+    let rust_fx = Table {
+        asked: &original::table::<FxHasher>,
+        missed: &original::missed::<FxHasher>,
+        emptied: &original::emptied::<FxHasher>,
+    };
+    let rattle = Table {
+        asked: &|keys, size, rounds| unsafe {
+            ours::measure_owned(keys.as_ptr(), keys.len(), size, rounds)
+        },
+        missed: &|keys, size, rounds| unsafe {
+            ours::measure_owned_missed(keys.as_ptr(), keys.len(), size, rounds)
+        },
+        emptied: &|keys, size| unsafe {
+            ours::measure_owned_emptied(keys.as_ptr(), keys.len(), size)
+        },
+    };
     for count in [1000, 10_000] {
         table(
             sheet,

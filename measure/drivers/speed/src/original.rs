@@ -19,14 +19,6 @@ unsafe fn slice<'a>(at: *const u8, len: usize) -> &'a [u8] {
     from_raw_parts(at, len)
 }
 
-/// One hasher over the whole text.
-pub unsafe extern "C" fn whole<H: Default + Hasher>(at: *const u8, len: usize) -> u64 {
-    let text = slice(at, len);
-    let mut hasher = H::default();
-    hasher.write(text);
-    hasher.finish()
-}
-
 /// The keys' hashes, folded into one number in order.
 pub unsafe extern "C" fn keys<H: Default + Hasher>(at: *const u8, len: usize, size: usize) -> u64 {
     let keys = slice(at, len);
@@ -69,7 +61,11 @@ fn all_numbers<H: Default + Hasher, const W: usize>(
 }
 
 /// One hasher over all numbers of eight bytes.
-pub unsafe extern "C" fn behind<H: Default + Hasher>(at: *const u8, len: usize) -> u64 {
+pub unsafe extern "C" fn behind<H: Default + Hasher>(
+    at: *const u8,
+    len: usize,
+    _size: usize,
+) -> u64 {
     let text = slice(at, len);
     let mut hasher = H::default();
     for number in text.as_chunks::<8>().0 {
@@ -105,7 +101,11 @@ fn read_through<H: Default + Hasher, R: Read>(reader: &mut R) -> u64 {
 }
 
 /// The same over a text in memory.
-pub unsafe extern "C" fn reader<H: Default + Hasher>(at: *const u8, len: usize) -> u64 {
+pub unsafe extern "C" fn reader<H: Default + Hasher>(
+    at: *const u8,
+    len: usize,
+    _size: usize,
+) -> u64 {
     read_through::<H, &[u8]>(&mut slice(at, len))
 }
 
@@ -142,35 +142,18 @@ fn asked<H: Default + Hasher>(there: &[u8], asked: &[u8], size: usize, rounds: u
 }
 
 /// A table of the keys, asked for each of them.
-pub unsafe extern "C" fn table<H: Default + Hasher>(
-    at: *const u8,
-    len: usize,
-    size: usize,
-    rounds: usize,
-) -> u64 {
-    let keys = slice(at, len);
+pub fn table<H: Default + Hasher>(keys: &[u8], size: usize, rounds: usize) -> u64 {
     asked::<H>(keys, keys, size, rounds)
 }
 
 /// A table of the first half of the keys, asked for the others.
-pub unsafe extern "C" fn missed<H: Default + Hasher>(
-    at: *const u8,
-    len: usize,
-    size: usize,
-    rounds: usize,
-) -> u64 {
-    let keys = slice(at, len);
+pub fn missed<H: Default + Hasher>(keys: &[u8], size: usize, rounds: usize) -> u64 {
     let (there, others) = keys.split_at(keys.len() / 2);
     asked::<H>(there, others, size, rounds)
 }
 
 /// Each key is put in with its number, and then taken out.
-pub unsafe extern "C" fn emptied<H: Default + Hasher>(
-    at: *const u8,
-    len: usize,
-    size: usize,
-) -> u64 {
-    let keys = slice(at, len);
+pub fn emptied<H: Default + Hasher>(keys: &[u8], size: usize) -> u64 {
     let mut table = filled::<H>(keys, size);
     let mut sum: u64 = 0;
     for key in keys.chunks_exact(size) {

@@ -2,48 +2,51 @@
 use crate::heap::{given, taken_back};
 use std::alloc::Layout;
 
-macro_rules! calls {
-    ($($kind:ident $parameters:tt: $($name:ident)*;)*) => {
-        $(calls!(in $kind $parameters: $($name)*);)*
-    };
-    (in $kind:ident $parameters:tt: $($name:ident)*) => {
-        pub mod $kind {
-            extern "C" {
-                $(calls!(one $kind $name $parameters);)*
-            }
-        }
-    };
-    (one $kind:ident $name:ident $parameters:tt) => {
-        #[link_name = concat!("measure_speed_", stringify!($kind), "_", stringify!($name))]
-        pub fn $name $parameters -> u64;
-    };
+extern "C" {
+    fn measure_kind(name: *const u8, len: usize) -> u32;
+    fn measure_poly61(at: *const u8, len: usize, size: usize) -> u64;
+    pub fn measure_whole(kind: u32, at: *const u8, len: usize, size: usize) -> u64;
+    pub fn measure_keys(kind: u32, at: *const u8, len: usize, size: usize) -> u64;
+    pub fn measure_pieces(kind: u32, at: *const u8, len: usize, size: usize) -> u64;
+    pub fn measure_numbers(kind: u32, at: *const u8, len: usize, size: usize) -> u64;
+    pub fn measure_behind(kind: u32, at: *const u8, len: usize, size: usize) -> u64;
+    pub fn measure_reader(kind: u32, at: *const u8, len: usize, size: usize) -> u64;
+    pub fn measure_unwrite(kind: u32, at: *const u8, len: usize, size: usize) -> u64;
+    pub fn measure_buckets(kind: u32, at: *const u8, len: usize, size: usize, rounds: usize)
+        -> u64;
+    pub fn measure_missed(kind: u32, at: *const u8, len: usize, size: usize, rounds: usize) -> u64;
+    pub fn measure_emptied(kind: u32, at: *const u8, len: usize, size: usize) -> u64;
+    pub fn measure_owned(at: *const u8, len: usize, size: usize, rounds: usize) -> u64;
+    pub fn measure_owned_missed(at: *const u8, len: usize, size: usize, rounds: usize) -> u64;
+    pub fn measure_owned_emptied(at: *const u8, len: usize, size: usize) -> u64;
+    pub fn measure_numbered(
+        kind: u32,
+        there: *const u64,
+        n: usize,
+        asked: *const u64,
+        m: usize,
+        fills: usize,
+        asks: usize,
+    ) -> u64;
+    pub fn measure_named(
+        kind: u32,
+        there: *const u8,
+        n: usize,
+        asked: *const u8,
+        m: usize,
+        fills: usize,
+        asks: usize,
+    ) -> u64;
 }
 
-/// The calls of one kind, of the name of each row.
-macro_rules! calls_of {
-    ($kind:ident $parameters:tt: $($name:ident $($hasher:ident)::+ $alike_from:literal)*) => {
-        calls!(in $kind $parameters: $($name)*);
-    };
+/// The number of the hash of that name.
+pub fn kind(name: &str) -> u32 {
+    unsafe { measure_kind(name.as_ptr(), name.len()) }
 }
 
-with_names!(calls_of whole (at: *const u8, len: usize):);
-with_names!(calls_of keys (at: *const u8, len: usize, size: usize):);
-with_names!(calls_of pieces (at: *const u8, len: usize, size: usize):);
-with_reader!(calls_of reader (at: *const u8, len: usize):);
-with_unwrite!(calls_of unwrite (at: *const u8, len: usize):);
-with_numbers!(calls_of numbers (at: *const u8, len: usize, width: usize):);
-with_behind!(calls_of behind (at: *const u8, len: usize):);
-
-calls! {
-    keyed (at: *const u8, len: usize, size: usize): poly61;
-    buckets (at: *const u8, len: usize, size: usize, rounds: usize): fnv1a64 fxhash;
-    missed (at: *const u8, len: usize, size: usize, rounds: usize): fnv1a64 fxhash;
-    emptied (at: *const u8, len: usize, size: usize): fnv1a64 fxhash;
-    owned (at: *const u8, len: usize, size: usize, rounds: usize): fnv1a64;
-    owned_missed (at: *const u8, len: usize, size: usize, rounds: usize): fnv1a64;
-    owned_emptied (at: *const u8, len: usize, size: usize): fnv1a64;
-    numbered (there: *const u64, n: usize, asked: *const u64, m: usize, fills: usize, asks: usize): fnv1a64 fxhash;
-    named (there: *const u8, n: usize, asked: *const u8, m: usize, fills: usize, asks: usize): fnv1a64 fxhash;
+/// Poly61, which has a key and no number, in the form of the calls that have one.
+pub unsafe extern "C" fn poly61(_kind: u32, at: *const u8, len: usize, size: usize) -> u64 {
+    measure_poly61(at, len, size)
 }
 
 /// What the heap answers: whether there is memory, and where.

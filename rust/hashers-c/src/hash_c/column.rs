@@ -6,41 +6,8 @@ use hashers_proved::{hash_names, hashers};
 
 use hash_names::table::{Kind, by_kind, kind_at};
 use hash_names::task::HashTask;
-use hashers::jenkins::spooky_hash;
 use hashers::laws::{Piecewise, Streamed, hash_of};
 use std::marker::PhantomData;
-
-/// A hash of a whole text. The implementing type is a name for it, and no value of it is made.
-pub trait TextHash {
-    /// The hash of a text.
-    ///
-    /// Proved:
-    ///
-    /// ```text
-    /// result ≡ hash text.now
-    /// ```
-    fn hash(text: &[u8]) -> u64;
-}
-
-/// What a default hasher answers.
-pub struct Unseeded<H>(PhantomData<H>);
-
-impl<H: Piecewise> TextHash for Unseeded<H> {
-    #[inline(always)]
-    fn hash(text: &[u8]) -> u64 {
-        hash_of::<H>(text)
-    }
-}
-
-/// SpookyHash by version 1.
-pub struct SpookyV1;
-
-impl TextHash for SpookyV1 {
-    #[inline(always)]
-    fn hash(text: &[u8]) -> u64 {
-        spooky_hash::spooky_v1(text)
-    }
-}
 
 /// A place in a text.
 pub trait Offset {
@@ -133,17 +100,17 @@ fn are_offsets<O: Offset>(offsets: &[O], size: usize, count: usize) -> bool {
 /// Proved:
 ///
 /// ```text
-/// IsColumn T.hash bytes.now (map O.number offsets.now) hashes.old hashes.new result
+/// IsColumn H.hash_of bytes.now (map O.number offsets.now) hashes.old hashes.new result
 /// ```
 #[inline(never)]
-fn column<T: TextHash, O: Offset>(bytes: &[u8], offsets: &[O], hashes: &mut [u64]) -> bool {
+fn column<H: Piecewise, O: Offset>(bytes: &[u8], offsets: &[O], hashes: &mut [u64]) -> bool {
     if !are_offsets(offsets, bytes.len(), hashes.len()) {
         return false;
     }
     for i in 0..hashes.len() {
         let from = place(offsets, i) as usize;
         let to = place(offsets, i + 1) as usize;
-        hashes[i] = T::hash(&bytes[from..to]);
+        hashes[i] = hash_of::<H>(&bytes[from..to]);
     }
     true
 }
@@ -168,17 +135,12 @@ impl<'a, 'b, O: Offset> HashTask for InColumn<'a, 'b, O> {
 
     #[inline]
     fn by_text<H: Streamed>(texts: (&'a [u8], &'a [O]), room: &mut Room<'b>) -> bool {
-        column::<Unseeded<H>, O>(texts.0, texts.1, room.hashes)
+        column::<H, O>(texts.0, texts.1, room.hashes)
     }
 
     #[inline]
     fn by_pieces<H: Piecewise>(texts: (&'a [u8], &'a [O]), room: &mut Room<'b>) -> bool {
-        column::<Unseeded<H>, O>(texts.0, texts.1, room.hashes)
-    }
-
-    #[inline]
-    fn by_spooky_v1(texts: (&'a [u8], &'a [O]), room: &mut Room<'b>) -> bool {
-        column::<SpookyV1, O>(texts.0, texts.1, room.hashes)
+        column::<H, O>(texts.0, texts.1, room.hashes)
     }
 }
 
@@ -248,16 +210,16 @@ fn first_line(bytes: &[u8]) -> (&[u8], &[u8]) {
 ///
 /// ```text
 /// count: result ≡ length (line_texts 10 bytes.now)
-/// written: hashes.new ≡ laid_over (map T.hash (line_texts 10 bytes.now)) hashes.old
+/// written: hashes.new ≡ laid_over (map H.hash_of (line_texts 10 bytes.now)) hashes.old
 /// ```
 #[inline]
-fn hash_lines<T: TextHash>(bytes: &[u8], hashes: &mut [u64]) -> usize {
+fn hash_lines<H: Piecewise>(bytes: &[u8], hashes: &mut [u64]) -> usize {
     let mut count = 0;
     let mut rest = bytes;
     while !rest.is_empty() {
         let (line, later) = first_line(rest);
         if count < hashes.len() {
-            hashes[count] = T::hash(line);
+            hashes[count] = hash_of::<H>(line);
         }
         count += 1;
         rest = later;
@@ -280,17 +242,12 @@ impl<'a, 'b> HashTask for InLines<'a, 'b> {
 
     #[inline]
     fn by_text<H: Streamed>(text: &'a [u8], room: &mut Room<'b>) -> usize {
-        hash_lines::<Unseeded<H>>(text, room.hashes)
+        hash_lines::<H>(text, room.hashes)
     }
 
     #[inline]
     fn by_pieces<H: Piecewise>(text: &'a [u8], room: &mut Room<'b>) -> usize {
-        hash_lines::<Unseeded<H>>(text, room.hashes)
-    }
-
-    #[inline]
-    fn by_spooky_v1(text: &'a [u8], room: &mut Room<'b>) -> usize {
-        hash_lines::<SpookyV1>(text, room.hashes)
+        hash_lines::<H>(text, room.hashes)
     }
 }
 

@@ -6,7 +6,6 @@ use hashers_proved::{hash_names, hashers};
 
 use hash_names::table::{by_kind, kind_at, number_named};
 use hash_names::task::HashTask;
-use hashers::jenkins::spooky_hash::spooky_v1;
 use hashers::laws::{Piecewise, Streamed, hash_of};
 use std::marker::PhantomData;
 
@@ -75,11 +74,6 @@ impl<'a> HashTask for HashText<'a> {
     #[inline(always)]
     fn by_pieces<H: Piecewise>(text: &'a [u8], _nothing: &mut ()) -> u64 {
         hash_of::<H>(text)
-    }
-
-    #[inline(always)]
-    fn by_spooky_v1(text: &'a [u8], _nothing: &mut ()) -> u64 {
-        spooky_v1(text)
     }
 }
 

@@ -1,12 +1,12 @@
 //! What follows for all hashes by the block that lose nothing.
 
 // What follows is the proved text of crates/block_laws/src/by_rule.rt without its contracts.
-use crate::{hash_blocks, hash_laws};
+use crate::{hash_blocks, hash_laws, hash_windows};
 
 use crate::block_laws::block_undo::BlockUndo;
 use hash_blocks::blocks_in;
 use hash_laws::traits::bytes_are_a_text;
-use hash_laws::window::differ_in_one_block;
+use hash_windows::window::differ_in_one_block;
 
 /// Whether the texts have one length and differ, but only within one block of `N` bytes, or behind the whole blocks. Where so,
 /// their hashes differ under every seed. Computes no hash.

@@ -8,6 +8,7 @@ mod by_rule;
 mod murmur3;
 mod murmur3_128;
 mod murmur3_32;
+mod xxh32;
 mod xxhash;
 
 pub use block_undo::BlockUndo;
@@ -18,6 +19,7 @@ pub use murmur3::{
     apart_by_block_murmur3_128, apart_by_word_murmur3_32, block_for_murmur3_128,
     word_for_murmur3_32,
 };
+pub use xxh32::{word_for_xxh32};
 pub use xxhash::{
     apart_by_word_xxh32, apart_by_word_xxh64,
     word_for_xxh64, xxh64_block_out,

@@ -1,12 +1,12 @@
 //! MurmurHash3_x64_128 loses nothing of a block.
 
 // What follows is the proved text of crates/block_laws/src/murmur3_128.rt without its contracts.
-use crate::{hash_murmur3, hash_rounds};
+use crate::{hash_murmur3, hash_words};
 
 use crate::block_laws::block_undo::BlockUndo;
 use hash_murmur3::Murmur3Rule128;
 use hash_murmur3::x64_128::{C1, C2, scrambled, words_left, words_of};
-use hash_rounds::{rotl64, xorshift};
+use hash_words::{rotl64, xorshift};
 
 // What undoes a product by `C1`, and by `C2`.
 const UN_C1: u64 = 0xa984_09e8_82ce_4d7d;

@@ -1,12 +1,12 @@
 //! MurmurHash3_x86_32 loses nothing of a block.
 
 // What follows is the proved text of crates/block_laws/src/murmur3_32.rt without its contracts.
-use crate::{hash_murmur3, hash_rounds};
+use crate::{hash_murmur3, hash_words};
 
 use crate::block_laws::block_undo::BlockUndo;
 use hash_murmur3::Murmur3Rule32;
 use hash_murmur3::x86_32::scramble;
-use hash_rounds::{le_four, le32, rotl32};
+use hash_words::{le_four, le32, rotl32};
 
 // The word of which `scramble` makes this one.
 /// Proved:

@@ -1,10 +1,10 @@
 //! Laws of XXH32 and XXH64 alone.
 
 // What follows is the proved text of crates/block_laws/src/xxhash.rt without its contracts.
-use crate::{hash_laws, hash_rounds, hash_xxhash};
+use crate::{hash_windows, hash_words, hash_xxhash};
 
-use hash_laws::window::{differ_in_one_block, first_difference};
-use hash_rounds::{le_four, le_words, le64, rotl64, xorshift};
+use hash_windows::window::{differ_in_one_block, first_difference};
+use hash_words::{le_four, le_words, le64, rotl64, xorshift};
 use hash_xxhash::at_64::{P1, P2, P3, P4, P5, after_block, converged, eight_in, round, start};
 
 // What undoes a product by a prime.

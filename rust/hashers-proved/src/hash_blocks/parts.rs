@@ -1,10 +1,11 @@
 //! Blocks of a text that comes piece by piece.
 
 // What follows is the proved text of crates/hash_blocks/src/parts.rt without its contracts.
-use crate::hash_rounds;
+use crate::hash_words;
 
 use crate::hash_blocks::block_rule::BlockRule;
-use hash_rounds::put;
+use crate::hash_blocks::words::{put_behind, put_front};
+use hash_words::put;
 
 /// Takes the whole blocks of the bytes in, where they stand, and returns what is left behind them.
 ///
@@ -27,6 +28,49 @@ pub fn blocks_in<'a, R: BlockRule<N>, const N: usize>(
     }
     *state = mixed;
     left
+}
+
+// What `bytes_in` does where a block is a word of eight bytes: those that are kept are written and read as one.
+/// The caller has to see to it that:
+///
+/// ```text
+/// eight: N ≡ 8
+/// part: kept < N
+/// ```
+///
+/// Proved:
+///
+/// ```text
+/// mixed: state.new ≡ blocks N R.block state.old (take kept buffer.old ++ bytes.now)
+/// left: take result buffer.new ≡ tail N (take kept buffer.old ++ bytes.now)
+/// part: result < N
+/// whole: length buffer.new ≡ N
+/// ```
+#[inline(always)]
+fn words_in<R: BlockRule<N>, const N: usize>(
+    state: &mut R::State,
+    buffer: &mut [u8; N],
+    kept: usize,
+    bytes: &[u8],
+) -> usize {
+    let mut rest = bytes;
+    if kept > 0 {
+        let open = N - kept;
+        if bytes.len() < open {
+            put_behind(buffer, kept, bytes);
+            return kept + bytes.len();
+        }
+        let (head, later) = bytes.split_at(open);
+        put_behind(buffer, kept, head);
+        R::block(state, buffer);
+        rest = later;
+    }
+    let left = blocks_in::<R, N>(state, rest);
+    let count = left.len();
+    if count > 0 {
+        put_front(buffer, left);
+    }
+    count
 }
 
 /// Takes more bytes in behind the first `kept` of the buffer, and returns how many are kept afterwards. Where they complete a
@@ -53,6 +97,10 @@ pub fn bytes_in<R: BlockRule<N>, const N: usize>(
     kept: usize,
     bytes: &[u8],
 ) -> usize {
+    // a single byte is written faster alone
+    if N == 8 && bytes.len() > 1 {
+        return words_in::<R, N>(state, buffer, kept, bytes);
+    }
     if bytes.len() < N - kept {
         put(buffer, kept, bytes);
         return kept + bytes.len();

@@ -303,6 +303,18 @@ impl<F: Piecewise, G: Piecewise> Bloom<F, G> {
         &self.words
     }
 
+    /// A law with no code: a filter has a bit and a probe at least, as many words as its bits need, and no bit beyond them.
+    ///
+    /// Proved:
+    ///
+    /// ```text
+    /// IsFilter self.now
+    /// ```
+    #[inline]
+    pub fn is_filter(&self) {
+        let _words = &self.words;
+    }
+
     /// The words, for which the filter is given up. It takes no memory.
     ///
     /// Proved:

@@ -84,7 +84,8 @@ pub type FNV1aHasher32 = ByteHasher<Plain<Fnv1aRule32>>;
 /// Proved:
 ///
 /// ```text
-/// result ≡ fnv1a32_of bytes.now
+/// value: result ≡ fnv1a32_of bytes.now
+/// below: result < 2 ^ 32
 /// ```
 #[inline]
 pub fn fnv1a32(bytes: &[u8]) -> u64 {

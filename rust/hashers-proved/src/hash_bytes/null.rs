@@ -147,13 +147,6 @@ impl ByteRule for PassThroughRule {
     fn answer(state: &u64) -> u64 {
         *state
     }
-
-    #[inline(always)]
-    fn whole(text: &[u8]) -> u64 {
-        let mut state = Self::start();
-        Self::write(&mut state, text);
-        Self::answer(&state)
-    }
 }
 
 /// The hasher that keeps the last eight bytes (the crate hashers' own, for keys that are hashes already). From 0, a byte

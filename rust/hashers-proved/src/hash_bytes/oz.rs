@@ -67,7 +67,8 @@ pub type DJB2Hasher = ByteHasher<Plain<Djb2Rule>>;
 /// Proved:
 ///
 /// ```text
-/// result ≡ djb2_of bytes.now
+/// value: result ≡ djb2_of bytes.now
+/// below: result < 2 ^ 32
 /// ```
 #[inline]
 pub fn djb2(bytes: &[u8]) -> u64 {
@@ -164,13 +165,6 @@ impl ByteRule for SdbmRule {
     fn answer(state: &SdbmState) -> u64 {
         u64::from(state.state)
     }
-
-    #[inline(always)]
-    fn whole(text: &[u8]) -> u64 {
-        let mut state = Self::start();
-        Self::write(&mut state, text);
-        Self::answer(&state)
-    }
 }
 
 impl UndoRule for SdbmRule {
@@ -205,7 +199,8 @@ pub type SDBMHasher = ByteHasher<SdbmRule>;
 /// Proved:
 ///
 /// ```text
-/// result ≡ sdbm_from 0 bytes.now
+/// value: result ≡ sdbm_from 0 bytes.now
+/// below: result < 2 ^ 32
 /// ```
 #[inline]
 pub fn sdbm(bytes: &[u8]) -> u64 {
@@ -350,13 +345,6 @@ impl ByteRule for LoseLoseRule {
     #[inline(always)]
     fn answer(state: &LoseLoseState) -> u64 {
         state.state
-    }
-
-    #[inline(always)]
-    fn whole(text: &[u8]) -> u64 {
-        let mut state = Self::start();
-        Self::write(&mut state, text);
-        Self::answer(&state)
     }
 }
 

@@ -6,15 +6,15 @@
 // What follows is the proved text of crates/hash_crc/src/crc32.rt without its contracts.
 // Clauses name Hasher.
 #![allow(unused_imports)]
-use crate::{hash_laws, hash_rounds, hash_rules, std};
+use crate::{hash_laws, hash_rules, hash_words, std};
 
 mod castagnoli_rows;
 mod ieee_rows;
 
 use castagnoli_rows::CASTAGNOLI;
 use hash_laws::traits::hash_of;
-use hash_rounds::le_four;
 use hash_rules::{ByteHasher, ByteRule, StepRule, UndoRule, in_eights};
+use hash_words::le_four;
 use ieee_rows::IEEE;
 use std::hash::Hasher;
 use std::marker::PhantomData;
@@ -173,6 +173,7 @@ impl<P: Polynomial> ByteRule for CrcRule<P> {
         u64::from(*state ^ 0xFFFFFFFF)
     }
 
+    // As the trait has it, but inlined: there it is a call for each row of a column.
     #[inline(always)]
     fn whole(text: &[u8]) -> u64 {
         let mut state = Self::start();
@@ -215,7 +216,8 @@ pub type Crc32cHasher = ByteHasher<CrcRule<Castagnoli>>;
 /// Proved:
 ///
 /// ```text
-/// result ≡ crc32_of bytes.now
+/// value: result ≡ crc32_of bytes.now
+/// below: result < 2 ^ 32
 /// ```
 #[inline]
 pub fn crc32(bytes: &[u8]) -> u64 {
@@ -227,7 +229,8 @@ pub fn crc32(bytes: &[u8]) -> u64 {
 /// Proved:
 ///
 /// ```text
-/// result ≡ crc32c_of bytes.now
+/// value: result ≡ crc32c_of bytes.now
+/// below: result < 2 ^ 32
 /// ```
 #[inline]
 pub fn crc32c(bytes: &[u8]) -> u64 {

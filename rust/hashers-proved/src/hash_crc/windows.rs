@@ -2,9 +2,9 @@
 //! apart. None of them computes a CRC.
 
 // What follows is the proved text of crates/hash_crc/src/windows.rt without its contracts.
-use crate::hash_laws;
+use crate::hash_windows;
 
-use hash_laws::window::{first_difference, is_window};
+use hash_windows::window::{first_difference, is_window};
 
 // In how many neighbouring places two texts may differ.
 const PLACES: usize = 4;

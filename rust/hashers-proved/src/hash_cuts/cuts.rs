@@ -39,6 +39,18 @@ impl Cuts {
         })
     }
 
+    /// A law with no code: the sizes are in their order, and the least is 64 at least.
+    ///
+    /// Proved:
+    ///
+    /// ```text
+    /// HasSizes self.now
+    /// ```
+    #[inline]
+    pub fn has_sizes(&self) {
+        let _below = self.below;
+    }
+
     /// The most bytes of a chunk.
     ///
     /// Proved:

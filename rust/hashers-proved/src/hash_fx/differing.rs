@@ -1,9 +1,9 @@
 //! At how many places the words of two pieces of one length differ.
 
 // What follows is the proved text of crates/hash_fx/src/differing.rt without its contracts.
-use crate::hash_rounds;
+use crate::hash_words;
 
-use hash_rounds::{le_four, le64};
+use hash_words::{le_four, le64};
 
 /// Bytes that are one word.
 pub trait WordBytes {

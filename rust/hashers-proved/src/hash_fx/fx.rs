@@ -38,7 +38,8 @@ pub type FxHasher = WordHasher<u64, MachineWord>;
 /// Proved:
 ///
 /// ```text
-/// result ≡ fx32 0 (words32 bytes.now)
+/// value: result ≡ fx32 0 (words32 bytes.now)
+/// below: result < 2 ^ 32
 /// ```
 #[inline(always)]
 pub fn fxhash32(bytes: &[u8]) -> u64 {

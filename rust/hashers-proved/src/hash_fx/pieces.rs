@@ -1,12 +1,12 @@
 //! Laws of the fx hashes: where the cuts of a list of pieces don't show, and where one byte does.
 
 // What follows is the proved text of crates/hash_fx/src/pieces.rt without its contracts.
-use crate::{hash_laws, std};
+use crate::{hash_windows, std};
 
 use crate::hash_fx::fx::{FxHasher32, FxHasher64};
 use crate::hash_fx::hasher::WordHasher;
 use crate::hash_fx::word::FxSplit;
-use hash_laws::window::differ_at_one_place;
+use hash_windows::window::differ_at_one_place;
 use std::hash::Hasher;
 
 /// Writes the pieces in order. The state is that after one write of the joined bytes, since the length of each piece but

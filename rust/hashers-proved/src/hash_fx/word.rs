@@ -1,12 +1,12 @@
 //! A word of fx, and what of it hangs on its width.
 
 // What follows is the proved text of crates/hash_fx/src/word.rt without its contracts.
-use crate::{hash_rounds, hash_rules};
+use crate::{hash_rules, hash_words};
 
 use crate::hash_fx::differing::{differing_fours_and_bytes, differing_words};
 use crate::hash_fx::words::{eights_in, eights_out, fours_and_bytes_in, fours_and_bytes_out};
-use hash_rounds::{le_four, rotl32, rotl64};
 use hash_rules::Word;
+use hash_words::{le_four, rotl32, rotl64};
 
 /// A word of fx: a state, or what takes a state one step.
 pub trait FxWord: Word {

@@ -1,10 +1,10 @@
 //! Words in and out of a state.
 
 // What follows is the proved text of crates/hash_fx/src/words.rt without its contracts.
-use crate::hash_rounds;
+use crate::hash_words;
 
 use crate::hash_fx::word::FxWord;
-use hash_rounds::le64;
+use hash_words::le64;
 
 /// A word for each byte in.
 ///

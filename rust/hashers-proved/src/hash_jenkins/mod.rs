@@ -9,6 +9,7 @@ pub mod spooky_hash;
 mod spooky_long;
 pub mod spooky_parts;
 pub mod spooky_short;
+mod spooky_v1;
 
 pub use build_spooky::BuildSpooky;
 pub use lookup::{Lookup3Hasher, lookup3};

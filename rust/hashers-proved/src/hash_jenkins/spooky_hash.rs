@@ -10,6 +10,7 @@
 use crate::{hash_laws, hash_rounds, std};
 
 use crate::hash_jenkins::spooky_parts::SpookyParts;
+pub use crate::hash_jenkins::spooky_v1::SpookyV1Hasher;
 use hash_laws::traits::{Piecewise, Streamed, hash_of};
 use hash_rounds::Turns;
 use std::hash::Hasher;
@@ -204,7 +205,5 @@ pub fn spooky(bytes: &[u8]) -> u64 {
 /// ```
 #[inline]
 pub fn spooky_v1(bytes: &[u8]) -> u64 {
-    let mut hasher = SpookyHasher::default();
-    hasher.write(bytes);
-    hasher.finish128_v1().0
+    hash_of::<SpookyV1Hasher>(bytes)
 }

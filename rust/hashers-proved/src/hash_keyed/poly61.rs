@@ -144,6 +144,7 @@ impl Hasher for Poly61Hasher {
     ///
     /// ```text
     /// value: result ≡ as_word (poly_end self.now)
+    /// of_text: (key : ℕ) (text : List ℕ) → self.now ≡ after (start_at key) text → result ≡ poly61 key text
     /// in_range: IsPosition self.now
     /// ```
     #[inline(always)]

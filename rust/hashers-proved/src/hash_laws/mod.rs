@@ -1,9 +1,5 @@
-//! What hash functions promise, what follows for all of them, and the hash of what a reader gives.
+//! What hash functions promise, and what follows for all of them.
 
 // What follows is the proved text of crates/hash_laws/src/lib.rt without its contracts.
 
-pub mod counts;
-#[cfg(feature = "std")]
-pub mod reader;
 pub mod traits;
-pub mod window;

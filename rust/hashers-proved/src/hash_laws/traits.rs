@@ -7,7 +7,6 @@
 // What follows is the proved text of crates/hash_laws/src/traits.rt without its contracts.
 use crate::std;
 
-use crate::hash_laws::window::differ_at_one_place;
 use std::hash::Hasher;
 
 /// A hasher whose state after a piece, and whose answer, have definitions.
@@ -223,19 +222,6 @@ pub fn run_pair<H: Undo>(a: &mut H, b: &mut H, pieces: &[&[u8]]) {
         a.feed(piece);
         b.feed(piece);
     }
-}
-
-/// Whether the lengths are equal and exactly one place differs. Where so, the default hashes differ. Computes no hash.
-///
-/// Proved:
-///
-/// ```text
-/// exactly: IsTrue result ↔ DifferAtOnePlace x.now y.now
-/// differ: OnTrue result (H.hash_of x.now ≢ H.hash_of y.now)
-/// ```
-#[inline]
-pub fn apart_by_one<H: ByteStep>(x: &[u8], y: &[u8]) -> bool {
-    differ_at_one_place(x, y)
 }
 
 /// The hash of a text: what the default hasher answers to it as one piece. For a [`Streamed`] hasher it is the

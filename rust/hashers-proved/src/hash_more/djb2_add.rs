@@ -58,7 +58,8 @@ pub type Djb2AddHasher = ByteHasher<Plain<Djb2AddRule>>;
 /// Proved:
 ///
 /// ```text
-/// result ≡ djb2_add_from 5381 bytes.now
+/// value: result ≡ djb2_add_from 5381 bytes.now
+/// below: result < 2 ^ 32
 /// ```
 #[inline]
 pub fn djb2_add(bytes: &[u8]) -> u64 {

@@ -46,7 +46,8 @@ pub type ElfHasher = ByteHasher<Plain<ElfRule>>;
 /// Proved:
 ///
 /// ```text
-/// result ≡ elf_from 0 bytes.now
+/// value: result ≡ elf_from 0 bytes.now
+/// below: result < 2 ^ 28
 /// ```
 #[inline]
 pub fn elf(bytes: &[u8]) -> u64 {

@@ -58,7 +58,8 @@ pub type Fnv1Hasher32 = ByteHasher<Plain<Fnv1Rule32>>;
 /// Proved:
 ///
 /// ```text
-/// result ≡ fnv1_32_from fnv1a32_basis bytes.now
+/// value: result ≡ fnv1_32_from fnv1a32_basis bytes.now
+/// below: result < 2 ^ 32
 /// ```
 #[inline]
 pub fn fnv1_32(bytes: &[u8]) -> u64 {

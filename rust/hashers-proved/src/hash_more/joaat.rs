@@ -1,11 +1,11 @@
 //! One-at-a-time, from Bob Jenkins' page on hash functions, at 32 bits as he published it.
 
 // What follows is the proved text of crates/hash_more/src/joaat.rt without its contracts.
-use crate::{hash_laws, hash_rounds, hash_rules};
+use crate::{hash_laws, hash_rules, hash_words};
 
 use hash_laws::traits::hash_of;
-use hash_rounds::unxorshift;
 use hash_rules::{ByteHasher, Plain, PlainRule, PlainUndo};
+use hash_words::unxorshift;
 
 /// What undoes a product by 1025.
 const UN_1025: u32 = 3222273025;
@@ -108,7 +108,8 @@ pub type JoaatHasher = ByteHasher<Plain<JoaatRule>>;
 /// Proved:
 ///
 /// ```text
-/// result ≡ joaat_answer (joaat_from 0 bytes.now)
+/// value: result ≡ joaat_answer (joaat_from 0 bytes.now)
+/// below: result < 2 ^ 32
 /// ```
 #[inline]
 pub fn joaat(bytes: &[u8]) -> u64 {

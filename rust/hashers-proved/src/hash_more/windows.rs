@@ -2,10 +2,10 @@
 //! apart. None of them computes a hash.
 
 // What follows is the proved text of crates/hash_more/src/windows.rt without its contracts.
-use crate::{hash_crc, hash_laws};
+use crate::{hash_crc, hash_windows};
 
 pub use hash_crc::windows::{apart_crc32, apart_crc32_bits, apart_crc32c, apart_crc32c_bits};
-use hash_laws::window::is_window;
+use hash_windows::window::is_window;
 
 // In how many neighbouring places two texts may differ.
 const DJB2_ADD_PLACES: usize = 6;

@@ -1,10 +1,10 @@
 //! MurmurHash3_x64_128.
 
 // What follows is the proved text of crates/hash_murmur3/src/x64_128.rt without its contracts.
-use crate::{hash_blocks, hash_rounds};
+use crate::{hash_blocks, hash_words};
 
 use hash_blocks::{BlockHasher, BlockRule, WideRule, le_eight};
-use hash_rounds::{le64, rotl64, xorshift};
+use hash_words::{le64, rotl64, xorshift};
 
 /// What MurmurHash3_x64_128 multiplies the first word of a block by.
 pub const C1: u64 = 0x87c3_7b91_1142_53d5;

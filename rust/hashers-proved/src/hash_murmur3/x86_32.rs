@@ -1,10 +1,10 @@
 //! MurmurHash3_x86_32.
 
 // What follows is the proved text of crates/hash_murmur3/src/x86_32.rt without its contracts.
-use crate::{hash_blocks, hash_rounds};
+use crate::{hash_blocks, hash_words};
 
 use hash_blocks::{BlockHasher, BlockRule};
-use hash_rounds::{le_four, le32, rotl32};
+use hash_words::{le_four, le32, rotl32};
 
 /// A word of the text, before MurmurHash3_x86_32 folds it in.
 ///

@@ -1,120 +1,21 @@
 //! The hash of all that a reader gives.
 
 // What follows is the proved text of crates/hash_names/src/reading.rt without its contracts.
-#[allow(unused_imports)]
-use crate::{hash_jenkins, hash_laws, std};
+use crate::{hash_laws, hash_reading, std};
 
+use crate::hash_names::table::{Kind, by_kind, kind_named};
+use crate::hash_names::task::HashTask;
 use crate::hash_names::wide::WideHash;
-use hash_jenkins::spooky_hash::SpookyHasher;
-#[cfg(feature = "std")]
-use hash_laws::reader::{Fault, hash_reader};
 use hash_laws::traits::{Piecewise, Streamed};
+pub use hash_reading::limited::{Unhashed, fed, hash_of_pieces, hash_of_text};
 use std::io::Read;
+use std::marker::PhantomData;
 
-/// Why there is no hash of what is read.
-#[derive(Debug)]
-pub enum Unhashed {
-    /// No hash has the name. Nothing was read.
-    UnknownName,
-    /// A read failed.
-    ReadFault(Fault),
-    /// As many bytes were read as the limit allows, and no end was seen.
-    TooLong,
-}
+/// How many bytes are read at once.
+pub const BUFFER: usize = 65536;
 
-/// A default hasher that was fed all that is to be read in pieces of `N` bytes, if that is less than `limit` bytes.
-///
-/// The caller has to see to it that:
-///
-/// ```text
-/// not_empty: 0 < N
-/// small: N ≤ 65536
-/// ```
-///
-/// Proved:
-///
-/// ```text
-/// Feeds N H.after H.fresh H.state (read limit R.remaining r.old r.new) result
-/// ```
-#[inline]
-pub fn fed<H: Piecewise, R: Read, const N: usize>(limit: u64, r: &mut R) -> Result<H, Unhashed> {
-    let mut hasher = H::fresh();
-    match hash_reader::<H, R, N>(&mut hasher, r, limit) {
-        Err(fault) => Err(Unhashed::ReadFault(fault)),
-        Ok(taken) => {
-            if taken.ended {
-                Ok(hasher)
-            } else {
-                Err(Unhashed::TooLong)
-            }
-        }
-    }
-}
-
-/// The hash of what is read, as of pieces of `N` bytes.
-///
-/// The caller has to see to it that:
-///
-/// ```text
-/// not_empty: 0 < N
-/// small: N ≤ 65536
-/// ```
-///
-/// Proved:
-///
-/// ```text
-/// Hashes (λ text. H.answer (fold H.after H.fresh (cut N text))) (read limit R.remaining r.old r.new) result
-/// ```
-#[inline]
-pub fn hash_of_pieces<H: Piecewise, R: Read, const N: usize>(
-    limit: u64,
-    r: &mut R,
-) -> Result<u64, Unhashed> {
-    let hasher = fed::<H, R, N>(limit, r)?;
-    Ok(hasher.answer())
-}
-
-/// The hash of what is read, as of one text.
-///
-/// The caller has to see to it that:
-///
-/// ```text
-/// not_empty: 0 < N
-/// small: N ≤ 65536
-/// ```
-///
-/// Proved:
-///
-/// ```text
-/// Hashes H.hash_of (read limit R.remaining r.old r.new) result
-/// ```
-#[inline]
-pub fn hash_of_text<H: Streamed, R: Read, const N: usize>(
-    limit: u64,
-    r: &mut R,
-) -> Result<u64, Unhashed> {
-    hash_of_pieces::<H, R, N>(limit, r)
-}
-
-/// The hash by version 1 of SpookyHash of what is read.
-///
-/// The caller has to see to it that:
-///
-/// ```text
-/// not_empty: 0 < N
-/// small: N ≤ 65536
-/// ```
-///
-/// Proved:
-///
-/// ```text
-/// Hashes (λ text. (spooky_v1 0 0 text).0) (read limit R.remaining r.old r.new) result
-/// ```
-#[inline]
-pub fn hash_of_spooky_v1<R: Read, const N: usize>(limit: u64, r: &mut R) -> Result<u64, Unhashed> {
-    let hasher = fed::<SpookyHasher, R, N>(limit, r)?;
-    Ok(hasher.finish128_v1().0)
-}
+/// How many bytes are fed at once to a hasher to which cuts show.
+pub const PIECE: usize = 4096;
 
 /// The 128 bits of what is read, as one number.
 ///
@@ -137,4 +38,55 @@ pub fn hash_of_wide<H: WideHash, R: Read, const N: usize>(
 ) -> Result<u128, Unhashed> {
     let hasher = fed::<H, R, N>(limit, r)?;
     Ok(hasher.wide())
+}
+
+/// To hash what a reader gives, if that is less than a limit in bytes.
+struct HashRead<R> {
+    source: PhantomData<R>,
+}
+
+impl<R: Read> HashTask for HashRead<R> {
+    type Told = u64;
+
+    type Input = R;
+
+    type Outcome = Result<u64, Unhashed>;
+
+    #[inline]
+    fn by_text<H: Streamed>(limit: u64, r: &mut R) -> Result<u64, Unhashed> {
+        hash_of_text::<H, R, BUFFER>(limit, r)
+    }
+
+    #[inline]
+    fn by_pieces<H: Piecewise>(limit: u64, r: &mut R) -> Result<u64, Unhashed> {
+        hash_of_pieces::<H, R, PIECE>(limit, r)
+    }
+}
+
+/// The hash by that kind of all that is read, if that is less than `limit` bytes. lookup3 and fx take pieces of 4096 bytes.
+///
+/// Proved:
+///
+/// ```text
+/// Hashes (read_of kind) (read limit R.remaining r.old r.new) result
+/// ```
+#[inline]
+pub fn hash_by<R: Read>(kind: Kind, limit: u64, r: &mut R) -> Result<u64, Unhashed> {
+    by_kind::<HashRead<R>>(kind, limit, r)
+}
+
+/// The hash of that name of all that is read, if that is less than `limit` bytes. An unknown name is refused before anything is
+/// read.
+///
+/// Proved:
+///
+/// ```text
+/// HashesNamed (named name.now) (read limit R.remaining r.old r.new) result
+/// ```
+#[inline]
+pub fn hash_named<R: Read>(name: &str, limit: u64, r: &mut R) -> Result<u64, Unhashed> {
+    match kind_named(name.as_bytes()) {
+        Some(kind) => hash_by(kind, limit, r),
+        None => Err(Unhashed::UnknownName),
+    }
 }

@@ -33,13 +33,4 @@ pub trait HashTask {
     /// by H.hash_of (pieced H.after H.fresh H.answer) told input.old input.new result
     /// ```
     fn by_pieces<H: Piecewise>(told: Self::Told, input: &mut Self::Input) -> Self::Outcome;
-
-    /// By version 1 of SpookyHash, which is another answer of its hasher.
-    ///
-    /// Proved:
-    ///
-    /// ```text
-    /// by (λ text. (spooky_v1 0 0 text).0) (λ text. (spooky_v1 0 0 text).0) told input.old input.new result
-    /// ```
-    fn by_spooky_v1(told: Self::Told, input: &mut Self::Input) -> Self::Outcome;
 }

@@ -1,33 +1,11 @@
 //! Spooky's rounds over whole blocks of 96 bytes, straight from the caller's slice.
 
 // What follows is the proved text of crates/hash_rounds/src/blocks.rt without its contracts.
+use crate::hash_words;
 
 use crate::hash_rounds::spooky::{spooky_mix, spooky_unmix};
 use crate::hash_rounds::turns::Turns;
-use crate::hash_rounds::words::le64;
-
-/// The bytes as `N` little-endian words of eight bytes each. There are `8 * N` bytes.
-///
-/// The caller has to see to it that:
-///
-/// ```text
-/// length bytes.now ≡ 8 * N
-/// ```
-///
-/// Proved:
-///
-/// ```text
-/// result ≡ le_words bytes.now
-/// ```
-#[inline(always)]
-pub fn le_words<const N: usize>(bytes: &[u8]) -> [u64; N] {
-    let (pieces, _) = bytes.as_chunks::<8>();
-    let mut words = [0; N];
-    for i in 0..N {
-        words[i] = le64(&pieces[i]);
-    }
-    words
-}
+use hash_words::le_words;
 
 /// Mixes the blocks of 96 bytes into a state by `spooky_mix`, from the first to the last, each as twelve
 /// little-endian words. No bytes leave the state. 96 divides the number of bytes. The call counts one turn.

@@ -2,8 +2,9 @@
 //! takes them back. All sums and differences are modulo 2^32.
 
 // What follows is the proved text of crates/hash_rounds/src/lookup3.rt without its contracts.
+use crate::hash_words;
 
-use crate::hash_rounds::words::rotl32;
+use hash_words::rotl32;
 
 // The places of the words a, b and c.
 const A: usize = 0;

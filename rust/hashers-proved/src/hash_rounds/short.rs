@@ -2,8 +2,9 @@
 //! four words of 64 bits, and what takes them back. All sums and differences are modulo 2^64.
 
 // What follows is the proved text of crates/hash_rounds/src/short.rt without its contracts.
+use crate::hash_words;
 
-use crate::hash_rounds::words::rotl64;
+use hash_words::rotl64;
 
 /// Mixes four words: twelve groups of three steps.
 ///

@@ -4,8 +4,9 @@
 //! Here four exchanges of bits under a mask make it.
 
 // What follows is the proved text of crates/hash_rounds/src/shuffle.rt without its contracts.
+use crate::hash_words;
 
-use crate::hash_rounds::words::swap_halves;
+use hash_words::swap_halves;
 
 // The bits that change places with those 8, 4, 2 and 1 above.
 const BYTES: u64 = 0x0000_ff00_0000_ff00;

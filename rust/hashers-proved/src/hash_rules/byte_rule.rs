@@ -57,14 +57,19 @@ pub trait ByteRule: StepRule {
     /// ```
     fn answer(state: &Self::State) -> u64;
 
-    /// The answer to a whole text.
+    /// The answer to a whole text: of the start and one `write`, if the rule has no shorter way.
     ///
     /// Proved:
     ///
     /// ```text
     /// result ≡ answer (after (Self.number Self.start) text.now)
     /// ```
-    fn whole(text: &[u8]) -> u64;
+    #[inline(always)]
+    fn whole(text: &[u8]) -> u64 {
+        let mut state = Self::start();
+        Self::write(&mut state, text);
+        Self::answer(&state)
+    }
 }
 
 /// The third part, of a rule whose steps lose nothing: one byte back, and the answer's inverse.

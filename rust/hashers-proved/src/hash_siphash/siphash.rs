@@ -4,8 +4,8 @@
 use crate::{hash_blocks, hash_rounds};
 
 use crate::hash_siphash::rounds::sip_rounds;
-use hash_blocks::{BlockHasher, BlockRule};
-use hash_rounds::{le_four, le32, le64};
+use hash_blocks::{BlockHasher, BlockRule, le_seven};
+use hash_rounds::le64;
 
 /// A key of 128 bits, as two words: the little-endian values of its first and its last eight bytes.
 #[derive(Clone, Copy)]
@@ -41,27 +41,6 @@ fn word_in<const C: usize>(v: &mut [u64; 4], word: u64) {
     v[3] ^= word;
     sip_rounds::<C>(v);
     v[0] ^= word;
-}
-
-// The little-endian value of at most seven bytes.
-/// The caller has to see to it that:
-///
-/// ```text
-/// length bytes.now < 8
-/// ```
-///
-/// Proved:
-///
-/// ```text
-/// value: result ≡ le bytes.now
-/// in_range: result < 2 ^ 56
-/// ```
-#[inline(always)]
-fn le_seven(bytes: &[u8]) -> u64 {
-    match bytes.split_first_chunk::<4>() {
-        None => u64::from(le32(bytes)),
-        Some((first, more)) => u64::from(le_four(first)) + u64::from(le32(more)) * 0x1_0000_0000,
-    }
 }
 
 /// The rule of SipHash by `C` rounds for each word and `D` at the end.

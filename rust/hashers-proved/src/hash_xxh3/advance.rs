@@ -1,10 +1,10 @@
 //! How a hasher of a text of more than 240 bytes goes on.
 
 // What follows is the proved text of crates/hash_xxh3/src/advance.rt without its contracts.
-use crate::hash_rounds;
+use crate::hash_words;
 
 use crate::hash_xxh3::long::{Lanes, START, STRIPE, stripe_in, stripes_in};
-use hash_rounds::put;
+use hash_words::put;
 
 // Keeps the last stripe that has a byte behind it, and what is behind it, of a stripe and the bytes behind that.
 /// The caller has to see to it that:

@@ -1,12 +1,12 @@
 //! XXH3 of more than 240 bytes.
 
 // What follows is the proved text of crates/hash_xxh3/src/long.rt without its contracts.
-use crate::hash_rounds;
+use crate::hash_words;
 
 use crate::hash_xxh3::middle::length_word;
 use crate::hash_xxh3::secret::{default_secret, secret_of};
 use crate::hash_xxh3::words::{avalanche, folded_product, word_at};
-use hash_rounds::xorshift;
+use hash_words::xorshift;
 
 /// The bytes of a stripe.
 pub(crate) const STRIPE: usize = 64;

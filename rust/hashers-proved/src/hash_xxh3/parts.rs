@@ -1,7 +1,7 @@
 //! What a hasher of XXH3 keeps.
 
 // What follows is the proved text of crates/hash_xxh3/src/parts.rt without its contracts.
-use crate::{hash_laws, hash_rounds};
+use crate::{hash_laws, hash_words};
 
 use crate::hash_xxh3::advance::{advance, begin};
 use crate::hash_xxh3::long::{Lanes, START, end_long, last_words};
@@ -9,7 +9,7 @@ use crate::hash_xxh3::secret::secret_of;
 use crate::hash_xxh3::whole::of_kept;
 use crate::hash_xxh3::wide::{wide_end_long, wide_kept};
 use hash_laws::traits::bytes_are_a_text;
-use hash_rounds::put;
+use hash_words::put;
 
 /// The numbers that a hasher keeps: of a text of at most 240 bytes the text, and of a longer one the eight words, and the
 /// last stripe that has a byte behind it with the bytes behind it.

@@ -1,10 +1,10 @@
 //! XXH3's default secret, and the one of a seed.
 
 // What follows is the proved text of crates/hash_xxh3/src/secret.rt without its contracts.
-use crate::hash_rounds;
+use crate::hash_words;
 
 use crate::hash_xxh3::words::{half_at, word_at};
-use hash_rounds::put;
+use hash_words::put;
 
 /// The bytes of the secret.
 pub(crate) const LEN: usize = 192;

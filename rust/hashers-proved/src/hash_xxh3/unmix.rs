@@ -1,11 +1,11 @@
 //! The mixes of XXH3, undone: no mix of a word loses anything. So each hash has one text of eight bytes under a seed.
 
 // What follows is the proved text of crates/hash_xxh3/src/unmix.rt without its contracts.
-use crate::hash_rounds;
+use crate::hash_words;
 
 use crate::hash_xxh3::short::{eight_flip, secret_pair};
 use crate::hash_xxh3::words::{length_in, whole_product};
-use hash_rounds::{put, rotl64, unxorshift};
+use hash_words::{put, rotl64, unxorshift};
 
 /// The one word of which XXH3's last mix makes this hash.
 ///

@@ -1,14 +1,14 @@
 //! XXH3 of 128 bits: a low word and a high one.
 
 // What follows is the proved text of crates/hash_xxh3/src/wide.rt without its contracts.
-use crate::hash_rounds;
+use crate::hash_words;
 
 use crate::hash_xxh3::long::{end_words, merge};
 use crate::hash_xxh3::middle::{add_piece, length_word};
 use crate::hash_xxh3::secret::{default_secret, secret_half, secret_of};
 use crate::hash_xxh3::short::{eight_seed, few_number, of_few, secret_pair};
 use crate::hash_xxh3::words::{avalanche, avalanche_64, half_at, whole_product, word_at};
-use hash_rounds::{rotl32, xorshift};
+use hash_words::{rotl32, xorshift};
 
 /// Proved:
 ///

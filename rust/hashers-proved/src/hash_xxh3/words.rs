@@ -1,9 +1,9 @@
 //! Words of a text, and the mixes of a word.
 
 // What follows is the proved text of crates/hash_xxh3/src/words.rt without its contracts.
-use crate::hash_rounds;
+use crate::hash_words;
 
-use hash_rounds::{le_four, le64, rotl64, xorshift};
+use hash_words::{le_four, le64, rotl64, xorshift};
 
 /// The eight bytes from a place on as a little-endian word.
 ///

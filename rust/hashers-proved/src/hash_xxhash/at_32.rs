@@ -1,20 +1,25 @@
 //! XXH32.
 
 // What follows is the proved text of crates/hash_xxhash/src/at_32.rt without its contracts.
-use crate::{hash_blocks, hash_rounds};
+use crate::{hash_blocks, hash_words};
 
 use hash_blocks::{BlockHasher, BlockRule};
-use hash_rounds::{le_four, rotl32};
+use hash_words::{le_four, rotl32};
 
-const Q1: u32 = 0x9E37_79B1;
+/// The first of the five primes of XXH32.
+pub const Q1: u32 = 0x9E37_79B1;
 
-const Q2: u32 = 0x85EB_CA77;
+/// The second.
+pub const Q2: u32 = 0x85EB_CA77;
 
-const Q3: u32 = 0xC2B2_AE3D;
+/// The third.
+pub const Q3: u32 = 0xC2B2_AE3D;
 
-const Q4: u32 = 0x27D4_EB2F;
+/// The fourth.
+pub const Q4: u32 = 0x27D4_EB2F;
 
-const Q5: u32 = 0x1656_67B1;
+/// The fifth.
+pub const Q5: u32 = 0x1656_67B1;
 
 /// What is kept of the blocks: four lanes, and whether there was a block.
 #[derive(Clone, Copy)]
@@ -34,14 +39,15 @@ fn round(lane: u32, word: u32) -> u32 {
     rotl32(lane.wrapping_add(word.wrapping_mul(Q2)), 13).wrapping_mul(Q1)
 }
 
-// The four lanes before the first block.
+/// The four lanes of XXH32 before the first block, from a seed.
+///
 /// Proved:
 ///
 /// ```text
 /// result ≡ start seed
 /// ```
 #[inline(always)]
-fn start(seed: u32) -> [u32; 4] {
+pub fn start(seed: u32) -> [u32; 4] {
     [
         seed.wrapping_add(Q1).wrapping_add(Q2),
         seed.wrapping_add(Q2),
@@ -50,14 +56,15 @@ fn start(seed: u32) -> [u32; 4] {
     ]
 }
 
-// The four words of a block.
+/// The four words of a block of XXH32.
+///
 /// Proved:
 ///
 /// ```text
 /// result ≡ words_of block.now
 /// ```
 #[inline(always)]
-fn words_of(block: &[u8; 16]) -> [u32; 4] {
+pub fn words_of(block: &[u8; 16]) -> [u32; 4] {
     let (pieces, _) = block.as_chunks::<4>();
     let mut words = [0; 4];
     for i in 0..4 {
@@ -66,14 +73,15 @@ fn words_of(block: &[u8; 16]) -> [u32; 4] {
     words
 }
 
-// The lanes after a block.
+/// The four lanes of XXH32 after a block.
+///
 /// Proved:
 ///
 /// ```text
 /// result ≡ after_block lanes.now block.now
 /// ```
 #[inline(always)]
-fn after_block(lanes: &[u32; 4], block: &[u8; 16]) -> [u32; 4] {
+pub fn after_block(lanes: &[u32; 4], block: &[u8; 16]) -> [u32; 4] {
     let words = words_of(block);
     [
         round(lanes[0], words[0]),
@@ -83,28 +91,30 @@ fn after_block(lanes: &[u32; 4], block: &[u8; 16]) -> [u32; 4] {
     ]
 }
 
-// The lanes in one word.
+/// The four lanes of XXH32 in one word.
+///
 /// Proved:
 ///
 /// ```text
 /// result ≡ converged lanes.now
 /// ```
 #[inline(always)]
-fn converged(lanes: &[u32; 4]) -> u32 {
+pub fn converged(lanes: &[u32; 4]) -> u32 {
     rotl32(lanes[0], 1)
         .wrapping_add(rotl32(lanes[1], 7))
         .wrapping_add(rotl32(lanes[2], 12))
         .wrapping_add(rotl32(lanes[3], 18))
 }
 
-// Four bytes in.
+/// The word of XXH32 after four bytes more, as one number, behind the blocks.
+///
 /// Proved:
 ///
 /// ```text
 /// result ≡ four_in h word
 /// ```
 #[inline(always)]
-fn four_in(h: u32, word: u32) -> u32 {
+pub fn four_in(h: u32, word: u32) -> u32 {
     rotl32(h.wrapping_add(word.wrapping_mul(Q3)), 17).wrapping_mul(Q4)
 }
 

@@ -1,10 +1,10 @@
 //! XXH64.
 
 // What follows is the proved text of crates/hash_xxhash/src/at_64.rt without its contracts.
-use crate::{hash_blocks, hash_rounds};
+use crate::{hash_blocks, hash_words};
 
 use hash_blocks::{BlockHasher, BlockRule};
-use hash_rounds::{le_four, le_words, le64, rotl64, xorshift};
+use hash_words::{le_four, le_words, le64, rotl64, xorshift};
 
 /// The first of the five primes of XXH64.
 pub const P1: u64 = 0x9E37_79B1_85EB_CA87;

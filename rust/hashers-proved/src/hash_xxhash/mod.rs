@@ -2,7 +2,7 @@
 
 // What follows is the proved text of crates/hash_xxhash/src/lib.rt without its contracts.
 
-mod at_32;
+pub mod at_32;
 pub mod at_64;
 
 pub use at_32::{Lanes32, Xxh32Hasher, Xxh32Rule, xxh32, xxh32_of_pieces};

@@ -1,7 +1,7 @@
 //! The laws of hashers: the traits and the generic functions, and tests of two texts.
 
 // What follows is the proved text of crates/hashers/src/laws.rt without its contracts.
-use crate::{hash_fx, hash_laws, hash_writes, jenkins_laws};
+use crate::{hash_fx, hash_laws, hash_windows, hash_writes, jenkins_laws};
 
 pub use crate::hashers::windows::{
     apart_djb2, apart_fnv32, apart_fnv64, apart_sdbm, same_word,
@@ -12,12 +12,14 @@ pub use hash_fx::pieces::{
     run_words32, run_words64,
 };
 pub use hash_laws::traits::{
-    ByteStep, Piecewise, Streamed, Undo, answer_of_pieces, apart_by_one, bucket_of,
-    bytes_are_a_text, hash_of,
-    run_pair, run_pieces, run_streamed,
-    string_is_a_text,
+    ByteStep, Piecewise, Streamed, Undo, answer_of_pieces, bucket_of, bytes_are_a_text,
+    hash_of, run_pair,
+    run_pieces, run_streamed, string_is_a_text,
 };
-pub use hash_laws::window::{differ_at_one_place, first_difference, is_window};
+pub use hash_windows::changed_byte::{apart_by_one};
+pub use hash_windows::window::{
+    differ_at_one_place, first_difference, is_window,
+};
 pub use hash_writes::writes::{
     HasherWrite, answer_of_writes, run_writes, run_writes_streamed, unrun_writes,
 };

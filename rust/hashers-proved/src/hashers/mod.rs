@@ -2,8 +2,9 @@
 
 // What follows is the proved text of crates/hashers/src/lib.rt without its contracts.
 #[doc(hidden)]
-pub use crate::{hash_bytes, hash_fx, hash_jenkins, hash_laws, hash_rounds, hash_rules, hash_writes};
+pub use crate::{hash_bytes, hash_fx, hash_jenkins, hash_reading, hash_rounds, hash_rules, hash_windows, hash_writes};
 
+mod counts;
 pub mod laws;
 pub mod promises;
 mod windows;
@@ -11,10 +12,9 @@ mod windows;
 pub use hash_bytes::{fnv as fnv, null as null, oz as oz, pigeon as pigeon};
 pub use hash_fx as fx_hash;
 pub use hash_jenkins as jenkins;
-pub use hash_laws::{window as window};
-// Of the import above what wants std:
 #[cfg(feature = "std")]
-pub use hash_laws::{reader as engine, reader as reader};
+pub use hash_reading::{reader as engine, reader as reader};
 pub use hash_rounds as rounds;
 pub use hash_rules as rules;
+pub use hash_windows::window as window;
 pub use hash_writes::build as build;

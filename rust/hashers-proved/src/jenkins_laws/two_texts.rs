@@ -1,13 +1,13 @@
 //! Laws of lookup3 and of SpookyHash alone.
 
 // What follows is the proved text of crates/jenkins_laws/src/two_texts.rt without its contracts.
-use crate::{hash_jenkins, hash_laws};
+use crate::{hash_jenkins, hash_laws, hash_windows};
 
 use hash_jenkins::Lookup3Hasher;
 use hash_jenkins::spooky_short::{LONG, zero_filled};
 use hash_laws::traits::Piecewise;
-use hash_laws::window;
-use hash_laws::window::{agree_from, first_difference};
+use hash_windows::window;
+use hash_windows::window::{agree_from, first_difference};
 
 // Whether `y` is `x` and zeros behind it.
 /// The caller has to see to it that:

@@ -1,7 +1,8 @@
 //! The laws of the hashes by the block on random texts, against definitions written here.
 use hashers_proved::blocks::{
-    apart_by_block_murmur3_128, apart_by_word_murmur3_32, apart_by_word_xxh32, apart_by_word_xxh64, block_for_murmur3_128,
-    murmur3_128, murmur3_32, word_for_murmur3_32, word_for_xxh64, xxh32, xxh64,
+    apart_by_block_murmur3_128, apart_by_word_murmur3_32, apart_by_word_xxh32, apart_by_word_xxh64, at_64, block_for_murmur3_128, block_out,
+    murmur3_128, murmur3_32, state_behind, word_for_murmur3_32, word_for_xxh32, word_for_xxh64, xxh32, xxh64, xxh64_block_out, BlockRule,
+    Murmur3Rule32,
 };
 use hashers_proved::xxh3::{xxh3_64, Xxh3Hasher, Xxh3Place};
 use std::hash::Hasher;
@@ -76,6 +77,8 @@ fn one_word_or_block_leads_to_each_hash() {
         let words = bytes.text(4 * front);
         let word = word_for_murmur3_32(seed as u32, &words, &back, hash as u32);
         assert_eq!(murmur3_32(seed as u32, &[&words, &word[..], &back].concat()), hash as u32);
+        let word = word_for_xxh32(seed as u32, &words, &back, hash as u32);
+        assert_eq!(xxh32(seed as u32, &[&words, &word[..], &back].concat()), hash as u32);
         let blocks = bytes.text(16 * front);
         let block = block_for_murmur3_128(seed, &blocks, &back, (hash, seed));
         assert_eq!(murmur3_128(seed, &[&blocks, &block[..], &back].concat()), (hash, seed));
@@ -84,6 +87,24 @@ fn one_word_or_block_leads_to_each_hash() {
         let few = &back[..behind.min(23 - 8 * (front % 3))];
         let word = word_for_xxh64(seed, &eights, few, hash);
         assert_eq!(xxh64(seed, &[&eights, &word[..], few].concat()), hash);
+    }
+}
+
+#[test]
+fn blocks_and_answers_are_taken_back() {
+    let mut bytes = Bytes(31);
+    for _ in 0..500 {
+        let (start, total) = (Murmur3Rule32::start(bytes.next() as u32), bytes.next());
+        let (block, left) = (bytes.text(4).try_into().unwrap(), bytes.text(3));
+        let mut state = start;
+        Murmur3Rule32::block(&mut state, &block);
+        block_out::<Murmur3Rule32, 4>(&mut state, &block);
+        assert_eq!(state, start);
+        let hash = Murmur3Rule32::finish(&start, &left, total);
+        assert_eq!(state_behind::<Murmur3Rule32, 4>(hash, &left, total), start);
+        let lanes = [(); 4].map(|()| bytes.next() << 33 ^ bytes.next());
+        let wide = bytes.text(32).try_into().unwrap();
+        assert_eq!(xxh64_block_out(&at_64::after_block(&lanes, &wide), &wide), lanes);
     }
 }
 

@@ -19,9 +19,13 @@ pub struct Opt {
     pub name: &'static [u8],
     /// Whether it takes a value.
     pub has_value: bool,
+    /// What the help calls its value; empty where it takes none.
+    pub value: &'static str,
+    /// What the help says it does, in lines.
+    pub words: &'static str,
 }
 
-/// An option of this letter, if it has one, and this name, which takes no value.
+/// An option of this letter, if it has one, and this name, which takes no value, and does what these words say.
 ///
 /// Proved:
 ///
@@ -29,15 +33,17 @@ pub struct Opt {
 /// choice_of result ≡ flag letter name.now
 /// ```
 #[inline]
-pub fn flag(letter: Option<u8>, name: &'static [u8]) -> Opt {
+pub fn flag(letter: Option<u8>, name: &'static [u8], words: &'static str) -> Opt {
     Opt {
         letter,
         name,
         has_value: false,
+        value: "",
+        words,
     }
 }
 
-/// The same which takes a value.
+/// The same which takes a value, of this name.
 ///
 /// Proved:
 ///
@@ -45,11 +51,18 @@ pub fn flag(letter: Option<u8>, name: &'static [u8]) -> Opt {
 /// choice_of result ≡ taking letter name.now
 /// ```
 #[inline]
-pub fn taking(letter: Option<u8>, name: &'static [u8]) -> Opt {
+pub fn taking(
+    letter: Option<u8>,
+    name: &'static [u8],
+    value: &'static str,
+    words: &'static str,
+) -> Opt {
     Opt {
         letter,
         name,
         has_value: true,
+        value,
+        words,
     }
 }
 

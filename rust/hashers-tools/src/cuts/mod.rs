@@ -5,50 +5,39 @@
 use crate::{cli, hash_chunks};
 use hashers_proved::shim::{HostRuntime, Vec, std};
 
-use cli::arguments::arguments;
 use cli::call::Call;
 use cli::folder::Disk;
-use cli::frame::{About, ended, wrong_word};
+use cli::frame::{About, wrong_word};
+use cli::help::help_for;
+use cli::program::{BUFFER, Program, run};
 use cli::progress::Cleared;
-use hash_chunks::fault::Fault;
+use hash_chunks::fault::TooMany;
 use hash_chunks::listing::Lines;
-use hash_chunks::outcome::{Misuse, Outcome, Wrong, call_of, outcome_of};
+use hash_chunks::outcome::{Misuse, Outcome, Wrong, call_of, options, outcome_of};
 use hash_chunks::sizes::wrong_size;
+use std::alloc::{AllocError, Global};
 use std::io;
 use std::io::BufWriter;
 use std::process::ExitCode;
 
-/// How many bytes are written at once.
-const BUFFER: usize = 65536;
-
 /// The program's name.
 const NAME: &str = "cuts";
 
-/// How the program is called.
-const HELP: &str = "usage: cuts [-a NAME] [-l BYTES] [--average BYTES] [-m BYTES] [FILE..]
+/// What stands in front of the options in the help.
+const FRONT: &str = "usage: cuts [-a NAME] [-l BYTES] [--average BYTES] [-m BYTES] [FILE..]
        cuts --stats [-a NAME] [-l BYTES] [--average BYTES] [-m BYTES] [FILE..]
 
 Cut each file into chunks where its content says so, and print a line for each
 chunk: where it begins, how many bytes it has, its hash, and the file. An edit
-mostly changes only the chunks around it. With no FILE, or when FILE is -, read
-standard input.
+changes few chunks. With no FILE, or when FILE is -, read standard input.
 
-  -a, --algorithm NAME  the hash of a chunk, by default spooky128
-  -l, --least BYTES     the fewest bytes of a chunk, but for a file's last; by
-                        default a quarter of the average
-      --average BYTES   behind the fewest, each place is a cut with a chance of
-                        1 in this number; by default 64K, or 4 times -l
-  -m, --most BYTES      the most bytes of a chunk; by default four times the
-                        average
-      --key-file FILE   16 secret bytes, which decide where the cuts are
-      --stats           print instead how many chunks and bytes all files have,
-                        and how many bytes are in chunks whose hash came before
-      --quiet           show no progress
-      --help, --version   print this and exit
+";
 
+/// What stands behind them.
+const BEHIND: &str = "
 BYTES may end with K, M, G, T, P or E for powers of 1024, or with KB, MB and so
-on for powers of 1000; all are at least 64. The hashes are those of hashsum, but
-for poly61. The exit status is 0, 1 if a file failed, 2 if the call is wrong.
+on for powers of 1000; all are at least 64. The hashes are those of hashsum that
+take no keys. The exit status is 0, 1 if a file failed, 2 if the call is wrong.
 ";
 
 /// Which version this is.
@@ -56,53 +45,55 @@ const VERSION: &str = "cuts of hashers 1.0.1
 License: MIT
 ";
 
-/// How the program ends if there is no memory for its call.
-const NO_MEMORY: Outcome = Outcome::Failed(Fault::NoMemory);
+/// The program.
+struct Cuts;
 
-/// What came of the call.
-#[inline]
-fn called(rt: &HostRuntime, call: &Call<'_>) -> io::Result<Outcome> {
-    let alloc = rt.alloc();
-    let about = About {
-        help: HELP,
-        version: VERSION,
-        list: "",
-    };
-    let quiet = call.gives(b"quiet");
-    let w = BufWriter::with_capacity(alloc, BUFFER, Cleared::new(rt, rt.stdout(), !quiet))?;
-    Ok(outcome_of(
-        alloc,
-        &Disk::new(rt, NAME, quiet),
-        call,
-        about,
-        &mut Lines::new(alloc, w),
-    ))
-}
+impl Program for Cuts {
+    type Misuse = Misuse;
 
-/// The word that is wrong, if one is.
-#[inline]
-fn word<'a>(call: &Call<'a>, outcome: &Outcome) -> Option<&'a [u8]> {
-    match outcome {
-        Outcome::Usage(Wrong::UnknownName) => call.value(b"algorithm"),
-        Outcome::Usage(Wrong::Own(Misuse::NoSize)) => wrong_size(call),
-        _ => wrong_word(call),
+    type Own = TooMany;
+
+    #[inline]
+    fn name() -> &'static str {
+        NAME
     }
-}
 
-/// The status of the program that was called by these words.
-#[inline]
-fn status(rt: &HostRuntime, words: &[Vec<u8>]) -> u8 {
-    let Ok(call) = call_of(rt.alloc(), words) else {
-        return ended(rt, NAME, &NO_MEMORY, None);
-    };
-    let outcome = called(rt, &call).unwrap_or(NO_MEMORY);
-    ended(rt, NAME, &outcome, word(&call, &outcome))
+    #[inline]
+    fn call_of<'a>(alloc: Global, words: &'a [Vec<u8>]) -> Result<Call<'a>, AllocError> {
+        call_of(alloc, words)
+    }
+
+    #[inline]
+    fn outcome_of<'a>(rt: &'a HostRuntime, call: &Call<'a>) -> io::Result<Outcome> {
+        let alloc = rt.alloc();
+        let help = help_for(alloc, call, FRONT, &options(), BEHIND)?;
+        let about = About {
+            help: help.as_str(),
+            version: VERSION,
+            list: "",
+        };
+        let quiet = call.gives(b"quiet");
+        let w = BufWriter::with_capacity(alloc, BUFFER, Cleared::new(rt, rt.stdout(), !quiet))?;
+        Ok(outcome_of(
+            alloc,
+            &Disk::new(rt, NAME, quiet),
+            call,
+            about,
+            &mut Lines::new(alloc, w),
+        ))
+    }
+
+    #[inline]
+    fn word_of<'a>(_alloc: Global, call: &Call<'a>, outcome: &Outcome) -> Option<&'a [u8]> {
+        match outcome {
+            Outcome::Usage(Wrong::UnknownName) => call.value(b"algorithm"),
+            Outcome::Usage(Wrong::Own(Misuse::NoSize)) => wrong_size(call),
+            _ => wrong_word(call),
+        }
+    }
 }
 
 #[inline]
 pub fn main(rt: HostRuntime) -> ExitCode {
-    match arguments(&rt) {
-        Ok(words) => ExitCode::from(status(&rt, &words)),
-        Err(_) => ExitCode::from(ended(&rt, NAME, &NO_MEMORY, None)),
-    }
+    run::<Cuts>(&rt)
 }

@@ -58,7 +58,7 @@ pub type Wrong = outcome::Wrong<Misuse>;
 /// What came of a call.
 pub type Outcome = outcome::Outcome<Misuse, TooMany>;
 
-/// The options.
+/// The options, as the help shows them.
 ///
 /// Proved:
 ///
@@ -66,17 +66,46 @@ pub type Outcome = outcome::Outcome<Misuse, TooMany>;
 /// choices result ≡ options
 /// ```
 #[inline]
-fn options() -> [Opt; 9] {
+pub fn options() -> [Opt; 9] {
     [
-        taking(Some(b'a'), b"algorithm"),
-        taking(Some(b'l'), b"least"),
-        taking(None, b"average"),
-        taking(Some(b'm'), b"most"),
-        taking(None, b"key-file"),
-        flag(None, b"stats"),
-        flag(None, b"quiet"),
-        flag(None, b"help"),
-        flag(None, b"version"),
+        taking(
+            Some(b'a'),
+            b"algorithm",
+            "NAME",
+            "the hash of a chunk, by default spooky128",
+        ),
+        taking(
+            Some(b'l'),
+            b"least",
+            "BYTES",
+            "the fewest bytes of a chunk, but for a file's last; by\ndefault a quarter of the average",
+        ),
+        taking(
+            None,
+            b"average",
+            "BYTES",
+            "behind the fewest, each place is a cut with a chance of\n1 in this number; by default 64K, or 4 times -l",
+        ),
+        taking(
+            Some(b'm'),
+            b"most",
+            "BYTES",
+            "the most bytes of a chunk; by default four times the\naverage",
+        ),
+        taking(
+            None,
+            b"key-file",
+            "FILE",
+            "16 secret bytes, which decide where the cuts are",
+        ),
+        flag(
+            None,
+            b"stats",
+            "print instead how many chunks and bytes all files have,\nand how many bytes are in chunks whose hash came before",
+        ),
+        flag(None, b"quiet", "show no progress"),
+        flag(None, b"help", "print this help and exit"),
+        flag(None, b"version", "print the version and exit"),
     ]
 }
 

@@ -10,8 +10,7 @@ use crate::hash_spread::counts::{Counts, counts_of};
 use crate::hash_spread::sizes::Sizes;
 use hash_names::table::{Kind, by_kind};
 use hash_names::task::HashTask;
-use hashers::jenkins::spooky_hash::spooky_v1;
-use hashers::laws::{Piecewise, Streamed, bytes_are_a_text, hash_of};
+use hashers::laws::{Piecewise, Streamed, hash_of};
 use std::alloc::{AllocError, Global};
 use text_set::{RandomKeys, Texts};
 
@@ -41,29 +40,6 @@ pub struct Hashed {
 pub fn hash_each<H: Piecewise>(keys: &Texts<RandomKeys>, hashes: &mut [u64]) {
     for i in 0..hashes.len() {
         hashes[i] = hash_of::<H>(keys.text_at(i));
-    }
-}
-
-/// The same by version 1 of SpookyHash.
-///
-/// The caller has to see to it that:
-///
-/// ```text
-/// length hashes.old ≡ length keys.now.texts
-/// ```
-///
-/// Proved:
-///
-/// ```text
-/// hashes: hashes.new ≡ map (λ text. (spooky_v1 0 0 text).0) keys.now.texts
-/// texts: All IsText keys.now.texts
-/// ```
-#[inline]
-fn hash_each_by_v1(keys: &Texts<RandomKeys>, hashes: &mut [u64]) {
-    for i in 0..hashes.len() {
-        let key = keys.text_at(i);
-        bytes_are_a_text(key);
-        hashes[i] = spooky_v1(key);
     }
 }
 
@@ -116,16 +92,6 @@ impl HashTask for HashKeys {
     #[inline]
     fn by_pieces<H: Piecewise>(rounds: u32, hashed: &mut Hashed) -> Result<(), AllocError> {
         hash_often::<H>(rounds, hashed)
-    }
-
-    #[inline]
-    fn by_spooky_v1(rounds: u32, hashed: &mut Hashed) -> Result<(), AllocError> {
-        make_room(&mut hashed.hashes, hashed.keys.len())?;
-        hash_each_by_v1(&hashed.keys, &mut hashed.hashes);
-        'again: for _ in 1..rounds {
-            hash_each_by_v1(&hashed.keys, &mut hashed.hashes);
-        }
-        Ok(())
     }
 }
 

@@ -102,7 +102,9 @@ impl Reports for Checked<'_> {
                 "computed hashes did NOT match",
             );
             if counts.unkeyed > 0 {
-                let _ = eprintln!(self.rt; "{program}: {list}: lines of poly61 need --key-file");
+                let _ = eprintln!(self.rt;
+                    "{program}: {list}: lines of poly61 and siphash24 need --key-file"
+                );
             } else if counts.same == 0 && counts.different == 0 && counts.unread == 0 {
                 let _ = eprintln!(self.rt; "{program}: {list}: no file was verified");
             }

@@ -1,13 +1,14 @@
-//! poly61 of files: the two keys in a key file, and the hash of what a reader gives.
+//! poly61 and SipHash of files: the two keys in a key file, and the hash of what a reader gives.
 
 // What follows is the proved text of crates/hash_sums/src/keys.rt without its contracts.
 use crate::cli;
-use hashers_proved::{hash_keyed, hash_names, hashers};
+use hashers_proved::{hash_keyed, hash_names, hash_siphash, hashers};
 use hashers_proved::shim::std;
 
 use cli::folder::Folder;
 use hash_keyed::pair::Poly61Pair;
 use hash_names::reading::Unhashed;
+use hash_siphash::{SipHasher24, SipKey};
 use hashers::reader::hash_stream;
 use std::io;
 use std::io::{Error, ErrorKind, Read};
@@ -44,6 +45,40 @@ pub(crate) fn hash_of_poly61<R: Read, const N: usize>(
             }
             let (high, low) = pair.finish();
             Ok(u128::from(high) * (1 << 64) + u128::from(low))
+        }
+    }
+}
+
+/// SipHash-2-4 of what is read, under a key of these two words.
+///
+/// The caller has to see to it that:
+///
+/// ```text
+/// not_empty: 0 < N
+/// small: N ≤ 65536
+/// ```
+///
+/// Proved:
+///
+/// ```text
+/// Hashes (siphash24_at keys) (read limit R.remaining r.old r.new) result
+/// ```
+#[inline]
+pub(crate) fn hash_of_siphash24<R: Read, const N: usize>(
+    keys: (u64, u64),
+    limit: u64,
+    r: &mut R,
+) -> Result<u64, Unhashed> {
+    let (k0, k1) = keys;
+    let mut hasher = SipHasher24::new(SipKey { k0, k1 });
+    match hash_stream::<SipHasher24, R, N>(&mut hasher, r, limit) {
+        Err(fault) => Err(Unhashed::ReadFault(fault)),
+        Ok(taken) => {
+            if taken.ended {
+                Ok(hasher.hash())
+            } else {
+                Err(Unhashed::TooLong)
+            }
         }
     }
 }

@@ -10,14 +10,16 @@ use crate::cli;
 use hashers_proved::{hash_more, hash_names, hashers};
 use hashers_proved::shim::std;
 
-use crate::hash_sums::sums::Sum;
+use crate::hash_sums::sums::{Sum, Wide};
 use cli::folder::Folder;
 use hash_more::crc32::{Crc32Hasher, Crc32cHasher};
 use hash_more::djb2_add::Djb2AddHasher;
+use hash_more::elf::ElfHasher;
 use hash_more::fnv1::{Fnv1Hasher32, Fnv1Hasher64};
 use hash_more::joaat::JoaatHasher;
 use hash_names::table::Kind;
 use hashers::fnv::{FNV1aHasher32, FNV1aHasher64};
+use hashers::fx_hash::{FxHasher32, FxHasher64};
 use hashers::jenkins::OAATHasher;
 use hashers::oz::{DJB2Hasher, LoseLoseHasher, SDBMHasher};
 use hashers::pigeon::Bricolage;
@@ -39,6 +41,7 @@ pub fn seen(sum: Sum) -> &'static str {
         Sum::Table(Kind::FxHash32 | Kind::Murmur3At32 | Kind::Xxh32) =>
             "1 changed word, of 4 bytes",
         Sum::Table(Kind::LoseLose | Kind::Bricolage | Kind::Oaat | Kind::Joaat) => "1 changed byte",
+        Sum::Wide(Wide::Murmur3) => "1 changed block, of 16 bytes",
         Sum::Poly61 => "any change, but under few keys",
         _ => "no promise",
     }

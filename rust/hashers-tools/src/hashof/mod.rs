@@ -4,7 +4,6 @@
 use hashers_proved::shim::{HostRuntime, std};
 
 mod line;
-mod named;
 mod outcome;
 mod run;
 

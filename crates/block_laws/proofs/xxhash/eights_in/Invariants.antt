@@ -1,5 +1,5 @@
 use Rattle.std.proofs.Common.{◌≡◌, fold, take}
-use Rattle.hash_rounds.specs.Words.{le}
+use Rattle.hash_words.specs.Words.{le}
 use Rattle.hash_xxhash.specs.Xxh64.{eight_in}
 use Rattle.block_laws.proofs.xxhash.eights_in.Given as goal
 

@@ -1,7 +1,7 @@
 use Rattle.std.proofs.Common.{◌≡◌, ◌∙◌, ◌+◌, ℕ, nat_lt, cond, true, false, length, ap, refl, arith}
 use Rattle.std.proofs.lemmas.Bool.Decides.{nat_tests}
 use Rattle.hash_laws.proofs.TextLemmas.{IsText-from_slice}
-use Rattle.hash_rounds.specs.Words.{add}
+use Rattle.hash_words.specs.Words.{add}
 use Rattle.hash_blocks.specs.Blocks.{blocks}
 use Rattle.hash_xxhash.specs.Xxh64.{p5, start, after_block, converged}
 use Rattle.block_laws.specs.Xxh64Back.{rest_out}

@@ -17,12 +17,12 @@ loop-rest-preserved g c =
       few = omega (arith, before.few, c.first_line.ensures.shorter);
       written = elim c.if-count-hashes.branch [
         | then-count-hashes w ↦
-            w.hashes-is ∙ ap₂ (λ l h. set l c.loop-rest.count h) before.written w.hash.ensures
-            ∙ hashed_one_more g.T.TextHash.hash before.so_far line c.args.hashes.now c.loop-rest.count before.count
+            w.hashes-is ∙ ap₂ (λ l h. set l c.loop-rest.count h) before.written w.hash_of.ensures.value
+            ∙ hashed_one_more g.H.Piecewise.hash_of before.so_far line c.args.hashes.now c.loop-rest.count before.count
             (omega (arith, w.if-count-hashes.true, c.loop-rest.auto.hashes))
         | else-count-hashes w ↦
             w.hashes-is ∙ before.written
-            ∙ hashed_no_more g.T.TextHash.hash before.so_far line c.args.hashes.now c.loop-rest.count before.count
+            ∙ hashed_no_more g.H.Piecewise.hash_of before.so_far line c.args.hashes.now c.loop-rest.count before.count
             (omega (arith, w.if-count-hashes.false, c.loop-rest.auto.hashes))
       ];
     }

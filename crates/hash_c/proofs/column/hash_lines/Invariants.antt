@@ -10,7 +10,7 @@ invariant-loop-rest g l = record {
   split : line_texts 10 l.bytes ≡ so_far ++ line_texts 10 l.rest;
   count : l.count ≡ length so_far;
   few : l.count + length l.rest ≤ length l.bytes;
-  written : l.hashes ≡ laid_over (map g.T.TextHash.hash so_far) l.initial.hashes;
+  written : l.hashes ≡ laid_over (map g.H.Piecewise.hash_of so_far) l.initial.hashes;
 }
 
 abbrev pub decreases-loop-rest : goal.decreases-loop-rest

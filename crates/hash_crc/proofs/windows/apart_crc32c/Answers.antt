@@ -1,6 +1,6 @@
 use Rattle.std.proofs.Common.{refl}
 use Rattle.hash_crc.specs.Crc32.{castagnoli}
-use Rattle.hash_laws.proofs.Windows.{window_tells_apart}
+use Rattle.hash_windows.proofs.Windows.{window_tells_apart}
 use Rattle.hash_crc.proofs.Crc32Bursts.{crc_apart}
 use Rattle.hash_crc.proofs.windows.apart_crc32c.Goals as goal
 

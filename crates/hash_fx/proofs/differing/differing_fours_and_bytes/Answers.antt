@@ -1,7 +1,7 @@
 use Rattle.std.proofs.Common.{◌≡◌, ◌+◌, length, arith, ◌∙◌}
 use Rattle.std.proofs.Math.Path.{ap₂}
 use Rattle.std.proofs.lemmas.List.{map-id}
-use Rattle.hash_rounds.specs.Words.{le}
+use Rattle.hash_words.specs.Words.{le}
 use Rattle.hash_fx.specs.Differences.{differences}
 use Rattle.hash_fx.proofs.DifferencesLemmas.{differences-parts}
 use Rattle.hash_fx.proofs.WordParts.{words32-parts}

@@ -1,6 +1,6 @@
 use Rattle.std.proofs.Common.{◌≡◌, arith}
-use Rattle.hash_rounds.specs.Words.{le, rotl}
-use Rattle.hash_rounds.specs.Blocks.{pieces}
+use Rattle.hash_words.specs.Words.{le, rotl}
+use Rattle.hash_words.specs.Pieces.{pieces}
 use Rattle.hash_laws.specs.Recurrence.{recurrence}
 use Rattle.hash_fx.proofs.pieces.cuts_show_in_fx.Goals as goal
 

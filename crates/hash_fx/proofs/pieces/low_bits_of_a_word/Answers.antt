@@ -1,4 +1,4 @@
-use Rattle.hash_rounds.specs.Words.{rotl}
+use Rattle.hash_words.specs.Words.{rotl}
 use Rattle.hash_fx.proofs.LowBits.{low_of_step}
 use Rattle.hash_fx.proofs.pieces.low_bits_of_a_word.Goals as goal
 

@@ -1,5 +1,5 @@
 use Rattle.std.proofs.Common.{◌≡◌, take, fold}
-use Rattle.hash_rounds.specs.Blocks.{le_words}
+use Rattle.hash_words.specs.Pieces.{le_words}
 use Rattle.hash_jenkins.specs.Spooky.{add_chunk}
 use Rattle.hash_jenkins.proofs.spooky_short.add_chunks.Given as goal
 

@@ -1,4 +1,4 @@
-use Rattle.hash_laws.proofs.Windows.{window_tells_apart}
+use Rattle.hash_windows.proofs.Windows.{window_tells_apart}
 use Rattle.hash_more.proofs.Fnv1Windows.{fnv1_32_apart}
 use Rattle.hash_more.proofs.windows.apart_fnv1_32.Goals as goal
 

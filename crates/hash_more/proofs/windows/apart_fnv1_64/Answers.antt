@@ -1,4 +1,4 @@
-use Rattle.hash_laws.proofs.Windows.{window_tells_apart}
+use Rattle.hash_windows.proofs.Windows.{window_tells_apart}
 use Rattle.hash_more.proofs.Fnv1Windows.{fnv1_64_apart}
 use Rattle.hash_more.proofs.windows.apart_fnv1_64.Goals as goal
 

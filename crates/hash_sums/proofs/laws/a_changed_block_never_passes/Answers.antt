@@ -1,6 +1,6 @@
 use Rattle.std.specs.Prelude.{codes}
-use Rattle.std.proofs.Common.{◌≡◌, ◌≢◌, ℕ, List, lit<, mod-lt, refl}
-use Rattle.hash_laws.specs.DifferWithin.{DifferInOneBlock}
+use Rattle.std.proofs.Common.{◌≢◌, ℕ, List, lit<, mod-lt, refl}
+use Rattle.hash_windows.specs.DifferWithin.{DifferInOneBlock}
 use Rattle.hash_murmur3.specs.Murmur3.{murmur3_32}
 use Rattle.hash_murmur3.specs.Murmur3x128.{murmur3_128}
 use Rattle.hash_names.specs.Wide.{murmur3_128_of}

@@ -3,7 +3,7 @@ use Rattle.hash_names.specs.declared.table.Kind.{Kind}
 use Rattle.hash_names.specs.declared.table.Kind.TheVariants.{Fnv1a32}
 use Rattle.hash_names.specs.Named.{kind_named, name_of, read_of}
 use Rattle.hash_sums.specs.declared.sums.Sum.{Sum}
-use Rattle.hash_sums.specs.declared.sums.Sum.TheVariants.{Table, Poly61}
+use Rattle.hash_sums.specs.declared.sums.Sum.TheVariants.{Table, Poly61, SipHash24}
 use Rattle.hash_sums.specs.declared.sums.Sum.TheVariants as sum
 use Rattle.hash_sums.specs.declared.sums.Wide.{Wide}
 use Rattle.hash_sums.specs.declared.sums.Wide.TheVariants as wide
@@ -26,6 +26,7 @@ told_is : (it : Sum) (keys : ℕ × ℕ) → takes_keys it ≡ false → number_
 told_is (Table kind) keys none = row_is kind
 told_is (sum.Wide it) keys none = wide_is it
 told_is Poly61 keys none = let clash : true ≡ false = none in cc
+told_is SipHash24 keys none = let clash : true ≡ false = none in cc
 
 pub returns : goal.returns
 returns c it keys none = told_is it keys none

@@ -1,5 +1,8 @@
-use Rattle.hash_sums.proofs.AskedLemmas.{under_keys}
+use Rattle.hash_sums.proofs.AskedLemmas.{under_poly61, under_siphash24}
 use Rattle.hash_sums.proofs.laws.lines_under_the_keys.Goals as goal
 
-pub returns : goal.returns
-returns g c folder call asks ended keys are = under_keys (g.F.Folder.opens folder) call asks ended keys are
+pub returns-clause-poly61 : goal.returns-clause-poly61
+returns-clause-poly61 g c folder call asks ended keys are = under_poly61 (g.F.Folder.opens folder) call asks ended keys are
+
+pub returns-clause-siphash24 : goal.returns-clause-siphash24
+returns-clause-siphash24 g c folder call asks ended keys are = under_siphash24 (g.F.Folder.opens folder) call asks ended keys are

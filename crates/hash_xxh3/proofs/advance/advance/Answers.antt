@@ -2,7 +2,7 @@ use Rattle.std.proofs.Common.{◌+◌, ◌≤◌, ◌++◌, length, take, sym, a
 use Rattle.std.proofs.lemmas.List.{length-take-le}
 use Rattle.hash_xxh3.specs.Streaming.{Long}
 use Rattle.hash_xxh3.specs.StreamingLaws.{advanced_none}
-use Rattle.hash_rounds.proofs.PutLemmas.{take-put_at}
+use Rattle.hash_words.proofs.PutLemmas.{take-put_at}
 use Rattle.hash_xxh3.proofs.advance.advance.Goals as goal
 
 pub returns-then-bytes-kept-clause-position : goal.returns-then-bytes-kept-clause-position

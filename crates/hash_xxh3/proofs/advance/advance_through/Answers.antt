@@ -5,7 +5,7 @@ use Rattle.hash_xxh3.specs.declared.long.Lanes.{Lanes}
 use Rattle.hash_xxh3.specs.Long.{stripe_in, stripes_in}
 use Rattle.hash_xxh3.specs.Streaming.{Long, advanced}
 use Rattle.hash_xxh3.specs.StripeLaws.{stripes_in-take}
-use Rattle.hash_rounds.proofs.PutLemmas.{take-put_at, length-put_at}
+use Rattle.hash_words.proofs.PutLemmas.{take-put_at, length-put_at}
 use Rattle.hash_xxh3.proofs.AdvanceLemmas.{through}
 use Rattle.hash_xxh3.proofs.advance.advance_through.Goals as goal
 

@@ -3,7 +3,7 @@ use Rattle.std.proofs.Math.Path.{ap₂}
 use Rattle.std.proofs.lemmas.List.{length-take-le}
 use Rattle.hash_xxh3.specs.declared.long.Lanes.{Lanes}
 use Rattle.hash_xxh3.specs.Long.{start_lanes, stripes_in}
-use Rattle.hash_rounds.specs.Put.{put_at}
+use Rattle.hash_words.specs.Put.{put_at}
 use Rattle.hash_xxh3.specs.Streaming.{Long}
 use Rattle.hash_xxh3.proofs.AdvanceLemmas.{begun, moved_front}
 use Rattle.hash_xxh3.proofs.advance.begin.Goals as goal

@@ -3,10 +3,10 @@ use Rattle.std.proofs.Math.Path.{ap₂}
 use Rattle.std.specs.Int.{to_le_bytes}
 use Rattle.std.specs.List.{range_with_len, flat_map}
 use Rattle.std.proofs.lemmas.List.{take_all}
-use Rattle.hash_rounds.specs.Words.{add, sub}
-use Rattle.hash_rounds.specs.Put.{put_at}
+use Rattle.hash_words.specs.Words.{add, sub}
+use Rattle.hash_words.specs.Put.{put_at}
 use Rattle.hash_xxh3.specs.Long.{secret_piece, secret_of}
-use Rattle.hash_rounds.proofs.PutLemmas.{take-put_two, length-put_at}
+use Rattle.hash_words.proofs.PutLemmas.{take-put_two, length-put_at}
 use Rattle.hash_xxh3.proofs.RangeLemmas.{flat_map-range_more}
 use Rattle.hash_xxh3.proofs.secret.secret_of.Goals as goal
 

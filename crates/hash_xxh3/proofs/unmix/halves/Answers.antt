@@ -1,11 +1,11 @@
 use Rattle.std.proofs.Common.{◌≡◌, ◌∙◌, ◌/◌, ◌%◌, ◌^◌, ℕ, List, [], ◌∷◌, length, ap, sym, arith, w32}
 use Rattle.std.specs.Int.{to_le_bytes}
 use Rattle.std.proofs.lemmas.List.{take_all}
-use Rattle.hash_rounds.specs.Words.{le}
-use Rattle.hash_rounds.proofs.WordLemmas.{le-to_le_bytes-32}
-use Rattle.hash_rounds.specs.Put.{put_at}
+use Rattle.hash_words.specs.Words.{le}
+use Rattle.hash_words.proofs.WordLemmas.{le-to_le_bytes-32}
+use Rattle.hash_words.specs.Put.{put_at}
 use Rattle.hash_xxh3.specs.Short.{eight_number}
-use Rattle.hash_rounds.proofs.PutLemmas.{take-put_two, length-put_at}
+use Rattle.hash_words.proofs.PutLemmas.{take-put_two, length-put_at}
 use Rattle.hash_xxh3.proofs.ShortLemmas.{eight_number-halves}
 use Rattle.hash_xxh3.proofs.unmix.halves.Goals as goal
 

@@ -5,11 +5,11 @@ use Rattle.std.proofs.lemmas.List.{take_all, take_at, drop_at}
 use Rattle.std.proofs.lemmas.List.Elements.{All-append}
 use Rattle.hash_laws.specs.Text.{IsText}
 use Rattle.hash_laws.proofs.TextLemmas.{IsByte, IsText-to_le_bytes}
-use Rattle.hash_rounds.specs.Words.{le}
-use Rattle.hash_rounds.proofs.WordLemmas.{le-to_le_bytes-64}
-use Rattle.hash_rounds.specs.Put.{put_at}
+use Rattle.hash_words.specs.Words.{le}
+use Rattle.hash_words.proofs.WordLemmas.{le-to_le_bytes-64}
+use Rattle.hash_words.specs.Put.{put_at}
 use Rattle.hash_xxh3.specs.Words.{word_at}
-use Rattle.hash_rounds.proofs.PutLemmas.{take-put_two, length-put_at}
+use Rattle.hash_words.proofs.PutLemmas.{take-put_two, length-put_at}
 use Rattle.hash_xxh3.proofs.unmix.two_words.Goals as goal
 
 -- two words written into sixteen bytes

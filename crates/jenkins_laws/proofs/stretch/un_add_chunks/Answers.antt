@@ -1,6 +1,6 @@
 use Rattle.std.proofs.Common.{◌≡◌, ◌∙◌, ℕ, List, [], ◌∷◌, ◌++◌, fold, sym, ap}
 use Rattle.std.proofs.lemmas.Grind.{fold-append}
-use Rattle.hash_rounds.specs.Blocks.{le_words}
+use Rattle.hash_words.specs.Pieces.{le_words}
 use Rattle.hash_jenkins.specs.Spooky.{add_chunk}
 use Rattle.jenkins_laws.proofs.ShortStretches.{f}
 use Rattle.jenkins_laws.proofs.stretch.un_add_chunks.Goals as goal

@@ -1,7 +1,7 @@
 use Rattle.std.proofs.Common.{◌≡◌, List, ℕ, fold}
 use Rattle.std.specs.Iterator.Adapters.{rev_source}
 use Rattle.std.specs.Slice.Iter.{iter_rest}
-use Rattle.hash_rounds.specs.Blocks.{le_words}
+use Rattle.hash_words.specs.Pieces.{le_words}
 use Rattle.hash_jenkins.specs.Spooky.{add_chunk, chunks_from}
 use Rattle.jenkins_laws.proofs.stretch.un_add_chunks.Given as goal
 

@@ -1,6 +1,6 @@
 use Rattle.std.proofs.Common.{◌≡◌, arith}
-use Rattle.hash_rounds.specs.Words.{le, rotl}
-use Rattle.hash_rounds.specs.Blocks.{pieces}
+use Rattle.hash_words.specs.Words.{le, rotl}
+use Rattle.hash_words.specs.Pieces.{pieces}
 use Rattle.hash_rounds.specs.Rounds.{lookup3_final_steps}
 use Rattle.hash_rounds.specs.Steps.{apply}
 use Rattle.hash_jenkins.specs.Lookup3.{last_block}

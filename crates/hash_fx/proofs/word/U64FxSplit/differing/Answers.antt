@@ -1,6 +1,6 @@
 use Rattle.std.proofs.Common.{◌≡◌, ◌+◌, length, arith, ◌∙◌}
 use Rattle.std.proofs.Math.Path.{ap₂}
-use Rattle.hash_rounds.specs.Words.{le}
+use Rattle.hash_words.specs.Words.{le}
 use Rattle.hash_fx.specs.Fx.{words32}
 use Rattle.hash_fx.proofs.DifferencesLemmas.{differences-parts}
 use Rattle.hash_fx.proofs.WordParts.{words64-parts}

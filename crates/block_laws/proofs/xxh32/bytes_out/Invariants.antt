@@ -1,0 +1,9 @@
+use Rattle.std.proofs.Common.{◌≡◌, fold, reverse}
+use Rattle.std.specs.Iterator.Adapters.{rev_source}
+use Rattle.std.specs.Slice.Iter.{iter_rest}
+use Rattle.block_laws.specs.Xxh32Back.{byte_out}
+use Rattle.block_laws.proofs.xxh32.bytes_out.Given as goal
+
+abbrev pub invariant-loop-byte : goal.invariant-loop-byte
+invariant-loop-byte l =
+    fold byte_out l.before (reverse (iter_rest (rev_source l.byte-iterator))) ≡ fold byte_out l.h (reverse l.bytes)

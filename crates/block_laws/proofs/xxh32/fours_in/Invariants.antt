@@ -1,0 +1,7 @@
+use Rattle.std.proofs.Common.{◌≡◌, fold, take}
+use Rattle.hash_words.specs.Words.{le}
+use Rattle.hash_xxhash.specs.Xxh32.{four_in}
+use Rattle.block_laws.proofs.xxh32.fours_in.Given as goal
+
+abbrev pub invariant-loop-four : goal.invariant-loop-four
+invariant-loop-four l = l.mixed ≡ fold (λ h block. four_in h (le block)) l.initial.mixed (take l.four-index l.fours)

@@ -1,0 +1,11 @@
+use Rattle.std.proofs.Common.{◌≡◌, fold, reverse, slice_index}
+use Rattle.std.specs.Iterator.Adapters.{rev_source}
+use Rattle.std.specs.Slice.Iter.{iter_rest}
+use Rattle.hash_xxhash.specs.Xxh32.{words_of}
+use Rattle.block_laws.specs.Xxh32Back.{lane_back, lane_out}
+use Rattle.block_laws.proofs.xxh32.lane_back.Given as goal
+
+abbrev pub invariant-loop-block : goal.invariant-loop-block
+invariant-loop-block l =
+    fold (λ lane block. lane_out lane (slice_index (words_of block) l.place)) l.before (reverse (iter_rest (rev_source l.block-iterator)))
+    ≡ lane_back l.place l.lane l.text

@@ -1,0 +1,7 @@
+use Rattle.std.proofs.Common.{arith}
+use Rattle.std.proofs.lemmas.Grind.{common_steps}
+use Rattle.hash_keyed.proofs.WriteLemmas.{answer_of_text}
+use Rattle.hash_keyed.proofs.poly61.Poly61HasherHasher.finish.Goals as goal
+
+pub returns-clause-of_text : goal.returns-clause-of_text
+returns-clause-of_text c = answer_of_text c.args.self.now _ (grind (arith, common_steps))

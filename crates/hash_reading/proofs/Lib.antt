@@ -1,0 +1,2 @@
+pub mod KnownText
+pub mod ReadingLemmas

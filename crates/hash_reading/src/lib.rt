@@ -1,0 +1,5 @@
+//! The hash of what a reader gives.
+#![tactic(auto)]
+
+pub mod limited;
+pub mod reader;

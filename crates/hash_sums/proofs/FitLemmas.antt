@@ -1,0 +1,299 @@
+-- Each hash of the table is below 2 to the power of its bits, and each of 128 bits is two words.
+use Rattle.std.proofs.Common.{ℕ, zero, suc, ◌*◌, ◌/◌, ◌%◌, ◌^◌, ◌<◌, ◌≤◌, Bool, true, false, if◌then◌else◌, nat_lt, List, [], ◌∷◌, length, slice_index, fold, map, take, drop, All, refl, sym, arith, lit<, subst, ◌∙◌}
+use Rattle.std.proofs.Math.Nat.{pow-le-pow_right}
+use Rattle.std.proofs.lemmas.List.Elements.{All-drop, All-head, All-tail, All-take}
+use Rattle.std.proofs.lemmas.Nat.{mod_below, pow_pos, shr_le, xor_lt}
+use Rattle.hash_words.specs.Words.{le, xorshift}
+use Rattle.hash_words.specs.Pieces.{pieces, le_words}
+use Rattle.hash_words.proofs.PieceLemmas.{le-lt}
+use Rattle.hash_words.proofs.WordLemmas.{AreWords-at, AreWords-from}
+use Rattle.hash_laws.specs.Text.{IsText}
+use Rattle.hash_laws.proofs.TextLemmas.{IsByte}
+use Rattle.hash_blocks.specs.Blocks.{blocks, tail}
+use Rattle.hash_blocks.specs.BlocksLaws.{tail-lt}
+use Rattle.block_laws.specs.BlockFacts.{IsBlock}
+use Rattle.block_laws.proofs.BackLemmas.{pieces-blocks}
+use Rattle.hash_rounds.specs.Blocks.{spooky_blocks}
+use Rattle.hash_rounds.specs.Rounds as rounds
+use Rattle.hash_rounds.specs.Spooky.{short_end, spooky_end}
+use Rattle.hash_rounds.specs.Steps.{AreSteps, apply}
+use Rattle.hash_rounds.proofs.BlockLemmas.{spooky_blocks-words}
+use Rattle.hash_rounds.proofs.RoundLemmas.{AreFourWords}
+use Rattle.hash_rounds.proofs.StepLemmas.{apply-words}
+use Rattle.hash_jenkins.specs.Lookup3.{AreTwoWords, lookup3_answer, lookup3_from}
+use Rattle.hash_jenkins.specs.Lookup3Laws.{lookup3-AreTwoWords}
+use Rattle.hash_jenkins.specs.Spooky as of
+use Rattle.hash_jenkins.specs.SpookyLaws.{long_start-words}
+use Rattle.jenkins_laws.proofs.Zeros.{add_at-AreFourWords, short_start-AreFourWords}
+use Rattle.hash_murmur3.specs.Murmur3 as murmur3
+use Rattle.hash_murmur3.specs.Murmur3x128 as murmur3_wide
+use Rattle.hash_siphash.specs.SipHash as sip
+use Rattle.hash_xxhash.specs.Xxh32 as xxh32
+use Rattle.hash_xxhash.specs.Xxh64 as xxh64
+use Rattle.hash_xxh3.specs.Words.{avalanche, avalanche_64, length_mix}
+use Rattle.hash_xxh3.specs.Short.{of_none, of_sixteen}
+use Rattle.hash_xxh3.specs.Middle.{of_128, of_240}
+use Rattle.hash_xxh3.specs.Long as long
+use Rattle.hash_xxh3.specs.Wide as wide
+use Rattle.hash_xxh3.specs.Xxh3.{xxh3_64_of}
+
+-- ---- words
+
+shifted : (w x k : ℕ) → x < 2 ^ w → xorshift x k < 2 ^ w
+shifted w x k below = xor_lt w x (x / 2 ^ k) below (omega (arith, shr_le x k, below))
+
+either : (w : ℕ) (b : Bool) (x y : ℕ) → x < 2 ^ w → y < 2 ^ w → (if b then x else y) < 2 ^ w
+either w true x y first second = first
+either w false x y first second = second
+
+pub xxh32_mix : (h : ℕ) → xxh32.last_mix h < 2 ^ 32
+unfolding xxh32.last_mix
+xxh32_mix h = shifted 32 _ 16 (mod_below _ (2 ^ 32) (lit< tt))
+
+pub xxh64_mix : (h : ℕ) → xxh64.last_mix h < 2 ^ 64
+unfolding xxh64.last_mix
+xxh64_mix h = shifted 64 _ 32 (mod_below _ (2 ^ 64) (lit< tt))
+
+pub murmur3_mix : (h : ℕ) → murmur3.last_mix h < 2 ^ 32
+unfolding murmur3.last_mix
+murmur3_mix h = shifted 32 _ 16 (mod_below _ (2 ^ 32) (lit< tt))
+
+avalanche_below : (h : ℕ) → avalanche h < 2 ^ 64
+unfolding avalanche
+avalanche_below h = shifted 64 _ 32 (mod_below _ (2 ^ 64) (lit< tt))
+
+avalanche_64_below : (h : ℕ) → avalanche_64 h < 2 ^ 64
+unfolding avalanche_64
+avalanche_64_below h = shifted 64 _ 32 (mod_below _ (2 ^ 64) (lit< tt))
+
+length_mix_below : (len h : ℕ) → length_mix len h < 2 ^ 64
+unfolding length_mix
+length_mix_below len h = shifted 64 _ 28 (mod_below _ (2 ^ 64) (lit< tt))
+
+-- ---- XXH3
+
+none_below : (seed : ℕ) → of_none seed < 2 ^ 64
+unfolding of_none
+none_below seed = avalanche_64_below _
+
+sixteen_below : (seed : ℕ) (text : List ℕ) → of_sixteen seed text < 2 ^ 64
+unfolding of_sixteen
+sixteen_below seed text = avalanche_below _
+
+of_128_below : (seed : ℕ) (text : List ℕ) → of_128 seed text < 2 ^ 64
+unfolding of_128
+of_128_below seed text = avalanche_below _
+
+of_240_below : (seed : ℕ) (text : List ℕ) → of_240 seed text < 2 ^ 64
+unfolding of_240
+of_240_below seed text = avalanche_below _
+
+merge_below : (words secret : List ℕ) (at start : ℕ) → long.merge words secret at start < 2 ^ 64
+unfolding long.merge
+merge_below words secret at start = avalanche_below _
+
+long_below : (secret text : List ℕ) → long.long_under secret text < 2 ^ 64
+unfolding long.long_under long.end_long
+long_below secret text = merge_below _ secret 11 _
+
+pub xxh3_below : (seed : ℕ) (text : List ℕ) → xxh3_64_of seed text < 2 ^ 64
+unfolding xxh3_64_of
+xxh3_below seed text =
+    let len = length text in
+    either 64 (nat_lt len 241) _ _
+    (either 64 (nat_lt len 17) _ _
+    (either 64 (nat_lt len 1) _ _ (none_below seed)
+    (either 64 (nat_lt len 4) _ _ (avalanche_64_below _)
+    (either 64 (nat_lt len 9) _ _ (length_mix_below len _) (sixteen_below seed text))))
+    (either 64 (nat_lt len 129) _ _ (of_128_below seed text) (of_240_below seed text)))
+    (long_below (long.secret_of seed) text)
+
+-- two words
+abbrev AreBoth : ℕ × ℕ → Type 0
+AreBoth words = (words.0 < 2 ^ 64) × (words.1 < 2 ^ 64)
+
+either_both : (b : Bool) (x y : ℕ × ℕ) → AreBoth x → AreBoth y → AreBoth (if b then x else y)
+either_both true x y first second = first
+either_both false x y first second = second
+
+wide_none_below : (seed : ℕ) → AreBoth (wide.wide_none seed)
+unfolding wide.wide_none
+wide_none_below seed = (avalanche_64_below _, avalanche_64_below _)
+
+wide_words_below : (product : ℕ) → AreBoth (wide.wide_words product)
+unfolding wide.eight_low
+wide_words_below product = (shifted 64 _ 28 (mod_below _ (2 ^ 64) (lit< tt)), avalanche_below _)
+
+sixteen_end_below : (low high : ℕ) → AreBoth (wide.sixteen_end low high)
+unfolding wide.sixteen_end
+sixteen_end_below low high = (avalanche_below _, avalanche_below _)
+
+wide_end_below : (seed len : ℕ) (sums : ℕ × ℕ) → AreBoth (wide.wide_end seed len sums)
+unfolding wide.wide_end
+wide_end_below seed len sums = (avalanche_below _, mod_below _ (2 ^ 64) (lit< tt))
+
+wide_128_below : (seed : ℕ) (text : List ℕ) → AreBoth (wide.wide_128 seed text)
+unfolding wide.wide_128
+wide_128_below seed text = wide_end_below seed (length text) _
+
+wide_240_below : (seed : ℕ) (text : List ℕ) → AreBoth (wide.wide_240 seed text)
+unfolding wide.wide_240
+wide_240_below seed text = wide_end_below seed (length text) _
+
+wide_long_below : (secret text : List ℕ) → AreBoth (wide.wide_under secret text)
+unfolding wide.wide_under wide.wide_end_long
+wide_long_below secret text = (merge_below _ secret 11 _, merge_below _ secret 117 _)
+
+pub xxh128_below : (seed : ℕ) (text : List ℕ) → AreBoth (wide.xxh3_128_of seed text)
+unfolding wide.xxh3_128_of
+xxh128_below seed text =
+    let len = length text in
+    either_both (nat_lt len 241) _ _
+    (either_both (nat_lt len 17) _ _
+    (either_both (nat_lt len 1) _ _ (wide_none_below seed)
+    (either_both (nat_lt len 4) _ _ (avalanche_64_below _, avalanche_64_below _)
+    (either_both (nat_lt len 9) _ _ (wide_words_below _) (sixteen_end_below _ _))))
+    (either_both (nat_lt len 129) _ _ (wide_128_below seed text) (wide_240_below seed text)))
+    (wide_long_below (long.secret_of seed) text)
+
+-- ---- MurmurHash3 of 128 bits
+
+pub murmur3_below : (seed : ℕ) (text : List ℕ) → AreBoth (murmur3_wide.murmur3_128 seed text)
+murmur3_below seed text = (mod_below _ (2 ^ 64) (lit< tt), mod_below _ (2 ^ 64) (lit< tt))
+
+-- ---- SpookyHash
+
+end-steps : AreSteps 64 4 0 rounds.short_end_steps
+unfolding rounds.short_end_steps
+end-steps = refl
+
+long_end-steps : AreSteps 64 12 12 rounds.spooky_end_steps
+unfolding rounds.spooky_end_steps rounds.spooky_end_partial_steps rounds.data_sums
+long_end-steps = refl
+
+short_end_in : (h : List ℕ) → AreFourWords h → (i : ℕ) → slice_index (short_end h) i < 2 ^ 64
+short_end_in h are =
+    AreWords-at 64 (short_end h)
+    (apply-words 64 0 rounds.short_end_steps [] h (subst (λ n. AreSteps 64 n 0 rounds.short_end_steps) (sym are.0) end-steps)
+    (AreWords-from 64 h are.1)).1
+
+twelve_in : (text : List ℕ) (i : ℕ) → slice_index (of.twelve_words 0 0 text) i < 2 ^ 64
+twelve_in text =
+    let start = spooky_blocks-words (of.long_start 0 0) text refl (long_start-words 0 0 (lit< tt) (lit< tt)) in
+    let s = spooky_blocks (of.long_start 0 0) text in
+    let d = le_words (of.padded (of.tail text)) in
+    AreWords-at 64 (spooky_end d s)
+    (apply-words 64 12 rounds.spooky_end_steps d s (subst (λ n. AreSteps 64 n 12 rounds.spooky_end_steps) (sym start.0) long_end-steps)
+    start.1).1
+
+one_of : (b : Bool) (x y : List ℕ) (i : ℕ) → slice_index x i < 2 ^ 64 → slice_index y i < 2 ^ 64
+    → slice_index (if b then x else y) i < 2 ^ 64
+one_of true x y i first second = first
+one_of false x y i first second = second
+
+pub spooky_below : (text : List ℕ) → AreBoth (of.spooky 0 0 text)
+spooky_below text =
+    let start = short_start-AreFourWords 0 0 text (lit< tt) (lit< tt) in
+    let short = short_end_in _ (add_at-AreFourWords _ 3 (length text * 2 ^ 56) start) in
+    let b = nat_lt (length text) 192 in
+    (one_of b _ _ 0 (short 0) (twelve_in text 0), one_of b _ _ 1 (short 1) (twelve_in text 1))
+
+pub spooky_v1_below : (text : List ℕ) → (of.spooky_v1 0 0 text).0 < 2 ^ 64
+spooky_v1_below text =
+    let start = short_start-AreFourWords 0 0 text (lit< tt) (lit< tt) in
+    one_of (nat_lt (length text) 192) _ _ 0 (short_end_in _ start 0) (twelve_in text 0)
+
+-- ---- lookup3
+
+pub lookup3_below : (s : ℕ × ℕ) → AreTwoWords s → lookup3_answer s < 2 ^ 64
+lookup3_below s are = omega (arith, are.0, are.1)
+
+pub lookup3_pieces : (n : ℕ) (text : List ℕ) (places : List ℕ) (s : ℕ × ℕ) → AreTwoWords s → IsText text
+    → AreTwoWords (fold lookup3_from s (map (λ i. take n (drop (i * n) text)) places))
+lookup3_pieces n text [] s are is = are
+lookup3_pieces n text (i ∷ places) s are is =
+    let piece = take n (drop (i * n) text) in
+    lookup3_pieces n text places (lookup3_from s piece)
+    (lookup3-AreTwoWords s piece are (All-take IsByte n (drop (i * n) text) (All-drop IsByte (i * n) text is))) is
+
+-- ---- SipHash
+
+sip-steps : AreSteps 64 4 0 sip.round_steps
+unfolding sip.round_steps
+sip-steps = refl
+
+rounds_in : (n : ℕ) (v : List ℕ) → AreFourWords v → AreFourWords (sip.rounds n v)
+unfolding sip.rounds
+rounds_in zero v are = are
+rounds_in (suc n) v are =
+    let before = rounds_in n v are in
+    let kept = apply-words 64 0 sip.round_steps [] (sip.rounds n v)
+    (subst (λ k. AreSteps 64 k 0 sip.round_steps) (sym before.0) sip-steps) (AreWords-from 64 (sip.rounds n v) before.1) in
+    (kept.0 ∙ before.0, AreWords-at 64 (apply 64 sip.round_steps [] (sip.rounds n v)) kept.1)
+
+four_in : (a b c d : ℕ) → a < 2 ^ 64 → b < 2 ^ 64 → c < 2 ^ 64 → d < 2 ^ 64 → AreFourWords (a ∷ b ∷ c ∷ d ∷ [])
+four_in a b c d a_in b_in c_in d_in = (refl, below) where
+  below : (i : ℕ) → slice_index (a ∷ b ∷ c ∷ d ∷ []) i < 2 ^ 64
+  below zero = a_in
+  below (suc zero) = b_in
+  below (suc (suc zero)) = c_in
+  below (suc (suc (suc zero))) = d_in
+  below (suc (suc (suc (suc i)))) = pow_pos 64
+
+xored_in : (a b c d : ℕ) (v : List ℕ) → AreFourWords v → a < 2 ^ 64 → b < 2 ^ 64 → c < 2 ^ 64 → d < 2 ^ 64
+    → AreFourWords (sip.xored a b c d v)
+unfolding sip.xored
+xored_in a b c d v are a_in b_in c_in d_in =
+    four_in _ _ _ _ (xor_lt 64 (slice_index v 0) a (are.1 0) a_in) (xor_lt 64 (slice_index v 1) b (are.1 1) b_in)
+    (xor_lt 64 (slice_index v 2) c (are.1 2) c_in) (xor_lt 64 (slice_index v 3) d (are.1 3) d_in)
+
+word_in : (c : ℕ) (v : List ℕ) (word : ℕ) → AreFourWords v → word < 2 ^ 64 → AreFourWords (sip.after_word c v word)
+unfolding sip.after_word
+word_in c v word are below =
+    let none = pow_pos 64 in
+    xored_in word 0 0 0 (sip.rounds c (sip.xored 0 0 0 word v))
+    (rounds_in c (sip.xored 0 0 0 word v) (xored_in 0 0 0 word v are none none none below)) below none none none
+
+le_below : (k : ℕ) (bytes : List ℕ) → IsText bytes → length bytes ≤ k → le bytes < 256 ^ k
+le_below k bytes is few =
+    let most : 256 ^ length bytes ≤ 256 ^ k = pow-le-pow_right {n = 256} (lit< tt) {i = length bytes} {j = k} few in
+    omega (arith, le-lt bytes is, most)
+
+blocks_in : (c : ℕ) (v : List ℕ) (pieces_of : List (List ℕ)) → AreFourWords v → All (IsBlock 8) pieces_of
+    → AreFourWords (fold (sip.after_block c) v pieces_of)
+blocks_in c v [] are each = are
+blocks_in c v (block ∷ more) are each =
+    let first = All-head (IsBlock 8) block more each in
+    blocks_in c (sip.after_block c v block) more
+    (word_in c v (le block) are (le_below 8 block first.0 (omega (arith, first.1)))) (All-tail (IsBlock 8) block more each)
+
+folded_below : (v : List ℕ) → AreFourWords v → sip.folded v < 2 ^ 64
+unfolding sip.folded
+folded_below v are =
+    xor_lt 64 _ _ (xor_lt 64 (slice_index v 0) (slice_index v 1) (are.1 0) (are.1 1))
+    (xor_lt 64 (slice_index v 2) (slice_index v 3) (are.1 2) (are.1 3))
+
+last_below : (left : List ℕ) (total : ℕ) → IsText left → length left < 8 → sip.last_word left total < 2 ^ 64
+unfolding sip.last_word
+last_below left total is few =
+    let low : le left < 256 ^ 7 = le_below 7 left is (omega (arith, few)) in
+    let high : total % 256 < 256 = mod_below total 256 (lit< tt) in
+    omega (arith, low, high)
+
+start_in : (k0 k1 : ℕ) → k0 < 2 ^ 64 → k1 < 2 ^ 64 → AreFourWords (sip.start k0 k1)
+unfolding sip.start
+start_in k0 k1 first second =
+    four_in _ _ _ _ (xor_lt 64 k0 _ first (lit< tt)) (xor_lt 64 k1 _ second (lit< tt)) (xor_lt 64 k0 _ first (lit< tt))
+    (xor_lt 64 k1 _ second (lit< tt))
+
+pub siphash_below : (c d k0 k1 : ℕ) (text : List ℕ) → k0 < 2 ^ 64 → k1 < 2 ^ 64 → IsText text → sip.siphash c d k0 k1 text < 2 ^ 64
+unfolding blocks tail
+siphash_below c d k0 k1 text first second is =
+    let v = blocks 8 (sip.after_block c) (sip.start k0 k1) text in
+    let v_in : AreFourWords v =
+    blocks_in c (sip.start k0 k1) (pieces 8 text) (start_in k0 k1 first second) (pieces-blocks 8 (lit< tt) text is) in
+    let left : IsText (tail 8 text) = All-drop IsByte (length text / 8 * 8) text is in
+    let last = sip.last_word (tail 8 text) (length text) in
+    let end_in = word_in c v last v_in (last_below (tail 8 text) (length text) left (tail-lt 8 (lit< tt) text)) in
+    let flipped = xored_in 0 0 0xff 0 (sip.after_word c v last) end_in (pow_pos 64) (pow_pos 64) (lit< tt) (pow_pos 64) in
+    folded_below _ (rounds_in d (sip.xored 0 0 0xff 0 (sip.after_word c v last)) flipped)

@@ -1,0 +1,72 @@
+-- Each hash that a line can tell is found by its name, and has the width of its number.
+use Rattle.std.proofs.Common.{ℕ, zero, suc, ◌≡◌, ◌<◌, Bool, true, false, if◌then◌else◌, List, [], ◌∷◌, length, map, Option, Some, None, Contains, refl, ap, ◌∙◌, subst, arith}
+use Rattle.std.specs.List.{AllByRecursion, find}
+use Rattle.std.specs.Option.{option_map}
+use Rattle.std.proofs.lemmas.List.{get_or-map, length-map}
+use Rattle.hash_lines.specs.declared.line.Kind.{Kind}
+use Rattle.hash_sums.specs.Sums.{is_named, kind_of, kinds, sum_at, told_of, width_in, Told}
+
+-- the hash of that name, in letters of either case
+abbrev of_name : List ℕ → List Told → Option Told
+of_name name hashes = find (λ hash. is_named name hash.name) hashes
+
+abbrev IsFound : List Told → Told → Type 0
+IsFound hashes hash = of_name hash.name hashes ≡ Some hash
+
+at_contained : (P : Told → Type 0) (hashes : List Told) → AllByRecursion P hashes → (hash : Told) → Contains hashes hash → P hash
+at_contained P [] all hash (k, below, is) = absurd (omega (arith, below))
+at_contained P (first ∷ more) all hash (zero, below, is) = subst P is all.0
+at_contained P (first ∷ more) all hash (suc k, below, is) = at_contained P more all.1 hash (k, omega (arith, below), is)
+
+-- by computing
+names_are_found : (keys : Option (ℕ × ℕ)) → AllByRecursion (IsFound (kinds keys)) (kinds keys)
+unfolding sum_at
+names_are_found None = (refl, (refl, (refl, (refl, (refl, (refl, (refl, (refl, (refl, (refl, (refl, (refl, (refl, (refl, (refl, (refl, (refl, (refl, (refl, (refl, (refl, (refl, (refl, (refl, (refl, (refl, (refl, (refl, tt))))))))))))))))))))))))))))
+names_are_found (Some keys) = (refl, (refl, (refl, (refl, (refl, (refl, (refl, (refl, (refl, (refl, (refl, (refl, (refl, (refl, (refl, (refl, (refl, (refl, (refl, (refl, (refl, (refl, (refl, (refl, (refl, (refl, (refl, (refl, (refl, (refl, tt))))))))))))))))))))))))))))))
+
+-- what is told of the kind that is found is found
+found_as_told : (name : List ℕ) (told : List Kind)
+    → option_map told_of (find (λ kind. is_named name kind.name.now) told) ≡ of_name name (map told_of told)
+found_as_told name [] = refl
+found_as_told name (kind ∷ more) = at (is_named name kind.name.now) (found_as_told name more)
+  where
+    at : (b : Bool) → option_map told_of (find (λ k. is_named name k.name.now) more) ≡ of_name name (map told_of more)
+        → option_map told_of (if b then Some kind else find (λ k. is_named name k.name.now) more)
+        ≡ (if b then Some (told_of kind) else of_name name (map told_of more))
+    at true rest = refl
+    at false rest = rest
+
+some_kind : (found : Option Kind) (hash : Told) → option_map told_of found ≡ Some hash
+    → (kind : Kind) × (found ≡ Some kind) × (told_of kind ≡ hash)
+some_kind None hash is = cc
+some_kind (Some kind) hash is = (kind, refl, some_same is)
+  where
+    some_same : Some (told_of kind) ≡ Some hash → told_of kind ≡ hash
+    some_same same = cc
+
+pub name_found : (keys : Option (ℕ × ℕ)) (told : List Kind) → map told_of told ≡ kinds keys
+    → (hash : Told) → Contains (kinds keys) hash → (kind : Kind) × (kind_of told (Some hash.name) ≡ Some kind) × (told_of kind ≡ hash)
+name_found keys told same hash has =
+    let found : of_name hash.name (kinds keys) ≡ Some hash =
+    at_contained (IsFound (kinds keys)) (kinds keys) (names_are_found keys) hash has in
+    some_kind (kind_of told (Some hash.name)) hash
+    (found_as_told hash.name told ∙ ap (of_name hash.name) same ∙ found)
+
+-- ---- widths
+
+abbrev HasWidth : Told → Type 0
+HasWidth hash = hash.width ≡ width_in (sum_at hash.which)
+
+-- by computing
+widths_are : (keys : Option (ℕ × ℕ)) → AllByRecursion HasWidth (kinds keys)
+unfolding sum_at
+widths_are None = (refl, (refl, (refl, (refl, (refl, (refl, (refl, (refl, (refl, (refl, (refl, (refl, (refl, (refl, (refl, (refl, (refl, (refl, (refl, (refl, (refl, (refl, (refl, (refl, (refl, (refl, (refl, (refl, tt))))))))))))))))))))))))))))
+widths_are (Some keys) = (refl, (refl, (refl, (refl, (refl, (refl, (refl, (refl, (refl, (refl, (refl, (refl, (refl, (refl, (refl, (refl, (refl, (refl, (refl, (refl, (refl, (refl, (refl, (refl, (refl, (refl, (refl, (refl, (refl, (refl, tt))))))))))))))))))))))))))))))
+
+pub width_is : (keys : Option (ℕ × ℕ)) (told : List Kind) → map told_of told ≡ kinds keys → (kind : Kind) → Contains told kind
+    → kind.width ≡ width_in (sum_at kind.which)
+width_is keys told same kind (k, below, is) =
+    let within : k < length (map told_of told) = omega (arith, below, length-map told told_of) in
+    let there = get_or-map told_of told k kind (told_of kind) below ∙ ap told_of is in
+    at_contained HasWidth (kinds keys) (widths_are keys) (told_of kind)
+    (subst (λ hashes. Contains hashes (told_of kind)) same (k, within, there))

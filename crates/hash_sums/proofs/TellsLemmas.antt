@@ -1,0 +1,126 @@
+-- What a list that passed tells of a file is so.
+use Rattle.std.proofs.Common.{◌≡◌, inl, inr, ℕ, zero, suc, zero-lt-suc, ◌<◌, Bool, true, false, ◌&&◌, ◌==◌, if◌then◌else◌, List, [], ◌∷◌, length, map, Option, Some, None, Result, Ok, Err, Contains, refl, sym, ap, ◌∙◌, subst, arith, slice_index_or}
+use Rattle.std.specs.List.{find}
+use Rattle.std.specs.Option.{unwrap_or}
+use Rattle.std.specs.IoError.{error_kind}
+use Rattle.std.proofs.lemmas.Bool.{and_parts, eqb-true, false≢true}
+use Rattle.std.proofs.lemmas.List.{get_or-map, length-map}
+use Rattle.hash_lines.specs.declared.line.Kind.{Kind}
+use Rattle.hash_lines.specs.declared.parse.HashLine.{HashLine}
+use Rattle.hash_lines.specs.Told.{AreTags, IsTag, Tells}
+use Rattle.hash_lines.proofs.OneLemmas.{line_one}
+use Rattle.text_set.specs.Lines.{lines_by}
+use Rattle.cli.specs.Files.{Opens}
+use Rattle.hash_sums.specs.declared.check.LineCheck.{LineCheck}
+use Rattle.hash_sums.specs.declared.check.LineCheck.TheVariants.{Skipped, Improper, Checked}
+use Rattle.hash_sums.specs.declared.check.Checking.{Checking}
+use Rattle.hash_sums.specs.declared.check.Verdict.{Verdict}
+use Rattle.hash_sums.specs.declared.check.Verdict.TheVariants.{Same, Different, Unread, Missing}
+use Rattle.hash_sums.specs.declared.sum.Unsummed.{Unsummed}
+use Rattle.hash_sums.specs.declared.sum.Unsummed.TheVariants.{Unhashed, Unopened}
+use Rattle.hash_sums.specs.Checking.{is_itself, is_not_found, is_skipped, verdict_on, IsLineCheck}
+use Rattle.hash_sums.specs.Files.{IsNumber, SumsFile}
+use Rattle.hash_sums.specs.Lists.{bare, AreLines}
+use Rattle.hash_sums.specs.Passed.{fails, HasHash, HasPassed, ListTells}
+use Rattle.hash_sums.specs.Program.{taken}
+use Rattle.hash_sums.specs.Sums.{is_named, kind_of, sum_by}
+
+some_same : {X : Type 0} {x y : X} → Some x ≡ Some y → x ≡ y
+some_same {x = x} is = ap (λ o. unwrap_or o x) is
+
+module _ (kinds : List Kind) (checking : Checking) (opens : Opens) where
+  -- a verdict that does not fail its list
+  of_came : (entry : HashLine) (kind : Kind) (name : List ℕ) (number : ℕ) (came : Result ℕ Unsummed)
+      → fails checking.strict (Checked entry (verdict_on checking.ignore_missing number came)) ≡ false
+      → SumsFile (opens name) (sum_by kind) came → HasHash checking opens kind name number
+  of_came entry kind name number (Ok found) well (held, can, is) = at (found == number) refl well
+    where
+      at : (b : Bool) → (found == number) ≡ b → fails checking.strict (Checked entry (if b then Same else Different)) ≡ false
+          → HasHash checking opens kind name number
+      at true same fine = inl (held, can, subst (λ n. IsNumber (sum_by kind) held n) (eqb-true found number same) is)
+      at false other fine = absurd (false≢true (sym fine))
+  of_came entry kind name number (Err (Unopened error)) well cannot =
+      at (checking.ignore_missing && is_not_found (error_kind error)) refl well
+    where
+      at : (b : Bool) → (checking.ignore_missing && is_not_found (error_kind error)) ≡ b
+          → fails checking.strict (Checked entry (if b then Missing else Unread)) ≡ false → HasHash checking opens kind name number
+      at true missing fine =
+          let (ignored, gone) = and_parts checking.ignore_missing (is_not_found (error_kind error)) missing in
+          inr (ignored, error, cannot, gone)
+      at false there fine = absurd (false≢true (sym fine))
+  of_came entry kind name number (Err (Unhashed why)) well cannot = absurd (false≢true (sym well))
+
+  -- a line that tells this and does not fail its list
+  module _ (are : AreTags kinds checking.kind) (list : List ℕ) (kind : Kind) (name : List ℕ) (number : ℕ)
+      (of_another : is_itself list name ≡ false) where
+    of_checked : (line : List ℕ) (entry : HashLine) (verdict : Verdict) → Tells kinds checking.kind kind name number line
+        → IsLineCheck kinds checking opens list line (Checked entry verdict) → fails checking.strict (Checked entry verdict) ≡ false
+        → HasHash checking opens kind name number
+    of_checked line entry verdict tells (unskipped, inr (none, so), other, by) well = absurd (none kind name number tells)
+    of_checked line entry verdict tells (unskipped, inl too, other, inl (lacks, unkeyed)) well =
+        absurd (false≢true (sym well ∙ ap (λ v. fails checking.strict (Checked entry v)) unkeyed))
+    of_checked line entry verdict tells (unskipped, inl too, other, inr (has, (came, sums, is))) well =
+        let (kinds_are, names_are, numbers_are) =
+        line_one kinds checking.kind are kind entry.kind name entry.name.items number entry.number line tells too in
+        let there = of_came entry entry.kind entry.name.items entry.number came
+        (subst (λ v. fails checking.strict (Checked entry v) ≡ false) (sym is) well) sums in
+        subst (λ k. HasHash checking opens k name number) (sym kinds_are)
+        (subst (λ n. HasHash checking opens entry.kind n number) (sym names_are)
+        (subst (λ n. HasHash checking opens entry.kind entry.name.items n) (sym numbers_are) there))
+
+    of_line : (line : List ℕ) (came : LineCheck) → Tells kinds checking.kind kind name number line → is_skipped line ≡ false
+        → IsLineCheck kinds checking opens list line came → fails checking.strict came ≡ false → HasHash checking opens kind name number
+    of_line line Skipped tells no_comment skipped well = absurd (false≢true (sym no_comment ∙ skipped))
+    of_line line Improper tells no_comment (unskipped, inl none) well = absurd (none.0 kind name number tells)
+    of_line line Improper tells no_comment (unskipped, inr (other, more, count, inl too, itself)) well =
+        let same = line_one kinds checking.kind are kind other name more number count line tells too in
+        absurd (false≢true (sym of_another ∙ ap (is_itself list) same.1 ∙ itself))
+    of_line line Improper tells no_comment (unskipped, inr (other, more, count, inr (none, so), itself)) well =
+        absurd (none kind name number tells)
+    of_line line (Checked entry verdict) tells no_comment came well = of_checked line entry verdict tells came well
+
+    -- what a list that passed tells
+    pub told_is_so : HasPassed kinds checking opens list → ListTells kinds checking opens list kind name number
+        → HasHash checking opens kind name number
+    told_is_so passed told =
+        let are_lines : map (λ line. line.0) passed.lines ≡ lines_by 10 told.text =
+        subst (λ held. AreLines held (map (λ line. line.0) passed.lines)) (told.holds passed.held passed.opened) passed.are_lines in
+        let (k, within, is) = subst (λ ls. Contains ls told.line) (sym are_lines) told.is_line in
+        let line : List ℕ × LineCheck = slice_index_or passed.lines k (told.line, Skipped) in
+        let below : k < length passed.lines = omega (arith, within, length-map passed.lines (λ (l : List ℕ × LineCheck). l.0)) in
+        let is_line : told.line ≡ line.0 = sym is ∙ get_or-map (λ (l : List ℕ × LineCheck). l.0) passed.lines k (told.line, Skipped) told.line below in
+        let bare_is : bare told.line ≡ bare line.0 = ap bare is_line in
+        of_line (bare line.0) line.1 (subst (λ l. Tells kinds checking.kind kind name number l) bare_is told.tells)
+        (subst (λ l. is_skipped l ≡ false) bare_is told.no_comment) (passed.came k (told.line, Skipped) below)
+        (passed.none_fails k (told.line, Skipped) below)
+
+-- of the kinds that can be told, the one that is taken alone has a tag too
+pub taken_are_tags : (kinds : List Kind) (checking : Checking) → AreTags kinds checking.kind → Contains kinds checking.kind
+    → AreTags (taken kinds checking) checking.kind
+taken_are_tags kinds checking are has = at checking.only
+  where
+    one : (other : Kind) → Contains (checking.kind ∷ []) other → other ≡ checking.kind
+    one other (zero, below, is) = sym is
+    one other (suc k, below, is) = absurd (omega (arith, below))
+
+    at : (b : Bool) → AreTags (if b then checking.kind ∷ [] else kinds) checking.kind
+    at false = are
+    at true = record {
+      each = λ other inside. subst (λ (k : Kind). IsTag k.name.now) (sym (one other inside)) (are.each checking.kind has);
+      apart = λ other more inside too same. one other inside ∙ sym (one more too);
+    }
+
+-- the kind of a name, or the first, is among them
+kind_found : (p : Kind → Bool) (kinds : List Kind) (kind : Kind) → find p kinds ≡ Some kind → Contains kinds kind
+kind_found p [] kind none = cc
+kind_found p (first ∷ more) kind is = at (p first) is (kind_found p more kind)
+  where
+    at : (b : Bool) → (if b then Some first else find p more) ≡ Some kind → (find p more ≡ Some kind → Contains more kind)
+        → Contains (first ∷ more) kind
+    at true same later = (0, zero-lt-suc (length more), some_same same)
+    at false rest later = let (k, below, there) = later rest in (suc k, omega (arith, below), there)
+
+pub kind_is_there : (kinds : List Kind) (name : Option (List ℕ)) (kind : Kind) → kind_of kinds name ≡ Some kind → Contains kinds kind
+kind_is_there [] None kind none = cc
+kind_is_there (first ∷ more) None kind is = (0, zero-lt-suc (length more), some_same is)
+kind_is_there kinds (Some name) kind is = kind_found (λ k. is_named name k.name.now) kinds kind is

@@ -1,0 +1,69 @@
+use Rattle.std.proofs.Common.{ℕ, ◌%◌, ◌^◌, ◌<◌, ◌≤◌, List, arith, lit≤}
+use Rattle.hash_laws.specs.Text.{IsText}
+use Rattle.hash_lines.specs.Line.{digits_of}
+use Rattle.hash_lines.specs.declared.line.Kind.{Kind as LineKind}
+use Rattle.hash_keyed.specs.Poly61.{prime61}
+use Rattle.hash_names.specs.Named.{bits_of}
+use Rattle.hash_names.specs.Wide.{both}
+use Rattle.hash_names.specs.declared.table.Kind.{Kind}
+use Rattle.hash_names.specs.declared.table.Kind.TheVariants.{Fnv1a32, Fnv1a64, Djb2, Sdbm, LoseLose, Bricolage, Oaat, Lookup3, Spooky, SpookyV1, PassThrough, FxHash, FxHash32, FxHash64, Crc32, Crc32c, Fnv1At32, Fnv1At64, Djb2Add, Joaat, Elf, Null, Xxh32, Xxh64, Murmur3At32, Murmur3, SipHash13, SipHash24, Xxh3}
+use Rattle.hash_sums.specs.declared.sums.Sum.{Sum}
+use Rattle.hash_sums.specs.declared.sums.Sum.TheVariants as sum
+use Rattle.hash_sums.specs.declared.sums.Wide.{Wide}
+use Rattle.hash_sums.specs.declared.sums.Wide.TheVariants as wide
+use Rattle.hash_sums.specs.Sums.{sum_of, wide_of, width_in, width_of}
+use Rattle.hash_sums.proofs.FitLemmas.{murmur3_below, siphash_below, spooky_below, xxh128_below}
+use Rattle.hash_sums.proofs.KeyLemmas.{in_64}
+use Rattle.hash_sums.proofs.laws.each_number_has_its_digits.Goals as goal
+
+-- two words side by side
+both_below : (words : ℕ × ℕ) → (words.0 < 2 ^ 64) × (words.1 < 2 ^ 64) → both words < 2 ^ 128
+both_below words are = omega (arith, are.0, are.1)
+
+wide_below : (which : Wide) (text : List ℕ) → wide_of which text < 2 ^ 128
+wide_below wide.Spooky text = both_below _ (spooky_below text)
+wide_below wide.Murmur3 text = both_below _ (murmur3_below 0 text)
+wide_below wide.Xxh3 text = let (low, high) = xxh128_below 0 text in both_below _ (high, low)
+
+-- a digit for four bits
+digits_for : (kind : Kind) → 2 ^ bits_of kind ≤ 16 ^ digits_of (width_of (bits_of kind))
+digits_for Fnv1a32 = lit≤ tt
+digits_for Fnv1a64 = lit≤ tt
+digits_for Djb2 = lit≤ tt
+digits_for Sdbm = lit≤ tt
+digits_for LoseLose = lit≤ tt
+digits_for Bricolage = lit≤ tt
+digits_for Oaat = lit≤ tt
+digits_for Lookup3 = lit≤ tt
+digits_for Spooky = lit≤ tt
+digits_for SpookyV1 = lit≤ tt
+digits_for PassThrough = lit≤ tt
+digits_for FxHash = lit≤ tt
+digits_for FxHash32 = lit≤ tt
+digits_for FxHash64 = lit≤ tt
+digits_for Crc32 = lit≤ tt
+digits_for Crc32c = lit≤ tt
+digits_for Fnv1At32 = lit≤ tt
+digits_for Fnv1At64 = lit≤ tt
+digits_for Djb2Add = lit≤ tt
+digits_for Joaat = lit≤ tt
+digits_for Elf = lit≤ tt
+digits_for Null = lit≤ tt
+digits_for Xxh32 = lit≤ tt
+digits_for Xxh64 = lit≤ tt
+digits_for Murmur3At32 = lit≤ tt
+digits_for Murmur3 = lit≤ tt
+digits_for SipHash13 = lit≤ tt
+digits_for SipHash24 = lit≤ tt
+digits_for Xxh3 = lit≤ tt
+
+pub returns : goal.returns
+returns c = fits
+  where
+    fits : (kind : LineKind) (which : Sum) (text : List ℕ) → kind.keys.0 < 2 ^ 64 → kind.keys.1 < 2 ^ 64 → IsText text
+        → sum_of kind.keys which text < 16 ^ digits_of (width_in which)
+    fits kind (sum.Table row) text first second is = omega (arith, c.each_hash_fits.ensures.read row text is, digits_for row)
+    fits kind (sum.Wide which) text first second is = wide_below which text
+    fits kind sum.Poly61 text first second is =
+        both_below (_, _) (in_64 (kind.keys.0 % prime61) text, in_64 (kind.keys.1 % prime61) text)
+    fits kind sum.SipHash24 text first second is = siphash_below 2 4 kind.keys.0 kind.keys.1 text first second is

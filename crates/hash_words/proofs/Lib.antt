@@ -1,0 +1,6 @@
+pub mod Chunks
+pub mod PieceLemmas
+pub mod PutLemmas
+pub mod WordLemmas
+pub mod XorLemmas
+pub mod XorshiftLemmas

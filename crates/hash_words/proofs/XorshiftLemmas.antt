@@ -1,0 +1,63 @@
+-- A word with a shift of itself folded on, and how that is undone.
+use Rattle.std.proofs.Common.{◌≡◌, ℕ, ◌+◌, ◌*◌, ◌/◌, ◌^◌, ◌<◌, ◌≤◌, bit_xor, refl, sym, ◌∙◌, ap, lit<, add_comm, arith}
+use Rattle.std.specs.Int.Bits.{xor_assoc, xor_self, xor_zero_l, xor_zero_r}
+use Rattle.std.proofs.Math.Nat.{div-eq_of_lt, pow-le-pow_right, mul_comm}
+use Rattle.std.proofs.lemmas.Nat.{xor_shr, shr-shr, xor_comm, xor_lt, shr_le}
+use Rattle.hash_words.specs.Words.{xorshift}
+
+xor_swap : (a b c d : ℕ) → bit_xor (bit_xor a b) (bit_xor c d) ≡ bit_xor (bit_xor a c) (bit_xor b d)
+xor_swap a b c d =
+    rw (xor_assoc a b (bit_xor c d), ← xor_assoc b c d, xor_comm b c, xor_assoc c b d, ← xor_assoc a c (bit_xor b d)) refl
+
+xor_left : (a b : ℕ) → bit_xor a (bit_xor a b) ≡ b
+xor_left a b = rw (← xor_assoc a a b, xor_self a) (xor_zero_l b)
+
+-- two shifts by k are one by twice as much
+xorshift-twice : (x k : ℕ) → xorshift (xorshift x k) k ≡ xorshift x (2 * k)
+xorshift-twice x k =
+    let double : k + k ≡ 2 * k = omega arith in
+    rw (
+      xor_shr x (x / 2 ^ k) k,
+      xor_assoc x (x / 2 ^ k) (bit_xor (x / 2 ^ k) (x / 2 ^ k / 2 ^ k)),
+      xor_left (x / 2 ^ k)
+          (x / 2 ^ k / 2 ^ k),
+      shr-shr x k k,
+      double,
+    ) refl
+
+xorshift-swap : (x j k : ℕ) → xorshift (xorshift x j) k ≡ xorshift (xorshift x k) j
+xorshift-swap x j k =
+    rw (
+      xor_shr x (x / 2 ^ j) k,
+      xor_shr x (x / 2 ^ k) j,
+      xor_swap x (x / 2 ^ j) (x / 2 ^ k) (x / 2 ^ j / 2 ^ k),
+      shr-shr x j k,
+      shr-shr x
+          k j,
+      add_comm j k,
+    ) refl
+
+pub xorshift-past : (x k : ℕ) → x < 2 ^ 64 → 64 ≤ k → xorshift x k ≡ x
+xorshift-past x k x_in past =
+    let none : x / 2 ^ k ≡ 0 = div-eq_of_lt (omega (arith, pow-le-pow_right {n = 2} (lit< tt) {i = 64} {j = k} past)) in
+    rw none (xor_zero_r x)
+
+-- the step of the loop that undoes a shift: y is on the way from x
+pub xorshift-more : (x y j k : ℕ) → xorshift y k ≡ xorshift x j → xorshift (xorshift y j) k ≡ xorshift x (j * 2)
+xorshift-more x y j k so_far =
+    xorshift-swap y j k ∙ ap (λ n. xorshift n j) so_far ∙ xorshift-twice x j ∙ ap (xorshift x) (mul_comm 2 j)
+
+same_twice : (y z k : ℕ) → xorshift y k ≡ xorshift z k → xorshift y (2 * k) ≡ xorshift z (2 * k)
+same_twice y z k same = sym (xorshift-twice y k) ∙ ap (λ n. xorshift n k) same ∙ xorshift-twice z k
+
+-- a word is known by its shift
+pub same_from_xorshift : (y z k : ℕ) → y < 2 ^ 64 → z < 2 ^ 64 → 0 < k → xorshift y k ≡ xorshift z k → y ≡ z
+same_from_xorshift y z k y_in z_in some same =
+    let far = 2 * (2 * (2 * (2 * (2 * (2 * k))))) in
+    let past : 64 ≤ far = omega arith in
+    let all = same_twice y z _ (same_twice y z _ (same_twice y z _ (same_twice y z _ (same_twice y z _ (same_twice y z k same))))) in
+    sym (xorshift-past y far y_in past) ∙ all ∙ xorshift-past z far z_in past
+
+-- a shift of a word is a word
+pub xorshift-lt : (x k : ℕ) → x < 2 ^ 64 → xorshift x k < 2 ^ 64
+xorshift-lt x k x_in = xor_lt 64 x (x / 2 ^ k) x_in (omega (arith, shr_le x k))

@@ -1,0 +1,6 @@
+use Rattle.std.proofs.Common.{◌∙◌}
+use Rattle.hash_words.proofs.WordLemmas.{from_le_bytes-8}
+use Rattle.hash_words.proofs.words.le64.Goals as goal
+
+pub returns : goal.returns
+returns c = c.from_le_bytes.ensures ∙ from_le_bytes-8 c.args.bytes.now c.told-bytes

@@ -1,0 +1,20 @@
+//! One changed byte changes the hash of a hasher that goes a step for each byte.
+
+// What follows is the proved text of crates/hash_windows/src/changed_byte.rt without its contracts.
+use crate::hash_laws;
+
+use crate::hash_windows::window::differ_at_one_place;
+use hash_laws::traits::ByteStep;
+
+/// Whether the lengths are equal and exactly one place differs. Where so, the default hashes differ. Computes no hash.
+///
+/// Proved:
+///
+/// ```text
+/// exactly: IsTrue result ↔ DifferAtOnePlace x.now y.now
+/// differ: OnTrue result (H.hash_of x.now ≢ H.hash_of y.now)
+/// ```
+#[inline]
+pub fn apart_by_one<H: ByteStep>(x: &[u8], y: &[u8]) -> bool {
+    differ_at_one_place(x, y)
+}
