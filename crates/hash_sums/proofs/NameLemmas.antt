@@ -1,8 +1,7 @@
 -- Each hash that a line can tell is found by its name, and has the width of its number.
 use Rattle.std.proofs.Common.{ℕ, zero, suc, ◌≡◌, ◌<◌, Bool, true, false, if◌then◌else◌, List, [], ◌∷◌, length, map, Option, Some, None, Contains, refl, ap, ◌∙◌, subst, arith}
 use Rattle.std.specs.List.{AllByRecursion, find}
-use Rattle.std.specs.Option.{option_map}
-use Rattle.std.proofs.Math.Option.{some-injective}
+use Rattle.std.specs.Option.{option_map, unwrap_or}
 use Rattle.std.proofs.lemmas.List.{get_or-map, length-map}
 use Rattle.hash_lines.specs.declared.line.Kind.{Kind}
 use Rattle.hash_sums.specs.Sums.{is_named, kind_of, kinds, sum_at, told_of, width_in, Told}
@@ -37,10 +36,13 @@ found_as_told name (kind ∷ more) = at (is_named name kind.name.now) (found_as_
     at true rest = refl
     at false rest = rest
 
+pub some_same : {X : Type 0} {x y : X} → Some x ≡ Some y → x ≡ y
+some_same {x = x} is = ap (λ o. unwrap_or o x) is
+
 some_kind : (found : Option Kind) (hash : Told) → option_map told_of found ≡ Some hash
     → (kind : Kind) × (found ≡ Some kind) × (told_of kind ≡ hash)
 some_kind None hash is = cc
-some_kind (Some kind) hash is = (kind, refl, some-injective _ _ is)
+some_kind (Some kind) hash is = (kind, refl, some_same is)
 
 pub name_found : (keys : Option (ℕ × ℕ)) (told : List Kind) → map told_of told ≡ kinds keys
     → (hash : Told) → Contains (kinds keys) hash → (kind : Kind) × (kind_of told (Some hash.name) ≡ Some kind) × (told_of kind ≡ hash)
