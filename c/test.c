@@ -279,6 +279,47 @@ static void check_filter(whole *first, whole *second, on_filter *insert, in_filt
     same("contains of a union", 1, contains(words, WORDS, BITS, PROBES, "other", 5) & contains(words, WORDS, BITS, PROBES, text, 9));
 }
 
+// Where the first chunk of a text ends, by the definition: the first place from `least` on where the gear hash of the 64 bytes before it is
+// low, but no later than `most` and the end.
+static size_t first_end(const unsigned char *bytes, size_t n, const hashers_cutting *c) {
+    size_t end = n < c->most ? n : c->most;
+    for (size_t place = c->least; place < end; place++) {
+        uint64_t hash = 0;
+        for (size_t i = place - 64; i < place; i++) hash = 2 * hash + hashers_spooky128(bytes + i, 1, c->seed1, c->seed2).first;
+        if ((unsigned __int128)hash * c->average >> 64 == 0) return place;
+    }
+    return end;
+}
+
+static void check_chunks(void) {
+    enum { SIZE = 5000, ROOM = SIZE / 64 + 1 };
+    static unsigned char bytes[SIZE];
+    static const hashers_cutting some[] = {{64, 64, 64, 0, 0}, {64, 100, 300, 0, 0}, {100, 100, 5000, 1, 2}, {64, 4000, 9000, 3, 0}};
+    for (size_t i = 0; i < SIZE; i++) bytes[i] = (unsigned char)(random_number() >> 32);
+    for (size_t k = 0; k < sizeof some / sizeof *some; k++) {
+        uint64_t ends[ROOM + 1], few[3] = {7, 7, 7};
+        ends[ROOM] = 7;
+        size_t count = hashers_chunk_ends(bytes, SIZE, &some[k], ends, ROOM), place = 0;
+        for (size_t i = 0; i < count; i++) {
+            place += first_end(bytes + place, SIZE - place, &some[k]);
+            same("the end of a chunk", place, ends[i]);
+        }
+        same("the last chunk ends where the text does", SIZE, place);
+        same("no end behind the last", 7, ends[ROOM]);
+        same("as many ends as there is room for", count < 2 ? count : 2, hashers_chunk_ends(bytes, SIZE, &some[k], few, 2));
+        same("the first end", ends[0], few[0]);
+        same("past the room", 7, few[2]);
+        same("no bytes, no chunk", 0, hashers_chunk_ends(NULL, 0, &some[k], few, 2));
+        same("no room", 0, hashers_chunk_ends(bytes, SIZE, &some[k], NULL, 0));
+    }
+    static const hashers_cutting wrong[] = {{63, 100, 300, 0, 0}, {64, 63, 300, 0, 0}, {64, 100, 99, 0, 0}, {SIZE_MAX, 0, 1, 0, 0}, {0, 0, 0, 0, 0}};
+    for (size_t k = 0; k < sizeof wrong / sizeof *wrong; k++) {
+        uint64_t end = 7;
+        same("sizes that cannot be", 0, hashers_chunk_ends(bytes, SIZE, &wrong[k], &end, 1));
+        same("nothing is written", 7, end);
+    }
+}
+
 // A text of two parts from their hashes.
 static void check_combine(void) {
     for (size_t n = 0; n < 100; n++) {
@@ -513,6 +554,7 @@ int main(void) {
     check_numbers();
     check_filter(hashers_fnv1a64, hashers_lookup3, hashers_bloom_fnv1a64_lookup3_insert, hashers_bloom_fnv1a64_lookup3_contains);
     check_filter(hashers_spooky, hashers_lookup3, hashers_bloom_spooky_lookup3_insert, hashers_bloom_spooky_lookup3_contains);
+    check_chunks();
     check_states_of_any_bytes();
     check_blocks_of_any_bytes();
     printf("%d passed, %d failed\n", passed, failed);

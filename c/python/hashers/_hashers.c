@@ -860,6 +860,27 @@ static PyObject *lines(PyObject *module, PyObject *args) {
     return answer;
 }
 
+// Where the first chunks of the data end goes to `out` as far as it has room; the answer is how many these are.
+static PyObject *chunk_ends(PyObject *module, PyObject *args) {
+    PyObject *from, *out, *given[5];
+    uint64_t it[5];
+    held data, room;
+    size_t places = 0, found;
+    if (!PyArg_ParseTuple(args, "OOOOOOO", &from, &out, &given[0], &given[1], &given[2], &given[3], &given[4])) return NULL;
+    if (words_of(given, 5, it) < 0 || hold_buffer(out, PyBUF_WRITABLE, &room) < 0) return NULL;
+    const hashers_cutting cutting = {it[0], it[1], it[2], it[3], it[4]};
+    PyObject *answer = NULL;
+    if (hold(from, &data) == 0) {
+        if (apart(&room, &data) == 0 && items(&room, 8, &places) == 0) {
+            OVER(data.n, found = hashers_chunk_ends(data.at, data.n, &cutting, (uint64_t *)room.at, places));
+            answer = PyLong_FromSize_t(found);
+        }
+        drop(&data);
+    }
+    drop(&room);
+    return answer;
+}
+
 // The hash of each number of a buffer to another one.
 static PyObject *number_column(PyObject *module, PyObject *args) {
     PyObject *from, *out, *key_from[2];
@@ -1216,6 +1237,7 @@ static PyMethodDef functions[] = {
     {"_number_of", number_of, METH_O, "The number of a name; ValueError for spooky128, whose hashes fit no 64 bits."},
     {"_lines", lines, METH_VARARGS, NULL},
     {"_column", column, METH_VARARGS, NULL},
+    {"_chunk_ends", chunk_ends, METH_VARARGS, NULL},
     {"_number_column", number_column, METH_VARARGS, NULL},
     {"_unite", unite, METH_VARARGS, NULL},
     {"_revived", revived, METH_VARARGS, NULL},

@@ -795,6 +795,93 @@ class ManyTexts(unittest.TestCase):
             self.assertRaises(TypeError, hashers.hash_column, "djb2", other, TEXT)
 
 
+def first_end(text: bytes, cuts: hashers.Cuts) -> int:
+    """Where the first chunk ends, by the definition: at the first place where the gear hash of the 64 bytes before it is low."""
+    numbers = [hashers.spooky128(bytes([byte]), cuts.seed1, cuts.seed2)[0] for byte in range(256)]
+    end = min(len(text), cuts.most)
+    for place in range(cuts.least, end):
+        value = 0
+        for byte in text[place - 64:place]:
+            value = (2 * value + numbers[byte]) % 2 ** 64
+        if value * cuts.average < 2 ** 64:
+            return place
+    return end
+
+
+class ByThreeBytes(io.RawIOBase):
+    """A file of which a read gives three bytes at most."""
+    def __init__(self, text: bytes) -> None:
+        self.text = io.BytesIO(text)
+
+    def read(self, size: int = -1) -> bytes:
+        return self.text.read(3)
+
+
+class Chunks(unittest.TestCase):
+    text = Random(5).randbytes(5000)
+
+    def test_by_the_definition(self) -> None:
+        for cuts in (hashers.Cuts(64, most=64), hashers.Cuts(100, least=64, most=300), hashers.Cuts(100, least=100, most=5000, seed1=1, seed2=2),
+                     hashers.Cuts(4000, least=64)):
+            wanted, place = [], 0
+            while place < len(self.text):
+                place += first_end(self.text[place:], cuts)
+                wanted.append(place)
+            self.assertEqual(list(cuts.ends(self.text)), wanted)
+            self.assertEqual(list(map(len, cuts.chunks(self.text))), [to - at for at, to in zip([0, *wanted], wanted)])
+
+    def test_data_and_files_are_cut_alike(self) -> None:
+        cuts = hashers.Cuts(256)
+        chunks = list(map(bytes, cuts.chunks(self.text)))
+        self.assertEqual(b"".join(chunks), self.text)
+        for file in (io.BytesIO(self.text), ByThreeBytes(self.text)):
+            self.assertEqual(list(cuts.chunks(cast(io.BytesIO, file))), chunks)
+        self.assertEqual(list(map(bytes, hashers.chunks(array("Q", self.text), 256))), chunks)
+        self.assertEqual([list(cuts.chunks(each)) for each in (b"", io.BytesIO())], [[], []])
+        with unittest.mock.patch.object(sys.modules["hashers._chunks"], "LEAST_READ", 1):
+            self.assertEqual(list(cuts.chunks(io.BytesIO(self.text))), chunks)
+        for kept in cuts.chunks(self.text):
+            self.assertIs(cast(memoryview, kept).obj, self.text)
+
+    def test_a_large_file(self) -> None:
+        text = Random(6).randbytes(3 << 20)
+        chunks = list(hashers.chunks(io.BytesIO(text)))
+        self.assertEqual(list(hashers.chunks(text)), chunks)
+        self.assertTrue(all(16384 <= len(each) <= 262144 for each in chunks[:-1]))
+        self.assertGreater(len(chunks), 20)
+
+    def test_an_edit_changes_the_chunks_around_it(self) -> None:
+        before, after = (set(map(bytes, hashers.chunks(text, 128))) for text in (self.text, self.text[:2000] + b"new" + self.text[2000:]))
+        self.assertLess(len(after - before), 5)
+        self.assertGreater(len(after & before), 15)
+
+    def test_what_is_refused(self) -> None:
+        for sizes in ({"average": 63}, {"average": 100, "least": 101}, {"average": 100, "least": 63}, {"average": 100, "most": 99},
+                      {"average": 1 << 62}, {"average": -1}, {"seed1": -1}, {"seed2": 1 << 64}):
+            with self.assertRaises(ValueError):
+                hashers.Cuts(**sizes)
+        with self.assertRaises(TypeError):
+            list(hashers.chunks(cast(Any, io.StringIO("a"))))
+        with self.assertRaises(TypeError):
+            hashers.chunks(cast(Any, "a")).__next__()
+        with self.assertRaises(TypeError):
+            hashers.Cuts(cast(Any, 1.5))
+        with self.assertRaises(BlockingIOError):
+            list(hashers.chunks(unittest.mock.Mock(read=lambda size: None)))
+        with self.assertRaises((BufferError, TypeError)):
+            _hashers._chunk_ends(b"a", b"12345678", 64, 64, 64, 0, 0)
+        with self.assertRaises(ValueError):
+            _hashers._chunk_ends(b"a", bytearray(9), 64, 64, 64, 0, 0)
+        with self.assertRaises(ValueError):
+            _hashers._chunk_ends(b"a", bytearray(8), 64, 64, 64, -1, 0)
+        self.assertEqual(_hashers._chunk_ends(b"a", bytearray(8), 63, 64, 64, 0, 0), 0)
+
+    def test_what_is_shown(self) -> None:
+        cuts = hashers.Cuts(1024, seed2=7)
+        self.assertEqual(repr(cuts), "Cuts(1024, least=256, most=4096, seed1=0, seed2=7)")
+        self.assertEqual(eval(repr(cuts), vars(hashers)).ends(self.text), cuts.ends(self.text))
+
+
 class Filters(unittest.TestCase):
     def test_keys_are_found(self) -> None:
         for hashes in ("fnv1a64_lookup3", "spooky_lookup3"):

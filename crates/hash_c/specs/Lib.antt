@@ -6,3 +6,4 @@ pub mod Lines
 pub mod SpookyState
 pub mod Kinds
 pub mod Numbers
+pub mod Chunks

@@ -6,6 +6,7 @@ ghost use Rattle.std.specs.Prelude.{◌≡◌};
 
 mod block;
 mod bloom;
+mod chunks;
 mod column;
 mod columns;
 mod combine;

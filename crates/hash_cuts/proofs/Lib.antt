@@ -1,5 +1,6 @@
 pub mod GearLemmas
 pub mod CutLemmas
 pub mod ChunkLemmas
+pub mod EndLemmas
 pub mod InStep
 pub mod GivenLemmas

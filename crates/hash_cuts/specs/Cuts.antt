@@ -42,3 +42,12 @@ chunks_upto (suc n) cuts (byte ∷ text) =
 -- the chunks of a text: the first one, and those of the rest
 abbrev pub chunks : Cutting → List ℕ → List (List ℕ)
 chunks cuts text = chunks_upto (length text) cuts text
+
+-- where chunks end that begin at a place
+unfoldable pub ends_from : ℕ → List (List ℕ) → List ℕ
+ends_from place [] = []
+ends_from place (chunk ∷ chunks) = (place + length chunk) ∷ ends_from (place + length chunk) chunks
+
+-- where the chunks of a text end
+abbrev pub chunk_ends : Cutting → List ℕ → List ℕ
+chunk_ends cuts text = ends_from 0 (chunks cuts text)

@@ -1,7 +1,7 @@
 //! Where a text is cut.
-ghost use Rattle.std.specs.Prelude.{◌≡◌, ◌≤◌, ◌<◌, ◌↔◌, ℕ, List, IfSome, IsSome, length};
+ghost use Rattle.std.specs.Prelude.{◌≡◌, ◌≤◌, ◌<◌, ◌↔◌, ◌++◌, ℕ, List, IfSome, IsSome, length, take, drop, min};
 ghost use Rattle.std.specs.Iterator.{YieldsFirstRef, item_count};
-ghost use Rattle.hash_cuts.specs.Cuts.{AreSizes, Cutting, HasSizes, chunks, cutting, first_cut};
+ghost use Rattle.hash_cuts.specs.Cuts.{AreSizes, Cutting, HasSizes, chunk_ends, chunks, cutting, first_cut};
 
 use crate::gear::Gear;
 use std::marker::Model;
@@ -93,6 +93,22 @@ impl Cuts {
             hash = self.gear.step(hash, text[place]);
         }
         end
+    }
+
+    /// Writes where the first chunks of the text end, in bytes from its beginning, and returns how many these are: all chunks, or as many
+    /// as there are places for.
+    pub fn ends(&self, text: &[u8], ends: &mut [u64]) -> usize
+        ensures count { result ≡ min (length ends.old) (length (chunk_ends self.now text.now)) }
+        ensures written { ends.new ≡ take result (chunk_ends self.now text.now) ++ drop result ends.old }
+    {
+        let mut place = 0;
+        let mut count = 0;
+        while count < ends.len() && place < text.len() {
+            place += self.first_cut(&text[place..]);
+            ends[count] = place as u64;
+            count += 1;
+        }
+        count
     }
 
     /// The chunks of the text, in their order.

@@ -3,7 +3,7 @@ ghost use Rattle.std.specs.Prelude.{◌≡◌, ℕ, slice_index};
 ghost use Rattle.hash_cuts.specs.Gear.{AreNumbers, gear, gear_of, gear_step};
 
 use hashers::jenkins::spooky_hash::SpookyHasher;
-use std::hash::Hasher;
+use hashers::laws::Piecewise;
 use std::marker::Model;
 
 /// The numbers of the bytes under two seeds. Contracts see the seeds.
@@ -31,7 +31,7 @@ fn number_of(seed1: u64, seed2: u64, byte: u8) -> u64
     ensures { result ≡ gear seed1 seed2 byte }
 {
     let mut hasher = SpookyHasher::new(seed1, seed2);
-    hasher.write(&[byte]);
+    hasher.feed(&[byte]);
     hasher.finish128().0
 }
 

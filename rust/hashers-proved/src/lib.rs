@@ -102,6 +102,13 @@ pub mod hash_bloom {
     pub mod bits;
     pub mod words;
 }
+#[cfg(not(feature = "std"))]
+#[doc(hidden)]
+pub mod hash_cuts {
+    mod cuts;
+    mod gear;
+    pub use cuts::{Chunks, Cuts};
+}
 #[doc(hidden)]
 pub mod hash_names {
     #[cfg(feature = "std")]

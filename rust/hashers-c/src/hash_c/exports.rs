@@ -1,5 +1,6 @@
 //! The calls of `c/hashers.h` over the erased functions, written by rust/erase. This file alone has unsafe code.
 use super::block::BlockState;
+use super::chunks::Cutting;
 use super::numbers::NumberKey;
 use super::spooky::{SpookyState, Words};
 use super::*;
@@ -309,6 +310,23 @@ pub unsafe extern "C" fn hashers_bloom_spooky_lookup3_contains(
 pub unsafe extern "C" fn hashers_bloom_union(words: *mut u64, words_count: usize, others: *const u64, others_count: usize) -> bool {
     // SAFETY: as said above.
     unsafe { bloom::hashers_bloom_union(slice_mut(words, words_count), slice(others, others_count)) }
+}
+
+/// See `hashers.h`.
+///
+/// # Safety
+///
+/// Each pointer and its count are so many items that nothing else writes during the call.
+#[no_mangle]
+pub unsafe extern "C" fn hashers_chunk_ends(
+    text: *const u8,
+    text_count: usize,
+    cutting: &Cutting,
+    ends: *mut u64,
+    ends_count: usize,
+) -> usize {
+    // SAFETY: as said above.
+    unsafe { chunks::hashers_chunk_ends(slice(text, text_count), cutting, slice_mut(ends, ends_count)) }
 }
 
 /// See `hashers.h`.

@@ -7,6 +7,7 @@ mod exports;
 
 mod block;
 mod bloom;
+mod chunks;
 mod column;
 mod columns;
 mod combine;

@@ -101,6 +101,27 @@ impl Cuts {
         end
     }
 
+    /// Writes where the first chunks of the text end, in bytes from its beginning, and returns how many these are: all chunks, or as many
+    /// as there are places for.
+    ///
+    /// Proved:
+    ///
+    /// ```text
+    /// count: result ≡ min (length ends.old) (length (chunk_ends self.now text.now))
+    /// written: ends.new ≡ take result (chunk_ends self.now text.now) ++ drop result ends.old
+    /// ```
+    #[inline]
+    pub fn ends(&self, text: &[u8], ends: &mut [u64]) -> usize {
+        let mut place = 0;
+        let mut count = 0;
+        while count < ends.len() && place < text.len() {
+            place += self.first_cut(&text[place..]);
+            ends[count] = place as u64;
+            count += 1;
+        }
+        count
+    }
+
     /// The chunks of the text, in their order.
     ///
     /// Proved:

@@ -4,10 +4,9 @@
 // Clauses name the seeds.
 #![allow(dead_code)]
 use crate::hashers;
-use crate::shim::std;
 
 use hashers::jenkins::spooky_hash::SpookyHasher;
-use std::hash::Hasher;
+use hashers::laws::Piecewise;
 
 /// The numbers of the bytes under two seeds. Contracts see the seeds.
 pub struct Gear {
@@ -26,7 +25,7 @@ pub struct Gear {
 #[inline]
 fn number_of(seed1: u64, seed2: u64, byte: u8) -> u64 {
     let mut hasher = SpookyHasher::new(seed1, seed2);
-    hasher.write(&[byte]);
+    hasher.feed(&[byte]);
     hasher.finish128().0
 }
 

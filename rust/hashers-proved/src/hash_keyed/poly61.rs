@@ -76,7 +76,8 @@ impl Poly61Hasher {
     /// Proved:
     ///
     /// ```text
-    /// MatchOption result (¬ IsPosition (place_of place.now)) (λ h. (h ≡ place_of place.now) × IsPosition h)
+    /// MatchOption result (¬ IsPosition (place_of place.now))
+    ///     (λ h. (h ≡ place_of place.now) × IsPosition h)
     /// ```
     #[inline(always)]
     pub fn at(place: &Poly61Place) -> Option<Poly61Hasher> {
@@ -144,7 +145,8 @@ impl Hasher for Poly61Hasher {
     ///
     /// ```text
     /// value: result ≡ as_word (poly_end self.now)
-    /// of_text: (key : ℕ) (text : List ℕ) → self.now ≡ after (start_at key) text → result ≡ poly61 key text
+    /// of_text: (key : ℕ) (text : List ℕ) → self.now ≡ after (start_at key) text
+    ///     → result ≡ poly61 key text
     /// in_range: IsPosition self.now
     /// ```
     #[inline(always)]

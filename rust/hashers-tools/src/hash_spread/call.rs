@@ -123,7 +123,8 @@ fn positive(word: &[u8]) -> Option<NonZeroUsize> {
 /// Proved:
 ///
 /// ```text
-/// option_map (option_map non_zero_usize_get) result ≡ given_number name.now (sayings call.now.said.items)
+/// option_map (option_map non_zero_usize_get) result
+///     ≡ given_number name.now (sayings call.now.said.items)
 /// ```
 #[inline]
 fn given_number(call: &Call<'_>, name: &[u8]) -> Option<Option<NonZeroUsize>> {
@@ -196,7 +197,8 @@ pub fn settings_of(call: &Call<'_>) -> Result<Settings, Wrong> {
 /// Proved:
 ///
 /// ```text
-/// option_map (λ word. word.now) result ≡ find (λ name. is_none (kind_named name)) (map (λ name. name.now) names.now)
+/// option_map (λ word. word.now) result
+///     ≡ find (λ name. is_none (kind_named name)) (map (λ name. name.now) names.now)
 /// ```
 #[inline]
 fn first_unknown<'a>(names: &[&'a [u8]]) -> Option<&'a [u8]> {

@@ -1,0 +1,80 @@
+"""Texts cut into chunks where their content says so."""
+from __future__ import annotations
+
+from array import array
+from operator import index
+from typing import IO, TYPE_CHECKING, Iterator, Optional, SupportsIndex, Union
+
+from ._hashers import _chunk_ends
+from ._many import _ZERO
+
+if TYPE_CHECKING:
+    from _typeshed import ReadableBuffer as Buffer
+
+# how many bytes of a file are read at a time: as many as a chunk may have, within these bounds
+LEAST_READ, MOST_READ = 1 << 20, 1 << 26
+
+
+class Cuts:
+    """Where texts are cut, so that an edit mostly changes only the chunks around it: a place is a cut if the gear hash of the 64 bytes
+    before it is low. Chunks have `least` to `most` bytes, the last one of a text maybe fewer, and from `least` on each place is a cut with a
+    chance of 1 in `average`; 64 <= least <= average <= most, else a ValueError. If they are not given, `least` is a quarter of the average,
+    but 64 at least, and `most` four times as much, as those of the program cuts. Other seeds cut at other places."""
+    __slots__ = ("least", "average", "most", "seed1", "seed2")
+
+    def __init__(self, average: SupportsIndex = 65536, *, least: Optional[SupportsIndex] = None, most: Optional[SupportsIndex] = None,
+                 seed1: SupportsIndex = 0, seed2: SupportsIndex = 0) -> None:
+        self.average = index(average)
+        self.least = max(self.average // 4, 64) if least is None else index(least)
+        self.most = 4 * self.average if most is None else index(most)
+        self.seed1, self.seed2 = index(seed1), index(seed2)
+        if not 64 <= self.least <= self.average <= self.most < 1 << 64:
+            raise ValueError(f"of a chunk 64 <= least <= average <= most, not {self.least}, {self.average} and {self.most}")
+        if not 0 <= min(self.seed1, self.seed2) <= max(self.seed1, self.seed2) < 1 << 64:
+            raise ValueError("a seed is from 0 to 2**64 - 1")
+
+    def __repr__(self) -> str:
+        return f"Cuts({self.average}, least={self.least}, most={self.most}, seed1={self.seed1}, seed2={self.seed2})"
+
+    def ends(self, data: Buffer) -> array[int]:
+        """Where each chunk of the data ends, in bytes from its beginning; the next chunk begins there."""
+        with memoryview(data) as text:
+            ends = _ZERO * (text.nbytes // self.least + 1)
+        del ends[_chunk_ends(data, ends, self.least, self.average, self.most, self.seed1, self.seed2):]
+        return ends
+
+    def chunks(self, source: Union[Buffer, IO[bytes]]) -> Iterator[Union[bytes, memoryview]]:
+        """Each chunk: of data a memoryview, and of a file that is open for reading bytes, of which no more than a chunk and what is
+        read at a time are kept. What is read at a time changes no cut."""
+        if hasattr(source, "read"):
+            return self._of_file(source)
+        return self._of_data(source)
+
+    def _of_data(self, data: Buffer) -> Iterator[memoryview]:
+        text, start = memoryview(data).cast("B"), 0
+        for end in self.ends(text):
+            yield text[start:end]
+            start = end
+
+    def _of_file(self, file: IO[bytes]) -> Iterator[bytes]:
+        kept = b""
+        while True:
+            block = file.read(min(max(LEAST_READ, self.most), MOST_READ))
+            if block is None:
+                raise BlockingIOError("the file has no bytes now, and has not ended")
+            text, start = kept + block, 0
+            for end in self.ends(text):
+                # where what was read ends is no cut, unless the chunk cannot be longer
+                if block and end == len(text) and end - start < self.most:
+                    break
+                yield text[start:end]
+                start = end
+            if not block:
+                return
+            kept = text[start:]
+
+
+def chunks(source: Union[Buffer, IO[bytes]], average: SupportsIndex = 65536, *, least: Optional[SupportsIndex] = None,
+           most: Optional[SupportsIndex] = None, seed1: SupportsIndex = 0, seed2: SupportsIndex = 0) -> Iterator[Union[bytes, memoryview]]:
+    """The chunks of data or of a file, as `Cuts` of these numbers has them."""
+    return Cuts(average, least=least, most=most, seed1=seed1, seed2=seed2).chunks(source)
