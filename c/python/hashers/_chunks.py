@@ -3,7 +3,7 @@ from __future__ import annotations
 
 from array import array
 from operator import index
-from typing import IO, TYPE_CHECKING, Iterator, Optional, SupportsIndex, Union
+from typing import IO, TYPE_CHECKING, Callable, Iterator, Optional, SupportsIndex, Union, cast
 
 from ._hashers import _chunk_ends
 from ._many import _ZERO
@@ -46,20 +46,19 @@ class Cuts:
     def chunks(self, source: Union[Buffer, IO[bytes]]) -> Iterator[Union[bytes, memoryview]]:
         """Each chunk: of data a memoryview, and of a file that is open for reading bytes, of which no more than a chunk and what is
         read at a time are kept. What is read at a time changes no cut."""
-        if hasattr(source, "read"):
-            return self._of_file(source)
-        return self._of_data(source)
+        read = getattr(source, "read", None)
+        return self._of_text(memoryview(cast("Buffer", source)).cast("B")) if read is None else self._of_reads(read)
 
-    def _of_data(self, data: Buffer) -> Iterator[memoryview]:
-        text, start = memoryview(data).cast("B"), 0
+    def _of_text(self, text: memoryview) -> Iterator[memoryview]:
+        start = 0
         for end in self.ends(text):
             yield text[start:end]
             start = end
 
-    def _of_file(self, file: IO[bytes]) -> Iterator[bytes]:
+    def _of_reads(self, read: Callable[[int], Optional[bytes]]) -> Iterator[bytes]:
         kept = b""
         while True:
-            block = file.read(min(max(LEAST_READ, self.most), MOST_READ))
+            block = read(min(max(LEAST_READ, self.most), MOST_READ))
             if block is None:
                 raise BlockingIOError("the file has no bytes now, and has not ended")
             text, start = kept + block, 0

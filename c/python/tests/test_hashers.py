@@ -837,7 +837,7 @@ class Chunks(unittest.TestCase):
         for file in (io.BytesIO(self.text), ByThreeBytes(self.text)):
             self.assertEqual(list(cuts.chunks(cast(io.BytesIO, file))), chunks)
         self.assertEqual(list(map(bytes, hashers.chunks(array("Q", self.text), 256))), chunks)
-        self.assertEqual([list(cuts.chunks(each)) for each in (b"", io.BytesIO())], [[], []])
+        self.assertEqual(list(cuts.chunks(b"")) + list(cuts.chunks(io.BytesIO())), [])
         with unittest.mock.patch.object(sys.modules["hashers._chunks"], "LEAST_READ", 1):
             self.assertEqual(list(cuts.chunks(io.BytesIO(self.text))), chunks)
         for kept in cuts.chunks(self.text):
@@ -863,7 +863,7 @@ class Chunks(unittest.TestCase):
         with self.assertRaises(TypeError):
             list(hashers.chunks(cast(Any, io.StringIO("a"))))
         with self.assertRaises(TypeError):
-            hashers.chunks(cast(Any, "a")).__next__()
+            hashers.chunks(cast(Any, "a"))
         with self.assertRaises(TypeError):
             hashers.Cuts(cast(Any, 1.5))
         with self.assertRaises(BlockingIOError):

@@ -31,7 +31,13 @@ pub struct Cutting {
 /// ```
 #[inline]
 pub fn hashers_chunk_ends(text: &[u8], cutting: &Cutting, ends: &mut [u64]) -> usize {
-    match Cuts::new(cutting.least, cutting.average, cutting.most, cutting.seed1, cutting.seed2) {
+    match Cuts::new(
+        cutting.least,
+        cutting.average,
+        cutting.most,
+        cutting.seed1,
+        cutting.seed2,
+    ) {
         Some(cuts) => cuts.ends(text, ends),
         None => 0,
     }
