@@ -46,8 +46,13 @@ class Cuts:
     def chunks(self, source: Union[Buffer, IO[bytes]]) -> Iterator[Union[bytes, memoryview]]:
         """Each chunk: of data a memoryview, and of a file that is open for reading bytes, of which no more than a chunk and what is
         read at a time are kept. What is read at a time changes no cut."""
-        read = getattr(source, "read", None)
-        return self._of_text(memoryview(cast("Buffer", source)).cast("B")) if read is None else self._of_reads(read)
+        try:
+            text = memoryview(cast("Buffer", source))
+        except TypeError:
+            if not hasattr(source, "read"):
+                raise
+            return self._of_reads(cast("IO[bytes]", source).read)
+        return self._of_text(text.cast("B"))
 
     def _of_text(self, text: memoryview) -> Iterator[memoryview]:
         start = 0

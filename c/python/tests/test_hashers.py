@@ -837,6 +837,10 @@ class Chunks(unittest.TestCase):
         for file in (io.BytesIO(self.text), ByThreeBytes(self.text)):
             self.assertEqual(list(cuts.chunks(cast(io.BytesIO, file))), chunks)
         self.assertEqual(list(map(bytes, hashers.chunks(array("Q", self.text), 256))), chunks)
+        with mmap.mmap(-1, len(self.text)) as mapped:
+            mapped[:] = self.text
+            mapped.seek(7)
+            self.assertEqual(list(map(bytes, cuts.chunks(mapped))), chunks)
         self.assertEqual(list(cuts.chunks(b"")) + list(cuts.chunks(io.BytesIO())), [])
         with unittest.mock.patch.object(sys.modules["hashers._chunks"], "LEAST_READ", 1):
             self.assertEqual(list(cuts.chunks(io.BytesIO(self.text))), chunks)
