@@ -14,7 +14,7 @@ use Rattle.hash_keyed.specs.Poly61State.{Position, after, full_words, poly_end, 
 use Rattle.hash_keyed.specs.Poly61Laws.{part_at, le-push, poly_end-is}
 use Rattle.hash_keyed.proofs.Encoding.{le-lt}
 use Rattle.hash_keyed.proofs.ByWords.{same_step, four_steps, after-seven, after-four, after-few}
-use Rattle.mersenne61.proofs.Powers.{same-add, same-mul}
+use Rattle.hash_keyed.proofs.Powers.{same-add, same-mul}
 
 -- ---- bytes in a word
 

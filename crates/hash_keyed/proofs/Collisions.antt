@@ -8,7 +8,7 @@ use Rattle.std.proofs.lemmas.List.Filters.{length-filter_both}
 use Rattle.std.proofs.lemmas.List.Kept.{AllPairs-filter}
 use Rattle.std.proofs.lemmas.List.Sorted.{IsPermutation-reverse, All-permutation}
 use Rattle.hashers.specs.Text.{IsText}
-use Rattle.mersenne61.proofs.Mersenne.{no_zero_product}
+use Rattle.hash_keyed.proofs.Mersenne.{no_zero_product}
 use Rattle.hash_keyed.specs.Poly61.{prime61, HasNoZeroDivisors, words, word_count, poly_step, poly_hash, AreKeys}
 use Rattle.hash_keyed.specs.Poly61State.{as_word, poly61, SomeTwoMeet}
 use Rattle.hash_keyed.proofs.Polynomials.{value, IsRoot, IsMultiple, added, value-added, length-added, monic, monic_same, all_roots, mod_step, mod_difference, horner}

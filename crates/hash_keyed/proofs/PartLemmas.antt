@@ -11,7 +11,7 @@ use Rattle.hash_keyed.specs.Poly61Laws.{behind, byte_behind, byte_fills, byte_in
 use Rattle.hash_keyed.proofs.ByWords.{after-few}
 use Rattle.hash_keyed.proofs.Collisions.{value-lt}
 use Rattle.hash_keyed.proofs.Encoding.{length-words}
-use Rattle.mersenne61.proofs.Powers.{same-add, same-mul}
+use Rattle.hash_keyed.proofs.Powers.{same-add, same-mul}
 
 -- ---- powers
 

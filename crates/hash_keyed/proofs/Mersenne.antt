@@ -2,9 +2,9 @@
 use Rattle.std.proofs.Common.{◌≡◌, ◌≢◌, ℕ, ◌+◌, ◌-◌, ◌*◌, ◌%◌, ◌<◌, ◌≤◌, ◌⊎◌, ⊎_elim, mul-add, refl, sym, ap, ◌∙◌, arith, lit<}
 use Rattle.std.proofs.Math.Nat.{eq-or-lt_of_le}
 use Rattle.std.proofs.lemmas.Bool.{cases_lt}
-use Rattle.mersenne61.proofs.Powers.{re, im, squares}
-use Rattle.mersenne61.proofs.LucasLehmer.{square_of_divisor}
-use Rattle.mersenne61.proofs.Euclid.{no_divisor, euclid}
+use Rattle.hash_keyed.proofs.Powers.{re, im, squares}
+use Rattle.hash_keyed.proofs.LucasLehmer.{square_of_divisor}
+use Rattle.hash_keyed.proofs.Euclid.{no_divisor, euclid}
 
 abbrev mersenne : ℕ
 mersenne = 0x1fff_ffff_ffff_ffff

@@ -4,8 +4,8 @@ use Rattle.std.proofs.Math.Path.{ap₂}
 use Rattle.std.proofs.Math.Nat.{pow-succ', mod-mod_of_dvd, mod-eq_of_lt}
 use Rattle.std.proofs.lemmas.Nat.{mul-add-lt, same_from_place}
 use Rattle.std.proofs.lemmas.Nat.Gcd.{dvd_of_mod-eq-zero}
-use Rattle.mersenne61.proofs.Orbits.{states_of_orbit}
-use Rattle.mersenne61.proofs.Powers.{same-add, same-re, same-im, re, im, re-add, im-add, squares, power-from_squares}
+use Rattle.hash_keyed.proofs.Orbits.{states_of_orbit}
+use Rattle.hash_keyed.proofs.Powers.{same-add, same-re, same-im, re, im, re-add, im-add, squares, power-from_squares}
 
 -- modulo a divisor of m that is above 2, m - 1 is not 1
 not_one : (m q : ℕ) → 0 < m → 2 < q → m % q ≡ 0 → (m - 1) % q ≢ 1 % q
