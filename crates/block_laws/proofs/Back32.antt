@@ -3,16 +3,15 @@ use Rattle.std.proofs.Common.{◌≡◌, ℕ, zero, suc, ◌-◌, ◌^◌, ◌<�
 use Rattle.std.proofs.lemmas.Nat.{mod_below, pow_pos}
 use Rattle.hash_words.specs.Words.{le, rotl, add, sub, xorshift}
 use Rattle.hash_words.proofs.WordLemmas.{rotl-lt, rotl-rotl, add-difference, add-sub}
-use Rattle.hash_words.proofs.XorshiftLemmas.{xorshift-more}
+use Rattle.hash_words.proofs.XorshiftLemmas.{xorshift-more, xorshift-past, xorshift-lt}
 use Rattle.hash_laws.specs.Text.{IsText}
 use Rattle.hash_laws.proofs.TextLemmas.{IsByte}
 use Rattle.hash_blocks.specs.Blocks.{blocks, tail}
 use Rattle.block_laws.specs.BlockFacts.{BlockBack}
-use Rattle.block_laws.specs.Murmur3BackLaws.{xorshift-lt, xorshift-past}
 use Rattle.block_laws.proofs.BackLemmas.{back-in, there_again, before-in, blocks-before, tail-left}
 use Rattle.hash_xxhash.specs.Xxh32.{q1, q2, q3, q4, q5, product, round, start, words_of, after_block, converged, four_in, byte_in, rest_in, last_mix}
 use Rattle.block_laws.specs.Xxh32Back.{un_q1, un_q2, un_q3, un_q4, unturned, four_out, byte_out, lane_out, rest_out, lane_back, four_between, word_between, turn_of, lane_for, last_unmix}
-use Rattle.block_laws.proofs.Same32.{IsWord, product-lt, round-lt, round_lane, four-lt, four_state, byte-lt, byte_state, AreLanes, sum_of, converged-sum, lane-blocks}
+use Rattle.block_laws.proofs.Same32.{IsWord, add-lt, product-lt, round-lt, round_lane, four-lt, four_state, byte-lt, byte_state, AreLanes, sum_of, converged-sum, lane-blocks}
 
 q1_there : (x : ℕ) → x < 2 ^ 32 → product (product x un_q1) q1 ≡ x
 q1_there x x_in = omega arith
@@ -178,9 +177,6 @@ module _ (a b c d wanted : ℕ) (wanted_in : wanted < 2 ^ 32) where
   unfolding sum_of
   with_fourth is_in = omega arith
 
-add-lt : (x y : ℕ) → add 32 x y < 2 ^ 32
-add-lt x y = mod_below _ (2 ^ 32) (pow_pos 32)
-
 turn-within : (place : ℕ) → turn_of place ≤ 32
 turn-within zero = lit≤ tt
 turn-within (suc zero) = lit≤ tt
@@ -246,19 +242,19 @@ start-lanes seed seed_in (suc (suc (suc (suc j)))) below = absurd (omega arith)
 
 module _ (x : ℕ) (x_in : x < 2 ^ 32) where
   by_16 : xorshift (xorshift x 16) 16 ≡ x
-  by_16 = xorshift-more x x 16 16 refl ∙ xorshift-past x 32 x_in (lit≤ tt)
+  by_16 = xorshift-more x x 16 16 refl ∙ xorshift-past 32 x 32 x_in (lit≤ tt)
 
   there_13 : xorshift (xorshift (xorshift x 13) 26) 13 ≡ x
-  there_13 = xorshift-more x (xorshift x 13) 26 13 (xorshift-more x x 13 13 refl) ∙ xorshift-past x 52 x_in (lit≤ tt)
+  there_13 = xorshift-more x (xorshift x 13) 26 13 (xorshift-more x x 13 13 refl) ∙ xorshift-past 32 x 52 x_in (lit≤ tt)
 
   there_15 : xorshift (xorshift (xorshift x 15) 30) 15 ≡ x
-  there_15 = xorshift-more x (xorshift x 15) 30 15 (xorshift-more x x 15 15 refl) ∙ xorshift-past x 60 x_in (lit≤ tt)
+  there_15 = xorshift-more x (xorshift x 15) 30 15 (xorshift-more x x 15 15 refl) ∙ xorshift-past 32 x 60 x_in (lit≤ tt)
 
 pub last_unmix-lt : (h : ℕ) → last_unmix h < 2 ^ 32
 unfolding last_unmix
 last_unmix-lt h =
     let c = xorshift (xorshift (product (xorshift h 16) un_q3) 13) 26 in
-    xorshift-lt (xorshift (product c un_q2) 15) 30 (xorshift-lt (product c un_q2) 15 (product-lt c un_q2))
+    xorshift-lt 32 (xorshift (product c un_q2) 15) 30 (xorshift-lt 32 (product c un_q2) 15 (product-lt c un_q2))
 
 pub last_mix-last_unmix : (h : ℕ) → h < 2 ^ 32 → last_mix (last_unmix h) ≡ h
 unfolding last_mix last_unmix
@@ -268,6 +264,6 @@ last_mix-last_unmix h h_in =
     let c = xorshift (xorshift b 13) 26 in
     let d = product c un_q2 in
     ap (λ n. xorshift (product (xorshift (product n q2) 13) q3) 16) (there_15 d (product-lt c un_q2))
-    ∙ ap (λ n. xorshift (product (xorshift n 13) q3) 16) (q2_there c (xorshift-lt _ 26 (xorshift-lt b 13 (product-lt a un_q3))))
+    ∙ ap (λ n. xorshift (product (xorshift n 13) q3) 16) (q2_there c (xorshift-lt 32 _ 26 (xorshift-lt 32 b 13 (product-lt a un_q3))))
     ∙ ap (λ n. xorshift (product n q3) 16) (there_13 b (product-lt a un_q3))
-    ∙ ap (λ n. xorshift n 16) (q3_there a (xorshift-lt h 16 h_in)) ∙ by_16 h h_in
+    ∙ ap (λ n. xorshift n 16) (q3_there a (xorshift-lt 32 h 16 h_in)) ∙ by_16 h h_in

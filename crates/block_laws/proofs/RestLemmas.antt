@@ -299,34 +299,34 @@ between_leads s t s_in t_in =
 
 module _ (x : ℕ) (x_in : x < 2 ^ 64) where
   by_33 : xorshift (xorshift x 33) 33 ≡ x
-  by_33 = xorshift-more x x 33 33 refl ∙ xorshift-past x 66 x_in (lit≤ tt)
+  by_33 = xorshift-more x x 33 33 refl ∙ xorshift-past 64 x 66 x_in (lit≤ tt)
 
   by_32 : xorshift (xorshift x 32) 32 ≡ x
-  by_32 = xorshift-more x x 32 32 refl ∙ xorshift-past x 64 x_in (lit≤ tt)
+  by_32 = xorshift-more x x 32 32 refl ∙ xorshift-past 64 x 64 x_in (lit≤ tt)
 
   twice_29 : xorshift (xorshift x 29) 29 ≡ xorshift x 58
   twice_29 = xorshift-more x x 29 29 refl
 
   back_29 : xorshift (xorshift (xorshift x 29) 29) 58 ≡ x
-  back_29 = ap (λ n. xorshift n 58) twice_29 ∙ xorshift-more x x 58 58 refl ∙ xorshift-past x 116 x_in (lit≤ tt)
+  back_29 = ap (λ n. xorshift n 58) twice_29 ∙ xorshift-more x x 58 58 refl ∙ xorshift-past 64 x 116 x_in (lit≤ tt)
 
   there_29 : xorshift (xorshift (xorshift x 29) 58) 29 ≡ x
-  there_29 = xorshift-more x (xorshift x 29) 58 29 twice_29 ∙ xorshift-past x 116 x_in (lit≤ tt)
+  there_29 = xorshift-more x (xorshift x 29) 58 29 twice_29 ∙ xorshift-past 64 x 116 x_in (lit≤ tt)
 
 pub last_unmix-lt : (h : ℕ) → last_unmix h < 2 ^ 64
 unfolding last_unmix
-last_unmix-lt h = xorshift-lt _ 33 (product-lt _ un_p2)
+last_unmix-lt h = xorshift-lt 64 _ 33 (product-lt _ un_p2)
 
 module _ (x : ℕ) (x_in : x < 2 ^ 64) where
   pub last_unmix-last_mix : last_unmix (last_mix x) ≡ x
   unfolding last_mix last_unmix
   last_unmix-last_mix =
       let a = xorshift x 33 in
-      let a_in : a < 2 ^ 64 = xorshift-lt x 33 x_in in
+      let a_in : a < 2 ^ 64 = xorshift-lt 64 x 33 x_in in
       let b = product a p2 in
       let b_in : b < 2 ^ 64 = product-lt a p2 in
       let c = xorshift b 29 in
-      let c_in : c < 2 ^ 64 = xorshift-lt b 29 b_in in
+      let c_in : c < 2 ^ 64 = xorshift-lt 64 b 29 b_in in
       let d = product c p3 in
       let d_in : d < 2 ^ 64 = product-lt c p3 in
       ap (λ n. xorshift (product (xorshift (xorshift (product n un_p3) 29) 58) un_p2) 33) (by_32 d d_in)
@@ -337,11 +337,11 @@ module _ (x : ℕ) (x_in : x < 2 ^ 64) where
   unfolding last_mix last_unmix
   last_mix-last_unmix =
       let a = xorshift x 32 in
-      let a_in : a < 2 ^ 64 = xorshift-lt x 32 x_in in
+      let a_in : a < 2 ^ 64 = xorshift-lt 64 x 32 x_in in
       let b = product a un_p3 in
       let b_in : b < 2 ^ 64 = product-lt a un_p3 in
       let c = xorshift (xorshift b 29) 58 in
-      let c_in : c < 2 ^ 64 = xorshift-lt (xorshift b 29) 58 (xorshift-lt b 29 b_in) in
+      let c_in : c < 2 ^ 64 = xorshift-lt 64 (xorshift b 29) 58 (xorshift-lt 64 b 29 b_in) in
       let d = product c un_p2 in
       let d_in : d < 2 ^ 64 = product-lt c un_p2 in
       ap (λ n. xorshift (product (xorshift (product n p2) 29) p3) 32) (by_33 d d_in)

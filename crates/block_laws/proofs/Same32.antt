@@ -1,11 +1,11 @@
 -- The steps of XXH32 tell what they are given apart.
 use Rattle.std.proofs.Common.{◌≡◌, ℕ, zero, suc, ◌-◌, ◌/◌, ◌^◌, ◌<◌, ◌≤◌, List, [], ◌∷◌, slice_index, fold, refl, sym, ap, ◌∙◌, arith, lit<}
-use Rattle.std.proofs.lemmas.Nat.{mod_below, pow_pos, xor_lt, shr_le}
+use Rattle.std.proofs.lemmas.Nat.{mod_below, pow_pos}
 use Rattle.hash_words.specs.Words.{le, rotl, add, xorshift}
 use Rattle.hash_words.specs.Pieces.{pieces}
 use Rattle.hash_words.proofs.PieceLemmas.{fold-same, fold-in_range}
 use Rattle.hash_words.proofs.WordLemmas.{rotl-lt, rotl-rotl}
-use Rattle.hash_words.proofs.XorshiftLemmas.{same_from_xorshift}
+use Rattle.hash_words.proofs.XorshiftLemmas.{same_from_xorshift, xorshift-lt}
 use Rattle.hash_laws.specs.Text.{IsText}
 use Rattle.hash_laws.proofs.TextLemmas.{IsByte}
 use Rattle.hash_laws.proofs.FoldLemmas.{fold_cancels, fold_in_range}
@@ -42,7 +42,7 @@ first_same c x y xs ys e = omega arith
 second_same : (c x y : ℕ) → x < 2 ^ 32 → y < 2 ^ 32 → add 32 c x ≡ add 32 c y → x ≡ y
 second_same c x y xs ys e = omega arith
 
-add-lt : (x y : ℕ) → add 32 x y < 2 ^ 32
+pub add-lt : (x y : ℕ) → add 32 x y < 2 ^ 32
 add-lt x y = mod_below _ (2 ^ 32) (pow_pos 32)
 
 -- a sum turned and multiplied
@@ -119,9 +119,6 @@ module _ (left : List ℕ) (text : IsText left) where
 
 -- ---- the last mix
 
-shift-lt : (x k : ℕ) → x < 2 ^ 32 → xorshift x k < 2 ^ 32
-shift-lt x k x_in = xor_lt 32 x (x / 2 ^ k) x_in (omega (arith, shr_le x k))
-
 shift_same : (x y k : ℕ) → x < 2 ^ 32 → y < 2 ^ 32 → 0 < k → xorshift x k ≡ xorshift y k → x ≡ y
 shift_same x y k xs ys some e = same_from_xorshift x y k (omega arith) (omega arith) some e
 
@@ -129,9 +126,9 @@ pub last_mix_same : (g h : ℕ) → g < 2 ^ 32 → h < 2 ^ 32 → last_mix g ≡
 unfolding last_mix
 last_mix_same g h gs hs e =
     let a = shift_same _ _ 16 (product-lt _ q3) (product-lt _ q3) (omega arith) e in
-    let b = product_q3 _ _ (shift-lt _ 13 (product-lt _ q2)) (shift-lt _ 13 (product-lt _ q2)) a in
+    let b = product_q3 _ _ (xorshift-lt 32 _ 13 (product-lt _ q2)) (xorshift-lt 32 _ 13 (product-lt _ q2)) a in
     let c = shift_same _ _ 13 (product-lt _ q2) (product-lt _ q2) (omega arith) b in
-    let d = product_q2 _ _ (shift-lt g 15 gs) (shift-lt h 15 hs) c in
+    let d = product_q2 _ _ (xorshift-lt 32 g 15 gs) (xorshift-lt 32 h 15 hs) c in
     shift_same g h 15 gs hs (omega arith) d
 
 -- ---- lanes

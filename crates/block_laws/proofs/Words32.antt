@@ -3,7 +3,6 @@ use Rattle.std.proofs.Common.{◌≡◌, ◌≢◌, ℕ, ◌+◌, ◌-◌, ◌*�
 use Rattle.std.proofs.Math.Path.{ap₂}
 use Rattle.std.proofs.lemmas.Bool.{cases_eq, cases_lt}
 use Rattle.std.proofs.lemmas.Bool.Decides.{nat_tests}
-use Rattle.std.proofs.lemmas.Nat.{mod_below, pow_pos}
 use Rattle.std.proofs.lemmas.List.{append_assoc, take-append-drop, take_at, drop_at, drop-drop, get_or-map, length-take-le, append-nil}
 use Rattle.std.proofs.Math.Seq.{take-add}
 use Rattle.std.proofs.Common.{drop_of_length-le}
@@ -30,16 +29,13 @@ use Rattle.hash_xxhash.specs.Xxh32.{q5, round, start, words_of, after_block, con
 use Rattle.block_laws.specs.Xxh32Back.{rest_out, lane_back, four_between, word_between, lane_for, last_unmix}
 use Rattle.block_laws.specs.Xxh32Words.{DifferInOneWord}
 use Rattle.block_laws.proofs.Back32.{sub-lt, rest_out-lt, rest_there, lane_back-lt, lane-there, four_leads, four_between-lt, word_leads, word_between-lt, lane_for-lt, converged_for, start-lanes, last_unmix-lt, last_mix-last_unmix}
-use Rattle.block_laws.proofs.Same32.{round_word, four-lt, four_word, fours-lt, rest-lt, rest_state, last_mix_same, lane-block, lane_after, lane_before, AreLanes, block-lanes, blocks-lanes, converged-lt, converged_same}
+use Rattle.block_laws.proofs.Same32.{add-lt, round_word, four-lt, four_word, fours-lt, rest-lt, rest_state, last_mix_same, lane-block, lane_after, lane_before, AreLanes, block-lanes, blocks-lanes, converged-lt, converged_same}
 
 word-lt : (b : List ℕ) → IsBlock 4 b → le b < 2 ^ 32
 word-lt b is = let below = rw is.1 at (le-lt b is.0) in omega (arith, below)
 
 same_word : (v w : List ℕ) → IsBlock 4 v → IsBlock 4 w → le v ≡ le w → v ≡ w
 same_word v w v_is w_is e = le-same v w v_is.0 w_is.0 (v_is.1 ∙ sym w_is.1) e
-
-add-lt : (x y : ℕ) → add 32 x y < 2 ^ 32
-add-lt x y = mod_below _ (2 ^ 32) (pow_pos 32)
 
 length-tail : (t : List ℕ) → length (tail 16 t) ≡ length t % 16
 unfolding tail

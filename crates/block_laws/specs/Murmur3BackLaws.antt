@@ -1,14 +1,13 @@
 -- MurmurHash3_x86_32 and its way back undo one another.
 use Rattle.std.proofs.Common.{◌≡◌, ℕ, ◌+◌, ◌-◌, ◌*◌, ◌/◌, ◌%◌, ◌^◌, ◌<◌, ◌≤◌, List, length, slice_index, bit_xor, refl, sym, ap, ◌∙◌, arith, lit<, lit≤}
-use Rattle.std.proofs.Math.Nat.{div-eq_of_lt, pow-le-pow_right}
-use Rattle.std.proofs.lemmas.Nat.{mod_below, xor_lt, xor_comm, shr_le, pow_pos}
+use Rattle.std.proofs.Math.Nat.{pow-le-pow_right}
+use Rattle.std.proofs.lemmas.Nat.{mod_below, xor_lt, xor_comm, pow_pos}
 use Rattle.std.specs.Int.{w32, to_le_bytes}
-use Rattle.std.specs.Int.Bits.{xor_zero_r}
 use Rattle.hash_words.specs.Words.{le, rotl, xorshift}
 use Rattle.hash_words.proofs.PieceLemmas.{le-lt, le-same}
 use Rattle.hash_words.proofs.WordLemmas.{rotl-lt, rotl-rotl, le-to_le_bytes-32}
 use Rattle.hash_words.proofs.XorLemmas.{xor_twice, xor_cancel_left}
-use Rattle.hash_words.proofs.XorshiftLemmas.{xorshift-more}
+use Rattle.hash_words.proofs.XorshiftLemmas.{xorshift-more, xorshift-past, xorshift-lt}
 use Rattle.hash_laws.proofs.TextLemmas.{IsText-to_le_bytes}
 use Rattle.block_laws.specs.BlockFacts.{BlockFacts, IsBlock, IsLeft}
 use Rattle.hash_murmur3.specs.Murmur3.{scramble, after_word, after_block, last_mix, ended}
@@ -83,46 +82,38 @@ module _ (x : ℕ) (x_in : x < 2 ^ 32) where
 
 -- ---- shifts of words of 32 bits
 
-pub xorshift-lt : (x k : ℕ) → x < 2 ^ 32 → xorshift x k < 2 ^ 32
-xorshift-lt x k x_in = xor_lt 32 x (x / 2 ^ k) x_in (omega (arith, shr_le x k))
-
-pub xorshift-past : (x k : ℕ) → x < 2 ^ 32 → 32 ≤ k → xorshift x k ≡ x
-xorshift-past x k x_in past =
-    let none : x / 2 ^ k ≡ 0 = div-eq_of_lt (omega (arith, pow-le-pow_right {n = 2} (lit< tt) {i = 32} {j = k} past)) in
-    rw none (xor_zero_r x)
-
 module _ (x : ℕ) (x_in : x < 2 ^ 32) where
   sixteen_twice : xorshift (xorshift x 16) 16 ≡ x
-  sixteen_twice = xorshift-more x x 16 16 refl ∙ xorshift-past x 32 x_in (lit≤ tt)
+  sixteen_twice = xorshift-more x x 16 16 refl ∙ xorshift-past 32 x 32 x_in (lit≤ tt)
 
   thirteen_twice : xorshift (xorshift x 13) 13 ≡ xorshift x 26
   thirteen_twice = xorshift-more x x 13 13 refl
 
   all_shifts : xorshift (xorshift x 26) 26 ≡ x
-  all_shifts = xorshift-more x x 26 26 refl ∙ xorshift-past x 52 x_in (lit≤ tt)
+  all_shifts = xorshift-more x x 26 26 refl ∙ xorshift-past 32 x 52 x_in (lit≤ tt)
 
   thirteen_back : xorshift (xorshift (xorshift x 13) 13) 26 ≡ x
   thirteen_back = ap (λ n. xorshift n 26) thirteen_twice ∙ all_shifts
 
   thirteen_there : xorshift (xorshift (xorshift x 13) 26) 13 ≡ x
-  thirteen_there = xorshift-more x (xorshift x 13) 26 13 thirteen_twice ∙ xorshift-past x 52 x_in (lit≤ tt)
+  thirteen_there = xorshift-more x (xorshift x 13) 26 13 thirteen_twice ∙ xorshift-past 32 x 52 x_in (lit≤ tt)
 
 -- ---- the last mix, and back
 
 last_unmix-lt : (h : ℕ) → last_unmix h < 2 ^ 32
 unfolding last_unmix
-last_unmix-lt h = xorshift-lt _ 16 (mod_below _ (2 ^ 32) (pow_pos 32))
+last_unmix-lt h = xorshift-lt 32 _ 16 (mod_below _ (2 ^ 32) (pow_pos 32))
 
 module _ (x : ℕ) (x_in : x < 2 ^ 32) where
   last_unmix-last_mix : last_unmix (last_mix x) ≡ x
   unfolding last_mix last_unmix
   last_unmix-last_mix =
       let a = xorshift x 16 in
-      let a_in : a < 2 ^ 32 = xorshift-lt x 16 x_in in
+      let a_in : a < 2 ^ 32 = xorshift-lt 32 x 16 x_in in
       let b = a * 0x85ebca6b % 2 ^ 32 in
       let b_in : b < 2 ^ 32 = mod_below _ (2 ^ 32) (pow_pos 32) in
       let c = xorshift b 13 in
-      let c_in : c < 2 ^ 32 = xorshift-lt b 13 b_in in
+      let c_in : c < 2 ^ 32 = xorshift-lt 32 b 13 b_in in
       let d = c * 0xc2b2ae35 % 2 ^ 32 in
       let d_in : d < 2 ^ 32 = mod_below _ (2 ^ 32) (pow_pos 32) in
       let un_d : d * 0x7ed1b41d % 2 ^ 32 ≡ c = omega arith in
@@ -136,11 +127,11 @@ module _ (x : ℕ) (x_in : x < 2 ^ 32) where
   unfolding last_mix last_unmix
   last_mix-last_unmix =
       let a = xorshift x 16 in
-      let a_in : a < 2 ^ 32 = xorshift-lt x 16 x_in in
+      let a_in : a < 2 ^ 32 = xorshift-lt 32 x 16 x_in in
       let b = a * 0x7ed1b41d % 2 ^ 32 in
       let b_in : b < 2 ^ 32 = mod_below _ (2 ^ 32) (pow_pos 32) in
       let c = xorshift (xorshift b 13) 26 in
-      let c_in : c < 2 ^ 32 = xorshift-lt (xorshift b 13) 26 (xorshift-lt b 13 b_in) in
+      let c_in : c < 2 ^ 32 = xorshift-lt 32 (xorshift b 13) 26 (xorshift-lt 32 b 13 b_in) in
       let d = c * 0xa5cb9243 % 2 ^ 32 in
       let d_in : d < 2 ^ 32 = mod_below _ (2 ^ 32) (pow_pos 32) in
       let un_d : d * 0x85ebca6b % 2 ^ 32 ≡ c = omega arith in

@@ -104,26 +104,26 @@ module _ (turn back constant other : ℕ) (within : turn ≤ 64) (rest : back �
 
 module _ (x : ℕ) (x_in : x < 2 ^ 64) where
   shift_twice : xorshift (xorshift x 33) 33 ≡ x
-  shift_twice = xorshift-more x x 33 33 refl ∙ xorshift-past x 66 x_in (lit≤ tt)
+  shift_twice = xorshift-more x x 33 33 refl ∙ xorshift-past 64 x 66 x_in (lit≤ tt)
 
 last_mix-lt : (h : ℕ) → last_mix h < 2 ^ 64
 unfolding last_mix
-last_mix-lt h = xorshift-lt _ 33 (mod_below _ (2 ^ 64) (pow_pos 64))
+last_mix-lt h = xorshift-lt 64 _ 33 (mod_below _ (2 ^ 64) (pow_pos 64))
 
 last_unmix-lt : (h : ℕ) → last_unmix h < 2 ^ 64
 unfolding last_unmix
-last_unmix-lt h = xorshift-lt _ 33 (mod_below _ (2 ^ 64) (pow_pos 64))
+last_unmix-lt h = xorshift-lt 64 _ 33 (mod_below _ (2 ^ 64) (pow_pos 64))
 
 module _ (x : ℕ) (x_in : x < 2 ^ 64) where
   last_unmix-last_mix : last_unmix (last_mix x) ≡ x
   unfolding last_mix last_unmix
   last_unmix-last_mix =
       let a = xorshift x 33 in
-      let a_in : a < 2 ^ 64 = xorshift-lt x 33 x_in in
+      let a_in : a < 2 ^ 64 = xorshift-lt 64 x 33 x_in in
       let b = a * 0xff51afd7ed558ccd % 2 ^ 64 in
       let b_in : b < 2 ^ 64 = mod_below _ (2 ^ 64) (pow_pos 64) in
       let c = xorshift b 33 in
-      let c_in : c < 2 ^ 64 = xorshift-lt b 33 b_in in
+      let c_in : c < 2 ^ 64 = xorshift-lt 64 b 33 b_in in
       let d = c * 0xc4ceb9fe1a85ec53 % 2 ^ 64 in
       let d_in : d < 2 ^ 64 = mod_below _ (2 ^ 64) (pow_pos 64) in
       let un_d : d * 0x9cb4b2f8129337db % 2 ^ 64 ≡ c = omega arith in
@@ -137,11 +137,11 @@ module _ (x : ℕ) (x_in : x < 2 ^ 64) where
   unfolding last_mix last_unmix
   last_mix-last_unmix =
       let a = xorshift x 33 in
-      let a_in : a < 2 ^ 64 = xorshift-lt x 33 x_in in
+      let a_in : a < 2 ^ 64 = xorshift-lt 64 x 33 x_in in
       let b = a * 0x9cb4b2f8129337db % 2 ^ 64 in
       let b_in : b < 2 ^ 64 = mod_below _ (2 ^ 64) (pow_pos 64) in
       let c = xorshift b 33 in
-      let c_in : c < 2 ^ 64 = xorshift-lt b 33 b_in in
+      let c_in : c < 2 ^ 64 = xorshift-lt 64 b 33 b_in in
       let d = c * 0x4f74430c22a54005 % 2 ^ 64 in
       let d_in : d < 2 ^ 64 = mod_below _ (2 ^ 64) (pow_pos 64) in
       let un_d : d * 0xff51afd7ed558ccd % 2 ^ 64 ≡ c = omega arith in

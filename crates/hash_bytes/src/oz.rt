@@ -30,7 +30,8 @@ pub fn origin_of_constants()
 
 /// The law of sdbm of a joined text, with no code: it is made of the hashes of the parts and the second part's length.
 pub fn sdbm_of_joined_texts()
-    ensures { (x y : List ℕ) → sdbm_from 0 (x ++ y) ≡ (sdbm_from 0 x * 65599 ^ length y + sdbm_from 0 y) % 2 ^ 32 }
+    ensures { (x y : List ℕ)
+        → sdbm_from 0 (x ++ y) ≡ (sdbm_from 0 x * 65599 ^ length y + sdbm_from 0 y) % 2 ^ 32 }
 {}
 
 /// The law of lose lose of a joined text, with no code: it is the sum of the hashes of the parts.

@@ -13,7 +13,7 @@ oaat_same_sum h k b a e =
 
 pub oaat_facts : StepFacts oaat_step (2 ^ 64) 256
 oaat_facts = record {
-  in_range = λ h b hs sb. xorshift-lt (1025 * ((h + b) % 2 ^ 64) % 2 ^ 64) 6 (omega arith);
+  in_range = λ h b hs sb. xorshift-lt 64 (1025 * ((h + b) % 2 ^ 64) % 2 ^ 64) 6 (omega arith);
   state_injective = λ h k b hs ks sb e. omega (arith, oaat_same_sum h k b b e);
   item_injective = λ h a b hs sa sb e. omega (arith, oaat_same_sum h h a b e);
 }
@@ -32,7 +32,7 @@ pub oaat_finish_same : (h k : ℕ) → h < 2 ^ 64 → k < 2 ^ 64 → oaat_finish
 oaat_finish_same h k hs ks e =
     let x = 9 * h % 2 ^ 64 in
     let y = 9 * k % 2 ^ 64 in
-    let shifts = oaat_finish_same_shift _ _ (xorshift-lt x 11 (omega arith)) (xorshift-lt y 11 (omega arith)) e in
+    let shifts = oaat_finish_same_shift _ _ (xorshift-lt 64 x 11 (omega arith)) (xorshift-lt 64 y 11 (omega arith)) e in
     let products : x ≡ y = same_from_xorshift x y 11 (omega arith) (omega arith) (omega arith) shifts in
     omega arith
 

@@ -93,7 +93,8 @@ impl Poly61Hasher {
     /// The hasher that stands there; `None` if no hasher does.
     #[inline(always)]
     pub fn at(place: &Poly61Place) -> Option<Poly61Hasher>
-        ensures { MatchOption result (¬ IsPosition (place_of place.now)) (λ h. (h ≡ place_of place.now) × IsPosition h) }
+        ensures { MatchOption result (¬ IsPosition (place_of place.now))
+            (λ h. (h ≡ place_of place.now) × IsPosition h) }
     {
         if !place.is_somewhere() {
             return None;
@@ -155,7 +156,8 @@ impl Hasher for Poly61Hasher {
     #[inline(always)]
     fn finish(&self) -> u64
         ensures value { result ≡ as_word (poly_end self.now) }
-        ensures of_text { (key : ℕ) (text : List ℕ) → self.now ≡ after (start_at key) text → result ≡ poly61 key text }
+        ensures of_text { (key : ℕ) (text : List ℕ) → self.now ≡ after (start_at key) text
+            → result ≡ poly61 key text }
         ensures in_range { IsPosition self.now }
     {
         ended(self.key, self.state, self.word, self.count)

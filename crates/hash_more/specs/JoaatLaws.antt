@@ -1,13 +1,9 @@
 -- The step and the last mix of one-at-a-time at 32 bits stay in range and are injective, and what undoes them.
 use Rattle.std.proofs.Common.{◌≡◌, ℕ, ◌+◌, ◌-◌, ◌*◌, ◌/◌, ◌%◌, ◌^◌, ◌<◌, ap, ◌∙◌, arith}
-use Rattle.std.proofs.lemmas.Nat.{xor_lt, shr_le}
 use Rattle.hash_laws.specs.StepFacts.{StepFacts}
 use Rattle.hash_words.specs.Words.{xorshift}
-use Rattle.hash_words.proofs.XorshiftLemmas.{same_from_xorshift}
+use Rattle.hash_words.proofs.XorshiftLemmas.{same_from_xorshift, xorshift-lt}
 use Rattle.hash_more.specs.Joaat.{joaat_step, joaat_answer}
-
-xorshift-lt : (x k : ℕ) → x < 2 ^ 32 → xorshift x k < 2 ^ 32
-xorshift-lt x k known = xor_lt 32 x (x / 2 ^ k) known (omega (arith, shr_le x k))
 
 same_word : (y z k : ℕ) → y < 2 ^ 32 → z < 2 ^ 32 → 0 < k → xorshift y k ≡ xorshift z k → y ≡ z
 same_word y z k ys zs some e = same_from_xorshift y z k (omega arith) (omega arith) some e
@@ -20,7 +16,7 @@ same_sum h k b a e =
 
 pub joaat_facts : StepFacts joaat_step (2 ^ 32) 256
 joaat_facts = record {
-  in_range = λ h b hs sb. xorshift-lt (1025 * ((h + b) % 2 ^ 32) % 2 ^ 32) 6 (omega arith);
+  in_range = λ h b hs sb. xorshift-lt 32 (1025 * ((h + b) % 2 ^ 32) % 2 ^ 32) 6 (omega arith);
   state_injective = λ h k b hs ks sb e. omega (arith, same_sum h k b b e);
   item_injective = λ h a b hs sa sb e. omega (arith, same_sum h h a b e);
 }
@@ -39,7 +35,7 @@ pub joaat_answer_same : (h k : ℕ) → h < 2 ^ 32 → k < 2 ^ 32 → joaat_answ
 joaat_answer_same h k hs ks e =
     let x = 9 * h % 2 ^ 32 in
     let y = 9 * k % 2 ^ 32 in
-    let shifts = same_before_product _ _ (xorshift-lt x 11 (omega arith)) (xorshift-lt y 11 (omega arith)) e in
+    let shifts = same_before_product _ _ (xorshift-lt 32 x 11 (omega arith)) (xorshift-lt 32 y 11 (omega arith)) e in
     let products : x ≡ y = same_word x y 11 (omega arith) (omega arith) (omega arith) shifts in
     omega (arith, products)
 

@@ -1,12 +1,10 @@
 -- Up to eight bytes and the number that they are.
-use Rattle.std.proofs.Common.{ℕ, zero, suc, ◌≡◌, ◌+◌, ◌*◌, ◌/◌, ◌%◌, ◌^◌, ◌<◌, ◌≤◌, List, [], ◌∷◌, ◌++◌, length, take, refl, sym, ap, ap₂, pow-suc, ◌∙◌, arith, lit<, w64}
+use Rattle.std.proofs.Common.{ℕ, zero, suc, ◌≡◌, ◌+◌, ◌*◌, ◌/◌, ◌%◌, ◌^◌, ◌<◌, ◌≤◌, List, [], ◌∷◌, ◌++◌, length, take, refl, sym, ap, ap₂, pow-suc, ◌∙◌, arith, w64}
 use Rattle.std.specs.Int.{bytes_low_first, byte_at, to_le_bytes}
 use Rattle.std.proofs.Math.Nat.{div-div-eq-div-mul}
-use Rattle.std.proofs.Math.Pow.{pow_mono}
-use Rattle.std.proofs.lemmas.Nat.{pow-add}
 use Rattle.std.proofs.lemmas.List.Elements.{All-head, All-tail}
 use Rattle.hashers.specs.Text.{IsText}
-use Rattle.hashers.specs.Words.{le}
+use Rattle.hash_words.specs.Words.{le}
 use Rattle.hashers.proofs.TextLemmas.{IsByte}
 
 byte_is : (i n : ℕ) → byte_at i n ≡ n / 256 ^ i % 256
@@ -34,41 +32,3 @@ first_bytes (suc c) (suc k) i n less = ap (λ xs. byte_at i n ∷ xs) (first_byt
 pub kept : (bytes : List ℕ) → IsText bytes → length bytes ≤ 8 → take (length bytes) (to_le_bytes w64 (le bytes)) ≡ bytes
 kept bytes are few =
     first_bytes (length bytes) 8 0 (le bytes) few ∙ kept_from bytes 0 (le bytes) are (let e : le bytes / 1 ≡ le bytes = omega arith in e)
-
--- a byte more is a factor of 256
-more : (n : ℕ) → 2 ^ (8 * suc n) ≡ 256 * 2 ^ (8 * n)
-more n = ap (λ k. 2 ^ k) (let e : 8 * suc n ≡ 8 + 8 * n = omega arith in e) ∙ pow-add 2 8 (8 * n)
-
--- bytes are a number below a power of 256
-pub below_power : (bytes : List ℕ) → IsText bytes → le bytes < 2 ^ (8 * length bytes)
-unfolding le
-below_power [] are = lit< tt
-below_power (b ∷ bytes) are =
-    omega (arith, All-head IsByte b bytes are, below_power bytes (All-tail IsByte b bytes are), more (length bytes))
-
-pub below_word : (bytes : List ℕ) → IsText bytes → length bytes ≤ 8 → le bytes < 2 ^ 64
-below_word bytes are few =
-    let bound : 2 ^ (8 * length bytes) ≤ 2 ^ 64 = pow_mono {j = 64} (omega (arith, few)) in
-    omega (arith, bound, below_power bytes are)
-
--- bytes behind bytes
-pub le_behind : (front back : List ℕ) → le (front ++ back) ≡ le front + le back * 2 ^ (8 * length front)
-unfolding le
-le_behind [] back = omega arith
-le_behind (b ∷ front) back =
-    let e : le back * 2 ^ (8 * suc (length front)) ≡ 256 * (le back * 2 ^ (8 * length front)) =
-    ap (λ k. le back * k) (more (length front)) ∙ (let f : le back * (256 * 2 ^ (8 * length front)) ≡ 256 * (le back * 2 ^ (8 * length front)) = omega arith in f) in
-    omega (arith, le_behind front back, e)
-
--- of two texts that are one number the longer begins with the other
-pub begins_with : (s t : List ℕ) → IsText s → IsText t → length s ≤ length t → le s ≡ le t → take (length s) t ≡ s
-unfolding le
-begins_with [] t s_is t_is less same = refl
-begins_with (x ∷ s) [] s_is t_is less same = absurd (omega arith)
-begins_with (x ∷ s) (y ∷ t) s_is t_is less same =
-    let x_in = All-head IsByte x s s_is in
-    let y_in = All-head IsByte y t t_is in
-    let first : y ≡ x = omega (arith, same, x_in, y_in) in
-    let rest : le s ≡ le t = omega (arith, same, x_in, y_in) in
-    ap₂ (λ (b : ℕ) (bs : List ℕ). b ∷ bs) first
-    (begins_with s t (All-tail IsByte x s s_is) (All-tail IsByte y t t_is) (omega (arith, less)) rest)

@@ -14,7 +14,8 @@ use Rattle.hash_keyed.specs.Poly61State.{after, byte_in, start_at}
 use Rattle.hash_keyed.specs.Poly61Laws.{poly61-is}
 use Rattle.hash_numbers.specs.NumberState.{after_write, answer_of, as_text, fresh_at, keyed_hash}
 use Rattle.hash_numbers.specs.declared.hasher.NumberHasher.{NumberHasher}
-use Rattle.hash_numbers.proofs.Bytes.{below_word, kept, le_behind}
+use Rattle.hash_words.proofs.ByteLemmas.{le-append, le-word}
+use Rattle.hash_numbers.proofs.Bytes.{kept}
 use Rattle.hash_numbers.proofs.States.{number_behind, text_behind}
 
 module _ (a b key : ℕ) where
@@ -45,9 +46,9 @@ module _ (a b key : ℕ) where
         )
     | inr fits ↦
         let all_few : length (text ++ bytes) ≤ 8 = omega (arith, fits, length-append text bytes) in
-        let within = below_word (text ++ bytes) (All-append IsByte text bytes text_is bytes_are) all_few in
+        let within = le-word (text ++ bytes) (All-append IsByte text bytes text_is bytes_are) all_few in
         let number : (le text + le bytes * 2 ^ (8 * length text)) % 2 ^ 64 ≡ le (text ++ bytes) =
-        ap (λ n. n % 2 ^ 64) (sym (le_behind text bytes)) ∙ mod-eq_of_lt within in
+        ap (λ n. n % 2 ^ 64) (sym (le-append text bytes)) ∙ mod-eq_of_lt within in
         inl (
           all_few,
           sym (number_behind (holds text) bytes (le bytes) (length bytes) refl refl (omega (arith, fits)))

@@ -9,7 +9,7 @@ use Rattle.hash_keyed.specs.Poly61State.{poly61}
 use Rattle.hash_keyed.proofs.Collisions.{few_keys_meet}
 use Rattle.hash_numbers.specs.Numbers.{number_hash}
 use Rattle.hash_numbers.specs.NumberState.{keyed_hash, NeitherBegins}
-use Rattle.hash_numbers.proofs.Bytes.{begins_with, below_word}
+use Rattle.hash_words.proofs.ByteLemmas.{le-begins, le-word}
 use Rattle.hash_numbers.proofs.Evenness.{few_have, few_pairs}
 
 short : (a b key : ℕ) (text : List ℕ) → length text ≤ 8 → keyed_hash a b key text ≡ number_hash a b (le text)
@@ -21,14 +21,14 @@ long a b key text many = cond-false (nat_le (length text) 8) _ _ (lt-leb (length
 -- neither begins with the other, so they are different numbers
 apart : (s t : List ℕ) → IsText s → IsText t → NeitherBegins s t → le s ≢ le t
 apart s t s_is t_is neither same = elim (cases_lt (length t) (length s)) [
-  | inl less ↦ neither.1 (begins_with t s t_is s_is (omega (arith, less)) (sym same))
-  | inr more ↦ neither.0 (begins_with s t s_is t_is (omega (arith, more)) same)
+  | inl less ↦ neither.1 (le-begins t s t_is s_is (omega (arith, less)) (sym same))
+  | inr more ↦ neither.0 (le-begins s t s_is t_is (omega (arith, more)) same)
 ]
 
 pub few_for_short : (s t : List ℕ) (key : ℕ) (keys : List (ℕ × ℕ)) → IsText s → IsText t → length s ≤ 8 → length t ≤ 8 → NeitherBegins s t
     → ArePairs (2 ^ 128) keys → All (λ pair. keyed_hash pair.0 pair.1 key s ≡ keyed_hash pair.0 pair.1 key t) keys → length keys ≤ 2 ^ 192
 few_for_short s t key keys s_is t_is s_few t_few neither are have =
-    few_pairs (le s) (le t) keys (below_word s s_is s_few) (below_word t t_is t_few) (apart s t s_is t_is neither) are
+    few_pairs (le s) (le t) keys (le-word s s_is s_few) (le-word t t_is t_few) (apart s t s_is t_is neither) are
     (λ k d h. let pair = get_or keys k d in
     sym (short pair.0 pair.1 key s s_few) ∙ have k d h ∙ short pair.0 pair.1 key t t_few)
 

@@ -1,7 +1,7 @@
 -- Laws of the rounds: their lists are well formed, they keep words, and different words stay different.
 use Rattle.std.proofs.Common.{◌≡◌, ℕ, ◌^◌, ◌<◌, List, [], length, slice_index, refl, sym, ◌∙◌}
 use Rattle.hash_words.specs.Words.{AreWords}
-use Rattle.hash_rounds.specs.Steps.{AreSteps}
+use Rattle.hash_rounds.specs.Steps.{Step, AreSteps, apply}
 use Rattle.hash_rounds.specs.Rounds as rounds
 use Rattle.hash_rounds.specs.Spooky.{short_mix, short_end}
 use Rattle.hash_words.proofs.WordLemmas.{AreWords-from, AreWords-at, no_words}
@@ -16,11 +16,11 @@ pub spooky_end_partial-steps : AreSteps 64 12 0 rounds.spooky_end_partial_steps
 unfolding rounds.spooky_end_partial_steps
 spooky_end_partial-steps = refl
 
-short_mix-steps : AreSteps 64 4 0 rounds.short_mix_steps
+pub short_mix-steps : AreSteps 64 4 0 rounds.short_mix_steps
 unfolding rounds.short_mix_steps
 short_mix-steps = refl
 
-short_end-steps : AreSteps 64 4 0 rounds.short_end_steps
+pub short_end-steps : AreSteps 64 4 0 rounds.short_end_steps
 unfolding rounds.short_end_steps
 short_end-steps = refl
 
@@ -34,10 +34,14 @@ module _ (h : List ℕ) (are : AreFourWords h) where
   words : AreWords 64 h
   words = AreWords-from 64 h are.1
 
+  -- steps with no data keep them words
+  pub stepped-AreFourWords : (steps : List Step) → AreSteps 64 4 0 steps → AreFourWords (apply 64 steps [] h)
+  stepped-AreFourWords steps fit =
+      let kept = apply-words 64 0 steps [] h (rw are.0 fit) words in
+      (kept.0 ∙ are.0, AreWords-at 64 (apply 64 steps [] h) kept.1)
+
   pub short_mix-AreFourWords : AreFourWords (short_mix h)
-  short_mix-AreFourWords =
-      let kept = apply-words 64 0 rounds.short_mix_steps [] h (rw are.0 short_mix-steps) words in
-      (kept.0 ∙ are.0, AreWords-at 64 (short_mix h) kept.1)
+  short_mix-AreFourWords = stepped-AreFourWords rounds.short_mix_steps short_mix-steps
 
 -- no two states of four words are mixed alike, or end alike
 pub short_mix-same : (h k : List ℕ) → AreFourWords h → AreFourWords k → short_mix h ≡ short_mix k → h ≡ k

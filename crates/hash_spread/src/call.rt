@@ -108,7 +108,8 @@ fn positive(word: &[u8]) -> Option<NonZeroUsize>
 
 /// The number that a call gives by this option, if it gives one; `None` if what it gives is no number from 1 on.
 fn given_number(call: &Call<'_>, name: &[u8]) -> Option<Option<NonZeroUsize>>
-    ensures { option_map (option_map non_zero_usize_get) result ≡ given_number name.now (sayings call.now.said.items) }
+    ensures { option_map (option_map non_zero_usize_get) result
+        ≡ given_number name.now (sayings call.now.said.items) }
 {
     match call.value(name) {
         None => Some(None),
@@ -165,7 +166,8 @@ pub fn settings_of(call: &Call<'_>) -> Result<Settings, Wrong>
 
 /// The first of the names that no hash has.
 fn first_unknown<'a>(names: &[&'a [u8]]) -> Option<&'a [u8]>
-    ensures { option_map (λ word. word.now) result ≡ find (λ name. is_none (kind_named name)) (map (λ name. name.now) names.now) }
+    ensures { option_map (λ word. word.now) result
+        ≡ find (λ name. is_none (kind_named name)) (map (λ name. name.now) names.now) }
 {
     for name in names {
         if kind_named(name).is_none() {

@@ -1,12 +1,12 @@
 -- Each hash of the table is below 2 to the power of its bits, and each of 128 bits is two words.
 use Rattle.std.proofs.Common.{ℕ, zero, suc, ◌*◌, ◌/◌, ◌%◌, ◌^◌, ◌<◌, ◌≤◌, Bool, true, false, if◌then◌else◌, nat_lt, List, [], ◌∷◌, length, slice_index, fold, map, take, drop, All, refl, sym, arith, lit<, subst, ◌∙◌}
-use Rattle.std.proofs.Math.Nat.{pow-le-pow_right}
 use Rattle.std.proofs.lemmas.List.Elements.{All-drop, All-head, All-tail, All-take}
-use Rattle.std.proofs.lemmas.Nat.{mod_below, pow_pos, shr_le, xor_lt}
-use Rattle.hash_words.specs.Words.{le, xorshift}
+use Rattle.std.proofs.lemmas.Nat.{mod_below, pow_pos, xor_lt}
+use Rattle.hash_words.specs.Words.{le}
 use Rattle.hash_words.specs.Pieces.{pieces, le_words}
-use Rattle.hash_words.proofs.PieceLemmas.{le-lt}
-use Rattle.hash_words.proofs.WordLemmas.{AreWords-at, AreWords-from}
+use Rattle.hash_words.proofs.ByteLemmas.{le-few}
+use Rattle.hash_words.proofs.XorshiftLemmas.{xorshift-lt}
+use Rattle.hash_words.proofs.WordLemmas.{AreWords-at}
 use Rattle.hash_laws.specs.Text.{IsText}
 use Rattle.hash_laws.proofs.TextLemmas.{IsByte}
 use Rattle.hash_blocks.specs.Blocks.{blocks, tail}
@@ -16,9 +16,9 @@ use Rattle.block_laws.proofs.BackLemmas.{pieces-blocks}
 use Rattle.hash_rounds.specs.Blocks.{spooky_blocks}
 use Rattle.hash_rounds.specs.Rounds as rounds
 use Rattle.hash_rounds.specs.Spooky.{short_end, spooky_end}
-use Rattle.hash_rounds.specs.Steps.{AreSteps, apply}
+use Rattle.hash_rounds.specs.Steps.{AreSteps}
 use Rattle.hash_rounds.proofs.BlockLemmas.{spooky_blocks-words}
-use Rattle.hash_rounds.proofs.RoundLemmas.{AreFourWords}
+use Rattle.hash_rounds.proofs.RoundLemmas.{AreFourWords, short_end-steps, stepped-AreFourWords}
 use Rattle.hash_rounds.proofs.StepLemmas.{apply-words}
 use Rattle.hash_jenkins.specs.Lookup3.{AreTwoWords, lookup3_answer, lookup3_from}
 use Rattle.hash_jenkins.specs.Lookup3Laws.{lookup3-AreTwoWords}
@@ -28,6 +28,7 @@ use Rattle.jenkins_laws.proofs.Zeros.{add_at-AreFourWords, short_start-AreFourWo
 use Rattle.hash_murmur3.specs.Murmur3 as murmur3
 use Rattle.hash_murmur3.specs.Murmur3x128 as murmur3_wide
 use Rattle.hash_siphash.specs.SipHash as sip
+use Rattle.hash_siphash.proofs.BackLemmas.{rounds-in, xored-in}
 use Rattle.hash_xxhash.specs.Xxh32 as xxh32
 use Rattle.hash_xxhash.specs.Xxh64 as xxh64
 use Rattle.hash_xxh3.specs.Words.{avalanche, avalanche_64, length_mix}
@@ -39,36 +40,33 @@ use Rattle.hash_xxh3.specs.Xxh3.{xxh3_64_of}
 
 -- ---- words
 
-shifted : (w x k : ℕ) → x < 2 ^ w → xorshift x k < 2 ^ w
-shifted w x k below = xor_lt w x (x / 2 ^ k) below (omega (arith, shr_le x k, below))
-
 either : (w : ℕ) (b : Bool) (x y : ℕ) → x < 2 ^ w → y < 2 ^ w → (if b then x else y) < 2 ^ w
 either w true x y first second = first
 either w false x y first second = second
 
 pub xxh32_mix : (h : ℕ) → xxh32.last_mix h < 2 ^ 32
 unfolding xxh32.last_mix
-xxh32_mix h = shifted 32 _ 16 (mod_below _ (2 ^ 32) (lit< tt))
+xxh32_mix h = xorshift-lt 32 _ 16 (mod_below _ (2 ^ 32) (lit< tt))
 
 pub xxh64_mix : (h : ℕ) → xxh64.last_mix h < 2 ^ 64
 unfolding xxh64.last_mix
-xxh64_mix h = shifted 64 _ 32 (mod_below _ (2 ^ 64) (lit< tt))
+xxh64_mix h = xorshift-lt 64 _ 32 (mod_below _ (2 ^ 64) (lit< tt))
 
 pub murmur3_mix : (h : ℕ) → murmur3.last_mix h < 2 ^ 32
 unfolding murmur3.last_mix
-murmur3_mix h = shifted 32 _ 16 (mod_below _ (2 ^ 32) (lit< tt))
+murmur3_mix h = xorshift-lt 32 _ 16 (mod_below _ (2 ^ 32) (lit< tt))
 
 avalanche_below : (h : ℕ) → avalanche h < 2 ^ 64
 unfolding avalanche
-avalanche_below h = shifted 64 _ 32 (mod_below _ (2 ^ 64) (lit< tt))
+avalanche_below h = xorshift-lt 64 _ 32 (mod_below _ (2 ^ 64) (lit< tt))
 
 avalanche_64_below : (h : ℕ) → avalanche_64 h < 2 ^ 64
 unfolding avalanche_64
-avalanche_64_below h = shifted 64 _ 32 (mod_below _ (2 ^ 64) (lit< tt))
+avalanche_64_below h = xorshift-lt 64 _ 32 (mod_below _ (2 ^ 64) (lit< tt))
 
 length_mix_below : (len h : ℕ) → length_mix len h < 2 ^ 64
 unfolding length_mix
-length_mix_below len h = shifted 64 _ 28 (mod_below _ (2 ^ 64) (lit< tt))
+length_mix_below len h = xorshift-lt 64 _ 28 (mod_below _ (2 ^ 64) (lit< tt))
 
 -- ---- XXH3
 
@@ -122,7 +120,7 @@ wide_none_below seed = (avalanche_64_below _, avalanche_64_below _)
 
 wide_words_below : (product : ℕ) → AreBoth (wide.wide_words product)
 unfolding wide.eight_low
-wide_words_below product = (shifted 64 _ 28 (mod_below _ (2 ^ 64) (lit< tt)), avalanche_below _)
+wide_words_below product = (xorshift-lt 64 _ 28 (mod_below _ (2 ^ 64) (lit< tt)), avalanche_below _)
 
 sixteen_end_below : (low high : ℕ) → AreBoth (wide.sixteen_end low high)
 unfolding wide.sixteen_end
@@ -163,19 +161,12 @@ murmur3_below seed text = (mod_below _ (2 ^ 64) (lit< tt), mod_below _ (2 ^ 64) 
 
 -- ---- SpookyHash
 
-end-steps : AreSteps 64 4 0 rounds.short_end_steps
-unfolding rounds.short_end_steps
-end-steps = refl
-
 long_end-steps : AreSteps 64 12 12 rounds.spooky_end_steps
 unfolding rounds.spooky_end_steps rounds.spooky_end_partial_steps rounds.data_sums
 long_end-steps = refl
 
-short_end_in : (h : List ℕ) → AreFourWords h → (i : ℕ) → slice_index (short_end h) i < 2 ^ 64
-short_end_in h are =
-    AreWords-at 64 (short_end h)
-    (apply-words 64 0 rounds.short_end_steps [] h (subst (λ n. AreSteps 64 n 0 rounds.short_end_steps) (sym are.0) end-steps)
-    (AreWords-from 64 h are.1)).1
+short_end_in : (h : List ℕ) → AreFourWords h → AreFourWords (short_end h)
+short_end_in h are = stepped-AreFourWords h are rounds.short_end_steps short_end-steps
 
 twelve_in : (text : List ℕ) (i : ℕ) → slice_index (of.twelve_words 0 0 text) i < 2 ^ 64
 twelve_in text =
@@ -194,14 +185,14 @@ one_of false x y i first second = second
 pub spooky_below : (text : List ℕ) → AreBoth (of.spooky 0 0 text)
 spooky_below text =
     let start = short_start-AreFourWords 0 0 text (lit< tt) (lit< tt) in
-    let short = short_end_in _ (add_at-AreFourWords _ 3 (length text * 2 ^ 56) start) in
+    let short = (short_end_in _ (add_at-AreFourWords _ 3 (length text * 2 ^ 56) start)).1 in
     let b = nat_lt (length text) 192 in
     (one_of b _ _ 0 (short 0) (twelve_in text 0), one_of b _ _ 1 (short 1) (twelve_in text 1))
 
 pub spooky_v1_below : (text : List ℕ) → (of.spooky_v1 0 0 text).0 < 2 ^ 64
 spooky_v1_below text =
     let start = short_start-AreFourWords 0 0 text (lit< tt) (lit< tt) in
-    one_of (nat_lt (length text) 192) _ _ 0 (short_end_in _ start 0) (twelve_in text 0)
+    one_of (nat_lt (length text) 192) _ _ 0 ((short_end_in _ start).1 0) (twelve_in text 0)
 
 -- ---- lookup3
 
@@ -218,19 +209,6 @@ lookup3_pieces n text (i ∷ places) s are is =
 
 -- ---- SipHash
 
-sip-steps : AreSteps 64 4 0 sip.round_steps
-unfolding sip.round_steps
-sip-steps = refl
-
-rounds_in : (n : ℕ) (v : List ℕ) → AreFourWords v → AreFourWords (sip.rounds n v)
-unfolding sip.rounds
-rounds_in zero v are = are
-rounds_in (suc n) v are =
-    let before = rounds_in n v are in
-    let kept = apply-words 64 0 sip.round_steps [] (sip.rounds n v)
-    (subst (λ k. AreSteps 64 k 0 sip.round_steps) (sym before.0) sip-steps) (AreWords-from 64 (sip.rounds n v) before.1) in
-    (kept.0 ∙ before.0, AreWords-at 64 (apply 64 sip.round_steps [] (sip.rounds n v)) kept.1)
-
 four_in : (a b c d : ℕ) → a < 2 ^ 64 → b < 2 ^ 64 → c < 2 ^ 64 → d < 2 ^ 64 → AreFourWords (a ∷ b ∷ c ∷ d ∷ [])
 four_in a b c d a_in b_in c_in d_in = (refl, below) where
   below : (i : ℕ) → slice_index (a ∷ b ∷ c ∷ d ∷ []) i < 2 ^ 64
@@ -240,24 +218,12 @@ four_in a b c d a_in b_in c_in d_in = (refl, below) where
   below (suc (suc (suc zero))) = d_in
   below (suc (suc (suc (suc i)))) = pow_pos 64
 
-xored_in : (a b c d : ℕ) (v : List ℕ) → AreFourWords v → a < 2 ^ 64 → b < 2 ^ 64 → c < 2 ^ 64 → d < 2 ^ 64
-    → AreFourWords (sip.xored a b c d v)
-unfolding sip.xored
-xored_in a b c d v are a_in b_in c_in d_in =
-    four_in _ _ _ _ (xor_lt 64 (slice_index v 0) a (are.1 0) a_in) (xor_lt 64 (slice_index v 1) b (are.1 1) b_in)
-    (xor_lt 64 (slice_index v 2) c (are.1 2) c_in) (xor_lt 64 (slice_index v 3) d (are.1 3) d_in)
-
 word_in : (c : ℕ) (v : List ℕ) (word : ℕ) → AreFourWords v → word < 2 ^ 64 → AreFourWords (sip.after_word c v word)
 unfolding sip.after_word
 word_in c v word are below =
     let none = pow_pos 64 in
-    xored_in word 0 0 0 (sip.rounds c (sip.xored 0 0 0 word v))
-    (rounds_in c (sip.xored 0 0 0 word v) (xored_in 0 0 0 word v are none none none below)) below none none none
-
-le_below : (k : ℕ) (bytes : List ℕ) → IsText bytes → length bytes ≤ k → le bytes < 256 ^ k
-le_below k bytes is few =
-    let most : 256 ^ length bytes ≤ 256 ^ k = pow-le-pow_right {n = 256} (lit< tt) {i = length bytes} {j = k} few in
-    omega (arith, le-lt bytes is, most)
+    xored-in word 0 0 0 (sip.rounds c (sip.xored 0 0 0 word v))
+    (rounds-in c (sip.xored 0 0 0 word v) (xored-in 0 0 0 word v are none none none below)) below none none none
 
 blocks_in : (c : ℕ) (v : List ℕ) (pieces_of : List (List ℕ)) → AreFourWords v → All (IsBlock 8) pieces_of
     → AreFourWords (fold (sip.after_block c) v pieces_of)
@@ -265,7 +231,7 @@ blocks_in c v [] are each = are
 blocks_in c v (block ∷ more) are each =
     let first = All-head (IsBlock 8) block more each in
     blocks_in c (sip.after_block c v block) more
-    (word_in c v (le block) are (le_below 8 block first.0 (omega (arith, first.1)))) (All-tail (IsBlock 8) block more each)
+    (word_in c v (le block) are (le-few 8 block first.0 (omega (arith, first.1)))) (All-tail (IsBlock 8) block more each)
 
 folded_below : (v : List ℕ) → AreFourWords v → sip.folded v < 2 ^ 64
 unfolding sip.folded
@@ -276,7 +242,7 @@ folded_below v are =
 last_below : (left : List ℕ) (total : ℕ) → IsText left → length left < 8 → sip.last_word left total < 2 ^ 64
 unfolding sip.last_word
 last_below left total is few =
-    let low : le left < 256 ^ 7 = le_below 7 left is (omega (arith, few)) in
+    let low : le left < 256 ^ 7 = le-few 7 left is (omega (arith, few)) in
     let high : total % 256 < 256 = mod_below total 256 (lit< tt) in
     omega (arith, low, high)
 
@@ -295,5 +261,5 @@ siphash_below c d k0 k1 text first second is =
     let left : IsText (tail 8 text) = All-drop IsByte (length text / 8 * 8) text is in
     let last = sip.last_word (tail 8 text) (length text) in
     let end_in = word_in c v last v_in (last_below (tail 8 text) (length text) left (tail-lt 8 (lit< tt) text)) in
-    let flipped = xored_in 0 0 0xff 0 (sip.after_word c v last) end_in (pow_pos 64) (pow_pos 64) (lit< tt) (pow_pos 64) in
-    folded_below _ (rounds_in d (sip.xored 0 0 0xff 0 (sip.after_word c v last)) flipped)
+    let flipped = xored-in 0 0 0xff 0 (sip.after_word c v last) end_in (pow_pos 64) (pow_pos 64) (lit< tt) (pow_pos 64) in
+    folded_below _ (rounds-in d (sip.xored 0 0 0xff 0 (sip.after_word c v last)) flipped)

@@ -2,6 +2,7 @@
 use Rattle.std.proofs.Common.{ℕ, zero, suc, ◌≡◌, ◌<◌, Bool, true, false, if◌then◌else◌, List, [], ◌∷◌, length, map, Option, Some, None, Contains, refl, ap, ◌∙◌, subst, arith}
 use Rattle.std.specs.List.{AllByRecursion, find}
 use Rattle.std.specs.Option.{option_map}
+use Rattle.std.proofs.Math.Option.{some-injective}
 use Rattle.std.proofs.lemmas.List.{get_or-map, length-map}
 use Rattle.hash_lines.specs.declared.line.Kind.{Kind}
 use Rattle.hash_sums.specs.Sums.{is_named, kind_of, kinds, sum_at, told_of, width_in, Told}
@@ -39,10 +40,7 @@ found_as_told name (kind ∷ more) = at (is_named name kind.name.now) (found_as_
 some_kind : (found : Option Kind) (hash : Told) → option_map told_of found ≡ Some hash
     → (kind : Kind) × (found ≡ Some kind) × (told_of kind ≡ hash)
 some_kind None hash is = cc
-some_kind (Some kind) hash is = (kind, refl, some_same is)
-  where
-    some_same : Some (told_of kind) ≡ Some hash → told_of kind ≡ hash
-    some_same same = cc
+some_kind (Some kind) hash is = (kind, refl, some-injective _ _ is)
 
 pub name_found : (keys : Option (ℕ × ℕ)) (told : List Kind) → map told_of told ≡ kinds keys
     → (hash : Told) → Contains (kinds keys) hash → (kind : Kind) × (kind_of told (Some hash.name) ≡ Some kind) × (told_of kind ≡ hash)

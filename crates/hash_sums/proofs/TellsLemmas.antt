@@ -1,7 +1,7 @@
 -- What a list that passed tells of a file is so.
 use Rattle.std.proofs.Common.{◌≡◌, inl, inr, ℕ, zero, suc, zero-lt-suc, ◌<◌, Bool, true, false, ◌&&◌, ◌==◌, if◌then◌else◌, List, [], ◌∷◌, length, map, Option, Some, None, Result, Ok, Err, Contains, refl, sym, ap, ◌∙◌, subst, arith, slice_index_or}
 use Rattle.std.specs.List.{find}
-use Rattle.std.specs.Option.{unwrap_or}
+use Rattle.std.proofs.Math.Option.{some-injective}
 use Rattle.std.specs.IoError.{error_kind}
 use Rattle.std.proofs.lemmas.Bool.{and_parts, eqb-true, false≢true}
 use Rattle.std.proofs.lemmas.List.{get_or-map, length-map}
@@ -24,9 +24,6 @@ use Rattle.hash_sums.specs.Lists.{bare, AreLines}
 use Rattle.hash_sums.specs.Passed.{fails, HasHash, HasPassed, ListTells}
 use Rattle.hash_sums.specs.Program.{taken}
 use Rattle.hash_sums.specs.Sums.{is_named, kind_of, sum_by}
-
-some_same : {X : Type 0} {x y : X} → Some x ≡ Some y → x ≡ y
-some_same {x = x} is = ap (λ o. unwrap_or o x) is
 
 module _ (kinds : List Kind) (checking : Checking) (opens : Opens) where
   -- a verdict that does not fail its list
@@ -117,10 +114,10 @@ kind_found p (first ∷ more) kind is = at (p first) is (kind_found p more kind)
   where
     at : (b : Bool) → (if b then Some first else find p more) ≡ Some kind → (find p more ≡ Some kind → Contains more kind)
         → Contains (first ∷ more) kind
-    at true same later = (0, zero-lt-suc (length more), some_same same)
+    at true same later = (0, zero-lt-suc (length more), some-injective _ _ same)
     at false rest later = let (k, below, there) = later rest in (suc k, omega (arith, below), there)
 
 pub kind_is_there : (kinds : List Kind) (name : Option (List ℕ)) (kind : Kind) → kind_of kinds name ≡ Some kind → Contains kinds kind
 kind_is_there [] None kind none = cc
-kind_is_there (first ∷ more) None kind is = (0, zero-lt-suc (length more), some_same is)
+kind_is_there (first ∷ more) None kind is = (0, zero-lt-suc (length more), some-injective _ _ is)
 kind_is_there kinds (Some name) kind is = kind_found (λ k. is_named name k.name.now) kinds kind is

@@ -1,3 +1,4 @@
+pub mod ByteLemmas
 pub mod Chunks
 pub mod PieceLemmas
 pub mod PutLemmas

@@ -37,9 +37,9 @@ xorshift-swap x j k =
       add_comm j k,
     ) refl
 
-pub xorshift-past : (x k : ℕ) → x < 2 ^ 64 → 64 ≤ k → xorshift x k ≡ x
-xorshift-past x k x_in past =
-    let none : x / 2 ^ k ≡ 0 = div-eq_of_lt (omega (arith, pow-le-pow_right {n = 2} (lit< tt) {i = 64} {j = k} past)) in
+pub xorshift-past : (w x k : ℕ) → x < 2 ^ w → w ≤ k → xorshift x k ≡ x
+xorshift-past w x k x_in past =
+    let none : x / 2 ^ k ≡ 0 = div-eq_of_lt (omega (arith, x_in, pow-le-pow_right {n = 2} (lit< tt) {i = w} {j = k} past)) in
     rw none (xor_zero_r x)
 
 -- the step of the loop that undoes a shift: y is on the way from x
@@ -56,8 +56,8 @@ same_from_xorshift y z k y_in z_in some same =
     let far = 2 * (2 * (2 * (2 * (2 * (2 * k))))) in
     let past : 64 ≤ far = omega arith in
     let all = same_twice y z _ (same_twice y z _ (same_twice y z _ (same_twice y z _ (same_twice y z _ (same_twice y z k same))))) in
-    sym (xorshift-past y far y_in past) ∙ all ∙ xorshift-past z far z_in past
+    sym (xorshift-past 64 y far y_in past) ∙ all ∙ xorshift-past 64 z far z_in past
 
 -- a shift of a word is a word
-pub xorshift-lt : (x k : ℕ) → x < 2 ^ 64 → xorshift x k < 2 ^ 64
-xorshift-lt x k x_in = xor_lt 64 x (x / 2 ^ k) x_in (omega (arith, shr_le x k))
+pub xorshift-lt : (w x k : ℕ) → x < 2 ^ w → xorshift x k < 2 ^ w
+xorshift-lt w x k x_in = xor_lt w x (x / 2 ^ k) x_in (omega (arith, shr_le x k, x_in))

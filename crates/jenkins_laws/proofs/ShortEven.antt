@@ -18,9 +18,9 @@ use Rattle.hash_rounds.specs.Spooky.{short_mix, short_end}
 use Rattle.hash_words.specs.Words.{le, sub, add_at}
 use Rattle.hash_words.proofs.Chunks.{first_chunks-append}
 use Rattle.hash_words.proofs.PieceLemmas.{IsPiece, first_chunks-pieces}
-use Rattle.hash_rounds.proofs.RoundLemmas.{AreFourWords}
-use Rattle.hash_rounds.proofs.StepLemmas.{undo_apply, apply-words}
-use Rattle.hash_words.proofs.WordLemmas.{add-difference, add-sub, le-to_le_bytes-64, AreWords-from, AreWords-at, no_words}
+use Rattle.hash_rounds.proofs.RoundLemmas.{AreFourWords, stepped-AreFourWords, short_mix-steps, short_end-steps}
+use Rattle.hash_rounds.proofs.StepLemmas.{undo_apply}
+use Rattle.hash_words.proofs.WordLemmas.{add-difference, add-sub, le-to_le_bytes-64, AreWords-from, no_words}
 use Rattle.hash_laws.specs.Exactly.{ExactlyTexts}
 use Rattle.hash_laws.specs.Text.{IsText}
 use Rattle.hash_windows.proofs.FrameLemmas.{same_outside}
@@ -290,36 +290,22 @@ last-led h x y h_in x_in y_in = (
       ∙ sym (four-are h h_in.0),
 )
 
-mix-steps : AreSteps 64 4 0 rounds.short_mix_steps
-unfolding rounds.short_mix_steps
-mix-steps = refl
-
 unmix-steps : AreSteps 64 4 0 (undo 64 rounds.short_mix_steps)
 unfolding undo rounds.short_mix_steps
 unmix-steps = refl
-
-end-steps : AreSteps 64 4 0 rounds.short_end_steps
-unfolding rounds.short_end_steps
-end-steps = refl
-
--- a round of four words, kept in range, and led to
-round-in : (steps : List Step) → AreSteps 64 4 0 steps → (h : List ℕ) → AreFourWords h → AreFourWords (apply 64 steps [] h)
-round-in steps are h h_in =
-    let kept = apply-words 64 0 steps [] h (rw h_in.0 are) (AreWords-from 64 h h_in.1) in
-    (kept.0 ∙ h_in.0, AreWords-at 64 (apply 64 steps [] h) kept.1)
 
 -- the end taken back
 pub end_taken : (h ended to : List ℕ) (n : ℕ) → AreFourWords h → ended ≡ apply 64 (undo 64 rounds.short_end_steps) [] h → short_end ended ≡ h
     → to ≡ slice_set ended 3 (sub 64 (slice_index ended 3) (n * 2 ^ 56 % 2 ^ 64)) → short_end (add_at to 3 (n * 2 ^ 56)) ≡ h
 end_taken h ended to n h_in is end less =
-    let ended_in : AreFourWords ended = rw is (round-in (undo 64 rounds.short_end_steps) unend-steps h h_in) in
+    let ended_in : AreFourWords ended = rw is (stepped-AreFourWords h h_in (undo 64 rounds.short_end_steps) unend-steps) in
     ap (λ (s : List ℕ). short_end (add_at s 3 (n * 2 ^ 56))) less ∙ ap short_end (length-back ended n ended_in) ∙ end
 
 round-led : (steps : List Step) → AreSteps 64 4 0 steps → AreSteps 64 4 0 (undo 64 steps) → (h : List ℕ) → AreFourWords h
     → Led (apply 64 steps []) h
 round-led steps are back h h_in = (
   apply 64 (undo 64 steps) [] h,
-  round-in (undo 64 steps) back h h_in,
+  stepped-AreFourWords h h_in (undo 64 steps) back,
   undo_apply 64 [] (AreWords-from 64 [] (no_words 64)) steps h (rw h_in.0 are) (AreWords-from 64 h h_in.1),
 )
 
@@ -327,7 +313,7 @@ chunk-led : (c h : List ℕ) → IsPiece 32 c → AreFourWords h → Led (λ k. 
 chunk-led c h c_is h_in =
     let below = λ (i : ℕ) (i_in : i < 4). word-lt c i c_is i_in in
     let behind_mix = first-led h (word c 2) (word c 3) h_in (below 2 (lit< tt)) (below 3 (lit< tt)) in
-    let mixed = round-led rounds.short_mix_steps mix-steps unmix-steps behind_mix.0 behind_mix.1 in
+    let mixed = round-led rounds.short_mix_steps short_mix-steps unmix-steps behind_mix.0 behind_mix.1 in
     let before_mix = last-led mixed.0 (word c 0) (word c 1) mixed.1 (below 0 (lit< tt)) (below 1 (lit< tt)) in (
       before_mix.0,
       before_mix.1,
@@ -349,7 +335,7 @@ text-led text h is_text h_in =
 
 end-led : (words : List ℕ) (n : ℕ) → AreFourWords words → Led (λ k. short_end (add_at k 3 (n * 2 ^ 56))) words
 end-led words n words_in =
-    let ended = round-led rounds.short_end_steps end-steps unend-steps words words_in in
+    let ended = round-led rounds.short_end_steps short_end-steps unend-steps words words_in in
     let v = n * 2 ^ 56 % 2 ^ 64 in (
       slice_set ended.0 3 (sub 64 (slice_index ended.0 3) v),
       add_at-AreFourWords ended.0 3 (2 ^ 64 - v) ended.1,
@@ -467,8 +453,9 @@ module _ (seed1 seed2 : ℕ) (front back : List ℕ) (s1 : seed1 < 2 ^ 64) (s2 :
 
     words_of-in : (stretch : List ℕ) → AreFourWords (short_words seed1 seed2 (text_of stretch))
     words_of-in stretch =
-        round-in rounds.short_end_steps end-steps _
+        stepped-AreFourWords _
         (add_at-AreFourWords _ 3 (length (text_of stretch) * 2 ^ 56) (short_start-AreFourWords seed1 seed2 (text_of stretch) s1 s2))
+        rounds.short_end_steps short_end-steps
 
     spooky-is : (stretch : List ℕ) → length stretch ≡ 32
         → spooky seed1 seed2 (text_of stretch) ≡ first_two (short_words seed1 seed2 (text_of stretch))

@@ -10,7 +10,7 @@ loop-shift-preserved c =
 pub returns-clause-solves : goal.returns-clause-solves
 returns-clause-solves c =
     let l = c.loop-shift in
-    l.invariant.0 ∙ xorshift-past c.args.x l.shift c.ranges.x.fits c.loop-shift-test.false
+    l.invariant.0 ∙ xorshift-past 64 c.args.x l.shift c.ranges.x.fits c.loop-shift-test.false
 
 pub returns-clause-alone : goal.returns-clause-alone
 returns-clause-alone c =
