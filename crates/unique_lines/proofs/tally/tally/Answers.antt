@@ -1,8 +1,10 @@
 use Rattle.std.proofs.Common.{sym, subst, map}
 use Rattle.std.specs.Io.Buffered.{writer_contents}
+use Rattle.std.proofs.KnownBytes.{Appends-kept}
+use Rattle.streams.proofs.StreamLemmas.{part_whole}
 use Rattle.unique_lines.specs.Running.{run_of}
 use Rattle.unique_lines.specs.Tallies.{Tallies, told}
-use Rattle.unique_lines.proofs.InputLemmas.{handed_on, part_at_flush, part_silent, part_told}
+use Rattle.unique_lines.proofs.InputLemmas.{handed_on, part_silent, part_told}
 use Rattle.unique_lines.proofs.tally.tally.Goals as goal
 
 pub returns-in_err-ended-clause-ended : goal.returns-in_err-ended-clause-ended
@@ -18,6 +20,6 @@ returns-in_err-flush-clause-ended g c =
     let left' = map g.R.Read.remaining c.take_inputs.new.inputs in
     handed_on output _ c.args.eol c.args.limit _ _ c.from_residual-in_err-flush.ensures.0
     (part_told output _ c.args.eol c.args.limit _ left' _ _ _ c.in_ok-ended.ended c.in_default.not-TooManyLines c.in_ok-ended.ensures.ended
-    (λ ls now. part_at_flush (output ls) _ _ _
+    (λ ls now. part_whole _ _ _ (Appends-kept _ _ _ _
     (c.in_ok-write_tallies.ensures.ok ls
-    (subst (Tallies c.args.eol ls c.take_inputs.new.task.texts.texts) (sym c.deref.ensures.value) now)) c.flush.ensures.kept))
+    (subst (Tallies c.args.eol ls c.take_inputs.new.task.texts.texts) (sym c.deref.ensures.value) now)) c.flush.ensures.kept)))

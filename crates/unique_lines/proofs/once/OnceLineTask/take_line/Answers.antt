@@ -1,15 +1,14 @@
 use Rattle.std.proofs.Common.{rules, []}
-use Rattle.std.proofs.KnownBytes.{Appends-nil}
+use Rattle.std.proofs.KnownBytes.{Appends-nil, Keeps-refl}
 use Rattle.text_set.specs.Lines.{as_line_by}
-use Rattle.text_set.specs.Firsts.{once_by}
 use Rattle.text_set.proofs.FirstsLemmas.{once_begins}
-use Rattle.unique_lines.proofs.RunLemmas.{stops_before}
+use Rattle.unique_lines.proofs.RunLemmas.{breaks_before}
 use Rattle.streams.proofs.StreamLemmas.{on_err}
 use Rattle.unique_lines.proofs.SeenLemmas.{adds_new, adds_nothing, stops_in_line, takes_line}
 use Rattle.unique_lines.proofs.once.OnceLineTask.take_line.Goals as goal
 
 pub returns-in_err-see-clause-err : goal.returns-in_err-see-clause-err
-returns-in_err-see-clause-err g c = on_err _ c.from_residual.result (stops_before (once_by c.args.eol) (once_begins c.args.eol) _ _ _)
+returns-in_err-see-clause-err g c = on_err _ c.from_residual.result (breaks_before (once_begins c.args.eol) (Keeps-refl _) _)
 
 pub returns-in_err-write_line-clause-err : goal.returns-in_err-write_line-clause-err
 returns-in_err-write_line-clause-err g c =
