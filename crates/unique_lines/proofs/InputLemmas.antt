@@ -1,13 +1,11 @@
 -- Inputs, one behind the other.
-use Rattle.std.proofs.Common.{◌≡◌, ◌≢◌, ℕ, ◌+◌, ◌<◌, ◌&&◌, Bool, true, false, List, [], ◌∷◌, ◌++◌, length, map, set, get_or, take, drop, Option, None, Some, ap, sym, ◌∙◌, refl, subst, take-append-drop, length-append, Result, Ok, Err, arith}
+use Rattle.std.proofs.Common.{◌≡◌, ℕ, ◌+◌, ◌<◌, ◌&&◌, Bool, true, List, [], ◌∷◌, ◌++◌, length, map, set, get_or, take, drop, Option, None, Some, ap, sym, ◌∙◌, refl, subst, take-append-drop, length-append, arith}
 use Rattle.std.specs.Io.KnownBytes.{Appends, Keeps}
-use Rattle.std.specs.Result.{IsErr}
 use Rattle.std.proofs.KnownBytes.{Appends-kept, Appends-nil}
 use Rattle.std.proofs.lemmas.Bool.{and_parts, false≢true}
 use Rattle.std.proofs.lemmas.List.{append-nil, nil_from_length, drop-drop, drop-set-lt, map-append, take_more, take_more_set}
 use Rattle.std.proofs.Math.Seq.{drop-cons}
 use Rattle.streams.specs.Streams.{AppendsPart}
-use Rattle.streams.proofs.StreamLemmas.{part_behind}
 use Rattle.std.specs.Option.{is_some}
 use Rattle.std.specs.List.{flat_map, list_all}
 use Rattle.std.proofs.lemmas.Grind.{flat_map-append}
@@ -15,12 +13,8 @@ use Rattle.std.proofs.lemmas.List.Folds.{list_all-append}
 use Rattle.unique_lines.specs.Inputs.{AreRead, ReadsInput, lines_read}
 use Rattle.unique_lines.specs.Inputs.AreRead.{behind, none}
 use Rattle.text_set.specs.Lines.{lines_by}
-use Rattle.unique_lines.specs.Running.{AllBeginWith, EndsTaking, NextBeginsWith, Run, WritesAll, WritesPart}
+use Rattle.unique_lines.specs.Running.{AllBeginWith, NextBeginsWith, Run, WritesPart}
 use Rattle.unique_lines.specs.Taking.{At, BeginWith, Broke, Leads}
-use Rattle.streams.specs.declared.fault.Fault.{Fault}
-use Rattle.unique_lines.specs.declared.fault.TooMany.{TooMany}
-use Rattle.unique_lines.specs.declared.run.Ended.{Ended}
-use Rattle.unique_lines.specs.declared.run.Ended.TheVariants.{Whole, InputFailed, TooManyLines}
 
 -- ---- the first lines of inputs
 
@@ -112,12 +106,6 @@ module _ {R : Type 0} {remaining : R → Option (List ℕ)} {output : List (List
       part_beyond now begins over =
           (so_far.ls ++ now, begins_next now begins, omega (arith, so_far.counted, over, length-append so_far.ls now))
 
--- an error that is handed on
-pub handed_on : (output : List (List ℕ) → List ℕ) (after : List (List ℕ) → Type 0) (eol limit : ℕ) (run : Run)
-    (result : Result Ended (Fault TooMany)) → IsErr result → WritesPart output eol run → EndsTaking output after eol limit run result
-handed_on output after eol limit run (Ok ended) is part = absurd (false≢true is)
-handed_on output after eol limit run (Err fault) is part = part
-
 -- ---- what is written once all lines are taken
 
 -- a beginning of nothing is nothing, and so a beginning of anything
@@ -125,31 +113,6 @@ pub part_silent : (output : List (List ℕ) → List ℕ) (eol : ℕ) (run : Run
 part_silent output eol run (ls, begins, (part, rest, is, appends)) =
     let nothing : part ≡ [] = nil_from_length part (omega (arith, ap length is, length-append part rest)) in
     (ls, begins, ([], output ls, refl, subst (Appends run.written run.written') nothing appends))
-
-module _ (output : List (List ℕ) → List ℕ) (stands : List (List ℕ) → Type 0) (eol limit : ℕ) (lefts lefts' : List (Option (List ℕ)))
-    (w w' w'' : Option (List ℕ)) where
-  abbrev taking : Run
-  taking = record { left = lefts; left' = lefts'; written = w; written' = w' }
-
-  abbrev telling : Run
-  telling = record { left = lefts; left' = lefts'; written = w; written' = w'' }
-
-  -- a fault while it is told
-  pub part_told : (ended : Ended) → ended ≢ TooManyLines → EndsTaking (λ ls. []) stands eol limit taking (Ok ended)
-      → ((ls : List (List ℕ)) → stands ls → AppendsPart w' w'' (output ls)) → WritesPart output eol telling
-  part_told ended other ends told = at ended other ends
-    where
-      of_all : (whole : Bool) → WritesAll (λ ls. []) stands eol whole limit taking → WritesPart output eol telling
-      of_all whole (ls, within, silent, taken) = (
-        ls,
-        all_begin lefts [] ls [] within.read (sym (append-nil lefts)) refl (sym (append-nil ls)),
-        part_behind w w' w'' [] (output ls) silent (told ls taken),
-      )
-
-      at : (ended : Ended) → ended ≢ TooManyLines → EndsTaking (λ ls. []) stands eol limit taking (Ok ended) → WritesPart output eol telling
-      at Whole other ends = of_all true ends
-      at InputFailed other ends = of_all false ends
-      at TooManyLines other ends = absurd (other refl)
 
 -- ---- inputs that are read to their ends
 

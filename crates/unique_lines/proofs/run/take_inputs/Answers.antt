@@ -1,14 +1,14 @@
-use Rattle.std.proofs.Common.{◌<◌, true, false, map, length, sym, ◌∙◌, arith}
+use Rattle.std.proofs.Common.{◌<◌, true, false, map, length, sym, ◌∙◌, arith, rules}
 use Rattle.std.proofs.Math.Bool.{and-false, and-true}
-use Rattle.unique_lines.proofs.InputLemmas.{handed_on, part_at_start, part_beyond, part_within, so_far_more, so_far_start}
+use Rattle.unique_lines.proofs.InputLemmas.{part_at_start, part_beyond, part_within, so_far_more, so_far_start}
 use Rattle.unique_lines.proofs.run.take_inputs.Goals as goal
 use Rattle.unique_lines.proofs.run.take_inputs.Goals.{in-Done, in-Failed}
 
 pub returns-in_err-flush-clause-ended : goal.returns-in_err-flush-clause-ended
 returns-in_err-flush-clause-ended g c =
-    let output = g.T.LineTask.output c.args.eol in
-    handed_on output _ c.args.eol c.args.limit _ _ c.from_residual.ensures.0
-    (part_at_start output (map g.R.Read.remaining c.args.inputs.now) _ _ c.requires.nothing c.flush.ensures.kept)
+    let part = part_at_start {eol = c.args.eol} (g.T.LineTask.output c.args.eol) (map g.R.Read.remaining c.args.inputs.now) _ _ c.requires.nothing
+    c.flush.ensures.kept in
+    search rules
 
 pub loop-place-init : goal.loop-place-init
 loop-place-init g c =
@@ -18,9 +18,9 @@ pub returns-in_err-take_input-clause-ended : goal.returns-in_err-take_input-clau
 returns-in_err-take_input-clause-ended g c =
     let (so_far, unread, flushed) = c.loop-place.invariant in
     let (ls, begins, breaks) = c.in_err-take_input.ensures.broke in
-    handed_on (g.T.LineTask.output c.args.eol) _ c.args.eol c.args.limit _ _ c.from_residual-in_err-take_input.ensures.0
-    (part_within so_far c.index-inputs-place.result (omega (arith, c.loop-place-test.true)) (omega (arith, c.loop-place-test.true, c.loop-place.auto.inputs))
-    ls begins breaks)
+    let part = part_within so_far c.index-inputs-place.result (omega (arith, c.loop-place-test.true))
+    (omega (arith, c.loop-place-test.true, c.loop-place.auto.inputs)) ls begins breaks in
+    search rules
 
 pub returns-in-Beyond-clause-ended : goal.returns-in-Beyond-clause-ended
 returns-in-Beyond-clause-ended g c =
