@@ -1,11 +1,10 @@
 -- What was read of an input and taken of it, and what is written of that.
-use Rattle.std.proofs.Common.{◌≡◌, ℕ, ◌+◌, ◌-◌, ◌<◌, ◌≤◌, inl, inr, cond, true, false, List, [], ◌∷◌, ◌++◌, length, take, drop, ap, sym, ◌∙◌, refl, subst, Option, None, Some, IfSome, append_assoc, take-append-drop, length-append, length-drop, arith}
+use Rattle.std.proofs.Common.{◌≡◌, ℕ, ◌+◌, ◌-◌, ◌<◌, ◌≤◌, inl, inr, true, false, List, [], ◌∷◌, ◌++◌, length, take, drop, ap, sym, ◌∙◌, refl, subst, Option, None, Some, append_assoc, take-append-drop, length-append, arith}
 use Rattle.std.specs.Io.BufRead.{ends_with_byte}
 use Rattle.std.specs.Io.KnownBytes.{Consumes, Keeps, IsAtEnd}
-use Rattle.std.specs.List.{filter}
 use Rattle.std.proofs.KnownBytes.{Appends-kept, Consumes-trans, Consumes-whole}
 use Rattle.std.proofs.lemmas.Bool.{cases_lt, false≢true}
-use Rattle.std.proofs.lemmas.List.{append-nil, drop-drop}
+use Rattle.std.proofs.lemmas.List.{append-nil}
 use Rattle.std.proofs.lemmas.List.Elements.{filter-append}
 use Rattle.streams.proofs.StreamLemmas.{part_whole}
 use Rattle.unique_lines.specs.Between.{Filled, Splits, Takes}
@@ -35,6 +34,13 @@ leads_both {c = c} {first = first} {second = second} one two = record {
 pub taken_on : {output : List (List ℕ) → List ℕ} {taken taken' : List (List ℕ) → Type 0} {w w' : Option (List ℕ)} {more : List (List ℕ)}
     → Leads (At output taken w) (At output taken' w') more → (ls : List (List ℕ)) → taken ls → taken' (ls ++ more)
 taken_on leads ls now = (leads.on None ls (record { stands = now; writes = tt })).stands
+
+-- there is room for so many lines more
+pub room_on : {output : List (List ℕ) → List ℕ} {taken taken' : List (List ℕ) → Type 0} {w w' : Option (List ℕ)} {more : List (List ℕ)}
+    (most most' limit : ℕ) → Leads (At output taken w) (At output taken' w') more → length more + most' ≡ most
+    → (ls : List (List ℕ)) × taken ls × (length ls + most ≤ limit) → (ls : List (List ℕ)) × taken' ls × (length ls + most' ≤ limit)
+room_on {more = more} most most' limit leads counted (ls, now, few) =
+    (ls ++ more, taken_on leads ls now, omega (arith, few, counted, length-append ls more))
 
 module _ {output : List (List ℕ) → List ℕ} {taken : List (List ℕ) → Type 0} {a : Standing} {more : List (List ℕ)} {w w' : Option (List ℕ)}
     (keeps : Keeps w w') (leads : Leads a (At output taken w) more) where
@@ -69,72 +75,42 @@ module _ {eol : ℕ} where
       → IsLineEnd eol bytes (Some n) → Splits eol bytes (line ∷ []) behind
   splits_line bytes line behind n front back end =
       let (stops, some, ended) = line_before eol bytes line n front end in
-      let joined : line ++ behind ≡ bytes =
-      ap (λ l. l ++ behind) front ∙ ap (λ l. take (n + 1) bytes ++ l) back ∙ take-append-drop (n + 1) bytes in
+      let joined : line ++ behind ≡ bytes = rw (front, back) (take-append-drop (n + 1) bytes) in
       record {
-        splits = λ later. ap (λ l. lines_by eol (l ++ later)) (sym joined) ∙ ap (lines_by eol) (append_assoc line behind later)
-            ∙ lines_of_line eol line (behind ++ later) stops ended;
-        ends = ap (λ b. cond b (line ∷ []) []) ended;
+        splits = λ later. rw (← joined, append_assoc) (lines_of_line eol line (behind ++ later) stops ended);
+        ends = rw ended;
       }
 
   pub splits_both : {bytes mid rest : List ℕ} {ls more : List (List ℕ)} → Splits eol bytes ls mid → Splits eol mid more rest
       → Splits eol bytes (ls ++ more) rest
-  splits_both {rest = rest} {ls = ls} {more = more} one two = record {
-    splits = λ later. one.splits later ∙ ap (λ l. ls ++ l) (two.splits later) ∙ sym (append_assoc ls more (lines_by eol (rest ++ later)));
-    ends = filter-append (ends_with_byte eol) ls more ∙ ap (λ l. l ++ filter (ends_with_byte eol) more) one.ends
-        ∙ ap (λ l. ls ++ l) two.ends;
+  splits_both {ls = ls} {more = more} one two = record {
+    splits = λ later. rw (one.splits later, two.splits later, append_assoc);
+    ends = rw (filter-append (ends_with_byte eol) ls more, one.ends, two.ends);
   }
 
   -- more bytes behind them
   pub splits_behind : {bytes rest : List ℕ} {ls : List (List ℕ)} (more : List ℕ) → Splits eol bytes ls rest
       → Splits eol (bytes ++ more) ls (rest ++ more)
-  splits_behind {bytes = bytes} {rest = rest} {ls = ls} more it = record {
-    splits = λ later. ap (lines_by eol) (append_assoc bytes more later) ∙ it.splits (more ++ later)
-        ∙ ap (λ l. ls ++ lines_by eol l) (sym (append_assoc rest more later));
+  splits_behind {bytes = bytes} {rest = rest} more it = record {
+    splits = λ later. rw (append_assoc bytes more later, it.splits (more ++ later), append_assoc rest more later);
     ends = it.ends;
   }
 
   lines_are : {bytes rest : List ℕ} {ls : List (List ℕ)} → Splits eol bytes ls rest → lines_by eol bytes ≡ ls ++ lines_by eol rest
-  lines_are {bytes = bytes} {rest = rest} {ls = ls} it =
-      ap (lines_by eol) (sym (append-nil bytes)) ∙ it.splits [] ∙ ap (λ l. ls ++ lines_by eol l) (append-nil rest)
+  lines_are it = simp append-nil at (it.splits [])
 
   -- where the rest has no end, the lines that have one are these
   whole_are : {bytes rest : List ℕ} {ls : List (List ℕ)} → Splits eol bytes ls rest → IsBare eol rest → whole_lines eol bytes ≡ ls
   whole_are {rest = rest} {ls = ls} it bare =
-      ap (filter (ends_with_byte eol)) (lines_are it) ∙ filter-append (ends_with_byte eol) ls (lines_by eol rest)
-      ∙ ap (λ l. l ++ whole_lines eol rest) it.ends ∙ ap (λ l. ls ++ l) (none rest bare) ∙ append-nil ls
+      rw (lines_are it, filter-append (ends_with_byte eol) ls (lines_by eol rest), it.ends, none rest bare, append-nil ls)
     where
       none : (rest : List ℕ) → IsBare eol rest → whole_lines eol rest ≡ []
       none [] bare = refl
       none (byte ∷ rest) bare =
-          ap (filter (ends_with_byte eol)) (bare_line eol (byte ∷ rest) bare (omega arith))
-          ∙ ap (λ b. cond b ((byte ∷ rest) ∷ []) []) (bare_end eol (byte ∷ rest) bare)
+          rw (bare_line eol (byte ∷ rest) bare (omega arith), bare_end eol (byte ∷ rest) bare)
 
   pub bare_nothing : (bytes : List ℕ) → bytes ≡ [] → IsBare eol bytes
   bare_nothing bytes none = λ k below. absurd (omega (arith, below, ap length none))
-
--- ---- the rest of bytes
-
--- what stands behind the first n + 1 of the rest is the rest then
-pub rest_more : (bytes rest behind : List ℕ) (n : ℕ) → rest ≡ drop (length bytes - length rest) bytes → length rest ≤ length bytes
-    → n < length rest → behind ≡ drop (n + 1) rest → behind ≡ drop (length bytes - length behind) bytes
-rest_more bytes rest behind n is within below back =
-    let so_far : length bytes - length rest + (n + 1) ≡ length bytes - length behind =
-    omega (arith, within, below, ap length back, length-drop (n + 1) rest) in
-    back ∙ ap (drop (n + 1)) is ∙ drop-drop (n + 1) (length bytes - length rest) bytes ∙ ap (λ k. drop k bytes) so_far
-
--- as many lines are taken as may be, or all
-pub takes_so_far : {eol : ℕ} (bytes rest : List ℕ) (ls : List (List ℕ)) (most count : ℕ) → rest ≡ drop (length bytes - length rest) bytes
-    → Splits eol bytes ls rest → length ls ≡ count → count ≤ most → (count ≡ 0 → rest ≡ bytes) → (count < most → IsBare eol rest)
-    → Takes eol bytes most count (length bytes - length rest) ls
-takes_so_far {eol} bytes rest ls most count is splits counted few none bare = record {
-  few = few;
-  within = omega arith;
-  counted = counted;
-  splits = subst (Splits eol bytes ls) is splits;
-  bare = λ below. subst (IsBare eol) is (bare below);
-  none = λ zero. sym is ∙ none zero;
-}
 
 -- ---- what was read of an input
 
@@ -149,25 +125,20 @@ pub begins_all : (eol : ℕ) (left left' : Option (List ℕ)) (ls : List (List �
 begins_all eol None left' ls reads = tt
 begins_all eol (Some bytes) left' ls reads = ([], ap (lines_by eol) (reads.all refl) ∙ sym reads.lines ∙ sym (append-nil ls))
 
--- what is read are first bytes of what was left
-known : (left left' : Option (List ℕ)) (bytes : List ℕ) → Consumes left left' bytes → (later : List ℕ) × IfSome left (λ all. all ≡ bytes ++ later)
-known None left' bytes read = ([], tt)
-known (Some all) None bytes read = absurd read
-known (Some all) (Some later) bytes read = (later, read)
-
--- the first lines of what is read are the first of what was left
-begins : (eol : ℕ) (left : Option (List ℕ)) (bytes later : List ℕ) (ls more : List (List ℕ)) → lines_by eol (bytes ++ later) ≡ ls ++ more
-    → IfSome left (λ all. all ≡ bytes ++ later) → BeginWith eol left ls
-begins eol None bytes later ls more are is = tt
-begins eol (Some all) bytes later ls more are is = (more, ap (lines_by eol) is ∙ are)
+-- the first lines of what is read, with what may come behind it, are the first of what was left
+begins : (eol : ℕ) (left left' : Option (List ℕ)) (bytes : List ℕ) → Consumes left left' bytes
+    → (later : List ℕ) × ((ls more : List (List ℕ)) → lines_by eol (bytes ++ later) ≡ ls ++ more → BeginWith eol left ls)
+begins eol None left' bytes read = ([], λ ls more are. tt)
+begins eol (Some all) None bytes read = absurd read
+begins eol (Some all) (Some later) bytes read = (later, λ ls more are. (more, ap (lines_by eol) read ∙ are))
 
 module _ {eol limit : ℕ} {left left' : Option (List ℕ)} {unread : List ℕ} {most : ℕ} {ls : List (List ℕ)}
     (reads : Reads eol limit left left' unread most ls) where
   -- lines that are behind those that are taken
   pub next_lines : {more : List (List ℕ)} {rest : List ℕ} → Splits eol unread more rest → BeginWith eol left (ls ++ more)
   next_lines {rest = rest} it =
-      let (later, is) = known left left' reads.bytes reads.read in
-      begins eol left reads.bytes later _ _ ((splits_both reads.splits it).splits later) is
+      let (later, first) = begins eol left left' reads.bytes reads.read in
+      first _ _ ((splits_both reads.splits it).splits later)
 
   pub reads_on : {unread' : List ℕ} {left'' : Option (List ℕ)} {came : NextLine} → Filled eol unread unread' left' left'' came
       → Reads eol limit left left'' unread' most ls
@@ -209,11 +180,11 @@ module _ {eol limit : ℕ} {left left' : Option (List ℕ)} {unread : List ℕ} 
   -- where no more may be taken and bytes are left, there are more lines
   pub more_left : most ≡ 0 → 0 < length unread → (more : List (List ℕ)) × BeginWith eol left (ls ++ more) × (limit < length (ls ++ more))
   more_left none some =
-      let (later, is) = known left left' reads.bytes reads.read in
+      let (later, first) = begins eol left left' reads.bytes reads.read in
       let more = lines_by eol (unread ++ later) in
       let line : 0 < length more = some_line eol (unread ++ later) (omega (arith, some, length-append unread later)) in (
         more,
-        begins eol left reads.bytes later _ [] (reads.splits.splits later ∙ sym (append-nil _)) is,
+        first (ls ++ more) [] (reads.splits.splits later ∙ sym (append-nil _)),
         omega (arith, reads.counted, none, line, length-append ls more),
       )
 

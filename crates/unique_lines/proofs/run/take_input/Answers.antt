@@ -1,50 +1,41 @@
-use Rattle.std.proofs.Common.{[], ◌++◌, length-append, subst, refl, ◌∙◌, arith, inl, inr}
+use Rattle.std.proofs.Common.{[], subst, refl, ◌∙◌, arith, inl, inr}
 use Rattle.std.proofs.KnownBytes.{Keeps-refl}
 use Rattle.std.proofs.lemmas.Bool.{cases_lt}
 use Rattle.std.proofs.lemmas.Grind.{common_steps}
-use Rattle.unique_lines.specs.Between.{IsNextLine}
 use Rattle.text_set.specs.Lines.{IsBare}
-use Rattle.unique_lines.proofs.RunLemmas.{bare_rest, begins_all, breaks_before, breaks_behind, ends_left, leads_both, leads_kept, more_left, next_lines, reads_on, reads_to_end, reads_to_fault, splits_nowhere, taken_on, takes_on}
+use Rattle.unique_lines.proofs.RunLemmas.{bare_rest, begins_all, breaks_before, breaks_behind, ends_left, leads_both, leads_kept, more_left, next_lines, reads_on, reads_to_end, reads_to_fault, room_on, splits_nowhere, takes_on}
 use Rattle.streams.proofs.StreamLemmas.{on_err}
 use Rattle.unique_lines.proofs.run.take_input.Goals as goal
 
 pub take_lines-requires : goal.take_lines-requires
 take_lines-requires g c =
-    let (so_far, reads, bare, leads, flushed) = c.loop-task.invariant in
-    let (ls, now, few) = c.requires.room in
-    record { room = (ls ++ so_far, taken_on leads ls now, omega (arith, few, reads.counted, length-append ls so_far)) }
+    let (ls, reads, bare, leads, flushed) = c.loop-task.invariant in
+    record { room = room_on _ _ _ leads reads.counted c.requires.room }
 
 pub take_last-requires-clause-room : goal.take_last-requires-clause-room
 take_last-requires-clause-room g c =
-    let (so_far, reads, bare, leads, flushed) = c.loop-task.invariant in
-    let (ls, now, few) = c.requires.room in
-    (ls ++ so_far, taken_on leads ls now, omega (arith, few, reads.counted, length-append ls so_far))
+    let (ls, reads, bare, leads, flushed) = c.loop-task.invariant in
+    room_on _ _ _ leads reads.counted c.requires.room
 
 pub returns-in_err-fill-clause-broke : goal.returns-in_err-fill-clause-broke
 returns-in_err-fill-clause-broke g c =
     let (ls, reads, bare, leads, flushed) = c.loop-task.invariant in
-    on_err _ c.from_residual.result (_, next_lines reads (splits_nowhere _), leads_both leads (breaks_before c.requires.grows (Keeps-refl _) []))
+    let nothing = breaks_before c.requires.grows (Keeps-refl _) [] in
+    on_err _ c.from_residual.result (_, next_lines reads (splits_nowhere _), leads_both leads nothing)
 
 pub returns-in_err-count-in-Line-clause-broke : goal.returns-in_err-count-in-Line-clause-broke
 returns-in_err-count-in-Line-clause-broke g c =
     let (ls, reads, bare, leads, flushed) = c.loop-task.invariant in
     let (more, rest, splits, breaks) = rw c.bytes.ensures at c.in_err-count-in-Line.ensures.broke in
-    on_err _ c.from_residual-in_err-count-in-Line.result (
-      _,
-      next_lines (reads_on reads c.in_ok-fill.ensures) splits,
-      leads_both leads breaks,
-    )
+    on_err _ c.from_residual-in_err-count-in-Line.result
+    (_, next_lines (reads_on reads c.in_ok-fill.ensures) splits, leads_both leads breaks)
 
 pub returns-in_err-flush-in-Line-clause-broke : goal.returns-in_err-flush-in-Line-clause-broke
 returns-in_err-flush-in-Line-clause-broke g c =
     let (ls, reads, bare, leads, flushed) = c.loop-task.invariant in
     let (more, takes, led) = rw c.bytes.ensures at c.in_ok-count-in-Line.ensures.took in
-    on_err _ c.from_residual-in_err-flush-in-Line.result (
-      _,
-      next_lines (reads_on reads c.in_ok-fill.ensures)
-          takes.splits,
-      breaks_behind c.flush.ensures.kept (leads_both leads led),
-    )
+    on_err _ c.from_residual-in_err-flush-in-Line.result
+    (_, next_lines (reads_on reads c.in_ok-fill.ensures) takes.splits, breaks_behind c.flush.ensures.kept (leads_both leads led))
 
 pub returns-then-is_beyond-clause-left : goal.returns-then-is_beyond-clause-left
 returns-then-is_beyond-clause-left g c =
@@ -58,8 +49,7 @@ returns-then-is_beyond-clause-left g c =
 pub loop-task-smaller : goal.loop-task-smaller
 loop-task-smaller g c =
     let (more, takes, led) = rw c.bytes.ensures at c.in_ok-count-in-Line.ensures.took in
-    let came = subst (IsNextLine c.args.eol c.in_ok-fill.ensures.text c.fill.new.self
-    (g.R.Read.remaining c.fill.new.r)) c.in-Line.is c.in_ok-fill.ensures.has_come in
+    let came = rw c.in-Line.is at c.in_ok-fill.ensures.has_come in
     elim (cases_lt 0 c.in_ok-count-in-Line.count) [
       | inl some ↦ omega (arith, some, takes.few)
       | inr none ↦ absurd
@@ -81,8 +71,7 @@ loop-task-preserved g c =
 pub returns-in_err-left-in-End-clause-broke : goal.returns-in_err-left-in-End-clause-broke
 returns-in_err-left-in-End-clause-broke g c =
     let (ls, reads, bare, leads, flushed) = c.loop-task.invariant in
-    let (none, ended) = subst (IsNextLine c.args.eol c.in_ok-fill.ensures.text c.fill.new.self
-    (g.R.Read.remaining c.fill.new.r)) c.in-End.is c.in_ok-fill.ensures.has_come in
+    let (none, ended) = rw c.in-End.is at c.in_ok-fill.ensures.has_come in
     on_err _ c.from_residual-in_err-left-in-End.result (
       _,
       begins_all _ _ _ _ (reads_to_end (reads_on reads c.in_ok-fill.ensures) ended),
@@ -92,15 +81,13 @@ returns-in_err-left-in-End-clause-broke g c =
 pub returns-in-End-clause-left : goal.returns-in-End-clause-left
 returns-in-End-clause-left g c =
     let (ls, reads, bare, leads, flushed) = c.loop-task.invariant in
-    let (none, ended) = subst (IsNextLine c.args.eol c.in_ok-fill.ensures.text c.fill.new.self
-    (g.R.Read.remaining c.fill.new.r)) c.in-End.is c.in_ok-fill.ensures.has_come in
+    let (none, ended) = rw c.in-End.is at c.in_ok-fill.ensures.has_come in
     ends_left (reads_on reads c.in_ok-fill.ensures) _ _ c.take_last.new.most c.in_ok-left-in-End.left ended leads
     (rw c.bytes-in-End.ensures at c.in_ok-left-in-End.ensures.left)
 
 pub returns-in-Fault-clause-left : goal.returns-in-Fault-clause-left
 returns-in-Fault-clause-left g c =
     let (ls, reads, bare, leads, flushed) = c.loop-task.invariant in
-    let none = subst (IsNextLine c.args.eol c.in_ok-fill.ensures.text c.fill.new.self
-    (g.R.Read.remaining c.fill.new.r)) c.in-Fault.is c.in_ok-fill.ensures.has_come in
+    let none = rw c.in-Fault.is at c.in_ok-fill.ensures.has_come in
     let none_yet : IsBare c.args.eol c.fill.new.self = grind (arith, common_steps) in
     (ls, reads_to_fault (reads_on reads c.in_ok-fill.ensures) none_yet, leads, reads.counted)
