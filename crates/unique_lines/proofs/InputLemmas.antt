@@ -10,7 +10,7 @@ use Rattle.std.specs.Option.{is_some}
 use Rattle.std.specs.List.{flat_map, list_all}
 use Rattle.std.proofs.lemmas.Grind.{flat_map-append}
 use Rattle.std.proofs.lemmas.List.Folds.{list_all-append}
-use Rattle.unique_lines.specs.Inputs.{AreRead, ReadsInput, lines_read}
+use Rattle.unique_lines.specs.Inputs.{AreRead, ReadsInput}
 use Rattle.unique_lines.specs.Inputs.AreRead.{behind, none}
 use Rattle.text_set.specs.Lines.{lines_by}
 use Rattle.unique_lines.specs.Running.{AllBeginWith, NextBeginsWith, Run, WritesPart}
@@ -125,22 +125,21 @@ read_whole : (eol : ℕ) (left left' : Option (List ℕ)) (more : List (List ℕ
     → ReadsInput eol ended left left' more → more ≡ lines_by eol (bytes_of left)
 unfolding bytes_of
 read_whole eol None left' more ended is known reads = absurd (false≢true known)
-read_whole eol (Some bytes) left' more ended is known reads =
-    reads.lines ∙ ap (λ b. lines_read eol b reads.text) is ∙ ap (lines_by eol) (sym (reads.all is))
+read_whole eol (Some bytes) left' more ended is known reads = rw (reads.lines, is, reads.all is)
 
 all_whole : {eol : ℕ} {ended : Bool} {lefts lefts' : List (Option (List ℕ))} {ls : List (List ℕ)} → AreRead eol ended lefts lefts' ls
-    → ended ≡ true → list_all is_some lefts ≡ true
-    → ls ≡ flat_map (λ left. lines_by eol (bytes_of left)) lefts
+    → ended ≡ true → list_all is_some lefts ≡ true → ls ≡ flat_map (λ left. lines_by eol (bytes_of left)) lefts
 all_whole none is known = refl
 all_whole {eol}
-    (behind {ended = a} {is_ended = b} {lefts = lefts} {left = left} {left' = left'} {ls = ls} {more = more} before reads) is known =
+    (behind {ended = a} {is_ended = b} {lefts = lefts} {left = left} {left' = left'} {more = more} before reads) is known =
     let (one, two) = and_parts a b is in
-    let (first, last) = and_parts (list_all is_some lefts) (is_some left && true)
-    (sym (list_all-append is_some lefts (left ∷ [])) ∙ known) in
-    ap (λ l. l ++ more) (all_whole before one first)
-    ∙ ap (λ l. flat_map (λ left. lines_by eol (bytes_of left)) lefts ++ l)
-    (read_whole eol left left' more b two (and_parts (is_some left) true last).0 reads ∙ sym (append-nil _))
-    ∙ sym (flat_map-append (λ left. lines_by eol (bytes_of left)) lefts (left ∷ []))
+    let (first, last) = and_parts (list_all is_some lefts) (is_some left && true) (rw list_all-append at known) in
+    rw (
+      all_whole before one first,
+      read_whole eol left left' more b two (and_parts (is_some left) true last).0 reads,
+      flat_map-append (λ left. lines_by eol (bytes_of left)) lefts (left ∷ []),
+      append-nil (lines_by eol (bytes_of left)),
+    )
 
 -- the lines are those of each input, one behind the other
 pub lines_of_whole : (eol : ℕ) (texts : List (List ℕ)) (lefts : List (Option (List ℕ))) (ls : List (List ℕ))

@@ -18,7 +18,8 @@ module _ (eol : ℕ) (which : Which) where
   listed_told ls seen times now = ap (λ s. listed s times) now.places ∙ ap (listed (texts eol ls)) now.counts ∙ of (firsts_by eol ls)
     where
       of : (lines : List (List ℕ))
-          → listed (map (strip_last eol) lines) (map (λ line. count_by (same_text_by eol line) ls) lines) ≡ flat_map (shown_line eol which ls) lines
+          → listed (map (strip_last eol) lines) (map (λ line. count_by (same_text_by eol line) ls) lines)
+          ≡ flat_map (shown_line eol which ls) lines
       of [] = refl
       of (line ∷ lines) = ap (λ l. shown_line eol which ls line ++ l) (of lines)
 

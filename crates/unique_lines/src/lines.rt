@@ -40,7 +40,8 @@ pub fn take_lines<T: LineTask, W: Write>(
         × Leads (At (T.output eol) (T.taken eol task.old) (W.contents w.old))
         (At (T.output eol) (T.taken eol task.new) (W.contents w.new)) ls) }
     ensures broke { OnErr result ((ls : List (List ℕ)) × (rest : List ℕ) × Splits eol bytes.now ls rest
-        × Leads (At (T.output eol) (T.taken eol task.old) (W.contents w.old)) (Broke (T.output eol) (W.contents w.new)) ls) }
+        × Leads (At (T.output eol) (T.taken eol task.old) (W.contents w.old))
+        (Broke (T.output eol) (W.contents w.new)) ls) }
 {
     let mut rest = bytes;
     let mut ahead = Ahead::new();

@@ -48,7 +48,8 @@ fn take_last<T: LineTask, W: Write + Drop>(
     requires room { (ls : List (List ℕ)) × T.taken eol task.old ls × (length ls + most.old ≤ u64.MAX) }
     requires bare { IsBare eol line.now }
     requires flushed { writer_buffer w.old ≡ [] }
-    ensures left { IfOk result (EndsInput (At (T.output eol) (T.taken eol task.old) (writer_contents W.contents w.old))
+    ensures left { IfOk result (EndsInput
+        (At (T.output eol) (T.taken eol task.old) (writer_contents W.contents w.old))
         (At (T.output eol) (T.taken eol task.new) (writer_contents W.contents w.new))
         (Broke (T.output eol) (writer_contents W.contents w.new)) most.old most.new (lines_by eol line.now)) }
     ensures flushed { OnOk result (writer_buffer w.new ≡ []) }
@@ -81,9 +82,11 @@ fn take_input<T: LineTask, R: Read, W: Write + Drop>(
     requires room { (ls : List (List ℕ)) × T.taken eol task.old ls × (length ls + most.old ≤ u64.MAX) }
     requires unread { unread.old ≡ [] }
     requires flushed { writer_buffer w.old ≡ [] }
-    ensures left { IfOk result (LeavesInput (At (T.output eol) (T.taken eol task.old) (writer_contents W.contents w.old))
+    ensures left { IfOk result (LeavesInput
+        (At (T.output eol) (T.taken eol task.old) (writer_contents W.contents w.old))
         (At (T.output eol) (T.taken eol task.new) (writer_contents W.contents w.new))
-        (Broke (T.output eol) (writer_contents W.contents w.new)) eol most.old most.new (R.remaining r.old) (R.remaining r.new)) }
+        (Broke (T.output eol) (writer_contents W.contents w.new)) eol most.old most.new (R.remaining r.old)
+        (R.remaining r.new)) }
     ensures unread { OnOk result (unread.new ≡ []) }
     ensures flushed { OnOk result (writer_buffer w.new ≡ []) }
     ensures broke { OnErr result ((ls : List (List ℕ)) × BeginWith eol (R.remaining r.old) ls

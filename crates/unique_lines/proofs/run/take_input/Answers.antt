@@ -1,9 +1,9 @@
-use Rattle.std.proofs.Common.{[], subst, refl, ◌∙◌, arith, inl, inr}
+use Rattle.std.proofs.Common.{[], subst, sym, refl, ◌∙◌, arith, inl, inr}
 use Rattle.std.proofs.KnownBytes.{Keeps-refl}
 use Rattle.std.proofs.lemmas.Bool.{cases_lt}
-use Rattle.std.proofs.lemmas.Grind.{common_steps}
 use Rattle.text_set.specs.Lines.{IsBare}
 use Rattle.unique_lines.proofs.RunLemmas.{bare_rest, begins_all, breaks_before, breaks_behind, ends_left, leads_both, leads_kept, more_left, next_lines, reads_on, reads_to_end, reads_to_fault, room_on, splits_nowhere, takes_on}
+use Rattle.unique_lines.proofs.UnreadLemmas.{bare_both}
 use Rattle.streams.proofs.StreamLemmas.{on_err}
 use Rattle.unique_lines.proofs.run.take_input.Goals as goal
 
@@ -89,5 +89,5 @@ pub returns-in-Fault-clause-left : goal.returns-in-Fault-clause-left
 returns-in-Fault-clause-left g c =
     let (ls, reads, bare, leads, flushed) = c.loop-task.invariant in
     let none = rw c.in-Fault.is at c.in_ok-fill.ensures.has_come in
-    let none_yet : IsBare c.args.eol c.fill.new.self = grind (arith, common_steps) in
-    (ls, reads_to_fault (reads_on reads c.in_ok-fill.ensures) none_yet, leads, reads.counted)
+    let all = subst (IsBare c.args.eol) (sym c.in_ok-fill.ensures.is) (bare_both c.args.eol _ _ bare none) in
+    (ls, reads_to_fault (reads_on reads c.in_ok-fill.ensures) all, leads, reads.counted)

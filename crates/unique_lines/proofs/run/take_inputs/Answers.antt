@@ -6,8 +6,8 @@ use Rattle.unique_lines.proofs.run.take_inputs.Goals.{in-Done, in-Failed}
 
 pub returns-in_err-flush-clause-ended : goal.returns-in_err-flush-clause-ended
 returns-in_err-flush-clause-ended g c =
-    let part = part_at_start {eol = c.args.eol} (g.T.LineTask.output c.args.eol) (map g.R.Read.remaining c.args.inputs.now) _ _ c.requires.nothing
-    c.flush.ensures.kept in
+    let lefts = map g.R.Read.remaining c.args.inputs.now in
+    let part = part_at_start {eol = c.args.eol} (g.T.LineTask.output c.args.eol) lefts _ _ c.requires.nothing c.flush.ensures.kept in
     search rules
 
 pub loop-place-init : goal.loop-place-init
@@ -18,8 +18,9 @@ pub returns-in_err-take_input-clause-ended : goal.returns-in_err-take_input-clau
 returns-in_err-take_input-clause-ended g c =
     let (so_far, unread, flushed) = c.loop-place.invariant in
     let (ls, begins, breaks) = c.in_err-take_input.ensures.broke in
-    let part = part_within so_far c.index-inputs-place.result (omega (arith, c.loop-place-test.true))
-    (omega (arith, c.loop-place-test.true, c.loop-place.auto.inputs)) ls begins breaks in
+    let below : c.loop-place.place < length c.args.inputs.now = omega (arith, c.loop-place-test.true) in
+    let below' : c.loop-place.place < length c.loop-place.inputs = omega (arith, below, c.loop-place.auto.inputs) in
+    let part = part_within so_far c.index-inputs-place.result below below' ls begins breaks in
     search rules
 
 pub returns-in-Beyond-clause-ended : goal.returns-in-Beyond-clause-ended
