@@ -1,5 +1,6 @@
 use Rattle.std.proofs.Common.{ℕ, List, [], ◌∷◌, ◌++◌, refl, length-append, arith, rules}
 use Rattle.std.proofs.lemmas.Grind.{common_steps}
+use Rattle.text_set.proofs.LineLemmas.{first_strip}
 use Rattle.unique_lines.proofs.RunLemmas.{leads_both, leads_nowhere, splits_both, splits_line, splits_nowhere, taken_on}
 use Rattle.streams.proofs.StreamLemmas.{on_err}
 use Rattle.unique_lines.proofs.lines.take_lines.Goals as goal
@@ -13,6 +14,11 @@ take_line-requires-clause-room g c =
     let (so_far, splits, counted, leads, is, within, none, next) = c.loop-count.invariant in
     let (ls, now, few) = c.requires.room in
     (ls ++ so_far, taken_on leads ls now, omega (arith, few, counted, length-append ls so_far))
+
+pub take_line-requires-clause-text : goal.take_line-requires-clause-text
+take_line-requires-clause-text g c =
+    first_strip c.args.eol c.loop-count.rest.now c.split_at.result.0.now c.in-Some.found.len c.split_at.ensures.front
+    c.in-Some.ensures.found.end
 
 pub loop-count-preserved : goal.loop-count-preserved
 loop-count-preserved g c =
