@@ -1,9 +1,9 @@
 -- Bytes that were read and are not taken yet.
-use Rattle.std.proofs.Common.{◌≡◌, ℕ, ◌+◌, ◌-◌, ◌≤◌, true, false, List, ◌++◌, length, take, drop, Option, None, Some, ap, sym, subst, ◌∙◌, arith, length-drop}
+use Rattle.std.proofs.Common.{◌≡◌, ℕ, ◌+◌, ◌-◌, ◌≤◌, true, false, List, ◌++◌, length, take, drop, Option, None, Some, ap, sym, subst, ◌∙◌, arith, length-append, length-drop, inl, inr}
 use Rattle.std.specs.Option.{is_some}
-use Rattle.std.proofs.lemmas.Bool.{false≢true, true≢false}
-use Rattle.std.proofs.lemmas.List.{drop-drop, drop-take, get_or-drop, length-take-le, take-append-le, take_all}
-use Rattle.std.proofs.Math.Seq.{drop-append_seam, take-append-add}
+use Rattle.std.proofs.lemmas.Bool.{cases_lt, false≢true, true≢false}
+use Rattle.std.proofs.lemmas.List.{drop-drop, drop-take, get_or-drop, get_or_append_left, length-take-le, take-append-le, take_all}
+use Rattle.std.proofs.Math.Seq.{drop-append_seam, get_or-append_right, take-append-add}
 use borrow.Rule.Slice.PartMut.{put_mid, post_of}
 use Rattle.text_set.specs.Lines.{IsBare, IsLineEnd}
 
@@ -19,6 +19,12 @@ tail_is : (bytes : List ℕ) (n : ℕ) → take (length bytes - n) (drop n bytes
 tail_is bytes n = take_all (length bytes - n) (drop n bytes) (omega (arith, length-drop n bytes))
 
 module _ (eol : ℕ) where
+  pub bare_both : (a b : List ℕ) → IsBare eol a → IsBare eol b → IsBare eol (a ++ b)
+  bare_both a b bare_a bare_b = λ k below. elim (cases_lt k (length a)) [
+    | inl early ↦ rw (get_or_append_left a b 0 k early) (bare_a k early)
+    | inr late ↦ rw (get_or-append_right a b k 0 late) (bare_b (k - length a) (omega (arith, below, length-append a b)))
+  ]
+
   -- where an end is found behind so many bytes, there is one
   pub found_end : (bytes : List ℕ) (n : ℕ) (result : Option ℕ) → IsLineEnd eol (take (length bytes - n) (drop n bytes)) result
       → is_some result ≡ true → ¬ (IsBare eol) bytes

@@ -1,7 +1,8 @@
 -- Lines among the bytes that were read.
 use Rattle.std.specs.Prelude.{ℕ, ◌≡◌, ◌<◌, ◌+◌, Option, Some, List, [], ◌∷◌, ◌++◌, ◌≤◌, length, take, drop}
+use Rattle.std.specs.Io.BufRead.{ends_with_byte}
 use Rattle.std.specs.Io.KnownBytes.{Consumes, IsAtEnd}
-use Rattle.unique_lines.specs.Inputs.{whole_lines}
+use Rattle.std.specs.List.{filter}
 use Rattle.text_set.specs.Lines.{lines_by, IsBare, IsLineEnd}
 use Rattle.unique_lines.specs.declared.ahead.Found.{Found}
 use Rattle.unique_lines.specs.declared.unread.NextLine.{NextLine}
@@ -17,10 +18,10 @@ abbrev pub AreNext : (eol : ℕ) (tag_of : List ℕ → ℕ) (bytes : List ℕ) 
 AreNext eol tag_of bytes [] = Unit {0}
 AreNext eol tag_of bytes (found ∷ more) = IsFound eol tag_of bytes found × AreNext eol tag_of (drop (found.len + 1) bytes) more
 
--- what comes behind the text are other lines, and each of its own has its end
-pub record IsWhole (eol : ℕ) (text : List ℕ) : Type 0 where
-  pub splits : (more : List ℕ) → lines_by eol (text ++ more) ≡ lines_by eol text ++ lines_by eol more
-  pub ends : whole_lines eol text ≡ lines_by eol text
+-- the lines of the bytes are these, each with its end, and those of the rest, whatever comes behind
+pub record Splits (eol : ℕ) (bytes : List ℕ) (ls : List (List ℕ)) (rest : List ℕ) : Type 0 where
+  pub splits : (later : List ℕ) → lines_by eol (bytes ++ later) ≡ ls ++ lines_by eol (rest ++ later)
+  pub ends : filter (ends_with_byte eol) ls ≡ ls
 
 -- what came of reading on: an end of a line among the bytes, or none in what was read until the input ended or failed
 abbrev pub IsNextLine : (eol : ℕ) (text unread : List ℕ) (left : Option (List ℕ)) → NextLine → Type 0
@@ -40,10 +41,11 @@ pub record Filled (eol : ℕ) (unread unread' : List ℕ) (left left' : Option (
   pub read : Consumes left left' text
   pub has_come : IsNextLine eol text unread' left' came
 
--- so many lines and bytes of these are taken: all lines that are whole, or as many as may be
-pub record Takes (eol : ℕ) (bytes : List ℕ) (most count len : ℕ) : Type 0 where
+-- these lines are taken of the bytes, so many lines and bytes: all lines that are whole, or as many as may be
+pub record Takes (eol : ℕ) (bytes : List ℕ) (most count len : ℕ) (ls : List (List ℕ)) : Type 0 where
   pub few : count ≤ most
   pub within : len ≤ length bytes
-  pub whole : IsWhole eol (take len bytes)
-  pub counted : count ≡ length (lines_by eol (take len bytes))
+  pub counted : length ls ≡ count
+  pub splits : Splits eol bytes ls (drop len bytes)
   pub bare : count < most → IsBare eol (drop len bytes)
+  pub none : count ≡ 0 → drop len bytes ≡ bytes

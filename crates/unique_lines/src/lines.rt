@@ -2,10 +2,10 @@
 ghost use Rattle.std.specs.Prelude.{◌≡◌, ◌≤◌, ◌+◌, ℕ, List, length, take, IfOk, OnOk, OnErr};
 ghost use Rattle.std.specs.Io.BufRead.{strip_last};
 ghost use Rattle.std.specs.Io.KnownBytes.{Appends};
-ghost use Rattle.unique_lines.specs.Between.{Takes};
-ghost use Rattle.unique_lines.specs.Taking.{BreaksOff, Grows, LeadsOn};
+ghost use Rattle.unique_lines.specs.Between.{Splits, Takes};
+ghost use Rattle.unique_lines.specs.Taking.{At, Broke, Leads};
 ghost use Rattle.streams.specs.Streams.{AppendsPart};
-ghost use Rattle.text_set.specs.Lines.{as_line_by, lines_by};
+ghost use Rattle.text_set.specs.Lines.{as_line_by};
 
 use crate::ahead::Ahead;
 use crate::fault::Fault;
@@ -35,14 +35,13 @@ pub fn take_lines<T: LineTask, W: Write>(
     most: u64,
     w: &mut W,
 ) -> Result<(u64, usize), Fault>
-    requires grows { Grows (T.output eol) }
-    requires room { (ls : List (List ℕ)) × T.taken eol ls task.old × (length ls + most ≤ u64.MAX) }
-    ensures takes { IfOk result (λ taken. Takes eol bytes.now most taken.0 taken.1) }
-    ensures led { IfOk result (λ taken. LeadsOn (T.output eol) (λ ls. T.taken eol ls task.old)
-        (λ ls. T.taken eol ls task.new)
-        (lines_by eol (take taken.1 bytes.now)) (W.contents w.old) (W.contents w.new)) }
-    ensures broke { OnErr result (BreaksOff (T.output eol) (λ ls. T.taken eol ls task.old) eol bytes.now
-        (W.contents w.old) (W.contents w.new)) }
+    requires room { (ls : List (List ℕ)) × T.taken eol task.old ls × (length ls + most ≤ u64.MAX) }
+    ensures took { IfOk result (λ taken. (ls : List (List ℕ)) × Takes eol bytes.now most taken.0 taken.1 ls
+        × Leads (At (T.output eol) (T.taken eol task.old) (W.contents w.old))
+        (At (T.output eol) (T.taken eol task.new) (W.contents w.new)) ls) }
+    ensures broke { OnErr result ((ls : List (List ℕ)) × (rest : List ℕ) × Splits eol bytes.now ls rest
+        × Leads (At (T.output eol) (T.taken eol task.old) (W.contents w.old))
+        (Broke (T.output eol) (W.contents w.new)) ls) }
 {
     let mut rest = bytes;
     let mut ahead = Ahead::new();

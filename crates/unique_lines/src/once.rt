@@ -22,7 +22,7 @@ pub struct Once<S: BuildHasher + Drop> {
 }
 
 impl<S: BuildHasher + Drop> LineTask for Once<S> {
-    ghost taken = { λ eol ls once. AreSeen eol ls once.seen.texts };
+    ghost taken = { λ eol once ls. AreSeen eol ls once.seen.texts };
 
     ghost output = { once_by };
 

@@ -3,7 +3,7 @@ ghost use Rattle.std.specs.Prelude.{◌≡◌, ◌+◌, ◌≤◌, [], ℕ, List
 ghost use Rattle.std.specs.Io.Buffered.{writer_buffer, writer_contents};
 ghost use Rattle.text_set.specs.Lines.{IsBare, lines_by};
 ghost use Rattle.unique_lines.specs.Running.{EndsTaking, run_of};
-ghost use Rattle.unique_lines.specs.Taking.{BreaksInput, EndsInput, Grows, LeavesInput, StopsWithin};
+ghost use Rattle.unique_lines.specs.Taking.{At, BeginWith, Broke, EndsInput, Grows, Leads, LeavesInput};
 
 use crate::fault::Fault;
 use crate::lines::take_lines;
@@ -45,15 +45,16 @@ fn take_last<T: LineTask, W: Write + Drop>(
     w: &mut BufWriter<W>,
 ) -> Result<Left, Fault>
     requires grows { Grows (T.output eol) }
-    requires room { (ls : List (List ℕ)) × T.taken eol ls task.old × (length ls + most.old ≤ u64.MAX) }
+    requires room { (ls : List (List ℕ)) × T.taken eol task.old ls × (length ls + most.old ≤ u64.MAX) }
     requires bare { IsBare eol line.now }
     requires flushed { writer_buffer w.old ≡ [] }
-    ensures left { IfOk result (EndsInput (T.output eol) (λ ls. T.taken eol ls task.old) (λ ls. T.taken eol ls task.new)
-        (lines_by eol line.now) most.old most.new (writer_contents W.contents w.old)
-        (writer_contents W.contents w.new)) }
+    ensures left { IfOk result (EndsInput
+        (At (T.output eol) (T.taken eol task.old) (writer_contents W.contents w.old))
+        (At (T.output eol) (T.taken eol task.new) (writer_contents W.contents w.new))
+        (Broke (T.output eol) (writer_contents W.contents w.new)) most.old most.new (lines_by eol line.now)) }
     ensures flushed { OnOk result (writer_buffer w.new ≡ []) }
-    ensures broke { OnErr result (StopsWithin (T.output eol) (λ ls. T.taken eol ls task.old) (lines_by eol line.now)
-        (writer_contents W.contents w.old) (writer_contents W.contents w.new)) }
+    ensures broke { OnErr result (Leads (At (T.output eol) (T.taken eol task.old) (writer_contents W.contents w.old))
+        (Broke (T.output eol) (writer_contents W.contents w.new)) (lines_by eol line.now)) }
 {
     if line.is_empty() {
         return Ok(Left::Done);
@@ -78,17 +79,19 @@ fn take_input<T: LineTask, R: Read, W: Write + Drop>(
     w: &mut BufWriter<W>,
 ) -> Result<Left, Fault>
     requires grows { Grows (T.output eol) }
-    requires room { (ls : List (List ℕ)) × T.taken eol ls task.old × (length ls + most.old ≤ u64.MAX) }
+    requires room { (ls : List (List ℕ)) × T.taken eol task.old ls × (length ls + most.old ≤ u64.MAX) }
     requires unread { unread.old ≡ [] }
     requires flushed { writer_buffer w.old ≡ [] }
-    ensures left { IfOk result (LeavesInput (T.output eol) (λ ls. T.taken eol ls task.old)
-        (λ ls. T.taken eol ls task.new)
-        eol most.old most.new (R.remaining r.old) (R.remaining r.new) (writer_contents W.contents w.old)
-        (writer_contents W.contents w.new)) }
+    ensures left { IfOk result (LeavesInput
+        (At (T.output eol) (T.taken eol task.old) (writer_contents W.contents w.old))
+        (At (T.output eol) (T.taken eol task.new) (writer_contents W.contents w.new))
+        (Broke (T.output eol) (writer_contents W.contents w.new)) eol most.old most.new (R.remaining r.old)
+        (R.remaining r.new)) }
     ensures unread { OnOk result (unread.new ≡ []) }
     ensures flushed { OnOk result (writer_buffer w.new ≡ []) }
-    ensures broke { OnErr result (BreaksInput (T.output eol) (λ ls. T.taken eol ls task.old) eol (R.remaining r.old)
-        (writer_contents W.contents w.old) (writer_contents W.contents w.new)) }
+    ensures broke { OnErr result ((ls : List (List ℕ)) × BeginWith eol (R.remaining r.old) ls
+        × Leads (At (T.output eol) (T.taken eol task.old) (writer_contents W.contents w.old))
+        (Broke (T.output eol) (writer_contents W.contents w.new)) ls) }
 {
     loop {
         match unread.fill(eol, r, w)? {
@@ -127,9 +130,9 @@ pub fn take_inputs<T: LineTask, R: Read, C: Complaints, W: Write + Drop>(
     w: &mut BufWriter<W>,
 ) -> Result<Ended, Fault>
     requires grows { Grows (T.output eol) }
-    requires begun { T.taken eol [] task.old }
+    requires begun { T.taken eol task.old [] }
     requires nothing { T.output eol [] ≡ [] }
-    ensures ended { EndsTaking (T.output eol) (λ ls. T.taken eol ls task.new) eol limit
+    ensures ended { EndsTaking (T.output eol) (T.taken eol task.new) eol limit
         (run_of R.remaining inputs.old inputs.new (writer_contents W.contents) w.old w.new) result }
     ensures flushed { OnOk result (writer_buffer w.new ≡ []) }
 {

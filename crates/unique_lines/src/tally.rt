@@ -77,7 +77,7 @@ fn count<S: BuildHasher + Drop>(
 }
 
 impl<S: BuildHasher + Drop> LineTask for Counts<S> {
-    ghost taken = { λ eol ls counts. Tallies eol ls counts.texts.texts counts.times.items };
+    ghost taken = { λ eol counts ls. Tallies eol ls counts.texts.texts counts.times.items };
 
     ghost output = { λ eol ls. [] };
 

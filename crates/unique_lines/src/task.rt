@@ -1,7 +1,7 @@
 //! What is done with lines, one after the other.
 ghost use Rattle.std.specs.Prelude.{ℕ, ◌≡◌, ◌∷◌, ◌<◌, [], List, OnOk, OnErr, length};
 ghost use Rattle.std.specs.Io.BufRead.{strip_last};
-ghost use Rattle.unique_lines.specs.Taking.{LeadsOn, StopsWithin};
+ghost use Rattle.unique_lines.specs.Taking.{At, Broke, Leads};
 
 use crate::fault::Fault;
 use std::io::Write;
@@ -10,7 +10,7 @@ use text_set::Guess;
 /// What is done with lines, one after the other.
 pub trait LineTask {
     /// How the task stands once it has taken these lines.
-    ghost taken: { (eol : ℕ) → List (List ℕ) → Self → Type 0 };
+    ghost taken: { (eol : ℕ) → Self → List (List ℕ) → Type 0 };
 
     /// What it has written by then.
     ghost output: { (eol : ℕ) → List (List ℕ) → List ℕ };
@@ -37,11 +37,10 @@ pub trait LineTask {
     ) -> Result<(), Fault>
         requires text { text.now ≡ strip_last eol line.now }
         requires tag { guess.tag ≡ tag_of self.old text.now }
-        requires room { (ls : List (List ℕ)) × taken eol ls self.old × (length ls < u64.MAX) }
+        requires room { (ls : List (List ℕ)) × taken eol self.old ls × (length ls < u64.MAX) }
         ensures tag_of { tag_of self.new ≡ tag_of self.old }
-        ensures ok { OnOk result (LeadsOn (output eol) (λ ls. taken eol ls self.old) (λ ls. taken eol ls self.new)
-            (line.now ∷ [])
-            (W.contents w.old) (W.contents w.new)) }
-        ensures err { OnErr result (StopsWithin (output eol) (λ ls. taken eol ls self.old) (line.now ∷ [])
-            (W.contents w.old) (W.contents w.new)) };
+        ensures ok { OnOk result (Leads (At (output eol) (taken eol self.old) (W.contents w.old))
+            (At (output eol) (taken eol self.new) (W.contents w.new)) (line.now ∷ [])) }
+        ensures err { OnErr result (Leads (At (output eol) (taken eol self.old) (W.contents w.old))
+            (Broke (output eol) (W.contents w.new)) (line.now ∷ [])) };
 }

@@ -39,19 +39,18 @@ pub fn write_line<W: Write>(w: &mut W, line: &[u8], text: &[u8], eol: u8) -> Res
 /// The caller has to see to it that:
 ///
 /// ```text
-/// grows: Grows (T.output eol)
-/// room: (ls : List (List ℕ)) × T.taken eol ls task.old × (length ls + most ≤ u64.MAX)
+/// room: (ls : List (List ℕ)) × T.taken eol task.old ls × (length ls + most ≤ u64.MAX)
 /// ```
 ///
 /// Proved:
 ///
 /// ```text
-/// takes: IfOk result (λ taken. Takes eol bytes.now most taken.0 taken.1)
-/// led: IfOk result (λ taken. LeadsOn (T.output eol) (λ ls. T.taken eol ls task.old)
-///     (λ ls. T.taken eol ls task.new)
-///     (lines_by eol (take taken.1 bytes.now)) (W.contents w.old) (W.contents w.new))
-/// broke: OnErr result (BreaksOff (T.output eol) (λ ls. T.taken eol ls task.old) eol bytes.now
-///     (W.contents w.old) (W.contents w.new))
+/// took: IfOk result (λ taken. (ls : List (List ℕ)) × Takes eol bytes.now most taken.0 taken.1 ls
+///     × Leads (At (T.output eol) (T.taken eol task.old) (W.contents w.old))
+///     (At (T.output eol) (T.taken eol task.new) (W.contents w.new)) ls)
+/// broke: OnErr result ((ls : List (List ℕ)) × (rest : List ℕ) × Splits eol bytes.now ls rest
+///     × Leads (At (T.output eol) (T.taken eol task.old) (W.contents w.old))
+///     (Broke (T.output eol) (W.contents w.new)) ls)
 /// ```
 #[inline]
 pub fn take_lines<T: LineTask, W: Write>(

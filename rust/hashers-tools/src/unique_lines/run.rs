@@ -41,7 +41,7 @@ pub enum Left {
 ///
 /// ```text
 /// grows: Grows (T.output eol)
-/// room: (ls : List (List ℕ)) × T.taken eol ls task.old × (length ls + most.old ≤ u64.MAX)
+/// room: (ls : List (List ℕ)) × T.taken eol task.old ls × (length ls + most.old ≤ u64.MAX)
 /// bare: IsBare eol line.now
 /// flushed: writer_buffer w.old ≡ []
 /// ```
@@ -49,12 +49,13 @@ pub enum Left {
 /// Proved:
 ///
 /// ```text
-/// left: IfOk result (EndsInput (T.output eol) (λ ls. T.taken eol ls task.old) (λ ls. T.taken eol ls task.new)
-///     (lines_by eol line.now) most.old most.new (writer_contents W.contents w.old)
-///     (writer_contents W.contents w.new))
+/// left: IfOk result (EndsInput
+///     (At (T.output eol) (T.taken eol task.old) (writer_contents W.contents w.old))
+///     (At (T.output eol) (T.taken eol task.new) (writer_contents W.contents w.new))
+///     (Broke (T.output eol) (writer_contents W.contents w.new)) most.old most.new (lines_by eol line.now))
 /// flushed: OnOk result (writer_buffer w.new ≡ [])
-/// broke: OnErr result (StopsWithin (T.output eol) (λ ls. T.taken eol ls task.old) (lines_by eol line.now)
-///     (writer_contents W.contents w.old) (writer_contents W.contents w.new))
+/// broke: OnErr result (Leads (At (T.output eol) (T.taken eol task.old) (writer_contents W.contents w.old))
+///     (Broke (T.output eol) (writer_contents W.contents w.new)) (lines_by eol line.now))
 /// ```
 #[inline]
 fn take_last<T: LineTask, W: Write>(
@@ -83,7 +84,7 @@ fn take_last<T: LineTask, W: Write>(
 ///
 /// ```text
 /// grows: Grows (T.output eol)
-/// room: (ls : List (List ℕ)) × T.taken eol ls task.old × (length ls + most.old ≤ u64.MAX)
+/// room: (ls : List (List ℕ)) × T.taken eol task.old ls × (length ls + most.old ≤ u64.MAX)
 /// unread: unread.old ≡ []
 /// flushed: writer_buffer w.old ≡ []
 /// ```
@@ -91,14 +92,16 @@ fn take_last<T: LineTask, W: Write>(
 /// Proved:
 ///
 /// ```text
-/// left: IfOk result (LeavesInput (T.output eol) (λ ls. T.taken eol ls task.old)
-///     (λ ls. T.taken eol ls task.new)
-///     eol most.old most.new (R.remaining r.old) (R.remaining r.new) (writer_contents W.contents w.old)
-///     (writer_contents W.contents w.new))
+/// left: IfOk result (LeavesInput
+///     (At (T.output eol) (T.taken eol task.old) (writer_contents W.contents w.old))
+///     (At (T.output eol) (T.taken eol task.new) (writer_contents W.contents w.new))
+///     (Broke (T.output eol) (writer_contents W.contents w.new)) eol most.old most.new (R.remaining r.old)
+///     (R.remaining r.new))
 /// unread: OnOk result (unread.new ≡ [])
 /// flushed: OnOk result (writer_buffer w.new ≡ [])
-/// broke: OnErr result (BreaksInput (T.output eol) (λ ls. T.taken eol ls task.old) eol (R.remaining r.old)
-///     (writer_contents W.contents w.old) (writer_contents W.contents w.new))
+/// broke: OnErr result ((ls : List (List ℕ)) × BeginWith eol (R.remaining r.old) ls
+///     × Leads (At (T.output eol) (T.taken eol task.old) (writer_contents W.contents w.old))
+///     (Broke (T.output eol) (writer_contents W.contents w.new)) ls)
 /// ```
 #[inline]
 fn take_input<T: LineTask, R: Read, W: Write>(
@@ -141,14 +144,14 @@ fn take_input<T: LineTask, R: Read, W: Write>(
 ///
 /// ```text
 /// grows: Grows (T.output eol)
-/// begun: T.taken eol [] task.old
+/// begun: T.taken eol task.old []
 /// nothing: T.output eol [] ≡ []
 /// ```
 ///
 /// Proved:
 ///
 /// ```text
-/// ended: EndsTaking (T.output eol) (λ ls. T.taken eol ls task.new) eol limit
+/// ended: EndsTaking (T.output eol) (T.taken eol task.new) eol limit
 ///     (run_of R.remaining inputs.old inputs.new (writer_contents W.contents) w.old w.new) result
 /// flushed: OnOk result (writer_buffer w.new ≡ [])
 /// ```

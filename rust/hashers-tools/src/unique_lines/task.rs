@@ -30,18 +30,17 @@ pub trait LineTask {
     /// ```text
     /// text: text.now ≡ strip_last eol line.now
     /// tag: guess.tag ≡ tag_of self.old text.now
-    /// room: (ls : List (List ℕ)) × taken eol ls self.old × (length ls < u64.MAX)
+    /// room: (ls : List (List ℕ)) × taken eol self.old ls × (length ls < u64.MAX)
     /// ```
     ///
     /// Proved:
     ///
     /// ```text
     /// tag_of: tag_of self.new ≡ tag_of self.old
-    /// ok: OnOk result (LeadsOn (output eol) (λ ls. taken eol ls self.old) (λ ls. taken eol ls self.new)
-    ///     (line.now ∷ [])
-    ///     (W.contents w.old) (W.contents w.new))
-    /// err: OnErr result (StopsWithin (output eol) (λ ls. taken eol ls self.old) (line.now ∷ [])
-    ///     (W.contents w.old) (W.contents w.new))
+    /// ok: OnOk result (Leads (At (output eol) (taken eol self.old) (W.contents w.old))
+    ///     (At (output eol) (taken eol self.new) (W.contents w.new)) (line.now ∷ []))
+    /// err: OnErr result (Leads (At (output eol) (taken eol self.old) (W.contents w.old))
+    ///     (Broke (output eol) (W.contents w.new)) (line.now ∷ []))
     /// ```
     fn take_line<W: Write>(
         &mut self,

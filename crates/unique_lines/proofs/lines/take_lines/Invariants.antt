@@ -1,12 +1,12 @@
-use Rattle.std.proofs.Common.{ℕ, List, ◌≡◌, ◌++◌, length}
-use Rattle.unique_lines.specs.Between.{AreNext, IsWhole}
-use Rattle.text_set.specs.Lines.{lines_by}
-use Rattle.unique_lines.specs.Taking.{LeadsOn}
+use Rattle.std.proofs.Common.{ℕ, List, ◌≡◌, ◌≤◌, ◌-◌, drop, length}
+use Rattle.unique_lines.specs.Between.{AreNext, Splits}
+use Rattle.unique_lines.specs.Taking.{At, Leads}
 use Rattle.unique_lines.proofs.lines.take_lines.Given as goal
 
--- what is left of the bytes, behind as many whole lines
+-- what is left of the bytes, behind as many lines
 abbrev pub invariant-loop-count : goal.invariant-loop-count
-invariant-loop-count g l = (part : List ℕ) × (part ++ l.rest ≡ l.bytes) × IsWhole l.eol part × (l.count ≡ length (lines_by l.eol part))
-    × LeadsOn (g.T.LineTask.output l.eol) (λ ls. g.T.LineTask.taken l.eol ls l.initial.task) (λ ls. g.T.LineTask.taken l.eol ls l.task)
-    (lines_by l.eol part)
-    (g.W.Write.contents l.initial.w) (g.W.Write.contents l.w) × AreNext l.eol (g.T.LineTask.tag_of l.task) l.rest l.ahead
+invariant-loop-count g l = (ls : List (List ℕ)) × Splits l.eol l.bytes ls l.rest × (length ls ≡ l.count)
+    × Leads (At (g.T.LineTask.output l.eol) (g.T.LineTask.taken l.eol l.initial.task) (g.W.Write.contents l.initial.w))
+    (At (g.T.LineTask.output l.eol) (g.T.LineTask.taken l.eol l.task) (g.W.Write.contents l.w)) ls
+    × (l.rest ≡ drop (length l.bytes - length l.rest) l.bytes) × (length l.rest ≤ length l.bytes) × (l.count ≡ 0 → l.rest ≡ l.bytes)
+    × AreNext l.eol (g.T.LineTask.tag_of l.task) l.rest l.ahead

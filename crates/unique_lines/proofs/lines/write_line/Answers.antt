@@ -1,10 +1,11 @@
-use Rattle.std.proofs.Common.{◌<◌, ◌≤◌, ◌∷◌, ◌++◌, [], OnErr, length, ap, sym, subst, ◌∙◌, append_assoc, arith}
-use Rattle.std.specs.Io.KnownBytes.{Appends}
+use Rattle.std.proofs.Common.{ℕ, List, ◌≡◌, ◌<◌, ◌≤◌, ◌∷◌, ◌++◌, [], OnErr, length, ap, sym, subst, arith}
+use Rattle.std.specs.Io.BufRead.{strip_last}
 use Rattle.std.proofs.KnownBytes.{Appends-trans}
 use Rattle.std.proofs.lemmas.Result.{on_err_weaker, on_ok_weaker}
 use Rattle.streams.specs.Streams.{AppendsPart}
+use Rattle.text_set.specs.Lines.{as_line_by}
 use Rattle.text_set.proofs.LineLemmas.{line_with_end, line_without_end}
-use Rattle.streams.proofs.StreamLemmas.{on_err}
+use Rattle.streams.proofs.StreamLemmas.{on_err, part_behind, part_longer}
 use Rattle.unique_lines.proofs.lines.write_line.Goals as goal
 
 pub returns-then-text-line-clause-err : goal.returns-then-text-line-clause-err
@@ -13,36 +14,21 @@ returns-then-text-line-clause-err g c =
     subst (λ l. OnErr c.write_all.result (AppendsPart (g.W.Write.contents c.args.w.now) (g.W.Write.contents c.write_all.new.w) l))
     (sym (line_with_end c.args.eol c.args.line.now longer)) c.write_all.ensures.err
 
+-- what is written of a line with no end
+with_end : (eol : ℕ) (line text : List ℕ) → text ≡ strip_last eol line → length line ≤ length text → as_line_by eol line ≡ line ++ eol ∷ []
+with_end eol line text is all = ap (λ l. l ++ eol ∷ []) (line_without_end eol line (subst (λ l. length line ≤ length l) is all))
+
 pub returns-in_err-write_all-clause-err : goal.returns-in_err-write_all-clause-err
 returns-in_err-write_all-clause-err g c =
-    let same = line_without_end c.args.eol c.args.line.now
-    (subst (λ text. length c.args.line.now ≤ length text) c.requires (omega (arith, c.if-text-line.false))) in
-    let (part, rest, is, written) = c.in_err-write_all.ensures.err in
-    on_err _ c.from_residual.result (
-      part,
-      rest ++ c.args.eol ∷ [],
-      sym (append_assoc part rest (c.args.eol ∷ [])) ∙ ap (λ l. l ++ c.args.eol ∷ []) (is ∙ sym same),
-      written,
-    )
+    let whole = with_end c.args.eol c.args.line.now c.args.text.now c.requires (omega (arith, c.if-text-line.false)) in
+    on_err _ c.from_residual.result (part_longer _ _ _ _ _ (sym whole) c.in_err-write_all.ensures.err)
 
 pub returns-clause-ok : goal.returns-clause-ok
 returns-clause-ok g c =
-    let same = line_without_end c.args.eol c.args.line.now
-    (subst (λ text. length c.args.line.now ≤ length text) c.requires (omega (arith, c.if-text-line.false))) in
-    on_ok_weaker c.write_all-3.result
-    (λ end. subst (Appends (g.W.Write.contents c.args.w.now) (g.W.Write.contents c.write_all-3.new.w)) (ap (λ l. l ++ c.args.eol ∷ []) (sym same))
-    (Appends-trans _ _ _ _ _ c.in_ok-write_all.ensures.ok end))
-    c.write_all-3.ensures.ok
+    let whole = with_end c.args.eol c.args.line.now c.args.text.now c.requires (omega (arith, c.if-text-line.false)) in
+    rw whole (on_ok_weaker c.write_all-3.result (Appends-trans _ _ _ _ _ c.in_ok-write_all.ensures.ok) c.write_all-3.ensures.ok)
 
 pub returns-clause-err : goal.returns-clause-err
 returns-clause-err g c =
-    let same = line_without_end c.args.eol c.args.line.now
-    (subst (λ text. length c.args.line.now ≤ length text) c.requires (omega (arith, c.if-text-line.false))) in
-    on_err_weaker c.write_all-3.result
-    (λ begun. (
-      c.args.line.now ++ begun.0,
-      begun.1,
-      append_assoc c.args.line.now begun.0 begun.1 ∙ ap (λ l. c.args.line.now ++ l) begun.2 ∙ ap (λ l. l ++ c.args.eol ∷ []) (sym same),
-      Appends-trans _ _ _ _ _ c.in_ok-write_all.ensures.ok begun.3,
-    ))
-    c.write_all-3.ensures.err
+    let whole = with_end c.args.eol c.args.line.now c.args.text.now c.requires (omega (arith, c.if-text-line.false)) in
+    rw whole (on_err_weaker c.write_all-3.result (part_behind _ _ _ _ _ c.in_ok-write_all.ensures.ok) c.write_all-3.ensures.err)

@@ -1,23 +1,22 @@
-use Rattle.std.proofs.Common.{sym, subst, map}
+use Rattle.std.proofs.Common.{sym, subst, List, ℕ, rules}
 use Rattle.std.specs.Io.Buffered.{writer_contents}
+use Rattle.std.proofs.KnownBytes.{Appends-kept}
+use Rattle.streams.proofs.StreamLemmas.{part_whole}
 use Rattle.unique_lines.specs.Running.{run_of}
 use Rattle.unique_lines.specs.Tallies.{Tallies, told}
-use Rattle.unique_lines.proofs.InputLemmas.{handed_on, part_at_flush, part_silent, part_told}
+use Rattle.unique_lines.proofs.InputLemmas.{part_silent}
 use Rattle.unique_lines.proofs.tally.tally.Goals as goal
 
 pub returns-in_err-ended-clause-ended : goal.returns-in_err-ended-clause-ended
 returns-in_err-ended-clause-ended g c =
     let run = run_of g.R.Read.remaining c.args.inputs.now c.take_inputs.new.inputs
     (writer_contents g.W.Write.contents) c.args.w.now c.take_inputs.new.w in
-    handed_on (told c.args.eol c.args.which) _ c.args.eol c.args.limit run _ c.from_residual.ensures.0
-    (part_silent (told c.args.eol c.args.which) c.args.eol run c.in_err-ended.ensures.ended)
+    let part = part_silent (told c.args.eol c.args.which) c.args.eol run c.in_err-ended.ensures.ended in
+    search rules
 
 pub returns-in_err-flush-clause-ended : goal.returns-in_err-flush-clause-ended
 returns-in_err-flush-clause-ended g c =
-    let output = told c.args.eol c.args.which in
-    let left' = map g.R.Read.remaining c.take_inputs.new.inputs in
-    handed_on output _ c.args.eol c.args.limit _ _ c.from_residual-in_err-flush.ensures.0
-    (part_told output _ c.args.eol c.args.limit _ left' _ _ _ c.in_ok-ended.ended c.in_default.not-TooManyLines c.in_ok-ended.ensures.ended
-    (λ ls now. part_at_flush (output ls) _ _ _
-    (c.in_ok-write_tallies.ensures.ok ls
-    (subst (Tallies c.args.eol ls c.take_inputs.new.task.texts.texts) (sym c.deref.ensures.value) now)) c.flush.ensures.kept))
+    let told = λ (ls : List (List ℕ)) (now : Tallies c.args.eol ls c.take_inputs.new.task.texts.texts c.take_inputs.new.task.times.items).
+    part_whole _ _ _ (Appends-kept _ _ _ _ (c.in_ok-write_tallies.ensures.ok ls
+    (subst (Tallies c.args.eol ls c.take_inputs.new.task.texts.texts) (sym c.deref.ensures.value) now)) c.flush.ensures.kept) in
+    search (rules, told)

@@ -1,30 +1,39 @@
-use Rattle.std.proofs.Common.{rules, arith, ap, ◌∙◌, get_or}
-use Rattle.std.proofs.KnownBytes.{Keeps-refl}
-use Rattle.unique_lines.specs.Tallies.{shown}
-use Rattle.unique_lines.proofs.OrderLemmas.{telling_ends, telling_more, telling_stops, telling_stops_within}
-use Rattle.streams.proofs.StreamLemmas.{on_err}
+use Rattle.std.proofs.Common.{arith, ap, sym, subst, ◌∙◌, ◌++◌, drop}
+use Rattle.std.specs.Io.KnownBytes.{Appends}
+use Rattle.std.proofs.KnownBytes.{Appends-trans}
+use Rattle.std.proofs.lemmas.List.{append-nil, drop_all}
+use Rattle.streams.proofs.StreamLemmas.{on_err, part_behind, part_longer}
+use Rattle.unique_lines.proofs.OrderLemmas.{listed, listed_more, listed_told}
 use Rattle.unique_lines.proofs.tally.write_tallies.Goals as goal
 
 pub returns-in_err-show-clause-err : goal.returns-in_err-show-clause-err
 returns-in_err-show-clause-err g c =
-    on_err _ c.from_residual.result
-    (λ ls now. telling_stops c.args.eol _ _ _ _ _ _ c.loop-i.invariant _ (Keeps-refl _) ls now.places now.counts)
+    let (part, written, is) = c.loop-i.invariant in
+    on_err _ c.from_residual.result (λ ls now. (part, _, is ∙ listed_told c.args.eol c.args.which ls _ _ now, written))
 
 pub returns-in_err-write_all-clause-err : goal.returns-in_err-write_all-clause-err
 returns-in_err-write_all-clause-err g c =
-    let (part, rest, is, written) = c.in_err-write_all.ensures.err in
+    let (part, written, is) = c.loop-i.invariant in
+    let more = listed_more c.args.eol c.args.which c.args.texts.now.texts c.args.times.now c.loop-i.i part _ _ _ (omega arith) (omega arith)
+    c.text_at.ensures (c.deref.ensures.value ∙ c.in_ok-show.ensures) is in
     on_err _ c.from_residual-in_err-write_all.result
-    (λ ls now. telling_stops_within c.args.eol _ _ _ _ _ _ c.loop-i.invariant _ _ (search (rules, arith))
-    (c.deref.ensures.value ∙ c.in_ok-show.ensures
-    ∙ ap (shown c.args.eol c.args.which
-    (get_or c.args.times.now c.loop-i.i 0)) c.text_at.ensures) part rest is written ls now.places now.counts)
+    (λ ls now. part_longer _ _ _ _ _ (more ∙ listed_told c.args.eol c.args.which ls _ _ now)
+    (part_behind _ _ _ _ _ written c.in_err-write_all.ensures.err))
 
 pub returns-clause-ok : goal.returns-clause-ok
-returns-clause-ok g c =
-    λ ls now. telling_ends c.args.eol _ _ _ _ _ _ c.loop-i.invariant (omega arith) _ (Keeps-refl _) ls now.places now.counts
+returns-clause-ok g c = λ ls now.
+    let (part, written, is) = c.loop-i.invariant in
+    let none = drop_all c.loop-i.i c.args.texts.now.texts (omega arith) in
+    subst (Appends (g.W.Write.contents c.args.w.now) (g.W.Write.contents c.loop-i.w))
+    (sym (append-nil part)
+    ∙ ap (λ seen. part ++ listed c.args.eol c.args.which seen (drop c.loop-i.i c.args.times.now)) (sym none)
+    ∙ is ∙ listed_told c.args.eol c.args.which ls _ _ now) written
 
 pub loop-i-preserved : goal.loop-i-preserved
 loop-i-preserved g c =
-    telling_more c.args.eol _ _ _ _ _ _ c.loop-i.invariant _ _ (search (rules, arith))
-    (c.deref.ensures.value ∙ c.in_ok-show.ensures
-    ∙ ap (shown c.args.eol c.args.which (get_or c.args.times.now c.loop-i.i 0)) c.text_at.ensures) c.in_ok-write_all.ensures.ok
+    let (part, written, is) = c.loop-i.invariant in (
+      _,
+      Appends-trans _ _ _ _ _ written c.in_ok-write_all.ensures.ok,
+      listed_more c.args.eol c.args.which c.args.texts.now.texts c.args.times.now c.loop-i.i part _ _ _ (omega arith) (omega arith)
+          c.text_at.ensures (c.deref.ensures.value ∙ c.in_ok-show.ensures) is,
+    )

@@ -1,5 +1,10 @@
-use Rattle.unique_lines.proofs.OrderLemmas.{Telling}
+use Rattle.std.proofs.Common.{ℕ, List, ◌≡◌, ◌++◌, drop}
+use Rattle.std.specs.Io.KnownBytes.{Appends}
+use Rattle.unique_lines.proofs.OrderLemmas.{listed}
 use Rattle.unique_lines.proofs.tally.write_tallies.Given as goal
 
+-- what was written, and what is left to write
 abbrev pub invariant-loop-i : goal.invariant-loop-i
-invariant-loop-i g l = Telling l.eol l.which l.texts.texts l.times (g.W.Write.contents l.initial.w) (g.W.Write.contents l.w) l.i
+invariant-loop-i g l =
+    (part : List ℕ) × Appends (g.W.Write.contents l.initial.w) (g.W.Write.contents l.w) part
+    × (part ++ listed l.eol l.which (drop l.i l.texts.texts) (drop l.i l.times) ≡ listed l.eol l.which l.texts.texts l.times)

@@ -1,27 +1,26 @@
-use Rattle.std.proofs.Common.{rules, []}
-use Rattle.std.proofs.KnownBytes.{Appends-nil}
-use Rattle.text_set.specs.Lines.{as_line_by}
-use Rattle.text_set.specs.Firsts.{once_by}
+use Rattle.std.proofs.Common.{false, refl, rules, true}
+use Rattle.std.proofs.KnownBytes.{Appends-nil, Keeps-refl}
 use Rattle.text_set.proofs.FirstsLemmas.{once_begins}
-use Rattle.unique_lines.proofs.RunLemmas.{stops_before}
+use Rattle.unique_lines.proofs.RunLemmas.{breaks_before}
 use Rattle.streams.proofs.StreamLemmas.{on_err}
-use Rattle.unique_lines.proofs.SeenLemmas.{adds_new, adds_nothing, stops_in_line, takes_line}
+use Rattle.unique_lines.proofs.SeenLemmas.{is_there, not_there, stops_in_line, takes_line}
 use Rattle.unique_lines.proofs.once.OnceLineTask.take_line.Goals as goal
 
 pub returns-in_err-see-clause-err : goal.returns-in_err-see-clause-err
-returns-in_err-see-clause-err g c = on_err _ c.from_residual.result (stops_before (once_by c.args.eol) (once_begins c.args.eol) _ _ _)
+returns-in_err-see-clause-err g c = on_err _ c.from_residual.result (breaks_before (once_begins c.args.eol) (Keeps-refl _) _)
 
 pub returns-in_err-write_line-clause-err : goal.returns-in_err-write_line-clause-err
 returns-in_err-write_line-clause-err g c =
     on_err _ c.from_residual-in_err-write_line.result
-    (stops_in_line c.args.eol c.args.self.now.seen.texts c.args.line.now (search rules) _ _ c.in_err-write_line.ensures.err)
+    (stops_in_line c.args.eol c.args.self.now.seen.texts c.args.line.now (not_there _ true (search rules) refl) _ _
+    c.in_err-write_line.ensures.err)
 
 pub returns-in_ok-write_line-clause-ok : goal.returns-in_ok-write_line-clause-ok
 returns-in_ok-write_line-clause-ok g c =
-    takes_line c.args.eol c.args.self.now.seen.texts c.args.line.now _ (search rules) (as_line_by c.args.eol c.args.line.now)
-    (λ ls before. adds_new c.args.eol c.args.self.now.seen.texts c.args.line.now ls before (search rules)) _ _ c.in_ok-write_line.ensures.ok
+    takes_line c.args.eol c.args.self.now.seen.texts c.args.line.now _ (search rules) false (not_there _ true (search rules) refl) _ _
+    c.in_ok-write_line.ensures.ok
 
 pub returns-else-branch-clause-ok : goal.returns-else-branch-clause-ok
 returns-else-branch-clause-ok g c =
-    takes_line c.args.eol c.args.self.now.seen.texts c.args.line.now _ (search rules) []
-    (λ ls before. adds_nothing c.args.eol c.args.self.now.seen.texts c.args.line.now ls before (search rules)) _ _ (Appends-nil _)
+    takes_line c.args.eol c.args.self.now.seen.texts c.args.line.now _ (search rules) true (is_there _ false (search rules) refl) _ _
+    (Appends-nil _)

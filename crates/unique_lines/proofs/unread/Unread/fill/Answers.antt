@@ -1,18 +1,13 @@
 use Rattle.std.proofs.Common.{◌++◌, ap, sym, subst, ◌∙◌, append_assoc, length}
 use Rattle.std.proofs.KnownBytes.{Consumes-trans}
-use Rattle.std.proofs.lemmas.Result.{MatchResult-at_ok}
-use Rattle.unique_lines.specs.Between.{ReadsBehind}
 use Rattle.text_set.specs.Lines.{IsBare}
-use Rattle.unique_lines.proofs.RunLemmas.{bare_both}
-use Rattle.unique_lines.proofs.UnreadLemmas.{found_end, found_none}
+use Rattle.unique_lines.proofs.UnreadLemmas.{bare_both, found_end, found_none}
 use Rattle.unique_lines.proofs.unread.Unread.fill.Goals as goal
 
 pub returns-then-is_some : goal.returns-then-is_some
 returns-then-is_some g c =
     let (text, is, bare, read) = c.loop-error.invariant in
-    let (piece, is_more, long, read_more, ended) = MatchResult-at_ok
-    (ReadsBehind c.loop-error.self c.read.new.self (g.R.Read.remaining c.loop-error.r) (g.R.Read.remaining c.read.new.r))
-    _ c.in-Ok.field-0 c.in-Ok.is c.in_ok-read.ensures in
+    let (piece, is_more, long, read_more, ended) = rw c.in-Ok.is at c.in_ok-read.ensures in
     record {
       text = text ++ piece;
       is = is_more ∙ ap (λ l. l ++ piece) is ∙ append_assoc c.args.self.now text piece;
@@ -24,13 +19,11 @@ returns-then-is_some g c =
 pub loop-error-preserved : goal.loop-error-preserved
 loop-error-preserved g c =
     let (text, is, bare, read) = c.loop-error.invariant in
-    let (piece, is_more, long, read_more, ended) = MatchResult-at_ok
-    (ReadsBehind c.loop-error.self c.read.new.self (g.R.Read.remaining c.loop-error.r) (g.R.Read.remaining c.read.new.r))
-    _ c.in-Ok.field-0 c.in-Ok.is c.in_ok-read.ensures in (
+    let (piece, is_more, long, read_more, ended) = rw c.in-Ok.is at c.in_ok-read.ensures in
+    let bare_more = found_none c.args.eol c.bytes.result.now c.loop-error.self piece _ _ c.line_end.ensures (sym c.if-is_some.ensures)
+    (c.bytes.ensures ∙ is_more) (ap length c.bytes-len.ensures) in (
       text ++ piece,
       is_more ∙ ap (λ l. l ++ piece) is ∙ append_assoc c.args.self.now text piece,
-      bare_both c.args.eol text piece bare
-          (found_none c.args.eol c.bytes.result.now c.loop-error.self piece _ _ c.line_end.ensures (sym c.if-is_some.ensures)
-          (c.bytes.ensures ∙ is_more) (ap length c.bytes-len.ensures)),
+      bare_both c.args.eol text piece bare bare_more,
       Consumes-trans _ _ _ _ _ read read_more,
     )
