@@ -1,0 +1,62 @@
+-- Words that are added to as many others: each sum is that of one list of words, and a text of as many words is known by it.
+use Rattle.std.proofs.Common.{◌≡◌, ℕ, ◌*◌, ◌^◌, ◌<◌, List, [], ◌∷◌, length, slice_index, slice_set, map, All, refl, sym, ◌∙◌, arith, add_comm, add-zero}
+use Rattle.std.specs.List.{AllByRecursion}
+use Rattle.std.specs.Simd.{first_chunks}
+use Rattle.std.proofs.Math.Nat.{mod-eq_of_lt}
+use Rattle.std.proofs.lemmas.List.{set-get_or, length-map}
+use Rattle.std.proofs.lemmas.List.Elements.{All-head, All-tail}
+use Rattle.hash_words.specs.Words.{add, le}
+use Rattle.hash_words.proofs.PieceLemmas.{IsPiece, le-lt, length-first_chunks, first_chunks-pieces}
+use Rattle.hash_rounds.specs.Steps.{Step, AddData, AreSteps, apply, undo}
+use Rattle.hash_rounds.proofs.RoundLemmas.{AreNWords, words-listed, stepped-same, stepped-back}
+use Rattle.jenkins_laws.specs.Stretch.{missing}
+
+pub add-nothing : (w i : ℕ) (s : List ℕ) → slice_index s i < 2 ^ w → slice_set s i (add w (slice_index s i) 0) ≡ s
+add-nothing w i s s_in = rw (add-zero (slice_index s i), mod-eq_of_lt s_in) (set-get_or s i 0)
+
+-- ---- the words of a text of k pieces of n bytes
+
+module _ (w n k : ℕ) (size : 256 ^ n ≡ 2 ^ w) where
+  each-lt : (cs : List (List ℕ)) → All (IsPiece n) cs → AllByRecursion (λ x. x < 2 ^ w) (map le cs)
+  each-lt [] are = tt
+  each-lt (c ∷ cs) are =
+      let here = All-head (IsPiece n) c cs are in
+      (rw (here.1, size) at (le-lt c here.0), each-lt cs (All-tail (IsPiece n) c cs are))
+
+  pub words-in : (c : List ℕ) → IsPiece (k * n) c → AreNWords w k (map le (first_chunks n k c))
+  words-in c is = (
+    length-map (first_chunks n k c) le ∙ length-first_chunks n k c,
+    (words-listed w _ (each-lt (first_chunks n k c) (first_chunks-pieces n k c is.0 (omega (arith, is.1))))).1,
+  )
+
+-- ---- sums, word by word
+
+abbrev pub sums_4 : List Step
+sums_4 = AddData 0 0 ∷ AddData 1 1 ∷ AddData 2 2 ∷ AddData 3 3 ∷ []
+
+-- it is the same which words are added to which
+pub exchanged_4 : (s d : List ℕ) → length s ≡ 4 → length d ≡ 4 → apply 64 sums_4 d s ≡ apply 64 sums_4 s d
+unfolding apply
+exchanged_4 (a ∷ b ∷ c ∷ e ∷ []) (x ∷ y ∷ z ∷ t ∷ []) s_len d_len =
+    rw (add_comm a x, add_comm b y, add_comm c z, add_comm e t) refl
+exchanged_4 s d s_len d_len = absurd (omega arith)
+
+module _ (w n : ℕ) (sums : List Step) (are : AreSteps w n n sums)
+    (exchanged : (s d : List ℕ) → length s ≡ n → length d ≡ n → apply w sums d s ≡ apply w sums s d)
+    (s : List ℕ) (s_in : AreNWords w n s) where
+  pub sum-same : (d e : List ℕ) → AreNWords w n d → AreNWords w n e → apply w sums d s ≡ apply w sums e s → d ≡ e
+  sum-same d e d_in e_in same =
+      stepped-same w n n s s_in sums are d e d_in e_in
+      (sym (exchanged s d s_in.0 d_in.0) ∙ same ∙ exchanged s e s_in.0 e_in.0)
+
+  pub difference-added : (t : List ℕ) → AreNWords w n t → apply w sums (apply w (undo w sums) s t) s ≡ t
+  difference-added t t_in =
+      let back = stepped-back w n n s s_in sums are t t_in in
+      exchanged s (apply w (undo w sums) s t) s_in.0 back.0.0 ∙ back.1
+
+-- ---- what is to be added to words for others
+
+pub missing_4-is : (from to : List ℕ) → length to ≡ 4 → apply 64 (undo 64 sums_4) from to ≡ missing from to
+unfolding apply undo
+missing_4-is from (a ∷ b ∷ c ∷ d ∷ []) len = refl
+missing_4-is from to len = absurd (omega arith)
