@@ -5,7 +5,7 @@ use Rattle.std.specs.Simd.{first_chunks}
 use Rattle.std.proofs.Math.Nat.{mod-eq_of_lt}
 use Rattle.std.proofs.lemmas.List.{set-get_or, length-map}
 use Rattle.std.proofs.lemmas.List.Elements.{All-head, All-tail}
-use Rattle.hash_words.specs.Words.{add, le}
+use Rattle.hash_words.specs.Words.{add, sub, le}
 use Rattle.hash_words.proofs.PieceLemmas.{IsPiece, le-lt, length-first_chunks, first_chunks-pieces}
 use Rattle.hash_rounds.specs.Steps.{Step, AddData, AreSteps, apply, undo}
 use Rattle.hash_rounds.proofs.RoundLemmas.{AreNWords, words-listed, stepped-same, stepped-back}
@@ -31,10 +31,18 @@ module _ (w n k : ℕ) (size : 256 ^ n ≡ 2 ^ w) where
 
 -- ---- sums, word by word
 
+abbrev pub sums_3 : List Step
+sums_3 = AddData 0 0 ∷ AddData 1 1 ∷ AddData 2 2 ∷ []
+
 abbrev pub sums_4 : List Step
 sums_4 = AddData 0 0 ∷ AddData 1 1 ∷ AddData 2 2 ∷ AddData 3 3 ∷ []
 
 -- it is the same which words are added to which
+pub exchanged_3 : (s d : List ℕ) → length s ≡ 3 → length d ≡ 3 → apply 32 sums_3 d s ≡ apply 32 sums_3 s d
+unfolding apply
+exchanged_3 (a ∷ b ∷ c ∷ []) (x ∷ y ∷ z ∷ []) s_len d_len = rw (add_comm a x, add_comm b y, add_comm c z) refl
+exchanged_3 s d s_len d_len = absurd (omega arith)
+
 pub exchanged_4 : (s d : List ℕ) → length s ≡ 4 → length d ≡ 4 → apply 64 sums_4 d s ≡ apply 64 sums_4 s d
 unfolding apply
 exchanged_4 (a ∷ b ∷ c ∷ e ∷ []) (x ∷ y ∷ z ∷ t ∷ []) s_len d_len =
@@ -55,6 +63,16 @@ module _ (w n : ℕ) (sums : List Step) (are : AreSteps w n n sums)
       exchanged s (apply w (undo w sums) s t) s_in.0 back.0.0 ∙ back.1
 
 -- ---- what is to be added to words for others
+
+abbrev pub missing_3 : List ℕ → List ℕ → List ℕ
+missing_3 from to =
+    sub 32 (slice_index to 0) (slice_index from 0) ∷ sub 32 (slice_index to 1) (slice_index from 1)
+    ∷ sub 32 (slice_index to 2) (slice_index from 2) ∷ []
+
+pub missing_3-is : (from to : List ℕ) → length to ≡ 3 → apply 32 (undo 32 sums_3) from to ≡ missing_3 from to
+unfolding apply undo
+missing_3-is from (a ∷ b ∷ c ∷ []) len = refl
+missing_3-is from to len = absurd (omega arith)
 
 pub missing_4-is : (from to : List ℕ) → length to ≡ 4 → apply 64 (undo 64 sums_4) from to ≡ missing from to
 unfolding apply undo
