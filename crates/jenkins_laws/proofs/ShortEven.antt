@@ -22,10 +22,9 @@ use Rattle.hash_jenkins.specs.Filled.{zero_filled}
 use Rattle.hash_jenkins.specs.Spooky.{chunks_from, first_two, short_words, spooky}
 use Rattle.jenkins_laws.specs.Stretch.{missing, bytes_of, stretch_of}
 use Rattle.jenkins_laws.proofs.FilledLemmas.{filled-piece, length-zero_filled, take-zero_filled, zero_filled-longer}
-use Rattle.jenkins_laws.proofs.ShortStretches.{ended, ended-same, ended-led}
-use Rattle.jenkins_laws.proofs.Stretches.{add_stretch, add_stretch-in, add_stretch-piece, begin, begun, chunks-are, mixed-in, none, none-added, pieces-append, pieces-one, pieces-then, seeded-are, short_start-is, stretches, stretches-in, stretches-led, stretches-same}
+use Rattle.jenkins_laws.proofs.ShortStretches.{ended, ended-same, ended-led, add_stretch, add_stretch-in, add_stretch-piece, chunks-are, mixed-in, none, none-added, pieces-append, pieces-one, pieces-then, short_start-is, stretches, stretches-in, stretches-led, stretches-same, unmix, unmixed}
 use Rattle.jenkins_laws.proofs.Sums.{sums_4, exchanged_4, difference-added, missing_4-is}
-use Rattle.jenkins_laws.proofs.Zeros.{add_at-AreFourWords, short_start-AreFourWords, start_of}
+use Rattle.jenkins_laws.proofs.Zeros.{add_at-AreFourWords, short_start-AreFourWords, start_of, start-AreFourWords}
 
 -- ---- four words as a stretch
 
@@ -66,13 +65,13 @@ module _ (seed1 seed2 : ℕ) (front back : List ℕ) (s1 : seed1 < 2 ^ 64) (s2 :
 
   -- what leads to the four words before the stretch by a mix, and what is behind it
   abbrev pub from : List ℕ
-  from = stretches (begun seed1 seed2 s1 s2).0 (none ++ front)
+  from = stretches (unmix (start_of seed1 seed2)) (none ++ front)
 
   abbrev pub behind : List ℕ
   behind = zero_filled (176 - length front) back
 
   from-in : AreFourWords from
-  from-in = stretches-in (begun seed1 seed2 s1 s2).0 (none ++ front) (begun seed1 seed2 s1 s2).1
+  from-in = stretches-in (unmix (start_of seed1 seed2)) (none ++ front) (unmixed (start_of seed1 seed2) (start-AreFourWords seed1 seed2 s1 s2)).0
 
   -- the words of the text from those behind the stretch
   abbrev pub led : List ℕ → List ℕ
@@ -80,13 +79,13 @@ module _ (seed1 seed2 : ℕ) (front back : List ℕ) (s1 : seed1 < 2 ^ 64) (s2 :
 
   words-are : (stretch : List ℕ) → length stretch ≡ 32 → short_words seed1 seed2 (text_of stretch) ≡ led (add_stretch from stretch)
   words-are stretch len =
-      let u = (begun seed1 seed2 s1 s2).0 in
+      let u = unmix (start_of seed1 seed2) in
       let text_len = text_of-length stretch len in
       let count : 208 - length (text_of stretch) ≡ 176 - length front - length back = omega (arith, text_len) in
       let places : none ++ zero_filled 208 (text_of stretch) ≡ (none ++ front) ++ (stretch ++ behind) =
       ap (λ n. none ++ (text_of stretch ++ replicate n 0)) count ∙ simp append_assoc in
       ap₂ ended text_len
-      (short_start-is seed1 seed2 s1 s2 (text_of stretch) (omega (arith, text_len)) ∙ ap (stretches u) places
+      (short_start-is seed1 seed2 (text_of stretch) s1 s2 (omega (arith, text_len)) ∙ ap (stretches u) places
       ∙ pieces-append add_stretch u (none ++ front) (stretch ++ behind) (omega (arith, place, length-append none front))
       ∙ pieces-then add_stretch from stretch behind len)
 
@@ -123,11 +122,11 @@ module _ (seed1 seed2 : ℕ) (front back : List ℕ) (s1 : seed1 < 2 ^ 64) (s2 :
 
   got-is : chunks_from (start_of seed1 seed2) (take (length front + 16) (zero_filled 192 front)) ≡ short_mix from
   got-is =
-      let u = (begun seed1 seed2 s1 s2).0 in
+      let u = unmix (start_of seed1 seed2) in
       let count : length front + 16 - length front ≡ 16 = omega arith in
       ap (chunks_from (start_of seed1 seed2)) (take-zero_filled (length front + 16) 192 front (omega arith) (omega arith)
       ∙ ap (λ k. front ++ replicate k 0) count)
-      ∙ seeded-are seed1 seed2 s1 s2 ((length front + 16) / 32) (front ++ none) (omega (arith, place, length-append front none))
+      ∙ chunks-are (start_of seed1 seed2) (start-AreFourWords seed1 seed2 s1 s2) ((length front + 16) / 32) (front ++ none) (omega (arith, place, length-append front none))
       ∙ ap (stretches u) (ap (λ (t : List ℕ). none ++ t) (append_assoc front none none) ∙ sym (append_assoc none front (none ++ none)))
       ∙ pieces-append add_stretch u (none ++ front) (none ++ none) (omega (arith, place, length-append none front))
       ∙ pieces-one add_stretch from (none ++ none) refl ∙ none-added from from-in
@@ -136,7 +135,7 @@ module _ (seed1 seed2 : ℕ) (front back : List ℕ) (s1 : seed1 < 2 ^ 64) (s2 :
       → chunks_from to (take (176 - length front) (put_at 16 back (replicate 192 0))) ≡ stretches to behind
   to-is to to_in =
       let n = length front in
-      let v = begin to to_in in
+      let before = unmixed to to_in in
       let count : 192 - (16 + length back) ≡ 176 - length back = omega arith in
       let filled : put_at 16 back (replicate 192 0) ≡ none ++ zero_filled 176 back =
       ap (λ (z : List ℕ). none ++ (back ++ z)) (drop-replicate {X = ℕ} (16 + length back) 192 0 ∙ ap (λ k. replicate k 0) count) in
@@ -150,8 +149,9 @@ module _ (seed1 seed2 : ℕ) (front back : List ℕ) (s1 : seed1 < 2 ^ 64) (s2 :
       ∙ ap (λ (z : List ℕ). none ++ z) (take-zero_filled (160 - n) 176 back (omega arith) (omega arith)))
       ∙ chunks-are to to_in ((176 - n) / 32) (none ++ zero_filled (160 - n) back)
       (omega (arith, place, length-append none (zero_filled (160 - n) back), length-zero_filled (160 - n) back))
-      ∙ ap (λ (z : List ℕ). stretches v.0 ((none ++ none) ++ z)) rest
-      ∙ pieces-then add_stretch v.0 (none ++ none) behind refl ∙ ap (λ (k : List ℕ). stretches k behind) v.2
+      ∙ ap (λ (z : List ℕ). stretches (unmix to) ((none ++ none) ++ z)) rest
+      ∙ pieces-then add_stretch (unmix to) (none ++ none) behind refl
+      ∙ ap (λ (k : List ℕ). stretches k behind) (none-added (unmix to) before.0 ∙ before.1)
 
   pub found : (got end to words : List ℕ) → got ≡ chunks_from (start_of seed1 seed2) (take (length front + 16) (zero_filled 192 front))
       → ended (length front + 32 + length back) end ≡ words

@@ -2,7 +2,7 @@ use Rattle.std.proofs.Common.{◌≡◌, ◌∙◌, ℕ, List, [], ◌∷◌, �
 use Rattle.std.proofs.lemmas.Grind.{fold-append}
 use Rattle.hash_words.specs.Pieces.{le_words}
 use Rattle.hash_jenkins.specs.Spooky.{add_chunk}
-use Rattle.jenkins_laws.proofs.Stretches.{f}
+use Rattle.jenkins_laws.proofs.ShortStretches.{f}
 use Rattle.jenkins_laws.proofs.stretch.un_add_chunks.Goals as goal
 
 -- the last of the chunks that are left is taken out
