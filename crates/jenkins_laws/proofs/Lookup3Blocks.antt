@@ -1,6 +1,6 @@
 -- lookup3's blocks of twelve bytes: no two pieces that differ only in one lead to the same three words, one block leads to three
 -- words, and how many lead to an answer.
-use Rattle.std.proofs.Common.{List, [], ap, arith, drop, fold, length, map, refl, slice_index, sym, take, w32, ℕ, ◌%◌, ◌*◌, ◌++◌, ◌+◌, ◌/◌, ◌<◌, ◌^◌, ◌∙◌, ◌∷◌, ◌≡◌, ◌≢◌}
+use Rattle.std.proofs.Common.{List, [], ap, arith, drop, fold, length, map, refl, slice_index, sym, take, w32, ℕ, ◌%◌, ◌*◌, ◌+◌, ◌/◌, ◌<◌, ◌^◌, ◌∙◌, ◌∷◌, ◌≡◌, ◌≢◌}
 use Rattle.std.specs.Simd.{first_chunks}
 use Rattle.hash_words.specs.Words.{le}
 use Rattle.hash_words.specs.Pieces.{pieces}
@@ -15,15 +15,14 @@ use Rattle.hash_jenkins.specs.Lookup3Laws.{AreThreeWords, add_block-AreThreeWord
 use Rattle.hash_windows.specs.DifferWithin.{DifferInOne}
 use Rattle.hash_jenkins.proofs.Lookup3Lemmas.{drop_eight}
 use Rattle.jenkins_laws.proofs.FilledLemmas.{filled-piece, filled-same}
-use Rattle.jenkins_laws.proofs.Sums.{add-nothing, difference-added, exchanged_3, missing_3, missing_3-is, sum-same, sums_3, words-in}
+use Rattle.jenkins_laws.proofs.Sums.{bytes_of-text, add-nothing, difference-added, exchanged_3, missing_3, missing_3-is, sum-same, sums_3, words-in}
 use Rattle.std.proofs.Math.Path.{ap₂}
 use Rattle.std.specs.Int.{to_le_bytes}
+use Rattle.std.specs.List.{flat_map}
 use Rattle.std.proofs.lemmas.List.{drop_all, take_all}
-use Rattle.std.proofs.lemmas.List.Elements.{All-append}
 use Rattle.std.proofs.lemmas.Nat.{mod_below, pow_pos}
 use Rattle.hash_words.proofs.WordLemmas.{le-to_le_bytes-32}
 use Rattle.hash_laws.specs.Exactly.{ExactlyTexts}
-use Rattle.hash_laws.proofs.TextLemmas.{IsByte, IsText-to_le_bytes}
 
 -- ---- the words of a block
 
@@ -98,16 +97,10 @@ lookup3_words-differ pc pb x y xs ys differ = λ same.
 -- ---- three words as a block
 
 abbrev block_of : List ℕ → List ℕ
-block_of w = to_le_bytes w32 (slice_index w 0) ++ (to_le_bytes w32 (slice_index w 1) ++ to_le_bytes w32 (slice_index w 2))
+block_of words = flat_map (to_le_bytes w32) words
 
 block_of-words : (a b c : ℕ) → a < 2 ^ 32 → b < 2 ^ 32 → c < 2 ^ 32 → three (block_of (a ∷ b ∷ c ∷ [])) ≡ a ∷ b ∷ c ∷ []
 block_of-words a b c a_in b_in c_in = λ i. le-to_le_bytes-32 a a_in i ∷ le-to_le_bytes-32 b b_in i ∷ le-to_le_bytes-32 c c_in i ∷ []
-
-block_of-piece : (w : List ℕ) → IsPiece 12 (block_of w)
-block_of-piece w =
-    let bytes = λ (i : ℕ). to_le_bytes w32 (slice_index w i) in
-    let text = λ (i : ℕ). IsText-to_le_bytes w32 (slice_index w i) in
-    (All-append IsByte (bytes 0) (bytes 1 ++ bytes 2) (text 0) (All-append IsByte (bytes 1) (bytes 2) (text 1) (text 2)), refl)
 
 -- ---- a block alone
 
@@ -201,7 +194,7 @@ module _ (pc pb : ℕ) where
         → third_word (pc, pb) other ≡ third → other ≡ block
     block-alone other text twelve led is =
         let answered = sym (ap lookup3_answer (from-block other twelve)) ∙ led in
-        blocks-same other block (text, twelve) (block_of-piece (missing_3 first (unmixed (wanted answer third))))
+        blocks-same other block (text, twelve) (bytes_of-text w32 (missing_3 first (unmixed (wanted answer third))), refl)
         (wanted-are (lookup3_words pc pb other) (lookup3_words-AreThreeWords pc pb other) ∙ ap₂ wanted answered is ∙ sym there)
 
   -- a block for each third word
@@ -210,7 +203,7 @@ module _ (pc pb : ℕ) where
   blocks-even answer answer_in = record {
     value = λ third. block_to (wanted answer third);
     number = third_word (pc, pb);
-    value_has = λ third third_in. ((block_of-piece (missing_3 first (unmixed (wanted answer third)))).0, refl, block-leads answer third answer_in third_in);
+    value_has = λ third third_in. (bytes_of-text w32 (missing_3 first (unmixed (wanted answer third))), refl, block-leads answer third answer_in third_in);
     number_below = λ block known. (lookup3_words-AreThreeWords pc pb block).1 0;
     number_of_value = λ third third_in. block-third answer third answer_in third_in;
     value_of_number = λ block known.

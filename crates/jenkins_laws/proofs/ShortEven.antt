@@ -4,9 +4,7 @@ use Rattle.std.proofs.Math.Path.{ap₂}
 use Rattle.std.proofs.Math.Seq.{take-append-add}
 use Rattle.std.proofs.lemmas.Bool.Decides.{nat_tests}
 use Rattle.std.proofs.lemmas.List.{append_assoc, drop-replicate}
-use Rattle.std.proofs.lemmas.List.Elements.{All-append}
 use Rattle.std.proofs.lemmas.Nat.{mod_below, pow_pos}
-use Rattle.std.specs.Int.{to_le_bytes}
 use Rattle.hash_words.specs.Pieces.{pieces, le_words}
 use Rattle.hash_words.specs.Put.{put_at}
 use Rattle.hash_words.proofs.PieceLemmas.{IsPiece}
@@ -17,26 +15,15 @@ use Rattle.hash_rounds.specs.Steps.{apply}
 use Rattle.hash_rounds.proofs.RoundLemmas.{AreFourWords, words-listed, short_end-steps, stepped}
 use Rattle.hash_laws.specs.Exactly.{ExactlyTexts}
 use Rattle.hash_laws.specs.Text.{IsText}
-use Rattle.hash_laws.proofs.TextLemmas.{IsByte, IsText-to_le_bytes}
 use Rattle.hash_jenkins.specs.Filled.{zero_filled}
 use Rattle.hash_jenkins.specs.Spooky.{chunks_from, first_two, short_words, spooky}
-use Rattle.jenkins_laws.specs.Stretch.{missing, bytes_of, stretch_of}
+use Rattle.jenkins_laws.specs.Stretch.{missing, stretch_of}
 use Rattle.jenkins_laws.proofs.FilledLemmas.{filled-piece, length-zero_filled, take-zero_filled, zero_filled-longer}
 use Rattle.jenkins_laws.proofs.ShortStretches.{ended, ended-same, ended-led, add_stretch, add_stretch-in, add_stretch-piece, chunks-are, mixed-in, none, none-added, pieces-append, pieces-one, pieces-then, short_start-is, stretches, stretches-in, stretches-led, stretches-same, unmix, unmixed}
-use Rattle.jenkins_laws.proofs.Sums.{sums_4, exchanged_4, difference-added, missing_4-is}
+use Rattle.jenkins_laws.proofs.Sums.{bytes_of-text, sums_4, exchanged_4, difference-added, missing_4-is}
 use Rattle.jenkins_laws.proofs.Zeros.{add_at-AreFourWords, short_start-AreFourWords, start_of, start-AreFourWords}
 
 -- ---- four words as a stretch
-
-bytes_of-text : (x y : ℕ) → IsText (bytes_of x y)
-bytes_of-text x y = All-append IsByte (to_le_bytes w64 x) (to_le_bytes w64 y) (IsText-to_le_bytes w64 x) (IsText-to_le_bytes w64 y)
-
-pub stretch_of-piece : (w : List ℕ) → IsPiece 32 (stretch_of w)
-stretch_of-piece w = (
-  All-append IsByte (bytes_of (slice_index w 0) (slice_index w 1)) (bytes_of (slice_index w 2) (slice_index w 3))
-      (bytes_of-text (slice_index w 0) (slice_index w 1)) (bytes_of-text (slice_index w 2) (slice_index w 3)),
-  refl,
-)
 
 stretch_of-words : (a b c d : ℕ) → a < 2 ^ 64 → b < 2 ^ 64 → c < 2 ^ 64 → d < 2 ^ 64
     → le_words (stretch_of (a ∷ b ∷ c ∷ d ∷ [])) ≡ a ∷ b ∷ c ∷ d ∷ []
@@ -116,7 +103,7 @@ module _ (seed1 seed2 : ℕ) (front back : List ℕ) (s1 : seed1 < 2 ^ 64) (s2 :
         let end = ended-led n (omega arith) words words_in in
         let to = stretches-led behind end.0 behind-text end.1 in
         let d = missing (short_mix from) to.0 in
-        (stretch_of d, stretch_of-piece d, leads to.0 words to.1 (ap (ended n) to.2 ∙ end.2))
+        (stretch_of d, (bytes_of-text w64 d, refl), leads to.0 words to.1 (ap (ended n) to.2 ∙ end.2))
 
   -- ---- what a call finds
 

@@ -1,10 +1,13 @@
 -- Words that are added to as many others: each sum is that of one list of words, and a text of as many words is known by it.
 use Rattle.std.proofs.Common.{◌≡◌, ℕ, ◌*◌, ◌^◌, ◌<◌, List, [], ◌∷◌, length, slice_index, slice_set, map, All, refl, sym, ◌∙◌, arith, add_comm, add-zero}
-use Rattle.std.specs.List.{AllByRecursion}
+use Rattle.std.specs.List.{AllByRecursion, flat_map}
+use Rattle.std.specs.Int.{Width, to_le_bytes}
+use Rattle.hash_laws.specs.Text.{IsText}
+use Rattle.hash_laws.proofs.TextLemmas.{IsByte, IsText-to_le_bytes}
 use Rattle.std.specs.Simd.{first_chunks}
 use Rattle.std.proofs.Math.Nat.{mod-eq_of_lt}
 use Rattle.std.proofs.lemmas.List.{set-get_or, length-map}
-use Rattle.std.proofs.lemmas.List.Elements.{All-head, All-tail}
+use Rattle.std.proofs.lemmas.List.Elements.{All-nil, All-append, All-head, All-tail}
 use Rattle.hash_words.specs.Words.{add, sub, le}
 use Rattle.hash_words.proofs.PieceLemmas.{IsPiece, le-lt, length-first_chunks, first_chunks-pieces}
 use Rattle.hash_rounds.specs.Steps.{Step, AddData, AreSteps, apply, undo}
@@ -28,6 +31,11 @@ module _ (w n k : ℕ) (size : 256 ^ n ≡ 2 ^ w) where
     length-map (first_chunks n k c) le ∙ length-first_chunks n k c,
     (words-listed w _ (each-lt (first_chunks n k c) (first_chunks-pieces n k c is.0 (omega (arith, is.1))))).1,
   )
+
+pub bytes_of-text : (w : Width) (words : List ℕ) → IsText (flat_map (to_le_bytes w) words)
+bytes_of-text w [] = All-nil IsByte
+bytes_of-text w (x ∷ words) =
+    All-append IsByte (to_le_bytes w x) (flat_map (to_le_bytes w) words) (IsText-to_le_bytes w x) (bytes_of-text w words)
 
 -- ---- sums, word by word
 

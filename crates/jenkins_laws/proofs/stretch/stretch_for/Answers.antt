@@ -1,7 +1,8 @@
-use Rattle.std.proofs.Common.{◌∙◌, sym, arith}
+use Rattle.std.proofs.Common.{refl, w64, ◌∙◌, sym, arith}
 use Rattle.hash_laws.proofs.TextLemmas.{IsText-from_slice}
 use Rattle.jenkins_laws.specs.Stretch.{missing, stretch_of}
-use Rattle.jenkins_laws.proofs.ShortEven.{stretch_of-piece, found, alone}
+use Rattle.jenkins_laws.proofs.Sums.{bytes_of-text}
+use Rattle.jenkins_laws.proofs.ShortEven.{found, alone}
 use Rattle.jenkins_laws.proofs.stretch.stretch_for.Goals as goal
 
 pub returns : goal.returns
@@ -19,5 +20,5 @@ returns c =
       leads = leads;
       alone = λ stretch text len led.
           alone seed1 seed2 front back (omega arith) (omega arith) c.requires.place c.requires.few (IsText-from_slice back c.type_inv.back)
-          stretch (stretch_of (missing got to)) (text, len) (stretch_of-piece (missing got to)) (led ∙ sym leads);
+          stretch (stretch_of (missing got to)) (text, len) (bytes_of-text w64 (missing got to), refl) (led ∙ sym leads);
     })
