@@ -144,7 +144,8 @@ module _ (pc pb : ℕ) where
       let below = λ (n : ℕ). mod_below n (2 ^ 32) (pow_pos 32) in
       let added : add_block first (block_to words) ≡ to =
       add_block-is first (block_to words)
-      ∙ ap (λ (d : List ℕ). apply 32 sums_3 d first) (block_of-words _ _ _ (below _) (below _) (below _) ∙ sym (missing_3-is first to mixed.0.0))
+      ∙ ap (λ (d : List ℕ). apply 32 sums_3 d first)
+      (block_of-words _ _ _ (below _) (below _) (below _) ∙ sym (missing_3-is first to mixed.0.0))
       ∙ difference-added 32 3 sums_3 refl exchanged_3 first first_in to mixed.0 in
       words-block (block_to words) refl ∙ ap final (ap (apply 32 rounds.lookup3_mix_steps []) added ∙ mixed.1) ∙ ended.1
 
@@ -185,7 +186,8 @@ module _ (pc pb : ℕ) where
     pub block-leads : lookup3_answer (lookup3_from (pc, pb) block) ≡ answer
     block-leads =
         let whole : answer % 2 ^ 32 + 2 ^ 32 * (answer / 2 ^ 32) ≡ answer = omega arith in
-        ap lookup3_answer (from-block block refl) ∙ ap (λ (words : List ℕ). slice_index words 2 + 2 ^ 32 * slice_index words 1) there ∙ whole
+        ap lookup3_answer (from-block block refl)
+        ∙ ap (λ (words : List ℕ). slice_index words 2 + 2 ^ 32 * slice_index words 1) there ∙ whole
 
     pub block-third : third_word (pc, pb) block ≡ third
     block-third = ap (λ (words : List ℕ). slice_index words 0) there
@@ -203,7 +205,11 @@ module _ (pc pb : ℕ) where
   blocks-even answer answer_in = record {
     value = λ third. block_to (wanted answer third);
     number = third_word (pc, pb);
-    value_has = λ third third_in. (bytes_of-text w32 (missing_3 first (unmixed (wanted answer third))), refl, block-leads answer third answer_in third_in);
+    value_has = λ third third_in. (
+      bytes_of-text w32 (missing_3 first (unmixed (wanted answer third))),
+      refl,
+      block-leads answer third answer_in third_in,
+    );
     number_below = λ block known. (lookup3_words-AreThreeWords pc pb block).1 0;
     number_of_value = λ third third_in. block-third answer third answer_in third_in;
     value_of_number = λ block known.

@@ -5,7 +5,6 @@ use Rattle.std.proofs.Math.Seq.{take-append-add}
 use Rattle.std.proofs.lemmas.Bool.Decides.{nat_tests}
 use Rattle.std.proofs.lemmas.List.{append_assoc, drop-replicate}
 use Rattle.std.proofs.lemmas.Nat.{mod_below, pow_pos}
-use Rattle.hash_words.specs.Pieces.{pieces, le_words}
 use Rattle.hash_words.specs.Put.{put_at}
 use Rattle.hash_words.proofs.PieceLemmas.{IsPiece}
 use Rattle.hash_words.proofs.WordLemmas.{le-to_le_bytes-64}
@@ -19,16 +18,15 @@ use Rattle.hash_jenkins.specs.Filled.{zero_filled}
 use Rattle.hash_jenkins.specs.Spooky.{chunks_from, first_two, short_words, spooky}
 use Rattle.jenkins_laws.specs.Stretch.{missing, stretch_of}
 use Rattle.jenkins_laws.proofs.FilledLemmas.{filled-piece, length-zero_filled, take-zero_filled, zero_filled-longer}
-use Rattle.jenkins_laws.proofs.ShortStretches.{ended, ended-same, ended-led, add_stretch, add_stretch-in, add_stretch-piece, chunks-are, mixed-in, none, none-added, pieces-append, pieces-one, pieces-then, short_start-is, stretches, stretches-in, stretches-led, stretches-same, unmix, unmixed}
+use Rattle.jenkins_laws.proofs.ShortStretches.{ended, ended-same, ended-led, add_stretch, add_stretch-in, add_stretch-piece, chunks-are, mixed-in, none, none-added, pieces-append, pieces-one, pieces-then, seeded, seeded-in, four, short_start-is, stretches, stretches-in, stretches-led, stretches-same, unmix, unmixed}
 use Rattle.jenkins_laws.proofs.Sums.{bytes_of-text, sums_4, exchanged_4, difference-added, missing_4-is}
 use Rattle.jenkins_laws.proofs.Zeros.{add_at-AreFourWords, short_start-AreFourWords, start_of, start-AreFourWords}
 
 -- ---- four words as a stretch
 
-stretch_of-words : (a b c d : ℕ) → a < 2 ^ 64 → b < 2 ^ 64 → c < 2 ^ 64 → d < 2 ^ 64
-    → le_words (stretch_of (a ∷ b ∷ c ∷ d ∷ [])) ≡ a ∷ b ∷ c ∷ d ∷ []
-unfolding le_words pieces
-stretch_of-words a b c d a_in b_in c_in d_in =
+stretch_of-four : (a b c d : ℕ) → a < 2 ^ 64 → b < 2 ^ 64 → c < 2 ^ 64 → d < 2 ^ 64
+    → four (stretch_of (a ∷ b ∷ c ∷ d ∷ [])) ≡ a ∷ b ∷ c ∷ d ∷ []
+stretch_of-four a b c d a_in b_in c_in d_in =
     λ i. le-to_le_bytes-64 a a_in i ∷ le-to_le_bytes-64 b b_in i ∷ le-to_le_bytes-64 c c_in i ∷ le-to_le_bytes-64 d d_in i ∷ []
 
 below : (n : ℕ) → n % 2 ^ 64 < 2 ^ 64
@@ -37,7 +35,8 @@ below n = mod_below n (2 ^ 64) (pow_pos 64)
 missing-added : (h to : List ℕ) → AreFourWords h → AreFourWords to → add_stretch h (stretch_of (missing (short_mix h) to)) ≡ to
 missing-added h to h_in to_in =
     let m = short_mix h in
-    ap (λ (d : List ℕ). apply 64 sums_4 d m) (stretch_of-words _ _ _ _ (below _) (below _) (below _) (below _) ∙ sym (missing_4-is m to to_in.0))
+    ap (λ (d : List ℕ). apply 64 sums_4 d m)
+    (stretch_of-four _ _ _ _ (below _) (below _) (below _) (below _) ∙ sym (missing_4-is m to to_in.0))
     ∙ difference-added 64 4 sums_4 refl exchanged_4 m (mixed-in h h_in) to to_in
 
 -- ---- a stretch between a front and a back
@@ -52,13 +51,13 @@ module _ (seed1 seed2 : ℕ) (front back : List ℕ) (s1 : seed1 < 2 ^ 64) (s2 :
 
   -- what leads to the four words before the stretch by a mix, and what is behind it
   abbrev pub from : List ℕ
-  from = stretches (unmix (start_of seed1 seed2)) (none ++ front)
+  from = stretches (seeded seed1 seed2) (none ++ front)
 
   abbrev pub behind : List ℕ
   behind = zero_filled (176 - length front) back
 
   from-in : AreFourWords from
-  from-in = stretches-in (unmix (start_of seed1 seed2)) (none ++ front) (unmixed (start_of seed1 seed2) (start-AreFourWords seed1 seed2 s1 s2)).0
+  from-in = stretches-in (seeded seed1 seed2) (none ++ front) (seeded-in seed1 seed2 s1 s2)
 
   -- the words of the text from those behind the stretch
   abbrev pub led : List ℕ → List ℕ
@@ -66,7 +65,7 @@ module _ (seed1 seed2 : ℕ) (front back : List ℕ) (s1 : seed1 < 2 ^ 64) (s2 :
 
   words-are : (stretch : List ℕ) → length stretch ≡ 32 → short_words seed1 seed2 (text_of stretch) ≡ led (add_stretch from stretch)
   words-are stretch len =
-      let u = unmix (start_of seed1 seed2) in
+      let u = seeded seed1 seed2 in
       let text_len = text_of-length stretch len in
       let count : 208 - length (text_of stretch) ≡ 176 - length front - length back = omega (arith, text_len) in
       let places : none ++ zero_filled 208 (text_of stretch) ≡ (none ++ front) ++ (stretch ++ behind) =
@@ -109,11 +108,12 @@ module _ (seed1 seed2 : ℕ) (front back : List ℕ) (s1 : seed1 < 2 ^ 64) (s2 :
 
   got-is : chunks_from (start_of seed1 seed2) (take (length front + 16) (zero_filled 192 front)) ≡ short_mix from
   got-is =
-      let u = unmix (start_of seed1 seed2) in
+      let u = seeded seed1 seed2 in
       let count : length front + 16 - length front ≡ 16 = omega arith in
       ap (chunks_from (start_of seed1 seed2)) (take-zero_filled (length front + 16) 192 front (omega arith) (omega arith)
       ∙ ap (λ k. front ++ replicate k 0) count)
-      ∙ chunks-are (start_of seed1 seed2) (start-AreFourWords seed1 seed2 s1 s2) ((length front + 16) / 32) (front ++ none) (omega (arith, place, length-append front none))
+      ∙ chunks-are (start_of seed1 seed2) (start-AreFourWords seed1 seed2 s1 s2) ((length front + 16) / 32) (front ++ none)
+      (omega (arith, place, length-append front none))
       ∙ ap (stretches u) (ap (λ (t : List ℕ). none ++ t) (append_assoc front none none) ∙ sym (append_assoc none front (none ++ none)))
       ∙ pieces-append add_stretch u (none ++ front) (none ++ none) (omega (arith, place, length-append none front))
       ∙ pieces-one add_stretch from (none ++ none) refl ∙ none-added from from-in
@@ -150,7 +150,8 @@ module _ (seed1 seed2 : ℕ) (front back : List ℕ) (s1 : seed1 < 2 ^ 64) (s2 :
 
   -- ---- the hash, and what is left out
 
-  spooky-is : (stretch : List ℕ) → length stretch ≡ 32 → spooky seed1 seed2 (text_of stretch) ≡ first_two (short_words seed1 seed2 (text_of stretch))
+  spooky-is : (stretch : List ℕ) → length stretch ≡ 32
+      → spooky seed1 seed2 (text_of stretch) ≡ first_two (short_words seed1 seed2 (text_of stretch))
   spooky-is stretch len =
       let long = text_of-length stretch len in
       let short : nat_lt (length (text_of stretch)) 192 ≡ true = grind (arith, nat_tests) in

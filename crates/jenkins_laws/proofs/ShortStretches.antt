@@ -25,32 +25,28 @@ use Rattle.hash_windows.specs.DifferWithin.{DifferInOne}
 
 -- ---- a stretch behind a mix
 
+-- the words of 32 bytes
+abbrev pub four : List ℕ → List ℕ
+four c = map le (first_chunks 8 4 c)
+
 abbrev pub add_stretch : List ℕ → List ℕ → List ℕ
-add_stretch h c = apply 64 sums_4 (le_words c) (short_mix h)
-
-all_words : (c : List ℕ) → length c ≡ 32 → le_words c ≡ map le (first_chunks 8 4 c)
-unfolding le_words pieces
-all_words c len = rw len refl
-
-le_words-in : (c : List ℕ) → IsPiece 32 c → AreFourWords (le_words c)
-le_words-in c is = rw (all_words c is.1) (words-in 64 8 4 refl c is)
+add_stretch h c = apply 64 sums_4 (four c) (short_mix h)
 
 pub mixed-in : (h : List ℕ) → AreFourWords h → AreFourWords (short_mix h)
 mixed-in h h_in = stepped 64 4 0 [] rounds.short_mix_steps short_mix-steps h h_in
 
 pub add_stretch-in : (h c : List ℕ) → AreFourWords h → AreFourWords (add_stretch h c)
-add_stretch-in h c h_in = stepped 64 4 4 (le_words c) sums_4 refl (short_mix h) (mixed-in h h_in)
+add_stretch-in h c h_in = stepped 64 4 4 (four c) sums_4 refl (short_mix h) (mixed-in h h_in)
 
 pub add_stretch-state : (h k c : List ℕ) → AreFourWords h → AreFourWords k → IsPiece 32 c → add_stretch h c ≡ add_stretch k c → h ≡ k
 add_stretch-state h k c h_in k_in is same =
     stepped-same 64 4 0 [] (no_data 64) rounds.short_mix_steps short_mix-steps h k h_in k_in
-    (stepped-same 64 4 4 (le_words c) (le_words-in c is) sums_4 refl (short_mix h) (short_mix k) (mixed-in h h_in) (mixed-in k k_in) same)
+    (stepped-same 64 4 4 (four c) (words-in 64 8 4 refl c is) sums_4 refl _ _ (mixed-in h h_in) (mixed-in k k_in) same)
 
 pub add_stretch-piece : (h c e : List ℕ) → AreFourWords h → IsPiece 32 c → IsPiece 32 e → add_stretch h c ≡ add_stretch h e → c ≡ e
 add_stretch-piece h c e h_in c_is e_is same =
-    let words = sum-same 64 4 sums_4 refl exchanged_4 (short_mix h) (mixed-in h h_in) (le_words c) (le_words e) (le_words-in c c_is)
-    (le_words-in e e_is) same in
-    all_words-same 8 4 c e c_is e_is (sym (all_words c c_is.1) ∙ words ∙ all_words e e_is.1)
+    all_words-same 8 4 c e c_is e_is (sum-same 64 4 sums_4 refl exchanged_4 (short_mix h) (mixed-in h h_in) (four c) (four e)
+    (words-in 64 8 4 refl c c_is) (words-in 64 8 4 refl e e_is) same)
 
 -- four words before a mix that gives these
 abbrev pub unmix : List ℕ → List ℕ
@@ -65,9 +61,9 @@ Led step h = (x : List ℕ) × AreFourWords x × (step x ≡ h)
 
 add_stretch-led : (c h : List ℕ) → IsPiece 32 c → AreFourWords h → Led (λ k. add_stretch k c) h
 add_stretch-led c h is h_in =
-    let sum = stepped-back 64 4 4 (le_words c) (le_words-in c is) sums_4 refl h h_in in
+    let sum = stepped-back 64 4 4 (four c) (words-in 64 8 4 refl c is) sums_4 refl h h_in in
     let mixed = unmixed _ sum.0 in
-    (_, mixed.0, ap (apply 64 sums_4 (le_words c)) mixed.1 ∙ sum.1)
+    (_, mixed.0, ap (apply 64 sums_4 (four c)) mixed.1 ∙ sum.1)
 
 -- ---- pieces of joined texts
 
@@ -76,7 +72,8 @@ module _ (g : List ℕ → List ℕ → List ℕ) (h : List ℕ) where
       → fold g h (pieces 32 (a ++ b)) ≡ fold g (fold g h (pieces 32 a)) (pieces 32 b)
   unfolding pieces
   pieces-append a b e =
-      rw (first_chunks-append 32 (length a / 32) (length b / 32) (length (a ++ b) / 32) a b (omega (arith, length-append a b)) (omega arith))
+      rw (first_chunks-append 32 (length a / 32) (length b / 32) (length (a ++ b) / 32) a b (omega (arith, length-append a b))
+      (omega arith))
       (fold-append g h (first_chunks 32 (length a / 32) a) (first_chunks 32 (length b / 32) b))
 
   pub pieces-one : (c : List ℕ) → length c ≡ 32 → fold g h (pieces 32 c) ≡ g h c
@@ -98,7 +95,8 @@ stretches-in h text h_in = fold-AreFourWords add_stretch add_stretch-in (pieces 
 
 pub stretches-same : (h k text : List ℕ) → AreFourWords h → AreFourWords k → IsText text → stretches h text ≡ stretches k text → h ≡ k
 stretches-same h k text h_in k_in is_text same =
-    fold-same AreFourWords (IsPiece 32) add_stretch (λ s c s_in _. add_stretch-in s c s_in) add_stretch-state (pieces 32 text) h k h_in k_in (all_pieces text is_text) same
+    fold-same AreFourWords (IsPiece 32) add_stretch (λ s c s_in _. add_stretch-in s c s_in) add_stretch-state
+    (pieces 32 text) h k h_in k_in (all_pieces text is_text) same
 
 each-led : (cs : List (List ℕ)) (h : List ℕ) → All (IsPiece 32) cs → AreFourWords h → Led (λ k. fold add_stretch k cs) h
 each-led [] h are h_in = (h, h_in, refl)
@@ -128,21 +126,22 @@ none-adds h h_in =
     let nothing = λ (i : ℕ). add-nothing 64 i h (h_in.1 i) in
     (rw (nothing 0, nothing 1) refl, rw (nothing 2, nothing 3) refl)
 
-chunk-words : (p a : List ℕ) → length p ≡ 16 → length a ≡ 16
-    → le_words (p ++ a) ≡ le (take 8 p) ∷ le (take 8 (drop 8 p)) ∷ le (take 8 a) ∷ le (take 8 (drop 8 a)) ∷ []
-unfolding le_words pieces
-chunk-words p a p_len a_len =
-    let whole : length (p ++ a) / 8 ≡ 4 = omega (arith, length-append p a) in
-    ap (λ n. map le (first_chunks 8 n (p ++ a))) whole ∙ ap (map le) (first_chunks-append 8 2 2 4 p a refl p_len)
+four-halves : (p a : List ℕ) → length p ≡ 16
+    → four (p ++ a) ≡ le (take 8 p) ∷ le (take 8 (drop 8 p)) ∷ le (take 8 a) ∷ le (take 8 (drop 8 a)) ∷ []
+four-halves p a p_len = ap (map le) (first_chunks-append 8 2 2 4 p a refl p_len)
 
-add_stretch-halves : (h p a : List ℕ) → length p ≡ 16 → length a ≡ 16 → add_stretch h (p ++ a) ≡ add_last (add_first (short_mix h) p) a
+le_words-are : (c : List ℕ) → length c ≡ 32 → le_words c ≡ four c
+unfolding le_words pieces
+le_words-are c len = rw len refl
+
+add_stretch-halves : (h p a : List ℕ) → length p ≡ 16 → add_stretch h (p ++ a) ≡ add_last (add_first (short_mix h) p) a
 unfolding apply
-add_stretch-halves h p a p_len a_len = rw (chunk-words p a p_len a_len) refl
+add_stretch-halves h p a p_len = ap (λ (d : List ℕ). apply 64 sums_4 d (short_mix h)) (four-halves p a p_len)
 
 pub none-added : (h : List ℕ) → AreFourWords h → add_stretch h (none ++ none) ≡ short_mix h
 none-added h h_in =
     let adds = none-adds (short_mix h) (mixed-in h h_in) in
-    add_stretch-halves h none none refl refl ∙ ap (λ (k : List ℕ). add_last k none) adds.0 ∙ adds.1
+    add_stretch-halves h none none refl ∙ ap (λ (k : List ℕ). add_last k none) adds.0 ∙ adds.1
 
 abbrev pub f : List ℕ → List ℕ → List ℕ
 f h c = add_chunk h (le_words c)
@@ -154,13 +153,14 @@ unfolding pieces
 by_stretches zero u p text u_in p_len len =
     let added_in = add_at-AreFourWords _ 1 (le (take 8 (drop 8 p))) (add_at-AreFourWords _ 0 (le (take 8 p)) (mixed-in u u_in)) in
     rw (nil_from_length text (omega arith)) (pieces-one add_stretch u (p ++ none) (omega (arith, length-append p none))
-    ∙ add_stretch-halves u p none p_len refl ∙ (none-adds _ added_in).1)
+    ∙ add_stretch-halves u p none p_len ∙ (none-adds _ added_in).1)
 by_stretches (suc k) u p text u_in p_len len =
     let a = take 16 text in
     let b = take 16 (drop 16 text) in
     let rest = drop 16 (drop 16 text) in
     let a_len = length-take-le 16 text (omega arith) in
     let b_len = length-take-le 16 (drop 16 text) (omega (arith, length-drop 16 text)) in
+    let whole : length (a ++ b) ≡ 32 = omega (arith, length-append a b) in
     let split : text ≡ a ++ (b ++ rest) = sym (ap (λ t. a ++ t) (take-append-drop 16 (drop 16 text)) ∙ take-append-drop 16 text) in
     let places : p ++ (text ++ none) ≡ (p ++ a) ++ (b ++ (rest ++ none)) =
     ap (λ t. p ++ (t ++ none)) split ∙ simp append_assoc in
@@ -168,10 +168,11 @@ by_stretches (suc k) u p text u_in p_len len =
     ∙ pieces-then add_stretch u (p ++ a) (b ++ (rest ++ none)) (omega (arith, length-append p a))
     ∙ by_stretches k (add_stretch u (p ++ a)) b rest (add_stretch-in u (p ++ a) u_in) b_len
     (omega (arith, length-drop 16 text, length-drop 16 (drop 16 text)))
-    ∙ ap (λ h. fold f (add_first (short_mix h) b) (pieces 32 rest)) (add_stretch-halves u p a p_len a_len)
-    ∙ ap (λ w. fold f (add_chunk (add_first (short_mix u) p) w) (pieces 32 rest)) (sym (chunk-words a b a_len b_len))
+    ∙ ap (λ h. fold f (add_first (short_mix h) b) (pieces 32 rest)) (add_stretch-halves u p a p_len)
+    ∙ ap (λ w. fold f (add_chunk (add_first (short_mix u) p) w) (pieces 32 rest))
+    (sym (le_words-are (a ++ b) whole ∙ four-halves a b a_len))
     ∙ sym (ap (λ t. fold f (add_first (short_mix u) p) (pieces 32 t)) (split ∙ sym (append_assoc a b rest))
-    ∙ pieces-then f (add_first (short_mix u) p) (a ++ b) rest (omega (arith, length-append a b)))
+    ∙ pieces-then f (add_first (short_mix u) p) (a ++ b) rest whole)
 
 pub chunks-are : (h : List ℕ) → AreFourWords h → (k : ℕ) (text : List ℕ) → length text ≡ k * 32
     → chunks_from h text ≡ stretches (unmix h) (none ++ (text ++ none))
@@ -181,11 +182,18 @@ chunks-are h h_in k text len =
     sym (by_stretches k (unmix h) none text before.0 refl len
     ∙ ap (λ (s : List ℕ). fold f s (pieces 32 text)) (ap (λ (s : List ℕ). add_first s none) before.1 ∙ (none-adds h h_in).0))
 
+-- what leads to the start from two seeds by a mix
+abbrev pub seeded : ℕ → ℕ → List ℕ
+seeded seed1 seed2 = unmix (start_of seed1 seed2)
+
+pub seeded-in : (seed1 seed2 : ℕ) → seed1 < 2 ^ 64 → seed2 < 2 ^ 64 → AreFourWords (seeded seed1 seed2)
+seeded-in seed1 seed2 s1 s2 = (unmixed (start_of seed1 seed2) (start-AreFourWords seed1 seed2 s1 s2)).0
+
 pub short_start-is : (seed1 seed2 : ℕ) (text : List ℕ) → seed1 < 2 ^ 64 → seed2 < 2 ^ 64 → length text ≤ 192
-    → short_start seed1 seed2 text ≡ stretches (unmix (start_of seed1 seed2)) (none ++ zero_filled 208 text)
+    → short_start seed1 seed2 text ≡ stretches (seeded seed1 seed2) (none ++ zero_filled 208 text)
 short_start-is seed1 seed2 text s1 s2 few =
     chunks-are (start_of seed1 seed2) (start-AreFourWords seed1 seed2 s1 s2) 6 (zero_filled 192 text) (length-zero_filled 192 text few)
-    ∙ ap (λ (t : List ℕ). stretches (unmix (start_of seed1 seed2)) (none ++ t)) (sym (zero_filled-longer 192 208 text few (lit< tt)))
+    ∙ ap (λ (t : List ℕ). stretches (seeded seed1 seed2) (none ++ t)) (sym (zero_filled-longer 192 208 text few (lit< tt)))
 
 -- ---- the length and the last mix
 
@@ -228,8 +236,10 @@ module _ (seed1 seed2 : ℕ) (x y : List ℕ) (s1 : seed1 < 2 ^ 64) (s2 : seed2 
 
   seven-is : (z : List ℕ) → IsText z → length z < 192 → IsPiece 224 (seven z)
   seven-is z is_text z_few =
-      let rest = filled-piece 208 z is_text (omega arith) in
-      (All-append IsByte none (zero_filled 208 z) (All-replicate IsByte 16 0 (lit< tt)) rest.0, omega (arith, length-append none (zero_filled 208 z), rest.1))
+      let rest = filled-piece 208 z is_text (omega arith) in (
+        All-append IsByte none (zero_filled 208 z) (All-replicate IsByte 16 0 (lit< tt)) rest.0,
+        omega (arith, length-append none (zero_filled 208 z), rest.1),
+      )
 
   at : (p : ℕ) → p / 32 ≢ differ.one.0 → slice_index (seven x) p ≡ slice_index (seven y) p
   at p other =
@@ -244,14 +254,15 @@ module _ (seed1 seed2 : ℕ) (x y : List ℕ) (s1 : seed1 < 2 ^ 64) (s2 : seed2 
       let x_is = seven-is x xs few in
       let y_is = seven-is y ys (omega (arith, differ.same_length)) in
       let len = x_is.1 ∙ sym y_is.1 in
-      let u = unmix (start_of seed1 seed2) in
+      let u = seeded seed1 seed2 in
       let past = drop_all 224 (seven x) (omega (arith, x_is.1)) ∙ sym (drop_all 224 (seven y) (omega (arith, y_is.1))) in
       let led : stretches u (seven x) ≡ stretches u (seven y) =
-      sym (short_start-is seed1 seed2 x s1 s2 (omega arith)) ∙ same ∙ short_start-is seed1 seed2 y s1 s2 (omega (arith, differ.same_length)) in
+      sym (short_start-is seed1 seed2 x s1 s2 (omega arith)) ∙ same
+      ∙ short_start-is seed1 seed2 y s1 s2 (omega (arith, differ.same_length)) in
       let whole = texts-same AreFourWords (IsPiece 32) add_stretch (λ s c s_in _. add_stretch-in s c s_in) add_stretch-state
       (λ _ _. Unit {0}) (λ s c e s_in c_is e_is _. add_stretch-piece s c e s_in c_is e_is) 32 (λ s (r : List ℕ). (s, r)) (λ c is. is)
       (λ s t r _ _ _ _ e. ap (λ (p : List ℕ × List ℕ). p.0) e) (λ s q r _ _ _ _ _ e. ap (λ (p : List ℕ × List ℕ). p.1) e)
-      7 g (seven x) (seven y) u (unmixed (start_of seed1 seed2) (start-AreFourWords seed1 seed2 s1 s2)).0 x_is.0 y_is.0 len (omega (arith, x_is.1)) (omega (arith, x_is.1))
+      7 g (seven x) (seven y) u (seeded-in seed1 seed2 s1 s2) x_is.0 y_is.0 len (omega (arith, x_is.1)) (omega (arith, x_is.1))
       (λ i i_in other. part-same 32 (i * 32) (seven x) (seven y) len
       (λ j j_in. at (i * 32 + j) (λ (e : (i * 32 + j) / 32 ≡ g). other (omega (arith, e, j_in)))))
       (λ _. past) (λ _. tt) (ap₂ (λ (s r : List ℕ). (s, r)) (rw (x_is.1, y_is.1) at led) past) in

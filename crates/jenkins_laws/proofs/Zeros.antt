@@ -72,7 +72,8 @@ other_words x y h = λ seed1 seed2 s1 s2 same.
     let w = short_start-AreFourWords seed1 seed2 x s1 s2 in
     let more = start-same x y h seed1 seed2 in
     let one : add_at s 3 (length x * 2 ^ 56) ≡ add_at s 3 (length y * 2 ^ 56) =
-    stepped-same 64 4 0 [] (no_data 64) rounds.short_end_steps short_end-steps _ _ (add_at-AreFourWords s 3 _ w) (add_at-AreFourWords s 3 _ w) (rw more at same) in
+    stepped-same 64 4 0 [] (no_data 64) rounds.short_end_steps short_end-steps _ _ (add_at-AreFourWords s 3 _ w)
+    (add_at-AreFourWords s 3 _ w) (rw more at same) in
     let word = rw (
       get_or-set_same s 3 ((slice_index s 3 + length x * 2 ^ 56) % 2 ^ 64) 0 (omega (arith, w.0)),
       get_or-set_same s 3
