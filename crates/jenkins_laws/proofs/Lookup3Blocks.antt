@@ -15,7 +15,8 @@ use Rattle.hash_jenkins.specs.Lookup3Laws.{AreThreeWords, add_block-AreThreeWord
 use Rattle.hash_windows.specs.DifferWithin.{DifferInOne}
 use Rattle.hash_jenkins.proofs.Lookup3Lemmas.{drop_eight}
 use Rattle.jenkins_laws.proofs.FilledLemmas.{filled-piece, filled-same}
-use Rattle.jenkins_laws.proofs.Sums.{bytes_of-text, add-nothing, difference-added, exchanged_3, missing_3, missing_3-is, sum-same, sums_3, words-in}
+use Rattle.jenkins_laws.specs.Stretch.{missing}
+use Rattle.jenkins_laws.proofs.Sums.{bytes_of-text, add-nothing, difference-added, exchanged_3, missing_3-is, sum-same, sums_3, words-in}
 use Rattle.std.proofs.Math.Path.{ap₂}
 use Rattle.std.specs.Int.{to_le_bytes}
 use Rattle.std.specs.List.{flat_map}
@@ -134,7 +135,7 @@ module _ (pc pb : ℕ) where
   unmixed words = apply 32 (undo 32 rounds.lookup3_mix_steps) [] (apply 32 (undo 32 rounds.lookup3_final_steps) [] words)
 
   abbrev pub block_to : List ℕ → List ℕ
-  block_to words = block_of (missing_3 first (unmixed words))
+  block_to words = block_of (missing 32 3 first (unmixed words))
 
   block_to-words : (words : List ℕ) → AreThreeWords words → lookup3_words pc pb (block_to words) ≡ words
   block_to-words words words_in =
@@ -196,7 +197,7 @@ module _ (pc pb : ℕ) where
         → third_word (pc, pb) other ≡ third → other ≡ block
     block-alone other text twelve led is =
         let answered = sym (ap lookup3_answer (from-block other twelve)) ∙ led in
-        blocks-same other block (text, twelve) (bytes_of-text w32 (missing_3 first (unmixed (wanted answer third))), refl)
+        blocks-same other block (text, twelve) (bytes_of-text w32 (missing 32 3 first (unmixed (wanted answer third))), refl)
         (wanted-are (lookup3_words pc pb other) (lookup3_words-AreThreeWords pc pb other) ∙ ap₂ wanted answered is ∙ sym there)
 
   -- a block for each third word
@@ -206,7 +207,7 @@ module _ (pc pb : ℕ) where
     value = λ third. block_to (wanted answer third);
     number = third_word (pc, pb);
     value_has = λ third third_in. (
-      bytes_of-text w32 (missing_3 first (unmixed (wanted answer third))),
+      bytes_of-text w32 (missing 32 3 first (unmixed (wanted answer third))),
       refl,
       block-leads answer third answer_in third_in,
     );

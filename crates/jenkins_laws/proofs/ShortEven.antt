@@ -32,7 +32,7 @@ stretch_of-four a b c d a_in b_in c_in d_in =
 below : (n : ℕ) → n % 2 ^ 64 < 2 ^ 64
 below n = mod_below n (2 ^ 64) (pow_pos 64)
 
-missing-added : (h to : List ℕ) → AreFourWords h → AreFourWords to → add_stretch h (stretch_of (missing (short_mix h) to)) ≡ to
+missing-added : (h to : List ℕ) → AreFourWords h → AreFourWords to → add_stretch h (stretch_of (missing 64 4 (short_mix h) to)) ≡ to
 missing-added h to h_in to_in =
     let m = short_mix h in
     ap (λ (d : List ℕ). apply 64 sums_4 d m)
@@ -77,8 +77,8 @@ module _ (seed1 seed2 : ℕ) (front back : List ℕ) (s1 : seed1 < 2 ^ 64) (s2 :
 
   -- where four words lead to the end, what is missing to them is the stretch
   leads : (to words : List ℕ) → AreFourWords to → led to ≡ words
-      → short_words seed1 seed2 (text_of (stretch_of (missing (short_mix from) to))) ≡ words
-  leads to words to_in is = words-are (stretch_of (missing (short_mix from) to)) refl ∙ ap led (missing-added from to from-in to_in) ∙ is
+      → short_words seed1 seed2 (text_of (stretch_of (missing 64 4 (short_mix from) to))) ≡ words
+  leads to words to_in is = words-are (stretch_of (missing 64 4 (short_mix from) to)) refl ∙ ap led (missing-added from to from-in to_in) ∙ is
 
   module _ (back_text : IsText back) where
     behind-text : IsText behind
@@ -101,7 +101,7 @@ module _ (seed1 seed2 : ℕ) (front back : List ℕ) (s1 : seed1 < 2 ^ 64) (s2 :
         let n = length front + 32 + length back in
         let end = ended-led n (omega arith) words words_in in
         let to = stretches-led behind end.0 behind-text end.1 in
-        let d = missing (short_mix from) to.0 in
+        let d = missing 64 4 (short_mix from) to.0 in
         (stretch_of d, (bytes_of-text w64 d, refl), leads to.0 words to.1 (ap (ended n) to.2 ∙ end.2))
 
   -- ---- what a call finds
@@ -143,9 +143,9 @@ module _ (seed1 seed2 : ℕ) (front back : List ℕ) (s1 : seed1 < 2 ^ 64) (s2 :
   pub found : (got end to words : List ℕ) → got ≡ chunks_from (start_of seed1 seed2) (take (length front + 16) (zero_filled 192 front))
       → ended (length front + 32 + length back) end ≡ words
       → chunks_from to (take (176 - length front) (put_at 16 back (replicate 192 0))) ≡ end → AreFourWords to
-      → short_words seed1 seed2 (text_of (stretch_of (missing got to))) ≡ words
+      → short_words seed1 seed2 (text_of (stretch_of (missing 64 4 got to))) ≡ words
   found got end to words before after there to_in =
-      ap (λ (h : List ℕ). short_words seed1 seed2 (text_of (stretch_of (missing h to)))) (before ∙ got-is)
+      ap (λ (h : List ℕ). short_words seed1 seed2 (text_of (stretch_of (missing 64 4 h to)))) (before ∙ got-is)
       ∙ leads to words to_in (ap (ended (length front + 32 + length back)) (sym (to-is to to_in) ∙ there) ∙ after)
 
   -- ---- the hash, and what is left out

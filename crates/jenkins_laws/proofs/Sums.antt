@@ -8,7 +8,7 @@ use Rattle.std.specs.Simd.{first_chunks}
 use Rattle.std.proofs.Math.Nat.{mod-eq_of_lt}
 use Rattle.std.proofs.lemmas.List.{set-get_or, length-map}
 use Rattle.std.proofs.lemmas.List.Elements.{All-nil, All-append, All-head, All-tail}
-use Rattle.hash_words.specs.Words.{add, sub, le}
+use Rattle.hash_words.specs.Words.{add, le}
 use Rattle.hash_words.proofs.PieceLemmas.{IsPiece, le-lt, length-first_chunks, first_chunks-pieces}
 use Rattle.hash_rounds.specs.Steps.{Step, AddData, AreSteps, apply, undo}
 use Rattle.hash_rounds.proofs.RoundLemmas.{AreNWords, words-listed, stepped-same, stepped-back}
@@ -72,17 +72,12 @@ module _ (w n : ℕ) (sums : List Step) (are : AreSteps w n n sums)
 
 -- ---- what is to be added to words for others
 
-abbrev pub missing_3 : List ℕ → List ℕ → List ℕ
-missing_3 from to =
-    sub 32 (slice_index to 0) (slice_index from 0) ∷ sub 32 (slice_index to 1) (slice_index from 1)
-    ∷ sub 32 (slice_index to 2) (slice_index from 2) ∷ []
-
-pub missing_3-is : (from to : List ℕ) → length to ≡ 3 → apply 32 (undo 32 sums_3) from to ≡ missing_3 from to
+pub missing_3-is : (from to : List ℕ) → length to ≡ 3 → apply 32 (undo 32 sums_3) from to ≡ missing 32 3 from to
 unfolding apply undo
 missing_3-is from (a ∷ b ∷ c ∷ []) len = refl
 missing_3-is from to len = absurd (omega arith)
 
-pub missing_4-is : (from to : List ℕ) → length to ≡ 4 → apply 64 (undo 64 sums_4) from to ≡ missing from to
+pub missing_4-is : (from to : List ℕ) → length to ≡ 4 → apply 64 (undo 64 sums_4) from to ≡ missing 64 4 from to
 unfolding apply undo
 missing_4-is from (a ∷ b ∷ c ∷ d ∷ []) len = refl
 missing_4-is from to len = absurd (omega arith)

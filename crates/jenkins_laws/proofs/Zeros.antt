@@ -74,9 +74,6 @@ other_words x y h = λ seed1 seed2 s1 s2 same.
     let one : add_at s 3 (length x * 2 ^ 56) ≡ add_at s 3 (length y * 2 ^ 56) =
     stepped-same 64 4 0 [] (no_data 64) rounds.short_end_steps short_end-steps _ _ (add_at-AreFourWords s 3 _ w)
     (add_at-AreFourWords s 3 _ w) (rw more at same) in
-    let word = rw (
-      get_or-set_same s 3 ((slice_index s 3 + length x * 2 ^ 56) % 2 ^ 64) 0 (omega (arith, w.0)),
-      get_or-set_same s 3
-          ((slice_index s 3 + length y * 2 ^ 56) % 2 ^ 64) 0 (omega (arith, w.0)),
-    ) at (ap (λ (k : List ℕ). get_or k 3 0) one) in
+    let fits : 3 < length s = omega (arith, w.0) in
+    let word = rw (get_or-set_same, get_or-set_same) at (ap (λ (k : List ℕ). get_or k 3 0) one) in
     absurd (omega (arith, lengths_apart (slice_index s 3) (length x) (length y) (omega arith) (omega arith) word))
