@@ -23,14 +23,16 @@ filled-same n q r len same =
     sym (take_at q _ (length q) refl) ∙ ap (take (length q)) same ∙ take_at r _ (length q) (sym len)
 
 -- a text that is filled up to n bytes, and on
-pub zero_filled-longer : (n m : ℕ) (x : List ℕ) → length x ≤ n → n ≤ m → zero_filled m x ≡ zero_filled n x ++ replicate (m - n) 0
-zero_filled-longer n m x fits le =
-    let count : m - length x ≡ (n - length x) + (m - n) = omega arith in
+pub zero_filled-longer : (n k : ℕ) (x : List ℕ) → length x ≤ n → zero_filled (n + k) x ≡ zero_filled n x ++ replicate k 0
+zero_filled-longer n k x fits =
+    let count : n + k - length x ≡ (n - length x) + k = omega arith in
     rw (append_assoc, replicate-append-replicate, count) refl
 
 pub take-zero_filled : (n m : ℕ) (x : List ℕ) → length x ≤ n → n ≤ m → take n (zero_filled m x) ≡ zero_filled n x
 take-zero_filled n m x fits le =
-    rw (zero_filled-longer n m x fits le) (take_at (zero_filled n x) (replicate (m - n) 0) n (length-zero_filled n x fits))
+    let more : m ≡ n + (m - n) = omega arith in
+    ap (λ k. take n (zero_filled k x)) more ∙ ap (take n) (zero_filled-longer n (m - n) x fits)
+    ∙ take_at (zero_filled n x) (replicate (m - n) 0) n (length-zero_filled n x fits)
 
 -- between texts that are equal, two of one length agree where they agree by themselves
 pub agree_between : (front x y back : List ℕ) (i : ℕ) → length x ≡ length y

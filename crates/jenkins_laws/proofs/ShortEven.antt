@@ -1,7 +1,6 @@
 -- The one stretch that leads SpookyHash below 192 bytes to four words, and how many lead to a hash.
 use Rattle.std.proofs.Common.{◌≡◌, ℕ, ◌+◌, ◌-◌, ◌*◌, ◌/◌, ◌%◌, ◌^◌, ◌<◌, nat_lt, true, List, [], ◌∷◌, ◌++◌, length, slice_index, take, replicate, refl, sym, ap, ◌∙◌, arith, w64, length-append}
 use Rattle.std.proofs.Math.Path.{ap₂}
-use Rattle.std.proofs.Math.Seq.{take-append-add}
 use Rattle.std.proofs.lemmas.Bool.Decides.{nat_tests}
 use Rattle.std.proofs.lemmas.List.{append_assoc, drop-replicate}
 use Rattle.std.proofs.lemmas.Nat.{mod_below, pow_pos}
@@ -17,7 +16,7 @@ use Rattle.hash_laws.specs.Text.{IsText}
 use Rattle.hash_jenkins.specs.Filled.{zero_filled}
 use Rattle.hash_jenkins.specs.Spooky.{chunks_from, first_two, short_words, spooky}
 use Rattle.jenkins_laws.specs.Stretch.{missing, stretch_of}
-use Rattle.jenkins_laws.proofs.FilledLemmas.{filled-piece, length-zero_filled, take-zero_filled, zero_filled-longer}
+use Rattle.jenkins_laws.proofs.FilledLemmas.{filled-piece, take-zero_filled}
 use Rattle.jenkins_laws.proofs.ShortStretches.{ended, ended-same, ended-led, add_stretch, add_stretch-in, add_stretch-piece, chunks-are, mixed-in, none, none-added, pieces-append, pieces-one, pieces-then, seeded, seeded-in, four, short_start-is, stretches, stretches-in, stretches-led, stretches-same, unmix, unmixed}
 use Rattle.jenkins_laws.proofs.Sums.{bytes_of-text, sums_4, exchanged_4, difference-added, missing_4-is}
 use Rattle.jenkins_laws.proofs.Zeros.{add_at-AreFourWords, short_start-AreFourWords, start_of, start-AreFourWords}
@@ -108,35 +107,28 @@ module _ (seed1 seed2 : ℕ) (front back : List ℕ) (s1 : seed1 < 2 ^ 64) (s2 :
 
   got-is : chunks_from (start_of seed1 seed2) (take (length front + 16) (zero_filled 192 front)) ≡ short_mix from
   got-is =
+      let n = length front in
       let u = seeded seed1 seed2 in
-      let count : length front + 16 - length front ≡ 16 = omega arith in
-      ap (chunks_from (start_of seed1 seed2)) (take-zero_filled (length front + 16) 192 front (omega arith) (omega arith)
-      ∙ ap (λ k. front ++ replicate k 0) count)
-      ∙ chunks-are (start_of seed1 seed2) (start-AreFourWords seed1 seed2 s1 s2) ((length front + 16) / 32) (front ++ none)
-      (omega (arith, place, length-append front none))
-      ∙ ap (stretches u) (ap (λ (t : List ℕ). none ++ t) (append_assoc front none none) ∙ sym (append_assoc none front (none ++ none)))
+      let count : n + 16 + 16 - n ≡ 32 = omega arith in
+      ap (chunks_from (start_of seed1 seed2)) (take-zero_filled (n + 16) 192 front (omega arith) (omega arith))
+      ∙ chunks-are (start_of seed1 seed2) (start-AreFourWords seed1 seed2 s1 s2) (n + 16) front (omega arith) (omega arith)
+      ∙ ap (λ k. stretches u (none ++ (front ++ replicate k 0))) count
       ∙ pieces-append add_stretch u (none ++ front) (none ++ none) (omega (arith, place, length-append none front))
       ∙ pieces-one add_stretch from (none ++ none) refl ∙ none-added from from-in
 
   to-is : (to : List ℕ) → AreFourWords to
       → chunks_from to (take (176 - length front) (put_at 16 back (replicate 192 0))) ≡ stretches to behind
   to-is to to_in =
-      let n = length front in
+      let n = 176 - length front in
       let before = unmixed to to_in in
-      let count : 192 - (16 + length back) ≡ 176 - length back = omega arith in
-      let filled : put_at 16 back (replicate 192 0) ≡ none ++ zero_filled 176 back =
-      ap (λ (z : List ℕ). none ++ (back ++ z)) (drop-replicate {X = ℕ} (16 + length back) 192 0 ∙ ap (λ k. replicate k 0) count) in
-      let places : 176 - n ≡ 16 + (160 - n) = omega arith in
-      let zeros : 176 - n - (160 - n) ≡ 16 = omega arith in
-      let rest : zero_filled (160 - n) back ++ none ≡ behind =
-      sym (zero_filled-longer (160 - n) (176 - n) back (omega arith) (omega arith)
-      ∙ ap (λ k. zero_filled (160 - n) back ++ replicate k 0) zeros) in
-      ap (chunks_from to) (ap₂ (λ (k : ℕ) (z : List ℕ). take k z) places filled
-      ∙ take-append-add none (zero_filled 176 back) (160 - n)
-      ∙ ap (λ (z : List ℕ). none ++ z) (take-zero_filled (160 - n) 176 back (omega arith) (omega arith)))
-      ∙ chunks-are to to_in ((176 - n) / 32) (none ++ zero_filled (160 - n) back)
-      (omega (arith, place, length-append none (zero_filled (160 - n) back), length-zero_filled (160 - n) back))
-      ∙ ap (λ (z : List ℕ). stretches (unmix to) ((none ++ none) ++ z)) rest
+      let size = length-append none back in
+      let all : 192 - (16 + length back) ≡ 192 - length (none ++ back) = omega (arith, size) in
+      let count : n + 16 - length (none ++ back) ≡ n - length back = omega (arith, size) in
+      ap (λ (z : List ℕ). chunks_from to (take n (none ++ (back ++ z))))
+      (drop-replicate {X = ℕ} (16 + length back) 192 0 ∙ ap (λ k. replicate k 0) all)
+      ∙ ap (chunks_from to) (take-zero_filled n 192 (none ++ back) (omega (arith, size)) (omega arith))
+      ∙ chunks-are to to_in n (none ++ back) (omega arith) (omega (arith, size))
+      ∙ ap (λ k. stretches (unmix to) ((none ++ none) ++ (back ++ replicate k 0))) count
       ∙ pieces-then add_stretch (unmix to) (none ++ none) behind refl
       ∙ ap (λ (k : List ℕ). stretches k behind) (none-added (unmix to) before.0 ∙ before.1)
 

@@ -174,13 +174,16 @@ by_stretches (suc k) u p text u_in p_len len =
     ∙ sym (ap (λ t. fold f (add_first (short_mix u) p) (pieces 32 t)) (split ∙ sym (append_assoc a b rest))
     ∙ pieces-then f (add_first (short_mix u) p) (a ++ b) rest whole)
 
-pub chunks-are : (h : List ℕ) → AreFourWords h → (k : ℕ) (text : List ℕ) → length text ≡ k * 32
-    → chunks_from h text ≡ stretches (unmix h) (none ++ (text ++ none))
+-- the chunks of a text that is filled up to n bytes
+pub chunks-are : (h : List ℕ) → AreFourWords h → (n : ℕ) (text : List ℕ) → n % 32 ≡ 0 → length text ≤ n
+    → chunks_from h (zero_filled n text) ≡ stretches (unmix h) (none ++ zero_filled (n + 16) text)
 unfolding chunks_from
-chunks-are h h_in k text len =
+chunks-are h h_in n text whole fits =
     let before = unmixed h h_in in
-    sym (by_stretches k (unmix h) none text before.0 refl len
-    ∙ ap (λ (s : List ℕ). fold f s (pieces 32 text)) (ap (λ (s : List ℕ). add_first s none) before.1 ∙ (none-adds h h_in).0))
+    sym (ap (λ (t : List ℕ). stretches (unmix h) (none ++ t)) (zero_filled-longer n 16 text fits)
+    ∙ by_stretches (n / 32) (unmix h) none (zero_filled n text) before.0 refl (omega (arith, length-zero_filled n text fits))
+    ∙ ap (λ (s : List ℕ). fold f s (pieces 32 (zero_filled n text)))
+    (ap (λ (s : List ℕ). add_first s none) before.1 ∙ (none-adds h h_in).0))
 
 -- what leads to the start from two seeds by a mix
 abbrev pub seeded : ℕ → ℕ → List ℕ
@@ -192,8 +195,7 @@ seeded-in seed1 seed2 s1 s2 = (unmixed (start_of seed1 seed2) (start-AreFourWord
 pub short_start-is : (seed1 seed2 : ℕ) (text : List ℕ) → seed1 < 2 ^ 64 → seed2 < 2 ^ 64 → length text ≤ 192
     → short_start seed1 seed2 text ≡ stretches (seeded seed1 seed2) (none ++ zero_filled 208 text)
 short_start-is seed1 seed2 text s1 s2 few =
-    chunks-are (start_of seed1 seed2) (start-AreFourWords seed1 seed2 s1 s2) 6 (zero_filled 192 text) (length-zero_filled 192 text few)
-    ∙ ap (λ (t : List ℕ). stretches (seeded seed1 seed2) (none ++ t)) (sym (zero_filled-longer 192 208 text few (lit< tt)))
+    chunks-are (start_of seed1 seed2) (start-AreFourWords seed1 seed2 s1 s2) 192 text refl few
 
 -- ---- the length and the last mix
 
