@@ -1,5 +1,5 @@
 -- Texts of one length that are filled up with zeros.
-use Rattle.std.proofs.Common.{◌≡◌, ℕ, lit<, ◌+◌, ◌-◌, ◌≤◌, List, ◌++◌, length, slice_index, take, replicate, refl, sym, ap, ◌∙◌, arith, inl, inr, ⊎_elim, length-append}
+use Rattle.std.proofs.Common.{◌≡◌, ◌+◌, ◌-◌, ◌≤◌, ◌++◌, ◌∙◌, ℕ, lit<, List, length, slice_index, take, replicate, refl, sym, ap, arith, inl, inr, ⊎_elim, length-append}
 use Rattle.std.proofs.lemmas.Bool.{cases_lt}
 use Rattle.std.proofs.lemmas.List.{append_assoc, length-replicate, replicate-append-replicate, take_at, get_or_append_left, get_or-append_right}
 use Rattle.std.proofs.lemmas.List.Elements.{All-append, All-replicate}

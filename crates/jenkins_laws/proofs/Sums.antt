@@ -1,9 +1,7 @@
 -- Words that are added to as many others: each sum is that of one list of words, and a text of as many words is known by it.
-use Rattle.std.proofs.Common.{◌≡◌, ℕ, ◌*◌, ◌^◌, ◌<◌, List, [], ◌∷◌, length, slice_index, slice_set, map, All, refl, sym, ◌∙◌, arith, add_comm, add-zero}
+use Rattle.std.proofs.Common.{◌≡◌, ◌*◌, ◌^◌, ◌<◌, ◌∷◌, ◌∙◌, ℕ, List, [], length, slice_index, slice_set, map, All, refl, sym, arith, add_comm, add-zero}
 use Rattle.std.specs.List.{AllByRecursion, flat_map}
 use Rattle.std.specs.Int.{Width, to_le_bytes}
-use Rattle.hash_laws.specs.Text.{IsText}
-use Rattle.hash_laws.proofs.TextLemmas.{IsByte, IsText-to_le_bytes}
 use Rattle.std.specs.Simd.{first_chunks}
 use Rattle.std.proofs.Math.Nat.{mod-eq_of_lt}
 use Rattle.std.proofs.lemmas.List.{set-get_or, length-map}
@@ -12,6 +10,8 @@ use Rattle.hash_words.specs.Words.{add, le}
 use Rattle.hash_words.proofs.PieceLemmas.{IsPiece, le-lt, length-first_chunks, first_chunks-pieces}
 use Rattle.hash_rounds.specs.Steps.{Step, AddData, AreSteps, apply, undo}
 use Rattle.hash_rounds.proofs.RoundLemmas.{AreNWords, words-listed, stepped-same, stepped-back}
+use Rattle.hash_laws.specs.Text.{IsText}
+use Rattle.hash_laws.proofs.TextLemmas.{IsByte, IsText-to_le_bytes}
 use Rattle.jenkins_laws.specs.Stretch.{missing}
 
 pub add-nothing : (w i : ℕ) (s : List ℕ) → slice_index s i < 2 ^ w → slice_set s i (add w (slice_index s i) 0) ≡ s
