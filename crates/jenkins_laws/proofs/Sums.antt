@@ -1,15 +1,16 @@
 -- Words that are added to as many others: each sum is that of one list of words, and a text of as many words is known by it.
-use Rattle.std.proofs.Common.{◌≡◌, ◌*◌, ◌^◌, ◌<◌, ◌∷◌, ◌∙◌, ℕ, List, [], length, slice_index, slice_set, map, All, refl, sym, arith, add_comm, add-zero}
-use Rattle.std.specs.List.{AllByRecursion, flat_map}
+use Rattle.std.proofs.Common.{◌≡◌, ◌*◌, ◌^◌, ◌<◌, ◌∷◌, ◌∙◌, ℕ, List, [], length, get_or, slice_index, slice_set, map, refl, sym, arith, add_comm, add-zero}
+use Rattle.std.specs.List.{flat_map}
 use Rattle.std.specs.Int.{Width, to_le_bytes}
 use Rattle.std.specs.Simd.{first_chunks}
 use Rattle.std.proofs.Math.Nat.{mod-eq_of_lt}
 use Rattle.std.proofs.lemmas.List.{set-get_or, length-map}
-use Rattle.std.proofs.lemmas.List.Elements.{All-nil, All-append, All-head, All-tail}
+use Rattle.std.proofs.lemmas.List.Elements.{All-nil, All-append, All-map}
 use Rattle.hash_words.specs.Words.{add, le}
+use Rattle.hash_words.proofs.WordLemmas.{AreWords-at}
 use Rattle.hash_words.proofs.PieceLemmas.{IsPiece, le-lt, length-first_chunks, first_chunks-pieces}
 use Rattle.hash_rounds.specs.Steps.{Step, AddData, AreSteps, apply, undo}
-use Rattle.hash_rounds.proofs.RoundLemmas.{AreNWords, words-listed, stepped-same, stepped-back}
+use Rattle.hash_rounds.proofs.RoundLemmas.{AreNWords, stepped-same, stepped-back}
 use Rattle.hash_laws.specs.Text.{IsText}
 use Rattle.hash_laws.proofs.TextLemmas.{IsByte, IsText-to_le_bytes}
 use Rattle.jenkins_laws.specs.Stretch.{missing}
@@ -19,18 +20,14 @@ add-nothing w i s s_in = rw (add-zero (slice_index s i), mod-eq_of_lt s_in) (set
 
 -- ---- the words of a text of k pieces of n bytes
 
-module _ (w n k : ℕ) (size : 256 ^ n ≡ 2 ^ w) where
-  each-lt : (cs : List (List ℕ)) → All (IsPiece n) cs → AllByRecursion (λ x. x < 2 ^ w) (map le cs)
-  each-lt [] are = tt
-  each-lt (c ∷ cs) are =
-      let here = All-head (IsPiece n) c cs are in
-      (rw (here.1, size) at (le-lt c here.0), each-lt cs (All-tail (IsPiece n) c cs are))
-
-  pub words-in : (c : List ℕ) → IsPiece (k * n) c → AreNWords w k (map le (first_chunks n k c))
-  words-in c is = (
-    length-map (first_chunks n k c) le ∙ length-first_chunks n k c,
-    (words-listed w _ (each-lt (first_chunks n k c) (first_chunks-pieces n k c is.0 (omega (arith, is.1))))).1,
-  )
+pub words-in : (w n k : ℕ) → 256 ^ n ≡ 2 ^ w → (c : List ℕ) → IsPiece (k * n) c → AreNWords w k (map le (first_chunks n k c))
+words-in w n k size c is =
+    let cs = first_chunks n k c in
+    let are = first_chunks-pieces n k c is.0 (omega (arith, is.1)) in (
+      length-map cs le ∙ length-first_chunks n k c,
+      AreWords-at w (map le cs) (All-map (λ x. x < 2 ^ w) le cs (λ i d i_in.
+          let here = are i d i_in in rw (here.1, size) at (le-lt (get_or cs i d) here.0))),
+    )
 
 pub bytes_of-text : (w : Width) (words : List ℕ) → IsText (flat_map (to_le_bytes w) words)
 bytes_of-text w [] = All-nil IsByte
