@@ -21,9 +21,9 @@ use Rattle.hash_jenkins.specs.Filled.{zero_filled}
 use Rattle.hash_jenkins.specs.Lookup3.{add_block, last_block, lookup3_answer, lookup3_from, lookup3_piece, lookup3_words, mix_block, start, third_word}
 use Rattle.hash_jenkins.specs.Lookup3Laws.{AreThreeWords, add_block-AreThreeWords, apply-AreThreeWords, lookup3_final-steps, lookup3_mix-steps, lookup3_words-AreThreeWords, start-AreThreeWords}
 use Rattle.hash_jenkins.proofs.Lookup3Lemmas.{drop_eight}
-use Rattle.jenkins_laws.specs.Stretch.{missing}
+use Rattle.jenkins_laws.specs.Stretch.{differences}
 use Rattle.jenkins_laws.proofs.FilledLemmas.{filled-piece, filled-same}
-use Rattle.jenkins_laws.proofs.Sums.{bytes_of-text, add-nothing, difference-added, exchanged_3, missing_3-is, sum-same, sums_3, words-in}
+use Rattle.jenkins_laws.proofs.Sums.{bytes_of-text, add-nothing, difference-added, exchanged_3, differences_3-are, sum-same, sums_3, words-in}
 
 -- ---- the words of a block
 
@@ -135,7 +135,7 @@ module _ (pc pb : ℕ) where
   unmixed words = apply 32 (undo 32 rounds.lookup3_mix_steps) [] (apply 32 (undo 32 rounds.lookup3_final_steps) [] words)
 
   abbrev pub block_to : List ℕ → List ℕ
-  block_to words = block_of (missing 32 3 first (unmixed words))
+  block_to words = block_of (differences 32 3 first (unmixed words))
 
   block_to-words : (words : List ℕ) → AreThreeWords words → lookup3_words pc pb (block_to words) ≡ words
   block_to-words words words_in =
@@ -146,7 +146,7 @@ module _ (pc pb : ℕ) where
       let added : add_block first (block_to words) ≡ to =
       add_block-is first (block_to words)
       ∙ ap (λ (d : List ℕ). apply 32 sums_3 d first)
-      (block_of-words _ _ _ (below _) (below _) (below _) ∙ sym (missing_3-is first to mixed.0.0))
+      (block_of-words _ _ _ (below _) (below _) (below _) ∙ sym (differences_3-are first to mixed.0.0))
       ∙ difference-added 32 3 sums_3 refl exchanged_3 first first_in to mixed.0 in
       words-block (block_to words) refl ∙ ap final (ap (apply 32 rounds.lookup3_mix_steps []) added ∙ mixed.1) ∙ ended.1
 
@@ -197,7 +197,7 @@ module _ (pc pb : ℕ) where
         → third_word (pc, pb) other ≡ third → other ≡ block
     block-alone other text twelve led is =
         let answered = sym (ap lookup3_answer (from-block other twelve)) ∙ led in
-        blocks-same other block (text, twelve) (bytes_of-text w32 (missing 32 3 first (unmixed (wanted answer third))), refl)
+        blocks-same other block (text, twelve) (bytes_of-text w32 (differences 32 3 first (unmixed (wanted answer third))), refl)
         (wanted-are (lookup3_words pc pb other) (lookup3_words-AreThreeWords pc pb other) ∙ ap₂ wanted answered is ∙ sym there)
 
   -- a block for each third word
@@ -207,7 +207,7 @@ module _ (pc pb : ℕ) where
     value = λ third. block_to (wanted answer third);
     number = third_word (pc, pb);
     value_has = λ third third_in. (
-      bytes_of-text w32 (missing 32 3 first (unmixed (wanted answer third))),
+      bytes_of-text w32 (differences 32 3 first (unmixed (wanted answer third))),
       refl,
       block-leads answer third answer_in third_in,
     );

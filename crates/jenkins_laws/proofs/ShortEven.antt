@@ -18,7 +18,7 @@ use Rattle.hash_jenkins.specs.Spooky.{chunks_from, first_two, short_words, spook
 use Rattle.jenkins_laws.specs.Stretch.{missing, stretch_of}
 use Rattle.jenkins_laws.proofs.FilledLemmas.{filled-piece, take-zero_filled}
 use Rattle.jenkins_laws.proofs.ShortStretches.{ended, ended-same, ended-led, add_stretch, add_stretch-in, add_stretch-piece, chunks-are, mixed-in, none, none-added, pieces-append, pieces-one, pieces-then, seeded, seeded-in, four, short_start-is, stretches, stretches-in, stretches-led, stretches-same, unmix, unmixed}
-use Rattle.jenkins_laws.proofs.Sums.{bytes_of-text, sums_4, exchanged_4, difference-added, missing_4-is}
+use Rattle.jenkins_laws.proofs.Sums.{bytes_of-text, sums_4, exchanged_4, difference-added, missing-is}
 use Rattle.jenkins_laws.proofs.Zeros.{add_at-AreFourWords, short_start-AreFourWords, start_of, start-AreFourWords}
 
 -- ---- four words as a stretch
@@ -31,11 +31,11 @@ stretch_of-four a b c d a_in b_in c_in d_in =
 below : (n : ℕ) → n % 2 ^ 64 < 2 ^ 64
 below n = mod_below n (2 ^ 64) (pow_pos 64)
 
-missing-added : (h to : List ℕ) → AreFourWords h → AreFourWords to → add_stretch h (stretch_of (missing 64 4 (short_mix h) to)) ≡ to
+missing-added : (h to : List ℕ) → AreFourWords h → AreFourWords to → add_stretch h (stretch_of (missing (short_mix h) to)) ≡ to
 missing-added h to h_in to_in =
     let m = short_mix h in
     ap (λ (d : List ℕ). apply 64 sums_4 d m)
-    (stretch_of-four _ _ _ _ (below _) (below _) (below _) (below _) ∙ sym (missing_4-is m to to_in.0))
+    (stretch_of-four _ _ _ _ (below _) (below _) (below _) (below _) ∙ sym (missing-is m to to_in.0))
     ∙ difference-added 64 4 sums_4 refl exchanged_4 m (mixed-in h h_in) to to_in
 
 -- ---- a stretch between a front and a back
@@ -76,8 +76,8 @@ module _ (seed1 seed2 : ℕ) (front back : List ℕ) (s1 : seed1 < 2 ^ 64) (s2 :
 
   -- where four words lead to the end, what is missing to them is the stretch
   leads : (to words : List ℕ) → AreFourWords to → led to ≡ words
-      → short_words seed1 seed2 (text_of (stretch_of (missing 64 4 (short_mix from) to))) ≡ words
-  leads to words to_in is = words-are (stretch_of (missing 64 4 (short_mix from) to)) refl ∙ ap led (missing-added from to from-in to_in) ∙ is
+      → short_words seed1 seed2 (text_of (stretch_of (missing (short_mix from) to))) ≡ words
+  leads to words to_in is = words-are (stretch_of (missing (short_mix from) to)) refl ∙ ap led (missing-added from to from-in to_in) ∙ is
 
   module _ (back_text : IsText back) where
     behind-text : IsText behind
@@ -100,7 +100,7 @@ module _ (seed1 seed2 : ℕ) (front back : List ℕ) (s1 : seed1 < 2 ^ 64) (s2 :
         let n = length front + 32 + length back in
         let end = ended-led n (omega arith) words words_in in
         let to = stretches-led behind end.0 behind-text end.1 in
-        let d = missing 64 4 (short_mix from) to.0 in
+        let d = missing (short_mix from) to.0 in
         (stretch_of d, (bytes_of-text w64 d, refl), leads to.0 words to.1 (ap (ended n) to.2 ∙ end.2))
 
   -- ---- what a call finds
@@ -135,9 +135,9 @@ module _ (seed1 seed2 : ℕ) (front back : List ℕ) (s1 : seed1 < 2 ^ 64) (s2 :
   pub found : (got end to words : List ℕ) → got ≡ chunks_from (start_of seed1 seed2) (take (length front + 16) (zero_filled 192 front))
       → ended (length front + 32 + length back) end ≡ words
       → chunks_from to (take (176 - length front) (put_at 16 back (replicate 192 0))) ≡ end → AreFourWords to
-      → short_words seed1 seed2 (text_of (stretch_of (missing 64 4 got to))) ≡ words
+      → short_words seed1 seed2 (text_of (stretch_of (missing got to))) ≡ words
   found got end to words before after there to_in =
-      ap (λ (h : List ℕ). short_words seed1 seed2 (text_of (stretch_of (missing 64 4 h to)))) (before ∙ got-is)
+      ap (λ (h : List ℕ). short_words seed1 seed2 (text_of (stretch_of (missing h to)))) (before ∙ got-is)
       ∙ leads to words to_in (ap (ended (length front + 32 + length back)) (sym (to-is to to_in) ∙ there) ∙ after)
 
   -- ---- the hash, and what is left out

@@ -13,7 +13,7 @@ use Rattle.hash_rounds.specs.Steps.{Step, AddData, AreSteps, apply, undo}
 use Rattle.hash_rounds.proofs.RoundLemmas.{AreNWords, stepped-same, stepped-back}
 use Rattle.hash_laws.specs.Text.{IsText}
 use Rattle.hash_laws.proofs.TextLemmas.{IsByte, IsText-to_le_bytes}
-use Rattle.jenkins_laws.specs.Stretch.{missing}
+use Rattle.jenkins_laws.specs.Stretch.{differences, missing}
 
 pub add-nothing : (w i : ℕ) (s : List ℕ) → slice_index s i < 2 ^ w → slice_set s i (add w (slice_index s i) 0) ≡ s
 add-nothing w i s s_in = rw (add-zero (slice_index s i), mod-eq_of_lt s_in) (set-get_or s i 0)
@@ -69,12 +69,12 @@ module _ (w n : ℕ) (sums : List Step) (are : AreSteps w n n sums)
 
 -- ---- what is to be added to words for others
 
-pub missing_3-is : (from to : List ℕ) → length to ≡ 3 → apply 32 (undo 32 sums_3) from to ≡ missing 32 3 from to
+pub differences_3-are : (from to : List ℕ) → length to ≡ 3 → apply 32 (undo 32 sums_3) from to ≡ differences 32 3 from to
 unfolding apply undo
-missing_3-is from (a ∷ b ∷ c ∷ []) len = refl
-missing_3-is from to len = absurd (omega arith)
+differences_3-are from (a ∷ b ∷ c ∷ []) len = refl
+differences_3-are from to len = absurd (omega arith)
 
-pub missing_4-is : (from to : List ℕ) → length to ≡ 4 → apply 64 (undo 64 sums_4) from to ≡ missing 64 4 from to
+pub missing-is : (from to : List ℕ) → length to ≡ 4 → apply 64 (undo 64 sums_4) from to ≡ missing from to
 unfolding apply undo
-missing_4-is from (a ∷ b ∷ c ∷ d ∷ []) len = refl
-missing_4-is from to len = absurd (omega arith)
+missing-is from (a ∷ b ∷ c ∷ d ∷ []) len = refl
+missing-is from to len = absurd (omega arith)

@@ -43,7 +43,7 @@ fn un_add_chunks(h: &mut [u64; 4], text: &[u8])
 
 // The bytes of what is missing from four words to four others.
 fn missing(from: &[u64; 4], to: &[u64; 4]) -> [u8; 32]
-    ensures bytes { result ≡ stretch_of (missing 64 4 from.now to.now) }
+    ensures bytes { result ≡ stretch_of (missing from.now to.now) }
     ensures words { (i : ℕ) → slice_index to.now i < 2 ^ 64 }
 {
     let mut stretch = [0; 32];

@@ -20,5 +20,5 @@ returns c =
       leads = leads;
       alone = λ stretch text len led.
           alone seed1 seed2 front back (omega arith) (omega arith) c.requires.place c.requires.few (IsText-from_slice back c.type_inv.back)
-          stretch (stretch_of (missing 64 4 got to)) (text, len) (bytes_of-text w64 (missing 64 4 got to), refl) (led ∙ sym leads);
+          stretch (stretch_of (missing got to)) (text, len) (bytes_of-text w64 (missing got to), refl) (led ∙ sym leads);
     })
