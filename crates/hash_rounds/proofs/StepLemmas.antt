@@ -190,7 +190,8 @@ module _ (w : ℕ) (d : List ℕ) (d_in : AreWords w d) where
       sym (apply_undo ts s h s_in) ∙ ap (apply w (undo w ts) d) same ∙ apply_undo ts s' (rw same_len h) s'_in
 
 module _ (w n m : ℕ) where
-  AreSteps-undo : (ts : List Step) → AreSteps w n m ts → AreSteps w n m (undo w ts)
+  -- the opposites are such steps too
+  pub AreSteps-undo : (ts : List Step) → AreSteps w n m ts → AreSteps w n m (undo w ts)
   AreSteps-undo [] h = rw (undo-nil w) refl
   AreSteps-undo (t ∷ ts) h =
       let parts = and_parts (is_step w n m t) (list_all (is_step w n m) ts) h in

@@ -1,6 +1,6 @@
 pub mod FilledLemmas
 pub mod Lookup3Blocks
-pub mod Lookup3Even
 pub mod ShortEven
 pub mod ShortStretches
+pub mod Sums
 pub mod Zeros

@@ -1,11 +1,12 @@
 -- Zeros at the end of a short text show in its four words: no two states of four words end alike.
-use Rattle.std.proofs.Common.{◌≡◌, ℕ, zero, suc, lit<, ◌+◌, ◌-◌, ◌*◌, ◌%◌, ◌^◌, ◌<◌, ◌≤◌, nat_lt, true, List, [], ◌∷◌, ◌++◌, length, take, replicate, fold, get_or, slice_index, refl, ap, ◌∙◌, arith, length-append}
+use Rattle.std.proofs.Common.{◌≡◌, ◌+◌, ◌-◌, ◌*◌, ◌%◌, ◌^◌, ◌<◌, ◌≤◌, ◌∷◌, ◌++◌, ◌∙◌, ℕ, lit<, nat_lt, true, List, [], length, replicate, fold, get_or, slice_index, refl, ap, arith, length-append}
 use Rattle.std.proofs.lemmas.Bool.Decides.{nat_tests}
-use Rattle.std.proofs.lemmas.List.{append_assoc, length-replicate, replicate-append-replicate, length-set, get_or-set_same, take_at}
+use Rattle.std.proofs.lemmas.List.{append_assoc, length-replicate, replicate-append-replicate, length-set, get_or-set_same}
 use Rattle.std.proofs.lemmas.Grind.{common_steps}
 use Rattle.hash_words.specs.Pieces.{pieces, le_words}
 use Rattle.hash_words.specs.Words.{add_at}
-use Rattle.hash_rounds.proofs.RoundLemmas.{AreFourWords, short_mix-AreFourWords, short_end-same}
+use Rattle.hash_rounds.specs.Rounds as rounds
+use Rattle.hash_rounds.proofs.RoundLemmas.{AreFourWords, words-listed, no_data, short_mix-steps, short_end-steps, stepped-AreFourWords, stepped-same}
 use Rattle.hash_jenkins.specs.Filled.{zero_filled}
 use Rattle.hash_jenkins.specs.Spooky.{add_chunk, chunks_from, short_start, spooky_v1}
 use Rattle.jenkins_laws.specs.Zeros.{AddsZeros, HaveOtherWords}
@@ -22,43 +23,33 @@ zero_filled_more x n fits =
     let count : n + (192 - (length x + n)) ≡ 192 - length x = omega arith in
     rw (size, append_assoc, replicate-append-replicate, count) refl
 
--- a text that is filled up to n bytes, and on
-pub take-zero_filled : (n m : ℕ) (x : List ℕ) → length x ≤ n → n ≤ m → take n (zero_filled m x) ≡ zero_filled n x
-take-zero_filled n m x fits le =
-    let size : length (zero_filled n x) ≡ n
-    = omega (arith, length-append x (replicate (n - length x) 0), length-replicate {A = ℕ} (n - length x) 0) in
-    let count : m - length x ≡ (n - length x) + (m - n) = omega arith in
-    let more : zero_filled m x ≡ zero_filled n x ++ replicate (m - n) 0 =
-    rw (append_assoc, replicate-append-replicate, count) refl in
-    rw more (take_at (zero_filled n x) (replicate (m - n) 0) n size)
+abbrev pub start_of : ℕ → ℕ → List ℕ
+start_of seed1 seed2 = seed1 ∷ seed2 ∷ 0xdeadbeefdeadbeef ∷ 0xdeadbeefdeadbeef ∷ []
 
-pub start_below : (seed1 seed2 : ℕ) → seed1 < 2 ^ 64 → seed2 < 2 ^ 64 → (i : ℕ)
-    → slice_index (seed1 ∷ seed2 ∷ 0xdeadbeefdeadbeef ∷ 0xdeadbeefdeadbeef ∷ []) i < 2 ^ 64
-start_below seed1 seed2 s1 s2 zero = s1
-start_below seed1 seed2 s1 s2 (suc zero) = s2
-start_below seed1 seed2 s1 s2 (suc (suc zero)) = lit< tt
-start_below seed1 seed2 s1 s2 (suc (suc (suc zero))) = lit< tt
-start_below seed1 seed2 s1 s2 (suc (suc (suc (suc i)))) = lit< tt
+pub start-AreFourWords : (seed1 seed2 : ℕ) → seed1 < 2 ^ 64 → seed2 < 2 ^ 64
+    → AreFourWords (start_of seed1 seed2)
+start-AreFourWords seed1 seed2 s1 s2 = words-listed 64 (start_of seed1 seed2) (s1, (s2, (lit< tt, (lit< tt, tt))))
 
 -- two lengths are told apart in a word
 lengths_apart : (s a b : ℕ) → a < 192 → b < 192 → (s + a * 2 ^ 56) % 2 ^ 64 ≡ (s + b * 2 ^ 56) % 2 ^ 64 → a ≡ b
 lengths_apart s a b la lb e = omega arith
 
-pub add_chunk-AreFourWords : (h w : List ℕ) → AreFourWords h → AreFourWords (add_chunk h w)
+add_chunk-AreFourWords : (h w : List ℕ) → AreFourWords h → AreFourWords (add_chunk h w)
 add_chunk-AreFourWords h w a =
     let before = add_at-AreFourWords _ 3 (slice_index w 1) (add_at-AreFourWords h 2 (slice_index w 0) a) in
-    add_at-AreFourWords _ 1 _ (add_at-AreFourWords _ 0 _ (short_mix-AreFourWords _ before))
+    add_at-AreFourWords _ 1 _ (add_at-AreFourWords _ 0 _ (stepped-AreFourWords _ before rounds.short_mix_steps short_mix-steps))
 
-pub fold-AreFourWords : (h : List ℕ) (chunks : List (List ℕ)) → AreFourWords h
-    → AreFourWords (fold (λ k chunk. add_chunk k (le_words chunk)) h chunks)
-fold-AreFourWords h [] a = a
-fold-AreFourWords h (c ∷ cs) a = fold-AreFourWords (add_chunk h (le_words c)) cs (add_chunk-AreFourWords h (le_words c) a)
+pub fold-AreFourWords : (g : List ℕ → List ℕ → List ℕ) → ((h c : List ℕ) → AreFourWords h → AreFourWords (g h c))
+    → (cs : List (List ℕ)) (h : List ℕ) → AreFourWords h → AreFourWords (fold g h cs)
+fold-AreFourWords g kept [] h h_in = h_in
+fold-AreFourWords g kept (c ∷ cs) h h_in = fold-AreFourWords g kept cs (g h c) (kept h c h_in)
 
 pub short_start-AreFourWords : (seed1 seed2 : ℕ) (text : List ℕ) → seed1 < 2 ^ 64 → seed2 < 2 ^ 64
     → AreFourWords (short_start seed1 seed2 text)
 unfolding chunks_from
-short_start-AreFourWords seed1 seed2 text s1 s2 = fold-AreFourWords _ (pieces 32 (zero_filled 192 text))
-    (refl, start_below seed1 seed2 s1 s2)
+short_start-AreFourWords seed1 seed2 text s1 s2 =
+    fold-AreFourWords (λ h c. add_chunk h (le_words c)) (λ h c. add_chunk-AreFourWords h (le_words c)) (pieces 32 (zero_filled 192 text))
+    (start_of seed1 seed2) (start-AreFourWords seed1 seed2 s1 s2)
 
 short_start_more : (seed1 seed2 : ℕ) (x : List ℕ) (n : ℕ) → length x + n ≤ 192
     → short_start seed1 seed2 (x ++ replicate n 0) ≡ short_start seed1 seed2 x
@@ -81,10 +72,8 @@ other_words x y h = λ seed1 seed2 s1 s2 same.
     let w = short_start-AreFourWords seed1 seed2 x s1 s2 in
     let more = start-same x y h seed1 seed2 in
     let one : add_at s 3 (length x * 2 ^ 56) ≡ add_at s 3 (length y * 2 ^ 56) =
-    short_end-same _ _ (add_at-AreFourWords s 3 _ w) (add_at-AreFourWords s 3 _ w) (rw more at same) in
-    let word = rw (
-      get_or-set_same s 3 ((slice_index s 3 + length x * 2 ^ 56) % 2 ^ 64) 0 (omega (arith, w.0)),
-      get_or-set_same s 3
-          ((slice_index s 3 + length y * 2 ^ 56) % 2 ^ 64) 0 (omega (arith, w.0)),
-    ) at (ap (λ (k : List ℕ). get_or k 3 0) one) in
+    stepped-same 64 4 0 [] (no_data 64) rounds.short_end_steps short_end-steps _ _ (add_at-AreFourWords s 3 _ w)
+    (add_at-AreFourWords s 3 _ w) (rw more at same) in
+    let fits : 3 < length s = omega (arith, w.0) in
+    let word = rw (get_or-set_same, get_or-set_same) at (ap (λ (k : List ℕ). get_or k 3 0) one) in
     absurd (omega (arith, lengths_apart (slice_index s 3) (length x) (length y) (omega arith) (omega arith) word))

@@ -1,17 +1,17 @@
 -- The stretch that adds four words to SpookyHash's four, between two mixes of a text below 192 bytes.
-use Rattle.std.specs.Prelude.{ℕ, List, [], ◌∷◌, ◌++◌, slice_index}
+use Rattle.std.specs.Prelude.{ℕ, List, map, slice_index}
+use Rattle.std.specs.List.{flat_map, range_with_len}
 use Rattle.std.specs.Int.{to_le_bytes, w64}
 use Rattle.hash_words.specs.Words.{sub}
 
+-- what is to be added to n words of w bits for n others, word by word
+abbrev pub differences : ℕ → ℕ → List ℕ → List ℕ → List ℕ
+differences w n from to = map (λ i. sub w (slice_index to i) (slice_index from i)) (range_with_len 0 n)
+
 -- what is to be added to four words
 abbrev pub missing : List ℕ → List ℕ → List ℕ
-missing from to =
-    sub 64 (slice_index to 0) (slice_index from 0) ∷ sub 64 (slice_index to 1) (slice_index from 1)
-    ∷ sub 64 (slice_index to 2) (slice_index from 2) ∷ sub 64 (slice_index to 3) (slice_index from 3) ∷ []
+missing from to = differences 64 4 from to
 
--- the bytes of two words, and of four
-abbrev pub bytes_of : ℕ → ℕ → List ℕ
-bytes_of x y = to_le_bytes w64 x ++ to_le_bytes w64 y
-
+-- the bytes of words
 abbrev pub stretch_of : List ℕ → List ℕ
-stretch_of w = bytes_of (slice_index w 0) (slice_index w 1) ++ bytes_of (slice_index w 2) (slice_index w 3)
+stretch_of words = flat_map (to_le_bytes w64) words

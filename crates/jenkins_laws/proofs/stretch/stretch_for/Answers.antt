@@ -1,7 +1,8 @@
-use Rattle.std.proofs.Common.{◌∙◌, sym, arith}
+use Rattle.std.proofs.Common.{refl, w64, ◌∙◌, sym, arith}
 use Rattle.hash_laws.proofs.TextLemmas.{IsText-from_slice}
 use Rattle.jenkins_laws.specs.Stretch.{missing, stretch_of}
-use Rattle.jenkins_laws.proofs.ShortEven.{stretch_of-piece, found, stretches-same}
+use Rattle.jenkins_laws.proofs.Sums.{bytes_of-text}
+use Rattle.jenkins_laws.proofs.ShortEven.{found, alone}
 use Rattle.jenkins_laws.proofs.stretch.stretch_for.Goals as goal
 
 pub returns : goal.returns
@@ -12,13 +13,12 @@ returns c =
     let back = c.args.back.now in
     let got = c.add_chunks-from.result in
     let to = c.un_add_chunks.new.h in
-    let leads = found seed1 seed2 front back (omega arith) (omega arith) c.requires.place c.requires.few _ got _ _ to c.args.words
-    c.zero_filled-before.ensures c.add_chunks-from.ensures c.put.ensures c.un_end.ensures c.un_add_chunks.ensures
+    let leads = found seed1 seed2 front back (omega arith) (omega arith) c.requires.place c.requires.few got c.un_end.new.h to c.args.words
+    (rw c.zero_filled-before.ensures at c.add_chunks-from.ensures) c.un_end.ensures (rw c.put.ensures at c.un_add_chunks.ensures)
     (c.un_add_chunks.array_long, c.missing.ensures.words) in
     rw (c.missing.ensures.bytes) (record {
       leads = leads;
       alone = λ stretch text len led.
-          stretches-same seed1 seed2 front back (omega arith) (omega arith) c.requires.place c.requires.few stretch
-          (stretch_of (missing got to)) (IsText-from_slice front c.type_inv.front) (IsText-from_slice back c.type_inv.back) (text, len)
-          (stretch_of-piece (missing got to)) (led ∙ sym leads);
+          alone seed1 seed2 front back (omega arith) (omega arith) c.requires.place c.requires.few (IsText-from_slice back c.type_inv.back)
+          stretch (stretch_of (missing got to)) (text, len) (bytes_of-text w64 (missing got to), refl) (led ∙ sym leads);
     })

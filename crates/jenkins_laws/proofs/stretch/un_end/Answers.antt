@@ -1,7 +1,12 @@
-use Rattle.std.proofs.Common.{refl}
-use Rattle.jenkins_laws.proofs.ShortEven.{end_taken}
+use Rattle.std.proofs.Common.{[], ap, ◌∙◌}
+use Rattle.hash_rounds.specs.Rounds as rounds
+use Rattle.hash_rounds.specs.Spooky.{short_end}
+use Rattle.hash_rounds.proofs.RoundLemmas.{no_data, short_end-steps, stepped-back}
+use Rattle.jenkins_laws.proofs.ShortStretches.{length-back}
 use Rattle.jenkins_laws.proofs.stretch.un_end.Goals as goal
 
 pub returns : goal.returns
-returns c = end_taken c.args.h.now c.un_short_end.new.h _ c.args.len (c.told-h, c.fits-h) c.un_short_end.ensures.round
-    c.un_short_end.ensures.undone refl
+returns c =
+    let mixed = c.un_short_end.ensures in
+    let back = stepped-back 64 4 0 [] (no_data 64) rounds.short_end_steps short_end-steps c.args.h.now (c.told-h, c.fits-h) in
+    ap short_end (length-back c.args.len c.requires c.un_short_end.new.h (rw mixed.round back.0)) ∙ mixed.undone
