@@ -1,7 +1,7 @@
 -- Zeros at the end of a short text show in its four words: no two states of four words end alike.
-use Rattle.std.proofs.Common.{◌≡◌, ◌+◌, ◌-◌, ◌*◌, ◌%◌, ◌^◌, ◌<◌, ◌≤◌, ◌∷◌, ◌++◌, ◌∙◌, ℕ, lit<, nat_lt, true, List, [], length, replicate, fold, get_or, slice_index, refl, ap, arith, length-append}
+use Rattle.std.proofs.Common.{◌≡◌, ◌+◌, ◌-◌, ◌*◌, ◌%◌, ◌^◌, ◌<◌, ◌∷◌, ◌++◌, ◌∙◌, ℕ, lit<, nat_lt, true, List, [], length, replicate, fold, get_or, slice_index, refl, sym, ap, arith}
 use Rattle.std.proofs.lemmas.Bool.Decides.{nat_tests}
-use Rattle.std.proofs.lemmas.List.{append_assoc, length-replicate, replicate-append-replicate, length-set, get_or-set_same}
+use Rattle.std.proofs.lemmas.List.{length-set, get_or-set_same}
 use Rattle.std.proofs.lemmas.Grind.{common_steps}
 use Rattle.hash_words.specs.Pieces.{pieces, le_words}
 use Rattle.hash_words.specs.Words.{add_at}
@@ -9,19 +9,12 @@ use Rattle.hash_rounds.specs.Rounds as rounds
 use Rattle.hash_rounds.proofs.RoundLemmas.{AreFourWords, words-listed, no_data, short_mix-steps, short_end-steps, stepped-AreFourWords, stepped-same}
 use Rattle.hash_jenkins.specs.Filled.{zero_filled}
 use Rattle.hash_jenkins.specs.Spooky.{add_chunk, chunks_from, short_start, spooky_v1}
+use Rattle.jenkins_laws.proofs.FilledLemmas.{zero_filled-longer}
 use Rattle.jenkins_laws.specs.Zeros.{AddsZeros, HaveOtherWords}
 
 pub add_at-AreFourWords : (h : List ℕ) (i x : ℕ) → AreFourWords h → AreFourWords (add_at h i x)
 add_at-AreFourWords h i x w =
     (length-set h i ((slice_index h i + x) % 2 ^ 64) ∙ w.0, λ j. let old = w.1 j in grind (arith, common_steps))
-
--- zeros that are written out, or filled in
-zero_filled_more : (x : List ℕ) (n : ℕ) → length x + n ≤ 192 → zero_filled 192 (x ++ replicate n 0) ≡ zero_filled 192 x
-zero_filled_more x n fits =
-    let zeros : List ℕ = replicate n 0 in
-    let size : length (x ++ zeros) ≡ length x + n = omega (arith, length-append x zeros, length-replicate {A = ℕ} n 0) in
-    let count : n + (192 - (length x + n)) ≡ 192 - length x = omega arith in
-    rw (size, append_assoc, replicate-append-replicate, count) refl
 
 abbrev pub start_of : ℕ → ℕ → List ℕ
 start_of seed1 seed2 = seed1 ∷ seed2 ∷ 0xdeadbeefdeadbeef ∷ 0xdeadbeefdeadbeef ∷ []
@@ -51,14 +44,14 @@ short_start-AreFourWords seed1 seed2 text s1 s2 =
     fold-AreFourWords (λ h c. add_chunk h (le_words c)) (λ h c. add_chunk-AreFourWords h (le_words c)) (pieces 32 (zero_filled 192 text))
     (start_of seed1 seed2) (start-AreFourWords seed1 seed2 s1 s2)
 
-short_start_more : (seed1 seed2 : ℕ) (x : List ℕ) (n : ℕ) → length x + n ≤ 192
-    → short_start seed1 seed2 (x ++ replicate n 0) ≡ short_start seed1 seed2 x
-unfolding chunks_from
-short_start_more seed1 seed2 x n fits = rw (zero_filled_more x n fits) refl
-
 module _ (x y : List ℕ) (h : AddsZeros x y) (seed1 seed2 : ℕ) where
+  -- zeros that are written out, or filled in
   pub start-same : short_start seed1 seed2 y ≡ short_start seed1 seed2 x
-  start-same = rw h.2 (short_start_more seed1 seed2 x (length y - length x) (omega arith))
+  start-same =
+      let n = 192 - length y in
+      let whole : length y + n ≡ 192 = omega arith in
+      ap (λ (z : List ℕ). chunks_from (start_of seed1 seed2) (z ++ replicate n 0)) h.2
+      ∙ ap (chunks_from (start_of seed1 seed2)) (sym (zero_filled-longer (length y) n x (omega arith)) ∙ ap (λ m. zero_filled m x) whole)
 
   pub same_by_version_1 : spooky_v1 seed1 seed2 x ≡ spooky_v1 seed1 seed2 y
   same_by_version_1 =
