@@ -9,7 +9,7 @@ use Rattle.streams.specs.Streams.{AppendsPart}
 use Rattle.std.specs.Option.{is_some}
 use Rattle.std.specs.List.{flat_map, list_all}
 use Rattle.std.proofs.lemmas.Grind.{flat_map-append}
-use Rattle.std.proofs.lemmas.List.Folds.{list_all-append}
+use Rattle.std.proofs.lemmas.List.Folds.{flat_map-map, list_all-append}
 use Rattle.unique_lines.specs.Inputs.{AreRead, ReadsInput}
 use Rattle.unique_lines.specs.Inputs.AreRead.{behind, none}
 use Rattle.text_set.specs.Lines.{lines_by}
@@ -145,12 +145,9 @@ all_whole {eol}
 pub lines_of_whole : (eol : ℕ) (texts : List (List ℕ)) (lefts : List (Option (List ℕ))) (ls : List (List ℕ))
     → AreRead eol true (map Some texts) lefts ls → ls ≡ flat_map (lines_by eol) texts
 unfolding bytes_of
-lines_of_whole eol texts lefts ls read = all_whole read refl (all_some texts) ∙ texts_of texts
+lines_of_whole eol texts lefts ls read =
+    all_whole read refl (all_some texts) ∙ flat_map-map (λ left. lines_by eol (bytes_of left)) Some texts
   where
     all_some : (texts : List (List ℕ)) → list_all is_some (map Some texts) ≡ true
     all_some [] = refl
     all_some (text ∷ texts) = all_some texts
-
-    texts_of : (texts : List (List ℕ)) → flat_map (λ left. lines_by eol (bytes_of left)) (map Some texts) ≡ flat_map (lines_by eol) texts
-    texts_of [] = refl
-    texts_of (text ∷ texts) = ap (λ l. lines_by eol text ++ l) (texts_of texts)

@@ -3,6 +3,7 @@ use Rattle.std.proofs.Common.{◌≡◌, ℕ, Result, Ok, Err, OnOk, Bool, true,
 use Rattle.std.specs.Io.BufRead.{strip_last}
 use Rattle.std.specs.Result.{is_ok}
 use Rattle.std.specs.Str.{bytes_eq}
+use Rattle.std.proofs.Math.Bool.{or-false, or_comm}
 use Rattle.std.proofs.lemmas.Bool.{false≢true}
 use Rattle.std.proofs.lemmas.List.Folds.{list_any-append}
 use Rattle.std.proofs.KnownBytes.{Appends-trans}
@@ -37,16 +38,10 @@ module _ (eol : ℕ) (seen : List (List ℕ)) (line : List ℕ) where
   pub seen_more : (seen' : List (List ℕ)) → seen' ≡ with_text seen (strip_last eol line) → (ls : List (List ℕ)) → AreSeen eol ls seen
       → AreSeen eol (ls ++ line ∷ []) seen'
   seen_more seen' is ls before = λ other.
+      let same : List ℕ → Bool = λ l. bytes_eq other (strip_last eol l) in
       ap (λ texts. has texts other) is ∙ has_with seen (strip_last eol line) other
-      ∙ ap (λ b. bytes_eq other (strip_last eol line) || b) (before other)
-      ∙ or_last (bytes_eq other (strip_last eol line)) (list_any (λ l. bytes_eq other (strip_last eol l)) ls)
-      ∙ sym (list_any-append (λ l. bytes_eq other (strip_last eol l)) ls (line ∷ []))
-    where
-      or_last : (a b : Bool) → (a || b) ≡ (b || (a || false))
-      or_last true true = refl
-      or_last true false = refl
-      or_last false true = refl
-      or_last false false = refl
+      ∙ ap (λ b. same line || b) (before other) ∙ or_comm (same line) (list_any same ls)
+      ∙ ap (λ b. list_any same ls || b) (sym (or-false (same line))) ∙ sym (list_any-append same ls (line ∷ []))
 
   -- a line is taken by a set that has its text then, and what is due of it is written
   pub takes_line : (seen' : List (List ℕ)) → seen' ≡ with_text seen (strip_last eol line) → (there : Bool)
