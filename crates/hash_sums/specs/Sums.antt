@@ -104,7 +104,7 @@ kind_of [] None = None
 kind_of (kind ∷ more) None = Some kind
 kind_of kinds (Some name) = find (λ kind. is_named name kind.name.now) kinds
 
--- the hash of that name, if there is one that takes no keys
+-- the hash of that name, if there is one that takes no keys; siphash24 is here that under the key 0, which no line tells
 unfoldable pub number_named : List ℕ → Option (List ℕ → ℕ)
 number_named name =
     if bytes_eq name (codes "spooky128") then Some spooky128

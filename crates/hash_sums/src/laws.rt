@@ -74,7 +74,7 @@ pub fn kinds_are_tags()
     tags_by_their_names();
 }
 
-/// Each hash that a line can tell is found by its name, in letters of either case.
+/// Each hash that a line can tell is found by its name.
 pub fn each_name_is_found()
     ensures { (keys : Option (ℕ × ℕ)) (told : List LineKind) → map told_of told ≡ kinds keys
         → (hash : Told) → Contains (kinds keys) hash
@@ -100,7 +100,7 @@ pub fn each_hash_fits()
     text_stays_in_range::<ElfHasher>();
 }
 
-/// The number of each text has as many digits as its line gives it: what is written of a file is read back.
+/// The number of each text has as many digits as its line gives it: so a line that is written with escapes is read back.
 pub fn each_number_has_its_digits()
     ensures { (kind : LineKind) (sum : Sum) (text : List ℕ) → kind.keys.0 < 2 ^ 64 → kind.keys.1 < 2 ^ 64 → IsText text
         → sum_of kind.keys sum text < 16 ^ digits_of (width_in sum) }
@@ -235,7 +235,8 @@ pub fn a_call_that_ends_well<R: Read, F: Folder<R>>()
 {}
 
 /// What a list that passed tells of a file, in a line of ours, is so: the file was opened, and the text that was read of it has the hash,
-/// or it is not there and such files are left out. The hashes that can be told have tags, no two the same.
+/// or it is not there and such files are left out. The hashes that can be told have tags, no two the same. It speaks of lists whose
+/// text the folder tells, and so of none on the disk.
 pub fn what_a_list_tells_is_so<R: Read, F: Folder<R>>()
     ensures { (folder : F) (kinds : List LineKind) (checking : Checking) (list : List ℕ) (kind : LineKind) (name : List ℕ) (number : ℕ)
         → AreTags kinds checking.kind → HasPassed kinds checking (F.opens folder) list

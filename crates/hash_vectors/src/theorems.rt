@@ -1,6 +1,7 @@
 //! What users prove of programs of their own, from contracts of public calls alone.
-ghost use Rattle.std.specs.Prelude.{◌≡◌, ◌≢◌, ◌↔◌, ◌<◌, ◌%◌, ℕ, List, Option, Contains, IfOk, IsTrue, codes, true};
+ghost use Rattle.std.specs.Prelude.{◌≡◌, ◌≢◌, ◌↔◌, ◌<◌, ◌%◌, ℕ, List, Option, Contains, IfOk, IsTrue, OnOk, codes, true};
 ghost use Rattle.std.specs.List.{AllPairs};
+ghost use Rattle.std.specs.List.Sorted.{IsPermutation};
 ghost use Rattle.cli.specs.Call.{given, operands, Saying};
 ghost use Rattle.cli.specs.Files.{files_or};
 ghost use Rattle.cli.specs.Frame.{request_of};
@@ -18,7 +19,7 @@ ghost use Rattle.hash_sums.specs.Passed.{HasHash, ListTells};
 ghost use Rattle.hash_sums.specs.Program.{checking_of, taken, EndsWithKeys};
 ghost use Rattle.hash_sums.specs.declared.outcome.Misuse.{Misuse};
 ghost use Rattle.streams.specs.declared.fault.Nothing.{Nothing};
-ghost use Rattle.text_set.specs.Texts.{StandsAt};
+ghost use Rattle.text_set.specs.Texts.{StandsAt, with_text};
 
 use cli::folder::Folder;
 use hash_bloom::{Bloom, no_bit_or_all};
@@ -33,9 +34,10 @@ use std::io::Read;
 use text_set::laws::texts_keep_their_places;
 use text_set::{Full, Texts};
 
-/// Whether no two hashes are equal. It sorts them.
+/// Whether no two hashes are equal. It puts them in another order.
 pub fn are_different(hashes: &mut [u64]) -> bool
-    ensures { IsTrue result ↔ AllPairs (λ a b. a ≢ b) hashes.old }
+    ensures different { IsTrue result ↔ AllPairs (λ a b. a ≢ b) hashes.old }
+    ensures kept { IsPermutation hashes.old hashes.new }
 {
     no_collisions();
     collisions(hashes) == 0
@@ -44,7 +46,7 @@ pub fn are_different(hashes: &mut [u64]) -> bool
 /// Whether no two hashes fall into one of so many buckets.
 pub fn fall_apart(alloc: Global, hashes: &[u64], buckets: u64) -> Result<bool, AllocError>
     requires { 0 < buckets }
-    ensures { IfOk result (λ apart. IsTrue apart → AllPairs (λ a b. a % buckets ≢ b % buckets) hashes.now) }
+    ensures { IfOk result (λ apart. IsTrue apart ↔ AllPairs (λ a b. a % buckets ≢ b % buckets) hashes.now) }
 {
     one_in_each_bucket();
     let spread = spread_of(alloc, hashes, buckets)?;
@@ -57,7 +59,8 @@ pub fn number_among<S: BuildHasher + Drop>(
     text: &[u8],
     behind: &[u8],
 ) -> Result<usize, Full>
-    ensures { IfOk result (StandsAt texts.new.texts text.now) }
+    ensures place { IfOk result (StandsAt texts.new.texts text.now) }
+    ensures taken { OnOk result (texts.new.texts ≡ with_text (with_text texts.old.texts text.now) behind.now) }
 {
     texts_keep_their_places();
     let seen = texts.see(text)?;
@@ -92,7 +95,8 @@ pub fn keyed_hash(key: u64, text: &[u8]) -> u64
     hasher.finish()
 }
 
-/// Where `hashsum -c` ended with the status 0, each file that a line of ours in one of its lists tells of has the hash that it tells.
+/// Where `hashsum -c` ended with the status 0, each file that a line of ours in one of its lists tells of has the hash that it tells, or is
+/// not there, where the call lets such files off.
 pub fn checked_files_are_as_told<R: Read, F: Folder<R>>()
     ensures { (folder : F) (call : List Saying) (texts : Text → List ℕ) (written written' : Option (List ℕ))
         (outcome : Outcome Misuse Nothing) → request_of call ≡ Work → given (codes "check") call ≡ true

@@ -1,7 +1,7 @@
 -- What the counts tell of two hashes where they are 0, or at most 1.
-use Rattle.std.proofs.Common.{◌≡◌, ◌≢◌, ◌<◌, ◌≤◌, ◌+◌, ◌%◌, ℕ, suc, Bool, true, false, cond, eqb, List, [], ◌∷◌, All, refl, ap, sym, arith}
+use Rattle.std.proofs.Common.{◌≡◌, ◌≢◌, ◌<◌, ◌≤◌, ◌+◌, ◌%◌, ◌∙◌, ℕ, suc, Bool, true, false, cond, eqb, List, [], ◌∷◌, All, refl, ap, sym, arith}
 use Rattle.std.specs.List.{AllPairs, count_by}
-use Rattle.std.proofs.lemmas.Bool.{eqb-false, ne_eqb, eq-eqb}
+use Rattle.std.proofs.lemmas.Bool.{eqb-false, eqb-true, ne_eqb, eq-eqb}
 use Rattle.std.proofs.lemmas.List.Elements.{All-nil, All-cons, All-head, All-tail}
 use Rattle.std.proofs.lemmas.List.Kept.{AllPairs-cons}
 use Rattle.std.proofs.lemmas.List.Sums.{sum_by-cons}
@@ -63,3 +63,16 @@ apart_by_buckets m (hash ∷ hashes) some most =
     AllPairs-cons (λ a b. a % m ≢ b % m) hash hashes (λ k d within same. eqb-false _ bucket (differ k d within) (sym same))
     (apart_by_buckets m hashes some (λ b below.
     omega (arith, most b below, sum_by-cons (λ other. cond (eqb (other % m) b) 1 0) hash hashes)))
+
+pub one_in_bucket : (m b : ℕ) (hashes : List ℕ) → AllPairs (λ x y. x % m ≢ y % m) hashes → in_bucket m b hashes ≤ 1
+one_in_bucket m b [] differ = omega arith
+one_in_bucket m b (hash ∷ hashes) differ =
+    at (eqb (hash % m) b) refl
+    (one_in_bucket m b hashes (λ i j d before within. differ (suc i) (suc j) d (omega (arith, before)) (omega (arith, within))))
+  where
+    at : (t : Bool) → eqb (hash % m) b ≡ t → in_bucket m b hashes ≤ 1 → in_bucket m b (hash ∷ hashes) ≤ 1
+    at true is rest =
+        let others = counted_none (λ other. eqb (other % m) b) hashes
+        (λ k d within. ne_eqb _ b (λ same. differ 0 (suc k) d (omega arith) (omega (arith, within)) (eqb-true (hash % m) b is ∙ sym same))) in
+        omega (arith, others, sum_by-cons (λ other. cond (eqb (other % m) b) 1 0) hash hashes, ap {B = ℕ} (λ t. cond t 1 0) is)
+    at false is rest = omega (arith, rest, sum_by-cons (λ other. cond (eqb (other % m) b) 1 0) hash hashes, ap {B = ℕ} (λ t. cond t 1 0) is)

@@ -21,10 +21,10 @@ pub fn no_collisions()
     ensures { (hashes : List ℕ) → (collisions hashes ≡ 0) ↔ AllPairs (λ a b. a ≢ b) hashes }
 {}
 
-/// A law with no code: where no bucket has two hashes, no two fall into one.
+/// A law with no code: no bucket has two hashes exactly where no two fall into one.
 pub fn one_in_each_bucket()
     ensures { (m : ℕ) (hashes : List ℕ) → 0 < m → ((b : ℕ) → b < m → in_bucket m b hashes ≤ 1)
-        → AllPairs (λ a b. a % m ≢ b % m) hashes }
+        ↔ AllPairs (λ a b. a % m ≢ b % m) hashes }
 {}
 
 /// A law with no code: there are 256^n texts of n bytes. So where a law counts the texts of a hash, this tells of how many they are.

@@ -48,7 +48,7 @@ pub enum Sum {
 }
 
 /// The hashes that a line can tell, each by its place; the default is the first. Of the table null is no hash, murmur3 is half of 128
-/// bits, and SipHash under the key 0 would pass forgeries: SipHash-2-4 is told under keys alone.
+/// bits, and SipHash without a key file would pass forgeries: SipHash-2-4 is told under keys alone.
 pub const SUMS: [Sum; 30] = [
     Sum::Wide(Wide::Spooky),
     Sum::Table(Kind::Fnv1a32),
