@@ -189,6 +189,13 @@ fn chunks_end_where_the_definition_has_them() {
             place = cut;
         }
         assert_eq!(cuts.chunks(&text).collect::<Vec<_>>(), wanted);
+        let (mut ends, mut few) = (vec![7; wanted.len() + 1], [7; 2]);
+        assert_eq!((cuts.ends(&text, &mut ends), cuts.ends(&text, &mut few), cuts.ends(b"", &mut few)), (wanted.len(), 2, 0));
+        let sums = wanted.iter().scan(0, |sum, chunk| {
+            *sum += chunk.len() as u64;
+            Some(*sum)
+        });
+        assert_eq!((ends[..2].to_vec(), sums.chain([7]).collect::<Vec<_>>()), (few.to_vec(), ends));
         let mut whole = Vec::new();
         let read = cuts.cut(Slow(&text, false), |chunk| {
             whole.push(chunk.to_vec());
