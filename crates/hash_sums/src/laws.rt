@@ -63,7 +63,8 @@ use std::io::Read;
 
 /// Each hash that a line can tell and that takes no keys is the one of its name.
 pub fn each_kind_has_the_hash_of_its_name()
-    ensures { (sum : Sum) (keys : ℕ × ℕ) → takes_keys sum ≡ false → number_named (name_in sum) ≡ Some (sum_of keys sum) }
+    ensures { (sum : Sum) (keys : ℕ × ℕ) → takes_keys sum ≡ false
+        → number_named (name_in sum) ≡ Some (sum_of keys sum) }
 {}
 
 /// The hashes that a line can tell have tags, no two the same: so what is written of a file is read as that, and says one thing.
@@ -102,7 +103,8 @@ pub fn each_hash_fits()
 
 /// The number of each text has as many digits as its line gives it: so a line that is written with escapes is read back.
 pub fn each_number_has_its_digits()
-    ensures { (kind : LineKind) (sum : Sum) (text : List ℕ) → kind.keys.0 < 2 ^ 64 → kind.keys.1 < 2 ^ 64 → IsText text
+    ensures { (kind : LineKind) (sum : Sum) (text : List ℕ)
+        → kind.keys.0 < 2 ^ 64 → kind.keys.1 < 2 ^ 64 → IsText text
         → sum_of kind.keys sum text < 16 ^ digits_of (width_in sum) }
 {
     each_hash_fits();
@@ -238,7 +240,8 @@ pub fn a_call_that_ends_well<R: Read, F: Folder<R>>()
 /// or it is not there and such files are left out. The hashes that can be told have tags, no two the same. It speaks of lists whose
 /// text the folder tells, and so of none on the disk.
 pub fn what_a_list_tells_is_so<R: Read, F: Folder<R>>()
-    ensures { (folder : F) (kinds : List LineKind) (checking : Checking) (list : List ℕ) (kind : LineKind) (name : List ℕ) (number : ℕ)
+    ensures { (folder : F) (kinds : List LineKind) (checking : Checking)
+        (list : List ℕ) (kind : LineKind) (name : List ℕ) (number : ℕ)
         → AreTags kinds checking.kind → HasPassed kinds checking (F.opens folder) list
         → ListTells kinds checking (F.opens folder) list kind name number
         → HasHash checking (F.opens folder) kind name number }

@@ -295,7 +295,8 @@ impl<'a> HashTask for SumText<'a> {
         in_pieces::<H>(text)
     }
 
-    ghost by_same = { λ hash of_read same agree text before after result is is_text. is is_text ∙ agree text.now is_text };
+    ghost by_same = { λ hash of_read same agree text before after result is is_text.
+        is is_text ∙ agree text.now is_text };
 }
 
 /// The number of a text by a hasher of 128 bits.

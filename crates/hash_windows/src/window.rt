@@ -26,7 +26,8 @@ pub fn differ_at_one_place(x: &[u8], y: &[u8]) -> bool
 /// A law with no code, for texts that a caller has in parts: a front, two different middles of one length, and a back
 /// differ within as many places as a middle has. With one byte each in the middle they differ at one place.
 pub fn texts_of_one_frame()
-    ensures within { (places mask : ℕ) (front x y back : List ℕ) → length x ≡ length y → length x ≤ places → x ≢ y
+    ensures within { (places mask : ℕ) (front x y back : List ℕ)
+        → length x ≡ length y → length x ≤ places → x ≢ y
         → AgreeUnder mask x y → DifferWithin places mask (front ++ (x ++ back)) (front ++ (y ++ back)) }
     ensures one_place { (front back : List ℕ) (b c : ℕ) → b ≢ c
         → DifferAtOnePlace (front ++ b ∷ back) (front ++ c ∷ back) }

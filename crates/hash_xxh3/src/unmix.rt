@@ -80,7 +80,8 @@ fn halves(number: u64) -> [u8; 8]
 /// The one text of eight bytes that has this hash under a seed.
 pub fn bytes_for(seed: u64, hash: u64) -> [u8; 8]
     ensures leads { xxh3_64_of seed result ≡ hash }
-    ensures alone { (text : List ℕ) → IsText text → length text ≡ 8 → xxh3_64_of seed text ≡ hash → text ≡ result }
+    ensures alone { (text : List ℕ) → IsText text → length text ≡ 8
+        → xxh3_64_of seed text ≡ hash → text ≡ result }
     ensures even { ExactlyTexts 1 8 (λ text. xxh3_64_of seed text ≡ hash) }
 {
     halves(un_length_mix(8, hash) ^ eight_flip(seed))
@@ -132,7 +133,8 @@ fn two_words(first: u64, last: u64) -> [u8; 16]
 /// permutation.
 pub fn bytes_for_wide(seed: u64, hash: (u64, u64)) -> [u8; 16]
     ensures leads { xxh3_128_of seed result ≡ hash }
-    ensures alone { (text : List ℕ) → IsText text → length text ≡ 16 → xxh3_128_of seed text ≡ hash → text ≡ result }
+    ensures alone { (text : List ℕ) → IsText text → length text ≡ 16
+        → xxh3_128_of seed text ≡ hash → text ≡ result }
     ensures even { ExactlyTexts 1 16 (λ text. xxh3_128_of seed text ≡ hash) }
 {
     let (low, high) = un_sixteen_end(hash);

@@ -115,7 +115,8 @@ fn halves(number: u64) -> [u8; 8] {
 ///
 /// ```text
 /// leads: xxh3_64_of seed result ≡ hash
-/// alone: (text : List ℕ) → IsText text → length text ≡ 8 → xxh3_64_of seed text ≡ hash → text ≡ result
+/// alone: (text : List ℕ) → IsText text → length text ≡ 8
+///     → xxh3_64_of seed text ≡ hash → text ≡ result
 /// even: ExactlyTexts 1 8 (λ text. xxh3_64_of seed text ≡ hash)
 /// ```
 #[inline]
@@ -188,7 +189,8 @@ fn two_words(first: u64, last: u64) -> [u8; 16] {
 ///
 /// ```text
 /// leads: xxh3_128_of seed result ≡ hash
-/// alone: (text : List ℕ) → IsText text → length text ≡ 16 → xxh3_128_of seed text ≡ hash → text ≡ result
+/// alone: (text : List ℕ) → IsText text → length text ≡ 16
+///     → xxh3_128_of seed text ≡ hash → text ≡ result
 /// even: ExactlyTexts 1 16 (λ text. xxh3_128_of seed text ≡ hash)
 /// ```
 #[inline]
