@@ -320,6 +320,116 @@ static void check_chunks(void) {
     }
 }
 
+// Who owns a place, by the definition: of all points of the nodes that are left the first one at or after the place, round the ring, and of
+// points at one place that of the least name. Names are in order here.
+enum { NODES = 7, TREES = 3 };
+struct ring_node {
+    const char *name;
+    size_t weight;
+};
+
+static size_t owner_of(uint32_t kind, const struct ring_node *nodes, size_t count, unsigned gone, uint64_t place) {
+    size_t owner = SIZE_MAX;
+    uint64_t nearest = 0;
+    for (size_t i = 0; i < count; i++) {
+        unsigned char text[40];
+        size_t n = strlen(nodes[i].name);
+        memcpy(text, nodes[i].name, n);
+        for (uint64_t k = 0; k < nodes[i].weight && !(gone >> i & 1); k++) {
+            for (int b = 0; b < 8; b++) text[n + b] = (unsigned char)(k >> 8 * b);
+            uint64_t way = hashers_hash(kind, text, n + 8) - place;
+            if (owner == SIZE_MAX || way < nearest) owner = i, nearest = way;
+        }
+    }
+    return owner;
+}
+
+// The owners of places on a ring of these nodes.
+static void check_owners(uint32_t kind, const struct ring_node *nodes, size_t count, const hashers_ring_point *points, size_t points_count) {
+    for (int turn = 0; turn < 40; turn++) {
+        uint64_t place = turn < 4 && points_count ? points[points_count / 2].place + (uint64_t)turn - 1 : random_number();
+        size_t found[NODES + 1], many = turn % 4 ? NODES : 2;
+        unsigned gone = 0;
+        for (size_t i = 0; i <= NODES; i++) found[i] = 77;
+        same("as many owners", count < many ? count : many, hashers_ring_owners(points, points_count, place, found, many));
+        for (size_t i = 0; i < count && i < many; i++) {
+            same("the owner", owner_of(kind, nodes, count, gone, place), found[i]);
+            gone |= 1u << found[i];
+        }
+        same("past the owners", 77, found[count < many ? count : many]);
+        if (points_count) same("the first owner", found[0], points[hashers_ring_owner(points, points_count, place)].node);
+    }
+}
+
+// The points of the node, in an array of their own.
+static bool points_of(uint32_t kind, struct ring_node node, size_t at, hashers_ring_point *points) {
+    unsigned char text[40];
+    size_t n = strlen(node.name);
+    memcpy(text, node.name, n);
+    return hashers_ring_points(kind, text, n + 8, at, points, node.weight) && memcmp(text, node.name, n) == 0;
+}
+
+// Nodes come one by one in another order than that of their names, and go again; and all at once.
+static void check_ring(uint32_t kind) {
+    static const struct ring_node all[NODES] = {{"", 3}, {"ash", 5}, {"elm", 1}, {"fir", 40}, {"oak", 2}, {"oaks", 9}, {"yew", 17}};
+    static const size_t order[NODES] = {3, 6, 0, 2, 5, 1, 4};
+    hashers_ring_point points[80], added[40], once[80];
+    struct ring_node nodes[NODES];
+    size_t count = 0, filled = 0;
+    check_owners(kind, all, 0, NULL, 0);
+    for (size_t turn = 0; turn < NODES; turn++) {
+        struct ring_node node = all[order[turn]];
+        size_t at = 0;
+        while (at < count && strcmp(nodes[at].name, node.name) < 0) at++;
+        same("points", 1, points_of(kind, node, at, added));
+        same("added", 1, hashers_ring_add(points, filled + node.weight, added, node.weight, at));
+        memmove(nodes + at + 1, nodes + at, (count - at) * sizeof *nodes);
+        nodes[at] = node, count++, filled += node.weight;
+        check_owners(kind, nodes, count, points, filled);
+    }
+    for (size_t i = 0, from = 0; i < NODES; from += all[i++].weight) points_of(kind, all[i], i, once + from);
+    hashers_ring_sort(once, filled);
+    same("all at once", 0, (uint64_t)memcmp(once, points, filled * sizeof *points));
+    for (size_t left = NODES; left > 0; left--) {
+        size_t at = order[left - 1] % left, less = filled - nodes[at].weight;
+        filled = hashers_ring_remove(points, filled, at);
+        same("points left", less, filled);
+        memmove(nodes + at, nodes + at + 1, (left - 1 - at) * sizeof *nodes);
+        check_owners(kind, nodes, left - 1, points, filled);
+    }
+}
+
+static void check_rings(void) {
+    static const uint32_t some[] = {HASHERS_SPOOKY, HASHERS_LOOKUP3, HASHERS_FNV1A64, HASHERS_LOSELOSE, HASHERS_CRC32, HASHERS_NULL};
+    for (size_t k = 0; k < sizeof some / sizeof *some; k++) check_ring(some[k]);
+    // the ring of the Rattle tests
+    static const struct ring_node trees[TREES] = {{"ash", 3}, {"elm", 1}, {"oak", 2}};
+    static const struct {
+        const char *key;
+        size_t owners[TREES];
+    } wanted[] = {{"a", {2, 0, 1}}, {"one", {1, 0, 2}}, {"sea", {0, 2, 1}}};
+    hashers_ring_point points[6], rest[6];
+    for (size_t i = 0, from = 0; i < TREES; from += trees[i++].weight) points_of(HASHERS_FNV1A64, trees[i], i, points + from);
+    hashers_ring_sort(points, 6);
+    for (size_t k = 0; k < sizeof wanted / sizeof *wanted; k++) {
+        size_t found[TREES];
+        uint64_t place = hashers_fnv1a64(wanted[k].key, strlen(wanted[k].key));
+        same("three owners", TREES, hashers_ring_owners(points, 6, place, found, TREES));
+        same("the owners of a key", 0, (uint64_t)memcmp(found, wanted[k].owners, sizeof found));
+    }
+    memcpy(rest, points, sizeof points);
+    hashers_ring_point turned[2] = {points[1], points[0]}, last = {5, SIZE_MAX};
+    unsigned char text[8] = "a";
+    same("a name without its 8 bytes", 0, hashers_ring_points(HASHERS_SPOOKY, text, 7, 0, points, 6));
+    same("no such hash", 0, hashers_ring_points(HASHERS_KINDS, text, 8, 0, points, 6));
+    same("too little room", 0, hashers_ring_add(points, 1, turned, 2, 0));
+    same("added in no order", 0, hashers_ring_add(points, 6, turned, 2, 0));
+    same("others in no order", 0, hashers_ring_add(turned, 2, turned, 0, 0));
+    same("a node past the last", 0, hashers_ring_add(&last, 1, points, 0, 0));
+    same("what is refused changes nothing", 0, (uint64_t)memcmp(rest, points, sizeof points));
+    same("an empty ring", 0, hashers_ring_owner(NULL, 0, 7) | hashers_ring_remove(NULL, 0, 0) | hashers_ring_owners(NULL, 0, 7, NULL, 0));
+}
+
 // A text of two parts from their hashes.
 static void check_combine(void) {
     for (size_t n = 0; n < 100; n++) {
@@ -555,6 +665,7 @@ int main(void) {
     check_filter(hashers_fnv1a64, hashers_lookup3, hashers_bloom_fnv1a64_lookup3_insert, hashers_bloom_fnv1a64_lookup3_contains);
     check_filter(hashers_spooky, hashers_lookup3, hashers_bloom_spooky_lookup3_insert, hashers_bloom_spooky_lookup3_contains);
     check_chunks();
+    check_rings();
     check_states_of_any_bytes();
     check_blocks_of_any_bytes();
     printf("%d passed, %d failed\n", passed, failed);

@@ -2,7 +2,7 @@
 import re
 
 FUNCTION = re.compile(r"^pub fn (hashers_\w+)\(([^)]*)\)(?: -> (\w+))? \{", re.M)
-SLICE = re.compile(r"&(mut )?\[(u8|u32|u64)\]")
+SLICE = re.compile(r"&(mut )?\[(u8|u32|u64|usize|Point)\]")
 STATE = re.compile(r"&(mut )?(SpookyState|Poly61Place|BlockState|Xxh3Place|NumberKey|Cutting)")
 NUMBERS = {"u32", "u64", "usize"}
 ANSWERS = NUMBERS | {"", "bool", "Words", "SpookyState", "Poly61Place", "BlockState", "Xxh3Place"}
@@ -14,6 +14,7 @@ use super::numbers::NumberKey;
 use super::spooky::{SpookyState, Words};
 use super::*;
 use hashers_proved::hash_keyed::poly61::Poly61Place;
+use hashers_proved::hash_ring::points::Point;
 use hashers_proved::hash_xxh3::Xxh3Place;
 
 /// So many items from there on. Where there are none, any pointer will do.

@@ -24,11 +24,12 @@ from ._bloom import Bloom
 from ._chunks import Cuts, chunks
 from ._hashers import *
 from ._many import hash_column, hash_lines, number_column
+from ._ring import Ring
 
 if TYPE_CHECKING:
     from _typeshed import ReadableBuffer as Buffer
 
-__all__ = ["Bloom", "Cuts", "Function", "chunks", "hash_column", "hash_lines", "number_column", "random_key"]
+__all__ = ["Bloom", "Cuts", "Function", "Ring", "chunks", "hash_column", "hash_lines", "number_column", "random_key"]
 __all__ += [name for name in dir(_hashers) if not name.startswith("_") and name != "BloomBase"]
 _number: int = _hashers._version()
 __version__ = f"{_number // 10000}.{_number // 100 % 100}.{_number % 100}"

@@ -87,6 +87,29 @@ static int apart(const held *written, const held *read) {
     return refuse(PyExc_ValueError, "a buffer that is written overlaps one that is read");
 }
 
+static int hold_to_write(PyObject *data, held *it) { return hold_buffer(data, PyBUF_WRITABLE, it); }
+
+// A buffer that is written, in items of 8 bytes, and data beside it, as one of the two above holds it.
+typedef struct {
+    held room, data;
+    size_t places;
+} held_two;
+
+static int hold_two(PyObject *out, PyObject *from, int (*taken)(PyObject *, held *), held_two *it) {
+    if (hold_to_write(out, &it->room) < 0) return -1;
+    if (taken(from, &it->data) == 0) {
+        if (apart(&it->room, &it->data) == 0 && items(&it->room, 8, &it->places) == 0) return 0;
+        drop(&it->data);
+    }
+    drop(&it->room);
+    return -1;
+}
+
+static void drop_two(held_two *it) {
+    drop(&it->data);
+    drop(&it->room);
+}
+
 // A number from 0 to 2^64 - 1.
 static int word(PyObject *from, uint64_t *to) {
     PyObject *number = PyNumber_Index(from);
@@ -844,62 +867,123 @@ static PyObject *number_of(PyObject *module, PyObject *name) {
 static PyObject *lines(PyObject *module, PyObject *args) {
     unsigned kind;
     PyObject *from, *out;
-    held data, room = {.at = NULL};
-    size_t count = 0, found;
+    held_two it = {.places = 0};
+    size_t found;
     if (!PyArg_ParseTuple(args, "IOO", &kind, &from, &out)) return NULL;
-    if (out != Py_None && hold_buffer(out, PyBUF_WRITABLE, &room) < 0) return NULL;
-    PyObject *answer = NULL;
-    if (hold(from, &data) == 0) {
-        if (apart(&room, &data) == 0 && items(&room, 8, &count) == 0) {
-            OVER(data.n, found = hashers_lines(kind, data.at, data.n, (uint64_t *)room.at, count));
-            answer = PyLong_FromSize_t(found);
-        }
-        drop(&data);
-    }
-    drop(&room);
-    return answer;
+    if ((out == Py_None ? hold(from, &it.data) : hold_two(out, from, hold, &it)) < 0) return NULL;
+    OVER(it.data.n, found = hashers_lines(kind, it.data.at, it.data.n, (uint64_t *)it.room.at, it.places));
+    drop_two(&it);
+    return PyLong_FromSize_t(found);
 }
 
 // Where the first chunks of the data end goes to `out` as far as it has room; the answer is how many these are.
 static PyObject *chunk_ends(PyObject *module, PyObject *args) {
     PyObject *from, *out, *given[5];
-    uint64_t it[5];
-    held data, room;
-    size_t places = 0, found;
+    uint64_t number[5];
+    held_two it;
+    size_t found;
     if (!PyArg_ParseTuple(args, "OOOOOOO", &from, &out, &given[0], &given[1], &given[2], &given[3], &given[4])) return NULL;
-    if (words_of(given, 5, it) < 0 || hold_buffer(out, PyBUF_WRITABLE, &room) < 0) return NULL;
-    const hashers_cutting cutting = {it[0], it[1], it[2], it[3], it[4]};
-    PyObject *answer = NULL;
-    if (hold(from, &data) == 0) {
-        if (apart(&room, &data) == 0 && items(&room, 8, &places) == 0) {
-            OVER(data.n, found = hashers_chunk_ends(data.at, data.n, &cutting, (uint64_t *)room.at, places));
-            answer = PyLong_FromSize_t(found);
-        }
-        drop(&data);
-    }
-    drop(&room);
-    return answer;
+    if (words_of(given, 5, number) < 0 || hold_two(out, from, hold, &it) < 0) return NULL;
+    const hashers_cutting cutting = {number[0], number[1], number[2], number[3], number[4]};
+    OVER(it.data.n, found = hashers_chunk_ends(it.data.at, it.data.n, &cutting, (uint64_t *)it.room.at, it.places));
+    drop_two(&it);
+    return PyLong_FromSize_t(found);
 }
 
 // The hash of each number of a buffer to another one.
 static PyObject *number_column(PyObject *module, PyObject *args) {
     PyObject *from, *out, *key_from[2];
     hashers_number_key key;
-    held numbers, room;
-    size_t count = 0, places = 0;
+    held_two it;
+    size_t count = 0;
     bool fit = false;
     if (!PyArg_ParseTuple(args, "OOOO", &from, &key_from[0], &key_from[1], &out) || number_key(key_from, &key) < 0) return NULL;
-    if (hold_buffer(out, PyBUF_WRITABLE, &room) < 0) return NULL;
-    int held = hold(from, &numbers);
-    if (held == 0) {
-        if (apart(&room, &numbers) == 0 && items(&numbers, 8, &count) == 0 && items(&room, 8, &places) == 0) {
-            OVER(numbers.n, fit = hashers_number_column(&key, (uint64_t *)numbers.at, count, (uint64_t *)room.at, places));
-            if (!fit) refuse(PyExc_ValueError, "out has not 8 bytes for each number");
-        }
-        drop(&numbers);
+    if (hold_two(out, from, hold, &it) < 0) return NULL;
+    if (items(&it.data, 8, &count) == 0) {
+        OVER(it.data.n, fit = hashers_number_column(&key, (uint64_t *)it.data.at, count, (uint64_t *)it.room.at, it.places));
+        if (!fit) refuse(PyExc_ValueError, "out has not 8 bytes for each number");
     }
-    drop(&room);
+    drop_two(&it);
     return fit ? none() : NULL;
+}
+
+// ---- a ring: its points are two numbers of 8 bytes each, the place and the node
+
+static size_t points_in(const held *it) { return it->n / sizeof(hashers_ring_point); }
+
+// The points of a node go to a buffer. Its name has 8 bytes more.
+static PyObject *ring_points(PyObject *module, PyObject *args) {
+    unsigned kind;
+    PyObject *name, *out;
+    Py_ssize_t node;
+    held_two it;
+    bool is_done;
+    if (!PyArg_ParseTuple(args, "IOnO", &kind, &name, &node, &out) || hold_two(out, name, hold_to_write, &it) < 0) return NULL;
+    hashers_ring_point *points = (hashers_ring_point *)it.room.at;
+    OVER(it.room.n, is_done = hashers_ring_points(kind, it.data.at, it.data.n, node, points, points_in(&it.room)));
+    drop_two(&it);
+    return is_done ? none() : PyErr_Format(PyExc_ValueError, "the name has not 8 bytes more");
+}
+
+// Points get in order.
+static PyObject *ring_sort(PyObject *module, PyObject *from) {
+    held room;
+    size_t count;
+    if (hold_to_write(from, &room) < 0) return NULL;
+    int are = items(&room, 8, &count);
+    if (are == 0) OVER(room.n, hashers_ring_sort((hashers_ring_point *)room.at, points_in(&room)));
+    drop(&room);
+    return are == 0 ? none() : NULL;
+}
+
+// The points of a new node go among those of the others.
+static PyObject *ring_add(PyObject *module, PyObject *args) {
+    PyObject *out, *from;
+    Py_ssize_t node;
+    held_two it;
+    size_t count;
+    bool is_done = false;
+    if (!PyArg_ParseTuple(args, "OOn", &out, &from, &node) || hold_two(out, from, hold, &it) < 0) return NULL;
+    if (items(&it.data, 8, &count) == 0) {
+        hashers_ring_point *points = (hashers_ring_point *)it.room.at, *added = (hashers_ring_point *)it.data.at;
+        OVER(it.room.n, is_done = hashers_ring_add(points, points_in(&it.room), added, points_in(&it.data), node));
+        if (!is_done) refuse(PyExc_ValueError, "the points are in no order");
+    }
+    drop_two(&it);
+    return is_done ? none() : NULL;
+}
+
+// The points of a node go; the answer is how many are left.
+static PyObject *ring_remove(PyObject *module, PyObject *args) {
+    PyObject *from;
+    Py_ssize_t node;
+    held room;
+    size_t count;
+    if (!PyArg_ParseTuple(args, "On", &from, &node) || hold_to_write(from, &room) < 0) return NULL;
+    int are = items(&room, 8, &count);
+    if (are == 0) OVER(room.n, count = hashers_ring_remove((hashers_ring_point *)room.at, points_in(&room), node));
+    drop(&room);
+    return are == 0 ? PyLong_FromSize_t(count) : NULL;
+}
+
+// The nodes that own a key go to a buffer, as many as it has room for; the answer is how many these are.
+static PyObject *ring_owners(PyObject *module, PyObject *args) {
+    unsigned kind;
+    PyObject *from, *data, *out;
+    held ring;
+    held_two it;
+    size_t count, found = 0;
+    if (!PyArg_ParseTuple(args, "IOOO", &kind, &from, &data, &out) || hold_two(out, data, hold, &it) < 0) return NULL;
+    int are = hold_buffer(from, PyBUF_SIMPLE, &ring);
+    if (are == 0) {
+        are = items(&ring, 8, &count) < 0 || apart(&it.room, &ring) < 0 ? -1 : 0;
+        if (are == 0)
+            OVER(it.data.n, found = hashers_ring_owners((hashers_ring_point *)ring.at, points_in(&ring),
+                                                        hashers_hash(kind, it.data.at, it.data.n), (size_t *)it.room.at, it.places));
+        drop(&ring);
+    }
+    drop_two(&it);
+    return are == 0 ? PyLong_FromSize_t(found) : NULL;
 }
 
 // A column of texts: its offsets of 32 or 64 bits, and the bytes in which the texts lie.
@@ -1239,6 +1323,11 @@ static PyMethodDef functions[] = {
     {"_column", column, METH_VARARGS, NULL},
     {"_chunk_ends", chunk_ends, METH_VARARGS, NULL},
     {"_number_column", number_column, METH_VARARGS, NULL},
+    {"_ring_points", ring_points, METH_VARARGS, NULL},
+    {"_ring_sort", ring_sort, METH_O, NULL},
+    {"_ring_add", ring_add, METH_VARARGS, NULL},
+    {"_ring_remove", ring_remove, METH_VARARGS, NULL},
+    {"_ring_owners", ring_owners, METH_VARARGS, NULL},
     {"_unite", unite, METH_VARARGS, NULL},
     {"_revived", revived, METH_VARARGS, NULL},
     {"_version", version, METH_NOARGS, NULL},

@@ -886,6 +886,96 @@ class Chunks(unittest.TestCase):
         self.assertEqual(eval(repr(cuts), vars(hashers)).ends(self.text), cuts.ends(self.text))
 
 
+class Rings(unittest.TestCase):
+    trees = {"oak": 2, "elm": 1, "ash": 3}
+
+    @staticmethod
+    def owner_of(ring: hashers.Ring, gone: set[Any], place: int) -> Any:
+        """By the definition: of all points the first one at or after the place, round the ring, and of those at one place that of the least name."""
+        points = [((hashers.new(ring.hash, key + k.to_bytes(8, "little")).intdigest() - place) % 2**64, key, name)
+                  for name, weight in ring.weights().items() for key in [name.encode() if isinstance(name, str) else name] for k in range(weight)
+                  if name not in gone]
+        return min(points)[2] if points else None
+
+    def check(self, ring: hashers.Ring) -> None:
+        for k in range(12):
+            key = b"key%d" % k
+            place, gone, owners = hashers.new(ring.hash, key).intdigest(), set[Any](), []
+            while len(owners) < len(ring):
+                owners.append(self.owner_of(ring, gone, place))
+                gone.add(owners[-1])
+            self.assertEqual(ring.owners(key, 99), owners)
+            self.assertEqual(ring.owners(key, 2), owners[:2])
+            self.assertEqual(ring.owner(key), owners[0] if owners else None)
+
+    def test_by_the_definition(self) -> None:
+        nodes: dict[Any, int] = {"": 3, "oak": 2, b"\xff\0": 20, "oaks": 9, "\u00e9lm": 1, "fir": 30}
+        for name in ("spooky", "xxh3", "loselose", "crc32", "null"):
+            one_by_one = hashers.Ring(hash=name)
+            self.check(one_by_one)
+            for node, weight in nodes.items():
+                one_by_one.add(node, weight)
+                self.check(one_by_one)
+            at_once = hashers.Ring(nodes, hash=name)
+            self.assertEqual(at_once.weights(), one_by_one.weights())
+            for copy_of in (at_once, at_once.copy(), copy.copy(at_once), pickle.loads(pickle.dumps(one_by_one))):
+                self.assertEqual(copy_of._state, one_by_one._state)
+            self.assertEqual(sum(at_once.shares().values()), 2**64)
+            for node, weight in nodes.items():
+                self.assertIn(node, one_by_one)
+                self.assertEqual(one_by_one.remove(node), weight)
+                self.assertNotIn(node, one_by_one)
+                self.check(one_by_one)
+            self.assertEqual(len(at_once), 6)
+            self.assertEqual(one_by_one.shares(), {})
+
+    def test_the_ring_of_the_proved_library(self) -> None:
+        ring = hashers.Ring(self.trees, hash="fnv1a64")
+        self.assertEqual(list(ring), ["ash", "elm", "oak"])
+        for key, owners in ((b"a", "oak ash elm"), (b"one", "elm ash oak"), (b"sea", "ash oak elm"), (b"four", "elm ash")):
+            self.assertEqual(ring.owners(key, len(owners.split())), owners.split())
+        self.assertEqual(ring.shares(), {"ash": 3337199519089381728, "elm": 11756901173466240504, "oak": 3352643381153929384})
+        self.assertEqual(ring.remove("oak"), 2)
+        self.assertEqual(ring.owners(b"a", 3), ["ash", "elm"])
+
+    def test_names_alone(self) -> None:
+        ring = hashers.Ring(["a", b"b"])
+        self.assertEqual(ring.weights(), {"a": 100, b"b": 100})
+        self.assertIn(b"a", ring)
+        self.assertEqual(repr(ring), "<Ring of 2 nodes by spooky>")
+        ring.add("c")
+        self.assertEqual(list(ring), ["a", b"b", "c"])
+
+    def test_a_ring_that_is_asked_while_it_changes(self) -> None:
+        ring, wrong = hashers.Ring({"node%d" % i: 50 for i in range(20)}), []
+        done = threading.Event()
+
+        def ask() -> None:
+            while not done.is_set():
+                if len(set(ring.owners(b"key", 5))) != 5:
+                    wrong.append(1)
+        threads = [threading.Thread(target=ask) for _ in range(3)]
+        for thread in threads:
+            thread.start()
+        for _ in range(200):
+            ring.add("one", 50)
+            ring.remove("one")
+        done.set()
+        for thread in threads:
+            thread.join()
+        self.assertEqual(wrong, [])
+
+    def test_what_is_refused(self) -> None:
+        ring = hashers.Ring(self.trees)
+        for error, call in ((ValueError, lambda: ring.add("oak", 1)), (ValueError, lambda: ring.add("fir", 0)), (KeyError, lambda: ring.remove("fir")),
+                            (ValueError, lambda: hashers.Ring({"a": 1, b"a": 1})), (ValueError, lambda: hashers.Ring({"a": -1})),
+                            (TypeError, lambda: hashers.Ring("abc")), (TypeError, lambda: ring.owner(cast(bytes, "a"))),
+                            (ValueError, lambda: hashers.Ring(hash="no")), (ValueError, lambda: hashers.Ring(hash="spooky128"))):
+            with self.assertRaises(error):
+                call()
+        self.assertEqual(ring.weights(), {"ash": 3, "elm": 1, "oak": 2})
+
+
 class Filters(unittest.TestCase):
     def test_keys_are_found(self) -> None:
         for hashes in ("fnv1a64_lookup3", "spooky_lookup3"):

@@ -17,6 +17,7 @@ mod kinds;
 mod lines;
 mod numbers;
 mod parts;
+mod ring;
 mod spooky;
 mod whole;
 mod xxh3;

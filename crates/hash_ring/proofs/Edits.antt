@@ -1,19 +1,20 @@
 -- A ring with a node more, and with one less.
 use Rattle.std.proofs.Common.{ℕ, suc, ◌≡◌, ◌≢◌, ◌+◌, ◌-◌, ◌<◌, ◌≤◌, Bool, true, not, cond, ltb, ◌==◌, List, [], ◌++◌, map, length, get_or, take, drop, arith, sym, ap, ◌∙◌, subst, refl, ⊎_elim, inl, inr}
 use Rattle.std.specs.List.{AllPairs, Contains, filter, insert, remove}
+use Rattle.std.specs.List.Sorted.{IsPermutation}
 use Rattle.std.proofs.lemmas.Bool.{cases_eq}
 use Rattle.std.proofs.lemmas.Bool.Decides.{nat_tests}
 use Rattle.std.proofs.lemmas.Grind.{common_steps, elements, moves}
-use Rattle.std.proofs.lemmas.List.{map-append, take-map, drop-map, get_or-map, length-map}
+use Rattle.std.proofs.lemmas.List.{append-nil, drop_all, map-append, take-map, drop-map, get_or-map, length-map}
 use Rattle.std.proofs.lemmas.List.Edits.{get_or-insert_at}
 use Rattle.std.proofs.lemmas.List.Elements.{All-contains, Contains-append_cases, All-append, All-drop, All-filter, All-map, All-take, filter_passes}
 use Rattle.std.proofs.lemmas.List.Kept.{AllPairs-filter}
-use Rattle.std.proofs.lemmas.List.Sorted.{Contains-permutation, IsPermutation-filter_both}
+use Rattle.std.proofs.lemmas.List.Sorted.{Contains-permutation, IsPermutation-append_right, IsPermutation-filter_both, IsPermutation-trans}
 use Rattle.hash_ring.specs.declared.Node.{Node}
-use Rattle.hash_ring.specs.declared.Point.{Point}
+use Rattle.hash_ring.specs.declared.points.Point.{Point}
 use Rattle.hash_ring.specs.Ring.{IsPointOf}
 use Rattle.hash_ring.specs.Points.{ArePoints, IsBefore, IsGapAt, IsRing, IsPointOfItsNode, closed_up, left_without, node_at, opened_up, pair_of, pairs, points_of}
-use Rattle.hash_ring.proofs.Points.{mapped_in_order, one_node_more}
+use Rattle.hash_ring.proofs.PointLemmas.{ArePoints-permutation, mapped_in_order, one_node_more}
 use Rattle.hash_ring.proofs.Names.{Pairs, inserted_sorted, removed_sorted}
 
 pub pairs_insert : (nodes : List Node) (i : ℕ) (node : Node) → pairs (insert nodes i node) ≡ insert (pairs nodes) i (pair_of node)
@@ -23,7 +24,7 @@ pub pairs_remove : (nodes : List Node) (i : ℕ) → pairs (remove nodes i) ≡ 
 pairs_remove nodes i = grind (arith, common_steps, take-map, drop-map, map-append)
 
 -- a list that was written over whole
-pub over : (new old : List Point) (n : ℕ) → length new ≡ length old → n ≡ length old → take n (new ++ drop (length new) old) ≡ new
+pub over : {X : Type 0} (new old : List X) (n : ℕ) → length new ≡ length old → n ≡ length old → take n (new ++ drop (length new) old) ≡ new
 over new old n same is = grind (arith, common_steps)
 
 pub opened_in_order : (come : ℕ) (points : List Point) → AllPairs IsBefore points → AllPairs IsBefore (map (opened_up come) points)
@@ -34,6 +35,12 @@ opened_in_order come = mapped_in_order (opened_up come)
 still_before : (gone : ℕ) (points : List Point) → AllPairs IsBefore points → AllPairs IsBefore (map (closed_up gone) points)
 still_before gone = mapped_in_order (closed_up gone)
     (λ p q b. record { place = b.place; node = λ e. let upto : p.node ≤ q.node = b.node e in grind (arith, nat_tests) })
+
+-- where a loop has gone over all points
+pub all_gone_over : (gone kept index : ℕ) (points old : List Point) → length points ≡ length old → length old ≤ index
+    → take kept points ++ left_without gone (drop index points) ≡ left_without gone old → take kept points ≡ left_without gone old
+all_gone_over gone kept index points old long end all =
+    sym (append-nil (take kept points)) ∙ ap (λ rest. take kept points ++ left_without gone rest) (sym (drop_all index points (omega (arith, long)))) ∙ all
 
 -- the one undoes the other
 opened_then_closed : (at i : ℕ) → cond (ltb at (cond (ltb i at) i (i + 1))) (cond (ltb i at) i (i + 1) - 1) (cond (ltb i at) i (i + 1)) ≡ i
@@ -131,13 +138,18 @@ module _ (hash : List ℕ → ℕ) (es : Pairs) (come : ℕ) (node : List ℕ ×
       new (λ i _. ⊎_elim inr inl (cases_eq i come)) in
       record { real = all.real; all = λ i place of. all.all i place tt of }
 
--- a ring with a node more
-pub ring_with : (hash : List ℕ → ℕ) (es : Pairs) (name : List ℕ) (w i : ℕ) (old points : List Point) → IsRing hash es old
-    → IsGapAt es name i → 1 ≤ w
-    → ArePoints hash (insert es i (name, w)) points → AllPairs IsBefore points → IsRing hash (insert es i (name, w)) points
-ring_with hash es name w i old points ring gap some just ordered = record {
-  named = inserted_sorted es ring.named name w i gap;
-  weighed = grind (arith, elements, ring.weighed);
-  just = just;
-  ordered = ordered;
-}
+-- a ring with a node more, whose points were put among the others
+pub ring_merged : (hash : List ℕ → ℕ) (es : Pairs) (name : List ℕ) (w i : ℕ) (old added points : List Point) → IsRing hash es old
+    → IsGapAt es name i → 1 ≤ w → IsPermutation (points_of hash (name, w) i) added
+    → IsPermutation (map (opened_up i) old ++ added) points → AllPairs IsBefore points → IsRing hash (insert es i (name, w)) points
+ring_merged hash es name w i old added points ring gap some its merged ordered =
+    let others = map (opened_up i) old in
+    let node : List ℕ × ℕ = (name, w) in record {
+      named = inserted_sorted es ring.named name w i gap;
+      weighed = grind (arith, elements, ring.weighed);
+      just = ArePoints-permutation hash (insert es i node) (others ++ points_of hash node i) points
+          (IsPermutation-trans (others ++ points_of hash node i) (others ++ added) points
+          (IsPermutation-append_right others (points_of hash node i) added its) merged)
+          (ArePoints-insert hash es i node gap.within old ring.just);
+      ordered = ordered;
+    }

@@ -1,4 +1,4 @@
-pub mod Points
+pub mod PointLemmas
 pub mod Names
 pub mod Owners
 pub mod Edits

@@ -1,20 +1,20 @@
 -- Who owns a key, and how a ring's points tell it.
-use Rattle.std.proofs.Common.{ℕ, zero, suc, min, is_some, take, ◌≡◌, ◌≢◌, ◌+◌, ◌-◌, ◌<◌, ◌≤◌, Bool, true, false, not, cond, List, [], ◌∷◌, ◌++◌, length, get_or, Option, Some, None, arith, sym, ap, ◌∙◌, subst, refl, ⊎_elim, inl, inr, ◌⊎◌}
+use Rattle.std.proofs.Common.{ℕ, zero, suc, min, is_some, take, ◌≡◌, ◌≢◌, ◌+◌, ◌-◌, ◌<◌, ◌≤◌, Bool, T, true, false, not, cond, List, [], ◌∷◌, ◌++◌, length, get_or, Option, Some, None, arith, sym, ap, ◌∙◌, subst, refl, ⊎_elim, inl, inr, ◌⊎◌}
 use Rattle.std.specs.Prelude.{◌↔◌, IsTrue, nat_eq}
-use Rattle.std.specs.Borrow.{Bor}
 use Rattle.std.specs.List.{All, AllPairs, Contains, list_any}
-use Rattle.hashers.specs.Text.{texts}
+use borrow.Author.Tests.{eqb-true}
 use Rattle.std.specs.Ordering.{is_gt, ordering_reverse}
 use Rattle.std.specs.declared.cmp.Ordering.{Ordering}
 use Rattle.std.specs.declared.cmp.Ordering.TheVariants.{Less, Equal, Greater}
-use Rattle.std.specs.Cmp.Lexicographic.{nat_list_cmp_total, pointwise, bytes_decides}
+use Rattle.std.specs.Cmp.Lexicographic.{nat_list_cmp_total}
 use Rattle.std.specs.FinMap as fin
+use Rattle.std.specs.FinMap.{is_sorted}
 use Rattle.std.specs.FinMap.{slice_cmp-IsAntisymmetric, nat_cmp-IsAntisymmetric}
 use Rattle.std.proofs.lemmas.Bool.{cases_lt}
 use Rattle.std.proofs.lemmas.Bool.Decides.{nat_tests}
 use Rattle.std.proofs.lemmas.Grind.{elements}
 use Rattle.std.proofs.lemmas.List.Elements.{All-contains, All-nil, All-push, All-take, Contains-append_left, Contains-push}
-use Rattle.std.proofs.lemmas.List.{get_or_default, get_or-map, length-map, take_more}
+use Rattle.std.proofs.lemmas.List.{get_or_default, get_or-map, length-map, length-take-le, take_more}
 use Rattle.std.proofs.lemmas.List.Folds.{Any-from_list_any, list_any-from_Any}
 use Rattle.std.proofs.lemmas.List.Kept.{AllPairs-cons}
 use Rattle.text_maps.proofs.TextMapLemmas.{get_remove, get_remove_other, get_remove_same, not_same, same, same_itself, same_key}
@@ -22,11 +22,11 @@ use Rattle.std.proofs.lemmas.Cmp.{eq_by_cmp_equiv}
 use Rattle.std.proofs.lemmas.Map.Views.{Contains-from_any, list_any-from_Contains}
 use Rattle.text_maps.proofs.TextMapLemmas.{alike as same_if_alike}
 use Rattle.hash_ring.specs.declared.Node.{Node}
-use Rattle.hash_ring.specs.declared.Point.{Point}
+use Rattle.hash_ring.specs.declared.points.Point.{Point}
 use Rattle.hash_ring.specs.Ring.{AreOwners, IsFirst, IsFirstToPass, without, HasPoint, IsOwner, IsPointOf, Nodes, point, turn}
-use Rattle.hash_ring.specs.Points.{IsBefore, IsRing, IsStart, index_round, node_at, nodes_of, pair_of, pairs}
-use Rattle.hash_ring.proofs.Points.{is_there}
-use Rattle.hash_ring.proofs.Names.{Pairs, by_bytes, found_at, found_where, get_is, no_greater, read}
+use Rattle.hash_ring.specs.Points.{IsBefore, IsRing, IsStart, index_round, name_at, names_at, node_at, nodes_of, pair_of, pairs}
+use Rattle.hash_ring.proofs.PointLemmas.{is_there}
+use Rattle.hash_ring.proofs.Names.{Pairs, by_bytes, found_at, found_where, entries_are, get_is, itself, names_rise, no_greater, read}
 
 -- ---- one owner alone
 not_both : (r s : Ordering) → s ≡ ordering_reverse r → is_gt r ≡ false → is_gt s ≡ false → r ≡ Equal
@@ -470,14 +470,20 @@ module _ (hash : List ℕ → ℕ) (es : Pairs) (points : List Point) (ring : Is
   first_owner some = next_owner round_of [] 0 some (λ t l. absurd (omega arith)) (new_of_none _)
 
 -- the name that the code reads
+pub name_here : (hash : List ℕ → ℕ) (nodes : List Node) (points : List Point) → IsRing hash (pairs nodes) points
+    → (k : ℕ) (d : Node) (text : List ℕ) → k < length points → text ≡ (get_or nodes (get_or points k none).node d).name.items
+    → name_at (pairs nodes) points k ≡ text
+name_here hash nodes points ring k d text below is =
+    let p = get_or points k none in
+    let there : p.node < length nodes =
+    omega (arith, is_there hash (pairs nodes) p.node p.place (ring.just.real k none below), length-map nodes pair_of) in
+    read nodes d p.node there ∙ sym is
+
 pub name_read : (hash : List ℕ → ℕ) (nodes : List Node) (points : List Point) → IsRing hash (pairs nodes) points
     → (first steps k : ℕ) (d : Node) (text : List ℕ) → k < length points → k ≡ index_round (length points) first steps
     → text ≡ (get_or nodes (get_or points k none).node d).name.items → (spot (pairs nodes) points first steps).1 ≡ text
 name_read hash nodes points ring first steps k d text below index is =
-    let p = get_or points k none in
-    let there : p.node < length nodes =
-    omega (arith, is_there hash (pairs nodes) p.node p.place (ring.just.real k none below), length-map nodes pair_of) in
-    ap (λ (k : ℕ). (node_at (pairs nodes) (get_or points k none).node).0) (sym index) ∙ read nodes d p.node there ∙ sym is
+    ap (name_at (pairs nodes) points) (sym index) ∙ name_here hash nodes points ring k d text below is
 
 -- a ring of no points has no nodes
 pub no_points : (hash : List ℕ → ℕ) (es : Pairs) (points : List Point) → IsRing hash es points → length points ≡ 0 → nodes_of es ≡ fin.empty
@@ -486,31 +492,54 @@ no_points hash es points ring none =
     record { within = omega arith; before = λ k d l. absurd (omega arith); after = λ k d l m. absurd (omega arith) } in
     none_left (round_of hash es points ring 0 0 start) [] (λ t l. absurd (omega arith))
 
--- ---- a name among names
-abbrev is_name : List ℕ → Bor (List ℕ) → Bool
-is_name name x = pointwise nat_eq x.now name
+-- ---- nodes by their indices
+-- a name has one index
+one_index : (es : Pairs) → T (is_sorted by_bytes es) → (i j : ℕ) → i < length es → j < length es
+    → (node_at es i).0 ≡ (node_at es j).0 → i ≡ j
+one_index es sorted i j low high is = ⊎_elim
+    (λ (less : i < j). absurd (tied i j (names_rise es sorted i j less high) is))
+    (λ (no : j ≤ i). ⊎_elim
+    (λ (more : j < i). absurd (tied j i (names_rise es sorted j i more low) (sym is)))
+    (λ (upto : i ≤ j). omega arith)
+    (cases_lt j i))
+    (cases_lt i j)
+  where
+    tied : (i j : ℕ) → by_bytes (node_at es i).0 (node_at es j).0 ≡ Less → (node_at es i).0 ≡ (node_at es j).0 → ⊥
+    tied i j less is =
+        let equal : by_bytes (node_at es i).0 (node_at es j).0 ≡ Equal =
+        ap (by_bytes (node_at es i).0) (sym is) ∙ itself (node_at es i).0 in cc
 
-pub among_exactly : (names : List (Bor (List ℕ))) (name : List ℕ) (b : Bool) → b ≡ list_any (is_name name) names
-    → IsTrue b ↔ Contains (texts names) name
-among_exactly [] name b e = (λ h. cc, λ c. absurd (omega (arith, c.1)))
-among_exactly (x ∷ xs) name b e =
-    let names = x ∷ xs in
-    let text = λ (y : Bor (List ℕ)). y.now in (
-      λ h.
-          let a = Any-from_list_any (is_name name) names (sym e ∙ h) in (
-            a.0,
-            omega (arith, a.2, length-map names text),
-            get_or-map text names a.0 a.1 name a.2 ∙ ap text a.3
-                ∙ (bytes_decides a.1.now name).0 a.4,
-          ),
-      λ c.
-          let below : c.0 < length names = omega (arith, c.1, length-map names text) in
-          let y = get_or names c.0 x in
-          e ∙ list_any-from_Any (is_name name) names (
-            c.0,
-            y,
-            below,
-            get_or_default names c.0 y x below,
-            (bytes_decides y.now name).1 (sym (get_or-map text names c.0 x name below) ∙ c.2),
-          ),
-    )
+-- what a search for a node says
+pub among_exactly : (nodes : List ℕ) (node : ℕ) (b : Bool) → b ≡ list_any (λ y. nat_eq y node) nodes → IsTrue b ↔ Contains nodes node
+among_exactly nodes node b e = (
+  λ h. let a = Any-from_list_any (λ y. nat_eq y node) nodes (sym e ∙ h) in
+      (a.0, a.2, get_or_default nodes a.0 node a.1 a.2 ∙ a.3 ∙ eqb-true a.1 node a.4),
+  λ c. e ∙ list_any-from_Any (λ y. nat_eq y node) nodes (c.0, node, c.1, c.2, grind (arith, nat_tests)),
+)
+
+module _ (es : Pairs) (sorted : T (is_sorted by_bytes es)) where
+  -- some nodes of those that are there, by their indices
+  module _ (nodes : List ℕ) (real : All (λ i. i < length es) nodes) (node : ℕ) (below : node < length es) where
+    -- a node is among them exactly if its name is among theirs
+    pub name_among : Contains nodes node → Contains (names_at es nodes) (node_at es node).0
+    name_among c =
+        let name = λ (i : ℕ). (node_at es i).0 in
+        (c.0, omega (arith, c.1, length-map nodes name), get_or-map name nodes c.0 node (node_at es node).0 c.1 ∙ ap name c.2)
+
+    pub node_among : Contains (names_at es nodes) (node_at es node).0 → Contains nodes node
+    node_among c =
+        let name = λ (i : ℕ). (node_at es i).0 in
+        let low : c.0 < length nodes = omega (arith, c.1, length-map nodes name) in (
+          c.0,
+          low,
+          one_index es sorted (get_or nodes c.0 node) node (real c.0 node low) below
+              (sym (get_or-map name nodes c.0 node (node_at es node).0 low) ∙ c.2),
+        )
+
+  -- how many they are
+  pub as_many : (nodes : List ℕ) (count m : ℕ) → count ≤ length nodes
+      → length (names_at es (take count nodes)) ≡ min m (fin.len (nodes_of es)) → count ≡ min m (length es)
+  as_many nodes many m few is =
+      let long = length-map (take many nodes) (λ (i : ℕ). (node_at es i).0) ∙ length-take-le many nodes few in
+      let all : fin.len (nodes_of es) ≡ length es = fin.len-entries _ ∙ ap length (entries_are es sorted) in
+      sym long ∙ is ∙ ap (min m) all

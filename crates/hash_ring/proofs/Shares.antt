@@ -9,12 +9,12 @@ use Rattle.std.proofs.lemmas.Grind.{elements}
 use Rattle.std.proofs.lemmas.List.Folds.{sum_by-replicate}
 use Rattle.std.proofs.lemmas.List.Sums.{sum_by-append, sum_by-cons, sum_by-set}
 use Rattle.text_maps.proofs.TextMapLemmas.{not_same, same, same_itself}
-use Rattle.hash_ring.specs.declared.Point.{Point}
+use Rattle.hash_ring.specs.declared.points.Point.{Point}
 use Rattle.hash_ring.specs.Ring.{AreShares, AreStretches, IsOwner, Nodes, Stretch, share_of}
 use Rattle.hash_ring.specs.Points.{IsRing, index_round, node_at, nodes_of}
 use Rattle.hash_ring.proofs.Names.{Pairs, by_bytes, entries_are, rising_differ}
 use Rattle.hash_ring.proofs.Owners.{first_owner, none, spot}
-use Rattle.hash_ring.proofs.Points.{is_there, places_rise}
+use Rattle.hash_ring.proofs.PointLemmas.{is_there, places_rise}
 
 stretches_append : (hash : List ℕ → ℕ) (m : Nodes) (from mid to : ℕ) (xs ys : List Stretch) → AreStretches hash m from mid xs
     → AreStretches hash m mid to ys

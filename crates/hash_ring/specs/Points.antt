@@ -1,5 +1,5 @@
 -- How nodes and their points lie in memory.
-use Rattle.std.specs.Prelude.{ℕ, ◌+◌, ◌≡◌, ◌≤◌, ◌<◌, List, [], ◌++◌, map, length, slice_index_or, T, nat_lt, not, ◌==◌, ◌-◌, if◌then◌else◌}
+use Rattle.std.specs.Prelude.{ℕ, ◌+◌, ◌≡◌, ◌≤◌, ◌<◌, ◌^◌, List, take, [], ◌++◌, map, length, slice_index_or, T, nat_lt, not, ◌==◌, ◌-◌, if◌then◌else◌}
 use Rattle.std.specs.List.{All, AllPairs, Contains, filter, range_with_len}
 use Rattle.std.specs.Ordering.{nat_cmp}
 use Rattle.std.specs.declared.cmp.Ordering.TheVariants.{Less, Greater}
@@ -10,7 +10,7 @@ use Rattle.std.specs.Global.{Vec}
 use Rattle.std.specs.List.Sorted.{IsPermutation}
 use Rattle.text_maps.specs.TextMaps.{KeysDiffer}
 use Rattle.hash_ring.specs.declared.Node.{Node}
-use Rattle.hash_ring.specs.declared.Point.{Point}
+use Rattle.hash_ring.specs.declared.points.Point.{Point}
 use Rattle.hash_ring.specs.declared.Refused.{Refused}
 use Rattle.hash_ring.specs.declared.Refused.TheVariants.{IsThere, NoRoom}
 use Rattle.hash_ring.specs.Ring.{Nodes, IsPointOf, point}
@@ -48,6 +48,14 @@ node_at nodes i = slice_index_or nodes i ([], 0)
 pub record IsBefore (p q : Point) : Type 0 where
   pub place : p.place ≤ q.place
   pub node : p.place ≡ q.place → p.node ≤ q.node
+
+-- the name of the node whose point stands at an index
+abbrev pub name_at : List (List ℕ × ℕ) → List Point → ℕ → List ℕ
+name_at nodes points i = (node_at nodes (slice_index_or points i (record { place = 0; node = 0 })).node).0
+
+-- the names of the nodes at some indices
+abbrev pub names_at : List (List ℕ × ℕ) → List ℕ → List (List ℕ)
+names_at nodes indices = map (λ i. (node_at nodes i).0) indices
 
 -- the point is one of its node
 abbrev pub IsPointOfItsNode : (List ℕ → ℕ) → List (List ℕ × ℕ) → Point → Type 0
@@ -100,6 +108,13 @@ pub record IsStart (points : List Point) (at i : ℕ) : Type 0 where
 -- the index some steps after the first one, round a list of n
 abbrev pub index_round : ℕ → ℕ → ℕ → ℕ
 index_round n first steps = if nat_lt steps (n - first) then first + steps else steps - (n - first)
+
+-- the points of a new node can be merged with the others, the first ones of an array with room for both
+pub record MayMerge (points new : List Point) : Type 0 where
+  pub room : length new ≤ length points
+  pub others : AllPairs IsBefore (take (length points - length new) points)
+  pub added : AllPairs IsBefore new
+  pub below : All (λ p. p.node + 1 < 2 ^ 64) (take (length points - length new) points)
 
 -- a refusal hands all nodes back, in whatever order, and tells that two have one name from want of memory
 abbrev pub HandsAllBack : List Node → Refused (Vec Node) → Type 0

@@ -9,20 +9,23 @@
 //! keys fall depends on the hasher: see docs/RING.md.
 #![tactic(auto)]
 
-ghost use Rattle.std.specs.Prelude.{◌≡◌, ◌≢◌, ◌↔◌, ◌+◌, ◌<◌, ◌≤◌, ◌^◌, ◌++◌, if◌then◌else◌, ℕ, List, IfOk, IfErr, IfSome, IfNone, OnOk, OnErr, OnSome, IsTrue, MatchResult, None, T, false, length, map, min, sum, take};
+ghost use Rattle.std.specs.Prelude.{◌≡◌, ◌≢◌, ◌↔◌, ◌+◌, ◌<◌, ◌≤◌, ◌^◌, ◌++◌, ℕ, List, IfOk, IfErr, IfSome, IfNone, OnOk, OnErr, OnSome, IsTrue, MatchResult, None, T, false, length, map, min, sum, take};
 ghost use Rattle.std.specs.Cmp.Lexicographic.{slice_cmp};
 ghost use Rattle.std.specs.Coded.{coded_list, coded_ℕ};
 ghost use Rattle.std.specs.FinMap as map;
 ghost use Rattle.std.specs.Fn.{FnReturnsAt};
 ghost use Rattle.std.specs.FinMap.Entries.{is_sorted};
-ghost use Rattle.std.specs.List.{All, AllPairs, Contains};
+ghost use Rattle.std.specs.List.{All, AllPairs};
 ghost use Rattle.std.specs.Ordering.{nat_cmp};
 ghost use Rattle.std.specs.List.Sorted.{IsPermutation};
 ghost use Rattle.hashers.specs.Text.{texts};
 ghost use Rattle.text_maps.specs.TextMaps.{InsertsCommute, KeysDiffer, OthersStay, with_all};
 ghost use Rattle.hash_ring.specs.Ring.{Nodes, AreOwners, AreShares, BeginAlike, HandsBack, IsFirstToPass, IsOwner, KeepOrder, MovesOnlyFrom, MovesOnlyTo, OthersKeep, OwnsNothing};
-ghost use Rattle.hash_ring.specs.Points.{AddsPoints, ArePoints, HandsAllBack, IsBefore, IsGapAt, IsNamedAt, IsRing, IsStart, closed_up, index_round, left_without, opened_up, pair_of, pairs, points_of, ring_of};
+ghost use Rattle.hash_ring.specs.Points.{AddsPoints, ArePoints, HandsAllBack, IsBefore, IsGapAt, IsNamedAt, IsRing, names_at, nodes_of, opened_up, pair_of, pairs, points_of, ring_of};
 
+pub mod points;
+
+use crate::points::{Point, first_from, index_round, merge_backward};
 use hashers::laws::{Piecewise, hash_of};
 use std::alloc::{AllocError, AllocFailed, Global};
 use std::error::Error as StdError;
@@ -36,13 +39,6 @@ use std::marker::{Model, PhantomData};
 pub struct Node {
     pub name: Vec<u8>,
     pub weight: u64,
-}
-
-/// A point on the ring, and the index of its node among the nodes.
-#[derive(Clone, Copy, PartialEq, Eq, PartialOrd, Ord)]
-struct Point {
-    place: u64,
-    node: usize,
 }
 
 /// Why a node was not added, or a ring was not built. What was handed over comes back: the name, or all nodes.
@@ -132,74 +128,6 @@ fn names_rise(nodes: &[Node]) -> bool
     nodes.is_sorted_by(|one, next| one.name.cmp(&next.name).is_lt())
 }
 
-/// The number where `is`, and 0 elsewhere. It is a shift, as the compiler makes a jump of an `if`, whose way no processor guesses.
-fn if_so(is: bool, n: usize) -> usize
-    requires { n < 2 ^ 63 }
-    ensures { result ≡ (if is then n else 0) }
-{
-    (n << u32::from(is)) - n
-}
-
-/// How many points a search without jumps is faster over: so many lie in a processor's caches.
-const FEW: usize = 1 << 17;
-
-/// Where the first point at or after the place stands, or the points' end. Over many points each step waits for memory, and
-/// jumps that are guessed fetch points early.
-fn first_from(points: &[Point], place: u64) -> usize
-    requires { AllPairs IsBefore points.now }
-    ensures { IsStart points.now place result }
-{
-    if points.len() <= FEW {
-        return first_without_jumps(points, place);
-    }
-    points.partition_point(|point| point.place < place)
-}
-
-/// The same, by a binary search that makes no jump on what a point is.
-fn first_without_jumps(points: &[Point], place: u64) -> usize
-    requires { AllPairs IsBefore points.now }
-    ensures { IsStart points.now place result }
-{
-    let mut first = 0;
-    let mut size = points.len();
-    while size > 1 {
-        let half = size / 2;
-        first += if_so(points[first + half].place < place, half);
-        size -= half;
-    }
-    if size == 1 && points[first].place < place {
-        first + 1
-    } else {
-        first
-    }
-}
-
-/// The index some steps after the first one, round a list of `n`.
-fn index_round(n: usize, first: usize, steps: usize) -> usize
-    requires within { first ≤ n }
-    requires below { steps < n }
-    ensures value { result ≡ index_round n first steps }
-    ensures in_range { result < n }
-{
-    if steps < n - first {
-        first + steps
-    } else {
-        steps - (n - first)
-    }
-}
-
-/// The point, where a node comes at an index.
-#[inline(always)]
-fn opened_up(come: usize, point: Point) -> Point
-    requires { point.node + 1 < 2 ^ 64 }
-    ensures { result ≡ opened_up come point }
-{
-    Point {
-        node: point.node + usize::from(point.node >= come),
-        ..point
-    }
-}
-
 /// The points of the node, in order.
 fn points_in_order<H: Piecewise>(
     alloc: Global,
@@ -214,32 +142,6 @@ fn points_in_order<H: Piecewise>(
     push_points::<H>(alloc, &mut added, node, index)?;
     added.sort_unstable();
     Ok(added)
-}
-
-/// Merges the points of a new node with the others, the first `others` ones, of whose nodes those from its index on stand one further
-/// then. The array fills from the end, so that no point is written over before it is read.
-fn merge_backward(points: &mut [Point], others: usize, added: &[Point], index: usize)
-    requires room { length points.old ≡ others + length added.now }
-    requires in_range { All (λ p. p.node + 1 < 2 ^ 64) (take others points.old) }
-    requires others_ordered { AllPairs IsBefore (take others points.old) }
-    requires added_ordered { AllPairs IsBefore added.now }
-    ensures merged { IsPermutation
-        (map (opened_up index) (take others points.old) ++ added.now) points.new }
-    ensures ordered { AllPairs IsBefore points.new }
-{
-    let mut left = others;
-    let mut right = added.len();
-    while left > 0 {
-        let point = opened_up(index, points[left - 1]);
-        if right > 0 && point < added[right - 1] {
-            right -= 1;
-            points[left + right] = added[right];
-        } else {
-            left -= 1;
-            points[left + right] = point;
-        }
-    }
-    points[..right].copy_from_slice(&added[..right]);
 }
 
 /// Puts the points of a new node among the others, of whose nodes those from its index on stand one further then. Where there is no
@@ -265,62 +167,38 @@ fn merge_points<H: Piecewise>(
     Ok(())
 }
 
-/// The point, where the node at an index has gone.
-#[inline(always)]
-fn closed_up(gone: usize, point: Point) -> Point
-    ensures { result ≡ closed_up gone point }
-{
-    Point {
-        node: point.node - usize::from(point.node > gone),
-        ..point
-    }
-}
-
-/// Takes the points of a node out, and counts the nodes of the others anew.
-fn take_points(points: &mut Vec<Point>, gone: usize)
-    ensures { points.new.items ≡ left_without gone points.old.items }
-{
-    let mut kept = 0;
-    for index in 0..points.len() {
-        let point = points[index];
-        points[kept] = closed_up(gone, point);
-        kept += usize::from(point.node != gone);
-    }
-    points.truncate(kept);
-}
-
-/// Whether the name is one of these.
-fn is_among(names: &[&[u8]], name: &[u8]) -> bool
-    ensures { IsTrue result ↔ Contains (texts names.now) name.now }
-{
-    names.contains(&name)
-}
-
-/// The names of the first `n` different nodes whose points come round from the place.
-fn names_round<'a, H: Piecewise>(
+/// The first `most` different nodes whose points come round from the place, or all where there are fewer.
+fn owners_of(
     alloc: Global,
-    nodes: &'a [Node],
     points: &[Point],
     place: u64,
-    n: usize,
-) -> Result<Vec<&'a [u8]>, AllocError>
-    requires { IsRing H.hash_of (pairs nodes.now) points.now }
-    ensures own { IfOk result (λ xs.
-        AreOwners H.hash_of (ring_of nodes.now) place (texts xs.items)) }
-    ensures count { IfOk result (λ xs. length xs.items ≡ min n (map.len (ring_of nodes.now))) }
-    ensures different { IfOk result (λ xs. AllPairs (λ a b. a ≢ b) (texts xs.items)) }
+    most: usize,
+) -> Result<Vec<usize>, AllocError>
+    ensures own { IfOk result (λ xs. (hash : List ℕ → ℕ) (named : List (List ℕ × ℕ)) → IsRing hash named points.now
+        → AreOwners hash (nodes_of named) place (names_at named xs.items)) }
+    ensures real { IfOk result (λ xs. (hash : List ℕ → ℕ) (named : List (List ℕ × ℕ)) → IsRing hash named points.now
+        → All (λ i. i < length named) xs.items) }
+    ensures count { IfOk result (λ xs. (hash : List ℕ → ℕ) (named : List (List ℕ × ℕ)) → IsRing hash named points.now
+        → length xs.items ≡ min most (length named)) }
 {
-    let mut names = Vec::new(alloc);
-    let first = first_from(points, place);
-    for steps in 0..points.len() {
-        if names.len() == n {
-            return Ok(names);
-        }
-        let point = points[index_round(points.len(), first, steps)];
-        let name = nodes[point.node].name.as_slice();
-        if !is_among(&names, name) {
-            names.push(name)?;
-        }
+    let mut owners = vec![in alloc; 0usize; most]?;
+    let count = points::owners_at(points, place, &mut owners);
+    owners.truncate(count);
+    Ok(owners)
+}
+
+/// The names of the nodes at these indices.
+fn names_of<'a>(
+    alloc: Global,
+    nodes: &'a [Node],
+    indices: &[usize],
+) -> Result<Vec<&'a [u8]>, AllocError>
+    requires { All (λ i. i < length nodes.now) indices.now }
+    ensures { IfOk result (λ xs. texts xs.items ≡ names_at (pairs nodes.now) indices.now) }
+{
+    let mut names = Vec::with_capacity(alloc, indices.len())?;
+    for at in 0..indices.len() {
+        names.push(nodes[indices[at]].name.as_slice())?;
     }
     Ok(names)
 }
@@ -476,7 +354,8 @@ impl<H: Piecewise> Ring<H> {
         let Ok(gone) = self.place_of(name) else {
             return None;
         };
-        take_points(&mut self.points, gone);
+        let kept = points::remove(&mut self.points, gone);
+        self.points.truncate(kept);
         Some(self.nodes.remove(gone).weight)
     }
 
@@ -500,8 +379,7 @@ impl<H: Piecewise> Ring<H> {
         if self.points.is_empty() {
             return None;
         }
-        let first = first_from(&self.points, place);
-        let point = self.points[index_round(self.points.len(), first, 0)];
+        let point = self.points[points::owner_at(&self.points, place)];
         Some(&self.nodes[point.node].name)
     }
 
@@ -513,7 +391,9 @@ impl<H: Piecewise> Ring<H> {
         ensures count { IfOk result (λ xs. length xs.items ≡ min n (map.len self.now)) }
         ensures different { IfOk result (λ xs. AllPairs (λ a b. a ≢ b) (texts xs.items)) }
     {
-        names_round::<H>(alloc, &self.nodes, &self.points, hash_of::<H>(key), n)
+        let most = n.min(self.nodes.len());
+        let owners = owners_of(alloc, &self.points, hash_of::<H>(key), most)?;
+        names_of(alloc, &self.nodes, &owners)
     }
 
     /// How much of the ring each node owns, in the order of `nodes`: how many of the 2^64 places. Where there is a node they sum up to

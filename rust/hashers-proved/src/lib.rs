@@ -109,6 +109,11 @@ pub mod hash_cuts {
     mod gear;
     pub use cuts::{Chunks, Cuts};
 }
+#[cfg(not(feature = "std"))]
+#[doc(hidden)]
+pub mod hash_ring {
+    pub mod points;
+}
 #[doc(hidden)]
 pub mod hash_names {
     #[cfg(feature = "std")]
@@ -152,6 +157,9 @@ pub use hashers::{build, fnv, fx_hash, laws, null, oz, pigeon, promises, rounds,
 #[cfg(not(feature = "std"))]
 #[doc(inline)]
 pub use hash_bloom::words as bloom;
+#[cfg(not(feature = "std"))]
+#[doc(inline)]
+pub use hash_ring::points as ring;
 
 // The uses, whose calls a user of Rust expects: each over its proved module, by hand.
 #[cfg(feature = "std")]

@@ -1,6 +1,6 @@
 use Rattle.std.proofs.Common.{◌<◌}
 use Rattle.hash_ring.specs.Points.{pairs}
-use Rattle.hash_ring.proofs.Points.{AreThese}
+use Rattle.hash_ring.proofs.PointLemmas.{AreThese}
 use Rattle.hash_ring.proofs.all_points.Given as goal
 
 abbrev pub invariant-loop-index : goal.invariant-loop-index

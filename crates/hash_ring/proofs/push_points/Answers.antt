@@ -1,19 +1,9 @@
-use Rattle.std.proofs.Common.{◌≡◌, ◌+◌, ◌++◌, ◌∷◌, [], ℕ, List, take, length, arith, ap, ◌∙◌, append_assoc}
+use Rattle.std.proofs.Common.{◌≡◌, ◌++◌, take, length, ap, ◌∙◌}
 use Rattle.std.proofs.Math.Seq.{take-append_seam}
-use Rattle.std.proofs.lemmas.List.FromFn.{map-range_with_len_more}
 use Rattle.std.specs.Hash.{le_bytes}
-use Rattle.hash_ring.specs.declared.Point.{Point}
 use Rattle.hash_ring.specs.Ring.{point}
-use Rattle.hash_ring.specs.Points.{points_of}
+use Rattle.hash_ring.proofs.PointLemmas.{one_more}
 use Rattle.hash_ring.proofs.push_points.Goals as goal
-
-one_more : (hash : List ℕ → ℕ) (name : List ℕ) (k i : ℕ) (points now : List Point) (place : ℕ)
-    → now ≡ points ++ points_of hash (name, k) i → place ≡ point hash name k
-    → now ++ record { place = place; node = i } ∷ [] ≡ points ++ points_of hash (name, k + 1) i
-one_more hash name k i points now place so_far is =
-    let nth = λ (j : ℕ). let p : Point = record { place = point hash name j; node = i } in p in
-    let more = map-range_with_len_more nth 0 k k (omega arith) in
-    grind (arith, so_far, is, more, append_assoc)
 
 pub loop-number-preserved : goal.loop-number-preserved
 unfolding le_bytes

@@ -5,6 +5,7 @@ use super::numbers::NumberKey;
 use super::spooky::{SpookyState, Words};
 use super::*;
 use hashers_proved::hash_keyed::poly61::Poly61Place;
+use hashers_proved::hash_ring::points::Point;
 use hashers_proved::hash_xxh3::Xxh3Place;
 
 /// So many items from there on. Where there are none, any pointer will do.
@@ -949,6 +950,91 @@ pub unsafe extern "C" fn hashers_crc32c_unwrite(hash: u64, bytes: *const u8, byt
 pub unsafe extern "C" fn hashers_elf_write(hash: u64, bytes: *const u8, bytes_count: usize) -> u64 {
     // SAFETY: as said above.
     unsafe { parts::hashers_elf_write(hash, slice(bytes, bytes_count)) }
+}
+
+/// See `hashers.h`.
+///
+/// # Safety
+///
+/// Each pointer and its count are so many items that nothing else writes during the call.
+#[no_mangle]
+pub unsafe extern "C" fn hashers_ring_points(
+    kind: u32,
+    text: *mut u8,
+    text_count: usize,
+    node: usize,
+    points: *mut Point,
+    points_count: usize,
+) -> bool {
+    // SAFETY: as said above.
+    unsafe { ring::hashers_ring_points(kind, slice_mut(text, text_count), node, slice_mut(points, points_count)) }
+}
+
+/// See `hashers.h`.
+///
+/// # Safety
+///
+/// Each pointer and its count are so many items that nothing else writes during the call.
+#[no_mangle]
+pub unsafe extern "C" fn hashers_ring_sort(points: *mut Point, points_count: usize) {
+    // SAFETY: as said above.
+    unsafe { ring::hashers_ring_sort(slice_mut(points, points_count)) }
+}
+
+/// See `hashers.h`.
+///
+/// # Safety
+///
+/// Each pointer and its count are so many items that nothing else writes during the call.
+#[no_mangle]
+pub unsafe extern "C" fn hashers_ring_add(
+    points: *mut Point,
+    points_count: usize,
+    added: *const Point,
+    added_count: usize,
+    node: usize,
+) -> bool {
+    // SAFETY: as said above.
+    unsafe { ring::hashers_ring_add(slice_mut(points, points_count), slice(added, added_count), node) }
+}
+
+/// See `hashers.h`.
+///
+/// # Safety
+///
+/// Each pointer and its count are so many items that nothing else writes during the call.
+#[no_mangle]
+pub unsafe extern "C" fn hashers_ring_remove(points: *mut Point, points_count: usize, node: usize) -> usize {
+    // SAFETY: as said above.
+    unsafe { ring::hashers_ring_remove(slice_mut(points, points_count), node) }
+}
+
+/// See `hashers.h`.
+///
+/// # Safety
+///
+/// Each pointer and its count are so many items that nothing else writes during the call.
+#[no_mangle]
+pub unsafe extern "C" fn hashers_ring_owner(points: *const Point, points_count: usize, place: u64) -> usize {
+    // SAFETY: as said above.
+    unsafe { ring::hashers_ring_owner(slice(points, points_count), place) }
+}
+
+/// See `hashers.h`.
+///
+/// # Safety
+///
+/// Each pointer and its count are so many items that nothing else writes during the call.
+#[no_mangle]
+pub unsafe extern "C" fn hashers_ring_owners(
+    points: *const Point,
+    points_count: usize,
+    place: u64,
+    nodes: *mut usize,
+    nodes_count: usize,
+) -> usize {
+    // SAFETY: as said above.
+    unsafe { ring::hashers_ring_owners(slice(points, points_count), place, slice_mut(nodes, nodes_count)) }
 }
 
 /// See `hashers.h`.

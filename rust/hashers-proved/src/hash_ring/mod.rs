@@ -12,6 +12,9 @@
 use crate::hashers;
 use crate::shim::{Vec, vec, std};
 
+pub mod points;
+
+use crate::hash_ring::points::{Point, first_from, index_round, merge_backward};
 use hashers::laws::{Piecewise, hash_of};
 use std::alloc::{AllocError, AllocFailed, Global};
 use std::error::Error as StdError;
@@ -25,13 +28,6 @@ use std::marker::{PhantomData};
 pub struct Node {
     pub name: Vec<u8>,
     pub weight: u64,
-}
-
-/// A point on the ring, and the index of its node among the nodes.
-#[derive(Clone, Copy, PartialEq, Eq, PartialOrd, Ord)]
-struct Point {
-    place: u64,
-    node: usize,
 }
 
 /// Why a node was not added, or a ring was not built. What was handed over comes back: the name, or all nodes.
@@ -126,123 +122,6 @@ fn names_rise(nodes: &[Node]) -> bool {
     nodes.is_sorted_by(|one, next| one.name.cmp(&next.name).is_lt())
 }
 
-/// The number where `is`, and 0 elsewhere. It is a shift, as the compiler makes a jump of an `if`, whose way no processor guesses.
-///
-/// The caller has to see to it that:
-///
-/// ```text
-/// n < 2 ^ 63
-/// ```
-///
-/// Proved:
-///
-/// ```text
-/// result ≡ (if is then n else 0)
-/// ```
-#[inline]
-fn if_so(is: bool, n: usize) -> usize {
-    (n << u32::from(is)) - n
-}
-
-/// How many points a search without jumps is faster over: so many lie in a processor's caches.
-const FEW: usize = 1 << 17;
-
-/// Where the first point at or after the place stands, or the points' end. Over many points each step waits for memory, and
-/// jumps that are guessed fetch points early.
-///
-/// The caller has to see to it that:
-///
-/// ```text
-/// AllPairs IsBefore points.now
-/// ```
-///
-/// Proved:
-///
-/// ```text
-/// IsStart points.now place result
-/// ```
-#[inline]
-fn first_from(points: &[Point], place: u64) -> usize {
-    if points.len() <= FEW {
-        return first_without_jumps(points, place);
-    }
-    points.partition_point(|point| point.place < place)
-}
-
-/// The same, by a binary search that makes no jump on what a point is.
-///
-/// The caller has to see to it that:
-///
-/// ```text
-/// AllPairs IsBefore points.now
-/// ```
-///
-/// Proved:
-///
-/// ```text
-/// IsStart points.now place result
-/// ```
-#[inline]
-fn first_without_jumps(points: &[Point], place: u64) -> usize {
-    let mut first = 0;
-    let mut size = points.len();
-    while size > 1 {
-        let half = size / 2;
-        first += if_so(points[first + half].place < place, half);
-        size -= half;
-    }
-    if size == 1 && points[first].place < place {
-        first + 1
-    } else {
-        first
-    }
-}
-
-/// The index some steps after the first one, round a list of `n`.
-///
-/// The caller has to see to it that:
-///
-/// ```text
-/// within: first ≤ n
-/// below: steps < n
-/// ```
-///
-/// Proved:
-///
-/// ```text
-/// value: result ≡ index_round n first steps
-/// in_range: result < n
-/// ```
-#[inline]
-fn index_round(n: usize, first: usize, steps: usize) -> usize {
-    if steps < n - first {
-        first + steps
-    } else {
-        steps - (n - first)
-    }
-}
-
-/// The point, where a node comes at an index.
-///
-/// The caller has to see to it that:
-///
-/// ```text
-/// point.node + 1 < 2 ^ 64
-/// ```
-///
-/// Proved:
-///
-/// ```text
-/// result ≡ opened_up come point
-/// ```
-#[inline(always)]
-fn opened_up(come: usize, point: Point) -> Point {
-    Point {
-        node: point.node + usize::from(point.node >= come),
-        ..point
-    }
-}
-
 /// The points of the node, in order.
 ///
 /// Proved:
@@ -262,42 +141,6 @@ fn points_in_order<H: Piecewise>(
     push_points::<H>(alloc, &mut added, node, index)?;
     added.sort_unstable();
     Ok(added)
-}
-
-/// Merges the points of a new node with the others, the first `others` ones, of whose nodes those from its index on stand one further
-/// then. The array fills from the end, so that no point is written over before it is read.
-///
-/// The caller has to see to it that:
-///
-/// ```text
-/// room: length points.old ≡ others + length added.now
-/// in_range: All (λ p. p.node + 1 < 2 ^ 64) (take others points.old)
-/// others_ordered: AllPairs IsBefore (take others points.old)
-/// added_ordered: AllPairs IsBefore added.now
-/// ```
-///
-/// Proved:
-///
-/// ```text
-/// merged: IsPermutation
-///     (map (opened_up index) (take others points.old) ++ added.now) points.new
-/// ordered: AllPairs IsBefore points.new
-/// ```
-#[inline]
-fn merge_backward(points: &mut [Point], others: usize, added: &[Point], index: usize) {
-    let mut left = others;
-    let mut right = added.len();
-    while left > 0 {
-        let point = opened_up(index, points[left - 1]);
-        if right > 0 && point < added[right - 1] {
-            right -= 1;
-            points[left + right] = added[right];
-        } else {
-            left -= 1;
-            points[left + right] = point;
-        }
-    }
-    points[..right].copy_from_slice(&added[..right]);
 }
 
 /// Puts the points of a new node among the others, of whose nodes those from its index on stand one further then. Where there is no
@@ -333,86 +176,53 @@ fn merge_points<H: Piecewise>(
     Ok(())
 }
 
-/// The point, where the node at an index has gone.
+/// The first `most` different nodes whose points come round from the place, or all where there are fewer.
 ///
 /// Proved:
 ///
 /// ```text
-/// result ≡ closed_up gone point
-/// ```
-#[inline(always)]
-fn closed_up(gone: usize, point: Point) -> Point {
-    Point {
-        node: point.node - usize::from(point.node > gone),
-        ..point
-    }
-}
-
-/// Takes the points of a node out, and counts the nodes of the others anew.
-///
-/// Proved:
-///
-/// ```text
-/// points.new.items ≡ left_without gone points.old.items
+/// own: IfOk result (λ xs. (hash : List ℕ → ℕ) (named : List (List ℕ × ℕ)) → IsRing hash named points.now
+///     → AreOwners hash (nodes_of named) place (names_at named xs.items))
+/// real: IfOk result (λ xs. (hash : List ℕ → ℕ) (named : List (List ℕ × ℕ)) → IsRing hash named points.now
+///     → All (λ i. i < length named) xs.items)
+/// count: IfOk result (λ xs. (hash : List ℕ → ℕ) (named : List (List ℕ × ℕ)) → IsRing hash named points.now
+///     → length xs.items ≡ min most (length named))
 /// ```
 #[inline]
-fn take_points(points: &mut Vec<Point>, gone: usize) {
-    let mut kept = 0;
-    for index in 0..points.len() {
-        let point = points[index];
-        points[kept] = closed_up(gone, point);
-        kept += usize::from(point.node != gone);
-    }
-    points.truncate(kept);
+fn owners_of(
+    alloc: Global,
+    points: &[Point],
+    place: u64,
+    most: usize,
+) -> Result<Vec<usize>, AllocError> {
+    let mut owners = vec![in alloc; 0usize; most]?;
+    let count = points::owners_at(points, place, &mut owners);
+    owners.truncate(count);
+    Ok(owners)
 }
 
-/// Whether the name is one of these.
-///
-/// Proved:
-///
-/// ```text
-/// IsTrue result ↔ Contains (texts names.now) name.now
-/// ```
-#[inline]
-fn is_among(names: &[&[u8]], name: &[u8]) -> bool {
-    names.contains(&name)
-}
-
-/// The names of the first `n` different nodes whose points come round from the place.
+/// The names of the nodes at these indices.
 ///
 /// The caller has to see to it that:
 ///
 /// ```text
-/// IsRing H.hash_of (pairs nodes.now) points.now
+/// All (λ i. i < length nodes.now) indices.now
 /// ```
 ///
 /// Proved:
 ///
 /// ```text
-/// own: IfOk result (λ xs.
-///     AreOwners H.hash_of (ring_of nodes.now) place (texts xs.items))
-/// count: IfOk result (λ xs. length xs.items ≡ min n (map.len (ring_of nodes.now)))
-/// different: IfOk result (λ xs. AllPairs (λ a b. a ≢ b) (texts xs.items))
+/// IfOk result (λ xs. texts xs.items ≡ names_at (pairs nodes.now) indices.now)
 /// ```
 #[inline]
-fn names_round<'a, H: Piecewise>(
+fn names_of<'a>(
     alloc: Global,
     nodes: &'a [Node],
-    points: &[Point],
-    place: u64,
-    n: usize,
+    indices: &[usize],
 ) -> Result<Vec<&'a [u8]>, AllocError> {
-    let mut names = Vec::new(alloc);
-    let first = first_from(points, place);
-    for steps in 0..points.len() {
-        if names.len() == n {
-            return Ok(names);
-        }
-        let point = points[index_round(points.len(), first, steps)];
-        let name = nodes[point.node].name.as_slice();
-        if !is_among(&names, name) {
-            names.push(name)?;
-        }
+    let mut names = Vec::with_capacity(alloc, indices.len())?;
+    for at in 0..indices.len() {
+        names.push(nodes[indices[at]].name.as_slice())?;
     }
     Ok(names)
 }
@@ -638,7 +448,8 @@ impl<H: Piecewise> Ring<H> {
         let Ok(gone) = self.place_of(name) else {
             return None;
         };
-        take_points(&mut self.points, gone);
+        let kept = points::remove(&mut self.points, gone);
+        self.points.truncate(kept);
         Some(self.nodes.remove(gone).weight)
     }
 
@@ -672,8 +483,7 @@ impl<H: Piecewise> Ring<H> {
         if self.points.is_empty() {
             return None;
         }
-        let first = first_from(&self.points, place);
-        let point = self.points[index_round(self.points.len(), first, 0)];
+        let point = self.points[points::owner_at(&self.points, place)];
         Some(&self.nodes[point.node].name)
     }
 
@@ -690,7 +500,9 @@ impl<H: Piecewise> Ring<H> {
     /// ```
     #[inline]
     pub fn owners(&self, alloc: Global, key: &[u8], n: usize) -> Result<Vec<&[u8]>, AllocError> {
-        names_round::<H>(alloc, &self.nodes, &self.points, hash_of::<H>(key), n)
+        let most = n.min(self.nodes.len());
+        let owners = owners_of(alloc, &self.points, hash_of::<H>(key), most)?;
+        names_of(alloc, &self.nodes, &owners)
     }
 
     /// How much of the ring each node owns, in the order of `nodes`: how many of the 2^64 places. Where there is a node they sum up to

@@ -2,13 +2,13 @@ use Rattle.std.proofs.Common.{◌≡◌, ◌∙◌, ◌≤◌, ◌++◌, map, ap
 use Rattle.std.specs.List.{insert}
 use Rattle.std.specs.FinMap as fin
 use Rattle.std.proofs.lemmas.List.{length-map}
+use Rattle.std.proofs.lemmas.List.Sorted.{IsPermutation-refl}
 use Rattle.std.proofs.lemmas.List.Edits.{get_or-insert_at}
 use Rattle.hash_ring.specs.declared.Node.{Node}
 use Rattle.std.specs.List.Sorted.{IsPermutation}
 use Rattle.hash_ring.specs.Points.{IsRing, nodes_of, opened_up, pair_of, pairs, points_of}
-use Rattle.hash_ring.proofs.Points.{ArePoints-permutation}
 use Rattle.hash_ring.proofs.Names.{absent, found, gap_read, inserted, len_of}
-use Rattle.hash_ring.proofs.Edits.{ArePoints-insert, pairs_insert, ring_with}
+use Rattle.hash_ring.proofs.Edits.{pairs_insert, ring_merged}
 use Rattle.hash_ring.proofs.Ring.add.Goals as goal
 
 pub returns-in-Ok-clause-err : goal.returns-in-Ok-clause-err
@@ -58,10 +58,8 @@ invariant_of-self-in-Ok-merge_points g c =
     let merged = subst (λ (n : Node). IsPermutation
     (map (opened_up at) old ++ points_of hash (pair_of n) at) points) its c.in-Ok-merge_points.ensures.merged in
     subst (λ es. IsRing hash es points) (sym all)
-    (ring_with hash (pairs nodes) name c.args.weight at old points c.self.invariant gap c.requires
-    (ArePoints-permutation hash _ _ points merged
-    (ArePoints-insert hash (pairs nodes) at (name, c.args.weight) gap.within old c.self.invariant.just))
-    c.in-Ok-merge_points.ensures.ordered)
+    (ring_merged hash (pairs nodes) name c.args.weight at old (points_of hash (name, c.args.weight) at) points c.self.invariant gap
+    c.requires (IsPermutation-refl _) merged c.in-Ok-merge_points.ensures.ordered)
 
 pub returns-in-Ok-merge_points-clause-added : goal.returns-in-Ok-merge_points-clause-added
 returns-in-Ok-merge_points-clause-added g c =

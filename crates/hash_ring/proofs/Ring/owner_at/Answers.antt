@@ -1,12 +1,13 @@
-use Rattle.std.proofs.Common.{◌≡◌, ◌<◌, ◌∙◌, ap, sym, subst, arith, length, get_or, ℕ}
-use Rattle.std.specs.List.{AllPairs}
+use Rattle.std.proofs.Common.{◌≡◌, ◌<◌, ◌∙◌, ap, sym, subst, arith, length, get_or}
+use Rattle.std.proofs.lemmas.List.{get_or_default, length-map}
+use Rattle.std.proofs.lemmas.Bool.Decides.{nat_tests}
 use borrow.Author.Tests.{eqb-true}
-use Rattle.hash_ring.specs.Ring.{IsOwner}
-use Rattle.hash_ring.specs.Points.{IsBefore, IsStart, index_round, pairs, ring_of}
-use Rattle.std.proofs.lemmas.List.{get_or_default}
-use Rattle.hash_ring.specs.declared.Point.{Point}
+use Rattle.hash_ring.specs.declared.points.Point.{Point}
 use Rattle.hash_ring.specs.declared.Node.{Node}
-use Rattle.hash_ring.proofs.Owners.{first_owner, name_read, no_owner, no_points, none}
+use Rattle.hash_ring.specs.Ring.{IsOwner}
+use Rattle.hash_ring.specs.Points.{IsRing, name_at, pair_of, pairs, ring_of}
+use Rattle.hash_ring.proofs.PointLemmas.{is_there}
+use Rattle.hash_ring.proofs.Owners.{name_here, no_owner, no_points, none}
 use Rattle.hash_ring.proofs.Ring.owner_at.Goals as goal
 
 pub returns-then-is_empty-clause-none : goal.returns-then-is_empty-clause-none
@@ -16,27 +17,43 @@ returns-then-is_empty-clause-none g c =
     sym c.self.view_is ∙ no_points g.H.Piecewise.hash_of (pairs c.self.inside.nodes.items) points.items c.self.invariant
     (sym points.ok.0 ∙ none)
 
-pub first_from-first-requires : goal.first_from-first-requires
-first_from-first-requires g c = subst (AllPairs IsBefore) (sym c.deref.ensures.value) c.self.invariant.ordered
+pub index-requires : goal.index-requires
+index-requires g c =
+    let nodes = c.self.inside.nodes in
+    let points = c.self.inside.points in
+    let some : 0 < length points.items = grind (arith, nat_tests, points.ok.0, c.if-is_empty.ensures) in
+    let k = c.owner_at.result in
+    let same : length c.deref.result.now ≡ length points.items = ap length c.deref.ensures.value in
+    let below : k < length points.items = omega (arith, same, c.owner_at.ensures.within (omega (arith, some, same))) in
+    let p = get_or points.items k none in
+    let read : c.index-point.result.now ≡ p = c.index-point.ensures ∙ get_or_default points.items k c.index-point.result.now none below in
+    omega (
+      arith,
+      ap (λ (q : Point). q.node) read,
+      nodes.ok.0,
+      length-map nodes.items pair_of,
+      is_there g.H.Piecewise.hash_of (pairs nodes.items) p.node p.place (c.self.invariant.just.real k none below),
+    )
 
 pub returns-clause-owns : goal.returns-clause-owns
 returns-clause-owns g c =
     let hash = g.H.Piecewise.hash_of in
     let nodes = c.self.inside.nodes.items in
-    let points = c.self.inside.points.items in
-    let first = c.first_from-first.result in
-    let k = c.index_round.result in
-    let start = subst (λ ps. IsStart ps c.args.place first) c.deref.ensures.value c.first_from-first.ensures in
-    let long : c.len.result ≡ length points = c.len.ensures ∙ c.self.inside.points.ok.0 in
-    let below : k < length points = omega (arith, long, c.index_round.ensures.in_range) in
-    let index : k ≡ index_round (length points) first 0 = c.index_round.ensures.value ∙ ap (λ (n : ℕ). index_round n first 0) long in
-    let name = name_read hash nodes points c.self.invariant first 0 k c.index.result.now c.deref-2.result.now below index
+    let points = c.self.inside.points in
+    let k = c.owner_at.result in
+    let some : 0 < length points.items = grind (arith, nat_tests, points.ok.0, c.if-is_empty.ensures) in
+    let same : length c.deref.result.now ≡ length points.items = ap length c.deref.ensures.value in
+    let has : 0 < length c.deref.result.now = omega (arith, some, same) in
+    let below : k < length points.items = omega (arith, same, c.owner_at.ensures.within has) in
+    let name : name_at (pairs nodes) points.items k ≡ c.deref-2.result.now =
+    name_here hash nodes points.items c.self.invariant k c.index.result.now c.deref-2.result.now below
     (c.deref-2.ensures.value ∙ ap (λ (n : Node). n.name.items) (c.index.ensures
     ∙ ap (λ (p : Point). get_or nodes p.node c.index.result.now)
-    (c.index-point.ensures ∙ get_or_default points k c.index-point.result.now none below))) in
+    (c.index-point.ensures ∙ get_or_default points.items k c.index-point.result.now none below))) in
+    let ring = subst (IsRing hash (pairs nodes)) (sym c.deref.ensures.value) c.self.invariant in
     subst (λ nodes. IsOwner hash nodes c.args.place c.deref-2.result.now) c.self.view_is
-    (subst (IsOwner hash (ring_of nodes) c.args.place) name
-    (first_owner hash (pairs nodes) points c.self.invariant c.args.place first start (omega arith)))
+    (subst (IsOwner hash (ring_of nodes) c.args.place) (ap (λ ps. name_at (pairs nodes) ps k) c.deref.ensures.value ∙ name)
+    (c.owner_at.ensures.owns hash (pairs nodes) has ring))
 
 pub returns-clause-some : goal.returns-clause-some
 returns-clause-some g c =

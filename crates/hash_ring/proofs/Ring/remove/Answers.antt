@@ -1,10 +1,10 @@
-use Rattle.std.proofs.Common.{◌≡◌, ◌∙◌, ap, sym, subst, Some, length, arith, ◌<◌, []}
+use Rattle.std.proofs.Common.{◌≡◌, ◌∙◌, ap, sym, subst, Some, length, take, arith, ◌<◌, []}
 use Rattle.std.specs.List.{remove}
 use Rattle.std.specs.FinMap as fin
 use Rattle.std.proofs.lemmas.List.{get_or-map, length-map}
 use Rattle.hash_ring.specs.Points.{IsRing, node_at, nodes_of, pair_of, pairs}
 use Rattle.hash_ring.proofs.Names.{absent, entries_of, found, len_of, none_unchanged, removed}
-use Rattle.hash_ring.proofs.Edits.{pairs_remove, ring_without}
+use Rattle.hash_ring.proofs.Edits.{over, pairs_remove}
 use Rattle.hash_ring.proofs.Ring.remove.Goals as goal
 
 pub returns-in_default-clause-value : goal.returns-in_default-clause-value
@@ -25,9 +25,14 @@ invariant_of-self g c =
     let gone = c.in-Ok.gone in
     let below : gone < length (pairs nodes) =
     omega (arith, c.in-Ok.ensures.below, ap length (entries_of _ c.self.invariant.named _ c.self.view_is)) in
-    subst (λ es. IsRing hash es c.take_points.new.points.items) (sym (ap pairs c.remove.ensures.items ∙ pairs_remove nodes gone))
-    (subst (IsRing hash (remove (pairs nodes) gone)) (sym c.take_points.ensures)
-    (ring_without hash (pairs nodes) gone below c.self.inside.points.items c.self.invariant))
+    let old = c.self.inside.points in
+    let now = c.remove-kept.new.points in
+    let long : length now ≡ length old.items = c.remove-kept.auto.points ∙ ap length c.deref_mut.ensures.value in
+    let ring = c.remove-kept.ensures.ring hash (pairs nodes)
+    (subst (IsRing hash (pairs nodes)) (sym c.deref_mut.ensures.value) c.self.invariant) below in
+    subst (λ es. IsRing hash es c.truncate.new.self.items) (sym (ap pairs c.remove.ensures.items ∙ pairs_remove nodes gone))
+    (subst (IsRing hash (remove (pairs nodes) gone))
+    (sym (c.truncate.ensures.items ∙ ap (take c.remove-kept.result) (over now old.items old.len long old.ok.0))) ring)
 
 pub returns : goal.returns
 returns g c =

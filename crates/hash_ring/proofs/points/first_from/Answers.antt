@@ -1,15 +1,15 @@
 use Rattle.std.proofs.Common.{ltb, arith, rules}
 use Rattle.std.proofs.lemmas.List.Sorted.{IsPartitionPoint-from_clause, IsPartitionedBy-ltb}
 use borrow.Author.Tests.{ltb-true, ltb-false}
-use Rattle.hash_ring.proofs.Points.{places_rise}
-use Rattle.hash_ring.proofs.first_from.Goals as goal
+use Rattle.hash_ring.proofs.PointLemmas.{places_rise}
+use Rattle.hash_ring.proofs.points.first_from.Goals as goal
 
-pub returns : goal.returns
-returns c =
+pub returns-clause-start : goal.returns-clause-start
+returns-clause-start c = λ ordered.
     let points = c.args.points.now in
     let at = IsPartitionPoint-from_clause
     (λ p. ltb p.place c.args.place) points c.partition_point.result c.partition_point.ensures.partitioned
-    (IsPartitionedBy-ltb (λ p. p.place) points c.args.place (places_rise points c.requires)) (λ a r q k. search rules) in
+    (IsPartitionedBy-ltb (λ p. p.place) points c.args.place (places_rise points ordered)) (λ a r q k. search rules) in
     record {
       within = c.partition_point.ensures.bound;
       before = λ k d less. ltb-true _ _ (at.0 k d (omega arith) less);

@@ -2,13 +2,13 @@ use Rattle.std.proofs.Common.{◌∙◌, ◌≤◌, ◌<◌, ◌+◌, ◌-◌, L
 use Rattle.std.specs.List.{AllPairs}
 use Rattle.std.specs.List.Sorted.{IsPermutation}
 use Rattle.std.proofs.lemmas.List.{get_or_default}
-use Rattle.hash_ring.specs.declared.Point.{Point}
+use Rattle.hash_ring.specs.declared.points.Point.{Point}
 use Rattle.hash_ring.specs.Points.{IsBefore, opened_up}
-use Rattle.hash_ring.proofs.Points.{before_if_less, before_if_not_less}
+use Rattle.hash_ring.proofs.PointLemmas.{before_if_less, before_if_not_less}
 use Rattle.hash_ring.proofs.Edits.{opened_in_order}
 use Rattle.hash_ring.proofs.Merge.{IsMerged, all_in_order, all_merged, front_kept, last_other, left_more, placed, right_more}
-use Rattle.hash_ring.proofs.merge_backward.Goals as goal
-use Rattle.hash_ring.proofs.merge_backward.Goals.{else-right-gt0-via-then-right-gt0+else-lt, else-right-gt0-via-else-right-gt0}
+use Rattle.hash_ring.proofs.points.merge_backward.Goals as goal
+use Rattle.hash_ring.proofs.points.merge_backward.Goals.{else-right-gt0-via-then-right-gt0+else-lt, else-right-gt0-via-else-right-gt0}
 
 pub loop-left-preserved-then-lt : goal.loop-left-preserved-then-lt
 loop-left-preserved-then-lt c =

@@ -1,18 +1,19 @@
 -- The points of nodes, in a list and in order.
-use Rattle.std.proofs.Common.{ℕ, ◌≡◌, ◌<◌, ◌≤◌, ◌+◌, ◌-◌, ◌++◌, Bool, true, ltb, if◌then◌else◌, List, length, get_or, map, arith, sym, ap, ◌∙◌, subst, refl, false, Some, ◌⊎◌, ⊎_elim}
+use Rattle.std.proofs.Common.{ℕ, ◌≡◌, ◌<◌, ◌≤◌, ◌+◌, ◌-◌, ◌/◌, ◌++◌, ◌∷◌, [], append_assoc, Bool, true, ltb, if◌then◌else◌, List, length, get_or, map, arith, sym, ap, ◌∙◌, subst, refl, false, Some, ◌⊎◌, ⊎_elim}
 use Rattle.std.proofs.lemmas.List.Elements.{All-append, Contains-append_left, Contains-append_right}
-use Rattle.std.specs.List.{All, AllPairs, Contains}
+use Rattle.std.specs.List.{All, AllPairs, Contains, IsAllAdjacentAnswer}
 use Rattle.std.specs.List.Sorted.{IsNonDecreasingBy, IsPermutation, IsSorted}
-use Rattle.std.specs.Ordering.{nat_cmp, is_lt, is_some_and, ordering_then, partial_ordering_then}
+use Rattle.std.specs.Prelude.{◌↔◌, IsTrue}
+use Rattle.std.specs.Ordering.{nat_cmp, is_le, is_lt, is_some_and, ordering_then, partial_ordering_then}
 use Rattle.std.specs.declared.cmp.Ordering.{Ordering}
 use Rattle.std.proofs.lemmas.Bool.Decides.{nat_tests}
 use Rattle.std.proofs.lemmas.Cmp.{then_total, on_total, nat_cmp_total}
 use Rattle.std.proofs.lemmas.List.{get_or_default, get_or_past, get_or-map, length-map}
 use Rattle.std.proofs.lemmas.List.Sorted.{All-permutation, Contains-permutation, sorted_far, ranks_by}
 use Rattle.std.proofs.lemmas.Grind.{elements}
-use Rattle.std.proofs.lemmas.List.FromFn.{length-map-range_with_len, get_or-map-range_with_len}
+use Rattle.std.proofs.lemmas.List.FromFn.{map-range_with_len_more, length-map-range_with_len, get_or-map-range_with_len}
 use borrow.Author.Tests.{ltb-true, ltb-false}
-use Rattle.hash_ring.specs.declared.Point.{Point}
+use Rattle.hash_ring.specs.declared.points.Point.{Point}
 use Rattle.hash_ring.specs.Ring.{IsPointOf, point}
 use Rattle.hash_ring.specs.Points.{ArePoints, IsBefore, IsPointOfItsNode, node_at, points_of}
 
@@ -37,6 +38,14 @@ module _ (hash : List ℕ → ℕ) where
       let less : k < node.1 = omega (arith, length-map-range_with_len nth 0 node.1) in
       subst (λ p. (p.node ≡ i) × IsPointOf hash node p.place) (sym (get_or-map-range_with_len nth 0 node.1 k k d less (omega arith)))
       (refl, record { number = k; below = less; is = refl })
+
+  -- a point more
+  pub one_more : (name : List ℕ) (k i : ℕ) (points now : List Point) (place : ℕ) → now ≡ points ++ points_of hash (name, k) i
+      → place ≡ point hash name k → now ++ record { place = place; node = i } ∷ [] ≡ points ++ points_of hash (name, k + 1) i
+  one_more name k i points now place so_far is =
+      let nth = λ (j : ℕ). let p : Point = record { place = point hash name j; node = i } in p in
+      let more = map-range_with_len_more nth 0 k k (omega arith) in
+      grind (arith, so_far, is, more, append_assoc)
 
   -- all points of some nodes, and none that is no node's
   pub record AreThese (nodes : Pairs) (some : ℕ → Type 0) (points : List Point) : Type 0 where
@@ -80,6 +89,29 @@ in_order points sorted i j d less within =
     (λ (p : Point). p) in
     not_less _ _ (sorted_far _ o points sorted i j d (omega arith) within)
 
+-- what `<=` says of two points
+abbrev is_no_more : Point → Point → Bool
+is_no_more a b = is_some_and is_le (partial_ordering_then (Some (nat_cmp a.place b.place)) (Some (nat_cmp a.node b.node)))
+
+no_less_behind : (a b : Point) → is_no_more a b ≡ true → is_lt (by_place b a) ≡ false
+no_less_behind a b e = grind (arith, nat_tests)
+
+no_more_before : (a b : Point) → IsBefore a b → is_no_more a b ≡ true
+no_more_before a b p = grind (arith, nat_tests, p.place, p.node)
+
+-- what a test of all neighbours says
+pub sorted_exactly : (points : List Point) (r : Bool) → IsAllAdjacentAnswer (λ a b t. is_no_more a b ≡ t) points r
+    → IsTrue r ↔ AllPairs IsBefore points
+sorted_exactly points true all = (λ _. in_order points (λ k d from next. no_less_behind (get_or points k d) (get_or points (k + 1) d) (all k d next)), λ _. refl)
+sorted_exactly points false broken = (
+  λ no. cc,
+  λ ordered.
+      let d : Point = record { place = 0; node = 0 } in
+      let yes = no_more_before _ _ (ordered broken.0 (broken.0 + 1) d (omega arith) broken.1) in
+      let no = broken.2 d in
+      cc,
+)
+
 -- what `<` says of two points
 abbrev is_less : Point → Point → Bool
 is_less a b = is_some_and is_lt (partial_ordering_then (Some (nat_cmp a.place b.place)) (Some (nat_cmp a.node b.node)))
@@ -110,6 +142,11 @@ pub record IsWindow (points : List Point) (at first size : ℕ) : Type 0 where
   pub within : first + size ≤ length points
   pub before : (k : ℕ) (d : Point) → k < first → (get_or points k d).place < at
   pub after : (k : ℕ) (d : Point) → first + size ≤ k → k < length points → at ≤ (get_or points k d).place
+
+-- whichever half it is, it lies in the list
+pub within_half : (first size n : ℕ) (is : Bool) → first + size ≤ n → first + (if is then size / 2 else 0) + (size - size / 2) ≤ n
+within_half first size n true upto = omega arith
+within_half first size n false upto = omega arith
 
 -- a point in the middle tells which half the place is in
 pub narrowed : (points : List Point) (at first size half : ℕ) (d : Point) (is : Bool) → AllPairs IsBefore points

@@ -1,7 +1,7 @@
 use Rattle.std.proofs.Common.{◌≡◌, ◌+◌, ◌≤◌, map, take, drop}
 use Rattle.hash_ring.specs.Points.{opened_up}
 use Rattle.hash_ring.proofs.Merge.{IsMerged}
-use Rattle.hash_ring.proofs.merge_backward.Given as goal
+use Rattle.hash_ring.proofs.points.merge_backward.Given as goal
 
 abbrev pub invariant-loop-left : goal.invariant-loop-left
 invariant-loop-left l = record {

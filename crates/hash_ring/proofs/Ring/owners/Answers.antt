@@ -1,0 +1,55 @@
+use Rattle.std.proofs.Common.{ℕ, ◌≡◌, ◌<◌, ◌∙◌, length, min, arith, ap, sym, subst}
+use Rattle.std.specs.List.{All}
+use Rattle.std.specs.FinMap as fin
+use Rattle.std.proofs.lemmas.List.{length-map}
+use Rattle.std.proofs.lemmas.Result.{IfOk-weaker}
+use Rattle.hashers.specs.Text.{texts}
+use Rattle.hash_ring.specs.Ring.{AreOwners}
+use Rattle.hash_ring.specs.Points.{IsRing, names_at, node_at, pair_of, pairs}
+use Rattle.hash_ring.proofs.Names.{len_of}
+use Rattle.hash_ring.proofs.Owners.{different}
+use Rattle.hash_ring.proofs.Ring.owners.Goals as goal
+
+pub names_of-requires : goal.names_of-requires
+names_of-requires g c =
+    let hash = g.H.Piecewise.hash_of in
+    let nodes = c.self.inside.nodes.items in
+    let ring = subst (IsRing hash (pairs nodes)) (sym c.deref.ensures.value) c.self.invariant in
+    let many = length-map nodes pair_of ∙ ap length (sym c.deref-2.ensures.value) in
+    subst (λ found. All (λ i. i < length c.deref-2.result.now) found) (sym c.deref-3.ensures.value)
+    (subst (λ (n : ℕ). All (λ i. i < n) c.in_ok-owners.owners.items) many (c.in_ok-owners.ensures.real hash (pairs nodes) ring))
+
+pub returns-clause-own : goal.returns-clause-own
+returns-clause-own g c =
+    let hash = g.H.Piecewise.hash_of in
+    let nodes = c.self.inside.nodes.items in
+    let ring = subst (IsRing hash (pairs nodes)) (sym c.deref.ensures.value) c.self.invariant in
+    let own = subst (λ m. AreOwners hash m c.hash_of.result (names_at (pairs nodes) c.in_ok-owners.owners.items)) c.self.view_is
+    (c.in_ok-owners.ensures.own hash (pairs nodes) ring) in
+    IfOk-weaker c.names_of.result _ _
+    (λ xs is. subst (AreOwners hash c.args.self.now (hash c.args.key.now))
+    (sym (is ∙ (λ i. names_at (pairs (c.deref-2.ensures.value i)) (c.deref-3.ensures.value i))))
+    (subst (λ (at : ℕ). AreOwners hash c.args.self.now at (names_at (pairs nodes) c.in_ok-owners.owners.items)) c.hash_of.ensures.value own))
+    c.names_of.ensures
+
+pub returns-clause-count : goal.returns-clause-count
+returns-clause-count g c =
+    let hash = g.H.Piecewise.hash_of in
+    let nodes = c.self.inside.nodes in
+    let ring = subst (IsRing hash (pairs nodes.items)) (sym c.deref.ensures.value) c.self.invariant in
+    let found = c.deref-3.result.now in
+    let all : length nodes.items ≡ fin.len c.args.self.now =
+    len_of nodes.items _ c.self.invariant.named c.self.view_is ∙ sym (fin.len-entries _) in
+    let count = ap length c.deref-3.ensures.value ∙ c.in_ok-owners.ensures.count hash (pairs nodes.items) ring in
+    let few : length found ≡ min c.args.n (fin.len c.args.self.now) =
+    omega (arith, count, length-map nodes.items pair_of, c.min-most.ensures, c.len.ensures, nodes.ok.0, all) in
+    IfOk-weaker c.names_of.result _ _
+    (λ xs is. sym (length-map xs.items (λ x. x.now)) ∙ ap length is
+    ∙ length-map found (λ (i : ℕ). (node_at (pairs c.deref-2.result.now) i).0) ∙ few)
+    c.names_of.ensures
+
+pub returns-clause-different : goal.returns-clause-different
+returns-clause-different g c =
+    let hash = g.H.Piecewise.hash_of in
+    IfOk-weaker c.names_of.result _ _ (λ xs own. different hash c.args.self.now (hash c.args.key.now) (texts xs.items) own)
+    (returns-clause-own g c)

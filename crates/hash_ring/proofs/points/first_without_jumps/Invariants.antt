@@ -1,0 +1,14 @@
+use Rattle.std.proofs.Common.{◌+◌, ◌≤◌, length}
+use Rattle.std.specs.List.{AllPairs}
+use Rattle.hash_ring.specs.Points.{IsBefore}
+use Rattle.hash_ring.proofs.PointLemmas.{IsWindow}
+use Rattle.hash_ring.proofs.points.first_without_jumps.Given as goal
+
+abbrev pub invariant-loop-size : goal.invariant-loop-size
+invariant-loop-size l = record {
+  inside : l.first + l.size ≤ length l.points;
+  window : AllPairs IsBefore l.points → IsWindow l.points l.place l.first l.size;
+}
+
+abbrev pub decreases-loop-size : goal.decreases-loop-size
+decreases-loop-size l = l.size
