@@ -138,7 +138,8 @@ fn points_in_order<H: Piecewise>(
         (points_of H.hash_of (pair_of node.now) index) added.items) }
     ensures ordered { IfOk result (λ added. AllPairs IsBefore added.items) }
 {
-    let mut added = Vec::with_capacity(alloc, node.weight as usize)?;
+    let count = usize::try_from(node.weight).map_err(|_| AllocError)?;
+    let mut added = Vec::with_capacity(alloc, count)?;
     push_points::<H>(alloc, &mut added, node, index)?;
     added.sort_unstable();
     Ok(added)

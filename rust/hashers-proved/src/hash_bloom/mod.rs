@@ -80,7 +80,8 @@ impl<F: Piecewise, G: Piecewise> Bloom<F, G> {
     #[inline]
     pub fn new(alloc: Global, bits: u64, probes: u32) -> Result<Self, AllocError> {
         let mut words = Vec::new(alloc);
-        words.resize(bits.div_ceil(64) as usize, 0)?;
+        let count = usize::try_from(bits.div_ceil(64)).map_err(|_| AllocError)?;
+        words.resize(count, 0)?;
         Ok(Bloom {
             words,
             bits,

@@ -137,7 +137,8 @@ fn points_in_order<H: Piecewise>(
     node: &Node,
     index: usize,
 ) -> Result<Vec<Point>, AllocError> {
-    let mut added = Vec::with_capacity(alloc, node.weight as usize)?;
+    let count = usize::try_from(node.weight).map_err(|_| AllocError)?;
+    let mut added = Vec::with_capacity(alloc, count)?;
     push_points::<H>(alloc, &mut added, node, index)?;
     added.sort_unstable();
     Ok(added)
