@@ -900,7 +900,9 @@ class Rings(unittest.TestCase):
     def check(self, ring: hashers.Ring) -> None:
         for k in range(12):
             key = b"key%d" % k
-            place, gone, owners = hashers.new(ring.hash, key).intdigest(), set[Any](), []
+            place = hashers.new(ring.hash, key).intdigest()
+            gone: set[Any] = set()
+            owners: List[Any] = []
             while len(owners) < len(ring):
                 owners.append(self.owner_of(ring, gone, place))
                 gone.add(owners[-1])
@@ -967,10 +969,12 @@ class Rings(unittest.TestCase):
 
     def test_what_is_refused(self) -> None:
         ring = hashers.Ring(self.trees)
-        for error, call in ((ValueError, lambda: ring.add("oak", 1)), (ValueError, lambda: ring.add("fir", 0)), (KeyError, lambda: ring.remove("fir")),
-                            (ValueError, lambda: hashers.Ring({"a": 1, b"a": 1})), (ValueError, lambda: hashers.Ring({"a": -1})),
-                            (TypeError, lambda: hashers.Ring("abc")), (TypeError, lambda: ring.owner(cast(bytes, "a"))),
-                            (ValueError, lambda: hashers.Ring(hash="no")), (ValueError, lambda: hashers.Ring(hash="spooky128"))):
+        refused: List[Tuple[type, Callable[[], object]]] = [
+            (ValueError, lambda: ring.add("oak", 1)), (ValueError, lambda: ring.add("fir", 0)), (KeyError, lambda: ring.remove("fir")),
+            (ValueError, lambda: hashers.Ring({"a": 1, b"a": 1})), (ValueError, lambda: hashers.Ring({"a": -1})),
+            (TypeError, lambda: hashers.Ring("abc")), (TypeError, lambda: ring.owner(cast(bytes, "a"))),
+            (ValueError, lambda: hashers.Ring(hash="no")), (ValueError, lambda: hashers.Ring(hash="spooky128"))]
+        for error, call in refused:
             with self.assertRaises(error):
                 call()
         self.assertEqual(ring.weights(), {"ash": 3, "elm": 1, "oak": 2})
