@@ -39,7 +39,7 @@ pub fn take_lines<T: LineTask, W: Write>(
     ensures took { IfOk result (λ taken. (ls : List (List ℕ)) × Takes eol bytes.now most taken.0 taken.1 ls
         × Leads (At (T.output eol) (T.taken eol task.old) (W.contents w.old))
         (At (T.output eol) (T.taken eol task.new) (W.contents w.new)) ls) }
-    ensures broke { OnErr result ((ls : List (List ℕ)) × (rest : List ℕ) × Splits eol bytes.now ls rest
+    ensures broke { OnErr result ((ls : List (List ℕ)) × (rest : List ℕ) × Splits eol bytes.now ls rest × (length ls ≤ most)
         × Leads (At (T.output eol) (T.taken eol task.old) (W.contents w.old))
         (Broke (T.output eol) (W.contents w.new)) ls) }
 {

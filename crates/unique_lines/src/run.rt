@@ -3,7 +3,7 @@ ghost use Rattle.std.specs.Prelude.{◌≡◌, ◌+◌, ◌≤◌, [], ℕ, List
 ghost use Rattle.std.specs.Io.Buffered.{writer_buffer, writer_contents};
 ghost use Rattle.text_set.specs.Lines.{IsBare, lines_by};
 ghost use Rattle.unique_lines.specs.Running.{EndsTaking, run_of};
-ghost use Rattle.unique_lines.specs.Taking.{At, BeginWith, Broke, EndsInput, Grows, Leads, LeavesInput};
+ghost use Rattle.unique_lines.specs.Taking.{At, BreaksInput, Broke, EndsInput, Grows, Leads, LeavesInput};
 
 use crate::fault::Fault;
 use crate::lines::take_lines;
@@ -55,6 +55,7 @@ fn take_last<T: LineTask, W: Write + Drop>(
     ensures flushed { OnOk result (writer_buffer w.new ≡ []) }
     ensures broke { OnErr result (Leads (At (T.output eol) (T.taken eol task.old) (writer_contents W.contents w.old))
         (Broke (T.output eol) (writer_contents W.contents w.new)) (lines_by eol line.now)) }
+    ensures few { OnErr result (length (lines_by eol line.now) ≤ most.old) }
 {
     if line.is_empty() {
         return Ok(Left::Done);
@@ -89,9 +90,9 @@ fn take_input<T: LineTask, R: Read, W: Write + Drop>(
         (R.remaining r.new)) }
     ensures unread { OnOk result (unread.new ≡ []) }
     ensures flushed { OnOk result (writer_buffer w.new ≡ []) }
-    ensures broke { OnErr result ((ls : List (List ℕ)) × BeginWith eol (R.remaining r.old) ls
-        × Leads (At (T.output eol) (T.taken eol task.old) (writer_contents W.contents w.old))
-        (Broke (T.output eol) (writer_contents W.contents w.new)) ls) }
+    ensures broke { OnErr result (BreaksInput
+        (At (T.output eol) (T.taken eol task.old) (writer_contents W.contents w.old))
+        (Broke (T.output eol) (writer_contents W.contents w.new)) eol most.old (R.remaining r.old)) }
 {
     loop {
         match unread.fill(eol, r, w)? {

@@ -433,9 +433,9 @@ fn met(end: &Result<Ended, Fault>, fits: bool) -> bool {
     }
 }
 
-/// Whether runs over two inputs under a limit say so of the lines.
-fn limited(alloc: Global, limit: u64, fits: bool) -> io::Result<bool> {
-    let mut output = BufWriter::with_capacity(alloc, HELD, Vec::new(alloc))?;
+/// Whether runs over two inputs under a limit, onto this paper, say so of the lines.
+fn limited(alloc: Global, limit: u64, fits: bool, w: &mut Paper) -> io::Result<bool> {
+    let mut output = BufWriter::with_capacity(alloc, HELD, w)?;
     let (front, back) = TEXT.split_at(4);
     let once = dedup(
         alloc,
@@ -464,10 +464,21 @@ fn limited(alloc: Global, limit: u64, fits: bool) -> io::Result<bool> {
     Ok(met(&once, fits) && met(&counted, fits))
 }
 
+/// Beyond the limit no line is written, and no count.
 #[test]
 fn more_lines_than_the_limit(rt: HostRuntime) {
-    for (limit, fits) in [(0, false), (4, false), (5, true), (6, true)] {
-        all_hold(&rt, &[limited(rt.alloc(), limit, fits).unwrap_or(false)]);
+    let all = "b\na\nc\n      2 b\n      2 a\n      1 c\n";
+    for (limit, fits, output) in [
+        (0, false, ""),
+        (1, false, "b\n"),
+        (4, false, "b\na\n"),
+        (5, true, all),
+        (6, true, all),
+    ] {
+        let mut paper = Paper::sound(64);
+        let met = limited(rt.alloc(), limit, fits, &mut paper);
+        all_hold(&rt, &[met.unwrap_or(false)]);
+        same_bytes(&rt, paper.text(), output.as_bytes());
     }
 }
 
