@@ -189,7 +189,7 @@ fn ended<'a, R: Read + Drop, F: Folder<R>, W: Write + Drop>(
         (map (λ file. file.now) files.now)
         (writer_contents W.contents lines.old.w) (writer_contents W.contents lines.new.w) (Ok task) result }
 {
-    match keys_for(folder, key_file) {
+    match keys_for(folder, key_file, true) {
         Some(keys) => {
             let cuts = cuts_of(task.sizes, keys);
             of_run(run(alloc, folder, task, &cuts, files, lines))

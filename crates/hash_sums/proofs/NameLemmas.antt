@@ -1,6 +1,9 @@
 -- Each hash that a line can tell is found by its name, and has the width of its number.
-use Rattle.std.proofs.Common.{ℕ, zero, suc, ◌≡◌, ◌<◌, Bool, true, false, if◌then◌else◌, List, [], ◌∷◌, length, map, Option, Some, None, Contains, refl, ap, ◌∙◌, subst, arith}
+use Rattle.std.proofs.Common.{ℕ, zero, suc, ◌≡◌, ◌<◌, Bool, true, false, if◌then◌else◌, List, [], ◌∷◌, length, map, Option, Some, None, Contains, refl, sym, ap, ◌∙◌, subst, arith}
+use Rattle.std.specs.Char.{to_ascii_lowercase}
 use Rattle.std.specs.List.{AllByRecursion, find}
+use Rattle.std.specs.Str.{bytes_eq}
+use lib.Pointwise.{bytes_decides}
 use Rattle.std.specs.Option.{option_map, unwrap_or}
 use Rattle.std.proofs.lemmas.List.{get_or-map, length-map}
 use Rattle.hash_lines.specs.declared.line.Kind.{Kind}
@@ -45,12 +48,15 @@ some_kind None hash is = cc
 some_kind (Some kind) hash is = (kind, refl, some_same is)
 
 pub name_found : (keys : Option (ℕ × ℕ)) (told : List Kind) → map told_of told ≡ kinds keys
-    → (hash : Told) → Contains (kinds keys) hash → (kind : Kind) × (kind_of told (Some hash.name) ≡ Some kind) × (told_of kind ≡ hash)
-name_found keys told same hash has =
-    let found : of_name hash.name (kinds keys) ≡ Some hash =
-    at_contained (IsFound (kinds keys)) (kinds keys) (names_are_found keys) hash has in
-    some_kind (kind_of told (Some hash.name)) hash
-    (found_as_told hash.name told ∙ ap (of_name hash.name) same ∙ found)
+    → (hash : Told) → Contains (kinds keys) hash → (word : List ℕ) → is_named word hash.name ≡ true
+    → (kind : Kind) × (kind_of told (Some word) ≡ Some kind) × (told_of kind ≡ hash)
+name_found keys told same hash has word named =
+    let letters : map to_ascii_lowercase hash.name ≡ map to_ascii_lowercase word =
+    (bytes_decides (map to_ascii_lowercase hash.name) (map to_ascii_lowercase word)).0 named in
+    let found : of_name word (kinds keys) ≡ Some hash =
+    ap (λ n. find (λ (other : Told). bytes_eq (map to_ascii_lowercase other.name) n) (kinds keys)) (sym letters)
+    ∙ at_contained (IsFound (kinds keys)) (kinds keys) (names_are_found keys) hash has in
+    some_kind (kind_of told (Some word)) hash (found_as_told word told ∙ ap (of_name word) same ∙ found)
 
 -- ---- widths
 

@@ -56,16 +56,19 @@ module _ (opens : Opens) (call : List Saying) (w w' : Option (List ℕ)) (outcom
       absurd (omega (arith, no))
 
   -- by what is wrong with the call, and by the hash that is asked for
-  work_passed : (keys : Option (ℕ × ℕ)) → AreKeysFor (asks_for_siphash24 call) opens (key_file call) keys → (told : List Kind) → map told_of told ≡ kinds_under keys
-      → given (codes "check") call ≡ true → (misuse : Option Misuse) (kind : Option Kind) → kind_of told (asked call) ≡ kind
+  work_passed : request_of call ≡ Work → (keys : Option (ℕ × ℕ)) → AreKeysFor (asks_for_siphash24 call) opens (key_file call) keys
+      → (told : List Kind) → map told_of told ≡ kinds_under keys → given (codes "check") call ≡ true
+      → (misuse : Option Misuse) → misuse_of call ≡ misuse → (kind : Option Kind) → kind_of told (asked call) ≡ kind
       → EndsTask told opens (files_or (operands call)) w w' (work_by call misuse kind) outcome → status_of outcome ≡ 0
       → HasEndedWell opens call
-  work_passed keys are told are_told checks (Some misuse) kind is_kind (is, kept) zero = absurd (not_well (Own misuse) is zero)
-  work_passed keys are told are_told checks None None is_kind (is, kept) zero = absurd (not_well UnknownName is zero)
-  work_passed keys are told are_told checks None (Some kind) is_kind ends zero =
+  work_passed works keys are told are_told checks (Some misuse) misused kind is_kind (is, kept) zero = absurd (not_well (Own misuse) is zero)
+  work_passed works keys are told are_told checks None no_misuse None is_kind (is, kept) zero = absurd (not_well UnknownName is zero)
+  work_passed works keys are told are_told checks None no_misuse (Some kind) is_kind ends zero =
       let files = files_or (operands call) in
       let task : work_of call kind ≡ Check (checking_of call kind) =
       ap (λ b. if b then Check (checking_of call kind) else Sum (summing_of call kind)) checks in record {
+        works = works;
+        no_misuse = no_misuse;
         keys = keys;
         are_keys = are;
         told = told;
@@ -81,7 +84,7 @@ module _ (opens : Opens) (call : List Saying) (w w' : Option (List ℕ)) (outcom
   call_passed texts works checks (inl (keys, are, told, are_told, ends)) zero =
       let files = files_or (operands call) in
       let ended = subst (λ r. EndsRequest r texts (EndsTask told opens files w w' (task_of told call)) (Unit {0}) w w' outcome) works ends in
-      work_passed keys are told are_told checks (misuse_of call) (kind_of told (asked call)) refl ended zero
+      work_passed works keys are told are_told checks (misuse_of call) refl (kind_of told (asked call)) refl ended zero
   call_passed texts works checks (inr (inl (some, is, kept))) zero =
       let no : status_of {Misuse = Misuse} {Own = Nothing} Reported ≡ 0 = subst (λ o. status_of o ≡ 0) is zero in absurd (omega (arith, no))
   call_passed texts works checks (inr (inr (is, kept))) zero =

@@ -20,7 +20,7 @@ use Rattle.hash_sums.specs.declared.sum.Unsummed.TheVariants.{Unhashed, Unopened
 use Rattle.hash_sums.specs.Checking.{is_itself, is_not_found, is_skipped, verdict_on, IsLineCheck}
 use Rattle.hash_sums.specs.Files.{IsNumber, SumsFile}
 use Rattle.hash_sums.specs.Lists.{bare, AreLines}
-use Rattle.hash_sums.specs.Passed.{fails, HasHash, HasPassed, ListTells}
+use Rattle.hash_sums.specs.Passed.{fails, HasHash, HasPassed, LineTells, ListTells}
 use Rattle.hash_sums.specs.Program.{taken}
 use Rattle.hash_sums.proofs.NameLemmas.{some_same}
 use Rattle.hash_sums.specs.Sums.{is_named, kind_of, sum_by}
@@ -76,20 +76,28 @@ module _ (kinds : List Kind) (checking : Checking) (opens : Opens) where
         absurd (none kind name number tells)
     of_line line (Checked entry verdict) tells no_comment came well = of_checked line entry verdict tells came well
 
-    -- what a list that passed tells
-    pub told_is_so : HasPassed kinds checking opens list → ListTells kinds checking opens list kind name number
-        → HasHash checking opens kind name number
-    told_is_so passed told =
-        let are_lines : map (λ line. line.0) passed.lines ≡ lines_by 10 told.text =
-        subst (λ held. AreLines held (map (λ line. line.0) passed.lines)) (told.holds passed.held passed.opened) passed.are_lines in
-        let (k, within, is) = subst (λ ls. Contains ls told.line) (sym are_lines) told.is_line in
-        let line : List ℕ × LineCheck = slice_index_or passed.lines k (told.line, Skipped) in
-        let below : k < length passed.lines = omega (arith, within, length-map passed.lines (λ (l : List ℕ × LineCheck). l.0)) in
-        let is_line : told.line ≡ line.0 = sym is ∙ get_or-map (λ (l : List ℕ × LineCheck). l.0) passed.lines k (told.line, Skipped) told.line below in
-        let bare_is : bare told.line ≡ bare line.0 = ap bare is_line in
-        of_line (bare line.0) line.1 (subst (λ l. Tells kinds checking.kind kind name number l) bare_is told.tells)
-        (subst (λ l. is_skipped l ≡ false) bare_is told.no_comment) (passed.came k (told.line, Skipped) below)
-        (passed.none_fails k (told.line, Skipped) below)
+  -- what a line that was read of a list tells that passed
+  pub line_is_so : AreTags kinds checking.kind → (list line : List ℕ) (kind : Kind) (name : List ℕ) (number : ℕ)
+      → (passed : HasPassed kinds checking opens list) → Contains (map (λ line. line.0) passed.lines) line
+      → LineTells kinds checking list line kind name number → HasHash checking opens kind name number
+  line_is_so are list read kind name number passed (k, within, is) told =
+      let line : List ℕ × LineCheck = slice_index_or passed.lines k (read, Skipped) in
+      let below : k < length passed.lines = omega (arith, within, length-map passed.lines (λ (l : List ℕ × LineCheck). l.0)) in
+      let is_line : read ≡ line.0 = sym is ∙ get_or-map (λ (l : List ℕ × LineCheck). l.0) passed.lines k (read, Skipped) read below in
+      let bare_is : bare read ≡ bare line.0 = ap bare is_line in
+      of_line are list kind name number told.of_another (bare line.0) line.1
+      (subst (λ l. Tells kinds checking.kind kind name number l) bare_is told.tells)
+      (subst (λ l. is_skipped l ≡ false) bare_is told.no_comment) (passed.came k (read, Skipped) below)
+      (passed.none_fails k (read, Skipped) below)
+
+  -- what a list that passed tells
+  pub told_is_so : AreTags kinds checking.kind → (list : List ℕ) (kind : Kind) (name : List ℕ) (number : ℕ)
+      → HasPassed kinds checking opens list → ListTells kinds checking opens list kind name number
+      → HasHash checking opens kind name number
+  told_is_so are list kind name number passed told =
+      let are_lines : map (λ line. line.0) passed.lines ≡ lines_by 10 told.text =
+      subst (λ held. AreLines held (map (λ line. line.0) passed.lines)) (told.holds passed.held passed.opened) passed.are_lines in
+      line_is_so are list told.line kind name number passed (subst (λ ls. Contains ls told.line) (sym are_lines) told.is_line) told.tells
 
 -- of the kinds that can be told, the one that is taken alone has a tag too
 pub taken_are_tags : (kinds : List Kind) (checking : Checking) → AreTags kinds checking.kind → Contains kinds checking.kind

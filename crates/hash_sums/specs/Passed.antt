@@ -46,16 +46,21 @@ pub record HasPassed (kinds : List Kind) (checking : Checking) (opens : Opens) (
   pub none_fails : All (λ line. fails checking.strict line.1 ≡ false) lines
   pub some_is_same : Any (λ line. is_same line.1 ≡ true) lines
 
--- the list of a name holds a line that tells the hash of a file, and is neither a comment nor of the list itself
+-- a line of a list tells the hash of a file, and is neither a comment nor of the list itself
+pub record LineTells (kinds : List Kind) (checking : Checking) (list line : List ℕ) (kind : Kind) (name : List ℕ) (number : ℕ)
+    : Type 0 where
+  pub tells : Tells kinds checking.kind kind name number (bare line)
+  pub no_comment : is_skipped (bare line) ≡ false
+  pub of_another : is_itself list name ≡ false
+
+-- the list of a name holds such a line
 pub record ListTells (kinds : List Kind) (checking : Checking) (opens : Opens) (list : List ℕ) (kind : Kind) (name : List ℕ) (number : ℕ)
     : Type 0 where
   pub text : List ℕ
   pub holds : HoldsOnly (opens list) text
   pub line : List ℕ
   pub is_line : Contains (lines_by 10 text) line
-  pub tells : Tells kinds checking.kind kind name number (bare line)
-  pub no_comment : is_skipped (bare line) ≡ false
-  pub of_another : is_itself list name ≡ false
+  pub tells : LineTells kinds checking list line kind name number
 
 -- the file of a name was opened, and the text that was read of it has this hash; or it is not there, and such files are left out
 abbrev pub HasHash : Checking → Opens → Kind → (name : List ℕ) (number : ℕ) → Type 0

@@ -13,7 +13,7 @@ ghost use Rattle.hash_sums.specs.Program.{asked, asks_for, asks_for_keyed, asks_
 
 use crate::check::{Checking, check_lists};
 use crate::fault::Fault;
-use crate::keys::{keys_for, poly61_keys_for};
+use crate::keys::keys_for;
 use crate::reports::Reports;
 use crate::sum::{Summing, sum_files};
 use crate::sums::{is_named, kind_of, kinds};
@@ -338,12 +338,7 @@ fn keys_of_call<R: Read + Drop, F: Folder<R>>(
         MatchOption result (IsSome (key_file said))
         (AreKeysFor (asks_for_siphash24 said) (F.opens folder.now) (key_file said)) }
 {
-    let file = key_file(call);
-    if asks_for(call, b"siphash24") {
-        keys_for(folder, file)
-    } else {
-        poly61_keys_for(folder, file)
-    }
+    keys_for(folder, key_file(call), asks_for(call, b"siphash24"))
 }
 
 /// Does what the call asks for, by the hashes that can be told, and by those that take keys under the keys of its key file. If the
