@@ -117,11 +117,22 @@ module _ {R : Type 0} {remaining : R → Option (List ℕ)} {output : List (List
 
 -- ---- what is written once all lines are taken
 
--- a beginning of nothing is nothing, and so a beginning of anything
-pub part_silent : (output : List (List ℕ) → List ℕ) (eol limit : ℕ) (run : Run) → WritesPart (λ ls. []) eol limit run → WritesPart output eol limit run
-part_silent output eol limit run (ls, begins, (part, rest, is, appends), few) =
+-- a beginning of nothing is nothing
+pub silent_keeps : (eol limit : ℕ) (run : Run) → WritesPart (λ ls. []) eol limit run → Keeps run.written run.written'
+silent_keeps eol limit run (ls, begins, (part, rest, is, appends), few) =
     let nothing : part ≡ [] = nil_from_length part (omega (arith, ap length is, length-append part rest)) in
-    (ls, begins, ([], output ls, refl, subst (Appends run.written run.written') nothing appends), few)
+    kept run.written run.written' (subst (Appends run.written run.written') nothing appends)
+  where
+    kept : (w w' : Option (List ℕ)) → Appends w w' [] → Keeps w w'
+    kept None w' nothing = tt
+    kept (Some bytes) None nothing = nothing
+    kept (Some bytes) (Some bytes') same = same ∙ append-nil bytes
+
+-- and so a beginning of anything
+pub part_silent : (output : List (List ℕ) → List ℕ) (eol limit : ℕ) (run : Run) → WritesPart (λ ls. []) eol limit run → WritesPart output eol limit run
+part_silent output eol limit run writes =
+    let (ls, begins, part, few) = writes in
+    (ls, begins, ([], output ls, refl, Appends-kept _ _ _ _ (Appends-nil run.written) (silent_keeps eol limit run writes)), few)
 
 -- ---- inputs that are read to their ends
 

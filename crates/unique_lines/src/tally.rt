@@ -1,9 +1,10 @@
 //! Lines with how often they came.
-ghost use Rattle.std.specs.Prelude.{if◌then◌else◌, nat_lt, ◌≡◌, ◌<◌, ◌≤◌, ◌+◌, ◌==◌, ◌++◌, ◌∷◌, [], ℕ, List, OnOk, OnErr, length};
+ghost use Rattle.std.specs.Prelude.{if◌then◌else◌, nat_lt, ◌≡◌, ◌<◌, ◌≤◌, ◌+◌, ◌==◌, ◌++◌, ◌∷◌, [], ℕ, List, IfOk, OnOk, OnErr, length};
 ghost use Rattle.std.specs.Io.BufRead.{strip_last};
 ghost use Rattle.std.specs.Io.Buffered.{writer_buffer, writer_contents};
-ghost use Rattle.std.specs.Io.KnownBytes.{Appends};
+ghost use Rattle.std.specs.Io.KnownBytes.{Appends, Keeps};
 ghost use Rattle.unique_lines.specs.Running.{Ends, run_of};
+ghost use Rattle.unique_lines.specs.declared.run.Ended.TheVariants.{TooManyLines};
 ghost use Rattle.unique_lines.specs.Tallies.{Tallies, column, is_shown, shown, told};
 ghost use Rattle.streams.specs.Streams.{AppendsPart};
 ghost use Rattle.text_set.specs.Slots.{tag_under};
@@ -195,6 +196,8 @@ pub fn tally<S: BuildHasher + Drop, R: Read, C: Complaints, W: Write + Drop>(
 ) -> Result<Ended, Fault>
     ensures ended { Ends (told eol which) eol limit
         (run_of R.remaining inputs.old inputs.new (writer_contents W.contents) w.old w.new) result }
+    ensures beyond { IfOk result (λ ended. ended ≡ TooManyLines
+        → Keeps (writer_contents W.contents w.old) (writer_contents W.contents w.new)) }
     ensures flushed { OnOk result (writer_buffer w.new ≡ []) }
 {
     let mut counts = Counts::new(alloc, hasher);
