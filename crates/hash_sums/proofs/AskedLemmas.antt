@@ -6,7 +6,7 @@ use Rattle.std.specs.List.{find}
 use Rattle.std.specs.Option.{option_map}
 use Rattle.std.specs.Str.{bytes_eq}
 use lib.Pointwise.{bytes_decides}
-use Rattle.hash_lines.specs.declared.line.Kind.{Kind}
+use Rattle.hash_lines.specs.declared.line.LineKind.{LineKind}
 use Rattle.hash_lines.specs.Told.{Tells}
 use Rattle.cli.specs.Call.{Saying, given, value_after, value_of}
 use Rattle.cli.specs.Call.Saying.{Gives, Operand, Errs}
@@ -21,18 +21,18 @@ use Rattle.hash_sums.specs.Program.{asked, asks_for, asks_for_keyed, asks_for_po
 use Rattle.hash_sums.specs.Sums.{is_named, kind_of, kinds, poly61_at_both, siphash24_at, sum_at, sum_by, sum_of, told_at, told_of, Told}
 
 -- one thing alone is there
-only_one : (kind other : Kind) → Contains (kind ∷ []) other → other ≡ kind
+only_one : (kind other : LineKind) → Contains (kind ∷ []) other → other ≡ kind
 only_one kind other (zero, below, is) = sym is
 only_one kind other (suc k, below, is) = absurd (omega (arith, below))
 
 -- a line of the one hash that is taken tells that
-line_one : (kind other : Kind) (name : List ℕ) (number : ℕ) (line : List ℕ) → Tells (kind ∷ []) kind other name number line → other ≡ kind
+line_one : (kind other : LineKind) (name : List ℕ) (number : ℕ) (line : List ℕ) → Tells (kind ∷ []) kind other name number line → other ≡ kind
 line_one kind other name number line (inl (inl (here, tells))) = only_one kind other here
 line_one kind other name number line (inl (inr (is, tells))) = is
 line_one kind other name number line (inr (body, begins, inl (here, tells))) = only_one kind other here
 line_one kind other name number line (inr (body, begins, inr (is, tells))) = is
 
-pub any_one : (sfv : Bool) (kind other : Kind) (name : List ℕ) (number : ℕ) (line : List ℕ)
+pub any_one : (sfv : Bool) (kind other : LineKind) (name : List ℕ) (number : ℕ) (line : List ℕ)
     → TellsAny sfv (kind ∷ []) kind other name number line → other ≡ kind
 any_one sfv kind other name number line (inl tells) = line_one kind other name number line tells
 any_one sfv kind other name number line (inr (none, (rest, trims, inl (plain, form, tells)))) = line_one kind other name number plain tells
@@ -40,7 +40,7 @@ any_one sfv kind other name number line (inr (none, (rest, trims, inr (takes, no
     line_one kind other name number plain tells
 
 -- what is found by its name is found of what is told of it
-found_told : (name : List ℕ) (kinds : List Kind)
+found_told : (name : List ℕ) (kinds : List LineKind)
     → option_map told_of (find (λ kind. is_named name kind.name.now) kinds) ≡ find (λ told. is_named name told.name) (map told_of kinds)
 found_told name [] = refl
 found_told name (kind ∷ kinds) = at (found_told name kinds) (is_named name kind.name.now)
@@ -51,7 +51,7 @@ found_told name (kind ∷ kinds) = at (found_told name kinds) (is_named name kin
     at more true = refl
     at more false = more
 
-kind_of_named : (kinds : List Kind) (name : List ℕ) → kind_of kinds (Some name) ≡ find (λ kind. is_named name kind.name.now) kinds
+kind_of_named : (kinds : List LineKind) (name : List ℕ) → kind_of kinds (Some name) ≡ find (λ kind. is_named name kind.name.now) kinds
 kind_of_named [] name = refl
 kind_of_named (kind ∷ kinds) name = refl
 

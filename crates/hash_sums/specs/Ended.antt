@@ -1,6 +1,6 @@
 -- Checks that end well.
 use Rattle.std.specs.Prelude.{ℕ, ◌≡◌, All, List, Option, Some, None, map, codes}
-use Rattle.hash_lines.specs.declared.line.Kind.{Kind}
+use Rattle.hash_lines.specs.declared.line.LineKind.{LineKind}
 use Rattle.cli.specs.Call.{Saying, operands, value_of}
 use Rattle.cli.specs.Files.{Opens, files_or}
 use Rattle.cli.specs.Frame.{request_of}
@@ -17,9 +17,9 @@ pub record HasEndedWell (opens : Opens) (call : List Saying) : Type 0 where
   pub no_misuse : misuse_of call ≡ None
   pub keys : Option (ℕ × ℕ)
   pub are_keys : AreKeysFor (asks_for_siphash24 call) opens (key_file call) keys
-  pub told : List Kind
+  pub told : List LineKind
   pub are_told : map told_of told ≡ kinds_under keys
-  pub kind : Kind
+  pub kind : LineKind
   pub is_asked : kind_of told (asked call) ≡ Some kind
   pub passed : All (HasPassed (taken told (checking_of call kind)) (checking_of call kind) opens) (files_or (operands call))
 

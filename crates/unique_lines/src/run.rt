@@ -5,7 +5,7 @@ ghost use Rattle.text_set.specs.Lines.{IsBare, lines_by};
 ghost use Rattle.unique_lines.specs.Running.{EndsTaking, run_of};
 ghost use Rattle.unique_lines.specs.Taking.{At, BreaksInput, Broke, EndsInput, Grows, Leads, LeavesInput};
 
-use crate::fault::Fault;
+use crate::failure::Failure;
 use crate::lines::take_lines;
 use crate::task::LineTask;
 use crate::unread::{NextLine, Unread};
@@ -43,7 +43,7 @@ fn take_last<T: LineTask, W: Write + Drop>(
     eol: u8,
     most: &mut u64,
     w: &mut BufWriter<W>,
-) -> Result<Left, Fault>
+) -> Result<Left, Failure>
     requires grows { Grows (T.output eol) }
     requires room { (ls : List (List ℕ)) × T.taken eol task.old ls × (length ls + most.old ≤ u64.MAX) }
     requires bare { IsBare eol line.now }
@@ -78,7 +78,7 @@ fn take_input<T: LineTask, R: Read, W: Write + Drop>(
     most: &mut u64,
     r: &mut R,
     w: &mut BufWriter<W>,
-) -> Result<Left, Fault>
+) -> Result<Left, Failure>
     requires grows { Grows (T.output eol) }
     requires room { (ls : List (List ℕ)) × T.taken eol task.old ls × (length ls + most.old ≤ u64.MAX) }
     requires unread { unread.old ≡ [] }
@@ -111,7 +111,7 @@ fn take_input<T: LineTask, R: Read, W: Write + Drop>(
                 unread.clear();
                 return Ok(left);
             }
-            NextLine::Fault(error) => {
+            NextLine::Failure(error) => {
                 unread.clear();
                 return Ok(Left::Failed(error));
             }
@@ -129,7 +129,7 @@ pub fn take_inputs<T: LineTask, R: Read, C: Complaints, W: Write + Drop>(
     inputs: &mut [R],
     complaints: &mut C,
     w: &mut BufWriter<W>,
-) -> Result<Ended, Fault>
+) -> Result<Ended, Failure>
     requires grows { Grows (T.output eol) }
     requires begun { T.taken eol task.old [] }
     requires nothing { T.output eol [] ≡ [] }

@@ -89,9 +89,9 @@ returns-in-End-clause-left g c =
     ends_left (reads_on reads c.in_ok-fill.ensures) _ _ c.take_last.new.most c.in_ok-left-in-End.left ended leads
     (rw c.bytes-in-End.ensures at c.in_ok-left-in-End.ensures.left)
 
-pub returns-in-Fault-clause-left : goal.returns-in-Fault-clause-left
-returns-in-Fault-clause-left g c =
+pub returns-in-Failure-clause-left : goal.returns-in-Failure-clause-left
+returns-in-Failure-clause-left g c =
     let (ls, reads, bare, leads, flushed) = c.loop-task.invariant in
-    let none = rw c.in-Fault.is at c.in_ok-fill.ensures.has_come in
+    let none = rw c.in-Failure.is at c.in_ok-fill.ensures.has_come in
     let all = subst (IsBare c.args.eol) (sym c.in_ok-fill.ensures.is) (bare_both c.args.eol _ _ bare none) in
     (ls, reads_to_fault (reads_on reads c.in_ok-fill.ensures) all, leads, reads.counted)

@@ -1,14 +1,18 @@
 //! What ends a run before its output is whole.
+
+// What follows is the proved text of crates/streams/src/failure.rt without its contracts.
+use crate::shim::std;
+
 use std::alloc::AllocError;
 use std::io::Error;
 
 /// What a program has that has no faults, or no wrong calls, of its own: none of its outcomes has it.
-#[derive(Debug, Drop)]
+#[derive(Debug)]
 pub struct Nothing;
 
 /// Why a run ended before its output was whole. What was written by then is a beginning of it. `Own` has the program's own reasons.
-#[derive(Debug, Drop)]
-pub enum Fault<Own> {
+#[derive(Debug)]
+pub enum Failure<Own> {
     /// A read failed.
     Unread(Error),
     /// A write or the flush failed with this error, or a write took nothing.
@@ -19,13 +23,9 @@ pub enum Fault<Own> {
     Own(Own),
 }
 
-impl<Own: Drop> From<AllocError> for Fault<Own> {
-    ghost use Rattle.std.specs.Prelude.{◌≡◌};
-    ghost use Rattle.streams.specs.declared.fault.Fault.TheVariants.{NoMemory};
-
-    ghost from_gives = { λ error fault. fault ≡ NoMemory };
-
-    fn from(_error: AllocError) -> Fault<Own> {
-        Fault::NoMemory
+impl<Own> From<AllocError> for Failure<Own> {
+    #[inline]
+    fn from(_error: AllocError) -> Failure<Own> {
+        Failure::NoMemory
     }
 }

@@ -1,0 +1,63 @@
+//! What ends a run before its output is whole.
+
+// What follows is the proved text of crates/unique_lines/src/failure.rt without its contracts.
+use crate::cli;
+use hashers_proved::{streams, text_set};
+use hashers_proved::shim::std;
+
+use cli::outcome::Words;
+use std::hash::BuildHasher;
+use streams::failure;
+use text_set::{Full, Guess, Seen, Texts};
+
+/// More than can be taken.
+#[derive(Debug)]
+pub enum TooMany {
+    /// There were 2^32 - 1 texts.
+    Texts,
+    /// There were more lines than the limit. What was written is a beginning of the output.
+    Lines,
+}
+
+/// Why a run ended before its output was whole.
+pub type Failure = failure::Failure<TooMany>;
+
+impl Words for TooMany {
+    #[inline]
+    fn words(&self) -> &'static str {
+        match self {
+            TooMany::Texts => "too many different lines",
+            TooMany::Lines => "too many lines",
+        }
+    }
+}
+
+/// Takes a text into a set, by a guess for it. After a fault the set is as it was.
+///
+/// The caller has to see to it that:
+///
+/// ```text
+/// guess.tag ≡ tag_under S.Hasher.write S.Hasher.finish (S.build_hasher texts.old.hasher) text.now
+/// ```
+///
+/// Proved:
+///
+/// ```text
+/// new: IfOk result (λ seen. seen.is_new ≡ not (has texts.old.texts text.now))
+/// texts: OnOk result (texts.new.texts ≡ with_text texts.old.texts text.now)
+/// place: IfOk result (λ seen. StandsAt texts.new.texts text.now seen.place)
+/// hasher: texts.new.hasher ≡ texts.old.hasher
+/// kept: OnErr result (texts.new ≡ texts.old)
+/// ```
+#[inline(always)]
+pub fn see<S: BuildHasher>(
+    texts: &mut Texts<S>,
+    text: &[u8],
+    guess: Guess,
+) -> Result<Seen, Failure> {
+    match texts.see_at(text, guess) {
+        Ok(seen) => Ok(seen),
+        Err(Full::NoMemory) => Err(Failure::NoMemory),
+        Err(Full::TooManyTexts) => Err(Failure::Own(TooMany::Texts)),
+    }
+}
