@@ -1,6 +1,6 @@
 //! Reads keys: lines, which end with newline or another byte, or so many bytes each.
 ghost use Rattle.std.specs.Prelude.{◌≡◌, ◌<◌, ◌≤◌, IfOk, OnOk, length, true};
-ghost use Rattle.streams.specs.Streams.{ReadsBehind};
+ghost use Rattle.streams.specs.Streams.{ReadsSome};
 ghost use Rattle.text_set.specs.Texts.{with_text};
 ghost use Rattle.hash_spread.specs.Keys.{ReadsFixed, ReadsKey, ReadsKeys, ReadsLine, ReadsLines, ReadsOne};
 
@@ -76,7 +76,7 @@ fn read_lines<R: BufRead>(
 fn read_piece<R: Read>(key: &mut Vec<u8>, piece: &mut [u8], r: &mut R) -> Result<usize, Failure>
     requires { 0 < length piece.old }
     ensures most { IfOk result (λ n. n ≤ length piece.old) }
-    ensures read { IfOk result (ReadsBehind key.old.items key.new.items (R.remaining r.old) (R.remaining r.new)) }
+    ensures read { IfOk result (ReadsSome key.old.items key.new.items (R.remaining r.old) (R.remaining r.new)) }
 {
     match read_some(r, piece, TRIES) {
         Ok(n) => {

@@ -17,6 +17,7 @@ use Rattle.hash_sums.specs.Checking.{TellsAny}
 use Rattle.hash_sums.specs.Ended.{GivesKeys, HasEndedWell}
 use Rattle.hash_sums.specs.Keys.{AreKeysFor, ArePoly61Keys, MayBeKeys}
 use Rattle.hash_sums.specs.declared.outcome.Misuse.TheVariants.{NotWithCheck, OnlyWithCheck, NeedsKeyFile, UnusedKeyFile}
+use Rattle.hash_sums.proofs.NameLemmas.{found_as_told}
 use Rattle.hash_sums.specs.Program.{asked, asks_for, asks_for_keyed, asks_for_poly61, asks_for_siphash24, gives_checking, gives_writing, is_by_name, key_file, kinds_under, misuse_of}
 use Rattle.hash_sums.specs.Sums.{is_named, kind_of, kinds, poly61_at_both, siphash24_at, sum_at, sum_by, sum_of, told_at, told_of, Told}
 
@@ -38,18 +39,6 @@ any_one sfv kind other name number line (inl tells) = line_one kind other name n
 any_one sfv kind other name number line (inr (none, (rest, trims, inl (plain, form, tells)))) = line_one kind other name number plain tells
 any_one sfv kind other name number line (inr (none, (rest, trims, inr (takes, nothing, (plain, form, tells))))) =
     line_one kind other name number plain tells
-
--- what is found by its name is found of what is told of it
-found_told : (name : List ℕ) (kinds : List LineKind)
-    → option_map told_of (find (λ kind. is_named name kind.name.now) kinds) ≡ find (λ told. is_named name told.name) (map told_of kinds)
-found_told name [] = refl
-found_told name (kind ∷ kinds) = at (found_told name kinds) (is_named name kind.name.now)
-  where
-    at : option_map told_of (find (λ k. is_named name k.name.now) kinds) ≡ find (λ told. is_named name told.name) (map told_of kinds)
-        → (b : Bool) → option_map told_of (cond b (Some kind) (find (λ k. is_named name k.name.now) kinds))
-        ≡ cond b (Some (told_of kind)) (find (λ told. is_named name told.name) (map told_of kinds))
-    at more true = refl
-    at more false = more
 
 kind_of_named : (kinds : List LineKind) (name : List ℕ) → kind_of kinds (Some name) ≡ find (λ kind. is_named name kind.name.now) kinds
 kind_of_named [] name = refl
@@ -81,7 +70,7 @@ module _ (opens : Opens) (call : List Saying) (name : List ℕ) (which : ℕ)
       let known : find (λ kind. is_named word kind.name.now) ended.told ≡ Some ended.kind =
       sym (kind_of_named ended.told word) ∙ ap (kind_of ended.told) (sym is) ∙ ended.is_asked in
       let some : Some (told_of ended.kind) ≡ Some (told_at keys which) =
-      sym (ap (option_map told_of) known) ∙ found_told word ended.told ∙ ap (find (λ told. is_named word told.name)) ended.are_told
+      sym (ap (option_map told_of) known) ∙ found_as_told word ended.told ∙ ap (find (λ told. is_named word told.name)) ended.are_told
       ∙ ap (λ n. find (λ (told : Told). bytes_eq (map to_ascii_lowercase told.name) n) (kinds_under ended.keys)) (sym same)
       ∙ found_under ended.keys keys are in
       cc

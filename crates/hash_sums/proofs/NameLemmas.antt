@@ -10,7 +10,7 @@ use Rattle.hash_lines.specs.declared.line.LineKind.{LineKind}
 use Rattle.hash_sums.specs.Sums.{is_named, kind_of, kinds, sum_at, told_of, width_in, Told}
 
 -- the hash of that name, in letters of either case
-abbrev of_name : List ℕ → List Told → Option Told
+abbrev pub of_name : List ℕ → List Told → Option Told
 of_name name hashes = find (λ hash. is_named name hash.name) hashes
 
 abbrev IsFound : List Told → Told → Type 0
@@ -28,7 +28,7 @@ names_are_found None = (refl, (refl, (refl, (refl, (refl, (refl, (refl, (refl, (
 names_are_found (Some keys) = (refl, (refl, (refl, (refl, (refl, (refl, (refl, (refl, (refl, (refl, (refl, (refl, (refl, (refl, (refl, (refl, (refl, (refl, (refl, (refl, (refl, (refl, (refl, (refl, (refl, (refl, (refl, (refl, (refl, (refl, tt))))))))))))))))))))))))))))))
 
 -- what is told of the kind that is found is found
-found_as_told : (name : List ℕ) (told : List LineKind)
+pub found_as_told : (name : List ℕ) (told : List LineKind)
     → option_map told_of (find (λ kind. is_named name kind.name.now) told) ≡ of_name name (map told_of told)
 found_as_told name [] = refl
 found_as_told name (kind ∷ more) = at (is_named name kind.name.now) (found_as_told name more)

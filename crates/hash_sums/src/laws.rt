@@ -228,8 +228,9 @@ pub fn a_check_that_ends_well<R: Read, F: Folder<R>>()
         → status_of outcome ≡ 0 → All (HasPassed (taken kinds checking) checking (F.opens folder)) lists }
 {}
 
-/// The same of a call with `-c`: its lists passed, with lines of the hash alone that `-a` or a key file asks for, and of all hashes without
-/// these. Lines of poly61 and siphash24 are under the keys in the key file; those of poly61 are none that pass every file.
+/// The same of a call with `-c`: nothing else is wrong with it, and its lists passed, with lines of the hash alone that `-a` or a key file
+/// asks for, and of all hashes without these. Lines of poly61 and siphash24 are under the keys in the key file; those of poly61 are none
+/// that pass every file.
 pub fn a_call_that_ends_well<R: Read, F: Folder<R>>()
     ensures { (folder : F) (call : List Saying) (texts : Text → List ℕ) (written written' : Option (List ℕ))
         (outcome : Outcome Misuse Nothing) → request_of call ≡ Work → given (codes "check") call ≡ true

@@ -4,10 +4,13 @@ use Rattle.std.specs.Io.KnownBytes.{Appends, Consumes, IsAtEnd}
 use Rattle.streams.specs.declared.failure.Failure.{Failure}
 use Rattle.streams.specs.declared.failure.Failure.TheVariants.{Unwritten}
 
--- so many bytes were read, and stand behind those before them; none were at the end alone
+-- so many bytes were read, and stand behind those before them
 abbrev pub ReadsBehind : (before after : List ℕ) (left left' : Option (List ℕ)) → ℕ → Type 0
-ReadsBehind before after left left' n =
-    (text : List ℕ) × (after ≡ before ++ text) × (length text ≡ n) × Consumes left left' text × (n ≡ 0 → IsAtEnd left')
+ReadsBehind before after left left' n = (text : List ℕ) × (after ≡ before ++ text) × (length text ≡ n) × Consumes left left' text
+
+-- and none were at the end alone
+abbrev pub ReadsSome : (before after : List ℕ) (left left' : Option (List ℕ)) → ℕ → Type 0
+ReadsSome before after left left' n = ReadsBehind before after left left' n × (n ≡ 0 → IsAtEnd left')
 
 -- what is written now is what was written and a beginning of these bytes
 abbrev pub AppendsPart : (before after : Option (List ℕ)) → List ℕ → Type 0

@@ -2,7 +2,7 @@
 ghost use Rattle.std.specs.Prelude.{◌≡◌, ◌<◌, ◌≤◌, ◌+◌, ◌-◌, [], ℕ, List, IfOk, OnOk, OnErr, MatchResult, true, false, length, take, drop};
 ghost use Rattle.std.specs.Io.Buffered.{writer_buffer};
 ghost use Rattle.std.specs.Io.KnownBytes.{Keeps};
-ghost use Rattle.streams.specs.Streams.{ReadsBehind};
+ghost use Rattle.streams.specs.Streams.{ReadsSome};
 ghost use Rattle.unique_lines.specs.Between.{Filled};
 
 use crate::failure::Failure;
@@ -77,7 +77,7 @@ fn make_room(bytes: &mut Vec<u8>, to: usize) -> Result<(), Failure>
 fn read_behind<R: Read>(bytes: &mut [u8], to: usize, r: &mut R) -> io::Result<usize>
     requires { to < length bytes.old }
     ensures within { IfOk result (λ n. to + n ≤ length bytes.new) }
-    ensures read { IfOk result (λ n. ReadsBehind (take to bytes.old) (take (to + n) bytes.new)
+    ensures read { IfOk result (λ n. ReadsSome (take to bytes.old) (take (to + n) bytes.new)
         (R.remaining r.old) (R.remaining r.new) n) }
     ensures kept { OnErr result (take to bytes.new ≡ take to bytes.old) }
     ensures err { OnErr result (Keeps (R.remaining r.old) (R.remaining r.new)) }
@@ -130,7 +130,7 @@ impl Unread {
     /// Reads once.
     fn read<R: Read>(&mut self, r: &mut R) -> Result<io::Result<usize>, Failure>
         ensures { IfOk result (λ read. MatchResult read
-            (ReadsBehind self.old self.new (R.remaining r.old) (R.remaining r.new))
+            (ReadsSome self.old self.new (R.remaining r.old) (R.remaining r.new))
             (λ _. (self.new ≡ self.old) × Keeps (R.remaining r.old) (R.remaining r.new))) }
     {
         to_front(&mut self.bytes, self.from, self.to);
