@@ -101,7 +101,7 @@ fn read_lines<R: BufRead>(
 ///
 /// ```text
 /// most: IfOk result (λ n. n ≤ length piece.old)
-/// read: IfOk result (ReadsBehind key.old.items key.new.items (R.remaining r.old) (R.remaining r.new))
+/// read: IfOk result (ReadsSome key.old.items key.new.items (R.remaining r.old) (R.remaining r.new))
 /// ```
 #[inline]
 fn read_piece<R: Read>(key: &mut Vec<u8>, piece: &mut [u8], r: &mut R) -> Result<usize, Failure> {

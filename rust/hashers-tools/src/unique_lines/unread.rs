@@ -95,7 +95,7 @@ fn make_room(bytes: &mut Vec<u8>, to: usize) -> Result<(), Failure> {
 ///
 /// ```text
 /// within: IfOk result (λ n. to + n ≤ length bytes.new)
-/// read: IfOk result (λ n. ReadsBehind (take to bytes.old) (take (to + n) bytes.new)
+/// read: IfOk result (λ n. ReadsSome (take to bytes.old) (take (to + n) bytes.new)
 ///     (R.remaining r.old) (R.remaining r.new) n)
 /// kept: OnErr result (take to bytes.new ≡ take to bytes.old)
 /// err: OnErr result (Keeps (R.remaining r.old) (R.remaining r.new))
@@ -183,7 +183,7 @@ impl Unread {
     ///
     /// ```text
     /// IfOk result (λ read. MatchResult read
-    ///     (ReadsBehind self.old self.new (R.remaining r.old) (R.remaining r.new))
+    ///     (ReadsSome self.old self.new (R.remaining r.old) (R.remaining r.new))
     ///     (λ _. (self.new ≡ self.old) × Keeps (R.remaining r.old) (R.remaining r.new)))
     /// ```
     #[inline]
