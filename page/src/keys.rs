@@ -8,10 +8,10 @@ use hashers_proved::text_set::{RandomKeys, Texts};
 use hashers_tools::hash_spread::call::{call_of, kinds_of, settings_of, unknown_name};
 use hashers_tools::hash_spread::chance::Chance;
 use hashers_tools::hash_spread::counts::Spread;
-use hashers_tools::hash_spread::fault::Fault;
+use hashers_tools::hash_spread::failure::Failure;
 use hashers_tools::hash_spread::keys::{read_keys, Layout};
 use hashers_tools::hash_spread::named::{hash_by, Hashed};
-use hashers_tools::hash_spread::rows::{row_of, Row};
+use hashers_tools::hash_spread::rows::{row_of, TableRow};
 use hashers_tools::hash_spread::sizes::sizes_of;
 use hashers_tools::spread::table::Frame;
 
@@ -30,7 +30,7 @@ pub struct Keys {
     /// For each of these.
     measured: Vec<Measured>,
     frame: Option<Frame>,
-    rows: Vec<Row>,
+    rows: Vec<TableRow>,
 }
 
 fn no_memory(_: AllocError) -> String {
@@ -47,7 +47,7 @@ impl Keys {
     fn read(&mut self, lines: &[u8]) -> Result<(), String> {
         let mut reader = BufReader::with_capacity(Global, lines.len().clamp(1, BUFFER), lines).map_err(|_| NO_MEMORY.to_string())?;
         read_keys(Global, &mut self.hashed.keys, Layout::Lines(b'\n'), &mut reader).map_err(|fault| match fault {
-            Fault::NoMemory => NO_MEMORY.to_string(),
+            Failure::NoMemory => NO_MEMORY.to_string(),
             _ => "There are too many different keys.".to_string(),
         })
     }
@@ -155,7 +155,7 @@ fn asked(words: &[u8]) -> Result<(shim::Vec<Kind>, Option<u64>, bool), String> {
 }
 
 /// Whether the spread is as even as chance at each number of buckets, and what chance has of equal pairs.
-fn verdict(frame: &Frame, row: &Row) -> String {
+fn verdict(frame: &Frame, row: &TableRow) -> String {
     let spreads = [Some(row.counts.first), row.counts.second].into_iter().flatten();
     let words: Vec<&str> = spreads
         .map(|spread| {

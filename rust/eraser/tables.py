@@ -27,7 +27,7 @@ PARTS = {
         "hash_numbers": {"hasher", "number"},
         "hash_names": {"reading", "table", "task", "wide"},
         "hash_reading": {"limited", "reader"},
-        "streams": {"fault", "tries"},
+        "streams": {"failure", "tries"},
     },
     "hashers-tools": {
         "hashof": {"line", "main", "outcome", "run"},

@@ -1,7 +1,7 @@
 -- What a call asks for, how it ends, and what is said of a failure.
 use Rattle.std.specs.Prelude.{ℕ, ◌≡◌, ◌++◌, if◌then◌else◌, Bool, List, [], Option, Some, None, Result, codes}
 use Rattle.std.specs.Io.KnownBytes.{Keeps}
-use Rattle.streams.specs.declared.fault.Fault.{Fault}
+use Rattle.streams.specs.declared.failure.Failure.{Failure}
 use Rattle.cli.specs.declared.frame.Request.{Request}
 use Rattle.cli.specs.declared.frame.Request.TheVariants as request
 use Rattle.cli.specs.declared.frame.Text.{Text}
@@ -38,7 +38,7 @@ abbrev pub EndsRequest : {Misuse Own : Type 0} → Request → (texts : Text →
     (written written' : Option (List ℕ)) → Outcome Misuse Own → Type 0
 EndsRequest request.Work texts work unread written written' result = work result
 EndsRequest {Own = Own} (request.Text text) texts work unread written written' result =
-    unread × (told : Result (Unit {0}) (Fault Own)) × WritesOut (texts text) written written' told × (result ≡ of_telling told)
+    unread × (told : Result (Unit {0}) (Failure Own)) × WritesOut (texts text) written written' told × (result ≡ of_telling told)
 EndsRequest (request.Misgiven misgiven) texts work unread written written' result =
     (result ≡ Usage (wrong.Option misgiven)) × unread × Keeps written written'
 

@@ -5,8 +5,8 @@ use Rattle.std.specs.declared.io.ErrorKind.{ErrorKind}
 use Rattle.std.specs.declared.io.ErrorKind.TheVariants.{BrokenPipe}
 use Rattle.cli.specs.declared.call.Misgiven.{Misgiven}
 use Rattle.cli.specs.declared.call.Misgiven.TheVariants.{NoSuchName, NoSuchLetter, NoValue, HasValue}
-use Rattle.streams.specs.declared.fault.Fault.{Fault}
-use Rattle.streams.specs.declared.fault.Fault.TheVariants as fault
+use Rattle.streams.specs.declared.failure.Failure.{Failure}
+use Rattle.streams.specs.declared.failure.Failure.TheVariants as fault
 use Rattle.cli.specs.declared.outcome.Outcome.{Outcome}
 use Rattle.cli.specs.declared.outcome.Outcome.TheVariants.{Done, Usage, Reported, Failed}
 use Rattle.cli.specs.declared.outcome.Wrong.TheVariants as wrong
@@ -50,12 +50,12 @@ failure_of misuse_words own_words (Failed fault.NoMemory) = codes "out of memory
 failure_of misuse_words own_words (Failed (fault.Own own)) = own_words own
 
 -- what came of writing a text
-abbrev pub of_telling : {Misuse Own : Type 0} → Result (Unit {0}) (Fault Own) → Outcome Misuse Own
+abbrev pub of_telling : {Misuse Own : Type 0} → Result (Unit {0}) (Failure Own) → Outcome Misuse Own
 of_telling (Ok done) = Done
 of_telling (Err fault) = Failed fault
 
 -- what came of a run over files: whether each was read, or what failed
-abbrev pub of_run : {Misuse Own : Type 0} → Result Bool (Fault Own) → Outcome Misuse Own
+abbrev pub of_run : {Misuse Own : Type 0} → Result Bool (Failure Own) → Outcome Misuse Own
 of_run (Ok true) = Done
 of_run (Ok false) = Reported
 of_run (Err fault) = Failed fault

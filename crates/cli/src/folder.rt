@@ -12,7 +12,8 @@ use std::io::{Error, IsTerminal, Read};
 
 /// The files of a call: its operands, or standard input.
 pub fn files<'a>(alloc: Global, call: &Call<'a>) -> Result<Vec<&'a [u8]>, AllocError>
-    ensures { IfOk result (λ files. map (λ file. file.now) files.items ≡ files_or (operands (sayings call.now.said.items))) }
+    ensures { IfOk result (λ files. map (λ file. file.now) files.items
+        ≡ files_or (operands (sayings call.now.said.items))) }
 {
     let mut files = call.operands(alloc)?;
     if files.is_empty() {

@@ -11,7 +11,7 @@ use crate::quoted::in_quotes;
 use crate::reason::reason;
 use std::alloc::{AllocError, Global};
 use std::io::Error;
-use streams::fault::Fault;
+use streams::failure::Failure;
 
 /// What a program says of itself.
 #[derive(Clone, Copy)]
@@ -141,7 +141,8 @@ impl Complaint<'_> {
     /// Its text: a line, or two behind a wrong call.
     pub fn text(&self, alloc: Global) -> Result<String, AllocError>
         ensures { IfOk result (λ text. string_bytes text ≡ complaint_of self.now.name.now self.now.failure.now
-            (option_map (λ word. word.now) self.now.word) self.now.behind.now (option_map (λ reason. reason.now) self.now.reason)
+            (option_map (λ word. word.now) self.now.word) self.now.behind.now
+            (option_map (λ reason. reason.now) self.now.reason)
             self.now.is_wrong_call) }
     {
         let mut text = String::new(alloc);
@@ -158,9 +159,9 @@ impl Complaint<'_> {
 /// The error of the system behind a failure, if there is one.
 fn error_of<Misuse, Own: Words>(outcome: &Outcome<Misuse, Own>) -> Option<&Error> {
     match outcome {
-        Outcome::Failed(Fault::Unread(error)) => Some(error),
-        Outcome::Failed(Fault::Unwritten(Some(error))) => Some(error),
-        Outcome::Failed(Fault::Own(own)) => own.error(),
+        Outcome::Failed(Failure::Unread(error)) => Some(error),
+        Outcome::Failed(Failure::Unwritten(Some(error))) => Some(error),
+        Outcome::Failed(Failure::Own(own)) => own.error(),
         _ => None,
     }
 }

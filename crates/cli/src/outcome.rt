@@ -4,7 +4,7 @@ ghost use Rattle.cli.specs.Outcome.{behind_of, failure_of, misgiven_words, of_ru
 
 use crate::call::Misgiven;
 use std::io::{Error, ErrorKind};
-use streams::fault::{Fault, Nothing};
+use streams::failure::{Failure, Nothing};
 
 /// Something that failed, in words.
 pub trait Words {
@@ -52,11 +52,11 @@ pub enum Outcome<Misuse, Own> {
     /// Something failed, and that was told when it did.
     Reported,
     /// The output is not whole: what was written is a beginning of it.
-    Failed(Fault<Own>),
+    Failed(Failure<Own>),
 }
 
 /// What came of writing a text.
-pub fn of_telling<Misuse, Own>(told: Result<(), Fault<Own>>) -> Outcome<Misuse, Own>
+pub fn of_telling<Misuse, Own>(told: Result<(), Failure<Own>>) -> Outcome<Misuse, Own>
     ensures { result ≡ of_telling told }
 {
     match told {
@@ -66,7 +66,7 @@ pub fn of_telling<Misuse, Own>(told: Result<(), Fault<Own>>) -> Outcome<Misuse, 
 }
 
 /// What came of a run over files, which went well unless one of them failed.
-pub fn of_run<Misuse, Own>(well: Result<bool, Fault<Own>>) -> Outcome<Misuse, Own>
+pub fn of_run<Misuse, Own>(well: Result<bool, Failure<Own>>) -> Outcome<Misuse, Own>
     ensures { result ≡ of_run well }
 {
     match well {
@@ -107,10 +107,10 @@ pub fn failure_of<Misuse: Words, Own: Words>(outcome: &Outcome<Misuse, Own>) -> 
         Outcome::Usage(Wrong::Option(misgiven)) => misgiven_words(*misgiven),
         Outcome::Usage(Wrong::UnknownName) => "unknown hash",
         Outcome::Usage(Wrong::Own(misuse)) => misuse.words(),
-        Outcome::Failed(Fault::Unread(_)) => "-",
-        Outcome::Failed(Fault::Unwritten(_)) => "write error",
-        Outcome::Failed(Fault::NoMemory) => "out of memory",
-        Outcome::Failed(Fault::Own(own)) => own.words(),
+        Outcome::Failed(Failure::Unread(_)) => "-",
+        Outcome::Failed(Failure::Unwritten(_)) => "write error",
+        Outcome::Failed(Failure::NoMemory) => "out of memory",
+        Outcome::Failed(Failure::Own(own)) => own.words(),
     }
 }
 
@@ -132,7 +132,7 @@ pub fn status_of<Misuse, Own>(outcome: &Outcome<Misuse, Own>) -> u8
     match outcome {
         Outcome::Done => 0,
         Outcome::Usage(_) => 2,
-        Outcome::Failed(Fault::Unwritten(Some(error))) => write_status(error.kind()),
+        Outcome::Failed(Failure::Unwritten(Some(error))) => write_status(error.kind()),
         _ => 1,
     }
 }

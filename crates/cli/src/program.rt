@@ -7,7 +7,7 @@ use crate::outcome::{Outcome, Words};
 use std::alloc::{AllocError, Global};
 use std::io;
 use std::process::ExitCode;
-use streams::fault::Fault;
+use streams::failure::Failure;
 
 /// How many bytes a program writes at once.
 pub const BUFFER: usize = 65536;
@@ -45,7 +45,7 @@ fn without_memory<P: Program>(rt: &HostRuntime) -> u8 {
     ended(
         rt,
         P::name(),
-        &Outcome::<P::Misuse, P::Own>::Failed(Fault::NoMemory),
+        &Outcome::<P::Misuse, P::Own>::Failed(Failure::NoMemory),
         None,
     )
 }

@@ -11,7 +11,7 @@ use std::alloc::{AllocError, Global};
 use std::io;
 use std::io::BufWriter;
 use std::process::ExitCode;
-use streams::fault::Nothing;
+use streams::failure::Nothing;
 use text_set::RandomKeys;
 use unique_lines::TooMany;
 use unique_lines::outcome::{Outcome, call_of, options, outcome_of};

@@ -6,16 +6,16 @@ use Rattle.std.proofs.KnownBytes.{Appends-nil, Appends-trans}
 use Rattle.streams.proofs.StreamLemmas.{part_behind, part_longer, part_whole}
 use Rattle.streams.specs.Streams.{AppendsPart}
 use Rattle.cli.specs.Files.{Opens}
-use Rattle.streams.specs.declared.fault.Fault.{Fault}
+use Rattle.streams.specs.declared.failure.Failure.{Failure}
 use Rattle.hash_chunks.proofs.CutLemmas.{bytes_more}
 use Rattle.hash_chunks.specs.Cut.{EndsFile, one}
 use Rattle.hash_chunks.specs.Listing.{AreListed, EndsLines, chunk_line, chunk_lines}
-use Rattle.hash_chunks.specs.declared.fault.TooMany.{TooMany}
+use Rattle.hash_chunks.specs.declared.failure.TooMany.{TooMany}
 use Rattle.hash_cuts.specs.Cuts.{Cutting, chunks}
 use Rattle.hash_cuts.specs.Reading.{Taken}
-use Rattle.hash_lines.specs.declared.line.Kind.{Kind}
+use Rattle.hash_lines.specs.declared.line.LineKind.{LineKind}
 
-module _ (kind : Kind) (name : List ℕ) where
+module _ (kind : LineKind) (name : List ℕ) where
   -- the lines of some chunks and of more
   pub lines_more : (place : ℕ) (given more : List (List ℕ))
       → chunk_lines kind name place (given ++ more) ≡ chunk_lines kind name place given ++ chunk_lines kind name (place + length (concat given)) more
@@ -68,10 +68,10 @@ module _ (kind : Kind) (name : List ℕ) where
   listed_torn from to w w' given (Some chunk) listed = listed
 
 -- the lines of a file, by what a sink was given that lists them
-pub ends_lines : {S : Type 0} (taken : Taken S) (kind : Kind) (cuts : Cutting) (opens : Opens) (name : List ℕ) (old new : S) (w w' : Option (List ℕ))
+pub ends_lines : {S : Type 0} (taken : Taken S) (kind : LineKind) (cuts : Cutting) (opens : Opens) (name : List ℕ) (old new : S) (w w' : Option (List ℕ))
     (to : ℕ) → taken old old [] None
     → ((given : List (List ℕ)) (refused : Option (List ℕ)) → taken old new given refused → AreListed kind name 0 to w w' given refused)
-    → (result : Result Bool (Fault TooMany)) → EndsFile taken cuts (opens name) old new result → EndsLines kind cuts opens name w w' result
+    → (result : Result Bool (Failure TooMany)) → EndsFile taken cuts (opens name) old new result → EndsLines kind cuts opens name w w' result
 ends_lines taken kind cuts opens name old new w w' to start listed (Ok whole) (given, is_cut, takes) =
     (given, is_cut, (listed given None (takes old [] start)).1)
 ends_lines taken kind cuts opens name old new w w' to start listed (Err fault) torn =

@@ -5,35 +5,35 @@ use Rattle.std.specs.Io.Buffered.{writer_contents}
 use Rattle.std.specs.Io.KnownBytes.{Appends}
 use Rattle.cli.specs.Files.{Opens}
 use Rattle.streams.specs.Streams.{AppendsPart}
-use Rattle.streams.specs.declared.fault.Fault.{Fault}
+use Rattle.streams.specs.declared.failure.Failure.{Failure}
 use Rattle.hash_chunks.specs.Cut.{Cut, IsCut, IsFileCut, IsRead, given_of, is_whole, name_of}
-use Rattle.hash_chunks.specs.declared.fault.TooMany.{TooMany}
+use Rattle.hash_chunks.specs.declared.failure.TooMany.{TooMany}
 use Rattle.hash_chunks.specs.declared.listing.Lines.{Lines}
 use Rattle.hash_cuts.specs.Cuts.{Cutting, chunks}
 use Rattle.hash_cuts.specs.Reading.{Taken}
 use Rattle.hash_lines.specs.Line.{line_of}
 use Rattle.hash_lines.specs.declared.line.Form.TheVariants.{Untagged}
-use Rattle.hash_lines.specs.declared.line.Kind.{Kind}
+use Rattle.hash_lines.specs.declared.line.LineKind.{LineKind}
 use Rattle.hash_sums.specs.Sums.{sum_by}
 use Rattle.hash_sums.specs.Told.{AreTold}
 
 -- the line of a chunk: where it begins in its file, how many bytes it has, and its hash with the file's name, as lines of hashes have them
-abbrev pub chunk_line : Kind → (name : List ℕ) (place : ℕ) (chunk : List ℕ) → List ℕ
+abbrev pub chunk_line : LineKind → (name : List ℕ) (place : ℕ) (chunk : List ℕ) → List ℕ
 chunk_line kind name place chunk =
     (decimal place ++ 32 ∷ []) ++ ((decimal (length chunk) ++ 32 ∷ [])
     ++ (line_of Untagged true kind.name.now kind.width name (sum_by kind chunk) ++ 10 ∷ []))
 
 -- the lines of chunks that stand one behind the other, the first at this place
-abbrev pub chunk_lines : Kind → (name : List ℕ) (place : ℕ) → List (List ℕ) → List ℕ
+abbrev pub chunk_lines : LineKind → (name : List ℕ) (place : ℕ) → List (List ℕ) → List ℕ
 chunk_lines kind name place [] = []
 chunk_lines kind name place (chunk ∷ more) = chunk_line kind name place chunk ++ chunk_lines kind name (place + length chunk) more
 
 -- the lines of a file
-abbrev pub lines_of : Kind → Cut → List ℕ
+abbrev pub lines_of : LineKind → Cut → List ℕ
 lines_of kind file = chunk_lines kind (name_of file) 0 (given_of file)
 
 -- the lines of chunks from one place to another were written, and of one behind them a beginning, if one was refused
-abbrev pub AreListed : Kind → (name : List ℕ) (from to : ℕ) (written written' : Option (List ℕ)) (given : List (List ℕ))
+abbrev pub AreListed : LineKind → (name : List ℕ) (from to : ℕ) (written written' : Option (List ℕ)) (given : List (List ℕ))
     (refused : Option (List ℕ)) → Type 0
 AreListed kind name from to written written' given None =
     (to ≡ from + length (concat given)) × Appends written written' (chunk_lines kind name from given)
@@ -46,15 +46,15 @@ ListsChunks contents start now given refused = (now.kind ≡ start.kind)
     (writer_contents contents start.w) (writer_contents contents now.w) given refused
 
 -- how the lines of a file end: those of its chunks were written, or of the chunks of what was read of it a beginning
-abbrev pub EndsLines : Kind → Cutting → Opens → (name : List ℕ) (written written' : Option (List ℕ)) → Result Bool (Fault TooMany) → Type 0
+abbrev pub EndsLines : LineKind → Cutting → Opens → (name : List ℕ) (written written' : Option (List ℕ)) → Result Bool (Failure TooMany) → Type 0
 EndsLines kind cuts opens name written written' (Ok whole) = (given : List (List ℕ)) × IsCut cuts (opens name) given whole
     × Appends written written' (lines_of kind (name, (given, whole)))
 EndsLines kind cuts opens name written written' (Err fault) = (text : List ℕ) × (left : Option (List ℕ)) × IsRead (opens name) text left
     × AppendsPart written written' (chunk_lines kind name 0 (chunks cuts text))
 
 -- the lines of the first files were written, and of the next a beginning
-pub record AreTornOff (kind : Kind) (cuts : Cutting) (opens : Opens) (names : List (List ℕ)) (written written' : Option (List ℕ))
-    (fault : Fault TooMany) : Type 0 where
+pub record AreTornOff (kind : LineKind) (cuts : Cutting) (opens : Opens) (names : List (List ℕ)) (written written' : Option (List ℕ))
+    (fault : Failure TooMany) : Type 0 where
   pub told : List Cut
   pub between : Option (List ℕ)
   pub all : Bool
@@ -65,8 +65,8 @@ pub record AreTornOff (kind : Kind) (cuts : Cutting) (opens : Opens) (names : Li
   pub last : EndsLines kind cuts opens name between written' (Err fault)
 
 -- how a run over the files of these names ends: their lines were written, in their order, or a beginning of them
-abbrev pub EndsListing : Kind → Cutting → Opens → (names : List (List ℕ)) (written written' : Option (List ℕ))
-    → Result Bool (Fault TooMany) → Type 0
+abbrev pub EndsListing : LineKind → Cutting → Opens → (names : List (List ℕ)) (written written' : Option (List ℕ))
+    → Result Bool (Failure TooMany) → Type 0
 EndsListing kind cuts opens names written written' (Ok all) = (told : List Cut)
     × AreTold name_of (IsFileCut cuts opens) (lines_of kind) is_whole names told written written' all
 EndsListing kind cuts opens names written written' (Err fault) = AreTornOff kind cuts opens names written written' fault

@@ -5,7 +5,7 @@ use Rattle.cli.specs.Call.{Choice, Saying, flag, given, operands, taking, value_
 use Rattle.cli.specs.Files.{Opens, files_or}
 use Rattle.cli.specs.Frame.{EndsRequest, request_of}
 use Rattle.cli.specs.Outcome.{of_run}
-use Rattle.streams.specs.declared.fault.Fault.{Fault}
+use Rattle.streams.specs.declared.failure.Failure.{Failure}
 use Rattle.cli.specs.declared.frame.Text.{Text}
 use Rattle.cli.specs.declared.outcome.Outcome.{Outcome}
 use Rattle.cli.specs.declared.outcome.Outcome.TheVariants.{Usage, Reported}
@@ -14,14 +14,14 @@ use Rattle.cli.specs.declared.outcome.Wrong.TheVariants.{UnknownName, Own}
 use Rattle.hash_chunks.specs.Listing.{EndsListing}
 use Rattle.hash_chunks.specs.Sizes.{sizes_of}
 use Rattle.hash_chunks.specs.Tally.{EndsTally}
-use Rattle.hash_chunks.specs.declared.fault.TooMany.{TooMany}
+use Rattle.hash_chunks.specs.declared.failure.TooMany.{TooMany}
 use Rattle.hash_chunks.specs.declared.outcome.Misuse.{Misuse}
 use Rattle.hash_chunks.specs.declared.outcome.Misuse.TheVariants as misuse
 use Rattle.hash_chunks.specs.declared.outcome.Task.{Task}
 use Rattle.hash_chunks.specs.declared.sizes.Sizes.{Sizes}
 use Rattle.hash_cuts.specs.Cuts.{Cutting, cutting}
-use Rattle.hash_lines.specs.declared.line.Kind.{Kind}
-use Rattle.hash_sums.specs.Keys.{AreKeysOf}
+use Rattle.hash_lines.specs.declared.line.LineKind.{LineKind}
+use Rattle.hash_sums.specs.Keys.{AreKeysFor}
 use Rattle.hash_sums.specs.Sums.{kind_of, kinds, sum_by, told_of}
 
 -- the options
@@ -35,17 +35,17 @@ abbrev pub are_rising : Sizes → Bool
 are_rising sizes = not (nat_lt sizes.least 64) && not (nat_lt sizes.average sizes.least) && not (nat_lt sizes.most sizes.average)
 
 -- what is to be done by these sizes and this hash
-abbrev pub task_by : (call : List Saying) → Sizes → Option Kind → Result Task (Wrong Misuse)
+abbrev pub task_by : (call : List Saying) → Sizes → Option LineKind → Result Task (Wrong Misuse)
 task_by call sizes None = Err UnknownName
 task_by call sizes (Some kind) = Ok (record { sizes = sizes; kind = kind; stats = given (codes "stats") call })
 
-abbrev pub task_with : List Kind → (call : List Saying) → Option Sizes → Result Task (Wrong Misuse)
+abbrev pub task_with : List LineKind → (call : List Saying) → Option Sizes → Result Task (Wrong Misuse)
 task_with kinds call None = Err (Own misuse.NoSize)
 task_with kinds call (Some sizes) =
     if are_rising sizes then task_by call sizes (kind_of kinds (value_of (codes "algorithm") call)) else Err (Own misuse.NotRising)
 
 -- which work a call asks for
-abbrev pub task_of : List Kind → (call : List Saying) → Result Task (Wrong Misuse)
+abbrev pub task_of : List LineKind → (call : List Saying) → Result Task (Wrong Misuse)
 task_of kinds call = task_with kinds call (sizes_of call)
 
 -- where the cuts are, by the keys in a key file, or by zeros
@@ -54,8 +54,8 @@ cutting_of sizes None = cutting sizes.least sizes.average sizes.most 0 0
 cutting_of sizes (Some keys) = cutting sizes.least sizes.average sizes.most keys.0 keys.1
 
 -- how a run over the files of these names ends
-abbrev pub EndsRun : (stats : Bool) → Kind → Cutting → Opens → (files : List (List ℕ)) (written written' : Option (List ℕ))
-    → Result Bool (Fault TooMany) → Type 0
+abbrev pub EndsRun : (stats : Bool) → LineKind → Cutting → Opens → (files : List (List ℕ)) (written written' : Option (List ℕ))
+    → Result Bool (Failure TooMany) → Type 0
 EndsRun true kind cuts opens files written written' ended = EndsTally (sum_by kind) cuts opens files written written' ended
 EndsRun false kind cuts opens files written written' ended = EndsListing kind cuts opens files written written' ended
 
@@ -63,7 +63,7 @@ EndsRun false kind cuts opens files written written' ended = EndsListing kind cu
 abbrev pub EndsTask : Opens → (key_file : Option (List ℕ)) (files : List (List ℕ)) (written written' : Option (List ℕ))
     → Result Task (Wrong Misuse) → Outcome Misuse TooMany → Type 0
 EndsTask opens key_file files written written' (Ok task) result =
-    ((keys : Option (ℕ × ℕ)) × AreKeysOf opens key_file keys × (ended : Result Bool (Fault TooMany))
+    ((keys : Option (ℕ × ℕ)) × AreKeysFor true opens key_file keys × (ended : Result Bool (Failure TooMany))
     × EndsRun task.stats task.kind (cutting_of task.sizes keys) opens files written written' ended × (result ≡ of_run ended))
     ⊎ (IsSome key_file × (result ≡ Reported) × Keeps written written')
 EndsTask opens key_file files written written' (Err wrong) result = (result ≡ Usage wrong) × Keeps written written'
@@ -71,7 +71,7 @@ EndsTask opens key_file files written written' (Err wrong) result = (result ≡ 
 -- how the program ends whose call says this
 abbrev pub EndsCall : Opens → (call : List Saying) (texts : Text → List ℕ) (written written' : Option (List ℕ))
     → Outcome Misuse TooMany → Type 0
-EndsCall opens call texts written written' = EndsRequest (request_of call) texts (λ result. (told : List Kind) × (map told_of told ≡ kinds None)
+EndsCall opens call texts written written' = EndsRequest (request_of call) texts (λ result. (told : List LineKind) × (map told_of told ≡ kinds None)
     × EndsTask opens (value_of (codes "key-file") call) (files_or (operands call)) written written' (task_of told call) result)
     (Unit {0}) written written'
 

@@ -4,9 +4,9 @@ use Rattle.std.specs.List.{concat, filter, flat_map, list_all}
 use Rattle.std.specs.Io.KnownBytes.{Appends, Keeps}
 use Rattle.cli.specs.Files.{Opens}
 use Rattle.streams.specs.Streams.{AppendsPart}
-use Rattle.streams.specs.declared.fault.Fault.{Fault}
+use Rattle.streams.specs.declared.failure.Failure.{Failure}
 use Rattle.hash_chunks.specs.Cut.{Cut, IsFileCut, given_of, is_whole, name_of}
-use Rattle.hash_chunks.specs.declared.fault.TooMany.{TooMany}
+use Rattle.hash_chunks.specs.declared.failure.TooMany.{TooMany}
 use Rattle.hash_cuts.specs.Cuts.{Cutting}
 
 -- the chunks whose hash no chunk before them has
@@ -42,7 +42,7 @@ all_given files = flat_map given_of files
 
 -- how a run over the files of these names ends: the numbers of their chunks were written; or a beginning of them, or nothing
 abbrev pub EndsTally : (hash : List ℕ → ℕ) → Cutting → Opens → (names : List (List ℕ)) (written written' : Option (List ℕ))
-    → Result Bool (Fault TooMany) → Type 0
+    → Result Bool (Failure TooMany) → Type 0
 EndsTally hash cuts opens names written written' (Ok all) = (files : List Cut) × AreCut cuts opens names files all
     × Appends written written' (tally_lines hash (all_given files))
 EndsTally hash cuts opens names written written' (Err fault) = Keeps written written'

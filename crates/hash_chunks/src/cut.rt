@@ -1,20 +1,20 @@
 //! The chunks of a file.
 ghost use Rattle.hash_chunks.specs.Cut.{EndsFile};
 
-use crate::fault::Fault;
+use crate::failure::Failure;
 use cli::folder::Folder;
 use hash_cuts::{Cuts, Sink, Unfinished, cut_reader_by};
 use std::io::{Error, ErrorKind, Read};
 
 /// Gives a sink the chunks of the file of that name, by a buffer that may serve many files, and returns whether it was read to its end. A
 /// file that fails is told, and the sink has the chunks that end within the bytes read before.
-pub fn cut_file<R: Read + Drop, F: Folder<R>, S: Sink<Error = Fault>>(
+pub fn cut_file<R: Read + Drop, F: Folder<R>, S: Sink<Error = Failure>>(
     buffer: &mut Vec<u8>,
     cuts: &Cuts,
     folder: &F,
     name: &[u8],
     sink: &mut S,
-) -> Result<bool, Fault>
+) -> Result<bool, Failure>
     ensures { EndsFile S.taken cuts.now (F.opens folder.now name.now) sink.old sink.new result }
 {
     let mut file = match folder.open(name) {
@@ -36,6 +36,6 @@ pub fn cut_file<R: Read + Drop, F: Folder<R>, S: Sink<Error = Fault>>(
             Ok(false)
         }
         Err(Unfinished::Refused(fault)) => Err(fault),
-        Err(Unfinished::NoMemory) => Err(Fault::NoMemory),
+        Err(Unfinished::NoMemory) => Err(Failure::NoMemory),
     }
 }

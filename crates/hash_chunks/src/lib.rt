@@ -3,7 +3,7 @@
 #![tactic(auto)]
 
 mod cut;
-pub mod fault;
+pub mod failure;
 pub mod listing;
 pub mod outcome;
 pub mod sizes;

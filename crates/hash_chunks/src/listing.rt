@@ -4,10 +4,10 @@ ghost use Rattle.std.specs.Io.Buffered.{writer_contents};
 ghost use Rattle.hash_chunks.specs.Listing.{EndsLines, EndsListing, ListsChunks, chunk_line};
 
 use crate::cut::cut_file;
-use crate::fault::{Fault, TooMany};
+use crate::failure::{Failure, TooMany};
 use cli::folder::Folder;
 use hash_cuts::{Cuts, Sink};
-use hash_lines::line::{Form, Kind, push_line};
+use hash_lines::line::{Form, LineKind, push_line};
 use hash_sums::sums::{default_kind, number_of_text};
 use std::alloc::{AllocError, Global};
 use std::io::{BufWriter, Read, Write};
@@ -17,7 +17,7 @@ use streams::tries::write_out;
 #[derive(Drop)]
 pub struct Lines<'a, W: Write + Drop> {
     alloc: Global,
-    kind: Kind<'static>,
+    kind: LineKind<'static>,
     name: &'a [u8],
     place: u64, // where the next chunk begins
     /// Where the lines are written.
@@ -42,7 +42,7 @@ impl<W: Write + Drop> Lines<'_, W> {
 /// The line of a chunk, with its end.
 fn chunk_line(
     alloc: Global,
-    kind: Kind<'static>,
+    kind: LineKind<'static>,
     name: &[u8],
     place: u64,
     chunk: &[u8],
@@ -66,17 +66,17 @@ fn chunk_line(
 }
 
 impl<W: Write + Drop> Sink for Lines<'_, W> {
-    type Error = Fault;
+    type Error = Failure;
 
     ghost taken = { ListsChunks W.contents };
 
-    fn take(&mut self, chunk: &[u8]) -> Result<(), Fault> {
+    fn take(&mut self, chunk: &[u8]) -> Result<(), Failure> {
         let Some(next) = self.place.checked_add(chunk.len() as u64) else {
-            return Err(Fault::Own(TooMany));
+            return Err(Failure::Own(TooMany));
         };
         match chunk_line(self.alloc, self.kind, self.name, self.place, chunk) {
             Ok(line) => write_out(&mut self.w, &line)?,
-            Err(_) => return Err(Fault::NoMemory),
+            Err(_) => return Err(Failure::NoMemory),
         }
         self.place = next;
         Ok(())
@@ -90,7 +90,7 @@ fn list_file<'a, R: Read + Drop, F: Folder<R>, W: Write + Drop>(
     folder: &F,
     name: &'a [u8],
     lines: &mut Lines<'a, W>,
-) -> Result<bool, Fault>
+) -> Result<bool, Failure>
     ensures kind { lines.new.kind ≡ lines.old.kind }
     ensures listed { EndsLines lines.old.kind cuts.now (F.opens folder.now) name.now
         (writer_contents W.contents lines.old.w) (writer_contents W.contents lines.new.w) result }
@@ -106,10 +106,10 @@ pub fn list_files<'a, R: Read + Drop, F: Folder<R>, W: Write + Drop>(
     alloc: Global,
     cuts: &Cuts,
     folder: &F,
-    kind: Kind<'static>,
+    kind: LineKind<'static>,
     names: &[&'a [u8]],
     lines: &mut Lines<'a, W>,
-) -> Result<bool, Fault>
+) -> Result<bool, Failure>
     ensures { EndsListing kind.entry cuts.now (F.opens folder.now) (map (λ name. name.now) names.now)
         (writer_contents W.contents lines.old.w) (writer_contents W.contents lines.new.w) result }
 {

@@ -3,13 +3,13 @@ ghost use Rattle.std.specs.Prelude.{◌≡◌, ◌⊎◌, true, map, IfOk};
 ghost use Rattle.std.specs.Option.{option_map};
 ghost use Rattle.std.specs.Io.Buffered.{writer_contents};
 ghost use Rattle.std.specs.Io.KnownBytes.{Keeps};
-ghost use Rattle.streams.specs.declared.fault.Fault.TheVariants.{NoMemory};
+ghost use Rattle.streams.specs.declared.failure.Failure.TheVariants.{NoMemory};
 ghost use Rattle.cli.specs.declared.outcome.Outcome.TheVariants.{Failed};
 ghost use Rattle.cli.specs.Call.{call_of, choices, sayings, texts};
 ghost use Rattle.cli.specs.Frame.{text_of};
 ghost use Rattle.hash_chunks.specs.Program.{are_rising, cutting_of, options, task_of, words_of, EndsCall, EndsRun, EndsTask};
 
-use crate::fault::{Fault, TooMany};
+use crate::failure::{Failure, TooMany};
 use crate::listing::{Lines, list_files};
 use crate::sizes::{Sizes, sizes_of};
 use crate::tally::tell_tally;
@@ -19,7 +19,7 @@ use cli::frame::{About, Request, request_of, text_of};
 use cli::outcome;
 use cli::outcome::{Words, of_run, of_telling};
 use hash_cuts::Cuts;
-use hash_lines::line::Kind;
+use hash_lines::line::LineKind;
 use hash_sums::keys::keys_for;
 use hash_sums::sums::{kind_of, kinds};
 use std::alloc::{AllocError, Global};
@@ -32,7 +32,7 @@ pub struct Task {
     /// The sizes of chunks.
     pub sizes: Sizes,
     /// The hash of a chunk.
-    pub kind: Kind<'static>,
+    pub kind: LineKind<'static>,
     /// Whether the numbers of all chunks are written, and not a line for each.
     pub stats: bool,
 }
@@ -124,7 +124,7 @@ fn are_rising(sizes: Sizes) -> bool
 }
 
 /// Which work a call asks for.
-fn task_of(kinds: &[Kind<'static>], call: &Call<'_>) -> Result<Task, Wrong>
+fn task_of(kinds: &[LineKind<'static>], call: &Call<'_>) -> Result<Task, Wrong>
     ensures task { result ≡ task_of kinds.now (sayings call.now.said.items) }
     ensures sizes { IfOk result (λ task. are_rising task.sizes ≡ true) }
 {
@@ -164,7 +164,7 @@ fn run<'a, R: Read + Drop, F: Folder<R>, W: Write + Drop>(
     cuts: &Cuts,
     files: &[&'a [u8]],
     lines: &mut Lines<'a, W>,
-) -> Result<bool, Fault>
+) -> Result<bool, Failure>
     ensures { EndsRun task.stats task.kind cuts.now (F.opens folder.now) (map (λ file. file.now) files.now)
         (writer_contents W.contents lines.old.w) (writer_contents W.contents lines.new.w) result }
 {
@@ -189,7 +189,7 @@ fn ended<'a, R: Read + Drop, F: Folder<R>, W: Write + Drop>(
         (map (λ file. file.now) files.now)
         (writer_contents W.contents lines.old.w) (writer_contents W.contents lines.new.w) (Ok task) result }
 {
-    match keys_for(folder, key_file) {
+    match keys_for(folder, key_file, true) {
         Some(keys) => {
             let cuts = cuts_of(task.sizes, keys);
             of_run(run(alloc, folder, task, &cuts, files, lines))
@@ -209,7 +209,8 @@ pub fn outcome_of<'a, R: Read + Drop, F: Folder<R>, W: Write + Drop>(
     ensures { EndsCall (F.opens folder.now) (sayings call.now.said.items)
         (text_of about.entry.help.now about.entry.version.now about.entry.list.now)
         (writer_contents W.contents lines.old.w) (writer_contents W.contents lines.new.w) result
-        ⊎ ((result ≡ Failed NoMemory) × Keeps (writer_contents W.contents lines.old.w) (writer_contents W.contents lines.new.w)) }
+        ⊎ ((result ≡ Failed NoMemory) × Keeps (writer_contents W.contents lines.old.w)
+        (writer_contents W.contents lines.new.w)) }
 {
     match request_of(call) {
         Request::Misgiven(misgiven) => Outcome::Usage(Wrong::Option(misgiven)),
@@ -219,7 +220,7 @@ pub fn outcome_of<'a, R: Read + Drop, F: Folder<R>, W: Write + Drop>(
                 Ok(task) => ended(alloc, folder, task, call.value(b"key-file"), &files, lines),
                 Err(wrong) => Outcome::Usage(wrong),
             },
-            _ => Outcome::Failed(Fault::NoMemory),
+            _ => Outcome::Failed(Failure::NoMemory),
         },
     }
 }

@@ -8,10 +8,10 @@ ghost use Rattle.hash_chunks.specs.Tally.{EndsTally, number_line, numbers_of};
 ghost use Rattle.hash_sums.specs.Sums.{sum_by};
 
 use crate::cut::cut_file;
-use crate::fault::{Fault, TooMany};
+use crate::failure::{Failure, TooMany};
 use cli::folder::Folder;
 use hash_cuts::{Cuts, Sink};
-use hash_lines::line::Kind;
+use hash_lines::line::LineKind;
 use hash_sums::sums::number_of_text;
 use std::alloc::{AllocError, Global};
 use std::collections::BTreeSet;
@@ -21,7 +21,7 @@ use streams::tries::write_out;
 /// The numbers of the chunks so far.
 #[derive(Drop)]
 pub struct Tally {
-    kind: Kind<'static>,
+    kind: LineKind<'static>,
     chunks: u64,
     bytes: u64,
     first: u64, // the bytes of the chunks whose hash no chunk before them has
@@ -30,7 +30,7 @@ pub struct Tally {
 
 impl Tally {
     /// No chunks.
-    fn new(alloc: Global, kind: Kind<'static>) -> Tally
+    fn new(alloc: Global, kind: LineKind<'static>) -> Tally
         ensures counted { IsCounted (sum_by kind.entry) [] result }
         ensures kind { result.kind ≡ kind.entry }
     {
@@ -45,24 +45,24 @@ impl Tally {
 }
 
 /// The sum, if it is below 2^64.
-fn sum(number: u64, more: usize) -> Result<u64, Fault>
+fn sum(number: u64, more: usize) -> Result<u64, Failure>
     ensures { IfOk result (λ sum. sum ≡ number + more) }
 {
     match number.checked_add(more as u64) {
         Some(sum) => Ok(sum),
-        None => Err(Fault::Own(TooMany)),
+        None => Err(Failure::Own(TooMany)),
     }
 }
 
 /// Puts a hash among the others, and returns whether it was not there.
-fn see(hashes: &mut BTreeSet<u128>, hash: u128) -> Result<bool, Fault>
+fn see(hashes: &mut BTreeSet<u128>, hash: u128) -> Result<bool, Failure>
     ensures new { IfOk result (λ is_new. is_new ≡ not (contains nat_cmp hashes.old hash)) }
     ensures seen { OnOk result ((number : ℕ) → contains nat_cmp hashes.new number
         ≡ (number == hash || contains nat_cmp hashes.old number)) }
 {
     match hashes.insert(hash) {
         Ok(is_new) => Ok(is_new),
-        Err(_) => Err(Fault::NoMemory),
+        Err(_) => Err(Failure::NoMemory),
     }
 }
 
@@ -74,11 +74,11 @@ fn bytes_if(is_asked: bool, chunk: &[u8]) -> usize
 }
 
 impl Sink for Tally {
-    type Error = Fault;
+    type Error = Failure;
 
     ghost taken = { CountsChunks };
 
-    fn take(&mut self, chunk: &[u8]) -> Result<(), Fault> {
+    fn take(&mut self, chunk: &[u8]) -> Result<(), Failure> {
         let is_new = see(&mut self.hashes, number_of_text(self.kind, chunk))?;
         self.chunks = sum(self.chunks, 1)?;
         self.bytes = sum(self.bytes, chunk.len())?;
@@ -94,7 +94,7 @@ fn count_file<R: Read + Drop, F: Folder<R>>(
     folder: &F,
     name: &[u8],
     tally: &mut Tally,
-) -> Result<bool, Fault>
+) -> Result<bool, Failure>
     ensures kind { tally.new.kind ≡ tally.old.kind }
     ensures counted { IfOk result (CountsFile (sum_by tally.old.kind) cuts.now (F.opens folder.now name.now) tally.old
         tally.new) }
@@ -109,7 +109,7 @@ fn count_files<R: Read + Drop, F: Folder<R>>(
     folder: &F,
     names: &[&[u8]],
     tally: &mut Tally,
-) -> Result<bool, Fault>
+) -> Result<bool, Failure>
     requires { IsCounted (sum_by tally.old.kind) [] tally.old }
     ensures { IfOk result (CountsFiles (sum_by tally.old.kind) cuts.now (F.opens folder.now)
         (map (λ name. name.now) names.now) tally.new) }
@@ -156,10 +156,10 @@ pub fn tell_tally<R: Read + Drop, F: Folder<R>, W: Write + Drop>(
     alloc: Global,
     cuts: &Cuts,
     folder: &F,
-    kind: Kind<'static>,
+    kind: LineKind<'static>,
     names: &[&[u8]],
     w: &mut BufWriter<W>,
-) -> Result<bool, Fault>
+) -> Result<bool, Failure>
     ensures { EndsTally (sum_by kind.entry) cuts.now (F.opens folder.now) (map (λ name. name.now) names.now)
         (writer_contents W.contents w.old) (writer_contents W.contents w.new) result }
 {
@@ -170,6 +170,6 @@ pub fn tell_tally<R: Read + Drop, F: Folder<R>, W: Write + Drop>(
             Ok(()) => Ok(all),
             Err(fault) => Err(fault),
         },
-        Err(_) => Err(Fault::NoMemory),
+        Err(_) => Err(Failure::NoMemory),
     }
 }

@@ -1,13 +1,13 @@
 -- Chunks that a sink was given, one after the other.
-use Rattle.std.proofs.Common.{◌≡◌, ℕ, ◌+◌, ◌-◌, ◌<◌, ◌≤◌, ◌⊎◌, List, [], ◌∷◌, ◌++◌, length, length-append, take, drop, append_assoc, Option, Some, None, Result, Ok, Err, inl, inr, arith, ap, subst, sym, ◌∙◌, refl}
+use Rattle.std.proofs.Common.{◌≡◌, ℕ, ◌+◌, ◌-◌, ◌<◌, ◌≤◌, ◌⊎◌, List, [], ◌∷◌, ◌++◌, length, length-append, take, drop, append_assoc, Option, Some, None, inl, inr, arith, ap, subst, sym, ◌∙◌, refl}
 use Rattle.std.proofs.Math.Path.{ap₂}
 use Rattle.std.specs.Io.KnownBytes.{IsAtEnd}
-use Rattle.std.specs.Result.{OnErr}
 use Rattle.std.proofs.KnownBytes.{Consumes-trans}
 use Rattle.std.proofs.lemmas.Bool.{cases_lt}
 use Rattle.std.proofs.lemmas.List.{append-nil, drop-append-le, drop-take, length-drop, take-append-drop, take-append-le, take_all}
 use Rattle.hash_cuts.specs.Cuts.{Cutting, HasSizes, chunks, first_cut, is_cut}
-use Rattle.hash_cuts.specs.Reading.{CutsAll, CutsRead, GivesFirst, IsBegun, ReadsBehind, Taken, Takes}
+use Rattle.hash_cuts.specs.Reading.{CutsAll, CutsRead, GivesFirst, IsBegun, Taken, Takes}
+use Rattle.streams.specs.Streams.{ReadsBehind}
 use Rattle.hash_cuts.proofs.ChunkLemmas.{chunks-first, chunks-none, first_cut-le}
 use Rattle.hash_cuts.proofs.CutLemmas.{first_cut-is, first_cut-from}
 use Rattle.hash_cuts.proofs.InStep.{is_cut-same, own-bytes}
@@ -123,12 +123,12 @@ module _ {S : Type 0} (taken : Taken S) (cuts : Cutting) (sizes : HasSizes cuts)
   pub reads-first : (left mid left' : Option (List ℕ)) (old between new : S) (bytes count : ℕ) (rest whole rest' : List ℕ) (refused : Option (List ℕ))
       → CutsRead taken cuts left mid old between bytes rest None → ReadsBehind rest whole mid left' count
       → GivesFirst taken cuts whole rest' refused between new → CutsRead taken cuts left left' old new (bytes + count) rest' refused
-  reads-first left mid left' old between new bytes count rest whole rest' refused before more gives = record {
-    text = before.text ++ more.bytes;
-    read = Consumes-trans left mid left' before.text more.bytes before.read more.read;
-    count = length-append before.text more.bytes ∙ omega (arith, before.count, more.length_is);
-    gives = gives-behind before.text rest more.bytes rest' refused old between new before.gives
-        (subst (λ t. GivesFirst taken cuts t rest' refused between new) more.stands gives);
+  reads-first left mid left' old between new bytes count rest whole rest' refused before (more, stands, long, read) gives = record {
+    text = before.text ++ more;
+    read = Consumes-trans left mid left' before.text more before.read read;
+    count = length-append before.text more ∙ omega (arith, before.count, long);
+    gives = gives-behind before.text rest more rest' refused old between new before.gives
+        (subst (λ t. GivesFirst taken cuts t rest' refused between new) stands gives);
   }
 
   -- all was read, and the last chunk given
@@ -160,10 +160,6 @@ pub reads-none : {S : Type 0} (taken : Taken S) (cuts : Cutting) (left : Option 
     → CutsRead taken cuts left left old old 0 [] None
 reads-none taken cuts None old = record { text = []; read = tt; count = refl; gives = gives-none taken cuts [] old }
 reads-none taken cuts (Some text) old = record { text = []; read = refl; count = refl; gives = gives-none taken cuts [] old }
-
-pub on_err : {A E : Type 0} (P : Type 0) (result : Result A E) → P → OnErr result P
-on_err P (Ok it) holds = tt
-on_err P (Err error) holds = holds
 
 -- what was moved to the front
 pub moved-front : (buffer moved : List ℕ) (given to k : ℕ) → given ≤ to → k ≡ to - given

@@ -24,13 +24,6 @@ pub record GivesFirst {S : Type 0} (taken : Taken S) (cuts : Cutting) (text rest
 abbrev pub IsBegun : Cutting → List ℕ → Type 0
 IsBegun cuts rest = (first_cut cuts rest ≡ length rest) × (length rest < cuts.most)
 
--- so many bytes were read, and stand behind those that stood there
-pub record ReadsBehind (old new : List ℕ) (left left' : Option (List ℕ)) (count : ℕ) : Type 0 where
-  pub bytes : List ℕ
-  pub read : Consumes left left' bytes
-  pub length_is : length bytes ≡ count
-  pub stands : new ≡ old ++ bytes
-
 -- so many bytes were read, and the sink was given the first chunks of them, up to the rest
 pub record CutsRead {S : Type 0} (taken : Taken S) (cuts : Cutting) (left left' : Option (List ℕ)) (old new : S) (bytes : ℕ) (rest : List ℕ)
     (refused : Option (List ℕ)) : Type 0 where

@@ -121,10 +121,12 @@ impl<W: FxSplit, Name> Piecewise for WordHasher<W, Name> {
 
     ghost fresh_in_range = { pow_pos W.bits };
 
-    ghost after_in_range = { itemwise.piece_in_range W.step (2 ^ W.bits) (λ s piece. recurrence W.step s (W.words piece)) W.words
+    ghost after_in_range = { itemwise.piece_in_range W.step (2 ^ W.bits)
+        (λ s piece. recurrence W.step s (W.words piece)) W.words
         (λ s piece. recurrence-fold W.step s (W.words piece)) W.facts.in_range W.words_in_range };
 
-    ghost after_nothing = { itemwise.nothing W.step (2 ^ W.bits) (λ s piece. recurrence W.step s (W.words piece)) W.words
+    ghost after_nothing = { itemwise.nothing W.step (2 ^ W.bits) (λ s piece. recurrence W.step s (W.words piece))
+        W.words
         (λ s piece. recurrence-fold W.step s (W.words piece)) W.no_words };
 }
 
@@ -145,8 +147,10 @@ impl<W: FxSplit, Name> Undo for WordHasher<W, Name> {
         })
     }
 
-    ghost after_injective = { itemwise.piece_injective W.step (2 ^ W.bits) (λ s piece. recurrence W.step s (W.words piece)) W.words
-        (λ s piece. recurrence-fold W.step s (W.words piece)) W.facts.in_range W.words_in_range W.facts.state_injective };
+    ghost after_injective = { itemwise.piece_injective W.step (2 ^ W.bits)
+        (λ s piece. recurrence W.step s (W.words piece)) W.words
+        (λ s piece. recurrence-fold W.step s (W.words piece))
+        W.facts.in_range W.words_in_range W.facts.state_injective };
 
     ghost answer_injective = { λ s t ks kt same. same };
 }

@@ -137,7 +137,8 @@ impl Streamed for Poly61Pair {
 
     ghost hash_from = { poly61_from };
 
-    ghost stands_at_start = { λ pair same. pair_at_keys (at_both pair) default_key default_key (lit< tt) (lit< tt) same };
+    ghost stands_at_start = { λ pair same. pair_at_keys (at_both pair) default_key default_key (lit< tt) (lit< tt)
+        same };
 
     ghost stands_after = { λ pair more. pair_stands_after (at_both pair) (at_both more) };
 

@@ -4,7 +4,7 @@ use Rattle.std.specs.Char.{is_ascii_whitespace, to_ascii_lowercase}
 use Rattle.std.specs.Str.{IsTrimAsciiEnd, IsTrimAsciiStart}
 use Rattle.std.proofs.lemmas.Str.Ascii.{trim_ascii_end_is, trim_ascii_start_is}
 use Rattle.std.proofs.lemmas.List.Elements.{All-head, All-tail}
-use Rattle.hash_lines.specs.declared.line.Kind.{Kind}
+use Rattle.hash_lines.specs.declared.line.LineKind.{LineKind}
 use Rattle.hash_lines.specs.declared.parse.HashLine.{HashLine}
 use denote.Ref.{Bor}
 use Rattle.hash_lines.specs.Forms.{is_sum, unmarked, EndsInDigits, HasCrc, HasTag, HasWord, IsBlankForm, IsForm, IsSfvForm, IsTaggedForm, Lacks, TellsIn, TellsNoneIn, TellsNothingSo, TellsSo}
@@ -155,7 +155,7 @@ crc_found line no_tag no_sum None none = λ shown digits crc. none shown digits 
 crc_found line no_tag no_sum (Some parts) ends = record { ends = ends; no_tag = no_tag; no_sum = no_sum }
 
 -- what is found of the line of ours is what a line tells in a form
-pub found_in : {X : Type 0} (Form : (line plain : List ℕ) → Type 0) (kinds : List Kind) (default : Kind) (line plain : List ℕ)
+pub found_in : {X : Type 0} (Form : (line plain : List ℕ) → Type 0) (kinds : List LineKind) (default : LineKind) (line plain : List ℕ)
     → Form line plain → ((other : List ℕ) → Form line other → other ≡ plain) → (result : Result (Option HashLine) X)
     → IfOk result (λ found. MatchOption found (TellsNothing kinds default plain)
     (λ entry. Tells kinds default entry.kind entry.name.items entry.number plain))
@@ -167,7 +167,7 @@ found_in Form kinds default line plain form one (Ok None) none =
 found_in Form kinds default line plain form one (Ok (Some entry)) tells = (plain, form, tells)
 
 -- what is found last, where a line tells nothing as one of ours or as a tagged one
-pub form_found : {X : Type 0} (kinds : List Kind) (default : Kind) (line : List ℕ) → TellsNothing kinds default line
+pub form_found : {X : Type 0} (kinds : List LineKind) (default : LineKind) (line : List ℕ) → TellsNothing kinds default line
     → TellsNoneIn IsTaggedForm kinds default line → (result : Result (Option HashLine) X)
     → IfOk result (λ found. MatchOption found (TellsNoneIn IsBlankForm kinds default line)
     (λ entry. TellsIn IsBlankForm kinds default entry.kind entry.name.items entry.number line))
@@ -183,7 +183,7 @@ form_found kinds default line no_ours no_tagged (Ok None) none = at
 form_found kinds default line no_ours no_tagged (Ok (Some entry)) (plain, form, tells) = (plain, inr (inr form), tells)
 
 -- a line that tells nothing in any form behind its first blanks
-pub nothing_so : (sfv : Bool) (kinds : List Kind) (default : Kind) (line rest : List ℕ) → IsTrimAsciiStart line rest
+pub nothing_so : (sfv : Bool) (kinds : List LineKind) (default : LineKind) (line rest : List ℕ) → IsTrimAsciiStart line rest
     → TellsNoneIn IsForm kinds default rest → (sfv ≡ true → TellsNoneIn IsSfvForm kinds default rest)
     → TellsNothingSo sfv kinds default line
 nothing_so sfv kinds default line rest trims none no_sfv other name number (behind, also, inl (plain, form, tells)) =
@@ -192,7 +192,7 @@ nothing_so sfv kinds default line rest trims none no_sfv other name number (behi
     no_sfv takes plain (subst (λ t. IsSfvForm t plain) (start_one line behind rest also trims) form) other name number tells
 
 -- what is found in a line that tells nothing in the other forms
-pub so_found : {X : Type 0} (sfv : Bool) (kinds : List Kind) (default : Kind) (line rest : List ℕ) → sfv ≡ true
+pub so_found : {X : Type 0} (sfv : Bool) (kinds : List LineKind) (default : LineKind) (line rest : List ℕ) → sfv ≡ true
     → IsTrimAsciiStart line rest → TellsNoneIn IsForm kinds default rest → (result : Result (Option HashLine) X)
     → IfOk result (λ found. MatchOption found (TellsNoneIn IsSfvForm kinds default rest)
     (λ entry. TellsIn IsSfvForm kinds default entry.kind entry.name.items entry.number rest))

@@ -2,7 +2,7 @@
 use Rattle.std.proofs.Common.{◌≡◌, ◌≢◌, ◌⊎◌, inl, inr, ℕ, ◌+◌, ◌*◌, ◌<◌, Bool, true, false, List, [], ◌∷◌, ◌++◌, Option, Some, None, length, get_or, codes, refl, ap, sym, ◌∙◌, subst, arith, lit<}
 use Rattle.std.specs.Prelude.{option_and_then}
 use Rattle.std.specs.List.{AllByRecursion}
-use Rattle.hash_lines.specs.declared.line.Kind.{Kind}
+use Rattle.hash_lines.specs.declared.line.LineKind.{LineKind}
 use Rattle.hash_lines.specs.declared.line.Width.{Width}
 use Rattle.hash_lines.specs.declared.line.Width.TheVariants as width
 use Rattle.hash_lines.specs.Escape.{escape}
@@ -123,8 +123,8 @@ tags_one tag other count width n m shown more body is_tag also_tag (xs, shows, i
     (tag_no_space other also_tag) (is ∙ sym too)).0
 
 -- a line without its mark
-body_one : (kinds : List Kind) (default : Kind) → AreTags kinds default
-    → (escapes : Bool) (kind other : Kind) (name more : List ℕ) (n m : ℕ)
+body_one : (kinds : List LineKind) (default : LineKind) → AreTags kinds default
+    → (escapes : Bool) (kind other : LineKind) (name more : List ℕ) (n m : ℕ)
     (body : List ℕ) → TellsBody kinds default escapes kind name n body → TellsBody kinds default escapes other more m body
     → (kind ≡ other) × (name ≡ more) × (n ≡ m)
 body_one kinds default are escapes kind other name more n m body (inl (has, tells)) (inl (also, too)) =
@@ -162,7 +162,7 @@ digits_first (first ∷ digits) more rest n some tell is =
     let mark : first ≡ 92 = ap (λ l. get_or l 0 0) is in
     let none : None ≡ Some n = sym (ap (λ b. hex_value (b ∷ digits)) mark) ∙ tell in cc
 
-no_backslash : (kinds : List Kind) (default : Kind) → AreTags kinds default → (kind : Kind) (name : List ℕ) (n : ℕ) (rest : List ℕ)
+no_backslash : (kinds : List LineKind) (default : LineKind) → AreTags kinds default → (kind : LineKind) (name : List ℕ) (n : ℕ) (rest : List ℕ)
     → TellsBody kinds default false kind name n (92 ∷ rest) → ⊥
 no_backslash kinds default are kind name n rest (inl (has, (digits, shows, is))) =
     tag_first kind.name.now (40 ∷ name ++ (codes ") = " ++ digits)) rest (are.each kind has) is
@@ -171,7 +171,7 @@ no_backslash kinds default are kind name n rest (inr (default_is, untagged)) =
     digits_first digits more rest n (omega (arith, long, some_digits kind.width)) tell is
 
 -- a line
-pub line_one : (kinds : List Kind) (default : Kind) → AreTags kinds default → (kind other : Kind) (name more : List ℕ) (n m : ℕ)
+pub line_one : (kinds : List LineKind) (default : LineKind) → AreTags kinds default → (kind other : LineKind) (name more : List ℕ) (n m : ℕ)
     (line : List ℕ) → Tells kinds default kind name n line → Tells kinds default other more m line
     → (kind ≡ other) × (name ≡ more) × (n ≡ m)
 line_one kinds default are kind other name more n m line (inl tells) (inl too) =

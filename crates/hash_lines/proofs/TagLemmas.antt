@@ -6,7 +6,7 @@ use Rattle.std.proofs.lemmas.Bool.{and_parts}
 use Rattle.std.proofs.lemmas.Slice.Eq.{bytes_eq-Decides}
 use Rattle.std.proofs.lemmas.List.Elements.{All-contains, All-from_get_or, Contains-append_cases, Contains-push_cases, at_from_Contains}
 use Rattle.std.proofs.lemmas.List.Folds.{list_any_at}
-use Rattle.hash_lines.specs.declared.line.Kind.{Kind}
+use Rattle.hash_lines.specs.declared.line.LineKind.{LineKind}
 use Rattle.hash_lines.specs.Told.{AreTags, IsTag, are_tags, is_tag}
 
 -- a byte that is neither
@@ -44,31 +44,31 @@ first_or_later first more x there = elim (Contains-append_cases (first ∷ []) m
 ]
 
 -- the names of kinds
-abbrev names_of : List Kind → List (List ℕ)
-names_of kinds = map (λ (kind : Kind). kind.name.now) kinds
+abbrev names_of : List LineKind → List (List ℕ)
+names_of kinds = map (λ (kind : LineKind). kind.name.now) kinds
 
-each_tag : (kinds : List Kind) → are_tags (names_of kinds) ≡ true → (kind : Kind) → Contains kinds kind → IsTag kind.name.now
+each_tag : (kinds : List LineKind) → are_tags (names_of kinds) ≡ true → (kind : LineKind) → Contains kinds kind → IsTag kind.name.now
 each_tag [] seen kind there = absurd (none_there kind there)
 each_tag (first ∷ more) seen kind there =
     let parts = and_parts (is_tag first.name.now) _ seen in
     let others = and_parts (not (list_any (bytes_eq first.name.now) (names_of more))) (are_tags (names_of more)) parts.1 in
     elim (first_or_later first more kind there) [
-      | inl is ↦ subst (λ (k : Kind). IsTag k.name.now) is (tag_seen first.name.now parts.0)
+      | inl is ↦ subst (λ (k : LineKind). IsTag k.name.now) is (tag_seen first.name.now parts.0)
       | inr later ↦ each_tag more others.1 kind later
     ]
 
 -- the name of the first kind is no other's
-not_later : (first : Kind) (more : List Kind) (kind : Kind)
+not_later : (first : LineKind) (more : List LineKind) (kind : LineKind)
     → not (list_any (bytes_eq first.name.now) (names_of more)) ≡ true → Contains more kind
     → first.name.now ≡ kind.name.now → ⊥
 not_later first more kind none later same =
     let seen : list_any (bytes_eq first.name.now) (names_of more) ≡ true =
-    any_mapped (bytes_eq first.name.now) (λ (kind : Kind). kind.name.now) more
-    ∙ any_of (λ (other : Kind). bytes_eq first.name.now other.name.now) more kind later
+    any_mapped (bytes_eq first.name.now) (λ (kind : LineKind). kind.name.now) more
+    ∙ any_of (λ (other : LineKind). bytes_eq first.name.now other.name.now) more kind later
     ((bytes_eq-Decides first.name.now kind.name.now).1 same) in
     let clash : false ≡ true = sym (ap not seen) ∙ none in cc
 
-names_apart : (kinds : List Kind) → are_tags (names_of kinds) ≡ true → (kind other : Kind) → Contains kinds kind → Contains kinds other
+names_apart : (kinds : List LineKind) → are_tags (names_of kinds) ≡ true → (kind other : LineKind) → Contains kinds kind → Contains kinds other
     → kind.name.now ≡ other.name.now → kind ≡ other
 names_apart [] seen kind other there too same = absurd (none_there kind there)
 names_apart (first ∷ more) seen kind other there too same =
@@ -77,13 +77,13 @@ names_apart (first ∷ more) seen kind other there too same =
     elim (first_or_later first more kind there) [
       | inl is ↦ elim (first_or_later first more other too) [
         | inl also ↦ sym is ∙ also
-        | inr later ↦ absurd (not_later first more other others.0 later (ap (λ (k : Kind). k.name.now) is ∙ same))
+        | inr later ↦ absurd (not_later first more other others.0 later (ap (λ (k : LineKind). k.name.now) is ∙ same))
       ]
       | inr later ↦ elim (first_or_later first more other too) [
-        | inl also ↦ absurd (not_later first more kind others.0 later (ap (λ (k : Kind). k.name.now) also ∙ sym same))
+        | inl also ↦ absurd (not_later first more kind others.0 later (ap (λ (k : LineKind). k.name.now) also ∙ sym same))
         | inr last ↦ names_apart more others.1 kind other later last same
       ]
     ]
 
-pub tags_seen : (kinds : List Kind) (default : Kind) → are_tags (names_of kinds) ≡ true → AreTags kinds default
+pub tags_seen : (kinds : List LineKind) (default : LineKind) → are_tags (names_of kinds) ≡ true → AreTags kinds default
 tags_seen kinds default seen = record { each = each_tag kinds seen; apart = names_apart kinds seen }

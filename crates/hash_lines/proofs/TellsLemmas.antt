@@ -1,6 +1,6 @@
 -- What a line tells, or does not.
 use Rattle.std.proofs.Common.{◌≡◌, inl, inr, ℕ, ◌<◌, ◌^◌, ◌&&◌, ◌++◌, refl, Bool, true, false, List, ◌∷◌, Option, Some, None, MatchOption, IfOk, Result, Ok, Err, Contains, sym, ◌∙◌, subst}
-use Rattle.hash_lines.specs.declared.line.Kind.{Kind}
+use Rattle.hash_lines.specs.declared.line.LineKind.{LineKind}
 use Rattle.hash_lines.specs.declared.parse.HashLine.{HashLine}
 use Rattle.hash_lines.specs.Escape.{needs_escape}
 use Rattle.hash_lines.specs.Hex.{hex}
@@ -11,7 +11,7 @@ use Rattle.hash_lines.specs.Told.{MayBeTold, Tells, TellsBody, TellsEscaped, Tel
 use Rattle.hash_lines.proofs.HexLemmas.{hex_value-hex, length-hex}
 use Rattle.hash_lines.proofs.LineLemmas.{found_by, tagged_shown, untagged_shown}
 
-pub tagged_found : {X : Type 0} (kind : Kind) (escapes : Bool) (shown body : List ℕ) (number : ℕ)
+pub tagged_found : {X : Type 0} (kind : LineKind) (escapes : Bool) (shown body : List ℕ) (number : ℕ)
     → ShowsTagged kind.name.now (digits_of kind.width) shown number body → (result : Result (Option HashLine) X)
     → IfOk result (λ found. MatchOption found ((name : List ℕ) → name_shown escapes name ≡ shown → ⊥)
     (λ entry. (entry.kind ≡ kind) × (entry.number ≡ number) × (name_shown escapes entry.name.items ≡ shown)))
@@ -22,7 +22,7 @@ tagged_found kind escapes shown body number shows result found =
     (λ s n. ShowsTagged kind.name.now (digits_of kind.width) s n body)
     (λ xs ys a b one other. tagged_shown kind.name.now (digits_of kind.width) a b xs ys body one other) shown number shows result found
 
-pub untagged_found : {X : Type 0} (kind : Kind) (escapes : Bool) (shown body : List ℕ) (number : ℕ)
+pub untagged_found : {X : Type 0} (kind : LineKind) (escapes : Bool) (shown body : List ℕ) (number : ℕ)
     → ShowsUntagged (digits_of kind.width) shown number body → (result : Result (Option HashLine) X)
     → IfOk result (λ found. MatchOption found ((name : List ℕ) → name_shown escapes name ≡ shown → ⊥)
     (λ entry. (entry.kind ≡ kind) × (entry.number ≡ number) × (name_shown escapes entry.name.items ≡ shown)))
@@ -34,31 +34,31 @@ untagged_found kind escapes shown body number shows result found =
     (λ xs ys a b one other. untagged_shown (digits_of kind.width) a b xs ys body one other) shown number shows result found
 
 -- where no tagged line of one of the kinds is told
-pub body_found : {X : Type 0} (kinds : List Kind) (default : Kind) (escapes : Bool) (body : List ℕ)
-    → ((other : Kind) → Contains kinds other → (name : List ℕ) (number : ℕ) → ¬ (TellsTagged other escapes name number body))
+pub body_found : {X : Type 0} (kinds : List LineKind) (default : LineKind) (escapes : Bool) (body : List ℕ)
+    → ((other : LineKind) → Contains kinds other → (name : List ℕ) (number : ℕ) → ¬ (TellsTagged other escapes name number body))
     → (result : Result (Option HashLine) X)
     → IfOk result (λ found. MatchOption found ((name : List ℕ) (number : ℕ) → ¬ (TellsUntagged default escapes name number body))
     (λ entry. (entry.kind ≡ default) × TellsUntagged default escapes entry.name.items entry.number body))
     → IfOk result (λ found. MatchOption found
-    ((other : Kind) (name : List ℕ) (number : ℕ) → ¬ (TellsBody kinds default escapes other name number body))
+    ((other : LineKind) (name : List ℕ) (number : ℕ) → ¬ (TellsBody kinds default escapes other name number body))
     (λ entry. TellsBody kinds default escapes entry.kind entry.name.items entry.number body))
 body_found kinds default escapes body untold (Err e) found = tt
 body_found kinds default escapes body untold (Ok None) none = at
   where
-    at : (other : Kind) (name : List ℕ) (number : ℕ) → ¬ (TellsBody kinds default escapes other name number body)
+    at : (other : LineKind) (name : List ℕ) (number : ℕ) → ¬ (TellsBody kinds default escapes other name number body)
     at other name number (inl (one, tells)) = untold other one name number tells
     at other name number (inr (is, tells)) = none name number (subst (λ k. TellsUntagged k escapes name number body) is tells)
 body_found kinds default escapes body untold (Ok (Some entry)) (is, tells) =
     inr (is, subst (λ k. TellsUntagged k escapes entry.name.items entry.number body) (sym is) tells)
 
 -- behind the backslash
-pub escaped_found : {X : Type 0} (kinds : List Kind) (default : Kind) (line body : List ℕ) → 92 ∷ body ≡ line
+pub escaped_found : {X : Type 0} (kinds : List LineKind) (default : LineKind) (line body : List ℕ) → 92 ∷ body ≡ line
     → (result : Result (Option HashLine) X)
     → IfOk result (λ found. MatchOption found
-    ((other : Kind) (name : List ℕ) (number : ℕ) → ¬ (TellsBody kinds default true other name number body))
+    ((other : LineKind) (name : List ℕ) (number : ℕ) → ¬ (TellsBody kinds default true other name number body))
     (λ entry. TellsBody kinds default true entry.kind entry.name.items entry.number body))
     → IfOk result (λ found. MatchOption found
-    ((other : Kind) (name : List ℕ) (number : ℕ) → ¬ (TellsEscaped kinds default other name number line))
+    ((other : LineKind) (name : List ℕ) (number : ℕ) → ¬ (TellsEscaped kinds default other name number line))
     (λ entry. TellsEscaped kinds default entry.kind entry.name.items entry.number line))
 escaped_found kinds default line body is (Err e) found = tt
 escaped_found kinds default line body is (Ok None) none =
@@ -68,25 +68,25 @@ escaped_found kinds default line body is (Ok None) none =
 escaped_found kinds default line body is (Ok (Some entry)) tells = (body, is, tells)
 
 -- where no line with escapes is told
-pub line_found : {X : Type 0} (kinds : List Kind) (default : Kind) (line : List ℕ)
-    → ((other : Kind) (name : List ℕ) (number : ℕ) → ¬ (TellsEscaped kinds default other name number line))
+pub line_found : {X : Type 0} (kinds : List LineKind) (default : LineKind) (line : List ℕ)
+    → ((other : LineKind) (name : List ℕ) (number : ℕ) → ¬ (TellsEscaped kinds default other name number line))
     → (result : Result (Option HashLine) X)
     → IfOk result (λ found. MatchOption found
-    ((other : Kind) (name : List ℕ) (number : ℕ) → ¬ (TellsBody kinds default false other name number line))
+    ((other : LineKind) (name : List ℕ) (number : ℕ) → ¬ (TellsBody kinds default false other name number line))
     (λ entry. TellsBody kinds default false entry.kind entry.name.items entry.number line))
     → IfOk result (λ found. MatchOption found
-    ((other : Kind) (name : List ℕ) (number : ℕ) → ¬ (Tells kinds default other name number line))
+    ((other : LineKind) (name : List ℕ) (number : ℕ) → ¬ (Tells kinds default other name number line))
     (λ entry. Tells kinds default entry.kind entry.name.items entry.number line))
 line_found kinds default line untold (Err e) found = tt
 line_found kinds default line untold (Ok None) none = at
   where
-    at : (other : Kind) (name : List ℕ) (number : ℕ) → ¬ (Tells kinds default other name number line)
+    at : (other : LineKind) (name : List ℕ) (number : ℕ) → ¬ (Tells kinds default other name number line)
     at other name number (inl tells) = none other name number tells
     at other name number (inr tells) = untold other name number tells
 line_found kinds default line untold (Ok (Some entry)) tells = inl tells
 
 -- a line without its mark that is written tells what it was written of
-body_told : (kinds : List Kind) (default kind : Kind) (form : Form) → MayBeTold kinds default form kind
+body_told : (kinds : List LineKind) (default kind : LineKind) (form : Form) → MayBeTold kinds default form kind
     → (escapes : Bool) (name : List ℕ) (number : ℕ) → number < 16 ^ digits_of kind.width
     → TellsBody kinds default escapes kind name number
     (body form kind.name.now (name_shown escapes name) (hex (digits_of kind.width) number))
@@ -98,7 +98,7 @@ body_told kinds default kind form.Untagged may escapes name number small =
     inr (may, (digits, (length-hex (digits_of kind.width) number, hex_value-hex (digits_of kind.width) number small), inl refl))
 
 -- the same of a line
-pub line_told : (kinds : List Kind) (default kind : Kind) (form : Form) → MayBeTold kinds default form kind
+pub line_told : (kinds : List LineKind) (default kind : LineKind) (form : Form) → MayBeTold kinds default form kind
     → (escapes : Bool) (name : List ℕ) (number : ℕ) → number < 16 ^ digits_of kind.width
     → Tells kinds default kind name number (line_of form escapes kind.name.now kind.width name number)
 line_told kinds default kind form may escapes name number small = at (escapes && needs_escape name)

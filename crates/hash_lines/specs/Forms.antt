@@ -6,7 +6,7 @@ use Rattle.std.specs.Str.{IsTrimAsciiEnd, IsTrimAsciiStart}
 use Rattle.hash_lines.specs.Hex.{digit_value}
 use Rattle.hash_lines.specs.Line.{tagged, untagged}
 use Rattle.hash_lines.specs.Told.{Tells, TellsNothing}
-use Rattle.hash_lines.specs.declared.line.Kind.{Kind}
+use Rattle.hash_lines.specs.declared.line.LineKind.{LineKind}
 
 -- no byte is this one
 abbrev pub Lacks : (mark : ℕ) → List ℕ → Type 0
@@ -77,19 +77,19 @@ abbrev pub IsForm : (line plain : List ℕ) → Type 0
 IsForm line plain = (line ≡ plain) ⊎ IsTaggedForm line plain ⊎ IsBlankForm line plain
 
 -- a line tells this in a form: the line of ours that tells the same tells it
-abbrev pub TellsIn : (Form : (line plain : List ℕ) → Type 0) → List Kind → (default : Kind) → Kind → (name : List ℕ) (number : ℕ)
+abbrev pub TellsIn : (Form : (line plain : List ℕ) → Type 0) → List LineKind → (default : LineKind) → LineKind → (name : List ℕ) (number : ℕ)
     → List ℕ → Type 0
 TellsIn Form kinds default kind name number line = (plain : List ℕ) × Form line plain × Tells kinds default kind name number plain
 
-abbrev pub TellsNoneIn : (Form : (line plain : List ℕ) → Type 0) → List Kind → (default : Kind) → List ℕ → Type 0
+abbrev pub TellsNoneIn : (Form : (line plain : List ℕ) → Type 0) → List LineKind → (default : LineKind) → List ℕ → Type 0
 TellsNoneIn Form kinds default line = (plain : List ℕ) → Form line plain → TellsNothing kinds default plain
 
 -- what a line tells behind its first blanks: as a line of an SFV file only if it tells nothing in any other form, and such lines are taken
-abbrev pub TellsSo : (sfv : Bool) → List Kind → (default : Kind) → Kind → (name : List ℕ) (number : ℕ) → List ℕ → Type 0
+abbrev pub TellsSo : (sfv : Bool) → List LineKind → (default : LineKind) → LineKind → (name : List ℕ) (number : ℕ) → List ℕ → Type 0
 TellsSo sfv kinds default kind name number line = (rest : List ℕ) × IsTrimAsciiStart line rest
     × (TellsIn IsForm kinds default kind name number rest
     ⊎ ((sfv ≡ true) × TellsNoneIn IsForm kinds default rest × TellsIn IsSfvForm kinds default kind name number rest))
 
-abbrev pub TellsNothingSo : (sfv : Bool) → List Kind → (default : Kind) → List ℕ → Type 0
+abbrev pub TellsNothingSo : (sfv : Bool) → List LineKind → (default : LineKind) → List ℕ → Type 0
 TellsNothingSo sfv kinds default line =
-    (other : Kind) (name : List ℕ) (number : ℕ) → ¬ (TellsSo sfv kinds default other name number line)
+    (other : LineKind) (name : List ℕ) (number : ℕ) → ¬ (TellsSo sfv kinds default other name number line)

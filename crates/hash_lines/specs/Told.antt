@@ -4,37 +4,37 @@ use Rattle.std.specs.List.{AllByRecursion, list_all, list_any}
 use Rattle.std.specs.Str.{bytes_eq}
 use Rattle.hash_lines.specs.declared.line.Form.{Form}
 use Rattle.hash_lines.specs.declared.line.Form.TheVariants as form
-use Rattle.hash_lines.specs.declared.line.Kind.{Kind}
+use Rattle.hash_lines.specs.declared.line.LineKind.{LineKind}
 use Rattle.hash_lines.specs.Line.{digits_of, name_shown, ShowsTagged, ShowsUntagged}
 
 -- a tagged line of this kind without its mark, with escapes or without
-abbrev pub TellsTagged : Kind → Bool → (name : List ℕ) (number : ℕ) → List ℕ → Type 0
+abbrev pub TellsTagged : LineKind → Bool → (name : List ℕ) (number : ℕ) → List ℕ → Type 0
 TellsTagged kind escapes name number body = ShowsTagged kind.name.now (digits_of kind.width) (name_shown escapes name) number body
 
-abbrev pub TellsUntagged : Kind → Bool → (name : List ℕ) (number : ℕ) → List ℕ → Type 0
+abbrev pub TellsUntagged : LineKind → Bool → (name : List ℕ) (number : ℕ) → List ℕ → Type 0
 TellsUntagged kind escapes name number body = ShowsUntagged (digits_of kind.width) (name_shown escapes name) number body
 
 -- a line without its mark: a tagged one of one of these kinds, or an untagged one of the default
-abbrev pub TellsBody : List Kind → (default : Kind) → Bool → Kind → (name : List ℕ) (number : ℕ) → List ℕ → Type 0
+abbrev pub TellsBody : List LineKind → (default : LineKind) → Bool → LineKind → (name : List ℕ) (number : ℕ) → List ℕ → Type 0
 TellsBody kinds default escapes kind name number body =
     (Contains kinds kind × TellsTagged kind escapes name number body) ⊎ ((kind ≡ default) × TellsUntagged kind escapes name number body)
 
 -- a line with escapes, behind a backslash
-abbrev pub TellsEscaped : List Kind → (default : Kind) → Kind → (name : List ℕ) (number : ℕ) → List ℕ → Type 0
+abbrev pub TellsEscaped : List LineKind → (default : LineKind) → LineKind → (name : List ℕ) (number : ℕ) → List ℕ → Type 0
 TellsEscaped kinds default kind name number line =
     (body : List ℕ) × (92 ∷ body ≡ line) × TellsBody kinds default true kind name number body
 
 -- a line, with escapes or without
-abbrev pub Tells : List Kind → (default : Kind) → Kind → (name : List ℕ) (number : ℕ) → List ℕ → Type 0
+abbrev pub Tells : List LineKind → (default : LineKind) → LineKind → (name : List ℕ) (number : ℕ) → List ℕ → Type 0
 Tells kinds default kind name number line =
     TellsBody kinds default false kind name number line ⊎ TellsEscaped kinds default kind name number line
 
 -- a line tells no hash
-abbrev pub TellsNothing : List Kind → (default : Kind) → List ℕ → Type 0
-TellsNothing kinds default line = (other : Kind) (name : List ℕ) (number : ℕ) → ¬ (Tells kinds default other name number line)
+abbrev pub TellsNothing : List LineKind → (default : LineKind) → List ℕ → Type 0
+TellsNothing kinds default line = (other : LineKind) (name : List ℕ) (number : ℕ) → ¬ (Tells kinds default other name number line)
 
 -- a kind that a line of this form may tell: tagged one of these, untagged the default
-abbrev pub MayBeTold : List Kind → (default : Kind) → Form → Kind → Type 0
+abbrev pub MayBeTold : List LineKind → (default : LineKind) → Form → LineKind → Type 0
 MayBeTold kinds default form.Tagged kind = Contains kinds kind
 MayBeTold kinds default form.Untagged kind = kind ≡ default
 
@@ -43,9 +43,9 @@ abbrev pub IsTag : List ℕ → Type 0
 IsTag tag = AllByRecursion (λ byte. (byte ≢ 32) × (byte ≢ 92)) tag
 
 -- the kinds have tags, and no two have the same
-pub record AreTags (kinds : List Kind) (default : Kind) : Type 0 where
-  pub each : (kind : Kind) → Contains kinds kind → IsTag kind.name.now
-  pub apart : (kind other : Kind) → Contains kinds kind → Contains kinds other → kind.name.now ≡ other.name.now → kind ≡ other
+pub record AreTags (kinds : List LineKind) (default : LineKind) : Type 0 where
+  pub each : (kind : LineKind) → Contains kinds kind → IsTag kind.name.now
+  pub apart : (kind other : LineKind) → Contains kinds kind → Contains kinds other → kind.name.now ≡ other.name.now → kind ≡ other
 
 -- the same, seen of their names
 abbrev pub is_tag : List ℕ → Bool

@@ -7,7 +7,7 @@ ghost use Rattle.hash_lines.specs.Forms.{is_long, is_sum, unmarked, EndsInDigits
 ghost use Rattle.hash_lines.specs.Line.{tagged, untagged};
 
 use crate::hex::{MOST_DIGITS, digit_value};
-use crate::line::Kind;
+use crate::line::LineKind;
 use crate::parse::{HashLine, behind, parse_line, split_last};
 use std::alloc::{AllocError, Global};
 
@@ -168,7 +168,8 @@ fn is_sum(word: &[u8]) -> bool
 /// Whether a line begins with such a number and a blank.
 fn begins_with_sum(line: &[u8]) -> bool
     ensures none { result ≡ false → (word behind : List ℕ) → HasWord line.now word behind → is_sum word ≡ false }
-    ensures some { result ≡ true → (word : List ℕ) × (behind : List ℕ) × HasWord line.now word behind × (is_sum word ≡ true) }
+    ensures some { result ≡ true → (word : List ℕ) × (behind : List ℕ) × HasWord line.now word behind
+        × (is_sum word ≡ true) }
 {
     match first_word(line) {
         Some((word, _)) => is_sum(word),
@@ -222,8 +223,8 @@ fn sfv_form(alloc: Global, line: &[u8]) -> Result<Option<Vec<u8>>, AllocError>
 /// What a line tells as a tagged one with other blanks.
 fn tagged_entry<'k>(
     alloc: Global,
-    kinds: &[Kind<'k>],
-    kind: Kind<'k>,
+    kinds: &[LineKind<'k>],
+    kind: LineKind<'k>,
     line: &[u8],
 ) -> Result<Option<HashLine<'k>>, AllocError>
     ensures { IfOk result (λ found. MatchOption found (TellsNoneIn IsTaggedForm kinds.entry.now kind.entry line.now)
@@ -238,8 +239,8 @@ fn tagged_entry<'k>(
 /// What a line tells as an untagged one with one blank.
 fn blank_entry<'k>(
     alloc: Global,
-    kinds: &[Kind<'k>],
-    kind: Kind<'k>,
+    kinds: &[LineKind<'k>],
+    kind: LineKind<'k>,
     line: &[u8],
 ) -> Result<Option<HashLine<'k>>, AllocError>
     ensures { IfOk result (λ found. MatchOption found (TellsNoneIn IsBlankForm kinds.entry.now kind.entry line.now)
@@ -254,8 +255,8 @@ fn blank_entry<'k>(
 /// What a line tells as one of an SFV file.
 fn sfv_entry<'k>(
     alloc: Global,
-    kinds: &[Kind<'k>],
-    kind: Kind<'k>,
+    kinds: &[LineKind<'k>],
+    kind: LineKind<'k>,
     line: &[u8],
 ) -> Result<Option<HashLine<'k>>, AllocError>
     ensures { IfOk result (λ found. MatchOption found (TellsNoneIn IsSfvForm kinds.entry.now kind.entry line.now)
@@ -270,8 +271,8 @@ fn sfv_entry<'k>(
 /// What a line without blanks in front tells, as one of ours or in another form, but for that of SFV files.
 fn form_entry<'k>(
     alloc: Global,
-    kinds: &[Kind<'k>],
-    kind: Kind<'k>,
+    kinds: &[LineKind<'k>],
+    kind: LineKind<'k>,
     line: &[u8],
 ) -> Result<Option<HashLine<'k>>, AllocError>
     ensures { IfOk result (λ found. MatchOption found (TellsNoneIn IsForm kinds.entry.now kind.entry line.now)
@@ -292,8 +293,8 @@ fn form_entry<'k>(
 /// any form.
 pub fn parse_form<'k>(
     alloc: Global,
-    kinds: &[Kind<'k>],
-    kind: Kind<'k>,
+    kinds: &[LineKind<'k>],
+    kind: LineKind<'k>,
     sfv: bool,
     line: &[u8],
 ) -> Result<Option<HashLine<'k>>, AllocError>

@@ -2,18 +2,18 @@
 ghost use Rattle.std.specs.Prelude.{◌≡◌, ◌≢◌, ◌⊎◌, ◌++◌, ◌<◌, ◌≤◌, ℕ, List, length, codes, IfOk, MatchOption};
 ghost use Rattle.hash_lines.specs.Line.{name_shown, ShowsNumber, ShowsTagged, ShowsUntagged};
 ghost use Rattle.hash_lines.specs.Told.{Tells, TellsBody, TellsEscaped, TellsNothing, TellsTagged, TellsUntagged};
-ghost use Rattle.hash_lines.specs.declared.line.Kind.{Kind};
+ghost use Rattle.hash_lines.specs.declared.line.LineKind.{LineKind};
 
 use crate::escape::unescaped;
 use crate::hex::{MOST_DIGITS, hex_number};
-use crate::line::Kind;
+use crate::line::LineKind;
 use std::alloc::{AllocError, Global};
 
 /// What a line tells.
 #[derive(Drop)]
 pub struct HashLine<'k> {
     /// Which hash.
-    pub kind: Kind<'k>,
+    pub kind: LineKind<'k>,
     /// Of which file.
     pub name: Vec<u8>,
     /// What it is.
@@ -22,7 +22,8 @@ pub struct HashLine<'k> {
 
 /// What stands behind the front in the bytes; `None` exactly where they do not begin with it.
 pub fn behind<'a>(bytes: &'a [u8], front: &[u8]) -> Option<&'a [u8]>
-    ensures { MatchOption result ((rest : List ℕ) → front.now ++ rest ≢ bytes.now) (λ rest. front.now ++ rest.now ≡ bytes.now) }
+    ensures { MatchOption result ((rest : List ℕ) → front.now ++ rest ≢ bytes.now)
+        (λ rest. front.now ++ rest.now ≡ bytes.now) }
 {
     if bytes.len() < front.len() {
         return None;
@@ -75,7 +76,8 @@ fn behind_tag<'a>(tag: &[u8], body: &'a [u8]) -> Option<&'a [u8]>
 
 /// What stands in front of `) = `, and so many digits behind it.
 fn around_mark(rest: &[u8], count: usize) -> Option<(&[u8], &[u8])>
-    ensures { MatchOption result ((shown digits : List ℕ) → length digits ≡ count → shown ++ (codes ") = " ++ digits) ≢ rest.now)
+    ensures { MatchOption result ((shown digits : List ℕ) → length digits ≡ count
+        → shown ++ (codes ") = " ++ digits) ≢ rest.now)
         (λ parts. (length parts.1.now ≡ count) × (parts.0.now ++ (codes ") = " ++ parts.1.now) ≡ rest.now)) }
 {
     let (front, digits) = split_last(rest, count)?;
@@ -89,7 +91,8 @@ fn around_mark(rest: &[u8], count: usize) -> Option<(&[u8], &[u8])>
 
 /// What stands behind two spaces, or a space and a star.
 fn behind_spaces(rest: &[u8]) -> Option<&[u8]>
-    ensures { MatchOption result ((shown : List ℕ) → ¬ ((codes "  " ++ shown ≡ rest.now) ⊎ (codes " *" ++ shown ≡ rest.now)))
+    ensures { MatchOption result ((shown : List ℕ) → ¬ ((codes "  " ++ shown ≡ rest.now)
+        ⊎ (codes " *" ++ shown ≡ rest.now)))
         (λ shown. (codes "  " ++ shown.now ≡ rest.now) ⊎ (codes " *" ++ shown.now ≡ rest.now)) }
 {
     if let Some(shown) = behind(rest, b"  ") {
@@ -134,13 +137,14 @@ fn name_of(alloc: Global, escapes: bool, shown: &[u8]) -> Result<Option<Vec<u8>>
 /// What these parts of a line tell.
 fn entry_of<'k>(
     alloc: Global,
-    kind: Kind<'k>,
+    kind: LineKind<'k>,
     escapes: bool,
     shown: &[u8],
     number: u128,
 ) -> Result<Option<HashLine<'k>>, AllocError>
     ensures { IfOk result (λ found. MatchOption found ((name : List ℕ) → name_shown escapes name ≢ shown.now)
-        (λ entry. (entry.kind ≡ kind.entry) × (entry.number ≡ number) × (name_shown escapes entry.name.items ≡ shown.now))) }
+        (λ entry. (entry.kind ≡ kind.entry) × (entry.number ≡ number)
+        × (name_shown escapes entry.name.items ≡ shown.now))) }
 {
     match name_of(alloc, escapes, shown)? {
         Some(name) => Ok(Some(HashLine { kind, name, number })),
@@ -151,7 +155,7 @@ fn entry_of<'k>(
 /// What a tagged line of this kind tells, without its mark.
 fn tagged_entry<'k>(
     alloc: Global,
-    kind: Kind<'k>,
+    kind: LineKind<'k>,
     escapes: bool,
     body: &[u8],
 ) -> Result<Option<HashLine<'k>>, AllocError>
@@ -168,13 +172,14 @@ fn tagged_entry<'k>(
 /// What an untagged line of this kind tells, without its mark.
 fn untagged_entry<'k>(
     alloc: Global,
-    kind: Kind<'k>,
+    kind: LineKind<'k>,
     escapes: bool,
     body: &[u8],
 ) -> Result<Option<HashLine<'k>>, AllocError>
     ensures { IfOk result (λ found. MatchOption found
         ((name : List ℕ) (number : ℕ) → ¬ (TellsUntagged kind.entry escapes name number body.now))
-        (λ entry. (entry.kind ≡ kind.entry) × TellsUntagged kind.entry escapes entry.name.items entry.number body.now)) }
+        (λ entry. (entry.kind ≡ kind.entry)
+        × TellsUntagged kind.entry escapes entry.name.items entry.number body.now)) }
 {
     match untagged_parts(kind.width.digits(), body) {
         Some((shown, number)) => entry_of(alloc, kind, escapes, shown, number),
@@ -185,13 +190,14 @@ fn untagged_entry<'k>(
 /// What a line tells, without its mark.
 fn body_entry<'k>(
     alloc: Global,
-    kinds: &[Kind<'k>],
-    kind: Kind<'k>,
+    kinds: &[LineKind<'k>],
+    kind: LineKind<'k>,
     escapes: bool,
     body: &[u8],
 ) -> Result<Option<HashLine<'k>>, AllocError>
     ensures { IfOk result (λ found. MatchOption found
-        ((other : Kind) (name : List ℕ) (number : ℕ) → ¬ (TellsBody kinds.entry.now kind.entry escapes other name number body.now))
+        ((other : LineKind) (name : List ℕ) (number : ℕ)
+        → ¬ (TellsBody kinds.entry.now kind.entry escapes other name number body.now))
         (λ entry. TellsBody kinds.entry.now kind.entry escapes entry.kind entry.name.items entry.number body.now)) }
 {
     for tagged in kinds {
@@ -205,12 +211,13 @@ fn body_entry<'k>(
 /// What a line tells that begins with a backslash.
 fn escaped_entry<'k>(
     alloc: Global,
-    kinds: &[Kind<'k>],
-    kind: Kind<'k>,
+    kinds: &[LineKind<'k>],
+    kind: LineKind<'k>,
     line: &[u8],
 ) -> Result<Option<HashLine<'k>>, AllocError>
     ensures { IfOk result (λ found. MatchOption found
-        ((other : Kind) (name : List ℕ) (number : ℕ) → ¬ (TellsEscaped kinds.entry.now kind.entry other name number line.now))
+        ((other : LineKind) (name : List ℕ) (number : ℕ)
+        → ¬ (TellsEscaped kinds.entry.now kind.entry other name number line.now))
         (λ entry. TellsEscaped kinds.entry.now kind.entry entry.kind entry.name.items entry.number line.now)) }
 {
     match behind(line, b"\\") {
@@ -224,8 +231,8 @@ fn escaped_entry<'k>(
 /// may have a star for its second space, as sha256sum writes it. A line that begins with a backslash has escapes.
 pub fn parse_line<'k>(
     alloc: Global,
-    kinds: &[Kind<'k>],
-    kind: Kind<'k>,
+    kinds: &[LineKind<'k>],
+    kind: LineKind<'k>,
     line: &[u8],
 ) -> Result<Option<HashLine<'k>>, AllocError>
     ensures { IfOk result (λ found. MatchOption found (TellsNothing kinds.entry.now kind.entry line.now)

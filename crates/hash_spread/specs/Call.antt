@@ -15,8 +15,8 @@ use Rattle.hash_spread.specs.declared.keys.Layout.{Layout}
 use Rattle.hash_spread.specs.declared.keys.Layout.TheVariants as layout
 use Rattle.hash_spread.specs.declared.call.Misuse.{Misuse}
 use Rattle.hash_spread.specs.declared.call.Misuse.TheVariants as misuse
-use Rattle.hash_spread.specs.declared.fault.NoTable.{NoTable}
-use Rattle.hash_spread.specs.declared.fault.NoTable.TheVariants.{Undrawn, TooManyKeys, NoKeys, ShortKey}
+use Rattle.hash_spread.specs.declared.failure.NoTable.{NoTable}
+use Rattle.hash_spread.specs.declared.failure.NoTable.TheVariants.{Undrawn, TooManyKeys, NoKeys, ShortKey}
 
 -- the options
 abbrev pub options : List Choice

@@ -46,11 +46,6 @@ abbrev pub ReadsLine : (eol : ℕ) (keys keys' : List (List ℕ)) (left left' : 
 ReadsLine eol keys keys' left left' true = (text : List ℕ) × TakesKeys keys keys' left left' text (line_texts eol text) × IsWhole eol text
 ReadsLine eol keys keys' left left' false = ReadsLines eol keys keys' left left'
 
--- some bytes were read, and stand behind those before them; none were at the end alone
-abbrev pub ReadsPiece : (before after : List ℕ) (left left' : Option (List ℕ)) → (count : ℕ) → Type 0
-ReadsPiece before after left left' count = (text : List ℕ) × (after ≡ before ++ text) × (length text ≡ count)
-    × Consumes left left' text × (count ≡ 0 → IsAtEnd left')
-
 -- a key of so many bytes was read; or none was left
 abbrev pub ReadsKey : (width : ℕ) (key : List ℕ) (left left' : Option (List ℕ)) → (is_one : Bool) → Type 0
 ReadsKey width key left left' true = Consumes left left' key × (length key ≡ width)

@@ -7,7 +7,7 @@ ghost use Rattle.cli.specs.Call.{call_of, choices, sayings, texts};
 ghost use Rattle.hash_names.specs.Named.{kind_named};
 ghost use Rattle.hash_spread.specs.Call.{given_number, kinds_of, laid, layout_of, options, positive, settings_of, unknown_name, wanted, words_of};
 
-use crate::fault::NoTable;
+use crate::failure::NoTable;
 use crate::keys::Layout;
 use cli::call::{Call, Opt, flag, taking};
 use cli::numbers::number_of;

@@ -1,9 +1,10 @@
 //! Reads keys: lines, which end with newline or another byte, or so many bytes each.
 ghost use Rattle.std.specs.Prelude.{◌≡◌, ◌<◌, ◌≤◌, IfOk, OnOk, length, true};
+ghost use Rattle.streams.specs.Streams.{ReadsSome};
 ghost use Rattle.text_set.specs.Texts.{with_text};
-ghost use Rattle.hash_spread.specs.Keys.{ReadsFixed, ReadsKey, ReadsKeys, ReadsLine, ReadsLines, ReadsOne, ReadsPiece};
+ghost use Rattle.hash_spread.specs.Keys.{ReadsFixed, ReadsKey, ReadsKeys, ReadsLine, ReadsLines, ReadsOne};
 
-use crate::fault::{Fault, NoTable, fault_of_read};
+use crate::failure::{Failure, NoTable, failure_of_read};
 use std::alloc::Global;
 use std::io::{BufRead, Read};
 use std::num::NonZeroUsize;
@@ -24,13 +25,13 @@ pub enum Layout {
 }
 
 /// Takes a key in, unless it is there.
-fn take_key(keys: &mut Texts<RandomKeys>, key: &[u8]) -> Result<(), Fault>
+fn take_key(keys: &mut Texts<RandomKeys>, key: &[u8]) -> Result<(), Failure>
     ensures { OnOk result (keys.new.texts ≡ with_text keys.old.texts key.now) }
 {
     match keys.see(key) {
         Ok(_) => Ok(()),
-        Err(Full::NoMemory) => Err(Fault::NoMemory),
-        Err(Full::TooManyTexts) => Err(Fault::Own(NoTable::TooManyKeys)),
+        Err(Full::NoMemory) => Err(Failure::NoMemory),
+        Err(Full::TooManyTexts) => Err(Failure::Own(NoTable::TooManyKeys)),
     }
 }
 
@@ -40,13 +41,13 @@ fn read_line<R: BufRead>(
     eol: u8,
     line: &mut Vec<u8>,
     r: &mut R,
-) -> Result<bool, Fault>
+) -> Result<bool, Failure>
     ensures { IfOk result (ReadsLine eol keys.old.texts keys.new.texts (R.remaining r.old) (R.remaining r.new)) }
 {
     match next_line(r, eol, line) {
         Ok(true) => {}
         Ok(false) => return Ok(false),
-        Err(error) => return Err(fault_of_read(error)),
+        Err(error) => return Err(failure_of_read(error)),
     }
     take_key(keys, without_end(line, eol))?;
     Ok(has_end(line, eol))
@@ -58,7 +59,7 @@ fn read_lines<R: BufRead>(
     keys: &mut Texts<RandomKeys>,
     eol: u8,
     r: &mut R,
-) -> Result<bool, Fault>
+) -> Result<bool, Failure>
     ensures { IfOk result (λ all. all ≡ true
         → ReadsLines eol keys.old.texts keys.new.texts (R.remaining r.old) (R.remaining r.new)) }
 {
@@ -72,17 +73,17 @@ fn read_lines<R: BufRead>(
 }
 
 /// Reads some bytes more of a key and puts them behind the others, and tells how many: none at the end.
-fn read_piece<R: Read>(key: &mut Vec<u8>, piece: &mut [u8], r: &mut R) -> Result<usize, Fault>
+fn read_piece<R: Read>(key: &mut Vec<u8>, piece: &mut [u8], r: &mut R) -> Result<usize, Failure>
     requires { 0 < length piece.old }
     ensures most { IfOk result (λ n. n ≤ length piece.old) }
-    ensures read { IfOk result (ReadsPiece key.old.items key.new.items (R.remaining r.old) (R.remaining r.new)) }
+    ensures read { IfOk result (ReadsSome key.old.items key.new.items (R.remaining r.old) (R.remaining r.new)) }
 {
     match read_some(r, piece, TRIES) {
         Ok(n) => {
             key.extend_from_slice(&piece[..n])?;
             Ok(n)
         }
-        Err(error) => Err(fault_of_read(error)),
+        Err(error) => Err(failure_of_read(error)),
     }
 }
 
@@ -92,7 +93,7 @@ fn read_key<R: Read>(
     key: &mut Vec<u8>,
     piece: &mut [u8],
     r: &mut R,
-) -> Result<bool, Fault>
+) -> Result<bool, Failure>
     requires { 0 < length piece.old }
     ensures { IfOk result (ReadsKey width key.new.items (R.remaining r.old) (R.remaining r.new)) }
 {
@@ -103,7 +104,7 @@ fn read_key<R: Read>(
             return if key.is_empty() {
                 Ok(false)
             } else {
-                Err(Fault::Own(NoTable::ShortKey))
+                Err(Failure::Own(NoTable::ShortKey))
             };
         }
     }
@@ -117,7 +118,7 @@ fn read_one<R: Read>(
     key: &mut Vec<u8>,
     piece: &mut [u8],
     r: &mut R,
-) -> Result<bool, Fault>
+) -> Result<bool, Failure>
     requires { 0 < length piece.old }
     ensures { IfOk result (ReadsOne width keys.old.texts keys.new.texts (R.remaining r.old) (R.remaining r.new)) }
 {
@@ -142,7 +143,7 @@ fn read_fixed<R: Read>(
     keys: &mut Texts<RandomKeys>,
     width: usize,
     r: &mut R,
-) -> Result<bool, Fault>
+) -> Result<bool, Failure>
     requires { 0 < width }
     ensures { IfOk result (λ all. all ≡ true
         → ReadsFixed width keys.old.texts keys.new.texts (R.remaining r.old) (R.remaining r.new)) }
@@ -163,7 +164,7 @@ pub fn read_keys<R: BufRead>(
     keys: &mut Texts<RandomKeys>,
     layout: Layout,
     r: &mut R,
-) -> Result<(), Fault>
+) -> Result<(), Failure>
     ensures { OnOk result (ReadsKeys layout keys.old.texts keys.new.texts (R.remaining r.old) (R.remaining r.new)) }
 {
     let all = match layout {
@@ -173,6 +174,6 @@ pub fn read_keys<R: BufRead>(
     if all {
         Ok(())
     } else {
-        Err(Fault::Own(NoTable::TooManyKeys))
+        Err(Failure::Own(NoTable::TooManyKeys))
     }
 }

@@ -12,7 +12,7 @@ use std::alloc::{AllocError, Global};
 
 /// A row of the table.
 #[derive(Clone, Copy)]
-pub struct Row {
+pub struct TableRow {
     /// The hash.
     pub kind: Kind,
     /// The numbers of the hashes of the keys.
@@ -31,7 +31,7 @@ fn push_spread(numbers: &mut Vec<u128>, spread: &Spread) -> Result<(), AllocErro
     Ok(())
 }
 
-impl Row {
+impl TableRow {
     /// The numbers of the row, in the order of their columns: the bits of a hash, the pairs of equal hashes, and for each number of
     /// buckets the fullest one, the empty ones and the squares.
     pub fn numbers(&self, alloc: Global) -> Result<Vec<u128>, AllocError>
@@ -55,11 +55,11 @@ pub fn row_of(
     sizes: Sizes,
     time: Option<f64>,
     hashed: &mut Hashed,
-) -> Result<Row, AllocError>
+) -> Result<TableRow, AllocError>
     ensures keys { hashed.new.keys ≡ hashed.old.keys }
     ensures kind { IfOk result (λ row. row.kind ≡ kind) }
     ensures counts { IfOk result (λ row. IsCounts sizes (map (hash_of kind) hashed.old.keys.texts) row.counts) }
 {
     let counts = counts_by(alloc, kind, sizes, hashed)?;
-    Ok(Row { kind, counts, time })
+    Ok(TableRow { kind, counts, time })
 }

@@ -1,51 +1,46 @@
 -- The hash that a call asks for.
-use Rattle.std.proofs.Common.{◌≡◌, inl, inr, ℕ, zero, suc, Bool, true, false, cond, List, [], ◌∷◌, map, codes, Option, Some, None, Contains, refl, sym, ap, ◌∙◌, arith}
+use Rattle.std.proofs.Common.{◌≡◌, ◌&&◌, ◌||◌, not, inl, inr, ℕ, zero, suc, Bool, true, false, cond, if◌then◌else◌, List, [], ◌∷◌, map, fold, codes, Option, Some, None, IsSome, Contains, refl, sym, ap, ◌∙◌, subst, arith}
 use Rattle.std.specs.Char.{to_ascii_lowercase}
+use Rattle.std.proofs.lemmas.Bool.{false≢true, or_left, or_right}
 use Rattle.std.specs.List.{find}
 use Rattle.std.specs.Option.{option_map}
 use Rattle.std.specs.Str.{bytes_eq}
 use lib.Pointwise.{bytes_decides}
-use Rattle.hash_lines.specs.declared.line.Kind.{Kind}
+use Rattle.hash_lines.specs.declared.line.LineKind.{LineKind}
 use Rattle.hash_lines.specs.Told.{Tells}
-use Rattle.cli.specs.Call.{Saying}
+use Rattle.cli.specs.Call.{Saying, given, value_after, value_of}
+use Rattle.cli.specs.Call.Saying.{Gives, Operand, Errs}
 use Rattle.cli.specs.Files.{Opens}
+use Rattle.cli.specs.Frame.{request_of}
+use Rattle.cli.specs.declared.frame.Request.TheVariants.{Work}
 use Rattle.hash_sums.specs.Checking.{TellsAny}
-use Rattle.hash_sums.specs.Ended.{HasEndedWell}
-use Rattle.hash_sums.specs.Program.{asked, asks_for, asks_for_poly61, asks_for_siphash24, is_by_name, kinds_under}
+use Rattle.hash_sums.specs.Ended.{GivesKeys, HasEndedWell}
+use Rattle.hash_sums.specs.Keys.{AreKeysFor, ArePoly61Keys, MayBeKeys}
+use Rattle.hash_sums.specs.declared.outcome.Misuse.TheVariants.{NotWithCheck, OnlyWithCheck, NeedsKeyFile, UnusedKeyFile}
+use Rattle.hash_sums.proofs.NameLemmas.{found_as_told}
+use Rattle.hash_sums.specs.Program.{asked, asks_for, asks_for_keyed, asks_for_poly61, asks_for_siphash24, gives_checking, gives_writing, is_by_name, key_file, kinds_under, misuse_of}
 use Rattle.hash_sums.specs.Sums.{is_named, kind_of, kinds, poly61_at_both, siphash24_at, sum_at, sum_by, sum_of, told_at, told_of, Told}
 
 -- one thing alone is there
-only_one : (kind other : Kind) → Contains (kind ∷ []) other → other ≡ kind
+only_one : (kind other : LineKind) → Contains (kind ∷ []) other → other ≡ kind
 only_one kind other (zero, below, is) = sym is
 only_one kind other (suc k, below, is) = absurd (omega (arith, below))
 
 -- a line of the one hash that is taken tells that
-line_one : (kind other : Kind) (name : List ℕ) (number : ℕ) (line : List ℕ) → Tells (kind ∷ []) kind other name number line → other ≡ kind
+line_one : (kind other : LineKind) (name : List ℕ) (number : ℕ) (line : List ℕ) → Tells (kind ∷ []) kind other name number line → other ≡ kind
 line_one kind other name number line (inl (inl (here, tells))) = only_one kind other here
 line_one kind other name number line (inl (inr (is, tells))) = is
 line_one kind other name number line (inr (body, begins, inl (here, tells))) = only_one kind other here
 line_one kind other name number line (inr (body, begins, inr (is, tells))) = is
 
-pub any_one : (sfv : Bool) (kind other : Kind) (name : List ℕ) (number : ℕ) (line : List ℕ)
+pub any_one : (sfv : Bool) (kind other : LineKind) (name : List ℕ) (number : ℕ) (line : List ℕ)
     → TellsAny sfv (kind ∷ []) kind other name number line → other ≡ kind
 any_one sfv kind other name number line (inl tells) = line_one kind other name number line tells
 any_one sfv kind other name number line (inr (none, (rest, trims, inl (plain, form, tells)))) = line_one kind other name number plain tells
 any_one sfv kind other name number line (inr (none, (rest, trims, inr (takes, nothing, (plain, form, tells))))) =
     line_one kind other name number plain tells
 
--- what is found by its name is found of what is told of it
-found_told : (name : List ℕ) (kinds : List Kind)
-    → option_map told_of (find (λ kind. is_named name kind.name.now) kinds) ≡ find (λ told. is_named name told.name) (map told_of kinds)
-found_told name [] = refl
-found_told name (kind ∷ kinds) = at (found_told name kinds) (is_named name kind.name.now)
-  where
-    at : option_map told_of (find (λ k. is_named name k.name.now) kinds) ≡ find (λ told. is_named name told.name) (map told_of kinds)
-        → (b : Bool) → option_map told_of (cond b (Some kind) (find (λ k. is_named name k.name.now) kinds))
-        ≡ cond b (Some (told_of kind)) (find (λ told. is_named name told.name) (map told_of kinds))
-    at more true = refl
-    at more false = more
-
-kind_of_named : (kinds : List Kind) (name : List ℕ) → kind_of kinds (Some name) ≡ find (λ kind. is_named name kind.name.now) kinds
+kind_of_named : (kinds : List LineKind) (name : List ℕ) → kind_of kinds (Some name) ≡ find (λ kind. is_named name kind.name.now) kinds
 kind_of_named [] name = refl
 kind_of_named (kind ∷ kinds) name = refl
 
@@ -75,7 +70,7 @@ module _ (opens : Opens) (call : List Saying) (name : List ℕ) (which : ℕ)
       let known : find (λ kind. is_named word kind.name.now) ended.told ≡ Some ended.kind =
       sym (kind_of_named ended.told word) ∙ ap (kind_of ended.told) (sym is) ∙ ended.is_asked in
       let some : Some (told_of ended.kind) ≡ Some (told_at keys which) =
-      sym (ap (option_map told_of) known) ∙ found_told word ended.told ∙ ap (find (λ told. is_named word told.name)) ended.are_told
+      sym (ap (option_map told_of) known) ∙ found_as_told word ended.told ∙ ap (find (λ told. is_named word told.name)) ended.are_told
       ∙ ap (λ n. find (λ (told : Told). bytes_eq (map to_ascii_lowercase told.name) n) (kinds_under ended.keys)) (sym same)
       ∙ found_under ended.keys keys are in
       cc
@@ -84,12 +79,83 @@ module _ (opens : Opens) (call : List Saying) (name : List ℕ) (which : ℕ)
       → sum_by ended.kind ≡ sum_of keys (sum_at which)
   sum_is asks ended keys are = ap (λ (t : Told). sum_of t.keys (sum_at t.which)) (named_so (asked call) refl asks ended keys are)
 
-pub under_poly61 : (opens : Opens) (call : List Saying) → asks_for_poly61 call ≡ true → (ended : HasEndedWell opens call) → (keys : ℕ × ℕ)
-    → ended.keys ≡ Some keys → sum_by ended.kind ≡ poly61_at_both keys
+-- ---- the keys of a call
+
+value_stays : (name : List ℕ) (call : List Saying) (value : List ℕ) → IsSome (fold (value_after name) (Some value) call)
+value_stays name [] value = refl
+value_stays name (Gives other new ∷ more) value = at (bytes_eq other name) (value_stays name more new) (value_stays name more value)
+  where
+    at : (b : Bool) → IsSome (fold (value_after name) (Some new) more) → IsSome (fold (value_after name) (Some value) more)
+        → IsSome (fold (value_after name) (if b then Some new else Some value) more)
+    at true there here = there
+    at false there here = here
+value_stays name (Operand word ∷ more) value = value_stays name more value
+value_stays name (Errs misgiven word ∷ more) value = value_stays name more value
+
+-- an option that is given has a value
+has_value : (name : List ℕ) (call : List Saying) (before : Option (List ℕ)) → given name call ≡ true
+    → IsSome (fold (value_after name) before call)
+has_value name [] before gives = absurd (false≢true gives)
+has_value name (Gives other value ∷ more) before gives =
+    at (bytes_eq other name) gives (value_stays name more value) (has_value name more before)
+  where
+    at : (b : Bool) → (b || given name more) ≡ true → IsSome (fold (value_after name) (Some value) more)
+        → (given name more ≡ true → IsSome (fold (value_after name) before more))
+        → IsSome (fold (value_after name) (if b then Some value else before) more)
+    at true so there later = there
+    at false so there later = later so
+has_value name (Operand word ∷ more) before gives = has_value name more before gives
+has_value name (Errs misgiven word ∷ more) before gives = has_value name more before gives
+
+-- a call that asks for a hash under keys, and with which nothing is wrong, gives a key file
+gives_file : (call : List Saying) → misuse_of call ≡ None → asks_for_keyed call ≡ true → given (codes "key-file") call ≡ true
+gives_file call no_misuse asks = at (given (codes "check") call && gives_writing call)
+    (not (given (codes "check") call) && gives_checking call) (asks_for_keyed call) (given (codes "key-file") call) no_misuse asks
+  where
+    at : (one two keyed file : Bool) → (if one then Some NotWithCheck else if two then Some OnlyWithCheck
+        else if keyed && not file then Some NeedsKeyFile else if file && not keyed then Some UnusedKeyFile else None) ≡ None
+        → keyed ≡ true → file ≡ true
+    at true two keyed file is so = cc
+    at false true keyed file is so = cc
+    at false false keyed true is so = refl
+    at false false true false is so = cc
+    at false false false false is so = absurd (false≢true so)
+
+-- the keys under which such a call ended well are those in its key file
+keys_given : (opens : Opens) (call : List Saying) (any : Bool) → request_of call ≡ Work → misuse_of call ≡ None
+    → asks_for_keyed call ≡ true → (keys : Option (ℕ × ℕ)) → AreKeysFor any opens (key_file call) keys
+    → (pair : ℕ × ℕ) × (keys ≡ Some pair) × GivesKeys opens call pair × MayBeKeys any pair
+keys_given opens call any works no_misuse asks keys are =
+    at (value_of (codes "key-file") call) refl (has_value (codes "key-file") call None (gives_file call no_misuse asks))
+    (rw (works, no_misuse) at are)
+  where
+    at : (file : Option (List ℕ)) → value_of (codes "key-file") call ≡ file → IsSome file → AreKeysFor any opens file keys
+        → (pair : ℕ × ℕ) × (keys ≡ Some pair) × GivesKeys opens call pair × MayBeKeys any pair
+    at None is some are = absurd (false≢true some)
+    at (Some file) is some (pair, same, has, may) = (pair, same, (file, is, has), may)
+
+-- poly61 and siphash24 have two names
+not_both : (call : List Saying) → asks_for_poly61 call ≡ true → asks_for_siphash24 call ≡ false
+not_both call asks = at (asked call) asks
+  where
+    at : (word : Option (List ℕ)) → is_by_name (codes "poly61") word ≡ true → is_by_name (codes "siphash24") word ≡ false
+    at None is = refl
+    at (Some word) is =
+        ap (λ w. bytes_eq (map to_ascii_lowercase (codes "siphash24")) w)
+        (sym ((bytes_decides (map to_ascii_lowercase (codes "poly61")) (map to_ascii_lowercase word)).0 is))
+
+pub under_poly61 : (opens : Opens) (call : List Saying) → asks_for_poly61 call ≡ true → (ended : HasEndedWell opens call)
+    → (keys : ℕ × ℕ) × GivesKeys opens call keys × ArePoly61Keys keys × (sum_by ended.kind ≡ poly61_at_both keys)
 unfolding sum_at
-under_poly61 opens call asks ended keys are = sum_is opens call (codes "poly61") 28 poly61_found asks ended keys are
+under_poly61 opens call asks ended =
+    let (keys, are, gives, fit) = keys_given opens call false ended.works ended.no_misuse (or_left _ _ asks) ended.keys
+    (subst (λ any. AreKeysFor any opens (key_file call) ended.keys) (not_both call asks) ended.are_keys) in
+    (keys, gives, fit, sum_is opens call (codes "poly61") 28 poly61_found asks ended keys are)
 
 pub under_siphash24 : (opens : Opens) (call : List Saying) → asks_for_siphash24 call ≡ true → (ended : HasEndedWell opens call)
-    → (keys : ℕ × ℕ) → ended.keys ≡ Some keys → sum_by ended.kind ≡ siphash24_at keys
+    → (keys : ℕ × ℕ) × GivesKeys opens call keys × (sum_by ended.kind ≡ siphash24_at keys)
 unfolding sum_at
-under_siphash24 opens call asks ended keys are = sum_is opens call (codes "siphash24") 29 siphash24_found asks ended keys are
+under_siphash24 opens call asks ended =
+    let (keys, are, gives, any) = keys_given opens call (asks_for_siphash24 call) ended.works ended.no_misuse (or_right _ _ asks)
+    ended.keys ended.are_keys in
+    (keys, gives, sum_is opens call (codes "siphash24") 29 siphash24_found asks ended keys are)

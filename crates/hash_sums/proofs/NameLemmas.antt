@@ -1,13 +1,16 @@
 -- Each hash that a line can tell is found by its name, and has the width of its number.
-use Rattle.std.proofs.Common.{ℕ, zero, suc, ◌≡◌, ◌<◌, Bool, true, false, if◌then◌else◌, List, [], ◌∷◌, length, map, Option, Some, None, Contains, refl, ap, ◌∙◌, subst, arith}
+use Rattle.std.proofs.Common.{ℕ, zero, suc, ◌≡◌, ◌<◌, Bool, true, false, if◌then◌else◌, List, [], ◌∷◌, length, map, Option, Some, None, Contains, refl, sym, ap, ◌∙◌, subst, arith}
+use Rattle.std.specs.Char.{to_ascii_lowercase}
 use Rattle.std.specs.List.{AllByRecursion, find}
+use Rattle.std.specs.Str.{bytes_eq}
+use lib.Pointwise.{bytes_decides}
 use Rattle.std.specs.Option.{option_map, unwrap_or}
 use Rattle.std.proofs.lemmas.List.{get_or-map, length-map}
-use Rattle.hash_lines.specs.declared.line.Kind.{Kind}
+use Rattle.hash_lines.specs.declared.line.LineKind.{LineKind}
 use Rattle.hash_sums.specs.Sums.{is_named, kind_of, kinds, sum_at, told_of, width_in, Told}
 
 -- the hash of that name, in letters of either case
-abbrev of_name : List ℕ → List Told → Option Told
+abbrev pub of_name : List ℕ → List Told → Option Told
 of_name name hashes = find (λ hash. is_named name hash.name) hashes
 
 abbrev IsFound : List Told → Told → Type 0
@@ -25,7 +28,7 @@ names_are_found None = (refl, (refl, (refl, (refl, (refl, (refl, (refl, (refl, (
 names_are_found (Some keys) = (refl, (refl, (refl, (refl, (refl, (refl, (refl, (refl, (refl, (refl, (refl, (refl, (refl, (refl, (refl, (refl, (refl, (refl, (refl, (refl, (refl, (refl, (refl, (refl, (refl, (refl, (refl, (refl, (refl, (refl, tt))))))))))))))))))))))))))))))
 
 -- what is told of the kind that is found is found
-found_as_told : (name : List ℕ) (told : List Kind)
+pub found_as_told : (name : List ℕ) (told : List LineKind)
     → option_map told_of (find (λ kind. is_named name kind.name.now) told) ≡ of_name name (map told_of told)
 found_as_told name [] = refl
 found_as_told name (kind ∷ more) = at (is_named name kind.name.now) (found_as_told name more)
@@ -39,18 +42,21 @@ found_as_told name (kind ∷ more) = at (is_named name kind.name.now) (found_as_
 pub some_same : {X : Type 0} {x y : X} → Some x ≡ Some y → x ≡ y
 some_same {x = x} is = ap (λ o. unwrap_or o x) is
 
-some_kind : (found : Option Kind) (hash : Told) → option_map told_of found ≡ Some hash
-    → (kind : Kind) × (found ≡ Some kind) × (told_of kind ≡ hash)
+some_kind : (found : Option LineKind) (hash : Told) → option_map told_of found ≡ Some hash
+    → (kind : LineKind) × (found ≡ Some kind) × (told_of kind ≡ hash)
 some_kind None hash is = cc
 some_kind (Some kind) hash is = (kind, refl, some_same is)
 
-pub name_found : (keys : Option (ℕ × ℕ)) (told : List Kind) → map told_of told ≡ kinds keys
-    → (hash : Told) → Contains (kinds keys) hash → (kind : Kind) × (kind_of told (Some hash.name) ≡ Some kind) × (told_of kind ≡ hash)
-name_found keys told same hash has =
-    let found : of_name hash.name (kinds keys) ≡ Some hash =
-    at_contained (IsFound (kinds keys)) (kinds keys) (names_are_found keys) hash has in
-    some_kind (kind_of told (Some hash.name)) hash
-    (found_as_told hash.name told ∙ ap (of_name hash.name) same ∙ found)
+pub name_found : (keys : Option (ℕ × ℕ)) (told : List LineKind) → map told_of told ≡ kinds keys
+    → (hash : Told) → Contains (kinds keys) hash → (word : List ℕ) → is_named word hash.name ≡ true
+    → (kind : LineKind) × (kind_of told (Some word) ≡ Some kind) × (told_of kind ≡ hash)
+name_found keys told same hash has word named =
+    let letters : map to_ascii_lowercase hash.name ≡ map to_ascii_lowercase word =
+    (bytes_decides (map to_ascii_lowercase hash.name) (map to_ascii_lowercase word)).0 named in
+    let found : of_name word (kinds keys) ≡ Some hash =
+    ap (λ n. find (λ (other : Told). bytes_eq (map to_ascii_lowercase other.name) n) (kinds keys)) (sym letters)
+    ∙ at_contained (IsFound (kinds keys)) (kinds keys) (names_are_found keys) hash has in
+    some_kind (kind_of told (Some word)) hash (found_as_told word told ∙ ap (of_name word) same ∙ found)
 
 -- ---- widths
 
@@ -63,7 +69,7 @@ unfolding sum_at
 widths_are None = (refl, (refl, (refl, (refl, (refl, (refl, (refl, (refl, (refl, (refl, (refl, (refl, (refl, (refl, (refl, (refl, (refl, (refl, (refl, (refl, (refl, (refl, (refl, (refl, (refl, (refl, (refl, (refl, tt))))))))))))))))))))))))))))
 widths_are (Some keys) = (refl, (refl, (refl, (refl, (refl, (refl, (refl, (refl, (refl, (refl, (refl, (refl, (refl, (refl, (refl, (refl, (refl, (refl, (refl, (refl, (refl, (refl, (refl, (refl, (refl, (refl, (refl, (refl, (refl, (refl, tt))))))))))))))))))))))))))))))
 
-pub width_is : (keys : Option (ℕ × ℕ)) (told : List Kind) → map told_of told ≡ kinds keys → (kind : Kind) → Contains told kind
+pub width_is : (keys : Option (ℕ × ℕ)) (told : List LineKind) → map told_of told ≡ kinds keys → (kind : LineKind) → Contains told kind
     → kind.width ≡ width_in (sum_at kind.which)
 width_is keys told same kind (k, below, is) =
     let within : k < length (map told_of told) = omega (arith, below, length-map told told_of) in

@@ -3,7 +3,7 @@ use Rattle.std.proofs.Common.{◌≡◌, inl, inr, ◌⊎◌, ℕ, ◌<◌, ◌�
 use Rattle.std.specs.List.{fold, Any}
 use Rattle.std.proofs.lemmas.Bool.{and_parts, eqb-true, ltb-true, ltb-false}
 use Rattle.std.proofs.lemmas.List.Elements.{All-cons, All-nil, All-push}
-use Rattle.hash_lines.specs.declared.line.Kind.{Kind}
+use Rattle.hash_lines.specs.declared.line.LineKind.{LineKind}
 use Rattle.hash_sums.specs.declared.check.LineCheck.{LineCheck}
 use Rattle.hash_sums.specs.declared.check.LineCheck.TheVariants.{Skipped, Improper, Checked}
 use Rattle.hash_sums.specs.declared.check.Checking.{Checking}
@@ -192,7 +192,7 @@ lines_pass strict lines is =
       found (some_counted (λ c. c.same) is_same step_same uncounted lines (ltb-true 0 counts.same same)),
     )
 
-module _ (kinds : List Kind) (checking : Checking) (opens : Opens) where
+module _ (kinds : List LineKind) (checking : Checking) (opens : Opens) where
   list_passed : (list : List ℕ) (w w' : Option (List ℕ)) → EndsListOf kinds checking opens list w w' (Ok true)
       → HasPassed kinds checking opens list
   list_passed list w w' (inl (held, can, inl (counts, (lines, are, told, are_told, counts_are), is))) =

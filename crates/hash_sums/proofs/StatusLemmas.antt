@@ -3,11 +3,11 @@ use Rattle.std.proofs.Common.{◌≡◌, inl, inr, ℕ, arith, true, false, Bool
 use Rattle.std.specs.IoError.{error_kind}
 use Rattle.std.specs.declared.io.ErrorKind.{ErrorKind}
 use Rattle.std.specs.declared.io.ErrorKind.TheVariants.{BrokenPipe}
-use Rattle.hash_lines.specs.declared.line.Kind.{Kind}
+use Rattle.hash_lines.specs.declared.line.LineKind.{LineKind}
 use Rattle.cli.specs.Outcome.{of_run, status_of, write_status}
-use Rattle.streams.specs.declared.fault.Fault.{Fault}
-use Rattle.streams.specs.declared.fault.Fault.TheVariants.{NoMemory, Unwritten}
-use Rattle.streams.specs.declared.fault.Nothing.{Nothing}
+use Rattle.streams.specs.declared.failure.Failure.{Failure}
+use Rattle.streams.specs.declared.failure.Failure.TheVariants.{NoMemory, Unwritten}
+use Rattle.streams.specs.declared.failure.Nothing.{Nothing}
 use Rattle.cli.specs.declared.outcome.Outcome.{Outcome}
 use Rattle.hash_sums.specs.declared.check.Checking.{Checking}
 use Rattle.cli.specs.Files.{Opens, files_or}
@@ -28,13 +28,13 @@ use Rattle.hash_sums.specs.Ended.{HasEndedWell}
 use Rattle.hash_sums.specs.Keys.{AreKeysFor}
 use Rattle.hash_sums.specs.Sums.{kind_of, told_of}
 
-module _ (kinds : List Kind) (checking : Checking) (opens : Opens) where
+module _ (kinds : List LineKind) (checking : Checking) (opens : Opens) where
   -- a write that fails does not end well
   fails_badly : (kind : ErrorKind) → write_status kind ≡ 0 → ⊥
   fails_badly BrokenPipe is = omega arith
   fails_badly kind is = omega arith
 
-  ends_well : (ended : Result Bool (Fault Nothing)) → status_of {Misuse = Misuse} (of_run ended) ≡ 0 → ended ≡ Ok true
+  ends_well : (ended : Result Bool (Failure Nothing)) → status_of {Misuse = Misuse} (of_run ended) ≡ 0 → ended ≡ Ok true
   ends_well (Ok true) is = refl
   ends_well (Ok false) is = absurd (omega arith)
   ends_well (Err (Unwritten (Some error))) is = absurd (fails_badly (error_kind error) is)
@@ -56,16 +56,19 @@ module _ (opens : Opens) (call : List Saying) (w w' : Option (List ℕ)) (outcom
       absurd (omega (arith, no))
 
   -- by what is wrong with the call, and by the hash that is asked for
-  work_passed : (keys : Option (ℕ × ℕ)) → AreKeysFor (asks_for_siphash24 call) opens (key_file call) keys → (told : List Kind) → map told_of told ≡ kinds_under keys
-      → given (codes "check") call ≡ true → (misuse : Option Misuse) (kind : Option Kind) → kind_of told (asked call) ≡ kind
+  work_passed : request_of call ≡ Work → (keys : Option (ℕ × ℕ)) → AreKeysFor (asks_for_siphash24 call) opens (key_file call) keys
+      → (told : List LineKind) → map told_of told ≡ kinds_under keys → given (codes "check") call ≡ true
+      → (misuse : Option Misuse) → misuse_of call ≡ misuse → (kind : Option LineKind) → kind_of told (asked call) ≡ kind
       → EndsTask told opens (files_or (operands call)) w w' (work_by call misuse kind) outcome → status_of outcome ≡ 0
       → HasEndedWell opens call
-  work_passed keys are told are_told checks (Some misuse) kind is_kind (is, kept) zero = absurd (not_well (Own misuse) is zero)
-  work_passed keys are told are_told checks None None is_kind (is, kept) zero = absurd (not_well UnknownName is zero)
-  work_passed keys are told are_told checks None (Some kind) is_kind ends zero =
+  work_passed works keys are told are_told checks (Some misuse) misused kind is_kind (is, kept) zero = absurd (not_well (Own misuse) is zero)
+  work_passed works keys are told are_told checks None no_misuse None is_kind (is, kept) zero = absurd (not_well UnknownName is zero)
+  work_passed works keys are told are_told checks None no_misuse (Some kind) is_kind ends zero =
       let files = files_or (operands call) in
       let task : work_of call kind ≡ Check (checking_of call kind) =
       ap (λ b. if b then Check (checking_of call kind) else Sum (summing_of call kind)) checks in record {
+        works = works;
+        no_misuse = no_misuse;
         keys = keys;
         are_keys = are;
         told = told;
@@ -81,7 +84,7 @@ module _ (opens : Opens) (call : List Saying) (w w' : Option (List ℕ)) (outcom
   call_passed texts works checks (inl (keys, are, told, are_told, ends)) zero =
       let files = files_or (operands call) in
       let ended = subst (λ r. EndsRequest r texts (EndsTask told opens files w w' (task_of told call)) (Unit {0}) w w' outcome) works ends in
-      work_passed keys are told are_told checks (misuse_of call) (kind_of told (asked call)) refl ended zero
+      work_passed works keys are told are_told checks (misuse_of call) refl (kind_of told (asked call)) refl ended zero
   call_passed texts works checks (inr (inl (some, is, kept))) zero =
       let no : status_of {Misuse = Misuse} {Own = Nothing} Reported ≡ 0 = subst (λ o. status_of o ≡ 0) is zero in absurd (omega (arith, no))
   call_passed texts works checks (inr (inr (is, kept))) zero =

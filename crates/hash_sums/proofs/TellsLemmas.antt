@@ -4,7 +4,7 @@ use Rattle.std.specs.List.{find}
 use Rattle.std.specs.IoError.{error_kind}
 use Rattle.std.proofs.lemmas.Bool.{and_parts, eqb-true, false≢true}
 use Rattle.std.proofs.lemmas.List.{get_or-map, length-map}
-use Rattle.hash_lines.specs.declared.line.Kind.{Kind}
+use Rattle.hash_lines.specs.declared.line.LineKind.{LineKind}
 use Rattle.hash_lines.specs.declared.parse.HashLine.{HashLine}
 use Rattle.hash_lines.specs.Told.{AreTags, IsTag, Tells}
 use Rattle.hash_lines.proofs.OneLemmas.{line_one}
@@ -20,14 +20,14 @@ use Rattle.hash_sums.specs.declared.sum.Unsummed.TheVariants.{Unhashed, Unopened
 use Rattle.hash_sums.specs.Checking.{is_itself, is_not_found, is_skipped, verdict_on, IsLineCheck}
 use Rattle.hash_sums.specs.Files.{IsNumber, SumsFile}
 use Rattle.hash_sums.specs.Lists.{bare, AreLines}
-use Rattle.hash_sums.specs.Passed.{fails, HasHash, HasPassed, ListTells}
+use Rattle.hash_sums.specs.Passed.{fails, HasHash, HasPassed, LineTells, ListTells}
 use Rattle.hash_sums.specs.Program.{taken}
 use Rattle.hash_sums.proofs.NameLemmas.{some_same}
 use Rattle.hash_sums.specs.Sums.{is_named, kind_of, sum_by}
 
-module _ (kinds : List Kind) (checking : Checking) (opens : Opens) where
+module _ (kinds : List LineKind) (checking : Checking) (opens : Opens) where
   -- a verdict that does not fail its list
-  of_came : (entry : HashLine) (kind : Kind) (name : List ℕ) (number : ℕ) (came : Result ℕ Unsummed)
+  of_came : (entry : HashLine) (kind : LineKind) (name : List ℕ) (number : ℕ) (came : Result ℕ Unsummed)
       → fails checking.strict (Checked entry (verdict_on checking.ignore_missing number came)) ≡ false
       → SumsFile (opens name) (sum_by kind) came → HasHash checking opens kind name number
   of_came entry kind name number (Ok found) well (held, can, is) = at (found == number) refl well
@@ -48,7 +48,7 @@ module _ (kinds : List Kind) (checking : Checking) (opens : Opens) where
   of_came entry kind name number (Err (Unhashed why)) well cannot = absurd (false≢true (sym well))
 
   -- a line that tells this and does not fail its list
-  module _ (are : AreTags kinds checking.kind) (list : List ℕ) (kind : Kind) (name : List ℕ) (number : ℕ)
+  module _ (are : AreTags kinds checking.kind) (list : List ℕ) (kind : LineKind) (name : List ℕ) (number : ℕ)
       (of_another : is_itself list name ≡ false) where
     of_checked : (line : List ℕ) (entry : HashLine) (verdict : Verdict) → Tells kinds checking.kind kind name number line
         → IsLineCheck kinds checking opens list line (Checked entry verdict) → fails checking.strict (Checked entry verdict) ≡ false
@@ -76,39 +76,47 @@ module _ (kinds : List Kind) (checking : Checking) (opens : Opens) where
         absurd (none kind name number tells)
     of_line line (Checked entry verdict) tells no_comment came well = of_checked line entry verdict tells came well
 
-    -- what a list that passed tells
-    pub told_is_so : HasPassed kinds checking opens list → ListTells kinds checking opens list kind name number
-        → HasHash checking opens kind name number
-    told_is_so passed told =
-        let are_lines : map (λ line. line.0) passed.lines ≡ lines_by 10 told.text =
-        subst (λ held. AreLines held (map (λ line. line.0) passed.lines)) (told.holds passed.held passed.opened) passed.are_lines in
-        let (k, within, is) = subst (λ ls. Contains ls told.line) (sym are_lines) told.is_line in
-        let line : List ℕ × LineCheck = slice_index_or passed.lines k (told.line, Skipped) in
-        let below : k < length passed.lines = omega (arith, within, length-map passed.lines (λ (l : List ℕ × LineCheck). l.0)) in
-        let is_line : told.line ≡ line.0 = sym is ∙ get_or-map (λ (l : List ℕ × LineCheck). l.0) passed.lines k (told.line, Skipped) told.line below in
-        let bare_is : bare told.line ≡ bare line.0 = ap bare is_line in
-        of_line (bare line.0) line.1 (subst (λ l. Tells kinds checking.kind kind name number l) bare_is told.tells)
-        (subst (λ l. is_skipped l ≡ false) bare_is told.no_comment) (passed.came k (told.line, Skipped) below)
-        (passed.none_fails k (told.line, Skipped) below)
+  -- what a line that was read of a list tells that passed
+  pub line_is_so : AreTags kinds checking.kind → (list line : List ℕ) (kind : LineKind) (name : List ℕ) (number : ℕ)
+      → (passed : HasPassed kinds checking opens list) → Contains (map (λ line. line.0) passed.lines) line
+      → LineTells kinds checking list line kind name number → HasHash checking opens kind name number
+  line_is_so are list read kind name number passed (k, within, is) told =
+      let line : List ℕ × LineCheck = slice_index_or passed.lines k (read, Skipped) in
+      let below : k < length passed.lines = omega (arith, within, length-map passed.lines (λ (l : List ℕ × LineCheck). l.0)) in
+      let is_line : read ≡ line.0 = sym is ∙ get_or-map (λ (l : List ℕ × LineCheck). l.0) passed.lines k (read, Skipped) read below in
+      let bare_is : bare read ≡ bare line.0 = ap bare is_line in
+      of_line are list kind name number told.of_another (bare line.0) line.1
+      (subst (λ l. Tells kinds checking.kind kind name number l) bare_is told.tells)
+      (subst (λ l. is_skipped l ≡ false) bare_is told.no_comment) (passed.came k (read, Skipped) below)
+      (passed.none_fails k (read, Skipped) below)
+
+  -- what a list that passed tells
+  pub told_is_so : AreTags kinds checking.kind → (list : List ℕ) (kind : LineKind) (name : List ℕ) (number : ℕ)
+      → HasPassed kinds checking opens list → ListTells kinds checking opens list kind name number
+      → HasHash checking opens kind name number
+  told_is_so are list kind name number passed told =
+      let are_lines : map (λ line. line.0) passed.lines ≡ lines_by 10 told.text =
+      subst (λ held. AreLines held (map (λ line. line.0) passed.lines)) (told.holds passed.held passed.opened) passed.are_lines in
+      line_is_so are list told.line kind name number passed (subst (λ ls. Contains ls told.line) (sym are_lines) told.is_line) told.tells
 
 -- of the kinds that can be told, the one that is taken alone has a tag too
-pub taken_are_tags : (kinds : List Kind) (checking : Checking) → AreTags kinds checking.kind → Contains kinds checking.kind
+pub taken_are_tags : (kinds : List LineKind) (checking : Checking) → AreTags kinds checking.kind → Contains kinds checking.kind
     → AreTags (taken kinds checking) checking.kind
 taken_are_tags kinds checking are has = at checking.only
   where
-    one : (other : Kind) → Contains (checking.kind ∷ []) other → other ≡ checking.kind
+    one : (other : LineKind) → Contains (checking.kind ∷ []) other → other ≡ checking.kind
     one other (zero, below, is) = sym is
     one other (suc k, below, is) = absurd (omega (arith, below))
 
     at : (b : Bool) → AreTags (if b then checking.kind ∷ [] else kinds) checking.kind
     at false = are
     at true = record {
-      each = λ other inside. subst (λ (k : Kind). IsTag k.name.now) (sym (one other inside)) (are.each checking.kind has);
+      each = λ other inside. subst (λ (k : LineKind). IsTag k.name.now) (sym (one other inside)) (are.each checking.kind has);
       apart = λ other more inside too same. one other inside ∙ sym (one more too);
     }
 
 -- the kind of a name, or the first, is among them
-kind_found : (p : Kind → Bool) (kinds : List Kind) (kind : Kind) → find p kinds ≡ Some kind → Contains kinds kind
+kind_found : (p : LineKind → Bool) (kinds : List LineKind) (kind : LineKind) → find p kinds ≡ Some kind → Contains kinds kind
 kind_found p [] kind none = cc
 kind_found p (first ∷ more) kind is = at (p first) is (kind_found p more kind)
   where
@@ -117,7 +125,7 @@ kind_found p (first ∷ more) kind is = at (p first) is (kind_found p more kind)
     at true same later = (0, zero-lt-suc (length more), some_same same)
     at false rest later = let (k, below, there) = later rest in (suc k, omega (arith, below), there)
 
-pub kind_is_there : (kinds : List Kind) (name : Option (List ℕ)) (kind : Kind) → kind_of kinds name ≡ Some kind → Contains kinds kind
+pub kind_is_there : (kinds : List LineKind) (name : Option (List ℕ)) (kind : LineKind) → kind_of kinds name ≡ Some kind → Contains kinds kind
 kind_is_there [] None kind none = cc
 kind_is_there (first ∷ more) None kind is = (0, zero-lt-suc (length more), some_same is)
 kind_is_there kinds (Some name) kind is = kind_found (λ k. is_named name k.name.now) kinds kind is

@@ -1,19 +1,28 @@
 -- Checks that end well.
-use Rattle.std.specs.Prelude.{ℕ, ◌≡◌, All, List, Option, Some, map}
-use Rattle.hash_lines.specs.declared.line.Kind.{Kind}
-use Rattle.cli.specs.Call.{Saying, operands}
+use Rattle.std.specs.Prelude.{ℕ, ◌≡◌, All, List, Option, Some, None, map, codes}
+use Rattle.hash_lines.specs.declared.line.LineKind.{LineKind}
+use Rattle.cli.specs.Call.{Saying, operands, value_of}
 use Rattle.cli.specs.Files.{Opens, files_or}
-use Rattle.hash_sums.specs.Keys.{AreKeysFor}
+use Rattle.cli.specs.Frame.{request_of}
+use Rattle.cli.specs.declared.frame.Request.TheVariants.{Work}
+use Rattle.hash_sums.specs.Keys.{AreKeysFor, HasKeys}
 use Rattle.hash_sums.specs.Passed.{HasPassed}
-use Rattle.hash_sums.specs.Program.{asked, asks_for_siphash24, checking_of, key_file, kinds_under, taken}
+use Rattle.hash_sums.specs.Program.{asked, asks_for_siphash24, checking_of, key_file, kinds_under, misuse_of, taken}
 use Rattle.hash_sums.specs.Sums.{kind_of, told_of}
 
--- all lists of a call passed, by the hash that it asks for alone, or by all; those under keys by the keys in its key file
+-- nothing is wrong with a call, and all its lists passed, by the hash that it asks for alone, or by all; those under keys by the keys in
+-- its key file
 pub record HasEndedWell (opens : Opens) (call : List Saying) : Type 0 where
+  pub works : request_of call ≡ Work
+  pub no_misuse : misuse_of call ≡ None
   pub keys : Option (ℕ × ℕ)
   pub are_keys : AreKeysFor (asks_for_siphash24 call) opens (key_file call) keys
-  pub told : List Kind
+  pub told : List LineKind
   pub are_told : map told_of told ≡ kinds_under keys
-  pub kind : Kind
+  pub kind : LineKind
   pub is_asked : kind_of told (asked call) ≡ Some kind
   pub passed : All (HasPassed (taken told (checking_of call kind)) (checking_of call kind) opens) (files_or (operands call))
+
+-- a call gives a key file, which holds these keys
+abbrev pub GivesKeys : Opens → (call : List Saying) → ℕ × ℕ → Type 0
+GivesKeys opens call keys = (file : List ℕ) × (value_of (codes "key-file") call ≡ Some file) × HasKeys (opens file) keys

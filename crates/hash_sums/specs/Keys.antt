@@ -18,21 +18,16 @@ IsKeyText held keys = (between left : Option (List ℕ)) × IsKeyRead held betwe
 abbrev pub HasKeys : (opens : Result (Option (List ℕ)) Error → Type 0) → ℕ × ℕ → Type 0
 HasKeys opens keys = (held : Option (List ℕ)) × opens (Ok held) × IsKeyText held keys
 
--- these are the keys in a key file, if there is one
-abbrev pub AreKeysOf : Opens → (file : Option (List ℕ)) → (keys : Option (ℕ × ℕ)) → Type 0
-AreKeysOf opens None keys = keys ≡ None
-AreKeysOf opens (Some file) keys = (pair : ℕ × ℕ) × (keys ≡ Some pair) × HasKeys (opens file) pair
-
 -- two keys of poly61: neither is 0 modulo the prime, where all texts have one hash, and they differ there, so that they give two hashes
 abbrev pub ArePoly61Keys : ℕ × ℕ → Type 0
 ArePoly61Keys keys = (keys.0 % prime61 ≢ 0) × (keys.1 % prime61 ≢ 0) × (keys.0 % prime61 ≢ keys.1 % prime61)
 
--- these are the keys of poly61 in a key file, if there is one
-abbrev pub ArePoly61KeysOf : Opens → (file : Option (List ℕ)) → (keys : Option (ℕ × ℕ)) → Type 0
-ArePoly61KeysOf opens None keys = keys ≡ None
-ArePoly61KeysOf opens (Some file) keys = (pair : ℕ × ℕ) × (keys ≡ Some pair) × HasKeys (opens file) pair × ArePoly61Keys pair
+-- two keys that may be used: any two, or two of poly61
+abbrev pub MayBeKeys : (any : Bool) → ℕ × ℕ → Type 0
+MayBeKeys true keys = Unit {0}
+MayBeKeys false keys = ArePoly61Keys keys
 
--- these are the keys in a key file, if there is one: any two for siphash24, and else two of poly61
-abbrev pub AreKeysFor : (siphash24 : Bool) → Opens → (file : Option (List ℕ)) → (keys : Option (ℕ × ℕ)) → Type 0
-AreKeysFor true = AreKeysOf
-AreKeysFor false = ArePoly61KeysOf
+-- these are the keys in a key file, if there is one
+abbrev pub AreKeysFor : (any : Bool) → Opens → (file : Option (List ℕ)) → (keys : Option (ℕ × ℕ)) → Type 0
+AreKeysFor any opens None keys = keys ≡ None
+AreKeysFor any opens (Some file) keys = (pair : ℕ × ℕ) × (keys ≡ Some pair) × HasKeys (opens file) pair × MayBeKeys any pair

@@ -2,7 +2,7 @@
 use Rattle.std.specs.Prelude.{ℕ, ◌≡◌, ◌⊎◌, Bool, true, false, List, Option, Ok, Err, map, All, Any, Contains}
 use Rattle.std.specs.IoError.{error_kind}
 use Rattle.std.specs.declared.io.Error.{Error}
-use Rattle.hash_lines.specs.declared.line.Kind.{Kind}
+use Rattle.hash_lines.specs.declared.line.LineKind.{LineKind}
 use Rattle.hash_sums.specs.declared.check.LineCheck.{LineCheck}
 use Rattle.hash_sums.specs.declared.check.LineCheck.TheVariants.{Skipped, Improper, Checked}
 use Rattle.hash_sums.specs.declared.check.Checking.{Checking}
@@ -37,7 +37,7 @@ is_same (Checked entry Missing) = false
 is_same (Checked entry Unkeyed) = false
 
 -- the list of a name was opened and read to its end, none of its lines fails it, and one tells the hash that its file has
-pub record HasPassed (kinds : List Kind) (checking : Checking) (opens : Opens) (list : List ℕ) : Type 0 where
+pub record HasPassed (kinds : List LineKind) (checking : Checking) (opens : Opens) (list : List ℕ) : Type 0 where
   pub held : Option (List ℕ)
   pub opened : opens list (Ok held)
   pub lines : List (List ℕ × LineCheck)
@@ -46,19 +46,24 @@ pub record HasPassed (kinds : List Kind) (checking : Checking) (opens : Opens) (
   pub none_fails : All (λ line. fails checking.strict line.1 ≡ false) lines
   pub some_is_same : Any (λ line. is_same line.1 ≡ true) lines
 
--- the list of a name holds a line that tells the hash of a file, and is neither a comment nor of the list itself
-pub record ListTells (kinds : List Kind) (checking : Checking) (opens : Opens) (list : List ℕ) (kind : Kind) (name : List ℕ) (number : ℕ)
+-- a line of a list tells the hash of a file, and is neither a comment nor of the list itself
+pub record LineTells (kinds : List LineKind) (checking : Checking) (list line : List ℕ) (kind : LineKind) (name : List ℕ) (number : ℕ)
+    : Type 0 where
+  pub tells : Tells kinds checking.kind kind name number (bare line)
+  pub no_comment : is_skipped (bare line) ≡ false
+  pub of_another : is_itself list name ≡ false
+
+-- the list of a name holds such a line
+pub record ListTells (kinds : List LineKind) (checking : Checking) (opens : Opens) (list : List ℕ) (kind : LineKind) (name : List ℕ) (number : ℕ)
     : Type 0 where
   pub text : List ℕ
   pub holds : HoldsOnly (opens list) text
   pub line : List ℕ
   pub is_line : Contains (lines_by 10 text) line
-  pub tells : Tells kinds checking.kind kind name number (bare line)
-  pub no_comment : is_skipped (bare line) ≡ false
-  pub of_another : is_itself list name ≡ false
+  pub tells : LineTells kinds checking list line kind name number
 
 -- the file of a name was opened, and the text that was read of it has this hash; or it is not there, and such files are left out
-abbrev pub HasHash : Checking → Opens → Kind → (name : List ℕ) (number : ℕ) → Type 0
+abbrev pub HasHash : Checking → Opens → LineKind → (name : List ℕ) (number : ℕ) → Type 0
 HasHash checking opens kind name number =
     ((held : Option (List ℕ)) × opens name (Ok held) × IsNumber (sum_by kind) held number)
     ⊎ ((checking.ignore_missing ≡ true) × (error : Error) × opens name (Err error) × (is_not_found (error_kind error) ≡ true))

@@ -3,15 +3,15 @@ use Rattle.std.specs.Prelude.{ℕ, ◌≡◌, ◌||◌, ◌&&◌, ◌⊎◌, not
 use Rattle.std.specs.Io.KnownBytes.{Keeps}
 use Rattle.std.specs.Option.{option_or, unwrap_or}
 use Rattle.hash_lines.specs.declared.line.Form.TheVariants.{Tagged, Untagged}
-use Rattle.hash_lines.specs.declared.line.Kind.{Kind}
+use Rattle.hash_lines.specs.declared.line.LineKind.{LineKind}
 use Rattle.cli.specs.Call.{Choice, Saying, flag, given, operands, taking, value_of}
 use Rattle.cli.specs.Frame.{EndsRequest, request_of}
-use Rattle.streams.specs.declared.fault.Fault.{Fault}
-use Rattle.streams.specs.declared.fault.Fault.TheVariants.{NoMemory}
+use Rattle.streams.specs.declared.failure.Failure.{Failure}
+use Rattle.streams.specs.declared.failure.Failure.TheVariants.{NoMemory}
 use Rattle.cli.specs.declared.frame.Request.{Request}
 use Rattle.cli.specs.declared.frame.Request.TheVariants.{Work}
 use Rattle.cli.specs.declared.frame.Text.{Text}
-use Rattle.streams.specs.declared.fault.Nothing.{Nothing}
+use Rattle.streams.specs.declared.failure.Nothing.{Nothing}
 use Rattle.cli.specs.declared.outcome.Outcome.{Outcome}
 use Rattle.cli.specs.declared.outcome.Outcome.TheVariants.{Usage, Reported, Failed}
 use Rattle.cli.specs.declared.outcome.Wrong.{Wrong}
@@ -42,7 +42,7 @@ abbrev pub asked : (call : List Saying) → Option (List ℕ)
 asked call = option_or (value_of (codes "algorithm") call) (if given (codes "key-file") call then Some (codes "poly61") else None)
 
 -- how lines are checked by a hash
-abbrev pub checking_of : (call : List Saying) → Kind → Checking
+abbrev pub checking_of : (call : List Saying) → LineKind → Checking
 checking_of call kind = record {
   kind = kind;
   only = is_some (asked call);
@@ -55,7 +55,7 @@ checking_of call kind = record {
 }
 
 -- how files are summed by a hash
-abbrev pub summing_of : (call : List Saying) → Kind → Summing
+abbrev pub summing_of : (call : List Saying) → LineKind → Summing
 summing_of call kind = record {
   kind = kind;
   form = if given (codes "untagged") call then Untagged else Tagged;
@@ -100,35 +100,35 @@ misuse_of call =
     else None
 
 -- what is to be done by a hash
-abbrev pub work_of : (call : List Saying) → Kind → Task
+abbrev pub work_of : (call : List Saying) → LineKind → Task
 work_of call kind = if given (codes "check") call then task.Check (checking_of call kind) else task.Sum (summing_of call kind)
 
 -- the same, if nothing is wrong and there is such a hash
-abbrev pub work_by : (call : List Saying) → Option Misuse → Option Kind → Result Task (Wrong Misuse)
+abbrev pub work_by : (call : List Saying) → Option Misuse → Option LineKind → Result Task (Wrong Misuse)
 work_by call (Some misuse) kind = Err (Own misuse)
 work_by call None None = Err UnknownName
 work_by call None (Some kind) = Ok (work_of call kind)
 
 -- which work a call asks for
-abbrev pub task_of : List Kind → (call : List Saying) → Result Task (Wrong Misuse)
+abbrev pub task_of : List LineKind → (call : List Saying) → Result Task (Wrong Misuse)
 task_of kinds call = work_by call (misuse_of call) (kind_of kinds (asked call))
 
 -- the hashes whose lines are taken: the one that is asked for, or all
-abbrev pub taken : List Kind → Checking → List Kind
+abbrev pub taken : List LineKind → Checking → List LineKind
 taken kinds checking = if checking.only then checking.kind ∷ [] else kinds
 
 -- how a task ends over the files of these names; a wrong call writes nothing
-abbrev pub EndsTask : List Kind → Opens → (files : List (List ℕ)) (written written' : Option (List ℕ)) → Result Task (Wrong Misuse)
+abbrev pub EndsTask : List LineKind → Opens → (files : List (List ℕ)) (written written' : Option (List ℕ)) → Result Task (Wrong Misuse)
     → Outcome Misuse Nothing → Type 0
 EndsTask kinds opens files written written' (Ok (task.Sum summing)) result =
-    (ended : Result Bool (Fault Nothing)) × EndsSums summing opens files written written' ended × (result ≡ of_run ended)
+    (ended : Result Bool (Failure Nothing)) × EndsSums summing opens files written written' ended × (result ≡ of_run ended)
 EndsTask kinds opens files written written' (Ok (task.Check checking)) result =
-    (ended : Result Bool (Fault Nothing)) × EndsLists (taken kinds checking) checking opens files written written' ended
+    (ended : Result Bool (Failure Nothing)) × EndsLists (taken kinds checking) checking opens files written written' ended
     × (result ≡ of_run ended)
 EndsTask kinds opens files written written' (Err wrong) result = (result ≡ Usage wrong) × Keeps written written'
 
 -- how the program ends whose call says this
-abbrev pub EndsCall : List Kind → Opens → (call : List Saying) (texts : Text → List ℕ) (written written' : Option (List ℕ))
+abbrev pub EndsCall : List LineKind → Opens → (call : List Saying) (texts : Text → List ℕ) (written written' : Option (List ℕ))
     → Outcome Misuse Nothing → Type 0
 EndsCall kinds opens call texts written written' =
     EndsRequest (request_of call) texts (EndsTask kinds opens (files_or (operands call)) written written' (task_of kinds call))
@@ -155,7 +155,7 @@ kinds_under keys = kinds (Some (unwrap_or keys (0, 0)))
 abbrev pub EndsWithKeys : Opens → (call : List Saying) (texts : Text → List ℕ) (written written' : Option (List ℕ))
     → Outcome Misuse Nothing → Type 0
 EndsWithKeys opens call texts written written' result =
-    ((keys : Option (ℕ × ℕ)) × AreKeysFor (asks_for_siphash24 call) opens (key_file call) keys × (told : List Kind) × (map told_of told ≡ kinds_under keys)
+    ((keys : Option (ℕ × ℕ)) × AreKeysFor (asks_for_siphash24 call) opens (key_file call) keys × (told : List LineKind) × (map told_of told ≡ kinds_under keys)
     × EndsCall told opens call texts written written' result)
     ⊎ (IsSome (key_file call) × (result ≡ Reported) × Keeps written written')
     ⊎ EndsForMemory written written' result

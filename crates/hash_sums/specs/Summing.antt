@@ -3,8 +3,8 @@ use Rattle.std.specs.Prelude.{ℕ, ◌≡◌, if◌then◌else◌, not, Bool, Li
 use Rattle.std.specs.Io.KnownBytes.{Appends}
 use Rattle.hash_lines.specs.Line.{line_of}
 use Rattle.streams.specs.Streams.{AppendsPart}
-use Rattle.streams.specs.declared.fault.Fault.{Fault}
-use Rattle.streams.specs.declared.fault.Nothing.{Nothing}
+use Rattle.streams.specs.declared.failure.Failure.{Failure}
+use Rattle.streams.specs.declared.failure.Nothing.{Nothing}
 use Rattle.hash_sums.specs.declared.sum.Summing.{Summing}
 use Rattle.hash_sums.specs.declared.sum.Unsummed.{Unsummed}
 use Rattle.cli.specs.Files.{Opens}
@@ -30,7 +30,7 @@ IsSummed summing opens file = let sums = SumsFile (opens file.0) (sum_by summing
 
 -- how the line of a file is told: it was written, or a beginning of it, or the file failed
 abbrev pub EndsSum : Summing → Opens → (name : List ℕ) (written written' : Option (List ℕ))
-    → Result Bool (Fault Nothing) → Type 0
+    → Result Bool (Failure Nothing) → Type 0
 EndsSum summing opens name written written' (Ok read) = (number : Option ℕ) × IsSummed summing opens (name, number)
     × Appends written written' (line_told summing (name, number)) × (read ≡ is_some number)
 EndsSum summing opens name written written' (Err fault) = (number : Option ℕ) × IsSummed summing opens (name, number)
@@ -38,7 +38,7 @@ EndsSum summing opens name written written' (Err fault) = (number : Option ℕ) 
 
 -- how a run over the files of these names ends: their lines were written, in their order, or a beginning of them
 abbrev pub EndsSums : Summing → Opens → (names : List (List ℕ)) (written written' : Option (List ℕ))
-    → Result Bool (Fault Nothing) → Type 0
+    → Result Bool (Failure Nothing) → Type 0
 EndsSums summing opens names written written' (Ok whole) = (told : List (List ℕ × Option ℕ)) × AreTold (λ file. file.0)
     (IsSummed summing opens) (line_told summing) (λ file. is_some file.1) names told written written' whole
 EndsSums summing opens names written written' (Err fault) =

@@ -5,7 +5,7 @@ use Rattle.std.specs.List.{find, range_with_len}
 use Rattle.std.specs.Str.{bytes_eq}
 use Rattle.hash_keyed.specs.Poly61.{prime61}
 use Rattle.hash_keyed.specs.Poly61State.{poly61}
-use Rattle.hash_lines.specs.declared.line.Kind.{Kind as LineKind}
+use Rattle.hash_lines.specs.declared.line.LineKind.{LineKind}
 use Rattle.hash_lines.specs.declared.line.Width.{Width}
 use Rattle.hash_lines.specs.declared.line.Width.TheVariants.{Eight, Sixteen, ThirtyTwo}
 use Rattle.hash_names.specs.Named.{bits_of, name_of, named, read_of}

@@ -6,14 +6,14 @@ ghost use Rattle.hash_sums.specs.Lists.{bare, EndsLine, EndsList, EndsListOf, En
 ghost use Rattle.hash_sums.specs.Sums.{sum_by};
 ghost use Rattle.std.specs.Io.Buffered.{writer_contents};
 
-use crate::fault::Fault;
+use crate::failure::Failure;
 use crate::reports::Reports;
 use crate::sum::{Unsummed, error_of, number_of};
 use crate::sums::{is_keyed, is_named};
 use cli::folder::Folder;
 use hash_lines::escape::needs_escape;
 use hash_lines::forms::parse_form;
-use hash_lines::line::{Kind, push_name};
+use hash_lines::line::{LineKind, push_name};
 use hash_lines::parse::{HashLine, parse_line};
 use std::alloc::{AllocError, Global};
 use std::io;
@@ -29,7 +29,7 @@ const BUFFER: usize = 65536;
 #[derive(Clone, Copy)]
 pub struct Checking<'k> {
     /// By which hash lines that are not tagged are checked.
-    pub kind: Kind<'k>,
+    pub kind: LineKind<'k>,
     /// Whether lines by other hashes are improper.
     pub only: bool,
     /// Whether there are keys for lines of hashes that take them.
@@ -187,7 +187,7 @@ fn check_file<R: Read + Drop, F: Folder<R>>(
 }
 
 /// Whether a line by a hash needs keys, and there are none.
-fn lacks_keys(keyed: bool, kind: Kind<'_>) -> bool
+fn lacks_keys(keyed: bool, kind: LineKind<'_>) -> bool
     ensures { result ≡ lacks_keys keyed kind.entry }
 {
     !keyed && is_keyed(kind)
@@ -209,7 +209,7 @@ fn verdict_by<R: Read + Drop, F: Folder<R>>(
 }
 
 /// Whether lines of SFV files are taken in the list of that name.
-fn takes_sfv(kind: Kind<'_>, list: &[u8]) -> bool
+fn takes_sfv(kind: LineKind<'_>, list: &[u8]) -> bool
     ensures { result ≡ takes_sfv kind.entry list.now }
 {
     kind.name == "crc32" || is_named(b".sfv", &list[list.len().saturating_sub(4)..])
@@ -235,8 +235,8 @@ fn is_skipped(line: &[u8]) -> bool
 /// What a line tells: as one of ours, or else in another program's form.
 fn entry_of<'k>(
     alloc: Global,
-    kinds: &[Kind<'k>],
-    kind: Kind<'k>,
+    kinds: &[LineKind<'k>],
+    kind: LineKind<'k>,
     sfv: bool,
     line: &[u8],
 ) -> Result<Option<HashLine<'k>>, AllocError>
@@ -253,7 +253,7 @@ fn entry_of<'k>(
 fn check_line<'k, R: Read + Drop, F: Folder<R>>(
     alloc: Global,
     folder: &F,
-    kinds: &[Kind<'k>],
+    kinds: &[LineKind<'k>],
     checking: Checking<'k>,
     list: &[u8],
     line: &[u8],
@@ -336,23 +336,23 @@ fn without_end(line: &[u8]) -> &[u8]
 fn tell_line<'k, R: Read + Drop, F: Folder<R>, W: Write + Drop>(
     alloc: Global,
     folder: &F,
-    kinds: &[Kind<'k>],
+    kinds: &[LineKind<'k>],
     checking: Checking<'k>,
     list: &[u8],
     line: &[u8],
     w: &mut BufWriter<W>,
-) -> Result<LineCheck<'k>, Fault>
+) -> Result<LineCheck<'k>, Failure>
     ensures { EndsLine kinds.entry.now checking.entry (F.opens folder.now) list.now line.now
         (writer_contents W.contents w.old) (writer_contents W.contents w.new) result }
 {
     let text = without_end(line);
     let came = match check_line(alloc, folder, kinds, checking, list, text) {
         Ok(came) => came,
-        Err(_) => return Err(Fault::NoMemory),
+        Err(_) => return Err(Failure::NoMemory),
     };
     let said = match said(alloc, &came, checking.quiet, checking.status) {
         Ok(said) => said,
-        Err(_) => return Err(Fault::NoMemory),
+        Err(_) => return Err(Failure::NoMemory),
     };
     match write_out(w, &said) {
         Ok(()) => Ok(came),
@@ -375,12 +375,12 @@ const UNCOUNTED: Counts = Counts {
 fn check_lines<B: BufRead, R: Read + Drop, F: Folder<R> + Reports, W: Write + Drop>(
     alloc: Global,
     folder: &F,
-    kinds: &[Kind<'static>],
+    kinds: &[LineKind<'static>],
     checking: Checking<'static>,
     list: &[u8],
     lines: &mut B,
     w: &mut BufWriter<W>,
-) -> Result<Option<Counts>, Fault>
+) -> Result<Option<Counts>, Failure>
     ensures { EndsList kinds.now checking.entry (F.opens folder.now) list.now (B.remaining lines.old)
         (writer_contents W.contents w.old) (writer_contents W.contents w.new) result }
 {
@@ -419,18 +419,18 @@ fn warn<F: Reports>(reports: &F, warn: bool, list: &[u8], number: u64, came: &Li
 fn check_list<R: Read + Drop, F: Folder<R> + Reports, W: Write + Drop>(
     alloc: Global,
     folder: &F,
-    kinds: &[Kind<'static>],
+    kinds: &[LineKind<'static>],
     checking: Checking<'static>,
     list: &[u8],
     w: &mut BufWriter<W>,
-) -> Result<bool, Fault>
+) -> Result<bool, Failure>
     ensures { EndsListOf kinds.now checking.entry (F.opens folder.now) list.now
         (writer_contents W.contents w.old) (writer_contents W.contents w.new) result }
 {
     let mut lines = match folder.open(list) {
         Ok(file) => match BufReader::with_capacity(alloc, BUFFER, file) {
             Ok(lines) => lines,
-            Err(_) => return Err(Fault::NoMemory),
+            Err(_) => return Err(Failure::NoMemory),
         },
         Err(error) => {
             folder.failed(list, &error);
@@ -451,11 +451,11 @@ fn check_list<R: Read + Drop, F: Folder<R> + Reports, W: Write + Drop>(
 pub fn check_lists<R: Read + Drop, F: Folder<R> + Reports, W: Write + Drop>(
     alloc: Global,
     folder: &F,
-    kinds: &[Kind<'static>],
+    kinds: &[LineKind<'static>],
     checking: Checking<'static>,
     lists: &[&[u8]],
     w: &mut BufWriter<W>,
-) -> Result<bool, Fault>
+) -> Result<bool, Failure>
     ensures { EndsLists kinds.now checking.entry (F.opens folder.now) (map (λ list. list.now) lists.now)
         (writer_contents W.contents w.old) (writer_contents W.contents w.new) result }
 {

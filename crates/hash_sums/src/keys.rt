@@ -2,7 +2,7 @@
 ghost use Rattle.std.specs.Prelude.{◌<◌, ◌≤◌, IfOk, IfSome, IsSome, MatchOption};
 ghost use Rattle.std.specs.Option.{option_map};
 ghost use Rattle.hash_names.specs.Limited.{Hashes, read};
-ghost use Rattle.hash_sums.specs.Keys.{AreKeysOf, ArePoly61Keys, ArePoly61KeysOf, HasKeys, IsKeyRead, IsKeyText};
+ghost use Rattle.hash_sums.specs.Keys.{AreKeysFor, HasKeys, IsKeyRead, IsKeyText, MayBeKeys};
 ghost use Rattle.hash_sums.specs.Sums.{poly61_at_both, siphash24_at};
 
 use cli::folder::Folder;
@@ -113,11 +113,14 @@ pub fn keys_of<R: Read + Drop, F: Folder<R>>(folder: &F, name: &[u8]) -> Option<
     }
 }
 
-/// What is wrong with two keys as those of poly61, if something is.
-fn fault_of(keys: (u64, u64)) -> Option<&'static str>
-    ensures { MatchOption result (ArePoly61Keys keys) (λ words. ¬ (ArePoly61Keys keys)) }
+/// What is wrong with two keys, if something is: nothing if any two may be used, and else what is wrong with them as those of poly61.
+fn fault_of(any: bool, keys: (u64, u64)) -> Option<&'static str>
+    ensures { MatchOption result (MayBeKeys any keys) (λ words. ¬ (MayBeKeys any keys)) }
 {
     let (first, second) = (keys.0 % PRIME61, keys.1 % PRIME61);
+    if any {
+        return None;
+    }
     if first == 0 || second == 0 {
         return Some("a key is 0 modulo 2^61 - 1; make others");
     }
@@ -127,52 +130,24 @@ fn fault_of(keys: (u64, u64)) -> Option<&'static str>
     None
 }
 
-/// The two keys of poly61 in the file of that name. `None` if it has none, or no two such keys, which is told.
-fn poly61_keys_of<R: Read + Drop, F: Folder<R>>(folder: &F, name: &[u8]) -> Option<(u64, u64)>
-    ensures { IfSome result (λ keys. HasKeys (F.opens folder.now name.now) keys × ArePoly61Keys keys) }
-{
-    match keys_of(folder, name) {
-        Some(keys) => match fault_of(keys) {
-            None => Some(keys),
-            Some(words) => {
-                folder.failed(name, &Error::new(ErrorKind::InvalidData, words));
-                None
-            }
-        },
-        None => None,
-    }
-}
-
-/// The keys of poly61 in a key file, if there is one. `None` if it has none, or no two such keys, which is told.
-pub fn poly61_keys_for<R: Read + Drop, F: Folder<R>>(
-    folder: &F,
-    file: Option<&[u8]>,
-) -> Option<Option<(u64, u64)>>
-    ensures { let file = option_map (λ name. name.now) file.entry in
-        MatchOption result (IsSome file) (ArePoly61KeysOf (F.opens folder.now) file) }
-{
-    match file {
-        None => Some(None),
-        Some(file) => match poly61_keys_of(folder, file) {
-            Some(keys) => Some(Some(keys)),
-            None => None,
-        },
-    }
-}
-
-/// The keys in a key file, if there is one. `None` if it has none, which is told.
+/// The keys in a key file, if there is one: any two, or two of poly61. `None` if it has none such, which is told.
 pub fn keys_for<R: Read + Drop, F: Folder<R>>(
     folder: &F,
     file: Option<&[u8]>,
+    any: bool,
 ) -> Option<Option<(u64, u64)>>
     ensures { let file = option_map (λ name. name.now) file.entry in
-        MatchOption result (IsSome file) (AreKeysOf (F.opens folder.now) file) }
+        MatchOption result (IsSome file) (AreKeysFor any (F.opens folder.now) file) }
 {
-    match file {
-        None => Some(None),
-        Some(file) => match keys_of(folder, file) {
-            Some(keys) => Some(Some(keys)),
-            None => None,
-        },
+    let Some(name) = file else {
+        return Some(None);
+    };
+    let keys = keys_of(folder, name)?;
+    match fault_of(any, keys) {
+        None => Some(Some(keys)),
+        Some(words) => {
+            folder.failed(name, &Error::new(ErrorKind::InvalidData, words));
+            None
+        }
     }
 }

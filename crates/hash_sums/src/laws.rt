@@ -8,7 +8,7 @@ ghost use Rattle.cli.specs.Frame.{request_of};
 ghost use Rattle.cli.specs.Outcome.{status_of};
 ghost use Rattle.cli.specs.declared.frame.Request.TheVariants.{Work};
 ghost use Rattle.cli.specs.declared.frame.Text.{Text};
-ghost use Rattle.streams.specs.declared.fault.Nothing.{Nothing};
+ghost use Rattle.streams.specs.declared.failure.Nothing.{Nothing};
 ghost use Rattle.cli.specs.declared.outcome.Outcome.{Outcome};
 ghost use Rattle.hashers.specs.DifferWithin.{DifferAtOnePlace, DifferWithin};
 ghost use Rattle.hashers.specs.Fx.{words32, words64};
@@ -16,7 +16,7 @@ ghost use Rattle.hashers.specs.Text.{IsText};
 ghost use Rattle.hash_windows.specs.DifferWithin.{DifferInOneBlock};
 ghost use Rattle.block_laws.specs.Xxh32Words.{DifferInOneWord};
 ghost use Rattle.hash_keyed.specs.Poly61.{prime61, word_count, ArePairs};
-ghost use Rattle.hash_lines.specs.declared.line.Kind.{Kind as LineKind};
+ghost use Rattle.hash_lines.specs.declared.line.LineKind.{LineKind};
 ghost use Rattle.hash_lines.specs.declared.line.Form.{Form};
 ghost use Rattle.hash_lines.specs.Told.{AreTags, MayBeTold, Tells};
 ghost use Rattle.hash_more.specs.Bursts.{DifferWithinBits};
@@ -25,14 +25,15 @@ ghost use Rattle.hash_sums.specs.declared.check.Verdict.TheVariants.{Same};
 ghost use Rattle.hash_sums.specs.declared.outcome.Misuse.{Misuse};
 ghost use Rattle.hash_sums.specs.declared.outcome.Task.TheVariants.{Check};
 ghost use Rattle.hash_sums.specs.Checking.{IsVerdict, TellsAny};
-ghost use Rattle.hash_sums.specs.Ended.{HasEndedWell};
+ghost use Rattle.hash_sums.specs.Ended.{GivesKeys, HasEndedWell};
+ghost use Rattle.hash_sums.specs.Keys.{ArePoly61Keys};
 ghost use Rattle.hash_sums.specs.Laws.{DifferAtOneWord, HoldsOnly, NeverPasses};
 ghost use Rattle.hash_sums.specs.Lists.{EndsLists};
-ghost use Rattle.hash_sums.specs.Passed.{HasHash, HasPassed, ListTells};
+ghost use Rattle.hash_sums.specs.Passed.{HasHash, HasPassed, LineTells, ListTells};
 ghost use Rattle.hash_sums.specs.Program.{asks_for_poly61, asks_for_siphash24, checking_of, taken, EndsTask, EndsWithKeys};
 ghost use Rattle.hash_names.specs.Named.{bits_of, hash_of, read_of};
 ghost use Rattle.hash_lines.specs.Line.{digits_of, line_of};
-ghost use Rattle.hash_sums.specs.Sums.{kind_of, kinds, name_in, number_named, poly61_at_both, siphash24_at, sum_by, sum_of, takes_keys, told_of, width_in, Told};
+ghost use Rattle.hash_sums.specs.Sums.{is_named, kind_of, kinds, name_in, number_named, poly61_at_both, siphash24_at, sum_by, sum_of, takes_keys, told_of, width_in, Told};
 ghost use Rattle.hash_names.specs.declared.table.Kind.{Kind};
 ghost use Rattle.hash_sums.specs.declared.sums.Sum.{Sum};
 
@@ -75,11 +76,11 @@ pub fn kinds_are_tags()
     tags_by_their_names();
 }
 
-/// Each hash that a line can tell is found by its name.
+/// Each hash that a line can tell is found by its name, in letters of either case.
 pub fn each_name_is_found()
     ensures { (keys : Option (ℕ × ℕ)) (told : List LineKind) → map told_of told ≡ kinds keys
-        → (hash : Told) → Contains (kinds keys) hash
-        → (kind : LineKind) × (kind_of told (Some hash.name) ≡ Some kind) × (told_of kind ≡ hash) }
+        → (hash : Told) → Contains (kinds keys) hash → (word : List ℕ) → is_named word hash.name ≡ true
+        → (kind : LineKind) × (kind_of told (Some word) ≡ Some kind) × (told_of kind ≡ hash) }
 {}
 
 /// The hash of each text, in one call and as it is read, is below 2 to the power of the bits that the table has of it.
@@ -227,8 +228,9 @@ pub fn a_check_that_ends_well<R: Read, F: Folder<R>>()
         → status_of outcome ≡ 0 → All (HasPassed (taken kinds checking) checking (F.opens folder)) lists }
 {}
 
-/// The same of a call with `-c`: its lists passed, with lines of the hash alone that `-a` or a key file asks for, and of all hashes without
-/// these. Lines of poly61 and siphash24 are under the keys in the key file; those of poly61 are none that pass every file.
+/// The same of a call with `-c`: nothing else is wrong with it, and its lists passed, with lines of the hash alone that `-a` or a key file
+/// asks for, and of all hashes without these. Lines of poly61 and siphash24 are under the keys in the key file; those of poly61 are none
+/// that pass every file.
 pub fn a_call_that_ends_well<R: Read, F: Folder<R>>()
     ensures { (folder : F) (call : List Saying) (texts : Text → List ℕ) (written written' : Option (List ℕ))
         (outcome : Outcome Misuse Nothing) → request_of call ≡ Work → given (codes "check") call ≡ true
@@ -237,10 +239,15 @@ pub fn a_call_that_ends_well<R: Read, F: Folder<R>>()
 {}
 
 /// What a list that passed tells of a file, in a line of ours, is so: the file was opened, and the text that was read of it has the hash,
-/// or it is not there and such files are left out. The hashes that can be told have tags, no two the same. It speaks of lists whose
-/// text the folder tells, and so of none on the disk.
+/// or it is not there and such files are left out. The hashes that can be told have tags, no two the same. `read` speaks of the lines
+/// that were read of a list, `told` of lists whose text the folder tells, and so of none on the disk.
 pub fn what_a_list_tells_is_so<R: Read, F: Folder<R>>()
-    ensures { (folder : F) (kinds : List LineKind) (checking : Checking)
+    ensures read { (folder : F) (kinds : List LineKind) (checking : Checking)
+        (list : List ℕ) (kind : LineKind) (name : List ℕ) (number : ℕ) → AreTags kinds checking.kind
+        → (passed : HasPassed kinds checking (F.opens folder) list) (line : List ℕ)
+        → Contains (map (λ line. line.0) passed.lines) line → LineTells kinds checking list line kind name number
+        → HasHash checking (F.opens folder) kind name number }
+    ensures told { (folder : F) (kinds : List LineKind) (checking : Checking)
         (list : List ℕ) (kind : LineKind) (name : List ℕ) (number : ℕ)
         → AreTags kinds checking.kind → HasPassed kinds checking (F.opens folder) list
         → ListTells kinds checking (F.opens folder) list kind name number
@@ -264,14 +271,14 @@ pub fn lines_of_one_hash()
         → TellsAny sfv (kind ∷ []) kind other name number line → other ≡ kind }
 {}
 
-/// Where poly61 or siphash24 is asked for, the hash of each line is that at the keys in the key file.
+/// Where poly61 or siphash24 is asked for, there is a key file, and the hash of each line is that at the keys in it.
 pub fn lines_under_the_keys<R: Read, F: Folder<R>>()
     ensures poly61 { (folder : F) (call : List Saying) → asks_for_poly61 call ≡ true
-        → (ended : HasEndedWell (F.opens folder) call) → (keys : ℕ × ℕ) → ended.keys ≡ Some keys
-        → sum_by ended.kind ≡ poly61_at_both keys }
+        → (ended : HasEndedWell (F.opens folder) call) → (keys : ℕ × ℕ) × GivesKeys (F.opens folder) call keys
+        × ArePoly61Keys keys × (sum_by ended.kind ≡ poly61_at_both keys) }
     ensures siphash24 { (folder : F) (call : List Saying) → asks_for_siphash24 call ≡ true
-        → (ended : HasEndedWell (F.opens folder) call) → (keys : ℕ × ℕ) → ended.keys ≡ Some keys
-        → sum_by ended.kind ≡ siphash24_at keys }
+        → (ended : HasEndedWell (F.opens folder) call) → (keys : ℕ × ℕ) × GivesKeys (F.opens folder) call keys
+        × (sum_by ended.kind ≡ siphash24_at keys) }
 {}
 
 /// What a check by a hash is proved to see in a file of the same length, by these laws, in words.

@@ -3,7 +3,7 @@
 
 pub mod check;
 pub mod disk;
-mod fault;
+mod failure;
 pub mod keys;
 pub mod laws;
 pub mod outcome;
@@ -11,4 +11,4 @@ pub mod reports;
 pub mod sum;
 pub mod sums;
 
-pub use fault::Fault;
+pub use failure::Failure;

@@ -3,7 +3,7 @@ ghost use Rattle.std.specs.Prelude.{◌≡◌, ◌⊎◌, map, IfOk, IsSome, Mat
 ghost use Rattle.std.specs.Option.{option_map};
 ghost use Rattle.std.specs.Io.Buffered.{writer_contents};
 ghost use Rattle.std.specs.Io.KnownBytes.{Keeps};
-ghost use Rattle.streams.specs.declared.fault.Fault.TheVariants.{NoMemory};
+ghost use Rattle.streams.specs.declared.failure.Failure.TheVariants.{NoMemory};
 ghost use Rattle.cli.specs.declared.outcome.Outcome.TheVariants.{Failed};
 ghost use Rattle.cli.specs.Call.{call_of, choices, sayings, texts};
 ghost use Rattle.cli.specs.Frame.{text_of};
@@ -12,8 +12,8 @@ ghost use Rattle.hash_sums.specs.Lists.{EndsLists};
 ghost use Rattle.hash_sums.specs.Program.{asked, asks_for, asks_for_keyed, asks_for_siphash24, checking_of, gives_checking, gives_writing, key_file, misuse_of, options, summing_of, taken, task_of, words_of, work_of, EndsCall, EndsTask, EndsWithKeys};
 
 use crate::check::{Checking, check_lists};
-use crate::fault::Fault;
-use crate::keys::{keys_for, poly61_keys_for};
+use crate::failure::Failure;
+use crate::keys::keys_for;
 use crate::reports::Reports;
 use crate::sum::{Summing, sum_files};
 use crate::sums::{is_named, kind_of, kinds};
@@ -22,10 +22,10 @@ use cli::folder::{Folder, files};
 use cli::frame::{About, Request, request_of, text_of};
 use cli::outcome;
 use cli::outcome::{Words, of_run, of_telling};
-use hash_lines::line::{Form, Kind};
+use hash_lines::line::{Form, LineKind};
 use std::alloc::{AllocError, Global};
 use std::io::{BufWriter, Read, Write};
-use streams::fault::Nothing;
+use streams::failure::Nothing;
 use streams::tries::write_out;
 
 /// The work that a call asks for.
@@ -145,7 +145,7 @@ fn asked<'a>(call: &Call<'a>) -> Option<&'a [u8]>
 }
 
 /// How lines are checked.
-fn checking_of(call: &Call<'_>, kind: Kind<'static>) -> Checking<'static>
+fn checking_of(call: &Call<'_>, kind: LineKind<'static>) -> Checking<'static>
     ensures { result ≡ checking_of (sayings call.now.said.items) kind.entry }
 {
     Checking {
@@ -161,7 +161,7 @@ fn checking_of(call: &Call<'_>, kind: Kind<'static>) -> Checking<'static>
 }
 
 /// How files are summed.
-fn summing_of(call: &Call<'_>, kind: Kind<'static>) -> Summing
+fn summing_of(call: &Call<'_>, kind: LineKind<'static>) -> Summing
     ensures { result ≡ summing_of (sayings call.now.said.items) kind.entry }
 {
     Summing {
@@ -232,7 +232,7 @@ fn misuse_of(call: &Call<'_>) -> Option<Misuse>
 }
 
 /// What is to be done by a hash of this kind.
-fn work_of(call: &Call<'_>, kind: Kind<'static>) -> Task
+fn work_of(call: &Call<'_>, kind: LineKind<'static>) -> Task
     ensures { result ≡ work_of (sayings call.now.said.items) kind.entry }
 {
     if call.gives(b"check") {
@@ -243,7 +243,7 @@ fn work_of(call: &Call<'_>, kind: Kind<'static>) -> Task
 }
 
 /// Which work a call asks for.
-fn task_of(kinds: &[Kind<'static>], call: &Call<'_>) -> Result<Task, Wrong>
+fn task_of(kinds: &[LineKind<'static>], call: &Call<'_>) -> Result<Task, Wrong>
     ensures { result ≡ task_of kinds.now (sayings call.now.said.items) }
 {
     if let Some(misuse) = misuse_of(call) {
@@ -259,11 +259,11 @@ fn task_of(kinds: &[Kind<'static>], call: &Call<'_>) -> Result<Task, Wrong>
 fn check_taken<R: Read + Drop, F: Folder<R> + Reports, W: Write + Drop>(
     alloc: Global,
     folder: &F,
-    kinds: &[Kind<'static>],
+    kinds: &[LineKind<'static>],
     checking: Checking<'static>,
     lists: &[&[u8]],
     w: &mut BufWriter<W>,
-) -> Result<bool, Fault>
+) -> Result<bool, Failure>
     ensures { EndsLists (taken kinds.now checking.entry) checking.entry (F.opens folder.now)
         (map (λ list. list.now) lists.now)
         (writer_contents W.contents w.old) (writer_contents W.contents w.new) result }
@@ -278,7 +278,7 @@ fn check_taken<R: Read + Drop, F: Folder<R> + Reports, W: Write + Drop>(
 fn ended<R: Read + Drop, F: Folder<R> + Reports, W: Write + Drop>(
     alloc: Global,
     folder: &F,
-    kinds: &[Kind<'static>],
+    kinds: &[LineKind<'static>],
     files: &[&[u8]],
     task: Result<Task, Wrong>,
     w: &mut BufWriter<W>,
@@ -298,7 +298,7 @@ fn ended<R: Read + Drop, F: Folder<R> + Reports, W: Write + Drop>(
 pub fn outcome_of<R: Read + Drop, F: Folder<R> + Reports, W: Write + Drop>(
     alloc: Global,
     folder: &F,
-    kinds: &[Kind<'static>],
+    kinds: &[LineKind<'static>],
     call: &Call<'_>,
     about: About<'_>,
     w: &mut BufWriter<W>,
@@ -313,7 +313,7 @@ pub fn outcome_of<R: Read + Drop, F: Folder<R> + Reports, W: Write + Drop>(
         Request::Text(text) => of_telling(write_out(w, text_of(&about, text))),
         Request::Work => match files(alloc, call) {
             Ok(files) => ended(alloc, folder, kinds, &files, task_of(kinds, call), w),
-            Err(_) => Outcome::Failed(Fault::NoMemory),
+            Err(_) => Outcome::Failed(Failure::NoMemory),
         },
     }
 }
@@ -338,12 +338,7 @@ fn keys_of_call<R: Read + Drop, F: Folder<R>>(
         MatchOption result (IsSome (key_file said))
         (AreKeysFor (asks_for_siphash24 said) (F.opens folder.now) (key_file said)) }
 {
-    let file = key_file(call);
-    if asks_for(call, b"siphash24") {
-        keys_for(folder, file)
-    } else {
-        poly61_keys_for(folder, file)
-    }
+    keys_for(folder, key_file(call), asks_for(call, b"siphash24"))
 }
 
 /// Does what the call asks for, by the hashes that can be told, and by those that take keys under the keys of its key file. If the
@@ -363,7 +358,7 @@ pub fn outcome_with_keys<R: Read + Drop, F: Folder<R> + Reports, W: Write + Drop
         None => Outcome::Reported,
         Some(keys) => match kinds(alloc, Some(keys.unwrap_or((0, 0)))) {
             Ok(kinds) => outcome_of(alloc, folder, &kinds, call, about, w),
-            Err(_) => Outcome::Failed(Fault::NoMemory),
+            Err(_) => Outcome::Failed(Failure::NoMemory),
         },
     }
 }

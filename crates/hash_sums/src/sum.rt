@@ -7,10 +7,10 @@ ghost use Rattle.hash_sums.specs.Files.{SumsFile};
 ghost use Rattle.hash_sums.specs.Summing.{EndsSum, EndsSums, sum_line};
 ghost use Rattle.hash_sums.specs.Sums.{sum_by};
 
-use crate::fault::Fault;
+use crate::failure::Failure;
 use crate::sums::number_by;
 use cli::folder::Folder;
-use hash_lines::line::{Form, Kind, push_line};
+use hash_lines::line::{Form, LineKind, push_line};
 use hash_names::reading::Unhashed;
 use std::alloc::{AllocError, Global};
 use std::io::{BufWriter, Error, ErrorKind, Read, Write};
@@ -20,7 +20,7 @@ use streams::tries::write_out;
 #[derive(Clone, Copy)]
 pub struct Summing {
     /// By which hash.
-    pub kind: Kind<'static>,
+    pub kind: LineKind<'static>,
     /// In lines of which form.
     pub form: Form,
     /// Whether lines end with a zero byte and have no escapes.
@@ -55,7 +55,7 @@ pub(crate) fn error_of(unsummed: Unsummed) -> Error {
 /// The number of the file of that name, by a hash.
 pub fn number_of<R: Read + Drop, F: Folder<R>>(
     folder: &F,
-    kind: Kind<'_>,
+    kind: LineKind<'_>,
     name: &[u8],
 ) -> Result<u128, Unsummed>
     ensures { SumsFile (F.opens folder.now name.now) (sum_by kind.entry) result }
@@ -98,7 +98,7 @@ fn tell_sum<W: Write + Drop>(
     name: &[u8],
     number: u128,
     w: &mut BufWriter<W>,
-) -> Result<(), Fault>
+) -> Result<(), Failure>
     ensures ok { OnOk result (Appends (writer_contents W.contents w.old) (writer_contents W.contents w.new)
         (sum_line summing name.now number)) }
     ensures err { OnErr result (AppendsPart (writer_contents W.contents w.old) (writer_contents W.contents w.new)
@@ -106,7 +106,7 @@ fn tell_sum<W: Write + Drop>(
 {
     match sum_line(alloc, summing, name, number) {
         Ok(line) => write_out(w, &line),
-        Err(_) => Err(Fault::NoMemory),
+        Err(_) => Err(Failure::NoMemory),
     }
 }
 
@@ -117,7 +117,7 @@ fn sum_file<R: Read + Drop, F: Folder<R>, W: Write + Drop>(
     summing: Summing,
     name: &[u8],
     w: &mut BufWriter<W>,
-) -> Result<bool, Fault>
+) -> Result<bool, Failure>
     ensures { EndsSum summing (F.opens folder.now) name.now
         (writer_contents W.contents w.old) (writer_contents W.contents w.new) result }
 {
@@ -140,7 +140,7 @@ pub fn sum_files<R: Read + Drop, F: Folder<R>, W: Write + Drop>(
     summing: Summing,
     names: &[&[u8]],
     w: &mut BufWriter<W>,
-) -> Result<bool, Fault>
+) -> Result<bool, Failure>
     ensures { EndsSums summing (F.opens folder.now) (map (λ name. name.now) names.now)
         (writer_contents W.contents w.old) (writer_contents W.contents w.new) result }
 {

@@ -10,7 +10,7 @@ ghost use Rattle.hash_sums.specs.Sums.{is_named, kind_of, kinds, name_in, sum_at
 
 use crate::keys::{hash_of_poly61, hash_of_siphash24};
 use hash_keyed::pair::poly61_pair;
-use hash_lines::line::{Kind as LineKind, Width};
+use hash_lines::line::{LineKind, Width};
 use hash_murmur3::Murmur3Hasher128;
 use hash_names::reading::{BUFFER, PIECE, Unhashed, hash_by, hash_of_wide};
 use hash_names::table::{Kind, by_kind};

@@ -107,7 +107,8 @@ impl Piecewise for ByteSum {
 
     ghost fresh_in_range = { lit< tt };
 
-    ghost after_in_range = { bytewise.after_below byte_sum_step 256 byte_sum_from (λ s text known. refl) byte_sum_facts.in_range };
+    ghost after_in_range = { bytewise.after_below byte_sum_step 256 byte_sum_from (λ s text known. refl)
+        byte_sum_facts.in_range };
 
     ghost after_nothing = { λ s known. refl };
 }
@@ -119,11 +120,14 @@ impl Streamed for ByteSum {
 
     ghost hash_from = { λ from text. byte_sum_from (slice_index from 0) text };
 
-    ghost stands_at_start = { bytewise.stands_at_start byte_sum_step 256 byte_sum_from (λ s text known. refl) 0 (lit< tt) };
+    ghost stands_at_start = { bytewise.stands_at_start byte_sum_step 256 byte_sum_from (λ s text known. refl) 0
+        (lit< tt) };
 
-    ghost stands_after = { bytewise.stands_after byte_sum_step 256 byte_sum_from (λ s text known. refl) byte_sum_facts.in_range };
+    ghost stands_after = { bytewise.stands_after byte_sum_step 256 byte_sum_from (λ s text known. refl)
+        byte_sum_facts.in_range };
 
-    ghost after_joined = { bytewise.after_joined byte_sum_step 256 byte_sum_from (λ s text known. refl) byte_sum_facts.in_range };
+    ghost after_joined = { bytewise.after_joined byte_sum_step 256 byte_sum_from (λ s text known. refl)
+        byte_sum_facts.in_range };
 
     ghost hash_from_start = { λ text bytes. refl };
 
@@ -161,11 +165,13 @@ impl ByteStep for ByteSum {
         self.sum = self.sum.wrapping_sub(byte);
     }
 
-    ghost in_steps = { bytewise.in_steps byte_sum_step 256 byte_sum_from (λ s text known. refl) byte_sum_facts.in_range };
+    ghost in_steps = { bytewise.in_steps byte_sum_step 256 byte_sum_from (λ s text known. refl)
+        byte_sum_facts.in_range };
 
     ghost byte_injective = { bytewise.byte_injective byte_sum_step 256 byte_sum_from (λ s text known. refl)
         byte_sum_facts.item_injective };
 
-    ghost stands_at_own_start = { λ h known. bytewise.stands_at_start byte_sum_step 256 byte_sum_from (λ s text known. refl)
+    ghost stands_at_own_start = { λ h known. bytewise.stands_at_start byte_sum_step 256 byte_sum_from
+        (λ s text known. refl)
         h known h refl };
 }

@@ -15,7 +15,8 @@ pub struct Server<'a> {
 
 /// The hash of such a key: that of the name's bytes, 0xFF, and the bytes of the two numbers, the lowest first.
 pub fn hash_of_server<H: Streamed>(key: Server) -> u64
-    ensures { result ≡ H.hash_of (key.entry.name.now ++ 0xFF ∷ (le_bytes 2 key.entry.port ++ le_bytes 8 key.entry.owner)) }
+    ensures { result
+        ≡ H.hash_of (key.entry.name.now ++ 0xFF ∷ (le_bytes 2 key.entry.port ++ le_bytes 8 key.entry.owner)) }
 {
     string_is_a_text(key.name);
     hash_one_joined::<H, Server>(key)

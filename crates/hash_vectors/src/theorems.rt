@@ -13,12 +13,12 @@ ghost use Rattle.hash_bloom.specs.Filter.{IsEmpty};
 ghost use Rattle.hash_cuts.specs.Cuts.{HasSizes};
 ghost use Rattle.hash_keyed.specs.Poly61.{prime61};
 ghost use Rattle.hash_keyed.specs.Poly61State.{poly61};
-ghost use Rattle.hash_lines.specs.declared.line.Kind.{Kind};
+ghost use Rattle.hash_lines.specs.declared.line.LineKind.{LineKind};
 ghost use Rattle.hash_sums.specs.Ended.{HasEndedWell};
 ghost use Rattle.hash_sums.specs.Passed.{HasHash, ListTells};
 ghost use Rattle.hash_sums.specs.Program.{checking_of, taken, EndsWithKeys};
 ghost use Rattle.hash_sums.specs.declared.outcome.Misuse.{Misuse};
-ghost use Rattle.streams.specs.declared.fault.Nothing.{Nothing};
+ghost use Rattle.streams.specs.declared.failure.Nothing.{Nothing};
 ghost use Rattle.text_set.specs.Texts.{StandsAt, with_text};
 
 use cli::folder::Folder;
@@ -102,7 +102,7 @@ pub fn checked_files_are_as_told<R: Read, F: Folder<R>>()
         (outcome : Outcome Misuse Nothing) → request_of call ≡ Work → given (codes "check") call ≡ true
         → EndsWithKeys (F.opens folder) call texts written written' outcome → status_of outcome ≡ 0
         → (ended : HasEndedWell (F.opens folder) call)
-        × ((list : List ℕ) (kind : Kind) (name : List ℕ) (number : ℕ) → Contains (files_or (operands call)) list
+        × ((list : List ℕ) (kind : LineKind) (name : List ℕ) (number : ℕ) → Contains (files_or (operands call)) list
         → let checking = checking_of call ended.kind in
         ListTells (taken ended.told checking) checking (F.opens folder) list kind name number
         → HasHash checking (F.opens folder) kind name number) }

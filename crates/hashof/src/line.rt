@@ -6,7 +6,7 @@ ghost use Rattle.hashof.specs.Running.{IsOfWrite, WritesLine};
 
 use crate::run::RunFault;
 use std::io::Write;
-use streams::fault::{Fault, Nothing};
+use streams::failure::{Failure, Nothing};
 use streams::tries::write_all;
 
 /// The most bytes of a line: twenty digits and a newline.
@@ -30,12 +30,12 @@ fn put_line(number: u64, line: &mut [u8; LINE]) -> &[u8]
 }
 
 /// What a failed write tells, as the fault of a run.
-fn fault_of_write(fault: Fault<Nothing>) -> RunFault
+fn fault_of_write(fault: Failure<Nothing>) -> RunFault
     requires { IsUnwritten fault }
     ensures { IsOfWrite result }
 {
     match fault {
-        Fault::Unwritten(error) => RunFault::WriteFault(error),
+        Failure::Unwritten(error) => RunFault::WriteFault(error),
         _ => unreachable!(),
     }
 }

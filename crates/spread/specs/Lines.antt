@@ -2,7 +2,7 @@
 use Rattle.std.specs.Prelude.{ℕ, suc, ◌≡◌, ◌++◌, ◌∷◌, [], if◌then◌else◌, ◌==◌, Bool, true, false, List, Option, Some, None, MatchOption, codes, decimal, map, replicate}
 use Rattle.hash_names.specs.Named.{name_of}
 use Rattle.hash_spread.specs.Table.{row_numbers}
-use Rattle.hash_spread.specs.declared.rows.Row.{Row}
+use Rattle.hash_spread.specs.declared.rows.TableRow.{TableRow}
 use Rattle.hash_spread.specs.declared.sizes.Sizes.{Sizes}
 use Rattle.spread.specs.declared.table.Column.{Column}
 use Rattle.spread.specs.declared.table.Frame.{Frame}
@@ -30,7 +30,7 @@ abbrev pub counted : (count : ℕ) (thing : List ℕ) → List ℕ
 counted count thing = decimal count ++ (32 ∷ (thing ++ (if count == 1 then [] else 115 ∷ [])))
 
 -- the cells of a row: its hash's name, and its numbers
-abbrev pub row_cells : Row → List (List ℕ)
+abbrev pub row_cells : TableRow → List (List ℕ)
 row_cells row = name_of row.kind ∷ map decimal (row_numbers row.kind row.counts)
 
 -- what stands above the numbers of the buckets
@@ -71,5 +71,5 @@ abbrev pub IsHead : Frame → (head : List ℕ) → Type 0
 IsHead frame head = (above line : List ℕ) × IsLine (groups frame) above × IsLine (heads frame) line × (above ++ line ≡ head)
 
 -- the line of a row; behind its numbers stands a time if it was measured
-abbrev pub IsRow : Row → (line : List ℕ) → Type 0
+abbrev pub IsRow : TableRow → (line : List ℕ) → Type 0
 IsRow row line = MatchOption row.time (IsLine (row_cells row) line) (λ time. (shown : List ℕ) × IsLine (row_cells row ++ shown ∷ []) line)

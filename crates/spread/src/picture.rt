@@ -2,7 +2,7 @@
 use crate::table::{Frame, counted, digits};
 use hash_spread::chance::{Chance, nearest};
 use hash_spread::counts::Spread;
-use hash_spread::rows::Row;
+use hash_spread::rows::TableRow;
 use std::alloc::{AllocError, Global};
 
 /// From green, for a number near chance or below, to red.
@@ -157,7 +157,7 @@ fn draw_group(
 }
 
 /// The picture of the rows.
-pub fn picture(alloc: Global, frame: &Frame, rows: &[Row]) -> Result<String, AllocError> {
+pub fn picture(alloc: Global, frame: &Frame, rows: &[TableRow]) -> Result<String, AllocError> {
     let wide = width_of(frame);
     let groups = if frame.sizes.second.is_some() { 2 } else { 1 };
     let (width, height) = (x_of(groups, wide), y_of(rows.len()).saturating_add(30));

@@ -3,7 +3,7 @@ ghost use Rattle.std.specs.Prelude.{◌≡◌, ◌++◌, ◌∷◌, [], IfOk, On
 ghost use Rattle.spread.specs.Lines.{AddsCell, AddsCells, IsHead, IsLine, IsRow, bucket_heads, counted, groups, heads, in_buckets, names, number_heads};
 
 use hash_spread::chance::{Chance, equal_pairs};
-use hash_spread::rows::Row;
+use hash_spread::rows::TableRow;
 use hash_spread::sizes::Sizes;
 use std::alloc::{AllocError, Global};
 
@@ -76,7 +76,8 @@ impl Line {
 
     /// Puts a cell into each column.
     fn push_cells(&mut self, cells: &[String], columns: &[Column]) -> Result<(), AllocError>
-        ensures { OnOk result (AddsCells (string_bytes self.old.text) (map string_bytes cells.now) (string_bytes self.new.text)) }
+        ensures { OnOk result (AddsCells (string_bytes self.old.text) (map string_bytes cells.now)
+            (string_bytes self.new.text)) }
     {
         for (place, cell) in cells.iter().enumerate() {
             let width = match columns.get(place) {
@@ -90,7 +91,8 @@ impl Line {
 
     /// Puts its name into each column.
     fn push_names(&mut self, columns: &[Column]) -> Result<(), AllocError>
-        ensures { OnOk result (AddsCells (string_bytes self.old.text) (names columns.now) (string_bytes self.new.text)) }
+        ensures { OnOk result (AddsCells (string_bytes self.old.text) (names columns.now)
+            (string_bytes self.new.text)) }
     {
         for column in columns {
             self.push(column.name, column.width)?;
@@ -230,7 +232,7 @@ impl Frame {
     }
 
     /// The line of a row.
-    pub fn row(&self, alloc: Global, row: &Row) -> Result<String, AllocError>
+    pub fn row(&self, alloc: Global, row: &TableRow) -> Result<String, AllocError>
         ensures { IfOk result (λ line. IsRow row.now (string_bytes line)) }
     {
         let mut line = Line::new(alloc, row.kind.row().name)?;
@@ -263,8 +265,8 @@ impl Frame {
     }
 
     /// The fastest hasher of those whose sum of squares lies within three standard deviations of chance, at each number of buckets.
-    pub fn best<'r>(&self, rows: &'r [Row]) -> Option<&'r Row> {
-        let mut best: Option<&'r Row> = None;
+    pub fn best<'r>(&self, rows: &'r [TableRow]) -> Option<&'r TableRow> {
+        let mut best: Option<&'r TableRow> = None;
         for row in rows {
             if self.is_even(row) && is_faster(row, best) {
                 best = Some(row);
@@ -274,7 +276,7 @@ impl Frame {
     }
 
     /// Whether the sum of squares lies within three standard deviations of chance, at each number of buckets.
-    fn is_even(&self, row: &Row) -> bool {
+    fn is_even(&self, row: &TableRow) -> bool {
         for spread in [Some(row.counts.first), row.counts.second] {
             if let Some(spread) = spread {
                 if !Chance::of(self.keys, spread.buckets).is_near(spread.squares) {
@@ -287,7 +289,7 @@ impl Frame {
 }
 
 /// Whether a row has a time, and the other has none or a longer one.
-fn is_faster(row: &Row, other: Option<&Row>) -> bool {
+fn is_faster(row: &TableRow, other: Option<&TableRow>) -> bool {
     let (Some(time), Some(other)) = (row.time, other) else {
         return row.time.is_some();
     };

@@ -2,6 +2,6 @@
 //! were interrupted. `rehearsal` is for tests alone.
 #![tactic(auto)]
 
-pub mod fault;
+pub mod failure;
 pub mod rehearsal;
 pub mod tries;

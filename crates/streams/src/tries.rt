@@ -4,7 +4,7 @@ ghost use Rattle.std.specs.Io.Buffered.{writer_buffer, writer_contents};
 ghost use Rattle.std.specs.Io.KnownBytes.{Appends, Consumes, IsAtEnd, Keeps};
 ghost use Rattle.streams.specs.Streams.{AppendsPart, IsUnwritten, WritesOut};
 
-use crate::fault::Fault;
+use crate::failure::Failure;
 use std::io;
 use std::io::{BufWriter, ErrorKind, Read, Write};
 
@@ -34,7 +34,7 @@ pub fn read_some<R: Read>(r: &mut R, room: &mut [u8], tries: u32) -> io::Result<
 
 /// Writes all of the bytes, and tries up to so many times again where a write was interrupted. After a fault a beginning of them was
 /// written.
-pub fn write_all<W: Write, Own>(w: &mut W, bytes: &[u8], tries: u32) -> Result<(), Fault<Own>>
+pub fn write_all<W: Write, Own>(w: &mut W, bytes: &[u8], tries: u32) -> Result<(), Failure<Own>>
     ensures ok { OnOk result (Appends (W.contents w.old) (W.contents w.new) bytes.now) }
     ensures err { OnErr result (AppendsPart (W.contents w.old) (W.contents w.new) bytes.now) }
     ensures unwritten { IfErr result IsUnwritten }
@@ -43,11 +43,11 @@ pub fn write_all<W: Write, Own>(w: &mut W, bytes: &[u8], tries: u32) -> Result<(
     let mut left = tries;
     while !rest.is_empty() {
         match w.write(rest) {
-            Ok(0) => return Err(Fault::Unwritten(None)),
+            Ok(0) => return Err(Failure::Unwritten(None)),
             Ok(n) => rest = &rest[n..],
             Err(error) => {
                 if left == 0 || error.kind() != ErrorKind::Interrupted {
-                    return Err(Fault::Unwritten(Some(error)));
+                    return Err(Failure::Unwritten(Some(error)));
                 }
                 left -= 1;
             }
@@ -57,7 +57,7 @@ pub fn write_all<W: Write, Own>(w: &mut W, bytes: &[u8], tries: u32) -> Result<(
 }
 
 /// Flushes the writer, so that nothing is held back, and tries up to so many times again where that was interrupted.
-pub fn flush<W: Write + Drop, Own>(w: &mut BufWriter<W>, tries: u32) -> Result<(), Fault<Own>>
+pub fn flush<W: Write + Drop, Own>(w: &mut BufWriter<W>, tries: u32) -> Result<(), Failure<Own>>
     ensures kept { Keeps (writer_contents W.contents w.old) (writer_contents W.contents w.new) }
     ensures flushed { OnOk result (writer_buffer w.new ≡ []) }
     ensures unwritten { IfErr result IsUnwritten }
@@ -68,7 +68,7 @@ pub fn flush<W: Write + Drop, Own>(w: &mut BufWriter<W>, tries: u32) -> Result<(
             Ok(()) => return Ok(()),
             Err(error) => {
                 if left == 0 || error.kind() != ErrorKind::Interrupted {
-                    return Err(Fault::Unwritten(Some(error)));
+                    return Err(Failure::Unwritten(Some(error)));
                 }
             }
         }
@@ -77,7 +77,10 @@ pub fn flush<W: Write + Drop, Own>(w: &mut BufWriter<W>, tries: u32) -> Result<(
 }
 
 /// Writes all of the bytes and flushes, each tried again where it was interrupted. After a fault a beginning of them was written.
-pub fn write_out<W: Write + Drop, Own>(w: &mut BufWriter<W>, bytes: &[u8]) -> Result<(), Fault<Own>>
+pub fn write_out<W: Write + Drop, Own>(
+    w: &mut BufWriter<W>,
+    bytes: &[u8],
+) -> Result<(), Failure<Own>>
     ensures { WritesOut bytes.now (writer_contents W.contents w.old) (writer_contents W.contents w.new) result }
 {
     write_all(w, bytes, TRIES)?;

@@ -1,5 +1,5 @@
 -- Inputs, one behind the other.
-use Rattle.std.proofs.Common.{◌≡◌, ℕ, ◌+◌, ◌<◌, ◌&&◌, Bool, true, List, [], ◌∷◌, ◌++◌, length, map, set, get_or, take, drop, Option, None, Some, ap, sym, ◌∙◌, refl, subst, take-append-drop, length-append, arith}
+use Rattle.std.proofs.Common.{◌≡◌, ℕ, ◌+◌, ◌<◌, ◌≤◌, ◌&&◌, Bool, true, List, [], ◌∷◌, ◌++◌, length, map, set, get_or, take, drop, Option, None, Some, ap, sym, ◌∙◌, refl, subst, take-append-drop, length-append, arith}
 use Rattle.std.specs.Io.KnownBytes.{Appends, Keeps}
 use Rattle.std.proofs.KnownBytes.{Appends-kept, Appends-nil}
 use Rattle.std.proofs.lemmas.Bool.{and_parts, false≢true}
@@ -14,7 +14,7 @@ use Rattle.unique_lines.specs.Inputs.{AreRead, ReadsInput}
 use Rattle.unique_lines.specs.Inputs.AreRead.{behind, none}
 use Rattle.text_set.specs.Lines.{lines_by}
 use Rattle.unique_lines.specs.Running.{AllBeginWith, NextBeginsWith, Run, WritesPart}
-use Rattle.unique_lines.specs.Taking.{At, BeginWith, Broke, Leads}
+use Rattle.unique_lines.specs.Taking.{At, BeginWith, BreaksInput, Broke, HasMore, Leads}
 
 -- ---- the first lines of inputs
 
@@ -26,10 +26,14 @@ module _ {eol : ℕ} where
       record { done = _; done' = _; ended = _; before = _; read = read; more = more; is = is; now = now; next = next; lines = lines }
 
   -- a fault before any input is read
-  pub part_at_start : (output : List (List ℕ) → List ℕ) (lefts : List (Option (List ℕ))) (w w' : Option (List ℕ))
-      → output [] ≡ [] → Keeps w w' → (ls : List (List ℕ)) × AllBeginWith eol lefts ls × AppendsPart w w' (output ls)
-  part_at_start output lefts w w' nothing keeps =
-      ([], all_begin lefts lefts [] [] none refl (next lefts) refl, ([], [], sym nothing, Appends-kept _ _ _ _ (Appends-nil w) keeps))
+  pub part_at_start : (limit : ℕ) (output : List (List ℕ) → List ℕ) (lefts : List (Option (List ℕ))) (w w' : Option (List ℕ))
+      → output [] ≡ [] → Keeps w w' → (ls : List (List ℕ)) × AllBeginWith eol lefts ls × AppendsPart w w' (output ls) × (length ls ≤ limit)
+  part_at_start limit output lefts w w' nothing keeps = (
+    [],
+    all_begin lefts lefts [] [] none refl (next lefts) refl,
+    ([], [], sym nothing, Appends-kept _ _ _ _ (Appends-nil w) keeps),
+    omega arith,
+  )
     where
       next : (lefts : List (Option (List ℕ))) → NextBeginsWith eol lefts []
       next [] = refl
@@ -94,25 +98,41 @@ module _ {R : Type 0} {remaining : R → Option (List ℕ)} {output : List (List
           (ap (map remaining) (sym (take-append-drop place inputs)) ∙ map-append remaining (take place inputs) (drop place inputs))
           (subst (λ xs. NextBeginsWith eol (map remaining xs) now) (sym (drop-cons inputs' place d below') ∙ so_far.rest) begins) refl
 
-      -- a fault in the next input
-      pub part_within : {w'' : Option (List ℕ)} (now : List (List ℕ)) → BeginWith eol (remaining (get_or inputs' place d)) now
-          → Leads (At output taken w') (Broke output w'') now
-          → (ls : List (List ℕ)) × AllBeginWith eol (map remaining inputs) ls × AppendsPart w w'' (output ls)
-      part_within now begins breaks = (so_far.ls ++ now, begins_next now begins, breaks.on w so_far.ls so_far.at)
+      -- a beginning of what is due of the next input was written
+      pub part_within : {w'' : Option (List ℕ)}
+          → BreaksInput (At output taken w') (Broke output w'') eol most (remaining (get_or inputs' place d))
+          → (ls : List (List ℕ)) × AllBeginWith eol (map remaining inputs) ls × AppendsPart w w'' (output ls) × (length ls ≤ limit)
+      part_within (now, begins, breaks, few) = (
+        so_far.ls ++ now,
+        begins_next now begins,
+        breaks.on w so_far.ls so_far.at,
+        omega (arith, so_far.counted, few, length-append so_far.ls now),
+      )
 
       -- the next input has more lines than may be taken
-      pub part_beyond : (now : List (List ℕ)) → BeginWith eol (remaining (get_or inputs' place d)) now → most < length now
+      pub part_beyond : HasMore eol most (remaining (get_or inputs' place d))
           → (ls : List (List ℕ)) × AllBeginWith eol (map remaining inputs) ls × (limit < length ls)
-      part_beyond now begins over =
+      part_beyond (now, begins, over) =
           (so_far.ls ++ now, begins_next now begins, omega (arith, so_far.counted, over, length-append so_far.ls now))
 
 -- ---- what is written once all lines are taken
 
--- a beginning of nothing is nothing, and so a beginning of anything
-pub part_silent : (output : List (List ℕ) → List ℕ) (eol : ℕ) (run : Run) → WritesPart (λ ls. []) eol run → WritesPart output eol run
-part_silent output eol run (ls, begins, (part, rest, is, appends)) =
+-- a beginning of nothing is nothing
+pub silent_keeps : (eol limit : ℕ) (run : Run) → WritesPart (λ ls. []) eol limit run → Keeps run.written run.written'
+silent_keeps eol limit run (ls, begins, (part, rest, is, appends), few) =
     let nothing : part ≡ [] = nil_from_length part (omega (arith, ap length is, length-append part rest)) in
-    (ls, begins, ([], output ls, refl, subst (Appends run.written run.written') nothing appends))
+    kept run.written run.written' (subst (Appends run.written run.written') nothing appends)
+  where
+    kept : (w w' : Option (List ℕ)) → Appends w w' [] → Keeps w w'
+    kept None w' nothing = tt
+    kept (Some bytes) None nothing = nothing
+    kept (Some bytes) (Some bytes') same = same ∙ append-nil bytes
+
+-- and so a beginning of anything
+pub part_silent : (output : List (List ℕ) → List ℕ) (eol limit : ℕ) (run : Run) → WritesPart (λ ls. []) eol limit run → WritesPart output eol limit run
+part_silent output eol limit run writes =
+    let (ls, begins, part, few) = writes in
+    (ls, begins, ([], output ls, refl, Appends-kept _ _ _ _ (Appends-nil run.written) (silent_keeps eol limit run writes)), few)
 
 -- ---- inputs that are read to their ends
 

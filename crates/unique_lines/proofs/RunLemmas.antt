@@ -10,7 +10,7 @@ use Rattle.streams.proofs.StreamLemmas.{part_whole}
 use Rattle.unique_lines.specs.Between.{Filled, Splits, Takes}
 use Rattle.text_set.specs.Lines.{IsBare, IsLineEnd, lines_by}
 use Rattle.unique_lines.specs.Inputs.{ReadsInput, whole_lines}
-use Rattle.unique_lines.specs.Taking.{At, BeginWith, Broke, EndsInput, Grows, Leads, LeavesInput}
+use Rattle.unique_lines.specs.Taking.{At, BeginWith, BreaksInput, Broke, EndsInput, Grows, HasMore, Leads, LeavesInput}
 use Rattle.unique_lines.specs.declared.run.Left.{Left}
 use Rattle.unique_lines.specs.declared.run.Left.TheVariants.{Done, Failed, Beyond}
 use Rattle.unique_lines.specs.declared.unread.NextLine.{NextLine}
@@ -177,13 +177,19 @@ module _ {eol limit : ℕ} {left left' : Option (List ℕ)} {unread : List ℕ} 
     lines = sym (whole_are reads.splits bare);
   }
 
+  -- a beginning of what is due of these lines and some that come next was written
+  pub breaks_within : {before broke : Standing} {more : List (List ℕ)} {rest : List ℕ} → Splits eol unread more rest
+      → length more ≤ most → Leads before broke (ls ++ more) → BreaksInput before broke eol limit left
+  breaks_within {more = more} splits few breaks =
+      (_, next_lines splits, breaks, omega (arith, reads.counted, few, length-append ls more))
+
   -- where no more may be taken and bytes are left, there are more lines
-  pub more_left : most ≡ 0 → 0 < length unread → (more : List (List ℕ)) × BeginWith eol left (ls ++ more) × (limit < length (ls ++ more))
+  pub more_left : most ≡ 0 → 0 < length unread → HasMore eol limit left
   more_left none some =
       let (later, first) = begins eol left left' reads.bytes reads.read in
       let more = lines_by eol (unread ++ later) in
       let line : 0 < length more = some_line eol (unread ++ later) (omega (arith, some, length-append unread later)) in (
-        more,
+        ls ++ more,
         first (ls ++ more) [] (reads.splits.splits later ∙ sym (append-nil _)),
         omega (arith, reads.counted, none, line, length-append ls more),
       )
@@ -199,10 +205,12 @@ module _ {eol limit : ℕ} {left left' : Option (List ℕ)} {unread : List ℕ} 
   )
   ends_left c broke most' (Failed error) ended leads wrong = absurd wrong
   ends_left c broke most' Beyond ended leads (breaks, over) = (
-    ls ++ lines_by eol unread,
-    begins_all eol left left' _ (reads_to_end ended),
-    leads_both leads breaks,
-    omega (arith, reads.counted, over, length-append ls (lines_by eol unread)),
+    breaks_within (splits_nowhere unread) (omega arith) (leads_both leads breaks),
+    (
+      _,
+      begins_all eol left left' _ (reads_to_end ended),
+      omega (arith, reads.counted, over, length-append ls (lines_by eol unread)),
+    ),
   )
 
 -- what is left when a line may still be taken, or nothing is left, has no end

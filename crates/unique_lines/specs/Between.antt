@@ -6,7 +6,7 @@ use Rattle.std.specs.List.{filter}
 use Rattle.text_set.specs.Lines.{lines_by, IsBare, IsLineEnd}
 use Rattle.unique_lines.specs.declared.ahead.Found.{Found}
 use Rattle.unique_lines.specs.declared.unread.NextLine.{NextLine}
-use Rattle.unique_lines.specs.declared.unread.NextLine.TheVariants.{Line, End, Fault}
+use Rattle.unique_lines.specs.declared.unread.NextLine.TheVariants.{Line, End, Failure}
 
 -- the first line of the bytes: how many bytes its text has, and a guess for this
 pub record IsFound (eol : ℕ) (tag_of : List ℕ → ℕ) (bytes : List ℕ) (found : Found) : Type 0 where
@@ -27,12 +27,7 @@ pub record Splits (eol : ℕ) (bytes : List ℕ) (ls : List (List ℕ)) (rest : 
 abbrev pub IsNextLine : (eol : ℕ) (text unread : List ℕ) (left : Option (List ℕ)) → NextLine → Type 0
 IsNextLine eol text unread left Line = ¬ IsBare eol unread
 IsNextLine eol text unread left End = IsBare eol text × IsAtEnd left
-IsNextLine eol text unread left (Fault error) = IsBare eol text
-
--- so many bytes were read, and stand behind those before them; none were at the end alone
-abbrev pub ReadsBehind : (before after : List ℕ) (left left' : Option (List ℕ)) → ℕ → Type 0
-ReadsBehind before after left left' n =
-    (text : List ℕ) × (after ≡ before ++ text) × (length text ≡ n) × Consumes left left' text × (n ≡ 0 → IsAtEnd left')
+IsNextLine eol text unread left (Failure error) = IsBare eol text
 
 -- some bytes more were read
 pub record Filled (eol : ℕ) (unread unread' : List ℕ) (left left' : Option (List ℕ)) (came : NextLine) : Type 0 where

@@ -2,16 +2,16 @@
 use Rattle.std.specs.Prelude.{ℕ, ◌≡◌, ◌||◌, if◌then◌else◌, List, [], ◌∷◌, Some, None, Result, Ok, Err, codes}
 use Rattle.cli.specs.Call.{Choice, Saying, flag, given}
 use Rattle.cli.specs.Frame.{EndsRequest, request_of, text_of}
-use Rattle.streams.specs.declared.fault.Fault.{Fault}
-use Rattle.streams.specs.declared.fault.Fault.TheVariants.{Own}
-use Rattle.streams.specs.declared.fault.Nothing.{Nothing}
+use Rattle.streams.specs.declared.failure.Failure.{Failure}
+use Rattle.streams.specs.declared.failure.Failure.TheVariants.{Own}
+use Rattle.streams.specs.declared.failure.Nothing.{Nothing}
 use Rattle.cli.specs.declared.outcome.Outcome.{Outcome}
 use Rattle.cli.specs.declared.outcome.Outcome.TheVariants.{Done, Reported, Failed}
 use Rattle.text_set.specs.Firsts.{once_by}
 use Rattle.unique_lines.specs.Running.{Ends, Run}
 use Rattle.unique_lines.specs.Tallies.{told}
-use Rattle.unique_lines.specs.declared.fault.TooMany.{TooMany}
-use Rattle.unique_lines.specs.declared.fault.TooMany.TheVariants as too_many
+use Rattle.unique_lines.specs.declared.failure.TooMany.{TooMany}
+use Rattle.unique_lines.specs.declared.failure.TooMany.TheVariants as too_many
 use Rattle.unique_lines.specs.declared.run.Ended.{Ended}
 use Rattle.unique_lines.specs.declared.run.Ended.TheVariants.{Whole, InputFailed, TooManyLines}
 use Rattle.unique_lines.specs.declared.outcome.Task.{Task}
@@ -41,7 +41,7 @@ work_of call = if (which_of call).counts || (which_of call).repeated || (which_o
     (eol_of call) else Once (eol_of call)
 
 -- what came of a run
-abbrev pub of_run : Result Ended (Fault TooMany) → Outcome Nothing TooMany
+abbrev pub of_run : Result Ended (Failure TooMany) → Outcome Nothing TooMany
 of_run (Ok Whole) = Done
 of_run (Ok InputFailed) = Reported
 of_run (Ok TooManyLines) = Failed (Own too_many.Lines)
@@ -49,7 +49,7 @@ of_run (Err fault) = Failed fault
 
 -- how a run ends that is to write what `output` makes of the lines of its inputs, of at most so many
 abbrev pub EndsRun : (output : List (List ℕ) → List ℕ) (eol limit : ℕ) → Run → Outcome Nothing TooMany → Type 0
-EndsRun output eol limit run result = (ended : Result Ended (Fault TooMany)) × Ends output eol limit run ended × (result ≡ of_run ended)
+EndsRun output eol limit run result = (ended : Result Ended (Failure TooMany)) × Ends output eol limit run ended × (result ≡ of_run ended)
 
 -- how a task ends
 abbrev pub EndsTask : Task → ℕ → Run → Outcome Nothing TooMany → Type 0

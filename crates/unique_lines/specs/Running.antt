@@ -4,8 +4,8 @@ use Rattle.std.specs.Io.KnownBytes.{Appends}
 use Rattle.streams.specs.Streams.{AppendsPart}
 use Rattle.unique_lines.specs.Inputs.{AreRead}
 use Rattle.unique_lines.specs.Taking.{BeginWith}
-use Rattle.streams.specs.declared.fault.Fault.{Fault}
-use Rattle.unique_lines.specs.declared.fault.TooMany.{TooMany}
+use Rattle.streams.specs.declared.failure.Failure.{Failure}
+use Rattle.unique_lines.specs.declared.failure.TooMany.{TooMany}
 use Rattle.unique_lines.specs.declared.run.Ended.{Ended}
 use Rattle.unique_lines.specs.declared.run.Ended.TheVariants.{Whole, InputFailed, TooManyLines}
 
@@ -58,18 +58,19 @@ abbrev pub WritesAll : (output : List (List ℕ) → List ℕ) (after : List (Li
 WritesAll output after eol ended limit run =
     (ls : List (List ℕ)) × IsWithin eol ended limit run ls × Appends run.written run.written' (output ls) × after ls
 
--- a beginning of what is due of the first lines of the inputs was written
-abbrev pub WritesPart : (output : List (List ℕ) → List ℕ) (eol : ℕ) → Run → Type 0
-WritesPart output eol run = (ls : List (List ℕ)) × AllBeginWith eol run.left ls × AppendsPart run.written run.written' (output ls)
+-- a beginning of what is due of the first lines of the inputs was written, of no more than the limit
+abbrev pub WritesPart : (output : List (List ℕ) → List ℕ) (eol limit : ℕ) → Run → Type 0
+WritesPart output eol limit run =
+    (ls : List (List ℕ)) × AllBeginWith eol run.left ls × AppendsPart run.written run.written' (output ls) × (length ls ≤ limit)
 
 -- how a run ends that writes what `output` makes of the lines of its inputs, of at most so many
 abbrev pub EndsTaking : (output : List (List ℕ) → List ℕ) (after : List (List ℕ) → Type 0) (eol limit : ℕ) → Run
-    → Result Ended (Fault TooMany) → Type 0
+    → Result Ended (Failure TooMany) → Type 0
 EndsTaking output after eol limit run (Ok Whole) = WritesAll output after eol true limit run
 EndsTaking output after eol limit run (Ok InputFailed) = WritesAll output after eol false limit run
-EndsTaking output after eol limit run (Ok TooManyLines) = WritesPart output eol run × IsBeyond eol limit run
-EndsTaking output after eol limit run (Err fault) = WritesPart output eol run
+EndsTaking output after eol limit run (Ok TooManyLines) = WritesPart output eol limit run × IsBeyond eol limit run
+EndsTaking output after eol limit run (Err fault) = WritesPart output eol limit run
 
 -- the same where only what is written counts
-abbrev pub Ends : (output : List (List ℕ) → List ℕ) (eol limit : ℕ) → Run → Result Ended (Fault TooMany) → Type 0
+abbrev pub Ends : (output : List (List ℕ) → List ℕ) (eol limit : ℕ) → Run → Result Ended (Failure TooMany) → Type 0
 Ends output = EndsTaking output (λ ls. Unit {0})

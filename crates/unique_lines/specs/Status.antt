@@ -1,7 +1,7 @@
 -- The program's own faults.
 use Rattle.std.specs.Prelude.{ℕ, List, codes}
-use Rattle.unique_lines.specs.declared.fault.TooMany.{TooMany}
-use Rattle.unique_lines.specs.declared.fault.TooMany.TheVariants.{Texts, Lines}
+use Rattle.unique_lines.specs.declared.failure.TooMany.{TooMany}
+use Rattle.unique_lines.specs.declared.failure.TooMany.TheVariants.{Texts, Lines}
 
 -- what each says on standard error
 abbrev pub words_of : TooMany → List ℕ

@@ -1,5 +1,5 @@
 -- What comes of lines that are taken one after the other: how the task stands, and what is written.
-use Rattle.std.specs.Prelude.{ℕ, ◌≡◌, ◌<◌, ◌+◌, true, false, Option, List, ◌++◌, IfSome, length}
+use Rattle.std.specs.Prelude.{ℕ, ◌≡◌, ◌<◌, ◌≤◌, ◌+◌, true, false, Option, List, [], ◌++◌, IfSome, length}
 use Rattle.std.specs.Io.KnownBytes.{Appends}
 use Rattle.streams.specs.Streams.{AppendsPart}
 use Rattle.unique_lines.specs.Inputs.{ReadsInput}
@@ -29,12 +29,20 @@ pub record Leads (before after : (start : Option (List ℕ)) → List (List ℕ)
 abbrev pub BeginWith : (eol : ℕ) (left : Option (List ℕ)) → List (List ℕ) → Type 0
 BeginWith eol left ls = IfSome left (λ bytes. (later : List (List ℕ)) × (lines_by eol bytes ≡ ls ++ later))
 
--- the last lines of an input are taken, and counted off; or there are more of them than may be taken
+-- the lines of an input begin with these, of which a beginning of what is due was written, no more than may be taken
+abbrev pub BreaksInput : (before broke : Option (List ℕ) → List (List ℕ) → Type 0) (eol most : ℕ) (left : Option (List ℕ)) → Type 0
+BreaksInput before broke eol most left = (ls : List (List ℕ)) × BeginWith eol left ls × Leads before broke ls × (length ls ≤ most)
+
+-- the lines of an input begin with more than so many
+abbrev pub HasMore : (eol most : ℕ) (left : Option (List ℕ)) → Type 0
+HasMore eol most left = (ls : List (List ℕ)) × BeginWith eol left ls × (most < length ls)
+
+-- the last lines of an input are taken, and counted off; or there are more of them than may be taken, and none is taken
 abbrev pub EndsInput : (before after broke : Option (List ℕ) → List (List ℕ) → Type 0) (most most' : ℕ) (ls : List (List ℕ)) → Left
     → Type 0
 EndsInput before after broke most most' ls Done = Leads before after ls × (length ls + most' ≡ most)
 EndsInput before after broke most most' ls (Failed error) = ⊥
-EndsInput before after broke most most' ls Beyond = Leads before broke ls × (most < length ls)
+EndsInput before after broke most most' ls Beyond = Leads before broke [] × (most < length ls)
 
 -- the lines of an input are taken, and counted off; or there are more of them than may be taken
 abbrev pub LeavesInput : (before after broke : Option (List ℕ) → List (List ℕ) → Type 0) (eol most most' : ℕ)
@@ -43,5 +51,4 @@ LeavesInput before after broke eol most most' left left' Done =
     (ls : List (List ℕ)) × ReadsInput eol true left left' ls × Leads before after ls × (length ls + most' ≡ most)
 LeavesInput before after broke eol most most' left left' (Failed error) =
     (ls : List (List ℕ)) × ReadsInput eol false left left' ls × Leads before after ls × (length ls + most' ≡ most)
-LeavesInput before after broke eol most most' left left' Beyond =
-    (ls : List (List ℕ)) × BeginWith eol left ls × Leads before broke ls × (most < length ls)
+LeavesInput before after broke eol most most' left left' Beyond = BreaksInput before broke eol most left × HasMore eol most left

@@ -2,7 +2,7 @@
 #![tactic(auto)]
 
 mod ahead;
-mod fault;
+mod failure;
 pub mod laws;
 mod lines;
 pub mod once;
@@ -12,5 +12,5 @@ pub mod tally;
 mod task;
 mod unread;
 
-pub use fault::{Fault, TooMany};
+pub use failure::{Failure, TooMany};
 pub use run::Ended;

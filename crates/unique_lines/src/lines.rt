@@ -8,13 +8,13 @@ ghost use Rattle.streams.specs.Streams.{AppendsPart};
 ghost use Rattle.text_set.specs.Lines.{as_line_by};
 
 use crate::ahead::Ahead;
-use crate::fault::Fault;
+use crate::failure::Failure;
 use crate::task::LineTask;
 use std::io::Write;
 use streams::tries::{TRIES, write_all};
 
 /// Writes a line of this text, and its end behind it if it has none. After a fault a beginning of that was written.
-pub fn write_line<W: Write>(w: &mut W, line: &[u8], text: &[u8], eol: u8) -> Result<(), Fault>
+pub fn write_line<W: Write>(w: &mut W, line: &[u8], text: &[u8], eol: u8) -> Result<(), Failure>
     requires { text.now ≡ strip_last eol line.now }
     ensures ok { OnOk result (Appends (W.contents w.old) (W.contents w.new) (as_line_by eol line.now)) }
     ensures err { OnErr result (AppendsPart (W.contents w.old) (W.contents w.new) (as_line_by eol line.now)) }
@@ -34,12 +34,13 @@ pub fn take_lines<T: LineTask, W: Write>(
     eol: u8,
     most: u64,
     w: &mut W,
-) -> Result<(u64, usize), Fault>
+) -> Result<(u64, usize), Failure>
     requires room { (ls : List (List ℕ)) × T.taken eol task.old ls × (length ls + most ≤ u64.MAX) }
     ensures took { IfOk result (λ taken. (ls : List (List ℕ)) × Takes eol bytes.now most taken.0 taken.1 ls
         × Leads (At (T.output eol) (T.taken eol task.old) (W.contents w.old))
         (At (T.output eol) (T.taken eol task.new) (W.contents w.new)) ls) }
     ensures broke { OnErr result ((ls : List (List ℕ)) × (rest : List ℕ) × Splits eol bytes.now ls rest
+        × (length ls ≤ most)
         × Leads (At (T.output eol) (T.taken eol task.old) (W.contents w.old))
         (Broke (T.output eol) (W.contents w.new)) ls) }
 {

@@ -5,7 +5,7 @@ ghost use Rattle.text_set.specs.Slots.{tag_under};
 ghost use Rattle.text_set.specs.Firsts.{AreSeen, once_by};
 ghost use Rattle.unique_lines.specs.Running.{Ends, run_of};
 
-use crate::fault::{Fault, see};
+use crate::failure::{Failure, see};
 use crate::lines::write_line;
 use crate::run::{Ended, take_inputs};
 use crate::task::LineTask;
@@ -46,7 +46,7 @@ impl<S: BuildHasher + Drop> LineTask for Once<S> {
         eol: u8,
         guess: Guess,
         w: &mut W,
-    ) -> Result<(), Fault> {
+    ) -> Result<(), Failure> {
         if see(&mut self.seen, text, guess)?.is_new {
             write_line(w, line, text, eol)?;
         }
@@ -64,7 +64,7 @@ pub fn dedup<S: BuildHasher + Drop, R: Read, C: Complaints, W: Write + Drop>(
     inputs: &mut [R],
     complaints: &mut C,
     w: &mut BufWriter<W>,
-) -> Result<Ended, Fault>
+) -> Result<Ended, Failure>
     ensures ended { Ends (once_by eol) eol limit
         (run_of R.remaining inputs.old inputs.new (writer_contents W.contents) w.old w.new) result }
     ensures flushed { OnOk result (writer_buffer w.new ≡ []) }

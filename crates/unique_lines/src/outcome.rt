@@ -5,7 +5,7 @@ ghost use Rattle.std.specs.Io.Buffered.{writer_contents};
 ghost use Rattle.unique_lines.specs.Program.{Exits, of_run, options, work_of};
 ghost use Rattle.unique_lines.specs.Running.{run_of};
 
-use crate::fault::{Fault, TooMany};
+use crate::failure::{Failure, TooMany};
 use crate::once::dedup;
 use crate::run::Ended;
 use crate::tally::{Which, tally};
@@ -17,7 +17,7 @@ use cli::outcome::{Wrong, of_telling};
 use std::alloc::{AllocError, Global};
 use std::hash::BuildHasher;
 use std::io::{BufWriter, Read, Write};
-use streams::fault::Nothing;
+use streams::failure::Nothing;
 use streams::tries::write_out;
 
 /// What is to be written of the lines.
@@ -91,13 +91,13 @@ fn work_of(call: &Call<'_>) -> Task
 }
 
 /// What came of a run.
-fn of_run(ended: Result<Ended, Fault>) -> Outcome
+fn of_run(ended: Result<Ended, Failure>) -> Outcome
     ensures { result ≡ of_run ended }
 {
     match ended {
         Ok(Ended::Whole) => Outcome::Done,
         Ok(Ended::InputFailed) => Outcome::Reported,
-        Ok(Ended::TooManyLines) => Outcome::Failed(Fault::Own(TooMany::Lines)),
+        Ok(Ended::TooManyLines) => Outcome::Failed(Failure::Own(TooMany::Lines)),
         Err(fault) => Outcome::Failed(fault),
     }
 }
@@ -113,8 +113,8 @@ pub fn outcome_of<S: BuildHasher + Drop, R: Read, C: Complaints, W: Write + Drop
     complaints: &mut C,
     w: &mut BufWriter<W>,
 ) -> Outcome
-    ensures { Exits (sayings call.now.said.items) about.entry.help.now about.entry.version.now about.entry.list.now limit
-        (run_of R.remaining inputs.old inputs.new (writer_contents W.contents) w.old w.new) result }
+    ensures { Exits (sayings call.now.said.items) about.entry.help.now about.entry.version.now about.entry.list.now
+        limit (run_of R.remaining inputs.old inputs.new (writer_contents W.contents) w.old w.new) result }
 {
     match request_of(call) {
         Request::Misgiven(misgiven) => Outcome::Usage(Wrong::Option(misgiven)),

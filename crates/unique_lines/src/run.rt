@@ -3,9 +3,9 @@ ghost use Rattle.std.specs.Prelude.{◌≡◌, ◌+◌, ◌≤◌, [], ℕ, List
 ghost use Rattle.std.specs.Io.Buffered.{writer_buffer, writer_contents};
 ghost use Rattle.text_set.specs.Lines.{IsBare, lines_by};
 ghost use Rattle.unique_lines.specs.Running.{EndsTaking, run_of};
-ghost use Rattle.unique_lines.specs.Taking.{At, BeginWith, Broke, EndsInput, Grows, Leads, LeavesInput};
+ghost use Rattle.unique_lines.specs.Taking.{At, BreaksInput, Broke, EndsInput, Grows, Leads, LeavesInput};
 
-use crate::fault::Fault;
+use crate::failure::Failure;
 use crate::lines::take_lines;
 use crate::task::LineTask;
 use crate::unread::{NextLine, Unread};
@@ -43,7 +43,7 @@ fn take_last<T: LineTask, W: Write + Drop>(
     eol: u8,
     most: &mut u64,
     w: &mut BufWriter<W>,
-) -> Result<Left, Fault>
+) -> Result<Left, Failure>
     requires grows { Grows (T.output eol) }
     requires room { (ls : List (List ℕ)) × T.taken eol task.old ls × (length ls + most.old ≤ u64.MAX) }
     requires bare { IsBare eol line.now }
@@ -55,6 +55,7 @@ fn take_last<T: LineTask, W: Write + Drop>(
     ensures flushed { OnOk result (writer_buffer w.new ≡ []) }
     ensures broke { OnErr result (Leads (At (T.output eol) (T.taken eol task.old) (writer_contents W.contents w.old))
         (Broke (T.output eol) (writer_contents W.contents w.new)) (lines_by eol line.now)) }
+    ensures few { OnErr result (length (lines_by eol line.now) ≤ most.old) }
 {
     if line.is_empty() {
         return Ok(Left::Done);
@@ -77,7 +78,7 @@ fn take_input<T: LineTask, R: Read, W: Write + Drop>(
     most: &mut u64,
     r: &mut R,
     w: &mut BufWriter<W>,
-) -> Result<Left, Fault>
+) -> Result<Left, Failure>
     requires grows { Grows (T.output eol) }
     requires room { (ls : List (List ℕ)) × T.taken eol task.old ls × (length ls + most.old ≤ u64.MAX) }
     requires unread { unread.old ≡ [] }
@@ -89,9 +90,9 @@ fn take_input<T: LineTask, R: Read, W: Write + Drop>(
         (R.remaining r.new)) }
     ensures unread { OnOk result (unread.new ≡ []) }
     ensures flushed { OnOk result (writer_buffer w.new ≡ []) }
-    ensures broke { OnErr result ((ls : List (List ℕ)) × BeginWith eol (R.remaining r.old) ls
-        × Leads (At (T.output eol) (T.taken eol task.old) (writer_contents W.contents w.old))
-        (Broke (T.output eol) (writer_contents W.contents w.new)) ls) }
+    ensures broke { OnErr result (BreaksInput
+        (At (T.output eol) (T.taken eol task.old) (writer_contents W.contents w.old))
+        (Broke (T.output eol) (writer_contents W.contents w.new)) eol most.old (R.remaining r.old)) }
 {
     loop {
         match unread.fill(eol, r, w)? {
@@ -110,7 +111,7 @@ fn take_input<T: LineTask, R: Read, W: Write + Drop>(
                 unread.clear();
                 return Ok(left);
             }
-            NextLine::Fault(error) => {
+            NextLine::Failure(error) => {
                 unread.clear();
                 return Ok(Left::Failed(error));
             }
@@ -128,7 +129,7 @@ pub fn take_inputs<T: LineTask, R: Read, C: Complaints, W: Write + Drop>(
     inputs: &mut [R],
     complaints: &mut C,
     w: &mut BufWriter<W>,
-) -> Result<Ended, Fault>
+) -> Result<Ended, Failure>
     requires grows { Grows (T.output eol) }
     requires begun { T.taken eol task.old [] }
     requires nothing { T.output eol [] ≡ [] }

@@ -1,14 +1,15 @@
 //! Lines with how often they came.
-ghost use Rattle.std.specs.Prelude.{if◌then◌else◌, nat_lt, ◌≡◌, ◌<◌, ◌≤◌, ◌+◌, ◌==◌, ◌++◌, ◌∷◌, [], ℕ, List, OnOk, OnErr, length};
+ghost use Rattle.std.specs.Prelude.{if◌then◌else◌, nat_lt, ◌≡◌, ◌<◌, ◌≤◌, ◌+◌, ◌==◌, ◌++◌, ◌∷◌, [], ℕ, List, IfOk, OnOk, OnErr, length};
 ghost use Rattle.std.specs.Io.BufRead.{strip_last};
 ghost use Rattle.std.specs.Io.Buffered.{writer_buffer, writer_contents};
-ghost use Rattle.std.specs.Io.KnownBytes.{Appends};
+ghost use Rattle.std.specs.Io.KnownBytes.{Appends, Keeps};
 ghost use Rattle.unique_lines.specs.Running.{Ends, run_of};
+ghost use Rattle.unique_lines.specs.declared.run.Ended.TheVariants.{TooManyLines};
 ghost use Rattle.unique_lines.specs.Tallies.{Tallies, column, is_shown, shown, told};
 ghost use Rattle.streams.specs.Streams.{AppendsPart};
 ghost use Rattle.text_set.specs.Slots.{tag_under};
 
-use crate::fault::{Fault, see};
+use crate::failure::{Failure, see};
 use crate::run::{Ended, take_inputs};
 use crate::task::LineTask;
 use cli::inputs::Complaints;
@@ -56,7 +57,7 @@ fn count<S: BuildHasher + Drop>(
     times: &mut Vec<u64>,
     text: &[u8],
     guess: Guess,
-) -> Result<(), Fault>
+) -> Result<(), Failure>
     requires room { (eol : ℕ) × (ls : List (List ℕ)) × Tallies eol ls texts.old.texts times.old.items
         × (length ls < u64.MAX) }
     requires tag { guess.tag ≡ tag_under S.Hasher.write S.Hasher.finish (S.build_hasher texts.old.hasher) text.now }
@@ -69,7 +70,7 @@ fn count<S: BuildHasher + Drop>(
     if seen.is_new {
         return match times.push(1) {
             Ok(()) => Ok(()),
-            Err(_) => Err(Fault::NoMemory),
+            Err(_) => Err(Failure::NoMemory),
         };
     }
     times[seen.place] += 1;
@@ -101,7 +102,7 @@ impl<S: BuildHasher + Drop> LineTask for Counts<S> {
         _eol: u8,
         guess: Guess,
         _w: &mut W,
-    ) -> Result<(), Fault> {
+    ) -> Result<(), Failure> {
         count(&mut self.texts, &mut self.times, text, guess)
     }
 }
@@ -116,19 +117,19 @@ fn push_line(out: &mut Vec<u8>, text: &[u8], eol: u8) -> Result<(), AllocError>
 }
 
 /// Makes the line of a text, behind how often it came.
-fn show_counted(times: u64, text: &[u8], eol: u8, out: &mut Vec<u8>) -> Result<(), Fault>
+fn show_counted(times: u64, text: &[u8], eol: u8, out: &mut Vec<u8>) -> Result<(), Failure>
     ensures { OnOk result (out.new.items ≡ column times ++ (text.now ++ eol ∷ [])) }
 {
     out.clear();
     if write!(out, "{times:>7} ").is_err() {
-        return Err(Fault::NoMemory);
+        return Err(Failure::NoMemory);
     }
     push_line(out, text, eol)?;
     Ok(())
 }
 
 /// Makes the line of a text.
-fn show_plain(text: &[u8], eol: u8, out: &mut Vec<u8>) -> Result<(), Fault>
+fn show_plain(text: &[u8], eol: u8, out: &mut Vec<u8>) -> Result<(), Failure>
     ensures { OnOk result (out.new.items ≡ text.now ++ eol ∷ []) }
 {
     out.clear();
@@ -144,7 +145,7 @@ fn is_shown(which: Which, times: u64) -> bool
 }
 
 /// Makes what is written of a text that came so often.
-fn show(which: Which, times: u64, text: &[u8], eol: u8, out: &mut Vec<u8>) -> Result<(), Fault>
+fn show(which: Which, times: u64, text: &[u8], eol: u8, out: &mut Vec<u8>) -> Result<(), Failure>
     ensures { OnOk result (out.new.items ≡ shown eol which times text.now) }
 {
     if !is_shown(which, times) {
@@ -165,7 +166,7 @@ fn write_tallies<S: BuildHasher + Drop, W: Write>(
     texts: &Texts<S>,
     times: &[u64],
     w: &mut W,
-) -> Result<(), Fault>
+) -> Result<(), Failure>
     requires as_many { length texts.now.texts ≡ length times.now }
     ensures ok { OnOk result ((ls : List (List ℕ)) → Tallies eol ls texts.now.texts times.now
         → Appends (W.contents w.old) (W.contents w.new) (told eol which ls)) }
@@ -192,9 +193,11 @@ pub fn tally<S: BuildHasher + Drop, R: Read, C: Complaints, W: Write + Drop>(
     inputs: &mut [R],
     complaints: &mut C,
     w: &mut BufWriter<W>,
-) -> Result<Ended, Fault>
+) -> Result<Ended, Failure>
     ensures ended { Ends (told eol which) eol limit
         (run_of R.remaining inputs.old inputs.new (writer_contents W.contents) w.old w.new) result }
+    ensures beyond { IfOk result (λ ended. ended ≡ TooManyLines
+        → Keeps (writer_contents W.contents w.old) (writer_contents W.contents w.new)) }
     ensures flushed { OnOk result (writer_buffer w.new ≡ []) }
 {
     let mut counts = Counts::new(alloc, hasher);

@@ -3,7 +3,7 @@ ghost use Rattle.std.specs.Prelude.{ℕ, ◌≡◌, ◌∷◌, ◌<◌, [], List
 ghost use Rattle.std.specs.Io.BufRead.{strip_last};
 ghost use Rattle.unique_lines.specs.Taking.{At, Broke, Leads};
 
-use crate::fault::Fault;
+use crate::failure::Failure;
 use std::io::Write;
 use text_set::Guess;
 
@@ -34,7 +34,7 @@ pub trait LineTask {
         eol: u8,
         guess: Guess,
         w: &mut W,
-    ) -> Result<(), Fault>
+    ) -> Result<(), Failure>
         requires text { text.now ≡ strip_last eol line.now }
         requires tag { guess.tag ≡ tag_of self.old text.now }
         requires room { (ls : List (List ℕ)) × taken eol self.old ls × (length ls < u64.MAX) }

@@ -2,9 +2,10 @@
 ghost use Rattle.std.specs.Prelude.{◌≡◌, ◌<◌, ◌≤◌, ◌+◌, ◌-◌, [], ℕ, List, IfOk, OnOk, OnErr, MatchResult, true, false, length, take, drop};
 ghost use Rattle.std.specs.Io.Buffered.{writer_buffer};
 ghost use Rattle.std.specs.Io.KnownBytes.{Keeps};
-ghost use Rattle.unique_lines.specs.Between.{Filled, ReadsBehind};
+ghost use Rattle.streams.specs.Streams.{ReadsSome};
+ghost use Rattle.unique_lines.specs.Between.{Filled};
 
-use crate::fault::Fault;
+use crate::failure::Failure;
 use std::alloc::Global;
 use std::io;
 use std::io::{BufWriter, Error, Read, Write};
@@ -23,7 +24,7 @@ pub enum NextLine {
     /// The end of the input. The bytes are its last line, which has no end, or none.
     End,
     /// A fault. The bytes are a line that it broke, or none.
-    Fault(Error),
+    Failure(Error),
 }
 
 /// Bytes that were read and are not taken yet: what is left of the last line, and what was read behind it.
@@ -56,7 +57,7 @@ fn to_front(bytes: &mut Vec<u8>, from: usize, to: usize)
 
 /// Makes room behind so many bytes: half of `BUFFER` at least. What it adds is filled with zero bytes, so it adds little: a long line then
 /// takes its own length in memory, and `Vec` sees to it that few of these calls move it.
-fn make_room(bytes: &mut Vec<u8>, to: usize) -> Result<(), Fault>
+fn make_room(bytes: &mut Vec<u8>, to: usize) -> Result<(), Failure>
     requires { to ≤ length bytes.old.items }
     ensures room { OnOk result (to < length bytes.new.items) }
     ensures kept { OnOk result (take to bytes.new.items ≡ take to bytes.old.items) }
@@ -66,7 +67,7 @@ fn make_room(bytes: &mut Vec<u8>, to: usize) -> Result<(), Fault>
     if len - to < BUFFER / 2 {
         match len.checked_add(BUFFER) {
             Some(more) => bytes.resize(more, 0)?,
-            None => return Err(Fault::NoMemory),
+            None => return Err(Failure::NoMemory),
         }
     }
     Ok(())
@@ -76,7 +77,7 @@ fn make_room(bytes: &mut Vec<u8>, to: usize) -> Result<(), Fault>
 fn read_behind<R: Read>(bytes: &mut [u8], to: usize, r: &mut R) -> io::Result<usize>
     requires { to < length bytes.old }
     ensures within { IfOk result (λ n. to + n ≤ length bytes.new) }
-    ensures read { IfOk result (λ n. ReadsBehind (take to bytes.old) (take (to + n) bytes.new)
+    ensures read { IfOk result (λ n. ReadsSome (take to bytes.old) (take (to + n) bytes.new)
         (R.remaining r.old) (R.remaining r.new) n) }
     ensures kept { OnErr result (take to bytes.new ≡ take to bytes.old) }
     ensures err { OnErr result (Keeps (R.remaining r.old) (R.remaining r.new)) }
@@ -127,9 +128,9 @@ impl Unread {
     }
 
     /// Reads once.
-    fn read<R: Read>(&mut self, r: &mut R) -> Result<io::Result<usize>, Fault>
+    fn read<R: Read>(&mut self, r: &mut R) -> Result<io::Result<usize>, Failure>
         ensures { IfOk result (λ read. MatchResult read
-            (ReadsBehind self.old self.new (R.remaining r.old) (R.remaining r.new))
+            (ReadsSome self.old self.new (R.remaining r.old) (R.remaining r.new))
             (λ _. (self.new ≡ self.old) × Keeps (R.remaining r.old) (R.remaining r.new))) }
     {
         to_front(&mut self.bytes, self.from, self.to);
@@ -152,7 +153,7 @@ impl Unread {
         eol: u8,
         r: &mut R,
         due: &BufWriter<W>,
-    ) -> Result<NextLine, Fault>
+    ) -> Result<NextLine, Failure>
         requires { writer_buffer due.now ≡ [] }
         ensures { IfOk result (Filled eol self.old self.new (R.remaining r.old) (R.remaining r.new)) }
     {
@@ -161,7 +162,7 @@ impl Unread {
             match self.read(r)? {
                 Ok(0) => return Ok(NextLine::End),
                 Ok(_) => {}
-                Err(error) => return Ok(NextLine::Fault(error)),
+                Err(error) => return Ok(NextLine::Failure(error)),
             }
             if line_end(&self.bytes()[len..], eol).is_some() {
                 return Ok(NextLine::Line);

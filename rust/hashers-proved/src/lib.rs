@@ -132,7 +132,7 @@ pub mod hash_lines;
 #[cfg(feature = "std")]
 #[doc(hidden)]
 pub mod streams {
-    pub mod fault;
+    pub mod failure;
     pub mod tries;
 }
 #[cfg(feature = "std")]

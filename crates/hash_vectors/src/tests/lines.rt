@@ -13,7 +13,7 @@ use text_set::RandomKeys;
 use unique_lines::once::dedup;
 use unique_lines::outcome::{Outcome, call_of, outcome_of};
 use unique_lines::tally::{Which, tally};
-use unique_lines::{Ended, Fault, TooMany};
+use unique_lines::{Ended, Failure, TooMany};
 
 /// That the bytes are as wanted.
 fn same_bytes(rt: &impl Abort, got: &[u8], want: &[u8]) {
@@ -323,12 +323,12 @@ fn interrupted_reads(rt: HostRuntime) {
 fn each_fault_is_told(rt: HostRuntime) {
     let broken = || -> io::Error { io::Error::from(ErrorKind::BrokenPipe) };
     let told = [
-        (Fault::Unread(broken()), "-"),
-        (Fault::Unwritten(Some(broken())), "write error"),
-        (Fault::Unwritten(None), "write error"),
-        (Fault::NoMemory, "out of memory"),
-        (Fault::Own(TooMany::Texts), "too many different lines"),
-        (Fault::Own(TooMany::Lines), "too many lines"),
+        (Failure::Unread(broken()), "-"),
+        (Failure::Unwritten(Some(broken())), "write error"),
+        (Failure::Unwritten(None), "write error"),
+        (Failure::NoMemory, "out of memory"),
+        (Failure::Own(TooMany::Texts), "too many different lines"),
+        (Failure::Own(TooMany::Lines), "too many lines"),
     ];
     for (fault, failure) in told {
         all_hold(&rt, &[failure_of(&Outcome::Failed(fault)) == failure]);
@@ -419,13 +419,13 @@ fn lines_that_end_with_a_zero_byte(rt: HostRuntime) {
 
 #[test]
 fn nobody_reads_any_more(rt: HostRuntime) {
-    let closed = Outcome::Failed(Fault::Unwritten(Some(io::Error::from(ErrorKind::BrokenPipe))));
-    let nothing = Outcome::Failed(Fault::Unwritten(None));
+    let closed = Outcome::Failed(Failure::Unwritten(Some(io::Error::from(ErrorKind::BrokenPipe))));
+    let nothing = Outcome::Failed(Failure::Unwritten(None));
     all_hold(&rt, &[status_of(&closed) == 141, status_of(&nothing) == 1]);
 }
 
 /// Whether a run under a limit ended well, and said that there were no more lines, or that there were.
-fn met(end: &Result<Ended, Fault>, fits: bool) -> bool {
+fn met(end: &Result<Ended, Failure>, fits: bool) -> bool {
     match end {
         Ok(Ended::Whole) => fits,
         Ok(Ended::TooManyLines) => !fits,
@@ -433,9 +433,9 @@ fn met(end: &Result<Ended, Fault>, fits: bool) -> bool {
     }
 }
 
-/// Whether runs over two inputs under a limit say so of the lines.
-fn limited(alloc: Global, limit: u64, fits: bool) -> io::Result<bool> {
-    let mut output = BufWriter::with_capacity(alloc, HELD, Vec::new(alloc))?;
+/// Whether runs over two inputs under a limit, onto this paper, say so of the lines.
+fn limited(alloc: Global, limit: u64, fits: bool, w: &mut Paper) -> io::Result<bool> {
+    let mut output = BufWriter::with_capacity(alloc, HELD, w)?;
     let (front, back) = TEXT.split_at(4);
     let once = dedup(
         alloc,
@@ -464,10 +464,21 @@ fn limited(alloc: Global, limit: u64, fits: bool) -> io::Result<bool> {
     Ok(met(&once, fits) && met(&counted, fits))
 }
 
+/// Beyond the limit no line is written, and no count.
 #[test]
 fn more_lines_than_the_limit(rt: HostRuntime) {
-    for (limit, fits) in [(0, false), (4, false), (5, true), (6, true)] {
-        all_hold(&rt, &[limited(rt.alloc(), limit, fits).unwrap_or(false)]);
+    let all = "b\na\nc\n      2 b\n      2 a\n      1 c\n";
+    for (limit, fits, output) in [
+        (0, false, ""),
+        (1, false, "b\n"),
+        (4, false, "b\na\n"),
+        (5, true, all),
+        (6, true, all),
+    ] {
+        let mut paper = Paper::sound(64);
+        let met = limited(rt.alloc(), limit, fits, &mut paper);
+        all_hold(&rt, &[met.unwrap_or(false)]);
+        same_bytes(&rt, paper.text(), output.as_bytes());
     }
 }
 

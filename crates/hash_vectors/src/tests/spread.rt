@@ -5,7 +5,7 @@ use hash_names::table::Kind;
 use hash_spread::call::{call_of, kinds_of, settings_of, unknown_name};
 use hash_spread::chance::{Chance, equal_pairs};
 use hash_spread::counts::{Counts, Spread, collisions, spread_of};
-use hash_spread::fault::{Fault, NoTable};
+use hash_spread::failure::{Failure, NoTable};
 use hash_spread::keys::{Layout, read_keys};
 use hash_spread::named::{Hashed, counts_by};
 use hash_spread::sizes::{Sizes, sizes_of};
@@ -29,11 +29,11 @@ fn keys_of(
     text: &[u8],
     layout: Layout,
     until_fault: usize,
-) -> Result<Texts<RandomKeys>, Fault> {
+) -> Result<Texts<RandomKeys>, Failure> {
     let mut keys = Texts::new(alloc, RandomKeys::with_keys(1, 2));
     match BufReader::with_capacity(alloc, 3, Script::failing(text, 2, until_fault)) {
         Ok(mut reader) => read_keys(alloc, &mut keys, layout, &mut reader)?,
-        Err(_) => return Err(Fault::NoMemory),
+        Err(_) => return Err(Failure::NoMemory),
     }
     Ok(keys)
 }
@@ -73,7 +73,7 @@ fn keys_come_once(rt: HostRuntime) {
 /// Whether the read that fails at that byte is told.
 fn tells_fault(alloc: Global, layout: Layout, until_fault: usize) -> bool {
     match keys_of(alloc, b"b\na\nbc", layout, until_fault) {
-        Err(Fault::Unread(error)) => error.kind() == ErrorKind::BrokenPipe,
+        Err(Failure::Unread(error)) => error.kind() == ErrorKind::BrokenPipe,
         _ => false,
     }
 }
@@ -96,7 +96,7 @@ fn a_read_fails_at_each_byte(rt: HostRuntime) {
 fn tells_short_key(alloc: Global, text: &[u8], width: usize) -> bool {
     matches!(
         keys_of(alloc, text, fixed(width), usize::MAX),
-        Err(Fault::Own(NoTable::ShortKey))
+        Err(Failure::Own(NoTable::ShortKey))
     )
 }
 
@@ -286,7 +286,7 @@ fn refused_memory(rt: HostRuntime) {
             let refused = counts == Err(AllocError);
             all_hold(&rt, &[refused || short(counts) == (1, 9, 5)]);
         }
-        Err(Fault::NoMemory) => {}
+        Err(Failure::NoMemory) => {}
         Err(_) => all_hold(&rt, &[false]),
     }
 }

@@ -18,7 +18,7 @@ use std::fmt::{Display, Formatter};
 use std::hash::Hasher;
 use std::io::{Error, ErrorKind, Read, Write};
 use std::{fmt, io};
-use streams::fault::Fault;
+use streams::failure::Failure;
 use streams::tries::{TRIES, write_all};
 
 /// What the file begins with: whose it is, and its form's version.
@@ -209,7 +209,7 @@ fn read_words<R: Read>(alloc: Global, r: &mut R, count: u64) -> io::Result<Vec<u
 fn write_bytes<W: Write>(w: &mut W, bytes: &[u8]) -> io::Result<()> {
     match write_all::<W, ()>(w, bytes, TRIES) {
         Ok(()) => Ok(()),
-        Err(Fault::Unwritten(Some(error))) => Err(error),
+        Err(Failure::Unwritten(Some(error))) => Err(error),
         Err(_) => Err(Error::from(ErrorKind::WriteZero)),
     }
 }

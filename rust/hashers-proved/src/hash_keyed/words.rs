@@ -140,7 +140,8 @@ fn four_words(key: u64, powers: (u64, u64, u64, u64), block: &[u8; 28]) -> u64 {
 /// Proved:
 ///
 /// ```text
-/// there: (more : List ℕ) → after (full_words key state) (block.now ++ more) ≡ after (full_words key result) more
+/// there: (more : List ℕ) → after (full_words key state) (block.now ++ more)
+///     ≡ after (full_words key result) more
 /// small: result < 2 ^ 61 + 8
 /// ```
 #[inline(always)]
@@ -160,7 +161,8 @@ fn four_in(key: u64, powers: (u64, u64, u64, u64), state: u64, block: &[u8; 28])
 /// Proved:
 ///
 /// ```text
-/// there: (more : List ℕ) → after (full_words key state) (block.now ++ more) ≡ after (full_words key result) more
+/// there: (more : List ℕ) → after (full_words key state) (block.now ++ more)
+///     ≡ after (full_words key result) more
 /// small: result < 2 ^ 61 + 8
 /// ```
 #[inline(always)]

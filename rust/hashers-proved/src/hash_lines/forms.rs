@@ -4,7 +4,7 @@
 use crate::shim::{Vec, std};
 
 use crate::hash_lines::hex::{MOST_DIGITS, digit_value};
-use crate::hash_lines::line::Kind;
+use crate::hash_lines::line::LineKind;
 use crate::hash_lines::parse::{HashLine, behind, parse_line, split_last};
 use std::alloc::{AllocError, Global};
 
@@ -238,7 +238,8 @@ fn is_sum(word: &[u8]) -> bool {
 ///
 /// ```text
 /// none: result ≡ false → (word behind : List ℕ) → HasWord line.now word behind → is_sum word ≡ false
-/// some: result ≡ true → (word : List ℕ) × (behind : List ℕ) × HasWord line.now word behind × (is_sum word ≡ true)
+/// some: result ≡ true → (word : List ℕ) × (behind : List ℕ) × HasWord line.now word behind
+///     × (is_sum word ≡ true)
 /// ```
 #[inline]
 fn begins_with_sum(line: &[u8]) -> bool {
@@ -317,8 +318,8 @@ fn sfv_form(alloc: Global, line: &[u8]) -> Result<Option<Vec<u8>>, AllocError> {
 #[inline]
 fn tagged_entry<'k>(
     alloc: Global,
-    kinds: &[Kind<'k>],
-    kind: Kind<'k>,
+    kinds: &[LineKind<'k>],
+    kind: LineKind<'k>,
     line: &[u8],
 ) -> Result<Option<HashLine<'k>>, AllocError> {
     match tagged_form(alloc, line)? {
@@ -338,8 +339,8 @@ fn tagged_entry<'k>(
 #[inline]
 fn blank_entry<'k>(
     alloc: Global,
-    kinds: &[Kind<'k>],
-    kind: Kind<'k>,
+    kinds: &[LineKind<'k>],
+    kind: LineKind<'k>,
     line: &[u8],
 ) -> Result<Option<HashLine<'k>>, AllocError> {
     match blank_form(alloc, line)? {
@@ -359,8 +360,8 @@ fn blank_entry<'k>(
 #[inline]
 fn sfv_entry<'k>(
     alloc: Global,
-    kinds: &[Kind<'k>],
-    kind: Kind<'k>,
+    kinds: &[LineKind<'k>],
+    kind: LineKind<'k>,
     line: &[u8],
 ) -> Result<Option<HashLine<'k>>, AllocError> {
     match sfv_form(alloc, line)? {
@@ -380,8 +381,8 @@ fn sfv_entry<'k>(
 #[inline]
 fn form_entry<'k>(
     alloc: Global,
-    kinds: &[Kind<'k>],
-    kind: Kind<'k>,
+    kinds: &[LineKind<'k>],
+    kind: LineKind<'k>,
     line: &[u8],
 ) -> Result<Option<HashLine<'k>>, AllocError> {
     if let Some(entry) = parse_line(alloc, kinds, kind, line)? {
@@ -407,8 +408,8 @@ fn form_entry<'k>(
 #[inline]
 pub fn parse_form<'k>(
     alloc: Global,
-    kinds: &[Kind<'k>],
-    kind: Kind<'k>,
+    kinds: &[LineKind<'k>],
+    kind: LineKind<'k>,
     sfv: bool,
     line: &[u8],
 ) -> Result<Option<HashLine<'k>>, AllocError> {

@@ -41,7 +41,7 @@ impl Width {
 
 /// A hash that a line may tell: its name, and how many digits its numbers have.
 #[derive(Clone, Copy)]
-pub struct Kind<'a> {
+pub struct LineKind<'a> {
     /// The name.
     pub name: &'a str,
     /// How many digits its numbers have.
@@ -91,7 +91,7 @@ pub fn push_line(
     text: &mut Vec<u8>,
     form: Form,
     escapes: bool,
-    kind: Kind<'_>,
+    kind: LineKind<'_>,
     name: &[u8],
     number: u128,
 ) -> Result<(), AllocError> {

@@ -7,13 +7,13 @@ use crate::shim::{Vec, std};
 
 use crate::hash_lines::escape::unescaped;
 use crate::hash_lines::hex::{MOST_DIGITS, hex_number};
-use crate::hash_lines::line::Kind;
+use crate::hash_lines::line::LineKind;
 use std::alloc::{AllocError, Global};
 
 /// What a line tells.
 pub struct HashLine<'k> {
     /// Which hash.
-    pub kind: Kind<'k>,
+    pub kind: LineKind<'k>,
     /// Of which file.
     pub name: Vec<u8>,
     /// What it is.
@@ -25,7 +25,8 @@ pub struct HashLine<'k> {
 /// Proved:
 ///
 /// ```text
-/// MatchOption result ((rest : List ℕ) → front.now ++ rest ≢ bytes.now) (λ rest. front.now ++ rest.now ≡ bytes.now)
+/// MatchOption result ((rest : List ℕ) → front.now ++ rest ≢ bytes.now)
+///     (λ rest. front.now ++ rest.now ≡ bytes.now)
 /// ```
 #[inline]
 pub fn behind<'a>(bytes: &'a [u8], front: &[u8]) -> Option<&'a [u8]> {
@@ -108,7 +109,8 @@ fn behind_tag<'a>(tag: &[u8], body: &'a [u8]) -> Option<&'a [u8]> {
 /// Proved:
 ///
 /// ```text
-/// MatchOption result ((shown digits : List ℕ) → length digits ≡ count → shown ++ (codes ") = " ++ digits) ≢ rest.now)
+/// MatchOption result ((shown digits : List ℕ) → length digits ≡ count
+///     → shown ++ (codes ") = " ++ digits) ≢ rest.now)
 ///     (λ parts. (length parts.1.now ≡ count) × (parts.0.now ++ (codes ") = " ++ parts.1.now) ≡ rest.now))
 /// ```
 #[inline]
@@ -127,7 +129,8 @@ fn around_mark(rest: &[u8], count: usize) -> Option<(&[u8], &[u8])> {
 /// Proved:
 ///
 /// ```text
-/// MatchOption result ((shown : List ℕ) → ¬ ((codes "  " ++ shown ≡ rest.now) ⊎ (codes " *" ++ shown ≡ rest.now)))
+/// MatchOption result ((shown : List ℕ) → ¬ ((codes "  " ++ shown ≡ rest.now)
+///     ⊎ (codes " *" ++ shown ≡ rest.now)))
 ///     (λ shown. (codes "  " ++ shown.now ≡ rest.now) ⊎ (codes " *" ++ shown.now ≡ rest.now))
 /// ```
 #[inline]
@@ -202,12 +205,13 @@ fn name_of(alloc: Global, escapes: bool, shown: &[u8]) -> Result<Option<Vec<u8>>
 ///
 /// ```text
 /// IfOk result (λ found. MatchOption found ((name : List ℕ) → name_shown escapes name ≢ shown.now)
-///     (λ entry. (entry.kind ≡ kind.entry) × (entry.number ≡ number) × (name_shown escapes entry.name.items ≡ shown.now)))
+///     (λ entry. (entry.kind ≡ kind.entry) × (entry.number ≡ number)
+///     × (name_shown escapes entry.name.items ≡ shown.now)))
 /// ```
 #[inline]
 fn entry_of<'k>(
     alloc: Global,
-    kind: Kind<'k>,
+    kind: LineKind<'k>,
     escapes: bool,
     shown: &[u8],
     number: u128,
@@ -230,7 +234,7 @@ fn entry_of<'k>(
 #[inline]
 fn tagged_entry<'k>(
     alloc: Global,
-    kind: Kind<'k>,
+    kind: LineKind<'k>,
     escapes: bool,
     body: &[u8],
 ) -> Result<Option<HashLine<'k>>, AllocError> {
@@ -247,12 +251,13 @@ fn tagged_entry<'k>(
 /// ```text
 /// IfOk result (λ found. MatchOption found
 ///     ((name : List ℕ) (number : ℕ) → ¬ (TellsUntagged kind.entry escapes name number body.now))
-///     (λ entry. (entry.kind ≡ kind.entry) × TellsUntagged kind.entry escapes entry.name.items entry.number body.now))
+///     (λ entry. (entry.kind ≡ kind.entry)
+///     × TellsUntagged kind.entry escapes entry.name.items entry.number body.now))
 /// ```
 #[inline]
 fn untagged_entry<'k>(
     alloc: Global,
-    kind: Kind<'k>,
+    kind: LineKind<'k>,
     escapes: bool,
     body: &[u8],
 ) -> Result<Option<HashLine<'k>>, AllocError> {
@@ -268,14 +273,15 @@ fn untagged_entry<'k>(
 ///
 /// ```text
 /// IfOk result (λ found. MatchOption found
-///     ((other : Kind) (name : List ℕ) (number : ℕ) → ¬ (TellsBody kinds.entry.now kind.entry escapes other name number body.now))
+///     ((other : LineKind) (name : List ℕ) (number : ℕ)
+///     → ¬ (TellsBody kinds.entry.now kind.entry escapes other name number body.now))
 ///     (λ entry. TellsBody kinds.entry.now kind.entry escapes entry.kind entry.name.items entry.number body.now))
 /// ```
 #[inline]
 fn body_entry<'k>(
     alloc: Global,
-    kinds: &[Kind<'k>],
-    kind: Kind<'k>,
+    kinds: &[LineKind<'k>],
+    kind: LineKind<'k>,
     escapes: bool,
     body: &[u8],
 ) -> Result<Option<HashLine<'k>>, AllocError> {
@@ -293,14 +299,15 @@ fn body_entry<'k>(
 ///
 /// ```text
 /// IfOk result (λ found. MatchOption found
-///     ((other : Kind) (name : List ℕ) (number : ℕ) → ¬ (TellsEscaped kinds.entry.now kind.entry other name number line.now))
+///     ((other : LineKind) (name : List ℕ) (number : ℕ)
+///     → ¬ (TellsEscaped kinds.entry.now kind.entry other name number line.now))
 ///     (λ entry. TellsEscaped kinds.entry.now kind.entry entry.kind entry.name.items entry.number line.now))
 /// ```
 #[inline]
 fn escaped_entry<'k>(
     alloc: Global,
-    kinds: &[Kind<'k>],
-    kind: Kind<'k>,
+    kinds: &[LineKind<'k>],
+    kind: LineKind<'k>,
     line: &[u8],
 ) -> Result<Option<HashLine<'k>>, AllocError> {
     match behind(line, b"\\") {
@@ -322,8 +329,8 @@ fn escaped_entry<'k>(
 #[inline]
 pub fn parse_line<'k>(
     alloc: Global,
-    kinds: &[Kind<'k>],
-    kind: Kind<'k>,
+    kinds: &[LineKind<'k>],
+    kind: LineKind<'k>,
     line: &[u8],
 ) -> Result<Option<HashLine<'k>>, AllocError> {
     match escaped_entry(alloc, kinds, kind, line)? {

@@ -3,7 +3,7 @@
 // What follows is the proved text of crates/streams/src/tries.rt without its contracts.
 use crate::shim::std;
 
-use crate::streams::fault::Fault;
+use crate::streams::failure::Failure;
 use std::io;
 use std::io::{BufWriter, ErrorKind, Read, Write};
 
@@ -47,16 +47,16 @@ pub fn read_some<R: Read>(r: &mut R, room: &mut [u8], tries: u32) -> io::Result<
 /// unwritten: IfErr result IsUnwritten
 /// ```
 #[inline]
-pub fn write_all<W: Write, Own>(w: &mut W, bytes: &[u8], tries: u32) -> Result<(), Fault<Own>> {
+pub fn write_all<W: Write, Own>(w: &mut W, bytes: &[u8], tries: u32) -> Result<(), Failure<Own>> {
     let mut rest = bytes;
     let mut left = tries;
     while !rest.is_empty() {
         match w.write(rest) {
-            Ok(0) => return Err(Fault::Unwritten(None)),
+            Ok(0) => return Err(Failure::Unwritten(None)),
             Ok(n) => rest = &rest[n..],
             Err(error) => {
                 if left == 0 || error.kind() != ErrorKind::Interrupted {
-                    return Err(Fault::Unwritten(Some(error)));
+                    return Err(Failure::Unwritten(Some(error)));
                 }
                 left -= 1;
             }
@@ -75,14 +75,14 @@ pub fn write_all<W: Write, Own>(w: &mut W, bytes: &[u8], tries: u32) -> Result<(
 /// unwritten: IfErr result IsUnwritten
 /// ```
 #[inline]
-pub fn flush<W: Write, Own>(w: &mut BufWriter<W>, tries: u32) -> Result<(), Fault<Own>> {
+pub fn flush<W: Write, Own>(w: &mut BufWriter<W>, tries: u32) -> Result<(), Failure<Own>> {
     let mut left = tries;
     loop {
         match w.flush() {
             Ok(()) => return Ok(()),
             Err(error) => {
                 if left == 0 || error.kind() != ErrorKind::Interrupted {
-                    return Err(Fault::Unwritten(Some(error)));
+                    return Err(Failure::Unwritten(Some(error)));
                 }
             }
         }
@@ -98,7 +98,10 @@ pub fn flush<W: Write, Own>(w: &mut BufWriter<W>, tries: u32) -> Result<(), Faul
 /// WritesOut bytes.now (writer_contents W.contents w.old) (writer_contents W.contents w.new) result
 /// ```
 #[inline]
-pub fn write_out<W: Write, Own>(w: &mut BufWriter<W>, bytes: &[u8]) -> Result<(), Fault<Own>> {
+pub fn write_out<W: Write, Own>(
+    w: &mut BufWriter<W>,
+    bytes: &[u8],
+) -> Result<(), Failure<Own>> {
     write_all(w, bytes, TRIES)?;
     flush(w, TRIES)
 }

@@ -15,7 +15,8 @@ use std::io::{Error, IsTerminal, Read};
 /// Proved:
 ///
 /// ```text
-/// IfOk result (λ files. map (λ file. file.now) files.items ≡ files_or (operands (sayings call.now.said.items)))
+/// IfOk result (λ files. map (λ file. file.now) files.items
+///     ≡ files_or (operands (sayings call.now.said.items)))
 /// ```
 #[inline]
 pub fn files<'a>(alloc: Global, call: &Call<'a>) -> Result<Vec<&'a [u8]>, AllocError> {

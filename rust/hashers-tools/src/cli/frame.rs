@@ -10,7 +10,7 @@ use crate::cli::quoted::in_quotes;
 use crate::cli::reason::reason;
 use std::alloc::{AllocError, Global};
 use std::io::Error;
-use streams::fault::Fault;
+use streams::failure::Failure;
 
 /// What a program says of itself.
 #[derive(Clone, Copy)]
@@ -173,7 +173,8 @@ impl Complaint<'_> {
     ///
     /// ```text
     /// IfOk result (λ text. string_bytes text ≡ complaint_of self.now.name.now self.now.failure.now
-    ///     (option_map (λ word. word.now) self.now.word) self.now.behind.now (option_map (λ reason. reason.now) self.now.reason)
+    ///     (option_map (λ word. word.now) self.now.word) self.now.behind.now
+    ///     (option_map (λ reason. reason.now) self.now.reason)
     ///     self.now.is_wrong_call)
     /// ```
     #[inline]
@@ -193,9 +194,9 @@ impl Complaint<'_> {
 #[inline]
 fn error_of<Misuse, Own: Words>(outcome: &Outcome<Misuse, Own>) -> Option<&Error> {
     match outcome {
-        Outcome::Failed(Fault::Unread(error)) => Some(error),
-        Outcome::Failed(Fault::Unwritten(Some(error))) => Some(error),
-        Outcome::Failed(Fault::Own(own)) => own.error(),
+        Outcome::Failed(Failure::Unread(error)) => Some(error),
+        Outcome::Failed(Failure::Unwritten(Some(error))) => Some(error),
+        Outcome::Failed(Failure::Own(own)) => own.error(),
         _ => None,
     }
 }

@@ -6,7 +6,7 @@ use hashers_proved::shim::std;
 
 use crate::cli::call::Misgiven;
 use std::io::{Error, ErrorKind};
-use streams::fault::{Fault, Nothing};
+use streams::failure::{Failure, Nothing};
 
 /// Something that failed, in words.
 pub trait Words {
@@ -54,7 +54,7 @@ pub enum Outcome<Misuse, Own> {
     /// Something failed, and that was told when it did.
     Reported,
     /// The output is not whole: what was written is a beginning of it.
-    Failed(Fault<Own>),
+    Failed(Failure<Own>),
 }
 
 /// What came of writing a text.
@@ -65,7 +65,7 @@ pub enum Outcome<Misuse, Own> {
 /// result ≡ of_telling told
 /// ```
 #[inline]
-pub fn of_telling<Misuse, Own>(told: Result<(), Fault<Own>>) -> Outcome<Misuse, Own> {
+pub fn of_telling<Misuse, Own>(told: Result<(), Failure<Own>>) -> Outcome<Misuse, Own> {
     match told {
         Ok(()) => Outcome::Done,
         Err(fault) => Outcome::Failed(fault),
@@ -80,7 +80,7 @@ pub fn of_telling<Misuse, Own>(told: Result<(), Fault<Own>>) -> Outcome<Misuse, 
 /// result ≡ of_run well
 /// ```
 #[inline]
-pub fn of_run<Misuse, Own>(well: Result<bool, Fault<Own>>) -> Outcome<Misuse, Own> {
+pub fn of_run<Misuse, Own>(well: Result<bool, Failure<Own>>) -> Outcome<Misuse, Own> {
     match well {
         Ok(true) => Outcome::Done,
         Ok(false) => Outcome::Reported,
@@ -134,10 +134,10 @@ pub fn failure_of<Misuse: Words, Own: Words>(outcome: &Outcome<Misuse, Own>) -> 
         Outcome::Usage(Wrong::Option(misgiven)) => misgiven_words(*misgiven),
         Outcome::Usage(Wrong::UnknownName) => "unknown hash",
         Outcome::Usage(Wrong::Own(misuse)) => misuse.words(),
-        Outcome::Failed(Fault::Unread(_)) => "-",
-        Outcome::Failed(Fault::Unwritten(_)) => "write error",
-        Outcome::Failed(Fault::NoMemory) => "out of memory",
-        Outcome::Failed(Fault::Own(own)) => own.words(),
+        Outcome::Failed(Failure::Unread(_)) => "-",
+        Outcome::Failed(Failure::Unwritten(_)) => "write error",
+        Outcome::Failed(Failure::NoMemory) => "out of memory",
+        Outcome::Failed(Failure::Own(own)) => own.words(),
     }
 }
 
@@ -169,7 +169,7 @@ pub fn status_of<Misuse, Own>(outcome: &Outcome<Misuse, Own>) -> u8 {
     match outcome {
         Outcome::Done => 0,
         Outcome::Usage(_) => 2,
-        Outcome::Failed(Fault::Unwritten(Some(error))) => write_status(error.kind()),
+        Outcome::Failed(Failure::Unwritten(Some(error))) => write_status(error.kind()),
         _ => 1,
     }
 }

@@ -11,7 +11,7 @@ use cli::frame::{About, wrong_word};
 use cli::help::help_for;
 use cli::program::{BUFFER, Program, run};
 use cli::progress::Cleared;
-use hash_chunks::fault::TooMany;
+use hash_chunks::failure::TooMany;
 use hash_chunks::listing::Lines;
 use hash_chunks::outcome::{Misuse, Outcome, Wrong, call_of, options, outcome_of};
 use hash_chunks::sizes::wrong_size;

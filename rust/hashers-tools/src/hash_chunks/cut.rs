@@ -5,7 +5,7 @@ use crate::cli;
 use hashers_proved::hash_cuts;
 use hashers_proved::shim::{Vec, std};
 
-use crate::hash_chunks::fault::Fault;
+use crate::hash_chunks::failure::Failure;
 use cli::folder::Folder;
 use hash_cuts::{Cuts, Sink, Unfinished, cut_reader_by};
 use std::io::{Error, ErrorKind, Read};
@@ -19,13 +19,13 @@ use std::io::{Error, ErrorKind, Read};
 /// EndsFile S.taken cuts.now (F.opens folder.now name.now) sink.old sink.new result
 /// ```
 #[inline]
-pub fn cut_file<R: Read, F: Folder<R>, S: Sink<Error = Fault>>(
+pub fn cut_file<R: Read, F: Folder<R>, S: Sink<Error = Failure>>(
     buffer: &mut Vec<u8>,
     cuts: &Cuts,
     folder: &F,
     name: &[u8],
     sink: &mut S,
-) -> Result<bool, Fault> {
+) -> Result<bool, Failure> {
     let mut file = match folder.open(name) {
         Ok(file) => file,
         Err(error) => {
@@ -45,6 +45,6 @@ pub fn cut_file<R: Read, F: Folder<R>, S: Sink<Error = Fault>>(
             Ok(false)
         }
         Err(Unfinished::Refused(fault)) => Err(fault),
-        Err(Unfinished::NoMemory) => Err(Fault::NoMemory),
+        Err(Unfinished::NoMemory) => Err(Failure::NoMemory),
     }
 }

@@ -6,10 +6,10 @@ use hashers_proved::{hash_cuts, hash_lines, streams};
 use hashers_proved::shim::{Vec, std};
 
 use crate::hash_chunks::cut::cut_file;
-use crate::hash_chunks::fault::{Fault, TooMany};
+use crate::hash_chunks::failure::{Failure, TooMany};
 use cli::folder::Folder;
 use hash_cuts::{Cuts, Sink};
-use hash_lines::line::{Form, Kind, push_line};
+use hash_lines::line::{Form, LineKind, push_line};
 use hash_sums::sums::{default_kind, number_of_text};
 use std::alloc::{AllocError, Global};
 use std::io::{BufWriter, Read, Write};
@@ -18,7 +18,7 @@ use streams::tries::write_out;
 /// Writes a line for each chunk of a file.
 pub struct Lines<'a, W: Write> {
     alloc: Global,
-    kind: Kind<'static>,
+    kind: LineKind<'static>,
     name: &'a [u8],
     place: u64, // where the next chunk begins
     /// Where the lines are written.
@@ -55,7 +55,7 @@ impl<W: Write> Lines<'_, W> {
 #[inline]
 fn chunk_line(
     alloc: Global,
-    kind: Kind<'static>,
+    kind: LineKind<'static>,
     name: &[u8],
     place: u64,
     chunk: &[u8],
@@ -77,16 +77,16 @@ fn chunk_line(
 }
 
 impl<W: Write> Sink for Lines<'_, W> {
-    type Error = Fault;
+    type Error = Failure;
 
     #[inline]
-    fn take(&mut self, chunk: &[u8]) -> Result<(), Fault> {
+    fn take(&mut self, chunk: &[u8]) -> Result<(), Failure> {
         let Some(next) = self.place.checked_add(chunk.len() as u64) else {
-            return Err(Fault::Own(TooMany));
+            return Err(Failure::Own(TooMany));
         };
         match chunk_line(self.alloc, self.kind, self.name, self.place, chunk) {
             Ok(line) => write_out(&mut self.w, &line)?,
-            Err(_) => return Err(Fault::NoMemory),
+            Err(_) => return Err(Failure::NoMemory),
         }
         self.place = next;
         Ok(())
@@ -109,7 +109,7 @@ fn list_file<'a, R: Read, F: Folder<R>, W: Write>(
     folder: &F,
     name: &'a [u8],
     lines: &mut Lines<'a, W>,
-) -> Result<bool, Fault> {
+) -> Result<bool, Failure> {
     lines.name = name;
     lines.place = 0;
     cut_file(buffer, cuts, folder, name, lines)
@@ -129,10 +129,10 @@ pub fn list_files<'a, R: Read, F: Folder<R>, W: Write>(
     alloc: Global,
     cuts: &Cuts,
     folder: &F,
-    kind: Kind<'static>,
+    kind: LineKind<'static>,
     names: &[&'a [u8]],
     lines: &mut Lines<'a, W>,
-) -> Result<bool, Fault> {
+) -> Result<bool, Failure> {
     let mut buffer = Vec::new(alloc);
     lines.kind = kind;
     let mut all = true;

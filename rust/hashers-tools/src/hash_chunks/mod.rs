@@ -4,7 +4,7 @@
 // What follows is the proved text of crates/hash_chunks/src/lib.rt without its contracts.
 
 mod cut;
-pub mod fault;
+pub mod failure;
 pub mod listing;
 pub mod outcome;
 pub mod sizes;

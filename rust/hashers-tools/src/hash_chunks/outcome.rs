@@ -5,7 +5,7 @@ use crate::{cli, hash_sums};
 use hashers_proved::{hash_cuts, hash_lines, streams};
 use hashers_proved::shim::{Vec, std};
 
-use crate::hash_chunks::fault::{Fault, TooMany};
+use crate::hash_chunks::failure::{Failure, TooMany};
 use crate::hash_chunks::listing::{Lines, list_files};
 use crate::hash_chunks::sizes::{Sizes, sizes_of};
 use crate::hash_chunks::tally::tell_tally;
@@ -15,7 +15,7 @@ use cli::frame::{About, Request, request_of, text_of};
 use cli::outcome;
 use cli::outcome::{Words, of_run, of_telling};
 use hash_cuts::Cuts;
-use hash_lines::line::Kind;
+use hash_lines::line::LineKind;
 use hash_sums::keys::keys_for;
 use hash_sums::sums::{kind_of, kinds};
 use std::alloc::{AllocError, Global};
@@ -28,7 +28,7 @@ pub struct Task {
     /// The sizes of chunks.
     pub sizes: Sizes,
     /// The hash of a chunk.
-    pub kind: Kind<'static>,
+    pub kind: LineKind<'static>,
     /// Whether the numbers of all chunks are written, and not a line for each.
     pub stats: bool,
 }
@@ -142,7 +142,7 @@ fn are_rising(sizes: Sizes) -> bool {
 /// sizes: IfOk result (λ task. are_rising task.sizes ≡ true)
 /// ```
 #[inline]
-fn task_of(kinds: &[Kind<'static>], call: &Call<'_>) -> Result<Task, Wrong> {
+fn task_of(kinds: &[LineKind<'static>], call: &Call<'_>) -> Result<Task, Wrong> {
     let Some(sizes) = sizes_of(call) else {
         return Err(Wrong::Own(Misuse::NoSize));
     };
@@ -197,7 +197,7 @@ fn run<'a, R: Read, F: Folder<R>, W: Write>(
     cuts: &Cuts,
     files: &[&'a [u8]],
     lines: &mut Lines<'a, W>,
-) -> Result<bool, Fault> {
+) -> Result<bool, Failure> {
     if task.stats {
         tell_tally(alloc, cuts, folder, task.kind, files, &mut lines.w)
     } else {
@@ -229,7 +229,7 @@ fn ended<'a, R: Read, F: Folder<R>, W: Write>(
     files: &[&'a [u8]],
     lines: &mut Lines<'a, W>,
 ) -> Outcome {
-    match keys_for(folder, key_file) {
+    match keys_for(folder, key_file, true) {
         Some(keys) => {
             let cuts = cuts_of(task.sizes, keys);
             of_run(run(alloc, folder, task, &cuts, files, lines))
@@ -246,7 +246,8 @@ fn ended<'a, R: Read, F: Folder<R>, W: Write>(
 /// EndsCall (F.opens folder.now) (sayings call.now.said.items)
 ///     (text_of about.entry.help.now about.entry.version.now about.entry.list.now)
 ///     (writer_contents W.contents lines.old.w) (writer_contents W.contents lines.new.w) result
-///     ⊎ ((result ≡ Failed NoMemory) × Keeps (writer_contents W.contents lines.old.w) (writer_contents W.contents lines.new.w))
+///     ⊎ ((result ≡ Failed NoMemory) × Keeps (writer_contents W.contents lines.old.w)
+///     (writer_contents W.contents lines.new.w))
 /// ```
 #[inline]
 pub fn outcome_of<'a, R: Read, F: Folder<R>, W: Write>(
@@ -264,7 +265,7 @@ pub fn outcome_of<'a, R: Read, F: Folder<R>, W: Write>(
                 Ok(task) => ended(alloc, folder, task, call.value(b"key-file"), &files, lines),
                 Err(wrong) => Outcome::Usage(wrong),
             },
-            _ => Outcome::Failed(Fault::NoMemory),
+            _ => Outcome::Failed(Failure::NoMemory),
         },
     }
 }

@@ -6,10 +6,10 @@ use hashers_proved::{hash_cuts, hash_lines, streams};
 use hashers_proved::shim::{Vec, std};
 
 use crate::hash_chunks::cut::cut_file;
-use crate::hash_chunks::fault::{Fault, TooMany};
+use crate::hash_chunks::failure::{Failure, TooMany};
 use cli::folder::Folder;
 use hash_cuts::{Cuts, Sink};
-use hash_lines::line::Kind;
+use hash_lines::line::LineKind;
 use hash_sums::sums::number_of_text;
 use std::alloc::{AllocError, Global};
 use std::collections::BTreeSet;
@@ -18,7 +18,7 @@ use streams::tries::write_out;
 
 /// The numbers of the chunks so far.
 pub struct Tally {
-    kind: Kind<'static>,
+    kind: LineKind<'static>,
     chunks: u64,
     bytes: u64,
     first: u64, // the bytes of the chunks whose hash no chunk before them has
@@ -35,7 +35,7 @@ impl Tally {
     /// kind: result.kind ≡ kind.entry
     /// ```
     #[inline]
-    fn new(alloc: Global, kind: Kind<'static>) -> Tally {
+    fn new(alloc: Global, kind: LineKind<'static>) -> Tally {
         Tally {
             kind,
             chunks: 0,
@@ -54,10 +54,10 @@ impl Tally {
 /// IfOk result (λ sum. sum ≡ number + more)
 /// ```
 #[inline]
-fn sum(number: u64, more: usize) -> Result<u64, Fault> {
+fn sum(number: u64, more: usize) -> Result<u64, Failure> {
     match number.checked_add(more as u64) {
         Some(sum) => Ok(sum),
-        None => Err(Fault::Own(TooMany)),
+        None => Err(Failure::Own(TooMany)),
     }
 }
 
@@ -71,10 +71,10 @@ fn sum(number: u64, more: usize) -> Result<u64, Fault> {
 ///     ≡ (number == hash || contains nat_cmp hashes.old number))
 /// ```
 #[inline]
-fn see(hashes: &mut BTreeSet<u128>, hash: u128) -> Result<bool, Fault> {
+fn see(hashes: &mut BTreeSet<u128>, hash: u128) -> Result<bool, Failure> {
     match hashes.insert(hash) {
         Ok(is_new) => Ok(is_new),
-        Err(_) => Err(Fault::NoMemory),
+        Err(_) => Err(Failure::NoMemory),
     }
 }
 
@@ -91,10 +91,10 @@ fn bytes_if(is_asked: bool, chunk: &[u8]) -> usize {
 }
 
 impl Sink for Tally {
-    type Error = Fault;
+    type Error = Failure;
 
     #[inline]
-    fn take(&mut self, chunk: &[u8]) -> Result<(), Fault> {
+    fn take(&mut self, chunk: &[u8]) -> Result<(), Failure> {
         let is_new = see(&mut self.hashes, number_of_text(self.kind, chunk))?;
         self.chunks = sum(self.chunks, 1)?;
         self.bytes = sum(self.bytes, chunk.len())?;
@@ -119,7 +119,7 @@ fn count_file<R: Read, F: Folder<R>>(
     folder: &F,
     name: &[u8],
     tally: &mut Tally,
-) -> Result<bool, Fault> {
+) -> Result<bool, Failure> {
     cut_file(buffer, cuts, folder, name, tally)
 }
 
@@ -144,7 +144,7 @@ fn count_files<R: Read, F: Folder<R>>(
     folder: &F,
     names: &[&[u8]],
     tally: &mut Tally,
-) -> Result<bool, Fault> {
+) -> Result<bool, Failure> {
     let mut buffer = Vec::new(alloc);
     let mut all = true;
     for name in names {
@@ -205,10 +205,10 @@ pub fn tell_tally<R: Read, F: Folder<R>, W: Write>(
     alloc: Global,
     cuts: &Cuts,
     folder: &F,
-    kind: Kind<'static>,
+    kind: LineKind<'static>,
     names: &[&[u8]],
     w: &mut BufWriter<W>,
-) -> Result<bool, Fault> {
+) -> Result<bool, Failure> {
     let mut tally = Tally::new(alloc, kind);
     let all = count_files(alloc, cuts, folder, names, &mut tally)?;
     match tally_lines(alloc, &tally) {
@@ -216,6 +216,6 @@ pub fn tell_tally<R: Read, F: Folder<R>, W: Write>(
             Ok(()) => Ok(all),
             Err(fault) => Err(fault),
         },
-        Err(_) => Err(Fault::NoMemory),
+        Err(_) => Err(Failure::NoMemory),
     }
 }

@@ -5,7 +5,7 @@ use crate::cli;
 use hashers_proved::hash_names;
 use hashers_proved::shim::{Vec, std};
 
-use crate::hash_spread::fault::NoTable;
+use crate::hash_spread::failure::NoTable;
 use crate::hash_spread::keys::Layout;
 use cli::call::{Call, Opt, flag, taking};
 use cli::numbers::number_of;

@@ -6,7 +6,7 @@
 use hashers_proved::{streams, text_set};
 use hashers_proved::shim::{Vec, vec, std};
 
-use crate::hash_spread::fault::{Fault, NoTable, fault_of_read};
+use crate::hash_spread::failure::{Failure, NoTable, failure_of_read};
 use std::alloc::Global;
 use std::io::{BufRead, Read};
 use std::num::NonZeroUsize;
@@ -34,11 +34,11 @@ pub enum Layout {
 /// OnOk result (keys.new.texts ≡ with_text keys.old.texts key.now)
 /// ```
 #[inline]
-fn take_key(keys: &mut Texts<RandomKeys>, key: &[u8]) -> Result<(), Fault> {
+fn take_key(keys: &mut Texts<RandomKeys>, key: &[u8]) -> Result<(), Failure> {
     match keys.see(key) {
         Ok(_) => Ok(()),
-        Err(Full::NoMemory) => Err(Fault::NoMemory),
-        Err(Full::TooManyTexts) => Err(Fault::Own(NoTable::TooManyKeys)),
+        Err(Full::NoMemory) => Err(Failure::NoMemory),
+        Err(Full::TooManyTexts) => Err(Failure::Own(NoTable::TooManyKeys)),
     }
 }
 
@@ -55,11 +55,11 @@ fn read_line<R: BufRead>(
     eol: u8,
     line: &mut Vec<u8>,
     r: &mut R,
-) -> Result<bool, Fault> {
+) -> Result<bool, Failure> {
     match next_line(r, eol, line) {
         Ok(true) => {}
         Ok(false) => return Ok(false),
-        Err(error) => return Err(fault_of_read(error)),
+        Err(error) => return Err(failure_of_read(error)),
     }
     take_key(keys, without_end(line, eol))?;
     Ok(has_end(line, eol))
@@ -79,7 +79,7 @@ fn read_lines<R: BufRead>(
     keys: &mut Texts<RandomKeys>,
     eol: u8,
     r: &mut R,
-) -> Result<bool, Fault> {
+) -> Result<bool, Failure> {
     let mut line = Vec::new(alloc);
     'lines: for _ in 0..u64::MAX {
         if !read_line(keys, eol, &mut line, r)? {
@@ -101,16 +101,16 @@ fn read_lines<R: BufRead>(
 ///
 /// ```text
 /// most: IfOk result (λ n. n ≤ length piece.old)
-/// read: IfOk result (ReadsPiece key.old.items key.new.items (R.remaining r.old) (R.remaining r.new))
+/// read: IfOk result (ReadsSome key.old.items key.new.items (R.remaining r.old) (R.remaining r.new))
 /// ```
 #[inline]
-fn read_piece<R: Read>(key: &mut Vec<u8>, piece: &mut [u8], r: &mut R) -> Result<usize, Fault> {
+fn read_piece<R: Read>(key: &mut Vec<u8>, piece: &mut [u8], r: &mut R) -> Result<usize, Failure> {
     match read_some(r, piece, TRIES) {
         Ok(n) => {
             key.extend_from_slice(&piece[..n])?;
             Ok(n)
         }
-        Err(error) => Err(fault_of_read(error)),
+        Err(error) => Err(failure_of_read(error)),
     }
 }
 
@@ -133,7 +133,7 @@ fn read_key<R: Read>(
     key: &mut Vec<u8>,
     piece: &mut [u8],
     r: &mut R,
-) -> Result<bool, Fault> {
+) -> Result<bool, Failure> {
     key.clear();
     'pieces: while key.len() < width {
         let most = piece.len().min(width - key.len());
@@ -141,7 +141,7 @@ fn read_key<R: Read>(
             return if key.is_empty() {
                 Ok(false)
             } else {
-                Err(Fault::Own(NoTable::ShortKey))
+                Err(Failure::Own(NoTable::ShortKey))
             };
         }
     }
@@ -168,7 +168,7 @@ fn read_one<R: Read>(
     key: &mut Vec<u8>,
     piece: &mut [u8],
     r: &mut R,
-) -> Result<bool, Fault> {
+) -> Result<bool, Failure> {
     if !read_key(width, key, piece, r)? {
         return Ok(false);
     }
@@ -214,7 +214,7 @@ fn read_fixed<R: Read>(
     keys: &mut Texts<RandomKeys>,
     width: usize,
     r: &mut R,
-) -> Result<bool, Fault> {
+) -> Result<bool, Failure> {
     let mut key = Vec::new(alloc);
     let mut piece = vec![in alloc; 0u8; piece_len(width)]?;
     'keys: for _ in 0..u64::MAX {
@@ -238,7 +238,7 @@ pub fn read_keys<R: BufRead>(
     keys: &mut Texts<RandomKeys>,
     layout: Layout,
     r: &mut R,
-) -> Result<(), Fault> {
+) -> Result<(), Failure> {
     let all = match layout {
         Layout::Lines(eol) => read_lines(alloc, keys, eol, r)?,
         Layout::Fixed(width) => read_fixed(alloc, keys, width.get(), r)?,
@@ -246,6 +246,6 @@ pub fn read_keys<R: BufRead>(
     if all {
         Ok(())
     } else {
-        Err(Fault::Own(NoTable::TooManyKeys))
+        Err(Failure::Own(NoTable::TooManyKeys))
     }
 }

@@ -5,7 +5,7 @@
 pub mod call;
 pub mod chance;
 pub mod counts;
-pub mod fault;
+pub mod failure;
 pub mod keys;
 pub mod named;
 pub mod rows;

@@ -7,14 +7,14 @@ use crate::cli;
 use hashers_proved::{hash_lines, streams, text_set};
 use hashers_proved::shim::{Vec, std};
 
-use crate::hash_sums::fault::Fault;
+use crate::hash_sums::failure::Failure;
 use crate::hash_sums::reports::Reports;
 use crate::hash_sums::sum::{Unsummed, error_of, number_of};
 use crate::hash_sums::sums::{is_keyed, is_named};
 use cli::folder::Folder;
 use hash_lines::escape::needs_escape;
 use hash_lines::forms::parse_form;
-use hash_lines::line::{Kind, push_name};
+use hash_lines::line::{LineKind, push_name};
 use hash_lines::parse::{HashLine, parse_line};
 use std::alloc::{AllocError, Global};
 use std::io;
@@ -30,7 +30,7 @@ const BUFFER: usize = 65536;
 #[derive(Clone, Copy)]
 pub struct Checking<'k> {
     /// By which hash lines that are not tagged are checked.
-    pub kind: Kind<'k>,
+    pub kind: LineKind<'k>,
     /// Whether lines by other hashes are improper.
     pub only: bool,
     /// Whether there are keys for lines of hashes that take them.
@@ -219,7 +219,7 @@ fn check_file<R: Read, F: Folder<R>>(
 /// result ≡ lacks_keys keyed kind.entry
 /// ```
 #[inline]
-fn lacks_keys(keyed: bool, kind: Kind<'_>) -> bool {
+fn lacks_keys(keyed: bool, kind: LineKind<'_>) -> bool {
     !keyed && is_keyed(kind)
 }
 
@@ -251,7 +251,7 @@ fn verdict_by<R: Read, F: Folder<R>>(
 /// result ≡ takes_sfv kind.entry list.now
 /// ```
 #[inline]
-fn takes_sfv(kind: Kind<'_>, list: &[u8]) -> bool {
+fn takes_sfv(kind: LineKind<'_>, list: &[u8]) -> bool {
     kind.name == "crc32" || is_named(b".sfv", &list[list.len().saturating_sub(4)..])
 }
 
@@ -293,8 +293,8 @@ fn is_skipped(line: &[u8]) -> bool {
 #[inline]
 fn entry_of<'k>(
     alloc: Global,
-    kinds: &[Kind<'k>],
-    kind: Kind<'k>,
+    kinds: &[LineKind<'k>],
+    kind: LineKind<'k>,
     sfv: bool,
     line: &[u8],
 ) -> Result<Option<HashLine<'k>>, AllocError> {
@@ -315,7 +315,7 @@ fn entry_of<'k>(
 fn check_line<'k, R: Read, F: Folder<R>>(
     alloc: Global,
     folder: &F,
-    kinds: &[Kind<'k>],
+    kinds: &[LineKind<'k>],
     checking: Checking<'k>,
     list: &[u8],
     line: &[u8],
@@ -424,20 +424,20 @@ fn without_end(line: &[u8]) -> &[u8] {
 fn tell_line<'k, R: Read, F: Folder<R>, W: Write>(
     alloc: Global,
     folder: &F,
-    kinds: &[Kind<'k>],
+    kinds: &[LineKind<'k>],
     checking: Checking<'k>,
     list: &[u8],
     line: &[u8],
     w: &mut BufWriter<W>,
-) -> Result<LineCheck<'k>, Fault> {
+) -> Result<LineCheck<'k>, Failure> {
     let text = without_end(line);
     let came = match check_line(alloc, folder, kinds, checking, list, text) {
         Ok(came) => came,
-        Err(_) => return Err(Fault::NoMemory),
+        Err(_) => return Err(Failure::NoMemory),
     };
     let said = match said(alloc, &came, checking.quiet, checking.status) {
         Ok(said) => said,
-        Err(_) => return Err(Fault::NoMemory),
+        Err(_) => return Err(Failure::NoMemory),
     };
     match write_out(w, &said) {
         Ok(()) => Ok(came),
@@ -468,12 +468,12 @@ const UNCOUNTED: Counts = Counts {
 fn check_lines<B: BufRead, R: Read, F: Folder<R> + Reports, W: Write>(
     alloc: Global,
     folder: &F,
-    kinds: &[Kind<'static>],
+    kinds: &[LineKind<'static>],
     checking: Checking<'static>,
     list: &[u8],
     lines: &mut B,
     w: &mut BufWriter<W>,
-) -> Result<Option<Counts>, Fault> {
+) -> Result<Option<Counts>, Failure> {
     let mut counts = UNCOUNTED;
     let mut line = Vec::new(alloc);
     for number in 1..u64::MAX {
@@ -518,15 +518,15 @@ fn warn<F: Reports>(reports: &F, warn: bool, list: &[u8], number: u64, came: &Li
 fn check_list<R: Read, F: Folder<R> + Reports, W: Write>(
     alloc: Global,
     folder: &F,
-    kinds: &[Kind<'static>],
+    kinds: &[LineKind<'static>],
     checking: Checking<'static>,
     list: &[u8],
     w: &mut BufWriter<W>,
-) -> Result<bool, Fault> {
+) -> Result<bool, Failure> {
     let mut lines = match folder.open(list) {
         Ok(file) => match BufReader::with_capacity(alloc, BUFFER, file) {
             Ok(lines) => lines,
-            Err(_) => return Err(Fault::NoMemory),
+            Err(_) => return Err(Failure::NoMemory),
         },
         Err(error) => {
             folder.failed(list, &error);
@@ -555,11 +555,11 @@ fn check_list<R: Read, F: Folder<R> + Reports, W: Write>(
 pub fn check_lists<R: Read, F: Folder<R> + Reports, W: Write>(
     alloc: Global,
     folder: &F,
-    kinds: &[Kind<'static>],
+    kinds: &[LineKind<'static>],
     checking: Checking<'static>,
     lists: &[&[u8]],
     w: &mut BufWriter<W>,
-) -> Result<bool, Fault> {
+) -> Result<bool, Failure> {
     let mut all = true;
     for list in lists {
         match check_list(alloc, folder, kinds, checking, list, w) {

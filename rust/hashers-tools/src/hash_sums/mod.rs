@@ -4,7 +4,7 @@
 
 pub mod check;
 pub mod disk;
-mod fault;
+mod failure;
 pub mod keys;
 pub mod laws;
 pub mod outcome;
@@ -12,4 +12,4 @@ pub mod reports;
 pub mod sum;
 pub mod sums;
 
-pub use fault::Fault;
+pub use failure::Failure;

@@ -6,8 +6,8 @@ use hashers_proved::{hash_lines, streams};
 use hashers_proved::shim::{Vec, std};
 
 use crate::hash_sums::check::{Checking, check_lists};
-use crate::hash_sums::fault::Fault;
-use crate::hash_sums::keys::{keys_for, poly61_keys_for};
+use crate::hash_sums::failure::Failure;
+use crate::hash_sums::keys::keys_for;
 use crate::hash_sums::reports::Reports;
 use crate::hash_sums::sum::{Summing, sum_files};
 use crate::hash_sums::sums::{is_named, kind_of, kinds};
@@ -16,10 +16,10 @@ use cli::folder::{Folder, files};
 use cli::frame::{About, Request, request_of, text_of};
 use cli::outcome;
 use cli::outcome::{Words, of_run, of_telling};
-use hash_lines::line::{Form, Kind};
+use hash_lines::line::{Form, LineKind};
 use std::alloc::{AllocError, Global};
 use std::io::{BufWriter, Read, Write};
-use streams::fault::Nothing;
+use streams::failure::Nothing;
 use streams::tries::write_out;
 
 /// The work that a call asks for.
@@ -160,7 +160,7 @@ fn asked<'a>(call: &Call<'a>) -> Option<&'a [u8]> {
 /// result ≡ checking_of (sayings call.now.said.items) kind.entry
 /// ```
 #[inline]
-fn checking_of(call: &Call<'_>, kind: Kind<'static>) -> Checking<'static> {
+fn checking_of(call: &Call<'_>, kind: LineKind<'static>) -> Checking<'static> {
     Checking {
         kind,
         only: asked(call).is_some(),
@@ -181,7 +181,7 @@ fn checking_of(call: &Call<'_>, kind: Kind<'static>) -> Checking<'static> {
 /// result ≡ summing_of (sayings call.now.said.items) kind.entry
 /// ```
 #[inline]
-fn summing_of(call: &Call<'_>, kind: Kind<'static>) -> Summing {
+fn summing_of(call: &Call<'_>, kind: LineKind<'static>) -> Summing {
     Summing {
         kind,
         form: if call.gives(b"untagged") {
@@ -282,7 +282,7 @@ fn misuse_of(call: &Call<'_>) -> Option<Misuse> {
 /// result ≡ work_of (sayings call.now.said.items) kind.entry
 /// ```
 #[inline]
-fn work_of(call: &Call<'_>, kind: Kind<'static>) -> Task {
+fn work_of(call: &Call<'_>, kind: LineKind<'static>) -> Task {
     if call.gives(b"check") {
         Task::Check(checking_of(call, kind))
     } else {
@@ -298,7 +298,7 @@ fn work_of(call: &Call<'_>, kind: Kind<'static>) -> Task {
 /// result ≡ task_of kinds.now (sayings call.now.said.items)
 /// ```
 #[inline]
-fn task_of(kinds: &[Kind<'static>], call: &Call<'_>) -> Result<Task, Wrong> {
+fn task_of(kinds: &[LineKind<'static>], call: &Call<'_>) -> Result<Task, Wrong> {
     if let Some(misuse) = misuse_of(call) {
         return Err(Wrong::Own(misuse));
     }
@@ -321,11 +321,11 @@ fn task_of(kinds: &[Kind<'static>], call: &Call<'_>) -> Result<Task, Wrong> {
 fn check_taken<R: Read, F: Folder<R> + Reports, W: Write>(
     alloc: Global,
     folder: &F,
-    kinds: &[Kind<'static>],
+    kinds: &[LineKind<'static>],
     checking: Checking<'static>,
     lists: &[&[u8]],
     w: &mut BufWriter<W>,
-) -> Result<bool, Fault> {
+) -> Result<bool, Failure> {
     if checking.only {
         return check_lists(alloc, folder, &[checking.kind], checking, lists, w);
     }
@@ -344,7 +344,7 @@ fn check_taken<R: Read, F: Folder<R> + Reports, W: Write>(
 fn ended<R: Read, F: Folder<R> + Reports, W: Write>(
     alloc: Global,
     folder: &F,
-    kinds: &[Kind<'static>],
+    kinds: &[LineKind<'static>],
     files: &[&[u8]],
     task: Result<Task, Wrong>,
     w: &mut BufWriter<W>,
@@ -371,7 +371,7 @@ fn ended<R: Read, F: Folder<R> + Reports, W: Write>(
 pub fn outcome_of<R: Read, F: Folder<R> + Reports, W: Write>(
     alloc: Global,
     folder: &F,
-    kinds: &[Kind<'static>],
+    kinds: &[LineKind<'static>],
     call: &Call<'_>,
     about: About<'_>,
     w: &mut BufWriter<W>,
@@ -381,7 +381,7 @@ pub fn outcome_of<R: Read, F: Folder<R> + Reports, W: Write>(
         Request::Text(text) => of_telling(write_out(w, text_of(&about, text))),
         Request::Work => match files(alloc, call) {
             Ok(files) => ended(alloc, folder, kinds, &files, task_of(kinds, call), w),
-            Err(_) => Outcome::Failed(Fault::NoMemory),
+            Err(_) => Outcome::Failed(Failure::NoMemory),
         },
     }
 }
@@ -416,12 +416,7 @@ fn keys_of_call<R: Read, F: Folder<R>>(
     folder: &F,
     call: &Call<'_>,
 ) -> Option<Option<(u64, u64)>> {
-    let file = key_file(call);
-    if asks_for(call, b"siphash24") {
-        keys_for(folder, file)
-    } else {
-        poly61_keys_for(folder, file)
-    }
+    keys_for(folder, key_file(call), asks_for(call, b"siphash24"))
 }
 
 /// Does what the call asks for, by the hashes that can be told, and by those that take keys under the keys of its key file. If the
@@ -446,7 +441,7 @@ pub fn outcome_with_keys<R: Read, F: Folder<R> + Reports, W: Write>(
         None => Outcome::Reported,
         Some(keys) => match kinds(alloc, Some(keys.unwrap_or((0, 0)))) {
             Ok(kinds) => outcome_of(alloc, folder, &kinds, call, about, w),
-            Err(_) => Outcome::Failed(Fault::NoMemory),
+            Err(_) => Outcome::Failed(Failure::NoMemory),
         },
     }
 }

@@ -5,10 +5,10 @@ use crate::cli;
 use hashers_proved::{hash_lines, hash_names, streams};
 use hashers_proved::shim::{Vec, std};
 
-use crate::hash_sums::fault::Fault;
+use crate::hash_sums::failure::Failure;
 use crate::hash_sums::sums::number_by;
 use cli::folder::Folder;
-use hash_lines::line::{Form, Kind, push_line};
+use hash_lines::line::{Form, LineKind, push_line};
 use hash_names::reading::Unhashed;
 use std::alloc::{AllocError, Global};
 use std::io::{BufWriter, Error, ErrorKind, Read, Write};
@@ -18,7 +18,7 @@ use streams::tries::write_out;
 #[derive(Clone, Copy)]
 pub struct Summing {
     /// By which hash.
-    pub kind: Kind<'static>,
+    pub kind: LineKind<'static>,
     /// In lines of which form.
     pub form: Form,
     /// Whether lines end with a zero byte and have no escapes.
@@ -60,7 +60,7 @@ pub(crate) fn error_of(unsummed: Unsummed) -> Error {
 #[inline]
 pub fn number_of<R: Read, F: Folder<R>>(
     folder: &F,
-    kind: Kind<'_>,
+    kind: LineKind<'_>,
     name: &[u8],
 ) -> Result<u128, Unsummed> {
     match folder.open(name) {
@@ -116,10 +116,10 @@ fn tell_sum<W: Write>(
     name: &[u8],
     number: u128,
     w: &mut BufWriter<W>,
-) -> Result<(), Fault> {
+) -> Result<(), Failure> {
     match sum_line(alloc, summing, name, number) {
         Ok(line) => write_out(w, &line),
-        Err(_) => Err(Fault::NoMemory),
+        Err(_) => Err(Failure::NoMemory),
     }
 }
 
@@ -138,7 +138,7 @@ fn sum_file<R: Read, F: Folder<R>, W: Write>(
     summing: Summing,
     name: &[u8],
     w: &mut BufWriter<W>,
-) -> Result<bool, Fault> {
+) -> Result<bool, Failure> {
     match number_of(folder, summing.kind, name) {
         Ok(number) => match tell_sum(alloc, summing, name, number, w) {
             Ok(()) => Ok(true),
@@ -166,7 +166,7 @@ pub fn sum_files<R: Read, F: Folder<R>, W: Write>(
     summing: Summing,
     names: &[&[u8]],
     w: &mut BufWriter<W>,
-) -> Result<bool, Fault> {
+) -> Result<bool, Failure> {
     let mut whole = true;
     for name in names {
         match sum_file(alloc, folder, summing, name, w) {

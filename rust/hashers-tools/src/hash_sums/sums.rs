@@ -6,7 +6,7 @@ use hashers_proved::shim::{Vec, std};
 
 use crate::hash_sums::keys::{hash_of_poly61, hash_of_siphash24};
 use hash_keyed::pair::poly61_pair;
-use hash_lines::line::{Kind as LineKind, Width};
+use hash_lines::line::{LineKind, Width};
 use hash_murmur3::Murmur3Hasher128;
 use hash_names::reading::{BUFFER, PIECE, Unhashed, hash_by, hash_of_wide};
 use hash_names::table::{Kind, by_kind};

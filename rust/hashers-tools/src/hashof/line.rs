@@ -6,7 +6,7 @@ use hashers_proved::shim::std;
 
 use crate::hashof::run::RunFault;
 use std::io::Write;
-use streams::fault::{Fault, Nothing};
+use streams::failure::{Failure, Nothing};
 use streams::tries::write_all;
 
 /// The most bytes of a line: twenty digits and a newline.
@@ -48,9 +48,9 @@ fn put_line(number: u64, line: &mut [u8; LINE]) -> &[u8] {
 /// IsOfWrite result
 /// ```
 #[inline]
-fn fault_of_write(fault: Fault<Nothing>) -> RunFault {
+fn fault_of_write(fault: Failure<Nothing>) -> RunFault {
     match fault {
-        Fault::Unwritten(error) => RunFault::WriteFault(error),
+        Failure::Unwritten(error) => RunFault::WriteFault(error),
         _ => unreachable!(),
     }
 }

@@ -17,7 +17,7 @@ use std::alloc::{AllocError, Global};
 use std::io;
 use std::io::BufWriter;
 use std::process::ExitCode;
-use streams::fault::Nothing;
+use streams::failure::Nothing;
 
 /// The program's name.
 const NAME: &str = "hashsum";

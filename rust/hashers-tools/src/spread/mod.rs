@@ -20,7 +20,7 @@ use hash_names::table::KINDS;
 use hash_spread::call::{
     Misuse, Outcome, Wrong, call_of, kinds_of, no_number, options, settings_of, unknown_name,
 };
-use hash_spread::fault::{Fault, NoTable};
+use hash_spread::failure::{Failure, NoTable};
 use run::tell_table;
 use std::alloc::{AllocError, Global};
 use std::io;
@@ -87,7 +87,11 @@ fn list(alloc: Global) -> Result<String, AllocError> {
 
 /// Writes the table that the call asks for.
 #[inline]
-fn worked(rt: &HostRuntime, call: &Call<'_>, w: &mut BufWriter<Stdout>) -> Result<Outcome, Fault> {
+fn worked(
+    rt: &HostRuntime,
+    call: &Call<'_>,
+    w: &mut BufWriter<Stdout>,
+) -> Result<Outcome, Failure> {
     let settings = match settings_of(call) {
         Ok(settings) => settings,
         Err(wrong) => return Ok(Outcome::Usage(wrong)),
@@ -101,7 +105,7 @@ fn worked(rt: &HostRuntime, call: &Call<'_>, w: &mut BufWriter<Stdout>) -> Resul
 
 /// Writes a text that the call asks for, or the table.
 #[inline]
-fn told(rt: &HostRuntime, call: &Call<'_>, w: &mut BufWriter<Stdout>) -> Result<Outcome, Fault> {
+fn told(rt: &HostRuntime, call: &Call<'_>, w: &mut BufWriter<Stdout>) -> Result<Outcome, Failure> {
     let alloc = rt.alloc();
     match request_of(call) {
         Request::Misgiven(misgiven) => Ok(Outcome::Usage(Wrong::Option(misgiven))),
@@ -151,7 +155,7 @@ impl Program for Spread {
         match outcome {
             Outcome::Usage(Wrong::UnknownName) => unknown_name(alloc, call).unwrap_or(None),
             Outcome::Usage(Wrong::Own(Misuse::NoNumber)) => no_number(call),
-            Outcome::Failed(Fault::Own(NoTable::Undrawn(_))) => call.value(b"plot"),
+            Outcome::Failed(Failure::Own(NoTable::Undrawn(_))) => call.value(b"plot"),
             _ => wrong_word(call),
         }
     }

@@ -12,10 +12,10 @@ use cli::inputs::open;
 use cli::progress::{Progress, Watched};
 use hash_names::table::Kind;
 use hash_spread::call::Settings;
-use hash_spread::fault::{Fault, NoTable};
+use hash_spread::failure::{Failure, NoTable};
 use hash_spread::keys::{Layout, read_keys};
 use hash_spread::named::Hashed;
-use hash_spread::rows::{Row, row_of};
+use hash_spread::rows::{TableRow, row_of};
 use hash_spread::sizes::sizes_of;
 use std::fs::{File, OpenOptions};
 use std::io;
@@ -31,21 +31,21 @@ const STANDARD: &[u8] = b"-";
 
 /// The keys of standard input, each once.
 #[inline]
-fn keys_of_input(rt: &HostRuntime, layout: Layout) -> Result<Texts<RandomKeys>, Fault> {
+fn keys_of_input(rt: &HostRuntime, layout: Layout) -> Result<Texts<RandomKeys>, Failure> {
     let alloc = rt.alloc();
     let hasher = match RandomKeys::new(rt) {
         Ok(hasher) => hasher,
-        Err(error) => return Err(Fault::Unread(error)),
+        Err(error) => return Err(Failure::Unread(error)),
     };
     let mut keys = Texts::new(alloc, hasher);
     let input = match open(rt, STANDARD) {
         Ok(input) => input,
-        Err(error) => return Err(Fault::Unread(error)),
+        Err(error) => return Err(Failure::Unread(error)),
     };
     let watched = Watched::new(input, Progress::new(rt, rt.stderr().is_terminal()));
     match BufReader::with_capacity(alloc, BUFFER, watched) {
         Ok(mut reader) => read_keys(alloc, &mut keys, layout, &mut reader)?,
-        Err(_) => return Err(Fault::NoMemory),
+        Err(_) => return Err(Failure::NoMemory),
     }
     Ok(keys)
 }
@@ -58,7 +58,7 @@ fn tell_rows(
     frame: &Frame,
     hashed: &mut Hashed,
     w: &mut BufWriter<Stdout>,
-) -> Result<Vec<Row>, Fault> {
+) -> Result<Vec<TableRow>, Failure> {
     let mut progress = Progress::new(rt, rt.stderr().is_terminal());
     let mut rows = Vec::new(rt.alloc());
     for (done, kind) in kinds.iter().enumerate() {
@@ -75,7 +75,7 @@ fn tell_rows(
         }
         write_out(w, frame.row(rt.alloc(), &row)?.as_bytes())?;
         if rows.push(row).is_err() {
-            return Err(Fault::NoMemory);
+            return Err(Failure::NoMemory);
         }
     }
     progress.clear();
@@ -86,10 +86,10 @@ fn tell_rows(
 #[inline]
 fn tell_chance(
     rt: &HostRuntime,
-    rows: &[Row],
+    rows: &[TableRow],
     frame: &Frame,
     w: &mut BufWriter<Stdout>,
-) -> Result<(), Fault> {
+) -> Result<(), Failure> {
     for bits in [0, 28, 32, 64] {
         if rows.iter().any(|row| row.kind.row().bits == bits) {
             write_out(w, frame.chance(rt.alloc(), bits)?.as_bytes())?;
@@ -102,10 +102,10 @@ fn tell_chance(
 #[inline]
 fn tell_best(
     rt: &HostRuntime,
-    rows: &[Row],
+    rows: &[TableRow],
     frame: &Frame,
     w: &mut BufWriter<Stdout>,
-) -> Result<(), Fault> {
+) -> Result<(), Failure> {
     match frame.best(rows) {
         Some(best) => {
             let name = best.kind.row().name;
@@ -142,13 +142,13 @@ fn open_canvas(rt: &HostRuntime, name: &[u8]) -> io::Result<Canvas> {
 
 /// Where the picture goes, if one is asked for.
 #[inline]
-fn canvas_of(rt: &HostRuntime, plot: Option<&[u8]>) -> Result<Option<Canvas>, Fault> {
+fn canvas_of(rt: &HostRuntime, plot: Option<&[u8]>) -> Result<Option<Canvas>, Failure> {
     let Some(name) = plot else {
         return Ok(None);
     };
     match open_canvas(rt, name) {
         Ok(canvas) => Ok(Some(canvas)),
-        Err(error) => Err(Fault::Own(NoTable::Undrawn(error))),
+        Err(error) => Err(Failure::Own(NoTable::Undrawn(error))),
     }
 }
 
@@ -158,22 +158,22 @@ fn fill(file: &mut File, text: &str) -> io::Result<()> {
     if file.metadata()?.is_file() {
         file.set_len(0)?;
     }
-    let filled: Result<(), Fault> = write_all(file, text.as_bytes(), TRIES);
+    let filled: Result<(), Failure> = write_all(file, text.as_bytes(), TRIES);
     match filled {
         Ok(()) => Ok(()),
-        Err(Fault::Unwritten(Some(error))) => Err(error),
+        Err(Failure::Unwritten(Some(error))) => Err(error),
         Err(_) => Err(Error::new(ErrorKind::WriteZero, "no bytes were written")),
     }
 }
 
 /// Draws the picture.
 #[inline]
-fn draw(canvas: Canvas, text: &str, w: &mut BufWriter<Stdout>) -> Result<(), Fault> {
+fn draw(canvas: Canvas, text: &str, w: &mut BufWriter<Stdout>) -> Result<(), Failure> {
     match canvas {
         Canvas::Standard => write_out(w, text.as_bytes()),
         Canvas::File(mut file) => match fill(&mut file, text) {
             Ok(()) => Ok(()),
-            Err(error) => Err(Fault::Own(NoTable::Undrawn(error))),
+            Err(error) => Err(Failure::Own(NoTable::Undrawn(error))),
         },
     }
 }
@@ -185,11 +185,11 @@ pub fn tell_table(
     kinds: &[Kind],
     plot: Option<&[u8]>,
     w: &mut BufWriter<Stdout>,
-) -> Result<(), Fault> {
+) -> Result<(), Failure> {
     let canvas = canvas_of(rt, plot)?;
     let keys = keys_of_input(rt, settings.layout)?;
     if keys.is_empty() {
-        return Err(Fault::Own(NoTable::NoKeys));
+        return Err(Failure::Own(NoTable::NoKeys));
     }
     let frame = Frame {
         keys: keys.len() as u64,

@@ -7,7 +7,7 @@ use crate::hash_spread;
 use hashers_proved::shim::{String, Vec, format, std};
 
 use hash_spread::chance::{Chance, equal_pairs};
-use hash_spread::rows::Row;
+use hash_spread::rows::TableRow;
 use hash_spread::sizes::Sizes;
 use std::alloc::{AllocError, Global};
 
@@ -97,7 +97,8 @@ impl Line {
     /// Proved:
     ///
     /// ```text
-    /// OnOk result (AddsCells (string_bytes self.old.text) (map string_bytes cells.now) (string_bytes self.new.text))
+    /// OnOk result (AddsCells (string_bytes self.old.text) (map string_bytes cells.now)
+    ///     (string_bytes self.new.text))
     /// ```
     #[inline]
     fn push_cells(&mut self, cells: &[String], columns: &[Column]) -> Result<(), AllocError> {
@@ -116,7 +117,8 @@ impl Line {
     /// Proved:
     ///
     /// ```text
-    /// OnOk result (AddsCells (string_bytes self.old.text) (names columns.now) (string_bytes self.new.text))
+    /// OnOk result (AddsCells (string_bytes self.old.text) (names columns.now)
+    ///     (string_bytes self.new.text))
     /// ```
     #[inline]
     fn push_names(&mut self, columns: &[Column]) -> Result<(), AllocError> {
@@ -322,7 +324,7 @@ impl Frame {
     /// IfOk result (λ line. IsRow row.now (string_bytes line))
     /// ```
     #[inline]
-    pub fn row(&self, alloc: Global, row: &Row) -> Result<String, AllocError> {
+    pub fn row(&self, alloc: Global, row: &TableRow) -> Result<String, AllocError> {
         let mut line = Line::new(alloc, row.kind.row().name)?;
         let cells = cells_of(alloc, &row.numbers(alloc)?)?;
         line.push_cells(&cells, &self.columns(alloc)?)?;
@@ -354,8 +356,8 @@ impl Frame {
 
     /// The fastest hasher of those whose sum of squares lies within three standard deviations of chance, at each number of buckets.
     #[inline]
-    pub fn best<'r>(&self, rows: &'r [Row]) -> Option<&'r Row> {
-        let mut best: Option<&'r Row> = None;
+    pub fn best<'r>(&self, rows: &'r [TableRow]) -> Option<&'r TableRow> {
+        let mut best: Option<&'r TableRow> = None;
         for row in rows {
             if self.is_even(row) && is_faster(row, best) {
                 best = Some(row);
@@ -366,7 +368,7 @@ impl Frame {
 
     /// Whether the sum of squares lies within three standard deviations of chance, at each number of buckets.
     #[inline]
-    fn is_even(&self, row: &Row) -> bool {
+    fn is_even(&self, row: &TableRow) -> bool {
         for spread in [Some(row.counts.first), row.counts.second] {
             if let Some(spread) = spread {
                 if !Chance::of(self.keys, spread.buckets).is_near(spread.squares) {
@@ -380,7 +382,7 @@ impl Frame {
 
 /// Whether a row has a time, and the other has none or a longer one.
 #[inline]
-fn is_faster(row: &Row, other: Option<&Row>) -> bool {
+fn is_faster(row: &TableRow, other: Option<&TableRow>) -> bool {
     let (Some(time), Some(other)) = (row.time, other) else {
         return row.time.is_some();
     };

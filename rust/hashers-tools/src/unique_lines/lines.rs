@@ -5,7 +5,7 @@ use hashers_proved::streams;
 use hashers_proved::shim::std;
 
 use crate::unique_lines::ahead::Ahead;
-use crate::unique_lines::fault::Fault;
+use crate::unique_lines::failure::Failure;
 use crate::unique_lines::task::LineTask;
 use std::io::Write;
 use streams::tries::{TRIES, write_all};
@@ -25,7 +25,7 @@ use streams::tries::{TRIES, write_all};
 /// err: OnErr result (AppendsPart (W.contents w.old) (W.contents w.new) (as_line_by eol line.now))
 /// ```
 #[inline]
-pub fn write_line<W: Write>(w: &mut W, line: &[u8], text: &[u8], eol: u8) -> Result<(), Fault> {
+pub fn write_line<W: Write>(w: &mut W, line: &[u8], text: &[u8], eol: u8) -> Result<(), Failure> {
     if text.len() < line.len() {
         return write_all(w, line, TRIES);
     }
@@ -49,6 +49,7 @@ pub fn write_line<W: Write>(w: &mut W, line: &[u8], text: &[u8], eol: u8) -> Res
 ///     × Leads (At (T.output eol) (T.taken eol task.old) (W.contents w.old))
 ///     (At (T.output eol) (T.taken eol task.new) (W.contents w.new)) ls)
 /// broke: OnErr result ((ls : List (List ℕ)) × (rest : List ℕ) × Splits eol bytes.now ls rest
+///     × (length ls ≤ most)
 ///     × Leads (At (T.output eol) (T.taken eol task.old) (W.contents w.old))
 ///     (Broke (T.output eol) (W.contents w.new)) ls)
 /// ```
@@ -59,7 +60,7 @@ pub fn take_lines<T: LineTask, W: Write>(
     eol: u8,
     most: u64,
     w: &mut W,
-) -> Result<(u64, usize), Fault> {
+) -> Result<(u64, usize), Failure> {
     let mut rest = bytes;
     let mut ahead = Ahead::new();
     for count in 0..most {

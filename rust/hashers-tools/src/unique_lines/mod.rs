@@ -3,7 +3,7 @@
 // What follows is the proved text of crates/unique_lines/src/lib.rt without its contracts.
 
 mod ahead;
-mod fault;
+mod failure;
 pub mod laws;
 mod lines;
 pub mod once;
@@ -13,5 +13,5 @@ pub mod tally;
 mod task;
 mod unread;
 
-pub use fault::{Fault, TooMany};
+pub use failure::{Failure, TooMany};
 pub use run::Ended;

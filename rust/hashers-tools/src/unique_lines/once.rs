@@ -5,7 +5,7 @@ use crate::cli;
 use hashers_proved::text_set;
 use hashers_proved::shim::std;
 
-use crate::unique_lines::fault::{Fault, see};
+use crate::unique_lines::failure::{Failure, see};
 use crate::unique_lines::lines::write_line;
 use crate::unique_lines::run::{Ended, take_inputs};
 use crate::unique_lines::task::LineTask;
@@ -39,7 +39,7 @@ impl<S: BuildHasher> LineTask for Once<S> {
         eol: u8,
         guess: Guess,
         w: &mut W,
-    ) -> Result<(), Fault> {
+    ) -> Result<(), Failure> {
         if see(&mut self.seen, text, guess)?.is_new {
             write_line(w, line, text, eol)?;
         }
@@ -66,7 +66,7 @@ pub fn dedup<S: BuildHasher, R: Read, C: Complaints, W: Write>(
     inputs: &mut [R],
     complaints: &mut C,
     w: &mut BufWriter<W>,
-) -> Result<Ended, Fault> {
+) -> Result<Ended, Failure> {
     let mut once = Once {
         seen: Texts::new(alloc, hasher),
     };

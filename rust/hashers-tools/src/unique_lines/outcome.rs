@@ -5,7 +5,7 @@ use crate::cli;
 use hashers_proved::streams;
 use hashers_proved::shim::{Vec, std};
 
-use crate::unique_lines::fault::{Fault, TooMany};
+use crate::unique_lines::failure::{Failure, TooMany};
 use crate::unique_lines::once::dedup;
 use crate::unique_lines::run::Ended;
 use crate::unique_lines::tally::{Which, tally};
@@ -17,7 +17,7 @@ use cli::outcome::{Wrong, of_telling};
 use std::alloc::{AllocError, Global};
 use std::hash::BuildHasher;
 use std::io::{BufWriter, Read, Write};
-use streams::fault::Nothing;
+use streams::failure::Nothing;
 use streams::tries::write_out;
 
 /// What is to be written of the lines.
@@ -113,11 +113,11 @@ fn work_of(call: &Call<'_>) -> Task {
 /// result ≡ of_run ended
 /// ```
 #[inline]
-fn of_run(ended: Result<Ended, Fault>) -> Outcome {
+fn of_run(ended: Result<Ended, Failure>) -> Outcome {
     match ended {
         Ok(Ended::Whole) => Outcome::Done,
         Ok(Ended::InputFailed) => Outcome::Reported,
-        Ok(Ended::TooManyLines) => Outcome::Failed(Fault::Own(TooMany::Lines)),
+        Ok(Ended::TooManyLines) => Outcome::Failed(Failure::Own(TooMany::Lines)),
         Err(fault) => Outcome::Failed(fault),
     }
 }
@@ -127,8 +127,8 @@ fn of_run(ended: Result<Ended, Fault>) -> Outcome {
 /// Proved:
 ///
 /// ```text
-/// Exits (sayings call.now.said.items) about.entry.help.now about.entry.version.now about.entry.list.now limit
-///     (run_of R.remaining inputs.old inputs.new (writer_contents W.contents) w.old w.new) result
+/// Exits (sayings call.now.said.items) about.entry.help.now about.entry.version.now about.entry.list.now
+///     limit (run_of R.remaining inputs.old inputs.new (writer_contents W.contents) w.old w.new) result
 /// ```
 #[inline]
 pub fn outcome_of<S: BuildHasher, R: Read, C: Complaints, W: Write>(

@@ -5,7 +5,7 @@ use crate::cli;
 use hashers_proved::streams;
 use hashers_proved::shim::std;
 
-use crate::unique_lines::fault::Fault;
+use crate::unique_lines::failure::Failure;
 use crate::unique_lines::lines::take_lines;
 use crate::unique_lines::task::LineTask;
 use crate::unique_lines::unread::{NextLine, Unread};
@@ -56,6 +56,7 @@ pub enum Left {
 /// flushed: OnOk result (writer_buffer w.new ≡ [])
 /// broke: OnErr result (Leads (At (T.output eol) (T.taken eol task.old) (writer_contents W.contents w.old))
 ///     (Broke (T.output eol) (writer_contents W.contents w.new)) (lines_by eol line.now))
+/// few: OnErr result (length (lines_by eol line.now) ≤ most.old)
 /// ```
 #[inline]
 fn take_last<T: LineTask, W: Write>(
@@ -64,7 +65,7 @@ fn take_last<T: LineTask, W: Write>(
     eol: u8,
     most: &mut u64,
     w: &mut BufWriter<W>,
-) -> Result<Left, Fault> {
+) -> Result<Left, Failure> {
     if line.is_empty() {
         return Ok(Left::Done);
     }
@@ -99,9 +100,9 @@ fn take_last<T: LineTask, W: Write>(
 ///     (R.remaining r.new))
 /// unread: OnOk result (unread.new ≡ [])
 /// flushed: OnOk result (writer_buffer w.new ≡ [])
-/// broke: OnErr result ((ls : List (List ℕ)) × BeginWith eol (R.remaining r.old) ls
-///     × Leads (At (T.output eol) (T.taken eol task.old) (writer_contents W.contents w.old))
-///     (Broke (T.output eol) (writer_contents W.contents w.new)) ls)
+/// broke: OnErr result (BreaksInput
+///     (At (T.output eol) (T.taken eol task.old) (writer_contents W.contents w.old))
+///     (Broke (T.output eol) (writer_contents W.contents w.new)) eol most.old (R.remaining r.old))
 /// ```
 #[inline]
 fn take_input<T: LineTask, R: Read, W: Write>(
@@ -111,7 +112,7 @@ fn take_input<T: LineTask, R: Read, W: Write>(
     most: &mut u64,
     r: &mut R,
     w: &mut BufWriter<W>,
-) -> Result<Left, Fault> {
+) -> Result<Left, Failure> {
     loop {
         match unread.fill(eol, r, w)? {
             NextLine::Line => {
@@ -129,7 +130,7 @@ fn take_input<T: LineTask, R: Read, W: Write>(
                 unread.clear();
                 return Ok(left);
             }
-            NextLine::Fault(error) => {
+            NextLine::Failure(error) => {
                 unread.clear();
                 return Ok(Left::Failed(error));
             }
@@ -164,7 +165,7 @@ pub fn take_inputs<T: LineTask, R: Read, C: Complaints, W: Write>(
     inputs: &mut [R],
     complaints: &mut C,
     w: &mut BufWriter<W>,
-) -> Result<Ended, Fault> {
+) -> Result<Ended, Failure> {
     let mut unread = Unread::new(alloc);
     let mut most = limit;
     let mut whole = true;

@@ -5,7 +5,7 @@ use crate::cli;
 use hashers_proved::{streams, text_set};
 use hashers_proved::shim::{Vec, std};
 
-use crate::unique_lines::fault::{Fault, see};
+use crate::unique_lines::failure::{Failure, see};
 use crate::unique_lines::run::{Ended, take_inputs};
 use crate::unique_lines::task::LineTask;
 use cli::inputs::Complaints;
@@ -74,12 +74,12 @@ fn count<S: BuildHasher>(
     times: &mut Vec<u64>,
     text: &[u8],
     guess: Guess,
-) -> Result<(), Fault> {
+) -> Result<(), Failure> {
     let seen = see(texts, text, guess)?;
     if seen.is_new {
         return match times.push(1) {
             Ok(()) => Ok(()),
-            Err(_) => Err(Fault::NoMemory),
+            Err(_) => Err(Failure::NoMemory),
         };
     }
     times[seen.place] += 1;
@@ -105,7 +105,7 @@ impl<S: BuildHasher> LineTask for Counts<S> {
         _eol: u8,
         guess: Guess,
         _w: &mut W,
-    ) -> Result<(), Fault> {
+    ) -> Result<(), Failure> {
         count(&mut self.texts, &mut self.times, text, guess)
     }
 }
@@ -132,10 +132,10 @@ fn push_line(out: &mut Vec<u8>, text: &[u8], eol: u8) -> Result<(), AllocError> 
 /// OnOk result (out.new.items ≡ column times ++ (text.now ++ eol ∷ []))
 /// ```
 #[inline]
-fn show_counted(times: u64, text: &[u8], eol: u8, out: &mut Vec<u8>) -> Result<(), Fault> {
+fn show_counted(times: u64, text: &[u8], eol: u8, out: &mut Vec<u8>) -> Result<(), Failure> {
     out.clear();
     if write!(out, "{times:>7} ").is_err() {
-        return Err(Fault::NoMemory);
+        return Err(Failure::NoMemory);
     }
     push_line(out, text, eol)?;
     Ok(())
@@ -149,7 +149,7 @@ fn show_counted(times: u64, text: &[u8], eol: u8, out: &mut Vec<u8>) -> Result<(
 /// OnOk result (out.new.items ≡ text.now ++ eol ∷ [])
 /// ```
 #[inline]
-fn show_plain(text: &[u8], eol: u8, out: &mut Vec<u8>) -> Result<(), Fault> {
+fn show_plain(text: &[u8], eol: u8, out: &mut Vec<u8>) -> Result<(), Failure> {
     out.clear();
     push_line(out, text, eol)?;
     Ok(())
@@ -175,7 +175,7 @@ fn is_shown(which: Which, times: u64) -> bool {
 /// OnOk result (out.new.items ≡ shown eol which times text.now)
 /// ```
 #[inline]
-fn show(which: Which, times: u64, text: &[u8], eol: u8, out: &mut Vec<u8>) -> Result<(), Fault> {
+fn show(which: Which, times: u64, text: &[u8], eol: u8, out: &mut Vec<u8>) -> Result<(), Failure> {
     if !is_shown(which, times) {
         out.clear();
         return Ok(());
@@ -210,7 +210,7 @@ fn write_tallies<S: BuildHasher, W: Write>(
     texts: &Texts<S>,
     times: &[u64],
     w: &mut W,
-) -> Result<(), Fault> {
+) -> Result<(), Failure> {
     let mut out = Vec::new(alloc);
     for i in 0..times.len() {
         show(which, times[i], texts.text_at(i), eol, &mut out)?;
@@ -228,6 +228,8 @@ fn write_tallies<S: BuildHasher, W: Write>(
 /// ```text
 /// ended: Ends (told eol which) eol limit
 ///     (run_of R.remaining inputs.old inputs.new (writer_contents W.contents) w.old w.new) result
+/// beyond: IfOk result (λ ended. ended ≡ TooManyLines
+///     → Keeps (writer_contents W.contents w.old) (writer_contents W.contents w.new))
 /// flushed: OnOk result (writer_buffer w.new ≡ [])
 /// ```
 #[inline]
@@ -240,7 +242,7 @@ pub fn tally<S: BuildHasher, R: Read, C: Complaints, W: Write>(
     inputs: &mut [R],
     complaints: &mut C,
     w: &mut BufWriter<W>,
-) -> Result<Ended, Fault> {
+) -> Result<Ended, Failure> {
     let mut counts = Counts::new(alloc, hasher);
     let ended = take_inputs(alloc, &mut counts, eol, limit, inputs, complaints, w)?;
     if let Ended::TooManyLines = ended {

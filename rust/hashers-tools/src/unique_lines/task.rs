@@ -4,7 +4,7 @@
 use hashers_proved::text_set;
 use hashers_proved::shim::std;
 
-use crate::unique_lines::fault::Fault;
+use crate::unique_lines::failure::Failure;
 use std::io::Write;
 use text_set::Guess;
 
@@ -49,5 +49,5 @@ pub trait LineTask {
         eol: u8,
         guess: Guess,
         w: &mut W,
-    ) -> Result<(), Fault>;
+    ) -> Result<(), Failure>;
 }

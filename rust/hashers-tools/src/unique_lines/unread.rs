@@ -6,7 +6,7 @@
 use hashers_proved::{streams, text_set};
 use hashers_proved::shim::{Vec, std};
 
-use crate::unique_lines::fault::Fault;
+use crate::unique_lines::failure::Failure;
 use std::alloc::Global;
 use std::io;
 use std::io::{BufWriter, Error, Read, Write};
@@ -23,7 +23,7 @@ pub enum NextLine {
     /// The end of the input. The bytes are its last line, which has no end, or none.
     End,
     /// A fault. The bytes are a line that it broke, or none.
-    Fault(Error),
+    Failure(Error),
 }
 
 /// Bytes that were read and are not taken yet: what is left of the last line, and what was read behind it.
@@ -72,12 +72,12 @@ fn to_front(bytes: &mut Vec<u8>, from: usize, to: usize) {
 /// err: OnErr result (bytes.new.items ≡ bytes.old.items)
 /// ```
 #[inline]
-fn make_room(bytes: &mut Vec<u8>, to: usize) -> Result<(), Fault> {
+fn make_room(bytes: &mut Vec<u8>, to: usize) -> Result<(), Failure> {
     let len = bytes.len();
     if len - to < BUFFER / 2 {
         match len.checked_add(BUFFER) {
             Some(more) => bytes.resize(more, 0)?,
-            None => return Err(Fault::NoMemory),
+            None => return Err(Failure::NoMemory),
         }
     }
     Ok(())
@@ -95,7 +95,7 @@ fn make_room(bytes: &mut Vec<u8>, to: usize) -> Result<(), Fault> {
 ///
 /// ```text
 /// within: IfOk result (λ n. to + n ≤ length bytes.new)
-/// read: IfOk result (λ n. ReadsBehind (take to bytes.old) (take (to + n) bytes.new)
+/// read: IfOk result (λ n. ReadsSome (take to bytes.old) (take (to + n) bytes.new)
 ///     (R.remaining r.old) (R.remaining r.new) n)
 /// kept: OnErr result (take to bytes.new ≡ take to bytes.old)
 /// err: OnErr result (Keeps (R.remaining r.old) (R.remaining r.new))
@@ -183,11 +183,11 @@ impl Unread {
     ///
     /// ```text
     /// IfOk result (λ read. MatchResult read
-    ///     (ReadsBehind self.old self.new (R.remaining r.old) (R.remaining r.new))
+    ///     (ReadsSome self.old self.new (R.remaining r.old) (R.remaining r.new))
     ///     (λ _. (self.new ≡ self.old) × Keeps (R.remaining r.old) (R.remaining r.new)))
     /// ```
     #[inline]
-    fn read<R: Read>(&mut self, r: &mut R) -> Result<io::Result<usize>, Fault> {
+    fn read<R: Read>(&mut self, r: &mut R) -> Result<io::Result<usize>, Failure> {
         to_front(&mut self.bytes, self.from, self.to);
         self.to -= self.from;
         self.from = 0;
@@ -221,13 +221,13 @@ impl Unread {
         eol: u8,
         r: &mut R,
         due: &BufWriter<W>,
-    ) -> Result<NextLine, Fault> {
+    ) -> Result<NextLine, Failure> {
         loop {
             let len = self.bytes().len();
             match self.read(r)? {
                 Ok(0) => return Ok(NextLine::End),
                 Ok(_) => {}
-                Err(error) => return Ok(NextLine::Fault(error)),
+                Err(error) => return Ok(NextLine::Failure(error)),
             }
             if line_end(&self.bytes()[len..], eol).is_some() {
                 return Ok(NextLine::Line);

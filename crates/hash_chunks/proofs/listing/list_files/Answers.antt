@@ -3,7 +3,7 @@ use denote.Ref.{Bor}
 use Rattle.std.specs.Io.Buffered.{writer_contents}
 use Rattle.hash_chunks.specs.Cut.{Cut, IsFileCut, is_whole, name_of}
 use Rattle.hash_chunks.specs.Listing.{EndsLines, lines_of}
-use Rattle.hash_lines.specs.declared.line.Kind.{Kind}
+use Rattle.hash_lines.specs.declared.line.LineKind.{LineKind}
 use Rattle.hash_sums.specs.Told.{AreTold}
 use Rattle.hash_sums.proofs.ToldLemmas.{names_more, names_rest, told_next}
 use Rattle.hash_chunks.proofs.listing.list_files.Goals as goal
@@ -30,7 +30,7 @@ returns-in-Err g c =
           ∙ names_rest (λ (n : Bor (List ℕ)). n.now) names i nothing c.loop-name-test.true;
       so_far = subst (λ (ns : List (List ℕ)). AreTold name_of (IsFileCut c.args.cuts.now opens) (lines_of c.args.kind) is_whole ns told
           (contents c.args.lines.now.w) (contents c.loop-name.lines.w) c.loop-name.all) (sym so_far.names_are) so_far;
-      last = subst (λ (kind : Kind). EndsLines kind c.args.cuts.now opens name (contents c.loop-name.lines.w)
+      last = subst (λ (kind : LineKind). EndsLines kind c.args.cuts.now opens name (contents c.loop-name.lines.w)
           (contents c.list_file.new.lines.w) (Err c.in-Err.fault)) c.loop-name.invariant.kind c.in-Err.ensures.listed;
     }
 
@@ -43,7 +43,7 @@ loop-name-preserved g c =
     let (told, so_far) = c.loop-name.invariant.told in
     let name = (get_or names i nothing).now in
     let ends : EndsLines c.args.kind c.args.cuts.now opens name (contents c.loop-name.lines.w) (contents c.list_file.new.lines.w) (Ok c.in-Ok.whole) =
-    subst (λ (kind : Kind). EndsLines kind c.args.cuts.now opens name (contents c.loop-name.lines.w)
+    subst (λ (kind : LineKind). EndsLines kind c.args.cuts.now opens name (contents c.loop-name.lines.w)
     (contents c.list_file.new.lines.w) (Ok c.in-Ok.whole)) c.loop-name.invariant.kind c.in-Ok.ensures.listed in
     let file : Cut = (name, (ends.0, c.in-Ok.whole)) in
     record {

@@ -4,7 +4,7 @@ use Rattle.hash_chunks.specs.Counted.{CountsMore, IsCounted}
 use Rattle.hash_chunks.specs.Cut.{Cut}
 use Rattle.hash_chunks.specs.Tally.{all_given}
 use Rattle.hash_chunks.proofs.TallyLemmas.{cut_more, given_more}
-use Rattle.hash_lines.specs.declared.line.Kind.{Kind}
+use Rattle.hash_lines.specs.declared.line.LineKind.{LineKind}
 use Rattle.hash_sums.specs.Sums.{sum_by}
 use Rattle.hash_sums.proofs.ToldLemmas.{names_more}
 use Rattle.hash_chunks.proofs.tally.count_files.Goals as goal
@@ -19,7 +19,7 @@ loop-name-preserved g c =
     let (given, is_cut, more) = c.in_ok-whole.ensures.counted in
     let file : Cut = ((get_or names i d).now, (given, c.in_ok-whole.whole)) in
     let new = c.count_file.new.tally in
-    let counts = subst (λ (kind : Kind). CountsMore (sum_by kind) c.loop-name.tally new given) before.kind more in
+    let counts = subst (λ (kind : LineKind). CountsMore (sum_by kind) c.loop-name.tally new given) before.kind more in
     record {
       kind = c.in_ok-whole.ensures.kind ∙ before.kind;
       counted = (

@@ -4,7 +4,7 @@ use Rattle.streams.specs.Streams.{AppendsPart}
 use Rattle.hash_chunks.specs.Counted.{IsCounted}
 use Rattle.hash_chunks.specs.Tally.{all_given}
 use Rattle.hash_chunks.proofs.TallyLemmas.{lines_counted}
-use Rattle.hash_lines.specs.declared.line.Kind.{Kind}
+use Rattle.hash_lines.specs.declared.line.LineKind.{LineKind}
 use Rattle.hash_sums.specs.Sums.{sum_by}
 use Rattle.hash_chunks.proofs.tally.tell_tally.Goals as goal
 
@@ -13,7 +13,7 @@ returns-in-Ok g c =
     let contents = writer_contents g.W.Write.contents in
     let (files, are_cut, counted) = c.in_ok-all.ensures in
     let tally = c.count_files.new.tally in
-    let counts = subst (λ (kind : Kind). IsCounted (sum_by kind) (all_given files) tally) c.new-tally.ensures.kind counted in
+    let counts = subst (λ (kind : LineKind). IsCounted (sum_by kind) (all_given files) tally) c.new-tally.ensures.kind counted in
     inr (
       files,
       c.in_ok-all.all,

@@ -5,7 +5,8 @@ use Rattle.hash_cuts.specs.Cuts.{Cutting, HasSizes, first_cut}
 use Rattle.hash_cuts.specs.Reading.{GivesFirst, Takes}
 use Rattle.hash_cuts.proofs.ChunkLemmas.{first_cut-le}
 use Rattle.hash_cuts.proofs.CutLemmas.{first_cut-is}
-use Rattle.hash_cuts.proofs.GivenLemmas.{gives-more, gives-refused, on_err}
+use Rattle.hash_cuts.proofs.GivenLemmas.{gives-more, gives-refused}
+use Rattle.streams.proofs.StreamLemmas.{on_err}
 use Rattle.hash_cuts.proofs.reader.give_first.Goals.{else-n-rest-via-then-n-rest+else-n-most, else-n-rest-via-else-n-rest, else-loop-given-test, then-loop-given-test+then-n-rest+then-n-most}
 use Rattle.hash_cuts.proofs.reader.give_first.Goals as goal
 

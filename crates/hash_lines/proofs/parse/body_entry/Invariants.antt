@@ -1,9 +1,9 @@
 use Rattle.std.proofs.Common.{◌≡◌, ◌<◌, ℕ, List, get_or}
-use Rattle.hash_lines.specs.declared.line.Kind.{Kind}
+use Rattle.hash_lines.specs.declared.line.LineKind.{LineKind}
 use Rattle.hash_lines.specs.Told.{TellsTagged}
 use Rattle.hash_lines.proofs.parse.body_entry.Given as goal
 
 -- the kinds so far are not told
 abbrev pub invariant-loop-tagged : goal.invariant-loop-tagged
-invariant-loop-tagged l = (k : ℕ) → k < l.tagged-index → (other : Kind) → get_or l.kinds k other ≡ other
+invariant-loop-tagged l = (k : ℕ) → k < l.tagged-index → (other : LineKind) → get_or l.kinds k other ≡ other
     → (name : List ℕ) (number : ℕ) → ¬ (TellsTagged other l.escapes name number l.body)

@@ -1,7 +1,7 @@
 use Rattle.std.proofs.Common.{ℕ, ◌%◌, ◌^◌, ◌<◌, ◌≤◌, List, arith, lit≤}
 use Rattle.hash_laws.specs.Text.{IsText}
 use Rattle.hash_lines.specs.Line.{digits_of}
-use Rattle.hash_lines.specs.declared.line.Kind.{Kind as LineKind}
+use Rattle.hash_lines.specs.declared.line.LineKind.{LineKind}
 use Rattle.hash_keyed.specs.Poly61.{prime61}
 use Rattle.hash_names.specs.Named.{bits_of}
 use Rattle.hash_names.specs.Wide.{both}

@@ -15,5 +15,5 @@ returns g c folder call ended list is_list kind name number told =
     let kinds = taken ended.told checking in
     let tags = c.kinds_are_tags.ensures (Some (unwrap_or ended.keys (0, 0))) ended.told ended.kind ended.are_told in
     let are = taken_are_tags ended.told checking tags (kind_is_there ended.told (asked call) ended.kind ended.is_asked) in
-    told_is_so kinds checking opens are list kind name number told.of_another
+    told_is_so kinds checking opens are list kind name number
     (All-contains (HasPassed kinds checking opens) (files_or (operands call)) list ended.passed is_list) told

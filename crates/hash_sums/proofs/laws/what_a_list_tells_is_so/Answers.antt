@@ -1,6 +1,10 @@
-use Rattle.hash_sums.proofs.TellsLemmas.{told_is_so}
+use Rattle.hash_sums.proofs.TellsLemmas.{line_is_so, told_is_so}
 use Rattle.hash_sums.proofs.laws.what_a_list_tells_is_so.Goals as goal
 
-pub returns : goal.returns
-returns g c folder kinds checking list kind name number are passed told =
-    told_is_so kinds checking (g.F.Folder.opens folder) are list kind name number told.of_another passed told
+pub returns-clause-read : goal.returns-clause-read
+returns-clause-read g c folder kinds checking list kind name number are passed line is_line told =
+    line_is_so kinds checking (g.F.Folder.opens folder) are list line kind name number passed is_line told
+
+pub returns-clause-told : goal.returns-clause-told
+returns-clause-told g c folder kinds checking list kind name number are passed told =
+    told_is_so kinds checking (g.F.Folder.opens folder) are list kind name number passed told

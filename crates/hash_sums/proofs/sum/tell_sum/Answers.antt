@@ -2,17 +2,17 @@ use Rattle.std.proofs.Common.{Result, Ok, Err, OnOk, OnErr, Option, List, ℕ, s
 use Rattle.std.specs.Io.Buffered.{writer_contents}
 use Rattle.std.specs.Io.KnownBytes.{Appends}
 use Rattle.streams.specs.Streams.{AppendsPart, WritesOut}
-use Rattle.streams.specs.declared.fault.Fault.{Fault}
+use Rattle.streams.specs.declared.failure.Failure.{Failure}
 use Rattle.streams.proofs.StreamLemmas.{part_none}
 use Rattle.hash_sums.proofs.sum.tell_sum.Goals as goal
 
 -- what stands after a text is put out, by its two cases
-puts_ok : {Own : Type 0} (bytes : List ℕ) (w w' : Option (List ℕ)) (result : Result (Unit {0}) (Fault Own)) → WritesOut bytes w w' result
+puts_ok : {Own : Type 0} (bytes : List ℕ) (w w' : Option (List ℕ)) (result : Result (Unit {0}) (Failure Own)) → WritesOut bytes w w' result
     → OnOk result (Appends w w' bytes)
 puts_ok bytes w w' (Ok done) puts = puts
 puts_ok bytes w w' (Err fault) puts = tt
 
-puts_err : {Own : Type 0} (bytes : List ℕ) (w w' : Option (List ℕ)) (result : Result (Unit {0}) (Fault Own)) → WritesOut bytes w w' result
+puts_err : {Own : Type 0} (bytes : List ℕ) (w w' : Option (List ℕ)) (result : Result (Unit {0}) (Failure Own)) → WritesOut bytes w w' result
     → OnErr result (AppendsPart w w' bytes)
 puts_err bytes w w' (Ok done) puts = tt
 puts_err bytes w w' (Err fault) puts = puts.0

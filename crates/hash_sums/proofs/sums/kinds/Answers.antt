@@ -1,6 +1,6 @@
 use Rattle.std.proofs.Common.{◌≡◌, arith, ◌∷◌, ◌++◌, [], List, Vec, map, ap, ap₂, ◌∙◌, sym}
 use Rattle.std.proofs.lemmas.List.{append_assoc, map-append, append-nil}
-use Rattle.hash_lines.specs.declared.line.Kind.{Kind as LineKind}
+use Rattle.hash_lines.specs.declared.line.LineKind.{LineKind}
 use Rattle.std.proofs.lemmas.List.FromFn.{map-range_with_len_more}
 use Rattle.std.specs.List.{range_with_len}
 use Rattle.hash_sums.specs.Sums.{kinds, told_at, told_of, Told}

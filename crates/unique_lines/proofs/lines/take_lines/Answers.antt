@@ -43,4 +43,10 @@ returns-in_err-take_line-in-Some-clause-broke g c =
     let (ls, splits, counted, leads, is, within, none, next) = c.loop-count.invariant in
     let first = splits_line c.loop-count.rest.now c.split_at.result.0.now c.split_at.result.1.now c.in-Some.found.len
     c.split_at.ensures.front c.split_at.ensures.back c.in-Some.ensures.found.end in
-    on_err _ c.from_residual.result (_, _, splits_both splits first, leads_both leads c.in_err-take_line-in-Some.ensures.err)
+    on_err _ c.from_residual.result (
+      _,
+      _,
+      splits_both splits first,
+      omega (arith, counted, c.loop-count-test.true, length-append ls (c.split_at.result.0.now ∷ [])),
+      leads_both leads c.in_err-take_line-in-Some.ensures.err,
+    )

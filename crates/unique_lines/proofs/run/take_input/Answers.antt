@@ -1,8 +1,8 @@
-use Rattle.std.proofs.Common.{[], subst, sym, refl, ◌∙◌, arith, inl, inr}
+use Rattle.std.proofs.Common.{[], subst, sym, refl, ◌∙◌, length-append, arith, inl, inr}
 use Rattle.std.proofs.KnownBytes.{Keeps-refl}
 use Rattle.std.proofs.lemmas.Bool.{cases_lt}
-use Rattle.text_set.specs.Lines.{IsBare}
-use Rattle.unique_lines.proofs.RunLemmas.{bare_rest, begins_all, breaks_before, breaks_behind, ends_left, leads_both, leads_kept, more_left, next_lines, reads_on, reads_to_end, reads_to_fault, room_on, splits_nowhere, takes_on}
+use Rattle.text_set.specs.Lines.{IsBare, lines_by}
+use Rattle.unique_lines.proofs.RunLemmas.{bare_rest, begins_all, breaks_before, breaks_behind, breaks_within, ends_left, leads_both, leads_kept, more_left, reads_on, reads_to_end, reads_to_fault, room_on, splits_nowhere, takes_on}
 use Rattle.unique_lines.proofs.UnreadLemmas.{bare_both}
 use Rattle.streams.proofs.StreamLemmas.{on_err}
 use Rattle.unique_lines.proofs.run.take_input.Goals as goal
@@ -21,30 +21,33 @@ pub returns-in_err-fill-clause-broke : goal.returns-in_err-fill-clause-broke
 returns-in_err-fill-clause-broke g c =
     let (ls, reads, bare, leads, flushed) = c.loop-task.invariant in
     let nothing = breaks_before c.requires.grows (Keeps-refl _) [] in
-    on_err _ c.from_residual.result (_, next_lines reads (splits_nowhere _), leads_both leads nothing)
+    on_err _ c.from_residual.result (breaks_within reads (splits_nowhere _) (omega arith) (leads_both leads nothing))
 
 pub returns-in_err-count-in-Line-clause-broke : goal.returns-in_err-count-in-Line-clause-broke
 returns-in_err-count-in-Line-clause-broke g c =
     let (ls, reads, bare, leads, flushed) = c.loop-task.invariant in
-    let (more, rest, splits, breaks) = rw c.bytes.ensures at c.in_err-count-in-Line.ensures.broke in
+    let (more, rest, splits, few, breaks) = rw c.bytes.ensures at c.in_err-count-in-Line.ensures.broke in
     on_err _ c.from_residual-in_err-count-in-Line.result
-    (_, next_lines (reads_on reads c.in_ok-fill.ensures) splits, leads_both leads breaks)
+    (breaks_within (reads_on reads c.in_ok-fill.ensures) splits few (leads_both leads breaks))
 
 pub returns-in_err-flush-in-Line-clause-broke : goal.returns-in_err-flush-in-Line-clause-broke
 returns-in_err-flush-in-Line-clause-broke g c =
     let (ls, reads, bare, leads, flushed) = c.loop-task.invariant in
     let (more, takes, led) = rw c.bytes.ensures at c.in_ok-count-in-Line.ensures.took in
     on_err _ c.from_residual-in_err-flush-in-Line.result
-    (_, next_lines (reads_on reads c.in_ok-fill.ensures) takes.splits, breaks_behind c.flush.ensures.kept (leads_both leads led))
+    (breaks_within (reads_on reads c.in_ok-fill.ensures) takes.splits (omega (arith, takes.counted, takes.few))
+    (breaks_behind c.flush.ensures.kept (leads_both leads led)))
 
 pub returns-then-is_beyond-clause-left : goal.returns-then-is_beyond-clause-left
 returns-then-is_beyond-clause-left g c =
     let (ls, reads, bare, leads, flushed) = c.loop-task.invariant in
     let (more, takes, led) = rw c.bytes.ensures at c.in_ok-count-in-Line.ensures.took in
     let (none, some) = c.if-is_beyond.ensures.beyond refl in
-    let (later, begins, over) =
-    more_left (takes_on (reads_on reads c.in_ok-fill.ensures) c.pass.new.self c.pass.ensures takes) none some in
-    (_, begins, leads_both (leads_both leads led) (breaks_before c.requires.grows c.flush.ensures.kept later), over)
+    let filled = reads_on reads c.in_ok-fill.ensures in (
+      breaks_within filled takes.splits (omega (arith, takes.counted, takes.few))
+          (breaks_behind c.flush.ensures.kept (leads_both leads led)),
+      more_left (takes_on filled c.pass.new.self c.pass.ensures takes) none some,
+    )
 
 pub loop-task-smaller : goal.loop-task-smaller
 loop-task-smaller g c =
@@ -76,6 +79,7 @@ returns-in_err-left-in-End-clause-broke g c =
       _,
       begins_all _ _ _ _ (reads_to_end (reads_on reads c.in_ok-fill.ensures) ended),
       leads_both leads (rw c.bytes-in-End.ensures at c.in_err-left-in-End.ensures.broke),
+      omega (arith, reads.counted, rw c.bytes-in-End.ensures at c.in_err-left-in-End.ensures.few, length-append ls (lines_by c.args.eol c.fill.new.self)),
     )
 
 pub returns-in-End-clause-left : goal.returns-in-End-clause-left
@@ -85,9 +89,9 @@ returns-in-End-clause-left g c =
     ends_left (reads_on reads c.in_ok-fill.ensures) _ _ c.take_last.new.most c.in_ok-left-in-End.left ended leads
     (rw c.bytes-in-End.ensures at c.in_ok-left-in-End.ensures.left)
 
-pub returns-in-Fault-clause-left : goal.returns-in-Fault-clause-left
-returns-in-Fault-clause-left g c =
+pub returns-in-Failure-clause-left : goal.returns-in-Failure-clause-left
+returns-in-Failure-clause-left g c =
     let (ls, reads, bare, leads, flushed) = c.loop-task.invariant in
-    let none = rw c.in-Fault.is at c.in_ok-fill.ensures.has_come in
+    let none = rw c.in-Failure.is at c.in_ok-fill.ensures.has_come in
     let all = subst (IsBare c.args.eol) (sym c.in_ok-fill.ensures.is) (bare_both c.args.eol _ _ bare none) in
     (ls, reads_to_fault (reads_on reads c.in_ok-fill.ensures) all, leads, reads.counted)

@@ -7,7 +7,7 @@ use Rattle.unique_lines.proofs.run.take_inputs.Goals.{in-Done, in-Failed}
 pub returns-in_err-flush-clause-ended : goal.returns-in_err-flush-clause-ended
 returns-in_err-flush-clause-ended g c =
     let lefts = map g.R.Read.remaining c.args.inputs.now in
-    let part = part_at_start {eol = c.args.eol} (g.T.LineTask.output c.args.eol) lefts _ _ c.requires.nothing c.flush.ensures.kept in
+    let part = part_at_start {eol = c.args.eol} c.args.limit (g.T.LineTask.output c.args.eol) lefts _ _ c.requires.nothing c.flush.ensures.kept in
     search rules
 
 pub loop-place-init : goal.loop-place-init
@@ -17,10 +17,9 @@ loop-place-init g c =
 pub returns-in_err-take_input-clause-ended : goal.returns-in_err-take_input-clause-ended
 returns-in_err-take_input-clause-ended g c =
     let (so_far, unread, flushed) = c.loop-place.invariant in
-    let (ls, begins, breaks) = c.in_err-take_input.ensures.broke in
     let below : c.loop-place.place < length c.args.inputs.now = omega (arith, c.loop-place-test.true) in
     let below' : c.loop-place.place < length c.loop-place.inputs = omega (arith, below, c.loop-place.auto.inputs) in
-    let part = part_within so_far c.index-inputs-place.result below below' ls begins breaks in
+    let part = part_within so_far c.index-inputs-place.result below below' c.in_err-take_input.ensures.broke in
     search rules
 
 pub returns-in-Beyond-clause-ended : goal.returns-in-Beyond-clause-ended
@@ -28,9 +27,9 @@ returns-in-Beyond-clause-ended g c =
     let (so_far, unread, flushed) = c.loop-place.invariant in
     let below : c.loop-place.place < length c.args.inputs.now = omega (arith, c.loop-place-test.true) in
     let below' : c.loop-place.place < length c.loop-place.inputs = omega (arith, below, c.loop-place.auto.inputs) in
-    let (ls, begins, breaks, over) = rw c.in-Beyond.is at c.in_ok-take_input.ensures.left in (
-      part_within so_far c.index-inputs-place.result below below' ls begins breaks,
-      part_beyond so_far c.index-inputs-place.result below below' ls begins over,
+    let (breaks, more) = rw c.in-Beyond.is at c.in_ok-take_input.ensures.left in (
+      part_within so_far c.index-inputs-place.result below below' breaks,
+      part_beyond so_far c.index-inputs-place.result below below' more,
     )
 
 pub loop-place-preserved : goal.loop-place-preserved

@@ -11,7 +11,7 @@ pub returns-in_err-ended-clause-ended : goal.returns-in_err-ended-clause-ended
 returns-in_err-ended-clause-ended g c =
     let run = run_of g.R.Read.remaining c.args.inputs.now c.take_inputs.new.inputs
     (writer_contents g.W.Write.contents) c.args.w.now c.take_inputs.new.w in
-    let part = part_silent (told c.args.eol c.args.which) c.args.eol run c.in_err-ended.ensures.ended in
+    let part = part_silent (told c.args.eol c.args.which) c.args.eol c.args.limit run c.in_err-ended.ensures.ended in
     search rules
 
 pub returns-in_err-flush-clause-ended : goal.returns-in_err-flush-clause-ended

@@ -18,10 +18,7 @@ returns-clause-read g c =
     omega (arith, c.requires, c.read_some.auto.room, length-take (length bytes - to) (drop to bytes), length-drop to bytes) in
     by_three _ _ _ _ c.read_some.result
     (λ n most read end. (
-      take n room,
-      read_put bytes room to (length bytes - to) n (omega (arith, c.requires)) most,
-      length-take-le n room most,
-      read,
+      (take n room, read_put bytes room to (length bytes - to) n (omega (arith, c.requires)) most, length-take-le n room most, read),
       λ none. end none some,
     ))
     c.read_some.ensures.most c.read_some.ensures.read c.read_some.ensures.end

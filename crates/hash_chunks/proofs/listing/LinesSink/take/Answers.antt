@@ -5,13 +5,13 @@ use Rattle.streams.proofs.StreamLemmas.{on_err, part_none}
 use Rattle.streams.specs.Streams.{AppendsPart}
 use Rattle.hash_chunks.specs.Listing.{chunk_line}
 use Rattle.hash_chunks.proofs.ListingLemmas.{listed_more, listed_part}
-use Rattle.hash_lines.specs.declared.line.Kind.{Kind}
+use Rattle.hash_lines.specs.declared.line.LineKind.{LineKind}
 use Rattle.hash_chunks.proofs.listing.LinesSink.take.Goals as goal
 
 -- a line by the same hash and name
-same-line : (kind kind' : Kind) (name name' : List ℕ) (place : ℕ) (chunk : List ℕ) → kind ≡ kind' → name ≡ name'
+same-line : (kind kind' : LineKind) (name name' : List ℕ) (place : ℕ) (chunk : List ℕ) → kind ≡ kind' → name ≡ name'
     → chunk_line kind name place chunk ≡ chunk_line kind' name' place chunk
-same-line kind kind' name name' place chunk is_kind is_name = ap₂ (λ (k : Kind) (n : List ℕ). chunk_line k n place chunk) is_kind is_name
+same-line kind kind' name name' place chunk is_kind is_name = ap₂ (λ (k : LineKind) (n : List ℕ). chunk_line k n place chunk) is_kind is_name
 
 pub returns-in_default-clause-err : goal.returns-in_default-clause-err
 returns-in_default-clause-err g c start before (kind, name, listed) = (

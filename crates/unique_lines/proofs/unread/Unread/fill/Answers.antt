@@ -7,7 +7,7 @@ use Rattle.unique_lines.proofs.unread.Unread.fill.Goals as goal
 pub returns-then-is_some : goal.returns-then-is_some
 returns-then-is_some g c =
     let (text, is, bare, read) = c.loop-error.invariant in
-    let (piece, is_more, long, read_more, ended) = rw c.in-Ok.is at c.in_ok-read.ensures in
+    let ((piece, is_more, long, read_more), ended) = rw c.in-Ok.is at c.in_ok-read.ensures in
     record {
       text = text ++ piece;
       is = is_more ∙ ap (λ l. l ++ piece) is ∙ append_assoc c.args.self.now text piece;
@@ -19,7 +19,7 @@ returns-then-is_some g c =
 pub loop-error-preserved : goal.loop-error-preserved
 loop-error-preserved g c =
     let (text, is, bare, read) = c.loop-error.invariant in
-    let (piece, is_more, long, read_more, ended) = rw c.in-Ok.is at c.in_ok-read.ensures in
+    let ((piece, is_more, long, read_more), ended) = rw c.in-Ok.is at c.in_ok-read.ensures in
     let bare_more = found_none c.args.eol c.bytes.result.now c.loop-error.self piece _ _ c.line_end.ensures (sym c.if-is_some.ensures)
     (c.bytes.ensures ∙ is_more) (ap length c.bytes-len.ensures) in (
       text ++ piece,

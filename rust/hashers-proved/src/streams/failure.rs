@@ -1,6 +1,6 @@
 //! What ends a run before its output is whole.
 
-// What follows is the proved text of crates/streams/src/fault.rt without its contracts.
+// What follows is the proved text of crates/streams/src/failure.rt without its contracts.
 use crate::shim::std;
 
 use std::alloc::AllocError;
@@ -12,7 +12,7 @@ pub struct Nothing;
 
 /// Why a run ended before its output was whole. What was written by then is a beginning of it. `Own` has the program's own reasons.
 #[derive(Debug)]
-pub enum Fault<Own> {
+pub enum Failure<Own> {
     /// A read failed.
     Unread(Error),
     /// A write or the flush failed with this error, or a write took nothing.
@@ -23,9 +23,9 @@ pub enum Fault<Own> {
     Own(Own),
 }
 
-impl<Own> From<AllocError> for Fault<Own> {
+impl<Own> From<AllocError> for Failure<Own> {
     #[inline]
-    fn from(_error: AllocError) -> Fault<Own> {
-        Fault::NoMemory
+    fn from(_error: AllocError) -> Failure<Own> {
+        Failure::NoMemory
     }
 }

@@ -3,7 +3,7 @@ ghost use Rattle.hash_spread.specs.Call.{words_of_fault};
 
 use cli::outcome::Words;
 use std::io::{Error, ErrorKind};
-use streams::fault;
+use streams::failure;
 
 /// Why there is no table, or no picture, of the keys.
 #[derive(Debug, Drop)]
@@ -19,7 +19,7 @@ pub enum NoTable {
 }
 
 /// Why a run ended before its output was whole.
-pub type Fault = fault::Fault<NoTable>;
+pub type Failure = failure::Failure<NoTable>;
 
 impl Words for NoTable {
     ghost words = { words_of_fault };
@@ -42,9 +42,9 @@ impl Words for NoTable {
 }
 
 /// What a failed read of the keys tells: the system's error, or want of memory for a key.
-pub fn fault_of_read(error: Error) -> Fault {
+pub fn failure_of_read(error: Error) -> Failure {
     match error.kind() {
-        ErrorKind::OutOfMemory => Fault::NoMemory,
-        _ => Fault::Unread(error),
+        ErrorKind::OutOfMemory => Failure::NoMemory,
+        _ => Failure::Unread(error),
     }
 }

@@ -1,21 +1,19 @@
 //! What ends a run before its output is whole.
-
-// What follows is the proved text of crates/hash_chunks/src/fault.rt without its contracts.
-use crate::cli;
-use hashers_proved::streams;
+ghost use Rattle.hash_chunks.specs.Program.{words_of_fault};
 
 use cli::outcome::Words;
-use streams::fault;
+use streams::failure;
 
 /// The chunks have more than 2^64 - 1 bytes.
-#[derive(Debug)]
+#[derive(Debug, Drop)]
 pub struct TooMany;
 
 /// Why a run ended before its output was whole.
-pub type Fault = fault::Fault<TooMany>;
+pub type Failure = failure::Failure<TooMany>;
 
 impl Words for TooMany {
-    #[inline]
+    ghost words = { words_of_fault };
+
     fn words(&self) -> &'static str {
         "too many bytes"
     }

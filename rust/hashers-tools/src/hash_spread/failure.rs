@@ -1,13 +1,13 @@
 //! What ends a run of this program before its output is whole.
 
-// What follows is the proved text of crates/hash_spread/src/fault.rt without its contracts.
+// What follows is the proved text of crates/hash_spread/src/failure.rt without its contracts.
 use crate::cli;
 use hashers_proved::streams;
 use hashers_proved::shim::std;
 
 use cli::outcome::Words;
 use std::io::{Error, ErrorKind};
-use streams::fault;
+use streams::failure;
 
 /// Why there is no table, or no picture, of the keys.
 #[derive(Debug)]
@@ -23,7 +23,7 @@ pub enum NoTable {
 }
 
 /// Why a run ended before its output was whole.
-pub type Fault = fault::Fault<NoTable>;
+pub type Failure = failure::Failure<NoTable>;
 
 impl Words for NoTable {
     #[inline]
@@ -47,9 +47,9 @@ impl Words for NoTable {
 
 /// What a failed read of the keys tells: the system's error, or want of memory for a key.
 #[inline]
-pub fn fault_of_read(error: Error) -> Fault {
+pub fn failure_of_read(error: Error) -> Failure {
     match error.kind() {
-        ErrorKind::OutOfMemory => Fault::NoMemory,
-        _ => Fault::Unread(error),
+        ErrorKind::OutOfMemory => Failure::NoMemory,
+        _ => Failure::Unread(error),
     }
 }

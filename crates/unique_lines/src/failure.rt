@@ -6,7 +6,7 @@ ghost use Rattle.text_set.specs.Texts.{StandsAt, has, with_text};
 
 use cli::outcome::Words;
 use std::hash::BuildHasher;
-use streams::fault;
+use streams::failure;
 use text_set::{Full, Guess, Seen, Texts};
 
 /// More than can be taken.
@@ -19,7 +19,7 @@ pub enum TooMany {
 }
 
 /// Why a run ended before its output was whole.
-pub type Fault = fault::Fault<TooMany>;
+pub type Failure = failure::Failure<TooMany>;
 
 impl Words for TooMany {
     ghost words = { words_of };
@@ -38,7 +38,7 @@ pub fn see<S: BuildHasher + Drop>(
     texts: &mut Texts<S>,
     text: &[u8],
     guess: Guess,
-) -> Result<Seen, Fault>
+) -> Result<Seen, Failure>
     requires { guess.tag ≡ tag_under S.Hasher.write S.Hasher.finish (S.build_hasher texts.old.hasher) text.now }
     ensures new { IfOk result (λ seen. seen.is_new ≡ not (has texts.old.texts text.now)) }
     ensures texts { OnOk result (texts.new.texts ≡ with_text texts.old.texts text.now) }
@@ -48,7 +48,7 @@ pub fn see<S: BuildHasher + Drop>(
 {
     match texts.see_at(text, guess) {
         Ok(seen) => Ok(seen),
-        Err(Full::NoMemory) => Err(Fault::NoMemory),
-        Err(Full::TooManyTexts) => Err(Fault::Own(TooMany::Texts)),
+        Err(Full::NoMemory) => Err(Failure::NoMemory),
+        Err(Full::TooManyTexts) => Err(Failure::Own(TooMany::Texts)),
     }
 }

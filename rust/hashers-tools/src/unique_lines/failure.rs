@@ -1,13 +1,13 @@
 //! What ends a run before its output is whole.
 
-// What follows is the proved text of crates/unique_lines/src/fault.rt without its contracts.
+// What follows is the proved text of crates/unique_lines/src/failure.rt without its contracts.
 use crate::cli;
 use hashers_proved::{streams, text_set};
 use hashers_proved::shim::std;
 
 use cli::outcome::Words;
 use std::hash::BuildHasher;
-use streams::fault;
+use streams::failure;
 use text_set::{Full, Guess, Seen, Texts};
 
 /// More than can be taken.
@@ -20,7 +20,7 @@ pub enum TooMany {
 }
 
 /// Why a run ended before its output was whole.
-pub type Fault = fault::Fault<TooMany>;
+pub type Failure = failure::Failure<TooMany>;
 
 impl Words for TooMany {
     #[inline]
@@ -54,10 +54,10 @@ pub fn see<S: BuildHasher>(
     texts: &mut Texts<S>,
     text: &[u8],
     guess: Guess,
-) -> Result<Seen, Fault> {
+) -> Result<Seen, Failure> {
     match texts.see_at(text, guess) {
         Ok(seen) => Ok(seen),
-        Err(Full::NoMemory) => Err(Fault::NoMemory),
-        Err(Full::TooManyTexts) => Err(Fault::Own(TooMany::Texts)),
+        Err(Full::NoMemory) => Err(Failure::NoMemory),
+        Err(Full::TooManyTexts) => Err(Failure::Own(TooMany::Texts)),
     }
 }

@@ -8,7 +8,7 @@ pub struct Nothing;
 
 /// Why a run ended before its output was whole. What was written by then is a beginning of it. `Own` has the program's own reasons.
 #[derive(Debug, Drop)]
-pub enum Fault<Own> {
+pub enum Failure<Own> {
     /// A read failed.
     Unread(Error),
     /// A write or the flush failed with this error, or a write took nothing.
@@ -19,13 +19,13 @@ pub enum Fault<Own> {
     Own(Own),
 }
 
-impl<Own: Drop> From<AllocError> for Fault<Own> {
+impl<Own: Drop> From<AllocError> for Failure<Own> {
     ghost use Rattle.std.specs.Prelude.{◌≡◌};
-    ghost use Rattle.streams.specs.declared.fault.Fault.TheVariants.{NoMemory};
+    ghost use Rattle.streams.specs.declared.failure.Failure.TheVariants.{NoMemory};
 
     ghost from_gives = { λ error fault. fault ≡ NoMemory };
 
-    fn from(_error: AllocError) -> Fault<Own> {
-        Fault::NoMemory
+    fn from(_error: AllocError) -> Failure<Own> {
+        Failure::NoMemory
     }
 }
