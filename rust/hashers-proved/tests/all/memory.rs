@@ -6,6 +6,7 @@ use hashers_proved::fnv::{fnv1a64, FNV1aHasher64};
 use hashers_proved::hash_bloom::commands::{known_after, Command};
 use hashers_proved::hash_buckets::{self, obey_all, NoRoom};
 use hashers_proved::hash_cuts::{cut_reader, Sink, Unfinished};
+use hashers_proved::hash_ring::points::{self, Point};
 use hashers_proved::hash_ring::{self, Node, Refused};
 use hashers_proved::jenkins::{spooky_hash::SpookyHasher, Lookup3Hasher};
 use hashers_proved::lines::{has_end, line_end, without_end, Lines, RandomKeys};
@@ -132,6 +133,56 @@ fn rings_have_the_owners_of_the_definition() {
     ring.extend([("node1", 3), ("new", 4), ("new", 5)]);
     assert_eq!((ring.weight("node1"), ring.weight("new"), ring.weight("none")), (Some(3), Some(5), None));
     assert_eq!(format!("{:?}", Ring::<Lookup3Hasher>::from_iter([("a", 7), ("a", 2)])), r#"{"a": 2}"#);
+}
+
+/// The points of nodes, each node's in order; `count` tells how many it has.
+fn points_of(node: usize, place: impl Fn(usize, usize) -> u64, name: usize, count: usize) -> Vec<Point> {
+    let mut made: Vec<_> = (0..count).map(|k| Point { place: place(name, k), node }).collect();
+    points::sort(&mut made);
+    assert!(made.is_sorted());
+    made
+}
+
+/// A ring in an array, to which nodes come in any order and go again, beside one that is made at once.
+#[test]
+fn points_in_an_array_are_a_ring() {
+    let (mut pick, mut names, mut ring) = (numbers(9), Vec::new(), Vec::new());
+    // few places, so that many points meet
+    let place = |name: usize, k: usize| (name * 7919 + k * 104_729) as u64 % 97;
+    for _ in 0..200 {
+        let name = pick() as usize % 20;
+        match names.binary_search(&name) {
+            Ok(at) => {
+                names.remove(at);
+                let kept = points::remove(&mut ring, at);
+                ring.truncate(kept);
+            }
+            Err(at) => {
+                let added = points_of(at, place, name, name + 1);
+                names.insert(at, name);
+                ring.extend_from_slice(&added);
+                assert!(points::add(&mut ring, &added, at));
+            }
+        }
+        let mut once: Vec<_> = names.iter().enumerate().flat_map(|(node, &name)| points_of(node, place, name, name + 1)).collect();
+        points::sort(&mut once);
+        assert!(once == ring);
+        for at in [0, 1, 50, 96, 97, u64::MAX] {
+            let first = ring.iter().position(|point| point.place >= at).unwrap_or(0);
+            assert_eq!(points::owner_at(&ring, at), first);
+            let mut wanted = Vec::new();
+            ring[first..].iter().chain(&ring[..first]).for_each(|point| if !wanted.contains(&point.node) { wanted.push(point.node) });
+            let (mut all, mut two) = ([77; 21], [77; 2]);
+            assert_eq!((points::owners_at(&ring, at, &mut all), all[names.len()]), (names.len(), 77));
+            assert_eq!((&all[..names.len()], points::owners_at(&ring, at, &mut two)), (&wanted[..], names.len().min(2)));
+            assert_eq!(two[..names.len().min(2)], wanted[..names.len().min(2)]);
+        }
+    }
+    let (one, two) = (Point { place: 1, node: 0 }, Point { place: 2, node: 0 });
+    let (last, before) = (Point { place: 1, node: usize::MAX }, [one, two, one, two, one]);
+    let mut now = before;
+    assert!(!points::add(&mut now, &[], 0) && !points::add(&mut [one, two, one, one], &[two, one], 0) && !points::add(&mut [one], &[one, two], 0));
+    assert!(now == before && !points::add(&mut [last], &[], 0) && points::add(&mut [], &[], 0));
 }
 
 /// A ring of so many points that it looks for a place another way.
