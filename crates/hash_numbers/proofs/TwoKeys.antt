@@ -10,7 +10,8 @@ use Rattle.hash_keyed.proofs.Collisions.{few_keys_meet}
 use Rattle.hash_numbers.specs.Numbers.{number_hash}
 use Rattle.hash_numbers.specs.NumberState.{keyed_hash, NeitherBegins}
 use Rattle.hash_words.proofs.ByteLemmas.{le-begins, le-word}
-use Rattle.hash_numbers.proofs.Evenness.{few_have, few_pairs}
+use Rattle.hash_numbers.proofs.Evenness.{few_have}
+use Rattle.hash_numbers.proofs.KeyLaws.{few_pairs}
 
 short : (a b key : ℕ) (text : List ℕ) → length text ≤ 8 → keyed_hash a b key text ≡ number_hash a b (le text)
 short a b key text few = cond-true (nat_le (length text) 8) _ _ (le-leb (length text) 8 few)

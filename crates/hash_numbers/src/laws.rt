@@ -6,7 +6,7 @@ ghost use Rattle.std.specs.List.{concat, count_by, sum_by};
 ghost use Rattle.hashers.specs.Counts.{meetings};
 ghost use Rattle.hashers.specs.Text.{IsText};
 ghost use Rattle.hash_keyed.specs.Poly61.{AreKeys, ArePairs, prime61, word_count};
-ghost use Rattle.hash_numbers.specs.Numbers.{have_hashes, number_hash, share_place};
+ghost use Rattle.hash_numbers.specs.Numbers.{AreTriples, have_hashes, number_hash, pair_hash, share_place};
 ghost use Rattle.hash_numbers.specs.NumberState.{after_write, answer_of, fresh_at, keyed_hash, NeitherBegins};
 
 /// Each pair of hashes of two different numbers comes from at most 2^128 of the 2^256 pairs of a multiplier and an
@@ -16,7 +16,7 @@ pub fn even_pairs_of_hashes()
         → All (λ key. (number_hash key.0 key.1 x ≡ u) × (number_hash key.0 key.1 y ≡ v)) keys
         → length keys ≤ 2 ^ 128 }
     ensures of_all { (x y u v : ℕ) (keys : List (ℕ × ℕ)) → x < 2 ^ 64 → y < 2 ^ 64 → x ≢ y → u < 2 ^ 64 → v < 2 ^ 64
-        → ArePairs (2 ^ 128) keys → length keys ≡ 2 ^ 256 → count_by (have_hashes x y u v) keys ≡ 2 ^ 128 }
+        → ArePairs (2 ^ 128) keys → length keys ≡ 2 ^ 256 → count_by (λ key. have_hashes x y u v (number_hash key.0 key.1)) keys ≡ 2 ^ 128 }
 {}
 
 /// So two different numbers have one hash at no more than one in 2^64 of these pairs.
@@ -66,8 +66,47 @@ pub fn few_meetings()
     ensures { (numbers : List ℕ) (bits : ℕ) (keys : List (ℕ × ℕ)) → All (λ x. x < 2 ^ 64) numbers
         → AllPairs ◌≢◌ numbers → bits ≤ 64
         → ArePairs (2 ^ 128) keys
-        → sum_by (λ key. meetings (share_place bits key) numbers) keys
+        → sum_by (λ key. meetings (share_place bits (number_hash key.0 key.1)) numbers) keys
         ≤ length numbers * (length numbers - 1) / 2 * 2 ^ (256 - bits) }
+{}
+
+/// The same of a number of up to sixteen bytes under [`pair_hash`](crate::number::pair_hash): each pair of hashes of two
+/// different ones comes from at most 2^256 of the 2^384 triples of two multipliers and an addend; of all of them, from
+/// just as many.
+pub fn even_pairs_of_hashes_of_pairs()
+    ensures most { (x y u v : ℕ) (keys : List (ℕ × ℕ × ℕ)) → x < 2 ^ 128 → y < 2 ^ 128 → x ≢ y
+        → AreTriples (2 ^ 128) keys
+        → All (λ key. (pair_hash key.0 key.1 key.2 x ≡ u) × (pair_hash key.0 key.1 key.2 y ≡ v)) keys
+        → length keys ≤ 2 ^ 256 }
+    ensures of_all { (x y u v : ℕ) (keys : List (ℕ × ℕ × ℕ)) → x < 2 ^ 128 → y < 2 ^ 128 → x ≢ y → u < 2 ^ 64
+        → v < 2 ^ 64 → AreTriples (2 ^ 128) keys → length keys ≡ 2 ^ 384
+        → count_by (λ key. have_hashes x y u v (pair_hash key.0 key.1 key.2)) keys ≡ 2 ^ 256 }
+{}
+
+/// So low and high bits of two of these hashes are the same at no more than one in 2^(low + high) of these triples: with
+/// no high ones a place, with all 64 low ones the whole hash.
+pub fn few_keys_for_a_place_and_a_tag_of_pairs()
+    ensures { (x y low high : ℕ) (keys : List (ℕ × ℕ × ℕ)) → x < 2 ^ 128 → y < 2 ^ 128 → x ≢ y → low + high ≤ 64
+        → AreTriples (2 ^ 128) keys
+        → All (λ key. (pair_hash key.0 key.1 key.2 x % 2 ^ low ≡ pair_hash key.0 key.1 key.2 y % 2 ^ low)
+        × (pair_hash key.0 key.1 key.2 x / 2 ^ (64 - high) ≡ pair_hash key.0 key.1 key.2 y / 2 ^ (64 - high))) keys
+        → length keys ≤ 2 ^ (384 - low - high) }
+{}
+
+/// One of these numbers has a given hash at no more than one in 2^64.
+pub fn few_keys_for_a_hash_of_a_pair()
+    ensures { (x u : ℕ) (keys : List (ℕ × ℕ × ℕ)) → AreTriples (2 ^ 128) keys
+        → All (λ key. pair_hash key.0 key.1 key.2 x ≡ u) keys
+        → length keys ≤ 2 ^ 320 }
+{}
+
+/// And over all triples together as few pairs of different numbers come into one place.
+pub fn few_meetings_of_pairs()
+    ensures { (numbers : List ℕ) (bits : ℕ) (keys : List (ℕ × ℕ × ℕ)) → All (λ x. x < 2 ^ 128) numbers
+        → AllPairs ◌≢◌ numbers → bits ≤ 64
+        → AreTriples (2 ^ 128) keys
+        → sum_by (λ key. meetings (share_place bits (pair_hash key.0 key.1 key.2)) numbers) keys
+        ≤ length numbers * (length numbers - 1) / 2 * 2 ^ (384 - bits) }
 {}
 
 /// Where the addend is known, whatever it is, at most 2^65 of the 2^128 multipliers give two different numbers one
@@ -92,6 +131,19 @@ pub fn few_multipliers_for_high_bits()
         → AreKeys (2 ^ 128) multipliers
         → All (λ a. number_hash a addend x / 2 ^ (64 - bits) ≡ number_hash a addend y / 2 ^ (64 - bits)) multipliers
         → length multipliers ≤ 2 ^ (129 - bits) }
+{}
+
+/// The same of a number of up to sixteen bytes: a share of 2 / 2^bits of the 2^256 pairs of multipliers.
+pub fn few_multipliers_for_pairs()
+    ensures place { (x y addend bits : ℕ) (multipliers : List (ℕ × ℕ)) → x < 2 ^ 128 → y < 2 ^ 128 → x ≢ y → bits ≤ 64
+        → ArePairs (2 ^ 128) multipliers
+        → All (λ a. pair_hash a.0 a.1 addend x % 2 ^ bits ≡ pair_hash a.0 a.1 addend y % 2 ^ bits) multipliers
+        → length multipliers ≤ 2 ^ (257 - bits) }
+    ensures high_bits { (x y addend bits : ℕ) (multipliers : List (ℕ × ℕ)) → x < 2 ^ 128 → y < 2 ^ 128 → x ≢ y
+        → bits ≤ 64 → ArePairs (2 ^ 128) multipliers
+        → All (λ a. pair_hash a.0 a.1 addend x / 2 ^ (64 - bits) ≡ pair_hash a.0 a.1 addend y / 2 ^ (64 - bits))
+            multipliers
+        → length multipliers ≤ 2 ^ (257 - bits) }
 {}
 
 /// The hash of a key of a map hangs on its bytes alone, in whatever pieces they are written.
