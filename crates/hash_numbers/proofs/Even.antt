@@ -1,5 +1,5 @@
 -- What follows where each pair of hashes of two numbers comes from no more keys than its share: keys of any form.
-use Rattle.std.proofs.Common.{ℕ, Bool, ◌≡◌, ◌≢◌, ◌+◌, ◌-◌, ◌*◌, ◌/◌, ◌%◌, ◌^◌, ◌<◌, ◌≤◌, ◌&&◌, nat_eq, cond, List, [], ◌∷◌, length, get_or, filter, All, AllPairs, refl, sym, ap, ap₂, ◌∙◌, inl, inr, subst, arith, mod-lt}
+use Rattle.std.proofs.Common.{ℕ, ◌≡◌, ◌≢◌, ◌+◌, ◌-◌, ◌*◌, ◌/◌, ◌%◌, ◌^◌, ◌<◌, ◌≤◌, ◌&&◌, nat_eq, cond, List, [], ◌∷◌, length, get_or, filter, All, AllPairs, sym, ap, ap₂, ◌∙◌, inl, inr, subst, arith, mod-lt}
 use Rattle.std.specs.Cmp.Derive.{both_true}
 use Rattle.std.specs.List.{count_by}
 use Rattle.std.proofs.Math.Nat.{div-add-mod, div-eq_of_lt, div-div-eq-div-mul}
@@ -32,7 +32,6 @@ as_places a b u v b_in v_in = elim (eqb_tells (a * 2 ^ 64 + b) (u * 2 ^ 64 + v))
 module _ {X : Type 0} (is : X → Type 0) (hash : X → ℕ → ℕ) (hash_in : (k : X) (z : ℕ) → hash k z < 2 ^ 64) (e x y : ℕ)
     (even : (u v : ℕ) (keys : List X) → All is keys → AllPairs ◌≢◌ keys → All (λ k. (hash k x ≡ u) × (hash k y ≡ v)) keys
     → length keys ≤ 2 ^ e) where
-
   -- keys whose hashes stand in a relation, by a number that tells such hashes
   module _ (holds : ℕ → ℕ → Type 0) (g : ℕ → ℕ → ℕ) (n : ℕ) (below : (u v : ℕ) → u < 2 ^ 64 → v < 2 ^ 64 → g u v < n)
       (tells : (u v w z : ℕ) → v < 2 ^ 64 → z < 2 ^ 64 → holds u v → holds w z → g u v ≡ g w z → (u ≡ w) × (v ≡ z)) where

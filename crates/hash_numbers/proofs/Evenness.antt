@@ -1,6 +1,6 @@
 -- Each pair of hashes of two different numbers comes from few keys: the numbers differ in a word, by a power of two times an odd number.
 use Rattle.std.proofs.Common.{ℕ, ◌≡◌, ◌≢◌, ◌+◌, ◌-◌, ◌*◌, ◌/◌, ◌%◌, ◌^◌, ◌<◌, ◌≤◌, List, length, All, AllPairs, sym, ap, ap₂, ◌∙◌, inl, inr, subst, arith, lit<, mod-lt}
-use Rattle.std.proofs.Math.Nat.{div-add-mod, add-mul-mod_self_left, div-lt_iff_lt-mul, div-eq_of_lt, le_of_mul-le-mul_left}
+use Rattle.std.proofs.Math.Nat.{div-add-mod, div-lt_iff_lt-mul, div-eq_of_lt, le_of_mul-le-mul_left}
 use Rattle.std.proofs.lemmas.Nat.{mul-add-lt, pow_pos, pow-add}
 use Rattle.std.proofs.lemmas.Bool.{cases_order}
 use Rattle.std.proofs.lemmas.Bool.Decides.{eqb_tells}

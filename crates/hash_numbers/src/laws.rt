@@ -142,33 +142,34 @@ pub fn few_multipliers_for_pairs()
     ensures high_bits { (x y addend bits : ℕ) (multipliers : List (ℕ × ℕ)) → x < 2 ^ 128 → y < 2 ^ 128 → x ≢ y
         → bits ≤ 64 → ArePairs (2 ^ 128) multipliers
         → All (λ a. pair_hash a.0 a.1 addend x / 2 ^ (64 - bits) ≡ pair_hash a.0 a.1 addend y / 2 ^ (64 - bits))
-            multipliers
+        multipliers
         → length multipliers ≤ 2 ^ (257 - bits) }
 {}
 
 /// The hash of a key of a map hangs on its bytes alone, in whatever pieces they are written.
 pub fn pieces_do_not_show()
-    ensures { (multiplier addend text_key : ℕ) (pieces : List (List ℕ)) → All IsText pieces
-        → answer_of (fold after_write (fresh_at multiplier addend text_key) pieces)
-        ≡ keyed_hash multiplier addend text_key (concat pieces) }
+    ensures { (multiplier multiplier2 addend text_key : ℕ) (pieces : List (List ℕ)) → All IsText pieces
+        → answer_of (fold after_write (fresh_at multiplier multiplier2 addend text_key) pieces)
+        ≡ keyed_hash multiplier multiplier2 addend text_key (concat pieces) }
 {}
 
 /// Two keys of a map, of which neither begins with the other, as std's traits write the values of one type, have one
-/// hash at few keys of the hash. Where one has at most eight bytes, at any key for texts, no more than one in 2^64 of
-/// the pairs of a multiplier and an addend; where both are longer, as many keys for texts as `poly61` has.
+/// hash at few keys of the hash. Where one has at most sixteen bytes, at any key for texts, no more than one in 2^64 of
+/// the triples of two multipliers and an addend; where both are longer, as many keys for texts as `poly61` has.
 pub fn few_keys_for_two_keys_of_a_map()
-    ensures short { (s t : List ℕ) (text_key : ℕ) (keys : List (ℕ × ℕ)) → IsText s → IsText t → length s ≤ 8
-        → length t ≤ 8
-        → NeitherBegins s t → ArePairs (2 ^ 128) keys
-        → All (λ key. keyed_hash key.0 key.1 text_key s ≡ keyed_hash key.0 key.1 text_key t) keys
-        → length keys ≤ 2 ^ 192 }
-    ensures mixed { (s t : List ℕ) (text_key : ℕ) (keys : List (ℕ × ℕ)) → length s ≤ 8 → 8 < length t
-        → ArePairs (2 ^ 128) keys
-        → All (λ key. keyed_hash key.0 key.1 text_key s ≡ keyed_hash key.0 key.1 text_key t) keys
-        → length keys ≤ 2 ^ 192 }
-    ensures long { (s t : List ℕ) (multiplier addend : ℕ) (text_keys : List ℕ) → IsText s → IsText t → 8 < length s
-        → 8 < length t
+    ensures short { (s t : List ℕ) (text_key : ℕ) (keys : List (ℕ × ℕ × ℕ)) → IsText s → IsText t → length s ≤ 16
+        → length t ≤ 16
+        → NeitherBegins s t → AreTriples (2 ^ 128) keys
+        → All (λ key. keyed_hash key.0 key.1 key.2 text_key s ≡ keyed_hash key.0 key.1 key.2 text_key t) keys
+        → length keys ≤ 2 ^ 320 }
+    ensures mixed { (s t : List ℕ) (text_key : ℕ) (keys : List (ℕ × ℕ × ℕ)) → length s ≤ 16 → 16 < length t
+        → AreTriples (2 ^ 128) keys
+        → All (λ key. keyed_hash key.0 key.1 key.2 text_key s ≡ keyed_hash key.0 key.1 key.2 text_key t) keys
+        → length keys ≤ 2 ^ 320 }
+    ensures long { (s t : List ℕ) (multiplier multiplier2 addend : ℕ) (text_keys : List ℕ) → IsText s → IsText t
+        → 16 < length s → 16 < length t
         → s ≢ t → AreKeys prime61 text_keys
-        → All (λ text_key. keyed_hash multiplier addend text_key s ≡ keyed_hash multiplier addend text_key t) text_keys
+        → All (λ text_key. keyed_hash multiplier multiplier2 addend text_key s
+        ≡ keyed_hash multiplier multiplier2 addend text_key t) text_keys
         → length text_keys ≤ max (word_count s) (word_count t) + 1 }
 {}
