@@ -4,11 +4,12 @@ use hashers_proved::numbers::{number_hash, NumberKeys};
 use std::hash::{BuildHasher, Hasher};
 
 const MULTIPLIER: u128 = 0x0123456789abcdef0fedcba987654321;
+const MULTIPLIER2: u128 = 0x9e3779b97f4a7c15f39cc0605cedc835;
 const ADDEND: u128 = 0xdeadbeefcafebabe8badf00ddeadc0de;
 const OF_255: u64 = 58512787288153055;
 
 fn keys() -> NumberKeys {
-    NumberKeys::with_keys(MULTIPLIER, ADDEND, 7)
+    NumberKeys::with_keys(MULTIPLIER, MULTIPLIER2, ADDEND, 7)
 }
 
 #[test]
