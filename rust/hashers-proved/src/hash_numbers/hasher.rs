@@ -3,7 +3,7 @@
 // What follows is the proved text of crates/hash_numbers/src/hasher.rt without its contracts.
 use crate::{hash_keyed, hashers, std};
 
-use crate::hash_numbers::number::pair_hash;
+use crate::hash_numbers::number::{number_hash, pair_hash};
 use hash_keyed::poly61::Poly61Hasher;
 use hashers::rounds::le_four;
 use std::hash::Hasher;
@@ -12,10 +12,9 @@ use std::hash::Hasher;
 const TEXT: u8 = 17;
 
 /// The hash of a key of a map, over its bytes in any parts. Up to sixteen bytes in all are one number, the first byte
-/// the lowest, and the answer is [`pair_hash`] of it: where there are up to eight,
-/// [`number_hash`](crate::hash_numbers::number::number_hash). More have the hash `poly61` at a key of its own. So a `u64`, a `u32`, a
-/// pair of them, a `u128` and a text of up to fifteen letters take a product or two, and all that `hash_keyed` proves
-/// holds of longer texts.
+/// the lowest, and the answer is [`pair_hash`] of it, which of up to eight is [`number_hash`]. More have the hash
+/// `poly61` at a key of its own. So a `u64`, a `u32`, a pair of them, a `u128` and a text of up to fifteen letters take
+/// one product or two, and all that `hash_keyed` proves holds of longer texts.
 pub struct NumberHasher {
     pub(crate) multiplier: u128,
     pub(crate) multiplier2: u128,
@@ -117,16 +116,13 @@ fn moved(number: u64, count: u8, held: u8) -> (u64, u64) {
 /// ```text
 /// text.new ≡ after text.old (held_bytes low high held)
 /// ```
-#[inline]
+#[inline(never)]
 fn take_in(text: &mut Poly61Hasher, low: u64, high: u64, held: u8) {
     if held < 8 {
         text.write(&low.to_le_bytes()[..usize::from(held)]);
-    } else if held < 16 {
-        text.write_u64(low);
-        text.write(&high.to_le_bytes()[..usize::from(held - 8)]);
     } else {
         text.write_u64(low);
-        text.write_u64(high);
+        text.write(&high.to_le_bytes()[..usize::from(held - 8)]);
     }
 }
 
@@ -188,15 +184,13 @@ impl NumberHasher {
 impl Hasher for NumberHasher {
     #[inline(always)]
     fn finish(&self) -> u64 {
-        if self.held < TEXT {
-            pair_hash(
-                self.multiplier,
-                self.multiplier2,
-                self.addend,
-                u128::from(self.low) + u128::from(self.high) * (1 << 64),
-            )
-        } else {
+        if self.held >= TEXT {
             self.text.finish()
+        } else if self.high == 0 {
+            number_hash(self.multiplier, self.addend, self.low)
+        } else {
+            let number = u128::from(self.low) + u128::from(self.high) * (1 << 64);
+            pair_hash(self.multiplier, self.multiplier2, self.addend, number)
         }
     }
 
