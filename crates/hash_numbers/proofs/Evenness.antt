@@ -201,9 +201,6 @@ of_pair key = (key.0, key.1, 0)
 plain : (key : ℕ × ℕ) (x : ℕ) → number_hash key.0 key.1 x ≡ hash_of (λ r. 0) x (of_pair key)
 plain key x = ap (λ z. z % 2 ^ 128 / 2 ^ 64) (let e : key.0 * x + key.1 ≡ key.0 * x + (key.1 + 0) = omega arith in e)
 
-abbrev IsPair : ℕ × ℕ → Type 0
-IsPair key = (key.0 < 2 ^ 128) × (key.1 < 2 ^ 128)
-
 pair_tell : (k l : ℕ × ℕ) → of_pair k ≡ of_pair l → k ≡ l
 pair_tell k l same = ap (λ (p : Parts). (p.0, p.1)) same
 
@@ -246,9 +243,6 @@ at_high : (key : Triple) (x : ℕ) → pair_hash key.0 key.1 key.2 x ≡ hash_of
 at_high key x =
     ap (λ z. z % 2 ^ 128 / 2 ^ 64)
     (let e : key.0 * (x % 2 ^ 64) + key.1 * (x / 2 ^ 64) + key.2 ≡ key.1 * (x / 2 ^ 64) + (key.2 + key.0 * (x % 2 ^ 64)) = omega arith in e)
-
-abbrev IsTriple : Triple → Type 0
-IsTriple key = (key.0 < 2 ^ 128) × (key.1 < 2 ^ 128) × (key.2 < 2 ^ 128)
 
 pub even_triples : (x y u v : ℕ) (keys : List Triple) → x < 2 ^ 128 → y < 2 ^ 128 → x ≢ y → AreTriples (2 ^ 128) keys
     → All (λ key. (pair_hash key.0 key.1 key.2 x ≡ u) × (pair_hash key.0 key.1 key.2 y ≡ v)) keys → length keys ≤ 2 ^ 256
