@@ -1,34 +1,103 @@
--- Up to eight bytes and the number that they are.
-use Rattle.std.proofs.Common.{ℕ, zero, suc, ◌≡◌, ◌+◌, ◌*◌, ◌/◌, ◌%◌, ◌^◌, ◌<◌, ◌≤◌, List, [], ◌∷◌, ◌++◌, length, take, refl, sym, ap, ap₂, pow-suc, ◌∙◌, arith, w64}
+-- Up to sixteen bytes and the two words of the number that they are.
+use Rattle.std.proofs.Common.{ℕ, zero, suc, ◌≡◌, ◌+◌, ◌-◌, ◌*◌, ◌/◌, ◌%◌, ◌^◌, ◌<◌, ◌≤◌, List, [], ◌∷◌, ◌++◌, length, take, drop, slice_index, ◌∙◌, arith, ap, inl, inr, lit<, mod-lt, w64}
 use Rattle.std.specs.Int.{bytes_low_first, byte_at, to_le_bytes}
-use Rattle.std.proofs.Math.Nat.{div-div-eq-div-mul}
-use Rattle.std.proofs.lemmas.List.Elements.{All-head, All-tail}
+use Rattle.std.proofs.Math.Nat.{div-add-mod}
+use Rattle.std.proofs.Math.Pow.{pow_mono}
+use Rattle.std.proofs.lemmas.Nat.{mul-le, pow-add, pow_pos}
+use Rattle.std.proofs.lemmas.Bool.{cases_lt}
+use Rattle.std.proofs.lemmas.List.Elements.{All-append, All-cons, All-nil}
 use Rattle.hashers.specs.Text.{IsText}
-use Rattle.hash_words.specs.Words.{le}
 use Rattle.hashers.proofs.TextLemmas.{IsByte}
+use Rattle.hash_words.specs.Words.{le}
+use Rattle.hash_words.proofs.ByteLemmas.{le-append, le-begins, le-few}
+use Rattle.hash_words.proofs.WordLemmas.{le-to_le_bytes-64}
+use Rattle.hash_numbers.specs.NumberState.{held_bytes}
 
-byte_is : (i n : ℕ) → byte_at i n ≡ n / 256 ^ i % 256
-byte_is zero n = ap (λ k. k % 256) (let e : n ≡ n / 1 = omega arith in e)
-byte_is (suc i) n = refl
-
--- the bytes of the number that some bytes are
-kept_from : (bytes : List ℕ) (i n : ℕ) → IsText bytes → n / 256 ^ i ≡ le bytes → bytes_low_first i (length bytes) n ≡ bytes
+-- fewer than four bytes, with zeros behind them
+pub le_few : (t : List ℕ) → length t < 4 → le t ≡ slice_index t 0 + slice_index t 1 * 256 + slice_index t 2 * 65536
 unfolding le
-kept_from [] i n are value = refl
-kept_from (b ∷ bytes) i n are value =
-    let b_in : b < 256 = All-head IsByte b bytes are in
-    let first : n / 256 ^ i % 256 ≡ b = omega (arith, value, b_in) in
-    let lower : n / 256 ^ i / 256 ≡ le bytes = omega (arith, value, b_in) in
-    let next : n / 256 ^ suc i ≡ le bytes =
-    ap (λ k. n / k) (pow-suc 256 i) ∙ sym (div-div-eq-div-mul n (256 ^ i) 256) ∙ lower in
-    ap₂ (λ (x : ℕ) (xs : List ℕ). x ∷ xs) (byte_is i n ∙ first) (kept_from bytes (suc i) n (All-tail IsByte b bytes are) next)
+le_few [] few = omega arith
+le_few (a ∷ []) few = omega arith
+le_few (a ∷ b ∷ []) few = omega arith
+le_few (a ∷ b ∷ c ∷ []) few = omega arith
+le_few other few = absurd (omega arith)
 
-first_bytes : (c k i n : ℕ) → c ≤ k → take c (bytes_low_first i k n) ≡ bytes_low_first i c n
-first_bytes zero k i n less = refl
-first_bytes (suc c) zero i n less = absurd (omega arith)
-first_bytes (suc c) (suc k) i n less = ap (λ xs. byte_at i n ∷ xs) (first_bytes c k (suc i) n (omega arith))
+-- four to eight bytes by the first four and the last four
+pub by_fours : (t : List ℕ) → IsText t → 4 ≤ length t → length t ≤ 8
+    → le (take 4 t) + le (drop (length t - 4) t) / 2 ^ (64 - 8 * length t) * 2 ^ 32 % 2 ^ 64 ≡ le t
+unfolding le
+by_fours (a ∷ b ∷ c ∷ d ∷ []) are some few = omega (arith, are 0 0 (lit< tt), are 1 0 (lit< tt), are 2 0 (lit< tt), are 3 0 (lit< tt))
+by_fours (a ∷ b ∷ c ∷ d ∷ e ∷ []) are some few =
+    omega (arith, are 1 0 (lit< tt), are 2 0 (lit< tt), are 3 0 (lit< tt), are 4 0 (lit< tt))
+by_fours (a ∷ b ∷ c ∷ d ∷ e ∷ f ∷ []) are some few =
+    omega (arith, are 2 0 (lit< tt), are 3 0 (lit< tt), are 4 0 (lit< tt), are 5 0 (lit< tt))
+by_fours (a ∷ b ∷ c ∷ d ∷ e ∷ f ∷ g ∷ []) are some few =
+    omega (arith, are 3 0 (lit< tt), are 4 0 (lit< tt), are 5 0 (lit< tt), are 6 0 (lit< tt))
+by_fours (a ∷ b ∷ c ∷ d ∷ e ∷ f ∷ g ∷ h ∷ []) are some few =
+    omega (arith, are 4 0 (lit< tt), are 5 0 (lit< tt), are 6 0 (lit< tt), are 7 0 (lit< tt))
+by_fours other are some few = absurd (omega arith)
+
+byte_in : (i n : ℕ) → byte_at i n < 256
+byte_in zero n = mod-lt n (lit< tt)
+byte_in (suc i) n = mod-lt (n / 256 ^ suc i) (lit< tt)
+
+pub IsText-bytes : (i k n : ℕ) → IsText (bytes_low_first i k n)
+IsText-bytes i zero n = All-nil IsByte
+IsText-bytes i (suc k) n = All-cons IsByte (byte_at i n) (bytes_low_first (suc i) k n) (byte_in i n) (IsText-bytes (suc i) k n)
+
+pub le-two_words : (low high : ℕ) → low < 2 ^ 64 → high < 2 ^ 64 → le (to_le_bytes w64 low ++ to_le_bytes w64 high) ≡ low + high * 2 ^ 64
+le-two_words low high low_in high_in =
+    omega (arith, le-append (to_le_bytes w64 low) (to_le_bytes w64 high), le-to_le_bytes-64 low low_in, le-to_le_bytes-64 high high_in)
 
 -- as many bytes of a number as it was made of are these
-pub kept : (bytes : List ℕ) → IsText bytes → length bytes ≤ 8 → take (length bytes) (to_le_bytes w64 (le bytes)) ≡ bytes
+pub kept : (bytes : List ℕ) → IsText bytes → length bytes ≤ 16 → held_bytes (le bytes % 2 ^ 64) (le bytes / 2 ^ 64) (length bytes) ≡ bytes
 kept bytes are few =
-    first_bytes (length bytes) 8 0 (le bytes) few ∙ kept_from bytes 0 (le bytes) are (let e : le bytes / 1 ≡ le bytes = omega arith in e)
+    let low = le bytes % 2 ^ 64 in
+    let high = le bytes / 2 ^ 64 in
+    let within = le-few 16 bytes are few in
+    let value = le-two_words low high (mod-lt (le bytes) (lit< tt)) (omega (arith, within)) in
+    le-begins bytes (to_le_bytes w64 low ++ to_le_bytes w64 high) are
+    (All-append IsByte (to_le_bytes w64 low) (to_le_bytes w64 high) (IsText-bytes 0 8 low) (IsText-bytes 0 8 high)) few (omega (arith, value))
+
+-- a number moved by so many bytes, in words
+row : (n p r : ℕ) → 2 ^ 64 ≡ p * r → 0 < r → (n * p ≡ 2 ^ 64 * (n / r) + n % r * p) × (n % r * p + p ≤ 2 ^ 64)
+row n p r split some =
+    let parts = ap (λ z. z * p) (div-add-mod n r) in
+    let whole = ap (λ z. z * (n / r)) split in
+    let rest = mul-le (suc (n % r)) p r p (mod-lt n some) (omega arith) in
+    (omega (arith, parts, whole), omega (arith, split, rest))
+
+split_word : (s : ℕ) → s ≤ 8 → 2 ^ 64 ≡ 2 ^ (8 * s) * 2 ^ (64 - 8 * s)
+split_word s low = ap (λ k. 2 ^ k) (let e : 64 ≡ 8 * s + (64 - 8 * s) = omega (arith, low) in e) ∙ pow-add 2 (8 * s) (64 - 8 * s)
+
+pub past_word : (n s : ℕ) → s ≤ 8 → n / 2 ^ (64 - 8 * s) ≡ n * 2 ^ (8 * s) / 2 ^ 64
+past_word n s low =
+    let parts = row n (2 ^ (8 * s)) (2 ^ (64 - 8 * s)) (split_word s low) (pow_pos (64 - 8 * s)) in
+    omega (arith, parts.0, parts.1, pow_pos (8 * s))
+
+pub above_word : (n s : ℕ) → 8 ≤ s → n * 2 ^ (8 * s) ≡ 2 ^ 64 * (n * 2 ^ (8 * s - 64))
+above_word n s high =
+    let split : 2 ^ (8 * s) ≡ 2 ^ 64 * 2 ^ (8 * s - 64) =
+    ap (λ k. 2 ^ k) (let e : 8 * s ≡ 64 + (8 * s - 64) = omega (arith, high) in e) ∙ pow-add 2 64 (8 * s - 64) in
+    omega (arith, ap (λ z. n * z) split)
+
+pub in_word : (n k s : ℕ) → n < 2 ^ (8 * k) → 8 * k + s ≤ 64 → n * 2 ^ s < 2 ^ 64
+in_word n k s n_in few =
+    let rise = mul-le (suc n) (2 ^ s) (2 ^ (8 * k)) (2 ^ s) n_in (omega arith) in
+    let power = pow-add 2 (8 * k) s in
+    let most : 2 ^ (8 * k + s) ≤ 2 ^ 64 = pow_mono few in
+    omega (arith, rise, power, most, pow_pos s)
+
+-- the words of a number behind another one of so many bytes
+pub words_behind : (a b s : ℕ) → s ≤ 16 → a < 2 ^ (8 * s) → a + b * 2 ^ (8 * s) < 2 ^ 128
+    → ((a % 2 ^ 64 + b * 2 ^ (8 * s)) % 2 ^ 64 ≡ (a + b * 2 ^ (8 * s)) % 2 ^ 64)
+    × ((a / 2 ^ 64 + b * 2 ^ (8 * s) / 2 ^ 64) % 2 ^ 64 ≡ (a + b * 2 ^ (8 * s)) / 2 ^ 64)
+words_behind a b s few a_in within = (
+  omega arith,
+  elim (cases_lt s 9) [
+    | inl low ↦
+        let parts = row b (2 ^ (8 * s)) (2 ^ (64 - 8 * s)) (split_word s (omega (arith, low))) (pow_pos (64 - 8 * s)) in
+        omega (arith, a_in, within, parts.0, parts.1)
+    | inr high ↦ omega (arith, within, above_word b s (omega (arith, high)))
+  ],
+)

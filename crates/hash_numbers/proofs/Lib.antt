@@ -1,9 +1,11 @@
 pub mod Odds
+pub mod Counting
 pub mod Multipliers
 pub mod Evenness
+pub mod Even
 pub mod Meetings
+pub mod KeyLaws
 pub mod Bytes
 pub mod States
 pub mod Pieces
 pub mod TwoKeys
-pub mod Exactness

@@ -1,43 +1,56 @@
 -- A hasher after a write.
-use Rattle.std.proofs.Common.{ℕ, ◌≡◌, ◌+◌, ◌*◌, ◌%◌, ◌^◌, ◌<◌, ◌≤◌, nat_lt, nat_le, List, [], ◌∷◌, length, fold, slice_index, refl, sym, ap, ap₂, ◌∙◌, arith}
+use Rattle.std.proofs.Common.{ℕ, ◌≡◌, ◌+◌, ◌*◌, ◌/◌, ◌%◌, ◌^◌, ◌<◌, ◌≤◌, nat_le, List, [], ◌∷◌, length, take, w64, refl, sym, ap, ap₂, ◌∙◌, arith}
 use Rattle.std.specs.Hash.{le_bytes}
-use Rattle.std.proofs.lemmas.Bool.{cond-true, cond-false, le-leb, lt-leb, lt-ltb}
+use Rattle.std.specs.Int.{to_le_bytes}
+use Rattle.std.proofs.Math.Seq.{take-append-add}
+use Rattle.std.proofs.lemmas.List.{take-append-le}
+use Rattle.std.proofs.lemmas.List.Sums.{fold-append}
+use Rattle.hash_keyed.specs.Poly61State.{Position, after, byte_in}
+use Rattle.std.proofs.Math.Nat.{div-eq_of_lt, mod-eq_of_lt}
+use Rattle.std.proofs.lemmas.Nat.{pow-add}
+use Rattle.std.proofs.lemmas.Bool.{cond-true, cond-false, le-leb, lt-leb}
+use Rattle.hashers.specs.Text.{IsText}
 use Rattle.hashers.specs.Words.{le}
 use Rattle.hash_words.proofs.WordLemmas.{le-to_le_bytes-32, le-to_le_bytes-64}
-use Rattle.hash_numbers.specs.Numbers.{number_hash}
-use Rattle.hash_numbers.specs.NumberState.{after_write, answer_of, behind, fresh_at, with_text}
+use Rattle.hash_numbers.specs.Numbers.{number_hash, pair_hash}
+use Rattle.hash_numbers.proofs.Bytes.{IsText-bytes}
+use Rattle.hash_numbers.specs.NumberState.{after_write, behind, held_bytes, with_text}
 use Rattle.hash_numbers.specs.declared.hasher.NumberHasher.{NumberHasher}
 
--- at most eight bytes, with zeros behind them
-pub le_most : (t : List ℕ) → length t ≤ 8 → le t ≡ slice_index t 0 + slice_index t 1 * 256 + slice_index t 2 * 65536 + slice_index t 3 * 16777216 + slice_index t 4 * 4294967296 + slice_index t 5 * 1099511627776 + slice_index t 6 * 281474976710656 + slice_index t 7 * 72057594037927936
-unfolding le
-le_most [] few = omega arith
-le_most (a ∷ []) few = omega arith
-le_most (a ∷ b ∷ []) few = omega arith
-le_most (a ∷ b ∷ c ∷ []) few = omega arith
-le_most (a ∷ b ∷ c ∷ d ∷ []) few = omega arith
-le_most (a ∷ b ∷ c ∷ d ∷ e ∷ []) few = omega arith
-le_most (a ∷ b ∷ c ∷ d ∷ e ∷ f ∷ []) few = omega arith
-le_most (a ∷ b ∷ c ∷ d ∷ e ∷ f ∷ g ∷ []) few = omega arith
-le_most (a ∷ b ∷ c ∷ d ∷ e ∷ f ∷ g ∷ h ∷ []) few = omega arith
-le_most other few = absurd (omega arith)
-
-pub number_behind : (h : NumberHasher) (bytes : List ℕ) (n k : ℕ) → le bytes ≡ n → length bytes ≡ k → h.held + k ≤ 8
+pub number_behind : (h : NumberHasher) (bytes : List ℕ) (n k : ℕ) → le bytes ≡ n → length bytes ≡ k → h.held + k ≤ 16
     → behind h n k ≡ after_write h bytes
 number_behind h bytes n k value long few =
     ap₂ (λ x y. behind h x y) (sym value) (sym long)
-    ∙ sym (cond-true (nat_le (h.held + length bytes) 8) _ _ (le-leb (h.held + length bytes) 8 (omega (arith, long, few))))
+    ∙ sym (cond-true (nat_le (h.held + length bytes) 16) _ _ (le-leb (h.held + length bytes) 16 (omega (arith, long, few))))
 
-pub text_behind : (h : NumberHasher) (bytes : List ℕ) (k : ℕ) → length bytes ≡ k → 8 < h.held + k → with_text h bytes ≡ after_write h bytes
+pub text_behind : (h : NumberHasher) (bytes : List ℕ) (k : ℕ) → length bytes ≡ k → 16 < h.held + k → with_text h bytes ≡ after_write h bytes
 text_behind h bytes k long many =
-    sym (cond-false (nat_le (h.held + length bytes) 8) _ _ (lt-leb (h.held + length bytes) 8 (omega (arith, long, many))))
+    sym (cond-false (nat_le (h.held + length bytes) 16) _ _ (lt-leb (h.held + length bytes) 16 (omega (arith, long, many))))
 
-pub nothing_behind : (h : NumberHasher) → h.number < 2 ^ 64 → h.held ≤ 8 → h ≡ after_write h []
+with_words : (h : NumberHasher) (low high held low2 high2 held2 : ℕ) → low ≡ low2 → high ≡ high2 → held ≡ held2
+    → record h { low = low; high = high; held = held } ≡ record h { low = low2; high = high2; held = held2 }
+with_words h low high held low2 high2 held2 one two three =
+    ap₂ (λ (x y : ℕ). record h { low = x; high = y; held = held }) one two ∙ ap (λ (k : ℕ). record h { low = low2; high = high2; held = k }) three
+
+pub nothing_behind : (h : NumberHasher) → h.low < 2 ^ 64 → h.high < 2 ^ 64 → h.held ≤ 16 → h ≡ after_write h []
 unfolding le
-nothing_behind h in_range few =
-    let e : h.number ≡ (h.number + 0 * 2 ^ (8 * h.held)) % 2 ^ 64 = omega (arith, in_range) in
-    let f : h.held ≡ h.held + 0 = omega arith in
-    ap₂ (λ (x y : ℕ). record h { number = x; held = y }) e f ∙ number_behind h [] 0 0 refl refl (omega (arith, few))
+nothing_behind h low_in high_in few =
+    with_words h h.low h.high h.held ((h.low + 0 * 2 ^ (8 * h.held)) % 2 ^ 64) ((h.high + 0 * 2 ^ (8 * h.held) / 2 ^ 64) % 2 ^ 64) (h.held + 0)
+    (omega (arith, low_in)) (omega (arith, high_in)) (omega arith)
+    ∙ number_behind h [] 0 0 refl refl (omega (arith, few))
+
+-- a word and another number behind it are one number
+pub two_behind : (h : NumberHasher) (low high count : ℕ) → behind (behind h low 8) high count ≡ behind h (low + high * 2 ^ 64) (8 + count)
+two_behind h low high count =
+    let p = 2 ^ (8 * h.held) in
+    let power : 2 ^ (8 * (h.held + 8)) ≡ p * 2 ^ 64 =
+    ap (λ k. 2 ^ k) (let e : 8 * (h.held + 8) ≡ 8 * h.held + 64 = omega arith in e) ∙ pow-add 2 (8 * h.held) 64 in
+    let second : high * 2 ^ (8 * (h.held + 8)) ≡ 2 ^ 64 * (high * p) = omega (arith, ap (λ z. high * z) power) in
+    let both : (low + high * 2 ^ 64) * p ≡ low * p + 2 ^ 64 * (high * p) = omega arith in
+    with_words h (((h.low + low * p) % 2 ^ 64 + high * 2 ^ (8 * (h.held + 8))) % 2 ^ 64)
+    (((h.high + low * p / 2 ^ 64) % 2 ^ 64 + high * 2 ^ (8 * (h.held + 8)) / 2 ^ 64) % 2 ^ 64) (h.held + 8 + count)
+    ((h.low + (low + high * 2 ^ 64) * p) % 2 ^ 64) ((h.high + (low + high * 2 ^ 64) * p / 2 ^ 64) % 2 ^ 64) (h.held + (8 + count))
+    (omega (arith, second, both)) (omega (arith, second, both)) (omega arith)
 
 -- the bytes of a number
 pub le_one : (n : ℕ) → le (n ∷ []) ≡ n
@@ -56,6 +69,14 @@ pub le_eight : (n : ℕ) → n < 2 ^ 64 → le (le_bytes 8 n) ≡ n
 unfolding le_bytes
 le_eight n below = le-to_le_bytes-64 n below
 
+pub le_sixteen : (n : ℕ) → n < 2 ^ 128 → le (le_bytes 16 n) ≡ n
+unfolding le le_bytes
+le_sixteen n below = omega arith
+
+pub long_sixteen : (n : ℕ) → length (le_bytes 16 n) ≡ 16
+unfolding le_bytes
+long_sixteen n = refl
+
 pub long_two : (n : ℕ) → length (le_bytes 2 n) ≡ 2
 unfolding le_bytes
 long_two n = refl
@@ -68,12 +89,26 @@ pub long_eight : (n : ℕ) → length (le_bytes 8 n) ≡ 8
 unfolding le_bytes
 long_eight n = refl
 
--- a key of one number
-pub one_number : (a b k n : ℕ) (bytes : List ℕ) → n < 2 ^ 64 → le bytes ≡ n → length bytes ≤ 8
-    → answer_of (fold after_write (fresh_at a b k) (bytes ∷ [])) ≡ number_hash a b n
-one_number a b k n bytes within value few =
-    let h = fresh_at a b k in
-    let e : (0 + n * 2 ^ (8 * 0)) % 2 ^ 64 ≡ n = omega (arith, within) in
-    ap answer_of (sym (number_behind h bytes n (length bytes) value refl (omega (arith, few))))
-    ∙ cond-true (nat_lt (0 + length bytes) 9) _ _ (lt-ltb (0 + length bytes) 9 (omega (arith, few)))
-    ∙ ap (number_hash a b) e
+pub text_four : (n : ℕ) → IsText (le_bytes 4 n)
+unfolding le_bytes
+text_four n = IsText-bytes 0 4 n
+
+pub text_eight : (n : ℕ) → IsText (le_bytes 8 n)
+unfolding le_bytes
+text_eight n = IsText-bytes 0 8 n
+
+-- a text after the bytes of two words
+pub low_in : (at : Position) (low high k : ℕ) → k ≤ 8 → after at (take k (to_le_bytes w64 low)) ≡ after at (held_bytes low high k)
+low_in at low high k few = ap (after at) (sym (take-append-le k (to_le_bytes w64 low) (to_le_bytes w64 high) few))
+
+pub both_in : (at : Position) (low high k : ℕ) → after (after at (to_le_bytes w64 low)) (take k (to_le_bytes w64 high)) ≡ after at (held_bytes low high (8 + k))
+both_in at low high k =
+    sym (fold-append byte_in at (to_le_bytes w64 low) (take k (to_le_bytes w64 high)))
+    ∙ ap (after at) (sym (take-append-add (to_le_bytes w64 low) (to_le_bytes w64 high) k))
+
+-- a number of one word
+pub one_word : (a a2 b n : ℕ) → n < 2 ^ 64 → pair_hash a a2 b n ≡ number_hash a b n
+one_word a a2 b n within =
+    let second : a2 * 0 ≡ 0 = omega arith in
+    ap₂ (λ low high. (a * low + a2 * high + b) % 2 ^ 128 / 2 ^ 64) (mod-eq_of_lt within) (div-eq_of_lt within)
+    ∙ ap (λ z. (a * n + z + b) % 2 ^ 128 / 2 ^ 64) second ∙ ap (λ z. (z + b) % 2 ^ 128 / 2 ^ 64) (let e : a * n + 0 ≡ a * n = omega arith in e)

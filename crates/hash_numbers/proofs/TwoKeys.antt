@@ -4,19 +4,20 @@ use Rattle.std.proofs.Math.Nat.{mod-eq_of_lt}
 use Rattle.std.proofs.lemmas.Bool.{cases_lt, cond-true, cond-false, le-leb, lt-leb}
 use Rattle.hashers.specs.Text.{IsText}
 use Rattle.hashers.specs.Words.{le}
-use Rattle.hash_keyed.specs.Poly61.{AreKeys, ArePairs, prime61, word_count}
+use Rattle.hash_keyed.specs.Poly61.{AreKeys, prime61, word_count}
 use Rattle.hash_keyed.specs.Poly61State.{poly61}
 use Rattle.hash_keyed.proofs.Collisions.{few_keys_meet}
-use Rattle.hash_numbers.specs.Numbers.{number_hash}
+use Rattle.hash_numbers.specs.Numbers.{AreTriples, pair_hash}
 use Rattle.hash_numbers.specs.NumberState.{keyed_hash, NeitherBegins}
-use Rattle.hash_words.proofs.ByteLemmas.{le-begins, le-word}
-use Rattle.hash_numbers.proofs.Evenness.{few_have, few_pairs}
+use Rattle.hash_words.proofs.ByteLemmas.{le-begins, le-few}
+use Rattle.hash_numbers.proofs.Evenness.{few_triples_have}
+use Rattle.hash_numbers.proofs.KeyLaws.{few_triples}
 
-short : (a b key : ℕ) (text : List ℕ) → length text ≤ 8 → keyed_hash a b key text ≡ number_hash a b (le text)
-short a b key text few = cond-true (nat_le (length text) 8) _ _ (le-leb (length text) 8 few)
+short : (a a2 b key : ℕ) (text : List ℕ) → length text ≤ 16 → keyed_hash a a2 b key text ≡ pair_hash a a2 b (le text)
+short a a2 b key text few = cond-true (nat_le (length text) 16) _ _ (le-leb (length text) 16 few)
 
-long : (a b key : ℕ) (text : List ℕ) → 8 < length text → keyed_hash a b key text ≡ poly61 (key % prime61) text
-long a b key text many = cond-false (nat_le (length text) 8) _ _ (lt-leb (length text) 8 many)
+long : (a a2 b key : ℕ) (text : List ℕ) → 16 < length text → keyed_hash a a2 b key text ≡ poly61 (key % prime61) text
+long a a2 b key text many = cond-false (nat_le (length text) 16) _ _ (lt-leb (length text) 16 many)
 
 -- neither begins with the other, so they are different numbers
 apart : (s t : List ℕ) → IsText s → IsText t → NeitherBegins s t → le s ≢ le t
@@ -25,25 +26,28 @@ apart s t s_is t_is neither same = elim (cases_lt (length t) (length s)) [
   | inr more ↦ neither.0 (le-begins s t s_is t_is (omega (arith, more)) same)
 ]
 
-pub few_for_short : (s t : List ℕ) (key : ℕ) (keys : List (ℕ × ℕ)) → IsText s → IsText t → length s ≤ 8 → length t ≤ 8 → NeitherBegins s t
-    → ArePairs (2 ^ 128) keys → All (λ pair. keyed_hash pair.0 pair.1 key s ≡ keyed_hash pair.0 pair.1 key t) keys → length keys ≤ 2 ^ 192
+abbrev Triple : Type 0
+Triple = ℕ × ℕ × ℕ
+
+pub few_for_short : (s t : List ℕ) (key : ℕ) (keys : List Triple) → IsText s → IsText t → length s ≤ 16 → length t ≤ 16 → NeitherBegins s t
+    → AreTriples (2 ^ 128) keys → All (λ k. keyed_hash k.0 k.1 k.2 key s ≡ keyed_hash k.0 k.1 k.2 key t) keys → length keys ≤ 2 ^ 320
 few_for_short s t key keys s_is t_is s_few t_few neither are have =
-    few_pairs (le s) (le t) keys (le-word s s_is s_few) (le-word t t_is t_few) (apart s t s_is t_is neither) are
-    (λ k d h. let pair = get_or keys k d in
-    sym (short pair.0 pair.1 key s s_few) ∙ have k d h ∙ short pair.0 pair.1 key t t_few)
+    few_triples (le s) (le t) keys (le-few 16 s s_is s_few) (le-few 16 t t_is t_few) (apart s t s_is t_is neither) are
+    (λ i any h. let k = get_or keys i any in
+    sym (short k.0 k.1 k.2 key s s_few) ∙ have i any h ∙ short k.0 k.1 k.2 key t t_few)
 
-pub few_for_mixed : (s t : List ℕ) (key : ℕ) (keys : List (ℕ × ℕ)) → length s ≤ 8 → 8 < length t
-    → ArePairs (2 ^ 128) keys → All (λ pair. keyed_hash pair.0 pair.1 key s ≡ keyed_hash pair.0 pair.1 key t) keys → length keys ≤ 2 ^ 192
+pub few_for_mixed : (s t : List ℕ) (key : ℕ) (keys : List Triple) → length s ≤ 16 → 16 < length t
+    → AreTriples (2 ^ 128) keys → All (λ k. keyed_hash k.0 k.1 k.2 key s ≡ keyed_hash k.0 k.1 k.2 key t) keys → length keys ≤ 2 ^ 320
 few_for_mixed s t key keys s_few t_many are have =
-    few_have (le s) (poly61 (key % prime61) t) keys are
-    (λ k d h. let pair = get_or keys k d in
-    sym (short pair.0 pair.1 key s s_few) ∙ have k d h ∙ long pair.0 pair.1 key t t_many)
+    few_triples_have (le s) (poly61 (key % prime61) t) keys are
+    (λ i any h. let k = get_or keys i any in
+    sym (short k.0 k.1 k.2 key s s_few) ∙ have i any h ∙ long k.0 k.1 k.2 key t t_many)
 
-pub few_for_long : (s t : List ℕ) (a b : ℕ) (keys : List ℕ) → IsText s → IsText t → 8 < length s → 8 < length t → s ≢ t
-    → AreKeys prime61 keys → All (λ key. keyed_hash a b key s ≡ keyed_hash a b key t) keys
+pub few_for_long : (s t : List ℕ) (a a2 b : ℕ) (keys : List ℕ) → IsText s → IsText t → 16 < length s → 16 < length t → s ≢ t
+    → AreKeys prime61 keys → All (λ key. keyed_hash a a2 b key s ≡ keyed_hash a a2 b key t) keys
     → length keys ≤ max (word_count s) (word_count t) + 1
-few_for_long s t a b keys s_is t_is s_many t_many differ are have =
+few_for_long s t a a2 b keys s_is t_is s_many t_many differ are have =
     few_keys_meet s t keys s_is t_is differ are
     (λ k d h. let key = get_or keys k d in
     let within = mod-eq_of_lt (are.below k d h) in
-    ap (λ r. poly61 r s) (sym within) ∙ sym (long a b key s s_many) ∙ have k d h ∙ long a b key t t_many ∙ ap (λ r. poly61 r t) within)
+    ap (λ r. poly61 r s) (sym within) ∙ sym (long a a2 b key s s_many) ∙ have k d h ∙ long a a2 b key t t_many ∙ ap (λ r. poly61 r t) within)

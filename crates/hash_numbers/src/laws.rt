@@ -6,7 +6,7 @@ ghost use Rattle.std.specs.List.{concat, count_by, sum_by};
 ghost use Rattle.hashers.specs.Counts.{meetings};
 ghost use Rattle.hashers.specs.Text.{IsText};
 ghost use Rattle.hash_keyed.specs.Poly61.{AreKeys, ArePairs, prime61, word_count};
-ghost use Rattle.hash_numbers.specs.Numbers.{have_hashes, number_hash, share_place};
+ghost use Rattle.hash_numbers.specs.Numbers.{AreTriples, have_hashes, number_hash, pair_hash, share_place};
 ghost use Rattle.hash_numbers.specs.NumberState.{after_write, answer_of, fresh_at, keyed_hash, NeitherBegins};
 
 /// Each pair of hashes of two different numbers comes from at most 2^128 of the 2^256 pairs of a multiplier and an
@@ -16,7 +16,7 @@ pub fn even_pairs_of_hashes()
         → All (λ key. (number_hash key.0 key.1 x ≡ u) × (number_hash key.0 key.1 y ≡ v)) keys
         → length keys ≤ 2 ^ 128 }
     ensures of_all { (x y u v : ℕ) (keys : List (ℕ × ℕ)) → x < 2 ^ 64 → y < 2 ^ 64 → x ≢ y → u < 2 ^ 64 → v < 2 ^ 64
-        → ArePairs (2 ^ 128) keys → length keys ≡ 2 ^ 256 → count_by (have_hashes x y u v) keys ≡ 2 ^ 128 }
+        → ArePairs (2 ^ 128) keys → length keys ≡ 2 ^ 256 → count_by (λ key. have_hashes x y u v (number_hash key.0 key.1)) keys ≡ 2 ^ 128 }
 {}
 
 /// So two different numbers have one hash at no more than one in 2^64 of these pairs.
@@ -66,8 +66,47 @@ pub fn few_meetings()
     ensures { (numbers : List ℕ) (bits : ℕ) (keys : List (ℕ × ℕ)) → All (λ x. x < 2 ^ 64) numbers
         → AllPairs ◌≢◌ numbers → bits ≤ 64
         → ArePairs (2 ^ 128) keys
-        → sum_by (λ key. meetings (share_place bits key) numbers) keys
+        → sum_by (λ key. meetings (share_place bits (number_hash key.0 key.1)) numbers) keys
         ≤ length numbers * (length numbers - 1) / 2 * 2 ^ (256 - bits) }
+{}
+
+/// The same of a number of up to sixteen bytes under [`pair_hash`](crate::number::pair_hash): each pair of hashes of two
+/// different ones comes from at most 2^256 of the 2^384 triples of two multipliers and an addend; of all of them, from
+/// just as many.
+pub fn even_pairs_of_hashes_of_pairs()
+    ensures most { (x y u v : ℕ) (keys : List (ℕ × ℕ × ℕ)) → x < 2 ^ 128 → y < 2 ^ 128 → x ≢ y
+        → AreTriples (2 ^ 128) keys
+        → All (λ key. (pair_hash key.0 key.1 key.2 x ≡ u) × (pair_hash key.0 key.1 key.2 y ≡ v)) keys
+        → length keys ≤ 2 ^ 256 }
+    ensures of_all { (x y u v : ℕ) (keys : List (ℕ × ℕ × ℕ)) → x < 2 ^ 128 → y < 2 ^ 128 → x ≢ y → u < 2 ^ 64
+        → v < 2 ^ 64 → AreTriples (2 ^ 128) keys → length keys ≡ 2 ^ 384
+        → count_by (λ key. have_hashes x y u v (pair_hash key.0 key.1 key.2)) keys ≡ 2 ^ 256 }
+{}
+
+/// So low and high bits of two of these hashes are the same at no more than one in 2^(low + high) of these triples: with
+/// no high ones a place, with all 64 low ones the whole hash.
+pub fn few_keys_for_a_place_and_a_tag_of_pairs()
+    ensures { (x y low high : ℕ) (keys : List (ℕ × ℕ × ℕ)) → x < 2 ^ 128 → y < 2 ^ 128 → x ≢ y → low + high ≤ 64
+        → AreTriples (2 ^ 128) keys
+        → All (λ key. (pair_hash key.0 key.1 key.2 x % 2 ^ low ≡ pair_hash key.0 key.1 key.2 y % 2 ^ low)
+        × (pair_hash key.0 key.1 key.2 x / 2 ^ (64 - high) ≡ pair_hash key.0 key.1 key.2 y / 2 ^ (64 - high))) keys
+        → length keys ≤ 2 ^ (384 - low - high) }
+{}
+
+/// One of these numbers has a given hash at no more than one in 2^64.
+pub fn few_keys_for_a_hash_of_a_pair()
+    ensures { (x u : ℕ) (keys : List (ℕ × ℕ × ℕ)) → AreTriples (2 ^ 128) keys
+        → All (λ key. pair_hash key.0 key.1 key.2 x ≡ u) keys
+        → length keys ≤ 2 ^ 320 }
+{}
+
+/// And over all triples together as few pairs of different numbers come into one place.
+pub fn few_meetings_of_pairs()
+    ensures { (numbers : List ℕ) (bits : ℕ) (keys : List (ℕ × ℕ × ℕ)) → All (λ x. x < 2 ^ 128) numbers
+        → AllPairs ◌≢◌ numbers → bits ≤ 64
+        → AreTriples (2 ^ 128) keys
+        → sum_by (λ key. meetings (share_place bits (pair_hash key.0 key.1 key.2)) numbers) keys
+        ≤ length numbers * (length numbers - 1) / 2 * 2 ^ (384 - bits) }
 {}
 
 /// Where the addend is known, whatever it is, at most 2^65 of the 2^128 multipliers give two different numbers one
@@ -94,29 +133,43 @@ pub fn few_multipliers_for_high_bits()
         → length multipliers ≤ 2 ^ (129 - bits) }
 {}
 
+/// The same of a number of up to sixteen bytes: a share of 2 / 2^bits of the 2^256 pairs of multipliers.
+pub fn few_multipliers_for_pairs()
+    ensures place { (x y addend bits : ℕ) (multipliers : List (ℕ × ℕ)) → x < 2 ^ 128 → y < 2 ^ 128 → x ≢ y → bits ≤ 64
+        → ArePairs (2 ^ 128) multipliers
+        → All (λ a. pair_hash a.0 a.1 addend x % 2 ^ bits ≡ pair_hash a.0 a.1 addend y % 2 ^ bits) multipliers
+        → length multipliers ≤ 2 ^ (257 - bits) }
+    ensures high_bits { (x y addend bits : ℕ) (multipliers : List (ℕ × ℕ)) → x < 2 ^ 128 → y < 2 ^ 128 → x ≢ y
+        → bits ≤ 64 → ArePairs (2 ^ 128) multipliers
+        → All (λ a. pair_hash a.0 a.1 addend x / 2 ^ (64 - bits) ≡ pair_hash a.0 a.1 addend y / 2 ^ (64 - bits))
+        multipliers
+        → length multipliers ≤ 2 ^ (257 - bits) }
+{}
+
 /// The hash of a key of a map hangs on its bytes alone, in whatever pieces they are written.
 pub fn pieces_do_not_show()
-    ensures { (multiplier addend text_key : ℕ) (pieces : List (List ℕ)) → All IsText pieces
-        → answer_of (fold after_write (fresh_at multiplier addend text_key) pieces)
-        ≡ keyed_hash multiplier addend text_key (concat pieces) }
+    ensures { (multiplier multiplier2 addend text_key : ℕ) (pieces : List (List ℕ)) → All IsText pieces
+        → answer_of (fold after_write (fresh_at multiplier multiplier2 addend text_key) pieces)
+        ≡ keyed_hash multiplier multiplier2 addend text_key (concat pieces) }
 {}
 
 /// Two keys of a map, of which neither begins with the other, as std's traits write the values of one type, have one
-/// hash at few keys of the hash. Where one has at most eight bytes, at any key for texts, no more than one in 2^64 of
-/// the pairs of a multiplier and an addend; where both are longer, as many keys for texts as `poly61` has.
+/// hash at few keys of the hash. Where one has at most sixteen bytes, at any key for texts, no more than one in 2^64 of
+/// the triples of two multipliers and an addend; where both are longer, as many keys for texts as `poly61` has.
 pub fn few_keys_for_two_keys_of_a_map()
-    ensures short { (s t : List ℕ) (text_key : ℕ) (keys : List (ℕ × ℕ)) → IsText s → IsText t → length s ≤ 8
-        → length t ≤ 8
-        → NeitherBegins s t → ArePairs (2 ^ 128) keys
-        → All (λ key. keyed_hash key.0 key.1 text_key s ≡ keyed_hash key.0 key.1 text_key t) keys
-        → length keys ≤ 2 ^ 192 }
-    ensures mixed { (s t : List ℕ) (text_key : ℕ) (keys : List (ℕ × ℕ)) → length s ≤ 8 → 8 < length t
-        → ArePairs (2 ^ 128) keys
-        → All (λ key. keyed_hash key.0 key.1 text_key s ≡ keyed_hash key.0 key.1 text_key t) keys
-        → length keys ≤ 2 ^ 192 }
-    ensures long { (s t : List ℕ) (multiplier addend : ℕ) (text_keys : List ℕ) → IsText s → IsText t → 8 < length s
-        → 8 < length t
+    ensures short { (s t : List ℕ) (text_key : ℕ) (keys : List (ℕ × ℕ × ℕ)) → IsText s → IsText t → length s ≤ 16
+        → length t ≤ 16
+        → NeitherBegins s t → AreTriples (2 ^ 128) keys
+        → All (λ key. keyed_hash key.0 key.1 key.2 text_key s ≡ keyed_hash key.0 key.1 key.2 text_key t) keys
+        → length keys ≤ 2 ^ 320 }
+    ensures mixed { (s t : List ℕ) (text_key : ℕ) (keys : List (ℕ × ℕ × ℕ)) → length s ≤ 16 → 16 < length t
+        → AreTriples (2 ^ 128) keys
+        → All (λ key. keyed_hash key.0 key.1 key.2 text_key s ≡ keyed_hash key.0 key.1 key.2 text_key t) keys
+        → length keys ≤ 2 ^ 320 }
+    ensures long { (s t : List ℕ) (multiplier multiplier2 addend : ℕ) (text_keys : List ℕ) → IsText s → IsText t
+        → 16 < length s → 16 < length t
         → s ≢ t → AreKeys prime61 text_keys
-        → All (λ text_key. keyed_hash multiplier addend text_key s ≡ keyed_hash multiplier addend text_key t) text_keys
+        → All (λ text_key. keyed_hash multiplier multiplier2 addend text_key s
+        ≡ keyed_hash multiplier multiplier2 addend text_key t) text_keys
         → length text_keys ≤ max (word_count s) (word_count t) + 1 }
 {}

@@ -228,9 +228,9 @@ fn keyed(name: &str, numbers: &[u64], p: &Pieces) -> String {
         ("siphash24", &[k0, k1]) => by_the_block::<SipRule<2, 4>, 8>(SipKey { k0, k1 }, p).to_string(),
         ("xxh3", &[seed]) => under_a_seed(seed, p).0,
         ("xxh128", &[seed]) => under_a_seed(seed, p).1,
-        ("number_keys", &[m1, m0, a1, a0, key]) => {
+        ("number_keys", &[m1, m0, n1, n0, a1, a0, key]) => {
             let wide = |high, low| u128::from(high) << 64 | u128::from(low);
-            map_key(NumberKeys::with_keys(wide(m1, m0), wide(a1, a0), key), p).to_string()
+            map_key(NumberKeys::with_keys(wide(m1, m0), wide(n1, n0), wide(a1, a0), key), p).to_string()
         }
         ("poly61_pair", &[first, second]) => at_two_keys(first, second, p),
         ("poly61_state", &[key]) => poly61_state(key, &p.concat()).map_or("None".to_string(), |it| it.to_string()),

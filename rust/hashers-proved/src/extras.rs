@@ -175,11 +175,13 @@ impl BuildHasher for Poly61Keys {
     }
 }
 
-/// Hashers of numbers at one multiplier and addend, for std's maps and sets whose keys are numbers. A key of more than eight bytes has the hash
-/// `poly61`, at a key of its own. Take random ones where somebody else chooses the numbers; never take fixed ones there.
+/// Hashers of numbers at two multipliers and an addend, for std's maps and sets whose keys are numbers, pairs of them or short texts. A key of
+/// more than sixteen bytes has the hash `poly61`, at a key of its own. Take random ones where somebody else chooses the keys; never take fixed
+/// ones there.
 #[derive(Clone, Copy)]
 pub struct NumberKeys {
     multiplier: u128,
+    multiplier2: u128,
     addend: u128,
     text: Poly61Keys,
 }
@@ -187,15 +189,16 @@ pub struct NumberKeys {
 impl NumberKeys {
     /// These keys: any numbers.
     #[inline]
-    pub const fn with_keys(multiplier: u128, addend: u128, text_key: u64) -> NumberKeys {
-        NumberKeys { multiplier, addend, text: Poly61Keys::with_key(text_key) }
+    pub const fn with_keys(multiplier: u128, multiplier2: u128, addend: u128, text_key: u64) -> NumberKeys {
+        NumberKeys { multiplier, multiplier2, addend, text: Poly61Keys::with_key(text_key) }
     }
 
     /// Keys from the randomness of std's `RandomState`. Each call has others.
     #[cfg(feature = "std")]
     pub fn random() -> NumberKeys {
         let word = || u128::from(real_std::hash::RandomState::new().build_hasher().finish());
-        NumberKeys { multiplier: word() << 64 | word(), addend: word() << 64 | word(), text: Poly61Keys::random() }
+        let wide = || word() << 64 | word();
+        NumberKeys { multiplier: wide(), multiplier2: wide(), addend: wide(), text: Poly61Keys::random() }
     }
 }
 
@@ -212,7 +215,8 @@ impl BuildHasher for NumberKeys {
 
     #[inline]
     fn build_hasher(&self) -> NumberHasher {
-        NumberHasher { multiplier: self.multiplier, addend: self.addend, number: 0, held: 0, text: self.text.build_hasher() }
+        let NumberKeys { multiplier, multiplier2, addend, text } = *self;
+        NumberHasher { multiplier, multiplier2, addend, low: 0, high: 0, held: 0, text: text.build_hasher() }
     }
 }
 

@@ -1,7 +1,9 @@
 //! Numbers under keys: values that Python computed, std's maps and sets, and numbers that meet at a key that is known.
 use crate::tests::{all_hold, same};
-use hash_numbers::keys::{NumberKeys, NumberMap, NumberSet, hash_one_number, hash_one_number32};
-use hash_numbers::number::number_hash;
+use hash_numbers::keys::{
+    NumberKeys, NumberMap, NumberSet, hash_one_number, hash_one_number32, hash_one_pair,
+};
+use hash_numbers::number::{number_hash, pair_hash};
 use std::alloc::Global;
 use std::hash::{BuildHasher, Hasher};
 use std::io;
@@ -26,13 +28,26 @@ fn hashes_of_numbers(rt: HostRuntime) {
     }
 }
 
-/// A key of up to eight bytes is one number, whatever its type; a longer one has the polynomial of its bytes.
+#[test]
+fn hashes_of_two_words(rt: HostRuntime) {
+    for (number, hash) in [
+        (u128::from(u64::MAX), 17111502864317427696),
+        (1 << 64, 8999661730116744916),
+        (1 << 127, 15599377431494237913),
+        (u128::MAX, 4818160938976508943),
+    ] {
+        same(&rt, &[pair_hash(MULTIPLIER, OTHER_MULTIPLIER, ADDEND, number)], &[hash]);
+    }
+}
+
+/// A key of up to sixteen bytes is one number, whatever its type; a longer one has the polynomial of its bytes.
 #[test]
 fn hashes_of_keys(rt: HostRuntime) {
-    let keys = NumberKeys::with_keys(MULTIPLIER, ADDEND, 7);
+    let keys = NumberKeys::with_keys(MULTIPLIER, OTHER_MULTIPLIER, ADDEND, 7);
     let mut pieces = keys.build_hasher();
-    pieces.write(b"eight");
-    pieces.write_u32(u32::from_le_bytes(*b"let\xff"));
+    pieces.write(b"sixteen let");
+    pieces.write_u32(u32::from_le_bytes(*b"ters"));
+    pieces.write(b"!\xff");
     same(
         &rt,
         &[
@@ -43,10 +58,15 @@ fn hashes_of_keys(rt: HostRuntime) {
             keys.hash_one::<&str>("elm"),
             keys.hash_one::<&str>("seven77"),
             keys.hash_one::<(u32, u32)>((5, 6)),
-            keys.hash_one::<(u64, u64)>((5, 6)),
+            hash_one_pair(&keys, (5, 6)),
+            keys.hash_one::<u128>(5 + (6 << 64)),
+            keys.hash_one::<(u64, u32)>((5, 6)),
+            keys.hash_one::<(u64, (u64, u64))>((5, (6, 7))),
             keys.hash_one::<&str>("eightlet"),
+            keys.hash_one::<&str>("fifteen letters"),
+            keys.hash_one::<&str>("sixteen letters!"),
             pieces.finish(),
-            keys.hash_one::<&str>("a text of words"),
+            keys.hash_one::<&str>("a text of more words"),
         ],
         &[
             58512787288153055,
@@ -56,10 +76,15 @@ fn hashes_of_keys(rt: HostRuntime) {
             16291647567829105381,
             10609678410233846511,
             number_hash(MULTIPLIER, ADDEND, 5 + (6 << 32)),
-            9223372036855313940,
-            1398862773699029464,
-            1398862773699029464,
-            13742158830649279165,
+            11072931251686516973,
+            11072931251686516973,
+            11072931251686516973,
+            9223372036995250828,
+            14856033719482826798,
+            12314804339668801018,
+            706860878803824320,
+            706860878803824320,
+            16804556063748848471,
         ],
     );
 }
@@ -88,7 +113,7 @@ fn maps_and_sets_under_keys(rt: HostRuntime) {
         Ok(keys) => mapped(rt.alloc(), keys).unwrap_or([0; 4]),
         Err(_) => [0; 4],
     };
-    let at_zero = mapped(rt.alloc(), NumberKeys::with_keys(0, 0, 0)).unwrap_or([0; 4]);
+    let at_zero = mapped(rt.alloc(), NumberKeys::with_keys(0, 0, 0, 0)).unwrap_or([0; 4]);
     same(&rt, &at_random, &[2, 9, 2, 2]);
     same(&rt, &at_zero, &[2, 9, 2, 2]);
 }

@@ -1,28 +1,55 @@
-//! The hasher of a key of a map: up to eight bytes are one number, and more have the hash `poly61`.
+//! The hasher of a key of a map: up to sixteen bytes are one number, and more have the hash `poly61`.
 
 // What follows is the proved text of crates/hash_numbers/src/hasher.rt without its contracts.
-use crate::{hash_keyed, std};
+use crate::{hash_keyed, hashers, std};
 
-use crate::hash_numbers::number::number_hash;
+use crate::hash_numbers::number::{number_hash, pair_hash};
 use hash_keyed::poly61::Poly61Hasher;
+use hashers::rounds::le_four;
 use std::hash::Hasher;
 
-/// `held` once there were more than eight bytes.
-const TEXT: u8 = 9;
+/// `held` once there were more than sixteen bytes.
+const TEXT: u8 = 17;
 
-/// The hash of a key of a map, over its bytes in any parts. Up to eight bytes in all are one number, the first byte the
-/// lowest, and the answer is [`number_hash`] of it. More have the hash `poly61` at a key of its own. So a `u64`, a
-/// `u32`, a pair of `u32` and a text of up to seven letters take one product, and all that `hash_keyed` proves holds of
-/// longer texts.
+/// The hash of a key of a map, over its bytes in any parts. Up to sixteen bytes in all are one number, the first byte
+/// the lowest, and the answer is [`pair_hash`] of it, which of up to eight is [`number_hash`]. More have the hash
+/// `poly61` at a key of its own. So a `u64`, a `u32`, a pair of them, a `u128` and a text of up to fifteen letters take
+/// one product or two, and all that `hash_keyed` proves holds of longer texts.
 pub struct NumberHasher {
     pub(crate) multiplier: u128,
+    pub(crate) multiplier2: u128,
     pub(crate) addend: u128,
-    pub(crate) number: u64,
+    pub(crate) low: u64,
+    pub(crate) high: u64,
     pub(crate) held: u8,
     pub(crate) text: Poly61Hasher,
 }
 
-/// The number that at most eight bytes are, the first the lowest.
+/// The number that fewer than four bytes are, the first the lowest.
+///
+/// The caller has to see to it that:
+///
+/// ```text
+/// length bytes.now < 4
+/// ```
+///
+/// Proved:
+///
+/// ```text
+/// value: result ≡ le bytes.now
+/// small: result < 2 ^ (8 * length bytes.now)
+/// ```
+#[inline(always)]
+fn few_of(bytes: &[u8]) -> u64 {
+    match bytes {
+        [] => 0,
+        [a] => u64::from(*a),
+        [a, b] => u64::from(u16::from_le_bytes([*a, *b])),
+        [a, b, c, ..] => u64::from(u32::from_le_bytes([*a, *b, *c, 0])),
+    }
+}
+
+/// The number that at most eight bytes are: the first four, and what the last four have behind them.
 ///
 /// The caller has to see to it that:
 ///
@@ -33,20 +60,69 @@ pub struct NumberHasher {
 /// Proved:
 ///
 /// ```text
-/// result ≡ le bytes.now
+/// value: result ≡ le bytes.now
+/// small: result < 2 ^ (8 * length bytes.now)
 /// ```
 #[inline(always)]
 fn number_of(bytes: &[u8]) -> u64 {
-    match bytes {
-        [] => 0,
-        [a] => u64::from(*a),
-        [a, b] => u64::from_le_bytes([*a, *b, 0, 0, 0, 0, 0, 0]),
-        [a, b, c] => u64::from_le_bytes([*a, *b, *c, 0, 0, 0, 0, 0]),
-        [a, b, c, d] => u64::from_le_bytes([*a, *b, *c, *d, 0, 0, 0, 0]),
-        [a, b, c, d, e] => u64::from_le_bytes([*a, *b, *c, *d, *e, 0, 0, 0]),
-        [a, b, c, d, e, f] => u64::from_le_bytes([*a, *b, *c, *d, *e, *f, 0, 0]),
-        [a, b, c, d, e, f, g] => u64::from_le_bytes([*a, *b, *c, *d, *e, *f, *g, 0]),
-        [a, b, c, d, e, f, g, h, ..] => u64::from_le_bytes([*a, *b, *c, *d, *e, *f, *g, *h]),
+    match (bytes.first_chunk::<4>(), bytes.last_chunk::<4>()) {
+        (Some(first), Some(last)) => {
+            let behind = u64::from(le_four(last)) >> (64 - 8 * bytes.len() as u32);
+            u64::from(le_four(first)) + (behind << 32)
+        }
+        _ => few_of(bytes),
+    }
+}
+
+/// The two words of a number of so many bytes that stands behind those that are held.
+///
+/// The caller has to see to it that:
+///
+/// ```text
+/// some: 1 ≤ count
+/// short: count ≤ 8
+/// few: held + count ≤ 16
+/// within: number < 2 ^ (8 * count)
+/// ```
+///
+/// Proved:
+///
+/// ```text
+/// low: result.0 ≡ number * 2 ^ (8 * held) % 2 ^ 64
+/// high: result.1 ≡ number * 2 ^ (8 * held) / 2 ^ 64
+/// ```
+#[inline(always)]
+fn moved(number: u64, count: u8, held: u8) -> (u64, u64) {
+    let bits = 8 * u32::from(held);
+    if held >= 8 {
+        (0, number << (bits - 64))
+    } else if held + count <= 8 {
+        (number << bits, 0)
+    } else {
+        (number << bits, number >> (64 - bits))
+    }
+}
+
+/// Takes that many bytes of two words in as a text.
+///
+/// The caller has to see to it that:
+///
+/// ```text
+/// held ≤ 16
+/// ```
+///
+/// Proved:
+///
+/// ```text
+/// text.new ≡ after text.old (held_bytes low high held)
+/// ```
+#[inline(never)]
+fn take_in(text: &mut Poly61Hasher, low: u64, high: u64, held: u8) {
+    if held < 8 {
+        text.write(&low.to_le_bytes()[..usize::from(held)]);
+    } else {
+        text.write_u64(low);
+        text.write(&high.to_le_bytes()[..usize::from(held - 8)]);
     }
 }
 
@@ -56,7 +132,8 @@ impl NumberHasher {
     ///
     /// ```text
     /// some: 1 ≤ count
-    /// few: self.old.held + count ≤ 8
+    /// short: count ≤ 8
+    /// few: self.old.held + count ≤ 16
     /// within: number < 2 ^ (8 * count)
     /// ```
     ///
@@ -67,13 +144,13 @@ impl NumberHasher {
     /// ```
     #[inline(always)]
     fn hold(&mut self, number: u64, count: u8) {
-        self.number = self
-            .number
-            .wrapping_add(number << (8 * u32::from(self.held)));
+        let (low, high) = moved(number, count, self.held);
+        self.low = self.low.wrapping_add(low);
+        self.high = self.high.wrapping_add(high);
         self.held += count;
     }
 
-    // From the ninth byte on all bytes are a text, the first ones too.
+    // From the seventeenth byte on all bytes are a text, the first ones too.
     /// Proved:
     ///
     /// ```text
@@ -83,10 +160,10 @@ impl NumberHasher {
     fn become_text(&mut self) {
         if self.held < TEXT {
             if self.held > 0 {
-                self.text
-                    .write(&self.number.to_le_bytes()[..usize::from(self.held)]);
+                take_in(&mut self.text, self.low, self.high, self.held);
             }
-            self.number = 0;
+            self.low = 0;
+            self.high = 0;
             self.held = TEXT;
         }
     }
@@ -107,18 +184,25 @@ impl NumberHasher {
 impl Hasher for NumberHasher {
     #[inline(always)]
     fn finish(&self) -> u64 {
-        if self.held < TEXT {
-            number_hash(self.multiplier, self.addend, self.number)
-        } else {
+        if self.held >= TEXT {
             self.text.finish()
+        } else if self.high == 0 {
+            number_hash(self.multiplier, self.addend, self.low)
+        } else {
+            let number = u128::from(self.low) + u128::from(self.high) * (1 << 64);
+            pair_hash(self.multiplier, self.multiplier2, self.addend, number)
         }
     }
 
     #[inline(always)]
     fn write(&mut self, bytes: &[u8]) {
-        let _number = self.number;
-        if usize::from(self.held) + bytes.len() > 8 {
+        let _words = (self.low, self.high);
+        if usize::from(self.held) + bytes.len() > 16 {
             self.write_text(bytes);
+        } else if bytes.len() > 8 {
+            let (low, high) = bytes.split_at(8);
+            self.hold(number_of(low), 8);
+            self.hold(number_of(high), high.len() as u8);
         } else if !bytes.is_empty() {
             self.hold(number_of(bytes), bytes.len() as u8);
         }
@@ -126,7 +210,7 @@ impl Hasher for NumberHasher {
 
     #[inline(always)]
     fn write_u8(&mut self, number: u8) {
-        if self.held < 8 {
+        if self.held < 16 {
             self.hold(u64::from(number), 1);
         } else {
             self.become_text();
@@ -136,7 +220,7 @@ impl Hasher for NumberHasher {
 
     #[inline(always)]
     fn write_u16(&mut self, number: u16) {
-        if self.held <= 6 {
+        if self.held <= 14 {
             self.hold(u64::from(number), 2);
         } else {
             self.write_text(&number.to_le_bytes());
@@ -145,7 +229,7 @@ impl Hasher for NumberHasher {
 
     #[inline(always)]
     fn write_u32(&mut self, number: u32) {
-        if self.held <= 4 {
+        if self.held <= 12 {
             self.hold(u64::from(number), 4);
         } else {
             self.write_text(&number.to_le_bytes());
@@ -154,8 +238,18 @@ impl Hasher for NumberHasher {
 
     #[inline(always)]
     fn write_u64(&mut self, number: u64) {
-        if self.held == 0 {
+        if self.held <= 8 {
             self.hold(number, 8);
+        } else {
+            self.write_text(&number.to_le_bytes());
+        }
+    }
+
+    #[inline(always)]
+    fn write_u128(&mut self, number: u128) {
+        if self.held == 0 {
+            self.hold((number % (1 << 64)) as u64, 8);
+            self.hold((number >> 64) as u64, 8);
         } else {
             self.write_text(&number.to_le_bytes());
         }

@@ -1,14 +1,15 @@
 //! Numbers at keys.
 use hashers_proved::keyed::poly61;
-use hashers_proved::numbers::{number_hash, NumberKeys};
+use hashers_proved::numbers::{number_hash, pair_hash, NumberKeys};
 use std::hash::{BuildHasher, Hasher};
 
 const MULTIPLIER: u128 = 0x0123456789abcdef0fedcba987654321;
+const MULTIPLIER2: u128 = 0x9e3779b97f4a7c15f39cc0605cedc835;
 const ADDEND: u128 = 0xdeadbeefcafebabe8badf00ddeadc0de;
 const OF_255: u64 = 58512787288153055;
 
 fn keys() -> NumberKeys {
-    NumberKeys::with_keys(MULTIPLIER, ADDEND, 7)
+    NumberKeys::with_keys(MULTIPLIER, MULTIPLIER2, ADDEND, 7)
 }
 
 #[test]
@@ -29,19 +30,41 @@ fn keys_of_one_number() {
     assert_eq!(keys().hash_one("seven77"), number_hash(MULTIPLIER, ADDEND, u64::from_le_bytes(*b"seven77\xff")));
 }
 
+/// One of up to sixteen bytes is a number of two words.
+#[test]
+fn keys_of_two_words() {
+    let of_a_pair = 11072931251686516973;
+    let wanted = [
+        (5 | 6 << 64, of_a_pair),
+        (1 << 64, 8999661730116744916),
+        (1 << 127, 15599377431494237913),
+        (u128::MAX, 4818160938976508943),
+        (1234567890123456789 | 9876543210987654321 << 64, 7471106933747824822),
+    ];
+    for (number, hash) in wanted {
+        assert_eq!(pair_hash(MULTIPLIER, MULTIPLIER2, ADDEND, number), hash);
+        assert_eq!((keys().hash_one(number), keys().hash_one(number as i128)), (hash, hash));
+        assert_eq!(keys().hash_one((number as u64, (number >> 64) as u64)), hash);
+    }
+    assert_eq!((keys().hash_one((5u64, 6u32)), keys().hash_one((5usize, 6u8))), (of_a_pair, of_a_pair));
+    assert_eq!((keys().hash_one("eightlet"), keys().hash_one("fifteen letters")), (14856033719482826798, 12314804339668801018));
+}
+
 /// A longer one has the hash `poly61` of its bytes.
 #[test]
 fn longer_keys() {
-    assert_eq!(keys().hash_one("eightlet"), poly61(7, b"eightlet\xff"));
-    assert_eq!(keys().hash_one((5u64, 6u64)), poly61(7, &[5u64.to_le_bytes(), 6u64.to_le_bytes()].concat()));
-    assert_eq!(keys().hash_one(5u128), poly61(7, &5u128.to_le_bytes()));
+    assert_eq!(keys().hash_one("sixteen letters!"), poly61(7, b"sixteen letters!\xff"));
+    assert_eq!(keys().hash_one("sixteen letters!"), 706860878803824320);
+    assert_eq!(keys().hash_one("a text of more words"), 16804556063748848471);
+    assert_eq!(keys().hash_one((5u64, 6u64, 7u64)), 9223372036995250828);
+    assert_eq!(keys().hash_one((1u8, 5u128)), poly61(7, &[&[1], &5u128.to_le_bytes()[..]].concat()));
 }
 
-/// A text of twelve bytes and each shorter one, cut at each place, has the hash of the bytes at once.
+/// A text of twenty bytes and each shorter one, cut at each place, has the hash of the bytes at once.
 #[test]
 fn cuts_do_not_show() {
-    for length in 0..=12 {
-        let text = &b"twelve bytes"[..length];
+    for length in 0..=20 {
+        let text = &b"a text, twenty bytes"[..length];
         let mut whole = keys().build_hasher();
         whole.write(text);
         for cut in 0..=length {

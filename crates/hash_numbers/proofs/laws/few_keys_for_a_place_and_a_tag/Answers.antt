@@ -1,4 +1,4 @@
-use Rattle.hash_numbers.proofs.Evenness.{few_share_both}
+use Rattle.hash_numbers.proofs.KeyLaws.{few_share_both}
 use Rattle.hash_numbers.proofs.laws.few_keys_for_a_place_and_a_tag.Goals as goal
 
 pub returns : goal.returns

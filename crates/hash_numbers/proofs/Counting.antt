@@ -1,0 +1,136 @@
+-- Counting keys, of any form, by a number that each has.
+use Rattle.std.proofs.Common.{ℕ, Bool, zero, suc, ◌≡◌, ◌≢◌, ◌+◌, ◌*◌, ◌<◌, ◌≤◌, true, nat_eq, cond, List, [], ◌∷◌, length, get_or, map, All, AllPairs, eqb, refl, sym, ap, ◌∙◌, inl, inr, arith}
+use Rattle.std.specs.List.{count_by, list_any}
+use Rattle.std.proofs.lemmas.Bool.{cases_lt, eqb-true, eq-eqb}
+use Rattle.std.proofs.lemmas.Bool.Decides.{Decides-eqb, eqb_tells}
+use Rattle.std.proofs.lemmas.List.{length-map, get_or-map}
+use Rattle.std.proofs.lemmas.List.Elements.{All-head, All-tail, All-map}
+use Rattle.std.proofs.lemmas.List.Folds.{Any-from_list_any}
+use Rattle.std.proofs.lemmas.List.Sums.{sum_by-cons}
+use Rattle.std.proofs.lemmas.Map.Made.{IsDistinct-from_AllPairs}
+use Rattle.std.proofs.lemmas.Map.Steps.{length-le_from_distinct_below}
+
+-- ---- by a number that tells a key
+
+below_all : (n : ℕ) (xs : List ℕ) → All (λ x. x < n) xs → (q : ℕ) → list_any (eqb q) xs ≡ true → q < n
+below_all n xs below q found =
+    let (k, x, k_in, there, same) = Any-from_list_any (eqb q) xs found in
+    omega (arith, eqb-true q x same, there, below k x k_in)
+
+count_from : {X : Type 0} (any : X) (holds : X → Type 0) (f : X → ℕ) (n : ℕ) (keys : List X) → AllPairs ◌≢◌ keys → All holds keys
+    → ((k : X) → holds k → f k < n) → ((k l : X) → holds k → holds l → f k ≡ f l → k ≡ l) → length keys ≤ n
+count_from any holds f n keys differ all below tells =
+    let long = length-map keys f in
+    let apart : AllPairs ◌≢◌ (map f keys) = λ i j d less within.
+    let i_in : i < length keys = omega (arith, less, within, long) in
+    let j_in : j < length keys = omega (arith, within, long) in
+    λ same. differ i j any less j_in
+    (tells (get_or keys i any) (get_or keys j any) (all i any i_in) (all j any j_in)
+    (sym (get_or-map f keys i any d i_in) ∙ same ∙ get_or-map f keys j any d j_in)) in
+    let few = length-le_from_distinct_below (map f keys) n (IsDistinct-from_AllPairs Decides-eqb (map f keys) apart)
+    (below_all n (map f keys) (All-map (λ x. x < n) f keys (λ k d h. below (get_or keys k d) (all k d h)))) in
+    omega (arith, few, long)
+
+pub count : {X : Type 0} (holds : X → Type 0) (f : X → ℕ) (n : ℕ) (keys : List X) → AllPairs ◌≢◌ keys → All holds keys
+    → ((k : X) → holds k → f k < n) → ((k l : X) → holds k → holds l → f k ≡ f l → k ≡ l) → length keys ≤ n
+count holds f n [] differ all below tells = omega arith
+count holds f n (key ∷ keys) differ all below tells = count_from key holds f n (key ∷ keys) differ all below tells
+
+-- ---- sums over the numbers below one
+
+total : (ℕ → ℕ) → ℕ → ℕ
+total g zero = 0
+total g (suc n) = total g n + g n
+
+total-none : (n : ℕ) → total (λ c. 0) n ≡ 0
+unfolding total
+total-none zero = refl
+total-none (suc n) = omega (arith, total-none n)
+
+total-add : (f g : ℕ → ℕ) (n : ℕ) → total (λ c. f c + g c) n ≡ total f n + total g n
+unfolding total
+total-add f g zero = refl
+total-add f g (suc n) = omega (arith, total-add f g n)
+
+total-same : (f g : ℕ → ℕ) → ((c : ℕ) → f c ≡ g c) → (n : ℕ) → total f n ≡ total g n
+unfolding total
+total-same f g same zero = refl
+total-same f g same (suc n) = omega (arith, total-same f g same n, same n)
+
+-- where a number is one of them it is one once
+is : ℕ → ℕ → ℕ
+is v c = cond (nat_eq v c) 1 0
+
+is_same : (v : ℕ) → is v v ≡ 1
+unfolding is
+is_same v = ap (λ b. cond b 1 0) (eq-eqb v v refl)
+
+is_other : (v c : ℕ) → v ≢ c → is v c ≡ 0
+unfolding is
+is_other v c differ = elim (eqb_tells v c) [
+  | inl same ↦ absurd (differ same.1)
+  | inr other ↦ ap (λ b. cond b 1 0) other.0
+]
+
+past : (v n : ℕ) → n ≤ v → total (is v) n ≡ 0
+unfolding total
+past v zero above = refl
+past v (suc n) above = omega (arith, past v n (omega (arith, above)), is_other v n (λ same. absurd (omega (arith, above, same))))
+
+once : (v n : ℕ) → v < n → total (is v) n ≡ 1
+unfolding total
+once v zero below = absurd (omega (arith, below))
+once v (suc n) below = elim (cases_lt v n) [
+  | inl less ↦ omega (arith, once v n less, is_other v n (λ same. absurd (omega (arith, less, same))))
+  | inr last ↦
+      let e : v ≡ n = omega (arith, below, last) in
+      omega (arith, past v n last, ap (is v) (sym e), is_same v)
+]
+
+bounded : (g : ℕ → ℕ) (most n : ℕ) → ((c : ℕ) → c < n → g c ≤ most) → total g n ≤ n * most
+unfolding total
+bounded g most zero few = omega arith
+bounded g most (suc n) few = omega (arith, bounded g most n (λ c below. few c (omega (arith, below))), few n (omega arith))
+
+-- what one lacks the sum lacks
+lacking : (g : ℕ → ℕ) (most n c : ℕ) → ((i : ℕ) → i < n → g i ≤ most) → c < n → total g n + most ≤ n * most + g c
+unfolding total
+lacking g most zero c few below = absurd (omega (arith, below))
+lacking g most (suc n) c few below =
+    let before = λ (i : ℕ) (i_in : i < n). few i (omega (arith, i_in)) in
+    elim (cases_lt c n) [
+      | inl less ↦ omega (arith, lacking g most n c before less, few n (omega arith))
+      | inr last ↦
+          let e : c ≡ n = omega (arith, below, last) in
+          omega (arith, bounded g most n before, ap g e)
+    ]
+
+-- ---- by a number that many keys have
+
+module _ {X : Type 0} (f : X → ℕ) where
+  unfoldable pub having : ℕ → X → Bool
+  having c key = nat_eq (f key) c
+
+  counted : (n : ℕ) (keys : List X) → All (λ key. f key < n) keys → length keys ≡ total (λ c. count_by (having c) keys) n
+  unfolding having is
+  counted n [] below = sym (total-none n)
+  counted n (key ∷ keys) below =
+      omega (
+        arith,
+        counted n keys (All-tail (λ k. f k < n) key keys below),
+        once (f key) n (All-head (λ k. f k < n) key keys below),
+        total-add (is (f key)) (λ c. count_by (having c) keys) n,
+        total-same (λ c. count_by (having c) (key ∷ keys)) (λ c. is (f key) c + count_by (having c) keys)
+            (λ c. sum_by-cons (λ k. cond (having c k) 1 0) key keys) n,
+      )
+
+  -- all are no more than the most that have one number, for each number
+  pub few_in_all : (n most : ℕ) (keys : List X) → All (λ key. f key < n) keys → ((i : ℕ) → i < n → count_by (having i) keys ≤ most)
+      → length keys ≤ n * most
+  few_in_all n most keys below few = omega (arith, counted n keys below, bounded (λ i. count_by (having i) keys) most n few)
+
+  -- where no number is more keys' than its share, and the keys are all the shares together, each has its share
+  pub just_its_share : (n most c : ℕ) (keys : List X) → All (λ key. f key < n) keys → ((i : ℕ) → i < n → count_by (having i) keys ≤ most)
+      → length keys ≡ n * most → c < n → count_by (having c) keys ≡ most
+  just_its_share n most c keys below few all c_in =
+      omega (arith, few c c_in, lacking (λ i. count_by (having i) keys) most n c few c_in, counted n keys below, all)
