@@ -104,7 +104,8 @@ module _ (many : ℕ) (c d : ℕ → ℕ) (x y s q : ℕ) (apart : x ≡ y + 2 ^
 
   code_in : (key : Parts) → AreParts many key → code key < many * 2 ^ 128
   code_in key is =
-      let first = mul-add-lt (full c x key % 2 ^ 64) t (full d y key % 2 ^ 64 / 2 ^ s) (2 ^ 64) (mod-lt (full c x key) (lit< tt)) (part_in (full d y key)) in
+      let first = mul-add-lt (full c x key % 2 ^ 64) t (full d y key % 2 ^ 64 / 2 ^ s) (2 ^ 64) (mod-lt (full c x key) (lit< tt))
+      (part_in (full d y key)) in
       let both = mul-add-lt (halves key) (2 ^ s) (key.0 / n) (t * 2 ^ 64) first (row_in key.0 is.0) in
       let e : 2 ^ s * (t * 2 ^ 64) ≡ 2 ^ s * t * 2 ^ 64 = omega arith in
       mul-add-lt (halves key * 2 ^ s + key.0 / n) many key.2 (2 ^ 128)

@@ -4,7 +4,7 @@ use Rattle.std.specs.List.{count_by, sum_by}
 use Rattle.hashers.specs.Counts.{meetings}
 use Rattle.hash_keyed.specs.Poly61.{ArePairs}
 use Rattle.hash_numbers.specs.Numbers.{number_hash, pair_hash, have_hashes, share_place, AreTriples}
-use Rattle.hash_numbers.proofs.Even.{exactly, meet, share_both, share_high, share_low}
+use Rattle.hash_numbers.proofs.FromEvenness.{exactly, meet, share_both, share_high, share_low}
 use Rattle.hash_numbers.proofs.Evenness.{even_pairs, even_triples}
 use Rattle.hash_numbers.proofs.Meetings.{few_meetings_of}
 

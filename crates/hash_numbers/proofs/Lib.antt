@@ -2,7 +2,7 @@ pub mod Odds
 pub mod Counting
 pub mod Multipliers
 pub mod Evenness
-pub mod Even
+pub mod FromEvenness
 pub mod Meetings
 pub mod KeyLaws
 pub mod Bytes

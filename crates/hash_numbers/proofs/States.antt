@@ -101,7 +101,8 @@ text_eight n = IsText-bytes 0 8 n
 pub low_in : (at : Position) (low high k : ℕ) → k ≤ 8 → after at (take k (to_le_bytes w64 low)) ≡ after at (held_bytes low high k)
 low_in at low high k few = ap (after at) (sym (take-append-le k (to_le_bytes w64 low) (to_le_bytes w64 high) few))
 
-pub both_in : (at : Position) (low high k : ℕ) → after (after at (to_le_bytes w64 low)) (take k (to_le_bytes w64 high)) ≡ after at (held_bytes low high (8 + k))
+pub both_in : (at : Position) (low high k : ℕ)
+    → after (after at (to_le_bytes w64 low)) (take k (to_le_bytes w64 high)) ≡ after at (held_bytes low high (8 + k))
 both_in at low high k =
     sym (fold-append byte_in at (to_le_bytes w64 low) (take k (to_le_bytes w64 high)))
     ∙ ap (after at) (sym (take-append-add (to_le_bytes w64 low) (to_le_bytes w64 high) k))

@@ -78,7 +78,7 @@ fn moved(number: u64, count: u8, held: u8) -> (u64, u64)
     }
 }
 
-/// Takes that many bytes of two words in as a text.
+/// Takes that many bytes of two words in as a text. It stands apart, so that what a map does with numbers stays short.
 #[inline(never)]
 fn take_in(text: &mut Poly61Hasher, low: u64, high: u64, held: u8)
     requires { held ≤ 16 }

@@ -1,4 +1,4 @@
-//! A keyed hash of numbers by one product and one sum, whose collisions are few over the keys.
+//! A keyed hash of numbers by one product and one sum, or two products, whose collisions are few over the keys.
 #![tactic(auto)]
 
 pub mod hasher;

@@ -267,10 +267,10 @@ pub mod keyed {
     pub use crate::hash_keyed::{pair::*, parts::*, poly61::*};
 }
 
-/// A hash of numbers at a key: the high half of the 128 bits of a product and a sum (Dietzfelbinger 1996). Over the 2^256 keys any two
-/// hashes are two random numbers, so k bits of them are the same at one key in 2^k, whatever the two numbers. That is proved of the Rattle
-/// text, by laws that have no code. It is no protection against who sees hashes, the order of a map or times, nor at a key that is known.
-/// `Debug` shows no key.
+/// A hash of numbers at a key: the high half of the 128 bits of a product and a sum (Dietzfelbinger 1996), with a product more for a second
+/// word. Over all keys any two hashes are two random numbers, so k bits of them are the same at one key in 2^k, whatever the two numbers.
+/// That is proved of the Rattle text, by laws that have no code. It is no protection against who sees hashes, the order of a map or times,
+/// nor at a key that is known. `Debug` shows no key.
 ///
 #[cfg_attr(feature = "std", doc = "```")]
 #[cfg_attr(not(feature = "std"), doc = "```ignore")]

@@ -36,7 +36,11 @@ fn hashes_of_two_words(rt: HostRuntime) {
         (1 << 127, 15599377431494237913),
         (u128::MAX, 4818160938976508943),
     ] {
-        same(&rt, &[pair_hash(MULTIPLIER, OTHER_MULTIPLIER, ADDEND, number)], &[hash]);
+        same(
+            &rt,
+            &[pair_hash(MULTIPLIER, OTHER_MULTIPLIER, ADDEND, number)],
+            &[hash],
+        );
     }
 }
 

@@ -182,9 +182,10 @@ fn numbers_as_keys() {
     numbers_of("1,000 u64: 0, 1, 2..", &(0..1000u64).collect::<Vec<_>>());
     numbers_of("1,000 multiples of 2^32", &(0..1000u64).map(|it| it << 32).collect::<Vec<_>>());
     numbers_of("1,000 random u32", &low(thousand));
+    numbers_of("1,000 random pairs of u64", &thousand.iter().map(|it| (*it, it.rotate_left(32))).collect::<Vec<_>>());
     numbers_of("1,000,000 random u64", &million);
     numbers_of("1,000,000 random u32", &low(&million));
-    for letters in [7, 8, 16] {
+    for letters in [7, 8, 15, 16] {
         let texts: Vec<String> = thousand.iter().map(|it| format!("{it:016x}")[..letters].to_string()).collect();
         numbers_of(&format!("1,000 texts of {letters} letters"), &texts.iter().map(String::as_str).collect::<Vec<_>>());
     }

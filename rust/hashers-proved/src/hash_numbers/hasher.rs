@@ -103,7 +103,7 @@ fn moved(number: u64, count: u8, held: u8) -> (u64, u64) {
     }
 }
 
-/// Takes that many bytes of two words in as a text.
+/// Takes that many bytes of two words in as a text. It stands apart, so that what a map does with numbers stays short.
 ///
 /// The caller has to see to it that:
 ///

@@ -26,6 +26,7 @@ fn numbers_at_keys() {
 fn keys_of_one_number() {
     let hashes = [keys().hash_one(255u8), keys().hash_one(255u16), keys().hash_one(255u32), keys().hash_one(255usize), keys().hash_one(255i64)];
     assert_eq!((hashes, keys().hash_one("")), ([OF_255; 5], OF_255));
+    assert_eq!(keys().hash_one(usize::MAX), keys().hash_one(usize::MAX as u64));
     assert_eq!(keys().hash_one((5u32, 6u32)), number_hash(MULTIPLIER, ADDEND, 5 + (6 << 32)));
     assert_eq!(keys().hash_one("seven77"), number_hash(MULTIPLIER, ADDEND, u64::from_le_bytes(*b"seven77\xff")));
 }
