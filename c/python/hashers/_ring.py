@@ -18,7 +18,9 @@ WEIGHT = 100
 
 
 def _bytes_of(name: Name) -> bytes:
-    return name.encode() if isinstance(name, str) else bytes(name)
+    if isinstance(name, (str, bytes)):
+        return name.encode() if isinstance(name, str) else name
+    raise TypeError(f"the name of a node is a str or bytes, not {type(name).__name__}")
 
 
 class Ring:
@@ -29,12 +31,12 @@ class Ring:
     Point k of a node is at the hash of its name with k in 8 bytes behind, the lowest first, so rings of the same names and weights under one
     hash agree in all languages, in whatever order the nodes came. Names are ordered as bytes, a str as its UTF-8. Threads may ask while one
     of them changes the ring: they see it as it was before or as it is after."""
-    __slots__ = ("hash", "_number", "_state")
+    __slots__ = ("_hash", "_number", "_state")
 
     def __init__(self, nodes: Union[Mapping[Name, SupportsIndex], Iterable[Name]] = (), *, hash: str = "spooky") -> None:
         """`nodes` has the weights of names, or names alone, which get a weight of 100."""
         self._number = _number_of(hash)
-        self.hash = hash
+        self._hash = hash
         if isinstance(nodes, (str, bytes)):
             raise TypeError("nodes are names, not one name")
         weights = list(nodes.items()) if isinstance(nodes, Mapping) else [(name, WEIGHT) for name in nodes]
@@ -52,6 +54,11 @@ class Ring:
         _ring_sort(points)
         # the names in order, as bytes and as they were given, their weights, and the points: the place and the node of each
         self._state: _State = keys, [named[key][0] for key in keys], [named[key][1] for key in keys], points
+
+    @property
+    def hash(self) -> str:
+        """The name of the hash that places nodes and keys."""
+        return self._hash
 
     def __repr__(self) -> str:
         return f"<Ring of {len(self)} nodes by {self.hash}>"
@@ -113,6 +120,8 @@ class Ring:
     def owners(self, key: Buffer, count: SupportsIndex) -> List[Name]:
         """The first so many different nodes round the ring from the key, or all where there are fewer: the first owns it, the second would if
         the first were gone, and so on."""
+        if index(count) < 0:
+            raise ValueError(f"there are no {index(count)} owners")
         _, names, _, points = self._state
         found = _ZERO * min(index(count), len(names))
         return [names[node] for node in found[:_ring_owners(self._number, points, key, found)]]

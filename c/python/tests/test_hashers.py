@@ -973,6 +973,8 @@ class Rings(unittest.TestCase):
             (ValueError, lambda: ring.add("oak", 1)), (ValueError, lambda: ring.add("fir", 0)), (KeyError, lambda: ring.remove("fir")),
             (ValueError, lambda: hashers.Ring({"a": 1, b"a": 1})), (ValueError, lambda: hashers.Ring({"a": -1})),
             (TypeError, lambda: hashers.Ring("abc")), (TypeError, lambda: ring.owner(cast(bytes, "a"))),
+            (ValueError, lambda: ring.owners(b"a", -1)), (AttributeError, lambda: setattr(ring, "hash", "xxh3")),
+            (TypeError, lambda: ring.add(cast(str, 5))), (TypeError, lambda: ring.remove(cast(str, bytearray(b"oak")))),
             (ValueError, lambda: hashers.Ring(hash="no")), (ValueError, lambda: hashers.Ring(hash="spooky128"))]
         for error, call in refused:
             with self.assertRaises(error):
