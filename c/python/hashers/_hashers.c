@@ -105,10 +105,7 @@ static int hold_two(PyObject *out, PyObject *from, int (*taken)(PyObject *, held
     return -1;
 }
 
-static void drop_two(held_two *it) {
-    drop(&it->data);
-    drop(&it->room);
-}
+static void drop_two(held_two *it) { drop(&it->data), drop(&it->room); }
 
 // A number from 0 to 2^64 - 1.
 static int word(PyObject *from, uint64_t *to) {
@@ -793,9 +790,7 @@ static PyObject *poly61_state(TAKES) {
     if (word(given[1], &key) < 0 || hold(given[0], &data) < 0) return NULL;
     OVER(data.n, state = hashers_poly61_state(key, data.at, data.n));
     drop(&data);
-    if (state != UINT64_MAX) return number(state);
-    refuse(PyExc_ValueError, "the length is no multiple of 7");
-    return NULL;
+    return state != UINT64_MAX ? number(state) : PyErr_Format(PyExc_ValueError, "the length is no multiple of 7");
 }
 
 static PyObject *poly61_combine(TAKES) {
@@ -909,7 +904,11 @@ static PyObject *number_column(PyObject *module, PyObject *args) {
 
 // ---- a ring: its points are two numbers of 8 bytes each, the place and the node
 
-static size_t points_in(const held *it) { return it->n / sizeof(hashers_ring_point); }
+static int points_in(const held *it, size_t *count) {
+    if (items(it, 8, count) < 0) return -1;
+    *count /= 2;
+    return it->n % sizeof(hashers_ring_point) ? refuse(PyExc_ValueError, "a point has 16 bytes") : 0;
+}
 
 // The points of a node go to a buffer. Its name has 8 bytes more.
 static PyObject *ring_points(PyObject *module, PyObject *args) {
@@ -917,12 +916,15 @@ static PyObject *ring_points(PyObject *module, PyObject *args) {
     PyObject *name, *out;
     Py_ssize_t node;
     held_two it;
-    bool is_done;
+    size_t count;
+    bool is_done = false;
     if (!PyArg_ParseTuple(args, "IOnO", &kind, &name, &node, &out) || hold_two(out, name, hold_to_write, &it) < 0) return NULL;
-    hashers_ring_point *points = (hashers_ring_point *)it.room.at;
-    OVER(it.room.n, is_done = hashers_ring_points(kind, it.data.at, it.data.n, node, points, points_in(&it.room)));
+    if (points_in(&it.room, &count) == 0) {
+        OVER(it.room.n, is_done = hashers_ring_points(kind, it.data.at, it.data.n, node, (hashers_ring_point *)it.room.at, count));
+        if (!is_done) refuse(PyExc_ValueError, "there is no such hash, or the name has not 8 bytes more");
+    }
     drop_two(&it);
-    return is_done ? none() : PyErr_Format(PyExc_ValueError, "the name has not 8 bytes more");
+    return is_done ? none() : NULL;
 }
 
 // Points get in order.
@@ -930,8 +932,8 @@ static PyObject *ring_sort(PyObject *module, PyObject *from) {
     held room;
     size_t count;
     if (hold_to_write(from, &room) < 0) return NULL;
-    int are = items(&room, 8, &count);
-    if (are == 0) OVER(room.n, hashers_ring_sort((hashers_ring_point *)room.at, points_in(&room)));
+    int are = points_in(&room, &count);
+    if (are == 0) OVER(room.n, hashers_ring_sort((hashers_ring_point *)room.at, count));
     drop(&room);
     return are == 0 ? none() : NULL;
 }
@@ -941,12 +943,11 @@ static PyObject *ring_add(PyObject *module, PyObject *args) {
     PyObject *out, *from;
     Py_ssize_t node;
     held_two it;
-    size_t count;
+    size_t all, new;
     bool is_done = false;
     if (!PyArg_ParseTuple(args, "OOn", &out, &from, &node) || hold_two(out, from, hold, &it) < 0) return NULL;
-    if (items(&it.data, 8, &count) == 0) {
-        hashers_ring_point *points = (hashers_ring_point *)it.room.at, *added = (hashers_ring_point *)it.data.at;
-        OVER(it.room.n, is_done = hashers_ring_add(points, points_in(&it.room), added, points_in(&it.data), node));
+    if (points_in(&it.room, &all) == 0 && points_in(&it.data, &new) == 0) {
+        OVER(it.room.n, is_done = hashers_ring_add((hashers_ring_point *)it.room.at, all, (hashers_ring_point *)it.data.at, new, node));
         if (!is_done) refuse(PyExc_ValueError, "the points are in no order");
     }
     drop_two(&it);
@@ -960,8 +961,8 @@ static PyObject *ring_remove(PyObject *module, PyObject *args) {
     held room;
     size_t count;
     if (!PyArg_ParseTuple(args, "On", &from, &node) || hold_to_write(from, &room) < 0) return NULL;
-    int are = items(&room, 8, &count);
-    if (are == 0) OVER(room.n, count = hashers_ring_remove((hashers_ring_point *)room.at, points_in(&room), node));
+    int are = points_in(&room, &count);
+    if (are == 0) OVER(room.n, count = hashers_ring_remove((hashers_ring_point *)room.at, count, node));
     drop(&room);
     return are == 0 ? PyLong_FromSize_t(count) : NULL;
 }
@@ -976,10 +977,11 @@ static PyObject *ring_owners(PyObject *module, PyObject *args) {
     if (!PyArg_ParseTuple(args, "IOOO", &kind, &from, &data, &out) || hold_two(out, data, hold, &it) < 0) return NULL;
     int are = hold_buffer(from, PyBUF_SIMPLE, &ring);
     if (are == 0) {
-        are = items(&ring, 8, &count) < 0 || apart(&it.room, &ring) < 0 ? -1 : 0;
+        are = points_in(&ring, &count) < 0 || apart(&it.room, &ring) < 0 ? -1 : 0;
+        const hashers_ring_point *points = (const hashers_ring_point *)ring.at;
         if (are == 0)
-            OVER(it.data.n, found = hashers_ring_owners((hashers_ring_point *)ring.at, points_in(&ring),
-                                                        hashers_hash(kind, it.data.at, it.data.n), (size_t *)it.room.at, it.places));
+            OVER(it.data.n + it.room.n, found = hashers_ring_owners(points, count, hashers_hash(kind, it.data.at, it.data.n),
+                                                                    (size_t *)it.room.at, it.places));
         drop(&ring);
     }
     drop_two(&it);

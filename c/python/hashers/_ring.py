@@ -4,8 +4,9 @@ from __future__ import annotations
 from array import array
 from bisect import bisect_left
 from operator import index
-from typing import TYPE_CHECKING, Callable, Dict, Iterable, Iterator, List, Mapping, Optional, SupportsIndex, Tuple, Union
+from typing import TYPE_CHECKING, Callable, Dict, Iterable, Iterator, List, Mapping, Optional, SupportsIndex, Tuple, Type, Union
 
+from . import _hashers
 from ._hashers import _number_of, _ring_add, _ring_owners, _ring_points, _ring_remove, _ring_sort
 from ._many import _ZERO
 
@@ -19,7 +20,7 @@ WEIGHT = 100
 
 def _bytes_of(name: Name) -> bytes:
     if isinstance(name, (str, bytes)):
-        return name.encode() if isinstance(name, str) else name
+        return str.encode(name) if isinstance(name, str) else b"".join((name,))
     raise TypeError(f"the name of a node is a str or bytes, not {type(name).__name__}")
 
 
@@ -36,9 +37,11 @@ class Ring:
     def __init__(self, nodes: Union[Mapping[Name, SupportsIndex], Iterable[Name]] = (), *, hash: str = "spooky") -> None:
         """`nodes` has the weights of names, or names alone, which get a weight of 100."""
         self._number = _number_of(hash)
-        self._hash = hash
+        self._hash = _hashers.new(hash).name
         if isinstance(nodes, (str, bytes)):
             raise TypeError("nodes are names, not one name")
+        if isinstance(nodes, Ring):
+            nodes = nodes.weights()
         weights = list(nodes.items()) if isinstance(nodes, Mapping) else [(name, WEIGHT) for name in nodes]
         named = {_bytes_of(name): (name, _weight_of(weight)) for name, weight in weights}
         if len(named) < len(weights):
@@ -63,12 +66,12 @@ class Ring:
     def __repr__(self) -> str:
         return f"<Ring of {len(self)} nodes by {self.hash}>"
 
-    def __reduce__(self) -> Tuple[Callable[..., Ring], Tuple[Dict[Name, int], str]]:
-        return _revived, (self.weights(), self.hash)
+    def __reduce__(self) -> Tuple[Callable[..., Ring], Tuple[Type[Ring], Dict[Name, int], str]]:
+        return _revived, (type(self), self.weights(), self.hash)
 
     def copy(self) -> Ring:
         """A second ring with the same nodes, which changes by itself."""
-        return _revived(self.weights(), self.hash)
+        return _revived(type(self), self.weights(), self.hash)
 
     def __len__(self) -> int:
         return len(self._state[0])
@@ -127,7 +130,8 @@ class Ring:
         return [names[node] for node in found[:_ring_owners(self._number, points, key, found)]]
 
     def shares(self) -> Dict[Name, int]:
-        """How many of the 2^64 places of the ring each node owns."""
+        """How many of the 2^64 places of the ring each node owns. Under a hash of 32 bits all keys lie in the first 2^32 of them, so there it
+        says nothing of the keys."""
         _, names, _, points = self._state
         shares, before = [0] * len(names), -1
         for place, node in zip(points[0::2], points[1::2]):
@@ -154,5 +158,5 @@ def _place_of(keys: List[bytes], key: bytes) -> Tuple[int, bool]:
     return node, node < len(keys) and keys[node] == key
 
 
-def _revived(nodes: Dict[Name, int], hash: str) -> Ring:
-    return Ring(nodes, hash=hash)
+def _revived(kind: Type[Ring], nodes: Dict[Name, int], hash: str) -> Ring:
+    return kind(nodes, hash=hash)

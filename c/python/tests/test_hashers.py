@@ -920,7 +920,7 @@ class Rings(unittest.TestCase):
                 self.check(one_by_one)
             at_once = hashers.Ring(nodes, hash=name)
             self.assertEqual(at_once.weights(), one_by_one.weights())
-            for copy_of in (at_once, at_once.copy(), copy.copy(at_once), pickle.loads(pickle.dumps(one_by_one))):
+            for copy_of in (at_once, at_once.copy(), copy.copy(at_once), hashers.Ring(at_once, hash=name.upper()), pickle.loads(pickle.dumps(one_by_one))):
                 self.assertEqual(copy_of._state, one_by_one._state)
             self.assertEqual(sum(at_once.shares().values()), 2**64)
             for node, weight in nodes.items():
@@ -939,6 +939,31 @@ class Rings(unittest.TestCase):
         self.assertEqual(ring.shares(), {"ash": 3337199519089381728, "elm": 11756901173466240504, "oak": 3352643381153929384})
         self.assertEqual(ring.remove("oak"), 2)
         self.assertEqual(ring.owners(b"a", 3), ["ash", "elm"])
+
+    def test_children(self) -> None:
+        class Named(str):
+            def encode(self, *given: Any) -> bytes:
+                return b"other"
+
+        class Mine(hashers.Ring):
+            pass
+        mine = Mine([Named("a"), "b"])
+        self.assertEqual(mine.owners(b"key", 2), hashers.Ring(["a", "b"]).owners(b"key", 2))
+        self.assertEqual((type(mine.copy()), hashers.Ring(hash="XXH3").hash), (Mine, "xxh3"))
+
+    def test_what_is_no_point(self) -> None:
+        room, whole = array("Q", [1, 0, 2]), array("Q", [1, 0])
+        refused: List[Callable[[], object]] = [
+            lambda: _hashers._ring_sort(room), lambda: _hashers._ring_remove(room, 0), lambda: _hashers._ring_add(room, whole, 0),
+            lambda: _hashers._ring_add(whole, room, 0), lambda: _hashers._ring_points(0, bytearray(8), 0, room),
+            lambda: _hashers._ring_owners(0, room, b"", whole), lambda: _hashers._ring_points(99, bytearray(8), 0, whole),
+            lambda: _hashers._ring_points(0, bytearray(7), 0, whole), lambda: _hashers._ring_add(whole, whole, 0)]
+        for call in refused:
+            with self.assertRaises(ValueError):
+                call()
+        self.assertEqual((list(room), list(whole)), ([1, 0, 2], [1, 0]))
+        with self.assertRaises(BufferError):
+            _hashers._ring_points(0, cast(bytearray, bytes(8)), 0, whole)
 
     def test_names_alone(self) -> None:
         ring = hashers.Ring(["a", b"b"])

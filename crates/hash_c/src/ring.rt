@@ -9,7 +9,7 @@ ghost use Rattle.std.specs.List.{All, AllPairs, insert, remove};
 ghost use Rattle.std.specs.List.Sorted.{IsPermutation};
 ghost use Rattle.hash_names.specs.Named.{hash_at, kind_at};
 ghost use Rattle.hash_ring.specs.Ring.{AreOwners, IsOwner};
-ghost use Rattle.hash_ring.specs.Points.{ArePoints, IsBefore, IsGapAt, IsRing, MayMerge, left_without, name_at, names_at, nodes_of, opened_up, points_of};
+ghost use Rattle.hash_ring.specs.Points.{ArePoints, IsBefore, IsGapAt, IsRing, IsStart, MayMerge, index_round, left_without, name_at, names_at, nodes_of, opened_up, points_of};
 
 use crate::kinds::hashers_hash;
 use hash_names::table::kind_at;
@@ -92,6 +92,8 @@ pub extern "C" fn hashers_ring_remove(points: &mut [Point], node: usize) -> usiz
 pub extern "C" fn hashers_ring_owner(points: &[Point], place: u64) -> usize
     ensures within { 0 < length points.now → result < length points.now }
     ensures none { length points.now ≡ 0 → result ≡ 0 }
+    ensures first { AllPairs IsBefore points.now → (i : ℕ) → IsStart points.now place i
+        → result ≡ index_round (length points.now) i 0 }
     ensures owns { (hash : List ℕ → ℕ) (nodes : List (List ℕ × ℕ)) → 0 < length points.now
         → IsRing hash nodes points.now → IsOwner hash (nodes_of nodes) place (name_at nodes points.now result) }
 {

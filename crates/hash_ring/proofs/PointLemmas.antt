@@ -6,6 +6,7 @@ use Rattle.std.specs.List.Sorted.{IsNonDecreasingBy, IsPermutation, IsSorted}
 use Rattle.std.specs.Prelude.{◌↔◌, IsTrue}
 use Rattle.std.specs.Ordering.{nat_cmp, is_le, is_lt, is_some_and, ordering_then, partial_ordering_then}
 use Rattle.std.specs.declared.cmp.Ordering.{Ordering}
+use Rattle.std.proofs.lemmas.Bool.{cases_lt}
 use Rattle.std.proofs.lemmas.Bool.Decides.{nat_tests}
 use Rattle.std.proofs.lemmas.Cmp.{then_total, on_total, nat_cmp_total}
 use Rattle.std.proofs.lemmas.List.{get_or_default, get_or_past, get_or-map, length-map}
@@ -15,7 +16,7 @@ use Rattle.std.proofs.lemmas.List.FromFn.{map-range_with_len_more, length-map-ra
 use borrow.Author.Tests.{ltb-true, ltb-false}
 use Rattle.hash_ring.specs.declared.points.Point.{Point}
 use Rattle.hash_ring.specs.Ring.{IsPointOf, point}
-use Rattle.hash_ring.specs.Points.{ArePoints, IsBefore, IsPointOfItsNode, node_at, points_of}
+use Rattle.hash_ring.specs.Points.{ArePoints, IsBefore, IsPointOfItsNode, IsStart, node_at, points_of}
 
 abbrev pub Pairs : Type 0
 Pairs = List (List ℕ × ℕ)
@@ -180,3 +181,19 @@ narrowed points at first size half d false ordered old less twice is =
           ap (λ p. p.place) (get_or_default points (first + half) e d there) in
           omega arith;
     }
+
+-- points are found at or after a place from one index on alone
+pub one_start : (points : List Point) (at i j : ℕ) → IsStart points at i → IsStart points at j → i ≡ j
+one_start points at i j one other = ⊎_elim
+    (λ (less : i < j). absurd (not_less_than i j one other less))
+    (λ (upto : j ≤ i). ⊎_elim
+    (λ (more : j < i). absurd (not_less_than j i other one more))
+    (λ (same : i ≤ j). omega (arith, upto, same))
+    (cases_lt j i))
+    (cases_lt i j)
+  where
+    not_less_than : (i j : ℕ) → IsStart points at i → IsStart points at j → i < j → ⊥
+    not_less_than i j one other less =
+        let d : Point = record { place = 0; node = 0 } in
+        let below : i < length points = omega (arith, less, other.within) in
+        absurd (omega (arith, other.before i d less, one.after i d (omega arith) below))

@@ -290,7 +290,7 @@ impl<H: Piecewise> Ring<H> {
     }
 
     /// The ring of these nodes, in whatever order they come, by one sort of all points. Where two have one name, or where there is no
-    /// memory, the nodes come back, in the order of their names.
+    /// memory, the nodes come back, in whatever order.
     pub fn from_nodes(alloc: Global, mut nodes: Vec<Node>) -> Result<Self, Refused<Vec<Node>>>
         requires { All (λ node. 1 ≤ node.weight) nodes.items }
         ensures built { IfOk result (λ ring. ring ≡ with_all map.empty (pairs nodes.items)) }
@@ -398,7 +398,7 @@ impl<H: Piecewise> Ring<H> {
     }
 
     /// How much of the ring each node owns, in the order of `nodes`: how many of the 2^64 places. Where there is a node they sum up to
-    /// 2^64. It refuses only for want of memory.
+    /// 2^64. It refuses only for want of memory. Under a hash of 32 bits all keys lie in the first 2^32 places, so it says nothing of them.
     pub fn shares(&self, alloc: Global) -> Result<Vec<u128>, AllocError>
         ensures each { IfOk result (λ xs. self.now ≢ map.empty → AreShares H.hash_of self.now xs.items) }
         ensures all { IfOk result (λ xs. self.now ≢ map.empty → sum xs.items ≡ 2 ^ 64) }

@@ -89,6 +89,8 @@ pub(crate) fn index_round(n: usize, first: usize, steps: usize) -> usize
 pub fn owner_at(points: &[Point], place: u64) -> usize
     ensures within { 0 < length points.now → result < length points.now }
     ensures none { length points.now ≡ 0 → result ≡ 0 }
+    ensures first { AllPairs IsBefore points.now → (i : ℕ) → IsStart points.now place i
+        → result ≡ index_round (length points.now) i 0 }
     ensures owns { (hash : List ℕ → ℕ) (nodes : List (List ℕ × ℕ)) → 0 < length points.now
         → IsRing hash nodes points.now → IsOwner hash (nodes_of nodes) place (name_at nodes points.now result) }
 {

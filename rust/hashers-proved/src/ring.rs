@@ -113,7 +113,8 @@ impl<H: Piecewise> Ring<H> {
         Iter { nodes: self.ring.nodes().iter() }
     }
 
-    /// Of each node, in the order of their names, how many of the 2^64 places it owns.
+    /// Of each node, in the order of their names, how many of the 2^64 places it owns. Under a hash of 32 bits all keys lie in the first 2^32
+    /// of them, so there it says nothing of the keys.
     pub fn shares(&self) -> Vec<u128> {
         self.ring.shares(Global).unwrap_or_else(|_| no_memory()).into()
     }

@@ -7,6 +7,7 @@ use hash_numbers::number::{number_hash, pair_hash};
 use std::alloc::Global;
 use std::hash::{BuildHasher, Hasher};
 use std::io;
+use std::random::RandomSource;
 
 const MULTIPLIER: u128 = 0x0123456789abcdef0fedcba987654321;
 
@@ -109,6 +110,37 @@ fn mapped(alloc: Global, keys: NumberKeys) -> io::Result<[u64; 4]> {
         set.len() as u64,
         words.get("elm").copied().unwrap_or(9),
     ])
+}
+
+/// A source of bytes that are all 7.
+struct Sevens;
+
+impl RandomSource for Sevens {
+    fn fill_bytes(&self, buf: &mut [u8]) -> io::Result<()> {
+        buf.fill(7);
+        Ok(())
+    }
+}
+
+/// What is drawn is what the source gives: the multipliers and the addend are its bytes, and the key for texts is below the prime.
+#[test]
+fn keys_are_what_the_source_gives(rt: HostRuntime) {
+    let sevens = u128::from_le_bytes([7; 16]);
+    let text_key = 1 + u64::from_le_bytes([7; 8]) % ((1 << 61) - 2);
+    let wanted = NumberKeys::with_keys(sevens, sevens, sevens, text_key);
+    match NumberKeys::new(&Sevens) {
+        Ok(keys) => same(&rt, &of_each_sort(&keys), &of_each_sort(&wanted)),
+        Err(_) => panic!(rt; "the source gives bytes"),
+    }
+}
+
+/// The hashes of a number, a pair and a longer text.
+fn of_each_sort(keys: &NumberKeys) -> [u64; 3] {
+    [
+        hash_one_number(keys, 1),
+        hash_one_pair(keys, (1, 1)),
+        keys.hash_one("more than sixteen letters"),
+    ]
 }
 
 #[test]

@@ -104,6 +104,8 @@ pub fn hashers_ring_remove(points: &mut [Point], node: usize) -> usize {
 /// ```text
 /// within: 0 < length points.now → result < length points.now
 /// none: length points.now ≡ 0 → result ≡ 0
+/// first: AllPairs IsBefore points.now → (i : ℕ) → IsStart points.now place i
+///     → result ≡ index_round (length points.now) i 0
 /// owns: (hash : List ℕ → ℕ) (nodes : List (List ℕ × ℕ)) → 0 < length points.now
 ///     → IsRing hash nodes points.now → IsOwner hash (nodes_of nodes) place (name_at nodes points.now result)
 /// ```

@@ -354,7 +354,7 @@ impl<H: Piecewise> Ring<H> {
     }
 
     /// The ring of these nodes, in whatever order they come, by one sort of all points. Where two have one name, or where there is no
-    /// memory, the nodes come back, in the order of their names.
+    /// memory, the nodes come back, in whatever order.
     ///
     /// The caller has to see to it that:
     ///
@@ -507,7 +507,7 @@ impl<H: Piecewise> Ring<H> {
     }
 
     /// How much of the ring each node owns, in the order of `nodes`: how many of the 2^64 places. Where there is a node they sum up to
-    /// 2^64. It refuses only for want of memory.
+    /// 2^64. It refuses only for want of memory. Under a hash of 32 bits all keys lie in the first 2^32 places, so it says nothing of them.
     ///
     /// Proved:
     ///
