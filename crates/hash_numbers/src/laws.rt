@@ -16,7 +16,8 @@ pub fn even_pairs_of_hashes()
         → All (λ key. (number_hash key.0 key.1 x ≡ u) × (number_hash key.0 key.1 y ≡ v)) keys
         → length keys ≤ 2 ^ 128 }
     ensures of_all { (x y u v : ℕ) (keys : List (ℕ × ℕ)) → x < 2 ^ 64 → y < 2 ^ 64 → x ≢ y → u < 2 ^ 64 → v < 2 ^ 64
-        → ArePairs (2 ^ 128) keys → length keys ≡ 2 ^ 256 → count_by (λ key. have_hashes x y u v (number_hash key.0 key.1)) keys ≡ 2 ^ 128 }
+        → ArePairs (2 ^ 128) keys → length keys ≡ 2 ^ 256
+        → count_by (λ key. have_hashes x y u v (number_hash key.0 key.1)) keys ≡ 2 ^ 128 }
 {}
 
 /// So two different numbers have one hash at no more than one in 2^64 of these pairs.
