@@ -76,12 +76,14 @@ pub fn flush<W: Write + Drop, Own>(w: &mut BufWriter<W>, tries: u32) -> Result<(
     }
 }
 
-/// Writes all of the bytes and flushes, each tried again where it was interrupted. After a fault a beginning of them was written.
+/// Writes all of the bytes and flushes, so that nothing is held back, each tried again where it was interrupted. After a fault a
+/// beginning of them was written.
 pub fn write_out<W: Write + Drop, Own>(
     w: &mut BufWriter<W>,
     bytes: &[u8],
 ) -> Result<(), Failure<Own>>
-    ensures { WritesOut bytes.now (writer_contents W.contents w.old) (writer_contents W.contents w.new) result }
+    ensures told { WritesOut bytes.now (writer_contents W.contents w.old) (writer_contents W.contents w.new) result }
+    ensures flushed { OnOk result (writer_buffer w.new ≡ []) }
 {
     write_all(w, bytes, TRIES)?;
     flush(w, TRIES)
