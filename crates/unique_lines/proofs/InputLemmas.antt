@@ -1,5 +1,5 @@
 -- Inputs, one behind the other.
-use Rattle.std.proofs.Common.{◌≡◌, ℕ, ◌+◌, ◌<◌, ◌≤◌, ◌&&◌, Bool, true, List, [], ◌∷◌, ◌++◌, length, map, set, get_or, take, drop, Option, None, Some, ap, sym, ◌∙◌, refl, subst, take-append-drop, length-append, arith}
+use Rattle.std.proofs.Common.{◌≡◌, ◌≢◌, ℕ, ◌+◌, ◌<◌, ◌≤◌, ◌&&◌, inr, Bool, true, false, Result, Ok, Err, List, [], ◌∷◌, ◌++◌, length, map, set, get_or, take, drop, Option, None, Some, ap, sym, ◌∙◌, refl, subst, take-append-drop, length-append, arith}
 use Rattle.std.specs.Io.KnownBytes.{Appends, Keeps}
 use Rattle.std.proofs.KnownBytes.{Appends-kept, Appends-nil}
 use Rattle.std.proofs.lemmas.Bool.{and_parts, false≢true}
@@ -7,14 +7,20 @@ use Rattle.std.proofs.lemmas.List.{append-nil, nil_from_length, drop-drop, drop-
 use Rattle.std.proofs.Math.Seq.{drop-cons}
 use Rattle.streams.specs.Streams.{AppendsPart}
 use Rattle.std.specs.Option.{is_some}
+use Rattle.std.specs.Result.{IsErr}
 use Rattle.std.specs.List.{flat_map, list_all}
 use Rattle.std.proofs.lemmas.Grind.{flat_map-append}
 use Rattle.std.proofs.lemmas.List.Folds.{flat_map-map, list_all-append}
 use Rattle.unique_lines.specs.Inputs.{AreRead, ReadsInput}
 use Rattle.unique_lines.specs.Inputs.AreRead.{behind, none}
 use Rattle.text_set.specs.Lines.{lines_by}
-use Rattle.unique_lines.specs.Running.{AllBeginWith, NextBeginsWith, Run, WritesPart}
-use Rattle.unique_lines.specs.Taking.{At, BeginWith, BreaksInput, Broke, HasMore, Leads}
+use Rattle.unique_lines.specs.Running.{AllBeginWith, BreaksBehind, EndsBehind, EndsTaking, NextBeginsWith, Run, WritesPart}
+use Rattle.streams.proofs.StreamLemmas.{part_behind}
+use Rattle.streams.specs.declared.failure.Failure.{Failure}
+use Rattle.unique_lines.specs.declared.failure.TooMany.{TooMany}
+use Rattle.unique_lines.specs.declared.run.Ended.{Ended}
+use Rattle.unique_lines.specs.declared.run.Ended.TheVariants.{Whole, InputFailed, TooManyLines}
+use Rattle.unique_lines.specs.Taking.{At, BeginWith, BreaksInput, Broke, HasMore, Leads, TakesMost}
 
 -- ---- the first lines of inputs
 
@@ -109,6 +115,20 @@ module _ {R : Type 0} {remaining : R → Option (List ℕ)} {output : List (List
         omega (arith, so_far.counted, few, length-append so_far.ls now),
       )
 
+      -- of the next input as many lines are taken as may be
+      pub first_within : {taken' : List (List ℕ) → Type 0} {w'' : Option (List ℕ)}
+          → TakesMost (At output taken w') (At output taken' w'') eol most (remaining (get_or inputs' place d))
+          → (ls : List (List ℕ)) × AllBeginWith eol (map remaining inputs) ls × (length ls ≡ limit) × Appends w w'' (output ls)
+          × taken' ls
+      first_within (now, begins, leads, as_many) =
+          let at = leads.on w so_far.ls so_far.at in (
+            so_far.ls ++ now,
+            begins_next now begins,
+            omega (arith, so_far.counted, as_many, length-append so_far.ls now),
+            at.writes,
+            at.stands,
+          )
+
       -- the next input has more lines than may be taken
       pub part_beyond : HasMore eol most (remaining (get_or inputs' place d))
           → (ls : List (List ℕ)) × AllBeginWith eol (map remaining inputs) ls × (limit < length ls)
@@ -117,22 +137,33 @@ module _ {R : Type 0} {remaining : R → Option (List ℕ)} {output : List (List
 
 -- ---- what is written once all lines are taken
 
+-- nothing more is written
+pub nothing_keeps : (w w' : Option (List ℕ)) → Appends w w' [] → Keeps w w'
+nothing_keeps None w' nothing = tt
+nothing_keeps (Some bytes) None nothing = nothing
+nothing_keeps (Some bytes) (Some bytes') same = same ∙ append-nil bytes
+
 -- a beginning of nothing is nothing
 pub silent_keeps : (eol limit : ℕ) (run : Run) → WritesPart (λ ls. []) eol limit run → Keeps run.written run.written'
 silent_keeps eol limit run (ls, begins, (part, rest, is, appends), few) =
     let nothing : part ≡ [] = nil_from_length part (omega (arith, ap length is, length-append part rest)) in
-    kept run.written run.written' (subst (Appends run.written run.written') nothing appends)
-  where
-    kept : (w w' : Option (List ℕ)) → Appends w w' [] → Keeps w w'
-    kept None w' nothing = tt
-    kept (Some bytes) None nothing = nothing
-    kept (Some bytes) (Some bytes') same = same ∙ append-nil bytes
+    nothing_keeps run.written run.written' (subst (Appends run.written run.written') nothing appends)
 
--- and so a beginning of anything
-pub part_silent : (output : List (List ℕ) → List ℕ) (eol limit : ℕ) (run : Run) → WritesPart (λ ls. []) eol limit run → WritesPart output eol limit run
-part_silent output eol limit run writes =
-    let (ls, begins, part, few) = writes in
-    (ls, begins, ([], output ls, refl, Appends-kept _ _ _ _ (Appends-nil run.written) (silent_keeps eol limit run writes)), few)
+-- a fault in what is written behind all lines
+pub breaks_behind_all : {output : List (List ℕ) → List ℕ} {taken : List (List ℕ) → Type 0} (eol limit : ℕ) (run : Run)
+    (w : Option (List ℕ)) (how : Ended) → how ≢ TooManyLines → EndsTaking (λ ls. []) taken eol limit run (Ok how)
+    → ((ls : List (List ℕ)) → taken ls → AppendsPart run.written' w (output ls))
+    → BreaksBehind output eol limit (record { left = run.left; left' = run.left'; written = run.written; written' = w })
+breaks_behind_all eol limit run w Whole other (ls, within, writes, now) part =
+    inr (true, ls, record { read = within.read; few = within.few }, part_behind _ _ _ _ _ writes (part ls now))
+breaks_behind_all eol limit run w InputFailed other (ls, within, writes, now) part =
+    inr (false, ls, record { read = within.read; few = within.few }, part_behind _ _ _ _ _ writes (part ls now))
+breaks_behind_all eol limit run w TooManyLines other ends part = absurd (other refl)
+
+pub ends_broken : {output : List (List ℕ) → List ℕ} (eol limit : ℕ) (run : Run) (result : Result Ended (Failure TooMany)) → IsErr result
+    → BreaksBehind output eol limit run → EndsBehind output eol limit run result
+ends_broken eol limit run (Ok ended) wrong broke = absurd (false≢true wrong)
+ends_broken eol limit run (Err fault) is broke = broke
 
 -- ---- inputs that are read to their ends
 

@@ -10,7 +10,7 @@ use Rattle.streams.proofs.StreamLemmas.{part_whole}
 use Rattle.unique_lines.specs.Between.{Filled, Splits, Takes}
 use Rattle.text_set.specs.Lines.{IsBare, IsLineEnd, lines_by}
 use Rattle.unique_lines.specs.Inputs.{ReadsInput, whole_lines}
-use Rattle.unique_lines.specs.Taking.{At, BeginWith, BreaksInput, Broke, EndsInput, Grows, HasMore, Leads, LeavesInput}
+use Rattle.unique_lines.specs.Taking.{At, BeginWith, BreaksInput, Broke, EndsInput, Grows, HasMore, Leads, LeavesInput, TakesMost}
 use Rattle.unique_lines.specs.declared.run.Left.{Left}
 use Rattle.unique_lines.specs.declared.run.Left.TheVariants.{Done, Failed, Beyond}
 use Rattle.unique_lines.specs.declared.unread.NextLine.{NextLine}
@@ -183,6 +183,15 @@ module _ {eol limit : ℕ} {left left' : Option (List ℕ)} {unread : List ℕ} 
   breaks_within {more = more} splits few breaks =
       (_, next_lines splits, breaks, omega (arith, reads.counted, few, length-append ls more))
 
+  -- where no more may be taken, these are as many as may be
+  pub takes_most : {before after : Standing} → most ≡ 0 → Leads before after ls → TakesMost before after eol limit left
+  takes_most none leads = (
+    ls,
+    subst (BeginWith eol left) (append-nil ls) (next_lines (splits_nowhere unread)),
+    leads,
+    omega (arith, reads.counted, none),
+  )
+
   -- where no more may be taken and bytes are left, there are more lines
   pub more_left : most ≡ 0 → 0 < length unread → HasMore eol limit left
   more_left none some =
@@ -195,21 +204,21 @@ module _ {eol limit : ℕ} {left left' : Option (List ℕ)} {unread : List ℕ} 
       )
 
   -- how an input is left whose last line is taken
-  pub ends_left : {a b : Standing} (c broke : Standing) (most' : ℕ) (how : Left) → IsAtEnd left' → Leads a b ls
-      → EndsInput b c broke most most' (lines_by eol unread) how → LeavesInput a c broke eol limit most' left left' how
-  ends_left c broke most' Done ended leads (more, counted) = (
+  pub ends_left : {a b : Standing} (c : Standing) (most' : ℕ) (how : Left) → IsAtEnd left' → Leads a b ls
+      → EndsInput b c most most' (lines_by eol unread) how → LeavesInput a c eol limit most' left left' how
+  ends_left c most' Done ended leads (more, counted) = (
     ls ++ lines_by eol unread,
     reads_to_end ended,
     leads_both leads more,
     omega (arith, reads.counted, counted, length-append ls (lines_by eol unread)),
   )
-  ends_left c broke most' (Failed error) ended leads wrong = absurd wrong
-  ends_left c broke most' Beyond ended leads (breaks, over) = (
-    breaks_within (splits_nowhere unread) (omega arith) (leads_both leads breaks),
+  ends_left c most' (Failed error) ended leads wrong = absurd wrong
+  ends_left {a} c most' Beyond ended leads (same, none, some) = (
+    takes_most none (subst (Leads a c) (append-nil ls) (leads_both leads same)),
     (
       _,
       begins_all eol left left' _ (reads_to_end ended),
-      omega (arith, reads.counted, over, length-append ls (lines_by eol unread)),
+      omega (arith, reads.counted, none, some, length-append ls (lines_by eol unread)),
     ),
   )
 

@@ -8,7 +8,7 @@ use Rattle.streams.specs.declared.failure.Nothing.{Nothing}
 use Rattle.cli.specs.declared.outcome.Outcome.{Outcome}
 use Rattle.cli.specs.declared.outcome.Outcome.TheVariants.{Done, Reported, Failed}
 use Rattle.text_set.specs.Firsts.{once_by}
-use Rattle.unique_lines.specs.Running.{Ends, Run}
+use Rattle.unique_lines.specs.Running.{Ends, EndsBehind, Run}
 use Rattle.unique_lines.specs.Tallies.{told}
 use Rattle.unique_lines.specs.declared.failure.TooMany.{TooMany}
 use Rattle.unique_lines.specs.declared.failure.TooMany.TheVariants as too_many
@@ -47,14 +47,14 @@ of_run (Ok InputFailed) = Reported
 of_run (Ok TooManyLines) = Failed (Own too_many.Lines)
 of_run (Err fault) = Failed fault
 
--- how a run ends that is to write what `output` makes of the lines of its inputs, of at most so many
-abbrev pub EndsRun : (output : List (List ℕ) → List ℕ) (eol limit : ℕ) → Run → Outcome Nothing TooMany → Type 0
-EndsRun output eol limit run result = (ended : Result Ended (Failure TooMany)) × Ends output eol limit run ended × (result ≡ of_run ended)
+-- as a run ends
+abbrev pub EndsRun : (ends : Result Ended (Failure TooMany) → Type 0) → Outcome Nothing TooMany → Type 0
+EndsRun ends result = (ended : Result Ended (Failure TooMany)) × ends ended × (result ≡ of_run ended)
 
--- how a task ends
+-- how a task ends, of inputs of at most so many lines
 abbrev pub EndsTask : Task → ℕ → Run → Outcome Nothing TooMany → Type 0
-EndsTask (Once eol) limit run result = EndsRun (once_by eol) eol limit run result
-EndsTask (Tallied which eol) limit run result = EndsRun (told eol which) eol limit run result
+EndsTask (Once eol) limit run result = EndsRun (Ends (once_by eol) eol limit run) result
+EndsTask (Tallied which eol) limit run result = EndsRun (EndsBehind (told eol which) eol limit run) result
 
 -- how the program ends whose call says this
 abbrev pub Exits : (call : List Saying) (help version list : List ℕ) → ℕ → Run → Outcome Nothing TooMany → Type 0

@@ -1,6 +1,6 @@
 -- What a run reads and writes, and how it ends.
-use Rattle.std.specs.Prelude.{ℕ, ◌≡◌, ◌<◌, ◌≤◌, Bool, true, false, List, [], ◌∷◌, ◌++◌, Option, Result, Ok, Err, length, map}
-use Rattle.std.specs.Io.KnownBytes.{Appends}
+use Rattle.std.specs.Prelude.{ℕ, ◌≡◌, ◌<◌, ◌≤◌, ◌⊎◌, Bool, true, false, List, [], ◌∷◌, ◌++◌, Option, Result, Ok, Err, length, map}
+use Rattle.std.specs.Io.KnownBytes.{Appends, Keeps}
 use Rattle.streams.specs.Streams.{AppendsPart}
 use Rattle.unique_lines.specs.Inputs.{AreRead}
 use Rattle.unique_lines.specs.Taking.{BeginWith}
@@ -63,14 +63,30 @@ abbrev pub WritesPart : (output : List (List ℕ) → List ℕ) (eol limit : ℕ
 WritesPart output eol limit run =
     (ls : List (List ℕ)) × AllBeginWith eol run.left ls × AppendsPart run.written run.written' (output ls) × (length ls ≤ limit)
 
+-- what is due of the first lines of the inputs was written, of as many as the limit, and so it stands once they are taken
+abbrev pub WritesFirst : (output : List (List ℕ) → List ℕ) (after : List (List ℕ) → Type 0) (eol limit : ℕ) → Run → Type 0
+WritesFirst output after eol limit run =
+    (ls : List (List ℕ)) × AllBeginWith eol run.left ls × (length ls ≡ limit) × Appends run.written run.written' (output ls) × after ls
+
 -- how a run ends that writes what `output` makes of the lines of its inputs, of at most so many
 abbrev pub EndsTaking : (output : List (List ℕ) → List ℕ) (after : List (List ℕ) → Type 0) (eol limit : ℕ) → Run
     → Result Ended (Failure TooMany) → Type 0
 EndsTaking output after eol limit run (Ok Whole) = WritesAll output after eol true limit run
 EndsTaking output after eol limit run (Ok InputFailed) = WritesAll output after eol false limit run
-EndsTaking output after eol limit run (Ok TooManyLines) = WritesPart output eol limit run × IsBeyond eol limit run
+EndsTaking output after eol limit run (Ok TooManyLines) = WritesFirst output after eol limit run × IsBeyond eol limit run
 EndsTaking output after eol limit run (Err fault) = WritesPart output eol limit run
 
 -- the same where only what is written counts
 abbrev pub Ends : (output : List (List ℕ) → List ℕ) (eol limit : ℕ) → Run → Result Ended (Failure TooMany) → Type 0
 Ends output = EndsTaking output (λ ls. Unit {0})
+
+-- nothing was written, or a beginning of what is due of all lines
+abbrev pub BreaksBehind : (output : List (List ℕ) → List ℕ) (eol limit : ℕ) → Run → Type 0
+BreaksBehind output eol limit run = Keeps run.written run.written'
+    ⊎ ((ended : Bool) × (ls : List (List ℕ)) × IsWithin eol ended limit run ls × AppendsPart run.written run.written' (output ls))
+
+-- the same of a run that writes behind the last line alone, and nothing if there are more lines than the limit
+abbrev pub EndsBehind : (output : List (List ℕ) → List ℕ) (eol limit : ℕ) → Run → Result Ended (Failure TooMany) → Type 0
+EndsBehind output eol limit run (Ok TooManyLines) = Keeps run.written run.written' × IsBeyond eol limit run
+EndsBehind output eol limit run (Ok ended) = Ends output eol limit run (Ok ended)
+EndsBehind output eol limit run (Err fault) = BreaksBehind output eol limit run

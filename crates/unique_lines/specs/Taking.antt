@@ -37,18 +37,21 @@ BreaksInput before broke eol most left = (ls : List (List ℕ)) × BeginWith eol
 abbrev pub HasMore : (eol most : ℕ) (left : Option (List ℕ)) → Type 0
 HasMore eol most left = (ls : List (List ℕ)) × BeginWith eol left ls × (most < length ls)
 
--- the last lines of an input are taken, and counted off; or there are more of them than may be taken, and none is taken
-abbrev pub EndsInput : (before after broke : Option (List ℕ) → List (List ℕ) → Type 0) (most most' : ℕ) (ls : List (List ℕ)) → Left
-    → Type 0
-EndsInput before after broke most most' ls Done = Leads before after ls × (length ls + most' ≡ most)
-EndsInput before after broke most most' ls (Failed error) = ⊥
-EndsInput before after broke most most' ls Beyond = Leads before broke [] × (most < length ls)
+-- the lines of an input begin with these, which are taken, as many as may be
+abbrev pub TakesMost : (before after : Option (List ℕ) → List (List ℕ) → Type 0) (eol most : ℕ) (left : Option (List ℕ)) → Type 0
+TakesMost before after eol most left = (ls : List (List ℕ)) × BeginWith eol left ls × Leads before after ls × (length ls ≡ most)
 
--- the lines of an input are taken, and counted off; or there are more of them than may be taken
-abbrev pub LeavesInput : (before after broke : Option (List ℕ) → List (List ℕ) → Type 0) (eol most most' : ℕ)
-    (left left' : Option (List ℕ)) → Left → Type 0
-LeavesInput before after broke eol most most' left left' Done =
+-- the last lines of an input are taken, and counted off; or there are some where none may be taken
+abbrev pub EndsInput : (before after : Option (List ℕ) → List (List ℕ) → Type 0) (most most' : ℕ) (ls : List (List ℕ)) → Left → Type 0
+EndsInput before after most most' ls Done = Leads before after ls × (length ls + most' ≡ most)
+EndsInput before after most most' ls (Failed error) = ⊥
+EndsInput before after most most' ls Beyond = Leads before after [] × (most ≡ 0) × (0 < length ls)
+
+-- the lines of an input are taken, and counted off; or as many as may be are, and there are more
+abbrev pub LeavesInput : (before after : Option (List ℕ) → List (List ℕ) → Type 0) (eol most most' : ℕ) (left left' : Option (List ℕ))
+    → Left → Type 0
+LeavesInput before after eol most most' left left' Done =
     (ls : List (List ℕ)) × ReadsInput eol true left left' ls × Leads before after ls × (length ls + most' ≡ most)
-LeavesInput before after broke eol most most' left left' (Failed error) =
+LeavesInput before after eol most most' left left' (Failed error) =
     (ls : List (List ℕ)) × ReadsInput eol false left left' ls × Leads before after ls × (length ls + most' ≡ most)
-LeavesInput before after broke eol most most' left left' Beyond = BreaksInput before broke eol most left × HasMore eol most left
+LeavesInput before after eol most most' left left' Beyond = TakesMost before after eol most left × HasMore eol most left

@@ -1,7 +1,8 @@
 //! What the program `dedup` is asked for, and how it ends.
 ghost use Rattle.std.specs.Prelude.{◌≡◌, IfOk};
 ghost use Rattle.cli.specs.Call.{call_of, choices, sayings, texts};
-ghost use Rattle.std.specs.Io.Buffered.{writer_contents};
+ghost use Rattle.cli.specs.Outcome.{IsFlushed};
+ghost use Rattle.std.specs.Io.Buffered.{writer_buffer, writer_contents};
 ghost use Rattle.unique_lines.specs.Program.{Exits, of_run, options, work_of};
 ghost use Rattle.unique_lines.specs.Running.{run_of};
 
@@ -102,7 +103,8 @@ fn of_run(ended: Result<Ended, Failure>) -> Outcome
     }
 }
 
-/// Does what the call asks for, over at most `limit` lines of the inputs. If the call is wrong, nothing is read or written.
+/// Does what the call asks for, over at most `limit` lines of the inputs. If the call is wrong, nothing is read or written. If all was
+/// done or told, nothing is held back.
 pub fn outcome_of<S: BuildHasher + Drop, R: Read, C: Complaints, W: Write + Drop>(
     alloc: Global,
     hasher: S,
@@ -113,8 +115,9 @@ pub fn outcome_of<S: BuildHasher + Drop, R: Read, C: Complaints, W: Write + Drop
     complaints: &mut C,
     w: &mut BufWriter<W>,
 ) -> Outcome
-    ensures { Exits (sayings call.now.said.items) about.entry.help.now about.entry.version.now about.entry.list.now
+    ensures exits { Exits (sayings call.now.said.items) about.entry.help.now about.entry.version.now about.entry.list.now
         limit (run_of R.remaining inputs.old inputs.new (writer_contents W.contents) w.old w.new) result }
+    ensures flushed { IsFlushed (writer_buffer w.new) result }
 {
     match request_of(call) {
         Request::Misgiven(misgiven) => Outcome::Usage(Wrong::Option(misgiven)),

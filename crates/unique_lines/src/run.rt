@@ -51,7 +51,7 @@ fn take_last<T: LineTask, W: Write + Drop>(
     ensures left { IfOk result (EndsInput
         (At (T.output eol) (T.taken eol task.old) (writer_contents W.contents w.old))
         (At (T.output eol) (T.taken eol task.new) (writer_contents W.contents w.new))
-        (Broke (T.output eol) (writer_contents W.contents w.new)) most.old most.new (lines_by eol line.now)) }
+        most.old most.new (lines_by eol line.now)) }
     ensures flushed { OnOk result (writer_buffer w.new ≡ []) }
     ensures broke { OnErr result (Leads (At (T.output eol) (T.taken eol task.old) (writer_contents W.contents w.old))
         (Broke (T.output eol) (writer_contents W.contents w.new)) (lines_by eol line.now)) }
@@ -86,8 +86,7 @@ fn take_input<T: LineTask, R: Read, W: Write + Drop>(
     ensures left { IfOk result (LeavesInput
         (At (T.output eol) (T.taken eol task.old) (writer_contents W.contents w.old))
         (At (T.output eol) (T.taken eol task.new) (writer_contents W.contents w.new))
-        (Broke (T.output eol) (writer_contents W.contents w.new)) eol most.old most.new (R.remaining r.old)
-        (R.remaining r.new)) }
+        eol most.old most.new (R.remaining r.old) (R.remaining r.new)) }
     ensures unread { OnOk result (unread.new ≡ []) }
     ensures flushed { OnOk result (writer_buffer w.new ≡ []) }
     ensures broke { OnErr result (BreaksInput

@@ -1,10 +1,9 @@
 //! Lines with how often they came.
-ghost use Rattle.std.specs.Prelude.{if◌then◌else◌, nat_lt, ◌≡◌, ◌<◌, ◌≤◌, ◌+◌, ◌==◌, ◌++◌, ◌∷◌, [], ℕ, List, IfOk, OnOk, OnErr, length};
+ghost use Rattle.std.specs.Prelude.{if◌then◌else◌, nat_lt, ◌≡◌, ◌<◌, ◌≤◌, ◌+◌, ◌==◌, ◌++◌, ◌∷◌, [], ℕ, List, OnOk, OnErr, length};
 ghost use Rattle.std.specs.Io.BufRead.{strip_last};
 ghost use Rattle.std.specs.Io.Buffered.{writer_buffer, writer_contents};
-ghost use Rattle.std.specs.Io.KnownBytes.{Appends, Keeps};
-ghost use Rattle.unique_lines.specs.Running.{Ends, run_of};
-ghost use Rattle.unique_lines.specs.declared.run.Ended.TheVariants.{TooManyLines};
+ghost use Rattle.std.specs.Io.KnownBytes.{Appends};
+ghost use Rattle.unique_lines.specs.Running.{EndsBehind, run_of};
 ghost use Rattle.unique_lines.specs.Tallies.{Tallies, column, is_shown, shown, told};
 ghost use Rattle.streams.specs.Streams.{AppendsPart};
 ghost use Rattle.text_set.specs.Slots.{tag_under};
@@ -183,7 +182,8 @@ fn write_tallies<S: BuildHasher + Drop, W: Write>(
 
 /// Counts at most `limit` lines of the inputs, each of which ends with the byte `eol`, and writes behind the last those that
 /// are asked for, in the order in which they came first. An input that fails is told, and the others are read. If there
-/// are more lines than the limit, none is written. At the end nothing is held back.
+/// are more lines than the limit, none is written. At the end nothing is held back. After a fault nothing was written, or a
+/// beginning of what is due of all lines.
 pub fn tally<S: BuildHasher + Drop, R: Read, C: Complaints, W: Write + Drop>(
     alloc: Global,
     hasher: S,
@@ -194,10 +194,8 @@ pub fn tally<S: BuildHasher + Drop, R: Read, C: Complaints, W: Write + Drop>(
     complaints: &mut C,
     w: &mut BufWriter<W>,
 ) -> Result<Ended, Failure>
-    ensures ended { Ends (told eol which) eol limit
+    ensures ended { EndsBehind (told eol which) eol limit
         (run_of R.remaining inputs.old inputs.new (writer_contents W.contents) w.old w.new) result }
-    ensures beyond { IfOk result (λ ended. ended ≡ TooManyLines
-        → Keeps (writer_contents W.contents w.old) (writer_contents W.contents w.new)) }
     ensures flushed { OnOk result (writer_buffer w.new ≡ []) }
 {
     let mut counts = Counts::new(alloc, hasher);

@@ -122,13 +122,15 @@ fn of_run(ended: Result<Ended, Failure>) -> Outcome {
     }
 }
 
-/// Does what the call asks for, over at most `limit` lines of the inputs. If the call is wrong, nothing is read or written.
+/// Does what the call asks for, over at most `limit` lines of the inputs. If the call is wrong, nothing is read or written. If all was
+/// done or told, nothing is held back.
 ///
 /// Proved:
 ///
 /// ```text
-/// Exits (sayings call.now.said.items) about.entry.help.now about.entry.version.now about.entry.list.now
+/// exits: Exits (sayings call.now.said.items) about.entry.help.now about.entry.version.now about.entry.list.now
 ///     limit (run_of R.remaining inputs.old inputs.new (writer_contents W.contents) w.old w.new) result
+/// flushed: IsFlushed (writer_buffer w.new) result
 /// ```
 #[inline]
 pub fn outcome_of<S: BuildHasher, R: Read, C: Complaints, W: Write>(

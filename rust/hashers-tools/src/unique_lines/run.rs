@@ -52,7 +52,7 @@ pub enum Left {
 /// left: IfOk result (EndsInput
 ///     (At (T.output eol) (T.taken eol task.old) (writer_contents W.contents w.old))
 ///     (At (T.output eol) (T.taken eol task.new) (writer_contents W.contents w.new))
-///     (Broke (T.output eol) (writer_contents W.contents w.new)) most.old most.new (lines_by eol line.now))
+///     most.old most.new (lines_by eol line.now))
 /// flushed: OnOk result (writer_buffer w.new ≡ [])
 /// broke: OnErr result (Leads (At (T.output eol) (T.taken eol task.old) (writer_contents W.contents w.old))
 ///     (Broke (T.output eol) (writer_contents W.contents w.new)) (lines_by eol line.now))
@@ -96,8 +96,7 @@ fn take_last<T: LineTask, W: Write>(
 /// left: IfOk result (LeavesInput
 ///     (At (T.output eol) (T.taken eol task.old) (writer_contents W.contents w.old))
 ///     (At (T.output eol) (T.taken eol task.new) (writer_contents W.contents w.new))
-///     (Broke (T.output eol) (writer_contents W.contents w.new)) eol most.old most.new (R.remaining r.old)
-///     (R.remaining r.new))
+///     eol most.old most.new (R.remaining r.old) (R.remaining r.new))
 /// unread: OnOk result (unread.new ≡ [])
 /// flushed: OnOk result (writer_buffer w.new ≡ [])
 /// broke: OnErr result (BreaksInput

@@ -221,15 +221,14 @@ fn write_tallies<S: BuildHasher, W: Write>(
 
 /// Counts at most `limit` lines of the inputs, each of which ends with the byte `eol`, and writes behind the last those that
 /// are asked for, in the order in which they came first. An input that fails is told, and the others are read. If there
-/// are more lines than the limit, none is written. At the end nothing is held back.
+/// are more lines than the limit, none is written. At the end nothing is held back. After a fault nothing was written, or a
+/// beginning of what is due of all lines.
 ///
 /// Proved:
 ///
 /// ```text
-/// ended: Ends (told eol which) eol limit
+/// ended: EndsBehind (told eol which) eol limit
 ///     (run_of R.remaining inputs.old inputs.new (writer_contents W.contents) w.old w.new) result
-/// beyond: IfOk result (λ ended. ended ≡ TooManyLines
-///     → Keeps (writer_contents W.contents w.old) (writer_contents W.contents w.new))
 /// flushed: OnOk result (writer_buffer w.new ≡ [])
 /// ```
 #[inline]

@@ -2,7 +2,7 @@ use Rattle.std.proofs.Common.{[], subst, sym, refl, ◌∙◌, length-append, ar
 use Rattle.std.proofs.KnownBytes.{Keeps-refl}
 use Rattle.std.proofs.lemmas.Bool.{cases_lt}
 use Rattle.text_set.specs.Lines.{IsBare, lines_by}
-use Rattle.unique_lines.proofs.RunLemmas.{bare_rest, begins_all, breaks_before, breaks_behind, breaks_within, ends_left, leads_both, leads_kept, more_left, reads_on, reads_to_end, reads_to_fault, room_on, splits_nowhere, takes_on}
+use Rattle.unique_lines.proofs.RunLemmas.{bare_rest, begins_all, breaks_before, breaks_behind, breaks_within, ends_left, leads_both, leads_kept, more_left, reads_on, reads_to_end, reads_to_fault, room_on, splits_nowhere, takes_most, takes_on}
 use Rattle.unique_lines.proofs.UnreadLemmas.{bare_both}
 use Rattle.streams.proofs.StreamLemmas.{on_err}
 use Rattle.unique_lines.proofs.run.take_input.Goals as goal
@@ -43,11 +43,8 @@ returns-then-is_beyond-clause-left g c =
     let (ls, reads, bare, leads, flushed) = c.loop-task.invariant in
     let (more, takes, led) = rw c.bytes.ensures at c.in_ok-count-in-Line.ensures.took in
     let (none, some) = c.if-is_beyond.ensures.beyond refl in
-    let filled = reads_on reads c.in_ok-fill.ensures in (
-      breaks_within filled takes.splits (omega (arith, takes.counted, takes.few))
-          (breaks_behind c.flush.ensures.kept (leads_both leads led)),
-      more_left (takes_on filled c.pass.new.self c.pass.ensures takes) none some,
-    )
+    let took = takes_on (reads_on reads c.in_ok-fill.ensures) c.pass.new.self c.pass.ensures takes in
+    (takes_most took none (leads_kept c.flush.ensures.kept (leads_both leads led)), more_left took none some)
 
 pub loop-task-smaller : goal.loop-task-smaller
 loop-task-smaller g c =
@@ -86,7 +83,7 @@ pub returns-in-End-clause-left : goal.returns-in-End-clause-left
 returns-in-End-clause-left g c =
     let (ls, reads, bare, leads, flushed) = c.loop-task.invariant in
     let (none, ended) = rw c.in-End.is at c.in_ok-fill.ensures.has_come in
-    ends_left (reads_on reads c.in_ok-fill.ensures) _ _ c.take_last.new.most c.in_ok-left-in-End.left ended leads
+    ends_left (reads_on reads c.in_ok-fill.ensures) _ c.take_last.new.most c.in_ok-left-in-End.left ended leads
     (rw c.bytes-in-End.ensures at c.in_ok-left-in-End.ensures.left)
 
 pub returns-in-Failure-clause-left : goal.returns-in-Failure-clause-left

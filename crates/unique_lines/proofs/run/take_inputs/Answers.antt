@@ -1,6 +1,6 @@
 use Rattle.std.proofs.Common.{◌<◌, true, false, map, length, sym, ◌∙◌, arith, rules}
 use Rattle.std.proofs.Math.Bool.{and-false, and-true}
-use Rattle.unique_lines.proofs.InputLemmas.{part_at_start, part_beyond, part_within, so_far_more, so_far_start}
+use Rattle.unique_lines.proofs.InputLemmas.{first_within, part_at_start, part_beyond, part_within, so_far_more, so_far_start}
 use Rattle.unique_lines.proofs.run.take_inputs.Goals as goal
 use Rattle.unique_lines.proofs.run.take_inputs.Goals.{in-Done, in-Failed}
 
@@ -27,8 +27,8 @@ returns-in-Beyond-clause-ended g c =
     let (so_far, unread, flushed) = c.loop-place.invariant in
     let below : c.loop-place.place < length c.args.inputs.now = omega (arith, c.loop-place-test.true) in
     let below' : c.loop-place.place < length c.loop-place.inputs = omega (arith, below, c.loop-place.auto.inputs) in
-    let (breaks, more) = rw c.in-Beyond.is at c.in_ok-take_input.ensures.left in (
-      part_within so_far c.index-inputs-place.result below below' breaks,
+    let (most, more) = rw c.in-Beyond.is at c.in_ok-take_input.ensures.left in (
+      first_within so_far c.index-inputs-place.result below below' most,
       part_beyond so_far c.index-inputs-place.result below below' more,
     )
 

@@ -1,8 +1,7 @@
-use Rattle.std.proofs.Common.{[], ap, sym, length, arith}
-use Rattle.std.proofs.KnownBytes.{Keeps-refl}
+use Rattle.std.proofs.Common.{ap, sym, length, arith}
 use Rattle.std.proofs.lemmas.Bool.{eqb-false}
 use Rattle.text_set.proofs.LineLemmas.{bare_line, some_line, strip_bare}
-use Rattle.unique_lines.proofs.RunLemmas.{breaks_before, breaks_behind, leads_kept}
+use Rattle.unique_lines.proofs.RunLemmas.{breaks_behind, leads_kept, leads_nowhere}
 use Rattle.streams.proofs.StreamLemmas.{on_err}
 use Rattle.unique_lines.proofs.run.take_last.Goals as goal
 
@@ -12,7 +11,7 @@ take_line-requires-clause-text g c = sym (strip_bare c.args.eol c.args.line.now 
 pub returns-then-most-eq0-clause-left : goal.returns-then-most-eq0-clause-left
 returns-then-most-eq0-clause-left g c =
     let some = some_line c.args.eol c.args.line.now (omega (arith, eqb-false _ _ (sym c.if-is_empty.ensures))) in
-    (breaks_before c.requires.grows (Keeps-refl _) [], omega (arith, some, c.if-most-eq0.true))
+    (leads_nowhere _, omega (arith, c.if-most-eq0.true), some)
 
 pub returns-in_err-take_line-clause-broke : goal.returns-in_err-take_line-clause-broke
 returns-in_err-take_line-clause-broke g c =
