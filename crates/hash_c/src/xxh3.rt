@@ -7,7 +7,6 @@ ghost use Rattle.hash_xxh3.specs.Xxh3.{xxh3_64_of};
 
 use crate::spooky::{Words, two_words};
 use hash_xxh3::{Xxh3Hasher, Xxh3Place, xxh3_64, xxh3_128};
-use std::hash::Hasher;
 
 // What hashers.h reserves for a place.
 const _: () = prove!(size_of::<Xxh3Place>() == 360);
@@ -43,10 +42,7 @@ pub extern "C" fn hashers_xxh3_write(place: &mut Xxh3Place, bytes: &[u8])
         → StandsBehind place.new seed (text ++ bytes.now) }
     ensures unusable { ¬ Fits place.old → place.new ≡ place.old }
 {
-    if let Some(mut hasher) = Xxh3Hasher::at(place) {
-        hasher.write(bytes);
-        *place = hasher.place();
-    }
+    place.write(bytes);
 }
 
 /// XXH3 of 64 bits of the text so far, behind which more may be written; 0 of a place at which no hasher stands.
@@ -56,10 +52,7 @@ pub extern "C" fn hashers_xxh3_finish(place: &Xxh3Place) -> u64
         → result ≡ xxh3_64_of seed text }
     ensures unusable { ¬ Fits place.now → result ≡ 0 }
 {
-    match Xxh3Hasher::at(place) {
-        Some(hasher) => hasher.finish(),
-        None => 0,
-    }
+    place.hash().unwrap_or(0)
 }
 
 /// The same of 128 bits: the low word and the high one, or 0 and 0.
@@ -69,8 +62,5 @@ pub extern "C" fn hashers_xxh128_finish(place: &Xxh3Place) -> Words
         → (result.first, result.second) ≡ xxh3_128_of seed text }
     ensures unusable { ¬ Fits place.now → AreZeros result }
 {
-    match Xxh3Hasher::at(place) {
-        Some(hasher) => two_words(hasher.finish128()),
-        None => two_words((0, 0)),
-    }
+    two_words(place.hash128().unwrap_or((0, 0)))
 }

@@ -1,7 +1,7 @@
 -- Where a hasher of XXH3 stands that keeps the numbers of a place.
 use Rattle.std.specs.Prelude.{ℕ, ◌≡◌, ◌≢◌, ◌<◌, ◌≤◌, List, nat_eq, take, if◌then◌else◌}
 use Rattle.hash_xxh3.specs.Streaming.{Position, Short, Long, position}
-use Rattle.hash_xxh3.specs.declared.hasher.Xxh3Place.{Xxh3Place}
+use Rattle.hash_xxh3.specs.declared.place.Xxh3Place.{Xxh3Place}
 
 abbrev pub place_of : Xxh3Place → Position
 place_of p =

@@ -2,8 +2,10 @@
 ghost use Rattle.std.specs.Prelude.{◌≡◌, ◌+◌, ◌-◌, ◌*◌, ◌/◌, ◌<◌, ◌≤◌, ℕ, ◌++◌, length, take, drop};
 ghost use Rattle.hash_xxh3.specs.Long.{secret_of};
 ghost use Rattle.hash_xxh3.specs.Streaming.{Long, advanced, position};
+ghost use Rattle.hash_xxh3.specs.declared.long.Lanes.{Lanes};
 
 use crate::long::{Lanes, START, STRIPE, stripe_in, stripes_in};
+use crate::secret::{default_secret, put_secret};
 use hash_words::put;
 
 // Keeps the last stripe that has a byte behind it, and what is behind it, of a stripe and the bytes behind that.
@@ -64,6 +66,20 @@ fn advance_through(
     keep(buffer, &stripe, rest)
 }
 
+// Keeps the bytes, behind which no stripe more has a byte behind it.
+#[inline(always)]
+fn keep_all(buffer: &mut [u8; 256], kept: usize, bytes: &[u8]) -> usize
+    requires one { 65 ≤ kept }
+    requires room { kept + length bytes.now ≤ 128 }
+    ensures position { (seed len : ℕ) (lanes : Lanes)
+        → Long seed lanes len (take result buffer.new) ≡ advanced seed lanes len (take kept buffer.old ++ bytes.now) }
+    ensures some { 65 ≤ result }
+    ensures few { result ≤ 128 }
+{
+    put(buffer, kept, bytes);
+    kept + bytes.len()
+}
+
 /// Goes on over more bytes, from one whole stripe and a part of the next. As many are kept then as the result says.
 #[inline(always)]
 pub(crate) fn advance(
@@ -84,10 +100,39 @@ pub(crate) fn advance(
     ensures in_block { lanes.new.stripe < 16 }
 {
     if bytes.len() <= 128 - kept {
-        put(buffer, kept, bytes);
-        kept + bytes.len()
+        keep_all(buffer, kept, bytes)
     } else {
         advance_through(secret, lanes, buffer, kept, bytes)
+    }
+}
+
+/// The same under the secret of a seed, which is made where a stripe more is whole.
+#[inline(always)]
+#[tactic(auto, using(crate::proofs::SecretLemmas::secret_of_none))]
+pub(crate) fn advance_under(
+    seed: u64,
+    lanes: &mut Lanes,
+    buffer: &mut [u8; 256],
+    kept: usize,
+    bytes: &[u8],
+) -> usize
+    requires block { lanes.old.stripe < 16 }
+    requires one { 65 ≤ kept }
+    requires room { kept ≤ 128 }
+    ensures position { (len : ℕ) → Long seed lanes.new len (take result buffer.new)
+        ≡ advanced seed lanes.old len (take kept buffer.old ++ bytes.now) }
+    ensures some { 65 ≤ result }
+    ensures few { result ≤ 128 }
+    ensures in_block { lanes.new.stripe < 16 }
+{
+    if bytes.len() <= 128 - kept {
+        keep_all(buffer, kept, bytes)
+    } else if seed == 0 {
+        advance_through(default_secret(), lanes, buffer, kept, bytes)
+    } else {
+        let mut secret = [0; 192];
+        put_secret(&mut secret, seed);
+        advance_through(&secret, lanes, buffer, kept, bytes)
     }
 }
 

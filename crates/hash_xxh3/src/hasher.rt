@@ -1,5 +1,5 @@
 //! XXH3 of a text that comes piece by piece.
-ghost use Rattle.std.specs.Prelude.{◌≡◌, ◌↔◌, IsTrue, Some, None, ℕ, ◌+◌, ◌<◌, ◌^◌, List, [], ◌∷◌, ◌++◌, refl};
+ghost use Rattle.std.specs.Prelude.{◌≡◌, Some, None, ℕ, ◌+◌, ◌<◌, ◌^◌, List, [], ◌∷◌, ◌++◌, refl};
 ghost use Rattle.std.proofs.Common.{lit<};
 ghost use Rattle.hash_laws.specs.Text.{joined};
 ghost use Rattle.hash_xxh3.specs.Place.{Fits, place_of};
@@ -10,42 +10,11 @@ ghost use Rattle.hash_xxh3.specs.Xxh3.{xxh3_64_of};
 
 use crate::long::lanes_at;
 use crate::parts::Xxh3Parts;
+use crate::place::Xxh3Place;
 use crate::whole::xxh3_64;
 use hash_laws::traits::{Piecewise, Streamed, run_streamed};
 use std::hash::Hasher;
 use std::marker::Model;
-
-/// What an [`Xxh3Hasher`] keeps, as whole numbers alone: for a caller that must keep it itself, as a program in C.
-#[repr(C)]
-#[derive(Clone, Copy)]
-pub struct Xxh3Place {
-    /// The seed.
-    pub seed: u64,
-    /// Of a text of more than 240 bytes the eight words, and the number of the next stripe in its block of sixteen.
-    pub words: [u64; 8],
-    pub stripe: u64,
-    /// Of such a text the length modulo 2^64.
-    pub length: u64,
-    /// 0 of a text of at most 240 bytes.
-    pub long: u64,
-    /// How many bytes of the buffer are kept.
-    pub kept: u64,
-    /// A text of at most 240 bytes, or the last stripe that has a byte behind it, and what is behind it.
-    pub buffer: [u8; 256],
-}
-
-impl Xxh3Place {
-    // Whether a hasher may keep so much.
-    fn fits(&self) -> bool
-        ensures { IsTrue result ↔ Fits self.now }
-    {
-        if self.long == 0 {
-            self.kept < 241
-        } else {
-            self.kept >= 65 && self.kept <= 128 && self.stripe < 16
-        }
-    }
-}
 
 /// XXH3 of a text that comes piece by piece, under a seed. How the bytes were cut into pieces doesn't show.
 pub struct Xxh3Hasher {

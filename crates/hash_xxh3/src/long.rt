@@ -3,7 +3,7 @@ ghost use Rattle.std.specs.Prelude.{◌≡◌, ◌+◌, ◌-◌, ◌*◌, ◌/�
 ghost use Rattle.hash_xxh3.specs.Long.{IsLanes, secret_of, start_words, start_lanes, halves_product, lane, accumulate, scrambled, scramble, stripe_in, stripes_in, merge_pair, merge, last_words, end_words, end_long, long_under, of_long};
 
 use crate::middle::length_word;
-use crate::secret::{default_secret, secret_of};
+use crate::secret::{default_secret, put_secret};
 use crate::words::{avalanche, folded_product, word_at};
 use hash_words::xorshift;
 
@@ -197,8 +197,8 @@ pub(crate) fn last_words(secret: &[u8; 192], words: &[u64; 8], text: &[u8]) -> [
     accumulate(words, text.last_chunk::<64>().unwrap(), secret, 121)
 }
 
-/// The words that a text of more than 240 bytes ends in, under a secret.
-#[inline(always)]
+/// The words that a text of more than 240 bytes ends in, under a secret. It is a function by itself, so that the words stay in vectors.
+#[inline(never)]
 pub(crate) fn end_words(secret: &[u8; 192], text: &[u8]) -> [u64; 8]
     requires { 241 ≤ length text.now }
     ensures { result ≡ end_words secret.now text.now }
@@ -214,6 +214,15 @@ pub(crate) fn end_long(secret: &[u8; 192], words: &[u64; 8], len: u64) -> u64
     ensures { result ≡ end_long secret.now words.now len }
 {
     merge(words, secret, 11, length_word(len))
+}
+
+/// The hash of so many bytes by the words after the stripes that have a byte behind them, and what is kept of the text.
+#[inline(always)]
+pub(crate) fn end_kept(secret: &[u8; 192], words: &[u64; 8], kept: &[u8], len: u64) -> u64
+    requires { 64 ≤ length kept.now }
+    ensures { result ≡ end_long secret.now (last_words secret.now words.now kept.now) len }
+{
+    end_long(secret, &last_words(secret, words, kept), len)
 }
 
 // XXH3 of more than 240 bytes under a secret.
@@ -232,7 +241,9 @@ fn seeded(seed: u64, text: &[u8]) -> u64
     requires { 241 ≤ length text.now }
     ensures { result ≡ of_long seed text.now }
 {
-    long_under(&secret_of(seed), text)
+    let mut secret = [0; 192];
+    put_secret(&mut secret, seed);
+    long_under(&secret, text)
 }
 
 /// XXH3 of more than 240 bytes.

@@ -54,10 +54,10 @@ fn add_ends(seed: u64, text: &[u8], sum: u64, i: usize) -> u64
     add_piece(seed, text, front, text.len() - 16 * i - 16, 32 * i + 16)
 }
 
-/// XXH3 of 17 to 128 bytes.
-#[inline(never)]
+// XXH3 of 17 to 128 bytes.
+#[inline(always)]
 #[tactic(auto, unfolding(crate::specs::Middle::of_128))]
-pub(crate) fn of_128(seed: u64, text: &[u8]) -> u64
+fn whole_128(seed: u64, text: &[u8]) -> u64
     requires some { 17 ≤ length text.now }
     requires few { length text.now < 129 }
     ensures { result ≡ of_128 seed text.now }
@@ -66,6 +66,39 @@ pub(crate) fn of_128(seed: u64, text: &[u8]) -> u64
     let two = add_ends(seed, text, one, 1);
     let three = add_ends(seed, text, two, 2);
     avalanche(add_ends(seed, text, three, 3))
+}
+
+// The same under a seed that the compiler does not know, and under none.
+#[inline(never)]
+fn seeded_128(seed: u64, text: &[u8]) -> u64
+    requires some { 17 ≤ length text.now }
+    requires few { length text.now < 129 }
+    ensures { result ≡ of_128 seed text.now }
+{
+    whole_128(seed, text)
+}
+
+#[inline(never)]
+fn unseeded_128(text: &[u8]) -> u64
+    requires some { 17 ≤ length text.now }
+    requires few { length text.now < 129 }
+    ensures { result ≡ of_128 0 text.now }
+{
+    whole_128(0, text)
+}
+
+/// XXH3 of 17 to 128 bytes.
+#[inline(always)]
+pub(crate) fn of_128(seed: u64, text: &[u8]) -> u64
+    requires some { 17 ≤ length text.now }
+    requires few { length text.now < 129 }
+    ensures { result ≡ of_128 seed text.now }
+{
+    if seed == 0 {
+        unseeded_128(text)
+    } else {
+        seeded_128(seed, text)
+    }
 }
 
 // Piece i, where the text has so many.
@@ -104,10 +137,10 @@ fn other_pieces(seed: u64, text: &[u8], start: u64) -> u64
     sum
 }
 
-/// XXH3 of 129 to 240 bytes.
-#[inline(never)]
+// XXH3 of 129 to 240 bytes.
+#[inline(always)]
 #[tactic(auto, unfolding(crate::specs::Middle::of_240))]
-pub(crate) fn of_240(seed: u64, text: &[u8]) -> u64
+fn whole_240(seed: u64, text: &[u8]) -> u64
     requires some { 129 ≤ length text.now }
     requires few { length text.now < 241 }
     ensures { result ≡ of_240 seed text.now }
@@ -115,4 +148,37 @@ pub(crate) fn of_240(seed: u64, text: &[u8]) -> u64
     let last = mix_piece(seed, text, text.len() - 16, 119);
     let first = avalanche(first_pieces(seed, text));
     avalanche(first.wrapping_add(other_pieces(seed, text, last)))
+}
+
+// The same under a seed that the compiler does not know, and under none.
+#[inline(never)]
+fn seeded_240(seed: u64, text: &[u8]) -> u64
+    requires some { 129 ≤ length text.now }
+    requires few { length text.now < 241 }
+    ensures { result ≡ of_240 seed text.now }
+{
+    whole_240(seed, text)
+}
+
+#[inline(never)]
+fn unseeded_240(text: &[u8]) -> u64
+    requires some { 129 ≤ length text.now }
+    requires few { length text.now < 241 }
+    ensures { result ≡ of_240 0 text.now }
+{
+    whole_240(0, text)
+}
+
+/// XXH3 of 129 to 240 bytes.
+#[inline(always)]
+pub(crate) fn of_240(seed: u64, text: &[u8]) -> u64
+    requires some { 129 ≤ length text.now }
+    requires few { length text.now < 241 }
+    ensures { result ≡ of_240 seed text.now }
+{
+    if seed == 0 {
+        unseeded_240(text)
+    } else {
+        seeded_240(seed, text)
+    }
 }

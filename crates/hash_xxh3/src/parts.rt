@@ -6,10 +6,10 @@ ghost use Rattle.hash_xxh3.specs.Streaming.{Short, Long, position, after, hash};
 ghost use Rattle.hash_xxh3.specs.Wide.{wide_hash};
 
 use crate::advance::{advance, begin};
-use crate::long::{Lanes, START, end_long, last_words};
+use crate::long::{Lanes, START, end_kept};
 use crate::secret::secret_of;
 use crate::whole::of_kept;
-use crate::wide::{wide_end_long, wide_kept};
+use crate::wide::{wide_end_kept, wide_kept};
 use hash_laws::traits::bytes_are_a_text;
 use hash_words::put;
 
@@ -122,8 +122,7 @@ impl Xxh3Parts {
     {
         let text = &self.buffer[..self.kept];
         if self.long {
-            let words = last_words(&self.secret, &self.lanes.words, text);
-            end_long(&self.secret, &words, self.length)
+            end_kept(&self.secret, &self.lanes.words, text, self.length)
         } else {
             of_kept(self.seed, text)
         }
@@ -137,8 +136,7 @@ impl Xxh3Parts {
     {
         let text = &self.buffer[..self.kept];
         if self.long {
-            let words = last_words(&self.secret, &self.lanes.words, text);
-            wide_end_long(&self.secret, &words, self.length)
+            wide_end_kept(&self.secret, &self.lanes.words, text, self.length)
         } else {
             wide_kept(self.seed, text)
         }

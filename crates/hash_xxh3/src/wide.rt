@@ -1,10 +1,11 @@
 //! XXH3 of 128 bits: a low word and a high one.
 ghost use Rattle.std.specs.Prelude.{◌≡◌, ◌+◌, ◌-◌, ◌*◌, ◌/◌, ◌^◌, ◌≤◌, ◌<◌, length};
+ghost use Rattle.hash_xxh3.specs.Long.{last_words};
 ghost use Rattle.hash_xxh3.specs.Wide.{wide_none, few_turned, few_flip_high, wide_few, eight_wide_number, eight_wide_flip, eight_product, eight_high, eight_low, wide_words, wide_eight, sixteen_product, sixteen_back, sixteen_high, sixteen_low, sixteen_end, wide_sixteen, wide_short, add_two, wide_end, add_pair, wide_128, first_pairs, other_pairs, wide_240, wide_end_long, wide_under, wide_long, wide_kept, xxh3_128_of};
 
-use crate::long::{end_words, merge};
+use crate::long::{end_words, last_words, merge};
 use crate::middle::{add_piece, length_word};
-use crate::secret::{default_secret, secret_half, secret_of};
+use crate::secret::{default_secret, put_secret, secret_half};
 use crate::short::{eight_seed, few_number, of_few, secret_pair};
 use crate::words::{avalanche, avalanche_64, half_at, whole_product, word_at};
 use hash_words::{rotl32, xorshift};
@@ -314,6 +315,20 @@ pub(crate) fn wide_end_long(secret: &[u8; 192], words: &[u64; 8], len: u64) -> (
     )
 }
 
+/// The same by the words after the stripes that have a byte behind them, and what is kept of the text.
+#[inline(always)]
+pub(crate) fn wide_end_kept(
+    secret: &[u8; 192],
+    words: &[u64; 8],
+    kept: &[u8],
+    len: u64,
+) -> (u64, u64)
+    requires { 64 ≤ length kept.now }
+    ensures { result ≡ wide_end_long secret.now (last_words secret.now words.now kept.now) len }
+{
+    wide_end_long(secret, &last_words(secret, words, kept), len)
+}
+
 #[inline(never)]
 #[tactic(auto, unfolding(crate::specs::Wide::wide_under))]
 fn wide_under(secret: &[u8; 192], text: &[u8]) -> (u64, u64)
@@ -328,7 +343,9 @@ fn seeded(seed: u64, text: &[u8]) -> (u64, u64)
     requires { 241 ≤ length text.now }
     ensures { result ≡ wide_long seed text.now }
 {
-    wide_under(&secret_of(seed), text)
+    let mut secret = [0; 192];
+    put_secret(&mut secret, seed);
+    wide_under(&secret, text)
 }
 
 #[inline(never)]

@@ -1,12 +1,10 @@
 //! XXH3 of 64 and of 128 bits under a seed: of a whole text, and of a text in parts. The caller keeps the place.
 
 // What follows is the proved text of crates/hash_c/src/xxh3.rt without its contracts.
-use crate::std;
 use hashers_proved::hash_xxh3;
 
 use crate::hash_c::spooky::{Words, two_words};
 use hash_xxh3::{Xxh3Hasher, Xxh3Place, xxh3_64, xxh3_128};
-use std::hash::Hasher;
 
 // What hashers.h reserves for a place.
 const _: () = prove!(size_of::<Xxh3Place>() == 360);
@@ -58,10 +56,7 @@ pub fn hashers_xxh3_begin(seed: u64) -> Xxh3Place {
 /// ```
 #[inline]
 pub fn hashers_xxh3_write(place: &mut Xxh3Place, bytes: &[u8]) {
-    if let Some(mut hasher) = Xxh3Hasher::at(place) {
-        hasher.write(bytes);
-        *place = hasher.place();
-    }
+    place.write(bytes);
 }
 
 /// XXH3 of 64 bits of the text so far, behind which more may be written; 0 of a place at which no hasher stands.
@@ -75,10 +70,7 @@ pub fn hashers_xxh3_write(place: &mut Xxh3Place, bytes: &[u8]) {
 /// ```
 #[inline]
 pub fn hashers_xxh3_finish(place: &Xxh3Place) -> u64 {
-    match Xxh3Hasher::at(place) {
-        Some(hasher) => hasher.finish(),
-        None => 0,
-    }
+    place.hash().unwrap_or(0)
 }
 
 /// The same of 128 bits: the low word and the high one, or 0 and 0.
@@ -92,8 +84,5 @@ pub fn hashers_xxh3_finish(place: &Xxh3Place) -> u64 {
 /// ```
 #[inline]
 pub fn hashers_xxh128_finish(place: &Xxh3Place) -> Words {
-    match Xxh3Hasher::at(place) {
-        Some(hasher) => two_words(hasher.finish128()),
-        None => two_words((0, 0)),
-    }
+    two_words(place.hash128().unwrap_or((0, 0)))
 }

@@ -4,6 +4,7 @@
 use crate::hash_words;
 
 use crate::hash_xxh3::long::{Lanes, START, STRIPE, stripe_in, stripes_in};
+use crate::hash_xxh3::secret::{default_secret, put_secret};
 use hash_words::put;
 
 // Keeps the last stripe that has a byte behind it, and what is behind it, of a stripe and the bytes behind that.
@@ -88,6 +89,28 @@ fn advance_through(
     keep(buffer, &stripe, rest)
 }
 
+// Keeps the bytes, behind which no stripe more has a byte behind it.
+/// The caller has to see to it that:
+///
+/// ```text
+/// one: 65 ≤ kept
+/// room: kept + length bytes.now ≤ 128
+/// ```
+///
+/// Proved:
+///
+/// ```text
+/// position: (seed len : ℕ) (lanes : Lanes)
+///     → Long seed lanes len (take result buffer.new) ≡ advanced seed lanes len (take kept buffer.old ++ bytes.now)
+/// some: 65 ≤ result
+/// few: result ≤ 128
+/// ```
+#[inline(always)]
+fn keep_all(buffer: &mut [u8; 256], kept: usize, bytes: &[u8]) -> usize {
+    put(buffer, kept, bytes);
+    kept + bytes.len()
+}
+
 /// Goes on over more bytes, from one whole stripe and a part of the next. As many are kept then as the result says.
 ///
 /// The caller has to see to it that:
@@ -117,10 +140,47 @@ pub(crate) fn advance(
     bytes: &[u8],
 ) -> usize {
     if bytes.len() <= 128 - kept {
-        put(buffer, kept, bytes);
-        kept + bytes.len()
+        keep_all(buffer, kept, bytes)
     } else {
         advance_through(secret, lanes, buffer, kept, bytes)
+    }
+}
+
+/// The same under the secret of a seed, which is made where a stripe more is whole.
+///
+/// The caller has to see to it that:
+///
+/// ```text
+/// block: lanes.old.stripe < 16
+/// one: 65 ≤ kept
+/// room: kept ≤ 128
+/// ```
+///
+/// Proved:
+///
+/// ```text
+/// position: (len : ℕ) → Long seed lanes.new len (take result buffer.new)
+///     ≡ advanced seed lanes.old len (take kept buffer.old ++ bytes.now)
+/// some: 65 ≤ result
+/// few: result ≤ 128
+/// in_block: lanes.new.stripe < 16
+/// ```
+#[inline(always)]
+pub(crate) fn advance_under(
+    seed: u64,
+    lanes: &mut Lanes,
+    buffer: &mut [u8; 256],
+    kept: usize,
+    bytes: &[u8],
+) -> usize {
+    if bytes.len() <= 128 - kept {
+        keep_all(buffer, kept, bytes)
+    } else if seed == 0 {
+        advance_through(default_secret(), lanes, buffer, kept, bytes)
+    } else {
+        let mut secret = [0; 192];
+        put_secret(&mut secret, seed);
+        advance_through(&secret, lanes, buffer, kept, bytes)
     }
 }
 

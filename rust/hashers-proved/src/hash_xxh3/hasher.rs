@@ -5,45 +5,10 @@ use crate::{hash_laws, std};
 
 use crate::hash_xxh3::long::lanes_at;
 use crate::hash_xxh3::parts::Xxh3Parts;
+use crate::hash_xxh3::place::Xxh3Place;
 use crate::hash_xxh3::whole::xxh3_64;
 use hash_laws::traits::{Piecewise, Streamed, run_streamed};
 use std::hash::Hasher;
-
-/// What an [`Xxh3Hasher`] keeps, as whole numbers alone: for a caller that must keep it itself, as a program in C.
-#[repr(C)]
-#[derive(Clone, Copy)]
-pub struct Xxh3Place {
-    /// The seed.
-    pub seed: u64,
-    /// Of a text of more than 240 bytes the eight words, and the number of the next stripe in its block of sixteen.
-    pub words: [u64; 8],
-    pub stripe: u64,
-    /// Of such a text the length modulo 2^64.
-    pub length: u64,
-    /// 0 of a text of at most 240 bytes.
-    pub long: u64,
-    /// How many bytes of the buffer are kept.
-    pub kept: u64,
-    /// A text of at most 240 bytes, or the last stripe that has a byte behind it, and what is behind it.
-    pub buffer: [u8; 256],
-}
-
-impl Xxh3Place {
-    // Whether a hasher may keep so much.
-    /// Proved:
-    ///
-    /// ```text
-    /// IsTrue result ↔ Fits self.now
-    /// ```
-    #[inline]
-    fn fits(&self) -> bool {
-        if self.long == 0 {
-            self.kept < 241
-        } else {
-            self.kept >= 65 && self.kept <= 128 && self.stripe < 16
-        }
-    }
-}
 
 /// XXH3 of a text that comes piece by piece, under a seed. How the bytes were cut into pieces doesn't show.
 pub struct Xxh3Hasher {

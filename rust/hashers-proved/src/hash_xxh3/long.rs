@@ -4,7 +4,7 @@
 use crate::hash_words;
 
 use crate::hash_xxh3::middle::length_word;
-use crate::hash_xxh3::secret::{default_secret, secret_of};
+use crate::hash_xxh3::secret::{default_secret, put_secret};
 use crate::hash_xxh3::words::{avalanche, folded_product, word_at};
 use hash_words::xorshift;
 
@@ -262,7 +262,7 @@ pub(crate) fn last_words(secret: &[u8; 192], words: &[u64; 8], text: &[u8]) -> [
     accumulate(words, text.last_chunk::<64>().unwrap(), secret, 121)
 }
 
-/// The words that a text of more than 240 bytes ends in, under a secret.
+/// The words that a text of more than 240 bytes ends in, under a secret. It is a function by itself, so that the words stay in vectors.
 ///
 /// The caller has to see to it that:
 ///
@@ -275,7 +275,7 @@ pub(crate) fn last_words(secret: &[u8; 192], words: &[u64; 8], text: &[u8]) -> [
 /// ```text
 /// result ≡ end_words secret.now text.now
 /// ```
-#[inline(always)]
+#[inline(never)]
 pub(crate) fn end_words(secret: &[u8; 192], text: &[u8]) -> [u64; 8] {
     let lanes = stripes_in(secret, START, &text[..(text.len() - 1) / STRIPE * STRIPE]);
     last_words(secret, &lanes.words, text)
@@ -291,6 +291,24 @@ pub(crate) fn end_words(secret: &[u8; 192], text: &[u8]) -> [u64; 8] {
 #[inline(always)]
 pub(crate) fn end_long(secret: &[u8; 192], words: &[u64; 8], len: u64) -> u64 {
     merge(words, secret, 11, length_word(len))
+}
+
+/// The hash of so many bytes by the words after the stripes that have a byte behind them, and what is kept of the text.
+///
+/// The caller has to see to it that:
+///
+/// ```text
+/// 64 ≤ length kept.now
+/// ```
+///
+/// Proved:
+///
+/// ```text
+/// result ≡ end_long secret.now (last_words secret.now words.now kept.now) len
+/// ```
+#[inline(always)]
+pub(crate) fn end_kept(secret: &[u8; 192], words: &[u64; 8], kept: &[u8], len: u64) -> u64 {
+    end_long(secret, &last_words(secret, words, kept), len)
 }
 
 // XXH3 of more than 240 bytes under a secret.
@@ -324,7 +342,9 @@ fn long_under(secret: &[u8; 192], text: &[u8]) -> u64 {
 /// ```
 #[inline(never)]
 fn seeded(seed: u64, text: &[u8]) -> u64 {
-    long_under(&secret_of(seed), text)
+    let mut secret = [0; 192];
+    put_secret(&mut secret, seed);
+    long_under(&secret, text)
 }
 
 /// XXH3 of more than 240 bytes.

@@ -81,6 +81,62 @@ fn add_ends(seed: u64, text: &[u8], sum: u64, i: usize) -> u64 {
     add_piece(seed, text, front, text.len() - 16 * i - 16, 32 * i + 16)
 }
 
+// XXH3 of 17 to 128 bytes.
+/// The caller has to see to it that:
+///
+/// ```text
+/// some: 17 ≤ length text.now
+/// few: length text.now < 129
+/// ```
+///
+/// Proved:
+///
+/// ```text
+/// result ≡ of_128 seed text.now
+/// ```
+#[inline(always)]
+fn whole_128(seed: u64, text: &[u8]) -> u64 {
+    let one = add_ends(seed, text, length_word(text.len() as u64), 0);
+    let two = add_ends(seed, text, one, 1);
+    let three = add_ends(seed, text, two, 2);
+    avalanche(add_ends(seed, text, three, 3))
+}
+
+// The same under a seed that the compiler does not know, and under none.
+/// The caller has to see to it that:
+///
+/// ```text
+/// some: 17 ≤ length text.now
+/// few: length text.now < 129
+/// ```
+///
+/// Proved:
+///
+/// ```text
+/// result ≡ of_128 seed text.now
+/// ```
+#[inline(never)]
+fn seeded_128(seed: u64, text: &[u8]) -> u64 {
+    whole_128(seed, text)
+}
+
+/// The caller has to see to it that:
+///
+/// ```text
+/// some: 17 ≤ length text.now
+/// few: length text.now < 129
+/// ```
+///
+/// Proved:
+///
+/// ```text
+/// result ≡ of_128 0 text.now
+/// ```
+#[inline(never)]
+fn unseeded_128(text: &[u8]) -> u64 {
+    whole_128(0, text)
+}
+
 /// XXH3 of 17 to 128 bytes.
 ///
 /// The caller has to see to it that:
@@ -95,12 +151,13 @@ fn add_ends(seed: u64, text: &[u8], sum: u64, i: usize) -> u64 {
 /// ```text
 /// result ≡ of_128 seed text.now
 /// ```
-#[inline(never)]
+#[inline(always)]
 pub(crate) fn of_128(seed: u64, text: &[u8]) -> u64 {
-    let one = add_ends(seed, text, length_word(text.len() as u64), 0);
-    let two = add_ends(seed, text, one, 1);
-    let three = add_ends(seed, text, two, 2);
-    avalanche(add_ends(seed, text, three, 3))
+    if seed == 0 {
+        unseeded_128(text)
+    } else {
+        seeded_128(seed, text)
+    }
 }
 
 // Piece i, where the text has so many.
@@ -152,6 +209,61 @@ fn other_pieces(seed: u64, text: &[u8], start: u64) -> u64 {
     sum
 }
 
+// XXH3 of 129 to 240 bytes.
+/// The caller has to see to it that:
+///
+/// ```text
+/// some: 129 ≤ length text.now
+/// few: length text.now < 241
+/// ```
+///
+/// Proved:
+///
+/// ```text
+/// result ≡ of_240 seed text.now
+/// ```
+#[inline(always)]
+fn whole_240(seed: u64, text: &[u8]) -> u64 {
+    let last = mix_piece(seed, text, text.len() - 16, 119);
+    let first = avalanche(first_pieces(seed, text));
+    avalanche(first.wrapping_add(other_pieces(seed, text, last)))
+}
+
+// The same under a seed that the compiler does not know, and under none.
+/// The caller has to see to it that:
+///
+/// ```text
+/// some: 129 ≤ length text.now
+/// few: length text.now < 241
+/// ```
+///
+/// Proved:
+///
+/// ```text
+/// result ≡ of_240 seed text.now
+/// ```
+#[inline(never)]
+fn seeded_240(seed: u64, text: &[u8]) -> u64 {
+    whole_240(seed, text)
+}
+
+/// The caller has to see to it that:
+///
+/// ```text
+/// some: 129 ≤ length text.now
+/// few: length text.now < 241
+/// ```
+///
+/// Proved:
+///
+/// ```text
+/// result ≡ of_240 0 text.now
+/// ```
+#[inline(never)]
+fn unseeded_240(text: &[u8]) -> u64 {
+    whole_240(0, text)
+}
+
 /// XXH3 of 129 to 240 bytes.
 ///
 /// The caller has to see to it that:
@@ -166,9 +278,11 @@ fn other_pieces(seed: u64, text: &[u8], start: u64) -> u64 {
 /// ```text
 /// result ≡ of_240 seed text.now
 /// ```
-#[inline(never)]
+#[inline(always)]
 pub(crate) fn of_240(seed: u64, text: &[u8]) -> u64 {
-    let last = mix_piece(seed, text, text.len() - 16, 119);
-    let first = avalanche(first_pieces(seed, text));
-    avalanche(first.wrapping_add(other_pieces(seed, text, last)))
+    if seed == 0 {
+        unseeded_240(text)
+    } else {
+        seeded_240(seed, text)
+    }
 }

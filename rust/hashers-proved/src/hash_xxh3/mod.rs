@@ -9,6 +9,7 @@ pub mod laws;
 mod long;
 mod middle;
 mod parts;
+mod place;
 mod secret;
 mod short;
 pub mod unmix;
@@ -17,7 +18,8 @@ mod wide;
 mod words;
 
 pub use build::BuildXxh3;
-pub use hasher::{Xxh3Hasher, Xxh3Place, xxh3_64_of_pieces, xxh3_128_of_pieces};
+pub use hasher::{Xxh3Hasher, xxh3_64_of_pieces, xxh3_128_of_pieces};
 pub use laws::{apart_xxh3, apart_xxh128};
+pub use place::Xxh3Place;
 pub use whole::xxh3_64;
 pub use wide::xxh3_128;

@@ -4,10 +4,10 @@
 use crate::{hash_laws, hash_words};
 
 use crate::hash_xxh3::advance::{advance, begin};
-use crate::hash_xxh3::long::{Lanes, START, end_long, last_words};
+use crate::hash_xxh3::long::{Lanes, START, end_kept};
 use crate::hash_xxh3::secret::secret_of;
 use crate::hash_xxh3::whole::of_kept;
-use crate::hash_xxh3::wide::{wide_end_long, wide_kept};
+use crate::hash_xxh3::wide::{wide_end_kept, wide_kept};
 use hash_laws::traits::bytes_are_a_text;
 use hash_words::put;
 
@@ -159,8 +159,7 @@ impl Xxh3Parts {
     pub(crate) fn finish(&self) -> u64 {
         let text = &self.buffer[..self.kept];
         if self.long {
-            let words = last_words(&self.secret, &self.lanes.words, text);
-            end_long(&self.secret, &words, self.length)
+            end_kept(&self.secret, &self.lanes.words, text, self.length)
         } else {
             of_kept(self.seed, text)
         }
@@ -183,8 +182,7 @@ impl Xxh3Parts {
     pub(crate) fn finish128(&self) -> (u64, u64) {
         let text = &self.buffer[..self.kept];
         if self.long {
-            let words = last_words(&self.secret, &self.lanes.words, text);
-            wide_end_long(&self.secret, &words, self.length)
+            wide_end_kept(&self.secret, &self.lanes.words, text, self.length)
         } else {
             wide_kept(self.seed, text)
         }

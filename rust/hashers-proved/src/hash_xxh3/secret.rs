@@ -4,10 +4,7 @@
 use crate::hash_words;
 
 use crate::hash_xxh3::words::{half_at, word_at};
-use hash_words::put;
-
-/// The bytes of the secret.
-pub(crate) const LEN: usize = 192;
+use hash_words::put_array;
 
 static SECRET: [u8; 192] = [
     0xb8, 0xfe, 0x6c, 0x39, 0x23, 0xa4, 0x4b, 0xbe, 0x7c, 0x01, 0x81, 0x2c, 0xf7, 0x21, 0xad, 0x1c,
@@ -72,7 +69,24 @@ pub(crate) fn secret_half(at: usize) -> u32 {
     half_at(default_secret(), at)
 }
 
-/// The secret of a seed: the seed is added to each word of even number, and taken from each of odd number.
+/// Puts the secret of a seed there: the seed is added to each word of even number, and taken from each of odd number.
+///
+/// Proved:
+///
+/// ```text
+/// secret.new ≡ secret_of seed
+/// ```
+#[inline(always)]
+pub(crate) fn put_secret(secret: &mut [u8; 192], seed: u64) {
+    for i in 0..12 {
+        let even = secret_word(16 * i).wrapping_add(seed).to_le_bytes();
+        let odd = secret_word(16 * i + 8).wrapping_sub(seed).to_le_bytes();
+        put_array(secret, 16 * i, even);
+        put_array(secret, 16 * i + 8, odd);
+    }
+}
+
+/// The secret of a seed.
 ///
 /// Proved:
 ///
@@ -81,12 +95,7 @@ pub(crate) fn secret_half(at: usize) -> u32 {
 /// ```
 #[inline]
 pub(crate) fn secret_of(seed: u64) -> [u8; 192] {
-    let mut secret = [0; LEN];
-    for i in 0..12 {
-        let even = secret_word(16 * i).wrapping_add(seed).to_le_bytes();
-        let odd = secret_word(16 * i + 8).wrapping_sub(seed).to_le_bytes();
-        put(&mut secret, 16 * i, &even);
-        put(&mut secret, 16 * i + 8, &odd);
-    }
+    let mut secret = [0; 192];
+    put_secret(&mut secret, seed);
     secret
 }

@@ -3,9 +3,9 @@
 // What follows is the proved text of crates/hash_xxh3/src/wide.rt without its contracts.
 use crate::hash_words;
 
-use crate::hash_xxh3::long::{end_words, merge};
+use crate::hash_xxh3::long::{end_words, last_words, merge};
 use crate::hash_xxh3::middle::{add_piece, length_word};
-use crate::hash_xxh3::secret::{default_secret, secret_half, secret_of};
+use crate::hash_xxh3::secret::{default_secret, put_secret, secret_half};
 use crate::hash_xxh3::short::{eight_seed, few_number, of_few, secret_pair};
 use crate::hash_xxh3::words::{avalanche, avalanche_64, half_at, whole_product, word_at};
 use hash_words::{rotl32, xorshift};
@@ -447,6 +447,29 @@ pub(crate) fn wide_end_long(secret: &[u8; 192], words: &[u64; 8], len: u64) -> (
     )
 }
 
+/// The same by the words after the stripes that have a byte behind them, and what is kept of the text.
+///
+/// The caller has to see to it that:
+///
+/// ```text
+/// 64 ≤ length kept.now
+/// ```
+///
+/// Proved:
+///
+/// ```text
+/// result ≡ wide_end_long secret.now (last_words secret.now words.now kept.now) len
+/// ```
+#[inline(always)]
+pub(crate) fn wide_end_kept(
+    secret: &[u8; 192],
+    words: &[u64; 8],
+    kept: &[u8],
+    len: u64,
+) -> (u64, u64) {
+    wide_end_long(secret, &last_words(secret, words, kept), len)
+}
+
 /// The caller has to see to it that:
 ///
 /// ```text
@@ -476,7 +499,9 @@ fn wide_under(secret: &[u8; 192], text: &[u8]) -> (u64, u64) {
 /// ```
 #[inline(never)]
 fn seeded(seed: u64, text: &[u8]) -> (u64, u64) {
-    wide_under(&secret_of(seed), text)
+    let mut secret = [0; 192];
+    put_secret(&mut secret, seed);
+    wide_under(&secret, text)
 }
 
 /// The caller has to see to it that:

@@ -8,7 +8,7 @@ use Rattle.hash_words.specs.Put.{put_at}
 use Rattle.hash_xxh3.specs.Long.{secret_piece, secret_of}
 use Rattle.hash_words.proofs.PutLemmas.{take-put_two, length-put_at}
 use Rattle.hash_xxh3.proofs.RangeLemmas.{flat_map-range_more}
-use Rattle.hash_xxh3.proofs.secret.secret_of.Goals as goal
+use Rattle.hash_xxh3.proofs.secret.put_secret.Goals as goal
 
 pub loop-i-preserved : goal.loop-i-preserved
 loop-i-preserved c =
@@ -20,7 +20,7 @@ loop-i-preserved c =
     let odd-is : odd ≡ to_le_bytes w64 (sub 64 (c.secret_word-in-loop-i.result) c.args.seed) = c.to_le_bytes-odd.ensures in
     let even-long : length even ≡ 8 = ap length even-is in
     let odd-long : length odd ≡ 8 = ap length odd-is in
-    let written = c.put-in-loop-i.ensures ∙ ap (put_at (16 * i + 8) odd) c.put.ensures in
+    let written = c.put_array-in-loop-i.ensures ∙ ap (put_at (16 * i + 8) odd) c.put_array.ensures in
     let whole = c.loop-i.invariant.0 in
     let first : length (put_at (16 * i) even s) ≡ length s = length-put_at (16 * i) even s (omega arith) in
     let second : length (put_at (16 * i + 8) odd (put_at (16 * i) even s)) ≡ length (put_at (16 * i) even s) =

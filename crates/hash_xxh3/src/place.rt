@@ -1,0 +1,139 @@
+//! What a hasher of XXH3 keeps, in numbers that a caller keeps itself.
+ghost use Rattle.std.specs.Prelude.{◌≡◌, ◌↔◌, IsTrue, Some, None, ℕ, ◌≢◌, List, ◌++◌};
+ghost use Rattle.hash_xxh3.specs.Place.{Fits, StandsBehind, place_of};
+ghost use Rattle.hash_xxh3.specs.Streaming.{after, hash};
+ghost use Rattle.hash_xxh3.specs.Wide.{wide_hash};
+
+use crate::advance::advance_under;
+use crate::hasher::Xxh3Hasher;
+use crate::long::{end_kept, lanes_at};
+use crate::secret::{default_secret, secret_of};
+use crate::whole::of_kept;
+use crate::wide::{wide_end_kept, wide_kept};
+use hash_words::put;
+use std::hash::Hasher;
+
+/// What an [`Xxh3Hasher`] keeps, as whole numbers alone: for a caller that must keep it itself, as a program in C.
+#[repr(C)]
+#[derive(Clone, Copy)]
+pub struct Xxh3Place {
+    /// The seed.
+    pub seed: u64,
+    /// Of a text of more than 240 bytes the eight words, and the number of the next stripe in its block of sixteen.
+    pub words: [u64; 8],
+    pub stripe: u64,
+    /// Of such a text the length modulo 2^64.
+    pub length: u64,
+    /// 0 of a text of at most 240 bytes.
+    pub long: u64,
+    /// How many bytes of the buffer are kept.
+    pub kept: u64,
+    /// A text of at most 240 bytes, or the last stripe that has a byte behind it, and what is behind it.
+    pub buffer: [u8; 256],
+}
+
+impl Xxh3Place {
+    /// Whether a hasher may keep so much.
+    #[inline(always)]
+    pub(crate) fn fits(&self) -> bool
+        ensures { IsTrue result ↔ Fits self.now }
+    {
+        if self.long == 0 {
+            self.kept < 241
+        } else {
+            self.kept >= 65 && self.kept <= 128 && self.stripe < 16
+        }
+    }
+
+    // Goes on over the bytes, from a text of at most 240.
+    #[inline(always)]
+    fn write_short(&mut self, bytes: &[u8])
+        requires fits { Fits self.old }
+        requires short { self.old.long ≡ 0 }
+        ensures fits { Fits self.new }
+        ensures there { place_of self.new ≡ after (place_of self.old) bytes.now }
+    {
+        let kept = self.kept as usize;
+        if bytes.len() < 241 - kept {
+            put(&mut self.buffer, kept, bytes);
+            self.kept += bytes.len() as u64;
+        } else if let Some(mut hasher) = Xxh3Hasher::at(self) {
+            hasher.write(bytes);
+            *self = hasher.place();
+        }
+    }
+
+    // The same from a longer text.
+    #[inline(always)]
+    fn write_long(&mut self, bytes: &[u8])
+        requires fits { Fits self.old }
+        requires long { self.old.long ≢ 0 }
+        ensures fits { Fits self.new }
+        ensures there { place_of self.new ≡ after (place_of self.old) bytes.now }
+    {
+        let kept = self.kept as usize;
+        let mut lanes = lanes_at(self.words, self.stripe);
+        self.kept = advance_under(self.seed, &mut lanes, &mut self.buffer, kept, bytes) as u64;
+        self.words = lanes.words;
+        self.stripe = lanes.stripe as u64;
+        self.length = self.length.wrapping_add(bytes.len() as u64);
+    }
+
+    /// Goes on over the bytes, as the hasher that keeps these numbers does. Of numbers that none keeps it changes nothing.
+    #[inline(always)]
+    pub fn write(&mut self, bytes: &[u8])
+        ensures there { Fits self.old → Fits self.new × (place_of self.new ≡ after (place_of self.old) bytes.now) }
+        ensures none { ¬ Fits self.old → self.new ≡ self.old }
+        ensures stands { (seed : ℕ) (text : List ℕ) → StandsBehind self.old seed text
+            → StandsBehind self.new seed (text ++ bytes.now) }
+    {
+        if !self.fits() {
+            return;
+        }
+        if self.long == 0 {
+            self.write_short(bytes);
+        } else {
+            self.write_long(bytes);
+        }
+    }
+
+    /// The hash of the bytes so far; `None` of numbers that no hasher keeps.
+    #[inline(always)]
+    #[tactic(auto, using(crate::proofs::SecretLemmas::secret_of_none))]
+    pub fn hash(&self) -> Option<u64>
+        ensures some { Fits self.now → result ≡ Some (hash (place_of self.now)) }
+        ensures none { ¬ Fits self.now → result ≡ None }
+    {
+        if !self.fits() {
+            return None;
+        }
+        let kept = &self.buffer[..self.kept as usize];
+        if self.long == 0 {
+            return Some(of_kept(self.seed, kept));
+        }
+        if self.seed == 0 {
+            return Some(end_kept(default_secret(), &self.words, kept, self.length));
+        }
+        Some(end_kept(&secret_of(self.seed), &self.words, kept, self.length))
+    }
+
+    /// The same of 128 bits: the low word and the high one.
+    #[inline(always)]
+    #[tactic(auto, using(crate::proofs::SecretLemmas::secret_of_none))]
+    pub fn hash128(&self) -> Option<(u64, u64)>
+        ensures some { Fits self.now → result ≡ Some (wide_hash (place_of self.now)) }
+        ensures none { ¬ Fits self.now → result ≡ None }
+    {
+        if !self.fits() {
+            return None;
+        }
+        let kept = &self.buffer[..self.kept as usize];
+        if self.long == 0 {
+            return Some(wide_kept(self.seed, kept));
+        }
+        if self.seed == 0 {
+            return Some(wide_end_kept(default_secret(), &self.words, kept, self.length));
+        }
+        Some(wide_end_kept(&secret_of(self.seed), &self.words, kept, self.length))
+    }
+}
