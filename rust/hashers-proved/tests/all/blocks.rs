@@ -4,7 +4,7 @@ use hashers_proved::blocks::{
     murmur3_128, murmur3_32, state_behind, word_for_murmur3_32, word_for_xxh32, word_for_xxh64, xxh32, xxh64, xxh64_block_out, BlockRule,
     Murmur3Rule32,
 };
-use hashers_proved::xxh3::{xxh3_64, Xxh3Hasher, Xxh3Place};
+use hashers_proved::xxh3::{xxh3_128, xxh3_64, Xxh3Hasher, Xxh3Place};
 use std::hash::Hasher;
 
 /// Bytes that look random.
@@ -114,16 +114,18 @@ fn xxh3_goes_on_from_a_place() {
     let mut bytes = Bytes(21);
     for len in 0..1500 {
         let (text, more) = (bytes.text(len), bytes.text(len * 7 % 300));
-        let seed = bytes.next() << 33 ^ bytes.next();
+        let seed = (bytes.next() << 33 ^ bytes.next()) * u64::from(len % 3 > 0) + u64::from(len % 3 > 1);
         let mut hasher = Xxh3Hasher::new(seed);
         hasher.write(&text);
-        let place = hasher.place();
+        let mut place = hasher.place();
         assert_eq!((place.seed, place.long != 0), (seed, len > 240));
         let mut other = Xxh3Hasher::at(&place).unwrap();
         assert_eq!(other.finish128(), hasher.finish128());
         hasher.write(&more);
         other.write(&more);
         assert_eq!((other.finish(), other.finish128()), (hasher.finish(), hasher.finish128()));
+        place.write(&more);
+        assert_eq!((place.hash(), place.hash128()), (Some(hasher.finish()), Some(hasher.finish128())));
         assert_eq!(other.finish(), xxh3_64(seed, &[text, more].concat()));
     }
     let (mut short, mut long) = (Xxh3Hasher::new(0).place(), Xxh3Hasher::new(0));
@@ -131,6 +133,26 @@ fn xxh3_goes_on_from_a_place() {
     assert!(Xxh3Hasher::at(&short).is_none());
     long.write(&[0; 300]);
     for (kept, stripe) in [(64, 0), (129, 0), (100, 16)] {
-        assert!(Xxh3Hasher::at(&Xxh3Place { kept, stripe, ..long.place() }).is_none());
+        let mut place = Xxh3Place { kept, stripe, ..long.place() };
+        assert!(Xxh3Hasher::at(&place).is_none() && place.hash().is_none() && place.hash128().is_none());
+        place.write(&[1; 300]);
+        assert_eq!((place.kept, place.stripe, place.length), (kept, stripe, 300));
+    }
+}
+
+/// A place goes on over pieces as one text.
+#[test]
+fn xxh3_in_pieces_at_a_place() {
+    let mut bytes = Bytes(22);
+    for seed in [0, 1, 2, u64::MAX] {
+        for piece in [1, 7, 31, 63, 64, 65, 100, 129, 257, 1000] {
+            let text = bytes.text(3000);
+            let mut place = Xxh3Hasher::new(seed).place();
+            for part in text.chunks(piece) {
+                place.write(part);
+            }
+            assert_eq!(place.hash(), Some(xxh3_64(seed, &text)));
+            assert_eq!(place.hash128(), Some(xxh3_128(seed, &text)));
+        }
     }
 }
