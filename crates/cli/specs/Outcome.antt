@@ -1,5 +1,5 @@
 -- How a program ends: its status, and what it says of a failure.
-use Rattle.std.specs.Prelude.{ℕ, Bool, true, false, List, [], Some, Result, Ok, Err, codes}
+use Rattle.std.specs.Prelude.{ℕ, ◌≡◌, Bool, true, false, List, [], Some, Result, Ok, Err, codes}
 use Rattle.std.specs.IoError.{error_kind}
 use Rattle.std.specs.declared.io.ErrorKind.{ErrorKind}
 use Rattle.std.specs.declared.io.ErrorKind.TheVariants.{BrokenPipe}
@@ -59,3 +59,9 @@ abbrev pub of_run : {Misuse Own : Type 0} → Result Bool (Failure Own) → Outc
 of_run (Ok true) = Done
 of_run (Ok false) = Reported
 of_run (Err fault) = Failed fault
+
+-- where all was done or told, nothing is held back
+abbrev pub IsFlushed : {Misuse Own : Type 0} → (buffer : List ℕ) → Outcome Misuse Own → Type 0
+IsFlushed buffer Done = buffer ≡ []
+IsFlushed buffer Reported = buffer ≡ []
+IsFlushed buffer other = Unit {0}
