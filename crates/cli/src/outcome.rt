@@ -49,7 +49,7 @@ pub enum Outcome<Misuse, Own> {
     Done,
     /// The call was wrong. Nothing was read or written.
     Usage(Wrong<Misuse>),
-    /// Something failed, and that was told when it did.
+    /// Something failed, which the run was to tell when it did.
     Reported,
     /// The output is not whole: what was written is a beginning of it.
     Failed(Failure<Own>),
@@ -98,7 +98,7 @@ pub fn behind_of<Misuse, Own>(outcome: &Outcome<Misuse, Own>) -> &'static str
     }
 }
 
-/// What failed, in words; nothing where all went well, or where it is told already.
+/// What failed, in words; nothing where all went well, or where the run was to tell it.
 pub fn failure_of<Misuse: Words, Own: Words>(outcome: &Outcome<Misuse, Own>) -> &'static str
     ensures { result.now ≡ failure_of Misuse.words Own.words outcome.now }
 {

@@ -1,5 +1,5 @@
 -- What comes of cutting a file, by what comes of cutting what it holds.
-use Rattle.std.proofs.Common.{◌≡◌, ◌<◌, ◌+◌, ℕ, ◌++◌, ◌∷◌, [], List, length, length-append, take, drop, Bool, true, false, Option, Some, None, Result, Ok, Err, IsTrue, inr, append-nil, arith, ap, sym, ◌∙◌, refl}
+use Rattle.std.proofs.Common.{◌≡◌, ◌<◌, ◌+◌, ℕ, ◌++◌, ◌∷◌, [], List, length, length-append, take, drop, Bool, true, false, Option, Some, None, Result, Ok, Err, OnOk, IsTrue, inr, append-nil, arith, ap, sym, ◌∙◌, refl}
 use Rattle.std.specs.List.{concat}
 use Rattle.hash_chunks.specs.Cut.{EndsFile, IsTorn, Opening}
 use Rattle.hash_cuts.specs.Cuts.{Cutting, chunks, chunks_upto, first_cut}
@@ -72,3 +72,9 @@ module _ {S E : Type 0} (taken : Taken S) (cuts : Cutting) (opens : Opening) (ol
       → (result : Result Bool E) → EndsFile taken cuts opens old new result → P
   after_any P holds (Ok whole) (given, is_cut, takes) = holds given None (takes old [] start)
   after_any P holds (Err error) torn = holds torn.given torn.refused (torn.takes old [] start)
+
+  -- and after a file that ended, of which it refused none
+  pub after_all : (P : Type 0) → ((given : List (List ℕ)) → taken old new given None → P)
+      → (result : Result Bool E) → EndsFile taken cuts opens old new result → OnOk result P
+  after_all P holds (Ok whole) (given, is_cut, takes) = holds given (takes old [] start)
+  after_all P holds (Err error) torn = tt

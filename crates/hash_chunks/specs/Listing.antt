@@ -1,7 +1,7 @@
 -- The lines of chunks.
 use Rattle.std.specs.Prelude.{ℕ, ◌≡◌, ◌+◌, ◌++◌, Bool, true, List, [], ◌∷◌, Option, Some, None, Result, Ok, Err, length, map, decimal}
 use Rattle.std.specs.List.{concat}
-use Rattle.std.specs.Io.Buffered.{writer_contents}
+use Rattle.std.specs.Io.Buffered.{writer_buffer, writer_contents}
 use Rattle.std.specs.Io.KnownBytes.{Appends}
 use Rattle.cli.specs.Files.{Opens}
 use Rattle.streams.specs.Streams.{AppendsPart}
@@ -39,11 +39,12 @@ AreListed kind name from to written written' given None =
     (to ≡ from + length (concat given)) × Appends written written' (chunk_lines kind name from given)
 AreListed kind name from to written written' given (Some chunk) = AppendsPart written written' (chunk_lines kind name from (given ++ chunk ∷ []))
 
--- the same of a sink that writes lines, since a start
+-- the same of a sink that writes lines, since a start; where it refused none, nothing of them is held back
 abbrev pub ListsChunks : {W : Type 0} (contents : W → Option (List ℕ)) → Taken (Lines W)
 ListsChunks contents start now given refused = (now.kind ≡ start.kind)
     × (now.name.now ≡ start.name.now) × AreListed start.kind start.name.now start.place now.place
     (writer_contents contents start.w) (writer_contents contents now.w) given refused
+    × (refused ≡ None → writer_buffer start.w ≡ [] → writer_buffer now.w ≡ [])
 
 -- how the lines of a file end: those of its chunks were written, or of the chunks of what was read of it a beginning
 abbrev pub EndsLines : LineKind → Cutting → Opens → (name : List ℕ) (written written' : Option (List ℕ)) → Result Bool (Failure TooMany) → Type 0

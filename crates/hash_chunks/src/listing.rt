@@ -1,6 +1,6 @@
 //! A line for each chunk.
-ghost use Rattle.std.specs.Prelude.{◌≡◌, map, IfOk};
-ghost use Rattle.std.specs.Io.Buffered.{writer_contents};
+ghost use Rattle.std.specs.Prelude.{◌≡◌, [], map, IfOk, OnOk};
+ghost use Rattle.std.specs.Io.Buffered.{writer_buffer, writer_contents};
 ghost use Rattle.hash_chunks.specs.Listing.{EndsLines, EndsListing, ListsChunks, chunk_line};
 
 use crate::cut::cut_file;
@@ -94,14 +94,15 @@ fn list_file<'a, R: Read + Drop, F: Folder<R>, W: Write + Drop>(
     ensures kind { lines.new.kind ≡ lines.old.kind }
     ensures listed { EndsLines lines.old.kind cuts.now (F.opens folder.now) name.now
         (writer_contents W.contents lines.old.w) (writer_contents W.contents lines.new.w) result }
+    ensures flushed { OnOk result (writer_buffer lines.old.w ≡ [] → writer_buffer lines.new.w ≡ []) }
 {
     lines.name = name;
     lines.place = 0;
     cut_file(buffer, cuts, folder, name, lines)
 }
 
-/// Writes a line for each chunk of each file, in their order, and returns whether each was read to its end. A file that fails is told,
-/// and its chunks before that have lines.
+/// Writes a line for each chunk of each file, in their order, and returns whether each was read to its end. Of a file that fails the
+/// chunks before that have lines. None is held back.
 pub fn list_files<'a, R: Read + Drop, F: Folder<R>, W: Write + Drop>(
     alloc: Global,
     cuts: &Cuts,
@@ -110,8 +111,9 @@ pub fn list_files<'a, R: Read + Drop, F: Folder<R>, W: Write + Drop>(
     names: &[&'a [u8]],
     lines: &mut Lines<'a, W>,
 ) -> Result<bool, Failure>
-    ensures { EndsListing kind.entry cuts.now (F.opens folder.now) (map (λ name. name.now) names.now)
+    ensures listed { EndsListing kind.entry cuts.now (F.opens folder.now) (map (λ name. name.now) names.now)
         (writer_contents W.contents lines.old.w) (writer_contents W.contents lines.new.w) result }
+    ensures flushed { OnOk result (writer_buffer lines.old.w ≡ [] → writer_buffer lines.new.w ≡ []) }
 {
     let mut buffer = Vec::new(alloc);
     lines.kind = kind;

@@ -1,12 +1,13 @@
 //! What the program `cuts` is asked for, and how it ends.
-ghost use Rattle.std.specs.Prelude.{◌≡◌, ◌⊎◌, true, map, IfOk};
+ghost use Rattle.std.specs.Prelude.{◌≡◌, ◌⊎◌, true, [], map, IfOk, OnOk};
 ghost use Rattle.std.specs.Option.{option_map};
-ghost use Rattle.std.specs.Io.Buffered.{writer_contents};
+ghost use Rattle.std.specs.Io.Buffered.{writer_buffer, writer_contents};
 ghost use Rattle.std.specs.Io.KnownBytes.{Keeps};
 ghost use Rattle.streams.specs.declared.failure.Failure.TheVariants.{NoMemory};
 ghost use Rattle.cli.specs.declared.outcome.Outcome.TheVariants.{Failed};
 ghost use Rattle.cli.specs.Call.{call_of, choices, sayings, texts};
 ghost use Rattle.cli.specs.Frame.{text_of};
+ghost use Rattle.cli.specs.Outcome.{IsFlushed};
 ghost use Rattle.hash_chunks.specs.Program.{are_rising, cutting_of, options, task_of, words_of, EndsCall, EndsRun, EndsTask};
 
 use crate::failure::{Failure, TooMany};
@@ -165,8 +166,9 @@ fn run<'a, R: Read + Drop, F: Folder<R>, W: Write + Drop>(
     files: &[&'a [u8]],
     lines: &mut Lines<'a, W>,
 ) -> Result<bool, Failure>
-    ensures { EndsRun task.stats task.kind cuts.now (F.opens folder.now) (map (λ file. file.now) files.now)
+    ensures ended { EndsRun task.stats task.kind cuts.now (F.opens folder.now) (map (λ file. file.now) files.now)
         (writer_contents W.contents lines.old.w) (writer_contents W.contents lines.new.w) result }
+    ensures flushed { OnOk result (writer_buffer lines.old.w ≡ [] → writer_buffer lines.new.w ≡ []) }
 {
     if task.stats {
         tell_tally(alloc, cuts, folder, task.kind, files, &mut lines.w)
@@ -185,9 +187,10 @@ fn ended<'a, R: Read + Drop, F: Folder<R>, W: Write + Drop>(
     lines: &mut Lines<'a, W>,
 ) -> Outcome
     requires { are_rising task.sizes ≡ true }
-    ensures { EndsTask (F.opens folder.now) (option_map (λ name. name.now) key_file.entry)
+    ensures ended { EndsTask (F.opens folder.now) (option_map (λ name. name.now) key_file.entry)
         (map (λ file. file.now) files.now)
         (writer_contents W.contents lines.old.w) (writer_contents W.contents lines.new.w) (Ok task) result }
+    ensures flushed { writer_buffer lines.old.w ≡ [] → IsFlushed (writer_buffer lines.new.w) result }
 {
     match keys_for(folder, key_file, true) {
         Some(keys) => {
@@ -198,7 +201,8 @@ fn ended<'a, R: Read + Drop, F: Folder<R>, W: Write + Drop>(
     }
 }
 
-/// Does what the call asks for. If the call is wrong, or there is no memory for its files, nothing is read or written.
+/// Does what the call asks for. If the call is wrong, or there is no memory for its files, nothing is written. Where all was done or told,
+/// nothing that it wrote is held back.
 pub fn outcome_of<'a, R: Read + Drop, F: Folder<R>, W: Write + Drop>(
     alloc: Global,
     folder: &F,
@@ -206,11 +210,12 @@ pub fn outcome_of<'a, R: Read + Drop, F: Folder<R>, W: Write + Drop>(
     about: About<'_>,
     lines: &mut Lines<'a, W>,
 ) -> Outcome
-    ensures { EndsCall (F.opens folder.now) (sayings call.now.said.items)
+    ensures ended { EndsCall (F.opens folder.now) (sayings call.now.said.items)
         (text_of about.entry.help.now about.entry.version.now about.entry.list.now)
         (writer_contents W.contents lines.old.w) (writer_contents W.contents lines.new.w) result
         ⊎ ((result ≡ Failed NoMemory) × Keeps (writer_contents W.contents lines.old.w)
         (writer_contents W.contents lines.new.w)) }
+    ensures flushed { writer_buffer lines.old.w ≡ [] → IsFlushed (writer_buffer lines.new.w) result }
 {
     match request_of(call) {
         Request::Misgiven(misgiven) => Outcome::Usage(Wrong::Option(misgiven)),

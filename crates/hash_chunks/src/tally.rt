@@ -2,7 +2,7 @@
 ghost use Rattle.std.specs.Prelude.{◌≡◌, ◌==◌, ◌||◌, ◌+◌, ◌-◌, ◌++◌, if◌then◌else◌, not, ℕ, List, [], map, length, IfOk, OnOk};
 ghost use Rattle.std.specs.BTreeSet.{contains};
 ghost use Rattle.std.specs.Ordering.{nat_cmp};
-ghost use Rattle.std.specs.Io.Buffered.{writer_contents};
+ghost use Rattle.std.specs.Io.Buffered.{writer_buffer, writer_contents};
 ghost use Rattle.hash_chunks.specs.Counted.{CountsChunks, CountsFile, CountsFiles, IsCounted};
 ghost use Rattle.hash_chunks.specs.Tally.{EndsTally, number_line, numbers_of};
 ghost use Rattle.hash_sums.specs.Sums.{sum_by};
@@ -151,7 +151,7 @@ fn tally_lines(alloc: Global, tally: &Tally) -> Result<Vec<u8>, AllocError>
 }
 
 /// Counts the chunks of the files of these names, writes how many there are, their bytes, and the bytes of those whose hash came before,
-/// and returns whether each file was read to its end. A file that fails is told, and its chunks before that count.
+/// and returns whether each file was read to its end. Of a file that fails the chunks before that count. Nothing is held back.
 pub fn tell_tally<R: Read + Drop, F: Folder<R>, W: Write + Drop>(
     alloc: Global,
     cuts: &Cuts,
@@ -160,8 +160,9 @@ pub fn tell_tally<R: Read + Drop, F: Folder<R>, W: Write + Drop>(
     names: &[&[u8]],
     w: &mut BufWriter<W>,
 ) -> Result<bool, Failure>
-    ensures { EndsTally (sum_by kind.entry) cuts.now (F.opens folder.now) (map (λ name. name.now) names.now)
+    ensures told { EndsTally (sum_by kind.entry) cuts.now (F.opens folder.now) (map (λ name. name.now) names.now)
         (writer_contents W.contents w.old) (writer_contents W.contents w.new) result }
+    ensures flushed { OnOk result (writer_buffer w.new ≡ []) }
 {
     let mut tally = Tally::new(alloc, kind);
     let all = count_files(alloc, cuts, folder, names, &mut tally)?;

@@ -1,10 +1,10 @@
 //! Whether files have the hashes that lines tell.
-ghost use Rattle.std.specs.Prelude.{◌≡◌, true, false, map, IfOk, MatchOption};
+ghost use Rattle.std.specs.Prelude.{◌≡◌, true, false, [], map, IfOk, MatchOption, OnOk};
 ghost use Rattle.std.specs.IoError.{error_kind};
 ghost use Rattle.hash_sums.specs.Checking.{behind_name, counted, is_itself, is_not_found, is_skipped, lacks_keys, passes, said, takes_sfv, verdict_on, verdict_words, IsLineCheck, IsVerdict, IsVerdictBy, TellsAny, TellsNone};
 ghost use Rattle.hash_sums.specs.Lists.{bare, EndsLine, EndsList, EndsListOf, EndsLists};
 ghost use Rattle.hash_sums.specs.Sums.{sum_by};
-ghost use Rattle.std.specs.Io.Buffered.{writer_contents};
+ghost use Rattle.std.specs.Io.Buffered.{writer_buffer, writer_contents};
 
 use crate::failure::Failure;
 use crate::reports::Reports;
@@ -42,7 +42,7 @@ pub struct Checking<'k> {
     pub strict: bool,
     /// Whether files that are not there are left out.
     pub ignore_missing: bool,
-    /// Whether each improper line is told.
+    /// Whether each improper line is to be told.
     pub warn: bool,
 }
 
@@ -167,7 +167,7 @@ fn verdict_of(ignore_missing: bool, told: u128, came: &Result<u128, Unsummed>) -
     }
 }
 
-/// Whether the file of an entry has the hash that it tells. A file that fails is told.
+/// Whether the file of an entry has the hash that it tells.
 fn check_file<R: Read + Drop, F: Folder<R>>(
     folder: &F,
     entry: &HashLine<'_>,
@@ -342,8 +342,9 @@ fn tell_line<'k, R: Read + Drop, F: Folder<R>, W: Write + Drop>(
     line: &[u8],
     w: &mut BufWriter<W>,
 ) -> Result<LineCheck<'k>, Failure>
-    ensures { EndsLine kinds.entry.now checking.entry (F.opens folder.now) list.now line.now
+    ensures told { EndsLine kinds.entry.now checking.entry (F.opens folder.now) list.now line.now
         (writer_contents W.contents w.old) (writer_contents W.contents w.new) result }
+    ensures flushed { OnOk result (writer_buffer w.new ≡ []) }
 {
     let text = without_end(line);
     let came = match check_line(alloc, folder, kinds, checking, list, text) {
@@ -370,8 +371,8 @@ const UNCOUNTED: Counts = Counts {
     unkeyed: 0,
 };
 
-/// Checks the lines of the list of that name, which are read here, and writes what comes of each. Returns the counts; nothing if
-/// the list fails, which is told.
+/// Checks the lines of the list of that name, which are read here, and writes what comes of each. Returns the counts; nothing if the
+/// list fails. Nothing that it wrote is held back.
 fn check_lines<B: BufRead, R: Read + Drop, F: Folder<R> + Reports, W: Write + Drop>(
     alloc: Global,
     folder: &F,
@@ -381,8 +382,9 @@ fn check_lines<B: BufRead, R: Read + Drop, F: Folder<R> + Reports, W: Write + Dr
     lines: &mut B,
     w: &mut BufWriter<W>,
 ) -> Result<Option<Counts>, Failure>
-    ensures { EndsList kinds.now checking.entry (F.opens folder.now) list.now (B.remaining lines.old)
+    ensures told { EndsList kinds.now checking.entry (F.opens folder.now) list.now (B.remaining lines.old)
         (writer_contents W.contents w.old) (writer_contents W.contents w.new) result }
+    ensures flushed { OnOk result (writer_buffer w.old ≡ [] → writer_buffer w.new ≡ []) }
 {
     let mut counts = UNCOUNTED;
     let mut line = Vec::new(alloc);
@@ -415,7 +417,7 @@ fn warn<F: Reports>(reports: &F, warn: bool, list: &[u8], number: u64, came: &Li
     }
 }
 
-/// Checks the lines of the list of that name, and tells whether they pass. A list that fails is told, and does not.
+/// Checks the lines of the list of that name, and tells whether they pass. Those of a list that fails do not.
 fn check_list<R: Read + Drop, F: Folder<R> + Reports, W: Write + Drop>(
     alloc: Global,
     folder: &F,
@@ -424,8 +426,9 @@ fn check_list<R: Read + Drop, F: Folder<R> + Reports, W: Write + Drop>(
     list: &[u8],
     w: &mut BufWriter<W>,
 ) -> Result<bool, Failure>
-    ensures { EndsListOf kinds.now checking.entry (F.opens folder.now) list.now
+    ensures told { EndsListOf kinds.now checking.entry (F.opens folder.now) list.now
         (writer_contents W.contents w.old) (writer_contents W.contents w.new) result }
+    ensures flushed { OnOk result (writer_buffer w.old ≡ [] → writer_buffer w.new ≡ []) }
 {
     let mut lines = match folder.open(list) {
         Ok(file) => match BufReader::with_capacity(alloc, BUFFER, file) {
@@ -447,7 +450,7 @@ fn check_list<R: Read + Drop, F: Folder<R> + Reports, W: Write + Drop>(
     }
 }
 
-/// Checks the lines of the lists of these names, in their order, and tells whether all pass.
+/// Checks the lines of the lists of these names, in their order, and tells whether all pass. Nothing that it wrote is held back.
 pub fn check_lists<R: Read + Drop, F: Folder<R> + Reports, W: Write + Drop>(
     alloc: Global,
     folder: &F,
@@ -456,8 +459,9 @@ pub fn check_lists<R: Read + Drop, F: Folder<R> + Reports, W: Write + Drop>(
     lists: &[&[u8]],
     w: &mut BufWriter<W>,
 ) -> Result<bool, Failure>
-    ensures { EndsLists kinds.now checking.entry (F.opens folder.now) (map (λ list. list.now) lists.now)
+    ensures told { EndsLists kinds.now checking.entry (F.opens folder.now) (map (λ list. list.now) lists.now)
         (writer_contents W.contents w.old) (writer_contents W.contents w.new) result }
+    ensures flushed { OnOk result (writer_buffer w.old ≡ [] → writer_buffer w.new ≡ []) }
 {
     let mut all = true;
     for list in lists {

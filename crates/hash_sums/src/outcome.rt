@@ -1,12 +1,13 @@
 //! What the program `hashsum` is asked for, and how it ends.
-ghost use Rattle.std.specs.Prelude.{◌≡◌, ◌⊎◌, map, IfOk, IsSome, MatchOption};
+ghost use Rattle.std.specs.Prelude.{◌≡◌, ◌⊎◌, [], map, IfOk, IsSome, MatchOption, OnOk};
 ghost use Rattle.std.specs.Option.{option_map};
-ghost use Rattle.std.specs.Io.Buffered.{writer_contents};
+ghost use Rattle.std.specs.Io.Buffered.{writer_buffer, writer_contents};
 ghost use Rattle.std.specs.Io.KnownBytes.{Keeps};
 ghost use Rattle.streams.specs.declared.failure.Failure.TheVariants.{NoMemory};
 ghost use Rattle.cli.specs.declared.outcome.Outcome.TheVariants.{Failed};
 ghost use Rattle.cli.specs.Call.{call_of, choices, sayings, texts};
 ghost use Rattle.cli.specs.Frame.{text_of};
+ghost use Rattle.cli.specs.Outcome.{IsFlushed};
 ghost use Rattle.hash_sums.specs.Keys.{AreKeysFor};
 ghost use Rattle.hash_sums.specs.Lists.{EndsLists};
 ghost use Rattle.hash_sums.specs.Program.{asked, asks_for, asks_for_keyed, asks_for_siphash24, checking_of, gives_checking, gives_writing, key_file, misuse_of, options, summing_of, taken, task_of, words_of, work_of, EndsCall, EndsTask, EndsWithKeys};
@@ -264,9 +265,10 @@ fn check_taken<R: Read + Drop, F: Folder<R> + Reports, W: Write + Drop>(
     lists: &[&[u8]],
     w: &mut BufWriter<W>,
 ) -> Result<bool, Failure>
-    ensures { EndsLists (taken kinds.now checking.entry) checking.entry (F.opens folder.now)
+    ensures told { EndsLists (taken kinds.now checking.entry) checking.entry (F.opens folder.now)
         (map (λ list. list.now) lists.now)
         (writer_contents W.contents w.old) (writer_contents W.contents w.new) result }
+    ensures flushed { OnOk result (writer_buffer w.old ≡ [] → writer_buffer w.new ≡ []) }
 {
     if checking.only {
         return check_lists(alloc, folder, &[checking.kind], checking, lists, w);
@@ -283,8 +285,9 @@ fn ended<R: Read + Drop, F: Folder<R> + Reports, W: Write + Drop>(
     task: Result<Task, Wrong>,
     w: &mut BufWriter<W>,
 ) -> Outcome
-    ensures { EndsTask kinds.now (F.opens folder.now) (map (λ file. file.now) files.now)
+    ensures ended { EndsTask kinds.now (F.opens folder.now) (map (λ file. file.now) files.now)
         (writer_contents W.contents w.old) (writer_contents W.contents w.new) task result }
+    ensures flushed { writer_buffer w.old ≡ [] → IsFlushed (writer_buffer w.new) result }
 {
     match task {
         Ok(Task::Sum(summing)) => of_run(sum_files(alloc, folder, summing, files, w)),
@@ -294,7 +297,7 @@ fn ended<R: Read + Drop, F: Folder<R> + Reports, W: Write + Drop>(
 }
 
 /// Does what the call asks for, by hashes of these kinds. If the call is wrong, or there is no memory for its files, nothing is
-/// read or written.
+/// written. Where all was done or told, nothing that it wrote is held back.
 pub fn outcome_of<R: Read + Drop, F: Folder<R> + Reports, W: Write + Drop>(
     alloc: Global,
     folder: &F,
@@ -303,10 +306,11 @@ pub fn outcome_of<R: Read + Drop, F: Folder<R> + Reports, W: Write + Drop>(
     about: About<'_>,
     w: &mut BufWriter<W>,
 ) -> Outcome
-    ensures { EndsCall kinds.now (F.opens folder.now) (sayings call.now.said.items)
+    ensures ended { EndsCall kinds.now (F.opens folder.now) (sayings call.now.said.items)
         (text_of about.entry.help.now about.entry.version.now about.entry.list.now)
         (writer_contents W.contents w.old) (writer_contents W.contents w.new) result
         ⊎ ((result ≡ Failed NoMemory) × Keeps (writer_contents W.contents w.old) (writer_contents W.contents w.new)) }
+    ensures flushed { writer_buffer w.old ≡ [] → IsFlushed (writer_buffer w.new) result }
 {
     match request_of(call) {
         Request::Misgiven(misgiven) => Outcome::Usage(Wrong::Option(misgiven)),
@@ -328,8 +332,7 @@ fn key_file<'a>(call: &Call<'a>) -> Option<&'a [u8]>
     }
 }
 
-/// The keys in the key file of a call, if it gives one: any two for siphash24, and else two of poly61. `None` if it has none such,
-/// which is told.
+/// The keys in the key file of a call, if it gives one: any two for siphash24, and else two of poly61. `None` if it has none such.
 fn keys_of_call<R: Read + Drop, F: Folder<R>>(
     folder: &F,
     call: &Call<'_>,
@@ -341,8 +344,8 @@ fn keys_of_call<R: Read + Drop, F: Folder<R>>(
     keys_for(folder, key_file(call), asks_for(call, b"siphash24"))
 }
 
-/// Does what the call asks for, by the hashes that can be told, and by those that take keys under the keys of its key file. If the
-/// call gives one, it is read first; if it has no such keys, that is told, and nothing else is read or written.
+/// Does what the call asks for, by the hashes that can be told, and by those that take keys under the keys of its key file. If that
+/// has no such keys, nothing is written. Where all was done or told, nothing that it wrote is held back.
 pub fn outcome_with_keys<R: Read + Drop, F: Folder<R> + Reports, W: Write + Drop>(
     alloc: Global,
     folder: &F,
@@ -350,9 +353,10 @@ pub fn outcome_with_keys<R: Read + Drop, F: Folder<R> + Reports, W: Write + Drop
     about: About<'_>,
     w: &mut BufWriter<W>,
 ) -> Outcome
-    ensures { EndsWithKeys (F.opens folder.now) (sayings call.now.said.items)
+    ensures ended { EndsWithKeys (F.opens folder.now) (sayings call.now.said.items)
         (text_of about.entry.help.now about.entry.version.now about.entry.list.now)
         (writer_contents W.contents w.old) (writer_contents W.contents w.new) result }
+    ensures flushed { writer_buffer w.old ≡ [] → IsFlushed (writer_buffer w.new) result }
 {
     match keys_of_call(folder, call) {
         None => Outcome::Reported,

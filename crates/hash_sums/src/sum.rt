@@ -1,6 +1,6 @@
 //! The line of each file.
-ghost use Rattle.std.specs.Prelude.{◌≡◌, map, IfOk, OnOk, OnErr};
-ghost use Rattle.std.specs.Io.Buffered.{writer_contents};
+ghost use Rattle.std.specs.Prelude.{◌≡◌, [], map, IfOk, OnOk, OnErr};
+ghost use Rattle.std.specs.Io.Buffered.{writer_buffer, writer_contents};
 ghost use Rattle.std.specs.Io.KnownBytes.{Appends};
 ghost use Rattle.streams.specs.Streams.{AppendsPart};
 ghost use Rattle.hash_sums.specs.Files.{SumsFile};
@@ -91,7 +91,7 @@ fn sum_line(
     Ok(line)
 }
 
-/// Writes the line of a file.
+/// Writes the line of a file, which is not held back.
 fn tell_sum<W: Write + Drop>(
     alloc: Global,
     summing: Summing,
@@ -103,6 +103,7 @@ fn tell_sum<W: Write + Drop>(
         (sum_line summing name.now number)) }
     ensures err { OnErr result (AppendsPart (writer_contents W.contents w.old) (writer_contents W.contents w.new)
         (sum_line summing name.now number)) }
+    ensures flushed { OnOk result (writer_buffer w.new ≡ []) }
 {
     match sum_line(alloc, summing, name, number) {
         Ok(line) => write_out(w, &line),
@@ -118,8 +119,9 @@ fn sum_file<R: Read + Drop, F: Folder<R>, W: Write + Drop>(
     name: &[u8],
     w: &mut BufWriter<W>,
 ) -> Result<bool, Failure>
-    ensures { EndsSum summing (F.opens folder.now) name.now
+    ensures told { EndsSum summing (F.opens folder.now) name.now
         (writer_contents W.contents w.old) (writer_contents W.contents w.new) result }
+    ensures flushed { OnOk result (writer_buffer w.old ≡ [] → writer_buffer w.new ≡ []) }
 {
     match number_of(folder, summing.kind, name) {
         Ok(number) => match tell_sum(alloc, summing, name, number, w) {
@@ -133,7 +135,7 @@ fn sum_file<R: Read + Drop, F: Folder<R>, W: Write + Drop>(
     }
 }
 
-/// Writes the line of each file, in their order, and tells whether each was read. A file that fails is told, and has no line.
+/// Writes the line of each file, in their order, and tells whether each was read. A file that fails has no line. None is held back.
 pub fn sum_files<R: Read + Drop, F: Folder<R>, W: Write + Drop>(
     alloc: Global,
     folder: &F,
@@ -141,8 +143,9 @@ pub fn sum_files<R: Read + Drop, F: Folder<R>, W: Write + Drop>(
     names: &[&[u8]],
     w: &mut BufWriter<W>,
 ) -> Result<bool, Failure>
-    ensures { EndsSums summing (F.opens folder.now) (map (λ name. name.now) names.now)
+    ensures told { EndsSums summing (F.opens folder.now) (map (λ name. name.now) names.now)
         (writer_contents W.contents w.old) (writer_contents W.contents w.new) result }
+    ensures flushed { OnOk result (writer_buffer w.old ≡ [] → writer_buffer w.new ≡ []) }
 {
     let mut whole = true;
     for name in names {

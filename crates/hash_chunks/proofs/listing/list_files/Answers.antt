@@ -11,8 +11,8 @@ use Rattle.hash_chunks.proofs.listing.list_files.Goals as goal
 abbrev nothing : Bor (List ℕ)
 nothing = record { ref_ptr = (0, 0); now = [] }
 
-pub returns-in-Err : goal.returns-in-Err
-returns-in-Err g c =
+pub returns-in-Err-clause-listed : goal.returns-in-Err-clause-listed
+returns-in-Err-clause-listed g c =
     let i = c.loop-name.name-index in
     let names = c.args.names.now in
     let opens = g.F.Folder.opens c.args.folder.now in
@@ -53,4 +53,5 @@ loop-name-preserved g c =
         told_next name_of (IsFileCut c.args.cuts.now opens) (lines_of c.args.kind) is_whole (take i (map (λ n. n.now) names)) _ told _ _ _
             c.loop-name.all _ file so_far ends.1 ends.2 (sym (names_more (λ (n : Bor (List ℕ)). n.now) names i nothing c.loop-name-test.true)) refl,
       );
+      flushed = λ empty. c.in-Ok.ensures.flushed (c.loop-name.invariant.flushed empty);
     }

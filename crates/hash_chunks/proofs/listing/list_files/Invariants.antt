@@ -1,11 +1,11 @@
-use Rattle.std.proofs.Common.{◌≡◌, List, take, map}
-use Rattle.std.specs.Io.Buffered.{writer_contents}
+use Rattle.std.proofs.Common.{◌≡◌, List, [], take, map}
+use Rattle.std.specs.Io.Buffered.{writer_buffer, writer_contents}
 use Rattle.hash_chunks.specs.Cut.{Cut, IsFileCut, is_whole, name_of}
 use Rattle.hash_chunks.specs.Listing.{lines_of}
 use Rattle.hash_sums.specs.Told.{AreTold}
 use Rattle.hash_chunks.proofs.listing.list_files.Given as goal
 
--- the lines of the files so far are written
+-- the lines of the files so far are written, and not held back
 abbrev pub invariant-loop-name : goal.invariant-loop-name
 invariant-loop-name g l =
     let contents = writer_contents g.W.Write.contents in
@@ -13,4 +13,5 @@ invariant-loop-name g l =
       kind : l.lines.kind ≡ l.kind;
       told : (told : List Cut) × AreTold name_of (IsFileCut l.cuts (g.F.Folder.opens l.folder)) (lines_of l.kind) is_whole
           (take l.name-index (map (λ n. n.now) l.names)) told (contents l.fn.lines.w) (contents l.lines.w) l.all;
+      flushed : writer_buffer l.fn.lines.w ≡ [] → writer_buffer l.lines.w ≡ [];
     }

@@ -8,8 +8,8 @@ use Rattle.hash_lines.specs.declared.line.LineKind.{LineKind}
 use Rattle.hash_sums.specs.Sums.{sum_by}
 use Rattle.hash_chunks.proofs.tally.tell_tally.Goals as goal
 
-pub returns-in-Ok : goal.returns-in-Ok
-returns-in-Ok g c =
+pub returns-in-Ok-clause-told : goal.returns-in-Ok-clause-told
+returns-in-Ok-clause-told g c =
     let contents = writer_contents g.W.Write.contents in
     let (files, are_cut, counted) = c.in_ok-all.ensures in
     let tally = c.count_files.new.tally in
@@ -19,5 +19,5 @@ returns-in-Ok g c =
       c.in_ok-all.all,
       are_cut,
       subst (AppendsPart (contents c.args.w.now) (contents c.write_out.new.w)) (c.deref.ensures.value ∙ c.in-Ok.ensures
-          ∙ lines_counted (sum_by c.args.kind) (all_given files) tally counts) c.in-Err-write_out.ensures.0,
+          ∙ lines_counted (sum_by c.args.kind) (all_given files) tally counts) c.in-Err-write_out.ensures.told.0,
     )

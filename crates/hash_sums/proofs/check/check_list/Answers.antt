@@ -5,8 +5,8 @@ use Rattle.streams.specs.declared.failure.Failure.TheVariants.{NoMemory}
 use Rattle.hash_sums.proofs.ListLemmas.{list_torn_off}
 use Rattle.hash_sums.proofs.check.check_list.Goals as goal
 
-pub returns-in-Err-with_capacity : goal.returns-in-Err-with_capacity
-returns-in-Err-with_capacity g c =
+pub returns-in-Err-with_capacity-clause-told : goal.returns-in-Err-with_capacity-clause-told
+returns-in-Err-with_capacity-clause-told g c =
     let held = g.R.Read.remaining c.in-Ok.file in
     inl (
       held,
@@ -15,5 +15,5 @@ returns-in-Err-with_capacity g c =
           (writer_contents g.W.Write.contents c.args.w.now) NoMemory,
     )
 
-pub returns-in-Err : goal.returns-in-Err
-returns-in-Err g c = inr (c.in-Err.error, c.in-Err.ensures, Keeps-refl (writer_contents g.W.Write.contents c.args.w.now), refl)
+pub returns-in-Err-clause-told : goal.returns-in-Err-clause-told
+returns-in-Err-clause-told g c = inr (c.in-Err.error, c.in-Err.ensures, Keeps-refl (writer_contents g.W.Write.contents c.args.w.now), refl)

@@ -7,10 +7,10 @@ use Rattle.hash_sums.proofs.ToldLemmas.{names_more, names_rest}
 use Rattle.hash_sums.proofs.check.check_lists.Goals as goal
 
 pub loop-list-init : goal.loop-list-init
-loop-list-init g c = no_list
+loop-list-init g c = record { told = no_list; flushed = λ empty. empty }
 
-pub returns-in-Err : goal.returns-in-Err
-returns-in-Err g c =
+pub returns-in-Err-clause-told : goal.returns-in-Err-clause-told
+returns-in-Err-clause-told g c =
     let d : Bor (List ℕ) = record { ref_ptr = (0, 0); now = [] } in
     let i = c.loop-list.list-index in
     let lists = c.args.lists.now in (
@@ -20,8 +20,8 @@ returns-in-Err g c =
       names_rest (λ (n : Bor (List ℕ)). n.now) lists i d c.loop-list-test.true,
       writer_contents g.W.Write.contents c.loop-list.w,
       c.loop-list.all,
-      c.loop-list.invariant,
-      c.in-Err.ensures,
+      c.loop-list.invariant.told,
+      c.in-Err.ensures.told,
     )
 
 pub loop-list-preserved : goal.loop-list-preserved
@@ -29,8 +29,11 @@ loop-list-preserved g c =
     let d : Bor (List ℕ) = record { ref_ptr = (0, 0); now = [] } in
     let i = c.loop-list.list-index in
     let lists = c.args.lists.now in
-    subst (λ ls. AreListed c.args.kinds.now c.args.checking (g.F.Folder.opens c.args.folder.now) ls
-    (writer_contents g.W.Write.contents c.args.w.now) (writer_contents g.W.Write.contents c.check_list.new.w)
-    (c.loop-list.all && c.in-Ok.passed))
-    (sym (names_more (λ (n : Bor (List ℕ)). n.now) lists i d c.loop-list-test.true))
-    (next_list (get_or lists i d).now c.in-Ok.passed c.loop-list.invariant c.in-Ok.ensures)
+    record {
+      told = subst (λ ls. AreListed c.args.kinds.now c.args.checking (g.F.Folder.opens c.args.folder.now) ls
+          (writer_contents g.W.Write.contents c.args.w.now) (writer_contents g.W.Write.contents c.check_list.new.w)
+          (c.loop-list.all && c.in-Ok.passed))
+          (sym (names_more (λ (n : Bor (List ℕ)). n.now) lists i d c.loop-list-test.true))
+          (next_list (get_or lists i d).now c.in-Ok.passed c.loop-list.invariant.told c.in-Ok.ensures.told);
+      flushed = λ empty. c.in-Ok.ensures.flushed (c.loop-list.invariant.flushed empty);
+    }

@@ -1,13 +1,15 @@
-use Rattle.std.proofs.Common.{ℕ, Option, List, take, map, is_some}
-use Rattle.std.specs.Io.Buffered.{writer_contents}
+use Rattle.std.proofs.Common.{◌≡◌, ℕ, Option, List, [], take, map, is_some}
+use Rattle.std.specs.Io.Buffered.{writer_buffer, writer_contents}
 use Rattle.hash_sums.specs.Summing.{IsSummed, line_told}
 use Rattle.hash_sums.specs.Told.{AreTold}
 use Rattle.hash_sums.proofs.sum.sum_files.Given as goal
 
--- the lines of the files so far are written
+-- the lines of the files so far are written, and not held back
 abbrev pub invariant-loop-name : goal.invariant-loop-name
-invariant-loop-name g l =
-    (told : List (List ℕ × Option ℕ))
-    × AreTold (λ file. file.0) (IsSummed l.summing (g.F.Folder.opens l.folder)) (line_told l.summing) (λ file. is_some file.1)
-    (take l.name-index (map (λ n. n.now) l.names)) told (writer_contents g.W.Write.contents l.fn.w)
-    (writer_contents g.W.Write.contents l.w) l.whole
+invariant-loop-name g l = record {
+  told : (told : List (List ℕ × Option ℕ))
+      × AreTold (λ file. file.0) (IsSummed l.summing (g.F.Folder.opens l.folder)) (line_told l.summing) (λ file. is_some file.1)
+      (take l.name-index (map (λ n. n.now) l.names)) told (writer_contents g.W.Write.contents l.fn.w)
+      (writer_contents g.W.Write.contents l.w) l.whole;
+  flushed : writer_buffer l.fn.w ≡ [] → writer_buffer l.w ≡ [];
+}

@@ -21,13 +21,13 @@ pub returns-in-Ok-clause-ok : goal.returns-in-Ok-clause-ok
 returns-in-Ok-clause-ok g c =
     let written = writer_contents g.W.Write.contents c.args.w.now in
     let written' = writer_contents g.W.Write.contents c.write_out.new.w in
-    puts_ok _ _ _ _ (subst (λ t. WritesOut t written written' c.write_out.result) (c.deref.ensures.value ∙ c.in-Ok.ensures) c.write_out.ensures)
+    puts_ok _ _ _ _ (subst (λ t. WritesOut t written written' c.write_out.result) (c.deref.ensures.value ∙ c.in-Ok.ensures) c.write_out.ensures.told)
 
 pub returns-in-Ok-clause-err : goal.returns-in-Ok-clause-err
 returns-in-Ok-clause-err g c =
     let written = writer_contents g.W.Write.contents c.args.w.now in
     let written' = writer_contents g.W.Write.contents c.write_out.new.w in
-    puts_err _ _ _ _ (subst (λ t. WritesOut t written written' c.write_out.result) (c.deref.ensures.value ∙ c.in-Ok.ensures) c.write_out.ensures)
+    puts_err _ _ _ _ (subst (λ t. WritesOut t written written' c.write_out.result) (c.deref.ensures.value ∙ c.in-Ok.ensures) c.write_out.ensures.told)
 
 pub returns-in-Err-clause-err : goal.returns-in-Err-clause-err
 returns-in-Err-clause-err g c = part_none (writer_contents g.W.Write.contents c.args.w.now) _
