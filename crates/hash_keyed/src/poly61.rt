@@ -1,13 +1,14 @@
 //! The hash of a text by its polynomial over the prime 2^61 - 1, at a key.
-ghost use Rattle.std.specs.Prelude.{◌↔◌, IsTrue, MatchOption, ◌≡◌, ◌+◌, ◌*◌, ◌%◌, ◌^◌, ◌<◌, ℕ, List, [], ◌∷◌, ◌++◌, slice_index, refl};
+ghost use Rattle.std.specs.Prelude.{◌↔◌, IsTrue, MatchOption, ◌≡◌, ◌+◌, ◌*◌, ◌%◌, ◌^◌, ◌<◌, ◌≤◌, ℕ, List, [], ◌∷◌, ◌++◌, slice_index, refl};
 ghost use Rattle.std.proofs.Common.{lit<};
+ghost use Rattle.std.specs.Hash.{le_bytes};
 ghost use Rattle.hashers.specs.Text.{IsText};
 ghost use Rattle.hash_keyed.specs.Poly61.{prime61, poly_step, poly_hash};
 ghost use Rattle.hash_keyed.specs.Poly61State.{Position, start_at, byte_in, after, poly_end, as_word, poly61, IsPosition, PolyStandsAt, place_of, poly61_from, default_key};
 ghost use Rattle.hash_keyed.specs.Poly61Laws.{IsPosition-start, IsPosition-after, after-nil, after-append, stands_at_key, stands_after, answer_where_stands, hash_from_key, poly61-is};
 
 use crate::modular::{PRIME, ended, ended_at_once, placed, reduced, remainder, step};
-use crate::words::{few, full_words, text_words};
+use crate::words::{few, full_words, joined, text_words};
 use hashers::laws::{Piecewise, Streamed};
 use std::hash::Hasher;
 use std::marker::Model;
@@ -136,6 +137,30 @@ impl Poly61Hasher {
             self.count = 0;
         }
     }
+
+    // A number of up to eight bytes in, the lowest first.
+    #[inline(always)]
+    fn number_in(&mut self, number: u64, count: u32)
+        requires short { count ≤ 8 }
+        requires within { number < 2 ^ (8 * count) }
+        ensures { self.new ≡ after self.old (le_bytes count number) }
+    {
+        let (first, rest) = joined(self.word, self.count, number);
+        let all = self.count + count;
+        if all < 7 {
+            self.word = first;
+            self.count = all;
+        } else if all < 14 {
+            self.state = step(self.key, self.state, first);
+            self.word = rest;
+            self.count = all - 7;
+        } else {
+            let state = step(self.key, self.state, first);
+            self.state = step(self.key, state, rest);
+            self.word = 0;
+            self.count = 0;
+        }
+    }
 }
 
 impl Default for Poly61Hasher {
@@ -190,6 +215,27 @@ impl Hasher for Poly61Hasher {
     #[inline(always)]
     fn write_u8(&mut self, byte: u8) {
         self.byte_in(byte);
+    }
+
+    #[inline(always)]
+    fn write_u32(&mut self, number: u32) {
+        self.number_in(u64::from(number), 4);
+    }
+
+    #[inline(always)]
+    fn write_u64(&mut self, number: u64) {
+        self.number_in(number, 8);
+    }
+
+    #[inline(always)]
+    fn write_u128(&mut self, number: u128) {
+        self.number_in((number % (1 << 64)) as u64, 8);
+        self.number_in((number >> 64) as u64, 8);
+    }
+
+    #[inline(always)]
+    fn write_usize(&mut self, number: usize) {
+        self.number_in(number as u64, 8);
     }
 }
 

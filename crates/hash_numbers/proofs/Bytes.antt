@@ -1,16 +1,17 @@
 -- Up to sixteen bytes and the two words of the number that they are.
-use Rattle.std.proofs.Common.{ℕ, zero, suc, ◌≡◌, ◌+◌, ◌-◌, ◌*◌, ◌/◌, ◌%◌, ◌^◌, ◌<◌, ◌≤◌, List, [], ◌∷◌, ◌++◌, length, take, drop, slice_index, ◌∙◌, arith, ap, inl, inr, lit<, mod-lt, w64}
-use Rattle.std.specs.Int.{bytes_low_first, byte_at, to_le_bytes}
-use Rattle.std.proofs.Math.Nat.{div-add-mod}
+use Rattle.std.proofs.Common.{ℕ, suc, ◌≡◌, ◌+◌, ◌-◌, ◌*◌, ◌/◌, ◌%◌, ◌^◌, ◌<◌, ◌≤◌, List, [], ◌∷◌, ◌++◌, length, take, drop, slice_index, ◌∙◌, arith, ap, inl, inr, lit<, mod-lt, w64, sym, subst, add_comm, length-drop}
+use Rattle.std.specs.Int.{to_le_bytes}
 use Rattle.std.proofs.Math.Pow.{pow_mono}
-use Rattle.std.proofs.lemmas.Nat.{mul-le, pow-add, pow_pos}
+use Rattle.std.proofs.lemmas.Nat.{mul-le, pow-add, pow_pos, shr_high}
+use Rattle.std.proofs.lemmas.List.{drop-drop, length-take-le, take-append-drop}
 use Rattle.std.proofs.lemmas.Bool.{cases_lt}
-use Rattle.std.proofs.lemmas.List.Elements.{All-append, All-cons, All-nil}
+use Rattle.std.proofs.lemmas.List.Elements.{All-append, All-drop, All-take}
 use Rattle.hashers.specs.Text.{IsText}
-use Rattle.hashers.proofs.TextLemmas.{IsByte}
+use Rattle.hashers.proofs.TextLemmas.{IsByte, IsText-to_le_bytes}
 use Rattle.hash_words.specs.Words.{le}
-use Rattle.hash_words.proofs.ByteLemmas.{le-append, le-begins, le-few}
+use Rattle.hash_words.proofs.ByteLemmas.{le-append, le-begins, le-few, le-power}
 use Rattle.hash_words.proofs.WordLemmas.{le-to_le_bytes-64}
+use Rattle.hash_keyed.proofs.NumberLemmas.{moved_parts}
 use Rattle.hash_numbers.specs.NumberState.{held_bytes}
 
 -- fewer than four bytes, with zeros behind them
@@ -37,13 +38,30 @@ by_fours (a ∷ b ∷ c ∷ d ∷ e ∷ f ∷ g ∷ h ∷ []) are some few =
     omega (arith, are 4 0 (lit< tt), are 5 0 (lit< tt), are 6 0 (lit< tt), are 7 0 (lit< tt))
 by_fours other are some few = absurd (omega arith)
 
-byte_in : (i n : ℕ) → byte_at i n < 256
-byte_in zero n = mod-lt n (lit< tt)
-byte_in (suc i) n = mod-lt (n / 256 ^ suc i) (lit< tt)
+-- without its first bytes
+le-drop : (j : ℕ) (t : List ℕ) → IsText t → j ≤ length t → le t / 2 ^ (8 * j) ≡ le (drop j t)
+le-drop j t are within =
+    let long : length (take j t) ≡ j = length-take-le j t within in
+    let parts : le t ≡ le (take j t) + le (drop j t) * 2 ^ (8 * j) =
+    ap le (sym (take-append-drop j t)) ∙ le-append (take j t) (drop j t) ∙ ap (λ k. le (take j t) + le (drop j t) * 2 ^ (8 * k)) long in
+    let below : le (take j t) < 2 ^ (8 * j) = subst (λ k. le (take j t) < 2 ^ (8 * k)) long (le-power (take j t) (All-take IsByte j t are)) in
+    ap (λ n. n / 2 ^ (8 * j)) (parts ∙ add_comm (le (take j t)) (le (drop j t) * 2 ^ (8 * j)))
+    ∙ shr_high (le (drop j t)) (8 * j) (le (take j t)) below
 
-pub IsText-bytes : (i k n : ℕ) → IsText (bytes_low_first i k n)
-IsText-bytes i zero n = All-nil IsByte
-IsText-bytes i (suc k) n = All-cons IsByte (byte_at i n) (bytes_low_first (suc i) k n) (byte_in i n) (IsText-bytes (suc i) k n)
+-- eight to sixteen bytes by the first eight and the last eight
+pub by_eights : (t : List ℕ) → IsText t → 8 ≤ length t → length t ≤ 16
+    → le (take 8 t) + le (drop (length t - 8) t) / 2 ^ (128 - 8 * length t) * 2 ^ 64 ≡ le t
+by_eights t are some few =
+    let back = drop (length t - 8) t in
+    let shift : 128 - 8 * length t ≡ 8 * (16 - length t) = omega (arith, few) in
+    let last : le back / 2 ^ (128 - 8 * length t) ≡ le (drop 8 t) =
+    ap (λ k. le back / 2 ^ k) shift
+    ∙ le-drop (16 - length t) back (All-drop IsByte (length t - 8) t are) (omega (arith, some, length-drop (length t - 8) t))
+    ∙ ap le (drop-drop (16 - length t) (length t - 8) t)
+    ∙ ap (λ k. le (drop k t)) (let e : length t - 8 + (16 - length t) ≡ 8 = omega (arith, some, few) in e) in
+    ap (λ n. le (take 8 t) + n * 2 ^ 64) last
+    ∙ ap (λ k. le (take 8 t) + le (drop 8 t) * 2 ^ (8 * k)) (sym (length-take-le 8 t some))
+    ∙ sym (le-append (take 8 t) (drop 8 t)) ∙ ap le (take-append-drop 8 t)
 
 pub le-two_words : (low high : ℕ) → low < 2 ^ 64 → high < 2 ^ 64 → le (to_le_bytes w64 low ++ to_le_bytes w64 high) ≡ low + high * 2 ^ 64
 le-two_words low high low_in high_in =
@@ -57,22 +75,15 @@ kept bytes are few =
     let within = le-few 16 bytes are few in
     let value = le-two_words low high (mod-lt (le bytes) (lit< tt)) (omega (arith, within)) in
     le-begins bytes (to_le_bytes w64 low ++ to_le_bytes w64 high) are
-    (All-append IsByte (to_le_bytes w64 low) (to_le_bytes w64 high) (IsText-bytes 0 8 low) (IsText-bytes 0 8 high)) few (omega (arith, value))
+    (All-append IsByte (to_le_bytes w64 low) (to_le_bytes w64 high) (IsText-to_le_bytes w64 low) (IsText-to_le_bytes w64 high)) few (omega (arith, value))
 
 -- a number moved by so many bytes, in words
-row : (n p r : ℕ) → 2 ^ 64 ≡ p * r → 0 < r → (n * p ≡ 2 ^ 64 * (n / r) + n % r * p) × (n % r * p + p ≤ 2 ^ 64)
-row n p r split some =
-    let parts = ap (λ z. z * p) (div-add-mod n r) in
-    let whole = ap (λ z. z * (n / r)) split in
-    let rest = mul-le (suc (n % r)) p r p (mod-lt n some) (omega arith) in
-    (omega (arith, parts, whole), omega (arith, split, rest))
-
 split_word : (s : ℕ) → s ≤ 8 → 2 ^ 64 ≡ 2 ^ (8 * s) * 2 ^ (64 - 8 * s)
 split_word s low = ap (λ k. 2 ^ k) (let e : 64 ≡ 8 * s + (64 - 8 * s) = omega (arith, low) in e) ∙ pow-add 2 (8 * s) (64 - 8 * s)
 
 pub past_word : (n s : ℕ) → s ≤ 8 → n / 2 ^ (64 - 8 * s) ≡ n * 2 ^ (8 * s) / 2 ^ 64
 past_word n s low =
-    let parts = row n (2 ^ (8 * s)) (2 ^ (64 - 8 * s)) (split_word s low) (pow_pos (64 - 8 * s)) in
+    let parts = moved_parts n (2 ^ 64) (2 ^ (8 * s)) (2 ^ (64 - 8 * s)) (split_word s low) (pow_pos (64 - 8 * s)) in
     omega (arith, parts.0, parts.1, pow_pos (8 * s))
 
 pub above_word : (n s : ℕ) → 8 ≤ s → n * 2 ^ (8 * s) ≡ 2 ^ 64 * (n * 2 ^ (8 * s - 64))
@@ -96,7 +107,7 @@ words_behind a b s few a_in within = (
   omega arith,
   elim (cases_lt s 9) [
     | inl low ↦
-        let parts = row b (2 ^ (8 * s)) (2 ^ (64 - 8 * s)) (split_word s (omega (arith, low))) (pow_pos (64 - 8 * s)) in
+        let parts = moved_parts b (2 ^ 64) (2 ^ (8 * s)) (2 ^ (64 - 8 * s)) (split_word s (omega (arith, low))) (pow_pos (64 - 8 * s)) in
         omega (arith, a_in, within, parts.0, parts.1)
     | inr high ↦ omega (arith, within, above_word b s (omega (arith, high)))
   ],

@@ -1,6 +1,5 @@
 -- A hasher after a write.
 use Rattle.std.proofs.Common.{ℕ, ◌≡◌, ◌+◌, ◌*◌, ◌/◌, ◌%◌, ◌^◌, ◌<◌, ◌≤◌, nat_le, List, [], ◌∷◌, length, take, w64, refl, sym, ap, ap₂, ◌∙◌, arith}
-use Rattle.std.specs.Hash.{le_bytes}
 use Rattle.std.specs.Int.{to_le_bytes}
 use Rattle.std.proofs.Math.Seq.{take-append-add}
 use Rattle.std.proofs.lemmas.List.{take-append-le}
@@ -9,11 +8,8 @@ use Rattle.hash_keyed.specs.Poly61State.{Position, after, byte_in}
 use Rattle.std.proofs.Math.Nat.{div-eq_of_lt, mod-eq_of_lt}
 use Rattle.std.proofs.lemmas.Nat.{pow-add}
 use Rattle.std.proofs.lemmas.Bool.{cond-true, cond-false, le-leb, lt-leb}
-use Rattle.hashers.specs.Text.{IsText}
 use Rattle.hashers.specs.Words.{le}
-use Rattle.hash_words.proofs.WordLemmas.{le-to_le_bytes-32, le-to_le_bytes-64}
 use Rattle.hash_numbers.specs.Numbers.{number_hash, pair_hash}
-use Rattle.hash_numbers.proofs.Bytes.{IsText-bytes}
 use Rattle.hash_numbers.specs.NumberState.{after_write, behind, held_bytes, with_text}
 use Rattle.hash_numbers.specs.declared.hasher.NumberHasher.{NumberHasher}
 
@@ -56,46 +52,6 @@ two_behind h low high count =
 pub le_one : (n : ℕ) → le (n ∷ []) ≡ n
 unfolding le
 le_one n = omega arith
-
-pub le_two : (n : ℕ) → n < 2 ^ 16 → le (le_bytes 2 n) ≡ n
-unfolding le le_bytes
-le_two n below = omega arith
-
-pub le_four : (n : ℕ) → n < 2 ^ 32 → le (le_bytes 4 n) ≡ n
-unfolding le_bytes
-le_four n below = le-to_le_bytes-32 n below
-
-pub le_eight : (n : ℕ) → n < 2 ^ 64 → le (le_bytes 8 n) ≡ n
-unfolding le_bytes
-le_eight n below = le-to_le_bytes-64 n below
-
-pub le_sixteen : (n : ℕ) → n < 2 ^ 128 → le (le_bytes 16 n) ≡ n
-unfolding le le_bytes
-le_sixteen n below = omega arith
-
-pub long_sixteen : (n : ℕ) → length (le_bytes 16 n) ≡ 16
-unfolding le_bytes
-long_sixteen n = refl
-
-pub long_two : (n : ℕ) → length (le_bytes 2 n) ≡ 2
-unfolding le_bytes
-long_two n = refl
-
-pub long_four : (n : ℕ) → length (le_bytes 4 n) ≡ 4
-unfolding le_bytes
-long_four n = refl
-
-pub long_eight : (n : ℕ) → length (le_bytes 8 n) ≡ 8
-unfolding le_bytes
-long_eight n = refl
-
-pub text_four : (n : ℕ) → IsText (le_bytes 4 n)
-unfolding le_bytes
-text_four n = IsText-bytes 0 4 n
-
-pub text_eight : (n : ℕ) → IsText (le_bytes 8 n)
-unfolding le_bytes
-text_eight n = IsText-bytes 0 8 n
 
 -- a text after the bytes of two words
 pub low_in : (at : Position) (low high k : ℕ) → k ≤ 8 → after at (take k (to_le_bytes w64 low)) ≡ after at (held_bytes low high k)

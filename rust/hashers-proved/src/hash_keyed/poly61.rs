@@ -4,7 +4,7 @@
 use crate::{hashers, std};
 
 use crate::hash_keyed::modular::{PRIME, ended, ended_at_once, placed, reduced, remainder, step};
-use crate::hash_keyed::words::{few, full_words, text_words};
+use crate::hash_keyed::words::{few, full_words, joined, text_words};
 use hashers::laws::{Piecewise, Streamed};
 use std::hash::Hasher;
 
@@ -128,6 +128,38 @@ impl Poly61Hasher {
             self.count = 0;
         }
     }
+
+    // A number of up to eight bytes in, the lowest first.
+    /// The caller has to see to it that:
+    ///
+    /// ```text
+    /// short: count ≤ 8
+    /// within: number < 2 ^ (8 * count)
+    /// ```
+    ///
+    /// Proved:
+    ///
+    /// ```text
+    /// self.new ≡ after self.old (le_bytes count number)
+    /// ```
+    #[inline(always)]
+    fn number_in(&mut self, number: u64, count: u32) {
+        let (first, rest) = joined(self.word, self.count, number);
+        let all = self.count + count;
+        if all < 7 {
+            self.word = first;
+            self.count = all;
+        } else if all < 14 {
+            self.state = step(self.key, self.state, first);
+            self.word = rest;
+            self.count = all - 7;
+        } else {
+            let state = step(self.key, self.state, first);
+            self.state = step(self.key, state, rest);
+            self.word = 0;
+            self.count = 0;
+        }
+    }
 }
 
 impl Default for Poly61Hasher {
@@ -186,6 +218,27 @@ impl Hasher for Poly61Hasher {
     #[inline(always)]
     fn write_u8(&mut self, byte: u8) {
         self.byte_in(byte);
+    }
+
+    #[inline(always)]
+    fn write_u32(&mut self, number: u32) {
+        self.number_in(u64::from(number), 4);
+    }
+
+    #[inline(always)]
+    fn write_u64(&mut self, number: u64) {
+        self.number_in(number, 8);
+    }
+
+    #[inline(always)]
+    fn write_u128(&mut self, number: u128) {
+        self.number_in((number % (1 << 64)) as u64, 8);
+        self.number_in((number >> 64) as u64, 8);
+    }
+
+    #[inline(always)]
+    fn write_usize(&mut self, number: usize) {
+        self.number_in(number as u64, 8);
     }
 }
 

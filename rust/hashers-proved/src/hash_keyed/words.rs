@@ -48,6 +48,30 @@ pub(crate) fn few(bytes: &[u8]) -> u64 {
     }
 }
 
+/// A number behind so many bytes of a word: the word that both begin, and what of the number stands behind it.
+///
+/// The caller has to see to it that:
+///
+/// ```text
+/// word_in: word < 2 ^ (8 * count)
+/// count_in: count < 7
+/// ```
+///
+/// Proved:
+///
+/// ```text
+/// whole: result.0 + result.1 * 2 ^ 56 ≡ word + number * 2 ^ (8 * count)
+/// small: result.0 < 2 ^ 56
+/// ```
+#[inline(always)]
+pub(crate) fn joined(word: u64, count: u32, number: u64) -> (u64, u64) {
+    let bits = 8 * count;
+    (
+        (word + (number << bits)) % 72057594037927936,
+        number >> (56 - bits),
+    )
+}
+
 /// The second, third, fourth and eighth power of a key.
 ///
 /// The caller has to see to it that:

@@ -5,7 +5,7 @@ use crate::{hash_keyed, hashers, std};
 
 use crate::hash_numbers::number::{number_hash, pair_hash};
 use hash_keyed::poly61::Poly61Hasher;
-use hashers::rounds::le_four;
+use hashers::rounds::{le_four, le64};
 use std::hash::Hasher;
 
 /// `held` once there were more than sixteen bytes.
@@ -74,6 +74,29 @@ fn number_of(bytes: &[u8]) -> u64 {
     }
 }
 
+/// The two words of the number that nine to sixteen bytes are: the first eight, and what the last eight have behind
+/// them.
+///
+/// The caller has to see to it that:
+///
+/// ```text
+/// some: 8 < length bytes.now
+/// short: length bytes.now ≤ 16
+/// ```
+///
+/// Proved:
+///
+/// ```text
+/// value: result.0 + result.1 * 2 ^ 64 ≡ le bytes.now
+/// small: result.1 < 2 ^ (8 * (length bytes.now - 8))
+/// ```
+#[inline(always)]
+fn words_of(bytes: &[u8]) -> (u64, u64) {
+    let first = le64(bytes.first_chunk::<8>().unwrap());
+    let last = le64(bytes.last_chunk::<8>().unwrap());
+    (first, last >> (128 - 8 * bytes.len() as u32))
+}
+
 /// The two words of a number of so many bytes that stands behind those that are held.
 ///
 /// The caller has to see to it that:
@@ -122,7 +145,11 @@ fn take_in(text: &mut Poly61Hasher, low: u64, high: u64, held: u8) {
         text.write(&low.to_le_bytes()[..usize::from(held)]);
     } else {
         text.write_u64(low);
-        text.write(&high.to_le_bytes()[..usize::from(held - 8)]);
+        if held < 16 {
+            text.write(&high.to_le_bytes()[..usize::from(held - 8)]);
+        } else {
+            text.write_u64(high);
+        }
     }
 }
 
@@ -179,6 +206,18 @@ impl NumberHasher {
         self.become_text();
         self.text.write(bytes);
     }
+
+    // A number of eight bytes of a text. It stands apart, as `take_in` does.
+    /// Proved:
+    ///
+    /// ```text
+    /// self.new ≡ with_text self.old (le_bytes 8 number)
+    /// ```
+    #[inline(never)]
+    fn write_text_number(&mut self, number: u64) {
+        self.become_text();
+        self.text.write_u64(number);
+    }
 }
 
 impl Hasher for NumberHasher {
@@ -200,9 +239,9 @@ impl Hasher for NumberHasher {
         if usize::from(self.held) + bytes.len() > 16 {
             self.write_text(bytes);
         } else if bytes.len() > 8 {
-            let (low, high) = bytes.split_at(8);
-            self.hold(number_of(low), 8);
-            self.hold(number_of(high), high.len() as u8);
+            let (low, high) = words_of(bytes);
+            self.hold(low, 8);
+            self.hold(high, bytes.len() as u8 - 8);
         } else if !bytes.is_empty() {
             self.hold(number_of(bytes), bytes.len() as u8);
         }
@@ -241,7 +280,7 @@ impl Hasher for NumberHasher {
         if self.held <= 8 {
             self.hold(number, 8);
         } else {
-            self.write_text(&number.to_le_bytes());
+            self.write_text_number(number);
         }
     }
 

@@ -1,4 +1,4 @@
-use Rattle.std.proofs.Common.{arith, ap, ap₂, take, ◌∙◌, ◌-◌, ◌+◌, ◌≡◌}
+use Rattle.std.proofs.Common.{◌≡◌, ◌+◌, ◌-◌, take, ap, ap₂, ◌∙◌, arith}
 use Rattle.std.specs.Hash.{le_bytes}
 use Rattle.hash_keyed.specs.Poly61State.{after}
 use Rattle.hash_numbers.specs.NumberState.{held_bytes}
@@ -10,12 +10,20 @@ returns-then-held-lt8 c =
     c.write.ensures.written ∙ ap₂ (λ k bytes. after c.args.text.now (take k bytes)) c.from.ensures c.to_le_bytes.ensures
     ∙ low_in c.args.text.now c.args.low c.args.high c.args.held (omega (arith, c.if-held-lt8.true))
 
-pub returns-else-held-lt8 : goal.returns-else-held-lt8
+pub returns-then-held-lt16 : goal.returns-then-held-lt16
 unfolding le_bytes
-returns-else-held-lt8 c =
-    c.write-else-held-lt8.ensures.written
-    ∙ ap₂ (λ k bytes. after c.write_u64.new.self (take k bytes)) c.from-else-held-lt8.ensures c.to_le_bytes-else-held-lt8.ensures
+returns-then-held-lt16 c =
+    c.write-then-held-lt16.ensures.written
+    ∙ ap₂ (λ k bytes. after c.write_u64.new.self (take k bytes)) c.from-then-held-lt16.ensures c.to_le_bytes-then-held-lt16.ensures
     ∙ ap (λ at. after at (take (c.args.held - 8) (le_bytes 8 c.args.high))) c.write_u64.ensures
     ∙ both_in c.args.text.now c.args.low c.args.high (c.args.held - 8)
     ∙ ap (λ k. after c.args.text.now (held_bytes c.args.low c.args.high k))
     (let e : 8 + (c.args.held - 8) ≡ c.args.held = omega (arith, c.if-held-lt8.false) in e)
+
+pub returns-else-held-lt16 : goal.returns-else-held-lt16
+unfolding le_bytes
+returns-else-held-lt16 c =
+    c.write_u64-else-held-lt16.ensures ∙ ap (λ at. after at (le_bytes 8 c.args.high)) c.write_u64.ensures
+    ∙ both_in c.args.text.now c.args.low c.args.high 8
+    ∙ ap (λ k. after c.args.text.now (held_bytes c.args.low c.args.high k))
+    (let e : 16 ≡ c.args.held = omega (arith, c.requires, c.if-held-lt16.false) in e)

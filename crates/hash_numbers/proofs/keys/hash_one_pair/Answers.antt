@@ -6,7 +6,8 @@ use Rattle.hashers.specs.Text.{IsText}
 use Rattle.hashers.specs.Words.{le}
 use Rattle.hash_words.proofs.ByteLemmas.{le-append}
 use Rattle.hash_numbers.proofs.Pieces.{of_few}
-use Rattle.hash_numbers.proofs.States.{le_eight, long_eight, text_eight}
+use Rattle.hashers.proofs.TextLemmas.{IsText-le_bytes}
+use Rattle.hash_keyed.proofs.NumberLemmas.{le-le_bytes, length-le_bytes}
 use Rattle.hash_numbers.proofs.keys.hash_one_pair.Goals as goal
 
 pub returns : goal.returns
@@ -17,7 +18,7 @@ returns c =
     let joined = ap (λ bytes. first ++ bytes) (append-nil second) in
     c.hash_one.ensures
     ∙ of_few keys.multiplier keys.multiplier2 keys.addend keys.text.key (first ∷ second ∷ []) (c.args.key.0 + c.args.key.1 * 2 ^ 64)
-    (All-cons IsText first (second ∷ []) (text_eight c.args.key.0) (All-cons IsText second [] (text_eight c.args.key.1) (All-nil IsText)))
-    (ap le joined ∙ le-append first second ∙ ap (λ k. le first + le second * 2 ^ (8 * k)) (long_eight c.args.key.0)
-    ∙ ap₂ (λ x y. x + y * 2 ^ 64) (le_eight c.args.key.0 (omega arith)) (le_eight c.args.key.1 (omega arith)))
-    (omega (arith, ap length joined, length-append first second, long_eight c.args.key.0, long_eight c.args.key.1))
+    (All-cons IsText first (second ∷ []) (IsText-le_bytes 8 c.args.key.0) (All-cons IsText second [] (IsText-le_bytes 8 c.args.key.1) (All-nil IsText)))
+    (ap le joined ∙ le-append first second ∙ ap (λ k. le first + le second * 2 ^ (8 * k)) (length-le_bytes 8 c.args.key.0)
+    ∙ ap₂ (λ x y. x + y * 2 ^ 64) (le-le_bytes 8 c.args.key.0 (omega arith)) (le-le_bytes 8 c.args.key.1 (omega arith)))
+    (omega (arith, ap length joined, length-append first second, length-le_bytes 8 c.args.key.0, length-le_bytes 8 c.args.key.1))

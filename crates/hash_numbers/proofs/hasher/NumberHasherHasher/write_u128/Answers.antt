@@ -1,7 +1,8 @@
 use Rattle.std.proofs.Common.{arith, ap, ◌∙◌, ◌+◌, ◌*◌, ◌^◌, ◌/◌, ◌%◌}
 use Rattle.std.specs.Hash.{le_bytes}
 use Rattle.hash_numbers.specs.NumberState.{behind, with_text}
-use Rattle.hash_numbers.proofs.States.{le_sixteen, long_sixteen, number_behind, text_behind, two_behind}
+use Rattle.hash_keyed.proofs.NumberLemmas.{le-le_bytes, length-le_bytes}
+use Rattle.hash_numbers.proofs.States.{number_behind, text_behind, two_behind}
 use Rattle.hash_numbers.proofs.hasher.NumberHasherHasher.write_u128.Goals as goal
 
 pub returns-then-self-eq0 : goal.returns-then-self-eq0
@@ -9,11 +10,11 @@ returns-then-self-eq0 c =
     let h = c.args.self.now in
     let n = c.args.number in
     c.hold-then-self-eq0.ensures ∙ ap (λ at. behind at (n / 2 ^ 64) 8) c.hold.ensures ∙ two_behind h (n % 2 ^ 64) (n / 2 ^ 64) 8
-    ∙ number_behind h (le_bytes 16 n) (n % 2 ^ 64 + n / 2 ^ 64 * 2 ^ 64) 16 (le_sixteen n (omega arith) ∙ omega arith) (long_sixteen n)
+    ∙ number_behind h (le_bytes 16 n) (n % 2 ^ 64 + n / 2 ^ 64 * 2 ^ 64) 16 (le-le_bytes 16 n (omega arith) ∙ omega arith) (length-le_bytes 16 n)
     (omega (arith, c.if-self-eq0.true))
 
 pub returns-else-self-eq0 : goal.returns-else-self-eq0
 unfolding le_bytes
 returns-else-self-eq0 c =
     c.write_text.ensures ∙ ap (with_text c.args.self.now) c.to_le_bytes.ensures
-    ∙ text_behind c.args.self.now (le_bytes 16 c.args.number) 16 (long_sixteen c.args.number) (omega (arith, c.if-self-eq0.false))
+    ∙ text_behind c.args.self.now (le_bytes 16 c.args.number) 16 (length-le_bytes 16 c.args.number) (omega (arith, c.if-self-eq0.false))

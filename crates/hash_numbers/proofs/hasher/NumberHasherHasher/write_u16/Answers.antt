@@ -1,16 +1,19 @@
 use Rattle.std.proofs.Common.{arith, sym, ap, ◌∙◌}
 use Rattle.std.specs.Hash.{le_bytes}
 use Rattle.hash_numbers.specs.NumberState.{with_text}
-use Rattle.hash_numbers.proofs.States.{le_two, long_two, number_behind, text_behind}
+use Rattle.hash_keyed.proofs.NumberLemmas.{le-le_bytes, length-le_bytes}
+use Rattle.hash_numbers.proofs.States.{number_behind, text_behind}
 use Rattle.hash_numbers.proofs.hasher.NumberHasherHasher.write_u16.Goals as goal
 
 pub returns-then-self-le14 : goal.returns-then-self-le14
 returns-then-self-le14 c =
+    let n = c.args.number in
     c.hold.ensures
-    ∙ number_behind c.args.self.now (le_bytes 2 c.args.number) _ 2 (le_two c.args.number (omega arith) ∙ sym c.from.ensures) (long_two c.args.number) (omega (arith, c.if-self-le14.true))
+    ∙ number_behind c.args.self.now (le_bytes 2 n) _ 2 (le-le_bytes 2 n (omega arith) ∙ sym c.from.ensures) (length-le_bytes 2 n)
+    (omega (arith, c.if-self-le14.true))
 
 pub returns-else-self-le14 : goal.returns-else-self-le14
 unfolding le_bytes
 returns-else-self-le14 c =
     c.write_text.ensures ∙ ap (with_text c.args.self.now) c.to_le_bytes.ensures
-    ∙ text_behind c.args.self.now (le_bytes 2 c.args.number) 2 (long_two c.args.number) (omega (arith, c.if-self-le14.false))
+    ∙ text_behind c.args.self.now (le_bytes 2 c.args.number) 2 (length-le_bytes 2 c.args.number) (omega (arith, c.if-self-le14.false))

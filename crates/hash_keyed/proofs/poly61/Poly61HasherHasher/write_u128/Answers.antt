@@ -1,0 +1,13 @@
+use Rattle.std.proofs.Common.{◌/◌, ◌%◌, ◌^◌, sym, ap, ◌∙◌, arith}
+use Rattle.std.proofs.lemmas.List.Sums.{fold-append}
+use Rattle.std.specs.Hash.{le_bytes}
+use Rattle.hash_keyed.specs.Poly61State.{after, byte_in}
+use Rattle.hash_keyed.proofs.NumberLemmas.{le_bytes-halves}
+use Rattle.hash_keyed.proofs.poly61.Poly61HasherHasher.write_u128.Goals as goal
+
+pub returns : goal.returns
+returns c =
+    let n = c.args.number in
+    c.number_in-2.ensures ∙ ap (λ at. after at (le_bytes 8 (n / 2 ^ 64))) c.number_in.ensures
+    ∙ sym (fold-append byte_in c.args.self.now (le_bytes 8 (n % 2 ^ 64)) (le_bytes 8 (n / 2 ^ 64)))
+    ∙ ap (after c.args.self.now) (le_bytes-halves n (omega arith))

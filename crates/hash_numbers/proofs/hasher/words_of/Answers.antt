@@ -1,0 +1,14 @@
+use Rattle.std.proofs.Common.{ℕ, ◌≡◌, ◌+◌, ◌-◌, ◌*◌, ◌/◌, ◌^◌, length, take, drop, ap₂, ◌∙◌, arith}
+use Rattle.std.proofs.lemmas.Grind.{common_steps}
+use Rattle.hashers.proofs.TextLemmas.{IsText-from_slice}
+use Rattle.hashers.specs.Words.{le}
+use Rattle.hash_numbers.proofs.Bytes.{by_eights}
+use Rattle.hash_numbers.proofs.hasher.words_of.Goals as goal
+
+pub returns-clause-value : goal.returns-clause-value
+returns-clause-value c =
+    let t = c.args.bytes.now in
+    let first : c.le64-first.result ≡ le (take 8 t) = grind (arith, common_steps) in
+    let last : c.le64-last.result ≡ le (drop (length t - 8) t) = grind (arith, common_steps) in
+    ap₂ (λ (x y : ℕ). x + y / 2 ^ (128 - 8 * length t) * 2 ^ 64) first last
+    ∙ by_eights t (IsText-from_slice _ c.type_inv.bytes) (omega (arith, c.requires.some)) c.requires.short
