@@ -128,7 +128,8 @@ pub(crate) fn stripe_in(secret: &[u8; 192], lanes: Lanes, stripe: &[u8; 64]) -> 
     ensures value { result ≡ stripe_in secret.now lanes stripe.now }
     ensures in_block { result.stripe < 16 }
 {
-    let words = accumulate(&lanes.words, stripe, secret, 8 * lanes.stripe);
+    // it is below 16; the remainder says so to a compiler that would test the bounds
+    let words = accumulate(&lanes.words, stripe, secret, 8 * (lanes.stripe % 16));
     if lanes.stripe < 15 {
         Lanes {
             words,

@@ -161,7 +161,8 @@ fn scramble(words: &[u64; 8], secret: &[u8; 192]) -> [u64; 8] {
 /// ```
 #[inline(always)]
 pub(crate) fn stripe_in(secret: &[u8; 192], lanes: Lanes, stripe: &[u8; 64]) -> Lanes {
-    let words = accumulate(&lanes.words, stripe, secret, 8 * lanes.stripe);
+    // it is below 16; the remainder says so to a compiler that would test the bounds
+    let words = accumulate(&lanes.words, stripe, secret, 8 * (lanes.stripe % 16));
     if lanes.stripe < 15 {
         Lanes {
             words,
