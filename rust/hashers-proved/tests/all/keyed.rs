@@ -18,6 +18,28 @@ fn texts_at_a_key() {
     assert_eq!(poly61_state(KEY, b"abc"), None);
 }
 
+/// The hash behind the beginning of a text once more was written.
+fn behind(length: usize, write: impl Fn(&mut Poly61Hasher)) -> u64 {
+    let mut hasher = Poly61Hasher::new(KEY);
+    hasher.write(&FOX[..length]);
+    write(&mut hasher);
+    hasher.finish()
+}
+
+/// A number is its bytes, the lowest first, behind however many.
+#[test]
+fn numbers_are_their_bytes() {
+    let number = u128::from_le_bytes(*b"sixteen letters!");
+    for length in 0..14 {
+        let of = |bytes: &[u8]| poly61(KEY, &[&FOX[..length], bytes].concat());
+        assert_eq!(behind(length, |it| it.write_u16(number as u16)), of(b"si"));
+        assert_eq!(behind(length, |it| it.write_u32(number as u32)), of(b"sixt"));
+        assert_eq!(behind(length, |it| it.write_u64(number as u64)), of(b"sixteen "));
+        assert_eq!(behind(length, |it| it.write_usize(usize::MAX)), of(&(usize::MAX as u64).to_le_bytes()));
+        assert_eq!(behind(length, |it| it.write_u128(number)), of(b"sixteen letters!"));
+    }
+}
+
 #[test]
 fn copies_go_on_by_themselves() {
     let (mut hasher, mut pair) = (Poly61Hasher::new(KEY), Poly61Pair::new(KEY, 7));
