@@ -3,7 +3,7 @@ use Rattle.std.proofs.Common.{◌≡◌, ◌≢◌, ℕ, ◌+◌, ◌<◌, ◌�
 use Rattle.std.specs.Io.KnownBytes.{Appends, Keeps}
 use Rattle.std.proofs.KnownBytes.{Appends-kept, Appends-nil}
 use Rattle.std.proofs.lemmas.Bool.{and_parts, false≢true}
-use Rattle.std.proofs.lemmas.List.{append-nil, nil_from_length, drop-drop, drop-set-lt, map-append, take_more, take_more_set}
+use Rattle.std.proofs.lemmas.List.{append-nil, drop-drop, drop-set-lt, map-append, take_more, take_more_set}
 use Rattle.std.proofs.Math.Seq.{drop-cons}
 use Rattle.streams.specs.Streams.{AppendsPart}
 use Rattle.std.specs.Option.{is_some}
@@ -14,7 +14,7 @@ use Rattle.std.proofs.lemmas.List.Folds.{flat_map-map, list_all-append}
 use Rattle.unique_lines.specs.Inputs.{AreRead, ReadsInput}
 use Rattle.unique_lines.specs.Inputs.AreRead.{behind, none}
 use Rattle.text_set.specs.Lines.{lines_by}
-use Rattle.unique_lines.specs.Running.{AllBeginWith, BreaksBehind, EndsBehind, EndsTaking, NextBeginsWith, Run, WritesPart}
+use Rattle.unique_lines.specs.Running.{AllBeginWith, BreaksBehind, EndsBehind, EndsTaking, NextBeginsWith, Run}
 use Rattle.streams.proofs.StreamLemmas.{part_behind}
 use Rattle.streams.specs.declared.failure.Failure.{Failure}
 use Rattle.unique_lines.specs.declared.failure.TooMany.{TooMany}
@@ -136,18 +136,6 @@ module _ {R : Type 0} {remaining : R → Option (List ℕ)} {output : List (List
           (so_far.ls ++ now, begins_next now begins, omega (arith, so_far.counted, over, length-append so_far.ls now))
 
 -- ---- what is written once all lines are taken
-
--- nothing more is written
-pub nothing_keeps : (w w' : Option (List ℕ)) → Appends w w' [] → Keeps w w'
-nothing_keeps None w' nothing = tt
-nothing_keeps (Some bytes) None nothing = nothing
-nothing_keeps (Some bytes) (Some bytes') same = same ∙ append-nil bytes
-
--- a beginning of nothing is nothing
-pub silent_keeps : (eol limit : ℕ) (run : Run) → WritesPart (λ ls. []) eol limit run → Keeps run.written run.written'
-silent_keeps eol limit run (ls, begins, (part, rest, is, appends), few) =
-    let nothing : part ≡ [] = nil_from_length part (omega (arith, ap length is, length-append part rest)) in
-    nothing_keeps run.written run.written' (subst (Appends run.written run.written') nothing appends)
 
 -- a fault in what is written behind all lines
 pub breaks_behind_all : {output : List (List ℕ) → List ℕ} {taken : List (List ℕ) → Type 0} (eol limit : ℕ) (run : Run)
