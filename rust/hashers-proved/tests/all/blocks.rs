@@ -4,7 +4,7 @@ use hashers_proved::blocks::{
     murmur3_128, murmur3_32, state_behind, word_for_murmur3_32, word_for_xxh32, word_for_xxh64, xxh32, xxh64, xxh64_block_out, BlockRule,
     Murmur3Rule32,
 };
-use hashers_proved::xxh3::{xxh3_128, xxh3_64, Xxh3Hasher, Xxh3Place};
+use hashers_proved::xxh3::{apart_xxh128, apart_xxh3, xxh3_128, xxh3_64, Xxh3Hasher, Xxh3Place};
 use std::hash::Hasher;
 
 /// Bytes that look random.
@@ -153,6 +153,24 @@ fn xxh3_in_pieces_at_a_place() {
             }
             assert_eq!(place.hash(), Some(xxh3_64(seed, &text)));
             assert_eq!(place.hash128(), Some(xxh3_128(seed, &text)));
+        }
+    }
+}
+
+/// Two texts that differ, of lengths at which XXH3 keeps them apart, and of others.
+#[test]
+fn short_texts_apart_under_xxh3() {
+    let mut bytes = Bytes(23);
+    for first in 0..20 {
+        for second in 0..20 {
+            let (x, y) = (bytes.text(first), bytes.text(second));
+            let few = (1..=3).contains(&first) && (1..=3).contains(&second) || (4..=8).contains(&first) && first == second;
+            let seed = bytes.next() << 33 ^ bytes.next();
+            assert_eq!(apart_xxh3(&x, &y), few && x != y);
+            assert!(!apart_xxh3(&x, &y) || xxh3_64(seed, &x) != xxh3_64(seed, &y));
+            assert_eq!(apart_xxh128(&x, &y), first < 17 && first == second && x != y);
+            assert!(!apart_xxh128(&x, &y) || xxh3_128(seed, &x) != xxh3_128(seed, &y));
+            assert!(!apart_xxh3(&x, &x) && !apart_xxh128(&x, &x));
         }
     }
 }
