@@ -1,7 +1,7 @@
 //! What a check is proved to see, as laws with no code of their own, over any files: of the text that was read of a file. Of a file whose
 //! bytes are not known, as one of the disk, they say that some text has the hash. A text's length is that of its file. Behind them what they
 //! say of each hash of the table, in words.
-ghost use Rattle.std.specs.Prelude.{◌≡◌, ◌≢◌, ◌+◌, ◌^◌, ◌<◌, ◌≤◌, ℕ, Bool, true, false, max, All, Contains, List, [], ◌∷◌, Ok, Option, Some, codes, length, map};
+ghost use Rattle.std.specs.Prelude.{◌≡◌, ◌^◌, ◌<◌, ℕ, Bool, true, false, All, Contains, List, [], ◌∷◌, Ok, Option, Some, codes, map};
 ghost use Rattle.cli.specs.Call.{given, operands, Saying};
 ghost use Rattle.cli.specs.Files.{files_or};
 ghost use Rattle.cli.specs.Frame.{request_of};
@@ -15,19 +15,17 @@ ghost use Rattle.hashers.specs.Fx.{words32, words64};
 ghost use Rattle.hashers.specs.Text.{IsText};
 ghost use Rattle.hash_windows.specs.DifferWithin.{DifferInOneBlock};
 ghost use Rattle.block_laws.specs.Xxh32Words.{DifferInOneWord};
-ghost use Rattle.hash_keyed.specs.Poly61.{prime61, word_count, ArePairs};
 ghost use Rattle.hash_lines.specs.declared.line.LineKind.{LineKind};
 ghost use Rattle.hash_lines.specs.declared.line.Form.{Form};
 ghost use Rattle.hash_lines.specs.Told.{AreTags, MayBeTold, Tells};
 ghost use Rattle.hash_more.specs.Bursts.{DifferWithinBits};
 ghost use Rattle.hash_sums.specs.declared.check.Checking.{Checking};
-ghost use Rattle.hash_sums.specs.declared.check.Verdict.TheVariants.{Same};
 ghost use Rattle.hash_sums.specs.declared.outcome.Misuse.{Misuse};
 ghost use Rattle.hash_sums.specs.declared.outcome.Task.TheVariants.{Check};
-ghost use Rattle.hash_sums.specs.Checking.{IsVerdict, TellsAny};
+ghost use Rattle.hash_sums.specs.Checking.{TellsAny};
 ghost use Rattle.hash_sums.specs.Ended.{GivesKeys, HasEndedWell};
 ghost use Rattle.hash_sums.specs.Keys.{ArePoly61Keys};
-ghost use Rattle.hash_sums.specs.Laws.{DifferAtOneWord, HoldsOnly, NeverPasses};
+ghost use Rattle.hash_sums.specs.Laws.{DifferAtOneWord, FewPairsPass, IsSeen, NeverPasses};
 ghost use Rattle.hash_sums.specs.Lists.{EndsLists};
 ghost use Rattle.hash_sums.specs.Passed.{HasHash, HasPassed, LineTells, ListTells};
 ghost use Rattle.hash_sums.specs.Program.{asks_for_poly61, asks_for_siphash24, checking_of, taken, EndsTask, EndsWithKeys};
@@ -36,6 +34,7 @@ ghost use Rattle.hash_lines.specs.Line.{digits_of, line_of};
 ghost use Rattle.hash_sums.specs.Sums.{is_named, kind_of, kinds, name_in, number_named, poly61_at_both, siphash24_at, sum_by, sum_of, takes_keys, told_of, width_in, Told};
 ghost use Rattle.hash_names.specs.declared.table.Kind.{Kind};
 ghost use Rattle.hash_sums.specs.declared.sums.Sum.{Sum};
+ghost use Rattle.hash_sums.specs.declared.sums.Sum.TheVariants.{Table};
 
 use crate::sums::{Sum, Wide};
 use block_laws::{
@@ -199,11 +198,7 @@ pub fn a_changed_block_never_passes<R: Read, F: Folder<R>>()
 /// If a file holds another text than the one that its line was made of, it passes the check by poly61 under few pairs of
 /// keys only: at most the square of one more than the longer text has words.
 pub fn few_pairs_pass_another_text<R: Read, F: Folder<R>>()
-    ensures { (folder : F) (file : List ℕ) (ignore_missing : Bool) (first text : List ℕ) (pairs : List (ℕ × ℕ))
-        → IsText first → IsText text → first ≢ text → HoldsOnly (F.opens folder file) text → ArePairs prime61 pairs
-        → All (λ keys. let hash = poly61_at_both keys in
-        IsVerdict (F.opens folder file) hash ignore_missing (hash first) Same) pairs
-        → length pairs ≤ (max (word_count first) (word_count text) + 1) ^ 2 }
+    ensures { FewPairsPass F.opens poly61_at_both }
 {
     few_pairs_for_two_texts();
 }
@@ -281,21 +276,35 @@ pub fn lines_under_the_keys<R: Read, F: Folder<R>>()
         × (sum_by ended.kind ≡ siphash24_at keys) }
 {}
 
-/// What a check by a hash is proved to see in a file of the same length, by these laws, in words.
-pub fn seen(sum: Sum) -> &'static str {
-    match sum {
-        Sum::Table(Kind::Fnv1a32 | Kind::Fnv1At32) =>
-            "1 changed byte, or changes within 2 neighbouring bytes",
-        Sum::Table(Kind::Fnv1a64 | Kind::Fnv1At64 | Kind::Sdbm) =>
+/// What `seen` says of a hash of the table.
+fn seen_in_table<R: Read, F: Folder<R>>(kind: Kind) -> &'static str
+    ensures { IsSeen F.opens (Table kind) result.now }
+{
+    a_changed_stretch_never_passes::<R, F>();
+    a_changed_byte_never_passes::<R, F>();
+    a_changed_word_never_passes::<R, F>();
+    a_changed_block_never_passes::<R, F>();
+    match kind {
+        Kind::Fnv1a32 | Kind::Fnv1At32 => "1 changed byte, or changes within 2 neighbouring bytes",
+        Kind::Fnv1a64 | Kind::Fnv1At64 | Kind::Sdbm =>
             "1 changed byte, or changes within 3 neighbouring bytes",
-        Sum::Table(Kind::Djb2 | Kind::Djb2Add) =>
-            "1 changed byte, or changes within 6 in the low 5 bits",
-        Sum::Table(Kind::Crc32 | Kind::Crc32c) =>
-            "1 changed byte, or changes within 32 neighbouring bits",
-        Sum::Table(Kind::FxHash | Kind::FxHash64) => "1 changed word, of 8 bytes",
-        Sum::Table(Kind::FxHash32 | Kind::Murmur3At32 | Kind::Xxh32) =>
-            "1 changed word, of 4 bytes",
-        Sum::Table(Kind::LoseLose | Kind::Bricolage | Kind::Oaat | Kind::Joaat) => "1 changed byte",
+        Kind::Djb2 | Kind::Djb2Add => "1 changed byte, or changes within 6 in the low 5 bits",
+        Kind::Crc32 | Kind::Crc32c => "1 changed byte, or changes within 32 neighbouring bits",
+        Kind::FxHash | Kind::FxHash64 => "1 changed word, of 8 bytes",
+        Kind::FxHash32 | Kind::Murmur3At32 | Kind::Xxh32 => "1 changed word, of 4 bytes",
+        Kind::LoseLose | Kind::Bricolage | Kind::Oaat | Kind::Joaat => "1 changed byte",
+        _ => "no promise",
+    }
+}
+
+/// What a check by a hash is proved to see in a file of the same length, by these laws, in words.
+pub fn seen<R: Read, F: Folder<R>>(sum: Sum) -> &'static str
+    ensures { IsSeen F.opens sum result.now }
+{
+    a_changed_block_never_passes::<R, F>();
+    few_pairs_pass_another_text::<R, F>();
+    match sum {
+        Sum::Table(kind) => seen_in_table::<R, F>(kind),
         Sum::Wide(Wide::Murmur3) => "1 changed block, of 16 bytes",
         Sum::Poly61 => "any change, but under few keys",
         _ => "no promise",
