@@ -40,6 +40,7 @@ FewPairsPass {F} opens hash = (folder : F) (file : List ℕ) (ignore_missing : B
     → All (λ keys. IsVerdict (opens folder file) (hash keys) ignore_missing (hash keys first) Same) pairs
     → length pairs ≤ (max (word_count first) (word_count text) + 1) ^ 2
 
+-- this where a test holds, and else the other
 abbrev pub Chooses : Bool → (this other : Type 0) → Type 0
 Chooses true this other = this
 Chooses false this other = other

@@ -57,5 +57,5 @@ returns-clause-ok g c start before (kind, name, listed, empty) =
           (subst (Appends (contents old.w) (contents c.write_out.new.w)) (c.deref.ensures.value ∙ c.in-Ok.ensures
           ∙ same-line old.kind start.kind old.name.now start.name.now old.place c.args.chunk.now kind name)
           c.in_ok-write_out-in-Ok.ensures.told),
-      λ none held. c.in_ok-write_out-in-Ok.ensures.flushed,
+      λ none held. search c.in_ok-write_out-in-Ok.ensures,
     )
