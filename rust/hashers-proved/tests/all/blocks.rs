@@ -4,8 +4,9 @@ use hashers_proved::blocks::{
     murmur3_128, murmur3_32, state_behind, word_for_murmur3_32, word_for_xxh32, word_for_xxh64, xxh32, xxh64, xxh64_block_out, BlockRule,
     Murmur3Rule32,
 };
-use hashers_proved::xxh3::{apart_xxh128, apart_xxh3, xxh3_128, xxh3_64, Xxh3Hasher, Xxh3Place};
-use std::hash::Hasher;
+use hashers_proved::xxh3::unmix::{bytes_for, bytes_for_wide};
+use hashers_proved::xxh3::{apart_xxh128, apart_xxh3, xxh3_128, xxh3_64, BuildXxh3, Xxh3Hasher, Xxh3Place};
+use std::hash::{BuildHasher, Hasher};
 
 /// Bytes that look random.
 struct Bytes(u64);
@@ -191,5 +192,18 @@ fn long_texts_under_xxh3_from_outside() {
     ] {
         assert_eq!(xxh3_64(seed, &text[..len]), low);
         assert_eq!(xxh3_128(seed, &text[..len]), (low, high));
+    }
+}
+
+/// Each hash leads back to its text, and a map's key has the hash of what std feeds.
+#[test]
+fn texts_for_hashes_and_keys_of_maps_under_xxh3() {
+    let mut bytes = Bytes(24);
+    for _ in 0..1000 {
+        let (seed, text) = (bytes.next() << 33 ^ bytes.next(), bytes.text(16));
+        let eight: [u8; 8] = text[..8].try_into().unwrap();
+        assert_eq!(bytes_for(seed, xxh3_64(seed, &eight)), eight);
+        assert_eq!(bytes_for_wide(seed, xxh3_128(seed, &text))[..], text);
+        assert_eq!(BuildXxh3 { seed }.hash_one(u64::from_le_bytes(eight)), xxh3_64(seed, &eight));
     }
 }
