@@ -2,6 +2,10 @@
 //! one to take.
 #![tactic(auto)]
 
+ghost use Rattle.std.specs.Prelude.{◌≡◌, [], IfOk};
+ghost use Rattle.std.specs.Io.Buffered.{writer_buffer};
+ghost use Rattle.cli.specs.Outcome.{IsFlushed};
+
 mod clock;
 mod picture;
 mod run;
@@ -79,12 +83,10 @@ fn list(alloc: Global) -> Result<String, AllocError> {
     Ok(list)
 }
 
-/// Writes the table that the call asks for.
-fn worked(
-    rt: &HostRuntime,
-    call: &Call<'_>,
-    w: &mut BufWriter<Stdout>,
-) -> Result<Outcome, Failure> {
+/// Writes the table that the call asks for. Where all went well, nothing that it wrote is held back.
+fn worked(rt: &HostRuntime, call: &Call<'_>, w: &mut BufWriter<Stdout>) -> Result<Outcome, Failure>
+    ensures { IfOk result (λ outcome. writer_buffer w.old ≡ [] → IsFlushed (writer_buffer w.new) outcome) }
+{
     let settings = match settings_of(call) {
         Ok(settings) => settings,
         Err(wrong) => return Ok(Outcome::Usage(wrong)),
@@ -96,8 +98,10 @@ fn worked(
     Ok(of_telling(tell_table(rt, &settings, &kinds, call.value(b"plot"), w)))
 }
 
-/// Writes a text that the call asks for, or the table.
-fn told(rt: &HostRuntime, call: &Call<'_>, w: &mut BufWriter<Stdout>) -> Result<Outcome, Failure> {
+/// Writes a text that the call asks for, or the table. Where all went well, nothing that it wrote is held back.
+fn told(rt: &HostRuntime, call: &Call<'_>, w: &mut BufWriter<Stdout>) -> Result<Outcome, Failure>
+    ensures { IfOk result (λ outcome. writer_buffer w.old ≡ [] → IsFlushed (writer_buffer w.new) outcome) }
+{
     let alloc = rt.alloc();
     match request_of(call) {
         Request::Misgiven(misgiven) => Ok(Outcome::Usage(Wrong::Option(misgiven))),

@@ -1,4 +1,7 @@
 //! A run: reads the keys, and writes the table.
+ghost use Rattle.std.specs.Prelude.{◌≡◌, [], OnOk};
+ghost use Rattle.std.specs.Io.Buffered.{writer_buffer};
+
 use crate::clock::time_of;
 use crate::picture::picture;
 use crate::table::Frame;
@@ -51,7 +54,9 @@ fn tell_rows(
     frame: &Frame,
     hashed: &mut Hashed,
     w: &mut BufWriter<Stdout>,
-) -> Result<Vec<TableRow>, Failure> {
+) -> Result<Vec<TableRow>, Failure>
+    ensures { OnOk result (writer_buffer w.old ≡ [] → writer_buffer w.new ≡ []) }
+{
     let mut progress = Progress::new(rt, rt.stderr().is_terminal());
     let mut rows = Vec::new(rt.alloc());
     for (done, kind) in kinds.iter().enumerate() {
@@ -81,7 +86,9 @@ fn tell_chance(
     rows: &[TableRow],
     frame: &Frame,
     w: &mut BufWriter<Stdout>,
-) -> Result<(), Failure> {
+) -> Result<(), Failure>
+    ensures { OnOk result (writer_buffer w.old ≡ [] → writer_buffer w.new ≡ []) }
+{
     for bits in [0, 28, 32, 64] {
         if rows.iter().any(|row| row.kind.row().bits == bits) {
             write_out(w, frame.chance(rt.alloc(), bits)?.as_bytes())?;
@@ -96,7 +103,9 @@ fn tell_best(
     rows: &[TableRow],
     frame: &Frame,
     w: &mut BufWriter<Stdout>,
-) -> Result<(), Failure> {
+) -> Result<(), Failure>
+    ensures { OnOk result (writer_buffer w.new ≡ []) }
+{
     match frame.best(rows) {
         Some(best) => {
             let name = best.kind.row().name;
@@ -156,7 +165,9 @@ fn fill(file: &mut File, text: &str) -> io::Result<()> {
 }
 
 /// Draws the picture.
-fn draw(canvas: Canvas, text: &str, w: &mut BufWriter<Stdout>) -> Result<(), Failure> {
+fn draw(canvas: Canvas, text: &str, w: &mut BufWriter<Stdout>) -> Result<(), Failure>
+    ensures { OnOk result (writer_buffer w.old ≡ [] → writer_buffer w.new ≡ []) }
+{
     match canvas {
         Canvas::Standard => write_out(w, text.as_bytes()),
         Canvas::File(mut file) => match fill(&mut file, text) {
@@ -166,14 +177,17 @@ fn draw(canvas: Canvas, text: &str, w: &mut BufWriter<Stdout>) -> Result<(), Fai
     }
 }
 
-/// Opens the picture's file if one is asked for, reads the keys, and writes the table and the picture.
+/// Opens the picture's file if one is asked for, reads the keys, and writes the table and the picture. Nothing that it wrote is held
+/// back.
 pub fn tell_table(
     rt: &HostRuntime,
     settings: &Settings,
     kinds: &[Kind],
     plot: Option<&[u8]>,
     w: &mut BufWriter<Stdout>,
-) -> Result<(), Failure> {
+) -> Result<(), Failure>
+    ensures { OnOk result (writer_buffer w.old ≡ [] → writer_buffer w.new ≡ []) }
+{
     let canvas = canvas_of(rt, plot)?;
     let keys = keys_of_input(rt, settings.layout)?;
     if keys.is_empty() {
