@@ -90,12 +90,14 @@ pub fn flush<W: Write, Own>(w: &mut BufWriter<W>, tries: u32) -> Result<(), Fail
     }
 }
 
-/// Writes all of the bytes and flushes, each tried again where it was interrupted. After a fault a beginning of them was written.
+/// Writes all of the bytes and flushes, so that nothing is held back, each tried again where it was interrupted. After a fault a
+/// beginning of them was written.
 ///
 /// Proved:
 ///
 /// ```text
-/// WritesOut bytes.now (writer_contents W.contents w.old) (writer_contents W.contents w.new) result
+/// told: WritesOut bytes.now (writer_contents W.contents w.old) (writer_contents W.contents w.new) result
+/// flushed: OnOk result (writer_buffer w.new ≡ [])
 /// ```
 #[inline]
 pub fn write_out<W: Write, Own>(

@@ -38,7 +38,7 @@ pub trait Folder<R: Read> {
     /// ```
     fn open(&self, name: &[u8]) -> io::Result<R>;
 
-    /// The file of that name failed with this error.
+    /// The file of that name failed with this error. No contract says that this is called.
     fn failed(&self, name: &[u8], error: &Error);
 }
 

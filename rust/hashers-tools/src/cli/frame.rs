@@ -201,7 +201,7 @@ fn error_of<Misuse, Own: Words>(outcome: &Outcome<Misuse, Own>) -> Option<&Error
     }
 }
 
-/// Says on standard error what failed, which word was wrong, and why, unless that is told already, or nobody reads any more. Returns
+/// Says on standard error what failed, which word was wrong, and why, unless the run was to tell it, or nobody reads any more. Returns
 /// the status that the program ends with.
 ///
 /// Proved:

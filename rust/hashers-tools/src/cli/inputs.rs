@@ -1,4 +1,4 @@
-//! The inputs of a call, in their order: files by their names, and standard input. Each that fails is told by its name and with the reason.
+//! The inputs of a call, in their order: files by their names, and standard input; and what is said of one that fails.
 
 // What follows is the proved text of crates/cli/src/inputs.rt without its contracts.
 use hashers_proved::shim::{HostRuntime, Vec, eprintln, std};
@@ -12,7 +12,7 @@ use std::io::{Error, ErrorKind, Read, Stdin};
 
 /// Who is told of each input that fails.
 pub trait Complaints {
-    /// The input at that place failed with this error.
+    /// The input at that place failed with this error. No contract says that this is called.
     fn failed(&mut self, place: usize, error: &Error);
 }
 

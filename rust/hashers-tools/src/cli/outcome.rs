@@ -51,7 +51,7 @@ pub enum Outcome<Misuse, Own> {
     Done,
     /// The call was wrong. Nothing was read or written.
     Usage(Wrong<Misuse>),
-    /// Something failed, and that was told when it did.
+    /// Something failed, which the run was to tell when it did.
     Reported,
     /// The output is not whole: what was written is a beginning of it.
     Failed(Failure<Own>),
@@ -120,7 +120,7 @@ pub fn behind_of<Misuse, Own>(outcome: &Outcome<Misuse, Own>) -> &'static str {
     }
 }
 
-/// What failed, in words; nothing where all went well, or where it is told already.
+/// What failed, in words; nothing where all went well, or where the run was to tell it.
 ///
 /// Proved:
 ///

@@ -10,8 +10,8 @@ use cli::folder::Folder;
 use hash_cuts::{Cuts, Sink, Unfinished, cut_reader_by};
 use std::io::{Error, ErrorKind, Read};
 
-/// Gives a sink the chunks of the file of that name, by a buffer that may serve many files, and returns whether it was read to its end. A
-/// file that fails is told, and the sink has the chunks that end within the bytes read before.
+/// Gives a sink the chunks of the file of that name, by a buffer that may serve many files, and returns whether it was read to its end. Of
+/// a file that fails the sink has the chunks that end within the bytes read before.
 ///
 /// Proved:
 ///

@@ -101,6 +101,7 @@ impl<W: Write> Sink for Lines<'_, W> {
 /// kind: lines.new.kind ≡ lines.old.kind
 /// listed: EndsLines lines.old.kind cuts.now (F.opens folder.now) name.now
 ///     (writer_contents W.contents lines.old.w) (writer_contents W.contents lines.new.w) result
+/// flushed: OnOk result (writer_buffer lines.old.w ≡ [] → writer_buffer lines.new.w ≡ [])
 /// ```
 #[inline]
 fn list_file<'a, R: Read, F: Folder<R>, W: Write>(
@@ -115,14 +116,15 @@ fn list_file<'a, R: Read, F: Folder<R>, W: Write>(
     cut_file(buffer, cuts, folder, name, lines)
 }
 
-/// Writes a line for each chunk of each file, in their order, and returns whether each was read to its end. A file that fails is told,
-/// and its chunks before that have lines.
+/// Writes a line for each chunk of each file, in their order, and returns whether each was read to its end. Of a file that fails the
+/// chunks before that have lines. None is held back.
 ///
 /// Proved:
 ///
 /// ```text
-/// EndsListing kind.entry cuts.now (F.opens folder.now) (map (λ name. name.now) names.now)
+/// listed: EndsListing kind.entry cuts.now (F.opens folder.now) (map (λ name. name.now) names.now)
 ///     (writer_contents W.contents lines.old.w) (writer_contents W.contents lines.new.w) result
+/// flushed: OnOk result (writer_buffer lines.old.w ≡ [] → writer_buffer lines.new.w ≡ [])
 /// ```
 #[inline]
 pub fn list_files<'a, R: Read, F: Folder<R>, W: Write>(

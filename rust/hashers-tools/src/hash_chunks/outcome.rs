@@ -186,8 +186,9 @@ fn cuts_of(sizes: Sizes, keys: Option<(u64, u64)>) -> Cuts {
 /// Proved:
 ///
 /// ```text
-/// EndsRun task.stats task.kind cuts.now (F.opens folder.now) (map (λ file. file.now) files.now)
+/// ended: EndsRun task.stats task.kind cuts.now (F.opens folder.now) (map (λ file. file.now) files.now)
 ///     (writer_contents W.contents lines.old.w) (writer_contents W.contents lines.new.w) result
+/// flushed: OnOk result (writer_buffer lines.old.w ≡ [] → writer_buffer lines.new.w ≡ [])
 /// ```
 #[inline]
 fn run<'a, R: Read, F: Folder<R>, W: Write>(
@@ -216,9 +217,10 @@ fn run<'a, R: Read, F: Folder<R>, W: Write>(
 /// Proved:
 ///
 /// ```text
-/// EndsTask (F.opens folder.now) (option_map (λ name. name.now) key_file.entry)
+/// ended: EndsTask (F.opens folder.now) (option_map (λ name. name.now) key_file.entry)
 ///     (map (λ file. file.now) files.now)
 ///     (writer_contents W.contents lines.old.w) (writer_contents W.contents lines.new.w) (Ok task) result
+/// flushed: writer_buffer lines.old.w ≡ [] → IsFlushed (writer_buffer lines.new.w) result
 /// ```
 #[inline]
 fn ended<'a, R: Read, F: Folder<R>, W: Write>(
@@ -238,16 +240,18 @@ fn ended<'a, R: Read, F: Folder<R>, W: Write>(
     }
 }
 
-/// Does what the call asks for. If the call is wrong, or there is no memory for its files, nothing is read or written.
+/// Does what the call asks for. If the call is wrong, or there is no memory for its files, nothing is written. Where all was done or told,
+/// nothing that it wrote is held back.
 ///
 /// Proved:
 ///
 /// ```text
-/// EndsCall (F.opens folder.now) (sayings call.now.said.items)
+/// ended: EndsCall (F.opens folder.now) (sayings call.now.said.items)
 ///     (text_of about.entry.help.now about.entry.version.now about.entry.list.now)
 ///     (writer_contents W.contents lines.old.w) (writer_contents W.contents lines.new.w) result
 ///     ⊎ ((result ≡ Failed NoMemory) × Keeps (writer_contents W.contents lines.old.w)
 ///     (writer_contents W.contents lines.new.w))
+/// flushed: writer_buffer lines.old.w ≡ [] → IsFlushed (writer_buffer lines.new.w) result
 /// ```
 #[inline]
 pub fn outcome_of<'a, R: Read, F: Folder<R>, W: Write>(

@@ -192,13 +192,14 @@ fn tally_lines(alloc: Global, tally: &Tally) -> Result<Vec<u8>, AllocError> {
 }
 
 /// Counts the chunks of the files of these names, writes how many there are, their bytes, and the bytes of those whose hash came before,
-/// and returns whether each file was read to its end. A file that fails is told, and its chunks before that count.
+/// and returns whether each file was read to its end. Of a file that fails the chunks before that count. Nothing is held back.
 ///
 /// Proved:
 ///
 /// ```text
-/// EndsTally (sum_by kind.entry) cuts.now (F.opens folder.now) (map (λ name. name.now) names.now)
+/// told: EndsTally (sum_by kind.entry) cuts.now (F.opens folder.now) (map (λ name. name.now) names.now)
 ///     (writer_contents W.contents w.old) (writer_contents W.contents w.new) result
+/// flushed: OnOk result (writer_buffer w.new ≡ [])
 /// ```
 #[inline]
 pub fn tell_tally<R: Read, F: Folder<R>, W: Write>(

@@ -43,7 +43,7 @@ pub struct Checking<'k> {
     pub strict: bool,
     /// Whether files that are not there are left out.
     pub ignore_missing: bool,
-    /// Whether each improper line is told.
+    /// Whether each improper line is to be told.
     pub warn: bool,
 }
 
@@ -187,7 +187,7 @@ fn verdict_of(ignore_missing: bool, told: u128, came: &Result<u128, Unsummed>) -
     }
 }
 
-/// Whether the file of an entry has the hash that it tells. A file that fails is told.
+/// Whether the file of an entry has the hash that it tells.
 ///
 /// Proved:
 ///
@@ -417,8 +417,9 @@ fn without_end(line: &[u8]) -> &[u8] {
 /// Proved:
 ///
 /// ```text
-/// EndsLine kinds.entry.now checking.entry (F.opens folder.now) list.now line.now
+/// told: EndsLine kinds.entry.now checking.entry (F.opens folder.now) list.now line.now
 ///     (writer_contents W.contents w.old) (writer_contents W.contents w.new) result
+/// flushed: OnOk result (writer_buffer w.new ≡ [])
 /// ```
 #[inline]
 fn tell_line<'k, R: Read, F: Folder<R>, W: Write>(
@@ -455,14 +456,15 @@ const UNCOUNTED: Counts = Counts {
     unkeyed: 0,
 };
 
-/// Checks the lines of the list of that name, which are read here, and writes what comes of each. Returns the counts; nothing if
-/// the list fails, which is told.
+/// Checks the lines of the list of that name, which are read here, and writes what comes of each. Returns the counts; nothing if the
+/// list fails. Nothing that it wrote is held back.
 ///
 /// Proved:
 ///
 /// ```text
-/// EndsList kinds.now checking.entry (F.opens folder.now) list.now (B.remaining lines.old)
+/// told: EndsList kinds.now checking.entry (F.opens folder.now) list.now (B.remaining lines.old)
 ///     (writer_contents W.contents w.old) (writer_contents W.contents w.new) result
+/// flushed: OnOk result (writer_buffer w.old ≡ [] → writer_buffer w.new ≡ [])
 /// ```
 #[inline]
 fn check_lines<B: BufRead, R: Read, F: Folder<R> + Reports, W: Write>(
@@ -506,13 +508,14 @@ fn warn<F: Reports>(reports: &F, warn: bool, list: &[u8], number: u64, came: &Li
     }
 }
 
-/// Checks the lines of the list of that name, and tells whether they pass. A list that fails is told, and does not.
+/// Checks the lines of the list of that name, and tells whether they pass. Those of a list that fails do not.
 ///
 /// Proved:
 ///
 /// ```text
-/// EndsListOf kinds.now checking.entry (F.opens folder.now) list.now
+/// told: EndsListOf kinds.now checking.entry (F.opens folder.now) list.now
 ///     (writer_contents W.contents w.old) (writer_contents W.contents w.new) result
+/// flushed: OnOk result (writer_buffer w.old ≡ [] → writer_buffer w.new ≡ [])
 /// ```
 #[inline]
 fn check_list<R: Read, F: Folder<R> + Reports, W: Write>(
@@ -543,13 +546,14 @@ fn check_list<R: Read, F: Folder<R> + Reports, W: Write>(
     }
 }
 
-/// Checks the lines of the lists of these names, in their order, and tells whether all pass.
+/// Checks the lines of the lists of these names, in their order, and tells whether all pass. Nothing that it wrote is held back.
 ///
 /// Proved:
 ///
 /// ```text
-/// EndsLists kinds.now checking.entry (F.opens folder.now) (map (λ list. list.now) lists.now)
+/// told: EndsLists kinds.now checking.entry (F.opens folder.now) (map (λ list. list.now) lists.now)
 ///     (writer_contents W.contents w.old) (writer_contents W.contents w.new) result
+/// flushed: OnOk result (writer_buffer w.old ≡ [] → writer_buffer w.new ≡ [])
 /// ```
 #[inline]
 pub fn check_lists<R: Read, F: Folder<R> + Reports, W: Write>(

@@ -127,7 +127,7 @@ fn read_keys<R: Read>(r: &mut R) -> io::Result<(u64, u64)> {
 }
 
 /// The keys in the file of that name: it has 16 bytes, the lowest byte of each key first. `None` if it has not, or cannot
-/// be read, which is told.
+/// be read.
 ///
 /// Proved:
 ///
@@ -171,7 +171,7 @@ fn fault_of(any: bool, keys: (u64, u64)) -> Option<&'static str> {
     None
 }
 
-/// The keys in a key file, if there is one: any two, or two of poly61. `None` if it has none such, which is told.
+/// The keys in a key file, if there is one: any two, or two of poly61. `None` if it has none such.
 ///
 /// Proved:
 ///

@@ -25,22 +25,39 @@ use hashers::oz::{DJB2Hasher, LoseLoseHasher, SDBMHasher};
 use hashers::pigeon::Bricolage;
 use std::io::Read;
 
-/// What a check by a hash is proved to see in a file of the same length, by these laws, in words.
+/// What `seen` says of a hash of the table.
+///
+/// Proved:
+///
+/// ```text
+/// IsSeen F.opens (Table kind) result.now
+/// ```
 #[inline]
-pub fn seen(sum: Sum) -> &'static str {
-    match sum {
-        Sum::Table(Kind::Fnv1a32 | Kind::Fnv1At32) =>
-            "1 changed byte, or changes within 2 neighbouring bytes",
-        Sum::Table(Kind::Fnv1a64 | Kind::Fnv1At64 | Kind::Sdbm) =>
+fn seen_in_table<R: Read, F: Folder<R>>(kind: Kind) -> &'static str {
+    match kind {
+        Kind::Fnv1a32 | Kind::Fnv1At32 => "1 changed byte, or changes within 2 neighbouring bytes",
+        Kind::Fnv1a64 | Kind::Fnv1At64 | Kind::Sdbm =>
             "1 changed byte, or changes within 3 neighbouring bytes",
-        Sum::Table(Kind::Djb2 | Kind::Djb2Add) =>
-            "1 changed byte, or changes within 6 in the low 5 bits",
-        Sum::Table(Kind::Crc32 | Kind::Crc32c) =>
-            "1 changed byte, or changes within 32 neighbouring bits",
-        Sum::Table(Kind::FxHash | Kind::FxHash64) => "1 changed word, of 8 bytes",
-        Sum::Table(Kind::FxHash32 | Kind::Murmur3At32 | Kind::Xxh32) =>
-            "1 changed word, of 4 bytes",
-        Sum::Table(Kind::LoseLose | Kind::Bricolage | Kind::Oaat | Kind::Joaat) => "1 changed byte",
+        Kind::Djb2 | Kind::Djb2Add => "1 changed byte, or changes within 6 in the low 5 bits",
+        Kind::Crc32 | Kind::Crc32c => "1 changed byte, or changes within 32 neighbouring bits",
+        Kind::FxHash | Kind::FxHash64 => "1 changed word, of 8 bytes",
+        Kind::FxHash32 | Kind::Murmur3At32 | Kind::Xxh32 => "1 changed word, of 4 bytes",
+        Kind::LoseLose | Kind::Bricolage | Kind::Oaat | Kind::Joaat => "1 changed byte",
+        _ => "no promise",
+    }
+}
+
+/// What a check by a hash is proved to see in a file of the same length, by these laws, in words.
+///
+/// Proved:
+///
+/// ```text
+/// IsSeen F.opens sum result.now
+/// ```
+#[inline]
+pub fn seen<R: Read, F: Folder<R>>(sum: Sum) -> &'static str {
+    match sum {
+        Sum::Table(kind) => seen_in_table::<R, F>(kind),
         Sum::Wide(Wide::Murmur3) => "1 changed block, of 16 bytes",
         Sum::Poly61 => "any change, but under few keys",
         _ => "no promise",

@@ -313,9 +313,10 @@ fn task_of(kinds: &[LineKind<'static>], call: &Call<'_>) -> Result<Task, Wrong> 
 /// Proved:
 ///
 /// ```text
-/// EndsLists (taken kinds.now checking.entry) checking.entry (F.opens folder.now)
+/// told: EndsLists (taken kinds.now checking.entry) checking.entry (F.opens folder.now)
 ///     (map (λ list. list.now) lists.now)
 ///     (writer_contents W.contents w.old) (writer_contents W.contents w.new) result
+/// flushed: OnOk result (writer_buffer w.old ≡ [] → writer_buffer w.new ≡ [])
 /// ```
 #[inline]
 fn check_taken<R: Read, F: Folder<R> + Reports, W: Write>(
@@ -337,8 +338,9 @@ fn check_taken<R: Read, F: Folder<R> + Reports, W: Write>(
 /// Proved:
 ///
 /// ```text
-/// EndsTask kinds.now (F.opens folder.now) (map (λ file. file.now) files.now)
+/// ended: EndsTask kinds.now (F.opens folder.now) (map (λ file. file.now) files.now)
 ///     (writer_contents W.contents w.old) (writer_contents W.contents w.new) task result
+/// flushed: writer_buffer w.old ≡ [] → IsFlushed (writer_buffer w.new) result
 /// ```
 #[inline]
 fn ended<R: Read, F: Folder<R> + Reports, W: Write>(
@@ -357,15 +359,16 @@ fn ended<R: Read, F: Folder<R> + Reports, W: Write>(
 }
 
 /// Does what the call asks for, by hashes of these kinds. If the call is wrong, or there is no memory for its files, nothing is
-/// read or written.
+/// written. Where all was done or told, nothing that it wrote is held back.
 ///
 /// Proved:
 ///
 /// ```text
-/// EndsCall kinds.now (F.opens folder.now) (sayings call.now.said.items)
+/// ended: EndsCall kinds.now (F.opens folder.now) (sayings call.now.said.items)
 ///     (text_of about.entry.help.now about.entry.version.now about.entry.list.now)
 ///     (writer_contents W.contents w.old) (writer_contents W.contents w.new) result
 ///     ⊎ ((result ≡ Failed NoMemory) × Keeps (writer_contents W.contents w.old) (writer_contents W.contents w.new))
+/// flushed: writer_buffer w.old ≡ [] → IsFlushed (writer_buffer w.new) result
 /// ```
 #[inline]
 pub fn outcome_of<R: Read, F: Folder<R> + Reports, W: Write>(
@@ -401,8 +404,7 @@ fn key_file<'a>(call: &Call<'a>) -> Option<&'a [u8]> {
     }
 }
 
-/// The keys in the key file of a call, if it gives one: any two for siphash24, and else two of poly61. `None` if it has none such,
-/// which is told.
+/// The keys in the key file of a call, if it gives one: any two for siphash24, and else two of poly61. `None` if it has none such.
 ///
 /// Proved:
 ///
@@ -419,15 +421,16 @@ fn keys_of_call<R: Read, F: Folder<R>>(
     keys_for(folder, key_file(call), asks_for(call, b"siphash24"))
 }
 
-/// Does what the call asks for, by the hashes that can be told, and by those that take keys under the keys of its key file. If the
-/// call gives one, it is read first; if it has no such keys, that is told, and nothing else is read or written.
+/// Does what the call asks for, by the hashes that can be told, and by those that take keys under the keys of its key file. If that
+/// has no such keys, nothing is written. Where all was done or told, nothing that it wrote is held back.
 ///
 /// Proved:
 ///
 /// ```text
-/// EndsWithKeys (F.opens folder.now) (sayings call.now.said.items)
+/// ended: EndsWithKeys (F.opens folder.now) (sayings call.now.said.items)
 ///     (text_of about.entry.help.now about.entry.version.now about.entry.list.now)
 ///     (writer_contents W.contents w.old) (writer_contents W.contents w.new) result
+/// flushed: writer_buffer w.old ≡ [] → IsFlushed (writer_buffer w.new) result
 /// ```
 #[inline]
 pub fn outcome_with_keys<R: Read, F: Folder<R> + Reports, W: Write>(

@@ -99,7 +99,7 @@ fn sum_line(
     Ok(line)
 }
 
-/// Writes the line of a file.
+/// Writes the line of a file, which is not held back.
 ///
 /// Proved:
 ///
@@ -108,6 +108,7 @@ fn sum_line(
 ///     (sum_line summing name.now number))
 /// err: OnErr result (AppendsPart (writer_contents W.contents w.old) (writer_contents W.contents w.new)
 ///     (sum_line summing name.now number))
+/// flushed: OnOk result (writer_buffer w.new ≡ [])
 /// ```
 #[inline]
 fn tell_sum<W: Write>(
@@ -128,8 +129,9 @@ fn tell_sum<W: Write>(
 /// Proved:
 ///
 /// ```text
-/// EndsSum summing (F.opens folder.now) name.now
+/// told: EndsSum summing (F.opens folder.now) name.now
 ///     (writer_contents W.contents w.old) (writer_contents W.contents w.new) result
+/// flushed: OnOk result (writer_buffer w.old ≡ [] → writer_buffer w.new ≡ [])
 /// ```
 #[inline]
 fn sum_file<R: Read, F: Folder<R>, W: Write>(
@@ -151,13 +153,14 @@ fn sum_file<R: Read, F: Folder<R>, W: Write>(
     }
 }
 
-/// Writes the line of each file, in their order, and tells whether each was read. A file that fails is told, and has no line.
+/// Writes the line of each file, in their order, and tells whether each was read. A file that fails has no line. None is held back.
 ///
 /// Proved:
 ///
 /// ```text
-/// EndsSums summing (F.opens folder.now) (map (λ name. name.now) names.now)
+/// told: EndsSums summing (F.opens folder.now) (map (λ name. name.now) names.now)
 ///     (writer_contents W.contents w.old) (writer_contents W.contents w.new) result
+/// flushed: OnOk result (writer_buffer w.old ≡ [] → writer_buffer w.new ≡ [])
 /// ```
 #[inline]
 pub fn sum_files<R: Read, F: Folder<R>, W: Write>(

@@ -9,6 +9,7 @@ use cli::call::Call;
 use cli::frame::{About, wrong_word};
 use cli::help::help_for;
 use cli::program::{BUFFER, Program, run};
+use cli::progress::Watched;
 use hash_sums::disk::Checked;
 use hash_sums::laws::seen;
 use hash_sums::outcome::{Misuse, Outcome, Wrong, call_of, options, outcome_with_keys};
@@ -60,7 +61,7 @@ fn list(alloc: Global) -> Result<String, AllocError> {
             told.name,
             bits,
             cuts,
-            seen(sum)
+            seen::<Watched<'_>, Checked<'_>>(sum)
         )?;
         list.push_str(line.as_str())?;
     }

@@ -85,13 +85,15 @@ fn list(alloc: Global) -> Result<String, AllocError> {
     Ok(list)
 }
 
-/// Writes the table that the call asks for.
+/// Writes the table that the call asks for. Where all went well, nothing that it wrote is held back.
+///
+/// Proved:
+///
+/// ```text
+/// IfOk result (λ outcome. writer_buffer w.old ≡ [] → IsFlushed (writer_buffer w.new) outcome)
+/// ```
 #[inline]
-fn worked(
-    rt: &HostRuntime,
-    call: &Call<'_>,
-    w: &mut BufWriter<Stdout>,
-) -> Result<Outcome, Failure> {
+fn worked(rt: &HostRuntime, call: &Call<'_>, w: &mut BufWriter<Stdout>) -> Result<Outcome, Failure> {
     let settings = match settings_of(call) {
         Ok(settings) => settings,
         Err(wrong) => return Ok(Outcome::Usage(wrong)),
@@ -103,7 +105,13 @@ fn worked(
     Ok(of_telling(tell_table(rt, &settings, &kinds, call.value(b"plot"), w)))
 }
 
-/// Writes a text that the call asks for, or the table.
+/// Writes a text that the call asks for, or the table. Where all went well, nothing that it wrote is held back.
+///
+/// Proved:
+///
+/// ```text
+/// IfOk result (λ outcome. writer_buffer w.old ≡ [] → IsFlushed (writer_buffer w.new) outcome)
+/// ```
 #[inline]
 fn told(rt: &HostRuntime, call: &Call<'_>, w: &mut BufWriter<Stdout>) -> Result<Outcome, Failure> {
     let alloc = rt.alloc();

@@ -52,6 +52,12 @@ fn keys_of_input(rt: &HostRuntime, layout: Layout) -> Result<Texts<RandomKeys>, 
 
 /// Writes the row of each hasher as soon as it is done, and the head in front of the first: where there is no memory for that row,
 /// nothing is written.
+///
+/// Proved:
+///
+/// ```text
+/// OnOk result (writer_buffer w.old ≡ [] → writer_buffer w.new ≡ [])
+/// ```
 fn tell_rows(
     rt: &HostRuntime,
     kinds: &[Kind],
@@ -83,6 +89,12 @@ fn tell_rows(
 }
 
 /// Writes what chance gives, for hashes of each number of bits that a row has.
+///
+/// Proved:
+///
+/// ```text
+/// OnOk result (writer_buffer w.old ≡ [] → writer_buffer w.new ≡ [])
+/// ```
 #[inline]
 fn tell_chance(
     rt: &HostRuntime,
@@ -99,6 +111,12 @@ fn tell_chance(
 }
 
 /// Writes which hasher is recommended.
+///
+/// Proved:
+///
+/// ```text
+/// OnOk result (writer_buffer w.new ≡ [])
+/// ```
 #[inline]
 fn tell_best(
     rt: &HostRuntime,
@@ -167,6 +185,12 @@ fn fill(file: &mut File, text: &str) -> io::Result<()> {
 }
 
 /// Draws the picture.
+///
+/// Proved:
+///
+/// ```text
+/// OnOk result (writer_buffer w.old ≡ [] → writer_buffer w.new ≡ [])
+/// ```
 #[inline]
 fn draw(canvas: Canvas, text: &str, w: &mut BufWriter<Stdout>) -> Result<(), Failure> {
     match canvas {
@@ -178,7 +202,14 @@ fn draw(canvas: Canvas, text: &str, w: &mut BufWriter<Stdout>) -> Result<(), Fai
     }
 }
 
-/// Opens the picture's file if one is asked for, reads the keys, and writes the table and the picture.
+/// Opens the picture's file if one is asked for, reads the keys, and writes the table and the picture. Nothing that it wrote is held
+/// back.
+///
+/// Proved:
+///
+/// ```text
+/// OnOk result (writer_buffer w.old ≡ [] → writer_buffer w.new ≡ [])
+/// ```
 pub fn tell_table(
     rt: &HostRuntime,
     settings: &Settings,
