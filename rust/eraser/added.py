@@ -2,7 +2,8 @@
 import re
 import textwrap
 
-from .tables import ALLOW, CRATES, DOC_WORDS, EXPORTS, SHIM_MACROS, SHIM_TYPES, MARK, NOTES, PROGRAMS, SOURCES
+from .tables import (
+    ALLOW, CRATES, DOC_WORDS, EXPORTS, MARK, NOTES, PROGRAMS, RUST_CRATES, SHIM_MACROS, SHIM_TYPES, SOURCES, TESTS_OF)
 
 # What may stand at the head of a path.
 HEADS = {"std", *SOURCES} - PROGRAMS
@@ -125,19 +126,22 @@ def shim_names(s):
     return sorted(found) + ["std"] * ("std" in crates_named(s) and s.on_shim)
 
 
-def program(s):
-    """`pub` before the `main` of a program, which a file by hand calls."""
+def called(s):
+    """`pub` before the `main` of a program, which a file by hand calls, and before tests, which RUN calls."""
     for k in range(len(s.toks)):
-        if s.crate in PROGRAMS and s.texts(k, k + 3) == ["fn", "main", "(", "rt"]:
-            add(s, k, "pub ")
+        if s.is_(k, "fn") and s.texts(k + 2, k + 3) == ["(", "rt"]:
+            if s.crate in PROGRAMS and s.is_(k + 1, "main") or s.toks[k + 1].text in s.tests:
+                add(s, k, "pub ")
 
 
 def imports_of(s):
     """The `use` lines of the prelude: the crates that become modules here, and those of the crate below."""
     named = crates_named(s)
-    shim = "crate::shim" if s.siblings is CRATES else "hashers_proved::shim"
-    for root, names in (("crate", [it for it in named if it in s.siblings or it == "std" and not s.on_shim]),
-                        ("hashers_proved", [it for it in named if it in CRATES and it not in s.siblings]), (shim, shim_names(s))):
+    here = [it for it in named if it in s.siblings or it == "std" and not s.on_shim]
+    below = [(rust_crate.replace("-", "_"), [it for it in named if it in RUST_CRATES[rust_crate] and it not in s.siblings])
+             for rust_crate in ("hashers-proved", "hashers-tools")]
+    shim = "crate::shim" if s.siblings in (CRATES, RUST_CRATES["hashers-tests"]) else "hashers_proved::shim"
+    for root, names in [("crate", here), *below, (shim, shim_names(s))]:
         if names:
             names = "{%s}" % ", ".join(names) if len(names) > 1 else names[0]
             yield "%suse %s::%s;" % ("pub " if reexports(s) else "", root, names)
@@ -158,5 +162,5 @@ def prelude(s, text):
         head.append("#[doc(hidden)]")
     elif uses and any("cfg(" in it for it in s.before.values()):
         head.append("#[allow(unused_imports)]")
-    head += uses + ["#[allow(unsafe_code)]", "mod exports;"] * (s.module == EXPORTS)
+    head += uses + ["#[allow(unsafe_code)]", "mod exports;"] * (s.module == EXPORTS) + ["mod run;"] * (s.module == TESTS_OF)
     return "\n".join(docs + head + ["", body]).rstrip("\n") + "\n"

@@ -10,8 +10,8 @@ SECOND = re.compile(r"""
   | (?P<sign>.)
 """, re.X | re.S)
 MARK = re.compile(r"// What follows is the proved text of crates/[\w/]+\.rt without its contracts\.")
-PRELUDE = re.compile(r"// .*|#!?\[allow\([\w, ]+\)\]|#\[doc\(hidden\)\]|mod exports;"
-                     r"|(?:pub )?use (?:crate|hashers_proved)(?:::shim)?::(?:\w+|\{[\w, ]+\});")
+PRELUDE = re.compile(r"// .*|#!?\[allow\([\w, ]+\)\]|#\[doc\(hidden\)\]|mod (?:exports|run);"
+                     r"|(?:pub )?use (?:crate|hashers_proved|hashers_tools)(?:::shim)?::(?:\w+|\{[\w, ]+\});")
 APART = re.compile(r"// Of the import above what wants std:\n#\[cfg\(feature = \"std\"\)\]\n"
                    r"(?:pub )?use (\w+)::(\w+(?: as \w+)?|\{[\w, ]+\});")
 CFG = ["#", "[", "cfg", "(", "feature", "=", '"std"', ")", "]"]
@@ -30,7 +30,7 @@ def without_additions(rust, crate):
             i += 9
         elif rust[i:i + 4] == INLINE:
             i += 4
-        elif rust[i:i + 5] == ["pub", "fn", "main", "(", "rt"]:
+        elif rust[i:i + 2] == ["pub", "fn"] and rust[i + 3:i + 5] == ["(", "rt"]:
             i += 1
         elif rust[i] == "crate" and rust[i + 1:i + 6] == [":", ":", crate, ":", ":"]:
             words.append("crate")

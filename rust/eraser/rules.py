@@ -57,6 +57,8 @@ def attributes(s):
         name = s.toks[o + 1].text
         if s.texts(o, s.match[o] + 2) == ["[", "cfg", "(", "test", ")", "]", "mod", "tests"] and s.is_(s.match[o] + 3, ";"):
             s.erase(k, s.match[o] + 3, "module of tests")
+        elif s.of_tests and s.texts(o, o + 2) == ["[", "test", "]"]:
+            test(s, k, o + 3)
         elif name in ("tactic", "cycle", "rattlefmt"):
             s.erase(k, s.match[o], "#[%s]" % name)
         elif s.texts(o, o + 5) == ["[", "unsafe", "(", "no_mangle", ")", "]"]:
@@ -65,6 +67,34 @@ def attributes(s):
             derive(s, k, o)
         elif name not in ATTRIBUTES:
             s.stop(k, "an unknown attribute")
+
+
+def test(s, first, fn):
+    """`#[test] fn NAME(rt: HostRuntime)`: a test of Rust takes nothing, so a file of its own calls this one."""
+    if s.texts(fn, fn) != ["fn"] or s.texts(fn + 2, fn + 6) != ["(", "rt", ":", "HostRuntime", ")"]:
+        s.stop(first, "a test of an unknown form")
+    s.erase(first, fn - 1, "#[test]")
+    s.tests.append(s.toks[fn + 1].text)
+
+
+def modules(s):
+    """The lines of modules whose files are not taken."""
+    part = s.module.split("/", 1)[1]
+    folder = "" if part in ("lib", "main") else part + "/"
+    for k, name in tops(s):
+        if s.parts and k not in s.gone and s.is_(k, "mod") and s.is_(k + 2, ";") and folder + name not in s.parts:
+            s.erase(k - s.is_(k - 1, "pub"), k + 2, "module that is not taken", docs=True)
+
+
+def handles(s):
+    """What ends a test takes a handle in Rattle: `assert!(rt; ..)`, `x.expect(&rt, ..)`."""
+    for k in range(len(s.toks) if s.of_tests else 0):
+        if s.is_(k, "assert", "assert_eq", "panic") and s.texts(k + 1, k + 4) == ["!", "(", "rt", ";"]:
+            s.erase(k + 3, k + 4, "handle")
+        elif s.texts(k, k + 2) == [".", "expect", "("]:
+            rt = k + 3 + s.is_(k + 3, "&")
+            if s.texts(rt, rt + 1) == ["rt", ","]:
+                s.erase(k + 3, rt + 1, "handle")
 
 
 def exported(s, first, last):
@@ -237,9 +267,10 @@ def unknown(s):
         if t.kind == "ghost":
             s.stop(k, "ghost text that no rule took")
         if t.kind == "id" and t.text in UNKNOWN and not (s.on_shim and t.text in SHIM_WORDS):
-            if t.text != "expect" or s.is_(k - 1, "."):
+            if t.text != "expect" or s.is_(k - 1, ".") and k + 2 not in s.gone:
                 s.stop(k, "no rule for %s" % UNKNOWN[t.text])
-        takes_handle = s.is_(k, "!") and s.is_(k + 1, "(", "[") and s.is_id(k + 2) and (s.is_(k + 3, ";") or s.is_(k + 2, "in"))
+        takes_handle = (s.is_(k, "!") and s.is_(k + 1, "(", "[") and s.is_id(k + 2) and k + 2 not in s.gone
+                        and (s.is_(k + 3, ";") or s.is_(k + 2, "in")))
         if takes_handle and not (s.on_shim and s.is_(k - 1, *SHIM_MACROS)):
             s.stop(k, "a macro that takes a handle")
         if s.is_(k, "fn") and s.is_id(k + 1):

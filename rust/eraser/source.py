@@ -2,7 +2,7 @@
 import bisect
 import functools
 
-from .tables import SHIM_CRATES
+from .tables import SHIM_CRATES, TESTS_OF
 from .tokens import Scanner
 
 OPEN, CLOSE = {"(": ")", "[": "]", "{": "}"}, {")", "]", "}"}
@@ -17,18 +17,20 @@ def tokens_of(path, text):
 class Source:
     """`gone` says of a token's number why it goes; `before` and `behind` what text is added there. `toks` has no comments, `all` has."""
 
-    def __init__(self, crate, module, path, text, siblings):
+    def __init__(self, crate, module, path, text, siblings, parts=None):
         self.crate, self.module, self.path, self.text = crate, module, path, text
-        # the Rattle crates that become modules of the same Rust crate
-        self.siblings = siblings
+        # the Rattle crates that become modules of the same Rust crate, and the files that are taken of this one, where not all are
+        self.siblings, self.parts = siblings, parts
         # whether it takes memory, reads or writes, over the shim
         self.on_shim = crate in SHIM_CRATES
+        # whether it has tests, which take a handle
+        self.of_tests = module.startswith(TESTS_OF)
         self.scanner = Scanner(path, text)
         self.all = tokens_of(path, text)
         self.toks = [t for t in self.all if t.kind not in ("note", "doc", "idoc")]
         self.match = self.pairs()
         self.gone, self.before, self.behind = {}, {}, {}
-        self.docs_gone, self.laws, self.items = set(), set(), set()
+        self.docs_gone, self.laws, self.items, self.tests = set(), set(), set(), []
 
     def stop(self, k, why):
         self.scanner.stop(self.toks[min(k, len(self.toks) - 1)].start, why)

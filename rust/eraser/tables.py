@@ -14,11 +14,17 @@ RUST_CRATES = {
         "hashof", "dedup", "hashsum", "cuts", "spread",
     ],
     "hashers-c": ["hash_c"],
+    "hashers-tests": ["streams", "hash_vectors"],
 }
 CRATES = RUST_CRATES["hashers-proved"]
 # The programs, which no source imports.
 PROGRAMS = {"hashof", "dedup", "hashsum", "cuts", "spread"}
 SOURCES = sorted({crate for crates in RUST_CRATES.values() for crate in crates})
+# The files of tests that go: what the others need is Rattle's std alone, as its maps.
+TESTS = {
+    "buckets", "calls", "chunks", "filter_files", "filters", "inputs", "laws", "leads", "lines", "original", "readers", "ring", "rounds",
+    "sample", "shelf", "spread", "sums", "two_texts", "vectors", "xxh3",
+}
 # Crates of which these files alone are taken: others take memory, read, have laws alone or are for tests.
 PARTS = {
     "hashers-proved": {
@@ -32,21 +38,27 @@ PARTS = {
     "hashers-tools": {
         "hashof": {"line", "main", "outcome", "run"},
     },
+    "hashers-tests": {
+        "streams": {"rehearsal"},
+        "hash_vectors": {"byte_sum", "times31", "tests", *("tests/" + it for it in TESTS)},
+    },
 }
 # Crates that take memory, read or write: what they name of Rattle's std is in the shim, which is written by hand over Rust's.
 SHIM_CRATES = {
     "streams", "text_set", "hash_lines", "hash_buckets", "hash_ring", "hash_cuts", "hash_bloom",
-    "cli", "unique_lines", "hash_spread", "hash_sums", "hash_chunks",
+    "cli", "unique_lines", "hash_spread", "hash_sums", "hash_chunks", "hash_vectors",
 } | PROGRAMS
 # What these find in their prelude in Rattle: types, and macros that take a handle or an allocator.
 SHIM_TYPES = {"HostRuntime", "String", "Vec"}
 SHIM_MACROS = {"eprint", "eprintln", "format", "vec"}
 # Folders in src whose files are by hand, as those in src itself.
 BY_HAND = {"shim", "bin"}
-# At these words of UNKNOWN it does not stop there.
-SHIM_WORDS = {"HostRuntime", "rt", "Global", "AllocError", "alloc", "f64"}
+# At these words of UNKNOWN it does not stop there: where they are no names of the shim, rustc does.
+SHIM_WORDS = {"HostRuntime", "rt", "Global", "AllocError", "alloc", "f64", "Abort"}
 # The file of the exports for C, which are a module of their own.
 EXPORTS = "hash_c/lib"
+# The module of tests, each of which a file of its own calls.
+TESTS_OF = "hash_vectors/tests"
 
 # The Rust crate that has the feature std.
 FEATURED = "hashers-proved"

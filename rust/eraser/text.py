@@ -2,6 +2,7 @@
 import functools
 import os
 import re
+import textwrap
 
 from . import added, imports, rules
 from .source import Source
@@ -48,10 +49,13 @@ def erased(folder, rust_crate):
     """The sources with marks at what goes and what is added, and the names of the laws."""
     crates = RUST_CRATES[rust_crate]
     names = law_names(folder)
-    files = [Source(*it, crates) for it in read_all(folder, crates, PARTS.get(rust_crate, {}))]
+    parts = PARTS.get(rust_crate, {})
+    files = [Source(*it, crates, parts.get(it[0])) for it in read_all(folder, crates, parts)]
     for s in files:
         rules.ghost_text(s)
         rules.attributes(s)
+        rules.modules(s)
+        rules.handles(s)
         rules.functions(s, names)
     laws = set().union(*(s.laws for s in files))
     for s in files:
@@ -66,7 +70,7 @@ def erased(folder, rust_crate):
         if rust_crate == FEATURED and not s.on_shim:
             imports.std_items(s)
         added.functions(s)
-        added.program(s)
+        added.called(s)
         rules.unknown(s)
     return files, laws
 
@@ -88,6 +92,16 @@ def rust(s):
         out += [s.text[at:start], text]
         at = end
     return added.prelude(s, tidy("".join(out) + s.text[at:]))
+
+
+def run(files):
+    """The text of the file that calls the tests: of each file the names of its tests."""
+    lines = ["//! Calls each test, with what a program has of the system. Written by rust/erase.", "tests! {"]
+    for s in files:
+        if s.tests:
+            lines += textwrap.wrap("%s: %s;" % (s.module.rsplit("/", 1)[1], " ".join(s.tests)), WIDTH, initial_indent="    ",
+                                   subsequent_indent="        ")
+    return "\n".join([*lines, "}"]) + "\n"
 
 
 def tidy(text):
@@ -118,7 +132,7 @@ def without_marks(line):
     """The line with no blanks left over where something went."""
     if "\0" not in line:
         return line
-    line = re.sub("(?<=[{]) ?\0+ ", "", re.sub(" \0+(?=[>,;)])", "", line))
+    line = re.sub("(?<=[{(]) ?\0+ ", "", re.sub(" \0+(?=[>,;)])", "", line))
     return re.sub(r"(\S) +$", r"\1", re.sub(" \0+ ", " ", line).replace("\0", ""))
 
 

@@ -81,6 +81,18 @@ impl<R: BlockRule<N>, const N: usize> BlockHasher<R, N> {
     pub fn hash_of(seed: R::Seed, text: &[u8]) -> R::Hash
         ensures { result ≡ R.hash (R.numbers seed) text.now }
     {
+        if text.len() < N {
+            R::finish(&R::start(seed), text, text.len() as u64)
+        } else {
+            Self::hash_of_blocks(seed, text)
+        }
+    }
+
+    // The same of a longer text. It is not inlined: a short text would save the registers of its loop too.
+    #[inline(never)]
+    fn hash_of_blocks(seed: R::Seed, text: &[u8]) -> R::Hash
+        ensures { result ≡ R.hash (R.numbers seed) text.now }
+    {
         let mut state = R::start(seed);
         let left = blocks_in::<R, N>(&mut state, text);
         R::finish(&state, left, text.len() as u64)

@@ -22,6 +22,7 @@ use Rattle.hash_chunks.specs.declared.sizes.Sizes.{Sizes}
 use Rattle.hash_cuts.specs.Cuts.{Cutting, cutting}
 use Rattle.hash_lines.specs.declared.line.LineKind.{LineKind}
 use Rattle.hash_sums.specs.Keys.{AreKeysFor}
+use Rattle.hash_sums.specs.declared.keys.KeyRule.TheVariants.{Any}
 use Rattle.hash_sums.specs.Sums.{kind_of, kinds, sum_by, told_of}
 
 -- the options
@@ -63,7 +64,7 @@ EndsRun false kind cuts opens files written written' ended = EndsListing kind cu
 abbrev pub EndsTask : Opens → (key_file : Option (List ℕ)) (files : List (List ℕ)) (written written' : Option (List ℕ))
     → Result Task (Wrong Misuse) → Outcome Misuse TooMany → Type 0
 EndsTask opens key_file files written written' (Ok task) result =
-    ((keys : Option (ℕ × ℕ)) × AreKeysFor true opens key_file keys × (ended : Result Bool (Failure TooMany))
+    ((keys : Option (ℕ × ℕ)) × AreKeysFor Any opens key_file keys × (ended : Result Bool (Failure TooMany))
     × EndsRun task.stats task.kind (cutting_of task.sizes keys) opens files written written' ended × (result ≡ of_run ended))
     ⊎ (IsSome key_file × (result ≡ Reported) × Keeps written written')
 EndsTask opens key_file files written written' (Err wrong) result = (result ≡ Usage wrong) × Keeps written written'

@@ -21,7 +21,7 @@ use cli::outcome;
 use cli::outcome::{Words, of_run, of_telling};
 use hash_cuts::Cuts;
 use hash_lines::line::LineKind;
-use hash_sums::keys::keys_for;
+use hash_sums::keys::{KeyRule, keys_for};
 use hash_sums::sums::{kind_of, kinds};
 use std::alloc::{AllocError, Global};
 use std::io::{Read, Write};
@@ -192,7 +192,7 @@ fn ended<'a, R: Read + Drop, F: Folder<R>, W: Write + Drop>(
         (writer_contents W.contents lines.old.w) (writer_contents W.contents lines.new.w) (Ok task) result }
     ensures flushed { writer_buffer lines.old.w ≡ [] → IsFlushed (writer_buffer lines.new.w) result }
 {
-    match keys_for(folder, key_file, true) {
+    match keys_for(folder, key_file, KeyRule::Any) {
         Some(keys) => {
             let cuts = cuts_of(task.sizes, keys);
             of_run(run(alloc, folder, task, &cuts, files, lines))

@@ -7,7 +7,7 @@ ghost use Rattle.hash_murmur3.specs.Murmur3x128.{scrambled, scramble1, scramble2
 ghost use Rattle.hash_murmur3.specs.Murmur3x128Laws.{total_wraps};
 
 use hash_blocks::{BlockHasher, BlockRule, WideRule, le_eight};
-use hash_words::{le64, rotl64, xorshift};
+use hash_words::{le64, rotl64, rotl64_by, xorshift};
 
 /// What MurmurHash3_x64_128 multiplies the first word of a block by.
 pub const C1: u64 = 0x87c3_7b91_1142_53d5;
@@ -18,12 +18,12 @@ pub const C2: u64 = 0x4cf5_ad43_2745_937f;
 /// A word of the text, before MurmurHash3_x64_128 folds it in: a product, a turn to the left, and a product.
 #[inline(always)]
 #[tactic(auto, unfolding(crate::specs::Murmur3x128::scrambled))]
-pub fn scrambled(turn: u32, first: u64, second: u64, word: u64) -> u64
-    requires some { 0 < turn }
-    requires within { turn < 64 }
-    ensures { result ≡ scrambled turn first second word }
+pub fn scrambled<const TURN: u32>(first: u64, second: u64, word: u64) -> u64
+    requires some { 0 < TURN }
+    requires within { TURN < 64 }
+    ensures { result ≡ scrambled TURN first second word }
 {
-    rotl64(word.wrapping_mul(first), turn).wrapping_mul(second)
+    rotl64_by::<TURN>(word.wrapping_mul(first)).wrapping_mul(second)
 }
 
 // A word of the state turned, the other added, and a constant added to five times that.
@@ -55,8 +55,8 @@ pub fn words_of(block: &[u8; 16]) -> (u64, u64)
 fn after_words(h: (u64, u64), k1: u64, k2: u64) -> (u64, u64)
     ensures { result ≡ after_words h k1 k2 }
 {
-    let new1 = turned(27, 0x52dc_e729, h.0 ^ scrambled(31, C1, C2, k1), h.1);
-    let new2 = turned(31, 0x3849_5ab5, h.1 ^ scrambled(33, C2, C1, k2), new1);
+    let new1 = turned(27, 0x52dc_e729, h.0 ^ scrambled::<31>(C1, C2, k1), h.1);
+    let new2 = turned(31, 0x3849_5ab5, h.1 ^ scrambled::<33>(C2, C1, k2), new1);
     (new1, new2)
 }
 
@@ -99,8 +99,8 @@ fn folded(h: (u64, u64), left: &[u8], total: u64) -> (u64, u64)
 {
     let (k1, k2) = words_left(left);
     (
-        h.0 ^ scrambled(31, C1, C2, k1) ^ total,
-        h.1 ^ scrambled(33, C2, C1, k2) ^ total,
+        h.0 ^ scrambled::<31>(C1, C2, k1) ^ total,
+        h.1 ^ scrambled::<33>(C2, C1, k2) ^ total,
     )
 }
 

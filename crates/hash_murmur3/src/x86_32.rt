@@ -6,7 +6,7 @@ ghost use Rattle.hash_murmur3.specs.Murmur3.{scramble, after_word, last_mix, aft
 ghost use Rattle.hash_murmur3.specs.Murmur3Laws.{total_wraps};
 
 use hash_blocks::{BlockHasher, BlockRule};
-use hash_words::{le_four, le32, rotl32};
+use hash_words::{le_four, le32, rotl32, rotl32_by};
 
 /// A word of the text, before MurmurHash3_x86_32 folds it in.
 #[inline(always)]
@@ -14,7 +14,7 @@ use hash_words::{le_four, le32, rotl32};
 pub fn scramble(word: u32) -> u32
     ensures { result ≡ scramble word }
 {
-    rotl32(word.wrapping_mul(0xcc9e2d51), 15).wrapping_mul(0x1b873593)
+    rotl32_by::<15>(word.wrapping_mul(0xcc9e2d51)).wrapping_mul(0x1b873593)
 }
 
 // The state after one word.

@@ -11,14 +11,14 @@ use Rattle.hash_lines.specs.Told.{Tells}
 use Rattle.cli.specs.Call.{Saying, given, value_after, value_of}
 use Rattle.cli.specs.Call.Saying.{Gives, Operand, Errs}
 use Rattle.cli.specs.Files.{Opens}
-use Rattle.cli.specs.Frame.{request_of}
-use Rattle.cli.specs.declared.frame.Request.TheVariants.{Work}
 use Rattle.hash_sums.specs.Checking.{TellsAny}
 use Rattle.hash_sums.specs.Ended.{GivesKeys, HasEndedWell}
 use Rattle.hash_sums.specs.Keys.{AreKeysFor, ArePoly61Keys, MayBeKeys}
+use Rattle.hash_sums.specs.declared.keys.KeyRule.{KeyRule}
+use Rattle.hash_sums.specs.declared.keys.KeyRule.TheVariants.{Any, Poly61}
 use Rattle.hash_sums.specs.declared.outcome.Misuse.TheVariants.{NotWithCheck, OnlyWithCheck, NeedsKeyFile, UnusedKeyFile}
 use Rattle.hash_sums.proofs.NameLemmas.{found_as_told}
-use Rattle.hash_sums.specs.Program.{asked, asks_for, asks_for_keyed, asks_for_poly61, asks_for_siphash24, gives_checking, gives_writing, is_by_name, key_file, kinds_under, misuse_of}
+use Rattle.hash_sums.specs.Program.{asked, asks_for, asks_for_keyed, asks_for_poly61, asks_for_siphash24, gives_checking, gives_writing, is_by_name, key_file, key_rule, kinds_under, misuse_of}
 use Rattle.hash_sums.specs.Sums.{is_named, kind_of, kinds, poly61_at_both, siphash24_at, sum_at, sum_by, sum_of, told_at, told_of, Told}
 
 -- one thing alone is there
@@ -122,15 +122,15 @@ gives_file call no_misuse asks = at (given (codes "check") call && gives_writing
     at false false false false is so = absurd (false≢true so)
 
 -- the keys under which such a call ended well are those in its key file
-keys_given : (opens : Opens) (call : List Saying) (any : Bool) → request_of call ≡ Work → misuse_of call ≡ None
-    → asks_for_keyed call ≡ true → (keys : Option (ℕ × ℕ)) → AreKeysFor any opens (key_file call) keys
-    → (pair : ℕ × ℕ) × (keys ≡ Some pair) × GivesKeys opens call pair × MayBeKeys any pair
-keys_given opens call any works no_misuse asks keys are =
+keys_given : (opens : Opens) (call : List Saying) (rule : KeyRule) → misuse_of call ≡ None
+    → asks_for_keyed call ≡ true → (keys : Option (ℕ × ℕ)) → AreKeysFor rule opens (key_file call) keys
+    → (pair : ℕ × ℕ) × (keys ≡ Some pair) × GivesKeys opens call pair × MayBeKeys rule pair
+keys_given opens call rule no_misuse asks keys are =
     at (value_of (codes "key-file") call) refl (has_value (codes "key-file") call None (gives_file call no_misuse asks))
-    (rw (works, no_misuse) at are)
+    are
   where
-    at : (file : Option (List ℕ)) → value_of (codes "key-file") call ≡ file → IsSome file → AreKeysFor any opens file keys
-        → (pair : ℕ × ℕ) × (keys ≡ Some pair) × GivesKeys opens call pair × MayBeKeys any pair
+    at : (file : Option (List ℕ)) → value_of (codes "key-file") call ≡ file → IsSome file → AreKeysFor rule opens file keys
+        → (pair : ℕ × ℕ) × (keys ≡ Some pair) × GivesKeys opens call pair × MayBeKeys rule pair
     at None is some are = absurd (false≢true some)
     at (Some file) is some (pair, same, has, may) = (pair, same, (file, is, has), may)
 
@@ -148,14 +148,14 @@ pub under_poly61 : (opens : Opens) (call : List Saying) → asks_for_poly61 call
     → (keys : ℕ × ℕ) × GivesKeys opens call keys × ArePoly61Keys keys × (sum_by ended.kind ≡ poly61_at_both keys)
 unfolding sum_at
 under_poly61 opens call asks ended =
-    let (keys, are, gives, fit) = keys_given opens call false ended.works ended.no_misuse (or_left _ _ asks) ended.keys
-    (subst (λ any. AreKeysFor any opens (key_file call) ended.keys) (not_both call asks) ended.are_keys) in
+    let (keys, are, gives, fit) = keys_given opens call Poly61 ended.no_misuse (or_left _ _ asks) ended.keys
+    (subst (λ (b : Bool). AreKeysFor (if b then Any else Poly61) opens (key_file call) ended.keys) (not_both call asks) ended.are_keys) in
     (keys, gives, fit, sum_is opens call (codes "poly61") 28 poly61_found asks ended keys are)
 
 pub under_siphash24 : (opens : Opens) (call : List Saying) → asks_for_siphash24 call ≡ true → (ended : HasEndedWell opens call)
     → (keys : ℕ × ℕ) × GivesKeys opens call keys × (sum_by ended.kind ≡ siphash24_at keys)
 unfolding sum_at
 under_siphash24 opens call asks ended =
-    let (keys, are, gives, any) = keys_given opens call (asks_for_siphash24 call) ended.works ended.no_misuse (or_right _ _ asks)
+    let (keys, are, gives, any) = keys_given opens call (key_rule call) ended.no_misuse (or_right _ _ asks)
     ended.keys ended.are_keys in
     (keys, gives, sum_is opens call (codes "siphash24") 29 siphash24_found asks ended keys are)

@@ -1,7 +1,7 @@
 -- Lists that pass.
 use Rattle.std.proofs.Common.{◌≡◌, inl, inr, ◌⊎◌, ℕ, ◌<◌, ◌≤◌, suc, zero-lt-suc, arith, Bool, true, false, not, ◌&&◌, nat_eq, nat_lt, if◌then◌else◌, List, [], ◌∷◌, length, Option, Ok, All, refl, sym, ap, ◌∙◌, subst, slice_index_or}
 use Rattle.std.specs.List.{fold, Any}
-use Rattle.std.proofs.lemmas.Bool.{and_parts, eqb-true, ltb-true, ltb-false}
+use Rattle.std.proofs.lemmas.Bool.{and_parts, not-true, eqb-true, ltb-true, ltb-false}
 use Rattle.std.proofs.lemmas.List.Elements.{All-cons, All-nil, All-push}
 use Rattle.hash_lines.specs.declared.line.LineKind.{LineKind}
 use Rattle.hash_sums.specs.declared.check.LineCheck.{LineCheck}
@@ -61,109 +61,61 @@ module _ (count : Counts → ℕ) (counts_it : LineCheck → Bool)
 
 -- which count goes up at what
 abbrev is_improper : LineCheck → Bool
-is_improper Skipped = false
 is_improper Improper = true
-is_improper (Checked entry verdict) = false
+is_improper came = false
 
 abbrev is_different : LineCheck → Bool
-is_different Skipped = false
-is_different Improper = false
-is_different (Checked entry Same) = false
 is_different (Checked entry Different) = true
-is_different (Checked entry Unread) = false
-is_different (Checked entry Missing) = false
-is_different (Checked entry Unkeyed) = false
+is_different came = false
 
 abbrev is_unread : LineCheck → Bool
-is_unread Skipped = false
-is_unread Improper = false
-is_unread (Checked entry Same) = false
-is_unread (Checked entry Different) = false
 is_unread (Checked entry Unread) = true
-is_unread (Checked entry Missing) = false
-is_unread (Checked entry Unkeyed) = false
+is_unread came = false
 
 abbrev is_unkeyed : LineCheck → Bool
-is_unkeyed Skipped = false
-is_unkeyed Improper = false
-is_unkeyed (Checked entry Same) = false
-is_unkeyed (Checked entry Different) = false
-is_unkeyed (Checked entry Unread) = false
-is_unkeyed (Checked entry Missing) = false
 is_unkeyed (Checked entry Unkeyed) = true
+is_unkeyed came = false
 
 step_improper : (counts : Counts) (came : LineCheck)
     → (counted counts came).improper ≡ (if is_improper came then one_more counts.improper else counts.improper)
-step_improper counts Skipped = refl
-step_improper counts Improper = refl
 step_improper counts (Checked entry Same) = refl
-step_improper counts (Checked entry Different) = refl
-step_improper counts (Checked entry Unread) = refl
-step_improper counts (Checked entry Missing) = refl
-step_improper counts (Checked entry Unkeyed) = refl
+step_improper counts came = refl
 
 step_different : (counts : Counts) (came : LineCheck)
     → (counted counts came).different ≡ (if is_different came then one_more counts.different else counts.different)
-step_different counts Skipped = refl
-step_different counts Improper = refl
 step_different counts (Checked entry Same) = refl
-step_different counts (Checked entry Different) = refl
-step_different counts (Checked entry Unread) = refl
-step_different counts (Checked entry Missing) = refl
-step_different counts (Checked entry Unkeyed) = refl
+step_different counts came = refl
 
 step_unread : (counts : Counts) (came : LineCheck)
     → (counted counts came).unread ≡ (if is_unread came then one_more counts.unread else counts.unread)
-step_unread counts Skipped = refl
-step_unread counts Improper = refl
 step_unread counts (Checked entry Same) = refl
-step_unread counts (Checked entry Different) = refl
-step_unread counts (Checked entry Unread) = refl
-step_unread counts (Checked entry Missing) = refl
-step_unread counts (Checked entry Unkeyed) = refl
+step_unread counts came = refl
 
 step_unkeyed : (counts : Counts) (came : LineCheck)
     → (counted counts came).unkeyed ≡ (if is_unkeyed came then one_more counts.unkeyed else counts.unkeyed)
-step_unkeyed counts Skipped = refl
-step_unkeyed counts Improper = refl
 step_unkeyed counts (Checked entry Same) = refl
-step_unkeyed counts (Checked entry Different) = refl
-step_unkeyed counts (Checked entry Unread) = refl
-step_unkeyed counts (Checked entry Missing) = refl
-step_unkeyed counts (Checked entry Unkeyed) = refl
+step_unkeyed counts came = refl
 
 step_same : (counts : Counts) (came : LineCheck)
     → (counted counts came).same ≡ (if is_same came then one_more counts.same else counts.same)
-step_same counts Skipped = refl
-step_same counts Improper = refl
 step_same counts (Checked entry Same) = refl
-step_same counts (Checked entry Different) = refl
-step_same counts (Checked entry Unread) = refl
-step_same counts (Checked entry Missing) = refl
-step_same counts (Checked entry Unkeyed) = refl
+step_same counts came = refl
 
 -- what is of none of these sorts does not fail
 well : (strict : Bool) (came : LineCheck) → (strict && is_improper came) ≡ false → is_different came ≡ false → is_unread came ≡ false
     → is_unkeyed came ≡ false → fails strict came ≡ false
-well strict Skipped improper different unread unkeyed = refl
 well true Improper improper different unread unkeyed = improper
-well false Improper improper different unread unkeyed = refl
-well strict (Checked entry Same) improper different unread unkeyed = refl
 well strict (Checked entry Different) improper different unread unkeyed = different
 well strict (Checked entry Unread) improper different unread unkeyed = unread
-well strict (Checked entry Missing) improper different unread unkeyed = refl
 well strict (Checked entry Unkeyed) improper different unread unkeyed = unkeyed
+well strict came improper different unread unkeyed = refl
 
 -- improper lines are none, or do no harm
-not_true : (b : Bool) → not b ≡ true → b ≡ false
-not_true true is = sym is
-not_true false is = refl
-
 improper_lines : (strict : Bool) (lines : List (List ℕ × LineCheck)) → not (strict && nat_lt 0 (counts_of lines).improper) ≡ true
     → All (λ line. (strict && is_improper line.1) ≡ false) lines
 improper_lines false lines is = λ k d below. refl
 improper_lines true lines is =
-    let none : (counts_of lines).improper ≤ 0 = ltb-false 0 (counts_of lines).improper (not_true (nat_lt 0 (counts_of lines).improper) is) in
+    let none : (counts_of lines).improper ≤ 0 = ltb-false 0 (counts_of lines).improper (not-true _ is) in
     (none_counted (λ c. c.improper) is_improper step_improper uncounted lines (omega (arith, none))).1
 
 found : {A : Type 0} → (0 < 0) ⊎ A → A

@@ -16,7 +16,7 @@ use Rattle.hash_sums.specs.Passed.{HasPassed}
 use Rattle.hash_sums.proofs.PassLemmas.{lists_passed}
 use Rattle.hash_sums.specs.declared.outcome.Misuse.{Misuse}
 use Rattle.hash_sums.specs.declared.outcome.Task.TheVariants.{Check, Sum}
-use Rattle.hash_sums.specs.Program.{asked, asks_for_siphash24, checking_of, key_file, kinds_under, misuse_of, summing_of, taken, task_of, work_by, work_of, EndsTask, EndsWithKeys}
+use Rattle.hash_sums.specs.Program.{asked, checking_of, key_file, key_rule, kinds_under, misuse_of, summing_of, taken, work_by, work_of, EndsCall, EndsTask, EndsUnless}
 use Rattle.cli.specs.Call.{given, operands, Saying}
 use Rattle.cli.specs.Frame.{request_of, EndsRequest}
 use Rattle.cli.specs.declared.frame.Request.TheVariants.{Work}
@@ -55,15 +55,15 @@ module _ (opens : Opens) (call : List Saying) (w w' : Option (List ℕ)) (outcom
   not_well wrong is zero = let no : status_of {Misuse = Misuse} {Own = Nothing} (Usage wrong) ≡ 0 = subst (λ o. status_of o ≡ 0) is zero in
       absurd (omega (arith, no))
 
-  -- by what is wrong with the call, and by the hash that is asked for
-  work_passed : request_of call ≡ Work → (keys : Option (ℕ × ℕ)) → AreKeysFor (asks_for_siphash24 call) opens (key_file call) keys
+  -- by the hash that is asked for
+  work_passed : request_of call ≡ Work → misuse_of call ≡ None → (keys : Option (ℕ × ℕ))
+      → AreKeysFor (key_rule call) opens (key_file call) keys
       → (told : List LineKind) → map told_of told ≡ kinds_under keys → given (codes "check") call ≡ true
-      → (misuse : Option Misuse) → misuse_of call ≡ misuse → (kind : Option LineKind) → kind_of told (asked call) ≡ kind
-      → EndsTask told opens (files_or (operands call)) w w' (work_by call misuse kind) outcome → status_of outcome ≡ 0
+      → (kind : Option LineKind) → kind_of told (asked call) ≡ kind
+      → EndsTask told opens (files_or (operands call)) w w' (work_by call kind) outcome → status_of outcome ≡ 0
       → HasEndedWell opens call
-  work_passed works keys are told are_told checks (Some misuse) misused kind is_kind (is, kept) zero = absurd (not_well (Own misuse) is zero)
-  work_passed works keys are told are_told checks None no_misuse None is_kind (is, kept) zero = absurd (not_well UnknownName is zero)
-  work_passed works keys are told are_told checks None no_misuse (Some kind) is_kind ends zero =
+  work_passed works no_misuse keys are told are_told checks None is_kind (is, kept) zero = absurd (not_well UnknownName is zero)
+  work_passed works no_misuse keys are told are_told checks (Some kind) is_kind ends zero =
       let files = files_or (operands call) in
       let task : work_of call kind ≡ Check (checking_of call kind) =
       ap (λ b. if b then Check (checking_of call kind) else Sum (summing_of call kind)) checks in record {
@@ -79,14 +79,20 @@ module _ (opens : Opens) (call : List Saying) (w w' : Option (List ℕ)) (outcom
             (subst (λ t. EndsTask told opens files w w' (Ok t) outcome) task ends) zero;
       }
 
-  pub call_passed : (texts : Text → List ℕ) → request_of call ≡ Work → given (codes "check") call ≡ true
-      → EndsWithKeys opens call texts w w' outcome → status_of outcome ≡ 0 → HasEndedWell opens call
-  call_passed texts works checks (inl (keys, are, told, are_told, ends)) zero =
-      let files = files_or (operands call) in
-      let ended = subst (λ r. EndsRequest r texts (EndsTask told opens files w w' (task_of told call)) (Unit {0}) w w' outcome) works ends in
-      work_passed works keys are told are_told checks (misuse_of call) refl (kind_of told (asked call)) refl ended zero
-  call_passed texts works checks (inr (inl (some, is, kept))) zero =
+  -- by what is wrong with the call
+  unless_passed : request_of call ≡ Work → given (codes "check") call ≡ true → (misuse : Option Misuse) → misuse_of call ≡ misuse
+      → EndsUnless misuse opens call w w' outcome → status_of outcome ≡ 0 → HasEndedWell opens call
+  unless_passed works checks (Some misuse) is_misuse (is, kept) zero = absurd (not_well (Own misuse) is zero)
+  unless_passed works checks None no_misuse (inl (keys, are, told, are_told, ends)) zero =
+      work_passed works no_misuse keys are told are_told checks (kind_of told (asked call)) refl ends zero
+  unless_passed works checks None no_misuse (inr (inl (some, is, kept))) zero =
       let no : status_of {Misuse = Misuse} {Own = Nothing} Reported ≡ 0 = subst (λ o. status_of o ≡ 0) is zero in absurd (omega (arith, no))
-  call_passed texts works checks (inr (inr (is, kept))) zero =
+  unless_passed works checks None no_misuse (inr (inr (is, kept))) zero =
       let no : status_of {Misuse = Misuse} {Own = Nothing} (Failed NoMemory) ≡ 0 = subst (λ o. status_of o ≡ 0) is zero in
       absurd (omega (arith, no))
+
+  pub call_passed : (texts : Text → List ℕ) → request_of call ≡ Work → given (codes "check") call ≡ true
+      → EndsCall opens call texts w w' outcome → status_of outcome ≡ 0 → HasEndedWell opens call
+  call_passed texts works checks ended zero =
+      unless_passed works checks (misuse_of call) refl
+      (subst (λ r. EndsRequest r texts (EndsUnless (misuse_of call) opens call w w') (Unit {0}) w w' outcome) works ended) zero

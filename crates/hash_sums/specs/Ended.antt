@@ -7,7 +7,7 @@ use Rattle.cli.specs.Frame.{request_of}
 use Rattle.cli.specs.declared.frame.Request.TheVariants.{Work}
 use Rattle.hash_sums.specs.Keys.{AreKeysFor, HasKeys}
 use Rattle.hash_sums.specs.Passed.{HasPassed}
-use Rattle.hash_sums.specs.Program.{asked, asks_for_siphash24, checking_of, key_file, kinds_under, misuse_of, taken}
+use Rattle.hash_sums.specs.Program.{asked, checking_of, key_file, key_rule, kinds_under, misuse_of, taken}
 use Rattle.hash_sums.specs.Sums.{kind_of, told_of}
 
 -- nothing is wrong with a call, and all its lists passed, by the hash that it asks for alone, or by all; those under keys by the keys in
@@ -16,7 +16,7 @@ pub record HasEndedWell (opens : Opens) (call : List Saying) : Type 0 where
   pub works : request_of call ≡ Work
   pub no_misuse : misuse_of call ≡ None
   pub keys : Option (ℕ × ℕ)
-  pub are_keys : AreKeysFor (asks_for_siphash24 call) opens (key_file call) keys
+  pub are_keys : AreKeysFor (key_rule call) opens (key_file call) keys
   pub told : List LineKind
   pub are_told : map told_of told ≡ kinds_under keys
   pub kind : LineKind

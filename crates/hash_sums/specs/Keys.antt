@@ -1,10 +1,12 @@
 -- Key files.
-use Rattle.std.specs.Prelude.{ℕ, Bool, true, false, ◌≡◌, ◌≢◌, ◌%◌, List, Option, Some, None, Ok, Result, length}
+use Rattle.std.specs.Prelude.{ℕ, ◌≡◌, ◌≢◌, ◌%◌, List, Option, Some, None, Ok, Result, length}
 use Rattle.std.specs.Int.{w64, from_le_bytes}
 use Rattle.std.specs.Io.KnownBytes.{Consumes, IsAtEnd}
 use Rattle.std.specs.declared.io.Error.{Error}
 use Rattle.cli.specs.Files.{Opens}
 use Rattle.hash_keyed.specs.Poly61.{prime61}
+use Rattle.hash_sums.specs.declared.keys.KeyRule.{KeyRule}
+use Rattle.hash_sums.specs.declared.keys.KeyRule.TheVariants.{Any, Poly61}
 
 -- eight bytes of those that were left were read, and are this key, the lowest first
 abbrev pub IsKeyRead : (left left' : Option (List ℕ)) → ℕ → Type 0
@@ -22,12 +24,12 @@ HasKeys opens keys = (held : Option (List ℕ)) × opens (Ok held) × IsKeyText 
 abbrev pub ArePoly61Keys : ℕ × ℕ → Type 0
 ArePoly61Keys keys = (keys.0 % prime61 ≢ 0) × (keys.1 % prime61 ≢ 0) × (keys.0 % prime61 ≢ keys.1 % prime61)
 
--- two keys that may be used: any two, or two of poly61
-abbrev pub MayBeKeys : (any : Bool) → ℕ × ℕ → Type 0
-MayBeKeys true keys = Unit {0}
-MayBeKeys false keys = ArePoly61Keys keys
+-- two keys that a file may have
+abbrev pub MayBeKeys : KeyRule → ℕ × ℕ → Type 0
+MayBeKeys Any keys = Unit {0}
+MayBeKeys Poly61 keys = ArePoly61Keys keys
 
 -- these are the keys in a key file, if there is one
-abbrev pub AreKeysFor : (any : Bool) → Opens → (file : Option (List ℕ)) → (keys : Option (ℕ × ℕ)) → Type 0
-AreKeysFor any opens None keys = keys ≡ None
-AreKeysFor any opens (Some file) keys = (pair : ℕ × ℕ) × (keys ≡ Some pair) × HasKeys (opens file) pair × MayBeKeys any pair
+abbrev pub AreKeysFor : KeyRule → Opens → (file : Option (List ℕ)) → (keys : Option (ℕ × ℕ)) → Type 0
+AreKeysFor rule opens None keys = keys ≡ None
+AreKeysFor rule opens (Some file) keys = (pair : ℕ × ℕ) × (keys ≡ Some pair) × HasKeys (opens file) pair × MayBeKeys rule pair

@@ -8,8 +8,6 @@ use Rattle.cli.specs.Call.{Choice, Saying, flag, given, operands, taking, value_
 use Rattle.cli.specs.Frame.{EndsRequest, request_of}
 use Rattle.streams.specs.declared.failure.Failure.{Failure}
 use Rattle.streams.specs.declared.failure.Failure.TheVariants.{NoMemory}
-use Rattle.cli.specs.declared.frame.Request.{Request}
-use Rattle.cli.specs.declared.frame.Request.TheVariants.{Work}
 use Rattle.cli.specs.declared.frame.Text.{Text}
 use Rattle.streams.specs.declared.failure.Nothing.{Nothing}
 use Rattle.cli.specs.declared.outcome.Outcome.{Outcome}
@@ -17,6 +15,8 @@ use Rattle.cli.specs.declared.outcome.Outcome.TheVariants.{Usage, Reported, Fail
 use Rattle.cli.specs.declared.outcome.Wrong.{Wrong}
 use Rattle.cli.specs.declared.outcome.Wrong.TheVariants.{UnknownName, Own}
 use Rattle.hash_sums.specs.declared.check.Checking.{Checking}
+use Rattle.hash_sums.specs.declared.keys.KeyRule.{KeyRule}
+use Rattle.hash_sums.specs.declared.keys.KeyRule.TheVariants.{Any, Poly61}
 use Rattle.hash_sums.specs.declared.outcome.Misuse.{Misuse}
 use Rattle.hash_sums.specs.declared.outcome.Misuse.TheVariants as misuse
 use Rattle.hash_sums.specs.declared.outcome.Task.{Task}
@@ -84,6 +84,10 @@ asks_for_poly61 call = asks_for (codes "poly61") call
 abbrev pub asks_for_siphash24 : (call : List Saying) → Bool
 asks_for_siphash24 call = asks_for (codes "siphash24") call
 
+-- which keys the key file may have
+abbrev pub key_rule : (call : List Saying) → KeyRule
+key_rule call = if asks_for_siphash24 call then Any else Poly61
+
 -- whether a hash that takes keys is asked for
 abbrev pub asks_for_keyed : (call : List Saying) → Bool
 asks_for_keyed call = asks_for_poly61 call || asks_for_siphash24 call
@@ -103,15 +107,14 @@ misuse_of call =
 abbrev pub work_of : (call : List Saying) → LineKind → Task
 work_of call kind = if given (codes "check") call then task.Check (checking_of call kind) else task.Sum (summing_of call kind)
 
--- the same, if nothing is wrong and there is such a hash
-abbrev pub work_by : (call : List Saying) → Option Misuse → Option LineKind → Result Task (Wrong Misuse)
-work_by call (Some misuse) kind = Err (Own misuse)
-work_by call None None = Err UnknownName
-work_by call None (Some kind) = Ok (work_of call kind)
+-- the same, if there is such a hash
+abbrev pub work_by : (call : List Saying) → Option LineKind → Result Task (Wrong Misuse)
+work_by call None = Err UnknownName
+work_by call (Some kind) = Ok (work_of call kind)
 
 -- which work a call asks for
 abbrev pub task_of : List LineKind → (call : List Saying) → Result Task (Wrong Misuse)
-task_of kinds call = work_by call (misuse_of call) (kind_of kinds (asked call))
+task_of kinds call = work_by call (kind_of kinds (asked call))
 
 -- the hashes whose lines are taken: the one that is asked for, or all
 abbrev pub taken : List LineKind → Checking → List LineKind
@@ -127,38 +130,36 @@ EndsTask kinds opens files written written' (Ok (task.Check checking)) result =
     × (result ≡ of_run ended)
 EndsTask kinds opens files written written' (Err wrong) result = (result ≡ Usage wrong) × Keeps written written'
 
--- how the program ends whose call says this
-abbrev pub EndsCall : List LineKind → Opens → (call : List Saying) (texts : Text → List ℕ) (written written' : Option (List ℕ))
-    → Outcome Misuse Nothing → Type 0
-EndsCall kinds opens call texts written written' =
-    EndsRequest (request_of call) texts (EndsTask kinds opens (files_or (operands call)) written written' (task_of kinds call))
-    (Unit {0}) written written'
-
--- the key file of a call, if it is neither wrong nor asks for a text
-abbrev pub key_file : (call : List Saying) → Option (List ℕ)
-key_file call = at (request_of call) (misuse_of call)
-  where
-    at : Request → Option Misuse → Option (List ℕ)
-    at Work None = value_of (codes "key-file") call
-    at request misuse = None
-
--- there was no memory, and nothing is written
-abbrev pub EndsForMemory : (written written' : Option (List ℕ)) → Outcome Misuse Nothing → Type 0
-EndsForMemory written written' result = (result ≡ Failed NoMemory) × Keeps written written'
-
 -- the hashes that can be told under these keys. Without keys those that take them are there under zeros, so that their lines are known;
 -- they never pass
 abbrev pub kinds_under : Option (ℕ × ℕ) → List Told
 kinds_under keys = kinds (Some (unwrap_or keys (0, 0)))
 
--- how the program ends, by the hashes that can be told under the keys of its key file; or it has no such keys, and nothing is written
-abbrev pub EndsWithKeys : Opens → (call : List Saying) (texts : Text → List ℕ) (written written' : Option (List ℕ))
-    → Outcome Misuse Nothing → Type 0
-EndsWithKeys opens call texts written written' result =
-    ((keys : Option (ℕ × ℕ)) × AreKeysFor (asks_for_siphash24 call) opens (key_file call) keys × (told : List LineKind) × (map told_of told ≡ kinds_under keys)
-    × EndsCall told opens call texts written written' result)
+-- the key file of a call, if it gives one
+abbrev pub key_file : (call : List Saying) → Option (List ℕ)
+key_file call = value_of (codes "key-file") call
+
+-- how the work of a call ends, by the hashes that can be told under the keys of its key file; or it has no such keys or there is no
+-- memory, and nothing is written
+abbrev pub EndsWork : Opens → (call : List Saying) (written written' : Option (List ℕ)) → Outcome Misuse Nothing → Type 0
+EndsWork opens call written written' result =
+    ((keys : Option (ℕ × ℕ)) × AreKeysFor (key_rule call) opens (key_file call) keys × (told : List LineKind)
+    × (map told_of told ≡ kinds_under keys)
+    × EndsTask told opens (files_or (operands call)) written written' (task_of told call) result)
     ⊎ (IsSome (key_file call) × (result ≡ Reported) × Keeps written written')
-    ⊎ EndsForMemory written written' result
+    ⊎ ((result ≡ Failed NoMemory) × Keeps written written')
+
+-- the same, unless something is wrong with the call but for the name of a hash
+abbrev pub EndsUnless : Option Misuse → Opens → (call : List Saying) (written written' : Option (List ℕ)) → Outcome Misuse Nothing
+    → Type 0
+EndsUnless None opens call written written' result = EndsWork opens call written written' result
+EndsUnless (Some misuse) opens call written written' result = (result ≡ Usage (Own misuse)) × Keeps written written'
+
+-- how the program ends whose call says this
+abbrev pub EndsCall : Opens → (call : List Saying) (texts : Text → List ℕ) (written written' : Option (List ℕ))
+    → Outcome Misuse Nothing → Type 0
+EndsCall opens call texts written written' =
+    EndsRequest (request_of call) texts (EndsUnless (misuse_of call) opens call written written') (Unit {0}) written written'
 
 -- what it says on standard error of what else is wrong with a call
 abbrev pub words_of : Misuse → List ℕ

@@ -16,6 +16,15 @@ use std::io::{Error, ErrorKind, Read};
 /// The prime of poly61.
 const PRIME61: u64 = (1 << 61) - 1;
 
+/// Which two keys a file may have.
+#[derive(Clone, Copy)]
+pub enum KeyRule {
+    /// Any.
+    Any,
+    /// Those that `poly61` takes.
+    Poly61,
+}
+
 /// poly61 under two keys of what is read, the hash at the first key above that at the second.
 pub(crate) fn hash_of_poly61<R: Read, const N: usize>(
     keys: (u64, u64),
@@ -113,12 +122,12 @@ pub fn keys_of<R: Read + Drop, F: Folder<R>>(folder: &F, name: &[u8]) -> Option<
     }
 }
 
-/// What is wrong with two keys, if something is: nothing if any two may be used, and else what is wrong with them as those of poly61.
-fn fault_of(any: bool, keys: (u64, u64)) -> Option<&'static str>
-    ensures { MatchOption result (MayBeKeys any keys) (λ words. ¬ (MayBeKeys any keys)) }
+/// What is wrong with two keys by a rule, if something is.
+fn fault_of(rule: KeyRule, keys: (u64, u64)) -> Option<&'static str>
+    ensures { MatchOption result (MayBeKeys rule keys) (λ words. ¬ (MayBeKeys rule keys)) }
 {
     let (first, second) = (keys.0 % PRIME61, keys.1 % PRIME61);
-    if any {
+    if let KeyRule::Any = rule {
         return None;
     }
     if first == 0 || second == 0 {
@@ -130,20 +139,20 @@ fn fault_of(any: bool, keys: (u64, u64)) -> Option<&'static str>
     None
 }
 
-/// The keys in a key file, if there is one: any two, or two of poly61. `None` if it has none such.
+/// The keys in a key file, if there is one, as the rule has them. `None` if it has none such.
 pub fn keys_for<R: Read + Drop, F: Folder<R>>(
     folder: &F,
     file: Option<&[u8]>,
-    any: bool,
+    rule: KeyRule,
 ) -> Option<Option<(u64, u64)>>
     ensures { let file = option_map (λ name. name.now) file.entry in
-        MatchOption result (IsSome file) (AreKeysFor any (F.opens folder.now) file) }
+        MatchOption result (IsSome file) (AreKeysFor rule (F.opens folder.now) file) }
 {
     let Some(name) = file else {
         return Some(None);
     };
     let keys = keys_of(folder, name)?;
-    match fault_of(any, keys) {
+    match fault_of(rule, keys) {
         None => Some(Some(keys)),
         Some(words) => {
             folder.failed(name, &Error::new(ErrorKind::InvalidData, words));

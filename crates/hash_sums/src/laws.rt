@@ -28,7 +28,7 @@ ghost use Rattle.hash_sums.specs.Keys.{ArePoly61Keys};
 ghost use Rattle.hash_sums.specs.Laws.{DifferAtOneWord, FewPairsPass, IsSeen, NeverPasses};
 ghost use Rattle.hash_sums.specs.Lists.{EndsLists};
 ghost use Rattle.hash_sums.specs.Passed.{HasHash, HasPassed, LineTells, ListTells};
-ghost use Rattle.hash_sums.specs.Program.{asks_for_poly61, asks_for_siphash24, checking_of, taken, EndsTask, EndsWithKeys};
+ghost use Rattle.hash_sums.specs.Program.{asks_for_poly61, asks_for_siphash24, checking_of, taken, EndsTask, EndsCall};
 ghost use Rattle.hash_names.specs.Named.{bits_of, hash_of, read_of};
 ghost use Rattle.hash_lines.specs.Line.{digits_of, line_of};
 ghost use Rattle.hash_sums.specs.Sums.{is_named, kind_of, kinds, name_in, number_named, poly61_at_both, siphash24_at, sum_by, sum_of, takes_keys, told_of, width_in, Told};
@@ -229,7 +229,7 @@ pub fn a_check_that_ends_well<R: Read, F: Folder<R>>()
 pub fn a_call_that_ends_well<R: Read, F: Folder<R>>()
     ensures { (folder : F) (call : List Saying) (texts : Text → List ℕ) (written written' : Option (List ℕ))
         (outcome : Outcome Misuse Nothing) → request_of call ≡ Work → given (codes "check") call ≡ true
-        → EndsWithKeys (F.opens folder) call texts written written' outcome
+        → EndsCall (F.opens folder) call texts written written' outcome
         → status_of outcome ≡ 0 → HasEndedWell (F.opens folder) call }
 {}
 

@@ -5,16 +5,17 @@ ghost use Rattle.std.specs.Io.Buffered.{writer_buffer, writer_contents};
 ghost use Rattle.std.specs.Io.KnownBytes.{Keeps};
 ghost use Rattle.streams.specs.declared.failure.Failure.TheVariants.{NoMemory};
 ghost use Rattle.cli.specs.declared.outcome.Outcome.TheVariants.{Failed};
-ghost use Rattle.cli.specs.Call.{call_of, choices, sayings, texts};
+ghost use Rattle.cli.specs.Call.{call_of, choices, operands, sayings, texts};
+ghost use Rattle.cli.specs.Files.{files_or};
 ghost use Rattle.cli.specs.Frame.{text_of};
 ghost use Rattle.cli.specs.Outcome.{IsFlushed};
 ghost use Rattle.hash_sums.specs.Keys.{AreKeysFor};
 ghost use Rattle.hash_sums.specs.Lists.{EndsLists};
-ghost use Rattle.hash_sums.specs.Program.{asked, asks_for, asks_for_keyed, asks_for_siphash24, checking_of, gives_checking, gives_writing, key_file, misuse_of, options, summing_of, taken, task_of, words_of, work_of, EndsCall, EndsTask, EndsWithKeys};
+ghost use Rattle.hash_sums.specs.Program.{asked, asks_for, asks_for_keyed, checking_of, gives_checking, gives_writing, key_file, key_rule, misuse_of, options, summing_of, taken, task_of, words_of, work_of, EndsCall, EndsTask, EndsWork};
 
 use crate::check::{Checking, check_lists};
 use crate::failure::Failure;
-use crate::keys::keys_for;
+use crate::keys::{KeyRule, keys_for};
 use crate::reports::Reports;
 use crate::sum::{Summing, sum_files};
 use crate::sums::{is_named, kind_of, kinds};
@@ -203,6 +204,17 @@ fn asks_for(call: &Call<'_>, name: &[u8]) -> bool
     }
 }
 
+/// Which keys the key file may have: any for siphash24.
+fn key_rule(call: &Call<'_>) -> KeyRule
+    ensures { result ≡ key_rule (sayings call.now.said.items) }
+{
+    if asks_for(call, b"siphash24") {
+        KeyRule::Any
+    } else {
+        KeyRule::Poly61
+    }
+}
+
 /// Whether the words ask for a hash that takes keys.
 fn asks_for_keyed(call: &Call<'_>) -> bool
     ensures { result ≡ asks_for_keyed (sayings call.now.said.items) }
@@ -247,9 +259,6 @@ fn work_of(call: &Call<'_>, kind: LineKind<'static>) -> Task
 fn task_of(kinds: &[LineKind<'static>], call: &Call<'_>) -> Result<Task, Wrong>
     ensures { result ≡ task_of kinds.now (sayings call.now.said.items) }
 {
-    if let Some(misuse) = misuse_of(call) {
-        return Err(Wrong::Own(misuse));
-    }
     match kind_of(kinds, asked(call)) {
         Some(kind) => Ok(work_of(call, kind)),
         None => Err(Wrong::UnknownName),
@@ -296,73 +305,80 @@ fn ended<R: Read + Drop, F: Folder<R> + Reports, W: Write + Drop>(
     }
 }
 
-/// Does what the call asks for, by hashes of these kinds. If the call is wrong, or there is no memory for its files, nothing is
-/// written. Where all was done or told, nothing that it wrote is held back.
-pub fn outcome_of<R: Read + Drop, F: Folder<R> + Reports, W: Write + Drop>(
-    alloc: Global,
-    folder: &F,
-    kinds: &[LineKind<'static>],
-    call: &Call<'_>,
-    about: About<'_>,
-    w: &mut BufWriter<W>,
-) -> Outcome
-    ensures ended { EndsCall kinds.now (F.opens folder.now) (sayings call.now.said.items)
-        (text_of about.entry.help.now about.entry.version.now about.entry.list.now)
-        (writer_contents W.contents w.old) (writer_contents W.contents w.new) result
-        ⊎ ((result ≡ Failed NoMemory) × Keeps (writer_contents W.contents w.old) (writer_contents W.contents w.new)) }
-    ensures flushed { writer_buffer w.old ≡ [] → IsFlushed (writer_buffer w.new) result }
-{
-    match request_of(call) {
-        Request::Misgiven(misgiven) => Outcome::Usage(Wrong::Option(misgiven)),
-        Request::Text(text) => of_telling(write_out(w, text_of(&about, text))),
-        Request::Work => match files(alloc, call) {
-            Ok(files) => ended(alloc, folder, kinds, &files, task_of(kinds, call), w),
-            Err(_) => Outcome::Failed(Failure::NoMemory),
-        },
-    }
-}
-
-/// The key file of a call, if it gives one and is neither wrong nor asks for a text.
-fn key_file<'a>(call: &Call<'a>) -> Option<&'a [u8]>
-    ensures { option_map (λ name. name.now) result ≡ key_file (sayings call.now.said.items) }
-{
-    match (request_of(call), misuse_of(call)) {
-        (Request::Work, None) => call.value(b"key-file"),
-        _ => None,
-    }
-}
-
-/// The keys in the key file of a call, if it gives one: any two for siphash24, and else two of poly61. `None` if it has none such.
+/// The keys in the key file of a call, if it gives one. `None` if that has none such as the hash takes.
 fn keys_of_call<R: Read + Drop, F: Folder<R>>(
     folder: &F,
     call: &Call<'_>,
 ) -> Option<Option<(u64, u64)>>
     ensures { let said = sayings call.now.said.items in
         MatchOption result (IsSome (key_file said))
-        (AreKeysFor (asks_for_siphash24 said) (F.opens folder.now) (key_file said)) }
+        (AreKeysFor (key_rule said) (F.opens folder.now) (key_file said)) }
 {
-    keys_for(folder, key_file(call), asks_for(call, b"siphash24"))
+    keys_for(folder, call.value(b"key-file"), key_rule(call))
 }
 
-/// Does what the call asks for, by the hashes that can be told, and by those that take keys under the keys of its key file. If that
-/// has no such keys, nothing is written. Where all was done or told, nothing that it wrote is held back.
-pub fn outcome_with_keys<R: Read + Drop, F: Folder<R> + Reports, W: Write + Drop>(
+/// Does the work of a call over its files, by hashes of these kinds.
+fn worked_by<R: Read + Drop, F: Folder<R> + Reports, W: Write + Drop>(
+    alloc: Global,
+    folder: &F,
+    kinds: &[LineKind<'static>],
+    call: &Call<'_>,
+    w: &mut BufWriter<W>,
+) -> Outcome
+    ensures ended { EndsTask kinds.now (F.opens folder.now) (files_or (operands (sayings call.now.said.items)))
+        (writer_contents W.contents w.old) (writer_contents W.contents w.new)
+        (task_of kinds.now (sayings call.now.said.items)) result
+        ⊎ ((result ≡ Failed NoMemory) × Keeps (writer_contents W.contents w.old) (writer_contents W.contents w.new)) }
+    ensures flushed { writer_buffer w.old ≡ [] → IsFlushed (writer_buffer w.new) result }
+{
+    match files(alloc, call) {
+        Ok(files) => ended(alloc, folder, kinds, &files, task_of(kinds, call), w),
+        Err(_) => Outcome::Failed(Failure::NoMemory),
+    }
+}
+
+/// Does the work of a call, by the hashes that can be told, and by those that take keys under the keys of its key file. If that has no
+/// such keys, or there is no memory for the files, nothing is written.
+fn worked<R: Read + Drop, F: Folder<R> + Reports, W: Write + Drop>(
     alloc: Global,
     folder: &F,
     call: &Call<'_>,
-    about: About<'_>,
     w: &mut BufWriter<W>,
 ) -> Outcome
-    ensures ended { EndsWithKeys (F.opens folder.now) (sayings call.now.said.items)
-        (text_of about.entry.help.now about.entry.version.now about.entry.list.now)
+    ensures ended { EndsWork (F.opens folder.now) (sayings call.now.said.items)
         (writer_contents W.contents w.old) (writer_contents W.contents w.new) result }
     ensures flushed { writer_buffer w.old ≡ [] → IsFlushed (writer_buffer w.new) result }
 {
     match keys_of_call(folder, call) {
         None => Outcome::Reported,
         Some(keys) => match kinds(alloc, Some(keys.unwrap_or((0, 0)))) {
-            Ok(kinds) => outcome_of(alloc, folder, &kinds, call, about, w),
+            Ok(kinds) => worked_by(alloc, folder, &kinds, call, w),
             Err(_) => Outcome::Failed(Failure::NoMemory),
+        },
+    }
+}
+
+/// Does what the call asks for, by the hashes that can be told, and by those that take keys under the keys of its key file. If the call
+/// is wrong, there are no such keys or there is no memory for its files, nothing is written. Where all was done or told, nothing that it
+/// wrote is held back.
+pub fn outcome_of<R: Read + Drop, F: Folder<R> + Reports, W: Write + Drop>(
+    alloc: Global,
+    folder: &F,
+    call: &Call<'_>,
+    about: About<'_>,
+    w: &mut BufWriter<W>,
+) -> Outcome
+    ensures ended { EndsCall (F.opens folder.now) (sayings call.now.said.items)
+        (text_of about.entry.help.now about.entry.version.now about.entry.list.now)
+        (writer_contents W.contents w.old) (writer_contents W.contents w.new) result }
+    ensures flushed { writer_buffer w.old ≡ [] → IsFlushed (writer_buffer w.new) result }
+{
+    match request_of(call) {
+        Request::Misgiven(misgiven) => Outcome::Usage(Wrong::Option(misgiven)),
+        Request::Text(text) => of_telling(write_out(w, text_of(&about, text))),
+        Request::Work => match misuse_of(call) {
+            Some(misuse) => Outcome::Usage(Wrong::Own(misuse)),
+            None => worked(alloc, folder, call, w),
         },
     }
 }

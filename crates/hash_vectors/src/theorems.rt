@@ -16,7 +16,7 @@ ghost use Rattle.hash_keyed.specs.Poly61State.{poly61};
 ghost use Rattle.hash_lines.specs.declared.line.LineKind.{LineKind};
 ghost use Rattle.hash_sums.specs.Ended.{HasEndedWell};
 ghost use Rattle.hash_sums.specs.Passed.{HasHash, ListTells};
-ghost use Rattle.hash_sums.specs.Program.{checking_of, taken, EndsWithKeys};
+ghost use Rattle.hash_sums.specs.Program.{checking_of, taken, EndsCall};
 ghost use Rattle.hash_sums.specs.declared.outcome.Misuse.{Misuse};
 ghost use Rattle.streams.specs.declared.failure.Nothing.{Nothing};
 ghost use Rattle.text_set.specs.Texts.{StandsAt, with_text};
@@ -100,7 +100,7 @@ pub fn keyed_hash(key: u64, text: &[u8]) -> u64
 pub fn checked_files_are_as_told<R: Read, F: Folder<R>>()
     ensures { (folder : F) (call : List Saying) (texts : Text → List ℕ) (written written' : Option (List ℕ))
         (outcome : Outcome Misuse Nothing) → request_of call ≡ Work → given (codes "check") call ≡ true
-        → EndsWithKeys (F.opens folder) call texts written written' outcome → status_of outcome ≡ 0
+        → EndsCall (F.opens folder) call texts written written' outcome → status_of outcome ≡ 0
         → (ended : HasEndedWell (F.opens folder) call)
         × ((list : List ℕ) (kind : LineKind) (name : List ℕ) (number : ℕ) → Contains (files_or (operands call)) list
         → let checking = checking_of call ended.kind in

@@ -28,6 +28,28 @@ pub fn rotl64(x: u64, k: u32) -> u64
     u64::rotate_left(x, k)
 }
 
+/// The word of 32 bits turned to the left by `K` bits, as [`rotl32`] turns it. `K` is from 1 to 31. To turn a product by a count
+/// that it learns only after inlining, LLVM multiplies twice; by a constant, once.
+#[inline]
+pub fn rotl32_by<const K: u32>(x: u32) -> u32
+    requires some { 0 < K }
+    requires within { K < 32 }
+    ensures { result ≡ rotl 32 x K }
+{
+    rotl32(x, K)
+}
+
+/// The word of 64 bits turned to the left by `K` bits, as [`rotl64`] turns it. `K` is from 1 to 63. To turn a product by a count
+/// that it learns only after inlining, LLVM multiplies twice; by a constant, once.
+#[inline]
+pub fn rotl64_by<const K: u32>(x: u64) -> u64
+    requires some { 0 < K }
+    requires within { K < 64 }
+    ensures { result ≡ rotl 64 x K }
+{
+    rotl64(x, K)
+}
+
 /// The little-endian value of at most four bytes, the first byte being the lowest. No bytes give 0.
 #[inline(always)]
 pub fn le32(bytes: &[u8]) -> u32

@@ -1,5 +1,5 @@
 //! How a hasher of a text of more than 240 bytes goes on.
-ghost use Rattle.std.specs.Prelude.{◌≡◌, ◌+◌, ◌-◌, ◌*◌, ◌/◌, ◌<◌, ◌≤◌, ℕ, ◌++◌, length, take, drop};
+ghost use Rattle.std.specs.Prelude.{◌≡◌, ◌+◌, ◌-◌, ◌*◌, ◌/◌, ◌%◌, ◌^◌, ◌<◌, ◌≤◌, ℕ, ◌++◌, length, take, drop};
 ghost use Rattle.hash_xxh3.specs.Long.{secret_of};
 ghost use Rattle.hash_xxh3.specs.Streaming.{Long, advanced, position};
 ghost use Rattle.hash_xxh3.specs.declared.long.Lanes.{Lanes};
@@ -147,4 +147,55 @@ pub(crate) fn begin(secret: &[u8; 192], buffer: &mut [u8; 256]) -> Lanes
     let behind = *buffer.last_chunk::<128>().unwrap();
     put(buffer, 0, &behind);
     lanes
+}
+
+/// Goes on over the bytes that make a short text a long one. As many are kept then as the result says.
+#[inline(never)]
+pub(crate) fn begin_through(
+    secret: &[u8; 192],
+    lanes: &mut Lanes,
+    buffer: &mut [u8; 256],
+    kept: usize,
+    bytes: &[u8],
+) -> usize
+    requires short { kept < 241 }
+    requires enough { 241 ≤ kept + length bytes.now }
+    ensures position { (seed : ℕ) → secret.now ≡ secret_of seed
+        → Long seed lanes.new ((kept + length bytes.now) % 2 ^ 64) (take result buffer.new)
+        ≡ position seed (take kept buffer.old ++ bytes.now) }
+    ensures some { 65 ≤ result }
+    ensures few { result ≤ 128 }
+    ensures in_block { lanes.new.stripe < 16 }
+{
+    let (head, rest) = bytes.split_at((256 - kept).min(bytes.len()));
+    put(buffer, kept, head);
+    let end = kept + head.len();
+    *lanes = begin(secret, buffer);
+    advance(secret, lanes, buffer, end - 128, rest)
+}
+
+/// The same under the secret of a seed.
+#[tactic(auto, using(crate::proofs::SecretLemmas::secret_of_none))]
+pub(crate) fn begin_under(
+    seed: u64,
+    lanes: &mut Lanes,
+    buffer: &mut [u8; 256],
+    kept: usize,
+    bytes: &[u8],
+) -> usize
+    requires short { kept < 241 }
+    requires enough { 241 ≤ kept + length bytes.now }
+    ensures position { Long seed lanes.new ((kept + length bytes.now) % 2 ^ 64) (take result buffer.new)
+        ≡ position seed (take kept buffer.old ++ bytes.now) }
+    ensures some { 65 ≤ result }
+    ensures few { result ≤ 128 }
+    ensures in_block { lanes.new.stripe < 16 }
+{
+    if seed == 0 {
+        begin_through(default_secret(), lanes, buffer, kept, bytes)
+    } else {
+        let mut secret = [0; 192];
+        put_secret(&mut secret, seed);
+        begin_through(&secret, lanes, buffer, kept, bytes)
+    }
 }

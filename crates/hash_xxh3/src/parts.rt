@@ -5,7 +5,7 @@ ghost use Rattle.hash_xxh3.specs.Parts.{position_of, IsSettled};
 ghost use Rattle.hash_xxh3.specs.Streaming.{Short, Long, position, after, hash};
 ghost use Rattle.hash_xxh3.specs.Wide.{wide_hash};
 
-use crate::advance::{advance, begin};
+use crate::advance::{advance, begin_through};
 use crate::long::{Lanes, START, end_kept};
 use crate::secret::secret_of;
 use crate::whole::of_kept;
@@ -76,7 +76,6 @@ impl Xxh3Parts {
     }
 
     // Goes on over the bytes that make a short text a long one.
-    #[inline(never)]
     fn write_through(&mut self, bytes: &[u8])
         requires settled { IsSettled self.old }
         requires short { self.old.long ≡ false }
@@ -84,14 +83,11 @@ impl Xxh3Parts {
         ensures position { position_of self.new ≡ after (position_of self.old) bytes.now }
         ensures settled { IsSettled self.new }
     {
-        let (head, rest) = bytes.split_at((256 - self.kept).min(bytes.len()));
-        put(&mut self.buffer, self.kept, head);
-        let end = self.kept + head.len();
+        let kept = self.kept;
         self.secret = secret_of(self.seed);
-        let mut lanes = begin(&self.secret, &mut self.buffer);
-        self.length = (end as u64).wrapping_add(rest.len() as u64);
-        self.kept = advance(&self.secret, &mut lanes, &mut self.buffer, end - 128, rest);
-        self.lanes = lanes;
+        self.length = (kept as u64).wrapping_add(bytes.len() as u64);
+        let lanes = &mut self.lanes;
+        self.kept = begin_through(&self.secret, lanes, &mut self.buffer, kept, bytes);
         self.long = true;
     }
 

@@ -1,19 +1,17 @@
 //! What a hasher of XXH3 keeps, in numbers that a caller keeps itself.
-ghost use Rattle.std.specs.Prelude.{◌≡◌, ◌↔◌, IsTrue, Some, None, ℕ, ◌≢◌, List, ◌++◌};
+ghost use Rattle.std.specs.Prelude.{◌≡◌, ◌↔◌, ◌+◌, ◌≤◌, IsTrue, Some, None, ℕ, ◌≢◌, List, ◌++◌, length};
 ghost use Rattle.hash_xxh3.specs.Place.{Fits, StandsBehind, place_of};
 ghost use Rattle.hash_xxh3.specs.Streaming.{after, hash};
 ghost use Rattle.hash_xxh3.specs.Wide.{wide_hash};
 
-use crate::advance::advance_under;
-use crate::hasher::Xxh3Hasher;
-use crate::long::{end_kept, lanes_at};
+use crate::advance::{advance_under, begin_under};
+use crate::long::{START, end_kept, lanes_at};
 use crate::secret::{default_secret, secret_of};
 use crate::whole::of_kept;
 use crate::wide::{wide_end_kept, wide_kept};
 use hash_words::put;
-use std::hash::Hasher;
 
-/// What an [`Xxh3Hasher`] keeps, as whole numbers alone: for a caller that must keep it itself, as a program in C.
+/// What an `Xxh3Hasher` keeps, as whole numbers alone: for a caller that must keep it itself, as a program in C.
 #[repr(C)]
 #[derive(Clone, Copy)]
 pub struct Xxh3Place {
@@ -45,6 +43,23 @@ impl Xxh3Place {
         }
     }
 
+    // Goes on over the bytes that make a short text a long one.
+    fn write_through(&mut self, bytes: &[u8])
+        requires fits { Fits self.old }
+        requires short { self.old.long ≡ 0 }
+        requires enough { 241 ≤ self.old.kept + length bytes.now }
+        ensures fits { Fits self.new }
+        ensures there { place_of self.new ≡ after (place_of self.old) bytes.now }
+    {
+        let kept = self.kept as usize;
+        let mut lanes = START;
+        self.length = self.kept.wrapping_add(bytes.len() as u64);
+        self.kept = begin_under(self.seed, &mut lanes, &mut self.buffer, kept, bytes) as u64;
+        self.words = lanes.words;
+        self.stripe = lanes.stripe as u64;
+        self.long = 1;
+    }
+
     // Goes on over the bytes, from a text of at most 240.
     #[inline(always)]
     fn write_short(&mut self, bytes: &[u8])
@@ -57,9 +72,8 @@ impl Xxh3Place {
         if bytes.len() < 241 - kept {
             put(&mut self.buffer, kept, bytes);
             self.kept += bytes.len() as u64;
-        } else if let Some(mut hasher) = Xxh3Hasher::at(self) {
-            hasher.write(bytes);
-            *self = hasher.place();
+        } else {
+            self.write_through(bytes);
         }
     }
 

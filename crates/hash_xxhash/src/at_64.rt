@@ -6,7 +6,7 @@ ghost use Rattle.hash_words.specs.Words.{le};
 ghost use Rattle.hash_xxhash.specs.Xxh64.{after_block, byte_in, converged, eight_in, four_in, last_mix, merged, rest_in, round, start, xxh64};
 
 use hash_blocks::{BlockHasher, BlockRule};
-use hash_words::{le_four, le_words, le64, rotl64, xorshift};
+use hash_words::{le_four, le_words, le64, rotl64, rotl64_by, xorshift};
 
 /// The first of the five primes of XXH64.
 pub const P1: u64 = 0x9E37_79B1_85EB_CA87;
@@ -36,7 +36,7 @@ pub struct Lanes {
 pub fn round(lane: u64, word: u64) -> u64
     ensures { result ≡ round lane word }
 {
-    rotl64(lane.wrapping_add(word.wrapping_mul(P2)), 31).wrapping_mul(P1)
+    rotl64_by::<31>(lane.wrapping_add(word.wrapping_mul(P2))).wrapping_mul(P1)
 }
 
 /// The four lanes of XXH64 before the first block, from a seed.

@@ -2,6 +2,7 @@
 use Rattle.std.proofs.Common.{ℕ, zero, suc, ◌≡◌, ◌+◌, ◌-◌, ◌^◌, ◌<◌, ◌≤◌, ◌==◌, ◌⊎◌, inl, inr, Bool, true, false, not, cond, ◌&&◌, ◌||◌, Some, None, List, [], ◌∷◌, ◌++◌, length, get_or, take, replicate, All, Contains, arith, sym, ap, ◌∙◌, subst, refl, length-append}
 use Rattle.std.specs.List.{count_by, list_any, Any}
 use Rattle.std.specs.Str.{bytes_eq}
+use Rattle.std.proofs.Math.Bool.{or-false, or_assoc, or_comm}
 use Rattle.std.proofs.Math.ListN.{set}
 use Rattle.std.proofs.Math.Seq.{get_or-append_seam}
 use Rattle.std.proofs.lemmas.Bool.{cases_Bool, cases_eq, cases_lt, cases_order, both_ways, false_from_ne_true, not-true, not-false, or_parts, and_parts, and_left, eq-eqb, ne_eqb}
@@ -13,7 +14,7 @@ use Rattle.std.proofs.lemmas.Slice.Eq.{bytes_eq-Decides}
 use Rattle.text_set.specs.Texts.{EachOnce, IsFullOnlyAt, StandsAt, has, with_text, Set}
 use Rattle.text_set.specs.declared.texts.Full.{Full}
 use Rattle.text_set.specs.declared.texts.Full.TheVariants as why
-use Rattle.text_set.specs.Slots.{AreFound, FirstRound, HoldsUpTo, IsRefilled, IsTable, IsTagged, Names, free_count, home_of, is_taken, some_taken, stops, text_of}
+use Rattle.text_set.specs.Slots.{AreFound, AreTakenUpTo, FirstRound, HoldsUpTo, IsRefilled, IsTable, IsTagged, Names, free_count, home_of, is_taken, some_taken, stops, text_of}
 use Rattle.text_set.specs.declared.slots.Slot.{Slot}
 use Rattle.text_set.specs.declared.slots.TheConstants.{EMPTY, NOWHERE}
 
@@ -52,12 +53,8 @@ any_set : {X : Type 0} (p : X → Bool) (xs : List X) (i : ℕ) (y d : X) → i 
 any_set p [] i y d below not_there = absurd (omega arith)
 any_set p (x ∷ xs) zero y d below not_there = ap (λ b. p y || (b || list_any p xs)) (sym not_there)
 any_set p (x ∷ xs) (suc i) y d below not_there =
-    ap (λ b. p x || b) (any_set p xs i y d (omega arith) not_there) ∙ swapped (p x) (p y) (list_any p xs)
-  where
-    swapped : (a b c : Bool) → (a || (b || c)) ≡ (b || (a || c))
-    swapped true true c = refl
-    swapped true false c = refl
-    swapped false b c = refl
+    ap (λ b. p x || b) (any_set p xs i y d (omega arith) not_there) ∙ sym (or_assoc (p x) (p y) (list_any p xs))
+    ∙ ap (λ b. b || list_any p xs) (or_comm (p x) (p y)) ∙ or_assoc (p y) (p x) (list_any p xs)
 
 any_same : {X : Type 0} (p q : X → Bool) (xs : List X) → All (λ x. p x ≡ q x) xs → list_any p xs ≡ list_any q xs
 any_same p q [] same = refl
@@ -67,12 +64,10 @@ any_same p q (x ∷ xs) same =
 
 -- a slot that was free has a text now: all others are found as before, and its own where the search came to it
 pub found_more : (slots : List Slot) (place : ℕ) (slot : Slot) → AreFound slots → place < length slots → is_taken slot ≡ true
-    → HoldsUpTo (λ j. is_taken (get_or slots j EMPTY) ≡ true) (length slots) (home_of (length slots) slot.tag) place
-    → AreFound (set slots place slot)
+    → AreTakenUpTo slots slot.tag place → AreFound (set slots place slot)
 found_more slots place slot found within taken before = λ i below is. elim (cases_eq i place) [
   | inl same ↦ at i slot (ap (λ k. get_or (set slots place slot) k EMPTY) same ∙ get_or-set_same slots place slot EMPTY within)
-      (subst (λ k. HoldsUpTo (λ j. is_taken (get_or slots j EMPTY) ≡ true) (length slots) (home_of (length slots) slot.tag) k)
-      (sym same) before)
+      (subst (AreTakenUpTo slots slot.tag) (sym same) before)
   | inr other ↦ at i (get_or slots i EMPTY) (get_or-set_other slots place i slot EMPTY other)
       (found i (omega (arith, below, length-set slots place slot))
       (ap is_taken (sym (get_or-set_other slots place i slot EMPTY other)) ∙ is))
@@ -86,16 +81,11 @@ found_more slots place slot found within taken before = λ i below is. elim (cas
     ]
 
     at : (i : ℕ) (it : Slot) → get_or (set slots place slot) i EMPTY ≡ it
-        → HoldsUpTo (λ j. is_taken (get_or slots j EMPTY) ≡ true) (length slots) (home_of (length slots) it.tag) i
-        → HoldsUpTo (λ j. is_taken (get_or (set slots place slot) j EMPTY) ≡ true) (length (set slots place slot))
-        (home_of (length (set slots place slot)) (get_or (set slots place slot) i EMPTY).tag) i
+        → AreTakenUpTo slots it.tag i → AreTakenUpTo (set slots place slot) (get_or (set slots place slot) i EMPTY).tag i
     at i it is before =
-        subst (λ n. HoldsUpTo (λ j. is_taken (get_or (set slots place slot) j EMPTY) ≡ true) n
-        (home_of n (get_or (set slots place slot) i EMPTY).tag) i) (sym (length-set slots place slot))
-        (subst (λ s. HoldsUpTo (λ j. is_taken (get_or (set slots place slot) j EMPTY) ≡ true) (length slots)
-        (home_of (length slots) s.tag) i) (sym is)
+        rw (length-set slots place slot, is)
         (up_to_weaker (λ j. is_taken (get_or slots j EMPTY) ≡ true) (λ j. is_taken (get_or (set slots place slot) j EMPTY) ≡ true)
-        (length slots) (home_of (length slots) it.tag) i stays before))
+        (length slots) (home_of (length slots) it.tag) i stays before)
 
 -- there is one free slot less
 pub free_less : (slots : List Slot) (place : ℕ) (slot : Slot) → place < length slots → is_taken (get_or slots place EMPTY) ≡ false
@@ -186,9 +176,7 @@ module _ (tag : List ℕ → ℕ) (texts : List (List ℕ)) (slots : List Slot) 
       table.holds text ∙ false_from_ne_true _
       (λ there.
       let (k, below, taken, tagged, ends) = stops_somewhere tag texts slots room table text there in
-      let found : HoldsUpTo (λ j. is_taken (get_or slots j EMPTY) ≡ true) (length slots) (home_of (length slots) (tag text)) k =
-      subst (λ t. HoldsUpTo (λ j. is_taken (get_or slots j EMPTY) ≡ true) (length slots) (home_of (length slots) t) k) tagged
-      (table.found k below taken) in
+      let found : AreTakenUpTo slots (tag text) k = subst (λ t. AreTakenUpTo slots t k) tagged (table.found k below taken) in
       elim (one_comes_first (λ j. stops texts (tag text) text (get_or slots j EMPTY) ≡ false)
       (λ j. is_taken (get_or slots j EMPTY) ≡ true) (length slots)
       (home_of (length slots) (tag text)) place k first.2 found first.0 below) [
@@ -198,7 +186,7 @@ module _ (tag : List ℕ → ℕ) (texts : List (List ℕ)) (slots : List Slot) 
       ])
 
   -- no slot before the one where the search ends is free
-  pub all_taken : HoldsUpTo (λ j. is_taken (get_or slots j EMPTY) ≡ true) (length slots) (home_of (length slots) (tag text)) place
+  pub all_taken : AreTakenUpTo slots (tag text) place
   all_taken = up_to_weaker (λ j. stops texts (tag text) text (get_or slots j EMPTY) ≡ false) (λ j. is_taken (get_or slots j EMPTY) ≡ true)
       (length slots) (home_of (length slots) (tag text)) place (λ j goes_on. not-false _ (or_parts _ _ goes_on).0) first.2
 
@@ -253,8 +241,7 @@ module _ (tag : List ℕ → ℕ) (texts : List (List ℕ)) (slots : List Slot) 
       each s (inl there_is) named = ap (λ t. is_taken s && bytes_eq other t) (text_stays texts text s (named there_is))
       each s (inr none) named = and_left _ _ none ∙ sym (and_left _ _ none)
 
-  pub table_put : (before : HoldsUpTo (λ j. is_taken (get_or slots j EMPTY) ≡ true) (length slots)
-      (home_of (length slots) (tag text)) place) → IsTable tag (texts ++ text ∷ []) (set slots place slot) (room - 1)
+  pub table_put : AreTakenUpTo slots (tag text) place → IsTable tag (texts ++ text ∷ []) (set slots place slot) (room - 1)
   table_put before = record {
     named = All-set (Names (texts ++ text ∷ [])) slots place slot
         (λ _. subst (λ s. s.place < length (texts ++ text ∷ [])) (sym is) (omega (arith, length-append texts (text ∷ []))))
@@ -265,8 +252,7 @@ module _ (tag : List ℕ → ℕ) (texts : List (List ℕ)) (slots : List Slot) 
         ∙ ap tag (sym (text_stays texts text (get_or slots k d) (table.named k d below there_is))));
     holds = holds_put;
     found = found_more slots place slot table.found within taken
-        (subst (λ t. HoldsUpTo (λ j. is_taken (get_or slots j EMPTY) ≡ true) (length slots) (home_of (length slots) t) place)
-        (sym (ap (λ s. s.tag) is)) before);
+        (subst (λ t. AreTakenUpTo slots t place) (sym (ap (λ s. s.tag) is)) before);
     roomy = omega (arith, table.roomy, free_less slots place slot within free taken);
   }
 
@@ -330,15 +316,12 @@ module _ (slots : List Slot) (done count : ℕ) (more : List Slot) (before : Ref
   refilling_past free = record {
     found = before.found;
     roomy = omega (arith, before.roomy);
-    kept = λ test. before.kept test ∙ sym (or_none _ _ (and_left _ (test slot) free))
+    kept = λ test. before.kept test ∙ sym (or-false _)
+        ∙ ap (λ b. some_taken test (take done slots) || b) (sym (and_left _ (test slot) free))
         ∙ ap (λ s. some_taken test (take done slots) || (is_taken s && test s)) (sym is)
         ∙ sym (list_any_more (λ s. is_taken s && test s) slots done d below);
     among = before.among;
   }
-    where
-      or_none : (a b : Bool) → b ≡ false → (a || b) ≡ a
-      or_none true b none = refl
-      or_none false b none = none
 
   pub refilling_put : (place : ℕ) → is_taken slot ≡ true
       → FirstRound (λ s. not (is_taken s)) more (home_of (length more) slot.tag) (Some place)
@@ -351,19 +334,13 @@ module _ (slots : List Slot) (done count : ℕ) (more : List Slot) (before : Ref
             (home_of (length more) slot.tag) place (λ j is. not-false _ is) passed);
         roomy = omega (arith, before.roomy, free_less more place slot within is_free taken);
         kept = λ test. some_more test more place slot within is_free taken ∙ ap (λ b. test slot || b) (before.kept test)
-            ∙ swapped (test slot) (some_taken test (take done slots))
+            ∙ or_comm (test slot) (some_taken test (take done slots))
             ∙ ap (λ b. some_taken test (take done slots) || (b && test slot)) (sym taken)
             ∙ ap (λ s. some_taken test (take done slots) || (is_taken s && test s)) (sym is)
             ∙ sym (list_any_more (λ s. is_taken s && test s) slots done d below);
         among = All-set (λ s. is_taken s ≡ true → Contains slots s) more place slot
             (λ _. (done, below, get_or_default slots done slot d below ∙ is)) before.among;
       }
-    where
-      swapped : (a b : Bool) → (a || b) ≡ (b || a)
-      swapped true true = refl
-      swapped true false = refl
-      swapped false true = refl
-      swapped false false = refl
 
 -- where no search for a text ends, there are no free slots
 pub none_stops : (texts : List (List ℕ)) (text : List ℕ) (slots : List Slot) (tag home : ℕ)
@@ -426,12 +403,12 @@ module _ {tag : List ℕ → ℕ} {texts : List (List ℕ)} {slots : List Slot} 
         table_put tag texts slots room s.table text place s.first.0 (at_place ∙ sym free) new made.1 made.0
         (all_taken tag texts slots room s.table text place s.first)
 
--- a text that is there changes nothing, and one that is not stands behind the others
 -- a text that stands somewhere is there
 pub has_there : (texts : List (List ℕ)) (text : List ℕ) (place : ℕ) → StandsAt texts text place → has texts text ≡ true
 has_there texts text place (below, is) =
     list_any_at (bytes_eq text) texts place [] below ((bytes_eq-Decides text (get_or texts place [])).1 (sym is))
 
+-- a text that is there changes nothing, and one that is not stands behind the others
 pub with_old : (texts : List (List ℕ)) (text : List ℕ) → has texts text ≡ true → with_text texts text ≡ texts
 with_old texts text there = ap (λ b. cond b texts (texts ++ text ∷ [])) there
 

@@ -53,11 +53,15 @@ FirstRound test slots home None = (j : ℕ) → j < length slots → test (slice
 FirstRound test slots home (Some i) = (i < length slots) × (test (slice_index_or slots i EMPTY) ≡ true)
     × HoldsUpTo (λ j. test (slice_index_or slots j EMPTY) ≡ false) (length slots) home i
 
--- each slot with a text is found: no slot before it, round from its home, is free
+-- no slot that the search for a tag comes to before a place is free
+abbrev pub AreTakenUpTo : List Slot → (tag place : ℕ) → Type 0
+AreTakenUpTo slots tag place =
+    HoldsUpTo (λ j. is_taken (slice_index_or slots j EMPTY) ≡ true) (length slots) (home_of (length slots) tag) place
+
+-- each slot with a text is found
 abbrev pub AreFound : List Slot → Type 0
 AreFound slots = (i : ℕ) → i < length slots → is_taken (slice_index_or slots i EMPTY) ≡ true
-    → HoldsUpTo (λ j. is_taken (slice_index_or slots j EMPTY) ≡ true) (length slots)
-    (home_of (length slots) (slice_index_or slots i EMPTY).tag) i
+    → AreTakenUpTo slots (slice_index_or slots i EMPTY).tag i
 
 -- how many slots are free
 abbrev pub free_count : List Slot → ℕ

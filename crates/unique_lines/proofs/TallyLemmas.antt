@@ -6,7 +6,7 @@ use Rattle.std.specs.Str.{bytes_eq}
 use Rattle.std.proofs.lemmas.Bool.{or_parts}
 use Rattle.std.proofs.lemmas.Cmp.{nat_list_eq_equiv}
 use Rattle.std.proofs.lemmas.List.{map-append, length-map, get_or-map, get_or_default}
-use Rattle.std.proofs.lemmas.List.Sums.{sum_by-append, count_by-le-length}
+use Rattle.std.proofs.lemmas.List.Sums.{sum_by-cons, sum_by_push, count_by-le-length}
 use Rattle.text_set.specs.Firsts.{same_text_by, firsts_by}
 use Rattle.unique_lines.specs.Tallies.{texts, Tallies}
 use Rattle.text_set.specs.Texts.{StandsAt, has, with_text}
@@ -24,13 +24,12 @@ counted_place old new text times place count there is stands many read =
 -- ---- how often a text comes
 
 count_more : (p : List ℕ → Bool) (ls : List (List ℕ)) (line : List ℕ) → count_by p (ls ++ line ∷ []) ≡ count_by p ls + cond (p line) 1 0
-count_more p ls line = sum_by-append (λ x. cond (p x) 1 0) ls (line ∷ []) ∙ ap (λ n. count_by p ls + n) (zero-add (cond (p line) 1 0))
+count_more p ls line = sum_by_push (λ x. cond (p x) 1 0) ls line
 
 count_none : (p : List ℕ → Bool) (ls : List (List ℕ)) → list_any p ls ≡ false → count_by p ls ≡ 0
 count_none p [] none = refl
 count_none p (x ∷ ls) none =
-    sum_by-append (λ y. cond (p y) 1 0) (x ∷ []) ls
-    ∙ ap (λ n. n + count_by p ls) (zero-add (cond (p x) 1 0) ∙ ap (λ b. cond b 1 0) (or_parts _ _ none).0)
+    sum_by-cons (λ y. cond (p y) 1 0) x ls ∙ ap (λ b. cond b 1 0 + count_by p ls) (or_parts _ _ none).0
     ∙ zero-add (count_by p ls) ∙ count_none p ls (or_parts _ _ none).1
 
 module _ (eol : ℕ) where

@@ -118,8 +118,8 @@ fn take_input<T: LineTask, R: Read, W: Write + Drop>(
     }
 }
 
-/// Has the lines of the inputs taken, which end with the byte `eol`, at most `limit` of them. An input that fails is told,
-/// and the others are read. Whenever it reads, and at the end, nothing is held back.
+/// Has the lines of the inputs taken, which end with the byte `eol`, at most `limit` of them. If an input fails, the others are still
+/// read. Whenever it reads, and at the end, nothing is held back.
 pub fn take_inputs<T: LineTask, R: Read, C: Complaints, W: Write + Drop>(
     alloc: Global,
     task: &mut T,

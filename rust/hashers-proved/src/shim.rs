@@ -56,6 +56,11 @@ pub mod simd {
         }
 
         #[inline(always)]
+        pub fn to_array(self) -> [T; N] {
+            self.0
+        }
+
+        #[inline(always)]
         pub fn splat(lane: T) -> Self {
             Simd([lane; N])
         }
@@ -128,22 +133,25 @@ pub mod simd {
     }
 
     impl Simd<u32, 4> {
-        /// The sum of the lanes, which wraps.
+        /// The sum of the lanes, which wraps. Its parts are hidden: rustc would add them to the caller's number one by one, which each of
+        /// them waits for.
         #[inline(always)]
         pub fn reduce_sum(self) -> u32 {
-            self.0.iter().fold(0, |sum, lane| sum.wrapping_add(*lane))
+            core::hint::black_box(self.0.iter().fold(0, |sum: u32, lane| sum.wrapping_add(*lane)))
         }
     }
 
     impl Simd<u64, 8> {
         /// The sum of the lanes, which wraps. Of bytes it is made in one word, with 16 bits for each two of them: rustc sees where they are
-        /// bytes, and leaves the other way out.
+        /// bytes, and leaves the other way out. Shifts are faster than a product, since rustc makes vectors of them.
         #[inline(always)]
         pub fn reduce_sum(self) -> u64 {
             const LOW: u64 = 0x00ff_00ff_00ff_00ff;
             if self.0.iter().fold(0, |all, lane| all | lane) < 256 {
                 let bytes = u64::from_le_bytes(self.0.map(|lane| lane as u8));
-                return ((bytes & LOW) + (bytes >> 8 & LOW)).wrapping_mul(0x0001_0001_0001_0001) >> 48;
+                let pairs = (bytes & LOW) + (bytes >> 8 & LOW);
+                let fours = pairs + (pairs >> 32);
+                return (fours + (fours >> 16)) & 0xffff;
             }
             self.0.iter().fold(0, |sum, lane| sum.wrapping_add(*lane))
         }
@@ -208,13 +216,16 @@ macro_rules! shim_format {
     };
 }
 
-/// `vec!` with the allocator in front: `vec![in alloc; 0u8; 16]?`.
+/// `vec!` with the allocator in front: `vec![in alloc; 0u8; 16]?`, `vec![in alloc; first, last]?`.
 #[cfg(feature = "std")]
 #[doc(hidden)]
 #[macro_export]
 macro_rules! shim_vec {
     (in $alloc:expr; $value:expr; $count:expr) => {
         $crate::shim::Vec::filled($alloc, $value, $count)
+    };
+    (in $alloc:expr; $($item:expr),+) => {
+        $crate::shim::Vec::from_array($alloc, [$($item),+])
     };
 }
 

@@ -4,7 +4,7 @@ use crate::tests::shelf::{Came, Shelf, ended_or_told, has_ended};
 use cli::frame::About;
 use cli::outcome::{failure_of, status_of};
 use hash_sums::check::Counts;
-use hash_sums::outcome::{call_of, outcome_with_keys};
+use hash_sums::outcome::{call_of, outcome_of};
 use hash_sums::reports::Reports;
 use std::alloc::Global;
 use std::io::{BufWriter, ErrorKind};
@@ -26,7 +26,7 @@ fn called(alloc: Global, words: &[Vec<u8>], shelf: &Shelf<'_>, paper: &mut Paper
         version: "version\n",
         list: "list\n",
     };
-    let outcome = outcome_with_keys(alloc, shelf, &call, about, &mut output);
+    let outcome = outcome_of(alloc, shelf, &call, about, &mut output);
     Ok((status_of(&outcome), failure_of(&outcome)))
 }
 

@@ -63,21 +63,19 @@ impl BlockUndo<16> for Murmur3Rule128 {
     #[inline(always)]
     fn unblock(state: &mut (u64, u64), bytes: &[u8; 16]) {
         let (k1, k2) = words_of(bytes);
-        let old2 = turned_back(33, 0x3849_5ab5, state.1, state.0) ^ scrambled(33, C2, C1, k2);
-        let old1 = turned_back(37, 0x52dc_e729, state.0, old2) ^ scrambled(31, C1, C2, k1);
+        let old2 = turned_back(33, 0x3849_5ab5, state.1, state.0) ^ scrambled::<33>(C2, C1, k2);
+        let old1 = turned_back(37, 0x52dc_e729, state.0, old2) ^ scrambled::<31>(C1, C2, k1);
         *state = (old1, old2);
     }
 
     #[inline(always)]
     fn between(from: &(u64, u64), to: &(u64, u64)) -> [u8; 16] {
-        let k1 = scrambled(
-            33,
+        let k1 = scrambled::<33>(
             UN_C2,
             UN_C1,
             from.0 ^ turned_back(37, 0x52dc_e729, to.0, from.1),
         );
-        let k2 = scrambled(
-            31,
+        let k2 = scrambled::<31>(
             UN_C1,
             UN_C2,
             from.1 ^ turned_back(33, 0x3849_5ab5, to.1, to.0),
@@ -98,8 +96,8 @@ impl BlockUndo<16> for Murmur3Rule128 {
         let h2 = sum2.wrapping_sub(sum1);
         let h1 = sum1.wrapping_sub(h2);
         (
-            h1 ^ total ^ scrambled(31, C1, C2, k1),
-            h2 ^ total ^ scrambled(33, C2, C1, k2),
+            h1 ^ total ^ scrambled::<31>(C1, C2, k1),
+            h2 ^ total ^ scrambled::<33>(C2, C1, k2),
         )
     }
 }

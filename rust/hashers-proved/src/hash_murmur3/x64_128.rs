@@ -4,7 +4,7 @@
 use crate::{hash_blocks, hash_words};
 
 use hash_blocks::{BlockHasher, BlockRule, WideRule, le_eight};
-use hash_words::{le64, rotl64, xorshift};
+use hash_words::{le64, rotl64, rotl64_by, xorshift};
 
 /// What MurmurHash3_x64_128 multiplies the first word of a block by.
 pub const C1: u64 = 0x87c3_7b91_1142_53d5;
@@ -17,18 +17,18 @@ pub const C2: u64 = 0x4cf5_ad43_2745_937f;
 /// The caller has to see to it that:
 ///
 /// ```text
-/// some: 0 < turn
-/// within: turn < 64
+/// some: 0 < TURN
+/// within: TURN < 64
 /// ```
 ///
 /// Proved:
 ///
 /// ```text
-/// result ≡ scrambled turn first second word
+/// result ≡ scrambled TURN first second word
 /// ```
 #[inline(always)]
-pub fn scrambled(turn: u32, first: u64, second: u64, word: u64) -> u64 {
-    rotl64(word.wrapping_mul(first), turn).wrapping_mul(second)
+pub fn scrambled<const TURN: u32>(first: u64, second: u64, word: u64) -> u64 {
+    rotl64_by::<TURN>(word.wrapping_mul(first)).wrapping_mul(second)
 }
 
 // A word of the state turned, the other added, and a constant added to five times that.
@@ -74,8 +74,8 @@ pub fn words_of(block: &[u8; 16]) -> (u64, u64) {
 /// ```
 #[inline(always)]
 fn after_words(h: (u64, u64), k1: u64, k2: u64) -> (u64, u64) {
-    let new1 = turned(27, 0x52dc_e729, h.0 ^ scrambled(31, C1, C2, k1), h.1);
-    let new2 = turned(31, 0x3849_5ab5, h.1 ^ scrambled(33, C2, C1, k2), new1);
+    let new1 = turned(27, 0x52dc_e729, h.0 ^ scrambled::<31>(C1, C2, k1), h.1);
+    let new2 = turned(31, 0x3849_5ab5, h.1 ^ scrambled::<33>(C2, C1, k2), new1);
     (new1, new2)
 }
 
@@ -140,8 +140,8 @@ pub fn words_left(left: &[u8]) -> (u64, u64) {
 fn folded(h: (u64, u64), left: &[u8], total: u64) -> (u64, u64) {
     let (k1, k2) = words_left(left);
     (
-        h.0 ^ scrambled(31, C1, C2, k1) ^ total,
-        h.1 ^ scrambled(33, C2, C1, k2) ^ total,
+        h.0 ^ scrambled::<31>(C1, C2, k1) ^ total,
+        h.1 ^ scrambled::<33>(C2, C1, k2) ^ total,
     )
 }
 

@@ -4,7 +4,7 @@
 use crate::{hash_blocks, hash_words};
 
 use hash_blocks::{BlockHasher, BlockRule};
-use hash_words::{le_four, le32, rotl32};
+use hash_words::{le_four, le32, rotl32, rotl32_by};
 
 /// A word of the text, before MurmurHash3_x86_32 folds it in.
 ///
@@ -15,7 +15,7 @@ use hash_words::{le_four, le32, rotl32};
 /// ```
 #[inline(always)]
 pub fn scramble(word: u32) -> u32 {
-    rotl32(word.wrapping_mul(0xcc9e2d51), 15).wrapping_mul(0x1b873593)
+    rotl32_by::<15>(word.wrapping_mul(0xcc9e2d51)).wrapping_mul(0x1b873593)
 }
 
 // The state after one word.

@@ -44,6 +44,46 @@ pub fn rotl64(x: u64, k: u32) -> u64 {
     u64::rotate_left(x, k)
 }
 
+/// The word of 32 bits turned to the left by `K` bits, as [`rotl32`] turns it. `K` is from 1 to 31. To turn a product by a count
+/// that it learns only after inlining, LLVM multiplies twice; by a constant, once.
+///
+/// The caller has to see to it that:
+///
+/// ```text
+/// some: 0 < K
+/// within: K < 32
+/// ```
+///
+/// Proved:
+///
+/// ```text
+/// result ≡ rotl 32 x K
+/// ```
+#[inline]
+pub fn rotl32_by<const K: u32>(x: u32) -> u32 {
+    rotl32(x, K)
+}
+
+/// The word of 64 bits turned to the left by `K` bits, as [`rotl64`] turns it. `K` is from 1 to 63. To turn a product by a count
+/// that it learns only after inlining, LLVM multiplies twice; by a constant, once.
+///
+/// The caller has to see to it that:
+///
+/// ```text
+/// some: 0 < K
+/// within: K < 64
+/// ```
+///
+/// Proved:
+///
+/// ```text
+/// result ≡ rotl 64 x K
+/// ```
+#[inline]
+pub fn rotl64_by<const K: u32>(x: u64) -> u64 {
+    rotl64(x, K)
+}
+
 /// The little-endian value of at most four bytes, the first byte being the lowest. No bytes give 0.
 ///
 /// The caller has to see to it that:

@@ -200,3 +200,72 @@ pub(crate) fn begin(secret: &[u8; 192], buffer: &mut [u8; 256]) -> Lanes {
     put(buffer, 0, &behind);
     lanes
 }
+
+/// Goes on over the bytes that make a short text a long one. As many are kept then as the result says.
+///
+/// The caller has to see to it that:
+///
+/// ```text
+/// short: kept < 241
+/// enough: 241 ≤ kept + length bytes.now
+/// ```
+///
+/// Proved:
+///
+/// ```text
+/// position: (seed : ℕ) → secret.now ≡ secret_of seed
+///     → Long seed lanes.new ((kept + length bytes.now) % 2 ^ 64) (take result buffer.new)
+///     ≡ position seed (take kept buffer.old ++ bytes.now)
+/// some: 65 ≤ result
+/// few: result ≤ 128
+/// in_block: lanes.new.stripe < 16
+/// ```
+#[inline(never)]
+pub(crate) fn begin_through(
+    secret: &[u8; 192],
+    lanes: &mut Lanes,
+    buffer: &mut [u8; 256],
+    kept: usize,
+    bytes: &[u8],
+) -> usize {
+    let (head, rest) = bytes.split_at((256 - kept).min(bytes.len()));
+    put(buffer, kept, head);
+    let end = kept + head.len();
+    *lanes = begin(secret, buffer);
+    advance(secret, lanes, buffer, end - 128, rest)
+}
+
+/// The same under the secret of a seed.
+///
+/// The caller has to see to it that:
+///
+/// ```text
+/// short: kept < 241
+/// enough: 241 ≤ kept + length bytes.now
+/// ```
+///
+/// Proved:
+///
+/// ```text
+/// position: Long seed lanes.new ((kept + length bytes.now) % 2 ^ 64) (take result buffer.new)
+///     ≡ position seed (take kept buffer.old ++ bytes.now)
+/// some: 65 ≤ result
+/// few: result ≤ 128
+/// in_block: lanes.new.stripe < 16
+/// ```
+#[inline]
+pub(crate) fn begin_under(
+    seed: u64,
+    lanes: &mut Lanes,
+    buffer: &mut [u8; 256],
+    kept: usize,
+    bytes: &[u8],
+) -> usize {
+    if seed == 0 {
+        begin_through(default_secret(), lanes, buffer, kept, bytes)
+    } else {
+        let mut secret = [0; 192];
+        put_secret(&mut secret, seed);
+        begin_through(&secret, lanes, buffer, kept, bytes)
+    }
+}

@@ -3,7 +3,7 @@
 // What follows is the proved text of crates/hash_xxh3/src/parts.rt without its contracts.
 use crate::{hash_laws, hash_words};
 
-use crate::hash_xxh3::advance::{advance, begin};
+use crate::hash_xxh3::advance::{advance, begin_through};
 use crate::hash_xxh3::long::{Lanes, START, end_kept};
 use crate::hash_xxh3::secret::secret_of;
 use crate::hash_xxh3::whole::of_kept;
@@ -101,16 +101,13 @@ impl Xxh3Parts {
     /// position: position_of self.new ≡ after (position_of self.old) bytes.now
     /// settled: IsSettled self.new
     /// ```
-    #[inline(never)]
+    #[inline]
     fn write_through(&mut self, bytes: &[u8]) {
-        let (head, rest) = bytes.split_at((256 - self.kept).min(bytes.len()));
-        put(&mut self.buffer, self.kept, head);
-        let end = self.kept + head.len();
+        let kept = self.kept;
         self.secret = secret_of(self.seed);
-        let mut lanes = begin(&self.secret, &mut self.buffer);
-        self.length = (end as u64).wrapping_add(rest.len() as u64);
-        self.kept = advance(&self.secret, &mut lanes, &mut self.buffer, end - 128, rest);
-        self.lanes = lanes;
+        self.length = (kept as u64).wrapping_add(bytes.len() as u64);
+        let lanes = &mut self.lanes;
+        self.kept = begin_through(&self.secret, lanes, &mut self.buffer, kept, bytes);
         self.long = true;
     }
 

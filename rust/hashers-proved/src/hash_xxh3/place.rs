@@ -1,18 +1,16 @@
 //! What a hasher of XXH3 keeps, in numbers that a caller keeps itself.
 
 // What follows is the proved text of crates/hash_xxh3/src/place.rt without its contracts.
-use crate::{hash_words, std};
+use crate::hash_words;
 
-use crate::hash_xxh3::advance::advance_under;
-use crate::hash_xxh3::hasher::Xxh3Hasher;
-use crate::hash_xxh3::long::{end_kept, lanes_at};
+use crate::hash_xxh3::advance::{advance_under, begin_under};
+use crate::hash_xxh3::long::{START, end_kept, lanes_at};
 use crate::hash_xxh3::secret::{default_secret, secret_of};
 use crate::hash_xxh3::whole::of_kept;
 use crate::hash_xxh3::wide::{wide_end_kept, wide_kept};
 use hash_words::put;
-use std::hash::Hasher;
 
-/// What an [`Xxh3Hasher`] keeps, as whole numbers alone: for a caller that must keep it itself, as a program in C.
+/// What an `Xxh3Hasher` keeps, as whole numbers alone: for a caller that must keep it itself, as a program in C.
 #[repr(C)]
 #[derive(Clone, Copy)]
 pub struct Xxh3Place {
@@ -48,6 +46,32 @@ impl Xxh3Place {
         }
     }
 
+    // Goes on over the bytes that make a short text a long one.
+    /// The caller has to see to it that:
+    ///
+    /// ```text
+    /// fits: Fits self.old
+    /// short: self.old.long ≡ 0
+    /// enough: 241 ≤ self.old.kept + length bytes.now
+    /// ```
+    ///
+    /// Proved:
+    ///
+    /// ```text
+    /// fits: Fits self.new
+    /// there: place_of self.new ≡ after (place_of self.old) bytes.now
+    /// ```
+    #[inline]
+    fn write_through(&mut self, bytes: &[u8]) {
+        let kept = self.kept as usize;
+        let mut lanes = START;
+        self.length = self.kept.wrapping_add(bytes.len() as u64);
+        self.kept = begin_under(self.seed, &mut lanes, &mut self.buffer, kept, bytes) as u64;
+        self.words = lanes.words;
+        self.stripe = lanes.stripe as u64;
+        self.long = 1;
+    }
+
     // Goes on over the bytes, from a text of at most 240.
     /// The caller has to see to it that:
     ///
@@ -68,9 +92,8 @@ impl Xxh3Place {
         if bytes.len() < 241 - kept {
             put(&mut self.buffer, kept, bytes);
             self.kept += bytes.len() as u64;
-        } else if let Some(mut hasher) = Xxh3Hasher::at(self) {
-            hasher.write(bytes);
-            *self = hasher.place();
+        } else {
+            self.write_through(bytes);
         }
     }
 

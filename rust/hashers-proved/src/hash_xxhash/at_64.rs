@@ -4,7 +4,7 @@
 use crate::{hash_blocks, hash_words};
 
 use hash_blocks::{BlockHasher, BlockRule};
-use hash_words::{le_four, le_words, le64, rotl64, xorshift};
+use hash_words::{le_four, le_words, le64, rotl64, rotl64_by, xorshift};
 
 /// The first of the five primes of XXH64.
 pub const P1: u64 = 0x9E37_79B1_85EB_CA87;
@@ -37,7 +37,7 @@ pub struct Lanes {
 /// ```
 #[inline(always)]
 pub fn round(lane: u64, word: u64) -> u64 {
-    rotl64(lane.wrapping_add(word.wrapping_mul(P2)), 31).wrapping_mul(P1)
+    rotl64_by::<31>(lane.wrapping_add(word.wrapping_mul(P2))).wrapping_mul(P1)
 }
 
 /// The four lanes of XXH64 before the first block, from a seed.

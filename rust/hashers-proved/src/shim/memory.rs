@@ -1,7 +1,7 @@
 //! Memory that may be refused: vectors, texts and a set.
 use real_std::borrow::Borrow;
 use real_std::collections::HashSet;
-use real_std::fmt::{self, Arguments, Debug, Display, Formatter};
+use real_std::fmt::{self, Arguments, Debug, Display, Formatter, Write as _};
 use real_std::hash::Hash;
 use real_std::io;
 use real_std::ops::{Deref, DerefMut};
@@ -63,6 +63,13 @@ impl<T> Vec<T> {
         let mut items = Vec::new(alloc);
         items.0.try_reserve_exact(count).map_err(|_| AllocError)?;
         Ok(items)
+    }
+
+    /// The items of an array.
+    pub fn from_array<const N: usize>(alloc: Global, items: [T; N]) -> Result<Vec<T>, AllocError> {
+        let mut all = Vec::with_capacity(alloc, N)?;
+        all.0.extend(items);
+        Ok(all)
     }
 
     /// Makes room for so many items more.
@@ -150,11 +157,6 @@ impl<T: Copy> Vec<T> {
         let mut all = Vec::with_capacity(alloc, count)?;
         all.0.resize(count, value);
         Ok(all)
-    }
-
-    /// The items of an array.
-    pub fn from_array<const N: usize>(alloc: Global, items: [T; N]) -> Result<Vec<T>, AllocError> {
-        Vec::from_slice(alloc, &items)
     }
 
     /// Takes the first items out, so many. It panics where there are fewer.
@@ -246,6 +248,38 @@ impl io::Write for Vec<u8> {
 
     fn flush(&mut self) -> io::Result<()> {
         Ok(())
+    }
+
+    /// What std's own writes letter by letter through `write`, goes behind the others at once.
+    fn write_fmt(&mut self, words: Arguments) -> io::Result<()> {
+        fmt::write(&mut Letters(self), words).map_err(|_| AllocError.into())
+    }
+}
+
+/// Takes letters behind bytes.
+struct Letters<'a>(&'a mut Vec<u8>);
+
+impl fmt::Write for Letters<'_> {
+    #[inline]
+    fn write_str(&mut self, words: &str) -> fmt::Result {
+        self.0.extend_from_slice(words.as_bytes()).map_err(|_| fmt::Error)
+    }
+
+    /// The blanks before a number come one by one.
+    fn write_char(&mut self, letter: char) -> fmt::Result {
+        let Vec(bytes) = &mut *self.0;
+        if letter.is_ascii() && bytes.len() < bytes.capacity() {
+            bytes.push(letter as u8);
+            return Ok(());
+        }
+        self.encoded(letter)
+    }
+}
+
+impl Letters<'_> {
+    #[cold]
+    fn encoded(&mut self, letter: char) -> fmt::Result {
+        self.write_str(letter.encode_utf8(&mut [0; 4]))
     }
 }
 

@@ -176,25 +176,6 @@ fn short_texts_apart_under_xxh3() {
     }
 }
 
-/// Values of xxHash 0.8 (python-xxhash) for texts of one block, of more, and of a stripe or a byte more.
-#[test]
-fn long_texts_under_xxh3_from_outside() {
-    let text: Vec<u8> = (0..5000).map(|i| ((i * 7 + 3) % 251) as u8).collect();
-    for (seed, len, low, high) in [
-        (0, 241, 0x82b1de299f6e411e, 0x7870750a9743956),
-        (0, 1024, 0xf75e768c7cdd54b2, 0xf96a1bbdb2fef572),
-        (0, 1025, 0x667a5eabe344e5df, 0x2b5651dd466531ba),
-        (0, 1088, 0x71a5e25f2281e942, 0x942a051b737af7e),
-        (0, 5000, 0x8e5898f51713d386, 0x2cd84822f38d1845),
-        (0x9e3779b97f4a7c15, 1024, 0x3d94cacca96d54d3, 0x25407ec50b40058c),
-        (0x9e3779b97f4a7c15, 1088, 0x8d0ac3518182d123, 0xebec0cb1a9cf0d16),
-        (0x9e3779b97f4a7c15, 5000, 0x3679ad6c0207c685, 0x1069f846d89e170a),
-    ] {
-        assert_eq!(xxh3_64(seed, &text[..len]), low);
-        assert_eq!(xxh3_128(seed, &text[..len]), (low, high));
-    }
-}
-
 /// Each hash leads back to its text, and a map's key has the hash of what std feeds.
 #[test]
 fn texts_for_hashes_and_keys_of_maps_under_xxh3() {

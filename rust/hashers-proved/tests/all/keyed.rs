@@ -1,22 +1,10 @@
 //! The polynomial hash at a key.
-use hashers_proved::keyed::{poly61, poly61_combine, poly61_pair, poly61_state, Poly61Hasher, Poly61Keys, Poly61Pair, Poly61Place};
+use hashers_proved::keyed::{poly61, poly61_pair, Poly61Hasher, Poly61Keys, Poly61Pair, Poly61Place};
 use std::hash::{BuildHasher, Hasher};
 
 const FOX: &[u8] = b"The quick brown fox jumps over the lazy dog";
 const KEY: u64 = 1234567890123456789;
 const OF_FOX: u64 = 2910588923001171521;
-
-#[test]
-fn texts_at_a_key() {
-    assert_eq!(poly61(KEY, FOX), OF_FOX);
-    assert_eq!(poly61_pair(KEY, 7, FOX), (OF_FOX, 5805623949759481314));
-    let mut hasher = Poly61Hasher::new(KEY);
-    FOX.iter().for_each(|byte| hasher.write_u8(*byte));
-    assert_eq!(hasher.finish(), OF_FOX);
-    let (front, back) = FOX.split_at(28);
-    assert_eq!(poly61_combine(KEY, poly61_state(KEY, front).unwrap(), poly61(KEY, back), 15), OF_FOX);
-    assert_eq!(poly61_state(KEY, b"abc"), None);
-}
 
 /// The hash behind the beginning of a text once more was written.
 fn behind(length: usize, write: impl Fn(&mut Poly61Hasher)) -> u64 {

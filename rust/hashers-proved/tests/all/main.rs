@@ -11,6 +11,6 @@ mod laws;
 mod promises;
 #[cfg(feature = "std")]
 mod memory;
+mod names;
 mod numbers;
 mod uses;
-mod vectors;

@@ -17,7 +17,7 @@ use hashers_proved::text_set::Texts;
 use std::collections::btree_map::Entry;
 use std::collections::{BTreeMap, HashMap, HashSet};
 use std::hash::{BuildHasher, BuildHasherDefault, Hasher};
-use std::io::{ErrorKind, Read};
+use std::io::{ErrorKind, Read, Write};
 
 /// Numbers that look random, the same ones each time.
 fn numbers(mut state: u64) -> impl FnMut() -> u64 {
@@ -474,4 +474,15 @@ fn memory_that_is_not_there_is_refused() {
     assert!(items.reserve(usize::MAX / 8).is_err() && items.resize(usize::MAX / 4, 0).is_err());
     assert!(ShimVec::<u64>::with_capacity(Global, usize::MAX / 2).is_err());
     assert_eq!(items.as_slice(), [1]);
+}
+
+/// What is formatted goes behind the bytes, letters of several bytes too.
+#[test]
+fn formatted_behind_bytes() {
+    let mut bytes = ShimVec::<u8>::new(Global);
+    for number in 0..100 {
+        write!(bytes, "{:é>4}{number:>7} ß", 'ä').unwrap();
+    }
+    let wanted: String = (0..100).map(|number| format!("éééä{number:>7} ß")).collect();
+    assert_eq!(bytes.as_slice(), wanted.as_bytes());
 }

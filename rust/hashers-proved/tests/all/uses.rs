@@ -1,8 +1,5 @@
-//! What a caller does: maps, parts, undoing, two texts joined.
-use hashers_proved::jenkins::{
-    spooky_hash::{spooky128, spooky128_v1, SpookyHasher},
-    stretch::stretch_for,
-};
+//! What a caller does: maps, parts, undoing.
+use hashers_proved::jenkins::spooky_hash::{spooky128, spooky128_v1, SpookyHasher};
 use hashers_proved::{fnv::*, fx_hash::*, jenkins::*, more::*, null::*, oz::*, pigeon::*};
 use std::collections::{HashMap, HashSet};
 use std::fmt::Debug;
@@ -80,34 +77,6 @@ fn spooky_in_parts_is_that_of_the_whole() {
         assert_eq!(hasher.finish(), hasher.finish128().0);
         assert_eq!(copy.finish128(), spooky128(&bytes[..cut], 1, 2), "a copy at {cut}");
     }
-}
-
-#[test]
-fn two_texts_are_combined() {
-    let (first, second) = (b"the first text, ".as_slice(), b"and one of another length".as_slice());
-    let whole = [first, second].concat();
-    let length = second.len() as u64;
-    assert_eq!(sdbm_combine(sdbm(first), sdbm(second), length), sdbm(&whole));
-    assert_eq!(loselose_combine(loselose(first), loselose(second), length), loselose(&whole));
-    assert_eq!(passthrough_combine(passthrough(first), passthrough(second), length), passthrough(&whole));
-    assert_eq!(crc32_combine(crc32(first), crc32(second), length), crc32(&whole));
-    assert_eq!(crc32c_combine(crc32c(first), crc32c(second), length), crc32c(&whole));
-}
-
-#[test]
-fn texts_are_led_to_an_answer() {
-    let text = b"a text".as_slice();
-    assert_eq!(crc32_ending(crc32(b"12345"), 0xCBF43926), *b"6789");
-    assert_eq!(crc32(&[text, &crc32_ending(crc32(text), 7)].concat()), 7);
-    assert_eq!(crc32c(&[text, &crc32c_ending(crc32c(text), 7)].concat()), 7);
-    let from = Lookup3Hasher::new(1, 2);
-    assert_eq!(from.piece_words(&block_for(&from, 7 << 32 | 9, 8)), [8, 7, 9]);
-    assert_eq!(lookup3(&block_for(&Lookup3Hasher::new(0, 0), 7, 8)), 7);
-    let (front, back) = ([1u8; 48].as_slice(), b"the rest".as_slice());
-    let stretch = stretch_for(1, 2, front, back, [3, 4, 5, 6]);
-    assert_eq!(spooky128(&[front, &stretch, back].concat(), 1, 2), (3, 4));
-    assert_eq!(fxhash(&FxHasher::default().word_for(7).to_le_bytes()), 7);
-    assert_eq!(fxhash32(&FxHasher32::default().word_for(7).to_le_bytes()), 7);
 }
 
 #[test]

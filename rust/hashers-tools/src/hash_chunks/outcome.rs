@@ -16,7 +16,7 @@ use cli::outcome;
 use cli::outcome::{Words, of_run, of_telling};
 use hash_cuts::Cuts;
 use hash_lines::line::LineKind;
-use hash_sums::keys::keys_for;
+use hash_sums::keys::{KeyRule, keys_for};
 use hash_sums::sums::{kind_of, kinds};
 use std::alloc::{AllocError, Global};
 use std::io::{Read, Write};
@@ -231,7 +231,7 @@ fn ended<'a, R: Read, F: Folder<R>, W: Write>(
     files: &[&'a [u8]],
     lines: &mut Lines<'a, W>,
 ) -> Outcome {
-    match keys_for(folder, key_file, true) {
+    match keys_for(folder, key_file, KeyRule::Any) {
         Some(keys) => {
             let cuts = cuts_of(task.sizes, keys);
             of_run(run(alloc, folder, task, &cuts, files, lines))

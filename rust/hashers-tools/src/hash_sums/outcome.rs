@@ -7,7 +7,7 @@ use hashers_proved::shim::{Vec, std};
 
 use crate::hash_sums::check::{Checking, check_lists};
 use crate::hash_sums::failure::Failure;
-use crate::hash_sums::keys::keys_for;
+use crate::hash_sums::keys::{KeyRule, keys_for};
 use crate::hash_sums::reports::Reports;
 use crate::hash_sums::sum::{Summing, sum_files};
 use crate::hash_sums::sums::{is_named, kind_of, kinds};
@@ -235,6 +235,22 @@ fn asks_for(call: &Call<'_>, name: &[u8]) -> bool {
     }
 }
 
+/// Which keys the key file may have: any for siphash24.
+///
+/// Proved:
+///
+/// ```text
+/// result ≡ key_rule (sayings call.now.said.items)
+/// ```
+#[inline]
+fn key_rule(call: &Call<'_>) -> KeyRule {
+    if asks_for(call, b"siphash24") {
+        KeyRule::Any
+    } else {
+        KeyRule::Poly61
+    }
+}
+
 /// Whether the words ask for a hash that takes keys.
 ///
 /// Proved:
@@ -299,9 +315,6 @@ fn work_of(call: &Call<'_>, kind: LineKind<'static>) -> Task {
 /// ```
 #[inline]
 fn task_of(kinds: &[LineKind<'static>], call: &Call<'_>) -> Result<Task, Wrong> {
-    if let Some(misuse) = misuse_of(call) {
-        return Err(Wrong::Own(misuse));
-    }
     match kind_of(kinds, asked(call)) {
         Some(kind) => Ok(work_of(call, kind)),
         None => Err(Wrong::UnknownName),
@@ -358,23 +371,90 @@ fn ended<R: Read, F: Folder<R> + Reports, W: Write>(
     }
 }
 
-/// Does what the call asks for, by hashes of these kinds. If the call is wrong, or there is no memory for its files, nothing is
-/// written. Where all was done or told, nothing that it wrote is held back.
+/// The keys in the key file of a call, if it gives one. `None` if that has none such as the hash takes.
 ///
 /// Proved:
 ///
 /// ```text
-/// ended: EndsCall kinds.now (F.opens folder.now) (sayings call.now.said.items)
+/// let said = sayings call.now.said.items in
+///     MatchOption result (IsSome (key_file said))
+///     (AreKeysFor (key_rule said) (F.opens folder.now) (key_file said))
+/// ```
+#[inline]
+fn keys_of_call<R: Read, F: Folder<R>>(
+    folder: &F,
+    call: &Call<'_>,
+) -> Option<Option<(u64, u64)>> {
+    keys_for(folder, call.value(b"key-file"), key_rule(call))
+}
+
+/// Does the work of a call over its files, by hashes of these kinds.
+///
+/// Proved:
+///
+/// ```text
+/// ended: EndsTask kinds.now (F.opens folder.now) (files_or (operands (sayings call.now.said.items)))
+///     (writer_contents W.contents w.old) (writer_contents W.contents w.new)
+///     (task_of kinds.now (sayings call.now.said.items)) result
+///     ⊎ ((result ≡ Failed NoMemory) × Keeps (writer_contents W.contents w.old) (writer_contents W.contents w.new))
+/// flushed: writer_buffer w.old ≡ [] → IsFlushed (writer_buffer w.new) result
+/// ```
+#[inline]
+fn worked_by<R: Read, F: Folder<R> + Reports, W: Write>(
+    alloc: Global,
+    folder: &F,
+    kinds: &[LineKind<'static>],
+    call: &Call<'_>,
+    w: &mut BufWriter<W>,
+) -> Outcome {
+    match files(alloc, call) {
+        Ok(files) => ended(alloc, folder, kinds, &files, task_of(kinds, call), w),
+        Err(_) => Outcome::Failed(Failure::NoMemory),
+    }
+}
+
+/// Does the work of a call, by the hashes that can be told, and by those that take keys under the keys of its key file. If that has no
+/// such keys, or there is no memory for the files, nothing is written.
+///
+/// Proved:
+///
+/// ```text
+/// ended: EndsWork (F.opens folder.now) (sayings call.now.said.items)
+///     (writer_contents W.contents w.old) (writer_contents W.contents w.new) result
+/// flushed: writer_buffer w.old ≡ [] → IsFlushed (writer_buffer w.new) result
+/// ```
+#[inline]
+fn worked<R: Read, F: Folder<R> + Reports, W: Write>(
+    alloc: Global,
+    folder: &F,
+    call: &Call<'_>,
+    w: &mut BufWriter<W>,
+) -> Outcome {
+    match keys_of_call(folder, call) {
+        None => Outcome::Reported,
+        Some(keys) => match kinds(alloc, Some(keys.unwrap_or((0, 0)))) {
+            Ok(kinds) => worked_by(alloc, folder, &kinds, call, w),
+            Err(_) => Outcome::Failed(Failure::NoMemory),
+        },
+    }
+}
+
+/// Does what the call asks for, by the hashes that can be told, and by those that take keys under the keys of its key file. If the call
+/// is wrong, there are no such keys or there is no memory for its files, nothing is written. Where all was done or told, nothing that it
+/// wrote is held back.
+///
+/// Proved:
+///
+/// ```text
+/// ended: EndsCall (F.opens folder.now) (sayings call.now.said.items)
 ///     (text_of about.entry.help.now about.entry.version.now about.entry.list.now)
 ///     (writer_contents W.contents w.old) (writer_contents W.contents w.new) result
-///     ⊎ ((result ≡ Failed NoMemory) × Keeps (writer_contents W.contents w.old) (writer_contents W.contents w.new))
 /// flushed: writer_buffer w.old ≡ [] → IsFlushed (writer_buffer w.new) result
 /// ```
 #[inline]
 pub fn outcome_of<R: Read, F: Folder<R> + Reports, W: Write>(
     alloc: Global,
     folder: &F,
-    kinds: &[LineKind<'static>],
     call: &Call<'_>,
     about: About<'_>,
     w: &mut BufWriter<W>,
@@ -382,69 +462,9 @@ pub fn outcome_of<R: Read, F: Folder<R> + Reports, W: Write>(
     match request_of(call) {
         Request::Misgiven(misgiven) => Outcome::Usage(Wrong::Option(misgiven)),
         Request::Text(text) => of_telling(write_out(w, text_of(&about, text))),
-        Request::Work => match files(alloc, call) {
-            Ok(files) => ended(alloc, folder, kinds, &files, task_of(kinds, call), w),
-            Err(_) => Outcome::Failed(Failure::NoMemory),
-        },
-    }
-}
-
-/// The key file of a call, if it gives one and is neither wrong nor asks for a text.
-///
-/// Proved:
-///
-/// ```text
-/// option_map (λ name. name.now) result ≡ key_file (sayings call.now.said.items)
-/// ```
-#[inline]
-fn key_file<'a>(call: &Call<'a>) -> Option<&'a [u8]> {
-    match (request_of(call), misuse_of(call)) {
-        (Request::Work, None) => call.value(b"key-file"),
-        _ => None,
-    }
-}
-
-/// The keys in the key file of a call, if it gives one: any two for siphash24, and else two of poly61. `None` if it has none such.
-///
-/// Proved:
-///
-/// ```text
-/// let said = sayings call.now.said.items in
-///     MatchOption result (IsSome (key_file said))
-///     (AreKeysFor (asks_for_siphash24 said) (F.opens folder.now) (key_file said))
-/// ```
-#[inline]
-fn keys_of_call<R: Read, F: Folder<R>>(
-    folder: &F,
-    call: &Call<'_>,
-) -> Option<Option<(u64, u64)>> {
-    keys_for(folder, key_file(call), asks_for(call, b"siphash24"))
-}
-
-/// Does what the call asks for, by the hashes that can be told, and by those that take keys under the keys of its key file. If that
-/// has no such keys, nothing is written. Where all was done or told, nothing that it wrote is held back.
-///
-/// Proved:
-///
-/// ```text
-/// ended: EndsWithKeys (F.opens folder.now) (sayings call.now.said.items)
-///     (text_of about.entry.help.now about.entry.version.now about.entry.list.now)
-///     (writer_contents W.contents w.old) (writer_contents W.contents w.new) result
-/// flushed: writer_buffer w.old ≡ [] → IsFlushed (writer_buffer w.new) result
-/// ```
-#[inline]
-pub fn outcome_with_keys<R: Read, F: Folder<R> + Reports, W: Write>(
-    alloc: Global,
-    folder: &F,
-    call: &Call<'_>,
-    about: About<'_>,
-    w: &mut BufWriter<W>,
-) -> Outcome {
-    match keys_of_call(folder, call) {
-        None => Outcome::Reported,
-        Some(keys) => match kinds(alloc, Some(keys.unwrap_or((0, 0)))) {
-            Ok(kinds) => outcome_of(alloc, folder, &kinds, call, about, w),
-            Err(_) => Outcome::Failed(Failure::NoMemory),
+        Request::Work => match misuse_of(call) {
+            Some(misuse) => Outcome::Usage(Wrong::Own(misuse)),
+            None => worked(alloc, folder, call, w),
         },
     }
 }

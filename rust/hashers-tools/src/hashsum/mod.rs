@@ -12,7 +12,7 @@ use cli::program::{BUFFER, Program, run};
 use cli::progress::Watched;
 use hash_sums::disk::Checked;
 use hash_sums::laws::seen;
-use hash_sums::outcome::{Misuse, Outcome, Wrong, call_of, options, outcome_with_keys};
+use hash_sums::outcome::{Misuse, Outcome, Wrong, call_of, options, outcome_of};
 use hash_sums::sums::{Sum, kinds, sum_at};
 use std::alloc::{AllocError, Global};
 use std::io;
@@ -100,7 +100,7 @@ impl Program for Hashsum {
             version: VERSION,
             list: list.as_str(),
         };
-        Ok(outcome_with_keys(
+        Ok(outcome_of(
             alloc,
             &Checked::new(rt, NAME, call.gives(b"quiet"), call.gives(b"status")),
             call,

@@ -47,8 +47,8 @@ impl<S: BuildHasher> LineTask for Once<S> {
     }
 }
 
-/// Writes each of at most `limit` lines of the inputs, each of which ends with the byte `eol`, once, where it came first. An
-/// input that fails is told, and the others are read. Whenever it reads, and at the end, nothing is held back.
+/// Writes each of at most `limit` lines of the inputs, each of which ends with the byte `eol`, once, where it came first. If
+/// an input fails, the others are still read. Whenever it reads, and at the end, nothing is held back.
 ///
 /// Proved:
 ///

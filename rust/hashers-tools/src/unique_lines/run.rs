@@ -137,8 +137,8 @@ fn take_input<T: LineTask, R: Read, W: Write>(
     }
 }
 
-/// Has the lines of the inputs taken, which end with the byte `eol`, at most `limit` of them. An input that fails is told,
-/// and the others are read. Whenever it reads, and at the end, nothing is held back.
+/// Has the lines of the inputs taken, which end with the byte `eol`, at most `limit` of them. If an input fails, the others are still
+/// read. Whenever it reads, and at the end, nothing is held back.
 ///
 /// The caller has to see to it that:
 ///

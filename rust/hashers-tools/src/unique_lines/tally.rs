@@ -220,7 +220,7 @@ fn write_tallies<S: BuildHasher, W: Write>(
 }
 
 /// Counts at most `limit` lines of the inputs, each of which ends with the byte `eol`, and writes behind the last those that
-/// are asked for, in the order in which they came first. An input that fails is told, and the others are read. If there
+/// are asked for, in the order in which they came first. If an input fails, the others are still read. If there
 /// are more lines than the limit, none is written. At the end nothing is held back. After a fault nothing was written, or a
 /// beginning of what is due of all lines.
 ///

@@ -1,4 +1,4 @@
-//! The vectors of `c/vectors.inc`, by function and by hasher.
+//! Each name: its function beside its hasher, and the header for C.
 use hashers_proved::blocks::{
     murmur3_128, murmur3_32, siphash13, siphash24, xxh32, xxh64, Murmur3Hasher128, Murmur3Hasher32, SipHasher13, SipHasher24, SipKey,
     Xxh32Hasher, Xxh64Hasher,
@@ -57,25 +57,6 @@ const NAMES: [(&str, Hash, Hash); 29] = [
     ("siphash24", |text| siphash24(NO_KEY, text), by::<SipHasher24>),
     ("xxh3", |text| xxh3_64(0, text), by::<Xxh3Hasher>),
 ];
-
-/// A row of the table, as `{hashers_djb2, "a", 177604u},`.
-fn row(line: &str) -> (&str, &str, u64) {
-    let row = line.trim().strip_prefix("{hashers_").and_then(|row| row.strip_suffix("u},")).expect(line);
-    let parts: Vec<&str> = row.split(", ").collect();
-    (parts[0], parts[1].trim_matches('"'), parts[2].parse().expect(line))
-}
-
-#[test]
-fn vectors_by_function_and_by_hasher() {
-    let mut rows = 0;
-    for (name, text, wanted) in include_str!("../../../../c/vectors.inc").lines().map(row) {
-        let (_, whole, parts) = NAMES.iter().find(|it| it.0 == name).expect(name);
-        assert_eq!(whole(text.as_bytes()), wanted, "{name} of {text:?}");
-        assert_eq!(parts(text.as_bytes()), wanted, "the hasher of {name} over {text:?}");
-        rows += 1;
-    }
-    assert!(rows >= 50, "only {rows} rows");
-}
 
 #[test]
 fn hashers_answer_as_functions_at_each_length() {

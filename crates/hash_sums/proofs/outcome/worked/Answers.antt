@@ -1,9 +1,9 @@
 use Rattle.std.proofs.Common.{Some, inl, inr, map, ap, ◌∙◌}
 use Rattle.hash_sums.specs.Sums.{kinds, told_of}
-use Rattle.hash_sums.proofs.outcome.outcome_with_keys.Goals as goal
+use Rattle.hash_sums.proofs.outcome.worked.Goals as goal
 
 pub returns-in-Ok-clause-ended : goal.returns-in-Ok-clause-ended
-returns-in-Ok-clause-ended g c = elim c.outcome_of.ensures.ended [
+returns-in-Ok-clause-ended g c = elim c.worked_by.ensures.ended [
   | inl ends ↦
       let told = ap (map told_of) c.deref.ensures.value ∙ c.in-Ok.ensures ∙ ap (λ pair. kinds (Some pair)) c.unwrap_or.ensures in
       inl (c.in-Some.keys, c.in-Some.ensures, c.deref.result.now, told, ends)

@@ -1,0 +1,209 @@
+//! Calls of the hashers beside those of the vectors, each once, by vectors, by values of other programs or by hand.
+
+// What follows is the proved text of crates/hash_vectors/src/tests/calls.rt without its contracts.
+use hashers_proved::{hash_keyed, hash_more, hash_siphash, hashers};
+use crate::shim::{HostRuntime, std};
+
+use crate::hash_vectors::tests::{all_hold, none_holds, same};
+use hash_keyed::pair::{Poly61Pair, poly61_pair};
+use hash_keyed::parts::{poly61_combine, poly61_state};
+use hash_keyed::poly61::{Poly61Hasher, poly61};
+use hash_more::crc32::{crc32, crc32_combine, crc32c, crc32c_combine};
+use hash_siphash::{sip_round, sip_unround};
+use hashers::fx_hash::{FxHasher, FxHasher32, FxHasher64};
+use hashers::jenkins::spooky_hash::{SpookyHasher, spooky};
+use hashers::jenkins::{Lookup3Hasher, OAATHasher};
+use hashers::laws::{
+    ByteStep, Piecewise, Undo, bucket_of, hash_of, run_pieces, run_words, run_words32, run_words64,
+    same_answers_later,
+};
+use hashers::null::{NullHasher, PassThroughHasher, passthrough, passthrough_combine};
+use hashers::oz::{DJB2Hasher, LoseLoseHasher, loselose_combine, sdbm, sdbm_combine};
+use hashers::promises::passthrough_goes_on;
+use std::hash::Hasher;
+
+#[inline]
+pub fn worked_examples(rt: HostRuntime) {
+    let mut h = DJB2Hasher::default();
+    h.write(b"a");
+    h.write(b"b");
+    let hash = h.finish();
+    let mut number = DJB2Hasher::default();
+    number.write_u16(25185);
+    let mut eight = PassThroughHasher::default();
+    eight.write_u64(0x6867666564636261);
+    let mut stepped = OAATHasher::fresh();
+    stepped.step(97);
+    let letter = stepped.answer();
+    stepped.unstep(97);
+    same(
+        &rt,
+        &[
+            hash,
+            number.finish(),
+            eight.finish(),
+            letter,
+            stepped.answer(),
+            NullHasher.answer(),
+            bucket_of::<DJB2Hasher>(b"a", 1000),
+        ],
+        &[5860902, 5860902, 0x6162636465666768, 29161854018, 0, 0, 604],
+    );
+}
+
+/// The word 97 by fx, from numbers of each width; at 32 bits eight bytes are two words, the low one first.
+pub fn words_of_fx(rt: HostRuntime) {
+    let (mut one, mut four) = (FxHasher64::default(), FxHasher::default());
+    one.write_u8(97);
+    four.write_u32(97);
+    let (mut eight, mut size) = (FxHasher64::default(), FxHasher::default());
+    eight.write_u64(97);
+    size.write_usize(97);
+    let (mut piece, mut piece64) = (FxHasher::default(), FxHasher64::default());
+    run_words(&mut piece, &[b"a"]);
+    run_words64(&mut piece64, &[b"a"]);
+    same(
+        &rt,
+        &[
+            one.finish(),
+            four.finish(),
+            eight.finish(),
+            size.finish(),
+            piece.finish(),
+            piece64.finish(),
+        ],
+        &[16160435425421689461; 6],
+    );
+    let (mut narrow, mut halves, mut piece32) = (
+        FxHasher32::default(),
+        FxHasher32::default(),
+        FxHasher32::default(),
+    );
+    narrow.write_u8(97);
+    halves.write_u64(97 << 32);
+    run_words32(&mut piece32, &[b"", b"a"]);
+    same(
+        &rt,
+        &[narrow.finish(), halves.finish(), piece32.finish()],
+        &[3555066485; 3],
+    );
+    narrow.unwrite_word(97);
+    same(&rt, &[narrow.finish()], &[0]);
+}
+
+/// The original's answers to lookup3 in two writes, and to its bytes at once.
+#[inline]
+pub fn pieces_of_lookup3(rt: HostRuntime) {
+    let mut pieces = Lookup3Hasher::fresh();
+    run_pieces(&mut pieces, &[b"a", b"", b"b"]);
+    let mut again = pieces.fork();
+    same(&rt, &[pieces.finish()], &[18104817335149544820]);
+    same_answers_later(&mut pieces, &mut again, &[b"later"]);
+    let mut last = PassThroughHasher::default();
+    let told = passthrough_goes_on(&mut last, &[]);
+    same(
+        &rt,
+        &[pieces.finish(), told.0, told.1],
+        &[again.finish(), 0, 0],
+    );
+}
+
+/// The four words of a short text and the twelve of a long one begin with the hash, which is version 1's too if the text is long.
+#[inline]
+pub fn words_of_spooky(rt: HostRuntime) {
+    let mut hasher = SpookyHasher::default();
+    hasher.write(b"a");
+    let short = hasher.short_words().expect("fewer than 192 bytes");
+    all_hold(
+        &rt,
+        &[
+            (short[0], short[1]) == hasher.finish128(),
+            short[0] == spooky(b"a"),
+            hasher.long_words().is_none(),
+        ],
+    );
+    hasher.write(&[0; 191]);
+    let long = hasher.long_words().expect("192 bytes and more");
+    all_hold(
+        &rt,
+        &[
+            (long[0], long[1]) == hasher.finish128(),
+            hasher.finish128_v1() == hasher.finish128(),
+            hasher.short_words().is_none(),
+        ],
+    );
+}
+
+/// Numbers that are the answers of no hasher.
+#[inline]
+pub fn answers_of_no_hasher(rt: HostRuntime) {
+    none_holds(
+        &rt,
+        &[
+            DJB2Hasher::unfinish(4294967296).is_some(),
+            FxHasher32::unfinish(4294967296).is_some(),
+        ],
+    );
+}
+
+/// A round of SipHash, and back.
+#[inline]
+pub fn a_round_of_siphash(rt: HostRuntime) {
+    let mut v = [1, 2, 3, 4];
+    sip_round(&mut v);
+    sip_unround(&mut v);
+    same(&rt, &v, &[1, 2, 3, 4]);
+}
+
+/// Hashes of joined texts, from those of the parts and the second one's length. Those of zeros are zlib's and of a program in Python.
+#[inline]
+pub fn joined_texts(rt: HostRuntime) {
+    same(
+        &rt,
+        &[
+            sdbm_combine(sdbm(b"a"), sdbm(b"bcd"), 3),
+            sdbm_combine(97, 0, 8589934597),
+            loselose_combine(hash_of::<LoseLoseHasher>(b"ab"), 99, 1),
+            passthrough_combine(passthrough(b"abcdefgh"), passthrough(b"i"), 1),
+            crc32_combine(crc32(b"1234"), crc32(b"56789"), 5),
+            crc32_combine(0xCBF43926, 0x12345678, 8589934597),
+            crc32_combine(0xCBF43926, 0x12345678, 0x7FFFFFFFFFFF),
+            crc32c_combine(crc32c(b"1234"), crc32c(b"56789"), 5),
+        ],
+        &[
+            3518636162,
+            1724963039,
+            294,
+            0x6263646566676869,
+            0xCBF43926,
+            0x81D49321,
+            0xDCC659CD,
+            0xE3069283,
+        ],
+    );
+}
+
+const FOX: &[u8] = b"The quick brown fox jumps over the lazy dog";
+
+const KEY: u64 = 1234567890123456789;
+
+/// Values of a program in Python, by its whole numbers. The key is that of the default hasher.
+#[inline]
+pub fn parts_and_pairs_of_poly61(rt: HostRuntime) {
+    let (front, back) = FOX.split_at(28);
+    let state = poly61_state(KEY, front).unwrap_or(0);
+    let mut pair = Poly61Pair::new(KEY, 7);
+    pair.write(b"The quick brown fox ");
+    pair.write(b"jumps over the lazy dog");
+    let wanted = (2910588923001171521, 5805623949759481314);
+    all_hold(
+        &rt,
+        &[
+            state == 1399353015904739961 && poly61(KEY, back) == 3219447624412592761,
+            poly61_combine(KEY, state, poly61(KEY, back), 15) == wanted.0,
+            poly61_state(KEY, b"abcdef").is_none(),
+            hash_of::<Poly61Hasher>(FOX) == wanted.0,
+            pair.finish() == wanted && poly61_pair(KEY, 7, FOX) == wanted,
+        ],
+    );
+}

@@ -1,0 +1,277 @@
+//! What `cuts` does over files in memory. The lines were computed by another program, from the definitions.
+
+// What follows is the proved text of crates/hash_vectors/src/tests/chunks.rt without its contracts.
+use crate::streams;
+use hashers_tools::{cli, hash_chunks};
+use crate::shim::{HostRuntime, Vec, std};
+
+use crate::hash_vectors::tests::all_hold_at;
+use crate::hash_vectors::tests::shelf::{Came, Shelf, ended_or_told, has_ended};
+use cli::frame::About;
+use cli::outcome::{failure_of, status_of};
+use hash_chunks::listing::Lines;
+use hash_chunks::outcome::{call_of, outcome_of};
+use std::alloc::Global;
+use std::io;
+use std::io::{BufWriter, ErrorKind};
+use std::process::Abort;
+use streams::rehearsal::{File, Paper, Trouble, arguments_of, whole};
+
+/// Bytes without an order: the high ones of a generator by D. E. Knuth, which goes on by a product and a sum.
+#[inline]
+fn made() -> [u8; 700] {
+    let mut state: u64 = 1;
+    std::array::from_fn(|_| {
+        state = state
+            .wrapping_mul(6364136223846793005)
+            .wrapping_add(1442695040888963407);
+        (state >> 56) as u8
+    })
+}
+
+/// A key file of the keys 1 and 2.
+const KEYS: [u8; 16] = [1, 0, 0, 0, 0, 0, 0, 0, 2, 0, 0, 0, 0, 0, 0, 0];
+
+/// The options for chunks of 64 to 1,024 bytes, 256 on average, by these keys.
+const SMALL: [&str; 8] = [
+    "-l",
+    "64",
+    "--average",
+    "256",
+    "--most=1K",
+    "--key-file",
+    "keys",
+    "-acrc32",
+];
+
+/// The lines of the bytes in a file of the name `a`.
+const LINES: &str = "0 122 641f71be  a\n122 536 2f0bc0db  a\n658 42 915a9a13  a\n";
+
+/// What became of a call that writes onto this paper.
+#[inline]
+fn called(alloc: Global, words: &[Vec<u8>], shelf: &Shelf<'_>, paper: &mut Paper) -> Came {
+    let call = call_of(alloc, words)?;
+    let about = About {
+        help: "help\n",
+        version: "version\n",
+        list: "",
+    };
+    let w = BufWriter::with_capacity(alloc, 16, paper)?;
+    let mut lines = Lines::new(alloc, w);
+    let outcome = outcome_of(alloc, shelf, &call, about, &mut lines);
+    Ok((status_of(&outcome), failure_of(&outcome)))
+}
+
+/// The same of a call over these files.
+#[inline]
+fn run(alloc: Global, words: &[&str], files: &[File<'_>], paper: &mut Paper) -> Came {
+    let words = arguments_of(alloc, words)?;
+    called(alloc, &words, &Shelf { files }, paper)
+}
+
+/// The words behind the options for small chunks.
+#[inline]
+fn small<'a>(alloc: Global, more: &[&'a str]) -> io::Result<Vec<&'a str>> {
+    let mut words = Vec::new(alloc);
+    words.extend_from_slice(&SMALL)?;
+    words.extend_from_slice(more)?;
+    Ok(words)
+}
+
+/// That a call for small chunks ends so, and writes this.
+#[inline]
+fn ends(
+    rt: &impl Abort,
+    alloc: Global,
+    more: &[&str],
+    files: &[File<'_>],
+    status: u8,
+    output: &str,
+) {
+    let mut paper = Paper::sound(64);
+    let words = small(alloc, more).expect("memory");
+    let came = run(alloc, &words, files, &mut paper);
+    has_ended(rt, came, &paper, status, output);
+}
+
+#[inline]
+pub fn lines_of_chunks(rt: HostRuntime) {
+    let alloc = rt.alloc();
+    let text = made();
+    let files = [
+        whole(b"keys", &KEYS),
+        whole(b"zeros", &[0; 16]),
+        whole(b"short", b"123456789"),
+        whole(b"none", b""),
+        whole(b"a", &text),
+        whole(b"a\n", &text[..122]),
+        whole(b"-", &text[..700]),
+    ];
+    ends(&rt, alloc, &["a"], &files, 0, LINES);
+    ends(
+        &rt,
+        alloc,
+        &["short", "none", "a\n"],
+        &files,
+        0,
+        "0 9 cbf43926  short\n0 122 \\641f71be  a\\n\n",
+    );
+    ends(
+        &rt,
+        alloc,
+        &["--key-file=zeros"],
+        &files,
+        0,
+        "0 700 ce37e94f  -\n",
+    );
+    ends(&rt, alloc, &["--key-file=a", "a"], &files, 1, "");
+}
+
+#[inline]
+pub fn numbers_of_chunks(rt: HostRuntime) {
+    let alloc = rt.alloc();
+    let text = made();
+    let files = [
+        whole(b"keys", &KEYS),
+        whole(b"a", &text),
+        whole(b"b", &text[..658]),
+    ];
+    ends(
+        &rt,
+        alloc,
+        &["--stats", "a"],
+        &files,
+        0,
+        "chunks: 3\nbytes: 700\nrepeated bytes: 0\n",
+    );
+    ends(
+        &rt,
+        alloc,
+        &["--stats", "a", "missing", "b", "a"],
+        &files,
+        1,
+        "chunks: 8\nbytes: 2058\nrepeated bytes: 1358\n",
+    );
+}
+
+/// The sizes that may be, and the words that are none.
+pub fn calls_end_by_their_sizes(rt: HostRuntime) {
+    let alloc = rt.alloc();
+    let files = [whole(b"-", b"")];
+    let not_rising = "--least, --average and --most must rise from 64 on";
+    let no_size = "invalid number of bytes";
+    let calls = [
+        ("-l64K", ""),
+        ("-l65537", ""),
+        ("-l1M", ""),
+        ("-l63", not_rising),
+        ("-m64K", ""),
+        ("-m65535", not_rising),
+        ("--average=64", ""),
+        ("--average=63", not_rising),
+        ("--average=1M", ""),
+        ("--average=64k", ""),
+        ("--average=1KB", ""),
+        ("--average=1KiB", ""),
+        ("-m1T", ""),
+        ("--average=17179869184G", no_size),
+        ("--average=", no_size),
+        ("-l10Q", no_size),
+        ("-l16E", no_size),
+        ("-l1Ki", no_size),
+        ("-l1B", no_size),
+        ("-lK", no_size),
+        ("-l+64", no_size),
+        ("-m18446744073709551616", no_size),
+        ("-apoly61", "unknown hash"),
+    ];
+    for (turn, (word, failure)) in calls.iter().enumerate() {
+        let mut paper = Paper::sound(64);
+        let (status, said) = run(alloc, &[*word], &files, &mut paper).expect("memory");
+        let wanted = if failure.is_empty() { 0 } else { 2 };
+        all_hold_at(
+            &rt,
+            turn,
+            &[said == *failure, status == wanted, paper.text().is_empty()],
+        );
+    }
+}
+
+/// Of a file that fails the chunks have lines that end within the bytes before, and the next file is read.
+pub fn a_read_fails_in_mid_file(rt: HostRuntime) {
+    let alloc = rt.alloc();
+    let text = made();
+    for (until_fault, lines) in [(657, 1), (660, 2), (122, 0), (123, 1)] {
+        let files = [
+            whole(b"keys", &KEYS),
+            File {
+                name: b"a",
+                text: &text,
+                until_fault,
+            },
+            whole(b"c", b"123456789"),
+        ];
+        let mut paper = Paper::sound(64);
+        let words = small(alloc, &["a", "c"]).expect("memory");
+        let (status, _) = run(alloc, &words, &files, &mut paper).expect("memory");
+        let told = paper
+            .text()
+            .strip_suffix(b"0 9 cbf43926  c\n".as_slice())
+            .expect("the next file's line");
+        let count = told.iter().filter(|byte| **byte == b'\n').count();
+        all_hold_at(
+            &rt,
+            until_fault,
+            &[
+                status == 1,
+                count == lines,
+                LINES.as_bytes().starts_with(told),
+            ],
+        );
+    }
+}
+
+/// Wherever a write fails, what was written is a beginning of the output.
+#[inline]
+pub fn a_write_fails_at_each_byte(rt: HostRuntime) {
+    let alloc = rt.alloc();
+    let text = made();
+    let files = [whole(b"keys", &KEYS), whole(b"a", &text)];
+    for (more, output) in [
+        (["a"].as_slice(), LINES),
+        (
+            ["--stats", "a"].as_slice(),
+            "chunks: 3\nbytes: 700\nrepeated bytes: 0\n",
+        ),
+    ] {
+        for room in 0..output.len() {
+            let mut paper = Paper::new(64, Trouble::WriteFails(room), ErrorKind::BrokenPipe);
+            let words = small(alloc, more).expect("memory");
+            let (status, _) = run(alloc, &words, &files, &mut paper).expect("memory");
+            let begins = output.as_bytes().starts_with(paper.text());
+            all_hold_at(&rt, room, &[status == 141, begins]);
+        }
+    }
+}
+
+/// A request for memory that is refused is told, or nothing was asked for.
+#[inline]
+pub fn refused_memory(rt: HostRuntime) {
+    let alloc = rt.alloc();
+    let text = made();
+    let files = [whole(b"keys", &KEYS), whole(b"a", &text)];
+    for (more, output) in [
+        (["a"].as_slice(), LINES),
+        (
+            ["--stats", "a"].as_slice(),
+            "chunks: 3\nbytes: 700\nrepeated bytes: 0\n",
+        ),
+    ] {
+        let mut paper = Paper::sound(64);
+        let came = match small(alloc, more) {
+            Ok(words) => run(alloc, &words, &files, &mut paper),
+            Err(error) => Err(error),
+        };
+        ended_or_told(&rt, came, &paper, output, &["out of memory", "write error"]);
+    }
+}

@@ -1,0 +1,518 @@
+//! What the program `dedup` writes, over readers and writers that cut, fail, and refuse.
+
+// What follows is the proved text of crates/hash_vectors/src/tests/lines.rt without its contracts.
+use crate::streams;
+use hashers_proved::text_set;
+use hashers_tools::{cli, unique_lines};
+use crate::shim::{HostRuntime, std};
+
+use crate::hash_vectors::tests::all_hold;
+use cli::frame::About;
+use cli::inputs::Complaints;
+use cli::outcome::{failure_of, status_of};
+use std::alloc::Global;
+use std::hash::{BuildHasher, Hasher};
+use std::io;
+use std::io::{BufWriter, ErrorKind};
+use std::process::Abort;
+use streams::rehearsal::{Paper, Script, Trouble, arguments_of};
+use text_set::RandomKeys;
+use unique_lines::once::dedup;
+use unique_lines::outcome::{Outcome, call_of, outcome_of};
+use unique_lines::tally::{Which, tally};
+use unique_lines::{Ended, Failure, TooMany};
+
+/// That the bytes are as wanted.
+#[inline]
+fn same_bytes(rt: &impl Abort, got: &[u8], want: &[u8]) {
+    assert_eq!(got, want);
+}
+
+/// How the program ends: its status, and what it says that failed.
+type End = (u8, &'static str);
+
+const WELL: End = (0, "");
+
+const NO_MEMORY: End = (1, "out of memory");
+
+/// An input failed, which was told when it did.
+const INPUT_FAILED: End = (1, "");
+
+const WRITE_FAULT: End = (1, "write error");
+
+/// The error of a write or a flush that fails.
+const REFUSED: ErrorKind = ErrorKind::PermissionDenied;
+
+/// That the program ended as wanted.
+#[inline]
+fn ended(rt: &impl Abort, got: End, want: End) {
+    assert_eq!(got, want);
+}
+
+/// Which inputs failed, as bits, and how often one did with the error that these tests' readers make.
+struct Failures {
+    inputs: u64,
+    count: u64,
+}
+
+impl Failures {
+    #[inline]
+    fn new() -> Failures {
+        Failures {
+            inputs: 0,
+            count: 0,
+        }
+    }
+}
+
+impl Complaints for Failures {
+    #[inline]
+    fn failed(&mut self, place: usize, error: &io::Error) {
+        if error.kind() == ErrorKind::BrokenPipe && place < 64 {
+            self.inputs |= 1 << place;
+            self.count = self.count.saturating_add(1);
+        }
+    }
+}
+
+/// A hasher that a test takes.
+trait Fresh: BuildHasher {
+    fn fresh() -> Self;
+}
+
+impl Fresh for RandomKeys {
+    #[inline]
+    fn fresh() -> RandomKeys {
+        RandomKeys::with_keys(0x9e3779b97f4a7c15, 0xbf58476d1ce4e5b9)
+    }
+}
+
+/// To all texts one hash.
+#[derive(Clone, Copy)]
+struct Alike;
+
+impl Fresh for Alike {
+    #[inline]
+    fn fresh() -> Alike {
+        Alike
+    }
+}
+
+impl BuildHasher for Alike {
+    type Hasher = Alike;
+
+    #[inline]
+    fn build_hasher(&self) -> Alike {
+        Alike
+    }
+}
+
+impl Hasher for Alike {
+    #[inline]
+    fn finish(&self) -> u64 {
+        0
+    }
+
+    #[inline]
+    fn write(&mut self, _bytes: &[u8]) {}
+}
+
+/// What became of a call, without the error itself.
+#[inline]
+fn status(outcome: &Outcome) -> End {
+    (status_of(outcome), failure_of(outcome))
+}
+
+/// How many bytes the writer keeps before it writes them.
+const HELD: usize = 8;
+
+/// Runs the program over inputs, onto this paper.
+#[inline]
+fn run_all<H: Fresh>(
+    alloc: Global,
+    words: &[&str],
+    inputs: &mut [Script<'_>],
+    failures: &mut Failures,
+    w: &mut Paper,
+) -> End {
+    let Ok(words) = arguments_of(alloc, words) else {
+        return NO_MEMORY;
+    };
+    let Ok(call) = call_of(alloc, &words) else {
+        return NO_MEMORY;
+    };
+    let Ok(mut output) = BufWriter::with_capacity(alloc, HELD, w) else {
+        return NO_MEMORY;
+    };
+    status(&outcome_of(
+        alloc,
+        H::fresh(),
+        &call,
+        About {
+            help: "help\n",
+            version: "version\n",
+            list: "",
+        },
+        40,
+        inputs,
+        failures,
+        &mut output,
+    ))
+}
+
+/// Runs the program over a text, onto this paper.
+#[inline]
+fn run<H: Fresh>(alloc: Global, words: &[&str], r: Script<'_>, w: &mut Paper) -> End {
+    run_all::<H>(alloc, words, &mut [r], &mut Failures::new(), w)
+}
+
+/// That the program ends so, and wrote this.
+#[inline]
+fn ends<H: Fresh>(
+    rt: &impl Abort,
+    alloc: Global,
+    words: &[&str],
+    r: Script<'_>,
+    mut w: Paper,
+    end: End,
+    output: &[u8],
+) {
+    ended(rt, run::<H>(alloc, words, r, &mut w), end);
+    same_bytes(rt, w.text(), output);
+}
+
+/// A text, and what the program writes of it with no argument, with `-c`, with `-d` and with `-u`.
+const CASES: [(&[u8], &[u8], &[u8], &[u8], &[u8]); 9] = [
+    (b"", b"", b"", b"", b""),
+    (b"\n", b"\n", b"      1 \n", b"", b"\n"),
+    (b"a", b"a\n", b"      1 a\n", b"", b"a\n"),
+    (b"a\n", b"a\n", b"      1 a\n", b"", b"a\n"),
+    (
+        b"a\nb\na\n",
+        b"a\nb\n",
+        b"      2 a\n      1 b\n",
+        b"a\n",
+        b"b\n",
+    ),
+    (
+        b"b\na\n\na\n\nb",
+        b"b\na\n\n",
+        b"      2 b\n      2 a\n      2 \n",
+        b"b\na\n\n",
+        b"",
+    ),
+    (
+        b"a\nb\nab",
+        b"a\nb\nab\n",
+        b"      1 a\n      1 b\n      1 ab\n",
+        b"",
+        b"a\nb\nab\n",
+    ),
+    (
+        b"\0\n\0\0\n\0\n",
+        b"\0\n\0\0\n",
+        b"      2 \0\n      1 \0\0\n",
+        b"\0\n",
+        b"\0\0\n",
+    ),
+    (
+        b"a\r\na\n\xff\na\r\n",
+        b"a\r\na\n\xff\n",
+        b"      2 a\r\n      1 a\n      1 \xff\n",
+        b"a\r\n",
+        b"a\n\xff\n",
+    ),
+];
+
+/// That the program writes this of the text, through a reader and a writer of so many bytes a call.
+#[inline]
+fn writes<H: Fresh>(
+    rt: &impl Abort,
+    alloc: Global,
+    words: &[&str],
+    text: &[u8],
+    most: usize,
+    output: &[u8],
+) {
+    let paper = Paper::sound(most);
+    ends::<H>(
+        rt,
+        alloc,
+        words,
+        Script::new(text, most),
+        paper,
+        WELL,
+        output,
+    );
+}
+
+/// Each case through a reader and a writer of so many bytes a call.
+#[inline]
+fn writes_each_case<H: Fresh>(rt: &impl Abort, alloc: Global, most: usize) {
+    for (text, once, counted, repeated, unique) in &CASES {
+        writes::<H>(rt, alloc, &[], text, most, once);
+        writes::<H>(rt, alloc, &["-c"], text, most, counted);
+        writes::<H>(rt, alloc, &["-d"], text, most, repeated);
+        writes::<H>(rt, alloc, &["-u"], text, most, unique);
+    }
+}
+
+#[inline]
+pub fn lines_come_once_counted_repeated_and_unique(rt: HostRuntime) {
+    writes_each_case::<RandomKeys>(&rt, rt.alloc(), 64);
+}
+
+#[inline]
+pub fn a_byte_at_a_time_and_all_with_one_hash(rt: HostRuntime) {
+    writes_each_case::<Alike>(&rt, rt.alloc(), 1);
+}
+
+/// The text of the tests of faults.
+const TEXT: &[u8] = b"b\na\nb\na\nc\n";
+
+const ONCE: &[u8] = b"b\na\nc\n";
+
+const COUNTED: &[u8] = b"      2 b\n      2 a\n      1 c\n";
+
+/// What is written of it with no argument and with `-c`.
+const OUTPUTS: [(&[&str], &[u8]); 2] = [(&[], ONCE), (&["-c"], COUNTED)];
+
+/// How many bytes are written of the text where its reading fails behind so many bytes.
+const WRITTEN: [usize; 11] = [0, 0, 2, 2, 4, 4, 4, 4, 4, 4, 6];
+
+#[inline]
+pub fn a_read_fails_at_each_byte(rt: HostRuntime) {
+    for until_fault in 0..11 {
+        let script = Script::failing(TEXT, 3, until_fault);
+        let mut paper = Paper::sound(64);
+        let end = run::<RandomKeys>(rt.alloc(), &[], script, &mut paper);
+        ended(&rt, end, INPUT_FAILED);
+        same_bytes(&rt, paper.text(), &ONCE[..WRITTEN[until_fault]]);
+    }
+}
+
+/// Inputs of which the second fails within a line, and the third ends without an end of its line.
+#[inline]
+fn three_inputs() -> [Script<'static>; 4] {
+    [
+        Script::new(b"b\na", 64),
+        Script::failing(b"a\nc\nlost\n", 64, 6),
+        Script::new(b"a\nlo", 2),
+        Script::new(b"st\nlo", 64),
+    ]
+}
+
+#[inline]
+pub fn inputs_one_behind_the_other(rt: HostRuntime) {
+    let calls: [(&[&str], &[u8]); 2] = [
+        (&[], b"b\na\nc\nlo\nst\n"),
+        (&["-cd"], b"      3 a\n      2 lo\n"),
+    ];
+    for (words, output) in &calls {
+        let mut paper = Paper::sound(64);
+        let mut failures = Failures::new();
+        let end = run_all::<RandomKeys>(
+            rt.alloc(),
+            words,
+            &mut three_inputs(),
+            &mut failures,
+            &mut paper,
+        );
+        ended(&rt, end, INPUT_FAILED);
+        same_bytes(&rt, paper.text(), output);
+        all_hold(&rt, &[failures.inputs == 2, failures.count == 1]);
+    }
+}
+
+#[inline]
+pub fn interrupted_reads(rt: HostRuntime) {
+    for (interrupted, end) in [(1, WELL), (999, WELL), (u32::MAX, INPUT_FAILED)] {
+        let mut script = Script::new(TEXT, 64);
+        script.interrupted = interrupted;
+        let output: &[u8] = if end == WELL { ONCE } else { b"" };
+        let paper = Paper::sound(64);
+        ends::<RandomKeys>(&rt, rt.alloc(), &[], script, paper, end, output);
+    }
+}
+
+#[inline]
+pub fn each_fault_is_told(rt: HostRuntime) {
+    let broken = || -> io::Error { io::Error::from(ErrorKind::BrokenPipe) };
+    let told = [
+        (Failure::Unread(broken()), "-"),
+        (Failure::Unwritten(Some(broken())), "write error"),
+        (Failure::Unwritten(None), "write error"),
+        (Failure::NoMemory, "out of memory"),
+        (Failure::Own(TooMany::Texts), "too many different lines"),
+        (Failure::Own(TooMany::Lines), "too many lines"),
+    ];
+    for (fault, failure) in told {
+        all_hold(&rt, &[failure_of(&Outcome::Failed(fault)) == failure]);
+    }
+}
+
+#[inline]
+pub fn a_write_fails_at_each_byte(rt: HostRuntime) {
+    for (words, output) in &OUTPUTS {
+        for until_fault in 0..output.len() {
+            let paper = Paper::new(4, Trouble::WriteFails(until_fault), REFUSED);
+            let written = &output[..until_fault];
+            let script = Script::new(TEXT, 3);
+            ends::<RandomKeys>(&rt, rt.alloc(), words, script, paper, WRITE_FAULT, written);
+        }
+    }
+}
+
+/// How often a run flushes: at first, behind the lines of each of two reads, and with `-c` behind the last count.
+const FLUSHES: [u64; 2] = [3, 4];
+
+#[inline]
+pub fn a_flush_fails(rt: HostRuntime) {
+    for ((words, output), all) in OUTPUTS.iter().zip(&FLUSHES) {
+        for flushes in 0..5 {
+            let mut paper = Paper::new(64, Trouble::FlushFails(flushes), REFUSED);
+            let end = run::<RandomKeys>(rt.alloc(), words, Script::new(TEXT, 8), &mut paper);
+            let wanted = if flushes < *all { WRITE_FAULT } else { WELL };
+            ended(&rt, end, wanted);
+            all_hold(&rt, &[output.starts_with(paper.text())]);
+        }
+    }
+}
+
+/// Calls that read nothing, how they end, and what they write.
+const CALLS: [(&[&str], End, &[u8]); 9] = [
+    (&["--help"], WELL, b"help\n"),
+    (&["-c", "--version"], WELL, b"version\n"),
+    (&["--version", "--help"], WELL, b"help\n"),
+    (&["-x"], NO_LETTER, b""),
+    (&["-cx", "--help"], NO_LETTER, b""),
+    (&["--counts"], WRONG, b""),
+    (&["--coun"], WRONG, b""),
+    (&["-c-"], NO_LETTER, b""),
+    (&["--count=1"], (2, "option"), b""),
+];
+
+const WRONG: End = (2, "unrecognized option");
+
+const NO_LETTER: End = (2, "invalid option --");
+
+#[inline]
+pub fn calls_that_read_nothing(rt: HostRuntime) {
+    for (words, end, output) in &CALLS {
+        let script = Script::failing(TEXT, 64, 0);
+        let paper = Paper::sound(64);
+        ends::<RandomKeys>(&rt, rt.alloc(), words, script, paper, *end, output);
+    }
+}
+
+/// Calls with options that go together, and what they write.
+const TOGETHER: [(&[&str], &[u8]); 9] = [
+    (&["-cd"], b"      2 b\n      2 a\n"),
+    (&["--count", "--repeated"], b"      2 b\n      2 a\n"),
+    (&["-c", "-u"], b"      1 c\n"),
+    (&["--unique"], b"c\n"),
+    (&["-du"], b""),
+    (&["-cdu"], b""),
+    (&["-cc"], COUNTED),
+    (&["x", "--", "-c"], ONCE),
+    (&["-", "-d"], b"b\na\n"),
+];
+
+#[inline]
+pub fn options_that_go_together(rt: HostRuntime) {
+    for (words, output) in &TOGETHER {
+        writes::<RandomKeys>(&rt, rt.alloc(), words, TEXT, 3, output);
+    }
+}
+
+#[inline]
+pub fn lines_that_end_with_a_zero_byte(rt: HostRuntime) {
+    let text = b"a\nb\0c\0a\nb\0\0c".as_slice();
+    writes::<RandomKeys>(&rt, rt.alloc(), &["-z"], text, 3, b"a\nb\0c\0\0");
+    let counted = b"      2 a\nb\0      2 c\0      1 \0".as_slice();
+    writes::<RandomKeys>(&rt, rt.alloc(), &["-cz"], text, 64, counted);
+}
+
+#[inline]
+pub fn nobody_reads_any_more(rt: HostRuntime) {
+    let closed = Outcome::Failed(Failure::Unwritten(Some(io::Error::from(ErrorKind::BrokenPipe))));
+    let nothing = Outcome::Failed(Failure::Unwritten(None));
+    all_hold(&rt, &[status_of(&closed) == 141, status_of(&nothing) == 1]);
+}
+
+/// Whether a run under a limit ended well, and said that there were no more lines, or that there were.
+#[inline]
+fn met(end: &Result<Ended, Failure>, fits: bool) -> bool {
+    match end {
+        Ok(Ended::Whole) => fits,
+        Ok(Ended::TooManyLines) => !fits,
+        _ => false,
+    }
+}
+
+/// Whether runs over two inputs under a limit, onto this paper, say so of the lines.
+#[inline]
+fn limited(alloc: Global, limit: u64, fits: bool, w: &mut Paper) -> io::Result<bool> {
+    let mut output = BufWriter::with_capacity(alloc, HELD, w)?;
+    let (front, back) = TEXT.split_at(4);
+    let once = dedup(
+        alloc,
+        Alike,
+        b'\n',
+        limit,
+        &mut [front, back],
+        &mut Failures::new(),
+        &mut output,
+    );
+    let which = Which {
+        counts: true,
+        repeated: false,
+        unique: false,
+    };
+    let counted = tally(
+        alloc,
+        Alike,
+        which,
+        b'\n',
+        limit,
+        &mut [TEXT],
+        &mut Failures::new(),
+        &mut output,
+    );
+    Ok(met(&once, fits) && met(&counted, fits))
+}
+
+/// Beyond the limit no line is written, and no count.
+#[inline]
+pub fn more_lines_than_the_limit(rt: HostRuntime) {
+    let all = "b\na\nc\n      2 b\n      2 a\n      1 c\n";
+    for (limit, fits, output) in [
+        (0, false, ""),
+        (1, false, "b\n"),
+        (4, false, "b\na\n"),
+        (5, true, all),
+        (6, true, all),
+    ] {
+        let mut paper = Paper::sound(64);
+        let met = limited(rt.alloc(), limit, fits, &mut paper);
+        all_hold(&rt, &[met.unwrap_or(false)]);
+        same_bytes(&rt, paper.text(), output.as_bytes());
+    }
+}
+
+/// Where a request for memory is refused, what was written is a beginning of the output.
+#[inline]
+pub fn refused_memory(rt: HostRuntime) {
+    for (words, output) in &OUTPUTS {
+        let mut paper = Paper::sound(64);
+        let script = Script::new(TEXT, 64);
+        let end = run::<RandomKeys>(rt.alloc(), words, script, &mut paper);
+        let refused = end == NO_MEMORY;
+        let claims = [
+            refused || end == WELL,
+            refused || paper.text() == *output,
+            output.starts_with(paper.text()),
+        ];
+        all_hold(&rt, &claims);
+    }
+}

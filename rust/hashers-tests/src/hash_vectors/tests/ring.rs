@@ -1,0 +1,219 @@
+//! Rings of a few nodes, by values that a plain program in another language gave, and where memory is refused.
+
+// What follows is the proved text of crates/hash_vectors/src/tests/ring.rt without its contracts.
+use hashers_proved::{hash_ring, hashers};
+use crate::shim::{HostRuntime, Vec, vec, std};
+
+use crate::hash_vectors::tests::all_hold;
+use hash_ring::{Node, Refused, Ring};
+use hashers::fnv::FNV1aHasher64;
+use std::alloc::{AllocError, Global};
+use std::process::Abort;
+
+/// That the names are as wanted.
+#[inline]
+fn same_names(rt: &impl Abort, got: &[&[u8]], want: &[&[u8]]) {
+    assert_eq!(got, want);
+}
+
+/// A ring of oak with two points, elm with one and ash with three.
+#[inline]
+fn trees(rt: &impl Abort, alloc: Global) -> Ring<FNV1aHasher64> {
+    let mut ring = Ring::new(alloc);
+    for (name, weight) in [("oak", 2), ("elm", 1), ("ash", 3)] {
+        let name = Vec::from_slice(alloc, name.as_bytes()).expect("memory for a name");
+        all_hold(rt, &[weight > 0 && ring.add(name, weight).is_ok()]);
+    }
+    ring
+}
+
+/// The names of the owners of a key.
+#[inline]
+fn check_owners(
+    rt: &impl Abort,
+    alloc: Global,
+    ring: &Ring<FNV1aHasher64>,
+    key: &[u8],
+    want: &[&[u8]],
+) {
+    let owners = ring
+        .owners(alloc, key, want.len())
+        .expect("memory for the names");
+    same_names(rt, &owners, want);
+    all_hold(rt, &[ring.owner(key) == want.first().copied()]);
+}
+
+/// Keys of each node, and one past the last point. The values are of a plain program.
+#[inline]
+pub fn owners_of_three_nodes(rt: HostRuntime) {
+    let alloc = rt.alloc();
+    let ring = trees(&rt, alloc);
+    check_owners(&rt, alloc, &ring, b"a", &[b"oak", b"ash", b"elm"]);
+    check_owners(&rt, alloc, &ring, b"one", &[b"elm", b"ash", b"oak"]);
+    check_owners(&rt, alloc, &ring, b"sea", &[b"ash", b"oak", b"elm"]);
+    check_owners(&rt, alloc, &ring, b"four", &[b"elm", b"ash"]);
+    let first = ring.nodes().first().map(|node| node.weight);
+    all_hold(&rt, &[ring.len() == 3, first == Some(3)]);
+}
+
+#[inline]
+pub fn a_node_goes(rt: HostRuntime) {
+    let alloc = rt.alloc();
+    let mut ring = trees(&rt, alloc);
+    let gone = [ring.remove(b"oak"), ring.remove(b"oak")];
+    check_owners(&rt, alloc, &ring, b"a", &[b"ash", b"elm"]);
+    all_hold(&rt, &[gone == [Some(2), None]]);
+}
+
+/// A node.
+///
+/// The caller has to see to it that:
+///
+/// ```text
+/// 1 ≤ weight
+/// ```
+///
+/// Proved:
+///
+/// ```text
+/// IfOk result (λ node. 1 ≤ node.weight)
+/// ```
+#[inline]
+fn node(alloc: Global, name: &[u8], weight: u64) -> Result<Node, AllocError> {
+    let name = Vec::from_slice(alloc, name)?;
+    Ok(Node { name, weight })
+}
+
+/// The nodes of `trees`, and one more.
+///
+/// Proved:
+///
+/// ```text
+/// IfOk result (λ nodes. All (λ node. 1 ≤ node.weight) nodes.items)
+/// ```
+#[inline]
+fn four_nodes(alloc: Global, last: &[u8]) -> Result<Vec<Node>, AllocError> {
+    let oak = node(alloc, b"oak", 2)?;
+    let elm = node(alloc, b"elm", 1)?;
+    let ash = node(alloc, b"ash", 3)?;
+    let last = node(alloc, last, 1)?;
+    Ok(vec![in alloc; oak, elm, ash, last]?)
+}
+
+/// All at once, as one after the other; and two of one name, which are told.
+#[inline]
+pub fn all_nodes_at_once(rt: HostRuntime) {
+    let alloc = rt.alloc();
+    let nodes = four_nodes(alloc, b"fir").expect("memory for the nodes");
+    match Ring::<FNV1aHasher64>::from_nodes(alloc, nodes) {
+        Ok(mut ring) => {
+            let fir = ring.remove(b"fir");
+            check_owners(&rt, alloc, &ring, b"a", &[b"oak", b"ash", b"elm"]);
+            all_hold(&rt, &[fir == Some(1)]);
+        }
+        Err(_) => panic!("four nodes are no ring"),
+    }
+    let twins = four_nodes(alloc, b"elm").expect("memory for the nodes");
+    match Ring::<FNV1aHasher64>::from_nodes(alloc, twins) {
+        Err(Refused::IsThere(nodes)) => all_hold(&rt, &[nodes.len() == 4]),
+        _ => panic!("two nodes of one name are a ring"),
+    }
+}
+
+/// How much of the ring each node owns, and who owns its places, by a plain program.
+#[inline]
+pub fn shares_and_owners_of_places(rt: HostRuntime) {
+    let alloc = rt.alloc();
+    let ring = trees(&rt, alloc);
+    let shares = ring.shares(alloc).expect("memory for the shares");
+    assert_eq!(
+        shares.as_slice(),
+        [
+            3337199519089381728,
+            11756901173466240504,
+            3352643381153929384
+        ]
+        .as_slice()
+    );
+    let places: [u64; 6] = [
+        0,
+        8283681994398982667,
+        8283681994398982668,
+        11064887797097739678,
+        11064887797097739679,
+        u64::MAX,
+    ];
+    let wanted: [&[u8]; 6] = [b"elm", b"elm", b"ash", b"ash", b"oak", b"elm"];
+    for (place, want) in places.iter().zip(wanted) {
+        all_hold(&rt, &[ring.owner_at(*place) == Some(want)]);
+    }
+}
+
+/// The first owner whom a test passes: of `a` the owners are oak, ash and elm.
+#[inline]
+pub fn owners_with_room(rt: HostRuntime) {
+    let ring = trees(&rt, rt.alloc());
+    let (oak, elm): (&[u8], &[u8]) = (b"oak", b"elm");
+    let second = ring.owner_below(b"a", |name| name != oak);
+    let last = ring.owner_below(b"a", |name| name == elm);
+    let none = ring.owner_below(b"a", |_| false);
+    same_names(
+        &rt,
+        &[second.unwrap_or(b""), last.unwrap_or(b"")],
+        &[b"ash", b"elm"],
+    );
+    all_hold(&rt, &[none.is_none()]);
+}
+
+/// Where memory is refused all nodes come back, or no shares; the next call makes them.
+#[inline]
+pub fn refused_nodes_come_back(rt: HostRuntime) {
+    let alloc = rt.alloc();
+    let Ok(nodes) = four_nodes(alloc, b"fir") else {
+        return;
+    };
+    let ring = match Ring::<FNV1aHasher64>::from_nodes(alloc, nodes) {
+        Ok(ring) => ring,
+        Err(Refused::NoRoom(nodes)) => {
+            all_hold(&rt, &[nodes.len() == 4]);
+            return;
+        }
+        Err(Refused::IsThere(_)) => panic!("four names are three"),
+    };
+    match ring.shares(alloc) {
+        Ok(shares) => all_hold(&rt, &[shares.len() == 4]),
+        Err(AllocError) => all_hold(&rt, &[ring.len() == 4]),
+    }
+}
+
+/// A name that is there is refused, and comes back; so it does where memory is refused, and the ring is as before.
+pub fn refused_names_come_back(rt: HostRuntime) {
+    let alloc = rt.alloc();
+    let mut ring = Ring::<FNV1aHasher64>::new(alloc);
+    for (turn, text) in ["oak", "elm", "oak", "ash"].iter().enumerate() {
+        let before = ring.len();
+        let Ok(name) = Vec::from_slice(alloc, text.as_bytes()) else {
+            continue;
+        };
+        match ring.add(name, 2) {
+            Ok(()) => all_hold(&rt, &[ring.len().checked_sub(1) == Some(before)]),
+            Err(Refused::IsThere(name)) => {
+                all_hold(
+                    &rt,
+                    &[
+                        name.as_slice() == text.as_bytes(),
+                        turn == 2,
+                        ring.len() == before,
+                    ],
+                );
+            }
+            Err(Refused::NoRoom(name)) => {
+                all_hold(
+                    &rt,
+                    &[name.as_slice() == text.as_bytes(), ring.len() == before],
+                );
+            }
+        }
+        all_hold(&rt, &[ring.owner(b"a").is_some() == (ring.len() > 0)]);
+    }
+}
