@@ -72,6 +72,8 @@ def parsed(doc, *words):
 @contextmanager
 def cluster(call):
     """A client of the scheduler that the call names, or of workers that are started here and end with the program."""
+    # Dask gives waits up as it ends, and asyncio would tell of each on standard error
+    logging.getLogger("asyncio").setLevel(logging.CRITICAL)
     with tempfile.TemporaryDirectory() as room, ExitStack() as stack:
         own = {"n_workers": call.workers, "threads_per_worker": 1, "dashboard_address": None, "local_directory": room}
         client = stack.enter_context(Client(call.scheduler or stack.enter_context(LocalCluster(silence_logs=logging.ERROR, **own))))
