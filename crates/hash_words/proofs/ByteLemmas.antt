@@ -1,8 +1,9 @@
 -- The number that a few bytes are.
-use Rattle.std.proofs.Common.{◌≡◌, ℕ, suc, ◌+◌, ◌*◌, ◌^◌, ◌<◌, ◌≤◌, List, [], ◌∷◌, ◌++◌, length, take, refl, ap, ap₂, ◌∙◌, arith, lit<}
+use Rattle.std.proofs.Common.{◌≡◌, ℕ, suc, ◌+◌, ◌*◌, ◌/◌, ◌%◌, ◌^◌, ◌<◌, ◌≤◌, List, [], ◌∷◌, ◌++◌, length, take, drop, refl, ap, sym, ap₂, ◌∙◌, arith, lit<}
 use Rattle.std.proofs.Math.Nat.{pow-le-pow_right}
 use Rattle.std.proofs.lemmas.Nat.{pow-add}
-use Rattle.std.proofs.lemmas.List.Elements.{All-head, All-tail}
+use Rattle.std.proofs.lemmas.List.{length-take-le, take-append-drop}
+use Rattle.std.proofs.lemmas.List.Elements.{All-head, All-tail, All-take}
 use Rattle.hash_words.specs.Words.{le}
 use Rattle.hash_words.proofs.PieceLemmas.{AreBytes, IsByte, le-lt}
 
@@ -36,6 +37,17 @@ le-append (b ∷ front) back =
     let e : le back * 2 ^ (8 * suc (length front)) ≡ 256 * (le back * 2 ^ (8 * length front)) =
     ap (λ k. le back * k) (more (length front)) ∙ (let f : le back * (256 * 2 ^ (8 * length front)) ≡ 256 * (le back * 2 ^ (8 * length front)) = omega arith in f) in
     omega (arith, le-append front back, e)
+
+-- sixteen bytes are two words
+pub le-two : (bytes : List ℕ) → AreBytes bytes → length bytes ≡ 16
+    → (le bytes % 2 ^ 64 ≡ le (take 8 bytes)) × (le bytes / 2 ^ 64 ≡ le (drop 8 bytes))
+le-two bytes are sixteen =
+    let eight : length (take 8 bytes) ≡ 8 = length-take-le 8 bytes (omega arith) in
+    let joined : le bytes ≡ le (take 8 bytes) + le (drop 8 bytes) * 2 ^ 64 =
+        ap le (sym (take-append-drop 8 bytes)) ∙ le-append (take 8 bytes) (drop 8 bytes)
+        ∙ ap (λ k. le (take 8 bytes) + le (drop 8 bytes) * 2 ^ (8 * k)) eight in
+    let low : le (take 8 bytes) < 2 ^ 64 = le-word (take 8 bytes) (All-take IsByte 8 bytes are) (omega arith) in
+    (omega (arith, joined, low), omega (arith, joined, low))
 
 -- of two texts that are one number the longer begins with the other
 pub le-begins : (s t : List ℕ) → AreBytes s → AreBytes t → length s ≤ length t → le s ≡ le t → take (length s) t ≡ s

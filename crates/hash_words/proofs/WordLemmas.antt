@@ -1,6 +1,6 @@
 -- Arithmetic on words.
 use Rattle.std.proofs.Common.{◌≡◌, ℕ, ◌+◌, ◌-◌, ◌*◌, ◌/◌, ◌%◌, ◌^◌, ◌<◌, ◌≤◌, List, [], ◌∷◌, length, slice_index, drop, bit_or, refl, sym, ◌∙◌, ap, subst, add_comm, add-zero, arith, inl, inr}
-use Rattle.std.specs.Int.{w32, w64, from_le_bytes, to_le_bytes, rotate_left}
+use Rattle.std.specs.Int.{w32, w64, w128, from_le_bytes, to_le_bytes, rotate_left}
 use Rattle.std.proofs.lemmas.List.{drop_more, drop_all}
 use Rattle.std.proofs.Math.Nat.{mod-eq_of_lt, mod-eq-sub-mod, mul-mod_left}
 use Rattle.std.proofs.lemmas.Nat.{pow_pos, pow-add, shl-shr, shr_high, mod_low, mod-pow-add, shr_split, mod_below, shr_below, or_shifted, mul-add-lt, from_le_bytes-to_le_bytes_4, from_le_bytes-to_le_bytes_8}
@@ -144,6 +144,15 @@ from_le_bytes-8 bs len =
     let low = le-drop_four bs 0 (omega arith) in
     let high = le-drop_four bs 4 (omega arith) in
     let none = le-drop_all bs 8 (omega arith) in
+    omega arith
+
+pub from_le_bytes-16 : (bs : List ℕ) → length bs ≡ 16 → from_le_bytes w128 bs ≡ le bs
+from_le_bytes-16 bs len =
+    let first = le-drop_four bs 0 (omega arith) in
+    let second = le-drop_four bs 4 (omega arith) in
+    let third = le-drop_four bs 8 (omega arith) in
+    let fourth = le-drop_four bs 12 (omega arith) in
+    let none = le-drop_all bs 16 (omega arith) in
     omega arith
 
 pub from_le_bytes-4 : (bs : List ℕ) → length bs ≡ 4 → from_le_bytes w32 bs ≡ le bs

@@ -1,6 +1,6 @@
 //! Words of 32 and 64 bits: rotations, little-endian reads, halves and shifts.
 
-ghost use Rattle.std.specs.Prelude.{◌≡◌, ℕ, ◌+◌, ◌-◌, ◌*◌, ◌/◌, ◌%◌, ◌^◌, ◌<◌, ◌≤◌, length};
+ghost use Rattle.std.specs.Prelude.{◌≡◌, ℕ, ◌+◌, ◌-◌, ◌*◌, ◌/◌, ◌%◌, ◌^◌, ◌<◌, ◌≤◌, length, take, drop};
 ghost use Rattle.hash_words.specs.Pieces.{le_words};
 ghost use Rattle.hash_words.specs.Words.{rotl, le, xorshift, swap_halves};
 
@@ -71,6 +71,20 @@ pub fn le64(bytes: &[u8; 8]) -> u64
     ensures { result ≡ le bytes.now }
 {
     u64::from_le_bytes(*bytes)
+}
+
+/// Two little-endian words of eight bytes each, read as one number: LLVM makes vectors of words that are read alone, and takes them
+/// apart again where each is multiplied.
+#[inline(always)]
+pub fn le_two(bytes: &[u8; 16]) -> (u64, u64)
+    ensures first { result.0 ≡ le (take 8 bytes.now) }
+    ensures second { result.1 ≡ le (drop 8 bytes.now) }
+{
+    let both = u128::from_le_bytes(*bytes);
+    (
+        (both % 18446744073709551616) as u64,
+        (both / 18446744073709551616) as u64,
+    )
 }
 
 /// The little-endian value of four bytes, as one load.

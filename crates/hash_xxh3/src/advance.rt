@@ -173,29 +173,3 @@ pub(crate) fn begin_through(
     *lanes = begin(secret, buffer);
     advance(secret, lanes, buffer, end - 128, rest)
 }
-
-/// The same under the secret of a seed.
-#[tactic(auto, using(crate::proofs::SecretLemmas::secret_of_none))]
-pub(crate) fn begin_under(
-    seed: u64,
-    lanes: &mut Lanes,
-    buffer: &mut [u8; 256],
-    kept: usize,
-    bytes: &[u8],
-) -> usize
-    requires short { kept < 241 }
-    requires enough { 241 ≤ kept + length bytes.now }
-    ensures position { Long seed lanes.new ((kept + length bytes.now) % 2 ^ 64) (take result buffer.new)
-        ≡ position seed (take kept buffer.old ++ bytes.now) }
-    ensures some { 65 ≤ result }
-    ensures few { result ≤ 128 }
-    ensures in_block { lanes.new.stripe < 16 }
-{
-    if seed == 0 {
-        begin_through(default_secret(), lanes, buffer, kept, bytes)
-    } else {
-        let mut secret = [0; 192];
-        put_secret(&mut secret, seed);
-        begin_through(&secret, lanes, buffer, kept, bytes)
-    }
-}

@@ -1,12 +1,27 @@
 //! XXH3 of 17 to 240 bytes.
-ghost use Rattle.std.specs.Prelude.{◌≡◌, ◌+◌, ◌*◌, ◌≤◌, ◌<◌, length};
+ghost use Rattle.std.specs.Prelude.{◌≡◌, ◌+◌, ◌*◌, ◌≤◌, ◌<◌, length, bit_xor};
+ghost use Rattle.hash_words.specs.Words.{add, sub};
+ghost use Rattle.hash_xxh3.specs.Secret.{default_secret};
+ghost use Rattle.hash_xxh3.specs.Words.{folded_product, word_at};
 ghost use Rattle.hash_xxh3.specs.Middle.{mix_piece, length_word, add_piece, add_ends, add_nth, first_pieces, other_pieces, of_128, of_240};
 
 use crate::secret::secret_word;
-use crate::words::{avalanche, folded_product, word_at};
+use crate::words::{avalanche, folded_product, two_words_at, word_at};
 
 // What the length counts in a hash.
 const LENGTH: u64 = 0x9e3779b185ebca87;
+
+// Two words of a text, mixed with 16 bytes of the secret from `key` on.
+#[inline(always)]
+fn mix_words(seed: u64, low: u64, high: u64, key: usize) -> u64
+    requires { key + 16 ≤ 192 }
+    ensures { result ≡ folded_product (bit_xor low (add 64 (word_at key default_secret) seed))
+        (bit_xor high (sub 64 (word_at (key + 8) default_secret) seed)) }
+{
+    let low = low ^ secret_word(key).wrapping_add(seed);
+    let high = high ^ secret_word(key + 8).wrapping_sub(seed);
+    folded_product(low, high)
+}
 
 // The 16 bytes from `at` on, mixed with those of the secret from `key` on.
 #[inline(always)]
@@ -16,9 +31,7 @@ fn mix_piece(seed: u64, text: &[u8], at: usize, key: usize) -> u64
     requires secret { key + 16 ≤ 192 }
     ensures { result ≡ mix_piece seed text.now at key }
 {
-    let low = word_at(text, at) ^ secret_word(key).wrapping_add(seed);
-    let high = word_at(text, at + 8) ^ secret_word(key + 8).wrapping_sub(seed);
-    folded_product(low, high)
+    mix_words(seed, word_at(text, at), word_at(text, at + 8), key)
 }
 
 /// What a sum over so many bytes begins with.
@@ -103,7 +116,7 @@ pub(crate) fn of_128(seed: u64, text: &[u8]) -> u64
 
 // Piece i, where the text has so many.
 #[inline(always)]
-#[tactic(auto, unfolding(crate::specs::Middle::add_nth))]
+#[tactic(auto, unfolding(crate::specs::Middle::add_nth, crate::specs::Middle::mix_piece))]
 fn add_nth(seed: u64, text: &[u8], sum: u64, i: usize, key: usize) -> u64
     requires piece { i < 15 }
     requires secret { key + 16 ≤ 192 }
@@ -112,7 +125,8 @@ fn add_nth(seed: u64, text: &[u8], sum: u64, i: usize, key: usize) -> u64
     if text.len() < 16 * i + 16 {
         return sum;
     }
-    add_piece(seed, text, sum, 16 * i, key)
+    let (low, high) = two_words_at(text, 16 * i);
+    sum.wrapping_add(mix_words(seed, low, high, key))
 }
 
 #[inline(always)]

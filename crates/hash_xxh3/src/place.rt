@@ -4,7 +4,7 @@ ghost use Rattle.hash_xxh3.specs.Place.{Fits, StandsBehind, place_of};
 ghost use Rattle.hash_xxh3.specs.Streaming.{after, hash};
 ghost use Rattle.hash_xxh3.specs.Wide.{wide_hash};
 
-use crate::advance::{advance_under, begin_under};
+use crate::advance::{advance_under, begin_through};
 use crate::long::{START, end_kept, lanes_at};
 use crate::secret::{default_secret, secret_of};
 use crate::whole::of_kept;
@@ -54,7 +54,8 @@ impl Xxh3Place {
         let kept = self.kept as usize;
         let mut lanes = START;
         self.length = self.kept.wrapping_add(bytes.len() as u64);
-        self.kept = begin_under(self.seed, &mut lanes, &mut self.buffer, kept, bytes) as u64;
+        let secret = secret_of(self.seed);
+        self.kept = begin_through(&secret, &mut lanes, &mut self.buffer, kept, bytes) as u64;
         self.words = lanes.words;
         self.stripe = lanes.stripe as u64;
         self.long = 1;

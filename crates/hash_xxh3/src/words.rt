@@ -2,7 +2,7 @@
 ghost use Rattle.std.specs.Prelude.{◌≡◌, ◌+◌, ◌*◌, ◌≤◌, ◌<◌, length};
 ghost use Rattle.hash_xxh3.specs.Words.{word_at, half_at, folded_product, avalanche, avalanche_64, three_turns, length_in, length_mix};
 
-use hash_words::{le_four, le64, rotl64, xorshift};
+use hash_words::{le_four, le_two, le64, rotl64, xorshift};
 
 /// The eight bytes from a place on as a little-endian word.
 #[inline(always)]
@@ -12,6 +12,17 @@ pub(crate) fn word_at(text: &[u8], at: usize) -> u64
 {
     let (words, _) = text[at..at + 8].as_chunks::<8>();
     le64(&words[0])
+}
+
+/// The two words from a place on.
+#[inline(always)]
+pub(crate) fn two_words_at(text: &[u8], at: usize) -> (u64, u64)
+    requires { at + 16 ≤ length text.now }
+    ensures first { result.0 ≡ word_at at text.now }
+    ensures second { result.1 ≡ word_at (at + 8) text.now }
+{
+    let (pieces, _) = text[at..at + 16].as_chunks::<16>();
+    le_two(&pieces[0])
 }
 
 /// The four bytes from a place on.
