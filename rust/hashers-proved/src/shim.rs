@@ -31,7 +31,7 @@ macro_rules! prove {
 /// Vectors, as `std::simd` of nightly Rust has them: operators wrap, lane by lane.
 pub mod simd {
     pub mod prelude {
-        pub use super::{u32x4, u64x8, u8x16, u8x4, u8x8};
+        pub use super::{u64x8, u8x16, u8x8};
     }
 
     /// So many lanes.
@@ -39,13 +39,9 @@ pub mod simd {
     pub struct Simd<T, const N: usize>([T; N]);
 
     #[allow(non_camel_case_types)]
-    pub type u8x4 = Simd<u8, 4>;
-    #[allow(non_camel_case_types)]
     pub type u8x8 = Simd<u8, 8>;
     #[allow(non_camel_case_types)]
     pub type u8x16 = Simd<u8, 16>;
-    #[allow(non_camel_case_types)]
-    pub type u32x4 = Simd<u32, 4>;
     #[allow(non_camel_case_types)]
     pub type u64x8 = Simd<u64, 8>;
 
@@ -128,15 +124,6 @@ pub mod simd {
         (highest >> 7).wrapping_mul(0x0102_0408_1020_4080) >> 56
     }
 
-    impl Simd<u32, 4> {
-        /// The sum of the lanes, which wraps. Its parts are hidden: rustc would add them to the caller's number one by one, which each of
-        /// them waits for.
-        #[inline(always)]
-        pub fn reduce_sum(self) -> u32 {
-            core::hint::black_box(self.0.iter().fold(0, |sum: u32, lane| sum.wrapping_add(*lane)))
-        }
-    }
-
     impl Simd<u64, 8> {
         /// The sum of the lanes, which wraps. Of bytes it is made in one word, with 16 bits for each two of them: rustc sees where they are
         /// bytes, and leaves the other way out. Shifts are faster than a product, since rustc makes vectors of them.
@@ -153,30 +140,14 @@ pub mod simd {
         }
     }
 
-    macro_rules! lanes {
-        ($number:ident) => {
-            impl<const N: usize> core::ops::Mul for Simd<$number, N> {
-                type Output = Self;
-
-                #[inline(always)]
-                fn mul(self, other: Self) -> Self {
-                    Simd(core::array::from_fn(|i| self.0[i].wrapping_mul(other.0[i])))
-                }
+    impl core::ops::AddAssign for Simd<u64, 8> {
+        #[inline(always)]
+        fn add_assign(&mut self, other: Self) {
+            for (lane, more) in self.0.iter_mut().zip(other.0) {
+                *lane = lane.wrapping_add(more);
             }
-
-            impl<const N: usize> core::ops::AddAssign for Simd<$number, N> {
-                #[inline(always)]
-                fn add_assign(&mut self, other: Self) {
-                    for (lane, more) in self.0.iter_mut().zip(other.0) {
-                        *lane = lane.wrapping_add(more);
-                    }
-                }
-            }
-        };
+        }
     }
-
-    lanes!(u32);
-    lanes!(u64);
 }
 
 /// A value that contracts alone see: nothing of it is kept.
@@ -291,7 +262,6 @@ mod tests {
             let sum = lanes.iter().fold(0, |sum: u64, lane| sum.wrapping_add(*lane));
             assert_eq!(u64x8::from_array(lanes).reduce_sum(), sum);
         }
-        assert_eq!((u32x4::from_array([u32::MAX, 2, 3, 4]) * u32x4::splat(3)).reduce_sum(), 24);
         let mut sums = u64x8::splat(u64::MAX);
         sums += u8x8::from_array([1, 2, 3, 4, 5, 6, 7, 8]).cast::<u64>();
         assert_eq!(sums.reduce_sum(), 28);
@@ -300,6 +270,5 @@ mod tests {
             let found = u8x16::from_slice(&bytes).simd_eq(u8x16::splat(byte));
             assert_eq!([found.to_bitmask(), found.by_lanes(), found.by_words()], [bits; 3]);
         }
-        assert_eq!(u8x4::from_array([1, 2, 3, 255]).cast::<u32>().reduce_sum(), 261);
     }
 }
