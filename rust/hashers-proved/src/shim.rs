@@ -31,7 +31,7 @@ macro_rules! prove {
 /// Vectors, as `std::simd` of nightly Rust has them: operators wrap, lane by lane.
 pub mod simd {
     pub mod prelude {
-        pub use super::{u32x4, u64x8, u8x16, u8x4, u8x8};
+        pub use super::{u64x8, u8x16, u8x8};
     }
 
     /// So many lanes.
@@ -39,13 +39,9 @@ pub mod simd {
     pub struct Simd<T, const N: usize>([T; N]);
 
     #[allow(non_camel_case_types)]
-    pub type u8x4 = Simd<u8, 4>;
-    #[allow(non_camel_case_types)]
     pub type u8x8 = Simd<u8, 8>;
     #[allow(non_camel_case_types)]
     pub type u8x16 = Simd<u8, 16>;
-    #[allow(non_camel_case_types)]
-    pub type u32x4 = Simd<u32, 4>;
     #[allow(non_camel_case_types)]
     pub type u64x8 = Simd<u64, 8>;
 
@@ -81,64 +77,51 @@ pub mod simd {
             Simd(*bytes.first_chunk().expect("sixteen bytes"))
         }
 
-        /// Which bytes are equal.
+        /// Which lanes are equal.
         #[inline(always)]
         pub fn simd_eq(self, other: Self) -> Equal {
-            Equal { any: any_equal(&self.0, &other.0), apart: u128::from_le_bytes(self.0) ^ u128::from_le_bytes(other.0) }
+            Equal(self.0, other.0)
         }
     }
 
-    /// Whether a byte is the other's. rustc makes a vector of it.
-    #[inline(always)]
-    fn any_equal(one: &[u8; 16], other: &[u8; 16]) -> bool {
-        let mut any = false;
-        for i in 0..16 {
-            any |= one[i] == other[i];
-        }
-        any
-    }
-
-    /// Of each of sixteen bytes whether it is the other's: then it is 0 in `apart`.
+    /// Of each of sixteen lanes whether it is the other's.
     #[derive(Clone, Copy)]
-    pub struct Equal {
-        any: bool,
-        apart: u128,
-    }
+    pub struct Equal([u8; 16], [u8; 16]);
 
     impl Equal {
-        /// A bit for each byte, that of the first the lowest. What is asked of the bits is answered when it is asked.
+        /// A bit for each lane, that of the first the lowest.
         #[inline(always)]
-        pub fn to_bitmask(self) -> Equal {
-            self
-        }
-
-        /// How many bits are 0 below the lowest that is 1.
-        #[inline(always)]
-        pub fn trailing_zeros(self) -> u32 {
-            const ONES: u128 = 0x0101_0101_0101_0101_0101_0101_0101_0101;
-            // the lowest byte that borrows is the first that is 0
-            (self.apart.wrapping_sub(ONES) & !self.apart & (ONES << 7)).trailing_zeros() / 8
-        }
-    }
-
-    impl PartialEq<u64> for Equal {
-        #[inline(always)]
-        fn eq(&self, number: &u64) -> bool {
-            if *number == 0 {
-                return !self.any;
+        pub fn to_bitmask(self) -> u64 {
+            if cfg!(target_arch = "x86_64") {
+                self.by_lanes()
+            } else {
+                self.by_words()
             }
-            let bytes = self.apart.to_le_bytes();
-            (0..16).all(|i| (bytes[i] == 0) == (number >> i & 1 == 1)) && number >> 16 == 0
+        }
+
+        /// Each four lanes are joined by themselves: rustc makes one instruction of x86-64 of it so.
+        #[inline(always)]
+        pub fn by_lanes(self) -> u64 {
+            let fours: [u64; 4] =
+                core::array::from_fn(|i| (0..4).fold(0, |bits, j| bits | u64::from(self.0[4 * i + j] == self.1[4 * i + j]) << j));
+            (0..4).fold(0, |bits, i| bits | fours[i] << (4 * i))
+        }
+
+        /// For where there is no such instruction.
+        #[inline(always)]
+        pub fn by_words(self) -> u64 {
+            let apart = u128::from_le_bytes(self.0) ^ u128::from_le_bytes(self.1);
+            zeros(apart as u64) | zeros((apart >> 64) as u64) << 8
         }
     }
 
-    impl Simd<u32, 4> {
-        /// The sum of the lanes, which wraps. Its parts are hidden: rustc would add them to the caller's number one by one, which each of
-        /// them waits for.
-        #[inline(always)]
-        pub fn reduce_sum(self) -> u32 {
-            core::hint::black_box(self.0.iter().fold(0, |sum: u32, lane| sum.wrapping_add(*lane)))
-        }
+    /// A bit for each byte that is 0, that of the lowest the lowest.
+    #[inline(always)]
+    fn zeros(word: u64) -> u64 {
+        const LOW: u64 = 0x7f7f_7f7f_7f7f_7f7f;
+        // the highest bit of each byte that is 0, and a product that puts these side by side
+        let highest = !((word & LOW) + LOW | word | LOW);
+        (highest >> 7).wrapping_mul(0x0102_0408_1020_4080) >> 56
     }
 
     impl Simd<u64, 8> {
@@ -157,30 +140,14 @@ pub mod simd {
         }
     }
 
-    macro_rules! lanes {
-        ($number:ident) => {
-            impl<const N: usize> core::ops::Mul for Simd<$number, N> {
-                type Output = Self;
-
-                #[inline(always)]
-                fn mul(self, other: Self) -> Self {
-                    Simd(core::array::from_fn(|i| self.0[i].wrapping_mul(other.0[i])))
-                }
+    impl core::ops::AddAssign for Simd<u64, 8> {
+        #[inline(always)]
+        fn add_assign(&mut self, other: Self) {
+            for (lane, more) in self.0.iter_mut().zip(other.0) {
+                *lane = lane.wrapping_add(more);
             }
-
-            impl<const N: usize> core::ops::AddAssign for Simd<$number, N> {
-                #[inline(always)]
-                fn add_assign(&mut self, other: Self) {
-                    for (lane, more) in self.0.iter_mut().zip(other.0) {
-                        *lane = lane.wrapping_add(more);
-                    }
-                }
-            }
-        };
+        }
     }
-
-    lanes!(u32);
-    lanes!(u64);
 }
 
 /// A value that contracts alone see: nothing of it is kept.
@@ -295,15 +262,13 @@ mod tests {
             let sum = lanes.iter().fold(0, |sum: u64, lane| sum.wrapping_add(*lane));
             assert_eq!(u64x8::from_array(lanes).reduce_sum(), sum);
         }
-        assert_eq!((u32x4::from_array([u32::MAX, 2, 3, 4]) * u32x4::splat(3)).reduce_sum(), 24);
         let mut sums = u64x8::splat(u64::MAX);
         sums += u8x8::from_array([1, 2, 3, 4, 5, 6, 7, 8]).cast::<u64>();
         assert_eq!(sums.reduce_sum(), 28);
         for (byte, bits) in [(0u8, 0x8001), (10, 0b0110), (255, 1 << 14), (128, 1 << 7), (7, 0)] {
             let bytes = [0, 10, 10, 11, 1, 9, 127, 128, 129, 8, 138, 2, 254, 3, 255, 0, 10];
-            let found = u8x16::from_slice(&bytes).simd_eq(u8x16::splat(byte)).to_bitmask();
-            assert!(found == bits && found != bits + (1 << 16) && found != bits ^ 4 && found.trailing_zeros() == 16.min(bits.trailing_zeros()));
+            let found = u8x16::from_slice(&bytes).simd_eq(u8x16::splat(byte));
+            assert_eq!([found.to_bitmask(), found.by_lanes(), found.by_words()], [bits; 3]);
         }
-        assert_eq!(u8x4::from_array([1, 2, 3, 255]).cast::<u32>().reduce_sum(), 261);
     }
 }
