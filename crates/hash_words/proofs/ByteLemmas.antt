@@ -44,8 +44,8 @@ pub le-two : (bytes : List ℕ) → AreBytes bytes → length bytes ≡ 16
 le-two bytes are sixteen =
     let eight : length (take 8 bytes) ≡ 8 = length-take-le 8 bytes (omega arith) in
     let joined : le bytes ≡ le (take 8 bytes) + le (drop 8 bytes) * 2 ^ 64 =
-        ap le (sym (take-append-drop 8 bytes)) ∙ le-append (take 8 bytes) (drop 8 bytes)
-        ∙ ap (λ k. le (take 8 bytes) + le (drop 8 bytes) * 2 ^ (8 * k)) eight in
+    ap le (sym (take-append-drop 8 bytes)) ∙ le-append (take 8 bytes) (drop 8 bytes)
+    ∙ ap (λ k. le (take 8 bytes) + le (drop 8 bytes) * 2 ^ (8 * k)) eight in
     let low : le (take 8 bytes) < 2 ^ 64 = le-word (take 8 bytes) (All-take IsByte 8 bytes are) (omega arith) in
     (omega (arith, joined, low), omega (arith, joined, low))
 
