@@ -5,7 +5,7 @@ ghost use Rattle.hash_xxh3.specs.Streaming.{Long, advanced, position};
 ghost use Rattle.hash_xxh3.specs.declared.long.Lanes.{Lanes};
 
 use crate::long::{Lanes, START, STRIPE, stripe_in, stripes_in};
-use crate::secret::{default_secret, put_secret};
+use crate::secret::{default_secret, secret_of};
 use hash_words::put;
 
 // Keeps the last stripe that has a byte behind it, and what is behind it, of a stripe and the bytes behind that.
@@ -66,9 +66,9 @@ fn advance_through(
     keep(buffer, &stripe, rest)
 }
 
-// Keeps the bytes, behind which no stripe more has a byte behind it.
+/// Keeps the bytes, behind which no stripe more has a byte behind it.
 #[inline(always)]
-fn keep_all(buffer: &mut [u8; 256], kept: usize, bytes: &[u8]) -> usize
+pub(crate) fn keep_all(buffer: &mut [u8; 256], kept: usize, bytes: &[u8]) -> usize
     requires one { 65 ≤ kept }
     requires room { kept + length bytes.now ≤ 128 }
     ensures position { (seed len : ℕ) (lanes : Lanes)
@@ -106,7 +106,7 @@ pub(crate) fn advance(
     }
 }
 
-/// The same under the secret of a seed, which is made where a stripe more is whole.
+/// Goes on over bytes that make a stripe more whole, under the secret of a seed.
 #[inline(always)]
 #[tactic(auto, using(crate::proofs::SecretLemmas::secret_of_none))]
 pub(crate) fn advance_under(
@@ -117,22 +117,19 @@ pub(crate) fn advance_under(
     bytes: &[u8],
 ) -> usize
     requires block { lanes.old.stripe < 16 }
-    requires one { 65 ≤ kept }
+    requires one { 64 ≤ kept }
     requires room { kept ≤ 128 }
+    requires enough { 128 < kept + length bytes.now }
     ensures position { (len : ℕ) → Long seed lanes.new len (take result buffer.new)
         ≡ advanced seed lanes.old len (take kept buffer.old ++ bytes.now) }
     ensures some { 65 ≤ result }
     ensures few { result ≤ 128 }
     ensures in_block { lanes.new.stripe < 16 }
 {
-    if bytes.len() <= 128 - kept {
-        keep_all(buffer, kept, bytes)
-    } else if seed == 0 {
+    if seed == 0 {
         advance_through(default_secret(), lanes, buffer, kept, bytes)
     } else {
-        let mut secret = [0; 192];
-        put_secret(&mut secret, seed);
-        advance_through(&secret, lanes, buffer, kept, bytes)
+        advance_through(&secret_of(seed), lanes, buffer, kept, bytes)
     }
 }
 

@@ -4,7 +4,7 @@ ghost use Rattle.hash_xxh3.specs.Place.{Fits, StandsBehind, place_of};
 ghost use Rattle.hash_xxh3.specs.Streaming.{after, hash};
 ghost use Rattle.hash_xxh3.specs.Wide.{wide_hash};
 
-use crate::advance::{advance_under, begin_through};
+use crate::advance::{advance_under, begin_through, keep_all};
 use crate::long::{START, end_kept, lanes_at};
 use crate::secret::{default_secret, secret_of};
 use crate::whole::of_kept;
@@ -87,10 +87,14 @@ impl Xxh3Place {
         ensures there { place_of self.new ≡ after (place_of self.old) bytes.now }
     {
         let kept = self.kept as usize;
-        let mut lanes = lanes_at(self.words, self.stripe);
-        self.kept = advance_under(self.seed, &mut lanes, &mut self.buffer, kept, bytes) as u64;
-        self.words = lanes.words;
-        self.stripe = lanes.stripe as u64;
+        if bytes.len() <= 128 - kept {
+            self.kept = keep_all(&mut self.buffer, kept, bytes) as u64;
+        } else {
+            let mut lanes = lanes_at(self.words, self.stripe);
+            self.kept = advance_under(self.seed, &mut lanes, &mut self.buffer, kept, bytes) as u64;
+            self.words = lanes.words;
+            self.stripe = lanes.stripe as u64;
+        }
         self.length = self.length.wrapping_add(bytes.len() as u64);
     }
 

@@ -5,8 +5,8 @@ use crate::{hash_murmur3, hash_words};
 
 use crate::block_laws::block_undo::BlockUndo;
 use hash_murmur3::Murmur3Rule128;
-use hash_murmur3::x64_128::{C1, C2, scrambled, words_left, words_of};
-use hash_words::{rotl64, xorshift};
+use hash_murmur3::x64_128::{C1, C2, scrambled, words_left};
+use hash_words::{le_two, rotl64, xorshift};
 
 // What undoes a product by `C1`, and by `C2`.
 const UN_C1: u64 = 0xa984_09e8_82ce_4d7d;
@@ -62,7 +62,7 @@ impl BlockUndo<16> for Murmur3Rule128 {
 
     #[inline(always)]
     fn unblock(state: &mut (u64, u64), bytes: &[u8; 16]) {
-        let (k1, k2) = words_of(bytes);
+        let (k1, k2) = le_two(bytes);
         let old2 = turned_back(33, 0x3849_5ab5, state.1, state.0) ^ scrambled::<33>(C2, C1, k2);
         let old1 = turned_back(37, 0x52dc_e729, state.0, old2) ^ scrambled::<31>(C1, C2, k1);
         *state = (old1, old2);

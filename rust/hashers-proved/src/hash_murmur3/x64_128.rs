@@ -4,7 +4,7 @@
 use crate::{hash_blocks, hash_words};
 
 use hash_blocks::{BlockHasher, BlockRule, WideRule, le_eight};
-use hash_words::{le64, rotl64, rotl64_by, xorshift};
+use hash_words::{le_two, rotl64, rotl64_by, xorshift};
 
 /// What MurmurHash3_x64_128 multiplies the first word of a block by.
 pub const C1: u64 = 0x87c3_7b91_1142_53d5;
@@ -50,20 +50,6 @@ fn turned(turn: u32, constant: u64, h: u64, other: u64) -> u64 {
         .wrapping_add(other)
         .wrapping_mul(5)
         .wrapping_add(constant)
-}
-
-/// The two words of a block.
-///
-/// Proved:
-///
-/// ```text
-/// first: result.0 ≡ le (take 8 block.now)
-/// second: result.1 ≡ le (drop 8 block.now)
-/// ```
-#[inline(always)]
-pub fn words_of(block: &[u8; 16]) -> (u64, u64) {
-    let (words, _) = block.as_chunks::<8>();
-    (le64(&words[0]), le64(&words[1]))
 }
 
 // The state after a block of two words.
@@ -167,7 +153,7 @@ impl BlockRule<16> for Murmur3Rule128 {
 
     #[inline(always)]
     fn block(state: &mut (u64, u64), bytes: &[u8; 16]) {
-        let (k1, k2) = words_of(bytes);
+        let (k1, k2) = le_two(bytes);
         *state = after_words(*state, k1, k2);
     }
 

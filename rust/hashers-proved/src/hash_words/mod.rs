@@ -7,6 +7,6 @@ mod words;
 
 pub use copies::{put, put_array};
 pub use words::{
-    le_four, le_words, le32, le64, rotl32, rotl32_by, rotl64, rotl64_by, swap_halves, unxorshift,
-    xorshift,
+    le_four, le_two, le_words, le32, le64, rotl32, rotl32_by, rotl64, rotl64_by, swap_halves,
+    unxorshift, xorshift,
 };

@@ -120,6 +120,24 @@ pub fn le64(bytes: &[u8; 8]) -> u64 {
     u64::from_le_bytes(*bytes)
 }
 
+/// Two little-endian words of eight bytes each, read as one number: LLVM makes vectors of words that are read alone, and takes them
+/// apart again where each is multiplied.
+///
+/// Proved:
+///
+/// ```text
+/// first: result.0 ≡ le (take 8 bytes.now)
+/// second: result.1 ≡ le (drop 8 bytes.now)
+/// ```
+#[inline(always)]
+pub fn le_two(bytes: &[u8; 16]) -> (u64, u64) {
+    let both = u128::from_le_bytes(*bytes);
+    (
+        (both % 18446744073709551616) as u64,
+        (both / 18446744073709551616) as u64,
+    )
+}
+
 /// The little-endian value of four bytes, as one load.
 ///
 /// Proved:

@@ -4,7 +4,7 @@
 use crate::hash_words;
 
 use crate::hash_xxh3::long::{Lanes, START, STRIPE, stripe_in, stripes_in};
-use crate::hash_xxh3::secret::{default_secret, put_secret};
+use crate::hash_xxh3::secret::{default_secret, secret_of};
 use hash_words::put;
 
 // Keeps the last stripe that has a byte behind it, and what is behind it, of a stripe and the bytes behind that.
@@ -89,7 +89,8 @@ fn advance_through(
     keep(buffer, &stripe, rest)
 }
 
-// Keeps the bytes, behind which no stripe more has a byte behind it.
+/// Keeps the bytes, behind which no stripe more has a byte behind it.
+///
 /// The caller has to see to it that:
 ///
 /// ```text
@@ -106,7 +107,7 @@ fn advance_through(
 /// few: result ≤ 128
 /// ```
 #[inline(always)]
-fn keep_all(buffer: &mut [u8; 256], kept: usize, bytes: &[u8]) -> usize {
+pub(crate) fn keep_all(buffer: &mut [u8; 256], kept: usize, bytes: &[u8]) -> usize {
     put(buffer, kept, bytes);
     kept + bytes.len()
 }
@@ -146,14 +147,15 @@ pub(crate) fn advance(
     }
 }
 
-/// The same under the secret of a seed, which is made where a stripe more is whole.
+/// Goes on over bytes that make a stripe more whole, under the secret of a seed.
 ///
 /// The caller has to see to it that:
 ///
 /// ```text
 /// block: lanes.old.stripe < 16
-/// one: 65 ≤ kept
+/// one: 64 ≤ kept
 /// room: kept ≤ 128
+/// enough: 128 < kept + length bytes.now
 /// ```
 ///
 /// Proved:
@@ -173,14 +175,10 @@ pub(crate) fn advance_under(
     kept: usize,
     bytes: &[u8],
 ) -> usize {
-    if bytes.len() <= 128 - kept {
-        keep_all(buffer, kept, bytes)
-    } else if seed == 0 {
+    if seed == 0 {
         advance_through(default_secret(), lanes, buffer, kept, bytes)
     } else {
-        let mut secret = [0; 192];
-        put_secret(&mut secret, seed);
-        advance_through(&secret, lanes, buffer, kept, bytes)
+        advance_through(&secret_of(seed), lanes, buffer, kept, bytes)
     }
 }
 
@@ -233,39 +231,4 @@ pub(crate) fn begin_through(
     let end = kept + head.len();
     *lanes = begin(secret, buffer);
     advance(secret, lanes, buffer, end - 128, rest)
-}
-
-/// The same under the secret of a seed.
-///
-/// The caller has to see to it that:
-///
-/// ```text
-/// short: kept < 241
-/// enough: 241 ≤ kept + length bytes.now
-/// ```
-///
-/// Proved:
-///
-/// ```text
-/// position: Long seed lanes.new ((kept + length bytes.now) % 2 ^ 64) (take result buffer.new)
-///     ≡ position seed (take kept buffer.old ++ bytes.now)
-/// some: 65 ≤ result
-/// few: result ≤ 128
-/// in_block: lanes.new.stripe < 16
-/// ```
-#[inline]
-pub(crate) fn begin_under(
-    seed: u64,
-    lanes: &mut Lanes,
-    buffer: &mut [u8; 256],
-    kept: usize,
-    bytes: &[u8],
-) -> usize {
-    if seed == 0 {
-        begin_through(default_secret(), lanes, buffer, kept, bytes)
-    } else {
-        let mut secret = [0; 192];
-        put_secret(&mut secret, seed);
-        begin_through(&secret, lanes, buffer, kept, bytes)
-    }
 }

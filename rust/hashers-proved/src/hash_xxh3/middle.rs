@@ -3,10 +3,30 @@
 // What follows is the proved text of crates/hash_xxh3/src/middle.rt without its contracts.
 
 use crate::hash_xxh3::secret::secret_word;
-use crate::hash_xxh3::words::{avalanche, folded_product, word_at};
+use crate::hash_xxh3::words::{avalanche, folded_product, two_words_at, word_at};
 
 // What the length counts in a hash.
 const LENGTH: u64 = 0x9e3779b185ebca87;
+
+// Two words of a text, mixed with 16 bytes of the secret from `key` on.
+/// The caller has to see to it that:
+///
+/// ```text
+/// key + 16 ≤ 192
+/// ```
+///
+/// Proved:
+///
+/// ```text
+/// result ≡ folded_product (bit_xor low (add 64 (word_at key default_secret) seed))
+///     (bit_xor high (sub 64 (word_at (key + 8) default_secret) seed))
+/// ```
+#[inline(always)]
+fn mix_words(seed: u64, low: u64, high: u64, key: usize) -> u64 {
+    let low = low ^ secret_word(key).wrapping_add(seed);
+    let high = high ^ secret_word(key + 8).wrapping_sub(seed);
+    folded_product(low, high)
+}
 
 // The 16 bytes from `at` on, mixed with those of the secret from `key` on.
 /// The caller has to see to it that:
@@ -23,9 +43,7 @@ const LENGTH: u64 = 0x9e3779b185ebca87;
 /// ```
 #[inline(always)]
 fn mix_piece(seed: u64, text: &[u8], at: usize, key: usize) -> u64 {
-    let low = word_at(text, at) ^ secret_word(key).wrapping_add(seed);
-    let high = word_at(text, at + 8) ^ secret_word(key + 8).wrapping_sub(seed);
-    folded_product(low, high)
+    mix_words(seed, word_at(text, at), word_at(text, at + 8), key)
 }
 
 /// What a sum over so many bytes begins with.
@@ -178,7 +196,8 @@ fn add_nth(seed: u64, text: &[u8], sum: u64, i: usize, key: usize) -> u64 {
     if text.len() < 16 * i + 16 {
         return sum;
     }
-    add_piece(seed, text, sum, 16 * i, key)
+    let (low, high) = two_words_at(text, 16 * i);
+    sum.wrapping_add(mix_words(seed, low, high, key))
 }
 
 /// Proved:

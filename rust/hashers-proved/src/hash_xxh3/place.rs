@@ -3,7 +3,7 @@
 // What follows is the proved text of crates/hash_xxh3/src/place.rt without its contracts.
 use crate::hash_words;
 
-use crate::hash_xxh3::advance::{advance_under, begin_under};
+use crate::hash_xxh3::advance::{advance_under, begin_through, keep_all};
 use crate::hash_xxh3::long::{START, end_kept, lanes_at};
 use crate::hash_xxh3::secret::{default_secret, secret_of};
 use crate::hash_xxh3::whole::of_kept;
@@ -66,7 +66,8 @@ impl Xxh3Place {
         let kept = self.kept as usize;
         let mut lanes = START;
         self.length = self.kept.wrapping_add(bytes.len() as u64);
-        self.kept = begin_under(self.seed, &mut lanes, &mut self.buffer, kept, bytes) as u64;
+        let secret = secret_of(self.seed);
+        self.kept = begin_through(&secret, &mut lanes, &mut self.buffer, kept, bytes) as u64;
         self.words = lanes.words;
         self.stripe = lanes.stripe as u64;
         self.long = 1;
@@ -114,10 +115,14 @@ impl Xxh3Place {
     #[inline(always)]
     fn write_long(&mut self, bytes: &[u8]) {
         let kept = self.kept as usize;
-        let mut lanes = lanes_at(self.words, self.stripe);
-        self.kept = advance_under(self.seed, &mut lanes, &mut self.buffer, kept, bytes) as u64;
-        self.words = lanes.words;
-        self.stripe = lanes.stripe as u64;
+        if bytes.len() <= 128 - kept {
+            self.kept = keep_all(&mut self.buffer, kept, bytes) as u64;
+        } else {
+            let mut lanes = lanes_at(self.words, self.stripe);
+            self.kept = advance_under(self.seed, &mut lanes, &mut self.buffer, kept, bytes) as u64;
+            self.words = lanes.words;
+            self.stripe = lanes.stripe as u64;
+        }
         self.length = self.length.wrapping_add(bytes.len() as u64);
     }
 

@@ -3,7 +3,7 @@
 // What follows is the proved text of crates/hash_xxh3/src/words.rt without its contracts.
 use crate::hash_words;
 
-use hash_words::{le_four, le64, rotl64, xorshift};
+use hash_words::{le_four, le_two, le64, rotl64, xorshift};
 
 /// The eight bytes from a place on as a little-endian word.
 ///
@@ -22,6 +22,26 @@ use hash_words::{le_four, le64, rotl64, xorshift};
 pub(crate) fn word_at(text: &[u8], at: usize) -> u64 {
     let (words, _) = text[at..at + 8].as_chunks::<8>();
     le64(&words[0])
+}
+
+/// The two words from a place on.
+///
+/// The caller has to see to it that:
+///
+/// ```text
+/// at + 16 ≤ length text.now
+/// ```
+///
+/// Proved:
+///
+/// ```text
+/// first: result.0 ≡ word_at at text.now
+/// second: result.1 ≡ word_at (at + 8) text.now
+/// ```
+#[inline(always)]
+pub(crate) fn two_words_at(text: &[u8], at: usize) -> (u64, u64) {
+    let (pieces, _) = text[at..at + 16].as_chunks::<16>();
+    le_two(&pieces[0])
 }
 
 /// The four bytes from a place on.
