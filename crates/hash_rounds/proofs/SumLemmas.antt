@@ -1,6 +1,7 @@
 -- Laws of the sums of bytes: of no bytes, of joined texts, and byte by byte.
-use Rattle.std.proofs.Common.{◌≡◌, ℕ, suc, ◌+◌, ◌-◌, ◌*◌, ◌/◌, ◌%◌, ◌^◌, ◌<◌, ◌≤◌, List, [], ◌∷◌, ◌++◌, length, get_or, All, take, drop, sum, fold, refl, sym, ap, ◌∙◌, arith, add-zero, zero-add, length-append, length-drop, take-append-drop, pow-add, lit<}
+use Rattle.std.proofs.Common.{◌≡◌, ℕ, suc, ◌+◌, ◌-◌, ◌*◌, ◌%◌, ◌^◌, ◌<◌, ◌≤◌, List, [], ◌∷◌, ◌++◌, length, get_or, All, take, drop, sum, map, fold, refl, sym, ap, ◌∙◌, arith, add-zero, zero-add, length-append, length-drop, take-append-drop, pow-add, lit<}
 use Rattle.std.specs.Int.{w64, from_be_bytes}
+use Rattle.std.specs.Simd.Lanes.{fold_l, zip2}
 use Rattle.std.proofs.Math.Nat.{mod-add-mod, add-mod-mod, add-mul-mod_self_left, mod-lt, mod-eq_of_lt, pow-suc, pow-zero, mul-one, mul_comm}
 use Rattle.std.proofs.lemmas.List.Elements.{All-drop}
 use Rattle.std.proofs.lemmas.List.Sums.{sum_by-append, sum_by-cons}
@@ -96,29 +97,22 @@ pub sdbm_push : (s : ℕ) (t : List ℕ) (b : ℕ) → (sdbm_from s t * 65599 % 
 unfolding sdbm_from
 sdbm_push = number_push 65599 (2 ^ 32)
 
--- of a product by 2^32 * k + 1 the high half has k times the low half, and the high half
-high_half : (p q : ℕ) → p < 2 ^ 32 → (p + q * 4294967296) * 35482893790740481 % 2 ^ 64 / 4294967296 ≡ (p * 8261505 + q) % 2 ^ 32
-high_half p q p_in = omega arith
-
--- four bytes at once, as two numbers of two digits, the powers of 65599 taken mod 2^32
-pub sdbm_of_four : (h : ℕ) (t : List ℕ) → length t ≡ 4 → ((i : ℕ) → get_or t i 0 < 256) →
-    (h * 1139564289 % 2 ^ 32
-    + (get_or t 0 0 * 65599 + get_or t 1 0 + (get_or t 2 0 * 65599 + get_or t 3 0) * 4294967296) * 35482893790740481
-    % 2 ^ 64 / 4294967296) % 2 ^ 32
+-- four bytes at once, in lanes, the powers of 65599 taken mod 2^32
+pub sdbm_of_four : (h : ℕ) (t : List ℕ) → length t ≡ 4 →
+    (h * 1139564289 % 2 ^ 32 + fold_l (λ a x. (a + x) % 2 ^ 32) 0
+    (zip2 (λ x y. x * y % 2 ^ 32) (map (λ x. x) t) (780587199 ∷ 8261505 ∷ 65599 ∷ 1 ∷ []))) % 2 ^ 32
     ≡ sdbm_from h t
 unfolding sdbm_from
-sdbm_of_four h [] n bytes = absurd (omega arith)
-sdbm_of_four h (a ∷ []) n bytes = absurd (omega arith)
-sdbm_of_four h (a ∷ b ∷ []) n bytes = absurd (omega arith)
-sdbm_of_four h (a ∷ b ∷ c ∷ []) n bytes = absurd (omega arith)
-sdbm_of_four h (a ∷ b ∷ c ∷ d ∷ []) n bytes =
-    let first : a * 65599 + b < 2 ^ 32 = omega (arith, bytes 0, bytes 1) in
+sdbm_of_four h [] n = absurd (omega arith)
+sdbm_of_four h (a ∷ []) n = absurd (omega arith)
+sdbm_of_four h (a ∷ b ∷ []) n = absurd (omega arith)
+sdbm_of_four h (a ∷ b ∷ c ∷ []) n = absurd (omega arith)
+sdbm_of_four h (a ∷ b ∷ c ∷ d ∷ []) n =
     let whole : h * 65599 ^ 4 + digit_sum 65599 (a ∷ b ∷ c ∷ d ∷ [])
-    ≡ (h * 1139564289 + ((a * 65599 + b) * 8261505 + (c * 65599 + d))) + 2 ^ 32 * (h * 4311506197 + a * 65599 + b)
+    ≡ (h * 1139564289 + (0 + a * 780587199 + b * 8261505 + c * 65599 + d * 1)) + 2 ^ 32 * (h * 4311506197 + a * 65725 + b)
     = omega arith in
-    rw (high_half (a * 65599 + b) (c * 65599 + d) first)
-    (simp (mod-add-mod, add-mod-mod) (sym (ap (λ n. n % 2 ^ 32) whole ∙ add-mul-mod_self_left _ _ _)))
-sdbm_of_four h (a ∷ b ∷ c ∷ d ∷ e ∷ xs) n bytes = absurd (omega arith)
+    simp (mod-add-mod, add-mod-mod) (sym (ap (λ n. n % 2 ^ 32) whole ∙ add-mul-mod_self_left _ _ _))
+sdbm_of_four h (a ∷ b ∷ c ∷ d ∷ e ∷ xs) n = absurd (omega arith)
 
 -- ---- lose lose
 

@@ -31,7 +31,7 @@ macro_rules! prove {
 /// Vectors, as `std::simd` of nightly Rust has them: operators wrap, lane by lane.
 pub mod simd {
     pub mod prelude {
-        pub use super::{u64x8, u8x16, u8x8};
+        pub use super::{u32x4, u64x8, u8x16, u8x4, u8x8};
     }
 
     /// So many lanes.
@@ -39,9 +39,13 @@ pub mod simd {
     pub struct Simd<T, const N: usize>([T; N]);
 
     #[allow(non_camel_case_types)]
+    pub type u8x4 = Simd<u8, 4>;
+    #[allow(non_camel_case_types)]
     pub type u8x8 = Simd<u8, 8>;
     #[allow(non_camel_case_types)]
     pub type u8x16 = Simd<u8, 16>;
+    #[allow(non_camel_case_types)]
+    pub type u32x4 = Simd<u32, 4>;
     #[allow(non_camel_case_types)]
     pub type u64x8 = Simd<u64, 8>;
 
@@ -122,6 +126,37 @@ pub mod simd {
         // the highest bit of each byte that is 0, and a product that puts these side by side
         let highest = !((word & LOW) + LOW | word | LOW);
         (highest >> 7).wrapping_mul(0x0102_0408_1020_4080) >> 56
+    }
+
+    /// The products of the lanes. They are made when their sum is asked for.
+    #[derive(Clone, Copy)]
+    pub struct Products([u32; 4], [u32; 4]);
+
+    impl core::ops::Mul for Simd<u32, 4> {
+        type Output = Products;
+
+        #[inline(always)]
+        fn mul(self, other: Self) -> Products {
+            Products(self.0, other.0)
+        }
+    }
+
+    impl Products {
+        /// Their sum, which wraps. Of bytes it is the high half of two products of words, each of which has two of these there: the low
+        /// halves don't reach it. rustc sees where it is so, and leaves the other way out.
+        #[inline(always)]
+        pub fn reduce_sum(self) -> u32 {
+            const LOW: u64 = 0xff_0000_00ff;
+            let Products(lanes, [by0, by1, by2, by3]) = self;
+            if lanes.iter().fold(0, |all, lane| all | lane) < 256 && by2 | by3 < 1 << 23 {
+                let bytes = u64::from(u32::from_le_bytes(lanes.map(|lane| lane as u8)));
+                let spread = bytes | bytes << 16;
+                let even = (spread & LOW).wrapping_mul(u64::from(by0) << 32 | u64::from(by2));
+                let odd = (spread >> 8 & LOW).wrapping_mul(u64::from(by1) << 32 | u64::from(by3));
+                return (even.wrapping_add(odd) >> 32) as u32;
+            }
+            (0..4).fold(0, |sum: u32, i| sum.wrapping_add(lanes[i].wrapping_mul(self.1[i])))
+        }
     }
 
     impl Simd<u64, 8> {
@@ -262,6 +297,14 @@ mod tests {
             let sum = lanes.iter().fold(0, |sum: u64, lane| sum.wrapping_add(*lane));
             assert_eq!(u64x8::from_array(lanes).reduce_sum(), sum);
         }
+        for (lanes, by, sum) in [
+            ([u32::MAX, 2, 3, 4], [3; 4], 24),
+            ([255; 4], [u32::MAX, u32::MAX, (1 << 23) - 1, (1 << 23) - 1], 4278189060),
+            ([255, 1, 2, 3], [1 << 31, 5, 1 << 31, 7], 2147483674),
+        ] {
+            let plain = (0..4).fold(0, |sum: u32, i| sum.wrapping_add(u32::wrapping_mul(lanes[i], by[i])));
+            assert_eq!([(u32x4::from_array(lanes) * u32x4::from_array(by)).reduce_sum(), plain], [sum; 2]);
+        }
         let mut sums = u64x8::splat(u64::MAX);
         sums += u8x8::from_array([1, 2, 3, 4, 5, 6, 7, 8]).cast::<u64>();
         assert_eq!(sums.reduce_sum(), 28);
@@ -270,5 +313,6 @@ mod tests {
             let found = u8x16::from_slice(&bytes).simd_eq(u8x16::splat(byte));
             assert_eq!([found.to_bitmask(), found.by_lanes(), found.by_words()], [bits; 3]);
         }
+        assert_eq!((u8x4::from_array([1, 2, 3, 255]).cast::<u32>() * u32x4::splat(1)).reduce_sum(), 261);
     }
 }

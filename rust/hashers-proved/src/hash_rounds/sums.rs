@@ -8,7 +8,7 @@ use crate::hash_rounds::Turns;
 use std::simd::prelude::*;
 
 /// The state of sdbm after four bytes, from the state `h`: the bytes, as digits in base 65599 behind `h`, modulo 2^32.
-/// They are two numbers of two digits each, one in each half of a word: one product puts the first before the second.
+/// The products are made in lanes.
 ///
 /// Proved:
 ///
@@ -20,12 +20,10 @@ use std::simd::prelude::*;
 pub fn sdbm4(h: u32, b: &[u8; 4], t: &mut Turns) -> u32 {
     t.tick();
 
-    // The high half of the product has the first number times the square of 65599, modulo 2^32, and the second.
-    let first = u64::from(b[0]) * 65599 + u64::from(b[1]);
-    let second = u64::from(b[2]) * 65599 + u64::from(b[3]);
-    let digits = (first + second * 4294967296).wrapping_mul(8261505 * 4294967296 + 1) / 4294967296;
-    // The state's factor is the fourth power.
-    h.wrapping_mul(1139564289).wrapping_add(digits as u32)
+    // The powers of 65599 modulo 2^32, the third to the zeroth; the fourth is the state's factor.
+    let powers = u32x4::from_array([780587199, 8261505, 65599, 1]);
+    let bytes = u8x4::from_array(*b).cast::<u32>() * powers;
+    h.wrapping_mul(1139564289).wrapping_add(bytes.reduce_sum())
 }
 
 /// Adds the eight bytes to the eight lanes of 64 bits, byte i to lane i, modulo 2^64.
