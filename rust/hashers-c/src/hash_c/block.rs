@@ -1,13 +1,14 @@
 //! Hashes by the block under a seed or a key: of a whole text, and of a text in parts. The caller keeps the state.
 
 // What follows is the proved text of crates/hash_c/src/block.rt without its contracts.
-use hashers_proved::{hash_blocks, hash_murmur3, hash_siphash, hash_xxhash};
+use hashers_proved::{hash_blocks, hash_murmur3, hash_siphash, hash_words, hash_xxhash};
 
 use crate::hash_c::in_words::InWords;
 use crate::hash_c::spooky::{Words, two_words};
 use hash_blocks::bytes_in;
 use hash_murmur3::{Murmur3Rule32, Murmur3Rule128, murmur3_32, murmur3_128};
 use hash_siphash::{SipKey, SipRule, siphash13, siphash24};
+use hash_words::put;
 use hash_xxhash::{Xxh32Rule, Xxh64Rule, xxh32, xxh64};
 
 // The marks of the states: bytes that hardly lie in memory by chance.
@@ -99,11 +100,17 @@ fn written<R: InWords<N>, const N: usize>(mark: u64, state: &mut BlockState, byt
     if state.mark != mark || state.kept >= N as u64 {
         return;
     }
-    let mut lanes = R::of_words(&state.words, state.long);
     let kept = state.kept as usize;
+    state.length = state.length.wrapping_add(bytes.len() as u64);
+    // no block is completed, so nothing of the words is read or written; `bytes_in` has a way of its own for blocks of eight bytes
+    if N > 8 && bytes.len() < N - kept {
+        put(&mut state.buffer, kept, bytes);
+        state.kept += bytes.len() as u64;
+        return;
+    }
+    let mut lanes = R::of_words(&state.words, state.long);
     state.kept = bytes_in_front::<R, N>(&mut lanes, &mut state.buffer, kept, bytes) as u64;
     state.long = R::in_words(&lanes, &mut state.words);
-    state.length = state.length.wrapping_add(bytes.len() as u64);
 }
 
 // The hash of the bytes so far, where the state has the mark and less than a block is left.
