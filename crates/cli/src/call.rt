@@ -17,7 +17,7 @@ pub struct Opt {
     /// Its letter, if it has one.
     pub letter: Option<u8>,
     /// Its name.
-    pub name: &'static [u8],
+    pub name: &'static str,
     /// Whether it takes a value.
     pub has_value: bool,
     /// What the help calls its value; empty where it takes none.
@@ -26,9 +26,10 @@ pub struct Opt {
     pub words: &'static str,
 }
 
-/// An option of this letter, if it has one, and this name, which takes no value, and does what these words say.
-pub fn flag(letter: Option<u8>, name: &'static [u8], words: &'static str) -> Opt
-    ensures { choice_of result ≡ flag letter name.now }
+/// An option of this letter, if it has one, this name and these words, which takes no value.
+pub fn flag(letter: Option<u8>, name: &'static str, words: &'static str) -> Opt
+    ensures choice { choice_of result ≡ flag letter name.now }
+    ensures shown { (result.value.now ≡ []) × (result.words.now ≡ words.now) }
 {
     Opt {
         letter,
@@ -42,11 +43,12 @@ pub fn flag(letter: Option<u8>, name: &'static [u8], words: &'static str) -> Opt
 /// The same which takes a value, of this name.
 pub fn taking(
     letter: Option<u8>,
-    name: &'static [u8],
+    name: &'static str,
     value: &'static str,
     words: &'static str,
 ) -> Opt
-    ensures { choice_of result ≡ taking letter name.now }
+    ensures choice { choice_of result ≡ taking letter name.now }
+    ensures shown { (result.value.now ≡ value.now) × (result.words.now ≡ words.now) }
 {
     Opt {
         letter,
@@ -117,11 +119,11 @@ fn push_valued<'a>(
 {
     if value.is_empty() {
         return Ok(Some(Wanting {
-            name: opt.name,
+            name: opt.name.as_bytes(),
             word,
         }));
     }
-    push(said, Said::Gives(opt.name, value))?;
+    push(said, Said::Gives(opt.name.as_bytes(), value))?;
     Ok(None)
 }
 
@@ -158,7 +160,7 @@ fn push_letters<'a>(
         if opt.has_value {
             return push_valued(said, opt, word, &letters[at + 1..]);
         }
-        push(said, Said::Gives(opt.name, b""))?;
+        push(said, Said::Gives(opt.name.as_bytes(), b""))?;
     }
     Ok(None)
 }
@@ -183,11 +185,11 @@ fn push_named<'a>(
 {
     match value {
         None if opt.has_value => return Ok(Some(Wanting {
-            name: opt.name,
+            name: opt.name.as_bytes(),
             word,
         })),
-        None => push(said, Said::Gives(opt.name, b""))?,
-        Some(value) if opt.has_value => push(said, Said::Gives(opt.name, value))?,
+        None => push(said, Said::Gives(opt.name.as_bytes(), b""))?,
+        Some(value) if opt.has_value => push(said, Said::Gives(opt.name.as_bytes(), value))?,
         Some(_) => push(said, Said::Errs(Misgiven::HasValue, name_in(opt, word)))?,
     }
     Ok(None)
@@ -204,7 +206,7 @@ fn push_name<'a>(
         (by_name (choices options.now) word.now long.now)) }
 {
     for opt in options {
-        match long.strip_prefix(opt.name) {
+        match long.strip_prefix(opt.name.as_bytes()) {
             Some([]) => return push_named(said, *opt, word, None),
             Some([b'=', value @ ..]) => return push_named(said, *opt, word, Some(value)),
             _ => {}

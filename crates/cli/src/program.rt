@@ -1,4 +1,10 @@
 //! The main of a program.
+ghost use Rattle.std.specs.Prelude.{◌≡◌, ℕ, List, IfOk};
+ghost use Rattle.std.specs.Process.{exit_status};
+ghost use Rattle.cli.specs.Call.{Saying, sayings, texts};
+ghost use Rattle.cli.specs.Frame.{request_of};
+ghost use Rattle.cli.specs.declared.frame.Request.{Request};
+ghost use Rattle.cli.specs.Program.{EndsAs, IsStatus};
 
 use crate::arguments::arguments;
 use crate::call::Call;
@@ -20,17 +26,22 @@ pub trait Program {
     /// The faults that only this program has.
     type Own: Words + Drop;
 
+    /// What words say.
+    ghost says: { List (List ℕ) → List Saying };
+
     /// Its name.
     fn name() -> &'static str;
 
     /// What the words behind its name say.
-    fn call_of<'a>(alloc: Global, words: &'a [Vec<u8>]) -> Result<Call<'a>, AllocError>;
+    fn call_of<'a>(alloc: Global, words: &'a [Vec<u8>]) -> Result<Call<'a>, AllocError>
+        ensures { IfOk result (λ call. sayings call.said.items ≡ says (texts words.now)) };
 
     /// Does what the call asks for. An error is want of memory.
     fn outcome_of<'a>(
         rt: &'a HostRuntime,
         call: &Call<'a>,
-    ) -> io::Result<Outcome<Self::Misuse, Self::Own>>;
+    ) -> io::Result<Outcome<Self::Misuse, Self::Own>>
+        ensures { IfOk result (EndsAs (request_of (sayings call.now.said.items))) };
 
     /// The word that is wrong, or names the file that could not be written, if one is.
     fn word_of<'a>(
@@ -41,7 +52,9 @@ pub trait Program {
 }
 
 /// Says that there is no memory for a call, and returns the status.
-fn without_memory<P: Program>(rt: &HostRuntime) -> u8 {
+fn without_memory<P: Program>(rt: &HostRuntime) -> u8
+    ensures { (request : Request) → IsStatus P.Misuse P.Own request result }
+{
     ended(
         rt,
         P::name(),
@@ -51,7 +64,9 @@ fn without_memory<P: Program>(rt: &HostRuntime) -> u8 {
 }
 
 /// The status of the program that was called by these words.
-fn status_of<P: Program>(rt: &HostRuntime, words: &[Vec<u8>]) -> u8 {
+fn status_of<P: Program>(rt: &HostRuntime, words: &[Vec<u8>]) -> u8
+    ensures { IsStatus P.Misuse P.Own (request_of (P.says (texts words.now))) result }
+{
     let Ok(call) = P::call_of(rt.alloc(), words) else {
         return without_memory::<P>(rt);
     };
@@ -66,8 +81,10 @@ fn status_of<P: Program>(rt: &HostRuntime, words: &[Vec<u8>]) -> u8 {
     }
 }
 
-/// Runs the program over the words of its call, and returns how it ends. What fails is said on standard error.
-pub fn run<P: Program>(rt: &HostRuntime) -> ExitCode {
+/// Runs the program, and returns its status. What fails is said on standard error.
+pub fn run<P: Program>(rt: &HostRuntime) -> ExitCode
+    ensures { (words : List (List ℕ)) × IsStatus P.Misuse P.Own (request_of (P.says words)) (exit_status result) }
+{
     match arguments(rt) {
         Ok(words) => ExitCode::from(status_of::<P>(rt, &words)),
         Err(_) => ExitCode::from(without_memory::<P>(rt)),

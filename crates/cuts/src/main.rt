@@ -50,6 +50,11 @@ impl Program for Cuts {
 
     type Own = TooMany;
 
+    ghost use Rattle.cli.specs.Call.{call_of};
+    ghost use Rattle.hash_chunks.specs.Program.{options};
+
+    ghost says = { call_of options };
+
     fn name() -> &'static str {
         NAME
     }

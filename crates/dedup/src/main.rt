@@ -46,6 +46,11 @@ impl Program for Dedup {
 
     type Own = TooMany;
 
+    ghost use Rattle.cli.specs.Call.{call_of};
+    ghost use Rattle.unique_lines.specs.Program.{options};
+
+    ghost says = { call_of options };
+
     fn name() -> &'static str {
         NAME
     }

@@ -71,42 +71,42 @@ pub fn options() -> [Opt; 9]
     [
         taking(
             Some(b'a'),
-            b"algorithm",
+            "algorithm",
             "NAME",
             "the hash of a chunk, by default spooky128",
         ),
         taking(
             Some(b'l'),
-            b"least",
+            "least",
             "BYTES",
             "the fewest bytes of a chunk, but for a file's last; by\ndefault a quarter of the average",
         ),
         taking(
             None,
-            b"average",
+            "average",
             "BYTES",
             "behind the fewest, each place is a cut with a chance of\n1 in this number; by default 64K, or 4 times -l",
         ),
         taking(
             Some(b'm'),
-            b"most",
+            "most",
             "BYTES",
             "the most bytes of a chunk; by default four times the\naverage",
         ),
         taking(
             None,
-            b"key-file",
+            "key-file",
             "FILE",
             "16 secret bytes, which decide where the cuts are",
         ),
         flag(
             None,
-            b"stats",
+            "stats",
             "print instead how many chunks and bytes all files have,\nand how many bytes are in chunks whose hash came before",
         ),
-        flag(None, b"quiet", "show no progress"),
-        flag(None, b"help", "print this help and exit"),
-        flag(None, b"version", "print the version and exit"),
+        flag(None, "quiet", "show no progress"),
+        flag(None, "help", "print this help and exit"),
+        flag(None, "version", "print the version and exit"),
     ]
 }
 

@@ -61,74 +61,50 @@ names_rise (e ∷ es) h zero (suc j) l m = below_at e.0 es j (both_parts _ _ h).
 names_rise (e ∷ es) h (suc i) (suc j) l m = names_rise es (both_parts _ _ h).1 i j (omega arith) (omega arith)
 
 -- and where each is less than the next, each is less than those after it
-both_from : (a b : Bool) → T a → T b → T (a && b)
-both_from true b h k = k
-both_from false b h k = h
-
-is_less : (r : Ordering) → r ≡ Less → T (is_lt r)
-is_less r e = subst (λ r. T (is_lt r)) (sym e) tt
-
-below_too : (x y : List ℕ) (es : Pairs) → by_bytes x y ≡ Less → T (below_all by_bytes y es) → T (below_all by_bytes x es)
-below_too x y [] less h = tt
-below_too x y (e ∷ es) less h =
-    let parts = both_parts _ _ h in
-    both_from _ _ (is_less _ (nat_list_cmp_total.trans x y e.0 less (less_is _ parts.0))) (below_too x y es less parts.1)
-
-below_next : (x : List ℕ) (es : Pairs) → T (is_sorted by_bytes es) → (0 < length es → by_bytes x (node_at es 0).0 ≡ Less)
-    → T (below_all by_bytes x es)
-below_next x [] h less = tt
-below_next x (e ∷ es) h less =
-    let first = less (omega arith) in
-    both_from _ _ (is_less _ first) (below_too x e.0 es first (both_parts _ _ h).0)
-
-rises_from : (es : Pairs) → ((k : ℕ) → suc k < length es → by_bytes (node_at es k).0 (node_at es (suc k)).0 ≡ Less)
-    → T (is_sorted by_bytes es)
+rises_from : (nodes : List Node)
+    → ((k : ℕ) (d : Node) → k + 1 < length nodes → by_bytes (get_or nodes k d).name.items (get_or nodes (k + 1) d).name.items ≡ Less)
+    → T (is_sorted by_bytes (pairs nodes))
 rises_from [] next = tt
-rises_from (e ∷ es) next =
-    let rest = rises_from es (λ k l. next (suc k) (omega arith)) in
-    both_from _ _ (below_next e.0 es rest (λ some. next 0 (omega arith))) rest
+rises_from (a ∷ []) next = tt
+rises_from (a ∷ b ∷ nodes) next =
+    let name = a.name.items in
+    let w = a.weight in
+    let es = pairs nodes in
+    subst (λ r. T (is_sorted by_bytes (by_order r ((name, w) ∷ pair_of b ∷ es) ((b.name.items, w) ∷ es) (pair_of b ∷ put by_bytes name w es))))
+    (next 0 a (omega arith))
+    (is_sorted-put by_bytes nat_list_cmp_total name w (pairs (b ∷ nodes))
+    (rises_from (b ∷ nodes)
+    (λ k d l.
+    let more : suc k + 1 ≡ suc (k + 1) = omega arith in
+    subst (λ n. by_bytes (get_or (b ∷ nodes) k d).name.items (get_or (a ∷ b ∷ nodes) n d).name.items ≡ Less) more (next (suc k) d (omega arith)))))
 
 pub read : (nodes : List Node) (d : Node) (k : ℕ) → k < length nodes → (node_at (pairs nodes) k).0 ≡ (get_or nodes k d).name.items
 read nodes d k l = ap (λ node. node.0) (get_or-map pair_of nodes k d ([], 0) l)
 
-read_next : (nodes : List Node) (d : Node) (k : ℕ) → k + 1 < length nodes
-    → (node_at (pairs nodes) (suc k)).0 ≡ (get_or nodes (k + 1) d).name.items
-read_next nodes d k l = let next : suc k ≡ k + 1 = omega arith in ap (λ (i : ℕ). (node_at (pairs nodes) i).0) next ∙ read nodes d (k + 1) l
-
-neighbours : (nodes : List Node) (d : Node) (k : ℕ) → k + 1 < length nodes
-    → by_bytes (node_at (pairs nodes) k).0 (node_at (pairs nodes) (suc k)).0
-    ≡ by_bytes (get_or nodes k d).name.items (get_or nodes (k + 1) d).name.items
-neighbours nodes d k l = λ j. by_bytes (read nodes d k (omega arith) j) (read_next nodes d k l j)
-
 -- what a test of all neighbours says
 pub rise_exactly : (nodes : List Node) (r : Bool)
     → IsAllAdjacentAnswer (λ a b t. t ≡ is_lt (by_bytes a.name.items b.name.items)) nodes r → IsTrue r ↔ T (is_sorted by_bytes (pairs nodes))
-rise_exactly [] true all = (λ _. tt, λ _. refl)
+rise_exactly nodes true all = (λ _. rises_from nodes (λ k d l. less_is _ (subst T (all k d l) tt)), λ _. refl)
 rise_exactly [] false broken = absurd (omega (arith, broken.1))
-rise_exactly (n ∷ ns) true all = (
-  λ _. rises_from (pairs (n ∷ ns))
-      (λ k l.
-      let below : k + 1 < length (n ∷ ns) = omega (arith, l, length-map (n ∷ ns) pair_of) in
-      neighbours (n ∷ ns) n k below ∙ less_is _ (subst T (all k n below) tt)),
-  λ _. refl,
-)
 rise_exactly (n ∷ ns) false broken = (
   λ no. cc,
   λ sorted.
+      let nodes = n ∷ ns in
       let k : ℕ = broken.0 in
-      let rise = names_rise (pairs (n ∷ ns)) sorted k (suc k) (omega arith) (omega (arith, broken.1, length-map (n ∷ ns) pair_of)) in
-      let less = ap is_lt (sym (neighbours (n ∷ ns) n k broken.1) ∙ rise) in
+      let rise = names_rise (pairs nodes) sorted k (k + 1) (omega arith) (omega (arith, broken.1, length-map nodes pair_of)) in
       let not_less = broken.2 n in
+      let here = read nodes n k (omega (arith, broken.1)) in
+      let next = read nodes n (k + 1) broken.1 in
       cc,
 )
 
 -- names that rise differ
 pub rising_differ : (es : Pairs) → T (is_sorted by_bytes es) → KeysDiffer es
 rising_differ es h i j d low m same =
-    let here : (k : ℕ) → k < length es → get_or es k d ≡ node_at es k = λ k l. get_or_default es k d ([], 0) l in
-    let less : by_bytes (node_at es i).0 (node_at es j).0 ≡ Less = names_rise es h i j low m in
-    let tied : (node_at es i).0 ≡ (node_at es j).0 = sym (ap (λ e. e.0) (here i (omega arith))) ∙ same ∙ ap (λ e. e.0) (here j m) in
-    let equal : by_bytes (node_at es i).0 (node_at es j).0 ≡ Equal = ap (by_bytes (node_at es i).0) (sym tied) ∙ itself (node_at es i).0 in
+    let less = names_rise es h i j low m in
+    let here = get_or_default es i d ([], 0) (omega arith) in
+    let there = get_or_default es j d ([], 0) m in
+    let equal = itself (node_at es i).0 in
     cc
 
 -- names that differ do so in any order
@@ -166,15 +142,12 @@ less_of_two a b Greater e h ne =
     cc
 
 pub sorted_rise : (nodes : List Node) → IsSorted by_name nodes → KeysDiffer (pairs nodes) → T (is_sorted by_bytes (pairs nodes))
-sorted_rise [] sorted differ = tt
-sorted_rise (n ∷ ns) sorted differ = rises_from (pairs (n ∷ ns))
-    (λ k l.
-    let nodes = n ∷ ns in
-    let below : k + 1 < length nodes = omega (arith, l, length-map nodes pair_of) in
-    neighbours nodes n k below
-    ∙ less_of_two (get_or nodes k n) (get_or nodes (k + 1) n) _ refl (sorted k n (omega arith) below)
-    (λ same. differ k (suc k) ([], 0) (omega arith) l
-    (read nodes n k (omega (arith, below)) ∙ same ∙ sym (read_next nodes n k below))))
+sorted_rise nodes sorted differ =
+    rises_from nodes
+    (λ k d l.
+    less_of_two (get_or nodes k d) (get_or nodes (k + 1) d) _ refl (sorted k d (omega arith) l)
+    (λ same. differ k (k + 1) ([], 0) (omega arith) (omega (arith, l, length-map nodes pair_of))
+    (read nodes d k (omega (arith, l)) ∙ same ∙ sym (read nodes d (k + 1) l))))
 
 -- a node at an index is found
 pub found_at : (es : Pairs) → T (is_sorted by_bytes es) → (i : ℕ) → i < length es
@@ -215,13 +188,10 @@ no_greater es h i j upto m = ⊎_elim
 sorted_nodes : (nodes : List Node) → T (is_sorted by_bytes (pairs nodes))
     → IsSortedBy (λ a b. is_lt (by_bytes a.name.items b.name.items)) nodes
 sorted_nodes nodes h k d low next =
-    let long = length-map nodes pair_of in
-    let a = (node_at (pairs nodes) k).0 in
-    let b = (node_at (pairs nodes) (k + 1)).0 in
-    let here : (i : ℕ) → i < length nodes → (get_or nodes i d).name.items ≡ (node_at (pairs nodes) i).0 =
-    λ i l. sym (ap (λ node. node.0) (get_or-map pair_of nodes i d ([], 0) l)) in
-    let rise : by_bytes a b ≡ Less = names_rise (pairs nodes) h k (k + 1) (omega arith) (omega arith) in
-    ap is_lt ((λ j. by_bytes (here (k + 1) next j) (here k (omega arith) j)) ∙ back_less a b rise)
+    let name = λ (i : ℕ). (node_at (pairs nodes) i).0 in
+    let rise = names_rise (pairs nodes) h k (k + 1) (omega arith) (omega (arith, next, length-map nodes pair_of)) in
+    ap is_lt ((λ j. by_bytes (sym (read nodes d (k + 1) next) j) (sym (read nodes d k (omega (arith, next))) j))
+    ∙ back_less (name k) (name (k + 1)) rise)
 
 pub named_or_gap : (nodes : List Node) (name : List ℕ) (r : Result ℕ ℕ) → T (is_sorted by_bytes (pairs nodes))
     → IsSearchInRange r (length nodes)

@@ -61,31 +61,31 @@ pub fn options() -> [Opt; 8]
     [
         taking(
             Some(b'b'),
-            b"buckets",
+            "buckets",
             "BUCKETS",
             "this many buckets instead",
         ),
         taking(
             Some(b'w'),
-            b"width",
+            "width",
             "BYTES",
             "keys of this many bytes, with nothing between them",
         ),
         flag(
             Some(b'z'),
-            b"zero-terminated",
+            "zero-terminated",
             "keys end with a zero byte, not with a newline",
         ),
-        flag(None, b"no-times", "measure no times and recommend nothing"),
+        flag(None, "no-times", "measure no times and recommend nothing"),
         taking(
             None,
-            b"plot",
+            "plot",
             "FILE.svg",
             "draw the table too; - is standard output, after it",
         ),
-        flag(None, b"list", "print the names of the hashes and exit"),
-        flag(None, b"help", "print this help and exit"),
-        flag(None, b"version", "print the version and exit"),
+        flag(None, "list", "print the names of the hashes and exit"),
+        flag(None, "help", "print this help and exit"),
+        flag(None, "version", "print the version and exit"),
     ]
 }
 

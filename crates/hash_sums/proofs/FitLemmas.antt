@@ -1,5 +1,5 @@
 -- Each hash of the table is below 2 to the power of its bits, and each of 128 bits is two words.
-use Rattle.std.proofs.Common.{ℕ, zero, suc, ◌*◌, ◌/◌, ◌%◌, ◌^◌, ◌<◌, ◌≤◌, Bool, true, false, if◌then◌else◌, nat_lt, List, [], ◌∷◌, length, slice_index, fold, map, take, drop, All, refl, sym, arith, lit<, subst, ◌∙◌}
+use Rattle.std.proofs.Common.{ℕ, zero, suc, ◌*◌, ◌/◌, ◌%◌, ◌^◌, ◌<◌, Bool, true, false, if◌then◌else◌, nat_lt, List, [], ◌∷◌, length, slice_index, fold, map, take, drop, All, refl, sym, arith, lit<, subst}
 use Rattle.std.proofs.lemmas.List.Elements.{All-drop, All-head, All-tail, All-take}
 use Rattle.std.proofs.lemmas.Nat.{mod_below, pow_pos, xor_lt}
 use Rattle.hash_words.specs.Words.{le}

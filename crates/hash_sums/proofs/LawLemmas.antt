@@ -10,6 +10,9 @@ use Rattle.hash_sums.specs.Checking.{is_not_found, IsVerdict}
 use Rattle.cli.specs.Files.{Opens}
 use Rattle.hash_sums.specs.Files.{ReadsFile}
 use Rattle.hash_sums.specs.Laws.{NeverPasses}
+use Rattle.hash_names.specs.declared.table.Kind.{Kind}
+use Rattle.hash_names.specs.declared.table.Kind.TheVariants.{Fnv1a32}
+use Rattle.hash_names.specs.Named.{kind_named, name_of, read_of}
 use Rattle.hash_sums.specs.Sums.{number_named}
 
 -- a number that is said to be the same is the same
@@ -45,3 +48,14 @@ pub named_never_passes : {F : Type 0} (opens : F → Opens) (name : List ℕ) (h
     → NeverPasses opens name Changed
 named_never_passes opens name hash Changed named apart =
     (hash, named, λ folder file. never_passes (opens folder file) hash Changed apart)
+
+-- each kind is the hash of its name, row by row
+pub row_is : (kind : Kind) → number_named (name_of kind) ≡ Some (read_of kind)
+unfolding number_named kind_named
+row_is Fnv1a32 = refl
+row_is kind = refl
+
+pub kind_never_passes : {F : Type 0} (opens : F → Opens) (kind : Kind) (Changed : (first second : List ℕ) → Type 0)
+    → ((x y : List ℕ) → IsText x → IsText y → Changed x y → read_of kind x ≢ read_of kind y)
+    → NeverPasses opens (name_of kind) Changed
+kind_never_passes opens kind Changed apart = named_never_passes opens (name_of kind) (read_of kind) Changed (row_is kind) apart

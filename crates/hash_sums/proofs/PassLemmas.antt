@@ -5,10 +5,10 @@ use Rattle.std.proofs.lemmas.Bool.{and_parts, not-true, eqb-true, ltb-true, ltb-
 use Rattle.std.proofs.lemmas.List.Elements.{All-cons, All-nil, All-push}
 use Rattle.hash_lines.specs.declared.line.LineKind.{LineKind}
 use Rattle.hash_sums.specs.declared.check.LineCheck.{LineCheck}
-use Rattle.hash_sums.specs.declared.check.LineCheck.TheVariants.{Skipped, Improper, Checked}
+use Rattle.hash_sums.specs.declared.check.LineCheck.TheVariants.{Improper, Checked}
 use Rattle.hash_sums.specs.declared.check.Checking.{Checking}
 use Rattle.hash_sums.specs.declared.check.Counts.{Counts}
-use Rattle.hash_sums.specs.declared.check.Verdict.TheVariants.{Same, Different, Unread, Missing, Unkeyed}
+use Rattle.hash_sums.specs.declared.check.Verdict.TheVariants.{Same, Different, Unread, Unkeyed}
 use Rattle.hash_sums.specs.Checking.{counted, one_more, passes}
 use Rattle.cli.specs.Files.{Opens}
 use Rattle.hash_sums.specs.Lists.{counts_of, uncounted, AreLines, AreListed, EndsListOf}
@@ -76,30 +76,13 @@ abbrev is_unkeyed : LineCheck → Bool
 is_unkeyed (Checked entry Unkeyed) = true
 is_unkeyed came = false
 
-step_improper : (counts : Counts) (came : LineCheck)
-    → (counted counts came).improper ≡ (if is_improper came then one_more counts.improper else counts.improper)
-step_improper counts (Checked entry Same) = refl
-step_improper counts came = refl
+abbrev Steps : (count : Counts → ℕ) (test : LineCheck → Bool) → Counts → LineCheck → Type 0
+Steps count test counts came = count (counted counts came) ≡ (if test came then one_more (count counts) else count counts)
 
-step_different : (counts : Counts) (came : LineCheck)
-    → (counted counts came).different ≡ (if is_different came then one_more counts.different else counts.different)
-step_different counts (Checked entry Same) = refl
-step_different counts came = refl
-
-step_unread : (counts : Counts) (came : LineCheck)
-    → (counted counts came).unread ≡ (if is_unread came then one_more counts.unread else counts.unread)
-step_unread counts (Checked entry Same) = refl
-step_unread counts came = refl
-
-step_unkeyed : (counts : Counts) (came : LineCheck)
-    → (counted counts came).unkeyed ≡ (if is_unkeyed came then one_more counts.unkeyed else counts.unkeyed)
-step_unkeyed counts (Checked entry Same) = refl
-step_unkeyed counts came = refl
-
-step_same : (counts : Counts) (came : LineCheck)
-    → (counted counts came).same ≡ (if is_same came then one_more counts.same else counts.same)
-step_same counts (Checked entry Same) = refl
-step_same counts came = refl
+step : (counts : Counts) (came : LineCheck) → Steps (λ c. c.improper) is_improper counts came × Steps (λ c. c.different) is_different counts came
+    × Steps (λ c. c.unread) is_unread counts came × Steps (λ c. c.unkeyed) is_unkeyed counts came × Steps (λ c. c.same) is_same counts came
+step counts (Checked entry Same) = (refl, refl, refl, refl, refl)
+step counts came = (refl, refl, refl, refl, refl)
 
 -- what is of none of these sorts does not fail
 well : (strict : Bool) (came : LineCheck) → (strict && is_improper came) ≡ false → is_different came ≡ false → is_unread came ≡ false
@@ -116,7 +99,7 @@ improper_lines : (strict : Bool) (lines : List (List ℕ × LineCheck)) → not 
 improper_lines false lines is = λ k d below. refl
 improper_lines true lines is =
     let none : (counts_of lines).improper ≤ 0 = ltb-false 0 (counts_of lines).improper (not-true _ is) in
-    (none_counted (λ c. c.improper) is_improper step_improper uncounted lines (omega (arith, none))).1
+    (none_counted (λ c. c.improper) is_improper (λ counts came. (step counts came).0) uncounted lines (omega (arith, none))).1
 
 found : {A : Type 0} → (0 < 0) ⊎ A → A
 found (inl none) = absurd (omega (arith, none))
@@ -136,12 +119,12 @@ lines_pass strict lines is =
     let (both, unread) = and_parts (a && b) c rest in
     let (same, different) = and_parts a b both in
     let no_improper = improper_lines strict lines improper in
-    let no_different = (none_counted (λ c. c.different) is_different step_different uncounted lines (eqb-true counts.different 0 different)).1 in
-    let no_unread = (none_counted (λ c. c.unread) is_unread step_unread uncounted lines (eqb-true counts.unread 0 unread)).1 in
-    let no_unkeyed = (none_counted (λ c. c.unkeyed) is_unkeyed step_unkeyed uncounted lines (eqb-true counts.unkeyed 0 unkeyed)).1 in (
+    let no_different = (none_counted (λ c. c.different) is_different (λ counts came. (step counts came).1) uncounted lines (eqb-true counts.different 0 different)).1 in
+    let no_unread = (none_counted (λ c. c.unread) is_unread (λ counts came. (step counts came).2) uncounted lines (eqb-true counts.unread 0 unread)).1 in
+    let no_unkeyed = (none_counted (λ c. c.unkeyed) is_unkeyed (λ counts came. (step counts came).3) uncounted lines (eqb-true counts.unkeyed 0 unkeyed)).1 in (
       λ k d below. well strict (slice_index_or lines k d).1 (no_improper k d below) (no_different k d below) (no_unread k d below)
           (no_unkeyed k d below),
-      found (some_counted (λ c. c.same) is_same step_same uncounted lines (ltb-true 0 counts.same same)),
+      found (some_counted (λ c. c.same) is_same (λ counts came. (step counts came).4) uncounted lines (ltb-true 0 counts.same same)),
     )
 
 module _ (kinds : List LineKind) (checking : Checking) (opens : Opens) where

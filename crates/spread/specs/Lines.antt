@@ -3,7 +3,6 @@ use Rattle.std.specs.Prelude.{ℕ, suc, ◌≡◌, ◌++◌, ◌∷◌, [], if�
 use Rattle.hash_names.specs.Named.{name_of}
 use Rattle.hash_spread.specs.Table.{row_numbers}
 use Rattle.hash_spread.specs.declared.rows.TableRow.{TableRow}
-use Rattle.hash_spread.specs.declared.sizes.Sizes.{Sizes}
 use Rattle.spread.specs.declared.table.Column.{Column}
 use Rattle.spread.specs.declared.table.Frame.{Frame}
 

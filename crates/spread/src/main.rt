@@ -2,9 +2,14 @@
 //! one to take.
 #![tactic(auto)]
 
-ghost use Rattle.std.specs.Prelude.{◌≡◌, [], IfOk};
+ghost use Rattle.std.specs.Prelude.{◌≡◌, [], IfOk, MatchResult};
 ghost use Rattle.std.specs.Io.Buffered.{writer_buffer};
+ghost use Rattle.cli.specs.declared.outcome.Outcome.TheVariants.{Failed};
+ghost use Rattle.cli.specs.Call.{sayings};
+ghost use Rattle.cli.specs.Frame.{request_of};
 ghost use Rattle.cli.specs.Outcome.{IsFlushed};
+ghost use Rattle.cli.specs.Program.{EndsAs};
+ghost use Rattle.hash_spread.specs.declared.call.Misuse.{Misuse};
 
 mod clock;
 mod picture;
@@ -100,7 +105,9 @@ fn worked(rt: &HostRuntime, call: &Call<'_>, w: &mut BufWriter<Stdout>) -> Resul
 
 /// Writes a text that the call asks for, or the table. Where all went well, nothing that it wrote is held back.
 fn told(rt: &HostRuntime, call: &Call<'_>, w: &mut BufWriter<Stdout>) -> Result<Outcome, Failure>
-    ensures { IfOk result (λ outcome. writer_buffer w.old ≡ [] → IsFlushed (writer_buffer w.new) outcome) }
+    ensures flushed { IfOk result (λ outcome. writer_buffer w.old ≡ [] → IsFlushed (writer_buffer w.new) outcome) }
+    ensures ends { MatchResult result (EndsAs (request_of (sayings call.now.said.items)))
+        (λ fault. EndsAs {Misuse = Misuse} (request_of (sayings call.now.said.items)) (Failed fault)) }
 {
     let alloc = rt.alloc();
     match request_of(call) {
@@ -126,6 +133,11 @@ impl Program for Spread {
     type Misuse = Misuse;
 
     type Own = NoTable;
+
+    ghost use Rattle.cli.specs.Call.{call_of};
+    ghost use Rattle.hash_spread.specs.Call.{options};
+
+    ghost says = { call_of options };
 
     fn name() -> &'static str {
         NAME

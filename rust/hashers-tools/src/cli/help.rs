@@ -6,29 +6,16 @@ use hashers_proved::shim::{String, std};
 use crate::cli::call::{Call, Opt};
 use std::alloc::{AllocError, Global};
 
-/// How many columns an option takes with its letter and its value.
+/// An option's letter, its name, and what its value is called.
+///
+/// Proved:
+///
+/// ```text
+/// IfOk result (λ text. string_bytes text ≡ label opt.now)
+/// ```
 #[inline]
-fn columns(opt: &Opt) -> usize {
-    let value = if opt.value.is_empty() {
-        0
-    } else {
-        opt.value.len().saturating_add(1)
-    };
-    opt.name.len().saturating_add(value).saturating_add(8)
-}
-
-/// Puts so many spaces behind a text.
-#[inline]
-fn push_spaces(text: &mut String, count: usize) -> Result<(), AllocError> {
-    for _ in 0..count {
-        text.push(' ')?;
-    }
-    Ok(())
-}
-
-/// Puts an option behind a text, with its letter and its value.
-#[inline]
-fn push_option(text: &mut String, opt: &Opt) -> Result<(), AllocError> {
+fn label(alloc: Global, opt: &Opt) -> Result<String, AllocError> {
+    let mut text = String::new(alloc);
     match opt.letter {
         Some(letter) => {
             text.push_str("  -")?;
@@ -37,20 +24,62 @@ fn push_option(text: &mut String, opt: &Opt) -> Result<(), AllocError> {
         }
         None => text.push_str("      --")?,
     }
-    for byte in opt.name {
-        text.push(char::from(*byte))?;
-    }
+    text.push_str(opt.name)?;
     if !opt.value.is_empty() {
         text.push(' ')?;
         text.push_str(opt.value)?;
     }
+    Ok(text)
+}
+
+/// The column in which all options say what they do.
+///
+/// Proved:
+///
+/// ```text
+/// IfOk result (λ at. at ≡ column options.now)
+/// ```
+#[inline]
+fn column(alloc: Global, options: &[Opt]) -> Result<usize, AllocError> {
+    let mut column = 0usize;
+    for opt in options {
+        column = column.max(label(alloc, opt)?.len() + 2);
+    }
+    Ok(column)
+}
+
+/// Puts so many spaces behind a text.
+///
+/// Proved:
+///
+/// ```text
+/// OnOk result (string_bytes text.new ≡ string_bytes text.old ++ replicate count 32)
+/// ```
+#[inline]
+fn push_spaces(text: &mut String, count: usize) -> Result<(), AllocError> {
+    for _ in 0..count {
+        text.push(' ')?;
+    }
     Ok(())
 }
 
-/// Puts what an option does behind a text, each line from the same column on.
+/// Puts an option behind a text, and what it does, each line from the column on.
+///
+/// Proved:
+///
+/// ```text
+/// OnOk result (string_bytes text.new ≡ string_bytes text.old ++ shown column opt.now)
+/// ```
 #[inline]
-fn push_words(text: &mut String, opt: &Opt, column: usize) -> Result<(), AllocError> {
-    let mut at = columns(opt);
+fn push_option(
+    alloc: Global,
+    text: &mut String,
+    opt: &Opt,
+    column: usize,
+) -> Result<(), AllocError> {
+    let label = label(alloc, opt)?;
+    text.push_str(&label)?;
+    let mut at = label.len();
     for line in opt.words.split('\n') {
         push_spaces(text, column.saturating_sub(at))?;
         text.push_str(line)?;
@@ -60,8 +89,14 @@ fn push_words(text: &mut String, opt: &Opt, column: usize) -> Result<(), AllocEr
     Ok(())
 }
 
-/// The help of a program: what stands in front of its options, a line or more for each of them, and what stands behind. It is made
-/// where the call asks for it, and is empty else.
+/// The help of a program. It is made where the call asks for it, and is empty else.
+///
+/// Proved:
+///
+/// ```text
+/// IfOk result (λ text. string_bytes text ≡ (if given (codes "help") (sayings call.now.said.items)
+///     then help front.now options.now behind.now else []))
+/// ```
 #[inline]
 pub fn help_for(
     alloc: Global,
@@ -73,14 +108,10 @@ pub fn help_for(
     if !call.gives(b"help") {
         return Ok(String::new(alloc));
     }
-    let mut column = 0usize;
-    for opt in options {
-        column = column.max(columns(opt).saturating_add(2));
-    }
+    let column = column(alloc, options)?;
     let mut text = String::from_str(alloc, front)?;
     for opt in options {
-        push_option(&mut text, opt)?;
-        push_words(&mut text, opt, column)?;
+        push_option(alloc, &mut text, opt, column)?;
     }
     text.push_str(behind)?;
     Ok(text)

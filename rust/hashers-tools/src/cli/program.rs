@@ -28,9 +28,21 @@ pub trait Program {
     fn name() -> &'static str;
 
     /// What the words behind its name say.
+    ///
+    /// Proved:
+    ///
+    /// ```text
+    /// IfOk result (λ call. sayings call.said.items ≡ says (texts words.now))
+    /// ```
     fn call_of<'a>(alloc: Global, words: &'a [Vec<u8>]) -> Result<Call<'a>, AllocError>;
 
     /// Does what the call asks for. An error is want of memory.
+    ///
+    /// Proved:
+    ///
+    /// ```text
+    /// IfOk result (EndsAs (request_of (sayings call.now.said.items)))
+    /// ```
     fn outcome_of<'a>(
         rt: &'a HostRuntime,
         call: &Call<'a>,
@@ -45,6 +57,12 @@ pub trait Program {
 }
 
 /// Says that there is no memory for a call, and returns the status.
+///
+/// Proved:
+///
+/// ```text
+/// (request : Request) → IsStatus P.Misuse P.Own request result
+/// ```
 #[inline]
 fn without_memory<P: Program>(rt: &HostRuntime) -> u8 {
     ended(
@@ -56,6 +74,12 @@ fn without_memory<P: Program>(rt: &HostRuntime) -> u8 {
 }
 
 /// The status of the program that was called by these words.
+///
+/// Proved:
+///
+/// ```text
+/// IsStatus P.Misuse P.Own (request_of (P.says (texts words.now))) result
+/// ```
 #[inline]
 fn status_of<P: Program>(rt: &HostRuntime, words: &[Vec<u8>]) -> u8 {
     let Ok(call) = P::call_of(rt.alloc(), words) else {
@@ -72,7 +96,13 @@ fn status_of<P: Program>(rt: &HostRuntime, words: &[Vec<u8>]) -> u8 {
     }
 }
 
-/// Runs the program over the words of its call, and returns how it ends. What fails is said on standard error.
+/// Runs the program, and returns its status. What fails is said on standard error.
+///
+/// Proved:
+///
+/// ```text
+/// (words : List (List ℕ)) × IsStatus P.Misuse P.Own (request_of (P.says words)) (exit_status result)
+/// ```
 #[inline]
 pub fn run<P: Program>(rt: &HostRuntime) -> ExitCode {
     match arguments(rt) {

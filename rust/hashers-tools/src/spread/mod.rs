@@ -110,7 +110,9 @@ fn worked(rt: &HostRuntime, call: &Call<'_>, w: &mut BufWriter<Stdout>) -> Resul
 /// Proved:
 ///
 /// ```text
-/// IfOk result (λ outcome. writer_buffer w.old ≡ [] → IsFlushed (writer_buffer w.new) outcome)
+/// flushed: IfOk result (λ outcome. writer_buffer w.old ≡ [] → IsFlushed (writer_buffer w.new) outcome)
+/// ends: MatchResult result (EndsAs (request_of (sayings call.now.said.items)))
+///     (λ fault. EndsAs {Misuse = Misuse} (request_of (sayings call.now.said.items)) (Failed fault))
 /// ```
 #[inline]
 fn told(rt: &HostRuntime, call: &Call<'_>, w: &mut BufWriter<Stdout>) -> Result<Outcome, Failure> {

@@ -44,26 +44,26 @@ pub fn options() -> [Opt; 6] {
     [
         flag(
             Some(b'c'),
-            b"count",
+            "count",
             "at the end, write each line after its count",
         ),
         flag(
             Some(b'd'),
-            b"repeated",
+            "repeated",
             "at the end, write the lines that came more than once",
         ),
         flag(
             Some(b'u'),
-            b"unique",
+            "unique",
             "at the end, write the lines that came once",
         ),
         flag(
             Some(b'z'),
-            b"zero-terminated",
+            "zero-terminated",
             "lines end with a zero byte, not with a newline",
         ),
-        flag(None, b"help", "print this help and exit"),
-        flag(None, b"version", "print the version and exit"),
+        flag(None, "help", "print this help and exit"),
+        flag(None, "version", "print the version and exit"),
     ]
 }
 
@@ -128,8 +128,9 @@ fn of_run(ended: Result<Ended, Failure>) -> Outcome {
 /// Proved:
 ///
 /// ```text
-/// exits: Exits (sayings call.now.said.items) about.entry.help.now about.entry.version.now about.entry.list.now
-///     limit (run_of R.remaining inputs.old inputs.new (writer_contents W.contents) w.old w.new) result
+/// exits: Exits (sayings call.now.said.items)
+///     about.entry.help.now about.entry.version.now about.entry.list.now limit
+///     (run_of R.remaining inputs.old inputs.new (writer_contents W.contents) w.old w.new) result
 /// flushed: IsFlushed (writer_buffer w.new) result
 /// ```
 #[inline]

@@ -1,7 +1,6 @@
-use Rattle.std.proofs.Common.{false, subst}
+use Rattle.std.proofs.Common.{false}
 use Rattle.std.proofs.lemmas.Bool.{false≢true}
 use Rattle.streams.specs.declared.failure.Failure.{Failure}
-use Rattle.hash_cuts.specs.Reading.{BreaksAt, CutsRead}
 use Rattle.hash_chunks.proofs.CutLemmas.{ends-early, ends-refused, ends-taken}
 use Rattle.hash_chunks.specs.declared.failure.TooMany.{TooMany}
 use Rattle.hash_chunks.proofs.cut.cut_file.Goals as goal
@@ -14,40 +13,19 @@ returns-in-Ok-cut_reader_by g c =
 
 pub returns-in-Err-Unread : goal.returns-in-Err-Unread
 returns-in-Err-Unread g c =
-    let cuts = c.args.cuts.now in
-    let opens = g.F.Folder.opens c.args.folder.now c.args.name.now in
-    let held = g.R.Read.remaining c.in-Ok.file in
-    let left = g.R.Read.remaining c.cut_reader_by.new.r in
-    let old = c.args.sink.now in
-    let new = c.cut_reader_by.new.sink in
     let (bytes, rest, refused, why, read) = c.in-Err-Unread.ensures.fault in
-    let breaks = subst (λ why. BreaksAt cuts why bytes rest refused) c.in-Err-Unread.field-0-is why in
-    let unread = subst (λ r. CutsRead g.S.Sink.taken cuts held left old new bytes rest r) breaks.2 read in
-    ends-taken g.S.Sink.taken cuts opens held left old new bytes c.in-Ok.ensures (Failure TooMany) false (λ is. absurd (false≢true is))
-    (λ is. (rest, breaks.1, unread))
+    let breaks = rw c.in-Err-Unread.field-0-is at why in
+    ends-taken g.S.Sink.taken _ _ _ _ _ _ bytes c.in-Ok.ensures (Failure TooMany) false (λ is. absurd (false≢true is))
+    (λ is. (rest, breaks.1, rw breaks.2 at read))
 
 pub returns-in-Err-Refused : goal.returns-in-Err-Refused
 returns-in-Err-Refused g c =
-    let cuts = c.args.cuts.now in
-    let opens = g.F.Folder.opens c.args.folder.now c.args.name.now in
-    let held = g.R.Read.remaining c.in-Ok.file in
-    let left = g.R.Read.remaining c.cut_reader_by.new.r in
-    let old = c.args.sink.now in
-    let new = c.cut_reader_by.new.sink in
     let (bytes, rest, refused, why, read) = c.in-Err-Refused.ensures.fault in
-    let breaks = subst (λ why. BreaksAt cuts why bytes rest refused) c.in-Err-Refused.field-0-is why in
-    ends-refused g.S.Sink.taken cuts opens held left old new bytes c.in-Ok.ensures rest breaks.0
-    (subst (λ r. CutsRead g.S.Sink.taken cuts held left old new bytes rest r) breaks.1 read)
+    let breaks = rw c.in-Err-Refused.field-0-is at why in
+    ends-refused g.S.Sink.taken _ _ _ _ _ _ bytes c.in-Ok.ensures rest breaks.0 (rw breaks.1 at read)
 
 pub returns : goal.returns
 returns g c =
-    let cuts = c.args.cuts.now in
-    let opens = g.F.Folder.opens c.args.folder.now c.args.name.now in
-    let held = g.R.Read.remaining c.in-Ok.file in
-    let left = g.R.Read.remaining c.cut_reader_by.new.r in
-    let old = c.args.sink.now in
-    let new = c.cut_reader_by.new.sink in
     let (bytes, rest, refused, why, read) = c.in-Err-NoMemory.ensures.fault in
-    let breaks = subst (λ why. BreaksAt cuts why bytes rest refused) c.in-Err-NoMemory.field-0-is why in
-    ends-early g.S.Sink.taken cuts opens held left old new bytes c.in-Ok.ensures rest
-    (subst (λ r. CutsRead g.S.Sink.taken cuts held left old new bytes rest r) breaks.1 read)
+    let breaks = rw c.in-Err-NoMemory.field-0-is at why in
+    ends-early g.S.Sink.taken _ _ _ _ _ _ bytes c.in-Ok.ensures rest (rw breaks.1 at read)

@@ -1,6 +1,5 @@
-use Rattle.std.proofs.Common.{MatchOption, IfOk, List, ℕ, subst}
+use Rattle.std.proofs.Common.{List, ℕ}
 use Rattle.hash_lines.specs.Forms.{IsBlankForm}
-use Rattle.hash_lines.specs.Told.{Tells, TellsNothing}
 use Rattle.hash_lines.proofs.FormLemmas.{found_in, blank_plain_one}
 use Rattle.hash_lines.proofs.forms.blank_entry.Goals as goal
 
@@ -10,9 +9,7 @@ returns-in-Some c =
     let plain = c.in-Some.plain.items in
     let form : IsBlankForm line plain = rw c.in-Some.is at c.in_ok-plain.ensures in
     found_in IsBlankForm c.args.kinds.now c.args.kind line plain form (λ other also. blank_plain_one line plain other form also)
-    c.parse_line.result
-    (subst (λ t. IfOk c.parse_line.result (λ found. MatchOption found (TellsNothing c.args.kinds.now c.args.kind t)
-    (λ entry. Tells c.args.kinds.now c.args.kind entry.kind entry.name.items entry.number t))) c.deref.ensures.value c.parse_line.ensures)
+    c.parse_line.result (rw c.deref.ensures.value at c.parse_line.ensures)
 
 pub returns-in-None : goal.returns-in-None
 returns-in-None c =

@@ -1,26 +1,23 @@
 use Rattle.std.specs.Prelude.{codes}
 use Rattle.std.proofs.Common.{◌≢◌, ℕ, List, lit<, mod-lt, refl}
 use Rattle.hash_windows.specs.DifferWithin.{DifferInOneBlock}
-use Rattle.hash_murmur3.specs.Murmur3.{murmur3_32}
 use Rattle.hash_murmur3.specs.Murmur3x128.{murmur3_128}
 use Rattle.hash_names.specs.Wide.{murmur3_128_of}
 use Rattle.hash_names.specs.Named.{kind_named}
 use Rattle.hash_sums.specs.Sums.{number_named}
 use Rattle.hash_sums.proofs.KeyLemmas.{parts_are}
-use Rattle.hash_sums.proofs.LawLemmas.{named_never_passes}
+use Rattle.hash_names.specs.declared.table.Kind.TheVariants.{Murmur3At32, Xxh32}
+use Rattle.hash_sums.proofs.LawLemmas.{kind_never_passes, named_never_passes}
 use Rattle.hash_sums.proofs.laws.a_changed_block_never_passes.Goals as goal
-use Rattle.hash_xxhash.specs.Xxh32.{xxh32}
 use Rattle.block_laws.specs.Xxh32Words.{DifferInOneWord}
 
 pub returns-clause-murmur3_32 : goal.returns-clause-murmur3_32
-unfolding number_named kind_named
 returns-clause-murmur3_32 g c =
-    named_never_passes g.F.Folder.opens (codes "murmur3_32") (murmur3_32 0) (DifferInOneBlock 4) refl (λ x y is_text also differ. c.one_changed_word_shows_in_murmur3_32.ensures 0 x y (lit< tt) is_text also differ)
+    kind_never_passes g.F.Folder.opens Murmur3At32 (DifferInOneBlock 4) (λ x y is_text also differ. c.one_changed_word_shows_in_murmur3_32.ensures 0 x y (lit< tt) is_text also differ)
 
 pub returns-clause-xxh32 : goal.returns-clause-xxh32
-unfolding number_named kind_named
 returns-clause-xxh32 g c =
-    named_never_passes g.F.Folder.opens (codes "xxh32") (xxh32 0) DifferInOneWord refl (λ x y is_text also differ. c.one_changed_word_shows_in_xxh32.ensures 0 x y (lit< tt) is_text also differ)
+    kind_never_passes g.F.Folder.opens Xxh32 DifferInOneWord (λ x y is_text also differ. c.one_changed_word_shows_in_xxh32.ensures 0 x y (lit< tt) is_text also differ)
 
 -- different words are different numbers
 words_show : (x y : List ℕ) → murmur3_128 0 x ≢ murmur3_128 0 y → murmur3_128_of x ≢ murmur3_128_of y

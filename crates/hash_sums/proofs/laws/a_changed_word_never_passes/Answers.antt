@@ -1,15 +1,13 @@
-use Rattle.std.specs.Prelude.{codes}
-use Rattle.std.proofs.Common.{ℕ, List, [], ◌∷◌, ◌++◌, All, append-nil, ap, sym, subst, refl}
+use Rattle.std.proofs.Common.{ℕ, List, [], ◌∷◌, ◌++◌, All, append-nil, ap, sym, subst}
 use Rattle.std.proofs.lemmas.List.Elements.{All-cons, All-nil}
 use denote.Bor.{Bor}
 use Rattle.hashers.specs.DifferWithin.{DifferAtOnePlace}
-use Rattle.hashers.specs.Fx.{fx32, fx64, words32, words64}
+use Rattle.hashers.specs.Fx.{words32, words64}
 use Rattle.hashers.specs.Pieces.{DifferByOneWord}
 use Rattle.hashers.specs.Text.{IsText, texts}
 use Rattle.hash_sums.specs.Laws.{DifferAtOneWord}
-use Rattle.hash_names.specs.Named.{kind_named}
-use Rattle.hash_sums.specs.Sums.{number_named}
-use Rattle.hash_sums.proofs.LawLemmas.{named_never_passes}
+use Rattle.hash_names.specs.declared.table.Kind.TheVariants.{FxHash, FxHash32, FxHash64}
+use Rattle.hash_sums.proofs.LawLemmas.{kind_never_passes}
 use Rattle.hash_sums.proofs.laws.a_changed_word_never_passes.Goals as goal
 
 -- a text as one piece
@@ -27,16 +25,13 @@ one_word words x y (same, differ) = record {
 }
 
 pub returns-clause-fxhash : goal.returns-clause-fxhash
-unfolding number_named kind_named
 returns-clause-fxhash g c =
-    named_never_passes g.F.Folder.opens (codes "fxhash") (λ text. fx64 0 (words64 text)) (DifferAtOneWord words64) refl (λ x y is_text also differ. c.one_changed_word_shows_fx.ensures.at_64 (piece x ∷ []) (piece y ∷ []) (is_one x is_text) (is_one y also) (one_word words64 x y differ))
+    kind_never_passes g.F.Folder.opens FxHash (DifferAtOneWord words64) (λ x y is_text also differ. c.one_changed_word_shows_fx.ensures.at_64 (piece x ∷ []) (piece y ∷ []) (is_one x is_text) (is_one y also) (one_word words64 x y differ))
 
 pub returns-clause-fxhash64 : goal.returns-clause-fxhash64
-unfolding number_named kind_named
 returns-clause-fxhash64 g c =
-    named_never_passes g.F.Folder.opens (codes "fxhash64") (λ text. fx64 0 (words64 text)) (DifferAtOneWord words64) refl (λ x y is_text also differ. c.one_changed_word_shows_fx.ensures.at_64 (piece x ∷ []) (piece y ∷ []) (is_one x is_text) (is_one y also) (one_word words64 x y differ))
+    kind_never_passes g.F.Folder.opens FxHash64 (DifferAtOneWord words64) (λ x y is_text also differ. c.one_changed_word_shows_fx.ensures.at_64 (piece x ∷ []) (piece y ∷ []) (is_one x is_text) (is_one y also) (one_word words64 x y differ))
 
 pub returns-clause-fxhash32 : goal.returns-clause-fxhash32
-unfolding number_named kind_named
 returns-clause-fxhash32 g c =
-    named_never_passes g.F.Folder.opens (codes "fxhash32") (λ text. fx32 0 (words32 text)) (DifferAtOneWord words32) refl (λ x y is_text also differ. c.one_changed_word_shows_fx.ensures.at_32 (piece x ∷ []) (piece y ∷ []) (is_one x is_text) (is_one y also) (one_word words32 x y differ))
+    kind_never_passes g.F.Folder.opens FxHash32 (DifferAtOneWord words32) (λ x y is_text also differ. c.one_changed_word_shows_fx.ensures.at_32 (piece x ∷ []) (piece y ∷ []) (is_one x is_text) (is_one y also) (one_word words32 x y differ))

@@ -1,20 +1,12 @@
 use Rattle.std.proofs.Common.{◌≡◌, ℕ, Some, true, false, refl}
-use Rattle.hash_names.specs.declared.table.Kind.{Kind}
-use Rattle.hash_names.specs.declared.table.Kind.TheVariants.{Fnv1a32}
-use Rattle.hash_names.specs.Named.{kind_named, name_of, read_of}
 use Rattle.hash_sums.specs.declared.sums.Sum.{Sum}
 use Rattle.hash_sums.specs.declared.sums.Sum.TheVariants.{Table, Poly61, SipHash24}
 use Rattle.hash_sums.specs.declared.sums.Sum.TheVariants as sum
 use Rattle.hash_sums.specs.declared.sums.Wide.{Wide}
 use Rattle.hash_sums.specs.declared.sums.Wide.TheVariants as wide
 use Rattle.hash_sums.specs.Sums.{name_in, number_named, sum_of, takes_keys, wide_name, wide_of}
+use Rattle.hash_sums.proofs.LawLemmas.{row_is}
 use Rattle.hash_sums.proofs.laws.each_kind_has_the_hash_of_its_name.Goals as goal
-
--- row by row
-row_is : (kind : Kind) → number_named (name_of kind) ≡ Some (read_of kind)
-unfolding number_named kind_named
-row_is Fnv1a32 = refl
-row_is kind = refl
 
 wide_is : (it : Wide) → number_named (wide_name it) ≡ Some (wide_of it)
 unfolding number_named

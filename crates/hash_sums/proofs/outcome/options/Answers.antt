@@ -8,20 +8,20 @@ next one more = ap₂ (λ (c : Choice) cs. c ∷ cs) one more
 
 pub returns : goal.returns
 returns c =
-    next c.taking.ensures (
-    next c.taking-2.ensures (
-    next c.flag.ensures (
-    next c.flag-2.ensures (
-    next c.flag-3.ensures (
-    next c.flag-4.ensures (
-    next c.flag-5.ensures (
-    next c.flag-6.ensures (
-    next c.flag-7.ensures (
-    next c.flag-8.ensures (
-    next c.flag-9.ensures (
-    next c.flag-10.ensures (
-    next c.flag-11.ensures (
-    next c.flag-12.ensures (
-    next c.flag-13.ensures (
-    next c.flag-14.ensures (
+    next c.taking.ensures.choice (
+    next c.taking-2.ensures.choice (
+    next c.flag.ensures.choice (
+    next c.flag-2.ensures.choice (
+    next c.flag-3.ensures.choice (
+    next c.flag-4.ensures.choice (
+    next c.flag-5.ensures.choice (
+    next c.flag-6.ensures.choice (
+    next c.flag-7.ensures.choice (
+    next c.flag-8.ensures.choice (
+    next c.flag-9.ensures.choice (
+    next c.flag-10.ensures.choice (
+    next c.flag-11.ensures.choice (
+    next c.flag-12.ensures.choice (
+    next c.flag-13.ensures.choice (
+    next c.flag-14.ensures.choice (
     refl))))))))))))))))

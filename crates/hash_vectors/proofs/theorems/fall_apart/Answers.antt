@@ -1,4 +1,4 @@
-use Rattle.std.proofs.Common.{◌≤◌, IsTrue, arith}
+use Rattle.std.proofs.Common.{◌≤◌, arith}
 use Rattle.std.proofs.lemmas.Bool.Decides.{nat_tests}
 use Rattle.hash_spread.specs.Counts.{IsSpread}
 use Rattle.hash_vectors.proofs.theorems.fall_apart.Goals as goal

@@ -1,4 +1,4 @@
-use Rattle.std.proofs.Common.{◌∙◌, ◌≡◌, refl, rules, arith}
+use Rattle.std.proofs.Common.{◌∙◌, ◌≡◌, refl, rules}
 use Rattle.std.specs.Iterator.Adapters.{rev_source}
 use Rattle.std.specs.Slice.Iter.{iter_rest}
 use Rattle.hashers.proofs.ByteLemmas.{undoing_none, undoing_more, undoing_all, undone}

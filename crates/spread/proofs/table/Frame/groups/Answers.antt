@@ -1,4 +1,4 @@
-use Rattle.std.proofs.Common.{◌≡◌, ◌∷◌, [], ap, sym, ◌∙◌, IfOk}
+use Rattle.std.proofs.Common.{◌∷◌, [], ◌∙◌}
 use Rattle.std.specs.Prelude.{codes, string_bytes}
 use Rattle.spread.specs.Lines.{AreCells, counted, groups, in_buckets}
 use Rattle.spread.proofs.CellLemmas.{ended_line, first_cell, one_more}

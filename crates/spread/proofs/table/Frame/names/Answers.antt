@@ -1,4 +1,4 @@
-use Rattle.std.proofs.Common.{◌≡◌, ◌∷◌, [], ap, sym, ◌∙◌, refl, append-nil, IfOk}
+use Rattle.std.proofs.Common.{◌∷◌, [], sym, refl, append-nil}
 use Rattle.std.specs.Prelude.{codes, string_bytes}
 use Rattle.spread.specs.Lines.{AreCells, heads, number_heads}
 use Rattle.spread.proofs.CellLemmas.{ended_line, first_cell, one_more}

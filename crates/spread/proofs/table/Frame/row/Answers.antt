@@ -1,4 +1,4 @@
-use Rattle.std.proofs.Common.{◌≡◌, ◌∷◌, [], ap, sym, ◌∙◌, refl, map, IfOk}
+use Rattle.std.proofs.Common.{◌≡◌, ◌∷◌, [], ap, sym, ◌∙◌, map}
 use Rattle.std.specs.Prelude.{decimal, string_bytes}
 use Rattle.hash_names.specs.Named.{name_of}
 use Rattle.hash_spread.specs.Table.{row_numbers}

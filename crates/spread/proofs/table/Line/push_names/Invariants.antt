@@ -1,4 +1,4 @@
-use Rattle.std.proofs.Common.{map, take}
+use Rattle.std.proofs.Common.{take}
 use Rattle.std.specs.Prelude.{string_bytes}
 use Rattle.spread.specs.Lines.{AddsCells, names}
 use Rattle.spread.proofs.table.Line.push_names.Given as goal

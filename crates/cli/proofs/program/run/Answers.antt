@@ -1,0 +1,7 @@
+use Rattle.std.proofs.Common.{[], sym, subst}
+use Rattle.cli.specs.Program.{IsStatus}
+use Rattle.cli.specs.Frame.{request_of}
+use Rattle.cli.proofs.program.run.Goals as goal
+
+pub returns-in-Err : goal.returns-in-Err
+returns-in-Err g c = ([], subst (IsStatus _ _ _) (sym c.from-in-Err.ensures) (c.without_memory.ensures _))
