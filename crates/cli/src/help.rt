@@ -49,12 +49,7 @@ fn push_spaces(text: &mut String, count: usize) -> Result<(), AllocError>
 }
 
 /// Puts an option behind a text, and what it does, each line from the column on.
-fn push_option(
-    alloc: Global,
-    text: &mut String,
-    opt: &Opt,
-    column: usize,
-) -> Result<(), AllocError>
+fn push_option(alloc: Global, text: &mut String, opt: &Opt, column: usize) -> Result<(), AllocError>
     ensures { OnOk result (string_bytes text.new ≡ string_bytes text.old ++ shown column opt.now) }
 {
     let label = label(alloc, opt)?;

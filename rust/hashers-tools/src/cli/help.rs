@@ -71,12 +71,7 @@ fn push_spaces(text: &mut String, count: usize) -> Result<(), AllocError> {
 /// OnOk result (string_bytes text.new ≡ string_bytes text.old ++ shown column opt.now)
 /// ```
 #[inline]
-fn push_option(
-    alloc: Global,
-    text: &mut String,
-    opt: &Opt,
-    column: usize,
-) -> Result<(), AllocError> {
+fn push_option(alloc: Global, text: &mut String, opt: &Opt, column: usize) -> Result<(), AllocError> {
     let label = label(alloc, opt)?;
     text.push_str(&label)?;
     let mut at = label.len();
