@@ -1,6 +1,5 @@
 use Rattle.std.proofs.Common.{[], sym, subst}
 use Rattle.cli.specs.Program.{IsStatus}
-use Rattle.cli.specs.Frame.{request_of}
 use Rattle.cli.proofs.program.run.Goals as goal
 
 pub returns-in-Err : goal.returns-in-Err
