@@ -73,7 +73,7 @@ pub fn le64(bytes: &[u8; 8]) -> u64
     u64::from_le_bytes(*bytes)
 }
 
-/// Two little-endian words of eight bytes each, read as one number: LLVM makes vectors of words that are read alone, and takes them
+/// Two little-endian words of eight bytes each, read as one number: rustc makes vectors of words that are read alone, and takes them
 /// apart again where each is multiplied.
 #[inline(always)]
 pub fn le_two(bytes: &[u8; 16]) -> (u64, u64)
