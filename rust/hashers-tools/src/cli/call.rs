@@ -31,7 +31,8 @@ pub struct Opt {
 ///
 /// ```text
 /// choice: choice_of result ≡ flag letter name.now
-/// shown: (result.value.now ≡ []) × (result.words.now ≡ words.now)
+/// value: result.value.now ≡ []
+/// words: result.words.now ≡ words.now
 /// ```
 #[inline]
 pub fn flag(letter: Option<u8>, name: &'static str, words: &'static str) -> Opt {
@@ -50,7 +51,8 @@ pub fn flag(letter: Option<u8>, name: &'static str, words: &'static str) -> Opt 
 ///
 /// ```text
 /// choice: choice_of result ≡ taking letter name.now
-/// shown: (result.value.now ≡ value.now) × (result.words.now ≡ words.now)
+/// value: result.value.now ≡ value.now
+/// words: result.words.now ≡ words.now
 /// ```
 #[inline]
 pub fn taking(

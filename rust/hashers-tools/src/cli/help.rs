@@ -56,7 +56,7 @@ fn column(alloc: Global, options: &[Opt]) -> Result<usize, AllocError> {
 /// OnOk result (string_bytes text.new ≡ string_bytes text.old ++ replicate count 32)
 /// ```
 #[inline]
-fn push_spaces(text: &mut String, count: usize) -> Result<(), AllocError> {
+pub fn push_spaces(text: &mut String, count: usize) -> Result<(), AllocError> {
     for _ in 0..count {
         text.push(' ')?;
     }
@@ -84,7 +84,8 @@ fn push_option(alloc: Global, text: &mut String, opt: &Opt, column: usize) -> Re
     Ok(())
 }
 
-/// The help of a program. It is made where the call asks for it, and is empty else.
+/// The help of a program: what stands in front of its options, each of them with what it does, and what stands behind. It is made
+/// where the call asks for it, and is empty else.
 ///
 /// Proved:
 ///

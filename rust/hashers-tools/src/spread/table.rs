@@ -3,9 +3,10 @@
 // What follows is the proved text of crates/spread/src/table.rt without its contracts.
 // Proofs name the loop.
 #![allow(unused_labels)]
-use crate::hash_spread;
+use crate::{cli, hash_spread};
 use hashers_proved::shim::{String, Vec, format, std};
 
+use cli::help::push_spaces;
 use hash_spread::chance::{Chance, equal_pairs};
 use hash_spread::rows::TableRow;
 use hash_spread::sizes::Sizes;
@@ -140,21 +141,6 @@ impl Line {
         self.text.push('\n')?;
         Ok(self.text)
     }
-}
-
-/// Puts so many spaces behind a text.
-///
-/// Proved:
-///
-/// ```text
-/// OnOk result (string_bytes text.new ≡ string_bytes text.old ++ replicate spaces 32)
-/// ```
-#[inline]
-fn push_spaces(text: &mut String, spaces: usize) -> Result<(), AllocError> {
-    'spaces: for _ in 0..spaces {
-        text.push(' ')?;
-    }
-    Ok(())
 }
 
 /// How many digits a number has.
