@@ -15,6 +15,11 @@ pub data Position : Type 0 where
 abbrev pub more_stripes : ℕ → ℕ
 more_stripes len = (len - 65) / 64
 
+-- the words that a longer text ends in, from those after the first stripe of t, which is its end
+abbrev pub kept_words : (secret : List ℕ) → Lanes → List ℕ → List ℕ
+kept_words secret lanes t =
+    last_words secret (stripes_in secret lanes (more_stripes (length t)) (drop 64 t)).words (drop (64 * more_stripes (length t)) t)
+
 -- from the words after the first stripe of t to those after the last that has a byte behind it
 unfoldable pub advanced : ℕ → Lanes → (len : ℕ) → List ℕ → Position
 advanced seed lanes len t =

@@ -9,8 +9,8 @@ use Rattle.std.proofs.lemmas.List.{append_assoc, append-nil, drop-append-le, dro
 use Rattle.std.proofs.lemmas.List.Elements.{All-nil, All-append, All-drop}
 use Rattle.hash_laws.specs.Text.{IsText}
 use Rattle.hash_laws.proofs.TextLemmas.{IsByte}
-use Rattle.hash_xxh3.specs.Long.{IsLanes, secret_of, start_lanes, stripes_in, accumulate, merge, last_words, end_words, end_long, long_under, of_long}
-use Rattle.hash_xxh3.specs.Streaming.{Position, Short, Long, more_stripes, advanced, long_position, position, after, hash, IsPosition, Xxh3StandsAt, xxh3_from}
+use Rattle.hash_xxh3.specs.Long.{IsLanes, secret_of, start_lanes, stripes_in, accumulate, merge, end_words, end_long, long_under, of_long}
+use Rattle.hash_xxh3.specs.Streaming.{Position, Short, Long, more_stripes, kept_words, advanced, long_position, position, after, hash, IsPosition, Xxh3StandsAt, xxh3_from}
 use Rattle.hash_xxh3.specs.Xxh3.{xxh3_64_of}
 use Rattle.hash_xxh3.specs.declared.long.Lanes.{Lanes}
 use Rattle.hash_xxh3.specs.LaneLaws.{start_in, stripes-kept}
@@ -19,7 +19,7 @@ use Rattle.hash_xxh3.specs.StripeLaws.{stripes_in-add, stripes_in-prefix}
 -- ---- longer texts
 
 -- where a text leads, more bytes lead on
-advanced_on : (seed : ℕ) (lanes : Lanes) (len : ℕ) (t p : List ℕ) → 65 ≤ length t
+pub advanced_on : (seed : ℕ) (lanes : Lanes) (len : ℕ) (t p : List ℕ) → 65 ≤ length t
     → after (advanced seed lanes len t) p ≡ advanced seed lanes ((len + length p) % 2 ^ 64) (t ++ p)
 unfolding advanced
 advanced_on seed lanes len t p some =
@@ -76,8 +76,7 @@ module _ (seed : ℕ) (m : List ℕ) where
 
   -- the words that a longer text ends in are those at its position
   pub end_words-position : 241 ≤ length m
-      → last_words (secret_of seed) (stripes_in (secret_of seed) (stripes_in (secret_of seed) start_lanes 1 m) (more_stripes (length m)) (drop 64 m)).words
-      (drop (64 * more_stripes (length m)) m) ≡ end_words (secret_of seed) m
+      → kept_words (secret_of seed) (stripes_in (secret_of seed) start_lanes 1 m) m ≡ end_words (secret_of seed) m
   end_words-position above =
       let n = length m in
       let a = more_stripes n in
@@ -104,7 +103,7 @@ module _ (seed : ℕ) (m : List ℕ) where
 
 -- ---- positions in range
 
-IsLong-advanced : (seed : ℕ) (lanes : Lanes) (len : ℕ) (t : List ℕ) → IsLanes lanes → seed < 2 ^ 64 → len < 2 ^ 64 → IsText t → 65 ≤ length t
+pub IsLong-advanced : (seed : ℕ) (lanes : Lanes) (len : ℕ) (t : List ℕ) → IsLanes lanes → seed < 2 ^ 64 → len < 2 ^ 64 → IsText t → 65 ≤ length t
     → IsPosition (advanced seed lanes len t)
 unfolding advanced
 IsLong-advanced seed lanes len t lanes_in seed_in len_in bytes some =

@@ -1,10 +1,10 @@
 //! How a hasher of a text of more than 240 bytes goes on.
 ghost use Rattle.std.specs.Prelude.{◌≡◌, ◌+◌, ◌-◌, ◌*◌, ◌/◌, ◌%◌, ◌^◌, ◌<◌, ◌≤◌, ℕ, ◌++◌, length, take, drop};
 ghost use Rattle.hash_xxh3.specs.Long.{secret_of};
-ghost use Rattle.hash_xxh3.specs.Streaming.{Long, advanced, position};
+ghost use Rattle.hash_xxh3.specs.Streaming.{advanced, position};
 ghost use Rattle.hash_xxh3.specs.declared.long.Lanes.{Lanes};
 
-use crate::long::{Lanes, START, STRIPE, stripe_in, stripes_in};
+use crate::long::{Lanes, START, STRIPE, stripes_in};
 use crate::secret::{default_secret, secret_of};
 use hash_words::put;
 
@@ -27,17 +27,7 @@ fn keep(buffer: &mut [u8; 256], stripe: &[u8; 64], rest: &[u8]) -> usize
     }
 }
 
-// The second stripe of a buffer.
-#[inline(always)]
-fn second_stripe(buffer: &[u8]) -> [u8; 64]
-    requires { 128 ≤ length buffer.now }
-    ensures { result ≡ take 64 (drop 64 buffer.now) }
-{
-    let (_, behind) = buffer.split_at(STRIPE);
-    *behind.first_chunk::<64>().unwrap()
-}
-
-// Fills the second stripe, and goes on over the bytes behind it, of which there is one at least.
+// Fills the last stripe, and goes on over the bytes behind it, of which there is one at least.
 #[inline(never)]
 fn advance_through(
     secret: &[u8; 192],
@@ -48,39 +38,39 @@ fn advance_through(
 ) -> usize
     requires block { lanes.old.stripe < 16 }
     requires one { 64 ≤ kept }
-    requires room { kept ≤ 128 }
-    requires enough { 128 < kept + length bytes.now }
+    requires room { kept ≤ 256 }
+    requires enough { 256 < kept + length bytes.now }
     ensures position { (seed len : ℕ) → secret.now ≡ secret_of seed
-        → Long seed lanes.new len (take result buffer.new)
+        → advanced seed lanes.new len (take result buffer.new)
         ≡ advanced seed lanes.old len (take kept buffer.old ++ bytes.now) }
     ensures some { 65 ≤ result }
-    ensures few { result ≤ 128 }
+    ensures few { result ≤ 256 }
     ensures in_block { lanes.new.stripe < 16 }
 {
-    let (head, rest) = bytes.split_at(128 - kept);
+    let end = (kept + 63) / STRIPE * STRIPE;
+    let (head, rest) = bytes.split_at(end - kept);
     put(buffer, kept, head);
-    let stripe = second_stripe(buffer);
+    let (full, _) = buffer.split_at(end);
+    let (_, behind) = full.split_at(STRIPE);
+    let stripe = *full.last_chunk::<64>().unwrap();
     let (stripes, _) = rest.split_at((rest.len() - 1) / STRIPE * STRIPE);
-    let next = stripe_in(secret, *lanes, &stripe);
+    let next = stripes_in(secret, *lanes, behind);
     *lanes = stripes_in(secret, next, stripes);
     keep(buffer, &stripe, rest)
 }
 
-/// Keeps the bytes, behind which no stripe more has a byte behind it.
+/// Keeps the bytes, for which there is room.
 #[inline(always)]
 pub(crate) fn keep_all(buffer: &mut [u8; 256], kept: usize, bytes: &[u8]) -> usize
-    requires one { 65 ≤ kept }
-    requires room { kept + length bytes.now ≤ 128 }
-    ensures position { (seed len : ℕ) (lanes : Lanes)
-        → Long seed lanes len (take result buffer.new) ≡ advanced seed lanes len (take kept buffer.old ++ bytes.now) }
-    ensures some { 65 ≤ result }
-    ensures few { result ≤ 128 }
+    requires { kept + length bytes.now ≤ 256 }
+    ensures kept { take result buffer.new ≡ take kept buffer.old ++ bytes.now }
+    ensures count { result ≡ kept + length bytes.now }
 {
     put(buffer, kept, bytes);
     kept + bytes.len()
 }
 
-/// Goes on over more bytes, from one whole stripe and a part of the next. As many are kept then as the result says.
+/// Goes on over more bytes, where a whole stripe and something behind it are kept. As many are kept then as the result says.
 #[inline(always)]
 pub(crate) fn advance(
     secret: &[u8; 192],
@@ -91,22 +81,22 @@ pub(crate) fn advance(
 ) -> usize
     requires block { lanes.old.stripe < 16 }
     requires one { 65 ≤ kept }
-    requires room { kept ≤ 128 }
+    requires room { kept ≤ 256 }
     ensures position { (seed len : ℕ) → secret.now ≡ secret_of seed
-        → Long seed lanes.new len (take result buffer.new)
+        → advanced seed lanes.new len (take result buffer.new)
         ≡ advanced seed lanes.old len (take kept buffer.old ++ bytes.now) }
     ensures some { 65 ≤ result }
-    ensures few { result ≤ 128 }
+    ensures few { result ≤ 256 }
     ensures in_block { lanes.new.stripe < 16 }
 {
-    if bytes.len() <= 128 - kept {
+    if bytes.len() <= 256 - kept {
         keep_all(buffer, kept, bytes)
     } else {
         advance_through(secret, lanes, buffer, kept, bytes)
     }
 }
 
-/// Goes on over bytes that make a stripe more whole, under the secret of a seed.
+/// Goes on over bytes that are more than the buffer has room for, under the secret of a seed.
 #[inline(always)]
 #[tactic(auto, using(crate::proofs::SecretLemmas::secret_of_none))]
 pub(crate) fn advance_under(
@@ -118,12 +108,12 @@ pub(crate) fn advance_under(
 ) -> usize
     requires block { lanes.old.stripe < 16 }
     requires one { 64 ≤ kept }
-    requires room { kept ≤ 128 }
-    requires enough { 128 < kept + length bytes.now }
-    ensures position { (len : ℕ) → Long seed lanes.new len (take result buffer.new)
+    requires room { kept ≤ 256 }
+    requires enough { 256 < kept + length bytes.now }
+    ensures position { (len : ℕ) → advanced seed lanes.new len (take result buffer.new)
         ≡ advanced seed lanes.old len (take kept buffer.old ++ bytes.now) }
     ensures some { 65 ≤ result }
-    ensures few { result ≤ 128 }
+    ensures few { result ≤ 256 }
     ensures in_block { lanes.new.stripe < 16 }
 {
     if seed == 0 {
@@ -131,19 +121,6 @@ pub(crate) fn advance_under(
     } else {
         advance_through(&secret_of(seed), lanes, buffer, kept, bytes)
     }
-}
-
-/// The words after the first three stripes of 241 to 256 bytes. The third of them and what is behind it go to the front.
-#[inline(always)]
-pub(crate) fn begin(secret: &[u8; 192], buffer: &mut [u8; 256]) -> Lanes
-    ensures position { (seed end : ℕ) → secret.now ≡ secret_of seed → 241 ≤ end → end ≤ 256
-        → Long seed result end (take (end - 128) buffer.new) ≡ position seed (take end buffer.old) }
-    ensures in_block { result.stripe < 16 }
-{
-    let lanes = stripes_in(secret, START, &buffer[..192]);
-    let behind = *buffer.last_chunk::<128>().unwrap();
-    put(buffer, 0, &behind);
-    lanes
 }
 
 /// Goes on over the bytes that make a short text a long one. As many are kept then as the result says.
@@ -158,15 +135,15 @@ pub(crate) fn begin_through(
     requires short { kept < 241 }
     requires enough { 241 ≤ kept + length bytes.now }
     ensures position { (seed : ℕ) → secret.now ≡ secret_of seed
-        → Long seed lanes.new ((kept + length bytes.now) % 2 ^ 64) (take result buffer.new)
+        → advanced seed lanes.new ((kept + length bytes.now) % 2 ^ 64) (take result buffer.new)
         ≡ position seed (take kept buffer.old ++ bytes.now) }
     ensures some { 65 ≤ result }
-    ensures few { result ≤ 128 }
+    ensures few { result ≤ 256 }
     ensures in_block { lanes.new.stripe < 16 }
 {
     let (head, rest) = bytes.split_at((256 - kept).min(bytes.len()));
     put(buffer, kept, head);
     let end = kept + head.len();
-    *lanes = begin(secret, buffer);
-    advance(secret, lanes, buffer, end - 128, rest)
+    *lanes = stripes_in(secret, START, &buffer[..STRIPE]);
+    advance(secret, lanes, buffer, end, rest)
 }

@@ -1,6 +1,7 @@
 //! XXH3 of more than 240 bytes.
 ghost use Rattle.std.specs.Prelude.{◌≡◌, ◌+◌, ◌-◌, ◌*◌, ◌/◌, ◌%◌, ◌≤◌, ◌<◌, length};
 ghost use Rattle.hash_xxh3.specs.Long.{IsLanes, secret_of, start_words, start_lanes, halves_product, lane, accumulate, scrambled, scramble, stripe_in, stripes_in, merge_pair, merge, last_words, end_words, end_long, long_under, of_long};
+ghost use Rattle.hash_xxh3.specs.Streaming.{kept_words};
 
 use crate::middle::length_word;
 use crate::secret::{default_secret, put_secret};
@@ -217,13 +218,29 @@ pub(crate) fn end_long(secret: &[u8; 192], words: &[u64; 8], len: u64) -> u64
     merge(words, secret, 11, length_word(len))
 }
 
-/// The hash of so many bytes by the words after the stripes that have a byte behind them, and what is kept of the text.
+/// The words that a text of more than 240 bytes ends in, from those after the first stripe of what is kept of it.
 #[inline(always)]
-pub(crate) fn end_kept(secret: &[u8; 192], words: &[u64; 8], kept: &[u8], len: u64) -> u64
-    requires { 64 ≤ length kept.now }
-    ensures { result ≡ end_long secret.now (last_words secret.now words.now kept.now) len }
+pub(crate) fn kept_words(secret: &[u8; 192], lanes: &Lanes, kept: &[u8]) -> [u64; 8]
+    requires block { lanes.now.stripe < 16 }
+    requires some { 65 ≤ length kept.now }
+    ensures { result ≡ kept_words secret.now lanes.now kept.now }
 {
-    end_long(secret, &last_words(secret, words, kept), len)
+    let whole = (kept.len() - 65) / STRIPE * STRIPE;
+    let (_, behind) = kept.split_at(STRIPE);
+    let (stripes, _) = behind.split_at(whole);
+    let next = stripes_in(secret, *lanes, stripes);
+    let (_, end) = kept.split_at(whole);
+    last_words(secret, &next.words, end)
+}
+
+/// The hash of so many bytes by the words after the first stripe of what is kept of the text.
+#[inline(always)]
+pub(crate) fn end_kept(secret: &[u8; 192], lanes: &Lanes, kept: &[u8], len: u64) -> u64
+    requires block { lanes.now.stripe < 16 }
+    requires some { 65 ≤ length kept.now }
+    ensures { result ≡ end_long secret.now (kept_words secret.now lanes.now kept.now) len }
+{
+    end_long(secret, &kept_words(secret, lanes, kept), len)
 }
 
 // XXH3 of more than 240 bytes under a secret.

@@ -2,7 +2,7 @@
 ghost use Rattle.std.specs.Prelude.{◌≡◌, ◌+◌, ◌<◌, ◌≤◌, true, false, length, take, if◌then◌else◌, []};
 ghost use Rattle.hash_xxh3.specs.Long.{IsLanes};
 ghost use Rattle.hash_xxh3.specs.Parts.{position_of, IsSettled};
-ghost use Rattle.hash_xxh3.specs.Streaming.{Short, Long, position, after, hash};
+ghost use Rattle.hash_xxh3.specs.Streaming.{Short, advanced, position, after, hash};
 ghost use Rattle.hash_xxh3.specs.Wide.{wide_hash};
 
 use crate::advance::{advance, begin_through};
@@ -13,8 +13,8 @@ use crate::wide::{wide_end_kept, wide_kept};
 use hash_laws::traits::bytes_are_a_text;
 use hash_words::put;
 
-/// The numbers that a hasher keeps: of a text of at most 240 bytes the text, and of a longer one the eight words, and the
-/// last stripe that has a byte behind it with the bytes behind it.
+/// The numbers that a hasher keeps: of a text of at most 240 bytes the text, and of a longer one the eight words after a
+/// stripe, and that stripe with the bytes behind it, of which there is one at least.
 #[derive(Clone, Copy)]
 pub(crate) struct Xxh3Parts {
     pub seed: u64,
@@ -57,9 +57,9 @@ impl Xxh3Parts {
         requires lanes { IsLanes lanes }
         requires short { long ≡ false → kept < 241 }
         requires some { long ≡ true → 65 ≤ kept }
-        requires few { long ≡ true → kept ≤ 128 }
+        requires few { long ≡ true → kept ≤ 256 }
         ensures position { position_of result
-            ≡ (if long then Long seed lanes length (take kept buffer) else Short seed (take kept buffer)) }
+            ≡ (if long then advanced seed lanes length (take kept buffer) else Short seed (take kept buffer)) }
         ensures settled { IsSettled result }
     {
         bytes_are_a_text(&buffer);
@@ -112,13 +112,14 @@ impl Xxh3Parts {
 
     /// The hash of the bytes so far.
     #[inline(always)]
+    #[tactic(auto, unfolding(crate::specs::Streaming::advanced))]
     pub(crate) fn finish(&self) -> u64
         requires { IsSettled self.now }
         ensures { result ≡ hash (position_of self.now) }
     {
         let text = &self.buffer[..self.kept];
         if self.long {
-            end_kept(&self.secret, &self.lanes.words, text, self.length)
+            end_kept(&self.secret, &self.lanes, text, self.length)
         } else {
             of_kept(self.seed, text)
         }
@@ -126,13 +127,14 @@ impl Xxh3Parts {
 
     /// The hash of 128 bits of the bytes so far.
     #[inline(always)]
+    #[tactic(auto, unfolding(crate::specs::Streaming::advanced))]
     pub(crate) fn finish128(&self) -> (u64, u64)
         requires { IsSettled self.now }
         ensures { result ≡ wide_hash (position_of self.now) }
     {
         let text = &self.buffer[..self.kept];
         if self.long {
-            wide_end_kept(&self.secret, &self.lanes.words, text, self.length)
+            wide_end_kept(&self.secret, &self.lanes, text, self.length)
         } else {
             wide_kept(self.seed, text)
         }

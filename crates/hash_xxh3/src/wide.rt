@@ -1,9 +1,9 @@
 //! XXH3 of 128 bits: a low word and a high one.
 ghost use Rattle.std.specs.Prelude.{◌≡◌, ◌+◌, ◌-◌, ◌*◌, ◌/◌, ◌^◌, ◌≤◌, ◌<◌, length};
-ghost use Rattle.hash_xxh3.specs.Long.{last_words};
+ghost use Rattle.hash_xxh3.specs.Streaming.{kept_words};
 ghost use Rattle.hash_xxh3.specs.Wide.{wide_none, few_turned, few_flip_high, wide_few, eight_wide_number, eight_wide_flip, eight_product, eight_high, eight_low, wide_words, wide_eight, sixteen_product, sixteen_back, sixteen_high, sixteen_low, sixteen_end, wide_sixteen, wide_short, add_two, wide_end, add_pair, wide_128, first_pairs, other_pairs, wide_240, wide_end_long, wide_under, wide_long, wide_kept, xxh3_128_of};
 
-use crate::long::{end_words, last_words, merge};
+use crate::long::{Lanes, end_words, kept_words, merge};
 use crate::middle::{add_piece, length_word};
 use crate::secret::{default_secret, put_secret, secret_half};
 use crate::short::{eight_seed, few_number, of_few, secret_pair};
@@ -315,18 +315,14 @@ pub(crate) fn wide_end_long(secret: &[u8; 192], words: &[u64; 8], len: u64) -> (
     )
 }
 
-/// The same by the words after the stripes that have a byte behind them, and what is kept of the text.
+/// The same by the words after the first stripe of what is kept of the text.
 #[inline(always)]
-pub(crate) fn wide_end_kept(
-    secret: &[u8; 192],
-    words: &[u64; 8],
-    kept: &[u8],
-    len: u64,
-) -> (u64, u64)
-    requires { 64 ≤ length kept.now }
-    ensures { result ≡ wide_end_long secret.now (last_words secret.now words.now kept.now) len }
+pub(crate) fn wide_end_kept(secret: &[u8; 192], lanes: &Lanes, kept: &[u8], len: u64) -> (u64, u64)
+    requires block { lanes.now.stripe < 16 }
+    requires some { 65 ≤ length kept.now }
+    ensures { result ≡ wide_end_long secret.now (kept_words secret.now lanes.now kept.now) len }
 {
-    wide_end_long(secret, &last_words(secret, words, kept), len)
+    wide_end_long(secret, &kept_words(secret, lanes, kept), len)
 }
 
 #[inline(never)]

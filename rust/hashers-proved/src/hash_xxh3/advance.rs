@@ -3,7 +3,7 @@
 // What follows is the proved text of crates/hash_xxh3/src/advance.rt without its contracts.
 use crate::hash_words;
 
-use crate::hash_xxh3::long::{Lanes, START, STRIPE, stripe_in, stripes_in};
+use crate::hash_xxh3::long::{Lanes, START, STRIPE, stripes_in};
 use crate::hash_xxh3::secret::{default_secret, secret_of};
 use hash_words::put;
 
@@ -34,42 +34,24 @@ fn keep(buffer: &mut [u8; 256], stripe: &[u8; 64], rest: &[u8]) -> usize {
     }
 }
 
-// The second stripe of a buffer.
-/// The caller has to see to it that:
-///
-/// ```text
-/// 128 ≤ length buffer.now
-/// ```
-///
-/// Proved:
-///
-/// ```text
-/// result ≡ take 64 (drop 64 buffer.now)
-/// ```
-#[inline(always)]
-fn second_stripe(buffer: &[u8]) -> [u8; 64] {
-    let (_, behind) = buffer.split_at(STRIPE);
-    *behind.first_chunk::<64>().unwrap()
-}
-
-// Fills the second stripe, and goes on over the bytes behind it, of which there is one at least.
+// Fills the last stripe, and goes on over the bytes behind it, of which there is one at least.
 /// The caller has to see to it that:
 ///
 /// ```text
 /// block: lanes.old.stripe < 16
 /// one: 64 ≤ kept
-/// room: kept ≤ 128
-/// enough: 128 < kept + length bytes.now
+/// room: kept ≤ 256
+/// enough: 256 < kept + length bytes.now
 /// ```
 ///
 /// Proved:
 ///
 /// ```text
 /// position: (seed len : ℕ) → secret.now ≡ secret_of seed
-///     → Long seed lanes.new len (take result buffer.new)
+///     → advanced seed lanes.new len (take result buffer.new)
 ///     ≡ advanced seed lanes.old len (take kept buffer.old ++ bytes.now)
 /// some: 65 ≤ result
-/// few: result ≤ 128
+/// few: result ≤ 256
 /// in_block: lanes.new.stripe < 16
 /// ```
 #[inline(never)]
@@ -80,31 +62,31 @@ fn advance_through(
     kept: usize,
     bytes: &[u8],
 ) -> usize {
-    let (head, rest) = bytes.split_at(128 - kept);
+    let end = (kept + 63) / STRIPE * STRIPE;
+    let (head, rest) = bytes.split_at(end - kept);
     put(buffer, kept, head);
-    let stripe = second_stripe(buffer);
+    let (full, _) = buffer.split_at(end);
+    let (_, behind) = full.split_at(STRIPE);
+    let stripe = *full.last_chunk::<64>().unwrap();
     let (stripes, _) = rest.split_at((rest.len() - 1) / STRIPE * STRIPE);
-    let next = stripe_in(secret, *lanes, &stripe);
+    let next = stripes_in(secret, *lanes, behind);
     *lanes = stripes_in(secret, next, stripes);
     keep(buffer, &stripe, rest)
 }
 
-/// Keeps the bytes, behind which no stripe more has a byte behind it.
+/// Keeps the bytes, for which there is room.
 ///
 /// The caller has to see to it that:
 ///
 /// ```text
-/// one: 65 ≤ kept
-/// room: kept + length bytes.now ≤ 128
+/// kept + length bytes.now ≤ 256
 /// ```
 ///
 /// Proved:
 ///
 /// ```text
-/// position: (seed len : ℕ) (lanes : Lanes)
-///     → Long seed lanes len (take result buffer.new) ≡ advanced seed lanes len (take kept buffer.old ++ bytes.now)
-/// some: 65 ≤ result
-/// few: result ≤ 128
+/// kept: take result buffer.new ≡ take kept buffer.old ++ bytes.now
+/// count: result ≡ kept + length bytes.now
 /// ```
 #[inline(always)]
 pub(crate) fn keep_all(buffer: &mut [u8; 256], kept: usize, bytes: &[u8]) -> usize {
@@ -112,24 +94,24 @@ pub(crate) fn keep_all(buffer: &mut [u8; 256], kept: usize, bytes: &[u8]) -> usi
     kept + bytes.len()
 }
 
-/// Goes on over more bytes, from one whole stripe and a part of the next. As many are kept then as the result says.
+/// Goes on over more bytes, where a whole stripe and something behind it are kept. As many are kept then as the result says.
 ///
 /// The caller has to see to it that:
 ///
 /// ```text
 /// block: lanes.old.stripe < 16
 /// one: 65 ≤ kept
-/// room: kept ≤ 128
+/// room: kept ≤ 256
 /// ```
 ///
 /// Proved:
 ///
 /// ```text
 /// position: (seed len : ℕ) → secret.now ≡ secret_of seed
-///     → Long seed lanes.new len (take result buffer.new)
+///     → advanced seed lanes.new len (take result buffer.new)
 ///     ≡ advanced seed lanes.old len (take kept buffer.old ++ bytes.now)
 /// some: 65 ≤ result
-/// few: result ≤ 128
+/// few: result ≤ 256
 /// in_block: lanes.new.stripe < 16
 /// ```
 #[inline(always)]
@@ -140,31 +122,31 @@ pub(crate) fn advance(
     kept: usize,
     bytes: &[u8],
 ) -> usize {
-    if bytes.len() <= 128 - kept {
+    if bytes.len() <= 256 - kept {
         keep_all(buffer, kept, bytes)
     } else {
         advance_through(secret, lanes, buffer, kept, bytes)
     }
 }
 
-/// Goes on over bytes that make a stripe more whole, under the secret of a seed.
+/// Goes on over bytes that are more than the buffer has room for, under the secret of a seed.
 ///
 /// The caller has to see to it that:
 ///
 /// ```text
 /// block: lanes.old.stripe < 16
 /// one: 64 ≤ kept
-/// room: kept ≤ 128
-/// enough: 128 < kept + length bytes.now
+/// room: kept ≤ 256
+/// enough: 256 < kept + length bytes.now
 /// ```
 ///
 /// Proved:
 ///
 /// ```text
-/// position: (len : ℕ) → Long seed lanes.new len (take result buffer.new)
+/// position: (len : ℕ) → advanced seed lanes.new len (take result buffer.new)
 ///     ≡ advanced seed lanes.old len (take kept buffer.old ++ bytes.now)
 /// some: 65 ≤ result
-/// few: result ≤ 128
+/// few: result ≤ 256
 /// in_block: lanes.new.stripe < 16
 /// ```
 #[inline(always)]
@@ -182,23 +164,6 @@ pub(crate) fn advance_under(
     }
 }
 
-/// The words after the first three stripes of 241 to 256 bytes. The third of them and what is behind it go to the front.
-///
-/// Proved:
-///
-/// ```text
-/// position: (seed end : ℕ) → secret.now ≡ secret_of seed → 241 ≤ end → end ≤ 256
-///     → Long seed result end (take (end - 128) buffer.new) ≡ position seed (take end buffer.old)
-/// in_block: result.stripe < 16
-/// ```
-#[inline(always)]
-pub(crate) fn begin(secret: &[u8; 192], buffer: &mut [u8; 256]) -> Lanes {
-    let lanes = stripes_in(secret, START, &buffer[..192]);
-    let behind = *buffer.last_chunk::<128>().unwrap();
-    put(buffer, 0, &behind);
-    lanes
-}
-
 /// Goes on over the bytes that make a short text a long one. As many are kept then as the result says.
 ///
 /// The caller has to see to it that:
@@ -212,10 +177,10 @@ pub(crate) fn begin(secret: &[u8; 192], buffer: &mut [u8; 256]) -> Lanes {
 ///
 /// ```text
 /// position: (seed : ℕ) → secret.now ≡ secret_of seed
-///     → Long seed lanes.new ((kept + length bytes.now) % 2 ^ 64) (take result buffer.new)
+///     → advanced seed lanes.new ((kept + length bytes.now) % 2 ^ 64) (take result buffer.new)
 ///     ≡ position seed (take kept buffer.old ++ bytes.now)
 /// some: 65 ≤ result
-/// few: result ≤ 128
+/// few: result ≤ 256
 /// in_block: lanes.new.stripe < 16
 /// ```
 #[inline(never)]
@@ -229,6 +194,6 @@ pub(crate) fn begin_through(
     let (head, rest) = bytes.split_at((256 - kept).min(bytes.len()));
     put(buffer, kept, head);
     let end = kept + head.len();
-    *lanes = begin(secret, buffer);
-    advance(secret, lanes, buffer, end - 128, rest)
+    *lanes = stripes_in(secret, START, &buffer[..STRIPE]);
+    advance(secret, lanes, buffer, end, rest)
 }

@@ -294,22 +294,47 @@ pub(crate) fn end_long(secret: &[u8; 192], words: &[u64; 8], len: u64) -> u64 {
     merge(words, secret, 11, length_word(len))
 }
 
-/// The hash of so many bytes by the words after the stripes that have a byte behind them, and what is kept of the text.
+/// The words that a text of more than 240 bytes ends in, from those after the first stripe of what is kept of it.
 ///
 /// The caller has to see to it that:
 ///
 /// ```text
-/// 64 ≤ length kept.now
+/// block: lanes.now.stripe < 16
+/// some: 65 ≤ length kept.now
 /// ```
 ///
 /// Proved:
 ///
 /// ```text
-/// result ≡ end_long secret.now (last_words secret.now words.now kept.now) len
+/// result ≡ kept_words secret.now lanes.now kept.now
 /// ```
 #[inline(always)]
-pub(crate) fn end_kept(secret: &[u8; 192], words: &[u64; 8], kept: &[u8], len: u64) -> u64 {
-    end_long(secret, &last_words(secret, words, kept), len)
+pub(crate) fn kept_words(secret: &[u8; 192], lanes: &Lanes, kept: &[u8]) -> [u64; 8] {
+    let whole = (kept.len() - 65) / STRIPE * STRIPE;
+    let (_, behind) = kept.split_at(STRIPE);
+    let (stripes, _) = behind.split_at(whole);
+    let next = stripes_in(secret, *lanes, stripes);
+    let (_, end) = kept.split_at(whole);
+    last_words(secret, &next.words, end)
+}
+
+/// The hash of so many bytes by the words after the first stripe of what is kept of the text.
+///
+/// The caller has to see to it that:
+///
+/// ```text
+/// block: lanes.now.stripe < 16
+/// some: 65 ≤ length kept.now
+/// ```
+///
+/// Proved:
+///
+/// ```text
+/// result ≡ end_long secret.now (kept_words secret.now lanes.now kept.now) len
+/// ```
+#[inline(always)]
+pub(crate) fn end_kept(secret: &[u8; 192], lanes: &Lanes, kept: &[u8], len: u64) -> u64 {
+    end_long(secret, &kept_words(secret, lanes, kept), len)
 }
 
 // XXH3 of more than 240 bytes under a secret.

@@ -11,8 +11,8 @@ use crate::hash_xxh3::wide::{wide_end_kept, wide_kept};
 use hash_laws::traits::bytes_are_a_text;
 use hash_words::put;
 
-/// The numbers that a hasher keeps: of a text of at most 240 bytes the text, and of a longer one the eight words, and the
-/// last stripe that has a byte behind it with the bytes behind it.
+/// The numbers that a hasher keeps: of a text of at most 240 bytes the text, and of a longer one the eight words after a
+/// stripe, and that stripe with the bytes behind it, of which there is one at least.
 #[derive(Clone, Copy)]
 pub(crate) struct Xxh3Parts {
     pub seed: u64,
@@ -54,14 +54,14 @@ impl Xxh3Parts {
     /// lanes: IsLanes lanes
     /// short: long ≡ false → kept < 241
     /// some: long ≡ true → 65 ≤ kept
-    /// few: long ≡ true → kept ≤ 128
+    /// few: long ≡ true → kept ≤ 256
     /// ```
     ///
     /// Proved:
     ///
     /// ```text
     /// position: position_of result
-    ///     ≡ (if long then Long seed lanes length (take kept buffer) else Short seed (take kept buffer))
+    ///     ≡ (if long then advanced seed lanes length (take kept buffer) else Short seed (take kept buffer))
     /// settled: IsSettled result
     /// ```
     #[inline(always)]
@@ -156,7 +156,7 @@ impl Xxh3Parts {
     pub(crate) fn finish(&self) -> u64 {
         let text = &self.buffer[..self.kept];
         if self.long {
-            end_kept(&self.secret, &self.lanes.words, text, self.length)
+            end_kept(&self.secret, &self.lanes, text, self.length)
         } else {
             of_kept(self.seed, text)
         }
@@ -179,7 +179,7 @@ impl Xxh3Parts {
     pub(crate) fn finish128(&self) -> (u64, u64) {
         let text = &self.buffer[..self.kept];
         if self.long {
-            wide_end_kept(&self.secret, &self.lanes.words, text, self.length)
+            wide_end_kept(&self.secret, &self.lanes, text, self.length)
         } else {
             wide_kept(self.seed, text)
         }

@@ -16,7 +16,7 @@ use hash_words::put;
 pub struct Xxh3Place {
     /// The seed.
     pub seed: u64,
-    /// Of a text of more than 240 bytes the eight words, and the number of the next stripe in its block of sixteen.
+    /// Of a text of more than 240 bytes the eight words after a stripe, and the number of the next in its block of sixteen.
     pub words: [u64; 8],
     pub stripe: u64,
     /// Of such a text the length modulo 2^64.
@@ -25,7 +25,7 @@ pub struct Xxh3Place {
     pub long: u64,
     /// How many bytes of the buffer are kept.
     pub kept: u64,
-    /// A text of at most 240 bytes, or the last stripe that has a byte behind it, and what is behind it.
+    /// A text of at most 240 bytes, or a stripe that is in the words, and what is behind it.
     pub buffer: [u8; 256],
 }
 
@@ -42,7 +42,7 @@ impl Xxh3Place {
         if self.long == 0 {
             self.kept < 241
         } else {
-            self.kept >= 65 && self.kept <= 128 && self.stripe < 16
+            self.kept >= 65 && self.kept <= 256 && self.stripe < 16
         }
     }
 
@@ -115,7 +115,8 @@ impl Xxh3Place {
     #[inline(always)]
     fn write_long(&mut self, bytes: &[u8]) {
         let kept = self.kept as usize;
-        if bytes.len() <= 128 - kept {
+        self.length = self.length.wrapping_add(bytes.len() as u64);
+        if bytes.len() <= 256 - kept {
             self.kept = keep_all(&mut self.buffer, kept, bytes) as u64;
         } else {
             let mut lanes = lanes_at(self.words, self.stripe);
@@ -123,7 +124,6 @@ impl Xxh3Place {
             self.words = lanes.words;
             self.stripe = lanes.stripe as u64;
         }
-        self.length = self.length.wrapping_add(bytes.len() as u64);
     }
 
     /// Goes on over the bytes, as the hasher that keeps these numbers does. Of numbers that none keeps it changes nothing.
@@ -165,10 +165,11 @@ impl Xxh3Place {
         if self.long == 0 {
             return Some(of_kept(self.seed, kept));
         }
+        let lanes = lanes_at(self.words, self.stripe);
         if self.seed == 0 {
-            return Some(end_kept(default_secret(), &self.words, kept, self.length));
+            return Some(end_kept(default_secret(), &lanes, kept, self.length));
         }
-        Some(end_kept(&secret_of(self.seed), &self.words, kept, self.length))
+        Some(end_kept(&secret_of(self.seed), &lanes, kept, self.length))
     }
 
     /// The same of 128 bits: the low word and the high one.
@@ -188,9 +189,10 @@ impl Xxh3Place {
         if self.long == 0 {
             return Some(wide_kept(self.seed, kept));
         }
+        let lanes = lanes_at(self.words, self.stripe);
         if self.seed == 0 {
-            return Some(wide_end_kept(default_secret(), &self.words, kept, self.length));
+            return Some(wide_end_kept(default_secret(), &lanes, kept, self.length));
         }
-        Some(wide_end_kept(&secret_of(self.seed), &self.words, kept, self.length))
+        Some(wide_end_kept(&secret_of(self.seed), &lanes, kept, self.length))
     }
 }

@@ -3,7 +3,7 @@
 // What follows is the proved text of crates/hash_xxh3/src/wide.rt without its contracts.
 use crate::hash_words;
 
-use crate::hash_xxh3::long::{end_words, last_words, merge};
+use crate::hash_xxh3::long::{Lanes, end_words, kept_words, merge};
 use crate::hash_xxh3::middle::{add_piece, length_word};
 use crate::hash_xxh3::secret::{default_secret, put_secret, secret_half};
 use crate::hash_xxh3::short::{eight_seed, few_number, of_few, secret_pair};
@@ -447,27 +447,23 @@ pub(crate) fn wide_end_long(secret: &[u8; 192], words: &[u64; 8], len: u64) -> (
     )
 }
 
-/// The same by the words after the stripes that have a byte behind them, and what is kept of the text.
+/// The same by the words after the first stripe of what is kept of the text.
 ///
 /// The caller has to see to it that:
 ///
 /// ```text
-/// 64 ≤ length kept.now
+/// block: lanes.now.stripe < 16
+/// some: 65 ≤ length kept.now
 /// ```
 ///
 /// Proved:
 ///
 /// ```text
-/// result ≡ wide_end_long secret.now (last_words secret.now words.now kept.now) len
+/// result ≡ wide_end_long secret.now (kept_words secret.now lanes.now kept.now) len
 /// ```
 #[inline(always)]
-pub(crate) fn wide_end_kept(
-    secret: &[u8; 192],
-    words: &[u64; 8],
-    kept: &[u8],
-    len: u64,
-) -> (u64, u64) {
-    wide_end_long(secret, &last_words(secret, words, kept), len)
+pub(crate) fn wide_end_kept(secret: &[u8; 192], lanes: &Lanes, kept: &[u8], len: u64) -> (u64, u64) {
+    wide_end_long(secret, &kept_words(secret, lanes, kept), len)
 }
 
 /// The caller has to see to it that:

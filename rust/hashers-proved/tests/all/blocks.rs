@@ -133,7 +133,7 @@ fn xxh3_goes_on_from_a_place() {
     short.kept = 241;
     assert!(Xxh3Hasher::at(&short).is_none());
     long.write(&[0; 300]);
-    for (kept, stripe) in [(64, 0), (129, 0), (100, 16)] {
+    for (kept, stripe) in [(64, 0), (257, 0), (100, 16)] {
         let mut place = Xxh3Place { kept, stripe, ..long.place() };
         assert!(Xxh3Hasher::at(&place).is_none() && place.hash().is_none() && place.hash128().is_none());
         place.write(&[1; 300]);
@@ -146,7 +146,7 @@ fn xxh3_goes_on_from_a_place() {
 fn xxh3_in_pieces_at_a_place() {
     let mut bytes = Bytes(22);
     for seed in [0, 1, 2, u64::MAX] {
-        for piece in [1, 7, 31, 63, 64, 65, 100, 129, 257, 1000] {
+        for piece in [1, 7, 31, 61, 63, 64, 65, 100, 129, 193, 257, 1000] {
             let text = bytes.text(3000);
             let mut place = Xxh3Hasher::new(seed).place();
             for part in text.chunks(piece) {

@@ -1,21 +1,37 @@
-use Rattle.std.proofs.Common.{◌≡◌, ◌+◌, ◌-◌, ◌++◌, ◌^◌, ◌%◌, ℕ, List, length, take, ◌∙◌, refl, ap, arith, length-append}
+use Rattle.std.proofs.Common.{◌≡◌, ◌+◌, ◌/◌, ◌++◌, ◌^◌, ◌%◌, nat_lt, false, ℕ, List, length, take, ◌∙◌, refl, ap, arith, length-append}
 use Rattle.std.proofs.Math.Path.{ap₂}
-use Rattle.std.proofs.lemmas.List.{take-append-drop, length-take-le}
-use Rattle.hash_xxh3.proofs.AdvanceLemmas.{through_led}
+use Rattle.std.proofs.lemmas.Bool.Decides.{nat_tests}
+use Rattle.std.proofs.lemmas.List.{append_assoc, take-append-drop, length-take-le}
+use Rattle.hash_words.proofs.PutLemmas.{take-put_at, length-put_at}
+use Rattle.hash_xxh3.specs.declared.long.Lanes.{Lanes}
+use Rattle.hash_xxh3.specs.Long.{start_lanes, stripes_in}
+use Rattle.hash_xxh3.specs.Streaming.{advanced}
+use Rattle.hash_xxh3.proofs.AdvanceLemmas.{begun}
 use Rattle.hash_xxh3.proofs.advance.begin_through.Goals as goal
 
 pub returns-clause-position : goal.returns-clause-position
 returns-clause-position c = λ seed secret_is.
     let kept = c.args.kept in
     let buffer = c.args.buffer.now in
+    let bytes = c.args.bytes.now in
+    let secret = c.args.secret.now in
+    let filled = c.put.new.buffer in
     let head = c.split_at.result.0.now in
     let rest = c.split_at.result.1.now in
     let end : ℕ = kept + length head in
-    let begun = c.begin.ensures.position seed end secret_is (omega arith) (omega arith) in
-    let all : head ++ rest ≡ c.args.bytes.now = ap₂ (λ (a b : List ℕ). a ++ b) c.split_at.ensures.front c.split_at.ensures.back
-    ∙ take-append-drop c.min.result c.args.bytes.now in
-    let size : kept + length c.args.bytes.now ≡ end + length rest = omega (arith, length-append head rest, ap length all) in
-    rw size (c.advance.ensures.position seed ((end + length rest) % 2 ^ 64) secret_is
-    ∙ through_led seed kept end buffer c.put.new.buffer (take kept buffer) head rest c.args.bytes.now c.begin.result
-    (take (end - 128) c.begin.new.buffer) refl (omega arith) refl c.put.ensures all begun
-    (omega (arith, length-take-le kept buffer (omega arith))))
+    let text : List ℕ = take kept buffer ++ bytes in
+    let whole : length filled ≡ 256 = ap length c.put.ensures ∙ length-put_at kept head buffer (omega arith) ∙ c.told-buffer in
+    let cut : head ++ rest ≡ bytes = ap₂ (λ (a b : List ℕ). a ++ b) c.split_at.ensures.front c.split_at.ensures.back
+    ∙ take-append-drop c.min.result bytes in
+    let all : take end filled ++ rest ≡ text =
+    ap (λ (x : List ℕ). x ++ rest) (ap (take end) c.put.ensures ∙ take-put_at kept head buffer end refl (omega arith))
+    ∙ append_assoc (take kept buffer) head rest ∙ ap (λ (x : List ℕ). take kept buffer ++ x) cut in
+    let size : length text ≡ kept + length bytes = omega (arith, length-append (take kept buffer) bytes, length-take-le kept buffer (omega arith)) in
+    let long : nat_lt (length text) 241 ≡ false = grind (arith, nat_tests) in
+    let one : length (take 64 filled) / 64 ≡ 1 = omega (arith, length-take-le 64 filled (omega arith)) in
+    let first = c.stripes_in.ensures.value ∙ ap (λ n. stripes_in secret start_lanes n (take 64 filled)) one
+    ∙ ap (λ (s : List ℕ). stripes_in s start_lanes 1 (take 64 filled)) secret_is
+    ∙ begun _ end filled rest (omega arith) (omega arith) ∙ ap (stripes_in _ start_lanes 1) all in
+    c.advance.ensures.position seed ((kept + length bytes) % 2 ^ 64) secret_is
+    ∙ ap₂ (λ (l : Lanes) (x : List ℕ). advanced seed l ((kept + length bytes) % 2 ^ 64) x) first all
+    ∙ rw (long, size) refl
