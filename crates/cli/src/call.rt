@@ -29,7 +29,8 @@ pub struct Opt {
 /// An option of this letter, if it has one, this name and these words, which takes no value.
 pub fn flag(letter: Option<u8>, name: &'static str, words: &'static str) -> Opt
     ensures choice { choice_of result ≡ flag letter name.now }
-    ensures shown { (result.value.now ≡ []) × (result.words.now ≡ words.now) }
+    ensures value { result.value.now ≡ [] }
+    ensures words { result.words.now ≡ words.now }
 {
     Opt {
         letter,
@@ -48,7 +49,8 @@ pub fn taking(
     words: &'static str,
 ) -> Opt
     ensures choice { choice_of result ≡ taking letter name.now }
-    ensures shown { (result.value.now ≡ value.now) × (result.words.now ≡ words.now) }
+    ensures value { result.value.now ≡ value.now }
+    ensures words { result.words.now ≡ words.now }
 {
     Opt {
         letter,

@@ -39,7 +39,7 @@ fn column(alloc: Global, options: &[Opt]) -> Result<usize, AllocError>
 }
 
 /// Puts so many spaces behind a text.
-fn push_spaces(text: &mut String, count: usize) -> Result<(), AllocError>
+pub fn push_spaces(text: &mut String, count: usize) -> Result<(), AllocError>
     ensures { OnOk result (string_bytes text.new ≡ string_bytes text.old ++ replicate count 32) }
 {
     for _ in 0..count {
@@ -64,7 +64,8 @@ fn push_option(alloc: Global, text: &mut String, opt: &Opt, column: usize) -> Re
     Ok(())
 }
 
-/// The help of a program. It is made where the call asks for it, and is empty else.
+/// The help of a program: what stands in front of its options, each of them with what it does, and what stands behind. It is made
+/// where the call asks for it, and is empty else.
 pub fn help_for(
     alloc: Global,
     call: &Call<'_>,

@@ -12,7 +12,7 @@ ghost use Rattle.hash_fx.specs.FxStepLaws.{fx32_facts, fx64_facts};
 use crate::differing::{differing_fours_and_bytes, differing_words};
 use crate::words::{eights_in, eights_out, fours_and_bytes_in, fours_and_bytes_out};
 use hash_rules::Word;
-use hash_words::{le_four, rotl32, rotl32_by, rotl64, rotl64_by};
+use hash_words::{le_four, rotl32, rotl64};
 
 /// A word of fx: a state, or what takes a state one step.
 pub trait FxWord: Word {
@@ -105,7 +105,7 @@ impl FxWord for u32 {
 
     #[inline(always)]
     fn word_in(self, word: u32) -> u32 {
-        (rotl32_by::<5>(self) ^ word).wrapping_mul(0x27220a95)
+        (rotl32(self, 5) ^ word).wrapping_mul(0x27220a95)
     }
 
     #[inline(always)]
@@ -152,7 +152,7 @@ impl FxWord for u64 {
 
     #[inline(always)]
     fn word_in(self, word: u64) -> u64 {
-        (rotl64_by::<5>(self) ^ word).wrapping_mul(0x517cc1b727220a95)
+        (rotl64(self, 5) ^ word).wrapping_mul(0x517cc1b727220a95)
     }
 
     #[inline(always)]

@@ -1,7 +1,8 @@
 //! The table, in lines of text.
-ghost use Rattle.std.specs.Prelude.{◌≡◌, ◌++◌, ◌∷◌, [], IfOk, OnOk, decimal, map, replicate, string_bytes};
+ghost use Rattle.std.specs.Prelude.{◌≡◌, ◌++◌, ◌∷◌, [], IfOk, OnOk, decimal, map, string_bytes};
 ghost use Rattle.spread.specs.Lines.{AddsCell, AddsCells, IsHead, IsLine, IsRow, bucket_heads, counted, groups, heads, in_buckets, names, number_heads};
 
+use cli::help::push_spaces;
 use hash_spread::chance::{Chance, equal_pairs};
 use hash_spread::rows::TableRow;
 use hash_spread::sizes::Sizes;
@@ -107,16 +108,6 @@ impl Line {
         self.text.push('\n')?;
         Ok(self.text)
     }
-}
-
-/// Puts so many spaces behind a text.
-fn push_spaces(text: &mut String, spaces: usize) -> Result<(), AllocError>
-    ensures { OnOk result (string_bytes text.new ≡ string_bytes text.old ++ replicate spaces 32) }
-{
-    'spaces: for _ in 0..spaces {
-        text.push(' ')?;
-    }
-    Ok(())
 }
 
 /// How many digits a number has.
