@@ -9,7 +9,7 @@ pub use crate::windows::{
 };
 pub use hash_bytes::null::passthrough_of_joined_texts;
 pub use hash_bytes::oz::{loselose_ignores_order, loselose_of_joined_texts, sdbm_of_joined_texts};
-pub use hash_fx::pieces::{
+pub use fx_laws::pieces::{
     apart_by_one_fx, apart_by_one_word_fx32, apart_by_one_word_fx64, cuts_show_in_fx,
     fixed_widths_are_words32, fixed_widths_are_words64, fx_is_even, low_bits_of_a_word,
     one_changed_byte_shows_fx, one_changed_word_shows_fx, pieces_are_their_words, run_words,

@@ -76,6 +76,8 @@ pub mod block_laws;
 #[doc(hidden)]
 pub mod hash_xxh3;
 #[doc(hidden)]
+pub mod xxh3_laws;
+#[doc(hidden)]
 pub mod hash_bytes;
 #[doc(hidden)]
 pub mod hash_crc;
@@ -240,6 +242,8 @@ pub mod blocks {
 pub mod xxh3 {
     #[doc(inline)]
     pub use crate::hash_xxh3::*;
+    #[doc(inline)]
+    pub use crate::xxh3_laws::*;
 }
 
 /// The polynomial hash of Carter and Wegman over 2^61 - 1, at a key. Of the 2^61 - 1 keys at most n / 7 + 2 give two different texts of up

@@ -9,7 +9,6 @@ use hash_more::windows::{
     apart_crc32, apart_crc32_bits, apart_crc32c, apart_crc32c_bits, apart_djb2_add, apart_fnv1_32,
     apart_fnv1_64,
 };
-use hash_xxh3::{apart_xxh3, apart_xxh128};
 use hashers::fnv::FNV1aHasher64;
 use hashers::jenkins::spooky_hash::SpookyHasher;
 use hashers::laws::{
@@ -18,6 +17,7 @@ use hashers::laws::{
     differ_at_one_place, differ_in_one_block, differ_in_one_stretch, is_window, same_word,
 };
 use std::hash::Hasher;
+use xxh3_laws::{apart_xxh3, apart_xxh128};
 
 /// Whether a test holds of two texts.
 fn holds(test: &str, x: &[u8], y: &[u8]) -> Option<bool> {
