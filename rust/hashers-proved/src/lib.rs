@@ -54,6 +54,8 @@ pub mod hash_writes;
 #[doc(hidden)]
 pub mod hash_fx;
 #[doc(hidden)]
+pub mod fx_laws;
+#[doc(hidden)]
 pub mod hash_jenkins;
 #[doc(hidden)]
 pub mod jenkins_laws;
@@ -85,6 +87,8 @@ pub mod hash_crc;
 pub mod hashers;
 #[doc(hidden)]
 pub mod hash_more;
+#[doc(hidden)]
+pub mod more_laws;
 #[doc(hidden)]
 pub mod hash_keyed {
     mod modular;
@@ -195,6 +199,8 @@ pub mod jenkins {
 pub mod more {
     #[doc(inline)]
     pub use crate::hash_more::*;
+    #[doc(inline)]
+    pub use crate::more_laws::*;
     #[doc(inline)]
     pub use crate::hash_more::{crc32::*, djb2_add::*, elf::*, fnv1::*, joaat::*};
 }
