@@ -3,10 +3,10 @@
 # Of each Rust crate the Rattle crates whose sources become its modules, in the order in which they stand on one another.
 RUST_CRATES = {
     "hashers-proved": [
-        "hash_words", "hash_rounds", "hash_laws", "hash_windows", "hash_reading", "hash_rules", "hash_writes", "hash_fx",
+        "hash_words", "hash_rounds", "hash_laws", "hash_windows", "hash_reading", "hash_rules", "hash_writes", "hash_fx", "fx_laws",
         "hash_jenkins", "jenkins_laws",
-        "hash_blocks", "hash_murmur3", "hash_siphash", "hash_xxhash", "block_laws", "hash_xxh3",
-        "hash_bytes", "hash_crc", "hashers", "hash_more", "hash_keyed", "hash_numbers", "hash_names",
+        "hash_blocks", "hash_murmur3", "hash_siphash", "hash_xxhash", "block_laws", "hash_xxh3", "xxh3_laws",
+        "hash_bytes", "hash_crc", "hashers", "hash_more", "more_laws", "hash_keyed", "hash_numbers", "hash_names",
         "streams", "text_set", "hash_lines", "hash_buckets", "hash_ring", "hash_cuts", "hash_bloom",
     ],
     "hashers-tools": [

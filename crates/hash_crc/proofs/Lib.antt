@@ -1,5 +1,3 @@
-pub mod BurstLemmas
-pub mod Crc32Bursts
 pub mod Crc32Endings
 pub mod Crc32Lemmas
 pub mod Crc32Products

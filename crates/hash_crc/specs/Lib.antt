@@ -1,3 +1,2 @@
-pub mod Bursts
 pub mod Crc32
 pub mod Crc32Laws

@@ -1,13 +1,4 @@
-pub mod ByPlace
 pub mod FixedWidths
-pub mod FxEven
-pub mod CutsLemmas
-pub mod LowBits
-pub mod OneApart
-pub mod PiecesLemmas
-pub mod TestLemmas
+pub mod OneWord
 pub mod WholeWords
-pub mod WordsApart
-pub mod DifferencesLemmas
-pub mod WordTests
 pub mod WordParts

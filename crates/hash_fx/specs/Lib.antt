@@ -1,5 +1,3 @@
 pub mod Fx
 pub mod FxLaws
 pub mod FxStepLaws
-pub mod Pieces
-pub mod Differences

@@ -2,11 +2,9 @@
 //! the state one step. The split and the key of 32 bits are this project's own choice.
 #![tactic(auto)]
 
-mod differing;
 mod fx;
 mod hasher;
 mod maps;
-pub mod pieces;
 mod word;
 mod words;
 

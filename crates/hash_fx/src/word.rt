@@ -6,10 +6,8 @@ ghost use Rattle.hash_laws.specs.Recurrence.{recurrence};
 ghost use Rattle.hash_laws.specs.Text.{IsText};
 ghost use Rattle.hash_fx.specs.Fx.{fx32_step, fx64_step, words32, words64};
 ghost use Rattle.hash_fx.specs.FxLaws.{words32-fit, words32-length, words32-nil, words64-fit, words64-length, words64-nil};
-ghost use Rattle.hash_fx.specs.Differences.{differences};
 ghost use Rattle.hash_fx.specs.FxStepLaws.{fx32_facts, fx64_facts};
 
-use crate::differing::{differing_fours_and_bytes, differing_words};
 use crate::words::{eights_in, eights_out, fours_and_bytes_in, fours_and_bytes_out};
 use hash_rules::Word;
 use hash_words::{le_four, rotl32, rotl64};
@@ -77,11 +75,6 @@ pub trait FxSplit: FxWord {
     /// The words of a piece out again, from the last to the first.
     fn words_out(self, piece: &[u8]) -> Self
         ensures { recurrence Self.step (Self.number result) (words piece.now) ≡ Self.number self };
-
-    /// At how many places the words of two pieces of one length differ.
-    fn differing(x: &[u8], y: &[u8]) -> usize
-        requires { length x.now ≡ length y.now }
-        ensures { result ≡ differences (words x.now) (words y.now) };
 
     /// Pieces of one length have as many words.
     ghost words_length: { (x y : List ℕ) → length x ≡ length y → length (words x) ≡ length (words y) };
@@ -205,10 +198,6 @@ impl FxSplit for u32 {
         fours_and_bytes_out(self, piece)
     }
 
-    fn differing(x: &[u8], y: &[u8]) -> usize {
-        differing_fours_and_bytes(x, y)
-    }
-
     ghost words_length = { words32-length };
 
     ghost words_in_range = { words32-fit };
@@ -241,12 +230,6 @@ impl FxSplit for u64 {
     fn words_out(self, piece: &[u8]) -> u64 {
         let (eights, rest) = piece.as_chunks::<8>();
         eights_out(fours_and_bytes_out(self, rest), eights)
-    }
-
-    fn differing(x: &[u8], y: &[u8]) -> usize {
-        let (x_eights, x_rest) = x.as_chunks::<8>();
-        let (y_eights, y_rest) = y.as_chunks::<8>();
-        differing_words(x_eights, y_eights) + differing_fours_and_bytes(x_rest, y_rest)
     }
 
     ghost words_length = { words64-length };

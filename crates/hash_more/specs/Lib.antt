@@ -6,6 +6,5 @@ pub mod Fnv1
 pub mod Fnv1Laws
 pub mod Joaat
 pub mod JoaatLaws
-pub use Rattle.hash_crc.specs.Bursts
 pub use Rattle.hash_crc.specs.Crc32
 pub use Rattle.hash_crc.specs.Crc32Laws

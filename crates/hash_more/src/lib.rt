@@ -9,7 +9,6 @@ pub mod djb2_add;
 pub mod elf;
 pub mod fnv1;
 pub mod joaat;
-pub mod windows;
 
 pub use djb2_add::Djb2AddHasher;
 pub use elf::ElfHasher;
@@ -20,7 +19,3 @@ pub use hash_crc::crc32::{
     crcs_are_even,
 };
 pub use joaat::JoaatHasher;
-pub use windows::{
-    apart_crc32, apart_crc32_bits, apart_crc32c, apart_crc32c_bits, apart_djb2_add, apart_fnv1_32,
-    apart_fnv1_64, windows_tell_apart,
-};

@@ -4,7 +4,7 @@ use Rattle.std.specs.Str.{bytes_eq}
 use Rattle.std.specs.declared.io.Error.{Error}
 use Rattle.block_laws.specs.Xxh32Words.{DifferInOneWord}
 use Rattle.hash_keyed.specs.Poly61.{prime61, word_count, ArePairs}
-use Rattle.hash_more.specs.Bursts.{DifferWithinBits}
+use Rattle.more_laws.specs.Bursts.{DifferWithinBits}
 use Rattle.hash_windows.specs.DifferWithin.{DifferInOneBlock}
 use Rattle.hashers.specs.DifferWithin.{DifferAtOnePlace, DifferWithin}
 use Rattle.hashers.specs.Fx.{words32, words64}

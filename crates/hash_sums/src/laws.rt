@@ -18,7 +18,7 @@ ghost use Rattle.block_laws.specs.Xxh32Words.{DifferInOneWord};
 ghost use Rattle.hash_lines.specs.declared.line.LineKind.{LineKind};
 ghost use Rattle.hash_lines.specs.declared.line.Form.{Form};
 ghost use Rattle.hash_lines.specs.Told.{AreTags, MayBeTold, Tells};
-ghost use Rattle.hash_more.specs.Bursts.{DifferWithinBits};
+ghost use Rattle.more_laws.specs.Bursts.{DifferWithinBits};
 ghost use Rattle.hash_sums.specs.declared.check.Checking.{Checking};
 ghost use Rattle.hash_sums.specs.declared.outcome.Misuse.{Misuse};
 ghost use Rattle.hash_sums.specs.declared.outcome.Task.TheVariants.{Check};
@@ -49,7 +49,6 @@ use hash_more::djb2_add::Djb2AddHasher;
 use hash_more::elf::ElfHasher;
 use hash_more::fnv1::{Fnv1Hasher32, Fnv1Hasher64};
 use hash_more::joaat::JoaatHasher;
-use hash_more::windows::windows_tell_apart as relatives_tell_apart;
 use hash_names::table::Kind;
 use hashers::fnv::{FNV1aHasher32, FNV1aHasher64};
 use hashers::fx_hash::{FxHasher32, FxHasher64};
@@ -59,6 +58,7 @@ use hashers::laws::{
 };
 use hashers::oz::{DJB2Hasher, LoseLoseHasher, SDBMHasher};
 use hashers::pigeon::Bricolage;
+use more_laws::windows::windows_tell_apart as relatives_tell_apart;
 use std::io::Read;
 
 /// Each hash that a line can tell and that takes no keys is the one of its name.

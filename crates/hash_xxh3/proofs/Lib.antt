@@ -1,11 +1,3 @@
-pub mod TurnLemmas
-pub mod MixLemmas
-pub mod ShortLemmas
 pub mod RangeLemmas
-pub mod BlindLemmas
 pub mod AdvanceLemmas
 pub mod SecretLemmas
-pub mod LongLemmas
-pub mod WideLemmas
-pub mod ChangedWord
-pub mod UnwideLemmas

@@ -13,4 +13,3 @@ pub mod Place
 pub mod Hasher
 pub mod Wide
 pub mod WideLaws
-pub mod Apart

@@ -8,7 +8,7 @@ use crate::words::{avalanche, avalanche_64, folded_product, half_at, length_mix,
 
 /// Two words of the secret, one folded onto the other.
 #[inline(always)]
-pub(crate) fn secret_pair(at: usize) -> u64
+pub fn secret_pair(at: usize) -> u64
     requires { at + 16 ≤ 192 }
     ensures { result ≡ secret_pair at }
 {
@@ -80,7 +80,7 @@ pub(crate) fn eight_seed(seed: u64) -> u64
 /// What eight bytes are folded with.
 #[inline(always)]
 #[tactic(auto, unfolding(crate::specs::Short::eight_flip))]
-pub(crate) fn eight_flip(seed: u64) -> u64
+pub fn eight_flip(seed: u64) -> u64
     ensures { result ≡ eight_flip seed }
 {
     secret_pair(8).wrapping_sub(eight_seed(seed))

@@ -37,7 +37,7 @@ pub(crate) fn half_at(text: &[u8], at: usize) -> u32
 
 /// The whole product of two words.
 #[inline(always)]
-pub(crate) fn whole_product(x: u64, y: u64) -> u128
+pub fn whole_product(x: u64, y: u64) -> u128
     ensures { result ≡ x * y }
 {
     u128::from(x) * u128::from(y)
@@ -84,7 +84,7 @@ pub(crate) fn three_turns(hash: u64) -> u64
 /// A word with what is left of it behind 35 bits, and a length added to that, folded on.
 #[inline(always)]
 #[tactic(auto, unfolding(crate::specs::Words::length_in))]
-pub(crate) fn length_in(len: u64, hash: u64) -> u64
+pub fn length_in(len: u64, hash: u64) -> u64
     requires { len < 16 }
     ensures { result ≡ length_in len hash }
 {

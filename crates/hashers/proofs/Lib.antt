@@ -15,8 +15,8 @@ pub use Rattle.hash_words.proofs.XorshiftLemmas
 pub use Rattle.hash_fx.proofs.FixedWidths
 pub use Rattle.hash_laws.proofs.ByteLemmas
 pub use Rattle.hash_fx.proofs.WholeWords
-pub use Rattle.hash_bytes.proofs.Collisions
-pub use Rattle.hash_bytes.proofs.FnvWindows
-pub use Rattle.hash_bytes.proofs.WindowSpreads
-pub use Rattle.hash_bytes.proofs.Djb2Window
-pub use Rattle.hash_bytes.proofs.SdbmWindow
+pub mod Collisions
+pub mod FnvWindows
+pub mod WindowSpreads
+pub mod Djb2Window
+pub mod SdbmWindow

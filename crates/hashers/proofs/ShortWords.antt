@@ -10,7 +10,7 @@ use Rattle.hash_laws.specs.Text.{IsText}
 use Rattle.hash_windows.specs.DifferWithin.{DifferWithin}
 use Rattle.hash_bytes.specs.Oz.{djb2_from}
 use Rattle.hashers.specs.ShortWords.{IsShortWord}
-use Rattle.hash_bytes.proofs.Collisions.{djb2_apart}
+use Rattle.hashers.proofs.Collisions.{djb2_apart}
 
 letter_top : (b : ℕ) → 97 ≤ b → b ≤ 122 → bit_and b 224 ≡ 96
 letter_top b low high = omega (arith, and_high b 3 5)

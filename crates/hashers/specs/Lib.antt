@@ -17,7 +17,7 @@ pub use Rattle.hash_laws.specs.Standing
 pub use Rattle.hash_windows.specs.DifferWithin
 pub use Rattle.hash_writes.specs.Writes
 pub use Rattle.hash_fx.specs.Fx
-pub use Rattle.hash_fx.specs.Pieces
+pub use Rattle.fx_laws.specs.Pieces
 pub use Rattle.hash_jenkins.specs.Lookup3
 pub use Rattle.jenkins_laws.specs.Mixing
 pub use Rattle.hash_jenkins.specs.Oaat

@@ -7,14 +7,14 @@ pub use crate::counts::{
 pub use crate::windows::{
     apart_djb2, apart_fnv32, apart_fnv64, apart_sdbm, same_word, windows_tell_apart,
 };
-pub use hash_bytes::null::passthrough_of_joined_texts;
-pub use hash_bytes::oz::{loselose_ignores_order, loselose_of_joined_texts, sdbm_of_joined_texts};
-pub use hash_fx::pieces::{
+pub use fx_laws::pieces::{
     apart_by_one_fx, apart_by_one_word_fx32, apart_by_one_word_fx64, cuts_show_in_fx,
     fixed_widths_are_words32, fixed_widths_are_words64, fx_is_even, low_bits_of_a_word,
     one_changed_byte_shows_fx, one_changed_word_shows_fx, pieces_are_their_words, run_words,
     run_words32, run_words64, words_by_place32, words_by_place64,
 };
+pub use hash_bytes::null::passthrough_of_joined_texts;
+pub use hash_bytes::oz::{loselose_ignores_order, loselose_of_joined_texts, sdbm_of_joined_texts};
 pub use hash_laws::traits::{
     ByteStep, Piecewise, Streamed, Undo, answer_of_pieces, bucket_of, bytes_are_a_text,
     hash_is_from_the_start, hash_of, joined_texts_are_one, no_bytes_change_nothing, run_pair,

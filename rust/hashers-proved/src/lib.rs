@@ -54,6 +54,8 @@ pub mod hash_writes;
 #[doc(hidden)]
 pub mod hash_fx;
 #[doc(hidden)]
+pub mod fx_laws;
+#[doc(hidden)]
 pub mod hash_jenkins;
 #[doc(hidden)]
 pub mod jenkins_laws;
@@ -76,6 +78,8 @@ pub mod block_laws;
 #[doc(hidden)]
 pub mod hash_xxh3;
 #[doc(hidden)]
+pub mod xxh3_laws;
+#[doc(hidden)]
 pub mod hash_bytes;
 #[doc(hidden)]
 pub mod hash_crc;
@@ -83,6 +87,8 @@ pub mod hash_crc;
 pub mod hashers;
 #[doc(hidden)]
 pub mod hash_more;
+#[doc(hidden)]
+pub mod more_laws;
 #[doc(hidden)]
 pub mod hash_keyed {
     mod modular;
@@ -194,6 +200,8 @@ pub mod more {
     #[doc(inline)]
     pub use crate::hash_more::*;
     #[doc(inline)]
+    pub use crate::more_laws::*;
+    #[doc(inline)]
     pub use crate::hash_more::{crc32::*, djb2_add::*, elf::*, fnv1::*, joaat::*};
 }
 
@@ -240,6 +248,8 @@ pub mod blocks {
 pub mod xxh3 {
     #[doc(inline)]
     pub use crate::hash_xxh3::*;
+    #[doc(inline)]
+    pub use crate::xxh3_laws::*;
 }
 
 /// The polynomial hash of Carter and Wegman over 2^61 - 1, at a key. Of the 2^61 - 1 keys at most n / 7 + 2 give two different texts of up

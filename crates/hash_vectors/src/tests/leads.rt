@@ -3,7 +3,6 @@ use crate::tests::{all_hold, same};
 use block_laws::{block_for_murmur3_128, word_for_murmur3_32, word_for_xxh32, word_for_xxh64};
 use hash_more::crc32::{crc32, crc32_ending, crc32c, crc32c_ending};
 use hash_murmur3::{Murmur3Hasher32, Murmur3Hasher128};
-use hash_xxh3::unmix::{bytes_for, bytes_for_wide};
 use hash_xxh3::{xxh3_64, xxh3_128};
 use hash_xxhash::{Xxh32Hasher, Xxh64Hasher};
 use hashers::fx_hash::{FxHasher32, FxHasher64};
@@ -11,6 +10,7 @@ use hashers::jenkins::Lookup3Hasher;
 use hashers::jenkins::spooky_hash::SpookyHasher;
 use hashers::laws::{block_for, stretch_for};
 use std::hash::Hasher;
+use xxh3_laws::unmix::{bytes_for, bytes_for_wide};
 
 /// Twelve zeros lead lookup3 to known words, by the steps of the two mixes.
 #[test]

@@ -3,11 +3,9 @@
 
 // What follows is the proved text of crates/hash_fx/src/lib.rt without its contracts.
 
-mod differing;
 mod fx;
 mod hasher;
 mod maps;
-pub mod pieces;
 mod word;
 mod words;
 

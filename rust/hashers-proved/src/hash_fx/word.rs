@@ -3,7 +3,6 @@
 // What follows is the proved text of crates/hash_fx/src/word.rt without its contracts.
 use crate::{hash_rules, hash_words};
 
-use crate::hash_fx::differing::{differing_fours_and_bytes, differing_words};
 use crate::hash_fx::words::{eights_in, eights_out, fours_and_bytes_in, fours_and_bytes_out};
 use hash_rules::Word;
 use hash_words::{le_four, rotl32, rotl64};
@@ -114,21 +113,6 @@ pub trait FxSplit: FxWord {
     /// recurrence Self.step (Self.number result) (words piece.now) ≡ Self.number self
     /// ```
     fn words_out(self, piece: &[u8]) -> Self;
-
-    /// At how many places the words of two pieces of one length differ.
-    ///
-    /// The caller has to see to it that:
-    ///
-    /// ```text
-    /// length x.now ≡ length y.now
-    /// ```
-    ///
-    /// Proved:
-    ///
-    /// ```text
-    /// result ≡ differences (words x.now) (words y.now)
-    /// ```
-    fn differing(x: &[u8], y: &[u8]) -> usize;
 }
 
 impl FxWord for u32 {
@@ -230,11 +214,6 @@ impl FxSplit for u32 {
     fn words_out(self, piece: &[u8]) -> u32 {
         fours_and_bytes_out(self, piece)
     }
-
-    #[inline]
-    fn differing(x: &[u8], y: &[u8]) -> usize {
-        differing_fours_and_bytes(x, y)
-    }
 }
 
 impl FxSplit for u64 {
@@ -260,12 +239,5 @@ impl FxSplit for u64 {
     fn words_out(self, piece: &[u8]) -> u64 {
         let (eights, rest) = piece.as_chunks::<8>();
         eights_out(fours_and_bytes_out(self, rest), eights)
-    }
-
-    #[inline]
-    fn differing(x: &[u8], y: &[u8]) -> usize {
-        let (x_eights, x_rest) = x.as_chunks::<8>();
-        let (y_eights, y_rest) = y.as_chunks::<8>();
-        differing_words(x_eights, y_eights) + differing_fours_and_bytes(x_rest, y_rest)
     }
 }

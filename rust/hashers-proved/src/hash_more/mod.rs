@@ -11,7 +11,6 @@ pub mod djb2_add;
 pub mod elf;
 pub mod fnv1;
 pub mod joaat;
-pub mod windows;
 
 pub use djb2_add::Djb2AddHasher;
 pub use elf::ElfHasher;
@@ -21,7 +20,3 @@ pub use hash_crc::crc32::{
     Crc32Hasher, Crc32cHasher, crc32_combine, crc32_ending, crc32c, crc32c_combine, crc32c_ending,
 };
 pub use joaat::JoaatHasher;
-pub use windows::{
-    apart_crc32, apart_crc32_bits, apart_crc32c, apart_crc32c_bits, apart_djb2_add, apart_fnv1_32,
-    apart_fnv1_64,
-};

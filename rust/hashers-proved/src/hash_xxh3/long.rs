@@ -13,8 +13,10 @@ pub(crate) const STRIPE: usize = 64;
 
 /// The words, and the number of the next stripe in its block of sixteen.
 #[derive(Clone, Copy)]
-pub(crate) struct Lanes {
+pub struct Lanes {
+    /// The words.
     pub words: [u64; 8],
+    /// The number of the next stripe in its block.
     pub stripe: usize,
 }
 

@@ -5,21 +5,18 @@
 mod advance;
 mod build;
 pub mod hasher;
-pub mod laws;
-mod long;
+pub mod long;
 mod middle;
 mod parts;
 mod place;
 mod secret;
-mod short;
-pub mod unmix;
+pub mod short;
 mod whole;
 mod wide;
-mod words;
+pub mod words;
 
 pub use build::BuildXxh3;
 pub use hasher::{Xxh3Hasher, xxh3_64_of_pieces, xxh3_128_of_pieces};
-pub use laws::{apart_xxh3, apart_xxh128};
 pub use place::Xxh3Place;
 pub use whole::xxh3_64;
 pub use wide::xxh3_128;

@@ -19,7 +19,7 @@ use crate::hash_xxh3::words::{avalanche, avalanche_64, folded_product, half_at, 
 /// result ≡ secret_pair at
 /// ```
 #[inline(always)]
-pub(crate) fn secret_pair(at: usize) -> u64 {
+pub fn secret_pair(at: usize) -> u64 {
     secret_word(at) ^ secret_word(at + 8)
 }
 
@@ -124,7 +124,7 @@ pub(crate) fn eight_seed(seed: u64) -> u64 {
 /// result ≡ eight_flip seed
 /// ```
 #[inline(always)]
-pub(crate) fn eight_flip(seed: u64) -> u64 {
+pub fn eight_flip(seed: u64) -> u64 {
     secret_pair(8).wrapping_sub(eight_seed(seed))
 }
 

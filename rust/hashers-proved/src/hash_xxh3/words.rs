@@ -71,7 +71,7 @@ pub(crate) fn half_at(text: &[u8], at: usize) -> u32 {
 /// result ≡ x * y
 /// ```
 #[inline(always)]
-pub(crate) fn whole_product(x: u64, y: u64) -> u128 {
+pub fn whole_product(x: u64, y: u64) -> u128 {
     u128::from(x) * u128::from(y)
 }
 
@@ -139,7 +139,7 @@ pub(crate) fn three_turns(hash: u64) -> u64 {
 /// result ≡ length_in len hash
 /// ```
 #[inline(always)]
-pub(crate) fn length_in(len: u64, hash: u64) -> u64 {
+pub fn length_in(len: u64, hash: u64) -> u64 {
     hash ^ ((hash >> 35) + len)
 }
 

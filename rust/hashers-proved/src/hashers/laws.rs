@@ -1,12 +1,12 @@
 //! The laws of hashers: the traits and the generic functions, and tests of two texts.
 
 // What follows is the proved text of crates/hashers/src/laws.rt without its contracts.
-use crate::{hash_fx, hash_laws, hash_windows, hash_writes, jenkins_laws};
+use crate::{fx_laws, hash_laws, hash_windows, hash_writes, jenkins_laws};
 
 pub use crate::hashers::windows::{
     apart_djb2, apart_fnv32, apart_fnv64, apart_sdbm, same_word,
 };
-pub use hash_fx::pieces::{
+pub use fx_laws::pieces::{
     apart_by_one_fx, apart_by_one_word_fx32, apart_by_one_word_fx64,
     run_words,
     run_words32, run_words64,

@@ -2,15 +2,15 @@
 
 // What follows is the proved text of crates/hashers/src/lib.rt without its contracts.
 #[doc(hidden)]
-pub use crate::{hash_bytes, hash_fx, hash_jenkins, hash_reading, hash_rounds, hash_rules, hash_windows, hash_writes};
+pub use crate::{hash_bytes, hash_jenkins, hash_reading, hash_rounds, hash_rules, hash_windows, hash_writes};
 
 mod counts;
+pub mod fx_hash;
 pub mod laws;
 pub mod promises;
 mod windows;
 
 pub use hash_bytes::{fnv as fnv, null as null, oz as oz, pigeon as pigeon};
-pub use hash_fx as fx_hash;
 pub use hash_jenkins as jenkins;
 #[cfg(feature = "std")]
 pub use hash_reading::{reader as engine, reader as reader};

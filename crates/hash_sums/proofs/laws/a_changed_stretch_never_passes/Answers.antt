@@ -1,5 +1,5 @@
 use Rattle.hashers.specs.DifferWithin.{DifferWithin}
-use Rattle.hash_more.specs.Bursts.{DifferWithinBits}
+use Rattle.more_laws.specs.Bursts.{DifferWithinBits}
 use Rattle.hash_names.specs.declared.table.Kind.TheVariants.{Crc32, Crc32c, Djb2, Djb2Add, Fnv1At32, Fnv1At64, Fnv1a32, Fnv1a64, Sdbm}
 use Rattle.hash_sums.proofs.LawLemmas.{kind_never_passes}
 use Rattle.hash_sums.proofs.laws.a_changed_stretch_never_passes.Goals as goal

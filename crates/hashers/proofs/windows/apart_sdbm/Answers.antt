@@ -1,4 +1,4 @@
-use Rattle.hash_bytes.proofs.Collisions.{sdbm_apart}
+use Rattle.hashers.proofs.Collisions.{sdbm_apart}
 use Rattle.hash_windows.proofs.Windows.{window_tells_apart}
 use Rattle.hashers.proofs.windows.apart_sdbm.Goals as goal
 

@@ -1,4 +1,4 @@
-use Rattle.hash_bytes.proofs.Collisions.{djb2_apart, sdbm_apart, fnv1a32_apart, fnv1a64_apart}
+use Rattle.hashers.proofs.Collisions.{djb2_apart, sdbm_apart, fnv1a32_apart, fnv1a64_apart}
 use Rattle.hashers.proofs.windows.windows_tell_apart.Goals as goal
 
 pub returns : goal.returns

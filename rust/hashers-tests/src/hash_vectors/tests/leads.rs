@@ -1,14 +1,13 @@
 //! What leads to a hash, each call once.
 
 // What follows is the proved text of crates/hash_vectors/src/tests/leads.rt without its contracts.
-use hashers_proved::{block_laws, hash_more, hash_murmur3, hash_xxh3, hash_xxhash, hashers};
+use hashers_proved::{block_laws, hash_more, hash_murmur3, hash_xxh3, hash_xxhash, hashers, xxh3_laws};
 use crate::shim::{HostRuntime, std};
 
 use crate::hash_vectors::tests::{all_hold, same};
 use block_laws::{block_for_murmur3_128, word_for_murmur3_32, word_for_xxh32, word_for_xxh64};
 use hash_more::crc32::{crc32, crc32_ending, crc32c, crc32c_ending};
 use hash_murmur3::{Murmur3Hasher32, Murmur3Hasher128};
-use hash_xxh3::unmix::{bytes_for, bytes_for_wide};
 use hash_xxh3::{xxh3_64, xxh3_128};
 use hash_xxhash::{Xxh32Hasher, Xxh64Hasher};
 use hashers::fx_hash::{FxHasher32, FxHasher64};
@@ -16,6 +15,7 @@ use hashers::jenkins::Lookup3Hasher;
 use hashers::jenkins::spooky_hash::SpookyHasher;
 use hashers::laws::{block_for, stretch_for};
 use std::hash::Hasher;
+use xxh3_laws::unmix::{bytes_for, bytes_for_wide};
 
 /// Twelve zeros lead lookup3 to known words, by the steps of the two mixes.
 #[inline]

@@ -1,7 +1,7 @@
 //! Tests of two texts, and texts of one hash that no test tells apart.
 
 // What follows is the proved text of crates/hash_vectors/src/tests/two_texts.rt without its contracts.
-use hashers_proved::{block_laws, hash_more, hash_xxh3, hashers};
+use hashers_proved::{block_laws, hashers, more_laws, xxh3_laws};
 use crate::shim::{HostRuntime, std};
 
 use super::vectors::in_one;
@@ -10,11 +10,6 @@ use crate::hash_vectors::times31::Times31;
 use block_laws::{
     apart_by_block_murmur3_128, apart_by_word_murmur3_32, apart_by_word_xxh32, apart_by_word_xxh64,
 };
-use hash_more::windows::{
-    apart_crc32, apart_crc32_bits, apart_crc32c, apart_crc32c_bits, apart_djb2_add, apart_fnv1_32,
-    apart_fnv1_64,
-};
-use hash_xxh3::{apart_xxh3, apart_xxh128};
 use hashers::fnv::FNV1aHasher64;
 use hashers::jenkins::spooky_hash::SpookyHasher;
 use hashers::laws::{
@@ -22,7 +17,12 @@ use hashers::laws::{
     apart_by_stretch, apart_by_zeros, apart_djb2, apart_fnv32, apart_fnv64, apart_sdbm,
     differ_at_one_place, differ_in_one_block, differ_in_one_stretch, is_window, same_word,
 };
+use more_laws::windows::{
+    apart_crc32, apart_crc32_bits, apart_crc32c, apart_crc32c_bits, apart_djb2_add, apart_fnv1_32,
+    apart_fnv1_64,
+};
 use std::hash::Hasher;
+use xxh3_laws::{apart_xxh3, apart_xxh128};
 
 /// Whether a test holds of two texts.
 fn holds(test: &str, x: &[u8], y: &[u8]) -> Option<bool> {

@@ -1,5 +1,5 @@
 use Rattle.std.proofs.Common.{arith}
-use Rattle.hash_fx.proofs.FxEven.{to_there, undone_64}
+use Rattle.hash_fx.proofs.OneWord.{to_there, undone_64}
 use Rattle.hash_fx.proofs.word.U64FxWord.word_to.Goals as goal
 
 pub returns : goal.returns

@@ -1,0 +1,11 @@
+pub mod ByPlace
+pub mod CutsLemmas
+pub mod DifferencesLemmas
+pub mod FxEven
+pub mod LowBits
+pub mod OneApart
+pub mod PiecesLemmas
+pub mod TestLemmas
+pub mod WholePieces
+pub mod WordTests
+pub mod WordsApart

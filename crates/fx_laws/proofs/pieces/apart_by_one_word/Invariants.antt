@@ -1,0 +1,13 @@
+use Rattle.std.proofs.Common.{◌≡◌, ◌≤◌, take}
+use Rattle.fx_laws.specs.Differences.{differences}
+use Rattle.fx_laws.proofs.WordTests.{words_of}
+use Rattle.fx_laws.proofs.pieces.apart_by_one_word.Given as goal
+
+-- the words so far
+abbrev pub invariant-loop-i : goal.invariant-loop-i
+invariant-loop-i g l =
+    let words = g.W.FxSplit.words in
+    record {
+      so_far : l.apart ≡ differences (words_of words (take l.i l.x)) (words_of words (take l.i l.y));
+      few : l.apart ≤ 1;
+    }

@@ -1,0 +1,12 @@
+use Rattle.std.proofs.Common.{◌≡◌, arith}
+use Rattle.hash_words.specs.Words.{le, rotl}
+use Rattle.hash_words.specs.Pieces.{pieces}
+use Rattle.hash_laws.specs.Recurrence.{recurrence}
+use Rattle.fx_laws.proofs.pieces.cuts_show_in_fx.Goals as goal
+
+pub returns : goal.returns
+unfolding le rotl pieces recurrence
+returns c = record {
+  at_64 = λ e. let values : 1696433935653932149 ≡ 1354925164685923880 = e in omega (arith, values);
+  at_32 = λ e. let values : 663882869 ≡ 1613333038 = e in omega (arith, values);
+}

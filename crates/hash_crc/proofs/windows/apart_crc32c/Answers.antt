@@ -1,9 +1,0 @@
-use Rattle.std.proofs.Common.{refl}
-use Rattle.hash_crc.specs.Crc32.{castagnoli}
-use Rattle.hash_windows.proofs.Windows.{window_tells_apart}
-use Rattle.hash_crc.proofs.Crc32Bursts.{crc_apart}
-use Rattle.hash_crc.proofs.windows.apart_crc32c.Goals as goal
-
-pub returns-clause-differ : goal.returns-clause-differ
-returns-clause-differ c = window_tells_apart
-    (crc_apart castagnoli refl) c.args.x.now c.args.y.now c.type_inv.x c.type_inv.y _ c.is_window.ensures

@@ -1,5 +1,0 @@
-use Rattle.hash_fx.proofs.FxEven.{even-64, even-32}
-use Rattle.hash_fx.proofs.pieces.fx_is_even.Goals as goal
-
-pub returns : goal.returns
-returns c = record { at_64 = even-64; at_32 = even-32 }

@@ -1,0 +1,11 @@
+use Rattle.std.proofs.Common.{refl}
+use Rattle.std.proofs.lemmas.Bool.{OnTrue_from}
+use Rattle.hash_laws.proofs.TextLemmas.{IsText-from_slice}
+use Rattle.hash_crc.specs.Crc32.{ieee}
+use Rattle.more_laws.proofs.Crc32Bursts.{burst_apart}
+use Rattle.more_laws.proofs.bursts.apart_crc32_bits.Goals as goal
+
+pub returns-clause-differ : goal.returns-clause-differ
+returns-clause-differ c =
+    OnTrue_from c.is_burst.result _ (λ yes. burst_apart ieee refl c.args.x.now c.args.y.now (IsText-from_slice c.args.x.now c.type_inv.x)
+    (IsText-from_slice c.args.y.now c.type_inv.y) (c.is_burst.ensures.0 yes))

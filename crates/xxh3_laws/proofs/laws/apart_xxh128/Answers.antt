@@ -1,0 +1,14 @@
+use Rattle.std.proofs.Common.{rules, ℕ, ◌≢◌, arith}
+use Rattle.std.proofs.lemmas.Bool.{OnTrue_from}
+use Rattle.hash_xxh3.specs.Wide.{xxh3_128_of}
+use Rattle.xxh3_laws.proofs.WideLemmas.{short-same}
+use Rattle.xxh3_laws.proofs.laws.apart_xxh128.Goals as goal
+
+pub returns-then-x-y-clause-differ : goal.returns-then-x-y-clause-differ
+returns-then-x-y-clause-differ c =
+    let x = c.args.x.now in
+    let y = c.args.y.now in
+    OnTrue_from c.ne.result ((seed : ℕ) → xxh3_128_of seed x ≢ xxh3_128_of seed y)
+    (λ yes seed same.
+    let other : x ≢ y = search (rules, arith) in
+    other (short-same seed x y c.bytes_are_a_text.ensures c.bytes_are_a_text-2.ensures (omega arith) (omega arith) same))

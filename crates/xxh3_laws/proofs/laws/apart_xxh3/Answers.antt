@@ -1,0 +1,25 @@
+use Rattle.std.proofs.Common.{rules, ℕ, ◌≢◌, arith}
+use Rattle.std.proofs.lemmas.Bool.{OnTrue_from}
+use Rattle.hash_xxh3.specs.Xxh3.{xxh3_64_of}
+use Rattle.xxh3_laws.proofs.ShortLemmas.{few_bytes-same, eight_bytes-same}
+use Rattle.xxh3_laws.proofs.laws.apart_xxh3.Goals as goal
+
+pub returns-in-1-to-3-1-to-3-clause-differ : goal.returns-in-1-to-3-1-to-3-clause-differ
+returns-in-1-to-3-1-to-3-clause-differ c =
+    let x = c.args.x.now in
+    let y = c.args.y.now in
+    OnTrue_from c.ne.result ((seed : ℕ) → xxh3_64_of seed x ≢ xxh3_64_of seed y)
+    (λ yes seed same.
+    let other : x ≢ y = search (rules, arith) in
+    other (few_bytes-same seed x y c.bytes_are_a_text.ensures c.bytes_are_a_text-2.ensures
+    (omega arith) (omega arith) (omega arith) (omega arith) same))
+
+pub returns-then-len-x-clause-differ : goal.returns-then-len-x-clause-differ
+returns-then-len-x-clause-differ c =
+    let x = c.args.x.now in
+    let y = c.args.y.now in
+    OnTrue_from c.ne-then-len-x.result ((seed : ℕ) → xxh3_64_of seed x ≢ xxh3_64_of seed y)
+    (λ yes seed same.
+    let other : x ≢ y = search (rules, arith) in
+    other (eight_bytes-same seed x y c.bytes_are_a_text.ensures c.bytes_are_a_text-2.ensures
+    (omega arith) (omega arith) (omega arith) same))
