@@ -1,9 +1,10 @@
 -- What comes of cutting a file, by what comes of cutting what it holds.
-use Rattle.std.proofs.Common.{◌≡◌, ◌<◌, ◌+◌, ℕ, ◌++◌, ◌∷◌, [], List, length, length-append, take, drop, Bool, true, false, Option, Some, None, Result, Ok, Err, OnOk, IsTrue, inr, append-nil, arith, ap, sym, ◌∙◌, refl}
+use Rattle.std.proofs.Common.{◌≡◌, ◌<◌, ◌+◌, ℕ, ◌++◌, ◌∷◌, [], List, length, length-append, take, drop, Bool, true, false, Option, Some, None, Result, Ok, Err, OnOk, IsTrue, inr, append-nil, arith, ap, ◌∙◌, refl}
 use Rattle.std.specs.List.{concat}
 use Rattle.hash_chunks.specs.Cut.{EndsFile, IsTorn, Opening}
 use Rattle.hash_cuts.specs.Cuts.{Cutting, chunks, chunks_upto, first_cut}
 use Rattle.hash_cuts.specs.Reading.{CutsAll, CutsRead, IsBegun, Taken}
+use Rattle.streams.proofs.RecordLemmas.{first_all}
 
 -- the bytes of chunks and one more
 pub bytes_more : (given : List (List ℕ)) (chunk : List ℕ) → length (concat (given ++ chunk ∷ [])) ≡ length (concat given) + length chunk
@@ -32,7 +33,7 @@ module _ {S : Type 0} (taken : Taken S) (cuts : Cutting) (opens : Opening) (held
   ends-taken E false all first =
       let (rest, begun, read) = first refl in (
         read.gives.given,
-        inr (rest, (read.text, left, record { held = held; opened = is_open; read = read.read }, read.gives.stay), begun),
+        inr (rest, (read.text, left, record { held = held; opened = is_open; read = read.read }, read.gives.first), begun),
         read.gives.takes,
       )
 
@@ -49,8 +50,7 @@ module _ {S : Type 0} (taken : Taken S) (cuts : Cutting) (opens : Opening) (held
         left = left;
         read = record { held = held; opened = is_open; read = read.read };
         others = others;
-        first = ap (chunks cuts) (sym (append-nil read.text)) ∙ read.gives.stay []
-            ∙ ap (λ t. read.gives.given ++ chunks cuts t) (append-nil rest) ∙ ap (λ list. read.gives.given ++ list) is;
+        first = first_all read.gives.first ∙ ap (λ list. read.gives.given ++ list) is;
       }
 
   -- it refused none
@@ -63,7 +63,7 @@ module _ {S : Type 0} (taken : Taken S) (cuts : Cutting) (opens : Opening) (held
     left = left;
     read = record { held = held; opened = is_open; read = read.read };
     others = chunks cuts rest;
-    first = ap (chunks cuts) (sym (append-nil read.text)) ∙ read.gives.stay [] ∙ ap (λ t. read.gives.given ++ chunks cuts t) (append-nil rest);
+    first = first_all read.gives.first;
   }
 
 module _ {S E : Type 0} (taken : Taken S) (cuts : Cutting) (opens : Opening) (old new : S) (start : taken old old [] None) where

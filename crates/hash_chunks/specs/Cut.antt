@@ -5,6 +5,7 @@ use Rattle.std.specs.declared.io.Error.{Error}
 use Rattle.cli.specs.Files.{Opens}
 use Rattle.hash_cuts.specs.Cuts.{Cutting, chunks}
 use Rattle.hash_cuts.specs.Reading.{IsBegun, Taken, Takes}
+use Rattle.streams.specs.Records.{ComeFirst}
 
 -- what comes of opening a file
 abbrev pub Opening : Type 1
@@ -20,10 +21,10 @@ pub record IsRead (opens : Opening) (text : List ℕ) (left : Option (List ℕ))
 abbrev pub AreChunks : Cutting → Opening → List (List ℕ) → Type 0
 AreChunks cuts opens given = (text : List ℕ) × (left : Option (List ℕ)) × IsRead opens text left × IsAtEnd left × (given ≡ chunks cuts text)
 
--- these are the chunks that end within the text that was read of a file, before the rest of it, whatever comes behind
+-- these are the chunks that end within the text that was read of a file, before the rest of it
 abbrev pub AreFirst : Cutting → Opening → List (List ℕ) → (rest : List ℕ) → Type 0
 AreFirst cuts opens given rest = (text : List ℕ) × (left : Option (List ℕ)) × IsRead opens text left
-    × ((more : List ℕ) → chunks cuts (text ++ more) ≡ given ++ chunks cuts (rest ++ more))
+    × ComeFirst (chunks cuts) text given rest
 
 -- the chunks of a file: all; or it was not opened, or not read to its end, and they are all but the one that was begun
 abbrev pub IsCut : Cutting → Opening → (given : List (List ℕ)) (whole : Bool) → Type 0

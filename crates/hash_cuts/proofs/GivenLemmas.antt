@@ -1,49 +1,23 @@
 -- Chunks that a sink was given, one after the other.
 use Rattle.std.proofs.Common.{◌≡◌, ℕ, ◌+◌, ◌-◌, ◌<◌, ◌≤◌, ◌⊎◌, List, [], ◌∷◌, ◌++◌, length, length-append, take, drop, append_assoc, Option, Some, None, inl, inr, arith, ap, subst, sym, ◌∙◌, refl}
-use Rattle.std.proofs.Math.Path.{ap₂}
 use Rattle.std.specs.Io.KnownBytes.{IsAtEnd}
 use Rattle.std.proofs.KnownBytes.{Consumes-trans}
 use Rattle.std.proofs.lemmas.Bool.{cases_lt}
-use Rattle.std.proofs.lemmas.List.{append-nil, drop-append-le, drop-take, length-drop, take-append-drop, take-append-le, take_all}
+use Rattle.std.proofs.lemmas.List.{append-nil, drop-append-le, drop-take, length-drop, length-take, take-append-drop, take-append-le, take_all}
 use Rattle.hash_cuts.specs.Cuts.{Cutting, HasSizes, chunks, first_cut, is_cut}
 use Rattle.hash_cuts.specs.Reading.{CutsAll, CutsRead, GivesFirst, IsBegun, Taken, Takes}
+use Rattle.streams.specs.Records.{ComeFirst}
 use Rattle.streams.specs.Streams.{ReadsBehind}
+use Rattle.streams.proofs.RecordLemmas.{first_all, first_behind, first_both, first_none}
 use Rattle.hash_cuts.proofs.ChunkLemmas.{chunks-first, chunks-none, first_cut-le}
 use Rattle.hash_cuts.proofs.CutLemmas.{first_cut-is, first_cut-from}
 use Rattle.hash_cuts.proofs.InStep.{is_cut-same, own-bytes}
 
-module _ {S : Type 0} (taken : Taken S) where
-  pub takes-none : (old : S) → Takes taken old old [] None
-  takes-none old start before is = subst (λ chunks. taken start old chunks None) (sym (append-nil before)) is
-
-  -- more chunks
-  takes-more : (old new newer : S) (chunks others : List (List ℕ)) (refused : Option (List ℕ)) → Takes taken old new chunks None
-      → Takes taken new newer others refused → Takes taken old newer (chunks ++ others) refused
-  takes-more old new newer chunks others refused first then start before is =
-      subst (λ list. taken start newer list refused) (append_assoc before chunks others) (then start (before ++ chunks) (first start before is))
-
-  pub gives-none : (cuts : Cutting) (text : List ℕ) (old : S) → GivesFirst taken cuts text text None old old
-  gives-none cuts text old = record {
-    given = [];
-    takes = takes-none old;
-    stay = λ more. refl;
-  }
-
-  -- the sink refused a chunk
-  pub gives-refused : (cuts : Cutting) (text rest chunk : List ℕ) (old new newer : S) → GivesFirst taken cuts text rest None old new
-      → Takes taken new newer [] (Some chunk) → GivesFirst taken cuts text rest (Some chunk) old newer
-  gives-refused cuts text rest chunk old new newer gives refuses = record {
-    given = gives.given;
-    takes = subst (λ list. Takes taken old newer list (Some chunk)) (append-nil gives.given)
-        (takes-more old new newer gives.given [] (Some chunk) gives.takes refuses);
-    stay = gives.stay;
-  }
-
-module _ (cuts : Cutting) (sizes : HasSizes cuts) where
+module _ (cuts : Cutting) (sizes : HasSizes cuts) (rest : List ℕ) where
   -- a chunk that ends before the bytes do, or has as many bytes as may be, ends there whatever comes behind
-  ends-there : (rest more : List ℕ) → (first_cut cuts rest < length rest) ⊎ (first_cut cuts rest ≡ cuts.most)
+  ends-there : (more : List ℕ) → (first_cut cuts rest < length rest) ⊎ (first_cut cuts rest ≡ cuts.most)
       → first_cut cuts (rest ++ more) ≡ first_cut cuts rest
-  ends-there rest more ends =
+  ends-there more ends =
       let n = first_cut cuts rest in
       let is = first_cut-is cuts rest in
       let le : n ≤ length rest = first_cut-le cuts sizes rest in
@@ -62,108 +36,126 @@ module _ (cuts : Cutting) (sizes : HasSizes cuts) where
             }))
       ]
 
-module _ {S : Type 0} (taken : Taken S) (cuts : Cutting) (sizes : HasSizes cuts) where
-  -- one chunk more
-  pub gives-more : (text rest : List ℕ) (old new newer : S) → GivesFirst taken cuts text rest None old new → 0 < length rest
-      → (first_cut cuts rest < length rest) ⊎ (first_cut cuts rest ≡ cuts.most)
-      → Takes taken new newer (take (first_cut cuts rest) rest ∷ []) None
-      → GivesFirst taken cuts text (drop (first_cut cuts rest) rest) None old newer
-  gives-more text rest old new newer gives some ends takes =
-      let n = first_cut cuts rest in
-      let le : n ≤ length rest = first_cut-le cuts sizes rest in
-      record {
-        given = gives.given ++ take n rest ∷ [];
-        takes = takes-more taken old new newer gives.given (take n rest ∷ []) None gives.takes takes;
-        stay = λ more.
-            let same = ends-there cuts sizes rest more ends in
-            let there : 0 < length (rest ++ more) = omega (arith, some, length-append rest more) in
-            gives.stay more
-            ∙ ap (λ list. gives.given ++ list) (chunks-first cuts sizes (rest ++ more) there
-            ∙ ap₂ (λ (c t : List ℕ). c ∷ chunks cuts t)
-            (ap (λ k. take k (rest ++ more)) same ∙ take-append-le n rest more le)
-            (ap (λ k. drop k (rest ++ more)) same ∙ drop-append-le n rest more le))
-            ∙ sym (append_assoc gives.given (take n rest ∷ []) (chunks cuts (drop n rest ++ more)));
-      }
-
-  -- bytes behind, and the chunks of the rest with these
-  gives-behind : (text rest more rest' : List ℕ) (refused : Option (List ℕ)) (old new newer : S) → GivesFirst taken cuts text rest None old new
-      → GivesFirst taken cuts (rest ++ more) rest' refused new newer → GivesFirst taken cuts (text ++ more) rest' refused old newer
-  gives-behind text rest more rest' refused old new newer first then = record {
-    given = first.given ++ then.given;
-    takes = takes-more taken old new newer first.given then.given refused first.takes then.takes;
-    stay = λ others.
-        ap (chunks cuts) (append_assoc text more others) ∙ first.stay (more ++ others)
-        ∙ ap (λ t. first.given ++ chunks cuts t) (sym (append_assoc rest more others))
-        ∙ ap (λ list. first.given ++ list) (then.stay others)
-        ∙ sym (append_assoc first.given then.given (chunks cuts (rest' ++ others)));
+  one-first : 0 < length rest → (first_cut cuts rest < length rest) ⊎ (first_cut cuts rest ≡ cuts.most)
+      → ComeFirst (chunks cuts) rest (take (first_cut cuts rest) rest ∷ []) (drop (first_cut cuts rest) rest)
+  one-first some ends = record {
+    stay = λ more.
+        let le = first_cut-le cuts sizes rest in
+        rw (
+          chunks-first cuts sizes (rest ++ more) (omega (arith, some, length-append rest more)),
+          ends-there more ends,
+          take-append-le (first_cut cuts rest) rest more le,
+          drop-append-le (first_cut cuts rest) rest more le,
+        );
   }
 
-  -- with the last chunk they are all
-  gives-all : (text rest : List ℕ) (old new newer : S) → GivesFirst taken cuts text rest None old new → IsBegun cuts rest
-      → (length rest ≡ 0 → Takes taken new newer [] None) → (0 < length rest → Takes taken new newer (rest ∷ []) None)
-      → Takes taken old newer (chunks cuts text) None
-  gives-all text rest old new newer gives begun none one =
-      let all : chunks cuts text ≡ gives.given ++ chunks cuts rest =
-      ap (chunks cuts) (sym (append-nil text)) ∙ gives.stay [] ∙ ap (λ t. gives.given ++ chunks cuts t) (append-nil rest) in
-      let last : Takes taken new newer (chunks cuts rest) None = elim (cases_lt 0 (length rest)) [
-        | inl some ↦
-            let whole : first_cut cuts rest ≡ length rest = begun.0 in
-            let alone : chunks cuts rest ≡ rest ∷ [] =
-            chunks-first cuts sizes rest some
-            ∙ ap₂ (λ (c : List ℕ) (list : List (List ℕ)). c ∷ list) (take_all (first_cut cuts rest) rest (omega (arith, whole)))
-            (chunks-none cuts (drop (first_cut cuts rest) rest) (omega (arith, whole, length-drop (first_cut cuts rest) rest))) in
-            subst (λ list. Takes taken new newer list None) (sym alone) (one some)
-        | inr empty ↦
-            subst (λ list. Takes taken new newer list None) (sym (chunks-none cuts rest (omega (arith, empty)))) (none (omega (arith, empty)))
-      ] in
-      subst (λ list. Takes taken old newer list None) (sym all)
-      (takes-more taken old new newer gives.given (chunks cuts rest) None gives.takes last)
+  -- the chunk that is begun is the last, if it is not empty
+  begun-all : IsBegun cuts rest → 0 < length rest → chunks cuts rest ≡ rest ∷ []
+  begun-all begun some = rw (
+    chunks-first cuts sizes rest some,
+    take_all (first_cut cuts rest) rest (omega (arith, begun.0)),
+    chunks-none cuts (drop (first_cut cuts rest) rest) (omega (arith, begun.0, length-drop (first_cut cuts rest) rest)),
+  )
 
-  -- more was read, and the sink was given the first chunks of what was left with it
-  pub reads-first : (left mid left' : Option (List ℕ)) (old between new : S) (bytes count : ℕ) (rest whole rest' : List ℕ) (refused : Option (List ℕ))
-      → CutsRead taken cuts left mid old between bytes rest None → ReadsBehind rest whole mid left' count
-      → GivesFirst taken cuts whole rest' refused between new → CutsRead taken cuts left left' old new (bytes + count) rest' refused
-  reads-first left mid left' old between new bytes count rest whole rest' refused before (more, stands, long, read) gives = record {
-    text = before.text ++ more;
-    read = Consumes-trans left mid left' before.text more before.read read;
-    count = length-append before.text more ∙ omega (arith, before.count, long);
-    gives = gives-behind before.text rest more rest' refused old between new before.gives
-        (subst (λ t. GivesFirst taken cuts t rest' refused between new) stands gives);
-  }
+module _ {S : Type 0} (taken : Taken S) where
+  takes-none : (old : S) → Takes taken old old [] None
+  takes-none old start before is = subst (λ list. taken start old list None) (sym (append-nil before)) is
 
-  -- all was read, and the last chunk given
-  pub reads-all : (left left' : Option (List ℕ)) (old new newer : S) (bytes : ℕ) (rest : List ℕ)
-      → CutsRead taken cuts left left' old new bytes rest None → IsAtEnd left' → IsBegun cuts rest
-      → (length rest ≡ 0 → Takes taken new newer [] None)
-      → (0 < length rest → Takes taken new newer (rest ∷ []) None) → CutsAll taken cuts left left' old newer bytes
-  reads-all left left' old new newer bytes rest before end begun none one = record {
-    text = before.text;
-    read = before.read;
-    end = end;
-    count = before.count;
-    takes = gives-all before.text rest old new newer before.gives begun none one;
-  }
+  -- more chunks
+  takes-more : (old new newer : S) (given others : List (List ℕ)) (refused : Option (List ℕ)) → Takes taken old new given None
+      → Takes taken new newer others refused → Takes taken old newer (given ++ others) refused
+  takes-more old new newer given others refused first then start before is =
+      subst (λ list. taken start newer list refused) (append_assoc before given others) (then start (before ++ given) (first start before is))
 
-  -- the sink refused the last chunk
-  pub reads-refused : (left left' : Option (List ℕ)) (old new newer : S) (bytes : ℕ) (rest chunk : List ℕ)
-      → CutsRead taken cuts left left' old new bytes rest None → Takes taken new newer [] (Some chunk)
-      → CutsRead taken cuts left left' old newer bytes rest (Some chunk)
-  reads-refused left left' old new newer bytes rest chunk read refuses = record {
-    text = read.text;
-    read = read.read;
-    count = read.count;
-    gives = gives-refused taken cuts read.text rest chunk old new newer read.gives refuses;
-  }
+module _ {S : Type 0} {taken : Taken S} where
+  pub gives-none : {cuts : Cutting} (text : List ℕ) (old : S) → GivesFirst taken cuts text text None old old
+  gives-none text old = record { given = []; takes = takes-none taken old; first = first_none }
 
--- nothing was read
-pub reads-none : {S : Type 0} (taken : Taken S) (cuts : Cutting) (left : Option (List ℕ)) (old : S)
-    → CutsRead taken cuts left left old old 0 [] None
-reads-none taken cuts None old = record { text = []; read = tt; count = refl; gives = gives-none taken cuts [] old }
-reads-none taken cuts (Some text) old = record { text = []; read = refl; count = refl; gives = gives-none taken cuts [] old }
+  module _ {cuts : Cutting} {text rest : List ℕ} {old new : S} (gives : GivesFirst taken cuts text rest None old new) where
+    -- the sink refused a chunk
+    pub gives-refused : {newer : S} {chunk : List ℕ} → Takes taken new newer [] (Some chunk)
+        → GivesFirst taken cuts text rest (Some chunk) old newer
+    gives-refused {newer} {chunk} refuses = record {
+      given = gives.given;
+      takes = subst (λ list. Takes taken old newer list (Some chunk)) (append-nil gives.given)
+          (takes-more taken old new newer gives.given [] (Some chunk) gives.takes refuses);
+      first = gives.first;
+    }
+
+    -- one chunk more
+    pub gives-more : {newer : S} → HasSizes cuts → 0 < length rest
+        → (first_cut cuts rest < length rest) ⊎ (first_cut cuts rest ≡ cuts.most)
+        → Takes taken new newer (take (first_cut cuts rest) rest ∷ []) None
+        → GivesFirst taken cuts text (drop (first_cut cuts rest) rest) None old newer
+    gives-more {newer} sizes some ends takes = record {
+      given = gives.given ++ take (first_cut cuts rest) rest ∷ [];
+      takes = takes-more taken old new newer gives.given (take (first_cut cuts rest) rest ∷ []) None gives.takes takes;
+      first = first_both gives.first (one-first cuts sizes rest some ends);
+    }
+
+    -- bytes behind, and the chunks of the rest with these
+    gives-behind : {rest' : List ℕ} {refused : Option (List ℕ)} {newer : S} (more : List ℕ)
+        → GivesFirst taken cuts (rest ++ more) rest' refused new newer → GivesFirst taken cuts (text ++ more) rest' refused old newer
+    gives-behind {refused = refused} {newer = newer} more then = record {
+      given = gives.given ++ then.given;
+      takes = takes-more taken old new newer gives.given then.given refused gives.takes then.takes;
+      first = first_both (first_behind more gives.first) then.first;
+    }
+
+    -- with the last chunk they are all
+    gives-all : (newer : S) → HasSizes cuts → IsBegun cuts rest → (length rest ≡ 0 → Takes taken new newer [] None)
+        → (0 < length rest → Takes taken new newer (rest ∷ []) None) → Takes taken old newer (chunks cuts text) None
+    gives-all newer sizes begun none one =
+        let last : Takes taken new newer (chunks cuts rest) None = elim (cases_lt 0 (length rest)) [
+          | inl some ↦ subst (λ list. Takes taken new newer list None) (sym (begun-all cuts sizes rest begun some)) (one some)
+          | inr empty ↦
+              subst (λ list. Takes taken new newer list None) (sym (chunks-none cuts rest (omega (arith, empty)))) (none (omega (arith, empty)))
+        ] in
+        subst (λ list. Takes taken old newer list None) (sym (first_all gives.first))
+        (takes-more taken old new newer gives.given (chunks cuts rest) None gives.takes last)
+
+  module _ {cuts : Cutting} {left mid : Option (List ℕ)} {old new : S} {bytes : ℕ} {rest : List ℕ}
+      (before : CutsRead taken cuts left mid old new bytes rest None) where
+    -- more was read, and the sink was given the first chunks of what was left with it
+    pub reads-first : {left' : Option (List ℕ)} {newer : S} {count : ℕ} {whole rest' : List ℕ} {refused : Option (List ℕ)}
+        → ReadsBehind rest whole mid left' count → GivesFirst taken cuts whole rest' refused new newer
+        → CutsRead taken cuts left left' old newer (bytes + count) rest' refused
+    reads-first {rest' = rest'} {refused = refused} (more, stands, long, read) gives = record {
+      text = before.text ++ more;
+      read = Consumes-trans _ _ _ _ _ before.read read;
+      count = omega (arith, length-append before.text more, before.count, long);
+      gives = gives-behind before.gives more (rw stands at gives);
+    }
+
+    -- all was read, and the last chunk given
+    pub reads-all : {newer : S} → HasSizes cuts → IsAtEnd mid → IsBegun cuts rest → (length rest ≡ 0 → Takes taken new newer [] None)
+        → (0 < length rest → Takes taken new newer (rest ∷ []) None) → CutsAll taken cuts left mid old newer bytes
+    reads-all {newer} sizes end begun none one = record {
+      text = before.text;
+      read = before.read;
+      end = end;
+      count = before.count;
+      takes = gives-all before.gives newer sizes begun none one;
+    }
+
+    -- the sink refused the last chunk
+    pub reads-refused : {newer : S} {chunk : List ℕ} → Takes taken new newer [] (Some chunk)
+        → CutsRead taken cuts left mid old newer bytes rest (Some chunk)
+    reads-refused refuses = record {
+      text = before.text;
+      read = before.read;
+      count = before.count;
+      gives = gives-refused before.gives refuses;
+    }
+
+  -- nothing was read
+  pub reads-none : (cuts : Cutting) (left : Option (List ℕ)) (old : S) → CutsRead taken cuts left left old old 0 [] None
+  reads-none cuts None old = record { text = []; read = tt; count = refl; gives = gives-none [] old }
+  reads-none cuts (Some text) old = record { text = []; read = refl; count = refl; gives = gives-none [] old }
 
 -- what was moved to the front
-pub moved-front : (buffer moved : List ℕ) (given to k : ℕ) → given ≤ to → k ≡ to - given
+pub moved-front : (buffer moved : List ℕ) (given to k : ℕ) → given ≤ length (take to buffer) → k ≡ to - given
     → take (to - given) moved ≡ take (to - given) (drop given buffer) → take k moved ≡ drop given (take to buffer)
 moved-front buffer moved given to k within count kept =
-    let whole : given + (to - given) ≡ to = omega (arith, within) in
-    ap (λ n. take n moved) count ∙ kept ∙ sym (drop-take given (to - given) buffer) ∙ ap (λ n. drop given (take n buffer)) whole
+    let whole : given + (to - given) ≡ to = omega (arith, within, length-take to buffer) in
+    rw count (kept ∙ sym (drop-take given (to - given) buffer) ∙ ap (λ n. drop given (take n buffer)) whole)

@@ -1,6 +1,7 @@
 -- What a reader's bytes give a sink of chunks.
 use Rattle.std.specs.Prelude.{ℕ, ◌≡◌, ◌<◌, List, ◌++◌, Option, Some, None, length, take}
 use Rattle.std.specs.Io.KnownBytes.{Consumes, IsAtEnd}
+use Rattle.streams.specs.Records.{ComeFirst}
 use Rattle.hash_cuts.specs.Cuts.{Cutting, chunks, first_cut}
 use Rattle.hash_cuts.specs.declared.reader.Unfinished.{Unfinished}
 use Rattle.hash_cuts.specs.declared.reader.Unfinished.TheVariants.{Unread, Refused, NoMemory}
@@ -14,11 +15,11 @@ abbrev pub Takes : {S : Type 0} → Taken S → (old new : S) (chunks : List (Li
 Takes {S} taken old new chunks refused =
     (start : S) (before : List (List ℕ)) → taken start old before None → taken start new (before ++ chunks) refused
 
--- a sink was given the first chunks of a text, up to the rest: whatever comes behind, these are its first chunks
+-- a sink was given the first chunks of a text, up to the rest
 pub record GivesFirst {S : Type 0} (taken : Taken S) (cuts : Cutting) (text rest : List ℕ) (refused : Option (List ℕ)) (old new : S) : Type 0 where
   pub given : List (List ℕ)
   pub takes : Takes taken old new given refused
-  pub stay : (more : List ℕ) → chunks cuts (text ++ more) ≡ given ++ chunks cuts (rest ++ more)
+  pub first : ComeFirst (chunks cuts) text given rest
 
 -- no chunk of the bytes ends, but by their end
 abbrev pub IsBegun : Cutting → List ℕ → Type 0

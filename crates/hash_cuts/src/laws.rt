@@ -1,5 +1,5 @@
 //! Laws of chunks, with no code. Each is of all texts and all sizes that [`Cuts::new`](crate::Cuts::new) takes.
-ghost use Rattle.std.specs.Prelude.{◌≡◌, ◌≢◌, ◌-◌, ◌*◌, ◌%◌, ◌^◌, ◌<◌, ◌≤◌, ◌++◌, ℕ, List, [], All, length, map, take};
+ghost use Rattle.std.specs.Prelude.{◌≡◌, ◌≢◌, ◌-◌, ◌%◌, ◌^◌, ◌<◌, ◌≤◌, ◌++◌, ℕ, List, [], All, length, map, take};
 ghost use Rattle.std.specs.List.{concat};
 ghost use Rattle.hashers.specs.Sums.{digit_sum};
 ghost use Rattle.hash_cuts.specs.Cuts.{Cutting, HasSizes, chunks, first_cut};

@@ -1,7 +1,7 @@
 //! The chunks of what a reader gives, the same ones however the reader cuts its bytes.
 ghost use Rattle.std.specs.Prelude.{◌≡◌, ◌≤◌, ◌<◌, ◌+◌, ◌-◌, ◌↔◌, ◌∷◌, [], ℕ, List, Option, Some, None, length, take, drop, IfOk, IfErr, OnOk, OnErr, IsTrue, true, false};
 ghost use Rattle.std.specs.Io.KnownBytes.{IsAtEnd};
-ghost use Rattle.hash_cuts.specs.Cuts.{HasSizes, chunks, first_cut};
+ghost use Rattle.hash_cuts.specs.Cuts.{chunks, first_cut};
 ghost use Rattle.hash_cuts.specs.Reading.{BreaksAt, CutsAll, CutsRead, GivesFirst, IsBegun, Taken, Takes};
 ghost use Rattle.streams.specs.Streams.{ReadsBehind};
 

@@ -6,6 +6,7 @@ use Rattle.std.proofs.KnownBytes.{Appends-kept, Consumes-trans, Consumes-whole}
 use Rattle.std.proofs.lemmas.Bool.{cases_lt, false≢true}
 use Rattle.std.proofs.lemmas.List.{append-nil}
 use Rattle.std.proofs.lemmas.List.Elements.{filter-append}
+use Rattle.streams.proofs.RecordLemmas.{first_all, first_behind, first_both, first_none}
 use Rattle.streams.proofs.StreamLemmas.{part_whole}
 use Rattle.unique_lines.specs.Between.{Filled, Splits, Takes}
 use Rattle.text_set.specs.Lines.{IsBare, IsLineEnd, lines_by}
@@ -68,7 +69,7 @@ breaks_before {output = output} grows keeps more = record {
 
 module _ {eol : ℕ} where
   pub splits_nowhere : (bytes : List ℕ) → Splits eol bytes [] bytes
-  splits_nowhere bytes = record { splits = λ later. refl; ends = refl }
+  splits_nowhere bytes = record { first = first_none; ends = refl }
 
   -- the first line, and what comes behind it
   pub splits_line : (bytes line behind : List ℕ) (n : ℕ) → line ≡ take (n + 1) bytes → behind ≡ drop (n + 1) bytes
@@ -77,32 +78,26 @@ module _ {eol : ℕ} where
       let (stops, some, ended) = line_before eol bytes line n front end in
       let joined : line ++ behind ≡ bytes = rw (front, back) (take-append-drop (n + 1) bytes) in
       record {
-        splits = λ later. rw (← joined, append_assoc) (lines_of_line eol line (behind ++ later) stops ended);
+        first = record { stay = λ later. rw (← joined, append_assoc) (lines_of_line eol line (behind ++ later) stops ended) };
         ends = rw ended;
       }
 
   pub splits_both : {bytes mid rest : List ℕ} {ls more : List (List ℕ)} → Splits eol bytes ls mid → Splits eol mid more rest
       → Splits eol bytes (ls ++ more) rest
   splits_both {ls = ls} {more = more} one two = record {
-    splits = λ later. rw (one.splits later, two.splits later, append_assoc);
+    first = first_both one.first two.first;
     ends = rw (filter-append (ends_with_byte eol) ls more, one.ends, two.ends);
   }
 
   -- more bytes behind them
   pub splits_behind : {bytes rest : List ℕ} {ls : List (List ℕ)} (more : List ℕ) → Splits eol bytes ls rest
       → Splits eol (bytes ++ more) ls (rest ++ more)
-  splits_behind {bytes = bytes} {rest = rest} more it = record {
-    splits = λ later. rw (append_assoc bytes more later, it.splits (more ++ later), append_assoc rest more later);
-    ends = it.ends;
-  }
-
-  lines_are : {bytes rest : List ℕ} {ls : List (List ℕ)} → Splits eol bytes ls rest → lines_by eol bytes ≡ ls ++ lines_by eol rest
-  lines_are it = simp append-nil at (it.splits [])
+  splits_behind more it = record { first = first_behind more it.first; ends = it.ends }
 
   -- where the rest has no end, the lines that have one are these
   whole_are : {bytes rest : List ℕ} {ls : List (List ℕ)} → Splits eol bytes ls rest → IsBare eol rest → whole_lines eol bytes ≡ ls
   whole_are {rest = rest} {ls = ls} it bare =
-      rw (lines_are it, filter-append (ends_with_byte eol) ls (lines_by eol rest), it.ends, none rest bare, append-nil ls)
+      rw (first_all it.first, filter-append (ends_with_byte eol) ls (lines_by eol rest), it.ends, none rest bare, append-nil ls)
     where
       none : (rest : List ℕ) → IsBare eol rest → whole_lines eol rest ≡ []
       none [] bare = refl
@@ -138,7 +133,7 @@ module _ {eol limit : ℕ} {left left' : Option (List ℕ)} {unread : List ℕ} 
   pub next_lines : {more : List (List ℕ)} {rest : List ℕ} → Splits eol unread more rest → BeginWith eol left (ls ++ more)
   next_lines {rest = rest} it =
       let (later, first) = begins eol left left' reads.bytes reads.read in
-      first _ _ ((splits_both reads.splits it).splits later)
+      first _ _ ((splits_both reads.splits it).first.stay later)
 
   pub reads_on : {unread' : List ℕ} {left'' : Option (List ℕ)} {came : NextLine} → Filled eol unread unread' left' left'' came
       → Reads eol limit left left'' unread' most ls
@@ -165,7 +160,7 @@ module _ {eol limit : ℕ} {left left' : Option (List ℕ)} {unread : List ℕ} 
     text = reads.bytes;
     read = reads.read;
     all = λ yes. Consumes-whole left left' reads.bytes (λ bytes. bytes ≡ reads.bytes) reads.read ended refl;
-    lines = sym (lines_are reads.splits);
+    lines = sym (first_all reads.splits.first);
   }
 
   -- the input has failed
@@ -199,7 +194,7 @@ module _ {eol limit : ℕ} {left left' : Option (List ℕ)} {unread : List ℕ} 
       let more = lines_by eol (unread ++ later) in
       let line : 0 < length more = some_line eol (unread ++ later) (omega (arith, some, length-append unread later)) in (
         ls ++ more,
-        first (ls ++ more) [] (reads.splits.splits later ∙ sym (append-nil _)),
+        first (ls ++ more) [] (reads.splits.first.stay later ∙ sym (append-nil _)),
         omega (arith, reads.counted, none, line, length-append ls more),
       )
 

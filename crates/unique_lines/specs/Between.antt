@@ -3,6 +3,7 @@ use Rattle.std.specs.Prelude.{ℕ, ◌≡◌, ◌<◌, ◌+◌, Option, Some, Li
 use Rattle.std.specs.Io.BufRead.{ends_with_byte}
 use Rattle.std.specs.Io.KnownBytes.{Consumes, IsAtEnd}
 use Rattle.std.specs.List.{filter}
+use Rattle.streams.specs.Records.{ComeFirst}
 use Rattle.text_set.specs.Lines.{lines_by, IsBare, IsLineEnd}
 use Rattle.unique_lines.specs.declared.ahead.Found.{Found}
 use Rattle.unique_lines.specs.declared.unread.NextLine.{NextLine}
@@ -18,9 +19,9 @@ abbrev pub AreNext : (eol : ℕ) (tag_of : List ℕ → ℕ) (bytes : List ℕ) 
 AreNext eol tag_of bytes [] = Unit {0}
 AreNext eol tag_of bytes (found ∷ more) = IsFound eol tag_of bytes found × AreNext eol tag_of (drop (found.len + 1) bytes) more
 
--- the lines of the bytes are these, each with its end, and those of the rest, whatever comes behind
+-- the first lines of the bytes are these, each with its end, up to the rest
 pub record Splits (eol : ℕ) (bytes : List ℕ) (ls : List (List ℕ)) (rest : List ℕ) : Type 0 where
-  pub splits : (later : List ℕ) → lines_by eol (bytes ++ later) ≡ ls ++ lines_by eol (rest ++ later)
+  pub first : ComeFirst (lines_by eol) bytes ls rest
   pub ends : filter (ends_with_byte eol) ls ≡ ls
 
 -- what came of reading on: an end of a line among the bytes, or none in what was read until the input ended or failed

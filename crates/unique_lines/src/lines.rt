@@ -1,5 +1,5 @@
 //! Writes lines, and has them taken.
-ghost use Rattle.std.specs.Prelude.{◌≡◌, ◌≤◌, ◌+◌, ℕ, List, length, take, IfOk, OnOk, OnErr};
+ghost use Rattle.std.specs.Prelude.{◌≡◌, ◌≤◌, ◌+◌, ℕ, List, length, IfOk, OnOk, OnErr};
 ghost use Rattle.std.specs.Io.BufRead.{strip_last};
 ghost use Rattle.std.specs.Io.KnownBytes.{Appends};
 ghost use Rattle.unique_lines.specs.Between.{Splits, Takes};

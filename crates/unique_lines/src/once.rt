@@ -1,5 +1,5 @@
 //! Lines, each once.
-ghost use Rattle.std.specs.Prelude.{◌≡◌, [], ℕ, List, OnOk};
+ghost use Rattle.std.specs.Prelude.{◌≡◌, [], OnOk};
 ghost use Rattle.std.specs.Io.Buffered.{writer_buffer, writer_contents};
 ghost use Rattle.text_set.specs.Slots.{tag_under};
 ghost use Rattle.text_set.specs.Firsts.{AreSeen, once_by};

@@ -1,13 +1,13 @@
-use Rattle.std.proofs.Common.{None, Some, ◌≡◌, ◌≤◌, ◌<◌, ◌-◌, ◌∷◌, [], ◌⊎◌, ℕ, List, length, take, drop, inl, inr, ap, subst, sym, ◌∙◌, arith}
+use Rattle.std.proofs.Common.{None, ◌≡◌, ◌≤◌, ◌<◌, ◌-◌, ◌⊎◌, ℕ, List, length, take, drop, inl, inr, ap, subst, sym, ◌∙◌, arith}
 use Rattle.std.proofs.Math.Path.{ap₂}
 use Rattle.std.proofs.lemmas.List.{drop-drop, length-drop, take_all}
 use Rattle.hash_cuts.specs.Cuts.{Cutting, HasSizes, first_cut}
-use Rattle.hash_cuts.specs.Reading.{GivesFirst, Takes}
+use Rattle.hash_cuts.specs.Reading.{GivesFirst}
 use Rattle.hash_cuts.proofs.ChunkLemmas.{first_cut-le}
 use Rattle.hash_cuts.proofs.CutLemmas.{first_cut-is}
 use Rattle.hash_cuts.proofs.GivenLemmas.{gives-more, gives-refused}
 use Rattle.streams.proofs.StreamLemmas.{on_err}
-use Rattle.hash_cuts.proofs.reader.give_first.Goals.{else-n-rest-via-then-n-rest+else-n-most, else-n-rest-via-else-n-rest, else-loop-given-test, then-loop-given-test+then-n-rest+then-n-most}
+use Rattle.hash_cuts.proofs.reader.give_first.Goals.{else-loop-given-test, then-loop-given-test+then-n-rest+then-n-most}
 use Rattle.hash_cuts.proofs.reader.give_first.Goals as goal
 
 -- the bytes from a place on
@@ -40,8 +40,8 @@ loop-given-preserved g c =
     ] in
     let chunk : take n (take (length bytes - given) rest) ≡ take first rest =
     ap₂ (λ (k : ℕ) (t : List ℕ). take k t) is (rest-is bytes given) in
-    let more = gives-more g.S.Sink.taken cuts sizes bytes rest _ _ _ c.loop-given.invariant.gives some ends
-    (subst (λ (t : List ℕ). Takes g.S.Sink.taken c.loop-given.sink c.take.new.self (t ∷ []) None) chunk c.in_ok-take.ensures.ok) in
+    let more = gives-more c.loop-given.invariant.gives sizes some ends
+    (rw chunk at c.in_ok-take.ensures.ok) in
     record {
       gives = subst (λ (t : List ℕ). GivesFirst g.S.Sink.taken cuts bytes t None c.args.sink.now c.take.new.self)
           (ap (λ k. drop k rest) (sym is) ∙ drop-drop n given bytes) more;
@@ -82,6 +82,5 @@ returns-in_err-take-clause-some g c =
     on_err _ c.from_residual.result (
       rest,
       omega (arith, length-drop given bytes, c.loop-given-test.true),
-      gives-refused g.S.Sink.taken cuts bytes rest (take (first_cut cuts rest) rest) _ _ _ c.loop-given.invariant.gives
-          (subst (λ (t : List ℕ). Takes g.S.Sink.taken c.loop-given.sink c.take.new.self [] (Some t)) chunk c.in_err-take.ensures.err),
+      gives-refused c.loop-given.invariant.gives (rw chunk at c.in_err-take.ensures.err),
     )
