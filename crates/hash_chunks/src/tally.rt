@@ -1,5 +1,5 @@
 //! How much a store would save that keeps each chunk once.
-ghost use Rattle.std.specs.Prelude.{◌≡◌, ◌==◌, ◌||◌, ◌+◌, ◌-◌, ◌++◌, if◌then◌else◌, not, ℕ, [], map, length, IfOk, OnOk};
+ghost use Rattle.std.specs.Prelude.{◌≡◌, ◌==◌, ◌||◌, ◌+◌, ◌-◌, ◌++◌, if◌then◌else◌, not, ℕ, List, [], map, length, IfOk, OnOk};
 ghost use Rattle.std.specs.BTreeSet.{contains};
 ghost use Rattle.std.specs.Ordering.{nat_cmp};
 ghost use Rattle.std.specs.Io.Buffered.{writer_buffer, writer_contents};

@@ -1,5 +1,5 @@
 -- The keys of a text that is read line by line.
-use Rattle.std.proofs.Common.{◌≡◌, ◌≢◌, ◌<◌, ◌+◌, ◌-◌, ℕ, Bool, true, false, cond, eqb, List, [], ◌∷◌, ◌++◌, Option, Some, None, IfSome, All, length, take, get_or, fold, refl, ap, sym, subst, append-nil, ◌∙◌, arith, append_assoc}
+use Rattle.std.proofs.Common.{◌≡◌, ◌≢◌, ◌<◌, ◌+◌, ◌-◌, ℕ, Bool, true, false, cond, eqb, List, [], ◌∷◌, ◌++◌, Option, Some, None, IfSome, All, length, take, get_or, fold, refl, ap, sym, subst, append-nil, ◌∙◌, arith}
 use Rattle.std.specs.Io.{StopsAt}
 use Rattle.std.specs.Io.BufRead.{ends_with_byte, strip_last, take_through}
 use Rattle.std.specs.Io.KnownBytes.{Consumes, IsAtEnd}
@@ -11,15 +11,16 @@ use Rattle.std.proofs.lemmas.List.Elements.{All-head, All-tail, All-push, All-sa
 use Rattle.std.proofs.lemmas.List.Folds.{concat-append}
 use Rattle.std.proofs.lemmas.List.Sums.{fold-append}
 use Rattle.text_set.specs.Texts.{with_text}
-use Rattle.text_set.specs.Lines.{line_texts, IsNext, ReadsNext, ReadsNothing}
+use Rattle.text_set.specs.Lines.{IsNext, ReadsNext, ReadsNothing}
 use Rattle.text_set.proofs.LinesOfText.{text_of_line, texts_of_line}
-use Rattle.hash_spread.specs.Keys.{IsWhole, ReadsFixed, ReadsLine, ReadsLines, ReadsOne, TakesFixed, TakesKeys}
+use Rattle.streams.proofs.RecordLemmas.{first_behind, first_both}
+use Rattle.hash_spread.specs.Keys.{ReadsFixed, ReadsLine, ReadsLines, ReadsOne, TakesFixed, TakesKeys}
 
 -- keys that were read, and behind them more
-takes_both : (keys keys' keys'' : List (List ℕ)) (a b c : Option (List ℕ)) (text more : List ℕ) (read later : List (List ℕ))
+takes_both : {keys keys' keys'' : List (List ℕ)} {a b c : Option (List ℕ)} {text more : List ℕ} {read later : List (List ℕ)}
     → TakesKeys keys keys' a b text read → TakesKeys keys' keys'' b c more later → TakesKeys keys keys'' a c (text ++ more) (read ++ later)
-takes_both keys keys' keys'' a b c text more read later first second = record {
-  consumed = Consumes-trans a b c text more first.consumed second.consumed;
+takes_both {keys} {read = read} {later = later} first second = record {
+  consumed = Consumes-trans _ _ _ _ _ first.consumed second.consumed;
   taken = second.taken ∙ ap (λ ks. fold with_text ks later) first.taken ∙ sym (fold-append with_text keys read later);
 }
 
@@ -47,11 +48,6 @@ module _ (eol : ℕ) where
       ends same =
           and_from _ _ (lt-ltb 0 (length line) some) (eq-eqb (get_or line (length line - 1) 0) eol same)
 
-  -- a line with its end is whole
-  ended_is_whole : (line : List ℕ) → StopsAt line eol → ends_with_byte eol line ≡ true → 0 < length line → IsWhole eol line
-  ended_is_whole line stops ended some = λ later.
-      texts_of_line eol line later stops ended ∙ ap (λ ks. ks ++ line_texts eol later) (sym (text_of_line eol line stops some))
-
   -- what is taken through an end that is not there is all
   through_bare : (bytes : List ℕ) → All (λ x. x ≢ eol) (take_through eol bytes) → take_through eol bytes ≡ bytes
   through_bare [] bare = refl
@@ -78,20 +74,6 @@ module _ (eol : ℕ) where
       sym (through_bare bytes (All-same (λ y. y ≢ eol) (take_through eol bytes) (x ∷ line) (sym is)
       (bare_line (x ∷ line) stops bare_end (omega arith)))) ∙ sym is
 
-  -- of lines with their ends, and then more
-  pub takes_more : (keys keys' keys'' : List (List ℕ)) (a b c : Option (List ℕ)) (text more : List ℕ)
-      → TakesKeys keys keys' a b text (line_texts eol text) → IsWhole eol text → TakesKeys keys' keys'' b c more (line_texts eol more)
-      → TakesKeys keys keys'' a c (text ++ more) (line_texts eol (text ++ more))
-  takes_more keys keys' keys'' a b c text more first whole second =
-      subst (TakesKeys keys keys'' a c (text ++ more)) (sym (whole more))
-      (takes_both keys keys' keys'' a b c text more (line_texts eol text) (line_texts eol more) first second)
-
-  pub whole_more : (text more : List ℕ) → IsWhole eol text → IsWhole eol more → IsWhole eol (text ++ more)
-  whole_more text more first second = λ later.
-      ap (line_texts eol) (append_assoc text more later) ∙ first (more ++ later) ∙ ap (λ ks. line_texts eol text ++ ks) (second later)
-      ∙ sym (append_assoc (line_texts eol text) (line_texts eol more) (line_texts eol later))
-      ∙ ap (λ ks. ks ++ line_texts eol later) (sym (first more))
-
   -- what comes of a line, whether or not it has its end
   pub takes_line : (keys keys' : List (List ℕ)) (left left' : Option (List ℕ)) (line : List ℕ) → ReadsNext eol left left' line
       → keys' ≡ with_text keys (strip_last eol line) → (ended : Bool) → ended ≡ ends_with_byte eol line
@@ -102,15 +84,18 @@ module _ (eol : ℕ) where
       through None next = tt
       through (Some bytes) next = next.0
 
-      takes : TakesKeys keys keys' left left' line (line_texts eol line)
-      takes = record {
-        consumed = read.consumed;
-        taken = is ∙ ap (fold with_text keys) (sym (text_of_line eol line read.stops read.some));
-      }
+      takes : TakesKeys keys keys' left left' line (strip_last eol line ∷ [])
+      takes = record { consumed = read.consumed; taken = is }
 
       at : (ended : Bool) → ended ≡ ends_with_byte eol line → ReadsLine eol keys keys' left left' ended
-      at true told = (line, takes, ended_is_whole line read.stops (sym told) read.some)
-      at false told = (line, record { takes = takes; all = all_read left line (through left read.next) read.stops (sym told) })
+      at true told = (line, _, takes, record { stay = λ later. texts_of_line eol line later read.stops (sym told) })
+      at false told = (
+        line,
+        record {
+          takes = rw (text_of_line eol line read.stops read.some) takes;
+          all = all_read left line (through left read.next) read.stops (sym told);
+        },
+      )
 
   -- nothing was left
   pub takes_nothing : (keys : List (List ℕ)) (left left' : Option (List ℕ)) → ReadsNothing left left'
@@ -124,20 +109,17 @@ module _ (eol : ℕ) where
   -- whole lines and behind them one more, or the last
   pub goes_on : (keys keys' keys'' : List (List ℕ)) (a b c : Option (List ℕ)) → ReadsLine eol keys keys' a b true
       → (ended : Bool) → ended ≡ true → ReadsLine eol keys' keys'' b c ended → ReadsLine eol keys keys'' a c true
-  goes_on keys keys' keys'' a b c (text, first, whole) true is (more, second, ends) = (
-    text ++ more,
-    takes_more keys keys' keys'' a b c text more first whole second,
-    whole_more text more whole ends,
-  )
+  goes_on keys keys' keys'' a b c (text, read, first, whole) true is (more, later, second, ends) =
+      (text ++ more, read ++ later, takes_both first second, first_both (first_behind more whole) ends)
   goes_on keys keys' keys'' a b c before false is second = absurd (false≢true is)
 
   pub ends_all : (keys keys' keys'' : List (List ℕ)) (a b c : Option (List ℕ)) → ReadsLine eol keys keys' a b true
       → (ended : Bool) → ended ≡ false → ReadsLine eol keys' keys'' b c ended → ReadsLines eol keys keys'' a c
   ends_all keys keys' keys'' a b c before true is second = absurd (false≢true (sym is))
-  ends_all keys keys' keys'' a b c (text, first, whole) false is (more, second) = (
+  ends_all keys keys' keys'' a b c (text, read, first, whole) false is (more, second) = (
     text ++ more,
     record {
-      takes = takes_more keys keys' keys'' a b c text more first whole second.takes;
+      takes = rw (whole.stay more) (takes_both first second.takes);
       all = all_behind a b c text more first.consumed second.takes.consumed second.all;
     },
   )
@@ -151,7 +133,7 @@ fixed_more width keys keys' keys'' a b c (read, first, wide) true is (key, secon
   read ++ key ∷ [],
   subst (λ text. TakesKeys keys keys'' a c text (read ++ key ∷ []))
       (sym (concat-append read (key ∷ []) ∙ ap (λ t. concat read ++ t) (append-nil key)))
-      (takes_both keys keys' keys'' a b c (concat read) key read (key ∷ []) first second),
+      (takes_both first second),
   All-push (λ k. length k ≡ width) read key wide long,
 )
 fixed_more width keys keys' keys'' a b c before false is second = absurd (false≢true is)

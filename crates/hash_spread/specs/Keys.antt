@@ -1,8 +1,9 @@
 -- The keys of a text, and what a set has once they are read.
-use Rattle.std.specs.Prelude.{ℕ, ◌≡◌, ◌++◌, Bool, true, false, Option, List, All, IfSome, fold, length, [], ◌∷◌}
+use Rattle.std.specs.Prelude.{ℕ, ◌≡◌, Bool, true, false, Option, List, All, IfSome, fold, length, [], ◌∷◌}
 use Rattle.std.specs.Int.NonZero.{non_zero_usize_get}
-use Rattle.std.specs.Io.KnownBytes.{Consumes, IsAtEnd}
+use Rattle.std.specs.Io.KnownBytes.{Consumes}
 use Rattle.std.specs.List.{concat}
+use Rattle.streams.specs.Records.{ComeFirst}
 use Rattle.text_set.specs.Lines.{line_texts}
 use Rattle.text_set.specs.Texts.{with_text}
 use Rattle.hash_spread.specs.declared.keys.Layout.{Layout}
@@ -37,13 +38,10 @@ abbrev pub ReadsKeys : Layout → (keys keys' : List (List ℕ)) (left left' : O
 ReadsKeys (Lines eol) = ReadsLines eol
 ReadsKeys (Fixed width) = ReadsFixed (non_zero_usize_get width)
 
--- the text is whole lines with their ends
-abbrev pub IsWhole : (eol : ℕ) → List ℕ → Type 0
-IsWhole eol text = (later : List ℕ) → line_texts eol (text ++ later) ≡ line_texts eol text ++ line_texts eol later
-
 -- a line was read, and its key is there: one with its end, or all that was left
 abbrev pub ReadsLine : (eol : ℕ) (keys keys' : List (List ℕ)) (left left' : Option (List ℕ)) → (has_end : Bool) → Type 0
-ReadsLine eol keys keys' left left' true = (text : List ℕ) × TakesKeys keys keys' left left' text (line_texts eol text) × IsWhole eol text
+ReadsLine eol keys keys' left left' true = (text : List ℕ) × (read : List (List ℕ)) × TakesKeys keys keys' left left' text read
+    × ComeFirst (line_texts eol) text read []
 ReadsLine eol keys keys' left left' false = ReadsLines eol keys keys' left left'
 
 -- a key of so many bytes was read; or none was left
