@@ -1,5 +1,5 @@
 -- The steps of XXH32 tell what they are given apart.
-use Rattle.std.proofs.Common.{◌≡◌, ℕ, zero, suc, ◌-◌, ◌/◌, ◌^◌, ◌<◌, ◌≤◌, List, [], ◌∷◌, slice_index, fold, refl, sym, ap, ◌∙◌, arith, lit<}
+use Rattle.std.proofs.Common.{◌≡◌, ℕ, zero, suc, ◌-◌, ◌^◌, ◌<◌, ◌≤◌, List, [], ◌∷◌, slice_index, fold, refl, sym, ap, ◌∙◌, arith, lit<}
 use Rattle.std.proofs.lemmas.Nat.{mod_below, pow_pos}
 use Rattle.hash_words.specs.Words.{le, rotl, add, xorshift}
 use Rattle.hash_words.specs.Pieces.{pieces}

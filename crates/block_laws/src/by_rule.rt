@@ -1,10 +1,10 @@
 //! What follows for all hashes by the block that lose nothing.
-ghost use Rattle.std.specs.Prelude.{◌≡◌, ◌≢◌, ◌↔◌, ◌+◌, ◌%◌, ◌^◌, ◌<◌, ◌≤◌, ℕ, List, ◌++◌, IsTrue, length};
+ghost use Rattle.std.specs.Prelude.{◌≡◌, ◌≢◌, ◌↔◌, ◌+◌, ◌%◌, ◌^◌, ◌<◌, ℕ, List, ◌++◌, IsTrue, length};
 ghost use Rattle.std.specs.Bool.{OnTrue};
 ghost use Rattle.hash_laws.specs.Exactly.{ExactlyTexts};
 ghost use Rattle.hash_laws.specs.Text.{IsText};
 ghost use Rattle.hash_windows.specs.DifferWithin.{DifferInOneBlock};
-ghost use Rattle.hash_blocks.specs.Blocks.{blocks, tail};
+ghost use Rattle.hash_blocks.specs.Blocks.{tail};
 ghost use Rattle.block_laws.specs.BlockFacts.{blocks_before};
 
 use crate::block_undo::BlockUndo;

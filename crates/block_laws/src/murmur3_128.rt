@@ -1,5 +1,5 @@
 //! MurmurHash3_x64_128 loses nothing of a block.
-ghost use Rattle.std.specs.Prelude.{◌≡◌, ◌%◌, ◌^◌, ◌<◌};
+ghost use Rattle.std.specs.Prelude.{◌≡◌, ◌^◌, ◌<◌};
 ghost use Rattle.block_laws.specs.Murmur3x128Back.{turned_back, last_unmix, before_block, block_between, before_end, IsSeed, AreTwo};
 ghost use Rattle.block_laws.specs.Murmur3x128Laws.{murmur3_128_facts};
 

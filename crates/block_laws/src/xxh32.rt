@@ -1,8 +1,8 @@
 //! The words that lead XXH32 to a hash.
-ghost use Rattle.std.specs.Prelude.{◌≡◌, ◌≢◌, ◌+◌, ◌*◌, ◌/◌, ◌%◌, ◌^◌, ◌<◌, ◌≤◌, ℕ, List, [], ◌∷◌, ◌++◌, length, drop, fold, reverse, slice_index};
+ghost use Rattle.std.specs.Prelude.{◌≡◌, ◌+◌, ◌*◌, ◌/◌, ◌%◌, ◌^◌, ◌<◌, ◌≤◌, ℕ, List, ◌++◌, length, fold, reverse};
 ghost use Rattle.hash_laws.specs.Exactly.{ExactlyTexts};
 ghost use Rattle.hash_laws.specs.Text.{IsText};
-ghost use Rattle.hash_words.specs.Words.{add, le, sub};
+ghost use Rattle.hash_words.specs.Words.{le};
 ghost use Rattle.hash_blocks.specs.Blocks.{blocks, tail};
 ghost use Rattle.block_laws.specs.BlockFacts.{blocks_before, IsBlock};
 ghost use Rattle.hash_xxhash.specs.Xxh32.{after_block, fours_in, start, words_of, xxh32};

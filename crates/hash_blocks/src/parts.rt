@@ -1,5 +1,5 @@
 //! Blocks of a text that comes piece by piece.
-ghost use Rattle.std.specs.Prelude.{◌≡◌, ◌+◌, ◌<◌, ◌≤◌, ◌++◌, length, take};
+ghost use Rattle.std.specs.Prelude.{◌≡◌, ◌+◌, ◌<◌, ◌++◌, length, take};
 ghost use Rattle.hash_blocks.specs.Blocks.{blocks, tail};
 
 use crate::block_rule::BlockRule;

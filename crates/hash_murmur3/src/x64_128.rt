@@ -1,9 +1,9 @@
 //! MurmurHash3_x64_128.
-ghost use Rattle.std.specs.Prelude.{◌≡◌, ◌*◌, ◌%◌, ◌^◌, ◌<◌, ◌≤◌, ◌+◌, [], ◌∷◌, length, slice_index, take, drop, refl};
+ghost use Rattle.std.specs.Prelude.{◌≡◌, ◌*◌, ◌^◌, ◌<◌, [], ◌∷◌, length, slice_index, take, drop, refl};
 ghost use Rattle.std.proofs.Common.{lit<};
 ghost use Rattle.hash_laws.specs.Text.{joined};
 ghost use Rattle.hash_words.specs.Words.{le};
-ghost use Rattle.hash_murmur3.specs.Murmur3x128.{scrambled, scramble1, scramble2, turned, after_words, after_block, crossed, folded, last_mix, ended, murmur3_128};
+ghost use Rattle.hash_murmur3.specs.Murmur3x128.{scrambled, turned, after_words, after_block, crossed, folded, last_mix, ended, murmur3_128};
 ghost use Rattle.hash_murmur3.specs.Murmur3x128Laws.{total_wraps};
 
 use hash_blocks::{BlockHasher, BlockRule, WideRule, le_eight};

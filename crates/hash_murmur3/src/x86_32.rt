@@ -1,5 +1,5 @@
 //! MurmurHash3_x86_32.
-ghost use Rattle.std.specs.Prelude.{◌≡◌, ◌%◌, ◌^◌, ◌<◌, [], ◌∷◌, length, slice_index, refl};
+ghost use Rattle.std.specs.Prelude.{◌≡◌, ◌%◌, ◌^◌, ◌<◌, [], ◌∷◌, slice_index, refl};
 ghost use Rattle.std.proofs.Common.{lit<};
 ghost use Rattle.hash_laws.specs.Text.{joined};
 ghost use Rattle.hash_murmur3.specs.Murmur3.{scramble, after_word, last_mix, after_block, ended, murmur3_32};

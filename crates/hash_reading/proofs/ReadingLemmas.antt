@@ -11,7 +11,7 @@ use Rattle.std.proofs.lemmas.List.Sums.{fold-append}
 use Rattle.std.proofs.lemmas.List.FromFn.{map-range_with_len_more}
 use Rattle.std.proofs.lemmas.Nat.{mod_below, div-mul-add, div-add-mod'}
 use borrow.Rule.Slice.PartMut.{put_mid, post_of}
-use Rattle.std.proofs.lemmas.List.Elements.{All-nil, All-append, All-head, All-tail, All-map, All-take, All-drop}
+use Rattle.std.proofs.lemmas.List.Elements.{All-nil, All-append, All-map, All-take, All-drop}
 use Rattle.hash_laws.specs.Text.{IsText}
 use Rattle.hash_reading.specs.Reading.{cut, FeedsRead, HashesRead}
 use Rattle.hash_laws.proofs.PieceFolds.{fold-pieces}

@@ -1,9 +1,8 @@
 //! SipHash-c-d.
-ghost use Rattle.std.specs.Prelude.{◌≡◌, ◌+◌, ◌*◌, ◌^◌, ◌<◌, [], ◌∷◌, length, slice_index, refl};
+ghost use Rattle.std.specs.Prelude.{◌≡◌, ◌+◌, ◌*◌, ◌^◌, ◌<◌, [], ◌∷◌, slice_index, refl};
 ghost use Rattle.std.proofs.Common.{lit<};
 ghost use Rattle.hash_laws.specs.Text.{joined};
-ghost use Rattle.hash_words.specs.Words.{le};
-ghost use Rattle.hash_siphash.specs.SipHash.{after_block, after_word, ended, folded, last_word, siphash, start, xored};
+ghost use Rattle.hash_siphash.specs.SipHash.{after_block, after_word, ended, siphash, start, xored};
 ghost use Rattle.hash_siphash.specs.SipHashLaws.{total_wraps};
 
 use crate::rounds::sip_rounds;

@@ -1,8 +1,7 @@
 //! XXH64.
-ghost use Rattle.std.specs.Prelude.{◌≡◌, ◌+◌, ◌*◌, ◌%◌, ◌^◌, ◌<◌, [], ◌∷◌, length, slice_index, refl};
+ghost use Rattle.std.specs.Prelude.{◌≡◌, ◌*◌, ◌^◌, ◌<◌, [], ◌∷◌, slice_index};
 ghost use Rattle.std.proofs.Common.{lit<};
 ghost use Rattle.hash_laws.specs.Text.{joined};
-ghost use Rattle.hash_words.specs.Words.{le};
 ghost use Rattle.hash_xxhash.specs.Xxh64.{after_block, byte_in, converged, eight_in, four_in, last_mix, merged, rest_in, round, start, xxh64};
 
 use hash_blocks::{BlockHasher, BlockRule};
