@@ -9,7 +9,7 @@ use Rattle.cli.specs.declared.outcome.Outcome.TheVariants.{Usage, Failed}
 use Rattle.cli.specs.declared.outcome.Wrong.TheVariants as wrong
 use Rattle.cli.specs.Outcome.{of_telling, status_of}
 
--- what comes of a call by what it asks for: a wrong call is told to be wrong, and where a text is asked for, only the writing can fail
+-- what comes of a call by what it asks for: a wrong call is told to be wrong, and a text is written, or that fails
 abbrev pub Answers : {Misuse Own : Type 0} → Request → Outcome Misuse Own → Type 0
 Answers (request.Misgiven misgiven) outcome = outcome ≡ Usage (wrong.Option misgiven)
 Answers {Own = Own} (request.Text text) outcome = (told : Result (Unit {0}) (Failure Own)) × (outcome ≡ of_telling told)
