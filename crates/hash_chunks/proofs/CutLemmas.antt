@@ -1,22 +1,15 @@
 -- What comes of cutting a file, by what comes of cutting what it holds.
-use Rattle.std.proofs.Common.{◌≡◌, ◌<◌, ◌+◌, ℕ, ◌++◌, ◌∷◌, [], List, length, length-append, take, drop, Bool, true, false, Option, Some, None, Result, Ok, Err, OnOk, IsTrue, inr, append-nil, arith, ap, ◌∙◌, refl}
+use Rattle.std.proofs.Common.{◌≡◌, ◌<◌, ◌+◌, ℕ, ◌++◌, ◌∷◌, [], List, length, length-append, take, Bool, true, false, Option, Some, None, Result, Ok, Err, OnOk, IsTrue, inr, append-nil, arith, ap, refl}
 use Rattle.std.specs.List.{concat}
 use Rattle.hash_chunks.specs.Cut.{EndsFile, IsTorn, Opening}
-use Rattle.hash_cuts.specs.Cuts.{Cutting, chunks, chunks_upto, first_cut}
+use Rattle.hash_cuts.specs.Cuts.{Cutting, chunks, first_cut}
 use Rattle.hash_cuts.specs.Reading.{CutsAll, CutsRead, IsBegun, Taken}
-use Rattle.streams.proofs.RecordLemmas.{first_all}
 
 -- the bytes of chunks and one more
 pub bytes_more : (given : List (List ℕ)) (chunk : List ℕ) → length (concat (given ++ chunk ∷ [])) ≡ length (concat given) + length chunk
 bytes_more [] chunk = omega (arith, ap length (append-nil chunk))
 bytes_more (first ∷ given) chunk =
     omega (arith, length-append first (concat (given ++ chunk ∷ [])), length-append first (concat given), bytes_more given chunk)
-
--- the first chunk of a text that is not empty
-first-of : (cuts : Cutting) (rest : List ℕ) → 0 < length rest → (others : List (List ℕ)) × (chunks cuts rest ≡ take (first_cut cuts rest) rest ∷ others)
-unfolding chunks_upto
-first-of cuts [] some = absurd (omega arith)
-first-of cuts (byte ∷ rest) some = (chunks_upto (length rest) cuts (drop (first_cut cuts (byte ∷ rest)) (byte ∷ rest)), refl)
 
 module _ {S : Type 0} (taken : Taken S) (cuts : Cutting) (opens : Opening) (held left : Option (List ℕ)) (old new : S) (bytes : ℕ)
     (is_open : opens (Ok held)) where
@@ -40,30 +33,20 @@ module _ {S : Type 0} (taken : Taken S) (cuts : Cutting) (opens : Opening) (held
   -- the sink refused the first chunk of the rest
   pub ends-refused : (rest : List ℕ) → 0 < length rest
       → CutsRead taken cuts held left old new bytes rest (Some (take (first_cut cuts rest) rest)) → IsTorn taken cuts opens old new
-  ends-refused rest some read =
-      let (others, is) = first-of cuts rest some in
-      record {
-        given = read.gives.given;
-        refused = Some (take (first_cut cuts rest) rest);
-        takes = read.gives.takes;
-        text = read.text;
-        left = left;
-        read = record { held = held; opened = is_open; read = read.read };
-        others = others;
-        first = first_all read.gives.first ∙ ap (λ list. read.gives.given ++ list) is;
-      }
+  ends-refused rest some read = record {
+    given = read.gives.given;
+    refused = Some (take (first_cut cuts rest) rest);
+    takes = read.gives.takes;
+    torn = (rest, (read.text, left, record { held = held; opened = is_open; read = read.read }, read.gives.first), (some, refl));
+  }
 
   -- it refused none
-  pub ends-early : (rest : List ℕ) → CutsRead taken cuts held left old new bytes rest None → IsTorn taken cuts opens old new
-  ends-early rest read = record {
+  pub ends-early : (rest : List ℕ) → IsBegun cuts rest → CutsRead taken cuts held left old new bytes rest None → IsTorn taken cuts opens old new
+  ends-early rest begun read = record {
     given = read.gives.given;
     refused = None;
     takes = read.gives.takes;
-    text = read.text;
-    left = left;
-    read = record { held = held; opened = is_open; read = read.read };
-    others = chunks cuts rest;
-    first = first_all read.gives.first;
+    torn = (rest, (read.text, left, record { held = held; opened = is_open; read = read.read }, read.gives.first), begun);
   }
 
 module _ {S E : Type 0} (taken : Taken S) (cuts : Cutting) (opens : Opening) (old new : S) (start : taken old old [] None) where

@@ -3,7 +3,7 @@ use Rattle.std.proofs.Common.{◌≡◌, ℕ, ◌+◌, Bool, List, [], ◌∷◌
 use Rattle.std.specs.List.{concat}
 use Rattle.std.specs.Io.KnownBytes.{Appends}
 use Rattle.std.proofs.KnownBytes.{Appends-nil, Appends-trans}
-use Rattle.streams.proofs.StreamLemmas.{part_behind, part_longer, part_whole}
+use Rattle.streams.proofs.StreamLemmas.{part_behind, part_whole}
 use Rattle.streams.specs.Streams.{AppendsPart}
 use Rattle.cli.specs.Files.{Opens}
 use Rattle.streams.specs.declared.failure.Failure.{Failure}
@@ -11,7 +11,7 @@ use Rattle.hash_chunks.proofs.CutLemmas.{bytes_more}
 use Rattle.hash_chunks.specs.Cut.{EndsFile, one}
 use Rattle.hash_chunks.specs.Listing.{AreListed, EndsLines, chunk_line, chunk_lines}
 use Rattle.hash_chunks.specs.declared.failure.TooMany.{TooMany}
-use Rattle.hash_cuts.specs.Cuts.{Cutting, chunks}
+use Rattle.hash_cuts.specs.Cuts.{Cutting}
 use Rattle.hash_cuts.specs.Reading.{Taken}
 use Rattle.hash_lines.specs.declared.line.LineKind.{LineKind}
 
@@ -74,15 +74,9 @@ pub ends_lines : {S : Type 0} (taken : Taken S) (kind : LineKind) (cuts : Cuttin
     → (result : Result Bool (Failure TooMany)) → EndsFile taken cuts (opens name) old new result → EndsLines kind cuts opens name w w' result
 ends_lines taken kind cuts opens name old new w w' to start listed (Ok whole) (given, is_cut, takes) =
     (given, is_cut, (listed given None (takes old [] start)).1)
-ends_lines taken kind cuts opens name old new w w' to start listed (Err fault) torn =
-    let given = torn.given ++ one torn.refused in
-    let part = listed_torn kind name 0 to w w' torn.given torn.refused (listed torn.given torn.refused (torn.takes old [] start)) in
-    let all : chunk_lines kind name 0 given ++ chunk_lines kind name (0 + length (concat given)) torn.others ≡ chunk_lines kind name 0 (chunks cuts torn.text) =
-    sym (lines_more kind name 0 given torn.others)
-    ∙ ap (chunk_lines kind name 0) (append_assoc torn.given (one torn.refused) torn.others ∙ sym torn.first) in (
-      torn.text,
-      torn.left,
-      torn.read,
-      part_longer w w' (chunk_lines kind name 0 given) (chunk_lines kind name (0 + length (concat given)) torn.others)
-          (chunk_lines kind name 0 (chunks cuts torn.text)) all part,
-    )
+ends_lines taken kind cuts opens name old new w w' to start listed (Err fault) torn = (
+  torn.given,
+  torn.refused,
+  torn.torn,
+  listed_torn kind name 0 to w w' torn.given torn.refused (listed torn.given torn.refused (torn.takes old [] start)),
+)

@@ -1,9 +1,9 @@
 -- What comes of cutting a file.
-use Rattle.std.specs.Prelude.{ℕ, ◌≡◌, ◌⊎◌, ◌++◌, Bool, true, false, List, [], ◌∷◌, Option, Some, None, Result, Ok, Err}
+use Rattle.std.specs.Prelude.{ℕ, ◌≡◌, ◌<◌, ◌⊎◌, Bool, true, false, List, [], ◌∷◌, Option, Some, None, Result, Ok, Err, length, take}
 use Rattle.std.specs.Io.KnownBytes.{Consumes, IsAtEnd}
 use Rattle.std.specs.declared.io.Error.{Error}
 use Rattle.cli.specs.Files.{Opens}
-use Rattle.hash_cuts.specs.Cuts.{Cutting, chunks}
+use Rattle.hash_cuts.specs.Cuts.{Cutting, chunks, first_cut}
 use Rattle.hash_cuts.specs.Reading.{IsBegun, Taken, Takes}
 use Rattle.streams.specs.Records.{ComeFirst}
 
@@ -37,16 +37,21 @@ abbrev pub one : Option (List ℕ) → List (List ℕ)
 one None = []
 one (Some chunk) = chunk ∷ []
 
--- a sink was given first chunks of a file, and refused the one behind them, or none
+-- the first chunk of the rest was refused, or none, where one was begun
+abbrev pub IsNext : Cutting → (rest : List ℕ) → (refused : Option (List ℕ)) → Type 0
+IsNext cuts rest None = IsBegun cuts rest
+IsNext cuts rest (Some chunk) = (0 < length rest) × (chunk ≡ take (first_cut cuts rest) rest)
+
+-- these are the first chunks of a file, of which the one behind them was refused, or none
+abbrev pub AreTorn : Cutting → Opening → (given : List (List ℕ)) (refused : Option (List ℕ)) → Type 0
+AreTorn cuts opens given refused = (rest : List ℕ) × AreFirst cuts opens given rest × IsNext cuts rest refused
+
+-- a sink was given these chunks of a file, and refused the one behind them, or none
 pub record IsTorn {S : Type 0} (taken : Taken S) (cuts : Cutting) (opens : Opening) (old new : S) : Type 0 where
   pub given : List (List ℕ)
   pub refused : Option (List ℕ)
   pub takes : Takes taken old new given refused
-  pub text : List ℕ
-  pub left : Option (List ℕ)
-  pub read : IsRead opens text left
-  pub others : List (List ℕ)
-  pub first : chunks cuts text ≡ given ++ (one refused ++ others)
+  pub torn : AreTorn cuts opens given refused
 
 -- how a file ends whose chunks a sink is given
 abbrev pub EndsFile : {S E : Type 0} → Taken S → Cutting → Opening → (old new : S) → Result Bool E → Type 0

@@ -6,10 +6,10 @@ use Rattle.std.specs.Io.KnownBytes.{Appends}
 use Rattle.cli.specs.Files.{Opens}
 use Rattle.streams.specs.Streams.{AppendsPart}
 use Rattle.streams.specs.declared.failure.Failure.{Failure}
-use Rattle.hash_chunks.specs.Cut.{Cut, IsCut, IsFileCut, IsRead, given_of, is_whole, name_of}
+use Rattle.hash_chunks.specs.Cut.{AreTorn, Cut, IsCut, IsFileCut, given_of, is_whole, name_of, one}
 use Rattle.hash_chunks.specs.declared.failure.TooMany.{TooMany}
 use Rattle.hash_chunks.specs.declared.listing.Lines.{Lines}
-use Rattle.hash_cuts.specs.Cuts.{Cutting, chunks}
+use Rattle.hash_cuts.specs.Cuts.{Cutting}
 use Rattle.hash_cuts.specs.Reading.{Taken}
 use Rattle.hash_lines.specs.Line.{line_of}
 use Rattle.hash_lines.specs.declared.line.Form.TheVariants.{Untagged}
@@ -46,12 +46,12 @@ ListsChunks contents start now given refused = (now.kind ≡ start.kind)
     (writer_contents contents start.w) (writer_contents contents now.w) given refused
     × (refused ≡ None → writer_buffer start.w ≡ [] → writer_buffer now.w ≡ [])
 
--- how the lines of a file end: those of its chunks were written, or of the chunks of what was read of it a beginning
+-- how the lines of a file end: those of its chunks were written; or of the first ones, and of one that was refused, a beginning
 abbrev pub EndsLines : LineKind → Cutting → Opens → (name : List ℕ) (written written' : Option (List ℕ)) → Result Bool (Failure TooMany) → Type 0
 EndsLines kind cuts opens name written written' (Ok whole) = (given : List (List ℕ)) × IsCut cuts (opens name) given whole
     × Appends written written' (lines_of kind (name, (given, whole)))
-EndsLines kind cuts opens name written written' (Err fault) = (text : List ℕ) × (left : Option (List ℕ)) × IsRead (opens name) text left
-    × AppendsPart written written' (chunk_lines kind name 0 (chunks cuts text))
+EndsLines kind cuts opens name written written' (Err fault) = (given : List (List ℕ)) × (refused : Option (List ℕ))
+    × AreTorn cuts (opens name) given refused × AppendsPart written written' (chunk_lines kind name 0 (given ++ one refused))
 
 -- the lines of the first files were written, and of the next a beginning
 pub record AreTornOff (kind : LineKind) (cuts : Cutting) (opens : Opens) (names : List (List ℕ)) (written written' : Option (List ℕ))

@@ -14,7 +14,7 @@ use Rattle.text_set.specs.Texts.{with_text}
 use Rattle.text_set.specs.Lines.{IsNext, ReadsNext, ReadsNothing}
 use Rattle.text_set.proofs.LinesOfText.{text_of_line, texts_of_line}
 use Rattle.streams.proofs.RecordLemmas.{first_behind, first_both}
-use Rattle.hash_spread.specs.Keys.{ReadsFixed, ReadsLine, ReadsLines, ReadsOne, TakesFixed, TakesKeys}
+use Rattle.hash_spread.specs.Keys.{ReadsFixed, ReadsLine, ReadsLines, ReadsOne, TakesFixed, TakesKeys, TakesLines}
 
 -- keys that were read, and behind them more
 takes_both : {keys keys' keys'' : List (List ℕ)} {a b c : Option (List ℕ)} {text more : List ℕ} {read later : List (List ℕ)}
@@ -88,7 +88,7 @@ module _ (eol : ℕ) where
       takes = record { consumed = read.consumed; taken = is }
 
       at : (ended : Bool) → ended ≡ ends_with_byte eol line → ReadsLine eol keys keys' left left' ended
-      at true told = (line, _, takes, record { stay = λ later. texts_of_line eol line later read.stops (sym told) })
+      at true told = (line, strip_last eol line, takes, record { stay = λ later. texts_of_line eol line later read.stops (sym told) })
       at false told = (
         line,
         record {
@@ -107,13 +107,13 @@ module _ (eol : ℕ) where
       all (Some bytes) end = end
 
   -- whole lines and behind them one more, or the last
-  pub goes_on : (keys keys' keys'' : List (List ℕ)) (a b c : Option (List ℕ)) → ReadsLine eol keys keys' a b true
-      → (ended : Bool) → ended ≡ true → ReadsLine eol keys' keys'' b c ended → ReadsLine eol keys keys'' a c true
-  goes_on keys keys' keys'' a b c (text, read, first, whole) true is (more, later, second, ends) =
-      (text ++ more, read ++ later, takes_both first second, first_both (first_behind more whole) ends)
+  pub goes_on : (keys keys' keys'' : List (List ℕ)) (a b c : Option (List ℕ)) → TakesLines eol keys keys' a b
+      → (ended : Bool) → ended ≡ true → ReadsLine eol keys' keys'' b c ended → TakesLines eol keys keys'' a c
+  goes_on keys keys' keys'' a b c (text, read, first, whole) true is (more, key, second, ends) =
+      (text ++ more, read ++ key ∷ [], takes_both first second, first_both (first_behind more whole) ends)
   goes_on keys keys' keys'' a b c before false is second = absurd (false≢true is)
 
-  pub ends_all : (keys keys' keys'' : List (List ℕ)) (a b c : Option (List ℕ)) → ReadsLine eol keys keys' a b true
+  pub ends_all : (keys keys' keys'' : List (List ℕ)) (a b c : Option (List ℕ)) → TakesLines eol keys keys' a b
       → (ended : Bool) → ended ≡ false → ReadsLine eol keys' keys'' b c ended → ReadsLines eol keys keys'' a c
   ends_all keys keys' keys'' a b c before true is second = absurd (false≢true (sym is))
   ends_all keys keys' keys'' a b c (text, read, first, whole) false is (more, second) = (

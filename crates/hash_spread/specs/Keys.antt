@@ -38,10 +38,15 @@ abbrev pub ReadsKeys : Layout → (keys keys' : List (List ℕ)) (left left' : O
 ReadsKeys (Lines eol) = ReadsLines eol
 ReadsKeys (Fixed width) = ReadsFixed (non_zero_usize_get width)
 
+-- lines with their ends were read, and their keys are there
+abbrev pub TakesLines : (eol : ℕ) (keys keys' : List (List ℕ)) (left left' : Option (List ℕ)) → Type 0
+TakesLines eol keys keys' left left' = (text : List ℕ) × (read : List (List ℕ)) × TakesKeys keys keys' left left' text read
+    × ComeFirst (line_texts eol) text read []
+
 -- a line was read, and its key is there: one with its end, or all that was left
 abbrev pub ReadsLine : (eol : ℕ) (keys keys' : List (List ℕ)) (left left' : Option (List ℕ)) → (has_end : Bool) → Type 0
-ReadsLine eol keys keys' left left' true = (text : List ℕ) × (read : List (List ℕ)) × TakesKeys keys keys' left left' text read
-    × ComeFirst (line_texts eol) text read []
+ReadsLine eol keys keys' left left' true = (text key : List ℕ) × TakesKeys keys keys' left left' text (key ∷ [])
+    × ComeFirst (line_texts eol) text (key ∷ []) []
 ReadsLine eol keys keys' left left' false = ReadsLines eol keys keys' left left'
 
 -- a key of so many bytes was read; or none was left

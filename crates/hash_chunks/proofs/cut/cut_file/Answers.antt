@@ -28,4 +28,4 @@ pub returns : goal.returns
 returns g c =
     let (bytes, rest, refused, why, read) = c.in-Err-NoMemory.ensures.fault in
     let breaks = rw c.in-Err-NoMemory.field-0-is at why in
-    ends-early g.S.Sink.taken _ _ _ _ _ _ bytes c.in-Ok.ensures rest (rw breaks.1 at read)
+    ends-early g.S.Sink.taken _ _ _ _ _ _ bytes c.in-Ok.ensures rest breaks.0 (rw breaks.1 at read)

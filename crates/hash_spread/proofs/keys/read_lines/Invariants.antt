@@ -1,7 +1,6 @@
-use Rattle.std.proofs.Common.{true}
-use Rattle.hash_spread.specs.Keys.{ReadsLine}
+use Rattle.hash_spread.specs.Keys.{TakesLines}
 use Rattle.hash_spread.proofs.keys.read_lines.Given as goal
 
 -- what was read so far is whole lines, whose keys are there
 abbrev pub invariant-lines : goal.invariant-lines
-invariant-lines g l = ReadsLine l.eol l.initial.keys.texts l.keys.texts (g.R.Read.remaining l.initial.r) (g.R.Read.remaining l.r) true
+invariant-lines g l = TakesLines l.eol l.initial.keys.texts l.keys.texts (g.R.Read.remaining l.initial.r) (g.R.Read.remaining l.r)
