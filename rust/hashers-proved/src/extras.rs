@@ -1,10 +1,11 @@
 //! What Rust's users expect of the types and Rattle's text does not say: copies, comparison, `Debug`, `unwrite` as a method, both words of
 //! SpookyHash in one call. It is written by hand, and trusted; each function calls proved functions alone. Equality goes by what `finish`
 //! answers: different states answer differently by the law `answer_injective` of `Undo`, or the answer is the whole state.
+use crate::hash_blocks::{BlockHasher, BlockRule};
 use crate::hash_bytes::null::{NullHasher, PassThroughRule};
 use crate::hash_bytes::oz::{LoseLoseState, SdbmState};
 use crate::hash_fx::{FxSplit, WordHasher};
-use crate::hash_jenkins::spooky_hash::SpookyHasher;
+use crate::hash_jenkins::spooky_hash::{SpookyHasher, SpookyV1Hasher};
 use crate::hash_jenkins::spooky_parts::SpookyParts;
 use crate::hash_jenkins::{BuildSpooky, Lookup3Hasher};
 use crate::hash_keyed::pair::Poly61Pair;
@@ -15,6 +16,7 @@ use crate::hash_numbers::hasher::NumberHasher;
 use crate::hash_rounds::Turns;
 use crate::hash_rules::{ByteHasher, ByteRule, UndoRule};
 use crate::hash_writes::build::BuildFresh;
+use crate::hash_xxh3::Xxh3Hasher;
 use core::fmt;
 use core::hash::{BuildHasher, Hasher};
 
@@ -47,6 +49,9 @@ copies! {
     [] Lookup3Hasher;
     [] NullHasher;
     [] SpookyHasher;
+    [] SpookyV1Hasher;
+    [] Xxh3Hasher;
+    [R: BlockRule<N>, const N: usize] BlockHasher<R, N>;
     [] Poly61Hasher;
     [] Poly61Pair;
     [] NumberHasher;
@@ -84,6 +89,12 @@ by_answer! {
 impl fmt::Debug for SpookyHasher {
     fn fmt(&self, f: &mut fmt::Formatter) -> fmt::Result {
         f.debug_tuple("SpookyHasher").field(&self.finish128()).finish()
+    }
+}
+
+impl fmt::Debug for SpookyV1Hasher {
+    fn fmt(&self, f: &mut fmt::Formatter) -> fmt::Result {
+        f.debug_tuple("SpookyV1Hasher").field(&self.finish128()).finish()
     }
 }
 
@@ -228,10 +239,10 @@ pub type NumberMap<K, V> = real_std::collections::HashMap<K, V, NumberKeys>;
 #[cfg(feature = "std")]
 pub type NumberSet<K> = real_std::collections::HashSet<K, NumberKeys>;
 
-/// `Debug` by the name alone: neither a key nor a hash, from which the key may come out.
+/// `Debug` by the name alone: neither a key or seed nor a hash, from which it may come out.
 macro_rules! tells_no_key {
-    ($($type:ident)*) => {$(
-        impl fmt::Debug for $type {
+    ($([$($bound:tt)*] $type:ident $(<$($of:ident),*>)?;)*) => {$(
+        impl<$($bound)*> fmt::Debug for $type $(<$($of),*>)? {
             fn fmt(&self, f: &mut fmt::Formatter) -> fmt::Result {
                 f.debug_struct(stringify!($type)).finish_non_exhaustive()
             }
@@ -239,4 +250,12 @@ macro_rules! tells_no_key {
     )*};
 }
 
-tells_no_key! { Poly61Hasher Poly61Pair Poly61Keys NumberHasher NumberKeys }
+tells_no_key! {
+    [] Xxh3Hasher;
+    [R: BlockRule<N>, const N: usize] BlockHasher<R, N>;
+    [] Poly61Hasher;
+    [] Poly61Pair;
+    [] Poly61Keys;
+    [] NumberHasher;
+    [] NumberKeys;
+}
