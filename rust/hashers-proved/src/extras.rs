@@ -16,7 +16,7 @@ use crate::hash_numbers::hasher::NumberHasher;
 use crate::hash_rounds::Turns;
 use crate::hash_rules::{ByteHasher, ByteRule, UndoRule};
 use crate::hash_writes::build::BuildFresh;
-use crate::hash_xxh3::Xxh3Hasher;
+use crate::hash_xxh3::{BuildXxh3, Xxh3Hasher};
 use core::fmt;
 use core::hash::{BuildHasher, Hasher};
 
@@ -136,9 +136,21 @@ impl<H> fmt::Debug for BuildFresh<H> {
     }
 }
 
-impl fmt::Debug for BuildSpooky {
-    fn fmt(&self, f: &mut fmt::Formatter) -> fmt::Result {
-        f.write_str("BuildSpooky")
+/// The seeds 0, which everybody knows: so a map by `default()`, and one that is collected, has them.
+#[allow(clippy::derivable_impls)] // the type is in a file that rust/erase writes
+impl Default for BuildSpooky {
+    #[inline]
+    fn default() -> BuildSpooky {
+        BuildSpooky { seed1: 0, seed2: 0 }
+    }
+}
+
+/// The seed 0, which everybody knows: so a map by `default()`, and one that is collected, has it.
+#[allow(clippy::derivable_impls)] // the type is in a file that rust/erase writes
+impl Default for BuildXxh3 {
+    #[inline]
+    fn default() -> BuildXxh3 {
+        BuildXxh3 { seed: 0 }
     }
 }
 
@@ -251,6 +263,8 @@ macro_rules! tells_no_key {
 }
 
 tells_no_key! {
+    [] BuildSpooky;
+    [] BuildXxh3;
     [] Xxh3Hasher;
     [R: BlockRule<N>, const N: usize] BlockHasher<R, N>;
     [] Poly61Hasher;

@@ -5,11 +5,11 @@ use hashers_proved::blocks::{
 use hashers_proved::jenkins::spooky_hash::{spooky128, spooky128_v1, SpookyHasher, SpookyV1Hasher};
 use hashers_proved::keyed::{Poly61Hasher, Poly61Pair};
 use hashers_proved::numbers::NumberHasher;
-use hashers_proved::xxh3::{xxh3_64, Xxh3Hasher};
+use hashers_proved::xxh3::{xxh3_64, BuildXxh3, Xxh3Hasher};
 use hashers_proved::{fnv::*, fx_hash::*, jenkins::*, more::*, null::*, oz::*, pigeon::*};
 use std::collections::{HashMap, HashSet};
 use std::fmt::Debug;
-use std::hash::{BuildHasherDefault, Hash, Hasher};
+use std::hash::{BuildHasher, BuildHasherDefault, Hash, Hasher};
 
 /// What the crate's page says that a hasher has.
 const fn hasher<H: Hasher + Clone + Copy + Debug>() {}
@@ -75,6 +75,30 @@ fn copies_of_hashers_under_seeds_go_on_by_themselves() {
 fn debug_shows_neither_seeds_nor_hashes() {
     let told = format!("{:?}, {:?}", Xxh3Hasher::new(7), SipHasher13::new(SipKey { k0: 5, k1: 6 }));
     assert_eq!(told, "Xxh3Hasher { .. }, BlockHasher { .. }");
+    let told = format!("{:?}, {:?}", BuildXxh3 { seed: 7 }, BuildSpooky { seed1: 5, seed2: 6 });
+    assert_eq!(told, "BuildXxh3 { .. }, BuildSpooky { .. }");
+}
+
+/// What makes hashers goes into maps that are collected, or are made by `default()`.
+fn collected<B: BuildHasher + Clone + Copy + Debug + Default>() {
+    let ages: HashMap<String, u8, B> = [("Ada".to_string(), 36)].into_iter().collect();
+    let mut none = HashMap::<String, u8, B>::default();
+    assert_eq!((ages["Ada"], none.insert("Alan".to_string(), 41), none["Alan"]), (36, None, 41));
+}
+
+#[test]
+fn maps_take_what_makes_hashers() {
+    collected::<BuildXxh3>();
+    collected::<BuildSpooky>();
+    collected::<hashers_proved::build::BuildFresh<FNV1aHasher64>>();
+    #[cfg(feature = "std")]
+    {
+        collected::<hashers_proved::keyed::Poly61Keys>();
+        collected::<hashers_proved::numbers::NumberKeys>();
+        collected::<hashers_proved::lines::RandomKeys>();
+    }
+    assert_eq!(BuildXxh3::default().hash_one(7u8), xxh3_64(0, &[7]));
+    assert_eq!(BuildSpooky::default().hash_one(7u8), spooky128(&[7], 0, 0).0);
 }
 
 fn in_a_map<H: Hasher + Default>() {
