@@ -15,6 +15,7 @@ use crate::hash_more::elf::ElfHasher;
 use crate::hash_numbers::hasher::NumberHasher;
 use crate::hash_rounds::Turns;
 use crate::hash_rules::{ByteHasher, ByteRule, UndoRule};
+use crate::hash_siphash::{SipHasher13, SipKey};
 use crate::hash_writes::build::BuildFresh;
 use crate::hash_xxh3::{BuildXxh3, Xxh3Hasher};
 use core::fmt;
@@ -137,7 +138,6 @@ impl<H> fmt::Debug for BuildFresh<H> {
 }
 
 /// The seeds 0, which everybody knows: so a map by `default()`, and one that is collected, has them.
-#[allow(clippy::derivable_impls)] // the type is in a file that rust/erase writes
 impl Default for BuildSpooky {
     #[inline]
     fn default() -> BuildSpooky {
@@ -146,7 +146,6 @@ impl Default for BuildSpooky {
 }
 
 /// The seed 0, which everybody knows: so a map by `default()`, and one that is collected, has it.
-#[allow(clippy::derivable_impls)] // the type is in a file that rust/erase writes
 impl Default for BuildXxh3 {
     #[inline]
     fn default() -> BuildXxh3 {
@@ -159,6 +158,12 @@ impl fmt::Debug for crate::reader::Taken {
     fn fmt(&self, f: &mut fmt::Formatter) -> fmt::Result {
         f.debug_struct("Taken").field("bytes", &self.bytes).field("ended", &self.ended).finish()
     }
+}
+
+/// A random word, from the randomness of std's `RandomState`.
+#[cfg(feature = "std")]
+pub(crate) fn random_word() -> u64 {
+    real_std::hash::RandomState::new().build_hasher().finish()
 }
 
 /// Hashers by the polynomial at one key, for std's maps and sets. Take a random one where somebody else chooses what is hashed.
@@ -177,7 +182,7 @@ impl Poly61Keys {
     /// A key from the randomness of std's `RandomState`, never 0, at which all texts have one hash. Each call has another one.
     #[cfg(feature = "std")]
     pub fn random() -> Poly61Keys {
-        Poly61Keys::with_key(1 + real_std::hash::RandomState::new().build_hasher().finish() % ((1 << 61) - 2))
+        Poly61Keys::with_key(1 + random_word() % ((1 << 61) - 2))
     }
 }
 
@@ -219,8 +224,7 @@ impl NumberKeys {
     /// Keys from the randomness of std's `RandomState`. Each call has others.
     #[cfg(feature = "std")]
     pub fn random() -> NumberKeys {
-        let word = || u128::from(real_std::hash::RandomState::new().build_hasher().finish());
-        let wide = || word() << 64 | word();
+        let wide = || u128::from(random_word()) << 64 | u128::from(random_word());
         NumberKeys { multiplier: wide(), multiplier2: wide(), addend: wide(), text: Poly61Keys::random() }
     }
 }
@@ -251,6 +255,44 @@ pub type NumberMap<K, V> = real_std::collections::HashMap<K, V, NumberKeys>;
 #[cfg(feature = "std")]
 pub type NumberSet<K> = real_std::collections::HashSet<K, NumberKeys>;
 
+/// Hashers by SipHash-1-3 under one key, for std's maps and sets, as std's `RandomState` has them. Take a random key where somebody else
+/// chooses what is hashed: that it protects is what SipHash's authors claim, and nothing that is proved.
+#[derive(Clone, Copy)]
+pub struct SipKeys {
+    key: SipKey,
+}
+
+impl SipKeys {
+    /// This key, as two words.
+    #[inline]
+    pub const fn with_keys(k0: u64, k1: u64) -> SipKeys {
+        SipKeys { key: SipKey { k0, k1 } }
+    }
+
+    /// A key from the randomness of std's `RandomState`. Each call has another one.
+    #[cfg(feature = "std")]
+    pub fn random() -> SipKeys {
+        SipKeys::with_keys(random_word(), random_word())
+    }
+}
+
+/// A random key, as std's `RandomState` has it: so a map by `default()`, and one that is collected, has a key of its own.
+#[cfg(feature = "std")]
+impl Default for SipKeys {
+    fn default() -> SipKeys {
+        SipKeys::random()
+    }
+}
+
+impl BuildHasher for SipKeys {
+    type Hasher = SipHasher13;
+
+    #[inline]
+    fn build_hasher(&self) -> SipHasher13 {
+        SipHasher13::new(self.key)
+    }
+}
+
 /// `Debug` by the name alone: neither a key or seed nor a hash, from which it may come out.
 macro_rules! tells_no_key {
     ($([$($bound:tt)*] $type:ident $(<$($of:ident),*>)?;)*) => {$(
@@ -272,4 +314,5 @@ tells_no_key! {
     [] Poly61Keys;
     [] NumberHasher;
     [] NumberKeys;
+    [] SipKeys;
 }

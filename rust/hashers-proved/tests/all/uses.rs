@@ -1,6 +1,6 @@
 //! What a caller does: maps, parts, undoing.
 use hashers_proved::blocks::{
-    siphash24, xxh64, Murmur3Hasher128, Murmur3Hasher32, SipHasher13, SipHasher24, SipKey, Xxh32Hasher, Xxh64Hasher,
+    siphash13, siphash24, xxh64, Murmur3Hasher128, Murmur3Hasher32, SipHasher13, SipHasher24, SipKey, SipKeys, Xxh32Hasher, Xxh64Hasher,
 };
 use hashers_proved::jenkins::spooky_hash::{spooky128, spooky128_v1, SpookyHasher, SpookyV1Hasher};
 use hashers_proved::keyed::{Poly61Hasher, Poly61Pair};
@@ -75,8 +75,8 @@ fn copies_of_hashers_under_seeds_go_on_by_themselves() {
 fn debug_shows_neither_seeds_nor_hashes() {
     let told = format!("{:?}, {:?}", Xxh3Hasher::new(7), SipHasher13::new(SipKey { k0: 5, k1: 6 }));
     assert_eq!(told, "Xxh3Hasher { .. }, BlockHasher { .. }");
-    let told = format!("{:?}, {:?}", BuildXxh3 { seed: 7 }, BuildSpooky { seed1: 5, seed2: 6 });
-    assert_eq!(told, "BuildXxh3 { .. }, BuildSpooky { .. }");
+    let told = format!("{:?}, {:?}, {:?}", BuildXxh3 { seed: 7 }, BuildSpooky { seed1: 5, seed2: 6 }, SipKeys::with_keys(5, 6));
+    assert_eq!(told, "BuildXxh3 { .. }, BuildSpooky { .. }, SipKeys { .. }");
 }
 
 /// What makes hashers goes into maps that are collected, or are made by `default()`.
@@ -96,7 +96,10 @@ fn maps_take_what_makes_hashers() {
         collected::<hashers_proved::keyed::Poly61Keys>();
         collected::<hashers_proved::numbers::NumberKeys>();
         collected::<hashers_proved::lines::RandomKeys>();
+        collected::<SipKeys>();
+        assert_ne!(SipKeys::random().hash_one(7), SipKeys::default().hash_one(7));
     }
+    assert_eq!(SipKeys::with_keys(5, 6).hash_one(7u8), siphash13(SipKey { k0: 5, k1: 6 }, &[7]));
     assert_eq!(BuildXxh3::default().hash_one(7u8), xxh3_64(0, &[7]));
     assert_eq!(BuildSpooky::default().hash_one(7u8), spooky128(&[7], 0, 0).0);
 }
