@@ -23,6 +23,7 @@ use crate::hash_laws::traits::Piecewise;
 use crate::hash_ring::{self as proved, Node, Refused};
 use crate::shim::memory::Global;
 use core::fmt;
+use real_std::collections::BTreeMap;
 use real_std::string::String;
 use real_std::vec::Vec;
 
@@ -151,21 +152,26 @@ impl<'a, H: Piecewise> IntoIterator for &'a Ring<H> {
     }
 }
 
+/// The weights of the nodes by their names, of two of one name that of the last. It panics at a weight of 0.
+fn by_name<N: Into<Vec<u8>>>(nodes: impl IntoIterator<Item = (N, u64)>) -> BTreeMap<Vec<u8>, u64> {
+    let named: BTreeMap<Vec<u8>, u64> = nodes.into_iter().map(|(name, weight)| (name.into(), weight)).collect();
+    assert!(named.values().all(|weight| *weight > 0), "a node without a point");
+    named
+}
+
 /// Makes a ring at once, which is faster than node by node. Of two nodes of one name the last one counts. It panics at a weight of 0.
 impl<N: Into<Vec<u8>>, H: Piecewise> FromIterator<(N, u64)> for Ring<H> {
     fn from_iter<I: IntoIterator<Item = (N, u64)>>(nodes: I) -> Ring<H> {
-        let named: real_std::collections::BTreeMap<Vec<u8>, u64> = nodes.into_iter().map(|(name, weight)| (name.into(), weight)).collect();
-        assert!(named.values().all(|weight| *weight > 0), "a node without a point");
-        let nodes: Vec<Node> = named.into_iter().map(|(name, weight)| Node { name: name.into(), weight }).collect();
+        let nodes: Vec<Node> = by_name(nodes).into_iter().map(|(name, weight)| Node { name: name.into(), weight }).collect();
         Ring { ring: proved::Ring::from_nodes(Global, nodes.into()).unwrap_or_else(|_| no_memory()) }
     }
 }
 
-/// Adds the nodes; of one name that is there the weight becomes the new one. It panics at a weight of 0.
+/// Adds the nodes; of one name that is there the weight becomes the new one, and of two of one name the last one counts. It panics at a
+/// weight of 0, and then the ring stays as it was.
 impl<N: Into<Vec<u8>>, H: Piecewise> Extend<(N, u64)> for Ring<H> {
     fn extend<I: IntoIterator<Item = (N, u64)>>(&mut self, nodes: I) {
-        for (name, weight) in nodes {
-            let name = name.into();
+        for (name, weight) in by_name(nodes) {
             if self.weight(&name) != Some(weight) {
                 self.remove(&name);
                 self.add(name, weight);

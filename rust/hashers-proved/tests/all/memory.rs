@@ -18,6 +18,7 @@ use std::collections::btree_map::Entry;
 use std::collections::{BTreeMap, HashMap, HashSet};
 use std::hash::{BuildHasher, BuildHasherDefault, Hasher};
 use std::io::{ErrorKind, Read, Write};
+use std::panic::{catch_unwind, AssertUnwindSafe};
 
 /// Numbers that look random, the same ones each time.
 fn numbers(mut state: u64) -> impl FnMut() -> u64 {
@@ -185,6 +186,19 @@ fn points_in_an_array_are_a_ring() {
     assert!(now == before && !points::add(&mut [last], &[], 0) && points::add(&mut [], &[], 0));
 }
 
+/// Neither a node that is there nor one that comes before goes or changes.
+#[test]
+fn rings_stay_as_they_were_where_they_panic() {
+    let mut ring = Ring::from_iter([("a", 5), ("b", 6)]);
+    for nodes in [&[("a", 0)][..], &[("c", 0)], &[("c", 7), ("b", 8), ("a", 0)]] {
+        let (before, extended) = (ring.clone(), AssertUnwindSafe(|| ring.extend(nodes.iter().copied())));
+        assert!(catch_unwind(extended).is_err());
+        assert_eq!((ring.owner("key"), &ring), (before.owner("key"), &before));
+    }
+    ring.extend([("c", 0), ("a", 9), ("c", 7)]);
+    assert_eq!(ring, Ring::<SpookyHasher>::from_iter([("a", 9), ("b", 6), ("c", 7)]));
+}
+
 /// A ring of so many points that it looks for a place another way.
 #[test]
 fn large_rings_have_the_owners_of_small_ones() {
@@ -329,7 +343,7 @@ fn filters_are_stored_and_joined() {
 }
 
 fn panics<T>(call: fn() -> T) -> bool {
-    std::panic::catch_unwind(call).is_err()
+    catch_unwind(call).is_err()
 }
 
 /// Calls that give no filter, no list and no ring.
