@@ -21,10 +21,11 @@ use crate::hash_xxh3::{BuildXxh3, Xxh3Hasher};
 use core::fmt;
 use core::hash::{BuildHasher, Hasher};
 
-/// Ends the program as std's collections do, where there is no memory.
+/// Ends the program as std's collections do, where there is no memory for so many items, and panics as they do where these are more than
+/// `isize::MAX` bytes. The proved calls don't tell what was refused: a list that grows asks for more than its new items.
 #[cfg(feature = "std")]
-pub(crate) fn no_memory() -> ! {
-    real_std::alloc::handle_alloc_error(core::alloc::Layout::new::<u64>())
+pub(crate) fn no_memory<T>(count: usize) -> ! {
+    real_std::alloc::handle_alloc_error(core::alloc::Layout::array::<T>(count).expect("capacity overflow"))
 }
 
 /// `Clone` as `Copy` has it.

@@ -77,7 +77,7 @@ impl<S: BuildHasher> Lines<S> {
     fn see(&mut self, text: &[u8]) -> Seen {
         match self.texts.see(text) {
             Ok(seen) => seen,
-            Err(Full::NoMemory) => no_memory(),
+            Err(Full::NoMemory) => no_memory::<u8>(text.len()),
             Err(full) => panic!("{full}"),
         }
     }
