@@ -1,6 +1,6 @@
-//! What Rust's users expect of the types and Rattle's text does not say: copies, comparison, `Debug`, `unwrite` as a method, both words of
-//! SpookyHash in one call. It is written by hand, and trusted; each function calls proved functions alone. Equality goes by what `finish`
-//! answers: different states answer differently by the law `answer_injective` of `Undo`, or the answer is the whole state.
+//! What Rust's users expect of the types and Rattle's text does not say: copies, comparison, `Debug`, defaults, `unwrite` as a method, both
+//! words of SpookyHash in one call. It is written by hand, and trusted; each function calls proved functions alone. Equality goes by what
+//! `finish` answers: different states answer differently by the law `answer_injective` of `Undo`, or the answer is the whole state.
 use crate::hash_blocks::{BlockHasher, BlockRule};
 use crate::hash_bytes::null::{NullHasher, PassThroughRule};
 use crate::hash_bytes::oz::{LoseLoseState, SdbmState};
