@@ -54,15 +54,15 @@ impl Bloom {
     }
 }
 
-/// Panics where the numbers give no filter.
-fn sized(keys: u64, bits_per_key: u32) {
+/// How many words a filter of these numbers takes. Panics where they give none.
+fn sized(keys: u64, bits_per_key: u32) -> usize {
     assert!(bits_per_key > 0, "a filter of no bits");
-    words_for(keys.checked_mul(bits_per_key.into()).expect("a filter of 2^64 bits"));
+    words_for(keys.checked_mul(bits_per_key.into()).expect("a filter of 2^64 bits"))
 }
 
-/// How many words so many bits take, where memory can have so many.
+/// How many words so many bits take. Panics, as std's collections do, where a host of 32 bits has not so many.
 fn words_for(bits: u64) -> usize {
-    usize::try_from(bits.div_ceil(64)).unwrap_or_else(|_| no_memory())
+    usize::try_from(bits.div_ceil(64)).expect("capacity overflow")
 }
 
 impl<F: Piecewise, G: Piecewise> Bloom<F, G> {
@@ -73,8 +73,8 @@ impl<F: Piecewise, G: Piecewise> Bloom<F, G> {
     ///
     /// Panics if `bits_per_key` is 0, or the bits are 2^64 or more.
     pub fn for_keys(keys: u64, bits_per_key: u32) -> Self {
-        sized(keys, bits_per_key);
-        Bloom { filter: proved::Bloom::for_keys(Global, keys, bits_per_key).unwrap_or_else(|_| no_memory()) }
+        let words = sized(keys, bits_per_key);
+        Bloom { filter: proved::Bloom::for_keys(Global, keys, bits_per_key).unwrap_or_else(|_| no_memory::<u64>(words)) }
     }
 
     /// A filter for about so many keys, of which one strange key in 2^k passes at most, by the formula above.
@@ -94,8 +94,8 @@ impl<F: Piecewise, G: Piecewise> Bloom<F, G> {
     /// Panics if either is 0.
     pub fn with_bits(bits: u64, probes: u32) -> Self {
         assert!(bits > 0 && probes > 0, "a filter of no bits or no probes");
-        words_for(bits);
-        Bloom { filter: proved::Bloom::new(Global, bits, probes).unwrap_or_else(|_| no_memory()) }
+        let words = words_for(bits);
+        Bloom { filter: proved::Bloom::new(Global, bits, probes).unwrap_or_else(|_| no_memory::<u64>(words)) }
     }
 
     /// Inserts the key, and tells whether it was found before: `false` says that it was not inserted before, and `true` that it possibly

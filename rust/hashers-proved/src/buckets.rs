@@ -39,7 +39,7 @@ impl<const N: usize> Buckets<N> {
 impl<const N: usize, H: Piecewise> Default for Buckets<N, H> {
     fn default() -> Buckets<N, H> {
         const { assert!(N > 0, "a table of no lists") };
-        Buckets { table: proved::Buckets::new(Global).unwrap_or_else(|_| no_memory()) }
+        Buckets { table: proved::Buckets::new(Global).unwrap_or_else(|_| no_memory::<Bytes<(Bytes<u8>, u64)>>(N)) }
     }
 }
 
@@ -56,7 +56,7 @@ impl<const N: usize, H: Piecewise> Buckets<N, H> {
 
     /// Gives the key the value, and tells the one that it had.
     pub fn insert(&mut self, key: impl Into<Vec<u8>>, value: u64) -> Option<u64> {
-        self.table.insert(key.into().into(), value).unwrap_or_else(|_| no_memory())
+        self.table.insert(key.into().into(), value).unwrap_or_else(|_| no_memory::<(Bytes<u8>, u64)>(1))
     }
 
     /// Takes the key out, and tells its value.

@@ -1,10 +1,11 @@
-//! What Rust's users expect of the types and Rattle's text does not say: copies, comparison, `Debug`, `unwrite` as a method, both words of
-//! SpookyHash in one call. It is written by hand, and trusted; each function calls proved functions alone. Equality goes by what `finish`
-//! answers: different states answer differently by the law `answer_injective` of `Undo`, or the answer is the whole state.
+//! What Rust's users expect of the types and Rattle's text does not say: copies, comparison, `Debug`, defaults, `unwrite` as a method, both
+//! words of SpookyHash in one call. It is written by hand, and trusted; each function calls proved functions alone. Equality goes by what
+//! `finish` answers: different states answer differently by the law `answer_injective` of `Undo`, or the answer is the whole state.
+use crate::hash_blocks::{BlockHasher, BlockRule};
 use crate::hash_bytes::null::{NullHasher, PassThroughRule};
 use crate::hash_bytes::oz::{LoseLoseState, SdbmState};
 use crate::hash_fx::{FxSplit, WordHasher};
-use crate::hash_jenkins::spooky_hash::SpookyHasher;
+use crate::hash_jenkins::spooky_hash::{SpookyHasher, SpookyV1Hasher};
 use crate::hash_jenkins::spooky_parts::SpookyParts;
 use crate::hash_jenkins::{BuildSpooky, Lookup3Hasher};
 use crate::hash_keyed::pair::Poly61Pair;
@@ -14,14 +15,17 @@ use crate::hash_more::elf::ElfHasher;
 use crate::hash_numbers::hasher::NumberHasher;
 use crate::hash_rounds::Turns;
 use crate::hash_rules::{ByteHasher, ByteRule, UndoRule};
+use crate::hash_siphash::{SipHasher13, SipKey};
 use crate::hash_writes::build::BuildFresh;
+use crate::hash_xxh3::{BuildXxh3, Xxh3Hasher};
 use core::fmt;
 use core::hash::{BuildHasher, Hasher};
 
-/// Ends the program as std's collections do, where there is no memory.
+/// Ends the program as std's collections do, where there is no memory for so many items, and panics as they do where these are more than
+/// `isize::MAX` bytes. The proved calls don't tell what was refused: a list that grows asks for more than its new items.
 #[cfg(feature = "std")]
-pub(crate) fn no_memory() -> ! {
-    real_std::alloc::handle_alloc_error(core::alloc::Layout::new::<u64>())
+pub(crate) fn no_memory<T>(count: usize) -> ! {
+    real_std::alloc::handle_alloc_error(core::alloc::Layout::array::<T>(count).expect("capacity overflow"))
 }
 
 /// `Clone` as `Copy` has it.
@@ -47,6 +51,9 @@ copies! {
     [] Lookup3Hasher;
     [] NullHasher;
     [] SpookyHasher;
+    [] SpookyV1Hasher;
+    [] Xxh3Hasher;
+    [R: BlockRule<N>, const N: usize] BlockHasher<R, N>;
     [] Poly61Hasher;
     [] Poly61Pair;
     [] NumberHasher;
@@ -84,6 +91,12 @@ by_answer! {
 impl fmt::Debug for SpookyHasher {
     fn fmt(&self, f: &mut fmt::Formatter) -> fmt::Result {
         f.debug_tuple("SpookyHasher").field(&self.finish128()).finish()
+    }
+}
+
+impl fmt::Debug for SpookyV1Hasher {
+    fn fmt(&self, f: &mut fmt::Formatter) -> fmt::Result {
+        f.debug_tuple("SpookyV1Hasher").field(&self.finish128()).finish()
     }
 }
 
@@ -125,9 +138,19 @@ impl<H> fmt::Debug for BuildFresh<H> {
     }
 }
 
-impl fmt::Debug for BuildSpooky {
-    fn fmt(&self, f: &mut fmt::Formatter) -> fmt::Result {
-        f.write_str("BuildSpooky")
+/// The seeds 0, which everybody knows: so a map by `default()`, and one that is collected, has them.
+impl Default for BuildSpooky {
+    #[inline]
+    fn default() -> BuildSpooky {
+        BuildSpooky { seed1: 0, seed2: 0 }
+    }
+}
+
+/// The seed 0, which everybody knows: so a map by `default()`, and one that is collected, has it.
+impl Default for BuildXxh3 {
+    #[inline]
+    fn default() -> BuildXxh3 {
+        BuildXxh3 { seed: 0 }
     }
 }
 
@@ -136,6 +159,12 @@ impl fmt::Debug for crate::reader::Taken {
     fn fmt(&self, f: &mut fmt::Formatter) -> fmt::Result {
         f.debug_struct("Taken").field("bytes", &self.bytes).field("ended", &self.ended).finish()
     }
+}
+
+/// A random word, from the randomness of std's `RandomState`.
+#[cfg(feature = "std")]
+pub(crate) fn random_word() -> u64 {
+    real_std::hash::RandomState::new().build_hasher().finish()
 }
 
 /// Hashers by the polynomial at one key, for std's maps and sets. Take a random one where somebody else chooses what is hashed.
@@ -154,7 +183,7 @@ impl Poly61Keys {
     /// A key from the randomness of std's `RandomState`, never 0, at which all texts have one hash. Each call has another one.
     #[cfg(feature = "std")]
     pub fn random() -> Poly61Keys {
-        Poly61Keys::with_key(1 + real_std::hash::RandomState::new().build_hasher().finish() % ((1 << 61) - 2))
+        Poly61Keys::with_key(1 + random_word() % ((1 << 61) - 2))
     }
 }
 
@@ -196,8 +225,7 @@ impl NumberKeys {
     /// Keys from the randomness of std's `RandomState`. Each call has others.
     #[cfg(feature = "std")]
     pub fn random() -> NumberKeys {
-        let word = || u128::from(real_std::hash::RandomState::new().build_hasher().finish());
-        let wide = || word() << 64 | word();
+        let wide = || u128::from(random_word()) << 64 | u128::from(random_word());
         NumberKeys { multiplier: wide(), multiplier2: wide(), addend: wide(), text: Poly61Keys::random() }
     }
 }
@@ -228,10 +256,48 @@ pub type NumberMap<K, V> = real_std::collections::HashMap<K, V, NumberKeys>;
 #[cfg(feature = "std")]
 pub type NumberSet<K> = real_std::collections::HashSet<K, NumberKeys>;
 
-/// `Debug` by the name alone: neither a key nor a hash, from which the key may come out.
+/// Hashers by SipHash-1-3 under one key, for std's maps and sets, as std's `RandomState` has them. Take a random key where somebody else
+/// chooses what is hashed: that it protects is what SipHash's authors claim, and nothing that is proved.
+#[derive(Clone, Copy)]
+pub struct SipKeys {
+    key: SipKey,
+}
+
+impl SipKeys {
+    /// This key, as two words.
+    #[inline]
+    pub const fn with_keys(k0: u64, k1: u64) -> SipKeys {
+        SipKeys { key: SipKey { k0, k1 } }
+    }
+
+    /// A key from the randomness of std's `RandomState`. Each call has another one.
+    #[cfg(feature = "std")]
+    pub fn random() -> SipKeys {
+        SipKeys::with_keys(random_word(), random_word())
+    }
+}
+
+/// A random key, as std's `RandomState` has it: so a map by `default()`, and one that is collected, has a key of its own.
+#[cfg(feature = "std")]
+impl Default for SipKeys {
+    fn default() -> SipKeys {
+        SipKeys::random()
+    }
+}
+
+impl BuildHasher for SipKeys {
+    type Hasher = SipHasher13;
+
+    #[inline]
+    fn build_hasher(&self) -> SipHasher13 {
+        SipHasher13::new(self.key)
+    }
+}
+
+/// `Debug` by the name alone: neither a key or seed nor a hash, from which it may come out.
 macro_rules! tells_no_key {
-    ($($type:ident)*) => {$(
-        impl fmt::Debug for $type {
+    ($([$($bound:tt)*] $type:ident $(<$($of:ident),*>)?;)*) => {$(
+        impl<$($bound)*> fmt::Debug for $type $(<$($of),*>)? {
             fn fmt(&self, f: &mut fmt::Formatter) -> fmt::Result {
                 f.debug_struct(stringify!($type)).finish_non_exhaustive()
             }
@@ -239,4 +305,15 @@ macro_rules! tells_no_key {
     )*};
 }
 
-tells_no_key! { Poly61Hasher Poly61Pair Poly61Keys NumberHasher NumberKeys }
+tells_no_key! {
+    [] BuildSpooky;
+    [] BuildXxh3;
+    [] Xxh3Hasher;
+    [R: BlockRule<N>, const N: usize] BlockHasher<R, N>;
+    [] Poly61Hasher;
+    [] Poly61Pair;
+    [] Poly61Keys;
+    [] NumberHasher;
+    [] NumberKeys;
+    [] SipKeys;
+}

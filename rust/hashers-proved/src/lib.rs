@@ -221,6 +221,8 @@ pub mod blocks {
     #[doc(inline)]
     pub use crate::block_laws::*;
     #[doc(inline)]
+    pub use crate::extras::SipKeys;
+    #[doc(inline)]
     pub use crate::hash_blocks::{BlockHasher, BlockRule, WideRule};
     #[doc(inline)]
     pub use crate::hash_murmur3::*;

@@ -16,13 +16,12 @@ pub use crate::text_set::lines::{has_end, line_end, without_end};
 #[doc(inline)]
 pub use crate::text_set::{Iter, KeyedHasher, RandomKeys};
 
-use crate::extras::no_memory;
+use crate::extras::{no_memory, random_word};
 use crate::shim::memory::Global;
 use crate::text_set::{Full, Seen, Texts};
 use core::fmt;
-use core::hash::{BuildHasher, Hasher};
+use core::hash::BuildHasher;
 use core::ops::Index;
-use real_std::hash::RandomState;
 use real_std::io::{BufRead, Result};
 use real_std::string::String;
 use real_std::vec::Vec;
@@ -78,7 +77,7 @@ impl<S: BuildHasher> Lines<S> {
     fn see(&mut self, text: &[u8]) -> Seen {
         match self.texts.see(text) {
             Ok(seen) => seen,
-            Err(Full::NoMemory) => no_memory(),
+            Err(Full::NoMemory) => no_memory::<u8>(text.len()),
             Err(full) => panic!("{full}"),
         }
     }
@@ -188,8 +187,7 @@ impl<S: BuildHasher> fmt::Debug for Lines<S> {
 /// Random keys, from the randomness of std's `RandomState`. Each call has others.
 impl Default for RandomKeys {
     fn default() -> RandomKeys {
-        let word = || RandomState::new().build_hasher().finish();
-        RandomKeys::with_keys(word(), word())
+        RandomKeys::with_keys(random_word(), random_word())
     }
 }
 

@@ -20,9 +20,12 @@
 use crate::extras::no_memory;
 use crate::hash_jenkins::spooky_hash::SpookyHasher;
 use crate::hash_laws::traits::Piecewise;
+use crate::hash_ring::points::Point;
 use crate::hash_ring::{self as proved, Node, Refused};
 use crate::shim::memory::Global;
+use core::alloc::Layout;
 use core::fmt;
+use real_std::collections::BTreeMap;
 use real_std::string::String;
 use real_std::vec::Vec;
 
@@ -50,18 +53,26 @@ impl<H: Piecewise> Default for Ring<H> {
     }
 }
 
+/// How many points so much weight is. Panics where it is none, and, as std's collections do, where it is more than `isize::MAX` bytes.
+fn points(weight: u64) -> usize {
+    assert!(weight > 0, "a node without a point");
+    let count = usize::try_from(weight).expect("capacity overflow");
+    Layout::array::<Point>(count).expect("capacity overflow");
+    count
+}
+
 impl<H: Piecewise> Ring<H> {
     /// Adds a node with so many points, and tells whether it is new: where a node of the name is there, the ring stays as it is.
     ///
     /// # Panics
     ///
-    /// Panics if the weight is 0.
+    /// Panics if the weight is 0, or so many points are more than `isize::MAX` bytes.
     pub fn add(&mut self, name: impl Into<Vec<u8>>, weight: u64) -> bool {
-        assert!(weight > 0, "a node without a point");
+        let count = points(weight);
         match self.ring.add(name.into().into(), weight) {
             Ok(()) => true,
             Err(Refused::IsThere(_)) => false,
-            Err(Refused::NoRoom(_)) => no_memory(),
+            Err(Refused::NoRoom(_)) => no_memory::<Point>(count),
         }
     }
 
@@ -83,7 +94,7 @@ impl<H: Piecewise> Ring<H> {
     /// The first nodes from the key's place on, so many different ones, or all where there are fewer. The first owns the key, and the
     /// others are those that would own it if the ones before were gone.
     pub fn owners(&self, key: impl AsRef<[u8]>, count: usize) -> Vec<&[u8]> {
-        self.ring.owners(Global, key.as_ref(), count).unwrap_or_else(|_| no_memory()).into()
+        self.ring.owners(Global, key.as_ref(), count).unwrap_or_else(|_| no_memory::<usize>(count.min(self.len()))).into()
     }
 
     /// The first node from the key's place on of which the closure says that it has room.
@@ -116,7 +127,7 @@ impl<H: Piecewise> Ring<H> {
     /// Of each node, in the order of their names, how many of the 2^64 places it owns. Under a hash of 32 bits all keys lie in the first 2^32
     /// of them, so there it says nothing of the keys.
     pub fn shares(&self) -> Vec<u128> {
-        self.ring.shares(Global).unwrap_or_else(|_| no_memory()).into()
+        self.ring.shares(Global).unwrap_or_else(|_| no_memory::<u128>(self.len())).into()
     }
 }
 
@@ -151,21 +162,31 @@ impl<'a, H: Piecewise> IntoIterator for &'a Ring<H> {
     }
 }
 
-/// Makes a ring at once, which is faster than node by node. Of two nodes of one name the last one counts. It panics at a weight of 0.
+/// The weights of the nodes by their names, of two of one name that of the last. It panics where [`Ring::add`] does.
+fn by_name<N: Into<Vec<u8>>>(nodes: impl IntoIterator<Item = (N, u64)>) -> BTreeMap<Vec<u8>, u64> {
+    let named: BTreeMap<Vec<u8>, u64> = nodes.into_iter().map(|(name, weight)| (name.into(), weight)).collect();
+    for weight in named.values() {
+        points(*weight);
+    }
+    named
+}
+
+/// Makes a ring at once, which is faster than node by node. Of two nodes of one name the last one counts. It panics where [`add`](Ring::add)
+/// does.
 impl<N: Into<Vec<u8>>, H: Piecewise> FromIterator<(N, u64)> for Ring<H> {
     fn from_iter<I: IntoIterator<Item = (N, u64)>>(nodes: I) -> Ring<H> {
-        let named: real_std::collections::BTreeMap<Vec<u8>, u64> = nodes.into_iter().map(|(name, weight)| (name.into(), weight)).collect();
-        assert!(named.values().all(|weight| *weight > 0), "a node without a point");
+        let named = by_name(nodes);
+        let count = named.values().fold(0, |sum: usize, weight| sum.saturating_add(points(*weight)));
         let nodes: Vec<Node> = named.into_iter().map(|(name, weight)| Node { name: name.into(), weight }).collect();
-        Ring { ring: proved::Ring::from_nodes(Global, nodes.into()).unwrap_or_else(|_| no_memory()) }
+        Ring { ring: proved::Ring::from_nodes(Global, nodes.into()).unwrap_or_else(|_| no_memory::<Point>(count)) }
     }
 }
 
-/// Adds the nodes; of one name that is there the weight becomes the new one. It panics at a weight of 0.
+/// Adds the nodes; of one name that is there the weight becomes the new one, and of two of one name the last one counts. It panics where
+/// [`add`](Ring::add) does, and then the ring stays as it was.
 impl<N: Into<Vec<u8>>, H: Piecewise> Extend<(N, u64)> for Ring<H> {
     fn extend<I: IntoIterator<Item = (N, u64)>>(&mut self, nodes: I) {
-        for (name, weight) in nodes {
-            let name = name.into();
+        for (name, weight) in by_name(nodes) {
             if self.weight(&name) != Some(weight) {
                 self.remove(&name);
                 self.add(name, weight);

@@ -18,6 +18,7 @@ use std::collections::btree_map::Entry;
 use std::collections::{BTreeMap, HashMap, HashSet};
 use std::hash::{BuildHasher, BuildHasherDefault, Hasher};
 use std::io::{ErrorKind, Read, Write};
+use std::panic::{catch_unwind, AssertUnwindSafe};
 
 /// Numbers that look random, the same ones each time.
 fn numbers(mut state: u64) -> impl FnMut() -> u64 {
@@ -185,6 +186,19 @@ fn points_in_an_array_are_a_ring() {
     assert!(now == before && !points::add(&mut [last], &[], 0) && points::add(&mut [], &[], 0));
 }
 
+/// Neither a node that is there nor one that comes before goes or changes.
+#[test]
+fn rings_stay_as_they_were_where_they_panic() {
+    let mut ring = Ring::from_iter([("a", 5), ("b", 6)]);
+    for nodes in [&[("a", 0)][..], &[("c", 0)], &[("c", 7), ("b", 8), ("a", 0)], &[("c", 7), ("b", u64::MAX)]] {
+        let (before, extended) = (ring.clone(), AssertUnwindSafe(|| ring.extend(nodes.iter().copied())));
+        assert!(catch_unwind(extended).is_err());
+        assert_eq!((ring.owner("key"), &ring), (before.owner("key"), &before));
+    }
+    ring.extend([("c", 0), ("a", 9), ("c", 7)]);
+    assert_eq!(ring, Ring::<SpookyHasher>::from_iter([("a", 9), ("b", 6), ("c", 7)]));
+}
+
 /// A ring of so many points that it looks for a place another way.
 #[test]
 fn large_rings_have_the_owners_of_small_ones() {
@@ -329,7 +343,7 @@ fn filters_are_stored_and_joined() {
 }
 
 fn panics<T>(call: fn() -> T) -> bool {
-    std::panic::catch_unwind(call).is_err()
+    catch_unwind(call).is_err()
 }
 
 /// Calls that give no filter, no list and no ring.
@@ -338,7 +352,30 @@ fn wrong_numbers_panic() {
     assert!(panics(|| Bloom::new(5, 0)) && panics(|| Bloom::new(1 << 60, 16)) && panics(|| Filter::with_bits(0, 1)));
     assert!(panics(|| Filter::with_bits(1, 0)) && panics(|| Filter::for_share(1, 0)) && panics(|| Filter::for_share(1, 23)));
     assert!(panics(|| Bloom::new(1, 8).union(&Bloom::new(2, 8))) && panics(|| Buckets::<2>::new().bucket(2).len()));
+    assert!(panics(|| Ring::new().add("a", 1 << 60)) && panics(|| Ring::new().add("a", u64::MAX)));
     assert!(panics(|| Ring::new().add("a", 0)) && panics(|| Ring::<NullHasher>::from_iter([("a", 0)])) && panics(|| Lines::new()[0].len()));
+}
+
+/// Where there is no memory the program ends, as std's collections end it: a process of its own.
+#[test]
+fn the_end_tells_how_much_memory_there_is_not() {
+    let calls: [(&str, fn(), u64); 3] = [
+        ("Ring::add", || assert!(Ring::new().add("a", 1 << 45)), 1 << 49),
+        ("Bloom::new", || assert!(!Bloom::new(1 << 50, 10).contains("a")), 10 << 47),
+        ("Bloom::with_bits", || assert!(!Filter::with_bits(u64::MAX, 1).contains("a")), 1 << 61),
+    ];
+    let called = std::env::var("HASHERS_WITHOUT_MEMORY").unwrap_or_default();
+    for (name, call, bytes) in calls {
+        if called == name {
+            call();
+        } else if called.is_empty() {
+            let mut itself = std::process::Command::new(std::env::current_exe().unwrap());
+            let itself = itself.args(["--exact", "memory::the_end_tells_how_much_memory_there_is_not"]);
+            let end = itself.env("HASHERS_WITHOUT_MEMORY", name).output().unwrap();
+            let said = String::from_utf8_lossy(&end.stderr);
+            assert!(!end.status.success() && said.contains(&format!("memory allocation of {bytes} bytes failed")), "{name}: {said}");
+        }
+    }
 }
 
 /// A writer that takes 99 bytes, then fails, and takes more.

@@ -1,9 +1,108 @@
 //! What a caller does: maps, parts, undoing.
-use hashers_proved::jenkins::spooky_hash::{spooky128, spooky128_v1, SpookyHasher};
+use hashers_proved::blocks::{
+    siphash13, siphash24, xxh64, Murmur3Hasher128, Murmur3Hasher32, SipHasher13, SipHasher24, SipKey, SipKeys, Xxh32Hasher, Xxh64Hasher,
+};
+use hashers_proved::jenkins::spooky_hash::{spooky128, spooky128_v1, SpookyHasher, SpookyV1Hasher};
+use hashers_proved::keyed::{Poly61Hasher, Poly61Pair};
+use hashers_proved::numbers::NumberHasher;
+use hashers_proved::xxh3::{xxh3_64, BuildXxh3, Xxh3Hasher};
 use hashers_proved::{fnv::*, fx_hash::*, jenkins::*, more::*, null::*, oz::*, pigeon::*};
 use std::collections::{HashMap, HashSet};
 use std::fmt::Debug;
-use std::hash::{BuildHasherDefault, Hash, Hasher};
+use std::hash::{BuildHasher, BuildHasherDefault, Hash, Hasher};
+
+/// What the crate's page says that a hasher has.
+const fn hasher<H: Hasher + Clone + Copy + Debug>() {}
+const fn with_default<H: Hasher + Clone + Copy + Debug + Default>() {}
+const fn with_eq<H: Hasher + Clone + Copy + Debug + Default + PartialEq + Eq>() {}
+
+/// All hashers of the crate.
+const _: () = {
+    with_eq::<FNV1aHasher32>();
+    with_eq::<FNV1aHasher64>();
+    with_eq::<DJB2Hasher>();
+    with_eq::<SDBMHasher>();
+    with_eq::<LoseLoseHasher>();
+    with_eq::<Bricolage>();
+    with_eq::<OAATHasher>();
+    with_eq::<Lookup3Hasher>();
+    with_eq::<NullHasher>();
+    with_eq::<PassThroughHasher>();
+    with_eq::<FxHasher>();
+    with_eq::<FxHasher32>();
+    with_eq::<FxHasher64>();
+    with_eq::<Crc32Hasher>();
+    with_eq::<Crc32cHasher>();
+    with_eq::<Fnv1Hasher32>();
+    with_eq::<Fnv1Hasher64>();
+    with_eq::<Djb2AddHasher>();
+    with_eq::<JoaatHasher>();
+    with_eq::<ElfHasher>();
+    with_default::<SpookyHasher>();
+    with_default::<SpookyV1Hasher>();
+    with_default::<Xxh3Hasher>();
+    with_default::<Xxh32Hasher>();
+    with_default::<Xxh64Hasher>();
+    with_default::<Murmur3Hasher32>();
+    with_default::<Murmur3Hasher128>();
+    with_default::<SipHasher13>();
+    with_default::<SipHasher24>();
+    with_default::<Poly61Hasher>();
+    with_default::<Poly61Pair>();
+    hasher::<NumberHasher>();
+    #[cfg(feature = "std")]
+    hasher::<hashers_proved::lines::KeyedHasher>();
+};
+
+/// A copy is taken in the middle of a block.
+#[test]
+fn copies_of_hashers_under_seeds_go_on_by_themselves() {
+    fn copied<H: Hasher + Copy>(mut hasher: H, whole: impl Fn(&[u8]) -> u64) {
+        let text = [7; 300];
+        hasher.write(&text[..133]);
+        let copy = hasher;
+        hasher.write(&text[133..]);
+        assert_eq!((hasher.finish(), copy.finish()), (whole(&text), whole(&text[..133])));
+    }
+    let key = SipKey { k0: 5, k1: 6 };
+    copied(Xxh3Hasher::new(5), |text| xxh3_64(5, text));
+    copied(Xxh64Hasher::new(5), |text| xxh64(5, text));
+    copied(SipHasher24::new(key), |text| siphash24(key, text));
+}
+
+/// A seed comes out of the hash of no bytes.
+#[test]
+fn debug_shows_neither_seeds_nor_hashes() {
+    let told = format!("{:?}, {:?}", Xxh3Hasher::new(7), SipHasher13::new(SipKey { k0: 5, k1: 6 }));
+    assert_eq!(told, "Xxh3Hasher { .. }, BlockHasher { .. }");
+    let told = format!("{:?}, {:?}, {:?}", BuildXxh3 { seed: 7 }, BuildSpooky { seed1: 5, seed2: 6 }, SipKeys::with_keys(5, 6));
+    assert_eq!(told, "BuildXxh3 { .. }, BuildSpooky { .. }, SipKeys { .. }");
+}
+
+/// What makes hashers goes into maps that are collected, or are made by `default()`.
+fn collected<B: BuildHasher + Clone + Copy + Debug + Default>() {
+    let ages: HashMap<String, u8, B> = [("Ada".to_string(), 36)].into_iter().collect();
+    let mut none = HashMap::<String, u8, B>::default();
+    assert_eq!((ages["Ada"], none.insert("Alan".to_string(), 41), none["Alan"]), (36, None, 41));
+}
+
+#[test]
+fn maps_take_what_makes_hashers() {
+    collected::<BuildXxh3>();
+    collected::<BuildSpooky>();
+    collected::<hashers_proved::build::BuildFresh<FNV1aHasher64>>();
+    #[cfg(feature = "std")]
+    {
+        collected::<hashers_proved::keyed::Poly61Keys>();
+        collected::<hashers_proved::numbers::NumberKeys>();
+        collected::<hashers_proved::lines::RandomKeys>();
+        collected::<SipKeys>();
+        assert_ne!(SipKeys::random().hash_one(7), SipKeys::default().hash_one(7));
+    }
+    assert_eq!(SipKeys::with_keys(5, 6).hash_one(7u8), siphash13(SipKey { k0: 5, k1: 6 }, &[7]));
+    assert_eq!(BuildXxh3::default().hash_one(7u8), xxh3_64(0, &[7]));
+    assert_eq!(BuildSpooky::default().hash_one(7u8), spooky128(&[7], 0, 0).0);
+}
 
 fn in_a_map<H: Hasher + Default>() {
     let mut map: HashMap<String, usize, BuildHasherDefault<H>> = HashMap::default();
