@@ -59,7 +59,7 @@ def parsed() -> argparse.Namespace:
 
 def main() -> int:
     """The status: 1 where a file could not be read, or a line not be written; 2 for a wrong call."""
-    opened(sys.stdout)
+    output = opened(sys.stdout)
     asked = parsed()
     status = 0
     for path in asked.files or ["-"]:
@@ -70,7 +70,9 @@ def main() -> int:
             status = 1
             continue
         line = made.hexdigest() if asked.hex else str(made.intdigest())
-        print(line + (f"  {path}" if asked.files else ""), flush=True)
+        # a name goes out as the bytes it came in, whatever the output's encoding
+        output.write(os.fsencode(line + (f"  {path}" if asked.files else "") + "\n"))
+        output.flush()
     return status
 
 

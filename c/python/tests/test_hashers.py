@@ -1172,6 +1172,19 @@ class Program(unittest.TestCase):
             self.assertEqual(error, f"hashers: {room}/none: No such file or directory\n")
             self.assertEqual(self.run_it("SPOOKY128", "--hex", text=b"a"), (0, hashers.new("spooky128", b"a").hexdigest() + "\n", ""))
 
+    def test_names_are_written_as_their_bytes(self) -> None:
+        wanted = str(hashers.djb2(b"a")).encode()
+        with tempfile.TemporaryDirectory() as room:
+            names = [b"one", b"\xff", "\u00e9".encode(), b"two"]
+            for name in names:
+                with open(os.path.join(room.encode(), name), "wb") as file:
+                    file.write(b"a")
+            for encoding in ("utf-8:strict", "ascii:strict", "latin-1", "utf-16"):
+                done = subprocess.run([sys.executable, "-m", "hashers", "djb2", *names], cwd=room, stdout=subprocess.PIPE,
+                                      stderr=subprocess.PIPE, env={**os.environ, "PYTHONIOENCODING": encoding})
+                said = b"".join(wanted + b"  " + name + b"\n" for name in names)
+                self.assertEqual((done.returncode, done.stdout, done.stderr), (0, said, b""), encoding)
+
     def test_wrong_calls_and_a_full_output(self) -> None:
         self.assertEqual(self.run_it("--version"), (0, f"hashers {hashers.__version__}\n", ""))
         self.assertEqual(self.run_it("--help")[0], 0)
