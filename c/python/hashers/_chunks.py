@@ -52,7 +52,10 @@ class Cuts:
             if not hasattr(source, "read"):
                 raise
             return self._of_reads(cast("IO[bytes]", source).read)
-        return self._of_text(text.cast("B"))
+        if not text.c_contiguous:
+            raise BufferError("the bytes of the data do not lie side by side")
+        # of no bytes a view of several dimensions cannot be cast
+        return self._of_text(text.cast("B") if text.nbytes else memoryview(b""))
 
     def _of_text(self, text: memoryview) -> Iterator[memoryview]:
         start = 0

@@ -841,7 +841,8 @@ class Chunks(unittest.TestCase):
             mapped[:] = self.text
             mapped.seek(7)
             self.assertEqual(list(map(bytes, cuts.chunks(mapped))), chunks)
-        self.assertEqual(list(cuts.chunks(b"")) + list(cuts.chunks(io.BytesIO())), [])
+        nothing: List[Any] = [b"", io.BytesIO(), ((ctypes.c_uint8 * 5) * 0)()]
+        self.assertEqual([chunk for source in nothing for chunk in cuts.chunks(source)], [])
         with unittest.mock.patch.object(sys.modules["hashers._chunks"], "LEAST_READ", 1):
             self.assertEqual(list(cuts.chunks(io.BytesIO(self.text))), chunks)
         for kept in cuts.chunks(self.text):
@@ -868,6 +869,10 @@ class Chunks(unittest.TestCase):
             list(hashers.chunks(cast(Any, io.StringIO("a"))))
         with self.assertRaises(TypeError):
             hashers.chunks(cast(Any, "a"))
+        with self.assertRaises(BufferError):
+            hashers.chunks(memoryview(bytes(200))[::2])
+        with self.assertRaises(BufferError):
+            hashers.Cuts().ends(memoryview(bytes(200))[::2])
         with self.assertRaises(TypeError):
             hashers.Cuts(cast(Any, 1.5))
         with self.assertRaises(BlockingIOError):
