@@ -111,32 +111,42 @@ class AgainstTheHeader(unittest.TestCase):
             if name in ending("_combine"):
                 one, two, whole = (hashers.new(name, it).intdigest() for it in (*halves, TEXT))
                 self.assertEqual(hashers.combine(name, one, two, len(halves[1])), whole)
+                over = 1 << 8 * hashers.new(name).digest_size
+                self.assertLess(hashers.combine(name, over - 1, over - 1, TOP), over)
+                for numbers in ((over, 0, 1), (0, over, 1), (0, 0, TOP + 1)):
+                    self.assertRaises(ValueError, hashers.combine, name, *numbers)
             else:
                 self.assertRaises(ValueError, hashers.combine, name, 1, 2, 3)
 
     def test_ending_by_zlib(self) -> None:
         self.assertEqual(hashers.crc32_ending(hashers.crc32(b"12345"), 0xCBF43926), b"6789")
-        for length, answer in enumerate((0, 1, 0xFFFFFFFF, 0x12345678, 1 << 32, (1 << 64) - 2)):
+        for length, answer in enumerate((0, 1, 0xFFFFFFFF, 0x12345678)):
             text = TEXT[:length * 17]
             ending = hashers.crc32_ending(zlib.crc32(text), answer)
-            self.assertEqual((len(ending), zlib.crc32(text + ending)), (4, answer % (1 << 32)))
+            self.assertEqual((len(ending), zlib.crc32(text + ending)), (4, answer))
+        for hash_, answer in ((1 << 32, 0), (0, 1 << 32), (-1, 0), (0, TOP)):
+            self.assertRaises(ValueError, hashers.crc32_ending, hash_, answer)
 
     def test_which_have_32_bits(self) -> None:
-        # Of those that lose nothing every number of their bits is a hash so far, and a write of nothing keeps it. Others mix, but null; elf
-        # has 28 bits.
+        # A hash of 64 bits goes on from a number of 32 to larger ones. Every number of a hash's bits is a hash so far, which a write of nothing
+        # keeps, and one of more bits is refused. elf has 28 bits, and null is 0.
         for name in NAMES:
-            if name in ending("_unwrite"):
-                top = getattr(hashers, name)(b"", hash=TOP)
-                self.assertEqual(top, (1 << 8 * hashers.new(name).digest_size) - 1, name)
-            elif name == "elf":
-                self.assertEqual(hashers.elf(b"", hash=TOP), (1 << 28) - 1)
-                self.assertEqual(hashers.new(name).digest_size, 4)
+            function, size = getattr(hashers, name), hashers.new(name).digest_size
+            if name in ending("_write"):
+                bits = {"elf": 28, "null": 0}.get(name, 32)
+                if bits == 32 and any(function(bytes([byte]), hash=(1 << 32) - 1) >> 32 for byte in range(256)):
+                    bits = 64
+                top = (1 << bits) - 1
+                self.assertEqual((function(b"", hash=top), hashers.new(name, hash=top).intdigest()), (top, top), name)
+                self.assertRaises(ValueError, function, b"", hash=top + 1)
+                self.assertRaises(ValueError, hashers.new, name, hash=top + 1)
+                self.assertEqual(size, {0: 8, 28: 4}.get(bits, bits // 8), name)
             elif name in ("xxh32", "murmur3_32"):
-                self.assertEqual(hashers.new(name).digest_size, 4)
-                self.assertLess(hashers.new(name, TEXT).intdigest(), 1 << 32)
-            elif name != "null":
-                self.assertEqual(hashers.new(name).digest_size, 8)
-                self.assertGreater(hashers.new(name, TEXT).intdigest(), 1 << 32)
+                self.assertEqual(size, 4)
+                self.assertLess(function(TEXT), 1 << 32)
+            else:
+                self.assertEqual(size, 8)
+                self.assertGreater(function(TEXT), 1 << 32)
 
     def test_versions_agree(self) -> None:
         wanted = (C.parent / "VERSION").read_text(encoding="utf-8").strip()
@@ -258,7 +268,6 @@ class Hashes(unittest.TestCase):
             for number in (-1, 1 << 64):
                 self.assertRaises(ValueError, function, one, hash=number)
                 self.assertRaises(ValueError, hashers.new, name, hash=number)
-            self.assertLess(hashers.new(name, hash=TOP).intdigest(), 1 << 8 * made.digest_size)
         self.assertEqual(hashers.crc32(two, hash=zlib.crc32(one)), zlib.crc32(two, zlib.crc32(one)))
         self.assertRaises(ValueError, hashers.new, "spooky128", hash=0)
         self.assertRaises(TypeError, hashers.crc32, one, hash="0")
@@ -562,7 +571,8 @@ class Buffers(unittest.TestCase):
         state = cast(Any, spooky.__reduce__())[1][2]
         scope = {**globals(), **locals()}
         calls: List[Callable[[], object]] = [cast(Any, eval("lambda: " + it, scope)) for it in (
-            "hashers.djb2(long)", "hashers.djb2(text)", "hashers.djb2(short, hash=7)", "hashers.djb2(short, hash=odd)", "hashers.djb2()",
+            "hashers.djb2(long)", "hashers.djb2(text)", "hashers.djb2(short, hash=7)", "hashers.djb2(short, hash=odd)",
+            "hashers.djb2(short, hash=1 << 40)", "hashers.djb2()",
             "hashers.djb2(short, short)", "hashers.djb2(short, x=short)", "hashers.djb2(short, data=short)", "hashers.spooky(short, hash=1)",
             "hashers.djb2(memoryview(short)[::2])", "hashers.new('djb2', long)", "hashers.new('DJB2', text)", "hashers.new(text)",
             "hashers.new(long)", "hashers.new('POLY61', long, key=7)", "hashers.new('spooky', long, seeds=(1, 2))",
@@ -636,7 +646,7 @@ class Buffers(unittest.TestCase):
             spooky.copy, keeps.__reduce__, spooky.intdigest, spooky.hexdigest, spooky.digest, spooky.words, lambda: _hashers._revived(*state),
             lambda: hashers.Bloom(1000, 3), lambda: one.add(b"a"), lambda: one.add_lines(long), lambda: one.add_column(offsets, b"abcde"),
             lambda: one.found(offsets, b"abcde"), lambda: one | one, lambda: hashers.hash_column("djb2", offsets, b"abcde"),
-            lambda: hashers.hash_lines("djb2", long), lambda: hashers.combine("crc32", TOP, 2, 3), lambda: hashers.crc32_ending(1, 2)]
+            lambda: hashers.hash_lines("djb2", long), lambda: hashers.combine("loselose", TOP, 2, 3), lambda: hashers.crc32_ending(1, 2)]
         refused = 0
         for call in calls:
             for number in range(40):
