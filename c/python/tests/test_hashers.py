@@ -872,8 +872,9 @@ class Chunks(unittest.TestCase):
 
     def test_what_is_refused(self) -> None:
         for sizes in ({"average": 63}, {"average": 100, "least": 101}, {"average": 100, "least": 63}, {"average": 100, "most": 99},
-                      {"average": 1 << 62}, {"average": -1}, {"seed1": -1}, {"seed2": 1 << 64}):
-            with self.assertRaises(ValueError):
+                      {"average": 1 << 64}, {"average": -1}, {"seed1": -1}, {"seed2": 1 << 64}, {"least": 1 << 64}, {"most": 1 << 64},
+                      {"least": 63}, {"most": 65535}):
+            with self.assertRaisesRegex(ValueError, "seed is from 0" if "seed" in str(sizes) else "64 <= least <= average <= most < 2[*][*]64"):
                 hashers.Cuts(**sizes)
         with self.assertRaises(TypeError):
             list(hashers.chunks(cast(Any, io.StringIO("a"))))
@@ -894,6 +895,19 @@ class Chunks(unittest.TestCase):
         with self.assertRaises(ValueError):
             _hashers._chunk_ends(b"a", bytearray(8), 64, 64, 64, -1, 0)
         self.assertEqual(_hashers._chunk_ends(b"a", bytearray(8), 63, 64, 64, 0, 0), 0)
+
+    def test_sizes_that_are_not_given(self) -> None:
+        # as the program cuts has them: crates/hash_chunks/src/sizes.rt
+        wanted: List[Tuple[Dict[str, int], Tuple[int, int, int]]] = [
+            ({}, (16384, 65536, 262144)), ({"average": 100}, (64, 100, 400)), ({"average": 1024}, (256, 1024, 4096)),
+            ({"least": 20000}, (20000, 65536, 262144)), ({"least": 65536}, (65536, 65536, 262144)), ({"least": 65537}, (65537, 262148, 1048592)),
+            ({"least": 100000}, (100000, 400000, 1600000)), ({"least": 64, "most": 65536}, (64, 65536, 65536)),
+            ({"average": 1 << 62}, (1 << 60, 1 << 62, TOP)), ({"average": TOP}, (TOP // 4, TOP, TOP)),
+            ({"least": 1 << 61}, (1 << 61, 1 << 63, TOP)), ({"least": 1 << 62}, (1 << 62, TOP, TOP)), ({"least": TOP}, (TOP, TOP, TOP))]
+        for given, sizes in wanted:
+            cuts = hashers.Cuts(**given)
+            self.assertEqual((cuts.least, cuts.average, cuts.most), sizes)
+            self.assertEqual(list(map(len, hashers.chunks(bytes(50), **given))), [50])
 
     def test_what_is_shown(self) -> None:
         cuts = hashers.Cuts(1024, seed2=7)
