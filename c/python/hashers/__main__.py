@@ -48,7 +48,8 @@ def parsed() -> argparse.Namespace:
     parser = Parser(prog="python3 -m hashers", epilog="NAME is one of " + ", ".join(sorted(algorithms_available)) + ".",
                     description="Print the hash of each FILE as a number. With no FILE, or where FILE is -, read standard input.")
     parser.add_argument("name", metavar="NAME", help="the hash function")
-    parser.add_argument("files", metavar="FILE", nargs="*", help="a file, or - for standard input")
+    # without a default argparse calls it required
+    parser.add_argument("files", metavar="FILE", nargs="*", default=[], help="a file, or - for standard input")
     parser.add_argument("--hex", action="store_true", help="print hexadecimal digits, the high one first")
     parser.add_argument("--version", action="version", version=f"hashers {__version__}")
     asked = parser.parse_intermixed_args()

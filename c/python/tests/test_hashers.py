@@ -1217,7 +1217,11 @@ class Program(unittest.TestCase):
     def test_wrong_calls_and_a_full_output(self) -> None:
         self.assertEqual(self.run_it("--version"), (0, f"hashers {hashers.__version__}\n", ""))
         self.assertEqual(self.run_it("--help")[0], 0)
-        self.assertEqual(self.run_it()[0], 2)
+        nameless: List[List[str]] = [[], ["--hex"]]
+        for arguments in nameless:
+            status, out, error = self.run_it(*arguments)
+            self.assertEqual((status, out, error.splitlines()[-1]),
+                             (2, "", "python3 -m hashers: error: the following arguments are required: NAME"))
         status, out, error = self.run_it("md5")
         self.assertEqual((status, out), (2, ""))
         self.assertIn("unknown name: md5", error)
