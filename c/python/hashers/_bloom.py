@@ -47,11 +47,11 @@ class Bloom(BloomBase):
         return f"<Bloom filter of {self.bits} bits and {self.probes} probes by {self.hashes}>"
 
     def __reduce__(self) -> Tuple[Callable[..., Bloom], Tuple[Any, ...]]:
-        return _revived, (self.bits, self.probes, self.hashes, memoryview(self.buffer).tobytes())
+        return _revived, (self.bits, self.probes, self.hashes, memoryview(self.buffer).tobytes(), type(self))
 
-    def copy(self) -> Bloom:
+    def copy(self: Filter) -> Filter:
         """A second filter with the same keys, over a bytearray of its own."""
-        return _revived(self.bits, self.probes, self.hashes, memoryview(self.buffer).tobytes())
+        return type(self)(self.bits, self.probes, hashes=self.hashes, buffer=bytearray(memoryview(self.buffer)))
 
     def __len__(self) -> int:
         """About how many different keys were added, as the bits that are set tell it: bits / probes * ln(bits / zeros). It goes over all
@@ -92,13 +92,13 @@ class Bloom(BloomBase):
         if other is not self:
             _unite(self, other)
 
-    def __ior__(self, other: Bloom) -> Bloom:
+    def __ior__(self: Filter, other: Bloom) -> Filter:
         if not isinstance(other, Bloom):
             return NotImplemented
         self.update(other)
         return self
 
-    def __or__(self, other: Bloom) -> Bloom:
+    def __or__(self: Filter, other: Bloom) -> Filter:
         """A new filter that finds what either finds; the filters have the same bits, probes and hashes, else a ValueError."""
         if not isinstance(other, Bloom):
             return NotImplemented
@@ -107,6 +107,6 @@ class Bloom(BloomBase):
         return both
 
 
-def _revived(bits: int, probes: int, hashes: str, words: bytes) -> Bloom:
-    """The filter of these words."""
-    return Bloom(bits, probes, hashes=hashes, buffer=bytearray(words))
+def _revived(bits: int, probes: int, hashes: str, words: bytes, kind: Type[Bloom] = Bloom) -> Bloom:
+    """The filter of these words. Pickles that the package made before do not name its class."""
+    return kind(bits, probes, hashes=hashes, buffer=bytearray(words))

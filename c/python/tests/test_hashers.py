@@ -408,7 +408,7 @@ class Copies(unittest.TestCase):
         self.assertEqual(function(name, seeds, bytes(len(state))).words(), (0, 0))
 
     def test_pickles_of_the_package_before(self) -> None:
-        # those of filters are the same
+        # those of filters are read
         made = pickle.loads(b"chashers._bloom\n_revived\n(I64\nI3\nVfnv1a64_lookup3\nc_codecs\nencode\n"
                             b"(V\\u0000\\u0010\\u0010\\u0010\\u0000\\u0000\\u0000\\u0000\nVlatin1\ntRtR.")
         self.assertEqual((made.bits, made.probes, b"a" in made, b"b" in made), (64, 3, True, False))
@@ -1036,6 +1036,10 @@ class Rings(unittest.TestCase):
         self.assertEqual(ring.weights(), {"ash": 3, "elm": 1, "oak": 2})
 
 
+class Mine(hashers.Bloom):
+    """A child's filter, which pickle finds here."""
+
+
 class Filters(unittest.TestCase):
     def test_keys_are_found(self) -> None:
         for hashes in ("fnv1a64_lookup3", "spooky_lookup3"):
@@ -1120,6 +1124,15 @@ class Filters(unittest.TestCase):
                     self.assertIn(b"b", other)
                     self.assertNotIn(b"b", made)
                     self.assertEqual((len(made), len(other)), (1, 2))
+
+    def test_children(self) -> None:
+        made = Mine(1000, 3, hashes="spooky_lookup3")
+        made.add(b"a")
+        like = hashers.Bloom(1000, 3, hashes="spooky_lookup3")
+        for other in (made | made, made | like, *(copied(made) for copied in Copies().ways().values())):
+            self.assertEqual((type(other), other.hashes, other.buffer), (Mine, "spooky_lookup3", made.buffer))
+        made |= made.copy()
+        self.assertEqual((type(made), type(Mine.for_keys(5))), (Mine, Mine))
 
     def test_unions(self) -> None:
         one, two = hashers.Bloom(1000, 3), hashers.Bloom(1000, 3)
