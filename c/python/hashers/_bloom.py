@@ -37,11 +37,12 @@ class Bloom(BloomBase):
     def for_keys(cls: Type[Filter], keys: SupportsIndex, error_rate: float = 0.01, *, hashes: str = "fnv1a64_lookup3",
                  buffer: Optional[Buffer] = None) -> Filter:
         """A filter for that many keys, in which a strange key is found with about that chance once they were added. It has
-        -keys * ln(error_rate) / ln(2)^2 bits, 9.6 for each key at 0.01, and log2(1 / error_rate) probes."""
+        -keys * ln(error_rate) / ln(2)^2 bits, 9.6 for each key at 0.01, and -log2(error_rate) probes."""
         count = index(keys)
-        if count < 1 or not 0 < error_rate < 1:
-            raise ValueError("a filter is for at least one key, and an error rate between 0 and 1")
-        return cls(ceil(count * log2(1 / error_rate) / log(2)), max(1, round(log2(1 / error_rate))), hashes=hashes, buffer=buffer)
+        if not 0 < count < 1 << 64 or not 0 < error_rate < 1:
+            raise ValueError("a filter is for 1 to 2**64 - 1 keys, and an error rate between 0 and 1")
+        halvings = -log2(error_rate)
+        return cls(ceil(count * halvings / log(2)), max(1, round(halvings)), hashes=hashes, buffer=buffer)
 
     def __repr__(self) -> str:
         return f"<Bloom filter of {self.bits} bits and {self.probes} probes by {self.hashes}>"
@@ -87,6 +88,8 @@ class Bloom(BloomBase):
 
     def update(self, other: Bloom) -> None:
         """Adds another filter's keys, of as many bits and probes and by the same hashes; else a ValueError."""
+        if not isinstance(other, Bloom):
+            raise TypeError(f"update takes another filter, not {type(other).__name__}")
         if (self.bits, self.probes, self.hashes) != (other.bits, other.probes, other.hashes):
             raise ValueError("the filters are of different bits, probes or hashes")
         if other is not self:

@@ -1029,6 +1029,7 @@ class Rings(unittest.TestCase):
             (TypeError, lambda: hashers.Ring("abc")), (TypeError, lambda: ring.owner(cast(bytes, "a"))),
             (ValueError, lambda: ring.owners(b"a", -1)), (AttributeError, lambda: setattr(ring, "hash", "xxh3")),
             (TypeError, lambda: ring.add(cast(str, 5))), (TypeError, lambda: ring.remove(cast(str, bytearray(b"oak")))),
+            (TypeError, lambda: cast(str, 5) in ring),
             (ValueError, lambda: hashers.Ring(hash="no")), (ValueError, lambda: hashers.Ring(hash="spooky128"))]
         for error, call in refused:
             with self.assertRaises(error):
@@ -1057,7 +1058,8 @@ class Filters(unittest.TestCase):
             self.assertTrue(all(key in one for key in keys))
 
     def test_for_keys(self) -> None:
-        for count, rate, bits, probes in ((1000, 0.01, 9586, 7), (10_000, 0.001, 143776, 10), (1, 0.9, 1, 1), (3, 0.5, 5, 1)):
+        for count, rate, bits, probes in ((1000, 0.01, 9586, 7), (10_000, 0.001, 143776, 10), (1, 0.9, 1, 1), (3, 0.5, 5, 1),
+                                          (1000, 5e-324, 1549455, 1074), (10, 1 - 2**-53, 1, 1)):
             made = hashers.Bloom.for_keys(count, rate)
             self.assertEqual((made.bits, made.probes, made.hashes), (bits, probes, "fnv1a64_lookup3"))
         made = hashers.Bloom.for_keys(20_000, hashes="spooky_lookup3", buffer=bytearray(23968))
@@ -1065,7 +1067,8 @@ class Filters(unittest.TestCase):
         for number in range(20_000):
             made.add(b"%d" % number)
         self.assertLess(abs(sum(b"other %d" % number in made for number in range(20_000)) - 200), 60)
-        wrong: List[Tuple[int, float]] = [(0, 0.1), (-1, 0.1), (1, 0), (1, 1), (1, -0.1), (1, float("nan")), (1 << 64, 0.01)]
+        wrong: List[Tuple[int, float]] = [(0, 0.1), (-1, 0.1), (1, 0), (1, 1), (1, -0.1), (1, float("nan")), (1 << 64, 0.01),
+                                          (1 << 64, 1 - 2**-53), (1 << 2000, 0.01)]
         for count, rate in wrong:
             self.assertRaises(ValueError, hashers.Bloom.for_keys, count, rate)
         self.assertRaises(TypeError, hashers.Bloom.for_keys, 1.5)
@@ -1190,6 +1193,8 @@ class Filters(unittest.TestCase):
         self.assertRaises(TypeError, made.add, "text")
         self.assertRaises(ValueError, made.add, made.buffer)
         self.assertRaises(ValueError, made.update, hashers.Bloom(128, 2))
+        with self.assertRaisesRegex(TypeError, "update takes another filter, not list"):
+            made.update(cast(Any, [b"key"]))
         self.assertRaises(ValueError, made.update, hashers.Bloom(128, 1, buffer=made.buffer))
 
 
