@@ -48,7 +48,8 @@ def parsed() -> argparse.Namespace:
     parser = Parser(prog="python3 -m hashers", epilog="NAME is one of " + ", ".join(sorted(algorithms_available)) + ".",
                     description="Print the hash of each FILE as a number. With no FILE, or where FILE is -, read standard input.")
     parser.add_argument("name", metavar="NAME", help="the hash function")
-    parser.add_argument("files", metavar="FILE", nargs="*", help="a file, or - for standard input")
+    # without a default argparse calls it required
+    parser.add_argument("files", metavar="FILE", nargs="*", default=[], help="a file, or - for standard input")
     parser.add_argument("--hex", action="store_true", help="print hexadecimal digits, the high one first")
     parser.add_argument("--version", action="version", version=f"hashers {__version__}")
     asked = parser.parse_intermixed_args()
@@ -59,7 +60,7 @@ def parsed() -> argparse.Namespace:
 
 def main() -> int:
     """The status: 1 where a file could not be read, or a line not be written; 2 for a wrong call."""
-    opened(sys.stdout)
+    output = opened(sys.stdout)
     asked = parsed()
     status = 0
     for path in asked.files or ["-"]:
@@ -70,7 +71,9 @@ def main() -> int:
             status = 1
             continue
         line = made.hexdigest() if asked.hex else str(made.intdigest())
-        print(line + (f"  {path}" if asked.files else ""), flush=True)
+        # a name goes out as the bytes it came in, whatever the output's encoding
+        output.write(os.fsencode(line + (f"  {path}" if asked.files else "") + "\n"))
+        output.flush()
     return status
 
 

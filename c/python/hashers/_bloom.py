@@ -37,21 +37,22 @@ class Bloom(BloomBase):
     def for_keys(cls: Type[Filter], keys: SupportsIndex, error_rate: float = 0.01, *, hashes: str = "fnv1a64_lookup3",
                  buffer: Optional[Buffer] = None) -> Filter:
         """A filter for that many keys, in which a strange key is found with about that chance once they were added. It has
-        -keys * ln(error_rate) / ln(2)^2 bits, 9.6 for each key at 0.01, and log2(1 / error_rate) probes."""
+        -keys * ln(error_rate) / ln(2)^2 bits, 9.6 for each key at 0.01, and -log2(error_rate) probes."""
         count = index(keys)
-        if count < 1 or not 0 < error_rate < 1:
-            raise ValueError("a filter is for at least one key, and an error rate between 0 and 1")
-        return cls(ceil(count * log2(1 / error_rate) / log(2)), max(1, round(log2(1 / error_rate))), hashes=hashes, buffer=buffer)
+        if not 0 < count < 1 << 64 or not 0 < error_rate < 1:
+            raise ValueError("a filter is for 1 to 2**64 - 1 keys, and an error rate between 0 and 1")
+        halvings = -log2(error_rate)
+        return cls(ceil(count * halvings / log(2)), max(1, round(halvings)), hashes=hashes, buffer=buffer)
 
     def __repr__(self) -> str:
         return f"<Bloom filter of {self.bits} bits and {self.probes} probes by {self.hashes}>"
 
     def __reduce__(self) -> Tuple[Callable[..., Bloom], Tuple[Any, ...]]:
-        return _revived, (self.bits, self.probes, self.hashes, memoryview(self.buffer).tobytes())
+        return _revived, (self.bits, self.probes, self.hashes, memoryview(self.buffer).tobytes(), type(self))
 
-    def copy(self) -> Bloom:
+    def copy(self: Filter) -> Filter:
         """A second filter with the same keys, over a bytearray of its own."""
-        return _revived(self.bits, self.probes, self.hashes, memoryview(self.buffer).tobytes())
+        return type(self)(self.bits, self.probes, hashes=self.hashes, buffer=bytearray(memoryview(self.buffer)))
 
     def __len__(self) -> int:
         """About how many different keys were added, as the bits that are set tell it: bits / probes * ln(bits / zeros). It goes over all
@@ -87,18 +88,20 @@ class Bloom(BloomBase):
 
     def update(self, other: Bloom) -> None:
         """Adds another filter's keys, of as many bits and probes and by the same hashes; else a ValueError."""
+        if not isinstance(other, Bloom):
+            raise TypeError(f"update takes another filter, not {type(other).__name__}")
         if (self.bits, self.probes, self.hashes) != (other.bits, other.probes, other.hashes):
             raise ValueError("the filters are of different bits, probes or hashes")
         if other is not self:
             _unite(self, other)
 
-    def __ior__(self, other: Bloom) -> Bloom:
+    def __ior__(self: Filter, other: Bloom) -> Filter:
         if not isinstance(other, Bloom):
             return NotImplemented
         self.update(other)
         return self
 
-    def __or__(self, other: Bloom) -> Bloom:
+    def __or__(self: Filter, other: Bloom) -> Filter:
         """A new filter that finds what either finds; the filters have the same bits, probes and hashes, else a ValueError."""
         if not isinstance(other, Bloom):
             return NotImplemented
@@ -107,6 +110,6 @@ class Bloom(BloomBase):
         return both
 
 
-def _revived(bits: int, probes: int, hashes: str, words: bytes) -> Bloom:
-    """The filter of these words."""
-    return Bloom(bits, probes, hashes=hashes, buffer=bytearray(words))
+def _revived(bits: int, probes: int, hashes: str, words: bytes, kind: Type[Bloom] = Bloom) -> Bloom:
+    """The filter of these words. Pickles that the package made before do not name its class."""
+    return kind(bits, probes, hashes=hashes, buffer=bytearray(words))

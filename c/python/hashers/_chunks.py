@@ -11,6 +11,8 @@ from ._many import _ZERO
 if TYPE_CHECKING:
     from _typeshed import ReadableBuffer as Buffer
 
+# the average where neither it nor a larger least is given, and the largest that a size may be
+AVERAGE, LARGEST = 1 << 16, (1 << 64) - 1
 # how many bytes of a file are read at a time: as many as a chunk may have, within these bounds
 LEAST_READ, MOST_READ = 1 << 20, 1 << 26
 
@@ -18,19 +20,22 @@ LEAST_READ, MOST_READ = 1 << 20, 1 << 26
 class Cuts:
     """Where texts are cut, so that an edit mostly changes only the chunks around it: a place is a cut if the gear hash of the 64 bytes
     before it is low. Chunks have `least` to `most` bytes, the last one of a text maybe fewer, and from `least` on each place is a cut with a
-    chance of 1 in `average`; 64 <= least <= average <= most, else a ValueError. If they are not given, `least` is a quarter of the average,
-    but 64 at least, and `most` four times as much, as those of the program cuts. Other seeds cut at other places."""
+    chance of 1 in `average`; 64 <= least <= average <= most < 2^64, else a ValueError. The defaults are those of the program cuts: an
+    average of 65536, or of four times a least above 65536; a least of a quarter of the average, but 64 at least; a most of four times the
+    average; and 2^64 - 1 where that would be more. Other seeds cut at other places."""
     __slots__ = ("least", "average", "most", "seed1", "seed2")
 
-    def __init__(self, average: SupportsIndex = 65536, *, least: Optional[SupportsIndex] = None, most: Optional[SupportsIndex] = None,
-                 seed1: SupportsIndex = 0, seed2: SupportsIndex = 0) -> None:
+    def __init__(self, average: Optional[SupportsIndex] = None, *, least: Optional[SupportsIndex] = None,
+                 most: Optional[SupportsIndex] = None, seed1: SupportsIndex = 0, seed2: SupportsIndex = 0) -> None:
+        if average is None:
+            average = AVERAGE if least is None or index(least) <= AVERAGE else min(4 * index(least), LARGEST)
         self.average = index(average)
         self.least = max(self.average // 4, 64) if least is None else index(least)
-        self.most = 4 * self.average if most is None else index(most)
+        self.most = min(4 * self.average, LARGEST) if most is None else index(most)
         self.seed1, self.seed2 = index(seed1), index(seed2)
-        if not 64 <= self.least <= self.average <= self.most < 1 << 64:
-            raise ValueError(f"of a chunk 64 <= least <= average <= most, not {self.least}, {self.average} and {self.most}")
-        if not 0 <= min(self.seed1, self.seed2) <= max(self.seed1, self.seed2) < 1 << 64:
+        if not 64 <= self.least <= self.average <= self.most <= LARGEST:
+            raise ValueError(f"of a chunk 64 <= least <= average <= most < 2**64, not {self.least}, {self.average} and {self.most}")
+        if not 0 <= min(self.seed1, self.seed2) <= max(self.seed1, self.seed2) <= LARGEST:
             raise ValueError("a seed is from 0 to 2**64 - 1")
 
     def __repr__(self) -> str:
@@ -52,7 +57,10 @@ class Cuts:
             if not hasattr(source, "read"):
                 raise
             return self._of_reads(cast("IO[bytes]", source).read)
-        return self._of_text(text.cast("B"))
+        if not text.c_contiguous:
+            raise BufferError("the bytes of the data do not lie side by side")
+        # of no bytes a view of several dimensions cannot be cast
+        return self._of_text(text.cast("B") if text.nbytes else memoryview(b""))
 
     def _of_text(self, text: memoryview) -> Iterator[memoryview]:
         start = 0
@@ -78,7 +86,7 @@ class Cuts:
             kept = text[start:]
 
 
-def chunks(source: Union[Buffer, IO[bytes]], average: SupportsIndex = 65536, *, least: Optional[SupportsIndex] = None,
+def chunks(source: Union[Buffer, IO[bytes]], average: Optional[SupportsIndex] = None, *, least: Optional[SupportsIndex] = None,
            most: Optional[SupportsIndex] = None, seed1: SupportsIndex = 0, seed2: SupportsIndex = 0) -> Iterator[Union[bytes, memoryview]]:
     """The chunks of data or of a file, as `Cuts` of these numbers has them."""
     return Cuts(average, least=least, most=most, seed1=seed1, seed2=seed2).chunks(source)

@@ -329,6 +329,14 @@ static int goes_on(const row *row) {
     return -1;
 }
 
+// A hash of that row, which has no more than its bits.
+static int hash_from(const row *row, PyObject *given, uint64_t *to) {
+    if (word(given, to) < 0) return -1;
+    if (row->bits >= 64 || !(*to >> row->bits)) return 0;
+    PyErr_Format(PyExc_ValueError, "a hash of %s is below 2**%d", row->name, row->bits);
+    return -1;
+}
+
 // One call over a text, under the seed or the key that may be given.
 static PyObject *whole_seeded(const row *row, PyObject *const *args, Py_ssize_t count, PyObject *named) {
     form form = {row->name, 1, 1, {"data", takes_key(row) ? "key" : "seed"}};
@@ -356,7 +364,7 @@ static PyObject *whole(const row *row, PyObject *const *args, Py_ssize_t count, 
     uint64_t from = 0, hash;
     int follows = is_given(into[1]);
     held data;
-    if ((follows && (goes_on(row) < 0 || word(into[1], &from) < 0)) || hold(into[0], &data) < 0) return NULL;
+    if ((follows && (goes_on(row) < 0 || hash_from(row, into[1], &from) < 0)) || hold(into[0], &data) < 0) return NULL;
     OVER(data.n, hash = follows ? row->write(from, data.at, data.n) : row->whole(data.at, data.n));
     drop(&data);
     return number(hash);
@@ -698,9 +706,7 @@ static int start_of(const row *row, PyObject *const *given, uint64_t *start) {
         if (row->write) start[0] = row->whole(NULL, 0);
         return 0;
     }
-    if (goes_on(row) < 0 || word(given[NEW_HASH], start) < 0) return -1;
-    start[0] = row->write(start[0], NULL, 0);
-    return 0;
+    return goes_on(row) < 0 ? -1 : hash_from(row, given[NEW_HASH], start);
 }
 
 static PyObject *new(TAKES) {
@@ -836,13 +842,15 @@ static PyObject *combine(TAKES) {
     if (!row) return NULL;
     combine_call *law = laws[row - rows];
     if (!law) return PyErr_Format(PyExc_ValueError, "%s of two texts joined does not follow from their hashes", row->name);
-    return words_of(&given[1], 3, it) < 0 ? NULL : number(law(it[0], it[1], it[2]));
+    if (hash_from(row, given[1], &it[0]) < 0 || hash_from(row, given[2], &it[1]) < 0 || word(given[3], &it[2]) < 0) return NULL;
+    return number(law(it[0], it[1], it[2]));
 }
 
 static PyObject *crc32_ending(TAKES) {
     TAKEN(given, {"crc32_ending", 2, 2, {"hash", "answer"}});
     uint64_t it[2];
-    if (words_of(given, 2, it) < 0) return NULL;
+    for (int i = 0; i < 2; i++)
+        if (hash_from(&rows[HASHERS_CRC32], given[i], &it[i]) < 0) return NULL;
     uint32_t ending = hashers_crc32_ending(it[0], it[1]);
     char bytes[4] = {ending, ending >> 8, ending >> 16, ending >> 24};
     return PyBytes_FromStringAndSize(bytes, 4);
@@ -1318,8 +1326,8 @@ static PyMethodDef functions[] = {
                   "The hash of two texts joined, from the hash of each and the length of the second in bytes. ValueError where the hash has\n"
                   "no such law: sdbm, loselose, passthrough, crc32 and crc32c have."),
     CALL(crc32_ending, "crc32_ending($module, hash, answer)\n--\n\n"
-                       "The one ending of four bytes behind data with this crc32 that makes the crc32 of the whole the answer. Of both\n"
-                       "numbers the low 32 bits count. So a CRC is no protection against someone who chooses the data."),
+                       "The one ending of four bytes behind data with this crc32 that makes the crc32 of the whole the answer. So a\n"
+                       "CRC is no protection against someone who chooses the data."),
     {"_number_of", number_of, METH_O, "The number of a name; ValueError for spooky128, whose hashes fit no 64 bits."},
     {"_lines", lines, METH_VARARGS, NULL},
     {"_column", column, METH_VARARGS, NULL},

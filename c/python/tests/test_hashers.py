@@ -111,32 +111,42 @@ class AgainstTheHeader(unittest.TestCase):
             if name in ending("_combine"):
                 one, two, whole = (hashers.new(name, it).intdigest() for it in (*halves, TEXT))
                 self.assertEqual(hashers.combine(name, one, two, len(halves[1])), whole)
+                over = 1 << 8 * hashers.new(name).digest_size
+                self.assertLess(hashers.combine(name, over - 1, over - 1, TOP), over)
+                for numbers in ((over, 0, 1), (0, over, 1), (0, 0, TOP + 1)):
+                    self.assertRaises(ValueError, hashers.combine, name, *numbers)
             else:
                 self.assertRaises(ValueError, hashers.combine, name, 1, 2, 3)
 
     def test_ending_by_zlib(self) -> None:
         self.assertEqual(hashers.crc32_ending(hashers.crc32(b"12345"), 0xCBF43926), b"6789")
-        for length, answer in enumerate((0, 1, 0xFFFFFFFF, 0x12345678, 1 << 32, (1 << 64) - 2)):
+        for length, answer in enumerate((0, 1, 0xFFFFFFFF, 0x12345678)):
             text = TEXT[:length * 17]
             ending = hashers.crc32_ending(zlib.crc32(text), answer)
-            self.assertEqual((len(ending), zlib.crc32(text + ending)), (4, answer % (1 << 32)))
+            self.assertEqual((len(ending), zlib.crc32(text + ending)), (4, answer))
+        for hash_, answer in ((1 << 32, 0), (0, 1 << 32), (-1, 0), (0, TOP)):
+            self.assertRaises(ValueError, hashers.crc32_ending, hash_, answer)
 
     def test_which_have_32_bits(self) -> None:
-        # Of those that lose nothing every number of their bits is a hash so far, and a write of nothing keeps it. Others mix, but null; elf
-        # has 28 bits.
+        # A hash of 64 bits goes on from a number of 32 to larger ones. Every number of a hash's bits is a hash so far, which a write of nothing
+        # keeps, and one of more bits is refused. elf has 28 bits, and null is 0.
         for name in NAMES:
-            if name in ending("_unwrite"):
-                top = getattr(hashers, name)(b"", hash=TOP)
-                self.assertEqual(top, (1 << 8 * hashers.new(name).digest_size) - 1, name)
-            elif name == "elf":
-                self.assertEqual(hashers.elf(b"", hash=TOP), (1 << 28) - 1)
-                self.assertEqual(hashers.new(name).digest_size, 4)
+            function, size = getattr(hashers, name), hashers.new(name).digest_size
+            if name in ending("_write"):
+                bits = {"elf": 28, "null": 0}.get(name, 32)
+                if bits == 32 and any(function(bytes([byte]), hash=(1 << 32) - 1) >> 32 for byte in range(256)):
+                    bits = 64
+                top = (1 << bits) - 1
+                self.assertEqual((function(b"", hash=top), hashers.new(name, hash=top).intdigest()), (top, top), name)
+                self.assertRaises(ValueError, function, b"", hash=top + 1)
+                self.assertRaises(ValueError, hashers.new, name, hash=top + 1)
+                self.assertEqual(size, {0: 8, 28: 4}.get(bits, bits // 8), name)
             elif name in ("xxh32", "murmur3_32"):
-                self.assertEqual(hashers.new(name).digest_size, 4)
-                self.assertLess(hashers.new(name, TEXT).intdigest(), 1 << 32)
-            elif name != "null":
-                self.assertEqual(hashers.new(name).digest_size, 8)
-                self.assertGreater(hashers.new(name, TEXT).intdigest(), 1 << 32)
+                self.assertEqual(size, 4)
+                self.assertLess(function(TEXT), 1 << 32)
+            else:
+                self.assertEqual(size, 8)
+                self.assertGreater(function(TEXT), 1 << 32)
 
     def test_versions_agree(self) -> None:
         wanted = (C.parent / "VERSION").read_text(encoding="utf-8").strip()
@@ -258,7 +268,6 @@ class Hashes(unittest.TestCase):
             for number in (-1, 1 << 64):
                 self.assertRaises(ValueError, function, one, hash=number)
                 self.assertRaises(ValueError, hashers.new, name, hash=number)
-            self.assertLess(hashers.new(name, hash=TOP).intdigest(), 1 << 8 * made.digest_size)
         self.assertEqual(hashers.crc32(two, hash=zlib.crc32(one)), zlib.crc32(two, zlib.crc32(one)))
         self.assertRaises(ValueError, hashers.new, "spooky128", hash=0)
         self.assertRaises(TypeError, hashers.crc32, one, hash="0")
@@ -399,7 +408,7 @@ class Copies(unittest.TestCase):
         self.assertEqual(function(name, seeds, bytes(len(state))).words(), (0, 0))
 
     def test_pickles_of_the_package_before(self) -> None:
-        # those of filters are the same
+        # those of filters are read
         made = pickle.loads(b"chashers._bloom\n_revived\n(I64\nI3\nVfnv1a64_lookup3\nc_codecs\nencode\n"
                             b"(V\\u0000\\u0010\\u0010\\u0010\\u0000\\u0000\\u0000\\u0000\nVlatin1\ntRtR.")
         self.assertEqual((made.bits, made.probes, b"a" in made, b"b" in made), (64, 3, True, False))
@@ -562,7 +571,8 @@ class Buffers(unittest.TestCase):
         state = cast(Any, spooky.__reduce__())[1][2]
         scope = {**globals(), **locals()}
         calls: List[Callable[[], object]] = [cast(Any, eval("lambda: " + it, scope)) for it in (
-            "hashers.djb2(long)", "hashers.djb2(text)", "hashers.djb2(short, hash=7)", "hashers.djb2(short, hash=odd)", "hashers.djb2()",
+            "hashers.djb2(long)", "hashers.djb2(text)", "hashers.djb2(short, hash=7)", "hashers.djb2(short, hash=odd)",
+            "hashers.djb2(short, hash=1 << 40)", "hashers.djb2()",
             "hashers.djb2(short, short)", "hashers.djb2(short, x=short)", "hashers.djb2(short, data=short)", "hashers.spooky(short, hash=1)",
             "hashers.djb2(memoryview(short)[::2])", "hashers.new('djb2', long)", "hashers.new('DJB2', text)", "hashers.new(text)",
             "hashers.new(long)", "hashers.new('POLY61', long, key=7)", "hashers.new('spooky', long, seeds=(1, 2))",
@@ -636,7 +646,7 @@ class Buffers(unittest.TestCase):
             spooky.copy, keeps.__reduce__, spooky.intdigest, spooky.hexdigest, spooky.digest, spooky.words, lambda: _hashers._revived(*state),
             lambda: hashers.Bloom(1000, 3), lambda: one.add(b"a"), lambda: one.add_lines(long), lambda: one.add_column(offsets, b"abcde"),
             lambda: one.found(offsets, b"abcde"), lambda: one | one, lambda: hashers.hash_column("djb2", offsets, b"abcde"),
-            lambda: hashers.hash_lines("djb2", long), lambda: hashers.combine("crc32", TOP, 2, 3), lambda: hashers.crc32_ending(1, 2)]
+            lambda: hashers.hash_lines("djb2", long), lambda: hashers.combine("loselose", TOP, 2, 3), lambda: hashers.crc32_ending(1, 2)]
         refused = 0
         for call in calls:
             for number in range(40):
@@ -841,7 +851,8 @@ class Chunks(unittest.TestCase):
             mapped[:] = self.text
             mapped.seek(7)
             self.assertEqual(list(map(bytes, cuts.chunks(mapped))), chunks)
-        self.assertEqual(list(cuts.chunks(b"")) + list(cuts.chunks(io.BytesIO())), [])
+        nothing: List[Any] = [b"", io.BytesIO(), ((ctypes.c_uint8 * 5) * 0)()]
+        self.assertEqual([chunk for source in nothing for chunk in cuts.chunks(source)], [])
         with unittest.mock.patch.object(sys.modules["hashers._chunks"], "LEAST_READ", 1):
             self.assertEqual(list(cuts.chunks(io.BytesIO(self.text))), chunks)
         for kept in cuts.chunks(self.text):
@@ -861,13 +872,18 @@ class Chunks(unittest.TestCase):
 
     def test_what_is_refused(self) -> None:
         for sizes in ({"average": 63}, {"average": 100, "least": 101}, {"average": 100, "least": 63}, {"average": 100, "most": 99},
-                      {"average": 1 << 62}, {"average": -1}, {"seed1": -1}, {"seed2": 1 << 64}):
-            with self.assertRaises(ValueError):
+                      {"average": 1 << 64}, {"average": -1}, {"seed1": -1}, {"seed2": 1 << 64}, {"least": 1 << 64}, {"most": 1 << 64},
+                      {"least": 63}, {"most": 65535}):
+            with self.assertRaisesRegex(ValueError, "seed is from 0" if "seed" in str(sizes) else "64 <= least <= average <= most < 2[*][*]64"):
                 hashers.Cuts(**sizes)
         with self.assertRaises(TypeError):
             list(hashers.chunks(cast(Any, io.StringIO("a"))))
         with self.assertRaises(TypeError):
             hashers.chunks(cast(Any, "a"))
+        with self.assertRaises(BufferError):
+            hashers.chunks(memoryview(bytes(200))[::2])
+        with self.assertRaises(BufferError):
+            hashers.Cuts().ends(memoryview(bytes(200))[::2])
         with self.assertRaises(TypeError):
             hashers.Cuts(cast(Any, 1.5))
         with self.assertRaises(BlockingIOError):
@@ -879,6 +895,19 @@ class Chunks(unittest.TestCase):
         with self.assertRaises(ValueError):
             _hashers._chunk_ends(b"a", bytearray(8), 64, 64, 64, -1, 0)
         self.assertEqual(_hashers._chunk_ends(b"a", bytearray(8), 63, 64, 64, 0, 0), 0)
+
+    def test_sizes_that_are_not_given(self) -> None:
+        # as the program cuts has them: crates/hash_chunks/src/sizes.rt
+        wanted: List[Tuple[Dict[str, int], Tuple[int, int, int]]] = [
+            ({}, (16384, 65536, 262144)), ({"average": 100}, (64, 100, 400)), ({"average": 1024}, (256, 1024, 4096)),
+            ({"least": 20000}, (20000, 65536, 262144)), ({"least": 65536}, (65536, 65536, 262144)), ({"least": 65537}, (65537, 262148, 1048592)),
+            ({"least": 100000}, (100000, 400000, 1600000)), ({"least": 64, "most": 65536}, (64, 65536, 65536)),
+            ({"average": 1 << 62}, (1 << 60, 1 << 62, TOP)), ({"average": TOP}, (TOP // 4, TOP, TOP)),
+            ({"least": 1 << 61}, (1 << 61, 1 << 63, TOP)), ({"least": 1 << 62}, (1 << 62, TOP, TOP)), ({"least": TOP}, (TOP, TOP, TOP))]
+        for given, sizes in wanted:
+            cuts = hashers.Cuts(**given)
+            self.assertEqual((cuts.least, cuts.average, cuts.most), sizes)
+            self.assertEqual(list(map(len, hashers.chunks(bytes(50), **given))), [50])
 
     def test_what_is_shown(self) -> None:
         cuts = hashers.Cuts(1024, seed2=7)
@@ -1000,11 +1029,16 @@ class Rings(unittest.TestCase):
             (TypeError, lambda: hashers.Ring("abc")), (TypeError, lambda: ring.owner(cast(bytes, "a"))),
             (ValueError, lambda: ring.owners(b"a", -1)), (AttributeError, lambda: setattr(ring, "hash", "xxh3")),
             (TypeError, lambda: ring.add(cast(str, 5))), (TypeError, lambda: ring.remove(cast(str, bytearray(b"oak")))),
+            (TypeError, lambda: cast(str, 5) in ring),
             (ValueError, lambda: hashers.Ring(hash="no")), (ValueError, lambda: hashers.Ring(hash="spooky128"))]
         for error, call in refused:
             with self.assertRaises(error):
                 call()
         self.assertEqual(ring.weights(), {"ash": 3, "elm": 1, "oak": 2})
+
+
+class Mine(hashers.Bloom):
+    """A child's filter, which pickle finds here."""
 
 
 class Filters(unittest.TestCase):
@@ -1024,7 +1058,8 @@ class Filters(unittest.TestCase):
             self.assertTrue(all(key in one for key in keys))
 
     def test_for_keys(self) -> None:
-        for count, rate, bits, probes in ((1000, 0.01, 9586, 7), (10_000, 0.001, 143776, 10), (1, 0.9, 1, 1), (3, 0.5, 5, 1)):
+        for count, rate, bits, probes in ((1000, 0.01, 9586, 7), (10_000, 0.001, 143776, 10), (1, 0.9, 1, 1), (3, 0.5, 5, 1),
+                                          (1000, 5e-324, 1549455, 1074), (10, 1 - 2**-53, 1, 1)):
             made = hashers.Bloom.for_keys(count, rate)
             self.assertEqual((made.bits, made.probes, made.hashes), (bits, probes, "fnv1a64_lookup3"))
         made = hashers.Bloom.for_keys(20_000, hashes="spooky_lookup3", buffer=bytearray(23968))
@@ -1032,7 +1067,8 @@ class Filters(unittest.TestCase):
         for number in range(20_000):
             made.add(b"%d" % number)
         self.assertLess(abs(sum(b"other %d" % number in made for number in range(20_000)) - 200), 60)
-        wrong: List[Tuple[int, float]] = [(0, 0.1), (-1, 0.1), (1, 0), (1, 1), (1, -0.1), (1, float("nan")), (1 << 64, 0.01)]
+        wrong: List[Tuple[int, float]] = [(0, 0.1), (-1, 0.1), (1, 0), (1, 1), (1, -0.1), (1, float("nan")), (1 << 64, 0.01),
+                                          (1 << 64, 1 - 2**-53), (1 << 2000, 0.01)]
         for count, rate in wrong:
             self.assertRaises(ValueError, hashers.Bloom.for_keys, count, rate)
         self.assertRaises(TypeError, hashers.Bloom.for_keys, 1.5)
@@ -1092,6 +1128,15 @@ class Filters(unittest.TestCase):
                     self.assertNotIn(b"b", made)
                     self.assertEqual((len(made), len(other)), (1, 2))
 
+    def test_children(self) -> None:
+        made = Mine(1000, 3, hashes="spooky_lookup3")
+        made.add(b"a")
+        like = hashers.Bloom(1000, 3, hashes="spooky_lookup3")
+        for other in (made | made, made | like, *(copied(made) for copied in Copies().ways().values())):
+            self.assertEqual((type(other), other.hashes, other.buffer), (Mine, "spooky_lookup3", made.buffer))
+        made |= made.copy()
+        self.assertEqual((type(made), type(Mine.for_keys(5))), (Mine, Mine))
+
     def test_unions(self) -> None:
         one, two = hashers.Bloom(1000, 3), hashers.Bloom(1000, 3)
         one.add(b"a")
@@ -1148,6 +1193,8 @@ class Filters(unittest.TestCase):
         self.assertRaises(TypeError, made.add, "text")
         self.assertRaises(ValueError, made.add, made.buffer)
         self.assertRaises(ValueError, made.update, hashers.Bloom(128, 2))
+        with self.assertRaisesRegex(TypeError, "update takes another filter, not list"):
+            made.update(cast(Any, [b"key"]))
         self.assertRaises(ValueError, made.update, hashers.Bloom(128, 1, buffer=made.buffer))
 
 
@@ -1172,10 +1219,27 @@ class Program(unittest.TestCase):
             self.assertEqual(error, f"hashers: {room}/none: No such file or directory\n")
             self.assertEqual(self.run_it("SPOOKY128", "--hex", text=b"a"), (0, hashers.new("spooky128", b"a").hexdigest() + "\n", ""))
 
+    def test_names_are_written_as_their_bytes(self) -> None:
+        wanted = str(hashers.djb2(b"a")).encode()
+        with tempfile.TemporaryDirectory() as room:
+            names = [b"one", b"\xff", "\u00e9".encode(), b"two"]
+            for name in names:
+                with open(os.path.join(room.encode(), name), "wb") as file:
+                    file.write(b"a")
+            for encoding in ("utf-8:strict", "ascii:strict", "latin-1", "utf-16"):
+                done = subprocess.run([sys.executable, "-m", "hashers", "djb2", *names], cwd=room, stdout=subprocess.PIPE,
+                                      stderr=subprocess.PIPE, env={**os.environ, "PYTHONIOENCODING": encoding})
+                said = b"".join(wanted + b"  " + name + b"\n" for name in names)
+                self.assertEqual((done.returncode, done.stdout, done.stderr), (0, said, b""), encoding)
+
     def test_wrong_calls_and_a_full_output(self) -> None:
         self.assertEqual(self.run_it("--version"), (0, f"hashers {hashers.__version__}\n", ""))
         self.assertEqual(self.run_it("--help")[0], 0)
-        self.assertEqual(self.run_it()[0], 2)
+        nameless: List[List[str]] = [[], ["--hex"]]
+        for arguments in nameless:
+            status, out, error = self.run_it(*arguments)
+            self.assertEqual((status, out, error.splitlines()[-1]),
+                             (2, "", "python3 -m hashers: error: the following arguments are required: NAME"))
         status, out, error = self.run_it("md5")
         self.assertEqual((status, out), (2, ""))
         self.assertIn("unknown name: md5", error)
