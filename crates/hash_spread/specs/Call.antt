@@ -9,7 +9,7 @@ use Rattle.cli.specs.declared.outcome.Wrong.{Wrong}
 use Rattle.cli.specs.declared.outcome.Wrong.TheVariants.{Own}
 use Rattle.hash_names.specs.Named.{kind_named}
 use Rattle.hash_names.specs.declared.table.Kind.{Kind}
-use Rattle.hash_names.specs.declared.table.Kind.TheVariants.{Fnv1a32, Fnv1a64, Djb2, Sdbm, LoseLose, Bricolage, Oaat, Lookup3, Spooky, PassThrough, FxHash, FxHash32, Xxh64, Murmur3At32, SipHash13}
+use Rattle.hash_names.specs.declared.table.Kind.TheVariants.{Fnv1a32, Fnv1a64, Djb2, Sdbm, LoseLose, Bricolage, Oaat, Lookup3, Spooky, PassThrough, FxHash, FxHash32, Xxh64, Murmur3At32, SipHash13, Xxh3}
 use Rattle.hash_spread.specs.declared.call.Settings.{Settings}
 use Rattle.hash_spread.specs.declared.keys.Layout.{Layout}
 use Rattle.hash_spread.specs.declared.keys.Layout.TheVariants as layout
@@ -85,7 +85,7 @@ settings_of call = settings_by (given_number (codes "buckets") call) (given_numb
 -- the hashes that stand in the table where none is named: the others spread as another does, not at all, or are for files
 abbrev pub usual : List Kind
 usual = Fnv1a32 ∷ Fnv1a64 ∷ Djb2 ∷ Sdbm ∷ LoseLose ∷ Bricolage ∷ Oaat ∷ Lookup3 ∷ Spooky ∷ PassThrough ∷ FxHash ∷ FxHash32 ∷ Xxh64 ∷ Murmur3At32
-    ∷ SipHash13 ∷ []
+    ∷ SipHash13 ∷ Xxh3 ∷ []
 
 -- the hashes of these names, in their order; the usual ones if there is no name
 abbrev pub kinds_named : (names : List (List ℕ)) → List Kind

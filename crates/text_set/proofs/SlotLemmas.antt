@@ -1,5 +1,5 @@
 -- Tables of slots: what a search finds, and what a slot more changes.
-use Rattle.std.proofs.Common.{ℕ, zero, suc, ◌≡◌, ◌+◌, ◌-◌, ◌^◌, ◌<◌, ◌≤◌, ◌==◌, ◌⊎◌, inl, inr, Bool, true, false, not, cond, ◌&&◌, ◌||◌, Some, None, List, [], ◌∷◌, ◌++◌, length, get_or, take, replicate, All, Contains, arith, sym, ap, ◌∙◌, subst, refl, length-append}
+use Rattle.std.proofs.Common.{ℕ, zero, suc, ◌≡◌, ◌+◌, ◌-◌, ◌<◌, ◌≤◌, ◌==◌, ◌⊎◌, inl, inr, Bool, true, false, not, cond, ◌&&◌, ◌||◌, Some, None, List, [], ◌∷◌, ◌++◌, length, get_or, take, replicate, All, Contains, arith, sym, ap, ◌∙◌, subst, refl, length-append}
 use Rattle.std.specs.List.{count_by, list_any, Any}
 use Rattle.std.specs.Str.{bytes_eq}
 use Rattle.std.proofs.Math.Bool.{or-false, or_assoc, or_comm}
@@ -11,9 +11,7 @@ use Rattle.std.proofs.lemmas.List.Elements.{All-set, All-contains, All-replicate
 use Rattle.std.proofs.lemmas.List.Folds.{list_any_none, list_any_at, list_any_more, list_any-append, Any-from_list_any, sum_by-replicate}
 use Rattle.std.proofs.lemmas.List.Sums.{sum_by-cons, sum_by-set}
 use Rattle.std.proofs.lemmas.Slice.Eq.{bytes_eq-Decides}
-use Rattle.text_set.specs.Texts.{EachOnce, IsFullOnlyAt, StandsAt, has, with_text, Set}
-use Rattle.text_set.specs.declared.texts.Full.{Full}
-use Rattle.text_set.specs.declared.texts.Full.TheVariants as why
+use Rattle.text_set.specs.Texts.{EachOnce, StandsAt, has, with_text, Set}
 use Rattle.text_set.specs.Slots.{AreFound, AreTakenUpTo, FirstRound, HoldsUpTo, IsRefilled, IsTable, IsTagged, Names, free_count, home_of, is_taken, some_taken, stops, text_of}
 use Rattle.text_set.specs.declared.slots.Slot.{Slot}
 use Rattle.text_set.specs.declared.slots.TheConstants.{EMPTY, NOWHERE}
@@ -424,11 +422,6 @@ pub set_made : {tag : List ℕ → ℕ} (texts : List (List ℕ)) {new : List (L
     → IsTable tag (texts ++ text ∷ []) slots room → EachOnce new × IsTable tag new slots room
 set_made {tag} texts {new} {slots} {room} text is once absent table =
     subst (λ ts. EachOnce ts × IsTable tag ts slots room) (sym is) (once_more texts text once absent, table)
-
--- a set that has as many texts as it may
-pub is_full : (texts : List (List ℕ)) (why : Full) → 2 ^ 32 - 1 ≤ length texts → IsFullOnlyAt texts why
-is_full texts why.NoMemory many = tt
-is_full texts why.TooManyTexts many = many
 
 -- the tag by the hasher that a set is seen to have is that by its own
 pub tag_is : {S : Type 0} (tag : S → ℕ) {own seen : Set S} {t : ℕ} → own ≡ seen → t ≡ tag seen.hasher → t ≡ tag own.hasher

@@ -2,7 +2,7 @@
 ghost use Rattle.std.specs.Prelude.{◌≡◌, ◌↔◌, ◌-◌, ◌^◌, ◌<◌, ◌≤◌, ℕ, List, [], IfOk, IfErr, IfSome, IfNone, IsTrue, OnOk, OnErr, not, false, length, slice_index_or, drop};
 ghost use Rattle.std.specs.Iterator.{YieldsFirstRef, item_count};
 ghost use Rattle.text_set.specs.Slots.{IsGuess, IsTable, tag_under};
-ghost use Rattle.text_set.specs.Texts.{EachOnce, IsFullOnlyAt, Set, StandsAt, has, with_text};
+ghost use Rattle.text_set.specs.Texts.{EachOnce, IsFullOnlyAt, Sees, Set, StandsAt, has, with_text};
 
 use crate::slots::{NOWHERE, Slot, home_of, make_room, stop, tag_of};
 use crate::store::Store;
@@ -212,12 +212,7 @@ impl<S: BuildHasher + Drop> Texts<S> {
     pub fn see_at(&mut self, text: &[u8], guess: Guess) -> Result<Seen, Full>
         requires { guess.tag ≡ tag_under S.Hasher.write S.Hasher.finish (S.build_hasher self.old.hasher)
             text.now }
-        ensures new { IfOk result (λ seen. seen.is_new ≡ not (has self.old.texts text.now)) }
-        ensures texts { OnOk result (self.new.texts ≡ with_text self.old.texts text.now) }
-        ensures place { IfOk result (λ seen. StandsAt self.new.texts text.now seen.place) }
-        ensures hasher { self.new.hasher ≡ self.old.hasher }
-        ensures kept { OnErr result (self.new ≡ self.old) }
-        ensures full { IfErr result (IsFullOnlyAt self.old.texts) }
+        ensures { Sees IsFullOnlyAt self.old self.new text.now result }
     {
         if guess.place < self.len() {
             if self.text_at(guess.place) == text {
@@ -234,12 +229,7 @@ impl<S: BuildHasher + Drop> Texts<S> {
     /// that fails, the set stays as it was.
     #[inline(always)]
     pub fn see(&mut self, text: &[u8]) -> Result<Seen, Full>
-        ensures new { IfOk result (λ seen. seen.is_new ≡ not (has self.old.texts text.now)) }
-        ensures texts { OnOk result (self.new.texts ≡ with_text self.old.texts text.now) }
-        ensures place { IfOk result (λ seen. StandsAt self.new.texts text.now seen.place) }
-        ensures hasher { self.new.hasher ≡ self.old.hasher }
-        ensures kept { OnErr result (self.new ≡ self.old) }
-        ensures full { IfErr result (IsFullOnlyAt self.old.texts) }
+        ensures { Sees IsFullOnlyAt self.old self.new text.now result }
     {
         let tag = tag_of(&self.hasher, text);
         self.see_tagged(text, tag)
@@ -249,12 +239,7 @@ impl<S: BuildHasher + Drop> Texts<S> {
     #[inline(never)]
     fn see_tagged(&mut self, text: &[u8], tag: u32) -> Result<Seen, Full>
         requires { tag ≡ tag_under S.Hasher.write S.Hasher.finish (S.build_hasher self.old.hasher) text.now }
-        ensures new { IfOk result (λ seen. seen.is_new ≡ not (has self.old.texts text.now)) }
-        ensures texts { OnOk result (self.new.texts ≡ with_text self.old.texts text.now) }
-        ensures place { IfOk result (λ seen. StandsAt self.new.texts text.now seen.place) }
-        ensures hasher { self.new.hasher ≡ self.old.hasher }
-        ensures kept { OnErr result (self.new ≡ self.old) }
-        ensures full { IfErr result (IsFullOnlyAt self.old.texts) }
+        ensures { Sees IsFullOnlyAt self.old self.new text.now result }
     {
         make_room(self.alloc, &mut self.slots, &mut self.room)?;
         let Some(at) = stop(&self.texts, &self.slots, tag, text) else {

@@ -1,8 +1,8 @@
 //! What ends a run before its output is whole.
-ghost use Rattle.std.specs.Prelude.{◌≡◌, not, IfOk, OnOk, OnErr};
-ghost use Rattle.unique_lines.specs.Status.{words_of};
+ghost use Rattle.std.specs.Prelude.{◌≡◌};
+ghost use Rattle.unique_lines.specs.Status.{IsFullOnly, words_of};
 ghost use Rattle.text_set.specs.Slots.{tag_under};
-ghost use Rattle.text_set.specs.Texts.{StandsAt, has, with_text};
+ghost use Rattle.text_set.specs.Texts.{Sees};
 
 use cli::outcome::Words;
 use std::hash::BuildHasher;
@@ -40,11 +40,7 @@ pub fn see<S: BuildHasher + Drop>(
     guess: Guess,
 ) -> Result<Seen, Failure>
     requires { guess.tag ≡ tag_under S.Hasher.write S.Hasher.finish (S.build_hasher texts.old.hasher) text.now }
-    ensures new { IfOk result (λ seen. seen.is_new ≡ not (has texts.old.texts text.now)) }
-    ensures texts { OnOk result (texts.new.texts ≡ with_text texts.old.texts text.now) }
-    ensures place { IfOk result (λ seen. StandsAt texts.new.texts text.now seen.place) }
-    ensures hasher { texts.new.hasher ≡ texts.old.hasher }
-    ensures kept { OnErr result (texts.new ≡ texts.old) }
+    ensures { Sees IsFullOnly texts.old texts.new text.now result }
 {
     match texts.see_at(text, guess) {
         Ok(seen) => Ok(seen),
