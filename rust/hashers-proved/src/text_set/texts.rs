@@ -246,12 +246,7 @@ impl<S: BuildHasher> Texts<S> {
     /// Proved:
     ///
     /// ```text
-    /// new: IfOk result (λ seen. seen.is_new ≡ not (has self.old.texts text.now))
-    /// texts: OnOk result (self.new.texts ≡ with_text self.old.texts text.now)
-    /// place: IfOk result (λ seen. StandsAt self.new.texts text.now seen.place)
-    /// hasher: self.new.hasher ≡ self.old.hasher
-    /// kept: OnErr result (self.new ≡ self.old)
-    /// full: IfErr result (IsFullOnlyAt self.old.texts)
+    /// Sees IsFullOnlyAt self.old self.new text.now result
     /// ```
     #[inline(always)]
     pub fn see_at(&mut self, text: &[u8], guess: Guess) -> Result<Seen, Full> {
@@ -272,12 +267,7 @@ impl<S: BuildHasher> Texts<S> {
     /// Proved:
     ///
     /// ```text
-    /// new: IfOk result (λ seen. seen.is_new ≡ not (has self.old.texts text.now))
-    /// texts: OnOk result (self.new.texts ≡ with_text self.old.texts text.now)
-    /// place: IfOk result (λ seen. StandsAt self.new.texts text.now seen.place)
-    /// hasher: self.new.hasher ≡ self.old.hasher
-    /// kept: OnErr result (self.new ≡ self.old)
-    /// full: IfErr result (IsFullOnlyAt self.old.texts)
+    /// Sees IsFullOnlyAt self.old self.new text.now result
     /// ```
     #[inline(always)]
     pub fn see(&mut self, text: &[u8]) -> Result<Seen, Full> {
@@ -296,12 +286,7 @@ impl<S: BuildHasher> Texts<S> {
     /// Proved:
     ///
     /// ```text
-    /// new: IfOk result (λ seen. seen.is_new ≡ not (has self.old.texts text.now))
-    /// texts: OnOk result (self.new.texts ≡ with_text self.old.texts text.now)
-    /// place: IfOk result (λ seen. StandsAt self.new.texts text.now seen.place)
-    /// hasher: self.new.hasher ≡ self.old.hasher
-    /// kept: OnErr result (self.new ≡ self.old)
-    /// full: IfErr result (IsFullOnlyAt self.old.texts)
+    /// Sees IsFullOnlyAt self.old self.new text.now result
     /// ```
     #[inline(never)]
     fn see_tagged(&mut self, text: &[u8], tag: u32) -> Result<Seen, Full> {

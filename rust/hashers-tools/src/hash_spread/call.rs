@@ -224,7 +224,7 @@ pub fn unknown_name<'a>(alloc: Global, call: &Call<'a>) -> Result<Option<&'a [u8
 }
 
 /// The hashes that stand in the table where none is named. The others spread as another does, not at all, or are for files.
-const USUAL: [Kind; 15] = [
+const USUAL: [Kind; 16] = [
     Kind::Fnv1a32,
     Kind::Fnv1a64,
     Kind::Djb2,
@@ -240,6 +240,7 @@ const USUAL: [Kind; 15] = [
     Kind::Xxh64,
     Kind::Murmur3At32,
     Kind::SipHash13,
+    Kind::Xxh3,
 ];
 
 /// The hashes of these names, in their order; an unknown name has none.

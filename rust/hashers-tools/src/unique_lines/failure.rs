@@ -43,11 +43,7 @@ impl Words for TooMany {
 /// Proved:
 ///
 /// ```text
-/// new: IfOk result (λ seen. seen.is_new ≡ not (has texts.old.texts text.now))
-/// texts: OnOk result (texts.new.texts ≡ with_text texts.old.texts text.now)
-/// place: IfOk result (λ seen. StandsAt texts.new.texts text.now seen.place)
-/// hasher: texts.new.hasher ≡ texts.old.hasher
-/// kept: OnErr result (texts.new ≡ texts.old)
+/// Sees IsFullOnly texts.old texts.new text.now result
 /// ```
 #[inline(always)]
 pub fn see<S: BuildHasher>(
