@@ -246,7 +246,7 @@ fn calls_by_the_table(rt: HostRuntime) {
             asked(alloc, &["-w0"]).is_none() && asked(alloc, &["--width=x"]).is_none(),
             asked(alloc, &["-b"]).is_none() && asked(alloc, &["--plot"]).is_none(),
             asked(alloc, &["-x"]).is_none() && asked(alloc, &["--help"]).is_none(),
-            chosen(alloc, &[]) == Some(15) && chosen(alloc, &["null", "-z"]) == Some(1),
+            chosen(alloc, &[]) == Some(16) && chosen(alloc, &["null", "-z"]) == Some(1),
             chosen(alloc, &["md5"]).is_none(),
         ],
     );
