@@ -177,7 +177,7 @@ class Test:
     def advice(self):
         browser = self.browser
         self.compare(ITEMS, times=True)
-        browser.says("keys", "Done: 15 hashes of 4096 different keys")
+        browser.says("keys", "Done: 16 hashes of 4096 different keys")
         lines = browser.text("#keys pre").rstrip().split("\n")
         wanted = self.said_by("spread", "--no-times", text=ITEMS.encode()).rstrip().split("\n")
         found = [line.split()[:-1] for line in lines[2:17]]
@@ -230,7 +230,7 @@ class Test:
             self.compare(keys, buckets, names)
             self.is_(f"a sentence for {keys!r}, {buckets!r}, {names!r}", wanted, browser.says("keys", re.escape(wanted[:24])))
         self.compare("a\nb")
-        self.is_("well again", "Done: 15 hashes of 2 different keys.", browser.says("keys", "Done"))
+        self.is_("well again", "Done: 16 hashes of 2 different keys.", browser.says("keys", "Done"))
 
     # ---- the others
 
