@@ -49,8 +49,7 @@ def library(room):
     if named or not shutil.which("cargo"):
         sys.exit(f"setup.py: there is no {named or made}, or no libhashers.a in it. Let HASHERS_LIB_DIR name the folder of one, of Debian's"
                  " package libhashers-dev, of a tarball of hashers, or made by make -C c; or install cargo 1.88 or later")
-    subprocess.check_call(["cargo", "build", "--quiet", "--release", "--offline", "--target-dir", room, "--manifest-path",
-                           os.path.join(native("hashers-c"), "Cargo.toml")])
+    subprocess.check_call(["cargo", "build", "--quiet", "--release", "--offline", "--target-dir", room], cwd=native("hashers-c"))
     return os.path.join(room, "release", "libhashers.a")
 
 

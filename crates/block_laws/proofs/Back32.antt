@@ -70,7 +70,7 @@ byte_out-lt : (h byte : ℕ) → byte_out h byte < 2 ^ 32
 unfolding byte_out
 byte_out-lt h byte = sub-lt _ _
 
-lane_there : (lane word : ℕ) → lane < 2 ^ 32 → round (lane_out lane word) word ≡ lane
+pub lane_there : (lane word : ℕ) → lane < 2 ^ 32 → round (lane_out lane word) word ≡ lane
 unfolding round lane_out
 lane_there lane word lane_in =
     first_there 13 19 q1 un_q1 (lit≤ tt) refl q1_there lane (product word q2) lane_in (product-lt word q2)
@@ -78,6 +78,10 @@ lane_there lane word lane_in =
 lane_out-lt : (lane word : ℕ) → lane_out lane word < 2 ^ 32
 unfolding lane_out
 lane_out-lt lane word = sub-lt _ _
+
+pub lane_back_again : (lane word : ℕ) → lane < 2 ^ 32 → lane_out (round lane word) word ≡ lane
+lane_back_again lane word lane_in =
+    round_lane (lane_out (round lane word) word) lane word (lane_out-lt _ word) lane_in (lane_there (round lane word) word (round-lt lane word))
 
 fours : BlockBack 4 IsWord (λ h block. four_in h (le block)) (λ h block. four_out h (le block))
 fours = record {
@@ -93,8 +97,7 @@ lanes : (place : ℕ) → BlockBack 16 IsWord (λ lane block. round lane (slice_
 lanes place = record {
   block_in = λ s b s_in b_is. round-lt s (slice_index (words_of b) place);
   unblock_in = λ s b s_in b_is. lane_out-lt s (slice_index (words_of b) place);
-  unblock_back = λ s b s_in b_is. let word = slice_index (words_of b) place in
-      round_lane (lane_out (round s word) word) s word (lane_out-lt _ word) s_in (lane_there (round s word) word (round-lt s word));
+  unblock_back = λ s b s_in b_is. lane_back_again s (slice_index (words_of b) place) s_in;
   block_back = λ s b s_in b_is. lane_there s (slice_index (words_of b) place) s_in;
 }
 

@@ -27,7 +27,7 @@ module _ (lane word : ℕ) (lane_in : lane < 2 ^ 64) where
       ap (λ n. product (rotl 64 n 31) p1) (add-sub 64 (rotl 64 a 33) (product word p2) (rotl-lt 64 a 33 (omega arith) a_in) (product-lt word p2))
       ∙ ap (λ n. product n p1) (rotl-rotl 64 a 33 (omega arith) a_in) ∙ p1_there lane lane_in
 
-four-are : (s : List ℕ) → length s ≡ 4 → s ≡ slice_index s 0 ∷ slice_index s 1 ∷ slice_index s 2 ∷ slice_index s 3 ∷ []
+pub four-are : (s : List ℕ) → length s ≡ 4 → s ≡ slice_index s 0 ∷ slice_index s 1 ∷ slice_index s 2 ∷ slice_index s 3 ∷ []
 four-are [] len = absurd (omega arith)
 four-are (a ∷ []) len = absurd (omega arith)
 four-are (a ∷ b ∷ []) len = absurd (omega arith)
@@ -35,7 +35,7 @@ four-are (a ∷ b ∷ c ∷ []) len = absurd (omega arith)
 four-are (a ∷ b ∷ c ∷ d ∷ []) len = refl
 four-are (a ∷ b ∷ c ∷ d ∷ e ∷ s) len = absurd (omega arith)
 
-four-same : (a b c d w x y z : ℕ) → a ≡ w → b ≡ x → c ≡ y → d ≡ z → ◌≡◌ {A = List ℕ} (a ∷ b ∷ c ∷ d ∷ []) (w ∷ x ∷ y ∷ z ∷ [])
+pub four-same : (a b c d w x y z : ℕ) → a ≡ w → b ≡ x → c ≡ y → d ≡ z → ◌≡◌ {A = List ℕ} (a ∷ b ∷ c ∷ d ∷ []) (w ∷ x ∷ y ∷ z ∷ [])
 four-same a b c d w x y z p q r t = λ i. p i ∷ q i ∷ r i ∷ t i ∷ []
 
 module _ (lanes block : List ℕ) (lanes_in : AreFourWords lanes) where

@@ -4,5 +4,6 @@ pub mod BlockBack
 pub mod RestLemmas
 pub mod Same32
 pub mod Back32
+pub mod BlockBack32
 pub mod Words32
 pub mod Words64

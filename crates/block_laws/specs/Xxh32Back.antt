@@ -1,5 +1,5 @@
 -- XXH32's steps taken back: the inverse of each product is that of an odd number modulo 2 ^ 32.
-use Rattle.std.specs.Prelude.{ℕ, zero, suc, ◌-◌, List, slice_index, fold, reverse}
+use Rattle.std.specs.Prelude.{ℕ, zero, suc, ◌-◌, List, [], ◌∷◌, slice_index, fold, reverse}
 use Rattle.hash_words.specs.Words.{le, rotl, add, sub, xorshift}
 use Rattle.hash_blocks.specs.Blocks.{tail}
 use Rattle.block_laws.specs.BlockFacts.{blocks_before}
@@ -31,6 +31,13 @@ byte_out h byte = sub 32 (unturned 21 un_q1 h) (product byte q5)
 
 unfoldable pub lane_out : ℕ → ℕ → ℕ
 lane_out lane word = sub 32 (unturned 19 un_q1 lane) (product word q2)
+
+-- the lanes before a block
+unfoldable pub before_block : List ℕ → List ℕ → List ℕ
+before_block lanes block =
+    let words = words_of block in
+    lane_out (slice_index lanes 0) (slice_index words 0) ∷ lane_out (slice_index lanes 1) (slice_index words 1)
+    ∷ lane_out (slice_index lanes 2) (slice_index words 2) ∷ lane_out (slice_index lanes 3) (slice_index words 3) ∷ []
 
 -- before what is left
 abbrev pub rest_out : ℕ → List ℕ → ℕ

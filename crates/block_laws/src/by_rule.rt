@@ -14,7 +14,7 @@ use hash_windows::window::differ_in_one_block;
 
 /// Whether the texts have one length and differ, but only within one block of `N` bytes, or behind the whole blocks. Where so,
 /// their hashes differ under every seed. Computes no hash.
-pub fn apart_by_block<R: BlockUndo<N>, const N: usize>(x: &[u8], y: &[u8]) -> bool
+pub fn apart_by_rule<R: BlockUndo<N>, const N: usize>(x: &[u8], y: &[u8]) -> bool
     ensures exactly { IsTrue result ↔ DifferInOneBlock N x.now y.now }
     ensures differ { OnTrue result ((from : List ℕ) → R.is_seed from → R.hash from x.now ≢ R.hash from y.now) }
 {
@@ -23,7 +23,7 @@ pub fn apart_by_block<R: BlockUndo<N>, const N: usize>(x: &[u8], y: &[u8]) -> bo
 
 /// A changed block shows, a law with no code: two texts of one length that differ, but only within one block, or behind the
 /// whole blocks, have different hashes under every seed.
-pub fn one_changed_block_shows<R: BlockUndo<N>, const N: usize>()
+pub fn one_changed_block_shows_by_rule<R: BlockUndo<N>, const N: usize>()
     ensures { (from x y : List ℕ) → R.is_seed from → IsText x → IsText y → DifferInOneBlock N x y
         → R.hash from x ≢ R.hash from y }
 {}
@@ -43,7 +43,7 @@ fn blocks_out<R: BlockUndo<N>, const N: usize>(hash: R::Hash, bytes: &[u8], tota
 }
 
 /// The one block between a front of whole blocks and a back that leads to a hash, under a seed.
-pub fn block_for<R: BlockUndo<N>, const N: usize>(
+pub fn block_for_by_rule<R: BlockUndo<N>, const N: usize>(
     seed: R::Seed,
     front: &[u8],
     back: &[u8],

@@ -7,7 +7,7 @@ ghost use Rattle.hash_windows.specs.DifferWithin.{DifferInOneBlock};
 ghost use Rattle.hash_murmur3.specs.Murmur3.{murmur3_32};
 ghost use Rattle.hash_murmur3.specs.Murmur3x128.{murmur3_128};
 
-use crate::by_rule::{apart_by_block, block_for};
+use crate::by_rule::{apart_by_rule, block_for_by_rule};
 use hash_murmur3::{Murmur3Rule32, Murmur3Rule128};
 
 /// Whether the texts have one length and differ, but only within one word: four bytes from a place that 4 divides, or the up to
@@ -17,7 +17,7 @@ pub fn apart_by_word_murmur3_32(x: &[u8], y: &[u8]) -> bool
     ensures differ { OnTrue result ((seed : ℕ) → seed < 2 ^ 32
         → murmur3_32 seed x.now ≢ murmur3_32 seed y.now) }
 {
-    apart_by_block::<Murmur3Rule32, 4>(x, y)
+    apart_by_rule::<Murmur3Rule32, 4>(x, y)
 }
 
 /// One changed word shows in MurmurHash3_x86_32, a law with no code: two texts of one length that differ, but only within four
@@ -35,7 +35,7 @@ pub fn word_for_murmur3_32(seed: u32, front: &[u8], back: &[u8], hash: u32) -> [
     ensures alone { (word : List ℕ) → IsText word → length word ≡ 4
         → murmur3_32 seed (front.now ++ (word ++ back.now)) ≡ hash → word ≡ result }
 {
-    block_for::<Murmur3Rule32, 4>(seed, front, back, hash)
+    block_for_by_rule::<Murmur3Rule32, 4>(seed, front, back, hash)
 }
 
 /// MurmurHash3_x86_32 favours no hash, a law with no code: between a front, whose length 4 divides, and a back exactly one word
@@ -54,7 +54,7 @@ pub fn apart_by_block_murmur3_128(x: &[u8], y: &[u8]) -> bool
     ensures differ { OnTrue result ((seed : ℕ) → seed < 2 ^ 64
         → murmur3_128 seed x.now ≢ murmur3_128 seed y.now) }
 {
-    apart_by_block::<Murmur3Rule128, 16>(x, y)
+    apart_by_rule::<Murmur3Rule128, 16>(x, y)
 }
 
 /// One changed block shows in MurmurHash3_x64_128, a law with no code: two texts of one length that differ, but only within
@@ -73,7 +73,7 @@ pub fn block_for_murmur3_128(seed: u64, front: &[u8], back: &[u8], hash: (u64, u
     ensures alone { (block : List ℕ) → IsText block → length block ≡ 16
         → murmur3_128 seed (front.now ++ (block ++ back.now)) ≡ hash → block ≡ result }
 {
-    block_for::<Murmur3Rule128, 16>(seed, front, back, hash)
+    block_for_by_rule::<Murmur3Rule128, 16>(seed, front, back, hash)
 }
 
 /// MurmurHash3_x64_128 favours no hash, a law with no code: between a front, whose length 16 divides, and a back exactly one

@@ -3,10 +3,11 @@ ghost use Rattle.std.specs.Prelude.{◌≡◌, ◌+◌, ◌*◌, ◌/◌, ◌%�
 ghost use Rattle.hash_laws.specs.Exactly.{ExactlyTexts};
 ghost use Rattle.hash_laws.specs.Text.{IsText};
 ghost use Rattle.hash_words.specs.Words.{le};
+ghost use Rattle.hash_rounds.proofs.RoundLemmas.{AreNWords};
 ghost use Rattle.hash_blocks.specs.Blocks.{blocks, tail};
 ghost use Rattle.block_laws.specs.BlockFacts.{blocks_before, IsBlock};
 ghost use Rattle.hash_xxhash.specs.Xxh32.{after_block, fours_in, start, words_of, xxh32};
-ghost use Rattle.block_laws.specs.Xxh32Back.{byte_out, four_between, four_out, lane_back, lane_for, lane_out, last_unmix, rest_out, turn_of, unturned, word_between};
+ghost use Rattle.block_laws.specs.Xxh32Back.{before_block, byte_out, four_between, four_out, lane_back, lane_for, lane_out, last_unmix, rest_out, turn_of, unturned, word_between};
 
 use hash_words::{le_four, rotl32};
 use hash_xxhash::at_32::{Q2, Q3, Q5, after_block, converged, four_in, start, words_of};
@@ -103,8 +104,39 @@ fn lanes_after(lanes: &[u32; 4], text: &[u8]) -> [u32; 4]
     after
 }
 
+// A lane before one word.
+#[inline(always)]
+#[tactic(auto, unfolding(crate::specs::Xxh32Back::lane_out))]
+fn lane_out(lane: u32, word: u32) -> u32
+    ensures { result ≡ lane_out lane word }
+{
+    unturned(19, UN_Q1, lane).wrapping_sub(word.wrapping_mul(Q2))
+}
+
+// The lanes before a block.
+#[tactic(auto, unfolding(crate::specs::Xxh32Back::before_block))]
+fn before_block(lanes: &[u32; 4], block: &[u8; 16]) -> [u32; 4]
+    ensures { result ≡ before_block lanes.now block.now }
+{
+    let words = words_of(block);
+    [
+        lane_out(lanes[0], words[0]),
+        lane_out(lanes[1], words[1]),
+        lane_out(lanes[2], words[2]),
+        lane_out(lanes[3], words[3]),
+    ]
+}
+
+/// Takes a block of XXH32 out of its four lanes again, whether or not it was taken in: the inverse of that, both ways.
+pub fn xxh32_block_out(lanes: &[u32; 4], block: &[u8; 16]) -> [u32; 4]
+    ensures back { after_block result block.now ≡ lanes.now }
+    ensures undone { (s : List ℕ) → AreNWords 32 4 s → after_block s block.now ≡ lanes.now → result ≡ s }
+{
+    before_block(lanes, block)
+}
+
 // The lane of a place before the whole blocks of a text.
-#[tactic(auto, unfolding(crate::specs::Xxh32Back::lane_out, crate::specs::BlockFacts::blocks_before, hash_words::specs::Pieces::pieces))]
+#[tactic(auto, unfolding(crate::specs::BlockFacts::blocks_before, hash_words::specs::Pieces::pieces))]
 fn lane_back(place: usize, lane: u32, text: &[u8]) -> u32
     requires { place < 4 }
     ensures { result ≡ lane_back place lane text.now }
@@ -112,7 +144,7 @@ fn lane_back(place: usize, lane: u32, text: &[u8]) -> u32
     let (whole, _) = text.as_chunks::<16>();
     let mut before = lane;
     for block in whole.iter().rev() {
-        before = unturned(19, UN_Q1, before).wrapping_sub(words_of(block)[place].wrapping_mul(Q2));
+        before = lane_out(before, words_of(block)[place]);
     }
     before
 }

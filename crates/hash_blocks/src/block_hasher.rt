@@ -83,19 +83,29 @@ impl<R: BlockRule<N>, const N: usize> BlockHasher<R, N> {
     {
         if text.len() < N {
             R::finish(&R::start(seed), text, text.len() as u64)
+        } else if N == 4 {
+            Self::hash_of_blocks(text, seed)
         } else {
-            Self::hash_of_blocks(seed, text)
+            Self::hash_of_many(text, seed)
         }
     }
 
-    // The same of a longer text. It is not inlined: a short text would save the registers of its loop too.
-    #[inline(never)]
-    fn hash_of_blocks(seed: R::Seed, text: &[u8]) -> R::Hash
+    // The same by the blocks.
+    #[inline(always)]
+    fn hash_of_blocks(text: &[u8], seed: R::Seed) -> R::Hash
         ensures { result ≡ R.hash (R.numbers seed) text.now }
     {
         let mut state = R::start(seed);
         let left = blocks_in::<R, N>(&mut state, text);
         R::finish(&state, left, text.len() as u64)
+    }
+
+    // The same where the loop keeps more than a word: if it were inlined, a short text would save its registers too.
+    #[inline(never)]
+    fn hash_of_many(text: &[u8], seed: R::Seed) -> R::Hash
+        ensures { result ≡ R.hash (R.numbers seed) text.now }
+    {
+        Self::hash_of_blocks(text, seed)
     }
 }
 

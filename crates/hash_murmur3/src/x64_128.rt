@@ -3,7 +3,7 @@ ghost use Rattle.std.specs.Prelude.{◌≡◌, ◌*◌, ◌^◌, ◌<◌, [], �
 ghost use Rattle.std.proofs.Common.{lit<};
 ghost use Rattle.hash_laws.specs.Text.{joined};
 ghost use Rattle.hash_words.specs.Words.{le};
-ghost use Rattle.hash_murmur3.specs.Murmur3x128.{scrambled, turned, after_words, after_block, crossed, folded, last_mix, ended, murmur3_128};
+ghost use Rattle.hash_murmur3.specs.Murmur3x128.{scrambled, scramble1, scramble2, turned, after_words, after_block, crossed, folded, last_mix, ended, murmur3_128};
 ghost use Rattle.hash_murmur3.specs.Murmur3x128Laws.{total_wraps};
 
 use hash_blocks::{BlockHasher, BlockRule, WideRule, le_eight};
@@ -81,17 +81,31 @@ pub fn words_left(left: &[u8]) -> (u64, u64)
     (le_eight(first), le_eight(second))
 }
 
+// What is left behind the blocks as two words more. Mostly nothing is.
+#[inline(always)]
+#[tactic(auto, unfolding(crate::specs::Murmur3x128::scrambled))]
+fn scrambled_rest(left: &[u8]) -> (u64, u64)
+    requires { length left.now < 16 }
+    ensures first { result.0 ≡ scramble1 (le (take 8 left.now)) }
+    ensures second { result.1 ≡ scramble2 (le (drop 8 left.now)) }
+{
+    match left {
+        [] => (0, 0),
+        _ => {
+            let (k1, k2) = words_left(left);
+            (scrambled::<31>(C1, C2, k1), scrambled::<33>(C2, C1, k2))
+        }
+    }
+}
+
 // The two words before the last mix.
 #[inline(always)]
 fn folded(h: (u64, u64), left: &[u8], total: u64) -> (u64, u64)
     requires { length left.now < 16 }
     ensures { result ≡ folded h left.now total }
 {
-    let (k1, k2) = words_left(left);
-    (
-        h.0 ^ scrambled::<31>(C1, C2, k1) ^ total,
-        h.1 ^ scrambled::<33>(C2, C1, k2) ^ total,
-    )
+    let rest = scrambled_rest(left);
+    (h.0 ^ rest.0 ^ total, h.1 ^ rest.1 ^ total)
 }
 
 /// The rule of MurmurHash3_x64_128.

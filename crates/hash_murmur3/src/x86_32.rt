@@ -1,7 +1,8 @@
 //! MurmurHash3_x86_32.
-ghost use Rattle.std.specs.Prelude.{◌≡◌, ◌%◌, ◌^◌, ◌<◌, [], ◌∷◌, slice_index, refl};
+ghost use Rattle.std.specs.Prelude.{◌≡◌, ◌%◌, ◌^◌, ◌<◌, [], ◌∷◌, length, slice_index, refl};
 ghost use Rattle.std.proofs.Common.{lit<};
 ghost use Rattle.hash_laws.specs.Text.{joined};
+ghost use Rattle.hash_words.specs.Words.{le};
 ghost use Rattle.hash_murmur3.specs.Murmur3.{scramble, after_word, last_mix, after_block, ended, murmur3_32};
 ghost use Rattle.hash_murmur3.specs.Murmur3Laws.{total_wraps};
 
@@ -15,6 +16,19 @@ pub fn scramble(word: u32) -> u32
     ensures { result ≡ scramble word }
 {
     rotl32_by::<15>(word.wrapping_mul(0xcc9e2d51)).wrapping_mul(0x1b873593)
+}
+
+// What is left behind the words as one word more. Mostly nothing is.
+#[inline(always)]
+#[tactic(auto, unfolding(crate::specs::Murmur3::scramble))]
+fn scrambled_rest(left: &[u8]) -> u32
+    requires { length left.now < 4 }
+    ensures { result ≡ scramble (le left.now) }
+{
+    match left {
+        [] => 0,
+        _ => scramble(le32(left)),
+    }
 }
 
 // The state after one word.
@@ -80,7 +94,7 @@ impl BlockRule<4> for Murmur3Rule32 {
 
     #[inline(always)]
     fn finish(state: &u32, left: &[u8], total: u64) -> u32 {
-        last_mix(*state ^ scramble(le32(left)) ^ (total % 0x1_0000_0000) as u32)
+        last_mix(*state ^ scrambled_rest(left) ^ (total % 0x1_0000_0000) as u32)
     }
 
     #[inline(always)]

@@ -1,10 +1,11 @@
 //! A random key, and the hashers under it.
-ghost use Rattle.std.specs.Prelude.{◌≡◌, []};
-ghost use Rattle.hash_blocks.specs.Blocks.{position};
-ghost use Rattle.hash_siphash.specs.SipHash.{after_block, start};
+ghost use Rattle.std.specs.Prelude.{◌≡◌, [], fold};
+ghost use Rattle.std.specs.List.{concat};
+ghost use Rattle.hash_blocks.specs.Blocks.{after, position};
+ghost use Rattle.hash_siphash.specs.SipHash.{after_block, ended, siphash, start};
 
 use crate::siphash::{SipHasher13, SipKey};
-use std::hash::BuildHasher;
+use std::hash::{BuildHasher, Hash, Hasher};
 use std::io;
 use std::random::RandomSource;
 
@@ -44,5 +45,18 @@ impl BuildHasher for SipKeys {
     #[inline(always)]
     fn build_hasher(&self) -> SipHasher13 {
         SipHasher13::new(self.key)
+    }
+
+    /// The hash of a key of the map: SipHash-1-3 of the bytes that std feeds, joined, under this key.
+    #[inline(always)]
+    fn hash_one<T: Hash + Drop>(&self, x: T) -> u64
+        ensures std { let key = self.now.key in
+            let at = fold (after 8 (after_block 1)) (position 8 (after_block 1) (start key.k0 key.k1) []) (T.hash_input x) in
+            result ≡ ended 1 3 at.state at.left at.total }
+        ensures defined { result ≡ siphash 1 3 self.now.key.k0 self.now.key.k1 (concat (T.hash_input x)) }
+    {
+        let mut hasher = SipHasher13::new(self.key);
+        x.hash(&mut hasher);
+        hasher.finish()
     }
 }

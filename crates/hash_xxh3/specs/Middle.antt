@@ -29,7 +29,7 @@ add_ends seed text sum i =
 unfoldable pub of_128 : ℕ → List ℕ → ℕ
 of_128 seed text = avalanche (fold (add_ends seed text) (length_word (length text)) (0 ∷ 1 ∷ 2 ∷ 3 ∷ []))
 
--- 129 to 240 bytes: piece i, where the text has so many; the first eight, and in a sum of their own the last 16 bytes and the others
+-- 129 to 240 bytes: piece i, where the text has so many; the first eight, and behind a mix of their sum the last 16 bytes and the others
 unfoldable pub add_nth : ℕ → List ℕ → (sum i key : ℕ) → ℕ
 add_nth seed text sum i key = if nat_lt (length text) (16 * i + 16) then sum else add_piece seed text sum (16 * i) key
 
@@ -41,4 +41,4 @@ other_pieces seed text start = fold (λ sum i. add_nth seed text sum i (16 * i -
 
 unfoldable pub of_240 : ℕ → List ℕ → ℕ
 of_240 seed text =
-    avalanche (add 64 (avalanche (first_pieces seed text)) (other_pieces seed text (mix_piece seed text (length text - 16) 119)))
+    avalanche (other_pieces seed text (add 64 (avalanche (first_pieces seed text)) (mix_piece seed text (length text - 16) 119)))

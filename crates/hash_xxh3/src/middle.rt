@@ -83,7 +83,7 @@ fn whole_128(seed: u64, text: &[u8]) -> u64
 
 // The same under a seed that the compiler does not know, and under none.
 #[inline(never)]
-fn seeded_128(seed: u64, text: &[u8]) -> u64
+fn seeded_128(text: &[u8], seed: u64) -> u64
     requires some { 17 ≤ length text.now }
     requires few { length text.now < 129 }
     ensures { result ≡ of_128 seed text.now }
@@ -110,7 +110,7 @@ pub(crate) fn of_128(seed: u64, text: &[u8]) -> u64
     if seed == 0 {
         unseeded_128(text)
     } else {
-        seeded_128(seed, text)
+        seeded_128(text, seed)
     }
 }
 
@@ -161,12 +161,12 @@ fn whole_240(seed: u64, text: &[u8]) -> u64
 {
     let last = mix_piece(seed, text, text.len() - 16, 119);
     let first = avalanche(first_pieces(seed, text));
-    avalanche(first.wrapping_add(other_pieces(seed, text, last)))
+    avalanche(other_pieces(seed, text, first.wrapping_add(last)))
 }
 
 // The same under a seed that the compiler does not know, and under none.
 #[inline(never)]
-fn seeded_240(seed: u64, text: &[u8]) -> u64
+fn seeded_240(text: &[u8], seed: u64) -> u64
     requires some { 129 ≤ length text.now }
     requires few { length text.now < 241 }
     ensures { result ≡ of_240 seed text.now }
@@ -193,6 +193,6 @@ pub(crate) fn of_240(seed: u64, text: &[u8]) -> u64
     if seed == 0 {
         unseeded_240(text)
     } else {
-        seeded_240(seed, text)
+        seeded_240(text, seed)
     }
 }

@@ -245,7 +245,7 @@ fn add_pair(seed: u64, text: &[u8], sums: (u64, u64), i: usize) -> (u64, u64)
 
 #[inline(never)]
 #[tactic(auto, unfolding(crate::specs::Wide::wide_128))]
-fn wide_128(seed: u64, text: &[u8]) -> (u64, u64)
+fn wide_128(text: &[u8], seed: u64) -> (u64, u64)
     requires some { 17 ≤ length text.now }
     requires few { length text.now < 129 }
     ensures { result ≡ wide_128 seed text.now }
@@ -283,7 +283,7 @@ fn other_pairs(seed: u64, text: &[u8], start: (u64, u64)) -> (u64, u64)
 
 #[inline(never)]
 #[tactic(auto, unfolding(crate::specs::Wide::wide_240))]
-fn wide_240(seed: u64, text: &[u8]) -> (u64, u64)
+fn wide_240(text: &[u8], seed: u64) -> (u64, u64)
     requires some { 129 ≤ length text.now }
     requires few { length text.now < 241 }
     ensures { result ≡ wide_240 seed text.now }
@@ -366,9 +366,9 @@ pub(crate) fn wide_kept(seed: u64, text: &[u8]) -> (u64, u64)
     if text.len() < 17 {
         wide_short(seed, text)
     } else if text.len() < 129 {
-        wide_128(seed, text)
+        wide_128(text, seed)
     } else {
-        wide_240(seed, text)
+        wide_240(text, seed)
     }
 }
 
@@ -381,9 +381,9 @@ pub fn xxh3_128(seed: u64, text: &[u8]) -> (u64, u64)
     if text.len() < 17 {
         wide_short(seed, text)
     } else if text.len() < 129 {
-        wide_128(seed, text)
+        wide_128(text, seed)
     } else if text.len() < 241 {
-        wide_240(seed, text)
+        wide_240(text, seed)
     } else {
         wide_long(seed, text)
     }

@@ -18,7 +18,7 @@ use hash_windows::window::differ_in_one_block;
 /// differ: OnTrue result ((from : List ℕ) → R.is_seed from → R.hash from x.now ≢ R.hash from y.now)
 /// ```
 #[inline]
-pub fn apart_by_block<R: BlockUndo<N>, const N: usize>(x: &[u8], y: &[u8]) -> bool {
+pub fn apart_by_rule<R: BlockUndo<N>, const N: usize>(x: &[u8], y: &[u8]) -> bool {
     differ_in_one_block::<N>(x, y)
 }
 
@@ -56,7 +56,7 @@ fn blocks_out<R: BlockUndo<N>, const N: usize>(hash: R::Hash, bytes: &[u8], tota
 ///     → R.hash (R.numbers seed) (front.now ++ (block ++ back.now)) ≡ hash → block ≡ result
 /// ```
 #[inline]
-pub fn block_for<R: BlockUndo<N>, const N: usize>(
+pub fn block_for_by_rule<R: BlockUndo<N>, const N: usize>(
     seed: R::Seed,
     front: &[u8],
     back: &[u8],

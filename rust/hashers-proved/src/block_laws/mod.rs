@@ -13,13 +13,14 @@ mod xxhash;
 
 pub use block_undo::BlockUndo;
 pub use by_rule::{
-    apart_by_block, block_for, block_out, state_behind,
+    apart_by_rule, block_for_by_rule, block_out,
+    state_behind,
 };
 pub use murmur3::{
     apart_by_block_murmur3_128, apart_by_word_murmur3_32, block_for_murmur3_128,
     word_for_murmur3_32,
 };
-pub use xxh32::{word_for_xxh32};
+pub use xxh32::{word_for_xxh32, xxh32_block_out};
 pub use xxhash::{
     apart_by_word_xxh32, apart_by_word_xxh64,
     word_for_xxh64, xxh64_block_out,

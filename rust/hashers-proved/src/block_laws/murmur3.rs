@@ -3,7 +3,7 @@
 // What follows is the proved text of crates/block_laws/src/murmur3.rt without its contracts.
 use crate::hash_murmur3;
 
-use crate::block_laws::by_rule::{apart_by_block, block_for};
+use crate::block_laws::by_rule::{apart_by_rule, block_for_by_rule};
 use hash_murmur3::{Murmur3Rule32, Murmur3Rule128};
 
 /// Whether the texts have one length and differ, but only within one word: four bytes from a place that 4 divides, or the up to
@@ -18,7 +18,7 @@ use hash_murmur3::{Murmur3Rule32, Murmur3Rule128};
 /// ```
 #[inline]
 pub fn apart_by_word_murmur3_32(x: &[u8], y: &[u8]) -> bool {
-    apart_by_block::<Murmur3Rule32, 4>(x, y)
+    apart_by_rule::<Murmur3Rule32, 4>(x, y)
 }
 
 /// The one word between a front, whose length 4 divides, and a back that leads MurmurHash3_x86_32 to a hash, under a seed.
@@ -39,7 +39,7 @@ pub fn apart_by_word_murmur3_32(x: &[u8], y: &[u8]) -> bool {
 /// ```
 #[inline]
 pub fn word_for_murmur3_32(seed: u32, front: &[u8], back: &[u8], hash: u32) -> [u8; 4] {
-    block_for::<Murmur3Rule32, 4>(seed, front, back, hash)
+    block_for_by_rule::<Murmur3Rule32, 4>(seed, front, back, hash)
 }
 
 /// Whether the texts have one length and differ, but only within one block of sixteen bytes from a place that 16 divides, or
@@ -55,7 +55,7 @@ pub fn word_for_murmur3_32(seed: u32, front: &[u8], back: &[u8], hash: u32) -> [
 /// ```
 #[inline]
 pub fn apart_by_block_murmur3_128(x: &[u8], y: &[u8]) -> bool {
-    apart_by_block::<Murmur3Rule128, 16>(x, y)
+    apart_by_rule::<Murmur3Rule128, 16>(x, y)
 }
 
 /// The one block between a front, whose length 16 divides, and a back that leads MurmurHash3_x64_128 to a hash, under a seed.
@@ -76,5 +76,5 @@ pub fn apart_by_block_murmur3_128(x: &[u8], y: &[u8]) -> bool {
 /// ```
 #[inline]
 pub fn block_for_murmur3_128(seed: u64, front: &[u8], back: &[u8], hash: (u64, u64)) -> [u8; 16] {
-    block_for::<Murmur3Rule128, 16>(seed, front, back, hash)
+    block_for_by_rule::<Murmur3Rule128, 16>(seed, front, back, hash)
 }

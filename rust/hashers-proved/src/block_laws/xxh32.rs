@@ -123,6 +123,47 @@ fn lanes_after(lanes: &[u32; 4], text: &[u8]) -> [u32; 4] {
     after
 }
 
+// A lane before one word.
+/// Proved:
+///
+/// ```text
+/// result ≡ lane_out lane word
+/// ```
+#[inline(always)]
+fn lane_out(lane: u32, word: u32) -> u32 {
+    unturned(19, UN_Q1, lane).wrapping_sub(word.wrapping_mul(Q2))
+}
+
+// The lanes before a block.
+/// Proved:
+///
+/// ```text
+/// result ≡ before_block lanes.now block.now
+/// ```
+#[inline]
+fn before_block(lanes: &[u32; 4], block: &[u8; 16]) -> [u32; 4] {
+    let words = words_of(block);
+    [
+        lane_out(lanes[0], words[0]),
+        lane_out(lanes[1], words[1]),
+        lane_out(lanes[2], words[2]),
+        lane_out(lanes[3], words[3]),
+    ]
+}
+
+/// Takes a block of XXH32 out of its four lanes again, whether or not it was taken in: the inverse of that, both ways.
+///
+/// Proved:
+///
+/// ```text
+/// back: after_block result block.now ≡ lanes.now
+/// undone: (s : List ℕ) → AreNWords 32 4 s → after_block s block.now ≡ lanes.now → result ≡ s
+/// ```
+#[inline]
+pub fn xxh32_block_out(lanes: &[u32; 4], block: &[u8; 16]) -> [u32; 4] {
+    before_block(lanes, block)
+}
+
 // The lane of a place before the whole blocks of a text.
 /// The caller has to see to it that:
 ///
@@ -140,7 +181,7 @@ fn lane_back(place: usize, lane: u32, text: &[u8]) -> u32 {
     let (whole, _) = text.as_chunks::<16>();
     let mut before = lane;
     for block in whole.iter().rev() {
-        before = unturned(19, UN_Q1, before).wrapping_sub(words_of(block)[place].wrapping_mul(Q2));
+        before = lane_out(before, words_of(block)[place]);
     }
     before
 }

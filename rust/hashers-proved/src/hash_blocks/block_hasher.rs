@@ -76,22 +76,35 @@ impl<R: BlockRule<N>, const N: usize> BlockHasher<R, N> {
     pub fn hash_of(seed: R::Seed, text: &[u8]) -> R::Hash {
         if text.len() < N {
             R::finish(&R::start(seed), text, text.len() as u64)
+        } else if N == 4 {
+            Self::hash_of_blocks(text, seed)
         } else {
-            Self::hash_of_blocks(seed, text)
+            Self::hash_of_many(text, seed)
         }
     }
 
-    // The same of a longer text. It is not inlined: a short text would save the registers of its loop too.
+    // The same by the blocks.
+    /// Proved:
+    ///
+    /// ```text
+    /// result ≡ R.hash (R.numbers seed) text.now
+    /// ```
+    #[inline(always)]
+    fn hash_of_blocks(text: &[u8], seed: R::Seed) -> R::Hash {
+        let mut state = R::start(seed);
+        let left = blocks_in::<R, N>(&mut state, text);
+        R::finish(&state, left, text.len() as u64)
+    }
+
+    // The same where the loop keeps more than a word: if it were inlined, a short text would save its registers too.
     /// Proved:
     ///
     /// ```text
     /// result ≡ R.hash (R.numbers seed) text.now
     /// ```
     #[inline(never)]
-    fn hash_of_blocks(seed: R::Seed, text: &[u8]) -> R::Hash {
-        let mut state = R::start(seed);
-        let left = blocks_in::<R, N>(&mut state, text);
-        R::finish(&state, left, text.len() as u64)
+    fn hash_of_many(text: &[u8], seed: R::Seed) -> R::Hash {
+        Self::hash_of_blocks(text, seed)
     }
 }
 

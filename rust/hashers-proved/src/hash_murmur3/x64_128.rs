@@ -110,6 +110,30 @@ pub fn words_left(left: &[u8]) -> (u64, u64) {
     (le_eight(first), le_eight(second))
 }
 
+// What is left behind the blocks as two words more. Mostly nothing is.
+/// The caller has to see to it that:
+///
+/// ```text
+/// length left.now < 16
+/// ```
+///
+/// Proved:
+///
+/// ```text
+/// first: result.0 ≡ scramble1 (le (take 8 left.now))
+/// second: result.1 ≡ scramble2 (le (drop 8 left.now))
+/// ```
+#[inline(always)]
+fn scrambled_rest(left: &[u8]) -> (u64, u64) {
+    match left {
+        [] => (0, 0),
+        _ => {
+            let (k1, k2) = words_left(left);
+            (scrambled::<31>(C1, C2, k1), scrambled::<33>(C2, C1, k2))
+        }
+    }
+}
+
 // The two words before the last mix.
 /// The caller has to see to it that:
 ///
@@ -124,11 +148,8 @@ pub fn words_left(left: &[u8]) -> (u64, u64) {
 /// ```
 #[inline(always)]
 fn folded(h: (u64, u64), left: &[u8], total: u64) -> (u64, u64) {
-    let (k1, k2) = words_left(left);
-    (
-        h.0 ^ scrambled::<31>(C1, C2, k1) ^ total,
-        h.1 ^ scrambled::<33>(C2, C1, k2) ^ total,
-    )
+    let rest = scrambled_rest(left);
+    (h.0 ^ rest.0 ^ total, h.1 ^ rest.1 ^ total)
 }
 
 /// The rule of MurmurHash3_x64_128.

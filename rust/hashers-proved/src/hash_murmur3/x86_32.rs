@@ -18,6 +18,26 @@ pub fn scramble(word: u32) -> u32 {
     rotl32_by::<15>(word.wrapping_mul(0xcc9e2d51)).wrapping_mul(0x1b873593)
 }
 
+// What is left behind the words as one word more. Mostly nothing is.
+/// The caller has to see to it that:
+///
+/// ```text
+/// length left.now < 4
+/// ```
+///
+/// Proved:
+///
+/// ```text
+/// result ≡ scramble (le left.now)
+/// ```
+#[inline(always)]
+fn scrambled_rest(left: &[u8]) -> u32 {
+    match left {
+        [] => 0,
+        _ => scramble(le32(left)),
+    }
+}
+
 // The state after one word.
 /// Proved:
 ///
@@ -71,7 +91,7 @@ impl BlockRule<4> for Murmur3Rule32 {
 
     #[inline(always)]
     fn finish(state: &u32, left: &[u8], total: u64) -> u32 {
-        last_mix(*state ^ scramble(le32(left)) ^ (total % 0x1_0000_0000) as u32)
+        last_mix(*state ^ scrambled_rest(left) ^ (total % 0x1_0000_0000) as u32)
     }
 
     #[inline(always)]

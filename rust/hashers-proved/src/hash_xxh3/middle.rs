@@ -134,7 +134,7 @@ fn whole_128(seed: u64, text: &[u8]) -> u64 {
 /// result ≡ of_128 seed text.now
 /// ```
 #[inline(never)]
-fn seeded_128(seed: u64, text: &[u8]) -> u64 {
+fn seeded_128(text: &[u8], seed: u64) -> u64 {
     whole_128(seed, text)
 }
 
@@ -174,7 +174,7 @@ pub(crate) fn of_128(seed: u64, text: &[u8]) -> u64 {
     if seed == 0 {
         unseeded_128(text)
     } else {
-        seeded_128(seed, text)
+        seeded_128(text, seed)
     }
 }
 
@@ -245,7 +245,7 @@ fn other_pieces(seed: u64, text: &[u8], start: u64) -> u64 {
 fn whole_240(seed: u64, text: &[u8]) -> u64 {
     let last = mix_piece(seed, text, text.len() - 16, 119);
     let first = avalanche(first_pieces(seed, text));
-    avalanche(first.wrapping_add(other_pieces(seed, text, last)))
+    avalanche(other_pieces(seed, text, first.wrapping_add(last)))
 }
 
 // The same under a seed that the compiler does not know, and under none.
@@ -262,7 +262,7 @@ fn whole_240(seed: u64, text: &[u8]) -> u64 {
 /// result ≡ of_240 seed text.now
 /// ```
 #[inline(never)]
-fn seeded_240(seed: u64, text: &[u8]) -> u64 {
+fn seeded_240(text: &[u8], seed: u64) -> u64 {
     whole_240(seed, text)
 }
 
@@ -302,6 +302,6 @@ pub(crate) fn of_240(seed: u64, text: &[u8]) -> u64 {
     if seed == 0 {
         unseeded_240(text)
     } else {
-        seeded_240(seed, text)
+        seeded_240(text, seed)
     }
 }

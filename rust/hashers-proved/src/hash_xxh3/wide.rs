@@ -355,7 +355,7 @@ fn add_pair(seed: u64, text: &[u8], sums: (u64, u64), i: usize) -> (u64, u64) {
 /// result ≡ wide_128 seed text.now
 /// ```
 #[inline(never)]
-fn wide_128(seed: u64, text: &[u8]) -> (u64, u64) {
+fn wide_128(text: &[u8], seed: u64) -> (u64, u64) {
     let inmost = add_pair(seed, text, (length_word(text.len() as u64), 0), 3);
     let third = add_pair(seed, text, inmost, 2);
     let second = add_pair(seed, text, third, 1);
@@ -416,7 +416,7 @@ fn other_pairs(seed: u64, text: &[u8], start: (u64, u64)) -> (u64, u64) {
 /// result ≡ wide_240 seed text.now
 /// ```
 #[inline(never)]
-fn wide_240(seed: u64, text: &[u8]) -> (u64, u64) {
+fn wide_240(text: &[u8], seed: u64) -> (u64, u64) {
     let first = first_pairs(seed, text);
     let others = other_pairs(seed, text, (avalanche(first.0), avalanche(first.1)));
     let len = text.len();
@@ -538,9 +538,9 @@ pub(crate) fn wide_kept(seed: u64, text: &[u8]) -> (u64, u64) {
     if text.len() < 17 {
         wide_short(seed, text)
     } else if text.len() < 129 {
-        wide_128(seed, text)
+        wide_128(text, seed)
     } else {
-        wide_240(seed, text)
+        wide_240(text, seed)
     }
 }
 
@@ -556,9 +556,9 @@ pub fn xxh3_128(seed: u64, text: &[u8]) -> (u64, u64) {
     if text.len() < 17 {
         wide_short(seed, text)
     } else if text.len() < 129 {
-        wide_128(seed, text)
+        wide_128(text, seed)
     } else if text.len() < 241 {
-        wide_240(seed, text)
+        wide_240(text, seed)
     } else {
         wide_long(seed, text)
     }

@@ -5,5 +5,5 @@ use Rattle.block_laws.proofs.murmur3.apart_by_block_murmur3_128.Goals as goal
 
 pub returns-clause-differ : goal.returns-clause-differ
 returns-clause-differ c =
-    OnTrue_from c.apart_by_block.result ((seed : ℕ) → seed < 2 ^ 64 → murmur3_128 seed c.args.x.now ≢ murmur3_128 seed c.args.y.now)
-    (λ yes seed seed_in. OnTrue_at yes c.apart_by_block.ensures.differ (seed ∷ []) seed_in)
+    OnTrue_from c.apart_by_rule.result ((seed : ℕ) → seed < 2 ^ 64 → murmur3_128 seed c.args.x.now ≢ murmur3_128 seed c.args.y.now)
+    (λ yes seed seed_in. OnTrue_at yes c.apart_by_rule.ensures.differ (seed ∷ []) seed_in)

@@ -1,4 +1,4 @@
-use Rattle.std.proofs.Common.{◌-◌, [], ◌∷◌, refl}
+use Rattle.std.proofs.Common.{[], ◌∷◌, refl}
 use Rattle.block_laws.proofs.Words32.{around}
 use Rattle.block_laws.proofs.xxh32.block_around.Goals as goal
 

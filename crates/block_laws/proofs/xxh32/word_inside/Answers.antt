@@ -3,7 +3,7 @@ use Rattle.std.specs.Int.{w32, to_le_bytes}
 use Rattle.hash_laws.proofs.TextLemmas.{IsText-from_slice}
 use Rattle.hash_words.specs.Words.{add, sub}
 use Rattle.hash_blocks.specs.Blocks.{blocks, tail}
-use Rattle.hash_xxhash.specs.Xxh32.{start, after_block}
+use Rattle.hash_xxhash.specs.Xxh32.{after_block}
 use Rattle.block_laws.specs.Xxh32Back.{lane_back, lane_for, rest_out, word_between}
 use Rattle.block_laws.proofs.Words32.{bytes-block, inside-leads-from}
 use Rattle.block_laws.proofs.xxh32.word_inside.Goals as goal

@@ -2,7 +2,7 @@ use Rattle.std.proofs.Common.{ℕ, List, ◌≢◌}
 use Rattle.std.proofs.lemmas.Bool.{OnTrue_from}
 use Rattle.hash_laws.proofs.TextLemmas.{IsText-from_slice}
 use Rattle.block_laws.proofs.BlockLemmas.{differ-shows}
-use Rattle.block_laws.proofs.by_rule.apart_by_block.Goals as goal
+use Rattle.block_laws.proofs.by_rule.apart_by_rule.Goals as goal
 
 pub differ_in_one_block-requires : goal.differ_in_one_block-requires
 differ_in_one_block-requires g c = g.met.R.BlockRule.some

@@ -1,5 +1,5 @@
 use Rattle.block_laws.proofs.BlockLemmas.{differ-shows}
-use Rattle.block_laws.proofs.by_rule.one_changed_block_shows.Goals as goal
+use Rattle.block_laws.proofs.by_rule.one_changed_block_shows_by_rule.Goals as goal
 
 pub returns : goal.returns
 returns g c = λ from x y seed xs ys differ same.

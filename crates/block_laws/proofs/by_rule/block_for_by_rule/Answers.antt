@@ -1,7 +1,7 @@
 use Rattle.std.proofs.Common.{◌+◌, length, refl}
 use Rattle.hash_laws.proofs.TextLemmas.{IsText-from_slice}
 use Rattle.block_laws.proofs.BlockLemmas.{leads-from, alone-from}
-use Rattle.block_laws.proofs.by_rule.block_for.Goals as goal
+use Rattle.block_laws.proofs.by_rule.block_for_by_rule.Goals as goal
 
 pub returns-clause-leads : goal.returns-clause-leads
 returns-clause-leads g c =
