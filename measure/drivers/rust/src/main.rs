@@ -108,9 +108,13 @@ fn maps<K: Hash + Eq + Clone>(name: &str, keys: &[K]) {
         lookups::<K, ahash::AHasher>(keys),
         lookups::<K, DefaultHasher>(keys),
         lookups::<K, ours::keyed::Poly61Hasher>(keys),
+        lookups::<K, ours::blocks::Xxh64Hasher>(keys),
+        lookups::<K, ours::xxh3::Xxh3Hasher>(keys),
+        lookups::<K, ours::blocks::SipHasher13>(keys),
     ];
     let times = measure(&works, keys.len(), 20);
-    row(name, &[times[..3].to_vec(), times[3..7].to_vec(), times[7..8].to_vec(), times[8..9].to_vec(), times[9..].to_vec()]);
+    let alone = times[7..].iter().map(|time| vec![*time]);
+    row(name, &[times[..3].to_vec(), times[3..7].to_vec()].into_iter().chain(alone).collect::<Vec<_>>());
 }
 
 /// The hashes by poly61 at a key, which is taken modulo the prime at each call.
@@ -118,11 +122,18 @@ fn at_key(keys: &[u8], size: usize) -> u64 {
     keys.chunks_exact(size).fold(0, |all: u64, key| all.rotate_left(1) ^ ours::keyed::poly61(black_box(1234567890123456789), key))
 }
 
+/// The hashes by XXH3 in one call each, under a seed that the compiler doesn't know.
+fn xxh3_under_a_seed(keys: &[u8], size: usize) -> u64 {
+    keys.chunks_exact(size).fold(0, |all: u64, key| all.rotate_left(1) ^ ours::xxh3::xxh3_64(black_box(1234567890123456789), key))
+}
+
 /// A row for each hash that takes a key or seeds.
 fn under_keys() {
-    let all: [(&str, OfKeys); 4] = [
+    let all: [(&str, OfKeys); 6] = [
         ("poly61", at_key),
         ("spooky", inlined::<ours::jenkins::spooky_hash::SpookyHasher>),
+        ("xxh3", xxh3_under_a_seed),
+        ("siphash13", inlined::<ours::blocks::SipHasher13>),
         ("ahash", inlined::<ahash::AHasher>),
         ("SipHash of std", inlined::<DefaultHasher>),
     ];
@@ -219,9 +230,10 @@ fn main() {
     rows(&std::env::args().skip(2).collect::<Vec<_>>());
     println!();
     let numbers: Vec<u64> = bytes(8000).chunks_exact(8).map(|it| u64::from_le_bytes(it.try_into().unwrap())).collect();
-    let texts: Vec<String> = numbers.iter().map(|it| format!("{it:016x}")).collect();
     maps("u64", &numbers);
-    maps("16 letters", &texts);
+    for letters in [4, 16, 40] {
+        maps(&format!("{letters} letters"), &numbers.iter().map(|it| format!("{it:016x}").repeat(3)[..letters].to_string()).collect::<Vec<_>>());
+    }
     println!();
     under_keys();
     println!();
