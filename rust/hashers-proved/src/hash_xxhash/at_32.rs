@@ -4,7 +4,7 @@
 use crate::{hash_blocks, hash_words};
 
 use hash_blocks::{BlockHasher, BlockRule};
-use hash_words::{le_four, rotl32};
+use hash_words::{le_four, le_two, rotl32};
 
 /// The first of the five primes of XXH32.
 pub const Q1: u32 = 0x9E37_79B1;
@@ -56,7 +56,8 @@ pub fn start(seed: u32) -> [u32; 4] {
     ]
 }
 
-/// The four words of a block of XXH32.
+/// The four words of a block of XXH32, taken out of two of eight bytes: of four that are read alone LLVM makes a vector where the
+/// processor has a product of vectors, which takes ten cycles.
 ///
 /// Proved:
 ///
@@ -65,12 +66,13 @@ pub fn start(seed: u32) -> [u32; 4] {
 /// ```
 #[inline(always)]
 pub fn words_of(block: &[u8; 16]) -> [u32; 4] {
-    let (pieces, _) = block.as_chunks::<4>();
-    let mut words = [0; 4];
-    for i in 0..4 {
-        words[i] = le_four(&pieces[i]);
-    }
-    words
+    let (low, high) = le_two(block);
+    [
+        (low % 0x1_0000_0000) as u32,
+        (low / 0x1_0000_0000) as u32,
+        (high % 0x1_0000_0000) as u32,
+        (high / 0x1_0000_0000) as u32,
+    ]
 }
 
 /// The four lanes of XXH32 after a block.
