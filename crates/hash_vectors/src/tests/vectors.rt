@@ -50,12 +50,12 @@ const RISING: [u8; 32] = [
 const FALLING: [u8; 32] = [
     31, 30, 29, 28, 27, 26, 25, 24, 23, 22, 21, 20, 19, 18, 17, 16, 15, 14, 13, 12, 11, 10, 9, 8, 7, 6, 5, 4, 3, 2, 1, 0];
 
-/// From the original's tests and program; for SpookyHash from R's digest; for the CRCs from their catalogue and RFC 3720; for FNV-1 from its
-/// authors; for `djb2_add` and ELF's hash from tools for ELF; for joaat from Wikipedia; for XXH32, XXH64 and XXH3 from `xxhsum` and libxxhash;
-/// for MurmurHash3 from smhasher, Wikipedia and the Go package spaolacci/murmur3; for SipHash-1-3 from Rust's std and Python; for the
-/// polynomial from a program in Python.
+/// From the original's tests and program; for SpookyHash from R's digest; for the CRCs from their catalogue and RFC 3720; for FNV-1 from
+/// its authors; for `djb2_add` and ELF's hash from tools for ELF; for joaat from Wikipedia; for XXH32, XXH64 and XXH3 from `xxhsum` and
+/// libxxhash; for MurmurHash3 from smhasher, Wikipedia and the Go package spaolacci/murmur3; for SipHash from Rust's std, Python and
+/// OpenSSL; for the polynomial from a program in Python.
 #[rattlefmt::skip]
-const VECTORS: [Row; 151] = [
+const VECTORS: [Row; 152] = [
     ("fnv1a32", NONE, b"", 2166136261),
     ("fnv1a32", NONE, b"a", 3826002220),
     ("fnv1a64", NONE, b"", 14695981039346656037),
@@ -197,6 +197,7 @@ const VECTORS: [Row; 151] = [
     ("siphash13", NONE, b"a", 0x407448d2b89b1813),
     ("siphash13", NONE, b"hello", 0xe2e77b41cb4e1f9e),
     ("siphash13", NONE, FOX, 0x8df676d3d00c451e),
+    ("siphash24", NONE, b"", 0x1e924b9d737700d7),
     ("poly61", KEY61, b"", 6994358841706618899),
     ("poly61", KEY61, b"a", 17287142469843721647),
     ("poly61", KEY61, b"abcdef", 2284691803629617488),
