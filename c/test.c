@@ -152,7 +152,7 @@ static hashers_words two(hashers_words words) { return words; }
             at += part;                                                                                                                \
         }                                                                                                                              \
         copy = s;                                                                                                                      \
-        same_words(#finish, IN_WORDS(whole(text, n, __VA_ARGS__)), IN_WORDS(finish(&copy)));                                               \
+        same_words(#finish, IN_WORDS(whole(text, n, __VA_ARGS__)), IN_WORDS(finish(&copy)));                                           \
     }
 
 static void check_seeded(void) {
@@ -172,7 +172,7 @@ static void check_seeded(void) {
 #define WRITTEN UNDONE
 #define WHOLE UNDONE
 #define SEEDED(call, cuts, bits)                                                                                                       \
-    same(#call " under 0", call(text, 99), IN_WORDS(call##_seeded(text, 99, 0)).first);                                                 \
+    same(#call " under 0", call(text, 99), IN_WORDS(call##_seeded(text, 99, 0)).first);                                                \
     IN_PARTS(call, call##_seeded, call##_finish, (uint##bits##_t)seed)
 #define KEYED(call, cuts, bits)                                                                                                        \
     same(#call " under 0", call(text, 99), call##_keyed(text, 99, 0, 0));                                                              \
