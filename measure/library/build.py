@@ -107,6 +107,15 @@ def over_debian(driver):
     return os.path.join(target, "release", driver)
 
 
+def by_rustc(source):
+    """Has rustc build a driver in Rust that needs no crate, and answers its path."""
+    need("rustc", "rustc")
+    os.makedirs(TARGET, exist_ok=True)
+    made = os.path.join(TARGET, os.path.splitext(source)[0])
+    done(["rustc", "-O", "--edition", "2021", "-o", made, os.path.join(DRIVERS, source)])
+    return made
+
+
 def by_gcc(source, *words, wants):
     """Has gcc build a driver in C, which wants these packages, and answers its path."""
     need("gcc", "gcc")

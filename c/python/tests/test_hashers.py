@@ -327,6 +327,13 @@ class Hashes(unittest.TestCase):
                 exec(example, {})
             self.assertEqual(said.getvalue().strip(), example.strip().split("  # prints ")[1])
 
+    @unittest.skipUnless(hasattr(hashlib, "file_digest"), "hashlib has it from 3.11 on")
+    def test_files_by_hashlib(self) -> None:
+        file_digest: Any = getattr(hashlib, "file_digest")
+        for name in ("xxh128", "fnv1a64"):
+            digest = file_digest(io.BytesIO(TEXT), lambda: hashers.new(name)).digest()
+            self.assertEqual(digest, hashers.new(name, TEXT).digest())
+
     def test_the_page(self) -> None:
         # Each line of the page's example runs, and the literals behind # are what it gives.
         page = (C.parent / "docs" / "C.md").read_text(encoding="utf-8")

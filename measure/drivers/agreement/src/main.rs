@@ -1,5 +1,5 @@
 //! agreement NAME: each line of standard input is a text in hexadecimal, and each line of standard output its hash, in hexadecimal too, by
-//! that hasher of std or of the crates fnv and fxhash, in one write.
+//! that hasher of the crates fnv and fxhash, in one write.
 use std::hash::Hasher;
 use std::io::{self, BufRead};
 
@@ -17,7 +17,6 @@ fn main() {
     let name = std::env::args().nth(1).expect("a name");
     let of: fn(&[u8]) -> u64 = match name.as_str() {
         "FnvHasher" => hash::<fnv::FnvHasher>,
-        "DefaultHasher" => hash::<std::collections::hash_map::DefaultHasher>,
         "FxHasher" => hash::<fxhash::FxHasher>,
         "FxHasher32" => hash::<fxhash::FxHasher32>,
         "FxHasher64" => hash::<fxhash::FxHasher64>,

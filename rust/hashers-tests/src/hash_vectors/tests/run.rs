@@ -24,6 +24,6 @@ tests! {
     sums: lines_of_published_numbers lists_are_checked missing_files_are_skipped calls_end_by_the_table lines_of_other_programs
         lines_under_keys lines_under_a_key_of_siphash a_read_fails_at_each_byte a_write_fails_at_each_byte refused_memory;
     two_texts: two_texts two_words_and_two_lists texts_of_one_hash two_texts_of_one_hash_of_128_bits;
-    vectors: one_call two_writes texts_taken_out;
-    xxh3: hashes_as_libxxhash;
+    vectors: one_call two_writes as_the_authors_of_siphash as_smhasher texts_taken_out;
+    xxh3: hashes_as_libxxhash eight_bytes_are_blinded;
 }

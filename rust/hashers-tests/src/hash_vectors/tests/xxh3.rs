@@ -1,9 +1,10 @@
-//! XXH3 of texts of all short lengths and of a few long ones, as libxxhash says.
+//! XXH3 of texts of all short lengths and of a few long ones, as libxxhash says, and what XXH3 loses.
 
 // What follows is the proved text of crates/hash_vectors/src/tests/xxh3.rt without its contracts.
 use hashers_proved::hash_xxh3;
 use crate::shim::{HostRuntime, std};
 
+use crate::hash_vectors::tests::all_hold_at;
 use hash_xxh3::{xxh3_64, xxh3_128};
 
 /// Seeds, and what libxxhash 0.8.1 says under each of the texts of 0 to 1100 bytes and of the long ones, in that order: each hash is added
@@ -37,5 +38,34 @@ pub fn hashes_as_libxxhash(rt: HostRuntime) {
             both = with(with(both, low), high);
         }
         assert_eq!((sum, both), (wanted, wide), "under {seed}");
+    }
+}
+
+/// A text of 32 bytes that begins with these two words.
+#[inline]
+fn beginning(first: u64, second: u64) -> [u8; 32] {
+    let mut text = [7; 32];
+    text[..8].copy_from_slice(&first.to_le_bytes());
+    text[8..16].copy_from_slice(&second.to_le_bytes());
+    text
+}
+
+/// Behind the first word of the secret plus the seed the next eight bytes don't show; under another seed they do.
+#[inline]
+pub fn eight_bytes_are_blinded(rt: HostRuntime) {
+    for (turn, (seed, _, _)) in WANTED.iter().enumerate() {
+        let first = 0xbe4ba423396cfeb8u64.wrapping_add(*seed);
+        let (text, other) = (beginning(first, 0), beginning(first, 0x123456789abcdef));
+        let another = seed.wrapping_add(1);
+        all_hold_at(
+            &rt,
+            turn,
+            &[
+                text != other,
+                xxh3_64(*seed, &text) == xxh3_64(*seed, &other),
+                xxh3_64(*seed, &text) == xxh3_64(*seed, &beginning(first, u64::MAX)),
+                xxh3_64(another, &text) != xxh3_64(another, &other),
+            ],
+        );
     }
 }
