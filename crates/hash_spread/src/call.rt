@@ -163,12 +163,19 @@ pub fn settings_of(call: &Call<'_>) -> Result<Settings, Wrong>
     })
 }
 
+/// Whether a hash has the name, in letters of either case.
+fn is_called(kind: Kind, name: &[u8]) -> bool
+    ensures { result ≡ is_called name.now kind }
+{
+    kind.row().name.as_bytes().eq_ignore_ascii_case(name)
+}
+
 /// The first of these hashes that has the name, in letters of either case.
 fn first_called(kinds: &[Kind], name: &[u8]) -> Option<Kind>
     ensures { result ≡ find (is_called name.now) kinds.now }
 {
     for kind in kinds {
-        if kind.row().name.as_bytes().eq_ignore_ascii_case(name) {
+        if is_called(*kind, name) {
             return Some(*kind);
         }
     }

@@ -192,6 +192,18 @@ pub fn settings_of(call: &Call<'_>) -> Result<Settings, Wrong> {
     })
 }
 
+/// Whether a hash has the name, in letters of either case.
+///
+/// Proved:
+///
+/// ```text
+/// result ≡ is_called name.now kind
+/// ```
+#[inline]
+fn is_called(kind: Kind, name: &[u8]) -> bool {
+    kind.row().name.as_bytes().eq_ignore_ascii_case(name)
+}
+
 /// The first of these hashes that has the name, in letters of either case.
 ///
 /// Proved:
@@ -202,7 +214,7 @@ pub fn settings_of(call: &Call<'_>) -> Result<Settings, Wrong> {
 #[inline]
 fn first_called(kinds: &[Kind], name: &[u8]) -> Option<Kind> {
     for kind in kinds {
-        if kind.row().name.as_bytes().eq_ignore_ascii_case(name) {
+        if is_called(*kind, name) {
             return Some(*kind);
         }
     }
