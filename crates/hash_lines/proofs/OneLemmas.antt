@@ -8,10 +8,10 @@ use Rattle.hash_lines.specs.declared.line.Width.TheVariants as width
 use Rattle.hash_lines.specs.Escape.{escape}
 use Rattle.hash_lines.specs.Hex.{digit_value, hex_value, value_behind}
 use Rattle.hash_lines.specs.Line.{digits_of, name_shown, ShowsTagged, ShowsUntagged}
-use Rattle.hash_lines.specs.Told.{AreTags, IsTag}
+use Rattle.hash_lines.specs.Told.{AreTags, IsTag, Tells}
 use Rattle.hash_lines.proofs.EscapeLemmas.{first_rest, first_same, nothing_first}
 use Rattle.hash_lines.proofs.LineLemmas.{inner_is, last_is, same_begins, tagged_shown, untagged_shown}
-use Rattle.hash_lines.proofs.ShownLemmas.{ShowsBody, ShowsLine}
+use Rattle.hash_lines.proofs.ShownLemmas.{ShowsBody, ShowsLine, line_shows}
 
 -- texts that are escaped alike are the same
 escape_one : (name more : List ℕ) → escape name ≡ escape more → name ≡ more
@@ -171,19 +171,27 @@ no_backslash kinds default are kind name n rest (inr (default_is, untagged)) =
     let (digits, more, long, tell, is, behind) = front_digits (digits_of kind.width) n name (92 ∷ rest) untagged in
     digits_first digits more rest n (omega (arith, long, some_digits kind.width)) tell is
 
--- a line
-pub line_one : (kinds : List LineKind) (default : LineKind) → AreTags kinds default → (kind other : LineKind) (name more : List ℕ) (n m : ℕ)
+-- a line shows one name and number
+pub line_shows_one : (kinds : List LineKind) (default : LineKind) → AreTags kinds default → (kind other : LineKind) (name more : List ℕ) (n m : ℕ)
     (line : List ℕ) → ShowsLine kinds default kind name n line → ShowsLine kinds default other more m line
     → (kind ≡ other) × (name ≡ more) × (n ≡ m)
-line_one kinds default are kind other name more n m line (inl tells) (inl too) =
+line_shows_one kinds default are kind other name more n m line (inl tells) (inl too) =
     body_one kinds default are false kind other name more n m line tells too
-line_one kinds default are kind other name more n m line (inl tells) (inr (body, is, too)) =
+line_shows_one kinds default are kind other name more n m line (inl tells) (inr (body, is, too)) =
     absurd (no_backslash kinds default are kind name n body
     (subst (λ l. ShowsBody kinds default false kind name n l) (sym is) tells))
-line_one kinds default are kind other name more n m line (inr (body, is, tells)) (inl too) =
+line_shows_one kinds default are kind other name more n m line (inr (body, is, tells)) (inl too) =
     absurd (no_backslash kinds default are other more m body
     (subst (λ l. ShowsBody kinds default false other more m l) (sym is) too))
-line_one kinds default are kind other name more n m line (inr (body, is, tells)) (inr (body', is', too)) =
+line_shows_one kinds default are kind other name more n m line (inr (body, is, tells)) (inr (body', is', too)) =
     let same : body' ≡ body = let both : 92 ∷ body' ≡ 92 ∷ body = is' ∙ sym is in cc in
     body_one kinds default are true kind other name more n m body tells
     (subst (λ b. ShowsBody kinds default true other more m b) same too)
+
+-- and so tells one thing
+pub line_one : (kinds : List LineKind) (default : LineKind) → AreTags kinds default → (kind other : LineKind) (name more : List ℕ) (n m : ℕ)
+    (line : List ℕ) → Tells kinds default kind name n line → Tells kinds default other more m line
+    → (kind ≡ other) × (name ≡ more) × (n ≡ m)
+line_one kinds default are kind other name more n m line tells too =
+    line_shows_one kinds default are kind other name more n m line (line_shows kinds default kind name n line tells)
+    (line_shows kinds default other more m line too)
