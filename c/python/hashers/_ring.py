@@ -47,7 +47,7 @@ class Ring:
         if len(named) < len(weights):
             raise ValueError("two nodes have the same name")
         keys = sorted(named)
-        points = _ZERO * (2 * sum(weight for _, weight in named.values()))
+        points = _room_for(sum(weight for _, weight in named.values()))
         start = 0
         with memoryview(points) as room:
             for node, key in enumerate(keys):
@@ -96,7 +96,7 @@ class Ring:
         node, is_there = _place_of(keys, key)
         if is_there:
             raise ValueError(f"a node of the name {name!r} is there")
-        added = _ZERO * (2 * count)
+        added = _room_for(count)
         _ring_points(self._number, bytearray(key + bytes(8)), node, added)
         points = points + added
         _ring_add(points, added, node)
@@ -150,6 +150,14 @@ def _weight_of(weight: SupportsIndex) -> int:
     if count < 1:
         raise ValueError(f"a node has a weight of at least 1, not {count}")
     return count
+
+
+def _room_for(count: int) -> array[int]:
+    """Room for so many points: the place and the node of each."""
+    try:
+        return _ZERO * (2 * count)
+    except OverflowError:
+        raise ValueError(f"a ring cannot have {count} points") from None
 
 
 def _place_of(keys: List[bytes], key: bytes) -> Tuple[int, bool]:

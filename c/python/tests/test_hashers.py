@@ -1033,6 +1033,9 @@ class Rings(unittest.TestCase):
         refused: List[Tuple[type, Callable[[], object]]] = [
             (ValueError, lambda: ring.add("oak", 1)), (ValueError, lambda: ring.add("fir", 0)), (KeyError, lambda: ring.remove("fir")),
             (ValueError, lambda: hashers.Ring({"a": 1, b"a": 1})), (ValueError, lambda: hashers.Ring({"a": -1})),
+            (ValueError, lambda: hashers.Ring({"a": 2**62})), (ValueError, lambda: hashers.Ring({"a": 2**61, "b": 2**61})),
+            (ValueError, lambda: ring.add("fir", 2**70)), (MemoryError, lambda: hashers.Ring({"a": 2**59})),
+            (MemoryError, lambda: ring.add("fir", 2**59)),
             (TypeError, lambda: hashers.Ring("abc")), (TypeError, lambda: ring.owner(cast(bytes, "a"))),
             (ValueError, lambda: ring.owners(b"a", -1)), (AttributeError, lambda: setattr(ring, "hash", "xxh3")),
             (TypeError, lambda: ring.add(cast(str, 5))), (TypeError, lambda: ring.remove(cast(str, bytearray(b"oak")))),

@@ -143,6 +143,15 @@ value_after name before (Errs misgiven word) = before
 abbrev pub value_of : (name : List ℕ) → List Saying → Option (List ℕ)
 value_of name sayings = fold (value_after name) None sayings
 
+-- whether a call gives the option of this name, and behind it none of the other name
+abbrev pub last_after : (name other : List ℕ) → Bool → Saying → Bool
+last_after name other before (Gives given value) = if bytes_eq given name then true else if bytes_eq given other then false else before
+last_after name other before (Operand word) = before
+last_after name other before (Errs misgiven word) = before
+
+abbrev pub given_last : (name other : List ℕ) → List Saying → Bool
+given_last name other sayings = fold (last_after name other) false sayings
+
 -- the operands
 abbrev pub operand_of : Saying → List (List ℕ)
 operand_of (Gives name value) = []

@@ -7,7 +7,7 @@
 ghost use Rattle.std.specs.Prelude.{◌≡◌, ◌++◌, ◌∷◌, [], IfOk, OnOk, map};
 ghost use Rattle.std.specs.Option.{option_map};
 ghost use Rattle.std.specs.List.{find};
-ghost use Rattle.cli.specs.Call.{Adds, Operand, by_letters, by_name, call_of, choice_of, choices, first_of, flag, given, has_letter, name_in, named, next_spoken, operands, saying_of, sayings, spoken, taking, texts, value_of, valued, wants_of, wrongs};
+ghost use Rattle.cli.specs.Call.{Adds, Operand, by_letters, by_name, call_of, choice_of, choices, first_of, flag, given, given_last, has_letter, name_in, named, next_spoken, operands, saying_of, sayings, spoken, taking, texts, value_of, valued, wants_of, wrongs};
 
 use std::alloc::{AllocError, Global};
 
@@ -310,6 +310,21 @@ impl<'a> Call<'a> {
         for said in &self.said {
             match said {
                 Said::Gives(other, value) if *other == name => last = Some(*value),
+                _ => {}
+            }
+        }
+        last
+    }
+
+    /// Whether it gives the option of this name, and behind it none of the other name.
+    pub fn gives_last(&self, name: &[u8], other: &[u8]) -> bool
+        ensures { result ≡ given_last name.now other.now (sayings self.now.said.items) }
+    {
+        let mut last = false;
+        for said in &self.said {
+            match said {
+                Said::Gives(given, _) if *given == name => last = true,
+                Said::Gives(given, _) if *given == other => last = false,
                 _ => {}
             }
         }

@@ -1,7 +1,10 @@
 -- What comes of cutting a file, by what comes of cutting what it holds.
 use Rattle.std.proofs.Common.{◌≡◌, ◌<◌, ◌+◌, ℕ, ◌++◌, ◌∷◌, [], List, length, length-append, take, Bool, true, false, Option, Some, None, Result, Ok, Err, OnOk, IsTrue, inr, append-nil, arith, ap, refl}
 use Rattle.std.specs.List.{concat}
+use Rattle.streams.specs.declared.failure.Failure.{Failure}
+use Rattle.streams.specs.declared.failure.Failure.TheVariants.{NoMemory}
 use Rattle.hash_chunks.specs.Cut.{EndsFile, IsTorn, Opening}
+use Rattle.hash_chunks.specs.declared.failure.TooMany.{TooMany}
 use Rattle.hash_cuts.specs.Cuts.{Cutting, chunks, first_cut}
 use Rattle.hash_cuts.specs.Reading.{CutsAll, CutsRead, IsBegun, Taken}
 
@@ -14,16 +17,16 @@ bytes_more (first ∷ given) chunk =
 module _ {S : Type 0} (taken : Taken S) (cuts : Cutting) (opens : Opening) (held left : Option (List ℕ)) (old new : S) (bytes : ℕ)
     (is_open : opens (Ok held)) where
   -- the end was seen, or the limit was met
-  pub ends-taken : (E : Type 0) (ended : Bool) → (IsTrue ended → CutsAll taken cuts held left old new bytes)
+  pub ends-taken : (ended : Bool) → (IsTrue ended → CutsAll taken cuts held left old new bytes)
       → (ended ≡ false → (rest : List ℕ) × IsBegun cuts rest × CutsRead taken cuts held left old new bytes rest None)
-      → EndsFile {E = E} taken cuts opens old new (Ok ended)
-  ends-taken E true all first =
+      → EndsFile taken cuts opens old new (Ok ended)
+  ends-taken true all first =
       let whole = all refl in (
         chunks cuts whole.text,
         (whole.text, left, record { held = held; opened = is_open; read = whole.read }, whole.end, refl),
         whole.takes,
       )
-  ends-taken E false all first =
+  ends-taken false all first =
       let (rest, begun, read) = first refl in (
         read.gives.given,
         inr (rest, (read.text, left, record { held = held; opened = is_open; read = read.read }, read.gives.first), begun),
@@ -31,33 +34,36 @@ module _ {S : Type 0} (taken : Taken S) (cuts : Cutting) (opens : Opening) (held
       )
 
   -- the sink refused the first chunk of the rest
-  pub ends-refused : (rest : List ℕ) → 0 < length rest
-      → CutsRead taken cuts held left old new bytes rest (Some (take (first_cut cuts rest) rest)) → IsTorn taken cuts opens old new
-  ends-refused rest some read = record {
+  pub ends-refused : (fault : Failure TooMany) (rest : List ℕ) → 0 < length rest
+      → CutsRead taken cuts held left old new bytes rest (Some (take (first_cut cuts rest) rest)) → IsTorn taken cuts opens old new fault
+  ends-refused fault rest some read = record {
     given = read.gives.given;
     refused = Some (take (first_cut cuts rest) rest);
     takes = read.gives.takes;
     torn = (rest, (read.text, left, record { held = held; opened = is_open; read = read.read }, read.gives.first), (some, refl));
+    why = λ none. cc;
   }
 
-  -- it refused none
-  pub ends-early : (rest : List ℕ) → IsBegun cuts rest → CutsRead taken cuts held left old new bytes rest None → IsTorn taken cuts opens old new
+  -- it refused none, and there was no memory
+  pub ends-early : (rest : List ℕ) → IsBegun cuts rest → CutsRead taken cuts held left old new bytes rest None
+      → IsTorn taken cuts opens old new NoMemory
   ends-early rest begun read = record {
     given = read.gives.given;
     refused = None;
     takes = read.gives.takes;
     torn = (rest, (read.text, left, record { held = held; opened = is_open; read = read.read }, read.gives.first), begun);
+    why = λ none. refl;
   }
 
-module _ {S E : Type 0} (taken : Taken S) (cuts : Cutting) (opens : Opening) (old new : S) (start : taken old old [] None) where
+module _ {S : Type 0} (taken : Taken S) (cuts : Cutting) (opens : Opening) (old new : S) (start : taken old old [] None) where
   -- what holds of a sink whatever it was given
   pub after_any : (P : Type 0) → ((given : List (List ℕ)) (refused : Option (List ℕ)) → taken old new given refused → P)
-      → (result : Result Bool E) → EndsFile taken cuts opens old new result → P
+      → (result : Result Bool (Failure TooMany)) → EndsFile taken cuts opens old new result → P
   after_any P holds (Ok whole) (given, is_cut, takes) = holds given None (takes old [] start)
-  after_any P holds (Err error) torn = holds torn.given torn.refused (torn.takes old [] start)
+  after_any P holds (Err fault) torn = holds torn.given torn.refused (torn.takes old [] start)
 
   -- and after a file that ended, of which it refused none
   pub after_all : (P : Type 0) → ((given : List (List ℕ)) → taken old new given None → P)
-      → (result : Result Bool E) → EndsFile taken cuts opens old new result → OnOk result P
+      → (result : Result Bool (Failure TooMany)) → EndsFile taken cuts opens old new result → OnOk result P
   after_all P holds (Ok whole) (given, is_cut, takes) = holds given (takes old [] start)
-  after_all P holds (Err error) torn = tt
+  after_all P holds (Err fault) torn = tt

@@ -78,5 +78,6 @@ ends_lines taken kind cuts opens name old new w w' to start listed (Err fault) t
   torn.given,
   torn.refused,
   torn.torn,
+  torn.why,
   listed_torn kind name 0 to w w' torn.given torn.refused (listed torn.given torn.refused (torn.takes old [] start)),
 )

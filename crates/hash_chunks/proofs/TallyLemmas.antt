@@ -11,6 +11,8 @@ use Rattle.std.proofs.lemmas.List.Folds.{list_all-append, list_any-append}
 use Rattle.cli.specs.Files.{Opens}
 use Rattle.hash_chunks.proofs.CutLemmas.{bytes_more}
 use Rattle.hash_chunks.specs.Counted.{CountsChunks, CountsFile, IsCounted}
+use Rattle.streams.specs.declared.failure.Failure.{Failure}
+use Rattle.hash_chunks.specs.declared.failure.TooMany.{TooMany}
 use Rattle.hash_chunks.specs.Cut.{Cut, EndsFile, IsFileCut, Opening, given_of, is_whole, name_of}
 use Rattle.hash_cuts.specs.Cuts.{Cutting}
 use Rattle.hash_sums.specs.Sums.{sum_by}
@@ -81,11 +83,11 @@ pub counts_none : (tally : Tally) → CountsChunks tally tally [] None
 counts_none tally = (refl, λ none before is. subst (λ given. IsCounted (sum_by tally.kind) given tally) (sym (append-nil before)) is)
 
 -- the chunks of a file that was read are counted
-pub counted_file : {E : Type 0} (cuts : Cutting) (opens : Opening) (old new : Tally) (result : Result Bool E)
+pub counted_file : (cuts : Cutting) (opens : Opening) (old new : Tally) (result : Result Bool (Failure TooMany))
     → EndsFile CountsChunks cuts opens old new result
     → IfOk result (CountsFile (sum_by old.kind) cuts opens old new)
 counted_file cuts opens old new (Ok whole) (given, is_cut, takes) = (given, is_cut, (takes old [] (counts_none old)).1 refl)
-counted_file cuts opens old new (Err error) torn = tt
+counted_file cuts opens old new (Err fault) torn = tt
 
 -- one file more
 pub cut_more : (cuts : Cutting) (opens : Opens) (names names' : List (List ℕ)) (files : List Cut) (all : Bool) (file : Cut)

@@ -5,7 +5,10 @@ use Rattle.std.specs.declared.io.Error.{Error}
 use Rattle.cli.specs.Files.{Opens}
 use Rattle.hash_cuts.specs.Cuts.{Cutting, chunks, first_cut}
 use Rattle.hash_cuts.specs.Reading.{IsBegun, Taken, Takes}
+use Rattle.hash_chunks.specs.declared.failure.TooMany.{TooMany}
 use Rattle.streams.specs.Records.{ComeFirst}
+use Rattle.streams.specs.declared.failure.Failure.{Failure}
+use Rattle.streams.specs.declared.failure.Failure.TheVariants.{NoMemory}
 
 -- what comes of opening a file
 abbrev pub Opening : Type 1
@@ -46,18 +49,23 @@ IsNext cuts rest (Some chunk) = (0 < length rest) × (chunk ≡ take (first_cut 
 abbrev pub AreTorn : Cutting → Opening → (given : List (List ℕ)) (refused : Option (List ℕ)) → Type 0
 AreTorn cuts opens given refused = (rest : List ℕ) × AreFirst cuts opens given rest × IsNext cuts rest refused
 
+-- a file is torn by a refused chunk, or else by want of memory
+abbrev pub IsTornBy : (refused : Option (List ℕ)) → Failure TooMany → Type 0
+IsTornBy refused fault = refused ≡ None → fault ≡ NoMemory
+
 -- a sink was given these chunks of a file, and refused the one behind them, or none
-pub record IsTorn {S : Type 0} (taken : Taken S) (cuts : Cutting) (opens : Opening) (old new : S) : Type 0 where
+pub record IsTorn {S : Type 0} (taken : Taken S) (cuts : Cutting) (opens : Opening) (old new : S) (fault : Failure TooMany) : Type 0 where
   pub given : List (List ℕ)
   pub refused : Option (List ℕ)
   pub takes : Takes taken old new given refused
   pub torn : AreTorn cuts opens given refused
+  pub why : IsTornBy refused fault
 
 -- how a file ends whose chunks a sink is given
-abbrev pub EndsFile : {S E : Type 0} → Taken S → Cutting → Opening → (old new : S) → Result Bool E → Type 0
+abbrev pub EndsFile : {S : Type 0} → Taken S → Cutting → Opening → (old new : S) → Result Bool (Failure TooMany) → Type 0
 EndsFile taken cuts opens old new (Ok whole) =
     (given : List (List ℕ)) × IsCut cuts opens given whole × Takes taken old new given None
-EndsFile taken cuts opens old new (Err error) = IsTorn taken cuts opens old new
+EndsFile taken cuts opens old new (Err fault) = IsTorn taken cuts opens old new fault
 
 -- a file with its chunks, and whether it was read to its end
 abbrev pub Cut : Type 0

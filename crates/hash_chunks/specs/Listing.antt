@@ -6,7 +6,7 @@ use Rattle.std.specs.Io.KnownBytes.{Appends}
 use Rattle.cli.specs.Files.{Opens}
 use Rattle.streams.specs.Streams.{AppendsPart}
 use Rattle.streams.specs.declared.failure.Failure.{Failure}
-use Rattle.hash_chunks.specs.Cut.{AreTorn, Cut, IsCut, IsFileCut, given_of, is_whole, name_of, one}
+use Rattle.hash_chunks.specs.Cut.{AreTorn, Cut, IsCut, IsFileCut, IsTornBy, given_of, is_whole, name_of, one}
 use Rattle.hash_chunks.specs.declared.failure.TooMany.{TooMany}
 use Rattle.hash_chunks.specs.declared.listing.Lines.{Lines}
 use Rattle.hash_cuts.specs.Cuts.{Cutting}
@@ -46,12 +46,13 @@ ListsChunks contents start now given refused = (now.kind ≡ start.kind)
     (writer_contents contents start.w) (writer_contents contents now.w) given refused
     × (refused ≡ None → writer_buffer start.w ≡ [] → writer_buffer now.w ≡ [])
 
--- how the lines of a file end: those of its chunks were written; or of the first ones, and of one that was refused, a beginning
+-- how the lines of a file end: those of its chunks were written; or of the first ones, and of one that was refused, a beginning, and where
+-- none was refused there was no memory
 abbrev pub EndsLines : LineKind → Cutting → Opens → (name : List ℕ) (written written' : Option (List ℕ)) → Result Bool (Failure TooMany) → Type 0
 EndsLines kind cuts opens name written written' (Ok whole) = (given : List (List ℕ)) × IsCut cuts (opens name) given whole
     × Appends written written' (lines_of kind (name, (given, whole)))
 EndsLines kind cuts opens name written written' (Err fault) = (given : List (List ℕ)) × (refused : Option (List ℕ))
-    × AreTorn cuts (opens name) given refused × AppendsPart written written' (chunk_lines kind name 0 (given ++ one refused))
+    × AreTorn cuts (opens name) given refused × IsTornBy refused fault × AppendsPart written written' (chunk_lines kind name 0 (given ++ one refused))
 
 -- the lines of the first files were written, and of the next a beginning
 pub record AreTornOff (kind : LineKind) (cuts : Cutting) (opens : Opens) (names : List (List ℕ)) (written written' : Option (List ℕ))

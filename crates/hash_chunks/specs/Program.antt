@@ -79,7 +79,7 @@ EndsCall opens call texts written written' = EndsRequest (request_of call) texts
 -- what it says on standard error of what else is wrong with a call
 abbrev pub words_of : Misuse → List ℕ
 words_of misuse.NoSize = codes "invalid number of bytes"
-words_of misuse.NotRising = codes "--least, --average and --most must rise from 64 on"
+words_of misuse.NotRising = codes "--least, --average (by default 64K) and --most must rise from 64 on, unlike"
 
 -- and of its own fault
 abbrev pub words_of_fault : TooMany → List ℕ

@@ -53,7 +53,8 @@ impl Words for Misuse {
     fn words(&self) -> &'static str {
         match self {
             Misuse::NoSize => "invalid number of bytes",
-            Misuse::NotRising => "--least, --average and --most must rise from 64 on",
+            Misuse::NotRising =>
+                "--least, --average (by default 64K) and --most must rise from 64 on, unlike",
         }
     }
 }

@@ -120,15 +120,16 @@ untagged_shown count number other shown more body (digits, shows, one) (others, 
         (is ∙ sym also) (shows.0 ∙ sym same.0)).1
 
 -- what is found where a name is shown so, by parts that show one name alone
-pub found_by : {E X : Type 0} (is_kind : E → Type 0) (text : E → List ℕ) (told : E → ℕ) (show : List ℕ → List ℕ)
+pub found_by : {E X : Type 0} (is_kind : E → Type 0) (text : E → List ℕ) (told : E → ℕ) (IsShown : (name shown : List ℕ) → Type 0)
     (shows : List ℕ → ℕ → Type 0) → ((xs ys : List ℕ) (a b : ℕ) → shows xs a → shows ys b → xs ≡ ys)
     → (shown : List ℕ) (number : ℕ) → shows shown number → (result : Result (Option E) X)
-    → IfOk result (λ found. MatchOption found ((name : List ℕ) → show name ≢ shown)
-    (λ e. is_kind e × (told e ≡ number) × (show (text e) ≡ shown)))
-    → IfOk result (λ found. MatchOption found ((name : List ℕ) (number : ℕ) → ¬ (shows (show name) number))
-    (λ e. is_kind e × shows (show (text e)) (told e)))
-found_by is_kind text told show shows one shown number here (Err e) found = tt
-found_by is_kind text told show shows one shown number here (Ok None) none =
-    λ name other tells. none name (one (show name) shown other number tells here)
-found_by is_kind text told show shows one shown number here (Ok (Some e)) (kind, is_number, is_name) =
-    (kind, subst (λ s. shows s (told e)) (sym is_name) (subst (λ n. shows shown n) (sym is_number) here))
+    → IfOk result (λ found. MatchOption found ((name : List ℕ) → ¬ (IsShown name shown))
+    (λ e. is_kind e × (told e ≡ number) × IsShown (text e) shown))
+    → IfOk result (λ found. MatchOption found
+    ((name : List ℕ) (number : ℕ) → ¬ ((s : List ℕ) × IsShown name s × shows s number))
+    (λ e. is_kind e × ((s : List ℕ) × IsShown (text e) s × shows s (told e))))
+found_by is_kind text told IsShown shows one shown number here (Err e) found = tt
+found_by is_kind text told IsShown shows one shown number here (Ok None) none =
+    λ name other (s, is, tells). none name (subst (IsShown name) (one s shown other number tells here) is)
+found_by is_kind text told IsShown shows one shown number here (Ok (Some e)) (kind, is_number, is) =
+    (kind, (shown, is, subst (λ n. shows shown n) (sym is_number) here))

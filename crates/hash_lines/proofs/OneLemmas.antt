@@ -1,4 +1,4 @@
--- A line tells one thing.
+-- A line shows one name and number, and so tells one thing.
 use Rattle.std.proofs.Common.{◌≡◌, ◌≢◌, ◌⊎◌, inl, inr, ℕ, ◌+◌, ◌*◌, ◌<◌, Bool, true, false, List, [], ◌∷◌, ◌++◌, Option, Some, None, length, get_or, codes, refl, ap, sym, ◌∙◌, subst, arith, lit<}
 use Rattle.std.specs.Prelude.{option_and_then}
 use Rattle.std.specs.List.{AllByRecursion}
@@ -8,9 +8,10 @@ use Rattle.hash_lines.specs.declared.line.Width.TheVariants as width
 use Rattle.hash_lines.specs.Escape.{escape}
 use Rattle.hash_lines.specs.Hex.{digit_value, hex_value, value_behind}
 use Rattle.hash_lines.specs.Line.{digits_of, name_shown, ShowsTagged, ShowsUntagged}
-use Rattle.hash_lines.specs.Told.{AreTags, IsTag, Tells, TellsBody, TellsTagged, TellsUntagged}
+use Rattle.hash_lines.specs.Told.{AreTags, IsTag, Tells}
 use Rattle.hash_lines.proofs.EscapeLemmas.{first_rest, first_same, nothing_first}
 use Rattle.hash_lines.proofs.LineLemmas.{inner_is, last_is, same_begins, tagged_shown, untagged_shown}
+use Rattle.hash_lines.proofs.ShownLemmas.{ShowsBody, ShowsLine, line_shows}
 
 -- texts that are escaped alike are the same
 escape_one : (name more : List ℕ) → escape name ≡ escape more → name ≡ more
@@ -125,14 +126,14 @@ tags_one tag other count width n m shown more body is_tag also_tag (xs, shows, i
 -- a line without its mark
 body_one : (kinds : List LineKind) (default : LineKind) → AreTags kinds default
     → (escapes : Bool) (kind other : LineKind) (name more : List ℕ) (n m : ℕ)
-    (body : List ℕ) → TellsBody kinds default escapes kind name n body → TellsBody kinds default escapes other more m body
+    (body : List ℕ) → ShowsBody kinds default escapes kind name n body → ShowsBody kinds default escapes other more m body
     → (kind ≡ other) × (name ≡ more) × (n ≡ m)
 body_one kinds default are escapes kind other name more n m body (inl (has, tells)) (inl (also, too)) =
     let same = are.apart kind other has also
     (tags_one kind.name.now other.name.now (digits_of kind.width) (digits_of other.width) n m (name_shown escapes name)
     (name_shown escapes more) body (are.each kind has) (are.each other also) tells too) in
     let rest = tagged_one escapes kind.name.now (digits_of kind.width) n m name more body tells
-    (subst (λ k. TellsTagged k escapes more m body) (sym same) too) in (same, rest.0, rest.1)
+    (subst (λ k. ShowsTagged k.name.now (digits_of k.width) (name_shown escapes more) m body) (sym same) too) in (same, rest.0, rest.1)
 body_one kinds default are escapes kind other name more n m body (inl (has, tells)) (inr (is, too)) =
     absurd (never_both kind.name.now (digits_of kind.width) (digits_of other.width) n m (name_shown escapes name)
     (name_shown escapes more) body
@@ -144,7 +145,7 @@ body_one kinds default are escapes kind other name more n m body (inr (is, tells
 body_one kinds default are escapes kind other name more n m body (inr (is, tells)) (inr (also, too)) =
     let same = is ∙ sym also in
     let rest = untagged_one escapes (digits_of kind.width) n m name more body tells
-    (subst (λ k. TellsUntagged k escapes more m body) (sym same) too) in (same, rest.0, rest.1)
+    (subst (λ k. ShowsUntagged (digits_of k.width) (name_shown escapes more) m body) (sym same) too) in (same, rest.0, rest.1)
 
 some_digits : (width : Width) → 0 < digits_of width
 some_digits width.Eight = lit< tt
@@ -163,26 +164,34 @@ digits_first (first ∷ digits) more rest n some tell is =
     let none : None ≡ Some n = sym (ap (λ b. hex_value (b ∷ digits)) mark) ∙ tell in cc
 
 no_backslash : (kinds : List LineKind) (default : LineKind) → AreTags kinds default → (kind : LineKind) (name : List ℕ) (n : ℕ) (rest : List ℕ)
-    → TellsBody kinds default false kind name n (92 ∷ rest) → ⊥
+    → ShowsBody kinds default false kind name n (92 ∷ rest) → ⊥
 no_backslash kinds default are kind name n rest (inl (has, (digits, shows, is))) =
     tag_first kind.name.now (40 ∷ name ++ (codes ") = " ++ digits)) rest (are.each kind has) is
 no_backslash kinds default are kind name n rest (inr (default_is, untagged)) =
     let (digits, more, long, tell, is, behind) = front_digits (digits_of kind.width) n name (92 ∷ rest) untagged in
     digits_first digits more rest n (omega (arith, long, some_digits kind.width)) tell is
 
--- a line
+-- a line shows one name and number
+pub line_shows_one : (kinds : List LineKind) (default : LineKind) → AreTags kinds default → (kind other : LineKind) (name more : List ℕ) (n m : ℕ)
+    (line : List ℕ) → ShowsLine kinds default kind name n line → ShowsLine kinds default other more m line
+    → (kind ≡ other) × (name ≡ more) × (n ≡ m)
+line_shows_one kinds default are kind other name more n m line (inl tells) (inl too) =
+    body_one kinds default are false kind other name more n m line tells too
+line_shows_one kinds default are kind other name more n m line (inl tells) (inr (body, is, too)) =
+    absurd (no_backslash kinds default are kind name n body
+    (subst (λ l. ShowsBody kinds default false kind name n l) (sym is) tells))
+line_shows_one kinds default are kind other name more n m line (inr (body, is, tells)) (inl too) =
+    absurd (no_backslash kinds default are other more m body
+    (subst (λ l. ShowsBody kinds default false other more m l) (sym is) too))
+line_shows_one kinds default are kind other name more n m line (inr (body, is, tells)) (inr (body', is', too)) =
+    let same : body' ≡ body = let both : 92 ∷ body' ≡ 92 ∷ body = is' ∙ sym is in cc in
+    body_one kinds default are true kind other name more n m body tells
+    (subst (λ b. ShowsBody kinds default true other more m b) same too)
+
+-- and so tells one thing
 pub line_one : (kinds : List LineKind) (default : LineKind) → AreTags kinds default → (kind other : LineKind) (name more : List ℕ) (n m : ℕ)
     (line : List ℕ) → Tells kinds default kind name n line → Tells kinds default other more m line
     → (kind ≡ other) × (name ≡ more) × (n ≡ m)
-line_one kinds default are kind other name more n m line (inl tells) (inl too) =
-    body_one kinds default are false kind other name more n m line tells too
-line_one kinds default are kind other name more n m line (inl tells) (inr (body, is, too)) =
-    absurd (no_backslash kinds default are kind name n body
-    (subst (λ l. TellsBody kinds default false kind name n l) (sym is) tells))
-line_one kinds default are kind other name more n m line (inr (body, is, tells)) (inl too) =
-    absurd (no_backslash kinds default are other more m body
-    (subst (λ l. TellsBody kinds default false other more m l) (sym is) too))
-line_one kinds default are kind other name more n m line (inr (body, is, tells)) (inr (body', is', too)) =
-    let same : body' ≡ body = let both : 92 ∷ body' ≡ 92 ∷ body = is' ∙ sym is in cc in
-    body_one kinds default are true kind other name more n m body tells
-    (subst (λ b. TellsBody kinds default true other more m b) same too)
+line_one kinds default are kind other name more n m line tells too =
+    line_shows_one kinds default are kind other name more n m line (line_shows kinds default kind name n line tells)
+    (line_shows kinds default other more m line too)

@@ -7,29 +7,30 @@ use Rattle.hash_lines.specs.Hex.{hex}
 use Rattle.hash_lines.specs.declared.line.Form.{Form}
 use Rattle.hash_lines.specs.declared.line.Form.TheVariants as form
 use Rattle.hash_lines.specs.Line.{body, digits_of, line_of, mark, name_shown, ShowsTagged, ShowsUntagged}
-use Rattle.hash_lines.specs.Told.{MayBeTold, Tells, TellsBody, TellsEscaped, TellsTagged, TellsUntagged}
+use Rattle.hash_lines.specs.Told.{IsShown, MayBeTold, Tells, TellsBody, TellsEscaped, TellsTagged, TellsUntagged}
 use Rattle.hash_lines.proofs.HexLemmas.{hex_value-hex, length-hex}
 use Rattle.hash_lines.proofs.LineLemmas.{found_by, tagged_shown, untagged_shown}
+use Rattle.hash_lines.proofs.ShownLemmas.{ShowsBody, ShowsLine}
 
 pub tagged_found : {X : Type 0} (kind : LineKind) (escapes : Bool) (shown body : List ℕ) (number : ℕ)
     → ShowsTagged kind.name.now (digits_of kind.width) shown number body → (result : Result (Option HashLine) X)
-    → IfOk result (λ found. MatchOption found ((name : List ℕ) → name_shown escapes name ≡ shown → ⊥)
-    (λ entry. (entry.kind ≡ kind) × (entry.number ≡ number) × (name_shown escapes entry.name.items ≡ shown)))
+    → IfOk result (λ found. MatchOption found ((name : List ℕ) → ¬ (IsShown escapes name shown))
+    (λ entry. (entry.kind ≡ kind) × (entry.number ≡ number) × IsShown escapes entry.name.items shown))
     → IfOk result (λ found. MatchOption found ((name : List ℕ) (number : ℕ) → ¬ (TellsTagged kind escapes name number body))
     (λ entry. (entry.kind ≡ kind) × TellsTagged kind escapes entry.name.items entry.number body))
 tagged_found kind escapes shown body number shows result found =
-    found_by (λ (entry : HashLine). entry.kind ≡ kind) (λ entry. entry.name.items) (λ entry. entry.number) (name_shown escapes)
+    found_by (λ (entry : HashLine). entry.kind ≡ kind) (λ entry. entry.name.items) (λ entry. entry.number) (IsShown escapes)
     (λ s n. ShowsTagged kind.name.now (digits_of kind.width) s n body)
     (λ xs ys a b one other. tagged_shown kind.name.now (digits_of kind.width) a b xs ys body one other) shown number shows result found
 
 pub untagged_found : {X : Type 0} (kind : LineKind) (escapes : Bool) (shown body : List ℕ) (number : ℕ)
     → ShowsUntagged (digits_of kind.width) shown number body → (result : Result (Option HashLine) X)
-    → IfOk result (λ found. MatchOption found ((name : List ℕ) → name_shown escapes name ≡ shown → ⊥)
-    (λ entry. (entry.kind ≡ kind) × (entry.number ≡ number) × (name_shown escapes entry.name.items ≡ shown)))
+    → IfOk result (λ found. MatchOption found ((name : List ℕ) → ¬ (IsShown escapes name shown))
+    (λ entry. (entry.kind ≡ kind) × (entry.number ≡ number) × IsShown escapes entry.name.items shown))
     → IfOk result (λ found. MatchOption found ((name : List ℕ) (number : ℕ) → ¬ (TellsUntagged kind escapes name number body))
     (λ entry. (entry.kind ≡ kind) × TellsUntagged kind escapes entry.name.items entry.number body))
 untagged_found kind escapes shown body number shows result found =
-    found_by (λ (entry : HashLine). entry.kind ≡ kind) (λ entry. entry.name.items) (λ entry. entry.number) (name_shown escapes)
+    found_by (λ (entry : HashLine). entry.kind ≡ kind) (λ entry. entry.name.items) (λ entry. entry.number) (IsShown escapes)
     (λ s n. ShowsUntagged (digits_of kind.width) s n body)
     (λ xs ys a b one other. untagged_shown (digits_of kind.width) a b xs ys body one other) shown number shows result found
 
@@ -85,29 +86,29 @@ line_found kinds default line untold (Ok None) none = at
     at other name number (inr tells) = untold other name number tells
 line_found kinds default line untold (Ok (Some entry)) tells = inl tells
 
--- a line without its mark that is written tells what it was written of
-body_told : (kinds : List LineKind) (default kind : LineKind) (form : Form) → MayBeTold kinds default form kind
+-- a line without its mark that is written shows what it was written of
+body_shown : (kinds : List LineKind) (default kind : LineKind) (form : Form) → MayBeTold kinds default form kind
     → (escapes : Bool) (name : List ℕ) (number : ℕ) → number < 16 ^ digits_of kind.width
-    → TellsBody kinds default escapes kind name number
+    → ShowsBody kinds default escapes kind name number
     (body form kind.name.now (name_shown escapes name) (hex (digits_of kind.width) number))
-body_told kinds default kind form.Tagged may escapes name number small =
+body_shown kinds default kind form.Tagged may escapes name number small =
     let digits = hex (digits_of kind.width) number in
     inl (may, (digits, (length-hex (digits_of kind.width) number, hex_value-hex (digits_of kind.width) number small), refl))
-body_told kinds default kind form.Untagged may escapes name number small =
+body_shown kinds default kind form.Untagged may escapes name number small =
     let digits = hex (digits_of kind.width) number in
     inr (may, (digits, (length-hex (digits_of kind.width) number, hex_value-hex (digits_of kind.width) number small), inl refl))
 
 -- the same of a line
-pub line_told : (kinds : List LineKind) (default kind : LineKind) (form : Form) → MayBeTold kinds default form kind
+pub line_shown : (kinds : List LineKind) (default kind : LineKind) (form : Form) → MayBeTold kinds default form kind
     → (escapes : Bool) (name : List ℕ) (number : ℕ) → number < 16 ^ digits_of kind.width
-    → Tells kinds default kind name number (line_of form escapes kind.name.now kind.width name number)
-line_told kinds default kind form may escapes name number small = at (escapes && needs_escape name)
+    → ShowsLine kinds default kind name number (line_of form escapes kind.name.now kind.width name number)
+line_shown kinds default kind form may escapes name number small = at (escapes && needs_escape name)
   where
-    at : (marked : Bool) → Tells kinds default kind name number
+    at : (marked : Bool) → ShowsLine kinds default kind name number
         (mark marked ++ body form kind.name.now (name_shown marked name) (hex (digits_of kind.width) number))
     at true = inr (
       body form kind.name.now (name_shown true name) (hex (digits_of kind.width) number),
       refl,
-      body_told kinds default kind form may true name number small,
+      body_shown kinds default kind form may true name number small,
     )
-    at false = inl (body_told kinds default kind form may false name number small)
+    at false = inl (body_shown kinds default kind form may false name number small)

@@ -7,12 +7,18 @@ use Rattle.hash_lines.specs.declared.line.Form.TheVariants as form
 use Rattle.hash_lines.specs.declared.line.LineKind.{LineKind}
 use Rattle.hash_lines.specs.Line.{digits_of, name_shown, ShowsTagged, ShowsUntagged}
 
+-- a name is shown so, with escapes or without. It has some byte: a line that has lost its name tells nothing
+abbrev pub IsShown : Bool → (name shown : List ℕ) → Type 0
+IsShown escapes name shown = (name ≢ []) × (name_shown escapes name ≡ shown)
+
 -- a tagged line of this kind without its mark, with escapes or without
 abbrev pub TellsTagged : LineKind → Bool → (name : List ℕ) (number : ℕ) → List ℕ → Type 0
-TellsTagged kind escapes name number body = ShowsTagged kind.name.now (digits_of kind.width) (name_shown escapes name) number body
+TellsTagged kind escapes name number body =
+    (shown : List ℕ) × IsShown escapes name shown × ShowsTagged kind.name.now (digits_of kind.width) shown number body
 
 abbrev pub TellsUntagged : LineKind → Bool → (name : List ℕ) (number : ℕ) → List ℕ → Type 0
-TellsUntagged kind escapes name number body = ShowsUntagged (digits_of kind.width) (name_shown escapes name) number body
+TellsUntagged kind escapes name number body =
+    (shown : List ℕ) × IsShown escapes name shown × ShowsUntagged (digits_of kind.width) shown number body
 
 -- a line without its mark: a tagged one of one of these kinds, or an untagged one of the default
 abbrev pub TellsBody : List LineKind → (default : LineKind) → Bool → LineKind → (name : List ℕ) (number : ℕ) → List ℕ → Type 0

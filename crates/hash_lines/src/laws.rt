@@ -1,15 +1,15 @@
 //! Laws of lines, with no code.
-ghost use Rattle.std.specs.Prelude.{◌≡◌, ◌^◌, ◌<◌, ℕ, Bool, List, map, true};
+ghost use Rattle.std.specs.Prelude.{◌≡◌, ◌≢◌, ◌^◌, ◌<◌, ℕ, Bool, List, [], map, true};
 ghost use Rattle.hash_lines.specs.Line.{digits_of, line_of};
 ghost use Rattle.hash_lines.specs.Told.{AreTags, MayBeTold, Tells, are_tags};
 ghost use Rattle.hash_lines.specs.declared.line.Form.{Form};
 ghost use Rattle.hash_lines.specs.declared.line.LineKind.{LineKind};
 
 /// A line that is written of a file's hash tells this hash of this file, in either form, with escapes or without, whatever the name
-/// is. The number is one of as many digits as the kind has.
+/// is, unless it has no byte. The number is one of as many digits as the kind has.
 pub fn written_lines_tell()
     ensures { (kinds : List LineKind) (default kind : LineKind) (form : Form) → MayBeTold kinds default form kind
-        → (escapes : Bool) (name : List ℕ) (number : ℕ) → number < 16 ^ digits_of kind.width
+        → (escapes : Bool) (name : List ℕ) (number : ℕ) → name ≢ [] → number < 16 ^ digits_of kind.width
         → Tells kinds default kind name number (line_of form escapes kind.name.now kind.width name number) }
 {}
 

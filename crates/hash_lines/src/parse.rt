@@ -1,7 +1,7 @@
 //! Lines that tell the hash of a file, as they are read.
 ghost use Rattle.std.specs.Prelude.{◌≡◌, ◌≢◌, ◌⊎◌, ◌++◌, ◌<◌, ◌≤◌, ℕ, List, length, codes, IfOk, MatchOption};
-ghost use Rattle.hash_lines.specs.Line.{name_shown, ShowsNumber, ShowsTagged, ShowsUntagged};
-ghost use Rattle.hash_lines.specs.Told.{Tells, TellsBody, TellsEscaped, TellsNothing, TellsTagged, TellsUntagged};
+ghost use Rattle.hash_lines.specs.Line.{ShowsNumber, ShowsTagged, ShowsUntagged};
+ghost use Rattle.hash_lines.specs.Told.{IsShown, Tells, TellsBody, TellsEscaped, TellsNothing, TellsTagged, TellsUntagged};
 ghost use Rattle.hash_lines.specs.declared.line.LineKind.{LineKind};
 
 use crate::escape::unescaped;
@@ -122,11 +122,14 @@ fn untagged_parts(count: usize, body: &[u8]) -> Option<(&[u8], u128)>
     Some((shown, number_of(count, digits)?))
 }
 
-/// The name that is shown so, with escapes or without.
+/// The name that is shown so, with escapes or without. It has some byte.
 fn name_of(alloc: Global, escapes: bool, shown: &[u8]) -> Result<Option<Vec<u8>>, AllocError>
-    ensures { IfOk result (λ found. MatchOption found ((name : List ℕ) → name_shown escapes name ≢ shown.now)
-        (λ name. name_shown escapes name.items ≡ shown.now)) }
+    ensures { IfOk result (λ found. MatchOption found ((name : List ℕ) → ¬ (IsShown escapes name shown.now))
+        (λ name. IsShown escapes name.items shown.now)) }
 {
+    if shown.is_empty() {
+        return Ok(None);
+    }
     if escapes {
         unescaped(alloc, shown)
     } else {
@@ -142,9 +145,9 @@ fn entry_of<'k>(
     shown: &[u8],
     number: u128,
 ) -> Result<Option<HashLine<'k>>, AllocError>
-    ensures { IfOk result (λ found. MatchOption found ((name : List ℕ) → name_shown escapes name ≢ shown.now)
+    ensures { IfOk result (λ found. MatchOption found ((name : List ℕ) → ¬ (IsShown escapes name shown.now))
         (λ entry. (entry.kind ≡ kind.entry) × (entry.number ≡ number)
-        × (name_shown escapes entry.name.items ≡ shown.now))) }
+        × IsShown escapes entry.name.items shown.now)) }
 {
     match name_of(alloc, escapes, shown)? {
         Some(name) => Ok(Some(HashLine { kind, name, number })),
@@ -228,7 +231,8 @@ fn escaped_entry<'k>(
 
 /// What a line tells, without its end: of which file the hash of one of these kinds is which number. In a line that is not tagged
 /// it is the one kind. `None` exactly where it is no such line. The digits may be of either case, and a line that is not tagged
-/// may have a star for its second space, as sha256sum writes it. A line that begins with a backslash has escapes.
+/// may have a star for its second space, as sha256sum writes it. A line that begins with a backslash has escapes. A line without a
+/// name is no such line.
 pub fn parse_line<'k>(
     alloc: Global,
     kinds: &[LineKind<'k>],

@@ -1,14 +1,17 @@
 -- Which options there are, and how the program ends.
-use Rattle.std.specs.Prelude.{ℕ, suc, Bool, true, false, not, List, [], ◌∷◌, Option, Some, None, Result, Ok, Err, codes, option_map}
+use Rattle.std.specs.Prelude.{ℕ, suc, Bool, true, false, not, List, [], ◌∷◌, Option, Some, None, Result, Ok, Err, codes, map, option_map}
 use Rattle.std.specs.Int.NonZero.{non_zero_usize_get}
+use Rattle.std.specs.Char.{to_ascii_lowercase}
 use Rattle.std.specs.List.{filter_map, find}
 use Rattle.std.specs.Option.{is_none}
+use Rattle.std.specs.Str.{bytes_eq}
 use Rattle.cli.specs.Call.{Choice, Saying, flag, given, operands, taking, value_of}
 use Rattle.cli.specs.Numbers.{number_of}
 use Rattle.cli.specs.declared.outcome.Wrong.{Wrong}
 use Rattle.cli.specs.declared.outcome.Wrong.TheVariants.{Own}
-use Rattle.hash_names.specs.Named.{kind_named}
+use Rattle.hash_names.specs.Named.{name_of}
 use Rattle.hash_names.specs.declared.table.Kind.{Kind}
+use Rattle.hash_names.specs.declared.table.TheConstants.{KINDS}
 use Rattle.hash_names.specs.declared.table.Kind.TheVariants.{Fnv1a32, Fnv1a64, Djb2, Sdbm, LoseLose, Bricolage, Oaat, Lookup3, Spooky, PassThrough, FxHash, FxHash32, Xxh64, Murmur3At32, SipHash13, Xxh3}
 use Rattle.hash_spread.specs.declared.call.Settings.{Settings}
 use Rattle.hash_spread.specs.declared.keys.Layout.{Layout}
@@ -87,17 +90,25 @@ abbrev pub usual : List Kind
 usual = Fnv1a32 ∷ Fnv1a64 ∷ Djb2 ∷ Sdbm ∷ LoseLose ∷ Bricolage ∷ Oaat ∷ Lookup3 ∷ Spooky ∷ PassThrough ∷ FxHash ∷ FxHash32 ∷ Xxh64 ∷ Murmur3At32
     ∷ SipHash13 ∷ Xxh3 ∷ []
 
+-- whether a hash has the name, in letters of either case
+abbrev pub is_called : (name : List ℕ) → Kind → Bool
+is_called name kind = bytes_eq (map to_ascii_lowercase (name_of kind)) (map to_ascii_lowercase name)
+
+-- the hash of that name, if there is one
+unfoldable pub kind_called : (name : List ℕ) → Option Kind
+kind_called name = find (is_called name) KINDS
+
 -- the hashes of these names, in their order; the usual ones if there is no name
 abbrev pub kinds_named : (names : List (List ℕ)) → List Kind
 kinds_named [] = usual
-kinds_named (name ∷ more) = filter_map kind_named (name ∷ more)
+kinds_named (name ∷ more) = filter_map kind_called (name ∷ more)
 
 abbrev pub kinds_of : (call : List Saying) → List Kind
 kinds_of call = kinds_named (operands call)
 
 -- the first name that no hash has
 abbrev pub unknown_name : (call : List Saying) → Option (List ℕ)
-unknown_name call = find (λ name. is_none (kind_named name)) (operands call)
+unknown_name call = find (λ name. is_none (kind_called name)) (operands call)
 
 -- what the program says on standard error of what only it finds wrong with a call
 abbrev pub words_of : Misuse → List ℕ

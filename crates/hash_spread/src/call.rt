@@ -4,8 +4,7 @@ ghost use Rattle.std.specs.Int.NonZero.{non_zero_usize_get};
 ghost use Rattle.std.specs.List.{filter_map, find};
 ghost use Rattle.std.specs.Option.{is_none};
 ghost use Rattle.cli.specs.Call.{call_of, choices, sayings, texts};
-ghost use Rattle.hash_names.specs.Named.{kind_named};
-ghost use Rattle.hash_spread.specs.Call.{given_number, kinds_of, laid, layout_of, options, positive, settings_of, unknown_name, wanted, words_of};
+ghost use Rattle.hash_spread.specs.Call.{given_number, is_called, kind_called, kinds_of, laid, layout_of, options, positive, settings_of, unknown_name, wanted, words_of};
 
 use crate::failure::NoTable;
 use crate::keys::Layout;
@@ -13,7 +12,7 @@ use cli::call::{Call, Opt, flag, taking};
 use cli::numbers::number_of;
 use cli::outcome;
 use cli::outcome::Words;
-use hash_names::table::{Kind, kind_named};
+use hash_names::table::{KINDS, Kind};
 use std::alloc::{AllocError, Global};
 use std::num::NonZeroUsize;
 
@@ -164,13 +163,40 @@ pub fn settings_of(call: &Call<'_>) -> Result<Settings, Wrong>
     })
 }
 
+/// Whether a hash has the name, in letters of either case.
+fn is_called(kind: Kind, name: &[u8]) -> bool
+    ensures { result ≡ is_called name.now kind }
+{
+    kind.row().name.as_bytes().eq_ignore_ascii_case(name)
+}
+
+/// The first of these hashes that has the name, in letters of either case.
+fn first_called(kinds: &[Kind], name: &[u8]) -> Option<Kind>
+    ensures { result ≡ find (is_called name.now) kinds.now }
+{
+    for kind in kinds {
+        if is_called(*kind, name) {
+            return Some(*kind);
+        }
+    }
+    None
+}
+
+/// The hash of that name, in letters of either case.
+#[tactic(auto, unfolding(crate::specs::Call::kind_called))]
+fn kind_called(name: &[u8]) -> Option<Kind>
+    ensures { result ≡ kind_called name.now }
+{
+    first_called(&KINDS, name)
+}
+
 /// The first of the names that no hash has.
 fn first_unknown<'a>(names: &[&'a [u8]]) -> Option<&'a [u8]>
     ensures { option_map (λ word. word.now) result
-        ≡ find (λ name. is_none (kind_named name)) (map (λ name. name.now) names.now) }
+        ≡ find (λ name. is_none (kind_called name)) (map (λ name. name.now) names.now) }
 {
     for name in names {
-        if kind_named(name).is_none() {
+        if kind_called(name).is_none() {
             return Some(*name);
         }
     }
@@ -207,11 +233,11 @@ const USUAL: [Kind; 16] = [
 
 /// The hashes of these names, in their order; an unknown name has none.
 fn kinds_named(alloc: Global, names: &[&[u8]]) -> Result<Vec<Kind>, AllocError>
-    ensures { IfOk result (λ kinds. kinds.items ≡ filter_map kind_named (map (λ name. name.now) names.now)) }
+    ensures { IfOk result (λ kinds. kinds.items ≡ filter_map kind_called (map (λ name. name.now) names.now)) }
 {
     let mut kinds = Vec::new(alloc);
     for name in names {
-        if let Some(kind) = kind_named(name) {
+        if let Some(kind) = kind_called(name) {
             kinds.push(kind)?;
         }
     }

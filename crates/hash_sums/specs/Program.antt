@@ -4,7 +4,7 @@ use Rattle.std.specs.Io.KnownBytes.{Keeps}
 use Rattle.std.specs.Option.{option_or, unwrap_or}
 use Rattle.hash_lines.specs.declared.line.Form.TheVariants.{Tagged, Untagged}
 use Rattle.hash_lines.specs.declared.line.LineKind.{LineKind}
-use Rattle.cli.specs.Call.{Choice, Saying, flag, given, operands, taking, value_of}
+use Rattle.cli.specs.Call.{Choice, Saying, flag, given, given_last, operands, taking, value_of}
 use Rattle.cli.specs.Frame.{EndsRequest, request_of}
 use Rattle.streams.specs.declared.failure.Failure.{Failure}
 use Rattle.streams.specs.declared.failure.Failure.TheVariants.{NoMemory}
@@ -54,11 +54,11 @@ checking_of call kind = record {
   warn = given (codes "warn") call;
 }
 
--- how files are summed by a hash
+-- how files are summed by a hash; of the options on the form of a line the last counts
 abbrev pub summing_of : (call : List Saying) → LineKind → Summing
 summing_of call kind = record {
   kind = kind;
-  form = if given (codes "untagged") call then Untagged else Tagged;
+  form = if given_last (codes "untagged") (codes "tag") call then Untagged else Tagged;
   zero = given (codes "zero") call;
 }
 

@@ -1,7 +1,7 @@
 //! What a check is proved to see, as laws with no code of their own, over any files: of the text that was read of a file. Of a file whose
 //! bytes are not known, as one of the disk, they say that some text has the hash. A text's length is that of its file. Behind them what they
 //! say of each hash of the table, in words.
-ghost use Rattle.std.specs.Prelude.{◌≡◌, ◌^◌, ◌<◌, ℕ, Bool, true, false, All, Contains, List, [], ◌∷◌, Ok, Option, Some, codes, map};
+ghost use Rattle.std.specs.Prelude.{◌≡◌, ◌≢◌, ◌^◌, ◌<◌, ℕ, Bool, true, false, All, Contains, List, [], ◌∷◌, Ok, Option, Some, codes, map};
 ghost use Rattle.cli.specs.Call.{given, operands, Saying};
 ghost use Rattle.cli.specs.Files.{files_or};
 ghost use Rattle.cli.specs.Frame.{request_of};
@@ -110,12 +110,13 @@ pub fn each_number_has_its_digits()
     each_hash_fits();
 }
 
-/// What is written of a file that holds a text tells the hash of this text, in either form, with escapes or without.
+/// What is written of a file that holds a text tells the hash of this text, in either form, with escapes or without. Its name has some
+/// byte.
 pub fn what_is_written_of_a_text_tells_its_hash()
     ensures { (keys : Option (ℕ × ℕ)) (told : List LineKind) (default kind : LineKind) (form : Form)
         → map told_of told ≡ kinds keys → Contains told kind → MayBeTold told default form kind
         → kind.keys.0 < 2 ^ 64 → kind.keys.1 < 2 ^ 64
-        → (escapes : Bool) (name text : List ℕ) → IsText text → let number = sum_by kind text in
+        → (escapes : Bool) (name text : List ℕ) → name ≢ [] → IsText text → let number = sum_by kind text in
         Tells told default kind name number (line_of form escapes kind.name.now kind.width name number) }
 {
     each_number_has_its_digits();

@@ -168,7 +168,7 @@ fn summing_of(call: &Call<'_>, kind: LineKind<'static>) -> Summing
 {
     Summing {
         kind,
-        form: if call.gives(b"untagged") {
+        form: if call.gives_last(b"untagged", b"tag") {
             Form::Untagged
         } else {
             Form::Tagged

@@ -148,7 +148,7 @@ fn numbers_of_chunks(rt: HostRuntime) {
 fn calls_end_by_their_sizes(rt: HostRuntime) {
     let alloc = rt.alloc();
     let files = [whole(b"-", b"")];
-    let not_rising = "--least, --average and --most must rise from 64 on";
+    let not_rising = "--least, --average (by default 64K) and --most must rise from 64 on, unlike";
     let no_size = "invalid number of bytes";
     let calls = [
         ("-l64K", ""),

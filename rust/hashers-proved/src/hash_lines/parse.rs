@@ -182,16 +182,19 @@ fn untagged_parts(count: usize, body: &[u8]) -> Option<(&[u8], u128)> {
     Some((shown, number_of(count, digits)?))
 }
 
-/// The name that is shown so, with escapes or without.
+/// The name that is shown so, with escapes or without. It has some byte.
 ///
 /// Proved:
 ///
 /// ```text
-/// IfOk result (λ found. MatchOption found ((name : List ℕ) → name_shown escapes name ≢ shown.now)
-///     (λ name. name_shown escapes name.items ≡ shown.now))
+/// IfOk result (λ found. MatchOption found ((name : List ℕ) → ¬ (IsShown escapes name shown.now))
+///     (λ name. IsShown escapes name.items shown.now))
 /// ```
 #[inline]
 fn name_of(alloc: Global, escapes: bool, shown: &[u8]) -> Result<Option<Vec<u8>>, AllocError> {
+    if shown.is_empty() {
+        return Ok(None);
+    }
     if escapes {
         unescaped(alloc, shown)
     } else {
@@ -204,9 +207,9 @@ fn name_of(alloc: Global, escapes: bool, shown: &[u8]) -> Result<Option<Vec<u8>>
 /// Proved:
 ///
 /// ```text
-/// IfOk result (λ found. MatchOption found ((name : List ℕ) → name_shown escapes name ≢ shown.now)
+/// IfOk result (λ found. MatchOption found ((name : List ℕ) → ¬ (IsShown escapes name shown.now))
 ///     (λ entry. (entry.kind ≡ kind.entry) × (entry.number ≡ number)
-///     × (name_shown escapes entry.name.items ≡ shown.now)))
+///     × IsShown escapes entry.name.items shown.now))
 /// ```
 #[inline]
 fn entry_of<'k>(
@@ -318,7 +321,8 @@ fn escaped_entry<'k>(
 
 /// What a line tells, without its end: of which file the hash of one of these kinds is which number. In a line that is not tagged
 /// it is the one kind. `None` exactly where it is no such line. The digits may be of either case, and a line that is not tagged
-/// may have a star for its second space, as sha256sum writes it. A line that begins with a backslash has escapes.
+/// may have a star for its second space, as sha256sum writes it. A line that begins with a backslash has escapes. A line without a
+/// name is no such line.
 ///
 /// Proved:
 ///

@@ -389,6 +389,26 @@ impl<'a> Call<'a> {
         last
     }
 
+    /// Whether it gives the option of this name, and behind it none of the other name.
+    ///
+    /// Proved:
+    ///
+    /// ```text
+    /// result ≡ given_last name.now other.now (sayings self.now.said.items)
+    /// ```
+    #[inline]
+    pub fn gives_last(&self, name: &[u8], other: &[u8]) -> bool {
+        let mut last = false;
+        for said in &self.said {
+            match said {
+                Said::Gives(given, _) if *given == name => last = true,
+                Said::Gives(given, _) if *given == other => last = false,
+                _ => {}
+            }
+        }
+        last
+    }
+
     /// Its operands, in their order.
     ///
     /// Proved:

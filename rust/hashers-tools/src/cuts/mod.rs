@@ -14,7 +14,7 @@ use cli::progress::Cleared;
 use hash_chunks::failure::TooMany;
 use hash_chunks::listing::Lines;
 use hash_chunks::outcome::{Misuse, Outcome, Wrong, call_of, options, outcome_of};
-use hash_chunks::sizes::wrong_size;
+use hash_chunks::sizes::{fallen_size, wrong_size};
 use std::alloc::{AllocError, Global};
 use std::io;
 use std::io::BufWriter;
@@ -24,8 +24,8 @@ use std::process::ExitCode;
 const NAME: &str = "cuts";
 
 /// What stands in front of the options in the help.
-const FRONT: &str = "usage: cuts [-a NAME] [-l BYTES] [--average BYTES] [-m BYTES] [FILE..]
-       cuts --stats [-a NAME] [-l BYTES] [--average BYTES] [-m BYTES] [FILE..]
+const FRONT: &str = "usage: cuts [-a NAME] [-l BYTES] [--average BYTES] [-m BYTES] [--key-file FILE]
+            [--stats] [--quiet] [FILE..]
 
 Cut each file into chunks where its content says so, and print a line for each
 chunk: where it begins, how many bytes it has, its hash, and the file. An edit
@@ -88,6 +88,7 @@ impl Program for Cuts {
         match outcome {
             Outcome::Usage(Wrong::UnknownName) => call.value(b"algorithm"),
             Outcome::Usage(Wrong::Own(Misuse::NoSize)) => wrong_size(call),
+            Outcome::Usage(Wrong::Own(Misuse::NotRising)) => fallen_size(call),
             _ => wrong_word(call),
         }
     }

@@ -192,3 +192,17 @@ pub fn wrong_size<'a>(call: &Call<'a>) -> Option<&'a [u8]> {
     }
     None
 }
+
+/// The first of the sizes of a call that is below 64 or below the one before it.
+#[inline]
+pub fn fallen_size<'a>(call: &Call<'a>) -> Option<&'a [u8]> {
+    let sizes = sizes_of(call)?;
+    let name = if sizes.least < FEWEST {
+        b"least".as_slice()
+    } else if sizes.average < sizes.least {
+        b"average".as_slice()
+    } else {
+        b"most".as_slice()
+    };
+    call.value(name)
+}

@@ -11,7 +11,7 @@ use cli::call::{Call, Opt, flag, taking};
 use cli::numbers::number_of;
 use cli::outcome;
 use cli::outcome::Words;
-use hash_names::table::{Kind, kind_named};
+use hash_names::table::{KINDS, Kind};
 use std::alloc::{AllocError, Global};
 use std::num::NonZeroUsize;
 
@@ -192,18 +192,59 @@ pub fn settings_of(call: &Call<'_>) -> Result<Settings, Wrong> {
     })
 }
 
+/// Whether a hash has the name, in letters of either case.
+///
+/// Proved:
+///
+/// ```text
+/// result ≡ is_called name.now kind
+/// ```
+#[inline]
+fn is_called(kind: Kind, name: &[u8]) -> bool {
+    kind.row().name.as_bytes().eq_ignore_ascii_case(name)
+}
+
+/// The first of these hashes that has the name, in letters of either case.
+///
+/// Proved:
+///
+/// ```text
+/// result ≡ find (is_called name.now) kinds.now
+/// ```
+#[inline]
+fn first_called(kinds: &[Kind], name: &[u8]) -> Option<Kind> {
+    for kind in kinds {
+        if is_called(*kind, name) {
+            return Some(*kind);
+        }
+    }
+    None
+}
+
+/// The hash of that name, in letters of either case.
+///
+/// Proved:
+///
+/// ```text
+/// result ≡ kind_called name.now
+/// ```
+#[inline]
+fn kind_called(name: &[u8]) -> Option<Kind> {
+    first_called(&KINDS, name)
+}
+
 /// The first of the names that no hash has.
 ///
 /// Proved:
 ///
 /// ```text
 /// option_map (λ word. word.now) result
-///     ≡ find (λ name. is_none (kind_named name)) (map (λ name. name.now) names.now)
+///     ≡ find (λ name. is_none (kind_called name)) (map (λ name. name.now) names.now)
 /// ```
 #[inline]
 fn first_unknown<'a>(names: &[&'a [u8]]) -> Option<&'a [u8]> {
     for name in names {
-        if kind_named(name).is_none() {
+        if kind_called(name).is_none() {
             return Some(*name);
         }
     }
@@ -248,13 +289,13 @@ const USUAL: [Kind; 16] = [
 /// Proved:
 ///
 /// ```text
-/// IfOk result (λ kinds. kinds.items ≡ filter_map kind_named (map (λ name. name.now) names.now))
+/// IfOk result (λ kinds. kinds.items ≡ filter_map kind_called (map (λ name. name.now) names.now))
 /// ```
 #[inline]
 fn kinds_named(alloc: Global, names: &[&[u8]]) -> Result<Vec<Kind>, AllocError> {
     let mut kinds = Vec::new(alloc);
     for name in names {
-        if let Some(kind) = kind_named(name) {
+        if let Some(kind) = kind_called(name) {
             kinds.push(kind)?;
         }
     }

@@ -184,7 +184,7 @@ fn checking_of(call: &Call<'_>, kind: LineKind<'static>) -> Checking<'static> {
 fn summing_of(call: &Call<'_>, kind: LineKind<'static>) -> Summing {
     Summing {
         kind,
-        form: if call.gives(b"untagged") {
+        form: if call.gives_last(b"untagged", b"tag") {
             Form::Untagged
         } else {
             Form::Tagged

@@ -24,17 +24,14 @@ use streams::failure::Nothing;
 const NAME: &str = "hashsum";
 
 /// What stands in front of the options in the help.
-const FRONT: &str = "usage: hashsum [-a NAME] [--tag | --untagged] [-z] [FILE..]
-       hashsum -c [-a NAME] [--quiet] [--status] [--strict] [-w] [FILE..]
+const FRONT: &str = "usage: hashsum [-a NAME] [--key-file FILE] [--tag | --untagged] [-z] [FILE..]
+       hashsum -c [-a NAME] [--key-file FILE] [--quiet] [--status] [--strict]
+               [--ignore-missing] [-w] [FILE..]
 
 Print a line for each file, NAME (file) = hexadecimal, or with -c check the
 files of such lines. With no FILE, or when FILE is -, read standard input.
-
-";
-
-/// What stands behind them.
-const BEHIND: &str = "
 The exit status is 0, 1 if a file or a check failed, 2 if the call is wrong.
+
 ";
 
 /// Which version this is.
@@ -89,7 +86,7 @@ impl Program for Hashsum {
     #[inline]
     fn outcome_of<'a>(rt: &'a HostRuntime, call: &Call<'a>) -> io::Result<Outcome> {
         let alloc = rt.alloc();
-        let help = help_for(alloc, call, FRONT, &options(), BEHIND)?;
+        let help = help_for(alloc, call, FRONT, &options(), "")?;
         let list = if call.gives(b"list") {
             list(alloc)?
         } else {

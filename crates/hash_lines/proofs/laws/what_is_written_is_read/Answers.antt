@@ -1,9 +1,11 @@
 use Rattle.hash_lines.specs.Line.{line_of}
-use Rattle.hash_lines.proofs.OneLemmas.{line_one}
-use Rattle.hash_lines.proofs.TellsLemmas.{line_told}
+use Rattle.hash_lines.proofs.OneLemmas.{line_shows_one}
+use Rattle.hash_lines.proofs.ShownLemmas.{line_shows}
+use Rattle.hash_lines.proofs.TellsLemmas.{line_shown}
 use Rattle.hash_lines.proofs.laws.what_is_written_is_read.Goals as goal
 
 pub returns : goal.returns
 returns c kinds default kind form are may escapes name number small other more count tells =
-    line_one kinds default are kind other name more number count (line_of form escapes kind.name.now kind.width name number)
-    (line_told kinds default kind form may escapes name number small) tells
+    let line = line_of form escapes kind.name.now kind.width name number in
+    line_shows_one kinds default are kind other name more number count line
+    (line_shown kinds default kind form may escapes name number small) (line_shows kinds default other more count line tells)

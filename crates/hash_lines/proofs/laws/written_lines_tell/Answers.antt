@@ -1,5 +1,9 @@
-use Rattle.hash_lines.proofs.TellsLemmas.{line_told}
+use Rattle.hash_lines.specs.Line.{line_of}
+use Rattle.hash_lines.proofs.ShownLemmas.{line_tells}
+use Rattle.hash_lines.proofs.TellsLemmas.{line_shown}
 use Rattle.hash_lines.proofs.laws.written_lines_tell.Goals as goal
 
 pub returns : goal.returns
-returns c kinds default kind form may escapes name number small = line_told kinds default kind form may escapes name number small
+returns c kinds default kind form may escapes name number named small =
+    line_tells kinds default kind name number (line_of form escapes kind.name.now kind.width name number) named
+    (line_shown kinds default kind form may escapes name number small)

@@ -1,5 +1,5 @@
 use Rattle.std.proofs.Common.{subst, sym}
-use Rattle.hash_lines.specs.Line.{digits_of, name_shown, ShowsTagged}
+use Rattle.hash_lines.specs.Line.{digits_of, ShowsTagged}
 use Rattle.hash_lines.proofs.TellsLemmas.{tagged_found}
 use Rattle.hash_lines.proofs.parse.tagged_entry.Goals as goal
 
@@ -14,8 +14,7 @@ returns-in-Some c =
     c.entry_of.result c.entry_of.ensures
 
 pub returns-in-None : goal.returns-in-None
-returns-in-None c = λ name number tells.
-    let shown = name_shown c.args.escapes name in
+returns-in-None c = λ name number (shown, is, tells).
     let body = c.args.body.now in
     c.in-None.ensures shown number
     (subst (λ n. ShowsTagged c.as_bytes.result.now n shown number body) (sym c.digits.ensures.value)

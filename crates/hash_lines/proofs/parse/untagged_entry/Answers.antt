@@ -1,5 +1,5 @@
 use Rattle.std.proofs.Common.{subst, sym}
-use Rattle.hash_lines.specs.Line.{name_shown, ShowsUntagged}
+use Rattle.hash_lines.specs.Line.{ShowsUntagged}
 use Rattle.hash_lines.proofs.TellsLemmas.{untagged_found}
 use Rattle.hash_lines.proofs.parse.untagged_entry.Goals as goal
 
@@ -12,7 +12,6 @@ returns-in-Some c =
     (subst (λ n. ShowsUntagged n shown number body) c.digits.ensures.value c.in-Some.ensures) c.entry_of.result c.entry_of.ensures
 
 pub returns-in-None : goal.returns-in-None
-returns-in-None c = λ name number tells.
-    let shown = name_shown c.args.escapes name in
+returns-in-None c = λ name number (shown, is, tells).
     c.in-None.ensures shown number
     (subst (λ n. ShowsUntagged n shown number c.args.body.now) (sym c.digits.ensures.value) tells)

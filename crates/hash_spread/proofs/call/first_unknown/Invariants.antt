@@ -1,11 +1,11 @@
 use Rattle.std.proofs.Common.{◌≡◌, drop, map}
 use Rattle.std.specs.List.{find}
 use Rattle.std.specs.Option.{is_none}
-use Rattle.hash_names.specs.Named.{kind_named}
+use Rattle.hash_spread.specs.Call.{kind_called}
 use Rattle.hash_spread.proofs.call.first_unknown.Given as goal
 
 -- the first one is among those that are left
 abbrev pub invariant-loop-name : goal.invariant-loop-name
 invariant-loop-name l =
-    find (λ name. is_none (kind_named name)) (map (λ name. name.now) (drop l.name-index l.names))
-    ≡ find (λ name. is_none (kind_named name)) (map (λ name. name.now) l.names)
+    find (λ name. is_none (kind_called name)) (map (λ name. name.now) (drop l.name-index l.names))
+    ≡ find (λ name. is_none (kind_called name)) (map (λ name. name.now) l.names)

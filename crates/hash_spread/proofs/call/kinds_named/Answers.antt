@@ -1,17 +1,17 @@
 use Rattle.std.proofs.Common.{◌++◌, ◌∷◌, [], ap, sym, ◌∙◌}
-use Rattle.hash_names.specs.Named.{kind_named}
+use Rattle.hash_spread.specs.Call.{kind_called}
 use Rattle.hash_spread.proofs.FoundLemmas.{found_none, found_one}
 use Rattle.hash_spread.proofs.call.kinds_named.Goals.{in-Some+in_ok-push, in_default}
 use Rattle.hash_spread.proofs.call.kinds_named.Goals as goal
 
 pub loop-name-preserved : goal.loop-name-preserved
-loop-name-preserved c = elim c.match-kind_named.branch [
+loop-name-preserved c = elim c.match-kind_called.branch [
   | in-Some+in_ok-push w ↦
       ap (λ kinds. kinds.items) w.kinds-is ∙ w.in_ok-push.ensures.items ∙ ap (λ items. items ++ w.in-Some.kind ∷ []) c.loop-name.invariant
-      ∙ sym (found_one kind_named (λ name. name.now) c.args.names.now c.loop-name.name-index _ c.loop-name-test.true w.in-Some.kind
-      (sym c.kind_named.ensures ∙ w.in-Some.is))
+      ∙ sym (found_one kind_called (λ name. name.now) c.args.names.now c.loop-name.name-index _ c.loop-name-test.true w.in-Some.kind
+      (sym c.kind_called.ensures ∙ w.in-Some.is))
   | in_default w ↦
       ap (λ kinds. kinds.items) w.kinds-is ∙ c.loop-name.invariant
-      ∙ sym (found_none kind_named (λ name. name.now) c.args.names.now c.loop-name.name-index _ c.loop-name-test.true
-      (sym c.kind_named.ensures ∙ w.in_default.is))
+      ∙ sym (found_none kind_called (λ name. name.now) c.args.names.now c.loop-name.name-index _ c.loop-name-test.true
+      (sym c.kind_called.ensures ∙ w.in_default.is))
 ]

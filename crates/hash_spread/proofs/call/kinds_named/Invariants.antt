@@ -1,8 +1,8 @@
 use Rattle.std.proofs.Common.{◌≡◌, map, take}
 use Rattle.std.specs.List.{filter_map}
-use Rattle.hash_names.specs.Named.{kind_named}
+use Rattle.hash_spread.specs.Call.{kind_called}
 use Rattle.hash_spread.proofs.call.kinds_named.Given as goal
 
 -- the hashes of the names so far
 abbrev pub invariant-loop-name : goal.invariant-loop-name
-invariant-loop-name l = l.kinds.items ≡ filter_map kind_named (map (λ name. name.now) (take l.name-index l.names))
+invariant-loop-name l = l.kinds.items ≡ filter_map kind_called (map (λ name. name.now) (take l.name-index l.names))

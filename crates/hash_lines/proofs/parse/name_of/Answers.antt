@@ -1,0 +1,9 @@
+use Rattle.std.proofs.Common.{length, sym, ◌∙◌}
+use Rattle.std.proofs.lemmas.Bool.{eqb-true}
+use Rattle.hash_lines.proofs.ShownLemmas.{none_shown}
+use Rattle.hash_lines.proofs.parse.name_of.Goals as goal
+
+pub returns-then-is_empty : goal.returns-then-is_empty
+returns-then-is_empty c = λ name.
+    let shown = c.args.shown.now in
+    none_shown c.args.escapes name shown (eqb-true (length shown) 0 (sym c.is_empty.ensures ∙ c.if-is_empty.true))
