@@ -1,5 +1,5 @@
 //! XXH3 of more than 240 bytes.
-ghost use Rattle.std.specs.Prelude.{◌≡◌, ◌+◌, ◌-◌, ◌*◌, ◌/◌, ◌%◌, ◌≤◌, ◌<◌, length};
+ghost use Rattle.std.specs.Prelude.{◌≡◌, ◌+◌, ◌-◌, ◌*◌, ◌/◌, ◌%◌, ◌≤◌, ◌<◌, length, take, drop};
 ghost use Rattle.hash_xxh3.specs.Long.{IsLanes, secret_of, start_words, start_lanes, halves_product, lane, accumulate, scrambled, scramble, stripe_in, stripes_in, merge_pair, merge, last_words, end_words, end_long, long_under, of_long};
 ghost use Rattle.hash_xxh3.specs.Streaming.{kept_words};
 
@@ -162,6 +162,46 @@ pub(crate) fn stripes_in(secret: &[u8; 192], start: Lanes, text: &[u8]) -> Lanes
     lanes
 }
 
+// Two stripes more, of which the first is not the last of its block.
+#[inline(always)]
+fn two_in(secret: &[u8; 192], lanes: Lanes, first: &[u8; 64], second: &[u8; 64]) -> Lanes
+    requires block { lanes.stripe < 16 }
+    requires even { lanes.stripe % 2 ≡ 0 }
+    ensures value { result ≡ stripe_in secret.now (stripe_in secret.now lanes first.now) second.now }
+    ensures in_block { result.stripe < 16 }
+    ensures even { result.stripe % 2 ≡ 0 }
+{
+    // it is below 16; the remainder says so to a compiler that would test the bounds
+    let at = 8 * (lanes.stripe % 16);
+    let middle = accumulate(&lanes.words, first, secret, at);
+    let words = accumulate(&middle, second, secret, at + 8);
+    if lanes.stripe < 14 {
+        Lanes {
+            words,
+            stripe: lanes.stripe + 2,
+        }
+    } else {
+        Lanes {
+            words: scramble(&words, secret),
+            stripe: 0,
+        }
+    }
+}
+
+// All stripes of a text that is whole stripes, from the start, two a turn.
+#[inline(always)]
+fn stripes_by_two(secret: &[u8; 192], text: &[u8]) -> Lanes
+    ensures { result ≡ stripes_in secret.now start_lanes (length text.now / 64) text.now }
+{
+    let (pairs, last) = text.as_chunks::<128>();
+    let mut lanes = START;
+    for pair in pairs {
+        let (stripes, _) = pair.as_chunks::<64>();
+        lanes = two_in(secret, lanes, &stripes[0], &stripes[1]);
+    }
+    stripes_in(secret, lanes, last)
+}
+
 // Two words folded into one, under 16 bytes of the secret's 64 from `at` on.
 #[inline(always)]
 #[tactic(auto, unfolding(crate::specs::Long::merge_pair))]
@@ -207,7 +247,7 @@ pub(crate) fn end_words(secret: &[u8; 192], text: &[u8]) -> [u64; 8]
     requires { 241 ≤ length text.now }
     ensures { result ≡ end_words secret.now text.now }
 {
-    let lanes = stripes_in(secret, START, &text[..(text.len() - 1) / STRIPE * STRIPE]);
+    let lanes = stripes_by_two(secret, &text[..(text.len() - 1) / STRIPE * STRIPE]);
     last_words(secret, &lanes.words, text)
 }
 
