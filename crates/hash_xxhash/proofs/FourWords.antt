@@ -1,9 +1,9 @@
--- The four words of a block of XXH32 as the halves of two words of eight bytes.
+-- The four words of a block: of XXH32 as the halves of two words of eight bytes, of XXH64 as those of two halves of the block.
 use Rattle.std.proofs.Common.{◌≡◌, ℕ, ◌+◌, ◌-◌, ◌*◌, ◌/◌, ◌%◌, ◌^◌, ◌<◌, List, [], ◌∷◌, length, take, drop, refl, sym, ap, ◌∙◌, arith, lit≤, length-drop}
 use Rattle.std.proofs.lemmas.List.{take-take, drop-take, drop-drop, take_all, length-take-le}
 use Rattle.std.proofs.lemmas.List.Elements.{All-take, All-drop}
 use Rattle.hash_words.specs.Words.{le}
-use Rattle.hash_words.specs.Pieces.{pieces}
+use Rattle.hash_words.specs.Pieces.{le_words, pieces}
 use Rattle.hash_words.proofs.ByteLemmas.{le-few}
 use Rattle.hash_words.proofs.PieceLemmas.{AreBytes, IsByte}
 use Rattle.hash_blocks.proofs.WordLemmas.{le-four}
@@ -40,3 +40,18 @@ module _ (b : List ℕ) (are : AreBytes b) (sixteen : length b ≡ 16) where
       ap (λ l. le (take 4 (drop 4 l))) (drop-drop 4 4 b)
       ∙ ap le (take_all 4 (drop 4 u) (omega (arith, u_eight, length-drop 4 u))) ∙ sym (high u u_are u_eight) in
       rw (sixteen, first, second, third, fourth) refl
+
+-- 32 bytes
+pub words_by_two : (b : List ℕ) → length b ≡ 32 → le_words b
+    ≡ le (take 8 (take 16 b)) ∷ le (drop 8 (take 16 b)) ∷ le (take 8 (take 16 (drop 16 b))) ∷ le (drop 8 (take 16 (drop 16 b))) ∷ []
+unfolding le_words pieces
+words_by_two b long =
+    let u = drop 16 b in
+    let place : drop 8 (drop 8 b) ≡ u = drop-drop 8 8 b in
+    let first : le (take 8 b) ≡ le (take 8 (take 16 b)) = ap le (sym (take-take 8 16 b (lit≤ tt))) in
+    let second : le (take 8 (drop 8 b)) ≡ le (drop 8 (take 16 b)) = ap le (sym (drop-take 8 8 b)) in
+    let third : le (take 8 (drop 8 (drop 8 b))) ≡ le (take 8 (take 16 u)) =
+    ap (λ l. le (take 8 l)) place ∙ ap le (sym (take-take 8 16 u (lit≤ tt))) in
+    let fourth : le (take 8 (drop 8 (drop 8 (drop 8 b)))) ≡ le (drop 8 (take 16 u)) =
+    ap (λ l. le (take 8 (drop 8 l))) place ∙ ap le (sym (drop-take 8 8 u)) in
+    rw (long, first, second, third, fourth) refl

@@ -4,7 +4,7 @@
 use crate::{hash_blocks, hash_words};
 
 use hash_blocks::{BlockHasher, BlockRule};
-use hash_words::{le_four, le_words, le64, rotl64, rotl64_by, xorshift};
+use hash_words::{le_four, le_two, le64, rotl64, rotl64_by, xorshift};
 
 /// The first of the five primes of XXH64.
 pub const P1: u64 = 0x9E37_79B1_85EB_CA87;
@@ -57,6 +57,21 @@ pub fn start(seed: u64) -> [u64; 4] {
     ]
 }
 
+// The four words of a block, read two by two: of four that are read alone LLVM makes a vector where the processor has a product of
+// vectors, which takes longer than four products.
+/// Proved:
+///
+/// ```text
+/// result ≡ le_words block.now
+/// ```
+#[inline(always)]
+fn words_of(block: &[u8; 32]) -> [u64; 4] {
+    let (halves, _) = block.as_chunks::<16>();
+    let (first, second) = le_two(&halves[0]);
+    let (third, fourth) = le_two(&halves[1]);
+    [first, second, third, fourth]
+}
+
 /// The four lanes of XXH64 after a block.
 ///
 /// Proved:
@@ -66,7 +81,7 @@ pub fn start(seed: u64) -> [u64; 4] {
 /// ```
 #[inline(always)]
 pub fn after_block(lanes: &[u64; 4], block: &[u8; 32]) -> [u64; 4] {
-    let words: [u64; 4] = le_words(block);
+    let words = words_of(block);
     [
         round(lanes[0], words[0]),
         round(lanes[1], words[1]),
