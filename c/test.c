@@ -58,23 +58,52 @@ static const struct kind {
 };
 enum { KINDS = sizeof kinds / sizeof *kinds };
 
-static const struct vector {
-    whole *of;
-    const char *text;
-    uint64_t hash;
-} vectors[] = {
-#include "vectors.inc"
-};
-
 static unsigned char text[1000];
 
-static void check_vectors(void) {
-    for (size_t i = 0; i < sizeof vectors / sizeof *vectors; i++)
-        same(vectors[i].text, vectors[i].hash, vectors[i].of(vectors[i].text, strlen(vectors[i].text)));
-    uint64_t hash = hashers_lookup3_write(hashers_lookup3("a", 1), "b", 1);
-    same("lookup3 in parts", (uint64_t)0xfb413b71 << 32 | 0x60ec4574, hash);
-    unsigned char zeros[12] = {0};
-    same("lookup3 of zeros", (uint64_t)0x14c3a0e3 << 32 | 0xfb293fc1, hashers_lookup3(zeros, 12));
+// The bytes that hexadecimal digits write; how many there are.
+static size_t bytes_of(const char *digits, unsigned char *to) {
+    size_t n = 0;
+    while (sscanf(digits + 2 * n, "%2hhx", &to[n]) == 1) n++;
+    return n;
+}
+
+// The hash by its name, from a seed or from the two words of a key.
+static hashers_words under(const char *name, uint64_t seed, uint64_t other, const unsigned char *at, size_t n) {
+    if (!strcmp(name, "murmur3_128")) return hashers_murmur3_128(at, n, seed);
+    if (!strcmp(name, "xxh128")) return hashers_xxh128(at, n, seed);
+    uint64_t hash = !strcmp(name, "poly61") ? hashers_poly61(seed, at, n)
+        : !strcmp(name, "siphash13") ? hashers_siphash13_keyed(at, n, seed, other)
+        : !strcmp(name, "siphash24") ? hashers_siphash24_keyed(at, n, seed, other)
+        : !strcmp(name, "xxh32") ? hashers_xxh32_seeded(at, n, (uint32_t)seed)
+        : !strcmp(name, "xxh64") ? hashers_xxh64_seeded(at, n, seed)
+        : !strcmp(name, "xxh3") ? hashers_xxh3_seeded(at, n, seed)
+        : !strcmp(name, "murmur3_32") ? hashers_murmur3_32_seeded(at, n, (uint32_t)seed)
+        : hashers_hash(hashers_kind(name, strlen(name)), at, n);
+    return (hashers_words){hash, 0};
+}
+
+// The lines of vectors.txt: by name, and where they start from nothing by the call of that name.
+static void check_vectors(const char *path) {
+    char line[9000], name[20], start[40], digits[8000], hash[40];
+    unsigned char at[4000], key[16];
+    FILE *file = fopen(path, "r");
+    same("vectors.txt is there", 1, file != NULL);
+    while (file && fgets(line, sizeof line, file)) {
+        if (*line == '#' || sscanf(line, "%19s %39s %7999s %39s", name, start, digits, hash) != 4) continue;
+        size_t n = bytes_of(digits, at), wide = strlen(hash) > 16;
+        uint64_t from[2] = {strtoull(start, NULL, 16), 0}, low = strtoull(hash + (wide ? 16 : 0), NULL, 16);
+        if (bytes_of(start, key) == 16) memcpy(from, key, 16);
+        hash[16] = 0;
+        hashers_words wanted = {low, 0};
+        if (wide) wanted = (hashers_words){strtoull(hash, NULL, 16), low};
+        if (!strcmp(name, "xxh128")) wanted = (hashers_words){wanted.second, wanted.first};
+        same_words(name, wanted, under(name, from[0], from[1], at, n));
+        for (const struct kind *k = kinds; k < kinds + KINDS; k++)
+            if (!strcmp(k->name, name) && *start == '-') same(name, low, k->of(at, n));
+    }
+    if (file) fclose(file);
+    uint64_t parts = hashers_lookup3_write(hashers_lookup3("a", 1), "b", 1);
+    same("lookup3 in parts", (uint64_t)0xfb413b71 << 32 | 0x60ec4574, parts);
     same("a high half", hashers_djb2_write(5381, "a", 1), hashers_djb2_write(5381 | (uint64_t)7 << 32, "a", 1));
 }
 
@@ -157,15 +186,6 @@ static hashers_words two(hashers_words words) { return words; }
 
 static void check_seeded(void) {
     uint64_t seed = (uint64_t)0x9e3779b1 << 32 | 7, k0 = 0x0706050403020100, k1 = 0x0f0e0d0c0b0a0908;
-    unsigned char count[15];
-    for (int i = 0; i < 15; i++) count[i] = (unsigned char)i;
-    same("siphash24's published text", 0xa129ca6149be45e5, hashers_siphash24_keyed(count, 15, k0, k1));
-    same("xxh64 as xxhsum's library has it", 0xb559b98d844e0635, hashers_xxh64_seeded("xxhash", 6, 20141025));
-    same("xxh32 as xxhsum's library has it", 0x67bb40dd, hashers_xxh32_seeded("xxhash", 6, 20141025));
-    same("xxh3 as xxhsum's library has it", 0x8e5dc07f2b839bb0, hashers_xxh3_seeded("xxhash", 6, 20141025));
-    same_words("xxh128 as xxhsum's library has it", (hashers_words){0x97334731064933c1, 0x79ac33c96912c286},
-               hashers_xxh128("xxhash", 6, 20141025));
-    same("murmur3_32's published seed", 0x514e28b7, hashers_murmur3_32_seeded("", 0, 1));
     same("the low word of xxh128", hashers_xxh3_seeded(text, 500, seed), hashers_xxh128(text, 500, seed).first);
 #define hashers_murmur3_seeded hashers_murmur3_128
 #define UNDONE(call, cuts, bits)
@@ -253,21 +273,21 @@ static void check_lines(whole *of, uint32_t number) {
 typedef bool on_filter(uint64_t *, size_t, uint64_t, uint32_t, const void *, size_t);
 typedef bool in_filter(const uint64_t *, size_t, uint64_t, uint32_t, const void *, size_t);
 
-// A filter against its definition: the place of probe i is (first + i * second) mod bits.
+// A filter against its definition: the place of probe i is (first + i * second + (i^3 - i) / 6) mod 2^64 mod bits.
 static void check_filter(whole *first, whole *second, on_filter *insert, in_filter *contains) {
     enum { BITS = 1000, WORDS = 16, PROBES = 5 };
     uint64_t words[WORDS + 1] = {0}, wanted[WORDS + 1] = {0}, others[WORDS] = {0};
     for (size_t n = 0; n < 60; n++) {
-        uint64_t f = first(text, n) % BITS, g = second(text, n) % BITS;
+        uint64_t f = first(text, n), g = second(text, n);
         bool before = true;
-        for (int i = 0; i < PROBES; i++) {
-            size_t at = (f + (uint64_t)i * g) % BITS;
+        for (uint64_t i = 0; i < PROBES; i++) {
+            size_t at = (f + i * g + (i * i * i - i) / 6) % BITS;
             before = before && wanted[at / 64] >> at % 64 & 1;
             wanted[at / 64] |= (uint64_t)1 << at % 64;
         }
         same("contains before", before, contains(words, WORDS, BITS, PROBES, text, n));
-        same("insert", before, insert(words, WORDS, BITS, PROBES, text, n));
-        same("insert again", 1, insert(words, WORDS, BITS, PROBES, text, n));
+        same("insert", !before, insert(words, WORDS, BITS, PROBES, text, n));
+        same("insert again", 0, insert(words, WORDS, BITS, PROBES, text, n));
         for (size_t k = 0; k <= n; k++) same("contains", 1, contains(words, WORDS, BITS, PROBES, text, k));
         same("the bits", 0, (uint64_t)memcmp(words, wanted, sizeof words));
     }
@@ -649,10 +669,11 @@ static void check_numbers(void) {
     same("no texts from a place past the end", 0, hashers_column64(HASHERS_FNV1A64, "", 0, (uint64_t[]){5}, 1, NULL, 0));
 }
 
-int main(void) {
+// The path of vectors.txt, if it is not the one from a folder of the repository.
+int main(int argc, char **argv) {
     for (size_t i = 0; i < sizeof text; i++) text[i] = (unsigned char)(random_number() >> 32);
     same("version", HASHERS_VERSION, hashers_version());
-    check_vectors();
+    check_vectors(argc > 1 ? argv[1] : "../vectors.txt");
     for (const struct kind *k = kinds; k < kinds + KINDS; k++) {
         same(k->name, k->of(text, 0), k->of(NULL, 0));
         check_parts(k);
@@ -667,8 +688,8 @@ int main(void) {
     check_number_hash();
     for (const struct kind *k = kinds; k < kinds + KINDS; k++) check_number(k);
     check_numbers();
-    check_filter(hashers_fnv1a64, hashers_lookup3, hashers_bloom_fnv1a64_lookup3_insert, hashers_bloom_fnv1a64_lookup3_contains);
     check_filter(hashers_spooky, hashers_lookup3, hashers_bloom_spooky_lookup3_insert, hashers_bloom_spooky_lookup3_contains);
+    check_filter(hashers_fnv1a64, hashers_lookup3, hashers_bloom_fnv1a64_lookup3_insert, hashers_bloom_fnv1a64_lookup3_contains);
     check_chunks();
     check_rings();
     check_states_of_any_bytes();

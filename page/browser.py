@@ -14,8 +14,12 @@ import time
 from selenium.webdriver.common.keys import Keys
 
 sys.dont_write_bytecode = True
+sys.path.append(os.path.join(os.path.dirname(os.path.realpath(__file__)), "..", "measure"))
 from chromium import CONTRASTS, Browser, Count, Server  # noqa: E402
+from library.names import listed  # noqa: E402
 
+# of each hash that a program prints without a key, the programs
+PRINTED = {row["name"]: row["programs"] for row in listed("name") if "hash" in row["programs"] and row["start"] != "key"}
 ITEMS = "\n".join(f"item{number:04}" for number in range(4096))
 
 
@@ -38,8 +42,14 @@ class Test:
     def said_by(self, program, *words, text=b""):
         return subprocess.run([os.path.join(self.programs, program), *words], input=text, capture_output=True, check=True).stdout.decode()
 
-    def hashes_by_hashof(self, names, text):
-        return {name: self.said_by("hashof", name, text=text).strip() for name in names}
+    def hash_by_program(self, name, text):
+        """The number that hashof prints, or else hashsum."""
+        if "hashof" in PRINTED[name]:
+            return self.said_by("hashof", name, text=text).strip()
+        return str(int(self.said_by("hashsum", "--untagged", "-a", name, text=text).split()[0], 16))
+
+    def hashes_by_programs(self, names, text):
+        return {name: self.hash_by_program(name, text) for name in names}
 
     def hashes(self):
         return {row[0]: row[2:4] for row in self.browser.rows("#text .rows")}
@@ -70,10 +80,10 @@ class Test:
         self.is_("it says what was hashed", "All hashes of the text, 24 bytes.", browser.says("text", "24 bytes"))
         names = [line.split()[0] for line in self.said_by("spread", "--list").splitlines()[1:]]
         found = self.hashes()
-        wanted = self.hashes_by_hashof(names, text.encode())
-        self.is_("the hashes of a text", wanted, {name: found[name][0] for name in names})
+        wanted = self.hashes_by_programs([name for name in names if name in PRINTED], text.encode())
+        self.is_("the hashes of a text", wanted, {name: found[name][0] for name in wanted})
         self.is_("the names", [*names, "spooky128", "murmur3_128", "xxh128", "poly61"], list(found))
-        self.is_("in hexadecimal", [], [name for name in names if int(found[name][1], 16) != int(wanted[name])])
+        self.is_("in hexadecimal", [], [name for name in names if int(found[name][1], 16) != int(found[name][0])])
         browser.click("#text [aria-label^='Copy fnv1a64 in hexadecimal']")
         browser.says("text", "Copied fnv1a64")
         copied = browser.driver.execute_async_script("navigator.clipboard.readText().then(arguments[0], arguments[0])")
@@ -103,12 +113,12 @@ class Test:
         browser = self.browser
         browser.drop("#text form", "three.bin", "a\nb")
         self.is_("a file that is dropped", "All hashes of three.bin, 3 bytes.", browser.says("text", "three.bin"))
-        self.is_("its hash", self.said_by("hashof", "crc32", text=b"a\nb").strip(), self.hashes()["crc32"][0])
+        self.is_("its hash", self.hash_by_program("crc32", b"a\nb"), self.hashes()["crc32"][0])
         long = b"x" * 4_000_000 + bytes(100)
         browser.find("#text [name=file]").send_keys(self.file("long.bin", long))
         self.is_("a file in parts", "All hashes of long.bin, 4,000,100 bytes.", browser.says("text", "All hashes of long.bin"))
-        names = ["fnv1a64", "lookup3", "spooky", "fxhash", "fxhash32", "crc32c", "xxh32", "murmur3", "siphash24", "xxh3"]
-        self.is_("its hashes", self.hashes_by_hashof(names, long), {name: self.hashes()[name][0] for name in names})
+        names = ["fnv1a64", "lookup3", "spooky", "fxhash", "fxhash32", "crc32c", "xxh32", "xxh64", "xxh3"]
+        self.is_("its hashes", self.hashes_by_programs(names, long), {name: self.hashes()[name][0] for name in names})
 
     def a_lost_file(self):
         browser = self.browser
@@ -183,9 +193,11 @@ class Test:
         found = [line.split()[:-1] for line in lines[2:17]]
         self.is_("with times the numbers are the same", [line.split() for line in wanted[2:17]], found)
         rows = [row for row in browser.rows("#keys .rows") if row[0] != "by chance"]
-        even = {row[0]: float(row[12]) for row in rows if row[7] == row[11] == "✓ as chance"}
-        best = re.match(r"Take (\w+): the fastest of those that spread these keys as chance does\.", browser.text("#keys .advice"))[1]
-        self.is_("the fastest of the even ones is recommended", min(even.values()), even.get(best))
+        random = ("spooky", "xxh64", "murmur3_32", "siphash13", "xxh3")
+        even = {row[0]: float(row[12]) for row in rows if row[0] in random and row[2] == "0" and row[7] == row[11] == "✓ as chance"}
+        best = re.match(r"Take (\w+) for these keys: the fastest that looks random and spreads them as chance does\.",
+                        browser.text("#keys .advice"))[1]
+        self.is_("the fastest of the even ones that look random is recommended", min(even.values()), even.get(best))
         self.is_("its row is marked", best, browser.text("#keys tr.best th"))
         self.is_("its histogram is shown", True, browser.text("#keys figcaption").startswith(best + ":"))
         browser.click("#keys tr[data-name=loselose] button")
@@ -266,7 +278,7 @@ class Test:
         wanted = "Both have 19 bytes. They differ in one byte, number 12, counted from 0. 20 hashes are proved to tell them apart."
         self.is_("where they differ", wanted, browser.says("texts", "number 12"))
         rows = {row[0]: row[1:] for row in browser.rows("#texts .rows")}
-        self.is_("a law", ["✓ yes", "They have one length and differ only within 3 neighbouring bytes.", "different"], rows["fnv1a64"])
+        self.is_("a law", ["✓ yes", "They have one length and differ only within 3 adjacent bytes.", "different"], rows["fnv1a64"])
         self.is_("no law", ["no law applies", "", "different"], rows["siphash13"])
         self.is_("equal hashes", ["no law applies", "", "✗ equal"], rows["null"])
         self.is_("the places", "The first places, with the bytes of both: 12: 6f 61.", browser.text("#texts .places"))
@@ -338,7 +350,7 @@ class Test:
 
     def documents(self, server):
         """What the page links to reads as UTF-8 with any server."""
-        for name, sign in (("PROVED", "↔"), ("CHOOSING", "37 %"), ("RUST", "hashers-proved")):
+        for name, sign in (("PROVED", "X_of_writes"), ("CHOOSING", "37 %"), ("THEOREMS", "↔")):
             self.browser.driver.get(f"{server.address}docs/{name}.md")
             found = self.browser.run("return [document.characterSet, document.body.innerText.includes(arguments[0])]", sign)
             self.is_(f"docs/{name}.md reads well", ["UTF-8", True], found)
@@ -373,7 +385,7 @@ class Test:
         server.stop()
         browser.fill("#text [name=text]", "no network")
         browser.says("text", "10 bytes")
-        self.is_("a text without a network", self.said_by("hashof", "xxh3", text=b"no network").strip(), self.hashes()["xxh3"][0])
+        self.is_("a text without a network", self.hash_by_program("xxh3", b"no network"), self.hashes()["xxh3"][0])
         self.compare("a\nb\nc", "8", "spooky")
         browser.says("keys", "Done")
         wanted = self.said_by("spread", "--no-times", "-b8", "spooky", text=b"a\nb\nc")

@@ -1,22 +1,20 @@
 """What test.mjs holds the module against, by rust/reference.py, as lines of JSON: random texts with their hashes, each twentieth also under
-seeds and keys; and for each hash how often its bits change over two of the page's random keys."""
+seeds and keys; for each hash how often its bits change over two of the page's random keys; and the windows of hashes.txt."""
 import json
 import os
 import random
 import sys
 
 sys.dont_write_bytecode = True
-sys.path.insert(0, os.path.join(os.path.dirname(os.path.realpath(__file__)), "..", "rust"))
+TOP = os.path.join(os.path.dirname(os.path.realpath(__file__)), "..")
+sys.path[:0] = [os.path.join(TOP, "rust"), os.path.join(TOP, "measure")]
 
 import reference  # noqa: E402
+from library.names import listed  # noqa: E402
 
 PIECE = 4096
 M64 = 2 ** 64 - 1
-BITS = {"elf": 28, "null": 0}
-
-
-def bits_of(name):
-    return BITS.get(name, 32 if "32" in name or name in ("djb2", "djb2_add", "sdbm", "joaat", "crc32c") else 64)
+BITS = {row["name"]: int(row["bits"]) for row in listed("name")}
 
 
 def under_seeds(source, text):
@@ -57,12 +55,13 @@ def avalanches(length):
     answers = [[reference.answers([key]) for key in pair] for pair in flipped]
     for name in whole[0]:
         changes = [[a[name] ^ b[name] for a, b in zip(pair, whole)] for pair in answers]
-        counts = [sum(change >> bit & 1 for change in pair) for pair in changes for bit in range(bits_of(name))]
-        yield {"avalanche": name, "bytes": length, "bits": bits_of(name), "counts": counts}
+        counts = [sum(change >> bit & 1 for change in pair) for pair in changes for bit in range(BITS[name])]
+        yield {"avalanche": name, "bytes": length, "bits": BITS[name], "counts": counts}
 
 
 def main():
-    for case in [*texts(int(sys.argv[1])), *avalanches(5), *avalanches(9)]:
+    windows = {"windows": {row["name"]: row["window"] for row in listed("name") if row["window"]}}
+    for case in [*texts(int(sys.argv[1])), *avalanches(5), *avalanches(9), windows]:
         print(json.dumps(case))
 
 

@@ -18,8 +18,9 @@ except ImportError:
     try:
         from wheel.bdist_wheel import bdist_wheel
     except ImportError:
-        if "bdist_wheel" in sys.argv:
-            sys.exit("setup.py: the package wheel is not installed (Debian's python3-wheel)")
+        # pip asks for dist_info first
+        if {"bdist_wheel", "dist_info"} & set(sys.argv):
+            sys.exit("setup.py: the package wheel is not installed (Debian's python3-wheel; pip install wheel)")
         bdist_wheel = None
 
 HERE = os.path.dirname(os.path.abspath(__file__))

@@ -3,8 +3,8 @@
 `hashsum` does.
 
 A hash that combines is proved to be that of the joined text if it is made from the hashes of its parts. So each line has the number
-that `hashof NAME < FILE` prints. `poly61` has 122 bits, under two keys of 8 bytes each, the lowest byte first, which FILE of --key-file
-holds: whoever does not know them has next to no chance to make two files of one hash.
+whose digits `hashsum -a NAME FILE` prints. `poly61` has 122 bits, under two keys of 8 bytes each, the lowest byte first, which FILE of
+--key-file holds: whoever does not know them has next to no chance to make two files of one hash.
 """
 import os
 import struct

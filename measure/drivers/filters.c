@@ -1,6 +1,7 @@
 // Measures the filter of hash_bloom beside libbloom, by turns, and counts how many strange keys each pair of hashes takes for
-// known ones. It writes one of the two tables of docs/FILTERS.md to standard output.
+// known ones, in large filters and in small ones. It writes one of the three tables of docs/FILTERS.md to standard output.
 #include <bloom.h>
+#include <math.h>
 #include <stdbool.h>
 #include <stdint.h>
 #include <stdio.h>
@@ -30,7 +31,7 @@ void rattle_dealloc(void *at) { free(at); }
 // ---- the calls
 uint32_t measure_kind(const char *name, size_t len);
 uint64_t measure_filters(uint32_t first, uint32_t second, const uint8_t *there, size_t there_len, const uint8_t *asked,
-                         size_t asked_len, size_t size, size_t rounds, uint64_t bits);
+                         size_t asked_len, size_t size, size_t rounds, uint64_t bits, uint32_t probes);
 
 // The names of two hashes; no names are libbloom's.
 struct pair {
@@ -77,7 +78,7 @@ static uint64_t found(struct by by, const uint8_t *there, size_t there_len, cons
                       size_t rounds, uint64_t bits) {
     if (!by.ours)
         return by_libbloom(there, there_len, asked, asked_len, size, rounds);
-    return measure_filters(by.first, by.second, there, there_len, asked, asked_len, size, rounds, bits);
+    return measure_filters(by.first, by.second, there, there_len, asked, asked_len, size, rounds, bits, 7);
 }
 
 // ---- keys
@@ -136,6 +137,35 @@ static void strange_keys(size_t count) {
                 printf(" %.2f |", strange_share(numbers_of(pairs[i]), count, random, bits[j]));
         printf("\n");
     }
+}
+
+// How many times as many strange keys are found as were asked for, in so many small filters of random keys, of the best number of bits and
+// probes for that share.
+static double small_share(struct by by, size_t count, double share, size_t filters) {
+    size_t some = (size_t)(share < 1e-5 ? 1000000 : 100000);
+    double bits = ceil((double)count * -log2(share) / log(2)), found = 0;
+    uint32_t probes = (uint32_t)lround(-log2(share));
+    random_state = 3;
+    for (size_t i = 0; i < filters; i++) {
+        uint8_t *there = keys(count, 16, true, 0), *asked = keys(some, 16, true, 0);
+        found += (double)measure_filters(by.first, by.second, there, count * 16, asked, some * 16, 16, 1, (uint64_t)bits, probes);
+        free(there);
+        free(asked);
+    }
+    return found / (double)some / (double)filters / share;
+}
+
+static void small(size_t filters) {
+    const double shares[] = {1e-2, 1e-4, 1e-6};
+    const struct pair good[] = {{"spooky", "lookup3"}, {"fnv1a64", "lookup3"}};
+    printf("| pair | keys | 1 in 100 | 1 in 10000 | 1 in 1000000 |\n|---|---:|---:|---:|---:|\n");
+    for (int i = 0; i < 2; i++)
+        for (size_t count = 10; count <= 1000; count *= 10) {
+            printf("| %s, %s | %zu |", good[i].first, good[i].second, count);
+            for (int j = 0; j < 3; j++)
+                printf(" %.2f |", small_share(numbers_of(good[i]), count, shares[j], filters));
+            printf("\n");
+        }
 }
 
 // ---- times
@@ -229,7 +259,9 @@ int main(int count, char **words) {
         strange_keys(strtoul(words[2], NULL, 10));
     else if (count == 3 && strcmp(words[1], "times") == 0)
         times(strtoul(words[2], NULL, 10));
+    else if (count == 3 && strcmp(words[1], "small") == 0)
+        small(strtoul(words[2], NULL, 10));
     else
-        return fprintf(stderr, "usage: filters strange|times KEYS\n"), 2;
+        return fprintf(stderr, "usage: filters strange|times KEYS, or filters small FILTERS\n"), 2;
     return 0;
 }

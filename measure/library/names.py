@@ -1,29 +1,29 @@
-"""The names of the hashes: ours from the table that all programs share, and the original's hashers."""
+"""The rows of hashes.txt, with the names of the hashes and the original's hashers, and the lines of vectors.txt."""
 import os
-import re
 
 ROOT = os.path.dirname(os.path.dirname(os.path.dirname(os.path.abspath(__file__))))
-# the hashers of the crate hashers 1.0.1, by our names; its SpookyHasher is our version 1
-ORIGINAL = {
-    "fnv1a32": "fnv::FNV1aHasher32", "fnv1a64": "fnv::FNV1aHasher64", "djb2": "oz::DJB2Hasher", "sdbm": "oz::SDBMHasher",
-    "loselose": "oz::LoseLoseHasher", "bricolage": "pigeon::Bricolage", "oaat": "jenkins::OAATHasher", "lookup3": "jenkins::Lookup3Hasher",
-    "spooky_v1": "jenkins::spooky_hash::SpookyHasher", "null": "null::NullHasher", "passthrough": "null::PassThroughHasher",
-    "fxhash": "fx_hash::FxHasher", "fxhash32": "fx_hash::FxHasher32", "fxhash64": "fx_hash::FxHasher64",
-}
 
 
-def rows_in(path, row):
-    """What a source has of a row, in its order; each first word once."""
-    with open(os.path.join(ROOT, path), encoding="utf-8") as source:
-        found = re.findall(row, source.read(), re.M)
-    if not found or len(dict.fromkeys(found)) < len(found):
-        raise SystemExit(f"{path}: no list of names is found there")
-    return found
+def listed(first):
+    """The rows of the table in hashes.txt whose first column is that one, each by its columns."""
+    with open(os.path.join(ROOT, "hashes.txt"), encoding="utf-8") as file:
+        tables = [[[cell.strip() for cell in line.split(" | ")] for line in block.strip().split("\n")] for block in file.read().split("\n\n")]
+    head, *rows = next(table for table in tables if table[0][0] == first)
+    return [dict(zip(head, row + [""] * (len(head) - len(row)))) for row in rows]
+
+
+def vectors():
+    """Of each line of vectors.txt the name, the two words that the hash starts from, the text, and the hash."""
+    with open(os.path.join(ROOT, "vectors.txt"), encoding="utf-8") as file:
+        for name, start, text, wanted in (line.split() for line in file if not line.startswith("#")):
+            key = bytes.fromhex(start) if len(start) == 32 else int(start.strip("-") or "0", 16).to_bytes(16, "little")
+            words = int.from_bytes(key[:8], "little"), int.from_bytes(key[8:], "little")
+            yield name, words, bytes.fromhex(text.strip("-")), int(wanted, 16)
 
 
 def names():
-    """In the order of the table."""
-    return rows_in("crates/hash_names/src/table.rt", r'^ *Kind::\w+ => entry\("(\w+)"')
+    """In the order of the table of all kinds."""
+    return [row["name"] for row in listed("name") if row["kind"]]
 
 
 def unlike_names():
@@ -32,8 +32,8 @@ def unlike_names():
 
 
 def hashers_of_original():
-    """The original's hasher of each name that it has, in the order of the table."""
-    return {name: ORIGINAL[name] for name in names() if name in ORIGINAL}
+    """The original's hasher of each name that it has, in the order of the table; its SpookyHasher is our version 1."""
+    return {row["name"]: row["original"] for row in listed("name") if row["original"]}
 
 
 def original_of(name):

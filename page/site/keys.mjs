@@ -71,7 +71,7 @@ function end([lines, best]) {
     body.lastChild.classList.add("chance");
   }
   const advice = lines.split("\n").at(-1);
-  keys.find(".advice").textContent = /^(Take|None) /.test(advice) ? advice : "No times were measured, so no hash is recommended.";
+  keys.find(".advice").textContent = /^(Take|None|Too few) /.test(advice) ? advice : "No times were measured, so no hash is recommended.";
   for (const row of body.children) row.classList.toggle("best", row.dataset.name === best);
   keys.say(`Done: ${body.querySelectorAll("button").length} hashes of ${head.keys} different keys.`);
   show(best || histograms.keys().next().value);

@@ -1,66 +1,71 @@
 //! Two texts: where they differ, and which hashes are proved to tell them apart.
 use crate::hashes::Hashes;
 use crate::seeds::Seeds;
-use hashers_proved::blocks::{apart_by_block_murmur3_128, apart_by_word_murmur3_32, apart_by_word_xxh32, apart_by_word_xxh64};
-use hashers_proved::jenkins::OAATHasher;
-use hashers_proved::laws::{apart_by_one, first_difference};
-use hashers_proved::laws::{apart_by_one_word_fx32, apart_by_one_word_fx64, apart_djb2, apart_fnv32, apart_fnv64, apart_sdbm};
-use hashers_proved::more::windows::{apart_crc32_bits, apart_crc32c_bits, apart_djb2_add, apart_fnv1_32, apart_fnv1_64};
-use hashers_proved::more::{Djb2AddHasher, JoaatHasher};
-use hashers_proved::oz::{DJB2Hasher, LoseLoseHasher};
-use hashers_proved::pigeon::Bricolage;
-use hashers_proved::xxh3::{apart_xxh128, apart_xxh3};
+use hashers_proved::laws::{apart_by_one_word_fx32, apart_by_one_word_fx64, first_difference};
+use hashers_proved::{blocks::*, jenkins::*, laws::*, more::windows::*, more::*, oz::*, pigeon::*, xxh3::*};
 
-/// A test of two texts, and when it says that their hashes differ.
+/// A test of two texts, and the window: where texts differ of which it says that their hashes do.
 type Law = (fn(&[u8], &[u8]) -> bool, &'static str);
 
-const ONE_BYTE: &str = "They have one length and differ in one byte.";
-const TWO_BYTES: &str = "They have one length and differ only within 2 neighbouring bytes.";
-const THREE_BYTES: &str = "They have one length and differ only within 3 neighbouring bytes.";
-const SIX_BYTES: &str = "They have one length and differ only within 6 neighbouring bytes, and there only in the low 5 bits.";
-const BITS: &str = "They have one length and differ only within 32 neighbouring bits.";
-const LAST_WORD: &str = "They have one length and differ only in one aligned word of 8 bytes, behind the whole blocks of 32.";
-const WORD_OF_4: &str = "They have one length and differ only in one aligned word of 4 bytes.";
-const BLOCK_OF_4: &str = "They have one length and differ only in one aligned word of 4 bytes, or behind these words.";
-const FX_WORD: &str = "They have one length and differ only in one word of fx: 8 bytes, and behind these 4 and then single ones.";
-const FX_WORD_32: &str = "They have one length and differ only in one word of fx: 4 bytes, and behind these single ones.";
-const BLOCK: &str = "They have one length and differ only in one aligned block of 16 bytes, or behind these blocks.";
-const FEW: &str = "They differ, and both have 1 to 3 bytes, or one length of 4 to 8 bytes.";
-const SIXTEEN: &str = "They differ, and have one length of at most 16 bytes.";
-
-fn word_64(x: &[u8], y: &[u8]) -> bool {
+fn apart_fx64(x: &[u8], y: &[u8]) -> bool {
     apart_by_one_word_fx64(&[x], &[y])
 }
 
-fn word_32(x: &[u8], y: &[u8]) -> bool {
+fn apart_fx32(x: &[u8], y: &[u8]) -> bool {
     apart_by_one_word_fx32(&[x], &[y])
 }
 
 /// The laws of the hash of that name.
 fn laws_of(name: &str) -> &'static [Law] {
     match name {
-        "fnv1a32" => &[(apart_fnv32, TWO_BYTES)],
-        "fnv1a64" => &[(apart_fnv64, THREE_BYTES)],
-        "fnv1_32" => &[(apart_fnv1_32, TWO_BYTES)],
-        "fnv1_64" => &[(apart_fnv1_64, THREE_BYTES)],
-        "djb2" => &[(apart_djb2, SIX_BYTES), (apart_by_one::<DJB2Hasher>, ONE_BYTE)],
-        "djb2_add" => &[(apart_djb2_add, SIX_BYTES), (apart_by_one::<Djb2AddHasher>, ONE_BYTE)],
-        "sdbm" => &[(apart_sdbm, THREE_BYTES)],
-        "loselose" => &[(apart_by_one::<LoseLoseHasher>, ONE_BYTE)],
-        "bricolage" => &[(apart_by_one::<Bricolage>, ONE_BYTE)],
-        "oaat" => &[(apart_by_one::<OAATHasher>, ONE_BYTE)],
-        "joaat" => &[(apart_by_one::<JoaatHasher>, ONE_BYTE)],
-        "fxhash" | "fxhash64" => &[(word_64, FX_WORD)],
-        "fxhash32" => &[(word_32, FX_WORD_32)],
-        "crc32" => &[(apart_crc32_bits, BITS)],
-        "crc32c" => &[(apart_crc32c_bits, BITS)],
-        "xxh32" => &[(apart_by_word_xxh32, WORD_OF_4)],
-        "xxh64" => &[(apart_by_word_xxh64, LAST_WORD)],
-        "murmur3_32" => &[(apart_by_word_murmur3_32, BLOCK_OF_4)],
-        "murmur3_128" => &[(apart_by_block_murmur3_128, BLOCK)],
-        "xxh3" => &[(apart_xxh3, FEW)],
-        "xxh128" => &[(apart_xxh128, SIXTEEN)],
+        // declared: laws
+        "fnv1a32" => &[(apart_fnv32, "2 bytes")],
+        "fnv1a64" => &[(apart_fnv64, "3 bytes")],
+        "djb2" => &[(apart_djb2, "6 low"), (apart_by_one::<DJB2Hasher>, "1 byte")],
+        "sdbm" => &[(apart_sdbm, "3 bytes")],
+        "loselose" => &[(apart_by_one::<LoseLoseHasher>, "1 byte")],
+        "bricolage" => &[(apart_by_one::<Bricolage>, "1 byte")],
+        "oaat" => &[(apart_by_one::<OAATHasher>, "1 byte")],
+        "fxhash" => &[(apart_fx64, "fx 8")],
+        "fxhash32" => &[(apart_fx32, "fx 4")],
+        "fxhash64" => &[(apart_fx64, "fx 8")],
+        "crc32" => &[(apart_crc32_bits, "32 bits")],
+        "crc32c" => &[(apart_crc32c_bits, "32 bits")],
+        "fnv1_32" => &[(apart_fnv1_32, "2 bytes")],
+        "fnv1_64" => &[(apart_fnv1_64, "3 bytes")],
+        "djb2_add" => &[(apart_djb2_add, "6 low"), (apart_by_one::<Djb2AddHasher>, "1 byte")],
+        "joaat" => &[(apart_by_one::<JoaatHasher>, "1 byte")],
+        "xxh32" => &[(apart_by_word_xxh32, "word 4")],
+        "xxh64" => &[(apart_by_word_xxh64, "last 8")],
+        "murmur3_32" => &[(apart_by_word_murmur3_32, "word 4, end")],
+        "xxh3" => &[(apart_xxh3, "up to 8")],
+        "murmur3_128" => &[(apart_by_block_murmur3_128, "block 16, end")],
+        "xxh128" => &[(apart_xxh128, "up to 16")],
+        // end of declared
         _ => &[],
+    }
+}
+
+/// When two texts differ only there.
+fn sentence_of(window: &str) -> &'static str {
+    match window {
+        // declared: windows
+        "1 byte" => "They have one length and differ in one byte.",
+        "2 bytes" => "They have one length and differ only within 2 adjacent bytes.",
+        "3 bytes" => "They have one length and differ only within 3 adjacent bytes.",
+        "6 low" => "They have one length and differ only within 6 adjacent bytes, and there only in the low 5 bits.",
+        "32 bits" => "They have one length and differ only within 32 adjacent bits.",
+        "fx 8" => "They have one length and differ only in one word of fx: 8 bytes, and after these 4 and then single ones.",
+        "fx 4" => "They have one length and differ only in one word of fx: 4 bytes, and after these single ones.",
+        "word 4" => "They have one length and differ only in one aligned word of 4 bytes.",
+        "word 4, end" => "They have one length and differ only in one aligned word of 4 bytes, or after these words.",
+        "last 8" => "They have one length and differ only in one aligned word of 8 bytes, after the whole blocks of 32.",
+        "block 16, end" => "They have one length and differ only in one aligned block of 16 bytes, or after these blocks.",
+        "up to 8" => "They differ, and both have 1 to 3 bytes, or one length of 4 to 8 bytes.",
+        "up to 16" => "They differ, and have one length of at most 16 bytes.",
+        "any" => "",
+        // end of declared
+        _ => "",
     }
 }
 
@@ -116,7 +121,7 @@ pub fn compare(x: &[u8], y: &[u8]) -> String {
             continue;
         }
         let law = laws_of(name).iter().find(|law| law.0(x, y));
-        let (sure, sentence) = law.map_or(("no", ""), |law| ("yes", law.1));
+        let (sure, sentence) = law.map_or(("no", ""), |law| ("yes", sentence_of(law.1)));
         said += &format!("\n{name}\t{sure}\t{sentence}\t{}\t{}", hex(answer), hex(other));
     }
     said

@@ -1,6 +1,6 @@
 //! The avalanche of a hash as a picture: how often each of its bits changes when one bit of a key does.
 use crate::NO_MEMORY;
-use hashers_proved::hash_names::table::{kind_named, Kind};
+use hashers_proved::hash_kinds::table::{kind_named, Kind};
 use hashers_proved::shim::{self, std::alloc::Global};
 use hashers_proved::text_set::{RandomKeys, Texts};
 use hashers_tools::hash_spread::named::{hash_by, Hashed};

@@ -1,6 +1,6 @@
 //! How long hashing takes in this browser. Its clock is coarse, so rounds are doubled until they fill a span; it compiles anew what runs
 //! often, and is disturbed at times, so that each hash is measured by turns with the others.
-use hashers_proved::hash_names::table::Kind;
+use hashers_proved::hash_kinds::table::Kind;
 use hashers_proved::shim::std::alloc::AllocError;
 use hashers_tools::hash_spread::named::{hash_by, Hashed};
 

@@ -1,9 +1,10 @@
 //! All hashes of one text that comes in parts.
 use crate::seeds::Seeds;
 use hashers_proved::blocks::{SipKey, *};
-use hashers_proved::hash_names::table::{Kind, KINDS};
-use hashers_proved::hash_names::wide::WideHash;
-use hashers_proved::jenkins::{spooky_hash::SpookyHasher, *};
+use hashers_proved::hash_kinds::table::{Kind, KINDS};
+use hashers_proved::hash_names::table::Ported;
+use hashers_proved::hash_kinds::wide::WideHash;
+use hashers_proved::jenkins::{spooky_hash::*, *};
 use hashers_proved::keyed::Poly61Hasher;
 use hashers_proved::xxh3::Xxh3Hasher;
 use hashers_proved::{fnv::*, fx_hash::*, more::*, null::*, oz::*, pigeon::*};
@@ -23,9 +24,6 @@ struct Narrow<H>(H);
 
 /// Its number of 128 bits.
 struct Wide<H>(H);
-
-/// Version 1 of SpookyHash.
-struct Version1(SpookyHasher);
 
 impl<H: Hasher> Running for Narrow<H> {
     fn write(&mut self, piece: &[u8]) {
@@ -47,16 +45,6 @@ impl<H: WideHash> Running for Wide<H> {
     }
 }
 
-impl Running for Version1 {
-    fn write(&mut self, piece: &[u8]) {
-        self.0.write(piece);
-    }
-
-    fn answer(&self) -> u128 {
-        self.0.finish128_v1().0.into()
-    }
-}
-
 type Run = Box<dyn Running>;
 
 fn fresh<H: Hasher + Default + 'static>() -> Run {
@@ -72,20 +60,21 @@ fn run_of(kind: Kind, seeds: &Seeds) -> Option<Run> {
     let seed = seeds.seed;
     let key = SipKey { k0: seeds.key.0, k1: seeds.key.1 };
     Some(match kind {
-        Kind::Fnv1a32 => fresh::<FNV1aHasher32>(),
-        Kind::Fnv1a64 => fresh::<FNV1aHasher64>(),
-        Kind::Djb2 => fresh::<DJB2Hasher>(),
-        Kind::Sdbm => fresh::<SDBMHasher>(),
-        Kind::LoseLose => fresh::<LoseLoseHasher>(),
-        Kind::Bricolage => fresh::<Bricolage>(),
-        Kind::Oaat => fresh::<OAATHasher>(),
-        Kind::Lookup3 => fresh::<Lookup3Hasher>(),
-        Kind::Spooky => started(SpookyHasher::new(seed, seeds.second)),
-        Kind::SpookyV1 => Box::new(Version1(SpookyHasher::new(seed, seeds.second))),
-        Kind::PassThrough => fresh::<PassThroughHasher>(),
-        Kind::FxHash => fresh::<FxHasher>(),
-        Kind::FxHash32 => fresh::<FxHasher32>(),
-        Kind::FxHash64 => fresh::<FxHasher64>(),
+        // declared: hashers
+        Kind::Ported(Ported::Fnv1a32) => fresh::<FNV1aHasher32>(),
+        Kind::Ported(Ported::Fnv1a64) => fresh::<FNV1aHasher64>(),
+        Kind::Ported(Ported::Djb2) => fresh::<DJB2Hasher>(),
+        Kind::Ported(Ported::Sdbm) => fresh::<SDBMHasher>(),
+        Kind::Ported(Ported::LoseLose) => fresh::<LoseLoseHasher>(),
+        Kind::Ported(Ported::Bricolage) => fresh::<Bricolage>(),
+        Kind::Ported(Ported::Oaat) => fresh::<OAATHasher>(),
+        Kind::Ported(Ported::Lookup3) => fresh::<Lookup3Hasher>(),
+        Kind::Ported(Ported::Spooky) => started(SpookyHasher::new(seed, seeds.second)),
+        Kind::Ported(Ported::SpookyV1) => started(SpookyV1Hasher::new(seed, seeds.second)),
+        Kind::Ported(Ported::PassThrough) => fresh::<PassThroughHasher>(),
+        Kind::Ported(Ported::FxHash) => fresh::<FxHasher>(),
+        Kind::Ported(Ported::FxHash32) => fresh::<FxHasher32>(),
+        Kind::Ported(Ported::FxHash64) => fresh::<FxHasher64>(),
         Kind::Crc32 => fresh::<Crc32Hasher>(),
         Kind::Crc32c => fresh::<Crc32cHasher>(),
         Kind::Fnv1At32 => fresh::<Fnv1Hasher32>(),
@@ -93,7 +82,7 @@ fn run_of(kind: Kind, seeds: &Seeds) -> Option<Run> {
         Kind::Djb2Add => fresh::<Djb2AddHasher>(),
         Kind::Joaat => fresh::<JoaatHasher>(),
         Kind::Elf => fresh::<ElfHasher>(),
-        Kind::Null => fresh::<NullHasher>(),
+        Kind::Ported(Ported::Null) => fresh::<NullHasher>(),
         Kind::Xxh32 => started(Xxh32Hasher::new(u32::try_from(seed).ok()?)),
         Kind::Xxh64 => started(Xxh64Hasher::new(seed)),
         Kind::Murmur3At32 => started(Murmur3Hasher32::new(u32::try_from(seed).ok()?)),
@@ -101,16 +90,24 @@ fn run_of(kind: Kind, seeds: &Seeds) -> Option<Run> {
         Kind::SipHash13 => started(SipHasher13::new(key)),
         Kind::SipHash24 => started(SipHasher24::new(key)),
         Kind::Xxh3 => started(Xxh3Hasher::new(seed)),
+        // end of declared
     })
 }
 
 /// What a hash starts from.
 fn under(kind: Kind) -> &'static str {
     match kind {
-        Kind::Spooky | Kind::SpookyV1 => "both seeds",
-        Kind::Xxh32 | Kind::Murmur3At32 => "the seed, below 2^32",
-        Kind::Xxh64 | Kind::Murmur3 | Kind::Xxh3 => "the seed",
-        Kind::SipHash13 | Kind::SipHash24 => "SipHash’s key",
+        // declared: starts
+        Kind::Ported(Ported::Spooky) => "both seeds",
+        Kind::Ported(Ported::SpookyV1) => "both seeds",
+        Kind::Xxh32 => "the seed, below 2^32",
+        Kind::Xxh64 => "the seed",
+        Kind::Murmur3At32 => "the seed, below 2^32",
+        Kind::Murmur3 => "the seed",
+        Kind::SipHash13 => "SipHash’s key",
+        Kind::SipHash24 => "SipHash’s key",
+        Kind::Xxh3 => "the seed",
+        // end of declared
         _ => "",
     }
 }

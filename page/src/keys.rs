@@ -1,10 +1,11 @@
 //! How hashes spread keys, by what the program `spread` is made of.
 use crate::clock::Measured;
 use crate::{Said, NO_MEMORY};
-use hashers_proved::hash_names::table::{Kind, KINDS};
+use hashers_proved::hash_kinds::table::{Kind, KINDS};
 use hashers_proved::shim::std::alloc::{AllocError, Global};
 use hashers_proved::shim::{self, io::BufReader};
 use hashers_proved::text_set::{RandomKeys, Texts};
+use hashers_tools::hash_spread::advice::{advise, Advice};
 use hashers_tools::hash_spread::call::{call_of, kinds_of, settings_of, unknown_name};
 use hashers_tools::hash_spread::chance::Chance;
 use hashers_tools::hash_spread::counts::Spread;
@@ -120,17 +121,12 @@ impl Keys {
                 said += frame.chance(Global, bits).map_err(no_memory)?.as_str();
             }
         }
-        let best = frame.best(&self.rows).map_or("", |row| row.kind.row().name);
-        Ok(said + &advice(&frame, best) + best)
-    }
-}
-
-/// What `spread` says last.
-fn advice(frame: &Frame, best: &str) -> String {
-    match (frame.times, best) {
-        (false, _) => String::new(),
-        (true, "") => "None of these spreads these keys as chance does.\n".to_string(),
-        (true, name) => format!("Take {name}: the fastest of those that spread these keys as chance does.\n"),
+        let advice = if frame.times { Some(advise(frame.keys, &self.rows)) } else { None };
+        if let Some(advice) = advice {
+            said += advice.line(Global).map_err(no_memory)?.as_str();
+        }
+        let best = if let Some(Advice::Take(kind)) = advice { kind.row().name } else { "" };
+        Ok(said + best)
     }
 }
 

@@ -68,7 +68,7 @@ pub extern "C" fn said_length() -> usize {
 /// Says the names of the one table.
 #[no_mangle]
 pub extern "C" fn names() -> bool {
-    answer(|_| Ok(hashers_proved::hash_names::table::KINDS.map(|kind| kind.row().name).join("\n")))
+    answer(|_| Ok(hashers_proved::hash_kinds::table::KINDS.map(|kind| kind.row().name).join("\n")))
 }
 
 /// Begins a text. In the room are four lines, each empty or a number: a seed, a second one, SipHash's key, and that of poly61. Says the

@@ -46,7 +46,8 @@ def indent_of(s, k):
 
 
 def functions(s):
-    """`#[inline]` before small functions that have no hint, and the clauses of each function behind its documentation."""
+    """`#[inline]` before small functions that have no hint, the clauses of each function behind its documentation, and that a number among
+    its parameters is not 0, which rustc tests."""
     for k, head, first, body in heads(s):
         indent = indent_of(s, head)
         hinted = any(s.is_(i, "inline", "cold") for i in range(head, first))
@@ -57,6 +58,8 @@ def functions(s):
             if documented(s, head):
                 lines.insert(0, "///")
             add(s, head, "".join(line + "\n" + indent for line in lines), front=True)
+        for name in not_zero(s, k, body):
+            add(s, body + 1, f"const {{ assert!(0 < {name}) }};\n{indent}    ")
 
 
 def add(s, k, text, front=False):
@@ -77,6 +80,13 @@ def clauses(s, k, body):
             lines += ["///"] * bool(lines) + ["/// " + title, "///", "/// ```text"]
             lines += [("/// " + line).rstrip() for text in texts for line in text] + ["/// ```"]
     return lines
+
+
+def not_zero(s, k, body):
+    """The parameters `const N` that a function requires not to be 0."""
+    found = [re.fullmatch(r"requires\s*\w*\s*\{ 0 < (\w+) \}", s.toks[i].text) for i in range(k, body) if s.is_ghost(i, "requires")]
+    named = [s.toks[i + 1].text for i in range(k, body) if s.is_(i, "const")]
+    return [it[1] for it in found if it and it[1] in named and s.is_(body, "{")]
 
 
 def clause(text, what):

@@ -12,10 +12,9 @@ SECOND = re.compile(r"""
 MARK = re.compile(r"// What follows is the proved text of crates/[\w/]+\.rt without its contracts\.")
 PRELUDE = re.compile(r"// .*|#!?\[allow\([\w, ]+\)\]|#\[doc\(hidden\)\]|mod (?:exports|run);"
                      r"|(?:pub )?use (?:crate|hashers_proved|hashers_tools)(?:::shim)?::(?:\w+|\{[\w, ]+\});")
-APART = re.compile(r"// Of the import above what wants std:\n#\[cfg\(feature = \"std\"\)\]\n"
-                   r"(?:pub )?use (\w+)::(\w+(?: as \w+)?|\{[\w, ]+\});")
 CFG = ["#", "[", "cfg", "(", "feature", "=", '"std"', ")", "]"]
 INLINE = ["#", "[", "inline", "]"]
+NOT_ZERO = re.compile(r"const \{ assert ! \( 0 < \w+ \) \} ;")
 
 
 def tokens(text):
@@ -30,6 +29,8 @@ def without_additions(rust, crate):
             i += 9
         elif rust[i:i + 4] == INLINE:
             i += 4
+        elif NOT_ZERO.fullmatch(" ".join(rust[i:i + 11])):
+            i += 11
         elif rust[i:i + 2] == ["pub", "fn"] and rust[i + 3:i + 5] == ["(", "rt"]:
             i += 1
         elif rust[i] == "crate" and rust[i + 1:i + 6] == [":", ":", crate, ":", ":"]:
@@ -61,10 +62,7 @@ def wrong_in(rust, rattle, crate):
     if text is None:
         return "no prelude", 0
     source = tokens(rattle)
-    for found in APART.finditer(text):
-        if not set(re.findall(r"\w+", found[1] + " " + found[2])) <= set(source):
-            return "not in the source: " + found[0], 0
-    words = without_additions(tokens(APART.sub("", text)), crate)
+    words = without_additions(tokens(text), crate)
     at = 0
     for here, word in enumerate(words):
         while at < len(source) and source[at] != word:

@@ -1,5 +1,5 @@
-"""The rules of `use` lines: ghost imports and the names of laws go, and what wants std is set apart."""
-from .tables import GHOST_IMPORTS, SPLIT_OFF, STD_NAMES
+"""The rules of `use` lines: ghost imports and the names of laws go, and what wants std is marked."""
+from .tables import GHOST_IMPORTS, STD_NAMES
 
 CFG = '#[cfg(feature = "std")]\n'
 
@@ -73,25 +73,5 @@ def std_items(s):
             head = next(i for i in live if not s.is_(i, "pub"))
             if not s.is_(head, "use", "type", "mod"):
                 s.stop(first, "an item other than a use, a type or a mod names what is std's alone")
-            if not (s.is_(head, "use") and split(s, live[0], head, k)):
-                s.before[live[0]] = CFG
+            s.before[live[0]] = CFG
         first = k + 1
-
-
-def split(s, first, head, end):
-    """Sets what wants std apart from the rest of a group, as an import of its own behind it. False where all of it wants std, or the path before it."""
-    k = head + 1
-    while s.is_id(k) and s.is_(k + 1, ":") and s.is_(k + 2, ":"):
-        k += 3
-    if not s.is_(k, "{"):
-        return False
-    parts = [part for part in parts_of(s, k) if part[0] not in s.gone]
-    wants = [part for part in parts if s.is_(part[0], *STD_NAMES)]
-    if len(wants) in (0, len(parts)):  # none where the path before the group wants it
-        return False
-    names = [" ".join(s.texts(a, b - 1)) for a, b, _ in wants]
-    for part in wants:
-        drop_part(s, part, "set apart, since it wants std")
-    text = "".join(s.texts(head + 1, k - 1)) + ("{%s}" % ", ".join(names) if len(names) > 1 else names[0])
-    s.behind[end] = "\n%s\n%s%suse %s;" % (SPLIT_OFF, CFG, "pub " if first != head else "", text)
-    return True

@@ -6,7 +6,7 @@ RUST_CRATES = {
         "hash_words", "hash_rounds", "hash_laws", "hash_windows", "hash_reading", "hash_rules", "hash_writes", "hash_fx", "fx_laws",
         "hash_jenkins", "jenkins_laws",
         "hash_blocks", "hash_murmur3", "hash_siphash", "hash_xxhash", "block_laws", "hash_xxh3", "xxh3_laws",
-        "hash_bytes", "hash_crc", "hashers", "hash_more", "more_laws", "hash_keyed", "hash_numbers", "hash_names",
+        "hash_bytes", "hash_crc", "hashers", "hash_more", "more_laws", "hash_keyed", "hash_numbers", "hash_names", "hash_kinds",
         "streams", "text_set", "hash_lines", "hash_buckets", "hash_ring", "hash_cuts", "hash_bloom",
     ],
     "hashers-tools": [
@@ -31,7 +31,8 @@ PARTS = {
         "hash_siphash": {"rounds", "siphash"},
         "hash_keyed": {"modular", "pair", "parts", "poly61", "words"},
         "hash_numbers": {"hasher", "number"},
-        "hash_names": {"reading", "table", "task", "wide"},
+        "hash_names": {"reading", "table", "task"},
+        "hash_kinds": {"reading", "table", "wide"},
         "hash_reading": {"limited", "reader"},
         "streams": {"failure", "tries"},
     },
@@ -87,6 +88,7 @@ ALLOW = {
     "hashof/run": ("dead_code", "The tests alone call run"),
     "spread/table": ("unused_labels", "Proofs name the loop"),
     "spread/clock": ("unused_labels", "Proofs name the loop"),
+    "unique_lines/run": ("unused_labels", "A proof names the loop"),
     "unique_lines/unread": ("unused_variables", "The clauses of fill name due"),
 }
 
@@ -131,7 +133,6 @@ KEYWORDS = set("""as async await break const continue crate else enum extern fal
     return self Self static struct super trait true type unsafe use where while""".split())
 
 MARK = "// What follows is the proved text of %s without its contracts."
-SPLIT_OFF = "// Of the import above what wants std:"
 
 
 class Trouble(Exception):

@@ -10,9 +10,9 @@
     >>> hashers.djb2(b"b", hash=hashers.djb2(b"a"))
     5860902
 
-Data is any object with a contiguous buffer: bytes, bytearray, memoryview, array, mmap, an array of numpy. It is read where it lies, and
-may not be written while a call runs. Of data above 2 KiB the GIL is let go meanwhile. None of the functions protects against chosen keys
-but poly61, at a key that nobody else knows and by hashes that nobody else sees.
+Data is any object with a contiguous buffer: bytes, bytearray, memoryview, array, mmap, an array of numpy. It is not copied, and may not be
+written while a call runs. For data above 2 KiB the GIL is released. None of the functions protects against chosen inputs, except SipHash
+under a key that nobody else knows, as its authors claim, and poly61 under one as long as nobody else sees a hash either.
 """
 from __future__ import annotations
 
@@ -29,17 +29,41 @@ from ._ring import Ring
 if TYPE_CHECKING:
     from _typeshed import ReadableBuffer as Buffer
 
-__all__ = ["Bloom", "Cuts", "Function", "Ring", "chunks", "hash_column", "hash_lines", "number_column", "random_key"]
+# as python-xxhash names them
+xxh3_64, xxh3_128 = xxh3, xxh128
+
+__all__ = ["xxh3_64", "xxh3_128", "xxh32_hexdigest", "xxh64_hexdigest", "xxh3_64_hexdigest", "xxh3_128_hexdigest"]
+__all__ += ["Bloom", "Cuts", "Function", "Ring", "chunks", "hash_column", "hash_lines", "number_column", "random_key"]
 __all__ += [name for name in dir(_hashers) if not name.startswith("_") and name != "BloomBase"]
 _number: int = _hashers._version()
 __version__ = f"{_number // 10000}.{_number // 100 % 100}.{_number % 100}"
 
 
 class Function(Protocol):
-    """A function of the data that answers its hash; where `hash` is given, the hash so far with the data behind."""
+    """A function that returns the hash of the data; if `hash` is given, the hash so far, continued with the data."""
     __name__: str
 
-    def __call__(self, data: Buffer, *, hash: Optional[SupportsIndex] = None) -> int: ...
+    def __call__(self, data: Buffer, hash: Optional[SupportsIndex] = None) -> int: ...
+
+
+def xxh32_hexdigest(data: Buffer, seed: SupportsIndex = 0) -> str:
+    """`xxh32` in hexadecimal digits, the high one first, as python-xxhash has it."""
+    return new("xxh32", data, seed=seed).hexdigest()
+
+
+def xxh64_hexdigest(data: Buffer, seed: SupportsIndex = 0) -> str:
+    """`xxh64` in hexadecimal digits, the high one first, as python-xxhash has it."""
+    return new("xxh64", data, seed=seed).hexdigest()
+
+
+def xxh3_64_hexdigest(data: Buffer, seed: SupportsIndex = 0) -> str:
+    """`xxh3_64` in hexadecimal digits, the high one first, as python-xxhash has it."""
+    return new("xxh3", data, seed=seed).hexdigest()
+
+
+def xxh3_128_hexdigest(data: Buffer, seed: SupportsIndex = 0) -> str:
+    """`xxh3_128` in hexadecimal digits, the high one first, as python-xxhash has it."""
+    return new("xxh128", data, seed=seed).hexdigest()
 
 
 def random_key() -> int:

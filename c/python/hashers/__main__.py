@@ -1,4 +1,4 @@
-"""python3 -m hashers NAME [FILE..]: prints the hash of each file, as the program hashof does."""
+"""python3 -m hashers NAME [FILE..]: prints the hash of each file, or of standard input."""
 from __future__ import annotations
 
 import argparse
@@ -90,6 +90,8 @@ if __name__ == "__main__":
     # ^C ends it as it ends other programs, with no words
     if signal.getsignal(signal.SIGINT) is signal.default_int_handler:
         signal.signal(signal.SIGINT, signal.SIG_DFL)
+    # and so does a closed pipe
+    signal.signal(signal.SIGPIPE, signal.SIG_DFL)
     if sys.stderr is None:
         sys.stderr = open(os.devnull, "w")
     try:

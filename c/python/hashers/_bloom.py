@@ -4,6 +4,7 @@ from __future__ import annotations
 import sys
 from math import ceil, log, log2
 from operator import index
+from pickle import UnpicklingError
 from typing import TYPE_CHECKING, Any, Callable, Optional, SupportsIndex, Tuple, Type, TypeVar
 
 from ._hashers import BloomBase, _unite
@@ -26,15 +27,21 @@ def _bit_count(number: int) -> int:
 
 class Bloom(BloomBase):
     """A Bloom filter of so many bits, in which each key has so many probes. About 0.693 * bits / keys probes are best. A key that was
-    added is found; a strange one is found by chance, at 10 bits for each key and 7 probes about 1 of 120.
+    added is found; a strange one is found by chance, at 10 bits for each key and 7 probes about 1 of 120. `add` tells whether the key is
+    new, as `add_lines` and `add_column` count.
 
     The bits lie in `buffer`: a new bytearray, or whatever writable buffer of 8 bytes for each 64 bits is given, as a file's mmap; a new
-    filter's are zeros. `hashes` names the two hashes by which keys are placed: fnv1a64_lookup3, or spooky_lookup3. One thread at a time
+    filter's are zeros. `hashes` names the two hashes by which keys are placed: spooky_lookup3, or fnv1a64_lookup3. One thread at a time
     may add. A copy, by `copy` or the module of that name, has a bytearray of its own, and so has what pickle brings elsewhere."""
     __slots__ = ()
 
+    # for inspect, which reads no signature of a type in C before Python 3.10
+    def __new__(cls: Type[Filter], bits: SupportsIndex, probes: SupportsIndex, *, hashes: str = "spooky_lookup3",
+                buffer: Optional[Buffer] = None) -> Filter:
+        return super().__new__(cls, bits, probes, hashes=hashes, buffer=buffer)
+
     @classmethod
-    def for_keys(cls: Type[Filter], keys: SupportsIndex, error_rate: float = 0.01, *, hashes: str = "fnv1a64_lookup3",
+    def for_keys(cls: Type[Filter], keys: SupportsIndex, error_rate: float = 0.01, *, hashes: str = "spooky_lookup3",
                  buffer: Optional[Buffer] = None) -> Filter:
         """A filter for that many keys, in which a strange key is found with about that chance once they were added. It has
         -keys * ln(error_rate) / ln(2)^2 bits, 9.6 for each key at 0.01, and -log2(error_rate) probes."""
@@ -48,7 +55,7 @@ class Bloom(BloomBase):
         return f"<Bloom filter of {self.bits} bits and {self.probes} probes by {self.hashes}>"
 
     def __reduce__(self) -> Tuple[Callable[..., Bloom], Tuple[Any, ...]]:
-        return _revived, (self.bits, self.probes, self.hashes, memoryview(self.buffer).tobytes(), type(self))
+        return _filled, (type(self), self.bits, self.probes, self.hashes, memoryview(self.buffer).tobytes())
 
     def copy(self: Filter) -> Filter:
         """A second filter with the same keys, over a bytearray of its own."""
@@ -110,6 +117,11 @@ class Bloom(BloomBase):
         return both
 
 
-def _revived(bits: int, probes: int, hashes: str, words: bytes, kind: Type[Bloom] = Bloom) -> Bloom:
-    """The filter of these words. Pickles that the package made before do not name its class."""
+def _filled(kind: Type[Bloom], bits: int, probes: int, hashes: str, words: bytes) -> Bloom:
+    """The filter of these words."""
     return kind(bits, probes, hashes=hashes, buffer=bytearray(words))
+
+
+def _revived(*_: object) -> Bloom:
+    """What pickles name that the package made before: in their filters keys have other places."""
+    raise UnpicklingError("this filter is of an older version of the package hashers, where keys had other places: make it again")

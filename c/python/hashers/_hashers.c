@@ -107,18 +107,31 @@ static int hold_two(PyObject *out, PyObject *from, int (*taken)(PyObject *, held
 
 static void drop_two(held_two *it) { drop(&it->data), drop(&it->room); }
 
-// A number from 0 to 2^64 - 1.
-static int word(PyObject *from, uint64_t *to) {
+// A ValueError for a number that has not so few bits; a long one is not printed.
+static int out_of_range(PyObject *number, int bits) {
+    PyErr_Clear();
+    PyObject *length = PyObject_CallMethod(number, "bit_length", NULL);
+    long has = length ? PyLong_AsLong(length) : -1;
+    Py_XDECREF(length);
+    if (has == -1 && PyErr_Occurred()) return -1;
+    if (has > 160) PyErr_Format(PyExc_ValueError, "a number of %ld bits is not from 0 to 2**%d - 1", has, bits);
+    else PyErr_Format(PyExc_ValueError, "%S is not from 0 to 2**%d - 1", number, bits);
+    return -1;
+}
+
+// A number of at most 64 bits.
+static int word_of(PyObject *from, int bits, uint64_t *to) {
     PyObject *number = PyNumber_Index(from);
     if (!number) return -1;
+    int is = 0;
     *to = PyLong_AsUnsignedLongLong(number);
-    if (*to == UINT64_MAX && PyErr_Occurred() && PyErr_ExceptionMatches(PyExc_OverflowError)) {
-        PyErr_Clear();
-        PyErr_Format(PyExc_ValueError, "%S is not from 0 to 2**64 - 1", number);
-    }
+    if (*to == UINT64_MAX && PyErr_Occurred()) is = PyErr_ExceptionMatches(PyExc_OverflowError) ? out_of_range(number, bits) : -1;
+    else if (bits < 64 && *to >> bits) is = out_of_range(number, bits);
     Py_DECREF(number);
-    return *to == UINT64_MAX && PyErr_Occurred() ? -1 : 0;
+    return is;
 }
+
+static int word(PyObject *from, uint64_t *to) { return word_of(from, 64, to); }
 
 // A key of 16 bytes, as two numbers whose low bytes come first.
 static int key_of(PyObject *from, uint64_t *to) {
@@ -224,14 +237,20 @@ _Static_assert(sizeof rows / sizeof *rows == ROWS, "each hash has a row");
 
 // How many bytes a hash takes at a time, where it is not one.
 static const unsigned char blocks[ROWS] = {
-    [HASHERS_LOOKUP3] = 12, [HASHERS_SPOOKY] = 96, [HASHERS_SPOOKY_V1] = 96, [SPOOKY128] = 96, [HASHERS_FXHASH] = 8,
-    [HASHERS_FXHASH32] = 4, [HASHERS_FXHASH64] = 8, [POLY61] = 7, [HASHERS_XXH32] = 16, [HASHERS_XXH64] = 32,
-    [HASHERS_MURMUR3_32] = 4, [HASHERS_MURMUR3] = 16, [HASHERS_SIPHASH13] = 8, [HASHERS_SIPHASH24] = 8, [HASHERS_XXH3] = 64,
-    [MURMUR3_128] = 16, [XXH128] = 64};
+    /* declared: blocks */
+    [HASHERS_LOOKUP3] = 12, [HASHERS_SPOOKY] = 96, [HASHERS_SPOOKY_V1] = 96, [HASHERS_FXHASH] = 8, [HASHERS_FXHASH32] = 4,
+    [HASHERS_FXHASH64] = 8, [HASHERS_XXH32] = 16, [HASHERS_XXH64] = 32, [HASHERS_MURMUR3_32] = 4, [HASHERS_MURMUR3] = 16,
+    [HASHERS_SIPHASH13] = 8, [HASHERS_SIPHASH24] = 8, [HASHERS_XXH3] = 64, [SPOOKY128] = 96, [MURMUR3_128] = 16, [XXH128] = 64,
+    [POLY61] = 7,
+    /* end of declared */
+};
 
 static combine_call *const laws[ROWS] = {
+    /* declared: combines */
     [HASHERS_SDBM] = hashers_sdbm_combine, [HASHERS_LOSELOSE] = hashers_loselose_combine,
-    [HASHERS_PASSTHROUGH] = hashers_passthrough_combine, [HASHERS_CRC32] = hashers_crc32_combine, [HASHERS_CRC32C] = hashers_crc32c_combine};
+    [HASHERS_PASSTHROUGH] = hashers_passthrough_combine, [HASHERS_CRC32] = hashers_crc32_combine, [HASHERS_CRC32C] = hashers_crc32c_combine,
+    /* end of declared */
+};
 
 static size_t size_of(const row *row) { return row->bits ? (row->bits + 7) / 8 : 8; }
 
@@ -250,12 +269,14 @@ static hashers_words two(hashers_words words) { return words; }
     static hashers_words x##_whole(const void *at, size_t n, const uint64_t *from) { return words(of_text(at, n, __VA_ARGS__)); } \
     static hashers_block_state x##_begun(const uint64_t *from) { return hashers_##x##_begin(__VA_ARGS__); }                  \
     static hashers_words x##_finished(const hashers_block_state *state) { return words(hashers_##x##_finish(state)); }
+/* declared: calls by block */
 BY_BLOCK(xxh32, hashers_xxh32_seeded, one, from[0])
 BY_BLOCK(xxh64, hashers_xxh64_seeded, one, from[0])
 BY_BLOCK(murmur3_32, hashers_murmur3_32_seeded, one, from[0])
 BY_BLOCK(murmur3, hashers_murmur3_128, two, from[0])
 BY_BLOCK(siphash13, hashers_siphash13_keyed, one, from[0], from[1])
 BY_BLOCK(siphash24, hashers_siphash24_keyed, one, from[0], from[1])
+/* end of declared */
 #undef BY_BLOCK
 
 static hashers_words xxh3_whole(const void *at, size_t n, const uint64_t *from) { return one(hashers_xxh3_seeded(at, n, from[0])); }
@@ -263,9 +284,11 @@ static hashers_words xxh128_whole(const void *at, size_t n, const uint64_t *from
 
 #define BY_BLOCK(x) {x##_whole, x##_begun, hashers_##x##_write, x##_finished}
 static const by_block seeded[ROWS] = {
+    /* declared: by block */
     [HASHERS_XXH32] = BY_BLOCK(xxh32), [HASHERS_XXH64] = BY_BLOCK(xxh64), [HASHERS_MURMUR3_32] = BY_BLOCK(murmur3_32),
-    [HASHERS_MURMUR3] = BY_BLOCK(murmur3), [MURMUR3_128] = BY_BLOCK(murmur3), [HASHERS_SIPHASH13] = BY_BLOCK(siphash13),
-    [HASHERS_SIPHASH24] = BY_BLOCK(siphash24), [HASHERS_XXH3] = {.whole = xxh3_whole}, [XXH128] = {.whole = xxh128_whole}};
+    [HASHERS_MURMUR3] = BY_BLOCK(murmur3), [HASHERS_SIPHASH13] = BY_BLOCK(siphash13), [HASHERS_SIPHASH24] = BY_BLOCK(siphash24),
+    /* end of declared */
+    [MURMUR3_128] = BY_BLOCK(murmur3), [HASHERS_XXH3] = {.whole = xxh3_whole}, [XXH128] = {.whole = xxh128_whole}};
 #undef BY_BLOCK
 
 static const by_block *seeded_by(const row *row) { return &seeded[row - rows]; }
@@ -274,8 +297,7 @@ static int takes_key(const row *row) { return row == &rows[HASHERS_SIPHASH13] ||
 // The seed of a hash, of 32 bits where it has 32, or its key.
 static int seed_of(const row *row, PyObject *given, uint64_t *to) {
     if (takes_key(row)) return key_of(given, to);
-    if (word(given, to) < 0) return -1;
-    return row->bits > 32 || !(*to >> 32) ? 0 : refuse(PyExc_ValueError, "a seed of this hash is below 2**32");
+    return word_of(given, row->bits > 32 ? 64 : 32, to);
 }
 
 // What a hash keeps of a text that comes in parts.
@@ -339,7 +361,7 @@ static int hash_from(const row *row, PyObject *given, uint64_t *to) {
 
 // One call over a text, under the seed or the key that may be given.
 static PyObject *whole_seeded(const row *row, PyObject *const *args, Py_ssize_t count, PyObject *named) {
-    form form = {row->name, 1, 1, {"data", takes_key(row) ? "key" : "seed"}};
+    form form = {row->name, 2, 1, {"data", takes_key(row) ? "key" : "seed"}};
     PyObject *into[2] = {NULL, NULL};
     uint64_t from[2] = {0, 0};
     hashers_words hash;
@@ -358,7 +380,7 @@ static PyObject *whole(const row *row, PyObject *const *args, Py_ssize_t count, 
     } else if (seeded_by(row)->whole) {
         return whole_seeded(row, args, count, named);
     } else {
-        form form = {row->name, 1, 1, {"data", "hash"}};
+        form form = {row->name, 2, 1, {"data", "hash"}};
         if (taken(&form, args, count, named, into) < 0) return NULL;
     }
     uint64_t from = 0, hash;
@@ -811,11 +833,7 @@ static int halves(PyObject *from, uint64_t *high, uint64_t *low) {
     int are = upper ? 0 : -1;
     if (are == 0) {
         *low = PyLong_AsUnsignedLongLongMask(whole), *high = PyLong_AsUnsignedLongLong(upper);
-        if (*high == UINT64_MAX && PyErr_Occurred()) {
-            PyErr_Clear();
-            PyErr_Format(PyExc_ValueError, "%S is not from 0 to 2**128 - 1", whole);
-            are = -1;
-        }
+        if (*high == UINT64_MAX && PyErr_Occurred()) are = out_of_range(whole, 128);
     }
     Py_XDECREF(upper);
     Py_XDECREF(by);
@@ -1056,7 +1074,7 @@ typedef struct {
     contains_call *contains;
 } places;
 #define PLACES(name) {#name, hashers_bloom_##name##_insert, hashers_bloom_##name##_contains}
-static const places ways[] = {PLACES(fnv1a64_lookup3), PLACES(spooky_lookup3)};
+static const places ways[] = {PLACES(spooky_lookup3), PLACES(fnv1a64_lookup3)};
 
 typedef struct {
     PyObject_HEAD
@@ -1148,12 +1166,12 @@ static bool inserted(Bloom *self, const held *words, size_t count, const char *k
 static PyObject *Bloom_add(Bloom *self, PyObject *from) {
     held words, key;
     size_t count;
-    bool is_known;
+    bool is_new;
     if (hold_to_add(self, from, &words, &count, &key) < 0) return NULL;
-    OVER(key.n, is_known = inserted(self, &words, count, key.at, key.n));
+    OVER(key.n, is_new = inserted(self, &words, count, key.at, key.n));
     drop(&key);
     drop(&words);
-    return PyBool_FromLong(is_known);
+    return PyBool_FromLong(is_new);
 }
 
 static size_t new_lines(Bloom *self, const held *words, size_t count, const held *data) {
@@ -1161,7 +1179,7 @@ static size_t new_lines(Bloom *self, const held *words, size_t count, const held
     size_t new = 0;
     while (at < end) {
         const char *newline = memchr(at, '\n', end - at), *behind = newline ? newline : end;
-        new += !inserted(self, words, count, at, behind - at);
+        new += inserted(self, words, count, at, behind - at);
         at = newline ? newline + 1 : end;
     }
     return new;
@@ -1191,7 +1209,7 @@ static int rise(const columns *it) {
 static size_t new_texts(Bloom *self, const held *words, size_t count, const columns *it) {
     size_t new = 0;
     for (size_t i = 1; i < it->places; i++)
-        new += !inserted(self, words, count, it->data.at + offset(it, i - 1), offset(it, i) - offset(it, i - 1));
+        new += inserted(self, words, count, it->data.at + offset(it, i - 1), offset(it, i) - offset(it, i - 1));
     return new;
 }
 
@@ -1272,7 +1290,7 @@ static PyObject *Bloom_hashes(Bloom *self, void *nothing) { return PyUnicode_Fro
 
 static PyMethodDef Bloom_methods[] = {
     {"add", (PyCFunction)Bloom_add, METH_O,
-     "add($self, key, /)\n--\n\nAdds the key. The answer is whether all its bits were set before: False says that it was not there."},
+     "add($self, key, /)\n--\n\nAdds the key, and tells whether it is new: True says that it was not there, False that it possibly was."},
     {"add_lines", (PyCFunction)Bloom_add_lines, METH_O,
      "add_lines($self, data, /)\n--\n\nAdds each line, as `hash_lines` takes them. The answer is how many were not there: of those for which\n"
      "`add` would have said False."},
@@ -1297,7 +1315,7 @@ static PyType_Spec Bloom_spec = {
 #define CALL(name, doc) {#name, (PyCFunction)(void (*)(void))name, METH_FASTCALL | METH_KEYWORDS, doc}
 #define ROW(call, more, bits, told)                                                 \
     {NAME(call), (PyCFunction)(void (*)(void))call##_of, METH_FASTCALL | METH_KEYWORDS, \
-     &#call "($module, data, *, " more ")\n--\n\nThe hash of the data, a number below 2^" #bits told[8]},
+     &#call "($module, data, " more ")\n--\n\nThe hash of the data, a number below 2^" #bits told[8]},
 #define UNDONE(call, cuts, bits) \
     ROW(call, "hash=None", bits, ". Where `hash` is given, it is the hash so far,\nand the data comes behind.")
 #undef SEEDED

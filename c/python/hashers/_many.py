@@ -1,4 +1,4 @@
-"""Many texts or numbers in one call: the lines of a text, a column of texts, and a column of numbers."""
+"""Many inputs in one call: the lines of some data, a column of byte strings, and a column of numbers."""
 from __future__ import annotations
 
 from array import array
@@ -42,9 +42,9 @@ def hash_column(name: str, offsets: Buffer, data: Buffer, out: None = None) -> a
 @overload
 def hash_column(name: str, offsets: Buffer, data: Buffer, out: Out) -> Out: ...
 def hash_column(name: str, offsets: Buffer, data: Buffer, out: Optional[Out] = None) -> Union[array[int], Out]:
-    """The hash of each text of a column, where text i lies in the data from offset i to offset i + 1, as in Arrow's columns of strings.
-    The offsets are an array of 32 or 64 bits each, one more than there are texts. The hashes go to `out`, a buffer of 8 bytes for each
-    text, or to a new array. ValueError, and nothing is written, where the offsets fall or pass the data."""
+    """The hash of each input of a column, where input i lies in the data from offset i to offset i + 1, as in Arrow's columns of strings.
+    The offsets are an array of 32 or 64 bits each, one more than there are inputs. The hashes go to `out`, a buffer of 8 bytes for each,
+    or to a new array. ValueError, and nothing is written, if the offsets fall or pass the data."""
     number = _number_of(name)
     width, count = shape_of(offsets, data)
     hashes: Union[array[int], Out] = _ZERO * count if out is None else out
@@ -60,7 +60,7 @@ def number_column(numbers: Buffer, multiplier: SupportsIndex, addend: SupportsIn
 @overload
 def number_column(numbers: Buffer, multiplier: SupportsIndex, addend: SupportsIndex, out: Out) -> Out: ...
 def number_column(numbers: Buffer, multiplier: SupportsIndex, addend: SupportsIndex, out: Optional[Out] = None) -> Union[array[int], Out]:
-    """`number_hash` of each number of a column, an array of whole numbers of 64 bits, at one key. The hashes go to `out`, a buffer of 8 bytes
+    """`number_hash` of each number of a column, an array of 64-bit whole numbers, under one key. The hashes go to `out`, a buffer of 8 bytes
     for each number that does not overlap the column, or to a new array."""
     with memoryview(numbers) as places:
         if places.format.lstrip("@=<") not in ("L", "l", "Q", "q", "N", "n") or places.itemsize != 8:

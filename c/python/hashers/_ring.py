@@ -1,4 +1,4 @@
-"""Consistent hashing: nodes on a ring, where only the keys of a lost node move."""
+"""Consistent hashing: nodes on a ring, where only the keys of a removed node move."""
 from __future__ import annotations
 
 from array import array
@@ -15,7 +15,7 @@ if TYPE_CHECKING:
 
 Name = Union[str, bytes]
 # the weight of a node where none is given
-WEIGHT = 100
+WEIGHT = 160
 
 
 def _bytes_of(name: Name) -> bytes:
@@ -26,16 +26,16 @@ def _bytes_of(name: Name) -> bytes:
 
 class Ring:
     """Nodes on a ring of 2^64 places, each a name, a str or bytes, with a weight, which is how many points it has there. A key belongs to the
-    node of the first point at or after the key's hash, round the ring: so when a node goes only its keys move, and to a new one keys
-    move from others alone. Some 100 points a node give each about its share.
+    node of the first point at or after the key's hash, round the ring: so if a node is removed only its keys move, and if one is added keys
+    move only to it. Shares are rough with few points: a node had up to 28 % more than its share with 100, and up to 12 % with 1000.
 
-    Point k of a node is at the hash of its name with k in 8 bytes behind, the lowest first, so rings of the same names and weights under one
+    Point k of a node is at the hash of its name followed by k in 8 bytes, the lowest first, so rings of the same names and weights under one
     hash agree in all languages, in whatever order the nodes came. Names are ordered as bytes, a str as its UTF-8. Threads may ask while one
     of them changes the ring: they see it as it was before or as it is after."""
     __slots__ = ("_hash", "_number", "_state")
 
     def __init__(self, nodes: Union[Mapping[Name, SupportsIndex], Iterable[Name]] = (), *, hash: str = "spooky") -> None:
-        """`nodes` has the weights of names, or names alone, which get a weight of 100."""
+        """`nodes` has the weights of names, or names alone, which get a weight of 160."""
         self._number = _number_of(hash)
         self._hash = _hashers.new(hash).name
         if isinstance(nodes, (str, bytes)):
@@ -70,8 +70,16 @@ class Ring:
         return _revived, (type(self), self.weights(), self.hash)
 
     def copy(self) -> Ring:
-        """A second ring with the same nodes, which changes by itself."""
+        """A second ring with the same nodes, independent of this one."""
         return _revived(type(self), self.weights(), self.hash)
+
+    def __eq__(self, other: object) -> bool:
+        """Whether it has the same hash, names and weights, a str as its UTF-8."""
+        if not isinstance(other, Ring):
+            return NotImplemented
+        return (self._hash, self._state[0], self._state[2]) == (other._hash, other._state[0], other._state[2])
+
+    __hash__ = None  # type: ignore[assignment]
 
     def __len__(self) -> int:
         return len(self._state[0])
@@ -90,7 +98,7 @@ class Ring:
         return dict(zip(names, weights))
 
     def add(self, name: Name, weight: SupportsIndex = WEIGHT) -> None:
-        """Adds a node; ValueError where one of that name is there. To begin with many nodes, give them to `Ring` at once."""
+        """Adds a node; ValueError if there is one of that name. To begin with many nodes, give them to `Ring` at once."""
         key, count = _bytes_of(name), _weight_of(weight)
         keys, names, weights, points = self._state
         node, is_there = _place_of(keys, key)
@@ -104,7 +112,7 @@ class Ring:
                        weights[:node] + [count] + weights[node:], points)
 
     def remove(self, name: Name) -> int:
-        """Takes a node off, and returns its weight; KeyError where it is not there."""
+        """Removes a node, and returns its weight; KeyError if there is none of that name."""
         keys, names, weights, points = self._state
         node, is_there = _place_of(keys, _bytes_of(name))
         if not is_there:
@@ -115,7 +123,7 @@ class Ring:
         return weights[node]
 
     def owner(self, key: Buffer) -> Optional[Name]:
-        """The node that owns the key; None where there are no nodes."""
+        """The node that owns the key; None if there are no nodes."""
         _, names, _, points = self._state
         found = _ZERO[:]
         return names[found[0]] if _ring_owners(self._number, points, key, found) else None

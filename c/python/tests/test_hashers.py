@@ -15,6 +15,7 @@ import io
 import mmap
 import os
 import pickle
+import random
 import re
 import signal
 import subprocess
@@ -38,12 +39,14 @@ from hashers import _hashers
 
 C = Path(__file__).resolve().parent.parent.parent
 HEADER = (C / "hashers.h").read_text(encoding="utf-8")
-# those under a seed or a key, and their blocks; and those of 128 bits
-BY_THE_BLOCK = {"xxh32": 16, "xxh64": 32, "murmur3_32": 4, "murmur3": 16, "siphash13": 8, "siphash24": 8, "xxh3": 64}
-WIDE = ("spooky128", "murmur3_128", "xxh128")
+# the table of hashes: the columns of each name
+HEAD, *LINES = [re.split(r" *[|] ", line) for line in (C.parent / "hashes.txt").read_text(encoding="utf-8").split("\n\n")[1].split("\n")]
+TABLE: Dict[str, Dict[str, str]] = {line[0]: dict(zip(HEAD, line)) for line in LINES}
+# those of 128 bits, those under a seed or a key, and those to which cuts show
+WIDE = tuple(name for name, row in TABLE.items() if row["bits"] == "128")
 NAMES = sorted(hashers.algorithms_available.difference(WIDE))
-# those to which cuts show
-CUT = ("lookup3", "fxhash", "fxhash32", "fxhash64")
+BY_THE_BLOCK = [name for name in NAMES if TABLE[name]["start"] in ("seed", "seed of 32 bits", "key")]
+CUT = [name for name in NAMES if TABLE[name]["cuts show"] == "yes"]
 TEXT = bytes(i * 167 // 8 % 256 for i in range(500))
 TOP = (1 << 64) - 1
 
@@ -133,15 +136,14 @@ class AgainstTheHeader(unittest.TestCase):
         for name in NAMES:
             function, size = getattr(hashers, name), hashers.new(name).digest_size
             if name in ending("_write"):
-                bits = {"elf": 28, "null": 0}.get(name, 32)
-                if bits == 32 and any(function(bytes([byte]), hash=(1 << 32) - 1) >> 32 for byte in range(256)):
-                    bits = 64
+                bits = int(TABLE[name]["bits"])
+                self.assertEqual(bits > 32, any(function(bytes([byte]), hash=(1 << min(bits, 32)) - 1) >> 32 for byte in range(256)))
                 top = (1 << bits) - 1
                 self.assertEqual((function(b"", hash=top), hashers.new(name, hash=top).intdigest()), (top, top), name)
                 self.assertRaises(ValueError, function, b"", hash=top + 1)
                 self.assertRaises(ValueError, hashers.new, name, hash=top + 1)
                 self.assertEqual(size, {0: 8, 28: 4}.get(bits, bits // 8), name)
-            elif name in ("xxh32", "murmur3_32"):
+            elif TABLE[name]["bits"] == "32":
                 self.assertEqual(size, 4)
                 self.assertLess(function(TEXT), 1 << 32)
             else:
@@ -158,17 +160,22 @@ class AgainstTheHeader(unittest.TestCase):
 
 class Hashes(unittest.TestCase):
     def test_vectors(self) -> None:
-        rows = re.findall(r'\{hashers_(\w+), "(\w*)", (\d+)u\},', (C / "vectors.inc").read_text(encoding="utf-8"))
-        self.assertGreaterEqual(len(rows), 50)
-        for name, text, wanted in rows:
-            with self.subTest(name, text=text):
-                self.assertEqual(getattr(hashers, name)(text.encode()), int(wanted))
-                self.assertEqual(hashers.new(name, text.encode()).intdigest(), int(wanted))
+        for line in (C.parent / "vectors.txt").read_text(encoding="utf-8").splitlines():
+            if line.startswith("#"):
+                continue
+            name, start, digits, wanted = line.split()
+            text = bytes.fromhex(digits.strip("-"))
+            with self.subTest(line):
+                if name == "poly61":
+                    self.assertEqual(hashers.poly61(text, int(start, 16)), int(wanted, 16))
+                    continue
+                given: Dict[str, Any] = {} if start == "-" else {"key": bytes.fromhex(start)} if len(start) == 32 else {"seed": int(start, 16)}
+                made, found = hashers.new(name, text, **given), getattr(hashers, name)(text, **given)
+                self.assertEqual(made.hexdigest(), wanted)
+                self.assertEqual(found, made.words() if name in WIDE else made.intdigest())
 
     def test_digests(self) -> None:
-        self.assertEqual(hashers.new("fnv1a64", b"a").hexdigest(), "af63dc4c8601ec8c")
         self.assertEqual(hashers.new("fnv1a32", b"a").digest(), bytes.fromhex("e40c292c"))
-        self.assertEqual(hashers.new("passthrough", b"a").hexdigest(), "0000000000000061")
         for name in NAMES:
             made = hashers.new(name, TEXT)
             self.assertEqual(made.name, name)
@@ -211,21 +218,12 @@ class Hashes(unittest.TestCase):
             self.assertEqual(made.hexdigest(), f"{first:016x}{second:016x}")
             self.assertEqual(made.intdigest(), first << 64 | second)
         self.assertEqual(hashers.new("spooky128", b"a", seeds=(1, TOP)).words(), hashers.spooky128(b"a", 1, TOP))
-        self.assertEqual(hashers.new("xxh128").hexdigest(), "99aa06d3014798d86001c324468d497f")
         for name in WIDE:
             self.assertRaises(ValueError, hashers.hash_lines, name, b"")
             self.assertRaises(ValueError, hashers.hash_column, name, array("I", [0]), b"")
 
     def test_seeds_and_keys(self) -> None:
         key = bytes(range(16))
-        self.assertEqual(hashers.siphash24(bytes(range(15)), key=key), 0xA129CA6149BE45E5)
-        self.assertEqual(hashers.murmur3_128(b"hello"), (0xCBD8A7B341BD9B02, 0x5B1E906A48AE1D19))
-        # of xxhsum's library, and the published ones of MurmurHash3
-        seed, word = 20141025, b"xxhash"
-        self.assertEqual((hashers.xxh64(word, seed=seed), hashers.xxh32(word, seed=seed)), (0xB559B98D844E0635, 0x67BB40DD))
-        self.assertEqual((hashers.xxh3(word, seed=seed), hashers.new("xxh128", word, seed=seed).hexdigest()),
-                         (0x8E5DC07F2B839BB0, "79ac33c96912c28697334731064933c1"))
-        self.assertEqual((hashers.murmur3_32(b"", seed=1), hashers.murmur3_32(b"", seed=0xFFFFFFFF)), (0x514E28B7, 0x81F16F39))
         for name in BY_THE_BLOCK:
             start: Dict[str, Any] = {"key": bytearray(key)} if name.startswith("sip") else {"seed": (1 << 32) - 1}
             function = getattr(hashers, name)
@@ -249,6 +247,21 @@ class Hashes(unittest.TestCase):
         self.assertRaises(ValueError, hashers.siphash24, b"", key=bytes(17))
         self.assertRaises(TypeError, hashers.siphash24, b"", key=5)
         self.assertRaises(TypeError, hashers.new, "siphash24", b"", key=5)
+
+        for why, call in (("-1 is not from 0 to 2..32 - 1", lambda: hashers.murmur3_32(b"", -1)),
+                          ("a number of 1329 bits is not from 0 to 2..64 - 1", lambda: hashers.xxh64(b"", 10**400)),
+                          ("4294967296 is not from 0 to 2..32 - 1", lambda: hashers.xxh32(b"", seed=1 << 32))):
+            self.assertRaisesRegex(ValueError, why, call)
+
+    def test_names_and_places_of_the_peers(self) -> None:
+        self.assertEqual((hashers.xxh64(b"a", 7), hashers.crc32(b"b", 3)), (hashers.xxh64(b"a", seed=7), zlib.crc32(b"b", 3)))
+        self.assertEqual((hashers.xxh3_64, hashers.xxh3_128), (hashers.xxh3, hashers.xxh128))
+        for name in ("xxh32", "xxh64", "xxh3_64", "xxh3_128"):
+            row = {"xxh3_64": "xxh3", "xxh3_128": "xxh128"}.get(name, name)
+            self.assertEqual(getattr(hashers, name + "_hexdigest")(TEXT, 7), hashers.new(row, TEXT, seed=7).hexdigest())
+        self.assertEqual(list(inspect.signature(hashers.Bloom).parameters), ["bits", "probes", "hashes", "buffer"])
+        for name in set(hashers.__all__) - {"Hash", "algorithms_available", "Function"}:
+            inspect.signature(getattr(hashers, name))
 
     def test_going_on_from_a_number(self) -> None:
         one, two = TEXT[:100], TEXT[100:]
@@ -302,9 +315,9 @@ class Hashes(unittest.TestCase):
         djb2, poly61 = cast(Any, hashers.djb2), cast(Any, hashers.poly61)
         calls: Dict[str, Callable[[], object]] = {
             "misses the argument 'data'": lambda: djb2(), "misses the argument 'key'": lambda: poly61(b"a"),
-            "takes 1 argument.s. without": lambda: djb2(b"a", b"a"),
+            "takes 2 argument.s. without": lambda: djb2(b"a", 1, 2), "cannot be interpreted": lambda: djb2(b"a", b"a"),
             "'data' twice": lambda: djb2(b"a", data=b"a"), "'key' twice": lambda: poly61(b"a", 7, key=7),
-            "'text' unexpectedly": lambda: djb2(text=b"a"), "takes 2 argument.s. without": lambda: cast(Any, hashers.new)("djb2", b"", 7),
+            "'text' unexpectedly": lambda: djb2(text=b"a"), "new.. takes 2 argument.s. without": lambda: cast(Any, hashers.new)("djb2", b"", 7),
             "hashers.new makes": lambda: hashers.Hash()}
         for why, call in calls.items():
             self.assertRaisesRegex(TypeError, why, call)
@@ -415,10 +428,9 @@ class Copies(unittest.TestCase):
         self.assertEqual(function(name, seeds, bytes(len(state))).words(), (0, 0))
 
     def test_pickles_of_the_package_before(self) -> None:
-        # those of filters are read
-        made = pickle.loads(b"chashers._bloom\n_revived\n(I64\nI3\nVfnv1a64_lookup3\nc_codecs\nencode\n"
-                            b"(V\\u0000\\u0010\\u0010\\u0010\\u0000\\u0000\\u0000\\u0000\nVlatin1\ntRtR.")
-        self.assertEqual((made.bits, made.probes, b"a" in made, b"b" in made), (64, 3, True, False))
+        with self.assertRaisesRegex(pickle.UnpicklingError, "where keys had other places"):
+            pickle.loads(b"chashers._bloom\n_revived\n(I64\nI3\nVfnv1a64_lookup3\nc_codecs\nencode\n"
+                         b"(V\\u0000\\u0010\\u0010\\u0010\\u0000\\u0000\\u0000\\u0000\nVlatin1\ntRtR.")
         for name in ("_NumberHash", "_TextHash", "_SpookyHash", "_Poly61Hash", "fnv1a64"):
             for loads in (pickle.loads, pickle._loads):  # type: ignore[attr-defined]
                 with self.assertRaisesRegex(pickle.UnpicklingError, "an older version of the package hashers"):
@@ -447,10 +459,9 @@ class Manners(unittest.TestCase):
     """A hash object's manners, as hashlib has them."""
 
     def test_block_sizes(self) -> None:
-        wanted = {"fxhash": 8, "fxhash32": 4, "fxhash64": 8, "lookup3": 12, "spooky": 96, "spooky_v1": 96, "spooky128": 96, "murmur3_128": 16,
-                  "xxh128": 64, **BY_THE_BLOCK}
+        self.assertEqual(sorted(hashers.algorithms_available), sorted(set(TABLE) - {"poly61"}))
         for name in hashers.algorithms_available:
-            self.assertEqual(hashers.new(name).block_size, wanted.get(name, 1))
+            self.assertEqual(hashers.new(name).block_size, int(TABLE[name]["block"]))
             self.assertIn(name, repr(hashers.new(name)))
 
     def test_a_handler_that_updates_the_same_hash(self) -> None:
@@ -683,7 +694,7 @@ class Buffers(unittest.TestCase):
         self.assertRaises(BufferError, made.update, hashers.Bloom(1000, 3))
         self.assertNotIn(b"a", made)
         fields[field] = 0
-        self.assertFalse(made.add(b"a"))
+        self.assertTrue(made.add(b"a"))
         self.assertIn(b"a", made)
 
     def test_a_filter_whose_buffer_shrank(self) -> None:
@@ -883,9 +894,9 @@ class Chunks(unittest.TestCase):
                       {"least": 63}, {"most": 65535}):
             with self.assertRaisesRegex(ValueError, "seed is from 0" if "seed" in str(sizes) else "64 <= least <= average <= most < 2[*][*]64"):
                 hashers.Cuts(**sizes)
-        with self.assertRaises(TypeError):
+        with self.assertRaisesRegex(TypeError, "open it for bytes"):
             list(hashers.chunks(cast(Any, io.StringIO("a"))))
-        with self.assertRaises(TypeError):
+        with self.assertRaisesRegex(TypeError, r"open.path, 'rb'., not of str"):
             hashers.chunks(cast(Any, "a"))
         with self.assertRaises(BufferError):
             hashers.chunks(memoryview(bytes(200))[::2])
@@ -915,6 +926,19 @@ class Chunks(unittest.TestCase):
             cuts = hashers.Cuts(**given)
             self.assertEqual((cuts.least, cuts.average, cuts.most), sizes)
             self.assertEqual(list(map(len, hashers.chunks(bytes(50), **given))), [50])
+
+    def test_sizes_stay(self) -> None:
+        cuts: Any = hashers.Cuts(4096)
+        for name in ("average", "least", "most", "seed1", "seed2"):
+            with self.assertRaises(AttributeError):
+                setattr(cuts, name, 512)
+        for copied in (copy.copy(cuts), pickle.loads(pickle.dumps(cuts))):
+            self.assertEqual(repr(copied), repr(cuts))
+        cuts._average = 512
+        for source in (bytes(10_000), io.BytesIO(bytes(10_000))):
+            with self.assertRaisesRegex(ValueError, "Cuts.512, least=1024, .*cuts nothing"):
+                list(cuts.chunks(source))
+        self.assertEqual(list(cuts.chunks(b"")), [])
 
     def test_what_is_shown(self) -> None:
         cuts = hashers.Cuts(1024, seed2=7)
@@ -958,6 +982,8 @@ class Rings(unittest.TestCase):
             self.assertEqual(at_once.weights(), one_by_one.weights())
             for copy_of in (at_once, at_once.copy(), copy.copy(at_once), hashers.Ring(at_once, hash=name.upper()), pickle.loads(pickle.dumps(one_by_one))):
                 self.assertEqual(copy_of._state, one_by_one._state)
+                self.assertEqual(copy_of, one_by_one)
+                self.assertFalse(copy_of == hashers.Ring(nodes, hash="sdbm") or copy_of == hashers.Ring(hash=name) or copy_of == name)
             self.assertEqual(sum(at_once.shares().values()), 2**64)
             for node, weight in nodes.items():
                 self.assertIn(node, one_by_one)
@@ -1003,7 +1029,7 @@ class Rings(unittest.TestCase):
 
     def test_names_alone(self) -> None:
         ring = hashers.Ring(["a", b"b"])
-        self.assertEqual(ring.weights(), {"a": 100, b"b": 100})
+        self.assertEqual(ring.weights(), {"a": 160, b"b": 160})
         self.assertIn(b"a", ring)
         self.assertEqual(repr(ring), "<Ring of 2 nodes by spooky>")
         ring.add("c")
@@ -1056,9 +1082,9 @@ class Filters(unittest.TestCase):
         for hashes in ("fnv1a64_lookup3", "spooky_lookup3"):
             one, two = (hashers.Bloom(10_000, 7, hashes=hashes) for _ in range(2))
             keys = [b"key %d" % i for i in range(1000)]
-            new = [one.add(key) for key in keys[:500]].count(False)
+            new = [one.add(key) for key in keys[:500]].count(True)
             self.assertGreater(new, 490)
-            self.assertTrue(all(map(one.add, keys[:500])))
+            self.assertFalse(any(map(one.add, keys[:500])))
             self.assertTrue(all(bytearray(key) in one for key in keys[:500]))
             self.assertLess(sum(key in one for key in keys[500:]), 20)
             for key in keys[500:]:
@@ -1071,9 +1097,9 @@ class Filters(unittest.TestCase):
         for count, rate, bits, probes in ((1000, 0.01, 9586, 7), (10_000, 0.001, 143776, 10), (1, 0.9, 1, 1), (3, 0.5, 5, 1),
                                           (1000, 5e-324, 1549455, 1074), (10, 1 - 2**-53, 1, 1)):
             made = hashers.Bloom.for_keys(count, rate)
-            self.assertEqual((made.bits, made.probes, made.hashes), (bits, probes, "fnv1a64_lookup3"))
-        made = hashers.Bloom.for_keys(20_000, hashes="spooky_lookup3", buffer=bytearray(23968))
-        self.assertEqual((made.bits, made.probes, made.hashes), (191702, 7, "spooky_lookup3"))
+            self.assertEqual((made.bits, made.probes, made.hashes), (bits, probes, "spooky_lookup3"))
+        made = hashers.Bloom.for_keys(20_000, hashes="fnv1a64_lookup3", buffer=bytearray(23968))
+        self.assertEqual((made.bits, made.probes, made.hashes), (191702, 7, "fnv1a64_lookup3"))
         for number in range(20_000):
             made.add(b"%d" % number)
         self.assertLess(abs(sum(b"other %d" % number in made for number in range(20_000)) - 200), 60)
@@ -1083,6 +1109,17 @@ class Filters(unittest.TestCase):
             self.assertRaises(ValueError, hashers.Bloom.for_keys, count, rate)
         self.assertRaises(TypeError, hashers.Bloom.for_keys, 1.5)
 
+    def test_small_filters_keep_their_rate(self) -> None:
+        # where all places of a key were f + i * g, 2.6, 7 and 40 times as many strange keys were found
+        source = random.Random(1)
+        for count, rate, filters, asked in ((10, 0.01, 100, 10_000), (100, 1e-4, 20, 100_000), (1000, 1e-6, 4, 1_000_000)):
+            found, offsets = 0, array("I", range(0, 16 * asked + 1, 16))
+            for _ in range(filters):
+                made = hashers.Bloom.for_keys(count, rate)
+                made.add_column(offsets[:count + 1], source.randbytes(16 * count))
+                found += sum(made.found(offsets, source.randbytes(16 * asked)))
+            self.assertLess(found, 1.5 * rate * filters * asked + 10, (count, rate))
+
     def test_many_keys(self) -> None:
         texts = [b"", b"a", b"key", b"", b"a longer key " * 500, b"key"]
         places = [sum(map(len, texts[:i])) for i in range(len(texts) + 1)]
@@ -1090,7 +1127,7 @@ class Filters(unittest.TestCase):
             for offsets in (array("I", places), array("q", places)):
                 one, two = (hashers.Bloom(10_000, 7, hashes=hashes) for _ in range(2))
                 self.assertEqual(two.found(offsets, b"".join(texts)), bytes(6))
-                self.assertEqual([two.add(text) for text in texts].count(False), 4)
+                self.assertEqual([two.add(text) for text in texts].count(True), 4)
                 self.assertEqual(one.add_column(offsets, bytearray(b"".join(texts))), 4)
                 self.assertEqual((one.buffer, one.add_column(offsets, b"".join(texts))), (two.buffer, 0))
                 self.assertEqual(one.found(offsets, b"".join(texts)), bytes([1] * 6))
@@ -1098,7 +1135,7 @@ class Filters(unittest.TestCase):
             for data in (b"", b"\n", b"a", b"a\n", b"a\n\nb\na", b"\n\n", TEXT, b"a\n" + bytes(5000)):
                 lines = data.split(b"\n")
                 one, two = (hashers.Bloom(10_000, 7, hashes=hashes) for _ in range(2))
-                new = [two.add(line) for line in (lines if lines[-1] else lines[:-1])].count(False)
+                new = [two.add(line) for line in (lines if lines[-1] else lines[:-1])].count(True)
                 self.assertEqual((one.add_lines(data), one.buffer), (new, two.buffer), data)
         self.assertEqual((one.add_column(array("I", [7]), TEXT), one.found(array("I", [7]), TEXT)), (0, b""))
 
@@ -1164,7 +1201,7 @@ class Filters(unittest.TestCase):
         for bits in (1, 63, 100, 10_000, 1_000_000):
             made = hashers.Bloom(bits, 7)
             self.assertEqual(len(made), 0)
-            self.assertIn(f"{bits} bits and 7 probes by fnv1a64_lookup3", repr(made))
+            self.assertIn(f"{bits} bits and 7 probes by spooky_lookup3", repr(made))
             for number in range(bits // 10):
                 made.add(number.to_bytes(8, "little"))
             self.assertLessEqual(abs(len(made) - bits // 10), 1 + bits // 200, bits)
@@ -1256,6 +1293,11 @@ class Program(unittest.TestCase):
         with open("/dev/full", "wb") as full:
             for arguments in (["djb2"], ["--help"], ["--version"]):
                 self.assertEqual(self.run_it(*arguments, stdout=full), (1, "", "hashers: standard output: No space left on device\n"))
+
+    def test_a_closed_pipe(self) -> None:
+        done = subprocess.run(["sh", "-c", '{ sleep 0.2; "$0" -m hashers djb2; echo $? >&2; } | head -c 0', sys.executable], input=b"a",
+                              stderr=subprocess.PIPE, cwd=tempfile.gettempdir())
+        self.assertEqual(done.stderr.decode(), "141\n")
 
     def test_closed_streams(self) -> None:
         said = {"<&-": ("", "hashers: -: Bad file descriptor\n"), ">&-": ("", "hashers: standard output: Bad file descriptor\n"),

@@ -1,51 +1,8 @@
--- Steps taken back, items and blocks, and a text with one block in the middle.
-use Rattle.std.proofs.Common.{◌≡◌, ℕ, ◌+◌, ◌*◌, ◌/◌, ◌%◌, ◌<◌, List, [], ◌∷◌, ◌++◌, length, fold, reverse, All, refl, ap, ◌∙◌, arith, length-append}
-use Rattle.std.proofs.Math.Nat.{div-mul-le_self, div-add-mod'}
-use Rattle.std.proofs.lemmas.List.{reverse-append}
-use Rattle.std.proofs.lemmas.List.Elements.{All-head, All-tail, All-drop}
-use Rattle.std.proofs.lemmas.Grind.{fold-append}
-use Rattle.hash_words.specs.Pieces.{pieces}
-use Rattle.hash_words.proofs.PieceLemmas.{first_chunks-pieces}
-use Rattle.hash_laws.specs.Text.{IsText}
-use Rattle.hash_laws.proofs.TextLemmas.{IsByte}
-use Rattle.hash_blocks.specs.Blocks.{blocks, tail}
-use Rattle.block_laws.specs.BlockFacts.{blocks_before, BlockBack, IsBlock, IsLeft}
-use Rattle.hash_blocks.specs.BlocksLaws.{blocks-append, blocks_one, tail-append, tail-lt}
-
--- ---- items
-
-module _ {S A : Type 0} (is_item : A → Type 0) (in_range : S → Type 0) (f g : S → A → S)
-    (f_in : (s : S) (a : A) → in_range s → is_item a → in_range (f s a))
-    (g_in : (s : S) (a : A) → in_range s → is_item a → in_range (g s a))
-    (g_f : (s : S) (a : A) → in_range s → is_item a → g (f s a) a ≡ s)
-    (f_g : (s : S) (a : A) → in_range s → is_item a → f (g s a) a ≡ s) where
-  one_back : (s : S) (a : A) (items : List A) → fold g s (reverse (a ∷ items)) ≡ g (fold g s (reverse items)) a
-  one_back s a items = ap (fold g s) (reverse-append (a ∷ []) items) ∙ fold-append g s (reverse items) (a ∷ [])
-
-  pub fold-in : (items : List A) (s : S) → in_range s → All is_item items → in_range (fold f s items)
-  fold-in [] s s_in are = s_in
-  fold-in (a ∷ items) s s_in are = fold-in items (f s a) (f_in s a s_in (All-head is_item a items are)) (All-tail is_item a items are)
-
-  pub back-in : (items : List A) (s : S) → in_range s → All is_item items → in_range (fold g s (reverse items))
-  back-in [] s s_in are = s_in
-  back-in (a ∷ items) s s_in are =
-      rw (one_back s a items) (g_in _ a (back-in items s s_in (All-tail is_item a items are)) (All-head is_item a items are))
-
-  pub there_again : (items : List A) (s : S) → in_range s → All is_item items → fold f (fold g s (reverse items)) items ≡ s
-  there_again [] s s_in are = refl
-  there_again (a ∷ items) s s_in are =
-      let later = All-tail is_item a items are in
-      ap (λ (u : S). fold f (f u a) items) (one_back s a items)
-      ∙ ap (λ (u : S). fold f u items) (f_g _ a (back-in items s s_in later) (All-head is_item a items are)) ∙ there_again items s s_in later
-
-  pub back_again : (items : List A) (s : S) → in_range s → All is_item items → fold g (fold f s items) (reverse items) ≡ s
-  back_again [] s s_in are = refl
-  back_again (a ∷ items) s s_in are =
-      let here = All-head is_item a items are in
-      one_back (fold f (f s a) items) a items
-      ∙ ap (λ (u : S). g u a) (back_again items (f s a) (f_in s a s_in here) (All-tail is_item a items are)) ∙ g_f s a s_in here
-
--- ---- blocks alone
+-- Blocks taken back, and a text with one block in the middle.
+use Rattle.block_laws.proofs.Common.{◌≡◌, ◌≢◌, ℕ, ◌+◌, ◌*◌, ◌/◌, ◌%◌, ◌<◌, ◌≤◌, List, ◌++◌, length, take, drop, All, refl, sym, ap, ◌∙◌, arith, length-append, length-drop, ⊎_elim, ap₂, drop-drop, cases_eq, mod_below, All-take, All-drop, Undoes, first_chunks-pieces, part-same, rest-same, folded, told, IsText, IsByte, IsFirstDifference, DifferInOneBlock, blocks, blocks-append, blocks_one, tail-append, tail-lt, pieces, tail, blocks_before, IsBlock, IsLeft}
+use Rattle.std.proofs.Common.{div-mul-le_self, div-add-mod', take-append-drop, length-take-le}
+use Rattle.hash_laws.specs.Exactly.{ExactlyTexts}
+use Rattle.hash_laws.proofs.ExactlyLemmas.{Exactly-one}
 
 module _ (n : ℕ) (some : 0 < n) where
   pub pieces-blocks : (t : List ℕ) → IsText t → All (IsBlock n) (pieces n t)
@@ -56,7 +13,19 @@ module _ (n : ℕ) (some : 0 < n) where
   unfolding tail
   tail-left t text = (All-drop IsByte (length t / n * n) t text, tail-lt n some t)
 
-  -- a text with one block in the middle
+  pub length-tail : (t : List ℕ) → length (tail n t) ≡ length t % n
+  unfolding tail
+  length-tail t = omega (arith, length-drop (length t / n * n) t, div-add-mod' (length t) n)
+
+  -- blocks taken back
+  pub taken_back : {S : Type 0} {in_range : S → Type 0} {block unblock : S → List ℕ → S}
+      → ((b : List ℕ) → IsBlock n b → Undoes in_range in_range (λ s. block s b) (λ s. unblock s b))
+      → (t : List ℕ) → IsText t → Undoes in_range in_range (λ s. blocks n block s t) (λ s. blocks_before n unblock s t)
+  unfolding blocks blocks_before
+  taken_back one t text = folded one (pieces n t) (pieces-blocks t text)
+
+  -- ---- a text with one block in the middle
+
   module _ {S : Type 0} (block : S → List ℕ → S) (s : S) (front b back : List ℕ) (place : length front % n ≡ 0) (whole : length b ≡ n) where
     count : length front ≡ length front / n * n
     count = omega (arith, div-add-mod' (length front) n)
@@ -73,33 +42,69 @@ module _ (n : ℕ) (some : 0 < n) where
     pub framed-tail : tail n (front ++ (b ++ back)) ≡ tail n back
     framed-tail = tail-append n some front (b ++ back) (length front / n) count ∙ tail-append n some b back 1 once
 
-    pub framed-length : length (front ++ (b ++ back)) ≡ length front + n + length back
-    framed-length = omega (arith, length-append front (b ++ back), length-append b back, whole)
+  pub framed-length : (front b back : List ℕ) → length b ≡ n → length (front ++ (b ++ back)) ≡ length front + n + length back
+  framed-length front b back whole = omega (arith, length-append front (b ++ back), length-append b back, whole)
 
--- ---- blocks back
+  -- each result has one block, where what leads there can be taken back
+  pub one_block : {H : Type 0} {Q : H → Type 0} {f : List ℕ → H} {g : H → List ℕ} → Undoes (IsBlock n) Q f g
+      → (h : H) → Q h → ExactlyTexts 1 n (λ b. f b ≡ h)
+  one_block {f = f} {g = g} u h h_in =
+      let is = u.back_in h h_in in
+      Exactly-one (λ b. IsText b × (length b ≡ n) × (f b ≡ h)) (g h) (is.0, is.1, u.there h h_in)
+      (λ b known. sym (u.back b (known.0, known.1)) ∙ ap g known.2)
 
-module _ {S : Type 0} (n : ℕ) (some : 0 < n) (in_range : S → Type 0) (block unblock : S → List ℕ → S)
-    (back : BlockBack n in_range block unblock) where
-  pub blocks-in : (s : S) (t : List ℕ) → in_range s → IsText t → in_range (blocks n block s t)
-  unfolding blocks
-  blocks-in s t s_in text =
-      fold-in (IsBlock n) in_range block unblock back.block_in back.unblock_in back.unblock_back back.block_back (pieces n t) s s_in
-      (pieces-blocks n some t text)
+  -- ---- two texts that differ in one whole block
 
-  pub before-in : (s : S) (t : List ℕ) → in_range s → IsText t → in_range (blocks_before n unblock s t)
-  unfolding blocks_before
-  before-in s t s_in text =
-      back-in (IsBlock n) in_range block unblock back.block_in back.unblock_in back.unblock_back back.block_back (pieces n t) s s_in
-      (pieces-blocks n some t text)
+  module _ (x y : List ℕ) (xs : IsText x) (ys : IsText y) (differ : DifferInOneBlock n x y) (whole : differ.one.0 * n + n ≤ length x) where
+    abbrev at : ℕ
+    at = differ.one.0 * n
 
-  pub blocks-before : (s : S) (t : List ℕ) → in_range s → IsText t → blocks n block (blocks_before n unblock s t) t ≡ s
-  unfolding blocks blocks_before
-  blocks-before s t s_in text =
-      there_again (IsBlock n) in_range block unblock back.block_in back.unblock_in back.unblock_back back.block_back (pieces n t) s s_in
-      (pieces-blocks n some t text)
+    abbrev pub ahead : List ℕ
+    ahead = take at x
 
-  pub before-blocks : (s : S) (t : List ℕ) → in_range s → IsText t → blocks_before n unblock (blocks n block s t) t ≡ s
-  unfolding blocks blocks_before
-  before-blocks s t s_in text =
-      back_again (IsBlock n) in_range block unblock back.block_in back.unblock_in back.unblock_back back.block_back (pieces n t) s s_in
-      (pieces-blocks n some t text)
+    abbrev pub behind : List ℕ
+    behind = drop (n + at) x
+
+    abbrev part : List ℕ → List ℕ
+    part t = take n (drop at t)
+
+    parts : (t : List ℕ) → take at t ++ (part t ++ drop (n + at) t) ≡ t
+    parts t =
+        ap (λ (d : List ℕ). take at t ++ (part t ++ d)) (sym (drop-drop n at t ∙ ap (λ m. drop m t) (let e : at + n ≡ n + at = omega arith in e)))
+        ∙ ap (λ (d : List ℕ). take at t ++ d) (take-append-drop n (drop at t)) ∙ take-append-drop at t
+
+    part-is : (t : List ℕ) → IsText t → length t ≡ length x → IsBlock n (part t)
+    part-is t text same =
+        (All-take IsByte n (drop at t) (All-drop IsByte at t text), length-take-le n (drop at t) (omega (arith, whole, same, length-drop at t)))
+
+    before-same : ahead ≡ take at y
+    before-same =
+        part-same at 0 x y differ.same_length (λ i i_in. differ.one.1 (0 + i) (λ (e : (0 + i) / n ≡ differ.one.0).
+        let below = rw e at (div-mul-le_self (0 + i) n) in omega (arith, i_in, below)))
+
+    behind-same : behind ≡ drop (n + at) y
+    behind-same =
+        rest-same (n + at) x y differ.same_length (λ i. differ.one.1 (n + at + i) (λ (e : (n + at + i) / n ≡ differ.one.0).
+        let split = rw e at (div-add-mod' (n + at + i) n) in omega (arith, split, mod_below (n + at + i) n some)))
+
+    pub ahead-is : IsText ahead × (length ahead ≡ at)
+    ahead-is = (All-take IsByte at x xs, length-take-le at x (omega (arith, whole)))
+
+    pub behind-is : IsText behind × (length behind + (n + at) ≡ length x)
+    behind-is = (All-drop IsByte (n + at) x xs, omega (arith, whole, length-drop (n + at) x))
+
+    pub shows : {H : Type 0} {Q : H → Type 0} (hash : List ℕ → H) {unhash : H → List ℕ}
+        → Undoes (IsBlock n) Q (λ b. hash (ahead ++ (b ++ behind))) unhash → hash x ≢ hash y
+    shows hash u same =
+        let framed : ahead ++ (part y ++ behind) ≡ y =
+        ap₂ (λ (f b : List ℕ). f ++ (part y ++ b)) before-same behind-same ∙ parts y in
+        let middle : part x ≡ part y =
+        told u (part x) (part y) (part-is x xs refl) (part-is y ys (sym differ.same_length))
+        (ap hash (parts x) ∙ same ∙ ap hash (sym framed)) in
+        differ.different (sym (parts x) ∙ ap (λ (p : List ℕ). ahead ++ (p ++ behind)) middle ∙ framed)
+
+-- the block of the first difference is the one in which they differ
+pub block_of_first : (n : ℕ) (x y : List ℕ) (first : ℕ) → IsFirstDifference first x y → (differ : DifferInOneBlock n x y)
+    → first / n ≡ differ.one.0
+block_of_first n x y first is differ =
+    ⊎_elim (λ e. e) (λ other. absurd (is.differ_there (differ.one.1 first other))) (cases_eq (first / n) differ.one.0)

@@ -1,9 +1,8 @@
+pub mod Common
 pub mod BackLemmas
-pub mod BlockLemmas
 pub mod BlockBack
-pub mod RestLemmas
-pub mod Same32
-pub mod Back32
-pub mod BlockBack32
+pub mod BlockLemmas
+pub mod Steps32
+pub mod Steps64
 pub mod Words32
 pub mod Words64

@@ -1,3 +1,4 @@
+pub mod Common
 pub mod BlockFacts
 pub mod Murmur3Back
 pub mod Murmur3BackLaws

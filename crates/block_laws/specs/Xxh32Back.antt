@@ -1,9 +1,9 @@
 -- XXH32's steps taken back: the inverse of each product is that of an odd number modulo 2 ^ 32.
-use Rattle.std.specs.Prelude.{ℕ, zero, suc, ◌-◌, List, [], ◌∷◌, slice_index, fold, reverse}
+use Rattle.std.specs.Prelude.{ℕ, zero, suc, ◌-◌, nat_lt, if◌then◌else◌, List, [], ◌∷◌, slice_index, fold, reverse}
 use Rattle.hash_words.specs.Words.{le, rotl, add, sub, xorshift}
-use Rattle.hash_blocks.specs.Blocks.{tail}
+use Rattle.hash_blocks.specs.Blocks.{blocks, tail}
 use Rattle.block_laws.specs.BlockFacts.{blocks_before}
-use Rattle.hash_xxhash.specs.Xxh32.{q2, q3, q5, product, words_of}
+use Rattle.hash_xxhash.specs.Xxh32.{q2, q3, q5, product, words_of, start, after_block, converged}
 
 -- what undoes a product by a prime
 abbrev pub un_q1 : ℕ
@@ -38,6 +38,10 @@ before_block lanes block =
     let words = words_of block in
     lane_out (slice_index lanes 0) (slice_index words 0) ∷ lane_out (slice_index lanes 1) (slice_index words 1)
     ∷ lane_out (slice_index lanes 2) (slice_index words 2) ∷ lane_out (slice_index lanes 3) (slice_index words 3) ∷ []
+
+-- before what is left, from the length of a text and what its whole blocks are in
+abbrev pub begun : ℕ → List ℕ → ℕ → ℕ
+begun seed text total = if nat_lt total 16 then add 32 seed q5 else converged (blocks 16 after_block (start seed) text)
 
 -- before what is left
 abbrev pub rest_out : ℕ → List ℕ → ℕ

@@ -1,11 +1,11 @@
 -- XXH64's steps behind the whole blocks taken back: the inverse of each product is that of an odd number modulo 2 ^ 64.
-use Rattle.std.specs.Prelude.{ℕ, List, [], ◌∷◌, slice_index, fold, reverse, bit_xor}
+use Rattle.std.specs.Prelude.{ℕ, nat_lt, if◌then◌else◌, List, [], ◌∷◌, slice_index, fold, reverse, bit_xor}
 use Rattle.std.specs.Int.{w64, to_le_bytes}
-use Rattle.hash_words.specs.Words.{le, rotl, sub, xorshift}
+use Rattle.hash_words.specs.Words.{le, rotl, add, sub, xorshift}
 use Rattle.hash_words.specs.Pieces.{le_words}
-use Rattle.hash_blocks.specs.Blocks.{tail}
+use Rattle.hash_blocks.specs.Blocks.{blocks, tail}
 use Rattle.block_laws.specs.BlockFacts.{blocks_before}
-use Rattle.hash_xxhash.specs.Xxh64.{p1, p2, p3, p4, p5, product, round}
+use Rattle.hash_xxhash.specs.Xxh64.{p1, p2, p3, p4, p5, product, round, start, after_block, converged}
 
 -- what undoes a product by a prime
 abbrev pub un_p1 : ℕ
@@ -45,6 +45,10 @@ four_out h word = bit_xor (unspun 41 un_p2 p3 h) (product word p1)
 
 abbrev pub byte_out : ℕ → ℕ → ℕ
 byte_out h byte = bit_xor (unspun 53 un_p1 0 h) (product byte p5)
+
+-- before what is left, from the length of a text and what its whole blocks are in
+abbrev pub begun : ℕ → List ℕ → ℕ → ℕ
+begun seed text total = if nat_lt total 32 then add 64 seed p5 else converged (blocks 32 after_block (start seed) text)
 
 -- before what is left
 abbrev pub rest_out : ℕ → List ℕ → ℕ

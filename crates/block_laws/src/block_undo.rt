@@ -1,11 +1,11 @@
-//! What a hash by the block says for itself where it loses nothing.
-ghost use Rattle.std.specs.Prelude.{◌≡◌, ◌<◌, ℕ, List, length};
-ghost use Rattle.block_laws.specs.BlockFacts.{BlockFacts};
+//! What a block-based hash that loses nothing has to define.
+ghost use Rattle.std.specs.Prelude.{◌≡◌, ◌<◌};
+ghost use Rattle.block_laws.specs.Common.{ℕ, List, length, BlockFacts};
 
 use hash_blocks::BlockRule;
 
-/// The second part, of a rule that loses nothing: a block can be taken back, there is one block between any two states, and
-/// one state behind each answer.
+/// The second part, of a rule that loses nothing: a block can be undone, there is one block between any two states, and
+/// one state with each answer.
 pub trait BlockUndo<const N: usize>: BlockRule<N> {
     /// Holds of the numbers of a seed.
     ghost is_seed: { List ℕ → Type 0 };
@@ -22,7 +22,7 @@ pub trait BlockUndo<const N: usize>: BlockRule<N> {
     /// The block that leads from one state to another.
     ghost between: { Self.State → Self.State → List ℕ };
 
-    /// What is kept behind an answer.
+    /// What is kept where the answer is this one.
     ghost unfinish: { Self.Hash → List ℕ → ℕ → Self.State };
 
     /// A law with no code: the numbers of a seed are in range.

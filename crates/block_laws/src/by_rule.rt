@@ -1,18 +1,13 @@
-//! What follows for all hashes by the block that lose nothing.
-ghost use Rattle.std.specs.Prelude.{◌≡◌, ◌≢◌, ◌↔◌, ◌+◌, ◌%◌, ◌^◌, ◌<◌, ℕ, List, ◌++◌, IsTrue, length};
-ghost use Rattle.std.specs.Bool.{OnTrue};
-ghost use Rattle.hash_laws.specs.Exactly.{ExactlyTexts};
-ghost use Rattle.hash_laws.specs.Text.{IsText};
-ghost use Rattle.hash_windows.specs.DifferWithin.{DifferInOneBlock};
-ghost use Rattle.hash_blocks.specs.Blocks.{tail};
-ghost use Rattle.block_laws.specs.BlockFacts.{blocks_before};
+//! What follows for all block-based hashes that lose nothing.
+ghost use Rattle.std.specs.Prelude.{◌≡◌, ◌≢◌, ◌↔◌, ◌+◌, ◌%◌, ◌^◌, ◌<◌, ◌++◌};
+ghost use Rattle.block_laws.specs.Common.{ℕ, List, IsTrue, length, OnTrue, ExactlyTexts, IsText, DifferInOneBlock, tail, blocks_before};
 
 use crate::block_undo::BlockUndo;
 use hash_blocks::blocks_in;
 use hash_laws::traits::bytes_are_a_text;
 use hash_windows::window::differ_in_one_block;
 
-/// Whether the texts have one length and differ, but only within one block of `N` bytes, or behind the whole blocks. Where so,
+/// Whether the texts have one length and differ, but only within one block of `N` bytes, or after the whole blocks. If so,
 /// their hashes differ under every seed. Computes no hash.
 pub fn apart_by_rule<R: BlockUndo<N>, const N: usize>(x: &[u8], y: &[u8]) -> bool
     ensures exactly { IsTrue result ↔ DifferInOneBlock N x.now y.now }
@@ -21,7 +16,7 @@ pub fn apart_by_rule<R: BlockUndo<N>, const N: usize>(x: &[u8], y: &[u8]) -> boo
     differ_in_one_block::<N>(x, y)
 }
 
-/// A changed block shows, a law with no code: two texts of one length that differ, but only within one block, or behind the
+/// A changed block shows, a law with no code: two texts of one length that differ, but only within one block, or after the
 /// whole blocks, have different hashes under every seed.
 pub fn one_changed_block_shows_by_rule<R: BlockUndo<N>, const N: usize>()
     ensures { (from x y : List ℕ) → R.is_seed from → IsText x → IsText y → DifferInOneBlock N x y
@@ -42,7 +37,7 @@ fn blocks_out<R: BlockUndo<N>, const N: usize>(hash: R::Hash, bytes: &[u8], tota
     state
 }
 
-/// The one block between a front of whole blocks and a back that leads to a hash, under a seed.
+/// The one block between a front of whole blocks and a back that gives a hash, under a seed.
 pub fn block_for_by_rule<R: BlockUndo<N>, const N: usize>(
     seed: R::Seed,
     front: &[u8],
@@ -63,7 +58,7 @@ pub fn block_for_by_rule<R: BlockUndo<N>, const N: usize>(
     R::between(&from, &to)
 }
 
-/// No hash is favoured, a law with no code: between a front of whole blocks and a back exactly one block leads to each hash,
+/// No hash is favoured, a law with no code: between a front of whole blocks and a back exactly one block gives each hash,
 /// under every seed.
 pub fn blocks_are_even<R: BlockUndo<N>, const N: usize>()
     ensures { (from front back : List ℕ) (hash : R.Hash) → R.is_seed from → IsText front → IsText back
@@ -72,6 +67,7 @@ pub fn blocks_are_even<R: BlockUndo<N>, const N: usize>()
 {}
 
 /// Takes a block out again, whether or not it was taken in: the inverse of `block`, both ways.
+#[tactic(auto, using(hash_words::proofs::UndoLemmas::found, hash_words::proofs::UndoLemmas::found_alone))]
 pub fn block_out<R: BlockUndo<N>, const N: usize>(state: &mut R::State, bytes: &[u8; N])
     requires { R.in_range state.old }
     ensures back { R.block state.new bytes.now ≡ state.old }
@@ -82,7 +78,7 @@ pub fn block_out<R: BlockUndo<N>, const N: usize>(state: &mut R::State, bytes: &
     R::unblock(state, bytes);
 }
 
-/// The one state that answers a hash, from the bytes that are left behind the whole blocks and the length.
+/// The one state that answers a hash, from the bytes that are left after the whole blocks and the length.
 pub fn state_behind<R: BlockUndo<N>, const N: usize>(
     hash: R::Hash,
     left: &[u8],

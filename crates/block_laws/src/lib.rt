@@ -1,5 +1,5 @@
-//! What follows for hashes by the block that lose nothing, and for MurmurHash3, XXH32 and XXH64 alone: one changed block shows, no hash is
-//! favoured, the block for a hash, and each block taken back.
+//! What follows for block-based hashes that lose nothing, and for MurmurHash3, XXH32 and XXH64 alone: one changed block shows, no hash is
+//! favoured, the block for a hash, and each block undone.
 #![tactic(auto)]
 
 mod block_undo;

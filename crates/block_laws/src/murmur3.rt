@@ -1,9 +1,6 @@
 //! Laws of MurmurHash3 alone.
-ghost use Rattle.std.specs.Prelude.{◌≡◌, ◌≢◌, ◌↔◌, ◌+◌, ◌%◌, ◌^◌, ◌<◌, ℕ, List, ◌++◌, IsTrue, length};
-ghost use Rattle.std.specs.Bool.{OnTrue};
-ghost use Rattle.hash_laws.specs.Exactly.{ExactlyTexts};
-ghost use Rattle.hash_laws.specs.Text.{IsText};
-ghost use Rattle.hash_windows.specs.DifferWithin.{DifferInOneBlock};
+ghost use Rattle.std.specs.Prelude.{◌≡◌, ◌≢◌, ◌↔◌, ◌+◌, ◌%◌, ◌^◌, ◌<◌, ◌++◌};
+ghost use Rattle.block_laws.specs.Common.{ℕ, List, IsTrue, length, OnTrue, ExactlyTexts, IsText, DifferInOneBlock};
 ghost use Rattle.hash_murmur3.specs.Murmur3.{murmur3_32};
 ghost use Rattle.hash_murmur3.specs.Murmur3x128.{murmur3_128};
 
@@ -11,7 +8,7 @@ use crate::by_rule::{apart_by_rule, block_for_by_rule};
 use hash_murmur3::{Murmur3Rule32, Murmur3Rule128};
 
 /// Whether the texts have one length and differ, but only within one word: four bytes from a place that 4 divides, or the up to
-/// three bytes behind the last such word. Where so, their hashes by MurmurHash3_x86_32 differ under every seed. Computes no hash.
+/// three bytes after the last such word. If so, their hashes by MurmurHash3_x86_32 differ under every seed. Computes no hash.
 pub fn apart_by_word_murmur3_32(x: &[u8], y: &[u8]) -> bool
     ensures exactly { IsTrue result ↔ DifferInOneBlock 4 x.now y.now }
     ensures differ { OnTrue result ((seed : ℕ) → seed < 2 ^ 32
@@ -21,7 +18,7 @@ pub fn apart_by_word_murmur3_32(x: &[u8], y: &[u8]) -> bool
 }
 
 /// One changed word shows in MurmurHash3_x86_32, a law with no code: two texts of one length that differ, but only within four
-/// bytes from a place that 4 divides, or within the up to three bytes behind, have different hashes under every seed.
+/// bytes from a place that 4 divides, or within the up to three bytes after them, have different hashes under every seed.
 pub fn one_changed_word_shows_in_murmur3_32()
     ensures { (seed : ℕ) (x y : List ℕ) → seed < 2 ^ 32 → IsText x → IsText y → DifferInOneBlock 4 x y
         → murmur3_32 seed x ≢ murmur3_32 seed y }
@@ -39,7 +36,7 @@ pub fn word_for_murmur3_32(seed: u32, front: &[u8], back: &[u8], hash: u32) -> [
 }
 
 /// MurmurHash3_x86_32 favours no hash, a law with no code: between a front, whose length 4 divides, and a back exactly one word
-/// of four bytes leads to each hash, under every seed.
+/// of four bytes gives each hash, under every seed.
 pub fn murmur3_32_is_even()
     ensures { (seed hash : ℕ) (front back : List ℕ) → seed < 2 ^ 32 → hash < 2 ^ 32
         → IsText front → IsText back → length front % 4 ≡ 0
@@ -47,7 +44,7 @@ pub fn murmur3_32_is_even()
 {}
 
 /// Whether the texts have one length and differ, but only within one block of sixteen bytes from a place that 16 divides, or
-/// within the up to fifteen bytes behind. Where so, their hashes of 128 bits by MurmurHash3_x64_128 differ under every seed.
+/// within the up to fifteen bytes after them. If so, their hashes of 128 bits by MurmurHash3_x64_128 differ under every seed.
 /// Computes no hash.
 pub fn apart_by_block_murmur3_128(x: &[u8], y: &[u8]) -> bool
     ensures exactly { IsTrue result ↔ DifferInOneBlock 16 x.now y.now }
@@ -58,7 +55,7 @@ pub fn apart_by_block_murmur3_128(x: &[u8], y: &[u8]) -> bool
 }
 
 /// One changed block shows in MurmurHash3_x64_128, a law with no code: two texts of one length that differ, but only within
-/// sixteen bytes from a place that 16 divides, or within the up to fifteen bytes behind, have different hashes of 128 bits under
+/// sixteen bytes from a place that 16 divides, or within the up to fifteen bytes after them, have different hashes of 128 bits under
 /// every seed.
 pub fn one_changed_block_shows_in_murmur3_128()
     ensures { (seed : ℕ) (x y : List ℕ) → seed < 2 ^ 64 → IsText x → IsText y → DifferInOneBlock 16 x y
@@ -77,7 +74,7 @@ pub fn block_for_murmur3_128(seed: u64, front: &[u8], back: &[u8], hash: (u64, u
 }
 
 /// MurmurHash3_x64_128 favours no hash, a law with no code: between a front, whose length 16 divides, and a back exactly one
-/// block of sixteen bytes leads to each hash of 128 bits, under every seed.
+/// block of sixteen bytes gives each hash of 128 bits, under every seed.
 pub fn murmur3_128_is_even()
     ensures { (seed : ℕ) (hash : ℕ × ℕ) (front back : List ℕ) → seed < 2 ^ 64
         → hash.0 < 2 ^ 64 → hash.1 < 2 ^ 64 → IsText front → IsText back → length front % 16 ≡ 0

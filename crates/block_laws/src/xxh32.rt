@@ -1,13 +1,9 @@
 //! The words that lead XXH32 to a hash.
-ghost use Rattle.std.specs.Prelude.{◌≡◌, ◌+◌, ◌*◌, ◌/◌, ◌%◌, ◌^◌, ◌<◌, ◌≤◌, ℕ, List, ◌++◌, length, fold, reverse};
-ghost use Rattle.hash_laws.specs.Exactly.{ExactlyTexts};
-ghost use Rattle.hash_laws.specs.Text.{IsText};
-ghost use Rattle.hash_words.specs.Words.{le};
+ghost use Rattle.std.specs.Prelude.{◌≡◌, ◌+◌, ◌*◌, ◌/◌, ◌%◌, ◌^◌, ◌<◌, ◌≤◌, ◌++◌};
+ghost use Rattle.block_laws.specs.Common.{ℕ, List, length, fold, reverse, ExactlyTexts, IsText, le, blocks, tail, blocks_before, fours_in, words_of, xxh32};
 ghost use Rattle.hash_rounds.proofs.RoundLemmas.{AreNWords};
-ghost use Rattle.hash_blocks.specs.Blocks.{blocks, tail};
-ghost use Rattle.block_laws.specs.BlockFacts.{blocks_before, IsBlock};
-ghost use Rattle.hash_xxhash.specs.Xxh32.{after_block, fours_in, start, words_of, xxh32};
-ghost use Rattle.block_laws.specs.Xxh32Back.{before_block, byte_out, four_between, four_out, lane_back, lane_for, lane_out, last_unmix, rest_out, turn_of, unturned, word_between};
+ghost use Rattle.hash_xxhash.specs.Xxh32.{after_block, start};
+ghost use Rattle.block_laws.specs.Xxh32Back.{before_block, begun, byte_out, four_between, four_out, lane_back, lane_for, lane_out, last_unmix, rest_out, turn_of, unturned, word_between};
 
 use hash_words::{le_four, rotl32};
 use hash_xxhash::at_32::{Q2, Q3, Q5, after_block, converged, four_in, start, words_of};
@@ -128,6 +124,7 @@ fn before_block(lanes: &[u32; 4], block: &[u8; 16]) -> [u32; 4]
 }
 
 /// Takes a block of XXH32 out of its four lanes again, whether or not it was taken in: the inverse of that, both ways.
+#[tactic(auto, using(crate::proofs::BlockBack::there_32, crate::proofs::BlockBack::back_again_32))]
 pub fn xxh32_block_out(lanes: &[u32; 4], block: &[u8; 16]) -> [u32; 4]
     ensures back { after_block result block.now ≡ lanes.now }
     ensures undone { (s : List ℕ) → AreNWords 32 4 s → after_block s block.now ≡ lanes.now → result ≡ s }
@@ -196,12 +193,15 @@ fn word_between(from: u32, to: u32) -> u32
         .wrapping_mul(UN_Q2)
 }
 
-// The length of a text modulo 2^32.
-#[inline(always)]
-fn low_length(text: &[u8]) -> u32
-    ensures { result ≡ length text.now % 2 ^ 32 }
+// The word before what is left behind the blocks, under a seed, from the length of a text and what its whole blocks are in.
+fn begun(seed: u32, front: &[u8], total: u64) -> u32
+    ensures { result ≡ begun seed front.now total }
 {
-    (text.len() as u64 % 0x1_0000_0000) as u32
+    if total < 16 {
+        seed.wrapping_add(Q5)
+    } else {
+        converged(&lanes_after(&start(seed), front))
+    }
 }
 
 // The word behind the whole blocks of 16, between a front and a back, that leads to a hash.
@@ -210,22 +210,18 @@ fn word_behind(seed: u32, front: &[u8], back: &[u8], hash: u32) -> [u8; 4]
     requires place { length front.now % 4 ≡ 0 }
     requires behind { length front.now % 16 + 4 + length back.now < 16 }
     ensures leads { xxh32 seed (front.now ++ (result ++ back.now)) ≡ hash }
-    ensures is_word { IsBlock 4 result }
+    ensures alone { (word : List ℕ) → IsText word → length word ≡ 4
+        → xxh32 seed (front.now ++ (word ++ back.now)) ≡ hash → word ≡ result }
 {
-    let begun = if front.len() < 16 {
-        seed.wrapping_add(Q5)
-    } else {
-        converged(&lanes_after(&start(seed), front))
-    };
     let (_, ahead) = front.as_chunks::<16>();
-    let total = low_length(front)
-        .wrapping_add(4)
-        .wrapping_add(low_length(back));
-    let from = fours_in(begun.wrapping_add(total), ahead);
+    let total = front.len() as u64 + 4 + back.len() as u64;
+    let low = (total % 0x1_0000_0000) as u32;
+    let from = fours_in(begun(seed, front, total).wrapping_add(low), ahead);
     four_between(from, rest_out(last_unmix(hash), back)).to_le_bytes()
 }
 
 // The block in which a word lies, with some word in its place.
+#[tactic(auto, using(crate::proofs::Words32::around))]
 fn block_around(ahead: &[u8], near: &[u8]) -> [u8; 16]
     requires { length ahead.now + 4 + length near.now ≡ 16 }
     ensures { (word : List ℕ) × (length word ≡ 4) × (result ≡ ahead.now ++ (word ++ near.now)) }
@@ -242,7 +238,8 @@ fn word_inside(seed: u32, front: &[u8], back: &[u8], hash: u32) -> [u8; 4]
     requires place { length front.now % 4 ≡ 0 }
     requires inside { 16 ≤ length front.now % 16 + 4 + length back.now }
     ensures leads { xxh32 seed (front.now ++ (result ++ back.now)) ≡ hash }
-    ensures is_word { IsBlock 4 result }
+    ensures alone { (word : List ℕ) → IsText word → length word ≡ 4
+        → xxh32 seed (front.now ++ (word ++ back.now)) ≡ hash → word ≡ result }
 {
     let (_, ahead) = front.as_chunks::<16>();
     let (near, later) = back.split_at(12 - ahead.len());
@@ -250,10 +247,9 @@ fn word_inside(seed: u32, front: &[u8], back: &[u8], hash: u32) -> [u8; 4]
     let before = lanes_after(&start(seed), front);
     let spare = lanes_after(&after_block(&before, &block_around(ahead, near)), later);
     let (_, left) = later.as_chunks::<16>();
-    let total = low_length(front)
-        .wrapping_add(4)
-        .wrapping_add(low_length(back));
-    let wanted = rest_out(last_unmix(hash), left).wrapping_sub(total);
+    let total = front.len() as u64 + 4 + back.len() as u64;
+    let low = (total % 0x1_0000_0000) as u32;
+    let wanted = rest_out(last_unmix(hash), left).wrapping_sub(low);
     let lane = lane_for(place, wanted, converged(&spare), spare[place]);
     word_between(before[place], lane_back(place, lane, later)).to_le_bytes()
 }
@@ -274,7 +270,7 @@ pub fn word_for_xxh32(seed: u32, front: &[u8], back: &[u8], hash: u32) -> [u8; 4
 }
 
 /// From four bytes on XXH32 favours no hash, a law with no code: between a front, whose length 4 divides, and a back exactly one word of four bytes
-/// leads to each hash, under every seed.
+/// gives each hash, under every seed.
 pub fn xxh32_is_even()
     ensures { (seed hash : ℕ) (front back : List ℕ) → seed < 2 ^ 32 → hash < 2 ^ 32
         → IsText front → IsText back → length front % 4 ≡ 0

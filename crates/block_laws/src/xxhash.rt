@@ -1,16 +1,10 @@
 //! Laws of XXH32 and XXH64 alone.
-ghost use Rattle.std.specs.Prelude.{◌≡◌, ◌≢◌, ◌↔◌, ◌+◌, ◌*◌, ◌/◌, ◌^◌, ◌<◌, ◌≤◌, ℕ, List, ◌++◌, IsTrue, length, fold, reverse};
-ghost use Rattle.std.specs.Bool.{OnTrue};
-ghost use Rattle.hash_laws.specs.Exactly.{ExactlyTexts};
-ghost use Rattle.hash_laws.specs.Text.{IsText};
-ghost use Rattle.hash_words.specs.Words.{le};
+ghost use Rattle.std.specs.Prelude.{◌≡◌, ◌≢◌, ◌↔◌, ◌+◌, ◌*◌, ◌/◌, ◌^◌, ◌<◌, ◌≤◌, ◌++◌};
+ghost use Rattle.block_laws.specs.Common.{ℕ, List, IsTrue, length, fold, reverse, OnTrue, ExactlyTexts, IsText, le, blocks, tail, blocks_before, xxh32};
 ghost use Rattle.hash_rounds.proofs.RoundLemmas.{AreFourWords};
-ghost use Rattle.hash_blocks.specs.Blocks.{blocks, tail};
-ghost use Rattle.block_laws.specs.BlockFacts.{blocks_before};
-ghost use Rattle.hash_xxhash.specs.Xxh32.{xxh32};
 ghost use Rattle.block_laws.specs.Xxh32Words.{DifferInOneWord};
 ghost use Rattle.hash_xxhash.specs.Xxh64.{after_block, eights_in, start, xxh64};
-ghost use Rattle.block_laws.specs.Xxh64Back.{before_block, byte_out, eight_between, eight_out, four_out, lane_out, last_unmix, rest_out, unround, unspun};
+ghost use Rattle.block_laws.specs.Xxh64Back.{before_block, begun, byte_out, eight_between, eight_out, four_out, lane_out, last_unmix, rest_out, unround, unspun};
 ghost use Rattle.block_laws.specs.Xxh64Words.{IsBehind, DifferInOneLastWord};
 
 use hash_windows::window::{differ_in_one_block, first_difference};
@@ -130,7 +124,18 @@ fn eights_in(h: u64, text: &[u8]) -> u64
     mixed
 }
 
-/// The one word of eight bytes between a front and a back that leads XXH64 to a hash, under a seed. It is a word behind the whole
+// The word before what is left behind the blocks, under a seed, from the length of a text and what its whole blocks are in.
+fn begun(seed: u64, front: &[u8], total: u64) -> u64
+    ensures { result ≡ begun seed front.now total }
+{
+    if total < 32 {
+        seed.wrapping_add(P5)
+    } else {
+        converged(&lanes_of(seed, front))
+    }
+}
+
+/// The one word of eight bytes between a front and a back that gives XXH64 a hash, under a seed. It is a word after the whole
 /// blocks of 32 bytes: 8 divides the front's length, and what is left of the front, the word and the back are shorter than a block.
 pub fn word_for_xxh64(seed: u64, front: &[u8], back: &[u8], hash: u64) -> [u8; 8]
     requires { IsBehind (length front.now) (length back.now) }
@@ -139,17 +144,12 @@ pub fn word_for_xxh64(seed: u64, front: &[u8], back: &[u8], hash: u64) -> [u8; 8
         → xxh64 seed (front.now ++ (word ++ back.now)) ≡ hash → word ≡ result }
 {
     let total = front.len() as u64 + 8 + back.len() as u64;
-    let begun = if total < 32 {
-        seed.wrapping_add(P5)
-    } else {
-        converged(&lanes_of(seed, front))
-    };
-    let from = eights_in(begun.wrapping_add(total), front);
+    let from = eights_in(begun(seed, front, total).wrapping_add(total), front);
     eight_between(from, rest_out(last_unmix(hash), back))
 }
 
-/// XXH64 favours no hash behind its whole blocks, a law with no code: between a front and a back, as `word_for_xxh64` takes them,
-/// exactly one word of eight bytes leads to each hash, under every seed.
+/// XXH64 favours no hash after its whole blocks, a law with no code: between a front and a back, as `word_for_xxh64` takes them,
+/// exactly one word of eight bytes gives each hash, under every seed.
 pub fn xxh64_is_even()
     ensures { (seed hash : ℕ) (front back : List ℕ) → hash < 2 ^ 64 → IsText front → IsText back
         → IsBehind (length front) (length back)
@@ -157,7 +157,7 @@ pub fn xxh64_is_even()
 {}
 
 /// One changed word shows in XXH64, a law with no code: two texts of one length that differ, but only within one word of eight
-/// bytes behind their whole blocks of 32, from a place that 8 divides, have different hashes under every seed. Below 32 bytes that
+/// bytes after their whole blocks of 32, from a place that 8 divides, have different hashes under every seed. Below 32 bytes that
 /// is any word of eight bytes.
 pub fn one_changed_word_shows_in_xxh64()
     ensures { (seed : ℕ) (x y : List ℕ) → IsText x → IsText y → DifferInOneLastWord x y
@@ -172,8 +172,8 @@ fn in_last_word(len: usize, place: usize) -> bool
     len / 32 * 32 <= place / 8 * 8 && len - place / 8 * 8 >= 8
 }
 
-/// Whether the texts have one length and differ, but only within one word of eight bytes behind their whole blocks of 32, from a
-/// place that 8 divides. Where so, their hashes by XXH64 differ under every seed. Computes no hash.
+/// Whether the texts have one length and differ, but only within one word of eight bytes after their whole blocks of 32, from a
+/// place that 8 divides. If so, their hashes by XXH64 differ under every seed. Computes no hash.
 pub fn apart_by_word_xxh64(x: &[u8], y: &[u8]) -> bool
     ensures exactly { IsTrue result ↔ DifferInOneLastWord x.now y.now }
     ensures differ { OnTrue result ((seed : ℕ) → xxh64 seed x.now ≢ xxh64 seed y.now) }
@@ -194,7 +194,7 @@ pub fn one_changed_word_shows_in_xxh32()
         → xxh32 seed x ≢ xxh32 seed y }
 {}
 
-/// Whether the texts have one length and differ, but only within one word of four bytes from a place that 4 divides. Where so, their
+/// Whether the texts have one length and differ, but only within one word of four bytes from a place that 4 divides. If so, their
 /// hashes by XXH32 differ under every seed. Computes no hash.
 pub fn apart_by_word_xxh32(x: &[u8], y: &[u8]) -> bool
     ensures exactly { IsTrue result ↔ DifferInOneWord x.now y.now }
@@ -233,6 +233,7 @@ fn before_block(lanes: &[u64; 4], block: &[u8; 32]) -> [u64; 4]
 }
 
 /// Takes a block of XXH64 out of its four lanes again, whether or not it was taken in: the inverse of that, both ways.
+#[tactic(auto, using(crate::proofs::BlockBack::there_64, crate::proofs::BlockBack::back_again_64))]
 pub fn xxh64_block_out(lanes: &[u64; 4], block: &[u8; 32]) -> [u64; 4]
     ensures back { after_block result block.now ≡ lanes.now }
     ensures undone { (s : List ℕ) → AreFourWords s → after_block s block.now ≡ lanes.now → result ≡ s }

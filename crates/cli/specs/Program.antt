@@ -19,8 +19,8 @@ Answers request.Work outcome = Unit {0}
 abbrev pub EndsAs : {Misuse Own : Type 0} → Request → Outcome Misuse Own → Type 0
 EndsAs request outcome = Answers request outcome ⊎ (outcome ≡ Failed NoMemory)
 
--- the status that a program ends with where a call asks for this
-pub record IsStatus (Misuse Own : Type 0) (request : Request) (status : ℕ) : Type 0 where
+-- the status that a program ends with of which this came, unless there was no memory
+pub record IsStatus {Misuse Own : Type 0} (came : Outcome Misuse Own → Type 0) (status : ℕ) : Type 0 where
   pub outcome : Outcome Misuse Own
-  pub ends : EndsAs request outcome
+  pub ends : came outcome ⊎ (outcome ≡ Failed NoMemory)
   pub is : status ≡ status_of outcome

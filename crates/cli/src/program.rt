@@ -2,9 +2,8 @@
 ghost use Rattle.std.specs.Prelude.{◌≡◌, ℕ, List, IfOk};
 ghost use Rattle.std.specs.Process.{exit_status};
 ghost use Rattle.cli.specs.Call.{Saying, sayings, texts};
-ghost use Rattle.cli.specs.Frame.{request_of};
-ghost use Rattle.cli.specs.declared.frame.Request.{Request};
-ghost use Rattle.cli.specs.Program.{EndsAs, IsStatus};
+ghost use Rattle.cli.specs.Program.{IsStatus};
+ghost use Rattle.cli.specs.declared.outcome.Outcome.{Outcome};
 
 use crate::arguments::arguments;
 use crate::call::Call;
@@ -29,6 +28,9 @@ pub trait Program {
     /// What words say.
     ghost says: { List (List ℕ) → List Saying };
 
+    /// What may come of a call that says this.
+    ghost came: { List Saying → Outcome Self.Misuse Self.Own → Type 0 };
+
     /// Its name.
     fn name() -> &'static str;
 
@@ -41,7 +43,7 @@ pub trait Program {
         rt: &'a HostRuntime,
         call: &Call<'a>,
     ) -> io::Result<Outcome<Self::Misuse, Self::Own>>
-        ensures { IfOk result (EndsAs (request_of (sayings call.now.said.items))) };
+        ensures { IfOk result (came (sayings call.now.said.items)) };
 
     /// The word that is wrong, or names the file that could not be written, if one is.
     fn word_of<'a>(
@@ -53,7 +55,7 @@ pub trait Program {
 
 /// Says that there is no memory for a call, and returns the status.
 fn without_memory<P: Program>(rt: &HostRuntime) -> u8
-    ensures { (request : Request) → IsStatus P.Misuse P.Own request result }
+    ensures { (said : List Saying) → IsStatus (P.came said) result }
 {
     ended(
         rt,
@@ -65,7 +67,7 @@ fn without_memory<P: Program>(rt: &HostRuntime) -> u8
 
 /// The status of the program that was called by these words.
 fn status_of<P: Program>(rt: &HostRuntime, words: &[Vec<u8>]) -> u8
-    ensures { IsStatus P.Misuse P.Own (request_of (P.says (texts words.now))) result }
+    ensures { IsStatus (P.came (P.says (texts words.now))) result }
 {
     let Ok(call) = P::call_of(rt.alloc(), words) else {
         return without_memory::<P>(rt);
@@ -83,7 +85,7 @@ fn status_of<P: Program>(rt: &HostRuntime, words: &[Vec<u8>]) -> u8
 
 /// Runs the program, and returns its status. What fails is said on standard error.
 pub fn run<P: Program>(rt: &HostRuntime) -> ExitCode
-    ensures { (words : List (List ℕ)) × IsStatus P.Misuse P.Own (request_of (P.says words)) (exit_status result) }
+    ensures { (words : List (List ℕ)) × IsStatus (P.came (P.says words)) (exit_status result) }
 {
     match arguments(rt) {
         Ok(words) => ExitCode::from(status_of::<P>(rt, &words)),

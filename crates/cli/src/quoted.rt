@@ -50,7 +50,12 @@ fn is_double_quoted(text: &str) -> bool {
     text.contains('\'') && behind_first.chars().all(is_plain)
 }
 
-/// Puts a control character as it stands between `$'` and `'`: by its letter, or else by its bytes in octal.
+/// Puts a byte as it stands between `$'` and `'`: in octal.
+fn push_octal(out: &mut String, alloc: Global, byte: u8) -> Result<(), AllocError> {
+    out.push_str(format!(in alloc; "\\{byte:03o}")?.as_str())
+}
+
+/// Puts a control character as it stands between `$'` and `'`: by its letter, or else by its bytes.
 fn push_control(out: &mut String, alloc: Global, c: char) -> Result<(), AllocError> {
     match c {
         '\u{7}' => return out.push_str("\\a"),
@@ -64,47 +69,65 @@ fn push_control(out: &mut String, alloc: Global, c: char) -> Result<(), AllocErr
     }
     let mut bytes = [0u8; 4];
     for byte in c.encode_utf8(&mut bytes).bytes() {
-        out.push_str(format!(in alloc; "\\{byte:03o}")?.as_str())?;
+        push_octal(out, alloc, byte)?;
     }
     Ok(())
 }
 
-/// A text in quotes, as a shell reads it.
-fn shell_quoted(alloc: Global, text: &str) -> Result<String, AllocError> {
-    let mut out = String::from_str(alloc, "'")?;
-    let mut escapes = false;
+/// Opens an escaped part, which stands between `$'` and `'`, or closes one, where what comes next is not as what came before.
+fn turn(out: &mut String, escaped: bool, escapes: bool) -> Result<(), AllocError> {
+    if escaped == escapes {
+        return Ok(());
+    }
+    out.push_str(if escapes { "'$'" } else { "''" })
+}
+
+/// Puts a text as it stands in quotes, behind an escaped part or not. Returns whether it ends with one.
+fn push_text(
+    out: &mut String,
+    alloc: Global,
+    text: &str,
+    escaped: bool,
+) -> Result<bool, AllocError> {
+    let mut escaped = escaped;
     for c in text.chars() {
-        let is_quote = c == '\'';
-        if c.is_control() != escapes && !is_quote {
-            out.push_str(if escapes { "''" } else { "'$'" })?;
-        }
-        if is_quote {
+        let escapes = c.is_control();
+        if c == '\'' {
             out.push_str("'\\''")?;
-        } else if c.is_control() {
-            push_control(&mut out, alloc, c)?;
+        } else if escapes {
+            turn(out, escaped, true)?;
+            push_control(out, alloc, c)?;
         } else {
+            turn(out, escaped, false)?;
             out.push(c)?;
         }
-        escapes = c.is_control();
+        escaped = escapes;
+    }
+    Ok(escaped)
+}
+
+/// A word in quotes for standard error: as a shell reads it, and as coreutils write it. A byte that is no UTF-8 stands there in octal.
+pub fn in_quotes(alloc: Global, word: &[u8]) -> Result<String, AllocError> {
+    let mut out = String::from_str(alloc, "'")?;
+    let mut escaped = false;
+    for chunk in word.utf8_chunks() {
+        escaped = push_text(&mut out, alloc, chunk.valid(), escaped)?;
+        for byte in chunk.invalid() {
+            turn(&mut out, escaped, true)?;
+            push_octal(&mut out, alloc, *byte)?;
+            escaped = true;
+        }
     }
     out.push('\'')?;
     Ok(out)
 }
 
-/// A word in quotes for standard error, with � for what is no UTF-8: as a shell reads it, and as coreutils write it.
-pub fn in_quotes(alloc: Global, word: &[u8]) -> Result<String, AllocError> {
-    shell_quoted(alloc, String::from_utf8_lossy(alloc, word)?.as_str())
-}
-
-/// A name for standard error, with � for what is no UTF-8. One that a shell would read as another is quoted as a shell reads it, and as
-/// coreutils writes it: `'a b'`, `"it's"`, `''`, `'no'$'\n''such'`. So it can't pass for another line, nor colour a terminal.
+/// A name for standard error. One that a shell would read as another, or that is no UTF-8, is quoted as a shell reads it, and as
+/// coreutils write it: `'a b'`, `"it's"`, `''`, `'no'$'\n''such'`, `'caf'$'\351'`. So it can't pass for another line, nor colour a terminal.
 pub fn quoted(alloc: Global, name: &[u8]) -> Result<String, AllocError> {
-    let text = String::from_utf8_lossy(alloc, name)?;
-    if !needs_quotes(text.as_str()) {
-        return Ok(text);
+    match str::from_utf8(name) {
+        Ok(text) if !needs_quotes(text) => String::from_str(alloc, text),
+        Ok(text) if is_double_quoted(text) => format!(in alloc; "\"{text}\""),
+        _ => in_quotes(alloc, name),
     }
-    if is_double_quoted(text.as_str()) {
-        return format!(in alloc; "\"{text}\"");
-    }
-    shell_quoted(alloc, text.as_str())
 }

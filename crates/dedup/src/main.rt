@@ -1,4 +1,4 @@
-//! `dedup` writes each line of its inputs once, where it came first. `dedup -c` writes at the end each line behind how
+//! `dedup` writes each line of its inputs once, where it came first. `dedup -c` writes at the end each line after how
 //! often it came, `dedup -d` those that came more than once, and `dedup -u` those that came once.
 #![tactic(auto)]
 
@@ -27,14 +27,14 @@ FILE is -, read standard input. The lines need not be sorted.
 
 ";
 
-/// What stands behind them.
+/// What stands after them.
 const BEHIND: &str = "
 -c can be combined with -d or -u. The exit status is 0, 1 if something failed,
 2 if the call is wrong, and 141 if the output pipe was closed.
 ";
 
 /// Which version this is.
-const VERSION: &str = "dedup of hashers 1.0.1
+const VERSION: &str = "dedup of hashers 0.1.0
 License: MIT
 ";
 
@@ -47,9 +47,13 @@ impl Program for Dedup {
     type Own = TooMany;
 
     ghost use Rattle.cli.specs.Call.{call_of};
+    ghost use Rattle.cli.specs.Frame.{request_of};
+    ghost use Rattle.cli.specs.Program.{EndsAs};
     ghost use Rattle.unique_lines.specs.Program.{options};
 
     ghost says = { call_of options };
+
+    ghost came = { λ said. EndsAs (request_of said) };
 
     fn name() -> &'static str {
         NAME
@@ -73,7 +77,6 @@ impl Program for Dedup {
             RandomKeys::new(rt)?,
             call,
             about,
-            u64::MAX,
             &mut inputs(rt, &names)?,
             &mut Told {
                 rt,

@@ -1,10 +1,5 @@
 -- The words of a piece by their places.
-use Rattle.std.proofs.Common.{ℕ, zero, suc, ◌≡◌, ◌+◌, ◌*◌, ◌/◌, ◌%◌, ◌<◌, ◌≤◌, List, ◌++◌, length, take, drop, map, get_or, refl, ap, ◌∙◌, arith}
-use Rattle.std.proofs.lemmas.List.{drop-drop, get_or-drop, length-drop}
-use Rattle.std.specs.Simd.{first_chunks}
-use Rattle.hash_words.specs.Words.{le}
-use Rattle.hash_words.specs.Pieces.{pieces}
-use Rattle.hash_fx.specs.Fx.{words32, words64}
+use Rattle.fx_laws.proofs.Common.{ℕ, zero, suc, ◌≡◌, ◌+◌, ◌*◌, ◌/◌, ◌%◌, ◌<◌, ◌≤◌, List, ◌++◌, length, take, drop, map, get_or, refl, ap, ◌∙◌, arith, drop-drop, get_or-drop, length-drop, first_chunks, words32, words64, le, pieces}
 
 -- the chunks of n bytes as words, and what comes behind them
 abbrev chunks_then : ℕ → ℕ → List ℕ → List ℕ → List ℕ

@@ -1,10 +1,5 @@
 -- Lists of pieces whose cuts agree.
-use Rattle.std.proofs.Common.{◌≡◌, ℕ, ◌+◌, ◌<◌, Bor, List, [], ◌∷◌, ◌++◌, length, map, take, get_or, sym, ap, ◌∙◌, arith}
-use Rattle.std.specs.Prelude.{All}
-use Rattle.std.proofs.Math.Path.{ap₂}
-use Rattle.std.proofs.lemmas.List.{map_more, map_push, get_or-map, length-map}
-use Rattle.std.proofs.lemmas.List.Elements.{All-push}
-use Rattle.hash_laws.specs.Text.{IsText, texts}
+use Rattle.fx_laws.proofs.Common.{◌≡◌, ℕ, ◌+◌, ◌<◌, Bor, List, [], ◌∷◌, ◌++◌, length, map, take, get_or, sym, ap, ◌∙◌, arith, All, ap₂, map_more, map_push, get_or-map, length-map, All-push, IsText, texts}
 
 abbrev pub Pieces : Type 0
 Pieces = List (Bor (List ℕ))

@@ -1,9 +1,5 @@
 -- Differences add up, and one of them is one place.
-use Rattle.std.proofs.Common.{◌≡◌, ◌≢◌, ℕ, ◌+◌, ◌<◌, ◌==◌, if◌then◌else◌, List, [], ◌∷◌, ◌++◌, length, map, take, get_or, zero-add, add-zero, arith, refl, sym, ap, ◌∙◌, inl, inr}
-use Rattle.std.proofs.Math.Path.{ap₂}
-use Rattle.std.proofs.lemmas.Bool.{cases_eq, eq-eqb, ne_eqb}
-use Rattle.std.proofs.lemmas.List.{length-map, length-take-le, map_more}
-use Rattle.fx_laws.specs.Differences.{differences}
+use Rattle.fx_laws.proofs.Common.{◌≡◌, ◌≢◌, ℕ, ◌+◌, ◌<◌, ◌==◌, if◌then◌else◌, List, [], ◌∷◌, ◌++◌, length, map, take, get_or, zero-add, add-zero, arith, refl, sym, ap, ◌∙◌, inl, inr, ap₂, cases_eq, eq-eqb, ne_eqb, length-map, length-take-le, map_more, differences}
 use Rattle.fx_laws.proofs.OneApart.{OneApart}
 
 -- one place

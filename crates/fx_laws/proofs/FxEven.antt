@@ -1,38 +1,31 @@
 -- No state of fx favours an answer.
-use Rattle.std.proofs.Common.{◌≡◌, ℕ, ◌*◌, ◌%◌, ◌^◌, ◌<◌, List, [], ◌∷◌, length, take, drop, bit_xor, refl, sym, ap, ◌∙◌, arith}
-use Rattle.std.proofs.lemmas.List.{take_all, drop_all}
-use Rattle.std.proofs.lemmas.Nat.{xor_lt, mod_below, pow_pos}
-use Rattle.std.specs.Hash.{le_bytes}
-use Rattle.hash_words.specs.Pieces.{pieces}
-use Rattle.hash_laws.specs.StepFacts.{StepFacts}
-use Rattle.hash_words.specs.Words.{le, rotl}
-use Rattle.hash_words.proofs.PieceLemmas.{le-lt, le-same}
+use Rattle.fx_laws.proofs.Common.{◌≡◌, ℕ, ◌*◌, ◌%◌, ◌^◌, ◌<◌, List, [], ◌∷◌, length, take, drop, bit_xor, refl, sym, ap, ◌∙◌, arith, drop_all, xor_lt, mod_below, pow_pos, StepFacts, le-lt, le-same, IsText-le_bytes, fx32, fx32_step, fx64, fx64_step, words32, words64, fx32_facts, fx64_facts, of_byte, le_bytes, pieces, le, rotl, recurrence}
+use Rattle.std.proofs.lemmas.List.{take_all}
 use Rattle.hash_words.proofs.WordLemmas.{rotl-lt, le-to_le_bytes-32, le-to_le_bytes-64}
+use Rattle.hash_words.specs.Undoes.{UndoesWords}
+use Rattle.hash_words.proofs.UndoLemmas.{solved}
 use Rattle.hash_laws.specs.Exactly.{ExactlyTexts}
-use Rattle.hash_laws.specs.Recurrence.{recurrence}
 use Rattle.hash_laws.proofs.ExactlyLemmas.{Exactly-one}
-use Rattle.hash_laws.proofs.TextLemmas.{IsText-le_bytes}
-use Rattle.hash_fx.specs.Fx.{fx32, fx32_step, fx64, fx64_step, words32, words64}
-use Rattle.hash_fx.specs.FxStepLaws.{fx32_facts, fx64_facts}
-use Rattle.hash_fx.proofs.FixedWidths.{of_byte}
-use Rattle.hash_fx.proofs.OneWord.{to_there, undone_32, undone_64}
+use Rattle.hash_fx.specs.FxStepLaws.{fx64_of_word, fx32_of_word}
 
--- a word of n bytes is one of w bits
-module _ (w n : ℕ) (step : ℕ → ℕ → ℕ) (facts : StepFacts step (2 ^ w) (2 ^ w)) (wide : 256 ^ n ≡ 2 ^ w)
+-- a word of n bytes is one of w bits, and a step is undone by its words
+module _ (w n : ℕ) (step : ℕ → ℕ → ℕ) (wide : 256 ^ n ≡ 2 ^ w)
     (bytes : (v : ℕ) → v < 2 ^ w → le (le_bytes n v) ≡ v) (long : (v : ℕ) → length (le_bytes n v) ≡ n)
     (words : List ℕ → List ℕ) (whole : (text : List ℕ) → length text ≡ n → words text ≡ le text ∷ []) where
   in-one : (h : ℕ) (text : List ℕ) → length text ≡ n → recurrence step h (words text) ≡ step h (le text)
   in-one h text len = ap (recurrence step h) (whole text len) ∙ of_byte step h (le text)
 
-  one-word : (h word answer : ℕ) → h < 2 ^ w → word < 2 ^ w → step h word ≡ answer
+  one-word : (h answer : ℕ) → answer < 2 ^ w → {g : ℕ → ℕ} → UndoesWords w (step h) g
       → ExactlyTexts 1 n (λ text. recurrence step h (words text) ≡ answer)
-  one-word h word answer h_in word_in led =
+  one-word h answer answer_in {g = g} undone =
+      let word = g answer in
       let text = le_bytes n word in
-      let value = bytes word word_in in
-      Exactly-one _ text (IsText-le_bytes n word, long word, in-one h text (long word) ∙ ap (step h) value ∙ led)
+      let value = bytes word (undone.back_in answer answer_in) in
+      Exactly-one _ text
+      (IsText-le_bytes n word, long word, in-one h text (long word) ∙ ap (step h) value ∙ undone.there answer answer_in)
       (λ other known.
       let below : le other < 2 ^ w = rw (known.1, wide) at (le-lt other known.0) in
-      let same = facts.item_injective h (le other) word h_in below word_in (sym (in-one h other known.1) ∙ known.2 ∙ sym led) in
+      let same = solved undone (le other) answer below (sym (in-one h other known.1) ∙ known.2) in
       le-same other text known.0 (IsText-le_bytes n word) (known.1 ∙ sym (long word)) (same ∙ sym value))
 
 -- a text of one word
@@ -68,16 +61,8 @@ long-32 v = refl
 
 pub even-64 : (h answer : ℕ) → h < 2 ^ 64 → answer < 2 ^ 64 → ExactlyTexts 1 8 (λ word. fx64 h (words64 word) ≡ answer)
 even-64 h answer h_in answer_in =
-    let product = answer * 0x2040003d780970bd % 2 ^ 64 in
-    let turned = rotl 64 h 5 in
-    one-word 64 8 fx64_step fx64_facts refl value-64 long-64 words64 eight-word h (bit_xor product turned) answer h_in
-    (xor_lt 64 product turned (mod_below _ (2 ^ 64) (pow_pos 64)) (rotl-lt 64 h 5 (omega arith) h_in))
-    (to_there 64 0x517cc1b727220a95 turned product answer (undone_64 answer answer_in))
+    one-word 64 8 fx64_step refl value-64 long-64 words64 eight-word h answer answer_in (fx64_of_word h h_in)
 
 pub even-32 : (h answer : ℕ) → h < 2 ^ 32 → answer < 2 ^ 32 → ExactlyTexts 1 4 (λ word. fx32 h (words32 word) ≡ answer)
 even-32 h answer h_in answer_in =
-    let product = answer * 0x780970bd % 2 ^ 32 in
-    let turned = rotl 32 h 5 in
-    one-word 32 4 fx32_step fx32_facts refl value-32 long-32 words32 four-word h (bit_xor product turned) answer h_in
-    (xor_lt 32 product turned (mod_below _ (2 ^ 32) (pow_pos 32)) (rotl-lt 32 h 5 (omega arith) h_in))
-    (to_there 32 0x27220a95 turned product answer (undone_32 answer answer_in))
+    one-word 32 4 fx32_step refl value-32 long-32 words32 four-word h answer answer_in (fx32_of_word h h_in)

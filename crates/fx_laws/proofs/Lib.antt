@@ -1,3 +1,4 @@
+pub mod Common
 pub mod ByPlace
 pub mod CutsLemmas
 pub mod DifferencesLemmas

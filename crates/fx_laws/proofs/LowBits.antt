@@ -1,7 +1,6 @@
 -- The low bits of a state after a word rest on the word's low bits.
-use Rattle.std.proofs.Common.{ℕ, ◌≡◌, ◌-◌, ◌*◌, ◌%◌, ◌^◌, ◌≤◌, bit_xor, ap, sym, ◌∙◌, arith}
+use Rattle.fx_laws.proofs.Common.{ℕ, ◌≡◌, ◌-◌, ◌*◌, ◌%◌, ◌^◌, ◌≤◌, bit_xor, ap, sym, ◌∙◌, arith, xor_mod, mul-mod}
 use Rattle.std.proofs.Math.Pow.{mod-mod-pow}
-use Rattle.std.proofs.lemmas.Nat.{xor_mod, mul-mod}
 
 -- a mask of w bits does not show below k of them
 low_of_low : (w k n : ℕ) → k ≤ w → n % 2 ^ w % 2 ^ k ≡ n % 2 ^ k

@@ -1,7 +1,5 @@
 -- Two lists that differ at exactly one place, by recursion.
-use Rattle.std.proofs.Common.{◌≡◌, ◌≢◌, ◌⊎◌, ℕ, zero, suc, List, [], ◌∷◌, ◌++◌, length, take, drop, slice_index, arith, refl, sym, ap, ◌∙◌, inl, inr}
-use Rattle.std.proofs.Math.Path.{ap₂}
-use Rattle.std.proofs.lemmas.List.{ext_get_or, take_at, drop_at}
+use Rattle.fx_laws.proofs.Common.{◌≡◌, ◌≢◌, ◌⊎◌, ℕ, zero, suc, List, [], ◌∷◌, ◌++◌, length, take, drop, slice_index, arith, refl, sym, ap, ◌∙◌, inl, inr, ap₂, ext_get_or, take_at, drop_at}
 use Rattle.hash_windows.specs.DifferWithin.{DifferAtOnePlace}
 
 abbrev pub OneApart : List ℕ → List ℕ → Type 0

@@ -1,20 +1,7 @@
 -- Lists of pieces that differ at one byte.
-use Rattle.std.proofs.Common.{◌≡◌, ◌≢◌, ℕ, ◌<◌, ◌^◌, List, [], ◌∷◌, ◌++◌, length, fold, refl, sym, ap, ◌∙◌, inl, inr, subst, lit<}
-use Rattle.std.specs.Prelude.{All}
-use Rattle.std.specs.List.{flat_map}
-use Rattle.std.proofs.Math.Path.{ap₂}
+use Rattle.fx_laws.proofs.Common.{◌≡◌, ◌≢◌, ℕ, ◌<◌, ◌^◌, List, [], ◌∷◌, ◌++◌, length, fold, refl, sym, ap, ◌∙◌, inl, inr, subst, lit<, All, flat_map, ap₂, All-nil, All-head, All-tail, All-append, fx32_step, fx64_step, StepFacts, fx32_facts, fx64_facts, IsText, joined, texts, recurrence-fold, words32, words64, IsWord, words32-fit, words64-fit, recurrence, DifferByOneWord, DifferByOneByte, fx32_pieces, fx64_pieces}
 use Rattle.std.proofs.lemmas.List.Sums.{fold-append}
-use Rattle.std.proofs.lemmas.List.Elements.{All-nil, All-head, All-tail, All-append}
-use Rattle.hash_fx.specs.Fx.{fx32_step, fx64_step}
-use Rattle.hash_laws.specs.StepFacts.{StepFacts}
-use Rattle.hash_fx.specs.FxStepLaws.{fx32_facts, fx64_facts}
-use Rattle.hash_laws.specs.Text.{IsText, joined, texts}
-use Rattle.hash_laws.specs.Recurrence.{recurrence}
 use Rattle.hash_laws.proofs.FoldLemmas.{fold_cancels}
-use Rattle.hash_laws.proofs.RecurrenceLemmas.{recurrence-fold}
-use Rattle.hash_fx.specs.Fx.{words32, words64}
-use Rattle.hash_fx.specs.FxLaws.{IsWord, words32-fit, words64-fit}
-use Rattle.fx_laws.specs.Pieces.{DifferByOneWord, DifferByOneByte, fx32_pieces, fx64_pieces}
 use Rattle.fx_laws.proofs.CutsLemmas.{Pieces, SameCuts}
 use Rattle.fx_laws.proofs.OneApart.{OneApart, OneApart-split, OneApart-append_left, OneApart-append_right, append_same, one_from_DifferAtOnePlace}
 use Rattle.fx_laws.proofs.WordsApart.{TellApart, words32-apart, words64-apart}

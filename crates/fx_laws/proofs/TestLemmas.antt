@@ -1,14 +1,8 @@
 -- Whether two lists of pieces differ at exactly one byte, from the pieces that are left.
-use Rattle.std.proofs.Common.{◌≡◌, ◌≢◌, ◌↔◌, ℕ, ◌+◌, ◌<◌, ◌≤◌, Bool, true, false, not, nat_eq, IsTrue, Bor, List, [], ◌∷◌, ◌++◌, length, drop, get_or, arith, refl, sym, ◌∙◌, inl, inr, subst}
-use Rattle.std.specs.Prelude.{MatchBool}
+use Rattle.fx_laws.proofs.Common.{◌≡◌, ◌≢◌, ◌↔◌, ℕ, ◌+◌, ◌<◌, ◌≤◌, Bool, true, false, not, nat_eq, IsTrue, Bor, List, [], ◌∷◌, ◌++◌, length, drop, get_or, arith, refl, sym, ◌∙◌, inl, inr, subst, MatchBool, ap₂, not-false, drop_more, drop_all, joined, DifferByOneByte}
 use Rattle.std.specs.Cmp.Lexicographic.{pointwise}
-use Rattle.std.proofs.Math.Path.{ap₂}
-use Rattle.std.proofs.lemmas.Bool.{not-false}
 use Rattle.std.proofs.lemmas.Bool.Decides.{Decides-eqb}
-use Rattle.std.proofs.lemmas.List.{drop_more, drop_all}
 use Rattle.std.proofs.lemmas.Slice.Eq.{slice_eq-Decides}
-use Rattle.hash_laws.specs.Text.{joined}
-use Rattle.fx_laws.specs.Pieces.{DifferByOneByte}
 use Rattle.fx_laws.proofs.CutsLemmas.{Pieces, SameCuts, SameCuts-at, SameCuts-length}
 use Rattle.fx_laws.proofs.OneApart.{OneApart, OneApart-split, OneApart-itself, OneApart-append_left, OneApart-append_right, append_same, one_from_DifferAtOnePlace, DifferAtOnePlace-from_one}
 

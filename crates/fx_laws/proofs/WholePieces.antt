@@ -1,14 +1,7 @@
 -- The words of pieces of whole words, and of one piece more.
-use Rattle.std.proofs.Common.{◌≡◌, ℕ, ◌+◌, ◌-◌, ◌%◌, ◌<◌, Bor, List, [], ◌++◌, length, take, get_or, arith, sym, ap, ◌∙◌}
-use Rattle.std.proofs.lemmas.List.{length-append, get_or-take, get_or-map, length-take-le, length-map}
-use Rattle.hash_fx.specs.Fx.{fx32_step, fx64_step}
-use Rattle.hash_laws.specs.Recurrence.{recurrence}
-use Rattle.hash_laws.specs.Text.{joined, texts}
-use Rattle.hash_laws.proofs.RecurrenceLemmas.{recurrence-append}
-use Rattle.hash_laws.proofs.TextLemmas.{joined_more}
-use Rattle.hash_fx.specs.Fx.{fx32, fx64, words32, words64}
+use Rattle.fx_laws.proofs.Common.{◌≡◌, ℕ, ◌+◌, ◌-◌, ◌%◌, ◌<◌, Bor, List, [], ◌++◌, length, take, get_or, arith, sym, ap, ◌∙◌, get_or-take, get_or-map, length-take-le, length-map, fx32_step, fx64_step, joined, texts, recurrence-append, joined_more, fx32, fx64, words32, words64, recurrence, AreWhole}
+use Rattle.std.proofs.lemmas.List.{length-append}
 use Rattle.hash_fx.proofs.WholeWords.{words32-append, words64-append}
-use Rattle.fx_laws.specs.Pieces.{AreWhole}
 use Rattle.fx_laws.proofs.CutsLemmas.{Pieces, no_piece}
 
 -- a piece before the last

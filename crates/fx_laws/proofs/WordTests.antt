@@ -1,10 +1,6 @@
 -- Whether two lists of pieces differ at exactly one word, by counting.
-use Rattle.std.proofs.Common.{◌≡◌, ◌↔◌, ℕ, zero, suc, ◌+◌, ◌<◌, ◌≤◌, Bor, List, [], ◌∷◌, length, take, drop, get_or, flat_map, arith, refl, sym, ap, ◌∙◌}
-use Rattle.std.proofs.Math.Path.{ap₂}
-use Rattle.std.proofs.lemmas.List.{length-append, take_all}
-use Rattle.hash_laws.specs.Text.{texts}
-use Rattle.fx_laws.specs.Differences.{differences}
-use Rattle.fx_laws.specs.Pieces.{DifferByOneWord}
+use Rattle.fx_laws.proofs.Common.{◌≡◌, ◌↔◌, ℕ, zero, suc, ◌+◌, ◌<◌, ◌≤◌, Bor, List, [], ◌∷◌, length, take, drop, get_or, flat_map, arith, refl, sym, ap, ◌∙◌, ap₂, texts, differences, DifferByOneWord}
+use Rattle.std.proofs.Common.{length-append, take_all}
 use Rattle.fx_laws.proofs.CutsLemmas.{Pieces, SameCuts, SameCuts-length}
 use Rattle.fx_laws.proofs.DifferencesLemmas.{differences-append, one-OneApart, OneApart-one}
 use Rattle.fx_laws.proofs.OneApart.{one_from_DifferAtOnePlace, DifferAtOnePlace-from_one}

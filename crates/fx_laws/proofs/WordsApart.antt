@@ -1,14 +1,5 @@
 -- Pieces that are one byte apart have words that are one word apart.
-use Rattle.std.proofs.Common.{◌≡◌, ℕ, zero, suc, ◌+◌, ◌*◌, ◌/◌, List, ◌∷◌, ◌++◌, length, take, drop, map, arith, refl, sym, ap, ◌∙◌, inl, inr, subst, min}
-use Rattle.std.proofs.lemmas.List.{drop-drop, length-take, length-drop, take-append-drop}
-use Rattle.std.proofs.lemmas.List.Elements.{All-take, All-drop}
-use Rattle.std.specs.Simd.{first_chunks}
-use Rattle.hash_words.specs.Words.{le}
-use Rattle.hash_words.specs.Pieces.{pieces}
-use Rattle.hash_words.proofs.PieceLemmas.{le-same}
-use Rattle.hash_laws.specs.Text.{IsText}
-use Rattle.hash_laws.proofs.TextLemmas.{IsByte}
-use Rattle.hash_fx.specs.Fx.{words32, words64}
+use Rattle.fx_laws.proofs.Common.{◌≡◌, ℕ, zero, suc, ◌+◌, ◌*◌, ◌/◌, List, ◌∷◌, ◌++◌, length, take, drop, map, arith, refl, sym, ap, ◌∙◌, inl, inr, subst, min, drop-drop, length-take, length-drop, take-append-drop, All-take, All-drop, first_chunks, le-same, IsText, IsByte, words32, words64, le, pieces}
 use Rattle.fx_laws.proofs.OneApart.{OneApart, OneApart-split, OneApart-itself}
 
 itself : {x y : List ℕ} → x ≡ y → OneApart x y → ⊥

@@ -44,7 +44,7 @@ impl WordBytes for u8 {
     }
 }
 
-/// Of words that lie one behind the other.
+/// Of words that lie one after the other.
 pub fn differing_words<B: WordBytes>(x: &[B], y: &[B]) -> usize
     requires { length x.now ≡ length y.now }
     ensures value { result ≡ differences (map B.word x.now) (map B.word y.now) }

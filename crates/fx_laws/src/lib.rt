@@ -1,4 +1,4 @@
-//! Laws of fx: where the cuts of a list of pieces don't show, tests of two lists, and that each hash has one word.
+//! Laws of fx: where the split of a list of pieces does not matter, tests of two lists, and that each hash has one word.
 #![tactic(auto)]
 
 mod differing;

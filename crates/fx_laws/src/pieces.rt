@@ -1,4 +1,4 @@
-//! Laws of the fx hashes: where the cuts of a list of pieces don't show, and where one byte does.
+//! Laws of the fx hashes: where the split of a list of pieces does not matter, and where one byte does.
 ghost use Rattle.std.specs.Prelude.{◌≡◌, ◌≢◌, ◌↔◌, ◌<◌, ◌≤◌, ◌^◌, ◌+◌, ◌*◌, ◌/◌, ◌%◌, ℕ, List, [], ◌∷◌, All, IsTrue, length, map, take, drop, slice_index};
 ghost use Rattle.std.specs.List.{flat_map};
 ghost use denote.Bor.{Bor};
@@ -16,7 +16,7 @@ use hash_windows::window::differ_at_one_place;
 use std::hash::Hasher;
 
 /// Writes the pieces in order. The state is that after one write of the joined bytes, since the length of each piece but
-/// the last is a multiple of eight, so that no cut falls into a word. There may be no pieces at all. It takes either type
+/// the last is a multiple of eight, so that no word is split. There may be no pieces at all. It takes either type
 /// of 64 bits.
 pub fn run_words<Name>(h: &mut WordHasher<u64, Name>, pieces: &[&[u8]])
     requires { AreWhole 8 pieces.now }
@@ -114,7 +114,7 @@ fn apart_by_one_word<W: FxDiffering>(x: &[&[u8]], y: &[&[u8]]) -> bool
 }
 
 /// Whether the two lists have as many pieces, of the same lengths one by one, and exactly one word of 64 bits of all differs: up
-/// to eight neighbouring bytes, from a place in their piece that eight divides. Where so, both types of 64 bits answer
+/// to eight adjacent bytes, from a place in their piece that eight divides. If so, both types of 64 bits answer
 /// differently to the two lists, from their defaults. Computes no hash.
 pub fn apart_by_one_word_fx64(x: &[&[u8]], y: &[&[u8]]) -> bool
     ensures exactly { IsTrue result ↔ DifferByOneWord words64 x.now y.now }
@@ -123,7 +123,7 @@ pub fn apart_by_one_word_fx64(x: &[&[u8]], y: &[&[u8]]) -> bool
     apart_by_one_word::<u64>(x, y)
 }
 
-/// The same by words of 32 bits, up to four neighbouring bytes: `FxHasher32` answers differently.
+/// The same by words of 32 bits, up to four adjacent bytes: `FxHasher32` answers differently.
 pub fn apart_by_one_word_fx32(x: &[&[u8]], y: &[&[u8]]) -> bool
     ensures exactly { IsTrue result ↔ DifferByOneWord words32 x.now y.now }
     ensures differ { OnTrue result (fx32_pieces 0 (texts x.now) ≢ fx32_pieces 0 (texts y.now)) }
@@ -157,7 +157,7 @@ pub fn fixed_widths_are_words32()
         → fx32 h (words32 (le_bytes 8 v)) ≡ fx32_step (fx32_step h (v % 2 ^ 32)) (v / 2 ^ 32) }
 {}
 
-/// A law with no code: under fx cuts show. `abcd` as one piece and as two has different hashes.
+/// A law with no code: fx depends on the split. `abcd` as one piece and as two has different hashes.
 pub fn cuts_show_in_fx()
     ensures at_64 { fx64_pieces 0 ((97 ∷ 98 ∷ 99 ∷ 100 ∷ []) ∷ [])
         ≢ fx64_pieces 0 ((97 ∷ 98 ∷ []) ∷ (99 ∷ 100 ∷ []) ∷ []) }

@@ -1,12 +1,8 @@
 -- Bytes behind those that are kept: fewer than complete the block, and at least as many.
-use Rattle.std.proofs.Common.{◌≡◌, ℕ, ◌+◌, ◌-◌, ◌*◌, ◌<◌, ◌≤◌, List, [], ◌∷◌, ◌++◌, length, take, drop, refl, sym, ap, ◌∙◌, arith, length-append}
-use Rattle.std.proofs.Math.Path.{ap₂}
-use Rattle.std.proofs.lemmas.List.{append_assoc, append-nil, take-append-drop, take_all, drop_all, length-take-le}
+use Rattle.hash_blocks.proofs.Common.{◌≡◌, ℕ, ◌+◌, ◌-◌, ◌*◌, ◌<◌, ◌≤◌, List, [], ◌∷◌, ◌++◌, length, take, drop, refl, sym, ap, ◌∙◌, arith, length-append, ap₂, append_assoc, append-nil, take_all, drop_all, take-put_at, take-put_first, blocks-append, blocks_one, blocks_short, tail-append, tail_short}
+use Rattle.std.proofs.lemmas.List.{take-append-drop, length-take-le}
 use Rattle.hash_words.specs.Put.{put_at}
-use Rattle.hash_words.proofs.PutLemmas.{take-put_at}
-use Rattle.hash_words.proofs.PutLemmas.{take-put_first}
 use Rattle.hash_blocks.specs.Blocks.{blocks, tail}
-use Rattle.hash_blocks.specs.BlocksLaws.{blocks-append, blocks_one, blocks_short, tail-append, tail_short}
 
 module _ {S : Type 0} (n : ℕ) (some : 0 < n) (block : S → List ℕ → S) (s : S) (b p : List ℕ) (kept : ℕ) (whole : length b ≡ n)
     (part : kept < n) where
@@ -85,6 +81,6 @@ module _ {S : Type 0} (n : ℕ) (some : 0 < n) (block : S → List ℕ → S) (s
         ∙ sym (tail-append n some (take kept b ++ head) (drop (n - kept) p) 1 once) ∙ ap (tail n) rejoined
 
 -- of nothing the first bytes of any buffer are it
-pub none-first : (left buffer : List ℕ) → length left ≡ 0 → take (length left) buffer ≡ left
-none-first [] buffer none = refl
-none-first (x ∷ left) buffer none = absurd (omega (arith, none))
+pub none_first : (left buffer : List ℕ) → length left ≡ 0 → take (length left) buffer ≡ left
+none_first [] buffer none = refl
+none_first (x ∷ left) buffer none = absurd (omega (arith, none))

@@ -1,4 +1,4 @@
-//! The hasher of a rule by the block.
+//! The hasher of a block-based rule.
 ghost use Rattle.std.specs.Prelude.{◌≡◌, ℕ, List, [], ◌++◌, refl};
 ghost use Rattle.hash_laws.specs.Text.{joined};
 ghost use Rattle.std.proofs.Common.{ap, sym};
@@ -12,8 +12,8 @@ use hash_laws::traits::{Piecewise, Streamed, run_streamed};
 use std::hash::Hasher;
 use std::marker::Model;
 
-/// The hasher of a rule by the block. Contracts see it as its position: what is kept of the whole blocks, the bytes that are
-/// left behind them, fewer than a block, and the length modulo 2^64.
+/// The hasher of a block-based rule. Contracts see it as its position: what is kept of the whole blocks, the bytes that are
+/// left after them, fewer than a block, and the length modulo 2^64.
 pub struct BlockHasher<R: BlockRule<N>, const N: usize> {
     state: R::State,
     buffer: [u8; N],
@@ -67,7 +67,7 @@ impl<R: BlockRule<N>, const N: usize> BlockHasher<R, N> {
         R::finish(&self.state, &self.buffer[..self.kept], self.total)
     }
 
-    /// The hash after more pieces, in order: that of the text so far and the joined pieces, however the text was cut.
+    /// The hash after more pieces, in order: that of the text so far and the joined pieces, however the text was split.
     pub fn hash_with(mut self, pieces: &[&[u8]]) -> R::Hash
         ensures { (from text : List ℕ) → BlockStandsAt N R.start R.block self from text
             → result ≡ R.hash from (text ++ joined pieces.now) }
@@ -78,6 +78,7 @@ impl<R: BlockRule<N>, const N: usize> BlockHasher<R, N> {
 
     /// The hash of a whole text under a seed, with no hasher.
     #[inline(always)]
+    #[tactic(auto, using(crate::specs::BlocksLaws::blocks_short, crate::specs::BlocksLaws::tail_short))]
     pub fn hash_of(seed: R::Seed, text: &[u8]) -> R::Hash
         ensures { result ≡ R.hash (R.numbers seed) text.now }
     {

@@ -1,4 +1,4 @@
-//! A hash that takes a text by the block is a rule, and one hasher, [`BlockHasher`], serves all rules.
+//! A hash that takes its input in blocks is a rule, and one hasher, [`BlockHasher`], serves all rules.
 #![tactic(auto)]
 
 mod block_hasher;

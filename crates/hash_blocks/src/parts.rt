@@ -6,7 +6,7 @@ use crate::block_rule::BlockRule;
 use crate::words::{put_behind, put_front};
 use hash_words::put;
 
-/// Takes the whole blocks of the bytes in, where they stand, and returns what is left behind them.
+/// Takes the whole blocks of the bytes in, where they stand, and returns what is left after them.
 #[inline(always)]
 #[tactic(auto, unfolding(crate::specs::Blocks::blocks, crate::specs::Blocks::tail, hash_words::specs::Pieces::pieces))]
 pub fn blocks_in<'a, R: BlockRule<N>, const N: usize>(
@@ -24,6 +24,23 @@ pub fn blocks_in<'a, R: BlockRule<N>, const N: usize>(
     }
     *state = mixed;
     left
+}
+
+// Puts what is left to the front of the buffer, and returns how many bytes that is.
+#[inline(always)]
+#[tactic(auto, using(crate::proofs::PartLemmas::none_first))]
+fn keep<const N: usize>(buffer: &mut [u8; N], left: &[u8]) -> usize
+    requires eight { N ≡ 8 }
+    requires part { length left.now < N }
+    ensures kept { take (length left.now) buffer.new ≡ left.now }
+    ensures count { result ≡ length left.now }
+    ensures whole { length buffer.new ≡ N }
+{
+    let count = left.len();
+    if count > 0 {
+        put_front(buffer, left);
+    }
+    count
 }
 
 // What `bytes_in` does where a block is a word of eight bytes: those that are kept are written and read as one.
@@ -53,16 +70,11 @@ fn words_in<R: BlockRule<N>, const N: usize>(
         R::block(state, buffer);
         rest = later;
     }
-    let left = blocks_in::<R, N>(state, rest);
-    let count = left.len();
-    if count > 0 {
-        put_front(buffer, left);
-    }
-    count
+    keep(buffer, blocks_in::<R, N>(state, rest))
 }
 
-/// Takes more bytes in behind the first `kept` of the buffer, and returns how many are kept afterwards. Where they complete a
-/// block that was begun, its bytes are copied to the buffer; all blocks behind are read where they stand.
+/// Takes more bytes in after the first `kept` of the buffer, and returns how many are kept afterwards. Where they complete a
+/// block that was begun, its bytes are copied to the buffer; all blocks after it are read where they stand.
 #[inline(always)]
 pub fn bytes_in<R: BlockRule<N>, const N: usize>(
     state: &mut R::State,

@@ -1,4 +1,4 @@
-//! Hashes by the block of two words.
+//! Block-based hashes of two words.
 ghost use Rattle.std.specs.Prelude.{◌≡◌, ℕ, List};
 ghost use Rattle.hash_blocks.specs.Standing.{BlockStandsAt};
 

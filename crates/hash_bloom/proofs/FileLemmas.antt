@@ -1,21 +1,9 @@
 -- A filter's file, piece by piece.
-use Rattle.std.proofs.Common.{◌≡◌, ℕ, suc, ◌+◌, ◌*◌, ◌<◌, ◌^◌, ◌≤◌, List, [], ◌∷◌, ◌++◌, length, take, drop, get_or, Option, Some, None, refl, sym, ap, ◌∙◌, subst, append_assoc, arith, codes, take-append-drop}
-use Rattle.std.specs.Io.KnownBytes.{Appends, Consumes}
+use Rattle.hash_bloom.proofs.Common.{◌≡◌, ℕ, suc, ◌+◌, ◌*◌, ◌<◌, ◌^◌, ◌≤◌, List, [], ◌∷◌, ◌++◌, length, take, drop, get_or, Option, Some, None, refl, sym, ap, ◌∙◌, subst, append_assoc, arith, codes, take-append-drop, Appends, Consumes, flat_map-append, append_cancel_left, append_cancel_right, flat_map_more, length-append, take_all, take_more, from_le_bytes-to_le_bytes_8, from_le_bytes, to_le_bytes, fnv1a64_basis, fnv1a64_from, fnv1a64_step, AppendsPart, part_behind, part_longer, hex, hex_value, hex_value-hex, length-hex, IsStored, bytes_of, field, file_of, header, seal, sealed, title, Filter, filter_of}
 use Rattle.std.proofs.KnownBytes.{Appends-trans, Consumes-trans}
 use Rattle.std.proofs.Math.Seq.{take-append_seam}
-use Rattle.std.proofs.lemmas.Grind.{flat_map-append}
-use Rattle.std.proofs.lemmas.List.{append_cancel_left, append_cancel_right, flat_map_more, length-append, take_all, take_more}
-use Rattle.std.proofs.lemmas.Nat.{from_le_bytes-to_le_bytes_8}
 use mir.Syntax.{w64}
-use Rattle.std.specs.Int.{from_le_bytes, to_le_bytes}
 use Rattle.hashers.proofs.RecurrenceLemmas.{recurrence-append}
-use Rattle.hashers.specs.Fnv.{fnv1a64_basis, fnv1a64_from, fnv1a64_step}
-use Rattle.streams.specs.Streams.{AppendsPart}
-use Rattle.streams.proofs.StreamLemmas.{part_behind, part_longer}
-use Rattle.hash_lines.specs.Hex.{hex, hex_value}
-use Rattle.hash_lines.proofs.HexLemmas.{hex_value-hex, length-hex}
-use Rattle.hash_bloom.specs.File.{IsStored, bytes_of, field, file_of, header, seal, sealed, title}
-use Rattle.hash_bloom.specs.Filter.{Filter, filter_of}
 
 -- one word more behind the header
 pub bytes_more : (header words : List ℕ) (i : ℕ) → i < length words
@@ -35,10 +23,7 @@ hash_more s header words i below =
 -- bytes that were read, as many as stand in front
 pub front_is : (old new : Option (List ℕ)) (read front rest : List ℕ) → Consumes old new read → length read ≡ length front
     → old ≡ Some (front ++ rest) → (read ≡ front) × (new ≡ Some rest)
-front_is None new read front rest took long known = absurd (none known)
-  where
-    none : None ≡ Some (front ++ rest) → ⊥
-    none clash = cc
+front_is None new read front rest took long known = cc
 front_is (Some xs) None read front rest took long known = absurd took
 front_is (Some xs) (Some ys) read front rest took long known =
     let same : read ++ ys ≡ front ++ rest = let whole : xs ≡ front ++ rest = cc in sym took ∙ whole in
@@ -82,11 +67,7 @@ same_field old new digits number other rest small low took known =
 pub header_parts : (bits probes : ℕ) (pair rest : List ℕ)
     → header bits probes pair ++ rest ≡ title ++ (field 16 bits ++ (field 8 probes ++ (pair ++ (codes "\n" ++ rest))))
 unfolding header
-header_parts bits probes pair rest =
-    append_assoc title (field 16 bits ++ (field 8 probes ++ (pair ++ codes "\n"))) rest
-    ∙ ap (λ t. title ++ t) (append_assoc (field 16 bits) (field 8 probes ++ (pair ++ codes "\n")) rest
-    ∙ ap (λ t. field 16 bits ++ t) (append_assoc (field 8 probes) (pair ++ codes "\n") rest
-    ∙ ap (λ t. field 8 probes ++ t) (append_assoc pair (codes "\n") rest)))
+header_parts bits probes pair rest = simp append_assoc
 
 -- what is left of a first line behind its title
 pub behind_title : (old new : Option (List ℕ)) (bits probes : ℕ) (pair rest : List ℕ) → Consumes old new title
@@ -155,8 +136,7 @@ word_begun a b c line words i below before now =
     sym (flat_map-append (to_le_bytes w64) (take (i + 1) words) (drop (i + 1) words)) ∙ ap bytes_of (take-append-drop (i + 1) words) in
     let hash = seal (line ++ bytes_of words) in
     part_longer a c (line ++ bytes_of (take (i + 1) words)) (rest ++ hash) (sealed (line ++ bytes_of words))
-    (sym (append_assoc (line ++ bytes_of (take (i + 1) words)) rest hash)
-    ∙ ap (λ t. t ++ hash) (append_assoc line (bytes_of (take (i + 1) words)) rest ∙ ap (λ t. line ++ t) all))
+    (grind (arith, append_assoc, all))
     (subst (AppendsPart a c) (bytes_more line words i below)
     (part_behind a b c (line ++ bytes_of (take i words)) (to_le_bytes w64 (get_or words i 0)) before now))
 
@@ -180,10 +160,7 @@ file_read a b c d line words one two three =
 pub same_header : (old new : Option (List ℕ)) (b p bits probes : ℕ) (pair rest : List ℕ) → b < 2 ^ 64 → p < 2 ^ 32
     → bits < 2 ^ 64 → probes < 2 ^ 32 → Consumes old new (header b p pair)
     → old ≡ Some (header bits probes pair ++ rest) → (b ≡ bits) × (p ≡ probes) × (new ≡ Some rest)
-same_header None new b p bits probes pair rest few low few' low' took known = absurd (none known)
-  where
-    none : None ≡ Some (header bits probes pair ++ rest) → ⊥
-    none clash = cc
+same_header None new b p bits probes pair rest few low few' low' took known = cc
 same_header (Some xs) None b p bits probes pair rest few low few' low' took known = absurd took
 same_header (Some xs) (Some ys) b p bits probes pair rest few low few' low' took known =
     let whole : xs ≡ header bits probes pair ++ rest = cc in
@@ -219,10 +196,7 @@ seal_of pair filter = seal (header filter.bits filter.probes pair ++ bytes_of fi
 pub file_parts : (pair : List ℕ) (filter : Filter) (rest : List ℕ)
     → file_of pair filter ++ rest ≡ header filter.bits filter.probes pair ++ (bytes_of filter.words ++ (seal_of pair filter ++ rest))
 unfolding sealed
-file_parts pair filter rest =
-    let head = header filter.bits filter.probes pair in
-    append_assoc (head ++ bytes_of filter.words) (seal_of pair filter) rest
-    ∙ append_assoc head (bytes_of filter.words) (seal_of pair filter ++ rest)
+file_parts pair filter rest = simp append_assoc
 
 -- what was read of a filter's file in front of its hash
 pub record Left (left : Option (List ℕ)) (b p : ℕ) (pair words : List ℕ) (filter : Filter) (rest : List ℕ) : Type 0 where
@@ -261,5 +235,4 @@ same_file pair filter other rest more stored held same =
     filter.bits filter.probes pair filter.words other more held stored.bits stored.probes stored.is_filter.room.enough
     stored.is_filter.no_more (file_parts pair filter rest) refl (ap Some same) in
     let words : filter.words ≡ other.words = bytes_tell_words filter.words other.words stored.words held.words found.bytes in
-    ap (λ n. filter_of n filter.probes filter.words) found.bits ∙ ap (λ n. filter_of other.bits n filter.words) found.probes
-    ∙ ap (filter_of other.bits other.probes) words
+    λ i. filter_of (found.bits i) (found.probes i) (words i)

@@ -1,22 +1,5 @@
 -- What passes once bits are added.
-use Rattle.std.proofs.Common.{ℕ, ◌≡◌, ◌↔◌, ◌<◌, ◌≤◌, List, length, refl, sym, ap, ◌∙◌, subst, ⊎_elim, inl, inr, arith}
-use Rattle.hash_bloom.specs.Filter.{Filter, IsFilter, IsSet, HasBit, IsProbe, IsCovered, Passes, AllPassIn, Fits, Adds, place}
-
--- two joined filters are a filter
-pub joined_is_filter : (old other new : Filter) → IsFilter old → IsFilter other → Fits old other → Adds old new (IsSet other)
-    → length new.words ≡ length old.words → IsFilter new
-joined_is_filter old other new is is_other fits adds same = record {
-  room = record {
-    bits = omega (arith, adds.shape.0, is.room.bits);
-    probes = omega (arith, adds.shape.1, is.room.probes);
-    enough = omega (arith, adds.shape.0, same, is.room.enough);
-  };
-  no_more = omega (arith, adds.shape.0, same, is.no_more);
-  within = λ i set. ⊎_elim
-      (λ (was : IsSet old i). let below : i < old.bits = is.within i was in omega (arith, adds.shape.0, below))
-      (λ (more : IsSet other i). let below : i < other.bits = is_other.within i more in omega (arith, adds.shape.0, fits.0, below))
-      ((adds.set i).0 set);
-}
+use Rattle.hash_bloom.proofs.Common.{ℕ, ◌≡◌, ◌↔◌, ◌<◌, ◌≤◌, List, length, refl, subst, ⊎_elim, inl, inr, arith, Filter, IsFilter, IsSet, HasBit, IsProbe, IsCovered, Passes, AllPassIn, Fits, Adds, place}
 
 -- a filter with bits of its own added is a filter
 pub added_is_filter : (old new : Filter) (more : ℕ → Type 0) → IsFilter old → Adds old new more → ((i : ℕ) → more i → i < old.bits)
@@ -34,6 +17,14 @@ added_is_filter old new more is adds below same = record {
       ((adds.set i).0 set);
 }
 
+-- two joined filters are a filter
+pub joined_is_filter : (old other new : Filter) → IsFilter old → IsFilter other → Fits old other
+    → Adds old new (IsSet other)
+    → length new.words ≡ length old.words → IsFilter new
+joined_is_filter old other new is is_other fits adds same =
+    added_is_filter old new (IsSet other) is adds
+    (λ i set. let below : i < other.bits = is_other.within i set in omega (arith, fits.0, below)) same
+
 module _ (f g : List ℕ → ℕ) where
   -- the probes of a key are bits of the filter
   pub probe_below : (filter : Filter) (key : List ℕ) → IsFilter filter → (j : ℕ) → IsProbe f g filter key j → j < filter.bits
@@ -47,20 +38,21 @@ module _ (f g : List ℕ → ℕ) where
       → Passes f g new key ↔ IsCovered f g old key more
   found_exactly old new more key adds = (
     λ found j probe.
-        let less : probe.0 < new.probes = subst (λ (n : ℕ). probe.0 < n) (sym adds.shape.1) probe.1 in
-        let at : place new.bits (f key) (g key) probe.0 ≡ j = ap (λ bits. place bits (f key) (g key) probe.0) adds.shape.0 ∙ probe.2 in
-        (adds.set j).0 (subst (HasBit new.words) at (found probe.0 less)),
+        let here : HasBit new.words (place new.bits (f key) (g key) probe.0) = found probe.0
+        (grind (arith, probe.1, adds.shape.1)) in
+        (adds.set j).0 (grind (arith, here, probe.2, adds.shape.0)),
     λ covered i less.
-        let less' : i < old.probes = subst (λ (n : ℕ). i < n) adds.shape.1 less in
-        subst (λ (bits : ℕ). HasBit new.words (place bits (f key) (g key) i)) (sym adds.shape.0)
-        ((adds.set (place old.bits (f key) (g key) i)).1 (covered _ (i, less', refl))),
+        let here : HasBit new.words (place old.bits (f key) (g key) i) =
+        (adds.set (place old.bits (f key) (g key) i)).1 (covered _ (i, grind (arith, less, adds.shape.1), refl)) in
+        grind (arith, here, adds.shape.0),
   )
 
   -- what another filter of as many bits and probes finds is covered by its bits
   pub covered_by : (old other : Filter) (key : List ℕ) → Fits old other → Passes f g other key → IsCovered f g old key (IsSet other)
   covered_by old other key fits found j probe =
-      let less : probe.0 < other.probes = subst (λ (n : ℕ). probe.0 < n) (sym fits.1) probe.1 in
-      inr (subst (HasBit other.words) (ap (λ bits. place bits (f key) (g key) probe.0) fits.0 ∙ probe.2) (found probe.0 less))
+      let here : HasBit other.words (place other.bits (f key) (g key) probe.0) = found probe.0
+      (grind (arith, probe.1, fits.1)) in
+      inr (grind (arith, here, probe.2, fits.0))
 
   -- all that passed still do
   pub passes_still : (old new : Filter) (more : ℕ → Type 0) → Adds old new more → AllPassIn f g old new

@@ -1,3 +1,4 @@
+pub mod Common
 pub mod FileLemmas
 pub mod Found
 pub mod Reduction

@@ -1,13 +1,6 @@
 -- How many bits are set, by words.
-use Rattle.std.proofs.Common.{ℕ, zero, suc, ◌≡◌, ◌≢◌, ◌↔◌, ◌+◌, ◌-◌, ◌*◌, ◌/◌, ◌%◌, ◌^◌, ◌<◌, ◌≤◌, List, [], ◌∷◌, length, get_or, refl, sym, ap, ap₂, ◌∙◌, arith, ⊎_elim}
-use Rattle.std.specs.Int.{bit_at}
+use Rattle.hash_bloom.proofs.Common.{ℕ, zero, suc, ◌≡◌, ◌≢◌, ◌↔◌, ◌+◌, ◌-◌, ◌*◌, ◌/◌, ◌%◌, ◌^◌, ◌<◌, ◌≤◌, List, [], ◌∷◌, length, get_or, refl, sym, ap, ap₂, ◌∙◌, arith, ⊎_elim, bit_at, sum_by, range_with_len, cases_eq, sum_by-cons, sum_by-le-sum_by, ones_cat, bit_at-lt, bit_at-suc, bit_at_lowest, Filter, IsEmpty, IsFilter, IsSet, bit, count_set}
 use Rattle.std.specs.Int.RustNames.{count_ones}
-use Rattle.std.specs.List.{sum_by, range_with_len}
-use Rattle.std.proofs.lemmas.Bool.{cases_eq}
-use Rattle.std.proofs.lemmas.List.Sums.{sum_by-cons}
-use Rattle.std.proofs.lemmas.Nat.{ones_cat}
-use Rattle.std.proofs.lemmas.Nat.Bits.{bit_at-lt, bit_at-suc, bit_at_lowest}
-use Rattle.hash_bloom.specs.Filter.{Filter, IsEmpty, IsFilter, IsSet, bit, count_set}
 
 -- the sum of n numbers from a on
 abbrev sum_from : (ℕ → ℕ) → ℕ → ℕ → ℕ
@@ -25,31 +18,32 @@ same_sum f g a (suc n) same =
 shifted_sum : (f : ℕ → ℕ) (by a n : ℕ) → sum_from f (by + a) n ≡ sum_from (λ i. f (by + i)) a n
 shifted_sum f by a zero = refl
 shifted_sum f by a (suc n) =
-    let e : by + a + 1 ≡ by + (a + 1) = omega arith in
-    next f (by + a) n ∙ ap (λ s. f (by + a) + s) (ap (λ b. sum_from f b n) e ∙ shifted_sum f by (a + 1) n)
-    ∙ sym (next (λ i. f (by + i)) a n)
+    grind (arith, next f (by + a) n, next (λ i. f (by + i)) a n, shifted_sum f by (a + 1) n)
 
 split_sum : (f : ℕ → ℕ) (a m n : ℕ) → sum_from f a (m + n) ≡ sum_from f a m + sum_from f (a + m) n
-split_sum f a zero n =
-    let e : zero + n ≡ n = omega arith in
-    let e' : a + zero ≡ a = omega arith in
-    let z : sum_from f a n ≡ 0 + sum_from f a n = omega arith in
-    ap (sum_from f a) e ∙ z ∙ ap (λ b. 0 + sum_from f b n) (sym e')
+split_sum f a zero n = grind arith
 split_sum f a (suc m) n =
     let e : suc m + n ≡ suc (m + n) = omega arith in
-    let e' : a + 1 + m ≡ a + suc m = omega arith in
-    let ih = split_sum f (a + 1) m n in
-    let moved : sum_from f (a + 1 + m) n ≡ sum_from f (a + suc m) n = ap (λ b. sum_from f b n) e' in
-    let whole : f a + sum_from f (a + 1) (m + n) ≡ f a + sum_from f (a + 1) m + sum_from f (a + suc m) n = omega (arith, ih, moved) in
-    ap (sum_from f a) e ∙ next f a (m + n) ∙ whole ∙ ap (λ s. s + sum_from f (a + suc m) n) (sym (next f a m))
+    ap (sum_from f a) e ∙ grind (arith, next f a (m + n), next f a m, split_sum f (a + 1) m n)
+
+-- equal terms, and terms of at most 1
+steady_sum : (f : ℕ → ℕ) (c a n : ℕ) → ((i : ℕ) → a ≤ i → i < a + n → f i ≡ c) → sum_from f a n ≡ n * c
+steady_sum f c a zero each = omega arith
+steady_sum f c a (suc n) each =
+    grind (
+      arith,
+      next f a n,
+      each a (omega arith) (omega arith),
+      steady_sum f c (a + 1) n
+          (λ i low high. each i (omega arith) (omega arith)),
+    )
 
 small_sum : (f : ℕ → ℕ) (a n : ℕ) → ((i : ℕ) → f i < 2) → sum_from f a n ≤ n
-small_sum f a zero low = omega arith
-small_sum f a (suc n) low = omega (arith, next f a n, low a, small_sum f (a + 1) n low)
-
-zero_sum : (f : ℕ → ℕ) (a n : ℕ) → ((i : ℕ) → a ≤ i → f i ≡ 0) → sum_from f a n ≡ 0
-zero_sum f a zero none = refl
-zero_sum f a (suc n) none = omega (arith, next f a n, none a (omega arith), zero_sum f (a + 1) n (λ i low. none i (omega arith)))
+small_sum f a n low = omega (
+  arith,
+  sum_by-le-sum_by f (λ _. 1) (range_with_len a n) (λ i. omega (arith, low i)),
+  steady_sum (λ _. 1) 1 a n (λ i _ _. refl),
+)
 
 -- a number's ones are the sum of its bits
 ones_low : (r : ℕ) → r < 2 → count_ones r ≡ r
@@ -103,7 +97,7 @@ pub ones_of_words : (words : List ℕ) (bits : ℕ) → ((i : ℕ) → get_or wo
 ones_of_words words bits fits enough within =
     let n : ℕ = 64 * length words - bits in
     let whole : 64 * length words ≡ bits + n = omega arith in
-    let none : sum_from (bit words) (0 + bits) n ≡ 0 = zero_sum (bit words) (0 + bits) n (λ i low.
+    let none : sum_from (bit words) (0 + bits) n ≡ n * 0 = steady_sum (bit words) 0 (0 + bits) n (λ i low high.
     let small = bit_at-lt (get_or words (i / 64) 0) (i % 64) in
     ⊎_elim
     (λ (one : bit words i ≡ 1). let less = within i one in absurd (omega (arith, low, less)))
@@ -115,65 +109,37 @@ ones_of_words words bits fits enough within =
 pub count_set-le : (words : List ℕ) (bits : ℕ) → count_set words bits ≤ bits
 count_set-le words bits = small_sum (bit words) 0 bits (λ i. bit_at-lt (get_or words (i / 64) 0) (i % 64))
 
--- a sum of 0 or 1 each that is 0 has none, and one that is as great as it can be has all
-each_zero : (f : ℕ → ℕ) (a n : ℕ) → sum_from f a n ≡ 0 → (i : ℕ) → a ≤ i → i < a + n → f i ≡ 0
-each_zero f a zero none i low high = absurd (omega (arith, low, high))
-each_zero f a (suc n) none i low high =
-    let here : f a ≡ 0 = omega (arith, next f a n, none) in
-    let rest : sum_from f (a + 1) n ≡ 0 = omega (arith, next f a n, none) in
+-- where terms are no greater than others and their sum is as great, each is
+each_same : (f g : ℕ → ℕ) (a n : ℕ) → ((i : ℕ) → f i ≤ g i) → sum_from f a n ≡ sum_from g a n → (i : ℕ) → a ≤ i
+    → i < a + n → f i ≡ g i
+each_same f g a zero most same i low high = absurd (omega (arith, low, high))
+each_same f g a (suc n) most same i low high =
+    let others = sum_by-le-sum_by f g (range_with_len (a + 1) n) most in
     ⊎_elim
-    (λ (is : i ≡ a). ap f is ∙ here)
-    (λ (other : i ≢ a). each_zero f (a + 1) n rest i (omega (arith, low, other)) (omega (arith, high)))
+    (λ (is : i ≡ a). grind (arith, is, next f a n, next g a n, same, most a, others))
+    (λ (other : i ≢ a). each_same f g (a + 1) n most (omega (arith, next f a n, next g a n, same, most a, others)) i
+    (omega (arith, low, other)) (omega (arith, high)))
     (cases_eq i a)
-
-each_one : (f : ℕ → ℕ) (a n : ℕ) → ((i : ℕ) → f i < 2) → sum_from f a n ≡ n → (i : ℕ) → a ≤ i → i < a + n → f i ≡ 1
-each_one f a zero small all i low high = absurd (omega (arith, low, high))
-each_one f a (suc n) small all i low high =
-    let most = small_sum f (a + 1) n small in
-    let here : f a ≡ 1 = omega (arith, next f a n, all, most, small a) in
-    let rest : sum_from f (a + 1) n ≡ n = omega (arith, next f a n, all, here) in
-    ⊎_elim
-    (λ (is : i ≡ a). ap f is ∙ here)
-    (λ (other : i ≢ a). each_one f (a + 1) n small rest i (omega (arith, low, other)) (omega (arith, high)))
-    (cases_eq i a)
-
-none_from : (f : ℕ → ℕ) (a n : ℕ) → ((i : ℕ) → a ≤ i → i < a + n → f i ≡ 0) → sum_from f a n ≡ 0
-none_from f a zero none = refl
-none_from f a (suc n) none =
-    omega (
-      arith,
-      next f a n,
-      none a (omega arith) (omega arith),
-      none_from f (a + 1) n (λ i low high. none i (omega (arith, low)) (omega (arith, high))),
-    )
-
-all_from : (f : ℕ → ℕ) (a n : ℕ) → ((i : ℕ) → a ≤ i → i < a + n → f i ≡ 1) → sum_from f a n ≡ n
-all_from f a zero all = refl
-all_from f a (suc n) all =
-    omega (
-      arith,
-      next f a n,
-      all a (omega arith) (omega arith),
-      all_from f (a + 1) n (λ i low high. all i (omega (arith, low)) (omega (arith, high))),
-    )
 
 is_bit : (words : List ℕ) (i : ℕ) → bit words i < 2
 is_bit words i = bit_at-lt (get_or words (i / 64) 0) (i % 64)
 
 pub none_set : (filter : Filter) → IsFilter filter → (count_set filter.words filter.bits ≡ 0) ↔ IsEmpty filter
 none_set filter is = (
-  λ none j set. let zero_there = each_zero (bit filter.words) 0 filter.bits none j (omega arith) (omega (arith, is.within j set)) in
+  λ none j set. let zero_there = each_same (λ _. 0) (bit filter.words) 0 filter.bits (λ i. omega arith)
+      (omega (arith, none, steady_sum (λ _. 0) 0 0 filter.bits (λ i _ _. refl))) j (omega arith)
+      (omega (arith, is.within j set)) in
       absurd (omega (arith, set, zero_there)),
-  λ empty. none_from (bit filter.words) 0 filter.bits (λ i low high.
-      ⊎_elim
-      (λ (one : bit filter.words i ≡ 1). absurd (empty i one))
-      (λ (other : bit filter.words i ≢ 1). omega (arith, other, is_bit filter.words i))
-      (cases_eq (bit filter.words i) 1)),
+  λ empty. let none = steady_sum (bit filter.words) 0 0 filter.bits (λ i low high.
+      let unset : bit filter.words i ≢ 1 = empty i in omega (arith, unset, is_bit filter.words i)) in
+      omega (arith, none),
 )
 
 pub all_set : (filter : Filter)
     → (count_set filter.words filter.bits ≡ filter.bits) ↔ ((j : ℕ) → j < filter.bits → IsSet filter j)
 all_set filter = (
-  λ all j below. each_one (bit filter.words) 0 filter.bits (is_bit filter.words) all j (omega arith) (omega (arith, below)),
-  λ set. all_from (bit filter.words) 0 filter.bits (λ i low high. set i (omega (arith, high))),
+  λ all j below. each_same (bit filter.words) (λ _. 1) 0 filter.bits (λ i. omega (arith, is_bit filter.words i))
+      (omega (arith, all, steady_sum (λ _. 1) 1 0 filter.bits (λ i _ _. refl))) j (omega arith) (omega (arith, below)),
+  λ set. let all = steady_sum (bit filter.words) 1 0 filter.bits (λ i low high. set i (omega (arith, high))) in
+      omega (arith, all),
 )

@@ -1,16 +1,43 @@
 -- The places of probes, one after another.
-use Rattle.std.proofs.Common.{ℕ, ◌≡◌, ◌⊎◌, ◌↔◌, ◌+◌, ◌*◌, ◌%◌, ◌<◌, ◌≤◌, Bool, ◌&&◌, IsTrue, List, sym, ap, ap₂, ◌∙◌, subst, arith, ⊎_elim, inl, inr, below_more}
-use Rattle.std.proofs.Math.Nat.{add-mod}
-use Rattle.std.proofs.lemmas.Bool.{cases_lt, and_parts, and_from}
-use Rattle.hash_bloom.specs.Filter.{HasBit, HasAll, IsAmong, place}
+use Rattle.hash_bloom.proofs.Common.{ℕ, zero, suc, refl, ◌-◌, ◌/◌, ◌^◌, ◌≡◌, ◌⊎◌, ◌↔◌, ◌+◌, ◌*◌, ◌%◌, Bool, ◌&&◌, IsTrue, List, sym, subst, arith, ⊎_elim, inl, below_more, add-mod, mod-add-mod, pow-suc, pow-zero, and_parts, and_from, HasBit, HasAll, IsAmong, probe_hash}
 
--- a step further is the next probe's place
-pub next_probe : (bits first second i step at : ℕ) → step ≡ second % bits → at ≡ place bits first second i
-    → (at + step) % bits ≡ place bits first second (i + 1)
-next_probe bits first second i step at s is =
-    let more : first + (i + 1) * second ≡ first + i * second + second = grind arith in
-    ap₂ (λ m n. (m + n) % bits) is s
-    ∙ sym (add-mod (first + i * second) second bits) ∙ ap (λ n. n % bits) (sym more)
+-- how much more the hash of the probe behind probe i is
+abbrev pub step_of : ℕ → ℕ → ℕ
+step_of second i = (second + i * (i + 1) / 2) % 2 ^ 64
+
+cube_is_product : (n : ℕ) → n ^ 3 ≡ n * n * n
+cube_is_product n = rw (pow-suc n 2, pow-suc n 1, pow-suc n 0, pow-zero n) (grind arith)
+
+two_halves : (i : ℕ) → 2 * (i * (i + 1) / 2) ≡ i * (i + 1)
+two_halves zero = refl
+two_halves (suc i) =
+    let so_far = two_halves i in
+    let more : suc i * (suc i + 1) ≡ i * (i + 1) + 2 * (i + 1) = grind arith in
+    omega (arith, so_far, more)
+
+six_sixths : (i : ℕ) → 6 * ((i ^ 3 - i) / 6) + i ≡ i ^ 3
+six_sixths zero = refl
+six_sixths (suc i) =
+    let so_far = six_sixths i in
+    let more : suc i ^ 3 ≡ i ^ 3 + 3 * (i * (i + 1)) + 1 = rw (cube_is_product i, cube_is_product (suc i)) (grind arith) in
+    omega (arith, so_far, more, two_halves i)
+
+-- the hash and the step of the next probe
+module _ (second i step : ℕ) (is_step : step ≡ step_of second i) where
+  pub next_hash : (first hash : ℕ) → hash ≡ probe_hash first second i → (hash + step) % 2 ^ 64 ≡ probe_hash first second (i + 1)
+  next_hash first hash is =
+      let cube : (i + 1) ^ 3 ≡ i ^ 3 + 3 * (i * (i + 1)) + 1 = rw (cube_is_product i, cube_is_product (i + 1)) (grind arith) in
+      let product : (i + 1) * second ≡ i * second + second = grind arith in
+      let more : first + (i + 1) * second + ((i + 1) ^ 3 - (i + 1)) / 6
+      ≡ first + i * second + (i ^ 3 - i) / 6 + (second + i * (i + 1) / 2) =
+      omega (arith, cube, product, two_halves i, six_sixths i) in
+      rw (is, is_step, more) (sym (add-mod (first + i * second + (i ^ 3 - i) / 6) (second + i * (i + 1) / 2) (2 ^ 64)))
+
+  pub next_step : (step + (i + 1)) % 2 ^ 64 ≡ step_of second (i + 1)
+  next_step =
+      let product : (i + 1) * (i + 1 + 1) ≡ i * (i + 1) + 2 * (i + 1) = grind arith in
+      let more : second + (i + 1) * (i + 1 + 1) / 2 ≡ second + i * (i + 1) / 2 + (i + 1) = omega (arith, product, two_halves i) in
+      rw (is_step, more, ← mod-add-mod (second + i * (i + 1) / 2) (2 ^ 64) (i + 1)) refl
 
 module _ (places : ℕ → ℕ) (i at : ℕ) (is : at ≡ places i) where
   pub all_more : (words : List ℕ) → HasAll words places i → HasBit words at → HasAll words places (i + 1)
@@ -21,16 +48,10 @@ module _ (places : ℕ → ℕ) (i at : ℕ) (is : at ≡ places i) where
     pub set_more : (new : List ℕ) → ((j : ℕ) → HasBit new j ↔ (HasBit mid j ⊎ j ≡ at))
         → (j : ℕ) → HasBit new j ↔ (HasBit old j ⊎ IsAmong places (i + 1) j)
     set_more new step j = (
-      λ h. ⊎_elim
-          (λ m. ⊎_elim (λ o. inl o) (λ a. inr (a.0, omega (arith, a.1), a.2)) ((before j).0 m))
-          (λ e. inr (i, omega arith, sym is ∙ sym e))
-          ((step j).0 h),
+      λ h. grind (arith, (step j).0 h, (before j).0, is),
       λ h. ⊎_elim
           (λ o. (step j).1 (inl ((before j).1 (inl o))))
-          (λ a. ⊎_elim
-          (λ (less : a.0 < i). (step j).1 (inl ((before j).1 (inr (a.0, less, a.2)))))
-          (λ (last : i ≤ a.0). let e : a.0 ≡ i = omega (arith, a.1) in (step j).1 (inr (sym a.2 ∙ ap places e ∙ sym is)))
-          (cases_lt a.0 i))
+          (λ a. grind (arith, (step j).1, (before j).1, a, is))
           h,
     )
 

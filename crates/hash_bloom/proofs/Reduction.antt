@@ -1,6 +1,5 @@
 -- The remainder by a multiplication with (2^64 - 1) / bits in place of a division.
-use Rattle.std.proofs.Common.{ℕ, ◌≡◌, ◌+◌, ◌-◌, ◌*◌, ◌/◌, ◌%◌, ◌^◌, ◌<◌, ◌≤◌, sym, ap, subst, ◌∙◌, arith}
-use Rattle.std.proofs.Math.Nat.{add-mul-mod_self_right, mod-eq_of_lt, div-mul-le_self, mul-le-mul_left, mul-le-mul_right, lt-div-mul-add}
+use Rattle.hash_bloom.proofs.Common.{ℕ, ◌≡◌, ◌+◌, ◌-◌, ◌*◌, ◌/◌, ◌%◌, ◌^◌, ◌<◌, ◌≤◌, sym, ap, subst, ◌∙◌, arith, add-mul-mod_self_right, mod-eq_of_lt, div-mul-le_self, mul-le-mul_left, mul-le-mul_right, lt-div-mul-add}
 
 -- the multiple that is taken off is not above the hash, and less than two times bits below it
 pub reduced : (hash bits inverse times : ℕ) → hash < 2 ^ 64 → 1 ≤ bits → inverse ≡ (2 ^ 64 - 1) / bits

@@ -1,8 +1,6 @@
 -- Changes one after another, and what they leave to be found.
-use Rattle.std.proofs.Common.{ℕ, ◌≡◌, ◌⊎◌, ◌↔◌, ◌<◌, List, [], ◌∷◌, ◌++◌, sym, ap, ◌∙◌, subst, ⊎_elim, inl, inr, length, append_assoc}
-use Rattle.std.proofs.lemmas.List.{append-nil, nil_from_length}
-use Rattle.hash_bloom.specs.Filter.{Filter, IsProbe, Passes, Fits, Adds, place}
-use Rattle.hash_bloom.specs.Commands.{SetsBit, AnySetsBit, Inserts}
+use Rattle.hash_bloom.proofs.Common.{ℕ, ◌≡◌, ◌⊎◌, ◌↔◌, List, [], ◌∷◌, ◌++◌, sym, ap, ◌∙◌, subst, ⊎_elim, inl, inr, length, append_assoc, arith, nil_from_length, Filter, IsProbe, Passes, Fits, Adds, SetsBit, AnySetsBit, Inserts}
+use Rattle.std.proofs.lemmas.List.{append-nil}
 use Rattle.hash_bloom.specs.declared.commands.Command.{Command}
 use Rattle.hash_bloom.specs.declared.commands.Command.TheVariants.{Insert, Union, Store}
 use Rattle.hash_bloom.proofs.Found.{passes_added}
@@ -20,16 +18,8 @@ module _ (f g : List ℕ → ℕ) where
     -- which bits a command sets depends on the number of bits and probes alone
     sets_same : (a b : Filter) → Fits a b → (command : Command F G) (j : ℕ) → SetsBit f g b command j ↔ SetsBit f g a command j
     sets_same a b fits (Insert key) j = (
-      λ probe. (
-        probe.0,
-        subst (λ (n : ℕ). probe.0 < n) fits.1 probe.1,
-        ap (λ bits. place bits (f key.items) (g key.items) probe.0) (sym fits.0) ∙ probe.2,
-      ),
-      λ probe. (
-        probe.0,
-        subst (λ (n : ℕ). probe.0 < n) (sym fits.1) probe.1,
-        ap (λ bits. place bits (f key.items) (g key.items) probe.0) fits.0 ∙ probe.2,
-      ),
+      λ probe. (probe.0, grind (arith, probe.1, fits.1), grind (arith, probe.2, fits.0)),
+      λ probe. (probe.0, grind (arith, probe.1, fits.1), grind (arith, probe.2, fits.0)),
     )
     sets_same a b fits (Union other) j = (λ set. set, λ set. set)
     sets_same a b fits Store j = (λ set. set, λ set. set)
@@ -39,10 +29,8 @@ module _ (f g : List ℕ → ℕ) where
     any_more a [] command j =
         (λ set. ⊎_elim (λ here. inr here) (λ none. absurd none) set, λ set. ⊎_elim (λ none. absurd none) (λ here. inl here) set)
     any_more a (first ∷ done) command j = (
-      λ set. ⊎_elim (λ here. inl (inl here))
-          (λ later. ⊎_elim (λ m. inl (inr m)) (λ last. inr last) ((any_more a done command j).0 later)) set,
-      λ set. ⊎_elim (λ any. ⊎_elim (λ here. inl here) (λ m. inr ((any_more a done command j).1 (inl m))) any)
-          (λ last. inr ((any_more a done command j).1 (inr last))) set,
+      λ set. grind (arith, set, (any_more a done command j).0),
+      λ set. grind (arith, set, (any_more a done command j).1),
     )
 
     -- one command more
@@ -51,19 +39,12 @@ module _ (f g : List ℕ → ℕ) where
         → Adds a new (AnySetsBit f g a (done ++ command ∷ []))
     run_more a mid new done command before step = record {
       shape = (step.shape.0 ∙ before.shape.0, step.shape.1 ∙ before.shape.1);
-      set = λ j. (
-        λ set. ⊎_elim
-            (λ m. ⊎_elim (λ old. inl old) (λ any. inr ((any_more a done command j).1 (inl any))) ((before.set j).0 m))
-            (λ last. inr ((any_more a done command j).1 (inr ((sets_same a mid before.shape command j).0 last))))
-            ((step.set j).0 set),
-        λ set. ⊎_elim
-            (λ old. (step.set j).1 (inl ((before.set j).1 (inl old))))
-            (λ any. ⊎_elim
-            (λ m. (step.set j).1 (inl ((before.set j).1 (inr m))))
-            (λ last. (step.set j).1 (inr ((sets_same a mid before.shape command j).1 last)))
-            ((any_more a done command j).0 any))
-            set,
-      );
+      set = λ j.
+          let same = sets_same a mid before.shape command j in
+          let any = any_more a done command j in (
+            λ set. grind (arith, (step.set j).0 set, (before.set j).0, any.1, same.0),
+            λ set. grind (arith, set, (step.set j).1, (before.set j).1, any.0, same.1),
+          );
     }
 
     inserts_set : (a : Filter) (commands : List (Command F G)) (key : List ℕ) → Inserts commands key

@@ -1,10 +1,6 @@
 -- The numbers of bits and probes that let one strange key in 2^k pass.
-use Rattle.std.proofs.Common.{ℕ, ◌≡◌, ◌-◌, ◌*◌, ◌^◌, ◌<◌, ◌≤◌, ◌&&◌, leb, Bool, true, [], ◌∷◌, get_or, length, refl, arith, subst}
-use Rattle.std.specs.List.{list_all, range_with_len}
-use Rattle.std.proofs.lemmas.Bool.{and_parts, leb-true}
+use Rattle.hash_bloom.proofs.Common.{ℕ, ◌≡◌, ◌-◌, ◌*◌, ◌^◌, ◌<◌, ◌≤◌, ◌&&◌, leb, Bool, true, [], ◌∷◌, get_or, length, refl, arith, subst, list_all, range_with_len, and_parts, leb-true, AllPass-from_list_all, LetsFewPass, best_probes, bits_for_share}
 use Rattle.std.proofs.lemmas.List.FromFn.{get_or-range_with_len, length-range_with_len}
-use Rattle.std.proofs.lemmas.List.Sums.{AllPass-from_list_all}
-use Rattle.hash_bloom.specs.Filter.{LetsFewPass, best_probes, bits_for_share}
 
 -- how many bits of 100 stay zero, for each k
 abbrev zeros_at : ℕ → ℕ

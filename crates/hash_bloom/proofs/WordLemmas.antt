@@ -1,11 +1,5 @@
 -- Words joined by or, and the last word of a filter.
-use Rattle.std.proofs.Common.{ℕ, ◌≡◌, ◌≢◌, ◌⊎◌, ◌↔◌, ◌+◌, ◌-◌, ◌*◌, ◌/◌, ◌%◌, ◌^◌, ◌<◌, ◌≤◌, max, List, length, get_or, sym, ap, ◌∙◌, arith, ⊎_elim, inl, inr, bit_or}
-use Rattle.std.specs.Int.{bit_at}
-use Rattle.std.proofs.lemmas.Bool.{cases_eq, cases_lt}
-use Rattle.std.proofs.lemmas.Nat.{shr-shr}
-use Rattle.std.proofs.lemmas.List.{get_or_past}
-use Rattle.std.proofs.lemmas.Nat.Bits.{bit_at_or, bit_at-lt, bit_at_above, bit_at-zero, same_from_bits}
-use Rattle.hash_bloom.specs.Filter.{HasBit}
+use Rattle.hash_bloom.proofs.Common.{ℕ, ◌≡◌, ◌≢◌, ◌⊎◌, ◌↔◌, ◌+◌, ◌-◌, ◌*◌, ◌/◌, ◌%◌, ◌^◌, ◌<◌, ◌≤◌, max, List, length, get_or, sym, ap, ◌∙◌, arith, ⊎_elim, bit_or, shr-shr, bit_at, cases_eq, cases_lt, get_or_past, bit_at_or, bit_at-lt, bit_at_above, bit_at-zero, same_from_bits, HasBit}
 
 pub united : (old others new : List ℕ) → ((k : ℕ) → get_or new k 0 ≡ bit_or (get_or old k 0) (get_or others k 0))
     → (j : ℕ) → HasBit new j ↔ (HasBit old j ⊎ HasBit others j)
@@ -16,10 +10,8 @@ united old others new each j =
     ap (λ w. bit_at w (j % 64)) (each (j / 64)) ∙ bit_at_or (get_or old (j / 64) 0) (get_or others (j / 64) 0) (j % 64) in
     let low : a < 2 = bit_at-lt (get_or old (j / 64) 0) (j % 64) in
     let low' : b < 2 = bit_at-lt (get_or others (j / 64) 0) (j % 64) in (
-      λ (h : HasBit new j). ⊎_elim (λ (e : a ≡ 1). inl e) (λ (ne : a ≢ 1). inr (omega (arith, is, h, ne, low, low'))) (cases_eq a 1),
-      λ (h : HasBit old j ⊎ HasBit others j). is
-          ∙ ⊎_elim (λ (e : a ≡ 1). let r : max a b ≡ 1 = omega (arith, e, low') in r)
-          (λ (e : b ≡ 1). let r : max a b ≡ 1 = omega (arith, e, low) in r) h,
+      λ (h : HasBit new j). grind (arith, is, h, low, low'),
+      λ (h : HasBit old j ⊎ HasBit others j). grind (arith, is, h, low, low'),
     )
 
 -- beyond the bits lies the rest of the last word alone
@@ -40,10 +32,8 @@ module _ (words : List ℕ) (bits : ℕ) (enough : bits ≤ 64 * length words) (
       let one : bit_at last (j % 64) ≡ 1 = ap (λ k. bit_at (get_or words k 0) (j % 64)) (sym same) ∙ has in
       absurd (omega (arith, none, one)))
       (λ (other : j / 64 ≢ bits / 64).
-      let past : length words ≤ j / 64 = omega arith in
-      let none : bit_at (get_or words (j / 64) 0) (j % 64) ≡ 0 =
-      ap (λ w. bit_at w (j % 64)) (get_or_past words (j / 64) 0 past) ∙ bit_at-zero (j % 64) in
-      absurd (omega (arith, none, has)))
+      let none = get_or_past words (j / 64) 0 (omega arith) in
+      grind (arith, none, bit_at-zero (j % 64), has))
       (cases_eq (j / 64) (bits / 64)))
       (cases_lt j bits)
 
@@ -58,13 +48,9 @@ module _ (words : List ℕ) (bits : ℕ) (enough : bits ≤ 64 * length words) (
       let bit : j % 64 ≡ r + i = omega arith in
       let beyond : bits ≤ j = omega arith in
       let small : bit_at last (r + i) < 2 = bit_at-lt last (r + i) in
-      ⊎_elim
-      (λ (one : bit_at last (r + i) ≡ 1).
-      let has : HasBit words j = ap (λ k. bit_at (get_or words k 0) (j % 64)) word ∙ ap (bit_at last) bit ∙ one in
-      let less : j < bits = below j has in
-      absurd (omega (arith, less, beyond)))
-      (λ (ne : bit_at last (r + i) ≢ 1). omega (arith, ne, small))
-      (cases_eq (bit_at last (r + i)) 1))
+      let has : bit_at last (r + i) ≡ 1 → HasBit words j = λ one. grind (arith, word, bit, one) in
+      let less : bit_at last (r + i) ≡ 1 → j < bits = λ one. below j (has one) in
+      grind (arith, less, beyond, small))
       (λ (above : 64 ≤ r + i). bit_at_above last 64 (r + i) fits above)
       (cases_lt (r + i) 64) in
       moved ∙ zero_bit ∙ sym (bit_at-zero i))

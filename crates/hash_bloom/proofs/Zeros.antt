@@ -1,10 +1,5 @@
 -- How many zeros are expected after some probes, and how near the parts of 2 ^ 128 come to that.
-use Rattle.std.proofs.Common.{ℕ, ⊎_elim, zero, suc, ◌≡◌, ◌+◌, ◌-◌, ◌*◌, ◌/◌, ◌^◌, ◌<◌, ◌≤◌, arith, lit≤, min, refl, sym, ap, ◌∙◌, subst}
-use Rattle.std.proofs.Math.Nat.{div-mul-le_self, le_of_mul-le-mul_left, le_of_mul-le-mul_right, lt-div-mul-add, lt-mul-div-succ, lt_of_mul-lt-mul_left, mul-le-mul, mul-le-mul_left, mul-div-le, mul-le-mul_right, one-le-pow, pow-le-pow_left, pow-suc, pow-zero}
-use Rattle.std.proofs.lemmas.Bool.{cases_lt}
-use Rattle.std.proofs.lemmas.Grind.{pow_more}
-use Rattle.std.proofs.lemmas.Nat.{pow-add}
-use Rattle.hash_bloom.specs.Estimate.{IsExpected, IsNearest, LeavesAtMost, LeavesMore}
+use Rattle.hash_bloom.proofs.Common.{ℕ, ⊎_elim, zero, suc, ◌≡◌, ◌+◌, ◌-◌, ◌*◌, ◌/◌, ◌^◌, ◌<◌, ◌≤◌, arith, lit≤, min, refl, sym, ap, ◌∙◌, subst, pow-add, div-mul-le_self, le_of_mul-le-mul_left, le_of_mul-le-mul_right, lt-div-mul-add, lt-mul-div-succ, lt_of_mul-lt-mul_left, mul-le-mul, mul-le-mul_left, mul-div-le, mul-le-mul_right, one-le-pow, pow-le-pow_left, pow-suc, pow-zero, cases_lt, pow_more, IsExpected, IsNearest, LeavesAtMost, LeavesMore}
 
 pow_one : (x : ℕ) → x ^ 1 ≡ x
 pow_one x = pow_more x 0 ∙ rw (pow-zero x) (omega arith)

@@ -15,7 +15,7 @@ field digits number = hex digits number ++ codes " "
 
 -- what a file begins with: whose form it is, and its version
 abbrev pub title : List ℕ
-title = codes "hashers-bloom 1 "
+title = codes "hashers-bloom 2 "
 
 -- the first line
 unfoldable pub header : (bits probes : ℕ) (pair : List ℕ) → List ℕ
@@ -48,9 +48,10 @@ pub record IsStored (filter : Filter) : Type 0 where
 abbrev pub BeginsNot : Option (List ℕ) → List ℕ → Type 0
 BeginsNot known text = (rest : List ℕ) → known ≡ Some (text ++ rest) → ⊥
 
--- no filter of this pair is stored there: the form, the pair or the hash is another
+-- no filter of this pair is stored there: the form, its version, the pair or the hash is another
 abbrev pub IsRefusal : Unread → Type 0
 IsRefusal (why.Failed error) = ⊥
 IsRefusal why.Form = ⊤
+IsRefusal why.Version = ⊤
 IsRefusal why.Pair = ⊤
 IsRefusal why.Hash = ⊤

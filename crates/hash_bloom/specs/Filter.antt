@@ -39,9 +39,14 @@ pub record IsFilter (filter : Filter) : Type 0 where
   pub within : (i : ℕ) → IsSet filter i → i < filter.bits
 
 -- ---- the places of a key
--- the place of probe i among so many bits, by two hashes
+-- the hash of probe i, by two of the key: enhanced double hashing (P. Dillinger, P. Manolios, "Bloom Filters in Probabilistic
+-- Verification", 2004)
+abbrev pub probe_hash : ℕ → ℕ → ℕ → ℕ
+probe_hash first second i = (first + i * second + (i ^ 3 - i) / 6) % 2 ^ 64
+
+-- its place among so many bits
 abbrev pub place : ℕ → ℕ → ℕ → ℕ → ℕ
-place bits first second i = (first + i * second) % bits
+place bits first second i = probe_hash first second i % bits
 
 -- one of the first n places is j
 abbrev pub IsAmong : (ℕ → ℕ) → ℕ → ℕ → Type 0

@@ -1,5 +1,5 @@
 //! Bits in words of 64, and the places of a key's probes among them.
-ghost use Rattle.std.specs.Prelude.{◌≡◌, ◌+◌, ◌-◌, ◌*◌, ◌/◌, ◌%◌, ◌^◌, ◌<◌, ◌≤◌, ◌↔◌, ◌⊎◌, ℕ, IsTrue, length};
+ghost use Rattle.std.specs.Prelude.{◌≡◌, ◌+◌, ◌-◌, ◌*◌, ◌/◌, ◌%◌, ◌^◌, ◌<◌, ◌≤◌, ◌↔◌, ◌⊎◌, ℕ, IsTrue, false, length};
 ghost use Rattle.std.specs.Int.RustNames.{count_ones};
 ghost use Rattle.std.specs.List.{sum_by};
 ghost use Rattle.hash_bloom.specs.Filter.{HasBit, HasAll, IsAmong, count_set, place};
@@ -13,21 +13,12 @@ fn has_bit(words: &[u64], at: u64) -> bool
 }
 
 /// Sets the bit.
+#[tactic(auto, using(crate::proofs::OneBit::one_bit_more))]
 fn set_bit(words: &mut [u64], at: u64)
     requires { at < 64 * length words.old }
     ensures { (j : ℕ) → HasBit words.new j ↔ (HasBit words.old j ⊎ (j ≡ at)) }
 {
     words[(at / 64) as usize] |= 1 << (at % 64);
-}
-
-/// The place that lies `step` further, round the bits.
-fn next_place(at: u64, step: u64, bits: u64) -> u64
-    requires at { at < bits }
-    requires step { step < bits }
-    ensures { result ≡ (at + step) % bits }
-{
-    let left = bits - step;
-    if at < left { at + step } else { at - left }
 }
 
 /// The remainder, by a multiplication with the inverse in place of a division: the quotient comes out right or 1 too low.
@@ -42,24 +33,32 @@ fn remainder(hash: u64, bits: u64, inverse: u64) -> u64
     if rest < bits { rest } else { rest - bits }
 }
 
-/// Sets the bits of all probes, and answers whether all of them were set before.
+/// The hash of the probe behind probe i, by its own, and by how much more that of the next one is.
+fn next_probe(hash: u64, step: u64, i: u32) -> (u64, u64)
+    ensures hash { result.0 ≡ (hash + step) % 2 ^ 64 }
+    ensures step { result.1 ≡ (step + (i + 1)) % 2 ^ 64 }
+{
+    (hash.wrapping_add(step), step.wrapping_add(u64::from(i) + 1))
+}
+
+/// Sets the bits of all probes, and answers whether one of them was not set before.
 pub fn set_all(words: &mut [u64], bits: u64, probes: u32, first: u64, second: u64) -> bool
     requires some { 1 ≤ bits }
     requires there { bits ≤ 64 * length words.old }
     ensures set { (j : ℕ) → HasBit words.new j
         ↔ (HasBit words.old j ⊎ IsAmong (place bits first second) probes j) }
-    ensures before { IsTrue result ↔ HasAll words.old (place bits first second) probes }
+    ensures before { (result ≡ false) ↔ HasAll words.old (place bits first second) probes }
 {
     let inverse = u64::MAX / bits;
-    let step = remainder(second, bits, inverse);
-    let mut at = remainder(first, bits, inverse);
+    let (mut hash, mut step) = (first, second);
     let mut before = true;
-    for _ in 0..probes {
+    for i in 0..probes {
+        let at = remainder(hash, bits, inverse);
         before &= has_bit(words, at);
         set_bit(words, at);
-        at = next_place(at, step, bits);
+        (hash, step) = next_probe(hash, step, i);
     }
-    before
+    !before
 }
 
 /// Whether the bits of all probes are set.
@@ -69,13 +68,13 @@ pub fn has_all(words: &[u64], bits: u64, probes: u32, first: u64, second: u64) -
     ensures { IsTrue result ↔ HasAll words.now (place bits first second) probes }
 {
     let inverse = u64::MAX / bits;
-    let step = remainder(second, bits, inverse);
-    let mut at = remainder(first, bits, inverse);
-    for _ in 0..probes {
+    let (mut hash, mut step) = (first, second);
+    for i in 0..probes {
+        let at = remainder(hash, bits, inverse);
         if !has_bit(words, at) {
             return false;
         }
-        at = next_place(at, step, bits);
+        (hash, step) = next_probe(hash, step, i);
     }
     true
 }

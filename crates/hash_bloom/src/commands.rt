@@ -77,17 +77,16 @@ pub fn found_after<F: Piecewise, G: Piecewise>(
     obey_all(filter, commands).contains(key)
 }
 
-/// What `insert` answers after the commands: whether the key was possibly there. Where it answers `false`, no command had
-/// inserted the key.
-pub fn known_after<F: Piecewise, G: Piecewise>(
+/// What `insert` answers after the commands: whether the key is new. Where it is, no command had inserted it.
+pub fn new_after<F: Piecewise, G: Piecewise>(
     filter: Bloom<F, G>,
     commands: Vec<Command<F, G>>,
     key: &[u8],
 ) -> bool
     requires { All (CanRun filter) commands.items }
-    ensures exactly { IsTrue result
+    ensures exactly { (result ≡ false)
         ↔ IsKnownAfter F.hash_of G.hash_of filter commands.items key.now }
-    ensures new { result ≡ false → Inserts commands.items key.now → ⊥ }
+    ensures new { IsTrue result → Inserts commands.items key.now → ⊥ }
 {
     obey_all(filter, commands).insert(key)
 }

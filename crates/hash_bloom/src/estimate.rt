@@ -27,7 +27,8 @@ fn product_high(one: u128, other: u128) -> u128
 fn after_both(one: Expected, other: Expected) -> Expected
     requires { one.probes + other.probes < 2 ^ 128 }
     ensures probes { result.probes ≡ one.probes + other.probes }
-    ensures expected { (bits : ℕ) → IsExpected bits one.probes one.zeros → IsExpected bits other.probes other.zeros
+    ensures expected { (bits : ℕ) → IsExpected bits one.probes one.zeros
+        → IsExpected bits other.probes other.zeros
         → IsExpected bits result.probes result.zeros }
 {
     Expected {

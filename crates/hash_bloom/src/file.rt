@@ -1,13 +1,13 @@
 //! A filter in a file, to be read back by another run.
 //!
-//! First stands the line `hashers-bloom 1 BITS PROBES PAIR`: the form's version, the numbers in 16 and in 8 hexadecimal digits, and the
+//! First stands the line `hashers-bloom 2 BITS PROBES PAIR`: the form's version, the numbers in 16 and in 8 hexadecimal digits, and the
 //! names of the two hashers as the caller gives them. Then come the words, each in 8 bytes with the lowest first, and at the end FNV-1a at
 //! 64 bits of all before, in 8 bytes like a word.
 ghost use Rattle.std.specs.Prelude.{◌≡◌, ◌<◌, ◌≤◌, ◌^◌, ◌++◌, ℕ, List, IfOk, IfErr, OnErr, OnOk, Some, length, slice_index};
 ghost use Rattle.std.specs.Int.{to_le_bytes};
 ghost use Rattle.std.specs.Io.KnownBytes.{Appends, Consumes};
 ghost use Rattle.streams.specs.Streams.{AppendsPart};
-ghost use Rattle.hash_bloom.specs.File.{BeginsNot, IsRefusal, IsStored, bytes_of, field, file_of, header, seal, sealed};
+ghost use Rattle.hash_bloom.specs.File.{BeginsNot, IsRefusal, IsStored, bytes_of, field, file_of, header, seal, sealed, title};
 ghost use Rattle.hash_bloom.specs.Filter.{Filter, filter_of};
 ghost use mir.Syntax.{w64};
 
@@ -25,7 +25,9 @@ use streams::failure::Failure;
 use streams::tries::{TRIES, write_all};
 
 /// What the file begins with: whose it is, and its form's version.
-const TITLE: &[u8] = b"hashers-bloom 1 ";
+const TITLE: &[u8] = b"hashers-bloom ";
+
+const VERSION: &[u8] = b"2 ";
 
 /// Why no filter was read.
 #[derive(Debug, Drop)]
@@ -34,6 +36,8 @@ pub enum Unread {
     Failed(Error),
     /// This is no file of a filter in this form.
     Form,
+    /// The form is one of another version, whose keys have other places.
+    Version,
     /// The filter is one over another pair of hashers.
     Pair,
     /// The hash at the end is another: the file is damaged.
@@ -45,6 +49,10 @@ impl Display for Unread {
         match self {
             Unread::Failed(error) => write!(f, "{error}"),
             Unread::Form => write!(f, "this is no file of a filter"),
+            Unread::Version => write!(
+                f,
+                "the file is one of another version: make the filter again"
+            ),
             Unread::Pair => write!(f, "the filter is one over other hashers"),
             Unread::Hash => write!(f, "the file is damaged: it has another hash"),
         }
@@ -70,6 +78,7 @@ fn header(alloc: Global, bits: u64, probes: u32, pair: &[u8]) -> io::Result<Vec<
 {
     let mut line = Vec::new(alloc);
     line.extend_from_slice(TITLE)?;
+    line.extend_from_slice(VERSION)?;
     push_hex(&mut line, 16, u128::from(bits))?;
     line.push(b' ')?;
     push_hex(&mut line, 8, u128::from(probes))?;
@@ -107,6 +116,15 @@ fn expect<R: Read>(r: &mut R, text: &[u8], otherwise: Unread) -> Result<(), Unre
     Ok(())
 }
 
+/// Reads what the file begins with.
+fn read_title<R: Read>(r: &mut R) -> Result<(), Unread>
+    ensures read { OnOk result (Consumes (R.remaining r.old) (R.remaining r.new) title) }
+    ensures refused { IfErr result (λ why. IsRefusal why → BeginsNot (R.remaining r.old) title) }
+{
+    expect(r, TITLE, Unread::Form)?;
+    expect(r, VERSION, Unread::Version)
+}
+
 /// Reads a number of so many digits and the space behind it.
 fn read_field<R: Read, const DIGITS: usize>(r: &mut R) -> Result<u128, Unread>
     requires { DIGITS ≤ 32 }
@@ -134,7 +152,7 @@ fn read_header<R: Read>(r: &mut R, pair: &[u8]) -> Result<(u64, u32), Unread>
     ensures refused { IfErr result (λ why. IsRefusal why → (bits probes : ℕ) → bits < 2 ^ 64 → probes < 2 ^ 32
         → BeginsNot (R.remaining r.old) (header bits probes pair.now)) }
 {
-    expect(r, TITLE, Unread::Form)?;
+    read_title(r)?;
     let bits = read_field::<R, 16>(r)?;
     let probes = read_field::<R, 8>(r)?;
     expect(r, pair, Unread::Pair)?;
@@ -253,6 +271,7 @@ impl<F: Piecewise, G: Piecewise> Bloom<F, G> {
 
 /// The law that a file tells its filter, with no code: where two files of one pair stand at the beginning of the same bytes, they are of one
 /// filter. So what `read_from` answers to a file that `write_to` wrote is the filter that was written.
+#[tactic(auto, using(crate::proofs::FileLemmas::same_file))]
 pub fn a_file_tells_its_filter()
     ensures { (pair : List ℕ) (filter other : Filter) (rest more : List ℕ) → IsStored filter → IsStored other
         → file_of pair filter ++ rest ≡ file_of pair other ++ more → filter ≡ other }

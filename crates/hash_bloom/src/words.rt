@@ -1,5 +1,5 @@
 //! A filter in words that the caller keeps, beside its numbers of bits and probes. Bit i is that of value 2^(i mod 64) in word i / 64.
-ghost use Rattle.std.specs.Prelude.{◌≡◌, ◌↔◌, ℕ, List, IsTrue, length};
+ghost use Rattle.std.specs.Prelude.{◌≡◌, ◌↔◌, ℕ, List, IsTrue, false, length};
 ghost use Rattle.hash_bloom.specs.Filter.{Adds, AllPassIn, HasRoom, IsProbe, IsSet, Passes, filter_of};
 
 use crate::bits::{has_all, set_all};
@@ -12,8 +12,8 @@ pub fn has_room(words: &[u64], bits: u64, probes: u32) -> bool
     bits > 0 && probes > 0 && bits.div_ceil(64) <= words.len() as u64
 }
 
-/// Inserts the key: sets the bits at its places, and clears none. It answers whether all of them were set before. Afterwards
-/// this key is found, and each that was found before.
+/// Inserts the key, and answers whether it is new, as a set does: it sets the bits at its places, of which one was not set. It
+/// clears none. Afterwards this key is found, and each that was found before.
 pub fn insert<F: Piecewise, G: Piecewise>(
     words: &mut [u64],
     bits: u64,
@@ -23,7 +23,7 @@ pub fn insert<F: Piecewise, G: Piecewise>(
     requires { HasRoom (filter_of bits probes words.old) }
     ensures inserted { Adds (filter_of bits probes words.old) (filter_of bits probes words.new)
         (IsProbe F.hash_of G.hash_of (filter_of bits probes words.old) key.now) }
-    ensures before { IsTrue result ↔ Passes F.hash_of G.hash_of (filter_of bits probes words.old) key.now }
+    ensures before { (result ≡ false) ↔ Passes F.hash_of G.hash_of (filter_of bits probes words.old) key.now }
     ensures passes { Passes F.hash_of G.hash_of (filter_of bits probes words.new) key.now }
     ensures kept { AllPassIn F.hash_of G.hash_of (filter_of bits probes words.old) (filter_of bits probes words.new) }
 {

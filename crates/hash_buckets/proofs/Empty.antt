@@ -1,11 +1,5 @@
 -- The lists of a new table.
-use Rattle.std.proofs.Common.{◌≡◌, ◌≤◌, ℕ, zero, suc, List, [], ◌∷◌, ◌++◌, sym, ap, subst, ◌∙◌, refl, length, replicate, take, get_or}
-use Rattle.std.proofs.Math.Seq.{take-nil}
-use Rattle.std.proofs.lemmas.List.{length-replicate}
-use Rattle.std.specs.Global.{Vec}
-use Rattle.std.specs.FinMap.{empty}
-use Rattle.std.specs.List.{AppendsResults, FoldsTo}
-use Rattle.hash_buckets.specs.Table.{pairs, pairs_of_each, value_at, table_of, HasEachKeyOnce, IsPlaced, AreBuckets}
+use Rattle.hash_buckets.proofs.Common.{◌≡◌, ◌≤◌, ℕ, zero, suc, List, [], ◌∷◌, ◌++◌, sym, ap, subst, ◌∙◌, refl, length, replicate, take, get_or, take-nil, length-replicate, Vec, empty, AppendsResults, FoldsTo, pairs, pairs_of_each, value_at, table_of, HasEachKeyOnce, IsPlaced, AreBuckets}
 use Rattle.hash_buckets.proofs.Pairs.{empty_table}
 
 -- none of the lists that the calls made has a pair

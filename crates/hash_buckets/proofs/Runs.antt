@@ -1,9 +1,5 @@
 -- Commands one after another.
-use Rattle.std.proofs.Math.Seq.{take-append_seam}
-use Rattle.std.proofs.Common.{ℕ, ◌≡◌, length, take, sym, ◌∙◌, List, [], ◌∷◌, ◌++◌, fold, refl, ap, subst, Some}
-use Rattle.std.specs.Prelude.{slice_get, IsSomeAnd}
-use Rattle.hash_buckets.specs.Table.{Table}
-use Rattle.hash_buckets.specs.Commands.{content_after, reply_to, replies_to, NeedsMemory, StopsAt}
+use Rattle.hash_buckets.proofs.Common.{take-append_seam, ℕ, ◌≡◌, length, take, sym, ◌∙◌, List, [], ◌∷◌, ◌++◌, fold, refl, ap, subst, Some, slice_get, IsSomeAnd, Table, content_after, reply_to, replies_to, NeedsMemory, StopsAt}
 use Rattle.hash_buckets.specs.declared.Command.{Command}
 
 -- one command more

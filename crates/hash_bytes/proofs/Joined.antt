@@ -1,9 +1,5 @@
 -- The sums of a joined text, from those of its parts.
-use Rattle.std.proofs.Common.{ℕ, zero, suc, ◌≡◌, ◌+◌, ◌*◌, ◌/◌, ◌-◌, ◌%◌, ◌^◌, ◌≤◌, List, ◌++◌, length, ap, sym, ◌∙◌, refl, arith}
-use Rattle.std.proofs.Math.Nat.{pow-zero, pow-suc, add-mod-mod, mod-add-mod, mul-add-mod_self_left, div-add-mod}
-use Rattle.std.proofs.lemmas.Nat.{pow-mod, pow-add, mul-mod, mul-mod_first}
-use Rattle.hash_rounds.specs.Sums.{digit_sum, sdbm_from, loselose_from, passthrough_from}
-use Rattle.hash_rounds.proofs.SumLemmas.{sdbm_sums, loselose-append, loselose-add, passthrough_sums}
+use Rattle.hash_bytes.proofs.Common.{ℕ, zero, suc, ◌≡◌, ◌+◌, ◌*◌, ◌/◌, ◌-◌, ◌%◌, ◌^◌, ◌≤◌, List, ◌++◌, length, ap, sym, ◌∙◌, refl, arith, pow-zero, pow-suc, add-mod-mod, mod-add-mod, mul-add-mod_self_left, div-add-mod, pow-mod, pow-add, mul-mod, mul-mod_first, digit_sum, sdbm_from, loselose_from, passthrough_from, sdbm_sums, loselose-append, loselose-add, passthrough_sums}
 
 -- a number by itself, and behind a number: for each base and modulus
 module _ (x m : ℕ) where

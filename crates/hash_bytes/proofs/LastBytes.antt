@@ -1,11 +1,7 @@
 -- passthrough from 0 is the number of the last eight bytes.
-use Rattle.std.proofs.Common.{ℕ, ◌≡◌, ◌+◌, ◌*◌, ◌-◌, ◌%◌, ◌^◌, ◌<◌, ◌≤◌, List, length, drop, ap, sym, ◌∙◌, arith, lit<, ⊎_elim}
+use Rattle.hash_bytes.proofs.Common.{ℕ, ◌≡◌, ◌+◌, ◌*◌, ◌-◌, ◌%◌, ◌^◌, ◌<◌, ◌≤◌, List, length, drop, ap, sym, ◌∙◌, arith, lit<, ⊎_elim, mod-eq_of_lt, pow-le-pow_right, digit_sum, passthrough_from, digit_sum-lt, passthrough_of_last}
 use Rattle.std.proofs.lemmas.Bool.{cases_lt}
-use Rattle.std.proofs.Math.Nat.{mod-eq_of_lt}
-use Rattle.std.proofs.Math.Nat.{pow-le-pow_right}
 use Rattle.hash_laws.specs.Text.{IsText}
-use Rattle.hash_rounds.specs.Sums.{digit_sum, passthrough_from}
-use Rattle.hash_rounds.proofs.SumLemmas.{digit_sum-lt, passthrough_of_last}
 
 few : (t : List ℕ) → IsText t → length t < 8 → passthrough_from 0 t ≡ digit_sum 256 (drop (length t - 8) t)
 unfolding passthrough_from

@@ -1,13 +1,7 @@
 -- The hash of Fowler, Noll and Vo in the variant 1a (the FNV authors' page, www.isthe.com/chongo/tech/comp/fnv).
 use Rattle.std.specs.Prelude.{ℕ, ◌*◌, ◌%◌, ◌^◌, List, bit_xor}
 use Rattle.hash_laws.specs.Recurrence.{recurrence}
-
--- the starts, which the authors call offset bases
-abbrev pub fnv1a32_basis : ℕ
-fnv1a32_basis = 2166136261
-
-abbrev pub fnv1a64_basis : ℕ
-fnv1a64_basis = 14695981039346656037
+pub use Rattle.hash_rules.specs.FnvParts.{fnv1a32_basis, fnv1a64_basis, fnv1_step}
 
 -- one byte: it is xored in, and then a product by the FNV prime
 abbrev pub fnv1a32_step : ℕ → ℕ → ℕ
@@ -29,10 +23,6 @@ fnv1a32_of text = fnv1a32_from fnv1a32_basis text
 
 abbrev pub fnv1a64_of : List ℕ → ℕ
 fnv1a64_of text = fnv1a64_from fnv1a64_basis text
-
--- one byte of the variants 0 and 1, by width and prime: a product, and then it is xored in
-abbrev pub fnv1_step : ℕ → ℕ → ℕ → ℕ → ℕ
-fnv1_step width prime h b = bit_xor (h * prime % 2 ^ width) b
 
 -- the oldest variant, FNV-0: from 0, by the same step
 abbrev pub fnv0 : ℕ → ℕ → List ℕ → ℕ

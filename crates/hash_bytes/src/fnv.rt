@@ -5,28 +5,8 @@ ghost use Rattle.std.proofs.Common.{lit<};
 ghost use Rattle.hash_bytes.specs.Fnv.{fnv1a32_step, fnv1a64_step, fnv0, fnv1a32_basis, fnv1a32_from, fnv1a64_basis, fnv1a64_from, fnv1a32_of, fnv1a64_of};
 ghost use Rattle.hash_bytes.specs.FnvLaws.{fnv1a32_facts, fnv1a64_facts};
 
-use hash_laws::traits::hash_of;
-use hash_rules::{ByteHasher, Plain, PlainRule, PlainUndo};
-use hash_writes::build::BuildFresh;
-use std::collections::{HashMap, HashSet};
-
-/// The start at 32 bits, which the authors call the offset basis.
-pub const BASIS_32: u32 = 2166136261;
-
-/// 2^24 + 2^8 + 0x93.
-pub const PRIME_32: u32 = 16777619;
-
-/// What undoes the product by `PRIME_32`.
-pub const UNPRIME_32: u32 = 899433627;
-
-/// The start at 64 bits.
-pub const BASIS_64: u64 = 14695981039346656037;
-
-/// 2^40 + 2^8 + 0xb3.
-pub const PRIME_64: u64 = 1099511628211;
-
-/// What undoes the product by `PRIME_64`.
-pub const UNPRIME_64: u64 = 0xce965057aff6957b;
+pub use hash_rules::constants::{BASIS_32, BASIS_64, PRIME_32, PRIME_64, UNPRIME_32, UNPRIME_64};
+use hash_rules::{ByteHasher, Plain, PlainRule, PlainUndo, hash_by_plain};
 
 /// The 32 bytes of which the authors took the starts: a line of Noll's signature.
 const SIGNATURE: [u8; 32] = *b"chongo <Landon Curt Noll> /\\../\\";
@@ -96,11 +76,11 @@ impl PlainUndo for Fnv1aRule32 {
 
 /// FNV-1a at 32 bits (the FNV authors' page, www.isthe.com/chongo/tech/comp/fnv).
 ///
-/// From 2166136261, a byte `b` takes the state `h` to `(h ^ b) * 16777619`, modulo 2^32; `finish` answers `h`, widened. Cuts
-/// don't show, and each write can be undone. Texts that differ in at most two neighbouring bytes never collide.
+/// From 2166136261, a byte `b` takes the state `h` to `(h ^ b) * 16777619`, modulo 2^32; `finish` returns `h`, widened. The
+/// split does not matter, and each write can be undone. Texts that differ in at most two adjacent bytes never collide.
 ///
 /// Contracts see the hasher as its state, a number below 2^32: `write` gives `h.new ≡ fnv1a32_from h.old bytes.now`, and
-/// `finish` answers `h.now`. Of `a` the hash is 3826002220.
+/// `finish` returns `h.now`. Of `a` the hash is 3826002220.
 pub type FNV1aHasher32 = ByteHasher<Plain<Fnv1aRule32>>;
 
 /// FNV-1a at 32 bits of the bytes.
@@ -108,7 +88,7 @@ pub fn fnv1a32(bytes: &[u8]) -> u64
     ensures value { result ≡ fnv1a32_of bytes.now }
     ensures below { result < 2 ^ 32 }
 {
-    hash_of::<FNV1aHasher32>(bytes)
+    hash_by_plain::<Fnv1aRule32>(bytes)
 }
 
 /// The rule of FNV-1a at 64 bits.
@@ -164,25 +144,16 @@ impl PlainUndo for Fnv1aRule64 {
 
 /// FNV-1a at 64 bits (the FNV authors' page, www.isthe.com/chongo/tech/comp/fnv).
 ///
-/// From 14695981039346656037, a byte `b` takes the state `h` to `(h ^ b) * 1099511628211`, modulo 2^64; `finish` answers `h`.
-/// Cuts don't show, and each write can be undone. Texts that differ in at most three neighbouring bytes never collide.
+/// From 14695981039346656037, a byte `b` takes the state `h` to `(h ^ b) * 1099511628211`, modulo 2^64; `finish` returns `h`.
+/// The split does not matter, and each write can be undone. Texts that differ in at most three adjacent bytes never collide.
 ///
 /// Contracts see the hasher as its state, a number below 2^64: `write` gives `h.new ≡ fnv1a64_from h.old bytes.now`, and
-/// `finish` answers `h.now`. Of `a` the hash is 12638187200555641996.
+/// `finish` returns `h.now`. Of `a` the hash is 12638187200555641996.
 pub type FNV1aHasher64 = ByteHasher<Plain<Fnv1aRule64>>;
 
 /// FNV-1a at 64 bits of the bytes.
 pub fn fnv1a64(bytes: &[u8]) -> u64
     ensures { result ≡ fnv1a64_of bytes.now }
 {
-    hash_of::<FNV1aHasher64>(bytes)
+    hash_by_plain::<Fnv1aRule64>(bytes)
 }
-
-/// Makes an [`FNV1aHasher64`] for each key of a map or a set, as the type of this name in the crate fnv does.
-pub type FnvBuildHasher = BuildFresh<FNV1aHasher64>;
-
-/// A map of std by FNV-1a at 64 bits: `FnvHashMap::with_hasher(alloc, FnvBuildHasher::new())` is an empty one.
-pub type FnvHashMap<K, V> = HashMap<K, V, FnvBuildHasher>;
-
-/// A set of std by FNV-1a at 64 bits.
-pub type FnvHashSet<K> = HashSet<K, FnvBuildHasher>;

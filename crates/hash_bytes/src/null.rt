@@ -8,11 +8,11 @@ ghost use Rattle.hash_laws.specs.Standing.{StandsAt};
 ghost use Rattle.hash_laws.proofs.ByteLemmas as bytewise;
 
 use hash_laws::traits::{Piecewise, Streamed, hash_of};
-use hash_rules::{ByteHasher, ByteRule, StepRule};
+use hash_rules::{ByteHasher, ByteRule, StepRule, hash_by_rule};
 use std::hash::Hasher;
 
 /// The hasher that answers 0 to every text (the crate hashers' own, the worst case for a table). The value written
-/// `NullHasher` is its default. `write` gives `h.new ≡ h.old`, and `finish` answers 0.
+/// `NullHasher` is its default. `write` gives `h.new ≡ h.old`, and `finish` returns 0.
 pub struct NullHasher;
 
 impl Drop for NullHasher {
@@ -120,7 +120,7 @@ pub fn null(bytes: &[u8]) -> u64
     hash_of::<NullHasher>(bytes)
 }
 
-/// One byte behind the state, as a digit in base 256.
+/// One byte after the state, as a digit in base 256.
 #[inline(always)]
 fn append_byte(state: u64, byte: u8) -> u64
     ensures { result ≡ passthrough_step state byte }
@@ -128,7 +128,7 @@ fn append_byte(state: u64, byte: u8) -> u64
     (state << 8) + u64::from(byte)
 }
 
-/// The bytes behind the state, one by one.
+/// The bytes after the state, one by one.
 #[inline(always)]
 fn append_few(state: u64, bytes: &[u8]) -> u64
     ensures { result ≡ passthrough_from state bytes.now }
@@ -140,7 +140,7 @@ fn append_few(state: u64, bytes: &[u8]) -> u64
     state
 }
 
-/// The hash with more bytes behind: what a [`PassThroughHasher`] of this state comes to. Only the last eight bytes are read.
+/// The hash after appending more bytes: what a [`PassThroughHasher`] of this state comes to. Only the last eight bytes are read.
 #[inline(always)]
 pub fn passthrough_from(state: u64, bytes: &[u8]) -> u64
     ensures { result ≡ passthrough_from state bytes.now }
@@ -207,7 +207,7 @@ impl ByteRule for PassThroughRule {
 }
 
 /// The hasher that keeps the last eight bytes (the crate hashers' own, for keys that are hashes already). From 0, a byte
-/// `b` takes the state `h` to `256 * h + b`, modulo 2^64; `finish` answers `h`. Cuts don't show.
+/// `b` takes the state `h` to `256 * h + b`, modulo 2^64; `finish` returns `h`. The split does not matter.
 ///
 /// Contracts see the hasher as its state, a number below 2^64: `write` gives `h.new ≡ passthrough_from h.old bytes.now`. Of `a`
 /// the hash is 97.
@@ -218,10 +218,10 @@ pub fn passthrough(bytes: &[u8]) -> u64
     ensures value { result ≡ passthrough_from 0 bytes.now }
     ensures last { result ≡ digit_sum 256 (drop (length bytes.now - 8) bytes.now) }
 {
-    hash_of::<PassThroughHasher>(bytes)
+    hash_by_rule::<PassThroughRule>(bytes)
 }
 
-/// The law of passthrough of a joined text, with no code: the second part's bytes stand behind the first part's, as digits in
+/// The law of passthrough of a joined text, with no code: the second part's bytes stand after the first part's, as digits in
 /// base 256, of which eight are kept.
 pub fn passthrough_of_joined_texts()
     ensures { (x y : List ℕ) → passthrough_from 0 (x ++ y)

@@ -1,7 +1,6 @@
 -- What a caller's state of a hash by the block stands for after more bytes.
-use Rattle.std.proofs.Common.{ℕ, ◌≡◌, ◌+◌, ◌%◌, ◌^◌, ◌<◌, List, ◌++◌, length, take, refl, ap, ◌∙◌}
+use Rattle.hash_c.proofs.Common.{ℕ, ◌≡◌, ◌+◌, ◌%◌, ◌^◌, ◌<◌, List, ◌++◌, length, take, refl, ap, ◌∙◌, same_position, after-position}
 use Rattle.hash_blocks.specs.Blocks.{blocks, tail, Position, position, position_of, after}
-use Rattle.hash_blocks.specs.BlocksLaws.{same_position, after-position}
 
 module _ {S : Type 0} (n : ℕ) (some : 0 < n) (block : S → List ℕ → S) where
   -- it stands behind the longer text

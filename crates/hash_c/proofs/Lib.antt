@@ -1,3 +1,4 @@
+pub mod Common
 pub mod BlockLemmas
 pub mod LineLemmas
 pub mod OffsetLemmas

@@ -1,7 +1,5 @@
 -- Numbers written over others one after another.
-use Rattle.std.proofs.Common.{ℕ, suc, zero, ◌≡◌, ◌+◌, ◌<◌, ◌≤◌, List, [], ◌∷◌, ◌++◌, length, get_or, map, set, take, refl, sym, ap, ◌∙◌, arith}
-use Rattle.std.proofs.lemmas.List.{length-map, map-append}
-use Rattle.hash_c.specs.Lines.{laid_over}
+use Rattle.hash_c.proofs.Common.{ℕ, suc, zero, ◌≡◌, ◌+◌, ◌<◌, ◌≤◌, List, [], ◌∷◌, ◌++◌, length, get_or, map, set, take, refl, sym, ap, ◌∙◌, arith, length-map, map-append, laid_over}
 
 -- one number more, where there is room
 pub laid_one_more : (numbers others : List ℕ) (x : ℕ) → length numbers < length others

@@ -1,6 +1,5 @@
 -- Places of which none falls: the last is the highest.
-use Rattle.std.proofs.Common.{ℕ, suc, zero, ◌≡◌, ◌+◌, ◌-◌, ◌≤◌, List, length, slice_index, subst, arith}
-use Rattle.hash_c.specs.Columns.{AreOffsets, NoneFalls}
+use Rattle.hash_c.proofs.Common.{ℕ, suc, zero, ◌≡◌, ◌+◌, ◌-◌, ◌≤◌, List, length, slice_index, subst, arith, AreOffsets, NoneFalls}
 
 -- a later place is no lower
 pub later_is_higher : (count : ℕ) (places : List ℕ) → NoneFalls count places → (i d : ℕ) → i + d ≤ count

@@ -6,10 +6,10 @@ use Rattle.hash_bloom.specs.Filter.{Filter, Adds, AllPassIn, HasRoom, IsProbe, P
 abbrev pub IsFound : (f g : List ℕ → ℕ) → Filter → List ℕ → Type 0
 IsFound f g filter key = HasRoom filter × Passes f g filter key
 
--- the key is inserted, and what is answered says whether it possibly was before; where there is no room, nothing changes
+-- the key is inserted, and the answer says that it is new: it did not pass before; where there is no room, nothing changes
 pub record IsInserted (f g : List ℕ → ℕ) (old new : Filter) (key : List ℕ) (answer : Bool) : Type 0 where
   pub inserted : HasRoom old → Adds old new (IsProbe f g old key)
   pub passes : HasRoom old → Passes f g new key
   pub kept : AllPassIn f g old new
-  pub before : IsTrue answer ↔ IsFound f g old key
+  pub is_new : IsTrue answer ↔ (HasRoom old × (Passes f g old key → ⊥))
   pub refused : (HasRoom old → ⊥) → new ≡ old

@@ -1,7 +1,7 @@
 -- The names of hashes by their numbers.
 use Rattle.std.specs.Prelude.{ℕ, List, [], Option, Some, None}
-use Rattle.hash_names.specs.declared.table.Kind.{Kind}
-use Rattle.hash_names.specs.Named.{kind_at, name_of}
+use Rattle.hash_kinds.specs.declared.table.Kind.{Kind}
+use Rattle.hash_kinds.specs.Named.{kind_at, name_of}
 
 -- the name of a hash, if there is one
 abbrev pub name_in : Option Kind → List ℕ

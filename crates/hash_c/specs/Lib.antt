@@ -1,3 +1,4 @@
+pub mod Common
 pub mod BlockStates
 pub mod InWords
 pub mod Blooms

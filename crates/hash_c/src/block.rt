@@ -1,13 +1,8 @@
 //! Hashes by the block under a seed or a key: of a whole text, and of a text in parts. The caller keeps the state.
-ghost use Rattle.std.specs.Prelude.{◌≡◌, ◌<◌, ℕ, List, [], ◌++◌, Some, None, take};
+ghost use Rattle.std.specs.Prelude.{◌≡◌, ◌<◌, ◌++◌};
+ghost use Rattle.hash_c.specs.Common.{ℕ, List, [], Some, None, take, AreZeros, murmur3_32, murmur3_128, siphash, xxh32, xxh64};
 ghost use Rattle.hash_blocks.specs.Blocks.{blocks, tail};
 ghost use Rattle.hash_c.specs.BlockStates.{IsMurmur3State, IsMurmur32State, IsSip13State, IsSip24State, IsStateOf, IsUsable, IsXxh32State, IsXxh64State, mark_murmur3, mark_murmur3_32, mark_siphash13, mark_siphash24, mark_xxh32, mark_xxh64};
-ghost use Rattle.hash_c.specs.SpookyState.{AreZeros};
-ghost use Rattle.hash_murmur3.specs.Murmur3.{murmur3_32};
-ghost use Rattle.hash_murmur3.specs.Murmur3x128.{murmur3_128};
-ghost use Rattle.hash_siphash.specs.SipHash.{siphash};
-ghost use Rattle.hash_xxhash.specs.Xxh32.{xxh32};
-ghost use Rattle.hash_xxhash.specs.Xxh64.{xxh64};
 
 use crate::in_words::InWords;
 use crate::spooky::{Words, two_words};

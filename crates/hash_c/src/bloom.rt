@@ -1,12 +1,9 @@
 //! A Bloom filter in words that the caller keeps, beside its numbers of bits and probes. There is room for a filter where it has a bit
 //! and a probe at least, and as many words as the bits need; where there is none, a call answers `false` and changes nothing.
-ghost use Rattle.std.specs.Prelude.{◌≡◌, ◌↔◌, ℕ, List, IsTrue, length};
-ghost use Rattle.std.specs.Bool.{OnFalse, OnTrue};
+ghost use Rattle.std.specs.Prelude.{◌≡◌, ◌↔◌};
+ghost use Rattle.hash_c.specs.Common.{ℕ, List, IsTrue, length, OnFalse, OnTrue, fnv1a64_of, lookup3_of, spooky};
 ghost use Rattle.hash_bloom.specs.Filter.{Adds, AllPassIn, IsSet, filter_of};
 ghost use Rattle.hash_c.specs.Blooms.{IsFound, IsInserted};
-ghost use Rattle.hashers.specs.Fnv.{fnv1a64_of};
-ghost use Rattle.hashers.specs.Lookup3.{lookup3_of};
-ghost use Rattle.hashers.specs.Spooky.{spooky};
 
 use hash_bloom::words;
 use hashers::fnv::FNV1aHasher64;
@@ -14,7 +11,7 @@ use hashers::jenkins::Lookup3Hasher;
 use hashers::jenkins::spooky_hash::SpookyHasher;
 use hashers::laws::Piecewise;
 
-/// Inserts the key, and answers whether the bits at all of its places were set before.
+/// Inserts the key, and answers whether it is new.
 #[inline(always)]
 fn insert<F: Piecewise, G: Piecewise>(words: &mut [u64], bits: u64, probes: u32, key: &[u8]) -> bool
     ensures { IsInserted F.hash_of G.hash_of
@@ -31,37 +28,8 @@ fn contains<F: Piecewise, G: Piecewise>(words: &[u64], bits: u64, probes: u32, k
     words::has_room(words, bits, probes) && words::contains::<F, G>(words, bits, probes, key)
 }
 
-/// Inserts the key by fnv1a64 and lookup3. It answers whether the bits at all of its places were set before: `false` says that this key was not
-/// inserted before, and `true` that it possibly was.
-#[unsafe(no_mangle)]
-pub extern "C" fn hashers_bloom_fnv1a64_lookup3_insert(
-    words: &mut [u64],
-    bits: u64,
-    probes: u32,
-    key: &[u8],
-) -> bool
-    ensures { IsInserted fnv1a64_of lookup3_of
-        (filter_of bits probes words.old) (filter_of bits probes words.new) key.now result }
-{
-    insert::<FNV1aHasher64, Lookup3Hasher>(words, bits, probes, key)
-}
-
-/// Whether the key is found by fnv1a64 and lookup3. It is if it was inserted, and possibly if not.
-#[unsafe(no_mangle)]
-pub extern "C" fn hashers_bloom_fnv1a64_lookup3_contains(
-    words: &[u64],
-    bits: u64,
-    probes: u32,
-    key: &[u8],
-) -> bool
-    ensures { IsTrue result ↔ IsFound fnv1a64_of lookup3_of
-        (filter_of bits probes words.now) key.now }
-{
-    contains::<FNV1aHasher64, Lookup3Hasher>(words, bits, probes, key)
-}
-
-/// Inserts the key by spooky and lookup3. It answers whether the bits at all of its places were set before: `false` says that this key was not
-/// inserted before, and `true` that it possibly was.
+/// Inserts the key by spooky and lookup3, and answers whether it is new, as a set does: `true` says that it was not inserted before, and
+/// `false` that it possibly was.
 #[unsafe(no_mangle)]
 pub extern "C" fn hashers_bloom_spooky_lookup3_insert(
     words: &mut [u64],
@@ -87,6 +55,35 @@ pub extern "C" fn hashers_bloom_spooky_lookup3_contains(
         (filter_of bits probes words.now) key.now }
 {
     contains::<SpookyHasher, Lookup3Hasher>(words, bits, probes, key)
+}
+
+/// Inserts the key by fnv1a64 and lookup3, and answers whether it is new, as a set does: `true` says that it was not inserted before, and
+/// `false` that it possibly was.
+#[unsafe(no_mangle)]
+pub extern "C" fn hashers_bloom_fnv1a64_lookup3_insert(
+    words: &mut [u64],
+    bits: u64,
+    probes: u32,
+    key: &[u8],
+) -> bool
+    ensures { IsInserted fnv1a64_of lookup3_of
+        (filter_of bits probes words.old) (filter_of bits probes words.new) key.now result }
+{
+    insert::<FNV1aHasher64, Lookup3Hasher>(words, bits, probes, key)
+}
+
+/// Whether the key is found by fnv1a64 and lookup3. It is if it was inserted, and possibly if not.
+#[unsafe(no_mangle)]
+pub extern "C" fn hashers_bloom_fnv1a64_lookup3_contains(
+    words: &[u64],
+    bits: u64,
+    probes: u32,
+    key: &[u8],
+) -> bool
+    ensures { IsTrue result ↔ IsFound fnv1a64_of lookup3_of
+        (filter_of bits probes words.now) key.now }
+{
+    contains::<FNV1aHasher64, Lookup3Hasher>(words, bits, probes, key)
 }
 
 /// Adds the bits of another filter of as many bits and probes, by whatever hashes, and answers whether it has as many words; else

@@ -1,5 +1,6 @@
 //! The chunks of a text by its content.
-ghost use Rattle.std.specs.Prelude.{◌≡◌, ◌++◌, length, take, drop, min};
+ghost use Rattle.std.specs.Prelude.{◌≡◌, ◌++◌};
+ghost use Rattle.hash_c.specs.Common.{length, take, drop, min};
 ghost use Rattle.hash_c.specs.Chunks.{AreCutting, cutting_of};
 ghost use Rattle.hash_cuts.specs.Cuts.{chunk_ends};
 

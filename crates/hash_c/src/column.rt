@@ -1,11 +1,8 @@
 //! The hashes of many texts in one call, as one body for every hash: of texts between offsets of 32 or of 64 bits, and of lines.
-ghost use Rattle.std.specs.Prelude.{◌≡◌, ◌+◌, ◌<◌, ◌↔◌, ◌∷◌, ℕ, List, length, map, slice_index, IsSome, IsTrue};
-ghost use Rattle.hash_c.specs.Columns.{AreOffsets, IsColumn, IsColumnBy, NoneFalls};
-ghost use Rattle.hash_c.specs.Lines.{laid_over};
-ghost use Rattle.text_set.specs.Lines.{line_texts};
-ghost use Rattle.hash_names.specs.Named.{hash_at, hash_of, kind_at};
+ghost use Rattle.std.specs.Prelude.{◌≡◌, ◌+◌, ◌<◌, ◌↔◌, ◌∷◌};
+ghost use Rattle.hash_c.specs.Common.{ℕ, List, length, map, slice_index, IsSome, IsTrue, AreOffsets, IsColumn, IsColumnBy, NoneFalls, laid_over, line_texts, hash_at, hash_of, kind_at};
 
-use hash_names::table::{Kind, by_kind, kind_at};
+use hash_kinds::table::{Kind, by_kind, kind_at};
 use hash_names::task::HashTask;
 use hashers::laws::{Piecewise, Streamed, hash_of};
 use std::marker::PhantomData;

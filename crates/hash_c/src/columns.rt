@@ -1,6 +1,6 @@
 //! The hashes of a column of texts, by the number of a hash, under offsets of 32 and of 64 bits. Text i lies from offset i to offset
 //! i + 1.
-ghost use Rattle.hash_c.specs.Columns.{IsColumnBy};
+ghost use Rattle.hash_c.specs.Common.{IsColumnBy};
 
 use crate::column::column_by;
 

@@ -1,8 +1,6 @@
 //! The hash of two texts joined, from their hashes and the second one's length.
-ghost use Rattle.std.specs.Prelude.{◌≡◌, ◌+◌, ◌*◌, ◌%◌, ◌^◌, List, ℕ, ◌++◌, length, bit_xor};
-ghost use Rattle.hash_more.specs.Crc32.{ieee, castagnoli, bits_out, crc32_of, crc32c_of};
-ghost use Rattle.hashers.specs.Sums.{loselose_from, passthrough_from, sdbm_from};
-ghost use Rattle.hashers.specs.Text.{IsText};
+ghost use Rattle.std.specs.Prelude.{◌≡◌, ◌+◌, ◌*◌, ◌%◌, ◌^◌, ◌++◌};
+ghost use Rattle.hash_c.specs.Common.{List, ℕ, length, bit_xor, ieee, castagnoli, bits_out, crc32_of, crc32c_of, loselose_from, passthrough_from, sdbm_from, IsText};
 
 use hash_more::crc32;
 use hashers::{null, oz};
@@ -31,7 +29,8 @@ pub extern "C" fn hashers_loselose_combine(hash1: u64, hash2: u64, n2: u64) -> u
 #[unsafe(no_mangle)]
 pub extern "C" fn hashers_passthrough_combine(hash1: u64, hash2: u64, n2: u64) -> u64
     ensures value { result ≡ (hash1 * 256 ^ n2 + hash2) % 2 ^ 64 }
-    ensures joined { (x y : List ℕ) → length y ≡ n2 → hash1 ≡ passthrough_from 0 x → hash2 ≡ passthrough_from 0 y
+    ensures joined { (x y : List ℕ) → length y ≡ n2 → hash1 ≡ passthrough_from 0 x
+        → hash2 ≡ passthrough_from 0 y
         → result ≡ passthrough_from 0 (x ++ y) }
 {
     null::passthrough_combine(hash1, hash2, n2)

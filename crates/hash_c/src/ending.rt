@@ -1,8 +1,7 @@
 //! The ending that makes the hash of a text the one that is wanted.
-ghost use Rattle.std.specs.Prelude.{◌≡◌, ◌%◌, ◌^◌, ℕ, List, ◌++◌, length};
+ghost use Rattle.std.specs.Prelude.{◌≡◌, ◌%◌, ◌^◌, ◌++◌};
+ghost use Rattle.hash_c.specs.Common.{ℕ, List, length, crc32_of, IsText};
 ghost use Rattle.std.specs.Int.{to_le_bytes, w32};
-ghost use Rattle.hash_more.specs.Crc32.{crc32_of};
-ghost use Rattle.hashers.specs.Text.{IsText};
 
 use hash_more::crc32;
 

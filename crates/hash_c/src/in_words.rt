@@ -1,5 +1,6 @@
 //! What is kept of whole blocks as whole numbers alone.
-ghost use Rattle.std.specs.Prelude.{◌≡◌, ◌≤◌, ◌%◌, ◌^◌, ℕ, List};
+ghost use Rattle.std.specs.Prelude.{◌≡◌, ◌≤◌, ◌%◌, ◌^◌};
+ghost use Rattle.hash_c.specs.Common.{ℕ, List};
 ghost use Rattle.std.proofs.Common.{lit≤};
 ghost use Rattle.hash_c.specs.InWords.{of_murmur3, of_murmur3_32, of_siphash, of_xxh32, of_xxh64};
 

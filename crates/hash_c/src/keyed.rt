@@ -1,6 +1,7 @@
 //! The polynomial hash at a key of the caller's: of a whole text, at two keys, of two texts joined, and of a text in parts. A key is any number, of which the
 //! remainder modulo 2^61 - 1 counts.
-ghost use Rattle.std.specs.Prelude.{◌≡◌, ◌≢◌, ◌%◌, ℕ, List, [], ◌++◌, length};
+ghost use Rattle.std.specs.Prelude.{◌≡◌, ◌≢◌, ◌%◌, ◌++◌};
+ghost use Rattle.hash_c.specs.Common.{ℕ, List, [], length};
 ghost use Rattle.hash_keyed.specs.Poly61.{poly_state, prime61};
 ghost use Rattle.hash_keyed.specs.Poly61State.{IsPosition, StandsBehind, as_word, joined_value, place_of, poly61};
 

@@ -1,10 +1,9 @@
 //! Hashes by their numbers, for callers that choose at run time: the number of a name, the name of a number, and the hash of a text.
-ghost use Rattle.std.specs.Prelude.{◌≡◌, length};
+ghost use Rattle.std.specs.Prelude.{◌≡◌};
+ghost use Rattle.hash_c.specs.Common.{length, laid_over, hash_at, kind_at, kind_named};
 ghost use Rattle.hash_c.specs.Kinds.{name_at};
-ghost use Rattle.hash_c.specs.Lines.{laid_over};
-ghost use Rattle.hash_names.specs.Named.{hash_at, kind_at, kind_named};
 
-use hash_names::table::{by_kind, kind_at, number_named};
+use hash_kinds::table::{by_kind, kind_at, number_named};
 use hash_names::task::HashTask;
 use hashers::laws::{Piecewise, Streamed, hash_of};
 use std::marker::PhantomData;

@@ -25,7 +25,7 @@ mod xxh3;
 /// The version of the library, of which VERSION at the top says the three parts: 10000 * major + 100 * minor + patch.
 #[unsafe(no_mangle)]
 pub extern "C" fn hashers_version() -> u32
-    ensures { result ≡ 10001 }
+    ensures { result ≡ 100 }
 {
-    10001
+    100
 }

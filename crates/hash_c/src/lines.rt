@@ -1,9 +1,7 @@
 //! The hashes of the lines of a text, by the number of a hash. A newline ends a line and is none of its bytes; the last line may have
 //! none. The answer is how many lines there are: where there is room for fewer hashes, those of the first lines are written.
-ghost use Rattle.std.specs.Prelude.{◌≡◌, length, map, IsSome};
-ghost use Rattle.hash_c.specs.Lines.{laid_over};
-ghost use Rattle.text_set.specs.Lines.{line_texts};
-ghost use Rattle.hash_names.specs.Named.{hash_at, kind_at};
+ghost use Rattle.std.specs.Prelude.{◌≡◌};
+ghost use Rattle.hash_c.specs.Common.{length, map, IsSome, laid_over, line_texts, hash_at, kind_at};
 
 use crate::column::lines_by;
 

@@ -1,9 +1,9 @@
 //! Numbers under a key of the caller's: one, and a column of them.
-ghost use Rattle.std.specs.Prelude.{◌≡◌, ◌↔◌, IsTrue, length};
-ghost use Rattle.std.specs.Bool.{OnTrue, OnFalse};
+ghost use Rattle.std.specs.Prelude.{◌≡◌, ◌↔◌};
+ghost use Rattle.hash_c.specs.Common.{IsTrue, length, OnTrue, OnFalse};
 ghost use Rattle.hash_c.specs.Numbers.{AreNumberHashes, hash_at_key};
 
-use hash_names::wide::both;
+use hash_kinds::wide::both;
 use hash_numbers::number::number_hash;
 
 /// A multiplier and an addend of 128 bits, each in two halves.

@@ -1,19 +1,8 @@
 //! Texts that come in parts. The hash so far is all that is kept, but for SpookyHash: `write` takes it to the hash with more bytes
 //! behind, and `unwrite` to the hash without the last ones. The hash of no bytes is where a text begins. Every number is a hash so
 //! far: of one of 32 bits the low 32 are taken.
-ghost use Rattle.std.specs.Prelude.{◌≡◌, ◌<◌, ◌^◌, ◌/◌, ◌%◌, ℕ};
-ghost use Rattle.hash_more.specs.Crc32.{ieee, castagnoli, crc_from, crc_answer};
-ghost use Rattle.hash_more.specs.Djb2Add.{djb2_add_from};
-ghost use Rattle.hash_more.specs.Elf.{elf_from};
-ghost use Rattle.hash_more.specs.Fnv1.{fnv1_32_from, fnv1_64_from};
-ghost use Rattle.hash_more.specs.Joaat.{joaat_from, joaat_answer};
-ghost use Rattle.hashers.specs.Fnv.{fnv1a32_from, fnv1a64_from};
-ghost use Rattle.hashers.specs.Fx.{fx32, fx64, words32, words64};
-ghost use Rattle.hashers.specs.Lookup3.{lookup3_from, lookup3_answer};
-ghost use Rattle.hashers.specs.Oaat.{oaat_state, oaat_finish};
-ghost use Rattle.hashers.specs.Oz.{djb2_from};
-ghost use Rattle.hashers.specs.Pigeon.{bricolage_from};
-ghost use Rattle.hashers.specs.Sums.{loselose_from, passthrough_from, sdbm_from};
+ghost use Rattle.std.specs.Prelude.{◌≡◌, ◌<◌, ◌^◌, ◌/◌, ◌%◌};
+ghost use Rattle.hash_c.specs.Common.{ℕ, ieee, castagnoli, crc_from, crc_answer, djb2_add_from, elf_from, fnv1_32_from, fnv1_64_from, joaat_from, joaat_answer, fnv1a32_from, fnv1a64_from, fx32, fx64, words32, words64, lookup3_from, lookup3_answer, oaat_state, oaat_finish, djb2_from, bricolage_from, loselose_from, passthrough_from, sdbm_from};
 
 use hash_more::crc32::{Crc32Hasher, Crc32cHasher};
 use hash_more::djb2_add::Djb2AddHasher;
@@ -47,8 +36,10 @@ fn at<H: Undo>(hash: u64) -> H
 #[inline(always)]
 fn written<H: Undo>(hash: u64, bytes: &[u8]) -> u64
     requires { H.is_answer hash }
-    ensures follows { (s : H.State) → H.in_range s → H.answer s ≡ hash → result ≡ H.answer (H.after s bytes.now) }
-    ensures some { (s : H.State) × H.in_range s × (H.answer s ≡ hash) × (result ≡ H.answer (H.after s bytes.now)) }
+    ensures follows { (s : H.State) → H.in_range s → H.answer s ≡ hash
+        → result ≡ H.answer (H.after s bytes.now) }
+    ensures some { (s : H.State) × H.in_range s × (H.answer s ≡ hash)
+        × (result ≡ H.answer (H.after s bytes.now)) }
 {
     let mut hasher = at::<H>(hash);
     hasher.feed(bytes);
@@ -59,8 +50,10 @@ fn written<H: Undo>(hash: u64, bytes: &[u8]) -> u64
 #[inline(always)]
 fn unwritten<H: Undo>(hash: u64, bytes: &[u8]) -> u64
     requires { H.is_answer hash }
-    ensures back { (s : H.State) → H.in_range s → H.answer s ≡ result → H.answer (H.after s bytes.now) ≡ hash }
-    ensures undone { (s : H.State) → H.in_range s → H.answer (H.after s bytes.now) ≡ hash → result ≡ H.answer s }
+    ensures back { (s : H.State) → H.in_range s → H.answer s ≡ result
+        → H.answer (H.after s bytes.now) ≡ hash }
+    ensures undone { (s : H.State) → H.in_range s → H.answer (H.after s bytes.now) ≡ hash
+        → result ≡ H.answer s }
     ensures reached { (bound : ℕ) → ((s : H.State) → H.in_range s → H.answer s < bound) → result < bound }
 {
     let mut hasher = at::<H>(hash);
@@ -68,7 +61,8 @@ fn unwritten<H: Undo>(hash: u64, bytes: &[u8]) -> u64
     hasher.answer()
 }
 
-/// The hash of fnv1a32 with more bytes behind.
+// declared: parts
+/// The hash `fnv1a32` after more bytes.
 #[unsafe(no_mangle)]
 pub extern "C" fn hashers_fnv1a32_write(hash: u64, bytes: &[u8]) -> u64
     ensures { result ≡ fnv1a32_from (hash % 2 ^ 32) bytes.now }
@@ -76,7 +70,7 @@ pub extern "C" fn hashers_fnv1a32_write(hash: u64, bytes: &[u8]) -> u64
     written::<FNV1aHasher32>(hash % 4294967296, bytes)
 }
 
-/// The hash of fnv1a32 without the last bytes.
+/// The hash `fnv1a32` without the last bytes.
 #[unsafe(no_mangle)]
 pub extern "C" fn hashers_fnv1a32_unwrite(hash: u64, bytes: &[u8]) -> u64
     ensures back { fnv1a32_from result bytes.now ≡ hash % 2 ^ 32 }
@@ -85,7 +79,7 @@ pub extern "C" fn hashers_fnv1a32_unwrite(hash: u64, bytes: &[u8]) -> u64
     unwritten::<FNV1aHasher32>(hash % 4294967296, bytes)
 }
 
-/// The hash of fnv1a64 with more bytes behind.
+/// The hash `fnv1a64` after more bytes.
 #[unsafe(no_mangle)]
 pub extern "C" fn hashers_fnv1a64_write(hash: u64, bytes: &[u8]) -> u64
     ensures { result ≡ fnv1a64_from hash bytes.now }
@@ -93,7 +87,7 @@ pub extern "C" fn hashers_fnv1a64_write(hash: u64, bytes: &[u8]) -> u64
     written::<FNV1aHasher64>(hash, bytes)
 }
 
-/// The hash of fnv1a64 without the last bytes.
+/// The hash `fnv1a64` without the last bytes.
 #[unsafe(no_mangle)]
 pub extern "C" fn hashers_fnv1a64_unwrite(hash: u64, bytes: &[u8]) -> u64
     ensures back { fnv1a64_from result bytes.now ≡ hash }
@@ -102,7 +96,7 @@ pub extern "C" fn hashers_fnv1a64_unwrite(hash: u64, bytes: &[u8]) -> u64
     unwritten::<FNV1aHasher64>(hash, bytes)
 }
 
-/// The hash of djb2 with more bytes behind.
+/// The hash `djb2` after more bytes.
 #[unsafe(no_mangle)]
 pub extern "C" fn hashers_djb2_write(hash: u64, bytes: &[u8]) -> u64
     ensures { result ≡ djb2_from (hash % 2 ^ 32) bytes.now }
@@ -110,7 +104,7 @@ pub extern "C" fn hashers_djb2_write(hash: u64, bytes: &[u8]) -> u64
     written::<DJB2Hasher>(hash % 4294967296, bytes)
 }
 
-/// The hash of djb2 without the last bytes.
+/// The hash `djb2` without the last bytes.
 #[unsafe(no_mangle)]
 pub extern "C" fn hashers_djb2_unwrite(hash: u64, bytes: &[u8]) -> u64
     ensures back { djb2_from result bytes.now ≡ hash % 2 ^ 32 }
@@ -119,7 +113,7 @@ pub extern "C" fn hashers_djb2_unwrite(hash: u64, bytes: &[u8]) -> u64
     unwritten::<DJB2Hasher>(hash % 4294967296, bytes)
 }
 
-/// The hash of sdbm with more bytes behind.
+/// The hash `sdbm` after more bytes.
 #[unsafe(no_mangle)]
 pub extern "C" fn hashers_sdbm_write(hash: u64, bytes: &[u8]) -> u64
     ensures { result ≡ sdbm_from (hash % 2 ^ 32) bytes.now }
@@ -127,7 +121,7 @@ pub extern "C" fn hashers_sdbm_write(hash: u64, bytes: &[u8]) -> u64
     written::<SDBMHasher>(hash % 4294967296, bytes)
 }
 
-/// The hash of sdbm without the last bytes.
+/// The hash `sdbm` without the last bytes.
 #[unsafe(no_mangle)]
 pub extern "C" fn hashers_sdbm_unwrite(hash: u64, bytes: &[u8]) -> u64
     ensures back { sdbm_from result bytes.now ≡ hash % 2 ^ 32 }
@@ -136,7 +130,7 @@ pub extern "C" fn hashers_sdbm_unwrite(hash: u64, bytes: &[u8]) -> u64
     unwritten::<SDBMHasher>(hash % 4294967296, bytes)
 }
 
-/// The hash of lose lose with more bytes behind.
+/// The hash `loselose` after more bytes.
 #[unsafe(no_mangle)]
 pub extern "C" fn hashers_loselose_write(hash: u64, bytes: &[u8]) -> u64
     ensures { result ≡ loselose_from hash bytes.now }
@@ -144,7 +138,7 @@ pub extern "C" fn hashers_loselose_write(hash: u64, bytes: &[u8]) -> u64
     written::<LoseLoseHasher>(hash, bytes)
 }
 
-/// The hash of lose lose without the last bytes.
+/// The hash `loselose` without the last bytes.
 #[unsafe(no_mangle)]
 pub extern "C" fn hashers_loselose_unwrite(hash: u64, bytes: &[u8]) -> u64
     ensures back { loselose_from result bytes.now ≡ hash }
@@ -153,7 +147,7 @@ pub extern "C" fn hashers_loselose_unwrite(hash: u64, bytes: &[u8]) -> u64
     unwritten::<LoseLoseHasher>(hash, bytes)
 }
 
-/// The hash of bricolage with more bytes behind.
+/// The hash `bricolage` after more bytes.
 #[unsafe(no_mangle)]
 pub extern "C" fn hashers_bricolage_write(hash: u64, bytes: &[u8]) -> u64
     ensures { result ≡ bricolage_from hash bytes.now }
@@ -161,7 +155,7 @@ pub extern "C" fn hashers_bricolage_write(hash: u64, bytes: &[u8]) -> u64
     written::<Bricolage>(hash, bytes)
 }
 
-/// The hash of bricolage without the last bytes.
+/// The hash `bricolage` without the last bytes.
 #[unsafe(no_mangle)]
 pub extern "C" fn hashers_bricolage_unwrite(hash: u64, bytes: &[u8]) -> u64
     ensures back { bricolage_from result bytes.now ≡ hash }
@@ -170,7 +164,7 @@ pub extern "C" fn hashers_bricolage_unwrite(hash: u64, bytes: &[u8]) -> u64
     unwritten::<Bricolage>(hash, bytes)
 }
 
-/// The hash of fxhash with more bytes behind.
+/// The hash `fxhash` after more bytes.
 #[unsafe(no_mangle)]
 pub extern "C" fn hashers_fxhash_write(hash: u64, bytes: &[u8]) -> u64
     ensures { result ≡ fx64 hash (words64 bytes.now) }
@@ -178,7 +172,7 @@ pub extern "C" fn hashers_fxhash_write(hash: u64, bytes: &[u8]) -> u64
     written::<FxHasher>(hash, bytes)
 }
 
-/// The hash of fxhash without the last bytes.
+/// The hash `fxhash` without the last bytes.
 #[unsafe(no_mangle)]
 pub extern "C" fn hashers_fxhash_unwrite(hash: u64, bytes: &[u8]) -> u64
     ensures back { fx64 result (words64 bytes.now) ≡ hash }
@@ -187,7 +181,7 @@ pub extern "C" fn hashers_fxhash_unwrite(hash: u64, bytes: &[u8]) -> u64
     unwritten::<FxHasher>(hash, bytes)
 }
 
-/// The hash of fxhash32 with more bytes behind.
+/// The hash `fxhash32` after more bytes.
 #[unsafe(no_mangle)]
 pub extern "C" fn hashers_fxhash32_write(hash: u64, bytes: &[u8]) -> u64
     ensures { result ≡ fx32 (hash % 2 ^ 32) (words32 bytes.now) }
@@ -195,7 +189,7 @@ pub extern "C" fn hashers_fxhash32_write(hash: u64, bytes: &[u8]) -> u64
     written::<FxHasher32>(hash % 4294967296, bytes)
 }
 
-/// The hash of fxhash32 without the last bytes.
+/// The hash `fxhash32` without the last bytes.
 #[unsafe(no_mangle)]
 pub extern "C" fn hashers_fxhash32_unwrite(hash: u64, bytes: &[u8]) -> u64
     ensures back { fx32 result (words32 bytes.now) ≡ hash % 2 ^ 32 }
@@ -204,7 +198,7 @@ pub extern "C" fn hashers_fxhash32_unwrite(hash: u64, bytes: &[u8]) -> u64
     unwritten::<FxHasher32>(hash % 4294967296, bytes)
 }
 
-/// The hash of fxhash64 with more bytes behind.
+/// The hash `fxhash64` after more bytes.
 #[unsafe(no_mangle)]
 pub extern "C" fn hashers_fxhash64_write(hash: u64, bytes: &[u8]) -> u64
     ensures { result ≡ fx64 hash (words64 bytes.now) }
@@ -212,7 +206,7 @@ pub extern "C" fn hashers_fxhash64_write(hash: u64, bytes: &[u8]) -> u64
     written::<FxHasher64>(hash, bytes)
 }
 
-/// The hash of fxhash64 without the last bytes.
+/// The hash `fxhash64` without the last bytes.
 #[unsafe(no_mangle)]
 pub extern "C" fn hashers_fxhash64_unwrite(hash: u64, bytes: &[u8]) -> u64
     ensures back { fx64 result (words64 bytes.now) ≡ hash }
@@ -221,11 +215,66 @@ pub extern "C" fn hashers_fxhash64_unwrite(hash: u64, bytes: &[u8]) -> u64
     unwritten::<FxHasher64>(hash, bytes)
 }
 
+/// The hash `fnv1_32` after more bytes.
+#[unsafe(no_mangle)]
+pub extern "C" fn hashers_fnv1_32_write(hash: u64, bytes: &[u8]) -> u64
+    ensures { result ≡ fnv1_32_from (hash % 2 ^ 32) bytes.now }
+{
+    written::<Fnv1Hasher32>(hash % 4294967296, bytes)
+}
+
+/// The hash `fnv1_32` without the last bytes.
+#[unsafe(no_mangle)]
+pub extern "C" fn hashers_fnv1_32_unwrite(hash: u64, bytes: &[u8]) -> u64
+    ensures back { fnv1_32_from result bytes.now ≡ hash % 2 ^ 32 }
+    ensures undone { (s : ℕ) → s < 2 ^ 32 → fnv1_32_from s bytes.now ≡ hash % 2 ^ 32 → result ≡ s }
+{
+    unwritten::<Fnv1Hasher32>(hash % 4294967296, bytes)
+}
+
+/// The hash `fnv1_64` after more bytes.
+#[unsafe(no_mangle)]
+pub extern "C" fn hashers_fnv1_64_write(hash: u64, bytes: &[u8]) -> u64
+    ensures { result ≡ fnv1_64_from hash bytes.now }
+{
+    written::<Fnv1Hasher64>(hash, bytes)
+}
+
+/// The hash `fnv1_64` without the last bytes.
+#[unsafe(no_mangle)]
+pub extern "C" fn hashers_fnv1_64_unwrite(hash: u64, bytes: &[u8]) -> u64
+    ensures back { fnv1_64_from result bytes.now ≡ hash }
+    ensures undone { (s : ℕ) → s < 2 ^ 64 → fnv1_64_from s bytes.now ≡ hash → result ≡ s }
+{
+    unwritten::<Fnv1Hasher64>(hash, bytes)
+}
+
+/// The hash `djb2_add` after more bytes.
+#[unsafe(no_mangle)]
+pub extern "C" fn hashers_djb2_add_write(hash: u64, bytes: &[u8]) -> u64
+    ensures { result ≡ djb2_add_from (hash % 2 ^ 32) bytes.now }
+{
+    written::<Djb2AddHasher>(hash % 4294967296, bytes)
+}
+
+/// The hash `djb2_add` without the last bytes.
+#[unsafe(no_mangle)]
+pub extern "C" fn hashers_djb2_add_unwrite(hash: u64, bytes: &[u8]) -> u64
+    ensures back { djb2_add_from result bytes.now ≡ hash % 2 ^ 32 }
+    ensures undone { (s : ℕ) → s < 2 ^ 32 → djb2_add_from s bytes.now ≡ hash % 2 ^ 32 → result ≡ s }
+{
+    unwritten::<Djb2AddHasher>(hash % 4294967296, bytes)
+}
+
+// end of declared
+
 /// The hash of one-at-a-time with more bytes behind.
 #[unsafe(no_mangle)]
 pub extern "C" fn hashers_oaat_write(hash: u64, bytes: &[u8]) -> u64
-    ensures follows { (s : ℕ) → s < 2 ^ 64 → oaat_finish s ≡ hash → result ≡ oaat_finish (oaat_state s bytes.now) }
-    ensures some { (s : ℕ) × (s < 2 ^ 64) × (oaat_finish s ≡ hash) × (result ≡ oaat_finish (oaat_state s bytes.now)) }
+    ensures follows { (s : ℕ) → s < 2 ^ 64 → oaat_finish s ≡ hash
+        → result ≡ oaat_finish (oaat_state s bytes.now) }
+    ensures some { (s : ℕ) × (s < 2 ^ 64) × (oaat_finish s ≡ hash)
+        × (result ≡ oaat_finish (oaat_state s bytes.now)) }
 {
     written::<OAATHasher>(hash, bytes)
 }
@@ -252,8 +301,10 @@ pub extern "C" fn hashers_oaat_state_finish(state: u64) -> u64
 /// The hash of one-at-a-time without the last bytes.
 #[unsafe(no_mangle)]
 pub extern "C" fn hashers_oaat_unwrite(hash: u64, bytes: &[u8]) -> u64
-    ensures back { (s : ℕ) → s < 2 ^ 64 → oaat_finish s ≡ result → oaat_finish (oaat_state s bytes.now) ≡ hash }
-    ensures undone { (s : ℕ) → s < 2 ^ 64 → oaat_finish (oaat_state s bytes.now) ≡ hash → result ≡ oaat_finish s }
+    ensures back { (s : ℕ) → s < 2 ^ 64 → oaat_finish s ≡ result
+        → oaat_finish (oaat_state s bytes.now) ≡ hash }
+    ensures undone { (s : ℕ) → s < 2 ^ 64 → oaat_finish (oaat_state s bytes.now) ≡ hash
+        → result ≡ oaat_finish s }
 {
     unwritten::<OAATHasher>(hash, bytes)
 }
@@ -284,57 +335,6 @@ pub extern "C" fn hashers_null_write(_hash: u64, bytes: &[u8]) -> u64
     ensures { result ≡ 0 }
 {
     null(bytes)
-}
-
-/// The hash of fnv1_32 with more bytes behind.
-#[unsafe(no_mangle)]
-pub extern "C" fn hashers_fnv1_32_write(hash: u64, bytes: &[u8]) -> u64
-    ensures { result ≡ fnv1_32_from (hash % 2 ^ 32) bytes.now }
-{
-    written::<Fnv1Hasher32>(hash % 4294967296, bytes)
-}
-
-/// The hash of fnv1_32 without the last bytes.
-#[unsafe(no_mangle)]
-pub extern "C" fn hashers_fnv1_32_unwrite(hash: u64, bytes: &[u8]) -> u64
-    ensures back { fnv1_32_from result bytes.now ≡ hash % 2 ^ 32 }
-    ensures undone { (s : ℕ) → s < 2 ^ 32 → fnv1_32_from s bytes.now ≡ hash % 2 ^ 32 → result ≡ s }
-{
-    unwritten::<Fnv1Hasher32>(hash % 4294967296, bytes)
-}
-
-/// The hash of djb2_add with more bytes behind.
-#[unsafe(no_mangle)]
-pub extern "C" fn hashers_djb2_add_write(hash: u64, bytes: &[u8]) -> u64
-    ensures { result ≡ djb2_add_from (hash % 2 ^ 32) bytes.now }
-{
-    written::<Djb2AddHasher>(hash % 4294967296, bytes)
-}
-
-/// The hash of djb2_add without the last bytes.
-#[unsafe(no_mangle)]
-pub extern "C" fn hashers_djb2_add_unwrite(hash: u64, bytes: &[u8]) -> u64
-    ensures back { djb2_add_from result bytes.now ≡ hash % 2 ^ 32 }
-    ensures undone { (s : ℕ) → s < 2 ^ 32 → djb2_add_from s bytes.now ≡ hash % 2 ^ 32 → result ≡ s }
-{
-    unwritten::<Djb2AddHasher>(hash % 4294967296, bytes)
-}
-
-/// The hash of fnv1_64 with more bytes behind.
-#[unsafe(no_mangle)]
-pub extern "C" fn hashers_fnv1_64_write(hash: u64, bytes: &[u8]) -> u64
-    ensures { result ≡ fnv1_64_from hash bytes.now }
-{
-    written::<Fnv1Hasher64>(hash, bytes)
-}
-
-/// The hash of fnv1_64 without the last bytes.
-#[unsafe(no_mangle)]
-pub extern "C" fn hashers_fnv1_64_unwrite(hash: u64, bytes: &[u8]) -> u64
-    ensures back { fnv1_64_from result bytes.now ≡ hash }
-    ensures undone { (s : ℕ) → s < 2 ^ 64 → fnv1_64_from s bytes.now ≡ hash → result ≡ s }
-{
-    unwritten::<Fnv1Hasher64>(hash, bytes)
 }
 
 /// The hash of joaat with more bytes behind.

@@ -1,18 +1,17 @@
 //! A ring of nodes in the caller's memory: the points of its nodes, 16 bytes each, in the order of their places, and at one place in that of
 //! their nodes. Node `i` is the one with the name number `i` in the order of bytes. Which names there are the caller keeps.
-ghost use Rattle.std.specs.Prelude.{T, ◌≡◌, ◌↔◌, ◌+◌, ◌-◌, ◌<◌, ◌≤◌, ◌++◌, ℕ, IsSome, IsTrue, List, drop, length, map, min, take};
+ghost use Rattle.std.specs.Prelude.{◌≡◌, ◌↔◌, ◌+◌, ◌-◌, ◌<◌, ◌≤◌, ◌++◌};
+ghost use Rattle.hash_c.specs.Common.{T, ℕ, IsSome, IsTrue, List, drop, length, map, min, take, OnFalse, OnTrue, hash_at, kind_at};
 ghost use Rattle.std.specs.Cmp.Lexicographic.{slice_cmp};
 ghost use Rattle.std.specs.FinMap.Entries.{is_sorted};
 ghost use Rattle.std.specs.Ordering.{nat_cmp};
-ghost use Rattle.std.specs.Bool.{OnFalse, OnTrue};
 ghost use Rattle.std.specs.List.{All, AllPairs, insert, remove};
 ghost use Rattle.std.specs.List.Sorted.{IsPermutation};
-ghost use Rattle.hash_names.specs.Named.{hash_at, kind_at};
 ghost use Rattle.hash_ring.specs.Ring.{AreOwners, IsOwner};
 ghost use Rattle.hash_ring.specs.Points.{ArePoints, IsBefore, IsGapAt, IsRing, IsStart, MayMerge, index_round, left_without, name_at, names_at, nodes_of, opened_up, points_of};
 
 use crate::kinds::hashers_hash;
-use hash_names::table::kind_at;
+use hash_kinds::table::kind_at;
 use hash_ring::points::{self, Point};
 
 /// Writes the points of a node, as many as there is room for, in order. The text is the node's name with 8 bytes more, which are written
@@ -51,7 +50,8 @@ pub extern "C" fn hashers_ring_points(
 pub extern "C" fn hashers_ring_sort(points: &mut [Point])
     ensures moved { IsPermutation points.old points.new }
     ensures ordered { AllPairs IsBefore points.new }
-    ensures ring { (hash : List ℕ → ℕ) (nodes : List (List ℕ × ℕ)) → T (is_sorted (slice_cmp nat_cmp) nodes)
+    ensures ring { (hash : List ℕ → ℕ) (nodes : List (List ℕ × ℕ))
+        → T (is_sorted (slice_cmp nat_cmp) nodes)
         → All (λ node. 1 ≤ node.1) nodes → ArePoints hash nodes points.old → IsRing hash nodes points.new }
 {
     points::sort(points);

@@ -1,7 +1,7 @@
 //! SpookyHash: under two seeds, of both words, and of a text that comes in parts. Its state is a struct that the caller keeps.
-ghost use Rattle.std.specs.Prelude.{◌≡◌, ◌↔◌, ℕ, List, [], ◌++◌, IsTrue};
-ghost use Rattle.hashers.specs.Spooky.{spooky, spooky_v1};
-ghost use Rattle.hash_c.specs.SpookyState.{AreZeros, IsUsable, IsStateOf};
+ghost use Rattle.std.specs.Prelude.{◌≡◌, ◌↔◌, ◌++◌};
+ghost use Rattle.hash_c.specs.Common.{ℕ, List, [], IsTrue, spooky, spooky_v1, AreZeros};
+ghost use Rattle.hash_c.specs.SpookyState.{IsUsable, IsStateOf};
 
 use hash_jenkins::spooky_parts::SpookyParts;
 use hashers::jenkins::spooky_hash::SpookyHasher;

@@ -1,112 +1,24 @@
 //! One call over a whole text.
 ghost use Rattle.std.specs.Prelude.{◌≡◌};
-ghost use Rattle.hash_more.specs.Crc32.{crc32_of, crc32c_of};
-ghost use Rattle.hash_more.specs.Djb2Add.{djb2_add_from};
-ghost use Rattle.hash_more.specs.Elf.{elf_from};
-ghost use Rattle.hash_more.specs.Fnv1.{fnv1_32_from, fnv1_64_from};
-ghost use Rattle.hash_more.specs.Joaat.{joaat_from, joaat_answer};
-ghost use Rattle.hashers.specs.Fnv.{fnv1a32_basis, fnv1a64_basis, fnv1a32_of, fnv1a64_of};
-ghost use Rattle.hashers.specs.Fx.{fx32, fx64, words32, words64};
-ghost use Rattle.hashers.specs.Lookup3.{lookup3_of};
-ghost use Rattle.hashers.specs.Oaat.{oaat_of};
-ghost use Rattle.hashers.specs.Oz.{djb2_of};
-ghost use Rattle.hashers.specs.Pigeon.{bricolage_from};
-ghost use Rattle.hashers.specs.Spooky.{spooky, spooky_v1};
-ghost use Rattle.hashers.specs.Sums.{loselose_from, passthrough_from, sdbm_from};
-ghost use Rattle.hash_murmur3.specs.Murmur3.{murmur3_32};
-ghost use Rattle.hash_murmur3.specs.Murmur3x128.{murmur3_128};
-ghost use Rattle.hash_siphash.specs.SipHash.{siphash};
-ghost use Rattle.hash_xxh3.specs.Xxh3.{xxh3_64_of};
-ghost use Rattle.hash_xxhash.specs.Xxh32.{xxh32};
-ghost use Rattle.hash_xxhash.specs.Xxh64.{xxh64};
+ghost use Rattle.hash_c.specs.Common.{crc32_of, crc32c_of, djb2_add_from, elf_from, fnv1_32_from, fnv1_64_from, joaat_from, joaat_answer, fnv1a32_basis, fnv1a64_basis, fnv1a32_of, fnv1a64_of, fx32, fx64, words32, words64, lookup3_of, oaat_of, djb2_of, bricolage_from, spooky, spooky_v1, loselose_from, passthrough_from, sdbm_from, murmur3_32, murmur3_128, siphash, xxh3_64_of, xxh32, xxh64};
 
-use hash_more::{crc32, djb2_add, elf, fnv1, joaat};
+use hash_more::crc32::{crc32, crc32c};
+use hash_more::djb2_add::djb2_add;
+use hash_more::elf::elf;
+use hash_more::fnv1::{fnv1_32, fnv1_64};
+use hash_more::joaat::joaat;
 use hash_murmur3::{murmur3_32, murmur3_128};
 use hash_siphash::{SipKey, siphash13, siphash24};
 use hash_xxh3::xxh3_64;
 use hash_xxhash::{xxh32, xxh64};
-use hashers::jenkins::spooky_hash;
-use hashers::{fnv, fx_hash, jenkins, null, oz, pigeon};
-
-/// FNV-1a at 32 bits of the text.
-#[unsafe(no_mangle)]
-pub extern "C" fn hashers_fnv1a32(text: &[u8]) -> u64
-    ensures { result ≡ fnv1a32_of text.now }
-{
-    fnv::fnv1a32(text)
-}
-
-/// FNV-1a at 64 bits of the text.
-#[unsafe(no_mangle)]
-pub extern "C" fn hashers_fnv1a64(text: &[u8]) -> u64
-    ensures { result ≡ fnv1a64_of text.now }
-{
-    fnv::fnv1a64(text)
-}
-
-/// djb2 of the text.
-#[unsafe(no_mangle)]
-pub extern "C" fn hashers_djb2(text: &[u8]) -> u64
-    ensures { result ≡ djb2_of text.now }
-{
-    oz::djb2(text)
-}
-
-/// sdbm of the text.
-#[unsafe(no_mangle)]
-pub extern "C" fn hashers_sdbm(text: &[u8]) -> u64
-    ensures { result ≡ sdbm_from 0 text.now }
-{
-    oz::sdbm(text)
-}
-
-/// lose lose at 64 bits of the text.
-#[unsafe(no_mangle)]
-pub extern "C" fn hashers_loselose(text: &[u8]) -> u64
-    ensures { result ≡ loselose_from 0 text.now }
-{
-    oz::loselose(text)
-}
-
-/// Bricolage of the text.
-#[unsafe(no_mangle)]
-pub extern "C" fn hashers_bricolage(text: &[u8]) -> u64
-    ensures { result ≡ bricolage_from 0 text.now }
-{
-    pigeon::bricolage(text)
-}
-
-/// fx at the width of a machine word, 64 bits, of the text as one piece.
-#[unsafe(no_mangle)]
-pub extern "C" fn hashers_fxhash(text: &[u8]) -> u64
-    ensures { result ≡ fx64 0 (words64 text.now) }
-{
-    fx_hash::fxhash(text)
-}
-
-/// fx at 32 bits of the text as one piece.
-#[unsafe(no_mangle)]
-pub extern "C" fn hashers_fxhash32(text: &[u8]) -> u64
-    ensures { result ≡ fx32 0 (words32 text.now) }
-{
-    fx_hash::fxhash32(text)
-}
-
-/// fx at 64 bits of the text as one piece.
-#[unsafe(no_mangle)]
-pub extern "C" fn hashers_fxhash64(text: &[u8]) -> u64
-    ensures { result ≡ fx64 0 (words64 text.now) }
-{
-    fx_hash::fxhash64(text)
-}
-
-/// One-at-a-time of the text, at 64 bits.
-#[unsafe(no_mangle)]
-pub extern "C" fn hashers_oaat(text: &[u8]) -> u64
-    ensures { result ≡ oaat_of text.now }
-{
-    jenkins::oaat(text)
-}
+use hashers::fnv::{fnv1a32, fnv1a64};
+use hashers::fx_hash::{fxhash, fxhash32, fxhash64};
+use hashers::jenkins;
+use hashers::jenkins::oaat;
+use hashers::jenkins::spooky_hash::{spooky, spooky_v1};
+use hashers::null::{null, passthrough};
+use hashers::oz::{djb2, loselose, sdbm};
+use hashers::pigeon::bricolage;
 
 /// lookup3 of the text. It is a call of its own, since within an exported one the test for a null pointer is compiled so that it
 /// waits for the answer of the call before.
@@ -117,7 +29,64 @@ fn lookup3(text: &[u8]) -> u64
     jenkins::lookup3(text)
 }
 
-/// lookup3 of the text as one piece: both words, pc + 2^32 * pb.
+// declared: wholes
+/// `fnv1a32` of the text: FNV-1a at 32 bits.
+#[unsafe(no_mangle)]
+pub extern "C" fn hashers_fnv1a32(text: &[u8]) -> u64
+    ensures { result ≡ fnv1a32_of text.now }
+{
+    fnv1a32(text)
+}
+
+/// `fnv1a64` of the text: FNV-1a at 64 bits.
+#[unsafe(no_mangle)]
+pub extern "C" fn hashers_fnv1a64(text: &[u8]) -> u64
+    ensures { result ≡ fnv1a64_of text.now }
+{
+    fnv1a64(text)
+}
+
+/// `djb2` of the text: djb2, with an exclusive or.
+#[unsafe(no_mangle)]
+pub extern "C" fn hashers_djb2(text: &[u8]) -> u64
+    ensures { result ≡ djb2_of text.now }
+{
+    djb2(text)
+}
+
+/// `sdbm` of the text: sdbm.
+#[unsafe(no_mangle)]
+pub extern "C" fn hashers_sdbm(text: &[u8]) -> u64
+    ensures { result ≡ sdbm_from 0 text.now }
+{
+    sdbm(text)
+}
+
+/// `loselose` of the text: the sum of the bytes.
+#[unsafe(no_mangle)]
+pub extern "C" fn hashers_loselose(text: &[u8]) -> u64
+    ensures { result ≡ loselose_from 0 text.now }
+{
+    loselose(text)
+}
+
+/// `bricolage` of the text: Steven Pigeon's.
+#[unsafe(no_mangle)]
+pub extern "C" fn hashers_bricolage(text: &[u8]) -> u64
+    ensures { result ≡ bricolage_from 0 text.now }
+{
+    bricolage(text)
+}
+
+/// `oaat` of the text: one-at-a-time at 64 bits.
+#[unsafe(no_mangle)]
+pub extern "C" fn hashers_oaat(text: &[u8]) -> u64
+    ensures { result ≡ oaat_of text.now }
+{
+    oaat(text)
+}
+
+/// `lookup3` of the text as one piece: lookup3, hashlittle2.
 #[unsafe(no_mangle)]
 pub extern "C" fn hashers_lookup3(text: &[u8]) -> u64
     ensures { result ≡ lookup3_of text.now }
@@ -125,95 +94,119 @@ pub extern "C" fn hashers_lookup3(text: &[u8]) -> u64
     lookup3(text)
 }
 
-/// The first word of SpookyHash of the text under the seeds 0 and 0, with the length mixed in.
+/// `spooky` of the text under two seeds of 0: SpookyHash, its first word.
 #[unsafe(no_mangle)]
 pub extern "C" fn hashers_spooky(text: &[u8]) -> u64
     ensures { result ≡ (spooky 0 0 text.now).0 }
 {
-    spooky_hash::spooky(text)
+    spooky(text)
 }
 
-/// The same by version 1, as the original crate answers: the length of a text below 192 bytes is left out.
+/// `spooky_v1` of the text under two seeds of 0: SpookyHash as the crate hashers 1.0.1 has it, its first word.
 #[unsafe(no_mangle)]
 pub extern "C" fn hashers_spooky_v1(text: &[u8]) -> u64
     ensures { result ≡ (spooky_v1 0 0 text.now).0 }
 {
-    spooky_hash::spooky_v1(text)
+    spooky_v1(text)
 }
 
-/// 0, whatever the text.
-#[unsafe(no_mangle)]
-pub extern "C" fn hashers_null(text: &[u8]) -> u64
-    ensures { result ≡ 0 }
-{
-    null::null(text)
-}
-
-/// The last eight bytes of the text as a number, the highest first.
+/// `passthrough` of the text: the last eight bytes.
 #[unsafe(no_mangle)]
 pub extern "C" fn hashers_passthrough(text: &[u8]) -> u64
     ensures { result ≡ passthrough_from 0 text.now }
 {
-    null::passthrough(text)
+    passthrough(text)
 }
 
-/// CRC-32 of the text.
+/// `fxhash` of the text as one piece: fx at the width of a machine word.
+#[unsafe(no_mangle)]
+pub extern "C" fn hashers_fxhash(text: &[u8]) -> u64
+    ensures { result ≡ fx64 0 (words64 text.now) }
+{
+    fxhash(text)
+}
+
+/// `fxhash32` of the text as one piece: fx at 32 bits.
+#[unsafe(no_mangle)]
+pub extern "C" fn hashers_fxhash32(text: &[u8]) -> u64
+    ensures { result ≡ fx32 0 (words32 text.now) }
+{
+    fxhash32(text)
+}
+
+/// `fxhash64` of the text as one piece: fx at 64 bits.
+#[unsafe(no_mangle)]
+pub extern "C" fn hashers_fxhash64(text: &[u8]) -> u64
+    ensures { result ≡ fx64 0 (words64 text.now) }
+{
+    fxhash64(text)
+}
+
+/// `crc32` of the text: CRC-32, zlib's.
 #[unsafe(no_mangle)]
 pub extern "C" fn hashers_crc32(text: &[u8]) -> u64
     ensures { result ≡ crc32_of text.now }
 {
-    crc32::crc32(text)
+    crc32(text)
 }
 
-/// CRC-32C of the text.
+/// `crc32c` of the text: CRC-32C, that of iSCSI.
 #[unsafe(no_mangle)]
 pub extern "C" fn hashers_crc32c(text: &[u8]) -> u64
     ensures { result ≡ crc32c_of text.now }
 {
-    crc32::crc32c(text)
+    crc32c(text)
 }
 
-/// FNV-1 at 32 bits of the text.
+/// `fnv1_32` of the text: FNV-1 at 32 bits.
 #[unsafe(no_mangle)]
 pub extern "C" fn hashers_fnv1_32(text: &[u8]) -> u64
     ensures { result ≡ fnv1_32_from fnv1a32_basis text.now }
 {
-    fnv1::fnv1_32(text)
+    fnv1_32(text)
 }
 
-/// FNV-1 at 64 bits of the text.
+/// `fnv1_64` of the text: FNV-1 at 64 bits.
 #[unsafe(no_mangle)]
 pub extern "C" fn hashers_fnv1_64(text: &[u8]) -> u64
     ensures { result ≡ fnv1_64_from fnv1a64_basis text.now }
 {
-    fnv1::fnv1_64(text)
+    fnv1_64(text)
 }
 
-/// djb2 with a sum of the text.
+/// `djb2_add` of the text: djb2 with a sum, that of .gnu.hash in ELF files.
 #[unsafe(no_mangle)]
 pub extern "C" fn hashers_djb2_add(text: &[u8]) -> u64
     ensures { result ≡ djb2_add_from 5381 text.now }
 {
-    djb2_add::djb2_add(text)
+    djb2_add(text)
 }
 
-/// one-at-a-time at 32 bits of the text.
+/// `joaat` of the text: one-at-a-time at 32 bits, PHP's joaat.
 #[unsafe(no_mangle)]
 pub extern "C" fn hashers_joaat(text: &[u8]) -> u64
     ensures { result ≡ joaat_answer (joaat_from 0 text.now) }
 {
-    joaat::joaat(text)
+    joaat(text)
 }
 
-/// ELF's hash of the text.
+/// `elf` of the text: that of .hash in ELF files.
 #[unsafe(no_mangle)]
 pub extern "C" fn hashers_elf(text: &[u8]) -> u64
     ensures { result ≡ elf_from 0 text.now }
 {
-    elf::elf(text)
+    elf(text)
 }
 
-/// XXH32 of the text under the seed 0.
+/// `null` of the text: 0, whatever the text.
+#[unsafe(no_mangle)]
+pub extern "C" fn hashers_null(text: &[u8]) -> u64
+    ensures { result ≡ 0 }
+{
+    null(text)
+}
+
+/// `xxh32` of the text under the seed 0: XXH32.
 #[unsafe(no_mangle)]
 pub extern "C" fn hashers_xxh32(text: &[u8]) -> u64
     ensures { result ≡ xxh32 0 text.now }
@@ -221,7 +214,7 @@ pub extern "C" fn hashers_xxh32(text: &[u8]) -> u64
     u64::from(xxh32(0, text))
 }
 
-/// XXH64 of the text under the seed 0.
+/// `xxh64` of the text under the seed 0: XXH64.
 #[unsafe(no_mangle)]
 pub extern "C" fn hashers_xxh64(text: &[u8]) -> u64
     ensures { result ≡ xxh64 0 text.now }
@@ -229,7 +222,7 @@ pub extern "C" fn hashers_xxh64(text: &[u8]) -> u64
     xxh64(0, text)
 }
 
-/// MurmurHash3_x86_32 of the text under the seed 0.
+/// `murmur3_32` of the text under the seed 0: MurmurHash3_x86_32.
 #[unsafe(no_mangle)]
 pub extern "C" fn hashers_murmur3_32(text: &[u8]) -> u64
     ensures { result ≡ murmur3_32 0 text.now }
@@ -237,7 +230,7 @@ pub extern "C" fn hashers_murmur3_32(text: &[u8]) -> u64
     u64::from(murmur3_32(0, text))
 }
 
-/// The first word of MurmurHash3_x64_128 of the text under the seed 0.
+/// `murmur3` of the text under the seed 0: MurmurHash3_x64_128, its first word.
 #[unsafe(no_mangle)]
 pub extern "C" fn hashers_murmur3(text: &[u8]) -> u64
     ensures { result ≡ (murmur3_128 0 text.now).0 }
@@ -245,7 +238,7 @@ pub extern "C" fn hashers_murmur3(text: &[u8]) -> u64
     murmur3_128(0, text).0
 }
 
-/// SipHash-1-3 of the text under the key 0.
+/// `siphash13` of the text under the key 0: SipHash-1-3.
 #[unsafe(no_mangle)]
 pub extern "C" fn hashers_siphash13(text: &[u8]) -> u64
     ensures { result ≡ siphash 1 3 0 0 text.now }
@@ -253,7 +246,7 @@ pub extern "C" fn hashers_siphash13(text: &[u8]) -> u64
     siphash13(SipKey { k0: 0, k1: 0 }, text)
 }
 
-/// SipHash-2-4 of the text under the key 0.
+/// `siphash24` of the text under the key 0: SipHash-2-4.
 #[unsafe(no_mangle)]
 pub extern "C" fn hashers_siphash24(text: &[u8]) -> u64
     ensures { result ≡ siphash 2 4 0 0 text.now }
@@ -261,10 +254,11 @@ pub extern "C" fn hashers_siphash24(text: &[u8]) -> u64
     siphash24(SipKey { k0: 0, k1: 0 }, text)
 }
 
-/// XXH3 of 64 bits of the text under the seed 0.
+/// `xxh3` of the text under the seed 0: XXH3 of 64 bits.
 #[unsafe(no_mangle)]
 pub extern "C" fn hashers_xxh3(text: &[u8]) -> u64
     ensures { result ≡ xxh3_64_of 0 text.now }
 {
     xxh3_64(0, text)
 }
+// end of declared

@@ -1,9 +1,8 @@
 //! XXH3 of 64 and of 128 bits under a seed: of a whole text, and of a text in parts. The caller keeps the place.
-ghost use Rattle.std.specs.Prelude.{◌≡◌, ℕ, List, [], ◌++◌};
-ghost use Rattle.hash_c.specs.SpookyState.{AreZeros};
+ghost use Rattle.std.specs.Prelude.{◌≡◌, ◌++◌};
+ghost use Rattle.hash_c.specs.Common.{ℕ, List, [], AreZeros, xxh3_64_of};
 ghost use Rattle.hash_xxh3.specs.Place.{Fits, StandsBehind};
 ghost use Rattle.hash_xxh3.specs.Wide.{xxh3_128_of};
-ghost use Rattle.hash_xxh3.specs.Xxh3.{xxh3_64_of};
 
 use crate::spooky::{Words, two_words};
 use hash_xxh3::{Xxh3Hasher, Xxh3Place, xxh3_64, xxh3_128};

@@ -1,10 +1,9 @@
 -- The chunks whose hash no chunk before them has, and one chunk more.
-use Rattle.std.proofs.Common.{◌≡◌, ℕ, ◌+◌, ◌-◌, ◌==◌, ◌||◌, ◌&&◌, Bool, true, false, not, if◌then◌else◌, None, Result, Ok, Err, IfOk, List, [], ◌∷◌, ◌++◌, length, length-append, append-nil, arith, ap, refl, subst, sym, ◌∙◌}
-use Rattle.std.proofs.Math.Path.{ap₂}
+use Rattle.std.proofs.Common.{◌≡◌, ℕ, ◌+◌, ◌-◌, ◌==◌, ◌||◌, ◌&&◌, Bool, true, false, not, if◌then◌else◌, None, Result, Ok, Err, IfOk, List, [], ◌∷◌, ◌++◌, length, length-append, append-nil, arith, ap, refl, subst, sym, ◌∙◌, ap₂, nat_cmp}
 use Rattle.std.specs.BTreeSet.{contains}
-use Rattle.std.specs.List.{filter, list_all, list_any}
-use Rattle.std.specs.Ordering.{nat_cmp}
+use Rattle.std.specs.List.{list_any}
 use Rattle.std.proofs.lemmas.Grind.{flat_map-append}
+use Rattle.std.proofs.lemmas.Bool.Decides.{nat_tests}
 use Rattle.std.proofs.lemmas.List.{map-append}
 use Rattle.std.proofs.lemmas.List.Elements.{All-push, filter-append}
 use Rattle.std.proofs.lemmas.List.Folds.{list_all-append, list_any-append}
@@ -19,21 +18,10 @@ use Rattle.hash_sums.specs.Sums.{sum_by}
 use Rattle.hash_chunks.specs.declared.tally.Tally.{Tally}
 use Rattle.hash_chunks.specs.Tally.{AreCut, all_given, bytes_of, firsts, numbers_of, tally_lines}
 
-and-true : (b : Bool) → (b && true) ≡ b
-and-true true = refl
-and-true false = refl
-
 -- a chunk if it comes first
 abbrev new_one : (chunk : List ℕ) → (is_old : Bool) → List (List ℕ)
 new_one chunk true = []
 new_one chunk false = chunk ∷ []
-
-not_new : (chunk : List ℕ) (same old : Bool) (test : List ℕ → Bool) → test chunk ≡ not same
-    → filter test (new_one chunk old) ≡ new_one chunk (same || old)
-not_new chunk true true test is = refl
-not_new chunk false true test is = refl
-not_new chunk true false test is = ap (λ b. if b then chunk ∷ [] else []) is
-not_new chunk false false test is = ap (λ b. if b then chunk ∷ [] else []) is
 
 module _ (hash : List ℕ → ℕ) where
   abbrev pub is_old : List (List ℕ) → List ℕ → Bool
@@ -43,20 +31,12 @@ module _ (hash : List ℕ → ℕ) where
   firsts_more [] chunk = refl
   firsts_more (first ∷ given) chunk =
       let test : List ℕ → Bool = λ other. not (hash other == hash first) in
-      ap (λ list. first ∷ filter test list) (firsts_more given chunk)
-      ∙ ap (λ list. first ∷ list) (filter-append test (firsts hash given) (new_one chunk (is_old given chunk))
-      ∙ ap (λ list. filter test (firsts hash given) ++ list) (not_new chunk (hash chunk == hash first) (is_old given chunk) test refl))
+      grind (arith, nat_tests, firsts_more given chunk, filter-append test (firsts hash given) (new_one chunk (is_old given chunk)))
 
   bytes_new : (given : List (List ℕ)) (chunk : List ℕ) (old : Bool)
       → bytes_of (given ++ new_one chunk old) ≡ bytes_of given + (if not old then length chunk else 0)
   bytes_new given chunk true = omega (arith, ap (λ list. bytes_of list) (append-nil given))
   bytes_new given chunk false = bytes_more given chunk
-
-  or_last : (some here : Bool) → (here || some) ≡ (some || (here || false))
-  or_last true true = refl
-  or_last true false = refl
-  or_last false true = refl
-  or_last false false = refl
 
   -- one chunk more is counted
   pub counted_more : (given : List (List ℕ)) (chunk : List ℕ) (old new : Tally) (is_new : Bool) (number : ℕ) → IsCounted hash given old
@@ -72,10 +52,9 @@ module _ (hash : List ℕ → ℕ) where
         first = first ∙ ap₂ (λ (n : ℕ) (b : Bool). n + (if b then length chunk else 0)) so_far.first fresh
             ∙ sym (ap (λ list. bytes_of list) (firsts_more given chunk) ∙ bytes_new (firsts hash given) chunk (is_old given chunk));
         seen = λ other.
-            seen other
-            ∙ ap₂ (λ (n : ℕ) (b : Bool). other == n || b) is (so_far.seen other)
-            ∙ or_last (list_any (λ c. other == hash c) given) (other == hash chunk)
-            ∙ sym (list_any-append (λ c. other == hash c) given (chunk ∷ []));
+            let so_far_seen = so_far.seen other in
+            let with_one = list_any-append (λ c. other == hash c) given (chunk ∷ []) in
+            grind (arith, nat_tests, seen other, is, so_far_seen, with_one);
       }
 
 -- what is counted stays counted with no chunk more
@@ -96,8 +75,7 @@ pub cut_more : (cuts : Cutting) (opens : Opens) (names names' : List (List ℕ))
 cut_more cuts opens names names' files all file so_far is more = record {
   names_are = map-append name_of files (file ∷ []) ∙ ap (λ ns. ns ++ name_of file ∷ []) so_far.names_are ∙ more;
   each = All-push (IsFileCut cuts opens) files file so_far.each is;
-  all_is = ap (λ b. b && is_whole file) so_far.all_is ∙ sym (list_all-append is_whole files (file ∷ [])
-      ∙ ap (λ b. list_all is_whole files && b) (and-true (is_whole file)));
+  all_is = grind (arith, so_far.all_is, list_all-append is_whole files (file ∷ []));
 }
 
 -- and its chunks

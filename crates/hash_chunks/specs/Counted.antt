@@ -1,5 +1,5 @@
 -- The numbers of the chunks so far.
-use Rattle.std.specs.Prelude.{ℕ, ◌≡◌, ◌==◌, ◌++◌, Bool, List, None, length}
+use Rattle.std.specs.Prelude.{ℕ, ◌≡◌, ◌≤◌, ◌+◌, ◌^◌, ◌⊎◌, ◌==◌, ◌++◌, Bool, List, None, length}
 use Rattle.std.specs.List.{list_any}
 use Rattle.std.specs.Ordering.{nat_cmp}
 use Rattle.std.specs.BTreeSet.{contains}
@@ -17,6 +17,10 @@ pub record IsCounted (hash : List ℕ → ℕ) (given : List (List ℕ)) (tally 
   pub bytes : tally.bytes ≡ bytes_of given
   pub first : tally.first ≡ bytes_of (firsts hash given)
   pub seen : (number : ℕ) → contains nat_cmp tally.hashes number ≡ list_any (λ chunk. number == hash chunk) given
+
+-- one chunk more, or its bytes, pass the greatest number
+abbrev pub AreTooMany : Tally → (chunk : List ℕ) → Type 0
+AreTooMany tally chunk = (2 ^ 64 ≤ tally.chunks + 1) ⊎ (2 ^ 64 ≤ tally.bytes + length chunk) ⊎ (2 ^ 64 ≤ tally.first + length chunk)
 
 -- where these were the numbers of some chunks, they are now those of more
 abbrev pub CountsMore : (hash : List ℕ → ℕ) (old new : Tally) (given : List (List ℕ)) → Type 0

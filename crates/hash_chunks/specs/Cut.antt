@@ -1,5 +1,5 @@
 -- What comes of cutting a file.
-use Rattle.std.specs.Prelude.{ℕ, ◌≡◌, ◌<◌, ◌⊎◌, Bool, true, false, List, [], ◌∷◌, Option, Some, None, Result, Ok, Err, length, take}
+use Rattle.std.specs.Prelude.{ℕ, ◌≡◌, ◌<◌, ◌⊎◌, Bool, true, false, List, [], ◌∷◌, Option, Some, None, Result, Ok, Err, length, take, ⊤}
 use Rattle.std.specs.Io.KnownBytes.{Consumes, IsAtEnd}
 use Rattle.std.specs.declared.io.Error.{Error}
 use Rattle.cli.specs.Files.{Opens}
@@ -8,7 +8,7 @@ use Rattle.hash_cuts.specs.Reading.{IsBegun, Taken, Takes}
 use Rattle.hash_chunks.specs.declared.failure.TooMany.{TooMany}
 use Rattle.streams.specs.Records.{ComeFirst}
 use Rattle.streams.specs.declared.failure.Failure.{Failure}
-use Rattle.streams.specs.declared.failure.Failure.TheVariants.{NoMemory}
+use Rattle.streams.specs.declared.failure.Failure.TheVariants.{NoMemory, Own}
 
 -- what comes of opening a file
 abbrev pub Opening : Type 1
@@ -48,6 +48,11 @@ IsNext cuts rest (Some chunk) = (0 < length rest) × (chunk ≡ take (first_cut 
 -- these are the first chunks of a file, of which the one behind them was refused, or none
 abbrev pub AreTorn : Cutting → Opening → (given : List (List ℕ)) (refused : Option (List ℕ)) → Type 0
 AreTorn cuts opens given refused = (rest : List ℕ) × AreFirst cuts opens given rest × IsNext cuts rest refused
+
+-- there are too many bytes, where that is why
+abbrev pub IsManyOnly : (many : Type 0) → Failure TooMany → Type 0
+IsManyOnly many (Own too_many) = many
+IsManyOnly many fault = ⊤
 
 -- a file is torn by a refused chunk, or else by want of memory
 abbrev pub IsTornBy : (refused : Option (List ℕ)) → Failure TooMany → Type 0

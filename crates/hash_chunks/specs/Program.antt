@@ -1,5 +1,5 @@
 -- What the program `cuts` is asked for, and how it ends.
-use Rattle.std.specs.Prelude.{ℕ, ◌≡◌, ◌⊎◌, ◌&&◌, not, nat_lt, if◌then◌else◌, IsSome, Bool, true, false, List, [], ◌∷◌, Option, Some, None, Result, Ok, Err, map, codes}
+use Rattle.std.specs.Prelude.{ℕ, ◌≡◌, ◌⊎◌, IsSome, Bool, true, false, List, [], ◌∷◌, Option, Some, None, Result, Ok, Err, map, codes}
 use Rattle.std.specs.Io.KnownBytes.{Keeps}
 use Rattle.cli.specs.Call.{Choice, Saying, flag, given, operands, taking, value_of}
 use Rattle.cli.specs.Files.{Opens, files_or}
@@ -12,12 +12,14 @@ use Rattle.cli.specs.declared.outcome.Outcome.TheVariants.{Usage, Reported}
 use Rattle.cli.specs.declared.outcome.Wrong.{Wrong}
 use Rattle.cli.specs.declared.outcome.Wrong.TheVariants.{UnknownName, Own}
 use Rattle.hash_chunks.specs.Listing.{EndsListing}
-use Rattle.hash_chunks.specs.Sizes.{sizes_of}
+use Rattle.hash_chunks.specs.Sizes.{fallen, no_size, sizes_of}
 use Rattle.hash_chunks.specs.Tally.{EndsTally}
 use Rattle.hash_chunks.specs.declared.failure.TooMany.{TooMany}
 use Rattle.hash_chunks.specs.declared.outcome.Misuse.{Misuse}
 use Rattle.hash_chunks.specs.declared.outcome.Misuse.TheVariants as misuse
 use Rattle.hash_chunks.specs.declared.outcome.Task.{Task}
+use Rattle.hash_chunks.specs.declared.sizes.Size.{Size}
+use Rattle.hash_chunks.specs.declared.sizes.Size.TheVariants.{Least, Average, Most}
 use Rattle.hash_chunks.specs.declared.sizes.Sizes.{Sizes}
 use Rattle.hash_cuts.specs.Cuts.{Cutting, cutting}
 use Rattle.hash_lines.specs.declared.line.LineKind.{LineKind}
@@ -31,19 +33,19 @@ options = taking (Some 97) (codes "algorithm") ∷ taking (Some 108) (codes "lea
     ∷ taking (Some 109) (codes "most") ∷ taking None (codes "key-file") ∷ flag None (codes "stats") ∷ flag None (codes "quiet")
     ∷ flag None (codes "help") ∷ flag None (codes "version") ∷ []
 
--- whether the sizes rise from 64 on
-abbrev pub are_rising : Sizes → Bool
-are_rising sizes = not (nat_lt sizes.least 64) && not (nat_lt sizes.average sizes.least) && not (nat_lt sizes.most sizes.average)
-
 -- what is to be done by these sizes and this hash
 abbrev pub task_by : (call : List Saying) → Sizes → Option LineKind → Result Task (Wrong Misuse)
 task_by call sizes None = Err UnknownName
 task_by call sizes (Some kind) = Ok (record { sizes = sizes; kind = kind; stats = given (codes "stats") call })
 
+-- the same, unless a size is below 64 or below the one before it
+abbrev pub task_unless : Option Size → Result Task (Wrong Misuse) → Result Task (Wrong Misuse)
+task_unless None task = task
+task_unless (Some size) task = Err (Own (misuse.Fallen size))
+
 abbrev pub task_with : List LineKind → (call : List Saying) → Option Sizes → Result Task (Wrong Misuse)
-task_with kinds call None = Err (Own misuse.NoSize)
-task_with kinds call (Some sizes) =
-    if are_rising sizes then task_by call sizes (kind_of kinds (value_of (codes "algorithm") call)) else Err (Own misuse.NotRising)
+task_with kinds call None = Err (Own (misuse.NoSize (no_size call)))
+task_with kinds call (Some sizes) = task_unless (fallen sizes) (task_by call sizes (kind_of kinds (value_of (codes "algorithm") call)))
 
 -- which work a call asks for
 abbrev pub task_of : List LineKind → (call : List Saying) → Result Task (Wrong Misuse)
@@ -78,8 +80,17 @@ EndsCall opens call texts written written' = EndsRequest (request_of call) texts
 
 -- what it says on standard error of what else is wrong with a call
 abbrev pub words_of : Misuse → List ℕ
-words_of misuse.NoSize = codes "invalid number of bytes"
-words_of misuse.NotRising = codes "--least, --average (by default 64K) and --most must rise from 64 on, unlike"
+words_of (misuse.NoSize Least) = codes "--least must be a number of bytes, not"
+words_of (misuse.NoSize Average) = codes "--average must be a number of bytes, not"
+words_of (misuse.NoSize Most) = codes "--most must be a number of bytes, not"
+words_of (misuse.Fallen Least) = codes "--least must be 64 or more, not"
+words_of (misuse.Fallen Average) = codes "--average must be 64 or more, and no less than --least, not"
+words_of (misuse.Fallen Most) = codes "--most must be no less than --average (by default 64K or 4 times -l), not"
+
+-- the size that is at fault
+abbrev pub at_fault : Misuse → Size
+at_fault (misuse.NoSize size) = size
+at_fault (misuse.Fallen size) = size
 
 -- and of its own fault
 abbrev pub words_of_fault : TooMany → List ℕ

@@ -1,8 +1,11 @@
 -- Sizes of chunks, as a call gives them.
 use Rattle.std.specs.Prelude.{ℕ, ◌-◌, ◌*◌, ◌/◌, ◌^◌, ◌==◌, ◌&&◌, ◌||◌, nat_lt, min, max, if◌then◌else◌, List, [], ◌∷◌, Option, Some, None, codes}
+use Rattle.std.specs.Option.{is_none}
 use Rattle.std.specs.Char.{is_ascii_digit}
 use Rattle.cli.specs.Call.{Saying, value_of}
 use Rattle.cli.specs.Numbers.{fitting, number_of}
+use Rattle.hash_chunks.specs.declared.sizes.Size.{Size}
+use Rattle.hash_chunks.specs.declared.sizes.Size.TheVariants.{Least, Average, Most}
 use Rattle.hash_chunks.specs.declared.sizes.Sizes.{Sizes}
 
 -- so many times a unit
@@ -78,3 +81,18 @@ average_behind (Some least) = if nat_lt 65536 least then min (least * 4) (2 ^ 64
 -- the sizes of a call
 abbrev pub sizes_of : (call : List Saying) → Option Sizes
 sizes_of call = sizes_by call (given_or call (codes "average") (average_behind (given_or call (codes "least") 0)))
+
+-- the name of the option that gives a size
+abbrev pub name_of : Size → List ℕ
+name_of Least = codes "least"
+name_of Average = codes "average"
+name_of Most = codes "most"
+
+-- the first size that a call gives as what is none
+abbrev pub no_size : (call : List Saying) → Size
+no_size call = if is_none (given_or call (codes "average") 0) then Average else if is_none (given_or call (codes "least") 0) then Least else Most
+
+-- the first of the sizes that is below 64, or below the one before it
+abbrev pub fallen : Sizes → Option Size
+fallen sizes = if nat_lt sizes.least 64 then Some Least else if nat_lt sizes.average sizes.least then Some Average else
+    if nat_lt sizes.most sizes.average then Some Most else None

@@ -1,7 +1,9 @@
 //! A line for each chunk.
-ghost use Rattle.std.specs.Prelude.{◌≡◌, [], map, IfOk, OnOk};
+ghost use Rattle.std.specs.Prelude.{◌≡◌, ◌≤◌, ◌+◌, ◌^◌, [], ◌∷◌, Some, None, map, length, IfOk, IfErr, OnOk, OnErr};
 ghost use Rattle.std.specs.Io.Buffered.{writer_buffer, writer_contents};
+ghost use Rattle.hash_chunks.specs.Cut.{IsManyOnly};
 ghost use Rattle.hash_chunks.specs.Listing.{EndsLines, EndsListing, ListsChunks, chunk_line};
+ghost use Rattle.hash_cuts.specs.Reading.{Takes};
 
 use crate::cut::cut_file;
 use crate::failure::{Failure, TooMany};
@@ -70,7 +72,11 @@ impl<W: Write + Drop> Sink for Lines<'_, W> {
 
     ghost taken = { ListsChunks W.contents };
 
-    fn take(&mut self, chunk: &[u8]) -> Result<(), Failure> {
+    fn take(&mut self, chunk: &[u8]) -> Result<(), Failure>
+        ensures ok { OnOk result (Takes (ListsChunks W.contents) self.old self.new (chunk.now ∷ []) None) }
+        ensures err { OnErr result (Takes (ListsChunks W.contents) self.old self.new [] (Some chunk.now)) }
+        ensures many { IfErr result (IsManyOnly (2 ^ 64 ≤ self.old.place + length chunk.now)) }
+    {
         let Some(next) = self.place.checked_add(chunk.len() as u64) else {
             return Err(Failure::Own(TooMany));
         };

@@ -1,7 +1,8 @@
 //! The sizes of chunks that a call asks for.
 ghost use Rattle.std.specs.Prelude.{◌≡◌, codes};
-ghost use Rattle.cli.specs.Call.{sayings};
-ghost use Rattle.hash_chunks.specs.Sizes.{average_behind, behind, binary, given_or, in_units, leading, size_of, sizes_of, thousands, unit_of};
+ghost use Rattle.std.specs.Option.{option_map};
+ghost use Rattle.cli.specs.Call.{sayings, value_of};
+ghost use Rattle.hash_chunks.specs.Sizes.{average_behind, behind, binary, fallen, given_or, in_units, leading, name_of, no_size, size_of, sizes_of, thousands, unit_of};
 
 use cli::call::Call;
 use cli::numbers::number_of;
@@ -11,10 +12,21 @@ use cli::numbers::number_of;
 pub struct Sizes {
     /// At least.
     pub least: usize,
-    /// Behind these, each place is a cut with a chance of 1 in this number.
+    /// After these about one place in this number is a boundary, if the bytes look random.
     pub average: usize,
     /// At most.
     pub most: usize,
+}
+
+/// One of these.
+#[derive(Clone, Copy, Debug, Drop)]
+pub enum Size {
+    /// The fewest bytes.
+    Least,
+    /// The average.
+    Average,
+    /// The most bytes.
+    Most,
 }
 
 /// The average if none is given.
@@ -132,30 +144,42 @@ pub fn sizes_of(call: &Call<'_>) -> Option<Sizes>
     })
 }
 
-/// The first value that has to be a size, and is none.
-pub fn wrong_size<'a>(call: &Call<'a>) -> Option<&'a [u8]> {
-    for name in [
-        b"average".as_slice(),
-        b"least".as_slice(),
-        b"most".as_slice(),
-    ] {
-        match call.value(name) {
-            Some(word) if size_of(word).is_none() => return Some(word),
-            _ => {}
-        }
+/// The first size that a call gives as what is none.
+pub(crate) fn no_size(call: &Call<'_>) -> Size
+    ensures { result ≡ no_size (sayings call.now.said.items) }
+{
+    if given_or(call, b"average", 0).is_none() {
+        Size::Average
+    } else if given_or(call, b"least", 0).is_none() {
+        Size::Least
+    } else {
+        Size::Most
+    }
+}
+
+/// The first of the sizes that is below 64, or below the one before it.
+pub(crate) fn fallen(sizes: Sizes) -> Option<Size>
+    ensures { result ≡ fallen sizes }
+{
+    if sizes.least < FEWEST {
+        return Some(Size::Least);
+    }
+    if sizes.average < sizes.least {
+        return Some(Size::Average);
+    }
+    if sizes.most < sizes.average {
+        return Some(Size::Most);
     }
     None
 }
 
-/// The first of the sizes of a call that is below 64 or below the one before it.
-pub fn fallen_size<'a>(call: &Call<'a>) -> Option<&'a [u8]> {
-    let sizes = sizes_of(call)?;
-    let name = if sizes.least < FEWEST {
-        b"least".as_slice()
-    } else if sizes.average < sizes.least {
-        b"average".as_slice()
-    } else {
-        b"most".as_slice()
-    };
-    call.value(name)
+/// What a call gives as this size.
+pub(crate) fn given<'a>(call: &Call<'a>, size: Size) -> Option<&'a [u8]>
+    ensures { option_map (λ word. word.now) result ≡ value_of (name_of size) (sayings call.now.said.items) }
+{
+    match size {
+        Size::Least => call.value(b"least"),
+        Size::Average => call.value(b"average"),
+        Size::Most => call.value(b"most"),
+    }
 }

@@ -1,11 +1,14 @@
 //! How much a store would save that keeps each chunk once.
-ghost use Rattle.std.specs.Prelude.{◌≡◌, ◌==◌, ◌||◌, ◌+◌, ◌-◌, ◌++◌, if◌then◌else◌, not, ℕ, List, [], map, length, IfOk, OnOk};
+ghost use Rattle.std.specs.Prelude.{◌≡◌, ◌==◌, ◌||◌, ◌+◌, ◌-◌, ◌++◌, ◌^◌, ◌≤◌, if◌then◌else◌, not, ℕ, List, [], ◌∷◌, Some, None, map, length, IfOk, IfErr, OnOk, OnErr};
 ghost use Rattle.std.specs.BTreeSet.{contains};
 ghost use Rattle.std.specs.Ordering.{nat_cmp};
 ghost use Rattle.std.specs.Io.Buffered.{writer_buffer, writer_contents};
-ghost use Rattle.hash_chunks.specs.Counted.{CountsChunks, CountsFile, CountsFiles, IsCounted};
+ghost use Rattle.hash_chunks.specs.Cut.{IsManyOnly};
+ghost use Rattle.hash_chunks.specs.Counted.{AreTooMany, CountsChunks, CountsFile, CountsFiles, IsCounted};
 ghost use Rattle.hash_chunks.specs.Tally.{EndsTally, number_line, numbers_of};
+ghost use Rattle.hash_cuts.specs.Reading.{Takes};
 ghost use Rattle.hash_sums.specs.Sums.{sum_by};
+ghost use Rattle.streams.specs.declared.failure.Failure.TheVariants.{NoMemory};
 
 use crate::cut::cut_file;
 use crate::failure::{Failure, TooMany};
@@ -46,7 +49,8 @@ impl Tally {
 
 /// The sum, if it is below 2^64.
 fn sum(number: u64, more: usize) -> Result<u64, Failure>
-    ensures { IfOk result (λ sum. sum ≡ number + more) }
+    ensures ok { IfOk result (λ sum. sum ≡ number + more) }
+    ensures many { IfErr result (IsManyOnly (2 ^ 64 ≤ number + more)) }
 {
     match number.checked_add(more as u64) {
         Some(sum) => Ok(sum),
@@ -59,6 +63,7 @@ fn see(hashes: &mut BTreeSet<u128>, hash: u128) -> Result<bool, Failure>
     ensures new { IfOk result (λ is_new. is_new ≡ not (contains nat_cmp hashes.old hash)) }
     ensures seen { OnOk result ((number : ℕ) → contains nat_cmp hashes.new number
         ≡ (number == hash || contains nat_cmp hashes.old number)) }
+    ensures full { IfErr result (λ why. why ≡ NoMemory) }
 {
     match hashes.insert(hash) {
         Ok(is_new) => Ok(is_new),
@@ -78,7 +83,11 @@ impl Sink for Tally {
 
     ghost taken = { CountsChunks };
 
-    fn take(&mut self, chunk: &[u8]) -> Result<(), Failure> {
+    fn take(&mut self, chunk: &[u8]) -> Result<(), Failure>
+        ensures ok { OnOk result (Takes CountsChunks self.old self.new (chunk.now ∷ []) None) }
+        ensures err { OnErr result (Takes CountsChunks self.old self.new [] (Some chunk.now)) }
+        ensures many { IfErr result (IsManyOnly (AreTooMany self.old chunk.now)) }
+    {
         let is_new = see(&mut self.hashes, number_of_text(self.kind, chunk))?;
         self.chunks = sum(self.chunks, 1)?;
         self.bytes = sum(self.bytes, chunk.len())?;

@@ -1,20 +1,12 @@
 -- The one ending of four bytes that leads a CRC from one state to another, and a text to an answer.
-use Rattle.std.proofs.Common.{◌≡◌, ℕ, zero, suc, ◌+◌, ◌*◌, ◌/◌, ◌%◌, ◌^◌, ◌<◌, List, ◌++◌, bit_xor, sym, ap, ◌∙◌, refl, lit<, arith, inl, inr, w32}
+use Rattle.hash_crc.proofs.Common.{◌≡◌, ℕ, zero, suc, ◌+◌, ◌*◌, ◌/◌, ◌%◌, ◌^◌, ◌<◌, List, ◌++◌, bit_xor, sym, ap, ◌∙◌, refl, lit<, arith, inl, inr, w32, xor_comm, xor_lt, IsText, after_below, recurrence-append, recurrence_is_fold, IsText-to_le_bytes, le, xor_twice, xor_cancel, xor_cancel_left, all_ones, bit_out, bits_out, crc_step, crc_from, crc_answer, bits_out-same, crc_facts}
 use Rattle.std.specs.Int.{to_le_bytes}
 use Rattle.std.proofs.lemmas.Bool.{cases_eq}
-use Rattle.std.proofs.lemmas.Nat.{xor_comm, xor_lt}
 use Rattle.hash_laws.specs.Exactly.{ExactlyTexts}
-use Rattle.hash_laws.specs.Text.{IsText}
-use Rattle.hash_laws.proofs.ByteLemmas.{after_below}
 use Rattle.hash_laws.proofs.ExactlyLemmas.{Exactly-one}
-use Rattle.hash_laws.proofs.RecurrenceLemmas.{recurrence-append, recurrence_is_fold}
-use Rattle.hash_laws.proofs.TextLemmas.{IsText-to_le_bytes}
-use Rattle.hash_words.specs.Words.{le}
 use Rattle.hash_words.proofs.PieceLemmas.{IsPiece, le-lt, le-same}
 use Rattle.hash_words.proofs.WordLemmas.{le-to_le_bytes-32}
-use Rattle.hash_words.proofs.XorLemmas.{xor_twice, xor_cancel, xor_cancel_left}
-use Rattle.hash_crc.specs.Crc32.{all_ones, bit_out, bits_out, crc_step, crc_from, crc_answer}
-use Rattle.hash_crc.specs.Crc32Laws.{bits_out-same, crc_facts}
+use Rattle.hash_crc.specs.Crc32Laws.{crc_from-lt}
 use Rattle.hash_crc.proofs.Crc32Lemmas.{bit_in_set, bit_in_unset}
 use Rattle.hash_crc.proofs.Crc32Texts.{bits_out-more, crc_from-number}
 
@@ -76,15 +68,10 @@ module _ (p : ℕ) (highest : p / 2 ^ 31 ≡ 1) where
   crc_of-joined : (text ending : List ℕ) → crc_of (text ++ ending) ≡ crc_answer (crc_from p (crc_from p all_ones text) ending)
   crc_of-joined text ending = ap crc_answer (recurrence-append (crc_step p) all_ones text ending)
 
-  crc_from-lt : (text : List ℕ) → IsText text → crc_from p all_ones text < 2 ^ 32
-  crc_from-lt text is_text =
-      after_below (crc_step p) (2 ^ 32) (crc_from p) (recurrence_is_fold (crc_step p) (2 ^ 32)) (crc_facts p highest).in_range all_ones text
-      (lit< tt) is_text
-
   -- no other ending leads to the answer
   pub answers-same : (text x y : List ℕ) → IsText text → IsPiece 4 x → IsPiece 4 y → crc_of (text ++ x) ≡ crc_of (text ++ y) → x ≡ y
   answers-same text x y is_text x_is y_is same =
-      endings-same (crc_from p all_ones text) x y (crc_from-lt text is_text) x_is y_is
+      endings-same (crc_from p all_ones text) x y (crc_from-lt p highest text is_text) x_is y_is
       (xor_cancel _ _ all_ones (sym (crc_of-joined text x) ∙ same ∙ crc_of-joined text y))
 
   -- an ending that leads from the state behind a text to that of the answer
@@ -95,11 +82,17 @@ module _ (p : ℕ) (highest : p / 2 ^ 31 ≡ 1) where
       ap (λ h. bit_xor h all_ones) is ∙ xor_twice (crc_from p all_ones text) all_ones in
       crc_of-joined text ending ∙ ap crc_answer (ap (λ s. crc_from p s ending) (sym state) ∙ led) ∙ xor_twice answer all_ones
 
+  -- nor does one that is known to lead there
+  pub answer-alone : (text ending own : List ℕ) (before answer : ℕ) → IsText text → IsPiece 4 ending → IsPiece 4 own → before ≡ crc_of text
+      → crc_from p (bit_xor before all_ones) own ≡ bit_xor answer all_ones → crc_of (text ++ ending) ≡ answer → ending ≡ own
+  answer-alone text ending own before answer is_text is own_is known led leads =
+      answers-same text ending own is_text is own_is (leads ∙ sym (answer-behind text own before answer known led))
+
   pub one-ending : (text : List ℕ) (answer : ℕ) → IsText text → answer < 2 ^ 32
       → ExactlyTexts 1 4 (λ ending. crc_of (text ++ ending) ≡ answer)
   one-ending text answer is_text answer_in =
       let state = crc_from p all_ones text in
-      let state_in = crc_from-lt text is_text in
+      let state_in = crc_from-lt p highest text is_text in
       let word = leads_out 32 (bit_xor answer all_ones) (xor_lt 32 answer all_ones answer_in (lit< tt)) in
       let ending = ending_of state word.0 in
       let is = ending_of-piece state word.0 in

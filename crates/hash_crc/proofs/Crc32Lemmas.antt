@@ -1,11 +1,5 @@
 -- A CRC by a table: of a word the low byte's bits go out by themselves, and the others move down.
-use Rattle.std.proofs.Common.{◌≡◌, ◌≢◌, ℕ, zero, suc, ◌+◌, ◌*◌, ◌/◌, ◌%◌, ◌^◌, ◌<◌, bit_xor, sym, ap, ◌∙◌, refl, arith}
-use Rattle.std.proofs.Math.Path.{ap₂}
-use Rattle.std.proofs.Math.Nat.{pow-succ', mul_assoc, mul_comm}
-use Rattle.std.proofs.lemmas.Nat.{xor_shr, xor_mod, xor_comm}
-use Rattle.std.specs.Int.Bits.{xor_shifted, xor_assoc, xor_self, xor_zero_l, xor_zero_r}
-use Rattle.hash_words.proofs.XorLemmas.{xor_twice}
-use Rattle.hash_crc.specs.Crc32.{bit_out, bits_out}
+use Rattle.hash_crc.proofs.Common.{◌≡◌, ◌≢◌, ℕ, zero, suc, ◌+◌, ◌*◌, ◌/◌, ◌%◌, ◌^◌, ◌<◌, bit_xor, sym, ap, ◌∙◌, refl, arith, ap₂, pow-succ', mul_assoc, mul_comm, xor_shr, xor_mod, xor_comm, xor_shifted, xor_assoc, xor_self, xor_zero_l, xor_zero_r, xor_twice, bit_out, bits_out}
 
 nothing : (p : ℕ) → 0 * p ≡ 0
 nothing p = omega arith

@@ -1,10 +1,5 @@
 -- Words as polynomials in the bit that goes out, the highest bit being 1: their product, and that 1 with k bits gone out takes k bits out.
-use Rattle.std.proofs.Common.{◌≢◌, ◌≡◌, ℕ, zero, suc, ◌+◌, ◌*◌, ◌/◌, ◌%◌, ◌^◌, ◌<◌, bit_xor, sym, ap, ◌∙◌, refl, arith}
-use Rattle.std.proofs.Math.Path.{ap₂}
-use Rattle.std.proofs.Math.Nat.{pow-succ', mul-lt-mul_of_pos_right, mod-lt}
-use Rattle.std.specs.Int.Bits.{xor_self}
-use Rattle.std.proofs.lemmas.Nat.{pow-add, pow_pos, mod-pow-add}
-use Rattle.hash_crc.specs.Crc32.{bit_out, bits_out}
+use Rattle.hash_crc.proofs.Common.{◌≢◌, ◌≡◌, ℕ, zero, suc, ◌+◌, ◌*◌, ◌/◌, ◌%◌, ◌^◌, ◌<◌, bit_xor, sym, ap, ◌∙◌, refl, arith, ap₂, pow-succ', mul-lt-mul_of_pos_right, mod-lt, xor_self, pow-add, pow_pos, mod-pow-add, bit_out, bits_out}
 use Rattle.hash_crc.proofs.Crc32Lemmas.{exchanged, bit_out-xor, bit_out-even, moved_down, low_and_high}
 use Rattle.hash_crc.proofs.Crc32Texts.{bits_out-more, bits_out-none}
 

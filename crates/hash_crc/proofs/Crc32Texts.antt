@@ -1,23 +1,11 @@
 -- A text is one number, of which all bits go out one after the other; a CRC is linear in it and in the state before.
-use Rattle.std.proofs.Common.{◌≡◌, ℕ, zero, suc, ◌+◌, ◌*◌, ◌/◌, ◌%◌, ◌^◌, ◌<◌, ◌≤◌, List, [], ◌∷◌, ◌++◌, length, take, drop, get_or, fold, map, bit_xor, sym, ap, ◌∙◌, refl, lit<, arith}
-use Rattle.std.proofs.Math.Path.{ap₂}
-use Rattle.std.specs.Int.Bits.{xor_assoc, xor_zero_l, xor_zero_r}
-use Rattle.std.proofs.lemmas.Nat.{xor_comm, xor_lt}
-use Rattle.std.proofs.lemmas.List.{take-append-drop, length-drop, length-take-le}
+use Rattle.hash_crc.proofs.Common.{◌≡◌, ℕ, zero, suc, ◌+◌, ◌*◌, ◌/◌, ◌%◌, ◌^◌, ◌<◌, ◌≤◌, List, [], ◌∷◌, ◌++◌, length, take, drop, get_or, fold, map, bit_xor, sym, ap, ◌∙◌, refl, lit<, arith, ap₂, take-append-drop, length-drop, length-take-le, mod-eq_of_lt, xor_assoc, xor_zero_l, xor_zero_r, xor_comm, xor_lt, All-take, All-drop, IsText, le, recurrence-nil, recurrence-fold, recurrence-append, recurrence_is_fold, after_below, xor_twice, all_ones, bit_out, bits_out, crc_step, crc_from, crc_answer, crc_facts}
 use Rattle.std.proofs.lemmas.List.{get_or-map, length-map, nil_from_length, take_all}
-use Rattle.std.proofs.lemmas.List.Elements.{All-take, All-drop}
 use Rattle.std.specs.Simd.{first_chunks}
 use Rattle.std.specs.List.{range_with_len}
 use Rattle.std.proofs.lemmas.List.FromFn.{get_or-map-range_with_len}
-use Rattle.std.proofs.Math.Nat.{mod-eq_of_lt}
-use Rattle.hash_laws.specs.Text.{IsText}
-use Rattle.hash_words.specs.Words.{le}
-use Rattle.hash_laws.proofs.RecurrenceLemmas.{recurrence-nil, recurrence-fold, recurrence-append, recurrence_is_fold}
-use Rattle.hash_laws.proofs.ByteLemmas.{after_below}
-use Rattle.hash_words.proofs.XorLemmas.{xor_twice}
-use Rattle.hash_crc.specs.Crc32.{all_ones, bit_out, bits_out, crc_step, crc_from, crc_answer}
-use Rattle.hash_crc.specs.Crc32Laws.{crc_facts}
 use Rattle.hash_crc.proofs.Crc32Lemmas.{by_table, bits_out-xor, moved_down, low_and_high}
+use Rattle.hash_crc.specs.Crc32Laws.{crc_from-lt}
 
 module _ (p : ℕ) where
   pub bits_out-more : (m k y : ℕ) → bits_out p k (bits_out p m y) ≡ bits_out p (m + k) y
@@ -211,8 +199,7 @@ pub joined_answer : (p : ℕ) (highest : p / 2 ^ 31 ≡ 1) (x y : List ℕ) (has
     → result ≡ bit_xor (bits_out p (8 * n) (hash1 % 2 ^ 32)) (hash2 % 2 ^ 32)
     → result ≡ crc_answer (crc_from p all_ones (x ++ y))
 joined_answer p highest x y hash1 hash2 n result xs ys whole first second is =
-    let in_range = λ (text : List ℕ) (known : IsText text). after_below (crc_step p) (2 ^ 32) (crc_from p)
-    (recurrence_is_fold (crc_step p) (2 ^ 32)) (crc_facts p highest).in_range all_ones text (lit< tt) known in
+    let in_range = crc_from-lt p highest in
     let answers = λ (s : ℕ) (known : s < 2 ^ 32). mod-eq_of_lt (xor_lt 32 s all_ones known (lit< tt)) in
     let a = crc_from p all_ones x in
     let b = crc_from p all_ones y in

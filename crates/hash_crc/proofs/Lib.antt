@@ -1,3 +1,4 @@
+pub mod Common
 pub mod Crc32Endings
 pub mod Crc32Lemmas
 pub mod Crc32Products

@@ -1,10 +1,12 @@
 -- The step of a CRC stays in range and is injective, and what undoes it, for each polynomial of degree 32 that has the term 1.
-use Rattle.std.proofs.Common.{◌≡◌, ℕ, zero, suc, ◌*◌, ◌/◌, ◌%◌, ◌^◌, ◌<◌, bit_xor, sym, ap, ◌∙◌, arith}
+use Rattle.std.proofs.Common.{◌≡◌, ℕ, List, lit<, zero, suc, ◌*◌, ◌/◌, ◌%◌, ◌^◌, ◌<◌, bit_xor, sym, ap, ◌∙◌, arith}
 use Rattle.std.proofs.lemmas.Nat.{xor_lt, xor_shr, xor_comm}
 use Rattle.std.specs.Int.Bits.{xor_zero_r}
 use Rattle.hash_laws.specs.StepFacts.{StepFacts}
+use Rattle.hash_laws.specs.Text.{IsText}
+use Rattle.hash_laws.proofs.ByteLemmas.{recurrence_below}
 use Rattle.hash_words.proofs.XorLemmas.{xor_twice, xor_cancel, xor_cancel_left, xored_32}
-use Rattle.hash_crc.specs.Crc32.{all_ones, bit_out, bits_out, crc_step, crc_answer}
+use Rattle.hash_crc.specs.Crc32.{all_ones, bit_out, bits_out, crc_step, crc_from, crc_answer}
 
 -- the term 1 is the highest bit, since the bits are in reverse order
 module _ (p : ℕ) (highest : p / 2 ^ 31 ≡ 1) where
@@ -45,6 +47,13 @@ module _ (p : ℕ) (highest : p / 2 ^ 31 ≡ 1) where
     state_injective = λ h k b hs ks sb e. xor_cancel h k b (bits_out-same 8 _ _ (xored_32 h b hs sb) (xored_32 k b ks sb) e);
     item_injective = λ h a b hs sa sb e. xor_cancel_left h a b (bits_out-same 8 _ _ (xored_32 h a hs sa) (xored_32 h b hs sb) e);
   }
+
+  -- the state after a text, and the answer
+  pub crc_from-lt : (text : List ℕ) → IsText text → crc_from p all_ones text < 2 ^ 32
+  crc_from-lt text is = recurrence_below (crc_step p) (2 ^ 32) crc_facts.in_range all_ones text (lit< tt) is
+
+  pub crc_answer-lt : (text : List ℕ) → IsText text → crc_answer (crc_from p all_ones text) < 2 ^ 32
+  crc_answer-lt text is = xor_lt 32 (crc_from p all_ones text) all_ones (crc_from-lt text is) (lit< tt)
 
 -- what eight bits went out of, with the byte xored in
 pub crc_back : (p h b word : ℕ) → bits_out p 8 word ≡ h → crc_step p (bit_xor word b) b ≡ h

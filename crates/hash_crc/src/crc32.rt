@@ -14,8 +14,7 @@ ghost use Rattle.hash_crc.specs.Crc32.{ieee, castagnoli, all_ones, bits_out, bit
 ghost use Rattle.hash_crc.specs.Crc32Laws.{crc_facts, crc_answer_same};
 
 use castagnoli_rows::CASTAGNOLI;
-use hash_laws::traits::hash_of;
-use hash_rules::{ByteHasher, ByteRule, StepRule, UndoRule, in_eights};
+use hash_rules::{ByteHasher, ByteRule, StepRule, UndoRule, hash_by_rule, in_eights};
 use hash_words::le_four;
 use ieee_rows::IEEE;
 use std::hash::Hasher;
@@ -30,7 +29,7 @@ pub trait Polynomial {
     /// The polynomial.
     const POLYNOMIAL: u32;
 
-    /// What is left of a byte when its eight bits have gone out, and those of so many bytes of zeros behind it.
+    /// What is left of a byte when its eight bits have gone out, and those of so many bytes of zeros after it.
     fn byte_out(zeros: usize, byte: u8) -> u32
         requires { zeros < 16 }
         ensures { result ≡ bits_out POLYNOMIAL (8 * (zeros + 1)) byte };
@@ -91,7 +90,7 @@ fn byte_in<P: Polynomial>(word: u32) -> u32
     bit_in::<P>(bit_in::<P>(bit_in::<P>(bit_in::<P>(nibble))))
 }
 
-/// What is left of a word when its bits have gone out, and those of so many bytes of zeros behind it.
+/// What is left of a word when its bits have gone out, and those of so many bytes of zeros after it.
 #[inline(always)]
 fn word_out<P: Polynomial>(zeros: usize, word: u32) -> u32
     requires { zeros ≤ 12 }
@@ -208,17 +207,17 @@ impl<P: Polynomial> UndoRule for CrcRule<P> {
 /// CRC-32 (RFC 1952, section 8).
 ///
 /// The state is 32 bits, all set at first. A byte is xored into its low bits, and then eight bits go out at the low end: where
-/// a bit that goes out is set, 0xEDB88320 is xored in. `finish` answers the state with all bits inverted, widened. Cuts don't
-/// show, each write can be undone, and texts that differ in one byte never collide.
+/// a bit that goes out is set, 0xEDB88320 is xored in. `finish` returns the state with all bits inverted, widened. The split
+/// does not matter, each write can be undone, and texts that differ in one byte never collide.
 ///
 /// Contracts see the hasher as its state, a number below 2^32: `write` gives `h.new ≡ crc_from ieee h.old bytes.now`, and
-/// `finish` answers `crc_answer h.now`. Of `123456789` the hash is 0xCBF43926.
+/// `finish` returns `crc_answer h.now`. Of `123456789` the hash is 0xCBF43926.
 pub type Crc32Hasher = ByteHasher<CrcRule<Ieee>>;
 
 /// CRC-32C (RFC 3720, section 12.1): as [`Crc32Hasher`], with 0x82F63B78 in the place of 0xEDB88320.
 ///
 /// Contracts see the hasher as its state, a number below 2^32: `write` gives `h.new ≡ crc_from castagnoli h.old bytes.now`, and
-/// `finish` answers `crc_answer h.now`. Of `123456789` the hash is 0xE3069283.
+/// `finish` returns `crc_answer h.now`. Of `123456789` the hash is 0xE3069283.
 pub type Crc32cHasher = ByteHasher<CrcRule<Castagnoli>>;
 
 /// CRC-32 of the bytes.
@@ -226,7 +225,7 @@ pub fn crc32(bytes: &[u8]) -> u64
     ensures value { result ≡ crc32_of bytes.now }
     ensures below { result < 2 ^ 32 }
 {
-    hash_of::<Crc32Hasher>(bytes)
+    hash_by_rule::<CrcRule<Ieee>>(bytes)
 }
 
 /// CRC-32C of the bytes.
@@ -234,7 +233,7 @@ pub fn crc32c(bytes: &[u8]) -> u64
     ensures value { result ≡ crc32c_of bytes.now }
     ensures below { result < 2 ^ 32 }
 {
-    hash_of::<Crc32cHasher>(bytes)
+    hash_by_rule::<CrcRule<Castagnoli>>(bytes)
 }
 
 /// The word with one bit gone out.
@@ -324,7 +323,7 @@ fn ending<P: Polynomial>(hash: u64, answer: u64) -> [u8; 4]
     (word ^ before).to_le_bytes()
 }
 
-/// The one ending of four bytes behind a text with this CRC-32 that makes the CRC-32 of the whole the answer. Of both
+/// The one ending of four bytes after a text with this CRC-32 that makes the CRC-32 of the whole the answer. Of both
 /// numbers the low 32 bits count.
 pub fn crc32_ending(hash: u64, answer: u64) -> [u8; 4]
     ensures leads { (text : List ℕ) → hash % 2 ^ 32 ≡ crc32_of text
@@ -347,7 +346,7 @@ pub fn crc32c_ending(hash: u64, answer: u64) -> [u8; 4]
     ending::<Castagnoli>(hash, answer)
 }
 
-/// The CRCs favour no answer, a law with no code: behind any text each answer has exactly one ending of four bytes,
+/// The CRCs favour no answer, a law with no code: after any text each answer has exactly one ending of four bytes,
 /// which [`crc32_ending`] and [`crc32c_ending`] find.
 pub fn crcs_are_even()
     ensures crc32 { (text : List ℕ) (answer : ℕ) → IsText text → answer < 2 ^ 32

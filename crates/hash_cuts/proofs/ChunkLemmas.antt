@@ -1,8 +1,5 @@
 -- The chunks of a text: the first one, and those of the rest.
-use Rattle.std.proofs.Common.{◌≡◌, ℕ, zero, suc, ◌<◌, ◌≤◌, List, [], ◌∷◌, length, take, drop, inl, inr, arith, ap, refl}
-use Rattle.std.proofs.lemmas.Bool.{cases_lt}
-use Rattle.std.proofs.lemmas.List.{length-drop}
-use Rattle.hash_cuts.specs.Cuts.{AreSizes, Cutting, chunks, chunks_upto, first_cut}
+use Rattle.hash_cuts.proofs.Common.{◌≡◌, ℕ, zero, suc, ◌<◌, ◌≤◌, List, [], ◌∷◌, length, take, drop, inl, inr, arith, ap, refl, cases_lt, AreSizes, Cutting, chunks, chunks_upto, first_cut, length-drop}
 use Rattle.hash_cuts.proofs.CutLemmas.{first_cut-is, latest}
 
 module _ (cuts : Cutting) (sizes : AreSizes cuts.least cuts.average cuts.most) where

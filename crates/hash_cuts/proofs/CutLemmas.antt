@@ -1,15 +1,5 @@
 -- Where the first chunk of a text ends, by which places are cuts.
-use Rattle.std.proofs.Common.{◌≡◌, ℕ, ◌+◌, ◌-◌, ◌*◌, ◌/◌, ◌^◌, ◌<◌, ◌≤◌, Bool, true, false, not, nat_lt, min, List, length, get_or, take, drop, inl, inr, arith, lit<, ap, subst, sym, ◌∙◌}
-use Rattle.std.proofs.Math.Nat.{div-mul-le_self, mul-le-mul_right}
-use Rattle.std.proofs.lemmas.Bool.{cases_lt, false≢true, not-false, not-true}
-use Rattle.std.proofs.lemmas.Bool.Decides.{nat_tests}
-use Rattle.std.proofs.lemmas.Nat.{le-div}
-use Rattle.std.proofs.lemmas.List.{get_or-drop, get_or-take}
-use Rattle.std.proofs.lemmas.List.FromFn.{get_or-range_with_len, length-range_with_len}
-use Rattle.std.proofs.lemmas.List.Sums.{prefix_len-le-length, prefix_len_passes, prefix_len_stops}
-use Rattle.std.specs.List.{prefix_len, range_with_len}
-use Rattle.hash_cuts.specs.Cuts.{Cutting, HasSizes, is_cut, first_cut}
-use Rattle.hash_cuts.specs.Gear.{gear, gear_of, gear_step}
+use Rattle.hash_cuts.proofs.Common.{◌≡◌, ℕ, ◌+◌, ◌-◌, ◌*◌, ◌/◌, ◌^◌, ◌<◌, ◌≤◌, Bool, true, false, not, nat_lt, min, List, length, get_or, take, drop, inl, inr, arith, lit<, ap, subst, sym, ◌∙◌, div-lt_iff_lt-mul, get_or-take, cases_lt, false≢true, not-false, not-true, nat_tests, prefix_len, range_with_len, Cutting, HasSizes, is_cut, first_cut, gear, gear_of, gear_step, get_or-drop, get_or-range_with_len, length-range_with_len, prefix_len-le-length, prefix_len_passes, prefix_len_stops}
 use Rattle.hash_cuts.proofs.GearLemmas.{gear-more, gear-rolled}
 
 -- the end of the first chunk at the latest
@@ -68,50 +58,31 @@ module _ (cuts : Cutting) (text : List ℕ) where
   }
 
   -- only one place is the first cut
-  pub first-same : (n k : ℕ) → IsFirst cuts text n → IsFirst cuts text k → n ≡ k
-  first-same n k n_is k_is = elim (cases_lt n k) [
+  not-beyond : (n k : ℕ) → IsFirst cuts text n → IsFirst cuts text k → k ≤ n
+  not-beyond n k n_is k_is = elim (cases_lt n k) [
     | inl below ↦
         let cut = n_is.cut (omega (arith, below, k_is.within)) in
         absurd (false≢true (sym (k_is.before n cut.0 below) ∙ cut.1))
-    | inr above ↦
-        elim (cases_lt k n) [
-          | inl below ↦
-              let cut = k_is.cut (omega (arith, below, n_is.within)) in
-              absurd (false≢true (sym (n_is.before k cut.0 below) ∙ cut.1))
-          | inr same ↦ omega arith
-        ]
+    | inr upto ↦ upto
   ]
 
   pub first_cut-from : (n : ℕ) → IsFirst cuts text n → n ≡ first_cut cuts text
-  first_cut-from n is = first-same n (first_cut cuts text) is first_cut-is
+  first_cut-from n is =
+      let there = first_cut cuts text in
+      omega (arith, not-beyond n there is first_cut-is, not-beyond there n first_cut-is is)
 
 -- a hash below the bound is one that is below 2 ^ 64 / average
-pub below-bound : (hash average : ℕ) → 1 ≤ average → nat_lt hash ((2 ^ 64 - 1) / average + 1) ≡ nat_lt (hash * average) (2 ^ 64)
-below-bound hash average some = elim (cases_lt (hash * average) (2 ^ 64)) [
-  | inl small ↦
-      let product : nat_lt (hash * average) (2 ^ 64) ≡ true = grind (arith, nat_tests) in
-      let upto : hash ≤ (2 ^ 64 - 1) / average = le-div hash (2 ^ 64 - 1) average (omega arith) (omega (arith, small)) in
-      let quotient : nat_lt hash ((2 ^ 64 - 1) / average + 1) ≡ true = grind (arith, nat_tests) in
-      quotient ∙ sym product
-  | inr large ↦
-      let product : nat_lt (hash * average) (2 ^ 64) ≡ false = grind (arith, nat_tests) in
-      let beyond : (2 ^ 64 - 1) / average < hash = elim (cases_lt ((2 ^ 64 - 1) / average) hash) [
-        | inl far ↦ far
-        | inr near ↦
-            absurd (omega (arith, large, mul-le-mul_right average near, div-mul-le_self (2 ^ 64 - 1) average))
-      ] in
-      let quotient : nat_lt hash ((2 ^ 64 - 1) / average + 1) ≡ false = grind (arith, nat_tests) in
-      quotient ∙ sym product
-]
-
--- a hash that rolled up to a place says whether the place is a cut
-pub cut-by-hash : (cuts : Cutting) (text : List ℕ) (place hash : ℕ) → 64 ≤ cuts.least → 1 ≤ cuts.average → cuts.least ≤ place
-    → place ≤ length text → hash ≡ gear_of (gear cuts.seed1 cuts.seed2) (take (place - (cuts.least - 64)) (drop (cuts.least - 64) text))
-    → nat_lt hash ((2 ^ 64 - 1) / cuts.average + 1) ≡ is_cut cuts text place
-cut-by-hash cuts text place hash least average from within rolled =
-    let number = gear cuts.seed1 cuts.seed2 in
-    below-bound hash cuts.average average
-    ∙ ap (λ h. nat_lt (h * cuts.average) (2 ^ 64)) (rolled ∙ gear-rolled number text (cuts.least - 64) place (omega arith) within)
+below-bound : (hash average : ℕ) → 1 ≤ average → nat_lt hash ((2 ^ 64 - 1) / average + 1) ≡ nat_lt (hash * average) (2 ^ 64)
+below-bound hash average some =
+    let (above, below) = div-lt_iff_lt-mul {k = average} {x = 2 ^ 64 - 1} {y = hash} some in
+    elim (cases_lt ((2 ^ 64 - 1) / average) hash) [
+      | inl far ↦ grind (arith, nat_tests, above far)
+      | inr near ↦
+          elim (cases_lt (2 ^ 64 - 1) (hash * average)) [
+            | inl large ↦ absurd (omega (arith, near, below large))
+            | inr small ↦ grind (arith, nat_tests)
+          ]
+    ]
 
 -- a hash that rolled up to a place, from 64 bytes before the least on, and no place was a cut
 pub record HasRolled (cuts : Cutting) (text : List ℕ) (place hash : ℕ) : Type 0 where
@@ -123,8 +94,10 @@ module _ (cuts : Cutting) (text : List ℕ) (below : ℕ) (sizes : HasSizes cuts
   rolled-cut : (place hash : ℕ) → cuts.least ≤ place → place ≤ length text → HasRolled cuts text place hash
       → nat_lt hash below ≡ is_cut cuts text place
   rolled-cut place hash from within rolled =
-      ap (nat_lt hash) bound
-      ∙ cut-by-hash cuts text place hash (omega (arith, sizes)) (omega (arith, sizes)) from within rolled.hash_is
+      let number = gear cuts.seed1 cuts.seed2 in
+      ap (nat_lt hash) bound ∙ below-bound hash cuts.average (omega (arith, sizes))
+      ∙ ap (λ h. nat_lt (h * cuts.average) (2 ^ 64))
+      (rolled.hash_is ∙ gear-rolled number text (cuts.least - 64) place (omega (arith, from, sizes.0)) within)
 
   -- a hash below the bound is a cut's
   pub rolled-to : (place hash : ℕ) → cuts.least ≤ place → place < latest cuts text → HasRolled cuts text place hash → hash < below
@@ -154,7 +127,7 @@ module _ (cuts : Cutting) (text : List ℕ) (below : ℕ) (sizes : HasSizes cuts
           | inl earlier ↦ rolled.none m after earlier
           | inr there ↦
               let same : m ≡ place = omega (arith, before, there) in
-              ap (is_cut cuts text) same ∙ none
+              rw same none
         ];
       }
 

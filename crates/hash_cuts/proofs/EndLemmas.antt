@@ -1,9 +1,5 @@
 -- Where the chunks of a text end, written one after the other.
-use Rattle.std.proofs.Common.{◌≡◌, ℕ, ◌+◌, ◌<◌, ◌≤◌, ◌⊎◌, List, [], ◌∷◌, ◌++◌, length, take, drop, min, slice_set, inl, inr, sym, ap, ◌∙◌, arith, length-append}
-use Rattle.std.proofs.Math.Path.{ap₂}
-use Rattle.std.proofs.Math.Seq.{take-append_seam}
-use Rattle.std.proofs.lemmas.List.{append_assoc, drop-drop, drop-set-lt, length-drop, length-set, length-take-le, take-append-drop, take_more_set}
-use Rattle.hash_cuts.specs.Cuts.{Cutting, HasSizes, chunk_ends, chunks, ends_from, first_cut}
+use Rattle.hash_cuts.proofs.Common.{◌≡◌, ℕ, ◌+◌, ◌<◌, ◌≤◌, ◌⊎◌, List, [], ◌∷◌, ◌++◌, length, take, drop, min, slice_set, inl, inr, sym, ap, ◌∙◌, arith, length-append, ap₂, take-append_seam, drop-set-lt, take-append-drop, take_more_set, Cutting, HasSizes, chunk_ends, chunks, ends_from, first_cut, append_assoc, drop-drop, length-drop, length-set, length-take-le}
 use Rattle.hash_cuts.proofs.ChunkLemmas.{chunks-first, chunks-none, first_cut-le}
 
 -- so many ends are written, those up to a place of the text, and what stood behind them stands there still

@@ -1,14 +1,9 @@
 -- The gear hash of a text is the sum of its bytes' numbers, each times a power of two, so that of 64 bytes and more the last 64 count alone.
-use Rattle.std.proofs.Common.{◌≡◌, ℕ, suc, ◌+◌, ◌-◌, ◌*◌, ◌%◌, ◌^◌, ◌<◌, ◌≤◌, List, [], ◌∷◌, ◌++◌, length, get_or, take, drop, reverse, ap, sym, ◌∙◌, arith, lit<, map, refl}
-use Rattle.std.proofs.lemmas.List.{drop-drop, drop-take, get_or-drop, length-drop, length-take-le, length-reverse, take-append-drop, map-append, reverse-reverse}
-use Rattle.std.proofs.Math.Nat.{pow-suc}
-use Rattle.std.proofs.lemmas.Grind.{reverse_onto}
-use Rattle.std.proofs.lemmas.Nat.{mod_below}
+use Rattle.hash_cuts.proofs.Common.{◌≡◌, ℕ, suc, ◌+◌, ◌-◌, ◌*◌, ◌%◌, ◌^◌, ◌<◌, ◌≤◌, List, [], ◌∷◌, ◌++◌, length, get_or, take, drop, reverse, ap, sym, ◌∙◌, arith, lit<, map, refl, pow-suc, drop-take, length-reverse, take-append-drop, map-append, reverse-reverse, reverse_onto, gear_step, gear_of, gear_at, drop-drop, get_or-drop, length-drop, length-take-le, mod_below}
 use Rattle.hashers.specs.Sums.{digit_sum}
 use Rattle.hash_rounds.proofs.SumLemmas.{digit_sum-append}
 use Rattle.hashers.specs.Recurrence.{from_last, recurrence}
 use Rattle.hashers.proofs.RecurrenceLemmas.{recurrence-append, recurrence_more}
-use Rattle.hash_cuts.specs.Gear.{gear_step, gear_of, gear_at}
 
 module _ (number : ℕ → ℕ) where
   from_last-sum : (s : ℕ) (bytes : List ℕ) → s < 2 ^ 64

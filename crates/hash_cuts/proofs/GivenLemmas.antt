@@ -1,11 +1,5 @@
 -- Chunks that a sink was given, one after the other.
-use Rattle.std.proofs.Common.{◌≡◌, ℕ, ◌+◌, ◌-◌, ◌<◌, ◌≤◌, ◌⊎◌, List, [], ◌∷◌, ◌++◌, length, length-append, take, drop, append_assoc, Option, Some, None, inl, inr, arith, ap, subst, sym, ◌∙◌, refl}
-use Rattle.std.specs.Io.KnownBytes.{IsAtEnd}
-use Rattle.std.proofs.KnownBytes.{Consumes-trans}
-use Rattle.std.proofs.lemmas.Bool.{cases_lt}
-use Rattle.std.proofs.lemmas.List.{append-nil, drop-append-le, drop-take, length-drop, length-take, take-append-drop, take-append-le, take_all}
-use Rattle.hash_cuts.specs.Cuts.{Cutting, HasSizes, chunks, first_cut, is_cut}
-use Rattle.hash_cuts.specs.Reading.{CutsAll, CutsRead, GivesFirst, IsBegun, Taken, Takes}
+use Rattle.hash_cuts.proofs.Common.{◌≡◌, ℕ, ◌+◌, ◌-◌, ◌<◌, ◌≤◌, ◌⊎◌, List, [], ◌∷◌, ◌++◌, length, length-append, take, drop, Option, Some, None, inl, inr, arith, ap, subst, sym, ◌∙◌, refl, IsAtEnd, cases_lt, append-nil, drop-append-le, drop-take, take-append-drop, take-append-le, Cutting, HasSizes, chunks, first_cut, is_cut, CutsAll, CutsRead, GivesFirst, IsBegun, Taken, Takes, append_assoc, Consumes-trans, length-drop, length-take, take_all}
 use Rattle.streams.specs.Records.{ComeFirst}
 use Rattle.streams.specs.Streams.{ReadsBehind}
 use Rattle.streams.proofs.RecordLemmas.{first_all, first_behind, first_both, first_none}
@@ -59,7 +53,7 @@ module _ (cuts : Cutting) (sizes : HasSizes cuts) (rest : List ℕ) where
 
 module _ {S : Type 0} (taken : Taken S) where
   takes-none : (old : S) → Takes taken old old [] None
-  takes-none old start before is = subst (λ list. taken start old list None) (sym (append-nil before)) is
+  takes-none old start before is = rw (append-nil before) is
 
   -- more chunks
   takes-more : (old new newer : S) (given others : List (List ℕ)) (refused : Option (List ℕ)) → Takes taken old new given None

@@ -1,14 +1,5 @@
 -- The chunks joined are the text, a chunk depends on its own bytes, and chunks that begin at one place of two texts are the same.
-use Rattle.std.proofs.Common.{◌≡◌, ◌≢◌, ℕ, zero, suc, ◌+◌, ◌-◌, ◌*◌, ◌^◌, ◌<◌, ◌≤◌, nat_lt, List, [], ◌∷◌, ◌++◌, length, length-append, get_or, take, drop, append_assoc, inl, inr, arith, ap, subst, sym, ◌∙◌, refl}
-use Rattle.std.proofs.Math.Path.{ap₂}
-use Rattle.std.specs.Prelude.{All}
-use Rattle.std.specs.List.{concat}
-use Rattle.std.proofs.lemmas.Bool.{cases_lt}
-use Rattle.std.proofs.lemmas.List.{append_cancel_left, drop-append-le, length-drop, length-take-le, take-append-drop, take-append-le, nil_from_length}
-use Rattle.std.proofs.Math.Seq.{take-append_seam, drop-append_seam}
-use Rattle.std.proofs.lemmas.List.Elements.{All-nil, All-cons}
-use Rattle.hash_cuts.specs.Cuts.{Cutting, HasSizes, chunks, first_cut, is_cut}
-use Rattle.hash_cuts.specs.Gear.{gear, gear_of}
+use Rattle.hash_cuts.proofs.Common.{◌≡◌, ◌≢◌, ℕ, zero, suc, ◌+◌, ◌-◌, ◌*◌, ◌^◌, ◌<◌, ◌≤◌, nat_lt, List, [], ◌∷◌, ◌++◌, length, length-append, get_or, take, drop, inl, inr, arith, ap, sym, ◌∙◌, refl, ap₂, All, concat, cases_lt, append_cancel_left, drop-append-le, take-append-drop, take-append-le, nil_from_length, take-append_seam, drop-append_seam, Cutting, HasSizes, chunks, chunks_upto, first_cut, is_cut, gear, gear_of, append_assoc, length-drop, length-take-le, All-nil, All-cons}
 use Rattle.hash_cuts.proofs.ChunkLemmas.{chunks-first, chunks-none, first_cut-le, first_cut-some}
 use Rattle.hash_cuts.proofs.CutLemmas.{first_cut-is, first_cut-from, latest}
 
@@ -18,17 +9,14 @@ module _ (cuts : Cutting) (sizes : HasSizes cuts) where
       → is_cut cuts (take n text ++ other) m ≡ is_cut cuts text m
   is_cut-same text other n m from within known =
       let front = take n text in
-      let len : length front ≡ n = length-take-le n text known in
-      let start = m - 64 in
-      let fits : start + 64 ≤ n = omega (arith, sizes.0, from, within) in
-      let left : take 64 (drop start (front ++ other)) ≡ take 64 (drop start front) =
-      ap (take 64) (drop-append-le start front other (omega (arith, len, fits)))
-      ∙ take-append-le 64 (drop start front) other (omega (arith, length-drop start front, len, fits)) in
-      let right : take 64 (drop start text) ≡ take 64 (drop start front) =
-      ap (λ (t : List ℕ). take 64 (drop start t)) (sym (take-append-drop n text))
-      ∙ ap (take 64) (drop-append-le start front (drop n text) (omega (arith, len, fits)))
-      ∙ take-append-le 64 (drop start front) (drop n text) (omega (arith, length-drop start front, len, fits)) in
-      ap (λ (t : List ℕ). nat_lt (gear_of (gear cuts.seed1 cuts.seed2) t * cuts.average) (2 ^ 64)) (left ∙ sym right)
+      let len = length-take-le n text known in
+      let same : (more : List ℕ) → take 64 (drop (m - 64) (front ++ more)) ≡ take 64 (drop (m - 64) front) = λ more.
+      rw (
+        drop-append-le (m - 64) front more (omega (arith, sizes.0, from, within, len)),
+        take-append-le 64 (drop (m - 64) front) more (omega (arith, sizes.0, from, within, len, length-drop (m - 64) front)),
+      ) in
+      ap (λ (t : List ℕ). nat_lt (gear_of (gear cuts.seed1 cuts.seed2) t * cuts.average) (2 ^ 64))
+      (same other ∙ sym (same (drop n text)) ∙ ap (λ t. take 64 (drop (m - 64) t)) (take-append-drop n text))
 
   pub own-bytes : (text other : List ℕ) → first_cut cuts text < length text
       → first_cut cuts (take (first_cut cuts text) text ++ other) ≡ first_cut cuts text
@@ -54,12 +42,9 @@ module _ (cuts : Cutting) (sizes : HasSizes cuts) where
 
   -- a text with chunks has a byte
   some-byte : (text chunk : List ℕ) (others : List (List ℕ)) → chunks cuts text ≡ chunk ∷ others → 0 < length text
-  some-byte text chunk others are = elim (cases_lt 0 (length text)) [
-    | inl there ↦ there
-    | inr none ↦
-        let e : suc (length others) ≡ 0 = ap length (sym are ∙ chunks-none cuts text (omega (arith, none))) in
-        absurd (omega (arith, e))
-  ]
+  unfolding chunks_upto
+  some-byte [] chunk others are = absurd (omega (arith, ap length are))
+  some-byte (byte ∷ text) chunk others are = omega arith
 
   -- the first of the chunks that are known, and the text behind it
   first-known : (text chunk : List ℕ) (others : List (List ℕ)) → chunks cuts text ≡ chunk ∷ others
@@ -98,7 +83,9 @@ module _ (cuts : Cutting) (sizes : HasSizes cuts) where
       let len : length chunk ≡ n = ap length (sym known.0) ∙ chunk-length text in
       let more : 0 < length (drop n text) = elim (cases_lt 0 (length (drop n text))) [
         | inl there ↦ there
-        | inr none ↦ absurd (some (no-others xs others (sym known.1 ∙ chunks-none cuts (drop n text) (omega (arith, none)))))
+        | inr none ↦
+            let all = ap length (sym known.1 ∙ chunks-none cuts (drop n text) (omega (arith, none))) in
+            absurd (some (nil_from_length others (omega (arith, all, length-append xs others))))
       ] in
       let other = concat xs ++ new in
       let new_is : x ++ new ≡ chunk ++ other = ap (λ t. t ++ new) (sym joined) ∙ append_assoc chunk (concat xs) new in
@@ -113,25 +100,28 @@ module _ (cuts : Cutting) (sizes : HasSizes cuts) where
       (ap (λ k. drop k (chunk ++ other)) same ∙ drop-append_seam chunk other)
       ∙ ap (λ list. chunk ∷ list)
       (before-stay xs (concat xs) old new others (ap (chunks cuts) (sym rest) ∙ known.1) some refl)
-    where
-      no-others : (xs others : List (List ℕ)) → xs ++ others ≡ [] → others ≡ []
-      no-others [] others none = none
-      no-others (chunk ∷ xs) others none = absurd (omega (arith, ap length none))
 
   -- ---- all chunks
 
-  pub chunks-joined : (n : ℕ) (text : List ℕ) → length text ≤ n → concat (chunks cuts text) ≡ text
-  chunks-joined zero text within =
-      ap concat (chunks-none cuts text (omega arith)) ∙ sym (nil_from_length text (omega arith))
-  chunks-joined (suc n) text within = elim (cases_lt 0 (length text)) [
-    | inr none ↦ ap concat (chunks-none cuts text (omega (arith, none))) ∙ sym (nil_from_length text (omega (arith, none)))
-    | inl some ↦
-        let cut = first_cut cuts text in
-        ap concat (chunks-first cuts sizes text some)
-        ∙ ap (λ t. take cut text ++ t) (chunks-joined n (drop cut text)
-        (omega (arith, length-drop cut text, first_cut-some cuts sizes text some, within)))
-        ∙ take-append-drop cut text
-  ]
+  -- what holds of no chunks, and of a chunk before those of the rest, holds of all chunks
+  by_chunks : (P : List ℕ → List (List ℕ) → Type 0) → P [] []
+      → ((text : List ℕ) → 0 < length text → let cut = first_cut cuts text in
+      P (drop cut text) (chunks cuts (drop cut text)) → P text (take cut text ∷ chunks cuts (drop cut text)))
+      → (n : ℕ) (text : List ℕ) → length text ≤ n → P text (chunks cuts text)
+  unfolding chunks_upto
+  by_chunks P none one n [] within = none
+  by_chunks P none one zero (byte ∷ text) within = absurd (omega arith)
+  by_chunks P none one (suc n) (byte ∷ text) within =
+      let whole = byte ∷ text in
+      let some : 0 < length whole = omega arith in
+      let left = length-drop (first_cut cuts whole) whole in
+      rw (chunks-first cuts sizes whole some) (one whole some (by_chunks P none one n (drop (first_cut cuts whole) whole)
+      (omega (arith, within, left, first_cut-some cuts sizes whole some))))
+
+  pub chunks-joined : (text : List ℕ) → concat (chunks cuts text) ≡ text
+  chunks-joined text =
+      by_chunks (λ text list. concat list ≡ text) refl
+      (λ text some rest. rw rest (take-append-drop (first_cut cuts text) text)) (length text) text (omega arith)
 
   abbrev AtMost : List ℕ → Type 0
   AtMost chunk = length chunk ≤ cuts.most
@@ -139,17 +129,11 @@ module _ (cuts : Cutting) (sizes : HasSizes cuts) where
   abbrev AtLeast : List ℕ → Type 0
   AtLeast chunk = cuts.least ≤ length chunk
 
-  pub chunks-most : (n : ℕ) (text : List ℕ) → length text ≤ n → All AtMost (chunks cuts text)
-  chunks-most zero text within = rw (chunks-none cuts text (omega arith)) (All-nil AtMost)
-  chunks-most (suc n) text within = elim (cases_lt 0 (length text)) [
-    | inr none ↦ rw (chunks-none cuts text (omega (arith, none))) (All-nil AtMost)
-    | inl some ↦
-        let cut = first_cut cuts text in
-        rw (chunks-first cuts sizes text some)
-        (All-cons AtMost (take cut text) (chunks cuts (drop cut text))
-        (omega (arith, chunk-length text, (first_cut-is cuts text).within))
-        (chunks-most n (drop cut text) (omega (arith, length-drop cut text, first_cut-some cuts sizes text some, within))))
-  ]
+  pub chunks-most : (text : List ℕ) → All AtMost (chunks cuts text)
+  chunks-most text =
+      by_chunks (λ text list. All AtMost list) (All-nil AtMost)
+      (λ text some rest. All-cons AtMost _ _ (omega (arith, chunk-length text, (first_cut-is cuts text).within)) rest)
+      (length text) text (omega arith)
 
   -- a chunk behind which something is left
   long-enough : (text : List ℕ) → first_cut cuts text < length text → AtLeast (take (first_cut cuts text) text)
@@ -160,34 +144,22 @@ module _ (cuts : Cutting) (sizes : HasSizes cuts) where
         | inr there ↦ omega (arith, chunk-length text, before, there, sizes.1, sizes.2)
       ]
 
+  one_less : (chunk : List ℕ) (list : List (List ℕ)) → length (chunk ∷ list) - 1 ≡ length list
+  one_less chunk list = omega arith
+
   all-but-last : (chunk : List ℕ) (list : List (List ℕ)) → (0 < length list → AtLeast chunk)
       → All AtLeast (take (length list - 1) list) → All AtLeast (take (length (chunk ∷ list) - 1) (chunk ∷ list))
-  all-but-last chunk list long rest =
-      let one_less : length (chunk ∷ list) - 1 ≡ length list = omega arith in
-      rw one_less (go list long rest)
-    where
-      go : (list : List (List ℕ)) → (0 < length list → AtLeast chunk) → All AtLeast (take (length list - 1) list)
-          → All AtLeast (take (length list) (chunk ∷ list))
-      go [] long rest = All-nil AtLeast
-      go (next ∷ list) long rest =
-          let one_less : length (next ∷ list) - 1 ≡ length list = omega arith in
-          All-cons AtLeast chunk (take (length list) (next ∷ list)) (long (omega arith))
-          (subst (λ k. All AtLeast (take k (next ∷ list))) one_less rest)
+  all-but-last chunk [] long rest = rw (one_less chunk []) (All-nil AtLeast)
+  all-but-last chunk (next ∷ list) long rest =
+      rw (one_less chunk (next ∷ list))
+      (All-cons AtLeast chunk (take (length list) (next ∷ list)) (long (omega arith)) (rw (one_less next list) at rest))
 
-  pub chunks-least : (n : ℕ) (text : List ℕ) → length text ≤ n
-      → All AtLeast (take (length (chunks cuts text) - 1) (chunks cuts text))
-  chunks-least zero text within = rw (chunks-none cuts text (omega arith)) (All-nil AtLeast)
-  chunks-least (suc n) text within = elim (cases_lt 0 (length text)) [
-    | inr none ↦ rw (chunks-none cuts text (omega (arith, none))) (All-nil AtLeast)
-    | inl some ↦
-        let cut = first_cut cuts text in
-        let rest = drop cut text in
-        let left = length-drop cut text in
-        rw (chunks-first cuts sizes text some)
-        (all-but-last (take cut text) (chunks cuts rest)
-        (λ more. long-enough text (elim (cases_lt 0 (length rest)) [
-          | inl there ↦ omega (arith, there, left)
-          | inr none ↦ absurd (omega (arith, more, ap length (chunks-none cuts rest (omega (arith, none)))))
-        ]))
-        (chunks-least n rest (omega (arith, left, first_cut-some cuts sizes text some, within))))
-  ]
+  pub chunks-least : (text : List ℕ) → All AtLeast (take (length (chunks cuts text) - 1) (chunks cuts text))
+  chunks-least text =
+      by_chunks (λ text list. All AtLeast (take (length list - 1) list)) (All-nil AtLeast) (λ text some rest.
+      let behind = drop (first_cut cuts text) text in
+      all-but-last (take (first_cut cuts text) text) (chunks cuts behind)
+      (λ more. long-enough text (elim (cases_lt 0 (length behind)) [
+        | inl there ↦ omega (arith, there, length-drop (first_cut cuts text) text)
+        | inr none ↦ absurd (omega (arith, more, ap length (chunks-none cuts behind (omega (arith, none)))))
+      ])) rest) (length text) text (omega arith)

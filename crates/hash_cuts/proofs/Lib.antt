@@ -1,3 +1,4 @@
+pub mod Common
 pub mod GearLemmas
 pub mod CutLemmas
 pub mod ChunkLemmas

@@ -28,8 +28,8 @@ impl Model for Cuts {
 }
 
 impl Cuts {
-    /// Chunks of `least` to `most` bytes, where from `least` on each place is a cut with a chance of 1 in `average`; `None` exactly if
-    /// 64 ≤ `least` ≤ `average` ≤ `most` does not hold. Other seeds cut at other places.
+    /// Chunks of `least` to `most` bytes; `None` exactly if 64 ≤ `least` ≤ `average` ≤ `most` does not hold. From `least` on about one
+    /// place in `average` is a boundary, if the bytes look random, which is measured. Other seeds give other boundaries.
     // inlined, the bound becomes a product and a test of its overflow for each byte
     #[inline(never)]
     pub fn new(least: usize, average: usize, most: usize, seed1: u64, seed2: u64) -> Option<Cuts>

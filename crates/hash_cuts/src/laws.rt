@@ -36,7 +36,8 @@ pub fn chunks_before_stay()
 
 /// The gear hash is the sum of the bytes' numbers, each times a power of two, modulo 2^64. So the last 64 bytes decide it.
 pub fn gear_is_a_sum()
-    ensures sum { (number : ℕ → ℕ) (text : List ℕ) → gear_of number text ≡ digit_sum 2 (map number text) % 2 ^ 64 }
+    ensures sum { (number : ℕ → ℕ) (text : List ℕ)
+        → gear_of number text ≡ digit_sum 2 (map number text) % 2 ^ 64 }
     ensures last { (number : ℕ → ℕ) (x last : List ℕ) → length last ≡ 64
         → gear_of number (x ++ last) ≡ gear_of number last }
 {}

@@ -161,7 +161,7 @@ pub fn cut_reader_by<R: Read, S: Sink>(
     ensures first { IfOk result (λ taken. taken.ended ≡ false → (rest : List ℕ) × IsBegun cuts.now rest
         × CutsRead S.taken cuts.now (R.remaining r.old) (R.remaining r.new) sink.old sink.new taken.bytes rest None) }
     ensures fault { IfErr result (λ why. (bytes : ℕ) × (rest : List ℕ) × (refused : Option (List ℕ))
-        × BreaksAt cuts.now why bytes rest refused
+        × (bytes ≤ limit) × BreaksAt cuts.now why bytes rest refused
         × CutsRead S.taken cuts.now (R.remaining r.old) (R.remaining r.new) sink.old sink.new bytes rest refused) }
     ensures within { IfOk result (λ taken. taken.bytes ≤ limit) }
     ensures at_limit { IfOk result (λ taken. (taken.ended ≡ false) ↔ (taken.bytes ≡ limit)) }
@@ -217,7 +217,7 @@ pub fn cut_reader<R: Read, S: Sink>(
     ensures first { IfOk result (λ taken. taken.ended ≡ false → (rest : List ℕ) × IsBegun cuts.now rest
         × CutsRead S.taken cuts.now (R.remaining r.old) (R.remaining r.new) sink.old sink.new taken.bytes rest None) }
     ensures fault { IfErr result (λ why. (bytes : ℕ) × (rest : List ℕ) × (refused : Option (List ℕ))
-        × BreaksAt cuts.now why bytes rest refused
+        × (bytes ≤ limit) × BreaksAt cuts.now why bytes rest refused
         × CutsRead S.taken cuts.now (R.remaining r.old) (R.remaining r.new) sink.old sink.new bytes rest refused) }
     // If the reader's bytes are known, all chunks are theirs.
     ensures known { IfOk result (λ taken. IsTrue taken.ended → (text : List ℕ) → R.remaining r.old ≡ Some text

@@ -1,13 +1,8 @@
 -- Numbers of fixed widths, as words.
-use Rattle.std.proofs.Common.{ℕ, List, fold, ◌≡◌, ◌<◌, ◌∙◌, ap, sym, refl, [], ◌∷◌, ◌%◌, ◌/◌, ◌^◌, take, drop, arith}
-use Rattle.std.proofs.Math.Path.{ap₂}
+use Rattle.hash_fx.proofs.Common.{ℕ, List, fold, ◌≡◌, ◌<◌, ◌∙◌, ap, sym, refl, [], ◌∷◌, ◌%◌, ◌/◌, ◌^◌, take, drop, arith, ap₂, le, pieces, recurrence, recurrence-fold, fx32, fx32_step, fx64, fx64_step, words32, words64}
+use Rattle.std.proofs.Common.{lit≤}
 use Rattle.std.specs.Hash.{le_bytes}
-use Rattle.hash_words.specs.Words.{le}
-use Rattle.hash_words.specs.Pieces.{pieces}
-use Rattle.hash_words.proofs.WordLemmas.{le-to_le_bytes-32, le-to_le_bytes-64, le-4}
-use Rattle.hash_laws.specs.Recurrence.{recurrence}
-use Rattle.hash_laws.proofs.RecurrenceLemmas.{recurrence-fold}
-use Rattle.hash_fx.specs.Fx.{fx32, fx32_step, fx64, fx64_step, words32, words64}
+use Rattle.hash_words.proofs.WordLemmas.{le-to_le_bytes-32, le-to_le_bytes-64, le_by_places}
 
 -- a number that is one word
 pub words64-byte : (v : ℕ) → words64 (v ∷ []) ≡ v ∷ []
@@ -55,8 +50,8 @@ fx32_of_four h v below = ap (recurrence fx32_step h) (words32-four v below) ∙ 
 pub fx32_of_eight : (h v : ℕ) → v < 2 ^ 64 → fx32 h (words32 (le_bytes 8 v)) ≡ fx32_step (fx32_step h (v % 2 ^ 32)) (v / 2 ^ 32)
 unfolding pieces le_bytes
 fx32_of_eight h v below =
-    let low : le (take 4 (le_bytes 8 v)) ≡ v % 2 ^ 32 = le-4 (take 4 (le_bytes 8 v)) refl ∙ omega arith in
-    let high : le (drop 4 (le_bytes 8 v)) ≡ v / 2 ^ 32 = le-4 (drop 4 (le_bytes 8 v)) refl ∙ omega arith in
+    let low : le (take 4 (le_bytes 8 v)) ≡ v % 2 ^ 32 = omega (arith, le_by_places 4 (take 4 (le_bytes 8 v)) (lit≤ tt)) in
+    let high : le (drop 4 (le_bytes 8 v)) ≡ v / 2 ^ 32 = omega (arith, le_by_places 4 (drop 4 (le_bytes 8 v)) (lit≤ tt)) in
     recurrence-fold fx32_step h (le (take 4 (le_bytes 8 v)) ∷ le (drop 4 (le_bytes 8 v)) ∷ [])
     ∙ ap₂ (λ a b. fx32_step (fx32_step h a) b) low high
 

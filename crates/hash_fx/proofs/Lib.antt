@@ -1,4 +1,4 @@
+pub mod Common
 pub mod FixedWidths
-pub mod OneWord
 pub mod WholeWords
 pub mod WordParts

@@ -1,13 +1,7 @@
 -- The words of a text of whole words, and more.
-use Rattle.std.proofs.Common.{◌≡◌, ℕ, ◌+◌, ◌-◌, ◌*◌, ◌/◌, ◌%◌, List, [], ◌++◌, length, drop, map, arith, refl, sym, ap, ◌∙◌, append_assoc}
-use Rattle.std.proofs.Math.Path.{ap₂}
+use Rattle.hash_fx.proofs.Common.{◌≡◌, ℕ, ◌+◌, ◌-◌, ◌*◌, ◌/◌, ◌%◌, List, [], ◌++◌, length, drop, map, arith, refl, sym, ap, ◌∙◌, append_assoc, ap₂, append-nil, map-append, length-append, drop_all, first_chunks, le, pieces, words32, words64}
 use Rattle.std.proofs.Math.Seq.{drop-append-add}
-use Rattle.std.proofs.lemmas.List.{append-nil, map-append, length-append, drop_all}
-use Rattle.std.specs.Simd.{first_chunks}
-use Rattle.hash_words.specs.Words.{le}
-use Rattle.hash_words.specs.Pieces.{pieces}
 use Rattle.hash_words.proofs.Chunks.{first_chunks-append}
-use Rattle.hash_fx.specs.Fx.{words32, words64}
 
 -- the first text is i words of n bytes
 words-append : (n : ℕ) (rest : List ℕ → List ℕ) (a b : List ℕ) (i j k : ℕ) → rest [] ≡ [] → k ≡ i + j → length a ≡ i * n

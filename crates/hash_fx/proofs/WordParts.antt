@@ -1,12 +1,5 @@
 -- A piece's words from its wide words and the rest.
-use Rattle.std.proofs.Common.{◌≡◌, ℕ, ◌*◌, ◌/◌, List, ◌++◌, length, drop, map, fold, refl, sym, ap, ◌∙◌}
-use Rattle.std.specs.Simd.{first_chunks}
-use Rattle.std.proofs.lemmas.List.Sums.{fold-append}
-use Rattle.hash_words.specs.Words.{le}
-use Rattle.hash_words.specs.Pieces.{pieces}
-use Rattle.hash_laws.specs.Recurrence.{recurrence}
-use Rattle.hash_laws.proofs.RecurrenceLemmas.{recurrence-fold}
-use Rattle.hash_fx.specs.Fx.{fx64_step, words32, words64}
+use Rattle.hash_fx.proofs.Common.{◌≡◌, ℕ, ◌*◌, ◌/◌, List, ◌++◌, length, drop, map, fold, refl, sym, ap, ◌∙◌, first_chunks, fold-append, le, pieces, recurrence, recurrence-fold, fx64_step, words32, words64}
 
 pub words32-parts : (piece : List ℕ) (fours : List (List ℕ)) (rest : List ℕ) → fours ≡ first_chunks 4 (length piece / 4) piece
     → rest ≡ drop (length piece / 4 * 4) piece → map le fours ++ rest ≡ words32 piece

@@ -6,10 +6,10 @@ use crate::hasher::WordHasher;
 use hash_laws::traits::hash_of;
 
 /// fx at 32 bits. From 0, a word `v` takes the state `h` to `(rotl(h, 5) ^ v) * 0x27220a95`, modulo 2^32; this key is the
-/// low half of the one at 64 bits. `finish` answers `h`, widened.
+/// low half of the one at 64 bits. `finish` returns `h`, widened.
 ///
-/// Each write is split into little-endian words by itself: words of four bytes, then single bytes. So the cuts between
-/// writes may show. Each write can be undone, by `unwrite` or word by word.
+/// Each write is split into little-endian words by itself: words of four bytes, then single bytes. So the result may
+/// depend on the split. Each write can be undone, by `unwrite` or word by word.
 ///
 /// Contracts see the hasher as its state, a number below 2^32: `write` gives `h.new ≡ fx32 h.old (words32 piece.now)`, and
 /// `unwrite_word(v)` gives `fx32_step h.new v ≡ h.old`. Of `a` the hash is 3555066485.
@@ -17,9 +17,9 @@ pub type FxHasher32 = WordHasher<u32>;
 
 /// fx at 64 bits, which came from Firefox's hash tables to those of rustc (the crate fxhash has its formula and key).
 ///
-/// From 0, a word `v` takes the state `h` to `(rotl(h, 5) ^ v) * 0x517cc1b727220a95`, modulo 2^64; `finish` answers `h`. Each
+/// From 0, a word `v` takes the state `h` to `(rotl(h, 5) ^ v) * 0x517cc1b727220a95`, modulo 2^64; `finish` returns `h`. Each
 /// write is split into little-endian words by itself: words of eight bytes, then one of four bytes if at least four are
-/// left, then single bytes. So the cuts between writes may show. Each write can be undone, by `unwrite` or word by word.
+/// left, then single bytes. So the result may depend on the split. Each write can be undone, by `unwrite` or word by word.
 ///
 /// Contracts see the hasher as its state, a number below 2^64: `write` gives `h.new ≡ fx64 h.old (words64 piece.now)`, and
 /// `unwrite_word(v)` gives `fx64_step h.new v ≡ h.old`. Of `a` the hash is 16160435425421689461.

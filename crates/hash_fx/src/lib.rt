@@ -4,13 +4,9 @@
 
 mod fx;
 mod hasher;
-mod maps;
 mod word;
 mod words;
 
 pub use fx::{FxHasher, FxHasher32, FxHasher64, MachineWord, fxhash, fxhash32, fxhash64};
 pub use hasher::WordHasher;
-pub use maps::{
-    FxBuildHasher, FxHashMap, FxHashSet, hash_one_number_fx, hash_one_pair_fx, hash_one_slice_fx,
-};
 pub use word::{FxSplit, FxWord};

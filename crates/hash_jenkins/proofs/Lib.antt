@@ -1,3 +1,4 @@
+pub mod Common
 pub mod Lookup3Lemmas
 pub mod MixLemmas
 pub mod WriteLemmas

@@ -1,14 +1,9 @@
 -- Words of blocks, whole and filled with zeros.
-use Rattle.std.proofs.Common.{◌≡◌, ℕ, zero, suc, ◌+◌, ◌-◌, ◌*◌, ◌/◌, ◌≤◌, List, [], ◌∷◌, ◌++◌, ◌<◌, length, slice_index, take, drop, replicate, refl, ap, sym, ◌∙◌, arith}
-use Rattle.std.proofs.lemmas.List.{drop-drop, take_all, drop_all, length-drop}
+use Rattle.hash_jenkins.proofs.Common.{◌≡◌, ℕ, zero, suc, ◌+◌, ◌-◌, ◌*◌, ◌/◌, ◌≤◌, List, [], ◌∷◌, ◌++◌, ◌<◌, length, take, drop, replicate, refl, ap, sym, ◌∙◌, arith, ap₂, drop-drop, take_all, drop_all, pieces, apply, zero_filled, add_words, add_block, block_words, mix_block, mix_blocks, start, last_block, lookup3_words, lookup3_from, lookup3_answer, AreTwoWords}
+use Rattle.std.proofs.lemmas.List.{length-drop}
 use Rattle.std.specs.Simd.{first_chunks}
-use Rattle.std.proofs.Math.Path.{ap₂}
 use Rattle.hash_words.specs.Words.{le}
-use Rattle.hash_words.specs.Pieces.{pieces}
 use Rattle.hash_rounds.specs.Rounds as rounds
-use Rattle.hash_rounds.specs.Steps.{apply}
-use Rattle.hash_jenkins.specs.Filled.{zero_filled}
-use Rattle.hash_jenkins.specs.Lookup3.{add_words, add_block, block_words, mix_block, mix_blocks, start, last_block, lookup3_words, lookup3_from, lookup3_answer, AreTwoWords}
 
 pub drop_eight : (xs : List ℕ) → drop 4 (drop 4 xs) ≡ drop 8 xs
 drop_eight xs = drop-drop 4 4 xs
@@ -41,33 +36,6 @@ le-filled n zero m t = le-take_filled n m t
 le-filled zero (suc k) m [] = le-drop_zeros zero (suc k) m
 le-filled (suc n) (suc k) m [] = le-drop_zeros (suc n) (suc k) m
 le-filled n (suc k) m (b ∷ t) = le-filled n k m t
-
--- the values of one, two and three bytes
-pub le_none : (t : List ℕ) → length t ≡ 0 → 0 ≡ le t
-unfolding le
-le_none [] e = refl
-le_none (a ∷ t) e = absurd (omega arith)
-
-pub le_one : (t : List ℕ) → length t ≡ 1 → slice_index t 0 ≡ le t
-unfolding le
-le_one [] e = absurd (omega arith)
-le_one (a ∷ []) e = omega arith
-le_one (a ∷ b ∷ t) e = absurd (omega arith)
-
-pub le_two : (t : List ℕ) → length t ≡ 2 → slice_index t 0 + slice_index t 1 * 256 ≡ le t
-unfolding le
-le_two [] e = absurd (omega arith)
-le_two (a ∷ []) e = absurd (omega arith)
-le_two (a ∷ b ∷ []) e = omega arith
-le_two (a ∷ b ∷ c ∷ t) e = absurd (omega arith)
-
-pub le_three : (t : List ℕ) → length t ≡ 3 → slice_index t 0 + slice_index t 1 * 256 + slice_index t 2 * 65536 ≡ le t
-unfolding le
-le_three [] e = absurd (omega arith)
-le_three (a ∷ []) e = absurd (omega arith)
-le_three (a ∷ b ∷ []) e = absurd (omega arith)
-le_three (a ∷ b ∷ c ∷ []) e = omega arith
-le_three (a ∷ b ∷ c ∷ d ∷ t) e = absurd (omega arith)
 
 -- the words of fewer than four bytes
 pub words_of_few : (t : List ℕ) → length t < 4 → (le (take 4 t) ≡ le t) × (le (take 4 (drop 4 t)) ≡ 0) × (le (take 4 (drop 8 t)) ≡ 0)

@@ -1,14 +1,7 @@
 -- What mixing in the whole blocks of some bytes leads to.
-use Rattle.std.proofs.Common.{◌≡◌, ℕ, nat_lt, nat_le, ◌&&◌, true, false, ◌+◌, ◌-◌, ◌*◌, ◌/◌, ◌%◌, ◌<◌, ◌≤◌, List, ◌++◌, length, take, drop, refl, sym, ap, ◌∙◌, arith, length-append, length-drop}
-use Rattle.std.proofs.lemmas.Bool.Decides.{nat_tests}
-use Rattle.std.proofs.lemmas.List.{append_assoc, take-take, take-append-le, take-append-drop, drop-take, length-take-le}
-use Rattle.hash_rounds.specs.Blocks.{spooky_blocks}
-use Rattle.hash_rounds.proofs.BlockLemmas.{spooky_blocks-take}
-use Rattle.hash_jenkins.specs.Counted.{block_end, calls_over}
-use Rattle.hash_words.specs.Put.{put_at}
-use Rattle.hash_jenkins.specs.Spooky.{Long, mixed}
-use Rattle.hash_jenkins.specs.SpookyLaws.{mixed-append, mixed_short, mixed_through}
-use Rattle.hash_words.proofs.PutLemmas.{take-put_at}
+use Rattle.hash_jenkins.proofs.Common.{◌≡◌, ℕ, nat_lt, nat_le, ◌&&◌, true, false, ◌+◌, ◌-◌, ◌*◌, ◌/◌, ◌%◌, ◌<◌, ◌≤◌, List, ◌++◌, length, take, drop, refl, sym, ap, ◌∙◌, arith, length-append, nat_tests, append_assoc, take-take, take-append-le, drop-take, length-take-le, spooky_blocks, spooky_blocks-take, block_end, calls_over, put_at, Long, mixed, mixed-append, mixed_short, mixed_through, take-put_at}
+use Rattle.std.proofs.Common.{length-drop}
+use Rattle.std.proofs.lemmas.List.{take-append-drop}
 
 -- the whole blocks of a text, as far as they go
 pub whole_blocks : (s t : List ℕ) → spooky_blocks s (take (length t / 96 * 96) t) ≡ spooky_blocks s t

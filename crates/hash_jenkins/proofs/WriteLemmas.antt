@@ -1,16 +1,8 @@
 -- What a hasher's parts come to by more bytes: those of a short text that they leave one, and where they lead.
-use Rattle.std.proofs.Common.{◌≡◌, ℕ, ◌+◌, ◌-◌, ◌<◌, ◌≤◌, ◌++◌, ◌∙◌, List, length, take, replicate, refl, sym, ap, arith, length-append}
-use Rattle.std.proofs.Math.Path.{ap₂}
-use Rattle.std.proofs.lemmas.List.{append_assoc, take_at, drop_at, drop-drop, drop-replicate, length-take-le}
+use Rattle.hash_jenkins.proofs.Common.{◌≡◌, ℕ, ◌+◌, ◌-◌, ◌<◌, ◌≤◌, ◌++◌, ◌∙◌, List, length, take, replicate, refl, sym, ap, arith, length-append, ap₂, append_assoc, take_at, drop_at, drop-drop, drop-replicate, length-take-le, zero_filled, put_at, Position, after, IsPosition, IsPosition-after, take-put_at}
 use Rattle.hash_laws.specs.Text.{IsText}
-use Rattle.hash_jenkins.specs.Filled.{zero_filled}
-use Rattle.hash_words.specs.Put.{put_at}
-use Rattle.hash_jenkins.specs.Spooky.{Position, after}
 use Rattle.hash_jenkins.specs.SpookyParts.{position_of, IsSettled}
-use Rattle.hash_jenkins.specs.SpookyStanding.{IsPosition}
-use Rattle.hash_jenkins.specs.SpookyLaws.{IsPosition-after}
 use Rattle.hash_jenkins.specs.declared.spooky_parts.SpookyParts.{SpookyParts}
-use Rattle.hash_words.proofs.PutLemmas.{take-put_at}
 
 -- the text and zeros, with a piece put behind the text
 put-zero_filled : (text piece : List ℕ) (n : ℕ) → length text + length piece ≤ n

@@ -1,3 +1,4 @@
+pub mod Common
 pub mod Counted
 pub mod Filled
 pub mod Lookup3

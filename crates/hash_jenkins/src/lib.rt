@@ -1,7 +1,6 @@
 //! Bob Jenkins' hash functions: one-at-a-time, lookup3 and SpookyHash. None of them is cryptographic.
 #![tactic(auto)]
 
-mod build_spooky;
 mod lookup;
 mod one_at_a_time;
 pub mod spooky_hash;
@@ -10,6 +9,5 @@ pub mod spooky_parts;
 pub mod spooky_short;
 mod spooky_v1;
 
-pub use build_spooky::BuildSpooky;
 pub use lookup::{Lookup3Hasher, lookup3};
 pub use one_at_a_time::{OAATHasher, OaatRule, oaat, origin_of_constants};

@@ -1,9 +1,9 @@
 //! lookup3, by Bob Jenkins (his lookup3.c): two words of 32 bits of a piece, from two words before it.
-ghost use Rattle.std.specs.Prelude.{◌≡◌, ◌≢◌, ◌<◌, ℕ, List, [], length, slice_index, refl};
+ghost use Rattle.std.specs.Prelude.{◌≡◌, ◌≢◌, ◌<◌};
+ghost use Rattle.hash_jenkins.specs.Common.{ℕ, List, [], length, slice_index, refl, zero_filled};
 ghost use Rattle.std.proofs.Common.{lit<};
 ghost use Rattle.hash_words.specs.Words.{le};
 ghost use Rattle.hash_laws.specs.Text.{IsText};
-ghost use Rattle.hash_jenkins.specs.Filled.{zero_filled};
 ghost use Rattle.hash_jenkins.specs.Lookup3.{add_words, add_block, block_words, start, lookup3_words, lookup3_from, lookup3_answer, AreTwoWords, lookup3_of};
 ghost use Rattle.hash_jenkins.specs.Lookup3Laws.{lookup3-AreTwoWords};
 
@@ -97,8 +97,8 @@ fn lookup3_words(pc: u32, pb: u32, piece: &[u8]) -> [u32; 3]
 ///
 /// A write of some bytes is one run: three words of 32 bits start from 0xdeadbeef, the length and the two words of the run
 /// before. Whole blocks of 12 bytes are added and mixed; what is left, filled with zeros, is added and goes through the last
-/// mixing. A write of no bytes changes nothing. `finish` answers `pc + 2^32 * pb`. Each run seeds the next, so the cuts
-/// between writes may show, and no write can be undone.
+/// mixing. A write of no bytes changes nothing. `finish` returns `pc + 2^32 * pb`. Each run seeds the next, so the
+/// result may depend on the split, and no write can be undone.
 ///
 /// Contracts see the hasher as the two words (pc, pb), each below 2^32, which start at (0, 0): `write` gives
 /// `h.new ≡ lookup3_from h.old bytes.now`. Of `a` the hash is 6351843130003064584.

@@ -5,9 +5,8 @@ ghost use Rattle.std.proofs.Common.{lit<};
 ghost use Rattle.hash_jenkins.specs.Oaat.{oaat_step, oaat_finish, oaat_state, oaat_of};
 ghost use Rattle.hash_jenkins.specs.OaatLaws.{oaat_facts, oaat_finish_same};
 
-use hash_laws::traits::hash_of;
 use hash_rounds::{unxorshift, xorshift};
-use hash_rules::{ByteHasher, Plain, PlainRule, PlainUndo};
+use hash_rules::{ByteHasher, Plain, PlainRule, PlainUndo, hash_by_plain};
 
 /// What undoes a product by 1025.
 const UN_1025: u64 = 1151796703138937857;
@@ -86,7 +85,7 @@ impl PlainUndo for OaatRule {
 /// Bob Jenkins' one-at-a-time at 64 bits ("Hash Functions for Hash Table Lookup", burtleburtle.net/bob/hash/evahash.html).
 ///
 /// From 0, a byte `b` takes the state `h` to `h + b`, then to `1025 * h`, then to `h ^ (h >> 6)`. `finish` mixes a copy once
-/// more: `9 * h`, `h ^ (h >> 11)`, `32769 * h`. All is modulo 2^64. Cuts don't show, and each write can be undone.
+/// more: `9 * h`, `h ^ (h >> 11)`, `32769 * h`. All is modulo 2^64. The split does not matter, and each write can be undone.
 ///
 /// Contracts see the hasher as its state, a number below 2^64: `write` gives `h.new ≡ oaat_state h.old bytes.now`, and `finish`
 /// answers `oaat_finish h.now`. Of `a` the hash is 29161854018.
@@ -96,5 +95,5 @@ pub type OAATHasher = ByteHasher<Plain<OaatRule>>;
 pub fn oaat(bytes: &[u8]) -> u64
     ensures { result ≡ oaat_of bytes.now }
 {
-    hash_of::<OAATHasher>(bytes)
+    hash_by_plain::<OaatRule>(bytes)
 }

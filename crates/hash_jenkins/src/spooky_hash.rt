@@ -1,16 +1,13 @@
 //! SpookyHash, by Bob Jenkins (his SpookyV2.cpp): a hash of 128 bits of all the bytes that were written, under two seeds
-//! of 64 bits. How the bytes were cut into pieces doesn't show.
+//! of 64 bits. How the bytes were split into pieces does not matter.
 //!
 //! A text below 192 bytes is hashed on four words by chunks of 32 bytes, and its length is mixed in. From 192 bytes on
 //! twelve words take blocks of 96 bytes, and the tail of 0 to 95 bytes ends in its own length. Version 1 is an older form,
 //! kept for values that were stored: it leaves the length of a text below 192 bytes out, so that zeros at its end don't
 //! show.
-ghost use Rattle.std.specs.Prelude.{◌≡◌, ℕ, ◌+◌, ◌<◌, ◌≤◌, ◌^◌, List, [], ◌∷◌, ◌++◌, slice_index, refl};
+ghost use Rattle.std.specs.Prelude.{◌≡◌, ◌+◌, ◌<◌, ◌≤◌, ◌^◌, ◌∷◌, ◌++◌};
+ghost use Rattle.hash_jenkins.specs.Common.{ℕ, List, [], slice_index, refl, Position, position, after, hash, hash_v1, short_words_at, short_words_of, long_words_at, long_words_of, spooky, spooky_v1, Counted, after_write, MixesBlock, IsPosition, SpookyStandsAt, spooky_from, IsPosition-fresh, IsPosition-after, after-nil, after-append, stands_at_seeds, stands_after, hash_from_seeds, answer_where_stands};
 ghost use Rattle.std.proofs.Common.{lit<};
-ghost use Rattle.hash_jenkins.specs.Spooky.{Position, position, after, hash, hash_v1, short_words_at, short_words_of, long_words_at, long_words_of, spooky, spooky_v1};
-ghost use Rattle.hash_jenkins.specs.Counted.{Counted, after_write, MixesBlock};
-ghost use Rattle.hash_jenkins.specs.SpookyStanding.{IsPosition, SpookyStandsAt, spooky_from};
-ghost use Rattle.hash_jenkins.specs.SpookyLaws.{IsPosition-fresh, IsPosition-after, after-nil, after-append, stands_at_seeds, stands_after, hash_from_seeds, answer_where_stands};
 
 use crate::spooky_parts::SpookyParts;
 pub use crate::spooky_v1::SpookyV1Hasher;
@@ -21,12 +18,12 @@ use std::marker::Model;
 
 /// SpookyHash of a text that comes piece by piece (Bob Jenkins, burtleburtle.net/bob/hash/spooky.html).
 ///
-/// `finish` answers the first word of the hash of all bytes so far, and `finish128` both. The cuts between writes don't
-/// show. No write can be undone.
+/// `finish` returns the first word of the hash of all bytes so far, and `finish128` both. The split into writes does
+/// not matter. No write can be undone.
 ///
 /// Contracts see where the hasher stands, its `Position` (`at`), and the `turns`: how many calls that mix blocks were
 /// charged to its counter on the way there. The position is the two seeds and the text so far below 192 bytes, and from
-/// then on the twelve words after all whole blocks and the tail behind them: two seeds below 2^64 and less than 192 bytes,
+/// then on the twelve words after all whole blocks and the tail after them: two seeds below 2^64 and less than 192 bytes,
 /// or twelve words below 2^64 and less than 96 bytes. At most 191 bytes are kept. The count of bytes stays at its greatest
 /// value once it is there, so no length is refused.
 ///
@@ -138,7 +135,7 @@ impl Hasher for SpookyHasher {
 
     /// Goes on over the bytes. Where they complete blocks, these are mixed in by one call where nothing was kept or no
     /// block follows the one that the kept bytes end in, and by two else: one for the kept bytes' blocks, and one for
-    /// those behind, which are read where they stand in `bytes`.
+    /// those after them, which are read where they stand in `bytes`.
     #[inline(always)]
     fn write(&mut self, bytes: &[u8])
         ensures written { self.new ≡ after_write self.old bytes.now }

@@ -1,7 +1,6 @@
 //! Blocks of a text from 192 bytes on, and its tail.
-ghost use Rattle.std.specs.Prelude.{◌≡◌, ◌+◌, ◌-◌, ◌*◌, ◌/◌, ◌<◌, ◌≤◌, ◌++◌, length, take};
-ghost use Rattle.hash_jenkins.specs.Counted.{block_end, calls_over};
-ghost use Rattle.hash_jenkins.specs.Spooky.{Long, padded, long_words, mixed};
+ghost use Rattle.std.specs.Prelude.{◌≡◌, ◌+◌, ◌-◌, ◌*◌, ◌/◌, ◌<◌, ◌≤◌, ◌++◌};
+ghost use Rattle.hash_jenkins.specs.Common.{length, take, block_end, calls_over, Long, padded, long_words, mixed};
 
 use crate::spooky_short::{LONG, zero_filled};
 use hash_rounds::{Turns, le_words, put, put_array, spooky_blocks, spooky_end};

@@ -1,7 +1,6 @@
 //! What a hasher of SpookyHash keeps, in the open: for a caller that must keep it itself, as a program in C.
-ghost use Rattle.std.specs.Prelude.{◌≡◌, ◌+◌, ◌↔◌, IsTrue, []};
-ghost use Rattle.hash_jenkins.specs.Counted.{mixing_calls};
-ghost use Rattle.hash_jenkins.specs.Spooky.{position, after, hash, hash_v1, short_words_at, long_words_at};
+ghost use Rattle.std.specs.Prelude.{◌≡◌, ◌+◌, ◌↔◌};
+ghost use Rattle.hash_jenkins.specs.Common.{IsTrue, [], mixing_calls, position, after, hash, hash_v1, short_words_at, long_words_at};
 ghost use Rattle.hash_jenkins.specs.SpookyParts.{position_of, FitsBuffer, IsSettled};
 
 use crate::spooky_long::{BLOCK, long_words, mix_blocks};

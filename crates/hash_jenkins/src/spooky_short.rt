@@ -1,7 +1,6 @@
 //! The four words of a text below 192 bytes.
-ghost use Rattle.std.specs.Prelude.{◌≡◌, ◌<◌, ◌≤◌, ◌*◌, ◌^◌, length, take};
-ghost use Rattle.hash_jenkins.specs.Filled.{zero_filled};
-ghost use Rattle.hash_jenkins.specs.Spooky.{add_chunk, add_chunks, short_words, short_words_v1};
+ghost use Rattle.std.specs.Prelude.{◌≡◌, ◌<◌, ◌≤◌, ◌*◌, ◌^◌};
+ghost use Rattle.hash_jenkins.specs.Common.{length, take, zero_filled, add_chunk, add_chunks, short_words, short_words_v1};
 
 use hash_rounds::{le_words, put, short_end, short_mix};
 

@@ -1,10 +1,8 @@
 //! Version 1 of SpookyHash: what the crate hashers 1.0.1 computes, kept for values that were stored. It leaves the length of a text
 //! below 192 bytes out, so that zeros at its end don't show; from 192 bytes on it is SpookyHash.
-ghost use Rattle.std.specs.Prelude.{◌≡◌, ℕ, List, [], ◌∷◌, ◌++◌, refl, slice_index};
+ghost use Rattle.std.specs.Prelude.{◌≡◌, ◌∷◌, ◌++◌};
+ghost use Rattle.hash_jenkins.specs.Common.{ℕ, List, [], refl, slice_index, Position, position, after, hash_v1, spooky_v1, IsPosition, SpookyStandsAt, spooky_v1_from, IsPosition-fresh, IsPosition-after, after-nil, after-append, stands_at_seeds, stands_after, hash_v1_from_seeds, answer_v1_where_stands};
 ghost use Rattle.std.proofs.Common.{lit<, sym};
-ghost use Rattle.hash_jenkins.specs.Spooky.{Position, position, after, hash_v1, spooky_v1};
-ghost use Rattle.hash_jenkins.specs.SpookyStanding.{IsPosition, SpookyStandsAt, spooky_v1_from};
-ghost use Rattle.hash_jenkins.specs.SpookyLaws.{IsPosition-fresh, IsPosition-after, after-nil, after-append, stands_at_seeds, stands_after, hash_v1_from_seeds, answer_v1_where_stands};
 
 use crate::spooky_parts::SpookyParts;
 use hash_laws::traits::{Piecewise, Streamed};
@@ -14,8 +12,8 @@ use std::marker::Model;
 /// SpookyHash by version 1, that of the crate hashers 1.0.1, of a text that comes piece by piece (after Bob Jenkins,
 /// burtleburtle.net/bob/hash/spooky.html).
 ///
-/// `finish` answers the first word of the hash of all bytes so far, and `finish128` both. The cuts between writes don't
-/// show. No write can be undone. Contracts see the `Position` of a [`SpookyHasher`](crate::spooky_hash::SpookyHasher) of the same
+/// `finish` returns the first word of the hash of all bytes so far, and `finish128` both. The split into writes does
+/// not matter. No write can be undone. Contracts see the `Position` of a [`SpookyHasher`](crate::spooky_hash::SpookyHasher) of the same
 /// bytes.
 ///
 /// Of `a` under two seeds of 0 the hash is 16932945748884078726.

@@ -1,11 +1,5 @@
 -- Under few keys two different texts come into one bucket.
-use Rattle.std.proofs.Common.{ℕ, zero, suc, ◌≡◌, ◌≢◌, ◌+◌, ◌-◌, ◌*◌, ◌/◌, ◌%◌, ◌^◌, ◌<◌, ◌≤◌, max, Bool, true, false, ◌||◌, eqb, List, length, get_or, fold, All, sym, ap, ◌∙◌, inl, inr, ⊎_elim, arith, lit<, le_refl, add-zero, mod-lt, mod-eq_of_lt, mul-add, div-mul-le_self, pow_pos}
-use Rattle.std.proofs.Math.Nat.{add-mul-mod_self_right, div-add-mod}
-use Rattle.std.proofs.lemmas.Nat.{mul-le, le-div, pow-add}
-use Rattle.std.proofs.lemmas.Bool.{cases_lt, cases_order, eq-eqb, eqb-true, or_left, or_right}
-use Rattle.hashers.specs.Text.{IsText}
-use Rattle.hash_keyed.specs.Poly61.{prime61, word_count, words, poly_step, poly_hash, AreKeys}
-use Rattle.hash_keyed.specs.Poly61State.{as_word, poly61}
+use Rattle.hash_keyed.proofs.Common.{ℕ, zero, suc, ◌≡◌, ◌≢◌, ◌+◌, ◌-◌, ◌*◌, ◌/◌, ◌%◌, ◌^◌, ◌<◌, ◌≤◌, max, Bool, true, false, ◌||◌, eqb, List, length, get_or, fold, All, sym, ap, ◌∙◌, inl, inr, ⊎_elim, arith, lit<, le_refl, add-zero, mod-lt, mul-add, div-mul-le_self, add-mul-mod_self_right, div-add-mod, mul-le, le-div, pow-add, cases_lt, cases_order, eq-eqb, or_left, or_right, IsText, prime61, word_count, words, poly_step, poly_hash, AreKeys, as_word, poly61, mod-eq_of_lt, pow_pos, eqb-true}
 use Rattle.hash_keyed.proofs.Collisions.{Few, few_none, few_or, few_more, few_keys_differ}
 
 -- the first value is the second and up to q times n, modulo the prime

@@ -1,17 +1,6 @@
 -- What the code's steps compute.
-use Rattle.std.proofs.Common.{ℕ, ◌≡◌, ◌+◌, ◌*◌, ◌/◌, ◌%◌, ◌^◌, ◌<◌, ◌≤◌, List, [], ◌∷◌, ◌++◌, length, take, drop, slice_index, get_or, sym, ap, ap₂, ◌∙◌, arith, le_of_eq, length-append, length-drop, refl}
-use Rattle.std.proofs.Math.Nat.{mod-mod}
-use Rattle.std.proofs.Math.Pow.{pow_mono}
-use Rattle.std.proofs.lemmas.Nat.{mul-mod_first, mul-le, pow-add, shl_whole}
-use Rattle.std.proofs.lemmas.List.{take-append-drop, drop-append-le, take-append-le, drop_at, length-take-le, take_more, take_all, take-take, append_assoc}
+use Rattle.hash_keyed.proofs.Common.{ℕ, ◌≡◌, ◌+◌, ◌*◌, ◌/◌, ◌%◌, ◌^◌, ◌<◌, ◌≤◌, List, [], ◌∷◌, ◌++◌, length, take, drop, slice_index, get_or, sym, ap, ap₂, ◌∙◌, arith, le_of_eq, length-drop, refl, pow_mono, mod-mod, mul-mod_first, mul-le, pow-add, shl_whole, take-append-drop, drop-append-le, take-append-le, drop_at, length-take-le, take_more, take-take, All-head, All-tail, All-take, IsText, le, IsByte, prime61, poly_step, poly_hash, Position, after, full_words, poly_end, as_word, ArePowers, block_sum, part_at, le-push, poly_end-is, length-append, take_all, append_assoc}
 use Rattle.std.specs.Simd.{first_chunks}
-use Rattle.std.proofs.lemmas.List.Elements.{All-head, All-tail, All-take}
-use Rattle.hashers.specs.Text.{IsText}
-use Rattle.hashers.specs.Words.{le}
-use Rattle.hashers.proofs.TextLemmas.{IsByte}
-use Rattle.hash_keyed.specs.Poly61.{prime61, poly_step, poly_hash}
-use Rattle.hash_keyed.specs.Poly61State.{Position, after, full_words, poly_end, as_word, ArePowers, block_sum}
-use Rattle.hash_keyed.specs.Poly61Laws.{part_at, le-push, poly_end-is}
 use Rattle.hash_keyed.proofs.Encoding.{le-lt}
 use Rattle.hash_keyed.proofs.ByWords.{same_step, four_steps, after-seven, after-four, after-few}
 use Rattle.hash_keyed.proofs.Powers.{same-add, same-mul}
@@ -34,25 +23,6 @@ pushed-lt word byte count known small =
 pub pushed_small : (word byte count : ℕ) → word < 2 ^ (8 * count) → byte < 256 → count < 7 → word + byte * 2 ^ (8 * count) < 2 ^ 56
 pushed_small word byte count known small few =
     omega (arith, places count few, known, mul-le byte (2 ^ (8 * count)) 255 (2 ^ 48) (omega arith) (places count few))
-
-pub le_seven : (t : List ℕ) → length t ≡ 7 → le t ≡ slice_index t 0 + slice_index t 1 * 256 + slice_index t 2 * 65536
-    + slice_index t 3 * 16777216 + slice_index t 4 * 4294967296 + slice_index t 5 * 1099511627776 + slice_index t 6 * 281474976710656
-unfolding le
-le_seven (a ∷ b ∷ c ∷ d ∷ e ∷ f ∷ g ∷ []) whole = omega arith
-le_seven other whole = absurd (omega arith)
-
--- fewer than seven bytes, with zeros behind them
-pub le_few : (t : List ℕ) → length t < 7 → le t ≡ slice_index t 0 + slice_index t 1 * 256 + slice_index t 2 * 65536
-    + slice_index t 3 * 16777216 + slice_index t 4 * 4294967296 + slice_index t 5 * 1099511627776
-unfolding le
-le_few [] few = omega arith
-le_few (a ∷ []) few = omega arith
-le_few (a ∷ b ∷ []) few = omega arith
-le_few (a ∷ b ∷ c ∷ []) few = omega arith
-le_few (a ∷ b ∷ c ∷ d ∷ []) few = omega arith
-le_few (a ∷ b ∷ c ∷ d ∷ e ∷ []) few = omega arith
-le_few (a ∷ b ∷ c ∷ d ∷ e ∷ f ∷ []) few = omega arith
-le_few other few = absurd (omega arith)
 
 -- ---- words in a text
 
@@ -105,6 +75,11 @@ four_there key k2 k3 k4 k8 s t block are whole led more =
     (le (take 7 (drop 14 (block ++ more))))) v) wd in
     after-four key s t (block ++ more) (omega (arith, length-append block more)) same
     ∙ ap (after (full_words key t)) (drop_at block more 28 whole)
+
+-- the state of the loops over blocks: the bytes left lead on from it as all of them from the start
+pub record LeadsOn (key start state : ℕ) (bytes rest : List ℕ) : Type 0 where
+  pub small : state < 2 ^ 61 + 8
+  pub there : after (full_words key state) rest ≡ after (full_words key start) bytes
 
 -- two of them
 pub eight_there : (key k2 k3 k4 k8 s t x y : ℕ) (block : List ℕ) (halves : List (List ℕ)) → ArePowers key k2 k3 k4 k8 → length block ≡ 56

@@ -1,16 +1,6 @@
 -- Under few keys two different texts have one hash.
-use Rattle.std.proofs.Common.{ℕ, zero, suc, ◌≡◌, ◌≢◌, ◌+◌, ◌-◌, ◌*◌, ◌/◌, ◌%◌, ◌^◌, ◌<◌, ◌≤◌, max, Bool, true, false, not, ◌||◌, eqb, List, [], ◌∷◌, length, get_or, reverse, filter, fold, All, AllPairs, refl, sym, ap, ◌∙◌, inl, inr, ⊎_elim, arith, add-zero, mod-lt, lt_trans, lit<, lit≤}
-use Rattle.std.proofs.Math.Nat.{mod-add-mod, mod-mod}
-use Rattle.std.proofs.lemmas.Bool.{cases_lt, eq-eqb, eqb-true, or_cases, or_left, or_right, not-true, both_ways, false≢true}
-use Rattle.std.proofs.lemmas.List.{length-append, length-reverse, reverse-reverse}
-use Rattle.std.proofs.lemmas.List.Elements.{All-weaker, All-tail, All-filter, filter_passes}
-use Rattle.std.proofs.lemmas.List.Filters.{length-filter_both}
-use Rattle.std.proofs.lemmas.List.Kept.{AllPairs-filter}
-use Rattle.std.proofs.lemmas.List.Sorted.{IsPermutation-reverse, All-permutation}
-use Rattle.hashers.specs.Text.{IsText}
+use Rattle.hash_keyed.proofs.Common.{ℕ, zero, suc, ◌≡◌, ◌≢◌, ◌+◌, ◌-◌, ◌*◌, ◌/◌, ◌%◌, ◌^◌, ◌<◌, ◌≤◌, max, Bool, true, false, not, ◌||◌, eqb, List, [], ◌∷◌, length, get_or, reverse, filter, fold, All, AllPairs, refl, sym, ap, ◌∙◌, inl, inr, ⊎_elim, arith, add-zero, mod-lt, lt_trans, lit<, lit≤, mod-add-mod, mod-mod, cases_lt, eq-eqb, or_cases, or_left, or_right, not-true, both_ways, false≢true, length-reverse, reverse-reverse, All-weaker, All-tail, All-filter, filter_passes, length-filter_both, AllPairs-filter, IsText, prime61, HasNoZeroDivisors, words, word_count, poly_step, poly_hash, AreKeys, as_word, poly61, SomeTwoMeet, eqb-true, length-append, IsPermutation-reverse, All-permutation}
 use Rattle.hash_keyed.proofs.Mersenne.{no_zero_product}
-use Rattle.hash_keyed.specs.Poly61.{prime61, HasNoZeroDivisors, words, word_count, poly_step, poly_hash, AreKeys}
-use Rattle.hash_keyed.specs.Poly61State.{as_word, poly61, SomeTwoMeet}
 use Rattle.hash_keyed.proofs.Polynomials.{value, IsRoot, IsMultiple, added, value-added, length-added, monic, monic_same, all_roots, mod_step, mod_difference, horner}
 use Rattle.hash_keyed.proofs.Encoding.{words-same, words-below, length-words}
 

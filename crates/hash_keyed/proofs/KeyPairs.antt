@@ -1,14 +1,5 @@
 -- Under few pairs of keys two different texts have one pair of hashes.
-use Rattle.std.proofs.Common.{ℕ, zero, suc, ◌≡◌, ◌≢◌, ◌+◌, ◌-◌, ◌*◌, ◌^◌, ◌<◌, ◌≤◌, max, Bool, true, not, cond, eqb, List, [], ◌∷◌, length, get_or, map, filter, All, refl, sym, ap, ap₂, ◌∙◌, arith, pow-suc}
-use Rattle.std.proofs.Math.Nat.{pow-zero}
-use Rattle.std.proofs.lemmas.Bool.{eq-eqb, eqb-true, eqb-false, not-true}
-use Rattle.std.proofs.lemmas.List.{length-map, get_or-map}
-use Rattle.std.proofs.lemmas.List.Elements.{All-nil, All-cons, All-filter, All-map, filter_passes}
-use Rattle.std.proofs.lemmas.List.Filters.{length-filter_both}
-use Rattle.std.proofs.lemmas.List.Kept.{AllPairs-cons, AllPairs-filter}
-use Rattle.hashers.specs.Text.{IsText}
-use Rattle.hash_keyed.specs.Poly61.{prime61, word_count, AreKeys, ArePairs}
-use Rattle.hash_keyed.specs.Poly61State.{poly61, MeetAtBoth}
+use Rattle.hash_keyed.proofs.Common.{ℕ, zero, suc, ◌≡◌, ◌≢◌, ◌+◌, ◌-◌, ◌*◌, ◌^◌, ◌<◌, ◌≤◌, max, Bool, true, not, cond, eqb, List, [], ◌∷◌, length, get_or, map, filter, All, refl, sym, ap, ap₂, ◌∙◌, arith, pow-zero, eq-eqb, eqb-false, not-true, length-map, get_or-map, All-nil, All-cons, All-filter, All-map, filter_passes, length-filter_both, AllPairs-cons, AllPairs-filter, IsText, prime61, word_count, AreKeys, ArePairs, poly61, MeetAtBoth, pow-suc, eqb-true}
 use Rattle.hash_keyed.proofs.Collisions.{Few, few_keys_meet}
 
 abbrev Pair : Type 0

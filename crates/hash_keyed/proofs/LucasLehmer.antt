@@ -1,9 +1,5 @@
 -- The test of Lucas and Lehmer: where the power 2 ^ k of 2 + √3 is -1 modulo m, and the next 1, a divisor of m above 2 has a square of at least 2 * 2 ^ k.
-use Rattle.std.proofs.Common.{◌≡◌, ◌≢◌, ℕ, suc, ◌+◌, ◌-◌, ◌*◌, ◌%◌, ◌^◌, ◌<◌, ◌≤◌, refl, sym, ap, ◌∙◌, mod-lt, arith}
-use Rattle.std.proofs.Math.Path.{ap₂}
-use Rattle.std.proofs.Math.Nat.{pow-succ', mod-mod_of_dvd, mod-eq_of_lt}
-use Rattle.std.proofs.lemmas.Nat.{mul-add-lt, same_from_place}
-use Rattle.std.proofs.lemmas.Nat.Gcd.{dvd_of_mod-eq-zero}
+use Rattle.hash_keyed.proofs.Common.{◌≡◌, ◌≢◌, ℕ, suc, ◌+◌, ◌-◌, ◌*◌, ◌%◌, ◌^◌, ◌<◌, ◌≤◌, refl, sym, ap, ◌∙◌, mod-lt, arith, ap₂, pow-succ', mod-mod_of_dvd, mul-add-lt, same_from_place, dvd_of_mod-eq-zero, mod-eq_of_lt}
 use Rattle.hash_keyed.proofs.Orbits.{states_of_orbit}
 use Rattle.hash_keyed.proofs.Powers.{same-add, same-re, same-im, re, im, re-add, im-add, squares, power-from_squares}
 

@@ -1,15 +1,7 @@
 -- Over all keys together, few pairs of texts meet.
-use Rattle.std.proofs.Common.{ℕ, suc, ◌≢◌, ◌+◌, ◌-◌, ◌*◌, ◌/◌, ◌%◌, ◌^◌, ◌≤◌, max, cond, List, [], ◌∷◌, length, get_or, filter, All, AllPairs, le_refl, arith}
-use Rattle.std.specs.List.{count_by, sum_by}
-use Rattle.std.proofs.lemmas.Bool.{eqb-true}
-use Rattle.std.proofs.lemmas.Nat.{mul-le}
-use Rattle.std.proofs.lemmas.List.Elements.{All-tail, filter_passes}
-use Rattle.std.proofs.lemmas.List.Sums.{length-filter, sum_by-cons}
+use Rattle.hash_keyed.proofs.Common.{ℕ, suc, ◌≢◌, ◌+◌, ◌-◌, ◌*◌, ◌/◌, ◌%◌, ◌^◌, ◌≤◌, max, cond, List, [], ◌∷◌, length, get_or, filter, All, AllPairs, le_refl, arith, count_by, sum_by, mul-le, All-tail, filter_passes, length-filter, sum_by-cons, IsText, prime61, word_count, AreKeys, poly61, share_place, eqb-true}
 use Rattle.hashers.specs.Counts.{meetings}
-use Rattle.hashers.specs.Text.{IsText}
 use Rattle.hashers.proofs.SumLemmas.{sum_by-add, sum_by-same, sum_by-none}
-use Rattle.hash_keyed.specs.Poly61.{prime61, word_count, AreKeys}
-use Rattle.hash_keyed.specs.Poly61State.{poly61, share_place}
 use Rattle.hash_keyed.proofs.Buckets.{few_keys_share_bits}
 use Rattle.hash_keyed.proofs.Collisions.{filtered_keys, pairs, pairs-is}
 

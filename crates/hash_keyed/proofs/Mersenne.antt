@@ -1,7 +1,5 @@
 -- 2 ^ 61 - 1 is prime: by the test of Lucas and Lehmer, computed.
-use Rattle.std.proofs.Common.{◌≡◌, ◌≢◌, ℕ, ◌+◌, ◌-◌, ◌*◌, ◌%◌, ◌<◌, ◌≤◌, ◌⊎◌, ⊎_elim, mul-add, refl, sym, ap, ◌∙◌, arith, lit<}
-use Rattle.std.proofs.Math.Nat.{eq-or-lt_of_le}
-use Rattle.std.proofs.lemmas.Bool.{cases_lt}
+use Rattle.hash_keyed.proofs.Common.{◌≡◌, ◌≢◌, ℕ, ◌+◌, ◌-◌, ◌*◌, ◌%◌, ◌<◌, ◌≤◌, ◌⊎◌, ⊎_elim, mul-add, refl, sym, ap, ◌∙◌, arith, lit<, cases_lt, eq-or-lt_of_le}
 use Rattle.hash_keyed.proofs.Powers.{re, im, squares}
 use Rattle.hash_keyed.proofs.LucasLehmer.{square_of_divisor}
 use Rattle.hash_keyed.proofs.Euclid.{no_divisor, euclid}

@@ -1,23 +1,8 @@
 -- A number of some bytes behind other bytes.
-use Rattle.std.proofs.Common.{ℕ, zero, suc, ◌≡◌, ◌+◌, ◌-◌, ◌*◌, ◌/◌, ◌%◌, ◌^◌, ◌<◌, ◌≤◌, List, ◌++◌, length, take, drop, refl, sym, ap, ap₂, ◌∙◌, arith, lit<, mod-lt, subst, length-append, length-drop}
-use Rattle.std.specs.Hash.{le_bytes}
-use Rattle.std.specs.Int.{byte_at, bytes_low_first}
-use Rattle.std.proofs.Math.Arith.{mod-mul}
-use Rattle.std.proofs.Math.Nat.{div-add-mod, div-div-eq-div-mul, mod-eq_of_lt, pow-suc}
-use Rattle.std.proofs.lemmas.Nat.{mul-le, pow-add, pow_pos}
-use Rattle.std.proofs.lemmas.List.{take-append-drop, take_all, drop_all, length-take-le}
-use Rattle.std.proofs.lemmas.List.Sums.{fold-append}
-use Rattle.std.proofs.lemmas.List.Elements.{All-append, All-drop, All-take}
-use Rattle.hashers.specs.Text.{IsText}
-use Rattle.hashers.specs.Words.{le}
-use Rattle.hashers.proofs.TextLemmas.{IsByte, IsText-le_bytes}
+use Rattle.hash_keyed.proofs.Common.{ℕ, zero, suc, ◌≡◌, ◌+◌, ◌-◌, ◌*◌, ◌/◌, ◌%◌, ◌^◌, ◌<◌, ◌≤◌, List, ◌++◌, length, take, drop, refl, sym, ap, ap₂, ◌∙◌, arith, lit<, mod-lt, subst, length-drop, le_bytes, byte_at, bytes_low_first, div-add-mod, div-div-eq-div-mul, mul-le, pow-add, take-append-drop, drop_all, length-take-le, fold-append, All-append, All-drop, All-take, IsText, le, IsByte, IsText-le_bytes, prime61, poly_step, after, byte_in, full_words, IsInside, position_of, part_at, length-append, mod-mul, mod-eq_of_lt, pow-suc, pow_pos, take_all}
 use Rattle.hash_words.proofs.ByteLemmas.{le-append, le-power}
 use Rattle.hash_words.proofs.PieceLemmas.{le-same}
-use Rattle.hash_keyed.specs.Poly61.{prime61, poly_step}
-use Rattle.hash_keyed.specs.Poly61State.{after, byte_in, full_words}
-use Rattle.hash_keyed.specs.Poly61Inside.{IsInside, position_of}
 use Rattle.hash_keyed.specs.declared.poly61.Poly61Hasher.TheInside.{Inside}
-use Rattle.hash_keyed.specs.Poly61Laws.{part_at}
 use Rattle.hash_keyed.proofs.ByWords.{after-few, after-seven}
 use Rattle.hash_keyed.proofs.CodeLemmas.{places}
 

@@ -1,13 +1,5 @@
 -- A text in parts: powers by squares, the state behind whole words, and two texts joined.
-use Rattle.std.proofs.Common.{ℕ, zero, suc, ◌≡◌, ◌≢◌, ◌+◌, ◌-◌, ◌*◌, ◌/◌, ◌%◌, ◌^◌, ◌<◌, List, [], ◌∷◌, ◌++◌, length, take, fold, refl, sym, ap, ap₂, ◌∙◌, inl, inr, arith, pow-suc, length-append, lit<}
-use Rattle.std.proofs.Math.Nat.{mod-mod, mod-add-mod, add-mul-mod_self_left, pow-zero}
-use Rattle.std.proofs.lemmas.Bool.{cases_lt}
-use Rattle.std.proofs.lemmas.List.Sums.{fold-append}
-use Rattle.std.proofs.lemmas.Nat.{mul-pow, pow-add, pow-mod}
-use Rattle.hashers.specs.Words.{le}
-use Rattle.hash_keyed.specs.Poly61.{prime61, words, words_from, poly_step, poly_hash, poly_state}
-use Rattle.hash_keyed.specs.Poly61State.{Position, byte_in, start_at, after, full_words, poly_end, as_word, joined_value, poly61}
-use Rattle.hash_keyed.specs.Poly61Laws.{behind, byte_behind, byte_fills, byte_in-full, byte_in-part, poly_end-from, poly_end-is}
+use Rattle.hash_keyed.proofs.Common.{ℕ, zero, suc, ◌≡◌, ◌≢◌, ◌+◌, ◌-◌, ◌*◌, ◌/◌, ◌%◌, ◌^◌, ◌<◌, List, [], ◌∷◌, ◌++◌, length, take, fold, refl, sym, ap, ap₂, ◌∙◌, inl, inr, arith, lit<, mod-mod, mod-add-mod, add-mul-mod_self_left, pow-zero, cases_lt, fold-append, mul-pow, pow-add, pow-mod, le, prime61, words, words_from, poly_step, poly_hash, poly_state, Position, byte_in, start_at, after, full_words, poly_end, as_word, joined_value, poly61, behind, byte_behind, byte_fills, byte_in-full, byte_in-part, poly_end-from, poly_end-is, pow-suc, length-append}
 use Rattle.hash_keyed.proofs.ByWords.{after-few}
 use Rattle.hash_keyed.proofs.Collisions.{value-lt}
 use Rattle.hash_keyed.proofs.Encoding.{length-words}

@@ -1,10 +1,5 @@
 -- Writes one after the other lead to where their bytes lead, joined; and what is answered there.
-use Rattle.std.proofs.Common.{ℕ, ◌≡◌, List, [], ◌∷◌, fold, refl, sym, ap, ◌∙◌}
-use Rattle.std.proofs.lemmas.List.Concat.{concat_is}
-use Rattle.std.proofs.lemmas.List.Sums.{fold-append}
-use Rattle.std.specs.List.{concat, flat_map}
-use Rattle.hash_keyed.specs.Poly61State.{Position, after, as_word, byte_in, poly61, poly_end, start_at}
-use Rattle.hash_keyed.specs.Poly61Laws.{poly61-is}
+use Rattle.hash_keyed.proofs.Common.{ℕ, ◌≡◌, List, [], ◌∷◌, fold, refl, sym, ap, ◌∙◌, fold-append, concat, flat_map, Position, after, as_word, byte_in, poly61, poly_end, start_at, poly61-is, concat_is}
 
 in_turn : (at : Position) (writes : List (List ℕ)) → fold after at writes ≡ after at (flat_map (λ write. write) writes)
 in_turn at [] = refl

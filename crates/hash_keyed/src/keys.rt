@@ -1,8 +1,6 @@
 //! A random key, and the hashers at it.
-ghost use Rattle.std.specs.Prelude.{◌≡◌, ◌%◌, ◌<◌, ◌≤◌, IfOk, fold};
-ghost use Rattle.std.specs.List.{concat};
-ghost use Rattle.hash_keyed.specs.Poly61.{prime61};
-ghost use Rattle.hash_keyed.specs.Poly61State.{after, as_word, poly61, poly_end, start_at};
+ghost use Rattle.std.specs.Prelude.{◌≡◌, ◌%◌, ◌<◌, ◌≤◌};
+ghost use Rattle.hash_keyed.specs.Common.{IfOk, fold, concat, prime61, after, as_word, poly61, poly_end, start_at};
 
 use crate::modular::PRIME;
 use crate::poly61::Poly61Hasher;

@@ -1,7 +1,6 @@
 //! Numbers modulo the prime 2^61 - 1.
 ghost use Rattle.std.specs.Prelude.{◌≡◌, ◌+◌, ◌*◌, ◌%◌, ◌^◌, ◌<◌, ◌≤◌};
-ghost use Rattle.hash_keyed.specs.Poly61.{prime61, poly_step};
-ghost use Rattle.hash_keyed.specs.Poly61State.{poly_end, as_word};
+ghost use Rattle.hash_keyed.specs.Common.{prime61, poly_step, poly_end, as_word};
 
 /// The prime 2^61 - 1.
 pub(crate) const PRIME: u64 = 2305843009213693951;
@@ -77,6 +76,7 @@ pub(crate) fn first_step(key: u64, word: u64) -> u64
 
 /// A byte at its place in a word.
 #[inline(always)]
+#[tactic(auto, using(crate::proofs::CodeLemmas::placed_whole))]
 pub(crate) fn placed(byte: u64, count: u32) -> u64
     requires byte_in { byte < 256 }
     requires count_in { count < 7 }
@@ -111,7 +111,8 @@ pub(crate) fn ended(key: u64, state: u64, word: u64, count: u32) -> u64
     requires state_in { state < 2 ^ 62 }
     requires word_in { word < 2 ^ (8 * count) }
     requires count_in { count < 7 }
-    ensures { result ≡ as_word (poly_end (record { key = key; state = state % prime61; word = word; count = count })) }
+    ensures { result ≡ as_word (poly_end
+        (record { key = key; state = state % prime61; word = word; count = count })) }
 {
     finished(key, step(key, state, word + placed(1, count)))
 }

@@ -1,12 +1,10 @@
 //! Two polynomial hashes of one text, at two keys: a fingerprint of 122 bits, to compare texts by where nobody may forge one. For two
 //! texts of up to n bytes, at most (n / 7 + 2)^2 of the 2^122 pairs of keys give them one fingerprint (`few_pairs_for_two_texts`).
-ghost use Rattle.std.specs.Prelude.{◌≡◌, ◌%◌, ◌++◌, ℕ, List, [], ◌∷◌, refl};
+ghost use Rattle.std.specs.Prelude.{◌≡◌, ◌%◌, ◌++◌, ◌∷◌};
+ghost use Rattle.hash_keyed.specs.Common.{ℕ, List, [], refl, prime61, Position, as_word, default_key, poly61, poly61_from, poly_end, hash_from_key, poly61-is};
 ghost use Rattle.std.proofs.Common.{lit<};
-ghost use Rattle.hash_keyed.specs.Poly61.{prime61};
 ghost use Rattle.hash_keyed.specs.Poly61Pair.{after_both, after_write, at_both, pair_at, IsPair, PairStandsAt, StandAt};
 ghost use Rattle.hash_keyed.specs.Poly61PairLaws.{IsPair-start, IsPair-after, after_both-append, pair_answers, pair_at_keys, pair_stands_after};
-ghost use Rattle.hash_keyed.specs.Poly61State.{Position, as_word, default_key, poly61, poly61_from, poly_end};
-ghost use Rattle.hash_keyed.specs.Poly61Laws.{hash_from_key, poly61-is};
 
 use crate::poly61::{Poly61Hasher, poly61};
 use hashers::laws::{Piecewise, Streamed};

@@ -1,7 +1,6 @@
 //! A text in parts: the state behind a first part of whole words, and the hash of it joined with a second.
-ghost use Rattle.std.specs.Prelude.{◌≡◌, ◌≢◌, ◌+◌, ◌*◌, ◌/◌, ◌%◌, ◌^◌, ◌<◌, ℕ, List, ◌++◌, length, MatchOption};
-ghost use Rattle.hash_keyed.specs.Poly61.{poly_state, prime61};
-ghost use Rattle.hash_keyed.specs.Poly61State.{as_word, joined_value, poly61};
+ghost use Rattle.std.specs.Prelude.{◌≡◌, ◌≢◌, ◌+◌, ◌*◌, ◌/◌, ◌%◌, ◌^◌, ◌<◌, ◌++◌};
+ghost use Rattle.hash_keyed.specs.Common.{ℕ, List, length, MatchOption, poly_state, prime61, as_word, joined_value, poly61};
 
 use crate::modular::{folded, product, reduced, remainder, word_of};
 use crate::words::full_words;

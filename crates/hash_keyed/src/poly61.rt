@@ -1,11 +1,8 @@
 //! The hash of a text by its polynomial over the prime 2^61 - 1, at a key.
-ghost use Rattle.std.specs.Prelude.{◌↔◌, IsTrue, MatchOption, ◌≡◌, ◌+◌, ◌*◌, ◌%◌, ◌^◌, ◌<◌, ◌≤◌, ℕ, List, [], ◌∷◌, ◌++◌, slice_index, refl};
+ghost use Rattle.std.specs.Prelude.{◌↔◌, ◌≡◌, ◌+◌, ◌*◌, ◌%◌, ◌^◌, ◌<◌, ◌≤◌, ◌∷◌, ◌++◌};
+ghost use Rattle.hash_keyed.specs.Common.{IsTrue, MatchOption, ℕ, List, [], slice_index, refl, IsText, prime61, poly_step, poly_hash, Position, start_at, byte_in, after, poly_end, as_word, poly61, IsPosition, PolyStandsAt, place_of, poly61_from, default_key, IsPosition-start, IsPosition-after, after-nil, after-append, stands_at_key, stands_after, answer_where_stands, hash_from_key, poly61-is};
 ghost use Rattle.std.proofs.Common.{lit<};
 ghost use Rattle.std.specs.Hash.{le_bytes};
-ghost use Rattle.hashers.specs.Text.{IsText};
-ghost use Rattle.hash_keyed.specs.Poly61.{prime61, poly_step, poly_hash};
-ghost use Rattle.hash_keyed.specs.Poly61State.{Position, start_at, byte_in, after, poly_end, as_word, poly61, IsPosition, PolyStandsAt, place_of, poly61_from, default_key};
-ghost use Rattle.hash_keyed.specs.Poly61Laws.{IsPosition-start, IsPosition-after, after-nil, after-append, stands_at_key, stands_after, answer_where_stands, hash_from_key, poly61-is};
 
 use crate::modular::{PRIME, ended, ended_at_once, placed, reduced, remainder, step};
 use crate::words::{few, full_words, joined, text_words};
@@ -189,6 +186,7 @@ impl Hasher for Poly61Hasher {
     }
 
     /// Takes the bytes in.
+    #[tactic(auto, using(crate::proofs::CodeLemmas::write_is, crate::proofs::CodeLemmas::nothing_kept))]
     fn write(&mut self, bytes: &[u8])
         ensures written { self.new ≡ after self.old bytes.now }
         ensures in_range_before { IsPosition self.old }

@@ -1,11 +1,11 @@
 -- What follows for a hasher whose state is a number below a bound, and which takes a step for each byte: its state
 -- after a text is the fold of the step. the facts of the step are passed in.
-use Rattle.std.proofs.Common.{ℕ, ◌≡◌, ◌<◌, List, [], ◌∷◌, ◌++◌, fold, ap, sym, ◌∙◌, refl, slice_index, append_assoc, length, arith}
-use Rattle.std.proofs.lemmas.List.{append-nil}
+use Rattle.hash_laws.proofs.Common.{ℕ, ◌≡◌, ◌<◌, List, [], ◌∷◌, ◌++◌, fold, ap, sym, ◌∙◌, refl, slice_index, length, arith, All-nil, All-head, All-tail, All-append, IsText}
+use Rattle.std.proofs.Common.{append_assoc, append-nil}
 use Rattle.std.proofs.lemmas.List.Sums.{fold-append}
-use Rattle.std.proofs.lemmas.List.Elements.{All-nil, All-head, All-tail, All-append}
-use Rattle.hash_laws.specs.Text.{IsText}
+use Rattle.hash_laws.specs.Recurrence.{recurrence}
 use Rattle.hash_laws.specs.Standing.{StandsAt}
+use Rattle.hash_laws.proofs.RecurrenceLemmas.{recurrence_is_fold}
 use Rattle.hash_laws.proofs.TextLemmas.{IsByte}
 use Rattle.hash_laws.proofs.FoldLemmas.{fold_in_range, fold_cancels}
 
@@ -118,3 +118,8 @@ undoing_all after bound old state (byte ∷ left) piece none all = absurd (omega
 pub stands_state : (after : ℕ → List ℕ → ℕ) (bound h : ℕ) (from text : List ℕ) → StandsAt after bound h from text
     → h ≡ after (slice_index from 0) text
 stands_state after bound h from text stood = stood.there ∙ ap (λ s. after (slice_index s 0) text) (sym stood.only)
+
+-- the state after a text, of a recurrence by bytes
+pub recurrence_below : (step : ℕ → ℕ → ℕ) (bound : ℕ) → ((h b : ℕ) → h < bound → b < 256 → step h b < bound)
+    → (s : ℕ) (text : List ℕ) → s < bound → IsText text → recurrence step s text < bound
+recurrence_below step bound = after_below step bound (recurrence step) (recurrence_is_fold step bound)

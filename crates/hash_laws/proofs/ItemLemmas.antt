@@ -1,8 +1,6 @@
 -- What follows for a hasher whose state is a number below a bound, and which splits a piece into items below a bound and
 -- takes a step for each. The facts of the step and of the split are passed in.
-use Rattle.std.proofs.Common.{ℕ, ◌≡◌, ◌<◌, List, [], fold, ap, sym, ◌∙◌}
-use Rattle.std.specs.Prelude.{All}
-use Rattle.hash_laws.specs.Text.{IsText}
+use Rattle.hash_laws.proofs.Common.{ℕ, ◌≡◌, ◌<◌, List, [], fold, ap, sym, ◌∙◌, All, IsText}
 use Rattle.hash_laws.proofs.FoldLemmas.{fold_in_range, fold_cancels}
 
 abbrev pub IsBelow : ℕ → ℕ → Type 0

@@ -1,3 +1,4 @@
+pub mod Common
 pub mod ByteLemmas
 pub mod ExactlyLemmas
 pub mod FoldLemmas

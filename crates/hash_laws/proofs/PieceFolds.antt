@@ -1,9 +1,5 @@
 -- Where a text in two pieces leads to where it leads whole, so does one in any pieces.
-use Rattle.std.proofs.Common.{◌≡◌, List, [], ◌∷◌, ◌++◌, ℕ, fold, sym, ◌∙◌}
-use Rattle.std.specs.List.{flat_map}
-use Rattle.std.specs.Prelude.{All}
-use Rattle.std.proofs.lemmas.List.Elements.{All-nil, All-append, All-head, All-tail}
-use Rattle.hash_laws.specs.Text.{IsText}
+use Rattle.hash_laws.proofs.Common.{◌≡◌, List, [], ◌∷◌, ◌++◌, ℕ, fold, sym, ◌∙◌, flat_map, All, All-nil, All-append, All-head, All-tail, IsText}
 use Rattle.hash_laws.proofs.TextLemmas.{IsByte}
 
 module _ {S : Type 0} (is_state : S → Type 0) (after : S → List ℕ → S)

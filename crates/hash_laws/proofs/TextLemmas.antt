@@ -1,12 +1,9 @@
 -- Pieces of texts.
-use Rattle.std.proofs.Common.{ℕ, zero, suc, lit<, ◌/◌, ◌^◌, ◌≡◌, ◌+◌, ◌<◌, List, [], ◌∷◌, ◌++◌, length, take, get_or, ap, sym, ◌∙◌, append_assoc, fold, drop, map, Fits, w8, rules, refl}
-use Rattle.std.proofs.lemmas.List.{take_more, flat_map_more, at_drop_more}
-use Rattle.std.proofs.lemmas.List.Elements.{All-nil, All-cons, All-from_get_or}
+use Rattle.hash_laws.proofs.Common.{ℕ, zero, suc, lit<, ◌/◌, ◌^◌, ◌≡◌, ◌+◌, ◌<◌, List, [], ◌∷◌, ◌++◌, length, take, get_or, ap, sym, ◌∙◌, fold, drop, map, Fits, w8, rules, refl, flat_map, take_more, flat_map_more, at_drop_more, All-nil, All-cons, All-from_get_or, IsText}
+use Rattle.std.proofs.Common.{append_assoc}
 use Rattle.std.proofs.lemmas.Nat.{mod_below}
 use Rattle.std.specs.Int.{Width, byte_at, byte_len, bytes_low_first, to_le_bytes, w16, w32, w64}
-use Rattle.std.specs.List.{flat_map}
 use Rattle.std.specs.Hash.{le_bytes}
-use Rattle.hash_laws.specs.Text.{IsText}
 
 -- one more piece
 pub joined_more : {A : Type 0} (f : A → List ℕ) (text : List ℕ) (pieces : List A) (i : ℕ) (d : A) → i < length pieces

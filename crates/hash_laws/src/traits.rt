@@ -85,7 +85,7 @@ pub trait Piecewise: Default + Hasher + Drop {
         hasher.answer()
     }
 
-    /// Another hasher of the same value: a text's beginning is hashed once, and many endings behind it.
+    /// Another hasher of the same value: a text's beginning is hashed once, and many endings after it.
     fn fork(&self) -> Self
         ensures { result ≡ self.now };
 
@@ -115,12 +115,12 @@ pub trait Piecewise: Default + Hasher + Drop {
     ghost after_nothing: { (s : State) → in_range s → after s [] ≡ s };
 }
 
-/// A hasher of texts: how a text was cut into pieces doesn't show.
+/// A hasher of texts: how a text was split into pieces does not matter.
 pub trait Streamed: Piecewise {
     /// Where a default hasher starts: a list of whole numbers.
     ghost start: { List ℕ };
 
-    /// The hasher is, as it is now, one that went from a start over a text, however the text was cut.
+    /// The hasher is, as it is now, one that went from a start over a text, however the text was split.
     ghost stands_at: { Self → List ℕ → List ℕ → Type 0 };
 
     /// The hash of a text from a start.
@@ -184,7 +184,7 @@ pub trait Undo: Piecewise {
 
 /// A hasher that goes a step for each byte.
 pub trait ByteStep: Undo + Streamed {
-    /// The start from which the hasher stands with no byte behind it.
+    /// The start from which the hasher stands with no byte after it.
     ghost own_start: { Self → List ℕ };
 
     /// Takes one byte in.
@@ -284,7 +284,7 @@ pub fn bucket_of<H: Piecewise>(key: &[u8], n: u64) -> u64
     hash_of::<H>(key) % n
 }
 
-/// A law with no code: two texts, one behind the other, are one text.
+/// A law with no code: two texts, one after the other, are one text.
 pub fn joined_texts_are_one<H: Streamed>()
     ensures { (s : H.State) (text more : List ℕ) → H.in_range s → IsText text → IsText more
         → H.after s (text ++ more) ≡ H.after (H.after s text) more }
@@ -306,7 +306,7 @@ pub fn writes_are_fed<H: Piecewise>()
     ensures { (h : H) (piece : List ℕ) → H.state (H.write h piece) ≡ H.after (H.state h) piece }
 {}
 
-/// A law with no code: no bytes lead nowhere.
+/// A law with no code: an empty write leaves the state unchanged.
 pub fn no_bytes_change_nothing<H: Piecewise>()
     ensures { (s : H.State) → H.in_range s → H.after s [] ≡ s }
 {}

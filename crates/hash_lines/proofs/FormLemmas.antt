@@ -1,30 +1,16 @@
 -- Lines in other programs' forms.
-use Rattle.std.proofs.Common.{◌≡◌, ◌≢◌, inl, inr, ℕ, Bool, true, false, All, List, [], ◌∷◌, ◌++◌, Option, Some, None, MatchOption, IfOk, Result, Ok, Err, map, codes, refl, sym, ap, ◌∙◌, subst}
-use Rattle.std.specs.Char.{is_ascii_whitespace, to_ascii_lowercase}
+use Rattle.std.proofs.Common.{◌≡◌, ◌≢◌, inl, inr, ℕ, Bool, true, false, All, List, [], ◌∷◌, ◌++◌, Option, Some, None, MatchOption, Vec, refl, sym, ap, ◌∙◌, subst, Global}
+use Rattle.std.specs.Char.{is_ascii_whitespace}
 use Rattle.std.specs.Str.{IsTrimAsciiEnd, IsTrimAsciiStart}
 use Rattle.std.proofs.lemmas.Str.Ascii.{trim_ascii_end_is, trim_ascii_start_is}
 use Rattle.std.proofs.lemmas.List.Elements.{All-head, All-tail}
 use Rattle.hash_lines.specs.declared.line.LineKind.{LineKind}
 use Rattle.hash_lines.specs.declared.parse.HashLine.{HashLine}
 use denote.Ref.{Bor}
-use Rattle.hash_lines.specs.Forms.{is_sum, unmarked, EndsInDigits, HasCrc, HasTag, HasWord, IsBlankForm, IsForm, IsSfvForm, IsTaggedForm, Lacks, TellsIn, TellsNoneIn, TellsNothingSo, TellsSo}
-use Rattle.hash_lines.specs.Line.{tagged, untagged}
-use Rattle.hash_lines.specs.Told.{Tells, TellsNothing}
-use Rattle.hash_lines.proofs.LineLemmas.{same_ends}
-
--- two texts with the first byte behind them of which P does not hold are cut at the same place
-pub first_one : (P : ℕ → Type 0) (m n : ℕ) → ¬ (P m) → ¬ (P n) → (xs ys us vs : List ℕ) → All P xs → All P us
-    → xs ++ m ∷ ys ≡ us ++ n ∷ vs → (xs ≡ us) × (ys ≡ vs)
-first_one P m n not_m not_n [] ys [] vs here there same = (refl, cc)
-first_one P m n not_m not_n [] ys (u ∷ us) vs here there same =
-    let is : u ≡ m = cc in absurd (not_m (subst P is (All-head P u us there)))
-first_one P m n not_m not_n (x ∷ xs) ys [] vs here there same =
-    let is : x ≡ n = cc in absurd (not_n (subst P is (All-head P x xs here)))
-first_one P m n not_m not_n (x ∷ xs) ys (u ∷ us) vs here there same =
-    let head : x ≡ u = cc in
-    let more : xs ++ m ∷ ys ≡ us ++ n ∷ vs = cc in
-    let rest = first_one P m n not_m not_n xs ys us vs (All-tail P x xs here) (All-tail P u us there) more in
-    (ap (λ b. b ∷ xs) head ∙ ap (λ t. u ∷ t) rest.0, rest.1)
+use Rattle.hash_lines.specs.Forms.{is_sum, EndsInDigits, FindsForm, FindsOf, HasCrc, HasTag, HasWord, IsBlankForm, IsForm, IsSfvForm, IsTaggedForm, Lacks, TellsIn, TellsNoneIn, TellsSo}
+use Rattle.hash_lines.specs.Told.{Finds, Tells, TellsNothing}
+use Rattle.hash_lines.proofs.TellsLemmas.{found_as}
+use Rattle.hash_lines.proofs.LineLemmas.{first_one, same_ends}
 
 -- a byte of which P does not hold is in no text all of whose bytes P holds of
 pub all_not : (P : ℕ → Type 0) (m : ℕ) → ¬ (P m) → (xs ys : List ℕ) → ¬ (All P (xs ++ m ∷ ys))
@@ -127,19 +113,17 @@ digits_one line shown digits other number ends also =
 pub tagged_plain_one : (line plain other : List ℕ) → IsTaggedForm line plain → IsTaggedForm line other → other ≡ plain
 tagged_plain_one line plain other (tag, shown, digits, has, is) (label, name, number, also, too) =
     let (tags, names, values) = tag_one line tag shown digits label name number has also in
-    sym too ∙ ap (λ t. tagged (map to_ascii_lowercase t) name number) (sym tags)
-    ∙ ap (λ t. tagged (map to_ascii_lowercase tag) t number) (sym names) ∙ ap (λ t. tagged (map to_ascii_lowercase tag) shown t) (sym values)
-    ∙ is
+    cc
 
 pub blank_plain_one : (line plain other : List ℕ) → IsBlankForm line plain → IsBlankForm line other → other ≡ plain
 blank_plain_one line plain other (digits, behind, has, is) (number, more, also, too) =
     let (words, rests) = word_one line digits behind number more has also in
-    sym too ∙ ap (λ t. untagged (unmarked t) number) (sym rests) ∙ ap (λ t. untagged (unmarked behind) t) (sym words) ∙ is
+    cc
 
 pub sfv_plain_one : (line plain other : List ℕ) → IsSfvForm line plain → IsSfvForm line other → other ≡ plain
 sfv_plain_one line plain other (shown, digits, has, is) (name, number, also, too) =
     let (names, values) = digits_one line shown digits name number has.ends also.ends in
-    sym too ∙ ap (λ t. tagged (codes "crc32") t number) (sym names) ∙ ap (λ t. tagged (codes "crc32") shown t) (sym values) ∙ is
+    cc
 
 -- a line that begins with a long number is no line of an SFV file, and one in the shape of a tagged line neither
 pub no_crc : (line word behind : List ℕ) → HasWord line word behind → is_sum word ≡ true → (shown digits : List ℕ)
@@ -155,49 +139,37 @@ crc_found line no_tag no_sum None none = λ shown digits crc. none shown digits 
 crc_found line no_tag no_sum (Some parts) ends = record { ends = ends; no_tag = no_tag; no_sum = no_sum }
 
 -- what is found of the line of ours is what a line tells in a form
-pub found_in : {X : Type 0} (Form : (line plain : List ℕ) → Type 0) (kinds : List LineKind) (default : LineKind) (line plain : List ℕ)
-    → Form line plain → ((other : List ℕ) → Form line other → other ≡ plain) → (result : Result (Option HashLine) X)
-    → IfOk result (λ found. MatchOption found (TellsNothing kinds default plain)
-    (λ entry. Tells kinds default entry.kind entry.name.items entry.number plain))
-    → IfOk result (λ found. MatchOption found (TellsNoneIn Form kinds default line)
-    (λ entry. TellsIn Form kinds default entry.kind entry.name.items entry.number line))
-found_in Form kinds default line plain form one (Err e) found = tt
-found_in Form kinds default line plain form one (Ok None) none =
-    λ other is. subst (TellsNothing kinds default) (sym (one other is)) none
-found_in Form kinds default line plain form one (Ok (Some entry)) tells = (plain, form, tells)
+pub found_in : (Form : (line plain : List ℕ) → Type 0) (kinds : List LineKind) (default : LineKind) (line : List ℕ)
+    → ((plain other : List ℕ) → Form line plain → Form line other → other ≡ plain) → (plain : Option (Vec ℕ Global)) → FindsForm Form line plain
+    → (found : Option HashLine) → FindsOf (Finds (Tells kinds default)) plain found → Finds (TellsIn Form kinds default) line found
+found_in Form kinds default line one None none found is = rw is (λ kind name number (plain, form, tells). none plain form)
+found_in Form kinds default line one (Some plain) form found tells =
+    found_as (Tells kinds default) (TellsIn Form kinds default) plain.items line (λ kind name number it. (plain.items, form, it))
+    (λ kind name number (other, also, it). subst (λ p. Tells kinds default kind name number p) (one plain.items other form also) it) found tells
 
--- what is found last, where a line tells nothing as one of ours or as a tagged one
-pub form_found : {X : Type 0} (kinds : List LineKind) (default : LineKind) (line : List ℕ) → TellsNothing kinds default line
-    → TellsNoneIn IsTaggedForm kinds default line → (result : Result (Option HashLine) X)
-    → IfOk result (λ found. MatchOption found (TellsNoneIn IsBlankForm kinds default line)
-    (λ entry. TellsIn IsBlankForm kinds default entry.kind entry.name.items entry.number line))
-    → IfOk result (λ found. MatchOption found (TellsNoneIn IsForm kinds default line)
-    (λ entry. TellsIn IsForm kinds default entry.kind entry.name.items entry.number line))
-form_found kinds default line no_ours no_tagged (Err e) found = tt
-form_found kinds default line no_ours no_tagged (Ok None) none = at
-  where
-    at : TellsNoneIn IsForm kinds default line
-    at plain (inl is) = subst (TellsNothing kinds default) is no_ours
-    at plain (inr (inl form)) = no_tagged plain form
-    at plain (inr (inr form)) = none plain form
-form_found kinds default line no_ours no_tagged (Ok (Some entry)) (plain, form, tells) = (plain, inr (inr form), tells)
+module _ (kinds : List LineKind) (default : LineKind) (line : List ℕ) where
+  -- what is found last, where a line tells nothing as one of ours or as a tagged one
+  pub form_found : TellsNothing kinds default line → TellsNoneIn IsTaggedForm kinds default line → (found : Option HashLine)
+      → Finds (TellsIn IsBlankForm kinds default) line found → Finds (TellsIn IsForm kinds default) line found
+  form_found no_ours no_tagged =
+      found_as (TellsIn IsBlankForm kinds default) (TellsIn IsForm kinds default) line line
+      (λ kind name number (plain, form, tells). (plain, inr (inr form), tells)) from
+    where
+      from : (kind : LineKind) (name : List ℕ) (number : ℕ) → TellsIn IsForm kinds default kind name number line
+          → TellsIn IsBlankForm kinds default kind name number line
+      from kind name number (plain, inl is, tells) = absurd (no_ours kind name number (rw (← is) at tells))
+      from kind name number (plain, inr (inl form), tells) = absurd (no_tagged kind name number (plain, form, tells))
+      from kind name number (plain, inr (inr form), tells) = (plain, form, tells)
 
--- a line that tells nothing in any form behind its first blanks
-pub nothing_so : (sfv : Bool) (kinds : List LineKind) (default : LineKind) (line rest : List ℕ) → IsTrimAsciiStart line rest
-    → TellsNoneIn IsForm kinds default rest → (sfv ≡ true → TellsNoneIn IsSfvForm kinds default rest)
-    → TellsNothingSo sfv kinds default line
-nothing_so sfv kinds default line rest trims none no_sfv other name number (behind, also, inl (plain, form, tells)) =
-    none plain (subst (λ t. IsForm t plain) (start_one line behind rest also trims) form) other name number tells
-nothing_so sfv kinds default line rest trims none no_sfv other name number (behind, also, inr (takes, nothing, (plain, form, tells))) =
-    no_sfv takes plain (subst (λ t. IsSfvForm t plain) (start_one line behind rest also trims) form) other name number tells
-
--- what is found in a line that tells nothing in the other forms
-pub so_found : {X : Type 0} (sfv : Bool) (kinds : List LineKind) (default : LineKind) (line rest : List ℕ) → sfv ≡ true
-    → IsTrimAsciiStart line rest → TellsNoneIn IsForm kinds default rest → (result : Result (Option HashLine) X)
-    → IfOk result (λ found. MatchOption found (TellsNoneIn IsSfvForm kinds default rest)
-    (λ entry. TellsIn IsSfvForm kinds default entry.kind entry.name.items entry.number rest))
-    → IfOk result (λ found. MatchOption found (TellsNothingSo sfv kinds default line)
-    (λ entry. TellsSo sfv kinds default entry.kind entry.name.items entry.number line))
-so_found sfv kinds default line rest takes trims none (Err e) found = tt
-so_found sfv kinds default line rest takes trims none (Ok None) no_sfv = nothing_so sfv kinds default line rest trims none (λ is. no_sfv)
-so_found sfv kinds default line rest takes trims none (Ok (Some entry)) tells = (rest, trims, inr (takes, none, tells))
+  -- what is found as a line of an SFV file in a line that tells nothing in the other forms behind its first blanks
+  pub so_found : (sfv : Bool) (rest : List ℕ) → sfv ≡ true → IsTrimAsciiStart line rest → TellsNoneIn IsForm kinds default rest
+      → (found : Option HashLine) → Finds (TellsIn IsSfvForm kinds default) rest found → Finds (TellsSo sfv kinds default) line found
+  so_found sfv rest takes trims none =
+      found_as (TellsIn IsSfvForm kinds default) (TellsSo sfv kinds default) rest line
+      (λ kind name number tells. (rest, trims, inr (takes, none, tells))) from
+    where
+      from : (kind : LineKind) (name : List ℕ) (number : ℕ) → TellsSo sfv kinds default kind name number line
+          → TellsIn IsSfvForm kinds default kind name number rest
+      from kind name number (behind, also, inl tells) =
+          absurd (none kind name number (rw (start_one line behind rest also trims) at tells))
+      from kind name number (behind, also, inr (taken, nothing, tells)) = rw (start_one line behind rest also trims) at tells

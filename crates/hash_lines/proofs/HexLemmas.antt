@@ -1,8 +1,8 @@
 -- Digits one by one.
-use Rattle.std.proofs.Common.{◌≡◌, ℕ, ◌+◌, ◌-◌, ◌*◌, ◌/◌, ◌%◌, ◌^◌, ◌<◌, ◌≤◌, suc, zero, List, [], ◌∷◌, ◌++◌, length, drop, set, Option, Some, None, refl, sym, ap, ◌∙◌, lit<, append_assoc, append-nil, add-one, mul_assoc, arith}
-use Rattle.std.specs.Prelude.{option_and_then}
+use Rattle.std.proofs.Common.{◌≡◌, ◌⊎◌, inl, inr, ℕ, ◌+◌, ◌-◌, ◌*◌, ◌/◌, ◌%◌, ◌^◌, ◌<◌, ◌≤◌, suc, zero, List, [], ◌∷◌, ◌++◌, length, drop, set, Option, Some, None, refl, sym, ap, ◌∙◌, lit<, append_assoc, append-nil, add-one, mul_assoc, arith}
 use Rattle.std.proofs.lemmas.List.{drop-set, drop_all, length-append}
 use Rattle.std.proofs.Math.Nat.{pow-le-pow_right}
+use Rattle.std.proofs.lemmas.Bool.Decides.{nat_tests}
 use Rattle.hash_lines.specs.Hex.{digit, digit_value, hex, hex_value, value_behind}
 
 -- a digit put in front of those that stand at the end
@@ -40,41 +40,23 @@ length-hex (suc digits) number =
     length-append (hex digits (number / 16)) (digit (number % 16) ∷ []) ∙ ap (λ n. n + 1) (length-hex digits (number / 16)) ∙ add-one digits
 
 digit_value-digit : (value : ℕ) → value < 16 → digit_value (digit value) ≡ Some value
-digit_value-digit zero low = refl
-digit_value-digit (suc zero) low = refl
-digit_value-digit (suc (suc zero)) low = refl
-digit_value-digit (suc (suc (suc zero))) low = refl
-digit_value-digit (suc (suc (suc (suc zero)))) low = refl
-digit_value-digit (suc (suc (suc (suc (suc zero))))) low = refl
-digit_value-digit (suc (suc (suc (suc (suc (suc zero)))))) low = refl
-digit_value-digit (suc (suc (suc (suc (suc (suc (suc zero))))))) low = refl
-digit_value-digit (suc (suc (suc (suc (suc (suc (suc (suc zero)))))))) low = refl
-digit_value-digit (suc (suc (suc (suc (suc (suc (suc (suc (suc zero))))))))) low = refl
-digit_value-digit (suc (suc (suc (suc (suc (suc (suc (suc (suc (suc zero)))))))))) low = refl
-digit_value-digit (suc (suc (suc (suc (suc (suc (suc (suc (suc (suc (suc zero))))))))))) low = refl
-digit_value-digit (suc (suc (suc (suc (suc (suc (suc (suc (suc (suc (suc (suc zero)))))))))))) low = refl
-digit_value-digit (suc (suc (suc (suc (suc (suc (suc (suc (suc (suc (suc (suc (suc zero))))))))))))) low = refl
-digit_value-digit (suc (suc (suc (suc (suc (suc (suc (suc (suc (suc (suc (suc (suc (suc zero)))))))))))))) low = refl
-digit_value-digit (suc (suc (suc (suc (suc (suc (suc (suc (suc (suc (suc (suc (suc (suc (suc zero))))))))))))))) low = refl
-digit_value-digit (suc (suc (suc (suc (suc (suc (suc (suc (suc (suc (suc (suc (suc (suc (suc (suc more)))))))))))))))) low = absurd
-    (omega arith)
+digit_value-digit value low = grind (arith, nat_tests)
+
+pub cases_Option : (found : Option ℕ) → (found ≡ None) ⊎ ((v : ℕ) × (found ≡ Some v))
+cases_Option None = inl refl
+cases_Option (Some v) = inr (v, refl)
 
 -- a digit behind others
 value-push : (front : List ℕ) (before number byte value : ℕ) → value_behind before front ≡ Some number → digit_value byte ≡ Some value
     → value_behind before (front ++ byte ∷ []) ≡ Some (number * 16 + value)
-value-push [] before number byte value is one =
-    let same : before ≡ number = cc in
-    ap (option_and_then (λ v. Some (before * 16 + v))) one ∙ ap (λ n. Some (n * 16 + value)) same
+value-push [] before number byte value is one = grind (arith, one)
 value-push (first ∷ front) before number byte value is one =
-    at (λ b here. value-push front b number byte value here one) (digit_value first) refl
-  where
-    at : ((b : ℕ) → value_behind b front ≡ Some number → value_behind b (front ++ byte ∷ []) ≡ Some (number * 16 + value))
-        → (v : Option ℕ) → digit_value first ≡ v → value_behind before ((first ∷ front) ++ byte ∷ []) ≡ Some (number * 16 + value)
-    at again None none =
-        let clash : None ≡ Some number = sym (ap (option_and_then (λ v. value_behind (before * 16 + v) front)) none) ∙ is in cc
-    at again (Some v) some =
-        ap (option_and_then (λ v. value_behind (before * 16 + v) (front ++ byte ∷ []))) some
-        ∙ again (before * 16 + v) (sym (ap (option_and_then (λ v. value_behind (before * 16 + v) front)) some) ∙ is)
+    let later : (b : ℕ) → value_behind b front ≡ Some number → value_behind b (front ++ byte ∷ []) ≡ Some (number * 16 + value) =
+    λ b here. value-push front b number byte value here one in
+    elim (cases_Option (digit_value first)) [
+      | inl none ↦ grind (arith, is, none)
+      | inr some ↦ grind (arith, is, some.1, later (before * 16 + some.0))
+    ]
 
 -- the number of its digits
 value-hex : (digits number before : ℕ) → number < 16 ^ digits → value_behind before (hex digits number)

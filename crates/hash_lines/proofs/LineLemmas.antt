@@ -1,11 +1,26 @@
 -- The parts of a line.
-use Rattle.std.proofs.Common.{◌≡◌, ◌≢◌, ◌⊎◌, inl, inr, ℕ, suc, IfOk, Result, Ok, Err, true, false, List, ◌++◌, Option, Some, None, MatchOption, length, take, drop, codes, sym, ap, ◌∙◌, subst, append_assoc, arith}
+use Rattle.std.proofs.Common.{◌≡◌, ◌≢◌, ◌⊎◌, inl, inr, ℕ, suc, true, false, All, List, [], ◌∷◌, refl, ◌++◌, Option, Some, None, MatchOption, length, take, drop, codes, sym, ap, ◌∙◌, subst, append_assoc, arith, bytes_eq}
 use Rattle.std.proofs.Math.Seq.{take-append_seam, drop-append_seam}
+use Rattle.std.proofs.lemmas.List.Elements.{All-head, All-tail}
 use Rattle.std.proofs.lemmas.List.{append_cancel_left, length-append}
-use Rattle.std.specs.Str.{bytes_eq}
 use lib.Pointwise.{bytes_decides}
 use denote.Ref.{Bor}
 use Rattle.hash_lines.specs.Line.{ShowsNumber, ShowsTagged, ShowsUntagged}
+use Rattle.hash_lines.specs.Hex.{hex_value}
+
+-- two texts with the first byte behind them of which P does not hold are cut at the same place
+pub first_one : (P : ℕ → Type 0) (m n : ℕ) → ¬ (P m) → ¬ (P n) → (xs ys us vs : List ℕ) → All P xs → All P us
+    → xs ++ m ∷ ys ≡ us ++ n ∷ vs → (xs ≡ us) × (ys ≡ vs)
+first_one P m n not_m not_n [] ys [] vs here there same = (refl, cc)
+first_one P m n not_m not_n [] ys (u ∷ us) vs here there same =
+    let is : u ≡ m = cc in absurd (not_m (subst P is (All-head P u us there)))
+first_one P m n not_m not_n (x ∷ xs) ys [] vs here there same =
+    let is : x ≡ n = cc in absurd (not_n (subst P is (All-head P x xs here)))
+first_one P m n not_m not_n (x ∷ xs) ys (u ∷ us) vs here there same =
+    let head : x ≡ u = cc in
+    let more : xs ++ m ∷ ys ≡ us ++ n ∷ vs = cc in
+    let rest = first_one P m n not_m not_n xs ys us vs (All-tail P x xs here) (All-tail P u us there) more in
+    (ap (λ b. b ∷ xs) head ∙ ap (λ t. u ∷ t) rest.0, rest.1)
 
 -- two texts that are told apart are not the same
 pub told_apart : (xs ys : List ℕ) → false ≡ bytes_eq xs ys → xs ≢ ys
@@ -72,24 +87,29 @@ no_digits tag count rest body front last begins whole ends none shown number (di
     none number (subst (ShowsNumber count number)
     (last_is shown (codes ") = ") digits front (codes ") = ") last rest here ends (shows.0 ∙ sym whole)) shows)
 
+-- the digits in front of an untagged line
+pub front_digits : (count n : ℕ) (shown body : List ℕ) → ShowsUntagged count shown n body
+    → (digits : List ℕ) × (rest : List ℕ) × (length digits ≡ count) × (hex_value digits ≡ Some n) × (digits ++ rest ≡ body)
+    × ((rest ≡ 32 ∷ 32 ∷ shown) ⊎ (rest ≡ 32 ∷ 42 ∷ shown))
+front_digits count n shown body (digits, shows, inl is) = (digits, codes "  " ++ shown, shows.0, shows.1, is, inl refl)
+front_digits count n shown body (digits, shows, inr is) = (digits, codes " *" ++ shown, shows.0, shows.1, is, inr refl)
+
 -- no untagged line, without the spaces behind the digits
 pub no_spaces : (count : ℕ) (first rest body : List ℕ) → first ++ rest ≡ body → length first ≡ count
     → ((shown : List ℕ) → ¬ ((codes "  " ++ shown ≡ rest) ⊎ (codes " *" ++ shown ≡ rest)))
     → (shown : List ℕ) (number : ℕ) → ¬ (ShowsUntagged count shown number body)
-no_spaces count first rest body begins whole none shown number (digits, shows, inl is) =
-    none shown (inl (same_begins digits (codes "  " ++ shown) first rest (is ∙ sym begins) (shows.0 ∙ sym whole)).1)
-no_spaces count first rest body begins whole none shown number (digits, shows, inr is) =
-    none shown (inr (same_begins digits (codes " *" ++ shown) first rest (is ∙ sym begins) (shows.0 ∙ sym whole)).1)
+no_spaces count first rest body begins whole none shown number shows =
+    let (digits, more, long, tell, is, behind) = front_digits count number shown body shows in
+    let same = (same_begins digits more first rest (is ∙ sym begins) (long ∙ sym whole)).1 in
+    none shown (grind (arith, same, behind))
 
 -- no untagged line, where the first bytes are no digits
 pub no_first_digits : (count : ℕ) (first rest body : List ℕ) → first ++ rest ≡ body → length first ≡ count
     → ((number : ℕ) → ¬ (ShowsNumber count number first)) → (shown : List ℕ) (number : ℕ) → ¬ (ShowsUntagged count shown number body)
-no_first_digits count first rest body begins whole none shown number (digits, shows, inl is) =
-    none number (subst (ShowsNumber count number)
-    (same_begins digits (codes "  " ++ shown) first rest (is ∙ sym begins) (shows.0 ∙ sym whole)).0 shows)
-no_first_digits count first rest body begins whole none shown number (digits, shows, inr is) =
-    none number (subst (ShowsNumber count number)
-    (same_begins digits (codes " *" ++ shown) first rest (is ∙ sym begins) (shows.0 ∙ sym whole)).0 shows)
+no_first_digits count first rest body begins whole none shown number shows =
+    let (digits, more, long, tell, is, behind) = front_digits count number shown body shows in
+    let same = (same_begins digits more first rest (is ∙ sym begins) (long ∙ sym whole)).0 in
+    none number (rw (← same) (long, tell))
 
 -- the name that a tagged line shows
 pub tagged_shown : (tag : List ℕ) (count number other : ℕ) (shown more body : List ℕ) → ShowsTagged tag count shown number body
@@ -102,34 +122,8 @@ tagged_shown tag count number other shown more body (digits, shows, is) (others,
 -- the name that an untagged line shows
 pub untagged_shown : (count number other : ℕ) (shown more body : List ℕ) → ShowsUntagged count shown number body
     → ShowsUntagged count more other body → shown ≡ more
-untagged_shown count number other shown more body (digits, shows, one) (others, same, two) = at one two
-  where
-    at : ((digits ++ (codes "  " ++ shown) ≡ body) ⊎ (digits ++ (codes " *" ++ shown) ≡ body))
-        → ((others ++ (codes "  " ++ more) ≡ body) ⊎ (others ++ (codes " *" ++ more) ≡ body)) → shown ≡ more
-    at (inl is) (inl also) =
-        append_cancel_left (codes "  ") shown more (same_begins digits (codes "  " ++ shown) others (codes "  " ++ more)
-        (is ∙ sym also) (shows.0 ∙ sym same.0)).1
-    at (inl is) (inr also) =
-        let e : codes "  " ++ shown ≡ codes " *" ++ more = (same_begins digits (codes "  " ++ shown) others (codes " *" ++ more)
-        (is ∙ sym also) (shows.0 ∙ sym same.0)).1 in cc
-    at (inr is) (inl also) =
-        let e : codes " *" ++ shown ≡ codes "  " ++ more = (same_begins digits (codes " *" ++ shown) others (codes "  " ++ more)
-        (is ∙ sym also) (shows.0 ∙ sym same.0)).1 in cc
-    at (inr is) (inr also) =
-        append_cancel_left (codes " *") shown more (same_begins digits (codes " *" ++ shown) others (codes " *" ++ more)
-        (is ∙ sym also) (shows.0 ∙ sym same.0)).1
-
--- what is found where a name is shown so, by parts that show one name alone
-pub found_by : {E X : Type 0} (is_kind : E → Type 0) (text : E → List ℕ) (told : E → ℕ) (IsShown : (name shown : List ℕ) → Type 0)
-    (shows : List ℕ → ℕ → Type 0) → ((xs ys : List ℕ) (a b : ℕ) → shows xs a → shows ys b → xs ≡ ys)
-    → (shown : List ℕ) (number : ℕ) → shows shown number → (result : Result (Option E) X)
-    → IfOk result (λ found. MatchOption found ((name : List ℕ) → ¬ (IsShown name shown))
-    (λ e. is_kind e × (told e ≡ number) × IsShown (text e) shown))
-    → IfOk result (λ found. MatchOption found
-    ((name : List ℕ) (number : ℕ) → ¬ ((s : List ℕ) × IsShown name s × shows s number))
-    (λ e. is_kind e × ((s : List ℕ) × IsShown (text e) s × shows s (told e))))
-found_by is_kind text told IsShown shows one shown number here (Err e) found = tt
-found_by is_kind text told IsShown shows one shown number here (Ok None) none =
-    λ name other (s, is, tells). none name (subst (IsShown name) (one s shown other number tells here) is)
-found_by is_kind text told IsShown shows one shown number here (Ok (Some e)) (kind, is_number, is) =
-    (kind, (shown, is, subst (λ n. shows shown n) (sym is_number) here))
+untagged_shown count number other shown more body one two =
+    let (digits, us, long, tell, is, behind) = front_digits count number shown body one in
+    let (others, vs, as_long, too, also, later) = front_digits count other more body two in
+    let same = (same_begins digits us others vs (is ∙ sym also) (long ∙ sym as_long)).1 in
+    grind (arith, same, behind, later)

@@ -1,6 +1,5 @@
 -- A line shows one name and number, and so tells one thing.
-use Rattle.std.proofs.Common.{◌≡◌, ◌≢◌, ◌⊎◌, inl, inr, ℕ, ◌+◌, ◌*◌, ◌<◌, Bool, true, false, List, [], ◌∷◌, ◌++◌, Option, Some, None, length, get_or, codes, refl, ap, sym, ◌∙◌, subst, arith, lit<}
-use Rattle.std.specs.Prelude.{option_and_then}
+use Rattle.std.proofs.Common.{◌≡◌, ◌≢◌, ◌⊎◌, inl, inr, ℕ, ◌+◌, ◌*◌, ◌<◌, Bool, true, false, List, [], ◌∷◌, ◌++◌, Some, None, length, get_or, codes, refl, ap, sym, ◌∙◌, subst, arith, lit<}
 use Rattle.std.specs.List.{AllByRecursion}
 use Rattle.hash_lines.specs.declared.line.LineKind.{LineKind}
 use Rattle.hash_lines.specs.declared.line.Width.{Width}
@@ -9,8 +8,11 @@ use Rattle.hash_lines.specs.Escape.{escape}
 use Rattle.hash_lines.specs.Hex.{digit_value, hex_value, value_behind}
 use Rattle.hash_lines.specs.Line.{digits_of, name_shown, ShowsTagged, ShowsUntagged}
 use Rattle.hash_lines.specs.Told.{AreTags, IsTag, Tells}
+use Rattle.std.proofs.lemmas.Bool.Decides.{nat_tests}
+use Rattle.std.proofs.lemmas.List.Elements.{All-from_recursion}
+use Rattle.hash_lines.proofs.HexLemmas.{cases_Option}
 use Rattle.hash_lines.proofs.EscapeLemmas.{first_rest, first_same, nothing_first}
-use Rattle.hash_lines.proofs.LineLemmas.{inner_is, last_is, same_begins, tagged_shown, untagged_shown}
+use Rattle.hash_lines.proofs.LineLemmas.{first_one, front_digits, inner_is, last_is, same_begins, tagged_shown, untagged_shown}
 use Rattle.hash_lines.proofs.ShownLemmas.{ShowsBody, ShowsLine, line_shows}
 
 -- texts that are escaped alike are the same
@@ -31,29 +33,18 @@ shown_one false name more same = same
 before_space : (xs ys us vs : List ℕ) → AllByRecursion (λ x. x ≢ 32) xs → AllByRecursion (λ x. x ≢ 32) ys
     → xs ++ (32 ∷ us) ≡ ys ++ (32 ∷ vs)
     → (xs ≡ ys) × (us ≡ vs)
-before_space [] [] us vs none other same = (refl, cc)
-before_space [] (y ∷ ys) us vs none other same = let space : y ≡ 32 = cc in absurd (other.0 space)
-before_space (x ∷ xs) [] us vs none other same = let space : x ≡ 32 = cc in absurd (none.0 space)
-before_space (x ∷ xs) (y ∷ ys) us vs none other same =
-    let first : x ≡ y = cc in
-    let more : xs ++ (32 ∷ us) ≡ ys ++ (32 ∷ vs) = cc in
-    let rest = before_space xs ys us vs none.1 other.1 more in
-    (ap (λ b. b ∷ xs) first ∙ ap (λ t. y ∷ t) rest.0, rest.1)
+before_space xs ys us vs none other same =
+    first_one (λ b. b ≢ 32) 32 32 (λ no. no refl) (λ no. no refl) xs us ys vs (All-from_recursion _ xs none) (All-from_recursion _ ys other) same
 
 -- digits have no space
 digits_no_space : (digits : List ℕ) (before number : ℕ) → value_behind before digits ≡ Some number → AllByRecursion (λ x. x ≢ 32) digits
 digits_no_space [] before number is = tt
 digits_no_space (first ∷ more) before number is =
-    at (λ b here. digits_no_space more b number here) (digit_value first) refl
-  where
-    at : ((b : ℕ) → value_behind b more ≡ Some number → AllByRecursion (λ x. x ≢ 32) more) → (v : Option ℕ) → digit_value first ≡ v
-        → AllByRecursion (λ x. x ≢ 32) (first ∷ more)
-    at again None none =
-        let clash : None ≡ Some number = sym (ap (option_and_then (λ v. value_behind (before * 16 + v) more)) none) ∙ is in cc
-    at again (Some v) some = (
-      λ space. let none : None ≡ Some v = sym (ap digit_value space) ∙ some in cc,
-      again (before * 16 + v) (sym (ap (option_and_then (λ v. value_behind (before * 16 + v) more)) some) ∙ is),
-    )
+    let later : (b : ℕ) → value_behind b more ≡ Some number → AllByRecursion (λ x. x ≢ 32) more = λ b here. digits_no_space more b number here in
+    elim (cases_Option (digit_value first)) [
+      | inl none ↦ absurd (grind (arith, is, none))
+      | inr some ↦ (grind (arith, nat_tests, some.1), later (before * 16 + some.0) (grind (arith, is, some.1)))
+    ]
 
 tag_no_space : (tag : List ℕ) → IsTag tag → AllByRecursion (λ x. x ≢ 32) tag
 tag_no_space [] is = tt
@@ -77,13 +68,6 @@ tagged_one escapes tag count n m name more body (xs, shows, is) (ys, also, too) 
           (last_is (name_shown escapes name) (codes ") = ") xs (name_shown escapes more) (codes ") = ") ys
           (name_shown escapes more ++ (codes ") = " ++ ys)) inner refl (shows.0 ∙ sym also.0)),
     )
-
--- the digits in front of an untagged line
-front_digits : (count n : ℕ) (shown body : List ℕ) → ShowsUntagged count shown n body
-    → (digits : List ℕ) × (rest : List ℕ) × (length digits ≡ count) × (hex_value digits ≡ Some n) × (digits ++ rest ≡ body)
-    × ((rest ≡ 32 ∷ 32 ∷ shown) ⊎ (rest ≡ 32 ∷ 42 ∷ shown))
-front_digits count n shown body (digits, shows, inl is) = (digits, codes "  " ++ shown, shows.0, shows.1, is, inl refl)
-front_digits count n shown body (digits, shows, inr is) = (digits, codes " *" ++ shown, shows.0, shows.1, is, inr refl)
 
 -- two untagged lines
 untagged_one : (escapes : Bool) (count n m : ℕ) (name more body : List ℕ) → ShowsUntagged count (name_shown escapes name) n body

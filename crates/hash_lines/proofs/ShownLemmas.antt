@@ -38,6 +38,17 @@ line_shows kinds default kind name number line (inl tells) = inl (body_shows kin
 line_shows kinds default kind name number line (inr (body, is, tells)) =
     inr (body, is, body_shows kinds default true kind name number body tells)
 
+body_has_name : (kinds : List LineKind) (default : LineKind) (escapes : Bool) (kind : LineKind) (name : List ℕ) (number : ℕ) (body : List ℕ)
+    → TellsBody kinds default escapes kind name number body → name ≢ []
+body_has_name kinds default escapes kind name number body (inl (has, (shown, is, tells))) = is.0
+body_has_name kinds default escapes kind name number body (inr (default_is, (shown, is, tells))) = is.0
+
+-- and the name has some byte
+pub has_name : (kinds : List LineKind) (default kind : LineKind) (name : List ℕ) (number : ℕ) (line : List ℕ)
+    → Tells kinds default kind name number line → name ≢ []
+has_name kinds default kind name number line (inl tells) = body_has_name kinds default false kind name number line tells
+has_name kinds default kind name number line (inr (body, is, tells)) = body_has_name kinds default true kind name number body tells
+
 body_tells : (kinds : List LineKind) (default : LineKind) (escapes : Bool) (kind : LineKind) (name : List ℕ) (number : ℕ) (body : List ℕ)
     → name ≢ [] → ShowsBody kinds default escapes kind name number body → TellsBody kinds default escapes kind name number body
 body_tells kinds default escapes kind name number body named (inl (has, shows)) =

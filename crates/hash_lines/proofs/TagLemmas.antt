@@ -1,47 +1,32 @@
 -- Kinds whose names are tags.
-use Rattle.std.proofs.Common.{◌≡◌, ◌≢◌, ◌⊎◌, inl, inr, ℕ, ◌==◌, ◌&&◌, ◌||◌, not, Bool, true, false, List, [], ◌∷◌, refl, ap, sym, ◌∙◌, arith, Contains, map, subst}
+use Rattle.std.proofs.Common.{◌≡◌, ◌⊎◌, inl, inr, ℕ, zero, suc, ◌||◌, not, Bool, true, false, List, [], ◌∷◌, refl, ap, sym, ◌∙◌, arith, Contains, map, subst, bytes_eq}
 use Rattle.std.specs.List.{list_any}
-use Rattle.std.specs.Str.{bytes_eq}
 use Rattle.std.proofs.lemmas.Bool.{and_parts}
+use Rattle.std.proofs.lemmas.Bool.Decides.{nat_tests}
 use Rattle.std.proofs.lemmas.Slice.Eq.{bytes_eq-Decides}
-use Rattle.std.proofs.lemmas.List.Elements.{All-contains, All-from_get_or, Contains-append_cases, Contains-push_cases, at_from_Contains}
 use Rattle.std.proofs.lemmas.List.Folds.{list_any_at}
 use Rattle.hash_lines.specs.declared.line.LineKind.{LineKind}
 use Rattle.hash_lines.specs.Told.{AreTags, IsTag, are_tags, is_tag}
 
--- a byte that is neither
-apart_from : (byte n : ℕ) → not (byte == n) ≡ true → byte ≢ n
-apart_from byte n differs same = grind (arith, differs, same)
-
 tag_seen : (name : List ℕ) → is_tag name ≡ true → IsTag name
 tag_seen [] seen = tt
-tag_seen (byte ∷ more) seen =
-    let parts = and_parts (not (byte == 32) && not (byte == 92)) (is_tag more) seen in
-    let both = and_parts (not (byte == 32)) (not (byte == 92)) parts.0 in
-    ((apart_from byte 32 both.0, apart_from byte 92 both.1), tag_seen more parts.1)
+tag_seen (byte ∷ more) seen = grind (arith, nat_tests, tag_seen more)
 
 -- an element that holds is seen
 any_of : {X : Type 0} (p : X → Bool) (xs : List X) (x : X) → Contains xs x → p x ≡ true → list_any p xs ≡ true
-any_of p xs x there holds =
-    All-contains (λ y. p y ≡ true → list_any p xs ≡ true) xs x
-    (All-from_get_or (λ y. p y ≡ true → list_any p xs ≡ true) xs x (λ k below at. list_any_at p xs k x below at)) there holds
+any_of p xs x (k, below, is) holds = list_any_at p xs k x below (ap p is ∙ holds)
 
 any_mapped : {X Y : Type 0} (p : Y → Bool) (f : X → Y) (xs : List X) → list_any p (map f xs) ≡ list_any (λ x. p (f x)) xs
 any_mapped p f [] = refl
 any_mapped p f (x ∷ xs) = ap (λ b. p (f x) || b) (any_mapped p f xs)
 
 none_there : {X : Type 0} (x : X) → Contains [] x → ⊥
-none_there x there = let (k, below, at) = at_from_Contains [] x there in absurd (omega (arith, below))
+none_there x (k, below, is) = omega (arith, below)
 
 -- an element is the first one, or one of the others
 first_or_later : {X : Type 0} (first : X) (more : List X) (x : X) → Contains (first ∷ more) x → (first ≡ x) ⊎ Contains more x
-first_or_later first more x there = elim (Contains-append_cases (first ∷ []) more x there) [
-  | inl alone ↦ elim (Contains-push_cases [] first x alone) [
-    | inl none ↦ absurd (none_there x none)
-    | inr is ↦ inl is
-  ]
-  | inr later ↦ inr later
-]
+first_or_later first more x (zero, below, is) = inl is
+first_or_later first more x (suc k, below, is) = inr (k, omega (arith, below), is)
 
 -- the names of kinds
 abbrev names_of : List LineKind → List (List ℕ)

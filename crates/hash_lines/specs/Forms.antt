@@ -1,12 +1,14 @@
 -- Lines as other programs write them, each beside the line of ours that tells the same.
-use Rattle.std.specs.Prelude.{ℕ, ◌≡◌, ◌≢◌, ◌==◌, ◌<◌, ◌⊎◌, ◌||◌, ◌&&◌, if◌then◌else◌, nat_le, Bool, true, false, is_some, All, List, [], ◌∷◌, ◌++◌, length, map, codes}
+use Rattle.std.specs.Prelude.{ℕ, ◌≡◌, ◌≢◌, ◌==◌, ◌<◌, ◌⊎◌, ◌||◌, ◌&&◌, if◌then◌else◌, nat_le, Bool, true, false, is_some, All, Option, Some, None, Vec, List, [], ◌∷◌, ◌++◌, length, map, codes}
 use Rattle.std.specs.Char.{is_ascii_whitespace, to_ascii_lowercase}
 use Rattle.std.specs.List.{list_all}
 use Rattle.std.specs.Str.{IsTrimAsciiEnd, IsTrimAsciiStart}
 use Rattle.hash_lines.specs.Hex.{digit_value}
+use Rattle.std.specs.declared.alloc.Global.{Global}
 use Rattle.hash_lines.specs.Line.{tagged, untagged}
-use Rattle.hash_lines.specs.Told.{Tells, TellsNothing}
+use Rattle.hash_lines.specs.Told.{Tells}
 use Rattle.hash_lines.specs.declared.line.LineKind.{LineKind}
+use Rattle.hash_lines.specs.declared.parse.HashLine.{HashLine}
 
 -- no byte is this one
 abbrev pub Lacks : (mark : ℕ) → List ℕ → Type 0
@@ -82,7 +84,17 @@ abbrev pub TellsIn : (Form : (line plain : List ℕ) → Type 0) → List LineKi
 TellsIn Form kinds default kind name number line = (plain : List ℕ) × Form line plain × Tells kinds default kind name number plain
 
 abbrev pub TellsNoneIn : (Form : (line plain : List ℕ) → Type 0) → List LineKind → (default : LineKind) → List ℕ → Type 0
-TellsNoneIn Form kinds default line = (plain : List ℕ) → Form line plain → TellsNothing kinds default plain
+TellsNoneIn Form kinds default line = (other : LineKind) (name : List ℕ) (number : ℕ) → ¬ (TellsIn Form kinds default other name number line)
+
+-- what is found of a line of ours that tells the same in a form: it, or nothing exactly where a line is in no such form
+abbrev pub FindsForm : (Form : (line plain : List ℕ) → Type 0) → List ℕ → Option (Vec ℕ Global) → Type 0
+FindsForm Form line None = (plain : List ℕ) → ¬ (Form line plain)
+FindsForm Form line (Some plain) = Form line plain.items
+
+-- what is found of that line of ours, if there is one
+abbrev pub FindsOf : (finds : List ℕ → Option HashLine → Type 0) → Option (Vec ℕ Global) → Option HashLine → Type 0
+FindsOf finds None found = found ≡ None
+FindsOf finds (Some plain) found = finds plain.items found
 
 -- what a line tells behind its first blanks: as a line of an SFV file only if it tells nothing in any other form, and such lines are taken
 abbrev pub TellsSo : (sfv : Bool) → List LineKind → (default : LineKind) → LineKind → (name : List ℕ) (number : ℕ) → List ℕ → Type 0

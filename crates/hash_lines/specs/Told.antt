@@ -1,10 +1,11 @@
 -- What a line tells.
-use Rattle.std.specs.Prelude.{ℕ, ◌≡◌, ◌≢◌, ◌⊎◌, ◌==◌, ◌&&◌, not, Bool, true, false, List, [], ◌∷◌, Contains}
+use Rattle.std.specs.Prelude.{ℕ, ◌≡◌, ◌≢◌, ◌⊎◌, ◌==◌, ◌&&◌, not, Bool, true, false, List, [], ◌∷◌, Contains, Option, Some, None}
 use Rattle.std.specs.List.{AllByRecursion, list_all, list_any}
 use Rattle.std.specs.Str.{bytes_eq}
 use Rattle.hash_lines.specs.declared.line.Form.{Form}
 use Rattle.hash_lines.specs.declared.line.Form.TheVariants as form
 use Rattle.hash_lines.specs.declared.line.LineKind.{LineKind}
+use Rattle.hash_lines.specs.declared.parse.HashLine.{HashLine}
 use Rattle.hash_lines.specs.Line.{digits_of, name_shown, ShowsTagged, ShowsUntagged}
 
 -- a name is shown so, with escapes or without. It has some byte: a line that has lost its name tells nothing
@@ -19,6 +20,11 @@ TellsTagged kind escapes name number body =
 abbrev pub TellsUntagged : LineKind → Bool → (name : List ℕ) (number : ℕ) → List ℕ → Type 0
 TellsUntagged kind escapes name number body =
     (shown : List ℕ) × IsShown escapes name shown × ShowsUntagged (digits_of kind.width) shown number body
+
+-- a line of this kind alone
+abbrev pub TellsOf : LineKind → (LineKind → Bool → (name : List ℕ) (number : ℕ) → List ℕ → Type 0) → Bool → LineKind → (name : List ℕ) (number : ℕ)
+    → List ℕ → Type 0
+TellsOf kind Tells escapes other name number body = (other ≡ kind) × Tells other escapes name number body
 
 -- a line without its mark: a tagged one of one of these kinds, or an untagged one of the default
 abbrev pub TellsBody : List LineKind → (default : LineKind) → Bool → LineKind → (name : List ℕ) (number : ℕ) → List ℕ → Type 0
@@ -38,6 +44,17 @@ Tells kinds default kind name number line =
 -- a line tells no hash
 abbrev pub TellsNothing : List LineKind → (default : LineKind) → List ℕ → Type 0
 TellsNothing kinds default line = (other : LineKind) (name : List ℕ) (number : ℕ) → ¬ (Tells kinds default other name number line)
+
+-- what is found of a line: what it tells, or nothing exactly where it tells none
+abbrev pub Finds : (Tells : LineKind → (name : List ℕ) (number : ℕ) → List ℕ → Type 0) → (line : List ℕ) → Option HashLine → Type 0
+Finds Tells line None = (other : LineKind) (name : List ℕ) (number : ℕ) → ¬ (Tells other name number line)
+Finds Tells line (Some entry) = Tells entry.kind entry.name.items entry.number line
+
+-- the same of a line of this kind and number, by its name as it is shown
+abbrev pub FindsShown : LineKind → (number : ℕ) → Bool → (shown : List ℕ) → Option HashLine → Type 0
+FindsShown kind number escapes shown None = (name : List ℕ) → ¬ (IsShown escapes name shown)
+FindsShown kind number escapes shown (Some entry) =
+    (entry.kind ≡ kind) × (entry.number ≡ number) × IsShown escapes entry.name.items shown
 
 -- a kind that a line of this form may tell: tagged one of these, untagged the default
 abbrev pub MayBeTold : List LineKind → (default : LineKind) → Form → LineKind → Type 0

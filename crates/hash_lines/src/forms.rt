@@ -3,7 +3,8 @@ ghost use Rattle.std.specs.Prelude.{◌≡◌, ◌++◌, ◌∷◌, ℕ, List, c
 ghost use Rattle.std.specs.Char.{to_ascii_lowercase};
 ghost use Rattle.std.specs.List.{list_all};
 ghost use Rattle.hash_lines.specs.Hex.{digit_value};
-ghost use Rattle.hash_lines.specs.Forms.{is_long, is_sum, unmarked, EndsInDigits, HasCrc, HasTag, HasWord, IsBlankForm, IsForm, IsSfvForm, IsTaggedForm, Lacks, TellsIn, TellsNoneIn, TellsNothingSo, TellsSo};
+ghost use Rattle.hash_lines.specs.Forms.{is_long, is_sum, unmarked, EndsInDigits, FindsForm, FindsOf, HasCrc, HasTag, HasWord, IsBlankForm, IsForm, IsSfvForm, IsTaggedForm, Lacks, TellsIn, TellsSo};
+ghost use Rattle.hash_lines.specs.Told.{Finds, Tells};
 ghost use Rattle.hash_lines.specs.Line.{tagged, untagged};
 
 use crate::hex::{MOST_DIGITS, digit_value};
@@ -110,8 +111,7 @@ fn untagged_of(alloc: Global, digits: &[u8], shown: &[u8]) -> Result<Vec<u8>, Al
 
 /// The tagged line that tells the same, of a line with other blanks round its marks.
 fn tagged_form(alloc: Global, line: &[u8]) -> Result<Option<Vec<u8>>, AllocError>
-    ensures { IfOk result (λ found. MatchOption found ((plain : List ℕ) → ¬ (IsTaggedForm line.now plain))
-        (λ plain. IsTaggedForm line.now plain.items)) }
+    ensures { IfOk result (FindsForm IsTaggedForm line.now) }
 {
     match tag_parts(line) {
         Some((tag, shown, digits)) => Ok(Some(tagged_of(alloc, tag, shown, digits)?)),
@@ -131,8 +131,7 @@ fn shown_behind(behind: &[u8]) -> &[u8]
 
 /// The untagged line that tells the same, of a line with one blank.
 fn blank_form(alloc: Global, line: &[u8]) -> Result<Option<Vec<u8>>, AllocError>
-    ensures { IfOk result (λ found. MatchOption found ((plain : List ℕ) → ¬ (IsBlankForm line.now plain))
-        (λ plain. IsBlankForm line.now plain.items)) }
+    ensures { IfOk result (FindsForm IsBlankForm line.now) }
 {
     match first_word(line) {
         Some((digits, behind)) => Ok(Some(untagged_of(alloc, digits, shown_behind(behind))?)),
@@ -167,7 +166,8 @@ fn is_sum(word: &[u8]) -> bool
 
 /// Whether a line begins with such a number and a blank.
 fn begins_with_sum(line: &[u8]) -> bool
-    ensures none { result ≡ false → (word behind : List ℕ) → HasWord line.now word behind → is_sum word ≡ false }
+    ensures none { result ≡ false → (word behind : List ℕ) → HasWord line.now word behind
+        → is_sum word ≡ false }
     ensures some { result ≡ true → (word : List ℕ) × (behind : List ℕ) × HasWord line.now word behind
         × (is_sum word ≡ true) }
 {
@@ -211,8 +211,7 @@ fn sfv_parts(line: &[u8]) -> Option<(&[u8], &[u8])>
 
 /// The tagged line that tells the same, of a line of an SFV file.
 fn sfv_form(alloc: Global, line: &[u8]) -> Result<Option<Vec<u8>>, AllocError>
-    ensures { IfOk result (λ found. MatchOption found ((plain : List ℕ) → ¬ (IsSfvForm line.now plain))
-        (λ plain. IsSfvForm line.now plain.items)) }
+    ensures { IfOk result (FindsForm IsSfvForm line.now) }
 {
     match sfv_parts(line) {
         Some((shown, digits)) => Ok(Some(crc_line(alloc, shown, digits)?)),
@@ -220,49 +219,16 @@ fn sfv_form(alloc: Global, line: &[u8]) -> Result<Option<Vec<u8>>, AllocError>
     }
 }
 
-/// What a line tells as a tagged one with other blanks.
-fn tagged_entry<'k>(
+/// What a line of ours tells, if there is one.
+fn plain_entry<'k>(
     alloc: Global,
     kinds: &[LineKind<'k>],
     kind: LineKind<'k>,
-    line: &[u8],
+    plain: Option<Vec<u8>>,
 ) -> Result<Option<HashLine<'k>>, AllocError>
-    ensures { IfOk result (λ found. MatchOption found (TellsNoneIn IsTaggedForm kinds.entry.now kind.entry line.now)
-        (λ entry. TellsIn IsTaggedForm kinds.entry.now kind.entry entry.kind entry.name.items entry.number line.now)) }
+    ensures { IfOk result (FindsOf (Finds (Tells kinds.entry.now kind.entry)) plain) }
 {
-    match tagged_form(alloc, line)? {
-        Some(plain) => parse_line(alloc, kinds, kind, &plain),
-        None => Ok(None),
-    }
-}
-
-/// What a line tells as an untagged one with one blank.
-fn blank_entry<'k>(
-    alloc: Global,
-    kinds: &[LineKind<'k>],
-    kind: LineKind<'k>,
-    line: &[u8],
-) -> Result<Option<HashLine<'k>>, AllocError>
-    ensures { IfOk result (λ found. MatchOption found (TellsNoneIn IsBlankForm kinds.entry.now kind.entry line.now)
-        (λ entry. TellsIn IsBlankForm kinds.entry.now kind.entry entry.kind entry.name.items entry.number line.now)) }
-{
-    match blank_form(alloc, line)? {
-        Some(plain) => parse_line(alloc, kinds, kind, &plain),
-        None => Ok(None),
-    }
-}
-
-/// What a line tells as one of an SFV file.
-fn sfv_entry<'k>(
-    alloc: Global,
-    kinds: &[LineKind<'k>],
-    kind: LineKind<'k>,
-    line: &[u8],
-) -> Result<Option<HashLine<'k>>, AllocError>
-    ensures { IfOk result (λ found. MatchOption found (TellsNoneIn IsSfvForm kinds.entry.now kind.entry line.now)
-        (λ entry. TellsIn IsSfvForm kinds.entry.now kind.entry entry.kind entry.name.items entry.number line.now)) }
-{
-    match sfv_form(alloc, line)? {
+    match plain {
         Some(plain) => parse_line(alloc, kinds, kind, &plain),
         None => Ok(None),
     }
@@ -275,16 +241,15 @@ fn form_entry<'k>(
     kind: LineKind<'k>,
     line: &[u8],
 ) -> Result<Option<HashLine<'k>>, AllocError>
-    ensures { IfOk result (λ found. MatchOption found (TellsNoneIn IsForm kinds.entry.now kind.entry line.now)
-        (λ entry. TellsIn IsForm kinds.entry.now kind.entry entry.kind entry.name.items entry.number line.now)) }
+    ensures { IfOk result (Finds (TellsIn IsForm kinds.entry.now kind.entry) line.now) }
 {
     if let Some(entry) = parse_line(alloc, kinds, kind, line)? {
         return Ok(Some(entry));
     }
-    if let Some(entry) = tagged_entry(alloc, kinds, kind, line)? {
+    if let Some(entry) = plain_entry(alloc, kinds, kind, tagged_form(alloc, line)?)? {
         return Ok(Some(entry));
     }
-    blank_entry(alloc, kinds, kind, line)
+    plain_entry(alloc, kinds, kind, blank_form(alloc, line)?)
 }
 
 /// What a line tells in another program's form, without its end: with blanks in front, one blank behind the digits, other blanks or none
@@ -298,15 +263,14 @@ pub fn parse_form<'k>(
     sfv: bool,
     line: &[u8],
 ) -> Result<Option<HashLine<'k>>, AllocError>
-    ensures { IfOk result (λ found. MatchOption found (TellsNothingSo sfv kinds.entry.now kind.entry line.now)
-        (λ entry. TellsSo sfv kinds.entry.now kind.entry entry.kind entry.name.items entry.number line.now)) }
+    ensures { IfOk result (Finds (TellsSo sfv kinds.entry.now kind.entry) line.now) }
 {
     let rest = line.trim_ascii_start();
     if let Some(entry) = form_entry(alloc, kinds, kind, rest)? {
         return Ok(Some(entry));
     }
     if sfv {
-        return sfv_entry(alloc, kinds, kind, rest);
+        return plain_entry(alloc, kinds, kind, sfv_form(alloc, rest)?);
     }
     Ok(None)
 }

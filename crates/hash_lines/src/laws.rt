@@ -1,12 +1,12 @@
 //! Laws of lines, with no code.
 ghost use Rattle.std.specs.Prelude.{◌≡◌, ◌≢◌, ◌^◌, ◌<◌, ℕ, Bool, List, [], map, true};
 ghost use Rattle.hash_lines.specs.Line.{digits_of, line_of};
-ghost use Rattle.hash_lines.specs.Told.{AreTags, MayBeTold, Tells, are_tags};
+ghost use Rattle.hash_lines.specs.Told.{AreTags, MayBeTold, Tells, TellsNothing, are_tags};
 ghost use Rattle.hash_lines.specs.declared.line.Form.{Form};
 ghost use Rattle.hash_lines.specs.declared.line.LineKind.{LineKind};
 
 /// A line that is written of a file's hash tells this hash of this file, in either form, with escapes or without, whatever the name
-/// is, unless it has no byte. The number is one of as many digits as the kind has.
+/// is, as long as it has a byte. The number is one of as many digits as the kind has.
 pub fn written_lines_tell()
     ensures { (kinds : List LineKind) (default kind : LineKind) (form : Form) → MayBeTold kinds default form kind
         → (escapes : Bool) (name : List ℕ) (number : ℕ) → name ≢ [] → number < 16 ^ digits_of kind.width
@@ -31,6 +31,13 @@ pub fn what_is_written_is_read()
         → (other : LineKind) (more : List ℕ) (count : ℕ)
         → Tells kinds default other more count (line_of form escapes kind.name.now kind.width name number)
         → (kind ≡ other) × (name ≡ more) × (number ≡ count) }
+{}
+
+/// A line that is written of no name tells nothing: the other half of `written_lines_tell`.
+pub fn lines_of_no_name_tell_nothing()
+    ensures { (kinds : List LineKind) (default kind : LineKind) (form : Form) → AreTags kinds default
+        → MayBeTold kinds default form kind → (escapes : Bool) (number : ℕ) → number < 16 ^ digits_of kind.width
+        → TellsNothing kinds default (line_of form escapes kind.name.now kind.width [] number) }
 {}
 
 /// Kinds have tags, and no two have the same, where that is seen of their names.

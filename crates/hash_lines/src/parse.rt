@@ -1,8 +1,7 @@
 //! Lines that tell the hash of a file, as they are read.
 ghost use Rattle.std.specs.Prelude.{◌≡◌, ◌≢◌, ◌⊎◌, ◌++◌, ◌<◌, ◌≤◌, ℕ, List, length, codes, IfOk, MatchOption};
 ghost use Rattle.hash_lines.specs.Line.{ShowsNumber, ShowsTagged, ShowsUntagged};
-ghost use Rattle.hash_lines.specs.Told.{IsShown, Tells, TellsBody, TellsEscaped, TellsNothing, TellsTagged, TellsUntagged};
-ghost use Rattle.hash_lines.specs.declared.line.LineKind.{LineKind};
+ghost use Rattle.hash_lines.specs.Told.{Finds, FindsShown, IsShown, Tells, TellsBody, TellsEscaped, TellsOf, TellsTagged, TellsUntagged};
 
 use crate::escape::unescaped;
 use crate::hex::{MOST_DIGITS, hex_number};
@@ -104,7 +103,8 @@ fn behind_spaces(rest: &[u8]) -> Option<&[u8]>
 /// The name as it is shown, and the number of so many digits, in a tagged line without its mark.
 fn tagged_parts<'a>(tag: &[u8], count: usize, body: &'a [u8]) -> Option<(&'a [u8], u128)>
     requires { count ≤ MOST_DIGITS }
-    ensures { MatchOption result ((shown : List ℕ) (number : ℕ) → ¬ (ShowsTagged tag.now count shown number body.now))
+    ensures { MatchOption result ((shown : List ℕ) (number : ℕ)
+        → ¬ (ShowsTagged tag.now count shown number body.now))
         (λ parts. ShowsTagged tag.now count parts.0.now parts.1 body.now) }
 {
     let (shown, digits) = around_mark(behind_tag(tag, body)?, count)?;
@@ -145,9 +145,7 @@ fn entry_of<'k>(
     shown: &[u8],
     number: u128,
 ) -> Result<Option<HashLine<'k>>, AllocError>
-    ensures { IfOk result (λ found. MatchOption found ((name : List ℕ) → ¬ (IsShown escapes name shown.now))
-        (λ entry. (entry.kind ≡ kind.entry) × (entry.number ≡ number)
-        × IsShown escapes entry.name.items shown.now)) }
+    ensures { IfOk result (FindsShown kind.entry number escapes shown.now) }
 {
     match name_of(alloc, escapes, shown)? {
         Some(name) => Ok(Some(HashLine { kind, name, number })),
@@ -162,9 +160,7 @@ fn tagged_entry<'k>(
     escapes: bool,
     body: &[u8],
 ) -> Result<Option<HashLine<'k>>, AllocError>
-    ensures { IfOk result (λ found. MatchOption found
-        ((name : List ℕ) (number : ℕ) → ¬ (TellsTagged kind.entry escapes name number body.now))
-        (λ entry. (entry.kind ≡ kind.entry) × TellsTagged kind.entry escapes entry.name.items entry.number body.now)) }
+    ensures { IfOk result (Finds (TellsOf kind.entry TellsTagged escapes) body.now) }
 {
     match tagged_parts(kind.name.as_bytes(), kind.width.digits(), body) {
         Some((shown, number)) => entry_of(alloc, kind, escapes, shown, number),
@@ -179,10 +175,7 @@ fn untagged_entry<'k>(
     escapes: bool,
     body: &[u8],
 ) -> Result<Option<HashLine<'k>>, AllocError>
-    ensures { IfOk result (λ found. MatchOption found
-        ((name : List ℕ) (number : ℕ) → ¬ (TellsUntagged kind.entry escapes name number body.now))
-        (λ entry. (entry.kind ≡ kind.entry)
-        × TellsUntagged kind.entry escapes entry.name.items entry.number body.now)) }
+    ensures { IfOk result (Finds (TellsOf kind.entry TellsUntagged escapes) body.now) }
 {
     match untagged_parts(kind.width.digits(), body) {
         Some((shown, number)) => entry_of(alloc, kind, escapes, shown, number),
@@ -198,10 +191,7 @@ fn body_entry<'k>(
     escapes: bool,
     body: &[u8],
 ) -> Result<Option<HashLine<'k>>, AllocError>
-    ensures { IfOk result (λ found. MatchOption found
-        ((other : LineKind) (name : List ℕ) (number : ℕ)
-        → ¬ (TellsBody kinds.entry.now kind.entry escapes other name number body.now))
-        (λ entry. TellsBody kinds.entry.now kind.entry escapes entry.kind entry.name.items entry.number body.now)) }
+    ensures { IfOk result (Finds (TellsBody kinds.entry.now kind.entry escapes) body.now) }
 {
     for tagged in kinds {
         if let Some(entry) = tagged_entry(alloc, *tagged, escapes, body)? {
@@ -218,10 +208,7 @@ fn escaped_entry<'k>(
     kind: LineKind<'k>,
     line: &[u8],
 ) -> Result<Option<HashLine<'k>>, AllocError>
-    ensures { IfOk result (λ found. MatchOption found
-        ((other : LineKind) (name : List ℕ) (number : ℕ)
-        → ¬ (TellsEscaped kinds.entry.now kind.entry other name number line.now))
-        (λ entry. TellsEscaped kinds.entry.now kind.entry entry.kind entry.name.items entry.number line.now)) }
+    ensures { IfOk result (Finds (TellsEscaped kinds.entry.now kind.entry) line.now) }
 {
     match behind(line, b"\\") {
         Some(body) => body_entry(alloc, kinds, kind, true, body),
@@ -239,8 +226,7 @@ pub fn parse_line<'k>(
     kind: LineKind<'k>,
     line: &[u8],
 ) -> Result<Option<HashLine<'k>>, AllocError>
-    ensures { IfOk result (λ found. MatchOption found (TellsNothing kinds.entry.now kind.entry line.now)
-        (λ entry. Tells kinds.entry.now kind.entry entry.kind entry.name.items entry.number line.now)) }
+    ensures { IfOk result (Finds (Tells kinds.entry.now kind.entry) line.now) }
 {
     match escaped_entry(alloc, kinds, kind, line)? {
         Some(entry) => Ok(Some(entry)),

@@ -4,9 +4,8 @@ ghost use Rattle.std.proofs.Common.{lit<};
 ghost use Rattle.hash_more.specs.Djb2Add.{djb2_add_step, djb2_add_from};
 ghost use Rattle.hash_more.specs.Djb2AddLaws.{djb2_add_facts};
 
-use hash_bytes::oz::UNPRODUCT_33;
-use hash_laws::traits::hash_of;
-use hash_rules::{ByteHasher, Plain, PlainRule, PlainUndo};
+use hash_rules::constants::UNPRODUCT_33;
+use hash_rules::{ByteHasher, Plain, PlainRule, PlainUndo, hash_by_plain};
 
 /// The rule of djb2 with a sum.
 pub struct Djb2AddRule;
@@ -62,11 +61,11 @@ impl PlainUndo for Djb2AddRule {
 
 /// djb2 with a sum (Oz' page of hash functions, www.cse.yorku.ca/~oz/hash.html; `dl_new_hash` of the GNU C library).
 ///
-/// From 5381, a byte `b` takes the state `h` to `33 * h + b`, modulo 2^32; `finish` answers `h`, widened. Cuts don't show, and
-/// each write can be undone. Texts that differ in the low five bits of at most six neighbouring bytes never collide.
+/// From 5381, a byte `b` takes the state `h` to `33 * h + b`, modulo 2^32; `finish` returns `h`, widened. The split does not matter, and
+/// each write can be undone. Texts that differ in the low five bits of at most six adjacent bytes never collide.
 ///
 /// Contracts see the hasher as its state, a number below 2^32: `write` gives `h.new ≡ djb2_add_from h.old bytes.now`, and
-/// `finish` answers `h.now`. Of `printf` the hash is 0x156b2bb8.
+/// `finish` returns `h.now`. Of `printf` the hash is 0x156b2bb8.
 pub type Djb2AddHasher = ByteHasher<Plain<Djb2AddRule>>;
 
 /// djb2 with a sum of the bytes, from 5381.
@@ -74,5 +73,5 @@ pub fn djb2_add(bytes: &[u8]) -> u64
     ensures value { result ≡ djb2_add_from 5381 bytes.now }
     ensures below { result < 2 ^ 32 }
 {
-    hash_of::<Djb2AddHasher>(bytes)
+    hash_by_plain::<Djb2AddRule>(bytes)
 }

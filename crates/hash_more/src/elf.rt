@@ -5,10 +5,9 @@ ghost use Rattle.std.proofs.Common.{lit<};
 ghost use Rattle.hash_more.specs.Elf.{elf_step, elf_from};
 ghost use Rattle.hash_more.specs.ElfLaws.{elf_in_range};
 
-use hash_laws::traits::hash_of;
-use hash_rules::{ByteHasher, Plain, PlainRule};
+use hash_rules::{ByteHasher, Plain, PlainRule, hash_by_plain};
 
-/// The rule of ELF's hash. Its steps lose information, so there is no way back.
+/// The rule of ELF's hash. Its steps lose information, so there is no inverse.
 pub struct ElfRule;
 
 impl PlainRule for ElfRule {
@@ -47,7 +46,7 @@ impl PlainRule for ElfRule {
 /// The hash of ELF's symbol tables (System V Application Binary Interface, figure 5-13).
 ///
 /// From 0, a byte `b` takes the state `h` to `16 * h + b` at 32 bits, of which the four high bits are then xored in four
-/// bits from the low end and taken off. `finish` answers `h`, below 2^28, widened. Cuts don't show; no write can be undone.
+/// bits from the low end and taken off. `finish` returns `h`, below 2^28, widened. The split does not matter; no write can be undone.
 ///
 /// Contracts see the hasher as its state, a number below 2^28: `write` gives `h.new ≡ elf_from h.old bytes.now`, and `finish`
 /// answers `h.now`. Of `printf` the hash is 0x077905a6.
@@ -58,5 +57,5 @@ pub fn elf(bytes: &[u8]) -> u64
     ensures value { result ≡ elf_from 0 bytes.now }
     ensures below { result < 2 ^ 28 }
 {
-    hash_of::<ElfHasher>(bytes)
+    hash_by_plain::<ElfRule>(bytes)
 }

@@ -5,8 +5,7 @@ ghost use Rattle.hash_words.specs.Words.{xorshift};
 ghost use Rattle.hash_more.specs.Joaat.{joaat_step, joaat_from, joaat_answer};
 ghost use Rattle.hash_more.specs.JoaatLaws.{joaat_facts, joaat_answer_same};
 
-use hash_laws::traits::hash_of;
-use hash_rules::{ByteHasher, Plain, PlainRule, PlainUndo};
+use hash_rules::{ByteHasher, Plain, PlainRule, PlainUndo, hash_by_plain};
 use hash_words::unxorshift;
 
 /// What undoes a product by 1025.
@@ -103,11 +102,11 @@ impl PlainUndo for JoaatRule {
 /// PHP calls joaat.
 ///
 /// From 0, a byte `b` takes the state `h` to `h + b`, then to `1025 * h`, then to `h ^ (h >> 6)`. `finish` mixes a copy once
-/// more: `9 * h`, `h ^ (h >> 11)`, `32769 * h`, and widens it. All is modulo 2^32. Cuts don't show, each write can be undone, and
+/// more: `9 * h`, `h ^ (h >> 11)`, `32769 * h`, and widens it. All is modulo 2^32. The split does not matter, each write can be undone, and
 /// texts that differ in one byte never collide.
 ///
 /// Contracts see the hasher as its state, a number below 2^32: `write` gives `h.new ≡ joaat_from h.old bytes.now`, and
-/// `finish` answers `joaat_answer h.now`. Of `a` the hash is 0xca2e9442.
+/// `finish` returns `joaat_answer h.now`. Of `a` the hash is 0xca2e9442.
 pub type JoaatHasher = ByteHasher<Plain<JoaatRule>>;
 
 /// One-at-a-time at 32 bits of the bytes.
@@ -115,5 +114,5 @@ pub fn joaat(bytes: &[u8]) -> u64
     ensures value { result ≡ joaat_answer (joaat_from 0 bytes.now) }
     ensures below { result < 2 ^ 32 }
 {
-    hash_of::<JoaatHasher>(bytes)
+    hash_by_plain::<JoaatRule>(bytes)
 }

@@ -1,4 +1,4 @@
-//! MurmurHash3, by Austin Appleby: hashes by the block under a seed.
+//! MurmurHash3, by Austin Appleby: block-based hashes under a seed.
 #![tactic(auto)]
 
 pub mod x64_128;

@@ -70,7 +70,7 @@ fn crossed(h: (u64, u64)) -> (u64, u64)
     (new1, h.1.wrapping_add(new1))
 }
 
-/// The two words of what is left behind the blocks, with zeros for what lacks.
+/// The two words of what is left after the blocks, with zeros for what lacks.
 #[inline(always)]
 pub fn words_left(left: &[u8]) -> (u64, u64)
     requires { length left.now < 16 }
@@ -177,7 +177,7 @@ impl WideRule<16> for Murmur3Rule128 {
     }
 }
 
-/// MurmurHash3_x64_128 of a text that comes piece by piece, under a seed. std's `finish` answers the first of the two words, and
+/// MurmurHash3_x64_128 of a text that comes piece by piece, under a seed. std's `finish` returns the first of the two words, and
 /// `finish128` both.
 pub type Murmur3Hasher128 = BlockHasher<Murmur3Rule128, 16>;
 
@@ -189,7 +189,7 @@ pub fn murmur3_128(seed: u64, bytes: &[u8]) -> (u64, u64)
     Murmur3Hasher128::hash_of(seed, bytes)
 }
 
-/// The same of a text in pieces: how it was cut doesn't show.
+/// The same of a text in pieces: how it was split does not matter.
 pub fn murmur3_128_of_pieces(seed: u64, pieces: &[&[u8]]) -> (u64, u64)
     ensures { result ≡ murmur3_128 seed (joined pieces.now) }
 {

@@ -121,7 +121,7 @@ pub fn murmur3_32(seed: u32, bytes: &[u8]) -> u32
     Murmur3Hasher32::hash_of(seed, bytes)
 }
 
-/// The same of a text in pieces: how it was cut doesn't show.
+/// The same of a text in pieces: how it was split does not matter.
 pub fn murmur3_32_of_pieces(seed: u32, pieces: &[&[u8]]) -> u32
     ensures { result ≡ murmur3_32 seed (joined pieces.now) }
 {

@@ -1,3 +1,2 @@
 pub mod Named
-pub mod Wide
 pub use Rattle.hash_reading.specs.Limited

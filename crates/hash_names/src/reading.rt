@@ -1,35 +1,19 @@
-//! The hash of all that a reader gives.
+//! The hash of that name of all that a reader gives.
 ghost use Rattle.std.specs.Prelude.{◌<◌, ◌≤◌};
-ghost use Rattle.hash_names.specs.Named.{named, read_of};
+ghost use Rattle.hash_names.specs.Named.{named};
 ghost use Rattle.hash_names.specs.Limited.{Hashes, HashesNamed, read};
 ghost use Rattle.hash_reading.specs.LimitedLaws.{Hashes-agree};
 
-use crate::table::{Kind, by_kind, kind_named};
+use crate::table::{by_ported, ported_named};
 use crate::task::HashTask;
-use crate::wide::WideHash;
 use hash_laws::traits::{Piecewise, Streamed};
-pub use hash_reading::limited::{Unhashed, fed, hash_of_pieces, hash_of_text};
+pub use hash_reading::limited::Unhashed;
+use hash_reading::limited::{hash_of_pieces, hash_of_text};
 use std::io::Read;
 use std::marker::PhantomData;
 
-/// How many bytes are read at once.
-pub const BUFFER: usize = 65536;
-
-/// How many bytes are fed at once to a hasher to which cuts show.
+/// How many bytes are read at once, and fed at once to a hasher to which cuts show.
 pub const PIECE: usize = 4096;
-
-/// The 128 bits of what is read, as one number.
-pub fn hash_of_wide<H: WideHash, R: Read, const N: usize>(
-    limit: u64,
-    r: &mut R,
-) -> Result<u128, Unhashed>
-    requires not_empty { 0 < N }
-    requires small { N ≤ 65536 }
-    ensures { Hashes H.wide_of (read limit R.remaining r.old r.new) result }
-{
-    let hasher = fed::<H, R, N>(limit, r)?;
-    Ok(hasher.wide())
-}
 
 /// To hash what a reader gives, if that is less than a limit in bytes.
 struct HashRead<R> {
@@ -46,7 +30,7 @@ impl<R: Read> HashTask for HashRead<R> {
     ghost by = { λ hash of_read limit r s result. Hashes of_read (read limit R.remaining r s) result };
 
     fn by_text<H: Streamed>(limit: u64, r: &mut R) -> Result<u64, Unhashed> {
-        hash_of_text::<H, R, BUFFER>(limit, r)
+        hash_of_text::<H, R, PIECE>(limit, r)
     }
 
     fn by_pieces<H: Piecewise>(limit: u64, r: &mut R) -> Result<u64, Unhashed> {
@@ -57,20 +41,13 @@ impl<R: Read> HashTask for HashRead<R> {
         Hashes-agree of_read same agree (read limit R.remaining r s) };
 }
 
-/// The hash by that kind of all that is read, if that is less than `limit` bytes. lookup3 and fx take pieces of 4096 bytes.
-pub fn hash_by<R: Read>(kind: Kind, limit: u64, r: &mut R) -> Result<u64, Unhashed>
-    ensures { Hashes (read_of kind) (read limit R.remaining r.old r.new) result }
-{
-    by_kind::<HashRead<R>>(kind, limit, r)
-}
-
-/// The hash of that name of all that is read, if that is less than `limit` bytes. An unknown name is refused before anything is
-/// read.
+/// The hash of that name of all that is read, if that is less than `limit` bytes. lookup3 and fx take pieces of 4096 bytes. An unknown
+/// name is refused before anything is read.
 pub fn hash_named<R: Read>(name: &str, limit: u64, r: &mut R) -> Result<u64, Unhashed>
     ensures { HashesNamed (named name.now) (read limit R.remaining r.old r.new) result }
 {
-    match kind_named(name.as_bytes()) {
-        Some(kind) => hash_by(kind, limit, r),
+    match ported_named(name.as_bytes()) {
+        Some(ported) => by_ported::<HashRead<R>>(ported, limit, r),
         None => Err(Unhashed::UnknownName),
     }
 }

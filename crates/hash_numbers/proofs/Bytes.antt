@@ -1,27 +1,7 @@
 -- Up to sixteen bytes and the two words of the number that they are.
-use Rattle.std.proofs.Common.{ℕ, suc, ◌≡◌, ◌+◌, ◌-◌, ◌*◌, ◌/◌, ◌%◌, ◌^◌, ◌<◌, ◌≤◌, List, [], ◌∷◌, ◌++◌, length, take, drop, slice_index, ◌∙◌, arith, ap, inl, inr, lit<, mod-lt, w64, sym, subst, add_comm, length-drop}
-use Rattle.std.specs.Int.{to_le_bytes}
-use Rattle.std.proofs.Math.Pow.{pow_mono}
-use Rattle.std.proofs.lemmas.Nat.{mul-le, pow-add, pow_pos, shr_high}
-use Rattle.std.proofs.lemmas.List.{drop-drop, length-take-le, take-append-drop}
-use Rattle.std.proofs.lemmas.Bool.{cases_lt}
-use Rattle.std.proofs.lemmas.List.Elements.{All-append, All-drop, All-take}
-use Rattle.hashers.specs.Text.{IsText}
-use Rattle.hashers.proofs.TextLemmas.{IsByte, IsText-to_le_bytes}
+use Rattle.hash_numbers.proofs.Common.{ℕ, suc, ◌≡◌, ◌+◌, ◌-◌, ◌*◌, ◌/◌, ◌%◌, ◌^◌, ◌<◌, ◌≤◌, List, [], ◌∷◌, ◌++◌, length, take, drop, slice_index, ◌∙◌, arith, ap, inl, inr, lit<, mod-lt, w64, sym, subst, add_comm, length-drop, pow_mono, drop-drop, length-take-le, take-append-drop, to_le_bytes, mul-le, pow_pos, shr_high, cases_lt, All-append, All-drop, All-take, IsText, IsByte, IsText-to_le_bytes, le-append, le-begins, le-few, le-power, moved_parts, held_bytes, pow-add}
 use Rattle.hash_words.specs.Words.{le}
-use Rattle.hash_words.proofs.ByteLemmas.{le-append, le-begins, le-few, le-power}
 use Rattle.hash_words.proofs.WordLemmas.{le-to_le_bytes-64}
-use Rattle.hash_keyed.proofs.NumberLemmas.{moved_parts}
-use Rattle.hash_numbers.specs.NumberState.{held_bytes}
-
--- fewer than four bytes, with zeros behind them
-pub le_few : (t : List ℕ) → length t < 4 → le t ≡ slice_index t 0 + slice_index t 1 * 256 + slice_index t 2 * 65536
-unfolding le
-le_few [] few = omega arith
-le_few (a ∷ []) few = omega arith
-le_few (a ∷ b ∷ []) few = omega arith
-le_few (a ∷ b ∷ c ∷ []) few = omega arith
-le_few other few = absurd (omega arith)
 
 -- four to eight bytes by the first four and the last four
 pub by_fours : (t : List ℕ) → IsText t → 4 ≤ length t → length t ≤ 8

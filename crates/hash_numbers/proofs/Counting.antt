@@ -1,14 +1,6 @@
 -- Counting keys, of any form, by a number that each has.
-use Rattle.std.proofs.Common.{ℕ, Bool, zero, suc, ◌≡◌, ◌≢◌, ◌+◌, ◌*◌, ◌<◌, ◌≤◌, true, nat_eq, cond, List, [], ◌∷◌, length, get_or, map, All, AllPairs, eqb, refl, sym, ap, ◌∙◌, inl, inr, arith}
-use Rattle.std.specs.List.{count_by, list_any}
-use Rattle.std.proofs.lemmas.Bool.{cases_lt, eqb-true, eq-eqb}
-use Rattle.std.proofs.lemmas.Bool.Decides.{Decides-eqb, eqb_tells}
-use Rattle.std.proofs.lemmas.List.{length-map, get_or-map}
-use Rattle.std.proofs.lemmas.List.Elements.{All-head, All-tail, All-map}
-use Rattle.std.proofs.lemmas.List.Folds.{Any-from_list_any}
-use Rattle.std.proofs.lemmas.List.Sums.{sum_by-cons}
-use Rattle.std.proofs.lemmas.Map.Made.{IsDistinct-from_AllPairs}
-use Rattle.std.proofs.lemmas.Map.Steps.{length-le_from_distinct_below}
+use Rattle.hash_numbers.proofs.Common.{ℕ, Bool, zero, suc, ◌≡◌, ◌≢◌, ◌+◌, ◌*◌, ◌<◌, ◌≤◌, true, nat_eq, cond, List, [], ◌∷◌, length, get_or, map, All, AllPairs, eqb, refl, sym, ap, ◌∙◌, inl, inr, arith, list_any, cases_lt, Decides-eqb, eqb_tells, length-map, get_or-map, All-head, All-tail, All-map, sum_by-cons, eqb-true, eq-eqb, Any-from_list_any, IsDistinct-from_AllPairs, length-le_from_distinct_below}
+use Rattle.std.specs.List.{count_by}
 
 -- ---- by a number that tells a key
 

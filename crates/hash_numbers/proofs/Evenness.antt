@@ -1,11 +1,5 @@
 -- Each pair of hashes of two different numbers comes from few keys: the numbers differ in a word, by a power of two times an odd number.
-use Rattle.std.proofs.Common.{ℕ, ◌≡◌, ◌≢◌, ◌+◌, ◌-◌, ◌*◌, ◌/◌, ◌%◌, ◌^◌, ◌<◌, ◌≤◌, List, length, All, AllPairs, sym, ap, ap₂, ◌∙◌, inl, inr, subst, arith, lit<, mod-lt}
-use Rattle.std.proofs.Math.Nat.{div-add-mod, div-lt_iff_lt-mul, div-eq_of_lt, le_of_mul-le-mul_left}
-use Rattle.std.proofs.lemmas.Nat.{mul-add-lt, pow_pos, pow-add}
-use Rattle.std.proofs.lemmas.Bool.{cases_order}
-use Rattle.std.proofs.lemmas.Bool.Decides.{eqb_tells}
-use Rattle.hash_keyed.specs.Poly61.{ArePairs}
-use Rattle.hash_numbers.specs.Numbers.{number_hash, pair_hash, AreTriples}
+use Rattle.hash_numbers.proofs.Common.{ℕ, ◌≡◌, ◌≢◌, ◌+◌, ◌-◌, ◌*◌, ◌/◌, ◌%◌, ◌^◌, ◌<◌, ◌≤◌, List, length, All, AllPairs, sym, ap, ap₂, ◌∙◌, inl, inr, subst, arith, lit<, mod-lt, div-add-mod, div-lt_iff_lt-mul, div-eq_of_lt, le_of_mul-le-mul_left, mul-add-lt, pow_pos, cases_order, eqb_tells, ArePairs, number_hash, pair_hash, AreTriples, pow-add}
 use Rattle.hash_numbers.proofs.Counting.{count}
 use Rattle.hash_numbers.proofs.Odds.{parts_of, rest_from, rows, same_by_places, same_in_row}
 

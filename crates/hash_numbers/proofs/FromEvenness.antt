@@ -1,16 +1,6 @@
 -- What follows where each pair of hashes of two numbers comes from no more keys than its share: keys of any form.
-use Rattle.std.proofs.Common.{ℕ, ◌≡◌, ◌≢◌, ◌+◌, ◌-◌, ◌*◌, ◌/◌, ◌%◌, ◌^◌, ◌<◌, ◌≤◌, ◌&&◌, nat_eq, cond, List, [], ◌∷◌, length, get_or, filter, All, AllPairs, sym, ap, ap₂, ◌∙◌, inl, inr, subst, arith, mod-lt}
+use Rattle.hash_numbers.proofs.Common.{ℕ, ◌≡◌, ◌≢◌, ◌+◌, ◌-◌, ◌*◌, ◌/◌, ◌%◌, ◌^◌, ◌<◌, ◌≤◌, ◌&&◌, nat_eq, cond, List, [], ◌∷◌, length, get_or, filter, All, AllPairs, sym, ap, ap₂, ◌∙◌, inl, inr, subst, arith, mod-lt, div-add-mod, div-eq_of_lt, div-div-eq-div-mul, eqb_tells, mul-add-lt, pow_pos, All-head, filter_passes, All-filter, AllPairs-filter, length-filter, sum_by-same, have_hashes, count_by, eqb-true, eq-eqb, pow-add}
 use Rattle.std.specs.Cmp.Derive.{both_true}
-use Rattle.std.specs.List.{count_by}
-use Rattle.std.proofs.Math.Nat.{div-add-mod, div-eq_of_lt, div-div-eq-div-mul}
-use Rattle.std.proofs.lemmas.Bool.{eqb-true, eq-eqb}
-use Rattle.std.proofs.lemmas.Bool.Decides.{eqb_tells}
-use Rattle.std.proofs.lemmas.Nat.{mul-add-lt, pow_pos, pow-add}
-use Rattle.std.proofs.lemmas.List.Elements.{All-head, filter_passes, All-filter}
-use Rattle.std.proofs.lemmas.List.Kept.{AllPairs-filter}
-use Rattle.std.proofs.lemmas.List.Sums.{length-filter}
-use Rattle.hashers.proofs.SumLemmas.{sum_by-same}
-use Rattle.hash_numbers.specs.Numbers.{have_hashes}
 use Rattle.hash_numbers.proofs.Counting.{few_in_all, having, just_its_share}
 use Rattle.hash_numbers.proofs.Odds.{same_by_places}
 

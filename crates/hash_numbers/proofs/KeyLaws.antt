@@ -1,9 +1,5 @@
 -- The laws of two different numbers, at pairs of a multiplier and an addend, and at triples of two multipliers and an addend.
-use Rattle.std.proofs.Common.{ℕ, ◌≡◌, ◌≢◌, ◌+◌, ◌-◌, ◌*◌, ◌/◌, ◌%◌, ◌^◌, ◌<◌, ◌≤◌, List, length, All, AllPairs, arith, lit<, mod-lt}
-use Rattle.std.specs.List.{count_by, sum_by}
-use Rattle.hashers.specs.Counts.{meetings}
-use Rattle.hash_keyed.specs.Poly61.{ArePairs}
-use Rattle.hash_numbers.specs.Numbers.{number_hash, pair_hash, have_hashes, share_place, AreTriples}
+use Rattle.hash_numbers.proofs.Common.{ℕ, ◌≡◌, ◌≢◌, ◌+◌, ◌-◌, ◌*◌, ◌/◌, ◌%◌, ◌^◌, ◌<◌, ◌≤◌, List, length, All, AllPairs, arith, lit<, mod-lt, sum_by, meetings, ArePairs, number_hash, pair_hash, have_hashes, share_place, AreTriples, count_by}
 use Rattle.hash_numbers.proofs.FromEvenness.{exactly, meet, share_both, share_high, share_low}
 use Rattle.hash_numbers.proofs.Evenness.{even_pairs, even_triples}
 use Rattle.hash_numbers.proofs.Meetings.{few_meetings_of}

@@ -1,3 +1,4 @@
+pub mod Common
 pub mod Odds
 pub mod Counting
 pub mod Multipliers

@@ -1,17 +1,6 @@
 -- A hasher after a write.
-use Rattle.std.proofs.Common.{ℕ, ◌≡◌, ◌+◌, ◌*◌, ◌/◌, ◌%◌, ◌^◌, ◌<◌, ◌≤◌, nat_le, List, [], ◌∷◌, length, take, w64, refl, sym, ap, ap₂, ◌∙◌, arith}
-use Rattle.std.specs.Int.{to_le_bytes}
-use Rattle.std.proofs.Math.Seq.{take-append-add}
-use Rattle.std.proofs.lemmas.List.{take-append-le}
-use Rattle.std.proofs.lemmas.List.Sums.{fold-append}
-use Rattle.hash_keyed.specs.Poly61State.{Position, after, byte_in}
-use Rattle.std.proofs.Math.Nat.{div-eq_of_lt, mod-eq_of_lt}
-use Rattle.std.proofs.lemmas.Nat.{pow-add}
-use Rattle.std.proofs.lemmas.Bool.{cond-true, cond-false, le-leb, lt-leb}
+use Rattle.hash_numbers.proofs.Common.{ℕ, ◌≡◌, ◌+◌, ◌*◌, ◌/◌, ◌%◌, ◌^◌, ◌<◌, ◌≤◌, nat_le, List, [], ◌∷◌, length, take, w64, refl, sym, ap, ap₂, ◌∙◌, arith, to_le_bytes, take-append-le, fold-append, Position, after, byte_in, div-eq_of_lt, cond-true, cond-false, le-leb, lt-leb, number_hash, pair_hash, after_write, behind, held_bytes, with_text, NumberHasher, pow-add, take-append-add, mod-eq_of_lt}
 use Rattle.hashers.specs.Words.{le}
-use Rattle.hash_numbers.specs.Numbers.{number_hash, pair_hash}
-use Rattle.hash_numbers.specs.NumberState.{after_write, behind, held_bytes, with_text}
-use Rattle.hash_numbers.specs.declared.hasher.NumberHasher.{NumberHasher}
 
 pub number_behind : (h : NumberHasher) (bytes : List ℕ) (n k : ℕ) → le bytes ≡ n → length bytes ≡ k → h.held + k ≤ 16
     → behind h n k ≡ after_write h bytes

@@ -1,15 +1,6 @@
 -- Two keys of a map, of any lengths, have one hash at few keys of the hash.
-use Rattle.std.proofs.Common.{ℕ, ◌≡◌, ◌≢◌, ◌+◌, ◌%◌, ◌^◌, ◌<◌, ◌≤◌, max, nat_le, List, length, get_or, All, sym, ap, ◌∙◌, inl, inr, arith}
-use Rattle.std.proofs.Math.Nat.{mod-eq_of_lt}
-use Rattle.std.proofs.lemmas.Bool.{cases_lt, cond-true, cond-false, le-leb, lt-leb}
-use Rattle.hashers.specs.Text.{IsText}
+use Rattle.hash_numbers.proofs.Common.{ℕ, ◌≡◌, ◌≢◌, ◌+◌, ◌%◌, ◌^◌, ◌<◌, ◌≤◌, max, nat_le, List, length, get_or, All, sym, ap, ◌∙◌, inl, inr, arith, cases_lt, cond-true, cond-false, le-leb, lt-leb, IsText, AreKeys, prime61, word_count, poly61, few_keys_meet, AreTriples, pair_hash, keyed_hash, NeitherBegins, le-begins, le-few, mod-eq_of_lt}
 use Rattle.hashers.specs.Words.{le}
-use Rattle.hash_keyed.specs.Poly61.{AreKeys, prime61, word_count}
-use Rattle.hash_keyed.specs.Poly61State.{poly61}
-use Rattle.hash_keyed.proofs.Collisions.{few_keys_meet}
-use Rattle.hash_numbers.specs.Numbers.{AreTriples, pair_hash}
-use Rattle.hash_numbers.specs.NumberState.{keyed_hash, NeitherBegins}
-use Rattle.hash_words.proofs.ByteLemmas.{le-begins, le-few}
 use Rattle.hash_numbers.proofs.Evenness.{few_triples_have}
 use Rattle.hash_numbers.proofs.KeyLaws.{few_triples}
 

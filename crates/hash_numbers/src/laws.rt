@@ -12,17 +12,20 @@ ghost use Rattle.hash_numbers.specs.NumberState.{after_write, answer_of, fresh_a
 /// Each pair of hashes of two different numbers comes from at most 2^128 of the 2^256 pairs of a multiplier and an
 /// addend; of all of them, from just as many. At random keys two hashes are two random numbers.
 pub fn even_pairs_of_hashes()
-    ensures most { (x y u v : ℕ) (keys : List (ℕ × ℕ)) → x < 2 ^ 64 → y < 2 ^ 64 → x ≢ y → ArePairs (2 ^ 128) keys
+    ensures most { (x y u v : ℕ) (keys : List (ℕ × ℕ)) → x < 2 ^ 64 → y < 2 ^ 64 → x ≢ y
+        → ArePairs (2 ^ 128) keys
         → All (λ key. (number_hash key.0 key.1 x ≡ u) × (number_hash key.0 key.1 y ≡ v)) keys
         → length keys ≤ 2 ^ 128 }
-    ensures of_all { (x y u v : ℕ) (keys : List (ℕ × ℕ)) → x < 2 ^ 64 → y < 2 ^ 64 → x ≢ y → u < 2 ^ 64 → v < 2 ^ 64
+    ensures of_all { (x y u v : ℕ) (keys : List (ℕ × ℕ)) → x < 2 ^ 64 → y < 2 ^ 64 → x ≢ y
+        → u < 2 ^ 64 → v < 2 ^ 64
         → ArePairs (2 ^ 128) keys → length keys ≡ 2 ^ 256
         → count_by (λ key. have_hashes x y u v (number_hash key.0 key.1)) keys ≡ 2 ^ 128 }
 {}
 
 /// So two different numbers have one hash at no more than one in 2^64 of these pairs.
 pub fn few_keys_for_two_numbers()
-    ensures { (x y : ℕ) (keys : List (ℕ × ℕ)) → x < 2 ^ 64 → y < 2 ^ 64 → x ≢ y → ArePairs (2 ^ 128) keys
+    ensures { (x y : ℕ) (keys : List (ℕ × ℕ)) → x < 2 ^ 64 → y < 2 ^ 64 → x ≢ y
+        → ArePairs (2 ^ 128) keys
         → All (λ key. number_hash key.0 key.1 x ≡ number_hash key.0 key.1 y) keys
         → length keys ≤ 2 ^ 192 }
 {}
@@ -54,7 +57,8 @@ pub fn few_keys_for_high_bits()
 /// Low and high bits at once are the same at no more than one in 2^(low + high). std's maps take the low ones as the
 /// place and the highest seven as a tag, and compare keys only where both are the same.
 pub fn few_keys_for_a_place_and_a_tag()
-    ensures { (x y low high : ℕ) (keys : List (ℕ × ℕ)) → x < 2 ^ 64 → y < 2 ^ 64 → x ≢ y → low + high ≤ 64
+    ensures { (x y low high : ℕ) (keys : List (ℕ × ℕ)) → x < 2 ^ 64 → y < 2 ^ 64 → x ≢ y
+        → low + high ≤ 64
         → ArePairs (2 ^ 128) keys
         → All (λ key. (number_hash key.0 key.1 x % 2 ^ low ≡ number_hash key.0 key.1 y % 2 ^ low)
         × (number_hash key.0 key.1 x / 2 ^ (64 - high) ≡ number_hash key.0 key.1 y / 2 ^ (64 - high))) keys
@@ -79,7 +83,8 @@ pub fn even_pairs_of_hashes_of_pairs()
         → AreTriples (2 ^ 128) keys
         → All (λ key. (pair_hash key.0 key.1 key.2 x ≡ u) × (pair_hash key.0 key.1 key.2 y ≡ v)) keys
         → length keys ≤ 2 ^ 256 }
-    ensures of_all { (x y u v : ℕ) (keys : List (ℕ × ℕ × ℕ)) → x < 2 ^ 128 → y < 2 ^ 128 → x ≢ y → u < 2 ^ 64
+    ensures of_all { (x y u v : ℕ) (keys : List (ℕ × ℕ × ℕ)) → x < 2 ^ 128 → y < 2 ^ 128 → x ≢ y
+        → u < 2 ^ 64
         → v < 2 ^ 64 → AreTriples (2 ^ 128) keys → length keys ≡ 2 ^ 384
         → count_by (λ key. have_hashes x y u v (pair_hash key.0 key.1 key.2)) keys ≡ 2 ^ 256 }
 {}
@@ -87,7 +92,8 @@ pub fn even_pairs_of_hashes_of_pairs()
 /// So low and high bits of two of these hashes are the same at no more than one in 2^(low + high) of these triples: with
 /// no high ones a place, with all 64 low ones the whole hash.
 pub fn few_keys_for_a_place_and_a_tag_of_pairs()
-    ensures { (x y low high : ℕ) (keys : List (ℕ × ℕ × ℕ)) → x < 2 ^ 128 → y < 2 ^ 128 → x ≢ y → low + high ≤ 64
+    ensures { (x y low high : ℕ) (keys : List (ℕ × ℕ × ℕ)) → x < 2 ^ 128 → y < 2 ^ 128 → x ≢ y
+        → low + high ≤ 64
         → AreTriples (2 ^ 128) keys
         → All (λ key. (pair_hash key.0 key.1 key.2 x % 2 ^ low ≡ pair_hash key.0 key.1 key.2 y % 2 ^ low)
         × (pair_hash key.0 key.1 key.2 x / 2 ^ (64 - high) ≡ pair_hash key.0 key.1 key.2 y / 2 ^ (64 - high))) keys
@@ -113,7 +119,8 @@ pub fn few_meetings_of_pairs()
 /// Where the addend is known, whatever it is, at most 2^65 of the 2^128 multipliers give two different numbers one
 /// hash.
 pub fn few_multipliers_for_two_numbers()
-    ensures { (x y addend : ℕ) (multipliers : List ℕ) → x < 2 ^ 64 → y < 2 ^ 64 → x ≢ y → AreKeys (2 ^ 128) multipliers
+    ensures { (x y addend : ℕ) (multipliers : List ℕ) → x < 2 ^ 64 → y < 2 ^ 64 → x ≢ y
+        → AreKeys (2 ^ 128) multipliers
         → All (λ a. number_hash a addend x ≡ number_hash a addend y) multipliers
         → length multipliers ≤ 2 ^ 65 }
 {}
@@ -136,11 +143,13 @@ pub fn few_multipliers_for_high_bits()
 
 /// The same of a number of up to sixteen bytes: a share of 2 / 2^bits of the 2^256 pairs of multipliers.
 pub fn few_multipliers_for_pairs()
-    ensures place { (x y addend bits : ℕ) (multipliers : List (ℕ × ℕ)) → x < 2 ^ 128 → y < 2 ^ 128 → x ≢ y → bits ≤ 64
+    ensures place { (x y addend bits : ℕ) (multipliers : List (ℕ × ℕ)) → x < 2 ^ 128 → y < 2 ^ 128
+        → x ≢ y → bits ≤ 64
         → ArePairs (2 ^ 128) multipliers
         → All (λ a. pair_hash a.0 a.1 addend x % 2 ^ bits ≡ pair_hash a.0 a.1 addend y % 2 ^ bits) multipliers
         → length multipliers ≤ 2 ^ (257 - bits) }
-    ensures high_bits { (x y addend bits : ℕ) (multipliers : List (ℕ × ℕ)) → x < 2 ^ 128 → y < 2 ^ 128 → x ≢ y
+    ensures high_bits { (x y addend bits : ℕ) (multipliers : List (ℕ × ℕ)) → x < 2 ^ 128 → y < 2 ^ 128
+        → x ≢ y
         → bits ≤ 64 → ArePairs (2 ^ 128) multipliers
         → All (λ a. pair_hash a.0 a.1 addend x / 2 ^ (64 - bits) ≡ pair_hash a.0 a.1 addend y / 2 ^ (64 - bits))
         multipliers
@@ -158,16 +167,19 @@ pub fn pieces_do_not_show()
 /// hash at few keys of the hash. Where one has at most sixteen bytes, at any key for texts, no more than one in 2^64 of
 /// the triples of two multipliers and an addend; where both are longer, as many keys for texts as `poly61` has.
 pub fn few_keys_for_two_keys_of_a_map()
-    ensures short { (s t : List ℕ) (text_key : ℕ) (keys : List (ℕ × ℕ × ℕ)) → IsText s → IsText t → length s ≤ 16
+    ensures short { (s t : List ℕ) (text_key : ℕ) (keys : List (ℕ × ℕ × ℕ)) → IsText s → IsText t
+        → length s ≤ 16
         → length t ≤ 16
         → NeitherBegins s t → AreTriples (2 ^ 128) keys
         → All (λ key. keyed_hash key.0 key.1 key.2 text_key s ≡ keyed_hash key.0 key.1 key.2 text_key t) keys
         → length keys ≤ 2 ^ 320 }
-    ensures mixed { (s t : List ℕ) (text_key : ℕ) (keys : List (ℕ × ℕ × ℕ)) → length s ≤ 16 → 16 < length t
+    ensures mixed { (s t : List ℕ) (text_key : ℕ) (keys : List (ℕ × ℕ × ℕ)) → length s ≤ 16
+        → 16 < length t
         → AreTriples (2 ^ 128) keys
         → All (λ key. keyed_hash key.0 key.1 key.2 text_key s ≡ keyed_hash key.0 key.1 key.2 text_key t) keys
         → length keys ≤ 2 ^ 320 }
-    ensures long { (s t : List ℕ) (multiplier multiplier2 addend : ℕ) (text_keys : List ℕ) → IsText s → IsText t
+    ensures long { (s t : List ℕ) (multiplier multiplier2 addend : ℕ) (text_keys : List ℕ) → IsText s
+        → IsText t
         → 16 < length s → 16 < length t
         → s ≢ t → AreKeys prime61 text_keys
         → All (λ text_key. keyed_hash multiplier multiplier2 addend text_key s

@@ -1,7 +1,6 @@
 -- Reads into a part of a buffer, and texts cut into pieces.
-use Rattle.std.proofs.Common.{ℕ, zero, suc, ◌≡◌, ◌+◌, ◌-◌, ◌*◌, ◌/◌, ◌%◌, ◌<◌, ◌≤◌, List, [], ◌∷◌, ◌++◌, length, take, drop, map, fold, ap, sym, ◌∙◌, refl, arith, Option, length-take-le, length-append, length-drop, add-zero, zero-add, zero-mul, min, subst}
+use Rattle.std.proofs.Common.{ℕ, zero, suc, ◌≡◌, ◌+◌, ◌-◌, ◌*◌, ◌/◌, ◌%◌, ◌<◌, ◌≤◌, List, [], ◌∷◌, ◌++◌, length, take, drop, map, fold, ap, sym, ◌∙◌, refl, arith, Option, length-take-le, length-append, length-drop, add-zero, zero-add, zero-mul, min, subst, All, slice_index_or}
 use Rattle.std.specs.List.{range_with_len, flat_map}
-use Rattle.std.specs.Prelude.{All, slice_index_or}
 use Rattle.std.specs.Io.KnownBytes.{Consumes}
 use Rattle.std.proofs.KnownBytes.{Consumes-nil, Consumes-trans}
 use Rattle.std.proofs.Math.Nat.{mul-le-mul_right, add-mod_right, add-mul-mod_self_right, zero-mod}

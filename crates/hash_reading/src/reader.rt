@@ -1,4 +1,4 @@
-//! The hash of what a reader gives, read through one fixed array, however the reader cuts it.
+//! The hash of what a reader gives, read through one fixed array, however the reader delivers it.
 ghost use Rattle.std.specs.Prelude.{◌≡◌, ◌<◌, ◌≤◌, ◌↔◌, ℕ, List, Some, length, min, take, IfOk, IfErr, OnOk, OnErr, IsTrue, false};
 ghost use Rattle.std.specs.Io.KnownBytes.{Consumes, IsAtEnd};
 ghost use Rattle.hash_reading.specs.Reading.{FeedsRead, FeedsFirst, FeedsAll, HashesRead, HashesFirst, HashesAll, StandsFirst};
@@ -14,7 +14,7 @@ use std::io::{Error, Read, Result as IoResult};
 pub struct Taken {
     /// How many bytes this call read.
     pub bytes: u64,
-    /// Whether a read told the end; `false` exactly where as many bytes were read as the limit allows.
+    /// Whether a read reported the end; `false` exactly where as many bytes were read as the limit allows.
     pub ended: bool,
 }
 
@@ -101,7 +101,7 @@ fn feed_unless_empty<H: Piecewise>(h: &mut H, piece: &[u8])
 }
 
 /// Reads to the end, or up to `limit` bytes, and feeds the hasher what was read: pieces of `N` bytes each, the last
-/// shorter and not empty, however the reader cut them.
+/// shorter and not empty, however the reader delivers them.
 ///
 /// Each read asks for the lesser of what is free in the array of `N` bytes and what is left of the limit, never for
 /// nothing; a read of 0 bytes is the end. No memory is taken. It returns over every reader, after at most `limit`
@@ -155,8 +155,8 @@ pub fn hash_reader<H: Piecewise, R: Read, const N: usize>(
     })
 }
 
-/// `hash_reader` for a hasher to which cuts don't show: its state is then that after the text that was read, however it came,
-/// and it stands behind that text.
+/// `hash_reader` for a hasher for which the split does not matter: its state is then that after the text that was read, however it came,
+/// and it stands after that text.
 pub fn hash_stream<H: Streamed, R: Read, const N: usize>(
     h: &mut H,
     r: &mut R,

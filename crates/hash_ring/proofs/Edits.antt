@@ -1,19 +1,5 @@
 -- A ring with a node more, and with one less.
-use Rattle.std.proofs.Common.{ℕ, suc, ◌≡◌, ◌≢◌, ◌+◌, ◌-◌, ◌<◌, ◌≤◌, Bool, true, not, cond, ltb, ◌==◌, List, [], ◌++◌, map, length, get_or, take, drop, arith, sym, ap, ◌∙◌, subst, refl, ⊎_elim, inl, inr}
-use Rattle.std.specs.List.{AllPairs, Contains, filter, insert, remove}
-use Rattle.std.specs.List.Sorted.{IsPermutation}
-use Rattle.std.proofs.lemmas.Bool.{cases_eq}
-use Rattle.std.proofs.lemmas.Bool.Decides.{nat_tests}
-use Rattle.std.proofs.lemmas.Grind.{common_steps, elements, moves}
-use Rattle.std.proofs.lemmas.List.{append-nil, drop_all, map-append, take-map, drop-map, get_or-map, length-map}
-use Rattle.std.proofs.lemmas.List.Edits.{get_or-insert_at}
-use Rattle.std.proofs.lemmas.List.Elements.{All-contains, Contains-append_cases, All-append, All-drop, All-filter, All-map, All-take, filter_passes}
-use Rattle.std.proofs.lemmas.List.Kept.{AllPairs-filter}
-use Rattle.std.proofs.lemmas.List.Sorted.{Contains-permutation, IsPermutation-append_right, IsPermutation-filter_both, IsPermutation-trans}
-use Rattle.hash_ring.specs.declared.Node.{Node}
-use Rattle.hash_ring.specs.declared.points.Point.{Point}
-use Rattle.hash_ring.specs.Ring.{IsPointOf}
-use Rattle.hash_ring.specs.Points.{ArePoints, IsBefore, IsGapAt, IsRing, IsPointOfItsNode, closed_up, left_without, node_at, opened_up, pair_of, pairs, points_of}
+use Rattle.hash_ring.proofs.Common.{ℕ, suc, ◌≡◌, ◌≢◌, ◌+◌, ◌-◌, ◌<◌, ◌≤◌, Bool, true, not, cond, ltb, ◌==◌, List, [], ◌++◌, map, length, get_or, take, drop, arith, sym, ap, ◌∙◌, subst, refl, ⊎_elim, inl, inr, filter, cases_eq, nat_tests, common_steps, elements, moves, append-nil, drop_all, map-append, take-map, drop-map, get_or-map, length-map, get_or-insert_at, All-contains, Contains-append_cases, All-append, All-drop, All-filter, All-map, All-take, filter_passes, AllPairs-filter, Contains-permutation, IsPermutation-append_right, IsPermutation-filter_both, IsPermutation-trans, Node, Point, IsPointOf, ArePoints, IsBefore, IsGapAt, IsRing, IsPointOfItsNode, closed_up, left_without, node_at, opened_up, pair_of, pairs, points_of, AllPairs, Contains, insert, remove, IsPermutation}
 use Rattle.hash_ring.proofs.PointLemmas.{ArePoints-permutation, mapped_in_order, one_node_more}
 use Rattle.hash_ring.proofs.Names.{Pairs, inserted_sorted, removed_sorted}
 
@@ -39,19 +25,14 @@ still_before gone = mapped_in_order (closed_up gone)
 -- where a loop has gone over all points
 pub all_gone_over : (gone kept index : ℕ) (points old : List Point) → length points ≡ length old → length old ≤ index
     → take kept points ++ left_without gone (drop index points) ≡ left_without gone old → take kept points ≡ left_without gone old
-all_gone_over gone kept index points old long end all =
-    sym (append-nil (take kept points)) ∙ ap (λ rest. take kept points ++ left_without gone rest) (sym (drop_all index points (omega (arith, long)))) ∙ all
+all_gone_over gone kept index points old long end all = grind (arith, append-nil, drop_all, long, end, all)
 
 -- the one undoes the other
 opened_then_closed : (at i : ℕ) → cond (ltb at (cond (ltb i at) i (i + 1))) (cond (ltb i at) i (i + 1) - 1) (cond (ltb i at) i (i + 1)) ≡ i
 opened_then_closed at i = grind (arith, nat_tests)
 
-closed_then_opened : (at i : ℕ) → i ≢ at
-    → cond (ltb (cond (ltb at i) (i - 1) i) at) (cond (ltb at i) (i - 1) i) (cond (ltb at i) (i - 1) i + 1) ≡ i
-closed_then_opened at i other = grind (arith, nat_tests)
-
 reopened : (at : ℕ) (p : Point) → p.node ≢ at → opened_up at (closed_up at p) ≡ p
-reopened at p other = λ j. record { place = p.place; node = closed_then_opened at p.node other j }
+reopened at p other = grind (arith, nat_tests)
 
 opened_other : (at i : ℕ) → cond (ltb i at) i (i + 1) ≢ at
 opened_other at i is = grind (arith, nat_tests)

@@ -1,8 +1,7 @@
 -- What moves where a node comes or goes.
-use Rattle.std.proofs.Common.{ℕ, ◌≡◌, true, false, cond, List, None, Some, subst, refl, ap, sym, ◌∙◌}
+use Rattle.hash_ring.proofs.Common.{ℕ, ◌≡◌, List, None, Some, subst, arith, alike, get_insert, get_remove, removal_undoes_insert, IsOwner, MovesOnlyFrom, MovesOnlyTo, Nodes}
 use Rattle.std.specs.FinMap as fin
-use Rattle.text_maps.proofs.TextMapLemmas.{alike, get_insert, get_remove, removal_undoes_insert, same, same_key}
-use Rattle.hash_ring.specs.Ring.{IsOwner, MovesOnlyFrom, MovesOnlyTo, Nodes}
+use Rattle.hash_ring.proofs.Names.{name_tests}
 use Rattle.hash_ring.proofs.Owners.{one_owner, stays}
 
 pub moves_from : (hash : List ℕ → ℕ) (nodes : Nodes) (gone : List ℕ) → MovesOnlyFrom hash nodes (fin.remove nodes gone) gone
@@ -19,9 +18,4 @@ moves_to hash nodes come w none = λ at a b before after ne.
 
 pub adding_back : (nodes : Nodes) (k : List ℕ) (w : ℕ) → fin.get nodes k ≡ Some w → fin.insert (fin.remove nodes k) k w ≡ nodes
 adding_back nodes k w there =
-    alike _ _
-    (λ q. get_insert (fin.remove nodes k) k q w ∙ ap (cond (same q k) (Some w)) (get_remove nodes k q)
-    ∙ elim (same q k) as (λ b. same q k ≡ b → cond b (Some w) (cond b None (fin.get nodes q)) ≡ fin.get nodes q) [
-      | true ↦ λ e. sym (ap (fin.get nodes) (same_key q k e) ∙ there)
-      | false ↦ λ e. refl
-    ] refl)
+    alike _ _ (λ q. grind (arith, name_tests, get_insert (fin.remove nodes k) k q w, get_remove nodes k q, there))

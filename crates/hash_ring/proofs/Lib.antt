@@ -1,3 +1,4 @@
+pub mod Common
 pub mod PointLemmas
 pub mod Names
 pub mod Owners

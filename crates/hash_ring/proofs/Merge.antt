@@ -1,15 +1,5 @@
 -- Two lists of points in order become one, from the last point to the first.
-use Rattle.std.proofs.Common.{ℕ, suc, ◌≡◌, ◌<◌, ◌≤◌, ◌+◌, ◌-◌, ◌++◌, List, [], ◌∷◌, length, get_or, set, take, drop, map, arith, sym, ap, ◌∙◌, subst, ⊎_elim}
-use Rattle.std.specs.List.{All, AllPairs}
-use Rattle.std.specs.List.Sorted.{IsPermutation}
-use Rattle.std.proofs.lemmas.Bool.{cases_lt}
-use Rattle.std.proofs.lemmas.List.{append_assoc, drop_more, drop-set, get_or_default, get_or-take, length-take-le, take-append-drop, take-set-le, take-take}
-use Rattle.std.proofs.lemmas.Grind.{common_steps}
-use Rattle.std.proofs.lemmas.List.Elements.{All-append, All-cons}
-use Rattle.std.proofs.lemmas.List.Kept.{AllPairs-cons}
-use Rattle.std.proofs.lemmas.List.Sorted.{IsPermutation-append_comm, IsPermutation-append_left, IsPermutation-append_right, IsPermutation-cons, IsPermutation-trans}
-use Rattle.hash_ring.specs.declared.points.Point.{Point}
-use Rattle.hash_ring.specs.Points.{IsBefore, opened_up}
+use Rattle.hash_ring.proofs.Common.{ℕ, suc, ◌≡◌, ◌<◌, ◌≤◌, ◌+◌, ◌-◌, ◌++◌, List, [], ◌∷◌, length, get_or, set, take, drop, map, arith, sym, ◌∙◌, subst, ⊎_elim, cases_lt, drop_more, drop-set, get_or_default, get_or-take, take-append-drop, take-set-le, take-take, common_steps, All-append, All-cons, AllPairs-cons, IsPermutation-append_comm, IsPermutation-append_left, IsPermutation-append_right, IsPermutation-cons, IsPermutation-trans, Point, IsBefore, opened_up, All, AllPairs, IsPermutation, append_assoc, length-take-le}
 use Rattle.hash_ring.proofs.PointLemmas.{before_both}
 
 AllPairs-append : (xs ys : List Point) → AllPairs IsBefore xs → AllPairs IsBefore ys → All (λ x. All (IsBefore x) ys) xs
@@ -92,13 +82,10 @@ module _ (xs ys points : List Point) (left right : ℕ)
   all_merged =
       let front = take right ys in
       let rest = drop right ys in
-      let whole : xs ++ ys ≡ (xs ++ front) ++ rest =
-      ap (λ zs. xs ++ zs) (sym (take-append-drop right ys)) ∙ sym (append_assoc xs front rest) in
-      subst (λ zs. IsPermutation zs (front ++ drop right points)) (sym whole)
-      (IsPermutation-trans ((xs ++ front) ++ rest) ((front ++ xs) ++ rest) (front ++ drop right points)
+      let whole : xs ++ ys ≡ (xs ++ front) ++ rest = grind (arith, append_assoc, take-append-drop right ys) in
+      rw whole (IsPermutation-trans ((xs ++ front) ++ rest) ((front ++ xs) ++ rest) (front ++ drop right points)
       (IsPermutation-append_left rest (xs ++ front) (front ++ xs) (IsPermutation-append_comm xs front))
-      (subst (λ zs. IsPermutation zs (front ++ drop right points)) (sym (append_assoc front xs rest))
-      (IsPermutation-append_right front (xs ++ rest) (drop right points) used_up.all)))
+      (rw append_assoc (IsPermutation-append_right front (xs ++ rest) (drop right points) used_up.all)))
 
   pub all_in_order : AllPairs IsBefore ys → AllPairs IsBefore (take right ys ++ drop right points)
   all_in_order ys_rise =
@@ -107,13 +94,10 @@ module _ (xs ys points : List Point) (left right : ℕ)
       AllPairs-append front (drop right points)
       (λ i j d less l.
       let high : j < right = omega (arith, long) in
-      subst (λ (p : Point). IsBefore p (get_or front j d)) (sym (get_or-take right ys i d (omega arith)))
-      (subst (λ (q : Point). IsBefore (get_or ys i d) q) (sym (get_or-take right ys j d high))
-      (ys_rise i j d less (omega (arith, so_far.right_within)))))
+      rw (get_or-take right ys i d (omega arith), get_or-take right ys j d high)
+      (ys_rise i j d less (omega (arith, so_far.right_within))))
       used_up.ordered
-      (λ k d l.
-      let low : k < right = omega (arith, long) in
-      subst (λ (p : Point). All (IsBefore p) (drop right points)) (sym (get_or-take right ys k d low)) (used_up.right_before k d low))
+      (λ k d l. rw (get_or-take right ys k d (omega (arith, long))) (used_up.right_before k d (omega (arith, long))))
 
 -- ---- in one array, whose front has those points of the first list that are not merged yet
 pub placed : (points : List Point) (at next : ℕ) (y : Point) → at + 1 ≡ next → at < length points
@@ -123,7 +107,13 @@ placed points at next y one low = grind (arith, common_steps, drop-set)
 pub front_kept : (old points : List Point) (left less at : ℕ) (y : Point) → less ≤ left → less ≤ at → take left points ≡ take left old
     → take less (set points at y) ≡ take less old
 front_kept old points left less at y upto before front =
-    take-set-le less points at y before ∙ sym (take-take less left points upto) ∙ ap (take less) front ∙ take-take less left old upto
+    grind (
+      arith,
+      front,
+      take-set-le less points at y before,
+      take-take less left points upto,
+      take-take less left old upto,
+    )
 
 -- the last one of them
 pub last_other : (come n left : ℕ) (old points : List Point) (d e : Point) → 0 < left → left ≤ n → n ≤ length old

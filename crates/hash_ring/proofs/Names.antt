@@ -1,27 +1,11 @@
 -- Nodes in the order of their names.
-use Rattle.std.proofs.Common.{ℕ, zero, suc, ◌≡◌, ◌≢◌, ◌+◌, ◌<◌, ◌≤◌, T, Bool, true, false, not, cond, ◌&&◌, List, [], ◌∷◌, length, get_or, Option, Some, None, Result, Ok, Err, arith, sym, ap, ◌∙◌, subst, refl, ⊎_elim}
-use Rattle.std.specs.List.{IsAllAdjacentAnswer, IsDistinct, insert, remove}
-use Rattle.std.specs.Prelude.{◌↔◌, IsTrue, map, reverse}
-use Rattle.std.specs.List.Sorted.{IsPermutation, IsSorted, IsBinarySearchResult, IsSearchInRange, IsSortedBy}
-use Rattle.std.specs.Result.{MatchResult}
-use Rattle.std.specs.Ordering.{nat_cmp, is_lt, is_eq, is_gt, eq_by_cmp, ordering_reverse, ordering_then}
-use Rattle.std.specs.declared.cmp.Ordering.{Ordering}
-use Rattle.std.specs.declared.cmp.Ordering.TheVariants.{Less, Equal, Greater}
-use Rattle.std.specs.Cmp.Lexicographic.{slice_cmp, nat_list_cmp_total}
+use Rattle.hash_ring.proofs.Common.{ℕ, zero, suc, ◌≡◌, ◌≢◌, ◌+◌, ◌<◌, ◌≤◌, T, Bool, true, false, not, cond, ◌&&◌, List, [], ◌∷◌, length, get_or, Some, None, Result, Ok, Err, arith, sym, ap, ◌∙◌, subst, refl, ⊎_elim, ◌⊎◌, inl, inr, ◌↔◌, IsTrue, map, reverse, MatchResult, Ordering, Less, Equal, Greater, IsAllAdjacentAnswer, IsDistinct, IsSorted, IsBinarySearchResult, IsSearchInRange, IsSortedBy, nat_cmp, is_eq, eq_by_cmp, ordering_reverse, ordering_then, slice_cmp, nat_list_cmp_total, find, put, is_sorted, slice_cmp-IsAntisymmetric, nat_cmp-IsAntisymmetric, cases_lt, tied_itself, eq_by_cmp_equiv, length-map, get_or-map, get_or_default, reverse-append, IsPermutation-map, IsPermutation-reverse, searchable_from_sorted, fold-append, alike, not_same, order_does_not_show, removal_of_nothing, same, same_itself, same_key, Node, Nodes, IsGapAt, IsNamedAt, node_at, nodes_of, pair_of, pairs, IsDistinct-IsPermutation, IsDistinct-from_apart, apart_from_distinct}
+use Rattle.std.specs.List.{insert, remove}
+use Rattle.std.specs.List.Sorted.{IsPermutation}
+use Rattle.std.specs.Ordering.{is_lt, is_gt}
 use Rattle.std.specs.FinMap as fin
-use Rattle.std.specs.FinMap.{find, put, is_sorted, slice_cmp-IsAntisymmetric, nat_cmp-IsAntisymmetric}
 use Rattle.std.specs.FinMap.Entries.{below_all, where_key, by_order, is_sorted-put, is_sorted-where_key, find-where_key}
-use Rattle.std.proofs.lemmas.Bool.{cases_lt}
-use Rattle.std.proofs.lemmas.Cmp.{tied_itself, eq_by_cmp_equiv}
-use Rattle.std.proofs.lemmas.List.{length-map, get_or-map, get_or_default, reverse-append}
-use Rattle.std.proofs.lemmas.List.Sorted.{IsPermutation-map, IsPermutation-reverse, searchable_from_sorted}
-use Rattle.std.proofs.lemmas.List.Sums.{fold-append}
-use Rattle.std.proofs.lemmas.Map.Keys.{IsDistinct-IsPermutation, IsDistinct-from_apart, apart_from_distinct}
-use Rattle.text_maps.proofs.TextMapLemmas.{alike, not_same, order_does_not_show, removal_of_nothing, same, same_itself, same_key}
 use Rattle.text_maps.specs.TextMaps.{KeysDiffer, with_all}
-use Rattle.hash_ring.specs.declared.Node.{Node}
-use Rattle.hash_ring.specs.Ring.{Nodes}
-use Rattle.hash_ring.specs.Points.{IsGapAt, IsNamedAt, node_at, nodes_of, pair_of, pairs}
 
 abbrev pub Pairs : Type 0
 Pairs = List (List ℕ × ℕ)
@@ -32,33 +16,48 @@ by_bytes = slice_cmp nat_cmp
 pub itself : (k : List ℕ) → by_bytes k k ≡ Equal
 itself k = tied_itself nat_list_cmp_total k
 
-back_less : (q k : List ℕ) → by_bytes q k ≡ Less → by_bytes k q ≡ Greater
-back_less q k e = nat_list_cmp_total.antisymm k q ∙ ap ordering_reverse e
+-- how two names stand, told both ways, for `grind`
+pub order_tells : (a b : List ℕ) → ((by_bytes a b ≡ Less) × (by_bytes b a ≡ Greater))
+    ⊎ (((by_bytes a b ≡ Equal) × (a ≡ b)) ⊎ ((by_bytes a b ≡ Greater) × (by_bytes b a ≡ Less)))
+order_tells a b = elim (by_bytes a b) as (λ r. by_bytes a b ≡ r
+    → ((r ≡ Less) × (by_bytes b a ≡ Greater)) ⊎ (((r ≡ Equal) × (a ≡ b)) ⊎ ((r ≡ Greater) × (by_bytes b a ≡ Less)))) [
+      | Less ↦ λ e. inl (refl, nat_list_cmp_total.antisymm b a ∙ ap ordering_reverse e)
+      | Equal ↦ λ e. inr (inl (refl, same_key a b (ap is_eq e)))
+      | Greater ↦ λ e. inr (inr (refl, nat_list_cmp_total.antisymm b a ∙ ap ordering_reverse e))
+    ] refl
 
-back_greater : (q k : List ℕ) → by_bytes q k ≡ Greater → by_bytes k q ≡ Less
-back_greater q k e = nat_list_cmp_total.antisymm k q ∙ ap ordering_reverse e
-
-both_parts : (a b : Bool) → T (a && b) → T a × T b
-both_parts true b h = (tt, h)
-both_parts false b h = absurd h
+pub ruleset name_tests = (order_tells, itself)
 
 less_is : (r : Ordering) → T (is_lt r) → r ≡ Less
 less_is Less h = refl
 less_is Equal h = absurd h
 less_is Greater h = absurd h
 
+both_parts : (a b : Bool) → T (a && b) → T a × T b
+both_parts true b h = (tt, h)
+both_parts false b h = absurd h
+
+-- the first name of those above another, and of those that rise
+above_head : (x : List ℕ) (e : List ℕ × ℕ) (es : Pairs) → T (below_all by_bytes x (e ∷ es))
+    → (by_bytes x e.0 ≡ Less) × T (below_all by_bytes x es)
+above_head x e es h = let parts = both_parts _ _ h in (less_is _ parts.0, parts.1)
+
+rising_head : (e : List ℕ × ℕ) (es : Pairs) → T (is_sorted by_bytes (e ∷ es))
+    → T (below_all by_bytes e.0 es) × T (is_sorted by_bytes es)
+rising_head e es h = both_parts _ _ h
+
 below_at : (x : List ℕ) (es : Pairs) (j : ℕ) → T (below_all by_bytes x es) → j < length es → by_bytes x (node_at es j).0 ≡ Less
 below_at x [] j h l = absurd (omega arith)
-below_at x (e ∷ es) zero h l = less_is _ (both_parts _ _ h).0
-below_at x (e ∷ es) (suc j) h l = below_at x es j (both_parts _ _ h).1 (omega arith)
+below_at x (e ∷ es) zero h l = (above_head x e es h).0
+below_at x (e ∷ es) (suc j) h l = below_at x es j (above_head x e es h).1 (omega arith)
 
 -- each name is less than those after it
 pub names_rise : (es : Pairs) → T (is_sorted by_bytes es) → (i j : ℕ) → i < j → j < length es
     → by_bytes (node_at es i).0 (node_at es j).0 ≡ Less
 names_rise [] h i j l m = absurd (omega arith)
 names_rise (e ∷ es) h i zero l m = absurd (omega arith)
-names_rise (e ∷ es) h zero (suc j) l m = below_at e.0 es j (both_parts _ _ h).0 (omega arith)
-names_rise (e ∷ es) h (suc i) (suc j) l m = names_rise es (both_parts _ _ h).1 i j (omega arith) (omega arith)
+names_rise (e ∷ es) h zero (suc j) l m = below_at e.0 es j (rising_head e es h).0 (omega arith)
+names_rise (e ∷ es) h (suc i) (suc j) l m = names_rise es (rising_head e es h).1 i j (omega arith) (omega arith)
 
 -- and where each is less than the next, each is less than those after it
 rises_from : (nodes : List Node)
@@ -101,11 +100,14 @@ rise_exactly (n ∷ ns) false broken = (
 -- names that rise differ
 pub rising_differ : (es : Pairs) → T (is_sorted by_bytes es) → KeysDiffer es
 rising_differ es h i j d low m same =
-    let less = names_rise es h i j low m in
-    let here = get_or_default es i d ([], 0) (omega arith) in
-    let there = get_or_default es j d ([], 0) m in
-    let equal = itself (node_at es i).0 in
-    cc
+    grind (
+      arith,
+      name_tests,
+      same,
+      names_rise es h i j low m,
+      get_or_default es i d ([], 0) (omega arith),
+      get_or_default es j d ([], 0) m,
+    )
 
 -- names that differ do so in any order
 by_names : (es : Pairs) → IsDistinct same (map (λ e. e.0) es) → KeysDiffer es
@@ -132,20 +134,15 @@ KeysDiffer-permutation xs ys moved differ =
 abbrev by_name : Node → Node → Ordering
 by_name a b = ordering_then (by_bytes a.name.items b.name.items) (nat_cmp a.weight b.weight)
 
-less_of_two : (a b : Node) (r : Ordering) → by_bytes a.name.items b.name.items ≡ r → is_lt (by_name b a) ≡ false
-    → a.name.items ≢ b.name.items → r ≡ Less
-less_of_two a b Less e h ne = refl
-less_of_two a b Equal e h ne = absurd (ne (same_key a.name.items b.name.items (ap is_eq e)))
-less_of_two a b Greater e h ne =
-    let back : is_lt (by_name b a) ≡ true =
-    ap (λ r. is_lt (ordering_then r (nat_cmp b.weight a.weight))) (back_greater a.name.items b.name.items e) in
-    cc
+less_of_two : (a b : Node) → is_lt (by_name b a) ≡ false → a.name.items ≢ b.name.items
+    → by_bytes a.name.items b.name.items ≡ Less
+less_of_two a b h ne = grind (arith, name_tests, h, ne)
 
 pub sorted_rise : (nodes : List Node) → IsSorted by_name nodes → KeysDiffer (pairs nodes) → T (is_sorted by_bytes (pairs nodes))
 sorted_rise nodes sorted differ =
     rises_from nodes
     (λ k d l.
-    less_of_two (get_or nodes k d) (get_or nodes (k + 1) d) _ refl (sorted k d (omega arith) l)
+    less_of_two (get_or nodes k d) (get_or nodes (k + 1) d) (sorted k d (omega arith) l)
     (λ same. differ k (k + 1) ([], 0) (omega arith) (omega (arith, l, length-map nodes pair_of))
     (read nodes d k (omega (arith, l)) ∙ same ∙ sym (read nodes d (k + 1) l))))
 
@@ -153,11 +150,10 @@ sorted_rise nodes sorted differ =
 pub found_at : (es : Pairs) → T (is_sorted by_bytes es) → (i : ℕ) → i < length es
     → find by_bytes (node_at es i).0 es ≡ Some (node_at es i).1
 found_at [] h i l = absurd (omega arith)
-found_at (e ∷ es) h zero l = ap (λ r. cond (is_eq r) (Some e.1) (find by_bytes e.0 es)) (itself e.0)
+found_at (e ∷ es) h zero l = grind (arith, name_tests)
 found_at (e ∷ es) h (suc i) l =
-    let later : by_bytes (node_at es i).0 e.0 ≡ Greater =
-    back_less e.0 (node_at es i).0 (below_at e.0 es i (both_parts _ _ h).0 (omega arith)) in
-    ap (λ r. cond (is_eq r) (Some e.1) (find by_bytes (node_at es i).0 es)) later ∙ found_at es (both_parts _ _ h).1 i (omega arith)
+    let (above, rising) = rising_head e es h in
+    grind (arith, name_tests, below_at e.0 es i above (omega arith), found_at es rising i (omega arith))
 
 -- where a node that is found stands
 pub record IsFoundAt (es : Pairs) (q : List ℕ) (w : ℕ) : Type 0 where
@@ -180,18 +176,15 @@ pub no_greater : (es : Pairs) → T (is_sorted by_bytes es) → (i j : ℕ) → 
     → is_gt (by_bytes (node_at es i).0 (node_at es j).0) ≡ false
 no_greater es h i j upto m = ⊎_elim
     (λ (low : i < j). ap is_gt (names_rise es h i j low m))
-    (λ (same : j ≤ i). let e : i ≡ j = omega arith in ap is_gt
-    (ap (λ k. by_bytes (node_at es i).0 (node_at es k).0) (sym e) ∙ itself (node_at es i).0))
+    (λ (same : j ≤ i). let e : i ≡ j = omega arith in grind (arith, name_tests, e))
     (cases_lt i j)
 
 -- ---- a search by name
 sorted_nodes : (nodes : List Node) → T (is_sorted by_bytes (pairs nodes))
     → IsSortedBy (λ a b. is_lt (by_bytes a.name.items b.name.items)) nodes
 sorted_nodes nodes h k d low next =
-    let name = λ (i : ℕ). (node_at (pairs nodes) i).0 in
     let rise = names_rise (pairs nodes) h k (k + 1) (omega arith) (omega (arith, next, length-map nodes pair_of)) in
-    ap is_lt ((λ j. by_bytes (sym (read nodes d (k + 1) next) j) (sym (read nodes d k (omega (arith, next))) j))
-    ∙ back_less (name k) (name (k + 1)) rise)
+    grind (arith, name_tests, rise, read nodes d (k + 1) next, read nodes d k (omega (arith, next)))
 
 pub named_or_gap : (nodes : List Node) (name : List ℕ) (r : Result ℕ ℕ) → T (is_sorted by_bytes (pairs nodes))
     → IsSearchInRange r (length nodes)
@@ -231,26 +224,21 @@ tail_gap e es name i gap = record {
 put_at : (es : Pairs) (name : List ℕ) (w i : ℕ) → IsGapAt es name i → put by_bytes name w es ≡ insert es i (name, w)
 put_at [] name w zero gap = refl
 put_at [] name w (suc i) gap = absurd (omega (arith, gap.within))
-put_at (e ∷ es) name w zero gap =
-    let less : by_bytes name e.0 ≡ Less = back_greater e.0 name (gap.greater 0 (omega arith) (omega arith)) in
-    ap (λ r. by_order r ((name, w) ∷ e ∷ es) ((e.0, w) ∷ es) (e ∷ put by_bytes name w es)) less
+put_at (e ∷ es) name w zero gap = grind (arith, name_tests, gap.greater 0 (omega arith) (omega arith))
 put_at (e ∷ es) name w (suc i) gap =
-    let more : by_bytes name e.0 ≡ Greater = back_less e.0 name (gap.less 0 (omega arith)) in
-    ap (λ r. by_order r ((name, w) ∷ e ∷ es) ((e.0, w) ∷ es) (e ∷ put by_bytes name w es)) more
-    ∙ ap (λ rest. e ∷ rest) (put_at es name w i (tail_gap e es name i gap))
+    grind (arith, name_tests, gap.less 0 (omega arith), put_at es name w i (tail_gap e es name i gap))
 
 not_found : (es : Pairs) (name : List ℕ) (i : ℕ) → IsGapAt es name i → find by_bytes name es ≡ None
-not_found es name i gap = by_weight (find by_bytes name es) refl
-  where
-    by_weight : (o : Option ℕ) → find by_bytes name es ≡ o → find by_bytes name es ≡ None
-    by_weight None e = e
-    by_weight (Some w) e =
-        let f = found_where es name w e in
-        let equal : by_bytes (node_at es f.i).0 name ≡ Equal = ap (λ (e : List ℕ × ℕ). by_bytes e.0 name) f.is ∙ itself name in
-        ⊎_elim
-        (λ (low : f.i < i). let less = gap.less f.i low in cc)
-        (λ (high : i ≤ f.i). let greater = gap.greater f.i high f.below in cc)
-        (cases_lt f.i i)
+not_found [] name i gap = refl
+not_found (e ∷ es) name zero gap =
+    let rest : IsGapAt es name 0 = record {
+      within = omega arith;
+      less = λ k l. absurd (omega arith);
+      greater = λ k l m. gap.greater (suc k) (omega arith) (omega arith);
+    } in
+    grind (arith, name_tests, gap.greater 0 (omega arith) (omega arith), not_found es name 0 rest)
+not_found (e ∷ es) name (suc i) gap =
+    grind (arith, name_tests, gap.less 0 (omega arith), not_found es name i (tail_gap e es name i gap))
 
 -- every name but this one
 abbrev other : List ℕ → List ℕ → Bool
@@ -258,26 +246,15 @@ other name = λ x. not (eq_by_cmp by_bytes name x)
 
 all_kept : (name : List ℕ) (es : Pairs) → T (below_all by_bytes name es) → where_key by_bytes (other name) es ≡ es
 all_kept name [] h = refl
-all_kept name (e ∷ es) h =
-    let less : by_bytes name e.0 ≡ Less = less_is _ (both_parts _ _ h).0 in
-    ap (λ r. cond (not (is_eq r)) (e ∷ where_key by_bytes (other name) es) (where_key by_bytes (other name) es)) less
-    ∙ ap (λ rest. e ∷ rest) (all_kept name es (both_parts _ _ h).1)
+all_kept name (e ∷ es) h = let (less, above) = above_head name e es h in grind (arith, less, all_kept name es above)
 
 removed_at : (es : Pairs) → T (is_sorted by_bytes es) → (i : ℕ) → i < length es
     → where_key by_bytes (other (node_at es i).0) es ≡ remove es i
 removed_at [] h i l = absurd (omega arith)
-removed_at (e ∷ es) h zero l =
-    ap (λ r. cond (not (is_eq r)) (e ∷ where_key by_bytes (other e.0) es) (where_key by_bytes (other e.0) es)) (itself e.0)
-    ∙ all_kept e.0 es (both_parts _ _ h).0
+removed_at (e ∷ es) h zero l = grind (arith, name_tests, all_kept e.0 es (rising_head e es h).0)
 removed_at (e ∷ es) h (suc i) l =
-    let name = (node_at es i).0 in
-    let later : by_bytes name e.0 ≡ Greater = back_less e.0 name (below_at e.0 es i (both_parts _ _ h).0 (omega arith)) in
-    ap (λ r. cond (not (is_eq r)) (e ∷ where_key by_bytes (other name) es) (where_key by_bytes (other name) es)) later
-    ∙ ap (λ rest. e ∷ rest) (removed_at es (both_parts _ _ h).1 i (omega arith))
-
-swapped : {A : Type 0} (b : Bool) (x y : A) → cond (not b) x y ≡ cond b y x
-swapped true x y = refl
-swapped false x y = refl
+    let (above, rising) = rising_head e es h in
+    grind (arith, name_tests, below_at e.0 es i above (omega arith), removed_at es rising i (omega arith))
 
 -- ---- the map of the nodes
 module _ (es : Pairs) (h : T (is_sorted by_bytes es)) where
@@ -311,7 +288,9 @@ module _ (es : Pairs) (h : T (is_sorted by_bytes es)) where
       (λ q. fin.get-from_sorted by_bytes _ q (removed_sorted i l)
       ∙ ap (find by_bytes q) (sym (removed_at es h i l))
       ∙ find-where_key by_bytes (other name) q (λ x e. ap (other name) (sym (slice_cmp-IsAntisymmetric nat_cmp-IsAntisymmetric q x e))) es
-      ∙ swapped (eq_by_cmp by_bytes name q) (find by_bytes q es) None
+      ∙ elim (eq_by_cmp by_bytes name q) as
+      (λ b. cond (not b) (find by_bytes q es) None ≡ cond b None (find by_bytes q es))
+      [ true ↦ refl | false ↦ refl ]
       ∙ sym (fin.get-remove nat_list_cmp_total (nodes_of es) name q
       ∙ (λ j. cond ((eq_by_cmp_equiv nat_list_cmp_total).symm q name j) None (get_is q j))))
 

@@ -1,42 +1,14 @@
 -- Who owns a key, and how a ring's points tell it.
-use Rattle.std.proofs.Common.{ℕ, zero, suc, min, is_some, take, ◌≡◌, ◌≢◌, ◌+◌, ◌-◌, ◌<◌, ◌≤◌, Bool, T, true, false, not, cond, List, [], ◌∷◌, ◌++◌, length, get_or, Option, Some, None, arith, sym, ap, ◌∙◌, subst, refl, ⊎_elim, inl, inr, ◌⊎◌}
-use Rattle.std.specs.Prelude.{◌↔◌, IsTrue, nat_eq}
-use Rattle.std.specs.List.{All, AllPairs, Contains, list_any}
-use borrow.Author.Tests.{eqb-true}
-use Rattle.std.specs.Ordering.{is_gt, ordering_reverse}
-use Rattle.std.specs.declared.cmp.Ordering.{Ordering}
-use Rattle.std.specs.declared.cmp.Ordering.TheVariants.{Less, Equal, Greater}
-use Rattle.std.specs.Cmp.Lexicographic.{nat_list_cmp_total}
+use Rattle.hash_ring.proofs.Common.{ℕ, zero, suc, min, is_some, take, ◌≡◌, ◌≢◌, ◌+◌, ◌-◌, ◌<◌, ◌≤◌, Bool, T, true, false, not, cond, List, [], ◌∷◌, ◌++◌, length, get_or, Option, Some, None, arith, sym, ap, ◌∙◌, subst, refl, ⊎_elim, inl, inr, ◌⊎◌, ◌↔◌, IsTrue, nat_eq, list_any, eqb-true, nat_list_cmp_total, is_sorted, cases_lt, nat_tests, elements, All-contains, All-nil, All-push, All-take, Contains-append_left, Contains-push, get_or_default, get_or-map, length-map, take_more, Any-from_list_any, list_any-from_Any, AllPairs-cons, get_remove, get_remove_other, get_remove_same, same, same_itself, same_key, eq_by_cmp_equiv, Node, Point, AreOwners, IsFirst, IsFirstToPass, without, HasPoint, IsOwner, IsPointOf, Nodes, point, turn, IsBefore, IsRing, IsStart, index_round, name_at, names_at, node_at, nodes_of, pair_of, pairs, is_gt, length-take-le, Contains-from_any, list_any-from_Contains}
+use Rattle.std.specs.List.{All, AllPairs, Contains}
 use Rattle.std.specs.FinMap as fin
-use Rattle.std.specs.FinMap.{is_sorted}
-use Rattle.std.specs.FinMap.{slice_cmp-IsAntisymmetric, nat_cmp-IsAntisymmetric}
-use Rattle.std.proofs.lemmas.Bool.{cases_lt}
-use Rattle.std.proofs.lemmas.Bool.Decides.{nat_tests}
-use Rattle.std.proofs.lemmas.Grind.{elements}
-use Rattle.std.proofs.lemmas.List.Elements.{All-contains, All-nil, All-push, All-take, Contains-append_left, Contains-push}
-use Rattle.std.proofs.lemmas.List.{get_or_default, get_or-map, length-map, length-take-le, take_more}
-use Rattle.std.proofs.lemmas.List.Folds.{Any-from_list_any, list_any-from_Any}
-use Rattle.std.proofs.lemmas.List.Kept.{AllPairs-cons}
-use Rattle.text_maps.proofs.TextMapLemmas.{get_remove, get_remove_other, get_remove_same, not_same, same, same_itself, same_key}
-use Rattle.std.proofs.lemmas.Cmp.{eq_by_cmp_equiv}
-use Rattle.std.proofs.lemmas.Map.Views.{Contains-from_any, list_any-from_Contains}
 use Rattle.text_maps.proofs.TextMapLemmas.{alike as same_if_alike}
-use Rattle.hash_ring.specs.declared.Node.{Node}
-use Rattle.hash_ring.specs.declared.points.Point.{Point}
-use Rattle.hash_ring.specs.Ring.{AreOwners, IsFirst, IsFirstToPass, without, HasPoint, IsOwner, IsPointOf, Nodes, point, turn}
-use Rattle.hash_ring.specs.Points.{IsBefore, IsRing, IsStart, index_round, name_at, names_at, node_at, nodes_of, pair_of, pairs}
 use Rattle.hash_ring.proofs.PointLemmas.{is_there}
-use Rattle.hash_ring.proofs.Names.{Pairs, by_bytes, found_at, found_where, entries_are, get_is, itself, names_rise, no_greater, read}
+use Rattle.hash_ring.proofs.Names.{Pairs, by_bytes, found_at, found_where, entries_are, get_is, name_tests, names_rise, no_greater, read}
 
 -- ---- one owner alone
-not_both : (r s : Ordering) → s ≡ ordering_reverse r → is_gt r ≡ false → is_gt s ≡ false → r ≡ Equal
-not_both Less s e h k = cc
-not_both Equal s e h k = refl
-not_both Greater s e h k = cc
-
 neither_greater : (a b : List ℕ) → is_gt (by_bytes a b) ≡ false → is_gt (by_bytes b a) ≡ false → a ≡ b
-neither_greater a b h k =
-    slice_cmp-IsAntisymmetric nat_cmp-IsAntisymmetric a b (not_both (by_bytes a b) (by_bytes b a) (nat_list_cmp_total.antisymm b a) h k)
+neither_greater a b h k = grind (arith, name_tests, h, k)
 
 pub one_owner : (hash : List ℕ → ℕ) (nodes : Nodes) (at : ℕ) (a b : List ℕ) → IsOwner hash nodes at a → IsOwner hash nodes at b → a ≡ b
 one_owner hash nodes at a b p q =
@@ -57,9 +29,7 @@ no_owner hash at a o =
 was_there : (nodes : Nodes) (gone name : List ℕ) (w : ℕ) → fin.get (fin.remove nodes gone) name ≡ Some w
     → (name ≢ gone) × (fin.get nodes name ≡ Some w)
 was_there nodes gone name w e =
-    let other : name ≢ gone = λ is. let none : fin.get (fin.remove nodes gone) name ≡ None =
-    ap (fin.get (fin.remove nodes gone)) is ∙ get_remove_same nodes gone in cc in
-    (other, sym (get_remove_other nodes gone name other) ∙ e)
+    (λ is. grind (arith, is, e, get_remove_same nodes gone), grind (arith, name_tests, e, get_remove nodes gone name))
 
 pub not_gone : (hash : List ℕ → ℕ) (nodes : Nodes) (at : ℕ) (gone a : List ℕ) → IsOwner hash (fin.remove nodes gone) at a → a ≢ gone
 not_gone hash nodes at gone a o = (was_there nodes gone a o.has.weight o.has.there).0
@@ -108,34 +78,31 @@ is_left nodes (a ∷ names) name new =
     is_left (fin.remove nodes a) names name (new_of_rest a name names new)
     ∙ get_remove_other nodes a name (λ is. new (0, omega arith, sym is))
 
-either_first : (x y : Bool) (o : Option ℕ) → cond x None (cond y None o) ≡ cond y None (cond x None o)
-either_first true true o = refl
-either_first true false o = refl
-either_first false y o = refl
-
 remove_comm : (nodes : Nodes) (a b : List ℕ) → fin.remove (fin.remove nodes a) b ≡ fin.remove (fin.remove nodes b) a
 remove_comm nodes a b =
     same_if_alike _ _
-    (λ q. get_remove (fin.remove nodes a) b q ∙ ap (cond (same q b) None) (get_remove nodes a q)
-    ∙ either_first (same q b) (same q a) (fin.get nodes q)
-    ∙ sym (get_remove (fin.remove nodes b) a q ∙ ap (cond (same q a) None) (get_remove nodes b q)))
+    (λ q. grind (
+      arith,
+      name_tests,
+      get_remove (fin.remove nodes a) b q,
+      get_remove nodes a q,
+      get_remove (fin.remove nodes b) a q,
+      get_remove nodes b q,
+    ))
 
 not_there : (hash : List ℕ → ℕ) (nodes : Nodes) (at : ℕ) (gone : List ℕ) (names : List (List ℕ)) → fin.get nodes gone ≡ None
     → AreOwners hash nodes at names → IsNew gone names
 not_there hash nodes at gone [] none o = new_of_none gone
 not_there hash nodes at gone (a ∷ names) none o =
     new_of_more a gone names
-    (λ is. let there : fin.get nodes a ≡ Some o.0.has.weight = o.0.has.there in let no : fin.get nodes a ≡ None =
-    ap (fin.get nodes) (sym is) ∙ none in cc)
-    (not_there hash (fin.remove nodes a) at gone names
-    (get_remove nodes a gone ∙ elim (same gone a) as (λ b. cond b None (fin.get nodes gone) ≡ None) [ true ↦ refl | false ↦ none ])
-    o.1)
+    (λ is. grind (arith, is, none, o.0.has.there))
+    (not_there hash (fin.remove nodes a) at gone names (grind (arith, name_tests, get_remove nodes a gone, none)) o.1)
 
 other_kept : (gone : List ℕ) (names : List (List ℕ)) → IsNew gone names → without gone names ≡ names
 other_kept gone [] new = refl
 other_kept gone (a ∷ names) new =
-    ap (λ b. cond (not b) (a ∷ without gone names) (without gone names)) (not_same a gone (λ is. new (0, omega arith, is)))
-    ∙ ap (λ rest. a ∷ rest) (other_kept gone names (new_of_rest a gone names new))
+    let other : a ≢ gone = λ is. new (0, omega arith, is) in
+    grind (arith, name_tests, other, other_kept gone names (new_of_rest a gone names new))
 
 -- where a node is gone the other owners keep their order
 pub keep_order : (hash : List ℕ → ℕ) (nodes : Nodes) (at : ℕ) (gone : List ℕ) (names : List (List ℕ)) → AreOwners hash nodes at names
@@ -346,7 +313,7 @@ module _ {hash : List ℕ → ℕ} {nodes : Nodes} {at n : ℕ} {nth : ℕ → �
       first_to_pass pass = ⊎_elim
           (λ (old : Contains so_far.names name).
           let cut : take (old.0 + 1) so_far.names ≡ take old.0 so_far.names ++ name ∷ [] =
-          take_more so_far.names old.0 name old.1 ∙ ap (λ name. take old.0 so_far.names ++ name ∷ []) old.2 in
+          grind (arith, take_more so_far.names old.0 name old.1, old.2) in
           record {
             before = take old.0 so_far.names;
             owners = subst (AreOwners hash nodes at) cut (owners_take hash nodes at so_far.names (old.0 + 1) so_far.round.own);
@@ -442,12 +409,12 @@ module _ (hash : List ℕ → ℕ) (es : Pairs) (points : List Point) (ring : Is
     all = λ name place p.
         let f = found_where es name p.weight (sym (get_is es ring.named name) ∙ p.there) in
         let its : Point = record { place = place; node = f.i } in
-        let c = ring.just.all f.i place (subst (λ node. IsPointOf hash node place) (sym f.is) p.point) in
+        let c = ring.just.all f.i place (rw f.is p.point) in
         let r = reached c.0 its c.1 c.2 in
         (r.0, r.1, ap (λ (q : Point). (q.place, (node_at es q.node).0)) r.2 ∙ (λ j. (place, (f.is j).0)));
     each = λ name w e.
         let f = found_where es name w (sym (get_is es ring.named name) ∙ e) in
-        let some : 1 ≤ w = subst (λ node. 1 ≤ node.1) f.is (ring.weighed f.i ([], 0) f.below) in
+        let some : 1 ≤ w = grind (arith, f.is, ring.weighed f.i ([], 0) f.below) in
         (point hash name 0, record { weight = w; there = e; point = record { number = 0; below = some; is = refl } });
     in_turn = λ s t le below. ⊎_elim
         (λ a. ⊎_elim
@@ -494,20 +461,15 @@ no_points hash es points ring none =
 
 -- ---- nodes by their indices
 -- a name has one index
-one_index : (es : Pairs) → T (is_sorted by_bytes es) → (i j : ℕ) → i < length es → j < length es
+pub one_index : (es : Pairs) → T (is_sorted by_bytes es) → (i j : ℕ) → i < length es → j < length es
     → (node_at es i).0 ≡ (node_at es j).0 → i ≡ j
 one_index es sorted i j low high is = ⊎_elim
-    (λ (less : i < j). absurd (tied i j (names_rise es sorted i j less high) is))
+    (λ (less : i < j). grind (arith, name_tests, is, names_rise es sorted i j less high))
     (λ (no : j ≤ i). ⊎_elim
-    (λ (more : j < i). absurd (tied j i (names_rise es sorted j i more low) (sym is)))
+    (λ (more : j < i). grind (arith, name_tests, is, names_rise es sorted j i more low))
     (λ (upto : i ≤ j). omega arith)
     (cases_lt j i))
     (cases_lt i j)
-  where
-    tied : (i j : ℕ) → by_bytes (node_at es i).0 (node_at es j).0 ≡ Less → (node_at es i).0 ≡ (node_at es j).0 → ⊥
-    tied i j less is =
-        let equal : by_bytes (node_at es i).0 (node_at es j).0 ≡ Equal =
-        ap (by_bytes (node_at es i).0) (sym is) ∙ itself (node_at es i).0 in cc
 
 -- what a search for a node says
 pub among_exactly : (nodes : List ℕ) (node : ℕ) (b : Bool) → b ≡ list_any (λ y. nat_eq y node) nodes → IsTrue b ↔ Contains nodes node

@@ -1,22 +1,8 @@
 -- The points of nodes, in a list and in order.
-use Rattle.std.proofs.Common.{ℕ, ◌≡◌, ◌<◌, ◌≤◌, ◌+◌, ◌-◌, ◌/◌, ◌++◌, ◌∷◌, [], append_assoc, Bool, true, ltb, if◌then◌else◌, List, length, get_or, map, arith, sym, ap, ◌∙◌, subst, refl, false, Some, ◌⊎◌, ⊎_elim}
-use Rattle.std.proofs.lemmas.List.Elements.{All-append, Contains-append_left, Contains-append_right}
-use Rattle.std.specs.List.{All, AllPairs, Contains, IsAllAdjacentAnswer}
-use Rattle.std.specs.List.Sorted.{IsNonDecreasingBy, IsPermutation, IsSorted}
-use Rattle.std.specs.Prelude.{◌↔◌, IsTrue}
-use Rattle.std.specs.Ordering.{nat_cmp, is_le, is_lt, is_some_and, ordering_then, partial_ordering_then}
-use Rattle.std.specs.declared.cmp.Ordering.{Ordering}
-use Rattle.std.proofs.lemmas.Bool.{cases_lt}
-use Rattle.std.proofs.lemmas.Bool.Decides.{nat_tests}
-use Rattle.std.proofs.lemmas.Cmp.{then_total, on_total, nat_cmp_total}
-use Rattle.std.proofs.lemmas.List.{get_or_default, get_or_past, get_or-map, length-map}
-use Rattle.std.proofs.lemmas.List.Sorted.{All-permutation, Contains-permutation, sorted_far, ranks_by}
-use Rattle.std.proofs.lemmas.Grind.{elements}
-use Rattle.std.proofs.lemmas.List.FromFn.{map-range_with_len_more, length-map-range_with_len, get_or-map-range_with_len}
-use borrow.Author.Tests.{ltb-true, ltb-false}
-use Rattle.hash_ring.specs.declared.points.Point.{Point}
-use Rattle.hash_ring.specs.Ring.{IsPointOf, point}
-use Rattle.hash_ring.specs.Points.{ArePoints, IsBefore, IsPointOfItsNode, IsStart, node_at, points_of}
+use Rattle.hash_ring.proofs.Common.{ℕ, ◌≡◌, ◌<◌, ◌≤◌, ◌+◌, ◌-◌, ◌/◌, ◌++◌, ◌∷◌, [], Bool, true, ltb, if◌then◌else◌, List, length, get_or, map, arith, sym, ap, ◌∙◌, subst, refl, false, Some, ◌⊎◌, ⊎_elim, ◌↔◌, IsTrue, Ordering, All-append, Contains-append_left, Contains-append_right, IsAllAdjacentAnswer, IsNonDecreasingBy, IsSorted, nat_cmp, is_le, is_some_and, ordering_then, partial_ordering_then, nat_tests, then_total, on_total, nat_cmp_total, get_or_default, get_or_past, get_or-map, length-map, All-permutation, Contains-permutation, sorted_far, ranks_by, elements, ltb-true, ltb-false, Point, IsPointOf, point, ArePoints, IsBefore, IsPointOfItsNode, IsStart, node_at, points_of, append_assoc, map-range_with_len_more, length-map-range_with_len, get_or-map-range_with_len}
+use Rattle.std.specs.List.{All, AllPairs, Contains}
+use Rattle.std.specs.List.Sorted.{IsPermutation}
+use Rattle.std.specs.Ordering.{is_lt}
 
 abbrev pub Pairs : Type 0
 Pairs = List (List ℕ × ℕ)
@@ -131,8 +117,7 @@ pub mapped_in_order : (f : Point → Point) → ((p q : Point) → IsBefore p q 
     → AllPairs IsBefore points → AllPairs IsBefore (map f points)
 mapped_in_order f keeps points before i j d less within =
     let l : j < length points = omega (arith, length-map points f) in
-    subst (λ (p : Point). IsBefore p (get_or (map f points) j d)) (sym (get_or-map f points i d d (omega arith)))
-    (subst (λ (q : Point). IsBefore (f (get_or points i d)) q) (sym (get_or-map f points j d d l)) (keeps _ _ (before i j d less l)))
+    rw (get_or-map f points i d d (omega arith), get_or-map f points j d d l) (keeps _ _ (before i j d less l))
 
 -- no place is above a later one
 pub places_rise : (points : List Point) → AllPairs IsBefore points → IsNonDecreasingBy (λ p. p.place) points
@@ -160,11 +145,12 @@ narrowed points at first size half d true ordered old less twice is =
     record {
       within = omega arith;
       before = λ k e below.
-          let rises : (get_or points k e).place ≤ (get_or points (first + half) e).place =
-          places_rise points ordered k (first + half) e (omega arith) there in
-          let same : (get_or points (first + half) e).place ≡ (get_or points (first + half) d).place =
-          ap (λ p. p.place) (get_or_default points (first + half) e d there) in
-          omega arith;
+          grind (
+            arith,
+            here,
+            places_rise points ordered k (first + half) e (omega arith) there,
+            get_or_default points (first + half) e d there,
+          );
       after = λ k e from low. old.after k e (omega arith) low;
     }
 narrowed points at first size half d false ordered old less twice is =
@@ -175,22 +161,20 @@ narrowed points at first size half d false ordered old less twice is =
       within = omega arith;
       before = λ k e below. old.before k e (omega arith);
       after = λ k e from low.
-          let rises : (get_or points (first + half) e).place ≤ (get_or points k e).place =
-          places_rise points ordered (first + half) k e (omega arith) low in
-          let same : (get_or points (first + half) e).place ≡ (get_or points (first + half) d).place =
-          ap (λ p. p.place) (get_or_default points (first + half) e d there) in
-          omega arith;
+          grind (
+            arith,
+            here,
+            places_rise points ordered (first + half) k e (omega arith) low,
+            get_or_default points (first + half) e d there,
+          );
     }
 
 -- points are found at or after a place from one index on alone
 pub one_start : (points : List Point) (at i j : ℕ) → IsStart points at i → IsStart points at j → i ≡ j
-one_start points at i j one other = ⊎_elim
-    (λ (less : i < j). absurd (not_less_than i j one other less))
-    (λ (upto : j ≤ i). ⊎_elim
-    (λ (more : j < i). absurd (not_less_than j i other one more))
-    (λ (same : i ≤ j). omega (arith, upto, same))
-    (cases_lt j i))
-    (cases_lt i j)
+one_start points at i j one other =
+    let some : ¬ (i < j) = not_less_than i j one other in
+    let more : ¬ (j < i) = not_less_than j i other one in
+    grind (arith, some, more)
   where
     not_less_than : (i j : ℕ) → IsStart points at i → IsStart points at j → i < j → ⊥
     not_less_than i j one other less =

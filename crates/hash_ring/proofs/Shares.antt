@@ -1,19 +1,7 @@
 -- How many places of the ring each node owns.
-use Rattle.std.proofs.Common.{ℕ, ◌≡◌, ◌≢◌, ◌+◌, ◌-◌, ◌*◌, replicate, ◌<◌, ◌≤◌, ◌^◌, cond, sum, T, slice_get, Some, List, [], ◌∷◌, ◌++◌, map, length, get_or, set, arith, sym, ap, ◌∙◌, subst, refl, ⊎_elim}
-use Rattle.std.specs.List.{sum_by}
-use Rattle.std.specs.FinMap.{is_sorted}
-use Rattle.std.proofs.lemmas.Bool.{cases_eq, cases_lt}
-use Rattle.std.proofs.lemmas.Bool.Decides.{nat_tests}
-use Rattle.std.proofs.lemmas.List.{get_or-replicate, length-replicate, get_or-map, get_or_default, length-map, length-set, same_lists}
-use Rattle.std.proofs.lemmas.Grind.{elements}
-use Rattle.std.proofs.lemmas.List.Folds.{sum_by-replicate}
-use Rattle.std.proofs.lemmas.List.Sums.{sum_by-append, sum_by-cons, sum_by-set}
-use Rattle.text_maps.proofs.TextMapLemmas.{not_same, same, same_itself}
-use Rattle.hash_ring.specs.declared.points.Point.{Point}
-use Rattle.hash_ring.specs.Ring.{AreShares, AreStretches, IsOwner, Nodes, Stretch, share_of}
-use Rattle.hash_ring.specs.Points.{IsRing, index_round, node_at, nodes_of}
-use Rattle.hash_ring.proofs.Names.{Pairs, by_bytes, entries_are, rising_differ}
-use Rattle.hash_ring.proofs.Owners.{first_owner, none, spot}
+use Rattle.hash_ring.proofs.Common.{ℕ, ◌≡◌, ◌≢◌, ◌+◌, ◌-◌, ◌*◌, replicate, ◌<◌, ◌≤◌, ◌^◌, cond, sum, T, slice_get, Some, List, [], ◌∷◌, ◌++◌, map, length, get_or, set, arith, sym, ap, ◌∙◌, subst, refl, ⊎_elim, sum_by, is_sorted, cases_eq, cases_lt, nat_tests, get_or-replicate, length-replicate, get_or-map, get_or_default, length-map, length-set, same_lists, elements, sum_by-replicate, sum_by-append, sum_by-cons, sum_by-set, same, Point, AreShares, AreStretches, IsOwner, Nodes, Stretch, share_of, IsRing, index_round, node_at, nodes_of}
+use Rattle.hash_ring.proofs.Names.{Pairs, by_bytes, entries_are, name_tests}
+use Rattle.hash_ring.proofs.Owners.{first_owner, none, one_index, spot}
 use Rattle.hash_ring.proofs.PointLemmas.{is_there, places_rise}
 
 stretches_append : (hash : List ℕ → ℕ) (m : Nodes) (from mid to : ℕ) (xs ys : List Stretch) → AreStretches hash m from mid xs
@@ -73,21 +61,15 @@ pub one_stretch_more : (es : Pairs) → T (is_sorted by_bytes es) → (stretches
 one_stretch_more es sorted stretches shares next n from to so_far below upto_it is =
     let s : Stretch = record { owner = (node_at es n).0; from = from; to = to } in
     let there : n < length shares = omega (arith, so_far.long) in
-    let differ = rising_differ es sorted in
     record {
       long = ap length is ∙ length-set shares n _ ∙ so_far.long;
       each = λ j l. ⊎_elim
           (λ (here : j ≡ n).
-          let mine : its (node_at es j).0 s ≡ to - from =
-          ap (λ b. cond b (to - from) 0)
-          (ap (λ (k : ℕ). same (node_at es j).0 (node_at es k).0) (sym here) ∙ same_itself (node_at es j).0) in
+          let mine : its (node_at es j).0 s ≡ to - from = grind (arith, name_tests, here) in
           grind (arith, elements, is, so_far.each j l, mine, share_push stretches s (node_at es j).0))
           (λ (ne : j ≢ n).
-          let apart : (node_at es j).0 ≢ (node_at es n).0 = λ e. ⊎_elim
-          (λ (less : j < n). differ j n ([], 0) less below e)
-          (λ (more : n ≤ j). differ n j ([], 0) (omega arith) l (sym e))
-          (cases_lt j n) in
-          let not_mine : its (node_at es j).0 s ≡ 0 = ap (λ b. cond b (to - from) 0) (not_same (node_at es j).0 (node_at es n).0 apart) in
+          let apart : (node_at es j).0 ≢ (node_at es n).0 = λ e. ne (one_index es sorted j n l below e) in
+          let not_mine : its (node_at es j).0 s ≡ 0 = grind (arith, name_tests, apart) in
           grind (arith, elements, is, so_far.each j l, not_mine, share_push stretches s (node_at es j).0))
           (cases_eq j n);
       total = let moved = sum_by-set (λ x. x) shares n (get_or shares n 0 + (to - from)) 0 there in

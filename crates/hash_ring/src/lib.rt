@@ -85,7 +85,7 @@ impl<H: Piecewise> Model for Ring<H> {
     ghost invariant = { λ r. IsRing H.hash_of (pairs r.nodes.items) r.points.items };
 }
 
-/// Puts the points of the node behind the others.
+/// Puts the points of the node after the others.
 fn push_points<H: Piecewise>(
     alloc: Global,
     points: &mut Vec<Point>,
@@ -175,11 +175,14 @@ fn owners_of(
     place: u64,
     most: usize,
 ) -> Result<Vec<usize>, AllocError>
-    ensures own { IfOk result (λ xs. (hash : List ℕ → ℕ) (named : List (List ℕ × ℕ)) → IsRing hash named points.now
+    ensures own { IfOk result (λ xs. (hash : List ℕ → ℕ) (named : List (List ℕ × ℕ))
+        → IsRing hash named points.now
         → AreOwners hash (nodes_of named) place (names_at named xs.items)) }
-    ensures real { IfOk result (λ xs. (hash : List ℕ → ℕ) (named : List (List ℕ × ℕ)) → IsRing hash named points.now
+    ensures real { IfOk result (λ xs. (hash : List ℕ → ℕ) (named : List (List ℕ × ℕ))
+        → IsRing hash named points.now
         → All (λ i. i < length named) xs.items) }
-    ensures count { IfOk result (λ xs. (hash : List ℕ → ℕ) (named : List (List ℕ × ℕ)) → IsRing hash named points.now
+    ensures count { IfOk result (λ xs. (hash : List ℕ → ℕ) (named : List (List ℕ × ℕ))
+        → IsRing hash named points.now
         → length xs.items ≡ min most (length named)) }
 {
     let mut owners = vec![in alloc; 0usize; most]?;
@@ -229,7 +232,7 @@ fn first_with_room<'a, H: Piecewise, F: Fn(&[u8]) -> bool>(
     None
 }
 
-/// How many places each node owns: those behind one point up to the next one are of the next one's node, and those behind the
+/// How many places each node owns: those after one point up to the next one are of the next one's node, and those after the
 /// last point of the first one's.
 fn shares_of<H: Piecewise>(
     alloc: Global,
@@ -258,6 +261,7 @@ fn shares_of<H: Piecewise>(
 
 impl<H: Piecewise> Ring<H> {
     /// The ring of no nodes.
+    #[tactic(auto, using(crate::proofs::Names::no_nodes))]
     pub fn new(alloc: Global) -> Self
         ensures { result ≡ map.empty }
     {
@@ -283,6 +287,7 @@ impl<H: Piecewise> Ring<H> {
     }
 
     /// The nodes with their weights, in the order of their names, byte by byte.
+    #[tactic(auto, using(crate::proofs::Names::entries_of))]
     pub fn nodes(&self) -> &[Node]
         ensures { pairs result.now ≡ map.entries self.now }
     {
@@ -313,6 +318,7 @@ impl<H: Piecewise> Ring<H> {
     }
 
     /// Where the node of this name stands, or where it would.
+    #[tactic(auto, using(std::proofs::lemmas::Fn::always_returns_same, crate::proofs::Names::by_bytes, crate::proofs::Names::entries_of, crate::proofs::Names::named_or_gap))]
     fn place_of(&self, name: &[u8]) -> Result<usize, usize>
         ensures { MatchResult result (IsNamedAt (map.entries self.now) name.now)
             (IsGapAt (map.entries self.now) name.now) }
@@ -450,12 +456,14 @@ pub fn new_node_moves_keys_only_to_it<H: Piecewise>()
 {}
 
 /// To add a node and to remove it again leaves the nodes as they were, with no code, and so each owner.
+#[tactic(auto, using(text_maps::proofs::TextMapLemmas::removal_undoes_insert))]
 pub fn removal_undoes_adding()
     ensures { (m : Nodes) (k : List ℕ) (w : ℕ) → map.get m k ≡ None
         → map.remove (map.insert m k w) k ≡ m }
 {}
 
 /// To take a node off and to add it again with its weight leaves the nodes as they were, with no code, and so each owner.
+#[tactic(auto, using(crate::proofs::Laws::adding_back))]
 pub fn adding_undoes_removal()
     ensures { (m : Nodes) (k : List ℕ) (w : ℕ) → map.get m k ≡ Some w
         → map.insert (map.remove m k) k w ≡ m }
@@ -463,6 +471,7 @@ pub fn adding_undoes_removal()
 
 /// The order in which nodes came doesn't show, with no code: two orders, and all orders of a list of nodes with different names, lead to
 /// the same nodes, and so to the same owners.
+#[tactic(auto, using(text_maps::proofs::TextMapLemmas::inserts_commute, text_maps::proofs::TextMapLemmas::order_does_not_show))]
 pub fn order_does_not_show()
     ensures two { (m : Nodes) (k : List ℕ) (v : ℕ) (q : List ℕ) (w : ℕ) → k ≢ q
         → InsertsCommute m k v q w }
@@ -471,12 +480,14 @@ pub fn order_does_not_show()
 {}
 
 /// The weights after a node came, with no code: its own is the one that it came with, and every other node keeps its own.
+#[tactic(auto, using(text_maps::proofs::TextMapLemmas::get_insert_same, text_maps::proofs::TextMapLemmas::get_insert_other))]
 pub fn weights_after_adding()
     ensures its { (m : Nodes) (k : List ℕ) (w : ℕ) → map.get (map.insert m k w) k ≡ Some w }
     ensures others { (m : Nodes) (k : List ℕ) (w : ℕ) → OthersStay m (map.insert m k w) k }
 {}
 
 /// The weights after a node went, with no code: it has none, and every other node keeps its own.
+#[tactic(auto, using(text_maps::proofs::TextMapLemmas::get_remove_same, text_maps::proofs::TextMapLemmas::get_remove_other))]
 pub fn weights_after_removal()
     ensures its { (m : Nodes) (k : List ℕ) → map.get (map.remove m k) k ≡ None }
     ensures others { (m : Nodes) (k : List ℕ) → OthersStay m (map.remove m k) k }
@@ -484,6 +495,7 @@ pub fn weights_after_removal()
 
 /// What the loss of a node does to the owners of a key, with no code. The others are the first owners then, in the order that they
 /// had; and of two lists of owners of a key the longer begins with the shorter.
+#[tactic(auto, using(crate::proofs::Owners::alike, crate::proofs::Owners::keep_order))]
 pub fn other_owners_keep_their_order<H: Piecewise>()
     ensures kept { (m : Nodes) (gone : List ℕ) → KeepOrder H.hash_of m gone }
     ensures alike { (m : Nodes) (at : ℕ) (xs ys : List (List ℕ)) → BeginAlike H.hash_of m at xs ys }

@@ -29,11 +29,12 @@ fn if_so(is: bool, n: usize) -> usize
 /// How many points a search without jumps is faster over: so many lie in a processor's caches.
 const FEW: usize = 1 << 17;
 
-/// Puts the points in order. Those of all nodes, one node's behind another's, become a ring so.
+/// Puts the points in order. Those of all nodes, one node's after another's, become a ring so.
 pub fn sort(points: &mut [Point])
     ensures moved { IsPermutation points.old points.new }
     ensures ordered { AllPairs IsBefore points.new }
-    ensures ring { (hash : List ℕ → ℕ) (nodes : List (List ℕ × ℕ)) → T (is_sorted (slice_cmp nat_cmp) nodes)
+    ensures ring { (hash : List ℕ → ℕ) (nodes : List (List ℕ × ℕ))
+        → T (is_sorted (slice_cmp nat_cmp) nodes)
         → All (λ node. 1 ≤ node.1) nodes → ArePoints hash nodes points.old → IsRing hash nodes points.new }
 {
     points.sort_unstable();
@@ -210,7 +211,7 @@ fn closed_up(gone: usize, point: Point) -> Point
     }
 }
 
-/// Takes the points of a node out, counts the nodes of the others anew, and answers how many these are. What stands behind them then
+/// Takes the points of a node out, counts the nodes of the others again, and returns how many these are. What stands after them then
 /// means nothing.
 pub fn remove(points: &mut [Point], gone: usize) -> usize
     ensures kept { take result points.new ≡ left_without gone points.old }

@@ -1,11 +1,6 @@
 -- Blocks of joined texts.
-use Rattle.std.proofs.Common.{◌≡◌, ℕ, ◌*◌, ◌/◌, ◌%◌, ◌<◌, List, [], ◌∷◌, ◌++◌, length, fold, take, drop, refl, sym, ◌∙◌, arith, length-append, length-drop}
+use Rattle.hash_rounds.proofs.Common.{◌≡◌, ℕ, ◌*◌, ◌/◌, ◌%◌, ◌<◌, List, [], ◌∷◌, ◌++◌, length, fold, take, drop, refl, sym, ◌∙◌, arith, length-append, length-drop, take-append-drop, length-take-le, fold-append, AreWords, spooky_mix_steps, mix_block, spooky_blocks}
 use Rattle.std.specs.Simd.{first_chunks}
-use Rattle.std.proofs.lemmas.List.{take-append-drop, length-take-le}
-use Rattle.std.proofs.lemmas.Grind.{fold-append}
-use Rattle.hash_words.specs.Words.{AreWords}
-use Rattle.hash_rounds.specs.Rounds.{spooky_mix_steps}
-use Rattle.hash_rounds.specs.Blocks.{mix_block, spooky_blocks}
 use Rattle.hash_words.specs.Pieces.{pieces, le_words}
 use Rattle.hash_words.proofs.Chunks.{first_chunks-append}
 use Rattle.hash_rounds.proofs.StepLemmas.{apply-words}

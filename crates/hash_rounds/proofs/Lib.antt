@@ -1,3 +1,4 @@
+pub mod Common
 pub mod StepLemmas
 pub mod RoundLemmas
 pub mod ShuffleLemmas

@@ -1,13 +1,8 @@
 -- Numbers by their bits, and the shuffle.
-use Rattle.std.proofs.Common.{◌≡◌, ℕ, zero, suc, ◌+◌, ◌-◌, ◌*◌, ◌/◌, ◌%◌, ◌^◌, ◌<◌, ◌≤◌, Bool, true, false, nat_lt, nat_le, ◌==◌, ◌&&◌, min, IsTrue, bit_and, bit_xor, refl, sym, ◌∙◌, ap, add_comm, add-zero, arith, inl, inr}
-use Rattle.std.specs.Int.{bit_at}
-use Rattle.std.proofs.lemmas.Bool.{cases_lt, and_parts}
-use Rattle.std.proofs.lemmas.Bool.Decides.{nat_tests}
-use Rattle.std.proofs.lemmas.Nat.{shr-shr, shr_split, shr_below, pow_pos, mul-add-lt}
+use Rattle.hash_rounds.proofs.Common.{◌≡◌, ℕ, zero, suc, ◌+◌, ◌-◌, ◌*◌, ◌/◌, ◌%◌, ◌^◌, ◌<◌, ◌≤◌, Bool, true, false, nat_lt, nat_le, ◌==◌, ◌&&◌, min, IsTrue, bit_and, bit_xor, refl, sym, ◌∙◌, ap, add-zero, arith, inl, inr, bit_at, cases_lt, and_parts, nat_tests, shr_below, pow_pos, mul-add-lt, swap_halves, from_bits, shuffle_from, shuffle_to, shuffle, unshuffle, exchanged}
+use Rattle.std.proofs.Common.{pow-suc}
 use Rattle.std.proofs.lemmas.Nat.Bits.{bit_at-lt, bit_at-zero, bit_at_lowest, bit_at_and, bit_at_xor, bit_at_cat_low, bit_at_cat_high, same_from_bits_below}
-use Rattle.std.proofs.Math.Nat.{pow-suc}
-use Rattle.hash_words.specs.Words.{swap_halves}
-use Rattle.hash_rounds.specs.Shuffle.{from_bits, shuffle_from, shuffle_to, shuffle, unshuffle, exchanged}
+use Rattle.hash_words.proofs.BitLemmas.{bit_at-shr, bit_at-low}
 
 -- ---- a number by its bits
 
@@ -41,13 +36,6 @@ is_from_bits f n y bits y_in same =
     same_from_bits_below n y (from_bits f n) y_in (from_bits-lt f bits n) (λ j j_in. same j j_in ∙ sym (bit_at-from_bits f bits n j j_in))
 
 -- ---- bits moved
-
-bit_at-shr : (x k j : ℕ) → bit_at (x / 2 ^ k) j ≡ bit_at x (j + k)
-bit_at-shr x k j = rw (shr-shr x k j, add_comm k j) refl
-
--- the bits that a shift to the left within a word leaves and brings
-bit_at-low : (n w j : ℕ) → j < w → bit_at (n % 2 ^ w) j ≡ bit_at n j
-bit_at-low n w j j_in = sym (bit_at_cat_low (n / 2 ^ w) w (n % 2 ^ w) j j_in) ∙ ap (λ m. bit_at m j) (shr_split n w)
 
 bit_at-shl_below : (n k j : ℕ) → j < k → bit_at (n * 2 ^ k) j ≡ 0
 bit_at-shl_below n k j below =

@@ -1,17 +1,7 @@
 -- Lists of steps: one list after another, and a list taken back.
-use Rattle.std.proofs.Common.{◌≡◌, ◌≢◌, ℕ, ◌-◌, ◌^◌, ◌<◌, nat_lt, ◌&&◌, List, [], ◌∷◌, ◌++◌, length, slice_index, slice_set, fold, map, reverse, bit_xor, IsTrue, refl, sym, ◌∙◌, ap, arith}
-use Rattle.std.specs.List.{list_all, flat_map}
-use Rattle.std.proofs.lemmas.Grind.{fold-append}
-use Rattle.std.proofs.lemmas.Bool.{and_parts, and_from}
-use Rattle.std.proofs.lemmas.Bool.Decides.{nat_tests}
+use Rattle.hash_rounds.proofs.Common.{◌≡◌, ◌≢◌, ℕ, ◌^◌, ◌<◌, ◌≤◌, nat_lt, ◌&&◌, List, [], ◌∷◌, ◌++◌, length, slice_index, slice_set, fold, map, reverse, IsTrue, refl, sym, ◌∙◌, ap, arith, list_all, flat_map, fold-append, and_parts, nat_tests, All-set, mod_below, pow_pos, xor_lt, rotl, AreWords, Step, Add, Sub, Xor, Rotate, AddRotated, SubRotated, XorRotated, AddData, SubData, step, apply, undo, opposite, are_apart, is_turn, is_step, AreSteps, ◌▷◌, turned_round, likewise, unmoved, xored, added, rotated, rotl-lt, AreWords-from, AreWords-at, no_words}
 use Rattle.std.proofs.lemmas.List.{set-set, set-get_or, get_or-set_same, get_or-set_other, map-append, reverse-append, length-set}
-use Rattle.std.proofs.lemmas.List.Elements.{All-set}
-use Rattle.std.proofs.lemmas.List.Folds.{list_all-append}
-use Rattle.std.proofs.lemmas.Nat.{mod_below, pow_pos, xor_lt}
-use Rattle.hash_words.specs.Words.{add, sub, rotl, AreWords}
-use Rattle.hash_rounds.specs.Steps.{Step, Add, Sub, Xor, Rotate, AddRotated, SubRotated, XorRotated, AddData, SubData, step, apply, undo, opposite, are_apart, is_turn, is_step, AreSteps}
-use Rattle.hash_words.proofs.WordLemmas.{sub-add, add-sub, rotl-lt, rotl-rotl, AreWords-from, no_words}
-use Rattle.hash_words.proofs.XorLemmas.{xor_twice}
+use Rattle.hash_words.specs.Undoes.{Undoes, UndoesWords}
 
 -- ---- one list after another
 
@@ -36,10 +26,6 @@ undo-append : (w : ℕ) (ts us : List Step) → undo w (ts ++ us) ≡ undo w us 
 unfolding undo
 undo-append w ts us = rw (map-append (opposite w) ts us) (reverse-append (map (opposite w) ts) (map (opposite w) us))
 
-undo-one : (w : ℕ) (t : Step) → undo w (t ∷ []) ≡ opposite w t ∷ []
-unfolding undo
-undo-one w t = refl
-
 undo-cons : (w : ℕ) (t : Step) (ts : List Step) → undo w (t ∷ ts) ≡ undo w ts ++ opposite w t ∷ []
 unfolding undo
 undo-cons w t ts = reverse-append (opposite w t ∷ []) (map (opposite w) ts)
@@ -49,174 +35,112 @@ undo-cons w t ts = reverse-append (opposite w t ∷ []) (map (opposite w) ts)
 apart_facts : (n x y : ℕ) → IsTrue (are_apart n x y) → (x < n) × (y < n) × (y ≢ x)
 apart_facts n x y h = grind (arith, nat_tests)
 
-turn_facts : (w k : ℕ) → IsTrue (is_turn w k) → (0 < k) × (k < w)
-turn_facts w k h = grind (arith, nat_tests)
+turn_within : (w k : ℕ) → IsTrue (is_turn w k) → k ≤ w
+turn_within w k h = grind (arith, nat_tests)
+
+within : (n x : ℕ) → IsTrue (nat_lt x n) → x < n
+within n x h = grind (arith, nat_tests)
 
 -- ---- one step and its opposite
 
--- the opposite is such a step too, and its opposite is the step
-opposite_facts : (w n m : ℕ) (t : Step) → IsTrue (is_step w n m t)
-    → (opposite w (opposite w t) ≡ t) × IsTrue (is_step w n m (opposite w t))
-opposite_facts w n m (Rotate x k) h =
-    let parts = and_parts (nat_lt x n) (is_turn w k) h in
-    let turn = turn_facts w k parts.1 in
-    (ap (Rotate x) (omega arith), and_from _ _ parts.0 (grind (arith, nat_tests)))
-opposite_facts w n m (Add x y) h = (refl, h)
-opposite_facts w n m (Sub x y) h = (refl, h)
-opposite_facts w n m (Xor x y) h = (refl, h)
-opposite_facts w n m (AddRotated x y k) h = (refl, h)
-opposite_facts w n m (SubRotated x y k) h = (refl, h)
-opposite_facts w n m (XorRotated x y k) h = (refl, h)
-opposite_facts w n m (AddData x i) h = (refl, h)
-opposite_facts w n m (SubData x i) h = (refl, h)
+-- n words of w bits
+abbrev pub AreNWords : ℕ → ℕ → List ℕ → Type 0
+AreNWords w n s = (length s ≡ n) × ((i : ℕ) → slice_index s i < 2 ^ w)
 
-length-step : (w : ℕ) (d : List ℕ) (t : Step) (s : List ℕ) → length (step w d t s) ≡ length s
-length-step w d (Add x y) s = length-set s x _
-length-step w d (Sub x y) s = length-set s x _
-length-step w d (Xor x y) s = length-set s x _
-length-step w d (Rotate x k) s = length-set s x _
-length-step w d (AddRotated x y k) s = length-set s x _
-length-step w d (SubRotated x y k) s = length-set s x _
-length-step w d (XorRotated x y k) s = length-set s x _
-length-step w d (AddData x i) s = length-set s x _
-length-step w d (SubData x i) s = length-set s x _
+module _ (w n : ℕ) where
+  put : (s : List ℕ) (x v : ℕ) → AreNWords w n s → v < 2 ^ w → AreNWords w n (slice_set s x v)
+  put s x v s_in v_in =
+      (length-set s x v ∙ s_in.0, AreWords-at w (slice_set s x v) (All-set (λ a. a < 2 ^ w) s x v v_in (AreWords-from w s s_in.1)))
 
-module _ (w : ℕ) (d s : List ℕ) (s_in : AreWords w s) where
-  word : (x : ℕ) → x < length s → slice_index s x < 2 ^ w
-  word x x_in = s_in x 0 x_in
+  -- a word is changed by what does not change with it, and changed back
+  back : (s : List ℕ) (x : ℕ) (o : List ℕ → ℕ) (f g : ℕ → ℕ → ℕ) → x < length s → ((v : ℕ) → o (slice_set s x v) ≡ o s)
+      → g (o s) (f (o s) (slice_index s x)) ≡ slice_index s x
+      → let s' = slice_set s x (f (o s) (slice_index s x)) in slice_set s' x (g (o s') (slice_index s' x)) ≡ s
+  back s x o f g x_in other same =
+      let v = f (o s) (slice_index s x) in
+      rw (get_or-set_same s x v 0 x_in, other v, same, set-set s x v (slice_index s x)) (set-get_or s x 0)
 
-  -- a word is changed by another, and changed back
-  back : (x y : ℕ) (f g : ℕ → ℕ → ℕ) → IsTrue (are_apart (length s) x y)
-      → ((a b : ℕ) → a < 2 ^ w → b < 2 ^ w → g (f a b) b ≡ a)
-      → let s' = slice_set s x (f (slice_index s x) (slice_index s y)) in
-      slice_set s' x (g (slice_index s' x) (slice_index s' y)) ≡ s
-  back x y f g apart inverse =
-      let v = f (slice_index s x) (slice_index s y) in
-      let facts = apart_facts (length s) x y apart in
-      let same = inverse _ _ (word x facts.0) (word y facts.1) in
-      rw (get_or-set_same s x v 0 facts.0, get_or-set_other s x y v 0 facts.2, same, set-set s x v (slice_index s x)) (set-get_or s x 0)
+  changed : (x : ℕ) (o : List ℕ → ℕ) (f g : ℕ → ℕ → ℕ) → x < n → ((s : List ℕ) (v : ℕ) → o (slice_set s x v) ≡ o s)
+      → ((s : List ℕ) → AreNWords w n s → UndoesWords w (f (o s)) (g (o s)))
+      → Undoes (AreNWords w n) (AreNWords w n) (λ s. slice_set s x (f (o s) (slice_index s x))) (λ s. slice_set s x (g (o s) (slice_index s x)))
+  changed x o f g x_in other u = record {
+    there_in = λ s s_in. put s x _ s_in ((u s s_in).there_in (slice_index s x) (s_in.1 x));
+    back_in = λ s s_in. put s x _ s_in ((u s s_in).back_in (slice_index s x) (s_in.1 x));
+    back = λ s s_in. back s x o f g (rw s_in.0 x_in) (other s) ((u s s_in).back (slice_index s x) (s_in.1 x));
+    there = λ s s_in. back s x o g f (rw s_in.0 x_in) (other s) ((u s s_in).there (slice_index s x) (s_in.1 x));
+  }
 
-  -- a word is changed alone, and changed back
-  back_alone : (x : ℕ) (f g : ℕ → ℕ) → x < length s → ((a : ℕ) → a < 2 ^ w → g (f a) ≡ a)
-      → let s' = slice_set s x (f (slice_index s x)) in slice_set s' x (g (slice_index s' x)) ≡ s
-  back_alone x f g x_in inverse =
-      let v = f (slice_index s x) in
-      let same = inverse _ (word x x_in) in
-      rw (get_or-set_same s x v 0 x_in, same, set-set s x v (slice_index s x)) (set-get_or s x 0)
+  -- by another word, and alone
+  by : (x y : ℕ) {f g : ℕ → ℕ → ℕ} → IsTrue (are_apart n x y) → ((b : ℕ) → b < 2 ^ w → UndoesWords w (f b) (g b))
+      → Undoes (AreNWords w n) (AreNWords w n) (λ s. slice_set s x (f (slice_index s y) (slice_index s x)))
+      (λ s. slice_set s x (g (slice_index s y) (slice_index s x)))
+  by x y {f = f} {g = g} apart u =
+      let facts = apart_facts n x y apart in
+      changed x (λ s. slice_index s y) f g facts.0 (λ s v. get_or-set_other s x y v 0 facts.2) (λ s s_in. u (slice_index s y) (s_in.1 y))
 
-  step_back : AreWords w d → (t : Step) → IsTrue (is_step w (length s) (length d) t) → step w d (opposite w t) (step w d t s) ≡ s
-  step_back d_in (Add x y) h = back x y (add w) (sub w) h (sub-add w)
-  step_back d_in (Sub x y) h = back x y (sub w) (add w) h (add-sub w)
-  step_back d_in (Xor x y) h = back x y bit_xor bit_xor h (λ a b _ _. xor_twice a b)
-  step_back d_in (Rotate x k) h =
-      let parts = and_parts (nat_lt x (length s)) (is_turn w k) h in
-      let turn = turn_facts w k parts.1 in
-      back_alone x (λ a. rotl w a k) (λ a. rotl w a (w - k)) (grind (arith, nat_tests)) (λ a a_in. rotl-rotl w a k (omega arith) a_in)
-  step_back d_in (AddRotated x y k) h =
-      let parts = and_parts (are_apart (length s) x y) (is_turn w k) h in
-      let turn = turn_facts w k parts.1 in
-      back x y (λ a b. add w a (rotl w b k)) (λ a b. sub w a (rotl w b k)) parts.0
-      (λ a b a_in b_in. sub-add w a _ a_in (rotl-lt w b k (omega arith) b_in))
-  step_back d_in (SubRotated x y k) h =
-      let parts = and_parts (are_apart (length s) x y) (is_turn w k) h in
-      let turn = turn_facts w k parts.1 in
-      back x y (λ a b. sub w a (rotl w b k)) (λ a b. add w a (rotl w b k)) parts.0
-      (λ a b a_in b_in. add-sub w a _ a_in (rotl-lt w b k (omega arith) b_in))
-  step_back d_in (XorRotated x y k) h =
-      back x y (λ a b. bit_xor a (rotl w b k)) (λ a b. bit_xor a (rotl w b k)) (and_parts (are_apart (length s) x y) (is_turn w k) h).0
-      (λ a b _ _. xor_twice a (rotl w b k))
-  step_back d_in (AddData x i) h =
-      let parts = and_parts (nat_lt x (length s)) (nat_lt i (length d)) h in
-      back_alone x (λ a. add w a (slice_index d i)) (λ a. sub w a (slice_index d i)) (grind (arith, nat_tests))
-      (λ a a_in. sub-add w a _ a_in (d_in i 0 (grind (arith, nat_tests))))
-  step_back d_in (SubData x i) h =
-      let parts = and_parts (nat_lt x (length s)) (nat_lt i (length d)) h in
-      back_alone x (λ a. sub w a (slice_index d i)) (λ a. add w a (slice_index d i)) (grind (arith, nat_tests))
-      (λ a a_in. add-sub w a _ a_in (d_in i 0 (grind (arith, nat_tests))))
+  alone : (x : ℕ) {f g : ℕ → ℕ} → IsTrue (nat_lt x n) → UndoesWords w f g
+      → Undoes (AreNWords w n) (AreNWords w n) (λ s. slice_set s x (f (slice_index s x))) (λ s. slice_set s x (g (slice_index s x)))
+  alone x {f = f} {g = g} x_in u = changed x (λ s. 0) (λ _. f) (λ _. g) (within n x x_in) (λ s v. refl) (λ s s_in. u)
 
-  put : (x v : ℕ) → v < 2 ^ w → AreWords w (slice_set s x v)
-  put x v v_in = All-set (λ a. a < 2 ^ w) s x v v_in s_in
+module _ (w n m : ℕ) (d : List ℕ) where
+  -- whatever its data, a step leads from words to words
+  step-in : (t : Step) → IsTrue (is_step w n m t) → (s : List ℕ) → AreNWords w n s → AreNWords w n (step w d t s)
+  step-in (Add x y) h s s_in = put w n s x _ s_in (mod_below _ (2 ^ w) (pow_pos w))
+  step-in (Sub x y) h s s_in = put w n s x _ s_in (mod_below _ (2 ^ w) (pow_pos w))
+  step-in (Xor x y) h s s_in = put w n s x _ s_in (xor_lt w _ _ (s_in.1 x) (s_in.1 y))
+  step-in (Rotate x k) h s s_in = put w n s x _ s_in (rotl-lt w _ k (turn_within w k (and_parts (nat_lt x n) (is_turn w k) h).1) (s_in.1 x))
+  step-in (AddRotated x y k) h s s_in = put w n s x _ s_in (mod_below _ (2 ^ w) (pow_pos w))
+  step-in (SubRotated x y k) h s s_in = put w n s x _ s_in (mod_below _ (2 ^ w) (pow_pos w))
+  step-in (XorRotated x y k) h s s_in =
+      let turn = turn_within w k (and_parts (are_apart n x y) (is_turn w k) h).1 in
+      put w n s x _ s_in (xor_lt w _ _ (s_in.1 x) (rotl-lt w _ k turn (s_in.1 y)))
+  step-in (AddData x i) h s s_in = put w n s x _ s_in (mod_below _ (2 ^ w) (pow_pos w))
+  step-in (SubData x i) h s s_in = put w n s x _ s_in (mod_below _ (2 ^ w) (pow_pos w))
 
-  step_words : (m : ℕ) (t : Step) → IsTrue (is_step w (length s) m t) → AreWords w (step w d t s)
-  step_words m (Add x y) h = put x _ (mod_below _ (2 ^ w) (pow_pos w))
-  step_words m (Sub x y) h = put x _ (mod_below _ (2 ^ w) (pow_pos w))
-  step_words m (Xor x y) h =
-      let facts = apart_facts (length s) x y h in put x _ (xor_lt w _ _ (word x facts.0) (word y facts.1))
-  step_words m (Rotate x k) h =
-      let parts = and_parts (nat_lt x (length s)) (is_turn w k) h in
-      let turn = turn_facts w k parts.1 in
-      put x _ (rotl-lt w _ k (omega arith) (word x (grind (arith, nat_tests))))
-  step_words m (AddRotated x y k) h = put x _ (mod_below _ (2 ^ w) (pow_pos w))
-  step_words m (SubRotated x y k) h = put x _ (mod_below _ (2 ^ w) (pow_pos w))
-  step_words m (XorRotated x y k) h =
-      let parts = and_parts (are_apart (length s) x y) (is_turn w k) h in
-      let facts = apart_facts (length s) x y parts.0 in
-      let turn = turn_facts w k parts.1 in
-      put x _ (xor_lt w _ _ (word x facts.0) (rotl-lt w _ k (omega arith) (word y facts.1)))
-  step_words m (AddData x i) h = put x _ (mod_below _ (2 ^ w) (pow_pos w))
-  step_words m (SubData x i) h = put x _ (mod_below _ (2 ^ w) (pow_pos w))
+  -- and so do steps
+  pub steps-in : (ts : List Step) → AreSteps w n m ts → (s : List ℕ) → AreNWords w n s → AreNWords w n (apply w ts d s)
+  unfolding apply
+  steps-in [] h s s_in = s_in
+  steps-in (t ∷ ts) h s s_in =
+      let parts = and_parts (is_step w n m t) (list_all (is_step w n m) ts) h in
+      steps-in ts parts.1 (step w d t s) (step-in t parts.0 s s_in)
 
--- ---- a list of steps keeps words, and its opposites take it back
+  module _ (d_in : (i : ℕ) → slice_index d i < 2 ^ w) where
+    -- a step and its opposite
+    of_step : (t : Step) → IsTrue (is_step w n m t) → Undoes (AreNWords w n) (AreNWords w n) (step w d t) (step w d (opposite w t))
+    of_step (Add x y) h = by w n x y h (λ b b_in. added w b b_in)
+    of_step (Sub x y) h = by w n x y h (λ b b_in. turned_round (added w b b_in))
+    of_step (Xor x y) h = by w n x y h (λ b b_in. xored w b b_in)
+    of_step (Rotate x k) h =
+        let parts = and_parts (nat_lt x n) (is_turn w k) h in alone w n x parts.0 (rotated w k (turn_within w k parts.1))
+    of_step (AddRotated x y k) h =
+        let parts = and_parts (are_apart n x y) (is_turn w k) h in
+        by w n x y parts.0 (λ b b_in. added w (rotl w b k) (rotl-lt w b k (turn_within w k parts.1) b_in))
+    of_step (SubRotated x y k) h =
+        let parts = and_parts (are_apart n x y) (is_turn w k) h in
+        by w n x y parts.0 (λ b b_in. turned_round (added w (rotl w b k) (rotl-lt w b k (turn_within w k parts.1) b_in)))
+    of_step (XorRotated x y k) h =
+        let parts = and_parts (are_apart n x y) (is_turn w k) h in
+        by w n x y parts.0 (λ b b_in. xored w (rotl w b k) (rotl-lt w b k (turn_within w k parts.1) b_in))
+    of_step (AddData x i) h = alone w n x (and_parts (nat_lt x n) (nat_lt i m) h).0 (added w (slice_index d i) (d_in i))
+    of_step (SubData x i) h = alone w n x (and_parts (nat_lt x n) (nat_lt i m) h).0 (turned_round (added w (slice_index d i) (d_in i)))
+
+    -- a list of steps, and that of its opposites
+    pub of_steps : (ts : List Step) → AreSteps w n m ts → Undoes (AreNWords w n) (AreNWords w n) (apply w ts d) (apply w (undo w ts) d)
+    unfolding apply
+    of_steps [] h = likewise (λ s _. refl) (λ s _. rw (undo-nil w) refl) unmoved
+    of_steps (t ∷ ts) h =
+        let parts = and_parts (is_step w n m t) (list_all (is_step w n m) ts) h in
+        likewise (λ s _. refl) (λ s _. rw (undo-cons w t ts) (apply-append w (undo w ts) (opposite w t ∷ []) d s))
+        (of_step t parts.0 ▷ of_steps ts parts.1)
 
 -- the words stay as many, and stay words
 pub apply-words : (w m : ℕ) (ts : List Step) (d s : List ℕ) → AreSteps w (length s) m ts → AreWords w s
     → (length (apply w ts d s) ≡ length s) × AreWords w (apply w ts d s)
-unfolding apply
-apply-words w m [] d s h s_in = (refl, s_in)
-apply-words w m (t ∷ ts) d s h s_in =
-    let parts = and_parts (is_step w (length s) m t) (list_all (is_step w (length s) m) ts) h in
-    let same_len = length-step w d t s in
-    let rest = apply-words w m ts d (step w d t s) (rw same_len parts.1) (step_words w d s s_in m t parts.0) in
-    (rest.0 ∙ same_len, rest.1)
+apply-words w m ts d s h s_in =
+    let kept = steps-in w (length s) m d ts h s (refl, AreWords-at w s s_in) in (kept.0, AreWords-from w (apply w ts d s) kept.1)
 
-module _ (w : ℕ) (d : List ℕ) (d_in : AreWords w d) where
-  -- the opposites after the steps
-  pub apply_undo : (ts : List Step) (s : List ℕ) → AreSteps w (length s) (length d) ts → AreWords w s
-      → apply w (undo w ts) d (apply w ts d s) ≡ s
-  unfolding apply
-  apply_undo [] s h s_in = rw (undo-nil w) refl
-  apply_undo (t ∷ ts) s h s_in =
-      let parts = and_parts (is_step w (length s) (length d) t) (list_all (is_step w (length s) (length d)) ts) h in
-      let s' = step w d t s in
-      let same_len = length-step w d t s in
-      let rest = apply_undo ts s' (rw same_len parts.1) (step_words w d s s_in (length d) t parts.0) in
-      rw (undo-cons w t ts, apply-append w (undo w ts) (opposite w t ∷ []) d (apply w ts d s'), rest) (step_back w d s s_in d_in t parts.0)
-
-  -- different words stay different
-  pub apply-same : (ts : List Step) (s s' : List ℕ) → length s' ≡ length s → AreSteps w (length s) (length d) ts → AreWords w s
-      → AreWords w s'
-      → apply w ts d s ≡ apply w ts d s' → s ≡ s'
-  apply-same ts s s' same_len h s_in s'_in same =
-      sym (apply_undo ts s h s_in) ∙ ap (apply w (undo w ts) d) same ∙ apply_undo ts s' (rw same_len h) s'_in
-
-module _ (w n m : ℕ) where
-  -- the opposites are such steps too
-  pub AreSteps-undo : (ts : List Step) → AreSteps w n m ts → AreSteps w n m (undo w ts)
-  AreSteps-undo [] h = rw (undo-nil w) refl
-  AreSteps-undo (t ∷ ts) h =
-      let parts = and_parts (is_step w n m t) (list_all (is_step w n m) ts) h in
-      let here = (opposite_facts w n m t parts.0).1 in
-      rw (undo-cons w t ts, list_all-append (is_step w n m) (undo w ts) (opposite w t ∷ []), AreSteps-undo ts parts.1, here) refl
-
-  undo-undo : (ts : List Step) → AreSteps w n m ts → undo w (undo w ts) ≡ ts
-  undo-undo [] h = rw (undo-nil w, undo-nil w) refl
-  undo-undo (t ∷ ts) h =
-      let parts = and_parts (is_step w n m t) (list_all (is_step w n m) ts) h in
-      rw (
-        undo-cons w t ts,
-        undo-append w (undo w ts) (opposite w t ∷ []),
-        undo-one w (opposite w t),
-        (opposite_facts w n m t parts.0).0,
-        undo-undo ts parts.1,
-      ) refl
-
--- the steps after the opposites
-pub undo_apply : (w : ℕ) (d : List ℕ) → AreWords w d → (ts : List Step) (s : List ℕ) → AreSteps w (length s) (length d) ts → AreWords w s
-    → apply w ts d (apply w (undo w ts) d s) ≡ s
-undo_apply w d d_in ts s h s_in =
-    let again = undo-undo w (length s) (length d) ts h in
-    let back = apply_undo w d d_in (undo w ts) s (AreSteps-undo w (length s) (length d) ts h) s_in in
-    rw again at back
+-- ---- the steps of a table
 
 -- the steps of a table, row by row
 pub apply_rows : {R : Type 0} (w : ℕ) (row : R → List Step) (rows : List R) (d s : List ℕ)
@@ -271,20 +195,16 @@ apply-data w n d e (t ∷ ts) s h =
 module _ {R : Type 0} {n m : ℕ} (w : ℕ) (row : R → List Step) (rows : List R) (d s s' : List ℕ)
     (d_len : length d ≡ m) (d_fits : (i : ℕ) → slice_index d i < 2 ^ w)
     (s_len : length s ≡ n) (s_fits : (i : ℕ) → slice_index s i < 2 ^ w) (are : AreSteps w n m (flat_map row rows)) where
-  here : AreSteps w (length s) (length d) (flat_map row rows)
-  here = rw (s_len, d_len) are
+  table : Undoes (AreNWords w n) (AreNWords w n) (apply w (flat_map row rows) d) (apply w (undo w (flat_map row rows)) d)
+  table = of_steps w n m d d_fits (flat_map row rows) are
 
   pub rows_made : s' ≡ fold (λ t r. apply w (row r) d t) s rows
       → (s' ≡ apply w (flat_map row rows) d s) × (apply w (undo w (flat_map row rows)) d s' ≡ s)
-  rows_made made =
-      let round = made ∙ sym (apply_rows w row rows d s) in
-      (round, rw round (apply_undo w d (AreWords-from w d d_fits) (flat_map row rows) s here (AreWords-from w s s_fits)))
+  rows_made made = let round = made ∙ sym (apply_rows w row rows d s) in (round, rw round (table.back s (s_len, s_fits)))
 
   pub rows_unmade : s' ≡ fold (λ t r. apply w (undo w (row r)) d t) s (reverse rows)
       → (s' ≡ apply w (undo w (flat_map row rows)) d s) × (apply w (flat_map row rows) d s' ≡ s)
-  rows_unmade made =
-      let round = made ∙ sym (undo_rows w row rows d s) in
-      (round, rw round (undo_apply w d (AreWords-from w d d_fits) (flat_map row rows) s here (AreWords-from w s s_fits)))
+  rows_unmade made = let round = made ∙ sym (undo_rows w row rows d s) in (round, rw round (table.there s (s_len, s_fits)))
 
 -- the same, of rows that read no data
 module _ {R : Type 0} {n : ℕ} (w : ℕ) (row : R → List Step) (rows : List R) (s s' : List ℕ)

@@ -1,11 +1,9 @@
 -- Laws of the sums of bytes: of no bytes, of joined texts, and byte by byte.
-use Rattle.std.proofs.Common.{◌≡◌, ℕ, suc, ◌+◌, ◌-◌, ◌*◌, ◌%◌, ◌^◌, ◌<◌, ◌≤◌, List, [], ◌∷◌, ◌++◌, length, get_or, All, take, drop, sum, map, fold, refl, sym, ap, ◌∙◌, arith, add-zero, zero-add, length-append, length-drop, take-append-drop, pow-add, lit<}
-use Rattle.std.specs.Int.{w64, from_be_bytes}
+use Rattle.hash_rounds.proofs.Common.{◌≡◌, ℕ, suc, ◌+◌, ◌-◌, ◌*◌, ◌%◌, ◌^◌, ◌<◌, ◌≤◌, List, [], ◌∷◌, ◌++◌, length, get_or, slice_index, All, take, drop, sum, map, fold, refl, sym, ap, ◌∙◌, arith, add-zero, zero-add, length-append, length-drop, take-append-drop, pow-add, lit<, w64, from_be_bytes, All-drop, mul-mod_first, mul-add-lt}
 use Rattle.std.specs.Simd.Lanes.{fold_l, zip2}
 use Rattle.std.proofs.Math.Nat.{mod-add-mod, add-mod-mod, add-mul-mod_self_left, mod-lt, mod-eq_of_lt, pow-suc, pow-zero, mul-one, mul_comm}
-use Rattle.std.proofs.lemmas.List.Elements.{All-drop}
+use Rattle.std.proofs.lemmas.List.FromFn.{fill_by_all}
 use Rattle.std.proofs.lemmas.List.Sums.{sum_by-append, sum_by-cons}
-use Rattle.std.proofs.lemmas.Nat.{mul-mod_first, mul-add-lt}
 use Rattle.hash_rounds.specs.Sums.{digit_sum, sdbm_from, loselose_from, passthrough_from, sdbm_step, loselose_step, passthrough_step}
 
 -- ---- digits
@@ -23,16 +21,7 @@ digit_sum-lt x (b ∷ t) digits =
 
 -- the big-endian value of eight bytes
 pub from_be_bytes-8 : (t : List ℕ) → length t ≡ 8 → from_be_bytes w64 t ≡ digit_sum 256 t
-from_be_bytes-8 [] n = absurd (omega arith)
-from_be_bytes-8 (a ∷ []) n = absurd (omega arith)
-from_be_bytes-8 (a ∷ b ∷ []) n = absurd (omega arith)
-from_be_bytes-8 (a ∷ b ∷ c ∷ []) n = absurd (omega arith)
-from_be_bytes-8 (a ∷ b ∷ c ∷ d ∷ []) n = absurd (omega arith)
-from_be_bytes-8 (a ∷ b ∷ c ∷ d ∷ e ∷ []) n = absurd (omega arith)
-from_be_bytes-8 (a ∷ b ∷ c ∷ d ∷ e ∷ f ∷ []) n = absurd (omega arith)
-from_be_bytes-8 (a ∷ b ∷ c ∷ d ∷ e ∷ f ∷ g ∷ []) n = absurd (omega arith)
-from_be_bytes-8 (a ∷ b ∷ c ∷ d ∷ e ∷ f ∷ g ∷ h ∷ []) n = omega arith
-from_be_bytes-8 (a ∷ b ∷ c ∷ d ∷ e ∷ f ∷ g ∷ h ∷ i ∷ t) n = absurd (omega arith)
+from_be_bytes-8 t n = rw (fill_by_all (slice_index t) t 8 0 n (λ k _. refl)) (omega arith)
 
 -- the state after a text, of a sum below m whose step is `step`
 pub record SumFacts (from : ℕ → List ℕ → ℕ) (step : ℕ → ℕ → ℕ) (m : ℕ) : Type 0 where
@@ -78,9 +67,7 @@ module _ (x m : ℕ) where
 
 -- a text of one byte is that byte
 only_byte : (t : List ℕ) → 1 ≤ length t → length t < 2 → t ≡ get_or t 0 0 ∷ []
-only_byte [] some few = absurd (omega arith)
-only_byte (b ∷ []) some few = refl
-only_byte (b ∷ more ∷ rest) some few = absurd (omega arith)
+only_byte t some few = fill_by_all (slice_index t) t 1 0 (omega arith) (λ k _. refl)
 
 -- ---- sdbm
 
@@ -103,16 +90,13 @@ pub sdbm_of_four : (h : ℕ) (t : List ℕ) → length t ≡ 4 →
     (zip2 (λ x y. x * y % 2 ^ 32) (map (λ x. x) t) (780587199 ∷ 8261505 ∷ 65599 ∷ 1 ∷ []))) % 2 ^ 32
     ≡ sdbm_from h t
 unfolding sdbm_from
-sdbm_of_four h [] n = absurd (omega arith)
-sdbm_of_four h (a ∷ []) n = absurd (omega arith)
-sdbm_of_four h (a ∷ b ∷ []) n = absurd (omega arith)
-sdbm_of_four h (a ∷ b ∷ c ∷ []) n = absurd (omega arith)
-sdbm_of_four h (a ∷ b ∷ c ∷ d ∷ []) n =
-    let whole : h * 65599 ^ 4 + digit_sum 65599 (a ∷ b ∷ c ∷ d ∷ [])
-    ≡ (h * 1139564289 + (0 + a * 780587199 + b * 8261505 + c * 65599 + d * 1)) + 2 ^ 32 * (h * 4311506197 + a * 65725 + b)
+sdbm_of_four h t n =
+    let at = λ (i : ℕ). slice_index t i in
+    let whole : h * 65599 ^ 4 + digit_sum 65599 (at 0 ∷ at 1 ∷ at 2 ∷ at 3 ∷ [])
+    ≡ (h * 1139564289 + (0 + at 0 * 780587199 + at 1 * 8261505 + at 2 * 65599 + at 3 * 1)) + 2 ^ 32 * (h * 4311506197 + at 0 * 65725 + at 1)
     = omega arith in
-    simp (mod-add-mod, add-mod-mod) (sym (ap (λ n. n % 2 ^ 32) whole ∙ add-mul-mod_self_left _ _ _))
-sdbm_of_four h (a ∷ b ∷ c ∷ d ∷ e ∷ xs) n = absurd (omega arith)
+    rw (fill_by_all (slice_index t) t 4 0 n (λ k _. refl))
+    (simp (mod-add-mod, add-mod-mod) (sym (ap (λ n. n % 2 ^ 32) whole ∙ add-mul-mod_self_left _ _ _)))
 
 -- ---- lose lose
 

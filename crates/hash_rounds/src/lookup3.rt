@@ -69,6 +69,7 @@ pub fn lookup3_unfinal(s: &mut [u32; 3])
 }
 
 #[inline(always)]
+#[tactic(auto, unfolding(crate::specs::Steps::apply))]
 fn mix_group(s: &mut [u32; 3], x: usize, y: usize, z: usize, k: u32)
     requires x_in { x < 3 }
     requires y_in { y < 3 }
@@ -83,6 +84,7 @@ fn mix_group(s: &mut [u32; 3], x: usize, y: usize, z: usize, k: u32)
 }
 
 #[inline(always)]
+#[tactic(auto, unfolding(crate::specs::Steps::apply, crate::specs::Steps::undo))]
 fn unmix_group(s: &mut [u32; 3], x: usize, y: usize, z: usize, k: u32)
     requires x_in { x < 3 }
     requires y_in { y < 3 }
@@ -97,6 +99,7 @@ fn unmix_group(s: &mut [u32; 3], x: usize, y: usize, z: usize, k: u32)
 }
 
 #[inline(always)]
+#[tactic(auto, unfolding(crate::specs::Steps::apply))]
 fn final_group(s: &mut [u32; 3], x: usize, y: usize, k: u32)
     requires x_in { x < 3 }
     requires y_in { y < 3 }
@@ -109,6 +112,7 @@ fn final_group(s: &mut [u32; 3], x: usize, y: usize, k: u32)
 }
 
 #[inline(always)]
+#[tactic(auto, unfolding(crate::specs::Steps::apply, crate::specs::Steps::undo))]
 fn unfinal_group(s: &mut [u32; 3], x: usize, y: usize, k: u32)
     requires x_in { x < 3 }
     requires y_in { y < 3 }

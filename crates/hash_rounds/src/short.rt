@@ -82,6 +82,7 @@ pub fn un_short_end(h: &mut [u64; 4])
 }
 
 #[inline(always)]
+#[tactic(auto, unfolding(crate::specs::Steps::apply))]
 fn mix_group(h: &mut [u64; 4], p: usize, r: u32)
     requires p_in { p < 4 }
     requires some { 0 < r }
@@ -94,6 +95,7 @@ fn mix_group(h: &mut [u64; 4], p: usize, r: u32)
 }
 
 #[inline(always)]
+#[tactic(auto, unfolding(crate::specs::Steps::apply, crate::specs::Steps::undo))]
 fn unmix_group(h: &mut [u64; 4], p: usize, r: u32)
     requires p_in { p < 4 }
     requires some { 0 < r }
@@ -106,6 +108,7 @@ fn unmix_group(h: &mut [u64; 4], p: usize, r: u32)
 }
 
 #[inline(always)]
+#[tactic(auto, unfolding(crate::specs::Steps::apply))]
 fn end_group(h: &mut [u64; 4], p: usize, r: u32)
     requires p_in { p < 4 }
     requires some { 0 < r }
@@ -118,6 +121,7 @@ fn end_group(h: &mut [u64; 4], p: usize, r: u32)
 }
 
 #[inline(always)]
+#[tactic(auto, unfolding(crate::specs::Steps::apply, crate::specs::Steps::undo))]
 fn unend_group(h: &mut [u64; 4], p: usize, r: u32)
     requires p_in { p < 4 }
     requires some { 0 < r }

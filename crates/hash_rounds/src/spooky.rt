@@ -95,6 +95,7 @@ pub fn spooky_end(d: &[u64; 12], s: &mut [u64; 12])
 }
 
 #[inline(always)]
+#[tactic(auto, unfolding(crate::specs::Steps::apply))]
 fn mix_row(d: &[u64; 12], s: &mut [u64; 12], i: usize, r: u32)
     requires i_in { i < 12 }
     requires some { 0 < r }
@@ -109,6 +110,7 @@ fn mix_row(d: &[u64; 12], s: &mut [u64; 12], i: usize, r: u32)
 }
 
 #[inline(always)]
+#[tactic(auto, unfolding(crate::specs::Steps::apply, crate::specs::Steps::undo))]
 fn unmix_row(d: &[u64; 12], s: &mut [u64; 12], i: usize, r: u32)
     requires i_in { i < 12 }
     requires some { 0 < r }
@@ -123,6 +125,7 @@ fn unmix_row(d: &[u64; 12], s: &mut [u64; 12], i: usize, r: u32)
 }
 
 #[inline(always)]
+#[tactic(auto, unfolding(crate::specs::Steps::apply))]
 fn end_partial_row(s: &mut [u64; 12], i: usize, r: u32)
     requires i_in { i < 12 }
     requires some { 0 < r }
@@ -135,6 +138,7 @@ fn end_partial_row(s: &mut [u64; 12], i: usize, r: u32)
 }
 
 #[inline(always)]
+#[tactic(auto, unfolding(crate::specs::Steps::apply, crate::specs::Steps::undo))]
 fn un_end_partial_row(s: &mut [u64; 12], i: usize, r: u32)
     requires i_in { i < 12 }
     requires some { 0 < r }
@@ -147,6 +151,7 @@ fn un_end_partial_row(s: &mut [u64; 12], i: usize, r: u32)
 }
 
 #[inline(always)]
+#[tactic(auto, unfolding(crate::specs::Steps::apply, crate::specs::Rounds::data_sums))]
 fn add_data(d: &[u64; 12], s: &mut [u64; 12])
     ensures { s.new ≡ apply 64 data_sums d.now s.old }
 {

@@ -8,7 +8,7 @@ ghost use Rattle.hash_rounds.specs.Sums.{sdbm_from};
 use crate::Turns;
 use std::simd::prelude::*;
 
-/// The state of sdbm after four bytes, from the state `h`: the bytes, as digits in base 65599 behind `h`, modulo 2^32.
+/// The state of sdbm after four bytes, from the state `h`: the bytes, as digits in base 65599 after `h`, modulo 2^32.
 /// The products are made in lanes.
 #[inline(always)]
 pub fn sdbm4(h: u32, b: &[u8; 4], t: &mut Turns) -> u32

@@ -1,4 +1,4 @@
-//! The hasher of a rule by the byte.
+//! The hasher of a rule with a step per byte.
 ghost use Rattle.std.specs.Prelude.{◌≡◌, ◌<◌, ℕ, List, [], ◌∷◌, slice_index, refl};
 ghost use Rattle.std.proofs.Common.{ap};
 ghost use Rattle.hash_laws.specs.Standing.{StandsAt};
@@ -9,7 +9,7 @@ use hash_laws::traits::{ByteStep, Piecewise, Streamed, Undo};
 use std::hash::Hasher;
 use std::marker::Model;
 
-/// The hasher of a rule by the byte. Contracts see it as what it keeps: mostly its state, a number below the rule's bound.
+/// The hasher of a rule with a step per byte. Contracts see it as what it keeps: mostly its state, a number below the rule's bound.
 pub struct ByteHasher<R: ByteRule> {
     state: R::State,
 }

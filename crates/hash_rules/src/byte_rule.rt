@@ -1,8 +1,8 @@
-//! What a hash by the byte says for itself.
+//! What a hash with a step per byte has to define.
 ghost use Rattle.std.specs.Prelude.{◌≡◌, ◌≢◌, ◌<◌, ◌↔◌, ℕ, List, fold, IsSome, IfSome, IfNone};
 ghost use Rattle.hash_laws.specs.StepFacts.{StepFacts};
 
-/// The first part of a rule by the byte: what is kept, the start, and one byte on. The implementing type is a
+/// The first part of a rule with a step per byte: what is kept, the start, and one byte on. The implementing type is a
 /// name for the rule, and no value of it is made.
 pub trait StepRule {
     /// What a hasher keeps: a word, or a word and a count beside it.
@@ -40,7 +40,7 @@ pub trait StepRule {
     ghost step_in_range: { (h b : ℕ) → h < bound → b < 256 → step h b < bound };
 }
 
-/// The second part of a rule by the byte: how a text is taken in, and what is answered.
+/// The second part of a rule with a step per byte: how a text is taken in, and what is answered.
 pub trait ByteRule: StepRule {
     /// The number after a text.
     ghost after: { ℕ → List ℕ → ℕ };

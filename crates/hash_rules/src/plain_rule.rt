@@ -1,4 +1,4 @@
-//! What a hash by the byte says for itself where it keeps one word and nothing beside it.
+//! What a hash with a step per byte has to define whose state is one word.
 ghost use Rattle.std.specs.Prelude.{◌≡◌, ◌≢◌, ◌<◌, ◌↔◌, ℕ, IsSome, IfSome, IfNone, refl};
 ghost use Rattle.std.proofs.Common.{subst, sym};
 ghost use Rattle.hash_laws.specs.StepFacts.{StepFacts};
@@ -107,7 +107,7 @@ pub trait PlainUndo: PlainRule {
     ghost answer_injective: { (s t : ℕ) → s < Self.bound → t < Self.bound → Self.answer s ≡ Self.answer t → s ≡ t };
 }
 
-/// The rule by the byte that a plain rule is: the number after a text is the recurrence of the step.
+/// The rule with a step per byte that a plain rule is: the number after a text is the recurrence of the step.
 pub struct Plain<R> {
     rule: PhantomData<R>,
 }

@@ -1,9 +1,11 @@
 //! Whole texts by a rule's steps.
 ghost use Rattle.std.specs.Prelude.{◌≡◌};
 ghost use Rattle.hash_laws.specs.Recurrence.{recurrence};
+ghost use Rattle.hash_laws.specs.Text.{IsText};
 
-use crate::byte_rule::StepRule;
+use crate::byte_rule::{ByteRule, StepRule};
 use crate::plain_rule::{Plain, PlainRule};
+use hash_laws::traits::bytes_are_a_text;
 
 /// The bytes in, one step for each.
 #[inline(always)]
@@ -18,6 +20,7 @@ fn in_turn<R: StepRule>(state: &mut R::State, bytes: &[u8])
 
 /// The bytes in, one step for each: the few first ones, up to seven, and then eight a turn.
 #[inline(always)]
+#[tactic(auto, using(hash_laws::proofs::RecurrenceLemmas::all_eights))]
 pub fn in_eights<R: StepRule>(state: &mut R::State, bytes: &[u8])
 where
     R::State: Copy,
@@ -34,6 +37,7 @@ where
 
 /// The same, where a single byte is one step with no loop round it.
 #[inline(always)]
+#[tactic(auto, using(hash_laws::proofs::RecurrenceLemmas::recurrence_one))]
 pub fn alone_or_in_eights<R: StepRule>(state: &mut R::State, bytes: &[u8])
 where
     R::State: Copy,
@@ -60,4 +64,24 @@ pub fn whole_text<R: PlainRule>(text: &[u8]) -> u64
         }
     }
     R::answer(word)
+}
+
+/// The hash of a text by a plain rule: what `hash_of` of its hasher gives, from the rule alone.
+#[inline(always)]
+pub fn hash_by_plain<R: PlainRule>(text: &[u8]) -> u64
+    ensures value { result ≡ R.answer (recurrence R.step R.start text.now) }
+    ensures text { IsText text.now }
+{
+    bytes_are_a_text(text);
+    whole_text::<R>(text)
+}
+
+/// The hash of a text by a rule, likewise.
+#[inline(always)]
+pub fn hash_by_rule<R: ByteRule>(text: &[u8]) -> u64
+    ensures value { result ≡ R.answer (R.after (R.number R.start) text.now) }
+    ensures text { IsText text.now }
+{
+    bytes_are_a_text(text);
+    R::whole(text)
 }

@@ -1,5 +1,5 @@
 //! A random key, and the hashers under it.
-ghost use Rattle.std.specs.Prelude.{◌≡◌, [], fold};
+ghost use Rattle.std.specs.Prelude.{◌≡◌, ◌+◌, ◌≤◌, [], IfOk, fold};
 ghost use Rattle.std.specs.List.{concat};
 ghost use Rattle.hash_blocks.specs.Blocks.{after, position};
 ghost use Rattle.hash_siphash.specs.SipHash.{after_block, ended, siphash, start};
@@ -17,16 +17,17 @@ pub struct SipKeys {
 }
 
 impl SipKeys {
-    /// A key from the system's source of randomness: 128 random bits. It fails where the source does.
-    pub fn new(rt: &impl RandomSource) -> io::Result<SipKeys> {
+    /// A key from the system's source of randomness: 128 random bits, not all of them 0. It fails where the source does.
+    pub fn new(rt: &impl RandomSource) -> io::Result<SipKeys>
+        ensures { IfOk result (λ keys. 1 ≤ keys.key.k0 + keys.key.k1) }
+    {
         let mut first = [0; 8];
         let mut last = [0; 8];
         rt.fill_bytes(&mut first)?;
         rt.fill_bytes(&mut last)?;
-        Ok(SipKeys::with_key(SipKey {
-            k0: u64::from_le_bytes(first),
-            k1: u64::from_le_bytes(last),
-        }))
+        let (k0, k1) = (u64::from_le_bytes(first), u64::from_le_bytes(last));
+        let k0 = if k1 == 0 { k0.max(1) } else { k0 };
+        Ok(SipKeys::with_key(SipKey { k0, k1 }))
     }
 
     /// This key.

@@ -1,32 +1,20 @@
 -- Pairs of equal hashes.
-use Rattle.std.proofs.Common.{◌≡◌, ◌<◌, ◌+◌, ℕ, suc, Bool, false, cond, eqb, List, [], ◌∷◌, ◌++◌, length, take, get_or, refl, ap, arith}
-use Rattle.std.specs.List.{count_by}
+use Rattle.hash_spread.proofs.Common.{◌≡◌, ◌<◌, ◌+◌, ℕ, suc, Bool, false, eqb, List, [], ◌∷◌, ◌++◌, length, take, get_or, refl, arith, count_by, ne_eqb, get_or-take, nat_tests, common_steps, meetings, collisions, times}
+use Rattle.std.proofs.Common.{length-take}
 use Rattle.std.specs.List.Sorted.{IsNonDecreasing}
-use Rattle.std.proofs.lemmas.Bool.{ne_eqb}
-use Rattle.std.proofs.lemmas.List.{get_or-take, length-take}
-use Rattle.std.proofs.lemmas.List.Sums.{sum_by-cons, sum_by_push}
-use Rattle.hashers.specs.Counts.{meetings, collisions, times}
-use Rattle.hashers.proofs.CountLemmas.{eqb_comm}
 
 -- a hash more makes a pair with each before it that equals it
 pub collisions_push : (hashes : List ℕ) (hash : ℕ) → collisions (hashes ++ hash ∷ []) ≡ collisions hashes + times hash hashes
 unfolding meetings
 collisions_push [] hash = refl
 collisions_push (first ∷ hashes) hash =
-    let rest = collisions_push hashes hash in
-    let later = sum_by_push (λ other. cond (eqb other first) 1 0) hashes hash in
-    let before = sum_by-cons (λ other. cond (eqb other hash) 1 0) first hashes in
-    let same = ap {B = ℕ} (λ t. cond t 1 0) (eqb_comm hash first) in
-    omega (arith, rest, later, before, same)
+    grind (arith, nat_tests, common_steps, collisions_push hashes hash)
 
 -- a test that no element passes
 pub count_by_none : (p : ℕ → Bool) (xs : List ℕ) → ((k : ℕ) → k < length xs → p (get_or xs k 0) ≡ false) → count_by p xs ≡ 0
 count_by_none p [] fails = refl
 count_by_none p (x ∷ xs) fails =
-    let here = sum_by-cons (λ y. cond (p y) 1 0) x xs in
-    let first = ap {B = ℕ} (λ t. cond t 1 0) (fails 0 (omega arith)) in
-    let rest = count_by_none p xs (λ k below. fails (suc k) (omega arith)) in
-    omega (arith, here, first, rest)
+    grind (arith, common_steps, fails 0, count_by_none p xs (λ k below. fails (suc k) (omega arith)))
 
 -- of hashes in order, the one at a place equals none before it where it differs from the one before
 pub equal_none : (hashes : List ℕ) (i k : ℕ) → IsNonDecreasing hashes → k + 1 ≡ i → i < length hashes

@@ -1,13 +1,5 @@
 -- How hashes fall into buckets.
-use Rattle.std.proofs.Common.{◌≡◌, ◌<◌, ◌≤◌, ◌+◌, ◌-◌, ◌*◌, ◌%◌, ◌^◌, ℕ, Bool, true, false, eqb, List, [], ◌∷◌, length, take, get_or, All, Contains, refl, ap, sym, ◌∙◌, arith}
-use Rattle.std.specs.List.{sum, sum_by}
-use Rattle.std.proofs.Math.ListN.{set}
-use Rattle.std.proofs.Math.Nat.{mul-le-mul_left}
-use Rattle.std.proofs.lemmas.Bool.{eqb-true, eqb-false}
-use Rattle.std.proofs.lemmas.List.{get_or-set_same, get_or-set_other}
-use Rattle.std.proofs.lemmas.List.FromFn.{get_or-map-range_with_len, length-map-range_with_len}
-use Rattle.std.proofs.lemmas.List.Sums.{sum_by-cons, sum_by_more_le, count_by_more_yes, count_by_more_no}
-use Rattle.hashers.specs.Counts.{in_bucket, bucket_counts}
+use Rattle.hash_spread.proofs.Common.{◌≡◌, ◌<◌, ◌≤◌, ◌+◌, ◌-◌, ◌*◌, ◌%◌, ◌^◌, ℕ, List, [], ◌∷◌, length, take, get_or, All, Contains, ap, sym, ◌∙◌, arith, sum, sum_by, set, mul-le-mul_left, get_or-set_other, nat_tests, common_steps, get_or-map-range_with_len, length-map-range_with_len, sum_by-cons, sum_by_more_le, in_bucket, bucket_counts}
 use Rattle.hash_spread.specs.Counts.{IsFullest}
 
 -- a hash more is counted in its bucket, and in no other
@@ -15,23 +7,8 @@ pub bucket_more : (m : ℕ) (hashes counts : List ℕ) (i : ℕ) → i < length 
     → ((b : ℕ) → b < m → get_or counts b 0 ≡ in_bucket m b (take i hashes))
     → (b : ℕ) → b < m → get_or (set counts (get_or hashes i 0 % m) (get_or counts (get_or hashes i 0 % m) 0 + 1)) b 0
     ≡ in_bucket m b (take (i + 1) hashes)
-bucket_more m hashes counts i below len each b b_in = at (eqb r b) refl
-  where
-    r : ℕ
-    r = get_or hashes i 0 % m
-
-    at : (t : Bool) → eqb r b ≡ t → get_or (set counts r (get_or counts r 0 + 1)) b 0 ≡ in_bucket m b (take (i + 1) hashes)
-    at true is =
-        let same = eqb-true r b is in
-        let there = ap (λ k. get_or (set counts r (get_or counts r 0 + 1)) k 0) (sym same) in
-        let put = get_or-set_same counts r (get_or counts r 0 + 1) 0 (omega arith) in
-        let was = ap (λ k. get_or counts k 0) same ∙ each b b_in in
-        let more = count_by_more_yes (λ hash. eqb (hash % m) b) hashes i 0 below is in
-        omega (arith, there, put, was, more)
-    at false is =
-        let kept = get_or-set_other counts r b (get_or counts r 0 + 1) 0 (λ same. eqb-false r b is (sym same)) in
-        let more = count_by_more_no (λ hash. eqb (hash % m) b) hashes i 0 below is in
-        kept ∙ each b b_in ∙ sym more
+bucket_more m hashes counts i below len each b b_in =
+    grind (arith, common_steps, nat_tests, each b b_in, get_or-set_other counts (get_or hashes i 0 % m) b)
 
 -- the greatest of the buckets' counts
 pub fullest_of : (m : ℕ) (hashes counts : List ℕ) (most : ℕ) → 0 < m → counts ≡ bucket_counts m hashes → All (λ count. count ≤ most) counts
@@ -52,10 +29,8 @@ squares-le : (xs : List ℕ) → sum_by (λ x. x * x) xs ≤ sum xs * sum xs
 squares-le [] = omega arith
 squares-le (x ∷ xs) =
     let here = sum_by-cons (λ y. y * y) x xs in
-    let whole = sum_by-cons (λ y. y) x xs in
-    let rest = squares-le xs in
-    let wide = ap (λ s. s * s) whole in
-    omega (arith, here, rest, wide)
+    let wide = ap (λ s. s * s) (sum_by-cons (λ y. y) x xs) in
+    omega (arith, here, wide, squares-le xs)
 
 -- the squares so far and the next fit into 128 bits
 pub squares_fit : (xs : List ℕ) (i : ℕ) → i < length xs → sum xs < 2 ^ 64

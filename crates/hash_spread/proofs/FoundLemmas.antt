@@ -1,8 +1,5 @@
 -- What is found of the items of a list, one item after the other.
-use Rattle.std.proofs.Common.{ℕ, ◌≡◌, ◌+◌, ◌<◌, ◌++◌, ◌∷◌, [], List, Option, Some, None, ap, ◌∙◌, get_or, length, map, take, append-nil}
-use Rattle.std.specs.List.{filter_map}
-use Rattle.std.proofs.lemmas.List.{map_more}
-use Rattle.std.proofs.lemmas.List.Elements.{filter_map-append}
+use Rattle.hash_spread.proofs.Common.{ℕ, ◌≡◌, ◌+◌, ◌<◌, ◌++◌, ◌∷◌, [], List, Option, Some, None, ap, ◌∙◌, get_or, length, map, take, append-nil, filter_map, map_more, filter_map-append}
 
 module _ {N X Y : Type 0} (h : X → Option Y) (v : N → X) (xs : List N) (i : ℕ) (d : N) (below : i < length xs) where
   found_more : filter_map h (map v (take (i + 1) xs)) ≡ filter_map h (map v (take i xs)) ++ filter_map h (v (get_or xs i d) ∷ [])

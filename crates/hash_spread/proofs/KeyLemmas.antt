@@ -1,20 +1,13 @@
 -- The keys of a text that is read line by line.
-use Rattle.std.proofs.Common.{◌≡◌, ◌≢◌, ◌<◌, ◌+◌, ◌-◌, ℕ, Bool, true, false, cond, eqb, List, [], ◌∷◌, ◌++◌, Option, Some, None, IfSome, All, length, take, get_or, fold, refl, ap, sym, subst, append-nil, ◌∙◌, arith}
+use Rattle.hash_spread.proofs.Common.{◌≡◌, ◌≢◌, ◌<◌, ◌+◌, ◌-◌, ℕ, Bool, true, false, cond, eqb, List, [], ◌∷◌, ◌++◌, Option, Some, None, IfSome, All, length, take, get_or, fold, refl, ap, sym, append-nil, ◌∙◌, arith, ends_with_byte, strip_last, take_through, Consumes, IsAtEnd, take_all, take_more, All-head, All-tail, All-push, All-same, fold-append, with_text, ReadsFixed, ReadsLine, ReadsLines, ReadsOne, TakesFixed, TakesKeys, TakesLines}
 use Rattle.std.specs.Io.{StopsAt}
-use Rattle.std.specs.Io.BufRead.{ends_with_byte, strip_last, take_through}
-use Rattle.std.specs.Io.KnownBytes.{Consumes, IsAtEnd}
 use Rattle.std.specs.List.{concat}
 use Rattle.std.proofs.KnownBytes.{Consumes-trans}
 use Rattle.std.proofs.lemmas.Bool.{eq-eqb, eqb-true, lt-ltb, and_from, false≢true}
-use Rattle.std.proofs.lemmas.List.{take_all, take_more}
-use Rattle.std.proofs.lemmas.List.Elements.{All-head, All-tail, All-push, All-same}
 use Rattle.std.proofs.lemmas.List.Folds.{concat-append}
-use Rattle.std.proofs.lemmas.List.Sums.{fold-append}
-use Rattle.text_set.specs.Texts.{with_text}
 use Rattle.text_set.specs.Lines.{IsNext, ReadsNext, ReadsNothing}
-use Rattle.text_set.proofs.LinesOfText.{text_of_line, texts_of_line}
+use Rattle.text_set.proofs.LineLemmas.{text_of_line, texts_of_line}
 use Rattle.streams.proofs.RecordLemmas.{first_behind, first_both}
-use Rattle.hash_spread.specs.Keys.{ReadsFixed, ReadsLine, ReadsLines, ReadsOne, TakesFixed, TakesKeys, TakesLines}
 
 -- keys that were read, and behind them more
 takes_both : {keys keys' keys'' : List (List ℕ)} {a b c : Option (List ℕ)} {text more : List ℕ} {read later : List (List ℕ)}
@@ -131,9 +124,7 @@ pub fixed_more : (width : ℕ) (keys keys' keys'' : List (List ℕ)) (a b c : Op
     → (is_one : Bool) → is_one ≡ true → ReadsOne width keys' keys'' b c is_one → TakesFixed width keys keys'' a c
 fixed_more width keys keys' keys'' a b c (read, first, wide) true is (key, second, long) = (
   read ++ key ∷ [],
-  subst (λ text. TakesKeys keys keys'' a c text (read ++ key ∷ []))
-      (sym (concat-append read (key ∷ []) ∙ ap (λ t. concat read ++ t) (append-nil key)))
-      (takes_both first second),
+  rw (concat-append, append-nil) (takes_both first second),
   All-push (λ k. length k ≡ width) read key wide long,
 )
 fixed_more width keys keys' keys'' a b c before false is second = absurd (false≢true is)
@@ -145,12 +136,10 @@ fixed_all width keys keys' keys'' a b c (read, first, wide) false is second = (
   read,
   record {
     takes = record {
-      consumed = subst (Consumes a c) (append-nil (concat read))
-          (Consumes-trans a b c (concat read) [] first.consumed second.takes.consumed);
+      consumed = rw append-nil at (Consumes-trans a b c (concat read) [] first.consumed second.takes.consumed);
       taken = second.takes.taken ∙ first.taken;
     };
-    all = subst (λ t. IfSome a (λ bytes. bytes ≡ t)) (append-nil (concat read))
-        (all_behind a b c (concat read) [] first.consumed second.takes.consumed second.all);
+    all = rw append-nil at (all_behind a b c (concat read) [] first.consumed second.takes.consumed second.all);
   },
   wide,
 )

@@ -1,3 +1,4 @@
+pub mod Common
 pub mod CollisionLemmas
 pub mod CountLemmas
 pub mod FoundLemmas

@@ -1,6 +1,5 @@
 -- The hashes of keys, one by one.
-use Rattle.std.proofs.Common.{◌≡◌, ◌<◌, ℕ, List, [], map, length, get_or, sym, ◌∙◌, arith}
-use Rattle.std.proofs.lemmas.List.{ext_get_or, get_or-map, length-map}
+use Rattle.hash_spread.proofs.Common.{◌≡◌, ◌<◌, ℕ, List, [], map, length, get_or, sym, ◌∙◌, arith, ext_get_or, get_or-map, length-map}
 
 -- these are the hashes, where each stands at the place of its key
 pub hashed_all : (hash : List ℕ → ℕ) (keys : List (List ℕ)) (hashes : List ℕ) → length hashes ≡ length keys

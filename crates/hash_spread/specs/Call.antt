@@ -9,10 +9,11 @@ use Rattle.cli.specs.Call.{Choice, Saying, flag, given, operands, taking, value_
 use Rattle.cli.specs.Numbers.{number_of}
 use Rattle.cli.specs.declared.outcome.Wrong.{Wrong}
 use Rattle.cli.specs.declared.outcome.Wrong.TheVariants.{Own}
-use Rattle.hash_names.specs.Named.{name_of}
-use Rattle.hash_names.specs.declared.table.Kind.{Kind}
-use Rattle.hash_names.specs.declared.table.TheConstants.{KINDS}
-use Rattle.hash_names.specs.declared.table.Kind.TheVariants.{Fnv1a32, Fnv1a64, Djb2, Sdbm, LoseLose, Bricolage, Oaat, Lookup3, Spooky, PassThrough, FxHash, FxHash32, Xxh64, Murmur3At32, SipHash13, Xxh3}
+use Rattle.hash_kinds.specs.Named.{name_of}
+use Rattle.hash_kinds.specs.declared.table.Kind.{Kind}
+use Rattle.hash_kinds.specs.declared.table.TheConstants.{KINDS}
+use Rattle.hash_kinds.specs.declared.table.Kind.TheVariants.{Ported, Xxh64, Murmur3At32, SipHash13, Xxh3}
+use Rattle.hash_names.specs.declared.table.Ported.TheVariants.{Fnv1a32, Fnv1a64, Djb2, Sdbm, LoseLose, Bricolage, Oaat, Lookup3, Spooky, PassThrough, FxHash, FxHash32}
 use Rattle.hash_spread.specs.declared.call.Settings.{Settings}
 use Rattle.hash_spread.specs.declared.keys.Layout.{Layout}
 use Rattle.hash_spread.specs.declared.keys.Layout.TheVariants as layout
@@ -87,7 +88,7 @@ settings_of call = settings_by (given_number (codes "buckets") call) (given_numb
 
 -- the hashes that stand in the table where none is named: the others spread as another does, not at all, or are for files
 abbrev pub usual : List Kind
-usual = Fnv1a32 ∷ Fnv1a64 ∷ Djb2 ∷ Sdbm ∷ LoseLose ∷ Bricolage ∷ Oaat ∷ Lookup3 ∷ Spooky ∷ PassThrough ∷ FxHash ∷ FxHash32 ∷ Xxh64 ∷ Murmur3At32
+usual = Ported Fnv1a32 ∷ Ported Fnv1a64 ∷ Ported Djb2 ∷ Ported Sdbm ∷ Ported LoseLose ∷ Ported Bricolage ∷ Ported Oaat ∷ Ported Lookup3 ∷ Ported Spooky ∷ Ported PassThrough ∷ Ported FxHash ∷ Ported FxHash32 ∷ Xxh64 ∷ Murmur3At32
     ∷ SipHash13 ∷ Xxh3 ∷ []
 
 -- whether a hash has the name, in letters of either case
@@ -114,6 +115,7 @@ unknown_name call = find (λ name. is_none (kind_called name)) (operands call)
 abbrev pub words_of : Misuse → List ℕ
 words_of misuse.NoNumber = codes "invalid number"
 words_of misuse.TwoLayouts = codes "-z does not go with -w"
+words_of misuse.NoHash = codes "keys come from standard input, and there is no hash"
 
 -- and of its own faults
 abbrev pub words_of_fault : NoTable → List ℕ

@@ -1,7 +1,7 @@
 -- The numbers of the table.
 use Rattle.std.specs.Prelude.{ℕ, List, [], ◌∷◌, ◌++◌, Option, Some, None}
-use Rattle.hash_names.specs.declared.table.Kind.{Kind}
-use Rattle.hash_names.specs.Named.{bits_of}
+use Rattle.hash_kinds.specs.declared.table.Kind.{Kind}
+use Rattle.hash_kinds.specs.Named.{bits_of}
 use Rattle.hash_spread.specs.declared.counts.Counts.{Counts}
 use Rattle.hash_spread.specs.declared.counts.Spread.{Spread}
 

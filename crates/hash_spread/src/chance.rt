@@ -35,6 +35,12 @@ pub fn equal_pairs(keys: u64, bits: u32) -> f64 {
     pairs
 }
 
+/// Whether so many equal pairs lie within three standard deviations of chance, or below.
+pub fn is_within(pairs: u128, keys: u64, bits: u32) -> bool {
+    let expected = equal_pairs(keys, bits);
+    nearest(pairs) <= expected + 3.0 * expected.sqrt()
+}
+
 /// The base to that power.
 fn power(base: f64, exponent: u64) -> f64 {
     let mut product = 1.0;

@@ -1,6 +1,7 @@
 //! How evenly hashes spread keys over buckets, and what chance would give: the numbers of the program `spread`.
 #![tactic(auto)]
 
+pub mod advice;
 pub mod call;
 pub mod chance;
 pub mod counts;

@@ -1,13 +1,13 @@
 //! The hashes of keys, by a hasher or by its name.
 ghost use Rattle.std.specs.Prelude.{◌≡◌, All, IfOk, OnOk, length, map};
-ghost use Rattle.hash_names.specs.Named.{hash_of};
+ghost use Rattle.hash_kinds.specs.Named.{hash_of};
 ghost use Rattle.hashers.specs.Text.{IsText};
 ghost use Rattle.hash_spread.specs.Counts.{IsCounts};
 ghost use Rattle.hash_spread.specs.Named.{IsHashed};
 
 use crate::counts::{Counts, counts_of};
 use crate::sizes::Sizes;
-use hash_names::table::{Kind, by_kind};
+use hash_kinds::table::{Kind, by_kind};
 use hash_names::task::HashTask;
 use hashers::laws::{Piecewise, Streamed, hash_of};
 use std::alloc::{AllocError, Global};

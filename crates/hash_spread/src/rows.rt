@@ -1,13 +1,13 @@
 //! The rows of the table.
 ghost use Rattle.std.specs.Prelude.{◌≡◌, ◌++◌, IfOk, OnOk, map};
-ghost use Rattle.hash_names.specs.Named.{hash_of};
+ghost use Rattle.hash_kinds.specs.Named.{hash_of};
 ghost use Rattle.hash_spread.specs.Counts.{IsCounts};
 ghost use Rattle.hash_spread.specs.Table.{row_numbers, spread_numbers};
 
 use crate::counts::{Counts, Spread};
 use crate::named::{Hashed, counts_by};
 use crate::sizes::Sizes;
-use hash_names::table::Kind;
+use hash_kinds::table::Kind;
 use std::alloc::{AllocError, Global};
 
 /// A row of the table.

@@ -43,7 +43,8 @@ fn odd_above(power: u64) -> u64
 pub fn sizes_of(keys: u64, buckets: Option<u64>) -> Sizes
     ensures asked { ForSome buckets (λ asked. 0 < asked → (result.first ≡ asked) × (result.second ≡ None)) }
     ensures power { buckets ≡ None → 0 < keys → keys ≤ 2 ^ 63 → IsNextPowerOfTwo keys result.first }
-    ensures odd { buckets ≡ None → 1 < result.first → result.first < u64.MAX → result.second ≡ Some (result.first + 1) }
+    ensures odd { buckets ≡ None → 1 < result.first → result.first < u64.MAX
+        → result.second ≡ Some (result.first + 1) }
     ensures one { buckets ≡ None → keys ≡ 1 → (result.first ≡ 1) × (result.second ≡ Some 3) }
 {
     match buckets {

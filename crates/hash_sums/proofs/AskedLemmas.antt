@@ -1,28 +1,19 @@
 -- The hash that a call asks for.
-use Rattle.std.proofs.Common.{◌≡◌, ◌&&◌, ◌||◌, not, inl, inr, ℕ, zero, suc, Bool, true, false, if◌then◌else◌, List, [], ◌∷◌, map, fold, codes, Option, Some, None, IsSome, Contains, refl, sym, ap, ◌∙◌, subst, arith}
-use Rattle.std.specs.Char.{to_ascii_lowercase}
-use Rattle.std.proofs.lemmas.Bool.{false≢true, or_left, or_right}
-use Rattle.std.specs.List.{find}
-use Rattle.std.specs.Option.{option_map}
-use Rattle.std.specs.Str.{bytes_eq}
-use lib.Pointwise.{bytes_decides}
-use Rattle.hash_lines.specs.declared.line.LineKind.{LineKind}
-use Rattle.hash_lines.specs.Told.{Tells}
-use Rattle.cli.specs.Call.{Saying, given, value_after, value_of}
+use Rattle.hash_sums.proofs.Common.{◌≡◌, inl, inr, ℕ, zero, suc, Bool, true, false, if◌then◌else◌, List, [], ◌∷◌, map, fold, codes, Option, Some, None, IsSome, Contains, refl, sym, ap, ◌∙◌, subst, arith, option_map, bytes_eq, to_ascii_lowercase, false≢true, or_left, or_right, bytes_decides, LineKind, Tells, Saying, given, value_after, value_of, Opens}
+use Rattle.std.proofs.Common.{find, ◌+◌}
+use Rattle.hash_sums.specs.declared.sums.TheConstants.{UNKEYED}
 use Rattle.cli.specs.Call.Saying.{Gives, Operand, Errs}
-use Rattle.cli.specs.Files.{Opens}
 use Rattle.hash_sums.specs.Checking.{TellsAny}
 use Rattle.hash_sums.specs.Ended.{GivesKeys, HasEndedWell}
 use Rattle.hash_sums.specs.Keys.{AreKeysFor, ArePoly61Keys, MayBeKeys}
 use Rattle.hash_sums.specs.declared.keys.KeyRule.{KeyRule}
 use Rattle.hash_sums.specs.declared.keys.KeyRule.TheVariants.{Any, Poly61}
-use Rattle.hash_sums.specs.declared.outcome.Misuse.TheVariants.{NotWithCheck, OnlyWithCheck, NeedsKeyFile, UnusedKeyFile}
 use Rattle.hash_sums.proofs.NameLemmas.{found_as_told}
-use Rattle.hash_sums.specs.Program.{asked, asks_for, asks_for_keyed, asks_for_poly61, asks_for_siphash24, gives_checking, gives_writing, is_by_name, key_file, key_rule, kinds_under, misuse_of}
+use Rattle.hash_sums.specs.Program.{asked, asks_for, asks_for_keyed, asks_for_poly61, asks_for_siphash24, is_by_name, key_file, key_rule, kinds_under, misuse_of}
 use Rattle.hash_sums.specs.Sums.{is_named, kind_of, kinds, poly61_at_both, siphash24_at, sum_at, sum_by, sum_of, told_at, told_of, Told}
 
 -- one thing alone is there
-only_one : (kind other : LineKind) → Contains (kind ∷ []) other → other ≡ kind
+pub only_one : (kind other : LineKind) → Contains (kind ∷ []) other → other ≡ kind
 only_one kind other (zero, below, is) = sym is
 only_one kind other (suc k, below, is) = absurd (omega (arith, below))
 
@@ -45,11 +36,11 @@ kind_of_named [] name = refl
 kind_of_named (kind ∷ kinds) name = refl
 
 -- by computing
-poly61_found : (keys : ℕ × ℕ) → find (λ told. is_named (codes "poly61") told.name) (kinds (Some keys)) ≡ Some (told_at keys 28)
+poly61_found : (keys : ℕ × ℕ) → find (λ told. is_named (codes "poly61") told.name) (kinds (Some keys)) ≡ Some (told_at keys UNKEYED)
 unfolding sum_at
 poly61_found keys = refl
 
-siphash24_found : (keys : ℕ × ℕ) → find (λ told. is_named (codes "siphash24") told.name) (kinds (Some keys)) ≡ Some (told_at keys 29)
+siphash24_found : (keys : ℕ × ℕ) → find (λ told. is_named (codes "siphash24") told.name) (kinds (Some keys)) ≡ Some (told_at keys (UNKEYED + 1))
 unfolding sum_at
 siphash24_found keys = refl
 
@@ -83,12 +74,7 @@ module _ (opens : Opens) (call : List Saying) (name : List ℕ) (which : ℕ)
 
 value_stays : (name : List ℕ) (call : List Saying) (value : List ℕ) → IsSome (fold (value_after name) (Some value) call)
 value_stays name [] value = refl
-value_stays name (Gives other new ∷ more) value = at (bytes_eq other name) (value_stays name more new) (value_stays name more value)
-  where
-    at : (b : Bool) → IsSome (fold (value_after name) (Some new) more) → IsSome (fold (value_after name) (Some value) more)
-        → IsSome (fold (value_after name) (if b then Some new else Some value) more)
-    at true there here = there
-    at false there here = here
+value_stays name (Gives other new ∷ more) value = grind (arith, value_stays name more new, value_stays name more value)
 value_stays name (Operand word ∷ more) value = value_stays name more value
 value_stays name (Errs misgiven word ∷ more) value = value_stays name more value
 
@@ -97,29 +83,13 @@ has_value : (name : List ℕ) (call : List Saying) (before : Option (List ℕ)) 
     → IsSome (fold (value_after name) before call)
 has_value name [] before gives = absurd (false≢true gives)
 has_value name (Gives other value ∷ more) before gives =
-    at (bytes_eq other name) gives (value_stays name more value) (has_value name more before)
-  where
-    at : (b : Bool) → (b || given name more) ≡ true → IsSome (fold (value_after name) (Some value) more)
-        → (given name more ≡ true → IsSome (fold (value_after name) before more))
-        → IsSome (fold (value_after name) (if b then Some value else before) more)
-    at true so there later = there
-    at false so there later = later so
+    grind (arith, gives, value_stays name more value, has_value name more before)
 has_value name (Operand word ∷ more) before gives = has_value name more before gives
 has_value name (Errs misgiven word ∷ more) before gives = has_value name more before gives
 
 -- a call that asks for a hash under keys, and with which nothing is wrong, gives a key file
 gives_file : (call : List Saying) → misuse_of call ≡ None → asks_for_keyed call ≡ true → given (codes "key-file") call ≡ true
-gives_file call no_misuse asks = at (given (codes "check") call && gives_writing call)
-    (not (given (codes "check") call) && gives_checking call) (asks_for_keyed call) (given (codes "key-file") call) no_misuse asks
-  where
-    at : (one two keyed file : Bool) → (if one then Some NotWithCheck else if two then Some OnlyWithCheck
-        else if keyed && not file then Some NeedsKeyFile else if file && not keyed then Some UnusedKeyFile else None) ≡ None
-        → keyed ≡ true → file ≡ true
-    at true two keyed file is so = cc
-    at false true keyed file is so = cc
-    at false false keyed true is so = refl
-    at false false true false is so = cc
-    at false false false false is so = absurd (false≢true so)
+gives_file call no_misuse asks = grind (arith, no_misuse, asks)
 
 -- the keys under which such a call ended well are those in its key file
 keys_given : (opens : Opens) (call : List Saying) (rule : KeyRule) → misuse_of call ≡ None
@@ -140,9 +110,7 @@ not_both call asks = at (asked call) asks
   where
     at : (word : Option (List ℕ)) → is_by_name (codes "poly61") word ≡ true → is_by_name (codes "siphash24") word ≡ false
     at None is = refl
-    at (Some word) is =
-        ap (λ w. bytes_eq (map to_ascii_lowercase (codes "siphash24")) w)
-        (sym ((bytes_decides (map to_ascii_lowercase (codes "poly61")) (map to_ascii_lowercase word)).0 is))
+    at (Some word) is = rw (← (bytes_decides (map to_ascii_lowercase (codes "poly61")) (map to_ascii_lowercase word)).0 is)
 
 pub under_poly61 : (opens : Opens) (call : List Saying) → asks_for_poly61 call ≡ true → (ended : HasEndedWell opens call)
     → (keys : ℕ × ℕ) × GivesKeys opens call keys × ArePoly61Keys keys × (sum_by ended.kind ≡ poly61_at_both keys)
@@ -150,7 +118,7 @@ unfolding sum_at
 under_poly61 opens call asks ended =
     let (keys, are, gives, fit) = keys_given opens call Poly61 ended.no_misuse (or_left _ _ asks) ended.keys
     (subst (λ (b : Bool). AreKeysFor (if b then Any else Poly61) opens (key_file call) ended.keys) (not_both call asks) ended.are_keys) in
-    (keys, gives, fit, sum_is opens call (codes "poly61") 28 poly61_found asks ended keys are)
+    (keys, gives, fit, sum_is opens call (codes "poly61") UNKEYED poly61_found asks ended keys are)
 
 pub under_siphash24 : (opens : Opens) (call : List Saying) → asks_for_siphash24 call ≡ true → (ended : HasEndedWell opens call)
     → (keys : ℕ × ℕ) × GivesKeys opens call keys × (sum_by ended.kind ≡ siphash24_at keys)
@@ -158,4 +126,4 @@ unfolding sum_at
 under_siphash24 opens call asks ended =
     let (keys, are, gives, any) = keys_given opens call (key_rule call) ended.no_misuse (or_right _ _ asks)
     ended.keys ended.are_keys in
-    (keys, gives, sum_is opens call (codes "siphash24") 29 siphash24_found asks ended keys are)
+    (keys, gives, sum_is opens call (codes "siphash24") (UNKEYED + 1) siphash24_found asks ended keys are)

@@ -1,7 +1,5 @@
 -- Each hash of the table is below 2 to the power of its bits, and each of 128 bits is two words.
-use Rattle.std.proofs.Common.{ℕ, zero, suc, ◌*◌, ◌/◌, ◌%◌, ◌^◌, ◌<◌, Bool, true, false, if◌then◌else◌, nat_lt, List, [], ◌∷◌, length, slice_index, fold, map, take, drop, All, refl, sym, arith, lit<, subst}
-use Rattle.std.proofs.lemmas.List.Elements.{All-drop, All-head, All-tail, All-take}
-use Rattle.std.proofs.lemmas.Nat.{mod_below, pow_pos, xor_lt}
+use Rattle.hash_sums.proofs.Common.{ℕ, zero, suc, ◌*◌, ◌/◌, ◌%◌, ◌^◌, ◌<◌, Bool, true, false, if◌then◌else◌, nat_lt, List, [], ◌∷◌, length, slice_index, fold, map, take, drop, All, refl, sym, arith, lit<, subst, All-drop, All-head, All-tail, All-take, mod_below, pow_pos, xor_lt, AreTwoWords, lookup3_answer, lookup3_from, lookup3-AreTwoWords}
 use Rattle.hash_words.specs.Words.{le}
 use Rattle.hash_words.specs.Pieces.{pieces, le_words}
 use Rattle.hash_words.proofs.ByteLemmas.{le-few}
@@ -20,8 +18,6 @@ use Rattle.hash_rounds.specs.Steps.{AreSteps}
 use Rattle.hash_rounds.proofs.BlockLemmas.{spooky_blocks-words}
 use Rattle.hash_rounds.proofs.RoundLemmas.{AreFourWords, short_end-steps, stepped-AreFourWords}
 use Rattle.hash_rounds.proofs.StepLemmas.{apply-words}
-use Rattle.hash_jenkins.specs.Lookup3.{AreTwoWords, lookup3_answer, lookup3_from}
-use Rattle.hash_jenkins.specs.Lookup3Laws.{lookup3-AreTwoWords}
 use Rattle.hash_jenkins.specs.Spooky as of
 use Rattle.hash_jenkins.specs.SpookyLaws.{long_start-words}
 use Rattle.jenkins_laws.proofs.Zeros.{add_at-AreFourWords, short_start-AreFourWords}
@@ -40,9 +36,17 @@ use Rattle.hash_xxh3.specs.Xxh3.{xxh3_64_of}
 
 -- ---- words
 
-either : (w : ℕ) (b : Bool) (x y : ℕ) → x < 2 ^ w → y < 2 ^ w → (if b then x else y) < 2 ^ w
-either w true x y first second = first
-either w false x y first second = second
+-- what holds of both holds of either
+either : {A : Type 0} (P : A → Type 0) (b : Bool) {x y : A} → P x → P y → P (if b then x else y)
+either P true first second = first
+either P false first second = second
+
+abbrev IsWord : ℕ → Type 0
+IsWord n = n < 2 ^ 64
+
+-- two words
+abbrev AreBoth : ℕ × ℕ → Type 0
+AreBoth words = IsWord words.0 × IsWord words.1
 
 pub xxh32_mix : (h : ℕ) → xxh32.last_mix h < 2 ^ 32
 unfolding xxh32.last_mix
@@ -70,89 +74,31 @@ length_mix_below len h = xorshift-lt 64 _ 28 (mod_below _ (2 ^ 64) (lit< tt))
 
 -- ---- XXH3
 
-none_below : (seed : ℕ) → of_none seed < 2 ^ 64
-unfolding of_none
-none_below seed = avalanche_64_below _
-
-sixteen_below : (seed : ℕ) (text : List ℕ) → of_sixteen seed text < 2 ^ 64
-unfolding of_sixteen
-sixteen_below seed text = avalanche_below _
-
-of_128_below : (seed : ℕ) (text : List ℕ) → of_128 seed text < 2 ^ 64
-unfolding of_128
-of_128_below seed text = avalanche_below _
-
-of_240_below : (seed : ℕ) (text : List ℕ) → of_240 seed text < 2 ^ 64
-unfolding of_240
-of_240_below seed text = avalanche_below _
-
-merge_below : (words secret : List ℕ) (at start : ℕ) → long.merge words secret at start < 2 ^ 64
-unfolding long.merge
-merge_below words secret at start = avalanche_below _
-
-long_below : (secret text : List ℕ) → long.long_under secret text < 2 ^ 64
-unfolding long.long_under long.end_long
-long_below secret text = merge_below _ secret 11 _
-
 pub xxh3_below : (seed : ℕ) (text : List ℕ) → xxh3_64_of seed text < 2 ^ 64
-unfolding xxh3_64_of
+unfolding xxh3_64_of of_none of_sixteen of_128 of_240 long.long_under long.end_long long.merge
 xxh3_below seed text =
     let len = length text in
-    either 64 (nat_lt len 241) _ _
-    (either 64 (nat_lt len 17) _ _
-    (either 64 (nat_lt len 1) _ _ (none_below seed)
-    (either 64 (nat_lt len 4) _ _ (avalanche_64_below _)
-    (either 64 (nat_lt len 9) _ _ (length_mix_below len _) (sixteen_below seed text))))
-    (either 64 (nat_lt len 129) _ _ (of_128_below seed text) (of_240_below seed text)))
-    (long_below (long.secret_of seed) text)
-
--- two words
-abbrev AreBoth : ℕ × ℕ → Type 0
-AreBoth words = (words.0 < 2 ^ 64) × (words.1 < 2 ^ 64)
-
-either_both : (b : Bool) (x y : ℕ × ℕ) → AreBoth x → AreBoth y → AreBoth (if b then x else y)
-either_both true x y first second = first
-either_both false x y first second = second
-
-wide_none_below : (seed : ℕ) → AreBoth (wide.wide_none seed)
-unfolding wide.wide_none
-wide_none_below seed = (avalanche_64_below _, avalanche_64_below _)
-
-wide_words_below : (product : ℕ) → AreBoth (wide.wide_words product)
-unfolding wide.eight_low
-wide_words_below product = (xorshift-lt 64 _ 28 (mod_below _ (2 ^ 64) (lit< tt)), avalanche_below _)
-
-sixteen_end_below : (low high : ℕ) → AreBoth (wide.sixteen_end low high)
-unfolding wide.sixteen_end
-sixteen_end_below low high = (avalanche_below _, avalanche_below _)
-
-wide_end_below : (seed len : ℕ) (sums : ℕ × ℕ) → AreBoth (wide.wide_end seed len sums)
-unfolding wide.wide_end
-wide_end_below seed len sums = (avalanche_below _, mod_below _ (2 ^ 64) (lit< tt))
-
-wide_128_below : (seed : ℕ) (text : List ℕ) → AreBoth (wide.wide_128 seed text)
-unfolding wide.wide_128
-wide_128_below seed text = wide_end_below seed (length text) _
-
-wide_240_below : (seed : ℕ) (text : List ℕ) → AreBoth (wide.wide_240 seed text)
-unfolding wide.wide_240
-wide_240_below seed text = wide_end_below seed (length text) _
-
-wide_long_below : (secret text : List ℕ) → AreBoth (wide.wide_under secret text)
-unfolding wide.wide_under wide.wide_end_long
-wide_long_below secret text = (merge_below _ secret 11 _, merge_below _ secret 117 _)
+    either IsWord (nat_lt len 241)
+    (either IsWord (nat_lt len 17)
+    (either IsWord (nat_lt len 1) (avalanche_64_below _)
+    (either IsWord (nat_lt len 4) (avalanche_64_below _)
+    (either IsWord (nat_lt len 9) (length_mix_below len _) (avalanche_below _))))
+    (either IsWord (nat_lt len 129) (avalanche_below _) (avalanche_below _)))
+    (avalanche_below _)
 
 pub xxh128_below : (seed : ℕ) (text : List ℕ) → AreBoth (wide.xxh3_128_of seed text)
-unfolding wide.xxh3_128_of
+unfolding wide.xxh3_128_of wide.wide_none wide.eight_low wide.sixteen_end wide.wide_128 wide.wide_240 wide.wide_end wide.wide_under
+    wide.wide_end_long long.merge
 xxh128_below seed text =
     let len = length text in
-    either_both (nat_lt len 241) _ _
-    (either_both (nat_lt len 17) _ _
-    (either_both (nat_lt len 1) _ _ (wide_none_below seed)
-    (either_both (nat_lt len 4) _ _ (avalanche_64_below _, avalanche_64_below _)
-    (either_both (nat_lt len 9) _ _ (wide_words_below _) (sixteen_end_below _ _))))
-    (either_both (nat_lt len 129) _ _ (wide_128_below seed text) (wide_240_below seed text)))
-    (wide_long_below (long.secret_of seed) text)
+    either AreBoth (nat_lt len 241)
+    (either AreBoth (nat_lt len 17)
+    (either AreBoth (nat_lt len 1) (avalanche_64_below _, avalanche_64_below _)
+    (either AreBoth (nat_lt len 4) (avalanche_64_below _, avalanche_64_below _)
+    (either AreBoth (nat_lt len 9) (xorshift-lt 64 _ 28 (mod_below _ (2 ^ 64) (lit< tt)), avalanche_below _)
+    (avalanche_below _, avalanche_below _))))
+    (either AreBoth (nat_lt len 129) (avalanche_below _, mod_below _ (2 ^ 64) (lit< tt)) (avalanche_below _, mod_below _ (2 ^ 64) (lit< tt))))
+    (avalanche_below _, avalanche_below _)
 
 -- ---- MurmurHash3 of 128 bits
 
@@ -177,22 +123,20 @@ twelve_in text =
     (apply-words 64 12 rounds.spooky_end_steps d s (subst (λ n. AreSteps 64 n 12 rounds.spooky_end_steps) (sym start.0) long_end-steps)
     start.1).1
 
-one_of : (b : Bool) (x y : List ℕ) (i : ℕ) → slice_index x i < 2 ^ 64 → slice_index y i < 2 ^ 64
-    → slice_index (if b then x else y) i < 2 ^ 64
-one_of true x y i first second = first
-one_of false x y i first second = second
-
 pub spooky_below : (text : List ℕ) → AreBoth (of.spooky 0 0 text)
 spooky_below text =
     let start = short_start-AreFourWords 0 0 text (lit< tt) (lit< tt) in
     let short = (short_end_in _ (add_at-AreFourWords _ 3 (length text * 2 ^ 56) start)).1 in
-    let b = nat_lt (length text) 192 in
-    (one_of b _ _ 0 (short 0) (twelve_in text 0), one_of b _ _ 1 (short 1) (twelve_in text 1))
+    let b = nat_lt (length text) 192 in (
+      either (λ (words : List ℕ). IsWord (slice_index words 0)) b (short 0) (twelve_in text 0),
+      either (λ (words : List ℕ). IsWord (slice_index words 1)) b (short 1) (twelve_in text 1),
+    )
 
 pub spooky_v1_below : (text : List ℕ) → (of.spooky_v1 0 0 text).0 < 2 ^ 64
 spooky_v1_below text =
     let start = short_start-AreFourWords 0 0 text (lit< tt) (lit< tt) in
-    one_of (nat_lt (length text) 192) _ _ 0 ((short_end_in _ start).1 0) (twelve_in text 0)
+    either (λ (words : List ℕ). IsWord (slice_index words 0)) (nat_lt (length text) 192)
+    ((short_end_in _ start).1 0) (twelve_in text 0)
 
 -- ---- lookup3
 

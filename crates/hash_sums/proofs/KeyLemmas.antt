@@ -1,9 +1,7 @@
 -- Checks by two keys.
-use Rattle.std.proofs.Common.{◌≡◌, Bool, ℕ, ◌+◌, ◌*◌, ◌%◌, ◌^◌, ◌<◌, List, ◌++◌, Option, Some, None, Result, sym, ap, ◌∙◌, arith, lit<, mod-lt, append-nil, subst}
-use Rattle.std.proofs.Math.Nat.{mod-eq_of_lt}
-use Rattle.std.specs.declared.io.Error.{Error}
+use Rattle.hash_sums.proofs.Common.{◌≡◌, Bool, ℕ, ◌+◌, ◌*◌, ◌%◌, ◌^◌, ◌<◌, List, ◌++◌, Option, Some, None, Result, sym, ap, ◌∙◌, arith, lit<, mod-lt, subst, mod-eq_of_lt, Error, prime61, poly_hash}
+use Rattle.std.proofs.Common.{append-nil}
 use Rattle.hashers.specs.Text.{IsText}
-use Rattle.hash_keyed.specs.Poly61.{prime61, poly_hash}
 use Rattle.hash_keyed.specs.Poly61State.{poly61, MeetAtBoth}
 use Rattle.hash_sums.specs.declared.check.Verdict.TheVariants.{Same}
 use Rattle.hash_sums.specs.Checking.{IsVerdict}

@@ -1,32 +1,21 @@
 -- What a check sees.
-use Rattle.std.proofs.Common.{◌≡◌, ◌≢◌, ℕ, Bool, true, false, ◌&&◌, nat_eq, List, Option, Some, Result, Ok, Err, if◌then◌else◌, refl, sym, ap, ◌∙◌}
-use Rattle.std.proofs.lemmas.Bool.{eqb-true}
-use Rattle.std.specs.IoError.{error_kind}
-use Rattle.std.specs.declared.io.Error.{Error}
+use Rattle.hash_sums.proofs.Common.{◌≡◌, ◌≢◌, arith, ℕ, Bool, ◌&&◌, nat_eq, List, Option, Some, Result, Ok, Err, if◌then◌else◌, refl, sym, ◌∙◌, nat_tests, error_kind, Error, Opens, Kind, Ported, Fnv1a32, name_of, read_of}
 use Rattle.hashers.specs.Text.{IsText}
 use Rattle.hash_sums.specs.declared.check.Verdict.TheVariants.{Same, Different, Unread, Missing}
 use Rattle.hash_sums.specs.declared.sum.Unsummed.TheVariants.{Unhashed, Unopened}
 use Rattle.hash_sums.specs.Checking.{is_not_found, IsVerdict}
-use Rattle.cli.specs.Files.{Opens}
 use Rattle.hash_sums.specs.Files.{ReadsFile}
 use Rattle.hash_sums.specs.Laws.{NeverPasses}
-use Rattle.hash_names.specs.declared.table.Kind.{Kind}
-use Rattle.hash_names.specs.declared.table.Kind.TheVariants.{Fnv1a32}
-use Rattle.hash_names.specs.Named.{kind_named, name_of, read_of}
+use Rattle.hash_kinds.specs.Named.{kind_named}
 use Rattle.hash_sums.specs.Sums.{number_named}
 
 -- a number that is said to be the same is the same
 same_number : (told number : ℕ) → (if nat_eq number told then Same else Different) ≡ Same → number ≡ told
-same_number told number says = at (nat_eq number told) refl
-  where
-    at : (b : Bool) → nat_eq number told ≡ b → number ≡ told
-    at true is = eqb-true number told is
-    at false is = let other : Different ≡ Same = sym (ap (λ b. if b then Same else Different) is) ∙ says in cc
+same_number told number says = grind (arith, nat_tests, says)
 
 -- a file that was not opened is not the same
 not_same : (missing : Bool) → (if missing then Missing else Unread) ≡ Same → ⊥
-not_same true says = cc
-not_same false says = cc
+not_same missing says = grind (arith, says)
 
 -- a hash that tells the texts apart
 pub never_passes : (opens : Result (Option (List ℕ)) Error → Type 0) (hash : List ℕ → ℕ) (Changed : (first second : List ℕ) → Type 0)
@@ -52,7 +41,7 @@ named_never_passes opens name hash Changed named apart =
 -- each kind is the hash of its name, row by row
 pub row_is : (kind : Kind) → number_named (name_of kind) ≡ Some (read_of kind)
 unfolding number_named kind_named
-row_is Fnv1a32 = refl
+row_is (Ported Fnv1a32) = refl
 row_is kind = refl
 
 pub kind_never_passes : {F : Type 0} (opens : F → Opens) (kind : Kind) (Changed : (first second : List ℕ) → Type 0)

@@ -1,40 +1,20 @@
 -- Lists whose lines are checked.
-use Rattle.std.proofs.Common.{◌≡◌, inl, inr, ℕ, ◌<◌, ◌==◌, Bool, true, false, cond, List, [], ◌∷◌, ◌++◌, length, Option, Some, None, Ok, Err, refl, ap, sym, ◌∙◌, subst, append_assoc, append-nil, arith}
-use Rattle.std.proofs.KnownBytes.{Keeps-refl}
-use Rattle.std.proofs.lemmas.List.Sums.{fold-append}
+use Rattle.hash_sums.proofs.Common.{◌≡◌, inl, inr, ℕ, true, List, [], ◌∷◌, ◌++◌, length, Option, Some, None, Ok, Err, refl, ap, sym, ◌∙◌, subst, arith, Keeps-refl, nat_tests, fold-append, IsAtEnd, LineKind, Failure, Nothing, Opens, lines_by, ReadsNext}
+use Rattle.std.proofs.Common.{append_assoc, append-nil}
 use Rattle.std.specs.Io.BufRead.{drop_through, take_through}
-use Rattle.std.specs.Io.KnownBytes.{IsAtEnd}
-use Rattle.std.specs.List.{onto_first}
-use Rattle.hash_lines.specs.declared.line.LineKind.{LineKind}
 use Rattle.hash_sums.specs.declared.check.LineCheck.{LineCheck}
 use Rattle.hash_sums.specs.declared.check.Checking.{Checking}
 use Rattle.hash_sums.specs.declared.check.Counts.{Counts}
-use Rattle.streams.specs.declared.failure.Failure.{Failure}
-use Rattle.streams.specs.declared.failure.Nothing.{Nothing}
 use Rattle.hash_sums.specs.Checking.{counted}
-use Rattle.cli.specs.Files.{Opens}
 use Rattle.hash_sums.specs.Lists.{counts_of, said_of, uncounted, AreFirstLines, AreLines, EndsLine, EndsList, IsLineCheckOf}
-use Rattle.text_set.specs.Lines.{lines_by, ReadsNext}
 use Rattle.hash_sums.specs.Told.{AreTold}
-use Rattle.hash_sums.proofs.ToldLemmas.{told_more, told_start, torn_kept, torn_within}
+use Rattle.hash_sums.proofs.ToldLemmas.{told_next, told_start, torn_kept, torn_within}
 
 -- the first line of a text, and the lines of the rest
 next_first : (byte : ℕ) (text : List ℕ)
     → lines_by 10 (byte ∷ text) ≡ take_through 10 (byte ∷ text) ∷ lines_by 10 (drop_through 10 (byte ∷ text))
-next_first byte [] = at (byte == 10)
-  where
-    at : (b : Bool) → cond b ((byte ∷ []) ∷ []) ((byte ∷ []) ∷ [])
-        ≡ (cond b (byte ∷ []) (byte ∷ [])) ∷ lines_by 10 (cond b [] [])
-    at true = refl
-    at false = refl
-next_first byte (next ∷ text) = at (ap (onto_first byte) (next_first next text)) (byte == 10)
-  where
-    at : onto_first byte (lines_by 10 (next ∷ text))
-        ≡ (byte ∷ take_through 10 (next ∷ text)) ∷ lines_by 10 (drop_through 10 (next ∷ text))
-        → (b : Bool) → cond b ((byte ∷ []) ∷ lines_by 10 (next ∷ text)) (onto_first byte (lines_by 10 (next ∷ text)))
-        ≡ (cond b (byte ∷ []) (byte ∷ take_through 10 (next ∷ text))) ∷ lines_by 10 (cond b (next ∷ text) (drop_through 10 (next ∷ text)))
-    at later true = refl
-    at later false = later
+next_first byte [] = grind (arith, nat_tests)
+next_first byte (next ∷ text) = grind (arith, nat_tests, next_first next text)
 
 -- no lines come first
 pub no_lines : (held : Option (List ℕ)) → AreFirstLines held [] held
@@ -46,10 +26,7 @@ pub lines_more : (held here left : Option (List ℕ)) (lines : List (List ℕ)) 
     → ReadsNext 10 here left line → AreFirstLines held (lines ++ line ∷ []) left
 lines_more None here left lines line are next = tt
 lines_more (Some text) None left lines line (rest, is, are) next = cc
-lines_more (Some text) (Some []) left lines line (rest, is, are) next = absurd (no_line line next.next.0 next.some)
-  where
-    no_line : (line : List ℕ) → line ≡ [] → 0 < length line → ⊥
-    no_line line is some = let none : 0 < 0 = subst (λ l. 0 < length l) is some in omega (arith, none)
+lines_more (Some text) (Some []) left lines line (rest, is, are) next = absurd (omega (arith, next.some, ap length next.next.0))
 lines_more (Some text) (Some (byte ∷ more)) left lines line (rest, is, are) next =
     let same : rest ≡ byte ∷ more = cc in (
       drop_through 10 (byte ∷ more),
@@ -91,8 +68,8 @@ so_far_more kinds checking opens list left here left' written between written' c
       ls ++ line ∷ [],
       lines_more left here left' ls line are next,
       told ++ (line, came) ∷ [],
-      told_more (λ l. l.0) (IsLineCheckOf kinds checking opens list) (said_of checking) (λ l. true) ls told written between written' true (line, came)
-          so_far (subst (λ t. IsLineCheckOf kinds checking opens list (t, came)) same is_came) appends,
+      told_next (λ l. l.0) (IsLineCheckOf kinds checking opens list) (said_of checking) (λ l. true) ls _ told written between written' true true
+          (line, came) so_far (subst (λ t. IsLineCheckOf kinds checking opens list (t, came)) same is_came) appends refl refl,
       more ∙ ap (λ n. counted n came) counts_are
           ∙ sym (fold-append (λ (n : Counts) (l : List ℕ × LineCheck). counted n l.1) uncounted told ((line, came) ∷ [])),
     )

@@ -1,12 +1,6 @@
 -- Each hash that a line can tell is found by its name, and has the width of its number.
-use Rattle.std.proofs.Common.{ℕ, zero, suc, ◌≡◌, ◌<◌, Bool, true, false, if◌then◌else◌, List, [], ◌∷◌, length, map, Option, Some, None, Contains, refl, sym, ap, ◌∙◌, subst, arith}
-use Rattle.std.specs.Char.{to_ascii_lowercase}
-use Rattle.std.specs.List.{AllByRecursion, find}
-use Rattle.std.specs.Str.{bytes_eq}
-use lib.Pointwise.{bytes_decides}
-use Rattle.std.specs.Option.{option_map, unwrap_or}
-use Rattle.std.proofs.lemmas.List.{get_or-map, length-map}
-use Rattle.hash_lines.specs.declared.line.LineKind.{LineKind}
+use Rattle.hash_sums.proofs.Common.{ℕ, ◌≡◌, ◌<◌, true, List, [], ◌∷◌, length, map, Option, Some, None, Contains, refl, sym, ap, ◌∙◌, subst, arith, bytes_eq, option_map, unwrap_or, to_ascii_lowercase, AllByRecursion, bytes_decides, get_or-map, length-map, All-contains, All-from_recursion, LineKind}
+use Rattle.std.specs.List.{find}
 use Rattle.hash_sums.specs.Sums.{is_named, kind_of, kinds, sum_at, told_of, width_in, Told}
 
 -- the hash of that name, in letters of either case
@@ -17,9 +11,7 @@ abbrev IsFound : List Told → Told → Type 0
 IsFound hashes hash = of_name hash.name hashes ≡ Some hash
 
 at_contained : (P : Told → Type 0) (hashes : List Told) → AllByRecursion P hashes → (hash : Told) → Contains hashes hash → P hash
-at_contained P [] all hash (k, below, is) = absurd (omega (arith, below))
-at_contained P (first ∷ more) all hash (zero, below, is) = subst P is all.0
-at_contained P (first ∷ more) all hash (suc k, below, is) = at_contained P more all.1 hash (k, omega (arith, below), is)
+at_contained P hashes all hash has = All-contains P hashes hash (All-from_recursion P hashes all) has
 
 -- by computing
 names_are_found : (keys : Option (ℕ × ℕ)) → AllByRecursion (IsFound (kinds keys)) (kinds keys)
@@ -31,13 +23,7 @@ names_are_found (Some keys) = (refl, (refl, (refl, (refl, (refl, (refl, (refl, (
 pub found_as_told : (name : List ℕ) (told : List LineKind)
     → option_map told_of (find (λ kind. is_named name kind.name.now) told) ≡ of_name name (map told_of told)
 found_as_told name [] = refl
-found_as_told name (kind ∷ more) = at (is_named name kind.name.now) (found_as_told name more)
-  where
-    at : (b : Bool) → option_map told_of (find (λ k. is_named name k.name.now) more) ≡ of_name name (map told_of more)
-        → option_map told_of (if b then Some kind else find (λ k. is_named name k.name.now) more)
-        ≡ (if b then Some (told_of kind) else of_name name (map told_of more))
-    at true rest = refl
-    at false rest = rest
+found_as_told name (kind ∷ more) = grind (arith, found_as_told name more)
 
 pub some_same : {X : Type 0} {x y : X} → Some x ≡ Some y → x ≡ y
 some_same {x = x} is = ap (λ o. unwrap_or o x) is

@@ -1,130 +1,60 @@
 -- Lists that pass.
-use Rattle.std.proofs.Common.{◌≡◌, inl, inr, ◌⊎◌, ℕ, ◌<◌, ◌≤◌, suc, zero-lt-suc, arith, Bool, true, false, not, ◌&&◌, nat_eq, nat_lt, if◌then◌else◌, List, [], ◌∷◌, length, Option, Ok, All, refl, sym, ap, ◌∙◌, subst, slice_index_or}
-use Rattle.std.specs.List.{fold, Any}
-use Rattle.std.proofs.lemmas.Bool.{and_parts, not-true, eqb-true, ltb-true, ltb-false}
-use Rattle.std.proofs.lemmas.List.Elements.{All-cons, All-nil, All-push}
-use Rattle.hash_lines.specs.declared.line.LineKind.{LineKind}
+use Rattle.hash_sums.proofs.Common.{◌≡◌, inl, inr, ◌⊎◌, ℕ, ◌<◌, suc, zero-lt-suc, arith, Bool, true, false, ◌&&◌, nat_lt, List, [], ◌∷◌, length, Option, Ok, All, refl, sym, ap, ◌∙◌, subst, fold, Any, nat_tests, and_parts, All-cons, All-nil, All-push, LineKind, Opens}
 use Rattle.hash_sums.specs.declared.check.LineCheck.{LineCheck}
-use Rattle.hash_sums.specs.declared.check.LineCheck.TheVariants.{Improper, Checked}
 use Rattle.hash_sums.specs.declared.check.Checking.{Checking}
 use Rattle.hash_sums.specs.declared.check.Counts.{Counts}
-use Rattle.hash_sums.specs.declared.check.Verdict.TheVariants.{Same, Different, Unread, Unkeyed}
-use Rattle.hash_sums.specs.Checking.{counted, one_more, passes}
-use Rattle.cli.specs.Files.{Opens}
+use Rattle.hash_sums.specs.Checking.{counted, passes}
 use Rattle.hash_sums.specs.Lists.{counts_of, uncounted, AreLines, AreListed, EndsListOf}
 use Rattle.hash_sums.specs.Lists.AreListed.{next_list, no_list}
 use Rattle.hash_sums.specs.Passed.{fails, is_same, HasPassed}
 
--- one of some is one of more
-Any-later : {X : Type 0} (P : X → Type 0) (x : X) (xs : List X) → Any P xs → Any P (x ∷ xs)
-Any-later P x xs (k, y, below, is, holds) = (suc k, y, omega (arith, below), is, holds)
+-- the counts behind others
+abbrev after : Counts → List (List ℕ × LineCheck) → Counts
+after counts lines = fold (λ c line. counted c line.1) counts lines
 
-Any-first : {X : Type 0} (P : X → Type 0) (x : X) (xs : List X) → P x → Any P (x ∷ xs)
-Any-first P x xs holds = (0, x, zero-lt-suc (length xs), refl, holds)
+-- no line is counted that fails
+abbrev NoneCounted : (strict : Bool) → Counts → Type 0
+NoneCounted strict counts =
+    (counts.different ≡ 0) × (counts.unread ≡ 0) × (counts.unkeyed ≡ 0) × ((strict && nat_lt 0 counts.improper) ≡ false)
 
--- a count that goes up at some of what comes of lines
-module _ (count : Counts → ℕ) (counts_it : LineCheck → Bool)
-    (step : (counts : Counts) (came : LineCheck) → count (counted counts came) ≡ (if counts_it came then one_more (count counts) else count counts)) where
-  abbrev after : Counts → List (List ℕ × LineCheck) → ℕ
-  after counts lines = count (fold (λ c line. counted c line.1) counts lines)
+-- a count never goes down, and goes up at a line that fails
+none_before : (strict : Bool) (counts : Counts) (came : LineCheck) → NoneCounted strict (counted counts came)
+    → (fails strict came ≡ false) × NoneCounted strict counts
+none_before strict counts came none = grind (arith, nat_tests, none)
 
-  -- it never goes down
-  stays_0 : (n : ℕ) (b : Bool) → (if b then one_more n else n) ≡ 0 → (n ≡ 0) × (b ≡ false)
-  stays_0 n true is = absurd (omega (arith, is))
-  stays_0 n false is = (is, refl)
+none_fails : (strict : Bool) (counts : Counts) (lines : List (List ℕ × LineCheck)) → NoneCounted strict (after counts lines)
+    → All (λ line. fails strict line.1 ≡ false) lines × NoneCounted strict counts
+none_fails strict counts [] none = (All-nil (λ line. fails strict line.1 ≡ false), none)
+none_fails strict counts (line ∷ lines) none =
+    let (later, still) = none_fails strict (counted counts line.1) lines none in
+    let (this, before) = none_before strict counts line.1 still in
+    (All-cons (λ l. fails strict l.1 ≡ false) line lines this later, before)
 
-  pub none_counted : (counts : Counts) (lines : List (List ℕ × LineCheck)) → after counts lines ≡ 0
-      → (count counts ≡ 0) × All (λ line. counts_it line.1 ≡ false) lines
-  none_counted counts [] is = (is, All-nil (λ line. counts_it line.1 ≡ false))
-  none_counted counts (line ∷ lines) is =
-      let (still, others) = none_counted (counted counts line.1) lines is in
-      let (before, this) = stays_0 (count counts) (counts_it line.1) (sym (step counts line.1) ∙ still) in
-      (before, All-cons (λ l. counts_it l.1 ≡ false) line lines this others)
+same_before : (counts : Counts) (came : LineCheck) → 0 < (counted counts came).same → (0 < counts.same) ⊎ (is_same came ≡ true)
+same_before counts came some = grind (arith, some)
 
-  grew : (n : ℕ) (b : Bool) → 0 < (if b then one_more n else n) → (0 < n) ⊎ (b ≡ true)
-  grew n true up = inr refl
-  grew n false up = inl up
-
-  pub some_counted : (counts : Counts) (lines : List (List ℕ × LineCheck)) → 0 < after counts lines
-      → (0 < count counts) ⊎ Any (λ line. counts_it line.1 ≡ true) lines
-  some_counted counts [] up = inl up
-  some_counted counts (line ∷ lines) up = sort (some_counted (counted counts line.1) lines up)
-    where
-      this : (0 < count counts) ⊎ (counts_it line.1 ≡ true) → (0 < count counts) ⊎ Any (λ l. counts_it l.1 ≡ true) (line ∷ lines)
-      this (inl before) = inl before
-      this (inr is) = inr (Any-first (λ l. counts_it l.1 ≡ true) line lines is)
-
-      sort : (0 < count (counted counts line.1)) ⊎ Any (λ l. counts_it l.1 ≡ true) lines
-          → (0 < count counts) ⊎ Any (λ l. counts_it l.1 ≡ true) (line ∷ lines)
-      sort (inl more) = this (grew (count counts) (counts_it line.1) (subst (λ n. 0 < n) (step counts line.1) more))
-      sort (inr later) = inr (Any-later (λ l. counts_it l.1 ≡ true) line lines later)
-
--- which count goes up at what
-abbrev is_improper : LineCheck → Bool
-is_improper Improper = true
-is_improper came = false
-
-abbrev is_different : LineCheck → Bool
-is_different (Checked entry Different) = true
-is_different came = false
-
-abbrev is_unread : LineCheck → Bool
-is_unread (Checked entry Unread) = true
-is_unread came = false
-
-abbrev is_unkeyed : LineCheck → Bool
-is_unkeyed (Checked entry Unkeyed) = true
-is_unkeyed came = false
-
-abbrev Steps : (count : Counts → ℕ) (test : LineCheck → Bool) → Counts → LineCheck → Type 0
-Steps count test counts came = count (counted counts came) ≡ (if test came then one_more (count counts) else count counts)
-
-step : (counts : Counts) (came : LineCheck) → Steps (λ c. c.improper) is_improper counts came × Steps (λ c. c.different) is_different counts came
-    × Steps (λ c. c.unread) is_unread counts came × Steps (λ c. c.unkeyed) is_unkeyed counts came × Steps (λ c. c.same) is_same counts came
-step counts (Checked entry Same) = (refl, refl, refl, refl, refl)
-step counts came = (refl, refl, refl, refl, refl)
-
--- what is of none of these sorts does not fail
-well : (strict : Bool) (came : LineCheck) → (strict && is_improper came) ≡ false → is_different came ≡ false → is_unread came ≡ false
-    → is_unkeyed came ≡ false → fails strict came ≡ false
-well true Improper improper different unread unkeyed = improper
-well strict (Checked entry Different) improper different unread unkeyed = different
-well strict (Checked entry Unread) improper different unread unkeyed = unread
-well strict (Checked entry Unkeyed) improper different unread unkeyed = unkeyed
-well strict came improper different unread unkeyed = refl
-
--- improper lines are none, or do no harm
-improper_lines : (strict : Bool) (lines : List (List ℕ × LineCheck)) → not (strict && nat_lt 0 (counts_of lines).improper) ≡ true
-    → All (λ line. (strict && is_improper line.1) ≡ false) lines
-improper_lines false lines is = λ k d below. refl
-improper_lines true lines is =
-    let none : (counts_of lines).improper ≤ 0 = ltb-false 0 (counts_of lines).improper (not-true _ is) in
-    (none_counted (λ c. c.improper) is_improper (λ counts came. (step counts came).0) uncounted lines (omega (arith, none))).1
-
-found : {A : Type 0} → (0 < 0) ⊎ A → A
-found (inl none) = absurd (omega (arith, none))
-found (inr some) = some
+some_same : (counts : Counts) (lines : List (List ℕ × LineCheck)) → 0 < (after counts lines).same
+    → (0 < counts.same) ⊎ Any (λ line. is_same line.1 ≡ true) lines
+some_same counts [] some = inl some
+some_same counts (line ∷ lines) some = elim (some_same (counted counts line.1) lines some) [
+  | inl more ↦ elim (same_before counts line.1 more) [
+    | inl before ↦ inl before
+    | inr is ↦ inr (0, line, zero-lt-suc (length lines), refl, is)
+  ]
+  | inr later ↦ (let (k, x, below, is, holds) = later in inr (suc k, x, omega (arith, below), is, holds))
+]
 
 -- lines whose counts pass
 lines_pass : (strict : Bool) (lines : List (List ℕ × LineCheck)) → passes strict (counts_of lines) ≡ true
     → All (λ line. fails strict line.1 ≡ false) lines × Any (λ line. is_same line.1 ≡ true) lines
 lines_pass strict lines is =
-    let counts = counts_of lines in
-    let a = nat_lt 0 counts.same in
-    let b = nat_eq counts.different 0 in
-    let c = nat_eq counts.unread 0 in
-    let d = nat_eq counts.unkeyed 0 in
-    let (most, improper) = and_parts (a && b && c && d) (not (strict && nat_lt 0 counts.improper)) is in
-    let (rest, unkeyed) = and_parts (a && b && c) d most in
-    let (both, unread) = and_parts (a && b) c rest in
-    let (same, different) = and_parts a b both in
-    let no_improper = improper_lines strict lines improper in
-    let no_different = (none_counted (λ c. c.different) is_different (λ counts came. (step counts came).1) uncounted lines (eqb-true counts.different 0 different)).1 in
-    let no_unread = (none_counted (λ c. c.unread) is_unread (λ counts came. (step counts came).2) uncounted lines (eqb-true counts.unread 0 unread)).1 in
-    let no_unkeyed = (none_counted (λ c. c.unkeyed) is_unkeyed (λ counts came. (step counts came).3) uncounted lines (eqb-true counts.unkeyed 0 unkeyed)).1 in (
-      λ k d below. well strict (slice_index_or lines k d).1 (no_improper k d below) (no_different k d below) (no_unread k d below)
-          (no_unkeyed k d below),
-      found (some_counted (λ c. c.same) is_same (λ counts came. (step counts came).4) uncounted lines (ltb-true 0 counts.same same)),
+    let none : NoneCounted strict (counts_of lines) = grind (arith, nat_tests, is) in
+    let some : 0 < (counts_of lines).same = grind (arith, nat_tests, is) in (
+      (none_fails strict uncounted lines none).0,
+      elim (some_same uncounted lines some) [
+        | inl before ↦ absurd (omega (arith, before))
+        | inr one ↦ one
+      ],
     )
 
 module _ (kinds : List LineKind) (checking : Checking) (opens : Opens) where

@@ -1,27 +1,19 @@
 -- Checks that end well.
-use Rattle.std.proofs.Common.{◌≡◌, inl, inr, ℕ, arith, true, false, Bool, if◌then◌else◌, List, map, codes, Option, Some, None, Result, Ok, Err, All, refl, sym, ap, ◌∙◌, subst}
-use Rattle.std.specs.IoError.{error_kind}
+use Rattle.hash_sums.proofs.Common.{◌≡◌, inl, inr, ℕ, arith, true, false, Bool, if◌then◌else◌, List, map, codes, Option, Some, None, Result, Ok, Err, All, refl, sym, ap, ◌∙◌, subst, error_kind, LineKind, Failure, Unwritten, Nothing, Opens, files_or, given, operands, Saying}
 use Rattle.std.specs.declared.io.ErrorKind.{ErrorKind}
-use Rattle.std.specs.declared.io.ErrorKind.TheVariants.{BrokenPipe}
-use Rattle.hash_lines.specs.declared.line.LineKind.{LineKind}
 use Rattle.cli.specs.Outcome.{of_run, status_of, write_status}
-use Rattle.streams.specs.declared.failure.Failure.{Failure}
-use Rattle.streams.specs.declared.failure.Failure.TheVariants.{NoMemory, Unwritten}
-use Rattle.streams.specs.declared.failure.Nothing.{Nothing}
 use Rattle.cli.specs.declared.outcome.Outcome.{Outcome}
 use Rattle.hash_sums.specs.declared.check.Checking.{Checking}
-use Rattle.cli.specs.Files.{Opens, files_or}
 use Rattle.hash_sums.specs.Lists.{EndsLists}
 use Rattle.hash_sums.specs.Passed.{HasPassed}
 use Rattle.hash_sums.proofs.PassLemmas.{lists_passed}
 use Rattle.hash_sums.specs.declared.outcome.Misuse.{Misuse}
 use Rattle.hash_sums.specs.declared.outcome.Task.TheVariants.{Check, Sum}
 use Rattle.hash_sums.specs.Program.{asked, checking_of, key_file, key_rule, kinds_under, misuse_of, summing_of, taken, work_by, work_of, EndsCall, EndsTask, EndsUnless}
-use Rattle.cli.specs.Call.{given, operands, Saying}
 use Rattle.cli.specs.Frame.{request_of, EndsRequest}
 use Rattle.cli.specs.declared.frame.Request.TheVariants.{Work}
 use Rattle.cli.specs.declared.frame.Text.{Text}
-use Rattle.cli.specs.declared.outcome.Outcome.TheVariants.{Failed, Reported, Usage}
+use Rattle.cli.specs.declared.outcome.Outcome.TheVariants.{Usage}
 use Rattle.cli.specs.declared.outcome.Wrong.{Wrong}
 use Rattle.cli.specs.declared.outcome.Wrong.TheVariants.{Own, UnknownName}
 use Rattle.hash_sums.specs.Ended.{HasEndedWell}
@@ -31,8 +23,7 @@ use Rattle.hash_sums.specs.Sums.{kind_of, told_of}
 module _ (kinds : List LineKind) (checking : Checking) (opens : Opens) where
   -- a write that fails does not end well
   fails_badly : (kind : ErrorKind) → write_status kind ≡ 0 → ⊥
-  fails_badly BrokenPipe is = omega arith
-  fails_badly kind is = omega arith
+  fails_badly kind is = grind (arith, is)
 
   ends_well : (ended : Result Bool (Failure Nothing)) → status_of {Misuse = Misuse} (of_run ended) ≡ 0 → ended ≡ Ok true
   ends_well (Ok true) is = refl
@@ -52,8 +43,7 @@ module _ (kinds : List LineKind) (checking : Checking) (opens : Opens) where
 -- a call that ends well did its work
 module _ (opens : Opens) (call : List Saying) (w w' : Option (List ℕ)) (outcome : Outcome Misuse Nothing) where
   not_well : (wrong : Wrong Misuse) → outcome ≡ Usage wrong → status_of outcome ≡ 0 → ⊥
-  not_well wrong is zero = let no : status_of {Misuse = Misuse} {Own = Nothing} (Usage wrong) ≡ 0 = subst (λ o. status_of o ≡ 0) is zero in
-      absurd (omega (arith, no))
+  not_well wrong is zero = grind (arith, is, zero)
 
   -- by the hash that is asked for
   work_passed : request_of call ≡ Work → misuse_of call ≡ None → (keys : Option (ℕ × ℕ))
@@ -85,11 +75,8 @@ module _ (opens : Opens) (call : List Saying) (w w' : Option (List ℕ)) (outcom
   unless_passed works checks (Some misuse) is_misuse (is, kept) zero = absurd (not_well (Own misuse) is zero)
   unless_passed works checks None no_misuse (inl (keys, are, told, are_told, ends)) zero =
       work_passed works no_misuse keys are told are_told checks (kind_of told (asked call)) refl ends zero
-  unless_passed works checks None no_misuse (inr (inl (some, is, kept))) zero =
-      let no : status_of {Misuse = Misuse} {Own = Nothing} Reported ≡ 0 = subst (λ o. status_of o ≡ 0) is zero in absurd (omega (arith, no))
-  unless_passed works checks None no_misuse (inr (inr (is, kept))) zero =
-      let no : status_of {Misuse = Misuse} {Own = Nothing} (Failed NoMemory) ≡ 0 = subst (λ o. status_of o ≡ 0) is zero in
-      absurd (omega (arith, no))
+  unless_passed works checks None no_misuse (inr (inl (some, is, kept))) zero = absurd (grind (arith, is, zero))
+  unless_passed works checks None no_misuse (inr (inr (is, kept))) zero = absurd (grind (arith, is, zero))
 
   pub call_passed : (texts : Text → List ℕ) → request_of call ≡ Work → given (codes "check") call ≡ true
       → EndsCall opens call texts w w' outcome → status_of outcome ≡ 0 → HasEndedWell opens call

@@ -1,27 +1,20 @@
 -- What a list that passed tells of a file is so.
-use Rattle.std.proofs.Common.{◌≡◌, inl, inr, ℕ, zero, suc, zero-lt-suc, ◌<◌, Bool, true, false, ◌&&◌, ◌==◌, if◌then◌else◌, List, [], ◌∷◌, length, map, Option, Some, None, Result, Ok, Err, Contains, refl, sym, ap, ◌∙◌, subst, arith, slice_index_or}
-use Rattle.std.specs.List.{find}
-use Rattle.std.specs.IoError.{error_kind}
-use Rattle.std.proofs.lemmas.Bool.{and_parts, eqb-true, false≢true}
-use Rattle.std.proofs.lemmas.List.{get_or-map, length-map}
-use Rattle.hash_lines.specs.declared.line.LineKind.{LineKind}
+use Rattle.hash_sums.proofs.Common.{◌≡◌, inl, inr, ℕ, suc, zero-lt-suc, ◌<◌, Bool, true, false, if◌then◌else◌, List, [], ◌∷◌, length, map, Option, Some, None, Result, Ok, Err, Contains, sym, ap, ◌∙◌, subst, arith, slice_index_or, error_kind, nat_tests, false≢true, get_or-map, length-map, LineKind, AreTags, IsTag, Tells, lines_by, Opens}
+use Rattle.std.proofs.Common.{find}
 use Rattle.hash_lines.specs.declared.parse.HashLine.{HashLine}
-use Rattle.hash_lines.specs.Told.{AreTags, IsTag, Tells}
 use Rattle.hash_lines.proofs.OneLemmas.{line_one}
-use Rattle.text_set.specs.Lines.{lines_by}
-use Rattle.cli.specs.Files.{Opens}
 use Rattle.hash_sums.specs.declared.check.LineCheck.{LineCheck}
 use Rattle.hash_sums.specs.declared.check.LineCheck.TheVariants.{Skipped, Improper, Checked}
 use Rattle.hash_sums.specs.declared.check.Checking.{Checking}
 use Rattle.hash_sums.specs.declared.check.Verdict.{Verdict}
-use Rattle.hash_sums.specs.declared.check.Verdict.TheVariants.{Same, Different, Unread, Missing}
 use Rattle.hash_sums.specs.declared.sum.Unsummed.{Unsummed}
 use Rattle.hash_sums.specs.declared.sum.Unsummed.TheVariants.{Unhashed, Unopened}
-use Rattle.hash_sums.specs.Checking.{is_itself, is_not_found, is_skipped, verdict_on, IsLineCheck}
-use Rattle.hash_sums.specs.Files.{IsNumber, SumsFile}
+use Rattle.hash_sums.specs.Checking.{is_itself, is_not_found, is_skipped, takes_sfv, verdict_on, IsLineCheck}
+use Rattle.hash_sums.specs.Files.{SumsFile}
 use Rattle.hash_sums.specs.Lists.{bare, AreLines}
 use Rattle.hash_sums.specs.Passed.{fails, HasHash, HasPassed, LineTells, ListTells}
 use Rattle.hash_sums.specs.Program.{taken}
+use Rattle.hash_sums.proofs.AskedLemmas.{only_one}
 use Rattle.hash_sums.proofs.NameLemmas.{some_same}
 use Rattle.hash_sums.specs.Sums.{is_named, kind_of, sum_by}
 
@@ -30,21 +23,12 @@ module _ (kinds : List LineKind) (checking : Checking) (opens : Opens) where
   of_came : (entry : HashLine) (kind : LineKind) (name : List ℕ) (number : ℕ) (came : Result ℕ Unsummed)
       → fails checking.strict (Checked entry (verdict_on checking.ignore_missing number came)) ≡ false
       → SumsFile (opens name) (sum_by kind) came → HasHash checking opens kind name number
-  of_came entry kind name number (Ok found) well (held, can, is) = at (found == number) refl well
-    where
-      at : (b : Bool) → (found == number) ≡ b → fails checking.strict (Checked entry (if b then Same else Different)) ≡ false
-          → HasHash checking opens kind name number
-      at true same fine = inl (held, can, subst (λ n. IsNumber (sum_by kind) held n) (eqb-true found number same) is)
-      at false other fine = absurd (false≢true (sym fine))
+  of_came entry kind name number (Ok found) well (held, can, is) =
+      let same : found ≡ number = grind (arith, nat_tests, well) in
+      inl (held, can, rw same at is)
   of_came entry kind name number (Err (Unopened error)) well cannot =
-      at (checking.ignore_missing && is_not_found (error_kind error)) refl well
-    where
-      at : (b : Bool) → (checking.ignore_missing && is_not_found (error_kind error)) ≡ b
-          → fails checking.strict (Checked entry (if b then Missing else Unread)) ≡ false → HasHash checking opens kind name number
-      at true missing fine =
-          let (ignored, gone) = and_parts checking.ignore_missing (is_not_found (error_kind error)) missing in
-          inr (ignored, error, cannot, gone)
-      at false there fine = absurd (false≢true (sym fine))
+      let gone : (checking.ignore_missing ≡ true) × (is_not_found (error_kind error) ≡ true) = grind (arith, well) in
+      inr (gone.0, error, cannot, gone.1)
   of_came entry kind name number (Err (Unhashed why)) well cannot = absurd (false≢true (sym well))
 
   -- a line that tells this and does not fail its list
@@ -65,7 +49,7 @@ module _ (kinds : List LineKind) (checking : Checking) (opens : Opens) where
         (subst (λ n. HasHash checking opens entry.kind n number) (sym names_are)
         (subst (λ n. HasHash checking opens entry.kind entry.name.items n) (sym numbers_are) there))
 
-    of_line : (line : List ℕ) (came : LineCheck) → Tells kinds checking.kind kind name number line → is_skipped line ≡ false
+    of_line : (line : List ℕ) (came : LineCheck) → Tells kinds checking.kind kind name number line → is_skipped (takes_sfv checking.kind list) line ≡ false
         → IsLineCheck kinds checking opens list line came → fails checking.strict came ≡ false → HasHash checking opens kind name number
     of_line line Skipped tells no_comment skipped well = absurd (false≢true (sym no_comment ∙ skipped))
     of_line line Improper tells no_comment (unskipped, inl none) well = absurd (none.0 kind name number tells)
@@ -87,7 +71,7 @@ module _ (kinds : List LineKind) (checking : Checking) (opens : Opens) where
       let bare_is : bare read ≡ bare line.0 = ap bare is_line in
       of_line are list kind name number told.of_another (bare line.0) line.1
       (subst (λ l. Tells kinds checking.kind kind name number l) bare_is told.tells)
-      (subst (λ l. is_skipped l ≡ false) bare_is told.no_comment) (passed.came k (read, Skipped) below)
+      (subst (λ l. is_skipped (takes_sfv checking.kind list) l ≡ false) bare_is told.no_comment) (passed.came k (read, Skipped) below)
       (passed.none_fails k (read, Skipped) below)
 
   -- what a list that passed tells
@@ -104,15 +88,11 @@ pub taken_are_tags : (kinds : List LineKind) (checking : Checking) → AreTags k
     → AreTags (taken kinds checking) checking.kind
 taken_are_tags kinds checking are has = at checking.only
   where
-    one : (other : LineKind) → Contains (checking.kind ∷ []) other → other ≡ checking.kind
-    one other (zero, below, is) = sym is
-    one other (suc k, below, is) = absurd (omega (arith, below))
-
     at : (b : Bool) → AreTags (if b then checking.kind ∷ [] else kinds) checking.kind
     at false = are
     at true = record {
-      each = λ other inside. subst (λ (k : LineKind). IsTag k.name.now) (sym (one other inside)) (are.each checking.kind has);
-      apart = λ other more inside too same. one other inside ∙ sym (one more too);
+      each = λ other inside. subst (λ (k : LineKind). IsTag k.name.now) (sym (only_one checking.kind other inside)) (are.each checking.kind has);
+      apart = λ other more inside too same. only_one checking.kind other inside ∙ sym (only_one checking.kind more too);
     }
 
 -- the kind of a name, or the first, is among them

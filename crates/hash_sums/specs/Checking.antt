@@ -41,10 +41,10 @@ abbrev pub IsVerdict : (opens : Result (Option (List ℕ)) Error → Type 0) →
 IsVerdict opens hash ignore_missing told verdict =
     (came : Result ℕ Unsummed) × SumsFile opens hash came × (verdict_on ignore_missing told came ≡ verdict)
 
--- an empty line, or a comment, which begins with # or, in an SFV file, with a semicolon
-abbrev pub is_skipped : List ℕ → Bool
-is_skipped [] = true
-is_skipped (first ∷ more) = first == 35 || first == 59
+-- an empty line, or a comment, which begins with a semicolon in an SFV file, and with # elsewhere
+abbrev pub is_skipped : (sfv : Bool) → List ℕ → Bool
+is_skipped sfv [] = true
+is_skipped sfv (first ∷ more) = first == (if sfv then 59 else 35)
 
 -- whether lines of SFV files are taken: in a list whose name ends in .sfv, and where untagged lines are by crc32
 abbrev pub takes_sfv : LineKind → (list : List ℕ) → Bool
@@ -80,10 +80,10 @@ IsVerdictBy checking opens kind name number verdict =
 
 -- what came of a line of a list. It is improper exactly if it tells no hash, or is of the list itself
 abbrev pub IsLineCheck : List LineKind → Checking → Opens → (list line : List ℕ) → LineCheck → Type 0
-IsLineCheck kinds checking opens list line Skipped = is_skipped line ≡ true
-IsLineCheck kinds checking opens list line Improper = (is_skipped line ≡ false)
+IsLineCheck kinds checking opens list line Skipped = is_skipped (takes_sfv checking.kind list) line ≡ true
+IsLineCheck kinds checking opens list line Improper = (is_skipped (takes_sfv checking.kind list) line ≡ false)
     × (TellsNone (takes_sfv checking.kind list) kinds checking.kind line ⊎ TellsItself kinds checking list line)
-IsLineCheck kinds checking opens list line (Checked entry verdict) = (is_skipped line ≡ false)
+IsLineCheck kinds checking opens list line (Checked entry verdict) = (is_skipped (takes_sfv checking.kind list) line ≡ false)
     × TellsAny (takes_sfv checking.kind list) kinds checking.kind entry.kind entry.name.items entry.number line
     × (is_itself list entry.name.items ≡ false)
     × IsVerdictBy checking opens entry.kind entry.name.items entry.number verdict

@@ -1,5 +1,6 @@
 pub mod Checking
 pub mod Files
+pub mod Hints
 pub mod Keys
 pub mod Laws
 pub mod Lists

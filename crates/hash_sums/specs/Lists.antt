@@ -1,5 +1,5 @@
 -- Lists whose lines are checked.
-use Rattle.std.specs.Prelude.{ℕ, ◌≡◌, ◌⊎◌, ◌&&◌, Bool, true, false, List, [], ◌∷◌, ◌++◌, Option, Some, None, Result, Ok, Err, fold, IfSome}
+use Rattle.std.specs.Prelude.{ℕ, ◌≡◌, ◌⊎◌, ◌==◌, ◌&&◌, if◌then◌else◌, drop, slice_index, Bool, true, false, List, [], ◌∷◌, ◌++◌, Option, Some, None, Result, Ok, Err, fold, IfSome}
 use Rattle.std.specs.Io.BufRead.{strip_last}
 use Rattle.std.specs.Io.KnownBytes.{Appends, Keeps}
 use Rattle.std.specs.declared.io.Error.{Error}
@@ -24,9 +24,14 @@ AreFirstLines (Some text) lines left = (rest : List ℕ) × (left ≡ Some rest)
 abbrev pub AreLines : (held : Option (List ℕ)) (lines : List (List ℕ)) → Type 0
 AreLines held lines = IfSome held (λ text. lines ≡ lines_by 10 text)
 
--- a line without its end: a newline, a carriage return and a newline, or none
+-- a text without the byte order mark that some editors put in front of one
+abbrev pub unmarked : List ℕ → List ℕ
+unmarked text =
+    if (slice_index text 0 == 239) && (slice_index text 1 == 187) && (slice_index text 2 == 191) then drop 3 text else text
+
+-- a line without such a mark, and without its end: a newline, a carriage return and a newline, or none
 abbrev pub bare : List ℕ → List ℕ
-bare line = strip_last 13 (strip_last 10 line)
+bare line = unmarked (strip_last 13 (strip_last 10 line))
 
 -- what came of a line of a list, with its end
 abbrev pub IsLineCheckOf : List LineKind → Checking → Opens → (list : List ℕ) → List ℕ × LineCheck → Type 0

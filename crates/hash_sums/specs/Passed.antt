@@ -10,7 +10,7 @@ use Rattle.hash_sums.specs.declared.check.Verdict.TheVariants.{Same, Different, 
 use Rattle.cli.specs.Files.{Opens}
 use Rattle.hash_lines.specs.Told.{Tells}
 use Rattle.text_set.specs.Lines.{lines_by}
-use Rattle.hash_sums.specs.Checking.{is_itself, is_not_found, is_skipped}
+use Rattle.hash_sums.specs.Checking.{is_itself, is_not_found, is_skipped, takes_sfv}
 use Rattle.hash_sums.specs.Files.{IsNumber}
 use Rattle.hash_sums.specs.Laws.{HoldsOnly}
 use Rattle.hash_sums.specs.Lists.{bare, AreLines, IsLineCheckOf}
@@ -50,7 +50,7 @@ pub record HasPassed (kinds : List LineKind) (checking : Checking) (opens : Open
 pub record LineTells (kinds : List LineKind) (checking : Checking) (list line : List ℕ) (kind : LineKind) (name : List ℕ) (number : ℕ)
     : Type 0 where
   pub tells : Tells kinds checking.kind kind name number (bare line)
-  pub no_comment : is_skipped (bare line) ≡ false
+  pub no_comment : is_skipped (takes_sfv checking.kind list) (bare line) ≡ false
   pub of_another : is_itself list name ≡ false
 
 -- the list of a name holds such a line

@@ -8,13 +8,13 @@ use Rattle.hash_keyed.specs.Poly61State.{poly61}
 use Rattle.hash_lines.specs.declared.line.LineKind.{LineKind}
 use Rattle.hash_lines.specs.declared.line.Width.{Width}
 use Rattle.hash_lines.specs.declared.line.Width.TheVariants.{Eight, Sixteen, ThirtyTwo}
-use Rattle.hash_names.specs.Named.{bits_of, name_of, named, read_of}
-use Rattle.hash_names.specs.Wide.{murmur3_128_of, spooky128, xxh128}
+use Rattle.hash_kinds.specs.Named.{bits_of, name_of, named, read_of}
+use Rattle.hash_kinds.specs.Wide.{murmur3_128_of, spooky128, xxh128}
 use Rattle.hash_sums.specs.declared.sums.Sum.{Sum}
 use Rattle.hash_siphash.specs.SipHash.{siphash}
 use Rattle.hash_sums.specs.declared.sums.Sum.TheVariants.{Table, Poly61, SipHash24}
 use Rattle.hash_sums.specs.declared.sums.Sum.TheVariants as sum
-use Rattle.hash_sums.specs.declared.sums.TheConstants.{SUMS}
+use Rattle.hash_sums.specs.declared.sums.TheConstants.{SUMS, UNKEYED}
 use Rattle.hash_sums.specs.declared.sums.Wide.{Wide}
 use Rattle.hash_sums.specs.declared.sums.Wide.TheVariants as wide
 
@@ -85,14 +85,14 @@ takes_keys Poly61 = true
 takes_keys SipHash24 = true
 takes_keys sum = false
 
--- poly61 and siphash24 stand behind 28 others, and are told if there are keys
+-- poly61 and siphash24 stand behind all others, and are told if there are keys
 abbrev pub keyed : Option (ℕ × ℕ) → List Told
 keyed None = []
-keyed (Some keys) = told_at keys 28 ∷ told_at keys 29 ∷ []
+keyed (Some keys) = told_at keys UNKEYED ∷ told_at keys (UNKEYED + 1) ∷ []
 
 -- the hashes that can be told, the default first
 abbrev pub kinds : (keys : Option (ℕ × ℕ)) → List Told
-kinds keys = map (told_at (0, 0)) (range_with_len 0 28) ++ keyed keys
+kinds keys = map (told_at (0, 0)) (range_with_len 0 UNKEYED) ++ keyed keys
 
 -- whether a name is this one, in letters of either case
 abbrev pub is_named : (word name : List ℕ) → Bool

@@ -2,11 +2,12 @@
 ghost use Rattle.std.specs.Prelude.{◌≡◌, true, false, [], map, IfOk, MatchOption, OnOk};
 ghost use Rattle.std.specs.IoError.{error_kind};
 ghost use Rattle.hash_sums.specs.Checking.{behind_name, counted, is_itself, is_not_found, is_skipped, lacks_keys, passes, said, takes_sfv, verdict_on, verdict_words, IsLineCheck, IsVerdict, IsVerdictBy, TellsAny, TellsNone};
-ghost use Rattle.hash_sums.specs.Lists.{bare, EndsLine, EndsList, EndsListOf, EndsLists};
+ghost use Rattle.hash_sums.specs.Lists.{bare, unmarked, EndsLine, EndsList, EndsListOf, EndsLists};
 ghost use Rattle.hash_sums.specs.Sums.{sum_by};
 ghost use Rattle.std.specs.Io.Buffered.{writer_buffer, writer_contents};
 
 use crate::failure::Failure;
+use crate::hints::{NO_LINES, Untagged, hint_of, with_line};
 use crate::reports::Reports;
 use crate::sum::{Unsummed, error_of, number_of};
 use crate::sums::{is_keyed, is_named};
@@ -222,13 +223,13 @@ fn is_itself(list: &[u8], name: &[u8]) -> bool
     list == b"-".as_slice() && name == b"-".as_slice()
 }
 
-/// Whether a line is empty or a comment.
-fn is_skipped(line: &[u8]) -> bool
-    ensures { result ≡ is_skipped line.now }
+/// Whether a line is empty, or a comment of an SFV file or of another list.
+fn is_skipped(sfv: bool, line: &[u8]) -> bool
+    ensures { result ≡ is_skipped sfv line.now }
 {
     match line {
-        [] | [b'#' | b';', ..] => true,
-        _ => false,
+        [] => true,
+        [first, ..] => *first == if sfv { b';' } else { b'#' },
     }
 }
 
@@ -260,10 +261,10 @@ fn check_line<'k, R: Read + Drop, F: Folder<R>>(
 ) -> Result<LineCheck<'k>, AllocError>
     ensures { IfOk result (IsLineCheck kinds.entry.now checking.entry (F.opens folder.now) list.now line.now) }
 {
-    if is_skipped(line) {
+    let sfv = takes_sfv(checking.kind, list);
+    if is_skipped(sfv, line) {
         return Ok(LineCheck::Skipped);
     }
-    let sfv = takes_sfv(checking.kind, list);
     match entry_of(alloc, kinds, checking.kind, sfv, line)? {
         Some(entry) => {
             if is_itself(list, &entry.name) {
@@ -325,11 +326,22 @@ fn said(
     }
 }
 
-/// The line without its end, if it has one: a newline, or a carriage return and a newline.
-fn without_end(line: &[u8]) -> &[u8]
+/// The text without the byte order mark that some editors put in front of one.
+fn unmarked(text: &[u8]) -> &[u8]
+    ensures { result.now ≡ unmarked text.now }
+{
+    match text {
+        [0xEF, 0xBB, 0xBF, rest @ ..] => rest,
+        _ => text,
+    }
+}
+
+/// The line without such a mark, as lists that were joined have one within, and without its end, if it has one: a newline, or a carriage
+/// return and a newline.
+fn bare(line: &[u8]) -> &[u8]
     ensures { result.now ≡ bare line.now }
 {
-    lines::without_end(lines::without_end(line, b'\n'), b'\r')
+    unmarked(lines::without_end(lines::without_end(line, b'\n'), b'\r'))
 }
 
 /// Checks a line of the list of that name, with its newline if it has one, and writes what came of it.
@@ -346,7 +358,7 @@ fn tell_line<'k, R: Read + Drop, F: Folder<R>, W: Write + Drop>(
         (writer_contents W.contents w.old) (writer_contents W.contents w.new) result }
     ensures flushed { OnOk result (writer_buffer w.new ≡ []) }
 {
-    let text = without_end(line);
+    let text = bare(line);
     let came = match check_line(alloc, folder, kinds, checking, list, text) {
         Ok(came) => came,
         Err(_) => return Err(Failure::NoMemory),
@@ -387,11 +399,15 @@ fn check_lines<B: BufRead, R: Read + Drop, F: Folder<R> + Reports, W: Write + Dr
     ensures flushed { OnOk result (writer_buffer w.old ≡ [] → writer_buffer w.new ≡ []) }
 {
     let mut counts = UNCOUNTED;
+    let mut untagged = NO_LINES;
     let mut line = Vec::new(alloc);
     for number in 1..u64::MAX {
         match next_line(lines, b'\n', &mut line) {
             Ok(true) => {}
-            Ok(false) => return Ok(Some(counts)),
+            Ok(false) => {
+                hint(folder, checking.only, list, untagged);
+                return Ok(Some(counts));
+            }
             Err(error) => {
                 folder.failed(list, &error);
                 return Ok(None);
@@ -400,12 +416,20 @@ fn check_lines<B: BufRead, R: Read + Drop, F: Folder<R> + Reports, W: Write + Dr
         match tell_line(alloc, folder, kinds, checking, list, &line, w) {
             Ok(came) => {
                 counts = count(counts, &came);
+                untagged = with_line(untagged, bare(&line), &came);
                 warn(folder, checking.warn, list, number, &came);
             }
             Err(fault) => return Err(fault),
         }
     }
     Ok(None)
+}
+
+/// Hints at hashes that lines without a tag may be of, if no hash was asked for and those did not pass.
+fn hint<F: Reports>(reports: &F, only: bool, list: &[u8], untagged: Untagged) {
+    if let Some(hint) = hint_of(only, untagged) {
+        reports.hints(list, hint);
+    }
 }
 
 /// Tells an improper line, if that is asked for.

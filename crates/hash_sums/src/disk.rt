@@ -1,5 +1,6 @@
 //! The files of the disk, and what a check of them finds.
 use crate::check::Counts;
+use crate::hints::Hint;
 use crate::reports::Reports;
 use cli::folder::{Disk, Folder};
 use cli::progress::Watched;
@@ -60,6 +61,20 @@ impl Reports for Checked<'_> {
         let program = self.program;
         if let Ok(list) = quoted(self.rt.alloc(), list) {
             let _ = eprintln!(self.rt; "{program}: {list}: {line}: improperly formatted line");
+        }
+    }
+
+    fn hints(&self, list: &[u8], hint: Hint) {
+        if self.status {
+            return;
+        }
+        let words = match hint {
+            Hint::Short => "lines of 16 digits do not name their hash; try -a xxh64",
+            Hint::Long => "lines of 32 digits were taken for spooky128; try -a xxh128, or md5sum",
+        };
+        let program = self.program;
+        if let Ok(list) = quoted(self.rt.alloc(), list) {
+            let _ = eprintln!(self.rt; "{program}: {list}: {words}");
         }
     }
 

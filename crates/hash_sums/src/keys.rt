@@ -7,7 +7,7 @@ ghost use Rattle.hash_sums.specs.Sums.{poly61_at_both, siphash24_at};
 
 use cli::folder::Folder;
 use hash_keyed::pair::Poly61Pair;
-use hash_names::reading::Unhashed;
+use hash_kinds::reading::Unhashed;
 use hash_siphash::{SipHasher24, SipKey};
 use hashers::reader::hash_stream;
 use std::io;

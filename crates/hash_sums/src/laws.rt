@@ -29,10 +29,11 @@ ghost use Rattle.hash_sums.specs.Laws.{DifferAtOneWord, FewPairsPass, IsSeen, Ne
 ghost use Rattle.hash_sums.specs.Lists.{EndsLists};
 ghost use Rattle.hash_sums.specs.Passed.{HasHash, HasPassed, LineTells, ListTells};
 ghost use Rattle.hash_sums.specs.Program.{asks_for_poly61, asks_for_siphash24, checking_of, taken, EndsTask, EndsCall};
-ghost use Rattle.hash_names.specs.Named.{bits_of, hash_of, read_of};
+ghost use Rattle.hash_kinds.specs.Named.{bits_of, hash_of, read_of};
 ghost use Rattle.hash_lines.specs.Line.{digits_of, line_of};
 ghost use Rattle.hash_sums.specs.Sums.{is_named, kind_of, kinds, name_in, number_named, poly61_at_both, siphash24_at, sum_by, sum_of, takes_keys, told_of, width_in, Told};
-ghost use Rattle.hash_names.specs.declared.table.Kind.{Kind};
+ghost use Rattle.hash_kinds.specs.declared.table.Kind.{Kind};
+ghost use Rattle.hash_kinds.specs.declared.table.Kind.TheVariants as row;
 ghost use Rattle.hash_sums.specs.declared.sums.Sum.{Sum};
 ghost use Rattle.hash_sums.specs.declared.sums.Sum.TheVariants.{Table};
 
@@ -43,13 +44,14 @@ use block_laws::{
 };
 use cli::folder::Folder;
 use hash_keyed::laws::few_pairs_for_two_texts;
+use hash_kinds::table::Kind;
 use hash_lines::laws::{tags_by_their_names, written_lines_tell};
 use hash_more::crc32::{Crc32Hasher, Crc32cHasher};
 use hash_more::djb2_add::Djb2AddHasher;
 use hash_more::elf::ElfHasher;
 use hash_more::fnv1::{Fnv1Hasher32, Fnv1Hasher64};
 use hash_more::joaat::JoaatHasher;
-use hash_names::table::Kind;
+use hash_names::table::Ported;
 use hashers::fnv::{FNV1aHasher32, FNV1aHasher64};
 use hashers::fx_hash::{FxHasher32, FxHasher64};
 use hashers::jenkins::OAATHasher;
@@ -67,7 +69,8 @@ pub fn each_kind_has_the_hash_of_its_name()
         → number_named (name_in sum) ≡ Some (sum_of keys sum) }
 {}
 
-/// The hashes that a line can tell have tags, no two the same: so what is written of a file is read as that, and says one thing.
+/// The hashes that a line can tell have tags, no two the same: so what is written of a file whose name has a byte is read as that, and
+/// says one thing.
 pub fn kinds_are_tags()
     ensures { (keys : Option (ℕ × ℕ)) (told : List LineKind) (default : LineKind)
         → map told_of told ≡ kinds keys → AreTags told default }
@@ -101,7 +104,8 @@ pub fn each_hash_fits()
     text_stays_in_range::<ElfHasher>();
 }
 
-/// The number of each text has as many digits as its line gives it: so a line that is written with escapes is read back.
+/// The number of each text has as many digits as its line gives it: so a line that is written with escapes, of a file whose name has a
+/// byte, is read back.
 pub fn each_number_has_its_digits()
     ensures { (kind : LineKind) (sum : Sum) (text : List ℕ)
         → kind.keys.0 < 2 ^ 64 → kind.keys.1 < 2 ^ 64 → IsText text
@@ -110,8 +114,8 @@ pub fn each_number_has_its_digits()
     each_hash_fits();
 }
 
-/// What is written of a file that holds a text tells the hash of this text, in either form, with escapes or without. Its name has some
-/// byte.
+/// What is written of a file that holds a text, and whose name has a byte, tells the hash of this text, in either form, with escapes or
+/// without.
 pub fn what_is_written_of_a_text_tells_its_hash()
     ensures { (keys : Option (ℕ × ℕ)) (told : List LineKind) (default kind : LineKind) (form : Form)
         → map told_of told ≡ kinds keys → Contains told kind → MayBeTold told default form kind
@@ -262,6 +266,7 @@ pub fn what_a_call_is_told_is_so<R: Read, F: Folder<R>>()
 }
 
 /// Where one hash is asked for, each line that is checked is of that hash, in whichever form it is.
+#[tactic(auto, using(crate::proofs::AskedLemmas::any_one))]
 pub fn lines_of_one_hash()
     ensures { (sfv : Bool) (kind other : LineKind) (name : List ℕ) (number : ℕ) (line : List ℕ)
         → TellsAny sfv (kind ∷ []) kind other name number line → other ≡ kind }
@@ -277,23 +282,39 @@ pub fn lines_under_the_keys<R: Read, F: Folder<R>>()
         × (sum_by ended.kind ≡ siphash24_at keys) }
 {}
 
+/// What `seen` says of a ported hash.
+fn seen_in_ported<R: Read, F: Folder<R>>(ported: Ported) -> &'static str
+    ensures { IsSeen F.opens (Table (row.Ported ported)) result.now }
+{
+    a_changed_stretch_never_passes::<R, F>();
+    a_changed_byte_never_passes::<R, F>();
+    a_changed_word_never_passes::<R, F>();
+    match ported {
+        Ported::Fnv1a32 => "1 changed byte, or changes within 2 neighbouring bytes",
+        Ported::Fnv1a64 | Ported::Sdbm => "1 changed byte, or changes within 3 neighbouring bytes",
+        Ported::Djb2 => "1 changed byte, or changes within 6 in the low 5 bits",
+        Ported::FxHash | Ported::FxHash64 => "1 changed word, of 8 bytes",
+        Ported::FxHash32 => "1 changed word, of 4 bytes",
+        Ported::LoseLose | Ported::Bricolage | Ported::Oaat => "1 changed byte",
+        _ => "no promise",
+    }
+}
+
 /// What `seen` says of a hash of the table.
 fn seen_in_table<R: Read, F: Folder<R>>(kind: Kind) -> &'static str
     ensures { IsSeen F.opens (Table kind) result.now }
 {
     a_changed_stretch_never_passes::<R, F>();
     a_changed_byte_never_passes::<R, F>();
-    a_changed_word_never_passes::<R, F>();
     a_changed_block_never_passes::<R, F>();
     match kind {
-        Kind::Fnv1a32 | Kind::Fnv1At32 => "1 changed byte, or changes within 2 neighbouring bytes",
-        Kind::Fnv1a64 | Kind::Fnv1At64 | Kind::Sdbm =>
-            "1 changed byte, or changes within 3 neighbouring bytes",
-        Kind::Djb2 | Kind::Djb2Add => "1 changed byte, or changes within 6 in the low 5 bits",
+        Kind::Ported(ported) => seen_in_ported::<R, F>(ported),
+        Kind::Fnv1At32 => "1 changed byte, or changes within 2 neighbouring bytes",
+        Kind::Fnv1At64 => "1 changed byte, or changes within 3 neighbouring bytes",
+        Kind::Djb2Add => "1 changed byte, or changes within 6 in the low 5 bits",
         Kind::Crc32 | Kind::Crc32c => "1 changed byte, or changes within 32 neighbouring bits",
-        Kind::FxHash | Kind::FxHash64 => "1 changed word, of 8 bytes",
-        Kind::FxHash32 | Kind::Murmur3At32 | Kind::Xxh32 => "1 changed word, of 4 bytes",
-        Kind::LoseLose | Kind::Bricolage | Kind::Oaat | Kind::Joaat => "1 changed byte",
+        Kind::Murmur3At32 | Kind::Xxh32 => "1 changed word, of 4 bytes",
+        Kind::Joaat => "1 changed byte",
         _ => "no promise",
     }
 }

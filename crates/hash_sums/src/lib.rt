@@ -4,6 +4,7 @@
 pub mod check;
 pub mod disk;
 mod failure;
+pub mod hints;
 pub mod keys;
 pub mod laws;
 pub mod outcome;

@@ -1,8 +1,5 @@
 -- One changed byte shows in the answer, where each step and the answer are injective.
-use Rattle.std.proofs.Common.{◌≡◌, ◌≢◌, ℕ, ◌<◌, List, [], ◌∷◌, fold, sym, ◌∙◌}
-use Rattle.hash_laws.specs.Text.{IsText}
-use Rattle.hash_windows.specs.DifferWithin.{DifferAtOnePlace}
-use Rattle.hash_laws.proofs.TextLemmas.{IsText-one}
+use Rattle.hash_windows.proofs.Common.{◌≡◌, ◌≢◌, ℕ, ◌<◌, List, [], ◌∷◌, fold, sym, ◌∙◌, IsText, DifferAtOnePlace, IsText-one}
 use Rattle.hash_windows.proofs.Windows.{DifferWithin-fold, Separates-one}
 use Rattle.hash_windows.proofs.WindowTest.{one_place_window}
 

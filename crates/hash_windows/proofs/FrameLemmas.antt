@@ -1,9 +1,6 @@
 -- Two texts of one front, two middles of one length, and one back.
-use Rattle.std.proofs.Common.{◌≡◌, ◌≢◌, ◌⊎◌, ℕ, ◌+◌, ◌-◌, ◌<◌, ◌≤◌, List, [], ◌∷◌, ◌++◌, length, get_or, bit_and, refl, arith, sym, ap, ◌∙◌, inl, inr, ⊎_elim, length-append}
+use Rattle.hash_windows.proofs.Common.{◌≡◌, ◌≢◌, ◌⊎◌, ℕ, ◌+◌, ◌-◌, ◌<◌, ◌≤◌, List, [], ◌∷◌, ◌++◌, length, get_or, bit_and, refl, arith, sym, ap, ◌∙◌, inl, inr, ⊎_elim, length-append, cases_lt, append_cancel_left, append_cancel_right, get_or_append_left, get_or-append_right, DifferWithin, AgreeUnder, DifferAtOnePlace}
 use Rattle.std.proofs.Math.Seq.{get_or-append_seam}
-use Rattle.std.proofs.lemmas.Bool.{cases_lt}
-use Rattle.std.proofs.lemmas.List.{append_cancel_left, append_cancel_right, get_or_append_left, get_or-append_right}
-use Rattle.hash_windows.specs.DifferWithin.{DifferWithin, AgreeUnder, DifferAtOnePlace}
 
 in_middle : (front z back : List ℕ) (i : ℕ) → length front ≤ i → i < length front + length z
     → get_or (front ++ (z ++ back)) i 0 ≡ get_or z (i - length front) 0
@@ -22,18 +19,18 @@ same_outside front x y back i len outside = ⊎_elim
     (λ before. get_or_append_left front (x ++ back) 0 i before ∙ sym (get_or_append_left front (y ++ back) 0 i before))
     (λ behind. in_back front x back i (length x) refl behind ∙ sym (in_back front y back i (length x) (sym len) behind)) outside
 
+pub middles_length : (front x y back : List ℕ) → length x ≡ length y → length (front ++ (x ++ back)) ≡ length (front ++ (y ++ back))
+middles_length front x y back len =
+    omega (arith, len, length-append front (x ++ back), length-append front (y ++ back), length-append x back, length-append y back)
+
+pub middles_differ : (front x y back : List ℕ) → x ≢ y → front ++ (x ++ back) ≢ front ++ (y ++ back)
+middles_differ front x y back different e = different (append_cancel_right x y back (append_cancel_left front (x ++ back) (y ++ back) e))
+
 pub middles-DifferWithin : (places mask : ℕ) (front x y back : List ℕ) → length x ≡ length y → length x ≤ places → x ≢ y
     → AgreeUnder mask x y → DifferWithin places mask (front ++ (x ++ back)) (front ++ (y ++ back))
 middles-DifferWithin places mask front x y back len fits different under = record {
-  same_length = omega (
-    arith,
-    len,
-    length-append front (x ++ back),
-    length-append front (y ++ back),
-    length-append x back,
-    length-append y back,
-  );
-  different = λ e. different (append_cancel_right x y back (append_cancel_left front (x ++ back) (y ++ back) e));
+  same_length = middles_length front x y back len;
+  different = middles_differ front x y back different;
   within = (
     length front,
     λ i outside. same_outside front x y back i len

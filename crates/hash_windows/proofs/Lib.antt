@@ -1,3 +1,4 @@
+pub mod Common
 pub mod ChangedByte
 pub mod FrameLemmas
 pub mod OneBlock

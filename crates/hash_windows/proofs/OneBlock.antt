@@ -1,9 +1,5 @@
 -- The block in which a place lies.
-use Rattle.std.proofs.Common.{◌≡◌, ◌≢◌, ◌↔◌, ℕ, ◌+◌, ◌-◌, ◌*◌, ◌/◌, ◌%◌, ◌<◌, ◌≤◌, List, length, ap, sym, ◌∙◌, arith}
-use Rattle.std.proofs.Math.Nat.{div-add-mod'}
-use Rattle.std.proofs.lemmas.Nat.{mod_below, div-mul-add, le-div}
-use Rattle.std.proofs.lemmas.List.{get_or_past}
-use Rattle.hash_windows.specs.DifferWithin.{IsFirstDifference, AgreeFrom, DifferInOneBlock}
+use Rattle.hash_windows.proofs.Common.{◌≡◌, ◌≢◌, ◌↔◌, ℕ, ◌+◌, ◌-◌, ◌*◌, ◌/◌, ◌%◌, ◌<◌, ◌≤◌, List, length, ap, sym, ◌∙◌, arith, div-add-mod', mod_below, div-mul-add, le-div, get_or_past, IsFirstDifference, AgreeFrom, DifferInOneBlock}
 use Rattle.hash_windows.proofs.OneGroup.{DifferInOne-iff-agree}
 
 module _ (n from : ℕ) (some : 0 < n) where

@@ -1,12 +1,7 @@
 -- Texts that differ within one group of places alone, as a block.
-use Rattle.std.proofs.Common.{◌≡◌, ◌≢◌, ◌↔◌, ℕ, ◌+◌, ◌-◌, ◌<◌, ◌≤◌, Bool, IsTrue, nat_eq, List, ◌++◌, length, get_or, take, drop, arith, sym, ap, ◌∙◌, inl, inr, ⊎_elim, length-append, length-drop}
-use Rattle.std.proofs.lemmas.Bool.{cases_lt, cases_eq}
-use Rattle.std.proofs.lemmas.Bool.Decides.{Decides-eqb}
-use Rattle.std.proofs.lemmas.List.{append_cancel_left, append_cancel_right, ext_get_or, get_or-drop, take_all}
-use Rattle.std.proofs.lemmas.Slice.Eq.{slice_eq-Decides}
-use Rattle.std.specs.Cmp.Lexicographic.{pointwise}
-use Rattle.hash_windows.specs.DifferWithin.{IsFirstDifference, DifferInOne, AgreeFrom}
-use Rattle.hash_windows.proofs.FrameLemmas.{same_outside}
+use Rattle.hash_windows.proofs.Common.{◌≡◌, ◌≢◌, ◌↔◌, ℕ, ◌+◌, ◌-◌, ◌<◌, ◌≤◌, Bool, IsTrue, nat_eq, List, ◌++◌, length, get_or, take, drop, arith, sym, ap, ◌∙◌, inl, inr, ⊎_elim, length-append, length-drop, cases_lt, cases_eq, Decides-eqb, append_cancel_left, append_cancel_right, slice_eq-Decides, pointwise, IsFirstDifference, DifferInOne, AgreeFrom}
+use Rattle.std.proofs.lemmas.List.{ext_get_or, get_or-drop, take_all}
+use Rattle.hash_windows.proofs.FrameLemmas.{middles_differ, middles_length, same_outside}
 
 -- the group of the first difference ends at a place, from which on the texts agree
 pub DifferInOne-iff-agree : (group : ℕ → ℕ) (from end : ℕ) (x y : List ℕ) → length x ≡ length y → IsFirstDifference from x y
@@ -50,15 +45,8 @@ pub middles-DifferInOne : (group : ℕ → ℕ) (front x y back : List ℕ) → 
     → ((i : ℕ) → length front ≤ i → i < length front + length x → group i ≡ group (length front))
     → DifferInOne group (front ++ (x ++ back)) (front ++ (y ++ back))
 middles-DifferInOne group front x y back len different inside = record {
-  same_length = omega (
-    arith,
-    len,
-    length-append front (x ++ back),
-    length-append front (y ++ back),
-    length-append x back,
-    length-append y back,
-  );
-  different = λ e. different (append_cancel_right x y back (append_cancel_left front (x ++ back) (y ++ back) e));
+  same_length = middles_length front x y back len;
+  different = middles_differ front x y back different;
   one = (
     group (length front),
     λ i other. ⊎_elim (λ before. same_outside front x y back i len (inl before))

@@ -1,12 +1,6 @@
 -- A window, by the first place at which the texts differ.
-use Rattle.std.proofs.Common.{◌≡◌, ◌≢◌, ◌↔◌, ℕ, Bool, IsTrue, nat_eq, ◌+◌, ◌-◌, ◌<◌, List, length, get_or, take, drop, arith, sym, ap, ◌∙◌, inl, inr, ⊎_elim, length-drop}
-use Rattle.std.proofs.lemmas.Bool.{cases_lt, cases_eq}
-use Rattle.std.proofs.lemmas.List.{ext_get_or, get_or-drop, take_all}
-use Rattle.std.proofs.lemmas.Nat.{and_le_r}
-use Rattle.std.proofs.lemmas.Bool.Decides.{Decides-eqb}
-use Rattle.std.proofs.lemmas.Slice.Eq.{slice_eq-Decides}
-use Rattle.std.specs.Cmp.Lexicographic.{pointwise}
-use Rattle.hash_windows.specs.DifferWithin.{DifferWithin, AgreeUnder, IsFirstDifference, DifferAtOnePlace}
+use Rattle.hash_windows.proofs.Common.{◌≡◌, ◌≢◌, ◌↔◌, ℕ, Bool, IsTrue, nat_eq, ◌+◌, ◌-◌, ◌<◌, List, length, get_or, take, drop, arith, sym, ap, ◌∙◌, inl, inr, ⊎_elim, length-drop, cases_lt, cases_eq, and_le_r, Decides-eqb, slice_eq-Decides, pointwise, DifferWithin, AgreeUnder, IsFirstDifference, DifferAtOnePlace}
+use Rattle.std.proofs.Common.{ext_get_or, get_or-drop, take_all}
 
 -- `&x[k..]`
 slice_from : (x : List ℕ) (k : ℕ) → take (length x - k) (drop k x) ≡ drop k x

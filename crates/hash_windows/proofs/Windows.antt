@@ -1,17 +1,10 @@
 -- Two texts whose bytes differ within a few neighbouring places lead to different states, where the step keeps
 -- different states different and separates two states place by place.
-use Rattle.std.proofs.Common.{◌≡◌, ◌≢◌, ℕ, zero, suc, ◌+◌, ◌-◌, ◌<◌, ◌≤◌, List, [], ◌∷◌, length, get_or, fold, arith, refl, ap, sym, ◌∙◌, inl, inr, ⊎_elim, ◌↔◌, Bool, IsTrue, Fits, w8}
-use Rattle.std.proofs.Math.Path.{ap₂}
-use Rattle.std.proofs.lemmas.Bool.{cases_eq, cases_lt}
-use Rattle.std.proofs.lemmas.List.{ext_get_or}
+use Rattle.hash_windows.proofs.Common.{◌≡◌, ◌≢◌, ℕ, zero, suc, ◌+◌, ◌-◌, ◌<◌, ◌≤◌, List, [], ◌∷◌, length, get_or, fold, arith, refl, ap, sym, ◌∙◌, inl, inr, ⊎_elim, ◌↔◌, Bool, IsTrue, Fits, w8, ap₂, bit_and, cases_eq, cases_lt, OnTrue_from, IsText, DifferWithin, AgreeOutside, AgreeUnder, IsByte, IsText-from_slice}
+use Rattle.std.proofs.Common.{ext_get_or}
 use Rattle.std.proofs.lemmas.List.Elements.{All-head, All-tail}
-use Rattle.std.specs.Int.Bits.{bit_and}
 use Rattle.std.specs.Bool.{OnTrue}
-use Rattle.std.proofs.lemmas.Bool.{OnTrue_from}
-use Rattle.hash_laws.specs.Text.{IsText}
-use Rattle.hash_windows.specs.DifferWithin.{DifferWithin, AgreeOutside, AgreeUnder}
 use Rattle.hash_laws.proofs.FoldLemmas.{fold_cancels}
-use Rattle.hash_laws.proofs.TextLemmas.{IsByte, IsText-from_slice}
 
 -- a step on states that separates two of them by `places` neighbouring bytes that agree under the mask: `Apart n`
 -- relates the states that the first place at which the bytes differ and n further places have led to

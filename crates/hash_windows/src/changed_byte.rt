@@ -7,7 +7,7 @@ ghost use Rattle.hash_windows.specs.DifferWithin.{DifferAtOnePlace};
 use crate::window::differ_at_one_place;
 use hash_laws::traits::ByteStep;
 
-/// Whether the lengths are equal and exactly one place differs. Where so, the default hashes differ. Computes no hash.
+/// Whether the lengths are equal and exactly one place differs. If so, the default hashes differ. Computes no hash.
 pub fn apart_by_one<H: ByteStep>(x: &[u8], y: &[u8]) -> bool
     ensures exactly { IsTrue result ↔ DifferAtOnePlace x.now y.now }
     ensures differ { OnTrue result (H.hash_of x.now ≢ H.hash_of y.now) }

@@ -1,4 +1,4 @@
-//! Texts that differ within a few neighbouring places, or within one block, only, and hashes that then differ.
+//! Texts that differ within a few adjacent places, or within one block, only, and hashes that then differ.
 #![tactic(auto)]
 
 pub mod changed_byte;

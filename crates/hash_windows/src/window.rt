@@ -1,8 +1,8 @@
-//! Whether two texts differ within a few neighbouring places, or one block, only.
+//! Whether two texts differ within a few adjacent places, or one block, only.
 ghost use Rattle.std.specs.Prelude.{◌≡◌, ◌≢◌, ◌<◌, ◌≤◌, ◌↔◌, ℕ, List, ◌∷◌, ◌++◌, IsTrue, IfNone, IfSome, length};
 ghost use Rattle.hash_windows.specs.DifferWithin.{AgreeFrom, AgreeUnder, DifferAtOnePlace, DifferInOneBlock, DifferWithin, IsFirstDifference};
 
-/// Whether the texts have one length and differ, but only within `places` neighbouring places, and at every place
+/// Whether the texts have one length and differ, but only within `places` adjacent places, and at every place
 /// only in bits that are 0 in `mask`. A text shorter than `places` is one window.
 pub fn is_window(x: &[u8], y: &[u8], places: usize, mask: u8) -> bool
     ensures { IsTrue result ↔ DifferWithin places mask x.now y.now }
@@ -58,7 +58,7 @@ pub fn agree_from(x: &[u8], y: &[u8], place: usize) -> bool
     place >= x.len() || x[place..] == y[place..]
 }
 
-/// Whether the texts have one length and differ, but only within one block of `N` bytes, or behind the whole blocks.
+/// Whether the texts have one length and differ, but only within one block of `N` bytes, or after the whole blocks.
 pub fn differ_in_one_block<const N: usize>(x: &[u8], y: &[u8]) -> bool
     requires { 0 < N }
     ensures { IsTrue result ↔ DifferInOneBlock N x.now y.now }

@@ -1,10 +1,5 @@
 -- The number that a few bytes are.
-use Rattle.std.proofs.Common.{◌≡◌, ℕ, suc, ◌+◌, ◌*◌, ◌/◌, ◌%◌, ◌^◌, ◌<◌, ◌≤◌, List, [], ◌∷◌, ◌++◌, length, take, drop, refl, ap, sym, ap₂, ◌∙◌, arith, lit<}
-use Rattle.std.proofs.Math.Nat.{pow-le-pow_right}
-use Rattle.std.proofs.lemmas.Nat.{pow-add}
-use Rattle.std.proofs.lemmas.List.{length-take-le, take-append-drop}
-use Rattle.std.proofs.lemmas.List.Elements.{All-head, All-tail, All-take}
-use Rattle.hash_words.specs.Words.{le}
+use Rattle.hash_words.proofs.Common.{◌≡◌, ℕ, suc, ◌+◌, ◌*◌, ◌/◌, ◌%◌, ◌^◌, ◌<◌, ◌≤◌, List, [], ◌∷◌, ◌++◌, length, take, drop, refl, ap, sym, ap₂, ◌∙◌, arith, lit<, pow-le-pow_right, All-head, All-tail, All-take, le, pow-add, length-take-le, take-append-drop}
 use Rattle.hash_words.proofs.PieceLemmas.{AreBytes, IsByte, le-lt}
 
 -- up to k bytes are a number below 256^k

@@ -1,8 +1,5 @@
 -- A slice as chunks of n, in order.
-use Rattle.std.proofs.Common.{◌≡◌, ℕ, zero, suc, ◌+◌, ◌*◌, ◌<◌, ◌≤◌, List, [], ◌++◌, length, get_or, take, drop, refl, sym, ap, ◌∙◌, arith}
-use Rattle.std.proofs.Math.Seq.{take-add}
-use Rattle.std.proofs.lemmas.List.{drop-drop, length-drop, drop-append-le, take-append-le, nil_from_length}
-use Rattle.std.specs.Simd.{first_chunks}
+use Rattle.hash_words.proofs.Common.{◌≡◌, ℕ, zero, suc, ◌+◌, ◌*◌, ◌<◌, ◌≤◌, List, [], ◌++◌, length, get_or, take, drop, refl, sym, ap, ◌∙◌, arith, take-add, drop-append-le, take-append-le, nil_from_length, first_chunks, drop-drop, length-drop}
 
 pub get_or-first_chunks : {X : Type 0} (n k i : ℕ) (xs : List X) (d : List X) → i < k
     → get_or (first_chunks n k xs) i d ≡ take n (drop (i * n) xs)

@@ -1,3 +1,4 @@
+pub mod Common
 pub mod ByteLemmas
 pub mod Chunks
 pub mod PieceLemmas
@@ -5,3 +6,6 @@ pub mod PutLemmas
 pub mod WordLemmas
 pub mod XorLemmas
 pub mod XorshiftLemmas
+pub mod UndoLemmas
+pub mod BitLemmas
+pub mod ByteBlocks

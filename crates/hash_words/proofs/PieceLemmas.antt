@@ -1,12 +1,5 @@
 -- Texts in pieces, and what a fold over pieces tells of them where all but one are equal.
-use Rattle.std.proofs.Common.{◌≡◌, ◌≢◌, ℕ, zero, suc, lit<, ◌+◌, ◌*◌, ◌^◌, ◌<◌, ◌≤◌, List, [], ◌∷◌, ◌++◌, length, get_or, slice_index, take, drop, fold, map, min, All, refl, sym, ap, ◌∙◌, arith, inl, inr}
-use Rattle.std.proofs.Math.Path.{ap₂}
-use Rattle.std.proofs.Math.Nat.{pow-suc}
-use Rattle.std.proofs.lemmas.Bool.{cases_lt}
-use Rattle.std.proofs.lemmas.List.{ext_get_or, get_or-take, get_or-drop, drop-drop, length-take, length-take-le, length-drop, take-append-drop, drop_all, get_or_past}
-use Rattle.std.proofs.lemmas.List.Elements.{All-nil, All-cons, All-head, All-tail, All-take, All-drop}
-use Rattle.std.specs.Simd.{first_chunks}
-use Rattle.hash_words.specs.Words.{le}
+use Rattle.hash_words.proofs.Common.{◌≡◌, ◌≢◌, ℕ, zero, suc, lit<, ◌+◌, ◌*◌, ◌^◌, ◌<◌, ◌≤◌, List, [], ◌∷◌, ◌++◌, length, get_or, slice_index, take, drop, fold, map, min, All, refl, sym, ap, ◌∙◌, arith, inl, inr, ap₂, pow-suc, cases_lt, ext_get_or, get_or-take, get_or-drop, length-take, drop_all, get_or_past, All-nil, All-cons, All-head, All-tail, All-take, All-drop, first_chunks, le, drop-drop, length-take-le, length-drop, take-append-drop}
 use Rattle.hash_words.proofs.Chunks.{get_or-first_chunks}
 
 abbrev pub AreBytes : List ℕ → Type 0

@@ -1,6 +1,5 @@
 -- Writes that cover one another.
-use Rattle.std.proofs.Common.{◌≡◌, ℕ, ◌+◌, ◌-◌, ◌≤◌, List, ◌++◌, length, take, drop, refl, sym, ap, ◌∙◌, arith, length-append, length-drop}
-use Rattle.std.proofs.lemmas.List.{append_assoc, take-append-drop, take-take, drop-drop, take_at, drop_at, length-take-le}
+use Rattle.hash_words.proofs.Common.{◌≡◌, ℕ, ◌+◌, ◌-◌, ◌≤◌, List, ◌++◌, length, take, drop, refl, sym, ap, ◌∙◌, arith, length-append, append_assoc, take-take, take_at, drop_at, length-drop, take-append-drop, drop-drop, length-take-le}
 use Rattle.hash_words.specs.Put.{put_at}
 
 front : (a p d : List ℕ) (m n : ℕ) → length a + m ≡ n → m ≤ length p → take n (a ++ (p ++ d)) ≡ a ++ take m p

@@ -1,13 +1,5 @@
 -- Arithmetic on words.
-use Rattle.std.proofs.Common.{◌≡◌, ℕ, ◌+◌, ◌-◌, ◌*◌, ◌/◌, ◌%◌, ◌^◌, ◌<◌, ◌≤◌, List, [], ◌∷◌, length, slice_index, drop, bit_or, refl, sym, ◌∙◌, ap, subst, add_comm, add-zero, arith, inl, inr}
-use Rattle.std.specs.Int.{w32, w64, w128, from_le_bytes, to_le_bytes, rotate_left}
-use Rattle.std.proofs.lemmas.List.{drop_more, drop_all}
-use Rattle.std.proofs.Math.Nat.{mod-eq_of_lt, mod-eq-sub-mod, mul-mod_left}
-use Rattle.std.proofs.lemmas.Nat.{pow_pos, pow-add, shl-shr, shr_high, mod_low, mod-pow-add, shr_split, mod_below, shr_below, or_shifted, mul-add-lt, from_le_bytes-to_le_bytes_4, from_le_bytes-to_le_bytes_8}
-use Rattle.std.proofs.lemmas.Bool.{cases_lt}
-use Rattle.std.proofs.Math.ListN.{get_or-eq_default}
-use Rattle.std.proofs.lemmas.List.Elements.{All-from_get_or}
-use Rattle.hash_words.specs.Words.{add, sub, rotl, le, swap_halves, AreWords}
+use Rattle.hash_words.proofs.Common.{◌≡◌, ℕ, zero, suc, ◌∷◌, ◌+◌, ◌-◌, ◌*◌, ◌/◌, ◌%◌, ◌^◌, ◌<◌, ◌≤◌, List, [], length, slice_index, bit_or, refl, sym, ◌∙◌, ap, subst, add_comm, add-zero, arith, inl, inr, w32, w64, w128, from_le_bytes, to_le_bytes, rotate_left, mod-eq_of_lt, mod-eq-sub-mod, mul-mod_left, pow_pos, shl-shr, shr_high, mod_low, mod-pow-add, shr_split, mod_below, shr_below, or_shifted, mul-add-lt, from_le_bytes-to_le_bytes_4, from_le_bytes-to_le_bytes_8, cases_lt, All-from_get_or, add, sub, rotl, le, swap_halves, AreWords, pow-add, get_or-eq_default}
 
 -- a number below m is itself after a sum and a difference modulo m
 module _ (m x y : ℕ) (x_in : x < m) (y_in : y < m) where
@@ -43,19 +35,12 @@ sub-add w x y x_in y_in = sub-add_mod (2 ^ w) x y x_in y_in
 pub add-sub : (w x y : ℕ) → x < 2 ^ w → y < 2 ^ w → add w (sub w x y) y ≡ x
 add-sub w x y x_in y_in = add-sub_mod (2 ^ w) x y x_in y_in
 
--- what is to be added to x for y
-pub add-difference : (w x y : ℕ) → x < 2 ^ w → y < 2 ^ w → add w x (sub w y x) ≡ y
-add-difference w x y x_in y_in = ap (λ n. n % 2 ^ w) (add_comm x _) ∙ add-sub w y x y_in x_in
-
--- what is added to a word of 64 bits is known by the sum, and so is the word
-pub added-same : (a x y : ℕ) → x < 2 ^ 64 → y < 2 ^ 64 → (a + x) % 2 ^ 64 ≡ (a + y) % 2 ^ 64 → x ≡ y
-added-same a x y x_in y_in same = omega arith
-
+-- a word to which something is added is known by the sum
 pub word-same : (a b x : ℕ) → a < 2 ^ 64 → b < 2 ^ 64 → (a + x) % 2 ^ 64 ≡ (b + x) % 2 ^ 64 → a ≡ b
 word-same a b x a_in b_in same = omega arith
 
 -- a rotation exchanges the high part and the low part
-rotl_split : (j k x : ℕ) → rotl (j + k) x k ≡ x % 2 ^ j * 2 ^ k + x / 2 ^ j
+pub rotl_split : (j k x : ℕ) → rotl (j + k) x k ≡ x % 2 ^ j * 2 ^ k + x / 2 ^ j
 unfolding rotl
 rotl_split j k x =
     let at_j : j + k - k ≡ j = omega arith in
@@ -120,46 +105,26 @@ rotate_left-64 x k x_in some within =
 
 -- ---- little-endian bytes
 
-le-drop : (bs : List ℕ) (i j : ℕ) → j ≡ i + 1 → i < length bs → le (drop i bs) ≡ slice_index bs i + 256 * le (drop j bs)
+-- the value of at most n bytes by their places, past the last of which a list reads 0
+abbrev pub value_of : ℕ → (ℕ → ℕ) → ℕ
+value_of zero at = 0
+value_of (suc n) at = at 0 + 256 * value_of n (λ i. at (suc i))
+
+pub le_by_places : (n : ℕ) (t : List ℕ) → length t ≤ n → le t ≡ value_of n (slice_index t)
 unfolding le
-le-drop bs i j next i_in = rw next (ap le (drop_more bs i 0 i_in))
-
-pub le-drop_all : (bs : List ℕ) (i : ℕ) → length bs ≤ i → le (drop i bs) ≡ 0
-unfolding le
-le-drop_all bs i past = ap le (drop_all i bs past)
-
--- four bytes, and the bytes behind them
-le-drop_four : (bs : List ℕ) (i : ℕ) → i + 3 < length bs → le (drop i bs)
-    ≡ slice_index bs i + 256 * (slice_index bs (i + 1) + 256 * (slice_index bs (i + 2) + 256 * (slice_index bs (i + 3)
-    + 256 * le (drop (i + 4) bs))))
-le-drop_four bs i i_in =
-    let e0 = le-drop bs i (i + 1) (omega arith) (omega arith) in
-    let e1 = le-drop bs (i + 1) (i + 2) (omega arith) (omega arith) in
-    let e2 = le-drop bs (i + 2) (i + 3) (omega arith) (omega arith) in
-    let e3 = le-drop bs (i + 3) (i + 4) (omega arith) (omega arith) in
-    omega arith
-
-pub from_le_bytes-8 : (bs : List ℕ) → length bs ≡ 8 → from_le_bytes w64 bs ≡ le bs
-from_le_bytes-8 bs len =
-    let low = le-drop_four bs 0 (omega arith) in
-    let high = le-drop_four bs 4 (omega arith) in
-    let none = le-drop_all bs 8 (omega arith) in
-    omega arith
-
-pub from_le_bytes-16 : (bs : List ℕ) → length bs ≡ 16 → from_le_bytes w128 bs ≡ le bs
-from_le_bytes-16 bs len =
-    let first = le-drop_four bs 0 (omega arith) in
-    let second = le-drop_four bs 4 (omega arith) in
-    let third = le-drop_four bs 8 (omega arith) in
-    let fourth = le-drop_four bs 12 (omega arith) in
-    let none = le-drop_all bs 16 (omega arith) in
-    omega arith
+le_by_places zero [] few = refl
+le_by_places zero (b ∷ t) few = absurd (omega arith)
+le_by_places (suc n) [] few = omega (arith, le_by_places n [] (omega arith))
+le_by_places (suc n) (b ∷ t) few = ap (λ v. b + 256 * v) (le_by_places n t (omega (arith, few)))
 
 pub from_le_bytes-4 : (bs : List ℕ) → length bs ≡ 4 → from_le_bytes w32 bs ≡ le bs
-from_le_bytes-4 bs len =
-    let all = le-drop_four bs 0 (omega arith) in
-    let none = le-drop_all bs 4 (omega arith) in
-    omega arith
+from_le_bytes-4 bs len = omega (arith, le_by_places 4 bs (omega arith))
+
+pub from_le_bytes-8 : (bs : List ℕ) → length bs ≡ 8 → from_le_bytes w64 bs ≡ le bs
+from_le_bytes-8 bs len = omega (arith, le_by_places 8 bs (omega arith))
+
+pub from_le_bytes-16 : (bs : List ℕ) → length bs ≡ 16 → from_le_bytes w128 bs ≡ le bs
+from_le_bytes-16 bs len = omega (arith, le_by_places 16 bs (omega arith))
 
 -- the value of a word's bytes
 pub le-to_le_bytes-32 : (x : ℕ) → x < 2 ^ 32 → le (to_le_bytes w32 x) ≡ x
@@ -167,43 +132,6 @@ le-to_le_bytes-32 x x_in = sym (from_le_bytes-4 (to_le_bytes w32 x) refl) ∙ fr
 
 pub le-to_le_bytes-64 : (x : ℕ) → x < 2 ^ 64 → le (to_le_bytes w64 x) ≡ x
 le-to_le_bytes-64 x x_in = sym (from_le_bytes-8 (to_le_bytes w64 x) refl) ∙ from_le_bytes-to_le_bytes_8 x x_in
-
--- the values of at most four bytes
-pub le-0 : (t : List ℕ) → length t ≡ 0 → le t ≡ 0
-unfolding le
-le-0 [] n = refl
-le-0 (a ∷ t) n = absurd (omega arith)
-
-pub le-1 : (t : List ℕ) → length t ≡ 1 → le t ≡ slice_index t 0
-unfolding le
-le-1 [] n = absurd (omega arith)
-le-1 (a ∷ []) n = omega arith
-le-1 (a ∷ b ∷ t) n = absurd (omega arith)
-
-pub le-2 : (t : List ℕ) → length t ≡ 2 → le t ≡ slice_index t 0 + slice_index t 1 * 256
-unfolding le
-le-2 [] n = absurd (omega arith)
-le-2 (a ∷ []) n = absurd (omega arith)
-le-2 (a ∷ b ∷ []) n = omega arith
-le-2 (a ∷ b ∷ c ∷ t) n = absurd (omega arith)
-
-pub le-3 : (t : List ℕ) → length t ≡ 3 → le t ≡ slice_index t 0 + slice_index t 1 * 256 + slice_index t 2 * 65536
-unfolding le
-le-3 [] n = absurd (omega arith)
-le-3 (a ∷ []) n = absurd (omega arith)
-le-3 (a ∷ b ∷ []) n = absurd (omega arith)
-le-3 (a ∷ b ∷ c ∷ []) n = omega arith
-le-3 (a ∷ b ∷ c ∷ d ∷ t) n = absurd (omega arith)
-
-pub le-4 : (t : List ℕ) → length t ≡ 4 → le t ≡ slice_index t 0 + slice_index t 1 * 256 + slice_index t 2 * 65536
-    + slice_index t 3 * 16777216
-unfolding le
-le-4 [] n = absurd (omega arith)
-le-4 (a ∷ []) n = absurd (omega arith)
-le-4 (a ∷ b ∷ []) n = absurd (omega arith)
-le-4 (a ∷ b ∷ c ∷ []) n = absurd (omega arith)
-le-4 (a ∷ b ∷ c ∷ d ∷ []) n = omega arith
-le-4 (a ∷ b ∷ c ∷ d ∷ e ∷ t) n = absurd (omega arith)
 
 pub swap_halves-is : (x : ℕ) → rotl 64 x 32 ≡ swap_halves x
 swap_halves-is x = rotl_split 32 32 x

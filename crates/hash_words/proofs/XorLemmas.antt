@@ -1,8 +1,5 @@
 -- What `^` does to a word, and how it is undone.
-use Rattle.std.proofs.Common.{◌≡◌, ℕ, ◌/◌, ◌^◌, ◌<◌, bit_xor, sym, ap, ◌∙◌, arith}
-use Rattle.std.proofs.Math.Nat.{div-eq_of_lt}
-use Rattle.std.proofs.lemmas.Nat.{xor_lt, xor_shr, xor_comm}
-use Rattle.std.specs.Int.Bits.{xor_assoc, xor_self, xor_zero_r}
+use Rattle.hash_words.proofs.Common.{◌≡◌, ℕ, ◌/◌, ◌^◌, ◌<◌, bit_xor, sym, ap, ◌∙◌, arith, div-eq_of_lt, xor_lt, xor_shr, xor_comm, xor_assoc, xor_self, xor_zero_r}
 
 -- `^` undoes itself
 pub xor_twice : (x y : ℕ) → bit_xor (bit_xor x y) y ≡ x

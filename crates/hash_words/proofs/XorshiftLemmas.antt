@@ -1,9 +1,5 @@
 -- A word with a shift of itself folded on, and how that is undone.
-use Rattle.std.proofs.Common.{◌≡◌, ℕ, ◌+◌, ◌*◌, ◌/◌, ◌^◌, ◌<◌, ◌≤◌, bit_xor, refl, sym, ◌∙◌, ap, lit<, add_comm, arith}
-use Rattle.std.specs.Int.Bits.{xor_assoc, xor_self, xor_zero_l, xor_zero_r}
-use Rattle.std.proofs.Math.Nat.{div-eq_of_lt, pow-le-pow_right, mul_comm}
-use Rattle.std.proofs.lemmas.Nat.{xor_shr, shr-shr, xor_comm, xor_lt, shr_le}
-use Rattle.hash_words.specs.Words.{xorshift}
+use Rattle.hash_words.proofs.Common.{◌≡◌, ℕ, ◌+◌, ◌*◌, ◌/◌, ◌^◌, ◌<◌, ◌≤◌, bit_xor, refl, ◌∙◌, ap, lit<, add_comm, arith, xor_assoc, xor_self, xor_zero_l, xor_zero_r, div-eq_of_lt, pow-le-pow_right, mul_comm, xor_shr, shr-shr, xor_comm, xor_lt, shr_le, xorshift}
 
 xor_swap : (a b c d : ℕ) → bit_xor (bit_xor a b) (bit_xor c d) ≡ bit_xor (bit_xor a c) (bit_xor b d)
 xor_swap a b c d =
@@ -25,7 +21,7 @@ xorshift-twice x k =
       double,
     ) refl
 
-xorshift-swap : (x j k : ℕ) → xorshift (xorshift x j) k ≡ xorshift (xorshift x k) j
+pub xorshift-swap : (x j k : ℕ) → xorshift (xorshift x j) k ≡ xorshift (xorshift x k) j
 xorshift-swap x j k =
     rw (
       xor_shr x (x / 2 ^ j) k,
@@ -46,17 +42,6 @@ xorshift-past w x k x_in past =
 pub xorshift-more : (x y j k : ℕ) → xorshift y k ≡ xorshift x j → xorshift (xorshift y j) k ≡ xorshift x (j * 2)
 xorshift-more x y j k so_far =
     xorshift-swap y j k ∙ ap (λ n. xorshift n j) so_far ∙ xorshift-twice x j ∙ ap (xorshift x) (mul_comm 2 j)
-
-same_twice : (y z k : ℕ) → xorshift y k ≡ xorshift z k → xorshift y (2 * k) ≡ xorshift z (2 * k)
-same_twice y z k same = sym (xorshift-twice y k) ∙ ap (λ n. xorshift n k) same ∙ xorshift-twice z k
-
--- a word is known by its shift
-pub same_from_xorshift : (y z k : ℕ) → y < 2 ^ 64 → z < 2 ^ 64 → 0 < k → xorshift y k ≡ xorshift z k → y ≡ z
-same_from_xorshift y z k y_in z_in some same =
-    let far = 2 * (2 * (2 * (2 * (2 * (2 * k))))) in
-    let past : 64 ≤ far = omega arith in
-    let all = same_twice y z _ (same_twice y z _ (same_twice y z _ (same_twice y z _ (same_twice y z _ (same_twice y z k same))))) in
-    sym (xorshift-past 64 y far y_in past) ∙ all ∙ xorshift-past 64 z far z_in past
 
 -- a shift of a word is a word
 pub xorshift-lt : (w x k : ℕ) → x < 2 ^ w → xorshift x k < 2 ^ w

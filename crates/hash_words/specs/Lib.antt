@@ -1,3 +1,4 @@
 pub mod Pieces
 pub mod Put
 pub mod Words
+pub mod Undoes

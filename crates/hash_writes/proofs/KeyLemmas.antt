@@ -1,14 +1,8 @@
 -- What std feeds a hasher of a key.
-use Rattle.std.proofs.Common.{ℕ, ◌≡◌, ◌<◌, List, [], ◌∷◌, ◌++◌, fold, ap, sym, ◌∙◌, refl, lit<}
-use Rattle.std.proofs.lemmas.List.{append-nil}
+use Rattle.hash_writes.proofs.Common.{ℕ, ◌≡◌, ◌<◌, List, [], ◌∷◌, ◌++◌, fold, ap, sym, ◌∙◌, refl, lit<, append-nil, All, All-nil, All-append, All-cons, All-head, All-tail, IsText, IsText-one, IsText-le_bytes, IsByte, fold-pieces}
 use Rattle.std.proofs.lemmas.List.Concat.{concat_is}
-use Rattle.std.proofs.lemmas.List.Elements.{All-nil, All-append, All-cons, All-head, All-tail}
-use Rattle.std.specs.Prelude.{All}
 use Rattle.std.specs.List.{concat, flat_map}
 use Rattle.std.specs.Hash.{le_bytes, str}
-use Rattle.hash_laws.specs.Text.{IsText}
-use Rattle.hash_laws.proofs.TextLemmas.{IsText-one, IsText-le_bytes, IsByte}
-use Rattle.hash_laws.proofs.PieceFolds.{fold-pieces}
 
 -- what is written is fed, write by write
 pub state_after_writes : {A S : Type 0} (write : A → List ℕ → A) (state : A → S) (after : S → List ℕ → S)

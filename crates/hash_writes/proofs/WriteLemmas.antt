@@ -1,12 +1,6 @@
 -- Writes that are taken back from the last to the first.
-use Rattle.std.proofs.Common.{ℕ, ◌≡◌, subst, List, [], ◌∷◌, ◌++◌, fold, map, length, ap, sym, ◌∙◌, refl, append_assoc, arith}
-use Rattle.std.proofs.lemmas.List.{append-nil}
-use Rattle.std.specs.Prelude.{All}
-use Rattle.std.specs.List.{flat_map}
-use Rattle.std.proofs.lemmas.List.Elements.{All-nil, All-cons}
-use Rattle.hash_laws.specs.Text.{IsText}
-use Rattle.hash_writes.specs.Writes.{IsTakenOut}
-use Rattle.hash_laws.proofs.PieceFolds.{fold-pieces}
+use Rattle.hash_writes.proofs.Common.{ℕ, ◌≡◌, subst, List, [], ◌∷◌, ◌++◌, fold, map, length, ap, sym, ◌∙◌, refl, append_assoc, arith, append-nil, All, All-nil, All-cons, IsText, IsTakenOut, fold-pieces}
+use Rattle.std.proofs.Common.{flat_map}
 
 -- of all items those at the end were taken back: from the state they lead to the old one, and from no other
 pub record TakenBack {A S : Type 0} (text_of : A → List ℕ) (in_range : S → Type 0) (after : S → List ℕ → S) (old state : S)

@@ -54,7 +54,7 @@ impl<H: Piecewise> BuildHasher for BuildFresh<H> {
     }
 }
 
-/// The hash of a key by [`BuildFresh`], where cuts don't show: that of the bytes that std feeds, joined.
+/// The hash of a key by [`BuildFresh`], where the split does not matter: that of the bytes that std feeds, joined.
 #[inline(always)]
 pub fn hash_one_joined<H: Streamed, K: Hash + Drop>(key: K) -> u64
     ensures { All IsText (K.hash_input key) → result ≡ H.hash_of (concat (K.hash_input key)) }
@@ -70,7 +70,7 @@ pub fn hash_one_slice<H: Streamed>(key: &[u8]) -> u64
     hash_one_joined::<H, &[u8]>(key)
 }
 
-/// The hash of a number as a key: that of its 8 bytes, the lowest first. It is one write, so this holds where cuts show, too.
+/// The hash of a number as a key: that of its 8 bytes, the lowest first. It is one write, so this holds where the split matters, too.
 #[inline(always)]
 pub fn hash_one_number<H: Piecewise>(key: u64) -> u64
     ensures { result ≡ H.hash_of (le_bytes 8 key) }
@@ -86,7 +86,7 @@ pub fn hash_one_pair<H: Streamed>(key: (u64, u64)) -> u64
     hash_one_joined::<H, (u64, u64)>(key)
 }
 
-/// The hash of a slice of bytes as a key, also where cuts show: the answer after its length in 8 bytes as one write, and then
+/// The hash of a slice of bytes as a key, also where the split matters: the answer after its length in 8 bytes as one write, and then
 /// each of its bytes as a write of its own.
 #[inline(always)]
 pub fn hash_one_slice_in_writes<H: Piecewise>(key: &[u8]) -> u64
@@ -96,7 +96,7 @@ pub fn hash_one_slice_in_writes<H: Piecewise>(key: &[u8]) -> u64
     BuildFresh::<H>::new().hash_one::<&[u8]>(key)
 }
 
-/// The hash of a pair of numbers as a key, also where cuts show: the answer after the 8 bytes of the first as one write, and then
+/// The hash of a pair of numbers as a key, also where the split matters: the answer after the 8 bytes of the first as one write, and then
 /// those of the second.
 #[inline(always)]
 pub fn hash_one_pair_in_writes<H: Piecewise>(key: (u64, u64)) -> u64
@@ -113,7 +113,7 @@ pub fn hash_one_str<H: Streamed>(key: &str) -> u64
     hash_one_joined::<H, &str>(key)
 }
 
-/// Feeds a key to a hasher to which cuts don't show: the state is that after the bytes that std feeds, joined, from
+/// Feeds a key to a hasher for which the split does not matter: the state is that after the bytes that std feeds, joined, from
 /// wherever the hasher stood.
 #[inline(always)]
 pub fn feed_key<H: Streamed, K: Hash + Drop>(h: &mut H, key: K)

@@ -1,4 +1,4 @@
-//! Lists of writes: any calls that std's `Hasher` offers for bytes and unsigned numbers, made in order and taken back.
+//! Lists of writes: any calls that std's `Hasher` offers for bytes and unsigned numbers, made in order and undone.
 ghost use Rattle.std.specs.Prelude.{◌≡◌, ◌≢◌, ℕ, List, [], ◌++◌, All, fold};
 ghost use Rattle.hash_laws.specs.Text.{IsText};
 ghost use Rattle.hash_writes.specs.Writes.{written, all_written, joined_written, IsTakenOut};

@@ -1,18 +1,8 @@
 -- Where more bytes lead a longer text.
-use Rattle.std.proofs.Common.{◌≡◌, ℕ, ◌+◌, ◌-◌, ◌*◌, ◌/◌, ◌%◌, ◌^◌, ◌<◌, ◌≤◌, nat_lt, true, false, List, ◌++◌, length, take, drop, sym, ap, ◌∙◌, arith, length-append, length-drop}
-use Rattle.std.proofs.Math.Path.{ap₂}
-use Rattle.std.proofs.lemmas.Bool.Decides.{nat_tests}
-use Rattle.std.proofs.lemmas.List.{drop_at, drop-drop, drop-append-le, take-take, length-take-le, take-append-drop}
+use Rattle.hash_xxh3.proofs.Common.{◌≡◌, ℕ, ◌+◌, ◌-◌, ◌*◌, ◌/◌, ◌%◌, ◌^◌, ◌<◌, ◌≤◌, nat_lt, true, false, List, ◌++◌, length, take, drop, sym, ap, ◌∙◌, arith, length-append, ap₂, nat_tests, drop_at, drop-drop, drop-append-le, take-take, secret_of, start_lanes, stripes_in, put_at, Position, Short, Long, more_stripes, advanced, after, IsPosition, IsPosition-after, advanced_on, stripes_in-add, stripes_in-prefix, Lanes, take-put_at, length-drop, length-take-le, take-append-drop}
 use Rattle.hash_laws.specs.Text.{IsText}
-use Rattle.hash_xxh3.specs.Long.{secret_of, start_lanes, stripes_in}
 use Rattle.hash_xxh3.specs.Parts.{position_of, IsLongParts, IsSettled}
-use Rattle.hash_words.specs.Put.{put_at}
-use Rattle.hash_xxh3.specs.Streaming.{Position, Short, Long, more_stripes, advanced, after, IsPosition}
-use Rattle.hash_xxh3.specs.StreamingLaws.{IsPosition-after, advanced_on}
-use Rattle.hash_xxh3.specs.StripeLaws.{stripes_in-add, stripes_in-prefix}
-use Rattle.hash_xxh3.specs.declared.long.Lanes.{Lanes}
 use Rattle.hash_xxh3.specs.declared.parts.Xxh3Parts.{Xxh3Parts}
-use Rattle.hash_words.proofs.PutLemmas.{take-put_at}
 
 -- a stripe and what is behind it, where all before the last stripe is in what is behind it
 pub kept_behind : (stripe rest : List ℕ) (whole k : ℕ) → length stripe ≡ 64 → 64 ≤ whole → whole ≡ k * 64

@@ -1,3 +1,4 @@
+pub mod Common
 pub mod RangeLemmas
 pub mod AdvanceLemmas
 pub mod SecretLemmas

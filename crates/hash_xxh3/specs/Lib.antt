@@ -1,3 +1,4 @@
+pub mod Common
 pub mod Secret
 pub mod Words
 pub mod Short

@@ -1,7 +1,6 @@
 //! How a hasher of a text of more than 240 bytes goes on.
-ghost use Rattle.std.specs.Prelude.{◌≡◌, ◌+◌, ◌-◌, ◌*◌, ◌/◌, ◌%◌, ◌^◌, ◌<◌, ◌≤◌, ℕ, ◌++◌, length, take, drop};
-ghost use Rattle.hash_xxh3.specs.Long.{secret_of};
-ghost use Rattle.hash_xxh3.specs.Streaming.{advanced, position};
+ghost use Rattle.std.specs.Prelude.{◌≡◌, ◌+◌, ◌-◌, ◌*◌, ◌/◌, ◌%◌, ◌^◌, ◌<◌, ◌≤◌, ◌++◌};
+ghost use Rattle.hash_xxh3.specs.Common.{ℕ, length, take, drop, secret_of, advanced, position};
 ghost use Rattle.hash_xxh3.specs.declared.long.Lanes.{Lanes};
 
 use crate::long::{Lanes, START, STRIPE, stripes_in};
@@ -70,7 +69,7 @@ pub(crate) fn keep_all(buffer: &mut [u8; 256], kept: usize, bytes: &[u8]) -> usi
     kept + bytes.len()
 }
 
-/// Goes on over more bytes, where a whole stripe and something behind it are kept. As many are kept then as the result says.
+/// Goes on over more bytes, where a whole stripe and something after it are kept. As many are kept then as the result says.
 #[inline(always)]
 pub(crate) fn advance(
     secret: &[u8; 192],

@@ -1,12 +1,9 @@
 //! XXH3 of a text that comes piece by piece.
-ghost use Rattle.std.specs.Prelude.{◌≡◌, Some, None, ℕ, ◌+◌, ◌<◌, ◌^◌, List, [], ◌∷◌, ◌++◌, refl};
+ghost use Rattle.std.specs.Prelude.{◌≡◌, ◌+◌, ◌<◌, ◌^◌, ◌∷◌, ◌++◌};
+ghost use Rattle.hash_xxh3.specs.Common.{Some, None, ℕ, List, [], refl, Fits, place_of, Position, position, after, hash, IsPosition, Xxh3StandsAt, xxh3_from, wide_hash, xxh3_128_of, xxh3_64_of};
 ghost use Rattle.std.proofs.Common.{lit<};
 ghost use Rattle.hash_laws.specs.Text.{joined};
-ghost use Rattle.hash_xxh3.specs.Place.{Fits, place_of};
-ghost use Rattle.hash_xxh3.specs.Streaming.{Position, position, after, hash, IsPosition, Xxh3StandsAt, xxh3_from};
 ghost use Rattle.hash_xxh3.specs.StreamingLaws.{IsPosition-fresh, IsPosition-after, after-nil, after-append, hash-position, hash_of_fresh, stands_at_seed, stands_after, hash_from_seed, answer_where_stands};
-ghost use Rattle.hash_xxh3.specs.Wide.{wide_hash, xxh3_128_of};
-ghost use Rattle.hash_xxh3.specs.Xxh3.{xxh3_64_of};
 
 use crate::long::lanes_at;
 use crate::parts::Xxh3Parts;
@@ -16,7 +13,7 @@ use hash_laws::traits::{Piecewise, Streamed, run_streamed};
 use std::hash::Hasher;
 use std::marker::Model;
 
-/// XXH3 of a text that comes piece by piece, under a seed. How the bytes were cut into pieces doesn't show.
+/// XXH3 of a text that comes piece by piece, under a seed. How the bytes were split into pieces does not matter.
 pub struct Xxh3Hasher {
     parts: Xxh3Parts,
 }
@@ -95,7 +92,8 @@ impl Xxh3Hasher {
     #[inline(always)]
     pub fn finish128(&self) -> (u64, u64)
         ensures value { result ≡ wide_hash self.now }
-        ensures of_text { (seed : ℕ) (text : List ℕ) → self.now ≡ position seed text → result ≡ xxh3_128_of seed text }
+        ensures of_text { (seed : ℕ) (text : List ℕ) → self.now ≡ position seed text
+            → result ≡ xxh3_128_of seed text }
     {
         self.parts.finish128()
     }
@@ -120,7 +118,8 @@ impl Hasher for Xxh3Hasher {
     fn finish(&self) -> u64
         ensures value { result ≡ hash self.now }
         ensures in_range { IsPosition self.now }
-        ensures of_text { (seed : ℕ) (text : List ℕ) → self.now ≡ position seed text → result ≡ xxh3_64_of seed text }
+        ensures of_text { (seed : ℕ) (text : List ℕ) → self.now ≡ position seed text
+            → result ≡ xxh3_64_of seed text }
     {
         self.parts.finish()
     }

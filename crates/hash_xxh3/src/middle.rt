@@ -1,8 +1,7 @@
 //! XXH3 of 17 to 240 bytes.
-ghost use Rattle.std.specs.Prelude.{◌≡◌, ◌+◌, ◌*◌, ◌≤◌, ◌<◌, length, bit_xor};
+ghost use Rattle.std.specs.Prelude.{◌≡◌, ◌+◌, ◌*◌, ◌≤◌, ◌<◌};
+ghost use Rattle.hash_xxh3.specs.Common.{length, bit_xor, default_secret, folded_product, word_at};
 ghost use Rattle.hash_words.specs.Words.{add, sub};
-ghost use Rattle.hash_xxh3.specs.Secret.{default_secret};
-ghost use Rattle.hash_xxh3.specs.Words.{folded_product, word_at};
 ghost use Rattle.hash_xxh3.specs.Middle.{mix_piece, length_word, add_piece, add_ends, add_nth, first_pieces, other_pieces, of_128, of_240};
 
 use crate::secret::secret_word;
@@ -130,6 +129,7 @@ fn add_nth(seed: u64, text: &[u8], sum: u64, i: usize, key: usize) -> u64
 }
 
 #[inline(always)]
+#[tactic(auto, using(crate::proofs::RangeLemmas::fold_range_more))]
 fn first_pieces(seed: u64, text: &[u8]) -> u64
     ensures { result ≡ first_pieces seed text.now }
 {
@@ -141,6 +141,7 @@ fn first_pieces(seed: u64, text: &[u8]) -> u64
 }
 
 #[inline(always)]
+#[tactic(auto, using(crate::proofs::RangeLemmas::fold_range_from))]
 fn other_pieces(seed: u64, text: &[u8], start: u64) -> u64
     ensures { result ≡ other_pieces seed text.now start }
 {

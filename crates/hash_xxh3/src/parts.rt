@@ -1,9 +1,7 @@
 //! What a hasher of XXH3 keeps.
-ghost use Rattle.std.specs.Prelude.{◌≡◌, ◌+◌, ◌<◌, ◌≤◌, true, false, length, take, if◌then◌else◌, []};
-ghost use Rattle.hash_xxh3.specs.Long.{IsLanes};
+ghost use Rattle.std.specs.Prelude.{◌≡◌, ◌+◌, ◌<◌, ◌≤◌, if◌then◌else◌};
+ghost use Rattle.hash_xxh3.specs.Common.{true, false, length, take, [], IsLanes, Short, advanced, position, after, hash, wide_hash};
 ghost use Rattle.hash_xxh3.specs.Parts.{position_of, IsSettled};
-ghost use Rattle.hash_xxh3.specs.Streaming.{Short, advanced, position, after, hash};
-ghost use Rattle.hash_xxh3.specs.Wide.{wide_hash};
 
 use crate::advance::{advance, begin_through};
 use crate::long::{Lanes, START, end_kept};
@@ -14,7 +12,7 @@ use hash_laws::traits::bytes_are_a_text;
 use hash_words::put;
 
 /// The numbers that a hasher keeps: of a text of at most 240 bytes the text, and of a longer one the eight words after a
-/// stripe, and that stripe with the bytes behind it, of which there is one at least.
+/// stripe, and that stripe with the bytes after it, of which there is one at least.
 #[derive(Clone, Copy)]
 pub(crate) struct Xxh3Parts {
     pub seed: u64,

@@ -1,8 +1,6 @@
 //! What a hasher of XXH3 keeps, in numbers that a caller keeps itself.
-ghost use Rattle.std.specs.Prelude.{◌≡◌, ◌↔◌, ◌+◌, ◌≤◌, IsTrue, Some, None, ℕ, ◌≢◌, List, ◌++◌, length};
-ghost use Rattle.hash_xxh3.specs.Place.{Fits, StandsBehind, place_of};
-ghost use Rattle.hash_xxh3.specs.Streaming.{after, hash};
-ghost use Rattle.hash_xxh3.specs.Wide.{wide_hash};
+ghost use Rattle.std.specs.Prelude.{◌≡◌, ◌↔◌, ◌+◌, ◌≤◌, ◌≢◌, ◌++◌};
+ghost use Rattle.hash_xxh3.specs.Common.{IsTrue, Some, None, ℕ, List, length, Fits, StandsBehind, place_of, after, hash, wide_hash};
 
 use crate::advance::{advance_under, begin_through, keep_all};
 use crate::long::{START, end_kept, lanes_at};
@@ -26,7 +24,7 @@ pub struct Xxh3Place {
     pub long: u64,
     /// How many bytes of the buffer are kept.
     pub kept: u64,
-    /// A text of at most 240 bytes, or a stripe that is in the words, and what is behind it.
+    /// A text of at most 240 bytes, or a stripe that is in the words, and what is after it.
     pub buffer: [u8; 256],
 }
 

@@ -1,8 +1,6 @@
 //! XXH3's default secret, and the one of a seed.
-ghost use Rattle.std.specs.Prelude.{◌≡◌, ◌+◌, ◌≤◌, length};
-ghost use Rattle.hash_xxh3.specs.Long.{secret_of};
-ghost use Rattle.hash_xxh3.specs.Secret.{default_secret};
-ghost use Rattle.hash_xxh3.specs.Words.{word_at, half_at};
+ghost use Rattle.std.specs.Prelude.{◌≡◌, ◌+◌, ◌≤◌};
+ghost use Rattle.hash_xxh3.specs.Common.{length, secret_of, default_secret, word_at, half_at};
 
 use crate::words::{half_at, word_at};
 use hash_words::put_array;

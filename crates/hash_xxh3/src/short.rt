@@ -1,7 +1,7 @@
 //! XXH3 of at most 16 bytes.
-ghost use Rattle.std.specs.Prelude.{◌≡◌, ◌+◌, ◌^◌, ◌≤◌, ◌<◌, length};
+ghost use Rattle.std.specs.Prelude.{◌≡◌, ◌+◌, ◌^◌, ◌≤◌, ◌<◌};
+ghost use Rattle.hash_xxh3.specs.Common.{length, xxh3_short};
 ghost use Rattle.hash_xxh3.specs.Short.{secret_pair, of_none, few_number, few_flip, of_few, eight_number, eight_seed, eight_flip, of_eight, of_sixteen};
-ghost use Rattle.hash_xxh3.specs.Xxh3.{xxh3_short};
 
 use crate::secret::{secret_half, secret_word};
 use crate::words::{avalanche, avalanche_64, folded_product, half_at, length_mix, word_at};

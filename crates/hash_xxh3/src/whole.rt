@@ -1,6 +1,6 @@
 //! XXH3 of a text in one call.
-ghost use Rattle.std.specs.Prelude.{◌≡◌, ◌<◌, length};
-ghost use Rattle.hash_xxh3.specs.Xxh3.{xxh3_kept, xxh3_64_of};
+ghost use Rattle.std.specs.Prelude.{◌≡◌, ◌<◌};
+ghost use Rattle.hash_xxh3.specs.Common.{length, xxh3_kept, xxh3_64_of};
 
 use crate::long::of_long;
 use crate::middle::{of_128, of_240};

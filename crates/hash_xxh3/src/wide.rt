@@ -1,7 +1,6 @@
 //! XXH3 of 128 bits: a low word and a high one.
-ghost use Rattle.std.specs.Prelude.{◌≡◌, ◌+◌, ◌-◌, ◌*◌, ◌/◌, ◌^◌, ◌≤◌, ◌<◌, length};
-ghost use Rattle.hash_xxh3.specs.Streaming.{kept_words};
-ghost use Rattle.hash_xxh3.specs.Wide.{wide_none, few_turned, few_flip_high, wide_few, eight_wide_number, eight_wide_flip, eight_product, eight_high, eight_low, wide_words, wide_eight, sixteen_product, sixteen_back, sixteen_high, sixteen_low, sixteen_end, wide_sixteen, wide_short, add_two, wide_end, add_pair, wide_128, first_pairs, other_pairs, wide_240, wide_end_long, wide_under, wide_long, wide_kept, xxh3_128_of};
+ghost use Rattle.std.specs.Prelude.{◌≡◌, ◌+◌, ◌-◌, ◌*◌, ◌/◌, ◌^◌, ◌≤◌, ◌<◌};
+ghost use Rattle.hash_xxh3.specs.Common.{length, kept_words, wide_none, few_turned, few_flip_high, wide_few, eight_wide_number, eight_wide_flip, eight_product, eight_high, eight_low, wide_words, wide_eight, sixteen_product, sixteen_back, sixteen_high, sixteen_low, sixteen_end, wide_sixteen, wide_short, add_two, wide_end, add_pair, wide_128, first_pairs, other_pairs, wide_240, wide_end_long, wide_under, wide_long, wide_kept, xxh3_128_of};
 
 use crate::long::{Lanes, end_words, kept_words, merge};
 use crate::middle::{add_piece, length_word};
@@ -257,6 +256,7 @@ fn wide_128(text: &[u8], seed: u64) -> (u64, u64)
 }
 
 #[inline(always)]
+#[tactic(auto, using(crate::proofs::RangeLemmas::fold_range_more))]
 fn first_pairs(seed: u64, text: &[u8]) -> (u64, u64)
     requires { 128 ≤ length text.now }
     ensures { result ≡ first_pairs seed text.now }
@@ -269,6 +269,7 @@ fn first_pairs(seed: u64, text: &[u8]) -> (u64, u64)
 }
 
 #[inline(always)]
+#[tactic(auto, using(crate::proofs::RangeLemmas::fold_range_from))]
 fn other_pairs(seed: u64, text: &[u8], start: (u64, u64)) -> (u64, u64)
     requires some { 128 ≤ length text.now }
     requires few { length text.now < 241 }

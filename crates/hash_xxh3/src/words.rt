@@ -1,6 +1,6 @@
 //! Words of a text, and the mixes of a word.
-ghost use Rattle.std.specs.Prelude.{◌≡◌, ◌+◌, ◌*◌, ◌≤◌, ◌<◌, length};
-ghost use Rattle.hash_xxh3.specs.Words.{word_at, half_at, folded_product, avalanche, avalanche_64, three_turns, length_in, length_mix};
+ghost use Rattle.std.specs.Prelude.{◌≡◌, ◌+◌, ◌*◌, ◌≤◌, ◌<◌};
+ghost use Rattle.hash_xxh3.specs.Common.{length, word_at, half_at, folded_product, avalanche, avalanche_64, three_turns, length_in, length_mix};
 
 use hash_words::{le_four, le_two, le64, rotl64, xorshift};
 
@@ -81,7 +81,7 @@ pub(crate) fn three_turns(hash: u64) -> u64
     hash ^ rotl64(hash, 49) ^ rotl64(hash, 24)
 }
 
-/// A word with what is left of it behind 35 bits, and a length added to that, folded on.
+/// A word with what is left of it after 35 bits, and a length added to that, folded on.
 #[inline(always)]
 #[tactic(auto, unfolding(crate::specs::Words::length_in))]
 pub fn length_in(len: u64, hash: u64) -> u64

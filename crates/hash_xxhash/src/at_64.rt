@@ -56,6 +56,7 @@ pub fn start(seed: u64) -> [u64; 4]
 // The four words of a block, read two by two: of four that are read alone LLVM makes a vector where the processor has a product of
 // vectors, which takes longer than four products.
 #[inline(always)]
+#[tactic(auto, using(crate::proofs::FourWords::words_by_two))]
 fn words_of(block: &[u8; 32]) -> [u64; 4]
     ensures { result ≡ le_words block.now }
 {
@@ -105,7 +106,7 @@ pub fn converged(lanes: &[u64; 4]) -> u64
     )
 }
 
-/// The word of XXH64 after eight bytes more behind the blocks.
+/// The word of XXH64 after eight more bytes, after the blocks.
 #[inline(always)]
 #[tactic(auto, unfolding(crate::specs::Xxh64::eight_in))]
 pub fn eight_in(h: u64, word: u64) -> u64
@@ -250,7 +251,7 @@ pub fn xxh64(seed: u64, bytes: &[u8]) -> u64
     Xxh64Hasher::hash_of(seed, bytes)
 }
 
-/// The same of a text in pieces: how it was cut doesn't show.
+/// The same of a text in pieces: how it was split does not matter.
 pub fn xxh64_of_pieces(seed: u64, pieces: &[&[u8]]) -> u64
     ensures { result ≡ xxh64 seed (joined pieces.now) }
 {

@@ -1,15 +1,6 @@
 -- The hashes of two texts that differ within a window are different.
-use Rattle.std.proofs.Common.{◌≢◌, ℕ, ◌^◌, List, lit<}
-use Rattle.hash_bytes.specs.Oz.{djb2_step}
-use Rattle.hash_bytes.specs.Fnv.{fnv1a32_step, fnv1a64_step}
-use Rattle.hash_rounds.specs.Sums.{sdbm_from, sdbm_step}
+use Rattle.hashers.proofs.Common.{◌≢◌, ℕ, ◌^◌, List, lit<, djb2_step, fnv1a32_step, fnv1a64_step, sdbm_from, sdbm_step, IsText, DifferWithin, recurrence_is_fold, hash_apart, fnv1a32_from, fnv1a32_basis, fnv1a64_from, fnv1a64_basis, djb2_from}
 use Rattle.hash_rounds.proofs.SumLemmas.{sdbm_sums}
-use Rattle.hash_laws.specs.Text.{IsText}
-use Rattle.hash_windows.specs.DifferWithin.{DifferWithin}
-use Rattle.hash_laws.proofs.RecurrenceLemmas.{recurrence_is_fold}
-use Rattle.hash_windows.proofs.Windows.{hash_apart}
-use Rattle.hash_bytes.specs.Fnv.{fnv1a32_from, fnv1a32_basis, fnv1a64_from, fnv1a64_basis}
-use Rattle.hash_bytes.specs.Oz.{djb2_from}
 use Rattle.hashers.proofs.Djb2Window.{djb2_separates, spread_after, Near}
 use Rattle.hashers.proofs.SdbmWindow.{sdbm_separates, SdbmApart}
 use Rattle.hashers.proofs.FnvWindows.{fnv1a32_separates, fnv1a64_separates, Fnv32Apart, Fnv64Apart}

@@ -1,10 +1,8 @@
 -- How hashes fall into buckets, and how many pairs of them are equal.
-use Rattle.std.proofs.Common.{◌≡◌, ◌<◌, ◌≤◌, ◌+◌, ◌*◌, ◌%◌, ℕ, zero, suc, Bool, true, false, cond, eqb, List, [], ◌∷◌, length, refl, ap, sym, ◌∙◌, arith}
+use Rattle.hashers.proofs.Common.{◌≡◌, ◌<◌, ◌≤◌, ◌+◌, ◌*◌, ◌%◌, ℕ, zero, suc, Bool, true, false, cond, eqb, List, [], ◌∷◌, length, refl, ap, sym, ◌∙◌, arith, IsPermutation, eqb-false, ne_eqb, sum_by-cons, sum-map}
 use Rattle.std.specs.List.{range_with_len, sum, sum_by}
-use Rattle.std.specs.List.Sorted.{IsPermutation}
-use Rattle.std.proofs.lemmas.Bool.{eqb-true, eqb-false, ne_eqb, eq-eqb}
+use Rattle.std.proofs.lemmas.Bool.{eqb-true, eq-eqb}
 use Rattle.std.proofs.lemmas.List.Sorted.{length_permutation, sum_by-IsPermutation}
-use Rattle.std.proofs.lemmas.List.Sums.{sum_by-cons, sum-map}
 use Rattle.hashers.specs.Counts.{meetings, collisions, times, in_bucket, bucket_counts}
 use Rattle.hashers.proofs.SumLemmas.{sum_by-add, sum_by-same, sum_by-none}
 
@@ -41,8 +39,8 @@ twice_collisions (hash ∷ hashes) =
     omega (arith, first, here, itself, second, rest)
 
 -- the order does not matter
-pub collisions-IsPermutation : (hashes others : List ℕ) → IsPermutation hashes others → collisions others ≡ collisions hashes
-collisions-IsPermutation hashes others moved =
+pub collisions_IsPermutation : (hashes others : List ℕ) → IsPermutation hashes others → collisions others ≡ collisions hashes
+collisions_IsPermutation hashes others moved =
     let each = sum_by-same (λ x. times x others) (λ x. times x hashes)
     (λ x. sum_by-IsPermutation (λ other. cond (eqb other x) 1 0) hashes others moved) others in
     let all = sum_by-IsPermutation (λ x. times x hashes) hashes others moved in
@@ -90,5 +88,5 @@ all_hashes m some (hash ∷ hashes) =
     let added = sum_by-add (λ b. cond (eqb (hash % m) b) 1 0) (λ b. in_bucket m b hashes) (range_with_len 0 m) in
     omega (arith, one, rest, split, added)
 
-pub sum-bucket_counts : (m : ℕ) (hashes : List ℕ) → 0 < m → sum (bucket_counts m hashes) ≡ length hashes
-sum-bucket_counts m hashes some = sum-map (λ b. in_bucket m b hashes) (range_with_len 0 m) ∙ all_hashes m some hashes
+pub sum_bucket_counts : (m : ℕ) (hashes : List ℕ) → 0 < m → sum (bucket_counts m hashes) ≡ length hashes
+sum_bucket_counts m hashes some = sum-map (λ b. in_bucket m b hashes) (range_with_len 0 m) ∙ all_hashes m some hashes

@@ -1,13 +1,6 @@
 -- Why two texts that differ within six places, and agree in the top three bits, have different djb2 hashes.
-use Rattle.std.proofs.Common.{◌≡◌, ℕ, zero, suc, ◌+◌, ◌-◌, ◌*◌, ◌/◌, ◌%◌, ◌^◌, ◌<◌, ◌≤◌, ◌≢◌, arith, refl, sym, ap, ◌∙◌}
-use Rattle.std.specs.Int.Bits.{bit_xor, bit_and}
-use Rattle.std.proofs.lemmas.Nat.{xor_shr, xor_lt}
-use Rattle.std.proofs.lemmas.Nat.Bits.{and_high}
-use Rattle.hash_bytes.specs.Oz.{djb2_step}
-use Rattle.hash_bytes.specs.OzLaws.{djb2_facts}
-use Rattle.hash_windows.proofs.Windows.{Separates}
+use Rattle.hashers.proofs.Common.{◌≡◌, ℕ, zero, suc, ◌+◌, ◌-◌, ◌*◌, ◌/◌, ◌%◌, ◌^◌, ◌<◌, ◌≤◌, ◌≢◌, arith, refl, sym, ap, ◌∙◌, bit_xor, bit_and, xor_shr, xor_lt, and_high, djb2_step, djb2_facts, Separates, xor_cancel, xor_cancel_left, xor_block_kept}
 use Rattle.hashers.proofs.WindowSpreads.{IsState32}
-use Rattle.hash_words.proofs.XorLemmas.{xor_cancel, xor_cancel_left, xor_block_kept}
 
 -- what a place leaves of a state's bits above the low eight
 upper : (w b : ℕ) → b < 256 → bit_xor w b / 32 / 8 ≡ w / 32 / 8

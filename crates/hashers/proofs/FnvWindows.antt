@@ -1,12 +1,8 @@
 -- Why two texts that differ within three places (fnv1a64) or two (fnv1a32) have different hashes.
-use Rattle.std.proofs.Common.{◌≡◌, ℕ, zero, suc, ◌+◌, ◌*◌, ◌/◌, ◌%◌, ◌^◌, ◌<◌, ◌≢◌, arith}
-use Rattle.std.specs.Int.Bits.{bit_xor}
-use Rattle.hash_bytes.specs.Fnv.{fnv1a32_step, fnv1a64_step}
-use Rattle.hash_words.proofs.XorLemmas.{xored_32, xored_64}
-use Rattle.hash_bytes.specs.FnvLaws.{fnv1a32_same, fnv1a64_same, fnv1a32_facts, fnv1a64_facts}
+use Rattle.hashers.proofs.Common.{◌≡◌, ℕ, zero, suc, ◌+◌, ◌*◌, ◌/◌, ◌%◌, ◌^◌, ◌<◌, ◌≢◌, arith, bit_xor, fnv1a32_step, fnv1a64_step, xored_32, xored_64, Separates, xor_cancel_left, xor_block_kept}
+use Rattle.hash_bytes.specs.FnvLaws.{fnv1a32_product, fnv1a64_product, fnv1a32_facts, fnv1a64_facts}
+use Rattle.hash_words.proofs.UndoLemmas.{told}
 use Rattle.hashers.proofs.WindowSpreads.{IsState32, IsState64, OneByte, OneByte-times, TwoBytes, separates}
-use Rattle.hash_windows.proofs.Windows.{Separates}
-use Rattle.hash_words.proofs.XorLemmas.{xor_cancel_left, xor_block_kept}
 
 -- a byte moves a state within its block of 256
 kept : (h b : ℕ) → b < 256 → bit_xor h b / 256 ≡ h / 256
@@ -53,7 +49,7 @@ next_32 : (n h k a b : ℕ) → suc n < 2 → h < 2 ^ 32 → k < 2 ^ 32 → a < 
     → Fnv32Apart (suc n) (fnv1a32_step h a) (fnv1a32_step k b)
 next_32 zero h k a b fits hs ks sa sb far = λ same.
     second_32 h k (bit_xor h a) (bit_xor k b) (kept h a sa) (kept k b sb) far
-    (fnv1a32_same (bit_xor h a) (bit_xor k b) (xored_32 h a hs sa) (xored_32 k b ks sb) same)
+    (told fnv1a32_product (bit_xor h a) (bit_xor k b) (xored_32 h a hs sa) (xored_32 k b ks sb) same)
 next_32 (suc n) h k a b fits hs ks sa sb far = absurd (omega arith)
 
 different_32 : (n h k : ℕ) → Fnv32Apart n h k → h ≢ k
@@ -68,7 +64,7 @@ next_64 : (n h k a b : ℕ) → suc n < 3 → h < 2 ^ 64 → k < 2 ^ 64 → a < 
 next_64 zero h k a b fits hs ks sa sb far = second_64 h k (bit_xor h a) (bit_xor k b) (kept h a sa) (kept k b sb) far
 next_64 (suc zero) h k a b fits hs ks sa sb far = λ same.
     third_64 h k (bit_xor h a) (bit_xor k b) (kept h a sa) (kept k b sb) far
-    (fnv1a64_same (bit_xor h a) (bit_xor k b) (xored_64 h a hs sa) (xored_64 k b ks sb) same)
+    (told fnv1a64_product (bit_xor h a) (bit_xor k b) (xored_64 h a hs sa) (xored_64 k b ks sb) same)
 next_64 (suc (suc n)) h k a b fits hs ks sa sb far = absurd (omega arith)
 
 different_64 : (n h k : ℕ) → Fnv64Apart n h k → h ≢ k

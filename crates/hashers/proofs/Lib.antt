@@ -1,3 +1,4 @@
+pub mod Common
 pub mod CountLemmas
 pub mod PairCounts
 pub mod ShortWords
@@ -10,6 +11,7 @@ pub use Rattle.hash_reading.proofs.ReadingLemmas
 pub use Rattle.hash_laws.proofs.TextLemmas
 pub use Rattle.hash_writes.proofs.WriteLemmas
 pub use Rattle.hash_windows.proofs.Windows
+pub use Rattle.hash_words.proofs.UndoLemmas
 pub use Rattle.hash_words.proofs.XorLemmas
 pub use Rattle.hash_words.proofs.XorshiftLemmas
 pub use Rattle.hash_fx.proofs.FixedWidths

@@ -1,11 +1,7 @@
 -- What the counts tell of two hashes where they are 0, or at most 1.
-use Rattle.std.proofs.Common.{◌≡◌, ◌≢◌, ◌<◌, ◌≤◌, ◌+◌, ◌%◌, ◌∙◌, ℕ, suc, Bool, true, false, cond, eqb, List, [], ◌∷◌, All, refl, ap, sym, arith}
-use Rattle.std.specs.List.{AllPairs, count_by}
-use Rattle.std.proofs.lemmas.Bool.{eqb-false, eqb-true, ne_eqb, eq-eqb}
-use Rattle.std.proofs.lemmas.List.Elements.{All-nil, All-cons, All-head, All-tail}
+use Rattle.hashers.proofs.Common.{◌≡◌, ◌≢◌, ◌<◌, ◌≤◌, ◌+◌, ◌%◌, ◌∙◌, ℕ, suc, Bool, true, false, cond, eqb, List, [], ◌∷◌, All, refl, ap, sym, arith, AllPairs, count_by, eqb-false, ne_eqb, All-nil, All-cons, All-head, All-tail, sum_by-cons, mod_below}
+use Rattle.std.proofs.lemmas.Bool.{eqb-true, eq-eqb}
 use Rattle.std.proofs.lemmas.List.Kept.{AllPairs-cons}
-use Rattle.std.proofs.lemmas.List.Sums.{sum_by-cons}
-use Rattle.std.proofs.lemmas.Nat.{mod_below}
 use Rattle.hashers.specs.Counts.{collisions, in_bucket, meetings}
 
 -- none of some is counted exactly where the test fails at each

@@ -1,8 +1,5 @@
 -- Why two texts that differ within three places have different sdbm hashes.
-use Rattle.std.proofs.Common.{◌≡◌, ℕ, zero, suc, ◌+◌, ◌*◌, ◌%◌, ◌^◌, ◌<◌, ◌≢◌, arith}
-use Rattle.hash_rounds.specs.Sums.{sdbm_step}
-use Rattle.hash_bytes.specs.OzLaws.{sdbm_facts}
-use Rattle.hash_windows.proofs.Windows.{Separates}
+use Rattle.hashers.proofs.Common.{◌≡◌, ℕ, zero, suc, ◌+◌, ◌*◌, ◌%◌, ◌^◌, ◌<◌, ◌≢◌, arith, sdbm_step, sdbm_facts, Separates}
 use Rattle.hashers.proofs.WindowSpreads.{IsState32, OneByte, TwoBytes, separates}
 
 abbrev pub SdbmApart : ℕ → ℕ → ℕ → Type 0

@@ -1,14 +1,7 @@
 -- Short words that differ stand in a djb2 window.
-use Rattle.std.proofs.Common.{◌≡◌, ◌≢◌, ℕ, ◌≤◌, List, length, get_or, arith, sym, ◌∙◌, ap, ⊎_elim}
-use Rattle.std.proofs.lemmas.Bool.{cases_lt, cases_Bool, false≢true}
+use Rattle.hashers.proofs.Common.{◌≡◌, ◌≢◌, ℕ, ◌≤◌, List, length, get_or, arith, sym, ◌∙◌, ap, ⊎_elim, bytes_eq, bit_and, cases_lt, cases_Bool, false≢true, and_high, IsText, DifferWithin, djb2_from}
 use Rattle.std.proofs.lemmas.Slice.Eq.{bytes_eq-Decides}
-use Rattle.std.specs.Str.{bytes_eq}
 use Rattle.std.proofs.lemmas.List.{get_or_past}
-use Rattle.std.proofs.lemmas.Nat.Bits.{and_high}
-use Rattle.std.specs.Int.Bits.{bit_and}
-use Rattle.hash_laws.specs.Text.{IsText}
-use Rattle.hash_windows.specs.DifferWithin.{DifferWithin}
-use Rattle.hash_bytes.specs.Oz.{djb2_from}
 use Rattle.hashers.specs.ShortWords.{IsShortWord}
 use Rattle.hashers.proofs.Collisions.{djb2_apart}
 

@@ -1,7 +1,6 @@
 -- Sums over the elements of a list.
-use Rattle.std.proofs.Common.{ℕ, ◌≡◌, ◌+◌, List, [], ◌∷◌, refl, arith}
-use Rattle.std.specs.List.{sum_by}
-use Rattle.std.proofs.lemmas.List.Sums.{sum_by-cons}
+use Rattle.hashers.proofs.Common.{ℕ, ◌≡◌, ◌+◌, List, [], ◌∷◌, refl, arith, sum_by-cons}
+use Rattle.std.proofs.Common.{sum_by}
 
 -- a sum of sums
 pub sum_by-add : {X : Type 0} (f g : X → ℕ) (xs : List X) → sum_by (λ x. f x + g x) xs ≡ sum_by f xs + sum_by g xs

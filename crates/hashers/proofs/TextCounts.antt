@@ -1,10 +1,6 @@
 -- There are 256 ^ n texts of n bytes: their little-endian values are the numbers below it.
-use Rattle.std.proofs.Common.{◌≡◌, ℕ, zero, suc, lit<, ◌*◌, ◌/◌, ◌%◌, ◌^◌, ◌<◌, List, [], ◌∷◌, length, refl, ap, subst, arith}
-use Rattle.std.proofs.Math.Nat.{pow-suc}
-use Rattle.std.proofs.lemmas.List.Elements.{All-nil, All-cons}
-use Rattle.std.proofs.lemmas.Nat.{mod_below}
+use Rattle.hashers.proofs.Common.{◌≡◌, ℕ, zero, suc, lit<, ◌*◌, ◌/◌, ◌%◌, ◌^◌, ◌<◌, List, [], ◌∷◌, length, refl, ap, subst, arith, pow-suc, All-nil, All-cons, mod_below, IsText}
 use Rattle.hash_laws.specs.Exactly.{ExactlyTexts}
-use Rattle.hash_laws.specs.Text.{IsText}
 use Rattle.hash_words.specs.Words.{le}
 use Rattle.hash_words.proofs.PieceLemmas.{IsByte, le-lt, le-same}
 

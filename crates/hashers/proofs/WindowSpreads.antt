@@ -1,8 +1,7 @@
 -- How far apart two states are, modulo m, as products of a step's multiplier with small differences.
-use Rattle.std.proofs.Common.{◌≡◌, ℕ, suc, ◌+◌, ◌*◌, ◌/◌, ◌%◌, ◌^◌, ◌<◌, ◌≢◌, ap, sym, ◌∙◌, arith}
+use Rattle.hashers.proofs.Common.{◌≡◌, ℕ, suc, ◌+◌, ◌*◌, ◌/◌, ◌%◌, ◌^◌, ◌<◌, ◌≢◌, ap, sym, ◌∙◌, arith, Separates}
 use Rattle.std.proofs.Math.Nat.{mod-add-mod}
 use Rattle.hash_laws.specs.StepFacts.{StepFacts}
-use Rattle.hash_windows.proofs.Windows.{Separates}
 
 abbrev pub IsState32 : ℕ → Type 0
 IsState32 s = s < 2 ^ 32

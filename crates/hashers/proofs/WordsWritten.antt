@@ -1,8 +1,5 @@
 -- What writes lead to from a start that is known by an equation.
-use Rattle.std.proofs.Common.{◌≡◌, ℕ, List, fold, ap, sym, ◌∙◌}
-use Rattle.std.specs.List.{flat_map}
-use Rattle.hash_laws.specs.Recurrence.{recurrence}
-use Rattle.hash_laws.proofs.RecurrenceLemmas.{recurrence-pieces}
+use Rattle.hashers.proofs.Common.{◌≡◌, ℕ, List, fold, ap, sym, ◌∙◌, flat_map, recurrence, recurrence-pieces}
 
 pub written_from : (step : ℕ → ℕ → ℕ) (words : List ℕ → List ℕ) (writes : List (List ℕ)) (start s h : ℕ)
     → start ≡ s → fold (λ t piece. recurrence step t (words piece)) s writes ≡ h → recurrence step start (flat_map words writes) ≡ h

@@ -1,3 +1,4 @@
+pub mod Common
 pub mod Counts
 pub mod ShortWords
 pub use Rattle.hash_bytes.specs.CountedSum
@@ -25,6 +26,7 @@ pub use Rattle.hash_jenkins.specs.Spooky
 pub use Rattle.hash_jenkins.specs.SpookyParts
 pub use Rattle.hash_jenkins.specs.SpookyStanding
 pub use Rattle.hash_jenkins.specs.Filled
+pub use Rattle.hash_words.specs.Undoes
 pub use Rattle.hash_words.specs.Words
 pub use Rattle.hash_rounds.specs.Shuffle
 pub use Rattle.hash_jenkins.specs.Counted

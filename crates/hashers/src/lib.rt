@@ -2,13 +2,14 @@
 #![tactic(auto)]
 
 mod counts;
+pub mod fnv;
 pub mod fx_hash;
+pub mod jenkins;
 pub mod laws;
 pub mod promises;
 mod windows;
 
-pub use hash_bytes::{fnv as fnv, null as null, oz as oz, pigeon as pigeon};
-pub use hash_jenkins as jenkins;
+pub use hash_bytes::{null as null, oz as oz, pigeon as pigeon};
 pub use hash_reading::{reader as engine, reader as reader};
 pub use hash_rounds as rounds;
 pub use hash_rules as rules;

@@ -1,21 +1,17 @@
-//! What this project promises, at each concrete type and in the words of the written definitions.
+//! The theorems at each concrete type and in the words of the specifications.
 //!
 //! After any list of writes a hasher answers its definition: of the joined bytes alone, or for fx and lookup3 of the bytes
 //! of each write. Any list of writes of the seven byte hashers and of fx, and each mixing round, is undone exactly, and the
 //! reverse, from every state. Each sentence is the contract of a function of this module.
-ghost use Rattle.std.specs.Prelude.{◌≡◌, ◌<◌, ◌^◌, ℕ, [], ◌∷◌, All, fold};
-ghost use Rattle.std.specs.List.{flat_map};
+ghost use Rattle.std.specs.Prelude.{◌≡◌, ◌<◌, ◌^◌, ◌∷◌};
+ghost use Rattle.hashers.specs.Common.{ℕ, [], All, fold, flat_map, sdbm_from, loselose_from, passthrough_from, IsText, fnv1a32_from, fnv1a64_from, fnv1a32_of, fnv1a64_of, djb2_from, djb2_of};
 ghost use Rattle.hash_rounds.specs.Rounds.{lookup3_mix_steps, lookup3_final_steps, spooky_mix_steps, spooky_end_partial_steps, short_mix_steps, short_end_steps};
 ghost use Rattle.hash_rounds.specs.Steps.{apply};
-ghost use Rattle.hash_rounds.specs.Sums.{sdbm_from, loselose_from, passthrough_from};
-ghost use Rattle.hash_laws.specs.Text.{IsText};
 ghost use Rattle.hash_writes.specs.Writes.{written, all_written, joined_written};
 ghost use Rattle.hash_fx.specs.Fx.{fx32, fx32_step, fx64, fx64_step, words32, words64};
 ghost use Rattle.hash_jenkins.specs.Lookup3.{lookup3_from, lookup3_answer};
 ghost use Rattle.hash_jenkins.specs.Oaat.{oaat_state, oaat_finish, oaat_of};
 ghost use Rattle.hash_jenkins.specs.Spooky.{spooky, spooky_v1};
-ghost use Rattle.hash_bytes.specs.Fnv.{fnv1a32_from, fnv1a64_from, fnv1a32_of, fnv1a64_of};
-ghost use Rattle.hash_bytes.specs.Oz.{djb2_from, djb2_of};
 ghost use Rattle.hash_bytes.specs.Pigeon.{bricolage_from};
 
 use hash_bytes::fnv::{FNV1aHasher32, FNV1aHasher64};
@@ -178,9 +174,9 @@ fn goes_on<H: Streamed>(h: &mut H, writes: &[HasherWrite]) -> (u64, u64)
 pub struct WayBack {
     /// What the first answered before its writes.
     pub before: u64,
-    /// What it answered after them, before they were taken back.
+    /// What it answered after them, before they were undone.
     pub there: u64,
-    /// What the second answered after the writes were taken back, before they were made.
+    /// What the second answered after the writes were undone, before they were made.
     pub back: u64,
 }
 
@@ -232,7 +228,7 @@ fn there_and_back_joined<H: ByteStep>(a: &mut H, b: &mut H, writes: &[HasherWrit
     there_and_back::<H>(a, b, writes)
 }
 
-/// `fnv1a32`, from any state: the writes, made and taken back, or taken back and made, leave each hasher as it was.
+/// `fnv1a32`, from any state: the writes, made and undone, or undone and made, leave each hasher as it was.
 pub fn fnv1a32_undone(
     a: &mut FNV1aHasher32,
     b: &mut FNV1aHasher32,
@@ -248,7 +244,7 @@ pub fn fnv1a32_undone(
     there_and_back_joined::<FNV1aHasher32>(a, b, writes)
 }
 
-/// `fnv1a64`, from any state: the writes, made and taken back, or taken back and made, leave each hasher as it was.
+/// `fnv1a64`, from any state: the writes, made and undone, or undone and made, leave each hasher as it was.
 pub fn fnv1a64_undone(
     a: &mut FNV1aHasher64,
     b: &mut FNV1aHasher64,
@@ -264,7 +260,7 @@ pub fn fnv1a64_undone(
     there_and_back_joined::<FNV1aHasher64>(a, b, writes)
 }
 
-/// `djb2`, from any state: the writes, made and taken back, or taken back and made, leave each hasher as it was.
+/// `djb2`, from any state: the writes, made and undone, or undone and made, leave each hasher as it was.
 pub fn djb2_undone(a: &mut DJB2Hasher, b: &mut DJB2Hasher, writes: &[HasherWrite]) -> WayBack
     ensures before { result.before ≡ a.old }
     ensures there { result.there ≡ djb2_from a.old (joined_written writes.now) }
@@ -276,7 +272,7 @@ pub fn djb2_undone(a: &mut DJB2Hasher, b: &mut DJB2Hasher, writes: &[HasherWrite
     there_and_back_joined::<DJB2Hasher>(a, b, writes)
 }
 
-/// `sdbm`, from any state: the writes, made and taken back, or taken back and made, leave each hasher as it was.
+/// `sdbm`, from any state: the writes, made and undone, or undone and made, leave each hasher as it was.
 pub fn sdbm_undone(a: &mut SDBMHasher, b: &mut SDBMHasher, writes: &[HasherWrite]) -> WayBack
     ensures before { result.before ≡ a.old.state }
     ensures there { result.there ≡ sdbm_from a.old.state (joined_written writes.now) }
@@ -288,7 +284,7 @@ pub fn sdbm_undone(a: &mut SDBMHasher, b: &mut SDBMHasher, writes: &[HasherWrite
     there_and_back_joined::<SDBMHasher>(a, b, writes)
 }
 
-/// `loselose`, from any state: the writes, made and taken back, or taken back and made, leave each hasher as it was.
+/// `loselose`, from any state: the writes, made and undone, or undone and made, leave each hasher as it was.
 pub fn loselose_undone(
     a: &mut LoseLoseHasher,
     b: &mut LoseLoseHasher,
@@ -304,7 +300,7 @@ pub fn loselose_undone(
     there_and_back_joined::<LoseLoseHasher>(a, b, writes)
 }
 
-/// `bricolage`, from any state: the writes, made and taken back, or taken back and made, leave each hasher as it was.
+/// `bricolage`, from any state: the writes, made and undone, or undone and made, leave each hasher as it was.
 pub fn bricolage_undone(a: &mut Bricolage, b: &mut Bricolage, writes: &[HasherWrite]) -> WayBack
     ensures before { result.before ≡ a.old }
     ensures there { result.there ≡ bricolage_from a.old (joined_written writes.now) }
@@ -316,7 +312,7 @@ pub fn bricolage_undone(a: &mut Bricolage, b: &mut Bricolage, writes: &[HasherWr
     there_and_back_joined::<Bricolage>(a, b, writes)
 }
 
-/// `oaat`, from any state: the writes, made and taken back, or taken back and made, leave each hasher as it was.
+/// `oaat`, from any state: the writes, made and undone, or undone and made, leave each hasher as it was.
 pub fn oaat_undone(a: &mut OAATHasher, b: &mut OAATHasher, writes: &[HasherWrite]) -> WayBack
     ensures before { result.before ≡ oaat_finish a.old }
     ensures there { result.there ≡ oaat_finish (oaat_state a.old (joined_written writes.now)) }
@@ -328,7 +324,7 @@ pub fn oaat_undone(a: &mut OAATHasher, b: &mut OAATHasher, writes: &[HasherWrite
     there_and_back_joined::<OAATHasher>(a, b, writes)
 }
 
-/// `fxhash`, from any state: the writes, made and taken back, or taken back and made, leave each hasher as it was.
+/// `fxhash`, from any state: the writes, made and undone, or undone and made, leave each hasher as it was.
 pub fn fxhash_undone(a: &mut FxHasher, b: &mut FxHasher, writes: &[HasherWrite]) -> WayBack
     ensures before { result.before ≡ a.old }
     ensures there { result.there ≡ fx64 a.old (flat_map words64 (all_written writes.now)) }
@@ -340,7 +336,7 @@ pub fn fxhash_undone(a: &mut FxHasher, b: &mut FxHasher, writes: &[HasherWrite])
     there_and_back::<FxHasher>(a, b, writes)
 }
 
-/// `fxhash32`, from any state: the writes, made and taken back, or taken back and made, leave each hasher as it was.
+/// `fxhash32`, from any state: the writes, made and undone, or undone and made, leave each hasher as it was.
 pub fn fxhash32_undone(a: &mut FxHasher32, b: &mut FxHasher32, writes: &[HasherWrite]) -> WayBack
     ensures before { result.before ≡ a.old }
     ensures there { result.there ≡ fx32 a.old (flat_map words32 (all_written writes.now)) }
@@ -352,7 +348,7 @@ pub fn fxhash32_undone(a: &mut FxHasher32, b: &mut FxHasher32, writes: &[HasherW
     there_and_back::<FxHasher32>(a, b, writes)
 }
 
-/// `fxhash64`, from any state: the writes, made and taken back, or taken back and made, leave each hasher as it was.
+/// `fxhash64`, from any state: the writes, made and undone, or undone and made, leave each hasher as it was.
 pub fn fxhash64_undone(a: &mut FxHasher64, b: &mut FxHasher64, writes: &[HasherWrite]) -> WayBack
     ensures before { result.before ≡ a.old }
     ensures there { result.there ≡ fx64 a.old (flat_map words64 (all_written writes.now)) }
@@ -364,7 +360,7 @@ pub fn fxhash64_undone(a: &mut FxHasher64, b: &mut FxHasher64, writes: &[HasherW
     there_and_back::<FxHasher64>(a, b, writes)
 }
 
-/// A write that is one word of an fx type, from any state: made and taken back by `unwrite_word`, and taken back and made.
+/// A write that is one word of an fx type, from any state: made and undone by `unwrite_word`, and undone and made.
 /// Which writes are one word `fixed_widths_are_words64` and `fixed_widths_are_words32` say.
 pub fn one_word_undone<W: FxSplit, Name>(
     a: &mut WordHasher<W, Name>,

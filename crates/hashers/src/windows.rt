@@ -1,12 +1,9 @@
-//! Tests on two texts that differ within a few neighbouring places: where one answers true, a hash tells the texts apart.
+//! Tests on two texts that differ within a few adjacent places: where one returns true, the hashes of the texts differ.
 //! None of them computes a hash.
-ghost use Rattle.std.specs.Prelude.{◌≡◌, ◌≢◌, ◌↔◌, ℕ, List, IsTrue, length};
+ghost use Rattle.std.specs.Prelude.{◌≡◌, ◌≢◌, ◌↔◌};
+ghost use Rattle.hashers.specs.Common.{ℕ, List, IsTrue, length, sdbm_from, IsText, fnv1a32_of, fnv1a64_of, djb2_of};
 ghost use Rattle.std.specs.Bool.{OnTrue};
-ghost use Rattle.hash_rounds.specs.Sums.{sdbm_from};
-ghost use Rattle.hash_laws.specs.Text.{IsText};
 ghost use Rattle.hash_windows.specs.DifferWithin.{DifferWithin};
-ghost use Rattle.hash_bytes.specs.Fnv.{fnv1a32_of, fnv1a64_of};
-ghost use Rattle.hash_bytes.specs.Oz.{djb2_of};
 ghost use Rattle.hashers.specs.ShortWords.{IsShortWord};
 
 use hash_bytes::oz;
@@ -21,7 +18,7 @@ const FNV64_PLACES: usize = 3;
 
 const FNV32_PLACES: usize = 2;
 
-/// Whether the texts have one length and differ, but only within six neighbouring places, and everywhere only in the low
+/// Whether the texts have one length and differ, but only within six adjacent places, and everywhere only in the low
 /// five bits of a byte. Their `djb2` hashes then differ.
 pub fn apart_djb2(x: &[u8], y: &[u8]) -> bool
     ensures exactly { IsTrue result ↔ DifferWithin 6 0xE0 x.now y.now }
@@ -30,7 +27,7 @@ pub fn apart_djb2(x: &[u8], y: &[u8]) -> bool
     is_window(x, y, DJB2_PLACES, 0xE0)
 }
 
-/// Whether the texts have one length and differ, but only within three neighbouring places. Their `sdbm` hashes then
+/// Whether the texts have one length and differ, but only within three adjacent places. Their `sdbm` hashes then
 /// differ.
 pub fn apart_sdbm(x: &[u8], y: &[u8]) -> bool
     ensures exactly { IsTrue result ↔ DifferWithin 3 0 x.now y.now }
@@ -39,7 +36,7 @@ pub fn apart_sdbm(x: &[u8], y: &[u8]) -> bool
     is_window(x, y, SDBM_PLACES, 0)
 }
 
-/// Whether the texts have one length and differ, but only within three neighbouring places. Their `fnv1a64` hashes then
+/// Whether the texts have one length and differ, but only within three adjacent places. Their `fnv1a64` hashes then
 /// differ.
 pub fn apart_fnv64(x: &[u8], y: &[u8]) -> bool
     ensures exactly { IsTrue result ↔ DifferWithin 3 0 x.now y.now }
@@ -48,7 +45,7 @@ pub fn apart_fnv64(x: &[u8], y: &[u8]) -> bool
     is_window(x, y, FNV64_PLACES, 0)
 }
 
-/// Whether the texts have one length and differ, but only within two neighbouring places. Their `fnv1a32` hashes then
+/// Whether the texts have one length and differ, but only within two adjacent places. Their `fnv1a32` hashes then
 /// differ.
 pub fn apart_fnv32(x: &[u8], y: &[u8]) -> bool
     ensures exactly { IsTrue result ↔ DifferWithin 2 0 x.now y.now }
@@ -68,8 +65,9 @@ pub fn same_word(x: &[u8], y: &[u8]) -> bool
     oz::djb2(x) == oz::djb2(y)
 }
 
-/// The windows as laws, with no code: where two texts have one length and differ, but only within so many neighbouring places
+/// The windows as laws, with no code: where two texts have one length and differ, but only within so many adjacent places
 /// and in bits outside the mask, the named hashes differ.
+#[tactic(auto, using(crate::proofs::Collisions::djb2_apart, crate::proofs::Collisions::sdbm_apart, crate::proofs::Collisions::fnv1a32_apart, crate::proofs::Collisions::fnv1a64_apart))]
 pub fn windows_tell_apart()
     ensures djb2 { (x y : List ℕ) → IsText x → IsText y → DifferWithin 6 0xE0 x y
         → djb2_of x ≢ djb2_of y }

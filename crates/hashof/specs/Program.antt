@@ -10,6 +10,7 @@ use Rattle.std.specs.declared.vec.IntoIter.{IntoIter}
 use Rattle.hashof.specs.declared.outcome.Outcome.{Outcome}
 use Rattle.hashof.specs.declared.outcome.Outcome.TheVariants.{Done, Usage, NoMemory, Failed}
 use Rattle.hashof.specs.Running.{Run, IsUntouched, Ends}
+use Rattle.hashof.specs.Status.{status_of}
 
 -- the program's arguments, its own name first, or why they were not had
 abbrev pub Arguments : Type 0
@@ -36,3 +37,11 @@ Exits arguments run Done = (name : List ℕ) × Ask arguments name × Ends name 
 Exits arguments run Usage = AreWrong arguments × IsUntouched run
 Exits arguments run NoMemory = LackMemory arguments × IsUntouched run
 Exits arguments run (Failed fault) = (name : List ℕ) × Ask arguments name × Ends name run (Err fault)
+
+-- the status of a program that some arguments asked for some run
+pub record IsStatus (status : ℕ) : Type 0 where
+  pub arguments : Arguments
+  pub run : Run
+  pub outcome : Outcome
+  pub exits : Exits arguments run outcome
+  pub is : status ≡ status_of outcome

@@ -5,7 +5,6 @@ use crate::outcome::{Outcome, outcome_line, outcome_status};
 use crate::run::{RunFault, run, run_limited};
 use hash_bytes::fnv::FNV1aHasher64;
 use hash_jenkins::Lookup3Hasher;
-use hash_names::table::Kind;
 use hash_reading::reader;
 use hash_reading::reader::hash_reader;
 use std::hash::Hasher;
@@ -64,51 +63,6 @@ fn tells(rt: &impl Abort, turn: usize, name: &str, text: &[u8], most: usize, lin
     let mut paper = Paper::sound(32);
     let outcome = run(name, &mut Script::new(text, most), &mut paper);
     ended(rt, turn, outcome, &paper, (End::Told, line, [1, 1]));
-}
-
-/// A hash, a text, and the line that is told of it.
-const LINES: [(Kind, &[u8], &[u8]); 34] = [
-    (Kind::Fnv1a64, b"", b"14695981039346656037\n"),
-    (Kind::Fnv1a64, b"a", b"12638187200555641996\n"),
-    (Kind::Fnv1a64, b"b", b"12638190499090526629\n"),
-    (Kind::Fnv1a64, b"ab", b"620445648566982762\n"),
-    (Kind::Fnv1a64, b"abcd", b"18165163011005162717\n"),
-    (Kind::Fnv1a64, b"abcdefg", b"4642726675185563447\n"),
-    (Kind::Fnv1a32, b"a", b"3826002220\n"),
-    (Kind::Djb2, b"", b"5381\n"),
-    (Kind::Sdbm, b"ab", b"6363201\n"),
-    (Kind::LoseLose, b"ab", b"195\n"),
-    (Kind::Bricolage, b"a", b"17926483712435944715\n"),
-    (Kind::Oaat, b"a", b"29161854018\n"),
-    (Kind::Lookup3, b"a", b"6351843130003064584\n"),
-    (Kind::Spooky, b"", b"13905049616862401802\n"),
-    (Kind::SpookyV1, b"a", b"16932945748884078726\n"),
-    (Kind::FxHash, b"a", b"16160435425421689461\n"),
-    (Kind::FxHash32, b"a", b"3555066485\n"),
-    (Kind::FxHash64, b"a", b"16160435425421689461\n"),
-    (Kind::Null, b"ab", b"0\n"),
-    (Kind::PassThrough, b"a", b"97\n"),
-    (Kind::Crc32, b"123456789", b"3421780262\n"),
-    (Kind::Crc32c, b"123456789", b"3808858755\n"),
-    (Kind::Fnv1At32, b"a", b"84696446\n"),
-    (Kind::Fnv1At64, b"a", b"12638153115695167422\n"),
-    (Kind::Djb2Add, b"a", b"177670\n"),
-    (Kind::Joaat, b"a", b"3392050242\n"),
-    (Kind::Elf, b"a", b"97\n"),
-    (Kind::Xxh32, b"a", b"1426945110\n"),
-    (Kind::Xxh64, b"a", b"15154266338359012955\n"),
-    (Kind::Murmur3At32, b"hello", b"613153351\n"),
-    (Kind::Murmur3, b"hello", b"14688674573012802306\n"),
-    (Kind::SipHash13, b"hello", b"16350172494705860510\n"),
-    (Kind::SipHash24, b"", b"2202906307356721367\n"),
-    (Kind::Xxh3, b"abc", b"8696274497037089104\n"),
-];
-
-#[test]
-fn tells_by_name(rt: HostRuntime) {
-    for (turn, (kind, text, line)) in LINES.iter().enumerate() {
-        tells(&rt, turn, kind.row().name, text, 32, line);
-    }
 }
 
 /// Of 4097 zeros, whatever the reads, the line tells the hash of two writes, of 4096 and of one.

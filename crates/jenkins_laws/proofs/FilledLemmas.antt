@@ -1,13 +1,6 @@
 -- Texts of one length that are filled up with zeros.
-use Rattle.std.proofs.Common.{◌≡◌, ◌+◌, ◌-◌, ◌≤◌, ◌++◌, ◌∙◌, ℕ, lit<, List, length, slice_index, take, replicate, refl, sym, ap, arith, inl, inr, ⊎_elim, length-append}
-use Rattle.std.proofs.lemmas.Bool.{cases_lt}
-use Rattle.std.proofs.lemmas.List.{append_assoc, length-replicate, replicate-append-replicate, take_at, get_or_append_left, get_or-append_right}
-use Rattle.std.proofs.lemmas.List.Elements.{All-append, All-replicate}
-use Rattle.hash_words.proofs.PieceLemmas.{IsPiece}
-use Rattle.hash_laws.specs.Text.{IsText}
-use Rattle.hash_laws.proofs.TextLemmas.{IsByte}
+use Rattle.jenkins_laws.proofs.Common.{◌≡◌, ◌+◌, ◌-◌, ◌≤◌, ◌++◌, ◌∙◌, ℕ, lit<, List, length, slice_index, take, replicate, refl, sym, ap, arith, inl, inr, ⊎_elim, length-append, cases_lt, append_assoc, length-replicate, replicate-append-replicate, take_at, get_or_append_left, get_or-append_right, All-append, All-replicate, IsPiece, IsText, IsByte, zero_filled}
 use Rattle.hash_windows.proofs.FrameLemmas.{same_outside}
-use Rattle.hash_jenkins.specs.Filled.{zero_filled}
 
 pub length-zero_filled : (n : ℕ) (x : List ℕ) → length x ≤ n → length (zero_filled n x) ≡ n
 length-zero_filled n x fits = omega (arith, length-append x (replicate (n - length x) 0), length-replicate {A = ℕ} (n - length x) 0)

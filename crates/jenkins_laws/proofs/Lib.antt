@@ -1,3 +1,4 @@
+pub mod Common
 pub mod FilledLemmas
 pub mod Lookup3Blocks
 pub mod ShortEven

@@ -1,27 +1,8 @@
 -- lookup3's blocks of twelve bytes: no two pieces that differ only in one lead to the same three words, one block leads to three
 -- words, and how many lead to an answer.
-use Rattle.std.proofs.Common.{◌≡◌, ◌≢◌, ◌%◌, ◌*◌, ◌+◌, ◌/◌, ◌<◌, ◌^◌, ◌∙◌, ◌∷◌, List, [], ap, arith, drop, fold, length, map, refl, slice_index, sym, take, w32, ℕ}
-use Rattle.std.specs.Simd.{first_chunks}
-use Rattle.std.proofs.Math.Path.{ap₂}
-use Rattle.std.specs.Int.{to_le_bytes}
-use Rattle.std.specs.List.{flat_map}
-use Rattle.std.proofs.lemmas.List.{drop_all, take_all}
-use Rattle.std.proofs.lemmas.Nat.{mod_below, pow_pos}
-use Rattle.hash_words.specs.Words.{le}
-use Rattle.hash_words.specs.Pieces.{pieces}
-use Rattle.hash_words.proofs.PieceLemmas.{IsPiece, all_words-same, part-same, rest-same, texts-same}
-use Rattle.hash_words.proofs.WordLemmas.{le-to_le_bytes-32}
-use Rattle.hash_rounds.specs.Steps.{AreSteps, Step, apply, undo}
+use Rattle.jenkins_laws.proofs.Common.{◌≡◌, ◌≢◌, ◌%◌, ◌*◌, ◌+◌, ◌/◌, ◌<◌, ◌^◌, ◌∙◌, ◌∷◌, List, [], ap, arith, drop, fold, length, map, refl, slice_index, sym, take, w32, ℕ, ap₂, flat_map, first_chunks, to_le_bytes, drop_all, take_all, mod_below, pow_pos, IsPiece, all_words-same, part-same, rest-same, texts-same, le-to_le_bytes-32, AreSteps, Step, no_data, stepped-back, stepped-same, words-listed, IsText, ExactlyTexts, DifferInOne, zero_filled, add_block, lookup3_answer, lookup3_from, lookup3_piece, lookup3_words, mix_block, start, third_word, drop_eight, le, pieces, apply, undo, last_block, differences}
 use Rattle.hash_rounds.specs.Rounds as rounds
-use Rattle.hash_rounds.proofs.RoundLemmas.{no_data, stepped-back, stepped-same, words-listed}
-use Rattle.hash_laws.specs.Text.{IsText}
-use Rattle.hash_laws.specs.Exactly.{ExactlyTexts}
-use Rattle.hash_windows.specs.DifferWithin.{DifferInOne}
-use Rattle.hash_jenkins.specs.Filled.{zero_filled}
-use Rattle.hash_jenkins.specs.Lookup3.{add_block, last_block, lookup3_answer, lookup3_from, lookup3_piece, lookup3_words, mix_block, start, third_word}
 use Rattle.hash_jenkins.specs.Lookup3Laws.{AreThreeWords, add_block-AreThreeWords, apply-AreThreeWords, lookup3_final-steps, lookup3_mix-steps, lookup3_words-AreThreeWords, start-AreThreeWords}
-use Rattle.hash_jenkins.proofs.Lookup3Lemmas.{drop_eight}
-use Rattle.jenkins_laws.specs.Stretch.{differences}
 use Rattle.jenkins_laws.proofs.FilledLemmas.{filled-piece, filled-same}
 use Rattle.jenkins_laws.proofs.Sums.{bytes_of-text, add-nothing, difference-added, exchanged_3, differences_3-are, sum-same, sums_3, words-in}
 

@@ -1,21 +1,7 @@
 -- The one stretch that leads SpookyHash below 192 bytes to four words, and how many lead to a hash.
-use Rattle.std.proofs.Common.{◌≡◌, ◌+◌, ◌-◌, ◌*◌, ◌/◌, ◌%◌, ◌^◌, ◌<◌, ◌∷◌, ◌++◌, ◌∙◌, ℕ, nat_lt, true, List, [], length, slice_index, take, replicate, refl, sym, ap, arith, w64, length-append}
-use Rattle.std.proofs.Math.Path.{ap₂}
-use Rattle.std.proofs.lemmas.Bool.Decides.{nat_tests}
-use Rattle.std.proofs.lemmas.List.{append_assoc, drop-replicate}
-use Rattle.std.proofs.lemmas.Nat.{mod_below, pow_pos}
+use Rattle.jenkins_laws.proofs.Common.{◌≡◌, ◌+◌, ◌-◌, ◌*◌, ◌/◌, ◌%◌, ◌^◌, ◌<◌, ◌∷◌, ◌++◌, ◌∙◌, ℕ, nat_lt, true, List, [], length, slice_index, take, replicate, refl, sym, ap, arith, w64, length-append, ap₂, nat_tests, append_assoc, drop-replicate, mod_below, pow_pos, IsPiece, le-to_le_bytes-64, short_mix, AreFourWords, words-listed, short_end-steps, stepped, ExactlyTexts, IsText, zero_filled, first_two, short_words, spooky, apply, chunks_from, missing, stretch_of}
 use Rattle.hash_words.specs.Put.{put_at}
-use Rattle.hash_words.proofs.PieceLemmas.{IsPiece}
-use Rattle.hash_words.proofs.WordLemmas.{le-to_le_bytes-64}
 use Rattle.hash_rounds.specs.Rounds as rounds
-use Rattle.hash_rounds.specs.Spooky.{short_mix}
-use Rattle.hash_rounds.specs.Steps.{apply}
-use Rattle.hash_rounds.proofs.RoundLemmas.{AreFourWords, words-listed, short_end-steps, stepped}
-use Rattle.hash_laws.specs.Exactly.{ExactlyTexts}
-use Rattle.hash_laws.specs.Text.{IsText}
-use Rattle.hash_jenkins.specs.Filled.{zero_filled}
-use Rattle.hash_jenkins.specs.Spooky.{chunks_from, first_two, short_words, spooky}
-use Rattle.jenkins_laws.specs.Stretch.{missing, stretch_of}
 use Rattle.jenkins_laws.proofs.FilledLemmas.{filled-piece, take-zero_filled}
 use Rattle.jenkins_laws.proofs.ShortStretches.{ended, ended-same, ended-led, add_stretch, add_stretch-in, add_stretch-piece, chunks-are, mixed-in, none, none-added, pieces-append, pieces-one, pieces-then, seeded, seeded-in, four, short_start-is, stretches, stretches-in, stretches-led, stretches-same, unmix, unmixed}
 use Rattle.jenkins_laws.proofs.Sums.{bytes_of-text, sums_4, exchanged_4, difference-added, missing-is}

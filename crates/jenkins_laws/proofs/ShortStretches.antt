@@ -1,24 +1,8 @@
 -- A text below 192 bytes by its stretches, the 32 bytes each that are added between two mixes: no two texts that differ only in
 -- one have the same four words.
-use Rattle.std.proofs.Common.{◌≡◌, ◌≢◌, ◌%◌, ◌*◌, ◌++◌, ◌+◌, ◌-◌, ◌/◌, ◌<◌, ◌^◌, ◌∙◌, ◌∷◌, ◌≤◌, All, List, [], ap, arith, drop, fold, length, length-append, lit<, map, refl, replicate, slice_index, slice_set, suc, sym, take, zero, ℕ}
-use Rattle.std.proofs.lemmas.Grind.{fold-append}
-use Rattle.std.proofs.lemmas.List.{append_assoc, append_cancel_left, drop_all, length-drop, length-take-le, nil_from_length, take-append-drop, take_all}
-use Rattle.std.proofs.lemmas.List.Elements.{All-append, All-head, All-replicate, All-tail}
-use Rattle.std.specs.Simd.{first_chunks}
-use Rattle.std.proofs.Math.Path.{ap₂}
-use Rattle.hash_words.specs.Words.{add_at, le, sub}
-use Rattle.hash_words.specs.Pieces.{le_words, pieces}
+use Rattle.jenkins_laws.proofs.Common.{◌≡◌, ◌≢◌, ◌%◌, ◌*◌, ◌++◌, ◌+◌, ◌-◌, ◌/◌, ◌<◌, ◌^◌, ◌∙◌, ◌∷◌, ◌≤◌, All, List, [], ap, arith, drop, fold, length, length-append, lit<, map, refl, replicate, slice_index, slice_set, suc, sym, take, zero, ℕ, ap₂, fold-append, append_assoc, append_cancel_left, drop_all, length-drop, length-take-le, nil_from_length, take-append-drop, take_all, All-append, All-head, All-replicate, All-tail, first_chunks, add_at, sub, IsPiece, all_words-same, first_chunks-pieces, fold-same, part-same, texts-same, short_end, short_mix, AddData, AreFourWords, AreNWords, no_data, short_end-steps, short_mix-steps, stepped, stepped-back, stepped-same, words-listed, IsText, IsByte, DifferInOne, zero_filled, add_chunk, short_start, short_words, short_words_v1, le, le_words, pieces, apply, undo, chunks_from}
 use Rattle.hash_words.proofs.Chunks.{first_chunks-append}
-use Rattle.hash_words.proofs.PieceLemmas.{IsPiece, all_words-same, first_chunks-pieces, fold-same, part-same, texts-same}
 use Rattle.hash_rounds.specs.Rounds as rounds
-use Rattle.hash_rounds.specs.Spooky.{short_end, short_mix}
-use Rattle.hash_rounds.specs.Steps.{AddData, apply, undo}
-use Rattle.hash_rounds.proofs.RoundLemmas.{AreFourWords, AreNWords, no_data, short_end-steps, short_mix-steps, stepped, stepped-back, stepped-same, words-listed}
-use Rattle.hash_laws.specs.Text.{IsText}
-use Rattle.hash_laws.proofs.TextLemmas.{IsByte}
-use Rattle.hash_windows.specs.DifferWithin.{DifferInOne}
-use Rattle.hash_jenkins.specs.Filled.{zero_filled}
-use Rattle.hash_jenkins.specs.Spooky.{add_chunk, chunks_from, short_start, short_words, short_words_v1}
 use Rattle.jenkins_laws.proofs.FilledLemmas.{agree_between, filled-piece, filled-same, length-zero_filled, zero_filled-longer}
 use Rattle.jenkins_laws.proofs.Sums.{add-nothing, exchanged_4, sum-same, sums_4, words-in}
 use Rattle.jenkins_laws.proofs.Zeros.{add_at-AreFourWords, fold-AreFourWords, short_start-AreFourWords, start-AreFourWords, start_of}

@@ -1,19 +1,5 @@
 -- Words that are added to as many others: each sum is that of one list of words, and a text of as many words is known by it.
-use Rattle.std.proofs.Common.{◌≡◌, ◌*◌, ◌^◌, ◌<◌, ◌∷◌, ◌∙◌, ℕ, List, [], length, get_or, slice_index, slice_set, map, refl, sym, arith, add_comm, add-zero}
-use Rattle.std.specs.List.{flat_map}
-use Rattle.std.specs.Int.{Width, to_le_bytes}
-use Rattle.std.specs.Simd.{first_chunks}
-use Rattle.std.proofs.Math.Nat.{mod-eq_of_lt}
-use Rattle.std.proofs.lemmas.List.{set-get_or, length-map}
-use Rattle.std.proofs.lemmas.List.Elements.{All-nil, All-append, All-map}
-use Rattle.hash_words.specs.Words.{add, le}
-use Rattle.hash_words.proofs.WordLemmas.{AreWords-at}
-use Rattle.hash_words.proofs.PieceLemmas.{IsPiece, le-lt, length-first_chunks, first_chunks-pieces}
-use Rattle.hash_rounds.specs.Steps.{Step, AddData, AreSteps, apply, undo}
-use Rattle.hash_rounds.proofs.RoundLemmas.{AreNWords, stepped-same, stepped-back}
-use Rattle.hash_laws.specs.Text.{IsText}
-use Rattle.hash_laws.proofs.TextLemmas.{IsByte, IsText-to_le_bytes}
-use Rattle.jenkins_laws.specs.Stretch.{differences, missing}
+use Rattle.jenkins_laws.proofs.Common.{◌≡◌, ◌*◌, ◌^◌, ◌<◌, ◌∷◌, ◌∙◌, ℕ, List, [], length, get_or, slice_index, slice_set, map, refl, sym, arith, add_comm, add-zero, flat_map, mod-eq_of_lt, Width, to_le_bytes, first_chunks, set-get_or, length-map, All-nil, All-append, All-map, add, AreWords-at, IsPiece, le-lt, length-first_chunks, first_chunks-pieces, Step, AddData, AreSteps, AreNWords, stepped-same, stepped-back, IsText, IsByte, IsText-to_le_bytes, le, apply, undo, differences, missing}
 
 pub add-nothing : (w i : ℕ) (s : List ℕ) → slice_index s i < 2 ^ w → slice_set s i (add w (slice_index s i) 0) ≡ s
 add-nothing w i s s_in = rw (add-zero (slice_index s i), mod-eq_of_lt s_in) (set-get_or s i 0)

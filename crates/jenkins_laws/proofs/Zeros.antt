@@ -1,16 +1,7 @@
 -- Zeros at the end of a short text show in its four words: no two states of four words end alike.
-use Rattle.std.proofs.Common.{◌≡◌, ◌+◌, ◌-◌, ◌*◌, ◌%◌, ◌^◌, ◌<◌, ◌∷◌, ◌++◌, ◌∙◌, ℕ, lit<, nat_lt, true, List, [], length, replicate, fold, get_or, slice_index, refl, sym, ap, arith}
-use Rattle.std.proofs.lemmas.Bool.Decides.{nat_tests}
-use Rattle.std.proofs.lemmas.List.{length-set, get_or-set_same}
-use Rattle.std.proofs.lemmas.Grind.{common_steps}
-use Rattle.hash_words.specs.Pieces.{pieces, le_words}
-use Rattle.hash_words.specs.Words.{add_at}
+use Rattle.jenkins_laws.proofs.Common.{◌≡◌, ◌+◌, ◌-◌, ◌*◌, ◌%◌, ◌^◌, ◌<◌, ◌∷◌, ◌++◌, ◌∙◌, ℕ, lit<, nat_lt, true, List, [], length, replicate, fold, get_or, slice_index, refl, sym, ap, arith, length-set, get_or-set_same, nat_tests, common_steps, add_at, AreFourWords, words-listed, no_data, short_mix-steps, short_end-steps, stepped-AreFourWords, stepped-same, zero_filled, add_chunk, short_start, spooky_v1, pieces, le_words, chunks_from, AddsZeros, HaveOtherWords}
 use Rattle.hash_rounds.specs.Rounds as rounds
-use Rattle.hash_rounds.proofs.RoundLemmas.{AreFourWords, words-listed, no_data, short_mix-steps, short_end-steps, stepped-AreFourWords, stepped-same}
-use Rattle.hash_jenkins.specs.Filled.{zero_filled}
-use Rattle.hash_jenkins.specs.Spooky.{add_chunk, chunks_from, short_start, spooky_v1}
 use Rattle.jenkins_laws.proofs.FilledLemmas.{zero_filled-longer}
-use Rattle.jenkins_laws.specs.Zeros.{AddsZeros, HaveOtherWords}
 
 pub add_at-AreFourWords : (h : List ℕ) (i x : ℕ) → AreFourWords h → AreFourWords (add_at h i x)
 add_at-AreFourWords h i x w =

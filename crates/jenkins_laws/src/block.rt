@@ -1,4 +1,4 @@
-//! The block of lookup3 that leads to the answer that is wanted.
+//! The block of lookup3 that gives a wanted answer.
 ghost use Rattle.std.specs.Prelude.{◌≡◌, List, ℕ, length};
 ghost use Rattle.hash_laws.specs.Text.{IsText};
 ghost use Rattle.hash_jenkins.specs.Lookup3.{lookup3_answer, lookup3_from, third_word};
@@ -7,7 +7,7 @@ use hash_jenkins::Lookup3Hasher;
 use hash_rounds::{lookup3_unfinal, lookup3_unmix, put_array};
 
 /// The one block of 12 bytes that leads from where the hasher stands to the answer and to the third word, which the answer
-/// leaves out: the two mixes of its words taken back. So each answer has exactly 2^32 blocks, one for each third word.
+/// leaves out: the two mixes of its words undone. So each answer has exactly 2^32 blocks, one for each third word.
 pub fn block_for(hasher: &Lookup3Hasher, answer: u64, third: u32) -> [u8; 12]
     ensures leads { lookup3_answer (lookup3_from hasher.now result) ≡ answer }
     ensures third_word { third_word hasher.now result ≡ third }

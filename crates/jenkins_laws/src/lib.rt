@@ -1,4 +1,4 @@
-//! Laws of lookup3 and SpookyHash alone: tests of two texts, and what leads to the hash that is wanted.
+//! Laws of lookup3 and SpookyHash alone: tests of two texts, and preimages.
 #![tactic(auto)]
 
 pub mod block;

@@ -58,7 +58,7 @@ fn missing(from: &[u64; 4], to: &[u64; 4]) -> [u8; 32]
 /// which the first two are the hash. It is what is added between two mixes: the front has 16, 48, 80, 112 or 144
 /// bytes, and the whole has less than 192.
 ///
-/// From the words the last mix, the length and the chunks behind are taken back, up to the stretch. What is then
+/// From the words the last mix, the length and the chunks after it are undone, up to the stretch. What is then
 /// missing is the stretch.
 pub fn stretch_for(seed1: u64, seed2: u64, front: &[u8], back: &[u8], words: [u64; 4]) -> [u8; 32]
     requires place { length front.now % 32 ≡ 16 }

@@ -26,7 +26,7 @@ fn is_filled(x: &[u8], y: &[u8]) -> bool
     y == &filled[..y.len()]
 }
 
-/// Whether `y` is `x` followed by at least one zero byte, and has fewer than 192 bytes. Where so, the four `short_words`
+/// Whether `y` is `x` followed by at least one zero byte, and has fewer than 192 bytes. If so, the four `short_words`
 /// of the two texts differ under all seeds; of the two words of the hash alone nothing is said. Computes no hash.
 pub fn apart_by_zeros(x: &[u8], y: &[u8]) -> bool
     ensures exactly { IsTrue result ↔ AddsZeros x.now y.now }
@@ -44,20 +44,20 @@ pub fn zeros_do_not_show_in_version_1()
         → (seed1 seed2 : ℕ) → spooky_v1 seed1 seed2 x ≡ spooky_v1 seed1 seed2 y }
 {}
 
-/// A law with no code: the position of two texts, one behind the other, is that after the second from that of the first.
+/// A law with no code: the position of two texts, one after the other, is that after the second from that of the first.
 pub fn position_of_joined_texts()
     ensures { (seed1 seed2 : ℕ) (text more : List ℕ)
         → position seed1 seed2 (text ++ more) ≡ after (position seed1 seed2 text) more }
 {}
 
-/// A law with no code: in lookup3 cuts show. The answer to `a` and then `b` is not that to `ab`.
+/// A law with no code: lookup3 depends on the split. The answer to `a` and then `b` is not that to `ab`.
 pub fn cuts_show_in_lookup3()
     ensures { lookup3_answer (lookup3_from (lookup3_from (0, 0) (97 ∷ [])) (98 ∷ []))
         ≢ lookup3_of (97 ∷ 98 ∷ []) }
 {}
 
 /// Feeds the pieces to both hashers, in order. Where their answers were equal before, they are equal afterwards: what
-/// `finish` answers is the whole state.
+/// `finish` returns is the whole state.
 pub fn same_answers_later(a: &mut Lookup3Hasher, b: &mut Lookup3Hasher, pieces: &[&[u8]])
     ensures first { a.new ≡ fold lookup3_from a.old (texts pieces.now) }
     ensures second { b.new ≡ fold lookup3_from b.old (texts pieces.now) }
@@ -92,7 +92,7 @@ pub fn differ_in_one_stretch(x: &[u8], y: &[u8]) -> bool
     }
 }
 
-/// Whether the texts have one length and differ, but only within one of lookup3's blocks of twelve bytes. Where so,
+/// Whether the texts have one length and differ, but only within one of lookup3's blocks of twelve bytes. If so,
 /// they lead from any two words to other words a, b and c. Computes no hash.
 pub fn apart_by_block(x: &[u8], y: &[u8]) -> bool
     ensures exactly { IsTrue result ↔ DifferInOneBlock 12 x.now y.now }
@@ -102,7 +102,7 @@ pub fn apart_by_block(x: &[u8], y: &[u8]) -> bool
 }
 
 /// Whether the texts are shorter than 192 bytes, have one length and differ, but only in what SpookyHash adds between
-/// two mixes. Where so, the four `short_words` of the two texts differ under all seeds. Computes no hash.
+/// two mixes. If so, the four `short_words` of the two texts differ under all seeds. Computes no hash.
 pub fn apart_by_stretch(x: &[u8], y: &[u8]) -> bool
     ensures exactly { IsTrue result ↔ ((length x.now < 192) × DifferInOneStretch x.now y.now) }
     ensures differ { OnTrue result (HaveOtherWords x.now y.now) }
@@ -113,9 +113,11 @@ pub fn apart_by_stretch(x: &[u8], y: &[u8]) -> bool
 /// A law with no code, for texts that a caller has in parts: a front, two different middles of one length, and a back differ
 /// within one block, or one stretch, if the middle lies in one.
 pub fn middles_in_one_group()
-    ensures block { (front x y back : List ℕ) → length x ≡ length y → x ≢ y → length front % 12 + length x ≤ 12
+    ensures block { (front x y back : List ℕ) → length x ≡ length y → x ≢ y
+        → length front % 12 + length x ≤ 12
         → DifferInOneBlock 12 (front ++ (x ++ back)) (front ++ (y ++ back)) }
-    ensures stretch { (front x y back : List ℕ) → length x ≡ length y → x ≢ y → (length front + 16) % 32 + length x ≤ 32
+    ensures stretch { (front x y back : List ℕ) → length x ≡ length y → x ≢ y
+        → (length front + 16) % 32 + length x ≤ 32
         → DifferInOneStretch (front ++ (x ++ back)) (front ++ (y ++ back)) }
 {}
 
@@ -132,7 +134,8 @@ pub fn one_changed_stretch_shows()
     ensures words { (seed1 seed2 : ℕ) (x y : List ℕ) → seed1 < 2 ^ 64 → seed2 < 2 ^ 64 → IsText x → IsText y
         → length x < 192 → DifferInOneStretch x y
         → short_words seed1 seed2 x ≢ short_words seed1 seed2 y }
-    ensures words_v1 { (seed1 seed2 : ℕ) (x y : List ℕ) → seed1 < 2 ^ 64 → seed2 < 2 ^ 64 → IsText x → IsText y
+    ensures words_v1 { (seed1 seed2 : ℕ) (x y : List ℕ) → seed1 < 2 ^ 64 → seed2 < 2 ^ 64 → IsText x
+        → IsText y
         → length x < 192 → DifferInOneStretch x y
         → short_words_v1 seed1 seed2 x ≢ short_words_v1 seed1 seed2 y }
 {}

@@ -1,7 +1,7 @@
 //! What is measured of each hash of the table: a body for all of them, which a call does by the number of one.
 ghost use Rattle.std.specs.Prelude.{⊤};
 
-use hash_names::table::{by_kind, kind_at, number_named};
+use hash_kinds::table::{by_kind, kind_at, number_named};
 use hash_names::task::HashTask;
 use hashers::laws::{Piecewise, Streamed};
 use std::marker::PhantomData;

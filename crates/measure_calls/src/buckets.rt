@@ -1,7 +1,8 @@
 //! A table of buckets, which keys are put into and asked of.
 
 use hash_buckets::Buckets;
-use hash_names::table::{Kind, kind_at};
+use hash_kinds::table::{Kind, kind_at};
+use hash_names::table::Ported;
 use hashers::fnv::FNV1aHasher64;
 use hashers::fx_hash::FxHasher;
 use hashers::laws::Piecewise;
@@ -71,8 +72,12 @@ pub extern "C" fn measure_buckets(
     rounds: usize,
 ) -> u64 {
     let sum = match kind_at(kind) {
-        Some(Kind::Fnv1a64) => put_and_asked::<FNV1aHasher64>(alloc, keys, keys, size, rounds),
-        Some(Kind::FxHash) => put_and_asked::<FxHasher>(alloc, keys, keys, size, rounds),
+        Some(Kind::Ported(Ported::Fnv1a64)) => put_and_asked::<FNV1aHasher64>(
+            alloc, keys, keys, size, rounds,
+        ),
+        Some(Kind::Ported(Ported::FxHash)) => put_and_asked::<FxHasher>(
+            alloc, keys, keys, size, rounds,
+        ),
         _ => None,
     };
     sum.unwrap_or(u64::MAX)
@@ -89,8 +94,12 @@ pub extern "C" fn measure_missed(
 ) -> u64 {
     let (there, others) = keys.split_at(keys.len() / 2);
     let sum = match kind_at(kind) {
-        Some(Kind::Fnv1a64) => put_and_asked::<FNV1aHasher64>(alloc, there, others, size, rounds),
-        Some(Kind::FxHash) => put_and_asked::<FxHasher>(alloc, there, others, size, rounds),
+        Some(Kind::Ported(Ported::Fnv1a64)) => put_and_asked::<FNV1aHasher64>(
+            alloc, there, others, size, rounds,
+        ),
+        Some(Kind::Ported(Ported::FxHash)) => put_and_asked::<FxHasher>(
+            alloc, there, others, size, rounds,
+        ),
         _ => None,
     };
     sum.unwrap_or(u64::MAX)
@@ -100,8 +109,8 @@ pub extern "C" fn measure_missed(
 #[unsafe(no_mangle)]
 pub extern "C" fn measure_emptied(alloc: Global, kind: u32, keys: &[u8], size: usize) -> u64 {
     let sum = match kind_at(kind) {
-        Some(Kind::Fnv1a64) => put_and_taken::<FNV1aHasher64>(alloc, keys, size),
-        Some(Kind::FxHash) => put_and_taken::<FxHasher>(alloc, keys, size),
+        Some(Kind::Ported(Ported::Fnv1a64)) => put_and_taken::<FNV1aHasher64>(alloc, keys, size),
+        Some(Kind::Ported(Ported::FxHash)) => put_and_taken::<FxHasher>(alloc, keys, size),
         _ => None,
     };
     sum.unwrap_or(u64::MAX)

@@ -1,6 +1,7 @@
 //! std's map over a hasher, which keys are put into and asked of.
 
-use hash_names::table::{Kind, kind_at};
+use hash_kinds::table::{Kind, kind_at};
+use hash_names::table::Ported;
 use hashers::build::BuildFresh;
 use hashers::fnv::FNV1aHasher64;
 use hashers::fx_hash::FxHasher;
@@ -72,10 +73,12 @@ pub extern "C" fn measure_numbered(
     asks: usize,
 ) -> u64 {
     let sum = match kind_at(kind) {
-        Some(Kind::Fnv1a64) => {
+        Some(Kind::Ported(Ported::Fnv1a64)) => {
             put_and_asked::<FNV1aHasher64, u64>(alloc, there, asked, fills, asks)
         }
-        Some(Kind::FxHash) => put_and_asked::<FxHasher, u64>(alloc, there, asked, fills, asks),
+        Some(Kind::Ported(Ported::FxHash)) => put_and_asked::<FxHasher, u64>(
+            alloc, there, asked, fills, asks,
+        ),
         _ => None,
     };
     sum.unwrap_or(u64::MAX)
@@ -92,10 +95,12 @@ pub extern "C" fn measure_named(
     asks: usize,
 ) -> u64 {
     let sum = match kind_at(kind) {
-        Some(Kind::Fnv1a64) => {
+        Some(Kind::Ported(Ported::Fnv1a64)) => {
             lines_put_and_asked::<FNV1aHasher64>(alloc, there, asked, fills, asks)
         }
-        Some(Kind::FxHash) => lines_put_and_asked::<FxHasher>(alloc, there, asked, fills, asks),
+        Some(Kind::Ported(Ported::FxHash)) => lines_put_and_asked::<FxHasher>(
+            alloc, there, asked, fills, asks,
+        ),
         _ => None,
     };
     sum.unwrap_or(u64::MAX)

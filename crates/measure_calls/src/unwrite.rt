@@ -1,6 +1,7 @@
 //! Texts that are taken out of default hashers.
 
-use hash_names::table::{Kind, kind_at};
+use hash_kinds::table::{Kind, kind_at};
+use hash_names::table::Ported;
 use hashers::fnv::{FNV1aHasher32, FNV1aHasher64};
 use hashers::fx_hash::{FxHasher, FxHasher32, FxHasher64};
 use hashers::jenkins::OAATHasher;
@@ -26,16 +27,16 @@ fn unwritten<H: Undo>(text: &[u8], size: usize) -> u64 {
 #[unsafe(no_mangle)]
 pub extern "C" fn measure_unwrite(kind: u32, text: &[u8], size: usize) -> u64 {
     match kind_at(kind) {
-        Some(Kind::Fnv1a32) => unwritten::<FNV1aHasher32>(text, size),
-        Some(Kind::Fnv1a64) => unwritten::<FNV1aHasher64>(text, size),
-        Some(Kind::Djb2) => unwritten::<DJB2Hasher>(text, size),
-        Some(Kind::Sdbm) => unwritten::<SDBMHasher>(text, size),
-        Some(Kind::LoseLose) => unwritten::<LoseLoseHasher>(text, size),
-        Some(Kind::Bricolage) => unwritten::<Bricolage>(text, size),
-        Some(Kind::Oaat) => unwritten::<OAATHasher>(text, size),
-        Some(Kind::FxHash) => unwritten::<FxHasher>(text, size),
-        Some(Kind::FxHash32) => unwritten::<FxHasher32>(text, size),
-        Some(Kind::FxHash64) => unwritten::<FxHasher64>(text, size),
+        Some(Kind::Ported(Ported::Fnv1a32)) => unwritten::<FNV1aHasher32>(text, size),
+        Some(Kind::Ported(Ported::Fnv1a64)) => unwritten::<FNV1aHasher64>(text, size),
+        Some(Kind::Ported(Ported::Djb2)) => unwritten::<DJB2Hasher>(text, size),
+        Some(Kind::Ported(Ported::Sdbm)) => unwritten::<SDBMHasher>(text, size),
+        Some(Kind::Ported(Ported::LoseLose)) => unwritten::<LoseLoseHasher>(text, size),
+        Some(Kind::Ported(Ported::Bricolage)) => unwritten::<Bricolage>(text, size),
+        Some(Kind::Ported(Ported::Oaat)) => unwritten::<OAATHasher>(text, size),
+        Some(Kind::Ported(Ported::FxHash)) => unwritten::<FxHasher>(text, size),
+        Some(Kind::Ported(Ported::FxHash32)) => unwritten::<FxHasher32>(text, size),
+        Some(Kind::Ported(Ported::FxHash64)) => unwritten::<FxHasher64>(text, size),
         _ => u64::MAX,
     }
 }

@@ -1,8 +1,8 @@
 //! The hashes of texts by names: of the table that all programs share, or `crc32_combine`.
 ghost use Rattle.std.specs.Prelude.{⊤};
 
+use hash_kinds::table::{by_kind, kind_named};
 use hash_more::crc32::{crc32, crc32_combine};
-use hash_names::table::{by_kind, kind_named};
 use hash_names::task::HashTask;
 use hashers::laws::{Piecewise, Streamed};
 use std::alloc::{AllocError, Global};

@@ -9,7 +9,7 @@
 mod hashes;
 mod owners;
 
-use hash_names::table::KINDS;
+use hash_kinds::table::KINDS;
 use hash_ring::Ring;
 use hashes::write_hashes;
 use owners::{add, built, owners_sum};

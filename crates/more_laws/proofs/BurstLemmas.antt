@@ -1,25 +1,15 @@
 -- When the bits in which two texts differ are a burst of 32 bits: told by the first byte that differs, and the fifth from there on.
-use Rattle.std.proofs.Common.{◌≡◌, ◌≢◌, ◌↔◌, IsTrue, nat_eq, ℕ, zero, suc, ◌+◌, ◌-◌, ◌*◌, ◌/◌, ◌%◌, ◌^◌, ◌<◌, ◌≤◌, Bool, List, [], ◌∷◌, length, take, drop, get_or, bit_xor, refl, sym, ap, ◌∙◌, lit<, arith, inl, inr, subst}
-use Rattle.std.proofs.Math.Path.{ap₂}
+use Rattle.more_laws.proofs.Common.{◌≡◌, ◌≢◌, ◌↔◌, IsTrue, nat_eq, ℕ, zero, suc, ◌+◌, ◌-◌, ◌*◌, ◌/◌, ◌%◌, ◌^◌, ◌<◌, ◌≤◌, Bool, List, [], ◌∷◌, length, take, drop, get_or, bit_xor, refl, sym, ap, ◌∙◌, lit<, arith, inl, inr, subst, ap₂, drop-cons, cases_lt, xor_self, Decides-eqb, bit_at-trailing_zeros, IsText, xor_cancel, DifferWithin, IsFirstDifference, exchanged, low_and_high}
 use Rattle.std.proofs.Math.Nat.{mul-pos, mul_assoc, mul_comm, mul-div_cancel, mul-mod_right, mod-add-div, pow-succ', pow-le-pow_right, mul-le-mul_left, mul-le-mul_right, mul-div-le, div-eq_of_lt, mod-lt, lt_of_mul-lt-mul_left, div-add-mod}
 use Rattle.std.proofs.Math.Pow.{mod-mod-pow}
 use Rattle.std.proofs.lemmas.Nat.{xor_lt, xor_shr, xor_mod, pow-add, pow_pos, mod-pow-add}
-use Rattle.std.proofs.lemmas.Bool.{cases_lt}
-use Rattle.std.specs.Int.Bits.{xor_self}
 use Rattle.std.proofs.lemmas.List.Elements.{All-head, All-tail, All-drop}
-use Rattle.std.proofs.Math.Seq.{drop-cons}
 use Rattle.std.proofs.lemmas.List.{length-drop, take_all, get_or-drop, get_or_past}
-use Rattle.std.proofs.lemmas.Bool.Decides.{Decides-eqb}
 use Rattle.std.specs.Cmp.Lexicographic.{pointwise}
 use Rattle.std.proofs.lemmas.Slice.Eq.{slice_eq-Decides}
-use Rattle.std.proofs.lemmas.Nat.Bits.{bit_at-trailing_zeros}
 use Rattle.std.specs.Int.{trailing_zeros, w8}
-use Rattle.hash_laws.specs.Text.{IsText}
 use Rattle.hash_words.specs.Words.{le}
-use Rattle.hash_words.proofs.XorLemmas.{xor_cancel}
-use Rattle.hash_windows.specs.DifferWithin.{DifferWithin, IsFirstDifference}
 use Rattle.more_laws.specs.Bursts.{IsBurst, DifferWithinBits}
-use Rattle.hash_crc.proofs.Crc32Lemmas.{exchanged, low_and_high}
 
 -- ---- bursts
 

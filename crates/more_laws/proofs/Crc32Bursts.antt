@@ -1,20 +1,11 @@
 -- Why two texts that differ within 32 neighbouring bits have different CRCs: all that is left of their difference is the pattern, a word,
 -- with some bits gone out, and that loses nothing.
-use Rattle.std.proofs.Common.{inl, inr, ◌≡◌, ◌≢◌, ℕ, ◌+◌, ◌-◌, ◌*◌, ◌/◌, ◌^◌, ◌<◌, List, length, bit_xor, sym, ap, ◌∙◌, lit<, arith}
-use Rattle.std.proofs.Math.Path.{ap₂}
-use Rattle.std.proofs.Math.Nat.{mul_assoc, mul-pos}
-use Rattle.std.proofs.lemmas.Nat.{pow-add, pow_pos}
-use Rattle.std.proofs.lemmas.Bool.{cases_lt}
-use Rattle.std.specs.Int.Bits.{xor_self, xor_zero_l}
-use Rattle.hash_laws.specs.Text.{IsText}
+use Rattle.more_laws.proofs.Common.{inl, inr, ◌≡◌, ◌≢◌, ℕ, ◌+◌, ◌-◌, ◌*◌, ◌/◌, ◌^◌, ◌<◌, List, length, bit_xor, sym, ap, ◌∙◌, lit<, arith, ap₂, cases_lt, xor_self, xor_zero_l, IsText, xor_cancel, DifferWithin, all_ones, bits_out, crc_from, crc_answer, exchanged, bits_out-xor, moved_down}
+use Rattle.std.proofs.Common.{mul_assoc, mul-pos, pow-add, pow_pos}
 use Rattle.hash_words.specs.Words.{le}
-use Rattle.hash_words.proofs.XorLemmas.{xor_cancel}
-use Rattle.hash_windows.specs.DifferWithin.{DifferWithin}
 use Rattle.more_laws.specs.Bursts.{DifferWithinBits}
-use Rattle.hash_crc.specs.Crc32.{all_ones, bits_out, crc_from, crc_answer}
 use Rattle.hash_crc.specs.Crc32Laws.{bits_out-same}
 use Rattle.more_laws.proofs.BurstLemmas.{within_four}
-use Rattle.hash_crc.proofs.Crc32Lemmas.{exchanged, bits_out-xor, moved_down}
 use Rattle.hash_crc.proofs.Crc32Texts.{bits_out-more, bits_out-none, crc_from-number}
 
 module _ (p : ℕ) (highest : p / 2 ^ 31 ≡ 1) where

@@ -1,13 +1,6 @@
 -- Why two texts that differ within six places, and agree in the top three bits, have different hashes by djb2 with a sum: what is left
 -- of six bytes below 32 are the digits of a number in base 33 that is below 2^32.
-use Rattle.std.proofs.Common.{◌≡◌, ℕ, zero, suc, ◌+◌, ◌*◌, ◌/◌, ◌%◌, ◌^◌, ◌<◌, ◌≤◌, ◌≢◌, List, lit<, arith}
-use Rattle.std.specs.Int.Bits.{bit_and}
-use Rattle.std.proofs.lemmas.Nat.Bits.{and_high}
-use Rattle.hash_laws.specs.Text.{IsText}
-use Rattle.hash_windows.specs.DifferWithin.{DifferWithin}
-use Rattle.hash_laws.proofs.RecurrenceLemmas.{recurrence_is_fold}
-use Rattle.hash_windows.proofs.Windows.{hash_apart}
-use Rattle.hash_windows.proofs.Windows.{Separates}
+use Rattle.more_laws.proofs.Common.{◌≡◌, ℕ, zero, suc, ◌+◌, ◌*◌, ◌/◌, ◌%◌, ◌^◌, ◌<◌, ◌≤◌, ◌≢◌, List, lit<, arith, bit_and, and_high, IsText, DifferWithin, recurrence_is_fold, hash_apart, Separates}
 use Rattle.hash_more.specs.Djb2Add.{djb2_add_step, djb2_add_from}
 use Rattle.hash_more.specs.Djb2AddLaws.{djb2_add_facts}
 

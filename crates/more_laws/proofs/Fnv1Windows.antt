@@ -1,11 +1,7 @@
 -- Two texts that a window of FNV-1a separates have different FNV-1 hashes: FNV-1 is FNV-1a without its last product.
-use Rattle.std.proofs.Common.{◌≡◌, ◌≢◌, ℕ, ◌*◌, ◌%◌, ◌^◌, List, [], ◌∷◌, fold, bit_xor, refl, sym, ap, ◌∙◌, lit<}
-use Rattle.hash_laws.specs.Text.{IsText}
-use Rattle.hash_windows.specs.DifferWithin.{DifferWithin}
+use Rattle.more_laws.proofs.Common.{◌≡◌, ◌≢◌, ℕ, ◌*◌, ◌%◌, ◌^◌, List, [], ◌∷◌, fold, bit_xor, refl, sym, ap, ◌∙◌, lit<, IsText, DifferWithin, recurrence-fold, DifferWithin-fold}
 use Rattle.hash_laws.specs.Recurrence.{recurrence}
 use Rattle.hash_bytes.specs.Fnv.{fnv1_step, fnv1a32_basis, fnv1a32_step, fnv1a64_basis, fnv1a64_step}
-use Rattle.hash_laws.proofs.RecurrenceLemmas.{recurrence-fold}
-use Rattle.hash_windows.proofs.Windows.{DifferWithin-fold}
 use Rattle.hashers.proofs.WindowSpreads.{IsState32, IsState64}
 use Rattle.hashers.proofs.FnvWindows.{fnv1a32_separates, fnv1a64_separates, Fnv32Apart, Fnv64Apart}
 use Rattle.hash_more.specs.Fnv1.{fnv1_32_from, fnv1_64_from}

@@ -1,3 +1,4 @@
+pub mod Common
 pub mod BurstLemmas
 pub mod Crc32Bursts
 pub mod Djb2AddWindow

@@ -1,5 +1,5 @@
-//! Tests on two texts that differ within a few neighbouring places, or bits: where one answers true, a CRC tells the texts
-//! apart. None of them computes a CRC.
+//! Tests on two texts that differ within a few adjacent places, or bits: where one returns true, the CRCs of the texts
+//! differ. None of them computes a CRC.
 ghost use Rattle.std.specs.Prelude.{◌≢◌, ◌≡◌, ◌<◌, ◌↔◌, length, slice_index, IsTrue};
 ghost use Rattle.std.specs.Bool.{OnTrue};
 ghost use Rattle.hash_windows.specs.DifferWithin.{DifferWithin};
@@ -11,7 +11,7 @@ use hash_windows::window::{first_difference, is_window};
 // In how many neighbouring places two texts may differ.
 const PLACES: usize = 4;
 
-/// Whether the texts have one length and differ, but only within four neighbouring places. Their `crc32` then differs.
+/// Whether the texts have one length and differ, but only within four adjacent places. Their `crc32` then differs.
 pub fn apart_crc32(x: &[u8], y: &[u8]) -> bool
     ensures exactly { IsTrue result ↔ DifferWithin 4 0 x.now y.now }
     ensures differ { OnTrue result (crc32_of x.now ≢ crc32_of y.now) }
@@ -19,7 +19,7 @@ pub fn apart_crc32(x: &[u8], y: &[u8]) -> bool
     is_window(x, y, PLACES, 0)
 }
 
-/// Whether the texts have one length and differ, but only within four neighbouring places. Their `crc32c` then differs.
+/// Whether the texts have one length and differ, but only within four adjacent places. Their `crc32c` then differs.
 pub fn apart_crc32c(x: &[u8], y: &[u8]) -> bool
     ensures exactly { IsTrue result ↔ DifferWithin 4 0 x.now y.now }
     ensures differ { OnTrue result (crc32c_of x.now ≢ crc32c_of y.now) }
@@ -42,7 +42,7 @@ fn is_burst_from_the_first(x: &[u8], y: &[u8]) -> bool
     (x[4] ^ y[4]) >> lowest == 0 && x[5..] == y[5..]
 }
 
-/// Whether the texts have one length and differ, but only within 32 neighbouring bits, which may lie in five bytes. The low
+/// Whether the texts have one length and differ, but only within 32 adjacent bits, which may lie in five bytes. The low
 /// bit of a byte comes first.
 fn is_burst(x: &[u8], y: &[u8]) -> bool
     ensures { IsTrue result ↔ DifferWithinBits 32 x.now y.now }
@@ -56,7 +56,7 @@ fn is_burst(x: &[u8], y: &[u8]) -> bool
     }
 }
 
-/// Whether the texts have one length and differ, but only within 32 neighbouring bits, which may lie in five bytes; the low
+/// Whether the texts have one length and differ, but only within 32 adjacent bits, which may lie in five bytes; the low
 /// bit of a byte comes first. Their `crc32` then differs: it sees every burst of errors of up to 32 bits.
 pub fn apart_crc32_bits(x: &[u8], y: &[u8]) -> bool
     ensures exactly { IsTrue result ↔ DifferWithinBits 32 x.now y.now }
@@ -65,7 +65,7 @@ pub fn apart_crc32_bits(x: &[u8], y: &[u8]) -> bool
     is_burst(x, y)
 }
 
-/// Whether the texts have one length and differ, but only within 32 neighbouring bits, as [`apart_crc32_bits`] has it.
+/// Whether the texts have one length and differ, but only within 32 adjacent bits, as [`apart_crc32_bits`] has it.
 /// Their `crc32c` then differs.
 pub fn apart_crc32c_bits(x: &[u8], y: &[u8]) -> bool
     ensures exactly { IsTrue result ↔ DifferWithinBits 32 x.now y.now }

@@ -1,5 +1,5 @@
-//! Tests on two texts that differ within a few neighbouring places, or bits: where one answers true, a hash tells the texts
-//! apart. None of them computes a hash.
+//! Tests on two texts that differ within a few adjacent places, or bits: where one returns true, the hashes of the texts
+//! differ. None of them computes a hash.
 ghost use Rattle.std.specs.Prelude.{◌≡◌, ◌≢◌, ◌<◌, ◌↔◌, ℕ, List, length, slice_index, IsTrue, IfNone, IfSome};
 ghost use Rattle.std.specs.Bool.{OnTrue};
 ghost use Rattle.hash_laws.specs.Text.{IsText};
@@ -20,7 +20,7 @@ const FNV1_64_PLACES: usize = 3;
 
 const FNV1_32_PLACES: usize = 2;
 
-/// Whether the texts have one length and differ, but only within six neighbouring places, and everywhere only in the low
+/// Whether the texts have one length and differ, but only within six adjacent places, and everywhere only in the low
 /// five bits of a byte. Their `djb2_add` hashes then differ.
 pub fn apart_djb2_add(x: &[u8], y: &[u8]) -> bool
     ensures exactly { IsTrue result ↔ DifferWithin 6 0xE0 x.now y.now }
@@ -29,7 +29,7 @@ pub fn apart_djb2_add(x: &[u8], y: &[u8]) -> bool
     is_window(x, y, DJB2_ADD_PLACES, 0xE0)
 }
 
-/// Whether the texts have one length and differ, but only within three neighbouring places. Their `fnv1_64` hashes then
+/// Whether the texts have one length and differ, but only within three adjacent places. Their `fnv1_64` hashes then
 /// differ.
 pub fn apart_fnv1_64(x: &[u8], y: &[u8]) -> bool
     ensures exactly { IsTrue result ↔ DifferWithin 3 0 x.now y.now }
@@ -38,7 +38,7 @@ pub fn apart_fnv1_64(x: &[u8], y: &[u8]) -> bool
     is_window(x, y, FNV1_64_PLACES, 0)
 }
 
-/// Whether the texts have one length and differ, but only within two neighbouring places. Their `fnv1_32` hashes then
+/// Whether the texts have one length and differ, but only within two adjacent places. Their `fnv1_32` hashes then
 /// differ.
 pub fn apart_fnv1_32(x: &[u8], y: &[u8]) -> bool
     ensures exactly { IsTrue result ↔ DifferWithin 2 0 x.now y.now }
@@ -47,9 +47,9 @@ pub fn apart_fnv1_32(x: &[u8], y: &[u8]) -> bool
     is_window(x, y, FNV1_32_PLACES, 0)
 }
 
-/// The windows as laws, with no code: where two texts have one length and differ, but only within so many neighbouring
+/// The windows as laws, with no code: where two texts have one length and differ, but only within so many adjacent
 /// places and in bits outside the mask, the named hashes differ. Of CRCs so do those of texts that differ within 32
-/// neighbouring bits, which may lie in five bytes: no burst of errors of up to 32 bits passes.
+/// adjacent bits, which may lie in five bytes: no burst of errors of up to 32 bits passes.
 pub fn windows_tell_apart()
     ensures crc32 { (x y : List ℕ) → IsText x → IsText y → DifferWithin 4 0 x y
         → crc32_of x ≢ crc32_of y }

@@ -1,9 +1,6 @@
 -- Cells that are put behind others.
-use Rattle.std.proofs.Common.{ℕ, suc, ◌≡◌, ◌+◌, ◌<◌, ◌++◌, ◌∷◌, [], List, Result, Ok, Err, length, get_or, map, take, subst, sym, append-nil, append_assoc}
+use Rattle.std.proofs.Common.{ℕ, suc, ◌≡◌, ◌+◌, ◌<◌, ◌++◌, ◌∷◌, [], List, Result, Ok, Err, length, get_or, map, take, subst, sym, append-nil, append_assoc, IfOk, replicate, string_bytes, Global, String}
 use Rattle.std.proofs.lemmas.List.{map_more}
-use Rattle.std.specs.Prelude.{IfOk, replicate, string_bytes}
-use Rattle.std.specs.declared.alloc.Global.{Global}
-use Rattle.std.specs.declared.string.String.{String}
 use Rattle.spread.specs.Lines.{AreCells, AddsCell, AddsCells, IsLine, more, one}
 
 pub adds_none : (text : List ℕ) → AddsCells text [] text

@@ -1,7 +1,7 @@
 //! How long hashing takes.
 ghost use Rattle.std.specs.Prelude.{◌≡◌};
 
-use hash_names::table::Kind;
+use hash_kinds::table::Kind;
 use hash_spread::named::{Hashed, hash_by};
 use std::alloc::AllocError;
 use std::num::{nearest_u64_to_f64, nearest_usize_to_f64};

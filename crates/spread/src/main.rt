@@ -1,4 +1,4 @@
-//! `spread` tells how evenly each hasher spreads the keys that are the lines of standard input, beside chance, how fast it is, and which
+//! `spread` shows how evenly each hasher spreads the keys that are the lines of standard input, beside chance, how fast it is, and which
 //! one to take.
 #![tactic(auto)]
 
@@ -21,7 +21,7 @@ use cli::frame::{About, Request, request_of, text_of, wrong_word};
 use cli::help::help_for;
 use cli::outcome::of_telling;
 use cli::program::{BUFFER, Program};
-use hash_names::table::KINDS;
+use hash_kinds::table::KINDS;
 use hash_spread::call::{
     Misuse, Outcome, Wrong, call_of, kinds_of, no_number, options, settings_of, unknown_name,
 };
@@ -44,22 +44,22 @@ Recommend a hash for your keys. Each line of standard input is a key, and each
 different key counts once. For each NAME, or each hash that makes sense, print
 how many pairs of keys have equal hashes, how many keys the fullest bucket has,
 how many buckets are empty, the sum of the squares of the buckets' sizes, and
-nanoseconds for a key; then what chance would give; and last the fastest hash
-whose squares lie within three standard deviations of chance. There are as many
-buckets as the power of two at or above the number of keys, and as the next odd
-number above that.
+nanoseconds for a key; then what chance would give; and last, for 1000 keys and
+more, the fastest hash that looks random and spreads them as chance does. There
+are as many buckets as the power of two at or above the number of keys, and as
+the next odd number above that.
 
 ";
 
 /// Which version this is.
-const VERSION: &str = "spread of hashers 1.0.1
+const VERSION: &str = "spread of hashers 0.1.0
 License: MIT
 ";
 
 /// How wide a line of the help is at most.
 const WIDE: usize = 79;
 
-/// What stands behind the options in the help: the names of the hashes.
+/// What stands after the options in the help: the names of the hashes.
 fn names(alloc: Global) -> Result<String, AllocError> {
     let mut names = String::from_str(alloc, "\nThe names:")?;
     let mut wide: usize = 10;
@@ -97,7 +97,7 @@ fn worked(rt: &HostRuntime, call: &Call<'_>, w: &mut BufWriter<Stdout>) -> Resul
         Err(wrong) => return Ok(Outcome::Usage(wrong)),
     };
     if unknown_name(rt.alloc(), call)?.is_some() {
-        return Ok(Outcome::Usage(Wrong::UnknownName));
+        return Ok(Outcome::Usage(Wrong::Own(Misuse::NoHash)));
     }
     let kinds = kinds_of(rt.alloc(), call)?;
     Ok(of_telling(tell_table(rt, &settings, &kinds, call.value(b"plot"), w)))
@@ -135,9 +135,13 @@ impl Program for Spread {
     type Own = NoTable;
 
     ghost use Rattle.cli.specs.Call.{call_of};
+    ghost use Rattle.cli.specs.Frame.{request_of};
+    ghost use Rattle.cli.specs.Program.{EndsAs};
     ghost use Rattle.hash_spread.specs.Call.{options};
 
     ghost says = { call_of options };
+
+    ghost came = { λ said. EndsAs (request_of said) };
 
     fn name() -> &'static str {
         NAME
@@ -157,7 +161,7 @@ impl Program for Spread {
 
     fn word_of<'a>(alloc: Global, call: &Call<'a>, outcome: &Outcome) -> Option<&'a [u8]> {
         match outcome {
-            Outcome::Usage(Wrong::UnknownName) => unknown_name(alloc, call).unwrap_or(None),
+            Outcome::Usage(Wrong::Own(Misuse::NoHash)) => unknown_name(alloc, call).unwrap_or(None),
             Outcome::Usage(Wrong::Own(Misuse::NoNumber)) => no_number(call),
             Outcome::Failed(Failure::Own(NoTable::Undrawn(_))) => call.value(b"plot"),
             _ => wrong_word(call),

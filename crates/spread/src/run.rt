@@ -7,7 +7,8 @@ use crate::picture::picture;
 use crate::table::Frame;
 use cli::inputs::open;
 use cli::progress::{Progress, Watched};
-use hash_names::table::Kind;
+use hash_kinds::table::Kind;
+use hash_spread::advice::advise;
 use hash_spread::call::Settings;
 use hash_spread::failure::{Failure, NoTable};
 use hash_spread::keys::{Layout, read_keys};
@@ -97,8 +98,8 @@ fn tell_chance(
     Ok(())
 }
 
-/// Writes which hasher is recommended.
-fn tell_best(
+/// Writes which hash is advised.
+fn tell_advice(
     rt: &HostRuntime,
     rows: &[TableRow],
     frame: &Frame,
@@ -106,22 +107,14 @@ fn tell_best(
 ) -> Result<(), Failure>
     ensures { OnOk result (writer_buffer w.new ≡ []) }
 {
-    match frame.best(rows) {
-        Some(best) => {
-            let name = best.kind.row().name;
-            let line = format!(in rt.alloc();
-                "Take {name}: the fastest of those that spread these keys as chance does.\n"
-            )?;
-            write_out(w, line.as_bytes())
-        }
-        None => write_out(w, b"None of these spreads these keys as chance does.\n"),
-    }
+    let line = advise(frame.keys, rows).line(rt.alloc())?;
+    write_out(w, line.as_bytes())
 }
 
 /// Where the picture goes.
 #[derive(Drop)]
 enum Canvas {
-    /// To standard output, behind the table.
+    /// To standard output, after the table.
     Standard,
     /// Into a file.
     File(File),
@@ -208,7 +201,7 @@ pub fn tell_table(
     let rows = tell_rows(rt, kinds, &frame, &mut hashed, w)?;
     tell_chance(rt, &rows, &frame, w)?;
     if settings.times {
-        tell_best(rt, &rows, &frame, w)?;
+        tell_advice(rt, &rows, &frame, w)?;
     }
     match canvas {
         Some(canvas) => draw(canvas, picture(rt.alloc(), &frame, &rows)?.as_str(), w),

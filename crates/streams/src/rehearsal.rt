@@ -1,5 +1,5 @@
-//! For tests alone: readers, writers and files that cut, are interrupted and fail as a test says, and the arguments of
-//! a call. No program calls these.
+//! For tests alone: readers, writers and files that move a few bytes at a time, are interrupted and fail as a test
+//! says, and the arguments of a call. No program calls these.
 use std::alloc::{AllocError, Global};
 use std::io;
 use std::io::{Error, ErrorKind, Read, Write};
@@ -31,7 +31,7 @@ impl<'a> Script<'a> {
         Script::failing(text, most, usize::MAX)
     }
 
-    /// The same, but one read fails, behind `until_fault` bytes. The reads after it go on with the text.
+    /// The same, but one read fails, after `until_fault` bytes. The reads after it go on with the text.
     pub fn failing(text: &'a [u8], most: usize, until_fault: usize) -> Script<'a> {
         Script {
             left: text,

@@ -1,7 +1,5 @@
-pub mod FirstsLemmas
-pub mod LawLemmas
+pub mod Common
 pub mod LineLemmas
-pub mod LinesOfText
 pub mod SetLemmas
 pub mod SlotLemmas
 pub mod StoreLemmas

@@ -1,31 +1,25 @@
--- The first line of each text.
-use Rattle.std.specs.Prelude.{ℕ, ◌≡◌, ◌++◌, Bool, false, not, List, [], ◌∷◌}
+-- The texts of lines, each once.
+use Rattle.std.specs.Prelude.{ℕ, ◌≡◌, ◌++◌, false, fold, map, List, [], ◌∷◌}
 use Rattle.std.specs.Io.BufRead.{strip_last}
-use Rattle.std.specs.List.{filter, flat_map, list_any}
-use Rattle.std.specs.Str.{bytes_eq}
-use Rattle.text_set.specs.Lines.{as_line_by, lines_by}
-use Rattle.text_set.specs.Texts.{has}
+use Rattle.std.specs.List.{flat_map}
+use Rattle.text_set.specs.Lines.{lines_by}
+use Rattle.text_set.specs.Texts.{has, with_text}
 
--- whether two lines have the same text, what ends them aside
-abbrev pub same_text_by : (eol : ℕ) → List ℕ → List ℕ → Bool
-same_text_by eol line other = bytes_eq (strip_last eol line) (strip_last eol other)
-
--- the lines whose text stands in no line before them
+-- the texts of lines, each once, where it came first: those of a set that takes them in
 abbrev pub firsts_by : (eol : ℕ) → List (List ℕ) → List (List ℕ)
-firsts_by eol [] = []
-firsts_by eol (line ∷ more) = line ∷ filter (λ other. not (same_text_by eol line other)) (firsts_by eol more)
+firsts_by eol ls = fold with_text [] (map (strip_last eol) ls)
+
+-- texts, each with its end behind it
+abbrev pub as_lines : (eol : ℕ) → List (List ℕ) → List ℕ
+as_lines eol texts = flat_map (λ text. text ++ eol ∷ []) texts
 
 -- lines each once, where they came first, each with its end behind it
 abbrev pub once_by : (eol : ℕ) → List (List ℕ) → List ℕ
-once_by eol ls = flat_map (as_line_by eol) (firsts_by eol ls)
+once_by eol ls = as_lines eol (firsts_by eol ls)
 
 -- the same of the lines of a text
 abbrev pub each_once_by : (eol : ℕ) → List ℕ → List ℕ
 each_once_by eol text = once_by eol (lines_by eol text)
-
--- these texts are those of the lines
-abbrev pub AreSeen : (eol : ℕ) → List (List ℕ) → (seen : List (List ℕ)) → Type 0
-AreSeen eol ls seen = (other : List ℕ) → has seen other ≡ list_any (λ line. bytes_eq other (strip_last eol line)) ls
 
 -- the text stands at a place before which the other does not
 abbrev pub ComesBefore : List (List ℕ) → (text other : List ℕ) → Type 0

@@ -1,5 +1,5 @@
 -- Texts that lie one behind the other.
-use Rattle.std.specs.Prelude.{ℕ, ◌≡◌, ◌≤◌, ◌-◌, ◌==◌, if◌then◌else◌, List, [], ◌∷◌, take, drop, slice_index_or}
+use Rattle.std.specs.Prelude.{ℕ, ◌≡◌, ◌≤◌, ◌-◌, List, [], ◌∷◌, take, drop, slice_index_or}
 
 -- the bytes cut at these ends, from a start on
 abbrev pub cut : ℕ → List ℕ → (ends : List ℕ) → List (List ℕ)
@@ -11,6 +11,6 @@ abbrev pub Rises : ℕ → (ends : List ℕ) → ℕ → Type 0
 Rises start [] last = start ≡ last
 Rises start (end ∷ ends) last = (start ≤ end) × Rises end ends last
 
--- where the text at a place begins
+-- where the text at a place begins: the first at the start, any other where the one before it ends
 abbrev pub start_of : List ℕ → ℕ → ℕ
-start_of ends place = if place == 0 then 0 else slice_index_or ends (place - 1) 0
+start_of ends place = slice_index_or (0 ∷ ends) place 0

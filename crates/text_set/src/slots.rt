@@ -1,4 +1,4 @@
-//! A table of slots, which tells the places of texts by their hashes.
+//! A table of slots, which finds the places of texts by their hashes.
 ghost use Rattle.std.specs.Prelude.{◌≡◌, ◌<◌, ◌≤◌, ◌-◌, All, OnOk, OnErr, IfOk, not, length};
 ghost use Rattle.text_set.specs.Slots.{AreFound, FirstBetween, FirstRound, IsRefilled, Names, free_count, home_of, is_taken, stops, tag_under};
 

@@ -1,4 +1,4 @@
-//! Texts that lie one behind the other in one buffer.
+//! Texts that lie one after the other in one buffer.
 ghost use Rattle.std.specs.Prelude.{◌≡◌, ◌-◌, ◌<◌, ◌≤◌, ◌^◌, ◌++◌, ◌∷◌, ℕ, List, [], OnOk, OnErr, length, take, drop, slice_index_or};
 ghost use Rattle.text_set.specs.Store.{Rises, cut, start_of};
 
@@ -52,6 +52,7 @@ impl Store {
 
     /// How many texts there are.
     #[inline(always)]
+    #[tactic(auto, using(crate::proofs::StoreLemmas::length_cut))]
     pub fn len(&self) -> usize
         ensures value { result ≡ length self.now }
         ensures small { result < 2 ^ 63 }
@@ -76,7 +77,8 @@ impl Store {
         text_between(&self.bytes, start, end)
     }
 
-    /// Puts a text behind the others. If there is no memory for it, they stay as they were.
+    /// Puts a text after the others. If there is no memory for it, they stay as they were.
+    #[tactic(auto, using(crate::proofs::StoreLemmas::cut_more, crate::proofs::StoreLemmas::rises_more))]
     pub fn push(&mut self, text: &[u8]) -> Result<(), AllocError>
         ensures ok { OnOk result (self.new ≡ self.old ++ text.now ∷ []) }
         ensures err { OnErr result (self.new ≡ self.old) }

@@ -1,5 +1,5 @@
 -- The next lines, as they are found.
-use Rattle.std.proofs.Common.{ℕ, ◌≡◌, ◌+◌, List, [], ◌∷◌, ◌++◌, ◌≤◌, length, drop, ap, subst, arith, length-drop}
+use Rattle.unique_lines.proofs.Common.{ℕ, ◌≡◌, ◌+◌, List, [], ◌∷◌, ◌++◌, ◌≤◌, length, drop, ap, subst, arith, length-drop}
 use Rattle.unique_lines.specs.Between.{AreNext, IsFound}
 use Rattle.unique_lines.specs.declared.ahead.Found.{Found}
 

@@ -1,8 +1,7 @@
 -- A number on the right of a column.
-use Rattle.std.proofs.Common.{◌≡◌, ℕ, ◌-◌, List, [], ◌∷◌, ◌++◌, length, ap, ◌∙◌, arith, append_assoc}
-use Rattle.std.specs.Fmt.{decimal, styled_decimal, format_spec, padded_integral, char_count}
-use Rattle.std.specs.List.{repeat}
-use Rattle.std.proofs.lemmas.List.{append-nil}
+use Rattle.unique_lines.proofs.Common.{◌≡◌, ℕ, ◌-◌, List, [], ◌∷◌, ◌++◌, length, ap, ◌∙◌, arith, append_assoc, decimal, styled_decimal, format_spec, repeat}
+use Rattle.std.proofs.Common.{append-nil}
+use Rattle.std.specs.Fmt.{padded_integral, char_count}
 use Rattle.std.proofs.lemmas.Str.{encode_ascii}
 use Rattle.unique_lines.specs.Tallies.{column}
 

@@ -1,26 +1,16 @@
 -- Inputs, one behind the other.
-use Rattle.std.proofs.Common.{◌≡◌, ◌≢◌, ℕ, ◌+◌, ◌<◌, ◌≤◌, ◌&&◌, inr, Bool, true, false, Result, Ok, Err, List, [], ◌∷◌, ◌++◌, length, map, set, get_or, take, drop, Option, None, Some, ap, sym, ◌∙◌, refl, subst, take-append-drop, length-append, arith}
-use Rattle.std.specs.Io.KnownBytes.{Appends, Keeps}
-use Rattle.std.proofs.KnownBytes.{Appends-kept, Appends-nil}
-use Rattle.std.proofs.lemmas.Bool.{and_parts, false≢true}
-use Rattle.std.proofs.lemmas.List.{append-nil, drop-drop, drop-set-lt, map-append, take_more, take_more_set}
-use Rattle.std.proofs.Math.Seq.{drop-cons}
-use Rattle.streams.specs.Streams.{AppendsPart}
-use Rattle.std.specs.Option.{is_some}
-use Rattle.std.specs.Result.{IsErr}
-use Rattle.std.specs.List.{flat_map, list_all}
-use Rattle.std.proofs.lemmas.Grind.{flat_map-append}
+use Rattle.unique_lines.proofs.Common.{◌≡◌, ◌≢◌, ℕ, ◌+◌, ◌<◌, ◌≤◌, ◌&&◌, inr, Bool, true, false, Result, Ok, Err, List, [], ◌∷◌, ◌++◌, length, map, set, get_or, take, drop, Option, None, Some, ap, sym, ◌∙◌, refl, subst, take-append-drop, length-append, arith, drop-cons, is_some, IsErr, Appends, Keeps, Appends-kept, Appends-nil, and_parts, false≢true, drop-drop, drop-set-lt, map-append, take_more, take_more_set, AppendsPart, list_all, flat_map-append, lines_by, part_behind}
+use Rattle.std.proofs.lemmas.List.{append-nil}
+use Rattle.std.specs.List.{flat_map}
 use Rattle.std.proofs.lemmas.List.Folds.{flat_map-map, list_all-append}
 use Rattle.unique_lines.specs.Inputs.{AreRead, ReadsInput}
 use Rattle.unique_lines.specs.Inputs.AreRead.{behind, none}
-use Rattle.text_set.specs.Lines.{lines_by}
 use Rattle.unique_lines.specs.Running.{AllBeginWith, BreaksBehind, EndsBehind, EndsTaking, NextBeginsWith, Run}
-use Rattle.streams.proofs.StreamLemmas.{part_behind}
 use Rattle.streams.specs.declared.failure.Failure.{Failure}
 use Rattle.unique_lines.specs.declared.failure.TooMany.{TooMany}
 use Rattle.unique_lines.specs.declared.run.Ended.{Ended}
-use Rattle.unique_lines.specs.declared.run.Ended.TheVariants.{Whole, InputFailed, TooManyLines}
-use Rattle.unique_lines.specs.Taking.{At, BeginWith, BreaksInput, Broke, HasMore, Leads, TakesMost}
+use Rattle.unique_lines.specs.declared.run.Ended.TheVariants.{Whole, InputFailed}
+use Rattle.unique_lines.specs.Taking.{At, BeginWith, BreaksInput, Broke, Leads}
 
 -- ---- the first lines of inputs
 
@@ -32,13 +22,12 @@ module _ {eol : ℕ} where
       record { done = _; done' = _; ended = _; before = _; read = read; more = more; is = is; now = now; next = next; lines = lines }
 
   -- a fault before any input is read
-  pub part_at_start : (limit : ℕ) (output : List (List ℕ) → List ℕ) (lefts : List (Option (List ℕ))) (w w' : Option (List ℕ))
-      → output [] ≡ [] → Keeps w w' → (ls : List (List ℕ)) × AllBeginWith eol lefts ls × AppendsPart w w' (output ls) × (length ls ≤ limit)
-  part_at_start limit output lefts w w' nothing keeps = (
+  pub part_at_start : (output : List (List ℕ) → List ℕ) (lefts : List (Option (List ℕ))) (w w' : Option (List ℕ))
+      → output [] ≡ [] → Keeps w w' → (ls : List (List ℕ)) × AllBeginWith eol lefts ls × AppendsPart w w' (output ls)
+  part_at_start output lefts w w' nothing keeps = (
     [],
     all_begin lefts lefts [] [] none refl (next lefts) refl,
     ([], [], sym nothing, Appends-kept _ _ _ _ (Appends-nil w) keeps),
-    omega arith,
   )
     where
       next : (lefts : List (Option (List ℕ))) → NextBeginsWith eol lefts []
@@ -50,35 +39,33 @@ module _ {eol : ℕ} where
 
 -- the inputs before a place are read, and their lines are taken
 pub record SoFar {R : Type 0} (remaining : R → Option (List ℕ)) (output : List (List ℕ) → List ℕ) (taken : List (List ℕ) → Type 0)
-    (eol limit place : ℕ) (inputs inputs' : List R) (whole : Bool) (most : ℕ) (w w' : Option (List ℕ)) : Type 0 where
+    (eol place : ℕ) (inputs inputs' : List R) (whole : Bool) (w w' : Option (List ℕ)) : Type 0 where
   pub ls : List (List ℕ)
   pub read : AreRead eol whole (map remaining (take place inputs)) (map remaining (take place inputs')) ls
   pub at : At output taken w' w ls
-  pub counted : length ls + most ≡ limit
   pub rest : drop place inputs' ≡ drop place inputs
 
 module _ {R : Type 0} {remaining : R → Option (List ℕ)} {output : List (List ℕ) → List ℕ} {taken : List (List ℕ) → Type 0}
-    {eol limit : ℕ} where
+    {eol : ℕ} where
   pub so_far_start : (inputs : List R) (w w' : Option (List ℕ)) → taken [] → output [] ≡ [] → Keeps w w'
-      → SoFar remaining output taken eol limit 0 inputs inputs true limit w w'
+      → SoFar remaining output taken eol 0 inputs inputs true w w'
   so_far_start inputs w w' begun nothing keeps = record {
     ls = [];
     read = none;
     at = record { stands = begun; writes = subst (Appends w w') (sym nothing) (Appends-kept _ _ _ _ (Appends-nil w) keeps) };
-    counted = omega arith;
     rest = refl;
   }
 
-  module _ {place : ℕ} {inputs inputs' : List R} {whole : Bool} {most : ℕ} {w w' : Option (List ℕ)}
-      (so_far : SoFar remaining output taken eol limit place inputs inputs' whole most w w') where
+  module _ {place : ℕ} {inputs inputs' : List R} {whole : Bool} {w w' : Option (List ℕ)}
+      (so_far : SoFar remaining output taken eol place inputs inputs' whole w w') where
     module _ (d : R) (below : place < length inputs) (below' : place < length inputs') where
       -- one input more is read
-      pub so_far_more : {taken' : List (List ℕ) → Type 0} {w'' : Option (List ℕ)} (later : R) (is_whole whole' : Bool) (most' : ℕ)
+      pub so_far_more : {taken' : List (List ℕ) → Type 0} {w'' : Option (List ℕ)} (later : R) (is_whole whole' : Bool)
           (more : List (List ℕ)) → (whole && is_whole) ≡ whole'
           → ReadsInput eol is_whole (remaining (get_or inputs' place d)) (remaining later) more
-          → Leads (At output taken w') (At output taken' w'') more → length more + most' ≡ most
-          → SoFar remaining output taken' eol limit (place + 1) inputs (set inputs' place later) whole' most' w w''
-      so_far_more later is_whole whole' most' more ends reads leads counted =
+          → Leads (At output taken w') (At output taken' w'') more
+          → SoFar remaining output taken' eol (place + 1) inputs (set inputs' place later) whole' w w''
+      so_far_more later is_whole whole' more ends reads leads =
           let next = drop-cons inputs place d below in
           let next' = drop-cons inputs' place d below' in
           let rest = so_far.rest in
@@ -91,7 +78,6 @@ module _ {R : Type 0} {remaining : R → Option (List ℕ)} {output : List (List
                   map-append remaining (take place inputs') (later ∷ []),
                 ) (behind so_far.read reads));
             at = leads.on w so_far.ls so_far.at;
-            counted = omega (arith, so_far.counted, counted, length-append so_far.ls more);
             rest = drop-set-lt (place + 1) inputs' place later (omega arith) ∙ sym (drop-drop 1 place inputs') ∙ ap (drop 1) rest
                 ∙ drop-drop 1 place inputs;
           }
@@ -106,52 +92,26 @@ module _ {R : Type 0} {remaining : R → Option (List ℕ)} {output : List (List
 
       -- a beginning of what is due of the next input was written
       pub part_within : {w'' : Option (List ℕ)}
-          → BreaksInput (At output taken w') (Broke output w'') eol most (remaining (get_or inputs' place d))
-          → (ls : List (List ℕ)) × AllBeginWith eol (map remaining inputs) ls × AppendsPart w w'' (output ls) × (length ls ≤ limit)
-      part_within (now, begins, breaks, few) = (
-        so_far.ls ++ now,
-        begins_next now begins,
-        breaks.on w so_far.ls so_far.at,
-        omega (arith, so_far.counted, few, length-append so_far.ls now),
-      )
-
-      -- of the next input as many lines are taken as may be
-      pub first_within : {taken' : List (List ℕ) → Type 0} {w'' : Option (List ℕ)}
-          → TakesMost (At output taken w') (At output taken' w'') eol most (remaining (get_or inputs' place d))
-          → (ls : List (List ℕ)) × AllBeginWith eol (map remaining inputs) ls × (length ls ≡ limit) × Appends w w'' (output ls)
-          × taken' ls
-      first_within (now, begins, leads, as_many) =
-          let at = leads.on w so_far.ls so_far.at in (
-            so_far.ls ++ now,
-            begins_next now begins,
-            omega (arith, so_far.counted, as_many, length-append so_far.ls now),
-            at.writes,
-            at.stands,
-          )
-
-      -- the next input has more lines than may be taken
-      pub part_beyond : HasMore eol most (remaining (get_or inputs' place d))
-          → (ls : List (List ℕ)) × AllBeginWith eol (map remaining inputs) ls × (limit < length ls)
-      part_beyond (now, begins, over) =
-          (so_far.ls ++ now, begins_next now begins, omega (arith, so_far.counted, over, length-append so_far.ls now))
+          → BreaksInput (At output taken w') (Broke output w'') eol (remaining (get_or inputs' place d))
+          → (ls : List (List ℕ)) × AllBeginWith eol (map remaining inputs) ls × AppendsPart w w'' (output ls)
+      part_within (now, begins, breaks) = (so_far.ls ++ now, begins_next now begins, breaks.on w so_far.ls so_far.at)
 
 -- ---- what is written once all lines are taken
 
 -- a fault in what is written behind all lines
-pub breaks_behind_all : {output : List (List ℕ) → List ℕ} {taken : List (List ℕ) → Type 0} (eol limit : ℕ) (run : Run)
-    (w : Option (List ℕ)) (how : Ended) → how ≢ TooManyLines → EndsTaking (λ ls. []) taken eol limit run (Ok how)
+pub breaks_behind_all : {output : List (List ℕ) → List ℕ} {taken : List (List ℕ) → Type 0} (eol : ℕ) (run : Run)
+    (w : Option (List ℕ)) (how : Ended) → EndsTaking (λ ls. []) taken eol run (Ok how)
     → ((ls : List (List ℕ)) → taken ls → AppendsPart run.written' w (output ls))
-    → BreaksBehind output eol limit (record { left = run.left; left' = run.left'; written = run.written; written' = w })
-breaks_behind_all eol limit run w Whole other (ls, within, writes, now) part =
-    inr (true, ls, record { read = within.read; few = within.few }, part_behind _ _ _ _ _ writes (part ls now))
-breaks_behind_all eol limit run w InputFailed other (ls, within, writes, now) part =
-    inr (false, ls, record { read = within.read; few = within.few }, part_behind _ _ _ _ _ writes (part ls now))
-breaks_behind_all eol limit run w TooManyLines other ends part = absurd (other refl)
+    → BreaksBehind output eol (record { left = run.left; left' = run.left'; written = run.written; written' = w })
+breaks_behind_all eol run w Whole (ls, read, writes, now) part =
+    inr (true, ls, read, part_behind _ _ _ _ _ writes (part ls now))
+breaks_behind_all eol run w InputFailed (ls, read, writes, now) part =
+    inr (false, ls, read, part_behind _ _ _ _ _ writes (part ls now))
 
-pub ends_broken : {output : List (List ℕ) → List ℕ} (eol limit : ℕ) (run : Run) (result : Result Ended (Failure TooMany)) → IsErr result
-    → BreaksBehind output eol limit run → EndsBehind output eol limit run result
-ends_broken eol limit run (Ok ended) wrong broke = absurd (false≢true wrong)
-ends_broken eol limit run (Err fault) is broke = broke
+pub ends_broken : {output : List (List ℕ) → List ℕ} (eol : ℕ) (run : Run) (result : Result Ended (Failure TooMany)) → IsErr result
+    → BreaksBehind output eol run → EndsBehind output eol run result
+ends_broken eol run (Ok ended) wrong broke = absurd (false≢true wrong)
+ends_broken eol run (Err fault) is broke = broke
 
 -- ---- inputs that are read to their ends
 

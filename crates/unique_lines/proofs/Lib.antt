@@ -1,3 +1,4 @@
+pub mod Common
 pub mod ColumnLemmas
 pub mod InputLemmas
 pub mod OrderLemmas

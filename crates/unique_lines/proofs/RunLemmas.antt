@@ -1,22 +1,12 @@
 -- What was read of an input and taken of it, and what is written of that.
-use Rattle.std.proofs.Common.{◌≡◌, ℕ, ◌+◌, ◌-◌, ◌<◌, ◌≤◌, inl, inr, true, false, List, [], ◌∷◌, ◌++◌, length, take, drop, ap, sym, ◌∙◌, refl, subst, Option, None, Some, append_assoc, take-append-drop, length-append, arith}
-use Rattle.std.specs.Io.BufRead.{ends_with_byte}
-use Rattle.std.specs.Io.KnownBytes.{Consumes, Keeps, IsAtEnd}
-use Rattle.std.proofs.KnownBytes.{Appends-kept, Consumes-trans, Consumes-whole}
-use Rattle.std.proofs.lemmas.Bool.{cases_lt, false≢true}
-use Rattle.std.proofs.lemmas.List.{append-nil}
+use Rattle.unique_lines.proofs.Common.{◌≡◌, ℕ, ◌+◌, ◌-◌, ◌<◌, ◌≤◌, inl, inr, true, false, List, [], ◌∷◌, ◌++◌, length, take, drop, ap, sym, ◌∙◌, refl, subst, Option, None, Some, append_assoc, length-append, arith, ends_with_byte, Consumes, Keeps, IsAtEnd, Appends-kept, Consumes-trans, Consumes-whole, cases_lt, false≢true, part_whole, IsBare, IsLineEnd, lines_by, bare_end, bare_line, first_ends, first_line, some_line}
+use Rattle.std.proofs.Common.{append-nil}
 use Rattle.std.proofs.lemmas.List.Elements.{filter-append}
 use Rattle.streams.proofs.RecordLemmas.{first_all, first_behind, first_both, first_none}
-use Rattle.streams.proofs.StreamLemmas.{part_whole}
 use Rattle.unique_lines.specs.Between.{Filled, Splits, Takes}
-use Rattle.text_set.specs.Lines.{IsBare, IsLineEnd, lines_by}
 use Rattle.unique_lines.specs.Inputs.{ReadsInput, whole_lines}
-use Rattle.unique_lines.specs.Taking.{At, BeginWith, BreaksInput, Broke, EndsInput, Grows, HasMore, Leads, LeavesInput, TakesMost}
-use Rattle.unique_lines.specs.declared.run.Left.{Left}
-use Rattle.unique_lines.specs.declared.run.Left.TheVariants.{Done, Failed, Beyond}
+use Rattle.unique_lines.specs.Taking.{At, BeginWith, BreaksInput, Broke, Grows, Leads}
 use Rattle.unique_lines.specs.declared.unread.NextLine.{NextLine}
-use Rattle.text_set.proofs.LinesOfText.{lines_of_line}
-use Rattle.text_set.proofs.LineLemmas.{bare_end, bare_line, line_before, some_line}
 
 -- ---- lines that come next
 
@@ -36,12 +26,9 @@ pub taken_on : {output : List (List ℕ) → List ℕ} {taken taken' : List (Lis
     → Leads (At output taken w) (At output taken' w') more → (ls : List (List ℕ)) → taken ls → taken' (ls ++ more)
 taken_on leads ls now = (leads.on None ls (record { stands = now; writes = tt })).stands
 
--- there is room for so many lines more
-pub room_on : {output : List (List ℕ) → List ℕ} {taken taken' : List (List ℕ) → Type 0} {w w' : Option (List ℕ)} {more : List (List ℕ)}
-    (most most' limit : ℕ) → Leads (At output taken w) (At output taken' w') more → length more + most' ≡ most
-    → (ls : List (List ℕ)) × taken ls × (length ls + most ≤ limit) → (ls : List (List ℕ)) × taken' ls × (length ls + most' ≤ limit)
-room_on {more = more} most most' limit leads counted (ls, now, few) =
-    (ls ++ more, taken_on leads ls now, omega (arith, few, counted, length-append ls more))
+pub stands_on : {output : List (List ℕ) → List ℕ} {taken taken' : List (List ℕ) → Type 0} {w w' : Option (List ℕ)} {more : List (List ℕ)}
+    → Leads (At output taken w) (At output taken' w') more → (ls : List (List ℕ)) × taken ls → (ls : List (List ℕ)) × taken' ls
+stands_on {more = more} leads (ls, now) = (ls ++ more, taken_on leads ls now)
 
 module _ {output : List (List ℕ) → List ℕ} {taken : List (List ℕ) → Type 0} {a : Standing} {more : List (List ℕ)} {w w' : Option (List ℕ)}
     (keeps : Keeps w w') (leads : Leads a (At output taken w) more) where
@@ -75,11 +62,9 @@ module _ {eol : ℕ} where
   pub splits_line : (bytes line behind : List ℕ) (n : ℕ) → line ≡ take (n + 1) bytes → behind ≡ drop (n + 1) bytes
       → IsLineEnd eol bytes (Some n) → Splits eol bytes (line ∷ []) behind
   splits_line bytes line behind n front back end =
-      let (stops, some, ended) = line_before eol bytes line n front end in
-      let joined : line ++ behind ≡ bytes = rw (front, back) (take-append-drop (n + 1) bytes) in
       record {
-        first = record { stay = λ later. rw (← joined, append_assoc) (lines_of_line eol line (behind ++ later) stops ended) };
-        ends = rw ended;
+        first = record { stay = λ later. rw (front, back) (first_line eol bytes later n end) };
+        ends = rw (front, first_ends eol bytes n end);
       }
 
   pub splits_both : {bytes mid rest : List ℕ} {ls more : List (List ℕ)} → Splits eol bytes ls mid → Splits eol mid more rest
@@ -110,11 +95,10 @@ module _ {eol : ℕ} where
 -- ---- what was read of an input
 
 -- these lines of it are taken, and the unread bytes stand behind them
-pub record Reads (eol limit : ℕ) (left left' : Option (List ℕ)) (unread : List ℕ) (most : ℕ) (ls : List (List ℕ)) : Type 0 where
+pub record Reads (eol : ℕ) (left left' : Option (List ℕ)) (unread : List ℕ) (ls : List (List ℕ)) : Type 0 where
   pub bytes : List ℕ
   pub read : Consumes left left' bytes
   pub splits : Splits eol bytes ls unread
-  pub counted : length ls + most ≡ limit
 
 pub begins_all : (eol : ℕ) (left left' : Option (List ℕ)) (ls : List (List ℕ)) → ReadsInput eol true left left' ls → BeginWith eol left ls
 begins_all eol None left' ls reads = tt
@@ -127,8 +111,7 @@ begins eol None left' bytes read = ([], λ ls more are. tt)
 begins eol (Some all) None bytes read = absurd read
 begins eol (Some all) (Some later) bytes read = (later, λ ls more are. (more, ap (lines_by eol) read ∙ are))
 
-module _ {eol limit : ℕ} {left left' : Option (List ℕ)} {unread : List ℕ} {most : ℕ} {ls : List (List ℕ)}
-    (reads : Reads eol limit left left' unread most ls) where
+module _ {eol : ℕ} {left left' : Option (List ℕ)} {unread : List ℕ} {ls : List (List ℕ)} (reads : Reads eol left left' unread ls) where
   -- lines that are behind those that are taken
   pub next_lines : {more : List (List ℕ)} {rest : List ℕ} → Splits eol unread more rest → BeginWith eol left (ls ++ more)
   next_lines {rest = rest} it =
@@ -136,22 +119,20 @@ module _ {eol limit : ℕ} {left left' : Option (List ℕ)} {unread : List ℕ} 
       first _ _ ((splits_both reads.splits it).first.stay later)
 
   pub reads_on : {unread' : List ℕ} {left'' : Option (List ℕ)} {came : NextLine} → Filled eol unread unread' left' left'' came
-      → Reads eol limit left left'' unread' most ls
+      → Reads eol left left'' unread' ls
   reads_on filled = record {
     bytes = reads.bytes ++ filled.text;
     read = Consumes-trans _ _ _ _ _ reads.read filled.read;
     splits = subst (Splits eol (reads.bytes ++ filled.text) ls) (sym filled.is) (splits_behind filled.text reads.splits);
-    counted = reads.counted;
   }
 
   -- some lines more are taken
-  pub takes_on : {count len : ℕ} {more : List (List ℕ)} (rest : List ℕ) → rest ≡ drop len unread → Takes eol unread most count len more
-      → Reads eol limit left left' rest (most - count) (ls ++ more)
+  pub takes_on : {len : ℕ} {more : List (List ℕ)} (rest : List ℕ) → rest ≡ drop len unread → Takes eol unread len more
+      → Reads eol left left' rest (ls ++ more)
   takes_on {more = more} rest is takes = record {
     bytes = reads.bytes;
     read = reads.read;
     splits = subst (Splits eol reads.bytes (ls ++ more)) (sym is) (splits_both reads.splits takes.splits);
-    counted = omega (arith, reads.counted, takes.few, takes.counted, length-append ls more);
   }
 
   -- the input has ended
@@ -174,53 +155,10 @@ module _ {eol limit : ℕ} {left left' : Option (List ℕ)} {unread : List ℕ} 
 
   -- a beginning of what is due of these lines and some that come next was written
   pub breaks_within : {before broke : Standing} {more : List (List ℕ)} {rest : List ℕ} → Splits eol unread more rest
-      → length more ≤ most → Leads before broke (ls ++ more) → BreaksInput before broke eol limit left
-  breaks_within {more = more} splits few breaks =
-      (_, next_lines splits, breaks, omega (arith, reads.counted, few, length-append ls more))
+      → Leads before broke (ls ++ more) → BreaksInput before broke eol left
+  breaks_within splits breaks = (_, next_lines splits, breaks)
 
-  -- where no more may be taken, these are as many as may be
-  pub takes_most : {before after : Standing} → most ≡ 0 → Leads before after ls → TakesMost before after eol limit left
-  takes_most none leads = (
-    ls,
-    subst (BeginWith eol left) (append-nil ls) (next_lines (splits_nowhere unread)),
-    leads,
-    omega (arith, reads.counted, none),
-  )
-
-  -- where no more may be taken and bytes are left, there are more lines
-  pub more_left : most ≡ 0 → 0 < length unread → HasMore eol limit left
-  more_left none some =
-      let (later, first) = begins eol left left' reads.bytes reads.read in
-      let more = lines_by eol (unread ++ later) in
-      let line : 0 < length more = some_line eol (unread ++ later) (omega (arith, some, length-append unread later)) in (
-        ls ++ more,
-        first (ls ++ more) [] (reads.splits.first.stay later ∙ sym (append-nil _)),
-        omega (arith, reads.counted, none, line, length-append ls more),
-      )
-
-  -- how an input is left whose last line is taken
-  pub ends_left : {a b : Standing} (c : Standing) (most' : ℕ) (how : Left) → IsAtEnd left' → Leads a b ls
-      → EndsInput b c most most' (lines_by eol unread) how → LeavesInput a c eol limit most' left left' how
-  ends_left c most' Done ended leads (more, counted) = (
-    ls ++ lines_by eol unread,
-    reads_to_end ended,
-    leads_both leads more,
-    omega (arith, reads.counted, counted, length-append ls (lines_by eol unread)),
-  )
-  ends_left c most' (Failed error) ended leads wrong = absurd wrong
-  ends_left {a} c most' Beyond ended leads (same, none, some) = (
-    takes_most none (subst (Leads a c) (append-nil ls) (leads_both leads same)),
-    (
-      _,
-      begins_all eol left left' _ (reads_to_end ended),
-      omega (arith, reads.counted, none, some, length-append ls (lines_by eol unread)),
-    ),
-  )
-
--- what is left when a line may still be taken, or nothing is left, has no end
-pub bare_rest : {eol : ℕ} {bytes : List ℕ} {most count len : ℕ} {ls : List (List ℕ)} (rest : List ℕ) → rest ≡ drop len bytes
-    → Takes eol bytes most count len ls → (most - count ≡ 0 → rest ≡ []) → IsBare eol rest
-bare_rest {eol} {most = most} {count = count} rest is takes nothing = elim (cases_lt count most) [
-  | inl some ↦ subst (IsBare eol) (sym is) (takes.bare some)
-  | inr over ↦ bare_nothing rest (nothing (omega (arith, over)))
-]
+-- what is left when the lines are taken has no end
+pub bare_rest : {eol : ℕ} {bytes : List ℕ} {len : ℕ} {ls : List (List ℕ)} (rest : List ℕ) → rest ≡ drop len bytes → Takes eol bytes len ls
+    → IsBare eol rest
+bare_rest {eol} rest is takes = subst (IsBare eol) (sym is) takes.bare

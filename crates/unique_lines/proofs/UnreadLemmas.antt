@@ -1,11 +1,8 @@
 -- Bytes that were read and are not taken yet.
-use Rattle.std.proofs.Common.{◌≡◌, ℕ, ◌+◌, ◌-◌, ◌≤◌, true, false, List, ◌++◌, length, take, drop, Option, None, Some, ap, sym, subst, ◌∙◌, arith, length-append, length-drop, inl, inr}
-use Rattle.std.specs.Option.{is_some}
-use Rattle.std.proofs.lemmas.Bool.{cases_lt, false≢true, true≢false}
-use Rattle.std.proofs.lemmas.List.{drop-drop, drop-take, get_or-drop, get_or_append_left, length-take-le, take-append-le, take_all}
+use Rattle.unique_lines.proofs.Common.{◌≡◌, ℕ, ◌+◌, ◌-◌, ◌≤◌, true, false, List, ◌++◌, length, take, drop, Option, None, Some, ap, sym, subst, ◌∙◌, arith, length-append, length-drop, inl, inr, is_some, cases_lt, false≢true, true≢false, drop-drop, drop-take, get_or-drop, get_or_append_left, take-append-le, take_all, IsBare, IsLineEnd}
+use Rattle.std.proofs.lemmas.List.{length-take-le}
 use Rattle.std.proofs.Math.Seq.{drop-append_seam, get_or-append_right, take-append-add}
 use borrow.Rule.Slice.PartMut.{put_mid, post_of}
-use Rattle.text_set.specs.Lines.{IsBare, IsLineEnd}
 
 -- more bytes from the front are taken
 pub pass_more : (xs : List ℕ) (from to n : ℕ) → n ≤ to - from

@@ -1,5 +1,5 @@
 -- Lines among the bytes that were read.
-use Rattle.std.specs.Prelude.{ℕ, ◌≡◌, ◌<◌, ◌+◌, Option, Some, List, [], ◌∷◌, ◌++◌, ◌≤◌, length, take, drop}
+use Rattle.std.specs.Prelude.{ℕ, ◌≡◌, ◌+◌, Option, Some, List, [], ◌∷◌, ◌++◌, ◌≤◌, length, take, drop}
 use Rattle.std.specs.Io.BufRead.{ends_with_byte}
 use Rattle.std.specs.Io.KnownBytes.{Consumes, IsAtEnd}
 use Rattle.std.specs.List.{filter}
@@ -37,11 +37,8 @@ pub record Filled (eol : ℕ) (unread unread' : List ℕ) (left left' : Option (
   pub read : Consumes left left' text
   pub has_come : IsNextLine eol text unread' left' came
 
--- these lines are taken of the bytes, so many lines and bytes: all lines that are whole, or as many as may be
-pub record Takes (eol : ℕ) (bytes : List ℕ) (most count len : ℕ) (ls : List (List ℕ)) : Type 0 where
-  pub few : count ≤ most
+-- these lines are taken of the bytes, of so many bytes: all lines that are whole
+pub record Takes (eol : ℕ) (bytes : List ℕ) (len : ℕ) (ls : List (List ℕ)) : Type 0 where
   pub within : len ≤ length bytes
-  pub counted : length ls ≡ count
   pub splits : Splits eol bytes ls (drop len bytes)
-  pub bare : count < most → IsBare eol (drop len bytes)
-  pub none : count ≡ 0 → drop len bytes ≡ bytes
+  pub bare : IsBare eol (drop len bytes)

@@ -3,7 +3,6 @@ use Rattle.std.specs.Prelude.{ℕ, ◌≡◌, ◌||◌, if◌then◌else◌, Lis
 use Rattle.cli.specs.Call.{Choice, Saying, flag, given}
 use Rattle.cli.specs.Frame.{EndsRequest, request_of, text_of}
 use Rattle.streams.specs.declared.failure.Failure.{Failure}
-use Rattle.streams.specs.declared.failure.Failure.TheVariants.{Own}
 use Rattle.streams.specs.declared.failure.Nothing.{Nothing}
 use Rattle.cli.specs.declared.outcome.Outcome.{Outcome}
 use Rattle.cli.specs.declared.outcome.Outcome.TheVariants.{Done, Reported, Failed}
@@ -11,9 +10,8 @@ use Rattle.text_set.specs.Firsts.{once_by}
 use Rattle.unique_lines.specs.Running.{Ends, EndsBehind, Run}
 use Rattle.unique_lines.specs.Tallies.{told}
 use Rattle.unique_lines.specs.declared.failure.TooMany.{TooMany}
-use Rattle.unique_lines.specs.declared.failure.TooMany.TheVariants as too_many
 use Rattle.unique_lines.specs.declared.run.Ended.{Ended}
-use Rattle.unique_lines.specs.declared.run.Ended.TheVariants.{Whole, InputFailed, TooManyLines}
+use Rattle.unique_lines.specs.declared.run.Ended.TheVariants.{Whole, InputFailed}
 use Rattle.unique_lines.specs.declared.outcome.Task.{Task}
 use Rattle.unique_lines.specs.declared.outcome.Task.TheVariants.{Once, Tallied}
 use Rattle.unique_lines.specs.declared.tally.Which.{Which}
@@ -44,20 +42,19 @@ work_of call = if (which_of call).counts || (which_of call).repeated || (which_o
 abbrev pub of_run : Result Ended (Failure TooMany) → Outcome Nothing TooMany
 of_run (Ok Whole) = Done
 of_run (Ok InputFailed) = Reported
-of_run (Ok TooManyLines) = Failed (Own too_many.Lines)
 of_run (Err fault) = Failed fault
 
 -- as a run ends
 abbrev pub EndsRun : (ends : Result Ended (Failure TooMany) → Type 0) → Outcome Nothing TooMany → Type 0
 EndsRun ends result = (ended : Result Ended (Failure TooMany)) × ends ended × (result ≡ of_run ended)
 
--- how a task ends, of inputs of at most so many lines
-abbrev pub EndsTask : Task → ℕ → Run → Outcome Nothing TooMany → Type 0
-EndsTask (Once eol) limit run result = EndsRun (Ends (once_by eol) eol limit run) result
-EndsTask (Tallied which eol) limit run result = EndsRun (EndsBehind (told eol which) eol limit run) result
+-- how a task ends
+abbrev pub EndsTask : Task → Run → Outcome Nothing TooMany → Type 0
+EndsTask (Once eol) run result = EndsRun (Ends (once_by eol) eol run) result
+EndsTask (Tallied which eol) run result = EndsRun (EndsBehind (told eol which) eol run) result
 
 -- how the program ends whose call says this
-abbrev pub Exits : (call : List Saying) (help version list : List ℕ) → ℕ → Run → Outcome Nothing TooMany → Type 0
-Exits call help version list limit run =
-    EndsRequest (request_of call) (text_of help version list) (EndsTask (work_of call) limit run) (run.left' ≡ run.left)
+abbrev pub Exits : (call : List Saying) (help version list : List ℕ) → Run → Outcome Nothing TooMany → Type 0
+Exits call help version list run =
+    EndsRequest (request_of call) (text_of help version list) (EndsTask (work_of call) run) (run.left' ≡ run.left)
     run.written run.written'

@@ -1,5 +1,5 @@
 -- What a run reads and writes, and how it ends.
-use Rattle.std.specs.Prelude.{ℕ, ◌≡◌, ◌<◌, ◌≤◌, ◌⊎◌, Bool, true, false, List, [], ◌∷◌, ◌++◌, Option, Result, Ok, Err, length, map}
+use Rattle.std.specs.Prelude.{ℕ, ◌≡◌, ◌⊎◌, Bool, true, false, List, [], ◌∷◌, ◌++◌, Option, Result, Ok, Err, map}
 use Rattle.std.specs.Io.KnownBytes.{Appends, Keeps}
 use Rattle.streams.specs.Streams.{AppendsPart}
 use Rattle.unique_lines.specs.Inputs.{AreRead}
@@ -7,7 +7,7 @@ use Rattle.unique_lines.specs.Taking.{BeginWith}
 use Rattle.streams.specs.declared.failure.Failure.{Failure}
 use Rattle.unique_lines.specs.declared.failure.TooMany.{TooMany}
 use Rattle.unique_lines.specs.declared.run.Ended.{Ended}
-use Rattle.unique_lines.specs.declared.run.Ended.TheVariants.{Whole, InputFailed, TooManyLines}
+use Rattle.unique_lines.specs.declared.run.Ended.TheVariants.{Whole, InputFailed}
 
 -- the bytes that are left in each input and those that are written, where they are known, before a run and after it
 pub record Run : Type 0 where
@@ -43,50 +43,33 @@ pub record AllBeginWith (eol : ℕ) (lefts : List (Option (List ℕ))) (ls : Lis
   pub next : NextBeginsWith eol more now
   pub lines : ls ≡ before ++ now
 
--- these are all lines of the inputs, and no more than the limit
-pub record IsWithin (eol : ℕ) (ended : Bool) (limit : ℕ) (run : Run) (ls : List (List ℕ)) : Type 0 where
-  pub read : AreRead eol ended run.left run.left' ls
-  pub few : length ls ≤ limit
-
--- the lines of the inputs begin with more than the limit
-abbrev pub IsBeyond : (eol limit : ℕ) → Run → Type 0
-IsBeyond eol limit run = (ls : List (List ℕ)) × AllBeginWith eol run.left ls × (limit < length ls)
-
 -- what is due of all lines of the inputs was written, and so it stands once they are taken
-abbrev pub WritesAll : (output : List (List ℕ) → List ℕ) (after : List (List ℕ) → Type 0) (eol : ℕ) (ended : Bool) (limit : ℕ) → Run
-    → Type 0
-WritesAll output after eol ended limit run =
-    (ls : List (List ℕ)) × IsWithin eol ended limit run ls × Appends run.written run.written' (output ls) × after ls
+abbrev pub WritesAll : (output : List (List ℕ) → List ℕ) (after : List (List ℕ) → Type 0) (eol : ℕ) (ended : Bool) → Run → Type 0
+WritesAll output after eol ended run =
+    (ls : List (List ℕ)) × AreRead eol ended run.left run.left' ls × Appends run.written run.written' (output ls) × after ls
 
--- a beginning of what is due of the first lines of the inputs was written, of no more than the limit
-abbrev pub WritesPart : (output : List (List ℕ) → List ℕ) (eol limit : ℕ) → Run → Type 0
-WritesPart output eol limit run =
-    (ls : List (List ℕ)) × AllBeginWith eol run.left ls × AppendsPart run.written run.written' (output ls) × (length ls ≤ limit)
+-- a beginning of what is due of the first lines of the inputs was written
+abbrev pub WritesPart : (output : List (List ℕ) → List ℕ) (eol : ℕ) → Run → Type 0
+WritesPart output eol run =
+    (ls : List (List ℕ)) × AllBeginWith eol run.left ls × AppendsPart run.written run.written' (output ls)
 
--- what is due of the first lines of the inputs was written, of as many as the limit, and so it stands once they are taken
-abbrev pub WritesFirst : (output : List (List ℕ) → List ℕ) (after : List (List ℕ) → Type 0) (eol limit : ℕ) → Run → Type 0
-WritesFirst output after eol limit run =
-    (ls : List (List ℕ)) × AllBeginWith eol run.left ls × (length ls ≡ limit) × Appends run.written run.written' (output ls) × after ls
-
--- how a run ends that writes what `output` makes of the lines of its inputs, of at most so many
-abbrev pub EndsTaking : (output : List (List ℕ) → List ℕ) (after : List (List ℕ) → Type 0) (eol limit : ℕ) → Run
+-- how a run ends that writes what `output` makes of the lines of its inputs
+abbrev pub EndsTaking : (output : List (List ℕ) → List ℕ) (after : List (List ℕ) → Type 0) (eol : ℕ) → Run
     → Result Ended (Failure TooMany) → Type 0
-EndsTaking output after eol limit run (Ok Whole) = WritesAll output after eol true limit run
-EndsTaking output after eol limit run (Ok InputFailed) = WritesAll output after eol false limit run
-EndsTaking output after eol limit run (Ok TooManyLines) = WritesFirst output after eol limit run × IsBeyond eol limit run
-EndsTaking output after eol limit run (Err fault) = WritesPart output eol limit run
+EndsTaking output after eol run (Ok Whole) = WritesAll output after eol true run
+EndsTaking output after eol run (Ok InputFailed) = WritesAll output after eol false run
+EndsTaking output after eol run (Err fault) = WritesPart output eol run
 
 -- the same where only what is written counts
-abbrev pub Ends : (output : List (List ℕ) → List ℕ) (eol limit : ℕ) → Run → Result Ended (Failure TooMany) → Type 0
+abbrev pub Ends : (output : List (List ℕ) → List ℕ) (eol : ℕ) → Run → Result Ended (Failure TooMany) → Type 0
 Ends output = EndsTaking output (λ ls. Unit {0})
 
 -- nothing was written, or a beginning of what is due of all lines
-abbrev pub BreaksBehind : (output : List (List ℕ) → List ℕ) (eol limit : ℕ) → Run → Type 0
-BreaksBehind output eol limit run = Keeps run.written run.written'
-    ⊎ ((ended : Bool) × (ls : List (List ℕ)) × IsWithin eol ended limit run ls × AppendsPart run.written run.written' (output ls))
+abbrev pub BreaksBehind : (output : List (List ℕ) → List ℕ) (eol : ℕ) → Run → Type 0
+BreaksBehind output eol run = Keeps run.written run.written'
+    ⊎ ((ended : Bool) × (ls : List (List ℕ)) × AreRead eol ended run.left run.left' ls × AppendsPart run.written run.written' (output ls))
 
--- the same of a run that writes behind the last line alone, and nothing if there are more lines than the limit
-abbrev pub EndsBehind : (output : List (List ℕ) → List ℕ) (eol limit : ℕ) → Run → Result Ended (Failure TooMany) → Type 0
-EndsBehind output eol limit run (Ok TooManyLines) = Keeps run.written run.written' × IsBeyond eol limit run
-EndsBehind output eol limit run (Ok ended) = Ends output eol limit run (Ok ended)
-EndsBehind output eol limit run (Err fault) = BreaksBehind output eol limit run
+-- the same of a run that writes behind the last line alone
+abbrev pub EndsBehind : (output : List (List ℕ) → List ℕ) (eol : ℕ) → Run → Result Ended (Failure TooMany) → Type 0
+EndsBehind output eol run (Ok ended) = Ends output eol run (Ok ended)
+EndsBehind output eol run (Err fault) = BreaksBehind output eol run

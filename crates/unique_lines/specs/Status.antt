@@ -3,12 +3,11 @@ use Rattle.std.specs.Prelude.{ℕ, ◌-◌, ◌^◌, ◌≤◌, ⊤, List, codes
 use Rattle.streams.specs.declared.failure.Failure.{Failure}
 use Rattle.streams.specs.declared.failure.Failure.TheVariants.{Own}
 use Rattle.unique_lines.specs.declared.failure.TooMany.{TooMany}
-use Rattle.unique_lines.specs.declared.failure.TooMany.TheVariants.{Texts, Lines}
+use Rattle.unique_lines.specs.declared.failure.TooMany.TheVariants.{Texts}
 
 -- what each says on standard error
 abbrev pub words_of : TooMany → List ℕ
 words_of Texts = codes "too many different lines"
-words_of Lines = codes "too many lines"
 
 -- there are as many texts as a set has at most, where that is why
 abbrev pub IsFullOnly : List (List ℕ) → Failure TooMany → Type 0

@@ -1,11 +1,11 @@
 -- What comes of lines that are taken one after the other: how the task stands, and what is written.
-use Rattle.std.specs.Prelude.{ℕ, ◌≡◌, ◌<◌, ◌≤◌, ◌+◌, true, false, Option, List, [], ◌++◌, IfSome, length}
+use Rattle.std.specs.Prelude.{ℕ, ◌≡◌, Bool, true, false, Option, List, ◌++◌, IfSome}
 use Rattle.std.specs.Io.KnownBytes.{Appends}
 use Rattle.streams.specs.Streams.{AppendsPart}
 use Rattle.unique_lines.specs.Inputs.{ReadsInput}
 use Rattle.text_set.specs.Lines.{lines_by}
 use Rattle.unique_lines.specs.declared.run.Left.{Left}
-use Rattle.unique_lines.specs.declared.run.Left.TheVariants.{Done, Failed, Beyond}
+use Rattle.unique_lines.specs.declared.run.Left.TheVariants.{Done, Failed}
 
 -- what is written of more lines stands behind what is written of those before
 abbrev pub Grows : (output : List (List ℕ) → List ℕ) → Type 0
@@ -29,29 +29,16 @@ pub record Leads (before after : (start : Option (List ℕ)) → List (List ℕ)
 abbrev pub BeginWith : (eol : ℕ) (left : Option (List ℕ)) → List (List ℕ) → Type 0
 BeginWith eol left ls = IfSome left (λ bytes. (later : List (List ℕ)) × (lines_by eol bytes ≡ ls ++ later))
 
--- the lines of an input begin with these, of which a beginning of what is due was written, no more than may be taken
-abbrev pub BreaksInput : (before broke : Option (List ℕ) → List (List ℕ) → Type 0) (eol most : ℕ) (left : Option (List ℕ)) → Type 0
-BreaksInput before broke eol most left = (ls : List (List ℕ)) × BeginWith eol left ls × Leads before broke ls × (length ls ≤ most)
+-- the lines of an input begin with these, of which a beginning of what is due was written
+abbrev pub BreaksInput : (before broke : Option (List ℕ) → List (List ℕ) → Type 0) (eol : ℕ) (left : Option (List ℕ)) → Type 0
+BreaksInput before broke eol left = (ls : List (List ℕ)) × BeginWith eol left ls × Leads before broke ls
 
--- the lines of an input begin with more than so many
-abbrev pub HasMore : (eol most : ℕ) (left : Option (List ℕ)) → Type 0
-HasMore eol most left = (ls : List (List ℕ)) × BeginWith eol left ls × (most < length ls)
+-- the lines of an input are taken
+abbrev pub TakesInput : (before after : Option (List ℕ) → List (List ℕ) → Type 0) (eol : ℕ) (ended : Bool) (left left' : Option (List ℕ))
+    → Type 0
+TakesInput before after eol ended left left' = (ls : List (List ℕ)) × ReadsInput eol ended left left' ls × Leads before after ls
 
--- the lines of an input begin with these, which are taken, as many as may be
-abbrev pub TakesMost : (before after : Option (List ℕ) → List (List ℕ) → Type 0) (eol most : ℕ) (left : Option (List ℕ)) → Type 0
-TakesMost before after eol most left = (ls : List (List ℕ)) × BeginWith eol left ls × Leads before after ls × (length ls ≡ most)
-
--- the last lines of an input are taken, and counted off; or there are some where none may be taken
-abbrev pub EndsInput : (before after : Option (List ℕ) → List (List ℕ) → Type 0) (most most' : ℕ) (ls : List (List ℕ)) → Left → Type 0
-EndsInput before after most most' ls Done = Leads before after ls × (length ls + most' ≡ most)
-EndsInput before after most most' ls (Failed error) = ⊥
-EndsInput before after most most' ls Beyond = Leads before after [] × (most ≡ 0) × (0 < length ls)
-
--- the lines of an input are taken, and counted off; or as many as may be are, and there are more
-abbrev pub LeavesInput : (before after : Option (List ℕ) → List (List ℕ) → Type 0) (eol most most' : ℕ) (left left' : Option (List ℕ))
-    → Left → Type 0
-LeavesInput before after eol most most' left left' Done =
-    (ls : List (List ℕ)) × ReadsInput eol true left left' ls × Leads before after ls × (length ls + most' ≡ most)
-LeavesInput before after eol most most' left left' (Failed error) =
-    (ls : List (List ℕ)) × ReadsInput eol false left left' ls × Leads before after ls × (length ls + most' ≡ most)
-LeavesInput before after eol most most' left left' Beyond = TakesMost before after eol most left × HasMore eol most left
+-- the same of an input that was read to its end, or failed
+abbrev pub LeavesInput : (before after : Option (List ℕ) → List (List ℕ) → Type 0) (eol : ℕ) (left left' : Option (List ℕ)) → Left → Type 0
+LeavesInput before after eol left left' Done = TakesInput before after eol true left left'
+LeavesInput before after eol left left' (Failed error) = TakesInput before after eol false left left'

@@ -14,8 +14,6 @@ use text_set::{Full, Guess, Seen, Texts};
 pub enum TooMany {
     /// There were 2^32 - 1 texts.
     Texts,
-    /// There were more lines than the limit. What was written is a beginning of the output.
-    Lines,
 }
 
 /// Why a run ended before its output was whole.
@@ -27,7 +25,6 @@ impl Words for TooMany {
     fn words(&self) -> &'static str {
         match self {
             TooMany::Texts => "too many different lines",
-            TooMany::Lines => "too many lines",
         }
     }
 }

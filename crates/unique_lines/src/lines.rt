@@ -1,5 +1,5 @@
 //! Writes lines, and has them taken.
-ghost use Rattle.std.specs.Prelude.{◌≡◌, ◌≤◌, ◌+◌, ℕ, List, length, IfOk, OnOk, OnErr};
+ghost use Rattle.std.specs.Prelude.{◌≡◌, ℕ, List, IfOk, OnOk, OnErr};
 ghost use Rattle.std.specs.Io.BufRead.{strip_last};
 ghost use Rattle.std.specs.Io.KnownBytes.{Appends};
 ghost use Rattle.unique_lines.specs.Between.{Splits, Takes};
@@ -13,7 +13,7 @@ use crate::task::LineTask;
 use std::io::Write;
 use streams::tries::{TRIES, write_all};
 
-/// Writes a line of this text, and its end behind it if it has none. After a fault a beginning of that was written.
+/// Writes a line of this text, and its end after it if it has none. After a fault a beginning of that was written.
 pub fn write_line<W: Write>(w: &mut W, line: &[u8], text: &[u8], eol: u8) -> Result<(), Failure>
     requires { text.now ≡ strip_last eol line.now }
     ensures ok { OnOk result (Appends (W.contents w.old) (W.contents w.new) (as_line_by eol line.now)) }
@@ -26,36 +26,28 @@ pub fn write_line<W: Write>(w: &mut W, line: &[u8], text: &[u8], eol: u8) -> Res
     write_all(w, &[eol], TRIES)
 }
 
-/// Has the first lines taken, up to so many. Returns how many lines those are, each with its end, and how many bytes they
-/// have together.
+/// Has the lines taken that have an end. Returns how many bytes they have together.
 pub fn take_lines<T: LineTask, W: Write>(
     task: &mut T,
     bytes: &[u8],
     eol: u8,
-    most: u64,
     w: &mut W,
-) -> Result<(u64, usize), Failure>
-    requires room { (ls : List (List ℕ)) × T.taken eol task.old ls × (length ls + most ≤ u64.MAX) }
-    ensures took { IfOk result (λ taken. (ls : List (List ℕ)) × Takes eol bytes.now most taken.0 taken.1 ls
+) -> Result<usize, Failure>
+    requires stands { (ls : List (List ℕ)) × T.taken eol task.old ls }
+    ensures took { IfOk result (λ len. (ls : List (List ℕ)) × Takes eol bytes.now len ls
         × Leads (At (T.output eol) (T.taken eol task.old) (W.contents w.old))
         (At (T.output eol) (T.taken eol task.new) (W.contents w.new)) ls) }
     ensures broke { OnErr result ((ls : List (List ℕ)) × (rest : List ℕ) × Splits eol bytes.now ls rest
-        × (length ls ≤ most)
         × Leads (At (T.output eol) (T.taken eol task.old) (W.contents w.old))
         (Broke (T.output eol) (W.contents w.new)) ls) }
 {
     let mut rest = bytes;
     let mut ahead = Ahead::new();
-    for count in 0..most {
-        match ahead.next(task, rest, eol) {
-            Some(found) => {
-                let (line, later) = rest.split_at(found.len + 1);
-                let text = &line[..found.len];
-                task.take_line(line, text, eol, found.guess, w)?;
-                rest = later;
-            }
-            None => return Ok((count, bytes.len() - rest.len())),
-        }
+    while let Some(found) = ahead.next(task, rest, eol) {
+        let (line, later) = rest.split_at(found.len + 1);
+        let text = &line[..found.len];
+        task.take_line(line, text, eol, found.guess, w)?;
+        rest = later;
     }
-    Ok((most, bytes.len() - rest.len()))
+    Ok(bytes.len() - rest.len())
 }

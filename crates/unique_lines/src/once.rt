@@ -2,7 +2,7 @@
 ghost use Rattle.std.specs.Prelude.{◌≡◌, [], OnOk};
 ghost use Rattle.std.specs.Io.Buffered.{writer_buffer, writer_contents};
 ghost use Rattle.text_set.specs.Slots.{tag_under};
-ghost use Rattle.text_set.specs.Firsts.{AreSeen, once_by};
+ghost use Rattle.text_set.specs.Firsts.{firsts_by, once_by};
 ghost use Rattle.unique_lines.specs.Running.{Ends, run_of};
 
 use crate::failure::{Failure, see};
@@ -22,7 +22,7 @@ pub struct Once<S: BuildHasher + Drop> {
 }
 
 impl<S: BuildHasher + Drop> LineTask for Once<S> {
-    ghost taken = { λ eol once ls. AreSeen eol ls once.seen.texts };
+    ghost taken = { λ eol once ls. once.seen.texts ≡ firsts_by eol ls };
 
     ghost output = { once_by };
 
@@ -54,23 +54,22 @@ impl<S: BuildHasher + Drop> LineTask for Once<S> {
     }
 }
 
-/// Writes each of at most `limit` lines of the inputs, each of which ends with the byte `eol`, once, where it came first. If
-/// an input fails, the others are still read. Whenever it reads, and at the end, nothing is held back.
+/// Writes each line of the inputs, each of which ends with the byte `eol`, once, where it came first. If an input fails, the others are
+/// still read. Whenever it reads, and at the end, nothing is held back.
 pub fn dedup<S: BuildHasher + Drop, R: Read, C: Complaints, W: Write + Drop>(
     alloc: Global,
     hasher: S,
     eol: u8,
-    limit: u64,
     inputs: &mut [R],
     complaints: &mut C,
     w: &mut BufWriter<W>,
 ) -> Result<Ended, Failure>
-    ensures ended { Ends (once_by eol) eol limit
+    ensures ended { Ends (once_by eol) eol
         (run_of R.remaining inputs.old inputs.new (writer_contents W.contents) w.old w.new) result }
     ensures flushed { OnOk result (writer_buffer w.new ≡ []) }
 {
     let mut once = Once {
         seen: Texts::new(alloc, hasher),
     };
-    take_inputs(alloc, &mut once, eol, limit, inputs, complaints, w)
+    take_inputs(alloc, &mut once, eol, inputs, complaints, w)
 }

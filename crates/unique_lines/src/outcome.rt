@@ -63,7 +63,7 @@ pub fn options() -> [Opt; 6]
     ]
 }
 
-/// What the words behind the program's own name say.
+/// What the words after the program's own name say.
 pub fn call_of<'a>(alloc: Global, words: &'a [Vec<u8>]) -> Result<Call<'a>, AllocError>
     ensures { IfOk result (λ call. sayings call.said.items ≡ call_of options (texts words.now)) }
 {
@@ -98,25 +98,23 @@ fn of_run(ended: Result<Ended, Failure>) -> Outcome
     match ended {
         Ok(Ended::Whole) => Outcome::Done,
         Ok(Ended::InputFailed) => Outcome::Reported,
-        Ok(Ended::TooManyLines) => Outcome::Failed(Failure::Own(TooMany::Lines)),
         Err(fault) => Outcome::Failed(fault),
     }
 }
 
-/// Does what the call asks for, over at most `limit` lines of the inputs. If the call is wrong, nothing is read or written. If all was
-/// done or told, nothing is held back.
+/// Does what the call asks for, over the lines of the inputs. If the call is wrong, nothing is read or written. If all was done or
+/// reported, nothing is held back.
 pub fn outcome_of<S: BuildHasher + Drop, R: Read, C: Complaints, W: Write + Drop>(
     alloc: Global,
     hasher: S,
     call: &Call<'_>,
     about: About<'_>,
-    limit: u64,
     inputs: &mut [R],
     complaints: &mut C,
     w: &mut BufWriter<W>,
 ) -> Outcome
     ensures exits { Exits (sayings call.now.said.items)
-        about.entry.help.now about.entry.version.now about.entry.list.now limit
+        about.entry.help.now about.entry.version.now about.entry.list.now
         (run_of R.remaining inputs.old inputs.new (writer_contents W.contents) w.old w.new) result }
     ensures flushed { IsFlushed (writer_buffer w.new) result }
 {
@@ -124,9 +122,9 @@ pub fn outcome_of<S: BuildHasher + Drop, R: Read, C: Complaints, W: Write + Drop
         Request::Misgiven(misgiven) => Outcome::Usage(Wrong::Option(misgiven)),
         Request::Text(text) => of_telling(write_out(w, text_of(&about, text))),
         Request::Work => match work_of(call) {
-            Task::Once(eol) => of_run(dedup(alloc, hasher, eol, limit, inputs, complaints, w)),
+            Task::Once(eol) => of_run(dedup(alloc, hasher, eol, inputs, complaints, w)),
             Task::Tallied(which, eol) => {
-                of_run(tally(alloc, hasher, which, eol, limit, inputs, complaints, w))
+                of_run(tally(alloc, hasher, which, eol, inputs, complaints, w))
             }
         },
     }

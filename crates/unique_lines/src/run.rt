@@ -1,9 +1,9 @@
-//! A run over inputs, one behind the other.
-ghost use Rattle.std.specs.Prelude.{◌≡◌, ◌+◌, ◌≤◌, [], ℕ, List, IfOk, OnOk, OnErr, length};
+//! A run over inputs, one after the other.
+ghost use Rattle.std.specs.Prelude.{◌≡◌, [], ℕ, List, IfOk, OnOk, OnErr};
 ghost use Rattle.std.specs.Io.Buffered.{writer_buffer, writer_contents};
 ghost use Rattle.text_set.specs.Lines.{IsBare, lines_by};
 ghost use Rattle.unique_lines.specs.Running.{EndsTaking, run_of};
-ghost use Rattle.unique_lines.specs.Taking.{At, BreaksInput, Broke, EndsInput, Grows, Leads, LeavesInput};
+ghost use Rattle.unique_lines.specs.Taking.{At, BreaksInput, Broke, Grows, Leads, LeavesInput};
 
 use crate::failure::Failure;
 use crate::lines::take_lines;
@@ -11,7 +11,7 @@ use crate::task::LineTask;
 use crate::unread::{NextLine, Unread};
 use cli::inputs::Complaints;
 use std::alloc::Global;
-use std::io::{BufWriter, Error, Read, Write};
+use std::io::{BufWriter, Error, ErrorKind, Read, Write};
 use streams::tries::{TRIES, flush};
 
 /// How a run ended that met no fault of its own.
@@ -21,8 +21,6 @@ pub enum Ended {
     Whole,
     /// At least one input failed. Of such an input the lines were taken that came whole.
     InputFailed,
-    /// There were more lines than the limit. As many as the limit were taken.
-    TooManyLines,
 }
 
 /// How an input was left.
@@ -32,8 +30,6 @@ pub enum Left {
     Done,
     /// A read failed.
     Failed(Error),
-    /// It has more lines than may be taken.
-    Beyond,
 }
 
 /// Takes the last line of an input, which has no end, if there is one.
@@ -41,74 +37,60 @@ fn take_last<T: LineTask, W: Write + Drop>(
     task: &mut T,
     line: &[u8],
     eol: u8,
-    most: &mut u64,
     w: &mut BufWriter<W>,
-) -> Result<Left, Failure>
+) -> Result<(), Failure>
     requires grows { Grows (T.output eol) }
-    requires room { (ls : List (List ℕ)) × T.taken eol task.old ls × (length ls + most.old ≤ u64.MAX) }
+    requires stands { (ls : List (List ℕ)) × T.taken eol task.old ls }
     requires bare { IsBare eol line.now }
     requires flushed { writer_buffer w.old ≡ [] }
-    ensures left { IfOk result (EndsInput
+    ensures took { OnOk result (Leads
         (At (T.output eol) (T.taken eol task.old) (writer_contents W.contents w.old))
-        (At (T.output eol) (T.taken eol task.new) (writer_contents W.contents w.new))
-        most.old most.new (lines_by eol line.now)) }
+        (At (T.output eol) (T.taken eol task.new) (writer_contents W.contents w.new)) (lines_by eol line.now)) }
     ensures flushed { OnOk result (writer_buffer w.new ≡ []) }
     ensures broke { OnErr result (Leads (At (T.output eol) (T.taken eol task.old) (writer_contents W.contents w.old))
         (Broke (T.output eol) (writer_contents W.contents w.new)) (lines_by eol line.now)) }
-    ensures few { OnErr result (length (lines_by eol line.now) ≤ most.old) }
 {
     if line.is_empty() {
-        return Ok(Left::Done);
-    }
-    if *most == 0 {
-        return Ok(Left::Beyond);
+        return Ok(());
     }
     task.take_line(line, line, eol, task.guess(line), w)?;
-    *most -= 1;
     flush(w, TRIES)?;
-    Ok(Left::Done)
+    Ok(())
 }
 
-/// Has the lines of an input taken, at most so many, and leaves in `most` how many more may be taken. Whenever it reads,
-/// nothing is held back.
+/// Has the lines of an input taken. Whenever it reads, nothing is held back. An input of which 2^64 reads were made fails.
 fn take_input<T: LineTask, R: Read, W: Write + Drop>(
     task: &mut T,
     unread: &mut Unread,
     eol: u8,
-    most: &mut u64,
     r: &mut R,
     w: &mut BufWriter<W>,
 ) -> Result<Left, Failure>
     requires grows { Grows (T.output eol) }
-    requires room { (ls : List (List ℕ)) × T.taken eol task.old ls × (length ls + most.old ≤ u64.MAX) }
+    requires stands { (ls : List (List ℕ)) × T.taken eol task.old ls }
     requires unread { unread.old ≡ [] }
     requires flushed { writer_buffer w.old ≡ [] }
     ensures left { IfOk result (LeavesInput
         (At (T.output eol) (T.taken eol task.old) (writer_contents W.contents w.old))
         (At (T.output eol) (T.taken eol task.new) (writer_contents W.contents w.new))
-        eol most.old most.new (R.remaining r.old) (R.remaining r.new)) }
+        eol (R.remaining r.old) (R.remaining r.new)) }
     ensures unread { OnOk result (unread.new ≡ []) }
     ensures flushed { OnOk result (writer_buffer w.new ≡ []) }
     ensures broke { OnErr result (BreaksInput
         (At (T.output eol) (T.taken eol task.old) (writer_contents W.contents w.old))
-        (Broke (T.output eol) (writer_contents W.contents w.new)) eol most.old (R.remaining r.old)) }
+        (Broke (T.output eol) (writer_contents W.contents w.new)) eol (R.remaining r.old)) }
 {
-    loop {
+    'reads: for _ in 0..u64::MAX {
         match unread.fill(eol, r, w)? {
             NextLine::Line => {
-                let (count, len) = take_lines(task, unread.bytes(), eol, *most, w)?;
-                *most -= count;
+                let len = take_lines(task, unread.bytes(), eol, w)?;
                 unread.pass(len);
                 flush(w, TRIES)?;
-                if unread.is_beyond(*most) {
-                    unread.clear();
-                    return Ok(Left::Beyond);
-                }
             }
             NextLine::End => {
-                let left = take_last(task, unread.bytes(), eol, most, w)?;
+                take_last(task, unread.bytes(), eol, w)?;
                 unread.clear();
-                return Ok(left);
+                return Ok(Left::Done);
             }
             NextLine::Failure(error) => {
                 unread.clear();
@@ -116,15 +98,16 @@ fn take_input<T: LineTask, R: Read, W: Write + Drop>(
             }
         }
     }
+    unread.clear();
+    Ok(Left::Failed(Error::new(ErrorKind::FileTooLarge, "file too large")))
 }
 
-/// Has the lines of the inputs taken, which end with the byte `eol`, at most `limit` of them. If an input fails, the others are still
-/// read. Whenever it reads, and at the end, nothing is held back.
+/// Has the lines of the inputs taken, which end with the byte `eol`. If an input fails, the others are still read. Whenever it reads, and
+/// at the end, nothing is held back.
 pub fn take_inputs<T: LineTask, R: Read, C: Complaints, W: Write + Drop>(
     alloc: Global,
     task: &mut T,
     eol: u8,
-    limit: u64,
     inputs: &mut [R],
     complaints: &mut C,
     w: &mut BufWriter<W>,
@@ -132,22 +115,20 @@ pub fn take_inputs<T: LineTask, R: Read, C: Complaints, W: Write + Drop>(
     requires grows { Grows (T.output eol) }
     requires begun { T.taken eol task.old [] }
     requires nothing { T.output eol [] ≡ [] }
-    ensures ended { EndsTaking (T.output eol) (T.taken eol task.new) eol limit
+    ensures ended { EndsTaking (T.output eol) (T.taken eol task.new) eol
         (run_of R.remaining inputs.old inputs.new (writer_contents W.contents) w.old w.new) result }
     ensures flushed { OnOk result (writer_buffer w.new ≡ []) }
 {
     let mut unread = Unread::new(alloc);
-    let mut most = limit;
     let mut whole = true;
     flush(w, TRIES)?;
     for place in 0..inputs.len() {
-        match take_input(task, &mut unread, eol, &mut most, &mut inputs[place], w)? {
+        match take_input(task, &mut unread, eol, &mut inputs[place], w)? {
             Left::Done => {}
             Left::Failed(error) => {
                 complaints.failed(place, &error);
                 whole = false;
             }
-            Left::Beyond => return Ok(Ended::TooManyLines),
         }
     }
     if whole {

@@ -1,5 +1,5 @@
 //! Lines with how often they came.
-ghost use Rattle.std.specs.Prelude.{◌≡◌, ◌<◌, ◌+◌, ◌==◌, ◌++◌, ◌∷◌, [], ℕ, List, OnOk, OnErr, length};
+ghost use Rattle.std.specs.Prelude.{◌≡◌, ◌++◌, ◌∷◌, [], ℕ, List, OnOk, OnErr, length};
 ghost use Rattle.std.specs.Io.BufRead.{strip_last};
 ghost use Rattle.std.specs.Io.Buffered.{writer_buffer, writer_contents};
 ghost use Rattle.std.specs.Io.KnownBytes.{Appends};
@@ -21,7 +21,7 @@ use text_set::{Guess, Texts};
 /// Which of the counted lines are written, and how.
 #[derive(Clone, Copy)]
 pub struct Which {
-    /// Each behind how often it came.
+    /// Each after how often it came.
     pub counts: bool,
     /// None that came once.
     pub repeated: bool,
@@ -49,7 +49,7 @@ impl<S: BuildHasher + Drop> Counts<S> {
     }
 }
 
-/// Counts a text.
+/// Counts a text, up to the greatest number.
 #[inline(always)]
 fn count<S: BuildHasher + Drop>(
     texts: &mut Texts<S>,
@@ -57,11 +57,11 @@ fn count<S: BuildHasher + Drop>(
     text: &[u8],
     guess: Guess,
 ) -> Result<(), Failure>
-    requires room { (eol : ℕ) × (ls : List (List ℕ)) × Tallies eol ls texts.old.texts times.old.items
-        × (length ls < u64.MAX) }
+    requires counted { (eol : ℕ) × (ls : List (List ℕ)) × Tallies eol ls texts.old.texts times.old.items }
     requires tag { guess.tag ≡ tag_under S.Hasher.write S.Hasher.finish (S.build_hasher texts.old.hasher) text.now }
     ensures hasher { texts.new.hasher ≡ texts.old.hasher }
-    ensures counted { OnOk result ((eol : ℕ) (ls : List (List ℕ)) (line : List ℕ) → strip_last eol line ≡ text.now
+    ensures counted { OnOk result ((eol : ℕ) (ls : List (List ℕ)) (line : List ℕ)
+        → strip_last eol line ≡ text.now
         → Tallies eol ls texts.old.texts times.old.items
         → Tallies eol (ls ++ line ∷ []) texts.new.texts times.new.items) }
 {
@@ -72,7 +72,7 @@ fn count<S: BuildHasher + Drop>(
             Err(_) => Err(Failure::NoMemory),
         };
     }
-    times[seen.place] += 1;
+    times[seen.place] = times[seen.place].saturating_add(1);
     Ok(())
 }
 
@@ -106,7 +106,7 @@ impl<S: BuildHasher + Drop> LineTask for Counts<S> {
     }
 }
 
-/// Puts a text and the end of its line behind the bytes.
+/// Puts a text and the end of its line after the bytes.
 fn push_line(out: &mut Vec<u8>, text: &[u8], eol: u8) -> Result<(), AllocError>
     ensures { OnOk result (out.new.items ≡ out.old.items ++ (text.now ++ eol ∷ [])) }
 {
@@ -115,7 +115,7 @@ fn push_line(out: &mut Vec<u8>, text: &[u8], eol: u8) -> Result<(), AllocError>
     Ok(())
 }
 
-/// Makes the line of a text, behind how often it came.
+/// Makes the line of a text, after how often it came.
 fn show_counted(times: u64, text: &[u8], eol: u8, out: &mut Vec<u8>) -> Result<(), Failure>
     ensures { OnOk result (out.new.items ≡ column times ++ (text.now ++ eol ∷ [])) }
 {
@@ -180,29 +180,24 @@ fn write_tallies<S: BuildHasher + Drop, W: Write>(
     Ok(())
 }
 
-/// Counts at most `limit` lines of the inputs, each of which ends with the byte `eol`, and writes behind the last those that
-/// are asked for, in the order in which they came first. If an input fails, the others are still read. If there
-/// are more lines than the limit, none is written. At the end nothing is held back. After a fault nothing was written, or a
-/// beginning of what is due of all lines.
+/// Counts the lines of the inputs, each of which ends with the byte `eol`, and writes after the last those that are asked for, in the
+/// order in which they came first. If an input fails, the others are still read. At the end nothing is held back. After a fault nothing
+/// was written, or a beginning of what is due of all lines.
 pub fn tally<S: BuildHasher + Drop, R: Read, C: Complaints, W: Write + Drop>(
     alloc: Global,
     hasher: S,
     which: Which,
     eol: u8,
-    limit: u64,
     inputs: &mut [R],
     complaints: &mut C,
     w: &mut BufWriter<W>,
 ) -> Result<Ended, Failure>
-    ensures ended { EndsBehind (told eol which) eol limit
+    ensures ended { EndsBehind (told eol which) eol
         (run_of R.remaining inputs.old inputs.new (writer_contents W.contents) w.old w.new) result }
     ensures flushed { OnOk result (writer_buffer w.new ≡ []) }
 {
     let mut counts = Counts::new(alloc, hasher);
-    let ended = take_inputs(alloc, &mut counts, eol, limit, inputs, complaints, w)?;
-    if let Ended::TooManyLines = ended {
-        return Ok(ended);
-    }
+    let ended = take_inputs(alloc, &mut counts, eol, inputs, complaints, w)?;
     write_tallies(alloc, which, eol, &counts.texts, &counts.times, w)?;
     flush(w, TRIES)?;
     Ok(ended)

@@ -1,5 +1,5 @@
 //! What is done with lines, one after the other.
-ghost use Rattle.std.specs.Prelude.{ℕ, ◌≡◌, ◌∷◌, ◌<◌, [], List, OnOk, OnErr, length};
+ghost use Rattle.std.specs.Prelude.{ℕ, ◌≡◌, ◌∷◌, [], List, OnOk, OnErr};
 ghost use Rattle.std.specs.Io.BufRead.{strip_last};
 ghost use Rattle.unique_lines.specs.Taking.{At, Broke, Leads};
 
@@ -37,7 +37,7 @@ pub trait LineTask {
     ) -> Result<(), Failure>
         requires text { text.now ≡ strip_last eol line.now }
         requires tag { guess.tag ≡ tag_of self.old text.now }
-        requires room { (ls : List (List ℕ)) × taken eol self.old ls × (length ls < u64.MAX) }
+        requires stands { (ls : List (List ℕ)) × taken eol self.old ls }
         ensures tag_of { tag_of self.new ≡ tag_of self.old }
         ensures ok { OnOk result (Leads (At (output eol) (taken eol self.old) (W.contents w.old))
             (At (output eol) (taken eol self.new) (W.contents w.new)) (line.now ∷ [])) }

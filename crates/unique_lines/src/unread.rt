@@ -1,5 +1,5 @@
 //! The bytes that were read and are not taken yet.
-ghost use Rattle.std.specs.Prelude.{◌≡◌, ◌<◌, ◌≤◌, ◌+◌, ◌-◌, [], ℕ, List, IfOk, OnOk, OnErr, MatchResult, true, false, length, take, drop};
+ghost use Rattle.std.specs.Prelude.{◌≡◌, ◌<◌, ◌≤◌, ◌+◌, ◌-◌, [], ℕ, List, IfOk, OnOk, OnErr, MatchResult, length, take, drop};
 ghost use Rattle.std.specs.Io.Buffered.{writer_buffer};
 ghost use Rattle.std.specs.Io.KnownBytes.{Keeps};
 ghost use Rattle.streams.specs.Streams.{ReadsSome};
@@ -27,7 +27,7 @@ pub enum NextLine {
     Failure(Error),
 }
 
-/// Bytes that were read and are not taken yet: what is left of the last line, and what was read behind it.
+/// Bytes that were read and are not taken yet: what is left of the last line, and what was read after it.
 #[derive(Drop)]
 pub struct Unread {
     bytes: Vec<u8>,
@@ -55,7 +55,7 @@ fn to_front(bytes: &mut Vec<u8>, from: usize, to: usize)
     }
 }
 
-/// Makes room behind so many bytes: half of `BUFFER` at least. What it adds is filled with zero bytes, so it adds little: a long line then
+/// Makes room after so many bytes: half of `BUFFER` at least. What it adds is filled with zero bytes, so it adds little: a long line then
 /// takes its own length in memory, and `Vec` sees to it that few of these calls move it.
 fn make_room(bytes: &mut Vec<u8>, to: usize) -> Result<(), Failure>
     requires { to ≤ length bytes.old.items }
@@ -73,7 +73,7 @@ fn make_room(bytes: &mut Vec<u8>, to: usize) -> Result<(), Failure>
     Ok(())
 }
 
-/// Reads once, and puts what was read behind so many bytes.
+/// Reads once, and puts what was read after so many bytes.
 fn read_behind<R: Read>(bytes: &mut [u8], to: usize, r: &mut R) -> io::Result<usize>
     requires { to < length bytes.old }
     ensures within { IfOk result (λ n. to + n ≤ length bytes.new) }
@@ -102,14 +102,6 @@ impl Unread {
         ensures { result.now ≡ self.now }
     {
         &self.bytes[self.from..self.to]
-    }
-
-    /// Whether there are bytes, and no more lines may be taken.
-    pub fn is_beyond(&self, lines_left: u64) -> bool
-        ensures beyond { result ≡ true → (lines_left ≡ 0) × (0 < length self.now) }
-        ensures within { result ≡ false → lines_left ≡ 0 → self.now ≡ [] }
-    {
-        lines_left == 0 && !self.bytes().is_empty()
     }
 
     /// Takes so many bytes from the front.

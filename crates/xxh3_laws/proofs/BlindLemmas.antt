@@ -1,13 +1,8 @@
 -- A product with 0 forgets its other factor.
-use Rattle.std.proofs.Common.{◌≡◌, ℕ, List, ◌++◌, length, drop, refl, sym, ◌∙◌, ap, arith, length-append}
+use Rattle.xxh3_laws.proofs.Common.{◌≡◌, ℕ, List, ◌++◌, length, drop, refl, sym, ◌∙◌, ap, arith, length-append, zero-mul, append_assoc, take_at, drop_at, add, le, word_at, drop-drop, folded_product, avalanche, xxh3_64_of}
 use Rattle.std.specs.Int.Bits.{xor_self}
-use Rattle.std.proofs.Math.Nat.{zero-mul}
-use Rattle.std.proofs.lemmas.List.{append_assoc, take_at, drop_at, drop-drop}
-use Rattle.hash_words.specs.Words.{add, le}
 use Rattle.hash_xxh3.specs.Secret.{default_secret}
-use Rattle.hash_xxh3.specs.Words.{word_at, folded_product, avalanche}
 use Rattle.hash_xxh3.specs.Middle.{mix_piece, length_word, add_ends, of_128}
-use Rattle.hash_xxh3.specs.Xxh3.{xxh3_64_of}
 
 folded_product-zero : (y : ℕ) → folded_product 0 y ≡ 0
 unfolding folded_product

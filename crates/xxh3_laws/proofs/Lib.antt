@@ -1,8 +1,7 @@
+pub mod Common
 pub mod TurnLemmas
 pub mod MixLemmas
 pub mod ShortLemmas
 pub mod BlindLemmas
-pub mod LongLemmas
 pub mod WideLemmas
-pub mod ChangedWord
-pub mod UnwideLemmas
+pub mod SixteenLemmas

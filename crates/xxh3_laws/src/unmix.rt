@@ -1,35 +1,24 @@
 //! The mixes of XXH3, undone: no mix of a word loses anything. So each hash has one text of eight bytes under a seed.
-ghost use Rattle.std.specs.Prelude.{◌≡◌, ◌<◌, ◌*◌, ◌%◌, ◌^◌, bit_xor, ℕ, List, length};
+ghost use Rattle.std.specs.Prelude.{◌≡◌, ◌<◌, ◌*◌, ◌/◌, ◌%◌, ◌^◌, ◌++◌, ℕ, List, length};
 ghost use Rattle.hash_laws.specs.Exactly.{ExactlyTexts};
 ghost use Rattle.hash_laws.specs.Text.{IsText};
-ghost use Rattle.hash_xxh3.specs.Short.{eight_number};
-ghost use Rattle.hash_words.specs.Words.{add};
-ghost use Rattle.std.specs.Int.{w64, swap_bytes};
-ghost use Rattle.hash_xxh3.specs.Wide.{sixteen_end, xxh3_128_of};
-ghost use Rattle.hash_xxh3.specs.Words.{word_at, avalanche, avalanche_64, turned, three_turns, length_mix};
+ghost use Rattle.std.specs.Int.{w32, w64, to_le_bytes};
+ghost use Rattle.hash_xxh3.specs.Wide.{xxh3_128_of};
+ghost use Rattle.hash_xxh3.specs.Words.{avalanche, turned, three_turns, length_mix};
 ghost use Rattle.hash_xxh3.specs.Xxh3.{xxh3_64_of};
 
-use hash_words::{put, rotl64, unxorshift};
+use hash_words::{rotl64, xorshift};
 use hash_xxh3::short::{eight_flip, secret_pair};
 use hash_xxh3::words::{length_in, whole_product};
 
 /// The one word of which XXH3's last mix makes this hash.
+#[tactic(auto, using(hash_words::proofs::UndoLemmas::found, hash_words::proofs::UndoLemmas::found_alone, crate::proofs::MixLemmas::of_avalanche))]
 pub fn un_avalanche(hash: u64) -> u64
     ensures solves { avalanche result ≡ hash }
     ensures alone { (word : ℕ) → word < 2 ^ 64 → avalanche word ≡ hash → word ≡ result }
 {
-    let product = unxorshift(hash, 32);
-    unxorshift(product.wrapping_mul(0x8da8ee41d6df849), 37)
-}
-
-/// The one word of which the last mix of XXH64 makes this hash.
-pub fn un_avalanche_64(hash: u64) -> u64
-    ensures solves { avalanche_64 result ≡ hash }
-    ensures alone { (word : ℕ) → word < 2 ^ 64 → avalanche_64 word ≡ hash → word ≡ result }
-{
-    let second = unxorshift(hash, 32);
-    let first = unxorshift(second.wrapping_mul(0xe9e9f4c41d6df849), 29);
-    unxorshift(first.wrapping_mul(0xba79078168d4baf), 33)
+    let product = xorshift(hash, 32);
+    xorshift(product.wrapping_mul(0x8da8ee41d6df849), 37)
 }
 
 // A word with two rotations of itself folded on.
@@ -45,6 +34,7 @@ fn turned(word: u64, k: u32, l: u32) -> u64
 
 /// The one word that becomes this one with its rotations by 49 and by 24 bits folded on: what is folded on three times more, by
 /// doubled turns, is one rotation by 8 in all.
+#[tactic(auto, using(hash_words::proofs::UndoLemmas::found, hash_words::proofs::UndoLemmas::found_alone, crate::proofs::MixLemmas::of_three_turns))]
 pub fn un_three_turns(word: u64) -> u64
     ensures solves { three_turns result ≡ word }
     ensures alone { (before : ℕ) → before < 2 ^ 64 → three_turns before ≡ word → before ≡ result }
@@ -60,20 +50,18 @@ pub fn un_length_mix(len: u64, hash: u64) -> u64
     ensures solves { length_mix len result ≡ hash }
     ensures alone { (word : ℕ) → word < 2 ^ 64 → length_mix len word ≡ hash → word ≡ result }
 {
-    let last = unxorshift(hash, 28);
+    let last = xorshift(xorshift(hash, 28), 56);
     let product = length_in(len, last.wrapping_mul(0x2ab9c720d1024ad));
     un_three_turns(product.wrapping_mul(0x2ab9c720d1024ad))
 }
 
 // A number's high four bytes, and then its low four.
 fn halves(number: u64) -> [u8; 8]
-    ensures number { eight_number result ≡ number }
-    ensures text { IsText result }
-    ensures long { length result ≡ 8 }
+    ensures { result ≡ to_le_bytes w32 (number / 2 ^ 32) ++ to_le_bytes w32 (number % 2 ^ 32) }
 {
     let mut bytes = [0; 8];
-    put(&mut bytes, 0, &((number / 4294967296) as u32).to_le_bytes());
-    put(&mut bytes, 4, &((number % 4294967296) as u32).to_le_bytes());
+    bytes[..4].copy_from_slice(&((number / 4294967296) as u32).to_le_bytes());
+    bytes[4..].copy_from_slice(&((number % 4294967296) as u32).to_le_bytes());
     bytes
 }
 
@@ -87,46 +75,22 @@ pub fn bytes_for(seed: u64, hash: u64) -> [u8; 8]
     halves(un_length_mix(8, hash) ^ eight_flip(seed))
 }
 
-// What leads to both words of a hash of nine to sixteen bytes.
-fn un_sixteen_end(hash: (u64, u64)) -> (u64, u64)
-    ensures { sixteen_end result.0 result.1 ≡ hash }
-{
-    let low_end = un_avalanche(hash.0);
-    let high_end = un_avalanche(hash.1);
-    let low = low_end.wrapping_mul(0xba79078168d4baf);
-    let above = (whole_product(low, 0xc2b2ae3d27d4eb4f) / 18446744073709551616) as u64;
-    let rest = high_end.wrapping_sub(above);
-    (low, rest.wrapping_mul(0xba79078168d4baf))
-}
-
-// The low word of the product, of sixteen bytes.
-fn un_sixteen_low(low: u64, high: u64) -> u64
-    ensures { bit_xor (add 64 result (15 * 2 ^ 54)) (swap_bytes w64 high) ≡ low }
-{
-    let sum = low ^ high.swap_bytes();
-    sum.wrapping_sub(270215977642229760)
-}
-
-// The last eight bytes, from the high word and that of the product: first their low half.
-fn un_sixteen_high(above: u64, high: u64) -> u64
-    ensures { add 64 above (add 64 result (result % 2 ^ 32 * 0x85ebca76)) ≡ high }
-{
-    let sum = high.wrapping_sub(above);
-    let half = (sum % 4294967296 * 0xb6c92f47) % 4294967296;
-    sum.wrapping_sub(half * 0x85ebca76)
-}
-
 // Two words as sixteen bytes.
 fn two_words(first: u64, last: u64) -> [u8; 16]
-    ensures first { word_at 0 result ≡ first }
-    ensures last { word_at 8 result ≡ last }
-    ensures text { IsText result }
-    ensures long { length result ≡ 16 }
+    ensures { result ≡ to_le_bytes w64 first ++ to_le_bytes w64 last }
 {
     let mut bytes = [0; 16];
-    put(&mut bytes, 0, &first.to_le_bytes());
-    put(&mut bytes, 8, &last.to_le_bytes());
+    bytes[..8].copy_from_slice(&first.to_le_bytes());
+    bytes[8..].copy_from_slice(&last.to_le_bytes());
     bytes
+}
+
+// The high word of a product.
+#[inline(always)]
+fn above(word: u64, factor: u64) -> u64
+    ensures { result ≡ word * factor / 2 ^ 64 }
+{
+    (whole_product(word, factor) / 18446744073709551616) as u64
 }
 
 /// The one text of sixteen bytes that has this hash of 128 bits under a seed: on sixteen bytes XXH3 of 128 bits is a
@@ -137,11 +101,15 @@ pub fn bytes_for_wide(seed: u64, hash: (u64, u64)) -> [u8; 16]
         → xxh3_128_of seed text ≡ hash → text ≡ result }
     ensures even { ExactlyTexts 1 16 (λ text. xxh3_128_of seed text ≡ hash) }
 {
-    let (low, high) = un_sixteen_end(hash);
-    let product = un_sixteen_low(low, high);
+    let low = un_avalanche(hash.0).wrapping_mul(0xba79078168d4baf);
+    let rest = un_avalanche(hash.1).wrapping_sub(above(low, 0xc2b2ae3d27d4eb4f));
+    let high = rest.wrapping_mul(0xba79078168d4baf);
+    let product = (low ^ high.swap_bytes()).wrapping_sub(270215977642229760);
     let word = product.wrapping_mul(0x887493432badb37);
-    let above = (whole_product(word, 0x9e3779b185ebca87) / 18446744073709551616) as u64;
-    let back = un_sixteen_high(above, high);
+    // The last eight bytes, from the high word: first their low half.
+    let sum = high.wrapping_sub(above(word, 0x9e3779b185ebca87));
+    let half = sum % 4294967296 * 0xb6c92f47 % 4294967296;
+    let back = sum.wrapping_sub(half * 0x85ebca76);
     let last = back ^ secret_pair(48).wrapping_add(seed);
     let first = word ^ secret_pair(32).wrapping_sub(seed) ^ last;
     two_words(first, last)

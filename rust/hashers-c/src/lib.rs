@@ -16,6 +16,8 @@ macro_rules! prove {
 // The sources name `std`: core's items.
 use core as std;
 
+// It imports Hasher for `write`, which is a method too.
+#[allow(unused_imports)]
 mod hash_c;
 
 /// Nothing that is proved panics; what Rust adds, as a test of an index, would end here.

@@ -3,13 +3,12 @@
 //! that the generic functions of `laws` answer the same; and that combined hashes are those of the joined text. `NAME@NUMBER,..` is a
 //! function of the module `keyed`: at keys, or from a state, a hash and a length; or a seed or a key of `blocks`, `xxh3` or `numbers`.
 use hashers_proved::blocks::*;
-use hashers_proved::jenkins::spooky_hash::{spooky, spooky_v1, SpookyHasher};
+use hashers_proved::jenkins::spooky_hash::*;
 use hashers_proved::keyed::*;
 use hashers_proved::laws::{self, HasherWrite, Piecewise, Streamed, Undo};
-use hashers_proved::more::{crc32::*, djb2_add::*, elf::*, fnv1::*, joaat::*};
 use hashers_proved::numbers::NumberKeys;
 use hashers_proved::xxh3::*;
-use hashers_proved::{fnv::*, fx_hash::*, jenkins::*, null::*, oz::*, pigeon::*};
+use hashers_proved::{fnv::*, fx_hash::*, jenkins::*, more::*, null::*, oz::*, pigeon::*};
 use std::fmt::Debug;
 use std::hash::{BuildHasher, Hasher};
 use std::io::{BufRead, Write};
@@ -94,15 +93,26 @@ fn combined(pieces: &Pieces, whole: fn(&[u8]) -> u64, combine: fn(u64, u64, u64)
 }
 
 fn answer(name: &str, p: &Pieces) -> u64 {
-    macro_rules! undo {
-        ($h:ty, $f:expr) => {{
-            undone::<$h>(p);
+    // what is asked of a hasher to which cuts don't show, and of one whose writes are undone; and where cuts show
+    macro_rules! whole {
+        ($h:ty, $f:expr) => {
             streamed::<$h>(p, $f)
-        }};
+        };
         ($h:ty, $f:expr, $c:expr) => {{
             combined(p, $f, $c);
-            undo!($h, $f)
+            streamed::<$h>(p, $f)
         }};
+    }
+    macro_rules! undo {
+        ($h:ty, $($f:expr),*) => {{
+            undone::<$h>(p);
+            whole!($h, $($f),*)
+        }};
+    }
+    macro_rules! pieces {
+        ($h:ty, $f:expr) => {
+            fed::<$h>(p, $f)
+        };
     }
     macro_rules! words {
         ($h:ty, $f:expr) => {{
@@ -111,6 +121,7 @@ fn answer(name: &str, p: &Pieces) -> u64 {
         }};
     }
     match name {
+        // declared: answers
         "fnv1a32" => undo!(FNV1aHasher32, fnv1a32),
         "fnv1a64" => undo!(FNV1aHasher64, fnv1a64),
         "djb2" => undo!(DJB2Hasher, djb2),
@@ -118,21 +129,10 @@ fn answer(name: &str, p: &Pieces) -> u64 {
         "loselose" => undo!(LoseLoseHasher, loselose, loselose_combine),
         "bricolage" => undo!(Bricolage, bricolage),
         "oaat" => undo!(OAATHasher, oaat),
-        "lookup3" => fed::<Lookup3Hasher>(p, lookup3),
-        "spooky" => streamed::<SpookyHasher>(p, spooky),
-        "spooky_v1" => {
-            let mut h = SpookyHasher::default();
-            for x in p {
-                h.write(x);
-            }
-            assert_eq!(spooky_v1(&p.concat()), h.finish128_v1().0);
-            h.finish128_v1().0
-        }
-        "null" => streamed::<NullHasher>(p, null),
-        "passthrough" => {
-            combined(p, passthrough, passthrough_combine);
-            streamed::<PassThroughHasher>(p, passthrough)
-        }
+        "lookup3" => pieces!(Lookup3Hasher, lookup3),
+        "spooky" => whole!(SpookyHasher, spooky),
+        "spooky_v1" => whole!(SpookyV1Hasher, spooky_v1),
+        "passthrough" => whole!(PassThroughHasher, passthrough, passthrough_combine),
         "fxhash" => words!(FxHasher, fxhash),
         "fxhash32" => words!(FxHasher32, fxhash32),
         "fxhash64" => words!(FxHasher64, fxhash64),
@@ -142,14 +142,16 @@ fn answer(name: &str, p: &Pieces) -> u64 {
         "fnv1_64" => undo!(Fnv1Hasher64, fnv1_64),
         "djb2_add" => undo!(Djb2AddHasher, djb2_add),
         "joaat" => undo!(JoaatHasher, joaat),
-        "elf" => streamed::<ElfHasher>(p, elf),
-        "xxh32" => streamed::<Xxh32Hasher>(p, |text| u64::from(xxh32(0, text))),
-        "xxh64" => streamed::<Xxh64Hasher>(p, |text| xxh64(0, text)),
-        "murmur3_32" => streamed::<Murmur3Hasher32>(p, |text| u64::from(murmur3_32(0, text))),
-        "murmur3" => streamed::<Murmur3Hasher128>(p, |text| murmur3_128(0, text).0),
-        "siphash13" => streamed::<SipHasher13>(p, |text| siphash13(SipKey { k0: 0, k1: 0 }, text)),
-        "siphash24" => streamed::<SipHasher24>(p, |text| siphash24(SipKey { k0: 0, k1: 0 }, text)),
-        "xxh3" => streamed::<Xxh3Hasher>(p, |text| xxh3_64(0, text)),
+        "elf" => whole!(ElfHasher, elf),
+        "null" => whole!(NullHasher, null),
+        "xxh32" => whole!(Xxh32Hasher, |text| u64::from(xxh32(0, text))),
+        "xxh64" => whole!(Xxh64Hasher, |text| xxh64(0, text)),
+        "murmur3_32" => whole!(Murmur3Hasher32, |text| u64::from(murmur3_32(0, text))),
+        "murmur3" => whole!(Murmur3Hasher128, |text| murmur3_128(0, text).0),
+        "siphash13" => whole!(SipHasher13, |text| siphash13(SipKey { k0: 0, k1: 0 }, text)),
+        "siphash24" => whole!(SipHasher24, |text| siphash24(SipKey { k0: 0, k1: 0 }, text)),
+        "xxh3" => whole!(Xxh3Hasher, |text| xxh3_64(0, text)),
+        // end of declared
         _ => panic!("no such name: {name}"),
     }
 }

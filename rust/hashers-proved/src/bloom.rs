@@ -33,8 +33,8 @@ use real_std::vec::Vec;
 /// A Bloom filter (Burton H. Bloom, "Space/Time Trade-offs in Hash Coding with Allowable Errors", 1970). Each key has some places among the
 /// filter's bits, by the hashers `F` and `G`, and is found where the bits at all of its places are set.
 ///
-/// The place of probe `i` is (f + i * g) mod bits, where f and g are the two hashes (Adam Kirsch and Michael Mitzenmacher, "Less Hashing,
-/// Same Performance", 2006), as natural numbers: nothing wraps. A key that was inserted is found, whatever the hashers. How often a strange
+/// The place of probe `i` is (f + i * g + (i^3 - i) / 6) mod 2^64 mod bits, where f and g are the two hashes (enhanced double hashing:
+/// Peter C. Dillinger and Panagiotis Manolios, "Bloom Filters in Probabilistic Verification", 2004). A key that was inserted is found, whatever the hashers. How often a strange
 /// key is found depends on them: with good ones about (1 - e^(-probes * keys / bits))^probes.
 ///
 /// Where there is no memory, a call ends the program, as std's collections do.
@@ -51,6 +51,39 @@ impl Bloom {
     /// Panics if `bits_per_key` is 0, or the bits are 2^64 or more.
     pub fn new(keys: u64, bits_per_key: u32) -> Bloom {
         Bloom::for_keys(keys, bits_per_key)
+    }
+
+    /// A filter for about so many keys, in which a strange key is found with about this chance once they are inserted, with
+    /// -keys * ln(rate) / ln(2)^2 bits and -log2(rate) probes, as Python's `Bloom.for_keys` has them.
+    ///
+    /// # Panics
+    ///
+    /// Panics unless 0 < `rate` < 1, or if the bits are 2^64 or more.
+    pub fn for_rate(keys: u64, rate: f64) -> Bloom {
+        assert!(0.0 < rate && rate < 1.0, "a rate of {rate}");
+        let (halvings, whole) = (-rate.log2(), 2f64.powi(64));
+        let bits = (keys as f64 * halvings / core::f64::consts::LN_2).ceil();
+        assert!(bits < whole, "a filter of 2^64 bits");
+        Bloom::with_bits((bits as u64).max(1), (halvings.round() as u32).max(1))
+    }
+
+    /// A filter for about so many keys, of which one strange key in 2^k passes at most, by the formula above.
+    ///
+    /// # Panics
+    ///
+    /// Panics if `k` is not from 1 to 22, or the bits are 2^64 or more.
+    pub fn for_share(keys: u64, k: u32) -> Bloom {
+        assert!((1..=22).contains(&k), "a share of one in 2^{k}");
+        Bloom::for_keys(keys, (1443 * k).div_ceil(1000))
+    }
+
+    /// A filter of so many bits, and so many probes for each key. Over other hashers it is [`with_shape`](Bloom::with_shape).
+    ///
+    /// # Panics
+    ///
+    /// Panics if either is 0.
+    pub fn with_bits(bits: u64, probes: u32) -> Bloom {
+        Bloom::with_shape(bits, probes)
     }
 }
 
@@ -77,29 +110,19 @@ impl<F: Piecewise, G: Piecewise> Bloom<F, G> {
         Bloom { filter: proved::Bloom::for_keys(Global, keys, bits_per_key).unwrap_or_else(|_| no_memory::<u64>(words)) }
     }
 
-    /// A filter for about so many keys, of which one strange key in 2^k passes at most, by the formula above.
-    ///
-    /// # Panics
-    ///
-    /// Panics if `k` is not from 1 to 22, or the bits are 2^64 or more.
-    pub fn for_share(keys: u64, k: u32) -> Self {
-        assert!((1..=22).contains(&k), "a share of one in 2^{k}");
-        Self::for_keys(keys, (1443 * k).div_ceil(1000))
-    }
-
     /// A filter of so many bits, and so many probes for each key.
     ///
     /// # Panics
     ///
     /// Panics if either is 0.
-    pub fn with_bits(bits: u64, probes: u32) -> Self {
+    pub fn with_shape(bits: u64, probes: u32) -> Self {
         assert!(bits > 0 && probes > 0, "a filter of no bits or no probes");
         let words = words_for(bits);
         Bloom { filter: proved::Bloom::new(Global, bits, probes).unwrap_or_else(|_| no_memory::<u64>(words)) }
     }
 
-    /// Inserts the key, and tells whether it was found before: `false` says that it was not inserted before, and `true` that it possibly
-    /// was.
+    /// Inserts the key, and tells whether it is new, as a set does: `true` says that it was not inserted before, and `false` that it
+    /// possibly was.
     pub fn insert(&mut self, key: impl AsRef<[u8]>) -> bool {
         self.filter.insert(key.as_ref())
     }

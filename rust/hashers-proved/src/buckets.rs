@@ -30,7 +30,11 @@ pub struct Buckets<const N: usize, H: Piecewise = SpookyHasher> {
 }
 
 impl<const N: usize> Buckets<N> {
-    /// The empty table, over SpookyHash; over another hasher it is `Buckets::default()`. No lists at all, `Buckets::<0>`, do not compile.
+    /// The empty table, over SpookyHash; over another hasher it is `Buckets::default()`. No lists at all do not compile:
+    ///
+    /// ```compile_fail
+    /// let _ = hashers_proved::buckets::Buckets::<0>::new();
+    /// ```
     pub fn new() -> Buckets<N> {
         Buckets::default()
     }

@@ -7,17 +7,21 @@ use crate::hash_bytes::oz::{LoseLoseState, SdbmState};
 use crate::hash_fx::{FxSplit, WordHasher};
 use crate::hash_jenkins::spooky_hash::{SpookyHasher, SpookyV1Hasher};
 use crate::hash_jenkins::spooky_parts::SpookyParts;
-use crate::hash_jenkins::{BuildSpooky, Lookup3Hasher};
+use crate::hash_kinds::wide::{both, WideHash};
+use crate::hash_jenkins::Lookup3Hasher;
+use crate::hashers::jenkins::BuildSpooky;
 use crate::hash_keyed::pair::Poly61Pair;
 use crate::hash_keyed::poly61::Poly61Hasher;
 use crate::hash_laws::traits::Undo;
 use crate::hash_more::elf::ElfHasher;
+use crate::hash_murmur3::{Murmur3Hasher128, Murmur3Hasher32};
 use crate::hash_numbers::hasher::NumberHasher;
 use crate::hash_rounds::Turns;
 use crate::hash_rules::{ByteHasher, ByteRule, UndoRule};
 use crate::hash_siphash::{SipHasher13, SipKey};
 use crate::hash_writes::build::BuildFresh;
-use crate::hash_xxh3::{BuildXxh3, Xxh3Hasher};
+use crate::hash_xxh3::{xxh3_128, BuildXxh3, Xxh3Hasher};
+use crate::hash_xxhash::{Xxh32Hasher, Xxh64Hasher};
 use core::fmt;
 use core::hash::{BuildHasher, Hasher};
 
@@ -57,6 +61,178 @@ copies! {
     [] Poly61Hasher;
     [] Poly61Pair;
     [] NumberHasher;
+}
+
+/// `io::Write`, so that `io::copy` hashes a file, and a method `write`, which is `Hasher`'s where both traits are imported.
+macro_rules! takes_bytes {
+    ($([$($bound:tt)*] $type:ty;)*) => {$(
+        impl<$($bound)*> $type {
+            /// `Hasher::write`, with no import.
+            #[inline(always)]
+            pub fn write(&mut self, bytes: &[u8]) {
+                Hasher::write(self, bytes);
+            }
+        }
+
+        /// For `io::copy`. The hashes of lookup3 and fx depend on how the input is split, and `io::copy` does not say how it splits: take
+        /// `reader::hash_reader` for these two.
+        #[cfg(feature = "std")]
+        impl<$($bound)*> real_std::io::Write for $type {
+            #[inline]
+            fn write(&mut self, bytes: &[u8]) -> real_std::io::Result<usize> {
+                Hasher::write(self, bytes);
+                Ok(bytes.len())
+            }
+
+            #[inline]
+            fn flush(&mut self) -> real_std::io::Result<()> {
+                Ok(())
+            }
+        }
+    )*};
+}
+
+takes_bytes! {
+    [R: ByteRule] ByteHasher<R>;
+    [W: FxSplit, Name] WordHasher<W, Name>;
+    [] Lookup3Hasher;
+    [] NullHasher;
+    [] SpookyHasher;
+    [] SpookyV1Hasher;
+    [] Xxh3Hasher;
+    [R: BlockRule<N>, const N: usize] BlockHasher<R, N>;
+    [] Poly61Hasher;
+    [] Poly61Pair;
+    [] NumberHasher;
+}
+#[cfg(feature = "std")]
+takes_bytes! {
+    [] crate::text_set::KeyedHasher;
+}
+
+/// `reset`, which takes the seed or key again, since a hasher does not keep it.
+macro_rules! resets {
+    ($([$($bound:tt)*] $type:ty, $new:ident($($seed:ident: $of:ty),*);)*) => {$(
+        impl<$($bound)*> $type {
+            /// Starts again, as a new hasher that has read no bytes.
+            #[inline]
+            pub fn reset(&mut self $(, $seed: $of)*) {
+                *self = Self::$new($($seed),*);
+            }
+        }
+    )*};
+}
+
+resets! {
+    [R: ByteRule] ByteHasher<R>, default();
+    [W: FxSplit, Name] WordHasher<W, Name>, default();
+    [] Lookup3Hasher, default();
+    [] NullHasher, default();
+    [] SpookyHasher, new(seed1: u64, seed2: u64);
+    [] SpookyV1Hasher, new(seed1: u64, seed2: u64);
+    [] Xxh3Hasher, new(seed: u64);
+    [R: BlockRule<N>, const N: usize] BlockHasher<R, N>, new(seed: R::Seed);
+    [] Poly61Hasher, new(key: u64);
+    [] Poly61Pair, new(first: u64, second: u64);
+}
+
+/// The hash of 128 bits as one number, whose digits are those that `hashsum` prints.
+macro_rules! wide {
+    ($($type:ty;)*) => {$(
+        impl $type {
+            /// The 128 bits of [`finish128`](Self::finish128) as one number, whose digits are those that `hashsum` prints.
+            #[inline]
+            pub fn finish_u128(&self) -> u128 {
+                self.wide()
+            }
+        }
+    )*};
+}
+
+wide! {
+    SpookyHasher;
+    Murmur3Hasher128;
+    Xxh3Hasher;
+}
+
+/// XXH3 of 128 bits as one number; [`xxh3_128`] returns its low word first.
+#[inline]
+pub fn xxh3_u128(seed: u64, bytes: &[u8]) -> u128 {
+    let (low, high) = xxh3_128(seed, bytes);
+    both((high, low))
+}
+
+/// A hash of 32 bits as a `u32`.
+macro_rules! as_u32 {
+    ($($name:ident of $whole:path;)*) => {$(
+        #[doc = concat!("[`", stringify!($whole), "`] as a `u32`.")]
+        #[inline]
+        pub fn $name(bytes: &[u8]) -> u32 {
+            $whole(bytes) as u32
+        }
+    )*};
+}
+
+as_u32! {
+    fnv1a32_u32 of crate::fnv::fnv1a32;
+    crc32_u32 of crate::crc32::crc32;
+    crc32c_u32 of crate::crc32::crc32c;
+}
+
+/// Hashers under a seed, for std's maps and sets.
+macro_rules! builds {
+    ($($name:ident, $hasher:ident, $seed:ty;)*) => {$(
+        #[doc = concat!("[`", stringify!($hasher), "`]s under one seed, for std's maps and sets; by `default()` the seed is 0.")]
+        /// A random seed gives each map another order, and is no protection: it can be found out.
+        #[derive(Clone, Copy, Default)]
+        pub struct $name {
+            seed: $seed,
+        }
+
+        impl $name {
+            /// This seed.
+            #[inline]
+            pub const fn with_seed(seed: $seed) -> $name {
+                $name { seed }
+            }
+
+            /// A seed from the randomness of std's `RandomState`. Each call has another one.
+            #[cfg(feature = "std")]
+            pub fn random() -> $name {
+                $name::with_seed(random_word() as $seed)
+            }
+        }
+
+        impl BuildHasher for $name {
+            type Hasher = $hasher;
+
+            #[inline]
+            fn build_hasher(&self) -> $hasher {
+                $hasher::new(self.seed)
+            }
+        }
+    )*};
+}
+
+builds! {
+    BuildXxh32, Xxh32Hasher, u32;
+    BuildXxh64, Xxh64Hasher, u64;
+    BuildMurmur3At32, Murmur3Hasher32, u32;
+    BuildMurmur3At128, Murmur3Hasher128, u64;
+}
+
+impl BuildXxh3 {
+    /// This seed.
+    #[inline]
+    pub const fn with_seed(seed: u64) -> BuildXxh3 {
+        BuildXxh3 { seed }
+    }
+
+    /// A seed from the randomness of std's `RandomState`. Each call has another one.
+    #[cfg(feature = "std")]
+    pub fn random() -> BuildXxh3 {
+        BuildXxh3::with_seed(random_word())
+    }
 }
 
 /// Equality and `Debug` by what `finish` answers.
@@ -118,7 +294,7 @@ impl<W: FxSplit, Name> WordHasher<W, Name> {
 
 /// SpookyHash of the bytes under two seeds, as two words.
 #[inline]
-pub fn spooky128(bytes: &[u8], seed1: u64, seed2: u64) -> (u64, u64) {
+pub fn spooky128(seed1: u64, seed2: u64, bytes: &[u8]) -> (u64, u64) {
     let mut parts = SpookyParts::new(seed1, seed2);
     parts.write(bytes);
     parts.finish128()
@@ -126,7 +302,7 @@ pub fn spooky128(bytes: &[u8], seed1: u64, seed2: u64) -> (u64, u64) {
 
 /// The same by version 1, the form of the crate hashers 1.0.1.
 #[inline]
-pub fn spooky128_v1(bytes: &[u8], seed1: u64, seed2: u64) -> (u64, u64) {
+pub fn spooky128_v1(seed1: u64, seed2: u64, bytes: &[u8]) -> (u64, u64) {
     let mut parts = SpookyParts::new(seed1, seed2);
     parts.write(bytes);
     parts.finish128_v1()
@@ -308,6 +484,10 @@ macro_rules! tells_no_key {
 tells_no_key! {
     [] BuildSpooky;
     [] BuildXxh3;
+    [] BuildXxh32;
+    [] BuildXxh64;
+    [] BuildMurmur3At32;
+    [] BuildMurmur3At128;
     [] Xxh3Hasher;
     [R: BlockRule<N>, const N: usize] BlockHasher<R, N>;
     [] Poly61Hasher;

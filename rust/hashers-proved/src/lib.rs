@@ -1,5 +1,41 @@
 #![cfg_attr(feature = "std", doc = include_str!("../README.md"))]
 #![cfg_attr(not(feature = "std"), doc = "The hashes alone, over core. With the feature `std`, which README.md describes, there is more.")]
+//!
+//! # Hashes
+//!
+//! | Hash of all bytes at once | Hasher |
+//! |---|---|
+// declared: hashes
+//! | [`fnv::fnv1a32`] | [`fnv::FNV1aHasher32`] |
+//! | [`fnv::fnv1a64`] | [`fnv::FNV1aHasher64`] |
+//! | [`oz::djb2`] | [`oz::DJB2Hasher`] |
+//! | [`oz::sdbm`] | [`oz::SDBMHasher`] |
+//! | [`oz::loselose`] | [`oz::LoseLoseHasher`] |
+//! | [`pigeon::bricolage`] | [`pigeon::Bricolage`] |
+//! | [`jenkins::oaat`] | [`jenkins::OAATHasher`] |
+//! | [`jenkins::lookup3`] | [`jenkins::Lookup3Hasher`] |
+//! | [`jenkins::spooky_hash::spooky`] | [`jenkins::spooky_hash::SpookyHasher`] |
+//! | [`jenkins::spooky_hash::spooky_v1`] | [`jenkins::spooky_hash::SpookyV1Hasher`] |
+//! | [`null::passthrough`] | [`null::PassThroughHasher`] |
+//! | [`fx_hash::fxhash`] | [`fx_hash::FxHasher`] |
+//! | [`fx_hash::fxhash32`] | [`fx_hash::FxHasher32`] |
+//! | [`fx_hash::fxhash64`] | [`fx_hash::FxHasher64`] |
+//! | [`crc32::crc32`] | [`crc32::Crc32Hasher`] |
+//! | [`crc32::crc32c`] | [`crc32::Crc32cHasher`] |
+//! | [`more::fnv1_32`] | [`more::Fnv1Hasher32`] |
+//! | [`more::fnv1_64`] | [`more::Fnv1Hasher64`] |
+//! | [`more::djb2_add::djb2_add`] | [`more::Djb2AddHasher`] |
+//! | [`more::joaat::joaat`] | [`more::JoaatHasher`] |
+//! | [`more::elf::elf`] | [`more::ElfHasher`] |
+//! | [`null::null`] | [`null::NullHasher`] |
+//! | [`xxhash::xxh32`] | [`xxhash::Xxh32Hasher`] |
+//! | [`xxhash::xxh64`] | [`xxhash::Xxh64Hasher`] |
+//! | [`murmur3::murmur3_32`] | [`murmur3::Murmur3Hasher32`] |
+//! | [`murmur3::murmur3_128`] | [`murmur3::Murmur3Hasher128`] |
+//! | [`siphash::siphash13`] | [`siphash::SipHasher13`] |
+//! | [`siphash::siphash24`] | [`siphash::SipHasher24`] |
+//! | [`xxhash::xxh3_64`] | [`xxhash::Xxh3Hasher`] |
+// end of declared
 #![no_std]
 #![forbid(unsafe_code)]
 #![warn(missing_docs)]
@@ -53,7 +89,9 @@ pub mod hash_rules;
 pub mod hash_writes;
 #[doc(hidden)]
 pub mod hash_fx;
+// It imports the trait for `write`, which extras.rs makes a method.
 #[doc(hidden)]
+#[allow(unused_imports)]
 pub mod fx_laws;
 #[doc(hidden)]
 pub mod hash_jenkins;
@@ -126,6 +164,12 @@ pub mod hash_names {
     pub mod reading;
     pub mod table;
     pub mod task;
+}
+#[doc(hidden)]
+pub mod hash_kinds {
+    #[cfg(feature = "std")]
+    pub mod reading;
+    pub mod table;
     pub mod wide;
 }
 // What takes memory, reads or writes.
@@ -154,11 +198,86 @@ pub mod hash_cuts;
 #[doc(hidden)]
 pub mod hash_bloom;
 
+/// A file is hashed by `io::copy`, or by [`hash_stream`](reader::hash_stream), which takes an array's size and a limit:
+///
+/// ```
+/// use hashers_proved::{reader::hash_stream, xxhash::Xxh3Hasher};
+/// use std::{fs::File, hash::Hasher, io};
+///
+/// let (mut copied, mut read) = (Xxh3Hasher::new(0), Xxh3Hasher::new(0));
+/// io::copy(&mut File::open("Cargo.toml")?, &mut copied)?;
+/// hash_stream::<_, _, 65536>(&mut read, &mut File::open("Cargo.toml")?, u64::MAX)?;
+/// assert_eq!(copied.finish(), read.finish());
+/// # Ok::<(), io::Error>(())
+/// ```
+///
+/// An array of no bytes to read through does not compile:
+///
+/// ```compile_fail
+/// use hashers_proved::{fnv::FNV1aHasher64, reader::hash_stream};
+///
+/// let _ = hash_stream::<_, _, 0>(&mut FNV1aHasher64::default(), &mut b"a".as_slice(), 1);
+/// ```
 #[cfg(feature = "std")]
 #[doc(inline)]
 pub use hashers::reader;
 #[doc(inline)]
-pub use hashers::{build, fnv, fx_hash, laws, null, oz, pigeon, promises, rounds, rules, window};
+pub use hashers::{build, laws, null, promises, rounds, rules, window};
+
+/// FxHasher in a map:
+///
+/// ```
+/// use hashers_proved::fx_hash::FxHasher;
+/// use std::{collections::HashMap, hash::BuildHasherDefault};
+///
+/// let ages: HashMap<u32, u32, BuildHasherDefault<FxHasher>> = HashMap::from_iter([(1815, 36)]);
+/// assert_eq!(ages[&1815], 36);
+/// ```
+#[doc(inline)]
+pub use hashers::fx_hash;
+
+/// djb2, whose last bytes can be undone:
+///
+/// ```
+/// use hashers_proved::oz::{djb2, DJB2Hasher};
+/// use std::hash::Hasher;
+///
+/// let mut hasher = DJB2Hasher::default();
+/// hasher.write(b"abc");
+/// hasher.unwrite(b"bc");
+/// assert_eq!(hasher.finish(), djb2(b"a"));
+/// ```
+#[doc(inline)]
+pub use hashers::oz;
+
+/// One byte that differs always gives another hash:
+///
+/// ```
+/// use hashers_proved::pigeon::bricolage;
+///
+/// assert_ne!(bricolage(b"pigeon"), bricolage(b"pidgon"));
+/// ```
+#[doc(inline)]
+pub use hashers::pigeon;
+
+/// FNV-1a of 32 and 64 bits.
+///
+/// ```
+/// use hashers_proved::fnv::{fnv1a32_u32, fnv1a64, FNV1aHasher64};
+/// use std::hash::Hasher;
+///
+/// let mut hasher = FNV1aHasher64::default();
+/// hasher.write(b"a");
+/// assert_eq!((hasher.finish(), fnv1a64(b"a"), fnv1a32_u32(b"a")), (0xaf63dc4c8601ec8c, 0xaf63dc4c8601ec8c, 0xe40c292c));
+/// hasher.reset();
+/// assert_eq!(hasher.finish(), fnv1a64(b""));
+/// ```
+pub mod fnv {
+    #[doc(inline)]
+    pub use crate::extras::fnv1a32_u32;
+    #[doc(inline)]
+    pub use crate::hashers::fnv::*;
+}
 
 #[cfg(not(feature = "std"))]
 #[doc(inline)]
@@ -180,9 +299,22 @@ pub mod lines;
 pub mod ring;
 
 /// Bob Jenkins' hash functions: one-at-a-time, lookup3 and SpookyHash.
+///
+/// ```
+/// use hashers_proved::jenkins::{oaat, spooky_hash::{spooky128, SpookyHasher}};
+/// use std::hash::Hasher;
+///
+/// let mut hasher = SpookyHasher::new(1, 2);
+/// hasher.write(b"in two ");
+/// hasher.write(b"pieces");
+/// assert_eq!(hasher.finish128(), spooky128(1, 2, b"in two pieces"));
+/// assert_ne!(oaat(b"a"), oaat(b"b"));
+/// ```
 pub mod jenkins {
     #[doc(inline)]
     pub use crate::hash_jenkins::*;
+    #[doc(inline)]
+    pub use crate::hashers::jenkins::BuildSpooky;
     #[doc(inline)]
     pub use crate::jenkins_laws::{block::block_for, stretch, two_texts};
 
@@ -196,6 +328,13 @@ pub mod jenkins {
 }
 
 /// Relatives that other programs compute, which the crate hashers 1.0.1 does not have.
+///
+/// ```
+/// use hashers_proved::more::{crc32, crc32_combine};
+///
+/// assert_eq!(crc32(b"123456789"), 0xcbf43926);
+/// assert_eq!(crc32_combine(crc32(b"1234"), crc32(b"56789"), 5), 0xcbf43926);
+/// ```
 pub mod more {
     #[doc(inline)]
     pub use crate::hash_more::*;
@@ -221,7 +360,7 @@ pub mod blocks {
     #[doc(inline)]
     pub use crate::block_laws::*;
     #[doc(inline)]
-    pub use crate::extras::SipKeys;
+    pub use crate::extras::{BuildMurmur3At128, BuildMurmur3At32, BuildXxh32, BuildXxh64, SipKeys};
     #[doc(inline)]
     pub use crate::hash_blocks::{BlockHasher, BlockRule, WideRule};
     #[doc(inline)]
@@ -230,6 +369,40 @@ pub mod blocks {
     pub use crate::hash_siphash::*;
     #[doc(inline)]
     pub use crate::hash_xxhash::*;
+}
+
+/// XXH32, XXH64 and XXH3.
+pub mod xxhash {
+    #[doc(inline)]
+    pub use crate::extras::{BuildXxh32, BuildXxh64};
+    #[doc(inline)]
+    pub use crate::hash_xxhash::*;
+    #[doc(inline)]
+    pub use crate::xxh3::*;
+}
+
+/// MurmurHash3 of 32 and 128 bits.
+pub mod murmur3 {
+    #[doc(inline)]
+    pub use crate::extras::{BuildMurmur3At128, BuildMurmur3At32};
+    #[doc(inline)]
+    pub use crate::hash_murmur3::*;
+}
+
+/// SipHash-1-3 and SipHash-2-4.
+pub mod siphash {
+    #[doc(inline)]
+    pub use crate::extras::SipKeys;
+    #[doc(inline)]
+    pub use crate::hash_siphash::*;
+}
+
+/// CRC-32 and CRC-32C.
+pub mod crc32 {
+    #[doc(inline)]
+    pub use crate::extras::{crc32_u32, crc32c_u32};
+    #[doc(inline)]
+    pub use crate::hash_crc::crc32::*;
 }
 
 /// XXH3 of 64 and 128 bits under a seed, of a text at once or in parts, and the texts of given hashes. No protection: whoever knows the seed
@@ -248,6 +421,8 @@ pub mod blocks {
 /// assert_eq!(bytes_for(7, xxh3_64(7, b"8 letter")), *b"8 letter");
 /// ```
 pub mod xxh3 {
+    #[doc(inline)]
+    pub use crate::extras::xxh3_u128;
     #[doc(inline)]
     pub use crate::hash_xxh3::*;
     #[doc(inline)]

@@ -33,7 +33,7 @@ use real_std::vec::Vec;
 ///
 /// Which nodes own which keys depends on the set of nodes alone, and not on the order in which they came. Point number `k` of a node, from
 /// 0 up to its weight, is at the place that is the hash of its name followed by `k` in 8 bytes, the lowest first; a key is at its hash. All
-/// points stand in one sorted array, 16 bytes each. Some 100 points a node give each about its share.
+/// points stand in one sorted array, 16 bytes each. Some 160 points a node give each about its share.
 ///
 /// Where there is no memory, a call ends the program, as std's collections do.
 pub struct Ring<H: Piecewise = SpookyHasher> {

@@ -1,7 +1,5 @@
-use Rattle.std.proofs.Common.{◌≡◌, ◌∷◌, ◌++◌, [], ◌∙◌, ap, sym, refl, rules, arith, length, vec_len, append_assoc}
-use Rattle.std.specs.Prelude.{fold}
+use Rattle.hash_buckets.proofs.Common.{◌≡◌, ◌∷◌, ◌++◌, [], ◌∙◌, ap, sym, refl, rules, arith, length, vec_len, append_assoc, fold, content_after, reply_to, NeedsMemory}
 use Rattle.std.proofs.lemmas.List.Sums.{fold-append}
-use Rattle.hash_buckets.specs.Commands.{content_after, reply_to, NeedsMemory}
 use Rattle.hash_buckets.proofs.Runs.{replies_to-push, stops_at}
 use Rattle.hash_buckets.proofs.obey_all.Goals as goal
 

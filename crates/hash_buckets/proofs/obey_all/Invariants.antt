@@ -1,6 +1,4 @@
-use Rattle.std.proofs.Common.{◌≡◌, ◌≤◌, ◌+◌, ◌++◌, length, vec_len, vec_capacity}
-use Rattle.std.specs.Prelude.{fold}
-use Rattle.hash_buckets.specs.Commands.{content_after, replies_to}
+use Rattle.hash_buckets.proofs.Common.{◌≡◌, ◌≤◌, ◌+◌, ◌++◌, length, vec_len, vec_capacity, fold, content_after, replies_to}
 use Rattle.hash_buckets.proofs.obey_all.Given as goal
 
 -- the commands so far were done, and there is room for the replies to the others

@@ -2,12 +2,12 @@
 ghost use Rattle.std.specs.Prelude.{◌≡◌};
 ghost use Rattle.hash_bytes.specs.Pigeon.{bricolage_from};
 
-use super::hasher::Bricolage;
-use hash_laws::traits::hash_of;
+use super::hasher::BricolageRule;
+use hash_rules::hash_by_plain;
 
 /// Bricolage of the bytes.
 pub fn bricolage(bytes: &[u8]) -> u64
     ensures { result ≡ bricolage_from 0 bytes.now }
 {
-    hash_of::<Bricolage>(bytes)
+    hash_by_plain::<BricolageRule>(bytes)
 }

@@ -71,8 +71,8 @@ impl PlainUndo for BricolageRule {
 /// Bricolage, Steven Pigeon's hash (his blog, hbfs.wordpress.com).
 ///
 /// From 0, a byte `b` takes the state `h` to `h + shuffle(b * 173773926194192273)`, whose halves then change places; all is
-/// modulo 2^64, and `shuffle` moves the 64 bits by a table. `finish` answers `h`. Cuts don't show, and each write can be undone.
+/// modulo 2^64, and `shuffle` moves the 64 bits by a table. `finish` returns `h`. The split does not matter, and each write can be undone.
 ///
 /// Contracts see the hasher as its state, a number below 2^64: `write` gives `h.new ≡ bricolage_from h.old bytes.now`, and
-/// `finish` answers `h.now`. Of `a` the hash is 17926483712435944715.
+/// `finish` returns `h.now`. Of `a` the hash is 17926483712435944715.
 pub type Bricolage = ByteHasher<Plain<BricolageRule>>;

@@ -1,7 +1,4 @@
-use Rattle.std.proofs.Common.{◌<◌, ◌≤◌, ◌+◌, [], inl, inr, arith, sym, ap, ◌∙◌, subst, ⊎_elim}
-use Rattle.std.proofs.lemmas.Bool.{cases_lt}
-use Rattle.std.proofs.lemmas.List.{get_or-map, length-map}
-use Rattle.hash_ring.specs.Points.{pair_of, pairs}
+use Rattle.hash_ring.proofs.Common.{◌<◌, ◌≤◌, ◌+◌, [], inl, inr, arith, sym, ap, ◌∙◌, subst, ⊎_elim, cases_lt, get_or-map, length-map, pair_of, pairs}
 use Rattle.hash_ring.proofs.PointLemmas.{AreThese, ArePoints-permutation, in_order, is_there, one_node_more}
 use Rattle.hash_ring.proofs.all_points.Goals as goal
 

@@ -1,5 +1,4 @@
-use Rattle.std.proofs.Common.{◌<◌}
-use Rattle.hash_ring.specs.Points.{pairs}
+use Rattle.hash_ring.proofs.Common.{◌<◌, pairs}
 use Rattle.hash_ring.proofs.PointLemmas.{AreThese}
 use Rattle.hash_ring.proofs.all_points.Given as goal
 

@@ -1,6 +1,4 @@
-use Rattle.std.proofs.Common.{refl}
-use Rattle.std.specs.Fn.{FnReturnsAt}
-use Rattle.hash_ring.specs.Points.{pairs}
+use Rattle.hash_ring.proofs.Common.{refl, FnReturnsAt, pairs}
 use Rattle.hash_ring.proofs.Owners.{first_to_pass, name_read, refused_all, refused_more, refused_start, round_of}
 use Rattle.hash_ring.proofs.first_with_room.Goals as goal
 

@@ -1,6 +1,4 @@
-use Rattle.std.proofs.Common.{false}
-use Rattle.std.specs.Fn.{FnReturnsAt}
-use Rattle.hash_ring.specs.Points.{pairs, ring_of}
+use Rattle.hash_ring.proofs.Common.{false, FnReturnsAt, pairs, ring_of}
 use Rattle.hash_ring.proofs.Owners.{AreRefusedRound, spot}
 use Rattle.hash_ring.proofs.first_with_room.Given as goal
 

@@ -1,9 +1,4 @@
-use Rattle.std.proofs.Common.{◌≡◌, ◌∙◌, ◌++◌, List, ap, sym, subst, length, map, take}
-use Rattle.std.specs.List.Sorted.{IsPermutation}
-use Rattle.std.proofs.lemmas.List.{take_at}
-use Rattle.std.proofs.lemmas.List.Sorted.{IsPermutation-append_right, IsPermutation-trans}
-use Rattle.hash_ring.specs.declared.points.Point.{Point}
-use Rattle.hash_ring.specs.Points.{opened_up, pair_of, points_of}
+use Rattle.hash_ring.proofs.Common.{◌≡◌, ◌∙◌, ◌++◌, List, ap, sym, subst, length, map, take, take_at, IsPermutation-append_right, IsPermutation-trans, Point, opened_up, pair_of, points_of, IsPermutation}
 use Rattle.hash_ring.proofs.Edits.{over}
 use Rattle.hash_ring.proofs.merge_points.Goals as goal
 

@@ -1,8 +1,4 @@
-use Rattle.std.proofs.Common.{ℕ, ◌≡◌, ◌∙◌, ◌++◌, ◌∷◌, [], List, get_or, take, sym, ap}
-use Rattle.std.proofs.lemmas.List.{map-append, take_more}
-use Rattle.std.specs.Borrow.{Bor}
-use Rattle.hashers.specs.Text.{texts}
-use Rattle.hash_ring.specs.Points.{names_at, node_at, pairs}
+use Rattle.hash_ring.proofs.Common.{ℕ, ◌≡◌, ◌∙◌, ◌++◌, ◌∷◌, [], List, get_or, take, sym, ap, Bor, map-append, take_more, texts, names_at, node_at, pairs}
 use Rattle.hash_ring.proofs.Names.{read}
 use Rattle.hash_ring.proofs.names_of.Goals as goal
 

@@ -1,6 +1,4 @@
-use Rattle.std.proofs.Common.{◌≡◌, take}
-use Rattle.hashers.specs.Text.{texts}
-use Rattle.hash_ring.specs.Points.{names_at, pairs}
+use Rattle.hash_ring.proofs.Common.{◌≡◌, take, texts, names_at, pairs}
 use Rattle.hash_ring.proofs.names_of.Given as goal
 
 abbrev pub invariant-loop-at : goal.invariant-loop-at

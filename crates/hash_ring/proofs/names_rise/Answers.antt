@@ -1,7 +1,4 @@
-use Rattle.std.proofs.Common.{◌≡◌, rules}
-use Rattle.std.specs.Ordering.{is_lt}
-use Rattle.std.proofs.lemmas.Fn.{always_returns_same}
-use Rattle.hash_ring.specs.declared.Node.{Node}
+use Rattle.hash_ring.proofs.Common.{◌≡◌, rules, always_returns_same, Node, is_lt}
 use Rattle.hash_ring.proofs.Names.{by_bytes, rise_exactly}
 use Rattle.hash_ring.proofs.names_rise.Goals as goal
 

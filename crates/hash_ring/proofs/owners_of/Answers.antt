@@ -1,8 +1,4 @@
-use Rattle.std.proofs.Common.{ℕ, ◌≡◌, ◌<◌, ◌≤◌, ◌∙◌, length, take, ap, sym, subst, arith, min}
-use Rattle.std.specs.List.{All}
-use Rattle.std.proofs.lemmas.List.{length-take-le}
-use Rattle.hash_ring.specs.Ring.{AreOwners}
-use Rattle.hash_ring.specs.Points.{names_at, nodes_of}
+use Rattle.hash_ring.proofs.Common.{ℕ, ◌≡◌, ◌<◌, ◌≤◌, ◌∙◌, length, take, ap, sym, subst, arith, min, AreOwners, names_at, nodes_of, All, length-take-le}
 use Rattle.hash_ring.proofs.Edits.{over}
 use Rattle.hash_ring.proofs.owners_of.Goals as goal
 use Rattle.hash_ring.proofs.owners_of.Goals.{After-truncate}

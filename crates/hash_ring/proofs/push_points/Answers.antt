@@ -1,7 +1,5 @@
-use Rattle.std.proofs.Common.{◌≡◌, ◌++◌, take, length, ap, ◌∙◌}
-use Rattle.std.proofs.Math.Seq.{take-append_seam}
+use Rattle.hash_ring.proofs.Common.{◌≡◌, ◌++◌, take, length, ap, ◌∙◌, point, take-append_seam}
 use Rattle.std.specs.Hash.{le_bytes}
-use Rattle.hash_ring.specs.Ring.{point}
 use Rattle.hash_ring.proofs.PointLemmas.{one_more}
 use Rattle.hash_ring.proofs.push_points.Goals as goal
 

@@ -1,5 +1,4 @@
-use Rattle.std.proofs.Common.{◌≡◌, ◌++◌, length, take}
-use Rattle.hash_ring.specs.Points.{points_of}
+use Rattle.hash_ring.proofs.Common.{◌≡◌, ◌++◌, length, take, points_of}
 use Rattle.hash_ring.proofs.push_points.Given as goal
 
 abbrev pub invariant-loop-number : goal.invariant-loop-number

@@ -1,7 +1,4 @@
-use Rattle.std.proofs.Common.{◌+◌, ap, sym, refl, arith}
-use Rattle.std.proofs.lemmas.List.{length-map}
-use Rattle.std.proofs.lemmas.Grind.{common_steps}
-use Rattle.hash_ring.specs.Points.{pair_of, pairs}
+use Rattle.hash_ring.proofs.Common.{◌+◌, ap, sym, refl, arith, length-map, common_steps, pair_of, pairs}
 use Rattle.hash_ring.proofs.Owners.{none}
 use Rattle.hash_ring.proofs.Shares.{none_yet, first_read, last_places, next_point}
 use Rattle.hash_ring.proofs.shares_of.Goals as goal

@@ -1,5 +1,4 @@
-use Rattle.std.proofs.Common.{◌≤◌, ◌^◌}
-use Rattle.hash_ring.specs.Points.{pairs}
+use Rattle.hash_ring.proofs.Common.{◌≤◌, ◌^◌, pairs}
 use Rattle.hash_ring.proofs.Shares.{AreSharesUpto}
 use Rattle.hash_ring.proofs.shares_of.Given as goal
 

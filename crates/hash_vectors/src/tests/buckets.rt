@@ -4,6 +4,7 @@ ghost use Rattle.std.specs.Prelude.{◌≤◌};
 use crate::tests::{all_hold, same, same_replies, same_reply_at};
 use hash_buckets::{Buckets, Command, NoRoom, obey_all};
 use hashers::fnv::FNV1aHasher64;
+use hashers::jenkins::spooky_hash::SpookyHasher;
 use hashers::laws::Piecewise;
 use hashers::null::NullHasher;
 use std::alloc::{AllocError, Global};
@@ -127,7 +128,7 @@ fn of_three<H: Piecewise, const N: usize>(table: &Buckets<H, N>) -> [Option<u64>
 #[test]
 fn commands_in_order(rt: HostRuntime) {
     let alloc = rt.alloc();
-    let mut table = new_table::<FNV1aHasher64, 3>(&rt, alloc);
+    let mut table = new_table::<SpookyHasher, 3>(&rt, alloc);
     let commands = script(alloc).expect(&rt, "memory for the commands");
     let replies = obey_all(alloc, &mut table, commands).expect(&rt, "memory for the table");
     let wanted = [None, None, Some(1), Some(3), Some(3), None, None];
@@ -139,7 +140,7 @@ fn commands_in_order(rt: HostRuntime) {
 #[test]
 fn refused_in_commands(rt: HostRuntime) {
     let alloc = rt.alloc();
-    let mut table = match Buckets::<FNV1aHasher64, 3>::new(alloc) {
+    let mut table = match Buckets::<SpookyHasher, 3>::new(alloc) {
         Ok(table) => table,
         Err(_) => new_table(&rt, alloc),
     };

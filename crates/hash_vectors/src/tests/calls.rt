@@ -1,19 +1,15 @@
 //! Calls of the hashers beside those of the vectors, each once, by vectors, by values of other programs or by hand.
 use crate::tests::{all_hold, none_holds, same};
-use hash_keyed::pair::{Poly61Pair, poly61_pair};
-use hash_keyed::parts::{poly61_combine, poly61_state};
-use hash_keyed::poly61::{Poly61Hasher, poly61};
-use hash_more::crc32::{crc32, crc32_combine, crc32c, crc32c_combine};
 use hash_siphash::{sip_round, sip_unround};
 use hashers::fx_hash::{FxHasher, FxHasher32, FxHasher64};
 use hashers::jenkins::spooky_hash::{SpookyHasher, spooky};
 use hashers::jenkins::{Lookup3Hasher, OAATHasher};
 use hashers::laws::{
-    ByteStep, Piecewise, Undo, bucket_of, hash_of, run_pieces, run_words, run_words32, run_words64,
+    ByteStep, Piecewise, Undo, bucket_of, run_pieces, run_words, run_words32, run_words64,
     same_answers_later,
 };
-use hashers::null::{NullHasher, PassThroughHasher, passthrough, passthrough_combine};
-use hashers::oz::{DJB2Hasher, LoseLoseHasher, loselose_combine, sdbm, sdbm_combine};
+use hashers::null::{NullHasher, PassThroughHasher};
+use hashers::oz::DJB2Hasher;
 use hashers::promises::passthrough_goes_on;
 use std::hash::Hasher;
 
@@ -149,57 +145,4 @@ fn a_round_of_siphash(rt: HostRuntime) {
     sip_round(&mut v);
     sip_unround(&mut v);
     same(&rt, &v, &[1, 2, 3, 4]);
-}
-
-/// Hashes of joined texts, from those of the parts and the second one's length. Those of zeros are zlib's and of a program in Python.
-#[test]
-fn joined_texts(rt: HostRuntime) {
-    same(
-        &rt,
-        &[
-            sdbm_combine(sdbm(b"a"), sdbm(b"bcd"), 3),
-            sdbm_combine(97, 0, 8589934597),
-            loselose_combine(hash_of::<LoseLoseHasher>(b"ab"), 99, 1),
-            passthrough_combine(passthrough(b"abcdefgh"), passthrough(b"i"), 1),
-            crc32_combine(crc32(b"1234"), crc32(b"56789"), 5),
-            crc32_combine(0xCBF43926, 0x12345678, 8589934597),
-            crc32_combine(0xCBF43926, 0x12345678, 0x7FFFFFFFFFFF),
-            crc32c_combine(crc32c(b"1234"), crc32c(b"56789"), 5),
-        ],
-        &[
-            3518636162,
-            1724963039,
-            294,
-            0x6263646566676869,
-            0xCBF43926,
-            0x81D49321,
-            0xDCC659CD,
-            0xE3069283,
-        ],
-    );
-}
-
-const FOX: &[u8] = b"The quick brown fox jumps over the lazy dog";
-
-const KEY: u64 = 1234567890123456789;
-
-/// Values of a program in Python, by its whole numbers. The key is that of the default hasher.
-#[test]
-fn parts_and_pairs_of_poly61(rt: HostRuntime) {
-    let (front, back) = FOX.split_at(28);
-    let state = poly61_state(KEY, front).unwrap_or(0);
-    let mut pair = Poly61Pair::new(KEY, 7);
-    pair.write(b"The quick brown fox ");
-    pair.write(b"jumps over the lazy dog");
-    let wanted = (2910588923001171521, 5805623949759481314);
-    all_hold(
-        &rt,
-        &[
-            state == 1399353015904739961 && poly61(KEY, back) == 3219447624412592761,
-            poly61_combine(KEY, state, poly61(KEY, back), 15) == wanted.0,
-            poly61_state(KEY, b"abcdef").is_none(),
-            hash_of::<Poly61Hasher>(FOX) == wanted.0,
-            pair.finish() == wanted && poly61_pair(KEY, 7, FOX) == wanted,
-        ],
-    );
 }

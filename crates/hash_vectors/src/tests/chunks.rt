@@ -148,31 +148,40 @@ fn numbers_of_chunks(rt: HostRuntime) {
 fn calls_end_by_their_sizes(rt: HostRuntime) {
     let alloc = rt.alloc();
     let files = [whole(b"-", b"")];
-    let not_rising = "--least, --average (by default 64K) and --most must rise from 64 on, unlike";
-    let no_size = "invalid number of bytes";
+    let (no_least, no_average, no_most) = (
+        "--least must be a number of bytes, not",
+        "--average must be a number of bytes, not",
+        "--most must be a number of bytes, not",
+    );
     let calls = [
         ("-l64K", ""),
         ("-l65537", ""),
         ("-l1M", ""),
-        ("-l63", not_rising),
+        ("-l63", "--least must be 64 or more, not"),
         ("-m64K", ""),
-        ("-m65535", not_rising),
+        (
+            "-m65535",
+            "--most must be no less than --average (by default 64K or 4 times -l), not",
+        ),
         ("--average=64", ""),
-        ("--average=63", not_rising),
+        (
+            "--average=63",
+            "--average must be 64 or more, and no less than --least, not",
+        ),
         ("--average=1M", ""),
         ("--average=64k", ""),
         ("--average=1KB", ""),
         ("--average=1KiB", ""),
         ("-m1T", ""),
-        ("--average=17179869184G", no_size),
-        ("--average=", no_size),
-        ("-l10Q", no_size),
-        ("-l16E", no_size),
-        ("-l1Ki", no_size),
-        ("-l1B", no_size),
-        ("-lK", no_size),
-        ("-l+64", no_size),
-        ("-m18446744073709551616", no_size),
+        ("--average=17179869184G", no_average),
+        ("--average=", no_average),
+        ("-l10Q", no_least),
+        ("-l16E", no_least),
+        ("-l1Ki", no_least),
+        ("-l1B", no_least),
+        ("-lK", no_least),
+        ("-l+64", no_least),
+        ("-m18446744073709551616", no_most),
         ("-apoly61", "unknown hash"),
     ];
     for (turn, (word, failure)) in calls.iter().enumerate() {

@@ -87,34 +87,6 @@ fn chunks_of_a_text(rt: HostRuntime) {
     );
 }
 
-#[test]
-fn sizes_that_may_be(rt: HostRuntime) {
-    all_hold(
-        &rt,
-        &[
-            Cuts::new(64, 64, 64, 0, 0).is_some(),
-            Cuts::new(63, 64, 64, 0, 0).is_none(),
-            Cuts::new(65, 64, 65, 0, 0).is_none(),
-            Cuts::new(64, 65, 64, 0, 0).is_none(),
-        ],
-    );
-}
-
-/// An edit in the middle changes the chunks around it: those before stay, and those behind come again.
-#[test]
-fn an_edit_changes_few_chunks(rt: HostRuntime) {
-    let mut text = made();
-    text[2500] ^= 1;
-    let lengths = lengths(&rt, rt.alloc(), &cuts_of(&rt, 64, 256, 1024), &text);
-    all_hold(
-        &rt,
-        &[
-            lengths.as_slice().starts_with(&LENGTHS[..7]),
-            lengths.as_slice().ends_with(&LENGTHS[10..]),
-        ],
-    );
-}
-
 /// The chunks are the same ones however the reader gives its bytes, and under a limit the first ones of them.
 #[test]
 fn chunks_of_a_reader(rt: HostRuntime) {

@@ -8,20 +8,21 @@ use std::alloc::Global;
 use std::io::{ErrorKind, Read};
 use streams::rehearsal::Script;
 
-/// The probes of the key of one byte b are 0, b, 2b, ..: `null` answers 0, and lose lose the sum of the bytes.
+/// The probes of the key of one byte b are 0, b, 2b + 1, 3b + 4, ..: `null` answers 0, and lose lose the sum of the bytes.
 type ByStep = Bloom<NullHasher, LoseLoseHasher>;
 
 const PAIR: &str = "null byte_sum";
 
 /// The file of the filter of 100 bits and 4 probes that has the key of the byte 33. The hash is one that another language computed.
-const FILE: [u8; 80] = *b"hashers-bloom 1 0000000000000064 00000004 null byte_sum\n\
-    \x01\0\0\0\x02\0\0\0\x04\0\0\0\x08\0\0\0\x9e\x28\x14\x6d\xfc\x5b\xc3\xfc";
+const FILE: [u8; 80] = *b"hashers-bloom 2 0000000000000064 00000004 null byte_sum\n\
+    \x09\0\0\0\x02\0\0\0\x08\0\0\0\0\0\0\0\xa5\x3f\x2b\x9b\xa0\x09\x66\x7b";
 
 /// How a read ends.
 fn ended<R: Read>(alloc: Global, r: &mut R, pair: &str) -> &'static str {
     match ByStep::read_from(alloc, r, pair) {
         Ok(_) => "read",
         Err(Unread::Form) => "form",
+        Err(Unread::Version) => "version",
         Err(Unread::Pair) => "pair",
         Err(Unread::Hash) => "hash",
         Err(Unread::Failed(error)) => match error.kind() {
@@ -69,7 +70,8 @@ fn cut_and_changed(rt: HostRuntime) {
             changed[at] ^= bit;
             let end = ended(alloc, &mut changed.as_slice(), PAIR);
             let wanted = match at {
-                0..=15 | 32 | 41 => end == "form",
+                0..=13 | 32 | 41 => end == "form",
+                14 | 15 => end == "version",
                 42..=55 => end == "pair",
                 16..=40 => end == "form" || end == "hash" || end == "cut",
                 _ => end == "hash",
@@ -86,32 +88,32 @@ const REFUSED: [(&[u8], &str, &str); 9] = [
     (&FILE, "null byte_sum ", "pair"),
     (&FILE, "byte_sum null", "pair"),
     (
-        b"hashers-bloom 1 000000000000006A 00000004 null byte_sum\n",
+        b"hashers-bloom 2 000000000000006A 00000004 null byte_sum\n",
         PAIR,
         "form",
     ),
     (
-        b"hashers-bloom 2 0000000000000064 00000004 null byte_sum\n",
+        b"hashers-bloom 1 0000000000000064 00000004 null byte_sum\n",
         PAIR,
-        "form",
+        "version",
     ),
     (
-        b"hashers-bloom 1 ffffffffffffffff 00000004 null byte_sum\n12345678",
+        b"hashers-bloom 2 ffffffffffffffff 00000004 null byte_sum\n12345678",
         PAIR,
         "cut",
     ),
     (
-        b"hashers-bloom 1 0000000000000000 00000004 p\n\x5c\x07\x9b\x77\x9f\x08\xcb\x45",
+        b"hashers-bloom 2 0000000000000000 00000004 p\n\xe3\xeb\x29\x17\x93\xc9\xf5\x31",
         "p",
         "form",
     ),
     (
-        b"hashers-bloom 1 0000000000000001 00000000 p\n\x01\0\0\0\0\0\0\0\x02\x62\x09\x3f\xf8\x4a\xc4\x11",
+        b"hashers-bloom 2 0000000000000001 00000000 p\n\x01\0\0\0\0\0\0\0\xb5\x60\x1e\x07\xa3\xcd\xaa\x7e",
         "p",
         "form",
     ),
     (
-        b"hashers-bloom 1 0000000000000001 00000001 p\n\x02\0\0\0\0\0\0\0\xac\x03\xce\x56\xb5\xec\x33\x2a",
+        b"hashers-bloom 2 0000000000000001 00000001 p\n\x02\0\0\0\0\0\0\0\x93\x72\x61\x3b\x65\x30\x6b\x5c",
         "p",
         "form",
     ),

@@ -2,7 +2,7 @@
 use crate::byte_sum::ByteSum;
 use crate::tests::readers::{End, end_of, same_end};
 use crate::tests::{all_hold, all_hold_at, same_at};
-use hashers::fnv::{FNV1aHasher64, fnv1a64};
+use hashers::jenkins::spooky_hash::{SpookyHasher, spooky};
 use hashers::laws::Piecewise;
 use hashers::reader::{Fault, hash_reader, hash_stream};
 use std::alloc::{AllocError, Global};
@@ -23,15 +23,15 @@ const LIMITS: [(u64, End, u64); 3] = [
 #[test]
 fn inputs_of_many_pieces(rt: HostRuntime) {
     for (turn, (limit, end, reads)) in LIMITS.iter().enumerate() {
-        let want = fnv1a64(&LONG[..(*limit).min(20_000) as usize]);
-        let mut h = FNV1aHasher64::fresh();
+        let want = spooky(&LONG[..(*limit).min(20_000) as usize]);
+        let mut h = SpookyHasher::fresh();
         let mut r = Script::new(&LONG, usize::MAX);
-        let outcome = hash_reader::<FNV1aHasher64, Script, 4096>(&mut h, &mut r, *limit);
+        let outcome = hash_reader::<SpookyHasher, Script, 4096>(&mut h, &mut r, *limit);
         same_end(&rt, turn, end_of(outcome), *end);
         same_at(&rt, turn, &[h.answer(), r.reads], &[want, *reads]);
-        let mut g = FNV1aHasher64::fresh();
+        let mut g = SpookyHasher::fresh();
         let mut s = Script::new(&LONG, usize::MAX);
-        let outcome = hash_stream::<FNV1aHasher64, Script, 4096>(&mut g, &mut s, *limit);
+        let outcome = hash_stream::<SpookyHasher, Script, 4096>(&mut g, &mut s, *limit);
         same_end(&rt, turn, end_of(outcome), *end);
         same_at(&rt, turn, &[g.answer(), s.reads], &[want, *reads]);
     }
@@ -83,10 +83,10 @@ fn faults_keep_kind_and_words(rt: HostRuntime) {
         ErrorKind::Interrupted,
         ErrorKind::Other,
     ] {
-        let mut h = FNV1aHasher64::fresh();
+        let mut h = SpookyHasher::fresh();
         let mut r = Failing { kind };
-        let by_pieces = hash_reader::<FNV1aHasher64, Failing, 16>(&mut h, &mut r, 9).err();
-        let by_text = hash_stream::<FNV1aHasher64, Failing, 16>(&mut h, &mut r, 9).err();
+        let by_pieces = hash_reader::<SpookyHasher, Failing, 16>(&mut h, &mut r, 9).err();
+        let by_text = hash_stream::<SpookyHasher, Failing, 16>(&mut h, &mut r, 9).err();
         for fault in [by_pieces, by_text] {
             match fault {
                 Some(fault) => all_hold(&rt, &[is_told(rt.alloc(), fault, kind)]),
@@ -99,11 +99,11 @@ fn faults_keep_kind_and_words(rt: HostRuntime) {
 /// For programmers a fault shows what the read answered in its own form.
 #[test]
 fn faults_for_programmers(rt: HostRuntime) {
-    let mut h = FNV1aHasher64::fresh();
+    let mut h = SpookyHasher::fresh();
     let mut r = Failing {
         kind: ErrorKind::TimedOut,
     };
-    match hash_stream::<FNV1aHasher64, Failing, 16>(&mut h, &mut r, 9) {
+    match hash_stream::<SpookyHasher, Failing, 16>(&mut h, &mut r, 9) {
         Ok(_) => all_hold(&rt, &[false]),
         Err(fault) => {
             let told: Result<String, AllocError> = format!(in rt.alloc(); "{fault:?}");

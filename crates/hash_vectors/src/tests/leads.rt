@@ -1,10 +1,7 @@
 //! What leads to a hash, each call once.
 use crate::tests::{all_hold, same};
-use block_laws::{block_for_murmur3_128, word_for_murmur3_32, word_for_xxh32, word_for_xxh64};
 use hash_more::crc32::{crc32, crc32_ending, crc32c, crc32c_ending};
-use hash_murmur3::{Murmur3Hasher32, Murmur3Hasher128};
 use hash_xxh3::{xxh3_64, xxh3_128};
-use hash_xxhash::{Xxh32Hasher, Xxh64Hasher};
 use hashers::fx_hash::{FxHasher32, FxHasher64};
 use hashers::jenkins::Lookup3Hasher;
 use hashers::jenkins::spooky_hash::SpookyHasher;
@@ -53,60 +50,6 @@ fn to_fx_and_the_crcs(rt: HostRuntime) {
             crc32c_ending(crc32c(b"12345"), 0xE3069283) == *b"6789",
             bytes_for(7, xxh3_64(7, b"abcdefgh")) == *b"abcdefgh",
             bytes_for_wide(7, xxh3_128(7, b"abcdefghijklmnop")) == *b"abcdefghijklmnop",
-        ],
-    );
-}
-
-/// A word in a block of 16 with a block behind it, and one behind the whole blocks.
-#[test]
-fn to_hashes_by_xxh32(rt: HostRuntime) {
-    let front = b"0123456789abcdefghij";
-    let back = b"the end of a block, another block, and more";
-    let word = word_for_xxh32(7, front, back, 0x12345678);
-    let mut hasher = Xxh32Hasher::new(7);
-    hasher.write(front);
-    hasher.write(&word);
-    hasher.write(back);
-    let behind = word_for_xxh32(7, front, b"more", 0x12345678);
-    let mut other = Xxh32Hasher::new(7);
-    other.write(front);
-    other.write(&behind);
-    other.write(b"more");
-    all_hold(
-        &rt,
-        &[hasher.hash() == 0x12345678, other.hash() == 0x12345678],
-    );
-}
-
-#[test]
-fn to_hashes_by_the_block(rt: HostRuntime) {
-    let word = word_for_murmur3_32(7, b"abcd", b"more behind", 0x12345678);
-    let mut hasher = Murmur3Hasher32::new(7);
-    hasher.write(b"abcd");
-    hasher.write(&word);
-    hasher.write(b"more behind");
-    let block = block_for_murmur3_128(
-        7,
-        b"abcdefghabcdefgh",
-        b"more, and more behind that",
-        (3, 5),
-    );
-    let mut wide = Murmur3Hasher128::new(7);
-    wide.write(b"abcdefghabcdefgh");
-    wide.write(&block);
-    wide.write(b"more, and more behind that");
-    let front = b"0123456789abcdef0123456789abcdef01234567";
-    let eight = word_for_xxh64(7, front, b"and back", 0x123456789abcdef0);
-    let mut other = Xxh64Hasher::new(7);
-    other.write(front);
-    other.write(&eight);
-    other.write(b"and back");
-    all_hold(
-        &rt,
-        &[
-            hasher.hash() == 0x12345678,
-            wide.hash() == (3, 5),
-            other.finish() == 0x123456789abcdef0,
         ],
     );
 }

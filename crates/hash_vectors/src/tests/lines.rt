@@ -10,10 +10,8 @@ use std::io::{BufWriter, ErrorKind};
 use std::process::Abort;
 use streams::rehearsal::{Paper, Script, Trouble, arguments_of};
 use text_set::RandomKeys;
-use unique_lines::once::dedup;
 use unique_lines::outcome::{Outcome, call_of, outcome_of};
-use unique_lines::tally::{Which, tally};
-use unique_lines::{Ended, Failure, TooMany};
+use unique_lines::{Failure, TooMany};
 
 /// That the bytes are as wanted.
 fn same_bytes(rt: &impl Abort, got: &[u8], want: &[u8]) {
@@ -142,7 +140,6 @@ fn run_all<H: Fresh>(
             version: "version\n",
             list: "",
         },
-        40,
         inputs,
         failures,
         &mut output,
@@ -328,7 +325,6 @@ fn each_fault_is_told(rt: HostRuntime) {
         (Failure::Unwritten(None), "write error"),
         (Failure::NoMemory, "out of memory"),
         (Failure::Own(TooMany::Texts), "too many different lines"),
-        (Failure::Own(TooMany::Lines), "too many lines"),
     ];
     for (fault, failure) in told {
         all_hold(&rt, &[failure_of(&Outcome::Failed(fault)) == failure]);
@@ -422,64 +418,6 @@ fn nobody_reads_any_more(rt: HostRuntime) {
     let closed = Outcome::Failed(Failure::Unwritten(Some(io::Error::from(ErrorKind::BrokenPipe))));
     let nothing = Outcome::Failed(Failure::Unwritten(None));
     all_hold(&rt, &[status_of(&closed) == 141, status_of(&nothing) == 1]);
-}
-
-/// Whether a run under a limit ended well, and said that there were no more lines, or that there were.
-fn met(end: &Result<Ended, Failure>, fits: bool) -> bool {
-    match end {
-        Ok(Ended::Whole) => fits,
-        Ok(Ended::TooManyLines) => !fits,
-        _ => false,
-    }
-}
-
-/// Whether runs over two inputs under a limit, onto this paper, say so of the lines.
-fn limited(alloc: Global, limit: u64, fits: bool, w: &mut Paper) -> io::Result<bool> {
-    let mut output = BufWriter::with_capacity(alloc, HELD, w)?;
-    let (front, back) = TEXT.split_at(4);
-    let once = dedup(
-        alloc,
-        Alike,
-        b'\n',
-        limit,
-        &mut [front, back],
-        &mut Failures::new(),
-        &mut output,
-    );
-    let which = Which {
-        counts: true,
-        repeated: false,
-        unique: false,
-    };
-    let counted = tally(
-        alloc,
-        Alike,
-        which,
-        b'\n',
-        limit,
-        &mut [TEXT],
-        &mut Failures::new(),
-        &mut output,
-    );
-    Ok(met(&once, fits) && met(&counted, fits))
-}
-
-/// Beyond the limit no line is written, and no count.
-#[test]
-fn more_lines_than_the_limit(rt: HostRuntime) {
-    let all = "b\na\nc\n      2 b\n      2 a\n      1 c\n";
-    for (limit, fits, output) in [
-        (0, false, ""),
-        (1, false, "b\n"),
-        (4, false, "b\na\n"),
-        (5, true, all),
-        (6, true, all),
-    ] {
-        let mut paper = Paper::sound(64);
-        let met = limited(rt.alloc(), limit, fits, &mut paper);
-        all_hold(&rt, &[met.unwrap_or(false)]);
-        same_bytes(&rt, paper.text(), output.as_bytes());
-    }
 }
 
 /// Where a request for memory is refused, what was written is a beginning of the output.

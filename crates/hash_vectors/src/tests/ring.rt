@@ -50,15 +50,6 @@ fn owners_of_three_nodes(rt: HostRuntime) {
     all_hold(&rt, &[ring.len() == 3, first == Some(3)]);
 }
 
-#[test]
-fn a_node_goes(rt: HostRuntime) {
-    let alloc = rt.alloc();
-    let mut ring = trees(&rt, alloc);
-    let gone = [ring.remove(b"oak"), ring.remove(b"oak")];
-    check_owners(&rt, alloc, &ring, b"a", &[b"ash", b"elm"]);
-    all_hold(&rt, &[gone == [Some(2), None]]);
-}
-
 /// A node.
 fn node(alloc: Global, name: &[u8], weight: u64) -> Result<Node, AllocError>
     requires { 1 ≤ weight }
@@ -77,26 +68,6 @@ fn four_nodes(alloc: Global, last: &[u8]) -> Result<Vec<Node>, AllocError>
     let ash = node(alloc, b"ash", 3)?;
     let last = node(alloc, last, 1)?;
     Ok(vec![in alloc; oak, elm, ash, last]?)
-}
-
-/// All at once, as one after the other; and two of one name, which are told.
-#[test]
-fn all_nodes_at_once(rt: HostRuntime) {
-    let alloc = rt.alloc();
-    let nodes = four_nodes(alloc, b"fir").expect(&rt, "memory for the nodes");
-    match Ring::<FNV1aHasher64>::from_nodes(alloc, nodes) {
-        Ok(mut ring) => {
-            let fir = ring.remove(b"fir");
-            check_owners(&rt, alloc, &ring, b"a", &[b"oak", b"ash", b"elm"]);
-            all_hold(&rt, &[fir == Some(1)]);
-        }
-        Err(_) => panic!(rt; "four nodes are no ring"),
-    }
-    let twins = four_nodes(alloc, b"elm").expect(&rt, "memory for the nodes");
-    match Ring::<FNV1aHasher64>::from_nodes(alloc, twins) {
-        Err(Refused::IsThere(nodes)) => all_hold(&rt, &[nodes.len() == 4]),
-        _ => panic!(rt; "two nodes of one name are a ring"),
-    }
 }
 
 /// How much of the ring each node owns, and who owns its places, by a plain program.
@@ -126,22 +97,6 @@ fn shares_and_owners_of_places(rt: HostRuntime) {
     for (place, want) in places.iter().zip(wanted) {
         all_hold(&rt, &[ring.owner_at(*place) == Some(want)]);
     }
-}
-
-/// The first owner whom a test passes: of `a` the owners are oak, ash and elm.
-#[test]
-fn owners_with_room(rt: HostRuntime) {
-    let ring = trees(&rt, rt.alloc());
-    let (oak, elm): (&[u8], &[u8]) = (b"oak", b"elm");
-    let second = ring.owner_below(b"a", |name| name != oak);
-    let last = ring.owner_below(b"a", |name| name == elm);
-    let none = ring.owner_below(b"a", |_| false);
-    same_names(
-        &rt,
-        &[second.unwrap_or(b""), last.unwrap_or(b"")],
-        &[b"ash", b"elm"],
-    );
-    all_hold(&rt, &[none.is_none()]);
 }
 
 /// Where memory is refused all nodes come back, or no shares; the next call makes them.

@@ -1,13 +1,16 @@
 //! How evenly hashes spread keys: the numbers over keys in memory.
 use crate::tests::all_hold;
 use cli::frame::{Request, request_of};
-use hash_names::table::Kind;
+use hash_kinds::table::Kind;
+use hash_names::table::Ported;
+use hash_spread::advice::{Advice, advise};
 use hash_spread::call::{call_of, kinds_of, settings_of, unknown_name};
-use hash_spread::chance::{Chance, equal_pairs};
+use hash_spread::chance::{Chance, equal_pairs, is_within};
 use hash_spread::counts::{Counts, Spread, collisions, spread_of};
 use hash_spread::failure::{Failure, NoTable};
 use hash_spread::keys::{Layout, read_keys};
 use hash_spread::named::{Hashed, counts_by};
+use hash_spread::rows::TableRow;
 use hash_spread::sizes::{Sizes, sizes_of};
 use std::alloc::{AllocError, Global};
 use std::io::{BufReader, ErrorKind};
@@ -172,8 +175,8 @@ fn numbers_of_names(rt: HostRuntime) {
     all_hold(
         &rt,
         &[
-            short(counts_of_three(alloc, Kind::Null)) == (3, 9, 9),
-            short(counts_of_three(alloc, Kind::LoseLose)) == (1, 9, 5),
+            short(counts_of_three(alloc, Kind::Ported(Ported::Null))) == (3, 9, 9),
+            short(counts_of_three(alloc, Kind::Ported(Ported::LoseLose))) == (1, 9, 5),
         ],
     );
 }
@@ -201,6 +204,50 @@ fn numbers_by_chance(rt: HostRuntime) {
             are_near(many.deviation, 49486.9184941) && are_near(many.empty, 0.0),
             are_near(equal_pairs(65536, 32), 0.4999924),
             are_near(equal_pairs(3, 0), 3.0),
+            is_within(2, 65536, 32) && !is_within(3, 65536, 32) && !is_within(1, 65536, 64),
+        ],
+    );
+}
+
+/// A row of 1000 keys in 1024 buckets, where chance gives 1975.6 squares, and 44.7 is their standard deviation.
+fn row(kind: Kind, collisions: u128, squares: u128, time: f64) -> TableRow {
+    let first = Spread {
+        buckets: 1024,
+        fullest: 5,
+        empty: 380,
+        squares,
+    };
+    TableRow {
+        kind,
+        counts: Counts {
+            collisions,
+            first,
+            second: None,
+        },
+        time: Some(time),
+    }
+}
+
+#[test]
+fn advice_by_rows(rt: HostRuntime) {
+    let good = row(Kind::Xxh64, 0, 1975, 9.0);
+    let faster = row(Kind::Xxh3, 0, 2100, 5.0);
+    let equal = row(Kind::Murmur3At32, 1, 1975, 4.0);
+    let uneven = row(Kind::SipHash13, 0, 2120, 3.0);
+    let far = row(Kind::Ported(Ported::PassThrough), 0, 1975, 1.0);
+    all_hold(
+        &rt,
+        &[
+            matches!(
+                advise(1000, &[good, faster, equal, uneven, far]),
+                Advice::Take(Kind::Xxh3)
+            ),
+            matches!(
+                advise(1000, &[far, uneven, good, equal]),
+                Advice::Take(Kind::Xxh64)
+            ),
+            matches!(advise(1000, &[far, uneven, equal]), Advice::NoHash),
+            matches!(advise(999, &[good, faster]), Advice::TooFew),
         ],
     );
 }
@@ -282,7 +329,7 @@ fn refused_memory(rt: HostRuntime) {
                 keys,
                 hashes: Vec::new(alloc),
             };
-            let counts = counts_by(alloc, Kind::LoseLose, sizes, &mut hashed);
+            let counts = counts_by(alloc, Kind::Ported(Ported::LoseLose), sizes, &mut hashed);
             let refused = counts == Err(AllocError);
             all_hold(&rt, &[refused || short(counts) == (1, 9, 5)]);
         }

@@ -1,23 +1,14 @@
-//! Tests of two texts, and texts of one hash that no test tells apart.
-use super::vectors::in_one;
-use crate::tests::{all_hold, all_hold_at, none_holds};
+//! Tests of two texts, and two texts of one hash.
+use crate::tests::{all_hold, all_hold_at, none_holds, same};
 use crate::times31::Times31;
-use block_laws::{
-    apart_by_block_murmur3_128, apart_by_word_murmur3_32, apart_by_word_xxh32, apart_by_word_xxh64,
-};
 use hashers::fnv::FNV1aHasher64;
 use hashers::jenkins::spooky_hash::SpookyHasher;
 use hashers::laws::{
-    apart_by_block, apart_by_one, apart_by_one_fx, apart_by_one_word_fx32, apart_by_one_word_fx64,
-    apart_by_stretch, apart_by_zeros, apart_djb2, apart_fnv32, apart_fnv64, apart_sdbm,
-    differ_at_one_place, differ_in_one_block, differ_in_one_stretch, is_window, same_word,
+    apart_by_one, apart_by_one_fx, apart_by_one_word_fx32, apart_by_one_word_fx64, apart_by_zeros,
+    apart_djb2, apart_fnv32, apart_fnv64, apart_sdbm, differ_at_one_place, is_window, same_word,
 };
-use more_laws::windows::{
-    apart_crc32, apart_crc32_bits, apart_crc32c, apart_crc32c_bits, apart_djb2_add, apart_fnv1_32,
-    apart_fnv1_64,
-};
+use hashers::oz::{djb2, sdbm};
 use std::hash::Hasher;
-use xxh3_laws::{apart_xxh3, apart_xxh128};
 
 /// Whether a test holds of two texts.
 fn holds(test: &str, x: &[u8], y: &[u8]) -> Option<bool> {
@@ -28,22 +19,7 @@ fn holds(test: &str, x: &[u8], y: &[u8]) -> Option<bool> {
         "sdbm" => apart_sdbm(x, y),
         "fnv1a64" => apart_fnv64(x, y),
         "fnv1a32" => apart_fnv32(x, y),
-        "fnv1_64" => apart_fnv1_64(x, y),
-        "fnv1_32" => apart_fnv1_32(x, y),
-        "djb2_add" => apart_djb2_add(x, y),
-        "crc32" => apart_crc32(x, y),
-        "crc32c" => apart_crc32c(x, y),
-        "crc32 by bits" => apart_crc32_bits(x, y),
-        "crc32c by bits" => apart_crc32c_bits(x, y),
         "zeros" => apart_by_zeros(x, y),
-        "block" => apart_by_block(x, y) && differ_in_one_block(x, y),
-        "stretch" => apart_by_stretch(x, y) && differ_in_one_stretch(x, y),
-        "murmur3_32" => apart_by_word_murmur3_32(x, y),
-        "murmur3_128" => apart_by_block_murmur3_128(x, y),
-        "xxh32" => apart_by_word_xxh32(x, y),
-        "xxh64" => apart_by_word_xxh64(x, y),
-        "xxh3" => apart_xxh3(x, y),
-        "xxh128" => apart_xxh128(x, y),
         "window" => is_window(x, y, 2, 0),
         "high bits" => is_window(x, y, 2, 0xe0),
         "one place" => differ_at_one_place(x, y),
@@ -51,22 +27,9 @@ fn holds(test: &str, x: &[u8], y: &[u8]) -> Option<bool> {
     })
 }
 
-/// Six zeros.
-const ZEROS: &[u8] = &[0; 6];
-
-/// What the polynomials of the CRCs are as texts: 33 bits, in five places.
-const IEEE: &[u8] = &[0x41, 0x06, 0x71, 0xDB, 0x01, 0];
-
-const CASTAGNOLI: &[u8] = &[0xF1, 0x76, 0xEC, 0x05, 0x01, 0];
-
-/// 32 bits in five bytes, and one bit more.
-const BURST: &[u8] = &[0, 0x80, 0, 0, 0, 0x7F];
-
-const LONGER: &[u8] = &[0, 0x80, 0, 0, 0, 0x80];
-
 /// A test, two texts, and whether it holds of them. Where it does not, most pairs are one place wider or one bit looser.
 #[rattlefmt::skip]
-const PAIRS: [(&str, &[u8], &[u8], bool); 56] = [
+const PAIRS: [(&str, &[u8], &[u8], bool); 23] = [
     ("one byte, fnv1a64", b"ab", b"cb", true),
     ("one byte, fnv1a64", b"ab", b"ba", false),
     ("one byte, times31", b"Aa", b"Ba", true),
@@ -80,42 +43,9 @@ const PAIRS: [(&str, &[u8], &[u8], bool); 56] = [
     ("fnv1a64", b"abcd", b"dbca", false),
     ("fnv1a32", b"ab", b"ba", true),
     ("fnv1a32", b"abc", b"cba", false),
-    ("fnv1_64", b"abcd", b"xyzd", true),
-    ("fnv1_64", b"abcd", b"wxyz", false),
-    ("fnv1_32", b"abcd", b"axyd", true),
-    ("fnv1_32", b"abcd", b"xyzd", false),
-    ("djb2_add", b"printf", b"scanfs", true),
-    ("djb2_add", b"printfs", b"scanfst", false),
-    ("djb2_add", b"Ab", b"BA", false),
-    ("crc32", ZEROS, &[0, 0x06, 0x71, 0xDB, 0x01, 0], true),
-    ("crc32", ZEROS, IEEE, false),
-    ("crc32c", ZEROS, &[0, 0x06, 0x71, 0xDB, 0x01, 0], true),
-    ("crc32c", ZEROS, CASTAGNOLI, false),
-    ("crc32 by bits", ZEROS, BURST, true),
-    ("crc32 by bits", ZEROS, LONGER, false),
-    ("crc32 by bits", ZEROS, IEEE, false),
-    ("crc32 by bits", b"abc", b"ab", false),
-    ("crc32c by bits", ZEROS, BURST, true),
-    ("crc32c by bits", ZEROS, LONGER, false),
     ("zeros", b"a", b"a\0\0", true),
     ("zeros", b"\0", b"", false),
     ("zeros", &[0; 191], &[0; 192], false),
-    ("block", b"0123456789abX", b"0123456789abY", true),
-    ("block", b"0123456789abX", b"0123456789aBY", false),
-    ("stretch", b"0123456789abX", b"0123456789aBY", true),
-    ("stretch", b"0123456789abcdefX", b"0123456789abcdeFY", false),
-    ("murmur3_32", b"abcdefgh", b"abcdEFGH", true),
-    ("murmur3_32", b"abcdefgh", b"abcDEfgh", false),
-    ("murmur3_128", b"0123456789abcdefg", b"0023456789abcdeFg", true),
-    ("murmur3_128", b"0123456789abcdefg", b"0123456789abcdeFG", false),
-    ("xxh32", b"abcdefgh", b"abcdEFGH", true),
-    ("xxh32", b"abcdefgh", b"abcDEfgh", false),
-    ("xxh64", b"01234567abcdefgh!", b"01234567abcd_fgh!", true),
-    ("xxh64", b"01234567abcdefgh!", b"01234567abcdefgh?", false),
-    ("xxh3", b"abcdefgh", b"hgfedcba", true),
-    ("xxh3", b"abcdefghi", b"ihgfedcba", false),
-    ("xxh128", b"0123456789abcdef", b"fedcba9876543210", true),
-    ("xxh128", b"0123456789abcdefg", b"gfedcba9876543210", false),
     ("window", b"abcd", b"axyd", true),
     ("window", b"abcd", b"xyzd", false),
     ("window", b"ab", b"abc", false),
@@ -155,22 +85,14 @@ fn two_words_and_two_lists(rt: HostRuntime) {
     );
 }
 
-/// Pairs of one hash, some of which a search over random texts found.
-const COLLISIONS: [(&str, &[u8], &[u8]); 6] = [
-    ("djb2", b"ogwmava", b"vxbavgx"),
-    ("djb2", b"bC", b"cb"),
-    ("sdbm", b"N5<k", b"o6],"),
-    ("djb2_add", b"Ab", b"BA"),
-    ("crc32", ZEROS, IEEE),
-    ("crc32c", ZEROS, CASTAGNOLI),
-];
-
+/// Texts of one hash that differ in one place more than a window has. A search over random texts found them.
 #[test]
-fn texts_of_one_hash(rt: HostRuntime) {
-    for (row, (name, x, y)) in COLLISIONS.iter().enumerate() {
-        let (one, other) = (in_one(name, [0; 2], x), in_one(name, [0; 2], y));
-        all_hold_at(&rt, row, &[one.is_some() && one == other, x != y]);
-    }
+fn one_place_wider(rt: HostRuntime) {
+    same(
+        &rt,
+        &[djb2(b"ogwmava"), sdbm(b"N5<k")],
+        &[djb2(b"vxbavgx"), sdbm(b"o6],")],
+    );
 }
 
 /// The first block of two texts of one hash of 128 bits by SpookyHash, as little-endian words.

@@ -7,6 +7,7 @@ use crate::tests::{all_hold, same};
 use crate::uses::{bloom_hashes, fingerprint, may_collide, remember, replace_last};
 use hashers::fnv::{FNV1aHasher64, FnvBuildHasher, FnvHashSet, fnv1a64};
 use hashers::jenkins::oaat;
+use hashers::jenkins::spooky_hash::SpookyHasher;
 use hashers::oz::{DJB2Hasher, djb2};
 use std::hash::Hasher;
 
@@ -22,7 +23,7 @@ fn examples(rt: HostRuntime) {
         &[djb2(b"abxyz"), fnv1a64(b"abc"), oaat(b"abc")],
     );
     let alloc = rt.alloc();
-    let mut table = new_table::<FNV1aHasher64, 64>(&rt, alloc);
+    let mut table = new_table::<SpookyHasher, 64>(&rt, alloc);
     all_hold(
         &rt,
         &[
@@ -58,7 +59,7 @@ fn relatives_sets_and_keys(rt: HostRuntime) {
             matches!(map_by_its_builder(alloc), Ok(Some(2))),
             matches!(map_by_its_type(alloc), Ok(Some(4))),
             matches!(
-                count_words::<FNV1aHasher64>(alloc, &["so", "no", "so"]),
+                count_words::<SpookyHasher>(alloc, &["so", "no", "so"]),
                 Ok(_)
             ),
             matches!(see(&mut seen, 7), Ok(true)) && matches!(see(&mut seen, 7), Ok(false)),

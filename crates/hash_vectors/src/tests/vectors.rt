@@ -3,147 +3,131 @@ ghost use Rattle.std.specs.Prelude.{⊤};
 
 use crate::tests::{all_hold, all_hold_at};
 use hash_keyed::poly61::{Poly61Hasher, poly61};
-use hash_more::crc32::{Crc32Hasher, Crc32cHasher, crc32, crc32c};
-use hash_more::djb2_add::{Djb2AddHasher, djb2_add};
+use hash_kinds::table::{by_kind, kind_named};
+use hash_kinds::wide::{WideHash, both};
+use hash_more::crc32::{Castagnoli, CrcRule, Ieee, crc32, crc32c};
+use hash_more::djb2_add::{Djb2AddRule, djb2_add};
 use hash_more::elf::elf;
-use hash_more::fnv1::{Fnv1Hasher32, Fnv1Hasher64, fnv1_32, fnv1_64};
-use hash_more::joaat::{JoaatHasher, joaat};
+use hash_more::fnv1::{Fnv1Rule32, Fnv1Rule64, fnv1_32, fnv1_64};
+use hash_more::joaat::{JoaatRule, joaat};
 use hash_murmur3::{Murmur3Hasher32, Murmur3Hasher128, murmur3_32, murmur3_128};
-use hash_names::table::{by_kind, kind_named};
 use hash_names::task::HashTask;
-use hash_names::wide::both;
 use hash_siphash::{SipHasher13, SipHasher24, SipKey, siphash13, siphash24};
-use hash_xxh3::{Xxh3Hasher, xxh3_64};
+use hash_xxh3::{Xxh3Hasher, xxh3_64, xxh3_128};
 use hash_xxhash::{Xxh32Hasher, Xxh64Hasher, xxh32, xxh64};
-use hashers::fnv::{FNV1aHasher32, FNV1aHasher64, fnv1a32, fnv1a64};
+use hashers::fnv::{Fnv1aRule32, Fnv1aRule64, fnv1a32, fnv1a64};
 use hashers::fx_hash::{FxHasher, FxHasher32, FxHasher64, fxhash, fxhash32, fxhash64};
 use hashers::jenkins::spooky_hash::{spooky, spooky_v1};
-use hashers::jenkins::{OAATHasher, lookup3, oaat};
+use hashers::jenkins::{OaatRule, lookup3, oaat};
 use hashers::laws::{Piecewise, Streamed, Undo};
 use hashers::null::{null, passthrough};
-use hashers::oz::{DJB2Hasher, LoseLoseHasher, SDBMHasher, djb2, loselose, sdbm};
-use hashers::pigeon::{Bricolage, bricolage};
+use hashers::oz::{Djb2Rule, LoseLoseRule, SdbmRule, djb2, loselose, sdbm};
+use hashers::pigeon::{BricolageRule, bricolage};
+use hashers::rules::{ByteHasher, Plain, PlainUndo, UndoRule};
 use std::hash::Hasher;
 use std::marker::PhantomData;
 
-/// The name of a hash, its seeds or its key, a text, and the hash.
+/// Of each line of `vectors.txt` the name, the seeds or the key, the text, and the hash.
 type Row = (&'static str, [u64; 2], &'static [u8], u128);
 
 /// No seeds.
 const NONE: [u64; 2] = [0, 0];
 
-/// The key of the authors' vectors of SipHash.
-const KEY: [u64; 2] = [0x0706050403020100, 0x0f0e0d0c0b0a0908];
-
-/// A key of the polynomial.
-const KEY61: [u64; 2] = [1234567890123456789, 0];
-
-const FOX: &[u8] = b"The quick brown fox jumps over the lazy dog";
-
-const LONG: &[u8] = b"0123456789abcdefghijklmnopqrstuvwxyzABCDEFGHIJKLMNOPQRSTUVWXYZ0123456789";
-
+// declared: vectors
+/// Those lines but the ones of SIPHASH24.
 #[rattlefmt::skip]
-const RISING: [u8; 32] = [
-    0, 1, 2, 3, 4, 5, 6, 7, 8, 9, 10, 11, 12, 13, 14, 15, 16, 17, 18, 19, 20, 21, 22, 23, 24, 25, 26, 27, 28, 29, 30, 31];
-
-#[rattlefmt::skip]
-const FALLING: [u8; 32] = [
-    31, 30, 29, 28, 27, 26, 25, 24, 23, 22, 21, 20, 19, 18, 17, 16, 15, 14, 13, 12, 11, 10, 9, 8, 7, 6, 5, 4, 3, 2, 1, 0];
-
-/// From the original's tests and program; for SpookyHash from R's digest; for the CRCs from their catalogue and RFC 3720; for FNV-1 from
-/// its authors; for `djb2_add` and ELF's hash from tools for ELF; for joaat from Wikipedia; for XXH32, XXH64 and XXH3 from `xxhsum` and
-/// libxxhash; for MurmurHash3 from smhasher, Wikipedia and the Go package spaolacci/murmur3; for SipHash from Rust's std, Python and
-/// OpenSSL; for the polynomial from a program in Python.
-#[rattlefmt::skip]
-const VECTORS: [Row; 152] = [
-    ("fnv1a32", NONE, b"", 2166136261),
-    ("fnv1a32", NONE, b"a", 3826002220),
-    ("fnv1a64", NONE, b"", 14695981039346656037),
-    ("fnv1a64", NONE, b"a", 12638187200555641996),
-    ("fnv1a64", NONE, b"b", 12638190499090526629),
-    ("fnv1a64", NONE, b"ab", 620445648566982762),
-    ("fnv1a64", NONE, b"abcd", 18165163011005162717),
-    ("fnv1a64", NONE, b"abcdefg", 4642726675185563447),
-    ("djb2", NONE, b"", 5381),
-    ("djb2", NONE, b"a", 177604),
-    ("djb2", NONE, b"b", 177607),
-    ("djb2", NONE, b"ab", 5860902),
-    ("djb2", NONE, b"bC", 5861092),
-    ("djb2", NONE, b"cb", 5861092),
-    ("djb2", NONE, b"bc", 5861060),
-    ("sdbm", NONE, b"", 0),
-    ("sdbm", NONE, b"a", 97),
-    ("sdbm", NONE, b"b", 98),
-    ("sdbm", NONE, b"ab", 6363201),
-    ("sdbm", NONE, b"\0", 0),
-    ("sdbm", NONE, b"abc", 807794786),
-    ("sdbm", NONE, b"abcd", 3518636162),
-    ("sdbm", NONE, b"abcde", 3176136803),
-    ("loselose", NONE, b"", 0),
-    ("loselose", NONE, b"a", 97),
-    ("loselose", NONE, b"b", 98),
-    ("loselose", NONE, b"ab", 195),
-    ("loselose", NONE, b"ba", 195),
-    ("loselose", NONE, &[0xff; 1000], 255000),
-    ("bricolage", NONE, b"", 0),
-    ("bricolage", NONE, b"a", 17926483712435944715),
-    ("bricolage", NONE, b"b", 12457347154332739726),
-    ("bricolage", NONE, b"ab", 16461606921607156355),
-    ("oaat", NONE, b"", 0),
-    ("oaat", NONE, b"a", 29161854018),
-    ("oaat", NONE, b"b", 30079156635),
-    ("oaat", NONE, b"ab", 30087418617432),
-    ("oaat", NONE, b"abcdefg", 3103867595652801641),
-    ("oaat", NONE, b"\0", 0),
-    ("lookup3", NONE, b"", 0),
-    ("lookup3", NONE, b"a", 6351843130003064584),
-    ("lookup3", NONE, b"b", 5351957087540069269),
-    ("lookup3", NONE, b"ab", 7744397999705663711),
-    ("lookup3", NONE, b"abcdefg", 6461572128488215717),
-    ("lookup3", NONE, b"abcd", 16288908501016938652),
+const VECTORS: [Row; 160] = [
+    ("fnv1a32", NONE, b"", 0x811c9dc5),
+    ("fnv1a32", NONE, b"a", 0xe40c292c),
+    ("fnv1a64", NONE, b"", 0xcbf29ce484222325),
+    ("fnv1a64", NONE, b"a", 0xaf63dc4c8601ec8c),
+    ("fnv1a64", NONE, b"b", 0xaf63df4c8601f1a5),
+    ("fnv1a64", NONE, b"ab", 0x89c4407b545986a),
+    ("fnv1a64", NONE, b"abcd", 0xfc179f83ee0724dd),
+    ("fnv1a64", NONE, b"abcdefg", 0x406e475017aa7737),
+    ("djb2", NONE, b"", 0x1505),
+    ("djb2", NONE, b"a", 0x2b5c4),
+    ("djb2", NONE, b"b", 0x2b5c7),
+    ("djb2", NONE, b"ab", 0x596e26),
+    ("djb2", NONE, b"bC", 0x596ee4),
+    ("djb2", NONE, b"cb", 0x596ee4),
+    ("djb2", NONE, b"bc", 0x596ec4),
+    ("sdbm", NONE, b"", 0x0),
+    ("sdbm", NONE, b"a", 0x61),
+    ("sdbm", NONE, b"b", 0x62),
+    ("sdbm", NONE, b"ab", 0x611841),
+    ("sdbm", NONE, b"\0", 0x0),
+    ("sdbm", NONE, b"abc", 0x3025f862),
+    ("sdbm", NONE, b"abcd", 0xd1ba2082),
+    ("sdbm", NONE, b"abcde", 0xbd500063),
+    ("loselose", NONE, b"", 0x0),
+    ("loselose", NONE, b"a", 0x61),
+    ("loselose", NONE, b"b", 0x62),
+    ("loselose", NONE, b"ab", 0xc3),
+    ("loselose", NONE, b"ba", 0xc3),
+    ("loselose", NONE, &[255; 1000], 0x3e418),
+    ("bricolage", NONE, b"", 0x0),
+    ("bricolage", NONE, b"a", 0xf8c7a9f53791fd0b),
+    ("bricolage", NONE, b"b", 0xace1633c29b9e88e),
+    ("bricolage", NONE, b"ab", 0xe473604722819283),
+    ("oaat", NONE, b"", 0x0),
+    ("oaat", NONE, b"a", 0x6ca2e9442),
+    ("oaat", NONE, b"b", 0x700db819b),
+    ("oaat", NONE, b"ab", 0x1b5d45e61e58),
+    ("oaat", NONE, b"abcdefg", 0x2b1327221cbb2469),
+    ("oaat", NONE, b"\0", 0x0),
+    ("lookup3", NONE, b"", 0x0),
+    ("lookup3", NONE, b"a", 0x582647ac58d68708),
+    ("lookup3", NONE, b"b", 0x4a45f89d7ff5c395),
+    ("lookup3", NONE, b"ab", 0x6b79a0f2fbb3a8df),
+    ("lookup3", NONE, b"abcdefg", 0x59ac1d9db11ad4a5),
+    ("lookup3", NONE, b"abcd", 0xe20dd3fab5f4889c),
     ("lookup3", NONE, &[0; 12], 0x14c3a0e3fb293fc1),
-    ("spooky", NONE, b"", 13905049616862401802),
-    ("spooky", NONE, b"a", 16681426114058726960),
-    ("spooky_v1", NONE, b"", 13905049616862401802),
-    ("spooky_v1", NONE, b"a", 16932945748884078726),
-    ("spooky_v1", NONE, b"b", 5781063613870495197),
-    ("spooky_v1", NONE, b"ab", 13849109452443161137),
-    ("spooky_v1", NONE, b"abcd", 4142038200967391753),
-    ("spooky_v1", NONE, b"abcdefg", 2761526316938866980),
-    ("spooky_v1", NONE, b"abcdefghijklmnopqrstuvwxyz", 16192181224158463141),
-    ("spooky_v1", NONE, b"\0", 13905049616862401802),
-    ("spooky_v1", NONE, &[0; 191], 13905049616862401802),
+    ("spooky", NONE, b"", 0xc0f8a8f45543d50a),
+    ("spooky", NONE, b"a", 0xe78054ab33652e30),
+    ("spooky_v1", NONE, b"", 0xc0f8a8f45543d50a),
+    ("spooky_v1", NONE, b"a", 0xeafde871ab324086),
+    ("spooky_v1", NONE, b"b", 0x503a76ba38afd5dd),
+    ("spooky_v1", NONE, b"ab", 0xc031ebabd8611231),
+    ("spooky_v1", NONE, b"abcd", 0x397b79cc5ec26a09),
+    ("spooky_v1", NONE, b"abcdefg", 0x2652e98dd708b124),
+    ("spooky_v1", NONE, b"abcdefghijklmnopqrstuvwxyz", 0xe0b62f0894b704a5),
+    ("spooky_v1", NONE, b"\0", 0xc0f8a8f45543d50a),
+    ("spooky_v1", NONE, &[0; 191], 0xc0f8a8f45543d50a),
     ("passthrough", NONE, b"abcdefghi", 0x6263646566676869),
-    ("passthrough", NONE, b"a", 97),
-    ("fxhash", NONE, b"", 0),
-    ("fxhash", NONE, b"a", 16160435425421689461),
-    ("fxhash", NONE, b"a\0\0\0", 16160435425421689461),
-    ("fxhash", NONE, b"\0\0\0\0a", 16160435425421689461),
-    ("fxhash", NONE, &[0; 8], 0),
-    ("fxhash32", NONE, b"", 0),
-    ("fxhash32", NONE, b"a", 3555066485),
-    ("fxhash32", NONE, b"a\0\0\0", 3555066485),
-    ("fxhash32", NONE, b"\0\0\0\0a", 3555066485),
-    ("fxhash32", NONE, &[0; 8], 0),
-    ("fxhash64", NONE, b"", 0),
-    ("fxhash64", NONE, b"a", 16160435425421689461),
-    ("fxhash64", NONE, b"a\0\0\0", 16160435425421689461),
-    ("fxhash64", NONE, b"\0\0\0\0a", 16160435425421689461),
-    ("fxhash64", NONE, &[0; 8], 0),
-    ("null", NONE, b"a", 0),
-    ("crc32", NONE, b"", 0),
+    ("passthrough", NONE, b"a", 0x61),
+    ("fxhash", NONE, b"", 0x0),
+    ("fxhash", NONE, b"a", 0xe0456665d3e60275),
+    ("fxhash", NONE, b"a\0\0\0", 0xe0456665d3e60275),
+    ("fxhash", NONE, b"\0\0\0\0a", 0xe0456665d3e60275),
+    ("fxhash", NONE, b"\0\0\0\0\0\0\0\0", 0x0),
+    ("fxhash32", NONE, b"", 0x0),
+    ("fxhash32", NONE, b"a", 0xd3e60275),
+    ("fxhash32", NONE, b"a\0\0\0", 0xd3e60275),
+    ("fxhash32", NONE, b"\0\0\0\0a", 0xd3e60275),
+    ("fxhash32", NONE, b"\0\0\0\0\0\0\0\0", 0x0),
+    ("fxhash64", NONE, b"", 0x0),
+    ("fxhash64", NONE, b"a", 0xe0456665d3e60275),
+    ("fxhash64", NONE, b"a\0\0\0", 0xe0456665d3e60275),
+    ("fxhash64", NONE, b"\0\0\0\0a", 0xe0456665d3e60275),
+    ("fxhash64", NONE, b"\0\0\0\0\0\0\0\0", 0x0),
+    ("null", NONE, b"a", 0x0),
+    ("null", NONE, b"ab", 0x0),
+    ("crc32", NONE, b"", 0x0),
     ("crc32", NONE, b"a", 0xe8b7be43),
     ("crc32", NONE, b"123456789", 0xcbf43926),
-    ("crc32", NONE, FOX, 0x414fa339),
-    ("crc32c", NONE, b"", 0),
+    ("crc32", NONE, b"The quick brown fox jumps over the lazy dog", 0x414fa339),
+    ("crc32c", NONE, b"", 0x0),
     ("crc32c", NONE, b"123456789", 0xe3069283),
     ("crc32c", NONE, &[0; 32], 0x8a9136aa),
     ("crc32c", NONE, &[255; 32], 0x62a8ab43),
-    ("crc32c", NONE, &RISING, 0x46dd794e),
-    ("crc32c", NONE, &FALLING, 0x113fdb5c),
+    ("crc32c", NONE, &[0, 1, 2, 3, 4, 5, 6, 7, 8, 9, 10, 11, 12, 13, 14, 15, 16, 17, 18, 19, 20, 21, 22, 23, 24, 25, 26, 27, 28, 29, 30,
+    31], 0x46dd794e),
+    ("crc32c", NONE, &[31, 30, 29, 28, 27, 26, 25, 24, 23, 22, 21, 20, 19, 18, 17, 16, 15, 14, 13, 12, 11, 10, 9, 8, 7, 6, 5, 4, 3, 2, 1,
+    0], 0x113fdb5c),
     ("fnv1_32", NONE, b"", 0x811c9dc5),
-    ("fnv1_32", NONE, b"a", 0x050c5d7e),
-    ("fnv1_32", NONE, b"b", 0x050c5d7d),
+    ("fnv1_32", NONE, b"a", 0x50c5d7e),
+    ("fnv1_32", NONE, b"b", 0x50c5d7d),
     ("fnv1_32", NONE, b"foobar", 0x31f0b262),
     ("fnv1_64", NONE, b"", 0xcbf29ce484222325),
     ("fnv1_64", NONE, b"a", 0xaf63bd4c8601b7be),
@@ -153,66 +137,75 @@ const VECTORS: [Row; 152] = [
     ("djb2_add", NONE, b"printf", 0x156b2bb8),
     ("djb2_add", NONE, b"exit", 0x7c967e3f),
     ("djb2_add", NONE, b"syscall", 0xbac212a0),
-    ("joaat", NONE, b"", 0),
+    ("djb2_add", NONE, b"a", 0x2b606),
+    ("joaat", NONE, b"", 0x0),
     ("joaat", NONE, b"a", 0xca2e9442),
-    ("joaat", NONE, FOX, 0x519e91f5),
-    ("elf", NONE, b"", 0),
-    ("elf", NONE, b"printf", 0x077905a6),
-    ("elf", NONE, b"exit", 0x0006cf04),
-    ("elf", NONE, b"syscall", 0x0b09985c),
-    ("xxh32", NONE, b"", 0x02cc5d05),
+    ("joaat", NONE, b"The quick brown fox jumps over the lazy dog", 0x519e91f5),
+    ("elf", NONE, b"", 0x0),
+    ("elf", NONE, b"printf", 0x77905a6),
+    ("elf", NONE, b"exit", 0x6cf04),
+    ("elf", NONE, b"syscall", 0xb09985c),
+    ("elf", NONE, b"a", 0x61),
+    ("xxh32", NONE, b"", 0x2cc5d05),
     ("xxh32", NONE, b"a", 0x550d7456),
     ("xxh32", NONE, b"abc", 0x32d153ff),
-    ("xxh32", NONE, FOX, 0xe85ea4de),
-    ("xxh32", NONE, LONG, 0x029fbfb5),
-    ("xxh32", [0x9e3779b1, 0], b"", 0x36b78ae7),
-    ("xxh32", [0x9e3779b1, 0], b"abc", 0xa1ae7709),
-    ("xxh32", [0x9e3779b1, 0], LONG, 0xcfee0111),
+    ("xxh32", NONE, b"The quick brown fox jumps over the lazy dog", 0xe85ea4de),
+    ("xxh32", NONE, b"0123456789abcdefghijklmnopqrstuvwxyzABCDEFGHIJKLMNOPQRSTUVWXYZ0123456789", 0x29fbfb5),
+    ("xxh32", [0x9e3779b1, 0x0], b"", 0x36b78ae7),
+    ("xxh32", [0x9e3779b1, 0x0], b"abc", 0xa1ae7709),
+    ("xxh32", [0x9e3779b1, 0x0], b"0123456789abcdefghijklmnopqrstuvwxyzABCDEFGHIJKLMNOPQRSTUVWXYZ0123456789", 0xcfee0111),
+    ("xxh32", [0x13353e1, 0x0], b"xxhash", 0x67bb40dd),
     ("xxh64", NONE, b"", 0xef46db3751d8e999),
     ("xxh64", NONE, b"a", 0xd24ec4f1a98c6e5b),
     ("xxh64", NONE, b"abc", 0x44bc2cf5ad770999),
-    ("xxh64", NONE, FOX, 0x0b242d361fda71bc),
-    ("xxh64", NONE, LONG, 0x9e75a8e1c64f3e4f),
-    ("xxh64", [0x9e3779b185ebca8d, 0], b"", 0x0b303d920ec349df),
-    ("xxh64", [0x9e3779b185ebca8d, 0], b"abc", 0x7e49c9d7e85a4ab6),
-    ("xxh64", [0x9e3779b185ebca8d, 0], LONG, 0xcd26df218b8cbdef),
+    ("xxh64", NONE, b"The quick brown fox jumps over the lazy dog", 0xb242d361fda71bc),
+    ("xxh64", NONE, b"0123456789abcdefghijklmnopqrstuvwxyzABCDEFGHIJKLMNOPQRSTUVWXYZ0123456789", 0x9e75a8e1c64f3e4f),
+    ("xxh64", [0x9e3779b185ebca8d, 0x0], b"", 0xb303d920ec349df),
+    ("xxh64", [0x9e3779b185ebca8d, 0x0], b"abc", 0x7e49c9d7e85a4ab6),
+    ("xxh64", [0x9e3779b185ebca8d, 0x0], b"0123456789abcdefghijklmnopqrstuvwxyzABCDEFGHIJKLMNOPQRSTUVWXYZ0123456789", 0xcd26df218b8cbdef),
+    ("xxh64", [0x13353e1, 0x0], b"xxhash", 0xb559b98d844e0635),
     ("xxh3", NONE, b"", 0x2d06800538d394c2),
     ("xxh3", NONE, b"a", 0xe6c632b61e964e1f),
     ("xxh3", NONE, b"abc", 0x78af5f94892f3950),
+    ("xxh3", [0x13353e1, 0x0], b"xxhash", 0x8e5dc07f2b839bb0),
     ("murmur3_32", NONE, b"hello", 0x248bfa47),
-    ("murmur3_32", NONE, b"", 0),
-    ("murmur3_32", [1, 0], b"", 0x514e28b7),
-    ("murmur3_32", [0xffffffff, 0], b"", 0x81f16f39),
+    ("murmur3_32", NONE, b"", 0x0),
+    ("murmur3_32", [0x1, 0x0], b"", 0x514e28b7),
+    ("murmur3_32", [0xffffffff, 0x0], b"", 0x81f16f39),
     ("murmur3_32", NONE, b"test", 0xba6bd213),
-    ("murmur3_32", [0x9747b28c, 0], b"test", 0x704b81dc),
+    ("murmur3_32", [0x9747b28c, 0x0], b"test", 0x704b81dc),
     ("murmur3_32", NONE, b"Hello, world!", 0xc0363e43),
-    ("murmur3_32", [0x9747b28c, 0], b"Hello, world!", 0x24884cba),
-    ("murmur3_32", NONE, FOX, 0x2e4ff723),
-    ("murmur3_32", [0x9747b28c, 0], FOX, 0x2fa826cd),
-    ("murmur3_128", NONE, b"", 0),
-    ("murmur3_128", NONE, b"hello", 0xcbd8a7b341bd9b02_5b1e906a48ae1d19),
-    ("murmur3_128", [1, 0], b"hello, world", 0x8b95f808840725c6_1597ed5422bd493b),
-    ("murmur3_128", NONE, FOX, 0xe34bbc7bbc071b6c_7a433ca9c49a9347),
-    ("siphash13", KEY, b"", 0xabac0158050fc4dc),
+    ("murmur3_32", [0x9747b28c, 0x0], b"Hello, world!", 0x24884cba),
+    ("murmur3_32", NONE, b"The quick brown fox jumps over the lazy dog", 0x2e4ff723),
+    ("murmur3_32", [0x9747b28c, 0x0], b"The quick brown fox jumps over the lazy dog", 0x2fa826cd),
+    ("murmur3_128", NONE, b"", 0x0),
+    ("murmur3_128", NONE, b"hello", 0xcbd8a7b341bd9b025b1e906a48ae1d19),
+    ("murmur3_128", [0x1, 0x0], b"hello, world", 0x8b95f808840725c61597ed5422bd493b),
+    ("murmur3_128", NONE, b"The quick brown fox jumps over the lazy dog", 0xe34bbc7bbc071b6c7a433ca9c49a9347),
+    ("siphash13", [0x706050403020100, 0xf0e0d0c0b0a0908], b"", 0xabac0158050fc4dc),
     ("siphash13", NONE, b"a", 0x407448d2b89b1813),
     ("siphash13", NONE, b"hello", 0xe2e77b41cb4e1f9e),
-    ("siphash13", NONE, FOX, 0x8df676d3d00c451e),
+    ("siphash13", NONE, b"The quick brown fox jumps over the lazy dog", 0x8df676d3d00c451e),
     ("siphash24", NONE, b"", 0x1e924b9d737700d7),
-    ("poly61", KEY61, b"", 6994358841706618899),
-    ("poly61", KEY61, b"a", 17287142469843721647),
-    ("poly61", KEY61, b"abcdef", 2284691803629617488),
-    ("poly61", KEY61, b"abcdefg", 14902566723373625414),
-    ("poly61", KEY61, b"123456789", 1505057876007787512),
-    ("poly61", KEY61, FOX, 2910588923001171521),
-    ("poly61", NONE, FOX, 0),
-    ("poly61", [2305843009213693951, 0], FOX, 0),
-    ("poly61", [u64::MAX, 0], FOX, 5805623949759481314),
-    ("poly61", [7, 0], FOX, 5805623949759481314),
+    ("poly61", [0x112210f47de98115, 0x0], b"", 0x6110f44f0f892013),
+    ("poly61", [0x112210f47de98115, 0x0], b"a", 0xefe8447c309a9daf),
+    ("poly61", [0x112210f47de98115, 0x0], b"abcdef", 0x1fb4db1730970150),
+    ("poly61", [0x112210f47de98115, 0x0], b"abcdefg", 0xced08d7a4c3df046),
+    ("poly61", [0x112210f47de98115, 0x0], b"123456789", 0x14e30a2a01d91bf8),
+    ("poly61", [0x112210f47de98115, 0x0], b"The quick brown fox jumps over the lazy dog", 0x28647d345aabee41),
+    ("poly61", NONE, b"The quick brown fox jumps over the lazy dog", 0x0),
+    ("poly61", [0x1fffffffffffffff, 0x0], b"The quick brown fox jumps over the lazy dog", 0x0),
+    ("poly61", [0xffffffffffffffff, 0x0], b"The quick brown fox jumps over the lazy dog", 0x5091b83908ea05e2),
+    ("poly61", [0x7, 0x0], b"The quick brown fox jumps over the lazy dog", 0x5091b83908ea05e2),
+    ("xxh128", [0x13353e1, 0x0], b"xxhash", 0x79ac33c96912c28697334731064933c1),
+    ("xxh128", NONE, b"", 0x99aa06d3014798d86001c324468d497f),
 ];
+// end of declared
 
 /// The hash in one call, of the original's names; `None` of any other.
 fn of_original(name: &str, text: &[u8]) -> Option<u64> {
     Some(match name {
+        // declared: names
         "fnv1a32" => fnv1a32(text),
         "fnv1a64" => fnv1a64(text),
         "djb2" => djb2(text),
@@ -228,6 +221,7 @@ fn of_original(name: &str, text: &[u8]) -> Option<u64> {
         "fxhash32" => fxhash32(text),
         "fxhash64" => fxhash64(text),
         "null" => null(text),
+        // end of declared
         _ => return None,
     })
 }
@@ -244,6 +238,7 @@ fn of_another(name: &str, [seed, other]: [u64; 2], text: &[u8]) -> Option<u64> {
         k1: other,
     };
     Some(match name {
+        // declared: other names
         "crc32" => crc32(text),
         "crc32c" => crc32c(text),
         "fnv1_32" => fnv1_32(text),
@@ -253,10 +248,11 @@ fn of_another(name: &str, [seed, other]: [u64; 2], text: &[u8]) -> Option<u64> {
         "elf" => elf(text),
         "xxh32" => u64::from(xxh32(half(seed), text)),
         "xxh64" => xxh64(seed, text),
-        "xxh3" => xxh3_64(seed, text),
         "murmur3_32" => u64::from(murmur3_32(half(seed), text)),
         "siphash13" => siphash13(key, text),
         "siphash24" => siphash24(key, text),
+        "xxh3" => xxh3_64(seed, text),
+        // end of declared
         "poly61" => poly61(seed, text),
         _ => return None,
     })
@@ -266,6 +262,10 @@ fn of_another(name: &str, [seed, other]: [u64; 2], text: &[u8]) -> Option<u64> {
 pub(super) fn in_one(name: &str, seeds: [u64; 2], text: &[u8]) -> Option<u128> {
     if name == "murmur3_128" {
         return Some(both(murmur3_128(seeds[0], text)));
+    }
+    if name == "xxh128" {
+        let (low, high) = xxh3_128(seeds[0], text);
+        return Some(both((high, low)));
     }
     match of_original(name, text) {
         Some(hash) => Some(u128::from(hash)),
@@ -322,13 +322,16 @@ fn in_two(name: &str, [seed, other]: [u64; 2], text: &[u8]) -> Option<u128> {
         k1: other,
     };
     Some(u128::from(match name {
+        // declared: started
         "xxh32" => fed(Xxh32Hasher::new(half(seed)), text).finish(),
         "xxh64" => fed(Xxh64Hasher::new(seed), text).finish(),
-        "xxh3" => fed(Xxh3Hasher::new(seed), text).finish(),
         "murmur3_32" => fed(Murmur3Hasher32::new(half(seed)), text).finish(),
-        "murmur3_128" => return Some(both(fed(Murmur3Hasher128::new(seed), text).finish128())),
         "siphash13" => fed(SipHasher13::new(key), text).finish(),
         "siphash24" => fed(SipHasher24::new(key), text).finish(),
+        "xxh3" => fed(Xxh3Hasher::new(seed), text).finish(),
+        // end of declared
+        "murmur3_128" => return Some(fed(Murmur3Hasher128::new(seed), text).wide()),
+        "xxh128" => return Some(fed(Xxh3Hasher::new(seed), text).wide()),
         "poly61" => fed(Poly61Hasher::new(seed), text).finish(),
         _ => by_kind::<InTwo>(kind_named(name.as_bytes())?, text, &mut ()),
     }))
@@ -341,7 +344,11 @@ fn two_writes(rt: HostRuntime) {
     }
 }
 
-/// The authors' vectors of SipHash-2-4, of texts of 0 to 63 bytes, 0, 1, 2 and so on, under KEY.
+/// The key of the authors' vectors of SipHash.
+const KEY: [u64; 2] = [0x0706050403020100, 0x0f0e0d0c0b0a0908];
+
+// declared: siphash
+/// The hashes of those lines by SipHash-2-4 under KEY, of texts of 0 to 63 bytes, 0, 1, 2 and so on.
 #[rattlefmt::skip]
 const SIPHASH24: [u64; 64] = [
     0x726fdb47dd0e0e31, 0x74f839c593dc67fd, 0x0d6c8009d9a94f5a, 0x85676696d7fb7e2d, 0xcf2794e0277187b7, 0x18765564cd99a68d,
@@ -356,6 +363,7 @@ const SIPHASH24: [u64; 64] = [
     0x7fa8220ba3b2ecea, 0x245731c13ca42499, 0xb78dbfaf3a8d83bd, 0xea1ad565322a1a0b, 0x60e61c23a3795013, 0x6606d7e446282b93,
     0x6ca4ecb15c5f91e1, 0x9f626da15c9625f3, 0xe51b38608ef25f57, 0x958a324ceb064572,
 ];
+// end of declared
 
 #[test]
 fn as_the_authors_of_siphash(rt: HostRuntime) {
@@ -399,25 +407,35 @@ fn comes_back<H: Undo>(hash: u64, text: &[u8]) -> bool {
     }
 }
 
+/// The same of the hasher of a rule, and of a rule that keeps one word. What a hasher of a rule promises is shown once here, and not at
+/// each call.
+fn rule_comes_back<R: UndoRule>(hash: u64, text: &[u8]) -> bool {
+    comes_back::<ByteHasher<R>>(hash, text)
+}
+
+fn plain_comes_back<R: PlainUndo>(hash: u64, text: &[u8]) -> bool {
+    rule_comes_back::<Plain<R>>(hash, text)
+}
+
 /// The same by a name, and `true` of a hash that cannot be undone.
 fn taken_out(name: &str, hash: u64, text: &[u8]) -> bool {
     match name {
-        "fnv1a32" => comes_back::<FNV1aHasher32>(hash, text),
-        "fnv1a64" => comes_back::<FNV1aHasher64>(hash, text),
-        "djb2" => comes_back::<DJB2Hasher>(hash, text),
-        "sdbm" => comes_back::<SDBMHasher>(hash, text),
-        "loselose" => comes_back::<LoseLoseHasher>(hash, text),
-        "bricolage" => comes_back::<Bricolage>(hash, text),
-        "oaat" => comes_back::<OAATHasher>(hash, text),
+        "fnv1a32" => plain_comes_back::<Fnv1aRule32>(hash, text),
+        "fnv1a64" => plain_comes_back::<Fnv1aRule64>(hash, text),
+        "djb2" => plain_comes_back::<Djb2Rule>(hash, text),
+        "sdbm" => rule_comes_back::<SdbmRule>(hash, text),
+        "loselose" => rule_comes_back::<LoseLoseRule>(hash, text),
+        "bricolage" => plain_comes_back::<BricolageRule>(hash, text),
+        "oaat" => plain_comes_back::<OaatRule>(hash, text),
         "fxhash" => comes_back::<FxHasher>(hash, text),
         "fxhash32" => comes_back::<FxHasher32>(hash, text),
         "fxhash64" => comes_back::<FxHasher64>(hash, text),
-        "crc32" => comes_back::<Crc32Hasher>(hash, text),
-        "crc32c" => comes_back::<Crc32cHasher>(hash, text),
-        "fnv1_32" => comes_back::<Fnv1Hasher32>(hash, text),
-        "fnv1_64" => comes_back::<Fnv1Hasher64>(hash, text),
-        "djb2_add" => comes_back::<Djb2AddHasher>(hash, text),
-        "joaat" => comes_back::<JoaatHasher>(hash, text),
+        "crc32" => rule_comes_back::<CrcRule<Ieee>>(hash, text),
+        "crc32c" => rule_comes_back::<CrcRule<Castagnoli>>(hash, text),
+        "fnv1_32" => plain_comes_back::<Fnv1Rule32>(hash, text),
+        "fnv1_64" => plain_comes_back::<Fnv1Rule64>(hash, text),
+        "djb2_add" => plain_comes_back::<Djb2AddRule>(hash, text),
+        "joaat" => plain_comes_back::<JoaatRule>(hash, text),
         _ => true,
     }
 }

@@ -10,7 +10,7 @@ use hashers::jenkins::Lookup3Hasher;
 use hashers::jenkins::spooky_hash::SpookyHasher;
 use hashers::laws::Piecewise;
 
-/// Inserts the key, and answers whether the bits at all of its places were set before.
+/// Inserts the key, and answers whether it is new.
 ///
 /// Proved:
 ///
@@ -35,47 +35,8 @@ fn contains<F: Piecewise, G: Piecewise>(words: &[u64], bits: u64, probes: u32, k
     words::has_room(words, bits, probes) && words::contains::<F, G>(words, bits, probes, key)
 }
 
-/// Inserts the key by fnv1a64 and lookup3. It answers whether the bits at all of its places were set before:
-/// `false` says that this key was not
-/// inserted before, and `true` that it possibly was.
-///
-/// Proved:
-///
-/// ```text
-/// IsInserted fnv1a64_of lookup3_of
-///     (filter_of bits probes words.old) (filter_of bits probes words.new) key.now result
-/// ```
-#[inline]
-pub fn hashers_bloom_fnv1a64_lookup3_insert(
-    words: &mut [u64],
-    bits: u64,
-    probes: u32,
-    key: &[u8],
-) -> bool {
-    insert::<FNV1aHasher64, Lookup3Hasher>(words, bits, probes, key)
-}
-
-/// Whether the key is found by fnv1a64 and lookup3. It is if it was inserted, and possibly if not.
-///
-/// Proved:
-///
-/// ```text
-/// IsTrue result ↔ IsFound fnv1a64_of lookup3_of
-///     (filter_of bits probes words.now) key.now
-/// ```
-#[inline]
-pub fn hashers_bloom_fnv1a64_lookup3_contains(
-    words: &[u64],
-    bits: u64,
-    probes: u32,
-    key: &[u8],
-) -> bool {
-    contains::<FNV1aHasher64, Lookup3Hasher>(words, bits, probes, key)
-}
-
-/// Inserts the key by spooky and lookup3. It answers whether the bits at all of its places were set before:
-/// `false` says that this key was not
-/// inserted before, and `true` that it possibly was.
+/// Inserts the key by spooky and lookup3, and answers whether it is new, as a set does: `true` says that it was not inserted before, and
+/// `false` that it possibly was.
 ///
 /// Proved:
 ///
@@ -109,6 +70,43 @@ pub fn hashers_bloom_spooky_lookup3_contains(
     key: &[u8],
 ) -> bool {
     contains::<SpookyHasher, Lookup3Hasher>(words, bits, probes, key)
+}
+
+/// Inserts the key by fnv1a64 and lookup3, and answers whether it is new, as a set does: `true` says that it was not inserted before, and
+/// `false` that it possibly was.
+///
+/// Proved:
+///
+/// ```text
+/// IsInserted fnv1a64_of lookup3_of
+///     (filter_of bits probes words.old) (filter_of bits probes words.new) key.now result
+/// ```
+#[inline]
+pub fn hashers_bloom_fnv1a64_lookup3_insert(
+    words: &mut [u64],
+    bits: u64,
+    probes: u32,
+    key: &[u8],
+) -> bool {
+    insert::<FNV1aHasher64, Lookup3Hasher>(words, bits, probes, key)
+}
+
+/// Whether the key is found by fnv1a64 and lookup3. It is if it was inserted, and possibly if not.
+///
+/// Proved:
+///
+/// ```text
+/// IsTrue result ↔ IsFound fnv1a64_of lookup3_of
+///     (filter_of bits probes words.now) key.now
+/// ```
+#[inline]
+pub fn hashers_bloom_fnv1a64_lookup3_contains(
+    words: &[u64],
+    bits: u64,
+    probes: u32,
+    key: &[u8],
+) -> bool {
+    contains::<FNV1aHasher64, Lookup3Hasher>(words, bits, probes, key)
 }
 
 /// Adds the bits of another filter of as many bits and probes, by whatever hashes, and answers whether it has as many words; else

@@ -2,9 +2,9 @@
 
 // What follows is the proved text of crates/hash_c/src/column.rt without its contracts.
 use crate::std;
-use hashers_proved::{hash_names, hashers};
+use hashers_proved::{hash_kinds, hash_names, hashers};
 
-use hash_names::table::{Kind, by_kind, kind_at};
+use hash_kinds::table::{Kind, by_kind, kind_at};
 use hash_names::task::HashTask;
 use hashers::laws::{Piecewise, Streamed, hash_of};
 use std::marker::PhantomData;

@@ -40,7 +40,8 @@ pub fn hashers_loselose_combine(hash1: u64, hash2: u64, n2: u64) -> u64 {
 ///
 /// ```text
 /// value: result ≡ (hash1 * 256 ^ n2 + hash2) % 2 ^ 64
-/// joined: (x y : List ℕ) → length y ≡ n2 → hash1 ≡ passthrough_from 0 x → hash2 ≡ passthrough_from 0 y
+/// joined: (x y : List ℕ) → length y ≡ n2 → hash1 ≡ passthrough_from 0 x
+///     → hash2 ≡ passthrough_from 0 y
 ///     → result ≡ passthrough_from 0 (x ++ y)
 /// ```
 #[inline]

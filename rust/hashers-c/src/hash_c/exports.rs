@@ -236,42 +236,6 @@ pub extern "C" fn hashers_siphash24_finish(state: &BlockState) -> u64 {
 ///
 /// Each pointer and its count are so many items that nothing else writes during the call.
 #[no_mangle]
-pub unsafe extern "C" fn hashers_bloom_fnv1a64_lookup3_insert(
-    words: *mut u64,
-    words_count: usize,
-    bits: u64,
-    probes: u32,
-    key: *const u8,
-    key_count: usize,
-) -> bool {
-    // SAFETY: as said above.
-    unsafe { bloom::hashers_bloom_fnv1a64_lookup3_insert(slice_mut(words, words_count), bits, probes, slice(key, key_count)) }
-}
-
-/// See `hashers.h`.
-///
-/// # Safety
-///
-/// Each pointer and its count are so many items that nothing else writes during the call.
-#[no_mangle]
-pub unsafe extern "C" fn hashers_bloom_fnv1a64_lookup3_contains(
-    words: *const u64,
-    words_count: usize,
-    bits: u64,
-    probes: u32,
-    key: *const u8,
-    key_count: usize,
-) -> bool {
-    // SAFETY: as said above.
-    unsafe { bloom::hashers_bloom_fnv1a64_lookup3_contains(slice(words, words_count), bits, probes, slice(key, key_count)) }
-}
-
-/// See `hashers.h`.
-///
-/// # Safety
-///
-/// Each pointer and its count are so many items that nothing else writes during the call.
-#[no_mangle]
 pub unsafe extern "C" fn hashers_bloom_spooky_lookup3_insert(
     words: *mut u64,
     words_count: usize,
@@ -300,6 +264,42 @@ pub unsafe extern "C" fn hashers_bloom_spooky_lookup3_contains(
 ) -> bool {
     // SAFETY: as said above.
     unsafe { bloom::hashers_bloom_spooky_lookup3_contains(slice(words, words_count), bits, probes, slice(key, key_count)) }
+}
+
+/// See `hashers.h`.
+///
+/// # Safety
+///
+/// Each pointer and its count are so many items that nothing else writes during the call.
+#[no_mangle]
+pub unsafe extern "C" fn hashers_bloom_fnv1a64_lookup3_insert(
+    words: *mut u64,
+    words_count: usize,
+    bits: u64,
+    probes: u32,
+    key: *const u8,
+    key_count: usize,
+) -> bool {
+    // SAFETY: as said above.
+    unsafe { bloom::hashers_bloom_fnv1a64_lookup3_insert(slice_mut(words, words_count), bits, probes, slice(key, key_count)) }
+}
+
+/// See `hashers.h`.
+///
+/// # Safety
+///
+/// Each pointer and its count are so many items that nothing else writes during the call.
+#[no_mangle]
+pub unsafe extern "C" fn hashers_bloom_fnv1a64_lookup3_contains(
+    words: *const u64,
+    words_count: usize,
+    bits: u64,
+    probes: u32,
+    key: *const u8,
+    key_count: usize,
+) -> bool {
+    // SAFETY: as said above.
+    unsafe { bloom::hashers_bloom_fnv1a64_lookup3_contains(slice(words, words_count), bits, probes, slice(key, key_count)) }
 }
 
 /// See `hashers.h`.
@@ -743,6 +743,72 @@ pub unsafe extern "C" fn hashers_fxhash64_unwrite(hash: u64, bytes: *const u8, b
 ///
 /// Each pointer and its count are so many items that nothing else writes during the call.
 #[no_mangle]
+pub unsafe extern "C" fn hashers_fnv1_32_write(hash: u64, bytes: *const u8, bytes_count: usize) -> u64 {
+    // SAFETY: as said above.
+    unsafe { parts::hashers_fnv1_32_write(hash, slice(bytes, bytes_count)) }
+}
+
+/// See `hashers.h`.
+///
+/// # Safety
+///
+/// Each pointer and its count are so many items that nothing else writes during the call.
+#[no_mangle]
+pub unsafe extern "C" fn hashers_fnv1_32_unwrite(hash: u64, bytes: *const u8, bytes_count: usize) -> u64 {
+    // SAFETY: as said above.
+    unsafe { parts::hashers_fnv1_32_unwrite(hash, slice(bytes, bytes_count)) }
+}
+
+/// See `hashers.h`.
+///
+/// # Safety
+///
+/// Each pointer and its count are so many items that nothing else writes during the call.
+#[no_mangle]
+pub unsafe extern "C" fn hashers_fnv1_64_write(hash: u64, bytes: *const u8, bytes_count: usize) -> u64 {
+    // SAFETY: as said above.
+    unsafe { parts::hashers_fnv1_64_write(hash, slice(bytes, bytes_count)) }
+}
+
+/// See `hashers.h`.
+///
+/// # Safety
+///
+/// Each pointer and its count are so many items that nothing else writes during the call.
+#[no_mangle]
+pub unsafe extern "C" fn hashers_fnv1_64_unwrite(hash: u64, bytes: *const u8, bytes_count: usize) -> u64 {
+    // SAFETY: as said above.
+    unsafe { parts::hashers_fnv1_64_unwrite(hash, slice(bytes, bytes_count)) }
+}
+
+/// See `hashers.h`.
+///
+/// # Safety
+///
+/// Each pointer and its count are so many items that nothing else writes during the call.
+#[no_mangle]
+pub unsafe extern "C" fn hashers_djb2_add_write(hash: u64, bytes: *const u8, bytes_count: usize) -> u64 {
+    // SAFETY: as said above.
+    unsafe { parts::hashers_djb2_add_write(hash, slice(bytes, bytes_count)) }
+}
+
+/// See `hashers.h`.
+///
+/// # Safety
+///
+/// Each pointer and its count are so many items that nothing else writes during the call.
+#[no_mangle]
+pub unsafe extern "C" fn hashers_djb2_add_unwrite(hash: u64, bytes: *const u8, bytes_count: usize) -> u64 {
+    // SAFETY: as said above.
+    unsafe { parts::hashers_djb2_add_unwrite(hash, slice(bytes, bytes_count)) }
+}
+
+/// See `hashers.h`.
+///
+/// # Safety
+///
+/// Each pointer and its count are so many items that nothing else writes during the call.
+#[no_mangle]
 pub unsafe extern "C" fn hashers_oaat_write(hash: u64, bytes: *const u8, bytes_count: usize) -> u64 {
     // SAFETY: as said above.
     unsafe { parts::hashers_oaat_write(hash, slice(bytes, bytes_count)) }
@@ -807,72 +873,6 @@ pub unsafe extern "C" fn hashers_passthrough_write(hash: u64, bytes: *const u8, 
 pub unsafe extern "C" fn hashers_null_write(_hash: u64, bytes: *const u8, bytes_count: usize) -> u64 {
     // SAFETY: as said above.
     unsafe { parts::hashers_null_write(_hash, slice(bytes, bytes_count)) }
-}
-
-/// See `hashers.h`.
-///
-/// # Safety
-///
-/// Each pointer and its count are so many items that nothing else writes during the call.
-#[no_mangle]
-pub unsafe extern "C" fn hashers_fnv1_32_write(hash: u64, bytes: *const u8, bytes_count: usize) -> u64 {
-    // SAFETY: as said above.
-    unsafe { parts::hashers_fnv1_32_write(hash, slice(bytes, bytes_count)) }
-}
-
-/// See `hashers.h`.
-///
-/// # Safety
-///
-/// Each pointer and its count are so many items that nothing else writes during the call.
-#[no_mangle]
-pub unsafe extern "C" fn hashers_fnv1_32_unwrite(hash: u64, bytes: *const u8, bytes_count: usize) -> u64 {
-    // SAFETY: as said above.
-    unsafe { parts::hashers_fnv1_32_unwrite(hash, slice(bytes, bytes_count)) }
-}
-
-/// See `hashers.h`.
-///
-/// # Safety
-///
-/// Each pointer and its count are so many items that nothing else writes during the call.
-#[no_mangle]
-pub unsafe extern "C" fn hashers_djb2_add_write(hash: u64, bytes: *const u8, bytes_count: usize) -> u64 {
-    // SAFETY: as said above.
-    unsafe { parts::hashers_djb2_add_write(hash, slice(bytes, bytes_count)) }
-}
-
-/// See `hashers.h`.
-///
-/// # Safety
-///
-/// Each pointer and its count are so many items that nothing else writes during the call.
-#[no_mangle]
-pub unsafe extern "C" fn hashers_djb2_add_unwrite(hash: u64, bytes: *const u8, bytes_count: usize) -> u64 {
-    // SAFETY: as said above.
-    unsafe { parts::hashers_djb2_add_unwrite(hash, slice(bytes, bytes_count)) }
-}
-
-/// See `hashers.h`.
-///
-/// # Safety
-///
-/// Each pointer and its count are so many items that nothing else writes during the call.
-#[no_mangle]
-pub unsafe extern "C" fn hashers_fnv1_64_write(hash: u64, bytes: *const u8, bytes_count: usize) -> u64 {
-    // SAFETY: as said above.
-    unsafe { parts::hashers_fnv1_64_write(hash, slice(bytes, bytes_count)) }
-}
-
-/// See `hashers.h`.
-///
-/// # Safety
-///
-/// Each pointer and its count are so many items that nothing else writes during the call.
-#[no_mangle]
-pub unsafe extern "C" fn hashers_fnv1_64_unwrite(hash: u64, bytes: *const u8, bytes_count: usize) -> u64 {
-    // SAFETY: as said above.
-    unsafe { parts::hashers_fnv1_64_unwrite(hash, slice(bytes, bytes_count)) }
 }
 
 /// See `hashers.h`.
@@ -1160,39 +1160,6 @@ pub unsafe extern "C" fn hashers_bricolage(text: *const u8, text_count: usize) -
 ///
 /// Each pointer and its count are so many items that nothing else writes during the call.
 #[no_mangle]
-pub unsafe extern "C" fn hashers_fxhash(text: *const u8, text_count: usize) -> u64 {
-    // SAFETY: as said above.
-    unsafe { whole::hashers_fxhash(slice(text, text_count)) }
-}
-
-/// See `hashers.h`.
-///
-/// # Safety
-///
-/// Each pointer and its count are so many items that nothing else writes during the call.
-#[no_mangle]
-pub unsafe extern "C" fn hashers_fxhash32(text: *const u8, text_count: usize) -> u64 {
-    // SAFETY: as said above.
-    unsafe { whole::hashers_fxhash32(slice(text, text_count)) }
-}
-
-/// See `hashers.h`.
-///
-/// # Safety
-///
-/// Each pointer and its count are so many items that nothing else writes during the call.
-#[no_mangle]
-pub unsafe extern "C" fn hashers_fxhash64(text: *const u8, text_count: usize) -> u64 {
-    // SAFETY: as said above.
-    unsafe { whole::hashers_fxhash64(slice(text, text_count)) }
-}
-
-/// See `hashers.h`.
-///
-/// # Safety
-///
-/// Each pointer and its count are so many items that nothing else writes during the call.
-#[no_mangle]
 pub unsafe extern "C" fn hashers_oaat(text: *const u8, text_count: usize) -> u64 {
     // SAFETY: as said above.
     unsafe { whole::hashers_oaat(slice(text, text_count)) }
@@ -1237,9 +1204,9 @@ pub unsafe extern "C" fn hashers_spooky_v1(text: *const u8, text_count: usize) -
 ///
 /// Each pointer and its count are so many items that nothing else writes during the call.
 #[no_mangle]
-pub unsafe extern "C" fn hashers_null(text: *const u8, text_count: usize) -> u64 {
+pub unsafe extern "C" fn hashers_passthrough(text: *const u8, text_count: usize) -> u64 {
     // SAFETY: as said above.
-    unsafe { whole::hashers_null(slice(text, text_count)) }
+    unsafe { whole::hashers_passthrough(slice(text, text_count)) }
 }
 
 /// See `hashers.h`.
@@ -1248,9 +1215,31 @@ pub unsafe extern "C" fn hashers_null(text: *const u8, text_count: usize) -> u64
 ///
 /// Each pointer and its count are so many items that nothing else writes during the call.
 #[no_mangle]
-pub unsafe extern "C" fn hashers_passthrough(text: *const u8, text_count: usize) -> u64 {
+pub unsafe extern "C" fn hashers_fxhash(text: *const u8, text_count: usize) -> u64 {
     // SAFETY: as said above.
-    unsafe { whole::hashers_passthrough(slice(text, text_count)) }
+    unsafe { whole::hashers_fxhash(slice(text, text_count)) }
+}
+
+/// See `hashers.h`.
+///
+/// # Safety
+///
+/// Each pointer and its count are so many items that nothing else writes during the call.
+#[no_mangle]
+pub unsafe extern "C" fn hashers_fxhash32(text: *const u8, text_count: usize) -> u64 {
+    // SAFETY: as said above.
+    unsafe { whole::hashers_fxhash32(slice(text, text_count)) }
+}
+
+/// See `hashers.h`.
+///
+/// # Safety
+///
+/// Each pointer and its count are so many items that nothing else writes during the call.
+#[no_mangle]
+pub unsafe extern "C" fn hashers_fxhash64(text: *const u8, text_count: usize) -> u64 {
+    // SAFETY: as said above.
+    unsafe { whole::hashers_fxhash64(slice(text, text_count)) }
 }
 
 /// See `hashers.h`.
@@ -1328,6 +1317,17 @@ pub unsafe extern "C" fn hashers_joaat(text: *const u8, text_count: usize) -> u6
 pub unsafe extern "C" fn hashers_elf(text: *const u8, text_count: usize) -> u64 {
     // SAFETY: as said above.
     unsafe { whole::hashers_elf(slice(text, text_count)) }
+}
+
+/// See `hashers.h`.
+///
+/// # Safety
+///
+/// Each pointer and its count are so many items that nothing else writes during the call.
+#[no_mangle]
+pub unsafe extern "C" fn hashers_null(text: *const u8, text_count: usize) -> u64 {
+    // SAFETY: as said above.
+    unsafe { whole::hashers_null(slice(text, text_count)) }
 }
 
 /// See `hashers.h`.

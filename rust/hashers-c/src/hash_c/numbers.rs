@@ -1,9 +1,9 @@
 //! Numbers under a key of the caller's: one, and a column of them.
 
 // What follows is the proved text of crates/hash_c/src/numbers.rt without its contracts.
-use hashers_proved::{hash_names, hash_numbers};
+use hashers_proved::{hash_kinds, hash_numbers};
 
-use hash_names::wide::both;
+use hash_kinds::wide::both;
 use hash_numbers::number::number_hash;
 
 /// A multiplier and an addend of 128 bits, each in two halves.

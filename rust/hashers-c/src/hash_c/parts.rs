@@ -54,8 +54,10 @@ fn at<H: Undo>(hash: u64) -> H {
 /// Proved:
 ///
 /// ```text
-/// follows: (s : H.State) → H.in_range s → H.answer s ≡ hash → result ≡ H.answer (H.after s bytes.now)
-/// some: (s : H.State) × H.in_range s × (H.answer s ≡ hash) × (result ≡ H.answer (H.after s bytes.now))
+/// follows: (s : H.State) → H.in_range s → H.answer s ≡ hash
+///     → result ≡ H.answer (H.after s bytes.now)
+/// some: (s : H.State) × H.in_range s × (H.answer s ≡ hash)
+///     × (result ≡ H.answer (H.after s bytes.now))
 /// ```
 #[inline(always)]
 fn written<H: Undo>(hash: u64, bytes: &[u8]) -> u64 {
@@ -75,8 +77,10 @@ fn written<H: Undo>(hash: u64, bytes: &[u8]) -> u64 {
 /// Proved:
 ///
 /// ```text
-/// back: (s : H.State) → H.in_range s → H.answer s ≡ result → H.answer (H.after s bytes.now) ≡ hash
-/// undone: (s : H.State) → H.in_range s → H.answer (H.after s bytes.now) ≡ hash → result ≡ H.answer s
+/// back: (s : H.State) → H.in_range s → H.answer s ≡ result
+///     → H.answer (H.after s bytes.now) ≡ hash
+/// undone: (s : H.State) → H.in_range s → H.answer (H.after s bytes.now) ≡ hash
+///     → result ≡ H.answer s
 /// reached: (bound : ℕ) → ((s : H.State) → H.in_range s → H.answer s < bound) → result < bound
 /// ```
 #[inline(always)]
@@ -86,7 +90,8 @@ fn unwritten<H: Undo>(hash: u64, bytes: &[u8]) -> u64 {
     hasher.answer()
 }
 
-/// The hash of fnv1a32 with more bytes behind.
+// declared: parts
+/// The hash `fnv1a32` after more bytes.
 ///
 /// Proved:
 ///
@@ -98,7 +103,7 @@ pub fn hashers_fnv1a32_write(hash: u64, bytes: &[u8]) -> u64 {
     written::<FNV1aHasher32>(hash % 4294967296, bytes)
 }
 
-/// The hash of fnv1a32 without the last bytes.
+/// The hash `fnv1a32` without the last bytes.
 ///
 /// Proved:
 ///
@@ -111,7 +116,7 @@ pub fn hashers_fnv1a32_unwrite(hash: u64, bytes: &[u8]) -> u64 {
     unwritten::<FNV1aHasher32>(hash % 4294967296, bytes)
 }
 
-/// The hash of fnv1a64 with more bytes behind.
+/// The hash `fnv1a64` after more bytes.
 ///
 /// Proved:
 ///
@@ -123,7 +128,7 @@ pub fn hashers_fnv1a64_write(hash: u64, bytes: &[u8]) -> u64 {
     written::<FNV1aHasher64>(hash, bytes)
 }
 
-/// The hash of fnv1a64 without the last bytes.
+/// The hash `fnv1a64` without the last bytes.
 ///
 /// Proved:
 ///
@@ -136,7 +141,7 @@ pub fn hashers_fnv1a64_unwrite(hash: u64, bytes: &[u8]) -> u64 {
     unwritten::<FNV1aHasher64>(hash, bytes)
 }
 
-/// The hash of djb2 with more bytes behind.
+/// The hash `djb2` after more bytes.
 ///
 /// Proved:
 ///
@@ -148,7 +153,7 @@ pub fn hashers_djb2_write(hash: u64, bytes: &[u8]) -> u64 {
     written::<DJB2Hasher>(hash % 4294967296, bytes)
 }
 
-/// The hash of djb2 without the last bytes.
+/// The hash `djb2` without the last bytes.
 ///
 /// Proved:
 ///
@@ -161,7 +166,7 @@ pub fn hashers_djb2_unwrite(hash: u64, bytes: &[u8]) -> u64 {
     unwritten::<DJB2Hasher>(hash % 4294967296, bytes)
 }
 
-/// The hash of sdbm with more bytes behind.
+/// The hash `sdbm` after more bytes.
 ///
 /// Proved:
 ///
@@ -173,7 +178,7 @@ pub fn hashers_sdbm_write(hash: u64, bytes: &[u8]) -> u64 {
     written::<SDBMHasher>(hash % 4294967296, bytes)
 }
 
-/// The hash of sdbm without the last bytes.
+/// The hash `sdbm` without the last bytes.
 ///
 /// Proved:
 ///
@@ -186,7 +191,7 @@ pub fn hashers_sdbm_unwrite(hash: u64, bytes: &[u8]) -> u64 {
     unwritten::<SDBMHasher>(hash % 4294967296, bytes)
 }
 
-/// The hash of lose lose with more bytes behind.
+/// The hash `loselose` after more bytes.
 ///
 /// Proved:
 ///
@@ -198,7 +203,7 @@ pub fn hashers_loselose_write(hash: u64, bytes: &[u8]) -> u64 {
     written::<LoseLoseHasher>(hash, bytes)
 }
 
-/// The hash of lose lose without the last bytes.
+/// The hash `loselose` without the last bytes.
 ///
 /// Proved:
 ///
@@ -211,7 +216,7 @@ pub fn hashers_loselose_unwrite(hash: u64, bytes: &[u8]) -> u64 {
     unwritten::<LoseLoseHasher>(hash, bytes)
 }
 
-/// The hash of bricolage with more bytes behind.
+/// The hash `bricolage` after more bytes.
 ///
 /// Proved:
 ///
@@ -223,7 +228,7 @@ pub fn hashers_bricolage_write(hash: u64, bytes: &[u8]) -> u64 {
     written::<Bricolage>(hash, bytes)
 }
 
-/// The hash of bricolage without the last bytes.
+/// The hash `bricolage` without the last bytes.
 ///
 /// Proved:
 ///
@@ -236,7 +241,7 @@ pub fn hashers_bricolage_unwrite(hash: u64, bytes: &[u8]) -> u64 {
     unwritten::<Bricolage>(hash, bytes)
 }
 
-/// The hash of fxhash with more bytes behind.
+/// The hash `fxhash` after more bytes.
 ///
 /// Proved:
 ///
@@ -248,7 +253,7 @@ pub fn hashers_fxhash_write(hash: u64, bytes: &[u8]) -> u64 {
     written::<FxHasher>(hash, bytes)
 }
 
-/// The hash of fxhash without the last bytes.
+/// The hash `fxhash` without the last bytes.
 ///
 /// Proved:
 ///
@@ -261,7 +266,7 @@ pub fn hashers_fxhash_unwrite(hash: u64, bytes: &[u8]) -> u64 {
     unwritten::<FxHasher>(hash, bytes)
 }
 
-/// The hash of fxhash32 with more bytes behind.
+/// The hash `fxhash32` after more bytes.
 ///
 /// Proved:
 ///
@@ -273,7 +278,7 @@ pub fn hashers_fxhash32_write(hash: u64, bytes: &[u8]) -> u64 {
     written::<FxHasher32>(hash % 4294967296, bytes)
 }
 
-/// The hash of fxhash32 without the last bytes.
+/// The hash `fxhash32` without the last bytes.
 ///
 /// Proved:
 ///
@@ -286,7 +291,7 @@ pub fn hashers_fxhash32_unwrite(hash: u64, bytes: &[u8]) -> u64 {
     unwritten::<FxHasher32>(hash % 4294967296, bytes)
 }
 
-/// The hash of fxhash64 with more bytes behind.
+/// The hash `fxhash64` after more bytes.
 ///
 /// Proved:
 ///
@@ -298,7 +303,7 @@ pub fn hashers_fxhash64_write(hash: u64, bytes: &[u8]) -> u64 {
     written::<FxHasher64>(hash, bytes)
 }
 
-/// The hash of fxhash64 without the last bytes.
+/// The hash `fxhash64` without the last bytes.
 ///
 /// Proved:
 ///
@@ -311,13 +316,92 @@ pub fn hashers_fxhash64_unwrite(hash: u64, bytes: &[u8]) -> u64 {
     unwritten::<FxHasher64>(hash, bytes)
 }
 
+/// The hash `fnv1_32` after more bytes.
+///
+/// Proved:
+///
+/// ```text
+/// result ≡ fnv1_32_from (hash % 2 ^ 32) bytes.now
+/// ```
+#[inline]
+pub fn hashers_fnv1_32_write(hash: u64, bytes: &[u8]) -> u64 {
+    written::<Fnv1Hasher32>(hash % 4294967296, bytes)
+}
+
+/// The hash `fnv1_32` without the last bytes.
+///
+/// Proved:
+///
+/// ```text
+/// back: fnv1_32_from result bytes.now ≡ hash % 2 ^ 32
+/// undone: (s : ℕ) → s < 2 ^ 32 → fnv1_32_from s bytes.now ≡ hash % 2 ^ 32 → result ≡ s
+/// ```
+#[inline]
+pub fn hashers_fnv1_32_unwrite(hash: u64, bytes: &[u8]) -> u64 {
+    unwritten::<Fnv1Hasher32>(hash % 4294967296, bytes)
+}
+
+/// The hash `fnv1_64` after more bytes.
+///
+/// Proved:
+///
+/// ```text
+/// result ≡ fnv1_64_from hash bytes.now
+/// ```
+#[inline]
+pub fn hashers_fnv1_64_write(hash: u64, bytes: &[u8]) -> u64 {
+    written::<Fnv1Hasher64>(hash, bytes)
+}
+
+/// The hash `fnv1_64` without the last bytes.
+///
+/// Proved:
+///
+/// ```text
+/// back: fnv1_64_from result bytes.now ≡ hash
+/// undone: (s : ℕ) → s < 2 ^ 64 → fnv1_64_from s bytes.now ≡ hash → result ≡ s
+/// ```
+#[inline]
+pub fn hashers_fnv1_64_unwrite(hash: u64, bytes: &[u8]) -> u64 {
+    unwritten::<Fnv1Hasher64>(hash, bytes)
+}
+
+/// The hash `djb2_add` after more bytes.
+///
+/// Proved:
+///
+/// ```text
+/// result ≡ djb2_add_from (hash % 2 ^ 32) bytes.now
+/// ```
+#[inline]
+pub fn hashers_djb2_add_write(hash: u64, bytes: &[u8]) -> u64 {
+    written::<Djb2AddHasher>(hash % 4294967296, bytes)
+}
+
+/// The hash `djb2_add` without the last bytes.
+///
+/// Proved:
+///
+/// ```text
+/// back: djb2_add_from result bytes.now ≡ hash % 2 ^ 32
+/// undone: (s : ℕ) → s < 2 ^ 32 → djb2_add_from s bytes.now ≡ hash % 2 ^ 32 → result ≡ s
+/// ```
+#[inline]
+pub fn hashers_djb2_add_unwrite(hash: u64, bytes: &[u8]) -> u64 {
+    unwritten::<Djb2AddHasher>(hash % 4294967296, bytes)
+}
+
+// end of declared
+
 /// The hash of one-at-a-time with more bytes behind.
 ///
 /// Proved:
 ///
 /// ```text
-/// follows: (s : ℕ) → s < 2 ^ 64 → oaat_finish s ≡ hash → result ≡ oaat_finish (oaat_state s bytes.now)
-/// some: (s : ℕ) × (s < 2 ^ 64) × (oaat_finish s ≡ hash) × (result ≡ oaat_finish (oaat_state s bytes.now))
+/// follows: (s : ℕ) → s < 2 ^ 64 → oaat_finish s ≡ hash
+///     → result ≡ oaat_finish (oaat_state s bytes.now)
+/// some: (s : ℕ) × (s < 2 ^ 64) × (oaat_finish s ≡ hash)
+///     × (result ≡ oaat_finish (oaat_state s bytes.now))
 /// ```
 #[inline]
 pub fn hashers_oaat_write(hash: u64, bytes: &[u8]) -> u64 {
@@ -356,8 +440,10 @@ pub fn hashers_oaat_state_finish(state: u64) -> u64 {
 /// Proved:
 ///
 /// ```text
-/// back: (s : ℕ) → s < 2 ^ 64 → oaat_finish s ≡ result → oaat_finish (oaat_state s bytes.now) ≡ hash
-/// undone: (s : ℕ) → s < 2 ^ 64 → oaat_finish (oaat_state s bytes.now) ≡ hash → result ≡ oaat_finish s
+/// back: (s : ℕ) → s < 2 ^ 64 → oaat_finish s ≡ result
+///     → oaat_finish (oaat_state s bytes.now) ≡ hash
+/// undone: (s : ℕ) → s < 2 ^ 64 → oaat_finish (oaat_state s bytes.now) ≡ hash
+///     → result ≡ oaat_finish s
 /// ```
 #[inline]
 pub fn hashers_oaat_unwrite(hash: u64, bytes: &[u8]) -> u64 {
@@ -402,81 +488,6 @@ pub fn hashers_passthrough_write(hash: u64, bytes: &[u8]) -> u64 {
 #[inline]
 pub fn hashers_null_write(_hash: u64, bytes: &[u8]) -> u64 {
     null(bytes)
-}
-
-/// The hash of fnv1_32 with more bytes behind.
-///
-/// Proved:
-///
-/// ```text
-/// result ≡ fnv1_32_from (hash % 2 ^ 32) bytes.now
-/// ```
-#[inline]
-pub fn hashers_fnv1_32_write(hash: u64, bytes: &[u8]) -> u64 {
-    written::<Fnv1Hasher32>(hash % 4294967296, bytes)
-}
-
-/// The hash of fnv1_32 without the last bytes.
-///
-/// Proved:
-///
-/// ```text
-/// back: fnv1_32_from result bytes.now ≡ hash % 2 ^ 32
-/// undone: (s : ℕ) → s < 2 ^ 32 → fnv1_32_from s bytes.now ≡ hash % 2 ^ 32 → result ≡ s
-/// ```
-#[inline]
-pub fn hashers_fnv1_32_unwrite(hash: u64, bytes: &[u8]) -> u64 {
-    unwritten::<Fnv1Hasher32>(hash % 4294967296, bytes)
-}
-
-/// The hash of djb2_add with more bytes behind.
-///
-/// Proved:
-///
-/// ```text
-/// result ≡ djb2_add_from (hash % 2 ^ 32) bytes.now
-/// ```
-#[inline]
-pub fn hashers_djb2_add_write(hash: u64, bytes: &[u8]) -> u64 {
-    written::<Djb2AddHasher>(hash % 4294967296, bytes)
-}
-
-/// The hash of djb2_add without the last bytes.
-///
-/// Proved:
-///
-/// ```text
-/// back: djb2_add_from result bytes.now ≡ hash % 2 ^ 32
-/// undone: (s : ℕ) → s < 2 ^ 32 → djb2_add_from s bytes.now ≡ hash % 2 ^ 32 → result ≡ s
-/// ```
-#[inline]
-pub fn hashers_djb2_add_unwrite(hash: u64, bytes: &[u8]) -> u64 {
-    unwritten::<Djb2AddHasher>(hash % 4294967296, bytes)
-}
-
-/// The hash of fnv1_64 with more bytes behind.
-///
-/// Proved:
-///
-/// ```text
-/// result ≡ fnv1_64_from hash bytes.now
-/// ```
-#[inline]
-pub fn hashers_fnv1_64_write(hash: u64, bytes: &[u8]) -> u64 {
-    written::<Fnv1Hasher64>(hash, bytes)
-}
-
-/// The hash of fnv1_64 without the last bytes.
-///
-/// Proved:
-///
-/// ```text
-/// back: fnv1_64_from result bytes.now ≡ hash
-/// undone: (s : ℕ) → s < 2 ^ 64 → fnv1_64_from s bytes.now ≡ hash → result ≡ s
-/// ```
-#[inline]
-pub fn hashers_fnv1_64_unwrite(hash: u64, bytes: &[u8]) -> u64 {
-    unwritten::<Fnv1Hasher64>(hash, bytes)
 }
 
 /// The hash of joaat with more bytes behind.

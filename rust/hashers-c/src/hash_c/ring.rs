@@ -3,10 +3,10 @@
 //! their nodes. Node `i` is the one with the name number `i` in the order of bytes. Which names there are the caller keeps.
 
 // What follows is the proved text of crates/hash_c/src/ring.rt without its contracts.
-use hashers_proved::{hash_names, hash_ring};
+use hashers_proved::{hash_kinds, hash_ring};
 
 use crate::hash_c::kinds::hashers_hash;
-use hash_names::table::kind_at;
+use hash_kinds::table::kind_at;
 use hash_ring::points::{self, Point};
 
 /// Writes the points of a node, as many as there is room for, in order. The text is the node's name with 8 bytes more, which are written
@@ -51,7 +51,8 @@ pub fn hashers_ring_points(
 /// ```text
 /// moved: IsPermutation points.old points.new
 /// ordered: AllPairs IsBefore points.new
-/// ring: (hash : List ℕ → ℕ) (nodes : List (List ℕ × ℕ)) → T (is_sorted (slice_cmp nat_cmp) nodes)
+/// ring: (hash : List ℕ → ℕ) (nodes : List (List ℕ × ℕ))
+///     → T (is_sorted (slice_cmp nat_cmp) nodes)
 ///     → All (λ node. 1 ≤ node.1) nodes → ArePoints hash nodes points.old → IsRing hash nodes points.new
 /// ```
 #[inline]

@@ -3,133 +3,23 @@
 // What follows is the proved text of crates/hash_c/src/whole.rt without its contracts.
 use hashers_proved::{hash_more, hash_murmur3, hash_siphash, hash_xxh3, hash_xxhash, hashers};
 
-use hash_more::{crc32, djb2_add, elf, fnv1, joaat};
+use hash_more::crc32::{crc32, crc32c};
+use hash_more::djb2_add::djb2_add;
+use hash_more::elf::elf;
+use hash_more::fnv1::{fnv1_32, fnv1_64};
+use hash_more::joaat::joaat;
 use hash_murmur3::{murmur3_32, murmur3_128};
 use hash_siphash::{SipKey, siphash13, siphash24};
 use hash_xxh3::xxh3_64;
 use hash_xxhash::{xxh32, xxh64};
-use hashers::jenkins::spooky_hash;
-use hashers::{fnv, fx_hash, jenkins, null, oz, pigeon};
-
-/// FNV-1a at 32 bits of the text.
-///
-/// Proved:
-///
-/// ```text
-/// result ≡ fnv1a32_of text.now
-/// ```
-#[inline]
-pub fn hashers_fnv1a32(text: &[u8]) -> u64 {
-    fnv::fnv1a32(text)
-}
-
-/// FNV-1a at 64 bits of the text.
-///
-/// Proved:
-///
-/// ```text
-/// result ≡ fnv1a64_of text.now
-/// ```
-#[inline]
-pub fn hashers_fnv1a64(text: &[u8]) -> u64 {
-    fnv::fnv1a64(text)
-}
-
-/// djb2 of the text.
-///
-/// Proved:
-///
-/// ```text
-/// result ≡ djb2_of text.now
-/// ```
-#[inline]
-pub fn hashers_djb2(text: &[u8]) -> u64 {
-    oz::djb2(text)
-}
-
-/// sdbm of the text.
-///
-/// Proved:
-///
-/// ```text
-/// result ≡ sdbm_from 0 text.now
-/// ```
-#[inline]
-pub fn hashers_sdbm(text: &[u8]) -> u64 {
-    oz::sdbm(text)
-}
-
-/// lose lose at 64 bits of the text.
-///
-/// Proved:
-///
-/// ```text
-/// result ≡ loselose_from 0 text.now
-/// ```
-#[inline]
-pub fn hashers_loselose(text: &[u8]) -> u64 {
-    oz::loselose(text)
-}
-
-/// Bricolage of the text.
-///
-/// Proved:
-///
-/// ```text
-/// result ≡ bricolage_from 0 text.now
-/// ```
-#[inline]
-pub fn hashers_bricolage(text: &[u8]) -> u64 {
-    pigeon::bricolage(text)
-}
-
-/// fx at the width of a machine word, 64 bits, of the text as one piece.
-///
-/// Proved:
-///
-/// ```text
-/// result ≡ fx64 0 (words64 text.now)
-/// ```
-#[inline]
-pub fn hashers_fxhash(text: &[u8]) -> u64 {
-    fx_hash::fxhash(text)
-}
-
-/// fx at 32 bits of the text as one piece.
-///
-/// Proved:
-///
-/// ```text
-/// result ≡ fx32 0 (words32 text.now)
-/// ```
-#[inline]
-pub fn hashers_fxhash32(text: &[u8]) -> u64 {
-    fx_hash::fxhash32(text)
-}
-
-/// fx at 64 bits of the text as one piece.
-///
-/// Proved:
-///
-/// ```text
-/// result ≡ fx64 0 (words64 text.now)
-/// ```
-#[inline]
-pub fn hashers_fxhash64(text: &[u8]) -> u64 {
-    fx_hash::fxhash64(text)
-}
-
-/// One-at-a-time of the text, at 64 bits.
-///
-/// Proved:
-///
-/// ```text
-/// result ≡ oaat_of text.now
-/// ```
-#[inline]
-pub fn hashers_oaat(text: &[u8]) -> u64 {
-    jenkins::oaat(text)
-}
+use hashers::fnv::{fnv1a32, fnv1a64};
+use hashers::fx_hash::{fxhash, fxhash32, fxhash64};
+use hashers::jenkins;
+use hashers::jenkins::oaat;
+use hashers::jenkins::spooky_hash::{spooky, spooky_v1};
+use hashers::null::{null, passthrough};
+use hashers::oz::{djb2, loselose, sdbm};
+use hashers::pigeon::bricolage;
 
 /// lookup3 of the text. It is a call of its own, since within an exported one the test for a null pointer is compiled so that it
 /// waits for the answer of the call before.
@@ -144,7 +34,92 @@ fn lookup3(text: &[u8]) -> u64 {
     jenkins::lookup3(text)
 }
 
-/// lookup3 of the text as one piece: both words, pc + 2^32 * pb.
+// declared: wholes
+/// `fnv1a32` of the text: FNV-1a at 32 bits.
+///
+/// Proved:
+///
+/// ```text
+/// result ≡ fnv1a32_of text.now
+/// ```
+#[inline]
+pub fn hashers_fnv1a32(text: &[u8]) -> u64 {
+    fnv1a32(text)
+}
+
+/// `fnv1a64` of the text: FNV-1a at 64 bits.
+///
+/// Proved:
+///
+/// ```text
+/// result ≡ fnv1a64_of text.now
+/// ```
+#[inline]
+pub fn hashers_fnv1a64(text: &[u8]) -> u64 {
+    fnv1a64(text)
+}
+
+/// `djb2` of the text: djb2, with an exclusive or.
+///
+/// Proved:
+///
+/// ```text
+/// result ≡ djb2_of text.now
+/// ```
+#[inline]
+pub fn hashers_djb2(text: &[u8]) -> u64 {
+    djb2(text)
+}
+
+/// `sdbm` of the text: sdbm.
+///
+/// Proved:
+///
+/// ```text
+/// result ≡ sdbm_from 0 text.now
+/// ```
+#[inline]
+pub fn hashers_sdbm(text: &[u8]) -> u64 {
+    sdbm(text)
+}
+
+/// `loselose` of the text: the sum of the bytes.
+///
+/// Proved:
+///
+/// ```text
+/// result ≡ loselose_from 0 text.now
+/// ```
+#[inline]
+pub fn hashers_loselose(text: &[u8]) -> u64 {
+    loselose(text)
+}
+
+/// `bricolage` of the text: Steven Pigeon's.
+///
+/// Proved:
+///
+/// ```text
+/// result ≡ bricolage_from 0 text.now
+/// ```
+#[inline]
+pub fn hashers_bricolage(text: &[u8]) -> u64 {
+    bricolage(text)
+}
+
+/// `oaat` of the text: one-at-a-time at 64 bits.
+///
+/// Proved:
+///
+/// ```text
+/// result ≡ oaat_of text.now
+/// ```
+#[inline]
+pub fn hashers_oaat(text: &[u8]) -> u64 {
+    oaat(text)
+}
+
+/// `lookup3` of the text as one piece: lookup3, hashlittle2.
 ///
 /// Proved:
 ///
@@ -156,7 +131,7 @@ pub fn hashers_lookup3(text: &[u8]) -> u64 {
     lookup3(text)
 }
 
-/// The first word of SpookyHash of the text under the seeds 0 and 0, with the length mixed in.
+/// `spooky` of the text under two seeds of 0: SpookyHash, its first word.
 ///
 /// Proved:
 ///
@@ -165,10 +140,10 @@ pub fn hashers_lookup3(text: &[u8]) -> u64 {
 /// ```
 #[inline]
 pub fn hashers_spooky(text: &[u8]) -> u64 {
-    spooky_hash::spooky(text)
+    spooky(text)
 }
 
-/// The same by version 1, as the original crate answers: the length of a text below 192 bytes is left out.
+/// `spooky_v1` of the text under two seeds of 0: SpookyHash as the crate hashers 1.0.1 has it, its first word.
 ///
 /// Proved:
 ///
@@ -177,22 +152,10 @@ pub fn hashers_spooky(text: &[u8]) -> u64 {
 /// ```
 #[inline]
 pub fn hashers_spooky_v1(text: &[u8]) -> u64 {
-    spooky_hash::spooky_v1(text)
+    spooky_v1(text)
 }
 
-/// 0, whatever the text.
-///
-/// Proved:
-///
-/// ```text
-/// result ≡ 0
-/// ```
-#[inline]
-pub fn hashers_null(text: &[u8]) -> u64 {
-    null::null(text)
-}
-
-/// The last eight bytes of the text as a number, the highest first.
+/// `passthrough` of the text: the last eight bytes.
 ///
 /// Proved:
 ///
@@ -201,10 +164,46 @@ pub fn hashers_null(text: &[u8]) -> u64 {
 /// ```
 #[inline]
 pub fn hashers_passthrough(text: &[u8]) -> u64 {
-    null::passthrough(text)
+    passthrough(text)
 }
 
-/// CRC-32 of the text.
+/// `fxhash` of the text as one piece: fx at the width of a machine word.
+///
+/// Proved:
+///
+/// ```text
+/// result ≡ fx64 0 (words64 text.now)
+/// ```
+#[inline]
+pub fn hashers_fxhash(text: &[u8]) -> u64 {
+    fxhash(text)
+}
+
+/// `fxhash32` of the text as one piece: fx at 32 bits.
+///
+/// Proved:
+///
+/// ```text
+/// result ≡ fx32 0 (words32 text.now)
+/// ```
+#[inline]
+pub fn hashers_fxhash32(text: &[u8]) -> u64 {
+    fxhash32(text)
+}
+
+/// `fxhash64` of the text as one piece: fx at 64 bits.
+///
+/// Proved:
+///
+/// ```text
+/// result ≡ fx64 0 (words64 text.now)
+/// ```
+#[inline]
+pub fn hashers_fxhash64(text: &[u8]) -> u64 {
+    fxhash64(text)
+}
+
+/// `crc32` of the text: CRC-32, zlib's.
 ///
 /// Proved:
 ///
@@ -213,10 +212,10 @@ pub fn hashers_passthrough(text: &[u8]) -> u64 {
 /// ```
 #[inline]
 pub fn hashers_crc32(text: &[u8]) -> u64 {
-    crc32::crc32(text)
+    crc32(text)
 }
 
-/// CRC-32C of the text.
+/// `crc32c` of the text: CRC-32C, that of iSCSI.
 ///
 /// Proved:
 ///
@@ -225,10 +224,10 @@ pub fn hashers_crc32(text: &[u8]) -> u64 {
 /// ```
 #[inline]
 pub fn hashers_crc32c(text: &[u8]) -> u64 {
-    crc32::crc32c(text)
+    crc32c(text)
 }
 
-/// FNV-1 at 32 bits of the text.
+/// `fnv1_32` of the text: FNV-1 at 32 bits.
 ///
 /// Proved:
 ///
@@ -237,10 +236,10 @@ pub fn hashers_crc32c(text: &[u8]) -> u64 {
 /// ```
 #[inline]
 pub fn hashers_fnv1_32(text: &[u8]) -> u64 {
-    fnv1::fnv1_32(text)
+    fnv1_32(text)
 }
 
-/// FNV-1 at 64 bits of the text.
+/// `fnv1_64` of the text: FNV-1 at 64 bits.
 ///
 /// Proved:
 ///
@@ -249,10 +248,10 @@ pub fn hashers_fnv1_32(text: &[u8]) -> u64 {
 /// ```
 #[inline]
 pub fn hashers_fnv1_64(text: &[u8]) -> u64 {
-    fnv1::fnv1_64(text)
+    fnv1_64(text)
 }
 
-/// djb2 with a sum of the text.
+/// `djb2_add` of the text: djb2 with a sum, that of .gnu.hash in ELF files.
 ///
 /// Proved:
 ///
@@ -261,10 +260,10 @@ pub fn hashers_fnv1_64(text: &[u8]) -> u64 {
 /// ```
 #[inline]
 pub fn hashers_djb2_add(text: &[u8]) -> u64 {
-    djb2_add::djb2_add(text)
+    djb2_add(text)
 }
 
-/// one-at-a-time at 32 bits of the text.
+/// `joaat` of the text: one-at-a-time at 32 bits, PHP's joaat.
 ///
 /// Proved:
 ///
@@ -273,10 +272,10 @@ pub fn hashers_djb2_add(text: &[u8]) -> u64 {
 /// ```
 #[inline]
 pub fn hashers_joaat(text: &[u8]) -> u64 {
-    joaat::joaat(text)
+    joaat(text)
 }
 
-/// ELF's hash of the text.
+/// `elf` of the text: that of .hash in ELF files.
 ///
 /// Proved:
 ///
@@ -285,10 +284,22 @@ pub fn hashers_joaat(text: &[u8]) -> u64 {
 /// ```
 #[inline]
 pub fn hashers_elf(text: &[u8]) -> u64 {
-    elf::elf(text)
+    elf(text)
 }
 
-/// XXH32 of the text under the seed 0.
+/// `null` of the text: 0, whatever the text.
+///
+/// Proved:
+///
+/// ```text
+/// result ≡ 0
+/// ```
+#[inline]
+pub fn hashers_null(text: &[u8]) -> u64 {
+    null(text)
+}
+
+/// `xxh32` of the text under the seed 0: XXH32.
 ///
 /// Proved:
 ///
@@ -300,7 +311,7 @@ pub fn hashers_xxh32(text: &[u8]) -> u64 {
     u64::from(xxh32(0, text))
 }
 
-/// XXH64 of the text under the seed 0.
+/// `xxh64` of the text under the seed 0: XXH64.
 ///
 /// Proved:
 ///
@@ -312,7 +323,7 @@ pub fn hashers_xxh64(text: &[u8]) -> u64 {
     xxh64(0, text)
 }
 
-/// MurmurHash3_x86_32 of the text under the seed 0.
+/// `murmur3_32` of the text under the seed 0: MurmurHash3_x86_32.
 ///
 /// Proved:
 ///
@@ -324,7 +335,7 @@ pub fn hashers_murmur3_32(text: &[u8]) -> u64 {
     u64::from(murmur3_32(0, text))
 }
 
-/// The first word of MurmurHash3_x64_128 of the text under the seed 0.
+/// `murmur3` of the text under the seed 0: MurmurHash3_x64_128, its first word.
 ///
 /// Proved:
 ///
@@ -336,7 +347,7 @@ pub fn hashers_murmur3(text: &[u8]) -> u64 {
     murmur3_128(0, text).0
 }
 
-/// SipHash-1-3 of the text under the key 0.
+/// `siphash13` of the text under the key 0: SipHash-1-3.
 ///
 /// Proved:
 ///
@@ -348,7 +359,7 @@ pub fn hashers_siphash13(text: &[u8]) -> u64 {
     siphash13(SipKey { k0: 0, k1: 0 }, text)
 }
 
-/// SipHash-2-4 of the text under the key 0.
+/// `siphash24` of the text under the key 0: SipHash-2-4.
 ///
 /// Proved:
 ///
@@ -360,7 +371,7 @@ pub fn hashers_siphash24(text: &[u8]) -> u64 {
     siphash24(SipKey { k0: 0, k1: 0 }, text)
 }
 
-/// XXH3 of 64 bits of the text under the seed 0.
+/// `xxh3` of the text under the seed 0: XXH3 of 64 bits.
 ///
 /// Proved:
 ///
@@ -371,3 +382,4 @@ pub fn hashers_siphash24(text: &[u8]) -> u64 {
 pub fn hashers_xxh3(text: &[u8]) -> u64 {
     xxh3_64(0, text)
 }
+// end of declared

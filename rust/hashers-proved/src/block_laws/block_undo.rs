@@ -1,12 +1,12 @@
-//! What a hash by the block says for itself where it loses nothing.
+//! What a block-based hash that loses nothing has to define.
 
 // What follows is the proved text of crates/block_laws/src/block_undo.rt without its contracts.
 use crate::hash_blocks;
 
 use hash_blocks::BlockRule;
 
-/// The second part, of a rule that loses nothing: a block can be taken back, there is one block between any two states, and
-/// one state behind each answer.
+/// The second part, of a rule that loses nothing: a block can be undone, there is one block between any two states, and
+/// one state with each answer.
 pub trait BlockUndo<const N: usize>: BlockRule<N> {
     /// A law with no code: the numbers of a seed are in range.
     ///

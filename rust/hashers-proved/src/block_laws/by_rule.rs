@@ -1,4 +1,4 @@
-//! What follows for all hashes by the block that lose nothing.
+//! What follows for all block-based hashes that lose nothing.
 
 // What follows is the proved text of crates/block_laws/src/by_rule.rt without its contracts.
 use crate::{hash_blocks, hash_laws, hash_windows};
@@ -8,7 +8,7 @@ use hash_blocks::blocks_in;
 use hash_laws::traits::bytes_are_a_text;
 use hash_windows::window::differ_in_one_block;
 
-/// Whether the texts have one length and differ, but only within one block of `N` bytes, or behind the whole blocks. Where so,
+/// Whether the texts have one length and differ, but only within one block of `N` bytes, or after the whole blocks. If so,
 /// their hashes differ under every seed. Computes no hash.
 ///
 /// Proved:
@@ -39,7 +39,7 @@ fn blocks_out<R: BlockUndo<N>, const N: usize>(hash: R::Hash, bytes: &[u8], tota
     state
 }
 
-/// The one block between a front of whole blocks and a back that leads to a hash, under a seed.
+/// The one block between a front of whole blocks and a back that gives a hash, under a seed.
 ///
 /// The caller has to see to it that:
 ///
@@ -91,7 +91,7 @@ pub fn block_out<R: BlockUndo<N>, const N: usize>(state: &mut R::State, bytes: &
     R::unblock(state, bytes);
 }
 
-/// The one state that answers a hash, from the bytes that are left behind the whole blocks and the length.
+/// The one state that answers a hash, from the bytes that are left after the whole blocks and the length.
 ///
 /// The caller has to see to it that:
 ///

@@ -7,7 +7,7 @@ use crate::block_laws::by_rule::{apart_by_rule, block_for_by_rule};
 use hash_murmur3::{Murmur3Rule32, Murmur3Rule128};
 
 /// Whether the texts have one length and differ, but only within one word: four bytes from a place that 4 divides, or the up to
-/// three bytes behind the last such word. Where so, their hashes by MurmurHash3_x86_32 differ under every seed. Computes no hash.
+/// three bytes after the last such word. If so, their hashes by MurmurHash3_x86_32 differ under every seed. Computes no hash.
 ///
 /// Proved:
 ///
@@ -43,7 +43,7 @@ pub fn word_for_murmur3_32(seed: u32, front: &[u8], back: &[u8], hash: u32) -> [
 }
 
 /// Whether the texts have one length and differ, but only within one block of sixteen bytes from a place that 16 divides, or
-/// within the up to fifteen bytes behind. Where so, their hashes of 128 bits by MurmurHash3_x64_128 differ under every seed.
+/// within the up to fifteen bytes after them. If so, their hashes of 128 bits by MurmurHash3_x64_128 differ under every seed.
 /// Computes no hash.
 ///
 /// Proved:

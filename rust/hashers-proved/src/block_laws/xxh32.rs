@@ -255,15 +255,19 @@ fn word_between(from: u32, to: u32) -> u32 {
         .wrapping_mul(UN_Q2)
 }
 
-// The length of a text modulo 2^32.
+// The word before what is left behind the blocks, under a seed, from the length of a text and what its whole blocks are in.
 /// Proved:
 ///
 /// ```text
-/// result ≡ length text.now % 2 ^ 32
+/// result ≡ begun seed front.now total
 /// ```
-#[inline(always)]
-fn low_length(text: &[u8]) -> u32 {
-    (text.len() as u64 % 0x1_0000_0000) as u32
+#[inline]
+fn begun(seed: u32, front: &[u8], total: u64) -> u32 {
+    if total < 16 {
+        seed.wrapping_add(Q5)
+    } else {
+        converged(&lanes_after(&start(seed), front))
+    }
 }
 
 // The word behind the whole blocks of 16, between a front and a back, that leads to a hash.
@@ -278,20 +282,15 @@ fn low_length(text: &[u8]) -> u32 {
 ///
 /// ```text
 /// leads: xxh32 seed (front.now ++ (result ++ back.now)) ≡ hash
-/// is_word: IsBlock 4 result
+/// alone: (word : List ℕ) → IsText word → length word ≡ 4
+///     → xxh32 seed (front.now ++ (word ++ back.now)) ≡ hash → word ≡ result
 /// ```
 #[inline]
 fn word_behind(seed: u32, front: &[u8], back: &[u8], hash: u32) -> [u8; 4] {
-    let begun = if front.len() < 16 {
-        seed.wrapping_add(Q5)
-    } else {
-        converged(&lanes_after(&start(seed), front))
-    };
     let (_, ahead) = front.as_chunks::<16>();
-    let total = low_length(front)
-        .wrapping_add(4)
-        .wrapping_add(low_length(back));
-    let from = fours_in(begun.wrapping_add(total), ahead);
+    let total = front.len() as u64 + 4 + back.len() as u64;
+    let low = (total % 0x1_0000_0000) as u32;
+    let from = fours_in(begun(seed, front, total).wrapping_add(low), ahead);
     four_between(from, rest_out(last_unmix(hash), back)).to_le_bytes()
 }
 
@@ -327,7 +326,8 @@ fn block_around(ahead: &[u8], near: &[u8]) -> [u8; 16] {
 ///
 /// ```text
 /// leads: xxh32 seed (front.now ++ (result ++ back.now)) ≡ hash
-/// is_word: IsBlock 4 result
+/// alone: (word : List ℕ) → IsText word → length word ≡ 4
+///     → xxh32 seed (front.now ++ (word ++ back.now)) ≡ hash → word ≡ result
 /// ```
 #[inline]
 fn word_inside(seed: u32, front: &[u8], back: &[u8], hash: u32) -> [u8; 4] {
@@ -337,10 +337,9 @@ fn word_inside(seed: u32, front: &[u8], back: &[u8], hash: u32) -> [u8; 4] {
     let before = lanes_after(&start(seed), front);
     let spare = lanes_after(&after_block(&before, &block_around(ahead, near)), later);
     let (_, left) = later.as_chunks::<16>();
-    let total = low_length(front)
-        .wrapping_add(4)
-        .wrapping_add(low_length(back));
-    let wanted = rest_out(last_unmix(hash), left).wrapping_sub(total);
+    let total = front.len() as u64 + 4 + back.len() as u64;
+    let low = (total % 0x1_0000_0000) as u32;
+    let wanted = rest_out(last_unmix(hash), left).wrapping_sub(low);
     let lane = lane_for(place, wanted, converged(&spare), spare[place]);
     word_between(before[place], lane_back(place, lane, later)).to_le_bytes()
 }

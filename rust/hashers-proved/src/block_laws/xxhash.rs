@@ -152,7 +152,22 @@ fn eights_in(h: u64, text: &[u8]) -> u64 {
     mixed
 }
 
-/// The one word of eight bytes between a front and a back that leads XXH64 to a hash, under a seed. It is a word behind the whole
+// The word before what is left behind the blocks, under a seed, from the length of a text and what its whole blocks are in.
+/// Proved:
+///
+/// ```text
+/// result ≡ begun seed front.now total
+/// ```
+#[inline]
+fn begun(seed: u64, front: &[u8], total: u64) -> u64 {
+    if total < 32 {
+        seed.wrapping_add(P5)
+    } else {
+        converged(&lanes_of(seed, front))
+    }
+}
+
+/// The one word of eight bytes between a front and a back that gives XXH64 a hash, under a seed. It is a word after the whole
 /// blocks of 32 bytes: 8 divides the front's length, and what is left of the front, the word and the back are shorter than a block.
 ///
 /// The caller has to see to it that:
@@ -171,12 +186,7 @@ fn eights_in(h: u64, text: &[u8]) -> u64 {
 #[inline]
 pub fn word_for_xxh64(seed: u64, front: &[u8], back: &[u8], hash: u64) -> [u8; 8] {
     let total = front.len() as u64 + 8 + back.len() as u64;
-    let begun = if total < 32 {
-        seed.wrapping_add(P5)
-    } else {
-        converged(&lanes_of(seed, front))
-    };
-    let from = eights_in(begun.wrapping_add(total), front);
+    let from = eights_in(begun(seed, front, total).wrapping_add(total), front);
     eight_between(from, rest_out(last_unmix(hash), back))
 }
 
@@ -197,8 +207,8 @@ fn in_last_word(len: usize, place: usize) -> bool {
     len / 32 * 32 <= place / 8 * 8 && len - place / 8 * 8 >= 8
 }
 
-/// Whether the texts have one length and differ, but only within one word of eight bytes behind their whole blocks of 32, from a
-/// place that 8 divides. Where so, their hashes by XXH64 differ under every seed. Computes no hash.
+/// Whether the texts have one length and differ, but only within one word of eight bytes after their whole blocks of 32, from a
+/// place that 8 divides. If so, their hashes by XXH64 differ under every seed. Computes no hash.
 ///
 /// Proved:
 ///
@@ -217,7 +227,7 @@ pub fn apart_by_word_xxh64(x: &[u8], y: &[u8]) -> bool {
     }
 }
 
-/// Whether the texts have one length and differ, but only within one word of four bytes from a place that 4 divides. Where so, their
+/// Whether the texts have one length and differ, but only within one word of four bytes from a place that 4 divides. If so, their
 /// hashes by XXH32 differ under every seed. Computes no hash.
 ///
 /// Proved:

@@ -39,7 +39,7 @@ impl WordBytes for u8 {
     }
 }
 
-/// Of words that lie one behind the other.
+/// Of words that lie one after the other.
 ///
 /// The caller has to see to it that:
 ///

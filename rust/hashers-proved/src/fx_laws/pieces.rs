@@ -1,4 +1,4 @@
-//! Laws of the fx hashes: where the cuts of a list of pieces don't show, and where one byte does.
+//! Laws of the fx hashes: where the split of a list of pieces does not matter, and where one byte does.
 
 // What follows is the proved text of crates/fx_laws/src/pieces.rt without its contracts.
 use crate::{hash_fx, hash_windows, std};
@@ -9,7 +9,7 @@ use hash_windows::window::differ_at_one_place;
 use std::hash::Hasher;
 
 /// Writes the pieces in order. The state is that after one write of the joined bytes, since the length of each piece but
-/// the last is a multiple of eight, so that no cut falls into a word. There may be no pieces at all. It takes either type
+/// the last is a multiple of eight, so that no word is split. There may be no pieces at all. It takes either type
 /// of 64 bits.
 ///
 /// The caller has to see to it that:
@@ -157,7 +157,7 @@ fn apart_by_one_word<W: FxDiffering>(x: &[&[u8]], y: &[&[u8]]) -> bool {
 }
 
 /// Whether the two lists have as many pieces, of the same lengths one by one, and exactly one word of 64 bits of all differs: up
-/// to eight neighbouring bytes, from a place in their piece that eight divides. Where so, both types of 64 bits answer
+/// to eight adjacent bytes, from a place in their piece that eight divides. If so, both types of 64 bits answer
 /// differently to the two lists, from their defaults. Computes no hash.
 ///
 /// Proved:
@@ -171,7 +171,7 @@ pub fn apart_by_one_word_fx64(x: &[&[u8]], y: &[&[u8]]) -> bool {
     apart_by_one_word::<u64>(x, y)
 }
 
-/// The same by words of 32 bits, up to four neighbouring bytes: `FxHasher32` answers differently.
+/// The same by words of 32 bits, up to four adjacent bytes: `FxHasher32` answers differently.
 ///
 /// Proved:
 ///

@@ -1,4 +1,4 @@
-//! The hasher of a rule by the block.
+//! The hasher of a block-based rule.
 
 // What follows is the proved text of crates/hash_blocks/src/block_hasher.rt without its contracts.
 use crate::{hash_laws, std};
@@ -8,8 +8,8 @@ use crate::hash_blocks::parts::{blocks_in, bytes_in};
 use hash_laws::traits::{Piecewise, Streamed, run_streamed};
 use std::hash::Hasher;
 
-/// The hasher of a rule by the block. Contracts see it as its position: what is kept of the whole blocks, the bytes that are
-/// left behind them, fewer than a block, and the length modulo 2^64.
+/// The hasher of a block-based rule. Contracts see it as its position: what is kept of the whole blocks, the bytes that are
+/// left after them, fewer than a block, and the length modulo 2^64.
 pub struct BlockHasher<R: BlockRule<N>, const N: usize> {
     state: R::State,
     buffer: [u8; N],
@@ -51,7 +51,7 @@ impl<R: BlockRule<N>, const N: usize> BlockHasher<R, N> {
         R::finish(&self.state, &self.buffer[..self.kept], self.total)
     }
 
-    /// The hash after more pieces, in order: that of the text so far and the joined pieces, however the text was cut.
+    /// The hash after more pieces, in order: that of the text so far and the joined pieces, however the text was split.
     ///
     /// Proved:
     ///

@@ -1,8 +1,8 @@
-//! What a hash by the block says for itself.
+//! What a block-based hash has to define.
 
 // What follows is the proved text of crates/hash_blocks/src/block_rule.rt without its contracts.
 
-/// A hash of blocks of `N` bytes: what it starts from, one block in, and the answer from what is kept, what is left behind
+/// A hash of blocks of `N` bytes: what it starts from, one block in, and the answer from what is kept, what is left after
 /// the whole blocks, and the length. The implementing type is a name for the rule, and no value of it is made.
 pub trait BlockRule<const N: usize> {
     /// What is kept of the blocks so far.
@@ -56,7 +56,7 @@ pub trait BlockRule<const N: usize> {
     /// ```
     fn finish(state: &Self::State, left: &[u8], total: u64) -> Self::Hash;
 
-    /// The 64 bits that std's `finish` answers.
+    /// The 64 bits that std's `finish` returns.
     ///
     /// Proved:
     ///

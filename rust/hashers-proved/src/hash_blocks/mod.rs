@@ -1,4 +1,4 @@
-//! A hash that takes a text by the block is a rule, and one hasher, [`BlockHasher`], serves all rules.
+//! A hash that takes its input in blocks is a rule, and one hasher, [`BlockHasher`], serves all rules.
 
 // What follows is the proved text of crates/hash_blocks/src/lib.rt without its contracts.
 

@@ -1,4 +1,4 @@
-//! Hashes by the block of two words.
+//! Block-based hashes of two words.
 
 // What follows is the proved text of crates/hash_blocks/src/wide_rule.rt without its contracts.
 

@@ -70,7 +70,7 @@ fn joined(bytes: &[u8; 8], at: usize, text: &[u8]) -> [u8; 8] {
     front.wrapping_add(le_seven(text) << bits).to_le_bytes()
 }
 
-/// Puts a text into a buffer of eight bytes behind its first `at`, as one word. What stood behind the text is lost.
+/// Puts a text into a buffer of eight bytes after its first `at`, as one word. What stood after the text is lost.
 ///
 /// The caller has to see to it that:
 ///

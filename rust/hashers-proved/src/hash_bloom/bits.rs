@@ -40,26 +40,6 @@ fn set_bit(words: &mut [u64], at: u64) {
     words[(at / 64) as usize] |= 1 << (at % 64);
 }
 
-/// The place that lies `step` further, round the bits.
-///
-/// The caller has to see to it that:
-///
-/// ```text
-/// at: at < bits
-/// step: step < bits
-/// ```
-///
-/// Proved:
-///
-/// ```text
-/// result ≡ (at + step) % bits
-/// ```
-#[inline]
-fn next_place(at: u64, step: u64, bits: u64) -> u64 {
-    let left = bits - step;
-    if at < left { at + step } else { at - left }
-}
-
 /// The remainder, by a multiplication with the inverse in place of a division: the quotient comes out right or 1 too low.
 /// Paul Barrett, "Implementing the Rivest Shamir and Adleman Public Key Encryption Algorithm", 1986.
 ///
@@ -82,7 +62,20 @@ fn remainder(hash: u64, bits: u64, inverse: u64) -> u64 {
     if rest < bits { rest } else { rest - bits }
 }
 
-/// Sets the bits of all probes, and answers whether all of them were set before.
+/// The hash of the probe behind probe i, by its own, and by how much more that of the next one is.
+///
+/// Proved:
+///
+/// ```text
+/// hash: result.0 ≡ (hash + step) % 2 ^ 64
+/// step: result.1 ≡ (step + (i + 1)) % 2 ^ 64
+/// ```
+#[inline]
+fn next_probe(hash: u64, step: u64, i: u32) -> (u64, u64) {
+    (hash.wrapping_add(step), step.wrapping_add(u64::from(i) + 1))
+}
+
+/// Sets the bits of all probes, and answers whether one of them was not set before.
 ///
 /// The caller has to see to it that:
 ///
@@ -96,20 +89,20 @@ fn remainder(hash: u64, bits: u64, inverse: u64) -> u64 {
 /// ```text
 /// set: (j : ℕ) → HasBit words.new j
 ///     ↔ (HasBit words.old j ⊎ IsAmong (place bits first second) probes j)
-/// before: IsTrue result ↔ HasAll words.old (place bits first second) probes
+/// before: (result ≡ false) ↔ HasAll words.old (place bits first second) probes
 /// ```
 #[inline]
 pub fn set_all(words: &mut [u64], bits: u64, probes: u32, first: u64, second: u64) -> bool {
     let inverse = u64::MAX / bits;
-    let step = remainder(second, bits, inverse);
-    let mut at = remainder(first, bits, inverse);
+    let (mut hash, mut step) = (first, second);
     let mut before = true;
-    for _ in 0..probes {
+    for i in 0..probes {
+        let at = remainder(hash, bits, inverse);
         before &= has_bit(words, at);
         set_bit(words, at);
-        at = next_place(at, step, bits);
+        (hash, step) = next_probe(hash, step, i);
     }
-    before
+    !before
 }
 
 /// Whether the bits of all probes are set.
@@ -129,13 +122,13 @@ pub fn set_all(words: &mut [u64], bits: u64, probes: u32, first: u64, second: u6
 #[inline]
 pub fn has_all(words: &[u64], bits: u64, probes: u32, first: u64, second: u64) -> bool {
     let inverse = u64::MAX / bits;
-    let step = remainder(second, bits, inverse);
-    let mut at = remainder(first, bits, inverse);
-    for _ in 0..probes {
+    let (mut hash, mut step) = (first, second);
+    for i in 0..probes {
+        let at = remainder(hash, bits, inverse);
         if !has_bit(words, at) {
             return false;
         }
-        at = next_place(at, step, bits);
+        (hash, step) = next_probe(hash, step, i);
     }
     true
 }

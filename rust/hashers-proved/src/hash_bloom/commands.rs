@@ -107,8 +107,7 @@ pub fn found_after<F: Piecewise, G: Piecewise>(
     obey_all(filter, commands).contains(key)
 }
 
-/// What `insert` answers after the commands: whether the key was possibly there. Where it answers `false`, no command had
-/// inserted the key.
+/// What `insert` answers after the commands: whether the key is new. Where it is, no command had inserted it.
 ///
 /// The caller has to see to it that:
 ///
@@ -119,12 +118,12 @@ pub fn found_after<F: Piecewise, G: Piecewise>(
 /// Proved:
 ///
 /// ```text
-/// exactly: IsTrue result
+/// exactly: (result ≡ false)
 ///     ↔ IsKnownAfter F.hash_of G.hash_of filter commands.items key.now
-/// new: result ≡ false → Inserts commands.items key.now → ⊥
+/// new: IsTrue result → Inserts commands.items key.now → ⊥
 /// ```
 #[inline]
-pub fn known_after<F: Piecewise, G: Piecewise>(
+pub fn new_after<F: Piecewise, G: Piecewise>(
     filter: Bloom<F, G>,
     commands: Vec<Command<F, G>>,
     key: &[u8],

@@ -40,7 +40,8 @@ fn product_high(one: u128, other: u128) -> u128 {
 ///
 /// ```text
 /// probes: result.probes ≡ one.probes + other.probes
-/// expected: (bits : ℕ) → IsExpected bits one.probes one.zeros → IsExpected bits other.probes other.zeros
+/// expected: (bits : ℕ) → IsExpected bits one.probes one.zeros
+///     → IsExpected bits other.probes other.zeros
 ///     → IsExpected bits result.probes result.zeros
 /// ```
 #[inline]

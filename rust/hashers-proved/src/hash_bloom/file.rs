@@ -1,6 +1,6 @@
 //! A filter in a file, to be read back by another run.
 //!
-//! First stands the line `hashers-bloom 1 BITS PROBES PAIR`: the form's version, the numbers in 16 and in 8 hexadecimal digits, and the
+//! First stands the line `hashers-bloom 2 BITS PROBES PAIR`: the form's version, the numbers in 16 and in 8 hexadecimal digits, and the
 //! names of the two hashers as the caller gives them. Then come the words, each in 8 bytes with the lowest first, and at the end FNV-1a at
 //! 64 bits of all before, in 8 bytes like a word.
 
@@ -22,7 +22,9 @@ use streams::failure::Failure;
 use streams::tries::{TRIES, write_all};
 
 /// What the file begins with: whose it is, and its form's version.
-const TITLE: &[u8] = b"hashers-bloom 1 ";
+const TITLE: &[u8] = b"hashers-bloom ";
+
+const VERSION: &[u8] = b"2 ";
 
 /// Why no filter was read.
 #[derive(Debug)]
@@ -31,6 +33,8 @@ pub enum Unread {
     Failed(Error),
     /// This is no file of a filter in this form.
     Form,
+    /// The form is one of another version, whose keys have other places.
+    Version,
     /// The filter is one over another pair of hashers.
     Pair,
     /// The hash at the end is another: the file is damaged.
@@ -43,6 +47,10 @@ impl Display for Unread {
         match self {
             Unread::Failed(error) => write!(f, "{error}"),
             Unread::Form => write!(f, "this is no file of a filter"),
+            Unread::Version => write!(
+                f,
+                "the file is one of another version: make the filter again"
+            ),
             Unread::Pair => write!(f, "the filter is one over other hashers"),
             Unread::Hash => write!(f, "the file is damaged: it has another hash"),
         }
@@ -69,6 +77,7 @@ impl From<Error> for Unread {
 fn header(alloc: Global, bits: u64, probes: u32, pair: &[u8]) -> io::Result<Vec<u8>> {
     let mut line = Vec::new(alloc);
     line.extend_from_slice(TITLE)?;
+    line.extend_from_slice(VERSION)?;
     push_hex(&mut line, 16, u128::from(bits))?;
     line.push(b' ')?;
     push_hex(&mut line, 8, u128::from(probes))?;
@@ -116,6 +125,20 @@ fn expect<R: Read>(r: &mut R, text: &[u8], otherwise: Unread) -> Result<(), Unre
     Ok(())
 }
 
+/// Reads what the file begins with.
+///
+/// Proved:
+///
+/// ```text
+/// read: OnOk result (Consumes (R.remaining r.old) (R.remaining r.new) title)
+/// refused: IfErr result (λ why. IsRefusal why → BeginsNot (R.remaining r.old) title)
+/// ```
+#[inline]
+fn read_title<R: Read>(r: &mut R) -> Result<(), Unread> {
+    expect(r, TITLE, Unread::Form)?;
+    expect(r, VERSION, Unread::Version)
+}
+
 /// Reads a number of so many digits and the space behind it.
 ///
 /// The caller has to see to it that:
@@ -158,7 +181,7 @@ fn read_field<R: Read, const DIGITS: usize>(r: &mut R) -> Result<u128, Unread> {
 /// ```
 #[inline]
 fn read_header<R: Read>(r: &mut R, pair: &[u8]) -> Result<(u64, u32), Unread> {
-    expect(r, TITLE, Unread::Form)?;
+    read_title(r)?;
     let bits = read_field::<R, 16>(r)?;
     let probes = read_field::<R, 8>(r)?;
     expect(r, pair, Unread::Pair)?;

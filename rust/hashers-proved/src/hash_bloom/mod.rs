@@ -2,7 +2,8 @@
 //! and never forgets one.
 //!
 //! Burton H. Bloom, "Space/Time Trade-offs in Hash Coding with Allowable Errors", 1970. The places come from two hashes, as in
-//! Adam Kirsch and Michael Mitzenmacher, "Less Hashing, Same Performance: Building a Better Bloom Filter", 2006.
+//! Adam Kirsch and Michael Mitzenmacher, "Less Hashing, Same Performance: Building a Better Bloom Filter", 2006, by enhanced double
+//! hashing.
 
 // What follows is the proved text of crates/hash_bloom/src/lib.rt without its contracts.
 use crate::hashers;
@@ -26,13 +27,14 @@ use std::marker::{PhantomData};
 /// A Bloom filter: a set of bits. Each key has `probes` places among them, by two hashes, and a key is found where the bits at
 /// all of its places are set.
 ///
-/// The place of probe i is (f + i * g) mod bits, where f is the hash of the key by `F` and g the one by `G`. The sum is one of
-/// natural numbers: nothing wraps at 2^64. Each call makes one hash by each hasher and one division, of 2^64 - 1 by the number of
-/// bits. No key is in it, so a compiler can take it out of a loop. Multiplications stand in place of all others.
+/// The place of probe i is (f + i * g + (i^3 - i) / 6) mod 2^64 mod bits, where f is the hash of the key by `F` and g the one by
+/// `G`: g is added from probe to probe, and then i + 1 to g (enhanced double hashing: Peter C. Dillinger and Panagiotis Manolios,
+/// "Bloom Filters in Probabilistic Verification", 2004). Each call makes one hash by each hasher and one division, of 2^64 - 1 by
+/// the number of bits. No key is in it, so a compiler can take it out of a loop. Multiplications stand in place of all others.
 ///
 /// A key that was inserted is found, whatever the hashers. How often a strange key is found depends on them, and nothing is
-/// proved of it: with good hashes it is about (1 - e^(-probes * keys / bits))^probes. Where a key's second hash is a multiple
-/// of the number of bits, all of its probes are one. A hasher of 32 bits reaches the first 2^32 bits at the first probe.
+/// proved of it: with good hashes it is about (1 - e^(-probes * keys / bits))^probes. A hasher of 32 bits reaches the first 2^32
+/// bits at the first probe.
 ///
 /// Contracts see the filter as its number of bits, its number of probes and its words. Bit i is that of value 2^(i mod 64) in
 /// word i / 64. No bit beyond the number of bits is set.
@@ -155,15 +157,15 @@ impl<F: Piecewise, G: Piecewise> Bloom<F, G> {
         Self::for_keys(alloc, keys, (1443 * k).div_ceil(1000))
     }
 
-    /// Inserts the key: sets the bits at its places, and clears none. It answers whether all of them were set before: `false`
-    /// says that this key was not inserted before, and `true` that it possibly was. Afterwards this key is found, and each that
-    /// was found before. It takes no memory.
+    /// Inserts the key, and answers whether it is new, as a set does: `true` says that it was not inserted before, and `false` that
+    /// it possibly was. It sets the bits at its places, and clears none. Afterwards this key is found, and each that was found
+    /// before. It takes no memory.
     ///
     /// Proved:
     ///
     /// ```text
     /// inserted: Adds self.old self.new (IsProbe F.hash_of G.hash_of self.old key.now)
-    /// before: IsTrue result ↔ Passes F.hash_of G.hash_of self.old key.now
+    /// before: (result ≡ false) ↔ Passes F.hash_of G.hash_of self.old key.now
     /// passes: Passes F.hash_of G.hash_of self.new key.now
     /// kept: AllPassIn F.hash_of G.hash_of self.old self.new
     /// ```

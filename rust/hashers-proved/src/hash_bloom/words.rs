@@ -18,8 +18,8 @@ pub fn has_room(words: &[u64], bits: u64, probes: u32) -> bool {
     bits > 0 && probes > 0 && bits.div_ceil(64) <= words.len() as u64
 }
 
-/// Inserts the key: sets the bits at its places, and clears none. It answers whether all of them were set before. Afterwards
-/// this key is found, and each that was found before.
+/// Inserts the key, and answers whether it is new, as a set does: it sets the bits at its places, of which one was not set. It
+/// clears none. Afterwards this key is found, and each that was found before.
 ///
 /// The caller has to see to it that:
 ///
@@ -32,7 +32,7 @@ pub fn has_room(words: &[u64], bits: u64, probes: u32) -> bool {
 /// ```text
 /// inserted: Adds (filter_of bits probes words.old) (filter_of bits probes words.new)
 ///     (IsProbe F.hash_of G.hash_of (filter_of bits probes words.old) key.now)
-/// before: IsTrue result ↔ Passes F.hash_of G.hash_of (filter_of bits probes words.old) key.now
+/// before: (result ≡ false) ↔ Passes F.hash_of G.hash_of (filter_of bits probes words.old) key.now
 /// passes: Passes F.hash_of G.hash_of (filter_of bits probes words.new) key.now
 /// kept: AllPassIn F.hash_of G.hash_of (filter_of bits probes words.old) (filter_of bits probes words.new)
 /// ```

@@ -4,11 +4,11 @@
 use crate::{hash_laws, hash_rules, std};
 
 use hash_laws::traits::{Piecewise, Streamed, hash_of};
-use hash_rules::{ByteHasher, ByteRule, StepRule};
+use hash_rules::{ByteHasher, ByteRule, StepRule, hash_by_rule};
 use std::hash::Hasher;
 
 /// The hasher that answers 0 to every text (the crate hashers' own, the worst case for a table). The value written
-/// `NullHasher` is its default. `write` gives `h.new ≡ h.old`, and `finish` answers 0.
+/// `NullHasher` is its default. `write` gives `h.new ≡ h.old`, and `finish` returns 0.
 pub struct NullHasher;
 
 impl Default for NullHasher {
@@ -72,7 +72,7 @@ pub fn null(bytes: &[u8]) -> u64 {
     hash_of::<NullHasher>(bytes)
 }
 
-/// One byte behind the state, as a digit in base 256.
+/// One byte after the state, as a digit in base 256.
 ///
 /// Proved:
 ///
@@ -84,7 +84,7 @@ fn append_byte(state: u64, byte: u8) -> u64 {
     (state << 8) + u64::from(byte)
 }
 
-/// The bytes behind the state, one by one.
+/// The bytes after the state, one by one.
 ///
 /// Proved:
 ///
@@ -100,7 +100,7 @@ fn append_few(state: u64, bytes: &[u8]) -> u64 {
     state
 }
 
-/// The hash with more bytes behind: what a [`PassThroughHasher`] of this state comes to. Only the last eight bytes are read.
+/// The hash after appending more bytes: what a [`PassThroughHasher`] of this state comes to. Only the last eight bytes are read.
 ///
 /// Proved:
 ///
@@ -150,7 +150,7 @@ impl ByteRule for PassThroughRule {
 }
 
 /// The hasher that keeps the last eight bytes (the crate hashers' own, for keys that are hashes already). From 0, a byte
-/// `b` takes the state `h` to `256 * h + b`, modulo 2^64; `finish` answers `h`. Cuts don't show.
+/// `b` takes the state `h` to `256 * h + b`, modulo 2^64; `finish` returns `h`. The split does not matter.
 ///
 /// Contracts see the hasher as its state, a number below 2^64: `write` gives `h.new ≡ passthrough_from h.old bytes.now`. Of `a`
 /// the hash is 97.
@@ -166,7 +166,7 @@ pub type PassThroughHasher = ByteHasher<PassThroughRule>;
 /// ```
 #[inline]
 pub fn passthrough(bytes: &[u8]) -> u64 {
-    hash_of::<PassThroughHasher>(bytes)
+    hash_by_rule::<PassThroughRule>(bytes)
 }
 
 /// passthrough of a joined text from the hashes of its two parts and the second one's length in bytes.

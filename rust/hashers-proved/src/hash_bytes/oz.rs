@@ -3,16 +3,16 @@
 // What follows is the proved text of crates/hash_bytes/src/oz.rt without its contracts.
 // Clauses name Hasher.
 #![allow(unused_imports)]
-use crate::{hash_laws, hash_rounds, hash_rules, std};
+use crate::{hash_rounds, hash_rules, std};
 
-use hash_laws::traits::hash_of;
 use hash_rounds::{Turns, lose8, sdbm4};
-use hash_rules::{ByteHasher, ByteRule, Plain, PlainRule, PlainUndo, StepRule, UndoRule};
+pub use hash_rules::constants::UNPRODUCT_33;
+use hash_rules::{
+    ByteHasher, ByteRule, Plain, PlainRule, PlainUndo, StepRule, UndoRule, hash_by_plain,
+    hash_by_rule,
+};
 use std::hash::Hasher;
 use std::simd::prelude::*;
-
-/// What undoes a product by 33.
-pub const UNPRODUCT_33: u32 = 1041204193;
 
 /// What undoes a product by 65599.
 const UNPRODUCT_65599: u32 = 2390421439;
@@ -55,8 +55,8 @@ impl PlainUndo for Djb2Rule {
 
 /// djb2, Dan Bernstein's hash in its form with an exclusive or (Oz' page of hash functions, www.cse.yorku.ca/~oz/hash.html).
 ///
-/// From 5381, a byte `b` takes the state `h` to `(33 * h) ^ b`, at 32 bits; `finish` answers `h`, widened. Cuts don't show, and
-/// each write can be undone. Texts that differ in the low five bits of at most six neighbouring bytes never collide.
+/// From 5381, a byte `b` takes the state `h` to `(33 * h) ^ b`, at 32 bits; `finish` returns `h`, widened. The split does not matter, and
+/// each write can be undone. Texts that differ in the low five bits of at most six adjacent bytes never collide.
 ///
 /// Contracts see the hasher as its state, a number below 2^32: `write` gives `h.new ≡ djb2_from h.old bytes.now`, and `finish`
 /// answers `h.now`. Of `a` the hash is 177604.
@@ -72,7 +72,7 @@ pub type DJB2Hasher = ByteHasher<Plain<Djb2Rule>>;
 /// ```
 #[inline]
 pub fn djb2(bytes: &[u8]) -> u64 {
-    hash_of::<DJB2Hasher>(bytes)
+    hash_by_plain::<Djb2Rule>(bytes)
 }
 
 /// One byte of sdbm on.
@@ -185,9 +185,9 @@ impl UndoRule for SdbmRule {
 
 /// The hash of the sdbm database library (Oz' page of hash functions, www.cse.yorku.ca/~oz/hash.html).
 ///
-/// From 0, a byte `b` takes the state `h` to `65599 * h + b`, at 32 bits; `finish` answers `h`, widened. So the hash is the sum of
-/// the bytes as digits in base 65599. Cuts don't show, and each write can be undone. Texts that differ in at most three
-/// neighbouring bytes never collide.
+/// From 0, a byte `b` takes the state `h` to `65599 * h + b`, at 32 bits; `finish` returns `h`, widened. So the hash is the sum of
+/// the bytes as digits in base 65599. The split does not matter, and each write can be undone. Texts that differ in at most three
+/// adjacent bytes never collide.
 ///
 /// Contracts see the hasher as its `state`, a number below 2^32, and the `turns` that its writes have taken, of which nothing
 /// is kept at run time: `write` gives `h.new.state ≡ sdbm_from h.old.state bytes.now`, in a turn for each four bytes, and `finish`
@@ -204,7 +204,7 @@ pub type SDBMHasher = ByteHasher<SdbmRule>;
 /// ```
 #[inline]
 pub fn sdbm(bytes: &[u8]) -> u64 {
-    hash_of::<SDBMHasher>(bytes)
+    hash_by_rule::<SdbmRule>(bytes)
 }
 
 /// sdbm of a joined text from the hashes of its two parts and the second one's length in bytes, in a time that grows with
@@ -366,12 +366,12 @@ impl UndoRule for LoseLoseRule {
 /// lose lose, the hash of the first edition of Kernighan and Ritchie's book, here at 64 bits (Oz' page of hash functions,
 /// www.cse.yorku.ca/~oz/hash.html).
 ///
-/// From 0, a byte `b` takes the state `h` to `h + b`, modulo 2^64; `finish` answers `h`. So the hash is the sum of the bytes, in
-/// whatever order they come. Cuts don't show, and each write can be undone.
+/// From 0, a byte `b` takes the state `h` to `h + b`, modulo 2^64; `finish` returns `h`. So the hash is the sum of the bytes, in
+/// whatever order they come. The split does not matter, and each write can be undone.
 ///
 /// Contracts see the hasher as its `state`, a number below 2^64, and the `turns` that its writes have taken, of which nothing
 /// is kept at run time: `write` gives `h.new.state ≡ loselose_from h.old.state bytes.now`, in a turn for each eight bytes, and
-/// `finish` answers `h.now.state`. Of `ab` the hash is 195.
+/// `finish` returns `h.now.state`. Of `ab` the hash is 195.
 pub type LoseLoseHasher = ByteHasher<LoseLoseRule>;
 
 /// The sum of the bytes, modulo 2^64.
@@ -383,7 +383,7 @@ pub type LoseLoseHasher = ByteHasher<LoseLoseRule>;
 /// ```
 #[inline]
 pub fn loselose(bytes: &[u8]) -> u64 {
-    hash_of::<LoseLoseHasher>(bytes)
+    hash_by_rule::<LoseLoseRule>(bytes)
 }
 
 /// lose lose of a joined text from the hashes of its two parts. The second one's length does not matter: the parameter

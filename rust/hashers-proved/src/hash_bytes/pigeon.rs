@@ -8,4 +8,4 @@ mod hasher;
 mod table;
 
 pub use call::bricolage;
-pub use hasher::Bricolage;
+pub use hasher::{Bricolage, BricolageRule};

@@ -6,14 +6,13 @@
 // What follows is the proved text of crates/hash_crc/src/crc32.rt without its contracts.
 // Clauses name Hasher.
 #![allow(unused_imports)]
-use crate::{hash_laws, hash_rules, hash_words, std};
+use crate::{hash_rules, hash_words, std};
 
 mod castagnoli_rows;
 mod ieee_rows;
 
 use castagnoli_rows::CASTAGNOLI;
-use hash_laws::traits::hash_of;
-use hash_rules::{ByteHasher, ByteRule, StepRule, UndoRule, in_eights};
+use hash_rules::{ByteHasher, ByteRule, StepRule, UndoRule, hash_by_rule, in_eights};
 use hash_words::le_four;
 use ieee_rows::IEEE;
 use std::hash::Hasher;
@@ -25,7 +24,7 @@ pub trait Polynomial {
     /// The polynomial.
     const POLYNOMIAL: u32;
 
-    /// What is left of a byte when its eight bits have gone out, and those of so many bytes of zeros behind it.
+    /// What is left of a byte when its eight bits have gone out, and those of so many bytes of zeros after it.
     ///
     /// The caller has to see to it that:
     ///
@@ -94,7 +93,7 @@ fn byte_in<P: Polynomial>(word: u32) -> u32 {
     bit_in::<P>(bit_in::<P>(bit_in::<P>(bit_in::<P>(nibble))))
 }
 
-/// What is left of a word when its bits have gone out, and those of so many bytes of zeros behind it.
+/// What is left of a word when its bits have gone out, and those of so many bytes of zeros after it.
 ///
 /// The caller has to see to it that:
 ///
@@ -198,17 +197,17 @@ impl<P: Polynomial> UndoRule for CrcRule<P> {
 /// CRC-32 (RFC 1952, section 8).
 ///
 /// The state is 32 bits, all set at first. A byte is xored into its low bits, and then eight bits go out at the low end: where
-/// a bit that goes out is set, 0xEDB88320 is xored in. `finish` answers the state with all bits inverted, widened. Cuts don't
-/// show, each write can be undone, and texts that differ in one byte never collide.
+/// a bit that goes out is set, 0xEDB88320 is xored in. `finish` returns the state with all bits inverted, widened. The split
+/// does not matter, each write can be undone, and texts that differ in one byte never collide.
 ///
 /// Contracts see the hasher as its state, a number below 2^32: `write` gives `h.new ≡ crc_from ieee h.old bytes.now`, and
-/// `finish` answers `crc_answer h.now`. Of `123456789` the hash is 0xCBF43926.
+/// `finish` returns `crc_answer h.now`. Of `123456789` the hash is 0xCBF43926.
 pub type Crc32Hasher = ByteHasher<CrcRule<Ieee>>;
 
 /// CRC-32C (RFC 3720, section 12.1): as [`Crc32Hasher`], with 0x82F63B78 in the place of 0xEDB88320.
 ///
 /// Contracts see the hasher as its state, a number below 2^32: `write` gives `h.new ≡ crc_from castagnoli h.old bytes.now`, and
-/// `finish` answers `crc_answer h.now`. Of `123456789` the hash is 0xE3069283.
+/// `finish` returns `crc_answer h.now`. Of `123456789` the hash is 0xE3069283.
 pub type Crc32cHasher = ByteHasher<CrcRule<Castagnoli>>;
 
 /// CRC-32 of the bytes.
@@ -221,7 +220,7 @@ pub type Crc32cHasher = ByteHasher<CrcRule<Castagnoli>>;
 /// ```
 #[inline]
 pub fn crc32(bytes: &[u8]) -> u64 {
-    hash_of::<Crc32Hasher>(bytes)
+    hash_by_rule::<CrcRule<Ieee>>(bytes)
 }
 
 /// CRC-32C of the bytes.
@@ -234,7 +233,7 @@ pub fn crc32(bytes: &[u8]) -> u64 {
 /// ```
 #[inline]
 pub fn crc32c(bytes: &[u8]) -> u64 {
-    hash_of::<Crc32cHasher>(bytes)
+    hash_by_rule::<CrcRule<Castagnoli>>(bytes)
 }
 
 /// The word with one bit gone out.
@@ -356,7 +355,7 @@ fn ending<P: Polynomial>(hash: u64, answer: u64) -> [u8; 4] {
     (word ^ before).to_le_bytes()
 }
 
-/// The one ending of four bytes behind a text with this CRC-32 that makes the CRC-32 of the whole the answer. Of both
+/// The one ending of four bytes after a text with this CRC-32 that makes the CRC-32 of the whole the answer. Of both
 /// numbers the low 32 bits count.
 ///
 /// Proved:

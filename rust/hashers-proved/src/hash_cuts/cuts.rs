@@ -16,8 +16,8 @@ pub struct Cuts {
 }
 
 impl Cuts {
-    /// Chunks of `least` to `most` bytes, where from `least` on each place is a cut with a chance of 1 in `average`; `None` exactly if
-    /// 64 ≤ `least` ≤ `average` ≤ `most` does not hold. Other seeds cut at other places.
+    /// Chunks of `least` to `most` bytes; `None` exactly if 64 ≤ `least` ≤ `average` ≤ `most` does not hold. From `least` on about one
+    /// place in `average` is a boundary, if the bytes look random, which is measured. Other seeds give other boundaries.
     // inlined, the bound becomes a product and a test of its overflow for each byte
     /// Proved:
     ///

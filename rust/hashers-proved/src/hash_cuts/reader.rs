@@ -217,7 +217,7 @@ fn read_more<R: Read>(
 /// first: IfOk result (λ taken. taken.ended ≡ false → (rest : List ℕ) × IsBegun cuts.now rest
 ///     × CutsRead S.taken cuts.now (R.remaining r.old) (R.remaining r.new) sink.old sink.new taken.bytes rest None)
 /// fault: IfErr result (λ why. (bytes : ℕ) × (rest : List ℕ) × (refused : Option (List ℕ))
-///     × BreaksAt cuts.now why bytes rest refused
+///     × (bytes ≤ limit) × BreaksAt cuts.now why bytes rest refused
 ///     × CutsRead S.taken cuts.now (R.remaining r.old) (R.remaining r.new) sink.old sink.new bytes rest refused)
 /// within: IfOk result (λ taken. taken.bytes ≤ limit)
 /// at_limit: IfOk result (λ taken. (taken.ended ≡ false) ↔ (taken.bytes ≡ limit))
@@ -276,7 +276,7 @@ pub fn cut_reader_by<R: Read, S: Sink>(
 /// first: IfOk result (λ taken. taken.ended ≡ false → (rest : List ℕ) × IsBegun cuts.now rest
 ///     × CutsRead S.taken cuts.now (R.remaining r.old) (R.remaining r.new) sink.old sink.new taken.bytes rest None)
 /// fault: IfErr result (λ why. (bytes : ℕ) × (rest : List ℕ) × (refused : Option (List ℕ))
-///     × BreaksAt cuts.now why bytes rest refused
+///     × (bytes ≤ limit) × BreaksAt cuts.now why bytes rest refused
 ///     × CutsRead S.taken cuts.now (R.remaining r.old) (R.remaining r.new) sink.old sink.new bytes rest refused)
 /// known: IfOk result (λ taken. IsTrue taken.ended → (text : List ℕ) → R.remaining r.old ≡ Some text
 ///     → Takes S.taken sink.old sink.new (chunks cuts.now text) None)

@@ -5,16 +5,9 @@
 
 mod fx;
 mod hasher;
-mod maps;
 mod word;
 mod words;
 
 pub use fx::{FxHasher, FxHasher32, FxHasher64, MachineWord, fxhash, fxhash32, fxhash64};
 pub use hasher::WordHasher;
-pub use maps::{
-    FxBuildHasher, hash_one_number_fx, hash_one_pair_fx,
-};
-// Of the import above what wants std:
-#[cfg(feature = "std")]
-pub use maps::{FxHashMap, FxHashSet};
 pub use word::{FxSplit, FxWord};

@@ -2,7 +2,6 @@
 
 // What follows is the proved text of crates/hash_jenkins/src/lib.rt without its contracts.
 
-mod build_spooky;
 mod lookup;
 mod one_at_a_time;
 pub mod spooky_hash;
@@ -11,6 +10,5 @@ pub mod spooky_parts;
 pub mod spooky_short;
 mod spooky_v1;
 
-pub use build_spooky::BuildSpooky;
 pub use lookup::{Lookup3Hasher, lookup3};
 pub use one_at_a_time::{OAATHasher, OaatRule, oaat};

@@ -1,5 +1,5 @@
 //! SpookyHash, by Bob Jenkins (his SpookyV2.cpp): a hash of 128 bits of all the bytes that were written, under two seeds
-//! of 64 bits. How the bytes were cut into pieces doesn't show.
+//! of 64 bits. How the bytes were split into pieces does not matter.
 //!
 //! A text below 192 bytes is hashed on four words by chunks of 32 bytes, and its length is mixed in. From 192 bytes on
 //! twelve words take blocks of 96 bytes, and the tail of 0 to 95 bytes ends in its own length. Version 1 is an older form,
@@ -17,12 +17,12 @@ use std::hash::Hasher;
 
 /// SpookyHash of a text that comes piece by piece (Bob Jenkins, burtleburtle.net/bob/hash/spooky.html).
 ///
-/// `finish` answers the first word of the hash of all bytes so far, and `finish128` both. The cuts between writes don't
-/// show. No write can be undone.
+/// `finish` returns the first word of the hash of all bytes so far, and `finish128` both. The split into writes does
+/// not matter. No write can be undone.
 ///
 /// Contracts see where the hasher stands, its `Position` (`at`), and the `turns`: how many calls that mix blocks were
 /// charged to its counter on the way there. The position is the two seeds and the text so far below 192 bytes, and from
-/// then on the twelve words after all whole blocks and the tail behind them: two seeds below 2^64 and less than 192 bytes,
+/// then on the twelve words after all whole blocks and the tail after them: two seeds below 2^64 and less than 192 bytes,
 /// or twelve words below 2^64 and less than 96 bytes. At most 191 bytes are kept. The count of bytes stays at its greatest
 /// value once it is there, so no length is refused.
 ///
@@ -141,7 +141,7 @@ impl Hasher for SpookyHasher {
 
     /// Goes on over the bytes. Where they complete blocks, these are mixed in by one call where nothing was kept or no
     /// block follows the one that the kept bytes end in, and by two else: one for the kept bytes' blocks, and one for
-    /// those behind, which are read where they stand in `bytes`.
+    /// those after them, which are read where they stand in `bytes`.
     ///
     /// Proved:
     ///

@@ -11,8 +11,8 @@ use std::hash::Hasher;
 /// SpookyHash by version 1, that of the crate hashers 1.0.1, of a text that comes piece by piece (after Bob Jenkins,
 /// burtleburtle.net/bob/hash/spooky.html).
 ///
-/// `finish` answers the first word of the hash of all bytes so far, and `finish128` both. The cuts between writes don't
-/// show. No write can be undone.
+/// `finish` returns the first word of the hash of all bytes so far, and `finish128` both. The split into writes does
+/// not matter. No write can be undone.
 /// Contracts see the `Position` of a [`SpookyHasher`](crate::hash_jenkins::spooky_hash::SpookyHasher) of the same
 /// bytes.
 ///

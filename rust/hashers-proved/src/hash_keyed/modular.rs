@@ -197,7 +197,8 @@ fn finished(key: u64, state: u64) -> u64 {
 /// Proved:
 ///
 /// ```text
-/// result ≡ as_word (poly_end (record { key = key; state = state % prime61; word = word; count = count }))
+/// result ≡ as_word (poly_end
+///     (record { key = key; state = state % prime61; word = word; count = count }))
 /// ```
 #[inline(always)]
 pub(crate) fn ended(key: u64, state: u64, word: u64, count: u32) -> u64 {

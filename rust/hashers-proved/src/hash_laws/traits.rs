@@ -84,7 +84,7 @@ pub trait Piecewise: Default + Hasher {
         hasher.answer()
     }
 
-    /// Another hasher of the same value: a text's beginning is hashed once, and many endings behind it.
+    /// Another hasher of the same value: a text's beginning is hashed once, and many endings after it.
     ///
     /// Proved:
     ///
@@ -94,7 +94,7 @@ pub trait Piecewise: Default + Hasher {
     fn fork(&self) -> Self;
 }
 
-/// A hasher of texts: how a text was cut into pieces doesn't show.
+/// A hasher of texts: how a text was split into pieces does not matter.
 pub trait Streamed: Piecewise {}
 
 /// A hasher whose pieces can be taken out again.

@@ -150,8 +150,7 @@ fn untagged_of(alloc: Global, digits: &[u8], shown: &[u8]) -> Result<Vec<u8>, Al
 /// Proved:
 ///
 /// ```text
-/// IfOk result (λ found. MatchOption found ((plain : List ℕ) → ¬ (IsTaggedForm line.now plain))
-///     (λ plain. IsTaggedForm line.now plain.items))
+/// IfOk result (FindsForm IsTaggedForm line.now)
 /// ```
 #[inline]
 fn tagged_form(alloc: Global, line: &[u8]) -> Result<Option<Vec<u8>>, AllocError> {
@@ -181,8 +180,7 @@ fn shown_behind(behind: &[u8]) -> &[u8] {
 /// Proved:
 ///
 /// ```text
-/// IfOk result (λ found. MatchOption found ((plain : List ℕ) → ¬ (IsBlankForm line.now plain))
-///     (λ plain. IsBlankForm line.now plain.items))
+/// IfOk result (FindsForm IsBlankForm line.now)
 /// ```
 #[inline]
 fn blank_form(alloc: Global, line: &[u8]) -> Result<Option<Vec<u8>>, AllocError> {
@@ -237,7 +235,8 @@ fn is_sum(word: &[u8]) -> bool {
 /// Proved:
 ///
 /// ```text
-/// none: result ≡ false → (word behind : List ℕ) → HasWord line.now word behind → is_sum word ≡ false
+/// none: result ≡ false → (word behind : List ℕ) → HasWord line.now word behind
+///     → is_sum word ≡ false
 /// some: result ≡ true → (word : List ℕ) × (behind : List ℕ) × HasWord line.now word behind
 ///     × (is_sum word ≡ true)
 /// ```
@@ -296,8 +295,7 @@ fn sfv_parts(line: &[u8]) -> Option<(&[u8], &[u8])> {
 /// Proved:
 ///
 /// ```text
-/// IfOk result (λ found. MatchOption found ((plain : List ℕ) → ¬ (IsSfvForm line.now plain))
-///     (λ plain. IsSfvForm line.now plain.items))
+/// IfOk result (FindsForm IsSfvForm line.now)
 /// ```
 #[inline]
 fn sfv_form(alloc: Global, line: &[u8]) -> Result<Option<Vec<u8>>, AllocError> {
@@ -307,64 +305,21 @@ fn sfv_form(alloc: Global, line: &[u8]) -> Result<Option<Vec<u8>>, AllocError> {
     }
 }
 
-/// What a line tells as a tagged one with other blanks.
+/// What a line of ours tells, if there is one.
 ///
 /// Proved:
 ///
 /// ```text
-/// IfOk result (λ found. MatchOption found (TellsNoneIn IsTaggedForm kinds.entry.now kind.entry line.now)
-///     (λ entry. TellsIn IsTaggedForm kinds.entry.now kind.entry entry.kind entry.name.items entry.number line.now))
+/// IfOk result (FindsOf (Finds (Tells kinds.entry.now kind.entry)) plain)
 /// ```
 #[inline]
-fn tagged_entry<'k>(
+fn plain_entry<'k>(
     alloc: Global,
     kinds: &[LineKind<'k>],
     kind: LineKind<'k>,
-    line: &[u8],
+    plain: Option<Vec<u8>>,
 ) -> Result<Option<HashLine<'k>>, AllocError> {
-    match tagged_form(alloc, line)? {
-        Some(plain) => parse_line(alloc, kinds, kind, &plain),
-        None => Ok(None),
-    }
-}
-
-/// What a line tells as an untagged one with one blank.
-///
-/// Proved:
-///
-/// ```text
-/// IfOk result (λ found. MatchOption found (TellsNoneIn IsBlankForm kinds.entry.now kind.entry line.now)
-///     (λ entry. TellsIn IsBlankForm kinds.entry.now kind.entry entry.kind entry.name.items entry.number line.now))
-/// ```
-#[inline]
-fn blank_entry<'k>(
-    alloc: Global,
-    kinds: &[LineKind<'k>],
-    kind: LineKind<'k>,
-    line: &[u8],
-) -> Result<Option<HashLine<'k>>, AllocError> {
-    match blank_form(alloc, line)? {
-        Some(plain) => parse_line(alloc, kinds, kind, &plain),
-        None => Ok(None),
-    }
-}
-
-/// What a line tells as one of an SFV file.
-///
-/// Proved:
-///
-/// ```text
-/// IfOk result (λ found. MatchOption found (TellsNoneIn IsSfvForm kinds.entry.now kind.entry line.now)
-///     (λ entry. TellsIn IsSfvForm kinds.entry.now kind.entry entry.kind entry.name.items entry.number line.now))
-/// ```
-#[inline]
-fn sfv_entry<'k>(
-    alloc: Global,
-    kinds: &[LineKind<'k>],
-    kind: LineKind<'k>,
-    line: &[u8],
-) -> Result<Option<HashLine<'k>>, AllocError> {
-    match sfv_form(alloc, line)? {
+    match plain {
         Some(plain) => parse_line(alloc, kinds, kind, &plain),
         None => Ok(None),
     }
@@ -375,8 +330,7 @@ fn sfv_entry<'k>(
 /// Proved:
 ///
 /// ```text
-/// IfOk result (λ found. MatchOption found (TellsNoneIn IsForm kinds.entry.now kind.entry line.now)
-///     (λ entry. TellsIn IsForm kinds.entry.now kind.entry entry.kind entry.name.items entry.number line.now))
+/// IfOk result (Finds (TellsIn IsForm kinds.entry.now kind.entry) line.now)
 /// ```
 #[inline]
 fn form_entry<'k>(
@@ -388,10 +342,10 @@ fn form_entry<'k>(
     if let Some(entry) = parse_line(alloc, kinds, kind, line)? {
         return Ok(Some(entry));
     }
-    if let Some(entry) = tagged_entry(alloc, kinds, kind, line)? {
+    if let Some(entry) = plain_entry(alloc, kinds, kind, tagged_form(alloc, line)?)? {
         return Ok(Some(entry));
     }
-    blank_entry(alloc, kinds, kind, line)
+    plain_entry(alloc, kinds, kind, blank_form(alloc, line)?)
 }
 
 /// What a line tells in another program's form, without its end: with blanks in front, one blank behind the digits, other blanks or none
@@ -402,8 +356,7 @@ fn form_entry<'k>(
 /// Proved:
 ///
 /// ```text
-/// IfOk result (λ found. MatchOption found (TellsNothingSo sfv kinds.entry.now kind.entry line.now)
-///     (λ entry. TellsSo sfv kinds.entry.now kind.entry entry.kind entry.name.items entry.number line.now))
+/// IfOk result (Finds (TellsSo sfv kinds.entry.now kind.entry) line.now)
 /// ```
 #[inline]
 pub fn parse_form<'k>(
@@ -418,7 +371,7 @@ pub fn parse_form<'k>(
         return Ok(Some(entry));
     }
     if sfv {
-        return sfv_entry(alloc, kinds, kind, rest);
+        return plain_entry(alloc, kinds, kind, sfv_form(alloc, rest)?);
     }
     Ok(None)
 }

@@ -152,7 +152,8 @@ fn behind_spaces(rest: &[u8]) -> Option<&[u8]> {
 /// Proved:
 ///
 /// ```text
-/// MatchOption result ((shown : List ℕ) (number : ℕ) → ¬ (ShowsTagged tag.now count shown number body.now))
+/// MatchOption result ((shown : List ℕ) (number : ℕ)
+///     → ¬ (ShowsTagged tag.now count shown number body.now))
 ///     (λ parts. ShowsTagged tag.now count parts.0.now parts.1 body.now)
 /// ```
 #[inline]
@@ -207,9 +208,7 @@ fn name_of(alloc: Global, escapes: bool, shown: &[u8]) -> Result<Option<Vec<u8>>
 /// Proved:
 ///
 /// ```text
-/// IfOk result (λ found. MatchOption found ((name : List ℕ) → ¬ (IsShown escapes name shown.now))
-///     (λ entry. (entry.kind ≡ kind.entry) × (entry.number ≡ number)
-///     × IsShown escapes entry.name.items shown.now))
+/// IfOk result (FindsShown kind.entry number escapes shown.now)
 /// ```
 #[inline]
 fn entry_of<'k>(
@@ -230,9 +229,7 @@ fn entry_of<'k>(
 /// Proved:
 ///
 /// ```text
-/// IfOk result (λ found. MatchOption found
-///     ((name : List ℕ) (number : ℕ) → ¬ (TellsTagged kind.entry escapes name number body.now))
-///     (λ entry. (entry.kind ≡ kind.entry) × TellsTagged kind.entry escapes entry.name.items entry.number body.now))
+/// IfOk result (Finds (TellsOf kind.entry TellsTagged escapes) body.now)
 /// ```
 #[inline]
 fn tagged_entry<'k>(
@@ -252,10 +249,7 @@ fn tagged_entry<'k>(
 /// Proved:
 ///
 /// ```text
-/// IfOk result (λ found. MatchOption found
-///     ((name : List ℕ) (number : ℕ) → ¬ (TellsUntagged kind.entry escapes name number body.now))
-///     (λ entry. (entry.kind ≡ kind.entry)
-///     × TellsUntagged kind.entry escapes entry.name.items entry.number body.now))
+/// IfOk result (Finds (TellsOf kind.entry TellsUntagged escapes) body.now)
 /// ```
 #[inline]
 fn untagged_entry<'k>(
@@ -275,10 +269,7 @@ fn untagged_entry<'k>(
 /// Proved:
 ///
 /// ```text
-/// IfOk result (λ found. MatchOption found
-///     ((other : LineKind) (name : List ℕ) (number : ℕ)
-///     → ¬ (TellsBody kinds.entry.now kind.entry escapes other name number body.now))
-///     (λ entry. TellsBody kinds.entry.now kind.entry escapes entry.kind entry.name.items entry.number body.now))
+/// IfOk result (Finds (TellsBody kinds.entry.now kind.entry escapes) body.now)
 /// ```
 #[inline]
 fn body_entry<'k>(
@@ -301,10 +292,7 @@ fn body_entry<'k>(
 /// Proved:
 ///
 /// ```text
-/// IfOk result (λ found. MatchOption found
-///     ((other : LineKind) (name : List ℕ) (number : ℕ)
-///     → ¬ (TellsEscaped kinds.entry.now kind.entry other name number line.now))
-///     (λ entry. TellsEscaped kinds.entry.now kind.entry entry.kind entry.name.items entry.number line.now))
+/// IfOk result (Finds (TellsEscaped kinds.entry.now kind.entry) line.now)
 /// ```
 #[inline]
 fn escaped_entry<'k>(
@@ -327,8 +315,7 @@ fn escaped_entry<'k>(
 /// Proved:
 ///
 /// ```text
-/// IfOk result (λ found. MatchOption found (TellsNothing kinds.entry.now kind.entry line.now)
-///     (λ entry. Tells kinds.entry.now kind.entry entry.kind entry.name.items entry.number line.now))
+/// IfOk result (Finds (Tells kinds.entry.now kind.entry) line.now)
 /// ```
 #[inline]
 pub fn parse_line<'k>(

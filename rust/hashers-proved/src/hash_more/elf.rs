@@ -2,12 +2,11 @@
 //! Weinberger's.
 
 // What follows is the proved text of crates/hash_more/src/elf.rt without its contracts.
-use crate::{hash_laws, hash_rules};
+use crate::hash_rules;
 
-use hash_laws::traits::hash_of;
-use hash_rules::{ByteHasher, Plain, PlainRule};
+use hash_rules::{ByteHasher, Plain, PlainRule, hash_by_plain};
 
-/// The rule of ELF's hash. Its steps lose information, so there is no way back.
+/// The rule of ELF's hash. Its steps lose information, so there is no inverse.
 pub struct ElfRule;
 
 impl PlainRule for ElfRule {
@@ -35,7 +34,7 @@ impl PlainRule for ElfRule {
 /// The hash of ELF's symbol tables (System V Application Binary Interface, figure 5-13).
 ///
 /// From 0, a byte `b` takes the state `h` to `16 * h + b` at 32 bits, of which the four high bits are then xored in four
-/// bits from the low end and taken off. `finish` answers `h`, below 2^28, widened. Cuts don't show; no write can be undone.
+/// bits from the low end and taken off. `finish` returns `h`, below 2^28, widened. The split does not matter; no write can be undone.
 ///
 /// Contracts see the hasher as its state, a number below 2^28: `write` gives `h.new ≡ elf_from h.old bytes.now`, and `finish`
 /// answers `h.now`. Of `printf` the hash is 0x077905a6.
@@ -51,5 +50,5 @@ pub type ElfHasher = ByteHasher<Plain<ElfRule>>;
 /// ```
 #[inline]
 pub fn elf(bytes: &[u8]) -> u64 {
-    hash_of::<ElfHasher>(bytes)
+    hash_by_plain::<ElfRule>(bytes)
 }

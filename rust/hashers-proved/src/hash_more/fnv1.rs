@@ -1,12 +1,11 @@
 //! The hash functions of Glenn Fowler, Landon Curt Noll and Kiem-Phong Vo in the variant 1: for each byte a product by a prime,
-//! and then an exclusive or. The starts and the primes are those of the variant 1a, `hash_bytes::fnv`.
+//! and then an exclusive or. The starts and the primes are those of the variant 1a.
 
 // What follows is the proved text of crates/hash_more/src/fnv1.rt without its contracts.
-use crate::{hash_bytes, hash_laws, hash_rules};
+use crate::hash_rules;
 
-use hash_bytes::fnv::{BASIS_32, BASIS_64, PRIME_32, PRIME_64, UNPRIME_32, UNPRIME_64};
-use hash_laws::traits::hash_of;
-use hash_rules::{ByteHasher, Plain, PlainRule, PlainUndo};
+use hash_rules::constants::{BASIS_32, BASIS_64, PRIME_32, PRIME_64, UNPRIME_32, UNPRIME_64};
+use hash_rules::{ByteHasher, Plain, PlainRule, PlainUndo, hash_by_plain};
 
 /// The rule of FNV-1 at 32 bits.
 pub struct Fnv1Rule32;
@@ -46,11 +45,11 @@ impl PlainUndo for Fnv1Rule32 {
 
 /// FNV-1 at 32 bits (the FNV authors' page, www.isthe.com/chongo/tech/comp/fnv).
 ///
-/// From 2166136261, a byte `b` takes the state `h` to `(h * 16777619) ^ b`, the product modulo 2^32; `finish` answers
-/// `h`, widened. Cuts don't show, and each write can be undone. Texts that differ in at most two neighbouring bytes never collide.
+/// From 2166136261, a byte `b` takes the state `h` to `(h * 16777619) ^ b`, the product modulo 2^32; `finish` returns
+/// `h`, widened. The split does not matter, and each write can be undone. Texts that differ in at most two adjacent bytes never collide.
 ///
 /// Contracts see the hasher as its state, a number below 2^32: `write` gives `h.new ≡ fnv1_32_from h.old bytes.now`, and
-/// `finish` answers `h.now`. Of `a` the hash is 0x050c5d7e.
+/// `finish` returns `h.now`. Of `a` the hash is 0x050c5d7e.
 pub type Fnv1Hasher32 = ByteHasher<Plain<Fnv1Rule32>>;
 
 /// FNV-1 at 32 bits of the bytes.
@@ -63,7 +62,7 @@ pub type Fnv1Hasher32 = ByteHasher<Plain<Fnv1Rule32>>;
 /// ```
 #[inline]
 pub fn fnv1_32(bytes: &[u8]) -> u64 {
-    hash_of::<Fnv1Hasher32>(bytes)
+    hash_by_plain::<Fnv1Rule32>(bytes)
 }
 
 /// The rule of FNV-1 at 64 bits.
@@ -104,11 +103,11 @@ impl PlainUndo for Fnv1Rule64 {
 
 /// FNV-1 at 64 bits (the FNV authors' page, www.isthe.com/chongo/tech/comp/fnv).
 ///
-/// From 14695981039346656037, a byte `b` takes the state `h` to `(h * 1099511628211) ^ b`, the product modulo 2^64; `finish` answers
-/// `h`. Cuts don't show, and each write can be undone. Texts that differ in at most three neighbouring bytes never collide.
+/// From 14695981039346656037, a byte `b` takes the state `h` to `(h * 1099511628211) ^ b`, the product modulo 2^64; `finish` returns
+/// `h`. The split does not matter, and each write can be undone. Texts that differ in at most three adjacent bytes never collide.
 ///
 /// Contracts see the hasher as its state, a number below 2^64: `write` gives `h.new ≡ fnv1_64_from h.old bytes.now`, and
-/// `finish` answers `h.now`. Of `a` the hash is 0xaf63bd4c8601b7be.
+/// `finish` returns `h.now`. Of `a` the hash is 0xaf63bd4c8601b7be.
 pub type Fnv1Hasher64 = ByteHasher<Plain<Fnv1Rule64>>;
 
 /// FNV-1 at 64 bits of the bytes.
@@ -120,5 +119,5 @@ pub type Fnv1Hasher64 = ByteHasher<Plain<Fnv1Rule64>>;
 /// ```
 #[inline]
 pub fn fnv1_64(bytes: &[u8]) -> u64 {
-    hash_of::<Fnv1Hasher64>(bytes)
+    hash_by_plain::<Fnv1Rule64>(bytes)
 }

@@ -1,10 +1,9 @@
 //! One-at-a-time, from Bob Jenkins' page on hash functions, at 32 bits as he published it.
 
 // What follows is the proved text of crates/hash_more/src/joaat.rt without its contracts.
-use crate::{hash_laws, hash_rules, hash_words};
+use crate::{hash_rules, hash_words};
 
-use hash_laws::traits::hash_of;
-use hash_rules::{ByteHasher, Plain, PlainRule, PlainUndo};
+use hash_rules::{ByteHasher, Plain, PlainRule, PlainUndo, hash_by_plain};
 use hash_words::unxorshift;
 
 /// What undoes a product by 1025.
@@ -96,11 +95,11 @@ impl PlainUndo for JoaatRule {
 /// PHP calls joaat.
 ///
 /// From 0, a byte `b` takes the state `h` to `h + b`, then to `1025 * h`, then to `h ^ (h >> 6)`. `finish` mixes a copy once
-/// more: `9 * h`, `h ^ (h >> 11)`, `32769 * h`, and widens it. All is modulo 2^32. Cuts don't show, each write can be undone, and
+/// more: `9 * h`, `h ^ (h >> 11)`, `32769 * h`, and widens it. All is modulo 2^32. The split does not matter, each write can be undone, and
 /// texts that differ in one byte never collide.
 ///
 /// Contracts see the hasher as its state, a number below 2^32: `write` gives `h.new ≡ joaat_from h.old bytes.now`, and
-/// `finish` answers `joaat_answer h.now`. Of `a` the hash is 0xca2e9442.
+/// `finish` returns `joaat_answer h.now`. Of `a` the hash is 0xca2e9442.
 pub type JoaatHasher = ByteHasher<Plain<JoaatRule>>;
 
 /// One-at-a-time at 32 bits of the bytes.
@@ -113,5 +112,5 @@ pub type JoaatHasher = ByteHasher<Plain<JoaatRule>>;
 /// ```
 #[inline]
 pub fn joaat(bytes: &[u8]) -> u64 {
-    hash_of::<JoaatHasher>(bytes)
+    hash_by_plain::<JoaatRule>(bytes)
 }

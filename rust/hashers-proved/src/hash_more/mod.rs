@@ -1,4 +1,4 @@
-//! Relatives of the hash functions of `hashers`, each a rule by the byte of its own: CRC-32 and CRC-32C, FNV-1, djb2 with a sum
+//! Relatives of the hash functions of `hashers`, each a rule with a step per byte: CRC-32 and CRC-32C, FNV-1, djb2 with a sum
 //! and one-at-a-time at 32 bits, which can be undone, and the hash of ELF's symbol tables, which loses information.
 //!
 //! What stands in a module of another name is shown here; the hash of a whole text that is named as its module stands there:

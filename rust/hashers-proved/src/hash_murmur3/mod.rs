@@ -1,4 +1,4 @@
-//! MurmurHash3, by Austin Appleby: hashes by the block under a seed.
+//! MurmurHash3, by Austin Appleby: block-based hashes under a seed.
 
 // What follows is the proved text of crates/hash_murmur3/src/lib.rt without its contracts.
 

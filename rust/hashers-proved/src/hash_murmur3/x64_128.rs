@@ -28,6 +28,7 @@ pub const C2: u64 = 0x4cf5_ad43_2745_937f;
 /// ```
 #[inline(always)]
 pub fn scrambled<const TURN: u32>(first: u64, second: u64, word: u64) -> u64 {
+    const { assert!(0 < TURN) };
     rotl64_by::<TURN>(word.wrapping_mul(first)).wrapping_mul(second)
 }
 
@@ -90,7 +91,7 @@ fn crossed(h: (u64, u64)) -> (u64, u64) {
     (new1, h.1.wrapping_add(new1))
 }
 
-/// The two words of what is left behind the blocks, with zeros for what lacks.
+/// The two words of what is left after the blocks, with zeros for what lacks.
 ///
 /// The caller has to see to it that:
 ///
@@ -197,7 +198,7 @@ impl WideRule<16> for Murmur3Rule128 {
     }
 }
 
-/// MurmurHash3_x64_128 of a text that comes piece by piece, under a seed. std's `finish` answers the first of the two words, and
+/// MurmurHash3_x64_128 of a text that comes piece by piece, under a seed. std's `finish` returns the first of the two words, and
 /// `finish128` both.
 pub type Murmur3Hasher128 = BlockHasher<Murmur3Rule128, 16>;
 
@@ -214,7 +215,7 @@ pub fn murmur3_128(seed: u64, bytes: &[u8]) -> (u64, u64) {
     Murmur3Hasher128::hash_of(seed, bytes)
 }
 
-/// The same of a text in pieces: how it was cut doesn't show.
+/// The same of a text in pieces: how it was split does not matter.
 ///
 /// Proved:
 ///

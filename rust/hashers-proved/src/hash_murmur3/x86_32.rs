@@ -115,7 +115,7 @@ pub fn murmur3_32(seed: u32, bytes: &[u8]) -> u32 {
     Murmur3Hasher32::hash_of(seed, bytes)
 }
 
-/// The same of a text in pieces: how it was cut doesn't show.
+/// The same of a text in pieces: how it was split does not matter.
 ///
 /// Proved:
 ///

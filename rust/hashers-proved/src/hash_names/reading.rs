@@ -1,44 +1,18 @@
-//! The hash of all that a reader gives.
+//! The hash of that name of all that a reader gives.
 
 // What follows is the proved text of crates/hash_names/src/reading.rt without its contracts.
 use crate::{hash_laws, hash_reading, std};
 
-use crate::hash_names::table::{Kind, by_kind, kind_named};
+use crate::hash_names::table::{by_ported, ported_named};
 use crate::hash_names::task::HashTask;
-use crate::hash_names::wide::WideHash;
 use hash_laws::traits::{Piecewise, Streamed};
-pub use hash_reading::limited::{Unhashed, fed, hash_of_pieces, hash_of_text};
+pub use hash_reading::limited::Unhashed;
+use hash_reading::limited::{hash_of_pieces, hash_of_text};
 use std::io::Read;
 use std::marker::PhantomData;
 
-/// How many bytes are read at once.
-pub const BUFFER: usize = 65536;
-
-/// How many bytes are fed at once to a hasher to which cuts show.
+/// How many bytes are read at once, and fed at once to a hasher to which cuts show.
 pub const PIECE: usize = 4096;
-
-/// The 128 bits of what is read, as one number.
-///
-/// The caller has to see to it that:
-///
-/// ```text
-/// not_empty: 0 < N
-/// small: N ≤ 65536
-/// ```
-///
-/// Proved:
-///
-/// ```text
-/// Hashes H.wide_of (read limit R.remaining r.old r.new) result
-/// ```
-#[inline]
-pub fn hash_of_wide<H: WideHash, R: Read, const N: usize>(
-    limit: u64,
-    r: &mut R,
-) -> Result<u128, Unhashed> {
-    let hasher = fed::<H, R, N>(limit, r)?;
-    Ok(hasher.wide())
-}
 
 /// To hash what a reader gives, if that is less than a limit in bytes.
 struct HashRead<R> {
@@ -54,7 +28,7 @@ impl<R: Read> HashTask for HashRead<R> {
 
     #[inline]
     fn by_text<H: Streamed>(limit: u64, r: &mut R) -> Result<u64, Unhashed> {
-        hash_of_text::<H, R, BUFFER>(limit, r)
+        hash_of_text::<H, R, PIECE>(limit, r)
     }
 
     #[inline]
@@ -63,20 +37,8 @@ impl<R: Read> HashTask for HashRead<R> {
     }
 }
 
-/// The hash by that kind of all that is read, if that is less than `limit` bytes. lookup3 and fx take pieces of 4096 bytes.
-///
-/// Proved:
-///
-/// ```text
-/// Hashes (read_of kind) (read limit R.remaining r.old r.new) result
-/// ```
-#[inline]
-pub fn hash_by<R: Read>(kind: Kind, limit: u64, r: &mut R) -> Result<u64, Unhashed> {
-    by_kind::<HashRead<R>>(kind, limit, r)
-}
-
-/// The hash of that name of all that is read, if that is less than `limit` bytes. An unknown name is refused before anything is
-/// read.
+/// The hash of that name of all that is read, if that is less than `limit` bytes. lookup3 and fx take pieces of 4096 bytes. An unknown
+/// name is refused before anything is read.
 ///
 /// Proved:
 ///
@@ -85,8 +47,8 @@ pub fn hash_by<R: Read>(kind: Kind, limit: u64, r: &mut R) -> Result<u64, Unhash
 /// ```
 #[inline]
 pub fn hash_named<R: Read>(name: &str, limit: u64, r: &mut R) -> Result<u64, Unhashed> {
-    match kind_named(name.as_bytes()) {
-        Some(kind) => hash_by(kind, limit, r),
+    match ported_named(name.as_bytes()) {
+        Some(ported) => by_ported::<HashRead<R>>(ported, limit, r),
         None => Err(Unhashed::UnknownName),
     }
 }

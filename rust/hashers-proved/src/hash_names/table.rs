@@ -1,7 +1,7 @@
-//! The table of hashes: a row for each, and what is done by the hash of a row.
+//! The table of the hashes that are ported: a row for each, and what is done by the hash of a row.
 
 // What follows is the proved text of crates/hash_names/src/table.rt without its contracts.
-use crate::{hash_bytes, hash_fx, hash_jenkins, hash_more, hash_murmur3, hash_siphash, hash_xxh3, hash_xxhash};
+use crate::{hash_bytes, hash_fx, hash_jenkins};
 
 use crate::hash_names::task::HashTask;
 use hash_bytes::fnv::{FNV1aHasher32, FNV1aHasher64};
@@ -11,19 +11,10 @@ use hash_bytes::pigeon::Bricolage;
 use hash_fx::{FxHasher, FxHasher32, FxHasher64};
 use hash_jenkins::spooky_hash::{SpookyHasher, SpookyV1Hasher};
 use hash_jenkins::{Lookup3Hasher, OAATHasher};
-use hash_more::crc32::{Crc32Hasher, Crc32cHasher};
-use hash_more::djb2_add::Djb2AddHasher;
-use hash_more::elf::ElfHasher;
-use hash_more::fnv1::{Fnv1Hasher32, Fnv1Hasher64};
-use hash_more::joaat::JoaatHasher;
-use hash_murmur3::{Murmur3Hasher32, Murmur3Hasher128};
-use hash_siphash::{SipHasher13, SipHasher24};
-use hash_xxh3::Xxh3Hasher;
-use hash_xxhash::{Xxh32Hasher, Xxh64Hasher};
 
-/// A hash of the table. `specs/Named` says what it makes of a text.
+/// A hash of the crate that is ported; SpookyHash in both versions. `specs/Named` says what it makes of a text.
 #[derive(Clone, Copy)]
-pub enum Kind {
+pub enum Ported {
     /// FNV-1a at 32 bits.
     Fnv1a32,
     /// FNV-1a at 64 bits.
@@ -52,69 +43,29 @@ pub enum Kind {
     FxHash32,
     /// fx at 64 bits.
     FxHash64,
-    /// CRC-32.
-    Crc32,
-    /// CRC-32C.
-    Crc32c,
-    /// FNV-1 at 32 bits.
-    Fnv1At32,
-    /// FNV-1 at 64 bits.
-    Fnv1At64,
-    /// djb2 with a sum.
-    Djb2Add,
-    /// One-at-a-time at 32 bits.
-    Joaat,
-    /// ELF's hash.
-    Elf,
     /// 0, whatever the text.
     Null,
-    /// XXH32 under the seed 0.
-    Xxh32,
-    /// XXH64 under the seed 0.
-    Xxh64,
-    /// MurmurHash3_x86_32 under the seed 0.
-    Murmur3At32,
-    /// MurmurHash3_x64_128 under the seed 0, its first word.
-    Murmur3,
-    /// SipHash-1-3 under the key 0.
-    SipHash13,
-    /// SipHash-2-4 under the key 0.
-    SipHash24,
-    /// XXH3 of 64 bits under the seed 0.
-    Xxh3,
 }
 
-/// The hashes in their order, by which they are numbered from 0.
-pub const KINDS: [Kind; 29] = [
-    Kind::Fnv1a32,
-    Kind::Fnv1a64,
-    Kind::Djb2,
-    Kind::Sdbm,
-    Kind::LoseLose,
-    Kind::Bricolage,
-    Kind::Oaat,
-    Kind::Lookup3,
-    Kind::Spooky,
-    Kind::SpookyV1,
-    Kind::PassThrough,
-    Kind::FxHash,
-    Kind::FxHash32,
-    Kind::FxHash64,
-    Kind::Crc32,
-    Kind::Crc32c,
-    Kind::Fnv1At32,
-    Kind::Fnv1At64,
-    Kind::Djb2Add,
-    Kind::Joaat,
-    Kind::Elf,
-    Kind::Null,
-    Kind::Xxh32,
-    Kind::Xxh64,
-    Kind::Murmur3At32,
-    Kind::Murmur3,
-    Kind::SipHash13,
-    Kind::SipHash24,
-    Kind::Xxh3,
+/// The hashes in their order.
+pub const PORTED: [Ported; 15] = [
+    // declared: kinds
+    Ported::Fnv1a32,
+    Ported::Fnv1a64,
+    Ported::Djb2,
+    Ported::Sdbm,
+    Ported::LoseLose,
+    Ported::Bricolage,
+    Ported::Oaat,
+    Ported::Lookup3,
+    Ported::Spooky,
+    Ported::SpookyV1,
+    Ported::PassThrough,
+    Ported::FxHash,
+    Ported::FxHash32,
+    Ported::FxHash64,
+    Ported::Null,
+    // end of declared
 ];
 
 /// What is said of a hash.
@@ -138,51 +89,39 @@ pub struct Row {
 /// cut: result.cuts ≡ cuts
 /// ```
 #[inline]
-const fn entry(name: &'static str, bits: u32, cuts: bool) -> Row {
+pub const fn entry(name: &'static str, bits: u32, cuts: bool) -> Row {
     Row { name, bits, cuts }
 }
 
-impl Kind {
+impl Ported {
     /// Its row in the table.
     ///
     /// Proved:
     ///
     /// ```text
-    /// named: result.name.now ≡ name_of self
-    /// wide: result.bits ≡ bits_of self
-    /// cut: result.cuts ≡ shows_cuts self
+    /// named: result.name.now ≡ (row_of self).name
+    /// wide: result.bits ≡ (row_of self).bits
+    /// cut: result.cuts ≡ (row_of self).cuts
     /// ```
     pub fn row(self) -> Row {
         match self {
-            Kind::Fnv1a32 => entry("fnv1a32", 32, false),
-            Kind::Fnv1a64 => entry("fnv1a64", 64, false),
-            Kind::Djb2 => entry("djb2", 32, false),
-            Kind::Sdbm => entry("sdbm", 32, false),
-            Kind::LoseLose => entry("loselose", 64, false),
-            Kind::Bricolage => entry("bricolage", 64, false),
-            Kind::Oaat => entry("oaat", 64, false),
-            Kind::Lookup3 => entry("lookup3", 64, true),
-            Kind::Spooky => entry("spooky", 64, false),
-            Kind::SpookyV1 => entry("spooky_v1", 64, false),
-            Kind::PassThrough => entry("passthrough", 64, false),
-            Kind::FxHash => entry("fxhash", 64, true),
-            Kind::FxHash32 => entry("fxhash32", 32, true),
-            Kind::FxHash64 => entry("fxhash64", 64, true),
-            Kind::Crc32 => entry("crc32", 32, false),
-            Kind::Crc32c => entry("crc32c", 32, false),
-            Kind::Fnv1At32 => entry("fnv1_32", 32, false),
-            Kind::Fnv1At64 => entry("fnv1_64", 64, false),
-            Kind::Djb2Add => entry("djb2_add", 32, false),
-            Kind::Joaat => entry("joaat", 32, false),
-            Kind::Elf => entry("elf", 28, false),
-            Kind::Null => entry("null", 0, false),
-            Kind::Xxh32 => entry("xxh32", 32, false),
-            Kind::Xxh64 => entry("xxh64", 64, false),
-            Kind::Murmur3At32 => entry("murmur3_32", 32, false),
-            Kind::Murmur3 => entry("murmur3", 64, false),
-            Kind::SipHash13 => entry("siphash13", 64, false),
-            Kind::SipHash24 => entry("siphash24", 64, false),
-            Kind::Xxh3 => entry("xxh3", 64, false),
+            // declared: rows
+            Ported::Fnv1a32 => entry("fnv1a32", 32, false),
+            Ported::Fnv1a64 => entry("fnv1a64", 64, false),
+            Ported::Djb2 => entry("djb2", 32, false),
+            Ported::Sdbm => entry("sdbm", 32, false),
+            Ported::LoseLose => entry("loselose", 64, false),
+            Ported::Bricolage => entry("bricolage", 64, false),
+            Ported::Oaat => entry("oaat", 64, false),
+            Ported::Lookup3 => entry("lookup3", 64, true),
+            Ported::Spooky => entry("spooky", 64, false),
+            Ported::SpookyV1 => entry("spooky_v1", 64, false),
+            Ported::PassThrough => entry("passthrough", 64, false),
+            Ported::FxHash => entry("fxhash", 64, true),
+            Ported::FxHash32 => entry("fxhash32", 32, true),
+            Ported::FxHash64 => entry("fxhash64", 64, true),
+            Ported::Null => entry("null", 0, false),
+            // end of declared
         }
     }
 }
@@ -193,70 +132,45 @@ impl Kind {
 /// Proved:
 ///
 /// ```text
-/// T.by (hash_of kind) (read_of kind) told input.old input.new result
+/// T.by (row_of ported).hash (read_of ported) told input.old input.new result
 /// ```
-pub fn by_kind<T: HashTask>(kind: Kind, told: T::Told, input: &mut T::Input) -> T::Outcome {
-    match kind {
-        Kind::Fnv1a32 => T::by_text::<FNV1aHasher32>(told, input),
-        Kind::Fnv1a64 => T::by_text::<FNV1aHasher64>(told, input),
-        Kind::Djb2 => T::by_text::<DJB2Hasher>(told, input),
-        Kind::Sdbm => T::by_text::<SDBMHasher>(told, input),
-        Kind::LoseLose => T::by_text::<LoseLoseHasher>(told, input),
-        Kind::Bricolage => T::by_text::<Bricolage>(told, input),
-        Kind::Oaat => T::by_text::<OAATHasher>(told, input),
-        Kind::Lookup3 => T::by_pieces::<Lookup3Hasher>(told, input),
-        Kind::Spooky => T::by_text::<SpookyHasher>(told, input),
-        Kind::SpookyV1 => T::by_text::<SpookyV1Hasher>(told, input),
-        Kind::PassThrough => T::by_text::<PassThroughHasher>(told, input),
-        Kind::FxHash => T::by_pieces::<FxHasher>(told, input),
-        Kind::FxHash32 => T::by_pieces::<FxHasher32>(told, input),
-        Kind::FxHash64 => T::by_pieces::<FxHasher64>(told, input),
-        Kind::Crc32 => T::by_text::<Crc32Hasher>(told, input),
-        Kind::Crc32c => T::by_text::<Crc32cHasher>(told, input),
-        Kind::Fnv1At32 => T::by_text::<Fnv1Hasher32>(told, input),
-        Kind::Fnv1At64 => T::by_text::<Fnv1Hasher64>(told, input),
-        Kind::Djb2Add => T::by_text::<Djb2AddHasher>(told, input),
-        Kind::Joaat => T::by_text::<JoaatHasher>(told, input),
-        Kind::Elf => T::by_text::<ElfHasher>(told, input),
-        Kind::Null => T::by_text::<NullHasher>(told, input),
-        Kind::Xxh32 => T::by_text::<Xxh32Hasher>(told, input),
-        Kind::Xxh64 => T::by_text::<Xxh64Hasher>(told, input),
-        Kind::Murmur3At32 => T::by_text::<Murmur3Hasher32>(told, input),
-        Kind::Murmur3 => T::by_text::<Murmur3Hasher128>(told, input),
-        Kind::SipHash13 => T::by_text::<SipHasher13>(told, input),
-        Kind::SipHash24 => T::by_text::<SipHasher24>(told, input),
-        Kind::Xxh3 => T::by_text::<Xxh3Hasher>(told, input),
+pub fn by_ported<T: HashTask>(ported: Ported, told: T::Told, input: &mut T::Input) -> T::Outcome {
+    match ported {
+        // declared: hashers
+        Ported::Fnv1a32 => T::by_text::<FNV1aHasher32>(told, input),
+        Ported::Fnv1a64 => T::by_text::<FNV1aHasher64>(told, input),
+        Ported::Djb2 => T::by_text::<DJB2Hasher>(told, input),
+        Ported::Sdbm => T::by_text::<SDBMHasher>(told, input),
+        Ported::LoseLose => T::by_text::<LoseLoseHasher>(told, input),
+        Ported::Bricolage => T::by_text::<Bricolage>(told, input),
+        Ported::Oaat => T::by_text::<OAATHasher>(told, input),
+        Ported::Lookup3 => T::by_pieces::<Lookup3Hasher>(told, input),
+        Ported::Spooky => T::by_text::<SpookyHasher>(told, input),
+        Ported::SpookyV1 => T::by_text::<SpookyV1Hasher>(told, input),
+        Ported::PassThrough => T::by_text::<PassThroughHasher>(told, input),
+        Ported::FxHash => T::by_pieces::<FxHasher>(told, input),
+        Ported::FxHash32 => T::by_pieces::<FxHasher32>(told, input),
+        Ported::FxHash64 => T::by_pieces::<FxHasher64>(told, input),
+        Ported::Null => T::by_text::<NullHasher>(told, input),
+        // end of declared
     }
 }
 
-/// The place of the first of that name; as many as there are where none has it.
+/// The first of that name.
 ///
 /// Proved:
 ///
 /// ```text
-/// first: slice_get kinds.now result ≡ find (λ kind. bytes_eq (name_of kind) name.now) kinds.now
-/// within: result ≤ length kinds.now
+/// result ≡ find (is_named name.now) hashes.now
 /// ```
 #[inline]
-fn first_place(kinds: &[Kind], name: &[u8]) -> usize {
-    for (place, kind) in kinds.iter().enumerate() {
-        if kind.row().name.as_bytes() == name {
-            return place;
+fn first_named(hashes: &[Ported], name: &[u8]) -> Option<Ported> {
+    for ported in hashes {
+        if ported.row().name.as_bytes() == name {
+            return Some(*ported);
         }
     }
-    kinds.len()
-}
-
-/// The number of the hash of that name; where no hash has the name, a number that no hash has.
-///
-/// Proved:
-///
-/// ```text
-/// kind_at result ≡ kind_named name.now
-/// ```
-#[inline]
-pub fn number_named(name: &[u8]) -> u32 {
-    first_place(&KINDS, name) as u32
+    None
 }
 
 /// The hash of that name.
@@ -264,24 +178,9 @@ pub fn number_named(name: &[u8]) -> u32 {
 /// Proved:
 ///
 /// ```text
-/// result ≡ kind_named name.now
+/// result ≡ ported_named name.now
 /// ```
 #[inline]
-pub fn kind_named(name: &[u8]) -> Option<Kind> {
-    kind_at(number_named(name))
-}
-
-/// The hash of that number.
-///
-/// Proved:
-///
-/// ```text
-/// result ≡ kind_at number
-/// ```
-#[inline]
-pub fn kind_at(number: u32) -> Option<Kind> {
-    match KINDS.get(number as usize) {
-        Some(kind) => Some(*kind),
-        None => None,
-    }
+pub fn ported_named(name: &[u8]) -> Option<Ported> {
+    first_named(&PORTED, name)
 }

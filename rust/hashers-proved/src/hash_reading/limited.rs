@@ -36,6 +36,7 @@ pub enum Unhashed {
 /// ```
 #[inline]
 pub fn fed<H: Piecewise, R: Read, const N: usize>(limit: u64, r: &mut R) -> Result<H, Unhashed> {
+    const { assert!(0 < N) };
     let mut hasher = H::fresh();
     match hash_reader::<H, R, N>(&mut hasher, r, limit) {
         Err(fault) => Err(Unhashed::ReadFault(fault)),
@@ -69,6 +70,7 @@ pub fn hash_of_pieces<H: Piecewise, R: Read, const N: usize>(
     limit: u64,
     r: &mut R,
 ) -> Result<u64, Unhashed> {
+    const { assert!(0 < N) };
     let hasher = fed::<H, R, N>(limit, r)?;
     Ok(hasher.answer())
 }
@@ -92,5 +94,6 @@ pub fn hash_of_text<H: Streamed, R: Read, const N: usize>(
     limit: u64,
     r: &mut R,
 ) -> Result<u64, Unhashed> {
+    const { assert!(0 < N) };
     hash_of_pieces::<H, R, N>(limit, r)
 }

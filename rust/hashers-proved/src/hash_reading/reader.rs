@@ -1,4 +1,4 @@
-//! The hash of what a reader gives, read through one fixed array, however the reader cuts it.
+//! The hash of what a reader gives, read through one fixed array, however the reader delivers it.
 
 // What follows is the proved text of crates/hash_reading/src/reader.rt without its contracts.
 use crate::{hash_laws, std};
@@ -13,7 +13,7 @@ use std::io::{Error, Read, Result as IoResult};
 pub struct Taken {
     /// How many bytes this call read.
     pub bytes: u64,
-    /// Whether a read told the end; `false` exactly where as many bytes were read as the limit allows.
+    /// Whether a read reported the end; `false` exactly where as many bytes were read as the limit allows.
     pub ended: bool,
 }
 
@@ -99,7 +99,7 @@ fn feed_unless_empty<H: Piecewise>(h: &mut H, piece: &[u8]) {
 }
 
 /// Reads to the end, or up to `limit` bytes, and feeds the hasher what was read: pieces of `N` bytes each, the last
-/// shorter and not empty, however the reader cut them.
+/// shorter and not empty, however the reader delivers them.
 ///
 /// Each read asks for the lesser of what is free in the array of `N` bytes and what is left of the limit, never for
 /// nothing; a read of 0 bytes is the end. No memory is taken. It returns over every reader, after at most `limit`
@@ -137,6 +137,7 @@ pub fn hash_reader<H: Piecewise, R: Read, const N: usize>(
     r: &mut R,
     limit: u64,
 ) -> Result<Taken, Fault> {
+    const { assert!(0 < N) };
     let mut piece = [0u8; N];
     let mut bytes: u64 = 0;
     while bytes < limit {
@@ -157,8 +158,8 @@ pub fn hash_reader<H: Piecewise, R: Read, const N: usize>(
     })
 }
 
-/// `hash_reader` for a hasher to which cuts don't show: its state is then that after the text that was read, however it came,
-/// and it stands behind that text.
+/// `hash_reader` for a hasher for which the split does not matter: its state is then that after the text that was read, however it came,
+/// and it stands after that text.
 ///
 /// The caller has to see to it that:
 ///
@@ -200,6 +201,7 @@ pub fn hash_stream<H: Streamed, R: Read, const N: usize>(
     r: &mut R,
     limit: u64,
 ) -> Result<Taken, Fault> {
+    const { assert!(0 < N) };
     h.state_in_range();
     hash_reader::<H, R, N>(h, r, limit)
 }

@@ -64,7 +64,7 @@ pub struct Ring<H: Piecewise> {
     hasher: PhantomData<H>,
 }
 
-/// Puts the points of the node behind the others.
+/// Puts the points of the node after the others.
 ///
 /// Proved:
 ///
@@ -182,11 +182,14 @@ fn merge_points<H: Piecewise>(
 /// Proved:
 ///
 /// ```text
-/// own: IfOk result (λ xs. (hash : List ℕ → ℕ) (named : List (List ℕ × ℕ)) → IsRing hash named points.now
+/// own: IfOk result (λ xs. (hash : List ℕ → ℕ) (named : List (List ℕ × ℕ))
+///     → IsRing hash named points.now
 ///     → AreOwners hash (nodes_of named) place (names_at named xs.items))
-/// real: IfOk result (λ xs. (hash : List ℕ → ℕ) (named : List (List ℕ × ℕ)) → IsRing hash named points.now
+/// real: IfOk result (λ xs. (hash : List ℕ → ℕ) (named : List (List ℕ × ℕ))
+///     → IsRing hash named points.now
 ///     → All (λ i. i < length named) xs.items)
-/// count: IfOk result (λ xs. (hash : List ℕ → ℕ) (named : List (List ℕ × ℕ)) → IsRing hash named points.now
+/// count: IfOk result (λ xs. (hash : List ℕ → ℕ) (named : List (List ℕ × ℕ))
+///     → IsRing hash named points.now
 ///     → length xs.items ≡ min most (length named))
 /// ```
 #[inline]
@@ -263,7 +266,7 @@ fn first_with_room<'a, H: Piecewise, F: Fn(&[u8]) -> bool>(
     None
 }
 
-/// How many places each node owns: those behind one point up to the next one are of the next one's node, and those behind the
+/// How many places each node owns: those after one point up to the next one are of the next one's node, and those after the
 /// last point of the first one's.
 ///
 /// The caller has to see to it that:

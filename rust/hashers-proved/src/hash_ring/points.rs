@@ -32,14 +32,15 @@ fn if_so(is: bool, n: usize) -> usize {
 /// How many points a search without jumps is faster over: so many lie in a processor's caches.
 const FEW: usize = 1 << 17;
 
-/// Puts the points in order. Those of all nodes, one node's behind another's, become a ring so.
+/// Puts the points in order. Those of all nodes, one node's after another's, become a ring so.
 ///
 /// Proved:
 ///
 /// ```text
 /// moved: IsPermutation points.old points.new
 /// ordered: AllPairs IsBefore points.new
-/// ring: (hash : List ℕ → ℕ) (nodes : List (List ℕ × ℕ)) → T (is_sorted (slice_cmp nat_cmp) nodes)
+/// ring: (hash : List ℕ → ℕ) (nodes : List (List ℕ × ℕ))
+///     → T (is_sorted (slice_cmp nat_cmp) nodes)
 ///     → All (λ node. 1 ≤ node.1) nodes → ArePoints hash nodes points.old → IsRing hash nodes points.new
 /// ```
 #[inline]
@@ -282,7 +283,7 @@ fn closed_up(gone: usize, point: Point) -> Point {
     }
 }
 
-/// Takes the points of a node out, counts the nodes of the others anew, and answers how many these are. What stands behind them then
+/// Takes the points of a node out, counts the nodes of the others again, and returns how many these are. What stands after them then
 /// means nothing.
 ///
 /// Proved:

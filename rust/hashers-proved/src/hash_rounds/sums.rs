@@ -7,7 +7,7 @@ use crate::std;
 use crate::hash_rounds::Turns;
 use std::simd::prelude::*;
 
-/// The state of sdbm after four bytes, from the state `h`: the bytes, as digits in base 65599 behind `h`, modulo 2^32.
+/// The state of sdbm after four bytes, from the state `h`: the bytes, as digits in base 65599 after `h`, modulo 2^32.
 /// The products are made in lanes.
 ///
 /// Proved:

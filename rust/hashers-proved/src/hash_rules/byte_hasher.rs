@@ -1,4 +1,4 @@
-//! The hasher of a rule by the byte.
+//! The hasher of a rule with a step per byte.
 
 // What follows is the proved text of crates/hash_rules/src/byte_hasher.rt without its contracts.
 use crate::{hash_laws, std};
@@ -7,7 +7,7 @@ use crate::hash_rules::byte_rule::{ByteRule, UndoRule};
 use hash_laws::traits::{ByteStep, Piecewise, Streamed, Undo};
 use std::hash::Hasher;
 
-/// The hasher of a rule by the byte. Contracts see it as what it keeps: mostly its state, a number below the rule's bound.
+/// The hasher of a rule with a step per byte. Contracts see it as what it keeps: mostly its state, a number below the rule's bound.
 pub struct ByteHasher<R: ByteRule> {
     state: R::State,
 }

@@ -1,8 +1,8 @@
-//! What a hash by the byte says for itself.
+//! What a hash with a step per byte has to define.
 
 // What follows is the proved text of crates/hash_rules/src/byte_rule.rt without its contracts.
 
-/// The first part of a rule by the byte: what is kept, the start, and one byte on. The implementing type is a
+/// The first part of a rule with a step per byte: what is kept, the start, and one byte on. The implementing type is a
 /// name for the rule, and no value of it is made.
 pub trait StepRule {
     /// What a hasher keeps: a word, or a word and a count beside it.
@@ -37,7 +37,7 @@ pub trait StepRule {
     fn step(state: &mut Self::State, byte: u8);
 }
 
-/// The second part of a rule by the byte: how a text is taken in, and what is answered.
+/// The second part of a rule with a step per byte: how a text is taken in, and what is answered.
 pub trait ByteRule: StepRule {
     /// The bytes in: mostly [`in_eights`](crate::hash_rules::in_eights) of the rule.
     ///

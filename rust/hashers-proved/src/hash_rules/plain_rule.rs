@@ -1,4 +1,4 @@
-//! What a hash by the byte says for itself where it keeps one word and nothing beside it.
+//! What a hash with a step per byte has to define whose state is one word.
 
 // What follows is the proved text of crates/hash_rules/src/plain_rule.rt without its contracts.
 use crate::std;
@@ -78,7 +78,7 @@ pub trait PlainUndo: PlainRule {
     fn unanswer(hash: u64) -> Option<Self::Word>;
 }
 
-/// The rule by the byte that a plain rule is: the number after a text is the recurrence of the step.
+/// The rule with a step per byte that a plain rule is: the number after a text is the recurrence of the step.
 pub struct Plain<R> {
     rule: PhantomData<R>,
 }

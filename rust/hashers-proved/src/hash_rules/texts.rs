@@ -1,9 +1,11 @@
 //! Whole texts by a rule's steps.
 
 // What follows is the proved text of crates/hash_rules/src/texts.rt without its contracts.
+use crate::hash_laws;
 
-use crate::hash_rules::byte_rule::StepRule;
+use crate::hash_rules::byte_rule::{ByteRule, StepRule};
 use crate::hash_rules::plain_rule::{Plain, PlainRule};
+use hash_laws::traits::bytes_are_a_text;
 
 /// The bytes in, one step for each.
 ///
@@ -77,4 +79,32 @@ pub fn whole_text<R: PlainRule>(text: &[u8]) -> u64 {
         }
     }
     R::answer(word)
+}
+
+/// The hash of a text by a plain rule: what `hash_of` of its hasher gives, from the rule alone.
+///
+/// Proved:
+///
+/// ```text
+/// value: result ≡ R.answer (recurrence R.step R.start text.now)
+/// text: IsText text.now
+/// ```
+#[inline(always)]
+pub fn hash_by_plain<R: PlainRule>(text: &[u8]) -> u64 {
+    bytes_are_a_text(text);
+    whole_text::<R>(text)
+}
+
+/// The hash of a text by a rule, likewise.
+///
+/// Proved:
+///
+/// ```text
+/// value: result ≡ R.answer (R.after (R.number R.start) text.now)
+/// text: IsText text.now
+/// ```
+#[inline(always)]
+pub fn hash_by_rule<R: ByteRule>(text: &[u8]) -> u64 {
+    bytes_are_a_text(text);
+    R::whole(text)
 }

@@ -6,7 +6,7 @@ use crate::hash_laws;
 use crate::hash_windows::window::differ_at_one_place;
 use hash_laws::traits::ByteStep;
 
-/// Whether the lengths are equal and exactly one place differs. Where so, the default hashes differ. Computes no hash.
+/// Whether the lengths are equal and exactly one place differs. If so, the default hashes differ. Computes no hash.
 ///
 /// Proved:
 ///

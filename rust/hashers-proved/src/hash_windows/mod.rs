@@ -1,4 +1,4 @@
-//! Texts that differ within a few neighbouring places, or within one block, only, and hashes that then differ.
+//! Texts that differ within a few adjacent places, or within one block, only, and hashes that then differ.
 
 // What follows is the proved text of crates/hash_windows/src/lib.rt without its contracts.
 

@@ -1,8 +1,8 @@
-//! Whether two texts differ within a few neighbouring places, or one block, only.
+//! Whether two texts differ within a few adjacent places, or one block, only.
 
 // What follows is the proved text of crates/hash_windows/src/window.rt without its contracts.
 
-/// Whether the texts have one length and differ, but only within `places` neighbouring places, and at every place
+/// Whether the texts have one length and differ, but only within `places` adjacent places, and at every place
 /// only in bits that are 0 in `mask`. A text shorter than `places` is one window.
 ///
 /// Proved:
@@ -88,7 +88,7 @@ pub fn agree_from(x: &[u8], y: &[u8], place: usize) -> bool {
     place >= x.len() || x[place..] == y[place..]
 }
 
-/// Whether the texts have one length and differ, but only within one block of `N` bytes, or behind the whole blocks.
+/// Whether the texts have one length and differ, but only within one block of `N` bytes, or after the whole blocks.
 ///
 /// The caller has to see to it that:
 ///
@@ -103,6 +103,7 @@ pub fn agree_from(x: &[u8], y: &[u8], place: usize) -> bool {
 /// ```
 #[inline]
 pub fn differ_in_one_block<const N: usize>(x: &[u8], y: &[u8]) -> bool {
+    const { assert!(0 < N) };
     if x.len() != y.len() {
         return false;
     }

@@ -61,6 +61,7 @@ pub fn rotl64(x: u64, k: u32) -> u64 {
 /// ```
 #[inline]
 pub fn rotl32_by<const K: u32>(x: u32) -> u32 {
+    const { assert!(0 < K) };
     rotl32(x, K)
 }
 
@@ -81,6 +82,7 @@ pub fn rotl32_by<const K: u32>(x: u32) -> u32 {
 /// ```
 #[inline]
 pub fn rotl64_by<const K: u32>(x: u64) -> u64 {
+    const { assert!(0 < K) };
     rotl64(x, K)
 }
 

@@ -63,7 +63,7 @@ impl<H: Piecewise> BuildHasher for BuildFresh<H> {
     }
 }
 
-/// The hash of a key by [`BuildFresh`], where cuts don't show: that of the bytes that std feeds, joined.
+/// The hash of a key by [`BuildFresh`], where the split does not matter: that of the bytes that std feeds, joined.
 ///
 /// Proved:
 ///
@@ -87,7 +87,7 @@ pub fn hash_one_slice<H: Streamed>(key: &[u8]) -> u64 {
     hash_one_joined::<H, &[u8]>(key)
 }
 
-/// The hash of a number as a key: that of its 8 bytes, the lowest first. It is one write, so this holds where cuts show, too.
+/// The hash of a number as a key: that of its 8 bytes, the lowest first. It is one write, so this holds where the split matters, too.
 ///
 /// Proved:
 ///
@@ -111,7 +111,7 @@ pub fn hash_one_pair<H: Streamed>(key: (u64, u64)) -> u64 {
     hash_one_joined::<H, (u64, u64)>(key)
 }
 
-/// The hash of a pair of numbers as a key, also where cuts show: the answer after the 8 bytes of the first as one write, and then
+/// The hash of a pair of numbers as a key, also where the split matters: the answer after the 8 bytes of the first as one write, and then
 /// those of the second.
 ///
 /// Proved:
@@ -136,7 +136,7 @@ pub fn hash_one_str<H: Streamed>(key: &str) -> u64 {
     hash_one_joined::<H, &str>(key)
 }
 
-/// Feeds a key to a hasher to which cuts don't show: the state is that after the bytes that std feeds, joined, from
+/// Feeds a key to a hasher for which the split does not matter: the state is that after the bytes that std feeds, joined, from
 /// wherever the hasher stood.
 ///
 /// Proved:

@@ -1,4 +1,4 @@
-//! What the writes of std's `Hasher` feed: lists of writes, made and taken back, and the keys of std's maps and sets.
+//! What the writes of std's `Hasher` feed: lists of writes, made and undone, and the keys of std's maps and sets.
 
 // What follows is the proved text of crates/hash_writes/src/lib.rt without its contracts.
 

@@ -1,4 +1,4 @@
-//! Lists of writes: any calls that std's `Hasher` offers for bytes and unsigned numbers, made in order and taken back.
+//! Lists of writes: any calls that std's `Hasher` offers for bytes and unsigned numbers, made in order and undone.
 
 // What follows is the proved text of crates/hash_writes/src/writes.rt without its contracts.
 use crate::hash_laws;

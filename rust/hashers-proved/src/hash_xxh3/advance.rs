@@ -94,7 +94,7 @@ pub(crate) fn keep_all(buffer: &mut [u8; 256], kept: usize, bytes: &[u8]) -> usi
     kept + bytes.len()
 }
 
-/// Goes on over more bytes, where a whole stripe and something behind it are kept. As many are kept then as the result says.
+/// Goes on over more bytes, where a whole stripe and something after it are kept. As many are kept then as the result says.
 ///
 /// The caller has to see to it that:
 ///

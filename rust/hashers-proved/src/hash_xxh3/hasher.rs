@@ -10,7 +10,7 @@ use crate::hash_xxh3::whole::xxh3_64;
 use hash_laws::traits::{Piecewise, Streamed, run_streamed};
 use std::hash::Hasher;
 
-/// XXH3 of a text that comes piece by piece, under a seed. How the bytes were cut into pieces doesn't show.
+/// XXH3 of a text that comes piece by piece, under a seed. How the bytes were split into pieces does not matter.
 pub struct Xxh3Hasher {
     parts: Xxh3Parts,
 }
@@ -87,7 +87,8 @@ impl Xxh3Hasher {
     ///
     /// ```text
     /// value: result ≡ wide_hash self.now
-    /// of_text: (seed : ℕ) (text : List ℕ) → self.now ≡ position seed text → result ≡ xxh3_128_of seed text
+    /// of_text: (seed : ℕ) (text : List ℕ) → self.now ≡ position seed text
+    ///     → result ≡ xxh3_128_of seed text
     /// ```
     #[inline(always)]
     pub fn finish128(&self) -> (u64, u64) {
@@ -111,7 +112,8 @@ impl Hasher for Xxh3Hasher {
     /// ```text
     /// value: result ≡ hash self.now
     /// in_range: IsPosition self.now
-    /// of_text: (seed : ℕ) (text : List ℕ) → self.now ≡ position seed text → result ≡ xxh3_64_of seed text
+    /// of_text: (seed : ℕ) (text : List ℕ) → self.now ≡ position seed text
+    ///     → result ≡ xxh3_64_of seed text
     /// ```
     #[inline(always)]
     fn finish(&self) -> u64 {

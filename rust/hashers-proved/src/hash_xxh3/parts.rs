@@ -12,7 +12,7 @@ use hash_laws::traits::bytes_are_a_text;
 use hash_words::put;
 
 /// The numbers that a hasher keeps: of a text of at most 240 bytes the text, and of a longer one the eight words after a
-/// stripe, and that stripe with the bytes behind it, of which there is one at least.
+/// stripe, and that stripe with the bytes after it, of which there is one at least.
 #[derive(Clone, Copy)]
 pub(crate) struct Xxh3Parts {
     pub seed: u64,

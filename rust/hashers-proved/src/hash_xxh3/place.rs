@@ -25,7 +25,7 @@ pub struct Xxh3Place {
     pub long: u64,
     /// How many bytes of the buffer are kept.
     pub kept: u64,
-    /// A text of at most 240 bytes, or a stripe that is in the words, and what is behind it.
+    /// A text of at most 240 bytes, or a stripe that is in the words, and what is after it.
     pub buffer: [u8; 256],
 }
 

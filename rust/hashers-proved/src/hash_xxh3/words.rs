@@ -125,7 +125,7 @@ pub(crate) fn three_turns(hash: u64) -> u64 {
     hash ^ rotl64(hash, 49) ^ rotl64(hash, 24)
 }
 
-/// A word with what is left of it behind 35 bits, and a length added to that, folded on.
+/// A word with what is left of it after 35 bits, and a length added to that, folded on.
 ///
 /// The caller has to see to it that:
 ///

@@ -108,7 +108,7 @@ pub fn converged(lanes: &[u32; 4]) -> u32 {
         .wrapping_add(rotl32(lanes[3], 18))
 }
 
-/// The word of XXH32 after four bytes more, as one number, behind the blocks.
+/// The word of XXH32 after four bytes more, as one number, after the blocks.
 ///
 /// Proved:
 ///
@@ -225,7 +225,7 @@ pub fn xxh32(seed: u32, bytes: &[u8]) -> u32 {
     Xxh32Hasher::hash_of(seed, bytes)
 }
 
-/// The same of a text in pieces: how it was cut doesn't show.
+/// The same of a text in pieces: how it was split does not matter.
 ///
 /// Proved:
 ///

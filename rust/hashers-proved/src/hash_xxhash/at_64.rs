@@ -120,7 +120,7 @@ pub fn converged(lanes: &[u64; 4]) -> u64 {
     )
 }
 
-/// The word of XXH64 after eight bytes more behind the blocks.
+/// The word of XXH64 after eight more bytes, after the blocks.
 ///
 /// Proved:
 ///
@@ -256,7 +256,7 @@ pub fn xxh64(seed: u64, bytes: &[u8]) -> u64 {
     Xxh64Hasher::hash_of(seed, bytes)
 }
 
-/// The same of a text in pieces: how it was cut doesn't show.
+/// The same of a text in pieces: how it was split does not matter.
 ///
 /// Proved:
 ///

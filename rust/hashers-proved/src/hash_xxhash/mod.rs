@@ -1,4 +1,4 @@
-//! XXH32 and XXH64, by Yann Collet: hashes by the block under a seed.
+//! XXH32 and XXH64, by Yann Collet: block-based hashes under a seed.
 
 // What follows is the proved text of crates/hash_xxhash/src/lib.rt without its contracts.
 

@@ -2,16 +2,17 @@
 
 // What follows is the proved text of crates/hashers/src/lib.rt without its contracts.
 #[doc(hidden)]
-pub use crate::{hash_bytes, hash_jenkins, hash_reading, hash_rounds, hash_rules, hash_windows, hash_writes};
+pub use crate::{hash_bytes, hash_reading, hash_rounds, hash_rules, hash_windows, hash_writes};
 
 mod counts;
+pub mod fnv;
 pub mod fx_hash;
+pub mod jenkins;
 pub mod laws;
 pub mod promises;
 mod windows;
 
-pub use hash_bytes::{fnv as fnv, null as null, oz as oz, pigeon as pigeon};
-pub use hash_jenkins as jenkins;
+pub use hash_bytes::{null as null, oz as oz, pigeon as pigeon};
 #[cfg(feature = "std")]
 pub use hash_reading::{reader as engine, reader as reader};
 pub use hash_rounds as rounds;

@@ -1,4 +1,4 @@
-//! What this project promises, at each concrete type and in the words of the written definitions.
+//! The theorems at each concrete type and in the words of the specifications.
 //!
 //! After any list of writes a hasher answers its definition: of the joined bytes alone, or for fx and lookup3 of the bytes
 //! of each write. Any list of writes of the seven byte hashers and of fx, and each mixing round, is undone exactly, and the
@@ -252,9 +252,9 @@ fn goes_on<H: Streamed>(h: &mut H, writes: &[HasherWrite]) -> (u64, u64) {
 pub struct WayBack {
     /// What the first answered before its writes.
     pub before: u64,
-    /// What it answered after them, before they were taken back.
+    /// What it answered after them, before they were undone.
     pub there: u64,
-    /// What the second answered after the writes were taken back, before they were made.
+    /// What the second answered after the writes were undone, before they were made.
     pub back: u64,
 }
 
@@ -306,7 +306,7 @@ fn there_and_back_joined<H: ByteStep>(a: &mut H, b: &mut H, writes: &[HasherWrit
     there_and_back::<H>(a, b, writes)
 }
 
-/// `fnv1a32`, from any state: the writes, made and taken back, or taken back and made, leave each hasher as it was.
+/// `fnv1a32`, from any state: the writes, made and undone, or undone and made, leave each hasher as it was.
 ///
 /// Proved:
 ///
@@ -327,7 +327,7 @@ pub fn fnv1a32_undone(
     there_and_back_joined::<FNV1aHasher32>(a, b, writes)
 }
 
-/// `fnv1a64`, from any state: the writes, made and taken back, or taken back and made, leave each hasher as it was.
+/// `fnv1a64`, from any state: the writes, made and undone, or undone and made, leave each hasher as it was.
 ///
 /// Proved:
 ///
@@ -348,7 +348,7 @@ pub fn fnv1a64_undone(
     there_and_back_joined::<FNV1aHasher64>(a, b, writes)
 }
 
-/// `djb2`, from any state: the writes, made and taken back, or taken back and made, leave each hasher as it was.
+/// `djb2`, from any state: the writes, made and undone, or undone and made, leave each hasher as it was.
 ///
 /// Proved:
 ///
@@ -365,7 +365,7 @@ pub fn djb2_undone(a: &mut DJB2Hasher, b: &mut DJB2Hasher, writes: &[HasherWrite
     there_and_back_joined::<DJB2Hasher>(a, b, writes)
 }
 
-/// `sdbm`, from any state: the writes, made and taken back, or taken back and made, leave each hasher as it was.
+/// `sdbm`, from any state: the writes, made and undone, or undone and made, leave each hasher as it was.
 ///
 /// Proved:
 ///
@@ -382,7 +382,7 @@ pub fn sdbm_undone(a: &mut SDBMHasher, b: &mut SDBMHasher, writes: &[HasherWrite
     there_and_back_joined::<SDBMHasher>(a, b, writes)
 }
 
-/// `loselose`, from any state: the writes, made and taken back, or taken back and made, leave each hasher as it was.
+/// `loselose`, from any state: the writes, made and undone, or undone and made, leave each hasher as it was.
 ///
 /// Proved:
 ///
@@ -403,7 +403,7 @@ pub fn loselose_undone(
     there_and_back_joined::<LoseLoseHasher>(a, b, writes)
 }
 
-/// `bricolage`, from any state: the writes, made and taken back, or taken back and made, leave each hasher as it was.
+/// `bricolage`, from any state: the writes, made and undone, or undone and made, leave each hasher as it was.
 ///
 /// Proved:
 ///
@@ -420,7 +420,7 @@ pub fn bricolage_undone(a: &mut Bricolage, b: &mut Bricolage, writes: &[HasherWr
     there_and_back_joined::<Bricolage>(a, b, writes)
 }
 
-/// `oaat`, from any state: the writes, made and taken back, or taken back and made, leave each hasher as it was.
+/// `oaat`, from any state: the writes, made and undone, or undone and made, leave each hasher as it was.
 ///
 /// Proved:
 ///
@@ -437,7 +437,7 @@ pub fn oaat_undone(a: &mut OAATHasher, b: &mut OAATHasher, writes: &[HasherWrite
     there_and_back_joined::<OAATHasher>(a, b, writes)
 }
 
-/// `fxhash`, from any state: the writes, made and taken back, or taken back and made, leave each hasher as it was.
+/// `fxhash`, from any state: the writes, made and undone, or undone and made, leave each hasher as it was.
 ///
 /// Proved:
 ///
@@ -454,7 +454,7 @@ pub fn fxhash_undone(a: &mut FxHasher, b: &mut FxHasher, writes: &[HasherWrite])
     there_and_back::<FxHasher>(a, b, writes)
 }
 
-/// `fxhash32`, from any state: the writes, made and taken back, or taken back and made, leave each hasher as it was.
+/// `fxhash32`, from any state: the writes, made and undone, or undone and made, leave each hasher as it was.
 ///
 /// Proved:
 ///
@@ -471,7 +471,7 @@ pub fn fxhash32_undone(a: &mut FxHasher32, b: &mut FxHasher32, writes: &[HasherW
     there_and_back::<FxHasher32>(a, b, writes)
 }
 
-/// `fxhash64`, from any state: the writes, made and taken back, or taken back and made, leave each hasher as it was.
+/// `fxhash64`, from any state: the writes, made and undone, or undone and made, leave each hasher as it was.
 ///
 /// Proved:
 ///
@@ -488,7 +488,7 @@ pub fn fxhash64_undone(a: &mut FxHasher64, b: &mut FxHasher64, writes: &[HasherW
     there_and_back::<FxHasher64>(a, b, writes)
 }
 
-/// A write that is one word of an fx type, from any state: made and taken back by `unwrite_word`, and taken back and made.
+/// A write that is one word of an fx type, from any state: made and undone by `unwrite_word`, and undone and made.
 /// Which writes are one word `fixed_widths_are_words64` and `fixed_widths_are_words32` say.
 ///
 /// The caller has to see to it that:

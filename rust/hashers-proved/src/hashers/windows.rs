@@ -1,4 +1,4 @@
-//! Tests on two texts that differ within a few neighbouring places: where one answers true, a hash tells the texts apart.
+//! Tests on two texts that differ within a few adjacent places: where one returns true, the hashes of the texts differ.
 //! None of them computes a hash.
 
 // What follows is the proved text of crates/hashers/src/windows.rt without its contracts.
@@ -16,7 +16,7 @@ const FNV64_PLACES: usize = 3;
 
 const FNV32_PLACES: usize = 2;
 
-/// Whether the texts have one length and differ, but only within six neighbouring places, and everywhere only in the low
+/// Whether the texts have one length and differ, but only within six adjacent places, and everywhere only in the low
 /// five bits of a byte. Their `djb2` hashes then differ.
 ///
 /// Proved:
@@ -30,7 +30,7 @@ pub fn apart_djb2(x: &[u8], y: &[u8]) -> bool {
     is_window(x, y, DJB2_PLACES, 0xE0)
 }
 
-/// Whether the texts have one length and differ, but only within three neighbouring places. Their `sdbm` hashes then
+/// Whether the texts have one length and differ, but only within three adjacent places. Their `sdbm` hashes then
 /// differ.
 ///
 /// Proved:
@@ -44,7 +44,7 @@ pub fn apart_sdbm(x: &[u8], y: &[u8]) -> bool {
     is_window(x, y, SDBM_PLACES, 0)
 }
 
-/// Whether the texts have one length and differ, but only within three neighbouring places. Their `fnv1a64` hashes then
+/// Whether the texts have one length and differ, but only within three adjacent places. Their `fnv1a64` hashes then
 /// differ.
 ///
 /// Proved:
@@ -58,7 +58,7 @@ pub fn apart_fnv64(x: &[u8], y: &[u8]) -> bool {
     is_window(x, y, FNV64_PLACES, 0)
 }
 
-/// Whether the texts have one length and differ, but only within two neighbouring places. Their `fnv1a32` hashes then
+/// Whether the texts have one length and differ, but only within two adjacent places. Their `fnv1a32` hashes then
 /// differ.
 ///
 /// Proved:

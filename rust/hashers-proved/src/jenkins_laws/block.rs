@@ -1,4 +1,4 @@
-//! The block of lookup3 that leads to the answer that is wanted.
+//! The block of lookup3 that gives a wanted answer.
 
 // What follows is the proved text of crates/jenkins_laws/src/block.rt without its contracts.
 use crate::{hash_jenkins, hash_rounds};
@@ -7,7 +7,7 @@ use hash_jenkins::Lookup3Hasher;
 use hash_rounds::{lookup3_unfinal, lookup3_unmix, put_array};
 
 /// The one block of 12 bytes that leads from where the hasher stands to the answer and to the third word, which the answer
-/// leaves out: the two mixes of its words taken back. So each answer has exactly 2^32 blocks, one for each third word.
+/// leaves out: the two mixes of its words undone. So each answer has exactly 2^32 blocks, one for each third word.
 ///
 /// Proved:
 ///

@@ -1,4 +1,4 @@
-//! Laws of lookup3 and SpookyHash alone: tests of two texts, and what leads to the hash that is wanted.
+//! Laws of lookup3 and SpookyHash alone: tests of two texts, and preimages.
 
 // What follows is the proved text of crates/jenkins_laws/src/lib.rt without its contracts.
 

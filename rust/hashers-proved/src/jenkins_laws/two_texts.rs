@@ -28,7 +28,7 @@ fn is_filled(x: &[u8], y: &[u8]) -> bool {
     y == &filled[..y.len()]
 }
 
-/// Whether `y` is `x` followed by at least one zero byte, and has fewer than 192 bytes. Where so, the four `short_words`
+/// Whether `y` is `x` followed by at least one zero byte, and has fewer than 192 bytes. If so, the four `short_words`
 /// of the two texts differ under all seeds; of the two words of the hash alone nothing is said. Computes no hash.
 ///
 /// Proved:
@@ -46,7 +46,7 @@ pub fn apart_by_zeros(x: &[u8], y: &[u8]) -> bool {
 }
 
 /// Feeds the pieces to both hashers, in order. Where their answers were equal before, they are equal afterwards: what
-/// `finish` answers is the whole state.
+/// `finish` returns is the whole state.
 ///
 /// Proved:
 ///
@@ -96,7 +96,7 @@ pub fn differ_in_one_stretch(x: &[u8], y: &[u8]) -> bool {
     }
 }
 
-/// Whether the texts have one length and differ, but only within one of lookup3's blocks of twelve bytes. Where so,
+/// Whether the texts have one length and differ, but only within one of lookup3's blocks of twelve bytes. If so,
 /// they lead from any two words to other words a, b and c. Computes no hash.
 ///
 /// Proved:
@@ -111,7 +111,7 @@ pub fn apart_by_block(x: &[u8], y: &[u8]) -> bool {
 }
 
 /// Whether the texts are shorter than 192 bytes, have one length and differ, but only in what SpookyHash adds between
-/// two mixes. Where so, the four `short_words` of the two texts differ under all seeds. Computes no hash.
+/// two mixes. If so, the four `short_words` of the two texts differ under all seeds. Computes no hash.
 ///
 /// Proved:
 ///

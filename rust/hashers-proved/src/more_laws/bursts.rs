@@ -1,5 +1,5 @@
-//! Tests on two texts that differ within a few neighbouring places, or bits: where one answers true, a CRC tells the texts
-//! apart. None of them computes a CRC.
+//! Tests on two texts that differ within a few adjacent places, or bits: where one returns true, the CRCs of the texts
+//! differ. None of them computes a CRC.
 
 // What follows is the proved text of crates/more_laws/src/bursts.rt without its contracts.
 use crate::hash_windows;
@@ -9,7 +9,7 @@ use hash_windows::window::{first_difference, is_window};
 // In how many neighbouring places two texts may differ.
 const PLACES: usize = 4;
 
-/// Whether the texts have one length and differ, but only within four neighbouring places. Their `crc32` then differs.
+/// Whether the texts have one length and differ, but only within four adjacent places. Their `crc32` then differs.
 ///
 /// Proved:
 ///
@@ -22,7 +22,7 @@ pub fn apart_crc32(x: &[u8], y: &[u8]) -> bool {
     is_window(x, y, PLACES, 0)
 }
 
-/// Whether the texts have one length and differ, but only within four neighbouring places. Their `crc32c` then differs.
+/// Whether the texts have one length and differ, but only within four adjacent places. Their `crc32c` then differs.
 ///
 /// Proved:
 ///
@@ -60,7 +60,7 @@ fn is_burst_from_the_first(x: &[u8], y: &[u8]) -> bool {
     (x[4] ^ y[4]) >> lowest == 0 && x[5..] == y[5..]
 }
 
-/// Whether the texts have one length and differ, but only within 32 neighbouring bits, which may lie in five bytes. The low
+/// Whether the texts have one length and differ, but only within 32 adjacent bits, which may lie in five bytes. The low
 /// bit of a byte comes first.
 ///
 /// Proved:
@@ -79,7 +79,7 @@ fn is_burst(x: &[u8], y: &[u8]) -> bool {
     }
 }
 
-/// Whether the texts have one length and differ, but only within 32 neighbouring bits, which may lie in five bytes; the low
+/// Whether the texts have one length and differ, but only within 32 adjacent bits, which may lie in five bytes; the low
 /// bit of a byte comes first. Their `crc32` then differs: it sees every burst of errors of up to 32 bits.
 ///
 /// Proved:
@@ -93,7 +93,7 @@ pub fn apart_crc32_bits(x: &[u8], y: &[u8]) -> bool {
     is_burst(x, y)
 }
 
-/// Whether the texts have one length and differ, but only within 32 neighbouring bits, as [`apart_crc32_bits`] has it.
+/// Whether the texts have one length and differ, but only within 32 adjacent bits, as [`apart_crc32_bits`] has it.
 /// Their `crc32c` then differs.
 ///
 /// Proved:

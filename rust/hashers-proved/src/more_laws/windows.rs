@@ -1,5 +1,5 @@
-//! Tests on two texts that differ within a few neighbouring places, or bits: where one answers true, a hash tells the texts
-//! apart. None of them computes a hash.
+//! Tests on two texts that differ within a few adjacent places, or bits: where one returns true, the hashes of the texts
+//! differ. None of them computes a hash.
 
 // What follows is the proved text of crates/more_laws/src/windows.rt without its contracts.
 use crate::hash_windows;
@@ -14,7 +14,7 @@ const FNV1_64_PLACES: usize = 3;
 
 const FNV1_32_PLACES: usize = 2;
 
-/// Whether the texts have one length and differ, but only within six neighbouring places, and everywhere only in the low
+/// Whether the texts have one length and differ, but only within six adjacent places, and everywhere only in the low
 /// five bits of a byte. Their `djb2_add` hashes then differ.
 ///
 /// Proved:
@@ -28,7 +28,7 @@ pub fn apart_djb2_add(x: &[u8], y: &[u8]) -> bool {
     is_window(x, y, DJB2_ADD_PLACES, 0xE0)
 }
 
-/// Whether the texts have one length and differ, but only within three neighbouring places. Their `fnv1_64` hashes then
+/// Whether the texts have one length and differ, but only within three adjacent places. Their `fnv1_64` hashes then
 /// differ.
 ///
 /// Proved:
@@ -42,7 +42,7 @@ pub fn apart_fnv1_64(x: &[u8], y: &[u8]) -> bool {
     is_window(x, y, FNV1_64_PLACES, 0)
 }
 
-/// Whether the texts have one length and differ, but only within two neighbouring places. Their `fnv1_32` hashes then
+/// Whether the texts have one length and differ, but only within two adjacent places. Their `fnv1_32` hashes then
 /// differ.
 ///
 /// Proved:

@@ -54,7 +54,7 @@ impl BuildHasher for RandomKeys {
 
 /// A hasher by folded multiplication under two keys: it multiplies 16 bytes at a time, each half under a key, and joins the
 /// halves of the product by xor. So std's `FoldHasher` hashes, under one known key; the step is wyhash's (Wang Yi, in the
-/// public domain). A cut between two writes shows.
+/// public domain). The result depends on the split into writes.
 ///
 /// The first key and a text's length are added, so texts of near lengths collide under a share of all keys. Of texts of up to 8
 /// bytes at most nine, one of each length, meet in one factor, whatever the keys are.

@@ -1,4 +1,4 @@
-//! A table of slots, which tells the places of texts by their hashes.
+//! A table of slots, which finds the places of texts by their hashes.
 
 // What follows is the proved text of crates/text_set/src/slots.rt without its contracts.
 use crate::shim::{Vec, std};

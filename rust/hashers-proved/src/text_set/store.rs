@@ -1,4 +1,4 @@
-//! Texts that lie one behind the other in one buffer.
+//! Texts that lie one after the other in one buffer.
 
 // What follows is the proved text of crates/text_set/src/store.rt without its contracts.
 use crate::shim::{Vec, std};
@@ -103,7 +103,7 @@ impl Store {
         text_between(&self.bytes, start, end)
     }
 
-    /// Puts a text behind the others. If there is no memory for it, they stay as they were.
+    /// Puts a text after the others. If there is no memory for it, they stay as they were.
     ///
     /// Proved:
     ///

@@ -62,7 +62,7 @@ impl From<AllocError> for Full {
 
 /// A set of texts, in the order in which they came. Nothing is taken out.
 ///
-/// The bytes of all texts lie one behind the other in one buffer. A table of slots says at which place each text stands: in
+/// The bytes of all texts lie one after the other in one buffer. A table of slots says at which place each text stands: in
 /// the first slot that was free, round from where its hash points. So the time of a call depends on the hasher, and the
 /// results do not. A text costs its bytes, 8 bytes for its end (room for 16 just after these have doubled), and 11 to 22 bytes of the
 /// table.
@@ -261,7 +261,7 @@ impl<S: BuildHasher> Texts<S> {
         self.see_tagged(text, guess.tag)
     }
 
-    /// Takes a text into the set, behind the others, unless it is there, and returns its place and whether it is new. If
+    /// Takes a text into the set, after the others, unless it is there, and returns its place and whether it is new. If
     /// that fails, the set stays as it was.
     ///
     /// Proved:

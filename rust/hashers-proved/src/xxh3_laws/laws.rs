@@ -1,11 +1,11 @@
-//! What XXH3 loses of short texts, and what it keeps: laws with no code, and whether they tell two texts apart.
+//! What XXH3 loses of short texts, and what it keeps: laws with no code, and whether the hashes of two texts differ.
 
 // What follows is the proved text of crates/xxh3_laws/src/laws.rt without its contracts.
 use crate::hash_laws;
 
 use hash_laws::traits::bytes_are_a_text;
 
-/// Whether two texts differ, and both have one to three bytes, or one length of four to eight. Where so, their hashes of 64 bits differ
+/// Whether two texts differ, and both have one to three bytes, or one length of four to eight. If so, their hashes of 64 bits differ
 /// under every seed. Computes no hash.
 ///
 /// Proved:
@@ -25,7 +25,7 @@ pub fn apart_xxh3(x: &[u8], y: &[u8]) -> bool {
     }
 }
 
-/// Whether two texts differ, and have one length of at most sixteen bytes. Where so, their hashes of 128 bits differ under every seed.
+/// Whether two texts differ, and have one length of at most sixteen bytes. If so, their hashes of 128 bits differ under every seed.
 /// Computes no hash.
 ///
 /// Proved:

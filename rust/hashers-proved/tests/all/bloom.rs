@@ -1,4 +1,4 @@
-//! A filter against its definition: key i of n probes has the bits at (first + i * second) mod the number of bits, by its two hashes.
+//! A filter against its definition: probe i of a key is at (first + i * second + (i^3 - i) / 6) mod 2^64 mod the bits, by its two hashes.
 use hashers_proved::bloom::{contains, has_room, insert, union};
 use hashers_proved::fnv::{fnv1a64, FNV1aHasher64};
 use hashers_proved::jenkins::{lookup3, Lookup3Hasher};
@@ -7,7 +7,7 @@ use std::collections::BTreeSet;
 /// The places of a key.
 fn places(key: &[u8], bits: u64, probes: u32) -> Vec<u64> {
     let (first, second) = (u128::from(fnv1a64(key)), u128::from(lookup3(key)));
-    (0..u128::from(probes)).map(|i| ((first + i * second) % u128::from(bits)) as u64).collect()
+    (0..u128::from(probes)).map(|i| (first + i * second + (i.pow(3) - i) / 6) as u64 % bits).collect()
 }
 
 /// The words in which these bits are set.
@@ -19,7 +19,7 @@ fn words_of(set: &BTreeSet<u64>, count: usize) -> Vec<u64> {
 
 #[test]
 fn filters_are_sets_of_bits() {
-    for (bits, probes) in [(1u64, 1u32), (63, 2), (64, 3), (65, 7), (1000, 7), (4096, 5)] {
+    for (bits, probes) in [(1u64, 1u32), (63, 2), (64, 3), (3, 10), (65, 7), (1000, 7), (4096, 5)] {
         let count = bits.div_ceil(64) as usize;
         let (mut words, mut set) = (vec![0; count], BTreeSet::new());
         assert!(has_room(&words, bits, probes) && !has_room(&words[1..], bits, probes));
@@ -28,7 +28,7 @@ fn filters_are_sets_of_bits() {
             let key = number.to_le_bytes();
             let there = places(&key, bits, probes).iter().all(|at| set.contains(at));
             assert_eq!(contains::<FNV1aHasher64, Lookup3Hasher>(&words, bits, probes, &key), there);
-            assert_eq!(insert::<FNV1aHasher64, Lookup3Hasher>(&mut words, bits, probes, &key), there);
+            assert_eq!(insert::<FNV1aHasher64, Lookup3Hasher>(&mut words, bits, probes, &key), !there);
             set.extend(places(&key, bits, probes));
             assert_eq!(words, words_of(&set, count));
             assert!(contains::<FNV1aHasher64, Lookup3Hasher>(&words, bits, probes, &key));

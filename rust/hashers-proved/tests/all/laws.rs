@@ -206,6 +206,7 @@ fn back<H: ByteStep>(r: &mut Random) {
 fn steps_and_writes() {
     let mut r = Random(2463534242);
     for _ in 0..3000 {
+        // declared: undone by bytes
         back::<FNV1aHasher32>(&mut r);
         back::<FNV1aHasher64>(&mut r);
         back::<DJB2Hasher>(&mut r);
@@ -219,6 +220,7 @@ fn steps_and_writes() {
         back::<Fnv1Hasher64>(&mut r);
         back::<Djb2AddHasher>(&mut r);
         back::<JoaatHasher>(&mut r);
+        // end of declared
         let text = r.bytes(5);
         let first = [HasherWrite::U8(7), HasherWrite::Bytes(&text), HasherWrite::U16(513)];
         let last = [HasherWrite::U32(r.next() as u32), HasherWrite::Usize(9), HasherWrite::U64(r.next())];
@@ -317,6 +319,7 @@ fn unfinishes_32_bits<H: Undo>() {
 
 #[test]
 fn hashers_of_32_bits_unfinish_no_more() {
+    // declared: undone of 32 bits
     unfinishes_32_bits::<FNV1aHasher32>();
     unfinishes_32_bits::<DJB2Hasher>();
     unfinishes_32_bits::<SDBMHasher>();
@@ -326,4 +329,5 @@ fn hashers_of_32_bits_unfinish_no_more() {
     unfinishes_32_bits::<Fnv1Hasher32>();
     unfinishes_32_bits::<Djb2AddHasher>();
     unfinishes_32_bits::<JoaatHasher>();
+    // end of declared
 }

@@ -13,4 +13,6 @@ mod promises;
 mod memory;
 mod names;
 mod numbers;
+#[cfg(feature = "std")]
+mod parsers;
 mod uses;

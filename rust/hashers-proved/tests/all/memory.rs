@@ -1,11 +1,11 @@
 //! What takes memory, reads or writes: tables, rings, chunks, filters and lines, each beside another way to the same answer.
 use hashers_proved::bloom::{insert, Bloom, Unread};
 use hashers_proved::buckets::Buckets;
-use hashers_proved::cuts::Cuts;
+use hashers_proved::cuts::{Cuts, Sizes, WrongSize};
 use hashers_proved::fnv::{fnv1a64, FNV1aHasher64};
-use hashers_proved::hash_bloom::commands::{known_after, Command};
+use hashers_proved::hash_bloom::commands::{new_after, Command};
 use hashers_proved::hash_buckets::{self, obey_all, NoRoom};
-use hashers_proved::hash_cuts::{cut_reader, Sink, Unfinished};
+use hashers_proved::hash_cuts::{self as proved_cuts, cut_reader, Sink, Unfinished};
 use hashers_proved::hash_ring::points::{self, Point};
 use hashers_proved::hash_ring::{self, Node, Refused};
 use hashers_proved::jenkins::{spooky_hash::SpookyHasher, Lookup3Hasher};
@@ -236,7 +236,11 @@ impl Sink for Kept {
 fn chunks_end_where_the_definition_has_them() {
     let mut pick = numbers(3);
     let text: Vec<u8> = (0..60000).map(|_| pick() as u8).collect();
-    assert!(Cuts::new(63, 300, 900, 7, 11).is_none() && Cuts::new(64, 63, 900, 7, 11).is_none());
+    let sizes = Sizes { seed1: 7, seed2: 11, ..Sizes::around(300) };
+    let refused = |sizes| Cuts::new(sizes).unwrap_err();
+    assert_eq!((sizes.least, sizes.most, refused(Sizes { least: 63, ..sizes })), (75, 1200, WrongSize::Least(63)));
+    assert_eq!(refused(Sizes { average: 74, ..sizes }).to_string(), "average is 74, below least, which is 75");
+    assert_eq!(refused(Sizes { most: 299, ..sizes }).to_string(), "most is 299, below average, which is 300");
     let table = std::array::from_fn::<u64, 256, _>(|byte| {
         let mut hasher = SpookyHasher::new(7, 11);
         hasher.write(&[byte as u8]);
@@ -245,7 +249,8 @@ fn chunks_end_where_the_definition_has_them() {
     let number = |byte: &u8| table[usize::from(*byte)];
     let hash_at = |at: usize| text[at - 64..at].iter().fold(0u64, |hash, byte| hash.wrapping_mul(2).wrapping_add(number(byte)));
     for (least, average, most) in [(64, 300, 900), (64, 64, 500), (100, 2000, 2000)] {
-        let cuts = Cuts::new(least, average, most, 7, 11).unwrap();
+        let cuts = Cuts::new(Sizes { least, average, most, ..sizes }).unwrap().clone();
+        let proved = proved_cuts::Cuts::new(least, average, most, 7, 11).unwrap();
         let (mut place, mut wanted) = (0, Vec::new());
         while place < text.len() {
             let end = text.len().min(place + most);
@@ -270,11 +275,11 @@ fn chunks_end_where_the_definition_has_them() {
         assert_eq!(cuts.cut(Broken, |_| Ok(())).unwrap_err().kind(), ErrorKind::TimedOut);
         assert_eq!(cuts.cut(&text[..], |_| Err(ErrorKind::StorageFull.into())).unwrap_err().kind(), ErrorKind::StorageFull);
         let mut kept = Kept(Vec::new());
-        let Ok(taken) = cut_reader(Global, &cuts, &mut text.as_slice(), u64::MAX, &mut kept) else { panic!() };
+        let Ok(taken) = cut_reader(Global, &proved, &mut text.as_slice(), u64::MAX, &mut kept) else { panic!() };
         assert_eq!((kept.0, taken.bytes, taken.ended), (wanted, 60000, true));
-        let Ok(taken) = cut_reader(Global, &cuts, &mut text.as_slice(), 59999, &mut Kept(Vec::new())) else { panic!() };
+        let Ok(taken) = cut_reader(Global, &proved, &mut text.as_slice(), 59999, &mut Kept(Vec::new())) else { panic!() };
         assert_eq!((taken.bytes, taken.ended), (59999, false));
-        assert!(matches!(cut_reader(Global, &cuts, &mut Broken, 9, &mut Kept(Vec::new())), Err(Unfinished::Unread(_))));
+        assert!(matches!(cut_reader(Global, &proved, &mut Broken, 9, &mut Kept(Vec::new())), Err(Unfinished::Unread(_))));
     }
 }
 
@@ -309,16 +314,16 @@ fn filters_are_stored_and_joined() {
     let mut words = vec![0u64; one.words().len()];
     for number in 0..50u32 {
         let before = one.contains(number.to_le_bytes());
-        assert_eq!(one.insert(number.to_le_bytes()), before);
+        assert_eq!(one.insert(number.to_le_bytes()), !before);
         insert::<FNV1aHasher64, SpookyHasher>(&mut words, one.bits(), one.probes(), &number.to_le_bytes());
     }
     other.extend((50..100u32).map(u32::to_le_bytes));
     assert_eq!((one.words(), one.bits(), one.probes()), (words.as_slice(), 1200, 8));
     assert!((45..55).contains(&other.estimate().unwrap()));
     assert!(one.contains_pieces(&[&[7, 0], &[], &[0, 0]]) && !one.contains_pieces(&[&[7, 0], &[77, 0]]));
-    let share = Filter::for_share(100, 10);
+    let share = Filter::for_keys(100, 15);
     assert_eq!((share.bits(), share.estimate(), share.ones()), (1500, Some(0), 0));
-    assert!(one.fits(&other) && !one.fits(&share) && !one.fits(&Filter::with_bits(1200, 7)) && one != other);
+    assert!(one.fits(&other) && !one.fits(&share) && !one.fits(&Filter::with_shape(1200, 7)) && one != other);
     let (mut joined, alone) = (one.clone(), one.clone());
     joined |= &other;
     one.union(&other);
@@ -328,6 +333,9 @@ fn filters_are_stored_and_joined() {
     one.write_to(&mut file, "fnv1a64 spooky").unwrap();
     assert_eq!(Filter::read_from(&file[..], "fnv1a64 spooky").unwrap(), one);
     assert!(matches!(Filter::read_from(&file[..], "fnv1a64 djb2"), Err(Unread::Pair)));
+    file[14] = b'1';
+    assert!(matches!(Filter::read_from(&file[..], "fnv1a64 spooky"), Err(Unread::Version)));
+    file[14] = b'2';
     file[60] ^= 1;
     assert!(matches!(Filter::read_from(&file[..], "fnv1a64 spooky"), Err(Unread::Hash)));
     assert!(Bloom::<FNV1aHasher64, Lookup3Hasher>::from_words(vec![1u64 << 63], 63, 2).is_none());
@@ -339,7 +347,7 @@ fn filters_are_stored_and_joined() {
     one.clear();
     assert_eq!(format!("{one:?}"), "Bloom { bits: 1200, probes: 8, ones: 0 }");
     let proved = hashers_proved::hash_bloom::Bloom::<FNV1aHasher64, SpookyHasher>::new(Global, 999, 3).unwrap();
-    assert!(known_after(proved, vec![Command::Store, Command::Insert(b"a".to_vec().into())].into(), b"a"));
+    assert!(!new_after(proved, vec![Command::Store, Command::Insert(b"a".to_vec().into())].into(), b"a"));
 }
 
 fn panics<T>(call: fn() -> T) -> bool {
@@ -349,8 +357,11 @@ fn panics<T>(call: fn() -> T) -> bool {
 /// Calls that give no filter, no list and no ring.
 #[test]
 fn wrong_numbers_panic() {
-    assert!(panics(|| Bloom::new(5, 0)) && panics(|| Bloom::new(1 << 60, 16)) && panics(|| Filter::with_bits(0, 1)));
-    assert!(panics(|| Filter::with_bits(1, 0)) && panics(|| Filter::for_share(1, 0)) && panics(|| Filter::for_share(1, 23)));
+    assert!(panics(|| Bloom::new(5, 0)) && panics(|| Bloom::new(1 << 60, 16)) && panics(|| Bloom::with_bits(0, 1)));
+    assert!(panics(|| Bloom::with_bits(1, 0)) && panics(|| Bloom::for_share(1, 0)) && panics(|| Bloom::for_share(1, 23)));
+    assert!(panics(|| Bloom::for_rate(1, 0.0)) && panics(|| Bloom::for_rate(1, 1.0)) && panics(|| Bloom::for_rate(u64::MAX, 0.01)));
+    let rated = Bloom::for_rate(1000, 0.01);
+    assert_eq!((rated.bits(), rated.probes(), Bloom::for_share(100, 10).bits()), (9586, 7, 1500));
     assert!(panics(|| Bloom::new(1, 8).union(&Bloom::new(2, 8))) && panics(|| Buckets::<2>::new().bucket(2).len()));
     assert!(panics(|| Ring::new().add("a", 1 << 60)) && panics(|| Ring::new().add("a", u64::MAX)));
     assert!(panics(|| Ring::new().add("a", 0)) && panics(|| Ring::<NullHasher>::from_iter([("a", 0)])) && panics(|| Lines::new()[0].len()));
@@ -362,7 +373,7 @@ fn the_end_tells_how_much_memory_there_is_not() {
     let calls: [(&str, fn(), u64); 3] = [
         ("Ring::add", || assert!(Ring::new().add("a", 1 << 45)), 1 << 49),
         ("Bloom::new", || assert!(!Bloom::new(1 << 50, 10).contains("a")), 10 << 47),
-        ("Bloom::with_bits", || assert!(!Filter::with_bits(u64::MAX, 1).contains("a")), 1 << 61),
+        ("Bloom::with_bits", || assert!(!Bloom::with_bits(u64::MAX, 1).contains("a")), 1 << 61),
     ];
     let called = std::env::var("HASHERS_WITHOUT_MEMORY").unwrap_or_default();
     for (name, call, bytes) in calls {

@@ -56,7 +56,7 @@ fn answers_to_writes() {
     for (number, (found, wanted)) in of_text.into_iter().chain(of_pieces).enumerate() {
         assert_eq!(found, wanted, "row {number}");
     }
-    assert_eq!(promises::spooky_of_writes(1, 2, &WRITES), spooky128(&text, 1, 2));
+    assert_eq!(promises::spooky_of_writes(1, 2, &WRITES), spooky128(1, 2, &text));
     let mut parts = SpookyHasher::new(1, 2);
     parts.write(&text);
     assert_eq!(promises::spooky_v1_of_writes(1, 2, &WRITES), parts.finish128_v1());
@@ -173,7 +173,7 @@ fn a_key_is_fed_once() {
     ("key", 7u8).hash(&mut wanted);
     assert_eq!(h, wanted);
     assert_eq!(BuildFresh::<DJB2Hasher>::new().hash_one(7u8), djb2(&[7]));
-    assert_eq!(BuildSpooky { seed1: 1, seed2: 2 }.hash_one(7u8), spooky128(&[7], 1, 2).0);
+    assert_eq!(BuildSpooky { seed1: 1, seed2: 2 }.hash_one(7u8), spooky128(1, 2, &[7]).0);
 }
 
 /// Counts bytes, and writes, with nothing but what `Piecewise` asks for.
@@ -245,7 +245,7 @@ fn spooky_under_seeds() {
     for length in 0..=text.len() {
         let text = &text[..length];
         let (hash, four) = spooky_by_rounds(text, 3, 5);
-        assert_eq!(spooky128(text, 3, 5), hash, "{length} bytes");
+        assert_eq!(spooky128(3, 5, text), hash, "{length} bytes");
         for cut in [0, length / 2, length - length % 96, length.saturating_sub(1)] {
             let mut h = SpookyHasher::new(3, 5);
             h.write(&text[..cut]);

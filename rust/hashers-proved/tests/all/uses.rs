@@ -18,6 +18,7 @@ const fn with_eq<H: Hasher + Clone + Copy + Debug + Default + PartialEq + Eq>() 
 
 /// All hashers of the crate.
 const _: () = {
+    // declared: hashers
     with_eq::<FNV1aHasher32>();
     with_eq::<FNV1aHasher64>();
     with_eq::<DJB2Hasher>();
@@ -26,7 +27,8 @@ const _: () = {
     with_eq::<Bricolage>();
     with_eq::<OAATHasher>();
     with_eq::<Lookup3Hasher>();
-    with_eq::<NullHasher>();
+    with_default::<SpookyHasher>();
+    with_default::<SpookyV1Hasher>();
     with_eq::<PassThroughHasher>();
     with_eq::<FxHasher>();
     with_eq::<FxHasher32>();
@@ -38,15 +40,15 @@ const _: () = {
     with_eq::<Djb2AddHasher>();
     with_eq::<JoaatHasher>();
     with_eq::<ElfHasher>();
-    with_default::<SpookyHasher>();
-    with_default::<SpookyV1Hasher>();
-    with_default::<Xxh3Hasher>();
+    with_eq::<NullHasher>();
     with_default::<Xxh32Hasher>();
     with_default::<Xxh64Hasher>();
     with_default::<Murmur3Hasher32>();
     with_default::<Murmur3Hasher128>();
     with_default::<SipHasher13>();
     with_default::<SipHasher24>();
+    with_default::<Xxh3Hasher>();
+    // end of declared
     with_default::<Poly61Hasher>();
     with_default::<Poly61Pair>();
     hasher::<NumberHasher>();
@@ -89,6 +91,7 @@ fn collected<B: BuildHasher + Clone + Copy + Debug + Default>() {
 #[test]
 fn maps_take_what_makes_hashers() {
     collected::<BuildXxh3>();
+    collected::<hashers_proved::xxhash::BuildXxh64>();
     collected::<BuildSpooky>();
     collected::<hashers_proved::build::BuildFresh<FNV1aHasher64>>();
     #[cfg(feature = "std")]
@@ -101,7 +104,7 @@ fn maps_take_what_makes_hashers() {
     }
     assert_eq!(SipKeys::with_keys(5, 6).hash_one(7u8), siphash13(SipKey { k0: 5, k1: 6 }, &[7]));
     assert_eq!(BuildXxh3::default().hash_one(7u8), xxh3_64(0, &[7]));
-    assert_eq!(BuildSpooky::default().hash_one(7u8), spooky128(&[7], 0, 0).0);
+    assert_eq!(BuildSpooky::default().hash_one(7u8), spooky128(0, 0, &[7]).0);
 }
 
 fn in_a_map<H: Hasher + Default>() {
@@ -119,6 +122,7 @@ fn in_a_map<H: Hasher + Default>() {
 
 #[test]
 fn maps_and_sets_take_each_hasher() {
+    // declared: maps
     in_a_map::<FNV1aHasher32>();
     in_a_map::<FNV1aHasher64>();
     in_a_map::<DJB2Hasher>();
@@ -128,11 +132,27 @@ fn maps_and_sets_take_each_hasher() {
     in_a_map::<OAATHasher>();
     in_a_map::<Lookup3Hasher>();
     in_a_map::<SpookyHasher>();
-    in_a_map::<NullHasher>();
+    in_a_map::<SpookyV1Hasher>();
     in_a_map::<PassThroughHasher>();
     in_a_map::<FxHasher>();
     in_a_map::<FxHasher32>();
     in_a_map::<FxHasher64>();
+    in_a_map::<Crc32Hasher>();
+    in_a_map::<Crc32cHasher>();
+    in_a_map::<Fnv1Hasher32>();
+    in_a_map::<Fnv1Hasher64>();
+    in_a_map::<Djb2AddHasher>();
+    in_a_map::<JoaatHasher>();
+    in_a_map::<ElfHasher>();
+    in_a_map::<NullHasher>();
+    in_a_map::<Xxh32Hasher>();
+    in_a_map::<Xxh64Hasher>();
+    in_a_map::<Murmur3Hasher32>();
+    in_a_map::<Murmur3Hasher128>();
+    in_a_map::<SipHasher13>();
+    in_a_map::<SipHasher24>();
+    in_a_map::<Xxh3Hasher>();
+    // end of declared
 }
 
 /// A copy of a hasher goes on by itself, and each of two calls undoes the other from every state.
@@ -171,11 +191,49 @@ fn spooky_in_parts_is_that_of_the_whole() {
         hasher.write(&bytes[..cut]);
         let copy = hasher;
         hasher.write(&bytes[cut..]);
-        assert_eq!(hasher.finish128(), spooky128(&bytes, 1, 2), "cut at {cut}");
-        assert_eq!(hasher.finish128_v1(), spooky128_v1(&bytes, 1, 2), "cut at {cut}");
+        assert_eq!(hasher.finish128(), spooky128(1, 2, &bytes), "cut at {cut}");
+        assert_eq!(hasher.finish128_v1(), spooky128_v1(1, 2, &bytes), "cut at {cut}");
         assert_eq!(hasher.finish(), hasher.finish128().0);
-        assert_eq!(copy.finish128(), spooky128(&bytes[..cut], 1, 2), "a copy at {cut}");
+        assert_eq!(copy.finish128(), spooky128(1, 2, &bytes[..cut]), "a copy at {cut}");
     }
+}
+
+/// `io::copy`, numbers of one width, builders under a seed, and a fresh start.
+#[cfg(feature = "std")]
+#[test]
+fn hashers_do_what_users_of_the_peers_expect() {
+    use hashers_proved::{crc32::*, murmur3::*, xxhash::*};
+    fn copied<H: Hasher + std::io::Write>(mut hasher: H) -> u64 {
+        assert_eq!(std::io::copy(&mut &[7; 20_000][..], &mut hasher).unwrap(), 20_000);
+        hasher.flush().unwrap();
+        hasher.finish()
+    }
+    let text = [7; 20_000];
+    assert_eq!((copied(Xxh3Hasher::new(5)), copied(Xxh64Hasher::new(5))), (xxh3_64(5, &text), xxh64(5, &text)));
+    assert_eq!((copied(FNV1aHasher64::default()), copied(Crc32Hasher::default())), (fnv1a64(&text), crc32(&text)));
+    assert_eq!((crc32_u32(b"123456789"), crc32c_u32(b"123456789"), fnv1a32_u32(b"a")), (0xcbf43926, 0xe3069283, 0xe40c292c));
+    let mut hasher = Xxh3Hasher::new(0x13353e1);
+    hasher.write(b"xxhash");
+    assert_eq!(hasher.finish_u128(), 0x79ac33c96912c28697334731064933c1);
+    assert_eq!(xxh3_u128(0x13353e1, b"xxhash"), hasher.finish_u128());
+    hasher.reset(0);
+    assert_eq!(hasher.finish_u128(), 0x99aa06d3014798d86001c324468d497f);
+    let mut hasher = Murmur3Hasher128::new(9);
+    hasher.reset(1);
+    hasher.write(b"hello, world");
+    assert_eq!(hasher.finish_u128(), 0x8b95f808840725c61597ed5422bd493b);
+    let mut hasher = SpookyHasher::default();
+    hasher.write(b"a");
+    assert_eq!(hasher.finish_u128(), 0xe78054ab33652e30c23e6229fd6dd323);
+    let fx = BuildHasherDefault::<FxHasher>::default();
+    assert!(fx.hash_one(7u32) == 7u64.wrapping_mul(0x517cc1b727220a95) && fx.hash_one(7u16) != fx.hash_one(7u32));
+    assert_eq!(BuildXxh64::with_seed(5).hash_one(7u8), xxh64(5, &[7]));
+    assert_eq!(BuildXxh32::with_seed(5).hash_one(7u8), u64::from(xxh32(5, &[7])));
+    assert_eq!(BuildMurmur3At32::with_seed(5).hash_one(7u8), u64::from(murmur3_32(5, &[7])));
+    assert_eq!(BuildMurmur3At128::with_seed(5).hash_one(7u8), murmur3_128(5, &[7]).0);
+    assert_eq!(BuildXxh3::with_seed(5).hash_one(7u8), xxh3_64(5, &[7]));
+    assert_ne!(BuildXxh64::random().hash_one(7), BuildXxh64::random().hash_one(7));
+    assert_ne!(BuildXxh3::random().hash_one(7), BuildXxh3::random().hash_one(7));
 }
 
 #[test]

@@ -41,7 +41,7 @@ pub trait Program {
     /// Proved:
     ///
     /// ```text
-    /// IfOk result (EndsAs (request_of (sayings call.now.said.items)))
+    /// IfOk result (came (sayings call.now.said.items))
     /// ```
     fn outcome_of<'a>(
         rt: &'a HostRuntime,
@@ -61,7 +61,7 @@ pub trait Program {
 /// Proved:
 ///
 /// ```text
-/// (request : Request) → IsStatus P.Misuse P.Own request result
+/// (said : List Saying) → IsStatus (P.came said) result
 /// ```
 #[inline]
 fn without_memory<P: Program>(rt: &HostRuntime) -> u8 {
@@ -78,7 +78,7 @@ fn without_memory<P: Program>(rt: &HostRuntime) -> u8 {
 /// Proved:
 ///
 /// ```text
-/// IsStatus P.Misuse P.Own (request_of (P.says (texts words.now))) result
+/// IsStatus (P.came (P.says (texts words.now))) result
 /// ```
 #[inline]
 fn status_of<P: Program>(rt: &HostRuntime, words: &[Vec<u8>]) -> u8 {
@@ -101,7 +101,7 @@ fn status_of<P: Program>(rt: &HostRuntime, words: &[Vec<u8>]) -> u8 {
 /// Proved:
 ///
 /// ```text
-/// (words : List (List ℕ)) × IsStatus P.Misuse P.Own (request_of (P.says words)) (exit_status result)
+/// (words : List (List ℕ)) × IsStatus (P.came (P.says words)) (exit_status result)
 /// ```
 #[inline]
 pub fn run<P: Program>(rt: &HostRuntime) -> ExitCode {

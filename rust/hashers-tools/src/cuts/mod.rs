@@ -1,4 +1,4 @@
-//! `cuts` cuts files into chunks where their content says so, and prints where each chunk begins, its length and its hash, or how much a
+//! `cuts` splits files into chunks where their content says so, and prints where each chunk begins, its length and its hash, or how much a
 //! store would save that keeps each chunk once.
 
 // What follows is the proved text of crates/cuts/src/main.rt without its contracts.
@@ -13,8 +13,7 @@ use cli::program::{BUFFER, Program, run};
 use cli::progress::Cleared;
 use hash_chunks::failure::TooMany;
 use hash_chunks::listing::Lines;
-use hash_chunks::outcome::{Misuse, Outcome, Wrong, call_of, options, outcome_of};
-use hash_chunks::sizes::{fallen_size, wrong_size};
+use hash_chunks::outcome::{Misuse, Outcome, Wrong, call_of, options, outcome_of, wrong_size};
 use std::alloc::{AllocError, Global};
 use std::io;
 use std::io::BufWriter;
@@ -33,7 +32,7 @@ changes few chunks. With no FILE, or when FILE is -, read standard input.
 
 ";
 
-/// What stands behind them.
+/// What stands after them.
 const BEHIND: &str = "
 BYTES may end with K, M, G, T, P or E for powers of 1024, or with KB, MB and so
 on for powers of 1000; all are at least 64. The hashes are those of hashsum that
@@ -41,7 +40,7 @@ take no keys. The exit status is 0, 1 if a file failed, 2 if the call is wrong.
 ";
 
 /// Which version this is.
-const VERSION: &str = "cuts of hashers 1.0.1
+const VERSION: &str = "cuts of hashers 0.1.0
 License: MIT
 ";
 
@@ -87,8 +86,7 @@ impl Program for Cuts {
     fn word_of<'a>(_alloc: Global, call: &Call<'a>, outcome: &Outcome) -> Option<&'a [u8]> {
         match outcome {
             Outcome::Usage(Wrong::UnknownName) => call.value(b"algorithm"),
-            Outcome::Usage(Wrong::Own(Misuse::NoSize)) => wrong_size(call),
-            Outcome::Usage(Wrong::Own(Misuse::NotRising)) => fallen_size(call),
+            Outcome::Usage(Wrong::Own(misuse)) => wrong_size(call, *misuse),
             _ => wrong_word(call),
         }
     }

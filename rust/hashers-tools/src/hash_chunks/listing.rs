@@ -79,6 +79,13 @@ fn chunk_line(
 impl<W: Write> Sink for Lines<'_, W> {
     type Error = Failure;
 
+    /// Proved:
+    ///
+    /// ```text
+    /// ok: OnOk result (Takes (ListsChunks W.contents) self.old self.new (chunk.now ∷ []) None)
+    /// err: OnErr result (Takes (ListsChunks W.contents) self.old self.new [] (Some chunk.now))
+    /// many: IfErr result (IsManyOnly (2 ^ 64 ≤ self.old.place + length chunk.now))
+    /// ```
     #[inline]
     fn take(&mut self, chunk: &[u8]) -> Result<(), Failure> {
         let Some(next) = self.place.checked_add(chunk.len() as u64) else {

@@ -11,10 +11,21 @@ use cli::numbers::number_of;
 pub struct Sizes {
     /// At least.
     pub least: usize,
-    /// Behind these, each place is a cut with a chance of 1 in this number.
+    /// After these about one place in this number is a boundary, if the bytes look random.
     pub average: usize,
     /// At most.
     pub most: usize,
+}
+
+/// One of these.
+#[derive(Clone, Copy, Debug)]
+pub enum Size {
+    /// The fewest bytes.
+    Least,
+    /// The average.
+    Average,
+    /// The most bytes.
+    Most,
 }
 
 /// The average if none is given.
@@ -177,32 +188,57 @@ pub fn sizes_of(call: &Call<'_>) -> Option<Sizes> {
     })
 }
 
-/// The first value that has to be a size, and is none.
+/// The first size that a call gives as what is none.
+///
+/// Proved:
+///
+/// ```text
+/// result ≡ no_size (sayings call.now.said.items)
+/// ```
 #[inline]
-pub fn wrong_size<'a>(call: &Call<'a>) -> Option<&'a [u8]> {
-    for name in [
-        b"average".as_slice(),
-        b"least".as_slice(),
-        b"most".as_slice(),
-    ] {
-        match call.value(name) {
-            Some(word) if size_of(word).is_none() => return Some(word),
-            _ => {}
-        }
+pub(crate) fn no_size(call: &Call<'_>) -> Size {
+    if given_or(call, b"average", 0).is_none() {
+        Size::Average
+    } else if given_or(call, b"least", 0).is_none() {
+        Size::Least
+    } else {
+        Size::Most
+    }
+}
+
+/// The first of the sizes that is below 64, or below the one before it.
+///
+/// Proved:
+///
+/// ```text
+/// result ≡ fallen sizes
+/// ```
+#[inline]
+pub(crate) fn fallen(sizes: Sizes) -> Option<Size> {
+    if sizes.least < FEWEST {
+        return Some(Size::Least);
+    }
+    if sizes.average < sizes.least {
+        return Some(Size::Average);
+    }
+    if sizes.most < sizes.average {
+        return Some(Size::Most);
     }
     None
 }
 
-/// The first of the sizes of a call that is below 64 or below the one before it.
+/// What a call gives as this size.
+///
+/// Proved:
+///
+/// ```text
+/// option_map (λ word. word.now) result ≡ value_of (name_of size) (sayings call.now.said.items)
+/// ```
 #[inline]
-pub fn fallen_size<'a>(call: &Call<'a>) -> Option<&'a [u8]> {
-    let sizes = sizes_of(call)?;
-    let name = if sizes.least < FEWEST {
-        b"least".as_slice()
-    } else if sizes.average < sizes.least {
-        b"average".as_slice()
-    } else {
-        b"most".as_slice()
-    };
-    call.value(name)
+pub(crate) fn given<'a>(call: &Call<'a>, size: Size) -> Option<&'a [u8]> {
+    match size {
+        Size::Least => call.value(b"least"),
+        Size::Average => call.value(b"average"),
+        Size::Most => call.value(b"most"),
+    }
 }

@@ -51,7 +51,8 @@ impl Tally {
 /// Proved:
 ///
 /// ```text
-/// IfOk result (λ sum. sum ≡ number + more)
+/// ok: IfOk result (λ sum. sum ≡ number + more)
+/// many: IfErr result (IsManyOnly (2 ^ 64 ≤ number + more))
 /// ```
 #[inline]
 fn sum(number: u64, more: usize) -> Result<u64, Failure> {
@@ -69,6 +70,7 @@ fn sum(number: u64, more: usize) -> Result<u64, Failure> {
 /// new: IfOk result (λ is_new. is_new ≡ not (contains nat_cmp hashes.old hash))
 /// seen: OnOk result ((number : ℕ) → contains nat_cmp hashes.new number
 ///     ≡ (number == hash || contains nat_cmp hashes.old number))
+/// full: IfErr result (λ why. why ≡ NoMemory)
 /// ```
 #[inline]
 fn see(hashes: &mut BTreeSet<u128>, hash: u128) -> Result<bool, Failure> {
@@ -93,6 +95,13 @@ fn bytes_if(is_asked: bool, chunk: &[u8]) -> usize {
 impl Sink for Tally {
     type Error = Failure;
 
+    /// Proved:
+    ///
+    /// ```text
+    /// ok: OnOk result (Takes CountsChunks self.old self.new (chunk.now ∷ []) None)
+    /// err: OnErr result (Takes CountsChunks self.old self.new [] (Some chunk.now))
+    /// many: IfErr result (IsManyOnly (AreTooMany self.old chunk.now))
+    /// ```
     #[inline]
     fn take(&mut self, chunk: &[u8]) -> Result<(), Failure> {
         let is_new = see(&mut self.hashes, number_of_text(self.kind, chunk))?;

@@ -2,7 +2,7 @@
 
 // What follows is the proved text of crates/hash_spread/src/call.rt without its contracts.
 use crate::cli;
-use hashers_proved::hash_names;
+use hashers_proved::{hash_kinds, hash_names};
 use hashers_proved::shim::{Vec, std};
 
 use crate::hash_spread::failure::NoTable;
@@ -11,7 +11,8 @@ use cli::call::{Call, Opt, flag, taking};
 use cli::numbers::number_of;
 use cli::outcome;
 use cli::outcome::Words;
-use hash_names::table::{KINDS, Kind};
+use hash_kinds::table::{KINDS, Kind};
+use hash_names::table::Ported;
 use std::alloc::{AllocError, Global};
 use std::num::NonZeroUsize;
 
@@ -33,6 +34,8 @@ pub enum Misuse {
     NoNumber,
     /// It says that keys have a fixed width, and that zero bytes end them.
     TwoLayouts,
+    /// It names what is no hash, as the file of the keys.
+    NoHash,
 }
 
 /// What is wrong with a call.
@@ -47,6 +50,7 @@ impl Words for Misuse {
         match self {
             Misuse::NoNumber => "invalid number",
             Misuse::TwoLayouts => "-z does not go with -w",
+            Misuse::NoHash => "keys come from standard input, and there is no hash",
         }
     }
 }
@@ -266,18 +270,18 @@ pub fn unknown_name<'a>(alloc: Global, call: &Call<'a>) -> Result<Option<&'a [u8
 
 /// The hashes that stand in the table where none is named. The others spread as another does, not at all, or are for files.
 const USUAL: [Kind; 16] = [
-    Kind::Fnv1a32,
-    Kind::Fnv1a64,
-    Kind::Djb2,
-    Kind::Sdbm,
-    Kind::LoseLose,
-    Kind::Bricolage,
-    Kind::Oaat,
-    Kind::Lookup3,
-    Kind::Spooky,
-    Kind::PassThrough,
-    Kind::FxHash,
-    Kind::FxHash32,
+    Kind::Ported(Ported::Fnv1a32),
+    Kind::Ported(Ported::Fnv1a64),
+    Kind::Ported(Ported::Djb2),
+    Kind::Ported(Ported::Sdbm),
+    Kind::Ported(Ported::LoseLose),
+    Kind::Ported(Ported::Bricolage),
+    Kind::Ported(Ported::Oaat),
+    Kind::Ported(Ported::Lookup3),
+    Kind::Ported(Ported::Spooky),
+    Kind::Ported(Ported::PassThrough),
+    Kind::Ported(Ported::FxHash),
+    Kind::Ported(Ported::FxHash32),
     Kind::Xxh64,
     Kind::Murmur3At32,
     Kind::SipHash13,

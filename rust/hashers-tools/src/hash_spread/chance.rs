@@ -41,6 +41,13 @@ pub fn equal_pairs(keys: u64, bits: u32) -> f64 {
     pairs
 }
 
+/// Whether so many equal pairs lie within three standard deviations of chance, or below.
+#[inline]
+pub fn is_within(pairs: u128, keys: u64, bits: u32) -> bool {
+    let expected = equal_pairs(keys, bits);
+    nearest(pairs) <= expected + 3.0 * expected.sqrt()
+}
+
 /// The base to that power.
 #[inline]
 fn power(base: f64, exponent: u64) -> f64 {

@@ -2,6 +2,7 @@
 
 // What follows is the proved text of crates/hash_spread/src/lib.rt without its contracts.
 
+pub mod advice;
 pub mod call;
 pub mod chance;
 pub mod counts;

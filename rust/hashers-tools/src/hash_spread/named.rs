@@ -3,12 +3,12 @@
 // What follows is the proved text of crates/hash_spread/src/named.rt without its contracts.
 // Proofs name the loops.
 #![allow(unused_labels)]
-use hashers_proved::{hash_names, hashers, text_set};
+use hashers_proved::{hash_kinds, hash_names, hashers, text_set};
 use hashers_proved::shim::{Vec, std};
 
 use crate::hash_spread::counts::{Counts, counts_of};
 use crate::hash_spread::sizes::Sizes;
-use hash_names::table::{Kind, by_kind};
+use hash_kinds::table::{Kind, by_kind};
 use hash_names::task::HashTask;
 use hashers::laws::{Piecewise, Streamed, hash_of};
 use std::alloc::{AllocError, Global};

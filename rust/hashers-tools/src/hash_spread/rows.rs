@@ -1,13 +1,13 @@
 //! The rows of the table.
 
 // What follows is the proved text of crates/hash_spread/src/rows.rt without its contracts.
-use hashers_proved::hash_names;
+use hashers_proved::hash_kinds;
 use hashers_proved::shim::{Vec, std};
 
 use crate::hash_spread::counts::{Counts, Spread};
 use crate::hash_spread::named::{Hashed, counts_by};
 use crate::hash_spread::sizes::Sizes;
-use hash_names::table::Kind;
+use hash_kinds::table::Kind;
 use std::alloc::{AllocError, Global};
 
 /// A row of the table.

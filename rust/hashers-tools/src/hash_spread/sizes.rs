@@ -53,7 +53,8 @@ fn odd_above(power: u64) -> u64 {
 /// ```text
 /// asked: ForSome buckets (λ asked. 0 < asked → (result.first ≡ asked) × (result.second ≡ None))
 /// power: buckets ≡ None → 0 < keys → keys ≤ 2 ^ 63 → IsNextPowerOfTwo keys result.first
-/// odd: buckets ≡ None → 1 < result.first → result.first < u64.MAX → result.second ≡ Some (result.first + 1)
+/// odd: buckets ≡ None → 1 < result.first → result.first < u64.MAX
+///     → result.second ≡ Some (result.first + 1)
 /// one: buckets ≡ None → keys ≡ 1 → (result.first ≡ 1) × (result.second ≡ Some 3)
 /// ```
 #[inline]

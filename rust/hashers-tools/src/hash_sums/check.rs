@@ -8,6 +8,7 @@ use hashers_proved::{hash_lines, streams, text_set};
 use hashers_proved::shim::{Vec, std};
 
 use crate::hash_sums::failure::Failure;
+use crate::hash_sums::hints::{NO_LINES, Untagged, hint_of, with_line};
 use crate::hash_sums::reports::Reports;
 use crate::hash_sums::sum::{Unsummed, error_of, number_of};
 use crate::hash_sums::sums::{is_keyed, is_named};
@@ -267,18 +268,18 @@ fn is_itself(list: &[u8], name: &[u8]) -> bool {
     list == b"-".as_slice() && name == b"-".as_slice()
 }
 
-/// Whether a line is empty or a comment.
+/// Whether a line is empty, or a comment of an SFV file or of another list.
 ///
 /// Proved:
 ///
 /// ```text
-/// result ≡ is_skipped line.now
+/// result ≡ is_skipped sfv line.now
 /// ```
 #[inline]
-fn is_skipped(line: &[u8]) -> bool {
+fn is_skipped(sfv: bool, line: &[u8]) -> bool {
     match line {
-        [] | [b'#' | b';', ..] => true,
-        _ => false,
+        [] => true,
+        [first, ..] => *first == if sfv { b';' } else { b'#' },
     }
 }
 
@@ -320,10 +321,10 @@ fn check_line<'k, R: Read, F: Folder<R>>(
     list: &[u8],
     line: &[u8],
 ) -> Result<LineCheck<'k>, AllocError> {
-    if is_skipped(line) {
+    let sfv = takes_sfv(checking.kind, list);
+    if is_skipped(sfv, line) {
         return Ok(LineCheck::Skipped);
     }
-    let sfv = takes_sfv(checking.kind, list);
     match entry_of(alloc, kinds, checking.kind, sfv, line)? {
         Some(entry) => {
             if is_itself(list, &entry.name) {
@@ -400,7 +401,23 @@ fn said(
     }
 }
 
-/// The line without its end, if it has one: a newline, or a carriage return and a newline.
+/// The text without the byte order mark that some editors put in front of one.
+///
+/// Proved:
+///
+/// ```text
+/// result.now ≡ unmarked text.now
+/// ```
+#[inline]
+fn unmarked(text: &[u8]) -> &[u8] {
+    match text {
+        [0xEF, 0xBB, 0xBF, rest @ ..] => rest,
+        _ => text,
+    }
+}
+
+/// The line without such a mark, as lists that were joined have one within, and without its end, if it has one: a newline, or a carriage
+/// return and a newline.
 ///
 /// Proved:
 ///
@@ -408,8 +425,8 @@ fn said(
 /// result.now ≡ bare line.now
 /// ```
 #[inline]
-fn without_end(line: &[u8]) -> &[u8] {
-    lines::without_end(lines::without_end(line, b'\n'), b'\r')
+fn bare(line: &[u8]) -> &[u8] {
+    unmarked(lines::without_end(lines::without_end(line, b'\n'), b'\r'))
 }
 
 /// Checks a line of the list of that name, with its newline if it has one, and writes what came of it.
@@ -431,7 +448,7 @@ fn tell_line<'k, R: Read, F: Folder<R>, W: Write>(
     line: &[u8],
     w: &mut BufWriter<W>,
 ) -> Result<LineCheck<'k>, Failure> {
-    let text = without_end(line);
+    let text = bare(line);
     let came = match check_line(alloc, folder, kinds, checking, list, text) {
         Ok(came) => came,
         Err(_) => return Err(Failure::NoMemory),
@@ -477,11 +494,15 @@ fn check_lines<B: BufRead, R: Read, F: Folder<R> + Reports, W: Write>(
     w: &mut BufWriter<W>,
 ) -> Result<Option<Counts>, Failure> {
     let mut counts = UNCOUNTED;
+    let mut untagged = NO_LINES;
     let mut line = Vec::new(alloc);
     for number in 1..u64::MAX {
         match next_line(lines, b'\n', &mut line) {
             Ok(true) => {}
-            Ok(false) => return Ok(Some(counts)),
+            Ok(false) => {
+                hint(folder, checking.only, list, untagged);
+                return Ok(Some(counts));
+            }
             Err(error) => {
                 folder.failed(list, &error);
                 return Ok(None);
@@ -490,12 +511,21 @@ fn check_lines<B: BufRead, R: Read, F: Folder<R> + Reports, W: Write>(
         match tell_line(alloc, folder, kinds, checking, list, &line, w) {
             Ok(came) => {
                 counts = count(counts, &came);
+                untagged = with_line(untagged, bare(&line), &came);
                 warn(folder, checking.warn, list, number, &came);
             }
             Err(fault) => return Err(fault),
         }
     }
     Ok(None)
+}
+
+/// Hints at hashes that lines without a tag may be of, if no hash was asked for and those did not pass.
+#[inline]
+fn hint<F: Reports>(reports: &F, only: bool, list: &[u8], untagged: Untagged) {
+    if let Some(hint) = hint_of(only, untagged) {
+        reports.hints(list, hint);
+    }
 }
 
 /// Tells an improper line, if that is asked for.

@@ -5,6 +5,7 @@ use crate::cli;
 use hashers_proved::shim::{HostRuntime, eprintln, std};
 
 use crate::hash_sums::check::Counts;
+use crate::hash_sums::hints::Hint;
 use crate::hash_sums::reports::Reports;
 use cli::folder::{Disk, Folder};
 use cli::progress::Watched;
@@ -67,6 +68,21 @@ impl Reports for Checked<'_> {
         let program = self.program;
         if let Ok(list) = quoted(self.rt.alloc(), list) {
             let _ = eprintln!(self.rt; "{program}: {list}: {line}: improperly formatted line");
+        }
+    }
+
+    #[inline]
+    fn hints(&self, list: &[u8], hint: Hint) {
+        if self.status {
+            return;
+        }
+        let words = match hint {
+            Hint::Short => "lines of 16 digits do not name their hash; try -a xxh64",
+            Hint::Long => "lines of 32 digits were taken for spooky128; try -a xxh128, or md5sum",
+        };
+        let program = self.program;
+        if let Ok(list) = quoted(self.rt.alloc(), list) {
+            let _ = eprintln!(self.rt; "{program}: {list}: {words}");
         }
     }
 

@@ -2,12 +2,12 @@
 
 // What follows is the proved text of crates/hash_sums/src/keys.rt without its contracts.
 use crate::cli;
-use hashers_proved::{hash_keyed, hash_names, hash_siphash, hashers};
+use hashers_proved::{hash_keyed, hash_kinds, hash_siphash, hashers};
 use hashers_proved::shim::std;
 
 use cli::folder::Folder;
 use hash_keyed::pair::Poly61Pair;
-use hash_names::reading::Unhashed;
+use hash_kinds::reading::Unhashed;
 use hash_siphash::{SipHasher24, SipKey};
 use hashers::reader::hash_stream;
 use std::io;
@@ -45,6 +45,7 @@ pub(crate) fn hash_of_poly61<R: Read, const N: usize>(
     limit: u64,
     r: &mut R,
 ) -> Result<u128, Unhashed> {
+    const { assert!(0 < N) };
     let mut pair = Poly61Pair::new(keys.0, keys.1);
     match hash_stream::<Poly61Pair, R, N>(&mut pair, r, limit) {
         Err(fault) => Err(Unhashed::ReadFault(fault)),
@@ -78,6 +79,7 @@ pub(crate) fn hash_of_siphash24<R: Read, const N: usize>(
     limit: u64,
     r: &mut R,
 ) -> Result<u64, Unhashed> {
+    const { assert!(0 < N) };
     let (k0, k1) = keys;
     let mut hasher = SipHasher24::new(SipKey { k0, k1 });
     match hash_stream::<SipHasher24, R, N>(&mut hasher, r, limit) {

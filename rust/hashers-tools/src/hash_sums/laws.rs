@@ -7,23 +7,44 @@
 // The laws alone name the hashes.
 #![allow(unused_imports)]
 use crate::cli;
-use hashers_proved::{hash_more, hash_names, hashers};
+use hashers_proved::{hash_kinds, hash_more, hash_names, hashers};
 use hashers_proved::shim::std;
 
 use crate::hash_sums::sums::{Sum, Wide};
 use cli::folder::Folder;
+use hash_kinds::table::Kind;
 use hash_more::crc32::{Crc32Hasher, Crc32cHasher};
 use hash_more::djb2_add::Djb2AddHasher;
 use hash_more::elf::ElfHasher;
 use hash_more::fnv1::{Fnv1Hasher32, Fnv1Hasher64};
 use hash_more::joaat::JoaatHasher;
-use hash_names::table::Kind;
+use hash_names::table::Ported;
 use hashers::fnv::{FNV1aHasher32, FNV1aHasher64};
 use hashers::fx_hash::{FxHasher32, FxHasher64};
 use hashers::jenkins::OAATHasher;
 use hashers::oz::{DJB2Hasher, LoseLoseHasher, SDBMHasher};
 use hashers::pigeon::Bricolage;
 use std::io::Read;
+
+/// What `seen` says of a ported hash.
+///
+/// Proved:
+///
+/// ```text
+/// IsSeen F.opens (Table (row.Ported ported)) result.now
+/// ```
+#[inline]
+fn seen_in_ported<R: Read, F: Folder<R>>(ported: Ported) -> &'static str {
+    match ported {
+        Ported::Fnv1a32 => "1 changed byte, or changes within 2 neighbouring bytes",
+        Ported::Fnv1a64 | Ported::Sdbm => "1 changed byte, or changes within 3 neighbouring bytes",
+        Ported::Djb2 => "1 changed byte, or changes within 6 in the low 5 bits",
+        Ported::FxHash | Ported::FxHash64 => "1 changed word, of 8 bytes",
+        Ported::FxHash32 => "1 changed word, of 4 bytes",
+        Ported::LoseLose | Ported::Bricolage | Ported::Oaat => "1 changed byte",
+        _ => "no promise",
+    }
+}
 
 /// What `seen` says of a hash of the table.
 ///
@@ -35,14 +56,13 @@ use std::io::Read;
 #[inline]
 fn seen_in_table<R: Read, F: Folder<R>>(kind: Kind) -> &'static str {
     match kind {
-        Kind::Fnv1a32 | Kind::Fnv1At32 => "1 changed byte, or changes within 2 neighbouring bytes",
-        Kind::Fnv1a64 | Kind::Fnv1At64 | Kind::Sdbm =>
-            "1 changed byte, or changes within 3 neighbouring bytes",
-        Kind::Djb2 | Kind::Djb2Add => "1 changed byte, or changes within 6 in the low 5 bits",
+        Kind::Ported(ported) => seen_in_ported::<R, F>(ported),
+        Kind::Fnv1At32 => "1 changed byte, or changes within 2 neighbouring bytes",
+        Kind::Fnv1At64 => "1 changed byte, or changes within 3 neighbouring bytes",
+        Kind::Djb2Add => "1 changed byte, or changes within 6 in the low 5 bits",
         Kind::Crc32 | Kind::Crc32c => "1 changed byte, or changes within 32 neighbouring bits",
-        Kind::FxHash | Kind::FxHash64 => "1 changed word, of 8 bytes",
-        Kind::FxHash32 | Kind::Murmur3At32 | Kind::Xxh32 => "1 changed word, of 4 bytes",
-        Kind::LoseLose | Kind::Bricolage | Kind::Oaat | Kind::Joaat => "1 changed byte",
+        Kind::Murmur3At32 | Kind::Xxh32 => "1 changed word, of 4 bytes",
+        Kind::Joaat => "1 changed byte",
         _ => "no promise",
     }
 }

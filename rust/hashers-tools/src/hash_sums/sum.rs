@@ -2,14 +2,14 @@
 
 // What follows is the proved text of crates/hash_sums/src/sum.rt without its contracts.
 use crate::cli;
-use hashers_proved::{hash_lines, hash_names, streams};
+use hashers_proved::{hash_kinds, hash_lines, streams};
 use hashers_proved::shim::{Vec, std};
 
 use crate::hash_sums::failure::Failure;
 use crate::hash_sums::sums::number_by;
 use cli::folder::Folder;
+use hash_kinds::reading::Unhashed;
 use hash_lines::line::{Form, LineKind, push_line};
-use hash_names::reading::Unhashed;
 use std::alloc::{AllocError, Global};
 use std::io::{BufWriter, Error, ErrorKind, Read, Write};
 use streams::tries::write_out;

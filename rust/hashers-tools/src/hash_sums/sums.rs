@@ -1,17 +1,18 @@
 //! The hashes by their names: how many digits the numbers of each have, and the number of what a reader gives.
 
 // What follows is the proved text of crates/hash_sums/src/sums.rt without its contracts.
-use hashers_proved::{hash_keyed, hash_lines, hash_murmur3, hash_names, hash_siphash, hash_xxh3, hashers};
+use hashers_proved::{hash_keyed, hash_kinds, hash_lines, hash_murmur3, hash_names, hash_siphash, hash_xxh3, hashers};
 use hashers_proved::shim::{Vec, std};
 
 use crate::hash_sums::keys::{hash_of_poly61, hash_of_siphash24};
 use hash_keyed::pair::poly61_pair;
+use hash_kinds::reading::{BUFFER, PIECE, Unhashed, hash_by, hash_of_wide};
+use hash_kinds::table::{Kind, by_kind};
+use hash_kinds::wide::{WideHash, both};
 use hash_lines::line::{LineKind, Width};
 use hash_murmur3::Murmur3Hasher128;
-use hash_names::reading::{BUFFER, PIECE, Unhashed, hash_by, hash_of_wide};
-use hash_names::table::{Kind, by_kind};
+use hash_names::table::Ported;
 use hash_names::task::HashTask;
-use hash_names::wide::{WideHash, both};
 use hash_siphash::{SipKey, siphash24};
 use hash_xxh3::Xxh3Hasher;
 use hashers::jenkins::spooky_hash::SpookyHasher;
@@ -51,20 +52,20 @@ pub enum Sum {
 /// bits, and SipHash without a key file would pass forgeries: SipHash-2-4 is told under keys alone.
 pub const SUMS: [Sum; 30] = [
     Sum::Wide(Wide::Spooky),
-    Sum::Table(Kind::Fnv1a32),
-    Sum::Table(Kind::Fnv1a64),
-    Sum::Table(Kind::Djb2),
-    Sum::Table(Kind::Sdbm),
-    Sum::Table(Kind::LoseLose),
-    Sum::Table(Kind::Bricolage),
-    Sum::Table(Kind::Oaat),
-    Sum::Table(Kind::Lookup3),
-    Sum::Table(Kind::Spooky),
-    Sum::Table(Kind::SpookyV1),
-    Sum::Table(Kind::PassThrough),
-    Sum::Table(Kind::FxHash),
-    Sum::Table(Kind::FxHash32),
-    Sum::Table(Kind::FxHash64),
+    Sum::Table(Kind::Ported(Ported::Fnv1a32)),
+    Sum::Table(Kind::Ported(Ported::Fnv1a64)),
+    Sum::Table(Kind::Ported(Ported::Djb2)),
+    Sum::Table(Kind::Ported(Ported::Sdbm)),
+    Sum::Table(Kind::Ported(Ported::LoseLose)),
+    Sum::Table(Kind::Ported(Ported::Bricolage)),
+    Sum::Table(Kind::Ported(Ported::Oaat)),
+    Sum::Table(Kind::Ported(Ported::Lookup3)),
+    Sum::Table(Kind::Ported(Ported::Spooky)),
+    Sum::Table(Kind::Ported(Ported::SpookyV1)),
+    Sum::Table(Kind::Ported(Ported::PassThrough)),
+    Sum::Table(Kind::Ported(Ported::FxHash)),
+    Sum::Table(Kind::Ported(Ported::FxHash32)),
+    Sum::Table(Kind::Ported(Ported::FxHash64)),
     Sum::Table(Kind::Crc32),
     Sum::Table(Kind::Crc32c),
     Sum::Table(Kind::Fnv1At32),

@@ -1,4 +1,4 @@
-//! `hashsum` writes a line for each of its files that tells its hash, and `hashsum -c` reads such lines and checks the files.
+//! `hashsum` writes a line for each of its files with its hash, and `hashsum -c` reads such lines and checks the files.
 
 // What follows is the proved text of crates/hashsum/src/main.rt without its contracts.
 use crate::{cli, hash_sums};
@@ -35,7 +35,7 @@ The exit status is 0, 1 if a file or a check failed, 2 if the call is wrong.
 ";
 
 /// Which version this is.
-const VERSION: &str = "hashsum of hashers 1.0.1
+const VERSION: &str = "hashsum of hashers 0.1.0
 License: MIT
 ";
 

@@ -4,10 +4,10 @@
 // Proofs name the loop.
 #![allow(unused_labels)]
 use crate::hash_spread;
-use hashers_proved::hash_names;
+use hashers_proved::hash_kinds;
 use hashers_proved::shim::{HostRuntime, std};
 
-use hash_names::table::Kind;
+use hash_kinds::table::Kind;
 use hash_spread::named::{Hashed, hash_by};
 use std::alloc::AllocError;
 use std::num::{nearest_u64_to_f64, nearest_usize_to_f64};

@@ -2,15 +2,16 @@
 
 // What follows is the proved text of crates/spread/src/run.rt without its contracts.
 use crate::{cli, hash_spread};
-use hashers_proved::{hash_names, streams, text_set};
-use hashers_proved::shim::{HostRuntime, Vec, format, std};
+use hashers_proved::{hash_kinds, streams, text_set};
+use hashers_proved::shim::{HostRuntime, Vec, std};
 
 use crate::spread::clock::time_of;
 use crate::spread::picture::picture;
 use crate::spread::table::Frame;
 use cli::inputs::open;
 use cli::progress::{Progress, Watched};
-use hash_names::table::Kind;
+use hash_kinds::table::Kind;
+use hash_spread::advice::advise;
 use hash_spread::call::Settings;
 use hash_spread::failure::{Failure, NoTable};
 use hash_spread::keys::{Layout, read_keys};
@@ -110,7 +111,7 @@ fn tell_chance(
     Ok(())
 }
 
-/// Writes which hasher is recommended.
+/// Writes which hash is advised.
 ///
 /// Proved:
 ///
@@ -118,27 +119,19 @@ fn tell_chance(
 /// OnOk result (writer_buffer w.new ≡ [])
 /// ```
 #[inline]
-fn tell_best(
+fn tell_advice(
     rt: &HostRuntime,
     rows: &[TableRow],
     frame: &Frame,
     w: &mut BufWriter<Stdout>,
 ) -> Result<(), Failure> {
-    match frame.best(rows) {
-        Some(best) => {
-            let name = best.kind.row().name;
-            let line = format!(in rt.alloc();
-                "Take {name}: the fastest of those that spread these keys as chance does.\n"
-            )?;
-            write_out(w, line.as_bytes())
-        }
-        None => write_out(w, b"None of these spreads these keys as chance does.\n"),
-    }
+    let line = advise(frame.keys, rows).line(rt.alloc())?;
+    write_out(w, line.as_bytes())
 }
 
 /// Where the picture goes.
 enum Canvas {
-    /// To standard output, behind the table.
+    /// To standard output, after the table.
     Standard,
     /// Into a file.
     File(File),
@@ -237,7 +230,7 @@ pub fn tell_table(
     let rows = tell_rows(rt, kinds, &frame, &mut hashed, w)?;
     tell_chance(rt, &rows, &frame, w)?;
     if settings.times {
-        tell_best(rt, &rows, &frame, w)?;
+        tell_advice(rt, &rows, &frame, w)?;
     }
     match canvas {
         Some(canvas) => draw(canvas, picture(rt.alloc(), &frame, &rows)?.as_str(), w),

@@ -35,7 +35,7 @@ pub struct Frame {
     pub keys: u64,
     /// Into how many buckets they fall.
     pub sizes: Sizes,
-    /// Whether times are told.
+    /// Whether times are shown.
     pub times: bool,
 }
 
@@ -205,7 +205,7 @@ fn width_of(columns: &[Column]) -> usize {
 }
 
 impl Frame {
-    /// Puts the columns of so many buckets behind the others.
+    /// Puts the columns of so many buckets after the others.
     ///
     /// Proved:
     ///
@@ -281,7 +281,7 @@ impl Frame {
         line.ended()
     }
 
-    /// The line that tells how many keys and buckets there are: the buckets above the last column of each number of them.
+    /// The line that says how many keys and buckets there are: the buckets above the last column of each number of them.
     ///
     /// Proved:
     ///
@@ -320,7 +320,7 @@ impl Frame {
         line.ended()
     }
 
-    /// The line that tells what chance gives to hashes of so many bits.
+    /// The line that says what chance gives to hashes of so many bits.
     pub fn chance(&self, alloc: Global, bits: u32) -> Result<String, AllocError> {
         let mut cells = Vec::new(alloc);
         cells.push(format!(in alloc; "{bits}")?)?;
@@ -338,42 +338,5 @@ impl Frame {
         let mut line = Line::new(alloc, "by chance")?;
         line.push_cells(&cells, &self.columns(alloc)?)?;
         line.ended()
-    }
-
-    /// The fastest hasher of those whose sum of squares lies within three standard deviations of chance, at each number of buckets.
-    #[inline]
-    pub fn best<'r>(&self, rows: &'r [TableRow]) -> Option<&'r TableRow> {
-        let mut best: Option<&'r TableRow> = None;
-        for row in rows {
-            if self.is_even(row) && is_faster(row, best) {
-                best = Some(row);
-            }
-        }
-        best
-    }
-
-    /// Whether the sum of squares lies within three standard deviations of chance, at each number of buckets.
-    #[inline]
-    fn is_even(&self, row: &TableRow) -> bool {
-        for spread in [Some(row.counts.first), row.counts.second] {
-            if let Some(spread) = spread {
-                if !Chance::of(self.keys, spread.buckets).is_near(spread.squares) {
-                    return false;
-                }
-            }
-        }
-        true
-    }
-}
-
-/// Whether a row has a time, and the other has none or a longer one.
-#[inline]
-fn is_faster(row: &TableRow, other: Option<&TableRow>) -> bool {
-    let (Some(time), Some(other)) = (row.time, other) else {
-        return row.time.is_some();
-    };
-    match other.time {
-        Some(longer) => time < longer,
-        None => true,
     }
 }

@@ -10,7 +10,7 @@ use crate::unique_lines::task::LineTask;
 use std::io::Write;
 use streams::tries::{TRIES, write_all};
 
-/// Writes a line of this text, and its end behind it if it has none. After a fault a beginning of that was written.
+/// Writes a line of this text, and its end after it if it has none. After a fault a beginning of that was written.
 ///
 /// The caller has to see to it that:
 ///
@@ -33,23 +33,21 @@ pub fn write_line<W: Write>(w: &mut W, line: &[u8], text: &[u8], eol: u8) -> Res
     write_all(w, &[eol], TRIES)
 }
 
-/// Has the first lines taken, up to so many. Returns how many lines those are, each with its end, and how many bytes they
-/// have together.
+/// Has the lines taken that have an end. Returns how many bytes they have together.
 ///
 /// The caller has to see to it that:
 ///
 /// ```text
-/// room: (ls : List (List ℕ)) × T.taken eol task.old ls × (length ls + most ≤ u64.MAX)
+/// stands: (ls : List (List ℕ)) × T.taken eol task.old ls
 /// ```
 ///
 /// Proved:
 ///
 /// ```text
-/// took: IfOk result (λ taken. (ls : List (List ℕ)) × Takes eol bytes.now most taken.0 taken.1 ls
+/// took: IfOk result (λ len. (ls : List (List ℕ)) × Takes eol bytes.now len ls
 ///     × Leads (At (T.output eol) (T.taken eol task.old) (W.contents w.old))
 ///     (At (T.output eol) (T.taken eol task.new) (W.contents w.new)) ls)
 /// broke: OnErr result ((ls : List (List ℕ)) × (rest : List ℕ) × Splits eol bytes.now ls rest
-///     × (length ls ≤ most)
 ///     × Leads (At (T.output eol) (T.taken eol task.old) (W.contents w.old))
 ///     (Broke (T.output eol) (W.contents w.new)) ls)
 /// ```
@@ -58,21 +56,15 @@ pub fn take_lines<T: LineTask, W: Write>(
     task: &mut T,
     bytes: &[u8],
     eol: u8,
-    most: u64,
     w: &mut W,
-) -> Result<(u64, usize), Failure> {
+) -> Result<usize, Failure> {
     let mut rest = bytes;
     let mut ahead = Ahead::new();
-    for count in 0..most {
-        match ahead.next(task, rest, eol) {
-            Some(found) => {
-                let (line, later) = rest.split_at(found.len + 1);
-                let text = &line[..found.len];
-                task.take_line(line, text, eol, found.guess, w)?;
-                rest = later;
-            }
-            None => return Ok((count, bytes.len() - rest.len())),
-        }
+    while let Some(found) = ahead.next(task, rest, eol) {
+        let (line, later) = rest.split_at(found.len + 1);
+        let text = &line[..found.len];
+        task.take_line(line, text, eol, found.guess, w)?;
+        rest = later;
     }
-    Ok((most, bytes.len() - rest.len()))
+    Ok(bytes.len() - rest.len())
 }

@@ -1,4 +1,4 @@
-//! Each line of some inputs once, where it came first, or behind how often it came: what the program `dedup` writes.
+//! Each line of some inputs once, where it came first, or after how often it came: what the program `dedup` writes.
 
 // What follows is the proved text of crates/unique_lines/src/lib.rt without its contracts.
 

@@ -47,13 +47,13 @@ impl<S: BuildHasher> LineTask for Once<S> {
     }
 }
 
-/// Writes each of at most `limit` lines of the inputs, each of which ends with the byte `eol`, once, where it came first. If
-/// an input fails, the others are still read. Whenever it reads, and at the end, nothing is held back.
+/// Writes each line of the inputs, each of which ends with the byte `eol`, once, where it came first. If an input fails, the others are
+/// still read. Whenever it reads, and at the end, nothing is held back.
 ///
 /// Proved:
 ///
 /// ```text
-/// ended: Ends (once_by eol) eol limit
+/// ended: Ends (once_by eol) eol
 ///     (run_of R.remaining inputs.old inputs.new (writer_contents W.contents) w.old w.new) result
 /// flushed: OnOk result (writer_buffer w.new ≡ [])
 /// ```
@@ -62,7 +62,6 @@ pub fn dedup<S: BuildHasher, R: Read, C: Complaints, W: Write>(
     alloc: Global,
     hasher: S,
     eol: u8,
-    limit: u64,
     inputs: &mut [R],
     complaints: &mut C,
     w: &mut BufWriter<W>,
@@ -70,5 +69,5 @@ pub fn dedup<S: BuildHasher, R: Read, C: Complaints, W: Write>(
     let mut once = Once {
         seen: Texts::new(alloc, hasher),
     };
-    take_inputs(alloc, &mut once, eol, limit, inputs, complaints, w)
+    take_inputs(alloc, &mut once, eol, inputs, complaints, w)
 }

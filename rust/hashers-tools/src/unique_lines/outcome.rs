@@ -67,7 +67,7 @@ pub fn options() -> [Opt; 6] {
     ]
 }
 
-/// What the words behind the program's own name say.
+/// What the words after the program's own name say.
 ///
 /// Proved:
 ///
@@ -117,19 +117,18 @@ fn of_run(ended: Result<Ended, Failure>) -> Outcome {
     match ended {
         Ok(Ended::Whole) => Outcome::Done,
         Ok(Ended::InputFailed) => Outcome::Reported,
-        Ok(Ended::TooManyLines) => Outcome::Failed(Failure::Own(TooMany::Lines)),
         Err(fault) => Outcome::Failed(fault),
     }
 }
 
-/// Does what the call asks for, over at most `limit` lines of the inputs. If the call is wrong, nothing is read or written. If all was
-/// done or told, nothing is held back.
+/// Does what the call asks for, over the lines of the inputs. If the call is wrong, nothing is read or written. If all was done or
+/// reported, nothing is held back.
 ///
 /// Proved:
 ///
 /// ```text
 /// exits: Exits (sayings call.now.said.items)
-///     about.entry.help.now about.entry.version.now about.entry.list.now limit
+///     about.entry.help.now about.entry.version.now about.entry.list.now
 ///     (run_of R.remaining inputs.old inputs.new (writer_contents W.contents) w.old w.new) result
 /// flushed: IsFlushed (writer_buffer w.new) result
 /// ```
@@ -139,7 +138,6 @@ pub fn outcome_of<S: BuildHasher, R: Read, C: Complaints, W: Write>(
     hasher: S,
     call: &Call<'_>,
     about: About<'_>,
-    limit: u64,
     inputs: &mut [R],
     complaints: &mut C,
     w: &mut BufWriter<W>,
@@ -148,9 +146,9 @@ pub fn outcome_of<S: BuildHasher, R: Read, C: Complaints, W: Write>(
         Request::Misgiven(misgiven) => Outcome::Usage(Wrong::Option(misgiven)),
         Request::Text(text) => of_telling(write_out(w, text_of(&about, text))),
         Request::Work => match work_of(call) {
-            Task::Once(eol) => of_run(dedup(alloc, hasher, eol, limit, inputs, complaints, w)),
+            Task::Once(eol) => of_run(dedup(alloc, hasher, eol, inputs, complaints, w)),
             Task::Tallied(which, eol) => {
-                of_run(tally(alloc, hasher, which, eol, limit, inputs, complaints, w))
+                of_run(tally(alloc, hasher, which, eol, inputs, complaints, w))
             }
         },
     }

@@ -1,6 +1,8 @@
-//! A run over inputs, one behind the other.
+//! A run over inputs, one after the other.
 
 // What follows is the proved text of crates/unique_lines/src/run.rt without its contracts.
+// A proof names the loop.
+#![allow(unused_labels)]
 use crate::cli;
 use hashers_proved::streams;
 use hashers_proved::shim::std;
@@ -11,7 +13,7 @@ use crate::unique_lines::task::LineTask;
 use crate::unique_lines::unread::{NextLine, Unread};
 use cli::inputs::Complaints;
 use std::alloc::Global;
-use std::io::{BufWriter, Error, Read, Write};
+use std::io::{BufWriter, Error, ErrorKind, Read, Write};
 use streams::tries::{TRIES, flush};
 
 /// How a run ended that met no fault of its own.
@@ -21,8 +23,6 @@ pub enum Ended {
     Whole,
     /// At least one input failed. Of such an input the lines were taken that came whole.
     InputFailed,
-    /// There were more lines than the limit. As many as the limit were taken.
-    TooManyLines,
 }
 
 /// How an input was left.
@@ -31,8 +31,6 @@ pub enum Left {
     Done,
     /// A read failed.
     Failed(Error),
-    /// It has more lines than may be taken.
-    Beyond,
 }
 
 /// Takes the last line of an input, which has no end, if there is one.
@@ -41,7 +39,7 @@ pub enum Left {
 ///
 /// ```text
 /// grows: Grows (T.output eol)
-/// room: (ls : List (List ℕ)) × T.taken eol task.old ls × (length ls + most.old ≤ u64.MAX)
+/// stands: (ls : List (List ℕ)) × T.taken eol task.old ls
 /// bare: IsBare eol line.now
 /// flushed: writer_buffer w.old ≡ []
 /// ```
@@ -49,43 +47,35 @@ pub enum Left {
 /// Proved:
 ///
 /// ```text
-/// left: IfOk result (EndsInput
+/// took: OnOk result (Leads
 ///     (At (T.output eol) (T.taken eol task.old) (writer_contents W.contents w.old))
-///     (At (T.output eol) (T.taken eol task.new) (writer_contents W.contents w.new))
-///     most.old most.new (lines_by eol line.now))
+///     (At (T.output eol) (T.taken eol task.new) (writer_contents W.contents w.new)) (lines_by eol line.now))
 /// flushed: OnOk result (writer_buffer w.new ≡ [])
 /// broke: OnErr result (Leads (At (T.output eol) (T.taken eol task.old) (writer_contents W.contents w.old))
 ///     (Broke (T.output eol) (writer_contents W.contents w.new)) (lines_by eol line.now))
-/// few: OnErr result (length (lines_by eol line.now) ≤ most.old)
 /// ```
 #[inline]
 fn take_last<T: LineTask, W: Write>(
     task: &mut T,
     line: &[u8],
     eol: u8,
-    most: &mut u64,
     w: &mut BufWriter<W>,
-) -> Result<Left, Failure> {
+) -> Result<(), Failure> {
     if line.is_empty() {
-        return Ok(Left::Done);
-    }
-    if *most == 0 {
-        return Ok(Left::Beyond);
+        return Ok(());
     }
     task.take_line(line, line, eol, task.guess(line), w)?;
-    *most -= 1;
     flush(w, TRIES)?;
-    Ok(Left::Done)
+    Ok(())
 }
 
-/// Has the lines of an input taken, at most so many, and leaves in `most` how many more may be taken. Whenever it reads,
-/// nothing is held back.
+/// Has the lines of an input taken. Whenever it reads, nothing is held back. An input of which 2^64 reads were made fails.
 ///
 /// The caller has to see to it that:
 ///
 /// ```text
 /// grows: Grows (T.output eol)
-/// room: (ls : List (List ℕ)) × T.taken eol task.old ls × (length ls + most.old ≤ u64.MAX)
+/// stands: (ls : List (List ℕ)) × T.taken eol task.old ls
 /// unread: unread.old ≡ []
 /// flushed: writer_buffer w.old ≡ []
 /// ```
@@ -96,38 +86,32 @@ fn take_last<T: LineTask, W: Write>(
 /// left: IfOk result (LeavesInput
 ///     (At (T.output eol) (T.taken eol task.old) (writer_contents W.contents w.old))
 ///     (At (T.output eol) (T.taken eol task.new) (writer_contents W.contents w.new))
-///     eol most.old most.new (R.remaining r.old) (R.remaining r.new))
+///     eol (R.remaining r.old) (R.remaining r.new))
 /// unread: OnOk result (unread.new ≡ [])
 /// flushed: OnOk result (writer_buffer w.new ≡ [])
 /// broke: OnErr result (BreaksInput
 ///     (At (T.output eol) (T.taken eol task.old) (writer_contents W.contents w.old))
-///     (Broke (T.output eol) (writer_contents W.contents w.new)) eol most.old (R.remaining r.old))
+///     (Broke (T.output eol) (writer_contents W.contents w.new)) eol (R.remaining r.old))
 /// ```
 #[inline]
 fn take_input<T: LineTask, R: Read, W: Write>(
     task: &mut T,
     unread: &mut Unread,
     eol: u8,
-    most: &mut u64,
     r: &mut R,
     w: &mut BufWriter<W>,
 ) -> Result<Left, Failure> {
-    loop {
+    'reads: for _ in 0..u64::MAX {
         match unread.fill(eol, r, w)? {
             NextLine::Line => {
-                let (count, len) = take_lines(task, unread.bytes(), eol, *most, w)?;
-                *most -= count;
+                let len = take_lines(task, unread.bytes(), eol, w)?;
                 unread.pass(len);
                 flush(w, TRIES)?;
-                if unread.is_beyond(*most) {
-                    unread.clear();
-                    return Ok(Left::Beyond);
-                }
             }
             NextLine::End => {
-                let left = take_last(task, unread.bytes(), eol, most, w)?;
+                take_last(task, unread.bytes(), eol, w)?;
                 unread.clear();
-                return Ok(left);
+                return Ok(Left::Done);
             }
             NextLine::Failure(error) => {
                 unread.clear();
@@ -135,10 +119,12 @@ fn take_input<T: LineTask, R: Read, W: Write>(
             }
         }
     }
+    unread.clear();
+    Ok(Left::Failed(Error::new(ErrorKind::FileTooLarge, "file too large")))
 }
 
-/// Has the lines of the inputs taken, which end with the byte `eol`, at most `limit` of them. If an input fails, the others are still
-/// read. Whenever it reads, and at the end, nothing is held back.
+/// Has the lines of the inputs taken, which end with the byte `eol`. If an input fails, the others are still read. Whenever it reads, and
+/// at the end, nothing is held back.
 ///
 /// The caller has to see to it that:
 ///
@@ -151,7 +137,7 @@ fn take_input<T: LineTask, R: Read, W: Write>(
 /// Proved:
 ///
 /// ```text
-/// ended: EndsTaking (T.output eol) (T.taken eol task.new) eol limit
+/// ended: EndsTaking (T.output eol) (T.taken eol task.new) eol
 ///     (run_of R.remaining inputs.old inputs.new (writer_contents W.contents) w.old w.new) result
 /// flushed: OnOk result (writer_buffer w.new ≡ [])
 /// ```
@@ -160,23 +146,20 @@ pub fn take_inputs<T: LineTask, R: Read, C: Complaints, W: Write>(
     alloc: Global,
     task: &mut T,
     eol: u8,
-    limit: u64,
     inputs: &mut [R],
     complaints: &mut C,
     w: &mut BufWriter<W>,
 ) -> Result<Ended, Failure> {
     let mut unread = Unread::new(alloc);
-    let mut most = limit;
     let mut whole = true;
     flush(w, TRIES)?;
     for place in 0..inputs.len() {
-        match take_input(task, &mut unread, eol, &mut most, &mut inputs[place], w)? {
+        match take_input(task, &mut unread, eol, &mut inputs[place], w)? {
             Left::Done => {}
             Left::Failed(error) => {
                 complaints.failed(place, &error);
                 whole = false;
             }
-            Left::Beyond => return Ok(Ended::TooManyLines),
         }
     }
     if whole {

@@ -18,7 +18,7 @@ use text_set::{Guess, Texts};
 /// Which of the counted lines are written, and how.
 #[derive(Clone, Copy)]
 pub struct Which {
-    /// Each behind how often it came.
+    /// Each after how often it came.
     pub counts: bool,
     /// None that came once.
     pub repeated: bool,
@@ -50,13 +50,12 @@ impl<S: BuildHasher> Counts<S> {
     }
 }
 
-/// Counts a text.
+/// Counts a text, up to the greatest number.
 ///
 /// The caller has to see to it that:
 ///
 /// ```text
-/// room: (eol : ℕ) × (ls : List (List ℕ)) × Tallies eol ls texts.old.texts times.old.items
-///     × (length ls < u64.MAX)
+/// counted: (eol : ℕ) × (ls : List (List ℕ)) × Tallies eol ls texts.old.texts times.old.items
 /// tag: guess.tag ≡ tag_under S.Hasher.write S.Hasher.finish (S.build_hasher texts.old.hasher) text.now
 /// ```
 ///
@@ -64,7 +63,8 @@ impl<S: BuildHasher> Counts<S> {
 ///
 /// ```text
 /// hasher: texts.new.hasher ≡ texts.old.hasher
-/// counted: OnOk result ((eol : ℕ) (ls : List (List ℕ)) (line : List ℕ) → strip_last eol line ≡ text.now
+/// counted: OnOk result ((eol : ℕ) (ls : List (List ℕ)) (line : List ℕ)
+///     → strip_last eol line ≡ text.now
 ///     → Tallies eol ls texts.old.texts times.old.items
 ///     → Tallies eol (ls ++ line ∷ []) texts.new.texts times.new.items)
 /// ```
@@ -82,7 +82,7 @@ fn count<S: BuildHasher>(
             Err(_) => Err(Failure::NoMemory),
         };
     }
-    times[seen.place] += 1;
+    times[seen.place] = times[seen.place].saturating_add(1);
     Ok(())
 }
 
@@ -110,7 +110,7 @@ impl<S: BuildHasher> LineTask for Counts<S> {
     }
 }
 
-/// Puts a text and the end of its line behind the bytes.
+/// Puts a text and the end of its line after the bytes.
 ///
 /// Proved:
 ///
@@ -124,7 +124,7 @@ fn push_line(out: &mut Vec<u8>, text: &[u8], eol: u8) -> Result<(), AllocError> 
     Ok(())
 }
 
-/// Makes the line of a text, behind how often it came.
+/// Makes the line of a text, after how often it came.
 ///
 /// Proved:
 ///
@@ -219,15 +219,14 @@ fn write_tallies<S: BuildHasher, W: Write>(
     Ok(())
 }
 
-/// Counts at most `limit` lines of the inputs, each of which ends with the byte `eol`, and writes behind the last those that
-/// are asked for, in the order in which they came first. If an input fails, the others are still read. If there
-/// are more lines than the limit, none is written. At the end nothing is held back. After a fault nothing was written, or a
-/// beginning of what is due of all lines.
+/// Counts the lines of the inputs, each of which ends with the byte `eol`, and writes after the last those that are asked for, in the
+/// order in which they came first. If an input fails, the others are still read. At the end nothing is held back. After a fault nothing
+/// was written, or a beginning of what is due of all lines.
 ///
 /// Proved:
 ///
 /// ```text
-/// ended: EndsBehind (told eol which) eol limit
+/// ended: EndsBehind (told eol which) eol
 ///     (run_of R.remaining inputs.old inputs.new (writer_contents W.contents) w.old w.new) result
 /// flushed: OnOk result (writer_buffer w.new ≡ [])
 /// ```
@@ -237,16 +236,12 @@ pub fn tally<S: BuildHasher, R: Read, C: Complaints, W: Write>(
     hasher: S,
     which: Which,
     eol: u8,
-    limit: u64,
     inputs: &mut [R],
     complaints: &mut C,
     w: &mut BufWriter<W>,
 ) -> Result<Ended, Failure> {
     let mut counts = Counts::new(alloc, hasher);
-    let ended = take_inputs(alloc, &mut counts, eol, limit, inputs, complaints, w)?;
-    if let Ended::TooManyLines = ended {
-        return Ok(ended);
-    }
+    let ended = take_inputs(alloc, &mut counts, eol, inputs, complaints, w)?;
     write_tallies(alloc, which, eol, &counts.texts, &counts.times, w)?;
     flush(w, TRIES)?;
     Ok(ended)

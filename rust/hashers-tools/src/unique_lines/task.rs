@@ -30,7 +30,7 @@ pub trait LineTask {
     /// ```text
     /// text: text.now ≡ strip_last eol line.now
     /// tag: guess.tag ≡ tag_of self.old text.now
-    /// room: (ls : List (List ℕ)) × taken eol self.old ls × (length ls < u64.MAX)
+    /// stands: (ls : List (List ℕ)) × taken eol self.old ls
     /// ```
     ///
     /// Proved:

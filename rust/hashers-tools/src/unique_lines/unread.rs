@@ -26,7 +26,7 @@ pub enum NextLine {
     Failure(Error),
 }
 
-/// Bytes that were read and are not taken yet: what is left of the last line, and what was read behind it.
+/// Bytes that were read and are not taken yet: what is left of the last line, and what was read after it.
 pub struct Unread {
     bytes: Vec<u8>,
     from: usize, // how many bytes are taken
@@ -55,7 +55,7 @@ fn to_front(bytes: &mut Vec<u8>, from: usize, to: usize) {
     }
 }
 
-/// Makes room behind so many bytes: half of `BUFFER` at least. What it adds is filled with zero bytes, so it adds little: a long line then
+/// Makes room after so many bytes: half of `BUFFER` at least. What it adds is filled with zero bytes, so it adds little: a long line then
 /// takes its own length in memory, and `Vec` sees to it that few of these calls move it.
 ///
 /// The caller has to see to it that:
@@ -83,7 +83,7 @@ fn make_room(bytes: &mut Vec<u8>, to: usize) -> Result<(), Failure> {
     Ok(())
 }
 
-/// Reads once, and puts what was read behind so many bytes.
+/// Reads once, and puts what was read after so many bytes.
 ///
 /// The caller has to see to it that:
 ///
@@ -132,19 +132,6 @@ impl Unread {
     #[inline]
     pub fn bytes(&self) -> &[u8] {
         &self.bytes[self.from..self.to]
-    }
-
-    /// Whether there are bytes, and no more lines may be taken.
-    ///
-    /// Proved:
-    ///
-    /// ```text
-    /// beyond: result ≡ true → (lines_left ≡ 0) × (0 < length self.now)
-    /// within: result ≡ false → lines_left ≡ 0 → self.now ≡ []
-    /// ```
-    #[inline]
-    pub fn is_beyond(&self, lines_left: u64) -> bool {
-        lines_left == 0 && !self.bytes().is_empty()
     }
 
     /// Takes so many bytes from the front.

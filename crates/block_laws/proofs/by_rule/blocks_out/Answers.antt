@@ -1,4 +1,4 @@
-use Rattle.std.proofs.Common.{arith}
+use Rattle.block_laws.proofs.Common.{arith}
 use Rattle.block_laws.proofs.by_rule.blocks_out.Goals as goal
 
 pub as_chunks-requires : goal.as_chunks-requires

@@ -1,7 +1,4 @@
-use Rattle.std.proofs.Common.{◌≡◌, fold, reverse}
-use Rattle.std.specs.Iterator.Adapters.{rev_source}
-use Rattle.std.specs.Slice.Iter.{iter_rest}
-use Rattle.block_laws.specs.BlockFacts.{blocks_before}
+use Rattle.block_laws.proofs.Common.{◌≡◌, fold, reverse, rev_source, iter_rest, blocks_before}
 use Rattle.block_laws.proofs.by_rule.blocks_out.Given as goal
 
 -- what is left leads where all leads

@@ -1,6 +1,4 @@
-use Rattle.std.proofs.Common.{ℕ, ◌≢◌, ◌^◌, ◌<◌, [], ◌∷◌}
-use Rattle.std.proofs.lemmas.Bool.{OnTrue_at, OnTrue_from}
-use Rattle.hash_murmur3.specs.Murmur3x128.{murmur3_128}
+use Rattle.block_laws.proofs.Common.{ℕ, ◌≢◌, ◌^◌, ◌<◌, [], ◌∷◌, OnTrue_at, OnTrue_from, murmur3_128}
 use Rattle.block_laws.proofs.murmur3.apart_by_block_murmur3_128.Goals as goal
 
 pub returns-clause-differ : goal.returns-clause-differ

@@ -1,6 +1,4 @@
-use Rattle.std.proofs.Common.{ℕ, ◌≢◌, ◌^◌, ◌<◌, [], ◌∷◌}
-use Rattle.std.proofs.lemmas.Bool.{OnTrue_at, OnTrue_from}
-use Rattle.hash_murmur3.specs.Murmur3.{murmur3_32}
+use Rattle.block_laws.proofs.Common.{ℕ, ◌≢◌, ◌^◌, ◌<◌, [], ◌∷◌, OnTrue_at, OnTrue_from, murmur3_32}
 use Rattle.block_laws.proofs.murmur3.apart_by_word_murmur3_32.Goals as goal
 
 pub returns-clause-differ : goal.returns-clause-differ

@@ -1,12 +1,9 @@
-use Rattle.std.proofs.Common.{◌∷◌, [], slice_index, lit<, refl, ◌+◌, length}
-use Rattle.block_laws.proofs.BlockLemmas.{even}
-use Rattle.hash_murmur3.specs.Murmur3x128.{after_block, ended, murmur3_128}
-use Rattle.block_laws.specs.Murmur3x128Back.{before_block, block_between, before_end, AreTwo, IsSeed}
-use Rattle.block_laws.specs.Murmur3x128Laws.{murmur3_128_facts}
+use Rattle.block_laws.proofs.Common.{◌∷◌, [], slice_index, lit<, refl, murmur3_128, murmur3_128_facts}
+use Rattle.block_laws.proofs.BackLemmas.{one_block}
+use Rattle.block_laws.proofs.BlockLemmas.{framed}
 use Rattle.block_laws.proofs.murmur3.murmur3_128_is_even.Goals as goal
 
 pub returns : goal.returns
 returns c = λ seed hash front back seed_in first_in second_in fronts backs place.
-    even 16 (lit< tt) IsSeed AreTwo AreTwo (λ from. (slice_index from 0, slice_index from 0)) after_block ended before_block block_between before_end
-    murmur3_128_facts (λ from text. murmur3_128 (slice_index from 0) text) (λ from text. refl)
-    (seed ∷ []) front back hash (length front + 16 + length back) seed_in fronts backs place (first_in, second_in) refl
+    one_block 16 (lit< tt) (framed (lit< tt) murmur3_128_facts (λ from text. murmur3_128 (slice_index from 0) text) (λ from text. refl)
+    (seed ∷ []) front back seed_in fronts backs place) hash (first_in, second_in)

@@ -1,12 +1,9 @@
-use Rattle.std.proofs.Common.{◌∷◌, [], slice_index, lit<, refl, ◌+◌, length}
-use Rattle.block_laws.proofs.BlockLemmas.{even}
-use Rattle.hash_murmur3.specs.Murmur3.{after_block, ended, murmur3_32}
-use Rattle.block_laws.specs.Murmur3Back.{before_block, block_between, before_end, IsWord, IsSeed}
-use Rattle.block_laws.specs.Murmur3BackLaws.{murmur3_32_facts}
+use Rattle.block_laws.proofs.Common.{◌∷◌, [], slice_index, lit<, refl, murmur3_32, murmur3_32_facts}
+use Rattle.block_laws.proofs.BackLemmas.{one_block}
+use Rattle.block_laws.proofs.BlockLemmas.{framed}
 use Rattle.block_laws.proofs.murmur3.murmur3_32_is_even.Goals as goal
 
 pub returns : goal.returns
 returns c = λ seed hash front back seed_in hash_in fronts backs place.
-    even 4 (lit< tt) IsSeed IsWord IsWord (λ from. slice_index from 0) after_block ended before_block block_between before_end
-    murmur3_32_facts (λ from text. murmur3_32 (slice_index from 0) text) (λ from text. refl)
-    (seed ∷ []) front back hash (length front + 4 + length back) seed_in fronts backs place hash_in refl
+    one_block 4 (lit< tt) (framed (lit< tt) murmur3_32_facts (λ from text. murmur3_32 (slice_index from 0) text) (λ from text. refl)
+    (seed ∷ []) front back seed_in fronts backs place) hash hash_in

@@ -1,5 +1,4 @@
-use Rattle.std.proofs.Common.{◌≡◌, fold, take}
-use Rattle.hash_words.specs.Words.{le}
+use Rattle.block_laws.proofs.Common.{◌≡◌, fold, take, le}
 use Rattle.hash_xxhash.specs.Xxh32.{four_in}
 use Rattle.block_laws.proofs.xxh32.fours_in.Given as goal
 

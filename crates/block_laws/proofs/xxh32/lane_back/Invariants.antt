@@ -1,8 +1,5 @@
-use Rattle.std.proofs.Common.{◌≡◌, fold, reverse, slice_index}
-use Rattle.std.specs.Iterator.Adapters.{rev_source}
-use Rattle.std.specs.Slice.Iter.{iter_rest}
-use Rattle.hash_xxhash.specs.Xxh32.{words_of}
-use Rattle.block_laws.specs.Xxh32Back.{lane_back, lane_out}
+use Rattle.block_laws.proofs.Common.{◌≡◌, fold, reverse, slice_index, rev_source, iter_rest, words_of, lane_back}
+use Rattle.block_laws.specs.Xxh32Back.{lane_out}
 use Rattle.block_laws.proofs.xxh32.lane_back.Given as goal
 
 abbrev pub invariant-loop-block : goal.invariant-loop-block

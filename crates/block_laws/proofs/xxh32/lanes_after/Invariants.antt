@@ -1,4 +1,4 @@
-use Rattle.std.proofs.Common.{◌≡◌, fold, take}
+use Rattle.block_laws.proofs.Common.{◌≡◌, fold, take}
 use Rattle.hash_xxhash.specs.Xxh32.{after_block}
 use Rattle.block_laws.proofs.xxh32.lanes_after.Given as goal
 

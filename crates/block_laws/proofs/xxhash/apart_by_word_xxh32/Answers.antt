@@ -1,7 +1,4 @@
-use Rattle.std.proofs.Common.{ℕ, ◌≢◌, ◌^◌, ◌<◌, arith}
-use Rattle.std.proofs.lemmas.Bool.{OnTrue_from}
-use Rattle.hash_laws.proofs.TextLemmas.{IsText-from_slice}
-use Rattle.hash_xxhash.specs.Xxh32.{xxh32}
+use Rattle.block_laws.proofs.Common.{ℕ, ◌≢◌, ◌^◌, ◌<◌, arith, OnTrue_from, IsText-from_slice, xxh32}
 use Rattle.block_laws.proofs.Words32.{DifferInOneWord-at, word-differs}
 use Rattle.block_laws.proofs.xxhash.apart_by_word_xxh32.Goals as goal
 
@@ -15,5 +12,5 @@ returns-then-x-from-ge4-clause-exactly c = (
 pub returns-then-x-from-ge4-clause-differ : goal.returns-then-x-from-ge4-clause-differ
 returns-then-x-from-ge4-clause-differ c =
     OnTrue_from c.differ_in_one_block.result ((seed : ℕ) → seed < 2 ^ 32 → xxh32 seed c.args.x.now ≢ xxh32 seed c.args.y.now)
-    (λ yes seed seed_in. word-differs c.args.x.now c.args.y.now (IsText-from_slice c.args.x.now c.type_inv.x)
-    (IsText-from_slice c.args.y.now c.type_inv.y) ((returns-then-x-from-ge4-clause-exactly c).0 yes) seed seed_in)
+    (λ yes seed seed_in. word-differs seed c.args.x.now c.args.y.now seed_in (IsText-from_slice c.args.x.now c.type_inv.x)
+    (IsText-from_slice c.args.y.now c.type_inv.y) ((returns-then-x-from-ge4-clause-exactly c).0 yes))

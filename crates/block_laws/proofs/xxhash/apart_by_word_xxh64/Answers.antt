@@ -1,7 +1,4 @@
-use Rattle.std.proofs.Common.{ℕ, ◌≢◌}
-use Rattle.std.proofs.lemmas.Bool.{OnTrue_from}
-use Rattle.hash_laws.proofs.TextLemmas.{IsText-from_slice}
-use Rattle.hash_xxhash.specs.Xxh64.{xxh64}
+use Rattle.block_laws.proofs.Common.{ℕ, ◌≢◌, OnTrue_from, IsText-from_slice, xxh64}
 use Rattle.block_laws.proofs.Words64.{DifferInOneLastWord-at, last_word-differs}
 use Rattle.block_laws.proofs.xxhash.apart_by_word_xxh64.Goals as goal
 
@@ -16,5 +13,5 @@ returns-then-in_last_word-clause-exactly c =
 pub returns-then-in_last_word-clause-differ : goal.returns-then-in_last_word-clause-differ
 returns-then-in_last_word-clause-differ c =
     OnTrue_from c.differ_in_one_block.result ((seed : ℕ) → xxh64 seed c.args.x.now ≢ xxh64 seed c.args.y.now) (λ yes seed.
-    last_word-differs c.args.x.now c.args.y.now (IsText-from_slice c.args.x.now c.type_inv.x) (IsText-from_slice c.args.y.now c.type_inv.y)
-    ((returns-then-in_last_word-clause-exactly c).0 yes) seed)
+    last_word-differs seed c.args.x.now c.args.y.now (IsText-from_slice c.args.x.now c.type_inv.x)
+    (IsText-from_slice c.args.y.now c.type_inv.y) ((returns-then-in_last_word-clause-exactly c).0 yes))

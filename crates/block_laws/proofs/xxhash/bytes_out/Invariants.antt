@@ -1,6 +1,4 @@
-use Rattle.std.proofs.Common.{◌≡◌, fold, reverse}
-use Rattle.std.specs.Iterator.Adapters.{rev_source}
-use Rattle.std.specs.Slice.Iter.{iter_rest}
+use Rattle.block_laws.proofs.Common.{◌≡◌, fold, reverse, rev_source, iter_rest}
 use Rattle.block_laws.specs.Xxh64Back.{byte_out}
 use Rattle.block_laws.proofs.xxhash.bytes_out.Given as goal
 

@@ -1,6 +1,4 @@
-use Rattle.std.proofs.Common.{◌≡◌, fold, take}
-use Rattle.hash_words.specs.Words.{le}
-use Rattle.hash_xxhash.specs.Xxh64.{eight_in}
+use Rattle.block_laws.proofs.Common.{◌≡◌, fold, take, le, eight_in}
 use Rattle.block_laws.proofs.xxhash.eights_in.Given as goal
 
 abbrev pub invariant-loop-eight : goal.invariant-loop-eight

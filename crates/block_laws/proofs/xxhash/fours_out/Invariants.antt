@@ -1,8 +1,4 @@
-use Rattle.std.proofs.Common.{◌≡◌, fold, reverse}
-use Rattle.std.specs.Iterator.Adapters.{rev_source}
-use Rattle.std.specs.Slice.Iter.{iter_rest}
-use Rattle.hash_words.specs.Words.{le}
-use Rattle.block_laws.specs.BlockFacts.{blocks_before}
+use Rattle.block_laws.proofs.Common.{◌≡◌, fold, reverse, rev_source, iter_rest, le, blocks_before}
 use Rattle.block_laws.specs.Xxh64Back.{four_out}
 use Rattle.block_laws.proofs.xxhash.fours_out.Given as goal
 

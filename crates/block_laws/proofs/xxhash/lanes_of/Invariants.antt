@@ -1,4 +1,4 @@
-use Rattle.std.proofs.Common.{◌≡◌, fold, take}
+use Rattle.block_laws.proofs.Common.{◌≡◌, fold, take}
 use Rattle.hash_xxhash.specs.Xxh64.{after_block}
 use Rattle.block_laws.proofs.xxhash.lanes_of.Given as goal
 

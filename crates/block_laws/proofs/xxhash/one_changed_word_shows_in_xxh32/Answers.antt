@@ -2,4 +2,4 @@ use Rattle.block_laws.proofs.Words32.{word-differs}
 use Rattle.block_laws.proofs.xxhash.one_changed_word_shows_in_xxh32.Goals as goal
 
 pub returns : goal.returns
-returns c = λ seed x y seed_in xs ys differ same. word-differs x y xs ys differ seed seed_in same
+returns c = word-differs

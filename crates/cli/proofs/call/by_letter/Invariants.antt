@@ -1,5 +1,4 @@
-use Rattle.std.proofs.Common.{◌≡◌, drop}
-use Rattle.std.specs.List.{find}
+use Rattle.std.proofs.Common.{◌≡◌, drop, find}
 use Rattle.cli.specs.Call.{choices, has_letter}
 use Rattle.cli.proofs.call.by_letter.Given as goal
 

@@ -3,4 +3,4 @@ use Rattle.cli.specs.Program.{IsStatus}
 use Rattle.cli.proofs.program.run.Goals as goal
 
 pub returns-in-Err : goal.returns-in-Err
-returns-in-Err g c = ([], subst (IsStatus _ _ _) (sym c.from-in-Err.ensures) (c.without_memory.ensures _))
+returns-in-Err g c = ([], subst (IsStatus _) (sym c.from-in-Err.ensures) (c.without_memory.ensures _))

@@ -1,10 +1,5 @@
-use Rattle.std.proofs.Common.{◌≡◌, ◌+◌, length, arith, ◌∙◌}
-use Rattle.std.proofs.Math.Path.{ap₂}
-use Rattle.std.proofs.lemmas.List.{map-id}
-use Rattle.hash_words.specs.Words.{le}
-use Rattle.fx_laws.specs.Differences.{differences}
+use Rattle.fx_laws.proofs.Common.{◌≡◌, ◌+◌, length, arith, ◌∙◌, ap₂, map-id, words32-parts, le, differences}
 use Rattle.fx_laws.proofs.DifferencesLemmas.{differences-parts}
-use Rattle.hash_fx.proofs.WordParts.{words32-parts}
 use Rattle.fx_laws.proofs.differing.differing_fours_and_bytes.Goals as goal
 
 -- the wide words, and then the others

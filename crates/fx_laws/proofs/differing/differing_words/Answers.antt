@@ -1,5 +1,4 @@
-use Rattle.std.proofs.Common.{◌<◌, length, arith}
-use Rattle.std.proofs.lemmas.Bool.{both_ways}
+use Rattle.fx_laws.proofs.Common.{◌<◌, length, arith, both_ways}
 use Rattle.fx_laws.proofs.DifferencesLemmas.{more-same, more-differ}
 use Rattle.fx_laws.proofs.differing.differing_words.Goals as goal
 use Rattle.fx_laws.proofs.differing.differing_words.Goals.{then-not-same, else-not-same}

@@ -1,5 +1,4 @@
-use Rattle.std.proofs.Common.{◌≡◌, ◌≤◌, map, take}
-use Rattle.fx_laws.specs.Differences.{differences}
+use Rattle.fx_laws.proofs.Common.{◌≡◌, ◌≤◌, map, take, differences}
 use Rattle.fx_laws.proofs.differing.differing_words.Given as goal
 
 -- the places so far

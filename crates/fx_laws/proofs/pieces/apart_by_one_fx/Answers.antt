@@ -1,6 +1,4 @@
-use Rattle.std.proofs.Common.{◌≡◌, ◌↔◌, ◌+◌, true, false, drop}
-use Rattle.std.proofs.lemmas.Bool.{OnTrue_at, OnTrue_from, both_ways}
-use Rattle.hash_laws.specs.Text.{joined}
+use Rattle.fx_laws.proofs.Common.{◌≡◌, ◌↔◌, ◌+◌, true, false, drop, OnTrue_at, OnTrue_from, both_ways, joined}
 use Rattle.fx_laws.proofs.OneApart.{OneApart, one_from_DifferAtOnePlace, DifferAtOnePlace-from_one}
 use Rattle.fx_laws.proofs.CutsLemmas.{SameCuts, no_piece}
 use Rattle.fx_laws.proofs.PiecesLemmas.{fx32_pieces-differ, fx64_pieces-differ}

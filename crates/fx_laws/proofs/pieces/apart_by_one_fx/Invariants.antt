@@ -1,5 +1,4 @@
-use Rattle.std.proofs.Common.{◌↔◌, drop}
-use Rattle.hash_laws.specs.Text.{joined}
+use Rattle.fx_laws.proofs.Common.{◌↔◌, drop, joined}
 use Rattle.fx_laws.proofs.OneApart.{OneApart}
 use Rattle.fx_laws.proofs.TestLemmas.{RestApart}
 use Rattle.fx_laws.proofs.pieces.apart_by_one_fx.Given as goal

@@ -1,5 +1,4 @@
-use Rattle.std.proofs.Common.{◌≡◌, ◌+◌, false, true, arith, sym, ◌∙◌}
-use Rattle.std.proofs.lemmas.Bool.{both_ways, eq-eqb, eqb-true}
+use Rattle.fx_laws.proofs.Common.{◌≡◌, ◌+◌, false, true, arith, sym, ◌∙◌, both_ways, eq-eqb, eqb-true}
 use Rattle.fx_laws.proofs.CutsLemmas.{SameCuts, SameCuts-at, no_piece}
 use Rattle.fx_laws.proofs.WordTests.{DifferByOneWord-iff, at-the-end, more-words, too-many}
 use Rattle.fx_laws.proofs.pieces.apart_by_one_word.Goals as goal

@@ -1,5 +1,4 @@
-use Rattle.std.proofs.Common.{◌≡◌, ◌≤◌, take}
-use Rattle.fx_laws.specs.Differences.{differences}
+use Rattle.fx_laws.proofs.Common.{◌≡◌, ◌≤◌, take, differences}
 use Rattle.fx_laws.proofs.WordTests.{words_of}
 use Rattle.fx_laws.proofs.pieces.apart_by_one_word.Given as goal
 

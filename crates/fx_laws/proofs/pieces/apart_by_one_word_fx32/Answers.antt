@@ -1,4 +1,4 @@
-use Rattle.std.proofs.lemmas.Bool.{OnTrue_at, OnTrue_from}
+use Rattle.fx_laws.proofs.Common.{OnTrue_at, OnTrue_from}
 use Rattle.fx_laws.proofs.PiecesLemmas.{fx32_words-differ}
 use Rattle.fx_laws.proofs.pieces.apart_by_one_word_fx32.Goals as goal
 

@@ -1,7 +1,4 @@
-use Rattle.std.proofs.Common.{◌≡◌, arith}
-use Rattle.hash_words.specs.Words.{le, rotl}
-use Rattle.hash_words.specs.Pieces.{pieces}
-use Rattle.hash_laws.specs.Recurrence.{recurrence}
+use Rattle.fx_laws.proofs.Common.{◌≡◌, arith, le, rotl, pieces, recurrence}
 use Rattle.fx_laws.proofs.pieces.cuts_show_in_fx.Goals as goal
 
 pub returns : goal.returns

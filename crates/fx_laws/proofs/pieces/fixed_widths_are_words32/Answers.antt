@@ -1,7 +1,4 @@
-use Rattle.std.specs.Hash.{le_bytes}
-use Rattle.hash_words.specs.Pieces.{pieces}
-use Rattle.hash_fx.specs.Fx.{fx32_step}
-use Rattle.hash_fx.proofs.FixedWidths.{words32-byte, words32-four, of_byte, of_two, fx32_of_four, fx32_of_eight}
+use Rattle.fx_laws.proofs.Common.{fx32_step, words32-byte, words32-four, of_byte, of_two, fx32_of_four, fx32_of_eight, le_bytes, pieces}
 use Rattle.fx_laws.proofs.pieces.fixed_widths_are_words32.Goals as goal
 
 pub returns : goal.returns

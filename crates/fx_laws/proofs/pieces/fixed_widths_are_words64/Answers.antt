@@ -1,7 +1,4 @@
-use Rattle.std.specs.Hash.{le_bytes}
-use Rattle.hash_words.specs.Pieces.{pieces}
-use Rattle.hash_fx.specs.Fx.{fx64_step}
-use Rattle.hash_fx.proofs.FixedWidths.{words64-byte, words64-four, words64-eight, of_byte, of_two, fx64_of_four, fx64_of_eight}
+use Rattle.fx_laws.proofs.Common.{fx64_step, words64-byte, words64-four, words64-eight, of_byte, of_two, fx64_of_four, fx64_of_eight, le_bytes, pieces}
 use Rattle.fx_laws.proofs.pieces.fixed_widths_are_words64.Goals as goal
 
 pub returns : goal.returns

@@ -1,4 +1,4 @@
-use Rattle.hash_words.specs.Words.{rotl}
+use Rattle.fx_laws.proofs.Common.{rotl}
 use Rattle.fx_laws.proofs.LowBits.{low_of_step}
 use Rattle.fx_laws.proofs.pieces.low_bits_of_a_word.Goals as goal
 

@@ -1,5 +1,4 @@
-use Rattle.hash_laws.proofs.RecurrenceLemmas.{recurrence-pieces}
-use Rattle.hash_fx.specs.Fx.{fx32_step, fx64_step, words32, words64}
+use Rattle.fx_laws.proofs.Common.{recurrence-pieces, fx32_step, fx64_step, words32, words64}
 use Rattle.fx_laws.proofs.pieces.pieces_are_their_words.Goals as goal
 
 pub returns : goal.returns

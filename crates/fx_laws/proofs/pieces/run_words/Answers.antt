@@ -1,5 +1,4 @@
-use Rattle.std.proofs.Common.{refl, sym}
-use Rattle.hash_fx.specs.FxLaws.{fx64_nothing}
+use Rattle.fx_laws.proofs.Common.{refl, sym, fx64_nothing}
 use Rattle.fx_laws.proofs.WholePieces.{at_more64}
 use Rattle.fx_laws.proofs.pieces.run_words.Goals as goal
 

@@ -1,4 +1,4 @@
-use Rattle.hash_fx.specs.Fx.{fx64, words64}
+use Rattle.fx_laws.proofs.Common.{fx64, words64}
 use Rattle.fx_laws.proofs.WholePieces.{IsAt}
 use Rattle.fx_laws.proofs.pieces.run_words.Given as goal
 

@@ -1,5 +1,4 @@
-use Rattle.std.proofs.Common.{refl, sym}
-use Rattle.hash_fx.specs.FxLaws.{fx32_nothing}
+use Rattle.fx_laws.proofs.Common.{refl, sym, fx32_nothing}
 use Rattle.fx_laws.proofs.WholePieces.{at_more32}
 use Rattle.fx_laws.proofs.pieces.run_words32.Goals as goal
 

@@ -1,4 +1,4 @@
-use Rattle.hash_fx.specs.Fx.{fx32, words32}
+use Rattle.fx_laws.proofs.Common.{fx32, words32}
 use Rattle.fx_laws.proofs.WholePieces.{IsAt}
 use Rattle.fx_laws.proofs.pieces.run_words32.Given as goal
 

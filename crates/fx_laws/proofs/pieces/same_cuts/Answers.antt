@@ -1,5 +1,4 @@
-use Rattle.std.proofs.Common.{◌≡◌, ◌<◌, true, false, length, arith}
-use Rattle.std.proofs.lemmas.Bool.{both_ways}
+use Rattle.fx_laws.proofs.Common.{◌≡◌, ◌<◌, true, false, length, arith, both_ways}
 use Rattle.fx_laws.proofs.CutsLemmas.{no_piece, SameCuts-at, CutsAgree-more}
 use Rattle.fx_laws.proofs.pieces.same_cuts.Goals as goal
 

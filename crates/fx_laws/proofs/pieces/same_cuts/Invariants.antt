@@ -1,4 +1,4 @@
-use Rattle.std.proofs.Common.{take}
+use Rattle.fx_laws.proofs.Common.{take}
 use Rattle.fx_laws.proofs.CutsLemmas.{CutsAgree}
 use Rattle.fx_laws.proofs.pieces.same_cuts.Given as goal
 

@@ -1,7 +1,4 @@
-use Rattle.std.proofs.Common.{◌+◌, ◌-◌, ◌*◌, ◌/◌, ◌%◌, ◌^◌, ◌∙◌, ℕ, ap₂}
-use Rattle.std.specs.Int.{w64, to_le_bytes}
-use Rattle.hash_laws.proofs.TextLemmas.{IsByte, IsText-from_slice}
-use Rattle.std.proofs.lemmas.List.Elements.{All-from_get_or}
+use Rattle.hash_blocks.proofs.Common.{◌+◌, ◌-◌, ◌*◌, ◌/◌, ◌%◌, ◌^◌, ◌∙◌, ℕ, ap₂, w64, to_le_bytes, IsByte, IsText-from_slice, All-from_get_or}
 use Rattle.hash_blocks.proofs.WordLemmas.{joined-is}
 use Rattle.hash_blocks.proofs.words.joined.Goals as goal
 

@@ -1,5 +1,4 @@
-use Rattle.std.proofs.Common.{sym, arith}
-use Rattle.hash_laws.proofs.TextLemmas.{IsText-from_slice}
+use Rattle.hash_blocks.proofs.Common.{sym, arith, IsText-from_slice}
 use Rattle.hash_blocks.proofs.WordLemmas.{le-four, le-seven}
 use Rattle.hash_blocks.proofs.words.le_seven.Goals as goal
 

@@ -1,6 +1,4 @@
-use Rattle.std.proofs.Common.{◌≡◌, ◌∙◌, ℕ, List, length, ap, arith}
-use Rattle.std.proofs.lemmas.List.{take-append-le}
-use Rattle.hash_laws.proofs.TextLemmas.{IsText-from_slice}
+use Rattle.hash_blocks.proofs.Common.{◌≡◌, ◌∙◌, ℕ, List, length, ap, arith, take-append-le, IsText-from_slice}
 use Rattle.hash_blocks.proofs.WordLemmas.{word_begins}
 use Rattle.hash_blocks.proofs.words.put_front.Goals as goal
 

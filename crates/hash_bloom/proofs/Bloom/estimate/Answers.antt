@@ -1,5 +1,4 @@
-use Rattle.std.proofs.Common.{ap, refl, arith}
-use Rattle.hash_bloom.specs.Filter.{Filter}
+use Rattle.hash_bloom.proofs.Common.{ap, refl, arith, Filter}
 use Rattle.hash_bloom.proofs.Ones.{count_set-le}
 use Rattle.hash_bloom.proofs.Bloom.estimate.Goals as goal
 

@@ -1,6 +1,4 @@
-use Rattle.std.proofs.Common.{◌≡◌, ◌∙◌, ap, arith, subst, sym}
-use Rattle.std.proofs.lemmas.Result.{IfOk-weaker}
-use Rattle.hash_bloom.specs.Filter.{LetsFewPass, best_probes, bits_for_share}
+use Rattle.hash_bloom.proofs.Common.{◌≡◌, ◌∙◌, ap, arith, subst, sym, IfOk-weaker, LetsFewPass, best_probes, bits_for_share}
 use Rattle.hash_bloom.proofs.Shares.{few_pass}
 use Rattle.hash_bloom.proofs.Bloom.for_share.Goals as goal
 

@@ -1,5 +1,4 @@
-use Rattle.std.proofs.Common.{length, ap, refl, ◌∙◌}
-use Rattle.std.proofs.lemmas.List.{with_items_is}
+use Rattle.hash_bloom.proofs.Common.{length, ap, refl, ◌∙◌, with_items_is}
 use Rattle.hash_bloom.proofs.Found.{joined_is_filter, passes_still}
 use Rattle.hash_bloom.proofs.Bloom.union.Goals as goal
 

@@ -1,15 +1,14 @@
-use Rattle.std.proofs.Common.{◌∙◌, arith, rules}
-use Rattle.hash_bloom.specs.Filter.{place}
-use Rattle.hash_bloom.proofs.Places.{next_probe, all_more}
+use Rattle.hash_bloom.proofs.Common.{ap, ◌%◌, ◌∙◌, rules, place}
+use Rattle.hash_bloom.proofs.Places.{next_hash, next_step, all_more}
 use Rattle.hash_bloom.proofs.bits.has_all.Goals as goal
 
-pub loop-preserved : goal.loop-preserved
-loop-preserved c =
-    let so_far = c.loop.invariant in
+pub loop-i-preserved : goal.loop-i-preserved
+loop-i-preserved c =
+    let so_far = c.loop-i.invariant in
+    let at = c.remainder-at.ensures ∙ ap (λ h. h % c.args.bits) so_far.hash in
     record {
-      below = omega arith;
-      at = c.next_place-at.ensures
-          ∙ next_probe c.args.bits c.args.first c.args.second c.loop.counter _ _ c.remainder-step.ensures so_far.at;
-      all = all_more (place c.args.bits c.args.first c.args.second) c.loop.counter c.loop.at so_far.at c.args.words.now so_far.all
+      hash = c.next_probe.ensures.hash ∙ next_hash c.args.second c.loop-i.i _ so_far.step c.args.first _ so_far.hash;
+      step = c.next_probe.ensures.step ∙ next_step c.args.second c.loop-i.i _ so_far.step;
+      all = all_more (place c.args.bits c.args.first c.args.second) c.loop-i.i c.remainder-at.result at c.args.words.now so_far.all
           (search rules);
     }

@@ -1,10 +1,10 @@
-use Rattle.std.proofs.Common.{◌≡◌, ◌<◌}
-use Rattle.hash_bloom.specs.Filter.{HasAll, place}
+use Rattle.hash_bloom.proofs.Common.{◌≡◌, HasAll, place, probe_hash}
+use Rattle.hash_bloom.proofs.Places.{step_of}
 use Rattle.hash_bloom.proofs.bits.has_all.Given as goal
 
-abbrev pub invariant-loop : goal.invariant-loop
-invariant-loop l = record {
-  below : l.at < l.bits;
-  at : l.at ≡ place l.bits l.first l.second l.counter;
-  all : HasAll l.words (place l.bits l.first l.second) l.counter;
+abbrev pub invariant-loop-i : goal.invariant-loop-i
+invariant-loop-i l = record {
+  hash : l.hash ≡ probe_hash l.first l.second l.i;
+  step : l.step ≡ step_of l.second l.i;
+  all : HasAll l.words (place l.bits l.first l.second) l.i;
 }

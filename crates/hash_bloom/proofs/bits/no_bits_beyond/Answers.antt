@@ -1,4 +1,4 @@
-use Rattle.std.proofs.Common.{rules, ◌<◌, ◌^◌, get_or, ◌≢◌, ◌%◌, ◌/◌}
+use Rattle.hash_bloom.proofs.Common.{rules, ◌<◌, ◌^◌, get_or, ◌≢◌, ◌%◌, ◌/◌}
 use Rattle.std.proofs.lemmas.Bool.Decides.{Decides-eqb}
 use Rattle.hash_bloom.proofs.WordLemmas.{clear_beyond}
 use Rattle.hash_bloom.proofs.bits.no_bits_beyond.Goals as goal

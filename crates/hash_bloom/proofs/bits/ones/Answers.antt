@@ -1,5 +1,4 @@
-use Rattle.std.proofs.Common.{◌≡◌, ◌<◌, ◌^◌, ℕ, get_or, ◌∙◌, rules}
-use Rattle.hash_bloom.specs.Filter.{count_set}
+use Rattle.hash_bloom.proofs.Common.{◌≡◌, ◌<◌, ◌^◌, ℕ, get_or, ◌∙◌, rules, count_set}
 use Rattle.hash_bloom.proofs.Ones.{ones_of_words, count_set-le}
 use Rattle.hash_bloom.proofs.bits.ones.Goals as goal
 

@@ -1,4 +1,4 @@
-use Rattle.std.proofs.Common.{◌≡◌, ◌+◌, ◌-◌, ◌*◌, ◌/◌, ◌^◌, ◌<◌, ◌≤◌, ℕ, ap₂, arith}
+use Rattle.hash_bloom.proofs.Common.{◌≡◌, ◌+◌, ◌-◌, ◌*◌, ◌/◌, ◌^◌, ◌<◌, ◌≤◌, ℕ, ap₂, arith}
 use Rattle.hash_bloom.proofs.Reduction.{reduced, rest_is_remainder}
 use Rattle.hash_bloom.proofs.bits.remainder.Goals as goal
 

@@ -1,4 +1,4 @@
-use Rattle.std.proofs.lemmas.Bool.{false_from_ne_true}
+use Rattle.hash_bloom.proofs.Common.{false_from_ne_true}
 use Rattle.hash_bloom.proofs.commands.empty_finds_nothing.Goals as goal
 
 pub returns : goal.returns

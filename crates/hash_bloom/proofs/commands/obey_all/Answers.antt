@@ -1,6 +1,4 @@
-use Rattle.std.proofs.Common.{◌∙◌, sym, subst}
-use Rattle.hash_bloom.specs.Filter.{Adds}
-use Rattle.hash_bloom.specs.Commands.{AnySetsBit}
+use Rattle.hash_bloom.proofs.Common.{◌∙◌, sym, subst, Adds, AnySetsBit}
 use Rattle.hash_bloom.proofs.Runs.{run_more, inserted_found, split_more, split_end}
 use Rattle.hash_bloom.proofs.commands.obey_all.Goals as goal
 

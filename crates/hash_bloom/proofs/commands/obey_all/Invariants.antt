@@ -1,6 +1,4 @@
-use Rattle.std.proofs.Common.{◌≡◌, ◌++◌}
-use Rattle.hash_bloom.specs.Filter.{Adds}
-use Rattle.hash_bloom.specs.Commands.{AnySetsBit}
+use Rattle.hash_bloom.proofs.Common.{◌≡◌, ◌++◌, Adds, AnySetsBit}
 use Rattle.hash_bloom.proofs.commands.obey_all.Given as goal
 
 abbrev pub invariant-loop-command : goal.invariant-loop-command

@@ -1,5 +1,4 @@
-use Rattle.std.proofs.Common.{⊎_elim, ◌⊎◌, ◌≡◌, ◌+◌, ◌^◌, ◌<◌, arith, inl, inr, subst}
-use Rattle.hash_bloom.specs.Estimate.{IsExpected, IsWithin}
+use Rattle.hash_bloom.proofs.Common.{⊎_elim, ◌⊎◌, ◌≡◌, ◌+◌, ◌^◌, ◌<◌, arith, inl, inr, subst, IsExpected, IsWithin}
 use Rattle.hash_bloom.proofs.estimate.+last_above.Goals as goal
 
 pub returns-then-two-gt-MANY-clause-last : goal.returns-then-two-gt-MANY-clause-last

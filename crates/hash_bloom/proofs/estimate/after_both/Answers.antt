@@ -1,4 +1,4 @@
-use Rattle.std.proofs.Common.{arith}
+use Rattle.hash_bloom.proofs.Common.{arith}
 use Rattle.hash_bloom.proofs.Zeros.{expected_both}
 use Rattle.hash_bloom.proofs.estimate.after_both.Goals as goal
 

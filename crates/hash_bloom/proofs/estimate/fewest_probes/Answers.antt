@@ -1,5 +1,4 @@
-use Rattle.std.proofs.Common.{⊎_elim, ◌+◌, ◌-◌, ◌*◌, ◌/◌, ◌^◌, ◌<◌, ◌≤◌, arith, refl, subst}
-use Rattle.hash_bloom.specs.Estimate.{IsWithin, LeavesAtMost, LeavesMore}
+use Rattle.hash_bloom.proofs.Common.{⊎_elim, ◌+◌, ◌-◌, ◌*◌, ◌/◌, ◌^◌, ◌<◌, ◌≤◌, arith, refl, subst, IsWithin, LeavesAtMost, LeavesMore}
 use Rattle.hash_bloom.proofs.Zeros.{expected_first, few, leaves_at_most, leaves_more, more_before}
 use Rattle.hash_bloom.proofs.estimate.fewest_probes.Goals as goal
 

@@ -1,6 +1,4 @@
-use Rattle.std.proofs.Common.{◌*◌, ◌^◌, ◌-◌, ◌≤◌, arith, subst, sym}
-use Rattle.std.proofs.Math.Nat.{mul-le-mul_right, pow-le-pow_left}
-use Rattle.hash_bloom.specs.Estimate.{IsNearest}
+use Rattle.hash_bloom.proofs.Common.{◌*◌, ◌^◌, ◌-◌, ◌≤◌, arith, subst, sym, mul-le-mul_right, pow-le-pow_left, IsNearest}
 use Rattle.hash_bloom.proofs.Zeros.{nearest}
 use Rattle.hash_bloom.proofs.estimate.nearest_keys.Goals as goal
 

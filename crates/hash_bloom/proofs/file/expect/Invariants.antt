@@ -1,5 +1,4 @@
-use Rattle.std.proofs.Common.{take}
-use Rattle.std.specs.Io.KnownBytes.{Consumes}
+use Rattle.hash_bloom.proofs.Common.{take, Consumes}
 use Rattle.hash_bloom.proofs.file.expect.Given as goal
 
 abbrev pub invariant-loop-byte : goal.invariant-loop-byte

@@ -1,6 +1,4 @@
-use Rattle.std.proofs.Common.{rules, ◌≡◌, length, Some, Err, sym, ap, ◌∙◌}
-use Rattle.hash_lines.specs.Hex.{hex, hex_value}
-use Rattle.hash_lines.proofs.HexLemmas.{hex_value-hex}
+use Rattle.hash_bloom.proofs.Common.{rules, ◌≡◌, length, Some, Err, sym, ap, ◌∙◌, hex, hex_value, hex_value-hex}
 use Rattle.hash_bloom.proofs.FileLemmas.{field_is, field_read}
 use Rattle.hash_bloom.proofs.file.read_field.Goals as goal
 

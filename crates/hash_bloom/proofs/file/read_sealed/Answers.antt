@@ -1,7 +1,4 @@
-use Rattle.std.proofs.Common.{rules, ◌≡◌, ◌++◌, ◌<◌, ◌^◌, ℕ, ap, arith, sym, subst, get_or, ◌∙◌, Some, Err}
-use Rattle.std.specs.Io.KnownBytes.{Consumes}
-use Rattle.hash_bloom.specs.File.{bytes_of, header, seal}
-use Rattle.hash_bloom.specs.Filter.{filter_of}
+use Rattle.hash_bloom.proofs.Common.{rules, ◌≡◌, ◌++◌, ◌<◌, ◌^◌, ℕ, ap, arith, sym, subst, get_or, ◌∙◌, Some, Err, Consumes, bytes_of, header, seal, filter_of}
 use Rattle.hash_bloom.proofs.FileLemmas.{bytes_tell_words, file_left, file_parts, file_read}
 use Rattle.hash_bloom.proofs.file.read_sealed.Goals as goal
 
@@ -44,5 +41,4 @@ returns-clause-same g c filter stored rest known =
     c.in_ok-bits.ensures.read c.in_ok-words.ensures.read known in
     let in_words : (i : ℕ) → get_or words i 0 < 2 ^ 64 = search (rules, c.seal.ensures.words) in
     let same : words ≡ filter.words = bytes_tell_words words filter.words in_words stored.words found.bytes in
-    ap (λ n. filter_of n probes words) found.bits ∙ ap (λ n. filter_of filter.bits n words) found.probes
-    ∙ ap (filter_of filter.bits filter.probes) same
+    λ i. filter_of (found.bits i) (found.probes i) (same i)

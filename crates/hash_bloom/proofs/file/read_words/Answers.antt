@@ -1,4 +1,4 @@
-use Rattle.std.proofs.Common.{rules}
+use Rattle.hash_bloom.proofs.Common.{rules}
 use Rattle.hash_bloom.proofs.FileLemmas.{word_read}
 use Rattle.hash_bloom.proofs.file.read_words.Goals as goal
 

@@ -1,6 +1,4 @@
-use Rattle.std.proofs.Common.{◌≡◌, length}
-use Rattle.std.specs.Io.KnownBytes.{Consumes}
-use Rattle.hash_bloom.specs.File.{bytes_of}
+use Rattle.hash_bloom.proofs.Common.{◌≡◌, length, Consumes, bytes_of}
 use Rattle.hash_bloom.proofs.file.read_words.Given as goal
 
 abbrev pub invariant-loop : goal.invariant-loop

@@ -1,7 +1,5 @@
-use Rattle.std.proofs.Common.{◌∙◌, ap, get_or}
+use Rattle.hash_bloom.proofs.Common.{◌∙◌, ap, get_or, to_le_bytes, fnv1a64_basis, fnv1a64_from}
 use mir.Syntax.{w64}
-use Rattle.std.specs.Int.{to_le_bytes}
-use Rattle.hashers.specs.Fnv.{fnv1a64_basis, fnv1a64_from}
 use Rattle.hash_bloom.proofs.FileLemmas.{hash_more}
 use Rattle.hash_bloom.proofs.file.seal.Goals as goal
 

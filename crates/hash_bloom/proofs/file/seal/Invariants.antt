@@ -1,6 +1,4 @@
-use Rattle.std.proofs.Common.{◌≡◌, ◌++◌, take}
-use Rattle.hashers.specs.Fnv.{fnv1a64_basis, fnv1a64_from}
-use Rattle.hash_bloom.specs.File.{bytes_of}
+use Rattle.hash_bloom.proofs.Common.{◌≡◌, ◌++◌, take, fnv1a64_basis, fnv1a64_from, bytes_of}
 use Rattle.hash_bloom.proofs.file.seal.Given as goal
 
 abbrev pub invariant-loop-word : goal.invariant-loop-word

@@ -1,4 +1,4 @@
-use Rattle.std.proofs.lemmas.Nat.{le_bytes_8}
+use Rattle.hash_bloom.proofs.Common.{le_bytes_8}
 use Rattle.hash_bloom.proofs.file.word_of.Goals as goal
 
 pub returns : goal.returns

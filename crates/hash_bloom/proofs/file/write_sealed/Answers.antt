@@ -1,8 +1,5 @@
-use Rattle.std.proofs.Common.{subst, sym, append-nil}
-use Rattle.std.specs.Io.KnownBytes.{Appends}
-use Rattle.streams.specs.Streams.{AppendsPart}
-use Rattle.std.proofs.lemmas.Result.{on_ok_weaker, on_err_weaker}
-use Rattle.streams.proofs.StreamLemmas.{on_err}
+use Rattle.hash_bloom.proofs.Common.{subst, sym, Appends, AppendsPart, on_ok_weaker, on_err_weaker, on_err}
+use Rattle.std.proofs.Common.{append-nil}
 use Rattle.hash_bloom.proofs.FileLemmas.{file_written, hash_begun, line_begun, word_begun, word_written}
 use Rattle.hash_bloom.proofs.file.write_sealed.Goals as goal
 

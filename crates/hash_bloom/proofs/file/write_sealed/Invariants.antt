@@ -1,6 +1,4 @@
-use Rattle.std.proofs.Common.{◌++◌, take}
-use Rattle.std.specs.Io.KnownBytes.{Appends}
-use Rattle.hash_bloom.specs.File.{bytes_of}
+use Rattle.hash_bloom.proofs.Common.{◌++◌, take, Appends, bytes_of}
 use Rattle.hash_bloom.proofs.file.write_sealed.Given as goal
 
 abbrev pub invariant-loop-word : goal.invariant-loop-word

@@ -1,4 +1,4 @@
-use Rattle.std.proofs.Common.{refl}
+use Rattle.hash_bloom.proofs.Common.{refl}
 use Rattle.hash_bloom.proofs.Found.{passes_still, passes_added}
 use Rattle.hash_bloom.proofs.words.insert.Goals as goal
 

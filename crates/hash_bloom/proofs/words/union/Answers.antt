@@ -1,6 +1,4 @@
-use Rattle.std.proofs.Common.{arith, ◌<◌, ◌≤◌, ◌∙◌, sym, ap₂, refl, ⊎_elim, length, bit_or}
-use Rattle.std.proofs.lemmas.Bool.{cases_lt}
-use Rattle.std.proofs.lemmas.List.{get_or_past}
+use Rattle.hash_bloom.proofs.Common.{arith, ◌<◌, ◌≤◌, ◌∙◌, sym, ap₂, refl, ⊎_elim, length, bit_or, cases_lt, get_or_past}
 use Rattle.hash_bloom.proofs.Found.{passes_still, passes_joined}
 use Rattle.hash_bloom.proofs.WordLemmas.{united}
 use Rattle.hash_bloom.proofs.words.union.Goals as goal

@@ -1,4 +1,4 @@
-use Rattle.std.proofs.Common.{ℕ, ◌≡◌, ◌<◌, ◌≤◌, get_or, bit_or}
+use Rattle.hash_bloom.proofs.Common.{ℕ, ◌≡◌, ◌<◌, ◌≤◌, get_or, bit_or}
 use Rattle.hash_bloom.proofs.words.union.Given as goal
 
 abbrev pub invariant-loop-i : goal.invariant-loop-i

@@ -1,4 +1,4 @@
-use Rattle.std.proofs.Common.{refl}
+use Rattle.hash_bytes.proofs.Common.{refl}
 use Rattle.hash_laws.specs.Recurrence.{recurrence}
 use Rattle.hash_bytes.proofs.fnv.origin_of_constants.Goals as goal
 

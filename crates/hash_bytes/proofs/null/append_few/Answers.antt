@@ -1,8 +1,4 @@
-use Rattle.std.proofs.Common.{◌∙◌, ap, sym, arith, take, get_or}
-use Rattle.std.proofs.lemmas.List.{take_more}
-use Rattle.hash_rounds.specs.Sums.{passthrough_from}
-use Rattle.hash_rounds.specs.Sums.{passthrough_step}
-use Rattle.hash_rounds.proofs.SumLemmas.{passthrough_sums}
+use Rattle.hash_bytes.proofs.Common.{◌∙◌, ap, sym, arith, take, get_or, take_more, passthrough_from, passthrough_step, passthrough_sums}
 use Rattle.hash_bytes.proofs.null.append_few.Goals as goal
 
 pub loop-byte-init : goal.loop-byte-init

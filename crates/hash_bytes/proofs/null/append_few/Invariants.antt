@@ -1,5 +1,4 @@
-use Rattle.std.proofs.Common.{◌≡◌, take}
-use Rattle.hash_rounds.specs.Sums.{passthrough_from}
+use Rattle.hash_bytes.proofs.Common.{◌≡◌, take, passthrough_from}
 use Rattle.hash_bytes.proofs.null.append_few.Given as goal
 
 abbrev pub invariant-loop-byte : goal.invariant-loop-byte

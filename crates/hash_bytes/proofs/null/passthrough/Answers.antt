@@ -1,6 +1,6 @@
-use Rattle.std.proofs.Common.{◌∙◌}
+use Rattle.hash_bytes.proofs.Common.{◌∙◌}
 use Rattle.hash_bytes.proofs.LastBytes.{passthrough-last}
 use Rattle.hash_bytes.proofs.null.passthrough.Goals as goal
 
 pub returns-clause-last : goal.returns-clause-last
-returns-clause-last c = c.hash_of.ensures.value ∙ passthrough-last c.args.bytes.now c.hash_of.ensures.text
+returns-clause-last c = c.hash_by_rule.ensures.value ∙ passthrough-last c.args.bytes.now c.hash_by_rule.ensures.text

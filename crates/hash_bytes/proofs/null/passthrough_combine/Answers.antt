@@ -1,4 +1,4 @@
-use Rattle.std.proofs.Common.{◌≡◌, ◌+◌, sym, ◌∙◌, arith}
+use Rattle.hash_bytes.proofs.Common.{◌≡◌, ◌+◌, sym, ◌∙◌, arith}
 use Rattle.hash_bytes.proofs.Joined.{passthrough_joined, passthrough_moved, passthrough_gone}
 use Rattle.hash_bytes.proofs.null.passthrough_combine.Goals as goal
 use Rattle.hash_bytes.proofs.null.passthrough_combine.Goals.{then-length2-lt8, else-length2-lt8}

@@ -1,6 +1,4 @@
-use Rattle.std.proofs.Common.{◌∙◌, ap, sym, length}
-use Rattle.hash_rounds.specs.Sums.{digit_sum}
-use Rattle.hash_rounds.proofs.SumLemmas.{from_be_bytes-8, passthrough_of_last}
+use Rattle.hash_bytes.proofs.Common.{◌∙◌, ap, sym, length, digit_sum, from_be_bytes-8, passthrough_of_last}
 use Rattle.hash_laws.proofs.TextLemmas.{IsText-from_slice}
 use Rattle.hash_bytes.proofs.null.passthrough_from.Goals as goal
 

@@ -1,4 +1,4 @@
-use Rattle.std.proofs.Common.{sym}
+use Rattle.hash_bytes.proofs.Common.{sym}
 use Rattle.hash_bytes.proofs.Joined.{loselose_joined}
 use Rattle.hash_bytes.proofs.oz.loselose_combine.Goals as goal
 

@@ -1,4 +1,4 @@
-use Rattle.std.proofs.Common.{sym, ◌∙◌}
+use Rattle.hash_bytes.proofs.Common.{sym, ◌∙◌}
 use Rattle.hash_bytes.proofs.Joined.{sdbm_joined, sdbm_moved}
 use Rattle.hash_bytes.proofs.oz.sdbm_combine.Goals as goal
 

@@ -1,5 +1,4 @@
-use Rattle.std.proofs.Common.{◌∙◌, refl}
-use Rattle.hash_blocks.specs.BlocksLaws.{position-nil}
+use Rattle.hash_c.proofs.Common.{◌∙◌, refl, position-nil}
 use Rattle.hash_c.proofs.block.begun.Goals as goal
 
 pub returns : goal.returns

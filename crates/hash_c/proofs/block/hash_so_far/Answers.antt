@@ -1,5 +1,4 @@
-use Rattle.std.proofs.Common.{◌∙◌, ap, take, Some}
-use Rattle.hash_blocks.specs.BlocksLaws.{answer-position}
+use Rattle.hash_c.proofs.Common.{◌∙◌, ap, take, Some, answer-position}
 use Rattle.hash_c.proofs.block.hash_so_far.Goals as goal
 
 pub returns-clause-of_text : goal.returns-clause-of_text

@@ -1,5 +1,4 @@
-use Rattle.std.proofs.Common.{◌∷◌, [], ◌∙◌, ap}
-use Rattle.std.specs.Option.{unwrap_or}
+use Rattle.hash_c.proofs.Common.{◌∷◌, [], ◌∙◌, ap, unwrap_or}
 use Rattle.hash_c.proofs.block.hashers_murmur3_32_finish.Goals as goal
 
 pub returns-clause-of_text : goal.returns-clause-of_text

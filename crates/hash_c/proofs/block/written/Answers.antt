@@ -1,7 +1,6 @@
-use Rattle.std.proofs.Common.{rules, ◌≡◌, ◌<◌, ◌+◌, ◌++◌, length, take, sym, ap, ◌∙◌, arith, length-append, refl}
-use Rattle.std.proofs.lemmas.List.{length-take-le}
+use Rattle.hash_c.proofs.Common.{rules, ◌≡◌, ◌<◌, ◌+◌, ◌++◌, length, take, sym, ap, ◌∙◌, arith, refl, blocks_short, tail_short}
+use Rattle.std.proofs.Common.{length-append, length-take-le}
 use Rattle.hash_words.proofs.PutLemmas.{take-put_at}
-use Rattle.hash_blocks.specs.BlocksLaws.{blocks_short, tail_short}
 use Rattle.hash_c.proofs.BlockLemmas.{stands_on}
 use Rattle.hash_c.proofs.block.written.Goals as goal
 

@@ -1,4 +1,4 @@
-use Rattle.std.proofs.Common.{ℕ, List, rules, subst}
+use Rattle.hash_c.proofs.Common.{ℕ, List, rules, subst}
 use Rattle.std.proofs.Math.Path.{fun_ext}
 use Rattle.hashers.specs.Lookup3.{lookup3_from, lookup3_answer}
 use Rattle.hash_bloom.specs.Filter.{filter_of}

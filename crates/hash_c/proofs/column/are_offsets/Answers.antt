@@ -1,5 +1,4 @@
-use Rattle.std.proofs.Common.{map, arith, rules, tests}
-use Rattle.std.proofs.lemmas.List.{length-map}
+use Rattle.hash_c.proofs.Common.{map, arith, rules, tests, length-map}
 use Rattle.hash_c.proofs.OffsetLemmas.{offsets_by_last, last_within}
 use Rattle.hash_c.proofs.column.are_offsets.Goals as goal
 

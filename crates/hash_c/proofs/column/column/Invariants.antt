@@ -1,5 +1,4 @@
-use Rattle.std.proofs.Common.{◌≡◌, ◌<◌, ℕ, map, slice_index}
-use Rattle.hash_c.specs.Columns.{text_at}
+use Rattle.hash_c.proofs.Common.{◌≡◌, ◌<◌, ℕ, map, slice_index, text_at}
 use Rattle.hash_c.proofs.column.column.Given as goal
 
 -- the hashes before i are written

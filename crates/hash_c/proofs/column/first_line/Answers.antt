@@ -1,7 +1,5 @@
-use Rattle.std.proofs.Common.{◌≡◌, ◌≢◌, ◌+◌, ◌∷◌, ◌∙◌, ℕ, take, ap, sym, arith, rules, tests}
+use Rattle.hash_c.proofs.Common.{◌≡◌, ◌≢◌, ◌+◌, ◌∷◌, ◌∙◌, ℕ, take, ap, sym, arith, rules, tests, take_rest, line_texts}
 use Rattle.std.proofs.lemmas.Iterator.{IsFirst-from_position, YieldsList-from_slice}
-use Rattle.std.proofs.lemmas.List.{take_rest}
-use Rattle.text_set.specs.Lines.{line_texts}
 use Rattle.text_set.proofs.LineLemmas.{bare_text, first_text}
 use Rattle.hash_c.proofs.column.first_line.Goals as goal
 

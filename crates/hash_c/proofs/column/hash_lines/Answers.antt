@@ -1,6 +1,4 @@
-use Rattle.std.proofs.Common.{◌∙◌, ◌++◌, ◌∷◌, [], set, ap, ap₂, sym, append_assoc, arith}
-use Rattle.std.proofs.lemmas.List.{length_push}
-use Rattle.text_set.specs.Lines.{line_texts}
+use Rattle.hash_c.proofs.Common.{◌∙◌, ◌++◌, ◌∷◌, [], set, ap, ap₂, sym, append_assoc, arith, length_push, line_texts}
 use Rattle.hash_c.proofs.LineLemmas.{hashed_one_more, hashed_no_more}
 use Rattle.hash_c.proofs.column.hash_lines.Goals.{then-count-hashes, else-count-hashes}
 use Rattle.hash_c.proofs.column.hash_lines.Goals as goal

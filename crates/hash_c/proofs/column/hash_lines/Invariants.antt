@@ -1,6 +1,4 @@
-use Rattle.std.proofs.Common.{◌≡◌, ◌+◌, ◌≤◌, ◌++◌, ℕ, List, length, map}
-use Rattle.hash_c.specs.Lines.{laid_over}
-use Rattle.text_set.specs.Lines.{line_texts}
+use Rattle.hash_c.proofs.Common.{◌≡◌, ◌+◌, ◌≤◌, ◌++◌, ℕ, List, length, map, laid_over, line_texts}
 use Rattle.hash_c.proofs.column.hash_lines.Given as goal
 
 -- the hashes of the lines so far are written, as far as there is room

@@ -1,5 +1,4 @@
-use Rattle.std.proofs.Common.{◌≡◌, ◌↔◌, ◌≤◌, map, slice_index}
-use Rattle.hash_c.specs.Columns.{NoneFalls}
+use Rattle.hash_c.proofs.Common.{◌≡◌, ◌↔◌, ◌≤◌, map, slice_index, NoneFalls}
 use Rattle.hash_c.proofs.column.none_falls.Given as goal
 
 -- so far no more falls are counted than there were steps, and none exactly where none fell

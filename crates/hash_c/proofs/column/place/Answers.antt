@@ -1,5 +1,4 @@
-use Rattle.std.proofs.Common.{◌∙◌, ap, sym, arith}
-use Rattle.std.proofs.lemmas.List.{get_or-map}
+use Rattle.hash_c.proofs.Common.{◌∙◌, ap, sym, arith, get_or-map}
 use Rattle.hash_c.proofs.column.place.Goals as goal
 
 pub returns : goal.returns

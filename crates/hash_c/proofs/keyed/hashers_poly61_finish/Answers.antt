@@ -1,6 +1,4 @@
-use Rattle.std.proofs.Common.{◌∙◌, ◌∷◌, [], ap}
-use Rattle.hash_keyed.specs.Poly61Laws.{answer_where_stands, stands_in_range}
-use Rattle.hash_keyed.specs.Poly61State.{as_word, poly_end}
+use Rattle.hash_c.proofs.Common.{◌∙◌, ◌∷◌, [], ap, answer_where_stands, stands_in_range, as_word, poly_end}
 use Rattle.hash_c.proofs.keyed.hashers_poly61_finish.Goals as goal
 
 pub returns-in-Some-clause-of_text : goal.returns-in-Some-clause-of_text

@@ -1,5 +1,4 @@
-use Rattle.std.proofs.Common.{◌∙◌, ◌∷◌, [], ap}
-use Rattle.hash_keyed.specs.Poly61Laws.{stands_after, stands_in_range}
+use Rattle.hash_c.proofs.Common.{◌∙◌, ◌∷◌, [], ap, stands_after, stands_in_range}
 use Rattle.hash_keyed.specs.Poly61State.{after}
 use Rattle.hash_c.proofs.keyed.hashers_poly61_write.Goals as goal
 

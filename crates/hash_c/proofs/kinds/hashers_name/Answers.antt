@@ -1,4 +1,4 @@
-use Rattle.std.proofs.Common.{◌∙◌, ap, set, get_or, arith}
+use Rattle.hash_c.proofs.Common.{◌∙◌, ap, set, get_or, arith}
 use Rattle.hash_c.proofs.LineLemmas.{laid_next}
 use Rattle.hash_c.proofs.kinds.hashers_name.Goals as goal
 

@@ -1,5 +1,4 @@
-use Rattle.std.proofs.Common.{◌≡◌, take}
-use Rattle.hash_c.specs.Lines.{laid_over}
+use Rattle.hash_c.proofs.Common.{◌≡◌, take, laid_over}
 use Rattle.hash_c.proofs.kinds.hashers_name.Given as goal
 
 -- the first i bytes of the name are written

@@ -1,4 +1,4 @@
-use Rattle.std.proofs.Common.{◌≡◌, ◌<◌, ℕ, slice_index}
+use Rattle.hash_c.proofs.Common.{◌≡◌, ◌<◌, ℕ, slice_index}
 use Rattle.hash_numbers.specs.Numbers.{number_hash}
 use Rattle.hash_c.proofs.numbers.hashers_number_column.Given as goal
 

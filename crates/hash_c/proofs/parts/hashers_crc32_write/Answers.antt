@@ -1,7 +1,4 @@
-use Rattle.std.proofs.Common.{ℕ, ◌%◌, ◌^◌, arith}
-use Rattle.std.proofs.lemmas.Nat.{xor_lt}
-use Rattle.hashers.proofs.XorLemmas.{xor_twice}
-use Rattle.hash_more.specs.Crc32.{crc_answer, all_ones}
+use Rattle.hash_c.proofs.Common.{ℕ, ◌%◌, ◌^◌, arith, xor_lt, xor_twice, crc_answer, all_ones}
 use Rattle.hash_c.proofs.parts.hashers_crc32_write.Goals as goal
 
 -- the answer of an answer is the state

@@ -1,4 +1,4 @@
-use Rattle.std.proofs.Common.{refl, ◌^◌}
+use Rattle.hash_c.proofs.Common.{refl, ◌^◌}
 use Rattle.hash_c.proofs.parts.hashers_fxhash32_unwrite.Goals as goal
 
 -- the result is below 2^32, since some state answers it

@@ -1,13 +1,10 @@
-use Rattle.std.proofs.Common.{ℕ, ◌≡◌, ◌≤◌, ◌+◌, ◌-◌, ◌∙◌, ◌++◌, [], List, length, take, drop, arith, ap, sym, subst, refl}
-use Rattle.std.specs.List.Sorted.{IsPermutation}
+use Rattle.hash_c.proofs.Common.{ℕ, ◌≡◌, ◌≤◌, ◌+◌, ◌-◌, ◌∙◌, ◌++◌, [], List, length, take, drop, arith, ap, sym, subst, refl, IsPermutation, append-nil, drop_all, take_all, take_more_set, take-append-drop, hash_at, points_of}
 use Rattle.std.specs.Hash.{le_bytes}
 use Rattle.std.proofs.Math.Seq.{take-append_seam}
-use Rattle.std.proofs.lemmas.List.{append-nil, drop_all, length-append, length-take-le, take_all, take_more_set, take-append-drop}
+use Rattle.std.proofs.lemmas.List.{length-append, length-take-le}
 use Rattle.std.proofs.lemmas.Slice.{drop-put_mid, take-put_mid}
 use borrow.Rule.Slice.PartMut.{put_mid}
-use Rattle.hash_names.specs.Named.{hash_at}
 use Rattle.hash_ring.specs.Ring.{point}
-use Rattle.hash_ring.specs.Points.{points_of}
 use Rattle.hash_ring.proofs.PointLemmas.{one_more}
 use Rattle.hash_c.proofs.ring.hashers_ring_points.Goals as goal
 

@@ -1,6 +1,4 @@
-use Rattle.std.proofs.Common.{◌≡◌, length, take}
-use Rattle.hash_names.specs.Named.{hash_at}
-use Rattle.hash_ring.specs.Points.{points_of}
+use Rattle.hash_c.proofs.Common.{◌≡◌, length, take, hash_at, points_of}
 use Rattle.hash_c.proofs.ring.hashers_ring_points.Given as goal
 
 abbrev pub invariant-loop-number : goal.invariant-loop-number

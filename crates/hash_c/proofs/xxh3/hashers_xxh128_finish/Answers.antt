@@ -1,7 +1,4 @@
-use Rattle.std.proofs.Common.{ℕ, ap, ◌∙◌}
-use Rattle.std.proofs.Math.Path.{ap₂}
-use Rattle.std.specs.Option.{unwrap_or}
-use Rattle.hash_xxh3.specs.Place.{place_of}
+use Rattle.hash_c.proofs.Common.{ℕ, ap, ◌∙◌, ap₂, unwrap_or, place_of}
 use Rattle.hash_xxh3.specs.WideLaws.{wide_hash_of_text}
 use Rattle.hash_c.proofs.xxh3.hashers_xxh128_finish.Goals as goal
 

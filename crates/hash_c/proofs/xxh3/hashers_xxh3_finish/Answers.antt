@@ -1,6 +1,4 @@
-use Rattle.std.proofs.Common.{ap, ◌∙◌}
-use Rattle.std.specs.Option.{unwrap_or}
-use Rattle.hash_xxh3.specs.Place.{place_of}
+use Rattle.hash_c.proofs.Common.{ap, ◌∙◌, unwrap_or, place_of}
 use Rattle.hash_xxh3.specs.StreamingLaws.{hash_of_text}
 use Rattle.hash_c.proofs.xxh3.hashers_xxh3_finish.Goals as goal
 

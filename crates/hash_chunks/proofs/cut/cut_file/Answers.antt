@@ -11,19 +11,19 @@ returns-in-Ok-cut_reader_by g c =
 
 pub returns-in-Err-Unread : goal.returns-in-Err-Unread
 returns-in-Err-Unread g c =
-    let (bytes, rest, refused, why, read) = c.in-Err-Unread.ensures.fault in
+    let (bytes, rest, refused, within, why, read) = c.in-Err-Unread.ensures.fault in
     let breaks = rw c.in-Err-Unread.field-0-is at why in
     ends-taken g.S.Sink.taken _ _ _ _ _ _ bytes c.in-Ok.ensures false (λ is. absurd (false≢true is))
     (λ is. (rest, breaks.1, rw breaks.2 at read))
 
 pub returns-in-Err-Refused : goal.returns-in-Err-Refused
 returns-in-Err-Refused g c =
-    let (bytes, rest, refused, why, read) = c.in-Err-Refused.ensures.fault in
+    let (bytes, rest, refused, within, why, read) = c.in-Err-Refused.ensures.fault in
     let breaks = rw c.in-Err-Refused.field-0-is at why in
     ends-refused g.S.Sink.taken _ _ _ _ _ _ bytes c.in-Ok.ensures _ rest breaks.0 (rw breaks.1 at read)
 
 pub returns : goal.returns
 returns g c =
-    let (bytes, rest, refused, why, read) = c.in-Err-NoMemory.ensures.fault in
+    let (bytes, rest, refused, within, why, read) = c.in-Err-NoMemory.ensures.fault in
     let breaks = rw c.in-Err-NoMemory.field-0-is at why in
     ends-early g.S.Sink.taken _ _ _ _ _ _ bytes c.in-Ok.ensures rest breaks.0 (rw breaks.1 at read)

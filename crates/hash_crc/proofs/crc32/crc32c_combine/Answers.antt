@@ -1,5 +1,4 @@
-use Rattle.std.proofs.Common.{refl}
-use Rattle.hash_crc.specs.Crc32.{castagnoli}
+use Rattle.hash_crc.proofs.Common.{refl, castagnoli}
 use Rattle.hash_crc.proofs.Crc32Texts.{joined_answer}
 use Rattle.hash_crc.proofs.crc32.crc32c_combine.Goals as goal
 

@@ -1,5 +1,4 @@
-use Rattle.std.proofs.Common.{refl}
-use Rattle.hash_crc.specs.Crc32.{ieee, castagnoli}
+use Rattle.hash_crc.proofs.Common.{refl, ieee, castagnoli}
 use Rattle.hash_crc.proofs.Crc32Endings.{one-ending}
 use Rattle.hash_crc.proofs.crc32.crcs_are_even.Goals as goal
 

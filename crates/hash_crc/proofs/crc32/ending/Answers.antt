@@ -1,6 +1,4 @@
-use Rattle.std.proofs.Common.{◌%◌, ◌^◌, rules, lit<, arith}
-use Rattle.std.proofs.lemmas.Nat.{xor_lt}
-use Rattle.hash_crc.specs.Crc32.{all_ones, crc_answer}
+use Rattle.hash_crc.proofs.Common.{◌%◌, ◌^◌, rules, lit<, arith, xor_lt, all_ones, crc_answer}
 use Rattle.hash_crc.proofs.Crc32Endings.{four_bytes_out, ending_of-leads}
 use Rattle.hash_crc.proofs.crc32.ending.Goals as goal
 

@@ -1,6 +1,4 @@
-use Rattle.std.proofs.Common.{ap, ◌∙◌, ◌<◌, bit_xor}
-use Rattle.std.proofs.lemmas.List.Elements.{All-from_get_or}
-use Rattle.hash_crc.specs.Crc32.{bits_out}
+use Rattle.hash_crc.proofs.Common.{ap, ◌∙◌, ◌<◌, bit_xor, All-from_get_or, bits_out}
 use Rattle.hash_crc.proofs.Crc32Texts.{sixteen_by_words}
 use Rattle.hash_crc.proofs.crc32.sixteen_in.Goals as goal
 

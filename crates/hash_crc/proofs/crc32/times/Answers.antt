@@ -1,4 +1,4 @@
-use Rattle.std.proofs.Common.{◌≡◌, ap, ◌∙◌, arith}
+use Rattle.hash_crc.proofs.Common.{◌≡◌, ap, ◌∙◌, arith}
 use Rattle.hash_crc.proofs.Crc32Products.{product, product_is_power}
 use Rattle.hash_crc.proofs.crc32.times.Goals as goal
 

@@ -1,4 +1,4 @@
-use Rattle.std.proofs.Common.{◌≡◌}
+use Rattle.hash_crc.proofs.Common.{◌≡◌}
 use Rattle.hash_crc.proofs.Crc32Products.{product}
 use Rattle.hash_crc.proofs.crc32.times.Given as goal
 

@@ -1,4 +1,4 @@
-use Rattle.std.proofs.Common.{◌∙◌, arith}
+use Rattle.hash_crc.proofs.Common.{◌∙◌, arith}
 use Rattle.hash_crc.proofs.Crc32Products.{begins, turn_odd, turn_even, ends}
 use Rattle.hash_crc.proofs.crc32.zeros_in.Goals as goal
 use Rattle.hash_crc.proofs.crc32.zeros_in.Goals.{then-rest-eq1, else-rest-eq1}

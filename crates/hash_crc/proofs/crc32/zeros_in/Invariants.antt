@@ -1,5 +1,4 @@
-use Rattle.std.proofs.Common.{◌*◌}
-use Rattle.hash_crc.specs.Crc32.{bits_out}
+use Rattle.hash_crc.proofs.Common.{◌*◌, bits_out}
 use Rattle.hash_crc.proofs.Crc32Products.{LeadsTo}
 use Rattle.hash_crc.proofs.crc32.zeros_in.Given as goal
 

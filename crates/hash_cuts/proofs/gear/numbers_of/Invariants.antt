@@ -1,5 +1,4 @@
-use Rattle.std.proofs.Common.{◌≡◌, ◌<◌, ℕ, length, slice_index}
-use Rattle.hash_cuts.specs.Gear.{gear}
+use Rattle.hash_cuts.proofs.Common.{◌≡◌, ◌<◌, ℕ, length, slice_index, gear}
 use Rattle.hash_cuts.proofs.gear.numbers_of.Given as goal
 
 abbrev pub invariant-loop-byte : goal.invariant-loop-byte

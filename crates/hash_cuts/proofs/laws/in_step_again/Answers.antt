@@ -1,4 +1,4 @@
-use Rattle.std.proofs.Common.{sym, ◌∙◌}
+use Rattle.hash_cuts.proofs.Common.{sym, ◌∙◌}
 use Rattle.hash_cuts.proofs.InStep.{behind}
 use Rattle.hash_cuts.proofs.laws.in_step_again.Goals as goal
 

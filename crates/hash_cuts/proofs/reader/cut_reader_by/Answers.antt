@@ -1,9 +1,6 @@
-use Rattle.std.proofs.Common.{None, Some, refl, ◌<◌, [], ap, subst, sym, arith}
+use Rattle.hash_cuts.proofs.Common.{None, Some, refl, ◌<◌, [], ap, subst, sym, arith, OnOk, IsAtEnd, take_all}
 use Rattle.hash_cuts.proofs.CutLemmas.{first_cut-is}
 use Rattle.hash_cuts.proofs.GivenLemmas.{moved-front, reads-all, reads-first, reads-none, reads-refused}
-use Rattle.std.proofs.lemmas.List.{take_all}
-use Rattle.std.specs.Io.KnownBytes.{IsAtEnd}
-use Rattle.std.specs.Result.{OnOk}
 use Rattle.hash_cuts.proofs.reader.cut_reader_by.Goals as goal
 
 pub loop-bytes-init : goal.loop-bytes-init
@@ -18,13 +15,13 @@ pub returns-in-Err-clause-fault : goal.returns-in-Err-clause-fault
 returns-in-Err-clause-fault g c =
     let read = rw (c.has_room.ensures.kept c.if-not-has_room.false) at c.read_more-count.ensures.read in
     let (rest, some, gives) = rw c.front-whole.ensures at c.in-Err.ensures.some in
-    (_, rest, _, (some, refl), reads-first c.loop-bytes.invariant.cut read gives)
+    (_, rest, _, omega (arith, c.read_more-count.ensures.within, c.min-room.ensures, c.loop-bytes.invariant.within), (some, refl), reads-first c.loop-bytes.invariant.cut read gives)
 
 pub returns-in-Err-outcome-clause-fault : goal.returns-in-Err-outcome-clause-fault
 returns-in-Err-outcome-clause-fault g c =
     let read = rw (c.has_room.ensures.kept c.if-not-has_room.false) at c.read_more-count.ensures.read in
     let ok = rw c.front-whole.ensures at c.in-Ok.ensures in
-    (_, _, None, (refl, ok.rest, refl), reads-first c.loop-bytes.invariant.cut read ok.gives)
+    (_, _, None, omega (arith, c.read_more-count.ensures.within, c.min-room.ensures, c.loop-bytes.invariant.within), (refl, ok.rest, refl), reads-first c.loop-bytes.invariant.cut read ok.gives)
 
 pub returns-in-Err-give_last-clause-fault : goal.returns-in-Err-give_last-clause-fault
 returns-in-Err-give_last-clause-fault g c =
@@ -36,6 +33,7 @@ returns-in-Err-give_last-clause-fault g c =
       _,
       _,
       Some _,
+      omega (arith, c.read_more-count.ensures.within, c.min-room.ensures, c.loop-bytes.invariant.within),
       (some, ap Some (sym (take_all _ _ (omega (arith, ok.rest.0))))),
       reads-refused (reads-first c.loop-bytes.invariant.cut read ok.gives) torn,
     )

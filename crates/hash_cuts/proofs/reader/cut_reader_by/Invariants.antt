@@ -1,5 +1,4 @@
-use Rattle.std.proofs.Common.{None, ◌-◌, ◌≤◌, length, take}
-use Rattle.hash_cuts.specs.Reading.{CutsRead, IsBegun}
+use Rattle.hash_cuts.proofs.Common.{None, ◌-◌, ◌≤◌, length, take, CutsRead, IsBegun}
 use Rattle.hash_cuts.proofs.reader.cut_reader_by.Given as goal
 
 abbrev pub invariant-loop-bytes : goal.invariant-loop-bytes

@@ -1,6 +1,4 @@
-use Rattle.std.proofs.Common.{◌≡◌, ◌<◌, ◌-◌, ◌⊎◌, ℕ, List, length, take, drop, inl, inr, ap, sym, ◌∙◌, arith}
-use Rattle.std.proofs.lemmas.List.{drop-drop, length-drop, take_all}
-use Rattle.hash_cuts.specs.Cuts.{first_cut}
+use Rattle.hash_cuts.proofs.Common.{◌≡◌, ◌<◌, ◌-◌, ◌⊎◌, ℕ, List, length, take, drop, inl, inr, ap, sym, ◌∙◌, arith, first_cut, drop-drop, length-drop, take_all}
 use Rattle.hash_cuts.proofs.ChunkLemmas.{first_cut-le}
 use Rattle.hash_cuts.proofs.CutLemmas.{first_cut-is}
 use Rattle.hash_cuts.proofs.GivenLemmas.{gives-more, gives-refused}

@@ -1,5 +1,4 @@
-use Rattle.std.proofs.Common.{None, ◌-◌, ◌≤◌, length, drop}
-use Rattle.hash_cuts.specs.Reading.{GivesFirst}
+use Rattle.hash_cuts.proofs.Common.{None, ◌-◌, ◌≤◌, length, drop, GivesFirst}
 use Rattle.hash_cuts.proofs.reader.give_first.Given as goal
 
 abbrev pub invariant-loop-given : goal.invariant-loop-given

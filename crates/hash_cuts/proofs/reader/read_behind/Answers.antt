@@ -1,5 +1,4 @@
-use Rattle.std.proofs.Common.{◌+◌, ◌-◌, take, arith}
-use Rattle.std.proofs.lemmas.List.{length-take-le}
+use Rattle.hash_cuts.proofs.Common.{◌+◌, ◌-◌, take, arith, length-take-le}
 use Rattle.hashers.proofs.ReadingLemmas.{take-put}
 use Rattle.hash_cuts.proofs.reader.read_behind.Goals as goal
 

@@ -1,7 +1,4 @@
-use Rattle.std.proofs.Common.{ℕ, ◌^◌, ◌<◌, List, [], ◌∷◌, lit<, reverse, subst, sym}
-use Rattle.std.proofs.lemmas.Nat.{mod_below}
-use Rattle.hash_laws.specs.Recurrence.{from_last, recurrence}
-use Rattle.hash_fx.specs.Fx.{fx32_step, words32}
+use Rattle.hash_fx.proofs.Common.{ℕ, ◌^◌, ◌<◌, List, [], ◌∷◌, lit<, reverse, subst, sym, mod_below, from_last, recurrence, fx32_step, words32}
 use Rattle.hash_fx.proofs.fx.fxhash32.Goals as goal
 
 -- the last step leaves a word

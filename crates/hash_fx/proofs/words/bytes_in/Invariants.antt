@@ -1,4 +1,4 @@
-use Rattle.std.proofs.Common.{◌≡◌, fold, take}
+use Rattle.hash_fx.proofs.Common.{◌≡◌, fold, take}
 use Rattle.hash_fx.proofs.words.bytes_in.Given as goal
 
 abbrev pub invariant-loop-byte : goal.invariant-loop-byte

@@ -1,7 +1,4 @@
-use Rattle.std.proofs.Common.{◌^◌, fold}
-use Rattle.std.specs.Iterator.Adapters.{rev_source}
-use Rattle.std.specs.Slice.Iter.{iter_rest}
-use Rattle.hash_laws.proofs.ByteLemmas.{Undoing}
+use Rattle.hash_fx.proofs.Common.{◌^◌, fold, rev_source, iter_rest, Undoing}
 use Rattle.hash_fx.proofs.words.bytes_out.Given as goal
 
 abbrev pub invariant-loop-byte : goal.invariant-loop-byte

@@ -1,6 +1,4 @@
-use Rattle.std.proofs.Common.{◌≡◌, fold, map, take}
-use Rattle.hash_words.specs.Words.{le}
-use Rattle.hash_fx.specs.Fx.{fx64_step}
+use Rattle.hash_fx.proofs.Common.{◌≡◌, fold, map, take, le, fx64_step}
 use Rattle.hash_fx.proofs.words.eights_in.Given as goal
 
 abbrev pub invariant-loop-eight : goal.invariant-loop-eight

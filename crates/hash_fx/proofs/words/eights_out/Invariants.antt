@@ -1,9 +1,4 @@
-use Rattle.std.proofs.Common.{◌^◌, fold, map}
-use Rattle.std.specs.Iterator.Adapters.{rev_source}
-use Rattle.std.specs.Slice.Iter.{iter_rest}
-use Rattle.hash_words.specs.Words.{le}
-use Rattle.hash_laws.proofs.ByteLemmas.{Undoing}
-use Rattle.hash_fx.specs.Fx.{fx64_step}
+use Rattle.hash_fx.proofs.Common.{◌^◌, fold, map, rev_source, iter_rest, le, Undoing, fx64_step}
 use Rattle.hash_fx.proofs.words.eights_out.Given as goal
 
 abbrev pub invariant-loop-eight : goal.invariant-loop-eight

@@ -1,5 +1,4 @@
-use Rattle.std.proofs.Common.{◌∙◌, ap, map, fold}
-use Rattle.hash_words.specs.Words.{le}
+use Rattle.hash_fx.proofs.Common.{◌∙◌, ap, map, fold, le}
 use Rattle.hash_fx.proofs.WordParts.{words32-parts, steps-parts}
 use Rattle.hash_fx.proofs.words.fours_and_bytes_out.Goals as goal
 

@@ -1,5 +1,4 @@
-use Rattle.std.proofs.Common.{◌≡◌, fold, map, take}
-use Rattle.hash_words.specs.Words.{le}
+use Rattle.hash_fx.proofs.Common.{◌≡◌, fold, map, take, le}
 use Rattle.hash_fx.proofs.words.fours_in.Given as goal
 
 abbrev pub invariant-loop-four : goal.invariant-loop-four

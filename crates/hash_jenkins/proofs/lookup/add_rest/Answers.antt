@@ -1,4 +1,4 @@
-use Rattle.std.proofs.Common.{refl, rules}
+use Rattle.hash_jenkins.proofs.Common.{refl, rules}
 use Rattle.hash_jenkins.proofs.Lookup3Lemmas.{words_of_few, added_filled, drop_eight}
 use Rattle.hash_jenkins.proofs.lookup.add_rest.Goals as goal
 

@@ -1,8 +1,5 @@
-use Rattle.std.proofs.Common.{◌∙◌, [], ap, arith}
-use Rattle.std.proofs.Math.Path.{ap₂}
+use Rattle.hash_jenkins.proofs.Common.{◌∙◌, [], ap, arith, ap₂, apply, add_words, block_words}
 use Rattle.hash_rounds.specs.Rounds as rounds
-use Rattle.hash_rounds.specs.Steps.{apply}
-use Rattle.hash_jenkins.specs.Lookup3.{add_words, block_words}
 use Rattle.hash_jenkins.proofs.Lookup3Lemmas.{blocks_in, few_in, block_in, lookup3_words_from}
 use Rattle.hash_jenkins.proofs.lookup.lookup3_words.Goals as goal
 use Rattle.hash_jenkins.proofs.lookup.lookup3_words.Goals.{then-piece-lt12, else-piece-lt12+in_default}

@@ -1,4 +1,4 @@
-use Rattle.std.proofs.Common.{◌≡◌, length}
+use Rattle.hash_jenkins.proofs.Common.{◌≡◌, length}
 use Rattle.hash_jenkins.proofs.Lookup3Lemmas.{blocks_in}
 use Rattle.hash_jenkins.proofs.lookup.lookup3_words.Given as goal
 

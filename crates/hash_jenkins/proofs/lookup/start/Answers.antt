@@ -1,4 +1,4 @@
-use Rattle.std.proofs.Common.{◌≡◌, ◌+◌, ◌%◌, ◌^◌, ℕ, [], ◌∷◌, ap, arith}
+use Rattle.hash_jenkins.proofs.Common.{◌≡◌, ◌+◌, ◌%◌, ◌^◌, ℕ, [], ◌∷◌, ap, arith}
 use Rattle.hash_jenkins.proofs.lookup.start.Goals as goal
 
 pub returns : goal.returns

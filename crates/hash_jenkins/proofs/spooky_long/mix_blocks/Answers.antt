@@ -1,5 +1,4 @@
-use Rattle.std.proofs.Common.{◌≡◌, ◌∙◌, ◌+◌, ◌++◌, ℕ, List, length, ap, take, sym, arith}
-use Rattle.hash_jenkins.specs.Spooky.{Long, mixed}
+use Rattle.hash_jenkins.proofs.Common.{◌≡◌, ◌∙◌, ◌+◌, ◌++◌, ℕ, List, length, ap, take, sym, arith, Long, mixed}
 use Rattle.hash_jenkins.proofs.MixLemmas.{mixed_part, calls_none, calls_unkept, calls_last}
 use Rattle.hash_jenkins.proofs.spooky_long.mix_blocks.Goals as goal
 

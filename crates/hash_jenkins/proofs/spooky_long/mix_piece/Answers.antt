@@ -1,6 +1,4 @@
-use Rattle.std.proofs.Common.{◌≡◌, ◌∙◌, ◌-◌, ◌<◌, List, ℕ, ap, take, drop, length, arith}
-use Rattle.hash_words.specs.Put.{put_at}
-use Rattle.hash_rounds.specs.Blocks.{spooky_blocks}
+use Rattle.hash_jenkins.proofs.Common.{◌≡◌, ◌∙◌, ◌-◌, ◌<◌, List, ℕ, ap, take, drop, length, arith, put_at, spooky_blocks}
 use Rattle.hash_jenkins.proofs.MixLemmas.{mixed_piece_from}
 use Rattle.hash_jenkins.proofs.spooky_long.mix_piece.Goals.{in-Some, in_default}
 use Rattle.hash_jenkins.proofs.spooky_long.mix_piece.Goals as goal

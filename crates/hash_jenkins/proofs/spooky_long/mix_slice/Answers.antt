@@ -1,8 +1,4 @@
-use Rattle.std.proofs.Common.{◌∙◌, ap, take, length}
-use Rattle.std.proofs.Math.Path.{ap₂}
-use Rattle.hash_rounds.specs.Blocks.{spooky_blocks}
-use Rattle.hash_jenkins.specs.Spooky.{Long, tail}
-use Rattle.hash_words.proofs.PutLemmas.{take-put_first}
+use Rattle.hash_jenkins.proofs.Common.{◌∙◌, ap, take, length, ap₂, spooky_blocks, Long, tail, take-put_first}
 use Rattle.hash_jenkins.proofs.MixLemmas.{whole_blocks}
 use Rattle.hash_jenkins.proofs.spooky_long.mix_slice.Goals as goal
 

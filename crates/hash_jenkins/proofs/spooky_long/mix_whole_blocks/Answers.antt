@@ -1,12 +1,6 @@
-use Rattle.std.proofs.Common.{◌≡◌, ◌∙◌, ◌<◌, ◌++◌, List, ℕ, length, take, sym, ap, arith}
-use Rattle.std.proofs.Math.Path.{ap₂}
-use Rattle.hash_rounds.specs.Blocks.{spooky_blocks}
-use Rattle.hash_jenkins.specs.Spooky.{Long, mixed}
-use Rattle.std.proofs.lemmas.Bool.Decides.{nat_tests}
-use Rattle.std.proofs.lemmas.List.{take-append-drop}
-use Rattle.hash_words.proofs.PutLemmas.{take-put_first}
+use Rattle.hash_jenkins.proofs.Common.{◌≡◌, ◌∙◌, ◌<◌, ◌++◌, List, ℕ, length, take, sym, ap, arith, ap₂, spooky_blocks, Long, mixed, nat_tests, take-put_first, spooky_blocks_short}
+use Rattle.std.proofs.Common.{take-append-drop}
 use Rattle.hash_jenkins.proofs.MixLemmas.{mixed_whole, room_in_block, calls_last, calls_followed}
-use Rattle.hash_rounds.proofs.BlockLemmas.{spooky_blocks_short}
 use Rattle.hash_jenkins.proofs.spooky_long.mix_whole_blocks.Goals.{then-not-is_empty, else-not-is_empty}
 use Rattle.hash_jenkins.proofs.spooky_long.mix_whole_blocks.Goals as goal
 

@@ -1,4 +1,4 @@
-use Rattle.std.proofs.Common.{◌∙◌, arith, refl}
+use Rattle.hash_keyed.proofs.Common.{◌∙◌, arith, refl}
 use Rattle.hash_keyed.proofs.CodeLemmas.{places, ended_is}
 use Rattle.hash_keyed.proofs.modular.ended_at_once.Goals as goal
 

@@ -1,6 +1,4 @@
-use Rattle.std.proofs.Common.{◌≡◌, ◌+◌, ◌-◌, ◌/◌, ◌%◌, ◌^◌, ◌∙◌, ap, ap₂, sym}
-use Rattle.hash_keyed.specs.Poly61.{prime61, poly_state}
-use Rattle.hash_keyed.specs.Poly61State.{as_word, joined_value}
+use Rattle.hash_keyed.proofs.Common.{◌≡◌, ◌+◌, ◌-◌, ◌/◌, ◌%◌, ◌^◌, ◌∙◌, ap, ap₂, sym, prime61, poly_state, as_word, joined_value}
 use Rattle.hash_keyed.proofs.PartLemmas.{joined-value, joined_is}
 use Rattle.hash_keyed.proofs.parts.poly61_combine.Goals as goal
 

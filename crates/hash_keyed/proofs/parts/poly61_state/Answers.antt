@@ -1,6 +1,4 @@
-use Rattle.std.proofs.Common.{◌≡◌, ◌∙◌, length, sym, ap, arith}
-use Rattle.std.proofs.lemmas.Bool.{eqb-true, eqb-false}
-use Rattle.hash_keyed.specs.Poly61.{prime61, poly_state}
+use Rattle.hash_keyed.proofs.Common.{◌≡◌, ◌∙◌, length, sym, ap, arith, eqb-false, prime61, poly_state, eqb-true}
 use Rattle.hash_keyed.proofs.PartLemmas.{rest-length, state_is}
 use Rattle.hash_keyed.proofs.parts.poly61_state.Goals as goal
 

@@ -1,5 +1,4 @@
-use Rattle.std.proofs.Common.{◌≡◌, ◌*◌, ◌%◌, ◌^◌, ◌<◌}
-use Rattle.hash_keyed.specs.Poly61.{prime61}
+use Rattle.hash_keyed.proofs.Common.{◌≡◌, ◌*◌, ◌%◌, ◌^◌, ◌<◌, prime61}
 use Rattle.hash_keyed.proofs.parts.power.Given as goal
 
 -- the digits of the exponent that are left make the rest of the power

@@ -1,5 +1,4 @@
-use Rattle.std.proofs.Common.{◌≡◌, ◌<◌, length}
-use Rattle.hash_keyed.specs.Poly61State.{after, full_words}
+use Rattle.hash_keyed.proofs.Common.{◌≡◌, ◌<◌, length, after, full_words}
 use Rattle.hash_keyed.proofs.words.by_words.Given as goal
 
 abbrev pub invariant-loop-block : goal.invariant-loop-block

@@ -1,8 +1,4 @@
-use Rattle.std.proofs.Common.{◌∙◌, ◌%◌, ap, sym, arith}
-use Rattle.std.proofs.lemmas.List.{take_all}
-use Rattle.std.proofs.lemmas.List.Elements.{All-from_get_or}
-use Rattle.hashers.specs.Words.{le}
-use Rattle.hashers.proofs.TextLemmas.{IsByte}
+use Rattle.hash_keyed.proofs.Common.{◌∙◌, ◌%◌, ap, sym, arith, All-from_get_or, le, IsByte, take_all}
 use Rattle.hash_keyed.proofs.CodeLemmas.{low_word}
 use Rattle.hash_keyed.proofs.words.seven_of.Goals as goal
 

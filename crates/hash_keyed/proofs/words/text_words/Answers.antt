@@ -1,4 +1,4 @@
-use Rattle.std.proofs.Common.{◌∙◌, refl, sym, arith}
+use Rattle.hash_keyed.proofs.Common.{◌∙◌, refl, sym, arith}
 use Rattle.hash_keyed.proofs.CodeLemmas.{eight_more}
 use Rattle.hash_keyed.proofs.words.text_words.Goals as goal
 

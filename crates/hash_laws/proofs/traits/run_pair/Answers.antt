@@ -1,3 +1,4 @@
+use Rattle.hash_laws.proofs.Common.{◌≡◌, fold, subst, drop_all, texts}
 use Rattle.hash_laws.proofs.PairLemmas.{alike_after}
 use Rattle.hash_laws.proofs.TextLemmas.{rest_more}
 use Rattle.hash_laws.proofs.traits.run_pair.Goals as goal
@@ -17,3 +18,19 @@ loop-piece-preserved g c =
       second = rest_more (λ piece. piece.now) H.after _ _ _ _ _ _ c.loop-piece-test.true also.state before.second;
       alike = (λ same. before.alike.0 (kept.0 same), λ same. kept.1 (before.alike.1 same));
     }
+
+-- at the end no pieces are left
+pub returns-clause-first : goal.returns-clause-first
+returns-clause-first g c =
+    let H = g.H.Piecewise in
+    subst (λ left. fold H.after (H.state c.loop-piece.a) (texts left) ≡ fold H.after (H.state c.args.a.now) (texts c.args.pieces.now))
+    (drop_all _ _ c.loop-piece-test.false) c.loop-piece.invariant.first
+
+pub returns-clause-second : goal.returns-clause-second
+returns-clause-second g c =
+    let H = g.H.Piecewise in
+    subst (λ left. fold H.after (H.state c.loop-piece.b) (texts left) ≡ fold H.after (H.state c.args.b.now) (texts c.args.pieces.now))
+    (drop_all _ _ c.loop-piece-test.false) c.loop-piece.invariant.second
+
+pub returns-clause-alike : goal.returns-clause-alike
+returns-clause-alike g c = c.loop-piece.invariant.alike

@@ -1,6 +1,6 @@
-use Rattle.std.proofs.Common.{ℕ, ◌<◌, [], sym, Bor, List, subst, arith, ⊎_elim}
+use Rattle.hash_laws.proofs.Common.{ℕ, ◌≡◌, ◌<◌, [], ◌++◌, sym, Bor, List, subst, arith, ⊎_elim, All-append, IsText, joined}
+use Rattle.std.proofs.Common.{take_all}
 use Rattle.std.proofs.lemmas.Bool.{cases_lt}
-use Rattle.std.proofs.lemmas.List.Elements.{All-append}
 use Rattle.hash_laws.proofs.TextLemmas.{joined_more}
 use Rattle.hash_laws.proofs.traits.run_streamed.Goals as goal
 
@@ -24,3 +24,17 @@ loop-more-preserved g c =
       one = λ known. rw (fed.state, before.one known, more []) (sym (laws.after_joined _ _ _ known before.text fed.text));
       text = rw (more []) (All-append (λ byte. byte < 256) _ _ before.text fed.text);
     }
+
+-- at the end the pieces so far are all
+pub returns-clause-state : goal.returns-clause-state
+returns-clause-state g c = λ known. rw (take_all _ _ c.loop-more-test.false) at (c.loop-more.invariant.one known)
+
+pub returns-clause-stands : goal.returns-clause-stands
+returns-clause-stands g c = λ from text stood. rw (take_all _ _ c.loop-more-test.false) at (c.loop-more.invariant.stands from text stood)
+
+pub returns-clause-answers : goal.returns-clause-answers
+returns-clause-answers g c = λ from text stood.
+    g.met.H.Streamed.stands_answers c.loop-more.h from _ (returns-clause-stands g c from text stood)
+
+pub returns-clause-text : goal.returns-clause-text
+returns-clause-text g c = rw (take_all _ _ c.loop-more-test.false) at c.loop-more.invariant.text

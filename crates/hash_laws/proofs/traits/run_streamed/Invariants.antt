@@ -1,5 +1,4 @@
-use Rattle.std.proofs.Common.{ℕ, ◌≡◌, ◌<◌, List, ◌++◌, take}
-use Rattle.hash_laws.specs.Text.{IsText, joined}
+use Rattle.hash_laws.proofs.Common.{ℕ, ◌≡◌, ◌<◌, List, ◌++◌, take, IsText, joined}
 use Rattle.hash_laws.proofs.traits.run_streamed.Given as goal
 
 -- the pieces so far count as one

@@ -1,14 +1,22 @@
-use Rattle.std.proofs.Common.{◌≡◌, false, true, sym, ◌∙◌}
-use Rattle.hash_lines.proofs.FormLemmas.{nothing_so, so_found}
+use Rattle.std.proofs.Common.{◌≡◌, false, true, inl, inr, sym, ◌∙◌}
+use Rattle.std.proofs.lemmas.Result.{IfOk-weaker}
+use Rattle.hash_lines.specs.Forms.{IsSfvForm}
+use Rattle.hash_lines.proofs.FormLemmas.{found_in, sfv_plain_one, so_found, start_one}
 use Rattle.hash_lines.proofs.forms.parse_form.Goals as goal
 
 pub returns-then-sfv : goal.returns-then-sfv
 returns-then-sfv c =
-    so_found c.args.sfv c.args.kinds.now c.args.kind c.args.line.now c.trim_ascii_start-rest.result.now c.if-sfv.true
-    c.trim_ascii_start-rest.ensures.value (rw c.in_default.is at c.in_ok-entry.ensures) c.sfv_entry.result c.sfv_entry.ensures
+    let kinds = c.args.kinds.now in
+    let rest = c.trim_ascii_start-rest.result.now in
+    let none = rw c.in_default.is at c.in_ok-entry.ensures in
+    IfOk-weaker c.plain_entry.result _ _
+    (λ found tells. so_found kinds c.args.kind c.args.line.now c.args.sfv rest c.if-sfv.true c.trim_ascii_start-rest.ensures.value none found
+    (found_in IsSfvForm kinds c.args.kind rest (sfv_plain_one rest) _ c.in_ok-sfv_form.ensures found tells)) c.plain_entry.ensures
 
 pub returns : goal.returns
-returns c =
-    nothing_so c.args.sfv c.args.kinds.now c.args.kind c.args.line.now c.trim_ascii_start-rest.result.now
-    c.trim_ascii_start-rest.ensures.value (rw c.in_default.is at c.in_ok-entry.ensures)
-    (λ takes plain form other name number tells. let clash : false ≡ true = sym c.if-sfv.false ∙ takes in cc)
+returns c = λ other name number (behind, also, tells).
+    let none = rw c.in_default.is at c.in_ok-entry.ensures in
+    elim tells [
+      | inl here ↦ absurd (none other name number (rw (start_one c.args.line.now behind _ also c.trim_ascii_start-rest.ensures.value) at here))
+      | inr sfv ↦ (let clash : false ≡ true = sym c.if-sfv.false ∙ sfv.0 in cc)
+    ]

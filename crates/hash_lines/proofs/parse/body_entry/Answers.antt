@@ -1,7 +1,8 @@
-use Rattle.std.proofs.Common.{arith, below_more, sym, subst, ◌∙◌}
+use Rattle.std.proofs.Common.{arith, below_more, sym, ◌∙◌, inl, inr}
 use Rattle.std.proofs.lemmas.List.{get_or_default}
-use Rattle.hash_lines.specs.Told.{TellsTagged}
-use Rattle.hash_lines.proofs.TellsLemmas.{body_found}
+use Rattle.std.proofs.lemmas.Result.{IfOk-weaker}
+use Rattle.hash_lines.specs.Told.{TellsBody, TellsOf, TellsUntagged}
+use Rattle.hash_lines.proofs.TellsLemmas.{found_as}
 use Rattle.hash_lines.proofs.parse.body_entry.Goals as goal
 
 pub loop-tagged-init : goal.loop-tagged-init
@@ -12,11 +13,15 @@ loop-tagged-preserved c =
     below_more _ c.loop-tagged.tagged-index c.loop-tagged.invariant
     (λ other is name number tells.
     let item = sym is ∙ get_or_default c.args.kinds.now c.loop-tagged.tagged-index other _ (omega arith) in
-    let untold = rw c.in_default.is at c.in_ok-entry.ensures in
-    untold name number (subst (λ k. TellsTagged k c.args.escapes name number c.args.body.now) item tells))
+    (rw c.in_default.is at c.in_ok-entry.ensures) other name number (item, tells))
 
 pub returns : goal.returns
 returns c =
-    body_found c.args.kinds.now c.args.kind c.args.escapes c.args.body.now
-    (λ other (k, below, is) name number. c.loop-tagged.invariant k (omega arith) other is name number)
-    c.untagged_entry.result c.untagged_entry.ensures
+    let kinds = c.args.kinds.now in
+    let body = c.args.body.now in
+    IfOk-weaker c.untagged_entry.result _ _
+    (found_as (TellsOf c.args.kind TellsUntagged c.args.escapes) (TellsBody kinds c.args.kind c.args.escapes) body body
+    (λ other name number tells. inr tells) (λ other name number tells. elim tells [
+      | inl tagged ↦ absurd (c.loop-tagged.invariant tagged.0.0 (omega (arith, tagged.0.1)) other tagged.0.2 name number tagged.1)
+      | inr untagged ↦ untagged
+    ])) c.untagged_entry.ensures

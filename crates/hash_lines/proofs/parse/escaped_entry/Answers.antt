@@ -1,6 +1,16 @@
-use Rattle.hash_lines.proofs.TellsLemmas.{escaped_found}
+use Rattle.std.proofs.Common.{true, ◌≡◌, ◌∷◌, ◌∙◌, sym}
+use Rattle.std.proofs.lemmas.Result.{IfOk-weaker}
+use Rattle.hash_lines.specs.Told.{TellsBody, TellsEscaped}
+use Rattle.hash_lines.proofs.TellsLemmas.{found_as}
 use Rattle.hash_lines.proofs.parse.escaped_entry.Goals as goal
 
 pub returns-in-Some : goal.returns-in-Some
 returns-in-Some c =
-    escaped_found c.args.kinds.now c.args.kind c.args.line.now c.in-Some.body.now c.in-Some.ensures c.body_entry.result c.body_entry.ensures
+    let body = c.in-Some.body.now in
+    let kinds = c.args.kinds.now in
+    IfOk-weaker c.body_entry.result _ _
+    (found_as (TellsBody kinds c.args.kind true) (TellsEscaped kinds c.args.kind) body c.args.line.now
+    (λ kind name number tells. (body, c.in-Some.ensures, tells))
+    (λ kind name number (other, is, tells).
+    let same : other ≡ body = let both : 92 ∷ other ≡ 92 ∷ body = is ∙ sym c.in-Some.ensures in cc in
+    rw same at tells)) c.body_entry.ensures

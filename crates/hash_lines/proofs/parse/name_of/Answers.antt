@@ -1,5 +1,4 @@
-use Rattle.std.proofs.Common.{length, sym, ◌∙◌}
-use Rattle.std.proofs.lemmas.Bool.{eqb-true}
+use Rattle.std.proofs.Common.{length, sym, ◌∙◌, eqb-true}
 use Rattle.hash_lines.proofs.ShownLemmas.{none_shown}
 use Rattle.hash_lines.proofs.parse.name_of.Goals as goal
 

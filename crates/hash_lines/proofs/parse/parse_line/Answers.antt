@@ -1,7 +1,15 @@
-use Rattle.hash_lines.proofs.TellsLemmas.{line_found}
+use Rattle.std.proofs.Common.{false, inl, inr}
+use Rattle.std.proofs.lemmas.Result.{IfOk-weaker}
+use Rattle.hash_lines.specs.Told.{Tells, TellsBody}
+use Rattle.hash_lines.proofs.TellsLemmas.{found_as}
 use Rattle.hash_lines.proofs.parse.parse_line.Goals as goal
 
 pub returns-in-None : goal.returns-in-None
 returns-in-None c =
-    line_found c.args.kinds.now c.args.kind c.args.line.now (rw c.in-None.is at c.in_ok-entry.ensures) c.body_entry.result
+    let untold = rw c.in-None.is at c.in_ok-entry.ensures in
+    let kinds = c.args.kinds.now in
+    let line = c.args.line.now in
+    IfOk-weaker c.body_entry.result _ _
+    (found_as (TellsBody kinds c.args.kind false) (Tells kinds c.args.kind) line line (λ kind name number tells. inl tells)
+    (λ kind name number tells. elim tells [ inl plain ↦ plain | inr escaped ↦ absurd (untold kind name number escaped) ]))
     c.body_entry.ensures

@@ -1,17 +1,18 @@
-use Rattle.std.proofs.Common.{subst, sym}
-use Rattle.hash_lines.specs.Line.{ShowsUntagged}
-use Rattle.hash_lines.proofs.TellsLemmas.{untagged_found}
+use Rattle.std.proofs.lemmas.Result.{IfOk-weaker}
+use Rattle.hash_lines.specs.Line.{digits_of, ShowsUntagged}
+use Rattle.hash_lines.proofs.LineLemmas.{untagged_shown}
+use Rattle.hash_lines.proofs.TellsLemmas.{found_by}
 use Rattle.hash_lines.proofs.parse.untagged_entry.Goals as goal
 
 pub returns-in-Some : goal.returns-in-Some
 returns-in-Some c =
-    let shown = c.in-Some.shown.now in
-    let number = c.in-Some.number in
+    let kind = c.args.kind in
     let body = c.args.body.now in
-    untagged_found c.args.kind c.args.escapes shown body number
-    (subst (λ n. ShowsUntagged n shown number body) c.digits.ensures.value c.in-Some.ensures) c.entry_of.result c.entry_of.ensures
+    IfOk-weaker c.entry_of.result _ _
+    (found_by kind c.args.escapes (λ k s n text. ShowsUntagged (digits_of k.width) s n text) body
+    (λ xs ys a b one other. untagged_shown (digits_of kind.width) a b xs ys body one other)
+    c.in-Some.shown.now c.in-Some.number (rw c.digits.ensures.value at c.in-Some.ensures)) c.entry_of.ensures
 
 pub returns-in-None : goal.returns-in-None
-returns-in-None c = λ name number (shown, is, tells).
-    c.in-None.ensures shown number
-    (subst (λ n. ShowsUntagged n shown number c.args.body.now) (sym c.digits.ensures.value) tells)
+returns-in-None c = λ other name number (is, (shown, named, tells)).
+    (rw c.digits.ensures.value at c.in-None.ensures) shown number (rw is at tells)

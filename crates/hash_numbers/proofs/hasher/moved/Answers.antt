@@ -1,4 +1,4 @@
-use Rattle.std.proofs.Common.{arith, ap, ◌-◌, ◌*◌, ◌/◌, ◌%◌, ◌^◌, ◌∙◌}
+use Rattle.hash_numbers.proofs.Common.{arith, ap, ◌-◌, ◌*◌, ◌/◌, ◌%◌, ◌^◌, ◌∙◌}
 use Rattle.hash_numbers.proofs.Bytes.{above_word, in_word, past_word}
 use Rattle.hash_numbers.proofs.hasher.moved.Goals as goal
 

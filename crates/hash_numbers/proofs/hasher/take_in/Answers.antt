@@ -1,7 +1,4 @@
-use Rattle.std.proofs.Common.{◌≡◌, ◌+◌, ◌-◌, take, ap, ap₂, ◌∙◌, arith}
-use Rattle.std.specs.Hash.{le_bytes}
-use Rattle.hash_keyed.specs.Poly61State.{after}
-use Rattle.hash_numbers.specs.NumberState.{held_bytes}
+use Rattle.hash_numbers.proofs.Common.{◌≡◌, ◌+◌, ◌-◌, take, ap, ap₂, ◌∙◌, arith, le_bytes, after, held_bytes}
 use Rattle.hash_numbers.proofs.States.{both_in, low_in}
 use Rattle.hash_numbers.proofs.hasher.take_in.Goals as goal
 

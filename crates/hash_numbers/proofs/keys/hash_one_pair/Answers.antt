@@ -1,13 +1,6 @@
-use Rattle.std.proofs.Common.{arith, ap, ap₂, length, ◌+◌, ◌*◌, ◌^◌, [], ◌∷◌, ◌++◌, ◌∙◌, length-append}
-use Rattle.std.specs.Hash.{le_bytes}
-use Rattle.std.proofs.lemmas.List.{append-nil}
-use Rattle.std.proofs.lemmas.List.Elements.{All-cons, All-nil}
-use Rattle.hashers.specs.Text.{IsText}
+use Rattle.hash_numbers.proofs.Common.{arith, ap, ap₂, length, ◌+◌, ◌*◌, ◌^◌, [], ◌∷◌, ◌++◌, ◌∙◌, length-append, append-nil, le_bytes, All-cons, All-nil, IsText, le-append, IsText-le_bytes, le-le_bytes, length-le_bytes}
 use Rattle.hashers.specs.Words.{le}
-use Rattle.hash_words.proofs.ByteLemmas.{le-append}
 use Rattle.hash_numbers.proofs.Pieces.{of_few}
-use Rattle.hashers.proofs.TextLemmas.{IsText-le_bytes}
-use Rattle.hash_keyed.proofs.NumberLemmas.{le-le_bytes, length-le_bytes}
 use Rattle.hash_numbers.proofs.keys.hash_one_pair.Goals as goal
 
 pub returns : goal.returns

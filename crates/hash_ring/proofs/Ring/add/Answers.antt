@@ -1,12 +1,5 @@
-use Rattle.std.proofs.Common.{◌≡◌, ◌∙◌, ◌≤◌, ◌++◌, map, ap, sym, subst, refl, length, get_or, arith}
-use Rattle.std.specs.List.{insert}
+use Rattle.hash_ring.proofs.Common.{◌≡◌, ◌∙◌, ◌≤◌, ◌++◌, map, ap, sym, subst, refl, length, get_or, arith, length-map, IsPermutation-refl, get_or-insert_at, Node, IsRing, nodes_of, opened_up, pair_of, pairs, points_of, insert, IsPermutation}
 use Rattle.std.specs.FinMap as fin
-use Rattle.std.proofs.lemmas.List.{length-map}
-use Rattle.std.proofs.lemmas.List.Sorted.{IsPermutation-refl}
-use Rattle.std.proofs.lemmas.List.Edits.{get_or-insert_at}
-use Rattle.hash_ring.specs.declared.Node.{Node}
-use Rattle.std.specs.List.Sorted.{IsPermutation}
-use Rattle.hash_ring.specs.Points.{IsRing, nodes_of, opened_up, pair_of, pairs, points_of}
 use Rattle.hash_ring.proofs.Names.{absent, found, gap_read, inserted, len_of}
 use Rattle.hash_ring.proofs.Edits.{pairs_insert, ring_merged}
 use Rattle.hash_ring.proofs.Ring.add.Goals as goal

@@ -1,13 +1,5 @@
-use Rattle.std.proofs.Common.{Bool, List, ◌≡◌, ◌≤◌, ◌∙◌, ap, sym, subst, length, T}
-use Rattle.std.specs.Prelude.{◌↔◌, IsTrue}
+use Rattle.hash_ring.proofs.Common.{Bool, List, ◌≡◌, ◌≤◌, ◌∙◌, ap, sym, subst, length, T, ◌↔◌, IsTrue, is_sorted, length-map, All-map, All-permutation, IsPermutation-map, IsPermutation-sym, length_permutation, order_does_not_show, Node, ArePoints, pair_of, pairs}
 use Rattle.std.specs.FinMap as fin
-use Rattle.std.specs.FinMap.{is_sorted}
-use Rattle.std.proofs.lemmas.List.{length-map}
-use Rattle.std.proofs.lemmas.List.Elements.{All-map}
-use Rattle.std.proofs.lemmas.List.Sorted.{All-permutation, IsPermutation-map, IsPermutation-sym, length_permutation}
-use Rattle.text_maps.proofs.TextMapLemmas.{order_does_not_show}
-use Rattle.hash_ring.specs.declared.Node.{Node}
-use Rattle.hash_ring.specs.Points.{ArePoints, pair_of, pairs}
 use Rattle.hash_ring.proofs.Names.{KeysDiffer-permutation, all_put_in, by_bytes, entries_are, rising_differ, sorted_rise}
 use Rattle.hash_ring.proofs.Ring.from_nodes.Goals as goal
 

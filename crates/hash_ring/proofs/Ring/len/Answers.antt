@@ -1,4 +1,4 @@
-use Rattle.std.proofs.Common.{sym, ◌∙◌}
+use Rattle.hash_ring.proofs.Common.{sym, ◌∙◌}
 use Rattle.std.specs.FinMap as fin
 use Rattle.hash_ring.proofs.Names.{len_of}
 use Rattle.hash_ring.proofs.Ring.len.Goals as goal

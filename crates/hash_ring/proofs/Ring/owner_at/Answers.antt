@@ -1,11 +1,4 @@
-use Rattle.std.proofs.Common.{◌≡◌, ◌<◌, ◌∙◌, ap, sym, subst, arith, length, get_or}
-use Rattle.std.proofs.lemmas.List.{get_or_default, length-map}
-use Rattle.std.proofs.lemmas.Bool.Decides.{nat_tests}
-use borrow.Author.Tests.{eqb-true}
-use Rattle.hash_ring.specs.declared.points.Point.{Point}
-use Rattle.hash_ring.specs.declared.Node.{Node}
-use Rattle.hash_ring.specs.Ring.{IsOwner}
-use Rattle.hash_ring.specs.Points.{IsRing, name_at, pair_of, pairs, ring_of}
+use Rattle.hash_ring.proofs.Common.{◌≡◌, ◌<◌, ◌∙◌, ap, sym, subst, arith, length, get_or, get_or_default, length-map, nat_tests, eqb-true, Point, Node, IsOwner, IsRing, name_at, pair_of, pairs, ring_of}
 use Rattle.hash_ring.proofs.PointLemmas.{is_there}
 use Rattle.hash_ring.proofs.Owners.{name_here, no_owner, no_points, none}
 use Rattle.hash_ring.proofs.Ring.owner_at.Goals as goal

@@ -1,11 +1,5 @@
-use Rattle.std.proofs.Common.{ℕ, ◌≡◌, ◌<◌, ◌∙◌, length, min, arith, ap, sym, subst}
-use Rattle.std.specs.List.{All}
+use Rattle.hash_ring.proofs.Common.{ℕ, ◌≡◌, ◌<◌, ◌∙◌, length, min, arith, ap, sym, subst, length-map, texts, AreOwners, IsRing, names_at, node_at, pair_of, pairs, All, IfOk-weaker}
 use Rattle.std.specs.FinMap as fin
-use Rattle.std.proofs.lemmas.List.{length-map}
-use Rattle.std.proofs.lemmas.Result.{IfOk-weaker}
-use Rattle.hashers.specs.Text.{texts}
-use Rattle.hash_ring.specs.Ring.{AreOwners}
-use Rattle.hash_ring.specs.Points.{IsRing, names_at, node_at, pair_of, pairs}
 use Rattle.hash_ring.proofs.Names.{len_of}
 use Rattle.hash_ring.proofs.Owners.{different}
 use Rattle.hash_ring.proofs.Ring.owners.Goals as goal

@@ -1,8 +1,5 @@
-use Rattle.std.proofs.Common.{◌≡◌, ◌∙◌, ap, sym, subst, Some, length, take, arith, ◌<◌, []}
-use Rattle.std.specs.List.{remove}
+use Rattle.hash_ring.proofs.Common.{◌≡◌, ◌∙◌, ap, sym, subst, Some, length, take, arith, ◌<◌, [], get_or-map, length-map, IsRing, node_at, nodes_of, pair_of, pairs, remove}
 use Rattle.std.specs.FinMap as fin
-use Rattle.std.proofs.lemmas.List.{get_or-map, length-map}
-use Rattle.hash_ring.specs.Points.{IsRing, node_at, nodes_of, pair_of, pairs}
 use Rattle.hash_ring.proofs.Names.{absent, entries_of, found, len_of, none_unchanged, removed}
 use Rattle.hash_ring.proofs.Edits.{over, pairs_remove}
 use Rattle.hash_ring.proofs.Ring.remove.Goals as goal

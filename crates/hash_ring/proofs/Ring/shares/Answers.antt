@@ -1,9 +1,5 @@
-use Rattle.std.proofs.Common.{ℕ, ◌≡◌, ◌≢◌, ◌≤◌, ◌<◌, ◌∙◌, ap, sym, subst, length, arith, ⊎_elim, List}
+use Rattle.hash_ring.proofs.Common.{ℕ, ◌≡◌, ◌≢◌, ◌≤◌, ◌<◌, ◌∙◌, ap, sym, subst, length, arith, ⊎_elim, List, cases_lt, Point, AreShares, Nodes, IsRing, nodes_of, pairs}
 use Rattle.std.specs.FinMap as fin
-use Rattle.std.proofs.lemmas.Bool.{cases_lt}
-use Rattle.hash_ring.specs.declared.points.Point.{Point}
-use Rattle.hash_ring.specs.Ring.{AreShares, Nodes}
-use Rattle.hash_ring.specs.Points.{IsRing, nodes_of, pairs}
 use Rattle.hash_ring.proofs.Names.{Pairs, len_of}
 use Rattle.hash_ring.proofs.Owners.{no_points}
 use Rattle.hash_ring.proofs.Ring.shares.Goals as goal

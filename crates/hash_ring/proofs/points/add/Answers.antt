@@ -1,5 +1,4 @@
-use Rattle.std.proofs.Common.{◌-◌, length, take}
-use Rattle.std.proofs.lemmas.Bool.{OnTrue_from}
+use Rattle.hash_ring.proofs.Common.{◌-◌, length, take, OnTrue_from}
 use Rattle.hash_ring.proofs.Edits.{ring_merged}
 use Rattle.hash_ring.proofs.points.add.Goals as goal
 

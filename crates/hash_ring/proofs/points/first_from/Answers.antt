@@ -1,6 +1,4 @@
-use Rattle.std.proofs.Common.{ltb, arith, rules}
-use Rattle.std.proofs.lemmas.List.Sorted.{IsPartitionPoint-from_clause, IsPartitionedBy-ltb}
-use borrow.Author.Tests.{ltb-true, ltb-false}
+use Rattle.hash_ring.proofs.Common.{ltb, arith, rules, IsPartitionPoint-from_clause, IsPartitionedBy-ltb, ltb-true, ltb-false}
 use Rattle.hash_ring.proofs.PointLemmas.{places_rise}
 use Rattle.hash_ring.proofs.points.first_from.Goals as goal
 

@@ -1,6 +1,4 @@
-use Rattle.std.proofs.Common.{◌+◌, ◌≤◌, length}
-use Rattle.std.specs.List.{AllPairs}
-use Rattle.hash_ring.specs.Points.{IsBefore}
+use Rattle.hash_ring.proofs.Common.{◌+◌, ◌≤◌, length, IsBefore, AllPairs}
 use Rattle.hash_ring.proofs.PointLemmas.{IsWindow}
 use Rattle.hash_ring.proofs.points.first_without_jumps.Given as goal
 

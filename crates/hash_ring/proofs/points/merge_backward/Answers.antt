@@ -1,9 +1,4 @@
-use Rattle.std.proofs.Common.{◌∙◌, ◌≤◌, ◌<◌, ◌+◌, ◌-◌, List, length, get_or, map, take, drop, sym, subst, arith, ◌++◌}
-use Rattle.std.specs.List.{AllPairs}
-use Rattle.std.specs.List.Sorted.{IsPermutation}
-use Rattle.std.proofs.lemmas.List.{get_or_default}
-use Rattle.hash_ring.specs.declared.points.Point.{Point}
-use Rattle.hash_ring.specs.Points.{IsBefore, opened_up}
+use Rattle.hash_ring.proofs.Common.{◌∙◌, ◌≤◌, ◌<◌, ◌+◌, ◌-◌, List, length, get_or, map, take, drop, sym, subst, arith, ◌++◌, get_or_default, Point, IsBefore, opened_up, AllPairs, IsPermutation}
 use Rattle.hash_ring.proofs.PointLemmas.{before_if_less, before_if_not_less}
 use Rattle.hash_ring.proofs.Edits.{opened_in_order}
 use Rattle.hash_ring.proofs.Merge.{IsMerged, all_in_order, all_merged, front_kept, last_other, left_more, placed, right_more}
@@ -13,62 +8,56 @@ use Rattle.hash_ring.proofs.points.merge_backward.Goals.{else-right-gt0-via-then
 pub loop-left-preserved-then-lt : goal.loop-left-preserved-then-lt
 loop-left-preserved-then-lt c =
     let old = c.args.points.now in
-    let come = c.args.index in
-    let points = c.loop-left.points in
-    let left = c.loop-left.left in
-    let right = c.loop-left.right in
-    let xs = map (opened_up come) (take c.args.others old) in
+    let l = c.loop-left in
     let ys = c.args.added.now in
-    let y : Point = get_or ys (right - 1) (record { place = 0; node = 0 }) in
-    let within : right ≤ length ys = c.loop-left.invariant.merged.right_within in
+    let y : Point = get_or ys (l.right - 1) (record { place = 0; node = 0 }) in
+    let xs = map (opened_up c.args.index) (take c.args.others old) in
+    let within : l.right ≤ length ys = l.invariant.merged.right_within in
     let there : c.args.others ≤ length old = omega (arith, c.requires.room) in
     let before : IsBefore c.opened_up-point.result y = before_if_less c.opened_up-point.result y (sym c.if-lt.ensures) in
     record {
-      within = c.loop-left.invariant.within;
-      front = front_kept old points left left (left + (right - 1)) y (omega arith) (omega arith) c.loop-left.invariant.front;
-      merged = subst (λ done. IsMerged xs ys done left (right - 1))
-          (sym (placed points (left + (right - 1)) (left + right) y (omega arith)
-          (omega (arith, c.requires.room, c.loop-left.auto.points))))
-          (right_more xs ys (drop (left + right) points) left (right - 1) right y
-          (opened_in_order come (take c.args.others old) c.requires.others_ordered) c.requires.added_ordered c.loop-left.invariant.merged
+      within = l.invariant.within;
+      front = front_kept old l.points l.left l.left (l.left + (l.right - 1)) y (omega arith) (omega arith) l.invariant.front;
+      merged = subst (λ done. IsMerged xs ys done l.left (l.right - 1))
+          (sym (placed l.points (l.left + (l.right - 1)) (l.left + l.right) y (omega arith)
+          (omega (arith, c.requires.room, l.auto.points))))
+          (right_more xs ys (drop (l.left + l.right) l.points) l.left (l.right - 1) l.right y
+          (opened_in_order c.args.index (take c.args.others old) c.requires.others_ordered) c.requires.added_ordered l.invariant.merged
           (omega arith)
-          (get_or_default ys (right - 1) _ y (omega arith))
+          (get_or_default ys (l.right - 1) _ y (omega arith))
           (λ d some. subst (λ (p : Point). IsBefore p y)
           (c.opened_up-point.ensures
-          ∙ sym (last_other come c.args.others left old points _ d some c.loop-left.invariant.within there c.loop-left.invariant.front))
+          ∙ sym (last_other c.args.index c.args.others l.left old l.points _ d some l.invariant.within there l.invariant.front))
           before));
     }
 
 pub loop-left-preserved : goal.loop-left-preserved
 loop-left-preserved c =
     let old = c.args.points.now in
-    let come = c.args.index in
-    let points = c.loop-left.points in
-    let left = c.loop-left.left in
-    let right = c.loop-left.right in
-    let xs = map (opened_up come) (take c.args.others old) in
+    let l = c.loop-left in
+    let xs = map (opened_up c.args.index) (take c.args.others old) in
     let ys = c.args.added.now in
     let y = c.opened_up-point.result in
-    let within : right ≤ length ys = c.loop-left.invariant.merged.right_within in
+    let within : l.right ≤ length ys = l.invariant.merged.right_within in
     let there : c.args.others ≤ length old = omega (arith, c.requires.room) in
-    let later : 0 < right → IsBefore (get_or ys (right - 1) (record { place = 0; node = 0 })) y = λ some.
+    let later : 0 < l.right → IsBefore (get_or ys (l.right - 1) (record { place = 0; node = 0 })) y = λ some.
     elim c.else-right-gt0.branch [
-      | else-right-gt0-via-then-right-gt0+else-lt w ↦ before_if_not_less y (get_or ys (right - 1) (record { place = 0; node = 0 }))
+      | else-right-gt0-via-then-right-gt0+else-lt w ↦ before_if_not_less y (get_or ys (l.right - 1) (record { place = 0; node = 0 }))
           (sym w.lt.ensures ∙ w.if-lt.false)
       | else-right-gt0-via-else-right-gt0 w ↦ absurd (omega (arith, w.if-right-gt0.false))
     ] in
     record {
-      within = omega (arith, c.loop-left.invariant.within);
-      front = front_kept old points left (left - 1) (left - 1 + right) y (omega arith) (omega arith) c.loop-left.invariant.front;
-      merged = subst (λ done. IsMerged xs ys done (left - 1) right)
-          (sym (placed points (left - 1 + right) (left + right) y (omega arith) (omega (arith, c.requires.room, c.loop-left.auto.points))))
-          (left_more xs ys (drop (left + right) points) (left - 1) left right y
-          (opened_in_order come (take c.args.others old) c.requires.others_ordered) c.requires.added_ordered c.loop-left.invariant.merged
+      within = omega (arith, l.invariant.within);
+      front = front_kept old l.points l.left (l.left - 1) (l.left - 1 + l.right) y (omega arith) (omega arith) l.invariant.front;
+      merged = subst (λ done. IsMerged xs ys done (l.left - 1) l.right)
+          (sym (placed l.points (l.left - 1 + l.right) (l.left + l.right) y (omega arith) (omega (arith, c.requires.room, l.auto.points))))
+          (left_more xs ys (drop (l.left + l.right) l.points) (l.left - 1) l.left l.right y
+          (opened_in_order c.args.index (take c.args.others old) c.requires.others_ordered) c.requires.added_ordered l.invariant.merged
           (omega arith)
           (c.opened_up-point.ensures
-          ∙ sym (last_other come c.args.others left old points _ y (omega arith) c.loop-left.invariant.within there
-          c.loop-left.invariant.front))
-          (λ d some. subst (λ (p : Point). IsBefore p y) (get_or_default ys (right - 1) _ d (omega arith)) (later some)));
+          ∙ sym (last_other c.args.index c.args.others l.left old l.points _ y (omega arith) l.invariant.within there
+          l.invariant.front))
+          (λ d some. subst (λ (p : Point). IsBefore p y) (get_or_default ys (l.right - 1) _ d (omega arith)) (later some)));
     }
 
 pub returns-clause-merged : goal.returns-clause-merged

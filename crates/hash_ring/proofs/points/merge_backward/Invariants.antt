@@ -1,5 +1,4 @@
-use Rattle.std.proofs.Common.{◌≡◌, ◌+◌, ◌≤◌, map, take, drop}
-use Rattle.hash_ring.specs.Points.{opened_up}
+use Rattle.hash_ring.proofs.Common.{◌≡◌, ◌+◌, ◌≤◌, map, take, drop, opened_up}
 use Rattle.hash_ring.proofs.Merge.{IsMerged}
 use Rattle.hash_ring.proofs.points.merge_backward.Given as goal
 

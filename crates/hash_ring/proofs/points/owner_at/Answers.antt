@@ -1,6 +1,4 @@
-use Rattle.std.proofs.Common.{◌∙◌, ℕ, length, ap, sym, subst}
-use Rattle.hash_ring.specs.Ring.{IsOwner}
-use Rattle.hash_ring.specs.Points.{index_round, name_at, nodes_of}
+use Rattle.hash_ring.proofs.Common.{◌∙◌, ℕ, length, ap, sym, subst, IsOwner, index_round, name_at, nodes_of}
 use Rattle.hash_ring.proofs.PointLemmas.{one_start}
 use Rattle.hash_ring.proofs.Owners.{first_owner}
 use Rattle.hash_ring.proofs.points.owner_at.Goals as goal

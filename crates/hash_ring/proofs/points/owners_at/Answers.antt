@@ -1,9 +1,5 @@
-use Rattle.std.proofs.Common.{ℕ, ◌≡◌, ◌<◌, ◌+◌, ◌∙◌, ◌++◌, ◌∷◌, [], List, length, get_or, take, drop, arith, sym, ap, subst}
-use Rattle.std.specs.Prelude.{nat_eq}
-use Rattle.std.specs.List.{All, list_any}
-use Rattle.std.proofs.lemmas.List.{drop-drop, drop-set-lt, length-map, length-take-le, map-append, take_more_set}
-use Rattle.std.proofs.lemmas.List.Elements.{All-push}
-use Rattle.hash_ring.specs.Points.{IsRing, name_at, names_at, node_at, nodes_of}
+use Rattle.hash_ring.proofs.Common.{ℕ, ◌≡◌, ◌≤◌, ◌<◌, ◌+◌, ◌∙◌, ◌++◌, ◌∷◌, [], List, length, get_or, take, drop, arith, sym, ap, subst, nat_eq, list_any, drop-drop, drop-set-lt, length-map, map-append, take_more_set, All-push, IsRing, name_at, names_at, node_at, nodes_of, length-take-le}
+use Rattle.std.specs.List.{All}
 use Rattle.hash_ring.proofs.PointLemmas.{Pairs, is_there}
 use Rattle.hash_ring.proofs.Owners.{AreNamesRound, among_exactly, as_many, name_among, node_among, none, round_all, round_full, round_new, round_of, round_old, spot}
 use Rattle.hash_ring.proofs.points.owners_at.Goals as goal
@@ -12,26 +8,27 @@ use Rattle.hash_ring.proofs.points.owners_at.Goals.{then-not-contains, else-not-
 one_less : (n : ℕ) (xs ys : List ℕ) → drop n xs ≡ drop n ys → drop (n + 1) xs ≡ drop (n + 1) ys
 one_less n xs ys same = sym (drop-drop 1 n xs) ∙ ap (drop 1) same ∙ drop-drop 1 n ys
 
+-- as many names as nodes
+names_long : (named : Pairs) (nodes : List ℕ) (count : ℕ) → count ≤ length nodes → length (names_at named (take count nodes)) ≡ count
+names_long named nodes count few =
+    length-map (take count nodes) (λ (i : ℕ). (node_at named i).0) ∙ length-take-le count nodes few
+
 pub returns-then-count-nodes-clause-count : goal.returns-then-count-nodes-clause-count
 returns-then-count-nodes-clause-count c = λ hash named ring.
     let nodes = c.loop-steps.nodes in
     let count = c.loop-steps.count in
-    let names = names_at named (take count nodes) in
-    let long : length names ≡ count =
-    length-map (take count nodes) (λ (i : ℕ). (node_at named i).0) ∙ length-take-le count nodes c.loop-steps.invariant.few in
+    let long = names_long named nodes count c.loop-steps.invariant.few in
     as_many named ring.named nodes count _ c.loop-steps.invariant.few
-    (round_full (round_of hash named c.args.points.now ring c.args.place _ (c.first_from-first.ensures.start ring.ordered)) names _
+    (round_full (round_of hash named c.args.points.now ring c.args.place _ (c.first_from-first.ensures.start ring.ordered)) _ _
     (c.loop-steps.invariant.round hash named ring).own (omega (arith, long, c.if-count-nodes.true, c.loop-steps.auto.nodes)))
 
 pub returns-clause-count : goal.returns-clause-count
 returns-clause-count c = λ hash named ring.
     let nodes = c.loop-steps.nodes in
     let count = c.loop-steps.count in
-    let names = names_at named (take count nodes) in
-    let long : length names ≡ count =
-    length-map (take count nodes) (λ (i : ℕ). (node_at named i).0) ∙ length-take-le count nodes c.loop-steps.invariant.few in
+    let long = names_long named nodes count c.loop-steps.invariant.few in
     as_many named ring.named nodes count _ c.loop-steps.invariant.few
-    (round_all (round_of hash named c.args.points.now ring c.args.place _ (c.first_from-first.ensures.start ring.ordered)) names _ _
+    (round_all (round_of hash named c.args.points.now ring c.args.place _ (c.first_from-first.ensures.start ring.ordered)) _ _ _
     (c.loop-steps.invariant.round hash named ring) c.loop-steps-test.false
     (omega (arith, long, c.loop-steps.invariant.few, c.loop-steps.auto.nodes)))
 

@@ -1,6 +1,4 @@
-use Rattle.std.proofs.Common.{ℕ, ◌≡◌, ◌≤◌, ◌<◌, List, length, take, drop}
-use Rattle.std.specs.List.{All}
-use Rattle.hash_ring.specs.Points.{IsRing, names_at, nodes_of}
+use Rattle.hash_ring.proofs.Common.{ℕ, ◌≡◌, ◌≤◌, ◌<◌, List, length, take, drop, IsRing, names_at, nodes_of, All}
 use Rattle.hash_ring.proofs.Owners.{AreNamesRound, spot}
 use Rattle.hash_ring.proofs.points.owners_at.Given as goal
 

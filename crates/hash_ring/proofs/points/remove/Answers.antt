@@ -1,6 +1,4 @@
-use Rattle.std.proofs.Common.{sym, subst}
-use Rattle.std.specs.List.{remove}
-use Rattle.hash_ring.specs.Points.{IsRing}
+use Rattle.hash_ring.proofs.Common.{sym, subst, IsRing, remove}
 use Rattle.hash_ring.proofs.Edits.{all_gone_over, ring_without}
 use Rattle.hash_ring.proofs.points.remove.Goals as goal
 

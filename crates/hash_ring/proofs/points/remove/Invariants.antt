@@ -1,5 +1,4 @@
-use Rattle.std.proofs.Common.{◌≡◌, ◌≤◌, ◌++◌, length, take, drop}
-use Rattle.hash_ring.specs.Points.{left_without}
+use Rattle.hash_ring.proofs.Common.{◌≡◌, ◌≤◌, ◌++◌, length, take, drop, left_without}
 use Rattle.hash_ring.proofs.points.remove.Given as goal
 
 abbrev pub invariant-loop-index : goal.invariant-loop-index

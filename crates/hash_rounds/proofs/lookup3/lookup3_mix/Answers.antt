@@ -1,5 +1,4 @@
-use Rattle.std.proofs.Common.{refl}
-use Rattle.hash_rounds.specs.Rounds.{lookup3_mix_steps, lookup3_mix_group, lookup3_mix_table}
+use Rattle.hash_rounds.proofs.Common.{refl, lookup3_mix_steps, lookup3_mix_group, lookup3_mix_table}
 use Rattle.hash_rounds.proofs.StepLemmas.{made}
 use Rattle.hash_rounds.proofs.lookup3.lookup3_mix.Goals as goal
 

@@ -1,5 +1,4 @@
-use Rattle.std.proofs.Common.{refl}
-use Rattle.hash_rounds.specs.Rounds.{lookup3_final_steps, lookup3_final_group, lookup3_final_table}
+use Rattle.hash_rounds.proofs.Common.{refl, lookup3_final_steps, lookup3_final_group, lookup3_final_table}
 use Rattle.hash_rounds.proofs.StepLemmas.{unmade}
 use Rattle.hash_rounds.proofs.lookup3.lookup3_unfinal.Goals as goal
 

@@ -1,5 +1,4 @@
-use Rattle.std.proofs.Common.{refl}
-use Rattle.hash_rounds.specs.Rounds.{short_end_steps, short_end_group, short_end_table}
+use Rattle.hash_rounds.proofs.Common.{refl, short_end_steps, short_end_group, short_end_table}
 use Rattle.hash_rounds.proofs.StepLemmas.{made}
 use Rattle.hash_rounds.proofs.short.short_end.Goals as goal
 

@@ -1,5 +1,4 @@
-use Rattle.std.proofs.Common.{refl}
-use Rattle.hash_rounds.specs.Rounds.{short_mix_steps, short_mix_group, short_mix_table}
+use Rattle.hash_rounds.proofs.Common.{refl, short_mix_steps, short_mix_group, short_mix_table}
 use Rattle.hash_rounds.proofs.StepLemmas.{made}
 use Rattle.hash_rounds.proofs.short.short_mix.Goals as goal
 

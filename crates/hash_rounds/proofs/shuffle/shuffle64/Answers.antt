@@ -1,5 +1,4 @@
-use Rattle.std.proofs.Common.{rules, ap, ◌∙◌, arith}
-use Rattle.hash_rounds.specs.Shuffle.{unshuffle}
+use Rattle.hash_rounds.proofs.Common.{rules, ap, ◌∙◌, arith, unshuffle}
 use Rattle.hash_rounds.proofs.ShuffleLemmas.{IsMoved, shuffle_by, unshuffle-shuffle}
 use Rattle.hash_rounds.proofs.shuffle.shuffle64.Goals as goal
 

@@ -1,5 +1,4 @@
-use Rattle.std.proofs.Common.{rules, ap, ◌∙◌, arith}
-use Rattle.hash_rounds.specs.Shuffle.{shuffle}
+use Rattle.hash_rounds.proofs.Common.{rules, ap, ◌∙◌, arith, shuffle}
 use Rattle.hash_rounds.proofs.ShuffleLemmas.{IsMoved, unshuffle_by, shuffle-unshuffle}
 use Rattle.hash_rounds.proofs.shuffle.unshuffle64.Goals as goal
 

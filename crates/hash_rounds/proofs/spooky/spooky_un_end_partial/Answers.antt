@@ -1,5 +1,4 @@
-use Rattle.std.proofs.Common.{refl}
-use Rattle.hash_rounds.specs.Rounds.{spooky_end_partial_steps, spooky_end_partial_row, spooky_end_partial_rows}
+use Rattle.hash_rounds.proofs.Common.{refl, spooky_end_partial_steps, spooky_end_partial_row, spooky_end_partial_rows}
 use Rattle.hash_rounds.proofs.StepLemmas.{unmade}
 use Rattle.hash_rounds.proofs.spooky.spooky_un_end_partial.Goals as goal
 

@@ -1,4 +1,4 @@
-use Rattle.std.proofs.Common.{rules}
+use Rattle.hash_rounds.proofs.Common.{rules}
 use Rattle.hash_rounds.proofs.SumLemmas.{sdbm_of_four}
 use Rattle.hash_rounds.proofs.sums.sdbm4.Goals as goal
 

@@ -1,5 +1,4 @@
-use Rattle.std.proofs.Common.{ap, sym, ◌∙◌, take, drop}
-use Rattle.std.proofs.lemmas.List.{take-append-drop}
+use Rattle.std.proofs.Common.{ap, sym, ◌∙◌, take, drop, take-append-drop}
 use Rattle.hash_laws.specs.Recurrence.{recurrence}
 use Rattle.hash_laws.proofs.RecurrenceLemmas.{recurrence-append}
 use Rattle.hash_rules.proofs.texts.whole_text.Goals as goal

@@ -1,6 +1,4 @@
-use Rattle.std.proofs.Common.{◌≡◌, drop}
-use Rattle.std.specs.List.{find}
-use Rattle.hash_spread.specs.Call.{is_called}
+use Rattle.hash_spread.proofs.Common.{◌≡◌, drop, find, is_called}
 use Rattle.hash_spread.proofs.call.first_called.Given as goal
 
 -- the hash is among those that are left

@@ -1,7 +1,4 @@
-use Rattle.std.proofs.Common.{◌≡◌, drop, map}
-use Rattle.std.specs.List.{find}
-use Rattle.std.specs.Option.{is_none}
-use Rattle.hash_spread.specs.Call.{kind_called}
+use Rattle.hash_spread.proofs.Common.{◌≡◌, drop, map, find, is_none, kind_called}
 use Rattle.hash_spread.proofs.call.first_unknown.Given as goal
 
 -- the first one is among those that are left

@@ -1,6 +1,5 @@
-use Rattle.std.proofs.Common.{◌≡◌, map, rules, subst, ◌∙◌}
+use Rattle.hash_spread.proofs.Common.{◌≡◌, map, rules, subst, ◌∙◌, bytes_eq}
 use Rattle.std.specs.Char.{to_ascii_lowercase}
-use Rattle.std.specs.Str.{bytes_eq}
 use Rattle.hash_spread.proofs.call.is_called.Goals as goal
 
 pub returns : goal.returns

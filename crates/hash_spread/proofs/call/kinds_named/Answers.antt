@@ -1,5 +1,4 @@
-use Rattle.std.proofs.Common.{◌++◌, ◌∷◌, [], ap, sym, ◌∙◌}
-use Rattle.hash_spread.specs.Call.{kind_called}
+use Rattle.hash_spread.proofs.Common.{◌++◌, ◌∷◌, [], ap, sym, ◌∙◌, kind_called}
 use Rattle.hash_spread.proofs.FoundLemmas.{found_none, found_one}
 use Rattle.hash_spread.proofs.call.kinds_named.Goals.{in-Some+in_ok-push, in_default}
 use Rattle.hash_spread.proofs.call.kinds_named.Goals as goal

@@ -1,6 +1,4 @@
-use Rattle.std.proofs.Common.{◌≡◌, map, take}
-use Rattle.std.specs.List.{filter_map}
-use Rattle.hash_spread.specs.Call.{kind_called}
+use Rattle.hash_spread.proofs.Common.{◌≡◌, map, take, filter_map, kind_called}
 use Rattle.hash_spread.proofs.call.kinds_named.Given as goal
 
 -- the hashes of the names so far

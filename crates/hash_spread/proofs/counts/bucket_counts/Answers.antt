@@ -1,10 +1,5 @@
-use Rattle.std.proofs.Common.{ℕ, ◌≡◌, ◌+◌, ◌≤◌, ◌%◌, get_or, length, take, ap, ◌∙◌, arith}
-use Rattle.std.proofs.Common.{eqb}
-use Rattle.std.proofs.Math.ListN.{set}
-use Rattle.std.proofs.lemmas.List.{get_or_read, length-set, length-take, take_all}
-use Rattle.std.proofs.lemmas.List.FromFn.{fill_by_all}
-use Rattle.std.proofs.lemmas.List.Sums.{count_by-le-length}
-use Rattle.hashers.specs.Counts.{in_bucket}
+use Rattle.hash_spread.proofs.Common.{ℕ, ◌≡◌, ◌+◌, ◌≤◌, ◌%◌, get_or, length, take, ap, ◌∙◌, arith, eqb, set, get_or_read, length-set, take_all, fill_by_all, count_by-le-length, in_bucket}
+use Rattle.std.proofs.lemmas.List.{length-take}
 use Rattle.hash_spread.proofs.CountLemmas.{bucket_more}
 use Rattle.hash_spread.proofs.counts.bucket_counts.Goals as goal
 

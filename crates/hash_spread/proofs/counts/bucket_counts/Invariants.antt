@@ -1,5 +1,4 @@
-use Rattle.std.proofs.Common.{ℕ, ◌≡◌, ◌<◌, get_or, length, take}
-use Rattle.hashers.specs.Counts.{in_bucket}
+use Rattle.hash_spread.proofs.Common.{ℕ, ◌≡◌, ◌<◌, get_or, length, take, in_bucket}
 use Rattle.hash_spread.proofs.counts.bucket_counts.Given as goal
 
 -- each bucket has what fell into it so far

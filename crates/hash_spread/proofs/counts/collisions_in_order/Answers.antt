@@ -1,7 +1,5 @@
-use Rattle.std.proofs.Common.{ℕ, ◌≡◌, ◌+◌, ◌-◌, ◌≤◌, eqb, get_or, length, take, ap, ◌∙◌, arith, refl}
-use Rattle.std.proofs.lemmas.List.{length-take, take_more}
-use Rattle.std.proofs.lemmas.List.Sums.{count_by-le-length}
-use Rattle.hashers.specs.Counts.{collisions, meetings, times}
+use Rattle.hash_spread.proofs.Common.{ℕ, ◌≡◌, ◌+◌, ◌-◌, ◌≤◌, eqb, get_or, length, take, ap, ◌∙◌, arith, refl, take_more, count_by-le-length, collisions, meetings, times}
+use Rattle.std.proofs.lemmas.List.{length-take}
 use Rattle.hash_spread.proofs.CollisionLemmas.{collisions_push}
 use Rattle.hash_spread.proofs.counts.collisions_in_order.Goals as goal
 

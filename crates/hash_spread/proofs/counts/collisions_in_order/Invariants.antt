@@ -1,5 +1,4 @@
-use Rattle.std.proofs.Common.{◌≡◌, ◌<◌, ◌≤◌, ◌-◌, ◌*◌, ◌^◌, get_or, take}
-use Rattle.hashers.specs.Counts.{collisions, times}
+use Rattle.hash_spread.proofs.Common.{◌≡◌, ◌<◌, ◌≤◌, ◌-◌, ◌*◌, ◌^◌, get_or, take, collisions, times}
 use Rattle.hash_spread.proofs.counts.collisions_in_order.Given as goal
 
 -- the pairs so far, and how many before the last hash equal it

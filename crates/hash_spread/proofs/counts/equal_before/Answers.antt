@@ -1,4 +1,4 @@
-use Rattle.std.proofs.Common.{◌-◌, sym, arith}
+use Rattle.hash_spread.proofs.Common.{◌-◌, sym, arith}
 use Rattle.hash_spread.proofs.CollisionLemmas.{equal_none}
 use Rattle.hash_spread.proofs.counts.equal_before.Goals as goal
 

@@ -1,7 +1,4 @@
-use Rattle.std.proofs.Common.{◌≡◌, ap, ◌∙◌, arith}
-use Rattle.std.specs.List.{count_by, sum, sum_by}
-use Rattle.std.proofs.Common.{◌*◌, eqb, refl}
-use Rattle.hashers.specs.Counts.{bucket_counts}
+use Rattle.hash_spread.proofs.Common.{◌≡◌, ap, ◌∙◌, arith, ◌*◌, eqb, refl, count_by, sum, sum_by, bucket_counts}
 use Rattle.hash_spread.proofs.CountLemmas.{fullest_of}
 use Rattle.hash_spread.proofs.counts.spread_of.Goals as goal
 

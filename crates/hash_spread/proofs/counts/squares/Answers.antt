@@ -1,4 +1,4 @@
-use Rattle.std.proofs.Common.{◌*◌, ap, arith}
+use Rattle.hash_spread.proofs.Common.{◌*◌, ap, arith}
 use Rattle.hash_spread.proofs.CountLemmas.{squares_fit}
 use Rattle.hash_spread.proofs.counts.squares.Goals as goal
 

@@ -1,5 +1,4 @@
-use Rattle.std.proofs.Common.{◌≡◌, ◌*◌, take}
-use Rattle.std.specs.List.{sum_by}
+use Rattle.hash_spread.proofs.Common.{◌≡◌, ◌*◌, take, sum_by}
 use Rattle.hash_spread.proofs.counts.squares.Given as goal
 
 abbrev pub invariant-loop-count : goal.invariant-loop-count

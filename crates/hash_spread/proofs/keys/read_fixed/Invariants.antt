@@ -1,4 +1,4 @@
-use Rattle.hash_spread.specs.Keys.{TakesFixed}
+use Rattle.hash_spread.proofs.Common.{TakesFixed}
 use Rattle.hash_spread.proofs.keys.read_fixed.Given as goal
 
 -- what was read so far is keys of that width, and they are there

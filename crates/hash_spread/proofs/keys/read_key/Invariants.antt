@@ -1,5 +1,4 @@
-use Rattle.std.proofs.Common.{◌≤◌, ◌-◌, length}
-use Rattle.std.specs.Io.KnownBytes.{Consumes}
+use Rattle.hash_spread.proofs.Common.{◌≤◌, ◌-◌, length, Consumes}
 use Rattle.hash_spread.proofs.keys.read_key.Given as goal
 
 -- what was read so far is the front of a key

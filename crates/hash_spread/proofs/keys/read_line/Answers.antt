@@ -1,6 +1,4 @@
-use Rattle.std.proofs.Common.{◌∙◌, ap}
-use Rattle.std.specs.Io.BufRead.{ends_with_byte, strip_last}
-use Rattle.text_set.specs.Texts.{with_text}
+use Rattle.hash_spread.proofs.Common.{◌∙◌, ap, ends_with_byte, strip_last, with_text}
 use Rattle.hash_spread.proofs.KeyLemmas.{takes_line, takes_nothing}
 use Rattle.hash_spread.proofs.keys.read_line.Goals as goal
 

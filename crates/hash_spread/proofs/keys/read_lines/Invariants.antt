@@ -1,4 +1,4 @@
-use Rattle.hash_spread.specs.Keys.{TakesLines}
+use Rattle.hash_spread.proofs.Common.{TakesLines}
 use Rattle.hash_spread.proofs.keys.read_lines.Given as goal
 
 -- what was read so far is whole lines, whose keys are there

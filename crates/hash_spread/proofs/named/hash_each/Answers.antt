@@ -1,6 +1,4 @@
-use Rattle.std.proofs.Common.{[], arith}
-use Rattle.std.proofs.lemmas.List.Elements.{All-from_get_or}
-use Rattle.hashers.specs.Text.{IsText}
+use Rattle.hash_spread.proofs.Common.{[], arith, All-from_get_or, IsText}
 use Rattle.hash_spread.proofs.NamedLemmas.{hashed_all}
 use Rattle.hash_spread.proofs.named.hash_each.Goals as goal
 

@@ -1,5 +1,4 @@
-use Rattle.std.proofs.Common.{ℕ, [], ◌≡◌, ◌<◌, get_or}
-use Rattle.hashers.specs.Text.{IsText}
+use Rattle.hash_spread.proofs.Common.{ℕ, [], ◌≡◌, ◌<◌, get_or, IsText}
 use Rattle.hash_spread.proofs.named.hash_each.Given as goal
 
 -- the hashes of the keys so far

@@ -1,5 +1,4 @@
-use Rattle.std.proofs.Common.{◌≡◌, All, map}
-use Rattle.hashers.specs.Text.{IsText}
+use Rattle.hash_spread.proofs.Common.{◌≡◌, All, map, IsText}
 use Rattle.hash_spread.proofs.named.hash_often.Given as goal
 
 -- the hashes stay

@@ -1,4 +1,4 @@
-use Rattle.std.specs.Io.Buffered.{writer_contents}
+use Rattle.hash_sums.proofs.Common.{writer_contents}
 use Rattle.hash_sums.proofs.ListLemmas.{list_ended, so_far_more, so_far_start, torn_off}
 use Rattle.hash_sums.proofs.check.check_lines.Goals as goal
 

@@ -1,5 +1,4 @@
-use Rattle.std.proofs.Common.{◌≡◌, []}
-use Rattle.std.specs.Io.Buffered.{writer_buffer, writer_contents}
+use Rattle.hash_sums.proofs.Common.{◌≡◌, [], writer_buffer, writer_contents}
 use Rattle.hash_sums.proofs.ListLemmas.{SoFar}
 use Rattle.hash_sums.proofs.check.check_lines.Given as goal
 

@@ -1,7 +1,4 @@
-use Rattle.std.proofs.Common.{inl, inr, refl}
-use Rattle.std.proofs.KnownBytes.{Keeps-refl}
-use Rattle.std.specs.Io.Buffered.{writer_contents}
-use Rattle.streams.specs.declared.failure.Failure.TheVariants.{NoMemory}
+use Rattle.hash_sums.proofs.Common.{inl, inr, refl, Keeps-refl, writer_contents, NoMemory}
 use Rattle.hash_sums.proofs.ListLemmas.{list_torn_off}
 use Rattle.hash_sums.proofs.check.check_list.Goals as goal
 

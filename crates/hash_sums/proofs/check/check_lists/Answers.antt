@@ -1,5 +1,4 @@
-use Rattle.std.proofs.Common.{◌+◌, ◌&&◌, [], ℕ, List, map, take, drop, get_or, subst, sym}
-use Rattle.std.specs.Io.Buffered.{writer_contents}
+use Rattle.hash_sums.proofs.Common.{◌+◌, ◌&&◌, [], ℕ, List, map, take, drop, get_or, subst, sym, writer_contents}
 use denote.Ref.{Bor}
 use Rattle.hash_sums.specs.Lists.{AreListed}
 use Rattle.hash_sums.specs.Lists.AreListed.{next_list, no_list}

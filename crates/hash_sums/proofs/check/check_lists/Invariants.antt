@@ -1,5 +1,4 @@
-use Rattle.std.proofs.Common.{◌≡◌, [], take, map}
-use Rattle.std.specs.Io.Buffered.{writer_buffer, writer_contents}
+use Rattle.hash_sums.proofs.Common.{◌≡◌, [], take, map, writer_buffer, writer_contents}
 use Rattle.hash_sums.specs.Lists.{AreListed}
 use Rattle.hash_sums.proofs.check.check_lists.Given as goal
 

@@ -1,4 +1,4 @@
-use Rattle.std.proofs.Common.{rules, [], ◌∷◌}
+use Rattle.hash_sums.proofs.Common.{rules, [], ◌∷◌}
 use Rattle.hash_sums.proofs.keys.hash_of_siphash24.Goals as goal
 
 pub returns-then-taken : goal.returns-then-taken

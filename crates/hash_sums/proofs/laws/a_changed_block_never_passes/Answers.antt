@@ -1,12 +1,9 @@
-use Rattle.std.specs.Prelude.{codes}
-use Rattle.std.proofs.Common.{◌≢◌, ℕ, List, lit<, mod-lt, refl}
+use Rattle.hash_sums.proofs.Common.{◌≢◌, ℕ, List, lit<, mod-lt, refl, codes, murmur3_128_of, Murmur3At32, Xxh32}
 use Rattle.hash_windows.specs.DifferWithin.{DifferInOneBlock}
 use Rattle.hash_murmur3.specs.Murmur3x128.{murmur3_128}
-use Rattle.hash_names.specs.Wide.{murmur3_128_of}
-use Rattle.hash_names.specs.Named.{kind_named}
+use Rattle.hash_kinds.specs.Named.{kind_named}
 use Rattle.hash_sums.specs.Sums.{number_named}
 use Rattle.hash_sums.proofs.KeyLemmas.{parts_are}
-use Rattle.hash_names.specs.declared.table.Kind.TheVariants.{Murmur3At32, Xxh32}
 use Rattle.hash_sums.proofs.LawLemmas.{kind_never_passes, named_never_passes}
 use Rattle.hash_sums.proofs.laws.a_changed_block_never_passes.Goals as goal
 use Rattle.block_laws.specs.Xxh32Words.{DifferInOneWord}

@@ -1,28 +1,27 @@
-use Rattle.hashers.specs.DifferWithin.{DifferAtOnePlace}
-use Rattle.hash_names.specs.declared.table.Kind.TheVariants.{Bricolage, Crc32, Crc32c, Djb2, Djb2Add, Fnv1At32, Fnv1At64, Fnv1a32, Fnv1a64, Joaat, LoseLose, Oaat, Sdbm}
+use Rattle.hash_sums.proofs.Common.{DifferAtOnePlace, Ported, Crc32, Crc32c, Djb2Add, Fnv1At32, Fnv1At64, Joaat, Bricolage, Djb2, Fnv1a32, Fnv1a64, LoseLose, Oaat, Sdbm}
 use Rattle.hash_sums.proofs.LawLemmas.{kind_never_passes}
 use Rattle.hash_sums.proofs.laws.a_changed_byte_never_passes.Goals as goal
 
 pub returns-clause-fnv32 : goal.returns-clause-fnv32
-returns-clause-fnv32 g c = kind_never_passes g.F.Folder.opens Fnv1a32 DifferAtOnePlace c.one_changed_byte_shows.ensures
+returns-clause-fnv32 g c = kind_never_passes g.F.Folder.opens (Ported Fnv1a32) DifferAtOnePlace c.one_changed_byte_shows.ensures
 
 pub returns-clause-fnv64 : goal.returns-clause-fnv64
-returns-clause-fnv64 g c = kind_never_passes g.F.Folder.opens Fnv1a64 DifferAtOnePlace c.one_changed_byte_shows-2.ensures
+returns-clause-fnv64 g c = kind_never_passes g.F.Folder.opens (Ported Fnv1a64) DifferAtOnePlace c.one_changed_byte_shows-2.ensures
 
 pub returns-clause-djb2 : goal.returns-clause-djb2
-returns-clause-djb2 g c = kind_never_passes g.F.Folder.opens Djb2 DifferAtOnePlace c.one_changed_byte_shows-3.ensures
+returns-clause-djb2 g c = kind_never_passes g.F.Folder.opens (Ported Djb2) DifferAtOnePlace c.one_changed_byte_shows-3.ensures
 
 pub returns-clause-sdbm : goal.returns-clause-sdbm
-returns-clause-sdbm g c = kind_never_passes g.F.Folder.opens Sdbm DifferAtOnePlace c.one_changed_byte_shows-4.ensures
+returns-clause-sdbm g c = kind_never_passes g.F.Folder.opens (Ported Sdbm) DifferAtOnePlace c.one_changed_byte_shows-4.ensures
 
 pub returns-clause-loselose : goal.returns-clause-loselose
-returns-clause-loselose g c = kind_never_passes g.F.Folder.opens LoseLose DifferAtOnePlace c.one_changed_byte_shows-5.ensures
+returns-clause-loselose g c = kind_never_passes g.F.Folder.opens (Ported LoseLose) DifferAtOnePlace c.one_changed_byte_shows-5.ensures
 
 pub returns-clause-bricolage : goal.returns-clause-bricolage
-returns-clause-bricolage g c = kind_never_passes g.F.Folder.opens Bricolage DifferAtOnePlace c.one_changed_byte_shows-6.ensures
+returns-clause-bricolage g c = kind_never_passes g.F.Folder.opens (Ported Bricolage) DifferAtOnePlace c.one_changed_byte_shows-6.ensures
 
 pub returns-clause-oaat : goal.returns-clause-oaat
-returns-clause-oaat g c = kind_never_passes g.F.Folder.opens Oaat DifferAtOnePlace c.one_changed_byte_shows-7.ensures
+returns-clause-oaat g c = kind_never_passes g.F.Folder.opens (Ported Oaat) DifferAtOnePlace c.one_changed_byte_shows-7.ensures
 
 pub returns-clause-joaat : goal.returns-clause-joaat
 returns-clause-joaat g c = kind_never_passes g.F.Folder.opens Joaat DifferAtOnePlace c.one_changed_byte_shows-8.ensures

@@ -1,20 +1,19 @@
-use Rattle.hashers.specs.DifferWithin.{DifferWithin}
+use Rattle.hash_sums.proofs.Common.{DifferWithin, Ported, Crc32, Crc32c, Djb2Add, Fnv1At32, Fnv1At64, Djb2, Fnv1a32, Fnv1a64, Sdbm}
 use Rattle.more_laws.specs.Bursts.{DifferWithinBits}
-use Rattle.hash_names.specs.declared.table.Kind.TheVariants.{Crc32, Crc32c, Djb2, Djb2Add, Fnv1At32, Fnv1At64, Fnv1a32, Fnv1a64, Sdbm}
 use Rattle.hash_sums.proofs.LawLemmas.{kind_never_passes}
 use Rattle.hash_sums.proofs.laws.a_changed_stretch_never_passes.Goals as goal
 
 pub returns-clause-djb2 : goal.returns-clause-djb2
-returns-clause-djb2 g c = kind_never_passes g.F.Folder.opens Djb2 (DifferWithin 6 224) c.windows_tell_apart.ensures.djb2
+returns-clause-djb2 g c = kind_never_passes g.F.Folder.opens (Ported Djb2) (DifferWithin 6 224) c.windows_tell_apart.ensures.djb2
 
 pub returns-clause-sdbm : goal.returns-clause-sdbm
-returns-clause-sdbm g c = kind_never_passes g.F.Folder.opens Sdbm (DifferWithin 3 0) c.windows_tell_apart.ensures.sdbm
+returns-clause-sdbm g c = kind_never_passes g.F.Folder.opens (Ported Sdbm) (DifferWithin 3 0) c.windows_tell_apart.ensures.sdbm
 
 pub returns-clause-fnv64 : goal.returns-clause-fnv64
-returns-clause-fnv64 g c = kind_never_passes g.F.Folder.opens Fnv1a64 (DifferWithin 3 0) c.windows_tell_apart.ensures.fnv64
+returns-clause-fnv64 g c = kind_never_passes g.F.Folder.opens (Ported Fnv1a64) (DifferWithin 3 0) c.windows_tell_apart.ensures.fnv64
 
 pub returns-clause-fnv32 : goal.returns-clause-fnv32
-returns-clause-fnv32 g c = kind_never_passes g.F.Folder.opens Fnv1a32 (DifferWithin 2 0) c.windows_tell_apart.ensures.fnv32
+returns-clause-fnv32 g c = kind_never_passes g.F.Folder.opens (Ported Fnv1a32) (DifferWithin 2 0) c.windows_tell_apart.ensures.fnv32
 
 pub returns-clause-crc32 : goal.returns-clause-crc32
 returns-clause-crc32 g c = kind_never_passes g.F.Folder.opens Crc32 (DifferWithin 4 0) c.windows_tell_apart-2.ensures.crc32

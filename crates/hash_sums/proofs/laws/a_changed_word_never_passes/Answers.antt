@@ -1,12 +1,10 @@
-use Rattle.std.proofs.Common.{ℕ, List, [], ◌∷◌, ◌++◌, All, append-nil, ap, sym, subst}
-use Rattle.std.proofs.lemmas.List.Elements.{All-cons, All-nil}
+use Rattle.hash_sums.proofs.Common.{ℕ, List, [], ◌∷◌, ◌++◌, All, ap, sym, subst, All-cons, All-nil, DifferAtOnePlace, texts, Ported, FxHash, FxHash32, FxHash64}
+use Rattle.std.proofs.Common.{append-nil}
 use denote.Bor.{Bor}
-use Rattle.hashers.specs.DifferWithin.{DifferAtOnePlace}
 use Rattle.hashers.specs.Fx.{words32, words64}
 use Rattle.hashers.specs.Pieces.{DifferByOneWord}
-use Rattle.hashers.specs.Text.{IsText, texts}
+use Rattle.hashers.specs.Text.{IsText}
 use Rattle.hash_sums.specs.Laws.{DifferAtOneWord}
-use Rattle.hash_names.specs.declared.table.Kind.TheVariants.{FxHash, FxHash32, FxHash64}
 use Rattle.hash_sums.proofs.LawLemmas.{kind_never_passes}
 use Rattle.hash_sums.proofs.laws.a_changed_word_never_passes.Goals as goal
 
@@ -26,12 +24,12 @@ one_word words x y (same, differ) = record {
 
 pub returns-clause-fxhash : goal.returns-clause-fxhash
 returns-clause-fxhash g c =
-    kind_never_passes g.F.Folder.opens FxHash (DifferAtOneWord words64) (λ x y is_text also differ. c.one_changed_word_shows_fx.ensures.at_64 (piece x ∷ []) (piece y ∷ []) (is_one x is_text) (is_one y also) (one_word words64 x y differ))
+    kind_never_passes g.F.Folder.opens (Ported FxHash) (DifferAtOneWord words64) (λ x y is_text also differ. c.one_changed_word_shows_fx.ensures.at_64 (piece x ∷ []) (piece y ∷ []) (is_one x is_text) (is_one y also) (one_word words64 x y differ))
 
 pub returns-clause-fxhash64 : goal.returns-clause-fxhash64
 returns-clause-fxhash64 g c =
-    kind_never_passes g.F.Folder.opens FxHash64 (DifferAtOneWord words64) (λ x y is_text also differ. c.one_changed_word_shows_fx.ensures.at_64 (piece x ∷ []) (piece y ∷ []) (is_one x is_text) (is_one y also) (one_word words64 x y differ))
+    kind_never_passes g.F.Folder.opens (Ported FxHash64) (DifferAtOneWord words64) (λ x y is_text also differ. c.one_changed_word_shows_fx.ensures.at_64 (piece x ∷ []) (piece y ∷ []) (is_one x is_text) (is_one y also) (one_word words64 x y differ))
 
 pub returns-clause-fxhash32 : goal.returns-clause-fxhash32
 returns-clause-fxhash32 g c =
-    kind_never_passes g.F.Folder.opens FxHash32 (DifferAtOneWord words32) (λ x y is_text also differ. c.one_changed_word_shows_fx.ensures.at_32 (piece x ∷ []) (piece y ∷ []) (is_one x is_text) (is_one y also) (one_word words32 x y differ))
+    kind_never_passes g.F.Folder.opens (Ported FxHash32) (DifferAtOneWord words32) (λ x y is_text also differ. c.one_changed_word_shows_fx.ensures.at_32 (piece x ∷ []) (piece y ∷ []) (is_one x is_text) (is_one y also) (one_word words32 x y differ))

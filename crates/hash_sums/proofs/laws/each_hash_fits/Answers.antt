@@ -1,18 +1,11 @@
-use Rattle.std.proofs.Common.{ℕ, ◌+◌, ◌/◌, ◌^◌, ◌<◌, List, length, fold, lit<}
-use Rattle.std.specs.List.{range_with_len}
-use Rattle.std.proofs.lemmas.Nat.{mod_below, xor_lt}
+use Rattle.hash_sums.proofs.Common.{ℕ, ◌+◌, ◌/◌, ◌^◌, ◌<◌, List, length, fold, lit<, range_with_len, mod_below, xor_lt, lookup3_from, lookup3-AreTwoWords, bits_of, hash_of, read_of, Kind, Ported, Crc32, Crc32c, Fnv1At32, Fnv1At64, Djb2Add, Joaat, Elf, Xxh32, Xxh64, Murmur3At32, Murmur3, SipHash13, SipHash24, Xxh3, Fnv1a32, Fnv1a64, Djb2, Sdbm, LoseLose, Bricolage, Oaat, Lookup3, Spooky, SpookyV1, PassThrough, FxHash, FxHash32, FxHash64, Null}
 use Rattle.hash_laws.specs.Text.{IsText}
 use Rattle.hash_bytes.specs.Fnv.{fnv1a32_basis, fnv1a64_basis}
-use Rattle.hash_jenkins.specs.Lookup3.{lookup3_from}
 use Rattle.hash_reading.specs.Reading.{cut}
-use Rattle.hash_jenkins.specs.Lookup3Laws.{lookup3-AreTwoWords}
 use Rattle.hash_more.specs.Crc32.{all_ones}
 use Rattle.hash_more.specs.Joaat.{joaat_from}
 use Rattle.hash_more.specs.JoaatLaws.{joaat_answer_below}
 use Rattle.hash_rounds.specs.Sums.{passthrough_from, sdbm_from}
-use Rattle.hash_names.specs.Named.{bits_of, hash_of, read_of}
-use Rattle.hash_names.specs.declared.table.Kind.{Kind}
-use Rattle.hash_names.specs.declared.table.Kind.TheVariants.{Fnv1a32, Fnv1a64, Djb2, Sdbm, LoseLose, Bricolage, Oaat, Lookup3, Spooky, SpookyV1, PassThrough, FxHash, FxHash32, FxHash64, Crc32, Crc32c, Fnv1At32, Fnv1At64, Djb2Add, Joaat, Elf, Null, Xxh32, Xxh64, Murmur3At32, Murmur3, SipHash13, SipHash24, Xxh3}
 use Rattle.hash_sums.proofs.FitLemmas.{lookup3_below, lookup3_pieces, murmur3_below, murmur3_mix, siphash_below, spooky_below, spooky_v1_below, xxh32_mix, xxh3_below, xxh64_mix}
 use Rattle.hash_sums.proofs.laws.each_hash_fits.Goals as goal
 
@@ -21,20 +14,20 @@ unfolding sdbm_from passthrough_from
 returns-clause-whole c = fits
   where
     fits : (kind : Kind) (text : List ℕ) → IsText text → hash_of kind text < 2 ^ bits_of kind
-    fits Fnv1a32 text is = c.text_stays_in_range.ensures fnv1a32_basis text (lit< tt) is
-    fits Fnv1a64 text is = c.text_stays_in_range-2.ensures fnv1a64_basis text (lit< tt) is
-    fits Djb2 text is = c.text_stays_in_range-3.ensures 5381 text (lit< tt) is
-    fits Sdbm text is = mod_below _ (2 ^ 32) (lit< tt)
-    fits LoseLose text is = mod_below _ (2 ^ 64) (lit< tt)
-    fits Bricolage text is = c.text_stays_in_range-4.ensures 0 text (lit< tt) is
-    fits Oaat text is = mod_below _ (2 ^ 64) (lit< tt)
-    fits Lookup3 text is = lookup3_below _ (lookup3-AreTwoWords (0, 0) text (lit< tt, lit< tt) is)
-    fits Spooky text is = (spooky_below text).0
-    fits SpookyV1 text is = spooky_v1_below text
-    fits PassThrough text is = mod_below _ (2 ^ 64) (lit< tt)
-    fits FxHash text is = c.text_stays_in_range-5.ensures 0 text (lit< tt) is
-    fits FxHash32 text is = c.text_stays_in_range-6.ensures 0 text (lit< tt) is
-    fits FxHash64 text is = c.text_stays_in_range-5.ensures 0 text (lit< tt) is
+    fits (Ported Fnv1a32) text is = c.text_stays_in_range.ensures fnv1a32_basis text (lit< tt) is
+    fits (Ported Fnv1a64) text is = c.text_stays_in_range-2.ensures fnv1a64_basis text (lit< tt) is
+    fits (Ported Djb2) text is = c.text_stays_in_range-3.ensures 5381 text (lit< tt) is
+    fits (Ported Sdbm) text is = mod_below _ (2 ^ 32) (lit< tt)
+    fits (Ported LoseLose) text is = mod_below _ (2 ^ 64) (lit< tt)
+    fits (Ported Bricolage) text is = c.text_stays_in_range-4.ensures 0 text (lit< tt) is
+    fits (Ported Oaat) text is = mod_below _ (2 ^ 64) (lit< tt)
+    fits (Ported Lookup3) text is = lookup3_below _ (lookup3-AreTwoWords (0, 0) text (lit< tt, lit< tt) is)
+    fits (Ported Spooky) text is = (spooky_below text).0
+    fits (Ported SpookyV1) text is = spooky_v1_below text
+    fits (Ported PassThrough) text is = mod_below _ (2 ^ 64) (lit< tt)
+    fits (Ported FxHash) text is = c.text_stays_in_range-5.ensures 0 text (lit< tt) is
+    fits (Ported FxHash32) text is = c.text_stays_in_range-6.ensures 0 text (lit< tt) is
+    fits (Ported FxHash64) text is = c.text_stays_in_range-5.ensures 0 text (lit< tt) is
     fits Crc32 text is = xor_lt 32 _ all_ones (c.text_stays_in_range-7.ensures all_ones text (lit< tt) is) (lit< tt)
     fits Crc32c text is = xor_lt 32 _ all_ones (c.text_stays_in_range-8.ensures all_ones text (lit< tt) is) (lit< tt)
     fits Fnv1At32 text is = c.text_stays_in_range-9.ensures fnv1a32_basis text (lit< tt) is
@@ -42,7 +35,7 @@ returns-clause-whole c = fits
     fits Djb2Add text is = c.text_stays_in_range-11.ensures 5381 text (lit< tt) is
     fits Joaat text is = joaat_answer_below (joaat_from 0 text)
     fits Elf text is = c.text_stays_in_range-12.ensures 0 text (lit< tt) is
-    fits Null text is = lit< tt
+    fits (Ported Null) text is = lit< tt
     fits Xxh32 text is = xxh32_mix _
     fits Xxh64 text is = xxh64_mix _
     fits Murmur3At32 text is = murmur3_mix _
@@ -55,34 +48,7 @@ pub returns-clause-read : goal.returns-clause-read
 returns-clause-read c = fits
   where
     fits : (kind : Kind) (text : List ℕ) → IsText text → read_of kind text < 2 ^ bits_of kind
-    fits Lookup3 text is =
+    fits (Ported Lookup3) text is =
         lookup3_below (fold lookup3_from (0, 0) (cut 4096 text))
         (lookup3_pieces 4096 text (range_with_len 0 ((length text + 4095) / 4096)) (0, 0) (lit< tt, lit< tt) is)
-    fits Fnv1a32 text is = returns-clause-whole c Fnv1a32 text is
-    fits Fnv1a64 text is = returns-clause-whole c Fnv1a64 text is
-    fits Djb2 text is = returns-clause-whole c Djb2 text is
-    fits Sdbm text is = returns-clause-whole c Sdbm text is
-    fits LoseLose text is = returns-clause-whole c LoseLose text is
-    fits Bricolage text is = returns-clause-whole c Bricolage text is
-    fits Oaat text is = returns-clause-whole c Oaat text is
-    fits Spooky text is = returns-clause-whole c Spooky text is
-    fits SpookyV1 text is = returns-clause-whole c SpookyV1 text is
-    fits PassThrough text is = returns-clause-whole c PassThrough text is
-    fits FxHash text is = returns-clause-whole c FxHash text is
-    fits FxHash32 text is = returns-clause-whole c FxHash32 text is
-    fits FxHash64 text is = returns-clause-whole c FxHash64 text is
-    fits Crc32 text is = returns-clause-whole c Crc32 text is
-    fits Crc32c text is = returns-clause-whole c Crc32c text is
-    fits Fnv1At32 text is = returns-clause-whole c Fnv1At32 text is
-    fits Fnv1At64 text is = returns-clause-whole c Fnv1At64 text is
-    fits Djb2Add text is = returns-clause-whole c Djb2Add text is
-    fits Joaat text is = returns-clause-whole c Joaat text is
-    fits Elf text is = returns-clause-whole c Elf text is
-    fits Null text is = returns-clause-whole c Null text is
-    fits Xxh32 text is = returns-clause-whole c Xxh32 text is
-    fits Xxh64 text is = returns-clause-whole c Xxh64 text is
-    fits Murmur3At32 text is = returns-clause-whole c Murmur3At32 text is
-    fits Murmur3 text is = returns-clause-whole c Murmur3 text is
-    fits SipHash13 text is = returns-clause-whole c SipHash13 text is
-    fits SipHash24 text is = returns-clause-whole c SipHash24 text is
-    fits Xxh3 text is = returns-clause-whole c Xxh3 text is
+    fits kind text is = returns-clause-whole c kind text is

@@ -1,4 +1,4 @@
-use Rattle.std.proofs.Common.{◌≡◌, ℕ, Some, true, false, refl}
+use Rattle.hash_sums.proofs.Common.{◌≡◌, ℕ, Some, true, false, refl}
 use Rattle.hash_sums.specs.declared.sums.Sum.{Sum}
 use Rattle.hash_sums.specs.declared.sums.Sum.TheVariants.{Table, Poly61, SipHash24}
 use Rattle.hash_sums.specs.declared.sums.Sum.TheVariants as sum

@@ -1,12 +1,5 @@
-use Rattle.std.proofs.Common.{ℕ, ◌%◌, ◌^◌, ◌<◌, ◌≤◌, List, arith, lit≤}
+use Rattle.hash_sums.proofs.Common.{ℕ, ◌%◌, ◌^◌, ◌<◌, ◌≤◌, List, arith, lit≤, digits_of, LineKind, prime61, bits_of, both, Kind, Ported, Fnv1a32}
 use Rattle.hash_laws.specs.Text.{IsText}
-use Rattle.hash_lines.specs.Line.{digits_of}
-use Rattle.hash_lines.specs.declared.line.LineKind.{LineKind}
-use Rattle.hash_keyed.specs.Poly61.{prime61}
-use Rattle.hash_names.specs.Named.{bits_of}
-use Rattle.hash_names.specs.Wide.{both}
-use Rattle.hash_names.specs.declared.table.Kind.{Kind}
-use Rattle.hash_names.specs.declared.table.Kind.TheVariants.{Fnv1a32, Fnv1a64, Djb2, Sdbm, LoseLose, Bricolage, Oaat, Lookup3, Spooky, SpookyV1, PassThrough, FxHash, FxHash32, FxHash64, Crc32, Crc32c, Fnv1At32, Fnv1At64, Djb2Add, Joaat, Elf, Null, Xxh32, Xxh64, Murmur3At32, Murmur3, SipHash13, SipHash24, Xxh3}
 use Rattle.hash_sums.specs.declared.sums.Sum.{Sum}
 use Rattle.hash_sums.specs.declared.sums.Sum.TheVariants as sum
 use Rattle.hash_sums.specs.declared.sums.Wide.{Wide}
@@ -27,35 +20,8 @@ wide_below wide.Xxh3 text = let (low, high) = xxh128_below 0 text in both_below 
 
 -- a digit for four bits
 digits_for : (kind : Kind) → 2 ^ bits_of kind ≤ 16 ^ digits_of (width_of (bits_of kind))
-digits_for Fnv1a32 = lit≤ tt
-digits_for Fnv1a64 = lit≤ tt
-digits_for Djb2 = lit≤ tt
-digits_for Sdbm = lit≤ tt
-digits_for LoseLose = lit≤ tt
-digits_for Bricolage = lit≤ tt
-digits_for Oaat = lit≤ tt
-digits_for Lookup3 = lit≤ tt
-digits_for Spooky = lit≤ tt
-digits_for SpookyV1 = lit≤ tt
-digits_for PassThrough = lit≤ tt
-digits_for FxHash = lit≤ tt
-digits_for FxHash32 = lit≤ tt
-digits_for FxHash64 = lit≤ tt
-digits_for Crc32 = lit≤ tt
-digits_for Crc32c = lit≤ tt
-digits_for Fnv1At32 = lit≤ tt
-digits_for Fnv1At64 = lit≤ tt
-digits_for Djb2Add = lit≤ tt
-digits_for Joaat = lit≤ tt
-digits_for Elf = lit≤ tt
-digits_for Null = lit≤ tt
-digits_for Xxh32 = lit≤ tt
-digits_for Xxh64 = lit≤ tt
-digits_for Murmur3At32 = lit≤ tt
-digits_for Murmur3 = lit≤ tt
-digits_for SipHash13 = lit≤ tt
-digits_for SipHash24 = lit≤ tt
-digits_for Xxh3 = lit≤ tt
+digits_for (Ported Fnv1a32) = lit≤ tt
+digits_for kind = lit≤ tt
 
 pub returns : goal.returns
 returns c = fits

@@ -1,4 +1,4 @@
-use Rattle.std.proofs.Common.{slice_index_or}
+use Rattle.hash_sums.proofs.Common.{slice_index_or}
 use Rattle.hash_sums.proofs.KeyLemmas.{meets_at_both}
 use Rattle.hash_sums.proofs.laws.few_pairs_pass_another_text.Goals as goal
 

@@ -1,6 +1,5 @@
-use Rattle.std.proofs.Common.{ℕ, ◌≡◌, Option, Some, None, true, List, map, refl, sym, ap, ◌∙◌}
+use Rattle.hash_sums.proofs.Common.{ℕ, ◌≡◌, Option, Some, None, true, List, map, refl, sym, ap, ◌∙◌, are_tags}
 use Rattle.std.proofs.lemmas.Simd.{map-map}
-use Rattle.hash_lines.specs.Told.{are_tags}
 use Rattle.hash_sums.specs.Sums.{kinds, sum_at, told_of, Told}
 use Rattle.hash_sums.proofs.laws.kinds_are_tags.Goals as goal
 

@@ -1,4 +1,4 @@
-use Rattle.std.proofs.Common.{refl}
+use Rattle.hash_sums.proofs.Common.{refl}
 use Rattle.hash_sums.proofs.PassLemmas.{lists_passed}
 use Rattle.hash_sums.proofs.laws.lists_that_pass.Goals as goal
 

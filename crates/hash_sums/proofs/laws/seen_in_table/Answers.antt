@@ -1,35 +1,26 @@
-use Rattle.std.proofs.Common.{inl, inr}
+use Rattle.hash_sums.proofs.Common.{inl, inr}
 use Rattle.hash_sums.proofs.laws.seen_in_table.Goals as goal
 
-pub returns-in-Fnv1a32 : goal.returns-in-Fnv1a32
-returns-in-Fnv1a32 g c = elim c.in-Fnv1a32.is [ inl is ↦ rw is assumption | inr is ↦ rw is assumption ]
+pub returns-in-Ported : goal.returns-in-Ported
+returns-in-Ported g c = rw c.in-Ported.is c.seen_in_ported.ensures
 
-pub returns-in-Fnv1a64 : goal.returns-in-Fnv1a64
-returns-in-Fnv1a64 g c = elim c.in-Fnv1a64.is [
-  | inl is ↦ rw is assumption
-  | inr more ↦ elim more [ inl is ↦ rw is assumption | inr is ↦ rw is assumption ]
-]
+pub returns-in-Fnv1At32 : goal.returns-in-Fnv1At32
+returns-in-Fnv1At32 g c = rw c.in-Fnv1At32.is assumption
 
-pub returns-in-Djb2 : goal.returns-in-Djb2
-returns-in-Djb2 g c = elim c.in-Djb2.is [ inl is ↦ rw is assumption | inr is ↦ rw is assumption ]
+pub returns-in-Fnv1At64 : goal.returns-in-Fnv1At64
+returns-in-Fnv1At64 g c = rw c.in-Fnv1At64.is assumption
+
+pub returns-in-Djb2Add : goal.returns-in-Djb2Add
+returns-in-Djb2Add g c = rw c.in-Djb2Add.is assumption
 
 pub returns-in-Crc32 : goal.returns-in-Crc32
 returns-in-Crc32 g c = elim c.in-Crc32.is [ inl is ↦ rw is assumption | inr is ↦ rw is assumption ]
 
-pub returns-in-FxHash : goal.returns-in-FxHash
-returns-in-FxHash g c = elim c.in-FxHash.is [ inl is ↦ rw is assumption | inr is ↦ rw is assumption ]
-
-pub returns-in-FxHash32 : goal.returns-in-FxHash32
-returns-in-FxHash32 g c = elim c.in-FxHash32.is [
-  | inl is ↦ rw is (inl assumption)
-  | inr more ↦ elim more [ inl is ↦ rw is (inr (inl assumption)) | inr is ↦ rw is (inr (inr assumption)) ]
+pub returns-in-Murmur3At32 : goal.returns-in-Murmur3At32
+returns-in-Murmur3At32 g c = elim c.in-Murmur3At32.is [
+  | inl is ↦ rw is (inr (inl assumption))
+  | inr is ↦ rw is (inr (inr assumption))
 ]
 
-pub returns-in-LoseLose : goal.returns-in-LoseLose
-returns-in-LoseLose g c = elim c.in-LoseLose.is [
-  | inl is ↦ rw is assumption
-  | inr more ↦ elim more [
-    | inl is ↦ rw is assumption
-    | inr more ↦ elim more [ inl is ↦ rw is assumption | inr is ↦ rw is assumption ]
-  ]
-]
+pub returns-in-Joaat : goal.returns-in-Joaat
+returns-in-Joaat g c = rw c.in-Joaat.is assumption

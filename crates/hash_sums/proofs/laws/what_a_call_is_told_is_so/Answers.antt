@@ -1,8 +1,4 @@
-use Rattle.std.proofs.Common.{Some}
-use Rattle.std.specs.Option.{unwrap_or}
-use Rattle.std.proofs.lemmas.List.Elements.{All-contains}
-use Rattle.cli.specs.Call.{operands}
-use Rattle.cli.specs.Files.{files_or}
+use Rattle.hash_sums.proofs.Common.{Some, unwrap_or, All-contains, operands, files_or}
 use Rattle.hash_sums.specs.Passed.{HasPassed}
 use Rattle.hash_sums.specs.Program.{asked, checking_of, taken}
 use Rattle.hash_sums.proofs.TellsLemmas.{kind_is_there, taken_are_tags, told_is_so}

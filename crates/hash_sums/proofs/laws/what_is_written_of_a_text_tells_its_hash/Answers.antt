@@ -1,5 +1,4 @@
-use Rattle.std.proofs.Common.{◌^◌, ◌<◌, subst, sym}
-use Rattle.hash_lines.specs.Line.{digits_of}
+use Rattle.hash_sums.proofs.Common.{◌^◌, ◌<◌, subst, sym, digits_of}
 use Rattle.hash_sums.specs.Sums.{sum_at, sum_by}
 use Rattle.hash_sums.proofs.NameLemmas.{width_is}
 use Rattle.hash_sums.proofs.laws.what_is_written_of_a_text_tells_its_hash.Goals as goal

@@ -1,5 +1,4 @@
-use Rattle.std.proofs.Common.{◌≡◌, List, ◌∷◌, refl, ap₂}
-use Rattle.cli.specs.Call.{Choice}
+use Rattle.hash_sums.proofs.Common.{◌≡◌, List, ◌∷◌, refl, ap₂, Choice}
 use Rattle.hash_sums.proofs.outcome.options.Goals as goal
 
 -- one more of the list

@@ -1,4 +1,4 @@
-use Rattle.std.proofs.Common.{Some, inl, inr, map, ap, ◌∙◌}
+use Rattle.hash_sums.proofs.Common.{Some, inl, inr, map, ap, ◌∙◌}
 use Rattle.hash_sums.specs.Sums.{kinds, told_of}
 use Rattle.hash_sums.proofs.outcome.worked.Goals as goal
 

@@ -1,4 +1,4 @@
-use Rattle.std.proofs.Common.{Some, refl}
+use Rattle.hash_sums.proofs.Common.{Some, refl}
 use Rattle.hash_sums.proofs.sum.sum_file.Goals as goal
 
 pub returns-in-Ok-tell_sum-clause-told : goal.returns-in-Ok-tell_sum-clause-told

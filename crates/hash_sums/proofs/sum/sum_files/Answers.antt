@@ -1,4 +1,4 @@
-use Rattle.std.proofs.Common.{◌+◌, ◌&&◌, ◌∷◌, ◌++◌, [], ℕ, List, Option, map, take, drop, get_or, is_some, ap, sym}
+use Rattle.hash_sums.proofs.Common.{◌+◌, ◌&&◌, ◌∷◌, ◌++◌, [], ℕ, List, Option, map, take, drop, get_or, is_some, ap, sym}
 use denote.Ref.{Bor}
 use Rattle.hash_sums.specs.Summing.{IsSummed, line_told}
 use Rattle.hash_sums.proofs.ToldLemmas.{names_more, names_rest, told_next, torn_within}

@@ -1,5 +1,4 @@
-use Rattle.std.proofs.Common.{◌≡◌, ℕ, Option, List, [], take, map, is_some}
-use Rattle.std.specs.Io.Buffered.{writer_buffer, writer_contents}
+use Rattle.hash_sums.proofs.Common.{◌≡◌, ℕ, Option, List, [], take, map, is_some, writer_buffer, writer_contents}
 use Rattle.hash_sums.specs.Summing.{IsSummed, line_told}
 use Rattle.hash_sums.specs.Told.{AreTold}
 use Rattle.hash_sums.proofs.sum.sum_files.Given as goal

@@ -1,9 +1,5 @@
-use Rattle.std.proofs.Common.{◌≡◌, ◌+◌, ◌-◌, ◌*◌, ◌/◌, ◌%◌, ◌≤◌, ◌∷◌, [], ◌++◌, inl, inr, length, length-drop, length-take-le, take, drop, fold, ap, sym, ◌∙◌, arith}
+use Rattle.hash_sums.proofs.Common.{◌≡◌, ◌+◌, ◌-◌, ◌*◌, ◌/◌, ◌%◌, ◌≤◌, ◌∷◌, [], ◌++◌, inl, inr, length, length-drop, length-take-le, take, drop, fold, ap, sym, ◌∙◌, arith, take-add, div-add-mod', cases_lt, fold-append}
 use Rattle.std.proofs.Math.Nat.{add-mod_right}
-use Rattle.std.proofs.Math.Seq.{take-add}
-use Rattle.std.proofs.lemmas.Bool.{cases_lt}
-use Rattle.std.proofs.lemmas.List.Sums.{fold-append}
-use Rattle.std.proofs.lemmas.Nat.{div-add-mod'}
 use Rattle.hashers.specs.Reading.{cut}
 use Rattle.hashers.proofs.ReadingLemmas.{cut_more}
 use Rattle.hash_sums.proofs.sums.in_pieces.Goals as goal

@@ -1,4 +1,4 @@
-use Rattle.std.proofs.Common.{length, take, fold, ◌-◌, ◌≡◌, ◌%◌, ◌≤◌, ◌⊎◌}
+use Rattle.hash_sums.proofs.Common.{length, take, fold, ◌-◌, ◌≡◌, ◌%◌, ◌≤◌, ◌⊎◌}
 use Rattle.hashers.specs.Reading.{cut}
 use Rattle.hash_sums.proofs.sums.in_pieces.Given as goal
 

@@ -1,5 +1,5 @@
-use Rattle.std.proofs.Common.{◌≡◌, drop}
-use Rattle.std.specs.List.{find}
+use Rattle.hash_sums.proofs.Common.{◌≡◌, drop}
+use Rattle.std.proofs.Common.{find}
 use Rattle.hash_sums.specs.Sums.{is_named}
 use Rattle.hash_sums.proofs.sums.kind_named.Given as goal
 

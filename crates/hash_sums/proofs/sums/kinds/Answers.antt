@@ -1,8 +1,7 @@
-use Rattle.std.proofs.Common.{◌≡◌, arith, ◌∷◌, ◌++◌, [], List, Vec, map, ap, ap₂, ◌∙◌, sym}
-use Rattle.std.proofs.lemmas.List.{append_assoc, map-append, append-nil}
-use Rattle.hash_lines.specs.declared.line.LineKind.{LineKind}
+use Rattle.hash_sums.proofs.Common.{◌≡◌, arith, ◌∷◌, ◌++◌, [], List, Vec, map, ap, ap₂, ◌∙◌, sym, map-append, LineKind, range_with_len}
+use Rattle.std.proofs.lemmas.List.{append_assoc, append-nil}
 use Rattle.std.proofs.lemmas.List.FromFn.{map-range_with_len_more}
-use Rattle.std.specs.List.{range_with_len}
+use Rattle.hash_sums.specs.declared.sums.TheConstants.{UNKEYED}
 use Rattle.hash_sums.specs.Sums.{kinds, told_at, told_of, Told}
 use Rattle.hash_sums.proofs.sums.kinds.Goals as goal
 use Rattle.hash_sums.proofs.sums.kinds.Goals.{in-Some+in_ok-push-2+in_ok-push-3, in_default}
@@ -26,7 +25,7 @@ loop-which-preserved c =
 
 pub returns : goal.returns
 returns c =
-    let whole : c.loop-which.which ≡ 28 = omega (arith, c.loop-which.auto.which-end, c.loop-which-test.false) in
+    let whole : c.loop-which.which ≡ UNKEYED = omega (arith, c.loop-which.auto.which-end, c.loop-which-test.false) in
     let rows = c.loop-which.invariant ∙ ap (λ n. map (told_at (0, 0)) (range_with_len 0 n)) whole in
     elim c.match-keys.branch [
       | in-Some+in_ok-push-2+in_ok-push-3 w ↦
@@ -36,6 +35,6 @@ returns c =
           ∙ ap kinds (sym w.in-Some.is)
       | in_default w ↦
           ap (λ (t : Vec _ _). map told_of t.items) w.told-is ∙ rows
-          ∙ sym (append-nil (map (told_at (0, 0)) (range_with_len 0 28)))
+          ∙ sym (append-nil (map (told_at (0, 0)) (range_with_len 0 UNKEYED)))
           ∙ ap kinds (sym w.in_default.is)
     ]

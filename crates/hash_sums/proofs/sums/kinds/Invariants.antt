@@ -1,5 +1,4 @@
-use Rattle.std.proofs.Common.{◌≡◌, map}
-use Rattle.std.specs.List.{range_with_len}
+use Rattle.hash_sums.proofs.Common.{◌≡◌, map, range_with_len}
 use Rattle.hash_sums.specs.Sums.{told_at, told_of}
 use Rattle.hash_sums.proofs.sums.kinds.Given as goal
 

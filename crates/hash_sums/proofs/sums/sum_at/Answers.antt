@@ -1,4 +1,4 @@
-use Rattle.std.proofs.Common.{◌≡◌, ℕ, Option, Some, None, sym, refl, ap, length, slice_get, unwrap_or}
+use Rattle.hash_sums.proofs.Common.{◌≡◌, ℕ, Option, Some, None, sym, refl, ap, length, slice_get, unwrap_or}
 use Rattle.std.proofs.lemmas.Option.{slice_get_read, slice_get_past}
 use Rattle.hash_sums.specs.Sums.{sum_at}
 use Rattle.hash_sums.specs.declared.sums.Sum.{Sum}

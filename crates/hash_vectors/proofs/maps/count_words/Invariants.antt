@@ -1,8 +1,5 @@
-use Rattle.std.proofs.Common.{◌≡◌, ℕ, List, take}
-use Rattle.std.specs.Prelude.{unwrap_or}
+use Rattle.std.proofs.Common.{◌≡◌, ℕ, List, take, unwrap_or, count_by, bytes_eq}
 use Rattle.std.specs.HashMap as map
-use Rattle.std.specs.List.{count_by}
-use Rattle.std.specs.Str.{bytes_eq}
 use Rattle.hash_vectors.proofs.maps.count_words.Given as goal
 
 abbrev pub invariant-loop-word : goal.invariant-loop-word

@@ -1,5 +1,4 @@
-use Rattle.std.proofs.lemmas.Bool.{OnTrue_from}
-use Rattle.hash_laws.proofs.TextLemmas.{IsText-from_slice}
+use Rattle.hash_windows.proofs.Common.{OnTrue_from, IsText-from_slice}
 use Rattle.hash_windows.proofs.ChangedByte.{answers_differ}
 use Rattle.hash_windows.proofs.changed_byte.apart_by_one.Goals as goal
 

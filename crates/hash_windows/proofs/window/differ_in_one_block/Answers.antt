@@ -1,5 +1,4 @@
-use Rattle.std.proofs.Common.{◌+◌, ◌-◌, ◌%◌, arith}
-use Rattle.std.proofs.lemmas.Bool.Decides.{nat_tests}
+use Rattle.hash_windows.proofs.Common.{◌+◌, ◌-◌, ◌%◌, arith, nat_tests}
 use Rattle.hash_windows.proofs.OneBlock.{DifferInOneBlock-iff-agree, agree_past}
 use Rattle.hash_windows.proofs.window.differ_in_one_block.Goals as goal
 

@@ -1,4 +1,4 @@
-use Rattle.std.proofs.Common.{refl}
+use Rattle.hash_windows.proofs.Common.{refl}
 use Rattle.hash_windows.proofs.window.is_window.Goals as goal
 use Rattle.hash_windows.proofs.WindowTest.{DifferWithin-iff-eq}
 

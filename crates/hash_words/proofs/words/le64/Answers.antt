@@ -1,4 +1,4 @@
-use Rattle.std.proofs.Common.{◌∙◌}
+use Rattle.hash_words.proofs.Common.{◌∙◌}
 use Rattle.hash_words.proofs.WordLemmas.{from_le_bytes-8}
 use Rattle.hash_words.proofs.words.le64.Goals as goal
 

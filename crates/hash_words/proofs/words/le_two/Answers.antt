@@ -1,5 +1,4 @@
-use Rattle.std.proofs.Common.{ℕ, ◌/◌, ◌%◌, ◌^◌, ◌∙◌, ap}
-use Rattle.std.proofs.lemmas.List.Elements.{All-from_get_or}
+use Rattle.hash_words.proofs.Common.{ℕ, ◌/◌, ◌%◌, ◌^◌, ◌∙◌, ap, All-from_get_or}
 use Rattle.hash_words.proofs.ByteLemmas.{le-two}
 use Rattle.hash_words.proofs.PieceLemmas.{IsByte}
 use Rattle.hash_words.proofs.WordLemmas.{from_le_bytes-16}

@@ -1,5 +1,4 @@
-use Rattle.std.proofs.Common.{◌≡◌, map, take, length}
-use Rattle.hash_words.specs.Words.{le}
+use Rattle.hash_words.proofs.Common.{◌≡◌, map, take, length, le}
 use Rattle.hash_words.proofs.words.le_words.Given as goal
 
 abbrev pub invariant-loop-i : goal.invariant-loop-i

@@ -1,4 +1,4 @@
-use Rattle.std.proofs.Common.{◌∙◌, arith}
+use Rattle.hash_words.proofs.Common.{◌∙◌, arith}
 use Rattle.hash_words.proofs.WordLemmas.{rotate_left-32, rotl-rotl}
 use Rattle.hash_words.proofs.words.rotl32.Goals as goal
 

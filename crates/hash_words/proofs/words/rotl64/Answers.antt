@@ -1,4 +1,4 @@
-use Rattle.std.proofs.Common.{◌∙◌, arith}
+use Rattle.hash_words.proofs.Common.{◌∙◌, arith}
 use Rattle.hash_words.proofs.WordLemmas.{rotate_left-64, rotl-rotl}
 use Rattle.hash_words.proofs.words.rotl64.Goals as goal
 

@@ -1,4 +1,4 @@
-use Rattle.std.proofs.Common.{◌∙◌, sym}
+use Rattle.hash_words.proofs.Common.{◌∙◌, sym}
 use Rattle.hash_words.proofs.WordLemmas.{swap_halves-is}
 use Rattle.hash_words.proofs.words.swap_halves.Goals as goal
 

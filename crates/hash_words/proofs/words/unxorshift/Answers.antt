@@ -1,5 +1,6 @@
-use Rattle.std.proofs.Common.{◌∙◌, sym, arith}
-use Rattle.hash_words.proofs.XorshiftLemmas.{xorshift-more, xorshift-past, same_from_xorshift}
+use Rattle.hash_words.proofs.Common.{◌∙◌, sym, arith}
+use Rattle.hash_words.proofs.XorshiftLemmas.{xorshift-more, xorshift-past}
+use Rattle.hash_words.proofs.UndoLemmas.{told, shifted_by}
 use Rattle.hash_words.proofs.words.unxorshift.Goals as goal
 
 pub loop-shift-preserved : goal.loop-shift-preserved
@@ -13,6 +14,5 @@ returns-clause-solves c =
     l.invariant.0 ∙ xorshift-past 64 c.args.x l.shift c.ranges.x.fits c.loop-shift-test.false
 
 pub returns-clause-alone : goal.returns-clause-alone
-returns-clause-alone c =
-    let l = c.loop-shift in
-    λ y y_in same. same_from_xorshift y l.y c.args.k y_in l.auto.y-fits.fits c.requires.some (same ∙ sym (returns-clause-solves c))
+returns-clause-alone c = λ y y_in same.
+    told (shifted_by 6 64 c.args.k (omega arith)) y c.loop-shift.y y_in c.loop-shift.auto.y-fits.fits (same ∙ sym (returns-clause-solves c))

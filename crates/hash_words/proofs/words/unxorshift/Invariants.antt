@@ -1,5 +1,4 @@
-use Rattle.std.proofs.Common.{◌≡◌, ◌<◌, ◌-◌}
-use Rattle.hash_words.specs.Words.{xorshift}
+use Rattle.hash_words.proofs.Common.{◌≡◌, ◌<◌, ◌-◌, xorshift}
 use Rattle.hash_words.proofs.words.unxorshift.Given as goal
 
 -- the shifts so far undo a shift by k down to one by `shift`

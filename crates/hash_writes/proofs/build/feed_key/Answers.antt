@@ -1,4 +1,4 @@
-use Rattle.std.proofs.Common.{◌∙◌, ap, refl}
+use Rattle.hash_writes.proofs.Common.{◌∙◌, ap, refl}
 use Rattle.hash_writes.proofs.KeyLemmas.{fold-concat, state_after_writes}
 use Rattle.hash_writes.proofs.build.feed_key.Goals as goal
 

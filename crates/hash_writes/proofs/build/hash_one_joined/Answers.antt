@@ -1,4 +1,4 @@
-use Rattle.std.proofs.Common.{◌∙◌, ap, sym}
+use Rattle.hash_writes.proofs.Common.{◌∙◌, ap, sym}
 use Rattle.hash_writes.proofs.KeyLemmas.{fold-concat}
 use Rattle.hash_writes.proofs.build.hash_one_joined.Goals as goal
 

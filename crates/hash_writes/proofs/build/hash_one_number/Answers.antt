@@ -1,4 +1,4 @@
-use Rattle.std.proofs.Common.{◌∙◌, sym}
+use Rattle.hash_writes.proofs.Common.{◌∙◌, sym}
 use Rattle.hash_writes.proofs.build.hash_one_number.Goals as goal
 
 pub returns : goal.returns

@@ -1,4 +1,4 @@
-use Rattle.std.proofs.Common.{◌∙◌, ap}
+use Rattle.hash_writes.proofs.Common.{◌∙◌, ap}
 use Rattle.hash_writes.proofs.KeyLemmas.{two_writes, two_texts}
 use Rattle.hash_writes.proofs.build.hash_one_pair.Goals as goal
 

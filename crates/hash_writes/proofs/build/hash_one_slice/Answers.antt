@@ -1,5 +1,4 @@
-use Rattle.std.proofs.Common.{◌∙◌, ap}
-use Rattle.hash_laws.proofs.TextLemmas.{IsText-from_slice}
+use Rattle.hash_writes.proofs.Common.{◌∙◌, ap, IsText-from_slice}
 use Rattle.hash_writes.proofs.KeyLemmas.{slice_writes, slice_texts}
 use Rattle.hash_writes.proofs.build.hash_one_slice.Goals as goal
 

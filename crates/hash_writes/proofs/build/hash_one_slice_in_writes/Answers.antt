@@ -1,4 +1,4 @@
-use Rattle.std.proofs.Common.{◌∙◌, ap}
+use Rattle.hash_writes.proofs.Common.{◌∙◌, ap}
 use Rattle.hash_writes.proofs.KeyLemmas.{fold-byte_writes}
 use Rattle.hash_writes.proofs.build.hash_one_slice_in_writes.Goals as goal
 

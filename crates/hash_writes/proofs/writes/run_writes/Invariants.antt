@@ -1,5 +1,4 @@
-use Rattle.std.proofs.Common.{◌≡◌, drop, fold}
-use Rattle.hash_writes.specs.Writes.{all_written}
+use Rattle.hash_writes.proofs.Common.{◌≡◌, drop, fold, all_written}
 use Rattle.hash_writes.proofs.writes.run_writes.Given as goal
 
 abbrev pub invariant-loop-write : goal.invariant-loop-write

@@ -1,8 +1,5 @@
-use Rattle.std.proofs.Common.{ℕ, ◌<◌, [], sym, List, Bor}
-use Rattle.std.proofs.lemmas.List.Elements.{All-append}
-use Rattle.hash_writes.specs.Writes.{written}
+use Rattle.hash_writes.proofs.Common.{ℕ, ◌≡◌, ◌<◌, [], ◌++◌, sym, subst, List, Bor, take_all, All-append, IsText, written, joined_written, joined_more}
 use Rattle.hash_writes.specs.declared.writes.HasherWrite.TheVariants.{Bytes}
-use Rattle.hash_laws.proofs.TextLemmas.{joined_more}
 use Rattle.hash_writes.proofs.writes.run_writes_streamed.Goals as goal
 
 -- the write extends the text so far
@@ -19,3 +16,17 @@ loop-write-preserved g c =
       one = λ known. rw (made.state, before.one known, more []) (sym (laws.after_joined _ _ _ known before.text made.text));
       text = rw (more []) (All-append (λ byte. byte < 256) _ _ before.text made.text);
     }
+
+-- at the end the writes so far are all
+pub returns-clause-state : goal.returns-clause-state
+returns-clause-state g c = λ known. rw (take_all _ _ c.loop-write-test.false) at (c.loop-write.invariant.one known)
+
+pub returns-clause-stands : goal.returns-clause-stands
+returns-clause-stands g c = λ from text stood. rw (take_all _ _ c.loop-write-test.false) at (c.loop-write.invariant.stands from text stood)
+
+pub returns-clause-answers : goal.returns-clause-answers
+returns-clause-answers g c = λ from text stood.
+    g.met.H.Streamed.stands_answers c.loop-write.h from _ (returns-clause-stands g c from text stood)
+
+pub returns-clause-text : goal.returns-clause-text
+returns-clause-text g c = rw (take_all _ _ c.loop-write-test.false) at c.loop-write.invariant.text

@@ -1,6 +1,4 @@
-use Rattle.std.proofs.Common.{ℕ, ◌≡◌, List, ◌++◌, take}
-use Rattle.hash_laws.specs.Text.{IsText}
-use Rattle.hash_writes.specs.Writes.{joined_written}
+use Rattle.hash_writes.proofs.Common.{ℕ, ◌≡◌, List, ◌++◌, take, IsText, joined_written}
 use Rattle.hash_writes.proofs.writes.run_writes_streamed.Given as goal
 
 -- the writes so far count as one

@@ -1,7 +1,4 @@
-use Rattle.std.proofs.Common.{◌≡◌}
-use Rattle.std.specs.Iterator.Adapters.{rev_source}
-use Rattle.std.specs.Slice.Iter.{iter_rest}
-use Rattle.hash_writes.specs.Writes.{written}
+use Rattle.hash_writes.proofs.Common.{◌≡◌, rev_source, iter_rest, written}
 use Rattle.hash_writes.proofs.WriteLemmas.{none_taken, one_more_taken, all_taken}
 use Rattle.hash_writes.proofs.writes.unrun_writes.Goals as goal
 

@@ -1,6 +1,4 @@
-use Rattle.std.specs.Iterator.Adapters.{rev_source}
-use Rattle.std.specs.Slice.Iter.{iter_rest}
-use Rattle.hash_writes.specs.Writes.{written}
+use Rattle.hash_writes.proofs.Common.{rev_source, iter_rest, written}
 use Rattle.hash_writes.proofs.WriteLemmas.{TakenBack}
 use Rattle.hash_writes.proofs.writes.unrun_writes.Given as goal
 

@@ -1,12 +1,4 @@
-use Rattle.std.proofs.Common.{◌≡◌, ◌+◌, ◌-◌, ◌*◌, ◌/◌, ◌++◌, ℕ, List, length, take, drop, ap, ◌∙◌, refl, arith, length-drop}
-use Rattle.std.proofs.Math.Path.{ap₂}
-use Rattle.std.proofs.lemmas.List.{append_assoc, length-take-le, take-append-drop}
-use Rattle.hash_xxh3.specs.declared.long.Lanes.{Lanes}
-use Rattle.hash_xxh3.specs.Long.{stripes_in}
-use Rattle.hash_xxh3.specs.Streaming.{Long, advanced}
-use Rattle.hash_xxh3.specs.StreamingLaws.{advanced_none}
-use Rattle.hash_xxh3.specs.StripeLaws.{stripes_in-take}
-use Rattle.hash_words.proofs.PutLemmas.{take-put_at, length-put_at}
+use Rattle.hash_xxh3.proofs.Common.{◌≡◌, ◌+◌, ◌-◌, ◌*◌, ◌/◌, ◌++◌, ℕ, List, length, take, drop, ap, ◌∙◌, refl, arith, ap₂, append_assoc, Lanes, stripes_in, Long, advanced, advanced_none, stripes_in-take, take-put_at, length-put_at, length-drop, length-take-le, take-append-drop}
 use Rattle.hash_xxh3.proofs.AdvanceLemmas.{through}
 use Rattle.hash_xxh3.proofs.advance.advance_through.Goals as goal
 

@@ -1,11 +1,4 @@
-use Rattle.std.proofs.Common.{◌≡◌, ◌+◌, ◌/◌, ◌++◌, ◌^◌, ◌%◌, nat_lt, false, ℕ, List, length, take, ◌∙◌, refl, ap, arith, length-append}
-use Rattle.std.proofs.Math.Path.{ap₂}
-use Rattle.std.proofs.lemmas.Bool.Decides.{nat_tests}
-use Rattle.std.proofs.lemmas.List.{append_assoc, take-append-drop, length-take-le}
-use Rattle.hash_words.proofs.PutLemmas.{take-put_at, length-put_at}
-use Rattle.hash_xxh3.specs.declared.long.Lanes.{Lanes}
-use Rattle.hash_xxh3.specs.Long.{start_lanes, stripes_in}
-use Rattle.hash_xxh3.specs.Streaming.{advanced}
+use Rattle.hash_xxh3.proofs.Common.{◌≡◌, ◌+◌, ◌/◌, ◌++◌, ◌^◌, ◌%◌, nat_lt, false, ℕ, List, length, take, ◌∙◌, refl, ap, arith, length-append, ap₂, append_assoc, nat_tests, take-put_at, length-put_at, Lanes, start_lanes, stripes_in, advanced, take-append-drop, length-take-le}
 use Rattle.hash_xxh3.proofs.AdvanceLemmas.{begun}
 use Rattle.hash_xxh3.proofs.advance.begin_through.Goals as goal
 

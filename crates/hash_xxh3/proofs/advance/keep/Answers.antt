@@ -1,7 +1,4 @@
-use Rattle.std.proofs.Common.{◌≡◌, ◌+◌, ◌-◌, ◌*◌, ◌/◌, ◌≤◌, ◌++◌, ℕ, List, length, take, drop, ap, ◌∙◌, refl, arith, length-drop}
-use Rattle.std.proofs.lemmas.List.{take_all}
-use Rattle.hash_words.specs.Put.{put_at}
-use Rattle.hash_words.proofs.PutLemmas.{take-put_two, take-put_at}
+use Rattle.hash_xxh3.proofs.Common.{◌≡◌, ◌+◌, ◌-◌, ◌*◌, ◌/◌, ◌≤◌, ◌++◌, ℕ, List, length, take, drop, ap, ◌∙◌, refl, arith, put_at, take-put_two, take-put_at, length-drop, take_all}
 use Rattle.hash_xxh3.proofs.AdvanceLemmas.{kept_behind}
 use Rattle.hash_xxh3.proofs.advance.keep.Goals as goal
 

@@ -1,5 +1,4 @@
-use Rattle.std.proofs.Common.{◌+◌, length, take, ap, ◌∙◌, refl, arith}
-use Rattle.hash_words.proofs.PutLemmas.{take-put_at}
+use Rattle.hash_xxh3.proofs.Common.{◌+◌, length, take, ap, ◌∙◌, refl, arith, take-put_at}
 use Rattle.hash_xxh3.proofs.advance.keep_all.Goals as goal
 
 pub returns-clause-kept : goal.returns-clause-kept

@@ -1,6 +1,4 @@
-use Rattle.std.proofs.Common.{ap, ◌∙◌, ◌-◌, ◌*◌, ◌/◌, length, refl, arith}
-use Rattle.hash_xxh3.specs.Long.{start_lanes, last_words}
-use Rattle.hash_xxh3.specs.StripeLaws.{stripes_in-take}
+use Rattle.hash_xxh3.proofs.Common.{ap, ◌∙◌, ◌-◌, ◌*◌, ◌/◌, length, refl, arith, start_lanes, last_words, stripes_in-take}
 use Rattle.hash_xxh3.proofs.long.end_words.Goals as goal
 
 pub returns : goal.returns

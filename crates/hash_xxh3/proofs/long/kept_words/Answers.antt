@@ -1,8 +1,4 @@
-use Rattle.std.proofs.Common.{◌≡◌, ◌-◌, ◌*◌, ◌/◌, ℕ, List, length, drop, ap, ◌∙◌, refl, arith, length-drop}
-use Rattle.std.proofs.Math.Path.{ap₂}
-use Rattle.hash_xxh3.specs.declared.long.Lanes.{Lanes}
-use Rattle.hash_xxh3.specs.Long.{stripes_in, last_words}
-use Rattle.hash_xxh3.specs.StripeLaws.{stripes_in-take}
+use Rattle.hash_xxh3.proofs.Common.{◌≡◌, ◌-◌, ◌*◌, ◌/◌, ℕ, List, length, drop, ap, ◌∙◌, refl, arith, ap₂, Lanes, stripes_in, last_words, stripes_in-take, length-drop}
 use Rattle.hash_xxh3.proofs.long.kept_words.Goals as goal
 
 pub returns : goal.returns

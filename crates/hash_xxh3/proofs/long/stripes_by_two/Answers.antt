@@ -1,9 +1,4 @@
-use Rattle.std.proofs.Common.{◌/◌, ◌∙◌, ℕ, List, length, fold, ap}
-use Rattle.std.specs.Simd.{first_chunks}
-use Rattle.std.proofs.lemmas.List.{take_all}
-use Rattle.hash_xxh3.specs.declared.long.Lanes.{Lanes}
-use Rattle.hash_xxh3.specs.Long.{start_lanes, stripes_in}
-use Rattle.hash_xxh3.specs.StripeLaws.{pair_in, stripes-by_two-and_last}
+use Rattle.hash_xxh3.proofs.Common.{◌/◌, ◌∙◌, ℕ, List, length, fold, ap, first_chunks, Lanes, start_lanes, stripes_in, pair_in, stripes-by_two-and_last, take_all}
 use Rattle.hash_xxh3.proofs.long.stripes_by_two.Goals as goal
 
 pub returns : goal.returns

@@ -1,5 +1,4 @@
-use Rattle.std.proofs.Common.{◌≡◌, ◌<◌, ◌%◌, take, fold}
-use Rattle.hash_xxh3.specs.StripeLaws.{pair_in}
+use Rattle.hash_xxh3.proofs.Common.{◌≡◌, ◌<◌, ◌%◌, take, fold, pair_in}
 use Rattle.hash_xxh3.proofs.long.stripes_by_two.Given as goal
 
 abbrev pub invariant-loop-pair : goal.invariant-loop-pair

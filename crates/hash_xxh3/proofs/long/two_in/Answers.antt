@@ -1,5 +1,4 @@
-use Rattle.std.proofs.Common.{◌≡◌, ◌%◌, sym, arith}
-use Rattle.hash_xxh3.specs.StripeLaws.{two-inside, two-at_end}
+use Rattle.hash_xxh3.proofs.Common.{◌≡◌, ◌%◌, sym, arith, two-inside, two-at_end}
 use Rattle.hash_xxh3.proofs.long.two_in.Goals as goal
 
 pub returns-then-lanes-lt14-clause-value : goal.returns-then-lanes-lt14-clause-value

@@ -1,6 +1,4 @@
-use Rattle.std.proofs.Common.{◌≡◌, ◌*◌, fold, length}
-use Rattle.std.specs.List.{range_with_len}
-use Rattle.hash_xxh3.specs.Middle.{length_word, add_nth}
+use Rattle.hash_xxh3.proofs.Common.{◌≡◌, ◌*◌, fold, length, range_with_len, length_word, add_nth}
 use Rattle.hash_xxh3.proofs.middle.first_pieces.Given as goal
 
 abbrev pub invariant-loop-i : goal.invariant-loop-i

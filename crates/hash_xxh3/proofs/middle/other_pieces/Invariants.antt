@@ -1,6 +1,4 @@
-use Rattle.std.proofs.Common.{◌≡◌, ◌*◌, ◌-◌, fold}
-use Rattle.std.specs.List.{range_with_len}
-use Rattle.hash_xxh3.specs.Middle.{add_nth}
+use Rattle.hash_xxh3.proofs.Common.{◌≡◌, ◌*◌, ◌-◌, fold, range_with_len, add_nth}
 use Rattle.hash_xxh3.proofs.middle.other_pieces.Given as goal
 
 abbrev pub invariant-loop-i : goal.invariant-loop-i

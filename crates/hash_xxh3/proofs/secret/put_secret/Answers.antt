@@ -1,12 +1,5 @@
-use Rattle.std.proofs.Common.{◌≡◌, ℕ, List, ap, ◌∙◌, ◌+◌, ◌*◌, ◌++◌, sym, take, length, arith, w64}
-use Rattle.std.proofs.Math.Path.{ap₂}
+use Rattle.hash_xxh3.proofs.Common.{◌≡◌, ℕ, List, ap, ◌∙◌, ◌+◌, ◌*◌, ◌++◌, sym, take, length, arith, w64, ap₂, range_with_len, flat_map, add, sub, put_at, secret_piece, secret_of, take-put_two, length-put_at, take_all}
 use Rattle.std.specs.Int.{to_le_bytes}
-use Rattle.std.specs.List.{range_with_len, flat_map}
-use Rattle.std.proofs.lemmas.List.{take_all}
-use Rattle.hash_words.specs.Words.{add, sub}
-use Rattle.hash_words.specs.Put.{put_at}
-use Rattle.hash_xxh3.specs.Long.{secret_piece, secret_of}
-use Rattle.hash_words.proofs.PutLemmas.{take-put_two, length-put_at}
 use Rattle.hash_xxh3.proofs.RangeLemmas.{flat_map-range_more}
 use Rattle.hash_xxh3.proofs.secret.put_secret.Goals as goal
 

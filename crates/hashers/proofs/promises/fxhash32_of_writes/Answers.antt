@@ -1,8 +1,4 @@
-use Rattle.std.proofs.Common.{◌∙◌, ap}
-use Rattle.std.specs.List.{flat_map}
-use Rattle.hash_writes.specs.Writes.{all_written}
-use Rattle.hash_laws.proofs.RecurrenceLemmas.{recurrence-pieces}
-use Rattle.hash_fx.specs.Fx.{fx32, fx32_step, words32}
+use Rattle.hashers.proofs.Common.{◌∙◌, ap, flat_map, all_written, recurrence-pieces, fx32, fx32_step, words32}
 use Rattle.hashers.proofs.promises.fxhash32_of_writes.Goals as goal
 
 pub returns : goal.returns

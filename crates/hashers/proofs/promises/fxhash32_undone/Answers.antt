@@ -1,7 +1,4 @@
-use Rattle.std.proofs.Common.{◌∙◌}
-use Rattle.hash_writes.specs.Writes.{all_written}
-use Rattle.hash_laws.proofs.RecurrenceLemmas.{recurrence-pieces}
-use Rattle.hash_fx.specs.Fx.{fx32_step, words32}
+use Rattle.hashers.proofs.Common.{◌∙◌, all_written, recurrence-pieces, fx32_step, words32}
 use Rattle.hashers.proofs.WordsWritten.{written_from}
 use Rattle.hashers.proofs.promises.fxhash32_undone.Goals as goal
 

@@ -1,8 +1,4 @@
-use Rattle.std.proofs.Common.{◌∙◌, ap}
-use Rattle.std.specs.List.{flat_map}
-use Rattle.hash_writes.specs.Writes.{all_written}
-use Rattle.hash_laws.proofs.RecurrenceLemmas.{recurrence-pieces}
-use Rattle.hash_fx.specs.Fx.{fx64, fx64_step, words64}
+use Rattle.hashers.proofs.Common.{◌∙◌, ap, flat_map, all_written, recurrence-pieces, fx64, fx64_step, words64}
 use Rattle.hashers.proofs.promises.fxhash64_of_writes.Goals as goal
 
 pub returns : goal.returns

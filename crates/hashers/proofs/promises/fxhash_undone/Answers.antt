@@ -1,7 +1,4 @@
-use Rattle.std.proofs.Common.{◌∙◌}
-use Rattle.hash_writes.specs.Writes.{all_written}
-use Rattle.hash_laws.proofs.RecurrenceLemmas.{recurrence-pieces}
-use Rattle.hash_fx.specs.Fx.{fx64_step, words64}
+use Rattle.hashers.proofs.Common.{◌∙◌, all_written, recurrence-pieces, fx64_step, words64}
 use Rattle.hashers.proofs.WordsWritten.{written_from}
 use Rattle.hashers.proofs.promises.fxhash_undone.Goals as goal
 

@@ -1,8 +1,5 @@
-use Rattle.std.proofs.Common.{ℕ, ◌≡◌, List, [], ◌∷◌, fold, ap, sym, ◌∙◌}
-use Rattle.hash_laws.specs.Recurrence.{recurrence}
-use Rattle.hash_laws.proofs.RecurrenceLemmas.{recurrence-fold}
+use Rattle.hashers.proofs.Common.{ℕ, ◌≡◌, List, [], ◌∷◌, fold, ap, sym, ◌∙◌, recurrence, recurrence-fold, written, all_written}
 use Rattle.hash_writes.specs.declared.writes.HasherWrite.{HasherWrite}
-use Rattle.hash_writes.specs.Writes.{written, all_written}
 use Rattle.hashers.proofs.promises.one_word_undone.Goals as goal
 
 -- a list of one write that is one word takes the state one step

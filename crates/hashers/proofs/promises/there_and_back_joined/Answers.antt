@@ -1,5 +1,4 @@
-use Rattle.std.proofs.Common.{◌∙◌, ap, sym}
-use Rattle.hash_writes.specs.Writes.{written}
+use Rattle.hashers.proofs.Common.{◌∙◌, ap, sym, written}
 use Rattle.hash_writes.proofs.WriteLemmas.{fold-joined}
 use Rattle.hashers.proofs.promises.there_and_back_joined.Goals as goal
 

@@ -1,5 +1,5 @@
 use Rattle.hashers.proofs.Collisions.{fnv1a64_apart}
-use Rattle.hash_windows.proofs.Windows.{window_tells_apart}
+use Rattle.hashers.proofs.Common.{window_tells_apart}
 use Rattle.hashers.proofs.windows.apart_fnv64.Goals as goal
 
 pub returns-clause-differ : goal.returns-clause-differ

@@ -1,5 +1,4 @@
-use Rattle.std.proofs.Common.{◌+◌, ◌-◌, ◌<◌, slice_set, ap, sym, ◌∙◌, arith, rules, drop, ◌++◌, [], ◌/◌, ◌%◌}
-use Rattle.std.specs.Fmt.{decimal}
+use Rattle.std.proofs.Common.{◌+◌, ◌-◌, ◌<◌, slice_set, ap, sym, ◌∙◌, arith, rules, drop, ◌++◌, [], ◌/◌, ◌%◌, decimal}
 use Rattle.std.proofs.lemmas.Fmt.{decimal_digit, decimal_step}
 use Rattle.hashof.proofs.Lines.{put_front, put_last, put_whole, length-decimal-step, length-decimal-digit, length-decimal-u64}
 use Rattle.hashof.proofs.line.put_line.Goals as goal

@@ -1,5 +1,4 @@
-use Rattle.std.proofs.Common.{◌≡◌, ◌≤◌, length, drop, ◌++◌}
-use Rattle.std.specs.Fmt.{decimal}
+use Rattle.std.proofs.Common.{◌≡◌, ◌≤◌, length, drop, ◌++◌, decimal}
 use Rattle.hashof.specs.Line.{line_of}
 use Rattle.hashof.proofs.line.put_line.Given as goal
 

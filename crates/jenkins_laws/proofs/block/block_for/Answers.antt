@@ -1,4 +1,4 @@
-use Rattle.std.proofs.Common.{◌≡◌, refl, arith}
+use Rattle.jenkins_laws.proofs.Common.{◌≡◌, refl, arith}
 use Rattle.jenkins_laws.proofs.Lookup3Blocks.{block_to, wanted, block-leads, block-third, block-alone}
 use Rattle.jenkins_laws.proofs.block.block_for.Goals as goal
 

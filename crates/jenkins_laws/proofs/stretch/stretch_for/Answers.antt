@@ -1,6 +1,4 @@
-use Rattle.std.proofs.Common.{refl, w64, ◌∙◌, sym, arith}
-use Rattle.hash_laws.proofs.TextLemmas.{IsText-from_slice}
-use Rattle.jenkins_laws.specs.Stretch.{missing, stretch_of}
+use Rattle.jenkins_laws.proofs.Common.{refl, w64, ◌∙◌, sym, arith, IsText-from_slice, missing, stretch_of}
 use Rattle.jenkins_laws.proofs.Sums.{bytes_of-text}
 use Rattle.jenkins_laws.proofs.ShortEven.{found, alone}
 use Rattle.jenkins_laws.proofs.stretch.stretch_for.Goals as goal

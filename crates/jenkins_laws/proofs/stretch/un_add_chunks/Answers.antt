@@ -1,4 +1,4 @@
-use Rattle.std.proofs.lemmas.Grind.{fold-append}
+use Rattle.jenkins_laws.proofs.Common.{fold-append}
 use Rattle.jenkins_laws.proofs.ShortStretches.{f}
 use Rattle.jenkins_laws.proofs.stretch.un_add_chunks.Goals as goal
 

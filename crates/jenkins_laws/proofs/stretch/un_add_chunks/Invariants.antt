@@ -1,8 +1,6 @@
-use Rattle.std.proofs.Common.{◌≡◌, List, ℕ, fold}
+use Rattle.jenkins_laws.proofs.Common.{◌≡◌, List, ℕ, fold, add_chunk, le_words, chunks_from}
 use Rattle.std.specs.Iterator.Adapters.{rev_source}
 use Rattle.std.specs.Slice.Iter.{iter_rest}
-use Rattle.hash_words.specs.Pieces.{le_words}
-use Rattle.hash_jenkins.specs.Spooky.{add_chunk, chunks_from}
 use Rattle.jenkins_laws.proofs.stretch.un_add_chunks.Given as goal
 
 -- what leads here through the chunks that are left leads to the old words through all

@@ -1,7 +1,5 @@
-use Rattle.std.proofs.Common.{[], ap, ◌∙◌}
+use Rattle.jenkins_laws.proofs.Common.{[], ap, ◌∙◌, short_end, no_data, short_end-steps, stepped-back}
 use Rattle.hash_rounds.specs.Rounds as rounds
-use Rattle.hash_rounds.specs.Spooky.{short_end}
-use Rattle.hash_rounds.proofs.RoundLemmas.{no_data, short_end-steps, stepped-back}
 use Rattle.jenkins_laws.proofs.ShortStretches.{length-back}
 use Rattle.jenkins_laws.proofs.stretch.un_end.Goals as goal
 

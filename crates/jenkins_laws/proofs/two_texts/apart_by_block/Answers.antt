@@ -1,5 +1,4 @@
-use Rattle.std.proofs.lemmas.Bool.{OnTrue_from}
-use Rattle.hash_laws.proofs.TextLemmas.{IsText-from_slice}
+use Rattle.jenkins_laws.proofs.Common.{OnTrue_from, IsText-from_slice}
 use Rattle.jenkins_laws.specs.Mixing.{HaveOtherThree}
 use Rattle.jenkins_laws.proofs.Lookup3Blocks.{lookup3_words-differ}
 use Rattle.jenkins_laws.proofs.two_texts.apart_by_block.Goals as goal

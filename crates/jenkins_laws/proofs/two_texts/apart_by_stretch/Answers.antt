@@ -1,6 +1,4 @@
-use Rattle.std.proofs.lemmas.Bool.{OnTrue_from}
-use Rattle.hash_laws.proofs.TextLemmas.{IsText-from_slice}
-use Rattle.jenkins_laws.specs.Zeros.{HaveOtherWords}
+use Rattle.jenkins_laws.proofs.Common.{OnTrue_from, IsText-from_slice, HaveOtherWords}
 use Rattle.jenkins_laws.proofs.ShortStretches.{short_words-differ}
 use Rattle.jenkins_laws.proofs.two_texts.apart_by_stretch.Goals as goal
 

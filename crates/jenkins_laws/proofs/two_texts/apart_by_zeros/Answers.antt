@@ -1,5 +1,4 @@
-use Rattle.std.proofs.Common.{arith}
-use Rattle.std.proofs.lemmas.Bool.{OnTrue_from}
+use Rattle.jenkins_laws.proofs.Common.{arith, OnTrue_from}
 use Rattle.jenkins_laws.proofs.Zeros.{other_words}
 use Rattle.jenkins_laws.proofs.two_texts.apart_by_zeros.Goals as goal
 

@@ -1,9 +1,5 @@
-use Rattle.std.proofs.Common.{◌≡◌, arith}
-use Rattle.hash_words.specs.Words.{le, rotl}
-use Rattle.hash_words.specs.Pieces.{pieces}
+use Rattle.jenkins_laws.proofs.Common.{◌≡◌, arith, le, rotl, pieces, apply, last_block}
 use Rattle.hash_rounds.specs.Rounds.{lookup3_final_steps}
-use Rattle.hash_rounds.specs.Steps.{apply}
-use Rattle.hash_jenkins.specs.Lookup3.{last_block}
 use Rattle.jenkins_laws.proofs.two_texts.cuts_show_in_lookup3.Goals as goal
 
 pub returns : goal.returns

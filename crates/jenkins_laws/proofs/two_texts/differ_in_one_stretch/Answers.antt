@@ -1,5 +1,4 @@
-use Rattle.std.proofs.Common.{◌+◌, ◌*◌, ◌/◌, arith}
-use Rattle.hash_windows.proofs.OneGroup.{DifferInOne-iff-agree}
+use Rattle.jenkins_laws.proofs.Common.{◌+◌, ◌*◌, ◌/◌, arith, DifferInOne-iff-agree}
 use Rattle.jenkins_laws.proofs.two_texts.differ_in_one_stretch.Goals as goal
 
 pub returns-in-Some : goal.returns-in-Some

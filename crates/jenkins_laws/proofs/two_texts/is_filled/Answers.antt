@@ -1,5 +1,4 @@
-use Rattle.std.proofs.Common.{length, take}
-use Rattle.std.proofs.lemmas.Bool.Decides.{Decides-eqb}
+use Rattle.jenkins_laws.proofs.Common.{length, take, Decides-eqb}
 use Rattle.std.proofs.lemmas.Slice.Eq.{slice_eq-Decides}
 use Rattle.jenkins_laws.proofs.FilledLemmas.{take-zero_filled}
 use Rattle.jenkins_laws.proofs.two_texts.is_filled.Goals as goal

@@ -1,5 +1,4 @@
-use Rattle.std.proofs.Common.{◌+◌, ◌/◌, arith}
-use Rattle.hash_windows.proofs.OneGroup.{middles-DifferInOne}
+use Rattle.jenkins_laws.proofs.Common.{◌+◌, ◌/◌, arith, middles-DifferInOne}
 use Rattle.jenkins_laws.proofs.two_texts.middles_in_one_group.Goals as goal
 
 pub returns-clause-block : goal.returns-clause-block

@@ -1,4 +1,4 @@
-use Rattle.std.proofs.Common.{sym}
+use Rattle.jenkins_laws.proofs.Common.{sym}
 use Rattle.hash_jenkins.specs.SpookyLaws.{after-position}
 use Rattle.jenkins_laws.proofs.two_texts.position_of_joined_texts.Goals as goal
 

@@ -1,6 +1,4 @@
-use Rattle.hash_laws.proofs.TextLemmas.{rest_more}
-use Rattle.hash_jenkins.specs.Lookup3.{lookup3_from}
-use Rattle.hash_jenkins.proofs.Lookup3Lemmas.{lookup3_alike}
+use Rattle.jenkins_laws.proofs.Common.{rest_more, lookup3_from, lookup3_alike}
 use Rattle.jenkins_laws.proofs.two_texts.same_answers_later.Goals as goal
 
 -- a piece fed to both keeps their answers alike

@@ -1,6 +1,4 @@
-use Rattle.std.proofs.Common.{◌≡◌, drop, fold}
-use Rattle.hash_laws.specs.Text.{texts}
-use Rattle.hash_jenkins.specs.Lookup3.{lookup3_from, lookup3_answer}
+use Rattle.jenkins_laws.proofs.Common.{◌≡◌, drop, fold, texts, lookup3_from, lookup3_answer}
 use Rattle.jenkins_laws.proofs.two_texts.same_answers_later.Given as goal
 
 abbrev pub invariant-loop-piece : goal.invariant-loop-piece

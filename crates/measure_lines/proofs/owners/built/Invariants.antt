@@ -1,5 +1,4 @@
-use Rattle.std.proofs.Common.{◌≤◌}
-use Rattle.std.specs.List.{All}
+use Rattle.std.proofs.Common.{◌≤◌, All}
 use Rattle.hash_ring.specs.declared.Node.{Node}
 use Rattle.measure_lines.proofs.owners.built.Given as goal
 

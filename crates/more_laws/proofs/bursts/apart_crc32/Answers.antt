@@ -1,6 +1,4 @@
-use Rattle.std.proofs.Common.{refl}
-use Rattle.hash_crc.specs.Crc32.{ieee}
-use Rattle.hash_windows.proofs.Windows.{window_tells_apart}
+use Rattle.more_laws.proofs.Common.{refl, ieee, window_tells_apart}
 use Rattle.more_laws.proofs.Crc32Bursts.{crc_apart}
 use Rattle.more_laws.proofs.bursts.apart_crc32.Goals as goal
 

@@ -1,7 +1,4 @@
-use Rattle.std.proofs.Common.{refl}
-use Rattle.std.proofs.lemmas.Bool.{OnTrue_from}
-use Rattle.hash_laws.proofs.TextLemmas.{IsText-from_slice}
-use Rattle.hash_crc.specs.Crc32.{castagnoli}
+use Rattle.more_laws.proofs.Common.{refl, OnTrue_from, IsText-from_slice, castagnoli}
 use Rattle.more_laws.proofs.Crc32Bursts.{burst_apart}
 use Rattle.more_laws.proofs.bursts.apart_crc32c_bits.Goals as goal
 

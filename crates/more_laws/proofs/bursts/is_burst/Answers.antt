@@ -1,4 +1,4 @@
-use Rattle.hash_laws.proofs.TextLemmas.{IsText-from_slice}
+use Rattle.more_laws.proofs.Common.{IsText-from_slice}
 use Rattle.more_laws.proofs.BurstLemmas.{front_told, no_burst}
 use Rattle.more_laws.proofs.bursts.is_burst.Goals as goal
 

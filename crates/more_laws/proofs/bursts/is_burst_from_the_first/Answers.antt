@@ -1,6 +1,4 @@
-use Rattle.std.proofs.Common.{refl, ◌<◌, length, get_or, arith}
-use Rattle.std.proofs.lemmas.Bool.Decides.{Decides-eqb}
-use Rattle.hash_laws.proofs.TextLemmas.{IsText-from_slice}
+use Rattle.more_laws.proofs.Common.{refl, ◌<◌, length, get_or, arith, Decides-eqb, IsText-from_slice}
 use Rattle.more_laws.proofs.BurstLemmas.{short_text, lowest_of, fifth_allows, fifth_refuses}
 use Rattle.more_laws.proofs.bursts.is_burst_from_the_first.Goals as goal
 

@@ -1,4 +1,4 @@
-use Rattle.hash_windows.proofs.Windows.{window_tells_apart}
+use Rattle.more_laws.proofs.Common.{window_tells_apart}
 use Rattle.more_laws.proofs.Djb2AddWindow.{djb2_add_apart}
 use Rattle.more_laws.proofs.windows.apart_djb2_add.Goals as goal
 

@@ -1,4 +1,4 @@
-use Rattle.hash_windows.proofs.Windows.{window_tells_apart}
+use Rattle.more_laws.proofs.Common.{window_tells_apart}
 use Rattle.more_laws.proofs.Fnv1Windows.{fnv1_32_apart}
 use Rattle.more_laws.proofs.windows.apart_fnv1_32.Goals as goal
 

@@ -1,5 +1,4 @@
-use Rattle.std.proofs.Common.{refl}
-use Rattle.hash_crc.specs.Crc32.{ieee, castagnoli}
+use Rattle.more_laws.proofs.Common.{refl, ieee, castagnoli}
 use Rattle.more_laws.proofs.Crc32Bursts.{burst_apart, crc_apart}
 use Rattle.more_laws.proofs.Djb2AddWindow.{djb2_add_apart}
 use Rattle.more_laws.proofs.Fnv1Windows.{fnv1_32_apart, fnv1_64_apart}

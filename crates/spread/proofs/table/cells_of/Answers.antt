@@ -1,5 +1,4 @@
-use Rattle.std.proofs.Common.{◌≡◌, ◌∷◌, ◌++◌, [], ap, ap₂, sym, ◌∙◌, get_or, map}
-use Rattle.std.specs.Prelude.{decimal, string_bytes}
+use Rattle.std.proofs.Common.{◌≡◌, ◌∷◌, ◌++◌, [], ap, ap₂, sym, ◌∙◌, get_or, map, decimal, string_bytes}
 use Rattle.std.proofs.lemmas.List.{map_more, map_push}
 use Rattle.spread.proofs.table.cells_of.Goals as goal
 

@@ -1,5 +1,4 @@
-use Rattle.std.proofs.Common.{◌≡◌, map, take}
-use Rattle.std.specs.Prelude.{decimal, string_bytes}
+use Rattle.std.proofs.Common.{◌≡◌, map, take, decimal, string_bytes}
 use Rattle.spread.proofs.table.cells_of.Given as goal
 
 -- the digits of the numbers so far

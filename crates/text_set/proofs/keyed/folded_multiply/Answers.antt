@@ -1,5 +1,4 @@
-use Rattle.std.proofs.Common.{refl}
-use Rattle.std.specs.Hash.FoldHasher.{folded_multiply}
+use Rattle.text_set.proofs.Common.{refl, folded_multiply}
 use Rattle.text_set.proofs.keyed.folded_multiply.Goals as goal
 
 pub returns : goal.returns

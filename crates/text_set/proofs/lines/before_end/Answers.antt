@@ -1,7 +1,6 @@
-use Rattle.std.proofs.Common.{eqb, sym, ap, ◌∙◌, arith, w8}
+use Rattle.text_set.proofs.Common.{eqb, sym, ap, ◌∙◌, arith, w8, length-chunk, bitmask_splat, leading_from_mask_l, trailing_mask_l}
 use lib.Count.{count_trailing_zeros}
 use lib.Lanes.{chunk}
-use Rattle.std.proofs.lemmas.Simd.{length-chunk, bitmask_splat, leading_from_mask_l, trailing_mask_l}
 use Rattle.text_set.proofs.lines.before_end.Goals as goal
 
 pub returns-then-ends-eq0 : goal.returns-then-ends-eq0

@@ -1,6 +1,4 @@
-use Rattle.std.proofs.Common.{ℕ, ◌+◌, ◌≤◌, ◌==◌, length, arith, inl, inr}
-use Rattle.std.proofs.lemmas.Bool.{cases_lt, eqb-false, eqb-true}
-use Rattle.std.proofs.lemmas.Simd.{run_in_chunk_fails, run_in_chunk_stops}
+use Rattle.text_set.proofs.Common.{ℕ, ◌+◌, ◌≤◌, ◌==◌, length, arith, inl, inr, cases_lt, eqb-false, eqb-true, run_in_chunk_fails, run_in_chunk_stops}
 use Rattle.text_set.proofs.lines.line_end.Goals as goal
 
 pub returns-then-before-lt16 : goal.returns-then-before-lt16

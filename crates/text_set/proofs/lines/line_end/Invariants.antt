@@ -1,4 +1,4 @@
-use Rattle.std.proofs.Common.{ℕ, ◌≢◌, ◌<◌, ◌≤◌, ◌-◌, length, get_or}
+use Rattle.text_set.proofs.Common.{ℕ, ◌≢◌, ◌≤◌, length, get_or, ◌<◌, ◌-◌}
 use Rattle.text_set.proofs.lines.line_end.Given as goal
 
 -- no byte so far is an end

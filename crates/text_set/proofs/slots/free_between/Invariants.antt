@@ -1,6 +1,4 @@
-use Rattle.std.proofs.Common.{ℕ, ◌≡◌, ◌<◌, ◌≤◌, get_or, not, false}
-use Rattle.text_set.specs.Slots.{is_taken}
-use Rattle.text_set.specs.declared.slots.TheConstants.{EMPTY}
+use Rattle.text_set.proofs.Common.{ℕ, ◌≤◌, get_or, not, false, is_taken, EMPTY, ◌≡◌, ◌<◌}
 use Rattle.text_set.proofs.slots.free_between.Given as goal
 
 -- no slot so far is free

@@ -1,6 +1,4 @@
-use Rattle.std.proofs.Common.{ℕ, ◌≡◌, ◌<◌, ◌≤◌, get_or, false}
-use Rattle.text_set.specs.Slots.{stops}
-use Rattle.text_set.specs.declared.slots.TheConstants.{EMPTY}
+use Rattle.text_set.proofs.Common.{ℕ, ◌≤◌, get_or, false, stops, EMPTY, ◌≡◌, ◌<◌}
 use Rattle.text_set.proofs.slots.stop_between.Given as goal
 
 -- the search ends at no slot so far

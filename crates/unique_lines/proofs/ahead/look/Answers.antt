@@ -1,5 +1,4 @@
-use Rattle.std.proofs.Common.{◌≡◌, take, ap, length, sym, subst, ◌∙◌, arith}
-use Rattle.std.proofs.lemmas.List.{take_more_set}
+use Rattle.unique_lines.proofs.Common.{◌≡◌, take, ap, length, sym, subst, ◌∙◌, arith, take_more_set}
 use Rattle.unique_lines.specs.Between.{AreNext}
 use Rattle.unique_lines.proofs.AheadLemmas.{behind, behind_more, behind_within, found_more}
 use Rattle.unique_lines.proofs.ahead.look.Goals as goal

@@ -1,4 +1,4 @@
-use Rattle.std.proofs.Common.{◌≡◌, take}
+use Rattle.unique_lines.proofs.Common.{◌≡◌, take}
 use Rattle.unique_lines.specs.Between.{AreNext}
 use Rattle.unique_lines.proofs.AheadLemmas.{behind}
 use Rattle.unique_lines.proofs.ahead.look.Given as goal

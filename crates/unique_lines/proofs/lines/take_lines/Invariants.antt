@@ -1,12 +1,15 @@
-use Rattle.std.proofs.Common.{ℕ, List, ◌≡◌, ◌≤◌, ◌-◌, drop, length}
+use Rattle.unique_lines.proofs.Common.{ℕ, List, ◌≡◌, ◌≤◌, ◌-◌, drop, length}
 use Rattle.unique_lines.specs.Between.{AreNext, Splits}
 use Rattle.unique_lines.specs.Taking.{At, Leads}
 use Rattle.unique_lines.proofs.lines.take_lines.Given as goal
 
--- what is left of the bytes, behind as many lines
-abbrev pub invariant-loop-count : goal.invariant-loop-count
-invariant-loop-count g l = (ls : List (List ℕ)) × Splits l.eol l.bytes ls l.rest × (length ls ≡ l.count)
+-- what is left of the bytes, behind the lines that were taken
+abbrev pub invariant-loop-found : goal.invariant-loop-found
+invariant-loop-found g l = (ls : List (List ℕ)) × Splits l.eol l.bytes ls l.rest
     × Leads (At (g.T.LineTask.output l.eol) (g.T.LineTask.taken l.eol l.initial.task) (g.W.Write.contents l.initial.w))
     (At (g.T.LineTask.output l.eol) (g.T.LineTask.taken l.eol l.task) (g.W.Write.contents l.w)) ls
-    × (l.rest ≡ drop (length l.bytes - length l.rest) l.bytes) × (length l.rest ≤ length l.bytes) × (l.count ≡ 0 → l.rest ≡ l.bytes)
+    × (l.rest ≡ drop (length l.bytes - length l.rest) l.bytes) × (length l.rest ≤ length l.bytes)
     × AreNext l.eol (g.T.LineTask.tag_of l.task) l.rest l.ahead
+
+abbrev pub decreases-loop-found : goal.decreases-loop-found
+decreases-loop-found g l = length l.rest

@@ -1,11 +1,5 @@
-use Rattle.std.proofs.Common.{ℕ, List, ◌≡◌, ◌<◌, ◌≤◌, ◌∷◌, ◌++◌, [], OnErr, length, ap, sym, subst, arith}
-use Rattle.std.specs.Io.BufRead.{strip_last}
-use Rattle.std.proofs.KnownBytes.{Appends-trans}
+use Rattle.unique_lines.proofs.Common.{ℕ, List, ◌≡◌, ◌<◌, ◌≤◌, ◌∷◌, ◌++◌, [], OnErr, length, ap, sym, subst, arith, strip_last, Appends-trans, AppendsPart, as_line_by, line_with_end, line_without_end, on_err, part_behind, part_longer}
 use Rattle.std.proofs.lemmas.Result.{on_err_weaker, on_ok_weaker}
-use Rattle.streams.specs.Streams.{AppendsPart}
-use Rattle.text_set.specs.Lines.{as_line_by}
-use Rattle.text_set.proofs.LineLemmas.{line_with_end, line_without_end}
-use Rattle.streams.proofs.StreamLemmas.{on_err, part_behind, part_longer}
 use Rattle.unique_lines.proofs.lines.write_line.Goals as goal
 
 pub returns-then-text-line-clause-err : goal.returns-then-text-line-clause-err

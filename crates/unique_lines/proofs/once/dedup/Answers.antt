@@ -1,4 +1,4 @@
-use Rattle.text_set.proofs.FirstsLemmas.{once_begins}
+use Rattle.unique_lines.proofs.Common.{once_begins}
 use Rattle.unique_lines.proofs.once.dedup.Goals as goal
 
 pub take_inputs-requires-clause-grows : goal.take_inputs-requires-clause-grows

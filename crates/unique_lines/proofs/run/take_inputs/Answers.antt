@@ -1,13 +1,13 @@
-use Rattle.std.proofs.Common.{◌<◌, true, false, map, length, sym, ◌∙◌, arith, rules}
+use Rattle.unique_lines.proofs.Common.{◌<◌, true, false, map, length, sym, ◌∙◌, arith, rules}
 use Rattle.std.proofs.Math.Bool.{and-false, and-true}
-use Rattle.unique_lines.proofs.InputLemmas.{first_within, part_at_start, part_beyond, part_within, so_far_more, so_far_start}
+use Rattle.unique_lines.proofs.InputLemmas.{part_at_start, part_within, so_far_more, so_far_start}
 use Rattle.unique_lines.proofs.run.take_inputs.Goals as goal
 use Rattle.unique_lines.proofs.run.take_inputs.Goals.{in-Done, in-Failed}
 
 pub returns-in_err-flush-clause-ended : goal.returns-in_err-flush-clause-ended
 returns-in_err-flush-clause-ended g c =
     let lefts = map g.R.Read.remaining c.args.inputs.now in
-    let part = part_at_start {eol = c.args.eol} c.args.limit (g.T.LineTask.output c.args.eol) lefts _ _ c.requires.nothing c.flush.ensures.kept in
+    let part = part_at_start {eol = c.args.eol} (g.T.LineTask.output c.args.eol) lefts _ _ c.requires.nothing c.flush.ensures.kept in
     search rules
 
 pub loop-place-init : goal.loop-place-init
@@ -22,31 +22,21 @@ returns-in_err-take_input-clause-ended g c =
     let part = part_within so_far c.index-inputs-place.result below below' c.in_err-take_input.ensures.broke in
     search rules
 
-pub returns-in-Beyond-clause-ended : goal.returns-in-Beyond-clause-ended
-returns-in-Beyond-clause-ended g c =
-    let (so_far, unread, flushed) = c.loop-place.invariant in
-    let below : c.loop-place.place < length c.args.inputs.now = omega (arith, c.loop-place-test.true) in
-    let below' : c.loop-place.place < length c.loop-place.inputs = omega (arith, below, c.loop-place.auto.inputs) in
-    let (most, more) = rw c.in-Beyond.is at c.in_ok-take_input.ensures.left in (
-      first_within so_far c.index-inputs-place.result below below' most,
-      part_beyond so_far c.index-inputs-place.result below below' more,
-    )
-
 pub loop-place-preserved : goal.loop-place-preserved
 loop-place-preserved g c =
     let (so_far, unread, flushed) = c.loop-place.invariant in
     let below : c.loop-place.place < length c.args.inputs.now = omega (arith, c.loop-place-test.true) in
     let below' : c.loop-place.place < length c.loop-place.inputs = omega (arith, below, c.loop-place.auto.inputs) in
     elim c.match-branch-3.branch [
-      | in-Done w ↦ (let (more, reads, leads, counted) = rw w.in-Done.is at c.in_ok-take_input.ensures.left in (
-        so_far_more so_far c.index-inputs-place.result below below' c.take_input.new.r true _ _ more
-            (and-true c.loop-place.whole ∙ sym w.whole-is) reads leads counted,
+      | in-Done w ↦ (let (more, reads, leads) = rw w.in-Done.is at c.in_ok-take_input.ensures.left in (
+        so_far_more so_far c.index-inputs-place.result below below' c.take_input.new.r true _ more
+            (and-true c.loop-place.whole ∙ sym w.whole-is) reads leads,
         c.in_ok-take_input.ensures.unread,
         c.in_ok-take_input.ensures.flushed,
       ))
-      | in-Failed w ↦ (let (more, reads, leads, counted) = rw w.in-Failed.is at c.in_ok-take_input.ensures.left in (
-        so_far_more so_far c.index-inputs-place.result below below' c.take_input.new.r false _ _ more
-            (and-false c.loop-place.whole ∙ sym w.whole-is) reads leads counted,
+      | in-Failed w ↦ (let (more, reads, leads) = rw w.in-Failed.is at c.in_ok-take_input.ensures.left in (
+        so_far_more so_far c.index-inputs-place.result below below' c.take_input.new.r false _ more
+            (and-false c.loop-place.whole ∙ sym w.whole-is) reads leads,
         c.in_ok-take_input.ensures.unread,
         c.in_ok-take_input.ensures.flushed,
       ))

@@ -1,8 +1,7 @@
-use Rattle.std.proofs.Common.{rules, arith, ◌≡◌, ap, sym, subst, ◌∙◌, set, ◌+◌, ◌∷◌, [], ◌++◌, true, false}
-use Rattle.text_set.specs.Texts.{StandsAt, has, with_text}
+use Rattle.unique_lines.proofs.Common.{rules, ◌≡◌, ap, sym, subst, ◌∙◌, set, ◌∷◌, [], ◌++◌, true, false, StandsAt, has, with_text}
 use Rattle.unique_lines.specs.Tallies.{Tallies}
 use Rattle.unique_lines.proofs.SeenLemmas.{is_there, not_there}
-use Rattle.unique_lines.proofs.TallyLemmas.{as_many, counted_place, few_times, tallies_again, tallies_new}
+use Rattle.unique_lines.proofs.TallyLemmas.{as_many, counted_place, one_more, tallies_again, tallies_new}
 use Rattle.unique_lines.proofs.tally.count.Goals as goal
 
 pub returns-in-Ok-clause-counted : goal.returns-in-Ok-clause-counted
@@ -19,18 +18,9 @@ returns-clause-counted g c = λ eol ls line is now.
     let times = c.args.times.now.items in
     let place = c.in_ok-seen.seen.place in
     let there : has old c.args.text.now ≡ true = is_there _ c.in_ok-seen.seen.is_new c.in_ok-seen.ensures.new (search rules) in
-    let (below, was) = counted_place old _ c.args.text.now times place c.index_mut.result.now there c.in_ok-seen.ensures.texts
-    c.in_ok-seen.ensures.place (as_many eol ls old times now) c.index_mut.ensures.value in
-    subst (λ n. Tallies eol (ls ++ line ∷ []) c.see.new.texts.texts (set times place (n + 1))) (sym was)
+    let (below, was) = counted_place old _ c.args.text.now times place c.index.result.now there c.in_ok-seen.ensures.texts
+    c.in_ok-seen.ensures.place (as_many eol ls old times now) c.index.ensures in
+    rw c.saturating_add.ensures (subst (λ n. Tallies eol (ls ++ line ∷ []) c.see.new.texts.texts (set times place (one_more n))) (sym was)
     (tallies_again eol ls old times now line c.see.new.texts.texts place (ap (has old) is ∙ there)
     (c.in_ok-seen.ensures.texts ∙ ap (with_text old) (sym is))
-    (subst (λ t. StandsAt c.see.new.texts.texts t place) (sym is) c.in_ok-seen.ensures.place))
-
-pub overflow_add-index_mut : goal.overflow_add-index_mut
-overflow_add-index_mut g c =
-    let (eol, ls, now, few) = c.requires.room in
-    let (below, was) = counted_place c.args.texts.now.texts _ c.args.text.now c.args.times.now.items c.in_ok-seen.seen.place
-    c.index_mut.result.now
-    (is_there _ c.in_ok-seen.seen.is_new c.in_ok-seen.ensures.new (search rules)) c.in_ok-seen.ensures.texts
-    c.in_ok-seen.ensures.place (as_many eol ls _ _ now) c.index_mut.ensures.value in
-    omega (arith, few, was, few_times eol ls _ _ now _ below)
+    (subst (λ t. StandsAt c.see.new.texts.texts t place) (sym is) c.in_ok-seen.ensures.place)))

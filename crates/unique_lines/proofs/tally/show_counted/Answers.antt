@@ -1,5 +1,4 @@
-use Rattle.std.proofs.Common.{ap, ◌∙◌, [], ◌∷◌, ◌++◌}
-use Rattle.std.specs.Fmt.{styled_decimal}
+use Rattle.unique_lines.proofs.Common.{ap, ◌∙◌, [], ◌∷◌, ◌++◌, styled_decimal}
 use Rattle.unique_lines.proofs.ColumnLemmas.{column_is}
 use Rattle.unique_lines.proofs.SeenLemmas.{at_ok}
 use Rattle.unique_lines.proofs.tally.show_counted.Goals as goal

@@ -1,8 +1,5 @@
-use Rattle.std.proofs.Common.{arith, ap, sym, subst, ◌∙◌, ◌++◌, drop}
-use Rattle.std.specs.Io.KnownBytes.{Appends}
-use Rattle.std.proofs.KnownBytes.{Appends-trans}
-use Rattle.std.proofs.lemmas.List.{append-nil, drop_all}
-use Rattle.streams.proofs.StreamLemmas.{on_err, part_behind, part_longer}
+use Rattle.unique_lines.proofs.Common.{arith, ap, sym, subst, ◌∙◌, ◌++◌, drop, Appends, Appends-trans, drop_all, on_err, part_behind, part_longer}
+use Rattle.std.proofs.lemmas.List.{append-nil}
 use Rattle.unique_lines.proofs.OrderLemmas.{listed, listed_more, listed_told}
 use Rattle.unique_lines.proofs.tally.write_tallies.Goals as goal
 

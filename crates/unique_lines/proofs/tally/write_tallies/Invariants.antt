@@ -1,5 +1,4 @@
-use Rattle.std.proofs.Common.{ℕ, List, ◌≡◌, ◌++◌, drop}
-use Rattle.std.specs.Io.KnownBytes.{Appends}
+use Rattle.unique_lines.proofs.Common.{ℕ, List, ◌≡◌, ◌++◌, drop, Appends}
 use Rattle.unique_lines.proofs.OrderLemmas.{listed}
 use Rattle.unique_lines.proofs.tally.write_tallies.Given as goal
 

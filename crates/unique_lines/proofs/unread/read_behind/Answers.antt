@@ -1,5 +1,5 @@
-use Rattle.std.proofs.Common.{◌-◌, ◌<◌, ℕ, Result, Ok, Err, IfOk, take, drop, length, arith, length-take, length-drop}
-use Rattle.std.proofs.lemmas.List.{length-take-le}
+use Rattle.unique_lines.proofs.Common.{◌-◌, ◌<◌, ℕ, Result, Ok, Err, IfOk, take, drop, length, arith, length-take, length-drop}
+use Rattle.std.proofs.Common.{length-take-le}
 use Rattle.unique_lines.proofs.UnreadLemmas.{read_put}
 use Rattle.unique_lines.proofs.unread.read_behind.Goals as goal
 

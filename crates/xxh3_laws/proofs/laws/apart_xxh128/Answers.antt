@@ -1,7 +1,6 @@
-use Rattle.std.proofs.Common.{rules, ℕ, ◌≢◌, arith}
-use Rattle.std.proofs.lemmas.Bool.{OnTrue_from}
+use Rattle.xxh3_laws.proofs.Common.{rules, ℕ, ◌≢◌, arith, OnTrue_from}
 use Rattle.hash_xxh3.specs.Wide.{xxh3_128_of}
-use Rattle.xxh3_laws.proofs.WideLemmas.{short-same}
+use Rattle.xxh3_laws.proofs.WideLemmas.{short_same}
 use Rattle.xxh3_laws.proofs.laws.apart_xxh128.Goals as goal
 
 pub returns-then-x-y-clause-differ : goal.returns-then-x-y-clause-differ
@@ -11,4 +10,4 @@ returns-then-x-y-clause-differ c =
     OnTrue_from c.ne.result ((seed : ℕ) → xxh3_128_of seed x ≢ xxh3_128_of seed y)
     (λ yes seed same.
     let other : x ≢ y = search (rules, arith) in
-    other (short-same seed x y c.bytes_are_a_text.ensures c.bytes_are_a_text-2.ensures (omega arith) (omega arith) same))
+    other (short_same seed x y c.bytes_are_a_text.ensures c.bytes_are_a_text-2.ensures (omega arith) (omega arith) same))

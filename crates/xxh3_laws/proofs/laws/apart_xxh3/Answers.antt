@@ -1,7 +1,5 @@
-use Rattle.std.proofs.Common.{rules, ℕ, ◌≢◌, arith}
-use Rattle.std.proofs.lemmas.Bool.{OnTrue_from}
-use Rattle.hash_xxh3.specs.Xxh3.{xxh3_64_of}
-use Rattle.xxh3_laws.proofs.ShortLemmas.{few_bytes-same, eight_bytes-same}
+use Rattle.xxh3_laws.proofs.Common.{rules, ℕ, ◌≢◌, arith, OnTrue_from, xxh3_64_of}
+use Rattle.xxh3_laws.proofs.ShortLemmas.{few_bytes_same, eight_bytes_same}
 use Rattle.xxh3_laws.proofs.laws.apart_xxh3.Goals as goal
 
 pub returns-in-1-to-3-1-to-3-clause-differ : goal.returns-in-1-to-3-1-to-3-clause-differ
@@ -11,7 +9,7 @@ returns-in-1-to-3-1-to-3-clause-differ c =
     OnTrue_from c.ne.result ((seed : ℕ) → xxh3_64_of seed x ≢ xxh3_64_of seed y)
     (λ yes seed same.
     let other : x ≢ y = search (rules, arith) in
-    other (few_bytes-same seed x y c.bytes_are_a_text.ensures c.bytes_are_a_text-2.ensures
+    other (few_bytes_same seed x y c.bytes_are_a_text.ensures c.bytes_are_a_text-2.ensures
     (omega arith) (omega arith) (omega arith) (omega arith) same))
 
 pub returns-then-len-x-clause-differ : goal.returns-then-len-x-clause-differ
@@ -21,5 +19,5 @@ returns-then-len-x-clause-differ c =
     OnTrue_from c.ne-then-len-x.result ((seed : ℕ) → xxh3_64_of seed x ≢ xxh3_64_of seed y)
     (λ yes seed same.
     let other : x ≢ y = search (rules, arith) in
-    other (eight_bytes-same seed x y c.bytes_are_a_text.ensures c.bytes_are_a_text-2.ensures
+    other (eight_bytes_same seed x y c.bytes_are_a_text.ensures c.bytes_are_a_text-2.ensures
     (omega arith) (omega arith) (omega arith) same))

@@ -1,10 +1,10 @@
 //! The one-call function, which can't stand beside the type of its name.
 
 // What follows is the proved text of crates/hash_bytes/src/pigeon/call.rt without its contracts.
-use crate::hash_laws;
+use crate::hash_rules;
 
-use super::hasher::Bricolage;
-use hash_laws::traits::hash_of;
+use super::hasher::BricolageRule;
+use hash_rules::hash_by_plain;
 
 /// Bricolage of the bytes.
 ///
@@ -15,5 +15,5 @@ use hash_laws::traits::hash_of;
 /// ```
 #[inline]
 pub fn bricolage(bytes: &[u8]) -> u64 {
-    hash_of::<Bricolage>(bytes)
+    hash_by_plain::<BricolageRule>(bytes)
 }

@@ -1,5 +1,5 @@
 //! The table of CRC-32C: row k has for each byte what is left when its eight bits have gone out, and those of k bytes of
-//! zeros behind it. That rule is proved where the table is read; `.ci/crc-rows` writes it.
+//! zeros after it. That rule is proved where the table is read; `.ci/crc-rows` writes it.
 
 // What follows is the proved text of crates/hash_crc/src/crc32/castagnoli_rows.rt without its contracts.
 

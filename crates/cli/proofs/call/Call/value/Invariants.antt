@@ -1,5 +1,4 @@
-use Rattle.std.proofs.Common.{◌≡◌, fold, drop}
-use Rattle.std.specs.Option.{option_map}
+use Rattle.std.proofs.Common.{◌≡◌, fold, drop, option_map}
 use Rattle.cli.specs.Call.{sayings, value_after, value_of}
 use Rattle.cli.proofs.call.Call.value.Given as goal
 

@@ -1,9 +1,5 @@
-use Rattle.std.proofs.Common.{◌≡◌, ◌+◌, length, arith, ◌∙◌}
-use Rattle.std.proofs.Math.Path.{ap₂}
-use Rattle.hash_words.specs.Words.{le}
-use Rattle.hash_fx.specs.Fx.{words32}
+use Rattle.fx_laws.proofs.Common.{◌≡◌, ◌+◌, length, arith, ◌∙◌, ap₂, words32, words64-parts, le}
 use Rattle.fx_laws.proofs.DifferencesLemmas.{differences-parts}
-use Rattle.hash_fx.proofs.WordParts.{words64-parts}
 use Rattle.fx_laws.proofs.differing.U64FxDiffering.differing.Goals as goal
 
 -- the wide words, and then the others

@@ -1,7 +1,4 @@
-use Rattle.std.proofs.Common.{◌≡◌, ◌+◌, ◌*◌, ◌<◌, ◌/◌, ◌∙◌, [], ◌++◌, ap, arith, length, get_or, take, take-append-drop}
-use Rattle.hash_rounds.specs.Sums.{loselose_from}
-use Rattle.hash_rounds.proofs.SumLemmas.{loselose-add, loselose-append}
-use Rattle.hash_words.proofs.Chunks.{take_chunk}
+use Rattle.hash_bytes.proofs.Common.{◌≡◌, ◌+◌, ◌*◌, ◌<◌, ◌/◌, ◌∙◌, [], ◌++◌, ap, arith, length, get_or, take, take-append-drop, loselose_from, loselose-add, loselose-append, take_chunk}
 use Rattle.hash_bytes.proofs.oz.LoseLoseRuleByteRule.write.Goals as goal
 
 pub loop-eight-preserved : goal.loop-eight-preserved

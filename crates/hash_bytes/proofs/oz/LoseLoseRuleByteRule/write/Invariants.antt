@@ -1,5 +1,4 @@
-use Rattle.std.proofs.Common.{◌≡◌, ◌+◌, ◌*◌, take}
-use Rattle.hash_rounds.specs.Sums.{loselose_from}
+use Rattle.hash_bytes.proofs.Common.{◌≡◌, ◌+◌, ◌*◌, take, loselose_from}
 use Rattle.hash_bytes.proofs.oz.LoseLoseRuleByteRule.write.Given as goal
 
 abbrev pub invariant-loop-eight : goal.invariant-loop-eight

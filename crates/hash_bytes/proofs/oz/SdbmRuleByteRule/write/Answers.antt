@@ -1,9 +1,4 @@
-use Rattle.std.proofs.Common.{◌≡◌, ◌+◌, ◌*◌, ◌<◌, ◌/◌, ◌∙◌, [], ap, sym, arith, length, get_or, take, take-append-drop, take_all, lit<, ◌%◌, ◌^◌}
-use Rattle.std.proofs.Math.Nat.{mod-lt}
-use Rattle.std.proofs.lemmas.List.{take_more}
-use Rattle.hash_rounds.specs.Sums.{sdbm_from}
-use Rattle.hash_rounds.proofs.SumLemmas.{sdbm_sums, sdbm_of_one, sdbm_push}
-use Rattle.hash_words.proofs.Chunks.{take_chunk}
+use Rattle.hash_bytes.proofs.Common.{◌≡◌, ◌+◌, ◌*◌, ◌<◌, ◌/◌, ◌∙◌, [], ap, sym, arith, length, get_or, take, take-append-drop, take_all, lit<, ◌%◌, ◌^◌, mod-lt, take_more, sdbm_from, sdbm_sums, sdbm_of_one, sdbm_push, take_chunk}
 use Rattle.hash_bytes.proofs.oz.SdbmRuleByteRule.write.Goals as goal
 
 pub loop-four-init : goal.loop-four-init

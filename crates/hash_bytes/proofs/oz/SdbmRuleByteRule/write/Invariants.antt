@@ -1,5 +1,4 @@
-use Rattle.std.proofs.Common.{◌≡◌, ◌+◌, ◌*◌, ◌<◌, ◌^◌, take}
-use Rattle.hash_rounds.specs.Sums.{sdbm_from}
+use Rattle.hash_bytes.proofs.Common.{◌≡◌, ◌+◌, ◌*◌, ◌<◌, ◌^◌, take, sdbm_from}
 use Rattle.hash_bytes.proofs.oz.SdbmRuleByteRule.write.Given as goal
 
 abbrev pub invariant-loop-four : goal.invariant-loop-four

@@ -1,4 +1,4 @@
-use Rattle.std.proofs.Common.{◌≡◌, ◌*◌, ◌%◌, ◌^◌, ℕ, List, map, refl, ap, ◌∙◌, arith, get_or}
+use Rattle.hash_bytes.proofs.Common.{◌≡◌, ◌*◌, ◌%◌, ◌^◌, ℕ, List, map, refl, ap, ◌∙◌, arith, get_or}
 use Rattle.std.specs.List.{range_with_len}
 use Rattle.std.proofs.lemmas.List.FromFn.{get_or-map-range_with_len}
 use Rattle.hash_rounds.specs.Shuffle.{from_bits, shuffle}

@@ -20,5 +20,5 @@ returns-clause-ok c start before (kind, counts) =
           subst (λ (given : List (List ℕ)). IsCounted (sum_by start.kind) given new) (append_assoc all before (chunk ∷ []))
           (counted_more (sum_by start.kind) (all ++ before) chunk c.args.self.now new c.in_ok-is_new.is_new c.number_of_text.result (counts none all is)
           (c.number_of_text.ensures ∙ ap (λ k. sum_by k chunk) kind) c.in_ok-is_new.ensures.new c.in_ok-is_new.ensures.seen
-          c.in_ok-self.ensures c.in_ok-self-2.ensures (c.in_ok-self-3.ensures ∙ ap (λ n. c.args.self.now.first + n) c.bytes_if.ensures)),
+          c.in_ok-self.ensures.ok c.in_ok-self-2.ensures.ok (c.in_ok-self-3.ensures.ok ∙ ap (λ n. c.args.self.now.first + n) c.bytes_if.ensures)),
     )

@@ -1,5 +1,4 @@
-use Rattle.std.proofs.Common.{refl, arith}
-use Rattle.hash_crc.specs.Crc32.{castagnoli}
+use Rattle.hash_crc.proofs.Common.{refl, arith, castagnoli}
 use Rattle.hash_crc.specs.declared.crc32.castagnoli_rows.TheConstants.{CASTAGNOLI}
 use Rattle.hash_crc.proofs.Crc32Texts.{entry}
 use Rattle.hash_crc.proofs.crc32.CastagnoliPolynomial.byte_out.Goals as goal

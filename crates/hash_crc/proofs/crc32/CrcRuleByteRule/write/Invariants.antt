@@ -1,5 +1,4 @@
-use Rattle.std.proofs.Common.{◌≡◌, fold, take}
-use Rattle.hash_crc.specs.Crc32.{crc_from}
+use Rattle.hash_crc.proofs.Common.{◌≡◌, fold, take, crc_from}
 use Rattle.hash_crc.proofs.crc32.CrcRuleByteRule.write.Given as goal
 
 abbrev pub invariant-loop-sixteen : goal.invariant-loop-sixteen

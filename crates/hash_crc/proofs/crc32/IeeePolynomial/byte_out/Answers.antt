@@ -1,5 +1,4 @@
-use Rattle.std.proofs.Common.{refl, arith}
-use Rattle.hash_crc.specs.Crc32.{ieee}
+use Rattle.hash_crc.proofs.Common.{refl, arith, ieee}
 use Rattle.hash_crc.specs.declared.crc32.ieee_rows.TheConstants.{IEEE}
 use Rattle.hash_crc.proofs.Crc32Texts.{entry}
 use Rattle.hash_crc.proofs.crc32.IeeePolynomial.byte_out.Goals as goal

@@ -1,8 +1,4 @@
-use Rattle.std.proofs.Common.{◌≡◌, ◌∷◌, ◌<◌, List, ℕ, length, take, drop, inl, inr, ap, sym, ◌∙◌, arith}
-use Rattle.std.proofs.Math.Path.{ap₂}
-use Rattle.std.proofs.lemmas.Bool.{cases_lt, false≢true}
-use Rattle.std.proofs.lemmas.Bool.Decides.{Decides-eqb}
-use Rattle.hash_cuts.specs.Cuts.{AreSizes, Cutting, chunks, first_cut}
+use Rattle.hash_cuts.proofs.Common.{◌≡◌, ◌∷◌, ◌<◌, List, ℕ, length, take, drop, inl, inr, ap, sym, ◌∙◌, arith, ap₂, cases_lt, false≢true, Decides-eqb, AreSizes, Cutting, chunks, first_cut}
 use Rattle.hash_cuts.proofs.ChunkLemmas.{chunks-first, chunks-none, first_cut-le}
 use Rattle.hash_cuts.proofs.cuts.ChunksIterator.next.Goals as goal
 

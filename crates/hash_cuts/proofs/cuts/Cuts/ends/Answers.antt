@@ -1,6 +1,4 @@
-use Rattle.std.proofs.Common.{◌-◌, length, drop, inl, inr, refl, ap, ◌∙◌, arith}
-use Rattle.std.proofs.lemmas.List.{length-drop, take_all}
-use Rattle.hash_cuts.specs.Cuts.{first_cut}
+use Rattle.hash_cuts.proofs.Common.{◌-◌, length, drop, inl, inr, refl, ap, ◌∙◌, arith, first_cut, length-drop, take_all}
 use Rattle.hash_cuts.proofs.EndLemmas.{all_ends, ends_written, one_end_more}
 use Rattle.hash_cuts.proofs.cuts.Cuts.ends.Goals as goal
 

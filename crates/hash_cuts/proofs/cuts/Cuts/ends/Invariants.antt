@@ -1,4 +1,4 @@
-use Rattle.std.proofs.Common.{length, ◌-◌}
+use Rattle.hash_cuts.proofs.Common.{length, ◌-◌}
 use Rattle.hash_cuts.proofs.EndLemmas.{AreEnds}
 use Rattle.hash_cuts.proofs.cuts.Cuts.ends.Given as goal
 

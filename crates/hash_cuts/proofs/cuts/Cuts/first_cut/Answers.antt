@@ -1,7 +1,5 @@
-use Rattle.std.proofs.Common.{◌≡◌, ◌≤◌, ◌+◌, ◌-◌, drop, ap, sym, arith, subst, refl}
-use Rattle.std.proofs.lemmas.List.{length-take}
-use Rattle.hash_cuts.specs.Cuts.{Cutting, cutting, first_cut}
-use Rattle.hash_cuts.proofs.CutLemmas.{HasRolled, bytes-there, first_cut-from, rolled-on, rolled-on-four, rolled-to}
+use Rattle.hash_cuts.proofs.Common.{◌≡◌, ◌≤◌, ◌-◌, drop, ap, arith, refl, Cutting, cutting, length-take}
+use Rattle.hash_cuts.proofs.CutLemmas.{bytes-there, first_cut-from, rolled-on, rolled-on-four, rolled-to}
 use Rattle.hash_cuts.proofs.cuts.Cuts.first_cut.Goals as goal
 
 pub returns-then-end-self-clause-cut : goal.returns-then-end-self-clause-cut
@@ -27,12 +25,11 @@ fours-preserved c =
     let room = c.min-end.result - place in
     let some : 4 ≤ room = omega (arith, c.in-Some.ensures.variant.0 refl, length-take room (drop place text)) in
     record {
-      rolled = subst (λ (cuts : Cutting). HasRolled cuts text (place + 4) next.3) view
-          (rolled-on-four seen text inside.below c.self.invariant.0 c.self.invariant.1 place c.in-Some.bytes.now c.fours.hash
+      rolled = rw (← view) (rolled-on-four seen text inside.below c.self.invariant.0 c.self.invariant.1 place c.in-Some.bytes.now c.fours.hash
           next.0 next.1 next.2 next.3 (omega (arith, least_is, c.fours.invariant.from)) (omega (arith, some, c.min-end.ensures))
           (bytes-there text c.in-Some.bytes.now place room c.in-Some.ensures.cases.0 some) steps.one steps.two steps.three steps.four
           c.if-hash-self.false c.if-one-self.false c.if-two-self.false c.if-three-self.false
-          (subst (λ (cuts : Cutting). HasRolled cuts text place c.fours.hash) (sym view) c.fours.invariant.rolled));
+          (rw (← view) at c.fours.invariant.rolled));
       from = omega (arith, c.fours.invariant.from);
       within = omega (arith, some);
     }
@@ -45,10 +42,9 @@ returns-then-hash-self-2-clause-cut c =
     let text = c.args.text.now in
     let place = c.loop-place.place in
     let least_is = ap (λ (cuts : Cutting). cuts.least) view in
-    subst (λ (cuts : Cutting). place ≡ first_cut cuts text) view
-    (rolled-to seen text inside.below c.self.invariant.0 c.self.invariant.1 place c.loop-place.hash
+    rw (← view) (rolled-to seen text inside.below c.self.invariant.0 c.self.invariant.1 place c.loop-place.hash
     (omega (arith, least_is, c.fours.invariant.from, c.loop-place.auto.place)) (omega (arith, c.min-end.ensures, c.loop-place-test.true))
-    (subst (λ (cuts : Cutting). HasRolled cuts text place c.loop-place.hash) (sym view) c.loop-place.invariant) c.if-hash-self-2.true)
+    (rw (← view) at c.loop-place.invariant) c.if-hash-self-2.true)
 
 pub loop-place-preserved : goal.loop-place-preserved
 loop-place-preserved c =
@@ -58,11 +54,10 @@ loop-place-preserved c =
     let text = c.args.text.now in
     let place = c.loop-place.place in
     let least_is = ap (λ (cuts : Cutting). cuts.least) view in
-    subst (λ (cuts : Cutting). HasRolled cuts text (place + 1) c.step-hash.result) view
-    (rolled-on seen text inside.below c.self.invariant.0 c.self.invariant.1 place c.loop-place.hash c.step-hash.result
+    rw (← view) (rolled-on seen text inside.below c.self.invariant.0 c.self.invariant.1 place c.loop-place.hash c.step-hash.result
     (omega (arith, least_is, c.fours.invariant.from, c.loop-place.auto.place)) (omega (arith, c.min-end.ensures, c.loop-place-test.true))
     c.step-hash.ensures c.if-hash-self-2.false
-    (subst (λ (cuts : Cutting). HasRolled cuts text place c.loop-place.hash) (sym view) c.loop-place.invariant))
+    (rw (← view) at c.loop-place.invariant))
 
 pub returns-clause-cut : goal.returns-clause-cut
 returns-clause-cut c =

@@ -1,4 +1,4 @@
-use Rattle.std.proofs.Common.{◌-◌, ◌≤◌}
+use Rattle.hash_cuts.proofs.Common.{◌-◌, ◌≤◌}
 use Rattle.hash_cuts.proofs.CutLemmas.{HasRolled}
 use Rattle.hash_cuts.proofs.cuts.Cuts.first_cut.Given as goal
 

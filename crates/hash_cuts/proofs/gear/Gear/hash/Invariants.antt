@@ -1,5 +1,4 @@
-use Rattle.std.proofs.Common.{◌≡◌, take}
-use Rattle.hash_cuts.specs.Gear.{gear, gear_of}
+use Rattle.hash_cuts.proofs.Common.{◌≡◌, take, gear, gear_of}
 use Rattle.hash_cuts.proofs.gear.Gear.hash.Given as goal
 
 abbrev pub invariant-loop-byte : goal.invariant-loop-byte

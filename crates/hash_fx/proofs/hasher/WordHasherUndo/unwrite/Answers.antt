@@ -1,8 +1,6 @@
-use Rattle.std.proofs.Common.{◌^◌, ◌∙◌, ap, sym}
+use Rattle.hash_fx.proofs.Common.{◌^◌, ◌∙◌, ap, sym, recurrence-fold, recurrence}
 use Rattle.hash_laws.proofs.ItemLemmas.{piece_injective}
-use Rattle.hash_laws.proofs.RecurrenceLemmas.{recurrence-fold}
 use Rattle.hash_laws.proofs.TextLemmas.{IsText-from_slice}
-use Rattle.hash_laws.specs.Recurrence.{recurrence}
 use Rattle.hash_fx.proofs.hasher.WordHasherUndo.unwrite.Goals as goal
 
 pub returns-clause-undone : goal.returns-clause-undone

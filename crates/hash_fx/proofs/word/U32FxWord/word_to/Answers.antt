@@ -1,6 +1,6 @@
-use Rattle.std.proofs.Common.{arith}
-use Rattle.hash_fx.proofs.OneWord.{to_there, undone_32}
+use Rattle.hash_fx.proofs.Common.{arith}
+use Rattle.hash_fx.specs.FxStepLaws.{fx32_of_word}
 use Rattle.hash_fx.proofs.word.U32FxWord.word_to.Goals as goal
 
 pub returns : goal.returns
-returns c = rw c.rotl32.ensures.value (to_there 32 0x27220a95 _ _ c.args.to (undone_32 c.args.to (omega arith)))
+returns c = rw c.rotl32.ensures.value ((fx32_of_word c.args.self (omega arith)).there c.args.to (omega arith))

@@ -1,9 +1,4 @@
-use Rattle.std.proofs.Common.{ap, sym, ◌∙◌}
-use Rattle.std.proofs.lemmas.Bool.{eqb-true}
-use Rattle.std.proofs.lemmas.List.{nil_from_length}
-use Rattle.hash_laws.specs.Recurrence.{recurrence}
-use Rattle.hash_laws.proofs.RecurrenceLemmas.{recurrence-nil}
-use Rattle.hash_fx.specs.Fx.{fx64_step, words32}
+use Rattle.hash_fx.proofs.Common.{ap, sym, ◌∙◌, eqb-true, nil_from_length, recurrence, recurrence-nil, fx64_step, words32}
 use Rattle.hash_fx.specs.FxLaws.{words32-nil}
 use Rattle.hash_fx.proofs.WordParts.{words64_in}
 use Rattle.hash_fx.proofs.word.U64FxSplit.whole.Goals as goal

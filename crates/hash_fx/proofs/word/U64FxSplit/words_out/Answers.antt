@@ -1,7 +1,4 @@
-use Rattle.std.proofs.Common.{◌∙◌, ap, sym, map, fold}
-use Rattle.hash_words.specs.Words.{le}
-use Rattle.hash_laws.proofs.RecurrenceLemmas.{recurrence-fold}
-use Rattle.hash_fx.specs.Fx.{fx64_step, words32}
+use Rattle.hash_fx.proofs.Common.{◌∙◌, ap, sym, map, fold, le, recurrence-fold, fx64_step, words32}
 use Rattle.hash_fx.proofs.WordParts.{words64-parts, steps-parts}
 use Rattle.hash_fx.proofs.word.U64FxSplit.words_out.Goals as goal
 

@@ -1,6 +1,4 @@
-use Rattle.std.proofs.Common.{arith}
-use Rattle.std.proofs.lemmas.Grind.{common_steps}
-use Rattle.hash_jenkins.specs.SpookyLaws.{after_from}
+use Rattle.hash_jenkins.proofs.Common.{arith, common_steps, after_from}
 use Rattle.hash_jenkins.proofs.spooky_v1.SpookyV1HasherHasher.write.Goals as goal
 
 pub returns-clause-stands : goal.returns-clause-stands

@@ -1,7 +1,4 @@
-use Rattle.std.proofs.Common.{◌%◌, ap, ◌∙◌, fold}
-use Rattle.std.specs.List.{concat}
-use Rattle.hash_keyed.specs.Poly61.{prime61}
-use Rattle.hash_keyed.specs.Poly61State.{Position, after, start_at}
+use Rattle.hash_keyed.proofs.Common.{◌%◌, ap, ◌∙◌, fold, concat, prime61, Position, after, start_at}
 use Rattle.hash_keyed.proofs.WriteLemmas.{after-writes, answer_of_text}
 use Rattle.hash_keyed.proofs.keys.Poly61KeysBuildHasher.hash_one.Goals as goal
 

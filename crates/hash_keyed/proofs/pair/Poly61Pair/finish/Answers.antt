@@ -1,6 +1,4 @@
-use Rattle.std.proofs.Common.{◌∙◌, ap, ap₂, sym}
-use Rattle.hash_keyed.specs.Poly61State.{Position, as_word, poly_end}
-use Rattle.hash_keyed.specs.Poly61Laws.{poly61-is}
+use Rattle.hash_keyed.proofs.Common.{◌∙◌, ap, ap₂, sym, Position, as_word, poly_end, poly61-is}
 use Rattle.hash_keyed.proofs.pair.Poly61Pair.finish.Goals as goal
 
 pub returns : goal.returns

@@ -1,6 +1,4 @@
-use Rattle.std.proofs.Common.{ap, ◌∙◌, arith}
-use Rattle.std.specs.Hash.{le_bytes}
-use Rattle.hash_keyed.specs.Poly61State.{after}
+use Rattle.hash_keyed.proofs.Common.{ap, ◌∙◌, arith, le_bytes, after}
 use Rattle.hash_keyed.proofs.NumberLemmas.{number_kept, number_fills, number_fills_two, rest-lt}
 use Rattle.hash_keyed.proofs.poly61.Poly61Hasher.number_in.Goals as goal
 

@@ -1,7 +1,4 @@
-use Rattle.std.proofs.Common.{◌/◌, ◌%◌, ◌^◌, sym, ap, ◌∙◌, arith}
-use Rattle.std.proofs.lemmas.List.Sums.{fold-append}
-use Rattle.std.specs.Hash.{le_bytes}
-use Rattle.hash_keyed.specs.Poly61State.{after, byte_in}
+use Rattle.hash_keyed.proofs.Common.{◌/◌, ◌%◌, ◌^◌, sym, ap, ◌∙◌, arith, fold-append, le_bytes, after, byte_in}
 use Rattle.hash_keyed.proofs.NumberLemmas.{le_bytes-halves}
 use Rattle.hash_keyed.proofs.poly61.Poly61HasherHasher.write_u128.Goals as goal
 

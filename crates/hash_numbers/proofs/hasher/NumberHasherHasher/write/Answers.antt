@@ -1,7 +1,4 @@
-use Rattle.std.proofs.Common.{arith, refl, sym, ap, length, ◌∙◌, ◌+◌, ◌-◌, ◌*◌, ◌^◌, ◌≡◌}
-use Rattle.std.proofs.lemmas.Bool.{eqb-true}
-use Rattle.std.proofs.lemmas.List.{nil_from_length}
-use Rattle.hash_numbers.specs.NumberState.{after_write, behind}
+use Rattle.hash_numbers.proofs.Common.{arith, refl, sym, ap, length, ◌∙◌, ◌+◌, ◌-◌, ◌*◌, ◌^◌, ◌≡◌, nil_from_length, after_write, behind, eqb-true}
 use Rattle.hash_numbers.proofs.States.{nothing_behind, number_behind, two_behind}
 use Rattle.hash_numbers.proofs.hasher.NumberHasherHasher.write.Goals as goal
 

@@ -1,7 +1,4 @@
-use Rattle.std.proofs.Common.{arith, sym, ap, ◌∙◌}
-use Rattle.std.specs.Hash.{le_bytes}
-use Rattle.hash_numbers.specs.NumberState.{with_text}
-use Rattle.hash_keyed.proofs.NumberLemmas.{le-le_bytes, length-le_bytes}
+use Rattle.hash_numbers.proofs.Common.{arith, sym, ap, ◌∙◌, le_bytes, with_text, le-le_bytes, length-le_bytes}
 use Rattle.hash_numbers.proofs.States.{number_behind, text_behind}
 use Rattle.hash_numbers.proofs.hasher.NumberHasherHasher.write_u16.Goals as goal
 

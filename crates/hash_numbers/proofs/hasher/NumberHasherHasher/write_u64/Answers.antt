@@ -1,6 +1,4 @@
-use Rattle.std.proofs.Common.{arith, ◌∙◌}
-use Rattle.std.specs.Hash.{le_bytes}
-use Rattle.hash_keyed.proofs.NumberLemmas.{le-le_bytes, length-le_bytes}
+use Rattle.hash_numbers.proofs.Common.{arith, ◌∙◌, le_bytes, le-le_bytes, length-le_bytes}
 use Rattle.hash_numbers.proofs.States.{number_behind, text_behind}
 use Rattle.hash_numbers.proofs.hasher.NumberHasherHasher.write_u64.Goals as goal
 

@@ -1,4 +1,4 @@
-use Rattle.std.proofs.Common.{arith, refl, [], ◌∷◌, sym, ◌∙◌}
+use Rattle.hash_numbers.proofs.Common.{arith, refl, [], ◌∷◌, sym, ◌∙◌}
 use Rattle.hash_numbers.proofs.States.{le_one, number_behind}
 use Rattle.hash_numbers.proofs.hasher.NumberHasherHasher.write_u8.Goals as goal
 

@@ -1,8 +1,7 @@
-use Rattle.std.proofs.Common.{◌∙◌, [], List, ℕ, ap, fold, length, lit<}
+use Rattle.hash_siphash.proofs.Common.{◌∙◌, [], List, ℕ, ap, fold, length, lit<, after_block, ended, start}
 use Rattle.std.specs.List.{concat}
 use Rattle.hash_blocks.specs.Blocks.{Position, after}
 use Rattle.hash_blocks.specs.BlocksLaws.{fold-position}
-use Rattle.hash_siphash.specs.SipHash.{after_block, ended, start}
 use Rattle.hash_siphash.specs.SipHashLaws.{total_wraps}
 use Rattle.hash_siphash.proofs.keys.SipKeysBuildHasher.hash_one.Goals as goal
 

@@ -1,4 +1,4 @@
-use Rattle.std.proofs.Common.{◌∙◌, ap}
+use Rattle.hash_writes.proofs.Common.{◌∙◌, ap}
 use Rattle.hash_writes.proofs.KeyLemmas.{state_after_writes}
 use Rattle.hash_writes.proofs.build.BuildFreshBuildHasher.hash_one.Goals as goal
 

@@ -1,8 +1,4 @@
-use Rattle.std.proofs.Common.{arith}
-use Rattle.std.proofs.lemmas.List.{length-take-le}
-use Rattle.std.proofs.lemmas.List.Elements.{All-take}
-use Rattle.hash_laws.proofs.TextLemmas.{IsByte}
-use Rattle.hash_xxh3.specs.StreamingLaws.{IsLong-advanced}
+use Rattle.hash_xxh3.proofs.Common.{arith, IsByte, IsLong-advanced, length-take-le, All-take}
 use Rattle.hash_xxh3.proofs.AdvanceLemmas.{settled_long}
 use Rattle.hash_xxh3.proofs.parts.Xxh3Parts.at.Goals as goal
 

@@ -1,5 +1,4 @@
-use Rattle.std.proofs.Common.{refl}
-use Rattle.hash_laws.proofs.TextLemmas.{IsText-from_slice}
+use Rattle.hash_xxh3.proofs.Common.{refl, IsText-from_slice}
 use Rattle.hash_xxh3.proofs.AdvanceLemmas.{in_range_after, settled_long}
 use Rattle.hash_xxh3.proofs.parts.Xxh3Parts.write_through.Goals as goal
 

@@ -1,4 +1,4 @@
-use Rattle.hash_xxh3.specs.StreamingLaws.{after_from}
+use Rattle.hash_xxh3.proofs.Common.{after_from}
 use Rattle.hash_xxh3.specs.Place.{place_of}
 use Rattle.hash_xxh3.proofs.place.Xxh3Place.write.Goals as goal
 

@@ -1,8 +1,4 @@
-use Rattle.std.proofs.Common.{◌≡◌, ◌+◌, ◌%◌, ◌^◌, nat_eq, false, ℕ, List, ◌++◌, length, take, ap, ◌∙◌, arith}
-use Rattle.std.proofs.Math.Path.{ap₂}
-use Rattle.std.proofs.lemmas.Bool.Decides.{nat_tests}
-use Rattle.hash_xxh3.specs.declared.long.Lanes.{Lanes}
-use Rattle.hash_xxh3.specs.Streaming.{advanced}
+use Rattle.hash_xxh3.proofs.Common.{◌≡◌, ◌+◌, ◌%◌, ◌^◌, nat_eq, false, ℕ, List, ◌++◌, length, take, ap, ◌∙◌, arith, ap₂, nat_tests, Lanes, advanced}
 use Rattle.hash_xxh3.proofs.AdvanceLemmas.{on}
 use Rattle.hash_xxh3.proofs.place.Xxh3Place.write_long.Goals as goal
 

@@ -1,5 +1,4 @@
-use Rattle.std.proofs.Common.{◌∷◌, [], ◌∙◌}
-use Rattle.std.specs.Prelude.{codes, string_bytes}
+use Rattle.std.proofs.Common.{◌∷◌, [], ◌∙◌, codes, string_bytes}
 use Rattle.spread.specs.Lines.{AreCells, counted, groups, in_buckets}
 use Rattle.spread.proofs.CellLemmas.{ended_line, first_cell, one_more}
 use Rattle.spread.proofs.table.Frame.groups.Goals.{in-Some+in_ok-in_buckets-2+in_ok-push-2, in_default}

@@ -1,5 +1,4 @@
-use Rattle.std.proofs.Common.{◌∷◌, [], sym, refl, append-nil}
-use Rattle.std.specs.Prelude.{codes, string_bytes}
+use Rattle.std.proofs.Common.{◌∷◌, [], sym, refl, append-nil, codes, string_bytes}
 use Rattle.spread.specs.Lines.{AreCells, heads, number_heads}
 use Rattle.spread.proofs.CellLemmas.{ended_line, first_cell, one_more}
 use Rattle.spread.proofs.table.Frame.names.Goals.{then-self+in_ok-push, else-self}

@@ -1,5 +1,4 @@
-use Rattle.std.proofs.Common.{ap, ◌∙◌}
-use Rattle.std.specs.Prelude.{string_bytes}
+use Rattle.std.proofs.Common.{ap, ◌∙◌, string_bytes}
 use Rattle.spread.proofs.CellLemmas.{adds_next, adds_none}
 use Rattle.spread.proofs.table.Line.push_cells.Goals as goal
 

@@ -1,5 +1,4 @@
-use Rattle.std.proofs.Common.{map, take}
-use Rattle.std.specs.Prelude.{string_bytes}
+use Rattle.std.proofs.Common.{map, take, string_bytes}
 use Rattle.spread.specs.Lines.{AddsCells}
 use Rattle.spread.proofs.table.Line.push_cells.Given as goal
 

@@ -1,5 +1,4 @@
-use Rattle.std.proofs.Common.{take}
-use Rattle.std.specs.Prelude.{string_bytes}
+use Rattle.std.proofs.Common.{take, string_bytes}
 use Rattle.spread.specs.Lines.{AddsCells, names}
 use Rattle.spread.proofs.table.Line.push_names.Given as goal
 

@@ -1,8 +1,5 @@
-use Rattle.std.specs.Prelude.{◌≡◌, ℕ, suc, ◌+◌, ◌-◌, ◌*◌, ◌/◌, length}
-use Rattle.std.proofs.Common.{refl}
-use Rattle.std.proofs.Common.{arith}
+use Rattle.text_set.proofs.Common.{refl, arith, ℕ, suc, ◌+◌, ◌*◌, length, mix_blocks, write, ◌≡◌, ◌-◌, ◌/◌}
 use borrow.Author.Tests.{le-leb, lt-leb}
-use Rattle.text_set.specs.Keyed.{mix_blocks, write}
 use Rattle.text_set.proofs.keyed.KeyedHasherHasher.write.Goals as goal
 
 pub returns-then-len-le8 : goal.returns-then-len-le8

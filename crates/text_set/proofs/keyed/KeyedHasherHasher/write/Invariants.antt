@@ -1,5 +1,5 @@
 use Rattle.std.specs.Prelude.{◌≡◌, ◌-◌, ◌/◌, ◌%◌, ◌<◌}
-use Rattle.text_set.specs.Keyed.{mix_blocks}
+use Rattle.text_set.proofs.Common.{mix_blocks}
 use Rattle.text_set.proofs.keyed.KeyedHasherHasher.write.Given as goal
 
 abbrev pub invariant-loop-at : goal.invariant-loop-at

@@ -1,6 +1,6 @@
-use Rattle.std.proofs.Common.{rules, arith, not, sym, ap, refl}
-use Rattle.text_set.specs.Texts.{StandsAt}
-use Rattle.text_set.proofs.SlotLemmas.{has_there, with_old}
+use Rattle.text_set.proofs.Common.{rules, arith, not, sym, ap, refl, StandsAt}
+use Rattle.text_set.proofs.SetLemmas.{has_there}
+use Rattle.text_set.proofs.SlotLemmas.{with_old}
 use Rattle.text_set.proofs.texts.Texts.see_at.Goals as goal
 
 pub returns-then-eq : goal.returns-then-eq

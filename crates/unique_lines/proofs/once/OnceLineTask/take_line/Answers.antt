@@ -1,8 +1,5 @@
-use Rattle.std.proofs.Common.{false, refl, rules, true}
-use Rattle.std.proofs.KnownBytes.{Appends-nil, Keeps-refl}
-use Rattle.text_set.proofs.FirstsLemmas.{once_begins}
+use Rattle.unique_lines.proofs.Common.{false, refl, rules, true, Appends-nil, Keeps-refl, once_begins, on_err}
 use Rattle.unique_lines.proofs.RunLemmas.{breaks_before}
-use Rattle.streams.proofs.StreamLemmas.{on_err}
 use Rattle.unique_lines.proofs.SeenLemmas.{is_there, not_there, stops_in_line, takes_line}
 use Rattle.unique_lines.proofs.once.OnceLineTask.take_line.Goals as goal
 

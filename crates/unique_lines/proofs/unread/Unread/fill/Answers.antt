@@ -1,6 +1,4 @@
-use Rattle.std.proofs.Common.{◌++◌, ap, sym, subst, ◌∙◌, append_assoc, length}
-use Rattle.std.proofs.KnownBytes.{Consumes-trans}
-use Rattle.text_set.specs.Lines.{IsBare}
+use Rattle.unique_lines.proofs.Common.{◌++◌, ap, sym, subst, ◌∙◌, append_assoc, length, Consumes-trans, IsBare}
 use Rattle.unique_lines.proofs.UnreadLemmas.{bare_both, found_end, found_none}
 use Rattle.unique_lines.proofs.unread.Unread.fill.Goals as goal
 

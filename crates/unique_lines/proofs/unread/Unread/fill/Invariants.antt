@@ -1,6 +1,4 @@
-use Rattle.std.proofs.Common.{◌≡◌, ◌++◌, ◌-◌, ◌^◌, ℕ, List, length}
-use Rattle.std.specs.Io.KnownBytes.{Consumes}
-use Rattle.text_set.specs.Lines.{IsBare}
+use Rattle.unique_lines.proofs.Common.{◌≡◌, ◌++◌, ◌-◌, ◌^◌, ℕ, List, length, Consumes, IsBare}
 use Rattle.unique_lines.proofs.unread.Unread.fill.Given as goal
 
 -- what was read so far has no end

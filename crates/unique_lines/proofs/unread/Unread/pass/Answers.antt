@@ -1,4 +1,4 @@
-use Rattle.std.proofs.Common.{ap, ◌∙◌, arith, drop, length, length-take, ◌-◌}
+use Rattle.unique_lines.proofs.Common.{ap, ◌∙◌, arith, drop, length, length-take, ◌-◌}
 use Rattle.unique_lines.proofs.UnreadLemmas.{pass_more}
 use Rattle.unique_lines.proofs.unread.Unread.pass.Goals as goal
 

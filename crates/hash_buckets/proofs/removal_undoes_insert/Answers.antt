@@ -1,5 +1,0 @@
-use Rattle.text_maps.proofs.TextMapLemmas as lemmas
-use Rattle.hash_buckets.proofs.removal_undoes_insert.Goals as goal
-
-pub returns : goal.returns
-returns c = lemmas.removal_undoes_insert

@@ -1,6 +1,0 @@
-use Rattle.std.proofs.Common.{◌∙◌, arith}
-use Rattle.hash_fx.proofs.FixedWidths.{fx64_slice}
-use Rattle.hash_fx.proofs.maps.hash_one_slice_fx.Goals as goal
-
-pub returns : goal.returns
-returns c = c.hash_one_slice_in_writes.ensures ∙ fx64_slice _ c.args.key.now (omega arith)

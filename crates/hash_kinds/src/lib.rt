@@ -1,0 +1,6 @@
+//! All hashes by their names and numbers: the ported ones, of `hash_names`, and the others.
+#![tactic(auto)]
+
+pub mod reading;
+pub mod table;
+pub mod wide;

@@ -1,0 +1,13 @@
+use Rattle.std.proofs.Common.{[], sym}
+use Rattle.hash_lines.specs.Line.{line_of}
+use Rattle.hash_lines.proofs.OneLemmas.{line_shows_one}
+use Rattle.hash_lines.proofs.ShownLemmas.{has_name, line_shows}
+use Rattle.hash_lines.proofs.TellsLemmas.{line_shown}
+use Rattle.hash_lines.proofs.laws.lines_of_no_name_tell_nothing.Goals as goal
+
+pub returns : goal.returns
+returns c kinds default kind form are may escapes number small other more count tells =
+    let line = line_of form escapes kind.name.now kind.width [] number in
+    let one = line_shows_one kinds default are kind other [] more number count line
+    (line_shown kinds default kind form may escapes [] number small) (line_shows kinds default other more count line tells) in
+    has_name kinds default other more count line tells (sym one.1)

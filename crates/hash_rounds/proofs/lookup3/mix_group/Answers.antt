@@ -1,7 +1,0 @@
-use Rattle.std.proofs.Common.{refl}
-use Rattle.hash_rounds.specs.Steps.{apply}
-use Rattle.hash_rounds.proofs.lookup3.mix_group.Goals as goal
-
-pub returns : goal.returns
-unfolding apply
-returns c = rw c.rotl32.ensures.value refl

@@ -1,0 +1,49 @@
+//! Bob Jenkins' hash functions, and what makes a SpookyHasher under seeds for each key of std's maps and sets.
+
+// What follows is the proved text of crates/hashers/src/jenkins.rt without its contracts.
+use crate::{hash_jenkins, std};
+
+use hash_jenkins::spooky_hash::SpookyHasher;
+pub use hash_jenkins::{
+    Lookup3Hasher, OAATHasher, OaatRule, lookup3, oaat,
+    spooky_hash as spooky_hash, spooky_parts as spooky_parts, spooky_short as spooky_short,
+};
+use std::hash::{BuildHasher, Hash, Hasher};
+
+/// Makes a [`SpookyHasher`] under two seeds for each key of std's maps and sets:
+/// `HashMap::with_hasher(BuildSpooky { seed1, seed2 })`.
+///
+/// Seeds that nobody knows serve against lists of keys that were made beforehand to collide, and not against one who sees hashes, or
+/// times, and makes keys by them: SpookyHash is not made to keep its seeds. For the keys of strangers take std's `RandomState`.
+#[derive(Clone, Copy)]
+pub struct BuildSpooky {
+    pub seed1: u64,
+    pub seed2: u64,
+}
+
+impl BuildHasher for BuildSpooky {
+    type Hasher = SpookyHasher;
+
+    /// The hasher of no bytes under the seeds.
+    #[inline(always)]
+    fn build_hasher(&self) -> SpookyHasher {
+        SpookyHasher::new(self.seed1, self.seed2)
+    }
+
+    /// The hash of a key: that of the bytes that std feeds, joined, under the seeds.
+    ///
+    /// Proved:
+    ///
+    /// ```text
+    /// std: result
+    ///     ≡ (hash (fold after_write (begun self.now.seed1 self.now.seed2) (T.hash_input x)).at).0
+    /// defined: All IsText (T.hash_input x)
+    ///     → result ≡ (spooky self.now.seed1 self.now.seed2 (concat (T.hash_input x))).0
+    /// ```
+    #[inline(always)]
+    fn hash_one<T: Hash>(&self, x: T) -> u64 {
+        let mut hasher = SpookyHasher::new(self.seed1, self.seed2);
+        x.hash(&mut hasher);
+        hasher.finish()
+    }
+}

@@ -1,0 +1,96 @@
+//! The parsers of lists and of filters' files, over random and mutated inputs: whatever comes, they answer, and what they accept is read
+//! back from what is written of it.
+use hashers_proved::bloom::Bloom;
+use hashers_proved::hash_lines::forms::parse_form;
+use hashers_proved::hash_lines::line::{push_line, Form, LineKind, Width};
+use hashers_proved::hash_lines::parse::{parse_line, HashLine};
+use hashers_proved::shim::memory::{Global, Vec as Bytes};
+
+const KINDS: [LineKind; 4] = [kind("CRC32", Width::Eight, 0), kind("XXH64", Width::Sixteen, 1), kind("XXH3", Width::Sixteen, 2),
+                              kind("spooky128", Width::ThirtyTwo, 3)];
+/// Where inputs begin: lines of ours and of other programs, whole and broken.
+const SEEDS: [&str; 12] = ["CRC32 (a) = 0f1e2d3c", "\\XXH64 (a\\nb) = 0f1e2d3c4b5a6978", "0f1e2d3c4b5a69780f1e2d3c4b5a6978  name", "0f1e2d3c *name",
+                           "\\0F1E2D3C  a\\\\b", " xxh64(a)= 0f1e2d3c4b5a6978", "name with (a) = in it 0F1E2D3C", "; comment", "", "0f1e2d3c  ",
+                           "XXH3 () = 0f1e2d3c4b5a6978", "XXH3 (a) = ) = 0f1e2d3c4b5a6978\r"];
+
+const fn kind(name: &str, width: Width, which: u32) -> LineKind<'_> {
+    LineKind { name, width, which, keys: (0, 0) }
+}
+
+/// Random numbers, the same in each run.
+struct Random(u64);
+
+impl Random {
+    fn below(&mut self, most: usize) -> usize {
+        self.0 ^= self.0 << 13;
+        self.0 ^= self.0 >> 7;
+        self.0 ^= self.0 << 17;
+        (self.0 % most as u64) as usize
+    }
+
+    /// The bytes with a few of them changed, left out, put in or said twice.
+    fn mutated(&mut self, bytes: &[u8]) -> Vec<u8> {
+        let mut changed = bytes.to_vec();
+        for _ in 0..self.below(4) {
+            let at = self.below(changed.len() + 1);
+            match self.below(4) {
+                0 => changed.insert(at, b"\\()= *;\n\0\xff0aF"[self.below(13)]),
+                1 => changed.truncate(at),
+                2 => drop(changed.splice(at..at, changed[..at].to_vec())),
+                _ if at < changed.len() => changed[at] ^= 1 << self.below(8),
+                _ => changed.push(self.below(256) as u8),
+            }
+            changed.truncate(4096);
+        }
+        changed
+    }
+}
+
+/// What is written of an entry is read as that entry, in both forms, unless nothing names its hash.
+fn is_read_back(entry: &HashLine, default: LineKind) {
+    for form in [Form::Tagged, Form::Untagged] {
+        let mut line = Bytes::new(Global);
+        push_line(&mut line, form, true, entry.kind, entry.name.as_slice(), entry.number).unwrap();
+        let again = parse_line(Global, &KINDS, default, line.as_slice()).unwrap();
+        let is_known = matches!(form, Form::Tagged) || entry.kind.which == default.which;
+        assert!(!is_known || again.is_some_and(|it| (it.number, it.kind.which, it.name.as_slice())
+            == (entry.number, entry.kind.which, entry.name.as_slice())), "{}", line.as_slice().escape_ascii());
+    }
+}
+
+#[test]
+fn lines_are_read_back() {
+    let mut random = Random(88172645463325252);
+    let mut read = 0;
+    for round in 0..200_000 {
+        let line = random.mutated(SEEDS[round % SEEDS.len()].as_bytes());
+        let default = KINDS[random.below(KINDS.len())];
+        let entry = match parse_line(Global, &KINDS, default, &line).unwrap() {
+            None => parse_form(Global, &KINDS, default, round % 2 == 0, &line).unwrap(),
+            found => found,
+        };
+        if let Some(entry) = entry {
+            assert!(!entry.name.as_slice().is_empty(), "{}", line.escape_ascii());
+            is_read_back(&entry, default);
+            read += 1;
+        }
+    }
+    assert!(read > 10_000, "{read} lines were read");
+}
+
+#[test]
+fn filter_files_are_read_back_or_refused() {
+    let mut random = Random(88172645463325252);
+    let mut filter: Bloom = Bloom::new(20, 10);
+    filter.extend(["Ada", "Grace"]);
+    let mut file = Vec::new();
+    filter.write_to(&mut file, "spooky lookup3").unwrap();
+    for _ in 0..20_000 {
+        let changed = random.mutated(&file);
+        let read: Result<Bloom, _> = Bloom::read_from(&changed[..], "spooky lookup3");
+        assert_eq!(read.is_ok(), changed.starts_with(&file), "{}", changed.escape_ascii());
+        if let Ok(read) = read {
+            assert!(read.contains("Ada") && read.contains("Grace") && !read.contains("Edsger"));
+        }
+    }
+}
