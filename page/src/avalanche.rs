@@ -3,7 +3,7 @@ use crate::NO_MEMORY;
 use hashers_proved::hash_kinds::table::{kind_named, Kind};
 use hashers_proved::shim::{self, std::alloc::Global};
 use hashers_proved::text_set::{RandomKeys, Texts};
-use hashers_tools::hash_spread::named::{hash_by, Hashed};
+use hashers_tools::spread_core::named::{hash_by, Hashed};
 
 /// Of how many bytes keys may be.
 const MOST: usize = 64;

@@ -2,7 +2,7 @@
 //! often, and is disturbed at times, so that each hash is measured by turns with the others.
 use hashers_proved::hash_kinds::table::Kind;
 use hashers_proved::shim::std::alloc::AllocError;
-use hashers_tools::hash_spread::named::{hash_by, Hashed};
+use hashers_tools::spread_core::named::{hash_by, Hashed};
 
 /// How many milliseconds one measurement takes at least.
 const SPAN: f64 = 8.0;

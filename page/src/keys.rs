@@ -5,15 +5,15 @@ use hashers_proved::hash_kinds::table::{Kind, KINDS};
 use hashers_proved::shim::std::alloc::{AllocError, Global};
 use hashers_proved::shim::{self, io::BufReader};
 use hashers_proved::text_set::{RandomKeys, Texts};
-use hashers_tools::hash_spread::advice::{advise, Advice};
-use hashers_tools::hash_spread::call::{call_of, kinds_of, settings_of, unknown_name};
-use hashers_tools::hash_spread::chance::Chance;
-use hashers_tools::hash_spread::counts::Spread;
-use hashers_tools::hash_spread::failure::Failure;
-use hashers_tools::hash_spread::keys::{read_keys, Layout};
-use hashers_tools::hash_spread::named::{hash_by, Hashed};
-use hashers_tools::hash_spread::rows::{row_of, TableRow};
-use hashers_tools::hash_spread::sizes::sizes_of;
+use hashers_tools::spread_core::advice::{advise, Advice};
+use hashers_tools::spread_core::call::{call_of, kinds_of, settings_of, unknown_name};
+use hashers_tools::spread_core::chance::Chance;
+use hashers_tools::spread_core::counts::Spread;
+use hashers_tools::spread_core::failure::Failure;
+use hashers_tools::spread_core::keys::{read_keys, Layout};
+use hashers_tools::spread_core::named::{hash_by, Hashed};
+use hashers_tools::spread_core::rows::{row_of, TableRow};
+use hashers_tools::spread_core::sizes::sizes_of;
 use hashers_tools::spread::table::Frame;
 
 /// How many bytes are read at once at most.
@@ -166,7 +166,7 @@ fn verdict(frame: &Frame, row: &TableRow) -> String {
             }
         })
         .collect();
-    let equal = hashers_tools::hash_spread::chance::equal_pairs(frame.keys, row.kind.row().bits);
+    let equal = hashers_tools::spread_core::chance::equal_pairs(frame.keys, row.kind.row().bits);
     format!("{equal:.3}\t{}", words.join("\t"))
 }
 

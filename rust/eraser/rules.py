@@ -78,12 +78,14 @@ def test(s, first, fn):
 
 
 def modules(s):
-    """The lines of modules whose files are not taken."""
+    """The lines of modules whose files are not taken, and what is shown of them."""
     part = s.module.split("/", 1)[1]
     folder = "" if part in ("lib", "main") else part + "/"
-    for k, name in tops(s):
-        if s.parts and k not in s.gone and s.is_(k, "mod") and s.is_(k + 2, ";") and folder + name not in s.parts:
-            s.erase(k - s.is_(k - 1, "pub"), k + 2, "module that is not taken", docs=True)
+    left = {name for k, name in tops(s) if s.parts and s.is_(k, "mod") and s.is_(k + 2, ";") and folder + name not in s.parts}
+    for k in range(len(s.toks)):
+        if k not in s.gone and s.is_(k, "mod", "use") and s.is_name(k + 1, left):
+            end = next(i for i in range(k, len(s.toks)) if s.is_(i, ";"))
+            s.erase(k - s.is_(k - 1, "pub"), end, "module that is not taken", docs=True)
 
 
 def handles(s):

@@ -3,14 +3,12 @@
 # Of each Rust crate the Rattle crates whose sources become its modules, in the order in which they stand on one another.
 RUST_CRATES = {
     "hashers-proved": [
-        "hash_words", "hash_rounds", "hash_laws", "hash_windows", "hash_reading", "hash_rules", "hash_writes", "hash_fx", "fx_laws",
-        "hash_jenkins", "jenkins_laws",
-        "hash_blocks", "hash_murmur3", "hash_siphash", "hash_xxhash", "block_laws", "hash_xxh3", "xxh3_laws",
-        "hash_bytes", "hash_crc", "hashers", "hash_more", "more_laws", "hash_keyed", "hash_numbers", "hash_names", "hash_kinds",
+        "hash_words", "hash_rounds", "hash_laws", "hash_writes", "hash_fx", "hash_jenkins", "hash_blocks", "hash_xxh3", "hash_bytes",
+        "hash_more", "hash_theorems", "hashers", "hash_keyed", "hash_numbers", "hash_names", "hash_kinds",
         "streams", "text_set", "hash_lines", "hash_buckets", "hash_ring", "hash_cuts", "hash_bloom",
     ],
     "hashers-tools": [
-        "cli", "unique_lines", "hash_spread", "hash_sums", "hash_chunks",
+        "cli", "dedup_core", "spread_core", "hashsum_core", "cuts_core",
         "hashof", "dedup", "hashsum", "cuts", "spread",
     ],
     "hashers-c": ["hash_c"],
@@ -28,12 +26,14 @@ TESTS = {
 # Crates of which these files alone are taken: others take memory, read, have laws alone or are for tests.
 PARTS = {
     "hashers-proved": {
-        "hash_siphash": {"rounds", "siphash"},
+        "hash_blocks": {
+            "lib", "block_hasher", "block_rule", "parts", "wide_rule", "words", "murmur3", "murmur3/x64_128", "murmur3/x86_32",
+            "siphash", "siphash/hasher", "siphash/rounds", "xxhash", "xxhash/at_32", "xxhash/at_64",
+        },
         "hash_keyed": {"modular", "pair", "parts", "poly61", "words"},
         "hash_numbers": {"hasher", "number"},
         "hash_names": {"reading", "table", "task"},
         "hash_kinds": {"reading", "table", "wide"},
-        "hash_reading": {"limited", "reader"},
         "streams": {"failure", "tries"},
     },
     "hashers-tools": {
@@ -47,7 +47,7 @@ PARTS = {
 # Crates that take memory, read or write: what they name of Rattle's std is in the shim, which is written by hand over Rust's.
 SHIM_CRATES = {
     "streams", "text_set", "hash_lines", "hash_buckets", "hash_ring", "hash_cuts", "hash_bloom",
-    "cli", "unique_lines", "hash_spread", "hash_sums", "hash_chunks", "hash_vectors",
+    "cli", "dedup_core", "spread_core", "hashsum_core", "cuts_core", "hash_vectors",
 } | PROGRAMS
 # What these find in their prelude in Rattle: types, and macros that take a handle or an allocator.
 SHIM_TYPES = {"HostRuntime", "String", "Vec"}
@@ -64,7 +64,7 @@ TESTS_OF = "hash_vectors/tests"
 # The Rust crate that has the feature std.
 FEATURED = "hashers-proved"
 # Names that are std's alone, or of what stands on it: an import, alias or module of such a name is there with the feature std.
-STD_NAMES = {"HashMap", "HashSet", "FxHashMap", "FxHashSet", "reader"}
+STD_NAMES = {"HashMap", "HashSet", "FxHashMap", "FxHashSet", "reader", "reading"}
 
 # Files with an item or an import that only clauses read: the lint that is silent there, and why.
 ALLOW = {
@@ -74,22 +74,22 @@ ALLOW = {
     "hash_fx/hasher": ("unused_imports", "Clauses name Word"),
     "hash_jenkins/spooky_short": ("unused_variables", "The clauses of short_words_v1 name len"),
     "hash_writes/build": ("unused_imports", "The clauses of hash_one name Hasher"),
-    "hash_crc/crc32": ("unused_imports", "Clauses name Hasher"),
+    "hash_more/crc32": ("unused_imports", "Clauses name Hasher"),
     "hash_keyed/words": ("unused_labels", "Proofs name the loops"),
     "hash_bloom/bits": ("unused_variables", "The clauses of ones name bits"),
     "hash_lines/line": ("unused_imports", "Clauses name MOST_DIGITS"),
     "hash_lines/parse": ("unused_imports", "Clauses name MOST_DIGITS"),
     "hash_cuts/cuts": ("dead_code, unused_labels", "Clauses name the average, and proofs the loop"),
     "hash_cuts/gear": ("dead_code", "Clauses name the seeds"),
-    "hash_spread/keys": ("unused_labels", "Proofs name the loops"),
-    "hash_spread/named": ("unused_labels", "Proofs name the loops"),
-    "hash_sums/check": ("unused_imports", "Clauses name io"),
-    "hash_sums/laws": ("unused_imports", "The laws alone name the hashes"),
+    "spread_core/keys": ("unused_labels", "Proofs name the loops"),
+    "spread_core/named": ("unused_labels", "Proofs name the loops"),
+    "hashsum_core/check": ("unused_imports", "Clauses name io"),
+    "hashsum_core/laws": ("unused_imports", "The laws alone name the hashes"),
     "hashof/run": ("dead_code", "The tests alone call run"),
     "spread/table": ("unused_labels", "Proofs name the loop"),
     "spread/clock": ("unused_labels", "Proofs name the loop"),
-    "unique_lines/run": ("unused_labels", "A proof names the loop"),
-    "unique_lines/unread": ("unused_variables", "The clauses of fill name due"),
+    "dedup_core/run": ("unused_labels", "A proof names the loop"),
+    "dedup_core/unread": ("unused_variables", "The clauses of fill name due"),
 }
 
 # Functions whose contracts would be false in Rust, and why. They go, and so do their names in imports.

@@ -915,7 +915,7 @@ class Chunks(unittest.TestCase):
         self.assertEqual(_hashers._chunk_ends(b"a", bytearray(8), 63, 64, 64, 0, 0), 0)
 
     def test_sizes_that_are_not_given(self) -> None:
-        # as the program cuts has them: crates/hash_chunks/src/sizes.rt
+        # as the program cuts has them: crates/cuts_core/src/sizes.rt
         wanted: List[Tuple[Dict[str, int], Tuple[int, int, int]]] = [
             ({}, (16384, 65536, 262144)), ({"average": 100}, (64, 100, 400)), ({"average": 1024}, (256, 1024, 4096)),
             ({"least": 20000}, (20000, 65536, 262144)), ({"least": 65536}, (65536, 65536, 262144)), ({"least": 65537}, (65537, 262148, 1048592)),

@@ -8,9 +8,9 @@ use cli::frame::{About, wrong_word};
 use cli::help::help_for;
 use cli::program::{BUFFER, Program, run};
 use cli::progress::Cleared;
-use hash_chunks::failure::TooMany;
-use hash_chunks::listing::Lines;
-use hash_chunks::outcome::{Misuse, Outcome, Wrong, call_of, options, outcome_of, wrong_size};
+use cuts_core::failure::TooMany;
+use cuts_core::listing::Lines;
+use cuts_core::outcome::{Misuse, Outcome, Wrong, call_of, options, outcome_of, wrong_size};
 use std::alloc::{AllocError, Global};
 use std::io;
 use std::io::BufWriter;
@@ -52,7 +52,7 @@ impl Program for Cuts {
     ghost use Rattle.cli.specs.Call.{call_of};
     ghost use Rattle.cli.specs.Frame.{request_of};
     ghost use Rattle.cli.specs.Program.{EndsAs};
-    ghost use Rattle.hash_chunks.specs.Program.{options};
+    ghost use Rattle.cuts_core.specs.Program.{options};
 
     ghost says = { call_of options };
 

@@ -7,14 +7,14 @@ use cli::frame::{About, wrong_word};
 use cli::help::help_for;
 use cli::inputs::{Told, inputs};
 use cli::program::{BUFFER, Program, run};
+use dedup_core::TooMany;
+use dedup_core::outcome::{Outcome, call_of, options, outcome_of};
 use std::alloc::{AllocError, Global};
 use std::io;
 use std::io::BufWriter;
 use std::process::ExitCode;
 use streams::failure::Nothing;
 use text_set::RandomKeys;
-use unique_lines::TooMany;
-use unique_lines::outcome::{Outcome, call_of, options, outcome_of};
 
 /// The program's name.
 const NAME: &str = "dedup";
@@ -49,7 +49,7 @@ impl Program for Dedup {
     ghost use Rattle.cli.specs.Call.{call_of};
     ghost use Rattle.cli.specs.Frame.{request_of};
     ghost use Rattle.cli.specs.Program.{EndsAs};
-    ghost use Rattle.unique_lines.specs.Program.{options};
+    ghost use Rattle.dedup_core.specs.Program.{options};
 
     ghost says = { call_of options };
 

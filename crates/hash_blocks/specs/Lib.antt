@@ -1,3 +1,16 @@
 pub mod Blocks
 pub mod BlocksLaws
 pub mod Standing
+pub mod Murmur3
+pub mod Murmur3Laws
+pub mod Murmur3x128
+pub mod Murmur3x128Laws
+pub mod Xxh32
+pub mod Xxh32Laws
+pub mod Xxh32Rule
+pub mod Xxh64
+pub mod Xxh64Laws
+pub mod Xxh64Rule
+pub mod SipHash
+pub mod SipHashBack
+pub mod SipHashLaws

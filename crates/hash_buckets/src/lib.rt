@@ -6,7 +6,7 @@ ghost use Rattle.std.specs.Coded.{coded_list, coded_ℕ};
 ghost use Rattle.std.specs.FinMap as map;
 ghost use Rattle.std.specs.List.{position, sum_by};
 ghost use Rattle.std.specs.Str.{bytes_eq};
-ghost use Rattle.text_maps.specs.TextMaps.{InsertsCommute, OthersStay};
+ghost use Rattle.text_set.specs.TextMaps.{InsertsCommute, OthersStay};
 ghost use Rattle.hash_buckets.specs.Table.{Table, table_of, pairs, held, pairs_of_each, number_by, AreBuckets, IsBucket, IsChange, HasEachKeyOnce, value_at};
 ghost use Rattle.hash_buckets.specs.Commands.{reply_to, replies_to, content_after, NeedsMemory, StopsAt};
 
@@ -245,34 +245,34 @@ impl<H: Piecewise, const N: usize> Buckets<H, N> {
 }
 
 /// What `get` answers after `insert`, with no code: the value at its key, and at every other key what it was.
-#[tactic(auto, using(text_maps::proofs::TextMapLemmas::get_insert_same, text_maps::proofs::TextMapLemmas::get_insert_other))]
+#[tactic(auto, using(text_set::proofs::TextMapLemmas::get_insert_same, text_set::proofs::TextMapLemmas::get_insert_other))]
 pub fn get_after_insert()
     ensures same { (t : Table) (k : List ℕ) (v : ℕ) → map.get (map.insert t k v) k ≡ Some v }
     ensures others { (t : Table) (k : List ℕ) (v : ℕ) → OthersStay t (map.insert t k v) k }
 {}
 
 /// What `get` answers after `remove`, with no code: nothing at its key, and at every other key what it was.
-#[tactic(auto, using(text_maps::proofs::TextMapLemmas::get_remove_same, text_maps::proofs::TextMapLemmas::get_remove_other))]
+#[tactic(auto, using(text_set::proofs::TextMapLemmas::get_remove_same, text_set::proofs::TextMapLemmas::get_remove_other))]
 pub fn get_after_remove()
     ensures same { (t : Table) (k : List ℕ) → map.get (map.remove t k) k ≡ None }
     ensures others { (t : Table) (k : List ℕ) → OthersStay t (map.remove t k) k }
 {}
 
 /// Inserts of different keys commute, with no code.
-#[tactic(auto, using(text_maps::proofs::TextMapLemmas::inserts_commute))]
+#[tactic(auto, using(text_set::proofs::TextMapLemmas::inserts_commute))]
 pub fn inserts_commute()
     ensures { (t : Table) (k q : List ℕ) (v w : ℕ) → k ≢ q → InsertsCommute t k v q w }
 {}
 
 /// To insert a new key and to remove it again leaves the table as it was, with no code.
-#[tactic(auto, using(text_maps::proofs::TextMapLemmas::removal_undoes_insert))]
+#[tactic(auto, using(text_set::proofs::TextMapLemmas::removal_undoes_insert))]
 pub fn removal_undoes_insert()
     ensures { (t : Table) (k : List ℕ) (v : ℕ) → map.get t k ≡ None
         → map.remove (map.insert t k v) k ≡ t }
 {}
 
 /// To insert another value and then the old one again leaves the table as it was, with no code.
-#[tactic(auto, using(text_maps::proofs::TextMapLemmas::old_value_undoes_insert))]
+#[tactic(auto, using(text_set::proofs::TextMapLemmas::old_value_undoes_insert))]
 pub fn old_value_undoes_insert()
     ensures { (t : Table) (k : List ℕ) (v w : ℕ) → map.get t k ≡ Some w
         → map.insert (map.insert t k v) k w ≡ t }

@@ -1,6 +1,6 @@
 -- What the proofs of this crate share of std, of the crates below and of its own definitions, passed on from one place.
-pub use Rattle.hash_laws.proofs.ByteLemmas.{after_below}
-pub use Rattle.hash_laws.proofs.RecurrenceLemmas.{recurrence_is_fold}
+pub use Rattle.hash_laws.specs.ByteLaws.{after_below}
+pub use Rattle.hash_laws.specs.RecurrenceLaws.{recurrence_is_fold}
 pub use Rattle.hash_rounds.proofs.SumLemmas.{digit_sum-lt, from_be_bytes-8, loselose-add, loselose-append, passthrough_of_last, passthrough_sums, sdbm_of_one, sdbm_push, sdbm_sums}
 pub use Rattle.hash_rounds.specs.Sums.{digit_sum, loselose_from, passthrough_step}
 unfoldable pub use Rattle.hash_rounds.specs.Sums.{passthrough_from, sdbm_from}

@@ -1,7 +1,7 @@
 -- The hash of Fowler, Noll and Vo in the variant 1a (the FNV authors' page, www.isthe.com/chongo/tech/comp/fnv).
 use Rattle.std.specs.Prelude.{ℕ, ◌*◌, ◌%◌, ◌^◌, List, bit_xor}
 use Rattle.hash_laws.specs.Recurrence.{recurrence}
-pub use Rattle.hash_rules.specs.FnvParts.{fnv1a32_basis, fnv1a64_basis, fnv1_step}
+pub use Rattle.hash_laws.specs.FnvParts.{fnv1a32_basis, fnv1a64_basis, fnv1_step}
 
 -- one byte: it is xored in, and then a product by the FNV prime
 abbrev pub fnv1a32_step : ℕ → ℕ → ℕ

@@ -5,8 +5,10 @@ ghost use Rattle.std.proofs.Common.{lit<};
 ghost use Rattle.hash_bytes.specs.Fnv.{fnv1a32_step, fnv1a64_step, fnv0, fnv1a32_basis, fnv1a32_from, fnv1a64_basis, fnv1a64_from, fnv1a32_of, fnv1a64_of};
 ghost use Rattle.hash_bytes.specs.FnvLaws.{fnv1a32_facts, fnv1a64_facts};
 
-pub use hash_rules::constants::{BASIS_32, BASIS_64, PRIME_32, PRIME_64, UNPRIME_32, UNPRIME_64};
-use hash_rules::{ByteHasher, Plain, PlainRule, PlainUndo, hash_by_plain};
+pub use hash_laws::rules::constants::{
+    BASIS_32, BASIS_64, PRIME_32, PRIME_64, UNPRIME_32, UNPRIME_64,
+};
+use hash_laws::rules::{ByteHasher, Plain, PlainRule, PlainUndo, hash_by_plain};
 
 /// The 32 bytes of which the authors took the starts: a line of Noll's signature.
 const SIGNATURE: [u8; 32] = *b"chongo <Landon Curt Noll> /\\../\\";

@@ -5,10 +5,10 @@ ghost use Rattle.std.proofs.Math.Nat.{mod-lt};
 ghost use Rattle.hash_rounds.specs.Sums.{digit_sum, passthrough_from, passthrough_step};
 ghost use Rattle.hash_rounds.proofs.SumLemmas.{passthrough_sums};
 ghost use Rattle.hash_laws.specs.Standing.{StandsAt};
-ghost use Rattle.hash_laws.proofs.ByteLemmas as bytewise;
+ghost use Rattle.hash_laws.specs.ByteLaws as bytewise;
 
+use hash_laws::rules::{ByteHasher, ByteRule, StepRule, hash_by_rule};
 use hash_laws::traits::{Piecewise, Streamed, hash_of};
-use hash_rules::{ByteHasher, ByteRule, StepRule, hash_by_rule};
 use std::hash::Hasher;
 
 /// The hasher that answers 0 to every text (the crate hashers' own, the worst case for a table). The value written

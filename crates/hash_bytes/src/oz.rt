@@ -7,12 +7,12 @@ ghost use Rattle.hash_bytes.specs.OzLaws.{djb2_facts, loselose_facts, sdbm_facts
 ghost use Rattle.hash_rounds.proofs.SumLemmas.{sdbm_sums, loselose-fold};
 ghost use Rattle.hash_bytes.specs.CountedSum.{sdbm_write, loselose_write};
 
-use hash_rounds::{Turns, lose8, sdbm4};
-pub use hash_rules::constants::UNPRODUCT_33;
-use hash_rules::{
+pub use hash_laws::rules::constants::UNPRODUCT_33;
+use hash_laws::rules::{
     ByteHasher, ByteRule, Plain, PlainRule, PlainUndo, StepRule, UndoRule, hash_by_plain,
     hash_by_rule,
 };
+use hash_rounds::{Turns, lose8, sdbm4};
 use std::hash::Hasher;
 use std::marker::Model;
 use std::simd::prelude::*;

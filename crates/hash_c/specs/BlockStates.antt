@@ -3,11 +3,11 @@ use Rattle.std.specs.Prelude.{ℕ, ◌≡◌, ◌<◌, List}
 use Rattle.hash_blocks.specs.Blocks.{Position, position, position_of}
 use Rattle.hash_c.specs.InWords.{of_murmur3, of_murmur3_32, of_siphash, of_xxh32, of_xxh64}
 use Rattle.hash_c.specs.declared.block.BlockState.{BlockState}
-use Rattle.hash_murmur3.specs.Murmur3 as murmur3_32
-use Rattle.hash_murmur3.specs.Murmur3x128 as murmur3
-use Rattle.hash_siphash.specs.SipHash as siphash
-use Rattle.hash_xxhash.specs.Xxh32Rule as xxh32
-use Rattle.hash_xxhash.specs.Xxh64Rule as xxh64
+use Rattle.hash_blocks.specs.Murmur3 as murmur3_32
+use Rattle.hash_blocks.specs.Murmur3x128 as murmur3
+use Rattle.hash_blocks.specs.SipHash as siphash
+use Rattle.hash_blocks.specs.Xxh32Rule as xxh32
+use Rattle.hash_blocks.specs.Xxh64Rule as xxh64
 
 abbrev pub mark_xxh32 : ℕ
 mark_xxh32 = 0x5b39_d3a6_8cf0_7101

@@ -8,12 +8,12 @@ pub use Rattle.hash_more.specs.Djb2Add.{djb2_add_from}
 pub use Rattle.hash_more.specs.Elf.{elf_from}
 pub use Rattle.hash_more.specs.Fnv1.{fnv1_32_from, fnv1_64_from}
 pub use Rattle.hash_more.specs.Joaat.{joaat_from, joaat_answer}
-pub use Rattle.hash_murmur3.specs.Murmur3.{murmur3_32}
-pub use Rattle.hash_murmur3.specs.Murmur3x128.{murmur3_128}
-pub use Rattle.hash_siphash.specs.SipHash.{siphash}
+pub use Rattle.hash_blocks.specs.Murmur3.{murmur3_32}
+pub use Rattle.hash_blocks.specs.Murmur3x128.{murmur3_128}
+pub use Rattle.hash_blocks.specs.SipHash.{siphash}
 pub use Rattle.hash_xxh3.specs.Xxh3.{xxh3_64_of}
-pub use Rattle.hash_xxhash.specs.Xxh32.{xxh32}
-pub use Rattle.hash_xxhash.specs.Xxh64.{xxh64}
+pub use Rattle.hash_blocks.specs.Xxh32.{xxh32}
+pub use Rattle.hash_blocks.specs.Xxh64.{xxh64}
 pub use Rattle.hashers.specs.Fnv.{fnv1a64_of, fnv1a32_from, fnv1a64_from, fnv1a32_basis, fnv1a64_basis, fnv1a32_of}
 pub use Rattle.hashers.specs.Fx.{fx32, fx64, words32, words64}
 pub use Rattle.hashers.specs.Lookup3.{lookup3_of, lookup3_from, lookup3_answer}

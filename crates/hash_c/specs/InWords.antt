@@ -1,7 +1,7 @@
 -- What a rule by the block keeps of its blocks, from words and a flag.
 use Rattle.std.specs.Prelude.{ℕ, ◌%◌, ◌^◌, not, nat_eq, List, [], ◌∷◌, slice_index}
-use Rattle.hash_xxhash.specs.declared.at_32.Lanes32.{Lanes32}
-use Rattle.hash_xxhash.specs.declared.at_64.Lanes.{Lanes}
+use Rattle.hash_blocks.specs.declared.xxhash.at_32.Lanes32.{Lanes32}
+use Rattle.hash_blocks.specs.declared.xxhash.at_64.Lanes.{Lanes}
 
 -- the low half of a word
 abbrev pub low : List ℕ → ℕ → ℕ

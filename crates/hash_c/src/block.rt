@@ -7,10 +7,10 @@ ghost use Rattle.hash_c.specs.BlockStates.{IsMurmur3State, IsMurmur32State, IsSi
 use crate::in_words::InWords;
 use crate::spooky::{Words, two_words};
 use hash_blocks::bytes_in;
-use hash_murmur3::{Murmur3Rule32, Murmur3Rule128, murmur3_32, murmur3_128};
-use hash_siphash::{SipKey, SipRule, siphash13, siphash24};
+use hash_blocks::murmur3::{Murmur3Rule32, Murmur3Rule128, murmur3_32, murmur3_128};
+use hash_blocks::siphash::{SipKey, SipRule, siphash13, siphash24};
+use hash_blocks::xxhash::{Xxh32Rule, Xxh64Rule, xxh32, xxh64};
 use hash_words::put;
-use hash_xxhash::{Xxh32Rule, Xxh64Rule, xxh32, xxh64};
 
 // The marks of the states: bytes that hardly lie in memory by chance.
 const XXH32: u64 = 0x5b39_d3a6_8cf0_7101;

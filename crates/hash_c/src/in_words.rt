@@ -5,9 +5,9 @@ ghost use Rattle.std.proofs.Common.{lit≤};
 ghost use Rattle.hash_c.specs.InWords.{of_murmur3, of_murmur3_32, of_siphash, of_xxh32, of_xxh64};
 
 use hash_blocks::BlockRule;
-use hash_murmur3::{Murmur3Rule32, Murmur3Rule128};
-use hash_siphash::SipRule;
-use hash_xxhash::{Lanes, Lanes32, Xxh32Rule, Xxh64Rule};
+use hash_blocks::murmur3::{Murmur3Rule32, Murmur3Rule128};
+use hash_blocks::siphash::SipRule;
+use hash_blocks::xxhash::{Lanes, Lanes32, Xxh32Rule, Xxh64Rule};
 
 /// A rule of blocks of at most 32 bytes that keeps at most four words and a flag.
 pub trait InWords<const N: usize>: BlockRule<N> {

@@ -2,15 +2,15 @@
 ghost use Rattle.std.specs.Prelude.{◌≡◌};
 ghost use Rattle.hash_c.specs.Common.{crc32_of, crc32c_of, djb2_add_from, elf_from, fnv1_32_from, fnv1_64_from, joaat_from, joaat_answer, fnv1a32_basis, fnv1a64_basis, fnv1a32_of, fnv1a64_of, fx32, fx64, words32, words64, lookup3_of, oaat_of, djb2_of, bricolage_from, spooky, spooky_v1, loselose_from, passthrough_from, sdbm_from, murmur3_32, murmur3_128, siphash, xxh3_64_of, xxh32, xxh64};
 
+use hash_blocks::murmur3::{murmur3_32, murmur3_128};
+use hash_blocks::siphash::{SipKey, siphash13, siphash24};
+use hash_blocks::xxhash::{xxh32, xxh64};
 use hash_more::crc32::{crc32, crc32c};
 use hash_more::djb2_add::djb2_add;
 use hash_more::elf::elf;
 use hash_more::fnv1::{fnv1_32, fnv1_64};
 use hash_more::joaat::joaat;
-use hash_murmur3::{murmur3_32, murmur3_128};
-use hash_siphash::{SipKey, siphash13, siphash24};
 use hash_xxh3::xxh3_64;
-use hash_xxhash::{xxh32, xxh64};
 use hashers::fnv::{fnv1a32, fnv1a64};
 use hashers::fx_hash::{fxhash, fxhash32, fxhash64};
 use hashers::jenkins;

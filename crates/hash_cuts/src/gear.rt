@@ -90,7 +90,7 @@ impl Gear {
     }
 
     /// The hash of a text.
-    #[tactic(auto, using(hash_laws::proofs::RecurrenceLemmas::turns))]
+    #[tactic(auto, using(hash_laws::specs::RecurrenceLaws::turns))]
     pub fn hash(&self, text: &[u8]) -> u64
         ensures { result ≡ gear_of (gear self.now.0 self.now.1) text.now }
     {

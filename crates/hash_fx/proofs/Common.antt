@@ -1,7 +1,7 @@
 -- What the proofs of this crate share of std, of the crates below and of its own definitions, passed on from one place.
 pub use Rattle.hash_fx.specs.Fx.{fx32, fx32_step, fx64, fx64_step, words32, words64}
-pub use Rattle.hash_laws.proofs.ByteLemmas.{Undoing, undoing_all, undoing_more, undoing_none}
-pub use Rattle.hash_laws.proofs.RecurrenceLemmas.{recurrence-fold, recurrence-nil}
+pub use Rattle.hash_laws.specs.ByteLaws.{Undoing, undoing_all, undoing_more, undoing_none}
+pub use Rattle.hash_laws.specs.RecurrenceLaws.{recurrence-fold, recurrence-nil}
 pub use Rattle.hash_laws.specs.Recurrence.{from_last}
 unfoldable pub use Rattle.hash_laws.specs.Recurrence.{recurrence}
 unfoldable pub use Rattle.hash_words.specs.Pieces.{pieces}

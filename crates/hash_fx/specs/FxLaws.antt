@@ -11,8 +11,8 @@ use Rattle.hash_words.specs.Pieces.{pieces}
 use Rattle.hash_words.proofs.PieceLemmas.{le-lt}
 use Rattle.hash_fx.specs.Fx.{fx32_step, fx64_step}
 use Rattle.hash_laws.specs.Text.{IsText}
-use Rattle.hash_laws.proofs.TextLemmas.{IsByte}
-use Rattle.hash_laws.proofs.RecurrenceLemmas.{recurrence-nil}
+use Rattle.hash_laws.specs.TextLaws.{IsByte}
+use Rattle.hash_laws.specs.RecurrenceLaws.{recurrence-nil}
 use Rattle.hash_fx.specs.Fx.{fx32, fx64, words32, words64}
 
 abbrev pub IsWord : ℕ → ℕ → Type 0

@@ -3,12 +3,12 @@ ghost use Rattle.std.specs.Prelude.{◌≡◌, ◌^◌, ◌<◌, ℕ, List, refl
 ghost use Rattle.std.proofs.Common.{ap, subst, sym};
 ghost use Rattle.std.proofs.lemmas.Nat.{pow_pos};
 ghost use Rattle.hash_laws.proofs.ItemLemmas as itemwise;
-ghost use Rattle.hash_laws.proofs.RecurrenceLemmas.{recurrence-fold};
+ghost use Rattle.hash_laws.specs.RecurrenceLaws.{recurrence-fold};
 ghost use Rattle.hash_laws.specs.Recurrence.{recurrence};
 
 use crate::word::{FxSplit, FxWord};
+use hash_laws::rules::Word;
 use hash_laws::traits::{Piecewise, Undo};
-use hash_rules::Word;
 use std::hash::Hasher;
 use std::marker::{Model, PhantomData};
 

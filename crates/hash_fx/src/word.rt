@@ -9,7 +9,7 @@ ghost use Rattle.hash_fx.specs.FxLaws.{words32-fit, words32-length, words32-nil,
 ghost use Rattle.hash_fx.specs.FxStepLaws.{fx32_facts, fx64_facts};
 
 use crate::words::{eights_in, eights_out, fours_and_bytes_in, fours_and_bytes_out};
-use hash_rules::Word;
+use hash_laws::rules::Word;
 use hash_words::{le_four, rotl32, rotl64};
 
 /// A word of fx: a state, or what takes a state one step.

@@ -7,7 +7,7 @@ use Rattle.hash_rounds.specs.Blocks.{spooky_blocks}
 use Rattle.hash_words.specs.Words.{AreWords}
 use Rattle.hash_rounds.proofs.BlockLemmas.{spooky_blocks-append, spooky_blocks_short, spooky_blocks-take, spooky_blocks-words}
 use Rattle.hash_laws.specs.Text.{IsText}
-use Rattle.hash_laws.proofs.TextLemmas.{IsByte}
+use Rattle.hash_laws.specs.TextLaws.{IsByte}
 use Rattle.hash_jenkins.specs.Spooky.{Position, Short, Long, position, after, mixed, tail, long_start, hash, hash_v1, spooky, spooky_v1}
 use Rattle.hash_jenkins.specs.SpookyStanding.{IsPosition, SpookyStandsAt, spooky_from, spooky_v1_from}
 

@@ -5,8 +5,8 @@ ghost use Rattle.std.proofs.Common.{lit<};
 ghost use Rattle.hash_jenkins.specs.Oaat.{oaat_step, oaat_finish, oaat_state, oaat_of};
 ghost use Rattle.hash_jenkins.specs.OaatLaws.{oaat_facts, oaat_finish_same};
 
+use hash_laws::rules::{ByteHasher, Plain, PlainRule, PlainUndo, hash_by_plain};
 use hash_rounds::{unxorshift, xorshift};
-use hash_rules::{ByteHasher, Plain, PlainRule, PlainUndo, hash_by_plain};
 
 /// What undoes a product by 1025.
 const UN_1025: u64 = 1151796703138937857;

@@ -11,13 +11,13 @@ use Rattle.hash_more.specs.Djb2Add.{djb2_add_from}
 use Rattle.hash_more.specs.Elf.{elf_from}
 use Rattle.hash_more.specs.Fnv1.{fnv1_32_from, fnv1_64_from}
 use Rattle.hash_more.specs.Joaat.{joaat_answer, joaat_from}
-use Rattle.hash_murmur3.specs.Murmur3.{murmur3_32}
-use Rattle.hash_murmur3.specs.Murmur3x128.{murmur3_128}
+use Rattle.hash_blocks.specs.Murmur3.{murmur3_32}
+use Rattle.hash_blocks.specs.Murmur3x128.{murmur3_128}
 use Rattle.hash_names.specs.Named.{Row, row, row_of as ported_row, read_of as ported_read}
-use Rattle.hash_siphash.specs.SipHash.{siphash}
+use Rattle.hash_blocks.specs.SipHash.{siphash}
 use Rattle.hash_xxh3.specs.Xxh3.{xxh3_64_of}
-use Rattle.hash_xxhash.specs.Xxh32.{xxh32}
-use Rattle.hash_xxhash.specs.Xxh64.{xxh64}
+use Rattle.hash_blocks.specs.Xxh32.{xxh32}
+use Rattle.hash_blocks.specs.Xxh64.{xxh64}
 
 -- the table
 -- declared: rows

@@ -1,7 +1,7 @@
 -- Hashes of 128 bits of a text, each as one number: two words, the first above the second.
 use Rattle.std.specs.Prelude.{ℕ, ◌+◌, ◌*◌, ◌^◌, List}
 use Rattle.hash_jenkins.specs.Spooky.{spooky}
-use Rattle.hash_murmur3.specs.Murmur3x128.{murmur3_128}
+use Rattle.hash_blocks.specs.Murmur3x128.{murmur3_128}
 use Rattle.hash_xxh3.specs.Wide.{xxh3_128_of}
 
 abbrev pub both : ℕ × ℕ → ℕ

@@ -1,15 +1,15 @@
 //! The hash by a kind of all that a reader gives.
 ghost use Rattle.std.specs.Prelude.{◌<◌, ◌≤◌};
 ghost use Rattle.hash_kinds.specs.Named.{read_of};
-ghost use Rattle.hash_reading.specs.Limited.{Hashes, read};
-ghost use Rattle.hash_reading.specs.LimitedLaws.{Hashes-agree};
+ghost use Rattle.hash_laws.specs.Limited.{Hashes, read};
+ghost use Rattle.hash_laws.specs.LimitedLaws.{Hashes-agree};
 
 use crate::table::{Kind, by_kind};
 use crate::wide::WideHash;
+use hash_laws::reading::limited::{fed, hash_of_pieces, hash_of_text};
 use hash_laws::traits::{Piecewise, Streamed};
 pub use hash_names::reading::{PIECE, Unhashed};
 use hash_names::task::HashTask;
-use hash_reading::limited::{fed, hash_of_pieces, hash_of_text};
 use std::io::Read;
 use std::marker::PhantomData;
 

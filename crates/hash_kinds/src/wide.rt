@@ -3,9 +3,9 @@ ghost use Rattle.std.specs.Prelude.{◌≡◌, ◌+◌, ◌*◌, ◌^◌, ℕ, L
 ghost use Rattle.hash_kinds.specs.Wide.{both, murmur3_128_of, spooky128, xxh128};
 
 use hash_blocks::BlockHasher;
+use hash_blocks::murmur3::Murmur3Rule128;
 use hash_jenkins::spooky_hash::SpookyHasher;
 use hash_laws::traits::Streamed;
-use hash_murmur3::Murmur3Rule128;
 use hash_xxh3::Xxh3Hasher;
 
 /// A hasher of texts that has 128 bits of them, as one number.

@@ -1,5 +1,5 @@
 -- How many values have a property.
-use Rattle.hash_laws.proofs.Common.{◌≡◌, sym, lit<, arith}
+use Rattle.hash_laws.specs.Common.{◌≡◌, sym, lit<, arith}
 use Rattle.hash_laws.specs.Exactly.{Exactly}
 
 -- one has it, and no other

@@ -1,7 +1,7 @@
 -- What follows for a hasher whose state is a number below a bound, and which splits a piece into items below a bound and
 -- takes a step for each. The facts of the step and of the split are passed in.
-use Rattle.hash_laws.proofs.Common.{ℕ, ◌≡◌, ◌<◌, List, [], fold, ap, sym, ◌∙◌, All, IsText}
-use Rattle.hash_laws.proofs.FoldLemmas.{fold_in_range, fold_cancels}
+use Rattle.hash_laws.specs.Common.{ℕ, ◌≡◌, ◌<◌, List, [], fold, ap, sym, ◌∙◌, All, IsText}
+use Rattle.hash_laws.specs.FoldLaws.{fold_in_range, fold_cancels}
 
 abbrev pub IsBelow : ℕ → ℕ → Type 0
 IsBelow bound n = n < bound

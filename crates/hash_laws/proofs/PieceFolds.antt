@@ -1,6 +1,6 @@
 -- Where a text in two pieces leads to where it leads whole, so does one in any pieces.
-use Rattle.hash_laws.proofs.Common.{◌≡◌, List, [], ◌∷◌, ◌++◌, ℕ, fold, sym, ◌∙◌, flat_map, All, All-nil, All-append, All-head, All-tail, IsText}
-use Rattle.hash_laws.proofs.TextLemmas.{IsByte}
+use Rattle.hash_laws.specs.Common.{◌≡◌, List, [], ◌∷◌, ◌++◌, ℕ, fold, sym, ◌∙◌, flat_map, All, All-nil, All-append, All-head, All-tail, IsText}
+use Rattle.hash_laws.specs.TextLaws.{IsByte}
 
 module _ {S : Type 0} (is_state : S → Type 0) (after : S → List ℕ → S)
     (after_in_range : (s : S) (piece : List ℕ) → is_state s → IsText piece → is_state (after s piece))

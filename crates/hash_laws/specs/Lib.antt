@@ -3,3 +3,13 @@ pub mod Recurrence
 pub mod Standing
 pub mod StepFacts
 pub mod Text
+pub mod FnvParts
+pub mod Limited
+pub mod LimitedLaws
+pub mod Reading
+pub mod DifferWithin
+pub mod Common
+pub mod FoldLaws
+pub mod TextLaws
+pub mod RecurrenceLaws
+pub mod ByteLaws

@@ -2,7 +2,7 @@
 -- for each byte a product by the FNV prime, and then the byte is xored in.
 use Rattle.std.specs.Prelude.{ℕ, List}
 use Rattle.hash_laws.specs.Recurrence.{recurrence}
-use Rattle.hash_rules.specs.FnvParts.{fnv1_step}
+use Rattle.hash_laws.specs.FnvParts.{fnv1_step}
 
 -- one byte
 abbrev pub fnv1_32_step : ℕ → ℕ → ℕ

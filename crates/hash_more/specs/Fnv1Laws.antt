@@ -1,7 +1,7 @@
 -- The steps of FNV-1 undone: they stay in range and are injective.
 use Rattle.std.proofs.Common.{◌≡◌, ℕ, ◌*◌, ◌%◌, ◌^◌, ◌<◌, ◌≤◌, bit_xor, refl, lit≤, arith}
 use Rattle.hash_laws.specs.StepFacts.{StepFacts}
-use Rattle.hash_rules.specs.FnvParts.{fnv1_step}
+use Rattle.hash_laws.specs.FnvParts.{fnv1_step}
 use Rattle.hash_words.specs.Undoes.{UndoesWords}
 use Rattle.hash_words.proofs.UndoLemmas.{◌▷◌, told, xored, xored_onto, multiplied}
 use Rattle.hash_words.proofs.XorLemmas.{xored_64}

@@ -6,5 +6,7 @@ pub mod Fnv1
 pub mod Fnv1Laws
 pub mod Joaat
 pub mod JoaatLaws
-pub use Rattle.hash_crc.specs.Crc32
-pub use Rattle.hash_crc.specs.Crc32Laws
+pub use Rattle.hash_more.specs.Crc32
+pub use Rattle.hash_more.specs.Crc32Laws
+pub mod Crc32
+pub mod Crc32Laws

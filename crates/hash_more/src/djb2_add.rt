@@ -4,8 +4,8 @@ ghost use Rattle.std.proofs.Common.{lit<};
 ghost use Rattle.hash_more.specs.Djb2Add.{djb2_add_step, djb2_add_from};
 ghost use Rattle.hash_more.specs.Djb2AddLaws.{djb2_add_facts};
 
-use hash_rules::constants::UNPRODUCT_33;
-use hash_rules::{ByteHasher, Plain, PlainRule, PlainUndo, hash_by_plain};
+use hash_laws::rules::constants::UNPRODUCT_33;
+use hash_laws::rules::{ByteHasher, Plain, PlainRule, PlainUndo, hash_by_plain};
 
 /// The rule of djb2 with a sum.
 pub struct Djb2AddRule;

@@ -5,7 +5,7 @@ ghost use Rattle.std.proofs.Common.{lit<};
 ghost use Rattle.hash_more.specs.Elf.{elf_step, elf_from};
 ghost use Rattle.hash_more.specs.ElfLaws.{elf_in_range};
 
-use hash_rules::{ByteHasher, Plain, PlainRule, hash_by_plain};
+use hash_laws::rules::{ByteHasher, Plain, PlainRule, hash_by_plain};
 
 /// The rule of ELF's hash. Its steps lose information, so there is no inverse.
 pub struct ElfRule;

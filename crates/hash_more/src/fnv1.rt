@@ -2,12 +2,12 @@
 //! and then an exclusive or. The starts and the primes are those of the variant 1a.
 ghost use Rattle.std.specs.Prelude.{◌≡◌, ◌^◌, ◌<◌};
 ghost use Rattle.std.proofs.Common.{lit<};
-ghost use Rattle.hash_rules.specs.FnvParts.{fnv1a32_basis, fnv1a64_basis};
+ghost use Rattle.hash_laws.specs.FnvParts.{fnv1a32_basis, fnv1a64_basis};
 ghost use Rattle.hash_more.specs.Fnv1.{fnv1_32_step, fnv1_64_step, fnv1_32_from, fnv1_64_from};
 ghost use Rattle.hash_more.specs.Fnv1Laws.{fnv1_32_facts, fnv1_64_facts};
 
-use hash_rules::constants::{BASIS_32, BASIS_64, PRIME_32, PRIME_64, UNPRIME_32, UNPRIME_64};
-use hash_rules::{ByteHasher, Plain, PlainRule, PlainUndo, hash_by_plain};
+use hash_laws::rules::constants::{BASIS_32, BASIS_64, PRIME_32, PRIME_64, UNPRIME_32, UNPRIME_64};
+use hash_laws::rules::{ByteHasher, Plain, PlainRule, PlainUndo, hash_by_plain};
 
 /// The rule of FNV-1 at 32 bits.
 pub struct Fnv1Rule32;

@@ -5,7 +5,7 @@ ghost use Rattle.hash_words.specs.Words.{xorshift};
 ghost use Rattle.hash_more.specs.Joaat.{joaat_step, joaat_from, joaat_answer};
 ghost use Rattle.hash_more.specs.JoaatLaws.{joaat_facts, joaat_answer_same};
 
-use hash_rules::{ByteHasher, Plain, PlainRule, PlainUndo, hash_by_plain};
+use hash_laws::rules::{ByteHasher, Plain, PlainRule, PlainUndo, hash_by_plain};
 use hash_words::unxorshift;
 
 /// What undoes a product by 1025.

@@ -1,8 +1,8 @@
 -- fx of a text in pieces of 4096 bytes, which are whole words.
 use Rattle.std.proofs.Common.{◌≡◌, ◌%◌, ℕ, List, ◌++◌, length, fold, lit<, arith, ap, ◌∙◌}
-use Rattle.hash_reading.specs.Reading.{cut}
-use Rattle.hash_reading.proofs.ReadingLemmas.{fold-cut_whole}
-use Rattle.hash_laws.proofs.RecurrenceLemmas.{recurrence-append}
+use Rattle.hash_laws.specs.Reading.{cut}
+use Rattle.hash_laws.proofs.ReadingLemmas.{fold-cut_whole}
+use Rattle.hash_laws.specs.RecurrenceLaws.{recurrence-append}
 use Rattle.hash_fx.specs.Fx.{fx32_step, fx64_step, fx32, fx64, words32, words64}
 use Rattle.hash_fx.specs.FxLaws.{fx32_nothing, fx64_nothing}
 use Rattle.hash_fx.proofs.WholeWords.{words32-append, words64-append}

@@ -1,2 +1,2 @@
 pub mod Named
-pub use Rattle.hash_reading.specs.Limited
+pub use Rattle.hash_laws.specs.Limited

@@ -12,7 +12,7 @@ use Rattle.hash_jenkins.specs.Spooky.{spooky, spooky_v1}
 use Rattle.hash_names.specs.declared.table.Ported.{Ported}
 use Rattle.hash_names.specs.declared.table.Ported.TheVariants.{Fnv1a32, Fnv1a64, Djb2, Sdbm, LoseLose, Bricolage, Oaat, Lookup3, Spooky, SpookyV1, PassThrough, FxHash, FxHash32, FxHash64, Null}
 use Rattle.hash_names.specs.declared.table.TheConstants.{PORTED}
-use Rattle.hash_reading.specs.Reading.{cut}
+use Rattle.hash_laws.specs.Reading.{cut}
 use Rattle.hash_rounds.specs.Sums.{sdbm_from, loselose_from, passthrough_from}
 
 -- what is said of a hash: its number among all hashes, which never changes, its name, how many bits its numbers have, whether cuts

@@ -2,13 +2,13 @@
 ghost use Rattle.std.specs.Prelude.{◌<◌, ◌≤◌};
 ghost use Rattle.hash_names.specs.Named.{named};
 ghost use Rattle.hash_names.specs.Limited.{Hashes, HashesNamed, read};
-ghost use Rattle.hash_reading.specs.LimitedLaws.{Hashes-agree};
+ghost use Rattle.hash_laws.specs.LimitedLaws.{Hashes-agree};
 
 use crate::table::{by_ported, ported_named};
 use crate::task::HashTask;
+pub use hash_laws::reading::limited::Unhashed;
+use hash_laws::reading::limited::{hash_of_pieces, hash_of_text};
 use hash_laws::traits::{Piecewise, Streamed};
-pub use hash_reading::limited::Unhashed;
-use hash_reading::limited::{hash_of_pieces, hash_of_text};
 use std::io::Read;
 use std::marker::PhantomData;
 

@@ -19,7 +19,7 @@ pub use Rattle.std.specs.List.{IsAllAdjacentAnswer, IsDistinct, list_any}
 pub use Rattle.std.specs.List.Sorted.{IsSorted, IsBinarySearchResult, IsSearchInRange, IsSortedBy, IsNonDecreasingBy}
 pub use Rattle.std.specs.Ordering.{nat_cmp, is_eq, eq_by_cmp, ordering_reverse, ordering_then, is_le, is_some_and, partial_ordering_then}
 pub use Rattle.hashers.specs.Text.{texts}
-pub use Rattle.text_maps.proofs.TextMapLemmas.{alike, get_insert, get_remove, removal_undoes_insert, not_same, order_does_not_show, removal_of_nothing, same, same_itself, same_key, get_remove_other, get_remove_same}
+pub use Rattle.text_set.proofs.TextMapLemmas.{alike, get_insert, get_remove, removal_undoes_insert, not_same, order_does_not_show, removal_of_nothing, same, same_itself, same_key, get_remove_other, get_remove_same}
 pub use borrow.Author.Tests.{eqb-true, ltb-true, ltb-false}
 pub use Rattle.hash_ring.specs.Points.{ArePoints, IsBefore, IsGapAt, IsNamedAt, IsPointOfItsNode, IsRing, IsStart, closed_up, index_round, left_without, name_at, names_at, node_at, nodes_of, opened_up, pair_of, pairs, points_of, ring_of}
 pub use Rattle.hash_ring.specs.Ring.{AreOwners, AreShares, AreStretches, HasPoint, IsFirst, IsFirstToPass, IsOwner, IsPointOf, MovesOnlyFrom, MovesOnlyTo, Nodes, Stretch, point, share_of, turn, without}

@@ -5,7 +5,7 @@ use Rattle.std.specs.List.Sorted.{IsPermutation}
 use Rattle.std.specs.Ordering.{is_lt, is_gt}
 use Rattle.std.specs.FinMap as fin
 use Rattle.std.specs.FinMap.Entries.{below_all, where_key, by_order, is_sorted-put, is_sorted-where_key, find-where_key}
-use Rattle.text_maps.specs.TextMaps.{KeysDiffer, with_all}
+use Rattle.text_set.specs.TextMaps.{KeysDiffer, with_all}
 
 abbrev pub Pairs : Type 0
 Pairs = List (List ℕ × ℕ)

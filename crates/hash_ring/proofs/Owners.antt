@@ -2,7 +2,7 @@
 use Rattle.hash_ring.proofs.Common.{ℕ, zero, suc, min, is_some, take, ◌≡◌, ◌≢◌, ◌+◌, ◌-◌, ◌<◌, ◌≤◌, Bool, T, true, false, not, cond, List, [], ◌∷◌, ◌++◌, length, get_or, Option, Some, None, arith, sym, ap, ◌∙◌, subst, refl, ⊎_elim, inl, inr, ◌⊎◌, ◌↔◌, IsTrue, nat_eq, list_any, eqb-true, nat_list_cmp_total, is_sorted, cases_lt, nat_tests, elements, All-contains, All-nil, All-push, All-take, Contains-append_left, Contains-push, get_or_default, get_or-map, length-map, take_more, Any-from_list_any, list_any-from_Any, AllPairs-cons, get_remove, get_remove_other, get_remove_same, same, same_itself, same_key, eq_by_cmp_equiv, Node, Point, AreOwners, IsFirst, IsFirstToPass, without, HasPoint, IsOwner, IsPointOf, Nodes, point, turn, IsBefore, IsRing, IsStart, index_round, name_at, names_at, node_at, nodes_of, pair_of, pairs, is_gt, length-take-le, Contains-from_any, list_any-from_Contains}
 use Rattle.std.specs.List.{All, AllPairs, Contains}
 use Rattle.std.specs.FinMap as fin
-use Rattle.text_maps.proofs.TextMapLemmas.{alike as same_if_alike}
+use Rattle.text_set.proofs.TextMapLemmas.{alike as same_if_alike}
 use Rattle.hash_ring.proofs.PointLemmas.{is_there}
 use Rattle.hash_ring.proofs.Names.{Pairs, by_bytes, found_at, found_where, entries_are, get_is, name_tests, names_rise, no_greater, read}
 

@@ -8,7 +8,7 @@ use Rattle.std.specs.FinMap.{from_sorted}
 use Rattle.std.specs.FinMap.Entries.{is_sorted}
 use Rattle.std.specs.Global.{Vec}
 use Rattle.std.specs.List.Sorted.{IsPermutation}
-use Rattle.text_maps.specs.TextMaps.{KeysDiffer}
+use Rattle.text_set.specs.TextMaps.{KeysDiffer}
 use Rattle.hash_ring.specs.declared.Node.{Node}
 use Rattle.hash_ring.specs.declared.points.Point.{Point}
 use Rattle.hash_ring.specs.declared.Refused.{Refused}

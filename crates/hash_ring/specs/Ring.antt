@@ -8,7 +8,7 @@ use Rattle.std.specs.Global.{Vec}
 use Rattle.hash_ring.specs.declared.Refused.{Refused}
 use Rattle.hash_ring.specs.declared.Refused.TheVariants.{IsThere, NoRoom}
 use Rattle.std.specs.FinMap.{entries, get, remove}
-use Rattle.text_maps.specs.TextMaps.{TextMap}
+use Rattle.text_set.specs.TextMaps.{TextMap}
 
 -- the nodes: names with their weights
 abbrev pub Nodes : Type 0

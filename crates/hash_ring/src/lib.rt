@@ -19,7 +19,7 @@ ghost use Rattle.std.specs.List.{All, AllPairs};
 ghost use Rattle.std.specs.Ordering.{nat_cmp};
 ghost use Rattle.std.specs.List.Sorted.{IsPermutation};
 ghost use Rattle.hashers.specs.Text.{texts};
-ghost use Rattle.text_maps.specs.TextMaps.{InsertsCommute, KeysDiffer, OthersStay, with_all};
+ghost use Rattle.text_set.specs.TextMaps.{InsertsCommute, KeysDiffer, OthersStay, with_all};
 ghost use Rattle.hash_ring.specs.Ring.{Nodes, AreOwners, AreShares, BeginAlike, HandsBack, IsFirstToPass, IsOwner, KeepOrder, MovesOnlyFrom, MovesOnlyTo, OthersKeep, OwnsNothing};
 ghost use Rattle.hash_ring.specs.Points.{AddsPoints, ArePoints, HandsAllBack, IsBefore, IsGapAt, IsNamedAt, IsRing, names_at, nodes_of, opened_up, pair_of, pairs, points_of, ring_of};
 
@@ -456,7 +456,7 @@ pub fn new_node_moves_keys_only_to_it<H: Piecewise>()
 {}
 
 /// To add a node and to remove it again leaves the nodes as they were, with no code, and so each owner.
-#[tactic(auto, using(text_maps::proofs::TextMapLemmas::removal_undoes_insert))]
+#[tactic(auto, using(text_set::proofs::TextMapLemmas::removal_undoes_insert))]
 pub fn removal_undoes_adding()
     ensures { (m : Nodes) (k : List ℕ) (w : ℕ) → map.get m k ≡ None
         → map.remove (map.insert m k w) k ≡ m }
@@ -471,7 +471,7 @@ pub fn adding_undoes_removal()
 
 /// The order in which nodes came doesn't show, with no code: two orders, and all orders of a list of nodes with different names, lead to
 /// the same nodes, and so to the same owners.
-#[tactic(auto, using(text_maps::proofs::TextMapLemmas::inserts_commute, text_maps::proofs::TextMapLemmas::order_does_not_show))]
+#[tactic(auto, using(text_set::proofs::TextMapLemmas::inserts_commute, text_set::proofs::TextMapLemmas::order_does_not_show))]
 pub fn order_does_not_show()
     ensures two { (m : Nodes) (k : List ℕ) (v : ℕ) (q : List ℕ) (w : ℕ) → k ≢ q
         → InsertsCommute m k v q w }
@@ -480,14 +480,14 @@ pub fn order_does_not_show()
 {}
 
 /// The weights after a node came, with no code: its own is the one that it came with, and every other node keeps its own.
-#[tactic(auto, using(text_maps::proofs::TextMapLemmas::get_insert_same, text_maps::proofs::TextMapLemmas::get_insert_other))]
+#[tactic(auto, using(text_set::proofs::TextMapLemmas::get_insert_same, text_set::proofs::TextMapLemmas::get_insert_other))]
 pub fn weights_after_adding()
     ensures its { (m : Nodes) (k : List ℕ) (w : ℕ) → map.get (map.insert m k w) k ≡ Some w }
     ensures others { (m : Nodes) (k : List ℕ) (w : ℕ) → OthersStay m (map.insert m k w) k }
 {}
 
 /// The weights after a node went, with no code: it has none, and every other node keeps its own.
-#[tactic(auto, using(text_maps::proofs::TextMapLemmas::get_remove_same, text_maps::proofs::TextMapLemmas::get_remove_other))]
+#[tactic(auto, using(text_set::proofs::TextMapLemmas::get_remove_same, text_set::proofs::TextMapLemmas::get_remove_other))]
 pub fn weights_after_removal()
     ensures its { (m : Nodes) (k : List ℕ) → map.get (map.remove m k) k ≡ None }
     ensures others { (m : Nodes) (k : List ℕ) → OthersStay m (map.remove m k) k }

@@ -8,12 +8,12 @@ ghost use Rattle.hashers.specs.Sums.{sdbm_from};
 
 use hash_buckets::old_value_undoes_insert;
 use hash_ring::{other_owners_keep_their_order, removal_undoes_adding};
-use hash_sums::laws::{
-    each_hash_fits, each_name_is_found, what_is_written_of_a_text_tells_its_hash,
-};
 use hashers::laws::Streamed;
 use hashers::oz::sdbm_combine;
 use hashers::{fnv, jenkins, laws, null, oz, rounds};
+use hashsum_core::laws::{
+    each_hash_fits, each_name_is_found, what_is_written_of_a_text_tells_its_hash,
+};
 use text_set::laws::{lines_of_joined_texts, texts_that_are_there_add_nothing};
 
 /// Whether two texts are apart under all four windowed hashes: within two neighbouring bytes, in their low five bits.

@@ -3,7 +3,7 @@ ghost use Rattle.std.specs.Prelude.{◌≡◌, ℕ, List, IsTrue};
 ghost use Rattle.std.specs.FinMap as map;
 ghost use Rattle.std.specs.List.Sorted.{IsPermutation};
 ghost use Rattle.hash_ring.specs.Ring.{IsOwner};
-ghost use Rattle.text_maps.specs.TextMaps.{KeysDiffer, with_all};
+ghost use Rattle.text_set.specs.TextMaps.{KeysDiffer, with_all};
 
 use hash_ring::{Ring, one_owner_alone, order_does_not_show};
 use hashers::laws::Piecewise;

@@ -31,7 +31,7 @@ fn write_bytes<H: Piecewise>(h: &mut H, bytes: &[u8])
 }
 
 /// Makes a write by the method of std's `Hasher` that is named as it.
-#[tactic(auto, using(hash_laws::proofs::TextLemmas::number_texts))]
+#[tactic(auto, using(hash_laws::specs::TextLaws::number_texts))]
 fn make<H: Piecewise>(h: &mut H, write: &HasherWrite)
     ensures state { H.state h.new ≡ H.after (H.state h.old) (written write.now) }
     ensures text { IsText (written write.now) }
@@ -54,7 +54,7 @@ fn unwrite_bytes<H: Undo>(h: &mut H, bytes: &[u8])
 }
 
 /// Takes a write back by `unwrite` of its bytes.
-#[tactic(auto, using(hash_laws::proofs::TextLemmas::number_bytes))]
+#[tactic(auto, using(hash_laws::specs::TextLaws::number_bytes))]
 fn take_back<H: Undo>(h: &mut H, write: &HasherWrite)
     ensures { IsTakenOut H.in_range H.after (H.state h.old) (H.state h.new) (written write.now) }
 {

@@ -1,5 +1,5 @@
 -- What the proofs of this crate share of std, of the crates below and of its own definitions, passed on from one place.
-pub use Rattle.hash_laws.proofs.TextLemmas.{IsByte, IsText-from_slice}
+pub use Rattle.hash_laws.specs.TextLaws.{IsByte, IsText-from_slice}
 pub use Rattle.hash_words.proofs.PutLemmas.{length-put_at, take-put_at, take-put_two}
 pub use Rattle.hash_words.specs.Put.{put_at}
 pub use Rattle.hash_words.specs.Words.{add, sub}

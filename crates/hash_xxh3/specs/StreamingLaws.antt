@@ -8,7 +8,7 @@ use Rattle.std.proofs.lemmas.Bool.Decides.{nat_tests}
 use Rattle.std.proofs.lemmas.List.{append_assoc, append-nil, drop-append-le, drop-drop}
 use Rattle.std.proofs.lemmas.List.Elements.{All-nil, All-append, All-drop}
 use Rattle.hash_laws.specs.Text.{IsText}
-use Rattle.hash_laws.proofs.TextLemmas.{IsByte}
+use Rattle.hash_laws.specs.TextLaws.{IsByte}
 use Rattle.hash_xxh3.specs.Long.{IsLanes, secret_of, start_lanes, stripes_in, accumulate, merge, end_words, end_long, long_under, of_long}
 use Rattle.hash_xxh3.specs.Streaming.{Position, Short, Long, more_stripes, kept_words, advanced, long_position, position, after, hash, IsPosition, Xxh3StandsAt, xxh3_from}
 use Rattle.hash_xxh3.specs.Xxh3.{xxh3_64_of}

@@ -3,7 +3,7 @@ use Rattle.hashers.proofs.Common.{◌≢◌, ℕ, ◌^◌, List, lit<, djb2_step
 use Rattle.hash_rounds.proofs.SumLemmas.{sdbm_sums}
 use Rattle.hashers.proofs.Djb2Window.{djb2_separates, spread_after, Near}
 use Rattle.hashers.proofs.SdbmWindow.{sdbm_separates, SdbmApart}
-use Rattle.hashers.proofs.FnvWindows.{fnv1a32_separates, fnv1a64_separates, Fnv32Apart, Fnv64Apart}
+use Rattle.hash_theorems.proofs.FnvWindows.{fnv1a32_separates, fnv1a64_separates, Fnv32Apart, Fnv64Apart}
 
 pub djb2_apart : (x y : List ℕ) → IsText x → IsText y → DifferWithin 6 0xE0 x y → djb2_from 5381 x ≢ djb2_from 5381 y
 djb2_apart x y = hash_apart djb2_step (2 ^ 32) 6 224 (λ n. Near (spread_after n)) djb2_separates djb2_from

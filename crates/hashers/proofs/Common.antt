@@ -9,11 +9,11 @@ pub use Rattle.hash_bytes.specs.Fnv.{fnv1a32_step, fnv1a64_step, fnv1a32_from, f
 pub use Rattle.hash_bytes.specs.Oz.{djb2_step, djb2_from}
 pub use Rattle.hash_bytes.specs.OzLaws.{djb2_facts, sdbm_facts}
 pub use Rattle.hash_fx.specs.Fx.{fx32, fx32_step, words32, fx64, fx64_step, words64}
-pub use Rattle.hash_laws.proofs.RecurrenceLemmas.{recurrence_is_fold, recurrence-pieces, recurrence-fold}
+pub use Rattle.hash_laws.specs.RecurrenceLaws.{recurrence_is_fold, recurrence-pieces, recurrence-fold}
 pub use Rattle.hash_laws.specs.Recurrence.{recurrence}
 pub use Rattle.hash_laws.specs.Text.{IsText}
 pub use Rattle.hash_rounds.specs.Sums.{sdbm_from, sdbm_step}
-pub use Rattle.hash_windows.proofs.Windows.{hash_apart, Separates, window_tells_apart}
-pub use Rattle.hash_windows.specs.DifferWithin.{DifferWithin}
+pub use Rattle.hash_laws.proofs.WindowLemmas.{hash_apart, Separates, window_tells_apart}
+pub use Rattle.hash_laws.specs.DifferWithin.{DifferWithin}
 pub use Rattle.hash_words.proofs.XorLemmas.{xor_cancel, xor_cancel_left, xor_block_kept, xored_32, xored_64}
 pub use Rattle.hash_writes.specs.Writes.{all_written, written}

@@ -1,6 +1,6 @@
 -- Why two texts that differ within six places, and agree in the top three bits, have different djb2 hashes.
 use Rattle.hashers.proofs.Common.{◌≡◌, ℕ, zero, suc, ◌+◌, ◌-◌, ◌*◌, ◌/◌, ◌%◌, ◌^◌, ◌<◌, ◌≤◌, ◌≢◌, arith, refl, sym, ap, ◌∙◌, bit_xor, bit_and, xor_shr, xor_lt, and_high, djb2_step, djb2_facts, Separates, xor_cancel, xor_cancel_left, xor_block_kept}
-use Rattle.hashers.proofs.WindowSpreads.{IsState32}
+use Rattle.hash_theorems.proofs.WindowSpreads.{IsState32}
 
 -- what a place leaves of a state's bits above the low eight
 upper : (w b : ℕ) → b < 256 → bit_xor w b / 32 / 8 ≡ w / 32 / 8

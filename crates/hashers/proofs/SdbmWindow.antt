@@ -1,6 +1,6 @@
 -- Why two texts that differ within three places have different sdbm hashes.
 use Rattle.hashers.proofs.Common.{◌≡◌, ℕ, zero, suc, ◌+◌, ◌*◌, ◌%◌, ◌^◌, ◌<◌, ◌≢◌, arith, sdbm_step, sdbm_facts, Separates}
-use Rattle.hashers.proofs.WindowSpreads.{IsState32, OneByte, TwoBytes, separates}
+use Rattle.hash_theorems.proofs.WindowSpreads.{IsState32, OneByte, TwoBytes, separates}
 
 abbrev pub SdbmApart : ℕ → ℕ → ℕ → Type 0
 SdbmApart zero = OneByte (2 ^ 32) 1

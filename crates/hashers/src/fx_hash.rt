@@ -2,11 +2,11 @@
 ghost use Rattle.std.specs.Prelude.{◌≡◌, ◌∷◌, [], length};
 ghost use Rattle.hash_fx.specs.Fx.{fx64};
 
-pub use fx_laws::pieces as pieces;
 pub use hash_fx::{
     FxHasher, FxHasher32, FxHasher64, FxSplit, FxWord, MachineWord, WordHasher, fxhash, fxhash32,
     fxhash64,
 };
+pub use hash_theorems::fx::pieces as pieces;
 use hash_writes::build::{
     BuildFresh, hash_one_number, hash_one_pair_in_writes, hash_one_slice_in_writes,
 };

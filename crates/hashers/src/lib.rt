@@ -10,8 +10,8 @@ pub mod promises;
 mod windows;
 
 pub use hash_bytes::{null as null, oz as oz, pigeon as pigeon};
-pub use hash_reading::{reader as engine, reader as reader};
+pub use hash_laws::reading::{reader as engine, reader as reader};
+pub use hash_laws::rules as rules;
+pub use hash_laws::windows::window as window;
 pub use hash_rounds as rounds;
-pub use hash_rules as rules;
-pub use hash_windows::window as window;
 pub use hash_writes::build as build;

@@ -3,11 +3,11 @@
 ghost use Rattle.std.specs.Prelude.{◌≡◌, ◌≢◌, ◌↔◌};
 ghost use Rattle.hashers.specs.Common.{ℕ, List, IsTrue, length, sdbm_from, IsText, fnv1a32_of, fnv1a64_of, djb2_of};
 ghost use Rattle.std.specs.Bool.{OnTrue};
-ghost use Rattle.hash_windows.specs.DifferWithin.{DifferWithin};
+ghost use Rattle.hash_laws.specs.DifferWithin.{DifferWithin};
 ghost use Rattle.hashers.specs.ShortWords.{IsShortWord};
 
 use hash_bytes::oz;
-use hash_windows::window::is_window;
+use hash_laws::windows::window::is_window;
 
 // In how many neighbouring places two texts may differ.
 const DJB2_PLACES: usize = 6;

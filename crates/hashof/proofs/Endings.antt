@@ -3,8 +3,8 @@ use Rattle.std.proofs.Common.{ℕ, List, Option, Some, None, Result, Ok, Err, re
 use Rattle.std.specs.Io.KnownBytes.{Appends, Keeps}
 use Rattle.streams.specs.Streams.{AppendsPart}
 use Rattle.hash_names.specs.Limited.{HashesNamed}
-use Rattle.hash_reading.specs.declared.limited.Unhashed.{Unhashed}
-use Rattle.hash_reading.specs.declared.limited.Unhashed.TheVariants as unhashed
+use Rattle.hash_laws.specs.declared.reading.limited.Unhashed.{Unhashed}
+use Rattle.hash_laws.specs.declared.reading.limited.Unhashed.TheVariants as unhashed
 use Rattle.hashof.specs.declared.run.RunFault.{RunFault}
 use Rattle.hashof.specs.declared.run.RunFault.TheVariants.{UnknownName, ReadFault, TooLong, WriteFault}
 use Rattle.hashof.specs.Line.{line_of}

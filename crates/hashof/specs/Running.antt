@@ -5,8 +5,8 @@ use Rattle.hashof.specs.declared.run.RunFault.{RunFault}
 use Rattle.hashof.specs.declared.run.RunFault.TheVariants.{UnknownName, ReadFault, TooLong, WriteFault}
 use Rattle.hash_names.specs.Named.{named}
 use Rattle.hash_names.specs.Limited.{Reading, ReadsAll, ReadsSome, read}
-use Rattle.hash_reading.specs.declared.limited.Unhashed.{Unhashed}
-use Rattle.hash_reading.specs.declared.limited.Unhashed.TheVariants as unhashed
+use Rattle.hash_laws.specs.declared.reading.limited.Unhashed.{Unhashed}
+use Rattle.hash_laws.specs.declared.reading.limited.Unhashed.TheVariants as unhashed
 use Rattle.streams.specs.Streams.{AppendsPart}
 use Rattle.hashof.specs.Line.{line_of}
 

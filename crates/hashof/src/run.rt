@@ -3,8 +3,8 @@ ghost use Rattle.std.specs.Prelude.{◌≡◌};
 ghost use Rattle.hashof.specs.Running.{Ends, fault_of, run_of};
 
 use crate::line::write_line;
+use hash_laws::reading::reader::Fault;
 use hash_names::reading::{Unhashed, hash_named};
-use hash_reading::reader::Fault;
 use std::io::{Error, Read, Write};
 
 /// Why no hash was told. The cases are tried in this order.

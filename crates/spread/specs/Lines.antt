@@ -1,8 +1,8 @@
 -- The lines of the table.
 use Rattle.std.specs.Prelude.{ℕ, suc, ◌≡◌, ◌++◌, ◌∷◌, [], if◌then◌else◌, ◌==◌, Bool, true, false, List, Option, Some, None, MatchOption, codes, decimal, map, replicate}
 use Rattle.hash_kinds.specs.Named.{name_of}
-use Rattle.hash_spread.specs.Table.{row_numbers}
-use Rattle.hash_spread.specs.declared.rows.TableRow.{TableRow}
+use Rattle.spread_core.specs.Table.{row_numbers}
+use Rattle.spread_core.specs.declared.rows.TableRow.{TableRow}
 use Rattle.spread.specs.declared.table.Column.{Column}
 use Rattle.spread.specs.declared.table.Frame.{Frame}
 

@@ -2,7 +2,7 @@
 ghost use Rattle.std.specs.Prelude.{◌≡◌};
 
 use hash_kinds::table::Kind;
-use hash_spread::named::{Hashed, hash_by};
+use spread_core::named::{Hashed, hash_by};
 use std::alloc::AllocError;
 use std::num::{nearest_u64_to_f64, nearest_usize_to_f64};
 use std::time::Instant;

@@ -9,7 +9,7 @@ ghost use Rattle.cli.specs.Call.{sayings};
 ghost use Rattle.cli.specs.Frame.{request_of};
 ghost use Rattle.cli.specs.Outcome.{IsFlushed};
 ghost use Rattle.cli.specs.Program.{EndsAs};
-ghost use Rattle.hash_spread.specs.declared.call.Misuse.{Misuse};
+ghost use Rattle.spread_core.specs.declared.call.Misuse.{Misuse};
 
 mod clock;
 mod picture;
@@ -22,11 +22,11 @@ use cli::help::help_for;
 use cli::outcome::of_telling;
 use cli::program::{BUFFER, Program};
 use hash_kinds::table::KINDS;
-use hash_spread::call::{
+use run::tell_table;
+use spread_core::call::{
     Misuse, Outcome, Wrong, call_of, kinds_of, no_number, options, settings_of, unknown_name,
 };
-use hash_spread::failure::{Failure, NoTable};
-use run::tell_table;
+use spread_core::failure::{Failure, NoTable};
 use std::alloc::{AllocError, Global};
 use std::io;
 use std::io::{BufWriter, Stdout};
@@ -137,7 +137,7 @@ impl Program for Spread {
     ghost use Rattle.cli.specs.Call.{call_of};
     ghost use Rattle.cli.specs.Frame.{request_of};
     ghost use Rattle.cli.specs.Program.{EndsAs};
-    ghost use Rattle.hash_spread.specs.Call.{options};
+    ghost use Rattle.spread_core.specs.Call.{options};
 
     ghost says = { call_of options };
 

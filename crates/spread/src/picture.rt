@@ -1,8 +1,8 @@
 //! The table as a picture, in SVG: a row for each hasher, and a shaded cell for each number.
 use crate::table::{Frame, counted, digits};
-use hash_spread::chance::{Chance, nearest};
-use hash_spread::counts::Spread;
-use hash_spread::rows::TableRow;
+use spread_core::chance::{Chance, nearest};
+use spread_core::counts::Spread;
+use spread_core::rows::TableRow;
 use std::alloc::{AllocError, Global};
 
 /// From green, for a number near chance or below, to red.

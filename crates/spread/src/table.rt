@@ -3,9 +3,9 @@ ghost use Rattle.std.specs.Prelude.{◌≡◌, ◌++◌, ◌∷◌, [], IfOk, On
 ghost use Rattle.spread.specs.Lines.{AddsCell, AddsCells, IsHead, IsLine, IsRow, bucket_heads, counted, groups, heads, in_buckets, names, number_heads};
 
 use cli::help::push_spaces;
-use hash_spread::chance::{Chance, equal_pairs};
-use hash_spread::rows::TableRow;
-use hash_spread::sizes::Sizes;
+use spread_core::chance::{Chance, equal_pairs};
+use spread_core::rows::TableRow;
+use spread_core::sizes::Sizes;
 use std::alloc::{AllocError, Global};
 
 /// The digits of each number.

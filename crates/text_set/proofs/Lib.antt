@@ -3,3 +3,4 @@ pub mod LineLemmas
 pub mod SetLemmas
 pub mod SlotLemmas
 pub mod StoreLemmas
+pub mod TextMapLemmas

@@ -4,3 +4,4 @@ pub mod Lines
 pub mod Slots
 pub mod Store
 pub mod Texts
+pub mod TextMaps

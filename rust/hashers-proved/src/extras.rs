@@ -14,14 +14,14 @@ use crate::hash_keyed::pair::Poly61Pair;
 use crate::hash_keyed::poly61::Poly61Hasher;
 use crate::hash_laws::traits::Undo;
 use crate::hash_more::elf::ElfHasher;
-use crate::hash_murmur3::{Murmur3Hasher128, Murmur3Hasher32};
+use crate::hash_blocks::murmur3::{Murmur3Hasher128, Murmur3Hasher32};
 use crate::hash_numbers::hasher::NumberHasher;
 use crate::hash_rounds::Turns;
-use crate::hash_rules::{ByteHasher, ByteRule, UndoRule};
-use crate::hash_siphash::{SipHasher13, SipKey};
+use crate::hash_laws::rules::{ByteHasher, ByteRule, UndoRule};
+use crate::hash_blocks::siphash::{SipHasher13, SipKey};
 use crate::hash_writes::build::BuildFresh;
 use crate::hash_xxh3::{xxh3_128, BuildXxh3, Xxh3Hasher};
-use crate::hash_xxhash::{Xxh32Hasher, Xxh64Hasher};
+use crate::hash_blocks::xxhash::{Xxh32Hasher, Xxh64Hasher};
 use core::fmt;
 use core::hash::{BuildHasher, Hasher};
 

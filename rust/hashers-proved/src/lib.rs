@@ -75,58 +75,25 @@ pub mod hash_rounds;
 #[doc(hidden)]
 pub mod hash_laws;
 #[doc(hidden)]
-pub mod hash_windows;
-#[doc(hidden)]
-pub mod hash_reading {
-    #[cfg(feature = "std")]
-    pub mod limited;
-    #[cfg(feature = "std")]
-    pub mod reader;
-}
-#[doc(hidden)]
-pub mod hash_rules;
-#[doc(hidden)]
 pub mod hash_writes;
 #[doc(hidden)]
 pub mod hash_fx;
-// It imports the trait for `write`, which extras.rs makes a method.
-#[doc(hidden)]
-#[allow(unused_imports)]
-pub mod fx_laws;
 #[doc(hidden)]
 pub mod hash_jenkins;
 #[doc(hidden)]
-pub mod jenkins_laws;
-#[doc(hidden)]
 pub mod hash_blocks;
-#[doc(hidden)]
-pub mod hash_murmur3;
-#[doc(hidden)]
-pub mod hash_siphash {
-    mod rounds;
-    mod siphash;
-
-    pub use rounds::*;
-    pub use siphash::*;
-}
-#[doc(hidden)]
-pub mod hash_xxhash;
-#[doc(hidden)]
-pub mod block_laws;
 #[doc(hidden)]
 pub mod hash_xxh3;
 #[doc(hidden)]
-pub mod xxh3_laws;
-#[doc(hidden)]
 pub mod hash_bytes;
 #[doc(hidden)]
-pub mod hash_crc;
+pub mod hash_more;
+// It imports the trait for `write`, which extras.rs makes a method.
+#[doc(hidden)]
+#[allow(unused_imports)]
+pub mod hash_theorems;
 #[doc(hidden)]
 pub mod hashers;
-#[doc(hidden)]
-pub mod hash_more;
-#[doc(hidden)]
-pub mod more_laws;
 #[doc(hidden)]
 pub mod hash_keyed {
     mod modular;
@@ -316,7 +283,7 @@ pub mod jenkins {
     #[doc(inline)]
     pub use crate::hashers::jenkins::BuildSpooky;
     #[doc(inline)]
-    pub use crate::jenkins_laws::{block::block_for, stretch, two_texts};
+    pub use crate::hash_theorems::jenkins::{block::block_for, stretch, two_texts};
 
     /// SpookyHash under two seeds, of 64 or 128 bits, of a text at once or in parts.
     pub mod spooky_hash {
@@ -339,7 +306,7 @@ pub mod more {
     #[doc(inline)]
     pub use crate::hash_more::*;
     #[doc(inline)]
-    pub use crate::more_laws::*;
+    pub use crate::hash_theorems::more::*;
     #[doc(inline)]
     pub use crate::hash_more::{crc32::*, djb2_add::*, elf::*, fnv1::*, joaat::*};
 }
@@ -358,17 +325,17 @@ pub mod more {
 /// ```
 pub mod blocks {
     #[doc(inline)]
-    pub use crate::block_laws::*;
+    pub use crate::hash_theorems::blocks::*;
     #[doc(inline)]
     pub use crate::extras::{BuildMurmur3At128, BuildMurmur3At32, BuildXxh32, BuildXxh64, SipKeys};
     #[doc(inline)]
     pub use crate::hash_blocks::{BlockHasher, BlockRule, WideRule};
     #[doc(inline)]
-    pub use crate::hash_murmur3::*;
+    pub use crate::hash_blocks::murmur3::*;
     #[doc(inline)]
-    pub use crate::hash_siphash::*;
+    pub use crate::hash_blocks::siphash::*;
     #[doc(inline)]
-    pub use crate::hash_xxhash::*;
+    pub use crate::hash_blocks::xxhash::*;
 }
 
 /// XXH32, XXH64 and XXH3.
@@ -376,7 +343,7 @@ pub mod xxhash {
     #[doc(inline)]
     pub use crate::extras::{BuildXxh32, BuildXxh64};
     #[doc(inline)]
-    pub use crate::hash_xxhash::*;
+    pub use crate::hash_blocks::xxhash::*;
     #[doc(inline)]
     pub use crate::xxh3::*;
 }
@@ -386,7 +353,7 @@ pub mod murmur3 {
     #[doc(inline)]
     pub use crate::extras::{BuildMurmur3At128, BuildMurmur3At32};
     #[doc(inline)]
-    pub use crate::hash_murmur3::*;
+    pub use crate::hash_blocks::murmur3::*;
 }
 
 /// SipHash-1-3 and SipHash-2-4.
@@ -394,7 +361,7 @@ pub mod siphash {
     #[doc(inline)]
     pub use crate::extras::SipKeys;
     #[doc(inline)]
-    pub use crate::hash_siphash::*;
+    pub use crate::hash_blocks::siphash::*;
 }
 
 /// CRC-32 and CRC-32C.
@@ -402,7 +369,7 @@ pub mod crc32 {
     #[doc(inline)]
     pub use crate::extras::{crc32_u32, crc32c_u32};
     #[doc(inline)]
-    pub use crate::hash_crc::crc32::*;
+    pub use crate::hash_more::crc32::*;
 }
 
 /// XXH3 of 64 and 128 bits under a seed, of a text at once or in parts, and the texts of given hashes. No protection: whoever knows the seed
@@ -426,7 +393,7 @@ pub mod xxh3 {
     #[doc(inline)]
     pub use crate::hash_xxh3::*;
     #[doc(inline)]
-    pub use crate::xxh3_laws::*;
+    pub use crate::hash_theorems::xxh3::*;
 }
 
 /// The polynomial hash of Carter and Wegman over 2^61 - 1, at a key. Of the 2^61 - 1 keys at most n / 7 + 2 give two different texts of up

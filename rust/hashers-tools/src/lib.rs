@@ -8,10 +8,10 @@
 pub mod cli;
 // Its sizes of chunks take 64 bits.
 #[cfg(target_pointer_width = "64")]
-pub mod hash_chunks;
-pub mod hash_spread;
-pub mod hash_sums;
-pub mod unique_lines;
+pub mod cuts_core;
+pub mod spread_core;
+pub mod hashsum_core;
+pub mod dedup_core;
 
 // The programs.
 #[cfg(target_pointer_width = "64")]

@@ -3,7 +3,7 @@ ghost use Rattle.std.specs.Prelude.{◌≡◌};
 ghost use Rattle.hash_bytes.specs.Pigeon.{bricolage_from};
 
 use super::hasher::BricolageRule;
-use hash_rules::hash_by_plain;
+use hash_laws::rules::hash_by_plain;
 
 /// Bricolage of the bytes.
 pub fn bricolage(bytes: &[u8]) -> u64

@@ -6,8 +6,8 @@ ghost use Rattle.hash_bytes.specs.Pigeon.{bricolage_step};
 ghost use Rattle.hash_bytes.specs.PigeonLaws.{bricolage_facts};
 
 use super::table::SHUFFLED_PRODUCTS;
+use hash_laws::rules::{ByteHasher, Plain, PlainRule, PlainUndo};
 use hash_rounds::swap_halves;
-use hash_rules::{ByteHasher, Plain, PlainRule, PlainUndo};
 
 /// The shuffled product of a byte.
 #[inline(always)]

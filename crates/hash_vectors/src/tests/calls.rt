@@ -1,6 +1,6 @@
 //! Calls of the hashers beside those of the vectors, each once, by vectors, by values of other programs or by hand.
 use crate::tests::{all_hold, none_holds, same};
-use hash_siphash::{sip_round, sip_unround};
+use hash_blocks::siphash::{sip_round, sip_unround};
 use hashers::fx_hash::{FxHasher, FxHasher32, FxHasher64};
 use hashers::jenkins::spooky_hash::{SpookyHasher, spooky};
 use hashers::jenkins::{Lookup3Hasher, OAATHasher};

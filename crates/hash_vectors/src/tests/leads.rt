@@ -1,13 +1,13 @@
 //! What leads to a hash, each call once.
 use crate::tests::{all_hold, same};
 use hash_more::crc32::{crc32, crc32_ending, crc32c, crc32c_ending};
+use hash_theorems::xxh3::unmix::{bytes_for, bytes_for_wide};
 use hash_xxh3::{xxh3_64, xxh3_128};
 use hashers::fx_hash::{FxHasher32, FxHasher64};
 use hashers::jenkins::Lookup3Hasher;
 use hashers::jenkins::spooky_hash::SpookyHasher;
 use hashers::laws::{block_for, stretch_for};
 use std::hash::Hasher;
-use xxh3_laws::unmix::{bytes_for, bytes_for_wide};
 
 /// Twelve zeros lead lookup3 to known words, by the steps of the two mixes.
 #[test]

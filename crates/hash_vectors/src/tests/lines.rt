@@ -3,6 +3,8 @@ use crate::tests::all_hold;
 use cli::frame::About;
 use cli::inputs::Complaints;
 use cli::outcome::{failure_of, status_of};
+use dedup_core::outcome::{Outcome, call_of, outcome_of};
+use dedup_core::{Failure, TooMany};
 use std::alloc::Global;
 use std::hash::{BuildHasher, Hasher};
 use std::io;
@@ -10,8 +12,6 @@ use std::io::{BufWriter, ErrorKind};
 use std::process::Abort;
 use streams::rehearsal::{Paper, Script, Trouble, arguments_of};
 use text_set::RandomKeys;
-use unique_lines::outcome::{Outcome, call_of, outcome_of};
-use unique_lines::{Failure, TooMany};
 
 /// That the bytes are as wanted.
 fn same_bytes(rt: &impl Abort, got: &[u8], want: &[u8]) {

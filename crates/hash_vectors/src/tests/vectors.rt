@@ -2,6 +2,9 @@
 ghost use Rattle.std.specs.Prelude.{⊤};
 
 use crate::tests::{all_hold, all_hold_at};
+use hash_blocks::murmur3::{Murmur3Hasher32, Murmur3Hasher128, murmur3_32, murmur3_128};
+use hash_blocks::siphash::{SipHasher13, SipHasher24, SipKey, siphash13, siphash24};
+use hash_blocks::xxhash::{Xxh32Hasher, Xxh64Hasher, xxh32, xxh64};
 use hash_keyed::poly61::{Poly61Hasher, poly61};
 use hash_kinds::table::{by_kind, kind_named};
 use hash_kinds::wide::{WideHash, both};
@@ -10,11 +13,8 @@ use hash_more::djb2_add::{Djb2AddRule, djb2_add};
 use hash_more::elf::elf;
 use hash_more::fnv1::{Fnv1Rule32, Fnv1Rule64, fnv1_32, fnv1_64};
 use hash_more::joaat::{JoaatRule, joaat};
-use hash_murmur3::{Murmur3Hasher32, Murmur3Hasher128, murmur3_32, murmur3_128};
 use hash_names::task::HashTask;
-use hash_siphash::{SipHasher13, SipHasher24, SipKey, siphash13, siphash24};
 use hash_xxh3::{Xxh3Hasher, xxh3_64, xxh3_128};
-use hash_xxhash::{Xxh32Hasher, Xxh64Hasher, xxh32, xxh64};
 use hashers::fnv::{Fnv1aRule32, Fnv1aRule64, fnv1a32, fnv1a64};
 use hashers::fx_hash::{FxHasher, FxHasher32, FxHasher64, fxhash, fxhash32, fxhash64};
 use hashers::jenkins::spooky_hash::{spooky, spooky_v1};

@@ -1,15 +1,15 @@
 //! Hashes by the block under a seed or a key: of a whole text, and of a text in parts. The caller keeps the state.
 
 // What follows is the proved text of crates/hash_c/src/block.rt without its contracts.
-use hashers_proved::{hash_blocks, hash_murmur3, hash_siphash, hash_words, hash_xxhash};
+use hashers_proved::{hash_blocks, hash_words};
 
 use crate::hash_c::in_words::InWords;
 use crate::hash_c::spooky::{Words, two_words};
 use hash_blocks::bytes_in;
-use hash_murmur3::{Murmur3Rule32, Murmur3Rule128, murmur3_32, murmur3_128};
-use hash_siphash::{SipKey, SipRule, siphash13, siphash24};
+use hash_blocks::murmur3::{Murmur3Rule32, Murmur3Rule128, murmur3_32, murmur3_128};
+use hash_blocks::siphash::{SipKey, SipRule, siphash13, siphash24};
+use hash_blocks::xxhash::{Xxh32Rule, Xxh64Rule, xxh32, xxh64};
 use hash_words::put;
-use hash_xxhash::{Xxh32Rule, Xxh64Rule, xxh32, xxh64};
 
 // The marks of the states: bytes that hardly lie in memory by chance.
 const XXH32: u64 = 0x5b39_d3a6_8cf0_7101;

@@ -1,12 +1,12 @@
 //! What is kept of whole blocks as whole numbers alone.
 
 // What follows is the proved text of crates/hash_c/src/in_words.rt without its contracts.
-use hashers_proved::{hash_blocks, hash_murmur3, hash_siphash, hash_xxhash};
+use hashers_proved::hash_blocks;
 
 use hash_blocks::BlockRule;
-use hash_murmur3::{Murmur3Rule32, Murmur3Rule128};
-use hash_siphash::SipRule;
-use hash_xxhash::{Lanes, Lanes32, Xxh32Rule, Xxh64Rule};
+use hash_blocks::murmur3::{Murmur3Rule32, Murmur3Rule128};
+use hash_blocks::siphash::SipRule;
+use hash_blocks::xxhash::{Lanes, Lanes32, Xxh32Rule, Xxh64Rule};
 
 /// A rule of blocks of at most 32 bytes that keeps at most four words and a flag.
 pub trait InWords<const N: usize>: BlockRule<N> {

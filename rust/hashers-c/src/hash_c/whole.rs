@@ -1,17 +1,17 @@
 //! One call over a whole text.
 
 // What follows is the proved text of crates/hash_c/src/whole.rt without its contracts.
-use hashers_proved::{hash_more, hash_murmur3, hash_siphash, hash_xxh3, hash_xxhash, hashers};
+use hashers_proved::{hash_blocks, hash_more, hash_xxh3, hashers};
 
+use hash_blocks::murmur3::{murmur3_32, murmur3_128};
+use hash_blocks::siphash::{SipKey, siphash13, siphash24};
+use hash_blocks::xxhash::{xxh32, xxh64};
 use hash_more::crc32::{crc32, crc32c};
 use hash_more::djb2_add::djb2_add;
 use hash_more::elf::elf;
 use hash_more::fnv1::{fnv1_32, fnv1_64};
 use hash_more::joaat::joaat;
-use hash_murmur3::{murmur3_32, murmur3_128};
-use hash_siphash::{SipKey, siphash13, siphash24};
 use hash_xxh3::xxh3_64;
-use hash_xxhash::{xxh32, xxh64};
 use hashers::fnv::{fnv1a32, fnv1a64};
 use hashers::fx_hash::{fxhash, fxhash32, fxhash64};
 use hashers::jenkins;

@@ -4,10 +4,12 @@
 // What follows is the proved text of crates/hash_bytes/src/fnv.rt without its contracts.
 // The law origin_of_constants alone reads SIGNATURE, the text of which the starts are the hash.
 #![allow(dead_code)]
-use crate::hash_rules;
+use crate::hash_laws;
 
-pub use hash_rules::constants::{BASIS_32, BASIS_64, PRIME_32, PRIME_64, UNPRIME_32, UNPRIME_64};
-use hash_rules::{ByteHasher, Plain, PlainRule, PlainUndo, hash_by_plain};
+pub use hash_laws::rules::constants::{
+    BASIS_32, BASIS_64, PRIME_32, PRIME_64, UNPRIME_32, UNPRIME_64,
+};
+use hash_laws::rules::{ByteHasher, Plain, PlainRule, PlainUndo, hash_by_plain};
 
 /// The 32 bytes of which the authors took the starts: a line of Noll's signature.
 const SIGNATURE: [u8; 32] = *b"chongo <Landon Curt Noll> /\\../\\";

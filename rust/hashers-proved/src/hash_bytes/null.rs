@@ -1,10 +1,10 @@
 //! Two hash functions that mix nothing: one that forgets every byte, and one that keeps the last eight.
 
 // What follows is the proved text of crates/hash_bytes/src/null.rt without its contracts.
-use crate::{hash_laws, hash_rules, std};
+use crate::{hash_laws, std};
 
+use hash_laws::rules::{ByteHasher, ByteRule, StepRule, hash_by_rule};
 use hash_laws::traits::{Piecewise, Streamed, hash_of};
-use hash_rules::{ByteHasher, ByteRule, StepRule, hash_by_rule};
 use std::hash::Hasher;
 
 /// The hasher that answers 0 to every text (the crate hashers' own, the worst case for a table). The value written

@@ -3,14 +3,14 @@
 // What follows is the proved text of crates/hash_bytes/src/oz.rt without its contracts.
 // Clauses name Hasher.
 #![allow(unused_imports)]
-use crate::{hash_rounds, hash_rules, std};
+use crate::{hash_laws, hash_rounds, std};
 
-use hash_rounds::{Turns, lose8, sdbm4};
-pub use hash_rules::constants::UNPRODUCT_33;
-use hash_rules::{
+pub use hash_laws::rules::constants::UNPRODUCT_33;
+use hash_laws::rules::{
     ByteHasher, ByteRule, Plain, PlainRule, PlainUndo, StepRule, UndoRule, hash_by_plain,
     hash_by_rule,
 };
+use hash_rounds::{Turns, lose8, sdbm4};
 use std::hash::Hasher;
 use std::simd::prelude::*;
 

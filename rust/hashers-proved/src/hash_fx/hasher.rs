@@ -3,11 +3,11 @@
 // What follows is the proved text of crates/hash_fx/src/hasher.rt without its contracts.
 // Clauses name Word.
 #![allow(unused_imports)]
-use crate::{hash_laws, hash_rules, std};
+use crate::{hash_laws, std};
 
 use crate::hash_fx::word::{FxSplit, FxWord};
+use hash_laws::rules::Word;
 use hash_laws::traits::{Piecewise, Undo};
-use hash_rules::Word;
 use std::hash::Hasher;
 use std::marker::{PhantomData};
 

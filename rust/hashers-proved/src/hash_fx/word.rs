@@ -1,10 +1,10 @@
 //! A word of fx, and what of it hangs on its width.
 
 // What follows is the proved text of crates/hash_fx/src/word.rt without its contracts.
-use crate::{hash_rules, hash_words};
+use crate::{hash_laws, hash_words};
 
 use crate::hash_fx::words::{eights_in, eights_out, fours_and_bytes_in, fours_and_bytes_out};
-use hash_rules::Word;
+use hash_laws::rules::Word;
 use hash_words::{le_four, rotl32, rotl64};
 
 /// A word of fx: a state, or what takes a state one step.

@@ -2,10 +2,10 @@
 //! product and a shift. Each write can be undone.
 
 // What follows is the proved text of crates/hash_jenkins/src/one_at_a_time.rt without its contracts.
-use crate::{hash_rounds, hash_rules};
+use crate::{hash_laws, hash_rounds};
 
+use hash_laws::rules::{ByteHasher, Plain, PlainRule, PlainUndo, hash_by_plain};
 use hash_rounds::{unxorshift, xorshift};
-use hash_rules::{ByteHasher, Plain, PlainRule, PlainUndo, hash_by_plain};
 
 /// What undoes a product by 1025.
 const UN_1025: u64 = 1151796703138937857;

@@ -1,14 +1,17 @@
 //! The hash by a kind of all that a reader gives.
 
 // What follows is the proved text of crates/hash_kinds/src/reading.rt without its contracts.
-use crate::{hash_laws, hash_names, hash_reading, std};
+#[allow(unused_imports)]
+use crate::{hash_laws, hash_names, std};
 
 use crate::hash_kinds::table::{Kind, by_kind};
 use crate::hash_kinds::wide::WideHash;
+#[cfg(feature = "std")]
+use hash_laws::reading::limited::{fed, hash_of_pieces, hash_of_text};
 use hash_laws::traits::{Piecewise, Streamed};
+#[cfg(feature = "std")]
 pub use hash_names::reading::{PIECE, Unhashed};
 use hash_names::task::HashTask;
-use hash_reading::limited::{fed, hash_of_pieces, hash_of_text};
 use std::io::Read;
 use std::marker::PhantomData;
 

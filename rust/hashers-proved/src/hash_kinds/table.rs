@@ -1,19 +1,19 @@
 //! The table of all hashes: that of the ported ones, and a row for each of the others; and what is done by the hash of a row.
 
 // What follows is the proved text of crates/hash_kinds/src/table.rt without its contracts.
-use crate::{hash_more, hash_murmur3, hash_names, hash_siphash, hash_xxh3, hash_xxhash};
+use crate::{hash_blocks, hash_more, hash_names, hash_xxh3};
 
+use hash_blocks::murmur3::{Murmur3Hasher32, Murmur3Hasher128};
+use hash_blocks::siphash::{SipHasher13, SipHasher24};
+use hash_blocks::xxhash::{Xxh32Hasher, Xxh64Hasher};
 use hash_more::crc32::{Crc32Hasher, Crc32cHasher};
 use hash_more::djb2_add::Djb2AddHasher;
 use hash_more::elf::ElfHasher;
 use hash_more::fnv1::{Fnv1Hasher32, Fnv1Hasher64};
 use hash_more::joaat::JoaatHasher;
-use hash_murmur3::{Murmur3Hasher32, Murmur3Hasher128};
 use hash_names::table::{Ported, Row, by_ported, entry};
 use hash_names::task::HashTask;
-use hash_siphash::{SipHasher13, SipHasher24};
 use hash_xxh3::Xxh3Hasher;
-use hash_xxhash::{Xxh32Hasher, Xxh64Hasher};
 
 /// A hash of the table. `specs/Named` says what it makes of a text.
 #[derive(Clone, Copy)]

@@ -1,12 +1,12 @@
 //! Hashers of texts that have 128 bits of them.
 
 // What follows is the proved text of crates/hash_kinds/src/wide.rt without its contracts.
-use crate::{hash_blocks, hash_jenkins, hash_laws, hash_murmur3, hash_xxh3};
+use crate::{hash_blocks, hash_jenkins, hash_laws, hash_xxh3};
 
 use hash_blocks::BlockHasher;
+use hash_blocks::murmur3::Murmur3Rule128;
 use hash_jenkins::spooky_hash::SpookyHasher;
 use hash_laws::traits::Streamed;
-use hash_murmur3::Murmur3Rule128;
 use hash_xxh3::Xxh3Hasher;
 
 /// A hasher of texts that has 128 bits of them, as one number.

@@ -1,10 +1,10 @@
 //! djb2 in its form with a sum, which is Dan Bernstein's first, and which the section `.gnu.hash` of ELF files takes.
 
 // What follows is the proved text of crates/hash_more/src/djb2_add.rt without its contracts.
-use crate::hash_rules;
+use crate::hash_laws;
 
-use hash_rules::constants::UNPRODUCT_33;
-use hash_rules::{ByteHasher, Plain, PlainRule, PlainUndo, hash_by_plain};
+use hash_laws::rules::constants::UNPRODUCT_33;
+use hash_laws::rules::{ByteHasher, Plain, PlainRule, PlainUndo, hash_by_plain};
 
 /// The rule of djb2 with a sum.
 pub struct Djb2AddRule;

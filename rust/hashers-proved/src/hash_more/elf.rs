@@ -2,9 +2,9 @@
 //! Weinberger's.
 
 // What follows is the proved text of crates/hash_more/src/elf.rt without its contracts.
-use crate::hash_rules;
+use crate::hash_laws;
 
-use hash_rules::{ByteHasher, Plain, PlainRule, hash_by_plain};
+use hash_laws::rules::{ByteHasher, Plain, PlainRule, hash_by_plain};
 
 /// The rule of ELF's hash. Its steps lose information, so there is no inverse.
 pub struct ElfRule;

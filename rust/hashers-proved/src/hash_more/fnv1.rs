@@ -2,10 +2,10 @@
 //! and then an exclusive or. The starts and the primes are those of the variant 1a.
 
 // What follows is the proved text of crates/hash_more/src/fnv1.rt without its contracts.
-use crate::hash_rules;
+use crate::hash_laws;
 
-use hash_rules::constants::{BASIS_32, BASIS_64, PRIME_32, PRIME_64, UNPRIME_32, UNPRIME_64};
-use hash_rules::{ByteHasher, Plain, PlainRule, PlainUndo, hash_by_plain};
+use hash_laws::rules::constants::{BASIS_32, BASIS_64, PRIME_32, PRIME_64, UNPRIME_32, UNPRIME_64};
+use hash_laws::rules::{ByteHasher, Plain, PlainRule, PlainUndo, hash_by_plain};
 
 /// The rule of FNV-1 at 32 bits.
 pub struct Fnv1Rule32;

@@ -1,9 +1,9 @@
 //! One-at-a-time, from Bob Jenkins' page on hash functions, at 32 bits as he published it.
 
 // What follows is the proved text of crates/hash_more/src/joaat.rt without its contracts.
-use crate::{hash_rules, hash_words};
+use crate::{hash_laws, hash_words};
 
-use hash_rules::{ByteHasher, Plain, PlainRule, PlainUndo, hash_by_plain};
+use hash_laws::rules::{ByteHasher, Plain, PlainRule, PlainUndo, hash_by_plain};
 use hash_words::unxorshift;
 
 /// What undoes a product by 1025.

@@ -5,18 +5,17 @@
 //! [`crc32::crc32`], [`djb2_add::djb2_add`], [`elf::elf`], [`joaat::joaat`].
 
 // What follows is the proved text of crates/hash_more/src/lib.rt without its contracts.
-use crate::hash_crc;
 
+pub mod crc32;
 pub mod djb2_add;
 pub mod elf;
 pub mod fnv1;
 pub mod joaat;
 
+pub use crc32::{
+    Crc32Hasher, Crc32cHasher, crc32_combine, crc32_ending, crc32c, crc32c_combine, crc32c_ending,
+};
 pub use djb2_add::Djb2AddHasher;
 pub use elf::ElfHasher;
 pub use fnv1::{Fnv1Hasher32, Fnv1Hasher64, fnv1_32, fnv1_64};
-pub use hash_crc::crc32 as crc32;
-pub use hash_crc::crc32::{
-    Crc32Hasher, Crc32cHasher, crc32_combine, crc32_ending, crc32c, crc32c_combine, crc32c_ending,
-};
 pub use joaat::JoaatHasher;

@@ -1,13 +1,16 @@
 //! The hash of that name of all that a reader gives.
 
 // What follows is the proved text of crates/hash_names/src/reading.rt without its contracts.
-use crate::{hash_laws, hash_reading, std};
+#[allow(unused_imports)]
+use crate::{hash_laws, std};
 
 use crate::hash_names::table::{by_ported, ported_named};
 use crate::hash_names::task::HashTask;
+#[cfg(feature = "std")]
+pub use hash_laws::reading::limited::Unhashed;
+#[cfg(feature = "std")]
+use hash_laws::reading::limited::{hash_of_pieces, hash_of_text};
 use hash_laws::traits::{Piecewise, Streamed};
-pub use hash_reading::limited::Unhashed;
-use hash_reading::limited::{hash_of_pieces, hash_of_text};
 use std::io::Read;
 use std::marker::PhantomData;
 

@@ -2,13 +2,13 @@
 
 // What follows is the proved text of crates/hashers/src/fx_hash.rt without its contracts.
 #[allow(unused_imports)]
-use crate::{fx_laws, hash_fx, hash_writes, std};
+use crate::{hash_fx, hash_theorems, hash_writes, std};
 
-pub use fx_laws::pieces as pieces;
 pub use hash_fx::{
     FxHasher, FxHasher32, FxHasher64, FxSplit, FxWord, MachineWord, WordHasher, fxhash, fxhash32,
     fxhash64,
 };
+pub use hash_theorems::fx::pieces as pieces;
 use hash_writes::build::{
     BuildFresh, hash_one_number, hash_one_pair_in_writes,
 };

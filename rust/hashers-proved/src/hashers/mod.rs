@@ -2,7 +2,7 @@
 
 // What follows is the proved text of crates/hashers/src/lib.rt without its contracts.
 #[doc(hidden)]
-pub use crate::{hash_bytes, hash_reading, hash_rounds, hash_rules, hash_windows, hash_writes};
+pub use crate::{hash_bytes, hash_laws, hash_rounds, hash_writes};
 
 mod counts;
 pub mod fnv;
@@ -14,8 +14,8 @@ mod windows;
 
 pub use hash_bytes::{null as null, oz as oz, pigeon as pigeon};
 #[cfg(feature = "std")]
-pub use hash_reading::{reader as engine, reader as reader};
+pub use hash_laws::reading::{reader as engine, reader as reader};
+pub use hash_laws::rules as rules;
+pub use hash_laws::windows::window as window;
 pub use hash_rounds as rounds;
-pub use hash_rules as rules;
-pub use hash_windows::window as window;
 pub use hash_writes::build as build;

@@ -2,10 +2,10 @@
 //! None of them computes a hash.
 
 // What follows is the proved text of crates/hashers/src/windows.rt without its contracts.
-use crate::{hash_bytes, hash_windows};
+use crate::{hash_bytes, hash_laws};
 
 use hash_bytes::oz;
-use hash_windows::window::is_window;
+use hash_laws::windows::window::is_window;
 
 // In how many neighbouring places two texts may differ.
 const DJB2_PLACES: usize = 6;

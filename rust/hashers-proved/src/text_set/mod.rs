@@ -2,6 +2,8 @@
 //! a text.
 //!
 //! The set is an index as well: the place of a text is where a caller's own list has what belongs to it, as a count.
+//!
+//! And, with no code, the finite maps from texts to numbers as which contracts see a bucket table or a ring of nodes.
 
 // What follows is the proved text of crates/text_set/src/lib.rt without its contracts.
 

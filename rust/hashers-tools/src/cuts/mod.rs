@@ -2,7 +2,7 @@
 //! store would save that keeps each chunk once.
 
 // What follows is the proved text of crates/cuts/src/main.rt without its contracts.
-use crate::{cli, hash_chunks};
+use crate::{cli, cuts_core};
 use hashers_proved::shim::{HostRuntime, Vec, std};
 
 use cli::call::Call;
@@ -11,9 +11,9 @@ use cli::frame::{About, wrong_word};
 use cli::help::help_for;
 use cli::program::{BUFFER, Program, run};
 use cli::progress::Cleared;
-use hash_chunks::failure::TooMany;
-use hash_chunks::listing::Lines;
-use hash_chunks::outcome::{Misuse, Outcome, Wrong, call_of, options, outcome_of, wrong_size};
+use cuts_core::failure::TooMany;
+use cuts_core::listing::Lines;
+use cuts_core::outcome::{Misuse, Outcome, Wrong, call_of, options, outcome_of, wrong_size};
 use std::alloc::{AllocError, Global};
 use std::io;
 use std::io::BufWriter;

@@ -2,7 +2,7 @@
 //! often it came, `dedup -d` those that came more than once, and `dedup -u` those that came once.
 
 // What follows is the proved text of crates/dedup/src/main.rt without its contracts.
-use crate::{cli, unique_lines};
+use crate::{cli, dedup_core};
 use hashers_proved::{streams, text_set};
 use hashers_proved::shim::{HostRuntime, Vec, std};
 
@@ -11,14 +11,14 @@ use cli::frame::{About, wrong_word};
 use cli::help::help_for;
 use cli::inputs::{Told, inputs};
 use cli::program::{BUFFER, Program, run};
+use dedup_core::TooMany;
+use dedup_core::outcome::{Outcome, call_of, options, outcome_of};
 use std::alloc::{AllocError, Global};
 use std::io;
 use std::io::BufWriter;
 use std::process::ExitCode;
 use streams::failure::Nothing;
 use text_set::RandomKeys;
-use unique_lines::TooMany;
-use unique_lines::outcome::{Outcome, call_of, options, outcome_of};
 
 /// The program's name.
 const NAME: &str = "dedup";

@@ -3,12 +3,12 @@
 // What follows is the proved text of crates/hashof/src/run.rt without its contracts.
 // The tests alone call run.
 #![allow(dead_code)]
-use hashers_proved::{hash_names, hash_reading};
+use hashers_proved::{hash_laws, hash_names};
 use hashers_proved::shim::std;
 
 use crate::hashof::line::write_line;
+use hash_laws::reading::reader::Fault;
 use hash_names::reading::{Unhashed, hash_named};
-use hash_reading::reader::Fault;
 use std::io::{Error, Read, Write};
 
 /// Why no hash was told. The cases are tried in this order.

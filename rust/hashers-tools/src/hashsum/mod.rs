@@ -1,7 +1,7 @@
 //! `hashsum` writes a line for each of its files with its hash, and `hashsum -c` reads such lines and checks the files.
 
 // What follows is the proved text of crates/hashsum/src/main.rt without its contracts.
-use crate::{cli, hash_sums};
+use crate::{cli, hashsum_core};
 use hashers_proved::streams;
 use hashers_proved::shim::{HostRuntime, String, Vec, format, std};
 
@@ -10,10 +10,10 @@ use cli::frame::{About, wrong_word};
 use cli::help::help_for;
 use cli::program::{BUFFER, Program, run};
 use cli::progress::Watched;
-use hash_sums::disk::Checked;
-use hash_sums::laws::seen;
-use hash_sums::outcome::{Misuse, Outcome, Wrong, call_of, options, outcome_of};
-use hash_sums::sums::{Sum, kinds, sum_at};
+use hashsum_core::disk::Checked;
+use hashsum_core::laws::seen;
+use hashsum_core::outcome::{Misuse, Outcome, Wrong, call_of, options, outcome_of};
+use hashsum_core::sums::{Sum, kinds, sum_at};
 use std::alloc::{AllocError, Global};
 use std::io;
 use std::io::BufWriter;

@@ -3,12 +3,12 @@
 // What follows is the proved text of crates/spread/src/clock.rt without its contracts.
 // Proofs name the loop.
 #![allow(unused_labels)]
-use crate::hash_spread;
+use crate::spread_core;
 use hashers_proved::hash_kinds;
 use hashers_proved::shim::{HostRuntime, std};
 
 use hash_kinds::table::Kind;
-use hash_spread::named::{Hashed, hash_by};
+use spread_core::named::{Hashed, hash_by};
 use std::alloc::AllocError;
 use std::num::{nearest_u64_to_f64, nearest_usize_to_f64};
 use std::time::Instant;

@@ -2,7 +2,7 @@
 //! one to take.
 
 // What follows is the proved text of crates/spread/src/main.rt without its contracts.
-use crate::{cli, hash_spread};
+use crate::{cli, spread_core};
 use hashers_proved::{hash_kinds, streams};
 use hashers_proved::shim::{HostRuntime, String, Vec, format, std};
 
@@ -17,11 +17,11 @@ use cli::help::help_for;
 use cli::outcome::of_telling;
 use cli::program::{BUFFER, Program};
 use hash_kinds::table::KINDS;
-use hash_spread::call::{
+use run::tell_table;
+use spread_core::call::{
     Misuse, Outcome, Wrong, call_of, kinds_of, no_number, options, settings_of, unknown_name,
 };
-use hash_spread::failure::{Failure, NoTable};
-use run::tell_table;
+use spread_core::failure::{Failure, NoTable};
 use std::alloc::{AllocError, Global};
 use std::io;
 use std::io::{BufWriter, Stdout};

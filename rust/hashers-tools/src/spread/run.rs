@@ -1,7 +1,7 @@
 //! A run: reads the keys, and writes the table.
 
 // What follows is the proved text of crates/spread/src/run.rt without its contracts.
-use crate::{cli, hash_spread};
+use crate::{cli, spread_core};
 use hashers_proved::{hash_kinds, streams, text_set};
 use hashers_proved::shim::{HostRuntime, Vec, std};
 
@@ -11,13 +11,13 @@ use crate::spread::table::Frame;
 use cli::inputs::open;
 use cli::progress::{Progress, Watched};
 use hash_kinds::table::Kind;
-use hash_spread::advice::advise;
-use hash_spread::call::Settings;
-use hash_spread::failure::{Failure, NoTable};
-use hash_spread::keys::{Layout, read_keys};
-use hash_spread::named::Hashed;
-use hash_spread::rows::{TableRow, row_of};
-use hash_spread::sizes::sizes_of;
+use spread_core::advice::advise;
+use spread_core::call::Settings;
+use spread_core::failure::{Failure, NoTable};
+use spread_core::keys::{Layout, read_keys};
+use spread_core::named::Hashed;
+use spread_core::rows::{TableRow, row_of};
+use spread_core::sizes::sizes_of;
 use std::fs::{File, OpenOptions};
 use std::io;
 use std::io::{BufReader, BufWriter, Error, ErrorKind, IsTerminal, Stdout};

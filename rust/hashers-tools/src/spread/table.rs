@@ -3,13 +3,13 @@
 // What follows is the proved text of crates/spread/src/table.rt without its contracts.
 // Proofs name the loop.
 #![allow(unused_labels)]
-use crate::{cli, hash_spread};
+use crate::{cli, spread_core};
 use hashers_proved::shim::{String, Vec, format, std};
 
 use cli::help::push_spaces;
-use hash_spread::chance::{Chance, equal_pairs};
-use hash_spread::rows::TableRow;
-use hash_spread::sizes::Sizes;
+use spread_core::chance::{Chance, equal_pairs};
+use spread_core::rows::TableRow;
+use spread_core::sizes::Sizes;
 use std::alloc::{AllocError, Global};
 
 /// The digits of each number.

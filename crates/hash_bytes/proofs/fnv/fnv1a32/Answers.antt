@@ -1,5 +1,5 @@
 use Rattle.std.proofs.Common.{◌^◌, lit<}
-use Rattle.hash_laws.proofs.ByteLemmas.{recurrence_below}
+use Rattle.hash_laws.specs.ByteLaws.{recurrence_below}
 use Rattle.hash_bytes.specs.Fnv.{fnv1a32_basis, fnv1a32_step}
 use Rattle.hash_bytes.specs.FnvLaws.{fnv1a32_facts}
 use Rattle.hash_bytes.proofs.fnv.fnv1a32.Goals as goal

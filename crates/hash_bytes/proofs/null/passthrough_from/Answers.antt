@@ -1,5 +1,5 @@
 use Rattle.hash_bytes.proofs.Common.{◌∙◌, ap, sym, length, digit_sum, from_be_bytes-8, passthrough_of_last}
-use Rattle.hash_laws.proofs.TextLemmas.{IsText-from_slice}
+use Rattle.hash_laws.specs.TextLaws.{IsText-from_slice}
 use Rattle.hash_bytes.proofs.null.passthrough_from.Goals as goal
 
 pub returns-in-Some : goal.returns-in-Some

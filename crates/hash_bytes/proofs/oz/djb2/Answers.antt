@@ -1,5 +1,5 @@
 use Rattle.std.proofs.Common.{◌^◌, lit<}
-use Rattle.hash_laws.proofs.ByteLemmas.{recurrence_below}
+use Rattle.hash_laws.specs.ByteLaws.{recurrence_below}
 use Rattle.hash_bytes.specs.Oz.{djb2_step}
 use Rattle.hash_bytes.specs.OzLaws.{djb2_facts}
 use Rattle.hash_bytes.proofs.oz.djb2.Goals as goal

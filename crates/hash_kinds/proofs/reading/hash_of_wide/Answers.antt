@@ -1,5 +1,5 @@
 use Rattle.std.proofs.Common.{[], sym, ap, ◌∙◌}
-use Rattle.hash_reading.proofs.ReadingLemmas.{fold-cut}
+use Rattle.hash_laws.proofs.ReadingLemmas.{fold-cut}
 use Rattle.hash_kinds.proofs.reading.hash_of_wide.Goals as goal
 
 -- the pieces of a text, fed in order, are the text

@@ -1,4 +1,4 @@
-use Rattle.hash_laws.proofs.Common.{◌≡◌, ◌≢◌, ap, sym, refl, [], ◌∷◌, ◌∙◌, joined}
+use Rattle.hash_laws.specs.Common.{◌≡◌, ◌≢◌, ap, sym, refl, [], ◌∷◌, ◌∙◌, joined}
 use Rattle.hash_laws.proofs.traits.answer_of_pieces.Goals as goal
 
 pub returns-clause-defined : goal.returns-clause-defined

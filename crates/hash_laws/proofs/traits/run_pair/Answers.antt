@@ -1,6 +1,6 @@
-use Rattle.hash_laws.proofs.Common.{◌≡◌, fold, subst, drop_all, texts}
+use Rattle.hash_laws.specs.Common.{◌≡◌, fold, subst, drop_all, texts}
 use Rattle.hash_laws.proofs.PairLemmas.{alike_after}
-use Rattle.hash_laws.proofs.TextLemmas.{rest_more}
+use Rattle.hash_laws.specs.TextLaws.{rest_more}
 use Rattle.hash_laws.proofs.traits.run_pair.Goals as goal
 
 -- a piece fed to both keeps their answers alike or different

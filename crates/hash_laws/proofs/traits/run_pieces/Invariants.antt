@@ -1,4 +1,4 @@
-use Rattle.hash_laws.proofs.Common.{◌≡◌, drop, fold, texts}
+use Rattle.hash_laws.specs.Common.{◌≡◌, drop, fold, texts}
 use Rattle.hash_laws.proofs.traits.run_pieces.Given as goal
 
 abbrev pub invariant-loop-piece : goal.invariant-loop-piece

@@ -1,7 +1,7 @@
-use Rattle.hash_laws.proofs.Common.{ℕ, ◌≡◌, ◌<◌, [], ◌++◌, sym, Bor, List, subst, arith, ⊎_elim, All-append, IsText, joined}
+use Rattle.hash_laws.specs.Common.{ℕ, ◌≡◌, ◌<◌, [], ◌++◌, sym, Bor, List, subst, arith, ⊎_elim, All-append, IsText, joined}
 use Rattle.std.proofs.Common.{take_all}
 use Rattle.std.proofs.lemmas.Bool.{cases_lt}
-use Rattle.hash_laws.proofs.TextLemmas.{joined_more}
+use Rattle.hash_laws.specs.TextLaws.{joined_more}
 use Rattle.hash_laws.proofs.traits.run_streamed.Goals as goal
 
 -- the piece extends the text so far

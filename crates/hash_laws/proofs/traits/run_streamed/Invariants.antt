@@ -1,4 +1,4 @@
-use Rattle.hash_laws.proofs.Common.{ℕ, ◌≡◌, ◌<◌, List, ◌++◌, take, IsText, joined}
+use Rattle.hash_laws.specs.Common.{ℕ, ◌≡◌, ◌<◌, List, ◌++◌, take, IsText, joined}
 use Rattle.hash_laws.proofs.traits.run_streamed.Given as goal
 
 -- the pieces so far count as one

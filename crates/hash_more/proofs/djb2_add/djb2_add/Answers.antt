@@ -1,5 +1,5 @@
 use Rattle.std.proofs.Common.{◌^◌, lit<}
-use Rattle.hash_laws.proofs.ByteLemmas.{recurrence_below}
+use Rattle.hash_laws.specs.ByteLaws.{recurrence_below}
 use Rattle.hash_more.specs.Djb2Add.{djb2_add_step}
 use Rattle.hash_more.specs.Djb2AddLaws.{djb2_add_facts}
 use Rattle.hash_more.proofs.djb2_add.djb2_add.Goals as goal

@@ -1,5 +1,5 @@
 use Rattle.std.proofs.Common.{◌^◌, lit<}
-use Rattle.hash_laws.proofs.ByteLemmas.{recurrence_below}
+use Rattle.hash_laws.specs.ByteLaws.{recurrence_below}
 use Rattle.hash_more.specs.Elf.{elf_step}
 use Rattle.hash_more.specs.ElfLaws.{elf_in_range}
 use Rattle.hash_more.proofs.elf.elf.Goals as goal

@@ -1,6 +1,6 @@
 use Rattle.std.proofs.Common.{◌^◌, lit<}
-use Rattle.hash_laws.proofs.ByteLemmas.{recurrence_below}
-use Rattle.hash_rules.specs.FnvParts.{fnv1a32_basis}
+use Rattle.hash_laws.specs.ByteLaws.{recurrence_below}
+use Rattle.hash_laws.specs.FnvParts.{fnv1a32_basis}
 use Rattle.hash_more.specs.Fnv1.{fnv1_32_step}
 use Rattle.hash_more.specs.Fnv1Laws.{fnv1_32_facts}
 use Rattle.hash_more.proofs.fnv1.fnv1_32.Goals as goal

@@ -1,6 +1,6 @@
 use Rattle.std.proofs.Common.{◌≤◌, arith}
 use Rattle.std.proofs.lemmas.Bool.Decides.{nat_tests}
-use Rattle.hash_spread.specs.Counts.{IsSpread}
+use Rattle.spread_core.specs.Counts.{IsSpread}
 use Rattle.hash_vectors.proofs.theorems.fall_apart.Goals as goal
 
 pub returns : goal.returns

@@ -1,6 +1,6 @@
 use Rattle.hashers.proofs.Common.{sym, ◌∙◌, ap, djb2_from}
 use Rattle.std.proofs.Common.{eq-eqb, eqb-true}
-use Rattle.hash_laws.proofs.TextLemmas.{IsText-from_slice}
+use Rattle.hash_laws.specs.TextLaws.{IsText-from_slice}
 use Rattle.hashers.proofs.ShortWords.{djb2_same_word}
 use Rattle.hashers.proofs.windows.same_word.Goals as goal
 

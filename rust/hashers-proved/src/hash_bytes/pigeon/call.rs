@@ -1,10 +1,10 @@
 //! The one-call function, which can't stand beside the type of its name.
 
 // What follows is the proved text of crates/hash_bytes/src/pigeon/call.rt without its contracts.
-use crate::hash_rules;
+use crate::hash_laws;
 
 use super::hasher::BricolageRule;
-use hash_rules::hash_by_plain;
+use hash_laws::rules::hash_by_plain;
 
 /// Bricolage of the bytes.
 ///

@@ -1,11 +1,11 @@
 //! The hasher.
 
 // What follows is the proved text of crates/hash_bytes/src/pigeon/hasher.rt without its contracts.
-use crate::{hash_rounds, hash_rules};
+use crate::{hash_laws, hash_rounds};
 
 use super::table::SHUFFLED_PRODUCTS;
+use hash_laws::rules::{ByteHasher, Plain, PlainRule, PlainUndo};
 use hash_rounds::swap_halves;
-use hash_rules::{ByteHasher, Plain, PlainRule, PlainUndo};
 
 /// The shuffled product of a byte.
 ///

@@ -1,6 +1,6 @@
 use Rattle.hash_fx.proofs.Common.{◌^◌, ◌∙◌, ap, sym, recurrence-fold, recurrence}
 use Rattle.hash_laws.proofs.ItemLemmas.{piece_injective}
-use Rattle.hash_laws.proofs.TextLemmas.{IsText-from_slice}
+use Rattle.hash_laws.specs.TextLaws.{IsText-from_slice}
 use Rattle.hash_fx.proofs.hasher.WordHasherUndo.unwrite.Goals as goal
 
 pub returns-clause-undone : goal.returns-clause-undone

@@ -1,5 +1,5 @@
 use Rattle.hash_jenkins.proofs.Common.{arith, common_steps}
-use Rattle.hash_laws.proofs.TextLemmas.{IsText-from_slice}
+use Rattle.hash_laws.specs.TextLaws.{IsText-from_slice}
 use Rattle.hash_jenkins.proofs.WriteLemmas.{settled_still, settled_long, in_range_after}
 use Rattle.hash_jenkins.proofs.spooky_parts.SpookyParts.write_counted.Goals as goal
 

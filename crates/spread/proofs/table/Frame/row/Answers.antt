@@ -1,6 +1,6 @@
 use Rattle.std.proofs.Common.{◌≡◌, ◌∷◌, [], ap, sym, ◌∙◌, map, decimal, string_bytes}
 use Rattle.hash_kinds.specs.Named.{name_of}
-use Rattle.hash_spread.specs.Table.{row_numbers}
+use Rattle.spread_core.specs.Table.{row_numbers}
 use Rattle.spread.specs.Lines.{AreCells, row_cells}
 use Rattle.spread.proofs.CellLemmas.{ended_line, ended_with, first_cell, one_more}
 use Rattle.spread.proofs.table.Frame.row.Goals.{in-Some+in_ok-format+in_ok-push, in_default}

@@ -1,7 +1,0 @@
-use Rattle.block_laws.proofs.Common.{◌∷◌, [], slice_index, lit<, refl, murmur3_128, murmur3_128_facts}
-use Rattle.block_laws.proofs.BlockLemmas.{differ-shows}
-use Rattle.block_laws.proofs.murmur3.one_changed_block_shows_in_murmur3_128.Goals as goal
-
-pub returns : goal.returns
-returns c = λ seed.
-    differ-shows (lit< tt) murmur3_128_facts (λ from text. murmur3_128 (slice_index from 0) text) (λ from text. refl) (seed ∷ [])

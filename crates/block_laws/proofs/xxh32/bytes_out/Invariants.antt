@@ -1,7 +1,0 @@
-use Rattle.block_laws.proofs.Common.{◌≡◌, fold, reverse, rev_source, iter_rest}
-use Rattle.block_laws.specs.Xxh32Back.{byte_out}
-use Rattle.block_laws.proofs.xxh32.bytes_out.Given as goal
-
-abbrev pub invariant-loop-byte : goal.invariant-loop-byte
-invariant-loop-byte l =
-    fold byte_out l.before (reverse (iter_rest (rev_source l.byte-iterator))) ≡ fold byte_out l.h (reverse l.bytes)

@@ -1,6 +1,0 @@
-use Rattle.block_laws.proofs.Common.{◌≡◌, fold, take, le}
-use Rattle.hash_xxhash.specs.Xxh32.{four_in}
-use Rattle.block_laws.proofs.xxh32.fours_in.Given as goal
-
-abbrev pub invariant-loop-four : goal.invariant-loop-four
-invariant-loop-four l = l.mixed ≡ fold (λ h block. four_in h (le block)) l.initial.mixed (take l.four-index l.fours)

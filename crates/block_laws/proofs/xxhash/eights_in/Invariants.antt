@@ -1,5 +1,0 @@
-use Rattle.block_laws.proofs.Common.{◌≡◌, fold, take, le, eight_in}
-use Rattle.block_laws.proofs.xxhash.eights_in.Given as goal
-
-abbrev pub invariant-loop-eight : goal.invariant-loop-eight
-invariant-loop-eight l = l.mixed ≡ fold (λ h block. eight_in h (le block)) l.initial.mixed (take l.eight-index l.eights)

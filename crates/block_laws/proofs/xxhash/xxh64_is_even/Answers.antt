@@ -1,7 +1,0 @@
-use Rattle.block_laws.proofs.Common.{lit<}
-use Rattle.block_laws.proofs.BackLemmas.{one_block}
-use Rattle.block_laws.proofs.Words64.{framed}
-use Rattle.block_laws.proofs.xxhash.xxh64_is_even.Goals as goal
-
-pub returns : goal.returns
-returns c = λ seed hash front back hash_in fronts backs place. one_block 8 (lit< tt) (framed seed front back fronts backs place) hash hash_in

@@ -1,0 +1,14 @@
+use Rattle.std.proofs.Common.{◌≡◌, List, take, map}
+use Rattle.cuts_core.specs.Counted.{IsCounted}
+use Rattle.cuts_core.specs.Cut.{Cut}
+use Rattle.cuts_core.specs.Tally.{AreCut, all_given}
+use Rattle.hashsum_core.specs.Sums.{sum_by}
+use Rattle.cuts_core.proofs.tally.count_files.Given as goal
+
+-- the chunks of the files so far are counted
+abbrev pub invariant-loop-name : goal.invariant-loop-name
+invariant-loop-name g l = record {
+  kind : l.tally.kind ≡ l.fn.tally.kind;
+  counted : (files : List Cut) × AreCut l.cuts (g.F.Folder.opens l.folder) (take l.name-index (map (λ n. n.now) l.names)) files l.all
+      × IsCounted (sum_by l.fn.tally.kind) (all_given files) l.tally;
+}

@@ -1,0 +1,23 @@
+use Rattle.std.proofs.Common.{inr, subst, ◌∙◌}
+use Rattle.std.specs.Io.Buffered.{writer_contents}
+use Rattle.streams.specs.Streams.{AppendsPart}
+use Rattle.cuts_core.specs.Counted.{IsCounted}
+use Rattle.cuts_core.specs.Tally.{all_given}
+use Rattle.cuts_core.proofs.TallyLemmas.{lines_counted}
+use Rattle.hash_lines.specs.declared.line.LineKind.{LineKind}
+use Rattle.hashsum_core.specs.Sums.{sum_by}
+use Rattle.cuts_core.proofs.tally.tell_tally.Goals as goal
+
+pub returns-in-Ok-clause-told : goal.returns-in-Ok-clause-told
+returns-in-Ok-clause-told g c =
+    let contents = writer_contents g.W.Write.contents in
+    let (files, are_cut, counted) = c.in_ok-all.ensures in
+    let tally = c.count_files.new.tally in
+    let counts = subst (λ (kind : LineKind). IsCounted (sum_by kind) (all_given files) tally) c.new-tally.ensures.kind counted in
+    inr (
+      files,
+      c.in_ok-all.all,
+      are_cut,
+      subst (AppendsPart (contents c.args.w.now) (contents c.write_out.new.w)) (c.deref.ensures.value ∙ c.in-Ok.ensures
+          ∙ lines_counted (sum_by c.args.kind) (all_given files) tally counts) c.in-Err-write_out.ensures.told.0,
+    )

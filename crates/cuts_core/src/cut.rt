@@ -1,0 +1,41 @@
+//! The chunks of a file.
+ghost use Rattle.cuts_core.specs.Cut.{EndsFile};
+
+use crate::failure::Failure;
+use cli::folder::Folder;
+use hash_cuts::{Cuts, Sink, Unfinished, cut_reader_by};
+use std::io::{Error, ErrorKind, Read};
+
+/// Gives a sink the chunks of the file of that name, by a buffer that may serve many files, and returns whether it was read to its end. Of
+/// a file that fails the sink has the chunks that end within the bytes read before.
+pub fn cut_file<R: Read + Drop, F: Folder<R>, S: Sink<Error = Failure>>(
+    buffer: &mut Vec<u8>,
+    cuts: &Cuts,
+    folder: &F,
+    name: &[u8],
+    sink: &mut S,
+) -> Result<bool, Failure>
+    ensures { EndsFile S.taken cuts.now (F.opens folder.now name.now) sink.old sink.new result }
+{
+    let mut file = match folder.open(name) {
+        Ok(file) => file,
+        Err(error) => {
+            folder.failed(name, &error);
+            return Ok(false);
+        }
+    };
+    match cut_reader_by(buffer, cuts, &mut file, u64::MAX, sink) {
+        Ok(taken) => {
+            if !taken.ended {
+                folder.failed(name, &Error::new(ErrorKind::FileTooLarge, "file too large"));
+            }
+            Ok(taken.ended)
+        }
+        Err(Unfinished::Unread(fault)) => {
+            folder.failed(name, &fault.error);
+            Ok(false)
+        }
+        Err(Unfinished::Refused(fault)) => Err(fault),
+        Err(Unfinished::NoMemory) => Err(Failure::NoMemory),
+    }
+}

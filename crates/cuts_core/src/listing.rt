@@ -1,0 +1,134 @@
+//! A line for each chunk.
+ghost use Rattle.std.specs.Prelude.{◌≡◌, ◌≤◌, ◌+◌, ◌^◌, [], ◌∷◌, Some, None, map, length, IfOk, IfErr, OnOk, OnErr};
+ghost use Rattle.std.specs.Io.Buffered.{writer_buffer, writer_contents};
+ghost use Rattle.cuts_core.specs.Cut.{IsManyOnly};
+ghost use Rattle.cuts_core.specs.Listing.{EndsLines, EndsListing, ListsChunks, chunk_line};
+ghost use Rattle.hash_cuts.specs.Reading.{Takes};
+
+use crate::cut::cut_file;
+use crate::failure::{Failure, TooMany};
+use cli::folder::Folder;
+use hash_cuts::{Cuts, Sink};
+use hash_lines::line::{Form, LineKind, push_line};
+use hashsum_core::sums::{default_kind, number_of_text};
+use std::alloc::{AllocError, Global};
+use std::io::{BufWriter, Read, Write};
+use streams::tries::write_out;
+
+/// Writes a line for each chunk of a file.
+#[derive(Drop)]
+pub struct Lines<'a, W: Write + Drop> {
+    alloc: Global,
+    kind: LineKind<'static>,
+    name: &'a [u8],
+    place: u64, // where the next chunk begins
+    /// Where the lines are written.
+    pub w: BufWriter<W>,
+}
+
+impl<W: Write + Drop> Lines<'_, W> {
+    /// Of no file yet, by the default hash.
+    pub fn new(alloc: Global, w: BufWriter<W>) -> Self
+        ensures { result.w ≡ w }
+    {
+        Lines {
+            alloc,
+            kind: default_kind(),
+            name: b"",
+            place: 0,
+            w,
+        }
+    }
+}
+
+/// The line of a chunk, with its end.
+fn chunk_line(
+    alloc: Global,
+    kind: LineKind<'static>,
+    name: &[u8],
+    place: u64,
+    chunk: &[u8],
+) -> Result<Vec<u8>, AllocError>
+    ensures { IfOk result (λ line. line.items ≡ chunk_line kind.entry name.now place chunk.now) }
+{
+    let mut line = Vec::new(alloc);
+    if write!(line, "{place} ").is_err() || write!(line, "{} ", chunk.len()).is_err() {
+        return Err(AllocError);
+    }
+    push_line(
+        &mut line,
+        Form::Untagged,
+        true,
+        kind,
+        name,
+        number_of_text(kind, chunk),
+    )?;
+    line.push(b'\n')?;
+    Ok(line)
+}
+
+impl<W: Write + Drop> Sink for Lines<'_, W> {
+    type Error = Failure;
+
+    ghost taken = { ListsChunks W.contents };
+
+    fn take(&mut self, chunk: &[u8]) -> Result<(), Failure>
+        ensures ok { OnOk result (Takes (ListsChunks W.contents) self.old self.new (chunk.now ∷ []) None) }
+        ensures err { OnErr result (Takes (ListsChunks W.contents) self.old self.new [] (Some chunk.now)) }
+        ensures many { IfErr result (IsManyOnly (2 ^ 64 ≤ self.old.place + length chunk.now)) }
+    {
+        let Some(next) = self.place.checked_add(chunk.len() as u64) else {
+            return Err(Failure::Own(TooMany));
+        };
+        match chunk_line(self.alloc, self.kind, self.name, self.place, chunk) {
+            Ok(line) => write_out(&mut self.w, &line)?,
+            Err(_) => return Err(Failure::NoMemory),
+        }
+        self.place = next;
+        Ok(())
+    }
+}
+
+/// Writes a line for each chunk of the file of that name, and returns whether it was read to its end.
+fn list_file<'a, R: Read + Drop, F: Folder<R>, W: Write + Drop>(
+    buffer: &mut Vec<u8>,
+    cuts: &Cuts,
+    folder: &F,
+    name: &'a [u8],
+    lines: &mut Lines<'a, W>,
+) -> Result<bool, Failure>
+    ensures kind { lines.new.kind ≡ lines.old.kind }
+    ensures listed { EndsLines lines.old.kind cuts.now (F.opens folder.now) name.now
+        (writer_contents W.contents lines.old.w) (writer_contents W.contents lines.new.w) result }
+    ensures flushed { OnOk result (writer_buffer lines.old.w ≡ [] → writer_buffer lines.new.w ≡ []) }
+{
+    lines.name = name;
+    lines.place = 0;
+    cut_file(buffer, cuts, folder, name, lines)
+}
+
+/// Writes a line for each chunk of each file, in their order, and returns whether each was read to its end. Of a file that fails the
+/// chunks before that have lines. None is held back.
+pub fn list_files<'a, R: Read + Drop, F: Folder<R>, W: Write + Drop>(
+    alloc: Global,
+    cuts: &Cuts,
+    folder: &F,
+    kind: LineKind<'static>,
+    names: &[&'a [u8]],
+    lines: &mut Lines<'a, W>,
+) -> Result<bool, Failure>
+    ensures listed { EndsListing kind.entry cuts.now (F.opens folder.now) (map (λ name. name.now) names.now)
+        (writer_contents W.contents lines.old.w) (writer_contents W.contents lines.new.w) result }
+    ensures flushed { OnOk result (writer_buffer lines.old.w ≡ [] → writer_buffer lines.new.w ≡ []) }
+{
+    let mut buffer = Vec::new(alloc);
+    lines.kind = kind;
+    let mut all = true;
+    for name in names {
+        match list_file(&mut buffer, cuts, folder, name, lines) {
+            Ok(whole) => all = all & whole,
+            Err(fault) => return Err(fault),
+        }
+    }
+    Ok(all)
+}

@@ -1,0 +1,8 @@
+use Rattle.dedup_core.proofs.Common.{◌≡◌, take}
+use Rattle.dedup_core.specs.Between.{AreNext}
+use Rattle.dedup_core.proofs.AheadLemmas.{behind}
+use Rattle.dedup_core.proofs.ahead.look.Given as goal
+
+-- what is left comes behind the lines that are found
+abbrev pub invariant-loop-i : goal.invariant-loop-i
+invariant-loop-i g l = (l.rest ≡ behind (take l.i l.found) l.bytes) × AreNext l.eol (g.T.LineTask.tag_of l.task) l.bytes (take l.i l.found)

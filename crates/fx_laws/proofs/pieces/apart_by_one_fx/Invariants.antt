@@ -1,8 +1,0 @@
-use Rattle.fx_laws.proofs.Common.{◌↔◌, drop, joined}
-use Rattle.fx_laws.proofs.OneApart.{OneApart}
-use Rattle.fx_laws.proofs.TestLemmas.{RestApart}
-use Rattle.fx_laws.proofs.pieces.apart_by_one_fx.Given as goal
-
--- the pieces that are left decide
-abbrev pub invariant-loop-i : goal.invariant-loop-i
-invariant-loop-i l = OneApart (joined l.x) (joined l.y) ↔ RestApart l.apart (drop l.i l.x) (drop l.i l.y)

@@ -1,9 +1,0 @@
-use Rattle.fx_laws.proofs.Common.{OnTrue_at, OnTrue_from}
-use Rattle.fx_laws.proofs.PiecesLemmas.{fx32_words-differ}
-use Rattle.fx_laws.proofs.pieces.apart_by_one_word_fx32.Goals as goal
-
-pub returns-clause-differ : goal.returns-clause-differ
-returns-clause-differ c =
-    let test = c.apart_by_one_word.ensures in
-    OnTrue_from c.apart_by_one_word.result _ (λ yes. fx32_words-differ c.args.x.now c.args.y.now (OnTrue_at yes test.first)
-    (OnTrue_at yes test.second) (test.exactly.0 yes))

@@ -1,5 +1,0 @@
-use Rattle.fx_laws.proofs.PiecesLemmas.{fx32_pieces-differ, fx64_pieces-differ}
-use Rattle.fx_laws.proofs.pieces.one_changed_byte_shows_fx.Goals as goal
-
-pub returns : goal.returns
-returns c = record { at_64 = fx64_pieces-differ; at_32 = fx32_pieces-differ }

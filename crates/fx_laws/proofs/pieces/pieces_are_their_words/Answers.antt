@@ -1,5 +1,0 @@
-use Rattle.fx_laws.proofs.Common.{recurrence-pieces, fx32_step, fx64_step, words32, words64}
-use Rattle.fx_laws.proofs.pieces.pieces_are_their_words.Goals as goal
-
-pub returns : goal.returns
-returns c = record { at_64 = recurrence-pieces fx64_step words64; at_32 = recurrence-pieces fx32_step words32 }

@@ -1,5 +1,0 @@
-use Rattle.fx_laws.proofs.ByPlace.{eights64, four64, bytes64, count64}
-use Rattle.fx_laws.proofs.pieces.words_by_place64.Goals as goal
-
-pub returns : goal.returns
-returns c = record { eights = eights64; four = four64; bytes = bytes64; count = count64 }

@@ -1,5 +1,0 @@
-//! Laws of fx: where the split of a list of pieces does not matter, tests of two lists, and that each hash has one word.
-#![tactic(auto)]
-
-mod differing;
-pub mod pieces;

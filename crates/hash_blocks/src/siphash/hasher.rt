@@ -1,0 +1,138 @@
+//! SipHash-c-d.
+ghost use Rattle.std.specs.Prelude.{◌≡◌, ◌+◌, ◌*◌, ◌^◌, ◌<◌, [], ◌∷◌, slice_index, refl};
+ghost use Rattle.std.proofs.Common.{lit<};
+ghost use Rattle.hash_laws.specs.Text.{joined};
+ghost use Rattle.hash_blocks.specs.SipHash.{after_block, after_word, ended, siphash, start, xored};
+ghost use Rattle.hash_blocks.specs.SipHashLaws.{total_wraps};
+
+use crate::siphash::rounds::sip_rounds;
+use crate::{BlockHasher, BlockRule, le_seven};
+use hash_rounds::le64;
+
+/// A key of 128 bits, as two words: the little-endian values of its first and its last eight bytes.
+#[derive(Clone, Copy)]
+pub struct SipKey {
+    pub k0: u64,
+    pub k1: u64,
+}
+
+// What is kept of no blocks.
+#[inline(always)]
+#[tactic(auto, unfolding(crate::specs::SipHash::start))]
+fn start(k0: u64, k1: u64) -> [u64; 4]
+    ensures { result ≡ start k0 k1 }
+{
+    [
+        k0 ^ 0x736f6d6570736575,
+        k1 ^ 0x646f72616e646f6d,
+        k0 ^ 0x6c7967656e657261,
+        k1 ^ 0x7465646279746573,
+    ]
+}
+
+// One word in, by `C` rounds.
+#[inline(always)]
+#[tactic(auto, unfolding(crate::specs::SipHash::after_word, crate::specs::SipHash::xored))]
+fn word_in<const C: usize>(v: &mut [u64; 4], word: u64)
+    ensures { v.new ≡ after_word C v.old word }
+{
+    v[3] ^= word;
+    sip_rounds::<C>(v);
+    v[0] ^= word;
+}
+
+/// The rule of SipHash by `C` rounds for each word and `D` at the end.
+pub struct SipRule<const C: usize, const D: usize>;
+
+impl<const C: usize, const D: usize> BlockRule<8> for SipRule<C, D> {
+    type State = [u64; 4];
+
+    type Seed = SipKey;
+
+    type Hash = u64;
+
+    ghost numbers = { λ key. key.k0 ∷ key.k1 ∷ [] };
+
+    ghost plain = { record { k0 = 0; k1 = 0 } };
+
+    ghost start = { λ from. start (slice_index from 0) (slice_index from 1) };
+
+    ghost block = { after_block C };
+
+    ghost finish = { ended C D };
+
+    ghost low = { λ hash. hash };
+
+    ghost hash = { λ from text. siphash C D (slice_index from 0) (slice_index from 1) text };
+
+    #[inline(always)]
+    fn plain() -> SipKey {
+        SipKey { k0: 0, k1: 0 }
+    }
+
+    #[inline(always)]
+    fn start(key: SipKey) -> [u64; 4] {
+        start(key.k0, key.k1)
+    }
+
+    #[inline(always)]
+    fn block(state: &mut [u64; 4], bytes: &[u8; 8]) {
+        word_in::<C>(state, le64(bytes));
+    }
+
+    #[inline(always)]
+    fn finish(state: &[u64; 4], left: &[u8], total: u64) -> u64 {
+        let mut v = *state;
+        word_in::<C>(&mut v, le_seven(left) + total % 256 * 0x0100_0000_0000_0000);
+        v[2] ^= 0xff;
+        sip_rounds::<D>(&mut v);
+        v[0] ^ v[1] ^ (v[2] ^ v[3])
+    }
+
+    #[inline(always)]
+    fn low(hash: u64) -> u64 {
+        hash
+    }
+
+    ghost some = { lit< tt };
+
+    ghost fits = { lit< tt };
+
+    ghost total_wraps = { total_wraps C D };
+
+    ghost is_hash = { λ from text. refl };
+}
+
+/// SipHash-1-3, which the maps of Rust and Python take.
+pub type SipHasher13 = BlockHasher<SipRule<1, 3>, 8>;
+
+/// SipHash-2-4, as its authors recommend it.
+pub type SipHasher24 = BlockHasher<SipRule<2, 4>, 8>;
+
+/// SipHash-1-3 of the bytes under a key.
+pub fn siphash13(key: SipKey, bytes: &[u8]) -> u64
+    ensures { result ≡ siphash 1 3 key.k0 key.k1 bytes.now }
+{
+    SipHasher13::hash_of(key, bytes)
+}
+
+/// SipHash-2-4 of the bytes under a key. Under the key of the bytes 0 to 15 that of the bytes 0 to 14 is 0xa129ca6149be45e5.
+pub fn siphash24(key: SipKey, bytes: &[u8]) -> u64
+    ensures { result ≡ siphash 2 4 key.k0 key.k1 bytes.now }
+{
+    SipHasher24::hash_of(key, bytes)
+}
+
+/// The same of a text in pieces: how it was cut doesn't show.
+pub fn siphash24_of_pieces(key: SipKey, pieces: &[&[u8]]) -> u64
+    ensures { result ≡ siphash 2 4 key.k0 key.k1 (joined pieces.now) }
+{
+    SipHasher24::new(key).hash_with(pieces)
+}
+
+/// The same of a text in pieces: how it was cut doesn't show.
+pub fn siphash13_of_pieces(key: SipKey, pieces: &[&[u8]]) -> u64
+    ensures { result ≡ siphash 1 3 key.k0 key.k1 (joined pieces.now) }
+{
+    SipHasher13::new(key).hash_with(pieces)
+}

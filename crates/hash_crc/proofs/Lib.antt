@@ -1,5 +1,0 @@
-pub mod Common
-pub mod Crc32Endings
-pub mod Crc32Lemmas
-pub mod Crc32Products
-pub mod Crc32Texts

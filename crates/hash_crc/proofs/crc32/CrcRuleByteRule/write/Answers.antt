@@ -1,7 +1,0 @@
-use Rattle.hash_crc.proofs.Crc32Texts.{all_sixteens}
-use Rattle.hash_crc.proofs.crc32.CrcRuleByteRule.write.Goals as goal
-
-pub returns : goal.returns
-returns g c =
-    all_sixteens g.P.Polynomial.POLYNOMIAL _ _ _ _ _ _ _ c.loop-sixteen-test.false c.as_rchunks.ensures.front c.as_rchunks.ensures.back
-    c.in_eights.ensures c.loop-sixteen.invariant

@@ -1,2 +1,0 @@
-pub mod Crc32
-pub mod Crc32Laws

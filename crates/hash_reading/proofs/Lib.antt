@@ -1,2 +1,0 @@
-pub mod KnownText
-pub mod ReadingLemmas

@@ -1,3 +1,0 @@
-pub mod Limited
-pub mod LimitedLaws
-pub mod Reading

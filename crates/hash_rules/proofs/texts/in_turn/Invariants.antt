@@ -1,7 +1,0 @@
-use Rattle.std.proofs.Common.{◌≡◌, take}
-use Rattle.hash_laws.specs.Recurrence.{recurrence}
-use Rattle.hash_rules.proofs.texts.in_turn.Given as goal
-
-abbrev pub invariant-loop-byte : goal.invariant-loop-byte
-invariant-loop-byte g l = g.R.StepRule.number l.state ≡ recurrence g.R.StepRule.step (g.R.StepRule.number l.initial.state)
-    (take l.byte-index l.bytes)

@@ -1,8 +1,0 @@
-use Rattle.hash_spread.proofs.Common.{◌≡◌, drop, map, find, is_none, kind_called}
-use Rattle.hash_spread.proofs.call.first_unknown.Given as goal
-
--- the first one is among those that are left
-abbrev pub invariant-loop-name : goal.invariant-loop-name
-invariant-loop-name l =
-    find (λ name. is_none (kind_called name)) (map (λ name. name.now) (drop l.name-index l.names))
-    ≡ find (λ name. is_none (kind_called name)) (map (λ name. name.now) l.names)

@@ -1,5 +1,0 @@
-use Rattle.hash_spread.proofs.Common.{◌≡◌, ◌*◌, take, sum_by}
-use Rattle.hash_spread.proofs.counts.squares.Given as goal
-
-abbrev pub invariant-loop-count : goal.invariant-loop-count
-invariant-loop-count l = l.total ≡ sum_by (λ count. count * count) (take l.count-index l.counts)

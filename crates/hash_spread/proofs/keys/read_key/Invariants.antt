@@ -1,9 +1,0 @@
-use Rattle.hash_spread.proofs.Common.{◌≤◌, ◌-◌, length, Consumes}
-use Rattle.hash_spread.proofs.keys.read_key.Given as goal
-
--- what was read so far is the front of a key
-abbrev pub invariant-pieces : goal.invariant-pieces
-invariant-pieces g l = (length l.key.items ≤ l.width) × Consumes (g.R.Read.remaining l.initial.r) (g.R.Read.remaining l.r) l.key.items
-
-abbrev pub decreases-pieces : goal.decreases-pieces
-decreases-pieces g l = l.width - length l.key.items

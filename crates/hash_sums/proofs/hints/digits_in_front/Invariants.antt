@@ -1,7 +1,0 @@
-use Rattle.std.proofs.Common.{◌≡◌, drop}
-use Rattle.hash_sums.specs.Hints.{digits_from, digits_in_front}
-use Rattle.hash_sums.proofs.hints.digits_in_front.Given as goal
-
--- all bytes so far are digits
-abbrev pub invariant-loop-at : goal.invariant-loop-at
-invariant-loop-at l = digits_in_front l.line ≡ digits_from l.at (drop l.at l.line)

@@ -1,6 +1,0 @@
-use Rattle.hash_sums.proofs.StatusLemmas.{check_passed}
-use Rattle.hash_sums.proofs.laws.a_check_that_ends_well.Goals as goal
-
-pub returns : goal.returns
-returns g c folder kinds checking lists written written' outcome =
-    check_passed kinds checking (g.F.Folder.opens folder) lists written written' outcome

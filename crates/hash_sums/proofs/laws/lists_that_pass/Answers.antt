@@ -1,6 +1,0 @@
-use Rattle.hash_sums.proofs.Common.{refl}
-use Rattle.hash_sums.proofs.PassLemmas.{lists_passed}
-use Rattle.hash_sums.proofs.laws.lists_that_pass.Goals as goal
-
-pub returns : goal.returns
-returns g c folder kinds checking lists written written' listed = lists_passed kinds checking (g.F.Folder.opens folder) listed refl

@@ -1,9 +1,0 @@
-use Rattle.hash_sums.proofs.Common.{◌≡◌, drop}
-use Rattle.std.proofs.Common.{find}
-use Rattle.hash_sums.specs.Sums.{is_named}
-use Rattle.hash_sums.proofs.sums.kind_named.Given as goal
-
--- the kind is among those that are left
-abbrev pub invariant-loop-kind : goal.invariant-loop-kind
-invariant-loop-kind l =
-    find (λ kind. is_named l.name kind.name.now) (drop l.kind-index l.kinds) ≡ find (λ kind. is_named l.name kind.name.now) l.kinds

@@ -1,0 +1,7 @@
+use Rattle.hash_theorems.proofs.BlockCommon.{ℕ, ◌≢◌, ◌^◌, ◌<◌, [], ◌∷◌, OnTrue_at, OnTrue_from, murmur3_32}
+use Rattle.hash_theorems.proofs.blocks.murmur3.apart_by_word_murmur3_32.Goals as goal
+
+pub returns-clause-differ : goal.returns-clause-differ
+returns-clause-differ c =
+    OnTrue_from c.apart_by_rule.result ((seed : ℕ) → seed < 2 ^ 32 → murmur3_32 seed c.args.x.now ≢ murmur3_32 seed c.args.y.now)
+    (λ yes seed seed_in. OnTrue_at yes c.apart_by_rule.ensures.differ (seed ∷ []) seed_in)

@@ -1,0 +1,17 @@
+pub mod BlockCommon
+pub mod BlockFacts
+pub mod Murmur3Back
+pub mod Murmur3BackLaws
+pub mod Murmur3x128Back
+pub mod Murmur3x128Laws
+pub mod Xxh32Back
+pub mod Xxh32Words
+pub mod Xxh64Back
+pub mod Xxh64Words
+pub mod Apart
+pub mod Pieces
+pub mod Differences
+pub mod Mixing
+pub mod Stretch
+pub mod Zeros
+pub mod Bursts

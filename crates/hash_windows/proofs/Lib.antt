@@ -1,7 +1,0 @@
-pub mod Common
-pub mod ChangedByte
-pub mod FrameLemmas
-pub mod OneBlock
-pub mod OneGroup
-pub mod Windows
-pub mod WindowTest

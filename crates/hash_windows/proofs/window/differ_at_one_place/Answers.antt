@@ -1,5 +1,0 @@
-use Rattle.hash_windows.proofs.WindowTest.{DifferWithin-iff-one}
-use Rattle.hash_windows.proofs.window.differ_at_one_place.Goals as goal
-
-pub returns : goal.returns
-returns c = DifferWithin-iff-one c.args.x.now c.args.y.now c.is_window.result c.is_window.ensures

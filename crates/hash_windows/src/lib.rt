@@ -1,5 +1,0 @@
-//! Texts that differ within a few adjacent places, or within one block, only, and hashes that then differ.
-#![tactic(auto)]
-
-pub mod changed_byte;
-pub mod window;

@@ -1,0 +1,111 @@
+-- What a list that passed tells of a file is so.
+use Rattle.hashsum_core.proofs.Common.{◌≡◌, inl, inr, ℕ, suc, zero-lt-suc, ◌<◌, Bool, true, false, if◌then◌else◌, List, [], ◌∷◌, length, map, Option, Some, None, Result, Ok, Err, Contains, sym, ap, ◌∙◌, subst, arith, slice_index_or, error_kind, nat_tests, false≢true, get_or-map, length-map, LineKind, AreTags, IsTag, Tells, lines_by, Opens}
+use Rattle.std.proofs.Common.{find}
+use Rattle.hash_lines.specs.declared.parse.HashLine.{HashLine}
+use Rattle.hash_lines.proofs.OneLemmas.{line_one}
+use Rattle.hashsum_core.specs.declared.check.LineCheck.{LineCheck}
+use Rattle.hashsum_core.specs.declared.check.LineCheck.TheVariants.{Skipped, Improper, Checked}
+use Rattle.hashsum_core.specs.declared.check.Checking.{Checking}
+use Rattle.hashsum_core.specs.declared.check.Verdict.{Verdict}
+use Rattle.hashsum_core.specs.declared.sum.Unsummed.{Unsummed}
+use Rattle.hashsum_core.specs.declared.sum.Unsummed.TheVariants.{Unhashed, Unopened}
+use Rattle.hashsum_core.specs.Checking.{is_itself, is_not_found, is_skipped, takes_sfv, verdict_on, IsLineCheck}
+use Rattle.hashsum_core.specs.Files.{SumsFile}
+use Rattle.hashsum_core.specs.Lists.{bare, AreLines}
+use Rattle.hashsum_core.specs.Passed.{fails, HasHash, HasPassed, LineTells, ListTells}
+use Rattle.hashsum_core.specs.Program.{taken}
+use Rattle.hashsum_core.proofs.AskedLemmas.{only_one}
+use Rattle.hashsum_core.proofs.NameLemmas.{some_same}
+use Rattle.hashsum_core.specs.Sums.{is_named, kind_of, sum_by}
+
+module _ (kinds : List LineKind) (checking : Checking) (opens : Opens) where
+  -- a verdict that does not fail its list
+  of_came : (entry : HashLine) (kind : LineKind) (name : List ℕ) (number : ℕ) (came : Result ℕ Unsummed)
+      → fails checking.strict (Checked entry (verdict_on checking.ignore_missing number came)) ≡ false
+      → SumsFile (opens name) (sum_by kind) came → HasHash checking opens kind name number
+  of_came entry kind name number (Ok found) well (held, can, is) =
+      let same : found ≡ number = grind (arith, nat_tests, well) in
+      inl (held, can, rw same at is)
+  of_came entry kind name number (Err (Unopened error)) well cannot =
+      let gone : (checking.ignore_missing ≡ true) × (is_not_found (error_kind error) ≡ true) = grind (arith, well) in
+      inr (gone.0, error, cannot, gone.1)
+  of_came entry kind name number (Err (Unhashed why)) well cannot = absurd (false≢true (sym well))
+
+  -- a line that tells this and does not fail its list
+  module _ (are : AreTags kinds checking.kind) (list : List ℕ) (kind : LineKind) (name : List ℕ) (number : ℕ)
+      (of_another : is_itself list name ≡ false) where
+    of_checked : (line : List ℕ) (entry : HashLine) (verdict : Verdict) → Tells kinds checking.kind kind name number line
+        → IsLineCheck kinds checking opens list line (Checked entry verdict) → fails checking.strict (Checked entry verdict) ≡ false
+        → HasHash checking opens kind name number
+    of_checked line entry verdict tells (unskipped, inr (none, so), other, by) well = absurd (none kind name number tells)
+    of_checked line entry verdict tells (unskipped, inl too, other, inl (lacks, unkeyed)) well =
+        absurd (false≢true (sym well ∙ ap (λ v. fails checking.strict (Checked entry v)) unkeyed))
+    of_checked line entry verdict tells (unskipped, inl too, other, inr (has, (came, sums, is))) well =
+        let (kinds_are, names_are, numbers_are) =
+        line_one kinds checking.kind are kind entry.kind name entry.name.items number entry.number line tells too in
+        let there = of_came entry entry.kind entry.name.items entry.number came
+        (subst (λ v. fails checking.strict (Checked entry v) ≡ false) (sym is) well) sums in
+        subst (λ k. HasHash checking opens k name number) (sym kinds_are)
+        (subst (λ n. HasHash checking opens entry.kind n number) (sym names_are)
+        (subst (λ n. HasHash checking opens entry.kind entry.name.items n) (sym numbers_are) there))
+
+    of_line : (line : List ℕ) (came : LineCheck) → Tells kinds checking.kind kind name number line → is_skipped (takes_sfv checking.kind list) line ≡ false
+        → IsLineCheck kinds checking opens list line came → fails checking.strict came ≡ false → HasHash checking opens kind name number
+    of_line line Skipped tells no_comment skipped well = absurd (false≢true (sym no_comment ∙ skipped))
+    of_line line Improper tells no_comment (unskipped, inl none) well = absurd (none.0 kind name number tells)
+    of_line line Improper tells no_comment (unskipped, inr (other, more, count, inl too, itself)) well =
+        let same = line_one kinds checking.kind are kind other name more number count line tells too in
+        absurd (false≢true (sym of_another ∙ ap (is_itself list) same.1 ∙ itself))
+    of_line line Improper tells no_comment (unskipped, inr (other, more, count, inr (none, so), itself)) well =
+        absurd (none kind name number tells)
+    of_line line (Checked entry verdict) tells no_comment came well = of_checked line entry verdict tells came well
+
+  -- what a line that was read of a list tells that passed
+  pub line_is_so : AreTags kinds checking.kind → (list line : List ℕ) (kind : LineKind) (name : List ℕ) (number : ℕ)
+      → (passed : HasPassed kinds checking opens list) → Contains (map (λ line. line.0) passed.lines) line
+      → LineTells kinds checking list line kind name number → HasHash checking opens kind name number
+  line_is_so are list read kind name number passed (k, within, is) told =
+      let line : List ℕ × LineCheck = slice_index_or passed.lines k (read, Skipped) in
+      let below : k < length passed.lines = omega (arith, within, length-map passed.lines (λ (l : List ℕ × LineCheck). l.0)) in
+      let is_line : read ≡ line.0 = sym is ∙ get_or-map (λ (l : List ℕ × LineCheck). l.0) passed.lines k (read, Skipped) read below in
+      let bare_is : bare read ≡ bare line.0 = ap bare is_line in
+      of_line are list kind name number told.of_another (bare line.0) line.1
+      (subst (λ l. Tells kinds checking.kind kind name number l) bare_is told.tells)
+      (subst (λ l. is_skipped (takes_sfv checking.kind list) l ≡ false) bare_is told.no_comment) (passed.came k (read, Skipped) below)
+      (passed.none_fails k (read, Skipped) below)
+
+  -- what a list that passed tells
+  pub told_is_so : AreTags kinds checking.kind → (list : List ℕ) (kind : LineKind) (name : List ℕ) (number : ℕ)
+      → HasPassed kinds checking opens list → ListTells kinds checking opens list kind name number
+      → HasHash checking opens kind name number
+  told_is_so are list kind name number passed told =
+      let are_lines : map (λ line. line.0) passed.lines ≡ lines_by 10 told.text =
+      subst (λ held. AreLines held (map (λ line. line.0) passed.lines)) (told.holds passed.held passed.opened) passed.are_lines in
+      line_is_so are list told.line kind name number passed (subst (λ ls. Contains ls told.line) (sym are_lines) told.is_line) told.tells
+
+-- of the kinds that can be told, the one that is taken alone has a tag too
+pub taken_are_tags : (kinds : List LineKind) (checking : Checking) → AreTags kinds checking.kind → Contains kinds checking.kind
+    → AreTags (taken kinds checking) checking.kind
+taken_are_tags kinds checking are has = at checking.only
+  where
+    at : (b : Bool) → AreTags (if b then checking.kind ∷ [] else kinds) checking.kind
+    at false = are
+    at true = record {
+      each = λ other inside. subst (λ (k : LineKind). IsTag k.name.now) (sym (only_one checking.kind other inside)) (are.each checking.kind has);
+      apart = λ other more inside too same. only_one checking.kind other inside ∙ sym (only_one checking.kind more too);
+    }
+
+-- the kind of a name, or the first, is among them
+kind_found : (p : LineKind → Bool) (kinds : List LineKind) (kind : LineKind) → find p kinds ≡ Some kind → Contains kinds kind
+kind_found p [] kind none = cc
+kind_found p (first ∷ more) kind is = at (p first) is (kind_found p more kind)
+  where
+    at : (b : Bool) → (if b then Some first else find p more) ≡ Some kind → (find p more ≡ Some kind → Contains more kind)
+        → Contains (first ∷ more) kind
+    at true same later = (0, zero-lt-suc (length more), some_same same)
+    at false rest later = let (k, below, there) = later rest in (suc k, omega (arith, below), there)
+
+pub kind_is_there : (kinds : List LineKind) (name : Option (List ℕ)) (kind : LineKind) → kind_of kinds name ≡ Some kind → Contains kinds kind
+kind_is_there [] None kind none = cc
+kind_is_there (first ∷ more) None kind is = (0, zero-lt-suc (length more), some_same is)
+kind_is_there kinds (Some name) kind is = kind_found (λ k. is_named name k.name.now) kinds kind is

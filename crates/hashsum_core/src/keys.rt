@@ -1,0 +1,162 @@
+//! poly61 and SipHash of files: the two keys in a key file, and the hash of what a reader gives.
+ghost use Rattle.std.specs.Prelude.{◌<◌, ◌≤◌, IfOk, IfSome, IsSome, MatchOption};
+ghost use Rattle.std.specs.Option.{option_map};
+ghost use Rattle.hash_names.specs.Limited.{Hashes, read};
+ghost use Rattle.hashsum_core.specs.Keys.{AreKeysFor, HasKeys, IsKeyRead, IsKeyText, MayBeKeys};
+ghost use Rattle.hashsum_core.specs.Sums.{poly61_at_both, siphash24_at};
+
+use cli::folder::Folder;
+use hash_blocks::siphash::{SipHasher24, SipKey};
+use hash_keyed::pair::Poly61Pair;
+use hash_kinds::reading::Unhashed;
+use hashers::reader::hash_stream;
+use std::io;
+use std::io::{Error, ErrorKind, Read};
+
+/// The prime of poly61.
+const PRIME61: u64 = (1 << 61) - 1;
+
+/// Which two keys a file may have.
+#[derive(Clone, Copy)]
+pub enum KeyRule {
+    /// Any.
+    Any,
+    /// Those that `poly61` takes.
+    Poly61,
+}
+
+/// poly61 under two keys of what is read, the hash at the first key above that at the second.
+pub(crate) fn hash_of_poly61<R: Read, const N: usize>(
+    keys: (u64, u64),
+    limit: u64,
+    r: &mut R,
+) -> Result<u128, Unhashed>
+    requires not_empty { 0 < N }
+    requires small { N ≤ 65536 }
+    ensures { Hashes (poly61_at_both keys) (read limit R.remaining r.old r.new) result }
+{
+    let mut pair = Poly61Pair::new(keys.0, keys.1);
+    match hash_stream::<Poly61Pair, R, N>(&mut pair, r, limit) {
+        Err(fault) => Err(Unhashed::ReadFault(fault)),
+        Ok(taken) => {
+            if !taken.ended {
+                return Err(Unhashed::TooLong);
+            }
+            let (high, low) = pair.finish();
+            Ok(u128::from(high) * (1 << 64) + u128::from(low))
+        }
+    }
+}
+
+/// SipHash-2-4 of what is read, under a key of these two words.
+pub(crate) fn hash_of_siphash24<R: Read, const N: usize>(
+    keys: (u64, u64),
+    limit: u64,
+    r: &mut R,
+) -> Result<u64, Unhashed>
+    requires not_empty { 0 < N }
+    requires small { N ≤ 65536 }
+    ensures { Hashes (siphash24_at keys) (read limit R.remaining r.old r.new) result }
+{
+    let (k0, k1) = keys;
+    let mut hasher = SipHasher24::new(SipKey { k0, k1 });
+    match hash_stream::<SipHasher24, R, N>(&mut hasher, r, limit) {
+        Err(fault) => Err(Unhashed::ReadFault(fault)),
+        Ok(taken) => {
+            if taken.ended {
+                Ok(hasher.hash())
+            } else {
+                Err(Unhashed::TooLong)
+            }
+        }
+    }
+}
+
+/// Why a file has no keys that has more or fewer bytes.
+fn not_sixteen() -> Error {
+    Error::new(ErrorKind::InvalidData, "a key file must have 16 bytes")
+}
+
+/// Reads one key.
+fn read_key<R: Read>(r: &mut R) -> io::Result<u64>
+    ensures { IfOk result (IsKeyRead (R.remaining r.old) (R.remaining r.new)) }
+{
+    let mut bytes = [0; 8];
+    match r.read_exact(&mut bytes) {
+        Ok(()) => Ok(u64::from_le_bytes(bytes)),
+        Err(error) => match error.kind() {
+            ErrorKind::UnexpectedEof => Err(not_sixteen()),
+            _ => Err(error),
+        },
+    }
+}
+
+/// The keys in what a reader gives.
+fn read_keys<R: Read>(r: &mut R) -> io::Result<(u64, u64)>
+    ensures { IfOk result (IsKeyText (R.remaining r.old)) }
+{
+    let first = read_key(r)?;
+    let second = read_key(r)?;
+    match r.read(&mut [0; 1]) {
+        Ok(0) => Ok((first, second)),
+        Ok(_) => Err(not_sixteen()),
+        Err(error) => Err(error),
+    }
+}
+
+/// The keys in the file of that name: it has 16 bytes, the lowest byte of each key first. `None` if it has not, or cannot
+/// be read.
+pub fn keys_of<R: Read + Drop, F: Folder<R>>(folder: &F, name: &[u8]) -> Option<(u64, u64)>
+    ensures { IfSome result (HasKeys (F.opens folder.now name.now)) }
+{
+    let keys = match folder.open(name) {
+        Ok(mut file) => read_keys(&mut file),
+        Err(error) => Err(error),
+    };
+    match keys {
+        Ok(keys) => Some(keys),
+        Err(error) => {
+            folder.failed(name, &error);
+            None
+        }
+    }
+}
+
+/// What is wrong with two keys by a rule, if something is.
+fn fault_of(rule: KeyRule, keys: (u64, u64)) -> Option<&'static str>
+    ensures { MatchOption result (MayBeKeys rule keys) (λ words. ¬ (MayBeKeys rule keys)) }
+{
+    let (first, second) = (keys.0 % PRIME61, keys.1 % PRIME61);
+    if let KeyRule::Any = rule {
+        return None;
+    }
+    if first == 0 || second == 0 {
+        return Some("a key is 0 modulo 2^61 - 1; make others");
+    }
+    if first == second {
+        return Some("the two keys are equal modulo 2^61 - 1; make others");
+    }
+    None
+}
+
+/// The keys in a key file, if there is one, as the rule has them. `None` if it has none such.
+pub fn keys_for<R: Read + Drop, F: Folder<R>>(
+    folder: &F,
+    file: Option<&[u8]>,
+    rule: KeyRule,
+) -> Option<Option<(u64, u64)>>
+    ensures { let file = option_map (λ name. name.now) file.entry in
+        MatchOption result (IsSome file) (AreKeysFor rule (F.opens folder.now) file) }
+{
+    let Some(name) = file else {
+        return Some(None);
+    };
+    let keys = keys_of(folder, name)?;
+    match fault_of(rule, keys) {
+        None => Some(Some(keys)),
+        Some(words) => {
+            folder.failed(name, &Error::new(ErrorKind::InvalidData, words));
+            None
+        }
+    }
+}

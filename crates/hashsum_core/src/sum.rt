@@ -1,0 +1,158 @@
+//! The line of each file.
+ghost use Rattle.std.specs.Prelude.{◌≡◌, [], map, IfOk, OnOk, OnErr};
+ghost use Rattle.std.specs.Io.Buffered.{writer_buffer, writer_contents};
+ghost use Rattle.std.specs.Io.KnownBytes.{Appends};
+ghost use Rattle.streams.specs.Streams.{AppendsPart};
+ghost use Rattle.hashsum_core.specs.Files.{SumsFile};
+ghost use Rattle.hashsum_core.specs.Summing.{EndsSum, EndsSums, sum_line};
+ghost use Rattle.hashsum_core.specs.Sums.{sum_by};
+
+use crate::failure::Failure;
+use crate::sums::number_by;
+use cli::folder::Folder;
+use hash_kinds::reading::Unhashed;
+use hash_lines::line::{Form, LineKind, push_line};
+use std::alloc::{AllocError, Global};
+use std::io::{BufWriter, Error, ErrorKind, Read, Write};
+use streams::tries::write_out;
+
+/// How files are summed: by which hash, and in lines of which form.
+#[derive(Clone, Copy)]
+pub struct Summing {
+    /// By which hash.
+    pub kind: LineKind<'static>,
+    /// In lines of which form.
+    pub form: Form,
+    /// Whether lines end with a zero byte and have no escapes.
+    pub zero: bool,
+}
+
+/// Why a file has no number.
+#[derive(Drop)]
+pub enum Unsummed {
+    /// It could not be opened.
+    Unopened(Error),
+    /// It was opened, and could not be read to its end.
+    Unhashed(Unhashed),
+}
+
+/// Why a file has no number, as an error of the system.
+pub(crate) fn error_of(unsummed: Unsummed) -> Error {
+    match unsummed {
+        Unsummed::Unopened(error) => error,
+        Unsummed::Unhashed(Unhashed::ReadFault(fault)) => fault.error,
+        Unsummed::Unhashed(Unhashed::TooLong) => Error::new(
+            ErrorKind::FileTooLarge,
+            "file too large",
+        ),
+        Unsummed::Unhashed(Unhashed::UnknownName) => Error::new(
+            ErrorKind::InvalidInput,
+            "unknown hash",
+        ),
+    }
+}
+
+/// The number of the file of that name, by a hash.
+pub fn number_of<R: Read + Drop, F: Folder<R>>(
+    folder: &F,
+    kind: LineKind<'_>,
+    name: &[u8],
+) -> Result<u128, Unsummed>
+    ensures { SumsFile (F.opens folder.now name.now) (sum_by kind.entry) result }
+{
+    match folder.open(name) {
+        Ok(mut file) => match number_by(kind, u64::MAX, &mut file) {
+            Ok(number) => Ok(number),
+            Err(unhashed) => Err(Unsummed::Unhashed(unhashed)),
+        },
+        Err(error) => Err(Unsummed::Unopened(error)),
+    }
+}
+
+/// The line of a file, with its end.
+fn sum_line(
+    alloc: Global,
+    summing: Summing,
+    name: &[u8],
+    number: u128,
+) -> Result<Vec<u8>, AllocError>
+    ensures { IfOk result (λ line. line.items ≡ sum_line summing name.now number) }
+{
+    let mut line = Vec::new(alloc);
+    push_line(
+        &mut line,
+        summing.form,
+        !summing.zero,
+        summing.kind,
+        name,
+        number,
+    )?;
+    line.push(if summing.zero { 0 } else { b'\n' })?;
+    Ok(line)
+}
+
+/// Writes the line of a file, which is not held back.
+fn tell_sum<W: Write + Drop>(
+    alloc: Global,
+    summing: Summing,
+    name: &[u8],
+    number: u128,
+    w: &mut BufWriter<W>,
+) -> Result<(), Failure>
+    ensures ok { OnOk result (Appends (writer_contents W.contents w.old) (writer_contents W.contents w.new)
+        (sum_line summing name.now number)) }
+    ensures err { OnErr result (AppendsPart (writer_contents W.contents w.old) (writer_contents W.contents w.new)
+        (sum_line summing name.now number)) }
+    ensures flushed { OnOk result (writer_buffer w.new ≡ []) }
+{
+    match sum_line(alloc, summing, name, number) {
+        Ok(line) => write_out(w, &line),
+        Err(_) => Err(Failure::NoMemory),
+    }
+}
+
+/// Writes the line of a file, and tells whether it was read.
+fn sum_file<R: Read + Drop, F: Folder<R>, W: Write + Drop>(
+    alloc: Global,
+    folder: &F,
+    summing: Summing,
+    name: &[u8],
+    w: &mut BufWriter<W>,
+) -> Result<bool, Failure>
+    ensures told { EndsSum summing (F.opens folder.now) name.now
+        (writer_contents W.contents w.old) (writer_contents W.contents w.new) result }
+    ensures flushed { OnOk result (writer_buffer w.old ≡ [] → writer_buffer w.new ≡ []) }
+{
+    match number_of(folder, summing.kind, name) {
+        Ok(number) => match tell_sum(alloc, summing, name, number, w) {
+            Ok(()) => Ok(true),
+            Err(fault) => Err(fault),
+        },
+        Err(unsummed) => {
+            folder.failed(name, &error_of(unsummed));
+            Ok(false)
+        }
+    }
+}
+
+/// Writes the line of each file, in their order, and tells whether each was read. A file that fails has no line. None is held back.
+pub fn sum_files<R: Read + Drop, F: Folder<R>, W: Write + Drop>(
+    alloc: Global,
+    folder: &F,
+    summing: Summing,
+    names: &[&[u8]],
+    w: &mut BufWriter<W>,
+) -> Result<bool, Failure>
+    ensures told { EndsSums summing (F.opens folder.now) (map (λ name. name.now) names.now)
+        (writer_contents W.contents w.old) (writer_contents W.contents w.new) result }
+    ensures flushed { OnOk result (writer_buffer w.old ≡ [] → writer_buffer w.new ≡ []) }
+{
+    let mut whole = true;
+    for name in names {
+        match sum_file(alloc, folder, summing, name, w) {
+            Ok(read) => whole = whole & read,
+            Err(fault) => return Err(fault),
+        }
+    }
+    Ok(whole)
+}

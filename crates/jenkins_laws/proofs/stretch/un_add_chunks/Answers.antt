@@ -1,8 +1,0 @@
-use Rattle.jenkins_laws.proofs.Common.{fold-append}
-use Rattle.jenkins_laws.proofs.ShortStretches.{f}
-use Rattle.jenkins_laws.proofs.stretch.un_add_chunks.Goals as goal
-
--- the last of the chunks that are left is taken out
-pub loop-chunk-preserved : goal.loop-chunk-preserved
-loop-chunk-preserved c x led =
-    c.loop-chunk.invariant x (rw (c.in-Some.ensures.steps, fold-append f x _ _, led) (rw c.le_words.ensures at c.un_add_chunk.ensures))

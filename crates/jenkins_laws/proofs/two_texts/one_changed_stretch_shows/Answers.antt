@@ -1,5 +1,0 @@
-use Rattle.jenkins_laws.proofs.ShortStretches.{short_words-differ, short_words_v1-differ}
-use Rattle.jenkins_laws.proofs.two_texts.one_changed_stretch_shows.Goals as goal
-
-pub returns : goal.returns
-returns c = record { words = short_words-differ; words_v1 = short_words_v1-differ }

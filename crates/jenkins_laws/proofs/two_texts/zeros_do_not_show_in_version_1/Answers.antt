@@ -1,5 +1,0 @@
-use Rattle.jenkins_laws.proofs.Zeros.{same_by_version_1}
-use Rattle.jenkins_laws.proofs.two_texts.zeros_do_not_show_in_version_1.Goals as goal
-
-pub returns : goal.returns
-returns c = same_by_version_1

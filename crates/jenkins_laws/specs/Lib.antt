@@ -1,3 +1,0 @@
-pub mod Mixing
-pub mod Stretch
-pub mod Zeros

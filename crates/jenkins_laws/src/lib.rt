@@ -1,6 +1,0 @@
-//! Laws of lookup3 and SpookyHash alone: tests of two texts, and preimages.
-#![tactic(auto)]
-
-pub mod block;
-pub mod stretch;
-pub mod two_texts;

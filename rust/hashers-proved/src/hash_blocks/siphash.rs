@@ -1,0 +1,12 @@
+//! SipHash-c-d, by Jean-Philippe Aumasson and Daniel J. Bernstein: a hash by the block under a key of 128 bits.
+
+// What follows is the proved text of crates/hash_blocks/src/siphash.rt without its contracts.
+
+mod hasher;
+mod rounds;
+
+pub use hasher::{
+    SipHasher13, SipHasher24, SipKey, SipRule, siphash13, siphash13_of_pieces, siphash24,
+    siphash24_of_pieces,
+};
+pub use rounds::{sip_round, sip_unround, sip_word_out};

@@ -1,0 +1,109 @@
+//! Whole texts by a rule's steps.
+
+// What follows is the proved text of crates/hash_laws/src/rules/texts.rt without its contracts.
+
+use crate::hash_laws::rules::byte_rule::{ByteRule, StepRule};
+use crate::hash_laws::rules::plain_rule::{Plain, PlainRule};
+use crate::hash_laws::traits::bytes_are_a_text;
+
+/// The bytes in, one step for each.
+///
+/// Proved:
+///
+/// ```text
+/// R.number state.new ≡ recurrence R.step (R.number state.old) bytes.now
+/// ```
+#[inline(always)]
+fn in_turn<R: StepRule>(state: &mut R::State, bytes: &[u8]) {
+    for byte in bytes {
+        R::step(state, *byte);
+    }
+}
+
+/// The bytes in, one step for each: the few first ones, up to seven, and then eight a turn.
+///
+/// Proved:
+///
+/// ```text
+/// R.number state.new ≡ recurrence R.step (R.number state.old) bytes.now
+/// ```
+#[inline(always)]
+pub fn in_eights<R: StepRule>(state: &mut R::State, bytes: &[u8])
+where
+    R::State: Copy,
+{
+    let (few, eights) = bytes.as_rchunks::<8>();
+    let mut word = *state;
+    in_turn::<R>(&mut word, few);
+    for eight in eights {
+        in_turn::<R>(&mut word, eight);
+    }
+    *state = word;
+}
+
+/// The same, where a single byte is one step with no loop round it.
+///
+/// Proved:
+///
+/// ```text
+/// R.number state.new ≡ recurrence R.step (R.number state.old) bytes.now
+/// ```
+#[inline(always)]
+pub fn alone_or_in_eights<R: StepRule>(state: &mut R::State, bytes: &[u8])
+where
+    R::State: Copy,
+{
+    match bytes {
+        [byte] => R::step(state, *byte),
+        _ => in_eights::<R>(state, bytes),
+    }
+}
+
+/// The hash of a whole text by a plain rule. The first eight bytes have no loop round them, so a call with a short key waits for
+/// none.
+///
+/// Proved:
+///
+/// ```text
+/// result ≡ R.answer (recurrence R.step R.start text.now)
+/// ```
+#[inline(always)]
+pub fn whole_text<R: PlainRule>(text: &[u8]) -> u64 {
+    let mut word = R::start();
+    match text.split_first_chunk::<8>() {
+        None => in_turn::<Plain<R>>(&mut word, text),
+        Some((first, rest)) => {
+            in_turn::<Plain<R>>(&mut word, first);
+            in_eights::<Plain<R>>(&mut word, rest);
+        }
+    }
+    R::answer(word)
+}
+
+/// The hash of a text by a plain rule: what `hash_of` of its hasher gives, from the rule alone.
+///
+/// Proved:
+///
+/// ```text
+/// value: result ≡ R.answer (recurrence R.step R.start text.now)
+/// text: IsText text.now
+/// ```
+#[inline(always)]
+pub fn hash_by_plain<R: PlainRule>(text: &[u8]) -> u64 {
+    bytes_are_a_text(text);
+    whole_text::<R>(text)
+}
+
+/// The hash of a text by a rule, likewise.
+///
+/// Proved:
+///
+/// ```text
+/// value: result ≡ R.answer (R.after (R.number R.start) text.now)
+/// text: IsText text.now
+/// ```
+#[inline(always)]
+pub fn hash_by_rule<R: ByteRule>(text: &[u8]) -> u64 {
+    bytes_are_a_text(text);
+    R::whole(text)
+}

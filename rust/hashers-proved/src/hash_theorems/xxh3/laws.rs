@@ -1,0 +1,42 @@
+//! What XXH3 loses of short texts, and what it keeps: laws with no code, and whether the hashes of two texts differ.
+
+// What follows is the proved text of crates/hash_theorems/src/xxh3/laws.rt without its contracts.
+use crate::hash_laws;
+
+use hash_laws::traits::bytes_are_a_text;
+
+/// Whether two texts differ, and both have one to three bytes, or one length of four to eight. If so, their hashes of 64 bits differ
+/// under every seed. Computes no hash.
+///
+/// Proved:
+///
+/// ```text
+/// exactly: IsTrue result ↔ DifferAndAreFew x.now y.now
+/// differ: OnTrue result ((seed : ℕ) → xxh3_64_of seed x.now ≢ xxh3_64_of seed y.now)
+/// ```
+#[inline]
+pub fn apart_xxh3(x: &[u8], y: &[u8]) -> bool {
+    bytes_are_a_text(x);
+    bytes_are_a_text(y);
+    match (x.len(), y.len()) {
+        (1..=3, 1..=3) => x != y,
+        (4..=8, len) => len == x.len() && x != y,
+        _ => false,
+    }
+}
+
+/// Whether two texts differ, and have one length of at most sixteen bytes. If so, their hashes of 128 bits differ under every seed.
+/// Computes no hash.
+///
+/// Proved:
+///
+/// ```text
+/// exactly: IsTrue result ↔ DifferWithinSixteen x.now y.now
+/// differ: OnTrue result ((seed : ℕ) → xxh3_128_of seed x.now ≢ xxh3_128_of seed y.now)
+/// ```
+#[inline]
+pub fn apart_xxh128(x: &[u8], y: &[u8]) -> bool {
+    bytes_are_a_text(x);
+    bytes_are_a_text(y);
+    x.len() < 17 && x.len() == y.len() && x != y
+}

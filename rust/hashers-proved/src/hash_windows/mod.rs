@@ -1,6 +1,0 @@
-//! Texts that differ within a few adjacent places, or within one block, only, and hashes that then differ.
-
-// What follows is the proved text of crates/hash_windows/src/lib.rt without its contracts.
-
-pub mod changed_byte;
-pub mod window;

@@ -1,7 +1,0 @@
-//! Laws of lookup3 and SpookyHash alone: tests of two texts, and preimages.
-
-// What follows is the proved text of crates/jenkins_laws/src/lib.rt without its contracts.
-
-pub mod block;
-pub mod stretch;
-pub mod two_texts;

@@ -1,0 +1,17 @@
+//! Each line of some inputs once, where it came first, or after how often it came: what the program `dedup` writes.
+
+// What follows is the proved text of crates/dedup_core/src/lib.rt without its contracts.
+
+mod ahead;
+mod failure;
+pub mod laws;
+mod lines;
+pub mod once;
+pub mod outcome;
+mod run;
+pub mod tally;
+mod task;
+mod unread;
+
+pub use failure::{Failure, TooMany};
+pub use run::Ended;

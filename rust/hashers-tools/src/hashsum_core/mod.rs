@@ -1,0 +1,16 @@
+//! The hashes of files: the line of each, and whether files have the hashes that lines tell. The program `hashsum` is a `main` over it.
+
+// What follows is the proved text of crates/hashsum_core/src/lib.rt without its contracts.
+
+pub mod check;
+pub mod disk;
+mod failure;
+pub mod hints;
+pub mod keys;
+pub mod laws;
+pub mod outcome;
+pub mod reports;
+pub mod sum;
+pub mod sums;
+
+pub use failure::Failure;

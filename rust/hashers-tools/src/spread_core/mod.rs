@@ -1,0 +1,13 @@
+//! How evenly hashes spread keys over buckets, and what chance would give: the numbers of the program `spread`.
+
+// What follows is the proved text of crates/spread_core/src/lib.rt without its contracts.
+
+pub mod advice;
+pub mod call;
+pub mod chance;
+pub mod counts;
+pub mod failure;
+pub mod keys;
+pub mod named;
+pub mod rows;
+pub mod sizes;

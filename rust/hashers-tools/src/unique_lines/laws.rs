@@ -1,3 +1,0 @@
-//! The law of what is read, with no code. What is written of the lines then is in the laws of `text_set`.
-
-// What follows is the proved text of crates/unique_lines/src/laws.rt without its contracts.
