@@ -2,3 +2,9 @@ pub mod Common
 pub mod FixedWidths
 pub mod WholeWords
 pub mod WordParts
+pub mod WholePieces
+pub mod CutsLemmas
+pub mod OneApart
+pub mod TestLemmas
+pub mod WordsApart
+pub mod PiecesLemmas

@@ -1,3 +1,4 @@
 pub mod Fx
 pub mod FxLaws
 pub mod FxStepLaws
+pub mod Pieces

@@ -2,3 +2,5 @@ pub mod Common
 pub mod Lookup3Lemmas
 pub mod MixLemmas
 pub mod WriteLemmas
+pub mod FilledLemmas
+pub mod ZeroLemmas

@@ -11,3 +11,4 @@ pub mod SpookyLaws
 pub mod SpookyParts
 pub mod SpookyStanding
 pub mod SpookyV1Hasher
+pub mod Zeros

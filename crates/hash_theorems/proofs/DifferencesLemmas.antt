@@ -1,6 +1,6 @@
 -- Differences add up, and one of them is one place.
 use Rattle.hash_theorems.proofs.FxCommon.{◌≡◌, ◌≢◌, ℕ, ◌+◌, ◌<◌, ◌==◌, if◌then◌else◌, List, [], ◌∷◌, ◌++◌, length, map, take, get_or, zero-add, add-zero, arith, refl, sym, ap, ◌∙◌, inl, inr, ap₂, cases_eq, eq-eqb, ne_eqb, length-map, length-take-le, map_more, differences}
-use Rattle.hash_theorems.proofs.OneApart.{OneApart}
+use Rattle.hash_fx.proofs.OneApart.{OneApart}
 
 -- one place
 abbrev place : ℕ → ℕ → ℕ

@@ -16,7 +16,7 @@ pub use Rattle.hash_laws.specs.StepFacts.{StepFacts}
 pub use Rattle.hash_laws.specs.Text.{IsText, texts, joined}
 pub use Rattle.hash_words.proofs.PieceLemmas.{le-lt, le-same}
 pub use Rattle.hash_theorems.specs.Differences.{differences}
-pub use Rattle.hash_theorems.specs.Pieces.{AreWhole, DifferByOneByte, DifferByOneWord, fx32_pieces, fx64_pieces}
+pub use Rattle.hash_fx.specs.Pieces.{AreWhole, DifferByOneByte, DifferByOneWord, fx32_pieces, fx64_pieces}
 unfoldable pub use Rattle.hash_laws.specs.Recurrence.{recurrence}
 unfoldable pub use Rattle.hash_words.specs.Pieces.{pieces}
 unfoldable pub use Rattle.hash_words.specs.Words.{le, rotl}

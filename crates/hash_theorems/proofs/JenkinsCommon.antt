@@ -29,4 +29,4 @@ pub use Rattle.hash_words.specs.Words.{add_at, sub, add}
 unfoldable pub use Rattle.hash_words.specs.Words.{le, rotl}
 unfoldable pub use Rattle.hash_words.specs.Pieces.{le_words, pieces}
 pub use Rattle.hash_theorems.specs.Stretch.{differences, missing, stretch_of}
-pub use Rattle.hash_theorems.specs.Zeros.{AddsZeros, HaveOtherWords}
+pub use Rattle.hash_jenkins.specs.Zeros.{AddsZeros, HaveOtherWords}

@@ -3,7 +3,7 @@
 use Rattle.hash_theorems.proofs.JenkinsCommon.{◌≡◌, ◌≢◌, ◌%◌, ◌*◌, ◌+◌, ◌/◌, ◌<◌, ◌^◌, ◌∙◌, ◌∷◌, List, [], ap, arith, drop, fold, length, map, refl, slice_index, sym, take, w32, ℕ, ap₂, flat_map, first_chunks, to_le_bytes, drop_all, take_all, mod_below, pow_pos, IsPiece, all_words-same, part-same, rest-same, texts-same, le-to_le_bytes-32, AreSteps, Step, no_data, stepped-back, stepped-same, words-listed, IsText, ExactlyTexts, DifferInOne, zero_filled, add_block, lookup3_answer, lookup3_from, lookup3_piece, lookup3_words, mix_block, start, third_word, drop_eight, le, pieces, apply, undo, last_block, differences}
 use Rattle.hash_rounds.specs.Rounds as rounds
 use Rattle.hash_jenkins.specs.Lookup3Laws.{AreThreeWords, add_block-AreThreeWords, apply-AreThreeWords, lookup3_final-steps, lookup3_mix-steps, lookup3_words-AreThreeWords, start-AreThreeWords}
-use Rattle.hash_theorems.proofs.FilledLemmas.{filled-piece, filled-same}
+use Rattle.hash_jenkins.proofs.FilledLemmas.{filled-piece, filled-same}
 use Rattle.hash_theorems.proofs.Sums.{bytes_of-text, add-nothing, difference-added, exchanged_3, differences_3-are, sum-same, sums_3, words-in}
 
 -- ---- the words of a block

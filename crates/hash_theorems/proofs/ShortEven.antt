@@ -2,10 +2,10 @@
 use Rattle.hash_theorems.proofs.JenkinsCommon.{◌≡◌, ◌+◌, ◌-◌, ◌*◌, ◌/◌, ◌%◌, ◌^◌, ◌<◌, ◌∷◌, ◌++◌, ◌∙◌, ℕ, nat_lt, true, List, [], length, slice_index, take, replicate, refl, sym, ap, arith, w64, length-append, ap₂, nat_tests, append_assoc, drop-replicate, mod_below, pow_pos, IsPiece, le-to_le_bytes-64, short_mix, AreFourWords, words-listed, short_end-steps, stepped, ExactlyTexts, IsText, zero_filled, first_two, short_words, spooky, apply, chunks_from, missing, stretch_of}
 use Rattle.hash_words.specs.Put.{put_at}
 use Rattle.hash_rounds.specs.Rounds as rounds
-use Rattle.hash_theorems.proofs.FilledLemmas.{filled-piece, take-zero_filled}
+use Rattle.hash_jenkins.proofs.FilledLemmas.{filled-piece, take-zero_filled}
 use Rattle.hash_theorems.proofs.ShortStretches.{ended, ended-same, ended-led, add_stretch, add_stretch-in, add_stretch-piece, chunks-are, mixed-in, none, none-added, pieces-append, pieces-one, pieces-then, seeded, seeded-in, four, short_start-is, stretches, stretches-in, stretches-led, stretches-same, unmix, unmixed}
 use Rattle.hash_theorems.proofs.Sums.{bytes_of-text, sums_4, exchanged_4, difference-added, missing-is}
-use Rattle.hash_theorems.proofs.Zeros.{add_at-AreFourWords, short_start-AreFourWords, start_of, start-AreFourWords}
+use Rattle.hash_jenkins.proofs.ZeroLemmas.{add_at-AreFourWords, short_start-AreFourWords, start_of, start-AreFourWords}
 
 -- ---- four words as a stretch
 

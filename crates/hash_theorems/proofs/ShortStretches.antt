@@ -3,9 +3,9 @@
 use Rattle.hash_theorems.proofs.JenkinsCommon.{◌≡◌, ◌≢◌, ◌%◌, ◌*◌, ◌++◌, ◌+◌, ◌-◌, ◌/◌, ◌<◌, ◌^◌, ◌∙◌, ◌∷◌, ◌≤◌, All, List, [], ap, arith, drop, fold, length, length-append, lit<, map, refl, replicate, slice_index, slice_set, suc, sym, take, zero, ℕ, ap₂, fold-append, append_assoc, append_cancel_left, drop_all, length-drop, length-take-le, nil_from_length, take-append-drop, take_all, All-append, All-head, All-replicate, All-tail, first_chunks, add_at, sub, IsPiece, all_words-same, first_chunks-pieces, fold-same, part-same, texts-same, short_end, short_mix, AddData, AreFourWords, AreNWords, no_data, short_end-steps, short_mix-steps, stepped, stepped-back, stepped-same, words-listed, IsText, IsByte, DifferInOne, zero_filled, add_chunk, short_start, short_words, short_words_v1, le, le_words, pieces, apply, undo, chunks_from}
 use Rattle.hash_words.proofs.Chunks.{first_chunks-append}
 use Rattle.hash_rounds.specs.Rounds as rounds
-use Rattle.hash_theorems.proofs.FilledLemmas.{agree_between, filled-piece, filled-same, length-zero_filled, zero_filled-longer}
+use Rattle.hash_jenkins.proofs.FilledLemmas.{agree_between, filled-piece, filled-same, length-zero_filled, zero_filled-longer}
 use Rattle.hash_theorems.proofs.Sums.{add-nothing, exchanged_4, sum-same, sums_4, words-in}
-use Rattle.hash_theorems.proofs.Zeros.{add_at-AreFourWords, fold-AreFourWords, short_start-AreFourWords, start-AreFourWords, start_of}
+use Rattle.hash_jenkins.proofs.ZeroLemmas.{add_at-AreFourWords, fold-AreFourWords, short_start-AreFourWords, start-AreFourWords, start_of}
 
 -- ---- a stretch behind a mix
 

@@ -1,9 +1,9 @@
 -- Whether two lists of pieces differ at exactly one word, by counting.
 use Rattle.hash_theorems.proofs.FxCommon.{◌≡◌, ◌↔◌, ℕ, zero, suc, ◌+◌, ◌<◌, ◌≤◌, Bor, List, [], ◌∷◌, length, take, drop, get_or, flat_map, arith, refl, sym, ap, ◌∙◌, ap₂, texts, differences, DifferByOneWord}
 use Rattle.std.proofs.Common.{length-append, take_all}
-use Rattle.hash_theorems.proofs.CutsLemmas.{Pieces, SameCuts, SameCuts-length}
+use Rattle.hash_fx.proofs.CutsLemmas.{Pieces, SameCuts, SameCuts-length}
 use Rattle.hash_theorems.proofs.DifferencesLemmas.{differences-append, one-OneApart, OneApart-one}
-use Rattle.hash_theorems.proofs.OneApart.{one_from_DifferAtOnePlace, DifferAtOnePlace-from_one}
+use Rattle.hash_fx.proofs.OneApart.{one_from_DifferAtOnePlace, DifferAtOnePlace-from_one}
 
 -- the words of all pieces
 abbrev pub words_of : (List ℕ → List ℕ) → Pieces → List ℕ

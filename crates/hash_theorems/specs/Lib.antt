@@ -9,9 +9,7 @@ pub mod Xxh32Words
 pub mod Xxh64Back
 pub mod Xxh64Words
 pub mod Apart
-pub mod Pieces
 pub mod Differences
 pub mod Mixing
 pub mod Stretch
-pub mod Zeros
 pub mod Bursts

@@ -18,7 +18,7 @@ pub use Rattle.hash_laws.specs.Standing
 pub use Rattle.hash_laws.specs.DifferWithin
 pub use Rattle.hash_writes.specs.Writes
 pub use Rattle.hash_fx.specs.Fx
-pub use Rattle.hash_theorems.specs.Pieces
+pub use Rattle.hash_fx.specs.Pieces
 pub use Rattle.hash_jenkins.specs.Lookup3
 pub use Rattle.hash_theorems.specs.Mixing
 pub use Rattle.hash_jenkins.specs.Oaat
@@ -30,7 +30,7 @@ pub use Rattle.hash_words.specs.Undoes
 pub use Rattle.hash_words.specs.Words
 pub use Rattle.hash_rounds.specs.Shuffle
 pub use Rattle.hash_jenkins.specs.Counted
-pub use Rattle.hash_theorems.specs.Zeros
+pub use Rattle.hash_jenkins.specs.Zeros
 pub use Rattle.hash_rounds.specs.Steps
 pub use Rattle.hash_rounds.specs.Rounds
 pub use Rattle.hash_rounds.specs.Blocks

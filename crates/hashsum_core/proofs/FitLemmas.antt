@@ -20,7 +20,7 @@ use Rattle.hash_rounds.proofs.RoundLemmas.{AreFourWords, short_end-steps, steppe
 use Rattle.hash_rounds.proofs.StepLemmas.{apply-words}
 use Rattle.hash_jenkins.specs.Spooky as of
 use Rattle.hash_jenkins.specs.SpookyLaws.{long_start-words}
-use Rattle.hash_theorems.proofs.Zeros.{add_at-AreFourWords, short_start-AreFourWords}
+use Rattle.hash_jenkins.proofs.ZeroLemmas.{add_at-AreFourWords, short_start-AreFourWords}
 use Rattle.hash_blocks.specs.Murmur3 as murmur3
 use Rattle.hash_blocks.specs.Murmur3x128 as murmur3_wide
 use Rattle.hash_blocks.specs.SipHash as sip

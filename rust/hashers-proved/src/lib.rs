@@ -76,7 +76,9 @@ pub mod hash_rounds;
 pub mod hash_laws;
 #[doc(hidden)]
 pub mod hash_writes;
+// It imports the trait for `write`, which extras.rs makes a method.
 #[doc(hidden)]
+#[allow(unused_imports)]
 pub mod hash_fx;
 #[doc(hidden)]
 pub mod hash_jenkins;
@@ -88,9 +90,7 @@ pub mod hash_xxh3;
 pub mod hash_bytes;
 #[doc(hidden)]
 pub mod hash_more;
-// It imports the trait for `write`, which extras.rs makes a method.
 #[doc(hidden)]
-#[allow(unused_imports)]
 pub mod hash_theorems;
 #[doc(hidden)]
 pub mod hashers;

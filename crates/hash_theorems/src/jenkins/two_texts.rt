@@ -3,40 +3,18 @@ ghost use Rattle.std.specs.Prelude.{◌≡◌, ◌≢◌, ◌↔◌, ◌<◌, �
 ghost use Rattle.std.specs.Bool.{OnTrue};
 ghost use Rattle.hash_laws.specs.Exactly.{ExactlyTexts};
 ghost use Rattle.hash_laws.specs.Text.{IsText, texts};
-ghost use Rattle.hash_jenkins.specs.Filled.{zero_filled};
 ghost use Rattle.hash_jenkins.specs.Lookup3.{lookup3_from, lookup3_answer, lookup3_of};
 ghost use Rattle.hash_laws.specs.DifferWithin.{DifferInOneBlock};
 ghost use Rattle.hash_theorems.specs.Mixing.{DifferInOneStretch, HaveOtherThree};
 ghost use Rattle.hash_jenkins.specs.Spooky.{after, position, short_words, short_words_v1, spooky_v1};
-ghost use Rattle.hash_theorems.specs.Zeros.{AddsZeros, HaveOtherWords};
+ghost use Rattle.hash_jenkins.specs.Zeros.{AddsZeros, HaveOtherWords};
 
 use hash_jenkins::Lookup3Hasher;
-use hash_jenkins::spooky_short::{LONG, zero_filled};
+pub use hash_jenkins::apart_by_zeros;
+use hash_jenkins::spooky_short::LONG;
 use hash_laws::traits::Piecewise;
 use hash_laws::windows::window;
 use hash_laws::windows::window::{agree_from, first_difference};
-
-// Whether `y` is `x` and zeros behind it.
-fn is_filled(x: &[u8], y: &[u8]) -> bool
-    requires longer { length x.now ≤ length y.now }
-    requires within { length y.now ≤ 192 }
-    ensures { IsTrue result ↔ (y.now ≡ zero_filled (length y.now) x.now) }
-{
-    let filled: [u8; LONG] = zero_filled(x);
-    y == &filled[..y.len()]
-}
-
-/// Whether `y` is `x` followed by at least one zero byte, and has fewer than 192 bytes. If so, the four `short_words`
-/// of the two texts differ under all seeds; of the two words of the hash alone nothing is said. Computes no hash.
-pub fn apart_by_zeros(x: &[u8], y: &[u8]) -> bool
-    ensures exactly { IsTrue result ↔ AddsZeros x.now y.now }
-    ensures differ { OnTrue result (HaveOtherWords x.now y.now) }
-{
-    if y.len() <= x.len() || y.len() >= LONG {
-        return false;
-    }
-    is_filled(x, y)
-}
 
 /// A law with no code: by version 1 zeros at the end of a text below 192 bytes don't show.
 pub fn zeros_do_not_show_in_version_1()

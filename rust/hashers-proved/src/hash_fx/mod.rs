@@ -5,9 +5,11 @@
 
 mod fx;
 mod hasher;
+pub mod pieces;
 mod word;
 mod words;
 
 pub use fx::{FxHasher, FxHasher32, FxHasher64, MachineWord, fxhash, fxhash32, fxhash64};
 pub use hasher::WordHasher;
+pub use pieces::{apart_by_one_fx, run_words, run_words32, run_words64};
 pub use word::{FxSplit, FxWord};

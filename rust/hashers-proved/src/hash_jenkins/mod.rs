@@ -9,6 +9,8 @@ mod spooky_long;
 pub mod spooky_parts;
 pub mod spooky_short;
 mod spooky_v1;
+mod zeros;
 
 pub use lookup::{Lookup3Hasher, lookup3};
 pub use one_at_a_time::{OAATHasher, OaatRule, oaat};
+pub use zeros::apart_by_zeros;

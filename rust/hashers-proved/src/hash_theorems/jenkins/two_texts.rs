@@ -4,46 +4,11 @@
 use crate::{hash_jenkins, hash_laws};
 
 use hash_jenkins::Lookup3Hasher;
-use hash_jenkins::spooky_short::{LONG, zero_filled};
+pub use hash_jenkins::apart_by_zeros;
+use hash_jenkins::spooky_short::LONG;
 use hash_laws::traits::Piecewise;
 use hash_laws::windows::window;
 use hash_laws::windows::window::{agree_from, first_difference};
-
-// Whether `y` is `x` and zeros behind it.
-/// The caller has to see to it that:
-///
-/// ```text
-/// longer: length x.now ≤ length y.now
-/// within: length y.now ≤ 192
-/// ```
-///
-/// Proved:
-///
-/// ```text
-/// IsTrue result ↔ (y.now ≡ zero_filled (length y.now) x.now)
-/// ```
-#[inline]
-fn is_filled(x: &[u8], y: &[u8]) -> bool {
-    let filled: [u8; LONG] = zero_filled(x);
-    y == &filled[..y.len()]
-}
-
-/// Whether `y` is `x` followed by at least one zero byte, and has fewer than 192 bytes. If so, the four `short_words`
-/// of the two texts differ under all seeds; of the two words of the hash alone nothing is said. Computes no hash.
-///
-/// Proved:
-///
-/// ```text
-/// exactly: IsTrue result ↔ AddsZeros x.now y.now
-/// differ: OnTrue result (HaveOtherWords x.now y.now)
-/// ```
-#[inline]
-pub fn apart_by_zeros(x: &[u8], y: &[u8]) -> bool {
-    if y.len() <= x.len() || y.len() >= LONG {
-        return false;
-    }
-    is_filled(x, y)
-}
 
 /// Feeds the pieces to both hashers, in order. Where their answers were equal before, they are equal afterwards: what
 /// `finish` returns is the whole state.

@@ -1,5 +1,5 @@
 use Rattle.hash_theorems.proofs.FxCommon.{◌≡◌, ◌+◌, false, true, arith, sym, ◌∙◌, both_ways, eq-eqb, eqb-true}
-use Rattle.hash_theorems.proofs.CutsLemmas.{SameCuts, SameCuts-at, no_piece}
+use Rattle.hash_fx.proofs.CutsLemmas.{SameCuts, SameCuts-at, no_piece}
 use Rattle.hash_theorems.proofs.WordTests.{DifferByOneWord-iff, at-the-end, more-words, too-many}
 use Rattle.hash_theorems.proofs.fx.pieces.apart_by_one_word.Goals as goal
 

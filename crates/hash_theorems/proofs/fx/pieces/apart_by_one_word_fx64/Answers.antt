@@ -1,5 +1,5 @@
 use Rattle.hash_theorems.proofs.FxCommon.{OnTrue_at, OnTrue_from}
-use Rattle.hash_theorems.proofs.PiecesLemmas.{fx64_words-differ}
+use Rattle.hash_fx.proofs.PiecesLemmas.{fx64_words-differ}
 use Rattle.hash_theorems.proofs.fx.pieces.apart_by_one_word_fx64.Goals as goal
 
 pub returns-clause-differ : goal.returns-clause-differ

@@ -1,4 +1,4 @@
-use Rattle.hash_theorems.proofs.PiecesLemmas.{fx32_words-differ, fx64_words-differ}
+use Rattle.hash_fx.proofs.PiecesLemmas.{fx32_words-differ, fx64_words-differ}
 use Rattle.hash_theorems.proofs.fx.pieces.one_changed_word_shows_fx.Goals as goal
 
 pub returns : goal.returns

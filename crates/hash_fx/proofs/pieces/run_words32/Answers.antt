@@ -1,6 +1,7 @@
-use Rattle.hash_theorems.proofs.FxCommon.{refl, sym, fx32_nothing}
-use Rattle.hash_theorems.proofs.WholePieces.{at_more32}
-use Rattle.hash_theorems.proofs.fx.pieces.run_words32.Goals as goal
+use Rattle.hash_fx.proofs.Common.{refl, sym}
+use Rattle.hash_fx.specs.FxLaws.{fx32_nothing}
+use Rattle.hash_fx.proofs.WholePieces.{at_more32}
+use Rattle.hash_fx.proofs.pieces.run_words32.Goals as goal
 
 pub loop-part-init : goal.loop-part-init
 loop-part-init c = record { there = sym (fx32_nothing c.args.h.now); whole = λ _. refl }

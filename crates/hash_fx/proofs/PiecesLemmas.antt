@@ -1,10 +1,17 @@
 -- Lists of pieces that differ at one byte.
-use Rattle.hash_theorems.proofs.FxCommon.{◌≡◌, ◌≢◌, ℕ, ◌<◌, ◌^◌, List, [], ◌∷◌, ◌++◌, length, fold, refl, sym, ap, ◌∙◌, inl, inr, subst, lit<, All, flat_map, ap₂, All-nil, All-head, All-tail, All-append, fx32_step, fx64_step, StepFacts, fx32_facts, fx64_facts, IsText, joined, texts, recurrence-fold, words32, words64, IsWord, words32-fit, words64-fit, recurrence, DifferByOneWord, DifferByOneByte, fx32_pieces, fx64_pieces}
+use Rattle.hash_fx.proofs.Common.{◌≡◌, ℕ, ◌<◌, ◌^◌, List, [], ◌∷◌, ◌++◌, length, fold, refl, sym, ap, ◌∙◌, subst, lit<, ap₂, fx32_step, fx64_step, recurrence-fold, words32, words64, recurrence}
+use Rattle.std.proofs.Common.{◌≢◌, inl, inr, All, flat_map}
+use Rattle.std.proofs.lemmas.List.Elements.{All-nil, All-head, All-tail, All-append}
+use Rattle.hash_laws.specs.StepFacts.{StepFacts}
+use Rattle.hash_fx.specs.FxStepLaws.{fx32_facts, fx64_facts}
+use Rattle.hash_laws.specs.Text.{IsText, joined, texts}
+use Rattle.hash_fx.specs.FxLaws.{IsWord, words32-fit, words64-fit}
+use Rattle.hash_fx.specs.Pieces.{DifferByOneWord, DifferByOneByte, fx32_pieces, fx64_pieces}
 use Rattle.std.proofs.lemmas.List.Sums.{fold-append}
 use Rattle.hash_laws.specs.FoldLaws.{fold_cancels}
-use Rattle.hash_theorems.proofs.CutsLemmas.{Pieces, SameCuts}
-use Rattle.hash_theorems.proofs.OneApart.{OneApart, OneApart-split, OneApart-append_left, OneApart-append_right, append_same, one_from_DifferAtOnePlace}
-use Rattle.hash_theorems.proofs.WordsApart.{TellApart, words32-apart, words64-apart}
+use Rattle.hash_fx.proofs.CutsLemmas.{Pieces, SameCuts}
+use Rattle.hash_fx.proofs.OneApart.{OneApart, OneApart-split, OneApart-append_left, OneApart-append_right, append_same, one_from_DifferAtOnePlace}
+use Rattle.hash_fx.proofs.WordsApart.{TellApart, words32-apart, words64-apart}
 
 -- pieces of the same lengths are known by their joined text
 texts-same : (x y : Pieces) → SameCuts x y → joined x ≡ joined y → texts x ≡ texts y

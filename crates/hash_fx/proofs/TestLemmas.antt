@@ -1,10 +1,15 @@
 -- Whether two lists of pieces differ at exactly one byte, from the pieces that are left.
-use Rattle.hash_theorems.proofs.FxCommon.{◌≡◌, ◌≢◌, ◌↔◌, ℕ, ◌+◌, ◌<◌, ◌≤◌, Bool, true, false, not, nat_eq, IsTrue, Bor, List, [], ◌∷◌, ◌++◌, length, drop, get_or, arith, refl, sym, ◌∙◌, inl, inr, subst, MatchBool, ap₂, not-false, drop_more, drop_all, joined, DifferByOneByte}
+use Rattle.hash_fx.proofs.Common.{◌≡◌, ℕ, ◌+◌, ◌<◌, List, [], ◌∷◌, ◌++◌, length, drop, arith, refl, sym, ◌∙◌, subst, ap₂, drop_all}
+use Rattle.std.proofs.Common.{◌≢◌, ◌↔◌, ◌≤◌, Bool, true, false, not, nat_eq, IsTrue, Bor, get_or, inl, inr, MatchBool}
+use Rattle.std.proofs.lemmas.Bool.{not-false}
+use Rattle.std.proofs.lemmas.List.{drop_more}
+use Rattle.hash_laws.specs.Text.{joined}
+use Rattle.hash_fx.specs.Pieces.{DifferByOneByte}
 use Rattle.std.specs.Cmp.Lexicographic.{pointwise}
 use Rattle.std.proofs.lemmas.Bool.Decides.{Decides-eqb}
 use Rattle.std.proofs.lemmas.Slice.Eq.{slice_eq-Decides}
-use Rattle.hash_theorems.proofs.CutsLemmas.{Pieces, SameCuts, SameCuts-at, SameCuts-length}
-use Rattle.hash_theorems.proofs.OneApart.{OneApart, OneApart-split, OneApart-itself, OneApart-append_left, OneApart-append_right, append_same, one_from_DifferAtOnePlace, DifferAtOnePlace-from_one}
+use Rattle.hash_fx.proofs.CutsLemmas.{Pieces, SameCuts, SameCuts-at, SameCuts-length}
+use Rattle.hash_fx.proofs.OneApart.{OneApart, OneApart-split, OneApart-itself, OneApart-append_left, OneApart-append_right, append_same, one_from_DifferAtOnePlace, DifferAtOnePlace-from_one}
 
 -- of the pieces that are left none may differ where one did, and else one must
 abbrev pub RestApart : Bool → Pieces → Pieces → Type 0

@@ -1,5 +1,6 @@
 -- Two lists that differ at exactly one place, by recursion.
-use Rattle.hash_theorems.proofs.FxCommon.{◌≡◌, ◌≢◌, ◌⊎◌, ℕ, zero, suc, List, [], ◌∷◌, ◌++◌, length, take, drop, slice_index, arith, refl, sym, ap, ◌∙◌, inl, inr, ap₂, ext_get_or, take_at, drop_at}
+use Rattle.hash_fx.proofs.Common.{◌≡◌, ℕ, List, [], ◌∷◌, ◌++◌, length, take, drop, arith, refl, sym, ap, ◌∙◌, ap₂}
+use Rattle.std.proofs.Common.{◌≢◌, ◌⊎◌, zero, suc, slice_index, inl, inr, ext_get_or, take_at, drop_at}
 use Rattle.hash_laws.specs.DifferWithin.{DifferAtOnePlace}
 
 abbrev pub OneApart : List ℕ → List ℕ → Type 0

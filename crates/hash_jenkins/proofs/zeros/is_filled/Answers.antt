@@ -1,7 +1,8 @@
-use Rattle.hash_theorems.proofs.JenkinsCommon.{length, take, Decides-eqb}
+use Rattle.hash_jenkins.proofs.Common.{length, take}
+use Rattle.std.proofs.lemmas.Bool.Decides.{Decides-eqb}
 use Rattle.std.proofs.lemmas.Slice.Eq.{slice_eq-Decides}
-use Rattle.hash_theorems.proofs.FilledLemmas.{take-zero_filled}
-use Rattle.hash_theorems.proofs.jenkins.two_texts.is_filled.Goals as goal
+use Rattle.hash_jenkins.proofs.FilledLemmas.{take-zero_filled}
+use Rattle.hash_jenkins.proofs.zeros.is_filled.Goals as goal
 
 pub returns : goal.returns
 returns c =

@@ -1,10 +1,13 @@
-use Rattle.hash_theorems.proofs.FxCommon.{◌≡◌, ◌↔◌, ◌+◌, true, false, drop, OnTrue_at, OnTrue_from, both_ways, joined}
-use Rattle.hash_theorems.proofs.OneApart.{OneApart, one_from_DifferAtOnePlace, DifferAtOnePlace-from_one}
-use Rattle.hash_theorems.proofs.CutsLemmas.{SameCuts, no_piece}
-use Rattle.hash_theorems.proofs.PiecesLemmas.{fx32_pieces-differ, fx64_pieces-differ}
-use Rattle.hash_theorems.proofs.TestLemmas.{RestApart, left_equal, left_first, left_second, left_many, left_none, DifferByOneByte-iff, pieces_equal, pieces_differ}
-use Rattle.hash_theorems.proofs.fx.pieces.apart_by_one_fx.Goals as goal
-use Rattle.hash_theorems.proofs.fx.pieces.apart_by_one_fx.Goals.{then-apart-via-then-apart, then-apart-via-else-apart+then-not-differ_at_one_place, then-ne+else-apart+else-not-differ_at_one_place, else-ne}
+use Rattle.hash_fx.proofs.Common.{◌≡◌, ◌+◌, drop}
+use Rattle.std.proofs.Common.{◌↔◌, true, false}
+use Rattle.std.proofs.lemmas.Bool.{OnTrue_at, OnTrue_from, both_ways}
+use Rattle.hash_laws.specs.Text.{joined}
+use Rattle.hash_fx.proofs.OneApart.{OneApart, one_from_DifferAtOnePlace, DifferAtOnePlace-from_one}
+use Rattle.hash_fx.proofs.CutsLemmas.{SameCuts, no_piece}
+use Rattle.hash_fx.proofs.PiecesLemmas.{fx32_pieces-differ, fx64_pieces-differ}
+use Rattle.hash_fx.proofs.TestLemmas.{RestApart, left_equal, left_first, left_second, left_many, left_none, DifferByOneByte-iff, pieces_equal, pieces_differ}
+use Rattle.hash_fx.proofs.pieces.apart_by_one_fx.Goals as goal
+use Rattle.hash_fx.proofs.pieces.apart_by_one_fx.Goals.{then-apart-via-then-apart, then-apart-via-else-apart+then-not-differ_at_one_place, then-ne+else-apart+else-not-differ_at_one_place, else-ne}
 
 -- a second piece that differs, or one that differs at more than one byte
 pub returns-then-apart-clause-exactly : goal.returns-then-apart-clause-exactly

@@ -1,5 +1,12 @@
 -- Texts of one length that are filled up with zeros.
-use Rattle.hash_theorems.proofs.JenkinsCommon.{◌≡◌, ◌+◌, ◌-◌, ◌≤◌, ◌++◌, ◌∙◌, ℕ, lit<, List, length, slice_index, take, replicate, refl, sym, ap, arith, inl, inr, ⊎_elim, length-append, cases_lt, append_assoc, length-replicate, replicate-append-replicate, take_at, get_or_append_left, get_or-append_right, All-append, All-replicate, IsPiece, IsText, IsByte, zero_filled}
+use Rattle.hash_jenkins.proofs.Common.{◌≡◌, ◌+◌, ◌-◌, ◌≤◌, ◌++◌, ◌∙◌, ℕ, List, length, slice_index, take, replicate, refl, sym, ap, arith, length-append, append_assoc, take_at, zero_filled}
+use Rattle.std.proofs.Common.{lit<, inl, inr, ⊎_elim}
+use Rattle.std.proofs.lemmas.Bool.{cases_lt}
+use Rattle.std.proofs.lemmas.List.{length-replicate, replicate-append-replicate, get_or_append_left, get_or-append_right}
+use Rattle.std.proofs.lemmas.List.Elements.{All-append, All-replicate}
+use Rattle.hash_words.proofs.PieceLemmas.{IsPiece}
+use Rattle.hash_laws.specs.Text.{IsText}
+use Rattle.hash_laws.specs.TextLaws.{IsByte}
 use Rattle.hash_laws.proofs.FrameLemmas.{same_outside}
 
 pub length-zero_filled : (n : ℕ) (x : List ℕ) → length x ≤ n → length (zero_filled n x) ≡ n

@@ -1,5 +1,9 @@
 -- Lists of pieces whose cuts agree.
-use Rattle.hash_theorems.proofs.FxCommon.{◌≡◌, ℕ, ◌+◌, ◌<◌, Bor, List, [], ◌∷◌, ◌++◌, length, map, take, get_or, sym, ap, ◌∙◌, arith, All, ap₂, map_more, map_push, get_or-map, length-map, All-push, IsText, texts}
+use Rattle.hash_fx.proofs.Common.{◌≡◌, ℕ, ◌+◌, ◌<◌, List, [], ◌∷◌, ◌++◌, length, map, take, sym, ap, ◌∙◌, arith, ap₂, length-map}
+use Rattle.std.proofs.Common.{Bor, get_or, All}
+use Rattle.std.proofs.lemmas.List.{map_more, map_push, get_or-map}
+use Rattle.std.proofs.lemmas.List.Elements.{All-push}
+use Rattle.hash_laws.specs.Text.{IsText, texts}
 
 abbrev pub Pieces : Type 0
 Pieces = List (Bor (List ℕ))

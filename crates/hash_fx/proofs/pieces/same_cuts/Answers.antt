@@ -1,6 +1,8 @@
-use Rattle.hash_theorems.proofs.FxCommon.{◌≡◌, ◌<◌, true, false, length, arith, both_ways}
-use Rattle.hash_theorems.proofs.CutsLemmas.{no_piece, SameCuts-at, CutsAgree-more}
-use Rattle.hash_theorems.proofs.fx.pieces.same_cuts.Goals as goal
+use Rattle.hash_fx.proofs.Common.{◌≡◌, ◌<◌, length, arith}
+use Rattle.std.proofs.Common.{true, false}
+use Rattle.std.proofs.lemmas.Bool.{both_ways}
+use Rattle.hash_fx.proofs.CutsLemmas.{no_piece, SameCuts-at, CutsAgree-more}
+use Rattle.hash_fx.proofs.pieces.same_cuts.Goals as goal
 
 pub returns-then-not-same_length-clause-exactly : goal.returns-then-not-same_length-clause-exactly
 returns-then-not-same_length-clause-exactly c =

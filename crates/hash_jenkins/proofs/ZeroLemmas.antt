@@ -1,7 +1,13 @@
 -- Zeros at the end of a short text show in its four words: no two states of four words end alike.
-use Rattle.hash_theorems.proofs.JenkinsCommon.{◌≡◌, ◌+◌, ◌-◌, ◌*◌, ◌%◌, ◌^◌, ◌<◌, ◌∷◌, ◌++◌, ◌∙◌, ℕ, lit<, nat_lt, true, List, [], length, replicate, fold, get_or, slice_index, refl, sym, ap, arith, length-set, get_or-set_same, nat_tests, common_steps, add_at, AreFourWords, words-listed, no_data, short_mix-steps, short_end-steps, stepped-AreFourWords, stepped-same, zero_filled, add_chunk, short_start, spooky_v1, pieces, le_words, chunks_from, AddsZeros, HaveOtherWords}
+use Rattle.hash_jenkins.proofs.Common.{◌≡◌, ◌+◌, ◌-◌, ◌*◌, ◌%◌, ◌^◌, ◌<◌, ◌∷◌, ◌++◌, ◌∙◌, ℕ, nat_lt, true, List, [], length, replicate, fold, slice_index, refl, sym, ap, arith, nat_tests, common_steps, zero_filled, add_chunk, pieces, le_words}
+use Rattle.std.proofs.Common.{lit<, get_or, length-set, get_or-set_same}
+use Rattle.hash_words.specs.Words.{add_at}
+use Rattle.hash_rounds.proofs.RoundLemmas.{AreFourWords, words-listed, no_data, short_mix-steps, short_end-steps, stepped-AreFourWords, stepped-same}
+use Rattle.hash_jenkins.specs.Spooky.{short_start, spooky_v1}
+unfoldable use Rattle.hash_jenkins.specs.Spooky.{chunks_from}
+use Rattle.hash_jenkins.specs.Zeros.{AddsZeros, HaveOtherWords}
 use Rattle.hash_rounds.specs.Rounds as rounds
-use Rattle.hash_theorems.proofs.FilledLemmas.{zero_filled-longer}
+use Rattle.hash_jenkins.proofs.FilledLemmas.{zero_filled-longer}
 
 pub add_at-AreFourWords : (h : List ℕ) (i x : ℕ) → AreFourWords h → AreFourWords (add_at h i x)
 add_at-AreFourWords h i x w =

@@ -1,6 +1,11 @@
 -- Pieces that are one byte apart have words that are one word apart.
-use Rattle.hash_theorems.proofs.FxCommon.{◌≡◌, ℕ, zero, suc, ◌+◌, ◌*◌, ◌/◌, List, ◌∷◌, ◌++◌, length, take, drop, map, arith, refl, sym, ap, ◌∙◌, inl, inr, subst, min, drop-drop, length-take, length-drop, take-append-drop, All-take, All-drop, first_chunks, le-same, IsText, IsByte, words32, words64, le, pieces}
-use Rattle.hash_theorems.proofs.OneApart.{OneApart, OneApart-split, OneApart-itself}
+use Rattle.hash_fx.proofs.Common.{◌≡◌, ℕ, ◌+◌, ◌*◌, ◌/◌, List, ◌∷◌, ◌++◌, length, take, drop, map, arith, refl, sym, ap, ◌∙◌, subst, first_chunks, words32, words64, le, pieces}
+use Rattle.std.proofs.Common.{zero, suc, inl, inr, min, drop-drop, length-take, length-drop, take-append-drop}
+use Rattle.std.proofs.lemmas.List.Elements.{All-take, All-drop}
+use Rattle.hash_words.proofs.PieceLemmas.{le-same}
+use Rattle.hash_laws.specs.Text.{IsText}
+use Rattle.hash_laws.specs.TextLaws.{IsByte}
+use Rattle.hash_fx.proofs.OneApart.{OneApart, OneApart-split, OneApart-itself}
 
 itself : {x y : List ℕ} → x ≡ y → OneApart x y → ⊥
 itself {x} same one = OneApart-itself x (subst (OneApart x) (sym same) one)

@@ -1,8 +1,14 @@
 -- The words of pieces of whole words, and of one piece more.
-use Rattle.hash_theorems.proofs.FxCommon.{◌≡◌, ℕ, ◌+◌, ◌-◌, ◌%◌, ◌<◌, Bor, List, [], ◌++◌, length, take, get_or, arith, sym, ap, ◌∙◌, get_or-take, get_or-map, length-take-le, length-map, fx32_step, fx64_step, joined, texts, recurrence-append, joined_more, fx32, fx64, words32, words64, recurrence, AreWhole}
+use Rattle.hash_fx.proofs.Common.{◌≡◌, ℕ, ◌+◌, ◌-◌, ◌%◌, ◌<◌, List, [], ◌++◌, length, take, arith, sym, ap, ◌∙◌, length-map, fx32_step, fx64_step, fx32, fx64, words32, words64, recurrence}
+use Rattle.std.proofs.Common.{Bor, get_or}
+use Rattle.std.proofs.lemmas.List.{get_or-take, get_or-map, length-take-le}
+use Rattle.hash_laws.specs.Text.{joined, texts}
+use Rattle.hash_laws.specs.RecurrenceLaws.{recurrence-append}
+use Rattle.hash_laws.specs.TextLaws.{joined_more}
+use Rattle.hash_fx.specs.Pieces.{AreWhole}
 use Rattle.std.proofs.lemmas.List.{length-append}
 use Rattle.hash_fx.proofs.WholeWords.{words32-append, words64-append}
-use Rattle.hash_theorems.proofs.CutsLemmas.{Pieces, no_piece}
+use Rattle.hash_fx.proofs.CutsLemmas.{Pieces, no_piece}
 
 -- a piece before the last
 piece_whole : (n : ℕ) (pieces : Pieces) (i : ℕ) (d : Bor (List ℕ)) → AreWhole n pieces → i + 1 < length pieces

@@ -1,6 +1,7 @@
-use Rattle.hash_theorems.proofs.FxCommon.{refl, sym, fx64_nothing}
-use Rattle.hash_theorems.proofs.WholePieces.{at_more64}
-use Rattle.hash_theorems.proofs.fx.pieces.run_words.Goals as goal
+use Rattle.hash_fx.proofs.Common.{refl, sym}
+use Rattle.hash_fx.specs.FxLaws.{fx64_nothing}
+use Rattle.hash_fx.proofs.WholePieces.{at_more64}
+use Rattle.hash_fx.proofs.pieces.run_words.Goals as goal
 
 pub loop-piece-init : goal.loop-piece-init
 loop-piece-init g c = record { there = sym (fx64_nothing c.args.h.now); whole = λ _. refl }

@@ -1,6 +1,0 @@
-use Rattle.hash_theorems.proofs.FxCommon.{fx64, words64}
-use Rattle.hash_theorems.proofs.WholePieces.{IsAt}
-use Rattle.hash_theorems.proofs.fx.pieces.run_words.Given as goal
-
-abbrev pub invariant-loop-piece : goal.invariant-loop-piece
-invariant-loop-piece g l = IsAt (λ s text. fx64 s (words64 text)) 8 l.initial.h l.h l.piece-index l.pieces

@@ -1,6 +1,0 @@
-use Rattle.hash_theorems.proofs.FxCommon.{fx32, words32}
-use Rattle.hash_theorems.proofs.WholePieces.{IsAt}
-use Rattle.hash_theorems.proofs.fx.pieces.run_words32.Given as goal
-
-abbrev pub invariant-loop-part : goal.invariant-loop-part
-invariant-loop-part l = IsAt (λ s text. fx32 s (words32 text)) 4 l.initial.h l.h l.part-index l.pieces

@@ -1,6 +1,0 @@
-use Rattle.hash_theorems.proofs.FxCommon.{take}
-use Rattle.hash_theorems.proofs.CutsLemmas.{CutsAgree}
-use Rattle.hash_theorems.proofs.fx.pieces.same_cuts.Given as goal
-
-abbrev pub invariant-loop-i : goal.invariant-loop-i
-invariant-loop-i l = CutsAgree (take l.i l.x) (take l.i l.y)

@@ -1,7 +1,0 @@
-use Rattle.hash_theorems.proofs.JenkinsCommon.{arith, OnTrue_from}
-use Rattle.hash_theorems.proofs.Zeros.{other_words}
-use Rattle.hash_theorems.proofs.jenkins.two_texts.apart_by_zeros.Goals as goal
-
-pub returns-clause-differ : goal.returns-clause-differ
-returns-clause-differ c =
-    OnTrue_from _ _ (λ r. other_words c.args.x.now c.args.y.now (omega arith, omega arith, c.is_filled.ensures.0 r))
