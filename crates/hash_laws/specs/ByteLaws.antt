@@ -1,6 +1,7 @@
 -- What follows for a hasher whose state is a number below a bound, and which takes a step for each byte: its state
 -- after a text is the fold of the step. the facts of the step are passed in.
-use Rattle.hash_laws.specs.Common.{ℕ, ◌≡◌, ◌<◌, List, [], ◌∷◌, ◌++◌, fold, ap, sym, ◌∙◌, refl, slice_index, length, arith, All-nil, All-head, All-tail, All-append, IsText}
+use Rattle.std.specs.Prelude.{◌≡◌, ◌<◌, ◌∷◌, ◌++◌}
+use Rattle.hash_laws.specs.Common.{ℕ, List, [], fold, ap, sym, ◌∙◌, refl, slice_index, length, arith, All-nil, All-head, All-tail, All-append, IsText}
 use Rattle.std.proofs.Common.{append_assoc, append-nil}
 use Rattle.std.proofs.lemmas.List.Sums.{fold-append}
 use Rattle.hash_laws.specs.Recurrence.{recurrence}

@@ -1,5 +1,6 @@
 -- What a fold of a step over items keeps and loses.
-use Rattle.hash_laws.specs.Common.{ℕ, ◌≡◌, List, [], ◌∷◌, fold, All, All-head, All-tail}
+use Rattle.std.specs.Prelude.{◌≡◌, ◌∷◌}
+use Rattle.hash_laws.specs.Common.{ℕ, List, [], fold, All, All-head, All-tail}
 
 module _ {S : Type 0} (step : S → ℕ → S) (is_state : S → Type 0) (IsItem : ℕ → Type 0)
     (in_range : (s : S) (item : ℕ) → is_state s → IsItem item → is_state (step s item)) where

@@ -1,5 +1,6 @@
 -- Pieces of texts.
-use Rattle.hash_laws.specs.Common.{ℕ, zero, suc, lit<, ◌/◌, ◌^◌, ◌≡◌, ◌+◌, ◌<◌, List, [], ◌∷◌, ◌++◌, length, take, get_or, ap, sym, ◌∙◌, fold, drop, map, Fits, w8, rules, refl, flat_map, take_more, flat_map_more, at_drop_more, All-nil, All-cons, All-from_get_or, IsText}
+use Rattle.std.specs.Prelude.{◌/◌, ◌^◌, ◌≡◌, ◌+◌, ◌<◌, ◌∷◌, ◌++◌}
+use Rattle.hash_laws.specs.Common.{ℕ, zero, suc, lit<, List, [], length, take, get_or, ap, sym, ◌∙◌, fold, drop, map, Fits, w8, rules, refl, flat_map, take_more, flat_map_more, at_drop_more, All-nil, All-cons, All-from_get_or, IsText}
 use Rattle.std.proofs.Common.{append_assoc}
 use Rattle.std.proofs.lemmas.Nat.{mod_below}
 use Rattle.std.specs.Int.{Width, byte_at, byte_len, bytes_low_first, to_le_bytes, w16, w32, w64}
