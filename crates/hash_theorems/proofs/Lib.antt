@@ -31,3 +31,4 @@ pub mod Djb2AddWindow
 pub mod Fnv1Windows
 pub mod WindowSpreads
 pub mod FnvWindows
+pub mod RangeLemmas

@@ -1,52 +1,23 @@
--- Each hash of the table is below 2 to the power of its bits, and each of 128 bits is two words.
-use Rattle.hashsum_core.proofs.Common.{ℕ, zero, suc, ◌*◌, ◌/◌, ◌%◌, ◌^◌, ◌<◌, Bool, true, false, if◌then◌else◌, nat_lt, List, [], ◌∷◌, length, slice_index, fold, map, take, drop, All, refl, sym, arith, lit<, subst, All-drop, All-head, All-tail, All-take, mod_below, pow_pos, xor_lt, AreTwoWords, lookup3_answer, lookup3_from, lookup3-AreTwoWords}
+-- Each hash of the table is below 2 to the power of its bits.
+use Rattle.hashsum_core.proofs.Common.{ℕ, zero, suc, ◌*◌, ◌/◌, ◌%◌, ◌^◌, ◌<◌, List, [], ◌∷◌, length, slice_index, fold, map, take, drop, All, refl, arith, lit<, All-drop, All-head, All-tail, All-take, mod_below, pow_pos, xor_lt, AreTwoWords, lookup3_answer, lookup3_from, lookup3-AreTwoWords}
 use Rattle.hash_words.specs.Words.{le}
-use Rattle.hash_words.specs.Pieces.{pieces, le_words}
+use Rattle.hash_words.specs.Pieces.{pieces}
 use Rattle.hash_words.proofs.ByteLemmas.{le-few}
 use Rattle.hash_words.proofs.XorshiftLemmas.{xorshift-lt}
-use Rattle.hash_words.proofs.WordLemmas.{AreWords-at}
 use Rattle.hash_laws.specs.Text.{IsText}
 use Rattle.hash_laws.specs.TextLaws.{IsByte}
 use Rattle.hash_blocks.specs.Blocks.{blocks, tail}
 use Rattle.hash_blocks.specs.BlocksLaws.{tail-lt}
 use Rattle.hash_theorems.specs.BlockFacts.{IsBlock}
 use Rattle.hash_theorems.proofs.BackLemmas.{pieces-blocks}
-use Rattle.hash_rounds.specs.Blocks.{spooky_blocks}
-use Rattle.hash_rounds.specs.Rounds as rounds
-use Rattle.hash_rounds.specs.Spooky.{short_end, spooky_end}
-use Rattle.hash_rounds.specs.Steps.{AreSteps}
-use Rattle.hash_rounds.proofs.BlockLemmas.{spooky_blocks-words}
-use Rattle.hash_rounds.proofs.RoundLemmas.{AreFourWords, short_end-steps, stepped-AreFourWords}
-use Rattle.hash_rounds.proofs.StepLemmas.{apply-words}
-use Rattle.hash_jenkins.specs.Spooky as of
-use Rattle.hash_jenkins.specs.SpookyLaws.{long_start-words}
-use Rattle.hash_jenkins.proofs.ZeroLemmas.{add_at-AreFourWords, short_start-AreFourWords}
+use Rattle.hash_rounds.proofs.RoundLemmas.{AreFourWords}
 use Rattle.hash_blocks.specs.Murmur3 as murmur3
-use Rattle.hash_blocks.specs.Murmur3x128 as murmur3_wide
 use Rattle.hash_blocks.specs.SipHash as sip
 use Rattle.hash_blocks.proofs.BackLemmas.{rounds-in, xored-in}
 use Rattle.hash_blocks.specs.Xxh32 as xxh32
 use Rattle.hash_blocks.specs.Xxh64 as xxh64
-use Rattle.hash_xxh3.specs.Words.{avalanche, avalanche_64, length_mix}
-use Rattle.hash_xxh3.specs.Short.{of_none, of_sixteen}
-use Rattle.hash_xxh3.specs.Middle.{of_128, of_240}
-use Rattle.hash_xxh3.specs.Long as long
-use Rattle.hash_xxh3.specs.Wide as wide
-use Rattle.hash_xxh3.specs.Xxh3.{xxh3_64_of}
 
--- ---- words
-
--- what holds of both holds of either
-either : {A : Type 0} (P : A → Type 0) (b : Bool) {x y : A} → P x → P y → P (if b then x else y)
-either P true first second = first
-either P false first second = second
-
-abbrev IsWord : ℕ → Type 0
-IsWord n = n < 2 ^ 64
-
--- two words
-abbrev AreBoth : ℕ × ℕ → Type 0
-AreBoth words = IsWord words.0 × IsWord words.1
+-- ---- mixes
 
 pub xxh32_mix : (h : ℕ) → xxh32.last_mix h < 2 ^ 32
 unfolding xxh32.last_mix
@@ -59,84 +30,6 @@ xxh64_mix h = xorshift-lt 64 _ 32 (mod_below _ (2 ^ 64) (lit< tt))
 pub murmur3_mix : (h : ℕ) → murmur3.last_mix h < 2 ^ 32
 unfolding murmur3.last_mix
 murmur3_mix h = xorshift-lt 32 _ 16 (mod_below _ (2 ^ 32) (lit< tt))
-
-avalanche_below : (h : ℕ) → avalanche h < 2 ^ 64
-unfolding avalanche
-avalanche_below h = xorshift-lt 64 _ 32 (mod_below _ (2 ^ 64) (lit< tt))
-
-avalanche_64_below : (h : ℕ) → avalanche_64 h < 2 ^ 64
-unfolding avalanche_64
-avalanche_64_below h = xorshift-lt 64 _ 32 (mod_below _ (2 ^ 64) (lit< tt))
-
-length_mix_below : (len h : ℕ) → length_mix len h < 2 ^ 64
-unfolding length_mix
-length_mix_below len h = xorshift-lt 64 _ 28 (mod_below _ (2 ^ 64) (lit< tt))
-
--- ---- XXH3
-
-pub xxh3_below : (seed : ℕ) (text : List ℕ) → xxh3_64_of seed text < 2 ^ 64
-unfolding xxh3_64_of of_none of_sixteen of_128 of_240 long.long_under long.end_long long.merge
-xxh3_below seed text =
-    let len = length text in
-    either IsWord (nat_lt len 241)
-    (either IsWord (nat_lt len 17)
-    (either IsWord (nat_lt len 1) (avalanche_64_below _)
-    (either IsWord (nat_lt len 4) (avalanche_64_below _)
-    (either IsWord (nat_lt len 9) (length_mix_below len _) (avalanche_below _))))
-    (either IsWord (nat_lt len 129) (avalanche_below _) (avalanche_below _)))
-    (avalanche_below _)
-
-pub xxh128_below : (seed : ℕ) (text : List ℕ) → AreBoth (wide.xxh3_128_of seed text)
-unfolding wide.xxh3_128_of wide.wide_none wide.eight_low wide.sixteen_end wide.wide_128 wide.wide_240 wide.wide_end wide.wide_under
-    wide.wide_end_long long.merge
-xxh128_below seed text =
-    let len = length text in
-    either AreBoth (nat_lt len 241)
-    (either AreBoth (nat_lt len 17)
-    (either AreBoth (nat_lt len 1) (avalanche_64_below _, avalanche_64_below _)
-    (either AreBoth (nat_lt len 4) (avalanche_64_below _, avalanche_64_below _)
-    (either AreBoth (nat_lt len 9) (xorshift-lt 64 _ 28 (mod_below _ (2 ^ 64) (lit< tt)), avalanche_below _)
-    (avalanche_below _, avalanche_below _))))
-    (either AreBoth (nat_lt len 129) (avalanche_below _, mod_below _ (2 ^ 64) (lit< tt)) (avalanche_below _, mod_below _ (2 ^ 64) (lit< tt))))
-    (avalanche_below _, avalanche_below _)
-
--- ---- MurmurHash3 of 128 bits
-
-pub murmur3_below : (seed : ℕ) (text : List ℕ) → AreBoth (murmur3_wide.murmur3_128 seed text)
-murmur3_below seed text = (mod_below _ (2 ^ 64) (lit< tt), mod_below _ (2 ^ 64) (lit< tt))
-
--- ---- SpookyHash
-
-long_end-steps : AreSteps 64 12 12 rounds.spooky_end_steps
-unfolding rounds.spooky_end_steps rounds.spooky_end_partial_steps rounds.data_sums
-long_end-steps = refl
-
-short_end_in : (h : List ℕ) → AreFourWords h → AreFourWords (short_end h)
-short_end_in h are = stepped-AreFourWords h are rounds.short_end_steps short_end-steps
-
-twelve_in : (text : List ℕ) (i : ℕ) → slice_index (of.twelve_words 0 0 text) i < 2 ^ 64
-twelve_in text =
-    let start = spooky_blocks-words (of.long_start 0 0) text refl (long_start-words 0 0 (lit< tt) (lit< tt)) in
-    let s = spooky_blocks (of.long_start 0 0) text in
-    let d = le_words (of.padded (of.tail text)) in
-    AreWords-at 64 (spooky_end d s)
-    (apply-words 64 12 rounds.spooky_end_steps d s (subst (λ n. AreSteps 64 n 12 rounds.spooky_end_steps) (sym start.0) long_end-steps)
-    start.1).1
-
-pub spooky_below : (text : List ℕ) → AreBoth (of.spooky 0 0 text)
-spooky_below text =
-    let start = short_start-AreFourWords 0 0 text (lit< tt) (lit< tt) in
-    let short = (short_end_in _ (add_at-AreFourWords _ 3 (length text * 2 ^ 56) start)).1 in
-    let b = nat_lt (length text) 192 in (
-      either (λ (words : List ℕ). IsWord (slice_index words 0)) b (short 0) (twelve_in text 0),
-      either (λ (words : List ℕ). IsWord (slice_index words 1)) b (short 1) (twelve_in text 1),
-    )
-
-pub spooky_v1_below : (text : List ℕ) → (of.spooky_v1 0 0 text).0 < 2 ^ 64
-spooky_v1_below text =
-    let start = short_start-AreFourWords 0 0 text (lit< tt) (lit< tt) in
-    either (λ (words : List ℕ). IsWord (slice_index words 0)) (nat_lt (length text) 192)
-    ((short_end_in _ start).1 0) (twelve_in text 0)
 
 -- ---- lookup3
 

@@ -6,7 +6,8 @@ use Rattle.hash_more.specs.Crc32.{all_ones}
 use Rattle.hash_more.specs.Joaat.{joaat_from}
 use Rattle.hash_more.specs.JoaatLaws.{joaat_answer_below}
 use Rattle.hash_rounds.specs.Sums.{passthrough_from, sdbm_from}
-use Rattle.hashsum_core.proofs.FitLemmas.{lookup3_below, lookup3_pieces, murmur3_below, murmur3_mix, siphash_below, spooky_below, spooky_v1_below, xxh32_mix, xxh3_below, xxh64_mix}
+use Rattle.hash_theorems.proofs.RangeLemmas.{murmur3_below, spooky_below, spooky_v1_below, xxh3_below}
+use Rattle.hashsum_core.proofs.FitLemmas.{lookup3_below, lookup3_pieces, murmur3_mix, siphash_below, xxh32_mix, xxh64_mix}
 use Rattle.hashsum_core.proofs.laws.each_hash_fits.Goals as goal
 
 pub returns-clause-whole : goal.returns-clause-whole
@@ -22,8 +23,8 @@ returns-clause-whole c = fits
     fits (Ported Bricolage) text is = c.text_stays_in_range-4.ensures 0 text (lit< tt) is
     fits (Ported Oaat) text is = mod_below _ (2 ^ 64) (lit< tt)
     fits (Ported Lookup3) text is = lookup3_below _ (lookup3-AreTwoWords (0, 0) text (lit< tt, lit< tt) is)
-    fits (Ported Spooky) text is = (spooky_below text).0
-    fits (Ported SpookyV1) text is = spooky_v1_below text
+    fits (Ported Spooky) text is = (spooky_below 0 0 text (lit< tt) (lit< tt)).0
+    fits (Ported SpookyV1) text is = (spooky_v1_below 0 0 text (lit< tt) (lit< tt)).0
     fits (Ported PassThrough) text is = mod_below _ (2 ^ 64) (lit< tt)
     fits (Ported FxHash) text is = c.text_stays_in_range-5.ensures 0 text (lit< tt) is
     fits (Ported FxHash32) text is = c.text_stays_in_range-6.ensures 0 text (lit< tt) is

@@ -1,11 +1,12 @@
-use Rattle.hashsum_core.proofs.Common.{ℕ, ◌%◌, ◌^◌, ◌<◌, ◌≤◌, List, arith, lit≤, digits_of, LineKind, prime61, bits_of, both, Kind, Ported, Fnv1a32}
+use Rattle.hashsum_core.proofs.Common.{ℕ, ◌%◌, ◌^◌, ◌<◌, ◌≤◌, List, arith, lit<, lit≤, digits_of, LineKind, prime61, bits_of, both, Kind, Ported, Fnv1a32}
 use Rattle.hash_laws.specs.Text.{IsText}
 use Rattle.hashsum_core.specs.declared.sums.Sum.{Sum}
 use Rattle.hashsum_core.specs.declared.sums.Sum.TheVariants as sum
 use Rattle.hashsum_core.specs.declared.sums.Wide.{Wide}
 use Rattle.hashsum_core.specs.declared.sums.Wide.TheVariants as wide
 use Rattle.hashsum_core.specs.Sums.{sum_of, wide_of, width_in, width_of}
-use Rattle.hashsum_core.proofs.FitLemmas.{murmur3_below, siphash_below, spooky_below, xxh128_below}
+use Rattle.hash_theorems.proofs.RangeLemmas.{murmur3_below, spooky_below, xxh128_below}
+use Rattle.hashsum_core.proofs.FitLemmas.{siphash_below}
 use Rattle.hashsum_core.proofs.KeyLemmas.{in_64}
 use Rattle.hashsum_core.proofs.laws.each_number_has_its_digits.Goals as goal
 
@@ -14,7 +15,7 @@ both_below : (words : ℕ × ℕ) → (words.0 < 2 ^ 64) × (words.1 < 2 ^ 64) �
 both_below words are = omega (arith, are.0, are.1)
 
 wide_below : (which : Wide) (text : List ℕ) → wide_of which text < 2 ^ 128
-wide_below wide.Spooky text = both_below _ (spooky_below text)
+wide_below wide.Spooky text = both_below _ (spooky_below 0 0 text (lit< tt) (lit< tt))
 wide_below wide.Murmur3 text = both_below _ (murmur3_below 0 text)
 wide_below wide.Xxh3 text = let (low, high) = xxh128_below 0 text in both_below _ (high, low)
 
