@@ -1,4 +1,4 @@
-// Cuts a file in memory into chunks, by hash_cuts and by the gear hash in C, by turns.
+// Cuts a file in memory into chunks, by libhashers and by the gear hash in C, by turns.
 //
 //     cuts times FILE TURNS      a line for each turn and side: its name, and the seconds of processor time
 //     cuts lengths FILE          the lengths of the chunks, a line each
@@ -6,6 +6,7 @@
 // SIDES has a SIDE(NAME) for each time that gear.c was compiled. All sides are to make the same chunks. PAD bytes stand in front of the
 // code: a short loop's time depends on where it stands.
 #include "cuts.h"
+#include "hashers.h"
 #include <fcntl.h>
 #include <stdio.h>
 #include <stdlib.h>
@@ -20,12 +21,11 @@ __asm__(".text\n.p2align 6\n" SKIP(PAD) "\n");
 
 enum { LEAST = 16 << 10, AVERAGE = 64 << 10, MOST = 256 << 10 };
 
-size_t measure_cuts(const uint8_t *text, size_t len, size_t least, size_t average, size_t most, size_t *lengths, size_t room);
-void measure_cuts_numbers(uint64_t *numbers, size_t room);
+static const hashers_cutting cutting = {LEAST, AVERAGE, MOST, 1, 2};
 
-static size_t hash_cuts(const struct gear *unused, const uint8_t *text, size_t len, size_t *lengths, size_t room) {
+static size_t hash_cuts(const struct gear *unused, const uint8_t *text, size_t len, uint64_t *ends, size_t room) {
     (void)unused;
-    return measure_cuts(text, len, LEAST, AVERAGE, MOST, lengths, room);
+    return hashers_chunk_ends(text, len, &cutting, ends, room);
 }
 
 #define SIDE(name) chunks name;
@@ -43,7 +43,8 @@ static const struct side {
 enum { COUNT = sizeof sides / sizeof *sides };
 
 static struct gear gear = {LEAST, MOST, UINT64_MAX / AVERAGE + 1, {0}};
-static size_t *lengths, *others, room;
+static uint64_t *ends, *others;
+static size_t room;
 
 static double now(void) {
     struct timespec t;
@@ -54,7 +55,7 @@ static double now(void) {
 // Ends where a side makes other chunks than hash_cuts.
 static void compare(const uint8_t *text, size_t len, size_t count) {
     for (int i = 1; i < COUNT; i++)
-        if (sides[i].cut(&gear, text, len, others, room) != count || memcmp(lengths, others, count * sizeof *lengths) != 0) {
+        if (sides[i].cut(&gear, text, len, others, room) != count || memcmp(ends, others, count * sizeof *ends) != 0) {
             fprintf(stderr, "%s makes other chunks\n", sides[i].name);
             exit(1);
         }
@@ -78,16 +79,16 @@ int main(int count, char **words) {
     size_t len = (size_t)about.st_size;
     const uint8_t *text = mmap(NULL, len, PROT_READ, MAP_PRIVATE | MAP_POPULATE, file, 0);
     room = len / LEAST + 1;
-    lengths = calloc(room, sizeof *lengths), others = calloc(room, sizeof *others);
-    if (text == MAP_FAILED || lengths == NULL || others == NULL)
+    ends = calloc(room, sizeof *ends), others = calloc(room, sizeof *others);
+    if (text == MAP_FAILED || ends == NULL || others == NULL)
         return fprintf(stderr, "no memory for %s\n", words[2]), 1;
-    measure_cuts_numbers(gear.numbers, 256);
-    size_t made = hash_cuts(&gear, text, len, lengths, room);
+    for (int byte = 0; byte < 256; byte++) gear.numbers[byte] = hashers_spooky128(&(uint8_t){byte}, 1, cutting.seed1, cutting.seed2).first;
+    size_t made = hash_cuts(&gear, text, len, ends, room);
     compare(text, len, made);
     if (strcmp(words[1], "times") == 0 && count == 4)
         times(text, len, atoi(words[3]));
     else
         for (size_t i = 0; i < made; i++)
-            printf("%zu\n", lengths[i]);
+            printf("%lu\n", ends[i] - (i > 0 ? ends[i - 1] : 0));
     return 0;
 }

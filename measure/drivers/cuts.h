@@ -8,5 +8,5 @@ struct gear {
     uint64_t numbers[256];
 };
 
-// how many chunks the text has; the lengths of the first ones are written, as far as there is room
-typedef size_t chunks(const struct gear *gear, const uint8_t *text, size_t len, size_t *lengths, size_t room);
+// how many chunks the text has; where the first ones end is written, as far as there is room
+typedef size_t chunks(const struct gear *gear, const uint8_t *text, size_t len, uint64_t *ends, size_t room);

@@ -16,15 +16,12 @@ static size_t first_cut(const struct gear *gear, const uint8_t *text, size_t len
     return end;
 }
 
-size_t NAME(const struct gear *gear, const uint8_t *text, size_t len, size_t *lengths, size_t room) {
+size_t NAME(const struct gear *gear, const uint8_t *text, size_t len, uint64_t *ends, size_t room) {
     size_t count = 0;
-    while (len > 0) {
-        size_t cut = first_cut(gear, text, len);
+    for (size_t end = 0; end < len; count++) {
+        end += first_cut(gear, text + end, len - end);
         if (count < room)
-            lengths[count] = cut;
-        count++;
-        text += cut;
-        len -= cut;
+            ends[count] = end;
     }
     return count;
 }

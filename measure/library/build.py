@@ -44,13 +44,11 @@ def program(crate):
     return os.path.join(ROOT, "bin", crate)
 
 
-def static_library(crate, folder, *flags):
-    """Proves and builds one of our static libraries by these flags of rt lib, and copies it into the folder."""
-    built("make", crate)
-    of_crate = os.path.join(ROOT, "crates", crate)
-    built("rt", "lib", *flags, folder=of_crate)
-    os.makedirs(folder, exist_ok=True)
-    shutil.copy(os.path.join(of_crate, "out", f"lib{crate}.a"), folder)
+def libhashers(target="", *goals):
+    """Builds libhashers, the calls from C, for that target, else for x86-64 by the kit, or by cargo where there is none. Answers its folder."""
+    target = target or ("x86-64" if shutil.which("rt") else "plain")
+    built("make", "-s", "-C", "c", f"TARGET={target}", "all", *goals)
+    return os.path.join(ROOT, "c", "target", target)
 
 
 def original():
@@ -80,17 +78,22 @@ def file_of_names():
     return path
 
 
-def over_original(driver, target="original", **environment):
-    """Has cargo build a driver over the original crate, and answers the folder of what it built."""
+def by_cargo(driver, *words, target="", wants="", **environment):
+    """Has cargo build a driver, and answers the folder of what it built."""
     need("cargo", "cargo")
-    folder, target, crate = os.path.join(DRIVERS, driver), os.path.join(TARGET, target), original()
-    words = ["cargo", "build", "--quiet", "--release", "--target-dir", target, "--config", f'patch.crates-io.hashers.path="{crate}"']
-    config = os.path.join(crate, ".cargo", "config.toml")
-    if os.path.isfile(config):
-        words += ["--offline", "--config", config]
-    done(words, folder, HASHER_NAMES=file_of_names(), **environment)
+    folder, target = os.path.join(DRIVERS, driver), os.path.join(TARGET, target or driver)
+    done(["cargo", "build", "--quiet", "--release", "--target-dir", target, *words], folder, wants=wants, **environment)
     os.remove(os.path.join(folder, "Cargo.lock"))
     return os.path.join(target, "release")
+
+
+def over_original(driver, **environment):
+    """The same over the original crate."""
+    crate = original()
+    words, config = ["--config", f'patch.crates-io.hashers.path="{crate}"'], os.path.join(crate, ".cargo", "config.toml")
+    if os.path.isfile(config):
+        words += ["--offline", "--config", config]
+    return by_cargo(driver, *words, target="original", HASHER_NAMES=file_of_names(), **environment)
 
 
 # where Debian's packages of crates lie
@@ -99,12 +102,8 @@ CRATES = "/usr/share/cargo/registry"
 
 def over_debian(driver):
     """Has cargo build a driver over crates of Debian's packages, and answers its path."""
-    need("cargo", "cargo")
-    folder, target = os.path.join(DRIVERS, driver), os.path.join(TARGET, driver)
-    done(["cargo", "build", "--quiet", "--release", "--offline", "--target-dir", target, "--config", 'source.crates-io.replace-with="debian"',
-          "--config", f'source.debian.directory="{CRATES}"'], folder, wants="librust-fnv-dev and librust-fxhash-dev")
-    os.remove(os.path.join(folder, "Cargo.lock"))
-    return os.path.join(target, "release", driver)
+    words = ["--offline", "--config", 'source.crates-io.replace-with="debian"', "--config", f'source.debian.directory="{CRATES}"']
+    return os.path.join(by_cargo(driver, *words, wants="librust-fnv-dev and librust-fxhash-dev"), driver)
 
 
 def by_rustc(source):

@@ -1,43 +1,42 @@
-"""The hashes of texts, by the program of the crate measure_lines, which hashes by the proved functions."""
-import subprocess
-import sys
+"""The hashes of texts by libhashers, whose calls are proved."""
+import ctypes
+import os
 from array import array
 from functools import lru_cache
-from itertools import islice
+from itertools import accumulate, islice
 
-from library.build import program
+from library.build import libhashers
 from library.names import names
 
-# how many texts one process hashes
+# how many texts one call hashes
 PART = 65536
 
 
 @lru_cache(maxsize=None)
 def built():
-    return program("measure_lines")
+    return ctypes.CDLL(os.path.join(libhashers(), "libhashers.so.1"))
 
 
-def told(lines, chosen):
-    """The hashes of lines, the chosen names' of the first line, then those of the next."""
-    words = [built(), *chosen]
-    said = subprocess.run(words, input="".join(line + "\n" for line in lines), stdout=subprocess.PIPE, text=True, check=True).stdout
-    found = array("Q", map(int, said.split()))
-    if len(found) != len(lines) * len(chosen):
-        sys.exit(f"measure_lines gave {len(found)} hashes of {len(chosen)} names to {len(lines)} texts")
+def call(name, answer=ctypes.c_uint64):
+    """A call of the library, which answers a number or what is said. What it takes as a number has 64 bits."""
+    function = built()[f"hashers_{name}"]
+    function.restype = answer
+    return lambda *words: function(*(ctypes.c_uint64(word) if isinstance(word, int) else word for word in words))
+
+
+def hash_column(name, texts):
+    """The hashes of a list of texts."""
+    kind, text, offsets = call("kind")(name.encode(), len(name)), b"".join(texts), array("Q", accumulate(map(len, texts), initial=0))
+    found = array("Q", bytes(8 * len(texts)))
+    columns = (word for column in (offsets, found) for word in (ctypes.c_void_p(column.buffer_info()[0]), len(column)))
+    assert call("column64", ctypes.c_bool)(kind, text, len(text), *columns)
     return found
 
 
-def hashes(texts, chosen=None):
-    """The hashes of texts by each name, or by the chosen ones. A text is in hexadecimal, with a comma between two pieces."""
-    chosen, texts = chosen or names(), iter(texts)
-    columns = {name: array("Q") for name in chosen}
-    while lines := list(islice(texts, PART)):
-        found = told(lines, chosen)
-        for at, column in enumerate(columns.values()):
-            column.extend(found[at::len(chosen)])
-    return columns
-
-
 def hashes_of_keys(keys, chosen=None):
-    """The same of keys, each a bytes in one piece."""
-    return hashes((key.hex() for key in keys), chosen)
+    """The hashes of keys by each name, or by the chosen ones."""
+    columns, keys = {name: array("Q") for name in chosen or names()}, iter(keys)
+    while part := list(islice(keys, PART)):
+        for name, column in columns.items():
+            column.extend(hash_column(name, part))
+    return columns

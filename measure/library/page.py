@@ -32,8 +32,13 @@ def table(heads, rows, numbers):
     return "\n".join([row(heads), line, *map(row, rows)])
 
 
+def figures_of(time):
+    """A time with three figures, or more."""
+    return f"{time:.{2 if time < 10 else 1 if time < 100 else 0}f}"
+
+
 def marks(program, name):
-    return f"<!-- measure/{program}: {name} -->\n", f"<!-- end of {name} -->"
+    return f"<!-- {program}: {name} -->\n", f"<!-- end of {name} -->"
 
 
 def text_of(page):

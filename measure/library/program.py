@@ -1,18 +1,20 @@
-"""What each program of measure/ does alike: its call, and what becomes of the tables that it makes."""
+"""What each program that writes tables does alike: its call, and what becomes of the tables that it makes."""
 import argparse
 import os
 import sys
 
 from library.build import say
+from library.names import ROOT
 from library.page import Picture, draw, moved, write, written
 
 QUICK = "a little of everything, in less than a minute where what it measures is built; prints, and writes nothing"
-NAME = os.path.basename(sys.argv[0])
+# the program, with its folder
+NAME = os.path.relpath(os.path.abspath(sys.argv[0]), ROOT)
 
 
 def called(doc, *words):
     """The words of the call. Each word or option of the program's own is given with what argparse is to know of it."""
-    parser = argparse.ArgumentParser(prog=f"measure/{NAME}", description=doc, formatter_class=argparse.RawDescriptionHelpFormatter)
+    parser = argparse.ArgumentParser(prog=NAME, description=doc, formatter_class=argparse.RawDescriptionHelpFormatter)
     parser.add_argument("--quick", action="store_true", help=QUICK)
     for word, known in words:
         parser.add_argument(word, **known)

@@ -1,8 +1,8 @@
 //! Times of the crate in rust/hashers-proved beside the original and the crates fnv, fxhash, rustc-hash and ahash, all inlined, by turns in
 //! one process.
-//! `times RUNS NAME..` prints a line for each name, then behind an empty line each a line for each sort of keys of maps, for each hash under a
-//! key, and for each sort of numbers as keys of maps: behind a tab each a cell, the times of its sides in nanoseconds a key, of each the least
-//! of so many runs; of a million numbers of an eighth of them.
+//! `times RUNS NAME..` prints a line for each name of its hashes of keys, of a text in pieces, and of numbers, then behind an empty line each
+//! a line for each sort of keys of maps, for each hash under a key, and for each sort of numbers as keys of maps: behind a tab each a cell, the
+//! times of its sides in nanoseconds a key or a piece, of each the least of so many runs; of a million numbers of an eighth of them.
 use hashers_proved as ours;
 use std::cell::RefCell;
 use std::collections::hash_map::{DefaultHasher, RandomState};
@@ -69,24 +69,79 @@ fn least_of(runs: usize, works: &[Work], per: usize, turns: usize) -> Vec<f64> {
 }
 
 fn row(name: &str, times: &[Vec<f64>]) {
-    let cell = |sides: &Vec<f64>| sides.iter().map(|it| format!("{it:.2}")).collect::<Vec<_>>().join(" ");
+    let cell = |sides: &Vec<f64>| sides.iter().map(|it| format!("{it:.3}")).collect::<Vec<_>>().join(" ");
     println!("{name}\t{}", times.iter().map(cell).collect::<Vec<_>>().join("\t"));
 }
 
 type OfKeys = fn(&[u8], usize) -> u64;
 
+/// The size of keys or pieces, how many there are, and how often all of them are taken in one run.
+type Shape = (usize, usize, usize);
+
+const KEYS: [Shape; 8] =
+    [(4, 512, 20), (8, 512, 20), (16, 512, 20), (32, 512, 20), (64, 512, 20), (300, 80, 20), (4096, 6, 20), (1 << 20, 1, 1)];
+const KEYED: [Shape; 4] = [(8, 512, 20), (16, 512, 20), (64, 512, 20), (1 << 20, 1, 1)];
+const PIECES: [Shape; 5] = [(1, 4096, 4), (7, 2048, 4), (16, 1024, 4), (61, 512, 4), (192, 128, 4)];
+const WIDTHS: [Shape; 4] = [(1, 512, 20), (2, 512, 20), (4, 512, 20), (8, 512, 20)];
+
+/// The times of the sides over keys or pieces of a shape.
+fn times_of(sides: &[OfKeys], (size, count, turns): Shape) -> Vec<f64> {
+    let keys = bytes(size * count);
+    let works: Vec<Work> = sides.iter().map(|side| Box::new(|| side(&keys, black_box(size))) as Work).collect();
+    measure(&works, count, turns)
+}
+
 /// A row: at each size our crate, the original, and the others.
 fn keys_of<Ours: Hasher + Default, Theirs: Hasher + Default>(name: &str, others: &[OfKeys]) {
     let mut sides: Vec<OfKeys> = vec![inlined::<Ours>, inlined::<Theirs>];
     sides.extend(others);
-    let times: Vec<Vec<f64>> = [(8, 512, 20), (16, 512, 20), (64, 512, 20), (1 << 20, 1, 1)]
-        .iter()
-        .map(|&(size, count, turns)| {
-            let keys = bytes(size * count);
-            let works: Vec<Work> = sides.iter().map(|side| Box::new(|| side(&keys, black_box(size))) as Work).collect();
-            measure(&works, count, turns)
-        })
-        .collect();
+    row(name, &KEYS.map(|shape| times_of(&sides, shape)));
+}
+
+/// The hash of a text in pieces of that size.
+#[inline(never)]
+fn in_pieces<H: Hasher + Default>(text: &[u8], size: usize) -> u64 {
+    let mut hasher = H::default();
+    text.chunks_exact(size).for_each(|piece| hasher.write(piece));
+    hasher.finish()
+}
+
+fn pieces_of<Ours: Hasher + Default, Theirs: Hasher + Default>(name: &str) {
+    row(name, &PIECES.map(|shape| times_of(&[in_pieces::<Ours>, in_pieces::<Theirs>], shape)));
+}
+
+/// The hashes of numbers, each taken by a hasher of its own, folded in order.
+#[inline(always)]
+fn of_each<H: Hasher + Default, const N: usize>(numbers: &[u8], write: impl Fn(&mut H, [u8; N])) -> u64 {
+    numbers.as_chunks::<N>().0.iter().fold(0, |all: u64, number| {
+        let mut hasher = H::default();
+        write(&mut hasher, *number);
+        all.rotate_left(1) ^ hasher.finish()
+    })
+}
+
+/// The same of numbers of that size, by the write of its width.
+#[inline(never)]
+fn by_width<H: Hasher + Default>(numbers: &[u8], size: usize) -> u64 {
+    match size {
+        1 => of_each::<H, 1>(numbers, |hasher, it| hasher.write_u8(it[0])),
+        2 => of_each::<H, 2>(numbers, |hasher, it| hasher.write_u16(u16::from_le_bytes(it))),
+        4 => of_each::<H, 4>(numbers, |hasher, it| hasher.write_u32(u32::from_le_bytes(it))),
+        _ => of_each::<H, 8>(numbers, |hasher, it| hasher.write_u64(u64::from_le_bytes(it))),
+    }
+}
+
+/// The hash of numbers of 64 bits that one hasher takes.
+#[inline(never)]
+fn in_a_row<H: Hasher + Default>(numbers: &[u8], _size: usize) -> u64 {
+    let mut hasher = H::default();
+    numbers.as_chunks().0.iter().for_each(|it| hasher.write_u64(u64::from_le_bytes(*it)));
+    hasher.finish()
+}
+
+fn widths_of<Ours: Hasher + Default, Theirs: Hasher + Default>(name: &str) {
+    let mut times = WIDTHS.map(|shape| times_of(&[by_width::<Ours>, by_width::<Theirs>], shape)).to_vec();
+    times.push(times_of(&[in_a_row::<Ours>, in_a_row::<Theirs>], WIDTHS[3]));
     row(name, &times);
 }
 
@@ -137,14 +192,7 @@ fn under_keys() {
         ("ahash", inlined::<ahash::AHasher>),
         ("SipHash of std", inlined::<DefaultHasher>),
     ];
-    let times: Vec<Vec<f64>> = [(8, 512, 20), (16, 512, 20), (64, 512, 20), (1 << 20, 1, 1)]
-        .iter()
-        .map(|&(size, count, turns)| {
-            let keys = bytes(size * count);
-            let works: Vec<Work> = all.iter().map(|(_, side)| Box::new(|| side(&keys, black_box(size))) as Work).collect();
-            measure(&works, count, turns)
-        })
-        .collect();
+    let times = KEYED.map(|shape| times_of(&all.map(|(_, side)| side), shape));
     for (place, (name, _)) in all.iter().enumerate() {
         row(name, &times.iter().map(|at_size| vec![at_size[place]]).collect::<Vec<_>>());
     }
@@ -214,10 +262,19 @@ fn others(name: &str) -> Vec<OfKeys> {
 
 macro_rules! rows {
     ($($name:ident $($hasher:ident)::+ $alike_from:literal)*) => {
-        /// A row for each of these names.
+        /// A row for each of these names in each of three tables.
         fn rows(chosen: &[String]) {
-            $(if chosen.iter().any(|it| it == stringify!($name)) {
+            let is_chosen = |name| chosen.iter().any(|it| it == name);
+            $(if is_chosen(stringify!($name)) {
                 keys_of::<ours::$($hasher)::+, hashers::$($hasher)::+>(stringify!($name), &others(stringify!($name)));
+            })*
+            println!();
+            $(if is_chosen(stringify!($name)) {
+                pieces_of::<ours::$($hasher)::+, hashers::$($hasher)::+>(stringify!($name));
+            })*
+            println!();
+            $(if is_chosen(stringify!($name)) {
+                widths_of::<ours::$($hasher)::+, hashers::$($hasher)::+>(stringify!($name));
             })*
         }
     };

@@ -1,4 +1,4 @@
-// Measures the filter of hash_bloom beside libbloom, by turns, and counts how many strange keys each pair of hashes takes for
+// Measures our filter, in Rust, beside libbloom, by turns, and counts how many strange keys each pair of hashes takes for
 // known ones, in large filters and in small ones. It writes one of the three tables of docs/FILTERS.md to standard output.
 #include <bloom.h>
 #include <math.h>
@@ -9,52 +9,12 @@
 #include <string.h>
 #include <time.h>
 
-// ---- the heap that the static library asks for
-struct tried {
-    bool ok;
-    void *at;
-};
+uint64_t measure_filters(const char *pair, const uint8_t *there, size_t there_len, const uint8_t *asked, size_t asked_len, size_t size,
+                         size_t rounds, uint64_t bits, uint32_t probes);
 
-static struct tried tried(void *at) {
-    return (struct tried){at != NULL, at != NULL ? at : (void *)16};
-}
-
-struct tried rattle_alloc(size_t size, size_t align) { return tried(malloc(size == 0 ? align : size)); }
-
-struct tried rattle_realloc(void *at, size_t kept, size_t size, size_t align) {
-    (void)kept;
-    return tried(realloc(at, size == 0 ? align : size));
-}
-
-void rattle_dealloc(void *at) { free(at); }
-
-// ---- the calls
-uint32_t measure_kind(const char *name, size_t len);
-uint64_t measure_filters(uint32_t first, uint32_t second, const uint8_t *there, size_t there_len, const uint8_t *asked,
-                         size_t asked_len, size_t size, size_t rounds, uint64_t bits, uint32_t probes);
-
-// The names of two hashes; no names are libbloom's.
-struct pair {
-    const char *first, *second;
-};
-
-static const struct pair pairs[] = {
-    {"djb2", "sdbm"},      {"fnv1a64", "djb2"},   {"fnv1a64", "lookup3"},
-    {"fxhash", "fnv1a64"}, {"fxhash", "lookup3"}, {"spooky", "lookup3"},
-};
+// The names of two hashes.
+static const char *const pairs[] = {"djb2, sdbm", "fnv1a64, djb2", "fnv1a64, lookup3", "fxhash, fnv1a64", "fxhash, lookup3", "spooky, lookup3"};
 enum { PAIRS = sizeof pairs / sizeof *pairs };
-
-// Their numbers.
-struct by {
-    bool ours;
-    uint32_t first, second;
-};
-
-static struct by numbers_of(struct pair pair) {
-    if (pair.first == NULL)
-        return (struct by){false, 0, 0};
-    return (struct by){true, measure_kind(pair.first, strlen(pair.first)), measure_kind(pair.second, strlen(pair.second))};
-}
 
 // What libbloom finds at 10 bits a key: it takes the share of strange keys, and makes 7 probes of it.
 static uint64_t by_libbloom(const uint8_t *there, size_t there_len, const uint8_t *asked, size_t asked_len, size_t size,
@@ -73,12 +33,12 @@ static uint64_t by_libbloom(const uint8_t *there, size_t there_len, const uint8_
     return count;
 }
 
-// How many of the keys that are asked for are found in a filter of those that are there.
-static uint64_t found(struct by by, const uint8_t *there, size_t there_len, const uint8_t *asked, size_t asked_len, size_t size,
+// How many of the keys that are asked for are found in a filter of those that are there, by a pair, or by libbloom where there is none.
+static uint64_t found(const char *pair, const uint8_t *there, size_t there_len, const uint8_t *asked, size_t asked_len, size_t size,
                       size_t rounds, uint64_t bits) {
-    if (!by.ours)
+    if (pair == NULL)
         return by_libbloom(there, there_len, asked, asked_len, size, rounds);
-    return measure_filters(by.first, by.second, there, there_len, asked, asked_len, size, rounds, bits, 7);
+    return measure_filters(pair, there, there_len, asked, asked_len, size, rounds, bits, 7);
 }
 
 // ---- keys
@@ -113,13 +73,13 @@ static double now(void) {
 
 // ---- false positives
 // How many of `count` strange keys are found in a filter of as many keys, in percent, of random keys or of counters.
-static double strange_share(struct by by, size_t count, bool random, uint64_t bits) {
+static double strange_share(const char *pair, size_t count, bool random, uint64_t bits) {
     size_t size = random ? 16 : 8;
     random_state = 1;
     uint8_t *there = keys(count, size, random, 0), *asked = keys(count, size, random, count);
-    if (found(by, there, count * size, there, count * size, size, 1, bits) != count)
+    if (found(pair, there, count * size, there, count * size, size, 1, bits) != count)
         exit(1); // a key was forgotten, or there is no memory
-    uint64_t strange = found(by, there, count * size, asked, count * size, size, 1, bits);
+    uint64_t strange = found(pair, there, count * size, asked, count * size, size, 1, bits);
     free(there);
     free(asked);
     return 100.0 * (double)strange / (double)count;
@@ -131,24 +91,24 @@ static void strange_keys(size_t count) {
            "|---|---:|---:|---:|---:|\n",
            bits[0], bits[1], bits[0], bits[1]);
     for (int i = 0; i < PAIRS; i++) {
-        printf("| %s, %s |", pairs[i].first, pairs[i].second);
+        printf("| %s |", pairs[i]);
         for (int random = 1; random >= 0; random--)
             for (int j = 0; j < 2; j++)
-                printf(" %.2f |", strange_share(numbers_of(pairs[i]), count, random, bits[j]));
+                printf(" %.2f |", strange_share(pairs[i], count, random, bits[j]));
         printf("\n");
     }
 }
 
 // How many times as many strange keys are found as were asked for, in so many small filters of random keys, of the best number of bits and
 // probes for that share.
-static double small_share(struct by by, size_t count, double share, size_t filters) {
+static double small_share(const char *pair, size_t count, double share, size_t filters) {
     size_t some = (size_t)(share < 1e-5 ? 1000000 : 100000);
     double bits = ceil((double)count * -log2(share) / log(2)), found = 0;
     uint32_t probes = (uint32_t)lround(-log2(share));
     random_state = 3;
     for (size_t i = 0; i < filters; i++) {
         uint8_t *there = keys(count, 16, true, 0), *asked = keys(some, 16, true, 0);
-        found += (double)measure_filters(by.first, by.second, there, count * 16, asked, some * 16, 16, 1, (uint64_t)bits, probes);
+        found += (double)measure_filters(pair, there, count * 16, asked, some * 16, 16, 1, (uint64_t)bits, probes);
         free(there);
         free(asked);
     }
@@ -157,24 +117,24 @@ static double small_share(struct by by, size_t count, double share, size_t filte
 
 static void small(size_t filters) {
     const double shares[] = {1e-2, 1e-4, 1e-6};
-    const struct pair good[] = {{"spooky", "lookup3"}, {"fnv1a64", "lookup3"}};
+    const char *const good[] = {"spooky, lookup3", "fnv1a64, lookup3"};
     printf("| pair | keys | 1 in 100 | 1 in 10000 | 1 in 1000000 |\n|---|---:|---:|---:|---:|\n");
     for (int i = 0; i < 2; i++)
         for (size_t count = 10; count <= 1000; count *= 10) {
-            printf("| %s, %s | %zu |", good[i].first, good[i].second, count);
+            printf("| %s | %zu |", good[i], count);
             for (int j = 0; j < 3; j++)
-                printf(" %.2f |", small_share(numbers_of(good[i]), count, shares[j], filters));
+                printf(" %.2f |", small_share(good[i], count, shares[j], filters));
             printf("\n");
         }
 }
 
 // ---- times
 // The time of a call over `calls` calls, in nanoseconds.
-static double time_of(struct by by, const uint8_t *there, const uint8_t *asked, size_t len, size_t rounds, uint64_t bits,
+static double time_of(const char *pair, const uint8_t *there, const uint8_t *asked, size_t len, size_t rounds, uint64_t bits,
                       int calls) {
     double start = now();
     for (int i = 0; i < calls; i++)
-        if (found(by, there, len, asked, rounds == 0 ? 0 : len, 16, rounds, bits) == UINT64_MAX)
+        if (found(pair, there, len, asked, rounds == 0 ? 0 : len, 16, rounds, bits) == UINT64_MAX)
             exit(1);
     return (now() - start) / calls;
 }
@@ -185,11 +145,11 @@ struct times {
     double of[3][TURNS];
 };
 
-static void measure(struct times *times, int turn, struct by by, const uint8_t *there, const uint8_t *strange, size_t count,
+static void measure(struct times *times, int turn, const char *pair, const uint8_t *there, const uint8_t *strange, size_t count,
                     uint64_t bits, int calls, size_t rounds) {
-    double insert = time_of(by, there, there, count * 16, 0, bits, calls);
-    double with_there = time_of(by, there, there, count * 16, rounds, bits, calls);
-    double with_strange = time_of(by, there, strange, count * 16, rounds, bits, calls);
+    double insert = time_of(pair, there, there, count * 16, 0, bits, calls);
+    double with_there = time_of(pair, there, there, count * 16, rounds, bits, calls);
+    double with_strange = time_of(pair, there, strange, count * 16, rounds, bits, calls);
     times->of[0][turn] = insert / (double)count;
     times->of[1][turn] = (with_there - insert) / (double)(rounds * count);
     times->of[2][turn] = (with_strange - insert) / (double)(rounds * count);
@@ -206,15 +166,14 @@ static double median(double *of, int turns) {
 }
 
 static const struct timed {
-    const char *name;
-    struct pair pair;
+    const char *name, *pair;
     bool rounded; // ten bits a key, or the power of two at or above that
 } timed[] = {
-    {"fxhash, fnv1a64", {"fxhash", "fnv1a64"}, false},
-    {"fxhash, lookup3", {"fxhash", "lookup3"}, false},
-    {"fnv1a64, lookup3", {"fnv1a64", "lookup3"}, false},
-    {"fxhash, fnv1a64 at a power of two", {"fxhash", "fnv1a64"}, true},
-    {"libbloom", {NULL, NULL}, false},
+    {"fxhash, fnv1a64", "fxhash, fnv1a64", false},
+    {"fxhash, lookup3", "fxhash, lookup3", false},
+    {"fnv1a64, lookup3", "fnv1a64, lookup3", false},
+    {"fxhash, fnv1a64 at a power of two", "fxhash, fnv1a64", true},
+    {"libbloom", NULL, false},
 };
 enum { TIMED = sizeof timed / sizeof *timed };
 
@@ -240,7 +199,7 @@ static void times(size_t most) {
         for (int turn = 0; turn < turns[j]; turn++)
             for (int i = 0; i < TIMED; i++) {
                 uint64_t bits = bits_for(count, timed[i].rounded);
-                measure(&got[i][j], turn, numbers_of(timed[i].pair), there, strange, count, bits, calls[j], rounds[j]);
+                measure(&got[i][j], turn, timed[i].pair, there, strange, count, bits, calls[j], rounds[j]);
             }
         free(there);
         free(strange);
