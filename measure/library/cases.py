@@ -17,7 +17,7 @@ def built():
     return ctypes.CDLL(os.path.join(libhashers(), "libhashers.so.1"))
 
 
-def call(name, answer=ctypes.c_uint64):
+def hashers_call(name, answer=ctypes.c_uint64):
     """A call of the library, which answers a number or what is said. What it takes as a number has 64 bits."""
     function = built()[f"hashers_{name}"]
     function.restype = answer
@@ -26,10 +26,10 @@ def call(name, answer=ctypes.c_uint64):
 
 def hash_column(name, texts):
     """The hashes of a list of texts."""
-    kind, text, offsets = call("kind")(name.encode(), len(name)), b"".join(texts), array("Q", accumulate(map(len, texts), initial=0))
+    kind, text, offsets = hashers_call("kind")(name.encode(), len(name)), b"".join(texts), array("Q", accumulate(map(len, texts), initial=0))
     found = array("Q", bytes(8 * len(texts)))
     columns = (word for column in (offsets, found) for word in (ctypes.c_void_p(column.buffer_info()[0]), len(column)))
-    assert call("column64", ctypes.c_bool)(kind, text, len(text), *columns)
+    assert hashers_call("column64", ctypes.c_bool)(kind, text, len(text), *columns)
     return found
 
 
