@@ -3,7 +3,6 @@
 
 mod block_undo;
 mod by_rule;
-mod frames;
 mod murmur3;
 mod murmur3_128;
 mod murmur3_32;
@@ -12,10 +11,9 @@ mod xxhash;
 
 pub use block_undo::BlockUndo;
 pub use by_rule::{
-    apart_by_rule, block_for_by_rule, block_out, blocks_are_even, one_changed_block_shows_by_rule,
-    state_behind,
+    apart_by_rule, block_for_by_rule, block_out, blocks_are_even, middles_in_one_block,
+    one_changed_block_shows_by_rule, state_behind,
 };
-pub use frames::middles_in_one_block;
 pub use murmur3::{
     apart_by_block_murmur3_128, apart_by_word_murmur3_32, block_for_murmur3_128,
     murmur3_32_is_even, murmur3_128_is_even, one_changed_block_shows_in_murmur3_128,

@@ -1,6 +1,8 @@
 //! What XXH3 loses of short texts, and what it keeps: laws with no code, and whether the hashes of two texts differ.
 ghost use Rattle.std.specs.Bool.{OnTrue};
-ghost use Rattle.std.specs.Prelude.{◌≡◌, ◌≢◌, ◌↔◌, IsTrue, ◌<◌, ◌≤◌, ℕ, List, ◌++◌, length};
+ghost use Rattle.std.specs.Hash.{le_bytes};
+ghost use Rattle.std.specs.List.{Contains};
+ghost use Rattle.std.specs.Prelude.{◌≡◌, ◌≢◌, ◌↔◌, All, IsTrue, ◌<◌, ◌≤◌, ◌^◌, ℕ, List, ◌++◌, length, map};
 ghost use Rattle.hash_laws.specs.Text.{IsText};
 ghost use Rattle.hash_words.specs.Words.{add, le};
 ghost use Rattle.hash_theorems.specs.Apart.{DifferAndAreFew, DifferWithinSixteen};
@@ -23,6 +25,16 @@ pub fn few_bytes_never_collide()
 pub fn eight_bytes_never_collide()
     ensures { (seed : ℕ) (x y : List ℕ) → IsText x → IsText y → length x ≡ length y
         → 4 ≤ length x → length x < 9 → xxh3_64_of seed x ≡ xxh3_64_of seed y → x ≡ y }
+{}
+
+/// Keys of one width in a map under `BuildXxh3`, a law with no code: no two numbers of 64 bits share a hash, each fed as its 8 bytes, and a
+/// list of keys of one width of four to eight bytes has a key exactly if the list of their hashes has its hash.
+pub fn keys_of_one_width_never_collide()
+    ensures numbers { (seed a b : ℕ) → a < 2 ^ 64 → b < 2 ^ 64
+        → xxh3_64_of seed (le_bytes 8 a) ≡ xxh3_64_of seed (le_bytes 8 b) → a ≡ b }
+    ensures members { (seed width : ℕ) (keys : List (List ℕ)) (key : List ℕ) → 4 ≤ width → width < 9
+        → All (λ other. IsText other × (length other ≡ width)) keys → IsText key → length key ≡ width
+        → Contains keys key ↔ Contains (map (xxh3_64_of seed) keys) (xxh3_64_of seed key) }
 {}
 
 /// Texts of one length of at most sixteen bytes never collide under the hash of 128 bits, under any seed.

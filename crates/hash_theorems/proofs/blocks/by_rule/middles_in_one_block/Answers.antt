@@ -2,7 +2,7 @@ use Rattle.std.proofs.Common.{ℕ, ◌≡◌, ◌≢◌, ◌+◌, ◌-◌, ◌*�
 use Rattle.std.proofs.lemmas.Nat.{div-mul-add}
 use Rattle.hash_laws.specs.DifferWithin.{DifferInOneBlock}
 use Rattle.hash_laws.proofs.OneGroup.{middles-DifferInOne}
-use Rattle.hash_theorems.proofs.blocks.frames.middles_in_one_block.Goals as goal
+use Rattle.hash_theorems.proofs.blocks.by_rule.middles_in_one_block.Goals as goal
 
 -- all places of the middle are in the block in which the front ends
 in_one : (size : ℕ) (front x y back : List ℕ) → 0 < size → length x ≡ length y → x ≢ y → length front % size + length x ≤ size
