@@ -133,7 +133,7 @@ fn in_column<'a, 'b, O: Offset>(kind: Kind, texts: (&'a [u8], &'a [O]), room: &m
 
 /// Writes the hash of each text by the hash of that number, and answers that there is one and the offsets are those of texts; else
 /// nothing is written.
-pub fn column_by<'a, O: Offset>(
+pub(crate) fn column_by<'a, O: Offset>(
     kind: u32,
     bytes: &'a [u8],
     offsets: &'a [O],
@@ -220,7 +220,7 @@ fn in_lines<'a, 'b>(kind: Kind, text: &'a [u8], room: &mut Room<'b>) -> usize
 
 /// Writes the hash of each line by the hash of that number, as far as there is room, and answers how many lines there are; 0 where
 /// no hash has the number, and nothing is written.
-pub fn lines_by(kind: u32, bytes: &[u8], hashes: &mut [u64]) -> usize
+pub(crate) fn lines_by(kind: u32, bytes: &[u8], hashes: &mut [u64]) -> usize
     ensures known { IsSome (kind_at kind) → (result ≡ length (line_texts 10 bytes.now))
         × (hashes.new ≡ laid_over (map (hash_at kind) (line_texts 10 bytes.now)) hashes.old) }
     ensures unknown { kind_at kind ≡ None → (result ≡ 0) × (hashes.new ≡ hashes.old) }

@@ -4,23 +4,23 @@
 
 ghost use Rattle.std.specs.Prelude.{◌≡◌};
 
-mod block;
-mod bloom;
-mod chunks;
-mod column;
-mod columns;
-mod combine;
-mod ending;
-mod in_words;
-mod keyed;
-mod kinds;
-mod lines;
-mod numbers;
-mod parts;
-mod ring;
-mod spooky;
-mod whole;
-mod xxh3;
+pub mod block;
+pub mod bloom;
+pub mod chunks;
+pub mod column;
+pub mod columns;
+pub mod combine;
+pub mod ending;
+pub mod in_words;
+pub mod keyed;
+pub mod kinds;
+pub mod lines;
+pub mod numbers;
+pub mod parts;
+pub mod ring;
+pub mod spooky;
+pub mod whole;
+pub mod xxh3;
 
 /// The version of the library, of which VERSION at the top says the three parts: 10000 * major + 100 * minor + patch.
 #[unsafe(no_mangle)]

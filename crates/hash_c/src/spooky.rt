@@ -22,7 +22,7 @@ pub struct Words {
 }
 
 /// The words as C takes them.
-pub fn two_words(hash: (u64, u64)) -> Words
+pub(crate) fn two_words(hash: (u64, u64)) -> Words
     ensures first { result.first ≡ hash.0 }
     ensures second { result.second ≡ hash.1 }
 {

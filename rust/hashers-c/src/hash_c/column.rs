@@ -167,7 +167,7 @@ fn in_column<'a, 'b, O: Offset>(kind: Kind, texts: (&'a [u8], &'a [O]), room: &m
 /// IsColumnBy kind bytes.now (map O.number offsets.now) hashes.old hashes.new result
 /// ```
 #[inline]
-pub fn column_by<'a, O: Offset>(
+pub(crate) fn column_by<'a, O: Offset>(
     kind: u32,
     bytes: &'a [u8],
     offsets: &'a [O],
@@ -277,7 +277,7 @@ fn in_lines<'a, 'b>(kind: Kind, text: &'a [u8], room: &mut Room<'b>) -> usize {
 /// unknown: kind_at kind ≡ None → (result ≡ 0) × (hashes.new ≡ hashes.old)
 /// ```
 #[inline]
-pub fn lines_by(kind: u32, bytes: &[u8], hashes: &mut [u64]) -> usize {
+pub(crate) fn lines_by(kind: u32, bytes: &[u8], hashes: &mut [u64]) -> usize {
     match kind_at(kind) {
         Some(kind) => {
             let mut room = Room { hashes };

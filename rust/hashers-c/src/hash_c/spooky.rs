@@ -30,7 +30,7 @@ pub struct Words {
 /// second: result.second ≡ hash.1
 /// ```
 #[inline]
-pub fn two_words(hash: (u64, u64)) -> Words {
+pub(crate) fn two_words(hash: (u64, u64)) -> Words {
     let (first, second) = hash;
     Words { first, second }
 }
