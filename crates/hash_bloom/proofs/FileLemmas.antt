@@ -3,7 +3,7 @@ use Rattle.hash_bloom.proofs.Common.{◌≡◌, ℕ, suc, ◌+◌, ◌*◌, ◌<
 use Rattle.std.proofs.KnownBytes.{Appends-trans, Consumes-trans}
 use Rattle.std.proofs.Math.Seq.{take-append_seam}
 use mir.Syntax.{w64}
-use Rattle.hashers.proofs.RecurrenceLemmas.{recurrence-append}
+use Rattle.hashers.proofs.RecurrenceLaws.{recurrence-append}
 
 -- one word more behind the header
 pub bytes_more : (header words : List ℕ) (i : ℕ) → i < length words

@@ -3,7 +3,7 @@ use Rattle.hash_cuts.proofs.Common.{◌≡◌, ℕ, suc, ◌+◌, ◌-◌, ◌*�
 use Rattle.hashers.specs.Sums.{digit_sum}
 use Rattle.hash_rounds.proofs.SumLemmas.{digit_sum-append}
 use Rattle.hashers.specs.Recurrence.{from_last, recurrence}
-use Rattle.hashers.proofs.RecurrenceLemmas.{recurrence-append, recurrence_more}
+use Rattle.hashers.proofs.RecurrenceLaws.{recurrence-append, recurrence_more}
 
 module _ (number : ℕ → ℕ) where
   from_last-sum : (s : ℕ) (bytes : List ℕ) → s < 2 ^ 64

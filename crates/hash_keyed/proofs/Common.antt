@@ -5,7 +5,7 @@ pub use Rattle.hash_keyed.specs.Poly61Inside.{IsInside, position_of}
 pub use Rattle.hash_keyed.specs.Poly61Laws.{behind, byte_behind, byte_fills, byte_in-full, byte_in-part, full_at, le-push, part_at, poly61-is, poly_end-from, poly_end-is}
 pub use Rattle.hash_keyed.specs.Poly61State.{ArePowers, MeetAtBoth, Position, SomeTwoMeet, after, as_word, block_sum, full_words, joined_value, poly61, poly_end, share_place, start_at}
 unfoldable pub use Rattle.hash_keyed.specs.Poly61State.{byte_in}
-pub use Rattle.hashers.proofs.TextLemmas.{IsByte, IsText-le_bytes}
+pub use Rattle.hashers.proofs.TextLaws.{IsByte, IsText-le_bytes}
 pub use Rattle.hashers.specs.Text.{IsText}
 unfoldable pub use Rattle.hashers.specs.Words.{le}
 pub use Rattle.std.proofs.Common.{All, AllPairs, Bool, List, [], add-zero, add_comm, ap, append-nil, ap₂, arith, cond, count_by, div-add-mod', div-mul-le_self, drop, drop-drop, eq-zero-or-pos, eqb, false, filter, fold, get_or, inl, inr, le_of_eq, le_refl, length, length-drop, lit<, lit≤, lt_of_mul-lt-mul_right, lt_trans, map, max, min, mod-lt, mul-add, mul-le-mul_left, mul-one, mul-zero, not, pos_of_ne-zero, pow_mono, refl, reverse, slice_index, subst, suc, suc-add, suc-le-suc, sum_by, sym, take, true, zero, zero-add, ℕ, ⊎_elim, ◌%◌, ◌*◌, ◌++◌, ◌+◌, ◌-◌, ◌/◌, ◌<◌, ◌^◌, ◌||◌, ◌∙◌, ◌∷◌, ◌≡◌, ◌≢◌, ◌≤◌, ◌⊎◌, append_assoc, length-append, mod-eq_of_lt, pow-suc, pow_pos}

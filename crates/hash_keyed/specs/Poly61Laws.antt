@@ -6,7 +6,7 @@ use Rattle.std.proofs.lemmas.List.Elements.{All-nil, All-head, All-tail, All-app
 use Rattle.std.proofs.lemmas.Nat.{pow-add, mul-le}
 use Rattle.hashers.specs.Text.{IsText}
 use Rattle.hashers.specs.Words.{le}
-use Rattle.hashers.proofs.TextLemmas.{IsByte}
+use Rattle.hashers.proofs.TextLaws.{IsByte}
 use Rattle.hash_keyed.specs.Poly61.{prime61, poly_step, poly_hash, words, words_from}
 use Rattle.hash_keyed.specs.Poly61State.{Position, start_at, byte_in, after, poly_end, as_word, poly61, IsPosition, PolyStandsAt, poly61_from}
 

@@ -9,7 +9,7 @@ pub use Rattle.hash_numbers.specs.Numbers.{AreTriples, have_hashes, number_hash,
 pub use Rattle.hash_numbers.specs.declared.hasher.NumberHasher.{NumberHasher}
 pub use Rattle.hash_words.proofs.ByteLemmas.{le-append, le-begins, le-few, le-power}
 pub use Rattle.hashers.proofs.SumLemmas.{sum_by-add, sum_by-none, sum_by-same}
-pub use Rattle.hashers.proofs.TextLemmas.{IsByte, IsText-from_slice, IsText-le_bytes, IsText-to_le_bytes}
+pub use Rattle.hashers.proofs.TextLaws.{IsByte, IsText-from_slice, IsText-le_bytes, IsText-to_le_bytes}
 unfoldable pub use Rattle.hashers.specs.Counts.{meetings}
 pub use Rattle.hashers.specs.Text.{IsText}
 pub use Rattle.std.proofs.Common.{All, AllPairs, Bool, List, [], add_comm, ap, append-nil, append_assoc, ap₂, arith, cond, drop, drop-drop, eqb, filter, fold, get_or, inl, inr, length, length-append, length-drop, length-take-le, lit<, map, max, mod-lt, nat_eq, nat_le, nat_lt, pow-suc, pow_mono, refl, slice_index, subst, suc, sum_by, sym, take, take-append-drop, true, w64, zero, ℕ, ◌%◌, ◌&&◌, ◌*◌, ◌++◌, ◌+◌, ◌-◌, ◌/◌, ◌<◌, ◌^◌, ◌∙◌, ◌∷◌, ◌≡◌, ◌≢◌, ◌≤◌, ◌⊎◌, count_by, eqb-true, mod-eq_of_lt}

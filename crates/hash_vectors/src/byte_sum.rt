@@ -2,7 +2,7 @@
 ghost use Rattle.std.specs.Prelude.{◌≡◌, ◌<◌, ℕ, List, [], ◌∷◌, slice_index, refl};
 ghost use Rattle.std.proofs.Common.{ap, lit<};
 ghost use Rattle.hashers.specs.Standing.{StandsAt};
-ghost use Rattle.hashers.proofs.ByteLemmas as bytewise;
+ghost use Rattle.hashers.proofs.ByteLaws as bytewise;
 ghost use Rattle.hash_vectors.specs.ByteSum.{byte_sum_step, byte_sum_from, byte_sum_facts};
 
 use hashers::laws::{ByteStep, Piecewise, Streamed, Undo};

@@ -101,7 +101,8 @@ pub fn middles_in_one_block()
     ensures block { (size : ℕ) (front x y back : List ℕ) → length x ≡ length y → x ≢ y
         → length front % size + length x ≤ size
         → DifferInOneBlock size (front ++ (x ++ back)) (front ++ (y ++ back)) }
-    ensures word { (front x y back : List ℕ) → length front % 4 ≡ 0 → length x ≡ 4 → length y ≡ 4 → x ≢ y
+    ensures word { (front x y back : List ℕ) → length front % 4 ≡ 0
+        → length x ≡ 4 → length y ≡ 4 → x ≢ y
         → DifferInOneWord (front ++ (x ++ back)) (front ++ (y ++ back)) }
     ensures last_word { (front x y back : List ℕ) → IsBehind (length front) (length back)
         → length x ≡ 8 → length y ≡ 8 → x ≢ y

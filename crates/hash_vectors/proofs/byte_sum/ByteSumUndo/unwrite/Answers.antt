@@ -1,8 +1,8 @@
 use Rattle.std.proofs.Common.{◌∙◌, ◌≡◌, refl, rules}
 use Rattle.std.specs.Iterator.Adapters.{rev_source}
 use Rattle.std.specs.Slice.Iter.{iter_rest}
-use Rattle.hashers.proofs.ByteLemmas.{undoing_none, undoing_more, undoing_all, undone}
-use Rattle.hashers.proofs.TextLemmas.{IsText-from_slice}
+use Rattle.hashers.proofs.ByteLaws.{undoing_none, undoing_more, undoing_all, undone}
+use Rattle.hashers.proofs.TextLaws.{IsText-from_slice}
 use Rattle.hash_vectors.specs.ByteSum.{byte_sum_step, byte_sum_from, byte_sum_facts}
 use Rattle.hash_vectors.proofs.byte_sum.ByteSumUndo.unwrite.Goals as goal
 

@@ -1,6 +1,6 @@
 use Rattle.std.specs.Iterator.Adapters.{rev_source}
 use Rattle.std.specs.Slice.Iter.{iter_rest}
-use Rattle.hashers.proofs.ByteLemmas.{Undoing}
+use Rattle.hashers.proofs.ByteLaws.{Undoing}
 use Rattle.hash_vectors.specs.ByteSum.{byte_sum_from}
 use Rattle.hash_vectors.proofs.byte_sum.ByteSumUndo.unwrite.Given as goal
 
